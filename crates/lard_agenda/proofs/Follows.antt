@@ -6,23 +6,23 @@ use Rattle.std.proofs.Math.Seq.{take-length}
 use Rattle.std.specs.List.{fold}
 use Rattle.lard_journal.specs.declared.rec.Rec.{Rec}
 use Rattle.lard_agenda.specs.declared.agenda.Agenda.{Agenda}
-use Rattle.lard_agenda.specs.Agenda.{IsAgendaOf, agenda_of, changed_by, noted_by, nothing}
+use Rattle.lard_agenda.specs.Agenda.{IsAgendaOf, agenda_of, changed_by, noted_by, nothing_noted}
 
 -- one more record is noted
 agenda-more : (J : List Rec) (r : Rec) → agenda_of (J ++ r ∷ []) ≡ noted_by (agenda_of J) r
 unfolding agenda_of
-agenda-more J r = fold-append noted_by nothing J (r ∷ [])
+agenda-more J r = fold-append noted_by nothing_noted J (r ∷ [])
 
 noted-count : (a : Agenda) (J : List Rec) → (fold noted_by a J).noted ≡ a.noted + length J
 noted-count a [] = omega arith
 noted-count a (r ∷ J) = noted-count (noted_by a r) J ∙ omega arith
 
 -- the agenda of no records
-pub begun : (J : List Rec) → IsAgendaOf nothing J
+pub begun : (J : List Rec) → IsAgendaOf nothing_noted J
 unfolding agenda_of
 begun J = record { within = omega arith; agenda = refl }
 
-pub unnoted : (a : Agenda) (J : List Rec) → a ≡ nothing → IsAgendaOf a J
+pub unnoted : (a : Agenda) (J : List Rec) → a ≡ nothing_noted → IsAgendaOf a J
 unnoted a J none = subst (λ (b : Agenda). IsAgendaOf b J) (sym none) (begun J)
 
 -- the next record is noted
@@ -50,5 +50,5 @@ pub whole : (J : List Rec) → IsAgendaOf (agenda_of J) J
 unfolding agenda_of
 whole J =
     let none : 0 + length J ≡ length J = omega arith in
-    let n : (agenda_of J).noted ≡ length J = noted-count nothing J ∙ none in
+    let n : (agenda_of J).noted ≡ length J = noted-count nothing_noted J ∙ none in
     record { within = omega (arith, n); agenda = ap agenda_of (sym (subst (λ m. take m J ≡ J) (sym n) (take-length J))) }

@@ -8,7 +8,7 @@ use Rattle.lard_history.proofs.Seeing.{by_number, other_number, same_number}
 use Rattle.lard_journal.specs.declared.rec.Rec.{Rec}
 use Rattle.lard_journal.specs.declared.rec.Rec.TheVariants as rec
 use Rattle.lard_agenda.specs.declared.agenda.Agenda.{Agenda}
-use Rattle.lard_agenda.specs.Agenda.{agenda_of, held_by, held_step, noted_by, nothing}
+use Rattle.lard_agenda.specs.Agenda.{agenda_of, held_by, held_step, noted_by, nothing_noted}
 use Rattle.lard_agenda.specs.Laws.{AgendasTellHolders, event_flag, holds_flag}
 use Rattle.lard_agenda.proofs.Folds.{always}
 use Rattle.lard_agenda.proofs.Numbers.{found}
@@ -41,4 +41,4 @@ module _ (c : ℕ) where
 
 pub holders_are_told : AgendasTellHolders
 unfolding agenda_of
-holders_are_told J c = always (λ (a : Agenda) (was : Bool). get a.held c ≡ self_if c was) noted_by (holds_flag c) (step c) nothing false J (get-empty nat_cmp c)
+holders_are_told J c = always (λ (a : Agenda) (was : Bool). get a.held c ≡ self_if c was) noted_by (holds_flag c) (step c) nothing_noted false J (get-empty nat_cmp c)

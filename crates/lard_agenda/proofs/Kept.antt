@@ -10,8 +10,8 @@ use Rattle.lard_journal.specs.declared.rec.Rec.TheVariants as rec
 use Rattle.lard_agenda.specs.declared.agenda.Agenda.{Agenda}
 use Rattle.lard_agenda.specs.declared.kinds.Kinds.{Kinds}
 use Rattle.lard_agenda.specs.declared.kinds.Running.{Running}
-use Rattle.lard_agenda.specs.Agenda.{agenda_of, entry, noted_by, nothing, running_step, seat, timer_set}
-use Rattle.lard_agenda.specs.Kinds.{is_none, kinds_of, with_kind}
+use Rattle.lard_agenda.specs.Agenda.{agenda_of, entry, noted_by, nothing_noted, running_step, seat, timer_set}
+use Rattle.lard_agenda.specs.Kinds.{is_none, kinds_of, with_timer}
 use Rattle.lard_agenda.specs.Laws.{AgendasKeepNothingIdle, IsSeated, NamesLowSeat, NamesSeat}
 use Rattle.lard_agenda.proofs.Folds.{always, side_by_side}
 use Rattle.lard_agenda.proofs.Numbers.{found}
@@ -32,13 +32,13 @@ module _ (Q : ℕ → Running → Type 0) where
       → ((kinds : Kinds) (r : Running) → entry q d kinds ≡ Some r → Q (seat q d) r) → EachKept running → EachKept (timer_set running q d k on)
   set-each q d k on running own h at r e = go (nat_eq (seat q d) at) refl (sym (found running (seat q d) at (entry q d kinds)) ∙ e) where
     kinds : Kinds
-    kinds = with_kind (kinds_of (get running (seat q d))) k on
+    kinds = with_timer (kinds_of (get running (seat q d))) k on
 
     go : (b : Bool) → nat_eq (seat q d) at ≡ b → cond b (entry q d kinds) (get running at) ≡ Some r → Q at r
     go true same is = subst (λ n. Q n r) (number-is (seat q d) at same) (own kinds r is)
     go false other is = h at r is
 
-  none-kept : EachKept nothing.running
+  none-kept : EachKept nothing_noted.running
   none-kept at r e = let h : None ≡ Some r = sym (get-empty nat_cmp at) ∙ e in absurd cc
 
 -- ---- nothing idle is kept
@@ -57,7 +57,7 @@ kept-step a u _ h = h
 
 pub nothing_idle : AgendasKeepNothingIdle
 unfolding agenda_of
-nothing_idle J = always (λ (a : Agenda) (u : Unit {0}). EachKept IsKept a.running) noted_by (λ u r. u) kept-step nothing tt J (none-kept IsKept)
+nothing_idle J = always (λ (a : Agenda) (u : Unit {0}). EachKept IsKept a.running) noted_by (λ u r. u) kept-step nothing_noted tt J (none-kept IsKept)
 
 -- ---- and what is kept has a seat of its own
 
@@ -74,7 +74,7 @@ seat-step a u _ g h = h
 
 pub kept_is_seated : (J : List Rec) → AllByRecursion NamesSeat J → (at : ℕ) (r : Running) → get (agenda_of J).running at ≡ Some r → IsSeated r.place r.c
 unfolding agenda_of
-kept_is_seated J all = side_by_side (λ (a : Agenda) (u : Unit {0}). EachKept HasSeat a.running) NamesSeat noted_by (λ u r. u) seat-step nothing tt J all (none-kept HasSeat)
+kept_is_seated J all = side_by_side (λ (a : Agenda) (u : Unit {0}). EachKept HasSeat a.running) NamesSeat noted_by (λ u r. u) seat-step nothing_noted tt J all (none-kept HasSeat)
 
 -- ---- and where all seats that are named are low, those are
 
@@ -88,4 +88,4 @@ low-step a u _ g h = h
 
 pub kept_is_low : (J : List Rec) → AllByRecursion NamesLowSeat J → (at : ℕ) (r : Running) → get (agenda_of J).running at ≡ Some r → at < 2 ^ 32
 unfolding agenda_of
-kept_is_low J all = side_by_side (λ (a : Agenda) (u : Unit {0}). EachKept IsLow a.running) NamesLowSeat noted_by (λ u r. u) low-step nothing tt J all (none-kept IsLow)
+kept_is_low J all = side_by_side (λ (a : Agenda) (u : Unit {0}). EachKept IsLow a.running) NamesLowSeat noted_by (λ u r. u) low-step nothing_noted tt J all (none-kept IsLow)

@@ -5,7 +5,7 @@ use Rattle.std.specs.Ordering.{nat_cmp}
 use Rattle.lard_journal.specs.declared.rec.Rec.{Rec}
 use Rattle.lard_journal.specs.declared.rec.Rec.TheVariants as rec
 use Rattle.lard_agenda.specs.declared.agenda.Agenda.{Agenda}
-use Rattle.lard_agenda.specs.Agenda.{agenda_of, noted_by, nothing, way_step}
+use Rattle.lard_agenda.specs.Agenda.{agenda_of, noted_by, nothing_noted, way_step}
 use Rattle.lard_agenda.specs.Laws.{AgendasTellPackets, way_flag}
 use Rattle.lard_agenda.proofs.Folds.{always}
 use Rattle.lard_agenda.proofs.Numbers.{has}
@@ -18,4 +18,4 @@ step k a was _ h = h
 
 pub packets_are_told : AgendasTellPackets
 unfolding agenda_of
-packets_are_told J k = always (λ (a : Agenda) (was : Bool). contains_key a.way k ≡ was) noted_by (way_flag k) (step k) nothing false J (ap is_some (get-empty nat_cmp k))
+packets_are_told J k = always (λ (a : Agenda) (was : Bool). contains_key a.way k ≡ was) noted_by (way_flag k) (step k) nothing_noted false J (ap is_some (get-empty nat_cmp k))

@@ -14,15 +14,15 @@ use Rattle.lard_journal.specs.declared.rec.Rec.TheVariants as rec
 use Rattle.lard_agenda.specs.declared.agenda.Agenda.{Agenda}
 use Rattle.lard_agenda.specs.declared.kinds.Kinds.{Kinds}
 use Rattle.lard_agenda.specs.declared.kinds.Running.{Running}
-use Rattle.lard_agenda.specs.Agenda.{agenda_of, entry, noted_by, nothing, place_number, running_step, seat, timer_set}
-use Rattle.lard_agenda.specs.Kinds.{is_none, kinds_of, no_kinds, runs, with_kind}
+use Rattle.lard_agenda.specs.Agenda.{agenda_of, entry, noted_by, nothing_noted, place_number, running_step, seat, timer_set}
+use Rattle.lard_agenda.specs.Kinds.{is_none, kinds_of, no_kinds, runs, with_timer}
 use Rattle.lard_agenda.specs.Laws.{AgendasTellTimers, IsSeated, IsSeatedPlace, NamesSeat}
 use Rattle.lard_agenda.proofs.Folds.{side_by_side}
 use Rattle.lard_agenda.proofs.Numbers.{found}
 
 -- ---- kinds
 
-with-runs : (k kind : TimerKind) (on : Bool) (kinds : Kinds) → runs kind (with_kind kinds k on) ≡ cond (is_kind k kind) on (runs kind kinds)
+with-runs : (k kind : TimerKind) (on : Bool) (kinds : Kinds) → runs kind (with_timer kinds k on) ≡ cond (is_kind k kind) on (runs kind kinds)
 with-runs Tcp Tcp on kinds = refl
 with-runs Offer Offer on kinds = refl
 with-runs Ask Ask on kinds = refl
@@ -117,9 +117,9 @@ module _ (p : Place) (c : ℕ) (kind : TimerKind) where
 
   -- the seat's entry is the one of this place and connection, or another's and nothing changes
   chosen : (q : Place) (d : ℕ) (k : TimerKind) (on was : Bool) (running : FinMap nat_cmp Running) (s t : Bool) → is_place q p ≡ s → nat_eq d c ≡ t → told running ≡ was
-      → runs kind (kinds_of (cond (s && t) (entry q d (with_kind (kinds_of (get running (seat q d))) k on)) (get running (seat p c)))) ≡ cond (s && (t && is_kind k kind)) on was
+      → runs kind (kinds_of (cond (s && t) (entry q d (with_timer (kinds_of (get running (seat q d))) k on)) (get running (seat p c)))) ≡ cond (s && (t && is_kind k kind)) on was
   chosen q d k on was running true true e f h =
-      entry-runs q d kind (with_kind (kinds_of (get running (seat q d))) k on) ∙ with-runs k kind on (kinds_of (get running (seat q d)))
+      entry-runs q d kind (with_timer (kinds_of (get running (seat q d))) k on) ∙ with-runs k kind on (kinds_of (get running (seat q d)))
       ∙ ap (cond (is_kind k kind) on) (ap (λ n. runs kind (kinds_of (get running n))) (ap (λ (r : Place). seat r d) (place-is q p e) ∙ ap (seat p) (number-is d c f)) ∙ h)
   chosen q d k on was running true false e f h = h
   chosen q d k on was running false t e f h = h
@@ -127,8 +127,8 @@ module _ (p : Place) (c : ℕ) (kind : TimerKind) where
   set : (q : Place) (d : ℕ) (k : TimerKind) (on was : Bool) (running : FinMap nat_cmp Running) → IsSeated q d → IsSeated p c → told running ≡ was
       → told (timer_set running q d k on) ≡ cond (is_place q p && (nat_eq d c && is_kind k kind)) on was
   set q d k on was running g here h =
-      ap (λ o. runs kind (kinds_of o)) (found running (seat q d) (seat p c) (entry q d (with_kind (kinds_of (get running (seat q d))) k on)))
-      ∙ ap (λ b. runs kind (kinds_of (cond b (entry q d (with_kind (kinds_of (get running (seat q d))) k on)) (get running (seat p c))))) (seat_test q p d c g here)
+      ap (λ o. runs kind (kinds_of o)) (found running (seat q d) (seat p c) (entry q d (with_timer (kinds_of (get running (seat q d))) k on)))
+      ∙ ap (λ b. runs kind (kinds_of (cond b (entry q d (with_timer (kinds_of (get running (seat q d))) k on)) (get running (seat p c))))) (seat_test q p d c g here)
       ∙ chosen q d k on was running (is_place q p) (nat_eq d c) refl refl h
 
   step : IsSeated p c → (a : Agenda) (was : Bool) (r : Rec) → NamesSeat r → told a.running ≡ was → told (running_step a.running r) ≡ armed_step p c kind was r
@@ -145,5 +145,5 @@ none-told Ended = refl
 
 pub timers_are_told : AgendasTellTimers
 unfolding agenda_of
-timers_are_told J p c kind all here = side_by_side (λ (a : Agenda) (was : Bool). told p c kind a.running ≡ was) NamesSeat noted_by (armed_step p c kind) (step p c kind here) nothing false J all
+timers_are_told J p c kind all here = side_by_side (λ (a : Agenda) (was : Bool). told p c kind a.running ≡ was) NamesSeat noted_by (armed_step p c kind) (step p c kind here) nothing_noted false J all
     (ap (λ o. runs kind (kinds_of o)) (get-empty nat_cmp (seat p c)) ∙ none-told kind)

@@ -10,7 +10,7 @@ use Rattle.lard_base.specs.declared.place.Place.{Place}
 use Rattle.lard_base.specs.declared.place.Place.TheVariants.{Front, Node, Client}
 use Rattle.lard_base.specs.declared.place.TimerKind.{TimerKind}
 use Rattle.lard_dispatch.specs.Books.{Dispatcher}
-use Rattle.lard_dispatch.specs.Line.{waits}
+use Rattle.lard_dispatch.specs.Line.{line_waits}
 use Rattle.lard_dispatch.specs.declared.line.Waiting.{Waiting}
 use Rattle.lard_journal.specs.declared.rec.Rec.{Rec}
 use Rattle.lard_journal.specs.declared.rec.Rec.TheVariants as rec
@@ -19,7 +19,7 @@ use Rattle.lard_agenda.specs.declared.agenda.Agenda.{Agenda}
 use Rattle.lard_agenda.specs.declared.agenda.TheConstants.{SEATS}
 use Rattle.lard_agenda.specs.declared.kinds.Kinds.{Kinds}
 use Rattle.lard_agenda.specs.declared.kinds.Running.{Running}
-use Rattle.lard_agenda.specs.Kinds.{how_many, is_none, kinds_of, with_kind}
+use Rattle.lard_agenda.specs.Kinds.{how_many, is_none, kinds_of, with_timer}
 
 -- ---- seats: the order in which timers fire
 
@@ -48,7 +48,7 @@ entry p c kinds = if is_none kinds then None else Some (record { place = p; c = 
 
 -- the timer of this kind runs there from now on, or no longer
 abbrev pub timer_set : FinMap nat_cmp Running → Place → ℕ → TimerKind → Bool → FinMap nat_cmp Running
-timer_set running p c kind on = put_or running (seat p c) (entry p c (with_kind (kinds_of (get running (seat p c))) kind on))
+timer_set running p c kind on = put_or running (seat p c) (entry p c (with_timer (kinds_of (get running (seat p c))) kind on))
 
 abbrev pub running_step : FinMap nat_cmp Running → Rec → FinMap nat_cmp Running
 running_step running (rec.Armed p c kind) = timer_set running p c kind true
@@ -77,11 +77,11 @@ abbrev pub noted_by : Agenda → Rec → Agenda
 noted_by a r = record (changed_by a r) { noted = a.noted + 1 }
 
 -- no record was noted
-abbrev pub nothing : Agenda
-nothing = record { noted = 0; way = empty; running = empty; held = empty }
+abbrev pub nothing_noted : Agenda
+nothing_noted = record { noted = 0; way = empty; running = empty; held = empty }
 
 unfoldable pub agenda_of : List Rec → Agenda
-agenda_of J = fold noted_by nothing J
+agenda_of J = fold noted_by nothing_noted J
 
 -- The agenda is that of as many of a journal's first records as it noted.
 pub record IsAgendaOf (a : Agenda) (J : List Rec) : Type 0 where
@@ -100,7 +100,7 @@ holders a = values a.held
 
 -- timers at a client are stalled while its connection waits for admission
 abbrev pub stalled_at : Place → List Waiting → ℕ → Bool
-stalled_at (Client d) line c = waits line c
+stalled_at (Client d) line c = line_waits line c
 stalled_at Front line c = false
 stalled_at (Node n) line c = false
 

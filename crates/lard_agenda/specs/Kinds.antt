@@ -18,12 +18,12 @@ runs Fetch kinds = kinds.fetch
 runs Ended kinds = kinds.ended
 
 -- the same, but that the timer of this kind runs, or does not
-abbrev pub with_kind : Kinds → TimerKind → Bool → Kinds
-with_kind kinds Tcp on = record kinds { tcp = on }
-with_kind kinds Offer on = record kinds { offer = on }
-with_kind kinds Ask on = record kinds { ask = on }
-with_kind kinds Fetch on = record kinds { fetch = on }
-with_kind kinds Ended on = record kinds { ended = on }
+abbrev pub with_timer : Kinds → TimerKind → Bool → Kinds
+with_timer kinds Tcp on = record kinds { tcp = on }
+with_timer kinds Offer on = record kinds { offer = on }
+with_timer kinds Ask on = record kinds { ask = on }
+with_timer kinds Fetch on = record kinds { fetch = on }
+with_timer kinds Ended on = record kinds { ended = on }
 
 abbrev pub is_none : Kinds → Bool
 is_none kinds = not (kinds.tcp || (kinds.offer || (kinds.ask || (kinds.fetch || kinds.ended))))

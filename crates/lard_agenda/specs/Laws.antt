@@ -14,7 +14,7 @@ use Rattle.lard_journal.specs.declared.rec.Rec.{Rec}
 use Rattle.lard_journal.specs.declared.rec.Rec.TheVariants as rec
 use Rattle.lard_agenda.specs.declared.agenda.Agenda.{Agenda}
 use Rattle.lard_agenda.specs.declared.kinds.Running.{Running}
-use Rattle.lard_agenda.specs.Agenda.{IsAgendaOf, agenda_of, due, holders, nothing, on_way, rests, seat, stalled_at, timers_left}
+use Rattle.lard_agenda.specs.Agenda.{IsAgendaOf, agenda_of, due, holders, nothing_noted, on_way, rests, seat, stalled_at, timers_left}
 use Rattle.lard_agenda.specs.Kinds.{is_none, kinds_of, runs}
 
 -- ---- packets
@@ -121,7 +121,7 @@ AgendasRest = (d : Dispatcher) (J : List Rec) → AllByRecursion NamesSeat J →
 
 -- The agenda that has noted nothing is one of each journal.
 abbrev pub AgendasBegin : Type 0
-AgendasBegin = (J : List Rec) → IsAgendaOf nothing J
+AgendasBegin = (J : List Rec) → IsAgendaOf nothing_noted J
 
 -- An agenda of a journal is one of each journal that goes on from there.
 abbrev pub AgendasGoOn : Type 0

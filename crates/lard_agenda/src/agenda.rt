@@ -2,7 +2,7 @@
 
 ghost use Rattle.std.specs.Prelude.{◌≡◌, ◌<◌, ◌≤◌, ◌*◌, ◌^◌, true, false, IfOk, OnOk, OnErr};
 ghost use Rattle.lard_agenda.specs.Kinds.{kinds_of};
-ghost use Rattle.lard_agenda.specs.Agenda.{IsAgendaOf, agenda_of, changed_by, due, entry, held_by, holders, is_stalled, nothing, on_way, rests, seat, timer_set, timers_left};
+ghost use Rattle.lard_agenda.specs.Agenda.{IsAgendaOf, agenda_of, changed_by, due, entry, held_by, holders, is_stalled, nothing_noted, on_way, rests, seat, timer_set, timers_left};
 
 use crate::kinds::{Kinds, Running};
 use crate::register::Register;
@@ -30,7 +30,7 @@ pub struct Agenda {
 impl Agenda {
     /// Nothing is to be done. It takes no memory yet.
     pub fn new(alloc: Global) -> Agenda
-        ensures { result ≡ nothing }
+        ensures { result ≡ nothing_noted }
     {
         Agenda {
             noted: 0,

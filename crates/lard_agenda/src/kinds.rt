@@ -1,7 +1,7 @@
 //! The timers of one connection at one place.
 
 ghost use Rattle.std.specs.Prelude.{◌≡◌, ◌≤◌};
-ghost use Rattle.lard_agenda.specs.Kinds.{how_many, is_none, no_kinds, with_kind};
+ghost use Rattle.lard_agenda.specs.Kinds.{how_many, is_none, no_kinds, with_timer};
 
 use lard_base::{ConnId, Place, TimerKind};
 
@@ -31,7 +31,7 @@ impl Kinds {
 
     /// The same, but that the timer of this kind runs, or does not.
     pub fn with(self, kind: TimerKind, runs: bool) -> Kinds
-        ensures { result ≡ with_kind self kind runs }
+        ensures { result ≡ with_timer self kind runs }
     {
         match kind {
             TimerKind::Tcp => Kinds { tcp: runs, ..self },

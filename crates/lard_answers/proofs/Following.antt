@@ -2,14 +2,14 @@
 use Rattle.std.proofs.Common.{◌≡◌, ℕ, ◌||◌, Bool, true, false, List, [], ◌∷◌, ◌++◌, map, length, refl, sym, ap, ◌∙◌}
 use Rattle.std.proofs.lemmas.Bool.{or_parts}
 use Rattle.std.proofs.lemmas.List.{map-append}
-use Rattle.lard_block.specs.Blocks.{Piece, Head, Long, moved, blocks, Cuts}
+use Rattle.lard_block.specs.Blocks.{Piece, Head, Long, piece_moved, blocks, Cuts}
 use Rattle.lard_request.specs.declared.verdict.Verdict.{Verdict}
 use Rattle.lard_request.specs.Verdict.{closes}
 use Rattle.lard_answers.specs.Answers.{FilesAt, answer, piece_verdict, verdicts_on, until_close, verdicts, answers, closes_any}
 use Rattle.lard_answers.proofs.Growing.{until_close-closed, until_close-open, verdicts-are, answers-are}
 
 -- a verdict does not depend on where its block stands
-pub verdicts_on-moved : (by : ℕ) (ps : List Piece) → verdicts_on (map (moved by) ps) ≡ verdicts_on ps
+pub verdicts_on-moved : (by : ℕ) (ps : List Piece) → verdicts_on (map (piece_moved by) ps) ≡ verdicts_on ps
 verdicts_on-moved by [] = refl
 verdicts_on-moved by (Head block after ∷ ps) = ap (λ w. piece_verdict (Head block after) ∷ w) (verdicts_on-moved by ps)
 verdicts_on-moved by (Long ∷ ps) = ap (λ w. piece_verdict Long ∷ w) (verdicts_on-moved by ps)
@@ -38,7 +38,7 @@ until_close-before (v ∷ vs) ws h = go (until_close-before vs ws) (closes v) re
 cut-verdicts : (x z : List ℕ) (ps : List Piece) → Cuts x ps → verdicts (x ++ z) ≡ until_close (verdicts_on ps ++ verdicts_on (blocks z))
 cut-verdicts x z ps c = verdicts-are (x ++ z)
     ∙ ap (λ w. until_close (verdicts_on w)) (c z)
-    ∙ ap until_close (map-append piece_verdict ps (map (moved (length x)) (blocks z)) ∙ ap (λ w. verdicts_on ps ++ w) (verdicts_on-moved (length x) (blocks z)))
+    ∙ ap until_close (map-append piece_verdict ps (map (piece_moved (length x)) (blocks z)) ∙ ap (λ w. verdicts_on ps ++ w) (verdicts_on-moved (length x) (blocks z)))
 
 -- no answer closes: those to the other bytes follow
 pub verdicts-follow : (x z : List ℕ) (ps : List Piece) → Cuts x ps → closes_any (verdicts_on ps) ≡ false → verdicts (x ++ z) ≡ verdicts_on ps ++ verdicts z

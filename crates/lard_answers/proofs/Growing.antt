@@ -5,7 +5,7 @@ use Rattle.std.proofs.Math.ListN.{drop_of_length-le}
 use Rattle.std.proofs.lemmas.List.{map-append}
 use Rattle.std.proofs.lemmas.List.Folds.{concat-append}
 use Rattle.lard_block.specs.declared.block.Found.TheVariants.{Block}
-use Rattle.lard_block.specs.Blocks.{cut_of, Piece, Head, moved, pieces, blocks}
+use Rattle.lard_block.specs.Blocks.{cut_of, Piece, Head, piece_moved, pieces, blocks}
 use Rattle.lard_block.proofs.Division.{grows, block-first}
 use Rattle.lard_request.specs.declared.verdict.Verdict.{Verdict}
 use Rattle.lard_request.specs.Verdict.{closes, verdict}
@@ -92,10 +92,10 @@ pub blocks-alone : (q : List ℕ) → cut_of q ≡ Block 0 (length q) → blocks
 blocks-alone q e =
     let n : 0 + length q ≡ length q = omega arith in
     block-first q 0 (length q) e
-    ∙ ap (λ k. Head (take (length q) q) k ∷ map (moved k) (blocks (drop k q))) n
-    ∙ ap (λ w. Head w (length q) ∷ map (moved (length q)) (blocks (drop (length q) q))) (take_all (length q) q (omega arith))
-    ∙ ap (λ w. Head q (length q) ∷ map (moved (length q)) (blocks w)) (drop_of_length-le q (omega arith))
-    ∙ ap (λ w. Head q (length q) ∷ map (moved (length q)) w) blocks-nothing
+    ∙ ap (λ k. Head (take (length q) q) k ∷ map (piece_moved k) (blocks (drop k q))) n
+    ∙ ap (λ w. Head w (length q) ∷ map (piece_moved (length q)) (blocks (drop (length q) q))) (take_all (length q) q (omega arith))
+    ∙ ap (λ w. Head q (length q) ∷ map (piece_moved (length q)) (blocks w)) (drop_of_length-le q (omega arith))
+    ∙ ap (λ w. Head q (length q) ∷ map (piece_moved (length q)) w) blocks-nothing
 
 pub until_close-alone : (v : Verdict) → until_close (v ∷ []) ≡ v ∷ []
 until_close-alone v = go (closes v) refl where

@@ -5,7 +5,7 @@ use Rattle.std.proofs.lemmas.Fmt.{decimal_injective}
 use Rattle.lard_app.specs.declared.status.Status.{Status}
 use Rattle.lard_app.specs.declared.status.Status.TheVariants.{Done, Usage, Refused, ReadFault, WriteFault, NoMemory, Limit}
 use Rattle.lard_app.specs.Generate.{Generated, Prints, run_of}
-use Rattle.lard_app.specs.Run.{Ended, Reads}
+use Rattle.lard_app.specs.Run.{Ended, ReadsInput}
 use Rattle.lard_lab.specs.declared.policy.Policy.{Policy}
 use Rattle.lard_lab.specs.declared.policy.Policy.TheVariants.{Rr, Hash, Lard, LardR}
 use Rattle.lard_lab.specs.Policy.{policy_word}
@@ -90,7 +90,7 @@ pub of-words : (words : List (List ℕ)) (seed clients s k : ℕ) (P : ℕ → �
 of-words words seed clients s k P g h p = let same = same-words words seed clients s k g h in subst (λ i. P i k) same.0 (subst (P seed) same.1 p)
 
 -- a replay does not end by `Usage`
-pub reads-not-usage : (status : Status) (left left_now old new : Option (List ℕ)) → Reads status left left_now old new → ¬ (status ≡ Usage)
+pub reads-not-usage : (status : Status) (left left_now old new : Option (List ℕ)) → ReadsInput status left left_now old new → ¬ (status ≡ Usage)
 reads-not-usage status left left_now old new r is = subst (λ (s : Status). Ended s r.text left_now old new) is r.ended
 
 module _ (seed clients : ℕ) (status : Status) (old new : Option (List ℕ)) (g : Generated seed clients status old new) where

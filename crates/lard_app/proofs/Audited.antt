@@ -27,7 +27,7 @@ verdict-read verdict.ReadFault is = refl
 verdict-read verdict.WriteFault is = cc
 verdict-read verdict.NoMemory is = cc
 
-pub verdict-counts : (before now : ℕ) (v : Verdict) → runs.EndsCount before now v → EndsCount before now (audit_status v)
+pub verdict-counts : (before now : ℕ) (v : Verdict) → runs.AuditEndsCount before now v → EndsCount before now (audit_status v)
 verdict-counts before now (verdict.Sound n) h = h
 verdict-counts before now (verdict.Refused line flaw) h = h
 verdict-counts before now (verdict.TooLong line) h = h
@@ -35,7 +35,7 @@ verdict-counts before now verdict.ReadFault h = h
 verdict-counts before now verdict.WriteFault h = h
 verdict-counts before now verdict.NoMemory h = h
 
-pub verdict-settled : (v : Verdict) (left : Option (List ℕ)) → runs.IsSettled v left → IsAuditSettled (audit_status v) left
+pub verdict-settled : (v : Verdict) (left : Option (List ℕ)) → runs.IsVerdictSettled v left → IsAuditSettled (audit_status v) left
 verdict-settled v None h = tt
 verdict-settled v (Some input) (inl is) = inl (ap audit_status is)
 verdict-settled v (Some input) (inr is) = inr (ap audit_status is)

@@ -15,7 +15,7 @@ use Rattle.lard_settling.specs.Settling.{Stop, settled}
 use Rattle.lard_law_settles.proofs.Whole.{settles-stop}
 use Rattle.lard_settling.specs.Steps.{settle_begun}
 use Rattle.lard_settling.specs.Written.{IsWrittenOut, is_settle}
-use Rattle.lard_app.specs.Causes.{HasReached, IsUntimely, IsWithinLimits, MayNotCome, Reaches, WritesTooMuch}
+use Rattle.lard_app.specs.Causes.{HasReached, IsUntimely, IsWithinLimits, MayNotCome, ReachesLimit, WritesTooMuch}
 use Rattle.lard_law_settles.proofs.Events.{either-kind, plain-step}
 use Rattle.lard_app.proofs.Events.{begun-not, plain-stopped}
 use Rattle.lard_app.proofs.Failures.{IsFault, fault-step, limit_found, limit_there, limit-step, step-fault}
@@ -30,7 +30,7 @@ abbrev pub ReachesBefore : Machine → Event → What → Type 0
 ReachesBefore m e w = HasReached m.journal w ⊎ (IsWithinLimits m.journal × (w ≡ what.Stream) × WritesTooMuch m.config.stream m.journal e)
 
 -- of an event that is no settle
-plain-reaches : (m : Machine) (e : Event) (w : What) → is_settle e ≡ false → (Reaches m e w → ReachesBefore m e w) × (ReachesBefore m e w → Reaches m e w)
+plain-reaches : (m : Machine) (e : Event) (w : What) → is_settle e ≡ false → (ReachesLimit m e w → ReachesBefore m e w) × (ReachesBefore m e w → ReachesLimit m e w)
 plain-reaches m (event.Settle rounds) w h = cc
 plain-reaches m (event.Open c isn iss wnd mss) w h = (λ r. r, λ r. r)
 plain-reaches m (event.Get c path) w h = (λ r. r, λ r. r)
@@ -73,7 +73,7 @@ unfolding event_step
 settled-stop m rounds stop is = fault-kept settled_to (λ a. (a.0, refl)) (λ c. refl) (settled m rounds) stop is
 
 -- the limit of what an input has is none of a journal
-pub unreached : (m : Machine) (e : Event) → ¬ (Reaches m e what.Input)
+pub unreached : (m : Machine) (e : Event) → ¬ (ReachesLimit m e what.Input)
 unreached m e r = go (either-kind e) where
   before : ¬ (ReachesBefore m e what.Input)
   before (inl l) = l
@@ -81,7 +81,7 @@ unreached m e r = go (either-kind e) where
 
   go : (is_settle e ≡ false) ⊎ ((rounds : ℕ) × (e ≡ event.Settle rounds)) → ⊥
   go (inl nots) = before ((plain-reaches m e what.Input nots).0 r)
-  go (inr s) = (subst (λ (d : Event). Reaches m d what.Input) s.1 r).3
+  go (inr s) = (subst (λ (d : Event). ReachesLimit m d what.Input) s.1 r).3
 
 -- no client writes in an inner step
 inner-writes : (m : Machine) (d : Event) → IsInner d → ¬ (WritesTooMuch m.config.stream m.journal d)
@@ -135,7 +135,7 @@ begun-limit m t rounds f w is here =
 
 -- its fault has a cause: the event may not come, or a limit was reached
 abbrev pub Blames : Machine → Event → StepFault → Type 0
-Blames m e f = ((reason : Refusal) → f ≡ fault.Refused reason → MayNotCome m e reason) × ((w : What) → f ≡ fault.Limit w → Reaches m e w) × ¬ (f ≡ fault.NoMemory)
+Blames m e f = ((reason : Refusal) → f ≡ fault.Refused reason → MayNotCome m e reason) × ((w : What) → f ≡ fault.Limit w → ReachesLimit m e w) × ¬ (f ≡ fault.NoMemory)
 
 limit-some : (w : What) (f : StepFault) → fault.Limit w ≡ f → ¬ (f ≡ fault.NoMemory)
 limit-some w f e none = let both : fault.Limit w ≡ fault.NoMemory = e ∙ none in cc
@@ -193,13 +193,13 @@ module _ (m : Machine) (w : IsWrittenOut m.config m.files m) where
   abbrev pub StopsBy : Event → What → Type 0
   StopsBy e v = (n : Machine) × (event_step m e ≡ Err (n, fault.Limit v))
 
-  pub reaches-stop : (e : Event) (v : What) → Reaches m e v → StopsBy e v
+  pub reaches-stop : (e : Event) (v : What) → ReachesLimit m e v → StopsBy e v
   reaches-stop e v r = go (either-kind e) where
     before : is_settle e ≡ false → ReachesBefore m e v → StopsBy e v
     before nots (inl l) = (m, not-done e (fault.Limit v) nots (limit-step m told e v l))
     before nots (inr h) = (m, not-done e (fault.Limit v) nots (fault-step m told e (fault.Limit v) h.0 (h.1, h.2)))
 
-    inside : (rounds : ℕ) → Reaches m (event.Settle rounds) v → StopsBy (event.Settle rounds) v
+    inside : (rounds : ℕ) → ReachesLimit m (event.Settle rounds) v → StopsBy (event.Settle rounds) v
     inside rounds u = of (settle-stop m.config m.files m rounds (u.0, u.1) w u.2) where
       of : StepNotDone m.config m.files m rounds (u.0, u.1) → StopsBy (event.Settle rounds) v
       of (inl b) =
@@ -212,4 +212,4 @@ module _ (m : Machine) (w : IsWrittenOut m.config m.files m) where
 
     go : (is_settle e ≡ false) ⊎ ((rounds : ℕ) × (e ≡ event.Settle rounds)) → StopsBy e v
     go (inl nots) = before nots ((plain-reaches m e v nots).0 r)
-    go (inr q) = subst (λ (d : Event). StopsBy d v) (sym q.1) (inside q.0 (subst (λ (d : Event). Reaches m d v) q.1 r))
+    go (inr q) = subst (λ (d : Event). StopsBy d v) (sym q.1) (inside q.0 (subst (λ (d : Event). ReachesLimit m d v) q.1 r))

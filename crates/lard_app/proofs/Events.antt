@@ -13,10 +13,10 @@ use Rattle.lard_journal.specs.declared.rec.Rec.{Rec}
 use Rattle.lard_journal.specs.declared.rec.Rec.TheVariants as rec
 use Rattle.lard_rules.specs.declared.fault.What.{What}
 use Rattle.lard_settling.specs.Events.{event_step, stepped_from}
-use Rattle.lard_settling.specs.Settling.{Stop, completions, deliveries, firings, left, takes}
+use Rattle.lard_settling.specs.Settling.{Stop, completions, deliveries, firings, settle_left, takes}
 use Rattle.lard_settling.specs.Steps.{settle_begun, settle_closed}
 use Rattle.lard_settling.specs.Written.{is_settle}
-use Rattle.lard_app.specs.Replay.{came}
+use Rattle.lard_app.specs.Replay.{came_to}
 use Rattle.lard_law_settles.proofs.Events.{begun-is, either-kind, plain-step}
 use Rattle.lard_law_settles.proofs.Inside.{KeptInside, SettleLands, settle-lands}
 
@@ -52,8 +52,8 @@ goes-inside : (b : Machine) (most : ℕ) → KeptInside (GoesOn b) (λ e. Unit {
 goes-inside b most = record {
   inner = λ m n e p q is. goes-over b m n p (inner-goes-on m n e is);
   closes = λ m done p le.
-      let front = closed-front m done (left m) in
-      goes-over b m (settle_closed m done (left m)) p (record { config = refl; files = refl; more = front.0; journal = front.1; begins = front.2 });
+      let front = closed-front m done (settle_left m) in
+      goes-over b m (settle_closed m done (settle_left m)) p (record { config = refl; files = refl; more = front.0; journal = front.1; begins = front.2 });
   takes = λ m p. every (takes m);
   deliveries = λ m p. every (deliveries m);
   completions = λ m n p. every (completions m n);
@@ -90,9 +90,9 @@ module _ (m : Machine) (rounds : ℕ) where
       let third = length-append m.journal (rec.Event (m.events + 1) (event.Settle rounds) ∷ []) in
       omega (arith, first, second, third)
 
-  pub settle-came : GoesOn m (came (event_step m (event.Settle rounds)))
+  pub settle-came : GoesOn m (came_to (event_step m (event.Settle rounds)))
   settle-came = go (event_step m (event.Settle rounds)) settle-goes where
-    go : (x : Result Machine Stop) → SettleGoes x → GoesOn m (came x)
+    go : (x : Result Machine Stop) → SettleGoes x → GoesOn m (came_to x)
     go (Ok n) h = from-begun n h
     go (Err stop) (inl same) = subst (GoesOn m) (sym same) (goes-nowhere m)
     go (Err stop) (inr h) = from-begun stop.0 h
@@ -104,24 +104,24 @@ module _ (m : Machine) (rounds : ℕ) where
     go (inl same) = inl same
     go (inr h) = inr (begun-longer stop.0 h)
 
-plain-came : (m : Machine) (e : Event) (x : Result Machine StepFault) → machine_step m e ≡ x → GoesOn m (came (stepped_from m x))
+plain-came : (m : Machine) (e : Event) (x : Result Machine StepFault) → machine_step m e ≡ x → GoesOn m (came_to (stepped_from m x))
 plain-came m e (Ok n) is = step-goes-on m n e is
 plain-came m e (Err f) is = goes-nowhere m
 
 -- numbers and files stay, and no record is taken back
-pub event-came : (m : Machine) (e : Event) → GoesOn m (came (event_step m e))
+pub event-came : (m : Machine) (e : Event) → GoesOn m (came_to (event_step m e))
 event-came m e = go (either-kind e) where
-  go : (is_settle e ≡ false) ⊎ ((rounds : ℕ) × (e ≡ event.Settle rounds)) → GoesOn m (came (event_step m e))
-  go (inl nots) = subst (λ (x : Result Machine Stop). GoesOn m (came x)) (sym (plain-step m e nots)) (plain-came m e (machine_step m e) refl)
-  go (inr is) = subst (λ (d : Event). GoesOn m (came (event_step m d))) (sym is.1) (settle-came m is.0)
+  go : (is_settle e ≡ false) ⊎ ((rounds : ℕ) × (e ≡ event.Settle rounds)) → GoesOn m (came_to (event_step m e))
+  go (inl nots) = subst (λ (x : Result Machine Stop). GoesOn m (came_to x)) (sym (plain-step m e nots)) (plain-came m e (machine_step m e) refl)
+  go (inr is) = subst (λ (d : Event). GoesOn m (came_to (event_step m d))) (sym is.1) (settle-came m is.0)
 
 -- an event that is done
 pub event-goes : (m n : Machine) (e : Event) → event_step m e ≡ Ok n → GoesOn m n
-event-goes m n e is = subst (λ (x : Result Machine Stop). GoesOn m (came x)) is (event-came m e)
+event-goes m n e is = subst (λ (x : Result Machine Stop). GoesOn m (came_to x)) is (event-came m e)
 
 -- the machine where the run ended in an event
 pub event-left : (m : Machine) (e : Event) (stop : Stop) → event_step m e ≡ Err stop → GoesOn m stop.0
-event-left m e stop is = subst (λ (x : Result Machine Stop). GoesOn m (came x)) is (event-came m e)
+event-left m e stop is = subst (λ (x : Result Machine Stop). GoesOn m (came_to x)) is (event-came m e)
 
 plain-stop : (m : Machine) (x : Result Machine StepFault) (stop : Stop) → stepped_from m x ≡ Err stop → (stop.0 ≡ m) × (x ≡ Err stop.1)
 plain-stop m (Ok n) stop is = cc

@@ -10,7 +10,7 @@ use Rattle.lard_base.specs.declared.place.Place.{Place}
 use Rattle.lard_base.specs.declared.place.Place.TheVariants.{Front, Node, Client}
 use Rattle.lard_client.specs.Control.{ClientBlock, written_len}
 use Rattle.lard_laws.proofs.ClientsTables.{client_at}
-use Rattle.lard_rules.specs.Machine.{client_does, client_goes_on, completes, delivered, disk_at, happens, is_no_job, is_no_node, limit_reached, lost, machine_step, node_acts, node_at, node_gave, node_setting, opened, passed, timer, to_place, unless_limit, wrote}
+use Rattle.lard_rules.specs.Machine.{client_acts, client_goes_on, completes, delivered, disk_at, happens, is_no_job, is_no_node, limit_reached, lost, machine_step, node_acts, node_at, node_gave, node_setting, machine_opened, passed, timer, to_place, unless_limit, machine_wrote}
 use Rattle.lard_rules.specs.declared.fault.Refusal.TheVariants as refusal
 use Rattle.lard_rules.specs.declared.fault.StepFault.{StepFault}
 use Rattle.lard_rules.specs.declared.fault.StepFault.TheVariants as fault
@@ -126,22 +126,22 @@ module _ (m : Machine) (t : Told m) where
       let there = is_there m.net k p at in
       fault_is e (fault.Refused (refusal.WasLost k)) f (of, there.0, subst (λ n. k ≤ n) (sym t.sent) there.1, t.lost k p at ∙ gone) is
 
-  opened-fault : (c isn iss wnd mss : ℕ) (f : StepFault) (o : Option Station) → table.get m.clients c ≡ o → opened m c isn iss wnd mss o ≡ Err f → IsFault m (event.Open c isn iss wnd mss) f
-  unfolding opened
+  opened-fault : (c isn iss wnd mss : ℕ) (f : StepFault) (o : Option Station) → table.get m.clients c ≡ o → machine_opened m c isn iss wnd mss o ≡ Err f → IsFault m (event.Open c isn iss wnd mss) f
+  unfolding machine_opened
   opened-fault c isn iss wnd mss f None at is = cc
   opened-fault c isn iss wnd mss f (Some x) at is = fault_is (event.Open c isn iss wnd mss) (fault.Refused (refusal.Used c)) f (refl, t.opened c x at) is
 
   wrote-fault : (e : Event) (c : ℕ) (bytes : List ℕ) (f : StepFault) (o : Option Station) → IsOfClient e c → (WouldPass m.config.stream m.journal c bytes → WritesTooMuch m.config.stream m.journal e)
-      → table.get m.clients c ≡ o → wrote m e c bytes o ≡ Err f → IsFault m e f
-  unfolding wrote
+      → table.get m.clients c ≡ o → machine_wrote m e c bytes o ≡ Err f → IsFault m e f
+  unfolding machine_wrote
   wrote-fault e c bytes f None of much at is = no_client e c f of at is
   wrote-fault e c bytes f (Some x) of much at is = go (nat_lt m.config.stream (written_len x.client bytes)) refl is where
     go : (b : Bool) → nat_lt m.config.stream (written_len x.client bytes) ≡ b → cond {A = Result Machine StepFault} b (Err (fault.Limit Stream)) (Ok (client_goes_on m e [] c x (client_writes x.client bytes))) ≡ Err f → IsFault m e f
     go true l h = fault_is e (fault.Limit Stream) f (refl, much (x.client, t.clients c ∙ ap client_at at, passes_limit m.config.stream (written_len x.client bytes) l)) h
     go false l h = cc
 
-  does-fault : (e : Event) (own : List Rec) (c : ℕ) (rule : ClientBlock → ClientBlock × Turn) (f : StepFault) (o : Option Station) → IsOfClient e c → table.get m.clients c ≡ o → client_does m e own c rule o ≡ Err f → IsFault m e f
-  unfolding client_does
+  does-fault : (e : Event) (own : List Rec) (c : ℕ) (rule : ClientBlock → ClientBlock × Turn) (f : StepFault) (o : Option Station) → IsOfClient e c → table.get m.clients c ≡ o → client_acts m e own c rule o ≡ Err f → IsFault m e f
+  unfolding client_acts
   does-fault e own c rule f None of at is = no_client e c f of at is
   does-fault e own c rule f (Some x) of at is = cc
 
@@ -225,20 +225,20 @@ module _ (m : Machine) (t : Told m) where
   fault-lost _ k p same at gone = absurd same
 
   fault-client : (e : Event) (c : ℕ) → IsOfClient e c → table.get m.clients c ≡ None → happens m e ≡ Err (fault.Refused (refusal.NoClient c))
-  unfolding wrote client_does timer
-  fault-client (event.Get d path) c same none = subst (λ i. happens m (event.Get i path) ≡ Err (fault.Refused (refusal.NoClient c))) (sym same) (ap (wrote m (event.Get c path) c (request path)) none)
-  fault-client (event.Write d bytes) c same none = subst (λ i. happens m (event.Write i bytes) ≡ Err (fault.Refused (refusal.NoClient c))) (sym same) (ap (wrote m (event.Write c bytes) c bytes) none)
-  fault-client (event.Shut d) c same none = subst (λ i. happens m (event.Shut i) ≡ Err (fault.Refused (refusal.NoClient c))) (sym same) (ap (client_does m (event.Shut c) [] c client_shuts) none)
-  fault-client (event.Abort d) c same none = subst (λ i. happens m (event.Abort i) ≡ Err (fault.Refused (refusal.NoClient c))) (sym same) (ap (client_does m (event.Abort c) [] c client_aborts) none)
-  fault-client (event.Hold d) c same none = subst (λ i. happens m (event.Hold i) ≡ Err (fault.Refused (refusal.NoClient c))) (sym same) (ap (client_does m (event.Hold c) [] c client_holds) none)
-  fault-client (event.Inject d bytes) c same none = subst (λ i. happens m (event.Inject i bytes) ≡ Err (fault.Refused (refusal.NoClient c))) (sym same) (ap (client_does m (event.Inject c bytes) (rec.Injected c ∷ []) c (λ x. client_injects x bytes)) none)
-  fault-client (event.Take d) c same none = subst (λ i. happens m (event.Take i) ≡ Err (fault.Refused (refusal.NoClient c))) (sym same) (ap (client_does m (event.Take c) [] c client_takes) none)
+  unfolding machine_wrote client_acts timer
+  fault-client (event.Get d path) c same none = subst (λ i. happens m (event.Get i path) ≡ Err (fault.Refused (refusal.NoClient c))) (sym same) (ap (machine_wrote m (event.Get c path) c (request path)) none)
+  fault-client (event.Write d bytes) c same none = subst (λ i. happens m (event.Write i bytes) ≡ Err (fault.Refused (refusal.NoClient c))) (sym same) (ap (machine_wrote m (event.Write c bytes) c bytes) none)
+  fault-client (event.Shut d) c same none = subst (λ i. happens m (event.Shut i) ≡ Err (fault.Refused (refusal.NoClient c))) (sym same) (ap (client_acts m (event.Shut c) [] c client_shuts) none)
+  fault-client (event.Abort d) c same none = subst (λ i. happens m (event.Abort i) ≡ Err (fault.Refused (refusal.NoClient c))) (sym same) (ap (client_acts m (event.Abort c) [] c client_aborts) none)
+  fault-client (event.Hold d) c same none = subst (λ i. happens m (event.Hold i) ≡ Err (fault.Refused (refusal.NoClient c))) (sym same) (ap (client_acts m (event.Hold c) [] c client_holds) none)
+  fault-client (event.Inject d bytes) c same none = subst (λ i. happens m (event.Inject i bytes) ≡ Err (fault.Refused (refusal.NoClient c))) (sym same) (ap (client_acts m (event.Inject c bytes) (rec.Injected c ∷ []) c (λ x. client_injects x bytes)) none)
+  fault-client (event.Take d) c same none = subst (λ i. happens m (event.Take i) ≡ Err (fault.Refused (refusal.NoClient c))) (sym same) (ap (client_acts m (event.Take c) [] c client_takes) none)
   fault-client (event.Timer p d) c same none = subst (λ i. happens m (event.Timer p i) ≡ Err (fault.Refused (refusal.NoClient c))) (sym same) (ap (timer m p c) none)
   fault-client _ c same none = absurd same
 
   fault-used : (e : Event) (c : ℕ) (x : Station) → Opens e c → table.get m.clients c ≡ Some x → happens m e ≡ Err (fault.Refused (refusal.Used c))
-  unfolding opened
-  fault-used (event.Open d isn iss wnd mss) c x same at = subst (λ i. happens m (event.Open i isn iss wnd mss) ≡ Err (fault.Refused (refusal.Used c))) (sym same) (ap (opened m c isn iss wnd mss) at)
+  unfolding machine_opened
+  fault-used (event.Open d isn iss wnd mss) c x same at = subst (λ i. happens m (event.Open i isn iss wnd mss) ≡ Err (fault.Refused (refusal.Used c))) (sym same) (ap (machine_opened m c isn iss wnd mss) at)
   fault-used _ c x same at = absurd same
 
   -- a client that the journal tells of
@@ -288,16 +288,16 @@ module _ (m : Machine) (t : Told m) where
       ∙ ap (λ l. Err (fault.Refused (refusal.NoJob n j l))) (sym same)))
   fault-job _ n j len of beyond_ = absurd of
 
-  wrote-much : (e : Event) (c : ℕ) (bytes : List ℕ) (x : Station) → table.get m.clients c ≡ Some x → m.config.stream < written_len x.client bytes → wrote m e c bytes (table.get m.clients c) ≡ Err (fault.Limit Stream)
-  unfolding wrote
+  wrote-much : (e : Event) (c : ℕ) (bytes : List ℕ) (x : Station) → table.get m.clients c ≡ Some x → m.config.stream < written_len x.client bytes → machine_wrote m e c bytes (table.get m.clients c) ≡ Err (fault.Limit Stream)
+  unfolding machine_wrote
   wrote-much e c bytes x at much =
-      ap (wrote m e c bytes) at
+      ap (machine_wrote m e c bytes) at
       ∙ ap (λ b. cond {A = Result Machine StepFault} b (Err (fault.Limit Stream)) (Ok (client_goes_on m e [] c x (client_writes x.client bytes)))) (past_limit m.config.stream (written_len x.client bytes) much)
 
   -- the client that the journal tells is that of the machine
-  wrote-past : (e : Event) (c : ℕ) (bytes : List ℕ) → WouldPass m.config.stream m.journal c bytes → wrote m e c bytes (table.get m.clients c) ≡ Err (fault.Limit Stream)
+  wrote-past : (e : Event) (c : ℕ) (bytes : List ℕ) → WouldPass m.config.stream m.journal c bytes → machine_wrote m e c bytes (table.get m.clients c) ≡ Err (fault.Limit Stream)
   wrote-past e c bytes h = go (table.get m.clients c) refl where
-    go : (o : Option Station) → table.get m.clients c ≡ o → wrote m e c bytes (table.get m.clients c) ≡ Err (fault.Limit Stream)
+    go : (o : Option Station) → table.get m.clients c ≡ o → machine_wrote m e c bytes (table.get m.clients c) ≡ Err (fault.Limit Stream)
     go None at = let no : Some h.0 ≡ None = sym h.1 ∙ t.clients c ∙ ap client_at at in cc
     go (Some x) at =
         let is : Some h.0 ≡ Some x.client = sym h.1 ∙ t.clients c ∙ ap client_at at in

@@ -20,8 +20,8 @@ use Rattle.lard_app.specs.Causes.{Leads}
 use Rattle.lard_app.specs.declared.status.Status.{Status}
 use Rattle.lard_app.specs.declared.status.Status.TheVariants.{Done, Usage, Refused, ReadFault, WriteFault, NoMemory, Limit}
 use Rattle.lard_app.specs.declared.status.Why.TheVariants.{Syntax}
-use Rattle.lard_app.specs.Replay.{begin, ended_at, ending, gain, event_listed, halted, is_past, judged, passed, replayed, report_of, whole, Passes, Progress}
-use Rattle.lard_app.specs.Run.{Completes, Ended, EndsInLine, IsDecided, IsTold}
+use Rattle.lard_app.specs.Replay.{begin, ended_behind, ending, gain, event_listed, halted, is_past, judged, line_passed, replayed, report_of, whole, PassesLine, Progress}
+use Rattle.lard_app.specs.Run.{CompletesText, Ended, EndsInLine, DecidesReplay, TellsOfRead}
 use Rattle.lard_app.proofs.Growth.{halted-grown, passed-grown}
 use Rattle.lard_app.proofs.Halting.{halted_by}
 use Rattle.lard_app.proofs.Keeping.{Keeps, begin-keeps, passed-keeps}
@@ -30,8 +30,8 @@ use Rattle.lard_app.proofs.Passing.{passed-read, passed_by}
 -- ---- lines that pass
 
 -- lines that pass, and one more
-leads_on : (s t u : Progress) (lines : List (List ℕ)) (line : List ℕ) → Leads s lines t → passed t line ≡ Ok u → Leads s (lines ++ line ∷ []) u
-leads_on s t u [] line l e = (u, ap (λ (v : Progress). passed v line) l ∙ e, refl)
+leads_on : (s t u : Progress) (lines : List (List ℕ)) (line : List ℕ) → Leads s lines t → line_passed t line ≡ Ok u → Leads s (lines ++ line ∷ []) u
+leads_on s t u [] line l e = (u, ap (λ (v : Progress). line_passed v line) l ∙ e, refl)
 leads_on s t u (first ∷ lines) line l e = (l.0, l.1, leads_on l.0 t u lines line l.2 e)
 
 -- lines that pass lead a replay to what is behind them
@@ -102,7 +102,7 @@ front_on a b c xs ys zs all h f e = record {
 }
 
 -- the status and the report of a replay that is known
-completes_as : (text : List ℕ) (s : Progress) (old now : Option (List ℕ)) (status : Status) → whole text ≡ (s, status) → Appends old now (report_of s) → Completes status text old now
+completes_as : (text : List ℕ) (s : Progress) (old now : Option (List ℕ)) (status : Status) → whole text ≡ (s, status) → Appends old now (report_of s) → CompletesText status text old now
 completes_as text s old now status e h = record {
   status_is = ap (λ (p : Progress × Status). p.1) e;
   written = subst (Appends old now) (sym (ap (λ (p : Progress × Status). report_of p.0) e)) h;
@@ -116,7 +116,7 @@ past_at_end s (b ∷ bs) l some =
     let past : nat_lt MAX_INPUT_BYTES (s.read + length (b ∷ bs)) ≡ true = grind (arith, nat_tests, l) in
     ap (λ u. cond u (Limit (s.lines + 1) Input) (Refused (s.lines + 1) Syntax)) past
 
-past_as_line : (s : Progress) (line : List ℕ) → MAX_INPUT_BYTES < s.read + length line → passed s line ≡ Err (Limit (s.lines + 1) Input)
+past_as_line : (s : Progress) (line : List ℕ) → MAX_INPUT_BYTES < s.read + length line → line_passed s line ≡ Err (Limit (s.lines + 1) Input)
 past_as_line s line l =
     let past : is_past s line ≡ true = grind (arith, nat_tests, l) in passed_by s line true past
 
@@ -146,7 +146,7 @@ past_limit s rest more none l small = alone (position is_feed (rest ++ more)) re
 -- How a run ends over a text that it tells of, of what was read; a front of that text's report was written.
 pub record EndsSo (status : Status) (read : List ℕ) (left old new : Option (List ℕ)) : Type 0 where
   pub text : List ℕ
-  pub told : IsTold status read text
+  pub told : TellsOfRead status read text
   pub wrote : WrotePrefix old new (report_of (whole text).0)
   pub ended : Ended status text left old new
 
@@ -196,7 +196,7 @@ module _ (text rest : List ℕ) (s : Progress) (old now : Option (List ℕ)) (g 
         ∙ ap (λ line. line ∷ lines_of (drop (at + 1) (rest ++ more))) (take-append-le at rest more (omega (arith, within)))
         ∙ ap (λ xs. take at rest ∷ lines_of xs) (drop-append-le (at + 1) rest more within)
 
-    when_refused : (status : Status) → passed s (take at rest) ≡ Err status → (more : List ℕ) → whole (text ++ more) ≡ (halted s (take at rest), status)
+    when_refused : (status : Status) → line_passed s (take at rest) ≡ Err status → (more : List ℕ) → whole (text ++ more) ≡ (halted s (take at rest), status)
     when_refused status e more = go (first_part is_feed (drop (at + 1) rest ++ more)) where
       go : (part : List ℕ) × (parts : List (List ℕ)) × (lines_of (drop (at + 1) rest ++ more) ≡ part ∷ parts) → whole (text ++ more) ≡ (halted s (take at rest), status)
       go f =
@@ -256,8 +256,8 @@ module _ (text rest : List ℕ) (s : Progress) (old now : Option (List ℕ)) (g 
     -- its report is that of the lines before and what this line adds, passed or not
     through-report : report_of (whole through).0 ≡ report_of s ++ gain s (take at rest)
     unfolding whole
-    through-report = ap (λ (p : Progress × Status). report_of p.0) (ap (replayed begin) through-lines ∙ leads_whole begin s g.lines (take at rest) ([] ∷ []) g.leads) ∙ go (passed s (take at rest)) refl where
-      go : (r : Result Progress Status) → passed s (take at rest) ≡ r → report_of (replayed s (take at rest ∷ [] ∷ [])).0 ≡ report_of s ++ gain s (take at rest)
+    through-report = ap (λ (p : Progress × Status). report_of p.0) (ap (replayed begin) through-lines ∙ leads_whole begin s g.lines (take at rest) ([] ∷ []) g.leads) ∙ go (line_passed s (take at rest)) refl where
+      go : (r : Result Progress Status) → line_passed s (take at rest) ≡ r → report_of (replayed s (take at rest ∷ [] ∷ [])).0 ≡ report_of s ++ gain s (take at rest)
       go (Err status) e = rw (e, replayed) (halted-grown s (take at rest) status e)
       go (Ok t) e = rw (e, replayed) (passed-grown s t (take at rest) g.keeps.listed e)
 
@@ -268,7 +268,7 @@ module _ (text rest : List ℕ) (s : Progress) (old now : Option (List ℕ)) (g 
     in-line : (next : Option (List ℕ)) → WrotePrefix now next (gain s (take at rest)) → EndsInLine through old next
     in-line next f = record { lines = g.lines; line = take at rest; are = through-lines; state = s; leads = g.leads; between = now; written = g.written; front = f }
 
-    pub going_on : (t : Progress) (next : Option (List ℕ)) → (passed s (take at rest) ≡ Ok t) × Appends now next (gain s (take at rest)) → Going text (drop (at + 1) rest) t old next
+    pub going_on : (t : Progress) (next : Option (List ℕ)) → (line_passed s (take at rest) ≡ Ok t) × Appends now next (gain s (take at rest)) → Going text (drop (at + 1) rest) t old next
     going_on t next h = record {
       events = g.events ++ event_listed (judged s.reader (take at rest));
       keeps = passed-keeps s t (take at rest) g.events g.keeps h.0;
@@ -284,14 +284,14 @@ module _ (text rest : List ℕ) (s : Progress) (old now : Option (List ℕ)) (g 
       written = subst (Appends old next) (sym (passed-grown s t (take at rest) g.keeps.listed h.0)) (Appends-trans old now next _ _ g.written h.1);
     }
 
-    refused_here : (status : Status) (left next : Option (List ℕ)) → passed s (take at rest) ≡ Err status → Appends now next (gain s (take at rest)) → IsDecided text left × Completes status text old next
+    refused_here : (status : Status) (left next : Option (List ℕ)) → line_passed s (take at rest) ≡ Err status → Appends now next (gain s (take at rest)) → DecidesReplay text left × CompletesText status text old next
     refused_here status left next e h = (
       inr (decided (halted s (take at rest), status) (when_refused status e)),
       completes_as text (halted s (take at rest)) old next status (as_read (halted s (take at rest), status) (when_refused status e))
           (subst (Appends old next) (sym (halted-grown s (take at rest) status e)) (Appends-trans old now next (report_of s) (gain s (take at rest)) g.written h)),
     )
 
-    pub going_stop : (e : Status) (t : Progress) (left next : Option (List ℕ)) → Passes (passed s (take at rest)) (gain s (take at rest)) now next t (Err e) → EndsSo e text left old next
+    pub going_stop : (e : Status) (t : Progress) (left next : Option (List ℕ)) → PassesLine (line_passed s (take at rest)) (gain s (take at rest)) now next t (Err e) → EndsSo e text left old next
     going_stop Done t left next h = absurd h
     going_stop Usage t left next h = absurd h
     going_stop ReadFault t left next h = absurd h
@@ -329,7 +329,7 @@ module _ (text rest : List ℕ) (s : Progress) (old now : Option (List ℕ)) (g 
     short : rest ≡ [] → length text ≤ MAX_INPUT_BYTES
     short e = let no : length rest ≡ 0 = ap length e in omega (arith, no, g.read, g.keeps.read)
 
-    completed : (status : Status) → ending s rest ≡ status → Completes status text old now
+    completed : (status : Status) → ending s rest ≡ status → CompletesText status text old now
     completed status e = completes_as text s old now status (at_end ∙ ap (λ (t : Status). (s, t)) e) g.written
 
     -- a line that is too long already is too long whatever comes behind it
@@ -337,7 +337,7 @@ module _ (text rest : List ℕ) (s : Progress) (old now : Option (List ℕ)) (g 
     too_long full more = goes_on more ∙ past_limit s rest more none (omega (arith, full, g.read)) g.keeps.read
 
     -- nothing that follows changes how it ends
-    final : (left : Option (List ℕ)) → IsAtEnd left ⊎ (length text ≡ MAX_INPUT_BYTES + 1) → IsDecided text left
+    final : (left : Option (List ℕ)) → IsAtEnd left ⊎ (length text ≡ MAX_INPUT_BYTES + 1) → DecidesReplay text left
     final left (inl end) = inl end
     final left (inr full) = inr (decided (s, Limit (s.lines + 1) Input) (too_long full))
 
@@ -346,15 +346,15 @@ module _ (text rest : List ℕ) (s : Progress) (old now : Option (List ℕ)) (g 
     at_its_end left (inr full) small = absurd (omega (arith, full, small))
 
     module _ (left : Option (List ℕ)) (how : IsAtEnd left ⊎ (length text ≡ MAX_INPUT_BYTES + 1)) where
-      ends-here : (status : Status) → IsTold status text text → Ended status text left old now → EndsSo status text left old now
+      ends-here : (status : Status) → TellsOfRead status text text → Ended status text left old now → EndsSo status text left old now
       ends-here status told e = record { text = text; told = told; wrote = whole-front text old now written_so_far; ended = e }
 
       -- nothing follows the last line feed
-      empty_end : (stage : Stage) → s.reader.stage ≡ stage → rest ≡ [] → EndsSo (ended_at s.lines stage) text left old now
-      empty_end Start e f = ends-here (Refused (s.lines + 1) Syntax) refl (final left how, completed (Refused (s.lines + 1) Syntax) (ap (ending s) f ∙ ap (ended_at s.lines) e))
-      empty_end Settings e f = ends-here (Refused (s.lines + 1) Syntax) refl (final left how, completed (Refused (s.lines + 1) Syntax) (ap (ending s) f ∙ ap (ended_at s.lines) e))
-      empty_end Files e f = ends-here (Refused (s.lines + 1) Syntax) refl (final left how, completed (Refused (s.lines + 1) Syntax) (ap (ending s) f ∙ ap (ended_at s.lines) e))
-      empty_end Running e f = ends-here Done refl (at_its_end left how (short f), short f, completed Done (ap (ending s) f ∙ ap (ended_at s.lines) e))
+      empty_end : (stage : Stage) → s.reader.stage ≡ stage → rest ≡ [] → EndsSo (ended_behind s.lines stage) text left old now
+      empty_end Start e f = ends-here (Refused (s.lines + 1) Syntax) refl (final left how, completed (Refused (s.lines + 1) Syntax) (ap (ending s) f ∙ ap (ended_behind s.lines) e))
+      empty_end Settings e f = ends-here (Refused (s.lines + 1) Syntax) refl (final left how, completed (Refused (s.lines + 1) Syntax) (ap (ending s) f ∙ ap (ended_behind s.lines) e))
+      empty_end Files e f = ends-here (Refused (s.lines + 1) Syntax) refl (final left how, completed (Refused (s.lines + 1) Syntax) (ap (ending s) f ∙ ap (ended_behind s.lines) e))
+      empty_end Running e f = ends-here Done refl (at_its_end left how (short f), short f, completed Done (ap (ending s) f ∙ ap (ended_behind s.lines) e))
 
       pub going_end : (status : Status) → status ≡ ending s rest → EndsSo status text left old now
       going_end status e = go rest refl where

@@ -14,7 +14,7 @@ use Rattle.lard_files.specs.declared.fault.FileFault.{FileFault}
 use Rattle.lard_grammar.proofs.Parts.{reads_on}
 use Rattle.lard_grammar.proofs.Texts.{cut_again, front_joined, joined}
 use Rattle.lard_grammar.proofs.Wholes.{found_is}
-use Rattle.lard_grammar.specs.Schedule.{AreLines, Found, at_end, nothing, read_from, schedule_of, text_of, with_item}
+use Rattle.lard_grammar.specs.Schedule.{AreLines, Found, at_end, nothing_found, read_from, schedule_of, text_of, with_item}
 use Rattle.lard_lines.specs.Lines.{is_feed, lines_of}
 use Rattle.lard_rules.specs.declared.fault.What.TheVariants.{Input}
 use Rattle.lard_schedule.proofs.Cuts.{first_part}
@@ -23,14 +23,14 @@ use Rattle.lard_schedule.specs.declared.item.Item.TheVariants as item
 use Rattle.lard_schedule.specs.declared.reader.Stage.{Stage}
 use Rattle.lard_schedule.specs.declared.reader.Stage.TheVariants.{Start, Settings, Files, Running}
 use Rattle.lard_schedule.specs.Laws.{IsBefore, MayStand}
-use Rattle.lard_schedule.specs.Reader.{HasRange, after}
+use Rattle.lard_schedule.specs.Reader.{HasRange, reader_after}
 use Rattle.lard_settling.specs.Events.{event_step}
 use Rattle.lard_settling.specs.Settling.{Stop}
 use Rattle.lard_app.specs.Causes.{Leads}
 use Rattle.lard_app.specs.declared.status.Status.{Status}
 use Rattle.lard_app.specs.declared.status.Status.TheVariants.{Done, Refused, Limit}
 use Rattle.lard_app.specs.declared.status.Why.TheVariants.{Syntax}
-use Rattle.lard_app.specs.Replay.{Progress, begin, begun, begun_by, config_of, config_set, counted, ending, event_listed, events_from, events_of, filed, files_of, followed, halted, judged, moved, passed, replayed, taken, whole}
+use Rattle.lard_app.specs.Replay.{Progress, begin, replay_begun, begun_by, config_of, config_set, line_counted, ending, event_listed, events_from, events_of, filed, files_of, followed, halted, judged, replay_moved, line_passed, replayed, taken_item, whole}
 use Rattle.lard_app.specs.Run.{EndsBehind, Passed}
 use Rattle.lard_app.proofs.Events.{event-goes, event-left}
 use Rattle.lard_app.proofs.Halting.{Leaves, line-leaves}
@@ -54,7 +54,7 @@ before_agrees Files s f b a = a
 before_agrees Running s f b a = absurd b
 
 -- a line that is counted changes nothing of it
-counted_agrees : (stage : Stage) (s : Progress) (f : Found) (line : List ℕ) → Agrees stage s f → Agrees stage (counted s line) f
+counted_agrees : (stage : Stage) (s : Progress) (f : Found) (line : List ℕ) → Agrees stage s f → Agrees stage (line_counted s line) f
 counted_agrees Start s f line a = a
 counted_agrees Settings s f line a = a
 counted_agrees Files s f line a = a
@@ -62,7 +62,7 @@ counted_agrees Running s f line a = a
 
 -- the reader is behind the item, and what was found with it agrees
 abbrev Follows : Progress → Item → Found → Progress → Type 0
-Follows s x f t = (t.reader ≡ after s.reader x) × Agrees t.reader.stage t (with_item f x)
+Follows s x f t = (t.reader ≡ reader_after s.reader x) × Agrees t.reader.stage t (with_item f x)
 
 module _ (s t : Progress) (f : Found) where
   follows_as : (x : Item) (u : Progress) → ◌≡◌ {A = Result Progress Status} (Ok u) (Ok t) → Follows s x f u → Follows s x f t
@@ -81,11 +81,11 @@ module _ (s t : Progress) (f : Found) where
       let here = before_agrees s.reader.stage s f b a in
       follows_as (item.File path bytes) _ e (refl, (here.0, ap (λ fs. fs ++ (path, bytes) ∷ []) here.1))
 
-  begun-follows : (r : Result (Unit {0}) ConfigFault) → IsBefore s.reader.stage → Agrees s.reader.stage s f → begun (followed s item.Go) r ≡ Ok t → Follows s item.Go f t
+  begun-follows : (r : Result (Unit {0}) ConfigFault) → IsBefore s.reader.stage → Agrees s.reader.stage s f → replay_begun (followed s item.Go) r ≡ Ok t → Follows s item.Go f t
   begun-follows (Err fault) b a e = cc
   begun-follows (Ok u) b a e = follows_as item.Go _ e (refl, before_agrees s.reader.stage s f b a)
 
-  moved-follows : (e : Event) (r : Result Machine Stop) → event_step s.machine e ≡ r → s.reader.stage ≡ Running → Agrees s.reader.stage s f → moved (followed s (item.Event e)) r ≡ Ok t → Follows s (item.Event e) f t
+  moved-follows : (e : Event) (r : Result Machine Stop) → event_step s.machine e ≡ r → s.reader.stage ≡ Running → Agrees s.reader.stage s f → replay_moved (followed s (item.Event e)) r ≡ Ok t → Follows s (item.Event e) f t
   moved-follows e (Err stop) is at a h = cc
   moved-follows e (Ok m) is at a h =
       let here : Agrees Running s f = subst (λ st. Agrees st s f) at a in
@@ -93,7 +93,7 @@ module _ (s t : Progress) (f : Found) where
       let next : Agrees Running (record (followed s (item.Event e)) { machine = m }) (with_item f (item.Event e)) = (here.0 ∙ sym kept.config, here.1 ∙ sym kept.files) in
       follows_as (item.Event e) _ h (refl, subst (λ st. Agrees st (record (followed s (item.Event e)) { machine = m }) (with_item f (item.Event e))) (sym at) next)
 
-  item-follows : (x : Item) → MayStand s.reader x → HasRange x → Agrees s.reader.stage s f → taken (followed s x) x ≡ Ok t → Follows s x f t
+  item-follows : (x : Item) → MayStand s.reader x → HasRange x → Agrees s.reader.stage s f → taken_item (followed s x) x ≡ Ok t → Follows s x f t
   item-follows item.Header may range a e = follows_as item.Header _ e (refl, subst (λ st. Agrees st s f) may a)
   item-follows (item.Set key value) may range a e = set-follows key value (range_check key value) may.0 a e
   item-follows (item.File path bytes) may range a e = filed-follows path bytes (add_check s.files path (length bytes)) may a e
@@ -147,7 +147,7 @@ ended_last s (b ∷ bs) e = go (nat_lt MAX_INPUT_BYTES (s.read + length (b ∷ b
   go true h = cc
   go false h = cc
 
-not_done : (s : Progress) (line : List ℕ) (status : Status) (es : List Event) → Keeps s es → passed s line ≡ Err status → status ≢ Done
+not_done : (s : Progress) (line : List ℕ) (status : Status) (es : List Event) → Keeps s es → line_passed s line ≡ Err status → status ≢ Done
 not_done s line status es k e done = line-ends s.lines s.read s (record { lines = refl; read = refl; events = es; keeps = k }) line Done (e ∙ ap (λ (t : Status). Err t) done)
 
 -- a line that is behind one is behind the end, too
@@ -171,8 +171,8 @@ stood s f (last ∷ []) es some k a = record {
   ended = λ e. (ap (λ (l : List ℕ). l ∷ []) (ended_last s last e), refl);
   found = λ at. read_here s f a at;
 }
-stood s f (line ∷ next ∷ more) es some k a = go (passed s line) refl (λ t d ds j b. stood t d (next ∷ more) ds (λ e. cc) j b) where
-  go : (r : Result Progress Status) → passed s line ≡ r → ((t : Progress) (d : Found) (ds : List Event) → Keeps t ds → Agrees t.reader.stage t d → Stood t d (next ∷ more)) → Stood s f (line ∷ next ∷ more)
+stood s f (line ∷ next ∷ more) es some k a = go (line_passed s line) refl (λ t d ds j b. stood t d (next ∷ more) ds (λ e. cc) j b) where
+  go : (r : Result Progress Status) → line_passed s line ≡ r → ((t : Progress) (d : Found) (ds : List Event) → Keeps t ds → Agrees t.reader.stage t d → Stood t d (next ∷ more)) → Stood s f (line ∷ next ∷ more)
   go (Err status) e later =
       let same = left-same s line (line-leaves s line status e) in
       record {
@@ -193,7 +193,7 @@ stood s f (line ∷ next ∷ more) es some k a = go (passed s line) refl (λ t d
   go (Ok t) e later =
       let took = passed-took s t line e in
       let fits = took-fits s t line took in
-      let step = item-follows (counted s line) t f took.item fits.1 fits.2 (counted_agrees s.reader.stage s f line a) took.is in
+      let step = item-follows (line_counted s line) t f took.item fits.1 fits.2 (counted_agrees s.reader.stage s f line a) took.is in
       let rest = later t (with_item f took.item) (es ++ event_listed (judged s.reader line)) (passed-keeps s t line es k e) step.1 in
       record {
         before = line ∷ rest.before;
@@ -218,9 +218,9 @@ stood s f (line ∷ next ∷ more) es some k a = go (passed s line) refl (λ t d
 
 -- ---- a text
 
-scheduled : (text : List ℕ) (lines : List (List ℕ)) (f : Found) → lines_of text ≡ lines ++ [] ∷ [] → read_from begin.reader nothing (lines ++ [] ∷ []) ≡ Some f → schedule_of text ≡ Some f
+scheduled : (text : List ℕ) (lines : List (List ℕ)) (f : Found) → lines_of text ≡ lines ++ [] ∷ [] → read_from begin.reader nothing_found (lines ++ [] ∷ []) ≡ Some f → schedule_of text ≡ Some f
 unfolding schedule_of
-scheduled text lines f cut e = ap (read_from begin.reader nothing) cut ∙ e
+scheduled text lines f cut e = ap (read_from begin.reader nothing_found) cut ∙ e
 
 behind_none : (xs ys : List ℕ) → xs ++ ys ≡ xs → ys ≡ []
 behind_none [] ys e = e
@@ -234,11 +234,11 @@ none_behind lines text behind cut are e = behind_none (text_of lines) behind (sy
 
 pub passed-stands : (text : List ℕ) → Passed text (config_of text) (files_of text) (events_of text)
 unfolding whole events_of
-passed-stands text = go (stood begin nothing (lines_of text) [] some begin-keeps (refl, refl)) where
+passed-stands text = go (stood begin nothing_found (lines_of text) [] some begin-keeps (refl, refl)) where
   some : lines_of text ≢ []
   some e = let first = first_part is_feed text in let both : first.0 ∷ first.1 ≡ [] = sym first.2 ∙ e in cc
 
-  go : Stood begin nothing (lines_of text) → Passed text (config_of text) (files_of text) (events_of text)
+  go : Stood begin nothing_found (lines_of text) → Passed text (config_of text) (files_of text) (events_of text)
   go st =
       let front = front_joined st.before st.rest text st.are st.some in
       record {

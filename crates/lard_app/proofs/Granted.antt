@@ -7,7 +7,7 @@ use Rattle.std.specs.List.{fold}
 use Rattle.std.specs.Ordering.{eq_by_cmp, nat_cmp}
 use Rattle.std.specs.Cmp.{nat_cmp_total}
 use Rattle.std.specs.Prelude.{All}
-use Rattle.lard_agenda.specs.Agenda.{agenda_of, held_by, holders, on_way, held_step, noted_by, nothing, way_step}
+use Rattle.lard_agenda.specs.Agenda.{agenda_of, held_by, holders, on_way, held_step, noted_by, nothing_noted, way_step}
 use Rattle.lard_agenda.specs.declared.agenda.Agenda.{Agenda}
 use Rattle.lard_base.specs.Config.{config_check}
 use Rattle.lard_base.specs.declared.config.Config.{Config}
@@ -17,23 +17,23 @@ use Rattle.lard_base.specs.declared.limits.TheConstants.{MAX_RECORDS}
 use Rattle.lard_rules.specs.Bounds.{HasRule}
 use Rattle.lard_rules.specs.declared.fault.StepFault.{StepFault}
 use Rattle.lard_rules.specs.declared.machine.Machine.{Machine}
-use Rattle.lard_rules.specs.Machine.{machine_step, node_at, start}
-use Rattle.lard_laws.specs.Records.{IsFile, IsGiven}
+use Rattle.lard_rules.specs.Machine.{machine_step, node_at, machine_start}
+use Rattle.lard_laws.specs.Records.{IsRunFile, IsScheduled}
 use Rattle.lard_laws.proofs.RecordsReached.{records-ranges}
 use Rattle.lard_history.proofs.Each.{Each, Each-append, Each-weaker}
-use Rattle.lard_journal.specs.Range.{IsEventInRange, IsInRange, IsNumber, IsPlaceInRange}
+use Rattle.lard_journal.specs.Range.{IsEventInRange, IsRecordInRange, IsNumber, IsPlaceInRange}
 use Rattle.lard_journal.specs.declared.rec.Rec.{Rec}
 use Rattle.lard_journal.specs.declared.rec.Rec.TheVariants as rec
 use Rattle.lard_law_view.proofs.ByteLists.{all-each, each-all}
 use Rattle.lard_rules.specs.declared.node.NodeState.{NodeState}
-use Rattle.lard_settling.specs.Events.{EndsInside, Goes, LeadsTo, MayCome, event_step, stepped_from}
-use Rattle.lard_settling.specs.Settling.{Stop, completions, deliveries, firings, left, takes}
+use Rattle.lard_settling.specs.Events.{EndsInside, GoesThrough, LeadsTo, MayCome, event_step, stepped_from}
+use Rattle.lard_settling.specs.Settling.{Stop, completions, deliveries, firings, settle_left, takes}
 use Rattle.lard_settling.specs.Left.{is_holder, jobs_of}
 use Rattle.lard_settling.specs.Steps.{closing, inner_step, settle_begun, settle_closed}
 use Rattle.lard_settling.specs.Written.{IsWrittenOut, is_settle, steps_with, written_from, written_rec}
 use Rattle.lard_settling.proofs.Plain.{AreUnmarked, is_mark}
 use Rattle.lard_settling.proofs.Written.{written}
-use Rattle.lard_app.specs.Replay.{came}
+use Rattle.lard_app.specs.Replay.{came_to}
 use Rattle.lard_app.specs.Happened.{step_of, step_told, steps_told}
 use Rattle.lard_law_settles.proofs.Events.{begun-is, either-kind, plain-rule, plain-step}
 use Rattle.lard_law_settles.proofs.Few.{config-is, few-left}
@@ -47,8 +47,8 @@ use Rattle.lard_law_settles.proofs.Firing.{inner-rule}
 -- ---- what a record of a step or a settle was given
 
 abbrev pub IsGranted : Rec → Type 0
-IsGranted (rec.Event i e) = IsNumber i × IsGiven e
-IsGranted (rec.Inner e) = IsGiven e
+IsGranted (rec.Event i e) = IsNumber i × IsScheduled e
+IsGranted (rec.Inner e) = IsScheduled e
 IsGranted (rec.Settled rounds) = IsNumber rounds
 IsGranted (rec.Unsettled rounds left) = IsNumber rounds × IsNumber left
 IsGranted _ = Unit {0}
@@ -68,34 +68,34 @@ rows-granted rs h = Each-weaker (λ r. is_mark r ≡ false) IsGranted unmarked-g
 
 -- ---- the events of the steps
 
-step-granted : (e : Event) → IsGiven e → Each IsGiven (step_of e)
+step-granted : (e : Event) → IsScheduled e → Each IsScheduled (step_of e)
 step-granted e h = go (is_settle e) where
-  go : (b : Bool) → Each IsGiven (cond b [] (e ∷ []))
+  go : (b : Bool) → Each IsScheduled (cond b [] (e ∷ []))
   go true = tt
   go false = (h, tt)
 
-rec-granted : (r : Rec) → IsGranted r → Each IsGiven (step_told r)
+rec-granted : (r : Rec) → IsGranted r → Each IsScheduled (step_told r)
 rec-granted (rec.Event i e) h = step-granted e h.1
 rec-granted (rec.Inner e) h = step-granted e h
 rec-granted _ h = tt
 
-told-granted : (J : List Rec) → AreGranted J → Each IsGiven (steps_told J)
+told-granted : (J : List Rec) → AreGranted J → Each IsScheduled (steps_told J)
 told-granted [] h = tt
-told-granted (r ∷ J) h = Each-append IsGiven (step_told r) (steps_told J) (rec-granted r h.0) (told-granted J h.1)
+told-granted (r ∷ J) h = Each-append IsScheduled (step_told r) (steps_told J) (rec-granted r h.0) (told-granted J h.1)
 
 -- ---- ranges
 
-rec-ranged : (i : ℕ) (r : Rec) → IsGranted r → Each IsInRange (written_rec i r) → IsInRange r
+rec-ranged : (i : ℕ) (r : Rec) → IsGranted r → Each IsRecordInRange (written_rec i r) → IsRecordInRange r
 rec-ranged i (rec.Event k e) g h = (g.0, g.1.0)
 rec-ranged i (rec.Inner e) g h = g.0
 rec-ranged i (rec.Settled rounds) g h = g
 rec-ranged i (rec.Unsettled rounds left) g h = g
 rec-ranged i _ g h = h.0
 
-all-ranged : (i : ℕ) (J : List Rec) → AreGranted J → Each IsInRange (written_from i J) → Each IsInRange J
+all-ranged : (i : ℕ) (J : List Rec) → AreGranted J → Each IsRecordInRange (written_from i J) → Each IsRecordInRange J
 all-ranged i [] g h = tt
 all-ranged i (r ∷ J) g h =
-    let parts = each-parts IsInRange (written_rec i r) (written_from (steps_with i r) J) h in
+    let parts = each-parts IsRecordInRange (written_rec i r) (written_from (steps_with i r) J) h in
     (rec-ranged i r g.0 parts.0, all-ranged (steps_with i r) J g.1 parts.1)
 
 -- ---- what an agenda keeps is in range
@@ -130,7 +130,7 @@ IsWay k u = IsNumber k
 abbrev IsHeld : ℕ → ℕ → Type 0
 IsHeld k c = IsNumber c
 
-one-way : (way : FinMap nat_cmp (Unit {0})) (r : Rec) → IsInRange r → AreSo IsWay way → AreSo IsWay (way_step way r)
+one-way : (way : FinMap nat_cmp (Unit {0})) (r : Rec) → IsRecordInRange r → AreSo IsWay way → AreSo IsWay (way_step way r)
 one-way way (rec.Sent k from to bytes) g h = insert-so IsWay way k tt h g.0
 one-way way (rec.Got k) g h = remove-so IsWay way k h
 one-way way (rec.Lost k) g h = remove-so IsWay way k h
@@ -141,20 +141,20 @@ event-held held (event.Hold c) g h = insert-so IsHeld held c c h g
 event-held held (event.Take c) g h = remove-so IsHeld held c h
 event-held held _ g h = h
 
-one-held : (held : FinMap nat_cmp ℕ) (r : Rec) → IsInRange r → AreSo IsHeld held → AreSo IsHeld (held_step held r)
+one-held : (held : FinMap nat_cmp ℕ) (r : Rec) → IsRecordInRange r → AreSo IsHeld held → AreSo IsHeld (held_step held r)
 one-held held (rec.Event i e) g h = event-held held e g.1 h
 one-held held (rec.Inner e) g h = event-held held e g h
 one-held held _ g h = h
 
-all-kept : (J : List Rec) (a : Agenda) → Each IsInRange J → AreSo IsWay a.way → AreSo IsHeld a.held → AreSo IsWay (fold noted_by a J).way × AreSo IsHeld (fold noted_by a J).held
+all-kept : (J : List Rec) (a : Agenda) → Each IsRecordInRange J → AreSo IsWay a.way → AreSo IsHeld a.held → AreSo IsWay (fold noted_by a J).way × AreSo IsHeld (fold noted_by a J).held
 all-kept [] a g h k = (h, k)
 all-kept (r ∷ J) a g h k = all-kept J (noted_by a r) g.1 (one-way a.way r g.0 h) (one-held a.held r g.0 k)
 
-agenda-kept : (J : List Rec) → Each IsInRange J → AreSo IsWay (agenda_of J).way × AreSo IsHeld (agenda_of J).held
+agenda-kept : (J : List Rec) → Each IsRecordInRange J → AreSo IsWay (agenda_of J).way × AreSo IsHeld (agenda_of J).held
 unfolding agenda_of
-agenda-kept J g = all-kept J nothing g (empty-so IsWay nothing.way (λ q. get-empty nat_cmp q)) (empty-so IsHeld nothing.held (λ q. get-empty nat_cmp q))
+agenda-kept J g = all-kept J nothing_noted g (empty-so IsWay nothing_noted.way (λ q. get-empty nat_cmp q)) (empty-so IsHeld nothing_noted.held (λ q. get-empty nat_cmp q))
 
-timer-ranged : (r : Rec) → IsInRange r → OfTimer (λ p c. IsPlaceInRange p × IsNumber c) r
+timer-ranged : (r : Rec) → IsRecordInRange r → OfTimer (λ p c. IsPlaceInRange p × IsNumber c) r
 timer-ranged (rec.Armed p c kind) g = g
 timer-ranged (rec.Cleared p c kind) g = g
 timer-ranged _ g = tt
@@ -183,25 +183,25 @@ closing-granted done (suc left) h few = (h, few)
 numbered : (events records : ℕ) → events ≤ records → records < MAX_RECORDS → IsNumber (events + 1)
 numbered events records le few = omega (arith, le, few)
 
-module _ (config : Config) (files : List (List ℕ × List ℕ)) (checked : config_check config ≡ Ok tt) (nodes : IsNumber config.nodes) (are : Each IsFile files) where
+module _ (config : Config) (files : List (List ℕ × List ℕ)) (checked : config_check config ≡ Ok tt) (nodes : IsNumber config.nodes) (are : Each IsRunFile files) where
   abbrev Is : Machine → Type 0
   Is m = IsGrantedBy config files m
 
   -- the events of the run without settles
-  pub granted-events : (m : Machine) (g : Is m) → Each IsGiven g.written.reached.0
-  granted-events m g = subst (Each IsGiven) (sym (plain-events config files m g.written)) (told-granted m.journal g.all)
+  pub granted-events : (m : Machine) (g : Is m) → Each IsScheduled g.written.reached.0
+  granted-events m g = subst (Each IsScheduled) (sym (plain-events config files m g.written)) (told-granted m.journal g.all)
 
-  pub granted-ranged : (m : Machine) → Is m → Each IsInRange m.journal
+  pub granted-ranged : (m : Machine) → Is m → Each IsRecordInRange m.journal
   granted-ranged m g =
       let w : IsWrittenOut config files m = g.written in
       let es : List Event = w.reached.0 in
-      let given : Each IsGiven es = granted-events m g in
-      let all : All IsInRange w.plain.journal = records-ranges config files es w.plain checked (each-all IsFile files are) (each-all IsGiven es given) w.reached.1 in
-      all-ranged 0 m.journal g.all (subst (Each IsInRange) w.journal (all-each IsInRange w.plain.journal all))
+      let given : Each IsScheduled es = granted-events m g in
+      let all : All IsRecordInRange w.plain.journal = records-ranges config files es w.plain checked (each-all IsRunFile files are) (each-all IsScheduled es given) w.reached.1 in
+      all-ranged 0 m.journal g.all (subst (Each IsRecordInRange) w.journal (all-each IsRecordInRange w.plain.journal all))
 
   -- an event of an inner step
   abbrev IsInnerGiven : Event → Type 0
-  IsInnerGiven e = IsInner e × IsGiven e
+  IsInnerGiven e = IsInner e × IsScheduled e
 
   -- one record that was given stands behind others, with rows that were not
   more-granted : (J rows : List Rec) (r : Rec) → AreGranted J → IsGranted r → AreUnmarked rows → AreGranted (J ++ r ∷ rows)
@@ -219,11 +219,11 @@ module _ (config : Config) (files : List (List ℕ × List ℕ)) (checked : conf
         events = let le = longer m.journal on.rows (rec.Inner e) in let long : length n.journal ≡ length (m.journal ++ rec.Inner e ∷ on.rows) = ap (λ (J : List Rec). length J) on.are in omega (arith, le, long, g.events, on.events);
       }
 
-  closed-granted : (m : Machine) (done most : ℕ) → Is m → done ≤ most → IsNumber most → Is (settle_closed m done (left m))
+  closed-granted : (m : Machine) (done most : ℕ) → Is m → done ≤ most → IsNumber most → Is (settle_closed m done (settle_left m))
   closed-granted m done most g le small = record {
-    written = (written config files).closes m done (left m) g.written;
-    all = more-granted m.journal [] (closing done (left m)) g.all (closing-granted done (left m) (omega (arith, le, small)) (let few = few-left config files m checked g.written in omega (arith, few))) tt;
-    events = let more = longer m.journal [] (closing done (left m)) in omega (arith, more, g.events);
+    written = (written config files).closes m done (settle_left m) g.written;
+    all = more-granted m.journal [] (closing done (settle_left m)) g.all (closing-granted done (settle_left m) (omega (arith, le, small)) (let few = few-left config files m checked g.written in omega (arith, few))) tt;
+    events = let more = longer m.journal [] (closing done (settle_left m)) in omega (arith, more, g.events);
   }
 
   take-given : (m : Machine) → Is m → Each IsInnerGiven (takes m)
@@ -256,8 +256,8 @@ module _ (config : Config) (files : List (List ℕ × List ℕ)) (checked : conf
     go (Some s) at = replicate-each IsInnerGiven (jobs_of (Some s)) (event.Disk n 1) (refl, ((node-number m n s g at, omega arith), tt))
 
   fire-given : (m : Machine) → Is m → Each IsInnerGiven (firings m)
-  fire-given m g = each-both IsInner IsGiven (firings m) (firings-inner m)
-      (firings-each (λ p c. IsPlaceInRange p × IsNumber c) IsGiven (λ p c h. (h, tt)) m (Each-weaker IsInRange (OfTimer (λ p c. IsPlaceInRange p × IsNumber c)) timer-ranged m.journal (granted-ranged m g)))
+  fire-given m g = each-both IsInner IsScheduled (firings m) (firings-inner m)
+      (firings-each (λ p c. IsPlaceInRange p × IsNumber c) IsScheduled (λ p c h. (h, tt)) m (Each-weaker IsRecordInRange (OfTimer (λ p c. IsPlaceInRange p × IsNumber c)) timer-ranged m.journal (granted-ranged m g)))
 
   kept-granted : (most : ℕ) → IsNumber most → KeptInside Is IsInnerGiven most
   kept-granted most small = record {
@@ -280,15 +280,15 @@ module _ (config : Config) (files : List (List ℕ × List ℕ)) (checked : conf
 
   -- ---- events
 
-  settle-granted : (m : Machine) (rounds : ℕ) → Is m → IsNumber rounds → Is (came (event_step m (event.Settle rounds)))
+  settle-granted : (m : Machine) (rounds : ℕ) → Is m → IsNumber rounds → Is (came_to (event_step m (event.Settle rounds)))
   settle-granted m rounds g small =
       over (event_step m (event.Settle rounds)) (settle-lands Is IsInnerGiven rounds (kept-granted rounds small) m rounds (omega arith) (λ n is. begun-granted m n rounds g small is)) where
-        over : (x : Result Machine Stop) → SettleLands Is IsInnerGiven rounds (kept-granted rounds small) m rounds x → Is (came x)
+        over : (x : Result Machine Stop) → SettleLands Is IsInnerGiven rounds (kept-granted rounds small) m rounds x → Is (came_to x)
         over (Ok n) h = h
         over (Err stop) (inl h) = subst Is (sym h.0) g
         over (Err stop) (inr h) = h.0
 
-  plain-granted : (m : Machine) (e : Event) (x : Result Machine StepFault) → Is m → HasRule e → IsGiven e → machine_step m e ≡ x → Is (came (stepped_from m x))
+  plain-granted : (m : Machine) (e : Event) (x : Result Machine StepFault) → Is m → HasRule e → IsScheduled e → machine_step m e ≡ x → Is (came_to (stepped_from m x))
   plain-granted m e (Err f) g rule given is = g
   plain-granted m e (Ok n) g rule given is =
       let on : StepRows m e n = step-rows config files m n e g.written rule is in
@@ -299,26 +299,26 @@ module _ (config : Config) (files : List (List ℕ × List ℕ)) (checked : conf
             let long : length n.journal ≡ length (m.journal ++ rec.Event (m.events + 1) e ∷ on.rows) = ap (λ (J : List Rec). length J) on.are in omega (arith, le, long, g.events, on.events);
       }
 
-  event-granted : (m : Machine) (e : Event) → Is m → MayCome e → IsGiven e → Is (came (event_step m e))
+  event-granted : (m : Machine) (e : Event) → Is m → MayCome e → IsScheduled e → Is (came_to (event_step m e))
   event-granted m e g may given = go (either-kind e) where
-    go : (is_settle e ≡ false) ⊎ ((rounds : ℕ) × (e ≡ event.Settle rounds)) → Is (came (event_step m e))
-    go (inl plain) = subst (λ (x : Result Machine Stop). Is (came x)) (sym (plain-step m e plain)) (plain-granted m e (machine_step m e) g (plain-rule e plain may) given refl)
-    go (inr s) = subst (λ (d : Event). Is (came (event_step m d))) (sym s.1) (settle-granted m s.0 g (subst IsGiven s.1 given).0)
+    go : (is_settle e ≡ false) ⊎ ((rounds : ℕ) × (e ≡ event.Settle rounds)) → Is (came_to (event_step m e))
+    go (inl plain) = subst (λ (x : Result Machine Stop). Is (came_to x)) (sym (plain-step m e plain)) (plain-granted m e (machine_step m e) g (plain-rule e plain may) given refl)
+    go (inr s) = subst (λ (d : Event). Is (came_to (event_step m d))) (sym s.1) (settle-granted m s.0 g (subst IsScheduled s.1 given).0)
 
-  goes-granted : (es : List Event) (m n : Machine) → Is m → Each IsGiven es → Goes m es n → Is n
+  goes-granted : (es : List Event) (m n : Machine) → Is m → Each IsScheduled es → GoesThrough m es n → Is n
   goes-granted [] m n g given goes = subst Is (sym goes) g
-  goes-granted (e ∷ es) m n g given goes = goes-granted es goes.0 n (subst (λ (x : Result Machine Stop). Is (came x)) goes.2 (event-granted m e g goes.1 given.0)) given.1 goes.3
+  goes-granted (e ∷ es) m n g given goes = goes-granted es goes.0 n (subst (λ (x : Result Machine Stop). Is (came_to x)) goes.2 (event-granted m e g goes.1 given.0)) given.1 goes.3
 
-  inside-granted : (es : List Event) (m n : Machine) → Is m → Each IsGiven es → EndsInside m es n → Is n
+  inside-granted : (es : List Event) (m n : Machine) → Is m → Each IsScheduled es → EndsInside m es n → Is n
   inside-granted es m n g given i =
-      let parts = each-parts IsGiven i.before (event.Settle i.rounds ∷ []) (subst (Each IsGiven) i.are given) in
-      subst (λ (x : Result Machine Stop). Is (came x)) i.stops (event-granted i.behind (event.Settle i.rounds) (goes-granted i.before m i.behind g parts.0 i.goes) tt parts.1.0)
+      let parts = each-parts IsScheduled i.before (event.Settle i.rounds ∷ []) (subst (Each IsScheduled) i.are given) in
+      subst (λ (x : Result Machine Stop). Is (came_to x)) i.stops (event-granted i.behind (event.Settle i.rounds) (goes-granted i.before m i.behind g parts.0 i.goes) tt parts.1.0)
 
-  pub leads-granted : (es : List Event) (n : Machine) → Each IsGiven es → LeadsTo (start config files) es n → Is n
+  pub leads-granted : (es : List Event) (n : Machine) → Each IsScheduled es → LeadsTo (machine_start config files) es n → Is n
   leads-granted es n given l = go l where
-    begins : Is (start config files)
+    begins : Is (machine_start config files)
     begins = record { written = (written config files).begins; all = tt; events = omega arith }
 
-    go : LeadsTo (start config files) es n → Is n
-    go (inl goes) = goes-granted es (start config files) n begins given goes
-    go (inr i) = inside-granted es (start config files) n begins given i
+    go : LeadsTo (machine_start config files) es n → Is n
+    go (inl goes) = goes-granted es (machine_start config files) n begins given goes
+    go (inr i) = inside-granted es (machine_start config files) n begins given i

@@ -11,7 +11,7 @@ use Rattle.lard_settling.specs.Events.{event_step}
 use Rattle.lard_settling.specs.Settling.{Stop}
 use Rattle.lard_app.specs.declared.status.Status.{Status}
 use Rattle.lard_app.specs.declared.status.Why.{Why}
-use Rattle.lard_app.specs.Replay.{Progress, begun_by, came, counted, event_listed, followed, found, halted, is_past, item_taken, judged, machine_behind, moved, passed}
+use Rattle.lard_app.specs.Replay.{Progress, begun_by, came_to, line_counted, event_listed, followed, item_found, halted, is_past, item_taken, judged, machine_behind, replay_moved, line_passed}
 use Rattle.lard_app.proofs.Events.{event-stays}
 use Rattle.lard_app.proofs.Passing.{judged_by, passed_by}
 
@@ -64,20 +64,20 @@ module _ (s : Progress) (line : List ℕ) where
   })
 
   event-leaves : (status : Status) (e : Event) (r : Result Machine Stop) → is_past s line ≡ false → item_of s.reader line ≡ Some (item.Event e) → event_step s.machine e ≡ r
-      → moved (followed (counted s line) (item.Event e)) r ≡ Err status → Leaves s line
+      → replay_moved (followed (line_counted s line) (item.Event e)) r ≡ Err status → Leaves s line
   event-leaves status e (Ok m) p i is h = cc
   event-leaves status e (Err stop) p i is h = go (event-stays s.machine e stop is) where
     left : halted s line ≡ record s { machine = stop.0 }
-    left = halted_by s line false (Ok (item.Event e)) p (judged_by s.reader line (Some (item.Event e)) i) ∙ ap (λ (x : Result Machine Stop). record s { machine = came x }) is
+    left = halted_by s line false (Ok (item.Event e)) p (judged_by s.reader line (Some (item.Event e)) i) ∙ ap (λ (x : Result Machine Stop). record s { machine = came_to x }) is
 
     go : (stop.0 ≡ s.machine) ⊎ ((rounds : ℕ) × (e ≡ event.Settle rounds) × (length s.machine.journal < length stop.0.journal)) → Leaves s line
     go (inl same) = as-before (left ∙ ap (λ (m : Machine). record s { machine = m }) same)
     go (inr h) = further h.0 stop p (i ∙ ap (λ (d : Event). Some (item.Event d)) h.1) (sym (ap (event_step s.machine) h.1) ∙ is) h.2 left
 
-  pub line-leaves : (status : Status) → passed s line ≡ Err status → Leaves s line
+  pub line-leaves : (status : Status) → line_passed s line ≡ Err status → Leaves s line
   line-leaves status e = go (is_past s line) (item_of s.reader line) refl refl where
-    none : (x : Option Item) → is_past s line ≡ false → item_of s.reader line ≡ x → machine_behind s.machine (found x) ≡ s.machine → Leaves s line
-    none x p i same = as-before (halted_by s line false (found x) p (judged_by s.reader line x i) ∙ ap (λ (m : Machine). record s { machine = m }) same)
+    none : (x : Option Item) → is_past s line ≡ false → item_of s.reader line ≡ x → machine_behind s.machine (item_found x) ≡ s.machine → Leaves s line
+    none x p i same = as-before (halted_by s line false (item_found x) p (judged_by s.reader line x i) ∙ ap (λ (m : Machine). record s { machine = m }) same)
 
     go : (b : Bool) (x : Option Item) → is_past s line ≡ b → item_of s.reader line ≡ x → Leaves s line
     go true x p i = as-before (halted_by s line true (judged s.reader line) p refl)
@@ -87,4 +87,4 @@ module _ (s : Progress) (line : List ℕ) where
     go false (Some (item.File path bytes)) p i = none (Some (item.File path bytes)) p i refl
     go false (Some item.Go) p i = none (Some item.Go) p i refl
     go false (Some (item.Event d)) p i =
-        event-leaves status d (event_step s.machine d) p i refl (ap (item_taken (counted s line)) (sym (judged_by s.reader line (Some (item.Event d)) i)) ∙ sym (passed_by s line false p) ∙ e)
+        event-leaves status d (event_step s.machine d) p i refl (ap (item_taken (line_counted s line)) (sym (judged_by s.reader line (Some (item.Event d)) i)) ∙ sym (passed_by s line false p) ∙ e)

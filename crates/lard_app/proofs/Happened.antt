@@ -3,12 +3,12 @@ use Rattle.std.proofs.Common.{◌≡◌, ℕ, Ok, List, [], refl, subst}
 use Rattle.lard_base.specs.Config.{config_check}
 use Rattle.lard_base.specs.declared.config.Config.{Config}
 use Rattle.lard_base.specs.declared.event.Event.{Event}
-use Rattle.lard_rules.specs.Machine.{start}
+use Rattle.lard_rules.specs.Machine.{machine_start}
 use Rattle.lard_rules.specs.declared.machine.Machine.{Machine}
 use Rattle.lard_settle.specs.Lawful.{IsLawful}
 use Rattle.lard_settle.proofs.Lawful.{journals-lawful}
 use Rattle.lard_laws.specs.RecordsMessages.{MayTalk}
-use Rattle.lard_laws.specs.Records.{IsFile, IsGiven}
+use Rattle.lard_laws.specs.Records.{IsRunFile, IsScheduled}
 use Rattle.lard_laws.proofs.RecordsTalking.{packets-decode}
 use Rattle.lard_laws.proofs.StepsFollowing.{follows}
 use Rattle.lard_files.specs.Files.{file_at}
@@ -28,8 +28,8 @@ use Rattle.lard_app.proofs.Granted.{IsGrantedBy, granted-events, leads-granted}
 use Rattle.lard_app.proofs.Numbering.{leads-number}
 use Rattle.lard_app.proofs.Telling.{plain-events}
 
-module _ (config : Config) (files : List (List ℕ × List ℕ)) (checked : config_check config ≡ Ok tt) (nodes : IsNumber config.nodes) (are : Each IsFile files) where
-  pub happened : (es : List Event) (m : Machine) → Each IsGiven es → LeadsTo (start config files) es m → Happened config files es m.journal
+module _ (config : Config) (files : List (List ℕ × List ℕ)) (checked : config_check config ≡ Ok tt) (nodes : IsNumber config.nodes) (are : Each IsRunFile files) where
+  pub happened : (es : List Event) (m : Machine) → Each IsScheduled es → LeadsTo (machine_start config files) es m → Happened config files es m.journal
   happened es m given leads = record {
     machine = (m, leads, refl);
     numbered = leads-number config files es m leads;
@@ -37,11 +37,11 @@ module _ (config : Config) (files : List (List ℕ × List ℕ)) (checked : conf
     laws = subst (IsLawful config (file_at files)) w.journal (journals-lawful config files w.plain checked w.reached);
     settles = in-order config files es m leads;
     rounds = take-rounds config files es m checked leads;
-    enough = runs-settle config files checked (each-all IsFile files are) es m (each-all IsGiven es given) leads;
+    enough = runs-settle config files checked (each-all IsRunFile files are) es m (each-all IsScheduled es given) leads;
     done = runs-are-done config files es m checked leads;
     same = tells-the-same config (file_at files) m.journal;
     messages = subst (EachMay MayTalk []) w.journal
-        (packets-decode config files w.reached.0 w.plain checked (each-all IsFile files are) (each-all IsGiven w.reached.0 (granted-events config files checked nodes are m granted)) w.reached.1);
+        (packets-decode config files w.reached.0 w.plain checked (each-all IsRunFile files are) (each-all IsScheduled w.reached.0 (granted-events config files checked nodes are m granted)) w.reached.1);
   } where
     granted : IsGrantedBy config files m
     granted = leads-granted config files checked nodes are es m given leads

@@ -4,7 +4,7 @@ use Rattle.std.proofs.lemmas.Bool.Decides.{nat_tests}
 use Rattle.std.specs.List.{flat_map}
 use Rattle.std.specs.Prelude.{nat_lt}
 use Rattle.lard_base.specs.declared.limits.TheConstants.{MAX_INPUT_BYTES}
-use Rattle.lard_base.specs.Config.{IsInRange as IsConfigRanged, config_check, is_in_range, range_check, set_key, standard}
+use Rattle.lard_base.specs.Config.{AreKeysInRange as IsConfigRanged, config_check, is_in_range, range_check, set_key, standard}
 use Rattle.lard_base.specs.declared.config.Config.{Config}
 use Rattle.lard_base.specs.declared.config.ConfigFault.{ConfigFault}
 use Rattle.lard_base.specs.declared.config.ConfigFault.TheVariants.{Range}
@@ -12,9 +12,9 @@ use Rattle.lard_base.specs.declared.config.Key.{Key}
 use Rattle.lard_base.specs.declared.config.Key.TheVariants.{Nodes, Low, High, Age, Idle, Over, Miss, Cache, Stream}
 use Rattle.lard_base.specs.declared.event.Event.{Event}
 use Rattle.lard_base.specs.declared.event.Event.TheVariants as event
-use Rattle.lard_rules.specs.Machine.{start}
+use Rattle.lard_rules.specs.Machine.{machine_start}
 use Rattle.lard_rules.specs.declared.machine.Machine.{Machine}
-use Rattle.lard_laws.specs.Records.{IsFile, IsGiven}
+use Rattle.lard_laws.specs.Records.{IsRunFile, IsScheduled}
 use Rattle.lard_settle.proofs.Runs.{GoesOn}
 use Rattle.lard_files.specs.Files.{add_check}
 use Rattle.lard_files.specs.declared.fault.FileFault.{FileFault}
@@ -30,12 +30,12 @@ use Rattle.lard_schedule.specs.declared.reader.Stage.TheVariants.{Start, Setting
 use Rattle.lard_schedule.specs.Files.{is_file_path}
 use Rattle.lard_schedule.specs.Laws.{IsBefore, MayStand, SpellsFile, SpellsItem}
 use Rattle.lard_schedule.specs.Reader.{HasRange}
-use Rattle.lard_settling.specs.Events.{Goes, LeadsTo, MayCome, event_step}
+use Rattle.lard_settling.specs.Events.{GoesThrough, LeadsTo, MayCome, event_step}
 use Rattle.lard_settling.specs.Settling.{Stop}
 use Rattle.lard_settling.specs.Written.{IsWrittenOut}
 use Rattle.lard_settling.proofs.Written.{written}
 use Rattle.lard_app.specs.declared.status.Status.{Status}
-use Rattle.lard_app.specs.Replay.{Progress, begin, begun, begun_by, came, config_set, counted, event_listed, events_from, events_of, filed, followed, halted, is_past, judged, moved, passed, replayed, sizes, taken, whole}
+use Rattle.lard_app.specs.Replay.{Progress, begin, replay_begun, begun_by, came_to, config_set, line_counted, event_listed, events_from, events_of, filed, followed, halted, is_past, judged, replay_moved, line_passed, replayed, file_sizes, taken_item, whole}
 use Rattle.lard_app.proofs.Ranges.{HasRanges, config_checked, event-given, file-given}
 use Rattle.lard_app.proofs.Halting.{HadBegun, Leaves, line-leaves}
 use Rattle.lard_app.proofs.Passing.{never, ok_is, passed-took, took-fits, took-judged}
@@ -74,9 +74,9 @@ unseen_before Running m u b = absurd b
 -- what holds of a replay that has passed these events
 pub record Keeps (s : Progress) (es : List Event) : Type 0 where
   pub idle : IsIdle s.reader.stage es
-  pub runs : Goes (start s.machine.config s.machine.files) es s.machine
+  pub runs : GoesThrough (machine_start s.machine.config s.machine.files) es s.machine
   pub written : IsWrittenOut s.machine.config s.machine.files s.machine
-  pub listed : s.listed ≡ flat_map file_text (sizes s.files)
+  pub listed : s.listed ≡ flat_map file_text (file_sizes s.files)
   pub fits : IsConfigRanged s.config
   pub checked : config_check s.machine.config ≡ Ok tt
   pub ranges : HasRanges s.files s.machine es
@@ -141,7 +141,7 @@ begin-keeps = record {
 within_limit : (m : ℕ) → nat_lt MAX_INPUT_BYTES m ≡ false → m ≤ MAX_INPUT_BYTES
 within_limit m e = grind (arith, nat_tests, e)
 
-counted-keeps : (s : Progress) (line : List ℕ) (es : List Event) → is_past s line ≡ false → Keeps s es → Keeps (counted s line) es
+counted-keeps : (s : Progress) (line : List ℕ) (es : List Event) → is_past s line ≡ false → Keeps s es → Keeps (line_counted s line) es
 counted-keeps s line es p k = record {
   idle = k.idle;
   runs = k.runs;
@@ -156,13 +156,13 @@ counted-keeps s line es p k = record {
 }
 
 -- one more file has one more line
-listed_more : (files : List (List ℕ × List ℕ)) (path bytes : List ℕ) → flat_map file_text (sizes files) ++ file_text (path, length bytes) ≡ flat_map file_text (sizes (files ++ (path, bytes) ∷ []))
+listed_more : (files : List (List ℕ × List ℕ)) (path bytes : List ℕ) → flat_map file_text (file_sizes files) ++ file_text (path, length bytes) ≡ flat_map file_text (file_sizes (files ++ (path, bytes) ∷ []))
 listed_more [] path bytes = sym (append-nil (file_text (path, length bytes)))
-listed_more (f ∷ fs) path bytes = append_assoc (file_text (f.0, length f.1)) (flat_map file_text (sizes fs)) (file_text (path, length bytes)) ∙ ap (λ l. file_text (f.0, length f.1) ++ l) (listed_more fs path bytes)
+listed_more (f ∷ fs) path bytes = append_assoc (file_text (f.0, length f.1)) (flat_map file_text (file_sizes fs)) (file_text (path, length bytes)) ∙ ap (λ l. file_text (f.0, length f.1) ++ l) (listed_more fs path bytes)
 
 module _ (s t : Progress) (es : List Event) (k : Keeps s es) where
-  same_events : Goes (start s.machine.config s.machine.files) (es ++ []) s.machine
-  same_events = subst (λ ds. Goes (start s.machine.config s.machine.files) ds s.machine) (sym (append-nil es)) k.runs
+  same_events : GoesThrough (machine_start s.machine.config s.machine.files) (es ++ []) s.machine
+  same_events = subst (λ ds. GoesThrough (machine_start s.machine.config s.machine.files) ds s.machine) (sym (append-nil es)) k.runs
 
   same_ranges : HasRanges s.files s.machine (es ++ [])
   same_ranges = subst (HasRanges s.files s.machine) (sym (append-nil es)) k.ranges
@@ -182,12 +182,12 @@ module _ (s t : Progress) (es : List Event) (k : Keeps s es) where
     read = k.read;
   })
 
-  begun-keeps : (r : Result (Unit {0}) ConfigFault) → config_check s.config ≡ r → IsBefore s.reader.stage → begun (followed s item.Go) r ≡ Ok t → Keeps t (es ++ [])
+  begun-keeps : (r : Result (Unit {0}) ConfigFault) → config_check s.config ≡ r → IsBefore s.reader.stage → replay_begun (followed s item.Go) r ≡ Ok t → Keeps t (es ++ [])
   begun-keeps (Err fault) c b e = absurd (never _ t e)
   begun-keeps (Ok u) c b e = subst (λ (v : Progress). Keeps v (es ++ [])) (ok_is _ t e) (record {
     idle = tt;
     listed = refl;
-    runs = subst (λ ds. Goes (start s.config s.files) ds (start s.config s.files)) (sym (append-nil es ∙ idle_before s.reader.stage es k.idle b)) refl;
+    runs = subst (λ ds. GoesThrough (machine_start s.config s.files) ds (machine_start s.config s.files)) (sym (append-nil es ∙ idle_before s.reader.stage es k.idle b)) refl;
     written = (written s.config s.files).begins;
     fits = k.fits;
     checked = c;
@@ -208,7 +208,7 @@ module _ (s t : Progress) (es : List Event) (k : Keeps s es) where
     fits = k.fits;
     checked = k.checked;
     ranges = record {
-      files = Each-append IsFile s.files ((path, bytes) ∷ []) k.ranges.files (file-given s.files words path bytes spelled fits c, tt);
+      files = Each-append IsRunFile s.files ((path, bytes) ∷ []) k.ranges.files (file-given s.files words path bytes spelled fits c, tt);
       config = k.ranges.config;
       taken = k.ranges.taken;
       events = same_ranges.events;
@@ -218,15 +218,15 @@ module _ (s t : Progress) (es : List Event) (k : Keeps s es) where
     read = k.read;
   })
 
-  moved-keeps : (e : Event) (r : Result Machine Stop) → s.reader.stage ≡ Running → IsGiven e → MayCome e → event_step s.machine e ≡ r → moved (followed s (item.Event e)) r ≡ Ok t → Keeps t (es ++ e ∷ [])
+  moved-keeps : (e : Event) (r : Result Machine Stop) → s.reader.stage ≡ Running → IsScheduled e → MayCome e → event_step s.machine e ≡ r → replay_moved (followed s (item.Event e)) r ≡ Ok t → Keeps t (es ++ e ∷ [])
   moved-keeps e (Err stop) running given may is h = absurd (never _ t h)
   moved-keeps e (Ok m) running given may is h =
       let kept : GoesOn s.machine m = event-goes s.machine m e is in
-      let written_ : IsWrittenOut s.machine.config s.machine.files m = subst (λ (x : Result Machine Stop). IsWrittenOut s.machine.config s.machine.files (came x)) is (event-written s.machine.config s.machine.files s.machine e k.written may) in
+      let written_ : IsWrittenOut s.machine.config s.machine.files m = subst (λ (x : Result Machine Stop). IsWrittenOut s.machine.config s.machine.files (came_to x)) is (event-written s.machine.config s.machine.files s.machine e k.written may) in
       subst (λ (v : Progress). Keeps v (es ++ e ∷ [])) (ok_is _ t h) (record {
         idle = subst (λ st. IsIdle st (es ++ e ∷ [])) (sym running) tt;
-        runs = subst (λ (c : Config). Goes (start c m.files) (es ++ e ∷ []) m) (sym kept.config)
-            (subst (λ (fs : List (List ℕ × List ℕ)). Goes (start s.machine.config fs) (es ++ e ∷ []) m) (sym kept.files) (goes-more es (start s.machine.config s.machine.files) s.machine m e k.runs may is));
+        runs = subst (λ (c : Config). GoesThrough (machine_start c m.files) (es ++ e ∷ []) m) (sym kept.config)
+            (subst (λ (fs : List (List ℕ × List ℕ)). GoesThrough (machine_start s.machine.config fs) (es ++ e ∷ []) m) (sym kept.files) (goes-more es (machine_start s.machine.config s.machine.files) s.machine m e k.runs may is));
         written = subst (λ (c : Config). IsWrittenOut c m.files m) (sym kept.config) (subst (λ (fs : List (List ℕ × List ℕ)). IsWrittenOut s.machine.config fs m) (sym kept.files) written_);
         listed = k.listed;
         fits = k.fits;
@@ -234,15 +234,15 @@ module _ (s t : Progress) (es : List Event) (k : Keeps s es) where
         ranges = record {
           files = k.ranges.files;
           config = subst IsConfigInRange (sym kept.config) k.ranges.config;
-          taken = subst (Each IsFile) (sym kept.files) k.ranges.taken;
-          events = Each-append IsGiven es (e ∷ []) k.ranges.events (given, tt);
+          taken = subst (Each IsRunFile) (sym kept.files) k.ranges.taken;
+          events = Each-append IsScheduled es (e ∷ []) k.ranges.events (given, tt);
         };
         unseen = subst (λ st. IsUnseen st m) (sym running) tt;
         lines = k.lines;
         read = k.read;
       })
 
-  item-keeps : (words : List (List ℕ)) (x : Item) → SpellsItem words x → MayStand s.reader x → HasRange x → taken (followed s x) x ≡ Ok t → Keeps t (es ++ event_listed (Ok x))
+  item-keeps : (words : List (List ℕ)) (x : Item) → SpellsItem words x → MayStand s.reader x → HasRange x → taken_item (followed s x) x ≡ Ok t → Keeps t (es ++ event_listed (Ok x))
   item-keeps words item.Header spelled stands range e = subst (λ (v : Progress). Keeps v (es ++ [])) (ok_is _ t e) (record {
     idle = append-nil es ∙ subst (λ st. IsIdle st es) stands k.idle;
     runs = same_events;
@@ -260,18 +260,18 @@ module _ (s t : Progress) (es : List Event) (k : Keeps s es) where
   item-keeps words item.Go spelled stands range e = begun-keeps (config_check s.config) refl stands e
   item-keeps words (item.Event d) spelled stands range e = moved-keeps d (event_step s.machine d) stands (event-given words d spelled range) (may-come d range) refl e
 
-pub passed-keeps : (s t : Progress) (line : List ℕ) (es : List Event) → Keeps s es → passed s line ≡ Ok t → Keeps t (es ++ event_listed (judged s.reader line))
+pub passed-keeps : (s t : Progress) (line : List ℕ) (es : List Event) → Keeps s es → line_passed s line ≡ Ok t → Keeps t (es ++ event_listed (judged s.reader line))
 passed-keeps s t line es k e =
     let took = passed-took s t line e in
     let fits = took-fits s t line took in
     subst (λ j. Keeps t (es ++ event_listed j)) (sym (took-judged s t line took))
-    (item-keeps (counted s line) t es (counted-keeps s line es took.within k) fits.0.0 took.item fits.0.2 fits.1 fits.2 took.is)
+    (item-keeps (line_counted s line) t es (counted-keeps s line es took.within k) fits.0.0 took.item fits.0.2 fits.1 fits.2 took.is)
 
 -- ---- where the run ended
 
 -- what holds of a state to which a replay comes in the end
 pub record Comes (s : Progress) (es : List Event) : Type 0 where
-  pub runs : LeadsTo (start s.machine.config s.machine.files) es s.machine
+  pub runs : LeadsTo (machine_start s.machine.config s.machine.files) es s.machine
   pub written : IsWrittenOut s.machine.config s.machine.files s.machine
   pub checked : config_check s.machine.config ≡ Ok tt
   pub ranges : HasRanges s.files s.machine es
@@ -286,24 +286,24 @@ begun-comes s es line k b =
     let n : Machine = b.stop.0 in
     let kept : GoesOn s.machine n = event-left s.machine e b.stop b.stops in
     let fits = line_spelled s.reader line (item.Event e) b.stands in
-    let given : IsGiven e = event-given fits.0.0 e fits.0.2 fits.2 in
+    let given : IsScheduled e = event-given fits.0.0 e fits.0.2 fits.2 in
     subst (λ (ds : List Event). Comes (halted s line) (es ++ ds)) (sym b.last) (subst (λ (t : Progress). Comes t (es ++ e ∷ [])) (sym b.left) (record {
-      runs = subst (λ (c : Config). LeadsTo (start c n.files) (es ++ e ∷ []) n) (sym kept.config)
-          (subst (λ (fs : List (List ℕ × List ℕ)). LeadsTo (start s.machine.config fs) (es ++ e ∷ []) n) (sym kept.files)
+      runs = subst (λ (c : Config). LeadsTo (machine_start c n.files) (es ++ e ∷ []) n) (sym kept.config)
+          (subst (λ (fs : List (List ℕ × List ℕ)). LeadsTo (machine_start s.machine.config fs) (es ++ e ∷ []) n) (sym kept.files)
           (inr (record { before = es; rounds = b.rounds; are = refl; behind = s.machine; goes = k.runs; fault = b.stop.1; stops = b.stops; begun = b.longer })));
       written = subst (λ (c : Config). IsWrittenOut c n.files n) (sym kept.config) (subst (λ (fs : List (List ℕ × List ℕ)). IsWrittenOut s.machine.config fs n) (sym kept.files)
-          (subst (λ (x : Result Machine Stop). IsWrittenOut s.machine.config s.machine.files (came x)) b.stops (event-written s.machine.config s.machine.files s.machine e k.written tt)));
+          (subst (λ (x : Result Machine Stop). IsWrittenOut s.machine.config s.machine.files (came_to x)) b.stops (event-written s.machine.config s.machine.files s.machine e k.written tt)));
       checked = subst (λ (c : Config). config_check c ≡ Ok tt) (sym kept.config) k.checked;
       ranges = record {
         files = k.ranges.files;
         config = subst IsConfigInRange (sym kept.config) k.ranges.config;
-        taken = subst (Each IsFile) (sym kept.files) k.ranges.taken;
-        events = Each-append IsGiven es (e ∷ []) k.ranges.events (given, tt);
+        taken = subst (Each IsRunFile) (sym kept.files) k.ranges.taken;
+        events = Each-append IsScheduled es (e ∷ []) k.ranges.events (given, tt);
       };
       unseen = subst (λ st. IsUnseen st n) (sym fits.1) tt;
     }))
 
-halted-comes : (s : Progress) (es : List Event) (line : List ℕ) (status : Status) → Keeps s es → passed s line ≡ Err status → Comes (halted s line) (es ++ begun_by s line)
+halted-comes : (s : Progress) (es : List Event) (line : List ℕ) (status : Status) → Keeps s es → line_passed s line ≡ Err status → Comes (halted s line) (es ++ begun_by s line)
 halted-comes s es line status k is = go (line-leaves s line status is) where
   go : Leaves s line → Comes (halted s line) (es ++ begun_by s line)
   go (inl h) = subst (λ (ds : List Event). Comes (halted s line) (es ++ ds)) (sym h.1) (subst (λ (t : Progress). Comes t (es ++ [])) (sym h.0) (subst (Comes s) (sym (append-nil es)) (keeps-comes s es k)))
@@ -312,8 +312,8 @@ halted-comes s es line status k is = go (line-leaves s line status is) where
 replayed-comes : (s : Progress) (lines : List (List ℕ)) (es : List Event) → Keeps s es → Comes (replayed s lines).0 (es ++ events_from s lines)
 replayed-comes s [] es k = subst (Comes s) (sym (append-nil es)) (keeps-comes s es k)
 replayed-comes s (last ∷ []) es k = subst (Comes s) (sym (append-nil es)) (keeps-comes s es k)
-replayed-comes s (line ∷ next ∷ more) es k = go (passed s line) refl (λ t ds j. replayed-comes t (next ∷ more) ds j) where
-  go : (r : Result Progress Status) → passed s line ≡ r → ((t : Progress) (ds : List Event) → Keeps t ds → Comes (replayed t (next ∷ more)).0 (ds ++ events_from t (next ∷ more)))
+replayed-comes s (line ∷ next ∷ more) es k = go (line_passed s line) refl (λ t ds j. replayed-comes t (next ∷ more) ds j) where
+  go : (r : Result Progress Status) → line_passed s line ≡ r → ((t : Progress) (ds : List Event) → Keeps t ds → Comes (replayed t (next ∷ more)).0 (ds ++ events_from t (next ∷ more)))
       → Comes (replayed s (line ∷ next ∷ more)).0 (es ++ events_from s (line ∷ next ∷ more))
   go (Err status) e later = rw (e, replayed, events_from) (halted-comes s es line status k e)
   go (Ok t) e later = rw (e, replayed, events_from)

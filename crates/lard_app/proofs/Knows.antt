@@ -1,7 +1,7 @@
 -- What is known of a replay after lines that passed: how many, of how many bytes, and what it keeps.
 use Rattle.std.proofs.Common.{◌≡◌, ℕ, ◌+◌, List, [], ◌++◌, length, Ok, refl, ap, ◌∙◌, arith}
 use Rattle.lard_base.specs.declared.event.Event.{Event}
-use Rattle.lard_app.specs.Replay.{Progress, begin, event_listed, judged, passed}
+use Rattle.lard_app.specs.Replay.{Progress, begin, event_listed, judged, line_passed}
 use Rattle.lard_app.proofs.Keeping.{Keeps, begin-keeps, passed-keeps}
 use Rattle.lard_app.proofs.Passing.{passed-read}
 
@@ -17,7 +17,7 @@ begin-knows = record { lines = refl; read = refl; events = []; keeps = begin-kee
 line_bytes : (r b n : ℕ) → r ≡ b → r + n + 1 ≡ b + (n + 1)
 line_bytes r b n e = omega (arith, e)
 
-pub passed-knows : (n bytes : ℕ) (s u : Progress) (line : List ℕ) → Knows n bytes s → passed s line ≡ Ok u → Knows (n + 1) (bytes + (length line + 1)) u
+pub passed-knows : (n bytes : ℕ) (s u : Progress) (line : List ℕ) → Knows n bytes s → line_passed s line ≡ Ok u → Knows (n + 1) (bytes + (length line + 1)) u
 passed-knows n bytes s u line k e =
     let counts = passed-read s u line e in
     record {

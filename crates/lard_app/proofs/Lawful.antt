@@ -3,19 +3,19 @@ use Rattle.std.proofs.Common.{◌≡◌, ◌≢◌, ℕ, Option, List, [], ◌++
 use Rattle.std.specs.List.{flat_map}
 use Rattle.lard_base.specs.declared.config.Config.{Config}
 use Rattle.lard_rules.specs.declared.machine.Machine.{Machine}
-use Rattle.lard_rules.specs.Machine.{start}
+use Rattle.lard_rules.specs.Machine.{machine_start}
 use Rattle.lard_journal.specs.declared.rec.Rec.{Rec}
-use Rattle.lard_journal.specs.Range.{IsFileInRange, IsInRange, IsReportInRange}
+use Rattle.lard_journal.specs.Range.{IsFileInRange, IsRecordInRange, IsReportInRange}
 use Rattle.lard_journal.specs.Report.{file_text, heading_line, rec_line, report}
 use Rattle.lard_law_view.proofs.ByteLists.{each-all}
 use Rattle.lard_app.proofs.Granted.{granted-ranged, leads-granted}
 use Rattle.lard_app.proofs.Happened.{happened}
 use Rattle.lard_schedule.specs.declared.reader.Stage.{Stage}
 use Rattle.lard_schedule.specs.declared.reader.Stage.TheVariants.{Files, Running, Settings, Start}
-use Rattle.lard_app.specs.Replay.{begin, config_of, events_of, files_of, journal_of, machine_of, report_at, report_of, sizes, whole}
+use Rattle.lard_app.specs.Replay.{begin, config_of, events_of, files_of, journal_of, machine_of, report_at, report_of, file_sizes, whole}
 use Rattle.lard_app.specs.declared.status.Status.{Status}
 use Rattle.lard_app.specs.Happened.{Happened}
-use Rattle.lard_app.specs.Run.{Ran, Reads}
+use Rattle.lard_app.specs.Run.{Ran, ReadsInput}
 use Rattle.lard_app.proofs.Endings.{caused}
 use Rattle.lard_app.proofs.Grammar.{passed-stands}
 use Rattle.lard_app.proofs.Keeping.{IsUnseen, whole-comes}
@@ -30,7 +30,7 @@ ReportsTellAll = (config also : Config) (files others : List (List ℕ × ℕ)) 
 module _ (text : List ℕ) where
   -- ---- the machine of a text
 
-  pub machine : LeadsTo (start (config_of text) (files_of text)) (events_of text) (machine_of text)
+  pub machine : LeadsTo (machine_start (config_of text) (files_of text)) (events_of text) (machine_of text)
   machine = (whole-comes text).runs
 
   pub is-happened : Happened (config_of text) (files_of text) (events_of text) (journal_of text)
@@ -39,14 +39,14 @@ module _ (text : List ℕ) where
       happened (config_of text) (files_of text) kept.checked kept.ranges.config.0 kept.ranges.taken (events_of text) (machine_of text) kept.ranges.events machine
 
   -- all that the report is made of is in range
-  pub ranges : IsReportInRange (config_of text) (sizes (files_of text)) (journal_of text)
+  pub ranges : IsReportInRange (config_of text) (file_sizes (files_of text)) (journal_of text)
   ranges =
       let kept = whole-comes text in
       let granted = leads-granted (config_of text) (files_of text) kept.checked kept.ranges.config.0 kept.ranges.taken (events_of text) (machine_of text) kept.ranges.events machine in
       record {
         numbers = kept.ranges.config;
-        paths = each-all IsFileInRange (sizes (files_of text)) (sizes-ranges (files_of text) kept.ranges.taken);
-        records = each-all IsInRange (journal_of text) (granted-ranged (config_of text) (files_of text) kept.checked kept.ranges.config.0 kept.ranges.taken (machine_of text) granted);
+        paths = each-all IsFileInRange (file_sizes (files_of text)) (sizes-ranges (files_of text) kept.ranges.taken);
+        records = each-all IsRecordInRange (journal_of text) (granted-ranged (config_of text) (files_of text) kept.checked kept.ranges.config.0 kept.ranges.taken (machine_of text) granted);
       }
 
 -- ---- two texts with the same report
@@ -62,37 +62,37 @@ some_report config files recs e =
 
 -- the configuration, the files' lines and the journal of two machines are the same
 abbrev AreAlike : Machine → Machine → Type 0
-AreAlike m n = (m.config ≡ n.config) × (sizes m.files ≡ sizes n.files) × (m.journal ≡ n.journal)
+AreAlike m n = (m.config ≡ n.config) × (file_sizes m.files ≡ file_sizes n.files) × (m.journal ≡ n.journal)
 
 -- neither text has passed `go`
 both_unseen : (m n : Machine) (other : Stage) → m ≡ begin.machine → IsUnseen other n → [] ≡ report_at other n → AreAlike m n
 both_unseen m n Start u v e = let same : m ≡ n = u ∙ sym v in subst (AreAlike m) same (refl, refl, refl)
 both_unseen m n Settings u v e = let same : m ≡ n = u ∙ sym v in subst (AreAlike m) same (refl, refl, refl)
 both_unseen m n Files u v e = let same : m ≡ n = u ∙ sym v in subst (AreAlike m) same (refl, refl, refl)
-both_unseen m n Running u v e = absurd (some_report n.config (sizes n.files) n.journal (sym e))
+both_unseen m n Running u v e = absurd (some_report n.config (file_sizes n.files) n.journal (sym e))
 
 -- Before `go` there is no report, and the machine is one; after it the report has a heading, and tells the machine.
-alike : (m n : Machine) → (report m.config (sizes m.files) m.journal ≡ report n.config (sizes n.files) n.journal → AreAlike m n)
+alike : (m n : Machine) → (report m.config (file_sizes m.files) m.journal ≡ report n.config (file_sizes n.files) n.journal → AreAlike m n)
     → (st other : Stage) → IsUnseen st m → IsUnseen other n → report_at st m ≡ report_at other n → AreAlike m n
 alike m n told Running Running u v e = told e
-alike m n told Running Start u v e = absurd (some_report m.config (sizes m.files) m.journal e)
-alike m n told Running Settings u v e = absurd (some_report m.config (sizes m.files) m.journal e)
-alike m n told Running Files u v e = absurd (some_report m.config (sizes m.files) m.journal e)
+alike m n told Running Start u v e = absurd (some_report m.config (file_sizes m.files) m.journal e)
+alike m n told Running Settings u v e = absurd (some_report m.config (file_sizes m.files) m.journal e)
+alike m n told Running Files u v e = absurd (some_report m.config (file_sizes m.files) m.journal e)
 alike m n told Start other u v e = both_unseen m n other u v e
 alike m n told Settings other u v e = both_unseen m n other u v e
 alike m n told Files other u v e = both_unseen m n other u v e
 
 -- equal reports are of the same run
 pub tells_all : ReportsTellAll → (text also : List ℕ) → report_of (whole text).0 ≡ report_of (whole also).0
-    → (config_of text ≡ config_of also) × (sizes (files_of text) ≡ sizes (files_of also)) × (journal_of text ≡ journal_of also)
+    → (config_of text ≡ config_of also) × (file_sizes (files_of text) ≡ file_sizes (files_of also)) × (journal_of text ≡ journal_of also)
 tells_all tells text also same =
     alike (machine_of text) (machine_of also)
-    (tells (config_of text) (config_of also) (sizes (files_of text)) (sizes (files_of also)) (journal_of text) (journal_of also) (ranges text) (ranges also))
+    (tells (config_of text) (config_of also) (file_sizes (files_of text)) (file_sizes (files_of also)) (journal_of text) (journal_of also) (ranges text) (ranges also))
     (whole text).0.reader.stage (whole also).0.reader.stage (whole-comes text).unseen (whole-comes also).unseen same
 
 -- ---- the whole of a run
 
-pub ran : ReportsTellAll → (status : Status) (left left_now old new : Option (List ℕ)) → Reads status left left_now old new → Ran status left left_now old new
+pub ran : ReportsTellAll → (status : Status) (left left_now old new : Option (List ℕ)) → ReadsInput status left left_now old new → Ran status left left_now old new
 ran tells status left left_now old new r = record {
   read = r.read;
   consumed = r.consumed;

@@ -4,16 +4,16 @@ use Rattle.lard_base.specs.declared.config.Config.{Config}
 use Rattle.lard_base.specs.declared.event.Event.{Event}
 use Rattle.lard_base.specs.declared.event.Event.TheVariants as event
 use Rattle.lard_rules.specs.declared.machine.Machine.{Machine}
-use Rattle.lard_rules.specs.Machine.{passed, start}
+use Rattle.lard_rules.specs.Machine.{passed, machine_start}
 use Rattle.lard_journal.specs.declared.rec.Rec.{Rec}
 use Rattle.lard_journal.specs.declared.rec.Rec.TheVariants as rec
-use Rattle.lard_settling.specs.Events.{EndsInside, Goes, LeadsTo, MayCome, event_step}
-use Rattle.lard_settling.specs.Settling.{Stop, left}
+use Rattle.lard_settling.specs.Events.{EndsInside, GoesThrough, LeadsTo, MayCome, event_step}
+use Rattle.lard_settling.specs.Settling.{Stop, settle_left}
 use Rattle.lard_settling.specs.Steps.{closing, inner_step, settle_begun, settle_closed}
 use Rattle.lard_settling.specs.Written.{IsWrittenOut, is_settle}
 use Rattle.lard_settling.proofs.Plain.{AreUnmarked, is_mark}
 use Rattle.lard_settling.proofs.Written.{written}
-use Rattle.lard_app.specs.Replay.{came}
+use Rattle.lard_app.specs.Replay.{came_to}
 use Rattle.lard_app.specs.Happened.{event_told, events_told, numbered_from}
 use Rattle.lard_law_settles.proofs.Events.{begun-is, either-kind, plain-done, plain-rule}
 use Rattle.lard_law_settles.proofs.Firing.{IsInner}
@@ -69,10 +69,10 @@ module _ (config : Config) (files : List (List ℕ × List ℕ)) where
         events = on.events ∙ p.events;
       }
 
-  closed-as : (b m : Machine) (done : ℕ) → IsAsIn b m → IsAsIn b (settle_closed m done (left m))
+  closed-as : (b m : Machine) (done : ℕ) → IsAsIn b m → IsAsIn b (settle_closed m done (settle_left m))
   closed-as b m done p = record {
-    written_out = (written config files).closes m done (left m) p.written_out;
-    told = same-told m.journal [] (closing done (left m)) (closing-none done (left m)) tt ∙ p.told;
+    written_out = (written config files).closes m done (settle_left m) p.written_out;
+    told = same-told m.journal [] (closing done (settle_left m)) (closing-none done (settle_left m)) tt ∙ p.told;
     events = p.events;
   }
 
@@ -124,21 +124,21 @@ module _ (config : Config) (files : List (List ℕ × List ℕ)) where
   numbered-more : (i : ℕ) (es : List Event) (e : Event) (xs : List (ℕ × Event)) → (xs ++ (i, e) ∷ []) ++ numbered_from (i + 1) es ≡ xs ++ numbered_from i (e ∷ es)
   numbered-more i es e xs = append_assoc xs ((i, e) ∷ []) (numbered_from (i + 1) es)
 
-  goes-number : (es : List Event) (m n : Machine) → IsWrittenOut config files m → Goes m es n → events_told n.journal ≡ events_told m.journal ++ numbered_from (m.events + 1) es
+  goes-number : (es : List Event) (m n : Machine) → IsWrittenOut config files m → GoesThrough m es n → events_told n.journal ≡ events_told m.journal ++ numbered_from (m.events + 1) es
   goes-number [] m n w g = ap (λ (k : Machine). events_told k.journal) g ∙ sym (append-nil (events_told m.journal))
   goes-number (e ∷ es) m n w g =
       let one : TellsOne m e g.0 = event-tells m g.0 e w g.1 g.2 in
-      let w_ : IsWrittenOut config files g.0 = subst (λ (x : Result Machine Stop). IsWrittenOut config files (came x)) g.2 (event-written config files m e w g.1) in
+      let w_ : IsWrittenOut config files g.0 = subst (λ (x : Result Machine Stop). IsWrittenOut config files (came_to x)) g.2 (event-written config files m e w g.1) in
       goes-number es g.0 n w_ g.3 ∙ ap (λ xs. xs ++ numbered_from (g.0.events + 1) es) one.0 ∙ ap (λ i. (events_told m.journal ++ (m.events + 1, e) ∷ []) ++ numbered_from (i + 1) es) one.1
       ∙ numbered-more (m.events + 1) es e (events_told m.journal)
 
   -- one more event behind others has the number behind theirs
-  goes-count : (d : Event) (es : List Event) (m n : Machine) → IsWrittenOut config files m → Goes m es n
+  goes-count : (d : Event) (es : List Event) (m n : Machine) → IsWrittenOut config files m → GoesThrough m es n
       → IsWrittenOut config files n × (numbered_from (m.events + 1) (es ++ d ∷ []) ≡ numbered_from (m.events + 1) es ++ (n.events + 1, d) ∷ [])
   goes-count d [] m n w g = (subst (IsWrittenOut config files) (sym g) w, ap (λ (k : Machine). (k.events + 1, d) ∷ []) (sym g))
   goes-count d (e ∷ es) m n w g =
       let one : TellsOne m e g.0 = event-tells m g.0 e w g.1 g.2 in
-      let w_ : IsWrittenOut config files g.0 = subst (λ (x : Result Machine Stop). IsWrittenOut config files (came x)) g.2 (event-written config files m e w g.1) in
+      let w_ : IsWrittenOut config files g.0 = subst (λ (x : Result Machine Stop). IsWrittenOut config files (came_to x)) g.2 (event-written config files m e w g.1) in
       let more = goes-count d es g.0 n w_ g.3 in
       let later : numbered_from (m.events + 1 + 1) (es ++ d ∷ []) ≡ numbered_from (m.events + 1 + 1) es ++ (n.events + 1, d) ∷ [] =
       subst (λ i. numbered_from (i + 1) (es ++ d ∷ []) ≡ numbered_from (i + 1) es ++ (n.events + 1, d) ∷ []) one.1 more.1 in
@@ -156,6 +156,6 @@ module _ (config : Config) (files : List (List ℕ × List ℕ)) where
         begun (inl same) = absurd (let longer : length i.behind.journal < length n.journal = i.begun in let equal : length n.journal ≡ length i.behind.journal = ap (λ (k : Machine). length k.journal) same in omega (arith, longer, equal))
         begun (inr h) = h
 
-  pub leads-number : (es : List Event) (n : Machine) → LeadsTo (start config files) es n → events_told n.journal ≡ numbered_from 1 es
-  leads-number es n (inl g) = goes-number es (start config files) n (written config files).begins g
-  leads-number es n (inr i) = inside-number es (start config files) n (written config files).begins i
+  pub leads-number : (es : List Event) (n : Machine) → LeadsTo (machine_start config files) es n → events_told n.journal ≡ numbered_from 1 es
+  leads-number es n (inl g) = goes-number es (machine_start config files) n (written config files).begins g
+  leads-number es n (inr i) = inside-number es (machine_start config files) n (written config files).begins i

@@ -2,7 +2,7 @@
 use Rattle.std.proofs.Common.{◌≡◌, ℕ, ◌+◌, ◌-◌, ◌*◌, ◌^◌, ◌≤◌, ◌<◌, List, [], ◌∷◌, length, Bool, true, false, cond, Option, Some, None, Result, Ok, Err, refl, sym, ap, ◌∙◌, subst, arith, nat_eq, nat_le, nat_lt}
 use Rattle.std.proofs.lemmas.Bool.Decides.{nat_tests}
 use Rattle.std.specs.Prelude.{is_some}
-use Rattle.lard_base.specs.Config.{IsInRange, checked_from, config_check, is_in_range, range_check, room_of, value_of}
+use Rattle.lard_base.specs.Config.{AreKeysInRange, checked_from, config_check, is_in_range, range_check, room_of, value_of}
 use Rattle.lard_base.specs.declared.config.Config.{Config}
 use Rattle.lard_base.specs.declared.config.ConfigFault.{ConfigFault}
 use Rattle.lard_base.specs.declared.config.ConfigFault.TheVariants.{Range, LowHigh, NoRoom}
@@ -90,7 +90,7 @@ is_no_room others low e = grind (arith, nat_tests, e)
 no_room : (others low : ℕ) → others + low ≤ 1 → nat_eq (others + low - 1) 0 ≡ true
 no_room others low h = grind (arith, nat_tests, h)
 
-module _ (c : Config) (ranged : IsInRange c) where
+module _ (c : Config) (ranged : AreKeysInRange c) where
   passes : (key : Key) (keys : List Key) → checked_from c (key ∷ keys) ≡ checked_from c keys
   passes key keys = ap (λ b. cond {A = Result (Unit {0}) ConfigFault} b (checked_from c keys) (Err (Range key (value_of c key)))) (ranged key)
 

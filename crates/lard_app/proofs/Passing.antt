@@ -18,44 +18,44 @@ use Rattle.lard_settling.specs.Settling.{Stop}
 use Rattle.lard_app.specs.declared.status.Status.{Status}
 use Rattle.lard_app.specs.declared.status.Status.TheVariants.{Limit}
 use Rattle.lard_app.specs.declared.status.Why.TheVariants as why
-use Rattle.lard_app.specs.Replay.{Progress, begun, config_set, counted, filed, followed, found, gain, is_past, item_gain, item_taken, judged, judged_gain, moved, passed, taken}
+use Rattle.lard_app.specs.Replay.{Progress, replay_begun, config_set, line_counted, filed, followed, item_found, gain, is_past, item_gain, item_taken, judged, judged_gain, replay_moved, line_passed, taken_item}
 
 -- what a line stands for, once its place was looked up
-pub judged_by : (r : Reader) (line : List ℕ) (x : Option Item) → item_of r line ≡ x → judged r line ≡ found x
-judged_by r line x i = ap found i
+pub judged_by : (r : Reader) (line : List ℕ) (x : Option Item) → item_of r line ≡ x → judged r line ≡ item_found x
+judged_by r line x i = ap item_found i
 
 -- what a line leads to, once it is known whether it goes past the limit
-pub passed_by : (s : Progress) (line : List ℕ) (b : Bool) → is_past s line ≡ b → passed s line ≡ cond b (Err (Limit (s.lines + 1) Input)) (item_taken (counted s line) (judged s.reader line))
-unfolding passed
-passed_by s line b e = ap (λ t. cond {A = Result Progress Status} t (Err (Limit (s.lines + 1) Input)) (item_taken (counted s line) (judged s.reader line))) e
+pub passed_by : (s : Progress) (line : List ℕ) (b : Bool) → is_past s line ≡ b → line_passed s line ≡ cond b (Err (Limit (s.lines + 1) Input)) (item_taken (line_counted s line) (judged s.reader line))
+unfolding line_passed
+passed_by s line b e = ap (λ t. cond {A = Result Progress Status} t (Err (Limit (s.lines + 1) Input)) (item_taken (line_counted s line) (judged s.reader line))) e
 
 -- the item of a line that passed
 pub record Took (s t : Progress) (line : List ℕ) : Type 0 where
   pub item : Item
   pub within : is_past s line ≡ false
   pub stands : item_of s.reader line ≡ Some item
-  pub is : taken (followed (counted s line) item) item ≡ Ok t
+  pub is : taken_item (followed (line_counted s line) item) item ≡ Ok t
 
-pub passed-took : (s t : Progress) (line : List ℕ) → passed s line ≡ Ok t → Took s t line
+pub passed-took : (s t : Progress) (line : List ℕ) → line_passed s line ≡ Ok t → Took s t line
 passed-took s t line e = go (is_past s line) (item_of s.reader line) refl refl where
   go : (b : Bool) (x : Option Item) → is_past s line ≡ b → item_of s.reader line ≡ x → Took s t line
   go true x p i = let both : Err (Limit (s.lines + 1) Input) ≡ Ok t = sym (passed_by s line true p) ∙ e in cc
   go false None p i =
-      let both : item_taken (counted s line) (Err why.Syntax) ≡ Ok t = ap (item_taken (counted s line)) (sym (judged_by s.reader line None i)) ∙ sym (passed_by s line false p) ∙ e in cc
+      let both : item_taken (line_counted s line) (Err why.Syntax) ≡ Ok t = ap (item_taken (line_counted s line)) (sym (judged_by s.reader line None i)) ∙ sym (passed_by s line false p) ∙ e in cc
   go false (Some x) p i = record {
     item = x;
     within = p;
     stands = i;
-    is = ap (item_taken (counted s line)) (sym (judged_by s.reader line (Some x) i)) ∙ sym (passed_by s line false p) ∙ e;
+    is = ap (item_taken (line_counted s line)) (sym (judged_by s.reader line (Some x) i)) ∙ sym (passed_by s line false p) ∙ e;
   }
 
 module _ (s t : Progress) (line : List ℕ) (k : Took s t line) where
   pub took-judged : judged s.reader line ≡ Ok k.item
   took-judged = judged_by s.reader line (Some k.item) k.stands
 
-  pub took-gain : gain s line ≡ item_gain (followed (counted s line) k.item) k.item
+  pub took-gain : gain s line ≡ item_gain (followed (line_counted s line) k.item) k.item
   unfolding gain
-  took-gain = ap (λ b. cond b [] (judged_gain (counted s line) (judged s.reader line))) k.within ∙ ap (judged_gain (counted s line)) took-judged
+  took-gain = ap (λ b. cond b [] (judged_gain (line_counted s line) (judged s.reader line))) k.within ∙ ap (judged_gain (line_counted s line)) took-judged
 
   pub took-fits : IsLineOf line k.item × MayStand s.reader k.item × HasRange k.item
   took-fits = line_spelled s.reader line k.item k.stands
@@ -87,15 +87,15 @@ module _ (s t : Progress) where
   filed-read path bytes (Ok u) e = read_as _ (refl, refl) e
   filed-read path bytes (Err fault) e = cc
 
-  begun-read : (r : Result (Unit {0}) ConfigFault) → begun s r ≡ Ok t → HaveRead s t
+  begun-read : (r : Result (Unit {0}) ConfigFault) → replay_begun s r ≡ Ok t → HaveRead s t
   begun-read (Ok u) e = read_as _ (refl, refl) e
   begun-read (Err fault) e = cc
 
-  moved-read : (r : Result Machine Stop) → moved s r ≡ Ok t → HaveRead s t
+  moved-read : (r : Result Machine Stop) → replay_moved s r ≡ Ok t → HaveRead s t
   moved-read (Ok m) e = read_as _ (refl, refl) e
   moved-read (Err stop) e = cc
 
-  taken-read : (x : Item) → taken s x ≡ Ok t → HaveRead s t
+  taken-read : (x : Item) → taken_item s x ≡ Ok t → HaveRead s t
   taken-read item.Header e = read_as s (refl, refl) e
   taken-read (item.Set key value) e = set-read key value (range_check key value) e
   taken-read (item.File path bytes) e = filed-read path bytes (add_check s.files path (length bytes)) e
@@ -103,5 +103,5 @@ module _ (s t : Progress) where
   taken-read (item.Event d) e = moved-read (event_step s.machine d) e
 
 -- a line that passes is counted
-pub passed-read : (s t : Progress) (line : List ℕ) → passed s line ≡ Ok t → HaveRead (counted s line) t
-passed-read s t line e = let k = passed-took s t line e in taken-read (followed (counted s line) k.item) t k.item k.is
+pub passed-read : (s t : Progress) (line : List ℕ) → line_passed s line ≡ Ok t → HaveRead (line_counted s line) t
+passed-read s t line e = let k = passed-took s t line e in taken-read (followed (line_counted s line) k.item) t k.item k.is

@@ -6,7 +6,7 @@ use Rattle.lard_rules.specs.declared.fault.StepFault.{StepFault}
 use Rattle.lard_rules.specs.declared.fault.StepFault.TheVariants as fault
 use Rattle.lard_rules.specs.declared.machine.Machine.{Machine}
 use Rattle.lard_history.proofs.Each.{Each}
-use Rattle.lard_settling.specs.Events.{Goes, LeadsTo, MayCome, event_step}
+use Rattle.lard_settling.specs.Events.{GoesThrough, LeadsTo, MayCome, event_step}
 use Rattle.lard_settling.specs.Settling.{Stop}
 use Rattle.lard_app.specs.declared.status.Status.{Status}
 use Rattle.lard_app.specs.declared.status.Status.TheVariants.{Done, Usage, Refused, ReadFault, WriteFault, NoMemory, Limit}
@@ -98,14 +98,14 @@ front line m (e ∷ es) may = go (event_step m e) refl (λ n. front (line + 1) n
       }
 
 -- where the run is done, all of them were done
-pub played-done : (line : ℕ) (m : Machine) (events : List Event) → Each MayCome events → (played line m events).1 ≡ Done → Goes m events (played line m events).0
+pub played-done : (line : ℕ) (m : Machine) (events : List Event) → Each MayCome events → (played line m events).1 ≡ Done → GoesThrough m events (played line m events).0
 played-done line m [] may h = refl
 played-done line m (e ∷ es) may h = go (event_step m e) refl (λ n. played-done (line + 1) n es may.1) where
-  go : (x : Result Machine Stop) → event_step m e ≡ x → ((n : Machine) → (played (line + 1) n es).1 ≡ Done → Goes n es (played (line + 1) n es).0) → Goes m (e ∷ es) (played line m (e ∷ es)).0
+  go : (x : Result Machine Stop) → event_step m e ≡ x → ((n : Machine) → (played (line + 1) n es).1 ≡ Done → GoesThrough n es (played (line + 1) n es).0) → GoesThrough m (e ∷ es) (played line m (e ∷ es)).0
   go (Err stop) is later = absurd (not-done line stop.1 (sym (ap (λ (p : Machine × Status). p.1) (played-stops line m e es stop is)) ∙ h))
   go (Ok n) is later =
       let same = played-goes line m n e es is in
-      subst (λ (p : Machine × Status). Goes m (e ∷ es) p.0) (sym same) (n, may.0, is, later n (sym (ap (λ (p : Machine × Status). p.1) same) ∙ h))
+      subst (λ (p : Machine × Status). GoesThrough m (e ∷ es) p.0) (sym same) (n, may.0, is, later n (sym (ap (λ (p : Machine × Status). p.1) same) ∙ h))
 
 -- ---- why they end
 
@@ -158,7 +158,7 @@ left-ends : (line : ℕ) (m : Machine) (rest : List Event) (status : Status) →
 left-ends line m [] status fit u = sym u
 left-ends line m (e ∷ es) status fit u = let s = event-stops m fit line e status u in ap (λ (p : Machine × Status). p.1) (played-stops line m e es s.0 s.1) ∙ s.2
 
-play-ends : (before : List Event) (line : ℕ) (m n : Machine) (rest : List Event) (status : Status) → IsFit m → Goes m before n → EndsLeft n (line + length before) rest status → (played line m (before ++ rest)).1 ≡ status
+play-ends : (before : List Event) (line : ℕ) (m n : Machine) (rest : List Event) (status : Status) → IsFit m → GoesThrough m before n → EndsLeft n (line + length before) rest status → (played line m (before ++ rest)).1 ≡ status
 play-ends [] line m n rest status fit goes u = left-ends line m rest status fit (subst (λ l. EndsLeft m l rest status) (add-zero line) (subst (λ (k : Machine). EndsLeft k (line + 0) rest status) goes u))
 play-ends (e ∷ es) line m n rest status fit goes u =
     let sum : line + suc (length es) ≡ line + 1 + length es = omega arith in

@@ -4,9 +4,9 @@ use Rattle.lard_base.specs.declared.event.Event.{Event}
 use Rattle.lard_base.specs.declared.event.Event.TheVariants as event
 use Rattle.lard_rules.specs.declared.fault.StepFault.{StepFault}
 use Rattle.lard_rules.specs.declared.machine.Machine.{Machine}
-use Rattle.lard_laws.specs.Records.{IsFile, IsGiven}
+use Rattle.lard_laws.specs.Records.{IsRunFile, IsScheduled}
 use Rattle.lard_generate.specs.Generated.{generated}
-use Rattle.lard_generate_bound.specs.Laws.{before_settle, rounds_of}
+use Rattle.lard_generate_bound.specs.Laws.{before_settle, generated_rounds}
 use Rattle.lard_generate_bound.proofs.Reaching.{reach-the-bound, settles-last}
 use Rattle.lard_history.proofs.Each.{Each}
 use Rattle.lard_law_view.proofs.ByteLists.{each-all}
@@ -14,16 +14,16 @@ use Rattle.lard_settle.proofs.Enough.{settles-end-quiet}
 use Rattle.lard_law_settles.proofs.Firing.{each-parts}
 use Rattle.lard_settling.specs.declared.settled.Settled.{Settled}
 use Rattle.lard_settling.specs.declared.settled.Settled.TheVariants.{Quiet}
-use Rattle.lard_settling.specs.Events.{Goes, MayCome, event_step, settled_to}
-use Rattle.lard_settling.specs.Settling.{Stop, all_inner, answer, closed_by, left, rounds_from, settled, settled_from, takes}
+use Rattle.lard_settling.specs.Events.{GoesThrough, MayCome, event_step, settled_to}
+use Rattle.lard_settling.specs.Settling.{Stop, all_inner, settle_answer, closed_by, settle_left, rounds_from, settled, settled_from, takes}
 use Rattle.lard_settling.specs.Steps.{settle_begun, settle_closed}
-use Rattle.lard_app.specs.Generate.{EndsSettled, begins, large}
+use Rattle.lard_app.specs.Generate.{EndsSettled, run_begins, large}
 use Rattle.lard_app.proofs.Stopped.{settles-as}
 
 -- ---- the last event
 
 -- the last of some events was done behind all others
-last-apart : (es : List Event) (e : Event) (m n : Machine) → Goes m (es ++ e ∷ []) n → (k : Machine) × Goes m es k × MayCome e × (event_step k e ≡ Ok n)
+last-apart : (es : List Event) (e : Event) (m n : Machine) → GoesThrough m (es ++ e ∷ []) n → (k : Machine) × GoesThrough m es k × MayCome e × (event_step k e ≡ Ok n)
 last-apart [] e m n g = (m, refl, g.1, g.2 ∙ ap (λ (k : Machine). Ok k) (sym g.3))
 last-apart (d ∷ es) e m n g = let more = last-apart es e g.0 n g.3 in (more.0, (g.0, g.1, g.2, more.1), more.2, more.3)
 
@@ -39,13 +39,13 @@ abbrev Closes : Result (Machine × Settled) Stop → Type 0
 Closes (Ok (n, s)) = (done : ℕ) → s ≡ Quiet done → EndsSettled n.journal
 Closes (Err stop) = Unit {0}
 
-closing-ends : (m : Machine) (done remaining : ℕ) → Closes (Ok (settle_closed m done remaining, answer done remaining))
+closing-ends : (m : Machine) (done remaining : ℕ) → Closes (Ok (settle_closed m done remaining, settle_answer done remaining))
 closing-ends m done zero rounds is = (m.journal, done, refl)
 closing-ends m done (suc remaining) rounds is = cc
 
 closed-ends : (x : Result (Machine × ℕ) Stop) → Closes (closed_by x)
 closed-ends (Err stop) = tt
-closed-ends (Ok (n, done)) = closing-ends n done (left n)
+closed-ends (Ok (n, done)) = closing-ends n done (settle_left n)
 
 from-ends : (m : Machine) (rounds : ℕ) → Closes (settled_from m rounds)
 from-ends m rounds = go (all_inner m (takes m)) where
@@ -63,15 +63,15 @@ settled-ends m rounds = go (settle_begun m rounds) where
 -- ---- a generated run
 
 -- Its rounds reach the bound of the journal, so the settle leaves nothing.
-pub ends-settled : (seed clients : ℕ) → Each IsFile (generated seed clients).files → Each IsGiven (generated seed clients).events
-    → (n : Machine) → Goes (begins (generated seed clients)) (generated seed clients).events n → EndsSettled n.journal
+pub ends-settled : (seed clients : ℕ) → Each IsRunFile (generated seed clients).files → Each IsScheduled (generated seed clients).events
+    → (n : Machine) → GoesThrough (run_begins (generated seed clients)) (generated seed clients).events n → EndsSettled n.journal
 ends-settled seed clients files given n goes =
     let es : List Event = before_settle seed clients in
-    let rounds : ℕ = rounds_of seed clients in
-    let apart = last-apart es (event.Settle rounds) (begins (generated seed clients)) n (subst (λ (all : List Event). Goes (begins (generated seed clients)) all n) (settles-last seed clients) goes) in
+    let rounds : ℕ = generated_rounds seed clients in
+    let apart = last-apart es (event.Settle rounds) (run_begins (generated seed clients)) n (subst (λ (all : List Event). GoesThrough (run_begins (generated seed clients)) all n) (settles-last seed clients) goes) in
     let m : Machine = apart.0 in
-    let before : Each IsGiven es = (each-parts IsGiven es (event.Settle rounds ∷ []) (subst (Each IsGiven) (settles-last seed clients) given)).0 in
+    let before : Each IsScheduled es = (each-parts IsScheduled es (event.Settle rounds ∷ []) (subst (Each IsScheduled) (settles-last seed clients) given)).0 in
     let reaches = reach-the-bound seed clients large m apart.1 in
     let comes = comes-to (settled m rounds) n (sym (settles-as m (event.Settle rounds) rounds refl) ∙ apart.3) in
-    let quiet = settles-end-quiet m rounds n comes.0 comes.1 large (generated seed clients).files refl (each-all IsFile (generated seed clients).files files) es (each-all IsGiven es before) apart.1 reaches.1 reaches.0 in
+    let quiet = settles-end-quiet m rounds n comes.0 comes.1 large (generated seed clients).files refl (each-all IsRunFile (generated seed clients).files files) es (each-all IsScheduled es before) apart.1 reaches.1 reaches.0 in
     subst Closes comes.1 (settled-ends m rounds) quiet.0 quiet.1

@@ -15,17 +15,17 @@ use Rattle.lard_base.specs.declared.event.Event.TheVariants as event
 use Rattle.lard_base.specs.declared.place.Place.{Place}
 use Rattle.lard_base.specs.declared.place.Place.TheVariants as place
 use Rattle.lard_rules.specs.declared.machine.Machine.{Machine}
-use Rattle.lard_laws.specs.Records.{IsFile, IsGiven}
+use Rattle.lard_laws.specs.Records.{IsRunFile, IsScheduled}
 use Rattle.lard_files.specs.Files.{add_check, first_fault}
 use Rattle.lard_files.specs.declared.fault.FileFault.{FileFault}
 use Rattle.lard_files.specs.declared.fault.FileFault.TheVariants as file_fault
 use Rattle.lard_history.proofs.Each.{Each, Each-weaker}
 use Rattle.lard_journal.specs.Range.{IsConfigInRange, IsFileInRange, IsNumber, IsPlaceInRange, IsUnspaced}
 use Rattle.lard_law_view.proofs.ByteLists.{AreBytes, bytes-index, each-all}
-use Rattle.lard_schedule.specs.Events.{IsInRange, IsPlace, IsUpTo, is_path, is_visible}
+use Rattle.lard_schedule.specs.Events.{IsInLineRange, IsPlace, IsUpTo, is_path, is_visible}
 use Rattle.lard_schedule.specs.Files.{is_file_path}
 use Rattle.lard_schedule.specs.Laws.{HasBytes, Spells, SpellsFile}
-use Rattle.lard_app.specs.Replay.{sizes}
+use Rattle.lard_app.specs.Replay.{file_sizes}
 
 -- ---- a configuration that was checked
 
@@ -120,7 +120,7 @@ place-given (place.Node n) h = up-to 64 n (omega arith) h
 place-given (place.Client c) h = client c h
 
 -- an event that a line can have
-pub event-ranged : (e : Event) → IsInRange e → HasBytes e → IsGiven e
+pub event-ranged : (e : Event) → IsInLineRange e → HasBytes e → IsScheduled e
 event-ranged (event.Open c isn iss wnd mss) r b = ((client c r.0, word isn r.1, word iss r.2, up-to 65535 wnd (omega arith) r.3, up-to 1460 mss (omega arith) r.4), tt)
 event-ranged (event.Get c path) r b = let v = path-visible path r.1 in ((client c r.0, visible-unspaced path v), visible-bytes path v)
 event-ranged (event.Write c bytes) r b = ((client c r.0, b), tt)
@@ -143,7 +143,7 @@ spells-bytes words (event.Inject c bytes) s = (decode_of-ok s.0 bytes s.2).3
 spells-bytes words _ s = tt
 
 -- the event of a line
-pub event-given : (words : List (List ℕ)) (e : Event) → Spells words e → IsInRange e → IsGiven e
+pub event-given : (words : List (List ℕ)) (e : Event) → Spells words e → IsInLineRange e → IsScheduled e
 event-given words e s r = event-ranged e r (spells-bytes words e s)
 
 -- ---- files
@@ -169,26 +169,26 @@ short-file false count sum len e = go (nat_lt (2 ^ 20) len) refl e where
   go false t h = grind (arith, nat_tests, t)
 
 -- a file that a line can have, and which is not too long
-pub file-ranged : (path bytes : List ℕ) → is_file_path path ≡ true → length bytes ≤ 2 ^ 20 → IsBytes bytes → IsFile (path, bytes)
+pub file-ranged : (path bytes : List ℕ) → is_file_path path ≡ true → length bytes ≤ 2 ^ 20 → IsBytes bytes → IsRunFile (path, bytes)
 file-ranged path bytes fits short are =
     let is : is_path path ≡ true = (and_parts (is_path path) _ fits).0 in
     let visible_ = path-visible path is in
     ((path-short path is, short), visible-unspaced path visible_, visible-bytes path visible_, are)
 
 -- the file of a line, once it is added
-pub file-given : (files : List (List ℕ × List ℕ)) (words : List (List ℕ)) (path bytes : List ℕ) → SpellsFile words path bytes → is_file_path path ≡ true → add_check files path (length bytes) ≡ Ok tt → IsFile (path, bytes)
+pub file-given : (files : List (List ℕ × List ℕ)) (words : List (List ℕ)) (path bytes : List ℕ) → SpellsFile words path bytes → is_file_path path ≡ true → add_check files path (length bytes) ≡ Ok tt → IsRunFile (path, bytes)
 file-given files words path bytes s fits e = file-ranged path bytes fits (short-file _ _ _ (length bytes) e) (content-bytes words path bytes s)
 
 -- ---- a replay
 
 -- What was given before `go`, and what the machine was given, is in range.
 pub record HasRanges (given : List (List ℕ × List ℕ)) (m : Machine) (es : List Event) : Type 0 where
-  pub files : Each IsFile given
+  pub files : Each IsRunFile given
   pub config : IsConfigInRange m.config
-  pub taken : Each IsFile m.files
-  pub events : Each IsGiven es
+  pub taken : Each IsRunFile m.files
+  pub events : Each IsScheduled es
 
 -- the lines of files
-pub sizes-ranges : (files : List (List ℕ × List ℕ)) → Each IsFile files → Each IsFileInRange (sizes files)
+pub sizes-ranges : (files : List (List ℕ × List ℕ)) → Each IsRunFile files → Each IsFileInRange (file_sizes files)
 sizes-ranges [] h = tt
 sizes-ranges (f ∷ fs) h = let most = h.0.0.1 in ((h.0.1, omega (arith, most)), sizes-ranges fs h.1)

@@ -8,8 +8,8 @@ use Rattle.lard_base.specs.Outside.{TakesIn, WrotePrefix}
 use Rattle.lard_lines.specs.Lines.{Held, is_feed}
 use Rattle.lard_app.specs.declared.status.Status.{Status}
 use Rattle.lard_app.specs.declared.status.Status.TheVariants.{ReadFault, NoMemory}
-use Rattle.lard_app.specs.Replay.{begin, ending, gain, passed, report_of, whole, Passes, Progress}
-use Rattle.lard_app.specs.Run.{Reads}
+use Rattle.lard_app.specs.Replay.{begin, ending, gain, line_passed, report_of, whole, PassesLine, Progress}
+use Rattle.lard_app.specs.Run.{ReadsInput}
 use Rattle.lard_app.proofs.Going.{EndsSo, Going, going_end, going_failed, going_first, going_more, going_on, going_starved, going_stop}
 
 -- ---- what is read of a source
@@ -41,7 +41,7 @@ module _ (left mid now old new : Option (List ℕ)) (held more : Held) (s : Prog
 module _ (left left_now old now : Option (List ℕ)) (held : Held) (s : Progress) (r : Reading left left_now held s old now) where
   -- a line is passed
   pub reading_on : (at : ℕ) (next : Held) (t : Progress) (new : Option (List ℕ)) → position is_feed held.rest ≡ Some at → next ≡ record { rest = drop (at + 1) held.rest; read = held.read; most = held.most }
-      → (passed s (take at held.rest) ≡ Ok t) × Appends now new (gain s (take at held.rest)) → Reading left left_now next t old new
+      → (line_passed s (take at held.rest) ≡ Ok t) × Appends now new (gain s (take at held.rest)) → Reading left left_now next t old new
   reading_on at next t new is e h = subst (λ (k : Held). Reading left left_now k t old new) (sym e) (record {
     text = r.text;
     consumed = r.consumed;
@@ -51,28 +51,28 @@ module _ (left left_now old now : Option (List ℕ)) (held : Held) (s : Progress
     going = going_on r.text held.rest s old now r.going at is t new h;
   })
 
-  ended_as : (status : Status) (new : Option (List ℕ)) → EndsSo status r.text left_now old new → Reads status left left_now old new
+  ended_as : (status : Status) (new : Option (List ℕ)) → EndsSo status r.text left_now old new → ReadsInput status left left_now old new
   ended_as status new e = record { read = r.text; consumed = r.consumed; bounded = subst (λ n. n ≤ MAX_INPUT_BYTES + 1) (sym r.count) r.bound; text = e.text; told = e.told; wrote = e.wrote; ended = e.ended }
 
   -- a line ends the run
-  pub reading_stop : (at : ℕ) (status : Status) (t : Progress) (new : Option (List ℕ)) → position is_feed held.rest ≡ Some at → Passes (passed s (take at held.rest)) (gain s (take at held.rest)) now new t (Err status)
-      → Reads status left left_now old new
+  pub reading_stop : (at : ℕ) (status : Status) (t : Progress) (new : Option (List ℕ)) → position is_feed held.rest ≡ Some at → PassesLine (line_passed s (take at held.rest)) (gain s (take at held.rest)) now new t (Err status)
+      → ReadsInput status left left_now old new
   reading_stop at status t new is h = ended_as status new (going_stop r.text held.rest s old now r.going at is status t left_now new h)
 
   -- memory runs out
-  pub reading_starved : Reads NoMemory left left_now old now
+  pub reading_starved : ReadsInput NoMemory left left_now old now
   reading_starved = ended_as NoMemory now (going_starved r.text held.rest s old now r.going left_now)
 
   module _ (none : position is_feed held.rest ≡ None) where
     -- the input ends
-    pub reading_end : (status : Status) → IsAtEnd left_now ⊎ (held.read ≡ held.most + 1) → status ≡ ending s held.rest → Reads status left left_now old now
+    pub reading_end : (status : Status) → IsAtEnd left_now ⊎ (held.read ≡ held.most + 1) → status ≡ ending s held.rest → ReadsInput status left left_now old now
     reading_end status how e = ended_as status now (going_end r.text held.rest s old now r.going none left_now (full how) status e) where
       full : IsAtEnd left_now ⊎ (held.read ≡ held.most + 1) → IsAtEnd left_now ⊎ (length r.text ≡ MAX_INPUT_BYTES + 1)
       full (inl end) = inl end
       full (inr most) = inr (r.count ∙ most ∙ ap (λ n. n + 1) r.most)
 
     -- the source fails
-    pub reading_failed : held.read ≤ held.most → Reads ReadFault left left_now old now
+    pub reading_failed : held.read ≤ held.most → ReadsInput ReadFault left left_now old now
     reading_failed small = ended_as ReadFault now (going_failed r.text held.rest s old now r.going none left_now (omega (arith, small, r.count, r.most)))
 
 none-wrote : (old : Option (List ℕ)) → WrotePrefix old old (report_of (whole []).0)
@@ -80,7 +80,7 @@ unfolding whole
 none-wrote old = record { front = []; rest = []; is = refl; written = Appends-nil old }
 
 -- memory ran out before anything was read
-pub reads-nothing : (left old : Option (List ℕ)) → Reads NoMemory left left old old
+pub reads-nothing : (left old : Option (List ℕ)) → ReadsInput NoMemory left left old old
 reads-nothing left old = record {
   read = [];
   consumed = Consumes-nil left;

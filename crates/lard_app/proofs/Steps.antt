@@ -10,14 +10,14 @@ use Rattle.lard_rules.specs.Machine.{machine_step}
 use Rattle.lard_rules.specs.declared.machine.Machine.{Machine}
 use Rattle.lard_settle.proofs.Runs.{GoesOn, step-goes-on}
 use Rattle.lard_journal.specs.declared.rec.Rec.{Rec}
-use Rattle.lard_schedule.specs.Events.{IsInRange}
+use Rattle.lard_schedule.specs.Events.{IsInLineRange}
 use Rattle.lard_settling.specs.Events.{MayCome, event_step}
-use Rattle.lard_app.specs.Replay.{came}
+use Rattle.lard_app.specs.Replay.{came_to}
 use Rattle.lard_app.specs.Seen.{rounds_of}
 use Rattle.lard_app.proofs.Events.{event-came}
 
 -- an event that a line can have has a rule, if it is no settle
-pub ruled : (e : Event) → rounds_of e ≡ None → IsInRange e → HasRule e
+pub ruled : (e : Event) → rounds_of e ≡ None → IsInLineRange e → HasRule e
 ruled (event.Open c isn iss wnd mss) m r = (r.3.0, r.4.0, r.4.1, omega (arith, r.3.1), r.1, r.2, (r.0.0, r.0.1))
 ruled (event.Get c path) m r = tt
 ruled (event.Write c bytes) m r = tt
@@ -36,7 +36,7 @@ ruled (event.Settle rounds) m r = cc
 ruled (event.Inject c bytes) m r = (r.1.0, r.1.1)
 
 -- an event that a line can have may come
-pub may-come : (e : Event) → IsInRange e → MayCome e
+pub may-come : (e : Event) → IsInLineRange e → MayCome e
 may-come (event.Open c isn iss wnd mss) r = ruled (event.Open c isn iss wnd mss) refl r
 may-come (event.Get c path) r = tt
 may-come (event.Write c bytes) r = tt
@@ -67,8 +67,8 @@ pub step-grows : (m t : Machine) (e : Event) → machine_step m e ≡ Ok t → G
 step-grows m t e is = goes-grows m t (step-goes-on m t e is)
 
 -- an event, done or not
-pub event-grows : (m : Machine) (e : Event) → Grows m (came (event_step m e))
-event-grows m e = goes-grows m (came (event_step m e)) (event-came m e)
+pub event-grows : (m : Machine) (e : Event) → Grows m (came_to (event_step m e))
+event-grows m e = goes-grows m (came_to (event_step m e)) (event-came m e)
 
 -- so the journal is no shorter
 pub grows-longer : (m t : Machine) → Grows m t → length m.journal ≤ length t.journal

@@ -17,8 +17,8 @@ use Rattle.lard_settling.specs.Events.{event_step, settled_to}
 use Rattle.lard_settling.specs.Settling.{Stop, settled}
 use Rattle.lard_app.specs.declared.status.Status.{Status}
 use Rattle.lard_app.specs.Generate.{Happens}
-use Rattle.lard_app.specs.Replay.{Passes, Progress, came, ended_by, event_gain}
-use Rattle.lard_app.specs.Seen.{Does, Stops, rounds_of}
+use Rattle.lard_app.specs.Replay.{PassesLine, Progress, came_to, ended_by, event_gain}
+use Rattle.lard_app.specs.Seen.{DoesEvent, StopsAtLine, rounds_of}
 use Rattle.lard_app.proofs.Steps.{Grows, event-grows, grows-longer, step-grows}
 
 -- ---- kinds of events
@@ -57,21 +57,21 @@ event-stopped given n (fault.Limit what) some h = h
 
 -- what was written then
 pub stops-does : (s t : Progress) (n : Machine) (given : Result Machine Stop) (old new : Option (List ℕ)) (f : StepFault) (status : Status) (from : ℕ) → from ≡ length s.machine.journal
-    → Happens given n (Err f) → Stops f s.lines (flat_map rec_line (drop from n.journal)) old new status → Does given s old new t (Err status)
+    → Happens given n (Err f) → StopsAtLine f s.lines (flat_map rec_line (drop from n.journal)) old new status → DoesEvent given s old new t (Err status)
 stops-does s t n given old new f status from at done stops = go f done stops where
-  same : (g : StepFault) → given ≡ Err (n, g) → ((u : Progress) → Passes (Err (ended_by s.lines g)) (flat_map rec_line (drop from n.journal)) old new u (Err status)) → Does given s old new t (Err status)
-  same g e h = subst (λ (x : Result Machine Stop). Does x s old new t (Err status)) (sym e)
-      (subst (λ i. Passes (Err (ended_by s.lines g)) (flat_map rec_line (drop i n.journal)) old new t (Err status)) at (h t))
+  same : (g : StepFault) → given ≡ Err (n, g) → ((u : Progress) → PassesLine (Err (ended_by s.lines g)) (flat_map rec_line (drop from n.journal)) old new u (Err status)) → DoesEvent given s old new t (Err status)
+  same g e h = subst (λ (x : Result Machine Stop). DoesEvent x s old new t (Err status)) (sym e)
+      (subst (λ i. PassesLine (Err (ended_by s.lines g)) (flat_map rec_line (drop i n.journal)) old new t (Err status)) at (h t))
 
-  go : (g : StepFault) → Happens given n (Err g) → Stops g s.lines (flat_map rec_line (drop from n.journal)) old new status → Does given s old new t (Err status)
-  go fault.NoMemory d h = subst (λ (x : Status). Does given s old new t (Err x)) (sym h.0) (subst (λ (b : Option (List ℕ)). WrotePrefix old b (event_gain s.machine (came given))) (sym h.1) (record { front = []; rest = _; is = refl; written = Appends-nil old }))
+  go : (g : StepFault) → Happens given n (Err g) → StopsAtLine g s.lines (flat_map rec_line (drop from n.journal)) old new status → DoesEvent given s old new t (Err status)
+  go fault.NoMemory d h = subst (λ (x : Status). DoesEvent given s old new t (Err x)) (sym h.0) (subst (λ (b : Option (List ℕ)). WrotePrefix old b (event_gain s.machine (came_to given))) (sym h.1) (record { front = []; rest = _; is = refl; written = Appends-nil old }))
   go (fault.Refused reason) d h = same (fault.Refused reason) d h
   go (fault.Limit what) d h = same (fault.Limit what) d h
 
 -- ---- a journal that is no shorter
 
 pub event-longer : (m n : Machine) (e : Event) → event_step m e ≡ Ok n → length m.journal ≤ length n.journal
-event-longer m n e is = grows-longer m n (subst (λ (x : Result Machine Stop). Grows m (came x)) is (event-grows m e))
+event-longer m n e is = grows-longer m n (subst (λ (x : Result Machine Stop). Grows m (came_to x)) is (event-grows m e))
 
 pub stopped-longer : (m n : Machine) (e : Event) (f : StepFault) → f ≢ fault.NoMemory → Happens (event_step m e) n (Err f) → length m.journal ≤ length n.journal
-stopped-longer m n e f some h = grows-longer m n (subst (λ (x : Result Machine Stop). Grows m (came x)) (event-stopped (event_step m e) n f some h) (event-grows m e))
+stopped-longer m n e f some h = grows-longer m n (subst (λ (x : Result Machine Stop). Grows m (came_to x)) (event-stopped (event_step m e) n f some h) (event-grows m e))

@@ -3,7 +3,7 @@ use Rattle.std.proofs.Common.{◌≡◌, ℕ, ◌+◌, Bool, true, false, cond, 
 use Rattle.lard_base.specs.declared.config.Config.{Config}
 use Rattle.lard_base.specs.declared.event.Event.{Event}
 use Rattle.lard_rules.specs.declared.machine.Machine.{Machine}
-use Rattle.lard_rules.specs.Machine.{IsReached, Passes, start}
+use Rattle.lard_rules.specs.Machine.{IsReached, Passes, machine_start}
 use Rattle.lard_law_view.proofs.Carried.{reached-viewed}
 use Rattle.lard_law_view.proofs.Runs.{passes-more}
 use Rattle.lard_journal.specs.declared.rec.Rec.{Rec}
@@ -39,11 +39,11 @@ module _ (config : Config) (files : List (List ℕ × List ℕ)) where
       let step : HasPlainRows m e k = step-plain m (reached-viewed config files m r) e k g.1 g.2 in
       let more : steps_told k.journal ≡ steps_told m.journal ++ e ∷ [] = ap steps_told step.are ∙ told-append m.journal (rec.Event (m.events + 1) e ∷ step.rows)
       ∙ ap (λ ds. steps_told m.journal ++ ds) (step-tells (m.events + 1) e step.rows (rule-step e g.1) step.unmarked) in
-      passes-tell es k n (r.0 ++ e ∷ [], passes-more r.0 (start config files) m k e r.1 g.1 g.2) g.3 ∙ ap (λ ds. ds ++ es) more ∙ append_assoc (steps_told m.journal) (e ∷ []) es
+      passes-tell es k n (r.0 ++ e ∷ [], passes-more r.0 (machine_start config files) m k e r.1 g.1 g.2) g.3 ∙ ap (λ ds. ds ++ es) more ∙ append_assoc (steps_told m.journal) (e ∷ []) es
 
   -- a run without settles tells its events
   pub reached-tells : (m : Machine) (r : IsReached config files m) → steps_told m.journal ≡ r.0
-  reached-tells m r = passes-tell r.0 (start config files) m ([], refl) r.1
+  reached-tells m r = passes-tell r.0 (machine_start config files) m ([], refl) r.1
 
 -- a record and what it stands for tell the same
 rec-tells : (i : ℕ) (r : Rec) → steps_told (written_rec i r) ≡ step_told r

@@ -15,11 +15,11 @@ use Rattle.lard_rules.specs.declared.fault.Refusal.TheVariants as refusal
 use Rattle.lard_rules.specs.declared.fault.StepFault.{StepFault}
 use Rattle.lard_rules.specs.declared.fault.StepFault.TheVariants as fault
 use Rattle.lard_rules.specs.declared.machine.Machine.{Machine}
-use Rattle.lard_rules.specs.Machine.{client_acted, client_does, client_goes_on, client_put, delivered, from_place, front_acts, happens, limit_reached, lost, machine_step, node_acts, node_at, opened, passed, start, to_client, to_front, to_place, told, unless_limit, wrote}
+use Rattle.lard_rules.specs.Machine.{client_acted, client_acts, client_goes_on, client_put, delivered, from_place, front_acts, happens, limit_reached, lost, machine_step, node_acts, node_at, machine_opened, passed, machine_start, machine_to_client, machine_to_front, to_place, machine_told, unless_limit, machine_wrote}
 use Rattle.lard_rules.specs.Sent.{packets_of}
 use Rattle.lard_rules.specs.declared.front.FrontIn.{FrontIn}
 use Rattle.lard_rules.specs.declared.front.FrontIn.TheVariants as input
-use Rattle.lard_client.specs.Control.{ClientBlock, is_armed, written_len}
+use Rattle.lard_client.specs.Control.{ClientBlock, is_client_armed, written_len}
 use Rattle.lard_history.proofs.Each.{Each, Each-append}
 use Rattle.lard_history.specs.Journal.{is_lost, numbers_of, sent_count}
 use Rattle.lard_journal.specs.declared.rec.Rec.{Rec}
@@ -38,15 +38,15 @@ use Rattle.lard_rules.specs.Client.{client_opens, client_shuts, client_writes}
 use Rattle.lard_rules.specs.Outs.{out_of}
 use Rattle.lard_rules.specs.Speaking.{client_emits}
 use Rattle.lard_table.proofs.Map.{get_inserted, get_other}
-use Rattle.lard_settling.specs.Events.{Goes, MayCome, event_step}
+use Rattle.lard_settling.specs.Events.{GoesThrough, MayCome, event_step}
 use Rattle.lard_settling.specs.Written.{is_settle}
 use Rattle.lard_generate.specs.declared.action.Action.TheVariants.{Shut}
-use Rattle.lard_generate.specs.Clients.{drawn_actions, drawn_ask, drawn_fate, drawn_open, event_of, fate_at, rounds, shut_at}
+use Rattle.lard_generate.specs.Clients.{drawn_actions, drawn_ask, drawn_fate, drawn_open, action_event, fate_at, rounds, shut_at}
 use Rattle.lard_generate.specs.Draws.{behind, draw, each, seeded}
 use Rattle.lard_generate.specs.Files.{drawn_size}
 use Rattle.lard_generate.specs.Generated.{generated}
 use Rattle.lard_app.specs.Causes.{MayNotCome}
-use Rattle.lard_app.specs.Generate.{begins, large}
+use Rattle.lard_app.specs.Generate.{run_begins, large}
 use Rattle.lard_law_settles.proofs.Events.{plain-done}
 use Rattle.lard_app.proofs.Failures.{some_there}
 use Rattle.lard_app.proofs.Fit.{IsFit, next-fit}
@@ -83,7 +83,7 @@ AreTimely m (e ∷ es) = IsTimely m e × ((n : Machine) → MayCome e → event_
 -- from any state that is P the events are timely, and lead to states that are Q
 record Runs (P : Machine → Type 0) (es : List Event) (Q : Machine → Type 0) : Type 0 where
   pub timely : (m : Machine) → P m → AreTimely m es
-  pub leads : (m n : Machine) → P m → Goes m es n → Q n
+  pub leads : (m n : Machine) → P m → GoesThrough m es n → Q n
 
 runs-nothing : (P : Machine → Type 0) → Runs P [] P
 runs-nothing P = record { timely = λ m p. tt; leads = λ m n p g. subst P (sym g) p }
@@ -94,11 +94,11 @@ runs-one P Q e may next = record {
   leads = λ m n p g. subst Q (sym g.3) (next m g.0 p g.1 g.2);
 }
 
-goes-apart : (xs ys : List Event) (m n : Machine) → Goes m (xs ++ ys) n → (k : Machine) × Goes m xs k × Goes k ys n
+goes-apart : (xs ys : List Event) (m n : Machine) → GoesThrough m (xs ++ ys) n → (k : Machine) × GoesThrough m xs k × GoesThrough k ys n
 goes-apart [] ys m n g = (m, refl, g)
 goes-apart (e ∷ es) ys m n g = let more = goes-apart es ys g.0 n g.3 in (more.0, (g.0, g.1, g.2, more.1), more.2)
 
-timely-behind : (xs ys : List Event) (m : Machine) → AreTimely m xs → ((k : Machine) → Goes m xs k → AreTimely k ys) → AreTimely m (xs ++ ys)
+timely-behind : (xs ys : List Event) (m : Machine) → AreTimely m xs → ((k : Machine) → GoesThrough m xs k → AreTimely k ys) → AreTimely m (xs ++ ys)
 timely-behind [] ys m first later = later m refl
 timely-behind (e ∷ es) ys m first later = (first.0, λ n come is. timely-behind es ys n (first.1 n come is) (λ k g. later k (n, come, is, g)))
 
@@ -159,8 +159,8 @@ record Sends (m n : Machine) : Type 0 where
   pub net : n.net ≡ m.net ++ more
   pub new : Each IsOnTheWay more
 
-told-sends : (m k : Machine) (e : Event) (own : List Rec) (p : Place) (out : Out) → k.net ≡ m.net → Sends m (told k e own p out)
-unfolding told
+told-sends : (m k : Machine) (e : Event) (own : List Rec) (p : Place) (out : Out) → k.net ≡ m.net → Sends m (machine_told k e own p out)
+unfolding machine_told
 told-sends m k e own p out same = record {
   more = packets_of p out.segments ++ packets_of p out.messages;
   net = append_assoc k.net (packets_of p out.segments) (packets_of p out.messages) ∙ ap (λ (net : List Packet). net ++ (packets_of p out.segments ++ packets_of p out.messages)) same;
@@ -213,18 +213,18 @@ record Puts (m n : Machine) (c : ℕ) : Type 0 where
   pub clients : n.clients ≡ table.insert m.clients c station
   pub sends : Sends m n
 
-put-told : (m : Machine) (e : Event) (own : List Rec) (p : Place) (out : Out) (c : ℕ) (x : Station) → Puts m (told (client_put m c x) e own p out) c
-unfolding told
+put-told : (m : Machine) (e : Event) (own : List Rec) (p : Place) (out : Out) (c : ℕ) (x : Station) → Puts m (machine_told (client_put m c x) e own p out) c
+unfolding machine_told
 put-told m e own p out c x = record { station = x; clients = refl; sends = told-sends m (client_put m c x) e own p out refl }
 
 -- a client that opened acts
-does-puts : (m n : Machine) (e : Event) (own : List Rec) (c : ℕ) (rule : ClientBlock → ClientBlock × Turn) (o : Option Station) → client_does m e own c rule o ≡ Ok n → Puts m n c
-unfolding client_does
+does-puts : (m n : Machine) (e : Event) (own : List Rec) (c : ℕ) (rule : ClientBlock → ClientBlock × Turn) (o : Option Station) → client_acts m e own c rule o ≡ Ok n → Puts m n c
+unfolding client_acts
 does-puts m n e own c rule None is = cc
 does-puts m n e own c rule (Some x) is = subst (λ (k : Machine). Puts m k c) (ok-same (client_goes_on m e own c x (rule x.client)) n is) (put-told m e own (place.Client c) _ c _)
 
-wrote-puts : (m n : Machine) (e : Event) (c : ℕ) (bytes : List ℕ) (o : Option Station) → wrote m e c bytes o ≡ Ok n → Puts m n c
-unfolding wrote
+wrote-puts : (m n : Machine) (e : Event) (c : ℕ) (bytes : List ℕ) (o : Option Station) → machine_wrote m e c bytes o ≡ Ok n → Puts m n c
+unfolding machine_wrote
 wrote-puts m n e c bytes None is = cc
 wrote-puts m n e c bytes (Some x) is = go (nat_lt m.config.stream (written_len x.client bytes)) is where
   go : (b : Bool) → cond {A = Result Machine StepFault} b (Err (fault.Limit what.Stream)) (Ok (client_goes_on m e [] c x (client_writes x.client bytes))) ≡ Ok n → Puts m n c
@@ -252,11 +252,11 @@ record Opens (m n : Machine) (c : ℕ) : Type 0 where
   pub longer : length m.net + 1 ≤ length n.net
 
 opened-opens : (m : Machine) (c isn iss wnd mss : ℕ) → Opens m (opening m c isn iss wnd mss) c
-unfolding told
+unfolding machine_told
 opened-opens m c isn iss wnd mss =
     let given = client_opens c isn wnd mss in
     record {
-      puts = put-told m (event.Open c isn iss wnd mss) (rec.Opened c isn iss wnd mss ∷ []) (place.Client c) (out_of (place.Client c) c false (is_armed given.0) given.1) c (record { client = given.0; iss = iss });
+      puts = put-told m (event.Open c isn iss wnd mss) (rec.Opened c isn iss wnd mss ∷ []) (place.Client c) (out_of (place.Client c) c false (is_client_armed given.0) given.1) c (record { client = given.0; iss = iss });
       longer =
           let first = length-append (m.net ++ packets_of (place.Client c) given.1.segments) [] in
           let second = length-append m.net (packets_of (place.Client c) given.1.segments) in
@@ -265,8 +265,8 @@ opened-opens m c isn iss wnd mss =
           omega (arith, first, second, third, some);
     }
 
-open-opens : (m n : Machine) (c isn iss wnd mss : ℕ) (o : Option Station) → opened m c isn iss wnd mss o ≡ Ok n → Opens m n c
-unfolding opened
+open-opens : (m n : Machine) (c isn iss wnd mss : ℕ) (o : Option Station) → machine_opened m c isn iss wnd mss o ≡ Ok n → Opens m n c
+unfolding machine_opened
 open-opens m n c isn iss wnd mss (Some x) is = cc
 open-opens m n c isn iss wnd mss None is = subst (λ (k : Machine). Opens m k c) (ok-same (opening m c isn iss wnd mss) n is) (opened-opens m c isn iss wnd mss)
 
@@ -279,11 +279,11 @@ acts-sends m k n i (Some s) = told-sends m _ (event.Deliver k) (rec.Got k ∷ []
 front-sends : (m : Machine) (k : ℕ) (i : FrontIn) → Sends m (front_acts m (event.Deliver k) (rec.Got k ∷ []) i)
 front-sends m k i = told-sends m _ (event.Deliver k) (rec.Got k ∷ []) place.Front _ refl
 
-segment-sends : (m : Machine) (k : ℕ) (bytes : List ℕ) (c : ℕ) (o : Option Station) → Sends m (to_front m k bytes c o)
+segment-sends : (m : Machine) (k : ℕ) (bytes : List ℕ) (c : ℕ) (o : Option Station) → Sends m (machine_to_front m k bytes c o)
 segment-sends m k bytes c None = sends-nothing m (passed m (event.Deliver k) (rec.Got k ∷ [])) refl
 segment-sends m k bytes c (Some x) = front-sends m k (input.Segment c (record { 0 = x.iss }) bytes)
 
-client-sends : (m : Machine) (k : ℕ) (bytes : List ℕ) (c : ℕ) (o : Option Station) → Sends m (to_client m k bytes c o)
+client-sends : (m : Machine) (k : ℕ) (bytes : List ℕ) (c : ℕ) (o : Option Station) → Sends m (machine_to_client m k bytes c o)
 client-sends m k bytes c None = sends-nothing m (passed m (event.Deliver k) (rec.Got k ∷ [])) refl
 client-sends m k bytes c (Some x) = (put-told m (event.Deliver k) (rec.Got k ∷ []) (place.Client c) _ c _).sends
 
@@ -445,24 +445,24 @@ floats-on count c m f = record { fit = f.fit; sent = f.sent; kept = λ i p le at
 opens-run : (clients : ℕ) (g : Lcg) → Runs (HasOpened 0) (each drawn_open clients g).0 (HasOpened clients)
 opens-run clients g = runs-each HasOpened drawn_open (λ es. es) refl (λ xs ys. refl) clients g (λ k h less. open-runs k _ _ 65535 1460)
 
-shut-run : (clients c draw : ℕ) → 1 ≤ c → c ≤ clients → Runs (HasOpened clients) (map event_of (shut_at c draw)) (HasOpened clients)
+shut-run : (clients c draw : ℕ) → 1 ≤ c → c ≤ clients → Runs (HasOpened clients) (map action_event (shut_at c draw)) (HasOpened clients)
 shut-run clients c draw low high = go (nat_eq draw 0) where
-  go : (b : Bool) → Runs (HasOpened clients) (map event_of (if b then [] else Shut c ∷ [])) (HasOpened clients)
+  go : (b : Bool) → Runs (HasOpened clients) (map action_event (if b then [] else Shut c ∷ [])) (HasOpened clients)
   go true = runs-nothing (HasOpened clients)
   go false = shut-runs clients c low high
 
-asks-run : (clients c n : ℕ) (g : Lcg) → 1 ≤ c → c ≤ clients → Runs (HasOpened clients) (map event_of (each (drawn_ask c) n g).0) (HasOpened clients)
-asks-run clients c n g low high = runs-each (λ k. HasOpened clients) (drawn_ask c) (map event_of) refl (map-append event_of) n g (λ k h less. write-runs clients c _ low high)
+asks-run : (clients c n : ℕ) (g : Lcg) → 1 ≤ c → c ≤ clients → Runs (HasOpened clients) (map action_event (each (drawn_ask c) n g).0) (HasOpened clients)
+asks-run clients c n g low high = runs-each (λ k. HasOpened clients) (drawn_ask c) (map action_event) refl (map-append action_event) n g (λ k h less. write-runs clients c _ low high)
 
-client-runs : (clients c : ℕ) (g : Lcg) → 1 ≤ c → c ≤ clients → Runs (HasOpened clients) (map event_of (drawn_actions c g).0) (HasOpened clients)
+client-runs : (clients c : ℕ) (g : Lcg) → 1 ≤ c → c ≤ clients → Runs (HasOpened clients) (map action_event (drawn_actions c g).0) (HasOpened clients)
 client-runs clients c g low high =
     let asks = each (drawn_ask c) (1 + draw 10 g) (behind g) in
-    subst (λ (es : List Event). Runs (HasOpened clients) es (HasOpened clients)) (sym (map-append event_of asks.0 (shut_at c (draw 4 asks.1))))
-    (runs-both (HasOpened clients) (HasOpened clients) (HasOpened clients) (map event_of asks.0) (map event_of (shut_at c (draw 4 asks.1)))
+    subst (λ (es : List Event). Runs (HasOpened clients) es (HasOpened clients)) (sym (map-append action_event asks.0 (shut_at c (draw 4 asks.1))))
+    (runs-both (HasOpened clients) (HasOpened clients) (HasOpened clients) (map action_event asks.0) (map action_event (shut_at c (draw 4 asks.1)))
     (asks-run clients c (1 + draw 10 g) (behind g) low high) (shut-run clients c (draw 4 asks.1) low high))
 
-actions-run : (clients : ℕ) (g : Lcg) → Runs (HasOpened clients) (map event_of (each drawn_actions clients g).0) (HasOpened clients)
-actions-run clients g = runs-each (λ k. HasOpened clients) drawn_actions (map event_of) refl (map-append event_of) clients g (λ k h less. client-runs clients (k + 1) h (omega arith) (omega (arith, less)))
+actions-run : (clients : ℕ) (g : Lcg) → Runs (HasOpened clients) (map action_event (each drawn_actions clients g).0) (HasOpened clients)
+actions-run clients g = runs-each (λ k. HasOpened clients) drawn_actions (map action_event) refl (map-append action_event) clients g (λ k h less. client-runs clients (k + 1) h (omega arith) (omega (arith, less)))
 
 fate-runs : (clients c draw : ℕ) → c < clients → Runs (Floats clients c) (fate_at (c + 1) draw) (Floats clients (c + 1))
 fate-runs clients c draw less = go (nat_eq draw 0) (nat_eq draw 1) where
@@ -481,7 +481,7 @@ fates-run clients g = runs-each (Floats clients) drawn_fate (λ es. es) refl (λ
 settle-runs : (P : Machine → Type 0) (rounds : ℕ) → Runs P (event.Settle rounds ∷ []) (λ m. Unit {0})
 settle-runs P rounds = runs-one P (λ m. Unit {0}) (event.Settle rounds) (λ m p cause may. may) (λ m n p come is. tt)
 
-nobody : (files : List (List ℕ × List ℕ)) → IsFit (start large files) → HasOpened 0 (start large files)
+nobody : (files : List (List ℕ × List ℕ)) → IsFit (machine_start large files) → HasOpened 0 (machine_start large files)
 nobody files fit = record {
   fit = fit;
   open_ = λ c low high. absurd (omega (arith, low, high));
@@ -491,17 +491,17 @@ nobody files fit = record {
 }
 
 -- no event of a generated schedule is refused
-pub are-timely : (seed clients : ℕ) → IsFit (begins (generated seed clients)) → AreTimely (begins (generated seed clients)) (generated seed clients).events
+pub are-timely : (seed clients : ℕ) → IsFit (run_begins (generated seed clients)) → AreTimely (run_begins (generated seed clients)) (generated seed clients).events
 unfolding generated
 are-timely seed clients fit =
     let sizes = each drawn_size 256 (seeded seed) in
     let opens = each drawn_open clients sizes.1 in
     let actions = each drawn_actions clients opens.1 in
     let fates = each drawn_fate clients actions.1 in
-    let moves = map event_of actions.0 in
+    let moves = map action_event actions.0 in
     let last = event.Settle (rounds clients sizes.0 actions.0) in
     let first : Runs (HasOpened 0) (opens.0 ++ moves) (Floats clients 0) =
     runs-weaker (HasOpened 0) (HasOpened clients) (Floats clients 0) (opens.0 ++ moves) (λ m h. record { fit = h.fit; sent = h.sent; kept = h.kept })
     (runs-both (HasOpened 0) (HasOpened clients) (HasOpened clients) opens.0 moves (opens-run clients sizes.1) (actions-run clients opens.1)) in
     let second : Runs (HasOpened 0) (opens.0 ++ moves ++ fates.0) (Floats clients clients) = runs-both (HasOpened 0) (Floats clients 0) (Floats clients clients) (opens.0 ++ moves) fates.0 first (fates-run clients actions.1) in
-    (runs-both (HasOpened 0) (Floats clients clients) (λ m. Unit {0}) (opens.0 ++ moves ++ fates.0) (last ∷ []) second (settle-runs (Floats clients clients) _)).timely (begins (generated seed clients)) (nobody (generated seed clients).files fit)
+    (runs-both (HasOpened 0) (Floats clients clients) (λ m. Unit {0}) (opens.0 ++ moves ++ fates.0) (last ∷ []) second (settle-runs (Floats clients clients) _)).timely (run_begins (generated seed clients)) (nobody (generated seed clients).files fit)

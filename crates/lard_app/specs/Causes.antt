@@ -14,7 +14,7 @@ use Rattle.lard_client.specs.Control.{ClientBlock, written_len}
 use Rattle.lard_rules.specs.declared.fault.StepFault.{StepFault}
 use Rattle.lard_rules.specs.declared.machine.Machine.{Machine}
 use Rattle.lard_counts.specs.Stores.{jobs}
-use Rattle.lard_files.specs.Files.{file_at, total}
+use Rattle.lard_files.specs.Files.{file_at, files_total}
 use Rattle.lard_files.specs.declared.fault.FileFault.{FileFault}
 use Rattle.lard_files.specs.declared.fault.FileFault.TheVariants as file_fault
 use Rattle.lard_history.specs.Journal.{answered_bytes, is_lost, numbers_of, packet_bytes, request, sent_count}
@@ -36,22 +36,22 @@ use Rattle.lard_app.specs.declared.status.Status.{Status}
 use Rattle.lard_app.specs.declared.status.Status.TheVariants.{Done, Refused, Limit}
 use Rattle.lard_app.specs.declared.status.Why.{Why}
 use Rattle.lard_app.specs.declared.status.Why.TheVariants as why
-use Rattle.lard_app.specs.Replay.{Progress, begin, passed}
+use Rattle.lard_app.specs.Replay.{Progress, begin, line_passed}
 
 -- ---- lines
 
 -- the bytes of lines, with their line feeds
-abbrev pub bytes_in : List (List ℕ) → ℕ
-bytes_in [] = 0
-bytes_in (line ∷ lines) = (length line + 1) + bytes_in lines
+abbrev pub lines_bytes : List (List ℕ) → ℕ
+lines_bytes [] = 0
+lines_bytes (line ∷ lines) = (length line + 1) + lines_bytes lines
 
 -- The line spells the item, the item may stand behind the lines before, and it is in range.
-abbrev pub Stands : Progress → List ℕ → Item → Type 0
-Stands s line x = IsLineOf line x × MayStand s.reader x × HasRange x
+abbrev pub StandsThere : Progress → List ℕ → Item → Type 0
+StandsThere s line x = IsLineOf line x × MayStand s.reader x × HasRange x
 
 -- it is an event, which is tried
 abbrev pub Tries : Progress → List ℕ → Event → Type 0
-Tries s line e = Stands s line (item.Event e)
+Tries s line e = StandsThere s line (item.Event e)
 
 -- ---- why an item is refused
 
@@ -159,9 +159,9 @@ StopsIn m rounds n f = event_step m (event.Settle rounds) ≡ Err (n, f)
 
 -- A limit was reached before the step, or the event would pass that on what a client writes. Of a settle it is the step that was not
 -- done: its event, or one inside.
-abbrev pub Reaches : Machine → Event → What → Type 0
-Reaches m (event.Settle rounds) w = (n : Machine) × (f : StepFault) × StopsIn m rounds n f × HasReached n.journal w
-Reaches m e w = HasReached m.journal w ⊎ (IsWithinLimits m.journal × (w ≡ what.Stream) × WritesTooMuch m.config.stream m.journal e)
+abbrev pub ReachesLimit : Machine → Event → What → Type 0
+ReachesLimit m (event.Settle rounds) w = (n : Machine) × (f : StepFault) × StopsIn m rounds n f × HasReached n.journal w
+ReachesLimit m e w = HasReached m.journal w ⊎ (IsWithinLimits m.journal × (w ≡ what.Stream) × WritesTooMuch m.config.stream m.journal e)
 
 -- The event may not come now. A settle always may, and its inner steps are refused for no other cause than a limit.
 abbrev pub MayNotCome : Machine → Event → Refusal → Type 0
@@ -181,26 +181,26 @@ MayNotAdd there count sum len file_fault.NoMemory = ⊥
 
 -- it is a file that may not be added to those before, for this reason
 abbrev pub AddsNone : Progress → List ℕ → FileFault → Type 0
-AddsNone s line fault = (path : List ℕ) × (bytes : List ℕ) × Stands s line (item.File path bytes) × MayNotAdd (file_at s.files path) (length s.files) (total s.files) (length bytes) fault
+AddsNone s line fault = (path : List ℕ) × (bytes : List ℕ) × StandsThere s line (item.File path bytes) × MayNotAdd (file_at s.files path) (length s.files) (files_total s.files) (length bytes) fault
 
 -- ---- causes
 
 -- why a line is refused in its place
-abbrev pub Refuses : Progress → List ℕ → Why → Type 0
-Refuses s line why.Syntax = (x : Item) → ¬ (Stands s line x)
-Refuses s line (why.Config fault) = (x : Item) × Stands s line x × IsUnfit s.config x fault
-Refuses s line (why.File fault) = AddsNone s line fault
-Refuses s line (why.Untimely reason) = (e : Event) × Tries s line e × MayNotCome s.machine e reason
-Refuses s line why.NoFile = ⊥
-Refuses s line (why.NotOpen number) = ⊥
-Refuses s line (why.Broken rule) = ⊥
+abbrev pub RefusesLine : Progress → List ℕ → Why → Type 0
+RefusesLine s line why.Syntax = (x : Item) → ¬ (StandsThere s line x)
+RefusesLine s line (why.Config fault) = (x : Item) × StandsThere s line x × IsUnfit s.config x fault
+RefusesLine s line (why.File fault) = AddsNone s line fault
+RefusesLine s line (why.Untimely reason) = (e : Event) × Tries s line e × MayNotCome s.machine e reason
+RefusesLine s line why.NoFile = ⊥
+RefusesLine s line (why.NotOpen number) = ⊥
+RefusesLine s line (why.Broken rule) = ⊥
 
 -- how a line ends the run, after n lines of so many bytes: it holds the byte after the limit, or it is refused, or a
 -- limit is reached
 abbrev pub EndsLine : Progress → ℕ → ℕ → List ℕ → Status → Type 0
 EndsLine s n bytes line (Limit number what.Input) = (number ≡ n + 1) × (2 ^ 26 < bytes + (length line + 1))
-EndsLine s n bytes line (Limit number w) = (number ≡ n + 1) × (bytes + (length line + 1) ≤ 2 ^ 26) × ((e : Event) × Tries s line e × Reaches s.machine e w)
-EndsLine s n bytes line (Refused number cause) = (number ≡ n + 1) × (bytes + (length line + 1) ≤ 2 ^ 26) × Refuses s line cause
+EndsLine s n bytes line (Limit number w) = (number ≡ n + 1) × (bytes + (length line + 1) ≤ 2 ^ 26) × ((e : Event) × Tries s line e × ReachesLimit s.machine e w)
+EndsLine s n bytes line (Refused number cause) = (number ≡ n + 1) × (bytes + (length line + 1) ≤ 2 ^ 26) × RefusesLine s line cause
 EndsLine s n bytes line _ = ⊥
 
 -- how the text behind the line feed of the last line ends it: it is to be empty, and `go` is to have passed
@@ -213,7 +213,7 @@ EndsText s n bytes last _ = ⊥
 -- the lines pass, one after another, and lead from one state to another
 abbrev pub Leads : Progress → List (List ℕ) → Progress → Type 0
 Leads s [] t = s ≡ t
-Leads s (line ∷ lines) t = (u : Progress) × (passed s line ≡ Ok u) × Leads u lines t
+Leads s (line ∷ lines) t = (u : Progress) × (line_passed s line ≡ Ok u) × Leads u lines t
 
 -- what is left behind the lines that passed ends the run
 abbrev pub EndsRest : Progress → ℕ → ℕ → List (List ℕ) → Status → Type 0
@@ -222,10 +222,10 @@ EndsRest s n bytes (last ∷ []) status = EndsText s n bytes last status
 EndsRest s n bytes (line ∷ next ∷ more) status = EndsLine s n bytes line status
 
 -- Some lines pass, and the next ends the run.
-pub record Ends (lines : List (List ℕ)) (status : Status) : Type 0 where
+pub record EndsRun (lines : List (List ℕ)) (status : Status) : Type 0 where
   pub before : List (List ℕ)
   pub rest : List (List ℕ)
   pub are : lines ≡ before ++ rest
   pub state : Progress
   pub leads : Leads begin before state
-  pub ends : EndsRest state (length before) (bytes_in before) rest status
+  pub ends : EndsRest state (length before) (lines_bytes before) rest status

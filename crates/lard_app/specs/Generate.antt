@@ -6,7 +6,7 @@ use Rattle.lard_base.specs.Outside.{WrotePrefix}
 use Rattle.lard_base.specs.declared.config.Config.{Config}
 use Rattle.lard_base.specs.declared.config.Key.TheVariants.{Nodes}
 use Rattle.lard_base.specs.declared.event.Event.{Event}
-use Rattle.lard_rules.specs.Machine.{start}
+use Rattle.lard_rules.specs.Machine.{machine_start}
 use Rattle.lard_rules.specs.declared.fault.StepFault.{StepFault}
 use Rattle.lard_rules.specs.declared.fault.StepFault.TheVariants as fault
 use Rattle.lard_rules.specs.declared.machine.Machine.{Machine}
@@ -16,12 +16,12 @@ use Rattle.lard_generate.specs.declared.schedule.Schedule.{Schedule}
 use Rattle.lard_generate_answers.specs.Counted.{CountsAllAnswers}
 use Rattle.lard_journal.specs.declared.rec.Rec.{Rec}
 use Rattle.lard_journal.specs.declared.rec.Rec.TheVariants as rec
-use Rattle.lard_settling.specs.Events.{Goes, event_step}
+use Rattle.lard_settling.specs.Events.{GoesThrough, event_step}
 use Rattle.lard_settling.specs.Settling.{Stop}
 use Rattle.lard_summary.specs.Lines.{summary}
 use Rattle.lard_app.specs.declared.status.Status.{Status}
 use Rattle.lard_app.specs.declared.status.Status.TheVariants.{Done, Usage, Refused, ReadFault, WriteFault, NoMemory, Limit}
-use Rattle.lard_app.specs.Causes.{Reaches}
+use Rattle.lard_app.specs.Causes.{ReachesLimit}
 use Rattle.lard_app.specs.Happened.{Happened}
 use Rattle.lard_app.specs.Replay.{ended_by}
 
@@ -41,18 +41,18 @@ first_line = 260
 abbrev pub large : Config
 large = set_key standard Nodes 64
 
-abbrev pub begins : Schedule → Machine
-begins schedule = start large schedule.files
+abbrev pub run_begins : Schedule → Machine
+run_begins schedule = machine_start large schedule.files
 
 -- the generated run of a seed and of so many clients: the machine in the end, and how it ends
 unfoldable pub run_of : ℕ → ℕ → Machine × Status
-run_of seed clients = let schedule = generated seed clients in played first_line (begins schedule) schedule.events
+run_of seed clients = let schedule = generated seed clients in played first_line (run_begins schedule) schedule.events
 
 -- ---- why it ends
 
 -- An event on this line ends it: a limit was reached before it, or before a step inside it where it is a settle. None is refused.
 abbrev pub EndsEvent : Machine → ℕ → Event → Status → Type 0
-EndsEvent m line e (Limit number w) = (number ≡ line) × Reaches m e w
+EndsEvent m line e (Limit number w) = (number ≡ line) × ReachesLimit m e w
 EndsEvent m line e _ = ⊥
 
 -- nothing is left, or the next event ends it
@@ -66,7 +66,7 @@ pub record EndsPlay (m : Machine) (line : ℕ) (events : List Event) (status : S
   pub rest : List Event
   pub are : events ≡ before ++ rest
   pub state : Machine
-  pub goes : Goes m before state
+  pub goes : GoesThrough m before state
   pub ends : EndsLeft state (line + length before) rest status
 
 -- ---- what is printed
@@ -108,7 +108,7 @@ pub record Generated (seed clients : ℕ) (status : Status) (old new : Option (L
   -- where the run is done, R is how many responses there are to all that its clients are to write, and B how many bytes these have
   pub answers : (run_of seed clients).1 ≡ Done → CountsAllAnswers (file_at (generated seed clients).files) (generated seed clients).events clients journal
   -- the run ends with a status exactly where an event, or that none is left, gives its cause
-  pub causes : (other : Status) → ((run_of seed clients).1 ≡ other) ↔ EndsPlay (begins (generated seed clients)) first_line (generated seed clients).events other
+  pub causes : (other : Status) → ((run_of seed clients).1 ≡ other) ↔ EndsPlay (run_begins (generated seed clients)) first_line (generated seed clients).events other
 
 -- ---- what calls do
 
@@ -127,9 +127,9 @@ Plays given n (Err (Refused line why)) = given ≡ (n, Refused line why)
 Plays given n (Err _) = ⊥
 
 -- a call gave what was made of the machine in the end, where the run is done; else how the run ended
-abbrev pub Gives : {X : Type 0} → Machine × Status → (Machine → X) → Result X Status → Type 0
-Gives given part (Ok x) = (given.1 ≡ Done) × (x ≡ part given.0)
-Gives given part (Err NoMemory) = Unit {0}
-Gives given part (Err (Limit line what)) = given.1 ≡ Limit line what
-Gives given part (Err (Refused line why)) = given.1 ≡ Refused line why
-Gives given part (Err _) = ⊥
+abbrev pub GivesRun : {X : Type 0} → Machine × Status → (Machine → X) → Result X Status → Type 0
+GivesRun given part (Ok x) = (given.1 ≡ Done) × (x ≡ part given.0)
+GivesRun given part (Err NoMemory) = Unit {0}
+GivesRun given part (Err (Limit line what)) = given.1 ≡ Limit line what
+GivesRun given part (Err (Refused line why)) = given.1 ≡ Refused line why
+GivesRun given part (Err _) = ⊥

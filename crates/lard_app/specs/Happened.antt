@@ -4,7 +4,7 @@ use Rattle.std.specs.Prelude.{◌≡◌, ℕ, ◌+◌, if◌then◌else◌, List
 use Rattle.std.specs.List.{flat_map}
 use Rattle.lard_base.specs.declared.config.Config.{Config}
 use Rattle.lard_base.specs.declared.event.Event.{Event}
-use Rattle.lard_rules.specs.Machine.{start}
+use Rattle.lard_rules.specs.Machine.{machine_start}
 use Rattle.lard_rules.specs.declared.machine.Machine.{Machine}
 use Rattle.lard_settle.specs.Lawful.{IsLawful}
 use Rattle.lard_laws.specs.RecordsMessages.{MayTalk}
@@ -12,7 +12,7 @@ use Rattle.lard_files.specs.Files.{file_at}
 use Rattle.lard_history.specs.Laws.{EachMay, Follows}
 use Rattle.lard_journal.specs.declared.rec.Rec.{Rec}
 use Rattle.lard_journal.specs.declared.rec.Rec.TheVariants as rec
-use Rattle.lard_settle.specs.Enough.{MayLeave}
+use Rattle.lard_settle.specs.Enough.{MayLeaveUnsettled}
 use Rattle.lard_law_settles.specs.Done.{MaySettle}
 use Rattle.lard_law_settles.specs.DoneSame.{TellsTheSame}
 use Rattle.lard_law_settles.specs.Rounds.{SettlesTakeRounds}
@@ -54,7 +54,7 @@ numbered_from i (e ∷ es) = (i, e) ∷ numbered_from (i + 1) es
 pub record Happened (config : Config) (files : List (List ℕ × List ℕ)) (events : List Event) (journal : List Rec) : Type 0 where
   -- The journal is the machine's, after these events, and has a record of each, by number. With its settles written out it is the steps
   -- of the events that are no settles, and of those inside settles.
-  pub machine : (m : Machine) × LeadsTo (start config files) events m × (m.journal ≡ journal)
+  pub machine : (m : Machine) × LeadsTo (machine_start config files) events m × (m.journal ≡ journal)
   pub numbered : events_told journal ≡ numbered_from 1 events
   pub follows : Follows 1 (steps_told journal) (written_out journal)
   -- The settles stand in order: between the event of one and the record that closes it stand its inner steps and what was told in them,
@@ -65,7 +65,7 @@ pub record Happened (config : Config) (files : List (List ℕ × List ℕ)) (eve
   pub rounds : SettlesTakeRounds config.nodes [] journal
   -- A settle leaves something only where a packet was put on the way in a client's name, or a client wrote 16,383 bytes or more, or where
   -- it did fewer rounds than the bound of the journal.
-  pub enough : EachMay (MayLeave (file_at files)) [] journal
+  pub enough : EachMay (MayLeaveUnsettled (file_at files)) [] journal
   -- Where a settle tells that nothing is left, each connection that opened is quiet but for timers that are stalled, and complete, or in the
   -- line at a full room, unless its client aborted it, the stream limit reset it, or the schedule touched it.
   pub done : EachMay (MaySettle config (file_at files)) [] journal

@@ -26,7 +26,7 @@ use Rattle.lard_schedule.specs.declared.item.Item.TheVariants as item
 use Rattle.lard_schedule.specs.declared.reader.Reader.{Reader}
 use Rattle.lard_schedule.specs.declared.reader.Stage.{Stage}
 use Rattle.lard_schedule.specs.declared.reader.Stage.TheVariants.{Start, Settings, Files, Running}
-use Rattle.lard_schedule.specs.Reader.{after, item_of}
+use Rattle.lard_schedule.specs.Reader.{reader_after, item_of}
 use Rattle.lard_schedule.specs.Reader as reader
 use Rattle.lard_settling.specs.Events.{event_step}
 use Rattle.lard_settling.specs.Settling.{Stop}
@@ -47,7 +47,7 @@ pub record Progress : Type 0 where
 
 -- before the first line
 abbrev pub begin : Progress
-begin = record { reader = reader.start; config = standard; files = []; listed = []; lines = 0; read = 0; machine = machine.start standard [] }
+begin = record { reader = reader.reader_start; config = standard; files = []; listed = []; lines = 0; read = 0; machine = machine.machine_start standard [] }
 
 -- ---- what an item does, on the line that was counted last
 
@@ -70,9 +70,9 @@ filed s path bytes (Ok _) = Ok (record s { files = s.files ++ (path, bytes) ∷ 
 filed s path bytes (Err fault) = Err (file_ends s.lines fault)
 
 -- the machine begins with the files, if the configuration can be used
-abbrev pub begun : Progress → Result (Unit {0}) ConfigFault → Result Progress Status
-begun s (Ok _) = Ok (record s { files = []; listed = []; machine = machine.start s.config s.files })
-begun s (Err fault) = Err (Refused s.lines (why.Config fault))
+abbrev pub replay_begun : Progress → Result (Unit {0}) ConfigFault → Result Progress Status
+replay_begun s (Ok _) = Ok (record s { files = []; listed = []; machine = machine.machine_start s.config s.files })
+replay_begun s (Err fault) = Err (Refused s.lines (why.Config fault))
 
 -- how a fault of a step ends the run at a line
 abbrev pub ended_by : ℕ → StepFault → Status
@@ -81,54 +81,54 @@ ended_by line (fault.Limit what) = Limit line what
 ended_by line fault.NoMemory = NoMemory
 
 -- a step or a settle is done, or it ends the run
-abbrev pub moved : Progress → Result Machine Stop → Result Progress Status
-moved s (Ok m) = Ok (record s { machine = m })
-moved s (Err stop) = Err (ended_by s.lines stop.1)
+abbrev pub replay_moved : Progress → Result Machine Stop → Result Progress Status
+replay_moved s (Ok m) = Ok (record s { machine = m })
+replay_moved s (Err stop) = Err (ended_by s.lines stop.1)
 
-abbrev pub taken : Progress → Item → Result Progress Status
-taken s item.Header = Ok s
-taken s (item.Set key value) = config_set s key value (range_check key value)
-taken s (item.File path bytes) = filed s path bytes (add_check s.files path (length bytes))
-taken s item.Go = begun s (config_check s.config)
-taken s (item.Event e) = moved s (event_step s.machine e)
+abbrev pub taken_item : Progress → Item → Result Progress Status
+taken_item s item.Header = Ok s
+taken_item s (item.Set key value) = config_set s key value (range_check key value)
+taken_item s (item.File path bytes) = filed s path bytes (add_check s.files path (length bytes))
+taken_item s item.Go = replay_begun s (config_check s.config)
+taken_item s (item.Event e) = replay_moved s (event_step s.machine e)
 
 -- ---- what a line does
 
-abbrev pub found : Option Item → Result Item Why
-found None = Err why.Syntax
-found (Some x) = Ok x
+abbrev pub item_found : Option Item → Result Item Why
+item_found None = Err why.Syntax
+item_found (Some x) = Ok x
 
 -- what a line stands for in its place
 abbrev pub judged : Reader → List ℕ → Result Item Why
-judged r line = found (item_of r line)
+judged r line = item_found (item_of r line)
 
 -- the line and its line feed are read
-abbrev pub counted : Progress → List ℕ → Progress
-counted s line = record s { lines = s.lines + 1; read = s.read + length line + 1 }
+abbrev pub line_counted : Progress → List ℕ → Progress
+line_counted s line = record s { lines = s.lines + 1; read = s.read + length line + 1 }
 
 abbrev pub followed : Progress → Item → Progress
-followed s x = record s { reader = after s.reader x }
+followed s x = record s { reader = reader_after s.reader x }
 
 abbrev pub item_taken : Progress → Result Item Why → Result Progress Status
 item_taken s (Err why) = Err (Refused s.lines why)
-item_taken s (Ok x) = taken (followed s x) x
+item_taken s (Ok x) = taken_item (followed s x) x
 
 -- a line that goes past the limit is not read as anything
 abbrev pub is_past : Progress → List ℕ → Bool
 is_past s line = nat_lt MAX_INPUT_BYTES (s.read + length line + 1)
 
 -- what a line leads to: it is passed, or it ends the run
-unfoldable pub passed : Progress → List ℕ → Result Progress Status
-passed s line =
+unfoldable pub line_passed : Progress → List ℕ → Result Progress Status
+line_passed s line =
     if is_past s line then Err (Limit (s.lines + 1) Input)
-    else item_taken (counted s line) (judged s.reader line)
+    else item_taken (line_counted s line) (judged s.reader line)
 
 -- ---- how far a line comes that ends the run
 
 -- how far an event came: to its end, or to the step that was not done
-abbrev pub came : Result Machine Stop → Machine
-came (Ok m) = m
-came (Err stop) = stop.0
+abbrev pub came_to : Result Machine Stop → Machine
+came_to (Ok m) = m
+came_to (Err stop) = stop.0
 
 -- the machine behind what a line stands for, where that is an event
 abbrev pub machine_behind : Machine → Result Item Why → Machine
@@ -137,7 +137,7 @@ machine_behind m (Ok item.Header) = m
 machine_behind m (Ok (item.Set key value)) = m
 machine_behind m (Ok (item.File path bytes)) = m
 machine_behind m (Ok item.Go) = m
-machine_behind m (Ok (item.Event e)) = came (event_step m e)
+machine_behind m (Ok (item.Event e)) = came_to (event_step m e)
 
 -- A line that ends the run leaves the state before it, but for the machine: in a settle that had begun it has come further.
 unfoldable pub halted : Progress → List ℕ → Progress
@@ -146,15 +146,15 @@ halted s line = if is_past s line then s else record s { machine = machine_behin
 -- ---- how a text ends
 
 -- nothing comes after the last line feed: the schedule is whole where `go` has passed
-abbrev pub ended_at : ℕ → Stage → Status
-ended_at lines Running = Done
-ended_at lines Start = Refused (lines + 1) why.Syntax
-ended_at lines Settings = Refused (lines + 1) why.Syntax
-ended_at lines Files = Refused (lines + 1) why.Syntax
+abbrev pub ended_behind : ℕ → Stage → Status
+ended_behind lines Running = Done
+ended_behind lines Start = Refused (lines + 1) why.Syntax
+ended_behind lines Settings = Refused (lines + 1) why.Syntax
+ended_behind lines Files = Refused (lines + 1) why.Syntax
 
 -- what comes after the last line feed: nothing, or a line without its end
 abbrev pub ending : Progress → List ℕ → Status
-ending s [] = ended_at s.lines s.reader.stage
+ending s [] = ended_behind s.lines s.reader.stage
 ending s (b ∷ bs) = if nat_lt MAX_INPUT_BYTES (s.read + length (b ∷ bs)) then Limit (s.lines + 1) Input else Refused (s.lines + 1) why.Syntax
 
 -- ---- the whole text
@@ -163,7 +163,7 @@ ending s (b ∷ bs) = if nat_lt MAX_INPUT_BYTES (s.read + length (b ∷ bs)) the
 abbrev pub replayed : Progress → List (List ℕ) → Progress × Status
 replayed s [] = (s, Done)
 replayed s (last ∷ []) = (s, ending s last)
-replayed s (line ∷ next ∷ more) = elim (passed s line) [ Err status ↦ (halted s line, status) | Ok t ↦ replayed t (next ∷ more) ]
+replayed s (line ∷ next ∷ more) = elim (line_passed s line) [ Err status ↦ (halted s line, status) | Ok t ↦ replayed t (next ∷ more) ]
 
 -- the event of a line, where it stands for one
 abbrev pub event_listed : Result Item Why → List Event
@@ -182,7 +182,7 @@ begun_by s line = if nat_lt (length s.machine.journal) (length (halted s line).m
 abbrev pub events_from : Progress → List (List ℕ) → List Event
 events_from s [] = []
 events_from s (last ∷ []) = []
-events_from s (line ∷ next ∷ more) = elim (passed s line) [ Err status ↦ begun_by s line | Ok t ↦ event_listed (judged s.reader line) ++ events_from t (next ∷ more) ]
+events_from s (line ∷ next ∷ more) = elim (line_passed s line) [ Err status ↦ begun_by s line | Ok t ↦ event_listed (judged s.reader line) ++ events_from t (next ∷ more) ]
 
 -- the events that happened by a text
 unfoldable pub events_of : List ℕ → List Event
@@ -209,14 +209,14 @@ journal_of text = (machine_of text).journal
 -- ---- the report
 
 -- each file with its length
-abbrev pub sizes : List (List ℕ × List ℕ) → List (List ℕ × ℕ)
-sizes files = map (λ f. (f.0, length f.1)) files
+abbrev pub file_sizes : List (List ℕ × List ℕ) → List (List ℕ × ℕ)
+file_sizes files = map (λ f. (f.0, length f.1)) files
 
 abbrev pub report_at : Stage → Machine → List ℕ
 report_at Start m = []
 report_at Settings m = []
 report_at Files m = []
-report_at Running m = report m.config (sizes m.files) m.journal
+report_at Running m = report m.config (file_sizes m.files) m.journal
 
 -- what is written of a replay: nothing before `go` has passed, then the report of the machine's journal
 abbrev pub report_of : Progress → List ℕ
@@ -235,7 +235,7 @@ item_gain s item.Header = []
 item_gain s (item.Set key value) = []
 item_gain s (item.File path bytes) = []
 item_gain s item.Go = go_gain s (config_check s.config)
-item_gain s (item.Event e) = event_gain s.machine (came (event_step s.machine e))
+item_gain s (item.Event e) = event_gain s.machine (came_to (event_step s.machine e))
 
 abbrev pub judged_gain : Progress → Result Item Why → List ℕ
 judged_gain s (Err why) = []
@@ -243,12 +243,12 @@ judged_gain s (Ok x) = item_gain (followed s x) x
 
 -- what the report gains by a line
 unfoldable pub gain : Progress → List ℕ → List ℕ
-gain s line = if is_past s line then [] else judged_gain (counted s line) (judged s.reader line)
+gain s line = if is_past s line then [] else judged_gain (line_counted s line) (judged s.reader line)
 
 -- ---- what a line's call relies on, and does
 
 -- there are no more lines than bytes, and no more bytes than an input may have
-pub record IsSound (s : Progress) : Type 0 where
+pub record IsProgressSound (s : Progress) : Type 0 where
   pub lines : s.lines ≤ s.read
   pub read : s.read ≤ MAX_INPUT_BYTES
 
@@ -271,12 +271,12 @@ CountsFault before now (Err status) = EndsCount before now status
 
 -- What a call did that passed a line: the state and the text are those that the rules give, or the line ended the
 -- run, and all that it gave was written; a write that failed and running out of memory leave a prefix of the text.
-abbrev pub Passes : Result Progress Status → List ℕ → Option (List ℕ) → Option (List ℕ) → Progress → Result (Unit {0}) Status → Type 0
-Passes given text old new t (Ok _) = (given ≡ Ok t) × Appends old new text
-Passes given text old new t (Err WriteFault) = WrotePrefix old new text
-Passes given text old new t (Err NoMemory) = WrotePrefix old new text
-Passes given text old new t (Err (Refused line why)) = (given ≡ Err (Refused line why)) × Appends old new text
-Passes given text old new t (Err (Limit line what)) = (given ≡ Err (Limit line what)) × Appends old new text
-Passes given text old new t (Err Done) = ⊥
-Passes given text old new t (Err Usage) = ⊥
-Passes given text old new t (Err ReadFault) = ⊥
+abbrev pub PassesLine : Result Progress Status → List ℕ → Option (List ℕ) → Option (List ℕ) → Progress → Result (Unit {0}) Status → Type 0
+PassesLine given text old new t (Ok _) = (given ≡ Ok t) × Appends old new text
+PassesLine given text old new t (Err WriteFault) = WrotePrefix old new text
+PassesLine given text old new t (Err NoMemory) = WrotePrefix old new text
+PassesLine given text old new t (Err (Refused line why)) = (given ≡ Err (Refused line why)) × Appends old new text
+PassesLine given text old new t (Err (Limit line what)) = (given ≡ Err (Limit line what)) × Appends old new text
+PassesLine given text old new t (Err Done) = ⊥
+PassesLine given text old new t (Err Usage) = ⊥
+PassesLine given text old new t (Err ReadFault) = ⊥

@@ -9,22 +9,22 @@ use Rattle.lard_grammar.specs.Schedule.{IsSchedule, text_of}
 use Rattle.lard_journal.specs.declared.rec.Rec.{Rec}
 use Rattle.lard_lines.specs.Lines.{lines_of}
 use Rattle.lard_schedule.specs.declared.reader.Stage.TheVariants.{Running}
-use Rattle.lard_app.specs.Causes.{Ends, Leads}
+use Rattle.lard_app.specs.Causes.{EndsRun, Leads}
 use Rattle.lard_app.specs.Happened.{Happened}
 use Rattle.lard_app.specs.declared.status.Status.{Status}
 use Rattle.lard_app.specs.declared.status.Status.TheVariants.{Done, Usage, Refused, ReadFault, WriteFault, NoMemory, Limit}
-use Rattle.lard_app.specs.Replay.{Progress, begin, begun_by, config_of, events_of, files_of, gain, halted, journal_of, passed, report_of, sizes, whole}
+use Rattle.lard_app.specs.Replay.{Progress, begin, begun_by, config_of, events_of, files_of, gain, halted, journal_of, line_passed, report_of, file_sizes, whole}
 
 -- ---- how a run ends over the text that it read
 
 -- the status is that of the whole text, and the whole report of its replay was written
-pub record Completes (status : Status) (text : List ℕ) (old new : Option (List ℕ)) : Type 0 where
+pub record CompletesText (status : Status) (text : List ℕ) (old new : Option (List ℕ)) : Type 0 where
   pub status_is : (whole text).1 ≡ status
   pub written : Appends old new (report_of (whole text).0)
 
 -- the text is the whole input, or whatever follows it, its replay is the same
-abbrev pub IsDecided : List ℕ → Option (List ℕ) → Type 0
-IsDecided text left = IsAtEnd left ⊎ ((more : List ℕ) → whole (text ++ more) ≡ whole text)
+abbrev pub DecidesReplay : List ℕ → Option (List ℕ) → Type 0
+DecidesReplay text left = IsAtEnd left ⊎ ((more : List ℕ) → whole (text ++ more) ≡ whole text)
 
 -- each line of the text that has its line feed was passed
 abbrev pub HasPassed : List ℕ → Type 0
@@ -53,27 +53,27 @@ pub record EndsBehindLines (text : List ℕ) (old new : Option (List ℕ)) : Typ
 -- A fault of reading comes behind lines that were all passed, and leaves their report. A fault of writing comes in a line, and memory runs
 -- out in a line or behind one: the text is the lines that were taken by then.
 abbrev pub Ended : Status → List ℕ → Option (List ℕ) → Option (List ℕ) → Option (List ℕ) → Type 0
-Ended Done text left old new = IsAtEnd left × (length text ≤ MAX_INPUT_BYTES) × Completes Done text old new
-Ended (Refused line why) text left old new = IsDecided text left × Completes (Refused line why) text old new
-Ended (Limit line what) text left old new = IsDecided text left × Completes (Limit line what) text old new
+Ended Done text left old new = IsAtEnd left × (length text ≤ MAX_INPUT_BYTES) × CompletesText Done text old new
+Ended (Refused line why) text left old new = DecidesReplay text left × CompletesText (Refused line why) text old new
+Ended (Limit line what) text left old new = DecidesReplay text left × CompletesText (Limit line what) text old new
 Ended ReadFault text left old new = (length text ≤ MAX_INPUT_BYTES) × HasPassed text × Appends old new (report_of (whole text).0)
 Ended WriteFault text left old new = EndsInLine text old new
 Ended NoMemory text left old new = EndsInLine text old new ⊎ EndsBehindLines text old new
 Ended Usage text left old new = ⊥
 
 -- The run tells of all that was read; or, where a write failed or memory ran out, of a front of it.
-abbrev pub IsTold : Status → List ℕ → List ℕ → Type 0
-IsTold WriteFault read text = (behind : List ℕ) × (read ≡ text ++ behind)
-IsTold NoMemory read text = (behind : List ℕ) × (read ≡ text ++ behind)
-IsTold _ read text = read ≡ text
+abbrev pub TellsOfRead : Status → List ℕ → List ℕ → Type 0
+TellsOfRead WriteFault read text = (behind : List ℕ) × (read ≡ text ++ behind)
+TellsOfRead NoMemory read text = (behind : List ℕ) × (read ≡ text ++ behind)
+TellsOfRead _ read text = read ≡ text
 
 -- what was read, the text of it that the run tells of, and how the run ended over that
-pub record Reads (status : Status) (left left_now old new : Option (List ℕ)) : Type 0 where
+pub record ReadsInput (status : Status) (left left_now old new : Option (List ℕ)) : Type 0 where
   pub read : List ℕ
   pub consumed : Consumes left left_now read
   pub bounded : length read ≤ MAX_INPUT_BYTES + 1
   pub text : List ℕ
-  pub told : IsTold status read text
+  pub told : TellsOfRead status read text
   pub wrote : WrotePrefix old new (report_of (whole text).0)
   pub ended : Ended status text left_now old new
 
@@ -83,7 +83,7 @@ pub record Reads (status : Status) (left left_now old new : Option (List ℕ)) :
 -- happened of its event is the last
 abbrev pub EndsBehind : Progress → List (List ℕ) → Progress → List Event → Type 0
 EndsBehind s rest t last =
-    ((t ≡ s) × (last ≡ [])) ⊎ ((line : List ℕ) × (more : List (List ℕ)) × (status : Status) × (rest ≡ line ∷ more) × (passed s line ≡ Err status) × (t ≡ halted s line) × (last ≡ begun_by s line))
+    ((t ≡ s) × (last ≡ [])) ⊎ ((line : List ℕ) × (more : List (List ℕ)) × (status : Status) × (rest ≡ line ∷ more) × (line_passed s line ≡ Err status) × (t ≡ halted s line) × (last ≡ begun_by s line))
 
 -- The lines of a text that are passed are a front of it. Where `go` is among them they are a schedule, which stands for
 -- this configuration, these files and these events, but for a last one in which the run ended; and where the replay is done, they are
@@ -115,11 +115,11 @@ pub record Ran (status : Status) (left left_now old new : Option (List ℕ)) : T
   -- All of them are the text; or, where a write failed or memory ran out, the lines that were taken by then. Of its report a front was
   -- written, and which one the status says.
   pub text : List ℕ
-  pub told : IsTold status read text
+  pub told : TellsOfRead status read text
   pub wrote : WrotePrefix old new (report_of (whole text).0)
   pub ended : Ended status text left_now old new
   -- the text's replay ends with a status exactly where a line, or the text's end, gives its cause
-  pub causes : (other : Status) → ((whole text).1 ≡ other) ↔ Ends (lines_of text) other
+  pub causes : (other : Status) → ((whole text).1 ≡ other) ↔ EndsRun (lines_of text) other
   -- what its lines that were passed stand for, with a settle in which its replay ends, and the journal of the replay
   pub config : Config
   pub files : List (List ℕ × List ℕ)
@@ -132,7 +132,7 @@ pub record Ran (status : Status) (left left_now old new : Option (List ℕ)) : T
   -- The report tells all of this: a text with the same report has the same configuration, files with the same paths and lengths, and
   -- the same journal.
   pub tells_all : (also : List ℕ) → report_of (whole text).0 ≡ report_of (whole also).0
-      → (config ≡ config_of also) × (sizes files ≡ sizes (files_of also)) × (journal ≡ journal_of also)
+      → (config ≡ config_of also) × (file_sizes files ≡ file_sizes (files_of also)) × (journal ≡ journal_of also)
 
 -- the status is that of a known input, unless memory ran out
 abbrev pub IsSettled : Status → Option (List ℕ) → Type 0

@@ -9,10 +9,10 @@ use Rattle.lard_settling.specs.Settling.{Stop}
 use Rattle.lard_app.specs.declared.replay.Replay.{Replay}
 use Rattle.lard_app.specs.declared.status.Status.{Status}
 use Rattle.lard_app.specs.declared.status.Status.TheVariants.{NoMemory, Refused}
-use Rattle.lard_app.specs.Replay.{Passes, Progress, came, ended_by, event_gain, moved}
+use Rattle.lard_app.specs.Replay.{PassesLine, Progress, came_to, ended_by, event_gain, replay_moved}
 
-abbrev pub seen : Replay → Progress
-seen r = record { reader = r.reader; config = r.config; files = r.files; listed = r.listed.items; lines = r.lines; read = r.read; machine = r.world.machine }
+abbrev pub replay_seen : Replay → Progress
+replay_seen r = record { reader = r.reader; config = r.config; files = r.files; listed = r.listed.items; lines = r.lines; read = r.read; machine = r.world.machine }
 
 -- a call that writes nothing did what the rules give
 abbrev pub Sets : Result Progress Status → Progress → Result (Unit {0}) Status → Type 0
@@ -32,10 +32,10 @@ rounds_of (event.Settle rounds) = Some rounds
 rounds_of _ = None
 
 -- a call did what comes of an event, and wrote what it gave
-abbrev pub Does : Result Machine Stop → Progress → Option (List ℕ) → Option (List ℕ) → Progress → Result (Unit {0}) Status → Type 0
-Does given s old new t result = Passes (moved s given) (event_gain s.machine (came given)) old new t result
+abbrev pub DoesEvent : Result Machine Stop → Progress → Option (List ℕ) → Option (List ℕ) → Progress → Result (Unit {0}) Status → Type 0
+DoesEvent given s old new t result = PassesLine (replay_moved s given) (event_gain s.machine (came_to given)) old new t result
 
 -- A fault ends a settle at a line: what came was written, but where memory ran out.
-abbrev pub Stops : StepFault → ℕ → List ℕ → Option (List ℕ) → Option (List ℕ) → Status → Type 0
-Stops fault.NoMemory line text old new status = (status ≡ NoMemory) × (new ≡ old)
-Stops f line text old new status = (t : Progress) → Passes (Err (ended_by line f)) text old new t (Err status)
+abbrev pub StopsAtLine : StepFault → ℕ → List ℕ → Option (List ℕ) → Option (List ℕ) → Status → Type 0
+StopsAtLine fault.NoMemory line text old new status = (status ≡ NoMemory) × (new ≡ old)
+StopsAtLine f line text old new status = (t : Progress) → PassesLine (Err (ended_by line f)) text old new t (Err status)

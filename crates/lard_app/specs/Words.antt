@@ -29,20 +29,20 @@ abbrev pub AreAudit : List (List ℕ) → Type 0
 AreAudit words = words ≡ codes "audit" ∷ []
 
 -- the bytes of each word
-abbrev pub bytes_of : List (String Global) → List (List ℕ)
-bytes_of words = map string_bytes words
+abbrev pub words_bytes : List (String Global) → List (List ℕ)
+words_bytes words = map string_bytes words
 
 abbrev pub IsReplay : List (String Global) → Type 0
-IsReplay words = AreReplay (bytes_of words)
+IsReplay words = AreReplay (words_bytes words)
 
 abbrev pub IsGenerate : List (String Global) → ℕ → ℕ → Type 0
-IsGenerate words seed clients = AreGenerate (bytes_of words) seed clients
+IsGenerate words seed clients = AreGenerate (words_bytes words) seed clients
 
 abbrev pub IsLab : List (String Global) → Policy → Type 0
-IsLab words policy = AreLab (bytes_of words) policy
+IsLab words policy = AreLab (words_bytes words) policy
 
 abbrev pub IsAudit : List (String Global) → Type 0
-IsAudit words = AreAudit (bytes_of words)
+IsAudit words = AreAudit (words_bytes words)
 
 -- they ask for nothing that there is
 abbrev pub IsNone : List (String Global) → Type 0
@@ -58,8 +58,8 @@ IsOne words (Some (command.Generate seed clients)) = AreGenerate words seed clie
 IsOne words (Some (command.Lab policy)) = AreLab words policy
 IsOne words (Some command.Audit) = AreAudit words
 
-abbrev pub Asks : List (String Global) → Option Command → Type 0
-Asks words found = IsOne (bytes_of words) found
+abbrev pub AsksCommand : List (String Global) → Option Command → Type 0
+AsksCommand words found = IsOne (words_bytes words) found
 
 -- the policy that a word names, if it does
 abbrev pub IsPolicy : List ℕ → Option Policy → Type 0
@@ -67,11 +67,11 @@ IsPolicy word None = (policy : Policy) → ¬ (word ≡ policy_word policy)
 IsPolicy word (Some policy) = word ≡ policy_word policy
 
 -- the number below 2^64 that a word writes in decimal, if it does
-abbrev pub IsNumber : List ℕ → Option ℕ → Type 0
-IsNumber word None = (n : ℕ) → n < 2 ^ 64 → ¬ (word ≡ decimal n)
-IsNumber word (Some n) = (word ≡ decimal n) × (n < 2 ^ 64)
+abbrev pub WritesNumber : List ℕ → Option ℕ → Type 0
+WritesNumber word None = (n : ℕ) → n < 2 ^ 64 → ¬ (word ≡ decimal n)
+WritesNumber word (Some n) = (word ≡ decimal n) × (n < 2 ^ 64)
 
 -- the number of clients, 1 to 2,000, that a word writes in decimal, if it does
-abbrev pub IsCount : List ℕ → Option ℕ → Type 0
-IsCount word None = (n : ℕ) → 1 ≤ n → n ≤ 2000 → ¬ (word ≡ decimal n)
-IsCount word (Some n) = (word ≡ decimal n) × (1 ≤ n) × (n ≤ 2000)
+abbrev pub WritesCount : List ℕ → Option ℕ → Type 0
+WritesCount word None = (n : ℕ) → 1 ≤ n → n ≤ 2000 → ¬ (word ≡ decimal n)
+WritesCount word (Some n) = (word ≡ decimal n) × (1 ≤ n) × (n ≤ 2000)

@@ -7,8 +7,8 @@ ghost use Rattle.lard_base.specs.Causes.{Rose};
 ghost use Rattle.lard_app.specs.declared.status.Status.{Status};
 ghost use Rattle.lard_app.specs.Replay.{EndsCount, begin};
 ghost use Rattle.lard_app.specs.Generate.{Generated, run_of};
-ghost use Rattle.lard_app.specs.Run.{IsSettled, Ran, Reads};
-ghost use Rattle.lard_app.specs.Seen.{seen};
+ghost use Rattle.lard_app.specs.Run.{IsSettled, Ran, ReadsInput};
+ghost use Rattle.lard_app.specs.Seen.{replay_seen};
 ghost use Rattle.lard_app.specs.Words.{IsAudit, IsGenerate, IsLab, IsNone, IsReplay};
 ghost use Rattle.lard_app.specs.Audit.{Audits, IsAuditSettled};
 ghost use Rattle.lard_app.specs.Lab.{IsLabSettled, Labs};
@@ -76,7 +76,7 @@ pub fn run<S: Source, K: Sink>(
 
 /// Replays the input line by line.
 fn replay<S: Source, K: Sink>(alloc: Global, source: &mut S, sink: &mut K) -> Status
-    ensures reads { Reads result (S.left source.old) (S.left source.new) (K.written sink.old) (K.written sink.new) }
+    ensures reads { ReadsInput result (S.left source.old) (S.left source.new) (K.written sink.old) (K.written sink.new) }
     ensures read_fault { result ≡ Status.ReadFault → Rose (S.faults source.old) (S.faults source.new) }
     ensures no_read_fault { ¬ (result ≡ Status.ReadFault) → S.faults source.new ≡ S.faults source.old }
     ensures faults { EndsCount (K.faults sink.old) (K.faults sink.new) result }
@@ -102,11 +102,11 @@ fn replay_lines<S: Source, K: Sink>(
     source: &mut S,
     sink: &mut K,
 ) -> Status
-    requires begins { seen replay.old ≡ begin }
+    requires begins { replay_seen replay.old ≡ begin }
     requires usable { replay.old.world.spoiled ≡ false }
     requires agenda { IsAgendaOf replay.old.agenda replay.old.world.machine.journal }
     requires unread { lines.old ≡ record { rest = []; read = 0; most = MAX_INPUT_BYTES } }
-    ensures reads { Reads result (S.left source.old) (S.left source.new) (K.written sink.old) (K.written sink.new) }
+    ensures reads { ReadsInput result (S.left source.old) (S.left source.new) (K.written sink.old) (K.written sink.new) }
     ensures read_fault { result ≡ Status.ReadFault → Rose (S.faults source.old) (S.faults source.new) }
     ensures no_read_fault { ¬ (result ≡ Status.ReadFault) → S.faults source.new ≡ S.faults source.old }
     ensures faults { EndsCount (K.faults sink.old) (K.faults sink.new) result }

@@ -1,12 +1,12 @@
 //! The replay of a generated schedule, of which four lines are printed in place of a report.
 
 ghost use Rattle.std.specs.Prelude.{◌≡◌, ◌≤◌, ◌+◌, false, All};
-ghost use Rattle.lard_schedule.specs.Events.{IsInRange};
+ghost use Rattle.lard_schedule.specs.Events.{IsInLineRange};
 ghost use Rattle.lard_summary.specs.Lines.{summary};
-ghost use Rattle.lard_app.specs.Generate.{Generated, Gives, Plays, begins, first_line, large, played, run_of};
+ghost use Rattle.lard_app.specs.Generate.{Generated, GivesRun, Plays, run_begins, first_line, large, played, run_of};
 ghost use Rattle.lard_app.specs.Replay.{EndsCount};
 
-use crate::happening::{ended_by, happen};
+use crate::happening::{ended_by, settle_or_step};
 use crate::status::Status;
 use lard_agenda::Agenda;
 use lard_agenda::laws::agendas_go_on;
@@ -39,7 +39,7 @@ pub fn generate<K: Sink>(alloc: Global, sink: &mut K, seed: u64, clients: u32) -
 /// The four lines.
 fn four_lines(alloc: Global, seed: u64, clients: u32) -> Result<Bytes, Status>
     requires clients { (1 ≤ clients) × (clients ≤ 2000) }
-    ensures { Gives (run_of seed clients) (λ m. summary seed clients m.journal) result }
+    ensures { GivesRun (run_of seed clients) (λ m. summary seed clients m.journal) result }
 {
     let schedule = match lard_generate::generate(alloc, seed, clients) {
         Ok(schedule) => schedule,
@@ -57,8 +57,8 @@ fn four_lines(alloc: Global, seed: u64, clients: u32) -> Result<Bytes, Status>
 
 /// The journal of a schedule's replay.
 fn play(alloc: Global, schedule: Schedule) -> Result<Journal, Status>
-    requires range { All IsInRange schedule.events }
-    ensures { Gives (played first_line (begins schedule) schedule.events) (λ m. m.journal) result }
+    requires range { All IsInLineRange schedule.events }
+    ensures { GivesRun (played first_line (run_begins schedule) schedule.events) (λ m. m.journal) result }
 {
     let mut world = match World::new(alloc, large(), schedule.files) {
         Ok(world) => world,
@@ -84,14 +84,14 @@ fn large() -> Config
 /// Does the events one after another, as long as each is done.
 fn play_events(world: &mut World, alloc: Global, events: Events) -> Result<(), Status>
     requires usable { world.old.spoiled ≡ false }
-    requires range { All IsInRange events }
+    requires range { All IsInLineRange events }
     ensures { Plays (played first_line world.old.machine events) world.new.machine result }
 {
     agendas_go_on();
     let mut agenda = Agenda::new(alloc);
     let mut line = FIRST_LINE;
     for event in events.into_vec() {
-        match happen(world, &mut agenda, alloc, event) {
+        match settle_or_step(world, &mut agenda, alloc, event) {
             Ok(()) => line += 1,
             Err(fault) => return Err(ended_by(line, fault)),
         }

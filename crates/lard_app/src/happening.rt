@@ -4,7 +4,7 @@ ghost use Rattle.std.specs.Prelude.{◌≡◌, false, OnOk};
 ghost use Rattle.lard_agenda.specs.Agenda.{IsAgendaOf};
 ghost use Rattle.lard_rules.specs.Bounds.{HasRule};
 ghost use Rattle.lard_rules.specs.Machine.{machine_step};
-ghost use Rattle.lard_schedule.specs.Events.{IsInRange};
+ghost use Rattle.lard_schedule.specs.Events.{IsInLineRange};
 ghost use Rattle.lard_settling.specs.Events.{event_step, settled_to, stepped_from};
 ghost use Rattle.lard_settling.specs.Settling.{settled};
 ghost use Rattle.lard_app.specs.Generate.{Happens};
@@ -22,7 +22,7 @@ use std::alloc::Global;
 /// Does what an event does. After a fault the world is as it was, or, of a settle that had begun, as far as it came. If
 /// memory ran out, nothing is said of it.
 #[tactic(auto, unfolding(lard_settling::specs::Events::event_step))]
-pub fn happen(
+pub fn settle_or_step(
     world: &mut World,
     agenda: &mut Agenda,
     alloc: Global,
@@ -30,19 +30,24 @@ pub fn happen(
 ) -> Result<(), StepFault>
     requires usable { world.old.spoiled ≡ false }
     requires agenda { IsAgendaOf agenda.old world.old.machine.journal }
-    requires range { IsInRange event }
+    requires range { IsInLineRange event }
     ensures happens { Happens (event_step world.old.machine event) world.new.machine result }
     ensures usable { OnOk result (world.new.spoiled ≡ false) }
     ensures agenda { OnOk result (IsAgendaOf agenda.new world.new.machine.journal) }
 {
     match rounds_of(&event) {
         Some(rounds) => return settle_all(world, agenda, alloc, rounds),
-        None => return step(world, agenda, alloc, event),
+        None => return step_world(world, agenda, alloc, event),
     }
 }
 
 /// Does the step of an event that is no settle.
-fn step(world: &mut World, agenda: &Agenda, alloc: Global, event: Event) -> Result<(), StepFault>
+fn step_world(
+    world: &mut World,
+    agenda: &Agenda,
+    alloc: Global,
+    event: Event,
+) -> Result<(), StepFault>
     requires usable { world.old.spoiled ≡ false }
     requires agenda { IsAgendaOf agenda.now world.old.machine.journal }
     requires ruled { HasRule event }

@@ -5,14 +5,14 @@ ghost use Rattle.std.specs.List.{flat_map};
 ghost use Rattle.lard_base.specs.Config.{config_check, range_check};
 ghost use Rattle.lard_files.specs.Files.{add_check};
 ghost use Rattle.lard_journal.specs.Report.{file_text, heading_line, rec_line};
-ghost use Rattle.lard_schedule.specs.Events.{IsInRange};
+ghost use Rattle.lard_schedule.specs.Events.{IsInLineRange};
 ghost use Rattle.lard_schedule.specs.Files.{is_file_path};
 ghost use Rattle.lard_schedule.specs.Reader.{HasRange};
 ghost use Rattle.lard_agenda.specs.Agenda.{IsAgendaOf};
-ghost use Rattle.lard_app.specs.Replay.{CountsFault, EndsCount, IsSound, Passes, Writes, begin, begun, config_set, ended_by, ending, file_ends, filed, gain, item_gain, passed, taken};
-ghost use Rattle.lard_app.specs.Seen.{Adds, Sets, Stops, seen};
+ghost use Rattle.lard_app.specs.Replay.{CountsFault, EndsCount, IsProgressSound, PassesLine, Writes, begin, replay_begun, config_set, ended_by, ending, file_ends, filed, gain, item_gain, line_passed, taken_item};
+ghost use Rattle.lard_app.specs.Seen.{Adds, Sets, StopsAtLine, replay_seen};
 
-use crate::happening::{ended_by, happen};
+use crate::happening::{ended_by, settle_or_step};
 use crate::status::{Status, Why, refused};
 use lard_agenda::Agenda;
 use lard_agenda::laws::agendas_go_on;
@@ -52,7 +52,7 @@ pub struct Replay {
 impl Replay {
     /// Nothing was read. `NoMemory` where memory runs out.
     pub fn new(alloc: Global) -> Result<Replay, NoMemory>
-        ensures begin { IfOk result (λ replay. seen replay ≡ begin) }
+        ensures begin { IfOk result (λ replay. replay_seen replay ≡ begin) }
         ensures usable { IfOk result (λ replay. replay.world.spoiled ≡ false) }
         ensures agenda { IfOk result (λ replay. IsAgendaOf replay.agenda replay.world.machine.journal) }
     {
@@ -74,13 +74,13 @@ impl Replay {
     /// Takes a line, which is given without its line feed, and writes what the report gains. `Refused` and `Limit` come
     /// where the line ends the run, and what the report gained by it is written; after `WriteFault` and `NoMemory` a
     /// front of that is.
-    #[tactic(auto, unfolding(crate::specs::Replay::passed, crate::specs::Replay::gain))]
+    #[tactic(auto, unfolding(crate::specs::Replay::line_passed, crate::specs::Replay::gain))]
     pub fn pass<K: Sink>(&mut self, alloc: Global, sink: &mut K, line: &[u8]) -> Result<(), Status>
         requires usable { self.old.world.spoiled ≡ false }
         requires agenda { IsAgendaOf self.old.agenda self.old.world.machine.journal }
-        requires sound { IsSound (seen self.old) }
+        requires sound { IsProgressSound (replay_seen self.old) }
         requires small { length line.now < 2 ^ 32 }
-        ensures passed { Passes (passed (seen self.old) line.now) (gain (seen self.old) line.now) (K.written sink.old) (K.written sink.new) (seen self.new) result }
+        ensures passed { PassesLine (line_passed (replay_seen self.old) line.now) (gain (replay_seen self.old) line.now) (K.written sink.old) (K.written sink.new) (replay_seen self.new) result }
         ensures usable { OnOk result (self.new.world.spoiled ≡ false) }
         ensures agenda { OnOk result (IsAgendaOf self.new.agenda self.new.world.machine.journal) }
         ensures faults { CountsFault (K.faults sink.old) (K.faults sink.new) result }
@@ -97,7 +97,7 @@ impl Replay {
             Ok(item) => {
                 self.lines = number;
                 self.read = read;
-                return self.take(alloc, sink, item);
+                return self.take_item(alloc, sink, item);
             }
             Err(LineFault::Syntax) => return Err(refused(number, Why::Syntax)),
             Err(LineFault::NoMemory) => return Err(Status::NoMemory),
@@ -105,11 +105,11 @@ impl Replay {
     }
 
     /// Takes what a line stands for, once the line is counted and the reader has passed it.
-    fn take<K: Sink>(&mut self, alloc: Global, sink: &mut K, item: Item) -> Result<(), Status>
+    fn take_item<K: Sink>(&mut self, alloc: Global, sink: &mut K, item: Item) -> Result<(), Status>
         requires usable { self.old.world.spoiled ≡ false }
         requires agenda { IsAgendaOf self.old.agenda self.old.world.machine.journal }
         requires range { HasRange item }
-        ensures taken { Passes (taken (seen self.old) item) (item_gain (seen self.old) item) (K.written sink.old) (K.written sink.new) (seen self.new) result }
+        ensures taken { PassesLine (taken_item (replay_seen self.old) item) (item_gain (replay_seen self.old) item) (K.written sink.old) (K.written sink.new) (replay_seen self.new) result }
         ensures usable { OnOk result (self.new.world.spoiled ≡ false) }
         ensures agenda { OnOk result (IsAgendaOf self.new.agenda self.new.world.machine.journal) }
         ensures faults { CountsFault (K.faults sink.old) (K.faults sink.new) result }
@@ -119,13 +119,13 @@ impl Replay {
             Item::Set(key, value) => return self.set(key, value),
             Item::File { path, bytes } => return self.file(alloc, path, bytes),
             Item::Go => return self.go(alloc, sink),
-            Item::Event(event) => return self.step(alloc, sink, event),
+            Item::Event(event) => return self.replay_event(alloc, sink, event),
         }
     }
 
     /// Keeps a number of the configuration, if it is in its range.
     fn set(&mut self, key: Key, value: u64) -> Result<(), Status>
-        ensures set { Sets (config_set (seen self.old) key value (range_check key value)) (seen self.new) result }
+        ensures set { Sets (config_set (replay_seen self.old) key value (range_check key value)) (replay_seen self.new) result }
         ensures world { self.new.world ≡ self.old.world }
         ensures agenda { self.new.agenda ≡ self.old.agenda }
     {
@@ -138,7 +138,7 @@ impl Replay {
     /// Adds a file, if it may be added, and its line to those of the report.
     fn file(&mut self, alloc: Global, path: Path, bytes: Bytes) -> Result<(), Status>
         requires range { is_file_path path ≡ true }
-        ensures filed { Adds (filed (seen self.old) path bytes (add_check self.old.files path (length bytes))) (seen self.new) result }
+        ensures filed { Adds (filed (replay_seen self.old) path bytes (add_check self.old.files path (length bytes))) (replay_seen self.new) result }
         ensures world { self.new.world ≡ self.old.world }
         ensures agenda { self.new.agenda ≡ self.old.agenda }
     {
@@ -153,7 +153,7 @@ impl Replay {
 
     /// The world begins with the files, if the configuration can be used, and the heading is written, and their lines.
     fn go<K: Sink>(&mut self, alloc: Global, sink: &mut K) -> Result<(), Status>
-        ensures taken { Passes (taken (seen self.old) Item.Go) (item_gain (seen self.old) Item.Go) (K.written sink.old) (K.written sink.new) (seen self.new) result }
+        ensures taken { PassesLine (taken_item (replay_seen self.old) Item.Go) (item_gain (replay_seen self.old) Item.Go) (K.written sink.old) (K.written sink.new) (replay_seen self.new) result }
         ensures usable { OnOk result (self.new.world.spoiled ≡ false) }
         ensures agenda { OnOk result (IsAgendaOf self.new.agenda self.new.world.machine.journal) }
         ensures faults { CountsFault (K.faults sink.old) (K.faults sink.new) result }
@@ -170,7 +170,7 @@ impl Replay {
     /// The world begins with the files. What its report begins with is given back.
     fn begin(&mut self, alloc: Global) -> Result<Vec<u8>, NoMemory>
         requires usable { config_check self.old.config ≡ Ok tt }
-        ensures begun { IfOk result (λ text. begun (seen self.old) (Ok tt) ≡ Ok (seen self.new)) }
+        ensures begun { IfOk result (λ text. replay_begun (replay_seen self.old) (Ok tt) ≡ Ok (replay_seen self.new)) }
         ensures text { IfOk result (λ text. text.items ≡ heading_line self.old.config ++ self.old.listed.items) }
         ensures usable { IfOk result (λ text. self.new.world.spoiled ≡ false) }
         ensures agenda { IfOk result (λ text. IsAgendaOf self.new.agenda self.new.world.machine.journal) }
@@ -188,17 +188,22 @@ impl Replay {
 
     /// Does what an event does, a step or a settle, and writes the records that came of it, also where a limit ended a
     /// settle inside.
-    fn step<K: Sink>(&mut self, alloc: Global, sink: &mut K, event: Event) -> Result<(), Status>
+    fn replay_event<K: Sink>(
+        &mut self,
+        alloc: Global,
+        sink: &mut K,
+        event: Event,
+    ) -> Result<(), Status>
         requires usable { self.old.world.spoiled ≡ false }
         requires agenda { IsAgendaOf self.old.agenda self.old.world.machine.journal }
-        requires range { IsInRange event }
-        ensures taken { Passes (taken (seen self.old) (Item.Event event)) (item_gain (seen self.old) (Item.Event event)) (K.written sink.old) (K.written sink.new) (seen self.new) result }
+        requires range { IsInLineRange event }
+        ensures taken { PassesLine (taken_item (replay_seen self.old) (Item.Event event)) (item_gain (replay_seen self.old) (Item.Event event)) (K.written sink.old) (K.written sink.new) (replay_seen self.new) result }
         ensures usable { OnOk result (self.new.world.spoiled ≡ false) }
         ensures agenda { OnOk result (IsAgendaOf self.new.agenda self.new.world.machine.journal) }
         ensures faults { CountsFault (K.faults sink.old) (K.faults sink.new) result }
     {
         let before = self.world.journal().len() as usize;
-        match happen(&mut self.world, &mut self.agenda, alloc, event) {
+        match settle_or_step(&mut self.world, &mut self.agenda, alloc, event) {
             Ok(()) => return write_records(alloc, sink, self.world.journal(), before),
             Err(fault) => return Err(self.stop(alloc, sink, before, fault)),
         }
@@ -207,7 +212,7 @@ impl Replay {
     /// Writes the records that came before a settle was ended inside by this fault, but where memory ran out.
     fn stop<K: Sink>(&self, alloc: Global, sink: &mut K, from: usize, fault: StepFault) -> Status
         requires { fault ≢ StepFault.NoMemory → from ≤ length self.now.world.machine.journal }
-        ensures stops { Stops fault self.now.lines (flat_map rec_line (drop from self.now.world.machine.journal)) (K.written sink.old) (K.written sink.new) result }
+        ensures stops { StopsAtLine fault self.now.lines (flat_map rec_line (drop from self.now.world.machine.journal)) (K.written sink.old) (K.written sink.new) result }
         ensures faults { EndsCount (K.faults sink.old) (K.faults sink.new) result }
     {
         if fault == StepFault::NoMemory {
@@ -221,9 +226,9 @@ impl Replay {
 
     /// How a run ends whose input ends with these bytes, which no line feed follows.
     pub fn end(&self, rest: &[u8]) -> Status
-        requires sound { IsSound (seen self.now) }
+        requires sound { IsProgressSound (replay_seen self.now) }
         requires small { length rest.now < 2 ^ 32 }
-        ensures { result ≡ ending (seen self.now) rest.now }
+        ensures { result ≡ ending (replay_seen self.now) rest.now }
     {
         let number = self.lines + 1;
         if self.read + rest.len() as u64 > MAX_INPUT_BYTES as u64 && !rest.is_empty() {

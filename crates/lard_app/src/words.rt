@@ -1,7 +1,7 @@
 //! What the words ask for.
 
 ghost use Rattle.std.specs.Prelude.{◌≤◌, ◌↔◌, [], ◌∷◌, IsTrue};
-ghost use Rattle.lard_app.specs.Words.{Asks, IsCount, IsNumber, IsOne, IsPolicy};
+ghost use Rattle.lard_app.specs.Words.{AsksCommand, WritesCount, WritesNumber, IsOne, IsPolicy};
 
 use itoa::Buffer;
 use lard_generate::MAX_CLIENTS;
@@ -22,7 +22,7 @@ pub enum Command {
 
 /// What the words ask for; `None` where there is no such command.
 pub fn asked(words: &[String]) -> Option<Command>
-    ensures { Asks words.now result }
+    ensures { AsksCommand words.now result }
 {
     match words {
         [word] => single(word.as_str()),
@@ -88,7 +88,7 @@ fn generate(word: &str, seed: &str, clients: &str) -> Option<Command>
 
 /// A number of clients, 1 to 2,000, in decimal.
 fn count(word: &str) -> Option<u32>
-    ensures { IsCount word.now result }
+    ensures { WritesCount word.now result }
 {
     let n = number(word)?;
     if is_count(n) {
@@ -106,7 +106,7 @@ fn is_count(n: u64) -> bool
 
 /// A number below 2^64 in decimal: digits without a sign, and without a leading zero.
 fn number(word: &str) -> Option<u64>
-    ensures { IsNumber word.now result }
+    ensures { WritesNumber word.now result }
 {
     let Ok(n) = word.parse::<u64>() else {
         return None;

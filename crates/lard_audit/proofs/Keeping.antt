@@ -18,29 +18,29 @@ use Rattle.lard_dispatch.proofs.Chosen.{IsChosen, choice-within}
 use Rattle.lard_dispatch.proofs.Counted.{later-has}
 use Rattle.lard_dispatch.proofs.Servers.{before-joined, before-reduced, before-touched}
 use Rattle.lard_dispatch.proofs.Soundness.{admission, begun-sound, ended-batch-kept, ended-kept, home-node, is-in, room-left, shares-kept}
-use Rattle.lard_loads.specs.Tally.{Standing, Tally, batch_ended, connected, ending, home, open_shares, released, shared, sharing}
+use Rattle.lard_loads.specs.Tally.{Standing, Tally, batch_ended, connected, batch_ended_with, home, open_shares, released, shared, sharing}
 use Rattle.lard_loads.specs.Tally as tally
 use Rattle.lard_policy.specs.declared.first.FirstChoice.{FirstChoice}
 use Rattle.lard_sets.specs.Sets.{set_of, touched}
 use Rattle.lard_table.proofs.Map.{get_other}
-use Rattle.lard_audit.specs.Books.{AreSound, Books, blank_books, dispatcher_of, is_inside, is_it}
-use Rattle.lard_audit.specs.Sound.{first_at, is_later_choice, is_same, keeps_later}
+use Rattle.lard_audit.specs.Books.{AreSound, AuditBooks, blank_books, dispatcher_of, is_inside, is_it}
+use Rattle.lard_audit.specs.Sound.{audit_first_at, is_later_choice, is_same, keeps_later}
 use Rattle.lard_audit.proofs.Counting.{Standings}
 
 pub blank-sound : (cfg : Config) → config_check cfg ≡ Ok tt → AreSound (blank_books cfg)
 blank-sound cfg usable = record { sound = begun-sound cfg usable (some-node cfg usable); before = λ target. omega arith; free = tt }
 
-pub advance-sound : (b : Books) (time : Millis) → AreSound b → b.time.0 ≤ time.0 → AreSound (record b { time = time })
+pub advance-sound : (b : AuditBooks) (time : Millis) → AreSound b → b.time.0 ≤ time.0 → AreSound (record b { time = time })
 advance-sound b time s later = record { sound = s.sound; before = λ target. (let x : (set_of b.sets target).modified.0 ≤ b.time.0 = s.before target in omega (arith, x, later)); free = s.free }
 
 or-false : (b : Bool) → (b || false) ≡ b
 or-false true = refl
 or-false false = refl
 
-pub inside-home : (b : Books) (c : ℕ) → b.due ≡ None → is_inside b c ≡ true → is_some (home b.loads c) ≡ true
+pub inside-home : (b : AuditBooks) (c : ℕ) → b.due ≡ None → is_inside b c ≡ true → is_some (home b.loads c) ≡ true
 inside-home b c none h = sym (or-false (is_some (home b.loads c))) ∙ ap (λ (d : Option ℕ). is_some (home b.loads c) || is_it d c) (sym none) ∙ h
 
-pub release-sound : (b : Books) (c : ℕ) → AreSound b → b.due ≡ None → is_inside b c ≡ true → AreSound (record b { loads = released b.loads c })
+pub release-sound : (b : AuditBooks) (c : ℕ) → AreSound b → b.due ≡ None → is_inside b c ≡ true → AreSound (record b { loads = released b.loads c })
 release-sound b c s none inside = record {
   sound = ended-kept (dispatcher_of b) c b.time s.sound (is-in b.loads c (inside-home b c none inside));
   before = s.before;
@@ -61,34 +61,34 @@ free-kept (Some d) m room c x v there h =
       apart : None ≡ Some x → ⊥
       apart e = cc
 
-pub ended-sound : (b : Books) (c : ℕ) → AreSound b → AreSound (record b { loads = batch_ended b.loads c })
+pub ended-sound : (b : AuditBooks) (c : ℕ) → AreSound b → AreSound (record b { loads = batch_ended b.loads c })
 ended-sound b c s = record { sound = ended-batch-kept (dispatcher_of b) c s.sound; before = s.before; free = go (map.get b.loads.standings c) refl } where
-  go : (o : Option Standing) → map.get b.loads.standings c ≡ o → IsFree b.due (ending b.loads c o).standings (room_of b.config)
+  go : (o : Option Standing) → map.get b.loads.standings c ≡ o → IsFree b.due (batch_ended_with b.loads c o).standings (room_of b.config)
   go None e = s.free
   go (Some x) e = free-kept b.due b.loads.standings (room_of b.config) c x _ e s.free
 
 -- ---- a first assignment
 
-pub first-within : (b : Books) (path : List ℕ) → AreSound b → IsChosen b.config.nodes (first_at b.config b.time b.loads b.sets path)
+pub first-within : (b : AuditBooks) (path : List ℕ) → AreSound b → IsChosen b.config.nodes (audit_first_at b.config b.time b.loads b.sets path)
 first-within b path s =
     choice-within b.loads (set_of b.sets path).members b.time (set_of b.sets path).modified b.config b.config.nodes s.sound.nodes s.sound.open_nodes s.sound.some_open
 
-pub first-node : (b : Books) (path : List ℕ) (n : ℕ) (add remove : Option ℕ) → AreSound b → first_at b.config b.time b.loads b.sets path ≡ record { node = n; add = add; remove = remove } → n ≤ b.loads.nodes
+pub first-node : (b : AuditBooks) (path : List ℕ) (n : ℕ) (add remove : Option ℕ) → AreSound b → audit_first_at b.config b.time b.loads b.sets path ≡ record { node = n; add = add; remove = remove } → n ≤ b.loads.nodes
 first-node b path n add remove s is =
     let node : IsNode b.config.nodes n = subst (λ (x : FirstChoice). IsNode b.config.nodes x.node) is (first-within b path s).node in
     let same : b.loads.nodes ≡ b.config.nodes = s.sound.nodes in omega (arith, node.1, same)
 
-abbrev pub first_books : Books → ℕ → List ℕ → FirstChoice → Books
+abbrev pub first_books : AuditBooks → ℕ → List ℕ → FirstChoice → AuditBooks
 first_books b c path x = record b { loads = connected b.loads c x.node; sets = reduced (joined (touched b.sets path) path x.add b.time) path x.remove b.time; due = None }
 
-pub first-sound : (b : Books) (c : ℕ) (path : List ℕ) (x : FirstChoice) → AreSound b → b.due ≡ Some c → first_at b.config b.time b.loads b.sets path ≡ x → AreSound (first_books b c path x)
+pub first-sound : (b : AuditBooks) (c : ℕ) (path : List ℕ) (x : FirstChoice) → AreSound b → b.due ≡ Some c → audit_first_at b.config b.time b.loads b.sets path ≡ x → AreSound (first_books b c path x)
 first-sound b c path x s due is = subst (λ (y : FirstChoice). AreSound (first_books b c path y)) is (
     let free : (map.get b.loads.standings c ≡ None) × (tally.admitted b.loads < room_of b.config) = subst (λ (d : Option ℕ). IsFree d b.loads.standings (room_of b.config)) due s.free in
     let room = room-left (dispatcher_of b) s.sound (λ e. omega (arith, e, free.1)) in
     record {
       sound = admission b.config (dispatcher_of b).books c path b.time room free.0 refl;
-      before = before-reduced b.time (joined (touched b.sets path) path (first_at b.config b.time b.loads b.sets path).add b.time) path (first_at b.config b.time b.loads b.sets path).remove
-          (before-joined b.time (touched b.sets path) path (first_at b.config b.time b.loads b.sets path).add (before-touched b.time b.sets path s.before));
+      before = before-reduced b.time (joined (touched b.sets path) path (audit_first_at b.config b.time b.loads b.sets path).add b.time) path (audit_first_at b.config b.time b.loads b.sets path).remove
+          (before-joined b.time (touched b.sets path) path (audit_first_at b.config b.time b.loads b.sets path).add (before-touched b.time b.sets path s.before));
       free = tt;
     })
 
@@ -115,7 +115,7 @@ pub less : (a k : ℕ) → nat_lt a k ≡ true → a < k
 less a k e = grind (arith, nat_tests, e)
 
 -- what a later assignment knows that keeps the rule
-pub record IsLater (b : Books) (c : ℕ) (path : List ℕ) (n : ℕ) (add : Option ℕ) (size queue : ℕ) : Type 0 where
+pub record IsLater (b : AuditBooks) (c : ℕ) (path : List ℕ) (n : ℕ) (add : Option ℕ) (size queue : ℕ) : Type 0 where
   pub h : ℕ
   pub at : home b.loads c ≡ Some h
   pub some : 1 ≤ size
@@ -124,7 +124,7 @@ pub record IsLater (b : Books) (c : ℕ) (path : List ℕ) (n : ℕ) (add : Opti
   pub node : (later_choice b.loads h (set_of b.sets path).members queue b.config).node ≡ n
   pub added : (later_choice b.loads h (set_of b.sets path).members queue b.config).add ≡ add
 
-pub is-later : (b : Books) (c : ℕ) (path : List ℕ) (n : ℕ) (add : Option ℕ) (size queue : ℕ) → keeps_later b.config b.loads b.sets (home b.loads c) c path n add size queue ≡ true → IsLater b c path n add size queue
+pub is-later : (b : AuditBooks) (c : ℕ) (path : List ℕ) (n : ℕ) (add : Option ℕ) (size queue : ℕ) → keeps_later b.config b.loads b.sets (home b.loads c) c path n add size queue ≡ true → IsLater b c path n add size queue
 is-later b c path n add size queue e = go (home b.loads c) refl e where
   go : (o : Option ℕ) → home b.loads c ≡ o → keeps_later b.config b.loads b.sets o c path n add size queue ≡ true → IsLater b c path n add size queue
   go None at k = let no : false ≡ true = k in absurd cc
@@ -144,17 +144,17 @@ is-later b c path n add size queue e = go (home b.loads c) refl e where
         added = same-option x.add add four.1;
       }
 
-pub later-node : (b : Books) (c : ℕ) (path : List ℕ) (n : ℕ) (add : Option ℕ) (size queue : ℕ) → AreSound b → IsLater b c path n add size queue → n ≤ b.loads.nodes
+pub later-node : (b : AuditBooks) (c : ℕ) (path : List ℕ) (n : ℕ) (add : Option ℕ) (size queue : ℕ) → AreSound b → IsLater b c path n add size queue → n ≤ b.loads.nodes
 later-node b c path n add size queue s l =
     let node : IsNode b.config.nodes l.h = home-node b.config.nodes b.loads.standings c l.h s.sound.at_nodes l.at in
     let chosen : IsNode b.config.nodes (later_choice b.loads l.h (set_of b.sets path).members queue b.config).node =
     later-has (IsNode b.config.nodes) b.loads l.h (set_of b.sets path).members queue b.config node (λ m k some e less. (some, s.sound.served path m e)) in
     let same : b.loads.nodes ≡ b.config.nodes = s.sound.nodes in omega (arith, chosen.1, same, l.node)
 
-abbrev pub later_books : Books → ℕ → List ℕ → ℕ → Option ℕ → ℕ → Books
+abbrev pub later_books : AuditBooks → ℕ → List ℕ → ℕ → Option ℕ → ℕ → AuditBooks
 later_books b c path n add size = record b { loads = shared b.loads c n size; sets = joined (touched b.sets path) path add b.time }
 
-pub later-sound : (b : Books) (c : ℕ) (path : List ℕ) (n : ℕ) (add : Option ℕ) (size queue : ℕ) → AreSound b → IsLater b c path n add size queue → AreSound (later_books b c path n add size)
+pub later-sound : (b : AuditBooks) (c : ℕ) (path : List ℕ) (n : ℕ) (add : Option ℕ) (size queue : ℕ) → AreSound b → IsLater b c path n add size queue → AreSound (later_books b c path n add size)
 later-sound b c path n add size queue s l =
     let x : LaterChoice = later_choice b.loads l.h (set_of b.sets path).members queue b.config in
     let ask : Ask = record { c = c; home = l.h; number = 0; queue = queue; size = size; paths = path ∷ [] } in

@@ -7,7 +7,7 @@ use Rattle.indexmap.specs.IndexMap.{insert_entry}
 use Rattle.lard_history.proofs.Seeing.{by_number, other_number, same_number}
 use Rattle.lard_journal.specs.declared.rec.Rec.{Rec}
 use Rattle.lard_audit.specs.declared.owners.Holder.{Holder}
-use Rattle.lard_audit.specs.Network.{holder, nobody}
+use Rattle.lard_audit.specs.Network.{holder, audit_nobody}
 use Rattle.lard_audit.specs.Register.{kept}
 
 -- a fold with one record more
@@ -37,12 +37,12 @@ pub holder-put : {X : Type 0} (told : Holder → X) (owners : List (ℕ × Holde
 holder-put {X} told owners d c v = by_number _ d c same other where
   same : d ≡ c → told (holder (insert_entry nat_eq owners d v) c) ≡ cond (nat_eq d c) (told v) (told (holder owners c))
   same e =
-      subst (λ (n : ℕ). told (holder (insert_entry nat_eq owners d v) n) ≡ told v) e (ap (λ (o : Option Holder). told (unwrap_or o nobody)) (kept-same owners d v))
+      subst (λ (n : ℕ). told (holder (insert_entry nat_eq owners d v) n) ≡ told v) e (ap (λ (o : Option Holder). told (unwrap_or o audit_nobody)) (kept-same owners d v))
       ∙ sym (ap (λ (b : Bool). cond {A = X} b (told v) (told (holder owners c))) (eq-eqb d c e))
 
   other : d ≢ c → told (holder (insert_entry nat_eq owners d v) c) ≡ cond (nat_eq d c) (told v) (told (holder owners c))
   other n =
-      ap (λ (o : Option Holder). told (unwrap_or o nobody)) (kept-other owners d c v (λ s. n (sym s)))
+      ap (λ (o : Option Holder). told (unwrap_or o audit_nobody)) (kept-other owners d c v (λ s. n (sym s)))
       ∙ sym (ap (λ (b : Bool). cond {A = X} b (told v) (told (holder owners c))) (other_number d c n))
 
 -- what is the same wherever two numbers are the same

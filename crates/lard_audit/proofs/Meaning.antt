@@ -8,10 +8,10 @@ use Rattle.lard_base.specs.Config.{room_of}
 use Rattle.lard_base.specs.declared.config.Config.{Config}
 use Rattle.lard_base.specs.declared.place.Place.{Place}
 use Rattle.lard_base.specs.declared.place.Place.TheVariants.{Front, Node, Client}
-use Rattle.lard_cache.specs.Recency.{has}
+use Rattle.lard_cache.specs.Recency.{has_path}
 use Rattle.lard_costs.specs.Later.{later_choice}
 use Rattle.lard_costs.specs.declared.later.LaterChoice.{LaterChoice}
-use Rattle.lard_counts.specs.Ledger.{Ledger, admitted, is_in, ledger}
+use Rattle.lard_counts.specs.Ledger.{Ledger, ledger_admitted, is_in_ledger, ledger}
 use Rattle.lard_counts.specs.Stores.{Waiting, cached, jobs, waiting_at}
 use Rattle.lard_history.specs.Journal.{goal_of, is_lost, is_place, last_epoch, owner, sent_count}
 use Rattle.lard_history.specs.Laws.{MayOwn, MaySend, OwnerSends}
@@ -21,9 +21,9 @@ use Rattle.lard_journal.specs.declared.rec.Rec.TheVariants as rec
 use Rattle.lard_loads.specs.Tally.{home, open_shares}
 use Rattle.lard_policy.specs.declared.first.FirstChoice.{FirstChoice}
 use Rattle.lard_sets.specs.Sets.{set_of}
-use Rattle.lard_audit.specs.Books.{Books}
-use Rattle.lard_audit.specs.Laws.{IsFirstOf, IsLaterAt, MayBeAdmitted, MayBeAssigned, MayEnter, MayPass, MayStand, MayBeStored, MayTick, SoundMeans}
-use Rattle.lard_audit.specs.Sound.{broken, due_behind, files_of, first_at, first_broken, is_first_choice, is_first_of, is_job, is_later_choice, is_owner, is_same, job_at, job_behind, keeps_admission, keeps_cache, keeps_choice, keeps_clock, keeps_later, keeps_network, keeps_owner, keeps_room, keeps_sender, last_of, may_arrive, may_send, size_in}
+use Rattle.lard_audit.specs.Books.{AuditBooks}
+use Rattle.lard_audit.specs.Laws.{IsFirstOf, IsLaterAt, MayBeAdmitted, RecordMayBeAssigned, MayEnter, RecordMayPass, RecordMayStand, MayBeStored, MayTick, SoundMeans}
+use Rattle.lard_audit.specs.Sound.{broken, audit_due_behind, audit_files_of, audit_first_at, first_broken, is_first_choice, is_first_of, is_audit_job, is_later_choice, is_owner, is_same, audit_job_at, job_behind, keeps_admission, keeps_cache, keeps_choice, keeps_clock, keeps_later, keeps_network, keeps_owner, keeps_room, keeps_sender, audit_last_of, may_arrive, may_audit_send, size_in}
 use Rattle.lard_audit.proofs.Auditing.{AreKept, all-kept, seven}
 use Rattle.lard_audit.proofs.Keeping.{IsLater, at-most, is-later, less, same-first}
 
@@ -61,7 +61,7 @@ arrive-means past k = (
   λ p. both (is_some (goal_of past k)) (not (is_lost past k)) p.0 (not-false (is_lost past k) p.1),
 )
 
-network-means : (past : List Rec) (r : Rec) → Tells (keeps_network (sent_count past) (may_arrive past) r) (MayPass past r)
+network-means : (past : List Rec) (r : Rec) → Tells (keeps_network (sent_count past) (may_arrive past) r) (RecordMayPass past r)
 network-means past (rec.Sent k from to bytes) = (eqb-true k (sent_count past + 1), eq-eqb k (sent_count past + 1))
 network-means past (rec.Got k) = arrive-means past k
 network-means past (rec.Lost k) = arrive-means past k
@@ -99,7 +99,7 @@ none-is : (o : Option Place) → Tells (is_none o) (o ≡ None)
 none-is None = ((λ e. refl), λ e. refl)
 none-is (Some q) = ((λ e. (let no : false ≡ true = e in absurd cc)), some-no q)
 
-sends-mean : (past : List Rec) (from to : Place) → Tells (may_send (owner past) from to) (OwnerSends past from to)
+sends-mean : (past : List Rec) (from to : Place) → Tells (may_audit_send (owner past) from to) (OwnerSends past from to)
 sends-mean past Front (Client c) = owner-is (owner past c) Front
 sends-mean past (Node n) (Client c) = owner-is (owner past c) (Node n)
 sends-mean past Front Front = nothing
@@ -138,17 +138,17 @@ first-means : (c : ℕ) (r : Rec) → Tells (is_first_of c r) (IsFirstOf c r)
 first-means c (rec.AssignedFirst d r path n add remove) = (eqb-true d c, eq-eqb d c)
 first-means c _ = never
 
-room-means : (cfg : Config) (l : Ledger) (r : Rec) → Tells (keeps_room (room_of cfg) (admitted l) (is_in l) r) (MayEnter cfg l r)
-room-means cfg l (rec.Waits c) = (eqb-true (admitted l) (room_of cfg), eq-eqb (admitted l) (room_of cfg))
+room-means : (cfg : Config) (l : Ledger) (r : Rec) → Tells (keeps_room (room_of cfg) (ledger_admitted l) (is_in_ledger l) r) (MayEnter cfg l r)
+room-means cfg l (rec.Waits c) = (eqb-true (ledger_admitted l) (room_of cfg), eq-eqb (ledger_admitted l) (room_of cfg))
 room-means cfg l (rec.Admitted c) = (
-  (λ e. (let p = and_parts (nat_lt (admitted l) (room_of cfg)) (not (is_in l c)) e in (less (admitted l) (room_of cfg) p.0, not-true (is_in l c) p.1))),
-  λ p. both (nat_lt (admitted l) (room_of cfg)) (not (is_in l c)) (less-true (admitted l) (room_of cfg) p.0) (not-false (is_in l c) p.1),
+  (λ e. (let p = and_parts (nat_lt (ledger_admitted l) (room_of cfg)) (not (is_in_ledger l c)) e in (less (ledger_admitted l) (room_of cfg) p.0, not-true (is_in_ledger l c) p.1))),
+  λ p. both (nat_lt (ledger_admitted l) (room_of cfg)) (not (is_in_ledger l c)) (less-true (ledger_admitted l) (room_of cfg) p.0) (not-false (is_in_ledger l c) p.1),
 )
 room-means cfg l (rec.AssignedFirst c r path n add remove) = never
 room-means cfg l (rec.Released c) = ((λ e. e), λ e. e)
 room-means cfg l _ = nothing
 
-admission-means : (cfg : Config) (due : Option ℕ) (l : Ledger) (r : Rec) → Tells (keeps_admission due (room_of cfg) (admitted l) (is_in l) r) (MayBeAdmitted cfg due l r)
+admission-means : (cfg : Config) (due : Option ℕ) (l : Ledger) (r : Rec) → Tells (keeps_admission due (room_of cfg) (ledger_admitted l) (is_in_ledger l) r) (MayBeAdmitted cfg due l r)
 admission-means cfg None l r = room-means cfg l r
 admission-means cfg (Some c) l r = first-means c r
 
@@ -171,13 +171,13 @@ later-is x n add e f = ap (λ (k : ℕ). made k x.add) e ∙ ap (made n) f where
   made : ℕ → Option ℕ → LaterChoice
   made k a = record { node = k; add = a }
 
-choice-means : (cfg : Config) (l : Ledger) (r : Rec) → Tells (keeps_choice cfg l.now l.loads l.sets (is_in l) r) (MayBeAssigned cfg l r)
-choice-means cfg l (rec.AssignedFirst c r path n add remove) = (same-first (first_at cfg l.now l.loads l.sets path) n add remove, first-true (first_at cfg l.now l.loads l.sets path) n add remove)
+choice-means : (cfg : Config) (l : Ledger) (r : Rec) → Tells (keeps_choice cfg l.now l.loads l.sets (is_in_ledger l) r) (RecordMayBeAssigned cfg l r)
+choice-means cfg l (rec.AssignedFirst c r path n add remove) = (same-first (audit_first_at cfg l.now l.loads l.sets path) n add remove, first-true (audit_first_at cfg l.now l.loads l.sets path) n add remove)
 choice-means cfg l (rec.AssignedLater c r path n add size queue) = (forth, back) where
-  forth : (is_in l c && keeps_later cfg l.loads l.sets (home l.loads c) c path n add size queue) ≡ true → IsLaterAt cfg l c path n add size queue
+  forth : (is_in_ledger l c && keeps_later cfg l.loads l.sets (home l.loads c) c path n add size queue) ≡ true → IsLaterAt cfg l c path n add size queue
   forth e =
-      let p = and_parts (is_in l c) (keeps_later cfg l.loads l.sets (home l.loads c) c path n add size queue) e in
-      let b : Books = record { config = cfg; time = l.now; loads = l.loads; sets = l.sets; due = None } in
+      let p = and_parts (is_in_ledger l c) (keeps_later cfg l.loads l.sets (home l.loads c) c path n add size queue) e in
+      let b : AuditBooks = record { config = cfg; time = l.now; loads = l.loads; sets = l.sets; due = None } in
       let x : IsLater b c path n add size queue = is-later b c path n add size queue p.1 in
       record {
         inside = p.0;
@@ -189,8 +189,8 @@ choice-means cfg l (rec.AssignedLater c r path n add size queue) = (forth, back)
         choice = later-is (later_choice l.loads x.h (set_of l.sets path).members queue cfg) n add x.node x.added;
       }
 
-  back : IsLaterAt cfg l c path n add size queue → (is_in l c && keeps_later cfg l.loads l.sets (home l.loads c) c path n add size queue) ≡ true
-  back x = both (is_in l c) (keeps_later cfg l.loads l.sets (home l.loads c) c path n add size queue) x.inside
+  back : IsLaterAt cfg l c path n add size queue → (is_in_ledger l c && keeps_later cfg l.loads l.sets (home l.loads c) c path n add size queue) ≡ true
+  back x = both (is_in_ledger l c) (keeps_later cfg l.loads l.sets (home l.loads c) c path n add size queue) x.inside
       (ap (λ (o : Option ℕ). keeps_later cfg l.loads l.sets o c path n add size queue) x.at
       ∙ both (nat_le 1 size && nat_le size 8) (nat_lt (open_shares l.loads c) 8 && is_later_choice (later_choice l.loads x.h (set_of l.sets path).members queue cfg) n add)
       (both (nat_le 1 size) (nat_le size 8) (at-most-true 1 size x.some) (at-most-true size 8 x.few))
@@ -206,7 +206,7 @@ some_job m c r path = Some (m, c, r, path)
 no-job : (w : Waiting) → None ≡ Some w → false ≡ true
 no-job w e = cc
 
-job-is : (o : Option Waiting) (m c r : ℕ) (path : List ℕ) → Tells (is_job o m c r path) (o ≡ Some (m, c, r, path))
+job-is : (o : Option Waiting) (m c r : ℕ) (path : List ℕ) → Tells (is_audit_job o m c r path) (o ≡ Some (m, c, r, path))
 job-is None m c r path = ((λ e. (let no : false ≡ true = e in absurd cc)), no-job (m, c, r, path))
 job-is (Some (a, b, d, p)) m c r path = (forth, back) where
   forth : ((nat_eq a m && nat_eq b c) && (nat_eq d r && bytes_eq p path)) ≡ true → some_job a b d p ≡ some_job m c r path
@@ -219,11 +219,11 @@ job-is (Some (a, b, d, p)) m c r path = (forth, back) where
 
   back : some_job a b d p ≡ some_job m c r path → ((nat_eq a m && nat_eq b c) && (nat_eq d r && bytes_eq p path)) ≡ true
   back e =
-      ap (λ (o : Option Waiting). is_job o m c r path) e
+      ap (λ (o : Option Waiting). is_audit_job o m c r path) e
       ∙ both (nat_eq m m && nat_eq c c) (nat_eq r r && bytes_eq path path) (both (nat_eq m m) (nat_eq c c) (same_number m) (same_number c)) (both (nat_eq r r) (bytes_eq path path) (same_number r) ((bytes_eq-Decides path path).1 refl))
 
-read-means : (past : List Rec) (n m c r : ℕ) (path : List ℕ) (o : Option ℕ) → job_behind (last_of past) n ≡ o
-    → Tells (is_job (job_at (jobs past n) o) m c r path) ((j : ℕ) × (job_behind (last_of past) n ≡ Some j) × (waiting_at (jobs past n) j ≡ Some (m, c, r, path)))
+read-means : (past : List Rec) (n m c r : ℕ) (path : List ℕ) (o : Option ℕ) → job_behind (audit_last_of past) n ≡ o
+    → Tells (is_audit_job (audit_job_at (jobs past n) o) m c r path) ((j : ℕ) × (job_behind (audit_last_of past) n ≡ Some j) × (waiting_at (jobs past n) j ≡ Some (m, c, r, path)))
 read-means past n m c r path None is = ((λ e. (let no : false ≡ true = e in absurd cc)), λ x. absurd (apart x.0 (sym is ∙ x.1))) where
   apart : (j : ℕ) → None ≡ Some j → ⊥
   apart j e = cc
@@ -235,13 +235,13 @@ read-means past n m c r path (Some i) is = (
   same e = cc
 
 cache-means : (cfg : Config) (files : List (List ℕ × ℕ)) (past : List Rec) (r : Rec)
-    → Tells (keeps_cache files (cached (files_of files) cfg.cache past) (λ n. job_at (jobs past n) (job_behind (last_of past) n)) r) (MayBeStored cfg files past r)
+    → Tells (keeps_cache files (cached (audit_files_of files) cfg.cache past) (λ n. audit_job_at (jobs past n) (job_behind (audit_last_of past) n)) r) (MayBeStored cfg files past r)
 cache-means cfg files past (rec.Hit n path) = ((λ e. e), λ e. e)
 cache-means cfg files past (rec.Queued n m c r path) = (
-  (λ e. (let p = and_parts (not (has (cached (files_of files) cfg.cache past n) path)) (is_some (size_in files path)) e in (not-true (has (cached (files_of files) cfg.cache past n) path) p.0, p.1))),
-  λ p. both (not (has (cached (files_of files) cfg.cache past n) path)) (is_some (size_in files path)) (not-false (has (cached (files_of files) cfg.cache past n) path) p.0) p.1,
+  (λ e. (let p = and_parts (not (has_path (cached (audit_files_of files) cfg.cache past n) path)) (is_some (size_in files path)) e in (not-true (has_path (cached (audit_files_of files) cfg.cache past n) path) p.0, p.1))),
+  λ p. both (not (has_path (cached (audit_files_of files) cfg.cache past n) path)) (is_some (size_in files path)) (not-false (has_path (cached (audit_files_of files) cfg.cache past n) path) p.0) p.1,
 )
-cache-means cfg files past (rec.Read n m c r path) = read-means past n m c r path (job_behind (last_of past) n) refl
+cache-means cfg files past (rec.Read n m c r path) = read-means past n m c r path (job_behind (audit_last_of past) n) refl
 cache-means cfg files past _ = nothing
 
 clock-means : (l : Ledger) (r : Rec) → Tells (keeps_clock l.now r) (MayTick l r)
@@ -256,7 +256,7 @@ none-broken a b c d e f g k = seven a b c d e f g true true true true true true 
 pub sound-means : SoundMeans
 unfolding broken
 sound-means cfg files past r = (forth, back) where
-  forth : broken cfg files past r ≡ None → MayStand cfg files past r
+  forth : broken cfg files past r ≡ None → RecordMayStand cfg files past r
   forth none =
       let k = all-kept _ _ _ _ _ _ _ none in
       let own : MayOwn past r × MaySend past r = (owns-mean past r).0 (both (keeps_owner (owner past) (last_epoch past) r) (keeps_sender (owner past) r) k.owned k.told) in
@@ -264,20 +264,20 @@ sound-means cfg files past r = (forth, back) where
         passes = (network-means past r).0 k.sent;
         owns = own.0;
         sends = own.1;
-        admits = (admission-means cfg (due_behind (last_of past)) (ledger cfg past) r).0 k.roomy;
+        admits = (admission-means cfg (audit_due_behind (audit_last_of past)) (ledger cfg past) r).0 k.roomy;
         assigns = (choice-means cfg (ledger cfg past) r).0 k.chosen;
         stores = (cache-means cfg files past r).0 k.stored;
         tells = (clock-means (ledger cfg past) r).0 k.timed;
       }
 
-  back : MayStand cfg files past r → broken cfg files past r ≡ None
+  back : RecordMayStand cfg files past r → broken cfg files past r ≡ None
   back h =
       let own = and_parts (keeps_owner (owner past) (last_epoch past) r) (keeps_sender (owner past) r) ((owns-mean past r).1 (h.owns, h.sends)) in
       none-broken _ _ _ _ _ _ _ (record {
         sent = (network-means past r).1 h.passes;
         owned = own.0;
         told = own.1;
-        roomy = (admission-means cfg (due_behind (last_of past)) (ledger cfg past) r).1 h.admits;
+        roomy = (admission-means cfg (audit_due_behind (audit_last_of past)) (ledger cfg past) r).1 h.admits;
         chosen = (choice-means cfg (ledger cfg past) r).1 h.assigns;
         stored = (cache-means cfg files past r).1 h.stores;
         timed = (clock-means (ledger cfg past) r).1 h.tells;

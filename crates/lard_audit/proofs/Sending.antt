@@ -11,15 +11,15 @@ use Rattle.lard_journal.specs.declared.rec.Rec.TheVariants as rec
 use Rattle.lard_audit.specs.declared.packets.Packets.{Packets}
 use Rattle.lard_audit.specs.Audit.{ArePackets}
 use Rattle.lard_audit.specs.Sound.{keeps_network, may_arrive}
-use Rattle.lard_audit.specs.Network.{is_on_way, packets_step}
+use Rattle.lard_audit.specs.Network.{is_audit_on_way, packets_step}
 use Rattle.lard_audit.specs.Register.{kept}
 use Rattle.lard_audit.proofs.Kept.{kept-other, kept-same, once-more}
 
-arrives : (p : Packets) (J : List Rec) → ArePackets p J → (k : ℕ) → may_arrive J k ≡ is_on_way p k
+arrives : (p : Packets) (J : List Rec) → ArePackets p J → (k : ℕ) → may_arrive J k ≡ is_audit_on_way p k
 arrives p J h k = ap (λ (b : Bool). b && not (is_lost J k)) (h.sent k) ∙ ap (λ (b : Bool). (nat_lt 0 k && nat_le k p.sent) && not b) (h.lost k)
 
 -- the rule says the same of what is kept
-pub network-same : (p : Packets) (J : List Rec) (r : Rec) → ArePackets p J → keeps_network (sent_count J) (may_arrive J) r ≡ keeps_network p.sent (is_on_way p) r
+pub network-same : (p : Packets) (J : List Rec) (r : Rec) → ArePackets p J → keeps_network (sent_count J) (may_arrive J) r ≡ keeps_network p.sent (is_audit_on_way p) r
 network-same p J (rec.Sent k from to bytes) h = ap (λ (n : ℕ). nat_eq k (n + 1)) (sym h.count)
 network-same p J (rec.Got k) h = arrives p J h k
 network-same p J (rec.Lost k) h = arrives p J h k
@@ -42,7 +42,7 @@ packets-begin p none empty = record {
   nothing k = grind (arith, nat_tests)
 
 -- a record is noted that keeps the rule
-pub packets-more : (p : Packets) (J : List Rec) (r : Rec) → ArePackets p J → keeps_network p.sent (is_on_way p) r ≡ true → ArePackets (packets_step p r) (J ++ r ∷ [])
+pub packets-more : (p : Packets) (J : List Rec) (r : Rec) → ArePackets p J → keeps_network p.sent (is_audit_on_way p) r ≡ true → ArePackets (packets_step p r) (J ++ r ∷ [])
 packets-more p J (rec.Sent k from to bytes) h keeps = record {
   count = ap (λ (n : ℕ). n + 1) h.count ∙ sym (once-more sent_step 0 J (rec.Sent k from to bytes));
   sent = λ q. ap is_some (once-more (goal_step q) None J (rec.Sent k from to bytes)) ∙ by_number _ k q (mine q) (other q);

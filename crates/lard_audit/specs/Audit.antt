@@ -2,7 +2,7 @@
 use Rattle.std.specs.Prelude.{◌≡◌, ℕ, ◌+◌, ◌-◌, ◌≤◌, nat_eq, nat_le, nat_lt, ◌&&◌, if◌then◌else◌, List, [], ◌∷◌, map, Option, Some, None, is_some, slice_get}
 use Rattle.lard_answers.specs.Answers.{FilesAt}
 use Rattle.lard_base.specs.declared.config.Config.{Config}
-use Rattle.lard_counts.specs.Ledger.{Ledger, admitted, ledger}
+use Rattle.lard_counts.specs.Ledger.{Ledger, ledger_admitted, ledger}
 use Rattle.lard_counts.specs.Stores.{cache_of, jobs, queue_of}
 use Rattle.lard_history.specs.Journal.{goal_of, is_lost, last_epoch, owner, sent_count}
 use Rattle.lard_journal.specs.declared.rec.Rec.{Rec}
@@ -13,11 +13,11 @@ use Rattle.lard_audit.specs.declared.packets.Packets.{Packets}
 use Rattle.lard_audit.specs.declared.rule.AuditFault.{AuditFault}
 use Rattle.lard_audit.specs.declared.rule.AuditFault.TheVariants.{Broken, NoMemory}
 use Rattle.lard_audit.specs.declared.rule.Rule.{Rule}
-use Rattle.lard_audit.specs.Sound.{IsSound, due_behind, files_of, job_behind, last_of}
-use Rattle.lard_audit.specs.Books.{Books, count_in, is_inside}
-use Rattle.lard_audit.specs.Network.{epoch_in, owner_in}
-use Rattle.lard_audit.specs.Nodes.{number_at}
-use Rattle.lard_audit.specs.Queue.{told}
+use Rattle.lard_audit.specs.Sound.{IsSound, audit_due_behind, audit_files_of, job_behind, audit_last_of}
+use Rattle.lard_audit.specs.Books.{AuditBooks, count_in, is_inside}
+use Rattle.lard_audit.specs.Network.{audit_epoch_in, owner_in}
+use Rattle.lard_audit.specs.Nodes.{audit_number_at}
+use Rattle.lard_audit.specs.Queue.{audit_told}
 use Rattle.lard_audit.specs.Register.{kept}
 use Rattle.lard_audit.specs.State.{sizes_of}
 
@@ -30,7 +30,7 @@ pub record ArePackets (p : Packets) (J : List Rec) : Type 0 where
 -- Who owns each connection, and the epoch in which it was taken last.
 pub record AreOwners (owners : List (ℕ × Holder)) (J : List Rec) : Type 0 where
   pub held : (c : ℕ) → owner J c ≡ owner_in owners c
-  pub epoch : (c : ℕ) → last_epoch J c ≡ epoch_in owners c
+  pub epoch : (c : ℕ) → last_epoch J c ≡ audit_epoch_in owners c
 
 -- how often a number stands in a list
 abbrev pub times : ℕ → List ℕ → ℕ
@@ -38,11 +38,11 @@ times c [] = 0
 times c (x ∷ xs) = (if nat_eq c x then 1 else 0) + times c xs
 
 -- The books of a ledger: its time, loads and sets; and those that are in, each once, have a node or are to have one.
-pub record AreBooks (b : Books) (l : Ledger) : Type 0 where
+pub record AreBooks (b : AuditBooks) (l : Ledger) : Type 0 where
   pub time : l.now ≡ b.time
   pub loads : l.loads ≡ b.loads
   pub sets : l.sets ≡ b.sets
-  pub many : admitted l ≡ count_in b
+  pub many : ledger_admitted l ≡ count_in b
   pub each : (c : ℕ) → times c l.ins ≡ (if is_inside b c then 1 else 0)
 
 -- What node n keeps: its cache, and the jobs that wait at its disk.
@@ -50,7 +50,7 @@ pub record IsNodeOf (files : FilesAt) (limit : ℕ) (nodes : List Node) (J : Lis
   pub node : Node
   pub there : slice_get nodes (n - 1) ≡ Some node
   pub cache : cache_of files limit J n ≡ node.cache
-  pub queue : jobs J n ≡ map told node.jobs
+  pub queue : jobs J n ≡ map audit_told node.jobs
 
 -- An audit of a report with this configuration and files of these sizes, whose records so far are these, and sound.
 pub record IsAuditOf (a : Audit) (cfg : Config) (files : List (List ℕ × ℕ)) (J : List Rec) : Type 0 where
@@ -60,10 +60,10 @@ pub record IsAuditOf (a : Audit) (cfg : Config) (files : List (List ℕ × ℕ))
   pub packets : ArePackets a.packets J
   pub owners : AreOwners a.owners J
   pub books : AreBooks a.books (ledger cfg J)
-  pub due : due_behind (last_of J) ≡ a.books.due
-  pub nodes : (n : ℕ) → 1 ≤ n → n ≤ 64 → IsNodeOf (files_of files) cfg.cache a.nodes J n
-  pub named : (n : ℕ) → job_behind (last_of J) n ≡ number_at a.named n
-  pub reads : (n j : ℕ) → number_at a.named n ≡ Some j → (queue_of J n).at ≡ j
+  pub due : audit_due_behind (audit_last_of J) ≡ a.books.due
+  pub nodes : (n : ℕ) → 1 ≤ n → n ≤ 64 → IsNodeOf (audit_files_of files) cfg.cache a.nodes J n
+  pub named : (n : ℕ) → job_behind (audit_last_of J) n ≡ audit_number_at a.named n
+  pub reads : (n j : ℕ) → audit_number_at a.named n ≡ Some j → (queue_of J n).at ≡ j
 
 -- A fault tells the first rule that is broken; memory runs out only where none is.
 abbrev pub IsFaultOf : AuditFault → Option Rule → Type 0

@@ -11,8 +11,8 @@ use Rattle.lard_audit.specs.Register.{kept}
 -- ---- packets
 
 -- packet k was sent, and is not among the lost
-abbrev pub is_on_way : Packets → ℕ → Bool
-is_on_way p k = (nat_lt 0 k && nat_le k p.sent) && not (is_some (kept p.lost k))
+abbrev pub is_audit_on_way : Packets → ℕ → Bool
+is_audit_on_way p k = (nat_lt 0 k && nat_le k p.sent) && not (is_some (kept p.lost k))
 
 abbrev pub packets_step : Packets → Rec → Packets
 packets_step p (rec.Sent k from to bytes) = record p { sent = p.sent + 1 }
@@ -21,20 +21,20 @@ packets_step p _ = p
 
 -- ---- owners
 
-abbrev pub nobody : Holder
-nobody = record { owner = None; epoch = 0 }
+abbrev pub audit_nobody : Holder
+audit_nobody = record { owner = None; epoch = 0 }
 
 -- who holds a connection, and in which epoch it was taken last
 abbrev pub holder : List (ℕ × Holder) → ℕ → Holder
-holder owners c = unwrap_or (kept owners c) nobody
+holder owners c = unwrap_or (kept owners c) audit_nobody
 
 abbrev pub owner_in : List (ℕ × Holder) → ℕ → Option Place
 owner_in owners c = (holder owners c).owner
 
-abbrev pub epoch_in : List (ℕ × Holder) → ℕ → ℕ
-epoch_in owners c = (holder owners c).epoch
+abbrev pub audit_epoch_in : List (ℕ × Holder) → ℕ → ℕ
+audit_epoch_in owners c = (holder owners c).epoch
 
 abbrev pub owners_step : List (ℕ × Holder) → Rec → List (ℕ × Holder)
 owners_step owners (rec.Took place c epoch) = insert_entry nat_eq owners c (record { owner = Some place; epoch = epoch.0 })
-owners_step owners (rec.Gave place c epoch) = insert_entry nat_eq owners c (record { owner = None; epoch = epoch_in owners c })
+owners_step owners (rec.Gave place c epoch) = insert_entry nat_eq owners c (record { owner = None; epoch = audit_epoch_in owners c })
 owners_step owners _ = owners

@@ -13,10 +13,10 @@ use Rattle.lard_base.specs.declared.event.Event.TheVariants as event
 use Rattle.lard_base.specs.declared.ids.Millis.{Millis}
 use Rattle.lard_base.specs.declared.place.Place.{Place}
 use Rattle.lard_base.specs.declared.place.Place.TheVariants.{Front, Node, Client}
-use Rattle.lard_cache.specs.Recency.{has}
+use Rattle.lard_cache.specs.Recency.{has_path}
 use Rattle.lard_costs.specs.Later.{later_choice}
 use Rattle.lard_costs.specs.declared.later.LaterChoice.{LaterChoice}
-use Rattle.lard_counts.specs.Ledger.{admitted, is_in, ledger}
+use Rattle.lard_counts.specs.Ledger.{ledger_admitted, is_in_ledger, ledger}
 use Rattle.lard_counts.specs.Stores.{Waiting, cached, jobs, waiting_at}
 use Rattle.lard_history.specs.Journal.{goal_of, is_lost, is_place, last_epoch, owner, sent_count}
 use Rattle.lard_history.specs.Laws.{EachMay}
@@ -58,29 +58,29 @@ keeps_owner owner_of epoch_of _ = true
 -- ---- who sends
 
 -- of the cluster only the owner of a connection sends to its client
-abbrev pub may_send : (ℕ → Option Place) → Place → Place → Bool
-may_send owner_of Front (Client c) = is_owner (owner_of c) Front
-may_send owner_of (Node n) (Client c) = is_owner (owner_of c) (Node n)
-may_send owner_of _ _ = true
+abbrev pub may_audit_send : (ℕ → Option Place) → Place → Place → Bool
+may_audit_send owner_of Front (Client c) = is_owner (owner_of c) Front
+may_audit_send owner_of (Node n) (Client c) = is_owner (owner_of c) (Node n)
+may_audit_send owner_of _ _ = true
 
 abbrev pub keeps_sender : (ℕ → Option Place) → Rec → Bool
-keeps_sender owner_of (rec.Sent k from to bytes) = may_send owner_of from to
+keeps_sender owner_of (rec.Sent k from to bytes) = may_audit_send owner_of from to
 keeps_sender owner_of _ = true
 
 -- ---- admission
 
 -- the last record, if there is one
-abbrev pub last_of : List Rec → Option Rec
-last_of J = fold (λ before r. Some r) None J
+abbrev pub audit_last_of : List Rec → Option Rec
+audit_last_of J = fold (λ before r. Some r) None J
 
 -- the connection whose first assignment is due behind a record: the one that it admits
 abbrev pub due_by : Rec → Option ℕ
 due_by (rec.Admitted c) = Some c
 due_by _ = None
 
-abbrev pub due_behind : Option Rec → Option ℕ
-due_behind None = None
-due_behind (Some r) = due_by r
+abbrev pub audit_due_behind : Option Rec → Option ℕ
+audit_due_behind None = None
+audit_due_behind (Some r) = due_by r
 
 abbrev pub is_first_of : ℕ → Rec → Bool
 is_first_of c (rec.AssignedFirst d r path n add remove) = nat_eq d c
@@ -114,8 +114,8 @@ abbrev pub is_later_choice : LaterChoice → ℕ → Option ℕ → Bool
 is_later_choice x n add = nat_eq x.node n && is_same x.add add
 
 -- the first choice for a path, at these loads and server sets
-abbrev pub first_at : Config → Millis → Tally → List (List ℕ × ServerSet) → List ℕ → FirstChoice
-first_at cfg now loads sets path = first_choice loads (set_of sets path).members now (set_of sets path).modified cfg
+abbrev pub audit_first_at : Config → Millis → Tally → List (List ℕ × ServerSet) → List ℕ → FirstChoice
+audit_first_at cfg now loads sets path = first_choice loads (set_of sets path).members now (set_of sets path).modified cfg
 
 -- A later assignment is of a connection that has a node. Its batch has one to eight requests, and fewer than eight shares are open.
 abbrev pub keeps_later : Config → Tally → List (List ℕ × ServerSet) → Option ℕ → ℕ → List ℕ → ℕ → Option ℕ → ℕ → ℕ → Bool
@@ -126,7 +126,7 @@ keeps_later cfg loads sets (Some h) c path n add size queue =
 -- The first choice is that of LARD with replication, and a later one that of the extended policy, for a connection that is in: each at
 -- the loads and the server sets as they stand just before the record.
 abbrev pub keeps_choice : Config → Millis → Tally → List (List ℕ × ServerSet) → (ℕ → Bool) → Rec → Bool
-keeps_choice cfg now loads sets is_in (rec.AssignedFirst c r path n add remove) = is_first_choice (first_at cfg now loads sets path) n add remove
+keeps_choice cfg now loads sets is_in (rec.AssignedFirst c r path n add remove) = is_first_choice (audit_first_at cfg now loads sets path) n add remove
 keeps_choice cfg now loads sets is_in (rec.AssignedLater c r path n add size queue) = is_in c && keeps_later cfg loads sets (home loads c) c path n add size queue
 keeps_choice cfg now loads sets is_in _ = true
 
@@ -137,8 +137,8 @@ abbrev pub size_in : List (List ℕ × ℕ) → List ℕ → Option ℕ
 size_in files path = lookup (bytes_eq path) files
 
 -- files of these sizes, whatever their bytes are, since caches count bytes alone
-abbrev pub files_of : List (List ℕ × ℕ) → FilesAt
-files_of files path = option_map (λ size. replicate size 0) (size_in files path)
+abbrev pub audit_files_of : List (List ℕ × ℕ) → FilesAt
+audit_files_of files path = option_map (λ size. replicate size 0) (size_in files path)
 
 -- which job an event names, if it is one of this node's disk
 abbrev pub job_by : ℕ → Event → Option ℕ
@@ -150,20 +150,20 @@ job_behind (Some (rec.Event i e)) n = job_by n e
 job_behind (Some (rec.Inner e)) n = job_by n e
 job_behind _ n = None
 
-abbrev pub job_at : List Waiting → Option ℕ → Option Waiting
-job_at jobs None = None
-job_at jobs (Some j) = waiting_at jobs j
+abbrev pub audit_job_at : List Waiting → Option ℕ → Option Waiting
+audit_job_at jobs None = None
+audit_job_at jobs (Some j) = waiting_at jobs j
 
-abbrev pub is_job : Option Waiting → ℕ → ℕ → ℕ → List ℕ → Bool
-is_job None m c r path = false
-is_job (Some w) m c r path = (nat_eq w.0 m && nat_eq w.1 c) && (nat_eq w.2 r && bytes_eq w.3 path)
+abbrev pub is_audit_job : Option Waiting → ℕ → ℕ → ℕ → List ℕ → Bool
+is_audit_job None m c r path = false
+is_audit_job (Some w) m c r path = (nat_eq w.0 m && nat_eq w.1 c) && (nat_eq w.2 r && bytes_eq w.3 path)
 
 -- A hit is of a path that the node's cache has. A job is queued for one that it has not, and that is a file's. What is read is the job
 -- that the record directly before names, which is an event of this node's disk.
 abbrev pub keeps_cache : List (List ℕ × ℕ) → (ℕ → List (List ℕ × ℕ)) → (ℕ → Option Waiting) → Rec → Bool
-keeps_cache files cached_at named_at (rec.Hit n path) = has (cached_at n) path
-keeps_cache files cached_at named_at (rec.Queued n m c r path) = not (has (cached_at n) path) && is_some (size_in files path)
-keeps_cache files cached_at named_at (rec.Read n m c r path) = is_job (named_at n) m c r path
+keeps_cache files cached_at named_at (rec.Hit n path) = has_path (cached_at n) path
+keeps_cache files cached_at named_at (rec.Queued n m c r path) = not (has_path (cached_at n) path) && is_some (size_in files path)
+keeps_cache files cached_at named_at (rec.Read n m c r path) = is_audit_job (named_at n) m c r path
 keeps_cache files cached_at named_at _ = true
 
 -- ---- the clock
@@ -194,9 +194,9 @@ broken cfg files past r =
     (keeps_network (sent_count past) (may_arrive past) r)
     (keeps_owner (owner past) (last_epoch past) r)
     (keeps_sender (owner past) r)
-    (keeps_admission (due_behind (last_of past)) (room_of cfg) (admitted (ledger cfg past)) (is_in (ledger cfg past)) r)
-    (keeps_choice cfg (ledger cfg past).now (ledger cfg past).loads (ledger cfg past).sets (is_in (ledger cfg past)) r)
-    (keeps_cache files (cached (files_of files) cfg.cache past) (λ n. job_at (jobs past n) (job_behind (last_of past) n)) r)
+    (keeps_admission (audit_due_behind (audit_last_of past)) (room_of cfg) (ledger_admitted (ledger cfg past)) (is_in_ledger (ledger cfg past)) r)
+    (keeps_choice cfg (ledger cfg past).now (ledger cfg past).loads (ledger cfg past).sets (is_in_ledger (ledger cfg past)) r)
+    (keeps_cache files (cached (audit_files_of files) cfg.cache past) (λ n. audit_job_at (jobs past n) (job_behind (audit_last_of past) n)) r)
     (keeps_clock (ledger cfg past).now r)
 
 -- each record keeps all rules, behind those before it

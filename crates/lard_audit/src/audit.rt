@@ -3,13 +3,13 @@
 ghost use Rattle.std.specs.Prelude.{◌≡◌, ◌++◌, ◌∷◌, ℕ, [], List, Ok, Some, None, IfOk, IfErr, OnOk, OnErr};
 ghost use Rattle.lard_base.specs.Config.{config_check};
 ghost use Rattle.lard_base.specs.declared.config.Config.{Config};
-ghost use Rattle.lard_files.specs.Files.{Answers};
+ghost use Rattle.lard_files.specs.Files.{AnswersAddition};
 ghost use Rattle.lard_journal.specs.declared.rec.Rec.{Rec};
 ghost use Rattle.lard_audit.specs.Audit.{IsAuditOf, IsFaultOf};
-ghost use Rattle.lard_audit.specs.Sound.{broken, job_at, keeps_cache, size_in};
+ghost use Rattle.lard_audit.specs.Sound.{broken, audit_job_at, keeps_cache, size_in};
 ghost use Rattle.lard_audit.specs.Books.{AreSound};
-ghost use Rattle.lard_audit.specs.Nodes.{IsAtNode, changed, entries_at, jobs_at, named_by, named_by_event, number_at, number_or_0, queued_by, read_by, size_or_0};
-ghost use Rattle.lard_audit.specs.State.{add_check, broken_at, changed_by, noted, sizes_of};
+ghost use Rattle.lard_audit.specs.Nodes.{IsAtNode, audit_changed, entries_at, audit_jobs_at, named_by, named_by_event, audit_number_at, number_or_0, queued_by, read_by, size_or_0};
+ghost use Rattle.lard_audit.specs.State.{audit_add_check, broken_at, audit_changed_by, audit_noted, sizes_of};
 
 use crate::books::Books;
 use crate::nodes::Nodes;
@@ -65,7 +65,7 @@ impl Audit {
     /// as it was: `Repeated` where the path is there, `TooLong` with the size above 2^20 bytes, `TooMany` with the number of
     /// files above 65,536, `TooMuch` with the sum of their sizes above 2^26 bytes, both counted with this one, `NoMemory`.
     pub fn file(&mut self, path: &[u8], size: u64) -> Result<(), FileFault>
-        ensures answer { (cfg : Config) (files : List (List ℕ × ℕ)) → IsAuditOf self.old cfg files [] → Answers (add_check files path.now size) result }
+        ensures answer { (cfg : Config) (files : List (List ℕ × ℕ)) → IsAuditOf self.old cfg files [] → AnswersAddition (audit_add_check files path.now size) result }
         ensures ok { OnOk result ((cfg : Config) (files : List (List ℕ × ℕ)) → IsAuditOf self.old cfg files [] → IsAuditOf self.new cfg (files ++ (path.now, size) ∷ []) []) }
         ensures err { OnErr result (self.new ≡ self.old) }
     {
@@ -118,7 +118,7 @@ impl Audit {
 
     /// Whether the record keeps the rule of caches and disks.
     fn keeps_cache(&self, rec: &Rec) -> bool
-        ensures value { result ≡ keeps_cache (sizes_of self.now.targets) (entries_at self.now.nodes) (λ n. job_at (jobs_at self.now.nodes n) (number_at self.now.named n)) rec.now }
+        ensures value { result ≡ keeps_cache (sizes_of self.now.targets) (entries_at self.now.nodes) (λ n. audit_job_at (audit_jobs_at self.now.nodes n) (audit_number_at self.now.named n)) rec.now }
         ensures node { IsAtNode rec.now }
     {
         match rec {
@@ -158,10 +158,10 @@ impl Audit {
     }
 
     /// Notes a record that breaks no rule. Without memory nothing changes.
-    #[tactic(auto, unfolding(crate::specs::State::noted))]
+    #[tactic(auto, unfolding(crate::specs::State::audit_noted))]
     fn note(&mut self, rec: &Rec) -> Result<(), NoMemory>
         requires { broken_at self.old rec.now ≡ None }
-        ensures ok { OnOk result (self.new ≡ noted self.old rec.now) }
+        ensures ok { OnOk result (self.new ≡ audit_noted self.old rec.now) }
         ensures err { OnErr result (self.new ≡ self.old) }
     {
         self.change(rec)?;
@@ -172,7 +172,7 @@ impl Audit {
     /// What a record changes that breaks no rule, but for the job that it names. Without memory nothing changes.
     fn change(&mut self, rec: &Rec) -> Result<(), NoMemory>
         requires { broken_at self.old rec.now ≡ None }
-        ensures ok { OnOk result (self.new ≡ changed_by self.old rec.now) }
+        ensures ok { OnOk result (self.new ≡ audit_changed_by self.old rec.now) }
         ensures err { OnErr result (self.new ≡ self.old) }
     {
         match rec {
@@ -250,7 +250,7 @@ impl Audit {
         r: u32,
         path: &Path,
     ) -> Result<(), NoMemory>
-        ensures ok { OnOk result (self.new ≡ record self.old { nodes = changed self.old.nodes n (queued_by (record { m = m; c = c; r = r; path = path.now })) }) }
+        ensures ok { OnOk result (self.new ≡ record self.old { nodes = audit_changed self.old.nodes n (queued_by (record { m = m; c = c; r = r; path = path.now })) }) }
         ensures err { OnErr result (self.new ≡ self.old) }
     {
         let path = path.copy(self.alloc)?;
@@ -259,7 +259,7 @@ impl Audit {
 
     /// The job that was named is read, which brings its path into the cache. Without memory nothing changes.
     fn read(&mut self, n: NodeId, path: &Path) -> Result<(), NoMemory>
-        ensures ok { OnOk result (self.new ≡ record self.old { nodes = changed self.old.nodes n (read_by (number_or_0 self.old.named) path.now (size_or_0 (size_in (sizes_of self.old.targets) path.now))) }) }
+        ensures ok { OnOk result (self.new ≡ record self.old { nodes = audit_changed self.old.nodes n (read_by (number_or_0 self.old.named) path.now (size_or_0 (size_in (sizes_of self.old.targets) path.now))) }) }
         ensures err { OnErr result (self.new ≡ self.old) }
     {
         let size = match self.size(path) {
@@ -276,7 +276,7 @@ impl Audit {
 
 /// The number of the job that was named, if it is one of this node.
 fn number_at(named: Option<(u32, u32)>, n: NodeId) -> Option<u32>
-    ensures { result ≡ number_at named n }
+    ensures { result ≡ audit_number_at named n }
 {
     match named {
         Some((k, j)) => { if k == n.number() { Some(j) } else { None } }

@@ -9,8 +9,8 @@ ghost use Rattle.lard_costs.specs.Later.{later_choice};
 ghost use Rattle.lard_loads.specs.Tally.{admitted, batch_ended, connected, home, open_shares, released, shared};
 ghost use Rattle.lard_policy.specs.declared.first.FirstChoice.{FirstChoice};
 ghost use Rattle.lard_sets.specs.Sets.{has_place, set_of, touched};
-ghost use Rattle.lard_audit.specs.Sound.{first_at, is_first_choice, is_first_of, is_later_choice, is_same, keeps_admission, keeps_choice, keeps_clock, keeps_later, keeps_room};
-ghost use Rattle.lard_audit.specs.Books.{AreSound, Books, blank_books, count_in, is_inside, is_it};
+ghost use Rattle.lard_audit.specs.Sound.{audit_first_at, is_first_choice, is_first_of, is_later_choice, is_same, keeps_admission, keeps_choice, keeps_clock, keeps_later, keeps_room};
+ghost use Rattle.lard_audit.specs.Books.{AreSound, AuditBooks, blank_books, count_in, is_inside, is_it};
 
 use lard_base::{Config, ConnId, Millis, NoMemory, NodeId, Path};
 use lard_costs::{LaterChoice, choose_later};
@@ -36,11 +36,11 @@ pub struct Books {
 impl Model for Books {
     ghost use Rattle.std.specs.Prelude.{◌≡◌};
     ghost use Rattle.lard_base.specs.Config.{room_of};
-    ghost use Rattle.lard_audit.specs.Books.{AreSound, Books, coded_books};
+    ghost use Rattle.lard_audit.specs.Books.{AreSound, AuditBooks, audit_coded_books};
 
-    ghost Value = { Books };
+    ghost Value = { AuditBooks };
 
-    ghost coded = { coded_books };
+    ghost coded = { audit_coded_books };
 
     ghost view = { λ b. record { config = b.config; time = b.time; loads = b.loads; sets = b.sets; due = b.due } };
 
@@ -151,7 +151,7 @@ impl Books {
         remove: Option<NodeId>,
     ) -> Result<(), NoMemory>
         requires due { self.old.due ≡ Some c }
-        requires choice { first_at self.old.config self.old.time self.old.loads self.old.sets path.now ≡ record { node = n; add = add; remove = remove } }
+        requires choice { audit_first_at self.old.config self.old.time self.old.loads self.old.sets path.now ≡ record { node = n; add = add; remove = remove } }
         ensures ok { OnOk result (self.new ≡ record self.old { loads = connected self.old.loads c n; sets = reduced (joined (touched self.old.sets path.now) path.now add self.old.time) path.now remove self.old.time; due = None }) }
         ensures err { OnErr result (self.new ≡ self.old) }
     {
@@ -233,7 +233,7 @@ impl Books {
 
     /// The first choice for a path.
     fn first_at(&self, path: &Path) -> FirstChoice
-        ensures { result ≡ first_at self.now.config self.now.time self.now.loads self.now.sets path.now }
+        ensures { result ≡ audit_first_at self.now.config self.now.time self.now.loads self.now.sets path.now }
     {
         let path = path.as_slice();
         choose_first(

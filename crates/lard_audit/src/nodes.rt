@@ -1,10 +1,10 @@
 //! The caches and the disks of all nodes that there can be.
 
 ghost use Rattle.std.specs.Prelude.{◌≡◌, ◌-◌, ◌<◌, length, replicate, slice_get, IfOk, OnOk, OnErr};
-ghost use Rattle.lard_cache.specs.Recency.{has};
+ghost use Rattle.lard_cache.specs.Recency.{has_path};
 ghost use Rattle.lard_counts.specs.Stores.{waiting_at};
-ghost use Rattle.lard_audit.specs.Sound.{is_job};
-ghost use Rattle.lard_audit.specs.Nodes.{changed, entries_at, hit_by, idle, jobs_at, queued_by, read_by, set_node};
+ghost use Rattle.lard_audit.specs.Sound.{is_audit_job};
+ghost use Rattle.lard_audit.specs.Nodes.{audit_changed, entries_at, hit_by, idle, audit_jobs_at, queued_by, read_by, set_node};
 
 use crate::queue::{Job, Queue};
 use lard_base::{ConnId, NoMemory, NodeId, Path};
@@ -86,14 +86,14 @@ impl Nodes {
 
     /// Whether a path is in the cache of a node.
     pub fn has(&self, n: NodeId, path: &[u8]) -> bool
-        ensures { result ≡ has (entries_at self.now n) path.now }
+        ensures { result ≡ has_path (entries_at self.now n) path.now }
     {
         self.all[n.number() as usize - 1].cache.has(path)
     }
 
     /// Whether the j-th job of a node is this one.
     pub fn is_job(&self, n: NodeId, j: u32, m: NodeId, c: ConnId, r: u32, path: &[u8]) -> bool
-        ensures { result ≡ is_job (waiting_at (jobs_at self.now n) j) m c r path.now }
+        ensures { result ≡ is_audit_job (waiting_at (audit_jobs_at self.now n) j) m c r path.now }
     {
         self.all[n.number() as usize - 1]
             .jobs
@@ -102,14 +102,14 @@ impl Nodes {
 
     /// A path that is in the cache of a node comes to the front.
     pub fn hit(&mut self, n: NodeId, path: &[u8])
-        ensures { self.new ≡ changed self.old n (hit_by path.now) }
+        ensures { self.new ≡ audit_changed self.old n (hit_by path.now) }
     {
         hit_at(&mut self.all, n.number() as usize - 1, path);
     }
 
     /// A job is queued at a node. Without memory nothing changes.
     pub fn queue(&mut self, n: NodeId, job: Job) -> Result<(), NoMemory>
-        ensures ok { OnOk result (self.new ≡ changed self.old n (queued_by job)) }
+        ensures ok { OnOk result (self.new ≡ audit_changed self.old n (queued_by job)) }
         ensures err { OnErr result (self.new ≡ self.old) }
     {
         queue_at(&mut self.all, n.number() as usize - 1, job)
@@ -118,7 +118,7 @@ impl Nodes {
     /// The j-th job of a node is read, which brings its path, whose file has so many bytes, into the cache. Without memory
     /// nothing changes.
     pub fn read(&mut self, n: NodeId, j: u32, path: &Path, size: u32) -> Result<(), NoMemory>
-        ensures ok { OnOk result (self.new ≡ changed self.old n (read_by j path.now size)) }
+        ensures ok { OnOk result (self.new ≡ audit_changed self.old n (read_by j path.now size)) }
         ensures err { OnErr result (self.new ≡ self.old) }
     {
         read_at(&mut self.all, n.number() as usize - 1, j, path, size)

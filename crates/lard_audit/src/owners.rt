@@ -3,8 +3,8 @@
 ghost use Rattle.std.specs.Prelude.{◌≡◌, [], Some, None, nat_eq, OnOk, OnErr};
 ghost use Rattle.indexmap.specs.IndexMap.{insert_entry};
 ghost use Rattle.lard_history.specs.Journal.{is_place};
-ghost use Rattle.lard_audit.specs.Sound.{is_owner, keeps_owner, keeps_sender, may_send};
-ghost use Rattle.lard_audit.specs.Network.{epoch_in, holder, owner_in};
+ghost use Rattle.lard_audit.specs.Sound.{is_owner, keeps_owner, keeps_sender, may_audit_send};
+ghost use Rattle.lard_audit.specs.Network.{audit_epoch_in, holder, owner_in};
 
 use crate::register::Register;
 use lard_base::{ConnId, Epoch, NoMemory, Place};
@@ -46,7 +46,7 @@ impl Owners {
 
     /// Whether the record keeps the rule of owners.
     pub fn keeps(&self, rec: &Rec) -> bool
-        ensures { result ≡ keeps_owner (owner_in self.now) (epoch_in self.now) rec.now }
+        ensures { result ≡ keeps_owner (owner_in self.now) (audit_epoch_in self.now) rec.now }
     {
         match rec {
             Rec::Took { place: _, c, epoch } => {
@@ -90,7 +90,7 @@ impl Owners {
 
     /// A place gives a connection up. Without memory nothing changes.
     pub fn give(&mut self, c: ConnId) -> Result<(), NoMemory>
-        ensures ok { OnOk result (self.new ≡ insert_entry nat_eq self.old c (record { owner = None; epoch = epoch_in self.old c })) }
+        ensures ok { OnOk result (self.new ≡ insert_entry nat_eq self.old c (record { owner = None; epoch = audit_epoch_in self.old c })) }
         ensures err { OnErr result (self.new ≡ self.old) }
     {
         let held = Holder {
@@ -115,7 +115,7 @@ impl Owners {
 
     /// Whether a place may send to another.
     fn may_send(&self, from: &Place, to: &Place) -> bool
-        ensures { result ≡ may_send (owner_in self.now) from.now to.now }
+        ensures { result ≡ may_audit_send (owner_in self.now) from.now to.now }
     {
         match (from, to) {
             (Place::Front, Place::Client(c)) => is_owner(&self.holder(*c).owner, from),

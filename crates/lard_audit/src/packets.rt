@@ -3,7 +3,7 @@
 ghost use Rattle.std.specs.Prelude.{◌≡◌, ◌+◌, [], true, nat_eq, OnOk, OnErr};
 ghost use Rattle.indexmap.specs.IndexMap.{insert_entry};
 ghost use Rattle.lard_audit.specs.Sound.{keeps_network};
-ghost use Rattle.lard_audit.specs.Network.{is_on_way};
+ghost use Rattle.lard_audit.specs.Network.{is_audit_on_way};
 
 use crate::register::Register;
 use lard_base::NoMemory;
@@ -31,7 +31,7 @@ impl Packets {
 
     /// Whether the record keeps the rule of the network.
     pub fn keeps(&self, rec: &Rec) -> bool
-        ensures { result ≡ keeps_network self.now.sent (is_on_way self.now) rec.now }
+        ensures { result ≡ keeps_network self.now.sent (is_audit_on_way self.now) rec.now }
     {
         match rec {
             Rec::Sent {
@@ -72,7 +72,7 @@ impl Packets {
 
     /// Whether the packet was sent, and not lost.
     fn is_on_way(&self, k: u32) -> bool
-        ensures { result ≡ is_on_way self.now k }
+        ensures { result ≡ is_audit_on_way self.now k }
     {
         k > 0 && k <= self.sent && self.lost.get(k).is_none()
     }

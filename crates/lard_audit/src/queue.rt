@@ -2,8 +2,8 @@
 
 ghost use Rattle.std.specs.Prelude.{◌≡◌, ◌+◌, ◌-◌, ◌<◌, ◌^◌, [], ◌∷◌, ◌++◌, map, Some, OnOk, OnErr};
 ghost use Rattle.lard_counts.specs.Stores.{waiting_at};
-ghost use Rattle.lard_audit.specs.Sound.{is_job};
-ghost use Rattle.lard_audit.specs.Queue.{told, without_job};
+ghost use Rattle.lard_audit.specs.Sound.{is_audit_job};
+ghost use Rattle.lard_audit.specs.Queue.{audit_told, audit_without_job};
 
 use lard_base::{ConnId, NoMemory, NodeId, Path};
 use std::alloc::Global;
@@ -51,7 +51,7 @@ impl Queue {
 
     /// Whether the j-th job from the oldest, counted from 1, is this one.
     pub fn is_at(&self, j: u32, m: NodeId, c: ConnId, r: u32, path: &[u8]) -> bool
-        ensures { result ≡ is_job (waiting_at (map told self.now) j) m c r path.now }
+        ensures { result ≡ is_audit_job (waiting_at (map audit_told self.now) j) m c r path.now }
     {
         if j == 0 {
             return false;
@@ -76,7 +76,7 @@ impl Queue {
 
     /// Takes out the j-th job from the oldest, counted from 1. Where there is none nothing changes.
     pub fn take_out(&mut self, j: u32)
-        ensures { self.new ≡ without_job self.old j }
+        ensures { self.new ≡ audit_without_job self.old j }
     {
         if j > 0 {
             self.jobs.remove(j as usize - 1);
@@ -86,7 +86,7 @@ impl Queue {
 
 /// Whether a job is this one.
 fn is_job(job: &Job, m: NodeId, c: ConnId, r: u32, path: &[u8]) -> bool
-    ensures { result ≡ is_job (Some (told job.now)) m c r path.now }
+    ensures { result ≡ is_audit_job (Some (audit_told job.now)) m c r path.now }
 {
     (job.m.number() == m.number() && job.c.number() == c.number())
         && (job.r == r && job.path.as_slice() == path)

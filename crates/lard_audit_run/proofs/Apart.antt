@@ -3,7 +3,7 @@ use Rattle.std.proofs.Common.{◌≡◌, ℕ, List, ◌∷◌, cond, Some, None,
 use Rattle.std.specs.Prelude.{codes, bytes_eq}
 use Rattle.lard_base.specs.Spelling.{sentence}
 use Rattle.lard_journal.specs.Report.{rec_words}
-use Rattle.lard_report.specs.Preface.{behind_word, file_of}
+use Rattle.lard_report.specs.Preface.{behind_word, file_line_of}
 use Rattle.lard_report.specs.Records.{loosely_of, record_of}
 use Rattle.lard_schedule.specs.Words.{◌>>=◌, word_then, words_of}
 use Rattle.lard_schedule.proofs.Found.{bind_some, cond_some, word_spelled}
@@ -17,8 +17,8 @@ behind_spelled text words rest e =
     word_spelled words word.0 word.1 ∙ ap (λ w. w ∷ word.0.1) (text_is word.0.0 text tested.0) ∙ ap (λ w. text ∷ w) tested.1
 
 -- the first word of a file's line
-file_word : (line : List ℕ) (file : List ℕ × ℕ) → file_of line ≡ Some file → (rest : List (List ℕ)) × (words_of line ≡ codes "file" ∷ rest)
-unfolding file_of
+file_word : (line : List ℕ) (file : List ℕ × ℕ) → file_line_of line ≡ Some file → (rest : List (List ℕ)) × (words_of line ≡ codes "file" ∷ rest)
+unfolding file_line_of
 file_word line file e =
     let rest = bind_some (behind_word (codes "file") (words_of line)) _ file e in (rest.0, behind_spelled (codes "file") (words_of line) rest.0 rest.1)
 
@@ -27,7 +27,7 @@ no_kind : (rest : List (List ℕ)) → loosely_of (codes "file" ∷ rest) ≡ No
 unfolding loosely_of
 no_kind rest = refl
 
-pub file_no_record : (line : List ℕ) (file : List ℕ × ℕ) → file_of line ≡ Some file → record_of line ≡ None
+pub file_no_record : (line : List ℕ) (file : List ℕ × ℕ) → file_line_of line ≡ Some file → record_of line ≡ None
 unfolding record_of
 file_no_record line file e =
     let word = file_word line file e in

@@ -20,7 +20,7 @@ use Rattle.lard_journal.specs.declared.rec.Rec.{Rec}
 use Rattle.lard_journal.proofs.Cut.{cut, cut-line_of, is_sentence, plain-decimal}
 use Rattle.lard_journal.proofs.Told.{cut-rec_line, plain-path}
 use Rattle.lard_lines.specs.Lines.{is_feed, lines_of}
-use Rattle.lard_report.specs.Preface.{IsWide}
+use Rattle.lard_report.specs.Preface.{IsHeadingWide}
 use Rattle.lard_report.specs.Readable.{IsReadable}
 use Rattle.lard_report.specs.declared.preface.Heading.{Heading}
 use Rattle.lard_report.proofs.Lines.{record_from}
@@ -32,7 +32,7 @@ use Rattle.lard_audit_run.specs.declared.auditor.Stage.{Stage}
 use Rattle.lard_audit_run.specs.declared.auditor.Stage.TheVariants as stage
 use Rattle.lard_audit_run.specs.declared.auditor.TheConstants.{MAX_REPORT_BYTES}
 use Rattle.lard_audit_run.specs.declared.verdict.Verdict.TheVariants.{Sound}
-use Rattle.lard_audit_run.specs.Audited.{Course, Leads, audited, begin, begun, configured, counted, ended_at, entered, entered_at, filed, headed, judged, listed, ruled, taken}
+use Rattle.lard_audit_run.specs.Audited.{Course, AuditLeads, audited, audit_begin, begun, audit_configured, counted, ended_at, audit_entered, entered_at, audit_filed, headed, audit_judged, audit_listed, ruled, taken}
 use Rattle.lard_audit_run.specs.Reports.{IsSoundReport, MayBeAdded}
 use Rattle.lard_audit_run.proofs.Causes.{ruled-at}
 use Rattle.lard_audit_run.proofs.Going.{leads_judged}
@@ -159,7 +159,7 @@ fits_in s line lines small =
 -- lines that pass, to a course behind the heading
 record PassTo (s : Course) (lines : List (List ℕ)) (journal : List Rec) : Type 0 where
   course : Course
-  leads : Leads s lines course
+  leads : AuditLeads s lines course
   later : course.stage ≢ stage.Heading
   journal_is : course.journal ≡ journal
 
@@ -167,7 +167,7 @@ records_later : stage.Records ≢ stage.Heading
 records_later e = cc
 
 recs_pass : (recs : List Rec) (s : Course) → s.stage ≢ stage.Heading → AllByRecursion IsReadable recs → Keep s.config s.files s.journal recs → s.read + length (text_of (rec_lines recs)) ≤ MAX_REPORT_BYTES → PassTo s (rec_lines recs) (s.journal ++ recs)
-unfolding entered
+unfolding audit_entered
 recs_pass [] s later fits keeps small = record { course = s; leads = refl; later = later; journal_is = sym (append-nil s.journal) }
 recs_pass (r ∷ recs) s later fits keeps small =
     let line = rec_sentence r in
@@ -186,7 +186,7 @@ files_later s here e = let both : stage.Files ≡ stage.Heading = sym here ∙ e
 
 others_pass : (files : List (List ℕ × ℕ)) (recs : List Rec) (s : Course) → s.stage ≡ stage.Files → MayBeAdded s.files files → AllByRecursion IsReadable recs → Keep s.config (s.files ++ files) s.journal recs
     → s.read + length (text_of (other_lines files recs)) ≤ MAX_REPORT_BYTES → PassTo s (other_lines files recs) (s.journal ++ recs)
-unfolding entered
+unfolding audit_entered
 others_pass [] recs s here may fits keeps small = recs_pass recs s (files_later s here) fits (subst (λ files. Keep s.config files s.journal recs) (append-nil s.files) keeps) small
 others_pass (file ∷ files) recs s here may fits keeps small =
     let line = file_sentence file in
@@ -197,7 +197,7 @@ others_pass (file ∷ files) recs s here may fits keeps small =
       course = more.course;
       leads = (
         v,
-        passed_by s line false room.0 ∙ ap (taken (s.lines + 1) line) (ap (λ at. entered_at at s line) here ∙ ap (listed s line) (file_from line file.0 file.1 (refl, may.0, may.1)) ∙ ap (filed s file) may.2),
+        passed_by s line false room.0 ∙ ap (taken (s.lines + 1) line) (ap (λ at. entered_at at s line) here ∙ ap (audit_listed s line) (file_from line file.0 file.1 (refl, may.0, may.1)) ∙ ap (audit_filed s file) may.2),
         more.leads,
       );
       later = more.later;
@@ -216,7 +216,7 @@ key_checked c key keys e = go (is_in_range key (value_of c key)) refl e where
 abbrev pub heading_with : Config → Heading
 heading_with c = record { nodes = c.nodes; low = c.low; high = c.high; age = c.age; idle = c.idle; over = c.over; miss = c.miss; cache = c.cache; stream = c.stream }
 
-pub wide : (c : Config) → config_check c ≡ Ok tt → IsWide (heading_with c)
+pub wide : (c : Config) → config_check c ≡ Ok tt → IsHeadingWide (heading_with c)
 wide c e =
     let first = key_checked c Nodes (Low ∷ High ∷ Age ∷ Idle ∷ Over ∷ Miss ∷ Cache ∷ Stream ∷ []) e in
     let second = key_checked c Low (High ∷ Age ∷ Idle ∷ Over ∷ Miss ∷ Cache ∷ Stream ∷ []) first.1 in
@@ -238,10 +238,10 @@ wide c e =
     let stream = (within 1 (2 ^ 30) c.stream ninth.0).1 in
     (omega (arith, nodes), omega (arith, low), omega (arith, high), omega (arith, age), omega (arith, idle), omega (arith, over), omega (arith, miss), omega (arith, cache), omega (arith, stream))
 
-heading_passes : (c : Config) → config_check c ≡ Ok tt → entered begin (sentence (heading_words c)) ≡ Ok (record begin { stage = stage.Files; config = c; files = []; journal = [] })
-unfolding entered heading_line
+heading_passes : (c : Config) → config_check c ≡ Ok tt → audit_entered audit_begin (sentence (heading_words c)) ≡ Ok (record audit_begin { stage = stage.Files; config = c; files = []; journal = [] })
+unfolding audit_entered heading_line
 heading_passes c usable =
-    ap (headed begin) (heading_from (sentence (heading_words c)) (heading_with c) (refl, wide c usable)) ∙ ap (λ given. begun begin (configured c given)) usable
+    ap (headed audit_begin) (heading_from (sentence (heading_words c)) (heading_with c) (refl, wide c usable)) ∙ ap (λ given. begun audit_begin (audit_configured c given)) usable
 
 -- ---- the whole text
 
@@ -259,9 +259,9 @@ sound_passes text r small =
     sym (append_assoc first (10 ∷ []) (text_of others)) ∙ ap (λ xs. heading_line r.config ++ xs) (other_text r.files r.journal)
     ∙ sym (append_assoc (heading_line r.config) (flat_map file_text r.files) (flat_map rec_line r.journal)) ∙ sym r.is in
     let long : length (text_of (first ∷ others)) ≡ length text = ap length same in
-    let room = fits_in begin first others (omega (arith, small, long)) in
-    let v = counted first (record begin { stage = stage.Files; config = r.config; files = []; journal = [] }) in
+    let room = fits_in audit_begin first others (omega (arith, small, long)) in
+    let v = counted first (record audit_begin { stage = stage.Files; config = r.config; files = []; journal = [] }) in
     let more = others_pass r.files r.journal v refl r.addable r.readable r.sound room.1 in
-    let leads : Leads begin (first ∷ others) more.course = (v, passed_by begin first false room.0 ∙ ap (taken 1 first) (heading_passes r.config r.usable), more.leads) in
+    let leads : AuditLeads audit_begin (first ∷ others) more.course = (v, passed_by audit_begin first false room.0 ∙ ap (taken 1 first) (heading_passes r.config r.usable), more.leads) in
     let are : lines_of text ≡ (first ∷ others) ++ [] ∷ [] = ap lines_of (sym same) ∙ cut_again (first ∷ others) (heading_is_line r.config, others_are_lines r.files [] r.journal r.addable r.readable) in
-    ap (judged begin) are ∙ leads_judged begin more.course (first ∷ others) [] [] leads ∙ ended-so more.course more.later more.course.stage refl ∙ ap (λ J. Sound (length J)) more.journal_is
+    ap (audit_judged audit_begin) are ∙ leads_judged audit_begin more.course (first ∷ others) [] [] leads ∙ ended-so more.course more.later more.course.stage refl ∙ ap (λ J. Sound (length J)) more.journal_is

@@ -6,7 +6,7 @@ use Rattle.lard_audit_run.specs.declared.verdict.Flaw.{Flaw}
 use Rattle.lard_audit_run.specs.declared.verdict.Verdict.{Verdict}
 use Rattle.lard_audit_run.specs.declared.verdict.Verdict.TheVariants.{Sound, Refused, TooLong, ReadFault, WriteFault, NoMemory}
 use Rattle.lard_audit_run.specs.Audited.{audited, records_line}
-use Rattle.lard_audit_run.specs.Runs.{AuditEnds, Audited, IsDecided, IsSettled, Judged, Wrote}
+use Rattle.lard_audit_run.specs.Runs.{AuditEnds, Audited, IsAuditDecided, IsVerdictSettled, Judged, AuditWrote}
 use Rattle.lard_audit_run.proofs.Causes.{caused}
 
 module _ (left left_now old new : Option (List ℕ)) where
@@ -14,7 +14,7 @@ module _ (left left_now old new : Option (List ℕ)) where
   told v w j e = record { text = j.text; consumed = j.consumed; bounded = j.bounded; ended = e; causes = caused j.text }
 
   -- the line of a sound report was written, or a front of it
-  pub wrote-so : (n : ℕ) (w : Verdict) → Judged (Sound n) left left_now → Wrote n w old new → Audited w left left_now old new
+  pub wrote-so : (n : ℕ) (w : Verdict) → Judged (Sound n) left left_now → AuditWrote n w old new → Audited w left left_now old new
   wrote-so n (Sound m) j h = told (Sound n) (Sound m) j (j.ends.0, j.ends.1, j.ends.2 ∙ ap Sound (sym h.0), subst (λ k. Appends old new (records_line k)) (sym h.0) h.1)
   wrote-so n WriteFault j h = told (Sound n) WriteFault j (j.ends.0, j.ends.1, (n, j.ends.2, h))
   wrote-so n NoMemory j h = told (Sound n) NoMemory j h
@@ -40,15 +40,15 @@ module _ (left left_now old : Option (List ℕ)) where
   never-so j = absurd j.ends
 
 -- where no fault came, the input alone decides the verdict
-pub settled : (v : Verdict) (left left_now old new : Option (List ℕ)) → Audited v left left_now old new → ¬ (v ≡ ReadFault) → ¬ (v ≡ WriteFault) → IsSettled v left
+pub settled : (v : Verdict) (left left_now old new : Option (List ℕ)) → Audited v left left_now old new → ¬ (v ≡ ReadFault) → ¬ (v ≡ WriteFault) → IsVerdictSettled v left
 settled v None left_now old new ran read written = tt
 settled v (Some input) None old new ran read written = absurd ran.consumed
 settled v (Some input) (Some after) old new ran read written = go v ran.ended read written where
-  all : IsDecided ran.text (Some after) → audited input ≡ audited ran.text
+  all : IsAuditDecided ran.text (Some after) → audited input ≡ audited ran.text
   all (inl end) = ap audited (ran.consumed ∙ ap (λ rest. ran.text ++ rest) end ∙ append-nil ran.text)
   all (inr same) = ap audited ran.consumed ∙ same after
 
-  go : (w : Verdict) → AuditEnds w ran.text (Some after) old new → ¬ (w ≡ ReadFault) → ¬ (w ≡ WriteFault) → IsSettled w (Some input)
+  go : (w : Verdict) → AuditEnds w ran.text (Some after) old new → ¬ (w ≡ ReadFault) → ¬ (w ≡ WriteFault) → IsVerdictSettled w (Some input)
   go (Sound n) e read written = inl (sym (all (inl e.0) ∙ e.2))
   go (Refused line flaw) e read written = inl (sym (all e.0 ∙ e.1))
   go (TooLong line) e read written = inl (sym (all e.0 ∙ e.1))

@@ -14,25 +14,25 @@ use Rattle.lard_audit_run.specs.declared.auditor.TheConstants.{MAX_REPORT_BYTES}
 use Rattle.lard_audit_run.specs.declared.verdict.Flaw.TheVariants as flaw
 use Rattle.lard_audit_run.specs.declared.verdict.Verdict.{Verdict}
 use Rattle.lard_audit_run.specs.declared.verdict.Verdict.TheVariants.{Refused, TooLong}
-use Rattle.lard_audit_run.specs.Audited.{Course, Leads, audited, begin, ended_at, ending, judged, passed}
-use Rattle.lard_audit_run.specs.Runs.{Ends, HasPassed, IsDecided}
+use Rattle.lard_audit_run.specs.Audited.{Course, AuditLeads, audited, audit_begin, ended_at, audit_ending, audit_judged, audit_passed}
+use Rattle.lard_audit_run.specs.Runs.{Ends, HasAuditPassed, IsAuditDecided}
 use Rattle.lard_audit_run.proofs.Passing.{passed-took, past_as_line, past_at_end}
 
 -- ---- lines that pass
 
 -- lines that pass, and one more
-pub leads_on : (s t u : Course) (lines : List (List ℕ)) (line : List ℕ) → Leads s lines t → passed t line ≡ Ok u → Leads s (lines ++ line ∷ []) u
-leads_on s t u [] line l e = (u, ap (λ (v : Course). passed v line) l ∙ e, refl)
+pub leads_on : (s t u : Course) (lines : List (List ℕ)) (line : List ℕ) → AuditLeads s lines t → audit_passed t line ≡ Ok u → AuditLeads s (lines ++ line ∷ []) u
+leads_on s t u [] line l e = (u, ap (λ (v : Course). audit_passed v line) l ∙ e, refl)
 leads_on s t u (first ∷ lines) line l e = (l.0, l.1, leads_on l.0 t u lines line l.2 e)
 
 -- lines that pass lead to what is behind them
-pub leads_judged : (s t : Course) (lines : List (List ℕ)) (part : List ℕ) (parts : List (List ℕ)) → Leads s lines t → judged s (lines ++ part ∷ parts) ≡ judged t (part ∷ parts)
-leads_judged s t [] part parts l = ap (λ (v : Course). judged v (part ∷ parts)) l
+pub leads_judged : (s t : Course) (lines : List (List ℕ)) (part : List ℕ) (parts : List (List ℕ)) → AuditLeads s lines t → audit_judged s (lines ++ part ∷ parts) ≡ audit_judged t (part ∷ parts)
+leads_judged s t [] part parts l = ap (λ (v : Course). audit_judged v (part ∷ parts)) l
 leads_judged s t (line ∷ []) part parts l =
-    let step : judged s (line ∷ part ∷ parts) ≡ judged l.0 (part ∷ parts) = rw (l.1, judged) refl in
-    step ∙ ap (λ (v : Course). judged v (part ∷ parts)) l.2
+    let step : audit_judged s (line ∷ part ∷ parts) ≡ audit_judged l.0 (part ∷ parts) = rw (l.1, audit_judged) refl in
+    step ∙ ap (λ (v : Course). audit_judged v (part ∷ parts)) l.2
 leads_judged s t (line ∷ next ∷ lines) part parts l =
-    let step : judged s (line ∷ next ∷ (lines ++ part ∷ parts)) ≡ judged l.0 (next ∷ (lines ++ part ∷ parts)) = rw (l.1, judged) refl in
+    let step : audit_judged s (line ∷ next ∷ (lines ++ part ∷ parts)) ≡ audit_judged l.0 (next ∷ (lines ++ part ∷ parts)) = rw (l.1, audit_judged) refl in
     step ∙ leads_judged l.0 t (next ∷ lines) part parts l.2
 
 -- The course after the lines of a text that are passed, with the rest of it. Whatever comes behind the text comes behind the rest.
@@ -40,7 +40,7 @@ pub record Going (text rest : List ℕ) (s : Course) : Type 0 where
   pub read : s.read + length rest ≡ length text
   pub most : s.read ≤ MAX_REPORT_BYTES
   pub lines : List (List ℕ)
-  pub leads : Leads begin lines s
+  pub leads : AuditLeads audit_begin lines s
   pub passed_text : List ℕ
   pub cut : text ≡ passed_text ++ rest
   pub are : (more : List ℕ) → lines_of (passed_text ++ more) ≡ lines ++ lines_of more
@@ -49,7 +49,7 @@ pub record Going (text rest : List ℕ) (s : Course) : Type 0 where
 lines-of-all : (text rest : List ℕ) (s : Course) (g : Going text rest s) (more : List ℕ) → lines_of (text ++ more) ≡ g.lines ++ lines_of (rest ++ more)
 lines-of-all text rest s g more = ap (λ (xs : List ℕ). lines_of (xs ++ more)) g.cut ∙ ap lines_of (append_assoc g.passed_text rest more) ∙ g.are (rest ++ more)
 
-pub going_first : Going [] [] begin
+pub going_first : Going [] [] audit_begin
 going_first = record {
   read = refl;
   most = omega arith;
@@ -74,23 +74,23 @@ going_more text rest taken s g = record {
 
 -- ---- a line that is too long, before its line feed is read
 
-past_limit : (s : Course) (rest more : List ℕ) → position is_feed rest ≡ None → MAX_REPORT_BYTES < s.read + length rest → s.read ≤ MAX_REPORT_BYTES → judged s (lines_of (rest ++ more)) ≡ TooLong (s.lines + 1)
+past_limit : (s : Course) (rest more : List ℕ) → position is_feed rest ≡ None → MAX_REPORT_BYTES < s.read + length rest → s.read ≤ MAX_REPORT_BYTES → audit_judged s (lines_of (rest ++ more)) ≡ TooLong (s.lines + 1)
 past_limit s rest more none l small = alone (position is_feed (rest ++ more)) refl where
   some : rest ++ more ≢ []
   some e = let no : length (rest ++ more) ≡ 0 = ap length e in absurd (omega (arith, no, l, small, length-append rest more))
 
-  alone : (o : Option ℕ) → position is_feed (rest ++ more) ≡ o → judged s (lines_of (rest ++ more)) ≡ TooLong (s.lines + 1)
-  alone None e = ap (judged s) (split_alone is_feed (rest ++ more) e) ∙ past_at_end s (rest ++ more) (omega (arith, l, length-append rest more)) some
+  alone : (o : Option ℕ) → position is_feed (rest ++ more) ≡ o → audit_judged s (lines_of (rest ++ more)) ≡ TooLong (s.lines + 1)
+  alone None e = ap (audit_judged s) (split_alone is_feed (rest ++ more) e) ∙ past_at_end s (rest ++ more) (omega (arith, l, length-append rest more)) some
   alone (Some at) e = behind (first_part is_feed (drop (at + 1) (rest ++ more))) where
-    behind : (part : List ℕ) × (parts : List (List ℕ)) × (lines_of (drop (at + 1) (rest ++ more)) ≡ part ∷ parts) → judged s (lines_of (rest ++ more)) ≡ TooLong (s.lines + 1)
+    behind : (part : List ℕ) × (parts : List (List ℕ)) × (lines_of (drop (at + 1) (rest ++ more)) ≡ part ∷ parts) → audit_judged s (lines_of (rest ++ more)) ≡ TooLong (s.lines + 1)
     behind f =
         let least = none_until is_feed rest more at none e in
         let within = position-Some is_feed (rest ++ more) at 0 e in
         let line : length (take at (rest ++ more)) ≡ at = length-take-le at (rest ++ more) (omega (arith, within.0)) in
         let long : MAX_REPORT_BYTES < s.read + length (take at (rest ++ more)) = omega (arith, l, least, line) in
         let past = past_as_line s (take at (rest ++ more)) long in
-        let step : judged s (take at (rest ++ more) ∷ f.0 ∷ f.1) ≡ TooLong (s.lines + 1) = rw (past, judged) refl in
-        ap (judged s) (split_at is_feed (rest ++ more) at e ∙ ap (λ ls. take at (rest ++ more) ∷ ls) f.2) ∙ step
+        let step : audit_judged s (take at (rest ++ more) ∷ f.0 ∷ f.1) ≡ TooLong (s.lines + 1) = rw (past, audit_judged) refl in
+        ap (audit_judged s) (split_at is_feed (rest ++ more) at e ∙ ap (λ ls. take at (rest ++ more) ∷ ls) f.2) ∙ step
 
 nothing : (xs : List ℕ) → length xs ≡ 0 → xs ≡ []
 nothing [] none = refl
@@ -98,11 +98,11 @@ nothing (x ∷ xs) none = absurd (omega (arith, none))
 
 module _ (text rest : List ℕ) (s : Course) (g : Going text rest s) where
   -- what the rest gives, with whatever comes behind it
-  goes_on : (more : List ℕ) → audited (text ++ more) ≡ judged s (lines_of (rest ++ more))
+  goes_on : (more : List ℕ) → audited (text ++ more) ≡ audit_judged s (lines_of (rest ++ more))
   unfolding audited
   goes_on more = go (first_part is_feed (rest ++ more)) where
-    go : (part : List ℕ) × (parts : List (List ℕ)) × (lines_of (rest ++ more) ≡ part ∷ parts) → judged begin (lines_of (text ++ more)) ≡ judged s (lines_of (rest ++ more))
-    go f = ap (judged begin) (lines-of-all text rest s g more ∙ ap (λ ls. g.lines ++ ls) f.2) ∙ leads_judged begin s g.lines f.0 f.1 g.leads ∙ ap (judged s) (sym f.2)
+    go : (part : List ℕ) × (parts : List (List ℕ)) × (lines_of (rest ++ more) ≡ part ∷ parts) → audit_judged audit_begin (lines_of (text ++ more)) ≡ audit_judged s (lines_of (rest ++ more))
+    go f = ap (audit_judged audit_begin) (lines-of-all text rest s g more ∙ ap (λ ls. g.lines ++ ls) f.2) ∙ leads_judged audit_begin s g.lines f.0 f.1 g.leads ∙ ap (audit_judged s) (sym f.2)
 
   as_read : (v : Verdict) → ((more : List ℕ) → audited (text ++ more) ≡ v) → audited text ≡ v
   as_read v e = ap audited (sym (append-nil text)) ∙ e []
@@ -122,15 +122,15 @@ module _ (text rest : List ℕ) (s : Course) (g : Going text rest s) where
         ∙ ap (λ line. line ∷ lines_of (drop (at + 1) (rest ++ more))) (take-append-le at rest more (omega (arith, within)))
         ∙ ap (λ xs. take at rest ∷ lines_of xs) (drop-append-le (at + 1) rest more within)
 
-    when_refused : (v : Verdict) → passed s (take at rest) ≡ Err v → (more : List ℕ) → audited (text ++ more) ≡ v
+    when_refused : (v : Verdict) → audit_passed s (take at rest) ≡ Err v → (more : List ℕ) → audited (text ++ more) ≡ v
     when_refused v e more = go (first_part is_feed (drop (at + 1) rest ++ more)) where
       go : (part : List ℕ) × (parts : List (List ℕ)) × (lines_of (drop (at + 1) rest ++ more) ≡ part ∷ parts) → audited (text ++ more) ≡ v
       go f =
-          let step : judged s (take at rest ∷ f.0 ∷ f.1) ≡ v = rw (e, judged) refl in
-          goes_on more ∙ ap (judged s) (one_line more ∙ ap (λ ls. take at rest ∷ ls) f.2) ∙ step
+          let step : audit_judged s (take at rest ∷ f.0 ∷ f.1) ≡ v = rw (e, audit_judged) refl in
+          goes_on more ∙ ap (audit_judged s) (one_line more ∙ ap (λ ls. take at rest ∷ ls) f.2) ∙ step
 
     -- a line ends the audit
-    pub going_stop : (v : Verdict) → passed s (take at rest) ≡ Err v → (left : Option (List ℕ)) → IsDecided text left × (audited text ≡ v)
+    pub going_stop : (v : Verdict) → audit_passed s (take at rest) ≡ Err v → (left : Option (List ℕ)) → IsAuditDecided text left × (audited text ≡ v)
     going_stop v e left = (inr (decided v (when_refused v e)), as_read v (when_refused v e))
 
     -- ---- the line with its feed
@@ -170,7 +170,7 @@ module _ (text rest : List ℕ) (s : Course) (g : Going text rest s) where
         ∙ sym (append_assoc g.lines (take at rest ∷ []) (lines_of more))
 
     -- a line is passed
-    pub going_on : (t : Course) → passed s (take at rest) ≡ Ok t → Going text (drop (at + 1) rest) t
+    pub going_on : (t : Course) → audit_passed s (take at rest) ≡ Ok t → Going text (drop (at + 1) rest) t
     going_on t e =
         let took = passed-took s t (take at rest) e in
         let line : length (take at rest) ≡ at = length-take-le at rest (omega (arith, within)) in
@@ -178,7 +178,7 @@ module _ (text rest : List ℕ) (s : Course) (g : Going text rest s) where
           read = omega (arith, within, line, took.read, g.read, length-drop (at + 1) rest);
           most = omega (arith, took.read, took.within);
           lines = g.lines ++ take at rest ∷ [];
-          leads = leads_on begin s t g.lines (take at rest) g.leads e;
+          leads = leads_on audit_begin s t g.lines (take at rest) g.leads e;
           passed_text = g.passed_text ++ fed;
           cut = g.cut ∙ ap (λ xs. g.passed_text ++ xs) (sym (take-append-drop (at + 1) rest)) ∙ sym (append_assoc g.passed_text (take (at + 1) rest) (drop (at + 1) rest));
           are = lines-through;
@@ -186,11 +186,11 @@ module _ (text rest : List ℕ) (s : Course) (g : Going text rest s) where
 
   -- ---- the rest has no line feed
   module _ (none : position is_feed rest ≡ None) where
-    at_end : audited text ≡ ending s rest
-    at_end = ap audited (sym (append-nil text)) ∙ goes_on [] ∙ ap (λ xs. judged s (lines_of xs)) (append-nil rest) ∙ ap (judged s) (split_alone is_feed rest none)
+    at_end : audited text ≡ audit_ending s rest
+    at_end = ap audited (sym (append-nil text)) ∙ goes_on [] ∙ ap (λ xs. audit_judged s (lines_of xs)) (append-nil rest) ∙ ap (audit_judged s) (split_alone is_feed rest none)
 
     -- the source failed
-    pub going_failed : length text ≤ MAX_REPORT_BYTES → (length text ≤ MAX_REPORT_BYTES) × HasPassed text
+    pub going_failed : length text ≤ MAX_REPORT_BYTES → (length text ≤ MAX_REPORT_BYTES) × HasAuditPassed text
     going_failed small = (
       small,
       (
@@ -210,7 +210,7 @@ module _ (text rest : List ℕ) (s : Course) (g : Going text rest s) where
     too_long full more = goes_on more ∙ past_limit s rest more none (omega (arith, full, g.read)) g.most
 
     -- nothing that follows changes the verdict
-    final : (left : Option (List ℕ)) → IsAtEnd left ⊎ (length text ≡ MAX_REPORT_BYTES + 1) → IsDecided text left
+    final : (left : Option (List ℕ)) → IsAtEnd left ⊎ (length text ≡ MAX_REPORT_BYTES + 1) → IsAuditDecided text left
     final left (inl end) = inl end
     final left (inr full) = inr (decided (TooLong (s.lines + 1)) (too_long full))
 
@@ -221,19 +221,19 @@ module _ (text rest : List ℕ) (s : Course) (g : Going text rest s) where
     module _ (left : Option (List ℕ)) (how : IsAtEnd left ⊎ (length text ≡ MAX_REPORT_BYTES + 1)) where
       -- nothing follows the last line feed
       empty_end : (at : Stage) → s.stage ≡ at → rest ≡ [] → Ends (ended_at s at) text left
-      empty_end stage.Heading e f = (final left how, at_end ∙ ap (ending s) f ∙ ap (ended_at s) e)
-      empty_end stage.Files e f = (at_its_end left how (short f), short f, at_end ∙ ap (ending s) f ∙ ap (ended_at s) e)
-      empty_end stage.Records e f = (at_its_end left how (short f), short f, at_end ∙ ap (ending s) f ∙ ap (ended_at s) e)
+      empty_end stage.Heading e f = (final left how, at_end ∙ ap (audit_ending s) f ∙ ap (ended_at s) e)
+      empty_end stage.Files e f = (at_its_end left how (short f), short f, at_end ∙ ap (audit_ending s) f ∙ ap (ended_at s) e)
+      empty_end stage.Records e f = (at_its_end left how (short f), short f, at_end ∙ ap (audit_ending s) f ∙ ap (ended_at s) e)
 
-      pub going_end : (v : Verdict) → v ≡ ending s rest → Ends v text left
+      pub going_end : (v : Verdict) → v ≡ audit_ending s rest → Ends v text left
       going_end v e = go rest refl where
         go : (r : List ℕ) → rest ≡ r → Ends v text left
-        go [] f = subst (λ t. Ends t text left) (sym (e ∙ ap (ending s) f)) (empty_end s.stage refl f)
+        go [] f = subst (λ t. Ends t text left) (sym (e ∙ ap (audit_ending s) f)) (empty_end s.stage refl f)
         go (b ∷ bs) f = past (nat_lt MAX_REPORT_BYTES (s.read + length (b ∷ bs))) refl where
           past : (t : Bool) → nat_lt MAX_REPORT_BYTES (s.read + length (b ∷ bs)) ≡ t → Ends v text left
           past true h =
-              let is : ending s rest ≡ TooLong (s.lines + 1) = ap (ending s) f ∙ ap (λ u. cond u (TooLong (s.lines + 1)) (Refused (s.lines + 1) flaw.Syntax)) h in
+              let is : audit_ending s rest ≡ TooLong (s.lines + 1) = ap (audit_ending s) f ∙ ap (λ u. cond u (TooLong (s.lines + 1)) (Refused (s.lines + 1) flaw.Syntax)) h in
               subst (λ t. Ends t text left) (sym (e ∙ is)) (final left how, at_end ∙ is)
           past false h =
-              let is : ending s rest ≡ Refused (s.lines + 1) flaw.Syntax = ap (ending s) f ∙ ap (λ u. cond u (TooLong (s.lines + 1)) (Refused (s.lines + 1) flaw.Syntax)) h in
+              let is : audit_ending s rest ≡ Refused (s.lines + 1) flaw.Syntax = ap (audit_ending s) f ∙ ap (λ u. cond u (TooLong (s.lines + 1)) (Refused (s.lines + 1) flaw.Syntax)) h in
               subst (λ t. Ends t text left) (sym (e ∙ is)) (final left how, at_end ∙ is)

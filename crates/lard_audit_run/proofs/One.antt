@@ -4,7 +4,7 @@ use Rattle.std.proofs.lemmas.Bool.{and_parts}
 use Rattle.std.proofs.lemmas.List.Elements.{All-cons, All-nil}
 use Rattle.std.specs.List.{AllByRecursion, list_all}
 use Rattle.std.specs.Prelude.{All}
-use Rattle.lard_journal.specs.Range.{IsFileInRange, IsInRange, IsReportInRange}
+use Rattle.lard_journal.specs.Range.{IsFileInRange, IsRecordInRange, IsReportInRange}
 use Rattle.lard_journal.specs.declared.rec.Rec.{Rec}
 use Rattle.lard_journal.proofs.Unique.{report-injective}
 use Rattle.lard_report.specs.Readable.{IsReadable}
@@ -14,9 +14,9 @@ use Rattle.lard_schedule.specs.Files.{is_no_question}
 use Rattle.lard_audit_run.specs.Reports.{IsSoundReport, MayBeAdded}
 use Rattle.lard_audit_run.proofs.Back.{wide}
 
-recs_in_range : (recs : List Rec) → AllByRecursion IsReadable recs → All IsInRange recs
-recs_in_range [] fits = All-nil IsInRange
-recs_in_range (r ∷ recs) fits = All-cons IsInRange r recs (readable_in_range r fits.0) (recs_in_range recs fits.1)
+recs_in_range : (recs : List Rec) → AllByRecursion IsReadable recs → All IsRecordInRange recs
+recs_in_range [] fits = All-nil IsRecordInRange
+recs_in_range (r ∷ recs) fits = All-cons IsRecordInRange r recs (readable_in_range r fits.0) (recs_in_range recs fits.1)
 
 files_in_range : (files before : List (List ℕ × ℕ)) → MayBeAdded before files → All IsFileInRange files
 files_in_range [] before may = All-nil IsFileInRange

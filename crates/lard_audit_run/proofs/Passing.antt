@@ -3,14 +3,14 @@ use Rattle.std.proofs.Common.{◌≡◌, ◌≢◌, ℕ, ◌+◌, ◌≤◌, ◌
 use Rattle.std.proofs.lemmas.Bool.Decides.{nat_tests}
 use Rattle.std.specs.Prelude.{nat_lt}
 use Rattle.lard_audit.specs.Sound.{broken}
-use Rattle.lard_audit.specs.State.{add_check}
+use Rattle.lard_audit.specs.State.{audit_add_check}
 use Rattle.lard_audit.specs.declared.rule.Rule.{Rule}
 use Rattle.lard_base.specs.Config.{config_check}
 use Rattle.lard_base.specs.declared.config.ConfigFault.{ConfigFault}
 use Rattle.lard_base.specs.declared.config.Config.{Config}
 use Rattle.lard_files.specs.declared.fault.FileFault.{FileFault}
 use Rattle.lard_journal.specs.declared.rec.Rec.{Rec}
-use Rattle.lard_report.specs.Preface.{config_of, file_of, heading_of}
+use Rattle.lard_report.specs.Preface.{heading_config, file_line_of, heading_of}
 use Rattle.lard_report.specs.Records.{record_of}
 use Rattle.lard_report.specs.declared.preface.Heading.{Heading}
 use Rattle.lard_audit_run.specs.declared.auditor.Stage.{Stage}
@@ -20,13 +20,13 @@ use Rattle.lard_audit_run.specs.declared.verdict.Flaw.{Flaw}
 use Rattle.lard_audit_run.specs.declared.verdict.Flaw.TheVariants as flaw
 use Rattle.lard_audit_run.specs.declared.verdict.Verdict.{Verdict}
 use Rattle.lard_audit_run.specs.declared.verdict.Verdict.TheVariants.{Refused, TooLong}
-use Rattle.lard_audit_run.specs.Audited.{Course, begun, configured, counted, ending, entered, entered_at, filed, headed, listed, passed, recorded, ruled, taken}
+use Rattle.lard_audit_run.specs.Audited.{Course, begun, audit_configured, counted, audit_ending, audit_entered, entered_at, audit_filed, headed, audit_listed, audit_passed, recorded, ruled, taken}
 
 -- what a line leads to, once it is known whether it goes past the limit
 pub passed_by : (s : Course) (line : List ℕ) (b : Bool) → nat_lt MAX_REPORT_BYTES (s.read + length line + 1) ≡ b
-    → passed s line ≡ cond b (Err (TooLong (s.lines + 1))) (taken (s.lines + 1) line (entered s line))
-unfolding passed
-passed_by s line b e = ap (λ t. cond {A = Result Course Verdict} t (Err (TooLong (s.lines + 1))) (taken (s.lines + 1) line (entered s line))) e
+    → audit_passed s line ≡ cond b (Err (TooLong (s.lines + 1))) (taken (s.lines + 1) line (audit_entered s line))
+unfolding audit_passed
+passed_by s line b e = ap (λ t. cond {A = Result Course Verdict} t (Err (TooLong (s.lines + 1))) (taken (s.lines + 1) line (audit_entered s line))) e
 
 -- an answer that is known
 pub ok_is : {A E : Type 0} (x y : A) → ◌≡◌ {A = Result A E} (Ok x) (Ok y) → x ≡ y
@@ -46,10 +46,10 @@ module _ (s t : Course) where
   begun-read (Err fault) e = cc
 
   headed-read : (h : Option Heading) → headed s h ≡ Ok t → HaveRead s t
-  headed-read (Some h) e = begun-read (configured (config_of h) (config_check (config_of h))) e
+  headed-read (Some h) e = begun-read (audit_configured (heading_config h) (config_check (heading_config h))) e
   headed-read None e = cc
 
-  filed-read : (file : List ℕ × ℕ) (r : Result (Unit {0}) FileFault) → filed s file r ≡ Ok t → HaveRead s t
+  filed-read : (file : List ℕ × ℕ) (r : Result (Unit {0}) FileFault) → audit_filed s file r ≡ Ok t → HaveRead s t
   filed-read file (Ok done) e = read_as _ (refl, refl) e
   filed-read file (Err fault) e = cc
 
@@ -61,17 +61,17 @@ module _ (s t : Course) where
   recorded-read (Some r) e = ruled-read r (broken s.config s.files s.journal r) e
   recorded-read None e = cc
 
-  listed-read : (line : List ℕ) (file : Option (List ℕ × ℕ)) → listed s line file ≡ Ok t → HaveRead s t
-  listed-read line (Some file) e = filed-read file (add_check s.files file.0 file.1) e
+  listed-read : (line : List ℕ) (file : Option (List ℕ × ℕ)) → audit_listed s line file ≡ Ok t → HaveRead s t
+  listed-read line (Some file) e = filed-read file (audit_add_check s.files file.0 file.1) e
   listed-read line None e = recorded-read (record_of line) e
 
   entered_at-read : (at : Stage) (line : List ℕ) → entered_at at s line ≡ Ok t → HaveRead s t
   entered_at-read stage.Heading line e = headed-read (heading_of line) e
-  entered_at-read stage.Files line e = listed-read line (file_of line) e
+  entered_at-read stage.Files line e = listed-read line (file_line_of line) e
   entered_at-read stage.Records line e = recorded-read (record_of line) e
 
-  pub entered-read : (line : List ℕ) → entered s line ≡ Ok t → HaveRead s t
-  unfolding entered
+  pub entered-read : (line : List ℕ) → audit_entered s line ≡ Ok t → HaveRead s t
+  unfolding audit_entered
   entered-read line e = entered_at-read s.stage line e
 
 -- ---- lines
@@ -80,14 +80,14 @@ module _ (s t : Course) where
 pub record Took (s t : Course) (line : List ℕ) : Type 0 where
   pub mid : Course
   pub within : s.read + length line + 1 ≤ MAX_REPORT_BYTES
-  pub enters : entered s line ≡ Ok mid
+  pub enters : audit_entered s line ≡ Ok mid
   pub is : t ≡ counted line mid
   pub lines : t.lines ≡ s.lines + 1
   pub read : t.read ≡ s.read + length line + 1
 
-pub passed-took : (s t : Course) (line : List ℕ) → passed s line ≡ Ok t → Took s t line
-passed-took s t line e = go (nat_lt MAX_REPORT_BYTES (s.read + length line + 1)) (entered s line) refl refl where
-  go : (b : Bool) (given : Result Course Flaw) → nat_lt MAX_REPORT_BYTES (s.read + length line + 1) ≡ b → entered s line ≡ given → Took s t line
+pub passed-took : (s t : Course) (line : List ℕ) → audit_passed s line ≡ Ok t → Took s t line
+passed-took s t line e = go (nat_lt MAX_REPORT_BYTES (s.read + length line + 1)) (audit_entered s line) refl refl where
+  go : (b : Bool) (given : Result Course Flaw) → nat_lt MAX_REPORT_BYTES (s.read + length line + 1) ≡ b → audit_entered s line ≡ given → Took s t line
   go true given p i = let both : Err (TooLong (s.lines + 1)) ≡ Ok t = sym (passed_by s line true p) ∙ e in cc
   go false (Err fault) p i = let both : Err (Refused (s.lines + 1) fault) ≡ Ok t = sym (passed_by s line false p ∙ ap (taken (s.lines + 1) line) i) ∙ e in cc
   go false (Ok u) p i =
@@ -106,11 +106,11 @@ passed-took s t line e = go (nat_lt MAX_REPORT_BYTES (s.read + length line + 1))
 -- ---- past the limit
 
 -- a line that goes past the limit before its line feed does so with it
-pub past_as_line : (s : Course) (line : List ℕ) → MAX_REPORT_BYTES < s.read + length line → passed s line ≡ Err (TooLong (s.lines + 1))
+pub past_as_line : (s : Course) (line : List ℕ) → MAX_REPORT_BYTES < s.read + length line → audit_passed s line ≡ Err (TooLong (s.lines + 1))
 past_as_line s line l =
     let past : nat_lt MAX_REPORT_BYTES (s.read + length line + 1) ≡ true = grind (arith, nat_tests, l) in passed_by s line true past
 
-pub past_at_end : (s : Course) (last : List ℕ) → MAX_REPORT_BYTES < s.read + length last → last ≢ [] → ending s last ≡ TooLong (s.lines + 1)
+pub past_at_end : (s : Course) (last : List ℕ) → MAX_REPORT_BYTES < s.read + length last → last ≢ [] → audit_ending s last ≡ TooLong (s.lines + 1)
 past_at_end s [] l some = absurd (some refl)
 past_at_end s (b ∷ bs) l some =
     let past : nat_lt MAX_REPORT_BYTES (s.read + length (b ∷ bs)) ≡ true = grind (arith, nat_tests, l) in

@@ -13,9 +13,9 @@ use Rattle.lard_audit_run.specs.declared.auditor.TheConstants.{MAX_REPORT_BYTES}
 use Rattle.lard_audit_run.specs.declared.verdict.Flaw.TheVariants as flaw
 use Rattle.lard_audit_run.specs.declared.verdict.Verdict.{Verdict}
 use Rattle.lard_audit_run.specs.declared.verdict.Verdict.TheVariants.{Sound, Refused, TooLong, ReadFault, WriteFault, NoMemory}
-use Rattle.lard_audit_run.specs.Audited.{Course, begin, ended_at, ending, passed}
+use Rattle.lard_audit_run.specs.Audited.{Course, audit_begin, ended_at, audit_ending, audit_passed}
 use Rattle.lard_audit_run.specs.Runs.{Ends, Judged}
-use Rattle.lard_audit_run.specs.Seen.{Passes}
+use Rattle.lard_audit_run.specs.Seen.{AuditPasses}
 use Rattle.lard_audit_run.proofs.Going.{Going, going_end, going_failed, going_first, going_more, going_on, going_stop}
 
 -- what was read of a source: the text, and what of it is held
@@ -27,8 +27,8 @@ pub record Reading (left left_now : Option (List ℕ)) (held : Held) (s : Course
   pub most : held.most ≡ MAX_REPORT_BYTES
   pub going : Going text held.rest s
 
-pub reading_first : (left : Option (List ℕ)) (held : Held) → held ≡ record { rest = []; read = 0; most = MAX_REPORT_BYTES } → Reading left left held begin
-reading_first left held h = subst (λ (k : Held). Reading left left k begin) (sym h) (record { text = []; consumed = Consumes-nil left; count = refl; bound = omega arith; most = refl; going = going_first })
+pub reading_first : (left : Option (List ℕ)) (held : Held) → held ≡ record { rest = []; read = 0; most = MAX_REPORT_BYTES } → Reading left left held audit_begin
+reading_first left held h = subst (λ (k : Held). Reading left left k audit_begin) (sym h) (record { text = []; consumed = Consumes-nil left; count = refl; bound = omega arith; most = refl; going = going_first })
 
 module _ (left mid now : Option (List ℕ)) (held more : Held) (s : Course) where
   -- more is read
@@ -45,7 +45,7 @@ module _ (left mid now : Option (List ℕ)) (held more : Held) (s : Course) wher
 module _ (left left_now : Option (List ℕ)) (held : Held) (s : Course) (r : Reading left left_now held s) where
   -- a line is passed
   pub reading_on : (at : ℕ) (next : Held) (t : Course) → position is_feed held.rest ≡ Some at → next ≡ record { rest = drop (at + 1) held.rest; read = held.read; most = held.most }
-      → passed s (take at held.rest) ≡ Ok t → Reading left left_now next t
+      → audit_passed s (take at held.rest) ≡ Ok t → Reading left left_now next t
   reading_on at next t is e h = subst (λ (k : Held). Reading left left_now k t) (sym e) (record {
     text = r.text;
     consumed = r.consumed;
@@ -59,7 +59,7 @@ module _ (left left_now : Option (List ℕ)) (held : Held) (s : Course) (r : Rea
   ended_as v e = record { text = r.text; consumed = r.consumed; bounded = subst (λ n. n ≤ MAX_REPORT_BYTES + 1) (sym r.count) r.bound; ends = e }
 
   -- a line ends the audit
-  pub reading_stop : (at : ℕ) (v : Verdict) (a : Auditor) → position is_feed held.rest ≡ Some at → Passes (passed s (take at held.rest)) a (Err v) → Judged v left left_now
+  pub reading_stop : (at : ℕ) (v : Verdict) (a : Auditor) → position is_feed held.rest ≡ Some at → AuditPasses (audit_passed s (take at held.rest)) a (Err v) → Judged v left left_now
   reading_stop at (Refused line why) a is h = ended_as (Refused line why) (going_stop r.text held.rest s r.going at is (Refused line why) h left_now)
   reading_stop at (TooLong line) a is h = ended_as (TooLong line) (going_stop r.text held.rest s r.going at is (TooLong line) h left_now)
   reading_stop at NoMemory a is h = ended_as NoMemory tt
@@ -73,7 +73,7 @@ module _ (left left_now : Option (List ℕ)) (held : Held) (s : Course) (r : Rea
 
   module _ (none : position is_feed held.rest ≡ None) where
     -- the input ends
-    pub reading_end : (v : Verdict) → IsAtEnd left_now ⊎ (held.read ≡ held.most + 1) → v ≡ ending s held.rest → Judged v left left_now
+    pub reading_end : (v : Verdict) → IsAtEnd left_now ⊎ (held.read ≡ held.most + 1) → v ≡ audit_ending s held.rest → Judged v left left_now
     reading_end v how e = ended_as v (going_end r.text held.rest s r.going none left_now (full how) v e) where
       full : IsAtEnd left_now ⊎ (held.read ≡ held.most + 1) → IsAtEnd left_now ⊎ (length r.text ≡ MAX_REPORT_BYTES + 1)
       full (inl end) = inl end
@@ -88,7 +88,7 @@ pub judged-nothing : (left : Option (List ℕ)) → Judged NoMemory left left
 judged-nothing left = record { text = []; consumed = Consumes-nil left; bounded = omega arith; ends = tt }
 
 -- no line ends an audit by a fault of reading
-pub stop_no_read : (s : Course) (line : List ℕ) (a : Auditor) (v : Verdict) → Passes (passed s line) a (Err v) → ¬ (v ≡ ReadFault)
+pub stop_no_read : (s : Course) (line : List ℕ) (a : Auditor) (v : Verdict) → AuditPasses (audit_passed s line) a (Err v) → ¬ (v ≡ ReadFault)
 stop_no_read s line a ReadFault h e = h
 stop_no_read s line a (Sound n) h e = cc
 stop_no_read s line a (Refused number why) h e = cc
@@ -102,7 +102,7 @@ end_no_read s stage.Heading e = cc
 end_no_read s stage.Files e = cc
 end_no_read s stage.Records e = cc
 
-pub ending_no_read : (s : Course) (rest : List ℕ) → ¬ (ending s rest ≡ ReadFault)
+pub ending_no_read : (s : Course) (rest : List ℕ) → ¬ (audit_ending s rest ≡ ReadFault)
 ending_no_read s [] e = end_no_read s s.stage e
 ending_no_read s (b ∷ bs) e = go (nat_lt MAX_REPORT_BYTES (s.read + length (b ∷ bs))) e where
   go : (t : Bool) → cond t (TooLong (s.lines + 1)) (Refused (s.lines + 1) flaw.Syntax) ≡ ReadFault → ⊥

@@ -2,7 +2,7 @@
 use Rattle.std.proofs.Common.{◌≡◌, ◌≢◌, ℕ, ◌⊎◌, inl, inr, ◌+◌, ◌≤◌, List, [], ◌∷◌, ◌++◌, length, Option, Some, None, Result, Ok, Err, refl, sym, ap, ◌∙◌, subst, append_assoc, append-nil, arith, length-append}
 use Rattle.std.specs.List.{AllByRecursion, flat_map}
 use Rattle.lard_audit.specs.Sound.{broken}
-use Rattle.lard_audit.specs.State.{add_check}
+use Rattle.lard_audit.specs.State.{audit_add_check}
 use Rattle.lard_audit.specs.declared.rule.Rule.{Rule}
 use Rattle.lard_base.specs.Config.{config_check}
 use Rattle.lard_base.specs.declared.config.Config.{Config}
@@ -14,8 +14,8 @@ use Rattle.lard_history.specs.Laws.{EachMay}
 use Rattle.lard_journal.specs.Report.{file_text, heading_line, rec_line}
 use Rattle.lard_journal.specs.declared.rec.Rec.{Rec}
 use Rattle.lard_lines.specs.Lines.{lines_of}
-use Rattle.lard_report.specs.Laws.{IsLineOf}
-use Rattle.lard_report.specs.Preface.{config_of, file_of, heading_of}
+use Rattle.lard_report.specs.Laws.{IsLineOfRecord}
+use Rattle.lard_report.specs.Preface.{heading_config, file_line_of, heading_of}
 use Rattle.lard_report.specs.Readable.{IsReadable}
 use Rattle.lard_report.specs.Records.{record_of}
 use Rattle.lard_report.specs.declared.preface.Heading.{Heading}
@@ -24,8 +24,8 @@ use Rattle.lard_report.proofs.Prefaces.{file_told, heading_told}
 use Rattle.lard_audit_run.specs.declared.auditor.Stage.TheVariants as stage
 use Rattle.lard_audit_run.specs.declared.auditor.TheConstants.{MAX_REPORT_BYTES}
 use Rattle.lard_audit_run.specs.declared.verdict.Verdict.TheVariants.{Sound}
-use Rattle.lard_audit_run.specs.Audited.{Course, Leads, audited, begin, begun, configured, counted, entered, entered_at, filed, headed, listed, recorded, ruled}
-use Rattle.lard_audit_run.specs.Causes.{EndsRest, IsFileOf, IsHeadingOf}
+use Rattle.lard_audit_run.specs.Audited.{Course, AuditLeads, audited, audit_begin, begun, audit_configured, counted, audit_entered, entered_at, audit_filed, headed, audit_listed, recorded, ruled}
+use Rattle.lard_audit_run.specs.Causes.{AuditEndsRest, IsFileOf, IsHeadingOf}
 use Rattle.lard_audit_run.specs.Reports.{IsSoundReport, MayBeAdded}
 use Rattle.lard_audit_run.proofs.Causes.{caused}
 use Rattle.lard_audit_run.proofs.Passing.{ok_is, passed-took}
@@ -36,7 +36,7 @@ module _ (s u : Course) (line : List ℕ) where
   -- it is that of a record, which breaks no rule
   record RecordCame : Type 0 where
     r : Rec
-    told : IsLineOf line r
+    told : IsLineOfRecord line r
     keeps : broken s.config s.files s.journal r ≡ None
     is : u ≡ record s { stage = stage.Records; journal = s.journal ++ r ∷ [] }
 
@@ -45,15 +45,15 @@ module _ (s u : Course) (line : List ℕ) where
     path : List ℕ
     size : ℕ
     told : IsFileOf line path size
-    added : add_check s.files path size ≡ Ok tt
+    added : audit_add_check s.files path size ≡ Ok tt
     is : u ≡ record s { files = s.files ++ (path, size) ∷ [] }
 
   -- it is a heading, of a configuration that can be used
   record HeadingCame : Type 0 where
     h : Heading
     told : IsHeadingOf line h
-    usable : config_check (config_of h) ≡ Ok tt
-    is : u ≡ record s { stage = stage.Files; config = config_of h; files = []; journal = [] }
+    usable : config_check (heading_config h) ≡ Ok tt
+    is : u ≡ record s { stage = stage.Files; config = heading_config h; files = []; journal = [] }
 
   ruled-came : (r : Rec) → record_of line ≡ Some r → (rule : Option Rule) → broken s.config s.files s.journal r ≡ rule → ruled s r rule ≡ Ok u → RecordCame
   ruled-came r is None b e = record { r = r; told = record_told line r is; keeps = b; is = sym (ok_is _ u e) }
@@ -63,32 +63,32 @@ module _ (s u : Course) (line : List ℕ) where
   recorded-came (Some r) is e = ruled-came r is (broken s.config s.files s.journal r) refl e
   recorded-came None is e = cc
 
-  filed-came : (path : List ℕ) (size : ℕ) → file_of line ≡ Some (path, size) → (given : Result (Unit {0}) FileFault) → add_check s.files path size ≡ given → filed s (path, size) given ≡ Ok u → FileCame
+  filed-came : (path : List ℕ) (size : ℕ) → file_line_of line ≡ Some (path, size) → (given : Result (Unit {0}) FileFault) → audit_add_check s.files path size ≡ given → audit_filed s (path, size) given ≡ Ok u → FileCame
   filed-came path size is (Ok tt) a e = record { path = path; size = size; told = file_told line path size is; added = a; is = sym (ok_is _ u e) }
   filed-came path size is (Err fault) a e = cc
 
-  listed-came : (o : Option (List ℕ × ℕ)) → file_of line ≡ o → listed s line o ≡ Ok u → FileCame ⊎ RecordCame
-  listed-came (Some (path, size)) is e = inl (filed-came path size is (add_check s.files path size) refl e)
+  listed-came : (o : Option (List ℕ × ℕ)) → file_line_of line ≡ o → audit_listed s line o ≡ Ok u → FileCame ⊎ RecordCame
+  listed-came (Some (path, size)) is e = inl (filed-came path size is (audit_add_check s.files path size) refl e)
   listed-came None is e = inr (recorded-came (record_of line) refl e)
 
-  begun-came : (h : Heading) → heading_of line ≡ Some h → (given : Result (Unit {0}) ConfigFault) → config_check (config_of h) ≡ given → begun s (configured (config_of h) given) ≡ Ok u → HeadingCame
+  begun-came : (h : Heading) → heading_of line ≡ Some h → (given : Result (Unit {0}) ConfigFault) → config_check (heading_config h) ≡ given → begun s (audit_configured (heading_config h) given) ≡ Ok u → HeadingCame
   begun-came h is (Ok tt) c e = record { h = h; told = heading_told line h is; usable = c; is = sym (ok_is _ u e) }
   begun-came h is (Err fault) c e = cc
 
   headed-came : (o : Option Heading) → heading_of line ≡ o → headed s o ≡ Ok u → HeadingCame
-  headed-came (Some h) is e = begun-came h is (config_check (config_of h)) refl e
+  headed-came (Some h) is e = begun-came h is (config_check (heading_config h)) refl e
   headed-came None is e = cc
 
-  at-records : s.stage ≡ stage.Records → entered s line ≡ Ok u → RecordCame
-  unfolding entered
+  at-records : s.stage ≡ stage.Records → audit_entered s line ≡ Ok u → RecordCame
+  unfolding audit_entered
   at-records here e = recorded-came (record_of line) refl (sym (ap (λ at. entered_at at s line) here) ∙ e)
 
-  at-files : s.stage ≡ stage.Files → entered s line ≡ Ok u → FileCame ⊎ RecordCame
-  unfolding entered
-  at-files here e = listed-came (file_of line) refl (sym (ap (λ at. entered_at at s line) here) ∙ e)
+  at-files : s.stage ≡ stage.Files → audit_entered s line ≡ Ok u → FileCame ⊎ RecordCame
+  unfolding audit_entered
+  at-files here e = listed-came (file_line_of line) refl (sym (ap (λ at. entered_at at s line) here) ∙ e)
 
-  at-heading : s.stage ≡ stage.Heading → entered s line ≡ Ok u → HeadingCame
-  unfolding entered
+  at-heading : s.stage ≡ stage.Heading → audit_entered s line ≡ Ok u → HeadingCame
+  unfolding audit_entered
   at-heading here e = headed-came (heading_of line) refl (sym (ap (λ at. entered_at at s line) here) ∙ e)
 
 -- ---- lines that passed
@@ -110,7 +110,7 @@ record RecordsCame (s t : Course) (lines : List (List ℕ)) : Type 0 where
   journal : t.journal ≡ s.journal ++ recs
   config : t.config ≡ s.config
 
-records-came : (lines : List (List ℕ)) (s t : Course) → s.stage ≡ stage.Records → Leads s lines t → RecordsCame s t lines
+records-came : (lines : List (List ℕ)) (s t : Course) → s.stage ≡ stage.Records → AuditLeads s lines t → RecordsCame s t lines
 records-came [] s t here l = record {
   recs = [];
   text = refl;
@@ -124,7 +124,7 @@ records-came (line ∷ lines) s t here l =
     let came = at-records s took.mid line here took.enters in
     let v = counted line (record s { stage = stage.Records; journal = s.journal ++ came.r ∷ [] }) in
     let v-is : l.0 ≡ v = took.is ∙ ap (counted line) came.is in
-    let more = records-came lines v t refl (subst (λ (u : Course). Leads u lines t) v-is l.2) in
+    let more = records-came lines v t refl (subst (λ (u : Course). AuditLeads u lines t) v-is l.2) in
     record {
       recs = came.r ∷ more.recs;
       text = fed_text line lines ∙ ap (λ xs. xs ++ text_of lines) came.told.0 ∙ ap (λ xs. rec_line came.r ++ xs) more.text;
@@ -145,7 +145,7 @@ record FilesCame (s t : Course) (lines : List (List ℕ)) : Type 0 where
   journal : t.journal ≡ s.journal ++ recs
   config : t.config ≡ s.config
 
-files-came : (lines : List (List ℕ)) (s t : Course) → s.stage ≡ stage.Files → Leads s lines t → FilesCame s t lines
+files-came : (lines : List (List ℕ)) (s t : Course) → s.stage ≡ stage.Files → AuditLeads s lines t → FilesCame s t lines
 files-came [] s t here l = record {
   files = [];
   recs = [];
@@ -157,12 +157,12 @@ files-came [] s t here l = record {
   config = ap (λ (v : Course). v.config) (sym l);
 }
 files-came (line ∷ lines) s t here l = go (at-files s (passed-took s l.0 line l.1).mid line here (passed-took s l.0 line l.1).enters) (λ v same k. files-came lines v t same k) where
-  go : FileCame s (passed-took s l.0 line l.1).mid line ⊎ RecordCame s (passed-took s l.0 line l.1).mid line → ((v : Course) → v.stage ≡ stage.Files → Leads v lines t → FilesCame v t lines) → FilesCame s t (line ∷ lines)
+  go : FileCame s (passed-took s l.0 line l.1).mid line ⊎ RecordCame s (passed-took s l.0 line l.1).mid line → ((v : Course) → v.stage ≡ stage.Files → AuditLeads v lines t → FilesCame v t lines) → FilesCame s t (line ∷ lines)
   go (inl came) later =
       let file : List ℕ × ℕ = (came.path, came.size) in
       let v = counted line (record s { files = s.files ++ file ∷ [] }) in
       let v-is : l.0 ≡ v = (passed-took s l.0 line l.1).is ∙ ap (counted line) came.is in
-      let more = later v here (subst (λ (u : Course). Leads u lines t) v-is l.2) in
+      let more = later v here (subst (λ (u : Course). AuditLeads u lines t) v-is l.2) in
       record {
         files = file ∷ more.files;
         recs = more.recs;
@@ -177,7 +177,7 @@ files-came (line ∷ lines) s t here l = go (at-files s (passed-took s l.0 line 
   go (inr came) later =
       let v = counted line (record s { stage = stage.Records; journal = s.journal ++ came.r ∷ [] }) in
       let v-is : l.0 ≡ v = (passed-took s l.0 line l.1).is ∙ ap (counted line) came.is in
-      let more = records-came lines v t refl (subst (λ (u : Course). Leads u lines t) v-is l.2) in
+      let more = records-came lines v t refl (subst (λ (u : Course). AuditLeads u lines t) v-is l.2) in
       record {
         files = [];
         recs = came.r ∷ more.recs;
@@ -190,7 +190,7 @@ files-came (line ∷ lines) s t here l = go (at-files s (passed-took s l.0 line 
       }
 
 -- lines that pass have no more bytes than a report may have
-leads-read : (lines : List (List ℕ)) (s t : Course) → Leads s lines t → s.read ≤ MAX_REPORT_BYTES → (s.read + length (text_of lines) ≡ t.read) × (t.read ≤ MAX_REPORT_BYTES)
+leads-read : (lines : List (List ℕ)) (s t : Course) → AuditLeads s lines t → s.read ≤ MAX_REPORT_BYTES → (s.read + length (text_of lines) ≡ t.read) × (t.read ≤ MAX_REPORT_BYTES)
 leads-read [] s t l most = (let same = ap (λ (v : Course). v.read) l in omega (arith, same), subst (λ (v : Course). v.read ≤ MAX_REPORT_BYTES) l most)
 leads-read (line ∷ lines) s t l most =
     let took = passed-took s l.0 line l.1 in
@@ -205,25 +205,25 @@ pub record Passed (text : List ℕ) (n : ℕ) : Type 0 where
   pub report : IsSoundReport text
   pub count : n ≡ length report.journal
 
-passed-whole : (text : List ℕ) (n : ℕ) (before : List (List ℕ)) (t : Course) → lines_of text ≡ before ++ [] ∷ [] → Leads begin before t → t.stage ≢ stage.Heading → n ≡ length t.journal → Passed text n
+passed-whole : (text : List ℕ) (n : ℕ) (before : List (List ℕ)) (t : Course) → lines_of text ≡ before ++ [] ∷ [] → AuditLeads audit_begin before t → t.stage ≢ stage.Heading → n ≡ length t.journal → Passed text n
 passed-whole text n [] t are l later count = absurd (later (ap (λ (v : Course). v.stage) (sym l)))
 passed-whole text n (line ∷ lines) t are l later count =
-    let took = passed-took begin l.0 line l.1 in
-    let came = at-heading begin took.mid line refl took.enters in
-    let v = counted line (record begin { stage = stage.Files; config = config_of came.h; files = []; journal = [] }) in
+    let took = passed-took audit_begin l.0 line l.1 in
+    let came = at-heading audit_begin took.mid line refl took.enters in
+    let v = counted line (record audit_begin { stage = stage.Files; config = heading_config came.h; files = []; journal = [] }) in
     let v-is : l.0 ≡ v = took.is ∙ ap (counted line) came.is in
-    let more = files-came lines v t refl (subst (λ (u : Course). Leads u lines t) v-is l.2) in
+    let more = files-came lines v t refl (subst (λ (u : Course). AuditLeads u lines t) v-is l.2) in
     let made = joined (line ∷ lines) text are in
-    let read = leads-read (line ∷ lines) begin t l (omega arith) in
+    let read = leads-read (line ∷ lines) audit_begin t l (omega arith) in
     let long : length text ≡ length (text_of (line ∷ lines)) = ap length made.0 in
     record {
       small = omega (arith, read.0, read.1, long);
       report = record {
-        config = config_of came.h;
+        config = heading_config came.h;
         files = more.files;
         journal = more.recs;
-        is = made.0 ∙ fed_text line lines ∙ ap (λ xs. xs ++ text_of lines) came.told.0 ∙ ap (λ xs. heading_line (config_of came.h) ++ xs) more.text
-            ∙ sym (append_assoc (heading_line (config_of came.h)) (flat_map file_text more.files) (flat_map rec_line more.recs));
+        is = made.0 ∙ fed_text line lines ∙ ap (λ xs. xs ++ text_of lines) came.told.0 ∙ ap (λ xs. heading_line (heading_config came.h) ++ xs) more.text
+            ∙ sym (append_assoc (heading_line (heading_config came.h)) (flat_map file_text more.files) (flat_map rec_line more.recs));
         usable = came.usable;
         addable = more.addable;
         readable = more.readable;
@@ -232,7 +232,7 @@ passed-whole text n (line ∷ lines) t are l later count =
       count = count ∙ ap length more.journal;
     }
 
-ends-sound : (text : List ℕ) (n : ℕ) (before rest : List (List ℕ)) (t : Course) (m bytes : ℕ) → lines_of text ≡ before ++ rest → Leads begin before t → EndsRest t m bytes rest (Sound n) → Passed text n
+ends-sound : (text : List ℕ) (n : ℕ) (before rest : List (List ℕ)) (t : Course) (m bytes : ℕ) → lines_of text ≡ before ++ rest → AuditLeads audit_begin before t → AuditEndsRest t m bytes rest (Sound n) → Passed text n
 ends-sound text n before [] t m bytes are l e = absurd e
 ends-sound text n before (last ∷ []) t m bytes are l e = passed-whole text n before t (are ∙ ap (λ xs. before ++ xs ∷ []) e.0) l e.1 e.2
 ends-sound text n before (line ∷ next ∷ more) t m bytes are l e = absurd e

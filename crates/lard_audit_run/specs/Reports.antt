@@ -2,7 +2,7 @@
 use Rattle.std.specs.Prelude.{◌≡◌, ◌↔◌, ℕ, ◌<◌, ◌≤◌, ◌^◌, true, List, [], ◌∷◌, ◌++◌, length, Ok}
 use Rattle.std.specs.List.{AllByRecursion}
 use Rattle.lard_audit.specs.Sound.{IsSound}
-use Rattle.lard_audit.specs.State.{add_check}
+use Rattle.lard_audit.specs.State.{audit_add_check}
 use Rattle.lard_base.specs.Config.{config_check}
 use Rattle.lard_base.specs.declared.config.Config.{Config}
 use Rattle.lard_journal.specs.Report.{report}
@@ -15,7 +15,7 @@ use Rattle.lard_audit_run.specs.Audited.{audited}
 -- files, one after another: each has a path that a file may have, and may be added to those before
 abbrev pub MayBeAdded : List (List ℕ × ℕ) → List (List ℕ × ℕ) → Type 0
 MayBeAdded before [] = Unit {0}
-MayBeAdded before (file ∷ files) = (is_file_path file.0 ≡ true) × (file.1 < 2 ^ 64) × (add_check before file.0 file.1 ≡ Ok tt) × MayBeAdded (before ++ file ∷ []) files
+MayBeAdded before (file ∷ files) = (is_file_path file.0 ≡ true) × (file.1 < 2 ^ 64) × (audit_add_check before file.0 file.1 ≡ Ok tt) × MayBeAdded (before ++ file ∷ []) files
 
 -- The text is a heading, the lines of files and those of records, of which nothing is refused; and each record keeps all rules behind
 -- those before it.

@@ -20,7 +20,7 @@ pub record IsAt (a : Auditor) (s : Course) : Type 0 where
   pub none : s.stage ≡ Files → s.journal ≡ []
 
 -- there are no more records than lines, no more lines than bytes, and no more bytes than a report may have
-pub record IsCounted (a : Auditor) : Type 0 where
+pub record IsAuditCounted (a : Auditor) : Type 0 where
   pub records : a.records ≤ a.lines
   pub lines : a.lines ≤ a.read
   pub read : a.read ≤ 2 ^ 30
@@ -32,9 +32,9 @@ Enters given a (Err (fault.Flawed flaw)) = given ≡ Err flaw
 Enters given a (Err fault.NoMemory) = Unit {0}
 
 -- a line was passed: what it leads to is where the auditor is; or it ends the audit
-abbrev pub Passes : Result Course Verdict → Auditor → Result (Unit {0}) Verdict → Type 0
-Passes given a (Ok _) = (t : Course) × (given ≡ Ok t) × IsAt a t
-Passes given a (Err (Refused line flaw)) = given ≡ Err (Refused line flaw)
-Passes given a (Err (TooLong line)) = given ≡ Err (TooLong line)
-Passes given a (Err NoMemory) = Unit {0}
-Passes given a (Err _) = ⊥
+abbrev pub AuditPasses : Result Course Verdict → Auditor → Result (Unit {0}) Verdict → Type 0
+AuditPasses given a (Ok _) = (t : Course) × (given ≡ Ok t) × IsAt a t
+AuditPasses given a (Err (Refused line flaw)) = given ≡ Err (Refused line flaw)
+AuditPasses given a (Err (TooLong line)) = given ≡ Err (TooLong line)
+AuditPasses given a (Err NoMemory) = Unit {0}
+AuditPasses given a (Err _) = ⊥

@@ -2,12 +2,12 @@
 
 ghost use Rattle.std.specs.Prelude.{◌≡◌, ◌+◌, ◌≤◌, ◌<◌, ◌^◌, true, length, Ok, IfOk, OnOk};
 ghost use Rattle.lard_audit.specs.Sound.{broken};
-ghost use Rattle.lard_audit.specs.State.{add_check};
+ghost use Rattle.lard_audit.specs.State.{audit_add_check};
 ghost use Rattle.lard_base.specs.Config.{config_check};
-ghost use Rattle.lard_report.specs.Preface.{file_of, heading_of};
+ghost use Rattle.lard_report.specs.Preface.{file_line_of, heading_of};
 ghost use Rattle.lard_report.specs.Records.{record_of};
-ghost use Rattle.lard_audit_run.specs.Audited.{Course, begin, begun, ending, entered, filed, headed, listed, passed, recorded, ruled};
-ghost use Rattle.lard_audit_run.specs.Seen.{Enters, IsAt, IsCounted, Passes};
+ghost use Rattle.lard_audit_run.specs.Audited.{Course, audit_begin, begun, audit_ending, audit_entered, audit_filed, headed, audit_listed, audit_passed, recorded, ruled};
+ghost use Rattle.lard_audit_run.specs.Seen.{Enters, IsAt, IsAuditCounted, AuditPasses};
 
 use crate::heading::config_with;
 use crate::verdict::{Flaw, Verdict, refused};
@@ -56,8 +56,8 @@ pub struct Auditor {
 impl Auditor {
     /// Nothing was passed. `NoMemory` where memory runs out.
     pub fn new(alloc: Global) -> Result<Auditor, NoMemory>
-        ensures begins { IfOk result (λ auditor. IsAt auditor begin) }
-        ensures counted { IfOk result IsCounted }
+        ensures begins { IfOk result (λ auditor. IsAt auditor audit_begin) }
+        ensures counted { IfOk result IsAuditCounted }
     {
         let audit = Audit::new(alloc, Config::standard())?;
         Ok(Auditor {
@@ -71,12 +71,12 @@ impl Auditor {
 
     /// Takes a line, which is given without its line feed. `Refused` and `TooLong` come where the line ends the audit, and
     /// `NoMemory` where memory runs out.
-    #[tactic(auto, unfolding(crate::specs::Audited::passed))]
+    #[tactic(auto, unfolding(crate::specs::Audited::audit_passed))]
     pub fn pass(&mut self, alloc: Global, line: &[u8]) -> Result<(), Verdict>
-        requires counted { IsCounted self.old }
+        requires counted { IsAuditCounted self.old }
         requires small { length line.now < 2 ^ 32 }
-        ensures passed { (s : Course) → IsAt self.old s → Passes (passed s line.now) self.new result }
-        ensures counted { OnOk result (IsCounted self.new) }
+        ensures passed { (s : Course) → IsAt self.old s → AuditPasses (audit_passed s line.now) self.new result }
+        ensures counted { OnOk result (IsAuditCounted self.new) }
     {
         let number = self.lines + 1;
         let len = line.len() as u64;
@@ -95,10 +95,10 @@ impl Auditor {
     }
 
     /// Takes what a line stands for in its place. The line is not counted yet.
-    #[tactic(auto, unfolding(crate::specs::Audited::entered))]
+    #[tactic(auto, unfolding(crate::specs::Audited::audit_entered))]
     fn enter(&mut self, alloc: Global, line: &[u8]) -> Result<(), Fault>
         requires room { self.old.records ≤ 2 ^ 30 }
-        ensures entered { (s : Course) → IsAt self.old s → Enters (entered s line.now) self.new result }
+        ensures entered { (s : Course) → IsAt self.old s → Enters (audit_entered s line.now) self.new result }
         ensures lines { self.new.lines ≡ self.old.lines }
         ensures read { self.new.read ≡ self.old.read }
         ensures records { self.new.records ≤ self.old.records + 1 }
@@ -149,7 +149,7 @@ impl Auditor {
     /// Takes the line of a file; and where it is none, that of the first record.
     fn list(&mut self, alloc: Global, line: &[u8]) -> Result<(), Fault>
         requires room { self.old.records ≤ 2 ^ 30 }
-        ensures listed { (s : Course) → s.stage ≡ Stage.Files → IsAt self.old s → Enters (listed s line.now (file_of line.now)) self.new result }
+        ensures listed { (s : Course) → s.stage ≡ Stage.Files → IsAt self.old s → Enters (audit_listed s line.now (file_line_of line.now)) self.new result }
         ensures lines { self.new.lines ≡ self.old.lines }
         ensures read { self.new.read ≡ self.old.read }
         ensures records { self.new.records ≤ self.old.records + 1 }
@@ -163,7 +163,7 @@ impl Auditor {
 
     /// Adds a file, where it may be added.
     fn file(&mut self, path: &Path, size: u64) -> Result<(), Fault>
-        ensures filed { (s : Course) → s.stage ≡ Stage.Files → IsAt self.old s → Enters (filed s (path.now, size) (add_check s.files path.now size)) self.new result }
+        ensures filed { (s : Course) → s.stage ≡ Stage.Files → IsAt self.old s → Enters (audit_filed s (path.now, size) (audit_add_check s.files path.now size)) self.new result }
         ensures lines { self.new.lines ≡ self.old.lines }
         ensures read { self.new.read ≡ self.old.read }
         ensures records { self.new.records ≤ self.old.records }
@@ -211,9 +211,9 @@ impl Auditor {
 
     /// How an audit ends whose report ends with these bytes, which no line feed follows.
     pub fn end(&self, rest: &[u8]) -> Verdict
-        requires counted { IsCounted self.now }
+        requires counted { IsAuditCounted self.now }
         requires small { length rest.now < 2 ^ 32 }
-        ensures { (s : Course) → IsAt self.now s → result ≡ ending s rest.now }
+        ensures { (s : Course) → IsAt self.now s → result ≡ audit_ending s rest.now }
     {
         let number = self.lines + 1;
         if rest.is_empty() {

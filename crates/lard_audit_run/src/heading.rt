@@ -1,8 +1,8 @@
 //! The configuration that a report's heading tells.
 
 ghost use Rattle.std.specs.Prelude.{◌≡◌, Ok, IfOk};
-ghost use Rattle.lard_audit_run.specs.Audited.{configured};
-ghost use Rattle.lard_report.specs.Preface.{config_of};
+ghost use Rattle.lard_audit_run.specs.Audited.{audit_configured};
+ghost use Rattle.lard_report.specs.Preface.{heading_config};
 ghost use Rattle.lard_base.specs.Config.{config_check};
 
 use lard_base::{Config, ConfigFault, Key};
@@ -11,7 +11,7 @@ use lard_report::Heading;
 /// The configuration with the numbers of a heading, where it can be used; else the first fault: a number out of its range, in the
 /// heading's order, then low above high, then that no connection would be admitted.
 pub fn config_with(heading: &Heading) -> Result<Config, ConfigFault>
-    ensures config { result ≡ configured (config_of heading.now) (config_check (config_of heading.now)) }
+    ensures config { result ≡ audit_configured (heading_config heading.now) (config_check (heading_config heading.now)) }
     ensures usable { IfOk result (λ config. config_check config ≡ Ok tt) }
 {
     let mut config = Config::standard();

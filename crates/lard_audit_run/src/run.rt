@@ -2,9 +2,9 @@
 
 ghost use Rattle.std.specs.Prelude.{◌≡◌, ◌++◌, [], IfOk};
 ghost use Rattle.lard_base.specs.Causes.{Rose};
-ghost use Rattle.lard_audit_run.specs.Audited.{begin, records_line};
-ghost use Rattle.lard_audit_run.specs.Runs.{Audited, EndsCount, IsSettled, Judged, Wrote};
-ghost use Rattle.lard_audit_run.specs.Seen.{IsAt, IsCounted};
+ghost use Rattle.lard_audit_run.specs.Audited.{audit_begin, records_line};
+ghost use Rattle.lard_audit_run.specs.Runs.{Audited, AuditEndsCount, IsVerdictSettled, Judged, AuditWrote};
+ghost use Rattle.lard_audit_run.specs.Seen.{IsAt, IsAuditCounted};
 
 use crate::auditor::{Auditor, MAX_REPORT_BYTES};
 use crate::verdict::{Verdict, refused};
@@ -19,9 +19,9 @@ pub fn audit<S: Source, K: Sink>(alloc: Global, source: &mut S, sink: &mut K) ->
     ensures audited { Audited result (S.left source.old) (S.left source.new) (K.written sink.old) (K.written sink.new) }
     ensures read_fault { result ≡ Verdict.ReadFault → Rose (S.faults source.old) (S.faults source.new) }
     ensures no_read_fault { ¬ (result ≡ Verdict.ReadFault) → S.faults source.new ≡ S.faults source.old }
-    ensures faults { EndsCount (K.faults sink.old) (K.faults sink.new) result }
+    ensures faults { AuditEndsCount (K.faults sink.old) (K.faults sink.new) result }
     // Where no count of faults rose, the input alone decides the verdict, unless memory runs out.
-    ensures settled { ¬ (result ≡ Verdict.ReadFault) → ¬ (result ≡ Verdict.WriteFault) → IsSettled result (S.left source.old) }
+    ensures settled { ¬ (result ≡ Verdict.ReadFault) → ¬ (result ≡ Verdict.WriteFault) → IsVerdictSettled result (S.left source.old) }
 {
     match judge(alloc, source) {
         Verdict::Sound(records) => return write_records(alloc, sink, records),
@@ -57,8 +57,8 @@ fn judge_lines<S: Source>(
     lines: &mut Lines,
     source: &mut S,
 ) -> Verdict
-    requires begins { IsAt auditor.old begin }
-    requires counted { IsCounted auditor.old }
+    requires begins { IsAt auditor.old audit_begin }
+    requires counted { IsAuditCounted auditor.old }
     requires unread { lines.old ≡ record { rest = []; read = 0; most = MAX_REPORT_BYTES } }
     ensures judged { Judged result (S.left source.old) (S.left source.new) }
     ensures read_fault { result ≡ Verdict.ReadFault → Rose (S.faults source.old) (S.faults source.new) }
@@ -79,8 +79,8 @@ fn judge_lines<S: Source>(
 
 /// Writes how many records a sound report has.
 fn write_records<K: Sink>(alloc: Global, sink: &mut K, records: u64) -> Verdict
-    ensures wrote { Wrote records result (K.written sink.old) (K.written sink.new) }
-    ensures faults { EndsCount (K.faults sink.old) (K.faults sink.new) result }
+    ensures wrote { AuditWrote records result (K.written sink.old) (K.written sink.new) }
+    ensures faults { AuditEndsCount (K.faults sink.old) (K.faults sink.new) result }
 {
     let text = match records_line(alloc, records) {
         Ok(text) => text,

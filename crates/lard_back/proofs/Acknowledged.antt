@@ -6,7 +6,7 @@ use Rattle.lard_back.specs.declared.hand.At.{At}
 use Rattle.lard_back.specs.declared.timers.Flags.{Flags}
 use Rattle.lard_back.specs.Place.{told_at}
 use Rattle.lard_back.specs.Sound.{IsAtRest, IsNodeSound, IsStaying}
-use Rattle.lard_back.specs.Timers.{flags_of}
+use Rattle.lard_back.specs.Timers.{timer_flags}
 use Rattle.lard_back.proofs.Acted.{put-sound, told-sound}
 use Rattle.lard_back.proofs.Deeds.{told-did}
 use Rattle.lard_base.specs.declared.errors.NoMemory.{NoMemory}
@@ -14,15 +14,15 @@ use Rattle.lard_base.specs.declared.place.TimerKind.TheVariants.{Ended}
 use Rattle.lard_handoff_back.specs.declared.row.BackConn.{BackConn}
 use Rattle.lard_handoff_back.specs.declared.row.BackConn.TheVariants as stage
 use Rattle.lard_handoff_back.specs.declared.row.BackRow.{BackRow}
-use Rattle.lard_handoff_back.specs.Back.{Backs, acknowledged, awaits_ack, with_stage}
+use Rattle.lard_handoff_back.specs.Back.{Backs, back_acknowledged, awaits_ack, back_with_stage}
 use Rattle.lard_handoff_back.specs.Row.{is_ended}
 use Rattle.lard_rules.specs.declared.node.NodeState.{NodeState}
 use Rattle.lard_rules.specs.declared.node.NodeTurn.{NodeTurn}
 use Rattle.lard_rules.specs.declared.stay.Stay.{Stay}
-use Rattle.lard_rules.specs.Node.{Deed, Does, Drops, NodePart, gone, node_acknowledged, saying}
+use Rattle.lard_rules.specs.Node.{NodeDeed, Does, Drops, NodePart, gone, node_acknowledged, node_saying}
 use Rattle.lard_rules.specs.NodePlace.{NodeSetting, node_deed, node_env, node_part, node_put}
 use Rattle.lard_resend.specs.Kept.{without}
-use Rattle.lard_resend.specs.Pending.{settled}
+use Rattle.lard_resend.specs.Pending.{pending_settled}
 use Rattle.lard_resend.proofs.Lists.{list_got}
 use Rattle.lard_resend.proofs.Renewed.{settled_is}
 use Rattle.lard_rules.specs.declared.places.Out.{Out}
@@ -40,13 +40,13 @@ acked-rest e (Some row) v h r = go row.stage v (and_parts (row.epoch.0 == e) (is
   go stage.Ended (Some s) h r = r
   go stage.Gone v h r = r
 
-acked-row : (m : Backs) (c e : ℕ) (o : Option BackRow) → awaits_ack e o ≡ true → acknowledged m c e o ≡ put_or m c (gone o)
+acked-row : (m : Backs) (c e : ℕ) (o : Option BackRow) → awaits_ack e o ≡ true → back_acknowledged m c e o ≡ put_or m c (gone o)
 acked-row m c e None h = absurd cc
-acked-row m c e (Some row) h = cond-true (awaits_ack e (Some row)) (with_stage m c stage.Gone (Some row)) m h
+acked-row m c e (Some row) h = cond-true (awaits_ack e (Some row)) (back_with_stage m c stage.Gone (Some row)) m h
 
 -- the row and what is held, as they are then
 abbrev pub acked : NodeState → At → NodeState
-acked s at = record s { conns = acknowledged s.conns at.c at.epoch.0 (get s.conns at.c); kept = settled s.kept at.c Ended 0 }
+acked s at = record s { conns = back_acknowledged s.conns at.c at.epoch.0 (get s.conns at.c); kept = pending_settled s.kept at.c Ended 0 }
 
 abbrev acked-part : NodePart → NodePart
 acked-part p = record p { row = gone p.row; kept = without Ended 0 p.kept }
@@ -59,16 +59,16 @@ acked-put s at sound h = λ i. record s {
   fetches = sym (list_got s.fetches at.c (sound.fetches at.c)) i;
 }
 
-pub acked-does : (k : NodeSetting) (s t n : NodeState) (at : At) (was : Flags) (turn : NodeTurn) (out : Out) → t ≡ acked s at → was ≡ flags_of (node_part s at.c) → at.n ≡ k.n → turn ≡ saying [] → IsNodeSound s
+pub acked-does : (k : NodeSetting) (s t n : NodeState) (at : At) (was : Flags) (turn : NodeTurn) (out : Out) → t ≡ acked s at → was ≡ timer_flags (node_part s at.c) → at.n ≡ k.n → turn ≡ node_saying [] → IsNodeSound s
     → awaits_ack at.epoch.0 (get s.conns at.c) ≡ true → (n, out) ≡ told_at t at was turn
     → (n, out) ≡ node_deed k s at.c (node_acknowledged (node_env k s at.c at.epoch.0) (node_part s at.c))
 acked-does k s t n at was turn out is flags node quiet sound h told =
     told
     ∙ told-did k s t at was (acked-part (node_part s at.c)) turn (is ∙ acked-put s at sound h) flags node
     ∙ ap (λ (u : NodeTurn). node_deed k s at.c (Does (acked-part (node_part s at.c), u))) quiet
-    ∙ ap (node_deed k s at.c) (sym (cond-true {A = Deed} (awaits_ack at.epoch.0 (get s.conns at.c)) (Does (acked-part (node_part s at.c), saying [])) Drops h))
+    ∙ ap (node_deed k s at.c) (sym (cond-true {A = NodeDeed} (awaits_ack at.epoch.0 (get s.conns at.c)) (Does (acked-part (node_part s at.c), node_saying [])) Drops h))
 
-pub acked-by : (s t n : NodeState) (at : At) (was : Flags) (turn : NodeTurn) (r : Result Out NoMemory) → t ≡ acked s at → was ≡ flags_of (node_part s at.c) → turn ≡ saying [] → IsNodeSound s
+pub acked-by : (s t n : NodeState) (at : At) (was : Flags) (turn : NodeTurn) (r : Result Out NoMemory) → t ≡ acked s at → was ≡ timer_flags (node_part s at.c) → turn ≡ node_saying [] → IsNodeSound s
     → awaits_ack at.epoch.0 (get s.conns at.c) ≡ true → IfOk r (λ out. (n, out) ≡ told_at t at was turn)
     → IfOk r (λ out. (k : NodeSetting) → k.n ≡ at.n → (n, out) ≡ node_deed k s at.c (node_acknowledged (node_env k s at.c at.epoch.0) (node_part s at.c)))
 acked-by s t n at was turn (Ok out) is flags quiet sound h told = λ k node. acked-does k s t n at was turn out is flags (sym node) quiet sound h told

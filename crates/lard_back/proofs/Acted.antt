@@ -6,8 +6,8 @@ use Rattle.std.specs.FinMap as table
 use Rattle.std.specs.Ordering.{nat_cmp}
 use Rattle.lard_back.specs.declared.hand.At.{At}
 use Rattle.lard_back.specs.declared.timers.Flags.{Flags}
-use Rattle.lard_back.specs.Hand.{Held, lent}
-use Rattle.lard_back.specs.Place.{IsActed, IsGone, acted, ends_with, env_of}
+use Rattle.lard_back.specs.Hand.{HeldMessages, node_lent}
+use Rattle.lard_back.specs.Place.{IsActed, IsGone, acted, ends_with, node_env_of}
 use Rattle.lard_back.specs.Sound.{EndsSound, IsAtRest, IsNodeSound, IsStaying, NoneEmpty}
 use Rattle.lard_back.proofs.Keeping.{Gains, segment-gains}
 use Rattle.lard_back.proofs.Putting.{closes-is}
@@ -19,12 +19,12 @@ use Rattle.lard_handoff_back.specs.declared.row.BackConn.{BackConn}
 use Rattle.lard_handoff_back.specs.declared.row.BackRow.{BackRow}
 use Rattle.lard_handoff_back.specs.declared.row.BackConn.TheVariants as stage
 use Rattle.lard_handoff_back.specs.Back.{staying}
-use Rattle.lard_handoff_back.specs.Row.{held_in}
+use Rattle.lard_handoff_back.specs.Row.{back_held}
 use Rattle.lard_rules.specs.declared.node.NodeState.{NodeState}
 use Rattle.lard_rules.specs.declared.node.NodeTurn.{NodeTurn}
 use Rattle.lard_rules.specs.declared.stay.Stay.{Stay}
 use Rattle.lard_rules.specs.Node.{NodePart, both_of, here, kept_after, turn_by}
-use Rattle.lard_rules.specs.NodePlace.{NodeSetting, node_part, node_put, told}
+use Rattle.lard_rules.specs.NodePlace.{NodeSetting, node_part, node_put, stores_told}
 use Rattle.lard_rules.specs.declared.stay.Progress.{Progress}
 use Rattle.lard_rules.specs.Stay.{NodeEnv, Work, came_for, come_on}
 use Rattle.lard_resend.proofs.Lists.{found_other, some_put}
@@ -34,16 +34,16 @@ use Rattle.lard_rules.specs.declared.places.Out.{Out}
 use Rattle.lard_rules.specs.declared.places.Ending.{Ending}
 use Rattle.lard_rules.specs.declared.places.Ending.TheVariants as ending
 use Rattle.lard_rules.specs.declared.places.Turn.{Turn}
-use Rattle.lard_rules.specs.Serving.{settled}
+use Rattle.lard_rules.specs.Serving.{serving_settled}
 use Rattle.lard_rules.proofs.Totals.{segment-many}
 use Rattle.lard_segment.specs.Segment.{Said}
 use Rattle.lard_stay.specs.declared.work.Work.{Work as InHand}
-use Rattle.lard_stay.specs.Work.{IsSound, IsStaySound, work_seen}
+use Rattle.lard_stay.specs.Work.{IsInHandSound, IsStaySound, work_seen}
 use Rattle.lard_table.proofs.Map.{get_put_same, get_put_other}
 
 -- ---- a sound state
 
-pub empty-put : (m : Held) (c : ℕ) (ks : List Kept) → NoneEmpty m → NoneEmpty (put_list m c ks)
+pub empty-put : (m : HeldMessages) (c : ℕ) (ks : List Kept) → NoneEmpty m → NoneEmpty (put_list m c ks)
 empty-put m c ks all q h = elim (cases_eq q c) [
   | inl e ↦ some_put m c ks (subst (λ n. get (put_list m c ks) n ≡ Some []) e h)
   | inr n ↦ all q (sym (found_other m c q ks n) ∙ h)
@@ -60,7 +60,7 @@ put-sound s c q rest sound = record {
   fetches = empty-put s.fetches c q.fetches sound.fetches;
 }
 
-pub told-sound : (s : NodeState) (t : NodeTurn) → IsNodeSound s → IsNodeSound (told s t)
+pub told-sound : (s : NodeState) (t : NodeTurn) → IsNodeSound s → IsNodeSound (stores_told s t)
 told-sound s t sound = record { stays = sound.stays; kept = sound.kept; fetches = sound.fetches }
 
 pub ends-rest : (env : NodeEnv) (p : NodePart) (w : Work) (e : Ending) → EndsSound e w → IsAtRest (kept_after env p w e).row (kept_after env p w e).stay
@@ -80,24 +80,24 @@ here-parts s at x h = both-parts (staying at.epoch.0 (get s.conns at.c)) (get s.
 
 -- all of it is put back: this is what the rules say, and the state is sound
 pub gone-ends : (k : NodeSetting) (s : NodeState) (at : At) (was : Flags) (before : List (Place × List ℕ)) (b : ControlBlock) (w : Work) (given : Ending × Turn) (n : NodeState) (out : Out)
-    → staying at.epoch.0 (get s.conns at.c) ≡ Some b → IsNodeSound s → IsGone (lent s at.c) at was before w given n out
+    → staying at.epoch.0 (get s.conns at.c) ≡ Some b → IsNodeSound s → IsGone (node_lent s at.c) at was before w given n out
     → ((n, out) ≡ ends_with k s at was before w given) × IsNodeSound n
 gone-ends k s at was before b w given n out staying sound gone =
     let is : (n, out) ≡ ends_with k s at was before w given = gone.closes ∙ closes-is k s at was before b w given staying (sound.kept at.c) (sound.fetches at.c) in
-    let q : NodePart = kept_after (env_of k s at) (node_part s at.c) w given.0 in
-    let kept : IsNodeSound (told (node_put s at.c q) (turn_by (env_of k s at) before w given)) =
-    told-sound (node_put s at.c q) (turn_by (env_of k s at) before w given) (put-sound s at.c q (ends-rest (env_of k s at) (node_part s at.c) w given.0 gone.sound) sound) in
+    let q : NodePart = kept_after (node_env_of k s at) (node_part s at.c) w given.0 in
+    let kept : IsNodeSound (stores_told (node_put s at.c q) (turn_by (node_env_of k s at) before w given)) =
+    told-sound (node_put s at.c q) (turn_by (node_env_of k s at) before w given) (put-sound s at.c q (ends-rest (node_env_of k s at) (node_part s at.c) w given.0 gone.sound) sound) in
     (is, subst IsNodeSound (ap (λ (x : NodeState × Out). x.0) (sym is)) kept)
 
 pub gone-acted : (k : NodeSetting) (s t : NodeState) (at : At) (was : Flags) (f : NodeEnv → ControlBlock × Stay → Work) (x : ControlBlock × Stay) (w : Work) (n : NodeState) (out : Out)
-    → here at.epoch.0 (node_part s at.c) ≡ Some x → t ≡ lent s at.c → w ≡ f (env_of k s at) x → IsNodeSound s
-    → IsGone t at was [] w (settled (env_of k s at).serve w.service) n out → IsActed k s at was f n out
+    → here at.epoch.0 (node_part s at.c) ≡ Some x → t ≡ node_lent s at.c → w ≡ f (node_env_of k s at) x → IsNodeSound s
+    → IsGone t at was [] w (serving_settled (node_env_of k s at).serve w.service) n out → IsActed k s at was f n out
 gone-acted k s t at was f x w n out found lends is sound gone =
-    let v : Work = f (env_of k s at) x in
-    let g : IsGone (lent s at.c) at was [] v (settled (env_of k s at).serve v.service) n out =
-    subst (λ (u : Work). IsGone (lent s at.c) at was [] u (settled (env_of k s at).serve u.service) n out) is
-    (subst (λ (u : NodeState). IsGone u at was [] w (settled (env_of k s at).serve w.service) n out) lends gone) in
-    let all = gone-ends k s at was [] x.0 v (settled (env_of k s at).serve v.service) n out (here-parts s at x found).0 sound g in
+    let v : Work = f (node_env_of k s at) x in
+    let g : IsGone (node_lent s at.c) at was [] v (serving_settled (node_env_of k s at).serve v.service) n out =
+    subst (λ (u : Work). IsGone (node_lent s at.c) at was [] u (serving_settled (node_env_of k s at).serve u.service) n out) is
+    (subst (λ (u : NodeState). IsGone u at was [] w (serving_settled (node_env_of k s at).serve w.service) n out) lends gone) in
+    let all = gone-ends k s at was [] x.0 v (serving_settled (node_env_of k s at).serve v.service) n out (here-parts s at x found).0 sound g in
     record { does = all.0 ∙ ap (acted k s at was f) (sym found); sound = all.1 }
 
 -- ---- a stay that is found is sound
@@ -106,7 +106,7 @@ pub stay-sound : (s : NodeState) (at : At) (b : ControlBlock) (v : Stay) → her
 stay-sound s at b v found sound =
     let parts = here-parts s at (b, v) found in
     go (get s.conns at.c) parts.0 (subst (IsAtRest (get s.conns at.c)) parts.1 (sound.stays at.c)) where
-      in-stage : (stage : BackConn) → held_in stage ≡ Some b → IsStaying stage (Some v) → IsStaySound b v
+      in-stage : (stage : BackConn) → back_held stage ≡ Some b → IsStaying stage (Some v) → IsStaySound b v
       in-stage (stage.Here d) e h = let same : d ≡ b = cc in subst (λ d. IsStaySound d v) same h
       in-stage stage.Out e h = absurd h
       in-stage stage.Ended e h = absurd h
@@ -115,25 +115,25 @@ stay-sound s at b v found sound =
       go : (o : Option BackRow) → staying at.epoch.0 o ≡ Some b → IsAtRest o (Some v) → IsStaySound b v
       go None e h = absurd h
       go (Some row) e h = in-stage row.stage (held-row (row.epoch.0 == at.epoch.0) e) h where
-        held-row : (t : Bool) → cond t (held_in row.stage) None ≡ Some b → held_in row.stage ≡ Some b
+        held-row : (t : Bool) → cond t (back_held row.stage) None ≡ Some b → back_held row.stage ≡ Some b
         held-row true e = e
         held-row false e = let none : None ≡ Some b = e in absurd cc
 
 -- ---- in the code
 
 pub acted-by : (k : NodeSetting) (s t : NodeState) (at : At) (was : Flags) (f : NodeEnv → ControlBlock × Stay → Work) (x : ControlBlock × Stay) (w : Work) (n : NodeState) (r : Result Out NoMemory)
-    → Some x ≡ here at.epoch.0 (node_part s at.c) → t ≡ lent s at.c → w ≡ f (env_of k t at) x → IsNodeSound s
-    → IfOk r (λ out. IsGone t at was [] w (settled (env_of k t at).serve w.service) n out) → IfOk r (λ out. IsActed k s at was f n out)
+    → Some x ≡ here at.epoch.0 (node_part s at.c) → t ≡ node_lent s at.c → w ≡ f (node_env_of k t at) x → IsNodeSound s
+    → IfOk r (λ out. IsGone t at was [] w (serving_settled (node_env_of k t at).serve w.service) n out) → IfOk r (λ out. IsActed k s at was f n out)
 acted-by k s t at was f x w n (Ok out) found lends is sound gone =
-    let g : IsGone t at was [] (f (env_of k t at) x) (settled (env_of k t at).serve (f (env_of k t at) x).service) n out =
-    subst (λ (u : Work). IsGone t at was [] u (settled (env_of k t at).serve u.service) n out) is gone in
-    let h : IsGone (lent s at.c) at was [] (f (env_of k s at) x) (settled (env_of k s at).serve (f (env_of k s at) x).service) n out =
-    subst (λ (u : NodeState). IsGone u at was [] (f (env_of k u at) x) (settled (env_of k u at).serve (f (env_of k u at) x).service) n out) lends g in
-    gone-acted k s (lent s at.c) at was f x (f (env_of k s at) x) n out (sym found) refl refl sound h
+    let g : IsGone t at was [] (f (node_env_of k t at) x) (serving_settled (node_env_of k t at).serve (f (node_env_of k t at) x).service) n out =
+    subst (λ (u : Work). IsGone t at was [] u (serving_settled (node_env_of k t at).serve u.service) n out) is gone in
+    let h : IsGone (node_lent s at.c) at was [] (f (node_env_of k s at) x) (serving_settled (node_env_of k s at).serve (f (node_env_of k s at) x).service) n out =
+    subst (λ (u : NodeState). IsGone u at was [] (f (node_env_of k u at) x) (serving_settled (node_env_of k u at).serve (f (node_env_of k u at) x).service) n out) lends g in
+    gone-acted k s (node_lent s at.c) at was f x (f (node_env_of k s at) x) n out (sym found) refl refl sound h
 acted-by k s t at was f x w n (Err e) found lends is sound gone = tt
 
 -- a segment was taken
-pub heard-sound : (b d : ControlBlock) (s : Said) (w : InHand) → d ≡ (on_segment b s).1 → IsSound b w → IsSound d w
+pub heard-sound : (b d : ControlBlock) (s : Said) (w : InHand) → d ≡ (on_segment b s).1 → IsInHandSound b w → IsInHandSound d w
 heard-sound b d s w e sound =
     let gains : Gains b.recv d.recv = subst (λ (c : ControlBlock). Gains b.recv c.recv) (sym e) (segment-gains b s) in
     let many : d.send.total ≡ b.send.total = ap (λ (c : ControlBlock). c.send.total) e ∙ segment-many b s in
@@ -161,8 +161,8 @@ came-few f r b v w e none =
 
 -- ---- a state with nothing in it
 
-none-empty : (m : Held) → m ≡ table.empty → NoneEmpty m
-none-empty m e c h = let none : None ≡ Some [] = sym (table.get-empty nat_cmp c) ∙ ap (λ (l : Held). get l c) (sym e) ∙ h in absurd cc
+none-empty : (m : HeldMessages) → m ≡ table.empty → NoneEmpty m
+none-empty m e c h = let none : None ≡ Some [] = sym (table.get-empty nat_cmp c) ∙ ap (λ (l : HeldMessages). get l c) (sym e) ∙ h in absurd cc
 
 none-found : {V : Type 0} (m : FinMap nat_cmp V) (c : ℕ) → m ≡ table.empty → get m c ≡ None
 none-found m c e = ap (λ l. get l c) e ∙ table.get-empty nat_cmp c

@@ -4,10 +4,10 @@ use Rattle.std.proofs.lemmas.Bool.{and_parts, cond-true, eq-eqb}
 use Rattle.std.specs.FinMap.{get, insert, remove}
 use Rattle.lard_back.specs.declared.hand.At.{At}
 use Rattle.lard_back.specs.declared.timers.Flags.{Flags}
-use Rattle.lard_back.specs.Hand.{lent}
-use Rattle.lard_back.specs.Place.{IsGone, ends_with, env_of, out_at}
+use Rattle.lard_back.specs.Hand.{node_lent}
+use Rattle.lard_back.specs.Place.{IsGone, ends_with, node_env_of, out_at}
 use Rattle.lard_back.specs.Sound.{IsAtRest, IsNodeSound, IsStaying}
-use Rattle.lard_back.specs.Timers.{flags_of}
+use Rattle.lard_back.specs.Timers.{timer_flags}
 use Rattle.lard_back.proofs.Acted.{ends-rest, put-sound, told-sound}
 use Rattle.lard_back.proofs.Deeds.{at-node, ends-did}
 use Rattle.lard_back.proofs.Putting.{closes-is}
@@ -24,24 +24,24 @@ use Rattle.lard_handoff_back.specs.declared.row.BackConn.TheVariants as stage
 use Rattle.lard_handoff_back.specs.declared.row.BackRow.{BackRow}
 use Rattle.lard_handoff_back.specs.declared.table.Adopt.{Adopt}
 use Rattle.lard_handoff_back.specs.declared.table.Adopt.TheVariants.{New, Again, Stale}
-use Rattle.lard_handoff_back.specs.Back.{Backs, after_offer, offer_answer, stay_of, staying, taken}
+use Rattle.lard_handoff_back.specs.Back.{Backs, after_offer, offer_answer, stay_row, staying, back_taken}
 use Rattle.lard_handoff_back.specs.Row.{is_gone}
 use Rattle.lard_journal.specs.declared.rec.Rec.{Rec}
 use Rattle.lard_journal.specs.declared.rec.Rec.TheVariants as rec
 use Rattle.lard_rules.specs.declared.node.NodeState.{NodeState}
 use Rattle.lard_rules.specs.declared.node.NodeTurn.{NodeTurn}
 use Rattle.lard_rules.specs.declared.stay.Stay.{Stay}
-use Rattle.lard_rules.specs.Node.{NodePart, begins, kept_after, node_offered, offered_by, taken_sent, turn_by, work_of}
-use Rattle.lard_rules.specs.NodePlace.{NodeSetting, node_deed, node_env, node_part, node_put, told}
+use Rattle.lard_rules.specs.Node.{NodePart, node_begins, kept_after, node_offered, offered_by, taken_sent, turn_by, work_of}
+use Rattle.lard_rules.specs.NodePlace.{NodeSetting, node_deed, node_env, node_part, node_put, stores_told}
 use Rattle.lard_rules.specs.Stay.{NodeEnv, Work, goes_on, reads_batch}
 use Rattle.lard_rules.specs.declared.places.Out.{Out}
 use Rattle.lard_rules.specs.declared.places.Ending.{Ending}
 use Rattle.lard_rules.specs.declared.places.Ending.TheVariants as ending
 use Rattle.lard_rules.specs.declared.places.Turn.{Turn}
 use Rattle.lard_rules.specs.Loop.{state_of}
-use Rattle.lard_rules.specs.Serving.{settled}
+use Rattle.lard_rules.specs.Serving.{serving_settled}
 use Rattle.lard_stay.specs.declared.work.Work.{Work as InHand}
-use Rattle.lard_stay.specs.Work.{IsSound, IsStaySound, work_seen}
+use Rattle.lard_stay.specs.Work.{IsInHandSound, IsStaySound, work_seen}
 use Rattle.lard_table.proofs.Map.{get_inserted, put_got, put_twice}
 use Rattle.lard_table.specs.Table.{put_or}
 
@@ -57,7 +57,7 @@ pub first-sound : (p : EndpointParts) (b : ControlBlock) (s : Stay) → s ≡ fi
 first-sound p b s first new valid = subst (IsStaySound b) (sym first) (subst (λ (d : ControlBlock). IsStaySound d (first_stay p.served)) (sym new) (begun-sound p valid))
 
 -- notes change nothing of what is sound
-pub noted-sound : (b : ControlBlock) (w : InHand) (notes : List Rec) → IsSound b w → IsSound b (record w { service = record w.service { notes = notes } })
+pub noted-sound : (b : ControlBlock) (w : InHand) (notes : List Rec) → IsInHandSound b w → IsInHandSound b (record w { service = record w.service { notes = notes } })
 noted-sound b w notes s = record {
   counted = record { responses = s.counted.responses; bytes = s.counted.bytes };
   within = s.within;
@@ -71,21 +71,21 @@ abbrev first_note : NodeEnv → Rec
 first_note env = rec.Took (Node env.n) env.serve.c (record { 0 = env.epoch })
 
 pub begun-is : (env : NodeEnv) (p : EndpointParts) (b : ControlBlock) (w : InHand) (notes : List Rec) → work_seen b w ≡ work_of b (first_stay p.served) → b ≡ adopted p
-    → notes ≡ w.service.notes ++ first_note env ∷ [] → work_seen b (record w { service = record w.service { notes = notes } }) ≡ begins env p
+    → notes ≡ w.service.notes ++ first_note env ∷ [] → work_seen b (record w { service = record w.service { notes = notes } }) ≡ node_begins env p
 begun-is env p b w notes seen new noted =
     let first : List Rec → List Rec = λ ns. ns ++ first_note env ∷ [] in
     (λ i. record (work_seen b w) { service = record (work_seen b w).service { notes = noted i } })
     ∙ (λ i. record (seen i) { service = record (seen i).service { notes = first (seen i).service.notes } })
-    ∙ (λ i. record (begins env p) { service = record (begins env p).service { block = new i } })
+    ∙ (λ i. record (node_begins env p) { service = record (node_begins env p).service { block = new i } })
 
 -- ---- the table
 
 module _ (m : Backs) (c : ℕ) (epoch : Epoch) (parts : EndpointParts) where
   -- the endpoint is here in the epoch of its Offer
-  stays-new : staying epoch.0 (get (insert m c (stay_of epoch parts)) c) ≡ Some (adopted parts)
-  stays-new = ap (staying epoch.0) (get_inserted m c (stay_of epoch parts)) ∙ cond-true (epoch.0 == epoch.0) (Some (adopted parts)) None (eq-eqb epoch.0 epoch.0 refl)
+  stays-new : staying epoch.0 (get (insert m c (stay_row epoch parts)) c) ≡ Some (adopted parts)
+  stays-new = ap (staying epoch.0) (get_inserted m c (stay_row epoch parts)) ∙ cond-true (epoch.0 == epoch.0) (Some (adopted parts)) None (eq-eqb epoch.0 epoch.0 refl)
 
-  is-new : (n : Backs) → n ≡ after_offer m c epoch parts (offer_answer epoch.0 (get m c)) → New ≡ offer_answer epoch.0 (get m c) → n ≡ insert m c (stay_of epoch parts)
+  is-new : (n : Backs) → n ≡ after_offer m c epoch parts (offer_answer epoch.0 (get m c)) → New ≡ offer_answer epoch.0 (get m c) → n ≡ insert m c (stay_row epoch parts)
   is-new n is new = is ∙ ap (after_offer m c epoch parts) (sym new)
 
   pub found-new : (n : Backs) → n ≡ after_offer m c epoch parts (offer_answer epoch.0 (get m c)) → New ≡ offer_answer epoch.0 (get m c) → staying epoch.0 (get n c) ≡ Some (adopted parts)
@@ -111,11 +111,11 @@ new-rest e (Some row) v new r = by (row.epoch.0 == e) (nat_lt row.epoch.0 e && i
 -- ---- the rule
 
 abbrev Begun : NodeEnv → EndpointParts → Work
-Begun env parts = goes_on env (state_of (reads_batch env true (begins env parts)))
+Begun env parts = goes_on env (state_of (reads_batch env true (node_begins env parts)))
 
 -- the connection is here, and has no stay yet
 abbrev adopting : NodeState → At → EndpointParts → NodeState
-adopting s at parts = record s { conns = insert s.conns at.c (stay_of at.epoch parts) }
+adopting s at parts = record s { conns = insert s.conns at.c (stay_row at.epoch parts) }
 
 module _ (k : NodeSetting) (s : NodeState) (at : At) (parts : EndpointParts) where
   abbrev ruled : NodeEnv
@@ -134,53 +134,53 @@ module _ (k : NodeSetting) (s : NodeState) (at : At) (parts : EndpointParts) whe
 
   ends-adopted : (was : Flags) (before : List (Place × List ℕ)) (w : Work) (given : Ending × Turn) → ends_with k (adopting s at parts) at was before w given ≡ ends_with k s at was before w given
   ends-adopted was before w given =
-      let q : NodePart = kept_after (env_of k s at) (node_part s at.c) w given.0 in
-      let t : NodeTurn = turn_by (env_of k s at) before w given in
-      (λ i. (told (node_put (adopting s at parts) at.c (part-same (env_of k s at) w given.0 i)) t, out_at at was (part-same (env_of k s at) w given.0 i) t))
-      ∙ (λ i. (told (record (node_put s at.c q) { conns = put_twice s.conns at.c (Some (stay_of at.epoch parts)) q.row i }) t, out_at at was q t))
+      let q : NodePart = kept_after (node_env_of k s at) (node_part s at.c) w given.0 in
+      let t : NodeTurn = turn_by (node_env_of k s at) before w given in
+      (λ i. (stores_told (node_put (adopting s at parts) at.c (part-same (node_env_of k s at) w given.0 i)) t, out_at at was (part-same (node_env_of k s at) w given.0 i) t))
+      ∙ (λ i. (stores_told (record (node_put s at.c q) { conns = put_twice s.conns at.c (Some (stay_row at.epoch parts)) q.row i }) t, out_at at was q t))
 
   none-stays : Answers New → IsNodeSound s → remove s.stays at.c ≡ s.stays
   none-stays new sound = ap (put_or s.stays at.c) (sym (new-rest at.epoch.0 (get s.conns at.c) (get s.stays at.c) new (sound.stays at.c))) ∙ put_got s.stays at.c
 
   -- what is in hand was taken out of this state
-  pub lent-new : (t : NodeState) (m : Backs) → m ≡ after_offer s.conns at.c at.epoch parts (offer_answer at.epoch.0 (get s.conns at.c)) → t ≡ record s { conns = taken m at.c (get m at.c) (staying at.epoch.0 (get m at.c)) } → Answers New → IsNodeSound s
-      → t ≡ lent (adopting s at parts) at.c
+  pub lent-new : (t : NodeState) (m : Backs) → m ≡ after_offer s.conns at.c at.epoch parts (offer_answer at.epoch.0 (get s.conns at.c)) → t ≡ record s { conns = back_taken m at.c (get m at.c) (staying at.epoch.0 (get m at.c)) } → Answers New → IsNodeSound s
+      → t ≡ node_lent (adopting s at parts) at.c
   lent-new t m after lends new sound =
-      let is : m ≡ insert s.conns at.c (stay_of at.epoch parts) = is-new s.conns at.c at.epoch parts m after new in
+      let is : m ≡ insert s.conns at.c (stay_row at.epoch parts) = is-new s.conns at.c at.epoch parts m after new in
       lends
-      ∙ (λ i. record s { conns = taken (is i) at.c (get (is i) at.c) (staying at.epoch.0 (get (is i) at.c)) })
-      ∙ (λ i. record s { conns = taken (insert s.conns at.c (stay_of at.epoch parts)) at.c (get (insert s.conns at.c (stay_of at.epoch parts)) at.c) (stays-new s.conns at.c at.epoch parts i) })
-      ∙ (λ i. record (lent (adopting s at parts) at.c) { stays = sym (none-stays new sound) i })
+      ∙ (λ i. record s { conns = back_taken (is i) at.c (get (is i) at.c) (staying at.epoch.0 (get (is i) at.c)) })
+      ∙ (λ i. record s { conns = back_taken (insert s.conns at.c (stay_row at.epoch parts)) at.c (get (insert s.conns at.c (stay_row at.epoch parts)) at.c) (stays-new s.conns at.c at.epoch parts i) })
+      ∙ (λ i. record (node_lent (adopting s at parts) at.c) { stays = sym (none-stays new sound) i })
 
   abbrev At_end : At → Flags → NodeState × Out
-  At_end a was = let e = env_of k s a in let w = Begun e parts in ends_with k s a was (taken_sent e) w (settled e.serve w.service)
+  At_end a was = let e = node_env_of k s a in let w = Begun e parts in ends_with k s a was (taken_sent e) w (serving_settled e.serve w.service)
 
-  new-does : (n : NodeState) (was : Flags) (out : Out) → Answers New → was ≡ flags_of (node_part s at.c) → at.n ≡ k.n → (n, out) ≡ At_end at was → Offered n out
+  new-does : (n : NodeState) (was : Flags) (out : Out) → Answers New → was ≡ timer_flags (node_part s at.c) → at.n ≡ k.n → (n, out) ≡ At_end at was → Offered n out
   new-does n was out new flags node is =
       let w : Work = Begun ruled parts in
       is
       ∙ (λ i. At_end (at-node k at node i) (flags i))
-      ∙ ends-did k s (record { n = k.n; c = at.c; epoch = at.epoch }) (flags_of (node_part s at.c)) (taken_sent ruled) w (settled ruled.serve w.service) refl refl
+      ∙ ends-did k s (record { n = k.n; c = at.c; epoch = at.epoch }) (timer_flags (node_part s at.c)) (taken_sent ruled) w (serving_settled ruled.serve w.service) refl refl
       ∙ ap (λ (a : Adopt). node_deed k s at.c (offered_by ruled parts (node_part s at.c) a)) new
 
-  module _ (t n : NodeState) (was : Flags) (lends : t ≡ lent (adopting s at parts) at.c) (new : Answers New) (sound : IsNodeSound s) where
+  module _ (t n : NodeState) (was : Flags) (lends : t ≡ node_lent (adopting s at parts) at.c) (new : Answers New) (sound : IsNodeSound s) where
     abbrev Ends : NodeState → Out → Type 0
-    Ends u out = let e = env_of k u at in let w = Begun e parts in IsGone u at was (taken_sent e) w (settled e.serve w.service) n out
+    Ends u out = let e = node_env_of k u at in let w = Begun e parts in IsGone u at was (taken_sent e) w (serving_settled e.serve w.service) n out
 
     both : (out : Out) → Ends t out → ((n, out) ≡ At_end at was) × IsNodeSound n
     both out gone =
-        let e : NodeEnv = env_of k s at in
+        let e : NodeEnv = node_env_of k s at in
         let w : Work = Begun e parts in
-        let given : Ending × Turn = settled e.serve w.service in
-        let g : Ends (lent (adopting s at parts) at.c) out = subst (λ (u : NodeState). Ends u out) lends gone in
+        let given : Ending × Turn = serving_settled e.serve w.service in
+        let g : Ends (node_lent (adopting s at parts) at.c) out = subst (λ (u : NodeState). Ends u out) lends gone in
         let is : (n, out) ≡ At_end at was =
         g.closes ∙ closes-is k (adopting s at parts) at was (taken_sent e) (adopted parts) w given (stays-new s.conns at.c at.epoch parts) (sound.kept at.c) (sound.fetches at.c) ∙ ends-adopted was (taken_sent e) w given in
         let q : NodePart = kept_after e (node_part s at.c) w given.0 in
-        let kept : IsNodeSound (told (node_put s at.c q) (turn_by e (taken_sent e) w given)) =
+        let kept : IsNodeSound (stores_told (node_put s at.c q) (turn_by e (taken_sent e) w given)) =
         told-sound (node_put s at.c q) (turn_by e (taken_sent e) w given) (put-sound s at.c q (ends-rest e (node_part s at.c) w given.0 g.sound) sound) in
         (is, subst IsNodeSound (ap (λ (x : NodeState × Out). x.0) (sym is)) kept)
 
-    pub new-by : (r : Result Out NoMemory) → was ≡ flags_of (node_part s at.c) → at.n ≡ k.n → IfOk r (Ends t) → IfOk r (λ out. Offered n out)
+    pub new-by : (r : Result Out NoMemory) → was ≡ timer_flags (node_part s at.c) → at.n ≡ k.n → IfOk r (Ends t) → IfOk r (λ out. Offered n out)
     new-by (Ok out) flags node gone = new-does n was out new flags node (both out gone).0
     new-by (Err e) flags node gone = tt
 

@@ -3,13 +3,13 @@ use Rattle.std.proofs.Common.{◌≡◌, ℕ, true, List, [], ◌++◌, append_a
 use Rattle.std.proofs.lemmas.Bool.{cond-true}
 use Rattle.lard_back.specs.declared.hand.At.{At}
 use Rattle.lard_back.specs.declared.timers.Flags.{Flags}
-use Rattle.lard_back.specs.Place.{IsActed, acted, ends_with, env_of, out_at, told_at}
+use Rattle.lard_back.specs.Place.{IsActed, acted, ends_with, node_env_of, out_at, told_at}
 use Rattle.lard_back.specs.Awaiting.{awaits}
-use Rattle.lard_back.specs.Hand.{Held}
+use Rattle.lard_back.specs.Hand.{HeldMessages}
 use Rattle.lard_back.specs.Sound.{IsNodeSound, NoneEmpty}
 use Rattle.lard_back.proofs.Acted.{empty-put}
 use Rattle.lard_back.proofs.Putting.{part-put}
-use Rattle.lard_back.specs.Timers.{flag_changes, flags_of}
+use Rattle.lard_back.specs.Timers.{flag_changes, timer_flags}
 use Rattle.lard_base.specs.declared.errors.NoMemory.{NoMemory}
 use Rattle.lard_base.specs.declared.place.Place.{Place}
 use Rattle.lard_base.specs.declared.place.Place.TheVariants.{Node}
@@ -23,12 +23,12 @@ use Rattle.lard_lateral.specs.Lateral as lateral
 use Rattle.lard_rules.specs.declared.node.NodeState.{NodeState}
 use Rattle.lard_rules.specs.declared.stay.Stay.{Stay}
 use Rattle.lard_rules.specs.declared.node.NodeTurn.{NodeTurn}
-use Rattle.lard_rules.specs.Node.{Does, Drops, NodePart, come_by, heard_by, here, is_awaited, kept_after, node_armed, node_content, node_forwarded, node_read, node_tagged, read_by, rests, tagged_by, turn_by, work_of}
-use Rattle.lard_rules.specs.NodePlace.{NodeSetting, node_deed, node_did, node_env, node_out, node_part, node_put, timers_of, told}
+use Rattle.lard_rules.specs.Node.{Does, Drops, NodePart, come_by, node_heard_by, here, is_tag_awaited, kept_after, node_armed, node_content, node_forwarded, node_read, node_tagged, node_read_by, node_rests, tagged_by, turn_by, work_of}
+use Rattle.lard_rules.specs.NodePlace.{NodeSetting, node_deed, node_did, node_env, node_out, node_part, node_put, node_timers, stores_told}
 use Rattle.lard_rules.specs.Stay.{NodeEnv, Work, came_for, come_progress, goes_on, read_progress, tagged}
 use Rattle.lard_resend.specs.declared.kept.Kept.{Kept}
 use Rattle.lard_resend.specs.Kept.{without}
-use Rattle.lard_resend.specs.Pending.{held, put_list, settled}
+use Rattle.lard_resend.specs.Pending.{held, put_list, pending_settled}
 use Rattle.lard_resend.proofs.Lists.{list_got, list_twice}
 use Rattle.lard_resend.proofs.Renewed.{held_settled, settled_is}
 use Rattle.lard_rules.specs.declared.places.Out.{Out}
@@ -45,7 +45,7 @@ in_order a b c d =
     append_assoc (a ++ b) c d ∙ append_assoc a b (c ++ d) ∙ ap (λ (l : List Rec). a ++ (b ++ (c ++ l))) (sym (append-nil d))
 
 -- the records of the timers, kind by kind
-pub changes-are : (n c : ℕ) (p q : NodePart) → flag_changes n c (flags_of p) (flags_of q) ≡ timers_of n c p q
+pub changes-are : (n c : ℕ) (p q : NodePart) → flag_changes n c (timer_flags p) (timer_flags q) ≡ node_timers n c p q
 changes-are n c p q = in_order (of Tcp) (of Ask) (of Fetch) (of Ended) where
   of : TimerKind → List Rec
   of kind = kind_change (Node n) c kind (node_armed p kind) (node_armed q kind)
@@ -55,15 +55,15 @@ here_at k at = record { n = k.n; c = at.c; epoch = at.epoch }
 
 -- all that was in hand is put back
 pub did-is : (k : NodeSetting) (s : NodeState) (at : At) (before : List (Place × List ℕ)) (w : Work)
-    → ends_with k s (here_at k at) (flags_of (node_part s at.c)) before w (serving.settled (env_of k s (here_at k at)).serve w.service)
-    ≡ node_did k s at.c (rests (node_env k s at.c at.epoch.0) (node_part s at.c) before w)
+    → ends_with k s (here_at k at) (timer_flags (node_part s at.c)) before w (serving.serving_settled (node_env_of k s (here_at k at)).serve w.service)
+    ≡ node_did k s at.c (node_rests (node_env k s at.c at.epoch.0) (node_part s at.c) before w)
 did-is k s at before w =
-    let given = rests (node_env k s at.c at.epoch.0) (node_part s at.c) before w in
-    λ i. (told (node_put s at.c given.0) given.1, record (node_out k.n at.c (node_part s at.c) given.0 given.1) { timers = changes-are k.n at.c (node_part s at.c) given.0 i })
+    let given = node_rests (node_env k s at.c at.epoch.0) (node_part s at.c) before w in
+    λ i. (stores_told (node_put s at.c given.0) given.1, record (node_out k.n at.c (node_part s at.c) given.0 given.1) { timers = changes-are k.n at.c (node_part s at.c) given.0 i })
 
 heard-here : (k : NodeSetting) (s : NodeState) (at : At) (m : Said) (o : Option (ControlBlock × Stay))
-    → acted k s (here_at k at) (flags_of (node_part s at.c)) (λ env x. goes_on env (work_of (on_segment x.0 m).1 x.1)) o
-    ≡ node_deed k s at.c (heard_by (node_env k s at.c at.epoch.0) (node_part s at.c) (Ok m) o)
+    → acted k s (here_at k at) (timer_flags (node_part s at.c)) (λ env x. goes_on env (work_of (on_segment x.0 m).1 x.1)) o
+    ≡ node_deed k s at.c (node_heard_by (node_env k s at.c at.epoch.0) (node_part s at.c) (Ok m) o)
 heard-here k s at m None = refl
 heard-here k s at m (Some x) = did-is k s at [] (goes_on (node_env k s at.c at.epoch.0) (work_of (on_segment x.0 m).1 x.1))
 
@@ -71,15 +71,15 @@ pub at-node : (k : NodeSetting) (at : At) → at.n ≡ k.n → at ≡ here_at k 
 at-node k at e = λ i. record at { n = e i }
 
 -- what is kept of the connection is put back, and its turn told
-pub told-did : (k : NodeSetting) (s t : NodeState) (at : At) (was : Flags) (q : NodePart) (turn : NodeTurn) → t ≡ node_put s at.c q → was ≡ flags_of (node_part s at.c) → at.n ≡ k.n
+pub told-did : (k : NodeSetting) (s t : NodeState) (at : At) (was : Flags) (q : NodePart) (turn : NodeTurn) → t ≡ node_put s at.c q → was ≡ timer_flags (node_part s at.c) → at.n ≡ k.n
     → told_at t at was turn ≡ node_did k s at.c (q, turn)
 told-did k s t at was q turn is flags node =
     (λ i. told_at (is i) at (flags i) turn)
-    ∙ (λ i. (told (node_put s at.c q) turn, out_at (at-node k at node i) (flags_of (node_part s at.c)) (part-put s at.c q i) turn))
-    ∙ (λ i. (told (node_put s at.c q) turn, record (node_out k.n at.c (node_part s at.c) q turn) { timers = changes-are k.n at.c (node_part s at.c) q i }))
+    ∙ (λ i. (stores_told (node_put s at.c q) turn, out_at (at-node k at node i) (timer_flags (node_part s at.c)) (part-put s at.c q i) turn))
+    ∙ (λ i. (stores_told (node_put s at.c q) turn, record (node_out k.n at.c (node_part s at.c) q turn) { timers = changes-are k.n at.c (node_part s at.c) q i }))
 
 -- all that was in hand is put back, wherever its turn ended
-pub ends-did : (k : NodeSetting) (s : NodeState) (at : At) (was : Flags) (before : List (Place × List ℕ)) (w : Work) (given : Ending × Turn) → was ≡ flags_of (node_part s at.c) → at.n ≡ k.n
+pub ends-did : (k : NodeSetting) (s : NodeState) (at : At) (was : Flags) (before : List (Place × List ℕ)) (w : Work) (given : Ending × Turn) → was ≡ timer_flags (node_part s at.c) → at.n ≡ k.n
     → ends_with k s at was before w given
     ≡ node_did k s at.c (kept_after (node_env k s at.c at.epoch.0) (node_part s at.c) w given.0, turn_by (node_env k s at.c at.epoch.0) before w given)
 ends-did k s at was before w given flags node =
@@ -87,18 +87,18 @@ ends-did k s at was before w given flags node =
     let q : NodePart = kept_after env (node_part s at.c) w given.0 in
     let turn : NodeTurn = turn_by env before w given in
     (λ i. ends_with k s (at-node k at node i) (flags i) before w given)
-    ∙ (λ i. (told (node_put s at.c q) turn, record (node_out k.n at.c (node_part s at.c) q turn) { timers = changes-are k.n at.c (node_part s at.c) q i }))
+    ∙ (λ i. (stores_told (node_put s at.c q) turn, record (node_out k.n at.c (node_part s at.c) q turn) { timers = changes-are k.n at.c (node_part s at.c) q i }))
 
 -- a segment that decodes comes to the connection
 pub forwarded : (k : NodeSetting) (s : NodeState) (at : At) (m : Said) → at.n ≡ k.n
-    → acted k s at (flags_of (node_part s at.c)) (λ env x. goes_on env (work_of (on_segment x.0 m).1 x.1)) (here at.epoch.0 (node_part s at.c))
+    → acted k s at (timer_flags (node_part s at.c)) (λ env x. goes_on env (work_of (on_segment x.0 m).1 x.1)) (here at.epoch.0 (node_part s at.c))
     ≡ node_deed k s at.c (node_forwarded (node_env k s at.c at.epoch.0) (node_part s at.c) (Ok m))
 forwarded k s at m e =
-    ap (λ (a : At). acted k s a (flags_of (node_part s at.c)) (λ env x. goes_on env (work_of (on_segment x.0 m).1 x.1)) (here at.epoch.0 (node_part s at.c))) (at-node k at e)
+    ap (λ (a : At). acted k s a (timer_flags (node_part s at.c)) (λ env x. goes_on env (work_of (on_segment x.0 m).1 x.1)) (here at.epoch.0 (node_part s at.c))) (at-node k at e)
     ∙ heard-here k s at m (here at.epoch.0 (node_part s at.c))
 
 pub forward-by : (k : NodeSetting) (s n : NodeState) (at : At) (was : Flags) (m : Said) (d : Result Said SegFault) (r : Result Out NoMemory)
-    → IfOk r (λ out. IsActed k s at was (λ env x. goes_on env (work_of (on_segment x.0 m).1 x.1)) n out) → was ≡ flags_of (node_part s at.c) → at.n ≡ k.n → d ≡ Ok m
+    → IfOk r (λ out. IsActed k s at was (λ env x. goes_on env (work_of (on_segment x.0 m).1 x.1)) n out) → was ≡ timer_flags (node_part s at.c) → at.n ≡ k.n → d ≡ Ok m
     → IfOk r (λ out. (n, out) ≡ node_deed k s at.c (node_forwarded (node_env k s at.c at.epoch.0) (node_part s at.c) d))
 forward-by k s n at was m d (Ok out) done flags node is =
     done.does
@@ -115,15 +115,15 @@ put-over : (s t : NodeState) (c : ℕ) (ks fs : List Kept) (q : NodePart) → t.
 put-over s t c ks fs q conns stays cache disk kept fetches = λ i. record {
   conns = put_or (conns i) c q.row;
   stays = put_or (stays i) c q.stay;
-  kept = (ap (λ (m : Held). put_list m c q.kept) kept ∙ list_twice s.kept c ks q.kept) i;
-  fetches = (ap (λ (m : Held). put_list m c q.fetches) fetches ∙ list_twice s.fetches c fs q.fetches) i;
+  kept = (ap (λ (m : HeldMessages). put_list m c q.kept) kept ∙ list_twice s.kept c ks q.kept) i;
+  fetches = (ap (λ (m : HeldMessages). put_list m c q.fetches) fetches ∙ list_twice s.fetches c fs q.fetches) i;
   cache = cache i;
   disk = disk i;
 }
 
 -- the Ask of a connection is dropped
 abbrev unasked : NodeState → ℕ → NodeState
-unasked s c = record s { kept = settled s.kept c Ask 0 }
+unasked s c = record s { kept = pending_settled s.kept c Ask 0 }
 
 pub unasked-sound : (s : NodeState) (c : ℕ) → IsNodeSound s → IsNodeSound (unasked s c)
 unasked-sound s c sound = record {
@@ -137,33 +137,33 @@ unasked-part p = record p { kept = without Ask 0 p.kept }
 
 -- the turn of a connection whose Ask was dropped
 pub unasked-did : (k : NodeSetting) (s : NodeState) (at : At) (before : List (Place × List ℕ)) (w : Work) → IsNodeSound s
-    → ends_with k (unasked s at.c) (here_at k at) (flags_of (node_part s at.c)) before w (serving.settled (env_of k s (here_at k at)).serve w.service)
-    ≡ node_did k s at.c (rests (node_env k s at.c at.epoch.0) (unasked-part (node_part s at.c)) before w)
+    → ends_with k (unasked s at.c) (here_at k at) (timer_flags (node_part s at.c)) before w (serving.serving_settled (node_env_of k s (here_at k at)).serve w.service)
+    ≡ node_did k s at.c (node_rests (node_env k s at.c at.epoch.0) (unasked-part (node_part s at.c)) before w)
 unasked-did k s at before w sound =
     let c = at.c in
     let env : NodeEnv = node_env k s c at.epoch.0 in
-    let e : Ending = (serving.settled env.serve w.service).0 in
-    let turn : NodeTurn = turn_by env before w (serving.settled env.serve w.service) in
+    let e : Ending = (serving.serving_settled env.serve w.service).0 in
+    let turn : NodeTurn = turn_by env before w (serving.serving_settled env.serve w.service) in
     let p : NodePart = node_part (unasked s c) c in
     let q : NodePart = kept_after env (unasked-part (node_part s c)) w e in
     let same : p ≡ unasked-part (node_part s c) = λ i. record (node_part s c) { kept = held_settled s.kept c Ask 0 i } in
     let over : node_put (unasked s c) c q ≡ node_put s c q =
     put-over s (unasked s c) c (without Ask 0 (held s.kept c)) (held s.fetches c) q refl refl refl refl (settled_is s.kept c Ask 0 (sound.kept c)) (sym (list_got s.fetches c (sound.fetches c))) in
-    (λ i. (told (node_put (unasked s c) c (kept_after env (same i) w e)) turn, out_at (here_at k at) (flags_of (node_part s c)) (kept_after env (same i) w e) turn))
-    ∙ (λ i. (told (over i) turn, record (node_out k.n c (node_part s c) q turn) { timers = changes-are k.n c (node_part s c) q i }))
+    (λ i. (stores_told (node_put (unasked s c) c (kept_after env (same i) w e)) turn, out_at (here_at k at) (timer_flags (node_part s c)) (kept_after env (same i) w e) turn))
+    ∙ (λ i. (stores_told (over i) turn, record (node_out k.n c (node_part s c) q turn) { timers = changes-are k.n c (node_part s c) q i }))
 
 tagged-here : (k : NodeSetting) (s : NodeState) (at : At) (number : ℕ) (nodes : List ℕ) (o : Option (ControlBlock × Stay)) → IsNodeSound s → awaits k s at number nodes o ≡ true
-    → acted k (unasked s at.c) (here_at k at) (flags_of (node_part s at.c)) (λ env x. goes_on env (tagged env nodes (work_of x.0 x.1))) o
+    → acted k (unasked s at.c) (here_at k at) (timer_flags (node_part s at.c)) (λ env x. goes_on env (tagged env nodes (work_of x.0 x.1))) o
     ≡ node_deed k s at.c (tagged_by (node_env k s at.c at.epoch.0) number nodes (node_part s at.c) o)
 tagged-here k s at number nodes None sound h = absurd cc
 tagged-here k s at number nodes (Some x) sound h =
     let env : NodeEnv = node_env k s at.c at.epoch.0 in
     let w : Work = goes_on env (tagged env nodes (work_of x.0 x.1)) in
     unasked-did k s at [] w sound
-    ∙ ap (node_deed k s at.c) (sym (cond-true (is_awaited env number nodes (node_part s at.c) x.1) (Does (rests env (unasked-part (node_part s at.c)) [] w)) Drops h))
+    ∙ ap (node_deed k s at.c) (sym (cond-true (is_tag_awaited env number nodes (node_part s at.c) x.1) (Does (node_rests env (unasked-part (node_part s at.c)) [] w)) Drops h))
 
 pub tag-by : (k : NodeSetting) (s t n : NodeState) (at : At) (was : Flags) (number : ℕ) (nodes : List ℕ) (r : Result Out NoMemory)
-    → IfOk r (λ out. IsActed k t at was (λ env x. goes_on env (tagged env nodes (work_of x.0 x.1))) n out) → t ≡ unasked s at.c → was ≡ flags_of (node_part s at.c) → at.n ≡ k.n → IsNodeSound s
+    → IfOk r (λ out. IsActed k t at was (λ env x. goes_on env (tagged env nodes (work_of x.0 x.1))) n out) → t ≡ unasked s at.c → was ≡ timer_flags (node_part s at.c) → at.n ≡ k.n → IsNodeSound s
     → awaits k s at number nodes (here at.epoch.0 (node_part s at.c)) ≡ true
     → IfOk r (λ out. (n, out) ≡ node_deed k s at.c (node_tagged (node_env k s at.c at.epoch.0) (node_part s at.c) number nodes))
 tag-by k s t n at was number nodes (Ok out) done dropped flags node sound h =
@@ -177,7 +177,7 @@ tag-by k s t n at was number nodes (Err e) done dropped flags node sound h = tt
 
 -- a Fetch of a connection is dropped
 abbrev unfetched : NodeState → ℕ → ℕ → NodeState
-unfetched s c r = record s { fetches = settled s.fetches c Fetch r }
+unfetched s c r = record s { fetches = pending_settled s.fetches c Fetch r }
 
 pub unfetched-sound : (s : NodeState) (c r : ℕ) → IsNodeSound s → IsNodeSound (unfetched s c r)
 unfetched-sound s c r sound = record {
@@ -191,38 +191,38 @@ unfetched-part r p = record p { fetches = without Fetch r p.fetches }
 
 -- the turn of a connection a Fetch of which was dropped
 unfetched-did : (k : NodeSetting) (s : NodeState) (at : At) (r : ℕ) (before : List (Place × List ℕ)) (w : Work) → IsNodeSound s
-    → ends_with k (unfetched s at.c r) (here_at k at) (flags_of (node_part s at.c)) before w (serving.settled (env_of k s (here_at k at)).serve w.service)
-    ≡ node_did k s at.c (rests (node_env k s at.c at.epoch.0) (unfetched-part r (node_part s at.c)) before w)
+    → ends_with k (unfetched s at.c r) (here_at k at) (timer_flags (node_part s at.c)) before w (serving.serving_settled (node_env_of k s (here_at k at)).serve w.service)
+    ≡ node_did k s at.c (node_rests (node_env k s at.c at.epoch.0) (unfetched-part r (node_part s at.c)) before w)
 unfetched-did k s at r before w sound =
     let c = at.c in
     let env : NodeEnv = node_env k s c at.epoch.0 in
-    let e : Ending = (serving.settled env.serve w.service).0 in
-    let turn : NodeTurn = turn_by env before w (serving.settled env.serve w.service) in
+    let e : Ending = (serving.serving_settled env.serve w.service).0 in
+    let turn : NodeTurn = turn_by env before w (serving.serving_settled env.serve w.service) in
     let p : NodePart = node_part (unfetched s c r) c in
     let q : NodePart = kept_after env (unfetched-part r (node_part s c)) w e in
     let same : p ≡ unfetched-part r (node_part s c) = λ i. record (node_part s c) { fetches = held_settled s.fetches c Fetch r i } in
     let over : node_put (unfetched s c r) c q ≡ node_put s c q =
     put-over s (unfetched s c r) c (held s.kept c) (without Fetch r (held s.fetches c)) q refl refl refl refl (sym (list_got s.kept c (sound.kept c))) (settled_is s.fetches c Fetch r (sound.fetches c)) in
-    (λ i. (told (node_put (unfetched s c r) c (kept_after env (same i) w e)) turn, out_at (here_at k at) (flags_of (node_part s c)) (kept_after env (same i) w e) turn))
-    ∙ (λ i. (told (over i) turn, record (node_out k.n c (node_part s c) q turn) { timers = changes-are k.n c (node_part s c) q i }))
+    (λ i. (stores_told (node_put (unfetched s c r) c (kept_after env (same i) w e)) turn, out_at (here_at k at) (timer_flags (node_part s c)) (kept_after env (same i) w e) turn))
+    ∙ (λ i. (stores_told (over i) turn, record (node_out k.n c (node_part s c) q turn) { timers = changes-are k.n c (node_part s c) q i }))
 
 come-here : (k : NodeSetting) (s : NodeState) (at : At) (from r : ℕ) (o : Option (ControlBlock × Stay)) → IsNodeSound s → is_some o ≡ true → lateral.is_awaited s.fetches from at.c at.epoch.0 r ≡ true
-    → acted k (unfetched s at.c r) (here_at k at) (flags_of (node_part s at.c)) (λ env x. goes_on env (came_for (come_progress from) r (work_of x.0 x.1))) o
+    → acted k (unfetched s at.c r) (here_at k at) (timer_flags (node_part s at.c)) (λ env x. goes_on env (came_for (come_progress from) r (work_of x.0 x.1))) o
     ≡ node_deed k s at.c (come_by (node_env k s at.c at.epoch.0) from r (node_part s at.c) o)
 come-here k s at from r None sound there h = absurd cc
 come-here k s at from r (Some x) sound there h =
     let env : NodeEnv = node_env k s at.c at.epoch.0 in
     let w : Work = goes_on env (came_for (come_progress from) r (work_of x.0 x.1)) in
     unfetched-did k s at r [] w sound
-    ∙ ap (node_deed k s at.c) (sym (cond-true (lateral.is_awaited s.fetches from at.c at.epoch.0 r) (Does (rests env (unfetched-part r (node_part s at.c)) [] w)) Drops h))
+    ∙ ap (node_deed k s at.c) (sym (cond-true (lateral.is_awaited s.fetches from at.c at.epoch.0 r) (Does (node_rests env (unfetched-part r (node_part s at.c)) [] w)) Drops h))
 
 pub come-by : (k : NodeSetting) (s t n : NodeState) (at : At) (was : Flags) (from r : ℕ) (done : Result Out NoMemory)
-    → IfOk done (λ out. IsActed k t at was (λ env x. goes_on env (came_for (come_progress from) r (work_of x.0 x.1))) n out) → t ≡ record s { fetches = after_content s.fetches from at.c at.epoch.0 r } → was ≡ flags_of (node_part s at.c)
+    → IfOk done (λ out. IsActed k t at was (λ env x. goes_on env (came_for (come_progress from) r (work_of x.0 x.1))) n out) → t ≡ record s { fetches = after_content s.fetches from at.c at.epoch.0 r } → was ≡ timer_flags (node_part s at.c)
     → at.n ≡ k.n → IsNodeSound s → is_some (here at.epoch.0 (node_part s at.c)) ≡ true → lateral.is_awaited s.fetches from at.c at.epoch.0 r ≡ true
     → IfOk done (λ out. (n, out) ≡ node_deed k s at.c (node_content (node_env k s at.c at.epoch.0) (node_part s at.c) from r))
 come-by k s t n at was from r (Ok out) done dropped flags node sound there h =
     let f : NodeEnv → ControlBlock × Stay → Work = λ env x. goes_on env (came_for (come_progress from) r (work_of x.0 x.1)) in
-    let gone : t ≡ unfetched s at.c r = dropped ∙ ap (λ (m : Held). record s { fetches = m }) (cond-true (lateral.is_awaited s.fetches from at.c at.epoch.0 r) (settled s.fetches at.c Fetch r) s.fetches h) in
+    let gone : t ≡ unfetched s at.c r = dropped ∙ ap (λ (m : HeldMessages). record s { fetches = m }) (cond-true (lateral.is_awaited s.fetches from at.c at.epoch.0 r) (pending_settled s.fetches at.c Fetch r) s.fetches h) in
     done.does
     ∙ (λ i. acted k (gone i) (at-node k at node i) (flags i) f (here at.epoch.0 (node_part (gone i) at.c)))
     ∙ come-here k s at from r (here at.epoch.0 (node_part s at.c)) sound there h
@@ -230,18 +230,18 @@ come-by k s t n at was from r (Err e) done dropped flags node sound there h = tt
 
 pub come-sound : (s t : NodeState) (c from epoch r : ℕ) → t ≡ record s { fetches = after_content s.fetches from c epoch r } → lateral.is_awaited s.fetches from c epoch r ≡ true → IsNodeSound s → IsNodeSound t
 come-sound s t c from epoch r is h sound =
-    subst IsNodeSound (sym (is ∙ ap (λ (m : Held). record s { fetches = m }) (cond-true (lateral.is_awaited s.fetches from c epoch r) (settled s.fetches c Fetch r) s.fetches h))) (unfetched-sound s c r sound)
+    subst IsNodeSound (sym (is ∙ ap (λ (m : HeldMessages). record s { fetches = m }) (cond-true (lateral.is_awaited s.fetches from c epoch r) (pending_settled s.fetches c Fetch r) s.fetches h))) (unfetched-sound s c r sound)
 
 -- ---- a job of this node's disk was completed
 
 read-here : (k : NodeSetting) (s : NodeState) (at : At) (r : ℕ) (o : Option (ControlBlock × Stay))
-    → acted k s (here_at k at) (flags_of (node_part s at.c)) (λ env x. goes_on env (came_for read_progress r (work_of x.0 x.1))) o
-    ≡ node_deed k s at.c (read_by (node_env k s at.c at.epoch.0) r (node_part s at.c) o)
+    → acted k s (here_at k at) (timer_flags (node_part s at.c)) (λ env x. goes_on env (came_for read_progress r (work_of x.0 x.1))) o
+    ≡ node_deed k s at.c (node_read_by (node_env k s at.c at.epoch.0) r (node_part s at.c) o)
 read-here k s at r None = refl
 read-here k s at r (Some x) = did-is k s at [] (goes_on (node_env k s at.c at.epoch.0) (came_for read_progress r (work_of x.0 x.1)))
 
 pub read-done : (k : NodeSetting) (s n : NodeState) (at : At) (was : Flags) (r : ℕ) (done : Result Out NoMemory)
-    → IfOk done (λ out. IsActed k s at was (λ env x. goes_on env (came_for read_progress r (work_of x.0 x.1))) n out) → was ≡ flags_of (node_part s at.c) → at.n ≡ k.n
+    → IfOk done (λ out. IsActed k s at was (λ env x. goes_on env (came_for read_progress r (work_of x.0 x.1))) n out) → was ≡ timer_flags (node_part s at.c) → at.n ≡ k.n
     → IfOk done (λ out. (n, out) ≡ node_deed k s at.c (node_read (node_env k s at.c at.epoch.0) (node_part s at.c) r))
 read-done k s n at was r (Ok out) done flags node =
     let f : NodeEnv → ControlBlock × Stay → Work = λ env x. goes_on env (came_for read_progress r (work_of x.0 x.1)) in

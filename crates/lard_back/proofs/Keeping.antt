@@ -7,7 +7,7 @@ use Rattle.lard_endpoint.specs.declared.control.arriving.Arrival.TheVariants.{Fi
 use Rattle.lard_endpoint.specs.Arriving.{on_ack, on_acked, on_rst, on_segment, on_syn, on_text, on_unacceptable, owing}
 use Rattle.lard_endpoint.specs.Control.{ControlBlock, rcv_nxt, rcv_wnd}
 use Rattle.lard_endpoint.specs.Leaving.{advanced, after_emit, after_owed, after_piece, owes, told}
-use Rattle.lard_recv.specs.Recv.{Received, arrived, awaited, begins_after, ends, fresh, taken}
+use Rattle.lard_recv.specs.Recv.{Received, arrived, awaited, begins_after, ends, fresh_bytes, bytes_taken}
 use Rattle.lard_rules.proofs.Loops.{speaks_keep}
 use Rattle.lard_rules.specs.Speaking.{speaks}
 use Rattle.lard_segment.specs.Segment.{Said}
@@ -23,8 +23,8 @@ Gains r q = length q.unread + r.got ≤ length r.unread + q.got
 
 arrived-gains : (r : Received) (seq : ℕ) (bytes : List ℕ) (fin : Bool) → Gains r (arrived r seq bytes fin)
 arrived-gains r seq bytes fin =
-    let new : List ℕ = fresh r seq bytes in
-    let all : Received = taken r new (ends r seq bytes fin) in
+    let new : List ℕ = fresh_bytes r seq bytes in
+    let all : Received = bytes_taken r new (ends r seq bytes fin) in
     cond_both (begins_after seq (awaited r)) r (cond r.fin r all) (Gains r) (λ t. omega arith) (λ t.
     cond_both r.fin r all (Gains r) (λ u. omega arith) (λ u.
     cond_both r.discarding r.unread (r.unread ++ new) (λ xs. length xs + r.got ≤ length r.unread + (r.got + length new)) (λ v. omega arith) (λ v. omega (arith, length-append r.unread new))))

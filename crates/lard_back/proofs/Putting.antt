@@ -4,21 +4,21 @@ use Rattle.std.proofs.lemmas.Bool.{eqb-true}
 use Rattle.std.specs.FinMap.{get, insert, remove}
 use Rattle.lard_back.specs.declared.hand.At.{At}
 use Rattle.lard_back.specs.declared.timers.Flags.{Flags}
-use Rattle.lard_back.specs.Hand.{Held, ask_sent, asked_in, ended_at, fetch_at, left, lent, rest_of, rested_in, sat, turn_at, wanted}
-use Rattle.lard_back.specs.Place.{closes, ends_with, env_of, out_at, told_at}
+use Rattle.lard_back.specs.Hand.{HeldMessages, ask_sent, asked_in, ended_message, fetch_message, node_left, node_lent, work_rest, node_rested_in, sat, turn_at, wanted}
+use Rattle.lard_back.specs.Place.{turn_closed, ends_with, node_env_of, out_at, told_at}
 use Rattle.lard_base.specs.declared.place.Place.{Place}
 use Rattle.lard_endpoint.specs.Control.{ControlBlock}
 use Rattle.lard_handoff_back.specs.declared.row.BackConn.{BackConn}
 use Rattle.lard_handoff_back.specs.declared.row.BackConn.TheVariants as stage
 use Rattle.lard_handoff_back.specs.declared.row.BackRow.{BackRow}
-use Rattle.lard_handoff_back.specs.Back.{Backs, staying, with_stage}
-use Rattle.lard_handoff_back.specs.Row.{held_in}
+use Rattle.lard_handoff_back.specs.Back.{Backs, staying, back_with_stage}
+use Rattle.lard_handoff_back.specs.Row.{back_held}
 use Rattle.lard_rules.specs.declared.node.NodeState.{NodeState}
 use Rattle.lard_rules.specs.declared.node.NodeTurn.{NodeTurn}
 use Rattle.lard_rules.specs.declared.stay.Asked.{Asked}
 use Rattle.lard_rules.specs.declared.stay.Want.{Want}
 use Rattle.lard_rules.specs.Node.{NodePart, ask_kept, asked_kept, asked_sent, ended_sent, kept_after, stay_after, turn_by, wants_kept, wants_sent}
-use Rattle.lard_rules.specs.NodePlace.{NodeSetting, node_part, node_put, told}
+use Rattle.lard_rules.specs.NodePlace.{NodeSetting, node_part, node_put, stores_told}
 use Rattle.lard_rules.specs.Stay.{NodeEnv, Work}
 use Rattle.lard_resend.specs.declared.kept.Kept.{Kept}
 use Rattle.lard_resend.specs.Kept.{anew}
@@ -35,31 +35,31 @@ use Rattle.lard_table.proofs.Map.{get_inserted, get_put_same, insert_twice, put_
 -- an endpoint that is here in an epoch is in a row of that epoch
 row-epoch : (e : ℕ) (row : BackRow) (b : ControlBlock) → staying e (Some row) ≡ Some b → row.epoch.0 ≡ e
 row-epoch e row b h = go (row.epoch.0 == e) refl h where
-  go : (t : Bool) → (row.epoch.0 == e) ≡ t → cond t (held_in row.stage) None ≡ Some b → row.epoch.0 ≡ e
+  go : (t : Bool) → (row.epoch.0 == e) ≡ t → cond t (back_held row.stage) None ≡ Some b → row.epoch.0 ≡ e
   go true is g = eqb-true _ _ is
   go false is g = let none : None ≡ Some b = g in absurd cc
 
 pub row-back : (m : Backs) (c e : ℕ) (o : Option BackRow) (b : ControlBlock) (st : BackConn) → staying e o ≡ Some b
-    → with_stage (with_stage m c stage.Out o) c st (get (with_stage m c stage.Out o) c) ≡ insert m c (record { stage = st; epoch = record { 0 = e } })
+    → back_with_stage (back_with_stage m c stage.Out o) c st (get (back_with_stage m c stage.Out o) c) ≡ insert m c (record { stage = st; epoch = record { 0 = e } })
 row-back m c e None b st h = let none : None ≡ Some b = h in absurd cc
 row-back m c e (Some row) b st h =
     let out : BackRow = record row { stage = stage.Out } in
-    ap (with_stage (insert m c out) c st) (get_inserted m c out) ∙ insert_twice m c out (record out { stage = st })
+    ap (back_with_stage (insert m c out) c st) (get_inserted m c out) ∙ insert_twice m c out (record out { stage = st })
     ∙ ap (λ (n : ℕ). insert m c (record { stage = st; epoch = record { 0 = n } })) (row-epoch e row b h)
 
 -- ---- the messages that are held
 
-kept-back : (env : NodeEnv) (at : At) (o : Option Asked) (m : Held) → env.serve.c ≡ at.c → env.epoch ≡ at.epoch.0 → (get m at.c ≡ Some [] → ⊥)
+kept-back : (env : NodeEnv) (at : At) (o : Option Asked) (m : HeldMessages) → env.serve.c ≡ at.c → env.epoch ≡ at.epoch.0 → (get m at.c ≡ Some [] → ⊥)
     → asked_in at o m ≡ put_list m at.c (asked_kept env o (held m at.c))
 kept-back env at None m c e some = sym (list_got m at.c some)
 kept-back env at (Some a) m c e some =
     renewed_is m at.c (ask_kept at.c at.epoch.0 a) ∙ (λ i. put_list m at.c (anew (ask_kept (sym c i) (sym e i) a) (held m at.c)))
 
-fetches-back : (env : NodeEnv) (at : At) (ws : List Want) (m : Held) → env.serve.c ≡ at.c → env.epoch ≡ at.epoch.0 → (get m at.c ≡ Some [] → ⊥)
+fetches-back : (env : NodeEnv) (at : At) (ws : List Want) (m : HeldMessages) → env.serve.c ≡ at.c → env.epoch ≡ at.epoch.0 → (get m at.c ≡ Some [] → ⊥)
     → wanted at ws m ≡ put_list m at.c (wants_kept env ws (held m at.c))
 fetches-back env at [] m c e some = sym (list_got m at.c some)
 fetches-back env at (w ∷ ws) m c e some =
-    let k : Kept = fetch_at at w in
+    let k : Kept = fetch_message at w in
     let ks : List Kept = anew k (held m at.c) in
     let is : renewed m at.c k ≡ put_list m at.c ks = renewed_is m at.c k in
     ap (wanted at ws) is
@@ -68,12 +68,12 @@ fetches-back env at (w ∷ ws) m c e some =
     ∙ ap (λ (ls : List Kept). put_list m at.c (wants_kept env ws ls)) (held_put m at.c ks)
     ∙ (λ i. put_list m at.c (wants_kept env ws (anew (fetch_kept-of (sym c i) (sym e i)) (held m at.c)))) where
       fetch_kept-of : ℕ → ℕ → Kept
-      fetch_kept-of c e = fetch_at (record { n = at.n; c = c; epoch = record { 0 = e } }) w
+      fetch_kept-of c e = fetch_message (record { n = at.n; c = c; epoch = record { 0 = e } }) w
 
 -- what was awaited is forgotten, and one message held
-over-back : (m : Held) (c : ℕ) (ks : List Kept) (k : Kept) → renewed (remove (put_list m c ks) c) c k ≡ put_list m c (k ∷ [])
+over-back : (m : HeldMessages) (c : ℕ) (ks : List Kept) (k : Kept) → renewed (remove (put_list m c ks) c) c k ≡ put_list m c (k ∷ [])
 over-back m c ks k =
-    let n : Held = put_list m c ks in
+    let n : HeldMessages = put_list m c ks in
     renewed_is (put_list n c []) c k
     ∙ ap (λ (ls : List Kept). put_list (put_list n c []) c (anew k ls)) (held_put n c [])
     ∙ list_twice n c [] (k ∷ []) ∙ list_twice m c ks (k ∷ [])
@@ -92,21 +92,21 @@ part-put s c q = λ i. record {
 
 pub left-is : (k : NodeSetting) (s : NodeState) (at : At) (b : ControlBlock) (w : Work) (e : Ending) → staying at.epoch.0 (get s.conns at.c) ≡ Some b
     → (get s.kept at.c ≡ Some [] → ⊥) → (get s.fetches at.c ≡ Some [] → ⊥)
-    → left (sat (lent s at.c) at.c e) at (rest_of w) (rested_in e) ≡ node_put s at.c (kept_after (env_of k s at) (node_part s at.c) w e)
+    → node_left (sat (node_lent s at.c) at.c e) at (work_rest w) (node_rested_in e) ≡ node_put s at.c (kept_after (node_env_of k s at) (node_part s at.c) w e)
 left-is k s at b w (ending.Here d count) h kept fetches = λ i. record s {
   conns = row-back s.conns at.c at.epoch.0 (get s.conns at.c) b (stage.Here d) h i;
   stays = put_twice s.stays at.c None (Some (stay_after count w)) i;
-  kept = kept-back (env_of k s at) at w.asked s.kept refl refl kept i;
-  fetches = fetches-back (env_of k s at) at w.wants s.fetches refl refl fetches i;
+  kept = kept-back (node_env_of k s at) at w.asked s.kept refl refl kept i;
+  fetches = fetches-back (node_env_of k s at) at w.wants s.fetches refl refl fetches i;
 }
 left-is k s at b w (ending.Over last) h kept fetches =
-    let env : NodeEnv = env_of k s at in
+    let env : NodeEnv = node_env_of k s at in
     let k1 : asked_in at w.asked s.kept ≡ put_list s.kept at.c (asked_kept env w.asked (held s.kept at.c)) = kept-back env at w.asked s.kept refl refl kept in
     let f1 : wanted at w.wants s.fetches ≡ put_list s.fetches at.c (wants_kept env w.wants (held s.fetches at.c)) = fetches-back env at w.wants s.fetches refl refl fetches in
-    let end : Kept = ended_at at last w.service.over in
+    let end : Kept = ended_message at last w.service.over in
     let ks : List Kept = asked_kept env w.asked (held s.kept at.c) in
-    let k2 : renewed (remove (asked_in at w.asked s.kept) at.c) at.c end ≡ put_list s.kept at.c (end ∷ []) = ap (λ (m : Held). renewed (remove m at.c) at.c end) k1 ∙ over-back s.kept at.c ks end in
-    let f2 : remove (wanted at w.wants s.fetches) at.c ≡ put_list s.fetches at.c [] = ap (λ (m : Held). remove m at.c) f1 ∙ list_twice s.fetches at.c (wants_kept env w.wants (held s.fetches at.c)) [] in
+    let k2 : renewed (remove (asked_in at w.asked s.kept) at.c) at.c end ≡ put_list s.kept at.c (end ∷ []) = ap (λ (m : HeldMessages). renewed (remove m at.c) at.c end) k1 ∙ over-back s.kept at.c ks end in
+    let f2 : remove (wanted at w.wants s.fetches) at.c ≡ put_list s.fetches at.c [] = ap (λ (m : HeldMessages). remove m at.c) f1 ∙ list_twice s.fetches at.c (wants_kept env w.wants (held s.fetches at.c)) [] in
     (λ i. record s {
       conns = row-back s.conns at.c at.epoch.0 (get s.conns at.c) b stage.Ended h i;
       stays = remove s.stays at.c;
@@ -121,20 +121,20 @@ ask-same env at (Some a) c e = λ i. (ask_to (sym c i) (sym e i)) where
   ask_to c e = ask_sent (record { n = at.n; c = c; epoch = record { 0 = e } }) (Some a)
 
 pub turn-is : (k : NodeSetting) (s : NodeState) (at : At) (before : List (Place × List ℕ)) (w : Work) (e : Ending) (turn : Turn)
-    → turn_at at before (rest_of w) (rested_in e) turn ≡ turn_by (env_of k s at) before w (e, turn)
-turn-is k s at before w (ending.Here d count) turn = λ i. record (turn_by (env_of k s at) before w (ending.Here d count, turn)) {
-  messages = before ++ ask-same (env_of k s at) at w.asked refl refl i ++ wants_sent (env_of k s at) w.wants ++ [];
+    → turn_at at before (work_rest w) (node_rested_in e) turn ≡ turn_by (node_env_of k s at) before w (e, turn)
+turn-is k s at before w (ending.Here d count) turn = λ i. record (turn_by (node_env_of k s at) before w (ending.Here d count, turn)) {
+  messages = before ++ ask-same (node_env_of k s at) at w.asked refl refl i ++ wants_sent (node_env_of k s at) w.wants ++ [];
 }
-turn-is k s at before w (ending.Over last) turn = λ i. record (turn_by (env_of k s at) before w (ending.Over last, turn)) {
-  messages = before ++ ask-same (env_of k s at) at w.asked refl refl i ++ wants_sent (env_of k s at) w.wants ++ ended_sent (env_of k s at) w.service.over (ending.Over last);
+turn-is k s at before w (ending.Over last) turn = λ i. record (turn_by (node_env_of k s at) before w (ending.Over last, turn)) {
+  messages = before ++ ask-same (node_env_of k s at) at w.asked refl refl i ++ wants_sent (node_env_of k s at) w.wants ++ ended_sent (node_env_of k s at) w.service.over (ending.Over last);
 }
 
 -- the endpoint is put back, and the rest follows: this is what the rules say
 pub closes-is : (k : NodeSetting) (s : NodeState) (at : At) (was : Flags) (before : List (Place × List ℕ)) (b : ControlBlock) (w : Work) (given : Ending × Turn)
     → staying at.epoch.0 (get s.conns at.c) ≡ Some b → (get s.kept at.c ≡ Some [] → ⊥) → (get s.fetches at.c ≡ Some [] → ⊥)
-    → closes (sat (lent s at.c) at.c given.0) at was before (rest_of w) (rested_in given.0) given.1 ≡ ends_with k s at was before w given
+    → turn_closed (sat (node_lent s at.c) at.c given.0) at was before (work_rest w) (node_rested_in given.0) given.1 ≡ ends_with k s at was before w given
 closes-is k s at was before b w given h kept fetches =
-    let q : NodePart = kept_after (env_of k s at) (node_part s at.c) w given.0 in
-    let t : NodeTurn = turn_by (env_of k s at) before w given in
+    let q : NodePart = kept_after (node_env_of k s at) (node_part s at.c) w given.0 in
+    let t : NodeTurn = turn_by (node_env_of k s at) before w given in
     (λ i. told_at (left-is k s at b w given.0 h kept fetches i) at was (turn-is k s at before w given.0 given.1 i))
-    ∙ ap (λ (p : NodePart). (told (node_put s at.c q) t, out_at at was p t)) (part-put s at.c q)
+    ∙ ap (λ (p : NodePart). (stores_told (node_put s at.c q) t, out_at at was p t)) (part-put s at.c q)

@@ -11,14 +11,14 @@ use Rattle.lard_base.specs.declared.place.Place.TheVariants as place
 use Rattle.lard_base.specs.declared.place.TimerKind.TheVariants as kind
 use Rattle.lard_base.specs.declared.place.Via.{Via}
 use Rattle.lard_base.specs.declared.place.Via.TheVariants as via
-use Rattle.lard_cache.specs.Recency.{has}
+use Rattle.lard_cache.specs.Recency.{has_path}
 use Rattle.lard_disk.specs.declared.disk.Job.{Job}
 use Rattle.lard_disk.specs.Jobs.{is_for, job_at, without_job}
 use Rattle.lard_endpoint.specs.Arriving.{on_segment}
 use Rattle.lard_endpoint.specs.Control.{ControlBlock, finishing}
 use Rattle.lard_handoff_back.specs.declared.table.Adopt.{Adopt}
 use Rattle.lard_handoff_back.specs.declared.table.Adopt.TheVariants.{New, Again, Stale}
-use Rattle.lard_handoff_back.specs.Back.{awaits_ack, endpoint_of, offer_answer}
+use Rattle.lard_handoff_back.specs.Back.{awaits_ack, back_endpoint, offer_answer}
 use Rattle.lard_journal.specs.declared.rec.Rec.{Rec}
 use Rattle.lard_journal.specs.declared.rec.Rec.TheVariants as rec
 use Rattle.lard_lateral.specs.Lateral.{is_from}
@@ -37,9 +37,9 @@ use Rattle.lard_rules.specs.declared.stay.Next.TheVariants.{Serve, Read, Stop}
 use Rattle.lard_rules.specs.declared.stay.Progress.{Progress}
 use Rattle.lard_rules.specs.declared.stay.Progress.TheVariants.{Named, Reading, Awaited, Ready}
 use Rattle.lard_rules.specs.declared.stay.Stay.{Stay}
-use Rattle.lard_rules.specs.Node.{Deed, Does, Drops, NodePart, Says, begins, both_of, come_by, fired_by, gone, heard_by, here, is_awaited, node_acknowledged, node_content, node_forwarded, node_offered, node_read, node_tagged, node_timer, offered_by, read_by, rests, saying, tagged_by, taken_sent, work_of}
-use Rattle.lard_rules.specs.NodePlace.{NodeSetting, aside, brought, completed, content_sent, disk_step, epoch_at, fetched, fetched_file, node_deed, node_env, node_gets, node_hears, node_part, node_step}
-use Rattle.lard_rules.specs.Stay.{NodeEnv, Work, asks_for, came_for, come_on, come_progress, entered, enters, enters_first, enters_one, goes_on, left, named_path, named_paths, next_of, noted, read_progress, reads_batch, reads_these, serves_by, serves_first, started, started_here, started_there, starts_at, starts_named, starts_one, tagged, turn, turned}
+use Rattle.lard_rules.specs.Node.{NodeDeed, Does, Drops, NodePart, Says, node_begins, both_of, come_by, node_fired_by, gone, node_heard_by, here, is_tag_awaited, node_acknowledged, node_content, node_forwarded, node_offered, node_read, node_tagged, node_timer, offered_by, node_read_by, node_rests, node_saying, tagged_by, taken_sent, work_of}
+use Rattle.lard_rules.specs.NodePlace.{NodeSetting, aside, node_brought, completed, content_sent, disk_step, node_epoch_at, fetched, fetched_file, node_deed, node_env, node_gets, node_hears, node_part, node_step}
+use Rattle.lard_rules.specs.Stay.{NodeEnv, Work, asks_for, came_for, come_on, come_progress, entered, enters, enters_first, enters_one, goes_on, work_left, named_path, named_paths, next_of, noted, read_progress, reads_batch, reads_these, serves_by, serves_first, started, started_here, started_there, starts_at, starts_named, starts_one, tagged, stay_turn, turned}
 use Rattle.lard_reader.specs.Batches.{batch_of, bytes_used}
 use Rattle.lard_request.specs.declared.verdict.Verdict.{Verdict}
 use Rattle.lard_resend.specs.Kept.{is_under, without}
@@ -48,7 +48,7 @@ use Rattle.lard_rules.specs.declared.places.Ending.{Ending}
 use Rattle.lard_rules.specs.declared.places.Turn.{Turn}
 use Rattle.lard_rules.specs.Loop.{Step, state_of}
 use Rattle.lard_rules.specs.Outs.{nothing_done}
-use Rattle.lard_rules.specs.Serving.{ServeEnv, Service, answered, consumed, cut_off, passed_over, queued, settled, spoken}
+use Rattle.lard_rules.specs.Serving.{ServeEnv, Service, answered, serving_consumed, cut_off, passed_over, queued, serving_settled, spoken}
 use Rattle.lard_rules.proofs.Runs.{runs_keep}
 use Rattle.lard_segment.specs.declared.fault.SegFault.{SegFault}
 use Rattle.lard_segment.specs.declared.segment.Dir.TheVariants.{ToCluster}
@@ -155,11 +155,11 @@ module _ (env : NodeEnv) where
 
   these-noted : (here : Bool) (used : ℕ) (w : Work) (vs : List Verdict) → Noted w → NotedStep (reads_these env here used w vs)
   these-noted here used w [] h =
-      let s : Service = consumed used w.service in
+      let s : Service = serving_consumed used w.service in
       cond_both s.block.recv.fin (record s { block = finishing s.block }) s (λ (s : Service). length w.jobs ≤ length s.notes) (λ t. h) (λ t. h)
   these-noted here used w (v ∷ vs) h =
-      let x : Work = enters env here (w.service.count + 1) (v ∷ vs) (record w { service = consumed used w.service }) in
-      asks-noted (length (v ∷ vs)) (named_paths env.serve.files x.batch) x (enters-noted here (w.service.count + 1) (v ∷ vs) (record w { service = consumed used w.service }) h)
+      let x : Work = enters env here (w.service.count + 1) (v ∷ vs) (record w { service = serving_consumed used w.service }) in
+      asks-noted (length (v ∷ vs)) (named_paths env.serve.files x.batch) x (enters-noted here (w.service.count + 1) (v ∷ vs) (record w { service = serving_consumed used w.service }) h)
 
   batch-noted : (here : Bool) (w : Work) → Noted w → NotedStep (reads_batch env here w)
   batch-noted here w h = these-noted here (bytes_used 8 w.service.block.recv.unread) w (batch_of 8 w.service.block.recv.unread) h
@@ -188,7 +188,7 @@ module _ (env : NodeEnv) where
   turned-noted w Stop h = h
 
   goes-noted : (w : Work) → Noted w → Noted (goes_on env w)
-  goes-noted w h = runs_keep (turn env) left Noted (record {
+  goes-noted w h = runs_keep (stay_turn env) work_left Noted (record {
     more = λ x y is p. subst NotedStep is (turned-noted x (next_of x) p);
     done = λ x y is p. subst NotedStep is (turned-noted x (next_of x) p);
   }) w h
@@ -198,24 +198,24 @@ module _ (env : NodeEnv) where
 abbrev TurnNoted : NodeTurn → Type 0
 TurnNoted t = length t.jobs ≤ length t.notes
 
-settled-notes : (env : ServeEnv) (s : Service) → (settled env s).1.notes ≡ s.notes
+settled-notes : (env : ServeEnv) (s : Service) → (serving_settled env s).1.notes ≡ s.notes
 settled-notes env s = go s.over where
   go : (o : Option ℕ) → (elim o as (λ p. Ending × Turn) [ None ↦ spoken env s [] | Some total ↦ cut_off env s ]).1.notes ≡ s.notes
   go None = refl
   go (Some total) = refl
 
-abbrev DeedNoted : Deed → Type 0
+abbrev DeedNoted : NodeDeed → Type 0
 DeedNoted Drops = Unit {0}
 DeedNoted (Says messages) = Unit {0}
 DeedNoted (Does given) = TurnNoted given.1
 
 module _ (env : NodeEnv) (p : NodePart) where
-  rests-noted : (q : NodePart) (before : List (Place × List ℕ)) (w : Work) → Noted w → DeedNoted (Does (rests env q before (goes_on env w)))
+  rests-noted : (q : NodePart) (before : List (Place × List ℕ)) (w : Work) → Noted w → DeedNoted (Does (node_rests env q before (goes_on env w)))
   rests-noted q before w h =
       let x : Work = goes_on env w in
       subst (λ (notes : List Rec). length x.jobs ≤ length notes) (sym (settled-notes env.serve x.service)) (goes-noted env w h)
 
-  heard-noted : (given : Result Said SegFault) (o : Option (ControlBlock × Stay)) → DeedNoted (heard_by env p given o)
+  heard-noted : (given : Result Said SegFault) (o : Option (ControlBlock × Stay)) → DeedNoted (node_heard_by env p given o)
   heard-noted (Err fault) o = tt
   heard-noted (Ok s) None = tt
   heard-noted (Ok s) (Some x) = rests-noted p [] (work_of (on_segment x.0 s).1 x.1) (omega arith)
@@ -225,29 +225,29 @@ module _ (env : NodeEnv) (p : NodePart) where
   tag-noted number nodes (Some x) =
       let q : NodePart = record p { kept = without kind.Ask 0 p.kept } in
       let w : Work = tagged env nodes (work_of x.0 x.1) in
-      cond_both (is_awaited env number nodes p x.1) (Does (rests env q [] (goes_on env w))) Drops DeedNoted (λ t. rests-noted q [] w (tagged-noted env nodes (work_of x.0 x.1) (omega arith))) (λ t. tt)
+      cond_both (is_tag_awaited env number nodes p x.1) (Does (node_rests env q [] (goes_on env w))) Drops DeedNoted (λ t. rests-noted q [] w (tagged-noted env nodes (work_of x.0 x.1) (omega arith))) (λ t. tt)
 
   come-noted : (from r : ℕ) (o : Option (ControlBlock × Stay)) → DeedNoted (come_by env from r p o)
   come-noted from r None = tt
   come-noted from r (Some x) =
       let q : NodePart = record p { fetches = without kind.Fetch r p.fetches } in
       let w : Work = came_for (come_progress from) r (work_of x.0 x.1) in
-      cond_both (is_from from env.epoch (find (is_under kind.Fetch r) p.fetches)) (Does (rests env q [] (goes_on env w))) Drops DeedNoted
+      cond_both (is_from from env.epoch (find (is_under kind.Fetch r) p.fetches)) (Does (node_rests env q [] (goes_on env w))) Drops DeedNoted
       (λ t. rests-noted q [] w (came-noted env (come_progress from) r (work_of x.0 x.1) (omega arith))) (λ t. tt)
 
-  read-noted : (r : ℕ) (o : Option (ControlBlock × Stay)) → DeedNoted (read_by env r p o)
+  read-noted : (r : ℕ) (o : Option (ControlBlock × Stay)) → DeedNoted (node_read_by env r p o)
   read-noted r None = tt
   read-noted r (Some x) = rests-noted p [] (came_for read_progress r (work_of x.0 x.1)) (came-noted env read_progress r (work_of x.0 x.1) (omega arith))
 
   offered-noted : (parts : EndpointParts) (a : Adopt) → DeedNoted (offered_by env parts p a)
-  offered-noted parts New = rests-noted p (taken_sent env) (state_of (reads_batch env true (begins env parts))) (batch-noted env true (begins env parts) (omega arith))
+  offered-noted parts New = rests-noted p (taken_sent env) (state_of (reads_batch env true (node_begins env parts))) (batch-noted env true (node_begins env parts) (omega arith))
   offered-noted parts Again = tt
   offered-noted parts Stale = tt
 
   acked-noted : DeedNoted (node_acknowledged env p)
-  acked-noted = cond_both (awaits_ack env.epoch p.row) (Does (record p { row = gone p.row; kept = without kind.Ended 0 p.kept }, saying [])) Drops DeedNoted (λ t. omega arith) (λ t. tt)
+  acked-noted = cond_both (awaits_ack env.epoch p.row) (Does (record p { row = gone p.row; kept = without kind.Ended 0 p.kept }, node_saying [])) Drops DeedNoted (λ t. omega arith) (λ t. tt)
 
-  fired-noted : (o : Option (ControlBlock × Stay)) → DeedNoted (fired_by env p o)
+  fired-noted : (o : Option (ControlBlock × Stay)) → DeedNoted (node_fired_by env p o)
   fired-noted None = tt
   fired-noted (Some x) = omega arith
 
@@ -260,17 +260,17 @@ module _ (k : NodeSetting) (s : NodeState) where
   jobs-grow : (t : NodeTurn) → TurnNoted t → length (s.disk ++ t.jobs) ≤ length s.disk + length t.notes
   jobs-grow t h = omega (arith, length-append s.disk t.jobs, h)
 
-  deed-grows : (c : ℕ) (d : Deed) → DeedNoted d → Grows s (node_deed k s c d)
+  deed-grows : (c : ℕ) (d : NodeDeed) → DeedNoted d → Grows s (node_deed k s c d)
   deed-grows c Drops h = omega arith
-  deed-grows c (Says messages) h = jobs-grow (saying messages) (omega arith)
+  deed-grows c (Says messages) h = jobs-grow (node_saying messages) (omega arith)
   deed-grows c (Does given) h = jobs-grow given.1 h
 
   file-grows : (from c epoch r : ℕ) (path : List ℕ) → Grows s (aside s (fetched_file k s from c epoch r path))
   file-grows from c epoch r path =
-      cond_both (has s.cache.entries path) (record (saying (content_sent k from c epoch r path ∷ [])) { notes = rec.Hit k.n path ∷ [] })
-      (record (saying []) { notes = rec.Queued k.n from c r path ∷ []; jobs = record { origin = from; c = c; epoch = record { 0 = epoch }; r = r; path = path } ∷ [] }) (λ (t : NodeTurn). Grows s (aside s t))
-      (λ t. jobs-grow (record (saying (content_sent k from c epoch r path ∷ [])) { notes = rec.Hit k.n path ∷ [] }) (omega arith))
-      (λ t. jobs-grow (record (saying []) { notes = rec.Queued k.n from c r path ∷ []; jobs = record { origin = from; c = c; epoch = record { 0 = epoch }; r = r; path = path } ∷ [] }) (omega arith))
+      cond_both (has_path s.cache.entries path) (record (node_saying (content_sent k from c epoch r path ∷ [])) { notes = rec.Hit k.n path ∷ [] })
+      (record (node_saying []) { notes = rec.Queued k.n from c r path ∷ []; jobs = record { origin = from; c = c; epoch = record { 0 = epoch }; r = r; path = path } ∷ [] }) (λ (t : NodeTurn). Grows s (aside s t))
+      (λ t. jobs-grow (record (node_saying (content_sent k from c epoch r path ∷ [])) { notes = rec.Hit k.n path ∷ [] }) (omega arith))
+      (λ t. jobs-grow (record (node_saying []) { notes = rec.Queued k.n from c r path ∷ []; jobs = record { origin = from; c = c; epoch = record { 0 = epoch }; r = r; path = path } ∷ [] }) (omega arith))
 
   fetched-grows : (from c epoch r : ℕ) (path : List ℕ) (o : Option (List ℕ)) → Grows s (fetched k s from c epoch r path o)
   fetched-grows from c epoch r path None = omega arith
@@ -308,22 +308,22 @@ module _ (k : NodeSetting) (s : NodeState) where
   gets-grows from (Err fault) = still
   gets-grows from (Ok m) = hears-grows from m.c m.epoch.0 m.body
 
-  brought-grows : (job : Job) → Grows s (brought k s job)
+  brought-grows : (job : Job) → Grows s (node_brought k s job)
   brought-grows job =
-      let read : Deed = node_read (node_env k s job.c job.epoch.0) (node_part s job.c) job.r in
-      let sent : NodeTurn = saying (content_sent k job.origin job.c job.epoch.0 job.r job.path ∷ []) in
+      let read : NodeDeed = node_read (node_env k s job.c job.epoch.0) (node_part s job.c) job.r in
+      let sent : NodeTurn = node_saying (content_sent k job.origin job.c job.epoch.0 job.r job.path ∷ []) in
       cond_both (job.origin == k.n) (node_deed k s job.c read) (aside s sent) (Grows s)
       (λ t. deed-grows job.c read (read-noted (node_env k s job.c job.epoch.0) (node_part s job.c) job.r (here job.epoch.0 (node_part s job.c)))) (λ t. jobs-grow sent (omega arith))
 
-  timer-grows : (c : ℕ) → Grows s (node_deed k s c (node_timer (node_env k s c (epoch_at s c)) (node_part s c)))
+  timer-grows : (c : ℕ) → Grows s (node_deed k s c (node_timer (node_env k s c (node_epoch_at s c)) (node_part s c)))
   timer-grows c =
-      let env : NodeEnv = node_env k s c (epoch_at s c) in
-      deed-grows c (node_timer env (node_part s c)) (fired-noted env (node_part s c) (both_of (endpoint_of (node_part s c).row) (node_part s c).stay))
+      let env : NodeEnv = node_env k s c (node_epoch_at s c) in
+      deed-grows c (node_timer env (node_part s c)) (fired-noted env (node_part s c) (both_of (back_endpoint (node_part s c).row) (node_part s c).stay))
 
 disk-grows : (k : NodeSetting) (s : NodeState) (j : ℕ) (o : Option Job) → Grows s (disk_step k s j o)
 disk-grows k s j None = omega arith
 disk-grows k s j (Some job) =
-    let x : NodeState × Out = brought k (completed k s j job) job in
+    let x : NodeState × Out = node_brought k (completed k s j job) job in
     let h : length x.0.disk ≤ length (without_job s.disk j) + length x.1.notes = brought-grows k (completed k s j job) job in
     let few : length (without_job s.disk j) ≤ length s.disk = fewer s.disk j in
     let more : length (rec.Read k.n job.origin job.c job.r job.path ∷ [] ++ x.1.notes) ≡ length x.1.notes + 1 = omega arith in

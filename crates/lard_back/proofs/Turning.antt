@@ -2,9 +2,9 @@
 use Rattle.std.proofs.Common.{◌≡◌, ℕ, suc, ◌+◌, ◌≤◌, List, [], ◌∷◌, length, Option, Some, None, Result, Ok, IfOk, All, IfSome, refl, sym, ap, subst, ◌∙◌, arith}
 use Rattle.std.proofs.lemmas.Bool.{cond_both}
 use Rattle.lard_back.specs.declared.hand.Rest.{Rest}
-use Rattle.lard_back.specs.Bounds.{AreWants, MayTell}
+use Rattle.lard_back.specs.Bounds.{AreWants, MayTellEnd}
 use Rattle.lard_back.specs.Bounds as bounds
-use Rattle.lard_back.specs.Hand.{rest_of, rested_in}
+use Rattle.lard_back.specs.Hand.{work_rest, node_rested_in}
 use Rattle.lard_back.specs.Place.{IsDone}
 use Rattle.lard_back.specs.Sound.{EndsSound, IsWorkSound, stay_in}
 use Rattle.lard_back.proofs.Keeping.{speaks-same}
@@ -21,13 +21,13 @@ use Rattle.lard_recv.specs.Recv.{Received}
 use Rattle.lard_rules.specs.declared.places.Ending.{Ending}
 use Rattle.lard_rules.specs.declared.places.Ending.TheVariants.{Here, Over}
 use Rattle.lard_rules.specs.declared.places.Turn.{Turn}
-use Rattle.lard_rules.specs.Serving.{ServeEnv, Service, cut_off, rested, settled, spoken}
+use Rattle.lard_rules.specs.Serving.{ServeEnv, Service, cut_off, rested, serving_settled, spoken}
 use Rattle.lard_rules.specs.Speaking.{speaks}
 use Rattle.lard_serving.specs.declared.answering.Service.{Service as Served}
 use Rattle.lard_serving.specs.Bounds.{IsTurn}
 use Rattle.lard_serving.specs.Serving.{service_of}
 use Rattle.lard_stay.specs.declared.work.Work.{Work as InHand}
-use Rattle.lard_stay.specs.Work.{IsAsk, IsSound, IsStaySound, IsWant, work_seen}
+use Rattle.lard_stay.specs.Work.{IsAskOfStay, IsInHandSound, IsStaySound, IsWant, work_seen}
 
 -- ---- the end of a turn
 
@@ -45,7 +45,7 @@ rested-sound b d w e s = cond_both (may_end d) (Over (final_of d (end_reason d))
 pub spoken-sound : (env : ServeEnv) (w : Work) (before : List (Place × List ℕ)) → IsWorkSound w → EndsSound (spoken env w.service before).0 w
 spoken-sound env w before s = rested-sound w.service.block (speaks env.c w.service.block).1 w (speaks-same env.c w.service.block) s
 
-pub settled-sound : (env : ServeEnv) (w : Work) → IsWorkSound w → EndsSound (settled env w.service).0 w
+pub settled-sound : (env : ServeEnv) (w : Work) → IsWorkSound w → EndsSound (serving_settled env w.service).0 w
 settled-sound env w s = go w.service.over where
   go : (o : Option ℕ) → EndsSound (elim o as (λ p. Ending × Turn) [ None ↦ spoken env w.service [] | Some total ↦ cut_off env w.service ]).0 w
   go None = spoken-sound env w [] s
@@ -56,25 +56,25 @@ no-count Limit = tt
 no-count Closed = refl
 no-count Peer = refl
 
-rested-tells : (d : ControlBlock) (count : ℕ) → MayTell (rested_in (rested d count)) None
-rested-tells d count = cond_both (may_end d) (Over (final_of d (end_reason d))) (Here d count) (λ end. MayTell (rested_in end) None) (λ t. no-count (end_reason d)) (λ t. tt)
+rested-tells : (d : ControlBlock) (count : ℕ) → MayTellEnd (node_rested_in (rested d count)) None
+rested-tells d count = cond_both (may_end d) (Over (final_of d (end_reason d))) (Here d count) (λ end. MayTellEnd (node_rested_in end) None) (λ t. no-count (end_reason d)) (λ t. tt)
 
-pub spoken-tells : (env : ServeEnv) (s : Service) (before : List (Place × List ℕ)) → MayTell (rested_in (spoken env s before).0) None
+pub spoken-tells : (env : ServeEnv) (s : Service) (before : List (Place × List ℕ)) → MayTellEnd (node_rested_in (spoken env s before).0) None
 spoken-tells env s before = rested-tells (speaks env.c s.block).1 s.count
 
-pub settled-tells : (env : ServeEnv) (s : Service) → MayTell (rested_in (settled env s).0) s.over
+pub settled-tells : (env : ServeEnv) (s : Service) → MayTellEnd (node_rested_in (serving_settled env s).0) s.over
 settled-tells env s = go s.over where
-  go : (o : Option ℕ) → MayTell (rested_in (elim o as (λ p. Ending × Turn) [ None ↦ spoken env s [] | Some total ↦ cut_off env s ]).0) o
+  go : (o : Option ℕ) → MayTellEnd (node_rested_in (elim o as (λ p. Ending × Turn) [ None ↦ spoken env s [] | Some total ↦ cut_off env s ]).0) o
   go None = spoken-tells env s []
   go (Some total) = tt
 
 -- ---- a turn that is done
 
-ask-fits : (o : Option Asked) → IfSome o IsAsk → bounds.IsAsk o
+ask-fits : (o : Option Asked) → IfSome o IsAskOfStay → bounds.IsSpelledAsk o
 ask-fits None h = tt
 ask-fits (Some a) h = (h.few, h.some, h.within, h.short)
 
-pub work-sound : (b : ControlBlock) (w : InHand) → IsSound b w → IsWorkSound (work_seen b w)
+pub work-sound : (b : ControlBlock) (w : InHand) → IsInHandSound b w → IsWorkSound (work_seen b w)
 work-sound b w s = record { within = s.within; few = s.few; asks = s.asks }
 
 wants-fit : (ws : List Want) → All IsWant ws → AreWants ws
@@ -84,27 +84,27 @@ wants-fit (w ∷ ws) h =
     (first, wants-fit ws (λ k d lt. h (suc k) d (omega (arith, lt))))
 
 -- the endpoint said what it may
-pub settled-is : (env : ServeEnv) (b : ControlBlock) (w : InHand) (e : Ending) (turn : Turn) → IsSound b w → length w.jobs ≤ 9
-    → (e, turn) ≡ settled env (work_seen b w).service → IsTurn turn → IsDone (work_seen b w) (settled env (work_seen b w).service) e (record { turn = turn; rest = rest_of (work_seen b w) })
+pub settled-is : (env : ServeEnv) (b : ControlBlock) (w : InHand) (e : Ending) (turn : Turn) → IsInHandSound b w → length w.jobs ≤ 9
+    → (e, turn) ≡ serving_settled env (work_seen b w).service → IsTurn turn → IsDone (work_seen b w) (serving_settled env (work_seen b w).service) e (record { turn = turn; rest = work_rest (work_seen b w) })
 settled-is env b w e turn s few is fits =
-    let ended : e ≡ (settled env (work_seen b w).service).0 = ap (λ (x : Ending × Turn). x.0) is in
+    let ended : e ≡ (serving_settled env (work_seen b w).service).0 = ap (λ (x : Ending × Turn). x.0) is in
     record {
       rest = refl;
       turn = is;
       fits = fits;
       asked = ask-fits w.asked s.asked;
       wants = wants-fit w.wants s.wants;
-      count = subst (λ (x : Ending). MayTell (rested_in x) w.service.over) (sym ended) (settled-tells env (work_seen b w).service);
+      count = subst (λ (x : Ending). MayTellEnd (node_rested_in x) w.service.over) (sym ended) (settled-tells env (work_seen b w).service);
       jobs = few;
       sound = subst (λ (x : Ending). EndsSound x (work_seen b w)) (sym ended) (settled-sound env (work_seen b w) (work-sound b w s));
     }
 
 -- the same, of a service and a rest that were taken apart
-pub settled-by : (env : ServeEnv) (b : ControlBlock) (w : InHand) (service : Served) (rest : Rest) (e : Ending) (turn : Turn) → IsSound b w → length w.jobs ≤ 9 → service ≡ w.service → rest ≡ rest_of (work_seen b w)
-    → (e, turn) ≡ settled env (service_of b service) → IsTurn turn → IsDone (work_seen b w) (settled env (work_seen b w).service) e (record { turn = turn; rest = rest })
+pub settled-by : (env : ServeEnv) (b : ControlBlock) (w : InHand) (service : Served) (rest : Rest) (e : Ending) (turn : Turn) → IsInHandSound b w → length w.jobs ≤ 9 → service ≡ w.service → rest ≡ work_rest (work_seen b w)
+    → (e, turn) ≡ serving_settled env (service_of b service) → IsTurn turn → IsDone (work_seen b w) (serving_settled env (work_seen b w).service) e (record { turn = turn; rest = rest })
 settled-by env b w service rest e turn s few same left is fits =
-    subst (λ (r : Rest). IsDone (work_seen b w) (settled env (work_seen b w).service) e (record { turn = turn; rest = r })) (sym left)
-    (settled-is env b w e turn s few (is ∙ ap (λ (v : Served). settled env (service_of b v)) same) fits)
+    subst (λ (r : Rest). IsDone (work_seen b w) (serving_settled env (work_seen b w).service) e (record { turn = turn; rest = r })) (sym left)
+    (settled-is env b w e turn s few (is ∙ ap (λ (v : Served). serving_settled env (service_of b v)) same) fits)
 
 pub of_ok : {A E : Type 0} (P : A → Type 0) (r : Result A E) (a : A) → r ≡ Ok a → IfOk r P → P a
 of_ok P r a is h = subst (λ x. IfOk x P) is h

@@ -4,10 +4,10 @@ use Rattle.lard_back.specs.declared.hand.At.{At}
 use Rattle.lard_endpoint.specs.Control.{ControlBlock}
 use Rattle.lard_rules.specs.declared.node.NodeState.{NodeState}
 use Rattle.lard_rules.specs.declared.stay.Stay.{Stay}
-use Rattle.lard_rules.specs.Node.{is_awaited}
+use Rattle.lard_rules.specs.Node.{is_tag_awaited}
 use Rattle.lard_rules.specs.NodePlace.{NodeSetting, node_env, node_part}
 
 -- whether a Tag counts
 abbrev pub awaits : NodeSetting → NodeState → At → ℕ → List ℕ → Option (ControlBlock × Stay) → Bool
 awaits k s at number nodes None = false
-awaits k s at number nodes (Some x) = is_awaited (node_env k s at.c at.epoch.0) number nodes (node_part s at.c) x.1
+awaits k s at number nodes (Some x) = is_tag_awaited (node_env k s at.c at.epoch.0) number nodes (node_part s at.c) x.1

@@ -9,7 +9,7 @@ use Rattle.lard_message.specs.declared.message.Body.TheVariants as body
 use Rattle.lard_message.specs.Message.{IsCount, IsOfTable, IsPath}
 use Rattle.lard_rules.specs.declared.stay.Asked.{Asked}
 use Rattle.lard_rules.specs.declared.stay.Want.{Want}
-use Rattle.lard_rules.specs.Node.{count_of}
+use Rattle.lard_rules.specs.Node.{reset_count}
 use Rattle.lard_rules.specs.declared.places.Out.{Out}
 use Rattle.lard_rules.specs.Speaking.{AreShort}
 
@@ -19,17 +19,17 @@ AreMessages [] = Unit {0}
 AreMessages (m ∷ ms) = (length m.1 ≤ MAX_MESSAGE_BYTES) × AreMessages ms
 
 -- an Ask that has a spelling
-abbrev pub IsAsk : Option Asked → Type 0
-IsAsk None = Unit {0}
-IsAsk (Some a) = IsOfTable (body.Ask a.number a.queue a.size a.paths)
+abbrev pub IsSpelledAsk : Option Asked → Type 0
+IsSpelledAsk None = Unit {0}
+IsSpelledAsk (Some a) = IsOfTable (body.Ask a.number a.queue a.size a.paths)
 
 abbrev pub AreWants : List Want → Type 0
 AreWants ws = AllByRecursion (λ w. IsPath w.path) ws
 
 -- so many bytes may be told of the end
-abbrev pub MayTell : Rested → Option ℕ → Type 0
-MayTell (Here count) over = Unit {0}
-MayTell (Over last) over = IsCount last.reason (count_of over)
+abbrev pub MayTellEnd : Rested → Option ℕ → Type 0
+MayTellEnd (Here count) over = Unit {0}
+MayTellEnd (Over last) over = IsCount last.reason (reset_count over)
 
 -- what a node does in a step: its segments fit packets between it and a client and can be numbered, its messages fit those between
 -- machines, and its responses can be counted

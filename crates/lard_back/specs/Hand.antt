@@ -12,7 +12,7 @@ use Rattle.lard_base.specs.declared.place.Place.TheVariants.{Node}
 use Rattle.lard_endpoint.specs.declared.control.moving.Final.{Final}
 use Rattle.lard_handoff_back.specs.declared.row.BackConn.{BackConn}
 use Rattle.lard_handoff_back.specs.declared.row.BackConn.TheVariants as stage
-use Rattle.lard_handoff_back.specs.Back.{with_stage}
+use Rattle.lard_handoff_back.specs.Back.{back_with_stage}
 use Rattle.lard_journal.specs.declared.rec.Rec.{Rec}
 use Rattle.lard_journal.specs.declared.rec.Rec.TheVariants as rec
 use Rattle.lard_lateral.specs.Lateral.{fetch_kept}
@@ -20,7 +20,7 @@ use Rattle.lard_rules.specs.declared.node.NodeState.{NodeState}
 use Rattle.lard_rules.specs.declared.node.NodeTurn.{NodeTurn}
 use Rattle.lard_rules.specs.declared.stay.Asked.{Asked}
 use Rattle.lard_rules.specs.declared.stay.Want.{Want}
-use Rattle.lard_rules.specs.Node.{ask_kept, count_of, ended_kept}
+use Rattle.lard_rules.specs.Node.{ask_kept, reset_count, ended_kept}
 use Rattle.lard_rules.specs.Stay.{Work}
 use Rattle.lard_resend.specs.declared.kept.Kept.{Kept}
 use Rattle.lard_resend.specs.Pending.{renewed, sent_of}
@@ -30,36 +30,36 @@ use Rattle.lard_rules.specs.declared.places.Turn.{Turn}
 
 -- ---- in hand
 
-abbrev pub lent : NodeState → ℕ → NodeState
-lent s c = record s { conns = with_stage s.conns c stage.Out (table.get s.conns c); stays = table.remove s.stays c }
+abbrev pub node_lent : NodeState → ℕ → NodeState
+node_lent s c = record s { conns = back_with_stage s.conns c stage.Out (table.get s.conns c); stays = table.remove s.stays c }
 
 abbrev pub lent_if : {A : Type 0} → NodeState → ℕ → Option A → NodeState
 lent_if s c None = s
-lent_if s c (Some x) = lent s c
+lent_if s c (Some x) = node_lent s c
 
 -- what is left of a turn beside its endpoint and what was served
-abbrev pub rest_of : Work → Rest
-rest_of w = record { batch = w.batch; asks = w.asks; jobs = w.jobs; wants = w.wants; asked = w.asked; over = w.service.over }
+abbrev pub work_rest : Work → Rest
+work_rest w = record { batch = w.batch; asks = w.asks; jobs = w.jobs; wants = w.wants; asked = w.asked; over = w.service.over }
 
 -- ---- the endpoint is put back
 
-abbrev pub rested_in : Ending → Rested
-rested_in (ending.Here b count) = rested.Here count
-rested_in (ending.Over last) = rested.Over last
+abbrev pub node_rested_in : Ending → Rested
+node_rested_in (ending.Here b count) = rested.Here count
+node_rested_in (ending.Over last) = rested.Over last
 
 abbrev pub stage_of : Ending → BackConn
 stage_of (ending.Here b count) = stage.Here b
 stage_of (ending.Over last) = stage.Ended
 
 abbrev pub sat : NodeState → ℕ → Ending → NodeState
-sat s c e = record s { conns = with_stage s.conns c (stage_of e) (table.get s.conns c) }
+sat s c e = record s { conns = back_with_stage s.conns c (stage_of e) (table.get s.conns c) }
 
 -- ---- what the turn asks for
 
-abbrev pub Held : Type 0
-Held = FinMap nat_cmp (List Kept)
+abbrev pub HeldMessages : Type 0
+HeldMessages = FinMap nat_cmp (List Kept)
 
-abbrev pub asked_in : At → Option Asked → Held → Held
+abbrev pub asked_in : At → Option Asked → HeldMessages → HeldMessages
 asked_in at None m = m
 asked_in at (Some a) m = renewed m at.c (ask_kept at.c at.epoch.0 a)
 
@@ -67,29 +67,29 @@ abbrev pub ask_sent : At → Option Asked → List (Place × List ℕ)
 ask_sent at None = []
 ask_sent at (Some a) = sent_of (ask_kept at.c at.epoch.0 a) ∷ []
 
-abbrev pub fetch_at : At → Want → Kept
-fetch_at at w = fetch_kept at.c at.epoch.0 w.r w.node w.path
+abbrev pub fetch_message : At → Want → Kept
+fetch_message at w = fetch_kept at.c at.epoch.0 w.r w.node w.path
 
-abbrev pub wanted : At → List Want → Held → Held
+abbrev pub wanted : At → List Want → HeldMessages → HeldMessages
 wanted at [] m = m
-wanted at (w ∷ ws) m = wanted at ws (renewed m at.c (fetch_at at w))
+wanted at (w ∷ ws) m = wanted at ws (renewed m at.c (fetch_message at w))
 
 abbrev pub fetches_sent : At → List Want → List (Place × List ℕ)
-fetches_sent at ws = map (λ w. sent_of (fetch_at at w)) ws
+fetches_sent at ws = map (λ w. sent_of (fetch_message at w)) ws
 
 -- ---- the stay goes on, or ends
 
-abbrev pub ended_at : At → Final → Option ℕ → Kept
-ended_at at last over = ended_kept at.c at.epoch.0 last (count_of over)
+abbrev pub ended_message : At → Final → Option ℕ → Kept
+ended_message at last over = ended_kept at.c at.epoch.0 last (reset_count over)
 
-abbrev pub left : NodeState → At → Rest → Rested → NodeState
-left s at rest (rested.Here count) = record s {
+abbrev pub node_left : NodeState → At → Rest → Rested → NodeState
+node_left s at rest (rested.Here count) = record s {
   stays = table.insert s.stays at.c (record { served = count; batch = rest.batch; asks = rest.asks });
   kept = asked_in at rest.asked s.kept;
   fetches = wanted at rest.wants s.fetches;
 }
-left s at rest (rested.Over last) = record s {
-  kept = renewed (table.remove (asked_in at rest.asked s.kept) at.c) at.c (ended_at at last rest.over);
+node_left s at rest (rested.Over last) = record s {
+  kept = renewed (table.remove (asked_in at rest.asked s.kept) at.c) at.c (ended_message at last rest.over);
   fetches = table.remove (wanted at rest.wants s.fetches) at.c;
 }
 
@@ -99,7 +99,7 @@ gave_at at (rested.Over last) = rec.Gave (Node at.n) at.c at.epoch ∷ []
 
 abbrev pub end_sent : At → Option ℕ → Rested → List (Place × List ℕ)
 end_sent at over (rested.Here count) = []
-end_sent at over (rested.Over last) = sent_of (ended_at at last over) ∷ []
+end_sent at over (rested.Over last) = sent_of (ended_message at last over) ∷ []
 
 abbrev pub turn_at : At → List (Place × List ℕ) → Rest → Rested → Turn → NodeTurn
 turn_at at before rest r turn = record {

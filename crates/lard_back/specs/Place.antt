@@ -6,30 +6,30 @@ use Rattle.lard_back.specs.declared.hand.At.{At}
 use Rattle.lard_back.specs.declared.hand.Rest.{Rest}
 use Rattle.lard_back.specs.declared.hand.Rested.{Rested}
 use Rattle.lard_back.specs.declared.timers.Flags.{Flags}
-use Rattle.lard_back.specs.Bounds.{AreWants, IsAsk, MayTell}
-use Rattle.lard_back.specs.Hand.{left, rest_of, rested_in, sat, turn_at}
+use Rattle.lard_back.specs.Bounds.{AreWants, IsSpelledAsk, MayTellEnd}
+use Rattle.lard_back.specs.Hand.{node_left, work_rest, node_rested_in, sat, turn_at}
 use Rattle.lard_back.specs.Sound.{EndsSound, IsNodeSound}
-use Rattle.lard_back.specs.Timers.{flag_changes, flags_of}
+use Rattle.lard_back.specs.Timers.{flag_changes, timer_flags}
 use Rattle.lard_base.specs.declared.place.Place.{Place}
 use Rattle.lard_base.specs.declared.place.Place.TheVariants.{Node}
-use Rattle.lard_cache.specs.Recency.{Recency, has}
+use Rattle.lard_cache.specs.Recency.{Recency, has_path}
 use Rattle.lard_endpoint.specs.Control.{ControlBlock}
 use Rattle.lard_files.specs.Files.{file_at}
 use Rattle.lard_rules.specs.declared.node.NodeState.{NodeState}
 use Rattle.lard_rules.specs.declared.node.NodeTurn.{NodeTurn}
 use Rattle.lard_rules.specs.declared.stay.Stay.{Stay}
 use Rattle.lard_rules.specs.Node.{NodePart, here, kept_after, turn_by}
-use Rattle.lard_rules.specs.NodePlace.{NodeSetting, node_part, node_put, told}
+use Rattle.lard_rules.specs.NodePlace.{NodeSetting, node_part, node_put, stores_told}
 use Rattle.lard_rules.specs.Stay.{NodeEnv, Work}
 use Rattle.lard_rules.specs.declared.places.Out.{Out}
 use Rattle.lard_rules.specs.declared.places.Ending.{Ending}
 use Rattle.lard_rules.specs.declared.places.Turn.{Turn}
 use Rattle.lard_rules.specs.Outs.{nothing_done}
-use Rattle.lard_rules.specs.Serving.{settled}
+use Rattle.lard_rules.specs.Serving.{serving_settled}
 use Rattle.lard_serving.specs.Bounds.{IsTurn}
 
-abbrev pub setting_seen : Setting → NodeSetting
-setting_seen k = record { n = k.n; files = file_at k.files.now; stream = k.stream }
+abbrev pub node_setting_seen : Setting → NodeSetting
+node_setting_seen k = record { n = k.n; files = file_at k.files.now; stream = k.stream }
 
 -- what a stay rests on
 abbrev pub env_at : NodeSetting → Recency → ℕ → At → NodeEnv
@@ -37,12 +37,12 @@ env_at k cache queue at = record {
   serve = record { place = Node at.n; c = at.c; files = k.files; stream = k.stream };
   n = at.n;
   epoch = at.epoch.0;
-  cached = has cache.entries;
+  cached = has_path cache.entries;
   queue = queue;
 }
 
-abbrev pub env_of : NodeSetting → NodeState → At → NodeEnv
-env_of k s at = env_at k s.cache (length s.disk) at
+abbrev pub node_env_of : NodeSetting → NodeState → At → NodeEnv
+node_env_of k s at = env_at k s.cache (length s.disk) at
 
 abbrev pub out_at : At → Flags → NodePart → NodeTurn → Out
 out_at at was q t = record {
@@ -50,30 +50,30 @@ out_at at was q t = record {
   segments = t.segments;
   gave = t.gave;
   messages = t.messages;
-  timers = flag_changes at.n at.c was (flags_of q);
+  timers = flag_changes at.n at.c was (timer_flags q);
   answered = t.answered;
 }
 
 -- what was told, where the connection is as it is in the state
 abbrev pub told_at : NodeState → At → Flags → NodeTurn → NodeState × Out
-told_at s at was t = (told s t, out_at at was (node_part s at.c) t)
+told_at s at was t = (stores_told s t, out_at at was (node_part s at.c) t)
 
 -- the endpoint is back, and the rest of the turn follows
-abbrev pub closes : NodeState → At → Flags → List (Place × List ℕ) → Rest → Rested → Turn → NodeState × Out
-closes s at was before rest r turn = told_at (left s at rest r) at was (turn_at at before rest r turn)
+abbrev pub turn_closed : NodeState → At → Flags → List (Place × List ℕ) → Rest → Rested → Turn → NodeState × Out
+turn_closed s at was before rest r turn = told_at (node_left s at rest r) at was (turn_at at before rest r turn)
 
 -- ---- the same, by the rules
 
 abbrev pub ends_with : NodeSetting → NodeState → At → Flags → List (Place × List ℕ) → Work → Ending × Turn → NodeState × Out
 ends_with k s at was before w given = (
-  told (node_put s at.c (kept_after (env_of k s at) (node_part s at.c) w given.0)) (turn_by (env_of k s at) before w given),
-  out_at at was (kept_after (env_of k s at) (node_part s at.c) w given.0) (turn_by (env_of k s at) before w given),
+  stores_told (node_put s at.c (kept_after (node_env_of k s at) (node_part s at.c) w given.0)) (turn_by (node_env_of k s at) before w given),
+  out_at at was (kept_after (node_env_of k s at) (node_part s at.c) w given.0) (turn_by (node_env_of k s at) before w given),
 )
 
 -- something is done to a connection, where it is here
 abbrev pub acted : NodeSetting → NodeState → At → Flags → (NodeEnv → ControlBlock × Stay → Work) → Option (ControlBlock × Stay) → NodeState × Out
 acted k s at was f None = (s, nothing_done)
-acted k s at was f (Some x) = ends_with k s at was [] (f (env_of k s at) x) (settled (env_of k s at).serve (f (env_of k s at) x).service)
+acted k s at was f (Some x) = ends_with k s at was [] (f (node_env_of k s at) x) (serving_settled (node_env_of k s at).serve (f (node_env_of k s at) x).service)
 
 -- the state is sound once it was done
 pub record IsActed (k : NodeSetting) (s : NodeState) (at : At) (was : Flags) (f : NodeEnv → ControlBlock × Stay → Work) (n : NodeState) (out : Out) : Type 0 where
@@ -84,16 +84,16 @@ pub record IsActed (k : NodeSetting) (s : NodeState) (at : At) (was : Flags) (f 
 
 -- what a rule made of what was in hand, once its endpoint said what it may
 pub record IsDone (w : Work) (given : Ending × Turn) (e : Ending) (d : Done) : Type 0 where
-  pub rest : d.rest ≡ rest_of w
+  pub rest : d.rest ≡ work_rest w
   pub turn : (e, d.turn) ≡ given
   pub fits : IsTurn d.turn
-  pub asked : IsAsk d.rest.asked
+  pub asked : IsSpelledAsk d.rest.asked
   pub wants : AreWants d.rest.wants
-  pub count : MayTell (rested_in e) d.rest.over
+  pub count : MayTellEnd (node_rested_in e) d.rest.over
   pub jobs : length d.rest.jobs ≤ 9
   pub sound : EndsSound e w
 
 -- all that was in hand is put back, and the turn told
 pub record IsGone (s : NodeState) (at : At) (was : Flags) (before : List (Place × List ℕ)) (w : Work) (given : Ending × Turn) (n : NodeState) (out : Out) : Type 0 where
-  pub closes : (n, out) ≡ closes (sat s at.c given.0) at was before (rest_of w) (rested_in given.0) given.1
+  pub closes : (n, out) ≡ turn_closed (sat s at.c given.0) at was before (work_rest w) (node_rested_in given.0) given.1
   pub sound : EndsSound given.0 w

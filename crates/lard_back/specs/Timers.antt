@@ -7,8 +7,8 @@ use Rattle.lard_journal.specs.declared.rec.Rec.{Rec}
 use Rattle.lard_rules.specs.Node.{NodePart, node_armed}
 use Rattle.lard_rules.specs.Outs.{kind_change}
 
-abbrev pub flags_of : NodePart → Flags
-flags_of p = record { tcp = node_armed p Tcp; ask = node_armed p Ask; fetch = node_armed p Fetch; ended = node_armed p Ended }
+abbrev pub timer_flags : NodePart → Flags
+timer_flags p = record { tcp = node_armed p Tcp; ask = node_armed p Ask; fetch = node_armed p Fetch; ended = node_armed p Ended }
 
 -- an Offer is no message of a node
 abbrev pub flag_changes : ℕ → ℕ → Flags → Flags → List Rec

@@ -2,22 +2,22 @@
 
 ghost use Rattle.std.specs.Prelude.{◌≡◌, ◌+◌, ◌^◌, ◌<◌, ◌≤◌, [], length, true, IfOk};
 ghost use Rattle.std.specs.FinMap as table;
-ghost use Rattle.lard_back.specs.Bounds.{AreMessages, AreWants, IsAsk, IsNodeOut, MayTell};
-ghost use Rattle.lard_back.specs.Hand.{rest_of};
-ghost use Rattle.lard_back.specs.Place.{IsActed, IsDone, IsGone, closes, env_of, setting_seen, told_at};
+ghost use Rattle.lard_back.specs.Bounds.{AreMessages, AreWants, IsSpelledAsk, IsNodeOut, MayTellEnd};
+ghost use Rattle.lard_back.specs.Hand.{work_rest};
+ghost use Rattle.lard_back.specs.Place.{IsActed, IsDone, IsGone, turn_closed, node_env_of, node_setting_seen, told_at};
 ghost use Rattle.lard_back.specs.Sound.{IsNodeSound};
 ghost use Rattle.lard_base.specs.declared.limits.TheConstants.{MAX_STREAM_BYTES};
 ghost use Rattle.lard_endpoint.specs.Arriving.{on_segment};
 ghost use Rattle.lard_endpoint.specs.Control.{ControlBlock};
-ghost use Rattle.lard_handoff_back.specs.Back.{may_put};
+ghost use Rattle.lard_handoff_back.specs.Back.{back_may_put};
 ghost use Rattle.lard_rules.specs.Node.{work_of};
 ghost use Rattle.lard_rules.specs.Stay.{came_for, come_progress, goes_on, read_progress, tagged};
-ghost use Rattle.lard_rules.specs.Serving.{settled};
+ghost use Rattle.lard_rules.specs.Serving.{serving_settled};
 ghost use Rattle.lard_rules.specs.Speaking.{AreShort};
 ghost use Rattle.lard_segment.specs.Segment.{said};
 ghost use Rattle.lard_serving.specs.Bounds.{IsTurn};
 ghost use Rattle.lard_serving.specs.Serving.{env_seen};
-ghost use Rattle.lard_stay.specs.Work.{IsSound, work_seen};
+ghost use Rattle.lard_stay.specs.Work.{IsInHandSound, work_seen};
 
 use crate::hand::{At, Rest, Rested, leave, put_back, take_out};
 use crate::stores::tell;
@@ -62,7 +62,7 @@ pub fn hear(
     requires sound { IsNodeSound state.old }
     requires stream { setting.now.stream ≤ MAX_STREAM_BYTES }
     requires few { length state.old.disk < 2 ^ 31 }
-    ensures acted { IfOk result (λ out. IsActed (setting_seen setting.now) state.old at.now was (λ env x. goes_on env (work_of (on_segment x.0 (said segment.now)).1 x.1)) state.new out) }
+    ensures acted { IfOk result (λ out. IsActed (node_setting_seen setting.now) state.old at.now was (λ env x. goes_on env (work_of (on_segment x.0 (said segment.now)).1 x.1)) state.new out) }
     ensures fits { IfOk result IsNodeOut }
 {
     let Some((mut endpoint, stay)) = take_out(state, at.c, at.epoch) else {
@@ -87,7 +87,7 @@ pub fn assign(
     requires sound { IsNodeSound state.old }
     requires stream { setting.now.stream ≤ MAX_STREAM_BYTES }
     requires few { length state.old.disk < 2 ^ 31 }
-    ensures acted { IfOk result (λ out. IsActed (setting_seen setting.now) state.old at.now was (λ env x. goes_on env (tagged env nodes.now (work_of x.0 x.1))) state.new out) }
+    ensures acted { IfOk result (λ out. IsActed (node_setting_seen setting.now) state.old at.now was (λ env x. goes_on env (tagged env nodes.now (work_of x.0 x.1))) state.new out) }
     ensures fits { IfOk result IsNodeOut }
 {
     let Some((endpoint, stay)) = take_out(state, at.c, at.epoch) else {
@@ -113,10 +113,10 @@ fn start(
     mut work: Work,
     nodes: &[NodeId],
 ) -> Result<Work, NoMemory>
-    requires sound { IsSound endpoint.now work }
+    requires sound { IsInHandSound endpoint.now work }
     requires jobs { length work.jobs ≤ 0 }
-    ensures work { IfOk result (λ started. work_seen endpoint.now started ≡ tagged (env_of (setting_seen setting.now) state.now at.now) nodes.now (work_seen endpoint.now work)) }
-    ensures sound { IfOk result (IsSound endpoint.now) }
+    ensures work { IfOk result (λ started. work_seen endpoint.now started ≡ tagged (node_env_of (node_setting_seen setting.now) state.now at.now) nodes.now (work_seen endpoint.now work)) }
+    ensures sound { IfOk result (IsInHandSound endpoint.now) }
     ensures jobs { IfOk result (λ started. length started.jobs ≤ 8) }
 {
     let env = Env {
@@ -145,7 +145,7 @@ pub fn bring(
     requires sound { IsNodeSound state.old }
     requires stream { setting.now.stream ≤ MAX_STREAM_BYTES }
     requires few { length state.old.disk < 2 ^ 31 }
-    ensures acted { IfOk result (λ out. IsActed (setting_seen setting.now) state.old at.now was (λ env x. goes_on env (came_for (come_progress from) r (work_of x.0 x.1))) state.new out) }
+    ensures acted { IfOk result (λ out. IsActed (node_setting_seen setting.now) state.old at.now was (λ env x. goes_on env (came_for (come_progress from) r (work_of x.0 x.1))) state.new out) }
     ensures fits { IfOk result IsNodeOut }
 {
     let Some((endpoint, stay)) = take_out(state, at.c, at.epoch) else {
@@ -170,7 +170,7 @@ pub fn read(
     requires sound { IsNodeSound state.old }
     requires stream { setting.now.stream ≤ MAX_STREAM_BYTES }
     requires few { length state.old.disk < 2 ^ 31 }
-    ensures acted { IfOk result (λ out. IsActed (setting_seen setting.now) state.old at.now was (λ env x. goes_on env (came_for read_progress r (work_of x.0 x.1))) state.new out) }
+    ensures acted { IfOk result (λ out. IsActed (node_setting_seen setting.now) state.old at.now was (λ env x. goes_on env (came_for read_progress r (work_of x.0 x.1))) state.new out) }
     ensures fits { IfOk result IsNodeOut }
 {
     let Some((endpoint, stay)) = take_out(state, at.c, at.epoch) else {
@@ -191,12 +191,12 @@ fn go(
     endpoint: Endpoint,
     work: Work,
 ) -> Result<Out, NoMemory>
-    requires out { may_put (table.get state.old.conns at.now.c) ≡ true }
-    requires sound { IsSound endpoint work }
+    requires out { back_may_put (table.get state.old.conns at.now.c) ≡ true }
+    requires sound { IsInHandSound endpoint work }
     requires jobs { length work.jobs ≤ 8 }
     requires stream { setting.now.stream ≤ MAX_STREAM_BYTES }
     requires few { length state.old.disk < 2 ^ 31 }
-    ensures gone { IfOk result (λ out. let env = env_of (setting_seen setting.now) state.old at.now in let w = goes_on env (work_seen endpoint work) in IsGone state.old at.now was [] w (settled env.serve w.service) state.new out) }
+    ensures gone { IfOk result (λ out. let env = node_env_of (node_setting_seen setting.now) state.old at.now in let w = goes_on env (work_seen endpoint work) in IsGone state.old at.now was [] w (serving_settled env.serve w.service) state.new out) }
     ensures fits { IfOk result IsNodeOut }
 {
     let (ending, done) = follow(alloc, setting, at, state, endpoint, work);
@@ -225,11 +225,11 @@ fn follow(
     mut endpoint: Endpoint,
     mut work: Work,
 ) -> (Ending, Result<Done, NoMemory>)
-    requires sound { IsSound endpoint work }
+    requires sound { IsInHandSound endpoint work }
     requires jobs { length work.jobs ≤ 8 }
     requires stream { setting.now.stream ≤ MAX_STREAM_BYTES }
     requires few { length state.now.disk < 2 ^ 31 }
-    ensures done { IfOk result.1 (λ done. let env = env_of (setting_seen setting.now) state.now at.now in let w = goes_on env (work_seen endpoint work) in IsDone w (settled env.serve w.service) result.0 done) }
+    ensures done { IfOk result.1 (λ done. let env = node_env_of (node_setting_seen setting.now) state.now at.now in let w = goes_on env (work_seen endpoint work) in IsDone w (serving_settled env.serve w.service) result.0 done) }
 {
     let env = Env {
         serve: serve(setting, at),
@@ -252,9 +252,9 @@ pub fn settle(
     endpoint: Endpoint,
     work: Work,
 ) -> (Ending, Result<Done, NoMemory>)
-    requires sound { IsSound endpoint work }
+    requires sound { IsInHandSound endpoint work }
     requires jobs { length work.jobs ≤ 9 }
-    ensures done { IfOk result.1 (λ done. IsDone (work_seen endpoint work) (settled (env_seen env.now) (work_seen endpoint work).service) result.0 done) }
+    ensures done { IfOk result.1 (λ done. IsDone (work_seen endpoint work) (serving_settled (env_seen env.now) (work_seen endpoint work).service) result.0 done) }
 {
     let (service, rest) = apart(work);
     let (ending, turn) = settled(alloc, env, endpoint, service);
@@ -267,7 +267,7 @@ pub fn settle(
 /// What was served, and what is left of a turn beside it.
 pub fn apart(work: Work) -> (Service, Rest)
     ensures service { result.0 ≡ work.service }
-    ensures rest { (b : ControlBlock) → result.1 ≡ rest_of (work_seen b work) }
+    ensures rest { (b : ControlBlock) → result.1 ≡ work_rest (work_seen b work) }
 {
     let Work {
         service,
@@ -300,12 +300,12 @@ pub fn close(
     done: Done,
 ) -> Result<Out, NoMemory>
     requires fit { AreMessages before }
-    requires asked { IsAsk done.rest.asked }
+    requires asked { IsSpelledAsk done.rest.asked }
     requires wants { AreWants done.rest.wants }
-    requires count { MayTell rested done.rest.over }
+    requires count { MayTellEnd rested done.rest.over }
     requires fits { IsTurn done.turn }
     requires few { length state.old.disk + length done.rest.jobs < 2 ^ 32 }
-    ensures ok { IfOk result (λ out. (state.new, out) ≡ closes state.old at.now was before done.rest rested done.turn) }
+    ensures ok { IfOk result (λ out. (state.new, out) ≡ turn_closed state.old at.now was before done.rest rested done.turn) }
     ensures fits { IfOk result IsNodeOut }
 {
     let Done { turn, rest } = done;

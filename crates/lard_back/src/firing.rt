@@ -3,14 +3,14 @@
 ghost use Rattle.std.specs.Prelude.{◌≡◌, ◌^◌, ◌<◌, ◌≤◌, length, true, IfOk, OnOk};
 ghost use Rattle.std.specs.FinMap as table;
 ghost use Rattle.lard_back.specs.Bounds.{IsNodeOut};
-ghost use Rattle.lard_back.specs.Place.{IsDone, IsGone, env_of, setting_seen};
+ghost use Rattle.lard_back.specs.Place.{IsDone, IsGone, node_env_of, node_setting_seen};
 ghost use Rattle.lard_back.specs.Sound.{IsNodeSound};
 ghost use Rattle.lard_base.specs.declared.limits.TheConstants.{MAX_STREAM_BYTES};
 ghost use Rattle.lard_endpoint.specs.Leaving.{after_timer, timed};
-ghost use Rattle.lard_handoff_back.specs.Back.{may_put};
+ghost use Rattle.lard_handoff_back.specs.Back.{back_may_put};
 ghost use Rattle.lard_rules.specs.Node.{again_sent, node_timer, work_of};
-ghost use Rattle.lard_rules.specs.NodePlace.{epoch_at, node_deed, node_env, node_part};
-ghost use Rattle.lard_rules.specs.Serving.{ready_of, spoken};
+ghost use Rattle.lard_rules.specs.NodePlace.{node_epoch_at, node_deed, node_env, node_part};
+ghost use Rattle.lard_rules.specs.Serving.{serving_ready_of, spoken};
 ghost use Rattle.lard_rules.specs.Speaking.{AreShort};
 ghost use Rattle.lard_serving.specs.Serving.{env_seen};
 ghost use Rattle.lard_stay.specs.Work.{IsStaySound};
@@ -38,7 +38,7 @@ pub fn fire(
     requires sound { IsNodeSound state.old }
     requires stream { setting.now.stream ≤ MAX_STREAM_BYTES }
     requires few { length state.old.disk < 2 ^ 31 }
-    ensures ok { IfOk result (λ out. let k = setting_seen setting.now in (state.new, out) ≡ node_deed k state.old c (node_timer (node_env k state.old c (epoch_at state.old c)) (node_part state.old c))) }
+    ensures ok { IfOk result (λ out. let k = node_setting_seen setting.now in (state.new, out) ≡ node_deed k state.old c (node_timer (node_env k state.old c (node_epoch_at state.old c)) (node_part state.old c))) }
     ensures sound { OnOk result (IsNodeSound state.new) }
     ensures fits { IfOk result IsNodeOut }
 {
@@ -66,11 +66,11 @@ fn go(
     endpoint: Endpoint,
     stay: Stay,
 ) -> Result<Out, NoMemory>
-    requires out { may_put (table.get state.old.conns at.now.c) ≡ true }
+    requires out { back_may_put (table.get state.old.conns at.now.c) ≡ true }
     requires sound { IsStaySound endpoint stay }
     requires few { length state.old.disk < 2 ^ 31 }
-    ensures gone { IfOk result (λ out. let env = (env_of (setting_seen setting.now) state.old at.now).serve in let w = work_of (after_timer endpoint) stay in
-        IsGone state.old at.now was (again_sent (node_part state.old at.now.c)) w (spoken env w.service (ready_of env (after_timer endpoint) (timed endpoint))) state.new out) }
+    ensures gone { IfOk result (λ out. let env = (node_env_of (node_setting_seen setting.now) state.old at.now).serve in let w = work_of (after_timer endpoint) stay in
+        IsGone state.old at.now was (again_sent (node_part state.old at.now.c)) w (spoken env w.service (serving_ready_of env (after_timer endpoint) (timed endpoint))) state.new out) }
     ensures fits { IfOk result IsNodeOut }
 {
     let (ending, done) = tell_again(alloc, &serve(setting, at), endpoint, stay);
@@ -81,7 +81,7 @@ fn go(
 
 /// The epoch of a connection's stay, if it is here or its end is not acknowledged.
 fn epoch_at(state: &NodeState, c: ConnId) -> Epoch
-    ensures { result.0 ≡ epoch_at state.now c }
+    ensures { result.0 ≡ node_epoch_at state.now c }
 {
     match state.conns.row(c) {
         Some(row) => row.epoch,
@@ -98,7 +98,7 @@ fn tell_again(
 ) -> (Ending, Result<Done, NoMemory>)
     requires { IsStaySound endpoint stay }
     ensures done { IfOk result.1 (λ done. let env = env_seen env.now in let w = work_of (after_timer endpoint) stay in
-        IsDone w (spoken env w.service (ready_of env (after_timer endpoint) (timed endpoint))) result.0 done) }
+        IsDone w (spoken env w.service (serving_ready_of env (after_timer endpoint) (timed endpoint))) result.0 done) }
 {
     let ready = endpoint.timer();
     match ready_of(alloc, env, &endpoint, ready) {

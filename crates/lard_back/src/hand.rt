@@ -2,9 +2,9 @@
 
 ghost use Rattle.std.specs.Prelude.{◌≡◌, [], ◌∷◌, true, is_some, Some, IfOk, IsSome, OnOk, OnSome};
 ghost use Rattle.std.specs.FinMap as table;
-ghost use Rattle.lard_back.specs.Bounds.{AreMessages, AreWants, IsAsk, MayTell};
-ghost use Rattle.lard_back.specs.Hand.{end_sent, gave_at, left, lent_if, rested_in, stage_of, turn_at};
-ghost use Rattle.lard_handoff_back.specs.Back.{may_put, with_stage};
+ghost use Rattle.lard_back.specs.Bounds.{AreMessages, AreWants, IsSpelledAsk, MayTellEnd};
+ghost use Rattle.lard_back.specs.Hand.{end_sent, gave_at, node_left, lent_if, node_rested_in, stage_of, turn_at};
+ghost use Rattle.lard_handoff_back.specs.Back.{back_may_put, back_with_stage};
 ghost use Rattle.lard_rules.specs.Node.{here};
 ghost use Rattle.lard_rules.specs.NodePlace.{node_part};
 
@@ -57,7 +57,7 @@ pub enum Rested {
 pub fn take_out(state: &mut NodeState, c: ConnId, epoch: Epoch) -> Option<(Endpoint, Stay)>
     ensures found { result ≡ here epoch.0 (node_part state.old c) }
     ensures after { state.new ≡ lent_if state.old c result }
-    ensures out { OnSome result (may_put (table.get state.new.conns c) ≡ true) }
+    ensures out { OnSome result (back_may_put (table.get state.new.conns c) ≡ true) }
 {
     if !is_here(state, c, epoch) {
         return None;
@@ -96,9 +96,9 @@ fn take_stay(stays: &mut Table<Stay>, c: ConnId) -> Stay
 
 /// Puts an endpoint back that was taken out, or the end of it. It takes no memory.
 pub fn put_back(conns: &mut BackTable, c: ConnId, ending: Ending) -> Rested
-    requires { may_put (table.get conns.old c) ≡ true }
-    ensures rested { result ≡ rested_in ending }
-    ensures after { conns.new ≡ with_stage conns.old c (stage_of ending) (table.get conns.old c) }
+    requires { back_may_put (table.get conns.old c) ≡ true }
+    ensures rested { result ≡ node_rested_in ending }
+    ensures after { conns.new ≡ back_with_stage conns.old c (stage_of ending) (table.get conns.old c) }
 {
     match ending {
         Ending::Here { endpoint, count } => {
@@ -124,10 +124,10 @@ pub fn leave(
     turn: Turn,
 ) -> Result<NodeTurn, NoMemory>
     requires fit { AreMessages before }
-    requires asked { IsAsk rest.asked }
+    requires asked { IsSpelledAsk rest.asked }
     requires wants { AreWants rest.wants }
-    requires count { MayTell rested rest.over }
-    ensures after { OnOk result (state.new ≡ left state.old at.now rest rested) }
+    requires count { MayTellEnd rested rest.over }
+    ensures after { OnOk result (state.new ≡ node_left state.old at.now rest rested) }
     ensures turn { IfOk result (λ done. done ≡ turn_at at.now before rest rested turn) }
     ensures fit { IfOk result (λ done. AreMessages done.messages) }
 {

@@ -2,13 +2,13 @@
 
 ghost use Rattle.std.specs.Prelude.{◌≡◌, ◌^◌, ◌<◌, ◌≤◌, length, Err, IfOk, OnOk, Result};
 ghost use Rattle.lard_back.specs.Bounds.{IsNodeOut};
-ghost use Rattle.lard_back.specs.Place.{setting_seen};
+ghost use Rattle.lard_back.specs.Place.{node_setting_seen};
 ghost use Rattle.lard_back.specs.Sound.{IsNodeSound};
 ghost use Rattle.lard_base.specs.declared.limits.TheConstants.{MAX_STREAM_BYTES};
 ghost use Rattle.lard_message.specs.declared.fault.MsgFault as the_fault;
 ghost use Rattle.lard_message.specs.declared.message.Message as the_message;
 ghost use Rattle.lard_message.specs.Message.{IsOfTable};
-ghost use Rattle.lard_message.specs.Reading.{Gives, decoded_message};
+ghost use Rattle.lard_message.specs.Reading.{GivesMessage, decoded_message};
 ghost use Rattle.lard_rules.specs.NodePlace.{node_gets, node_hears};
 ghost use Rattle.lard_rules.specs.Outs.{nothing_done};
 
@@ -35,7 +35,7 @@ pub fn get(
     requires sound { IsNodeSound state.old }
     requires stream { setting.now.stream ≤ MAX_STREAM_BYTES }
     requires few { length state.old.disk < 2 ^ 31 }
-    ensures ok { IfOk result (λ out. (state.new, out) ≡ node_gets (setting_seen setting.now) state.old from (decoded_message bytes.now)) }
+    ensures ok { IfOk result (λ out. (state.new, out) ≡ node_gets (node_setting_seen setting.now) state.old from (decoded_message bytes.now)) }
     ensures sound { OnOk result (IsNodeSound state.new) }
     ensures fits { IfOk result IsNodeOut }
 {
@@ -48,7 +48,7 @@ pub fn get(
 /// Bytes that are no message do nothing; where memory ran out it is not known what they are.
 fn unread(alloc: Global, fault: MsgFault) -> Result<Out, NoMemory>
     ensures out { IfOk result (λ out. out ≡ nothing_done) }
-    ensures none { OnOk result ((given : Result the_message.Message the_fault.MsgFault) → Gives (Err fault) given → given ≡ Err fault) }
+    ensures none { OnOk result ((given : Result the_message.Message the_fault.MsgFault) → GivesMessage (Err fault) given → given ≡ Err fault) }
     ensures fits { IfOk result IsNodeOut }
 {
     match fault {
@@ -74,7 +74,7 @@ fn hear(
     requires stream { setting.now.stream ≤ MAX_STREAM_BYTES }
     requires few { length state.old.disk < 2 ^ 31 }
     requires table { IsOfTable message.body }
-    ensures ok { IfOk result (λ out. (state.new, out) ≡ node_hears (setting_seen setting.now) state.old from message.c message.epoch.0 message.body) }
+    ensures ok { IfOk result (λ out. (state.new, out) ≡ node_hears (node_setting_seen setting.now) state.old from message.c message.epoch.0 message.body) }
     ensures sound { OnOk result (IsNodeSound state.new) }
     ensures fits { IfOk result IsNodeOut }
 {
@@ -104,7 +104,7 @@ fn hear_front(
     requires stream { setting.now.stream ≤ MAX_STREAM_BYTES }
     requires few { length state.old.disk < 2 ^ 31 }
     requires table { IsOfTable body }
-    ensures ok { IfOk result (λ out. (state.new, out) ≡ node_hears (setting_seen setting.now) state.old Place.Front at.now.c at.now.epoch.0 body) }
+    ensures ok { IfOk result (λ out. (state.new, out) ≡ node_hears (node_setting_seen setting.now) state.old Place.Front at.now.c at.now.epoch.0 body) }
     ensures sound { OnOk result (IsNodeSound state.new) }
     ensures fits { IfOk result IsNodeOut }
 {
@@ -136,7 +136,7 @@ fn hear_node(
     requires sound { IsNodeSound state.old }
     requires stream { setting.now.stream ≤ MAX_STREAM_BYTES }
     requires few { length state.old.disk < 2 ^ 31 }
-    ensures ok { IfOk result (λ out. (state.new, out) ≡ node_hears (setting_seen setting.now) state.old (Place.Node from) at.now.c at.now.epoch.0 body) }
+    ensures ok { IfOk result (λ out. (state.new, out) ≡ node_hears (node_setting_seen setting.now) state.old (Place.Node from) at.now.c at.now.epoch.0 body) }
     ensures sound { OnOk result (IsNodeSound state.new) }
     ensures fits { IfOk result IsNodeOut }
 {

@@ -3,18 +3,18 @@
 ghost use Rattle.std.specs.Prelude.{◌≡◌, ◌^◌, ◌<◌, ◌≤◌, length, true, IfOk, OnOk};
 ghost use Rattle.std.specs.FinMap as table;
 ghost use Rattle.lard_back.specs.Bounds.{IsNodeOut};
-ghost use Rattle.lard_back.specs.Place.{IsDone, IsGone, env_of, setting_seen};
+ghost use Rattle.lard_back.specs.Place.{IsDone, IsGone, node_env_of, node_setting_seen};
 ghost use Rattle.lard_back.specs.Sound.{IsNodeSound};
 ghost use Rattle.lard_base.specs.declared.limits.TheConstants.{MAX_STREAM_BYTES};
 ghost use Rattle.lard_base.specs.Parts.{IsValidParts};
 ghost use Rattle.lard_endpoint.specs.Moving.{adopted};
-ghost use Rattle.lard_handoff_back.specs.Back.{may_put};
-ghost use Rattle.lard_rules.specs.Node.{begins, node_offered, taken_sent};
+ghost use Rattle.lard_handoff_back.specs.Back.{back_may_put};
+ghost use Rattle.lard_rules.specs.Node.{node_begins, node_offered, taken_sent};
 ghost use Rattle.lard_rules.specs.NodePlace.{node_deed, node_env, node_part};
 ghost use Rattle.lard_rules.specs.Stay.{goes_on, reads_batch};
 ghost use Rattle.lard_rules.specs.Loop.{state_of};
-ghost use Rattle.lard_rules.specs.Serving.{settled};
-ghost use Rattle.lard_stay.specs.Work.{IsSound, env_seen, work_seen};
+ghost use Rattle.lard_rules.specs.Serving.{serving_settled};
+ghost use Rattle.lard_stay.specs.Work.{IsInHandSound, stay_env_seen, work_seen};
 
 use crate::acting::{Done, Setting, close, serve, settle};
 use crate::hand::{At, put_back};
@@ -43,7 +43,7 @@ pub fn offered(
     requires stream { setting.now.stream ≤ MAX_STREAM_BYTES }
     requires few { length state.old.disk < 2 ^ 31 }
     requires valid { IsValidParts parts.now }
-    ensures ok { IfOk result (λ out. let k = setting_seen setting.now in (state.new, out) ≡ node_deed k state.old at.now.c (node_offered (node_env k state.old at.now.c at.now.epoch.0) (node_part state.old at.now.c) parts.now)) }
+    ensures ok { IfOk result (λ out. let k = node_setting_seen setting.now in (state.new, out) ≡ node_deed k state.old at.now.c (node_offered (node_env k state.old at.now.c at.now.epoch.0) (node_part state.old at.now.c) parts.now)) }
     ensures sound { OnOk result (IsNodeSound state.new) }
     ensures fits { IfOk result IsNodeOut }
 {
@@ -70,13 +70,13 @@ fn adopt(
     endpoint: Endpoint,
     parts: &EndpointParts,
 ) -> Result<Out, NoMemory>
-    requires out { may_put (table.get state.old.conns at.now.c) ≡ true }
+    requires out { back_may_put (table.get state.old.conns at.now.c) ≡ true }
     requires adopted { endpoint ≡ adopted parts.now }
     requires valid { IsValidParts parts.now }
     requires stream { setting.now.stream ≤ MAX_STREAM_BYTES }
     requires few { length state.old.disk < 2 ^ 31 }
-    ensures gone { IfOk result (λ out. let env = env_of (setting_seen setting.now) state.old at.now in let w = goes_on env (state_of (reads_batch env true (begins env parts.now))) in
-        IsGone state.old at.now was (taken_sent env) w (settled env.serve w.service) state.new out) }
+    ensures gone { IfOk result (λ out. let env = node_env_of (node_setting_seen setting.now) state.old at.now in let w = goes_on env (state_of (reads_batch env true (node_begins env parts.now))) in
+        IsGone state.old at.now was (taken_sent env) w (serving_settled env.serve w.service) state.new out) }
     ensures fits { IfOk result IsNodeOut }
 {
     let (ending, done) = enter(alloc, setting, at, state, endpoint, parts);
@@ -98,8 +98,8 @@ fn enter(
     requires valid { IsValidParts parts.now }
     requires stream { setting.now.stream ≤ MAX_STREAM_BYTES }
     requires few { length state.now.disk < 2 ^ 31 }
-    ensures done { IfOk result.1 (λ done. let env = env_of (setting_seen setting.now) state.now at.now in let w = goes_on env (state_of (reads_batch env true (begins env parts.now))) in
-        IsDone w (settled env.serve w.service) result.0 done) }
+    ensures done { IfOk result.1 (λ done. let env = node_env_of (node_setting_seen setting.now) state.now at.now in let w = goes_on env (state_of (reads_batch env true (node_begins env parts.now))) in
+        IsDone w (serving_settled env.serve w.service) result.0 done) }
 {
     let env = Env {
         serve: serve(setting, at),
@@ -125,8 +125,8 @@ fn start(
     requires valid { IsValidParts parts.now }
     requires stream { env.now.serve.stream ≤ MAX_STREAM_BYTES }
     requires few { env.now.queue < 2 ^ 31 }
-    ensures work { IfOk result (λ work. let env = env_seen env.now in work_seen endpoint.new work ≡ goes_on env (state_of (reads_batch env true (begins env parts.now)))) }
-    ensures sound { IfOk result (IsSound endpoint.new) }
+    ensures work { IfOk result (λ work. let env = stay_env_seen env.now in work_seen endpoint.new work ≡ goes_on env (state_of (reads_batch env true (node_begins env parts.now)))) }
+    ensures sound { IfOk result (IsInHandSound endpoint.new) }
     ensures jobs { IfOk result (λ work. length work.jobs ≤ 9) }
 {
     let mut work = Work::new(

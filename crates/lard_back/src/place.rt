@@ -2,7 +2,7 @@
 
 ghost use Rattle.std.specs.Prelude.{◌≡◌, ◌+◌, ◌^◌, ◌<◌, ◌≤◌, length, IfOk, OnOk};
 ghost use Rattle.lard_back.specs.Bounds.{IsNodeOut};
-ghost use Rattle.lard_back.specs.Place.{setting_seen};
+ghost use Rattle.lard_back.specs.Place.{node_setting_seen};
 ghost use Rattle.lard_back.specs.Sound.{IsNodeSound};
 ghost use Rattle.lard_base.specs.declared.limits.TheConstants.{MAX_STREAM_BYTES};
 ghost use Rattle.lard_rules.specs.NodePlace.{no_stays, node_step};
@@ -66,7 +66,7 @@ pub fn step(
     requires sound { IsNodeSound state.old }
     requires stream { setting.now.stream ≤ MAX_STREAM_BYTES }
     requires few { length state.old.disk < 2 ^ 31 }
-    ensures ok { IfOk result (λ out. (state.new, out) ≡ node_step (setting_seen setting.now) state.old input) }
+    ensures ok { IfOk result (λ out. (state.new, out) ≡ node_step (node_setting_seen setting.now) state.old input) }
     ensures sound { OnOk result (IsNodeSound state.new) }
     ensures fits { IfOk result IsNodeOut }
     // Each job that is queued has its record.

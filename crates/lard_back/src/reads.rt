@@ -2,12 +2,12 @@
 
 ghost use Rattle.std.specs.Prelude.{◌≡◌, ◌^◌, ◌<◌, ◌≤◌, [], ◌∷◌, ◌++◌, length, IfOk, OnOk};
 ghost use Rattle.lard_back.specs.Bounds.{IsNodeOut};
-ghost use Rattle.lard_back.specs.Place.{setting_seen};
+ghost use Rattle.lard_back.specs.Place.{node_setting_seen};
 ghost use Rattle.lard_back.specs.Sound.{IsNodeSound};
 ghost use Rattle.lard_base.specs.declared.limits.TheConstants.{MAX_STREAM_BYTES};
 ghost use Rattle.lard_disk.specs.Jobs.{job_at};
 ghost use Rattle.lard_files.specs.Files.{file_at};
-ghost use Rattle.lard_rules.specs.NodePlace.{brought, bytes_of, disk_step};
+ghost use Rattle.lard_rules.specs.NodePlace.{node_brought, content_bytes, disk_step};
 
 use crate::acting::Setting;
 use crate::hand::At;
@@ -32,7 +32,7 @@ pub fn complete(
     requires sound { IsNodeSound state.old }
     requires stream { setting.now.stream ≤ MAX_STREAM_BYTES }
     requires few { length state.old.disk < 2 ^ 31 }
-    ensures ok { IfOk result (λ out. (state.new, out) ≡ disk_step (setting_seen setting.now) state.old j (job_at state.old.disk j)) }
+    ensures ok { IfOk result (λ out. (state.new, out) ≡ disk_step (node_setting_seen setting.now) state.old j (job_at state.old.disk j)) }
     ensures sound { OnOk result (IsNodeSound state.new) }
     ensures fits { IfOk result IsNodeOut }
 {
@@ -46,7 +46,7 @@ pub fn complete(
 
 /// How many bytes a file has; none where there is no such file.
 fn size_of(setting: &Setting<'_>, path: &Path) -> u32
-    ensures { result ≡ length (bytes_of (file_at setting.now.files.now path.now)) }
+    ensures { result ≡ length (content_bytes (file_at setting.now.files.now path.now)) }
 {
     match setting.files.get(path.as_slice()) {
         Some(bytes) => bytes.len() as u32,
@@ -64,7 +64,7 @@ fn bring(
     requires sound { IsNodeSound state.old }
     requires stream { setting.now.stream ≤ MAX_STREAM_BYTES }
     requires few { length state.old.disk < 2 ^ 31 }
-    ensures ok { IfOk result (λ out. (state.new, out) ≡ brought (setting_seen setting.now) state.old job.now) }
+    ensures ok { IfOk result (λ out. (state.new, out) ≡ node_brought (node_setting_seen setting.now) state.old job.now) }
     ensures sound { OnOk result (IsNodeSound state.new) }
     ensures fits { IfOk result IsNodeOut }
 {

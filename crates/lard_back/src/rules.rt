@@ -2,11 +2,11 @@
 
 ghost use Rattle.std.specs.Prelude.{◌≡◌, ◌^◌, ◌<◌, ◌≤◌, [], length, IfOk, OnOk};
 ghost use Rattle.lard_back.specs.Bounds.{IsNodeOut};
-ghost use Rattle.lard_back.specs.Place.{setting_seen};
+ghost use Rattle.lard_back.specs.Place.{node_setting_seen};
 ghost use Rattle.lard_back.specs.Awaiting.{awaits};
 ghost use Rattle.lard_back.specs.Sound.{IsNodeSound};
 ghost use Rattle.lard_base.specs.declared.limits.TheConstants.{MAX_SEGMENT_BYTES, MAX_STREAM_BYTES};
-ghost use Rattle.lard_rules.specs.Node.{here, node_acknowledged, node_content, node_forwarded, node_read, node_tagged, saying};
+ghost use Rattle.lard_rules.specs.Node.{here, node_acknowledged, node_content, node_forwarded, node_read, node_tagged, node_saying};
 ghost use Rattle.lard_rules.specs.NodePlace.{NodeSetting, node_deed, node_env, node_part};
 ghost use Rattle.lard_segment.specs.Segment.{decoded};
 
@@ -36,7 +36,7 @@ pub fn forward(
     requires stream { setting.now.stream ≤ MAX_STREAM_BYTES }
     requires few { length state.old.disk < 2 ^ 31 }
     requires short { length bytes.now ≤ MAX_SEGMENT_BYTES }
-    ensures ok { IfOk result (λ out. let k = setting_seen setting.now in (state.new, out) ≡ node_deed k state.old at.now.c (node_forwarded (node_env k state.old at.now.c at.now.epoch.0) (node_part state.old at.now.c) (decoded bytes.now at.now.c Dir.ToCluster))) }
+    ensures ok { IfOk result (λ out. let k = node_setting_seen setting.now in (state.new, out) ≡ node_deed k state.old at.now.c (node_forwarded (node_env k state.old at.now.c at.now.epoch.0) (node_part state.old at.now.c) (decoded bytes.now at.now.c Dir.ToCluster))) }
     ensures sound { OnOk result (IsNodeSound state.new) }
     ensures fits { IfOk result IsNodeOut }
 {
@@ -61,7 +61,7 @@ pub fn tagged(
     requires sound { IsNodeSound state.old }
     requires stream { setting.now.stream ≤ MAX_STREAM_BYTES }
     requires few { length state.old.disk < 2 ^ 31 }
-    ensures ok { IfOk result (λ out. let k = setting_seen setting.now in (state.new, out) ≡ node_deed k state.old at.now.c (node_tagged (node_env k state.old at.now.c at.now.epoch.0) (node_part state.old at.now.c) number nodes.now)) }
+    ensures ok { IfOk result (λ out. let k = node_setting_seen setting.now in (state.new, out) ≡ node_deed k state.old at.now.c (node_tagged (node_env k state.old at.now.c at.now.epoch.0) (node_part state.old at.now.c) number nodes.now)) }
     ensures sound { OnOk result (IsNodeSound state.new) }
     ensures fits { IfOk result IsNodeOut }
 {
@@ -84,7 +84,7 @@ fn ask_of(c: ConnId) -> PendingKey
 /// Whether a Tag with this number and these nodes is awaited.
 fn awaits(state: &NodeState, setting: &Setting<'_>, at: &At, number: u32, nodes: &[NodeId]) -> bool
     requires node { at.now.n ≡ setting.now.n }
-    ensures { result ≡ awaits (setting_seen setting.now) state.now at.now number nodes.now (here at.now.epoch.0 (node_part state.now at.now.c)) }
+    ensures { result ≡ awaits (node_setting_seen setting.now) state.now at.now number nodes.now (here at.now.epoch.0 (node_part state.now at.now.c)) }
 {
     if !is_here(state, at.c, at.epoch) {
         return false;
@@ -111,7 +111,7 @@ pub fn content(
     requires sound { IsNodeSound state.old }
     requires stream { setting.now.stream ≤ MAX_STREAM_BYTES }
     requires few { length state.old.disk < 2 ^ 31 }
-    ensures ok { IfOk result (λ out. let k = setting_seen setting.now in (state.new, out) ≡ node_deed k state.old at.now.c (node_content (node_env k state.old at.now.c at.now.epoch.0) (node_part state.old at.now.c) from r)) }
+    ensures ok { IfOk result (λ out. let k = node_setting_seen setting.now in (state.new, out) ≡ node_deed k state.old at.now.c (node_content (node_env k state.old at.now.c at.now.epoch.0) (node_part state.old at.now.c) from r)) }
     ensures sound { OnOk result (IsNodeSound state.new) }
     ensures fits { IfOk result IsNodeOut }
 {
@@ -138,7 +138,7 @@ pub fn completed(
     requires sound { IsNodeSound state.old }
     requires stream { setting.now.stream ≤ MAX_STREAM_BYTES }
     requires few { length state.old.disk < 2 ^ 31 }
-    ensures ok { IfOk result (λ out. let k = setting_seen setting.now in (state.new, out) ≡ node_deed k state.old at.now.c (node_read (node_env k state.old at.now.c at.now.epoch.0) (node_part state.old at.now.c) r)) }
+    ensures ok { IfOk result (λ out. let k = node_setting_seen setting.now in (state.new, out) ≡ node_deed k state.old at.now.c (node_read (node_env k state.old at.now.c at.now.epoch.0) (node_part state.old at.now.c) r)) }
     ensures sound { OnOk result (IsNodeSound state.new) }
     ensures fits { IfOk result IsNodeOut }
 {
@@ -170,7 +170,7 @@ pub fn acknowledged(state: &mut NodeState, alloc: Global, at: &At) -> Result<Out
 
 /// A turn in which nothing is noted, sent or queued.
 fn quiet(alloc: Global) -> NodeTurn
-    ensures { result ≡ saying [] }
+    ensures { result ≡ node_saying [] }
 {
     NodeTurn {
         notes: Recs::new(alloc),

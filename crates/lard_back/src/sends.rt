@@ -2,11 +2,11 @@
 
 ghost use Rattle.std.specs.Prelude.{◌≡◌, ◌++◌, [], ◌∷◌, ◌≤◌, length, map, IfOk, OnOk};
 ghost use Rattle.std.specs.FinMap as table;
-ghost use Rattle.lard_back.specs.Bounds.{AreMessages, AreWants, IsAsk, IsNodeOut};
-ghost use Rattle.lard_back.specs.Hand.{ask_sent, asked_in, ended_at, fetch_at, fetches_sent, wanted};
+ghost use Rattle.lard_back.specs.Bounds.{AreMessages, AreWants, IsSpelledAsk, IsNodeOut};
+ghost use Rattle.lard_back.specs.Hand.{ask_sent, asked_in, ended_message, fetch_message, fetches_sent, wanted};
 ghost use Rattle.lard_base.specs.declared.limits.TheConstants.{MAX_MESSAGE_BYTES};
 ghost use Rattle.lard_message.specs.Message.{IsCount, IsOfTable, IsPath};
-ghost use Rattle.lard_rules.specs.Node.{again_sent, count_of, message};
+ghost use Rattle.lard_rules.specs.Node.{again_sent, reset_count, message};
 ghost use Rattle.lard_rules.specs.NodePlace.{node_part};
 ghost use Rattle.lard_resend.specs.Pending.{AreFit, renewed, sent_of};
 ghost use Rattle.lard_rules.specs.Outs.{nothing_done};
@@ -81,7 +81,7 @@ pub fn ask(
     messages: &mut Sends,
 ) -> Result<(), NoMemory>
     requires fit { AreMessages messages.old }
-    requires asked { IsAsk asked }
+    requires asked { IsSpelledAsk asked }
     ensures kept { OnOk result (kept.new ≡ asked_in at.now asked kept.old) }
     ensures sends { OnOk result (messages.new ≡ messages.old ++ ask_sent at.now asked) }
     ensures fit { OnOk result (AreMessages messages.new) }
@@ -136,8 +136,8 @@ fn want_one(
 ) -> Result<(), NoMemory>
     requires fit { AreMessages messages.old }
     requires path { IsPath want.now.path }
-    ensures fetches { OnOk result (fetches.new ≡ renewed fetches.old at.now.c (fetch_at at.now want.now)) }
-    ensures sends { OnOk result (messages.new ≡ messages.old ++ sent_of (fetch_at at.now want.now) ∷ []) }
+    ensures fetches { OnOk result (fetches.new ≡ renewed fetches.old at.now.c (fetch_message at.now want.now)) }
+    ensures sends { OnOk result (messages.new ≡ messages.old ++ sent_of (fetch_message at.now want.now) ∷ []) }
     ensures fit { OnOk result (AreMessages messages.new) }
 {
     let bytes = fetches.want(alloc, at.c, at.epoch, want.r, want.node, &want.path)?;
@@ -155,9 +155,9 @@ pub fn end(
     messages: &mut Sends,
 ) -> Result<(), NoMemory>
     requires fit { AreMessages messages.old }
-    requires count { IsCount last.reason (count_of over) }
-    ensures kept { OnOk result (kept.new ≡ renewed (table.remove kept.old at.now.c) at.now.c (ended_at at.now last over)) }
-    ensures sends { OnOk result (messages.new ≡ messages.old ++ sent_of (ended_at at.now last over) ∷ []) }
+    requires count { IsCount last.reason (reset_count over) }
+    ensures kept { OnOk result (kept.new ≡ renewed (table.remove kept.old at.now.c) at.now.c (ended_message at.now last over)) }
+    ensures sends { OnOk result (messages.new ≡ messages.old ++ sent_of (ended_message at.now last over) ∷ []) }
     ensures fit { OnOk result (AreMessages messages.new) }
 {
     let body = Body::Ended {

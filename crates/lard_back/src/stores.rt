@@ -3,14 +3,14 @@
 ghost use Rattle.std.specs.Prelude.{◌≡◌, ◌+◌, ◌^◌, ◌<◌, ◌≤◌, [], ◌∷◌, ◌++◌, length, true, IfOk, OnOk};
 ghost use Rattle.std.specs.List.{list_any};
 ghost use Rattle.lard_back.specs.Bounds.{AreMessages, IsNodeOut};
-ghost use Rattle.lard_back.specs.Place.{setting_seen};
-ghost use Rattle.lard_back.specs.Stores.{read_turn, told_of};
+ghost use Rattle.lard_back.specs.Place.{node_setting_seen};
+ghost use Rattle.lard_back.specs.Stores.{read_turn, stores_told_of};
 ghost use Rattle.lard_base.specs.declared.limits.TheConstants.{MAX_FILE_BYTES, MAX_MESSAGE_BYTES};
-ghost use Rattle.lard_cache.specs.Recency.{has};
+ghost use Rattle.lard_cache.specs.Recency.{has_path};
 ghost use Rattle.lard_disk.specs.Jobs.{is_for};
 ghost use Rattle.lard_files.specs.Files.{IsContent, file_at};
-ghost use Rattle.lard_rules.specs.Node.{message, saying};
-ghost use Rattle.lard_rules.specs.NodePlace.{aside, bytes_of, content_sent, fetched, fetched_file, hits};
+ghost use Rattle.lard_rules.specs.Node.{message, node_saying};
+ghost use Rattle.lard_rules.specs.NodePlace.{aside, content_bytes, content_sent, fetched, fetched_file, hits};
 
 use crate::acting::Setting;
 use crate::hand::At;
@@ -29,7 +29,7 @@ use std::alloc::Global;
 /// but to be spent.
 pub fn tell(state: &mut NodeState, notes: &Recs, jobs: Items<Job>) -> Result<(), NoMemory>
     requires few { length state.old.disk + length jobs < 2 ^ 32 }
-    ensures { OnOk result (state.new ≡ told_of state.old notes.now jobs) }
+    ensures { OnOk result (state.new ≡ stores_told_of state.old notes.now jobs) }
 {
     tell_hits(&mut state.cache, notes.as_slice());
     queue(&mut state.disk, jobs)
@@ -79,7 +79,7 @@ pub fn fetch(
 ) -> Result<Out, NoMemory>
     requires node { at.now.n ≡ setting.now.n }
     requires few { length state.old.disk < 2 ^ 31 }
-    ensures ok { IfOk result (λ out. (state.new, out) ≡ fetched (setting_seen setting.now) state.old from at.now.c at.now.epoch.0 r path (file_at setting.now.files.now path)) }
+    ensures ok { IfOk result (λ out. (state.new, out) ≡ fetched (node_setting_seen setting.now) state.old from at.now.c at.now.epoch.0 r path (file_at setting.now.files.now path)) }
     ensures fits { IfOk result IsNodeOut }
 {
     if setting.files.get(path.as_slice()).is_none() || state.disk.holds(at.c, at.epoch, r) {
@@ -102,8 +102,8 @@ fn answer(
     path: Path,
 ) -> Result<Out, NoMemory>
     requires node { at.now.n ≡ setting.now.n }
-    requires there { has state.old.cache.entries path ≡ true }
-    ensures ok { IfOk result (λ out. (state.new, out) ≡ aside state.old (fetched_file (setting_seen setting.now) state.old from at.now.c at.now.epoch.0 r path)) }
+    requires there { has_path state.old.cache.entries path ≡ true }
+    ensures ok { IfOk result (λ out. (state.new, out) ≡ aside state.old (fetched_file (node_setting_seen setting.now) state.old from at.now.c at.now.epoch.0 r path)) }
     ensures fits { IfOk result IsNodeOut }
 {
     let mut out = lard_serving::nothing(alloc);
@@ -156,7 +156,7 @@ pub fn content(
     r: u32,
     path: &Path,
 ) -> Result<(Place, Bytes), NoMemory>
-    ensures sent { IfOk result (λ sent. sent ≡ content_sent (setting_seen setting.now) to at.now.c at.now.epoch.0 r path.now) }
+    ensures sent { IfOk result (λ sent. sent ≡ content_sent (node_setting_seen setting.now) to at.now.c at.now.epoch.0 r path.now) }
     ensures size { IfOk result (λ sent. length sent.1 ≤ MAX_MESSAGE_BYTES) }
 {
     let bytes = file_bytes(alloc, setting, path)?;
@@ -166,7 +166,7 @@ pub fn content(
 
 /// The bytes of a file; none where there is no such file.
 fn file_bytes(alloc: Global, setting: &Setting<'_>, path: &Path) -> Result<Bytes, NoMemory>
-    ensures bytes { IfOk result (λ bytes. bytes ≡ bytes_of (file_at setting.now.files.now path.now)) }
+    ensures bytes { IfOk result (λ bytes. bytes ≡ content_bytes (file_at setting.now.files.now path.now)) }
     ensures short { IfOk result IsContent }
 {
     match setting.files.get(path.as_slice()) {

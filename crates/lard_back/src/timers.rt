@@ -2,8 +2,8 @@
 
 ghost use Rattle.std.specs.Prelude.{◌≡◌, ◌++◌, IfOk, OnOk};
 ghost use Rattle.std.specs.FinMap as table;
-ghost use Rattle.lard_back.specs.Timers.{flag_changes, flags_of};
-ghost use Rattle.lard_handoff_back.specs.Back.{endpoint_of};
+ghost use Rattle.lard_back.specs.Timers.{flag_changes, timer_flags};
+ghost use Rattle.lard_handoff_back.specs.Back.{back_endpoint};
 ghost use Rattle.lard_rules.specs.Node.{holds_kind, is_unsaid};
 ghost use Rattle.lard_rules.specs.NodePlace.{node_part};
 ghost use Rattle.lard_rules.specs.Outs.{kind_change};
@@ -26,7 +26,7 @@ pub struct Flags {
 
 /// Which timers of a connection run.
 pub fn running(state: &NodeState, c: ConnId) -> Flags
-    ensures { result ≡ flags_of (node_part state.now c) }
+    ensures { result ≡ timer_flags (node_part state.now c) }
 {
     Flags {
         tcp: is_unsaid(&state.conns, c),
@@ -38,7 +38,7 @@ pub fn running(state: &NodeState, c: ConnId) -> Flags
 
 /// Whether some symbol of an endpoint that is here is not acknowledged.
 fn is_unsaid(conns: &BackTable, c: ConnId) -> bool
-    ensures { result ≡ is_unsaid (endpoint_of (table.get conns.now c)) }
+    ensures { result ≡ is_unsaid (back_endpoint (table.get conns.now c)) }
 {
     match conns.row(c) {
         None => false,

@@ -7,7 +7,7 @@ use Rattle.lard_base.specs.declared.config.Key.{Key}
 use Rattle.lard_base.specs.declared.config.Key.TheVariants.{Nodes, Low, High, Age, Idle, Over, Miss, Cache, Stream}
 use Rattle.lard_base.specs.declared.config.ConfigFault.{ConfigFault}
 use Rattle.lard_base.specs.declared.config.ConfigFault.TheVariants.{Range}
-use Rattle.lard_base.specs.Config.{IsInRange, is_in_range, range_check, value_of, checked_from, all_keys}
+use Rattle.lard_base.specs.Config.{AreKeysInRange, is_in_range, range_check, value_of, checked_from, all_keys}
 
 -- a range's test, as two bounds
 pub within : (least most value : ℕ) → IsTrue (nat_le least value && nat_le value most) → (least ≤ value) × (value ≤ most)
@@ -19,7 +19,7 @@ pub record IsRoomBound (c : Config) : Type 0 where
   pub some_low : 1 ≤ c.low
   pub few : (c.nodes - 1) * c.high + c.low ≤ 64000
 
-pub room_bound : (c : Config) → IsInRange c → IsRoomBound c
+pub room_bound : (c : Config) → AreKeysInRange c → IsRoomBound c
 room_bound c h =
     let nodes : (1 ≤ c.nodes) × (c.nodes ≤ 64) = within 1 64 c.nodes (h Nodes) in
     let low : (1 ≤ c.low) × (c.low ≤ 1000) = within 1 1000 c.low (h Low) in
@@ -62,5 +62,5 @@ each_key P h Cache = h 7 Nodes (lit< tt)
 each_key P h Stream = h 8 Nodes (lit< tt)
 
 -- once all keys have passed, every number is in its range
-pub passed_all : (c : Config) (i : ℕ) → 9 ≤ i → All (λ key. IsTrue (is_in_range key (value_of c key))) (take i all_keys) → IsInRange c
+pub passed_all : (c : Config) (i : ℕ) → 9 ≤ i → All (λ key. IsTrue (is_in_range key (value_of c key))) (take i all_keys) → AreKeysInRange c
 passed_all c i h passed = let P : Key → Type 0 = λ key. IsTrue (is_in_range key (value_of c key)) in each_key P (subst (All P) (take_all i all_keys h) passed)

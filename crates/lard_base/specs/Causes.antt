@@ -16,6 +16,6 @@ pub record HasCause {T E : Type 0} (before now : ℕ) (result : Result T E) : Ty
   pub same : OnOk result (now ≡ before)
 
 -- a count of faults after an answer
-abbrev pub counted : {T E : Type 0} → ℕ → Result T E → ℕ
-counted count (Ok _) = count
-counted count (Err _) = raised count
+abbrev pub faults_counted : {T E : Type 0} → ℕ → Result T E → ℕ
+faults_counted count (Ok _) = count
+faults_counted count (Err _) = raised count

@@ -43,8 +43,8 @@ value_of c Cache = c.cache
 value_of c Stream = c.stream
 
 -- every number is in its range
-abbrev pub IsInRange : Config → Type 0
-IsInRange c = (key : Key) → IsTrue (is_in_range key (value_of c key))
+abbrev pub AreKeysInRange : Config → Type 0
+AreKeysInRange c = (key : Key) → IsTrue (is_in_range key (value_of c key))
 
 -- a configuration with one number changed
 abbrev pub set_key : Config → Key → ℕ → Config

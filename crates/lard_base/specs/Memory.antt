@@ -26,12 +26,12 @@ abbrev pub fresh_sink : ℕ → List ℕ → SinkState
 fresh_sink room failing = record { written = []; room = room; failing = failing; calls = 0; faults = 0 }
 
 -- after so many calls the next is one that fails; calls are counted from 1, and the count stays at the greatest u64
-abbrev pub is_named : List ℕ → ℕ → Bool
-is_named failing calls = list_any (λ k. nat_eq k (raised calls)) failing
+abbrev pub is_failing : List ℕ → ℕ → Bool
+is_failing failing calls = list_any (λ k. nat_eq k (raised calls)) failing
 
 -- how many bytes a read answers: as many of the bytes left as the buffer holds; none where the call fails
 abbrev pub read_count : SourceState → ℕ → Option ℕ
-read_count s len = if is_named s.failing s.calls then None else Some (min len (length s.left))
+read_count s len = if is_failing s.failing s.calls then None else Some (min len (length s.left))
 
 -- the buffer after a read
 abbrev pub read_into : SourceState → List ℕ → Option ℕ → List ℕ
@@ -45,7 +45,7 @@ after_read s (Some n) = record s { left = drop n s.left; calls = raised s.calls 
 
 -- how many bytes a write takes: as many as the room still holds; none where the call fails, as it does at a full sink for a piece that is not empty
 abbrev pub write_count : SinkState → ℕ → Option ℕ
-write_count s len = if is_named s.failing s.calls then None else if nat_eq s.room (length s.written) && nat_lt 0 len then None else Some (min len (s.room - length s.written))
+write_count s len = if is_failing s.failing s.calls then None else if nat_eq s.room (length s.written) && nat_lt 0 len then None else Some (min len (s.room - length s.written))
 
 -- the sink after a write
 abbrev pub after_write : SinkState → List ℕ → Option ℕ → SinkState

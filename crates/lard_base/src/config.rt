@@ -96,7 +96,7 @@ impl Key {
 }
 
 impl Config {
-    ghost use Rattle.lard_base.specs.Config.{standard, value_of, IsInRange, range_check, after_set, room_of, config_check};
+    ghost use Rattle.lard_base.specs.Config.{standard, value_of, AreKeysInRange, range_check, after_set, room_of, config_check};
 
     /// The numbers of a run whose schedule sets none.
     pub fn standard() -> Config
@@ -157,7 +157,7 @@ impl Config {
     /// How many connections are admitted at a time, to 63,999: (nodes - 1) * high + low - 1. Each number is in its
     /// range.
     pub fn room(&self) -> u32
-        requires { IsInRange self.now }
+        requires { AreKeysInRange self.now }
         ensures room { result ≡ room_of self.now }
         ensures most { result ≤ 63999 }
     {
@@ -169,7 +169,7 @@ impl Config {
     /// `NoRoom`.
     pub fn check(&self) -> Result<(), ConfigFault>
         ensures answer { result ≡ config_check self.now }
-        ensures in_range { OnOk result (IsInRange self.now) }
+        ensures in_range { OnOk result (AreKeysInRange self.now) }
         ensures ordered { OnOk result (self.now.low ≤ self.now.high) }
         ensures some_room { OnOk result (0 < room_of self.now) }
     {

@@ -4,7 +4,7 @@ ghost use Rattle.std.specs.Prelude.{◌≡◌, ℕ, ◌≤◌, ◌<◌, List, []
 ghost use Rattle.std.specs.Io.{ReadsAtMost, WritesAtMost};
 ghost use Rattle.std.specs.Io.KnownBytes.{ReadConsumes, WriteAppends, Keeps};
 ghost use Rattle.lard_base.specs.Outside.{contents_of};
-ghost use Rattle.lard_base.specs.Causes.{HasCause, counted};
+ghost use Rattle.lard_base.specs.Causes.{HasCause, faults_counted};
 
 use crate::errors::{Failed, NoMemory};
 use crate::outside::{Sink, Source};
@@ -48,7 +48,7 @@ impl<R: Read> Source for StdSource<R> {
         ensures bound { ReadsAtMost result buf.new }
         ensures bytes { ReadConsumes (R.remaining self.old.reader) (R.remaining self.new.reader) result buf.new }
         ensures cause { HasCause self.old.faults self.new.faults result }
-        ensures count { self.new.faults ≡ counted self.old.faults result }
+        ensures count { self.new.faults ≡ faults_counted self.old.faults result }
     {
         match self.reader.read(buf) {
             Ok(n) => return Ok(n),
@@ -94,7 +94,7 @@ impl<W: Write + Drop> StdSink<W> {
         ensures bytes { Keeps (contents_of W.contents self.old) (contents_of W.contents self.new) }
         ensures all { OnOk result (self.new.held ≡ []) }
         ensures cause { HasCause self.old.faults self.new.faults result }
-        ensures count { self.new.faults ≡ counted self.old.faults result }
+        ensures count { self.new.faults ≡ faults_counted self.old.faults result }
     {
         match self.writer.flush() {
             Ok(()) => return Ok(()),
@@ -116,7 +116,7 @@ impl<W: Write + Drop> Sink for StdSink<W> {
         ensures some { IfOk result (λ n. 0 < length bytes.now → 0 < n) }
         ensures bytes { WriteAppends (contents_of W.contents self.old) (contents_of W.contents self.new) result bytes.now }
         ensures cause { HasCause self.old.faults self.new.faults result }
-        ensures count { self.new.faults ≡ counted self.old.faults result }
+        ensures count { self.new.faults ≡ faults_counted self.old.faults result }
     {
         match self.writer.write(bytes) {
             Ok(n) if n > 0 || bytes.is_empty() => return Ok(n),

@@ -5,7 +5,7 @@ use Rattle.std.proofs.lemmas.List.{take-append-le, take-append-drop, length-take
 use Rattle.std.proofs.lemmas.Bool.Decides.{nat_tests}
 use Rattle.lard_block.specs.declared.block.Found.{Found}
 use Rattle.lard_block.specs.declared.block.Found.TheVariants.{Block, More, TooLong}
-use Rattle.lard_block.specs.Blocks.{skipped, head_end, found, found_in, cut_of, IsWithin}
+use Rattle.lard_block.specs.Blocks.{skipped, head_end, head_found, found_in, cut_of, IsWithin}
 use Rattle.lard_block.proofs.Ends.{end-within, end-alone}
 use Rattle.lard_block.proofs.Pairs.{skipped-within, skipped-alone, behind}
 
@@ -15,21 +15,21 @@ cut_is q = refl
 
 -- ---- what an answer says
 
-pub found-block : (s l : ℕ) (o : Option ℕ) (skip len : ℕ) → found s l o ≡ Block skip len → (s ≡ skip) × (o ≡ Some len)
+pub found-block : (s l : ℕ) (o : Option ℕ) (skip len : ℕ) → head_found s l o ≡ Block skip len → (s ≡ skip) × (o ≡ Some len)
 found-block s l (Some n) skip len h = let e : s ≡ skip = cc in let f : n ≡ len = cc in (e, ap Some f)
 found-block s l None skip len h = go (nat_lt l 8192) h where
   go : (b : Bool) → cond {A = Found} b (More s) (TooLong s) ≡ Block skip len → (s ≡ skip) × (None ≡ Some len)
   go true e = cc
   go false e = cc
 
-pub found-long : (s l : ℕ) (o : Option ℕ) (skip : ℕ) → found s l o ≡ TooLong skip → (s ≡ skip) × (o ≡ None) × (8192 ≤ l)
+pub found-long : (s l : ℕ) (o : Option ℕ) (skip : ℕ) → head_found s l o ≡ TooLong skip → (s ≡ skip) × (o ≡ None) × (8192 ≤ l)
 found-long s l (Some n) skip h = cc
 found-long s l None skip h = go (nat_lt l 8192) refl h where
   go : (b : Bool) → nat_lt l 8192 ≡ b → cond {A = Found} b (More s) (TooLong s) ≡ TooLong skip → (s ≡ skip) × ◌≡◌ {A = Option ℕ} None None × (8192 ≤ l)
   go true f e = cc
   go false f e = let k : s ≡ skip = cc in (k, refl, grind (arith, nat_tests, f))
 
-pub found-more : (s l : ℕ) (o : Option ℕ) (skip : ℕ) → found s l o ≡ More skip → (s ≡ skip) × (o ≡ None) × (l < 8192)
+pub found-more : (s l : ℕ) (o : Option ℕ) (skip : ℕ) → head_found s l o ≡ More skip → (s ≡ skip) × (o ≡ None) × (l < 8192)
 found-more s l (Some n) skip h = cc
 found-more s l None skip h = go (nat_lt l 8192) refl h where
   go : (b : Bool) → nat_lt l 8192 ≡ b → cond {A = Found} b (More s) (TooLong s) ≡ More skip → (s ≡ skip) × ◌≡◌ {A = Option ℕ} None None × (l < 8192)
@@ -92,7 +92,7 @@ block-alone q skip len h z =
     let front : take 8192 (take len (drop skip q) ++ z) ≡ take len (take 8192 (drop skip q)) ++ take (8192 - len) z =
     front-of (drop skip q) len z c.short (omega (arith, c.within, d)) in
     let e : head_end (take 8192 (take len (drop skip q) ++ z)) ≡ Some len = ap head_end front ∙ end-alone (take 8192 (drop skip q)) len c.ends (take (8192 - len) z) in
-    ap cut_of split ∙ cut-put q (take len (drop skip q) ++ z) skip c.pairs long two ∙ ap (found skip (length (take len (drop skip q) ++ z))) e
+    ap cut_of split ∙ cut-put q (take len (drop skip q) ++ z) skip c.pairs long two ∙ ap (head_found skip (length (take len (drop skip q) ++ z))) e
 
 -- what is found stays, whatever follows
 pub block-stays : (q : List ℕ) (skip len : ℕ) → cut_of q ≡ Block skip len → (z : List ℕ) → cut_of (q ++ z) ≡ Block skip len
@@ -110,7 +110,7 @@ long-stays q skip h z =
     let split : q ++ z ≡ take skip q ++ (drop skip q ++ z) = ap (λ w. w ++ z) (sym (take-append-drop skip q)) ∙ append_assoc (take skip q) (drop skip q) z in
     let test : nat_lt (length (drop skip q ++ z)) 8192 ≡ false = grind (arith, nat_tests, l, n) in
     ap cut_of split ∙ cut-put q (drop skip q ++ z) skip f.0 (omega (arith, l, n)) (take-append-le 2 (drop skip q) z (omega (arith, l)))
-    ∙ ap (found skip (length (drop skip q ++ z))) (ap head_end (take-append-le 8192 (drop skip q) z l) ∙ e)
+    ∙ ap (head_found skip (length (drop skip q ++ z))) (ap head_end (take-append-le 8192 (drop skip q) z l) ∙ e)
     ∙ ap (λ b. cond {A = Found} b (More skip) (TooLong skip)) test
 
 -- bytes past the 8,192 behind the pairs change nothing
@@ -149,14 +149,14 @@ take-min n xs = go (nat_lt (length xs) n) refl where
 
 -- the answer of the code, once it knows the end
 pub cut-code : (q : List ℕ) (s m : ℕ) (o : Option ℕ) → s ≡ skipped q → m ≡ min (length (take (length q - s) (drop s q))) 8192 → o ≡ head_end (take m (take (length q - s) (drop s q)))
-    → found s (length (take (length q - s) (drop s q))) o ≡ cut_of q
+    → head_found s (length (take (length q - s) (drop s q))) o ≡ cut_of q
 cut-code q s m o a b c =
     let e : o ≡ head_end (take 8192 (drop s q)) =
     c ∙ ap (λ i. head_end (take i (take (length q - s) (drop s q)))) b ∙ ap head_end (take-min 8192 (take (length q - s) (drop s q))) ∙ ap (λ w. head_end (take 8192 w)) (behind q s) in
-    ap (λ w. found s (length w) o) (behind q s) ∙ ap (found s (length (drop s q))) e ∙ ap (λ k. found_in k (drop k q)) a ∙ sym (cut_is q)
+    ap (λ w. head_found s (length w) o) (behind q s) ∙ ap (head_found s (length (drop s q))) e ∙ ap (λ k. found_in k (drop k q)) a ∙ sym (cut_is q)
 
-pub more-awaited : (s l : ℕ) → l < 8192 → More s ≡ found s l None
+pub more-awaited : (s l : ℕ) → l < 8192 → More s ≡ head_found s l None
 more-awaited s l h = let e : nat_lt l 8192 ≡ true = grind (arith, nat_tests, h) in sym (ap (λ b. cond {A = Found} b (More s) (TooLong s)) e)
 
-pub none-in-time : (s l : ℕ) → 8192 ≤ l → TooLong s ≡ found s l None
+pub none-in-time : (s l : ℕ) → 8192 ≤ l → TooLong s ≡ head_found s l None
 none-in-time s l h = let e : nat_lt l 8192 ≡ false = grind (arith, nat_tests, h) in sym (ap (λ b. cond {A = Found} b (More s) (TooLong s)) e)

@@ -7,7 +7,7 @@ use Rattle.std.specs.Option.{option_map}
 use Rattle.lard_block.specs.declared.block.Found.{Found}
 use Rattle.lard_block.specs.declared.block.Found.TheVariants.{Block, More, TooLong}
 use Rattle.lard_block.specs.Blocks.{skipped, head_end, found_in, cut_of}
-use Rattle.lard_block.specs.Said.{BeginsWith, EndsAt, HasNoEnd, IsFirstEnd, IsFound, IsSkipped, pairs}
+use Rattle.lard_block.specs.Said.{BeginsWithPairs, EndsAt, HasNoEnd, IsFirstEnd, IsFound, IsSkipped, pairs}
 use Rattle.lard_block.proofs.Cutting.{cut_is, found-block, found-long, found-more}
 use Rattle.lard_block.proofs.Ends.{ends_here, Ending, here, there, apart, ending, end-within, head-hit, head-miss, same-front}
 use Rattle.lard_block.proofs.Pairs.{pair_here, pair-hit, pair-miss, pair-lone}
@@ -15,11 +15,11 @@ use Rattle.lard_block.proofs.Pairs.{pair_here, pair-hit, pair-miss, pair-lone}
 -- ---- the run of pairs
 
 -- no run is longer than the bytes
-none_more : (q : List ℕ) (n : ℕ) → length q < 2 → BeginsWith q n → n ≤ 0
+none_more : (q : List ℕ) (n : ℕ) → length q < 2 → BeginsWithPairs q n → n ≤ 0
 none_more q zero short b = omega arith
 none_more q (suc n) short b = let l : length q ≡ suc (suc (length (pairs n ++ b.0))) = ap length b.1 in absurd (omega (arith, l, short))
 
-no_run : (q : List ℕ) → skipped q ≡ 0 → ((n : ℕ) → BeginsWith q n → n ≤ 0) → IsSkipped q (skipped q)
+no_run : (q : List ℕ) → skipped q ≡ 0 → ((n : ℕ) → BeginsWithPairs q n → n ≤ 0) → IsSkipped q (skipped q)
 no_run q e longest = record { count = 0; size = omega (arith, e); begins = (q, refl); longest = longest }
 
 skips : (q : List ℕ) → IsSkipped q (skipped q)
@@ -31,11 +31,11 @@ skips (a ∷ b ∷ rest) = go (skips rest) (pair_here (a ∷ b ∷ rest)) refl w
       let p : a ∷ b ∷ rest ≡ (13 ∷ 10 ∷ []) ++ drop 2 (a ∷ b ∷ rest) = (starts_is Decides-eqb (a ∷ b ∷ rest) (13 ∷ 10 ∷ []) (pair_here (a ∷ b ∷ rest)) refl).0 e in
       let begins : a ∷ b ∷ rest ≡ 13 ∷ 10 ∷ (pairs s.count ++ s.begins.0) = p ∙ ap (λ w. 13 ∷ 10 ∷ w) s.begins.1 in
       record { count = suc s.count; size = omega (arith, pair-hit a b rest e, s.size); begins = (s.begins.0, begins); longest = longest } where
-        longest : (n : ℕ) → BeginsWith (a ∷ b ∷ rest) n → n ≤ suc s.count
+        longest : (n : ℕ) → BeginsWithPairs (a ∷ b ∷ rest) n → n ≤ suc s.count
         longest zero h = omega arith
         longest (suc n) h = let f : rest ≡ pairs n ++ h.0 = ap (drop 2) h.1 in omega (arith, s.longest n (h.0, f))
   go s false e = no_run (a ∷ b ∷ rest) (pair-miss (a ∷ b ∷ rest) e) longest where
-    longest : (n : ℕ) → BeginsWith (a ∷ b ∷ rest) n → n ≤ 0
+    longest : (n : ℕ) → BeginsWithPairs (a ∷ b ∷ rest) n → n ≤ 0
     longest zero h = omega arith
     longest (suc n) h = absurd (let f : false ≡ true = sym e ∙ ap pair_here h.1 in cc)
 

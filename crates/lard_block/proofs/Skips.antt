@@ -4,7 +4,7 @@ use Rattle.std.proofs.lemmas.Slice.Eq.{starts_is}
 use Rattle.std.proofs.lemmas.Bool.Decides.{Decides-eqb}
 use Rattle.lard_block.specs.declared.block.Found.{Found}
 use Rattle.lard_block.specs.declared.block.Found.TheVariants.{Block, More, TooLong}
-use Rattle.lard_block.specs.Blocks.{skipped, head_end, found, found_in, cut_of, Head, moved, blocks, Cuts}
+use Rattle.lard_block.specs.Blocks.{skipped, head_end, head_found, found_in, cut_of, Head, piece_moved, blocks, Cuts}
 use Rattle.lard_block.proofs.Pairs.{pair_here, pair-hit, pair-miss, pair-lone}
 use Rattle.lard_block.proofs.Cutting.{cut_is}
 use Rattle.lard_block.proofs.Division.{block-first, none-yet, long-last, moved-twice, cuts-nothing, cuts-join}
@@ -15,7 +15,7 @@ further (Block skip len) = Block (suc (suc skip)) len
 further (More skip) = More (suc (suc skip))
 further (TooLong skip) = TooLong (suc (suc skip))
 
-found-further : (s l : ℕ) (o : Option ℕ) → found (suc (suc s)) l o ≡ further (found s l o)
+found-further : (s l : ℕ) (o : Option ℕ) → head_found (suc (suc s)) l o ≡ further (head_found s l o)
 found-further s l (Some n) = refl
 found-further s l None = go (nat_lt l 8192) where
   go : (b : Bool) → cond {A = Found} b (More (suc (suc s))) (TooLong (suc (suc s))) ≡ further (cond {A = Found} b (More s) (TooLong s))
@@ -29,19 +29,19 @@ cut-further z = cut_is (13 ∷ 10 ∷ z)
     ∙ ap further (sym (cut_is z))
 
 -- a pair before other bytes
-blocks-further : (z : List ℕ) → blocks (13 ∷ 10 ∷ z) ≡ map (moved 2) (blocks z)
+blocks-further : (z : List ℕ) → blocks (13 ∷ 10 ∷ z) ≡ map (piece_moved 2) (blocks z)
 blocks-further z = go (cut_of z) refl where
-  go : (f : Found) → cut_of z ≡ f → blocks (13 ∷ 10 ∷ z) ≡ map (moved 2) (blocks z)
-  go (More skip) e = none-yet (13 ∷ 10 ∷ z) (suc (suc skip)) (cut-further z ∙ ap further e) ∙ sym (ap (map (moved 2)) (none-yet z skip e))
-  go (TooLong skip) e = long-last (13 ∷ 10 ∷ z) (suc (suc skip)) (cut-further z ∙ ap further e) ∙ sym (ap (map (moved 2)) (long-last z skip e))
+  go : (f : Found) → cut_of z ≡ f → blocks (13 ∷ 10 ∷ z) ≡ map (piece_moved 2) (blocks z)
+  go (More skip) e = none-yet (13 ∷ 10 ∷ z) (suc (suc skip)) (cut-further z ∙ ap further e) ∙ sym (ap (map (piece_moved 2)) (none-yet z skip e))
+  go (TooLong skip) e = long-last (13 ∷ 10 ∷ z) (suc (suc skip)) (cut-further z ∙ ap further e) ∙ sym (ap (map (piece_moved 2)) (long-last z skip e))
   go (Block skip len) e =
       let k : suc (suc skip) + len ≡ suc (suc (skip + len)) = omega arith in
       let j : suc (suc (skip + len)) ≡ 2 + (skip + len) = omega arith in
       block-first (13 ∷ 10 ∷ z) (suc (suc skip)) len (cut-further z ∙ ap further e)
-      ∙ ap (λ n. Head (take len (drop skip z)) n ∷ map (moved n) (blocks (drop n (13 ∷ 10 ∷ z)))) k
-      ∙ ap (λ n. Head (take len (drop skip z)) n ∷ map (moved n) (blocks (drop (skip + len) z))) j
+      ∙ ap (λ n. Head (take len (drop skip z)) n ∷ map (piece_moved n) (blocks (drop n (13 ∷ 10 ∷ z)))) k
+      ∙ ap (λ n. Head (take len (drop skip z)) n ∷ map (piece_moved n) (blocks (drop (skip + len) z))) j
       ∙ ap (λ w. Head (take len (drop skip z)) (2 + (skip + len)) ∷ w) (sym (moved-twice 2 (skip + len) (blocks (drop (skip + len) z))))
-      ∙ sym (ap (map (moved 2)) (block-first z skip len e))
+      ∙ sym (ap (map (piece_moved 2)) (block-first z skip len e))
 
 cuts-pair : Cuts (13 ∷ 10 ∷ []) []
 cuts-pair z = blocks-further z

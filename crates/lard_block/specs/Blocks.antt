@@ -18,12 +18,12 @@ head_end [] = None
 head_end (a ∷ rest) = if starts_with nat_eq (a ∷ rest) (13 ∷ 10 ∷ 13 ∷ 10 ∷ []) then Some 4 else option_map (λ n. n + 1) (head_end rest)
 
 -- what is found behind the skipped bytes, of which there are so many: the end of a head within 8,192 bytes; else it is too long, or more is awaited
-abbrev pub found : ℕ → ℕ → Option ℕ → Found
-found skip behind (Some len) = Block skip len
-found skip behind None = if nat_lt behind MAX_HEAD_BYTES then More skip else TooLong skip
+abbrev pub head_found : ℕ → ℕ → Option ℕ → Found
+head_found skip behind (Some len) = Block skip len
+head_found skip behind None = if nat_lt behind MAX_HEAD_BYTES then More skip else TooLong skip
 
 abbrev pub found_in : ℕ → List ℕ → Found
-found_in skip rest = found skip (length rest) (head_end (take MAX_HEAD_BYTES rest))
+found_in skip rest = head_found skip (length rest) (head_end (take MAX_HEAD_BYTES rest))
 
 -- what is found at the front of some bytes
 unfoldable pub cut_of : List ℕ → Found
@@ -41,9 +41,9 @@ pub data Piece : Type 0 where
   Long : Piece
 
 -- a piece that stands so many bytes further
-abbrev pub moved : ℕ → Piece → Piece
-moved by (Head block after) = Head block (by + after)
-moved by Long = Long
+abbrev pub piece_moved : ℕ → Piece → Piece
+piece_moved by (Head block after) = Head block (by + after)
+piece_moved by Long = Long
 
 -- the pieces that begin with what is found; `later` gives those behind a place, counted from the front
 abbrev pub pieces_from : List ℕ → (ℕ → List Piece) → Found → List Piece
@@ -54,7 +54,7 @@ pieces_from q later (TooLong skip) = Long ∷ []
 -- the first pieces of some bytes, at most so many
 unfoldable pub pieces : ℕ → List ℕ → List Piece
 pieces zero q = []
-pieces (suc n) q = pieces_from q (λ used. map (moved used) (pieces n (drop used q))) (cut_of q)
+pieces (suc n) q = pieces_from q (λ used. map (piece_moved used) (pieces n (drop used q))) (cut_of q)
 
 -- the division of some bytes: their blocks in order, up to the last or the first that is too long
 unfoldable pub blocks : List ℕ → List Piece
@@ -62,8 +62,8 @@ blocks q = pieces (length q) q
 
 -- a way to divide all bytes: what is found first, and then the bytes behind it in the same way
 abbrev pub Divides : (List ℕ → List Piece) → Type 0
-Divides division = (q : List ℕ) → division q ≡ pieces_from q (λ used. map (moved used) (division (drop used q))) (cut_of q)
+Divides division = (q : List ℕ) → division q ≡ pieces_from q (λ used. map (piece_moved used) (division (drop used q))) (cut_of q)
 
 -- x is divided into these pieces whatever follows it
 abbrev pub Cuts : List ℕ → List Piece → Type 0
-Cuts x ps = (z : List ℕ) → blocks (x ++ z) ≡ ps ++ map (moved (length x)) (blocks z)
+Cuts x ps = (z : List ℕ) → blocks (x ++ z) ≡ ps ++ map (piece_moved (length x)) (blocks z)

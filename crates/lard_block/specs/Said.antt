@@ -10,15 +10,15 @@ pairs zero = []
 pairs (suc n) = 13 ∷ 10 ∷ pairs n
 
 -- the bytes begin with so many pairs
-abbrev pub BeginsWith : List ℕ → ℕ → Type 0
-BeginsWith q n = (rest : List ℕ) × (q ≡ pairs n ++ rest)
+abbrev pub BeginsWithPairs : List ℕ → ℕ → Type 0
+BeginsWithPairs q n = (rest : List ℕ) × (q ≡ pairs n ++ rest)
 
 -- the longest run of pairs at the front has skip bytes
 pub record IsSkipped (q : List ℕ) (skip : ℕ) : Type 0 where
   pub count : ℕ
   pub size : skip ≡ 2 * count
-  pub begins : BeginsWith q count
-  pub longest : (more : ℕ) → BeginsWith q more → more ≤ count
+  pub begins : BeginsWithPairs q count
+  pub longest : (more : ℕ) → BeginsWithPairs q more → more ≤ count
 
 -- the first n bytes end by CR LF CR LF
 pub record EndsAt (x : List ℕ) (n : ℕ) : Type 0 where

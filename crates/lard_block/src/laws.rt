@@ -1,7 +1,7 @@
 //! What holds of the division of bytes into blocks, for all bytes.
 
 ghost use Rattle.std.specs.Prelude.{◌≡◌, ℕ, ◌+◌, ◌≤◌, List, [], ◌∷◌, ◌++◌, map, length, take, drop};
-ghost use Rattle.lard_block.specs.Blocks.{skipped, cut_of, Piece, Head, moved, blocks, Divides, Cuts};
+ghost use Rattle.lard_block.specs.Blocks.{skipped, cut_of, Piece, Head, piece_moved, blocks, Divides, Cuts};
 ghost use Rattle.lard_block.specs.Said.{IsFound};
 
 use crate::block::{Found, MAX_HEAD_BYTES};
@@ -37,5 +37,5 @@ pub fn what_is_taken_is_cut()
     ensures block { (q : List ℕ) (skip len : ℕ) → cut_of q ≡ Found.Block skip len
         → Cuts (take (skip + len) q) (Head (take len (drop skip q)) (skip + len) ∷ []) }
     ensures joined { (x y : List ℕ) (ps rs : List Piece) → Cuts x ps → Cuts y rs
-        → Cuts (x ++ y) (ps ++ map (moved (length x)) rs) }
+        → Cuts (x ++ y) (ps ++ map (piece_moved (length x)) rs) }
 {}

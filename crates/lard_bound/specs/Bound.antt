@@ -24,12 +24,12 @@ abbrev pub requests_of : List Rec → ℕ → ℕ
 requests_of J c = length (blocks (wrote J c))
 
 -- the bytes that it wrote, and those of all responses to them
-abbrev pub bytes_of : FilesAt → List Rec → ℕ → ℕ
-bytes_of files J c = length (wrote J c) + length (answer_bytes files (wrote J c))
+abbrev pub bytes_both_ways : FilesAt → List Rec → ℕ → ℕ
+bytes_both_ways files J c = length (wrote J c) + length (answer_bytes files (wrote J c))
 
 -- 128 for each client and one more, 64 for each request, 16 for each byte that was written or is answered
 abbrev pub settling_bound : FilesAt → List Rec → ℕ
-settling_bound files J = 128 * (length (openers J) + 1) + 64 * total_of (requests_of J) (openers J) + 16 * total_of (bytes_of files J) (openers J)
+settling_bound files J = 128 * (length (openers J) + 1) + 64 * total_of (requests_of J) (openers J) + 16 * total_of (bytes_both_ways files J) (openers J)
 
 -- the schedule put no packet on the way in a client's name, and each client wrote fewer than 16,383 bytes
 abbrev pub IsOrdinary : List Rec → Type 0
@@ -38,5 +38,5 @@ IsOrdinary J = (c : ℕ) → (is_touched J c ≡ false) × (length (wrote J c) <
 -- Nine rounds for each unit of what is left to do, nine more, and two before them are within the bound, where there are at most 14 units
 -- for each client, 7 for each request, and one for each byte.
 abbrev pub NineRoundsAUnitSuffice : Type 0
-NineRoundsAUnitSuffice = (files : FilesAt) (J : List Rec) (units : ℕ) → units ≤ total_of (bytes_of files J) (openers J) + 14 * length (openers J) + 7 * total_of (requests_of J) (openers J)
+NineRoundsAUnitSuffice = (files : FilesAt) (J : List Rec) (units : ℕ) → units ≤ total_of (bytes_both_ways files J) (openers J) + 14 * length (openers J) + 7 * total_of (requests_of J) (openers J)
     → 9 * (units + 1) + 2 ≤ settling_bound files J

@@ -9,7 +9,7 @@ use Rattle.lard_base.specs.declared.place.Reason.{Reason}
 use Rattle.lard_base.specs.declared.place.Reason.TheVariants as reason
 use Rattle.lard_base.specs.declared.place.TimerKind.TheVariants as kind
 use Rattle.lard_bound.specs.Chains.{is_current, is_plain}
-use Rattle.lard_bound.specs.Spots.{AtFront, AtNode, Awaits, Ended, Ends, InLine, Left, Nowhere, OnOffer, Post, Spot}
+use Rattle.lard_bound.specs.Spots.{AtFront, AtNode, Awaits, Ended, EndpointSymbols, InLine, Left, Nowhere, OnOffer, Post, Spot}
 use Rattle.lard_client.specs.declared.phase.Phase.{Phase}
 use Rattle.lard_client.specs.declared.phase.Phase.TheVariants as phase
 use Rattle.lard_disk.specs.declared.disk.Job.{Job}
@@ -30,8 +30,8 @@ use Rattle.lard_seq.specs.Seq.{seq_offset}
 -- ---- a client's segments
 
 -- the first of its symbols that a segment has, and the one behind its last
-abbrev pub first_of : ℕ → Said → ℕ
-first_of from s = seq_offset s.seq from
+abbrev pub first_symbol : ℕ → Said → ℕ
+first_symbol from s = seq_offset s.seq from
 
 abbrev pub behind_of : ℕ → Said → ℕ
 behind_of from s = seq_offset s.seq from + seg_len s
@@ -41,23 +41,23 @@ pub record Crosses (t : Spot) (s : Said) : Type 0 where
   pub acks : s.flags.ack ≡ true
   pub no_syn : s.flags.syn ≡ false
   pub no_rst : s.flags.rst ≡ false
-  pub from : first_of t.isn s ≤ t.una
+  pub from : first_symbol t.isn s ≤ t.una
   pub to : t.una < behind_of t.isn s
 
 -- an acknowledgement with the client's last number, of what the endpoint does not know to be taken
-pub record IsNews (t : Spot) (e : Ends) (s : Said) : Type 0 where
+pub record IsNews (t : Spot) (e : EndpointSymbols) (s : Said) : Type 0 where
   pub current : is_current t s ≡ true
   pub more : e.una < seq_offset s.ack t.iss
 
 -- At the place that has the endpoint. An acknowledgement is news at once; data is acknowledged, by an endpoint that has nothing more to
 -- say, and that comes to the client in the next round. One that was aborted resets.
-abbrev pub NearHeld : Spot → ℕ → Ends → Said → Phase → Type 0
+abbrev pub NearHeld : Spot → ℕ → EndpointSymbols → Said → Phase → Type 0
 NearHeld t d e s phase.Open = (IsNews t e s × (1 ≤ d)) ⊎ (Crosses t s × (e.una ≡ e.symbols) × (2 ≤ d))
 NearHeld t d e s phase.Aborted = (s.flags.rst ≡ true) × (s.seq ≡ e.awaited) × (1 ≤ d)
 NearHeld t d e s phase.Reset = ⊥
 
 -- one round more where the front end forwards it
-abbrev pub NearAway : Spot → ℕ → Ends → Said → Type 0
+abbrev pub NearAway : Spot → ℕ → EndpointSymbols → Said → Type 0
 NearAway t zero e s = ⊥
 NearAway t (suc d) e s = NearHeld t d e s t.phase
 
@@ -85,22 +85,22 @@ NearWord t d s (Ended last taken) = NearEnded t d taken s last.reason t.phase
 -- ---- the cluster's segments
 
 -- of the endpoint's symbols, from the first on that it does not know to be taken
-pub record IsUntold (t : Spot) (e : Ends) (s : Said) : Type 0 where
+pub record IsUntold (t : Spot) (e : EndpointSymbols) (s : Said) : Type 0 where
   pub acks : s.flags.ack ≡ true
   pub no_rst : s.flags.rst ≡ false
   pub syn : s.flags.syn ≡ (e.una == 0)  -- the SYN is the first of all symbols
-  pub from : first_of t.iss s ≡ e.una
+  pub from : first_symbol t.iss s ≡ e.una
   pub to : e.una < behind_of t.iss s
 
 -- an acknowledgement of what the client does not know to be taken, at the number that it awaits
 pub record IsAnswer (t : Spot) (at : ℕ) (s : Said) : Type 0 where
   pub plain : is_plain s ≡ true
-  pub number : first_of t.iss s ≡ at
+  pub number : first_symbol t.iss s ≡ at
   pub more : t.una < seq_offset s.ack t.isn
 
 -- To the client: what was not acknowledged is, `back` rounds away; an acknowledgement is news at once. One that was aborted answers
 -- by a reset with the number that was acknowledged.
-abbrev pub NearReply : Spot → ℕ → ℕ → Ends → Said → Phase → Type 0
+abbrev pub NearReply : Spot → ℕ → ℕ → EndpointSymbols → Said → Phase → Type 0
 NearReply t back d e s phase.Open = (IsUntold t e s × (back ≤ d)) ⊎ (IsAnswer t e.una s × (e.una ≡ e.symbols) × (1 ≤ d))
 NearReply t back d e s phase.Aborted = (s.flags.ack ≡ true) × (s.flags.rst ≡ false) × (s.ack ≡ e.awaited) × (back ≤ d)
 NearReply t back d e s phase.Reset = ⊥
@@ -108,7 +108,7 @@ NearReply t back d e s phase.Reset = ⊥
 abbrev pub NearLast : Spot → ℕ → ℕ → Said → Reason → Type 0
 NearLast t d taken s reason.Closed = IsAnswer t taken s × (1 ≤ d)
 NearLast t d taken s reason.Peer = ⊥
-NearLast t d taken s reason.Limit = (s.flags.rst ≡ true) × (first_of t.iss s ≡ taken) × (1 ≤ d)
+NearLast t d taken s reason.Limit = (s.flags.rst ≡ true) × (first_symbol t.iss s ≡ taken) × (1 ≤ d)
 
 abbrev pub NearClosing : Spot → ℕ → ℕ → Said → Reason → Phase → Type 0
 NearClosing t d taken s why phase.Open = NearLast t d taken s why

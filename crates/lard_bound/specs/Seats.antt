@@ -3,7 +3,7 @@ use Rattle.std.specs.Prelude.{ℕ, ◌==◌, Bool, true, false, if◌then◌else
 use Rattle.lard_law_view.specs.View.{Part}
 use Rattle.lard_endpoint.specs.Control.{ControlBlock}
 use Rattle.lard_endpoint.specs.declared.control.moving.Final.{Final}
-use Rattle.lard_rules.specs.Front.{FrontPart, rest_of}
+use Rattle.lard_rules.specs.Front.{FrontPart, front_rest}
 use Rattle.lard_handoff_back.specs.declared.row.BackConn.{BackConn}
 use Rattle.lard_handoff_back.specs.declared.row.BackConn.TheVariants as back
 use Rattle.lard_handoff_back.specs.declared.row.BackRow.{BackRow}
@@ -22,14 +22,14 @@ pub record Staying : Type 0 where
   pub fetches : List Kept
 
 -- Who has the endpoint. The flag is whether the front end knows that its Offer was taken.
-pub data Seat : Type 0 where
-  Unborn : Seat  -- no SYN came
-  Held : ControlBlock → ℕ → Seat  -- the front end, which queued so many responses
-  Waiting : ControlBlock → ℕ → Seat  -- the same, and the connection is in the line
-  Offered : ℕ → ℕ → ℕ → Seat  -- nobody: it is in an Offer to a node, in an epoch, after so many responses
-  Here : Bool → ℕ → ℕ → ControlBlock → Staying → Seat  -- a node has it, in an epoch
-  Gone : Bool → ℕ → ℕ → Seat  -- nobody: the node tells the front end how it ended
-  Over : Final → Seat  -- nobody: the front end has its last numbers
+pub data SeatNow : Type 0 where
+  Unborn : SeatNow  -- no SYN came
+  Held : ControlBlock → ℕ → SeatNow  -- the front end, which queued so many responses
+  Waiting : ControlBlock → ℕ → SeatNow  -- the same, and the connection is in the line
+  Offered : ℕ → ℕ → ℕ → SeatNow  -- nobody: it is in an Offer to a node, in an epoch, after so many responses
+  Here : Bool → ℕ → ℕ → ControlBlock → Staying → SeatNow  -- a node has it, in an epoch
+  Gone : Bool → ℕ → ℕ → SeatNow  -- nobody: the node tells the front end how it ended
+  Over : Final → SeatNow  -- nobody: the front end has its last numbers
 
 -- a stay of which nothing was read
 abbrev pub no_stay : Stay
@@ -43,32 +43,32 @@ abbrev pub staying_of : NodePart → Staying
 staying_of p = record { stay = stay_of p.stay; kept = p.kept; fetches = p.fetches }
 
 -- what the node has decided of the epoch in which the connection was offered to it
-abbrev pub seat_there : Bool → ℕ → ℕ → ℕ → NodePart → BackConn → Seat
+abbrev pub seat_there : Bool → ℕ → ℕ → ℕ → NodePart → BackConn → SeatNow
 seat_there told n e count p (back.Here b) = Here told n e b (staying_of p)
 seat_there told n e count p back.Out = Offered n e count
 seat_there told n e count p back.Ended = Gone told n e
 seat_there told n e count p back.Gone = Gone told n e
 
-abbrev pub seat_decided : Bool → ℕ → ℕ → ℕ → NodePart → Option BackRow → Seat
+abbrev pub seat_decided : Bool → ℕ → ℕ → ℕ → NodePart → Option BackRow → SeatNow
 seat_decided told n e count p None = Offered n e count
 seat_decided told n e count p (Some row) = if row.epoch.0 == e then seat_there told n e count p row.stage else Offered n e count
 
-abbrev pub seat_away : Bool → ℕ → ℕ → ℕ → NodePart → Seat
+abbrev pub seat_away : Bool → ℕ → ℕ → ℕ → NodePart → SeatNow
 seat_away told n e count p = seat_decided told n e count p p.row
 
-abbrev pub seat_in : FrontPart → (ℕ → NodePart) → FrontConn → Seat
-seat_in f nodes (stage.Held b) = Held b (rest_of f.rest).count
-seat_in f nodes (stage.Waiting b) = Waiting b (rest_of f.rest).count
+abbrev pub seat_in : FrontPart → (ℕ → NodePart) → FrontConn → SeatNow
+seat_in f nodes (stage.Held b) = Held b (front_rest f.rest).count
+seat_in f nodes (stage.Waiting b) = Waiting b (front_rest f.rest).count
 seat_in f nodes stage.Lent = Unborn
-seat_in f nodes (stage.Offering n e) = seat_away false n e.0 (rest_of f.rest).count (nodes n)
-seat_in f nodes (stage.Moved n e) = seat_away true n e.0 (rest_of f.rest).count (nodes n)
+seat_in f nodes (stage.Offering n e) = seat_away false n e.0 (front_rest f.rest).count (nodes n)
+seat_in f nodes (stage.Moved n e) = seat_away true n e.0 (front_rest f.rest).count (nodes n)
 seat_in f nodes (stage.Closed last) = Over last
 
-abbrev pub seat_by : FrontPart → (ℕ → NodePart) → Option FrontRow → Seat
+abbrev pub seat_by : FrontPart → (ℕ → NodePart) → Option FrontRow → SeatNow
 seat_by f nodes None = Unborn
 seat_by f nodes (Some row) = seat_in f nodes row.stage
 
-unfoldable pub seat_of : Part → Seat
+unfoldable pub seat_of : Part → SeatNow
 seat_of p = seat_by p.front p.nodes p.front.row
 
 -- a node tells the end of its stay in this epoch until that is acknowledged

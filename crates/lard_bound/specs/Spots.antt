@@ -1,8 +1,8 @@
 -- What of a connection decides how much comes of a packet: it changes only where a unit goes.
 use Rattle.std.specs.Prelude.{ℕ, Bool, List, length, Option}
 use Rattle.lard_answers.specs.Answers.{FilesAt}
-use Rattle.lard_bound.specs.Seats.{Gone, Held, Here, Offered, Over, Seat, Staying, Unborn, Waiting, seat_of, tells_end}
-use Rattle.lard_bound.specs.Units.{taken}
+use Rattle.lard_bound.specs.Seats.{Gone, Held, Here, Offered, Over, SeatNow, Staying, Unborn, Waiting, seat_of, tells_end}
+use Rattle.lard_bound.specs.Units.{symbols_taken}
 use Rattle.lard_client.specs.declared.phase.Phase.{Phase}
 use Rattle.lard_client.specs.declared.phase.Phase.TheVariants as phase
 use Rattle.lard_client.specs.Control.{ClientBlock}
@@ -16,7 +16,7 @@ use Rattle.lard_send.specs.Send.{symbols}
 
 -- Of an endpoint: how many of its symbols are acknowledged, how many it has, and, where its client was aborted, the number that it
 -- awaits.
-pub record Ends : Type 0 where
+pub record EndpointSymbols : Type 0 where
   pub una : ℕ
   pub symbols : ℕ
   pub awaited : ℕ
@@ -30,10 +30,10 @@ pub record Awaits : Type 0 where
 
 pub data Post : Type 0 where
   Nowhere : Post
-  AtFront : Ends → Post
+  AtFront : EndpointSymbols → Post
   InLine : Post
   OnOffer : ℕ → ℕ → Post
-  AtNode : Bool → ℕ → ℕ → Ends → Awaits → Post
+  AtNode : Bool → ℕ → ℕ → EndpointSymbols → Awaits → Post
   Left : Bool → ℕ → ℕ → Post
   Ended : Final → ℕ → Post  -- the last numbers, and how many symbols of the cluster the client took
 
@@ -46,25 +46,25 @@ pub record Spot : Type 0 where
   pub post : Post
   pub telling : ℕ → Option ℕ  -- in which epoch each node ended a stay whose end is not acknowledged
 
-abbrev pub awaited_in : ControlBlock → Phase → ℕ
-awaited_in b phase.Open = 0
-awaited_in b phase.Aborted = rcv_nxt b
-awaited_in b phase.Reset = 0
+abbrev pub number_awaited : ControlBlock → Phase → ℕ
+number_awaited b phase.Open = 0
+number_awaited b phase.Aborted = rcv_nxt b
+number_awaited b phase.Reset = 0
 
-abbrev pub ends_of : ClientBlock → ControlBlock → Ends
-ends_of x b = record { una = b.send.una; symbols = symbols b.send; awaited = awaited_in b x.phase }
+abbrev pub ends_of : ClientBlock → ControlBlock → EndpointSymbols
+ends_of x b = record { una = b.send.una; symbols = symbols b.send; awaited = number_awaited b x.phase }
 
 abbrev pub awaits_of : FilesAt → Staying → Awaits
 awaits_of files s = record { asks = s.stay.asks; named = length (named_paths files s.stay.batch); kept = s.kept; fetches = s.fetches }
 
-abbrev pub post_of : FilesAt → ClientBlock → Seat → Post
+abbrev pub post_of : FilesAt → ClientBlock → SeatNow → Post
 post_of files x Unborn = Nowhere
 post_of files x (Held b count) = AtFront (ends_of x b)
 post_of files x (Waiting b count) = InLine
 post_of files x (Offered n e count) = OnOffer n e
 post_of files x (Here told n e b s) = AtNode told n e (ends_of x b) (awaits_of files s)
 post_of files x (Gone told n e) = Left told n e
-post_of files x (Over last) = Ended last (taken x)
+post_of files x (Over last) = Ended last (symbols_taken x)
 
 unfoldable pub spot_of : FilesAt → Part → Station → Spot
 spot_of files p s = record {

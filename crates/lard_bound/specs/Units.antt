@@ -13,7 +13,7 @@ use Rattle.lard_rules.specs.declared.stay.Progress.{Progress}
 use Rattle.lard_rules.specs.declared.stay.Progress.TheVariants.{Named, Reading, Awaited, Ready}
 use Rattle.lard_rules.specs.Node.{NodePart}
 use Rattle.lard_rules.specs.declared.places.Station.{Station}
-use Rattle.lard_bound.specs.Seats.{Gone, Held, Here, Offered, Over, Seat, Staying, Unborn, Waiting, seat_of, tells_end}
+use Rattle.lard_bound.specs.Seats.{Gone, Held, Here, Offered, Over, SeatNow, Staying, Unborn, Waiting, seat_of, tells_end}
 
 -- ---- all that there is to do
 
@@ -43,8 +43,8 @@ abbrev pub client_left : Whole → ClientBlock → ℕ
 client_left k x = spoken_left k x x.phase
 
 -- how many symbols of the cluster's a client took: the SYN, the bytes, the FIN
-abbrev pub taken : ClientBlock → ℕ
-taken x = if x.send.una == 0 then 0 else 1 + x.accepted + (if x.eof then 1 else 0)
+abbrev pub symbols_taken : ClientBlock → ℕ
+symbols_taken x = if x.send.una == 0 then 0 else 1 + x.accepted + (if x.eof then 1 else 0)
 
 -- ---- the cluster's direction
 
@@ -58,7 +58,7 @@ is_stale x b = one_if_not (b.send.wnd == x.wnd)
 
 -- where nobody has the endpoint, as far as the client did not take them
 abbrev pub untaken : Whole → ClientBlock → ℕ
-untaken k x = (k.answers + 2) - taken x
+untaken k x = (k.answers + 2) - symbols_taken x
 
 -- once the connection ended, as long as the client was not reset
 abbrev pub ended_left : Whole → ClientBlock → Phase → ℕ
@@ -66,7 +66,7 @@ ended_left k x Open = untaken k x
 ended_left k x Aborted = untaken k x
 ended_left k x Reset = 0
 
-abbrev pub heard_left : Whole → ClientBlock → Seat → ℕ
+abbrev pub heard_left : Whole → ClientBlock → SeatNow → ℕ
 heard_left k x Unborn = untaken k x + 1
 heard_left k x (Held b count) = block_left k x b
 heard_left k x (Waiting b count) = block_left k x b
@@ -82,7 +82,7 @@ abbrev pub hand_off : ℕ → ℕ
 hand_off zero = 0
 hand_off (suc n) = 7
 
-abbrev pub seat_left : Whole → ClientBlock → Seat → ℕ
+abbrev pub seat_left : Whole → ClientBlock → SeatNow → ℕ
 seat_left k x Unborn = 3 + hand_off k.requests
 seat_left k x (Held b count) = 1 + hand_off k.requests + is_stale x b
 seat_left k x (Waiting b count) = 7
@@ -113,7 +113,7 @@ batch_left (e ∷ es) = progress_left e.progress + batch_left es
 abbrev pub stay_left : Whole → Staying → ℕ
 stay_left k s = 4 * (k.requests - (s.stay.served + length s.stay.batch)) + batch_left s.stay.batch + length s.kept + length s.fetches
 
-abbrev pub requests_left : Whole → Seat → ℕ
+abbrev pub requests_left : Whole → SeatNow → ℕ
 requests_left k Unborn = 4 * k.requests
 requests_left k (Held b count) = 4 * (k.requests - count)
 requests_left k (Waiting b count) = 4 * (k.requests - count)
@@ -129,17 +129,17 @@ left_with k nodes p s =
     client_left k s.client + heard_left k s.client (seat_of p) + (seat_left k s.client (seat_of p) + tellers p.nodes nodes) + requests_left k (seat_of p)
 
 -- nothing is to be done on a connection whose client did not open
-abbrev pub left_at : Whole → ℕ → Part → Option Station → ℕ
-left_at k nodes p None = 0
-left_at k nodes p (Some s) = left_with k nodes p s
+abbrev pub left_to_client : Whole → ℕ → Part → Option Station → ℕ
+left_to_client k nodes p None = 0
+left_to_client k nodes p (Some s) = left_with k nodes p s
 
 unfoldable pub units : Whole → ℕ → Conn → ℕ
-units k nodes x = left_at k nodes x.part x.part.station
+units k nodes x = left_to_client k nodes x.part x.part.station
 
 -- the units of the first so many connections, of which clients wrote this
 unfoldable pub units_to : (ℕ → Whole) → Machine → ℕ → ℕ
 units_to all m zero = 0
 units_to all m (suc q) = units (all (suc q)) m.config.nodes (conn m (suc q)) + units_to all m q
 
-abbrev pub units_of : (ℕ → Whole) → Machine → ℕ
-units_of all m = units_to all m MAX
+abbrev pub machine_units : (ℕ → Whole) → Machine → ℕ
+machine_units all m = units_to all m MAX

@@ -5,8 +5,8 @@ use Rattle.std.proofs.lemmas.Slice.Eq.{bytes_eq-Decides}
 use Rattle.std.specs.Map.{remove_entry}
 use Rattle.std.specs.Str.{bytes_eq}
 use Rattle.lard_cache.specs.declared.cache.TheConstants.{MAX_CACHED_PATHS}
-use Rattle.lard_cache.specs.Recency.{Recency, is_over, size_at, has, total, in_front, brought, after_hit, front_within, after_put}
-use Rattle.lard_cache.specs.Laws.{IsWithin, IsLongestFront, EvictsFromTheEnd, KeepsWhatIsPut, IsBounded, StaysWithinItsBounds}
+use Rattle.lard_cache.specs.Recency.{Recency, is_over, size_at, has_path, total, in_front, brought_forward, after_hit, front_within, after_put}
+use Rattle.lard_cache.specs.Laws.{IsWithinCapacity, IsLongestFront, EvictsFromTheEnd, KeepsWhatIsPut, IsBounded, StaysWithinItsBounds}
 use Rattle.lard_cache.proofs.Entries.{total-remove, length-remove}
 
 abbrev Pairs : Type 0
@@ -26,14 +26,14 @@ first-stays : (paths bytes size : ℕ) → 1 ≤ paths → size ≤ bytes → fi
 first-stays paths bytes size p b = ap (λ (t : Bool). t && nat_le size bytes) (lt-ltb 0 paths p) ∙ le-leb size bytes b
 
 -- all stay where they are within the bounds
-pub all-stay : (paths bytes : ℕ) (es : Pairs) → IsWithin paths bytes es → front_within paths bytes es ≡ es
+pub all-stay : (paths bytes : ℕ) (es : Pairs) → IsWithinCapacity paths bytes es → front_within paths bytes es ≡ es
 all-stay paths bytes [] h = refl
 all-stay paths bytes (e ∷ es) h =
     cond-true (first_stays paths bytes e.1) _ _ (first-stays paths bytes e.1 (omega (arith, h.0)) (omega (arith, h.1)))
     ∙ ap (λ (xs : Pairs). e ∷ xs) (all-stay (paths - 1) (bytes - e.1) es (omega (arith, h.0), omega (arith, h.1)))
 
 -- where they are not, the last does not
-pub last-drops : (paths bytes : ℕ) (es : Pairs) (m : ℕ) → length es ≡ suc m → (IsWithin paths bytes es → ⊥) → front_within paths bytes (take m es) ≡ front_within paths bytes es
+pub last-drops : (paths bytes : ℕ) (es : Pairs) (m : ℕ) → length es ≡ suc m → (IsWithinCapacity paths bytes es → ⊥) → front_within paths bytes (take m es) ≡ front_within paths bytes es
 last-drops paths bytes [] m n h = absurd (omega (arith, n))
 last-drops paths bytes (e ∷ es) zero n h = go (first_stays paths bytes e.1) refl where
   go : (b : Bool) → first_stays paths bytes e.1 ≡ b → [] ≡ cond b (e ∷ front_within (paths - 1) (bytes - e.1) es) []
@@ -45,13 +45,13 @@ last-drops paths bytes (e ∷ es) zero n h = go (first_stays paths bytes e.1) re
         none [] z b = omega (arith, b)
         none (x ∷ xs) z b = absurd (omega (arith, z))
 last-drops paths bytes (e ∷ es) (suc m) n h = go (last-drops (paths - 1) (bytes - e.1) es m (omega (arith, n))) (first_stays paths bytes e.1) refl where
-  go : ((IsWithin (paths - 1) (bytes - e.1) es → ⊥) → front_within (paths - 1) (bytes - e.1) (take m es) ≡ front_within (paths - 1) (bytes - e.1) es)
+  go : ((IsWithinCapacity (paths - 1) (bytes - e.1) es → ⊥) → front_within (paths - 1) (bytes - e.1) (take m es) ≡ front_within (paths - 1) (bytes - e.1) es)
       → (b : Bool) → first_stays paths bytes e.1 ≡ b
       → cond b (e ∷ front_within (paths - 1) (bytes - e.1) (take m es)) [] ≡ cond b (e ∷ front_within (paths - 1) (bytes - e.1) es) []
   go more false is = refl
   go more true is =
       let w : (1 ≤ paths) × (e.1 ≤ bytes) = first-within paths bytes e.1 is in
-      ap (λ (xs : Pairs). e ∷ xs) (more (λ (i : IsWithin (paths - 1) (bytes - e.1) es). h (omega (arith, i.0, w.0), omega (arith, i.1, w.1))))
+      ap (λ (xs : Pairs). e ∷ xs) (more (λ (i : IsWithinCapacity (paths - 1) (bytes - e.1) es). h (omega (arith, i.0, w.0), omega (arith, i.1, w.1))))
 
 -- what stays is the longest front within the bounds
 pub longest : EvictsFromTheEnd
@@ -68,23 +68,23 @@ longest paths bytes (e ∷ es) = go (longest (paths - 1) (bytes - e.1) es) (firs
         longest = reach more;
       } where
         reach : IsLongestFront (paths - 1) (bytes - e.1) es (front_within (paths - 1) (bytes - e.1) es)
-            → (m : ℕ) → m ≤ length (e ∷ es) → IsWithin paths bytes (take m (e ∷ es)) → m ≤ suc (length (front_within (paths - 1) (bytes - e.1) es))
+            → (m : ℕ) → m ≤ length (e ∷ es) → IsWithinCapacity paths bytes (take m (e ∷ es)) → m ≤ suc (length (front_within (paths - 1) (bytes - e.1) es))
         reach more zero le w = omega arith
         reach more (suc m) le w = let r : m ≤ length (front_within (paths - 1) (bytes - e.1) es) = more.longest m (omega (arith, le)) (omega (arith, w.0), omega (arith, w.1)) in omega (arith, r)
   go more false is = record { front = refl; within = (omega arith, omega arith); longest = stop } where
-    stop : (m : ℕ) → m ≤ length (e ∷ es) → IsWithin paths bytes (take m (e ∷ es)) → m ≤ 0
+    stop : (m : ℕ) → m ≤ length (e ∷ es) → IsWithinCapacity paths bytes (take m (e ∷ es)) → m ≤ 0
     stop zero le w = omega arith
     stop (suc m) le w = cc (first-stays paths bytes e.1 (omega (arith, w.0)) (omega (arith, w.1)), is)
 
 -- a path in front is found
-front-found : (paths bytes : ℕ) (path : List ℕ) (size : ℕ) (es : Pairs) → 1 ≤ paths → size ≤ bytes → has (front_within paths bytes ((path, size) ∷ es)) path ≡ true
+front-found : (paths bytes : ℕ) (path : List ℕ) (size : ℕ) (es : Pairs) → 1 ≤ paths → size ≤ bytes → has_path (front_within paths bytes ((path, size) ∷ es)) path ≡ true
 front-found paths bytes path size es p b =
-    ap (λ (xs : Pairs). has xs path) (cond-true (first_stays paths bytes size) _ _ (first-stays paths bytes size p b))
+    ap (λ (xs : Pairs). has_path xs path) (cond-true (first_stays paths bytes size) _ _ (first-stays paths bytes size p b))
     ∙ ap (λ (t : Bool). is_some (cond {A = Option ℕ} t (Some size) (size_at (front_within (paths - 1) (bytes - size) es) path))) ((bytes_eq-Decides path path).1 refl)
 
 pub put-found : KeepsWhatIsPut
 put-found c path size le =
-    ap (λ (x : Recency). has x.entries path) (cond-false (nat_lt c.limit size) _ _ (le-ltb c.limit size le))
+    ap (λ (x : Recency). has_path x.entries path) (cond-false (nat_lt c.limit size) _ _ (le-ltb c.limit size le))
     ∙ front-found MAX_CACHED_PATHS c.limit path size _ (omega arith) le
 
 -- a hit moves a path, and no more
@@ -94,7 +94,7 @@ pub record IsMoved (old new : Pairs) : Type 0 where
 
 pub hit-moves : (es : Pairs) (path : List ℕ) → IsMoved es (after_hit es path)
 hit-moves es path = go (size_at es path) refl where
-  go : (o : Option ℕ) → size_at es path ≡ o → IsMoved es (brought es path o)
+  go : (o : Option ℕ) → size_at es path ≡ o → IsMoved es (brought_forward es path o)
   go None h = record { total_stays = refl; count_stays = refl }
   go (Some size) h =
       let t : unwrap_or (size_at es path) 0 + total (remove_entry (bytes_eq path) es) ≡ total es = total-remove es path in

@@ -15,15 +15,15 @@ abbrev pub recency_code : Coded Recency
 recency_code = code_by (List (List ℕ × ℕ) × ℕ) (coded× (coded_list (coded× (coded_list coded_ℕ) coded_ℕ)) coded_ℕ) (λ c. (c.entries, c.limit)) (λ p. record { entries = p.0; limit = p.1 }) (λ _. refl)
 
 -- the pairs that the entries of a map of vectors are seen as
-abbrev pub shown : List (Vec ℕ Global × ℕ) → List (List ℕ × ℕ)
-shown entries = map (λ e. (e.0.items, e.1)) entries
+abbrev pub entries_shown : List (Vec ℕ Global × ℕ) → List (List ℕ × ℕ)
+entries_shown entries = map (λ e. (e.0.items, e.1)) entries
 
 -- how many bytes the file of a path has, where the path is there
 abbrev pub size_at : List (List ℕ × ℕ) → List ℕ → Option ℕ
 size_at entries path = lookup (bytes_eq path) entries
 
-abbrev pub has : List (List ℕ × ℕ) → List ℕ → Bool
-has entries path = is_some (size_at entries path)
+abbrev pub has_path : List (List ℕ × ℕ) → List ℕ → Bool
+has_path entries path = is_some (size_at entries path)
 
 -- the bytes of all files
 abbrev pub total : List (List ℕ × ℕ) → ℕ
@@ -39,12 +39,12 @@ abbrev pub in_front : List (List ℕ × ℕ) → List ℕ → ℕ → List (List
 in_front entries path size = (path, size) ∷ remove_entry (bytes_eq path) entries
 
 -- a path that is there goes to the front
-abbrev pub brought : List (List ℕ × ℕ) → List ℕ → Option ℕ → List (List ℕ × ℕ)
-brought entries path None = entries
-brought entries path (Some size) = in_front entries path size
+abbrev pub brought_forward : List (List ℕ × ℕ) → List ℕ → Option ℕ → List (List ℕ × ℕ)
+brought_forward entries path None = entries
+brought_forward entries path (Some size) = in_front entries path size
 
 abbrev pub after_hit : List (List ℕ × ℕ) → List ℕ → List (List ℕ × ℕ)
-after_hit entries path = brought entries path (size_at entries path)
+after_hit entries path = brought_forward entries path (size_at entries path)
 
 -- the longest front with at most so many paths whose files have at most so many bytes
 abbrev pub front_within : ℕ → ℕ → List (List ℕ × ℕ) → List (List ℕ × ℕ)

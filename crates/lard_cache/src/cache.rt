@@ -1,7 +1,7 @@
 //! The recency list.
 
 ghost use Rattle.std.specs.Prelude.{◌≡◌, ◌-◌, ◌<◌, ◌≤◌, ◌^◌, [], length, IfOk, OnOk, OnErr};
-ghost use Rattle.lard_cache.specs.Recency.{Recency, shown, has, is_over, total, after_hit, after_put, front_within, in_front};
+ghost use Rattle.lard_cache.specs.Recency.{Recency, entries_shown, has_path, is_over, total, after_hit, after_put, front_within, in_front};
 
 use lard_base::{NoMemory, Path};
 use lru::LruCache;
@@ -23,15 +23,15 @@ pub struct Cache {
 impl Model for Cache {
     ghost use Rattle.std.specs.Prelude.{◌≡◌, ◌-◌, ◌≤◌, ◌^◌, length};
     ghost use Rattle.lard_cache.specs.declared.cache.TheConstants.{MAX_CACHED_PATHS};
-    ghost use Rattle.lard_cache.specs.Recency.{Recency, recency_code, shown, total};
+    ghost use Rattle.lard_cache.specs.Recency.{Recency, recency_code, entries_shown, total};
 
     ghost Value = { Recency };
 
     ghost coded = { recency_code };
 
-    ghost view = { λ c. record { entries = shown c.paths.entries; limit = c.limit } };
+    ghost view = { λ c. record { entries = entries_shown c.paths.entries; limit = c.limit } };
 
-    ghost invariant = { λ c. (c.paths.cap ≡ 2 ^ 64 - 1) × (c.bytes ≡ total (shown c.paths.entries)) × (c.bytes ≤ c.limit) × (length c.paths.entries ≤ MAX_CACHED_PATHS) };
+    ghost invariant = { λ c. (c.paths.cap ≡ 2 ^ 64 - 1) × (c.bytes ≡ total (entries_shown c.paths.entries)) × (c.bytes ≤ c.limit) × (length c.paths.entries ≤ MAX_CACHED_PATHS) };
 }
 
 impl Cache {
@@ -48,14 +48,14 @@ impl Cache {
 
     /// Whether the path is there. It is used no more lately for that.
     pub fn has(&self, path: &[u8]) -> bool
-        ensures { result ≡ has self.now.entries path.now }
+        ensures { result ≡ has_path self.now.entries path.now }
     {
         self.paths.contains(path)
     }
 
     /// Brings a path that is there to the front, and answers whether it was. Any other path changes nothing.
     pub fn hit(&mut self, path: &[u8]) -> bool
-        ensures value { result ≡ has self.old.entries path.now }
+        ensures value { result ≡ has_path self.old.entries path.now }
         ensures after { self.new ≡ record self.old { entries = after_hit self.old.entries path.now } }
     {
         self.paths.promote(path)
@@ -87,11 +87,11 @@ fn put_in_front(
 ) -> Result<u64, NoMemory>
     requires never_full { paths.old.cap ≡ 2 ^ 64 - 1 }
     requires count { length paths.old.entries ≤ MAX_CACHED_PATHS }
-    requires bytes { bytes ≡ total (shown paths.old.entries) }
+    requires bytes { bytes ≡ total (entries_shown paths.old.entries) }
     requires few { bytes < 2 ^ 32 }
-    ensures entries { OnOk result (shown paths.new.entries ≡ in_front (shown paths.old.entries) path.now size) }
+    ensures entries { OnOk result (entries_shown paths.new.entries ≡ in_front (entries_shown paths.old.entries) path.now size) }
     ensures capacity { OnOk result (paths.new.cap ≡ paths.old.cap) }
-    ensures bytes { IfOk result (λ bytes. bytes ≡ total (shown paths.new.entries)) }
+    ensures bytes { IfOk result (λ bytes. bytes ≡ total (entries_shown paths.new.entries)) }
     ensures err { OnErr result (paths.new ≡ paths.old) }
 {
     let alloc = *paths.allocator();
@@ -102,10 +102,10 @@ fn put_in_front(
 
 /// Drops paths from the end until both bounds hold, and answers how many bytes the files of the others have.
 fn evict(paths: &mut LruCache<Vec<u8>, u32>, mut bytes: u64, limit: u32) -> u64
-    requires { bytes ≡ total (shown paths.old.entries) }
-    ensures entries { shown paths.new.entries ≡ front_within MAX_CACHED_PATHS limit (shown paths.old.entries) }
+    requires { bytes ≡ total (entries_shown paths.old.entries) }
+    ensures entries { entries_shown paths.new.entries ≡ front_within MAX_CACHED_PATHS limit (entries_shown paths.old.entries) }
     ensures capacity { paths.new.cap ≡ paths.old.cap }
-    ensures bytes { result ≡ total (shown paths.new.entries) }
+    ensures bytes { result ≡ total (entries_shown paths.new.entries) }
 {
     while is_over(paths.len(), bytes, limit) {
         let Some((_, size)) = paths.pop_lru() else {

@@ -4,8 +4,8 @@ use Rattle.std.specs.Prelude.{if◌then◌else◌}
 use Rattle.std.proofs.lemmas.Bool.{cases_lt, not-true}
 use Rattle.std.proofs.lemmas.List.{drop-take, drop-drop, length-take, take-take}
 use Rattle.lard_client.specs.declared.heard.Heard.{Heard}
-use Rattle.lard_client.specs.Control.{ClientBlock, is_open, is_established, rcv_nxt, rcv_wnd}
-use Rattle.lard_client.specs.Arriving.{arrived, begins_after, known, room}
+use Rattle.lard_client.specs.Control.{ClientBlock, is_client_open, is_established, client_rcv_nxt, client_rcv_wnd}
+use Rattle.lard_client.specs.Arriving.{client_arrived, client_begins_after, known, client_room}
 use Rattle.lard_arrival.specs.Arrival.{IsPartAt, is_acceptable}
 use Rattle.lard_client.specs.Laws.{counts, IsInOrder, IsTrueSegment, IsNextOf}
 use Rattle.lard_client.proofs.Accepted.{arrived-order}
@@ -61,13 +61,13 @@ module _ (x : ClientBlock) (s : Said) (all : List ℕ) (k : ℕ) (h : Heard) (y 
       let final = t.final (o.ended e) in
       omega arith
 
-pub true-accepted : (x : ClientBlock) (s : Said) (all : List ℕ) (k : ℕ) → x.accepted ≤ length all → IsTrueSegment x all k s → IsNextOf x s (arrived x s).0 all
+pub true-accepted : (x : ClientBlock) (s : Said) (all : List ℕ) (k : ℕ) → x.accepted ≤ length all → IsTrueSegment x all k s → IsNextOf x s (client_arrived x s).0 all
 true-accepted x s all k a t =
     let number : s.seq < 2 ^ 32 = let e = t.number in omega arith in
     let order = arrived-order x s number in
     record {
-      part = taken_part x s all k (arrived x s).0 (arrived x s).1 a t order;
-      final = taken_all x s all k (arrived x s).0 (arrived x s).1 a t order;
+      part = taken_part x s all k (client_arrived x s).0 (client_arrived x s).1 a t order;
+      final = taken_all x s all k (client_arrived x s).0 (client_arrived x s).1 a t order;
     }
 
 -- ---- all of them
@@ -89,15 +89,15 @@ last_test true true true true true true true true i t = t
 counts-open : (x : ClientBlock) (s : Said) → counts x s ≡ true → x.eof ≡ false
 counts-open x s c =
     not-true x.eof
-    (last_test (is_open x) (is_established x) (is_acceptable (rcv_nxt x) (rcv_wnd x) s) (not s.flags.rst) (not s.flags.syn) s.flags.ack
-    (not (nat_lt x.send.nxt (seq_offset s.ack x.send.iss))) (not (begins_after x s)) (not x.eof) c)
+    (last_test (is_client_open x) (is_established x) (is_acceptable (client_rcv_nxt x) (client_rcv_wnd x) s) (not s.flags.rst) (not s.flags.syn) s.flags.ack
+    (not (nat_lt x.send.nxt (seq_offset s.ack x.send.iss))) (not (client_begins_after x s)) (not x.eof) c)
 
 pub true-len : (x : ClientBlock) (s : Said) (all : List ℕ) (k : ℕ) → x.accepted ≤ length all → IsTrueSegment x all k s
-    → counts x s ≡ true → k ≤ x.accepted → (arrived x s).0.len ≡ min (k + length s.payload - x.accepted) (room x)
+    → counts x s ≡ true → k ≤ x.accepted → (client_arrived x s).0.len ≡ min (k + length s.payload - x.accepted) (client_room x)
 true-len x s all k a t c le =
     let most = t.most in
     let offset : known x s ≡ x.accepted - k =
-    ap (seq_offset (rcv_nxt x)) t.number ∙ later x.send.irs x.accepted k (one_if x.eof) t.first le (omega arith) (ap one_if (counts-open x s c)) in
-    let len : (arrived x s).0.len ≡ min (length s.payload - known x s) (room x) =
-    (arrived-awaited x s).len ∙ ap (λ b. if b then min (length s.payload - known x s) (room x) else 0) c in
-    len ∙ ap (λ n. min n (room x)) (omega (arith, offset))
+    ap (seq_offset (client_rcv_nxt x)) t.number ∙ later x.send.irs x.accepted k (one_if x.eof) t.first le (omega arith) (ap one_if (counts-open x s c)) in
+    let len : (client_arrived x s).0.len ≡ min (length s.payload - known x s) (client_room x) =
+    (arrived-awaited x s).len ∙ ap (λ b. if b then min (length s.payload - known x s) (client_room x) else 0) c in
+    len ∙ ap (λ n. min n (client_room x)) (omega (arith, offset))

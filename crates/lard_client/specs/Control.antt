@@ -5,7 +5,7 @@ use Rattle.lard_arrival.specs.declared.rules.TheConstants.{DEFAULT_MSS}
 use Rattle.lard_base.specs.declared.limits.TheConstants.{MAX_SEGMENT_DATA, MAX_STREAM_BYTES}
 use Rattle.lard_client.specs.declared.phase.Phase.{Phase}
 use Rattle.lard_client.specs.declared.phase.Phase.TheVariants.{Open, Aborted, Reset}
-use Rattle.lard_send.specs.Send.{Sending, begun, queued_too, closed, is_clear}
+use Rattle.lard_send.specs.Send.{Sending, send_begun, queued_too, send_closed, is_clear}
 use Rattle.lard_seq.specs.Seq.{one_if, seq_add}
 
 pub record ClientBlock : Type 0 where
@@ -34,8 +34,8 @@ is_open_in Aborted = false
 is_open_in Reset = false
 
 -- It was neither aborted nor reset.
-abbrev pub is_open : ClientBlock → Bool
-is_open x = is_open_in x.phase
+abbrev pub is_client_open : ClientBlock → Bool
+is_client_open x = is_open_in x.phase
 
 abbrev pub is_aborted_in : Phase → Bool
 is_aborted_in Open = false
@@ -51,22 +51,22 @@ abbrev pub is_established : ClientBlock → Bool
 is_established x = not (x.send.una == 0)
 
 -- RCV.NXT: the SYN, the accepted bytes and the FIN have a number each (RFC 9293, 3.4).
-abbrev pub rcv_nxt : ClientBlock → ℕ
-rcv_nxt x = seq_add x.send.irs (1 + x.accepted + one_if x.eof)
+abbrev pub client_rcv_nxt : ClientBlock → ℕ
+client_rcv_nxt x = seq_add x.send.irs (1 + x.accepted + one_if x.eof)
 
 -- RCV.WND: its window less the bytes that it holds (RFC 9293, 3.8.6).
-abbrev pub rcv_wnd : ClientBlock → ℕ
-rcv_wnd x = x.wnd - x.held
+abbrev pub client_rcv_wnd : ClientBlock → ℕ
+client_rcv_wnd x = x.wnd - x.held
 
 -- SND.NXT
-abbrev pub snd_nxt : ClientBlock → ℕ
-snd_nxt x = seq_add x.send.iss x.send.nxt
+abbrev pub client_snd_nxt : ClientBlock → ℕ
+client_snd_nxt x = seq_add x.send.iss x.send.nxt
 
 -- A client whose SYN is to be sent with its window (RFC 9293, 3.10.1). Of the cluster nothing is known yet.
-abbrev pub opened : ℕ → ℕ → ℕ → ℕ → ClientBlock
-opened c isn wnd mss = record {
+abbrev pub client_opened : ℕ → ℕ → ℕ → ℕ → ClientBlock
+client_opened c isn wnd mss = record {
   c = c;
-  send = begun isn 0 0 DEFAULT_MSS;
+  send = send_begun isn 0 0 DEFAULT_MSS;
   accepted = 0;
   eof = false;
   wnd = wnd;
@@ -80,11 +80,11 @@ opened c isn wnd mss = record {
 
 -- It still writes: it was not shut, aborted or reset, and took no FIN, which shuts it.
 abbrev pub is_writing : ClientBlock → Bool
-is_writing x = is_open x && not x.send.finished
+is_writing x = is_client_open x && not x.send.finished
 
 -- Bytes are to follow those that it wrote (RFC 9293, 3.10.2).
-abbrev pub written : ClientBlock → List ℕ → ClientBlock
-written x bytes = if is_writing x then record x { send = queued_too x.send bytes } else x
+abbrev pub client_written : ClientBlock → List ℕ → ClientBlock
+client_written x bytes = if is_writing x then record x { send = queued_too x.send bytes } else x
 
 -- Its bytes in all, once it wrote these.
 abbrev pub written_len : ClientBlock → List ℕ → ℕ
@@ -92,24 +92,24 @@ written_len x bytes = x.send.total + (if is_writing x then length bytes else 0)
 
 -- Its FIN is to follow what it wrote (RFC 9293, 3.10.4).
 abbrev pub shut_down : ClientBlock → ClientBlock
-shut_down x = if is_open x then record x { send = closed x.send } else x
+shut_down x = if is_client_open x then record x { send = send_closed x.send } else x
 
 -- From now on accepted bytes stay in its window.
 abbrev pub held_on : ClientBlock → ClientBlock
-held_on x = if is_open x then record x { holding = true } else x
+held_on x = if is_client_open x then record x { holding = true } else x
 
 -- It reads all that lies in its window, and holds no longer (RFC 9293, 3.10.3). The cluster is told.
-abbrev pub taken : ClientBlock → ClientBlock
-taken x = if is_open x then record x { holding = false; held = 0; owed = x.owed || is_established x } else x
+abbrev pub client_taken : ClientBlock → ClientBlock
+client_taken x = if is_client_open x then record x { holding = false; held = 0; owed = x.owed || is_established x } else x
 
 -- It resets its connection (RFC 9293, 3.10.5).
 abbrev pub aborted : ClientBlock → ClientBlock
-aborted x = if is_open x then record x { phase = Aborted } else x
+aborted x = if is_client_open x then record x { phase = Aborted } else x
 
 -- A client that was aborted or reset holds no longer.
 abbrev pub is_holding : ClientBlock → Bool
-is_holding x = is_open x && x.holding
+is_holding x = is_client_open x && x.holding
 
 -- Its timer runs while some symbol is not acknowledged. A client that was aborted or reset has none.
-abbrev pub is_armed : ClientBlock → Bool
-is_armed x = is_open x && not (is_clear x.send)
+abbrev pub is_client_armed : ClientBlock → Bool
+is_client_armed x = is_client_open x && not (is_clear x.send)

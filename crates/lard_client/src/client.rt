@@ -1,7 +1,7 @@
 //! A client of the cluster: its own calls.
 
 ghost use Rattle.std.specs.Prelude.{◌≡◌, ◌≤◌, false, length, IfOk, IfSome, OnOk, OnErr, Ok};
-ghost use Rattle.lard_client.specs.Control.{IsClientBlock, is_open, is_established, is_writing, is_holding, is_armed, opened, written, written_len, shut_down, held_on, taken, aborted, rcv_nxt, rcv_wnd, snd_nxt};
+ghost use Rattle.lard_client.specs.Control.{IsClientBlock, is_client_open, is_established, is_writing, is_holding, is_client_armed, client_opened, client_written, written_len, shut_down, held_on, client_taken, aborted, client_rcv_nxt, client_rcv_wnd, client_snd_nxt};
 ghost use Rattle.lard_client.specs.Leaving.{IsHeld, IsWritable, abort_ready};
 ghost use Rattle.lard_send.specs.Send.{IsSending};
 
@@ -87,7 +87,7 @@ impl Client {
         requires some_window { 1 ≤ wnd }
         requires some_mss { 1 ≤ mss }
         requires small_mss { mss ≤ MAX_SEGMENT_DATA }
-        ensures { result ≡ opened c isn.0 wnd mss }
+        ensures { result ≡ client_opened c isn.0 wnd mss }
     {
         Client {
             c,
@@ -116,7 +116,7 @@ impl Client {
     pub fn write(&mut self, bytes: &[u8]) -> Result<bool, NoMemory>
         requires { written_len self.old bytes.now ≤ MAX_STREAM_BYTES }
         ensures answer { IfOk result (λ writes. writes ≡ is_writing self.old) }
-        ensures ok { OnOk result (self.new ≡ written self.old bytes.now) }
+        ensures ok { OnOk result (self.new ≡ client_written self.old bytes.now) }
         ensures err { OnErr result (self.new ≡ self.old) }
         ensures closed { is_writing self.old ≡ false → result ≡ Ok false }
     {
@@ -181,7 +181,7 @@ impl Client {
 
     /// Reads all that lies in its window, and holds no longer (RFC 9293, 3.10.3). The cluster is told so by an ACK.
     pub fn take(&mut self)
-        ensures { self.new ≡ taken self.old }
+        ensures { self.new ≡ client_taken self.old }
     {
         if self.is_open() {
             self.holding = false;
@@ -199,14 +199,14 @@ impl Client {
 
     /// Whether its timer runs: it is open, and its SYN, a byte or its FIN is not acknowledged (RFC 9293, 3.8.1).
     pub fn armed(&self) -> bool
-        ensures { result ≡ is_armed self.now }
+        ensures { result ≡ is_client_armed self.now }
     {
         self.is_open() && self.send.armed()
     }
 
     /// It was neither aborted nor reset.
     fn is_open(&self) -> bool
-        ensures { result ≡ is_open self.now }
+        ensures { result ≡ is_client_open self.now }
     {
         match self.phase {
             Phase::Open => true,
@@ -223,14 +223,14 @@ impl Client {
 
     /// The number that it awaits, RCV.NXT.
     fn rcv_nxt(&self) -> Seq
-        ensures { result.0 ≡ rcv_nxt self.now }
+        ensures { result.0 ≡ client_rcv_nxt self.now }
     {
         self.send.irs().add(1 + self.accepted + self.eof as u32)
     }
 
     /// The window, RCV.WND: what it opens less what it holds.
     fn rcv_wnd(&self) -> u16
-        ensures { result ≡ rcv_wnd self.now }
+        ensures { result ≡ client_rcv_wnd self.now }
     {
         self.wnd - self.held
     }
@@ -246,7 +246,7 @@ impl Client {
 
     /// The number that it sends next, SND.NXT.
     fn snd_nxt(&self) -> Seq
-        ensures { result.0 ≡ snd_nxt self.now }
+        ensures { result.0 ≡ client_snd_nxt self.now }
     {
         self.send.iss().add(self.send.nxt())
     }

@@ -18,11 +18,11 @@ pub struct Heard {
 }
 
 impl Heard {
-    ghost use Rattle.lard_client.specs.Arriving.{nothing};
+    ghost use Rattle.lard_client.specs.Arriving.{heard_nothing};
 
     /// Nothing was accepted, and nothing is answered at once.
     pub fn nothing() -> Heard
-        ensures { result ≡ nothing }
+        ensures { result ≡ heard_nothing }
     {
         Heard {
             from: 0,

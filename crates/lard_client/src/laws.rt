@@ -1,6 +1,6 @@
 //! What holds of all that a client accepts.
 
-ghost use Rattle.lard_client.specs.Laws.{ArrivalsAreInOrder, AcceptedStaysBounded, EndedTakesNothing, RepliesByTheirCause, TrueSegmentsAreAccepted, EmittedStaysInTheWindow, WindowIsNotTakenBack, SegmentsTellTheWindow};
+ghost use Rattle.lard_client.specs.Laws.{ArrivalsAreInOrder, AcceptedStaysBounded, EndedTakesNothing, RepliesByTheirCause, TrueSegmentsAreAccepted, ClientEmittedStaysInTheWindow, ClientWindowIsNotTakenBack, ClientSegmentsTellTheWindow};
 
 /// What a client accepts is exactly the part of each segment that begins at the awaited number and for which there is
 /// room, and it counts: nothing is left out and nothing is taken twice (RFC 9293, 3.10.7.4). No more than 2^30 bytes
@@ -21,7 +21,7 @@ pub fn true_segments_are_accepted()
 /// What is emitted lies in the window of the cluster, and no segment takes back the window that an earlier one told
 /// (RFC 9293, 3.4 and 3.8.6).
 pub fn windows_are_kept()
-    ensures sending { EmittedStaysInTheWindow }
-    ensures receiving { WindowIsNotTakenBack }
-    ensures telling { SegmentsTellTheWindow }
+    ensures sending { ClientEmittedStaysInTheWindow }
+    ensures receiving { ClientWindowIsNotTakenBack }
+    ensures telling { ClientSegmentsTellTheWindow }
 {}

@@ -27,13 +27,13 @@ cheapest cost n [] = n
 cheapest cost n (m ∷ ms) = cheapest cost (cheaper cost n m) ms
 
 -- the node: where the request does not stay at h, the cheapest of h and the members
-abbrev pub placed : Tally → Config → ℕ → ℕ → ℕ → ℕ
-placed t cfg h set queue = if stays h set queue then h else cheapest (cost_at t cfg set) h (members_of set)
+abbrev pub later_placed : Tally → Config → ℕ → ℕ → ℕ → ℕ
+later_placed t cfg h set queue = if stays h set queue then h else cheapest (cost_at t cfg set) h (members_of set)
 
 -- h joins the set where it is chosen, is open and is no member
-abbrev pub joining : Tally → ℕ → ℕ → ℕ → Option ℕ
-joining t h set n = if nat_eq n h && is_open t h && not (has set h) then Some h else None
+abbrev pub later_joining : Tally → ℕ → ℕ → ℕ → Option ℕ
+later_joining t h set n = if nat_eq n h && is_open t h && not (has set h) then Some h else None
 
 -- the later choice, at these loads, for a connection at home at h and a target with this set, with so many jobs in h's queue
 unfoldable pub later_choice : Tally → ℕ → ℕ → ℕ → Config → LaterChoice
-later_choice t h set queue cfg = let n = placed t cfg h set queue in record { node = n; add = joining t h set n }
+later_choice t h set queue cfg = let n = later_placed t cfg h set queue in record { node = n; add = later_joining t h set n }

@@ -3,7 +3,7 @@
 ghost use Rattle.std.specs.Prelude.{◌≡◌, ◌≤◌, ℕ, true, if◌then◌else◌};
 ghost use Rattle.lard_base.specs.Members.{has};
 ghost use Rattle.lard_costs.specs.Costs.{cost_at};
-ghost use Rattle.lard_costs.specs.Later.{stays, cheaper, cheapest, members_of, placed, joining, later_choice};
+ghost use Rattle.lard_costs.specs.Later.{stays, cheaper, cheapest, members_of, later_placed, later_joining, later_choice};
 
 use crate::cost::{cost_at, is_less};
 use lard_base::{Config, Items, Members, NodeId};
@@ -46,7 +46,7 @@ pub fn choose_later(h: NodeId, set: Members, loads: &Loads, queue: u32, cfg: &Co
 fn placed(loads: &Loads, cfg: &Config, h: NodeId, set: Members, queue: u32) -> NodeId
     requires home { h ≤ loads.now.nodes }
     requires members { (n : ℕ) → has set n ≡ true → n ≤ loads.now.nodes }
-    ensures node { result ≡ placed loads.now cfg.now h set queue }
+    ensures node { result ≡ later_placed loads.now cfg.now h set queue }
     ensures within { result ≤ loads.now.nodes }
 {
     if set.has(h) || queue < SHORT_QUEUE {
@@ -99,7 +99,7 @@ fn cheaper(loads: &Loads, cfg: &Config, set: Members, n: NodeId, m: NodeId) -> N
 /// The connection's node, where it was chosen and may join the set.
 fn joining(loads: &Loads, h: NodeId, set: Members, n: NodeId) -> Option<NodeId>
     requires home { h ≤ loads.now.nodes }
-    ensures { result ≡ joining loads.now h set n }
+    ensures { result ≡ later_joining loads.now h set n }
 {
     if n.number() == h.number() && loads.is_open(h) && !set.has(h) {
         Some(h)

@@ -6,7 +6,7 @@ use Rattle.lard_base.specs.declared.ids.Millis.{Millis}
 use Rattle.lard_dispatch.specs.Calls.{joined, reduced}
 use Rattle.lard_journal.specs.declared.rec.Rec.{Rec}
 use Rattle.lard_journal.specs.declared.rec.Rec.TheVariants as rec
-use Rattle.lard_loads.specs.Tally.{Tally, batch_ended, connected, released, shared, start}
+use Rattle.lard_loads.specs.Tally.{Tally, batch_ended, connected, released, shared, tally_start}
 use Rattle.lard_sets.specs.declared.sets.ServerSet.{ServerSet}
 use Rattle.lard_sets.specs.Sets.{set_of, touched}
 
@@ -31,19 +31,19 @@ ledger_step l (rec.BatchOver c) = record l { loads = batch_ended l.loads c }
 ledger_step l _ = l
 
 -- before anything: nobody is in, nothing is loaded, and no node serves a target
-abbrev pub blank : Config → Ledger
-blank cfg = record { now = record { 0 = 0 }; ins = []; loads = start cfg.nodes; sets = [] }
+abbrev pub blank_ledger : Config → Ledger
+blank_ledger cfg = record { now = record { 0 = 0 }; ins = []; loads = tally_start cfg.nodes; sets = [] }
 
 abbrev pub ledger : Config → List Rec → Ledger
-ledger cfg J = fold ledger_step (blank cfg) J
+ledger cfg J = fold ledger_step (blank_ledger cfg) J
 
 -- how many connections are admitted
-abbrev pub admitted : Ledger → ℕ
-admitted l = length l.ins
+abbrev pub ledger_admitted : Ledger → ℕ
+ledger_admitted l = length l.ins
 
 -- a connection is
-abbrev pub is_in : Ledger → ℕ → Bool
-is_in l c = list_any (nat_eq c) l.ins
+abbrev pub is_in_ledger : Ledger → ℕ → Bool
+is_in_ledger l c = list_any (nat_eq c) l.ins
 
 -- which nodes serve a target, and when that changed last
 abbrev pub server_set : Ledger → List ℕ → ServerSet

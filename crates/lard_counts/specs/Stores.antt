@@ -54,12 +54,12 @@ jobs J n = (queue_of J n).list
 -- ---- caches
 
 -- how many bytes the file of a path has
-abbrev pub bytes_in : Option (List ℕ) → ℕ
-bytes_in None = 0
-bytes_in (Some bytes) = length bytes
+abbrev pub bytes_of_file : Option (List ℕ) → ℕ
+bytes_of_file None = 0
+bytes_of_file (Some bytes) = length bytes
 
 abbrev pub size_of : FilesAt → List ℕ → ℕ
-size_of files path = bytes_in (files path)
+size_of files path = bytes_of_file (files path)
 
 -- A hit brings its path to the front. A file that was read goes to the front, unless it is larger than the cache, and others drop
 -- from the end.

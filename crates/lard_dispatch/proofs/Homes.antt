@@ -15,10 +15,10 @@ use Rattle.lard_loads.specs.Tally.{Standing, Tally, admitted, home_of, numbers}
 use Rattle.lard_loads.proofs.Charged.{one_node, zeros}
 use Rattle.lard_loads.proofs.Counts.{AreAmong, counted_once}
 use Rattle.lard_loads.proofs.Standings.{one_if}
-use Rattle.lard_dispatch.specs.Books.{begun}
+use Rattle.lard_dispatch.specs.Books.{dispatch_begun}
 use Rattle.lard_dispatch.specs.Laws.{after_calls}
-use Rattle.lard_dispatch.specs.Loads.{FewAreHighWhileNoneIsLow, connections_at, is_at, loads_after}
-use Rattle.lard_dispatch.specs.Sound.{AreAtNodes, IsNode, IsSound}
+use Rattle.lard_dispatch.specs.Loads.{FewAreHighWhileNoneIsLow, connections_at, is_home_of_node, loads_after}
+use Rattle.lard_dispatch.specs.Sound.{AreAtNodes, IsNode, IsDispatcherSound}
 use Rattle.lard_dispatch.proofs.AllCalls.{configs-stay, within-room}
 use Rattle.lard_dispatch.proofs.Counted.{counted-among, sound-after}
 
@@ -58,7 +58,7 @@ is-fit c h =
 
 -- what a connection counts at a node where only homes count
 abbrev pub home_at : Option Standing → ℕ → ℕ
-home_at o n = cond (is_at (home_of o) n) 1 0
+home_at o n = cond (is_home_of_node (home_of o) n) 1 0
 
 -- the connections of all nodes are the admitted ones
 one-home : (o : Option Standing) (nodes : ℕ) → IfSome o (λ s. IsNode nodes s.home) → sum_by (home_at o) (numbers nodes) ≡ one_if o
@@ -141,8 +141,8 @@ pub few-are-high : FewAreHighWhileNoneIsLow
 few-are-high cfg calls may none_low =
     let fit : IsFit cfg = is-fit cfg may.usable in
     let t : Tally = loads_after cfg calls in
-    let sound : IsSound (after_calls (begun cfg) calls) = sound-after cfg calls may in
-    let at : AreAtNodes cfg.nodes t.standings = subst (λ (c : Config). AreAtNodes c.nodes t.standings) (configs-stay (begun cfg) calls) sound.at_nodes in
+    let sound : IsDispatcherSound (after_calls (dispatch_begun cfg) calls) = sound-after cfg calls may in
+    let at : AreAtNodes cfg.nodes t.standings = subst (λ (c : Config). AreAtNodes c.nodes t.standings) (configs-stay (dispatch_begun cfg) calls) sound.at_nodes in
     let homes = all-homes t cfg.nodes (counted-among cfg calls may) at in
     let few : admitted t ≤ room_of cfg = within-room cfg calls may.usable may.allowed in
     few-high (connections_at t) cfg.low cfg.high fit.ordered cfg.nodes

@@ -6,7 +6,7 @@ use Rattle.std.specs.Str.{bytes_eq}
 use Rattle.lard_base.specs.declared.ids.Millis.{Millis}
 use Rattle.lard_base.specs.Members.{has}
 use Rattle.lard_sets.specs.declared.sets.ServerSet.{ServerSet}
-use Rattle.lard_sets.specs.Sets.{closed, has_place, no_servers, place, put, set_of, touched, with_member, without_member}
+use Rattle.lard_sets.specs.Sets.{sets_closed, has_place, no_servers, place, put, set_of, touched, with_member, without_member}
 use Rattle.lard_sets.proofs.Changes.{place-closed, place-put}
 use Rattle.lard_sets.proofs.Flags.{has-with_member, has-without_member}
 use Rattle.lard_dispatch.specs.Calls.{joined, reduced}
@@ -67,7 +67,7 @@ served-reduced nodes sets target None now all node = all
 served-reduced nodes sets target (Some n) now all node =
     cond_both (has_place sets target) _ sets (AreServedByNodes nodes) (λ _. served-put nodes sets target _ all (without-node nodes (set_of sets target).members n node (all target))) (λ _. all)
 
-pub served-closed : (nodes : ℕ) (sets : Sets) (n : ℕ) → IsNode nodes n → AreServedByNodes nodes sets → AreServedByNodes nodes (closed sets n)
+pub served-closed : (nodes : ℕ) (sets : Sets) (n : ℕ) → IsNode nodes n → AreServedByNodes nodes sets → AreServedByNodes nodes (sets_closed sets n)
 served-closed nodes sets n node all = λ other k h.
     go k (place sets other) (λ j. all other j) (subst (λ (o : Option ServerSet). has (unwrap_or o no_servers).members k ≡ true) (place-closed sets n other) h) where
       go : (k : ℕ) (o : Option ServerSet) → AreMembers nodes (unwrap_or o no_servers) → has (unwrap_or (option_map (λ (s : ServerSet). record s { members = without_member s.members n }) o) no_servers).members k ≡ true → k ≤ nodes

@@ -14,16 +14,16 @@ use Rattle.lard_base.specs.declared.ids.Millis.{Millis}
 use Rattle.lard_table.specs.Table.{put_or}
 use Rattle.lard_table.proofs.Map.{get_inserted, get_other, get_put}
 use Rattle.lard_loads.specs.declared.slot.Share.{Share as Part}
-use Rattle.lard_loads.specs.Tally.{Standing, Tally, admitted, batch_ended, ending, is_open, load, numbers, released, shared, sharing, units_of, units_of_share}
+use Rattle.lard_loads.specs.Tally.{Standing, Tally, admitted, batch_ended, batch_ended_with, is_open, load, numbers, released, shared, sharing, units_of, units_of_share}
 use Rattle.lard_loads.proofs.Counts.{all_nodes_within, load_within, loads_within, one_node_within}
 use Rattle.lard_loads.proofs.Standings.{one_if}
 use Rattle.lard_dispatch.specs.declared.dispatch.Ask.{Ask}
 use Rattle.lard_dispatch.specs.declared.line.Waiting.{Waiting}
-use Rattle.lard_dispatch.specs.Books.{Books, Dispatcher, begun}
+use Rattle.lard_dispatch.specs.Books.{Books, Dispatcher, dispatch_begun}
 use Rattle.lard_dispatch.specs.Calls.{all_shared, batch_over, is_full, later_choice_at, next_admitted, released_from, shared_with}
 use Rattle.lard_dispatch.specs.Laws.{Call, after_call, after_calls}
 use Rattle.lard_dispatch.specs.Laws.Call.{First, Later, Ended, Leave, Close}
-use Rattle.lard_dispatch.specs.Loads.{IsInRange, MayBeMade, NoLoadExceedsTheRoom, SharesAreWithinWholes, loads_after, open_charges, share_units}
+use Rattle.lard_dispatch.specs.Loads.{IsCallInRange, MayBeMade, NoLoadExceedsTheRoom, SharesAreWithinWholes, loads_after, open_charges, share_units}
 use Rattle.lard_dispatch.proofs.AllCalls.{within-room}
 use Rattle.lard_dispatch.proofs.Counted.{counted-among, loads-add-up}
 
@@ -66,7 +66,7 @@ put-shared m c o all own = λ q.
 -- a batch that is over has no shares
 ended-shared : (t : Tally) (c : ℕ) → AreShared t.standings → AreSharedBut (batch_ended t c).standings c 0
 ended-shared t c all = go (fin.get t.standings c) refl where
-  go : (o : Option Standing) → fin.get t.standings c ≡ o → AreSharedBut (ending t c o).standings c 0
+  go : (o : Option Standing) → fin.get t.standings c ≡ o → AreSharedBut (batch_ended_with t c o).standings c 0
   go None e = record { others = λ q f. all q; own = subst (λ (o : Option Standing). IfSome o (IsShared 0)) (sym e) tt }
   go (Some s) e = record {
     others = λ q f. subst (λ (o : Option Standing). IfSome o (IsShared 840)) (sym (get_other t.standings c q (record s { shares = [] }) f)) (all q);
@@ -119,7 +119,7 @@ shares-of k size le =
 
 -- ---- each call
 
-pub call-shared : (d : Dispatcher) (call : Call) → IsInRange call → AreShared d.books.loads.standings → AreShared (after_call d call).books.loads.standings
+pub call-shared : (d : Dispatcher) (call : Call) → IsCallInRange call → AreShared d.books.loads.standings → AreShared (after_call d call).books.loads.standings
 call-shared d (First c target now) r all = cond_both (is_full d) _ _ (λ (x : Dispatcher). AreShared x.books.loads.standings) (λ _. all) (λ _. put-shared d.books.loads.standings c (Some (record { home = _; shares = [] })) all (none-shared 840 _))
 call-shared d (Later ask now) r all =
     all-but (all_shared d.config ask now ask.paths (batch_over d.books ask)).loads.standings ask.c (0 + length ask.paths * (840 / ask.size)) (let few = shares-of (length ask.paths) ask.size r.1 in omega (arith, few))
@@ -134,11 +134,11 @@ call-shared d (Ended c now) r all = go d.books.line where
 call-shared d (Leave c) r all = all
 call-shared d (Close n) r all = cond_both (is_open d.books.loads n) _ d (λ (x : Dispatcher). AreShared x.books.loads.standings) (λ _. all) (λ _. all)
 
-calls-shared : (d : Dispatcher) (calls : List Call) → AllByRecursion IsInRange calls → AreShared d.books.loads.standings → AreShared (after_calls d calls).books.loads.standings
+calls-shared : (d : Dispatcher) (calls : List Call) → AllByRecursion IsCallInRange calls → AreShared d.books.loads.standings → AreShared (after_calls d calls).books.loads.standings
 calls-shared d [] r all = all
 calls-shared d (call ∷ calls) r all = calls-shared (after_call d call) calls r.1 (call-shared d call r.0 all)
 
-pub start-shared : (cfg : Config) → AreShared (begun cfg).books.loads.standings
+pub start-shared : (cfg : Config) → AreShared (dispatch_begun cfg).books.loads.standings
 start-shared cfg = λ q. subst (λ (o : Option Standing). IfSome o (IsShared 840)) (sym (get-empty nat_cmp q)) tt
 
 -- ---- what all count
@@ -154,7 +154,7 @@ pub within-all : (t : Tally) (nodes : ℕ) → AreShared t.standings → (c : �
 within-all t nodes all c = all_nodes_within (fin.get t.standings c) nodes (λ s e. (taken (fin.get t.standings c) s (all c) e).within)
 
 pub shared-after : (cfg : Config) (calls : List Call) → MayBeMade cfg calls → AreShared (loads_after cfg calls).standings
-shared-after cfg calls may = calls-shared (begun cfg) calls may.in_range (start-shared cfg)
+shared-after cfg calls may = calls-shared (dispatch_begun cfg) calls may.in_range (start-shared cfg)
 
 pub within-the-room : NoLoadExceedsTheRoom
 within-the-room cfg calls may n =

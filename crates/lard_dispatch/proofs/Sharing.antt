@@ -8,7 +8,7 @@ use Rattle.std.specs.List.{AllByRecursion}
 use Rattle.lard_base.specs.declared.config.Config.{Config}
 use Rattle.lard_base.specs.declared.ids.Millis.{Millis}
 use Rattle.lard_table.proofs.Map.{get_inserted}
-use Rattle.lard_loads.specs.Tally.{Standing, Tally, batch_ended, ending, home, home_of, open_shares, shared, shares_of, sharing}
+use Rattle.lard_loads.specs.Tally.{Standing, Tally, batch_ended, batch_ended_with, home, home_of, open_shares, shared, shares_of, sharing}
 use Rattle.lard_sets.specs.Sets.{has_place, set_of}
 use Rattle.lard_costs.specs.Later.{later_choice}
 use Rattle.lard_costs.specs.declared.later.LaterChoice.{LaterChoice}
@@ -45,19 +45,19 @@ shares-shared t c n size = go (map.get t.standings c) refl where
 -- a batch is over: the connection stays where it is, without shares
 pub home-ended : (t : Tally) (c : ℕ) → home (batch_ended t c) c ≡ home t c
 home-ended t c = go (map.get t.standings c) refl where
-  go : (o : Option Standing) → map.get t.standings c ≡ o → home (ending t c o) c ≡ home_of o
+  go : (o : Option Standing) → map.get t.standings c ≡ o → home (batch_ended_with t c o) c ≡ home_of o
   go None e = ap home_of e
   go (Some s) e = ap home_of (get_inserted t.standings c _)
 
 pub nodes-ended : (t : Tally) (c : ℕ) → (batch_ended t c).nodes ≡ t.nodes
 nodes-ended t c = go (map.get t.standings c) where
-  go : (o : Option Standing) → (ending t c o).nodes ≡ t.nodes
+  go : (o : Option Standing) → (batch_ended_with t c o).nodes ≡ t.nodes
   go None = refl
   go (Some s) = refl
 
 pub shares-ended : (t : Tally) (c : ℕ) → open_shares (batch_ended t c) c ≡ 0
 shares-ended t c = go (map.get t.standings c) refl where
-  go : (o : Option Standing) → map.get t.standings c ≡ o → open_shares (ending t c o) c ≡ 0
+  go : (o : Option Standing) → map.get t.standings c ≡ o → open_shares (batch_ended_with t c o) c ≡ 0
   go None e = ap (λ (x : Option Standing). length (shares_of x)) e
   go (Some s) e = ap (λ (x : Option Standing). length (shares_of x)) (get_inserted t.standings c _)
 

@@ -10,7 +10,7 @@ use Rattle.lard_base.specs.declared.config.Config.{Config}
 use Rattle.lard_base.specs.declared.ids.Millis.{Millis}
 use Rattle.lard_base.specs.Config.{config_check, room_of}
 use Rattle.lard_table.proofs.Map.{some_len}
-use Rattle.lard_loads.specs.Tally.{Standing, Tally, admitted, batch_ended, connected, ending, has_other_open, is_open, home, home_of, numbers, released, shared, sharing}
+use Rattle.lard_loads.specs.Tally.{Standing, Tally, admitted, batch_ended, connected, batch_ended_with, has_other_open, is_open, home, home_of, numbers, released, shared, sharing}
 use Rattle.lard_loads.specs.Tally as tally
 use Rattle.std.proofs.lemmas.Nat.Bits.{bit_at-zero}
 use Rattle.lard_base.specs.Members.{has}
@@ -21,10 +21,10 @@ use Rattle.lard_policy.specs.declared.first.FirstChoice.{FirstChoice}
 use Rattle.lard_costs.specs.declared.later.LaterChoice.{LaterChoice}
 use Rattle.lard_dispatch.specs.declared.dispatch.Ask.{Ask}
 use Rattle.lard_dispatch.specs.declared.line.Waiting.{Waiting}
-use Rattle.lard_dispatch.specs.Books.{Books, Dispatcher, begun}
+use Rattle.lard_dispatch.specs.Books.{Books, Dispatcher, dispatch_begun}
 use Rattle.lard_dispatch.specs.Calls.{admitted_with, after_close, after_ended, after_first, after_later, after_leave, all_shared, batch_over, choice_at, is_full, joined, later_choice_at, next_admitted, released_from, shared_with}
-use Rattle.lard_dispatch.specs.Line.{waits, without}
-use Rattle.lard_dispatch.specs.Sound.{AreApart, AreAtNodes, AreBefore, AreServedByNodes, IsNode, IsSound}
+use Rattle.lard_dispatch.specs.Line.{line_waits, line_without}
+use Rattle.lard_dispatch.specs.Sound.{AreApart, AreAtNodes, AreBefore, AreServedByNodes, IsNode, IsDispatcherSound}
 use Rattle.lard_dispatch.proofs.Chosen.{IsChosen, all-filter, all-numbers, choice-within}
 use Rattle.lard_dispatch.proofs.Servers.{before-joined, before-reduced, before-touched, served-closed, served-joined, served-reduced, served-touched}
 use Rattle.lard_dispatch.proofs.Sharing.{add-home}
@@ -63,8 +63,8 @@ pub record HasRoom (cfg : Config) (b : Books) : Type 0 where
   pub last : 0 < length b.line → admitted b.loads + 1 ≡ room_of cfg
   pub apart : AreApart b.loads.standings b.line
 
-pub admission : (cfg : Config) (b : Books) (c : ℕ) (target : List ℕ) (now : Millis) → HasRoom cfg b → map.get b.loads.standings c ≡ None → waits b.line c ≡ false
-    → IsSound (of cfg (admitted_with cfg b c target now))
+pub admission : (cfg : Config) (b : Books) (c : ℕ) (target : List ℕ) (now : Millis) → HasRoom cfg b → map.get b.loads.standings c ≡ None → line_waits b.line c ≡ false
+    → IsDispatcherSound (of cfg (admitted_with cfg b c target now))
 admission cfg b c target now h free away =
     let choice : FirstChoice = choice_at cfg b target now in
     let chosen : IsChosen cfg.nodes choice = choice-within b.loads (set_of b.sets target).members now (set_of b.sets target).modified cfg cfg.nodes h.nodes h.open_nodes h.some_open in
@@ -85,8 +85,8 @@ admission cfg b c target now h free away =
 
 -- ---- the calls
 
-pub waiting-kept : (d : Dispatcher) (c : ℕ) (target : List ℕ) → IsSound d → admitted d.books.loads ≡ room_of d.config → map.get d.books.loads.standings c ≡ None → waits d.books.line c ≡ false
-    → IsSound (record d { books = record d.books { line = d.books.line ++ record { c = c; target = target } ∷ [] } })
+pub waiting-kept : (d : Dispatcher) (c : ℕ) (target : List ℕ) → IsDispatcherSound d → admitted d.books.loads ≡ room_of d.config → map.get d.books.loads.standings c ≡ None → line_waits d.books.line c ≡ false
+    → IsDispatcherSound (record d { books = record d.books { line = d.books.line ++ record { c = c; target = target } ∷ [] } })
 waiting-kept d c target s full free away = record {
   usable = s.usable;
   nodes = s.nodes;
@@ -99,7 +99,7 @@ waiting-kept d c target s full free away = record {
   apart = apart-pushed d.books.loads.standings (record { c = c; target = target }) d.books.line free away s.apart;
 }
 
-pub room-left : (d : Dispatcher) → IsSound d → admitted d.books.loads ≢ room_of d.config → HasRoom d.config d.books
+pub room-left : (d : Dispatcher) → IsDispatcherSound d → admitted d.books.loads ≢ room_of d.config → HasRoom d.config d.books
 room-left d s less = record {
   usable = s.usable;
   nodes = s.nodes;
@@ -112,13 +112,13 @@ room-left d s less = record {
   apart = s.apart;
 }
 
-pub first-kept : (d : Dispatcher) (c : ℕ) (target : List ℕ) (now : Millis) → IsSound d → map.get d.books.loads.standings c ≡ None → waits d.books.line c ≡ false → IsSound (after_first d c target now)
-first-kept d c target now s free away = cond_both (is_full d) _ _ IsSound
+pub first-kept : (d : Dispatcher) (c : ℕ) (target : List ℕ) (now : Millis) → IsDispatcherSound d → map.get d.books.loads.standings c ≡ None → line_waits d.books.line c ≡ false → IsDispatcherSound (after_first d c target now)
+first-kept d c target now s free away = cond_both (is_full d) _ _ IsDispatcherSound
     (λ t. waiting-kept d c target s (eqb-true (admitted d.books.loads) (room_of d.config) t) free away)
     (λ f. admission d.config d.books c target now (room-left d s (λ e. both_ways (is_full d) f (eq-eqb (admitted d.books.loads) (room_of d.config) e))) free away)
 
 -- the state once a connection is released, and the first taken out of the line
-pub released-room : (d : Dispatcher) (c : ℕ) (ws : List Waiting) → IsSound d → is_some (map.get d.books.loads.standings c) ≡ true → AreApart d.books.loads.standings ws
+pub released-room : (d : Dispatcher) (c : ℕ) (ws : List Waiting) → IsDispatcherSound d → is_some (map.get d.books.loads.standings c) ≡ true → AreApart d.books.loads.standings ws
     → (0 < length ws → admitted d.books.loads ≡ room_of d.config) → HasRoom d.config (record (released_from d.books c) { line = ws })
 released-room d c ws s in_ apart full =
     let less : admitted (released d.books.loads c) + 1 ≡ admitted d.books.loads = one-fewer d.books.loads c in_ in
@@ -134,10 +134,10 @@ released-room d c ws s in_ apart full =
       apart = apart-put d.books.loads.standings c None ws (admitted-away d.books.loads.standings c ws in_ apart) apart;
     }
 
-pub ended-kept : (d : Dispatcher) (c : ℕ) (now : Millis) → IsSound d → is_some (map.get d.books.loads.standings c) ≡ true → IsSound (after_ended d c now)
+pub ended-kept : (d : Dispatcher) (c : ℕ) (now : Millis) → IsDispatcherSound d → is_some (map.get d.books.loads.standings c) ≡ true → IsDispatcherSound (after_ended d c now)
 ended-kept d c now s in_ = go d.books.line s.apart s.full where
   go : (ws : List Waiting) → AreApart d.books.loads.standings ws → (0 < length ws → admitted d.books.loads ≡ room_of d.config)
-      → IsSound (of d.config (next_admitted d.config now (record (released_from d.books c) { line = ws }) ws))
+      → IsDispatcherSound (of d.config (next_admitted d.config now (record (released_from d.books c) { line = ws }) ws))
   go [] apart full =
       let h : HasRoom d.config (record (released_from d.books c) { line = [] }) = released-room d c [] s in_ apart full in
       record {
@@ -156,7 +156,7 @@ ended-kept d c now s in_ = go d.books.line s.apart s.full where
       admission d.config (record (released_from d.books c) { line = ws }) w.c w.target now (released-room d c ws s in_ apart.2 (λ _. f))
       (apart-put d.books.loads.standings c None (w ∷ ws) (admitted-away d.books.loads.standings c (w ∷ ws) in_ apart) apart).0 apart.1
 
-pub leave-kept : (d : Dispatcher) (c : ℕ) → IsSound d → IsSound (after_leave d c)
+pub leave-kept : (d : Dispatcher) (c : ℕ) → IsDispatcherSound d → IsDispatcherSound (after_leave d c)
 leave-kept d c s = record {
   usable = s.usable;
   nodes = s.nodes;
@@ -168,12 +168,12 @@ leave-kept d c s = record {
   full = λ some. s.full (shorter d.books.line some);
   apart = apart-left d.books.loads.standings c d.books.line s.apart;
 } where
-  shorter : (ws : List Waiting) → 0 < length (without ws c) → 0 < length ws
+  shorter : (ws : List Waiting) → 0 < length (line_without ws c) → 0 < length ws
   shorter [] h = h
   shorter (w ∷ ws) h = omega arith
 
-pub closing-kept : (d : Dispatcher) (n : ℕ) → IsSound d → IsNode d.config.nodes n → has_other_open d.books.loads n ≡ true
-    → IsSound (record d { books = record d.books { loads = tally.closed d.books.loads n; sets = sets.closed d.books.sets n } })
+pub closing-kept : (d : Dispatcher) (n : ℕ) → IsDispatcherSound d → IsNode d.config.nodes n → has_other_open d.books.loads n ≡ true
+    → IsDispatcherSound (record d { books = record d.books { loads = tally.tally_closed d.books.loads n; sets = sets.sets_closed d.books.sets n } })
 closing-kept d n s node other = closing where
   still : (ns : List ℕ) → list_any (λ m. not (nat_eq m n)) ns ≡ true → 0 < length (filter (λ m. not (nat_eq m n)) ns)
   still [] h = cc
@@ -183,7 +183,7 @@ closing-kept d n s node other = closing where
     go more true t = omega arith
     go more false t = more t
 
-  closing : IsSound (record d { books = record d.books { loads = tally.closed d.books.loads n; sets = sets.closed d.books.sets n } })
+  closing : IsDispatcherSound (record d { books = record d.books { loads = tally.tally_closed d.books.loads n; sets = sets.sets_closed d.books.sets n } })
   closing = record {
     usable = s.usable;
     nodes = s.nodes;
@@ -196,8 +196,8 @@ closing-kept d n s node other = closing where
     apart = s.apart;
   }
 
-pub close-kept : (d : Dispatcher) (n : ℕ) → IsSound d → IsNode d.config.nodes n → has_other_open d.books.loads n ≡ true → IsSound (after_close d n)
-close-kept d n s node other = cond_both (is_open d.books.loads n) _ d IsSound (λ _. closing-kept d n s node other) (λ _. s)
+pub close-kept : (d : Dispatcher) (n : ℕ) → IsDispatcherSound d → IsNode d.config.nodes n → has_other_open d.books.loads n ≡ true → IsDispatcherSound (after_close d n)
+close-kept d n s node other = cond_both (is_open d.books.loads n) _ d IsDispatcherSound (λ _. closing-kept d n s node other) (λ _. s)
 
 -- ---- an Ask
 
@@ -209,8 +209,8 @@ home-node nodes m c h all is = go (map.get m c) (all c) is where
   go (Some s) p e = let same : s.home ≡ h = cc in subst (IsNode nodes) same p
 
 -- one standing in place of another at the same node
-restanding : (d : Dispatcher) (t : Tally) (c : ℕ) (s v : Standing) → IsSound d → map.get d.books.loads.standings c ≡ Some s → v.home ≡ s.home
-    → IsSound (record d { books = record d.books { loads = record d.books.loads { standings = map.insert d.books.loads.standings c v } } })
+restanding : (d : Dispatcher) (t : Tally) (c : ℕ) (s v : Standing) → IsDispatcherSound d → map.get d.books.loads.standings c ≡ Some s → v.home ≡ s.home
+    → IsDispatcherSound (record d { books = record d.books { loads = record d.books.loads { standings = map.insert d.books.loads.standings c v } } })
 restanding d t c s v h at same =
     let len : map.len (map.insert d.books.loads.standings c v) ≡ map.len d.books.loads.standings = as-many d.books.loads.standings c s v at in
     record {
@@ -226,7 +226,7 @@ restanding d t c s v h at same =
       apart = apart-put d.books.loads.standings c (Some v) d.books.line (admitted-away d.books.loads.standings c d.books.line (ap is_some at) h.apart) h.apart;
     }
 
-with-sets : (d : Dispatcher) (all : List (List ℕ × ServerSet)) → IsSound d → AreServedByNodes d.config.nodes all → IsSound (record d { books = record d.books { sets = all } })
+with-sets : (d : Dispatcher) (all : List (List ℕ × ServerSet)) → IsDispatcherSound d → AreServedByNodes d.config.nodes all → IsDispatcherSound (record d { books = record d.books { sets = all } })
 with-sets d all h served = record {
   usable = h.usable;
   nodes = h.nodes;
@@ -239,19 +239,19 @@ with-sets d all h served = record {
   apart = h.apart;
 }
 
-sharing-kept : (d : Dispatcher) (c n size : ℕ) → IsSound d → IsSound (record d { books = record d.books { loads = shared d.books.loads c n size } })
+sharing-kept : (d : Dispatcher) (c n size : ℕ) → IsDispatcherSound d → IsDispatcherSound (record d { books = record d.books { loads = shared d.books.loads c n size } })
 sharing-kept d c n size h = go (map.get d.books.loads.standings c) refl where
-  go : (o : Option Standing) → map.get d.books.loads.standings c ≡ o → IsSound (record d { books = record d.books { loads = sharing d.books.loads c n size o } })
+  go : (o : Option Standing) → map.get d.books.loads.standings c ≡ o → IsDispatcherSound (record d { books = record d.books { loads = sharing d.books.loads c n size o } })
   go None e = h
-  go (Some s) e = cond_both (nat_eq n s.home) d.books.loads _ (λ (x : Tally). IsSound (record d { books = record d.books { loads = x } })) (λ _. h) (λ _. restanding d d.books.loads c s _ h e refl)
+  go (Some s) e = cond_both (nat_eq n s.home) d.books.loads _ (λ (x : Tally). IsDispatcherSound (record d { books = record d.books { loads = x } })) (λ _. h) (λ _. restanding d d.books.loads c s _ h e refl)
 
-pub ended-batch-kept : (d : Dispatcher) (c : ℕ) → IsSound d → IsSound (record d { books = record d.books { loads = batch_ended d.books.loads c } })
+pub ended-batch-kept : (d : Dispatcher) (c : ℕ) → IsDispatcherSound d → IsDispatcherSound (record d { books = record d.books { loads = batch_ended d.books.loads c } })
 ended-batch-kept d c h = go (map.get d.books.loads.standings c) refl where
-  go : (o : Option Standing) → map.get d.books.loads.standings c ≡ o → IsSound (record d { books = record d.books { loads = ending d.books.loads c o } })
+  go : (o : Option Standing) → map.get d.books.loads.standings c ≡ o → IsDispatcherSound (record d { books = record d.books { loads = batch_ended_with d.books.loads c o } })
   go None e = h
   go (Some s) e = restanding d d.books.loads c s _ h e refl
 
-pub shares-kept : (cfg : Config) (ask : Ask) (now : Millis) (ps : List (List ℕ)) (b : Books) → IsNode cfg.nodes ask.home → IsSound (of cfg b) → IsSound (of cfg (all_shared cfg ask now ps b))
+pub shares-kept : (cfg : Config) (ask : Ask) (now : Millis) (ps : List (List ℕ)) (b : Books) → IsNode cfg.nodes ask.home → IsDispatcherSound (of cfg b) → IsDispatcherSound (of cfg (all_shared cfg ask now ps b))
 shares-kept cfg ask now [] b node h = h
 shares-kept cfg ask now (p ∷ ps) b node h =
     let choice : LaterChoice = later_choice_at cfg b ask p in
@@ -259,7 +259,7 @@ shares-kept cfg ask now (p ∷ ps) b node h =
     (with-sets (of cfg (record b { loads = shared b.loads ask.c choice.node ask.size })) _ (sharing-kept (of cfg b) ask.c choice.node ask.size h)
     (served-joined cfg.nodes (touched b.sets p) p choice.add now (served-touched cfg.nodes b.sets p h.served) (add-home b.loads ask.home (set_of b.sets p).members ask.queue cfg.nodes cfg node)))
 
-pub later-kept : (d : Dispatcher) (ask : Ask) (now : Millis) → IsSound d → home d.books.loads ask.c ≡ Some ask.home → IsSound (after_later d ask now)
+pub later-kept : (d : Dispatcher) (ask : Ask) (now : Millis) → IsDispatcherSound d → home d.books.loads ask.c ≡ Some ask.home → IsDispatcherSound (after_later d ask now)
 later-kept d ask now h at =
     shares-kept d.config ask now ask.paths (batch_over d.books ask) (home-node d.config.nodes d.books.loads.standings ask.c ask.home h.at_nodes at) (ended-batch-kept d ask.c h)
 
@@ -268,7 +268,7 @@ later-kept d ask now h at =
 none-in : map.len (map.empty {K = ℕ} {X = Standing} {R = nat_cmp}) ≡ 0
 none-in = len-empty nat_cmp Standing
 
-pub begun-sound : (cfg : Config) → config_check cfg ≡ Ok tt → 1 ≤ cfg.nodes → IsSound (begun cfg)
+pub begun-sound : (cfg : Config) → config_check cfg ≡ Ok tt → 1 ≤ cfg.nodes → IsDispatcherSound (dispatch_begun cfg)
 begun-sound cfg usable some = record {
   usable = usable;
   nodes = refl;
@@ -326,7 +326,7 @@ before-later d ask now all = go ask.paths (batch_over d.books ask) all where
 -- ---- what the code knows
 
 -- nobody waits, and one is released
-pub rested : (cfg : Config) (b : Books) → HasRoom cfg b → b.line ≡ [] → IsSound (of cfg b)
+pub rested : (cfg : Config) (b : Books) → HasRoom cfg b → b.line ≡ [] → IsDispatcherSound (of cfg b)
 rested cfg b h none = record {
   usable = h.usable;
   nodes = h.nodes;

@@ -16,7 +16,7 @@ use Rattle.lard_table.specs.Table.{put_or}
 use Rattle.lard_loads.specs.Charges.{IsConnection}
 use Rattle.lard_loads.specs.declared.slot.Share.{Share as Part}
 use Rattle.lard_loads.specs.Order.{first_in, is_before}
-use Rattle.lard_loads.specs.Tally.{Standing, Tally, admitted, batch_ended, connected, ending, home, home_of, least, load, load_of, numbers, released, shared, sharing, units_of, units_of_share}
+use Rattle.lard_loads.specs.Tally.{Standing, Tally, admitted, batch_ended, connected, batch_ended_with, home, home_of, least, load, load_of, numbers, released, shared, sharing, units_of, units_of_share}
 use Rattle.lard_loads.proofs.Counts.{AreAmong, all_among, among-all, among-kept, load_above, loads_within, sum-empty, sum-put}
 use Rattle.lard_loads.proofs.Firsts.{IsIn, in_range}
 use Rattle.lard_loads.proofs.Sums.{load-empty, load-put}
@@ -28,12 +28,12 @@ use Rattle.lard_costs.specs.declared.cost.Cost.{Cost}
 use Rattle.lard_costs.specs.declared.cost.Cost.TheVariants.{Over, Units}
 use Rattle.lard_dispatch.specs.declared.dispatch.Ask.{Ask}
 use Rattle.lard_dispatch.specs.declared.line.Waiting.{Waiting}
-use Rattle.lard_dispatch.specs.Books.{Books, Dispatcher, begun}
+use Rattle.lard_dispatch.specs.Books.{Books, Dispatcher, dispatch_begun}
 use Rattle.lard_dispatch.specs.Calls.{all_shared, batch_over, choice_at, is_full, later_choice_at, next_admitted, released_from, shared_with}
 use Rattle.lard_dispatch.specs.Laws.{AreAllowed, Call, IsAllowed, after_call, after_calls}
 use Rattle.lard_dispatch.specs.Laws.Call.{First, Later, Ended, Leave, Close}
-use Rattle.lard_dispatch.specs.Loads.{ClosesNone, IsInRange, NoLoadExceedsTheThresholds, NoNodeHasTooMany, connections_at, counted}
-use Rattle.lard_dispatch.specs.Sound.{AreApart, IsSound}
+use Rattle.lard_dispatch.specs.Loads.{ClosesNone, IsCallInRange, NoLoadExceedsTheThresholds, NoNodeHasTooMany, connections_at, counted_calls}
+use Rattle.lard_dispatch.specs.Sound.{AreApart, IsDispatcherSound}
 use Rattle.lard_dispatch.proofs.AllCalls.{call-kept, config-stays, configs-stay, some-node}
 use Rattle.lard_dispatch.proofs.Counted.{AreConnections, call-counted, call-line, call-may, later-has}
 use Rattle.lard_dispatch.proofs.Homes.{IsFit, home_at, is-fit}
@@ -160,7 +160,7 @@ released-within most few t c one are = less-within most few t c None one (λ n. 
 
 ended-within : (most few : ℕ) (t : Tally) (c : ℕ) → IsConnection c → AreWithin most few t → AreWithin most few (batch_ended t c)
 ended-within most few t c one are = go (fin.get t.standings c) refl where
-  go : (o : Option Standing) → fin.get t.standings c ≡ o → AreWithin most few (ending t c o)
+  go : (o : Option Standing) → fin.get t.standings c ≡ o → AreWithin most few (batch_ended_with t c o)
   go None e = are
   go (Some s) e = less-within most few t c (Some (record s { shares = [] })) one
       (λ n. subst (λ (o : Option Standing). units_of (Some (record s { shares = [] })) n ≤ units_of o n) (sym e) (omega arith))
@@ -236,7 +236,7 @@ open-shared t c n size = go (fin.get t.standings c) where
 
 open-ended : (t : Tally) (c : ℕ) → (batch_ended t c).open_nodes ≡ t.open_nodes
 open-ended t c = go (fin.get t.standings c) where
-  go : (o : Option Standing) → (ending t c o).open_nodes ≡ t.open_nodes
+  go : (o : Option Standing) → (batch_ended_with t c o).open_nodes ≡ t.open_nodes
   go None = refl
   go (Some s) = refl
 
@@ -254,7 +254,7 @@ pub record AreBelow (cfg : Config) (most : ℕ) : Type 0 where
 
 -- What holds between two calls while no node is closed.
 pub record IsSteady (most : ℕ) (d : Dispatcher) : Type 0 where
-  pub sound : IsSound d
+  pub sound : IsDispatcherSound d
   pub below : AreBelow d.config most
   pub line : AreConnections d.books.line
   pub shared : AreShared d.books.loads.standings
@@ -272,7 +272,7 @@ pub record AreStill (most few : ℕ) (t u : Tally) : Type 0 where
   pub within : AreWithin most few u
   pub nodes : u.open_nodes ≡ t.open_nodes
 
-call-still : (most : ℕ) (d : Dispatcher) (call : Call) → IsSteady most d → IsAllowed d call → IsInRange call → ClosesNone call → AreStill most (2 * d.config.high) d.books.loads (after_call d call).books.loads
+call-still : (most : ℕ) (d : Dispatcher) (call : Call) → IsSteady most d → IsAllowed d call → IsCallInRange call → ClosesNone call → AreStill most (2 * d.config.high) d.books.loads (after_call d call).books.loads
 call-still most d (First c target now) s a r none =
     cond_both (is_full d) _ _ (λ (x : Dispatcher). AreStill most (2 * d.config.high) d.books.loads x.books.loads) (λ _. record { within = s.within; nodes = refl })
     (λ f. record {
@@ -298,7 +298,7 @@ call-still most d (Ended c now) s a r none = go d.books.line s.line s.sound.apar
 call-still most d (Leave c) s a r none = record { within = s.within; nodes = refl }
 call-still most d (Close n) s a r none = absurd none
 
-call-steady : (most : ℕ) (d : Dispatcher) (call : Call) → IsSteady most d → IsAllowed d call → IsInRange call → ClosesNone call → IsSteady most (after_call d call)
+call-steady : (most : ℕ) (d : Dispatcher) (call : Call) → IsSteady most d → IsAllowed d call → IsCallInRange call → ClosesNone call → IsSteady most (after_call d call)
 call-steady most d call s a r none =
     let next : AreStill most (2 * d.config.high) d.books.loads (after_call d call).books.loads = call-still most d call s a r none in
     let ns : List ℕ = numbers d.config.nodes in
@@ -307,16 +307,16 @@ call-steady most d call s a r none =
       below = subst (λ (cfg : Config). AreBelow cfg most) (sym (config-stays d call)) s.below;
       line = call-line d call r s.line;
       shared = call-shared d call r s.shared;
-      among = subst AreAmong (call-counted ns d call) (among-all (record d.books.loads { open_nodes = ns }) (counted d call) (call-may ns d call s.sound a r s.line) s.among);
+      among = subst AreAmong (call-counted ns d call) (among-all (record d.books.loads { open_nodes = ns }) (counted_calls d call) (call-may ns d call s.sound a r s.line) s.among);
       all_open = next.nodes ∙ s.all_open ∙ ap (λ (cfg : Config). numbers cfg.nodes) (sym (config-stays d call));
       within = subst (λ (cfg : Config). AreWithin most (2 * cfg.high) (after_call d call).books.loads) (sym (config-stays d call)) next.within;
     }
 
-calls-steady : (most : ℕ) (d : Dispatcher) (calls : List Call) → IsSteady most d → AreAllowed d calls → AllByRecursion IsInRange calls → AllByRecursion ClosesNone calls → IsSteady most (after_calls d calls)
+calls-steady : (most : ℕ) (d : Dispatcher) (calls : List Call) → IsSteady most d → AreAllowed d calls → AllByRecursion IsCallInRange calls → AllByRecursion ClosesNone calls → IsSteady most (after_calls d calls)
 calls-steady most d [] s a r none = s
 calls-steady most d (call ∷ calls) s a r none = calls-steady most (after_call d call) calls (call-steady most d call s a.0 r.0 none.0) a.1 r.1 none.1
 
-start-steady : (most : ℕ) (cfg : Config) → config_check cfg ≡ Ok tt → AreBelow cfg most → IsSteady most (begun cfg)
+start-steady : (most : ℕ) (cfg : Config) → config_check cfg ≡ Ok tt → AreBelow cfg most → IsSteady most (dispatch_begun cfg)
 start-steady most cfg usable below = record {
   sound = begun-sound cfg usable (some-node cfg usable);
   below = below;
@@ -332,10 +332,10 @@ start-steady most cfg usable below = record {
 
 pub near-the-thresholds : NoLoadExceedsTheThresholds
 near-the-thresholds cfg calls may none most high over idle n =
-    (calls-steady most (begun cfg) calls (start-steady most cfg may.usable (record { high = high; over = over; idle = idle })) may.allowed may.in_range none).within.near n
+    (calls-steady most (dispatch_begun cfg) calls (start-steady most cfg may.usable (record { high = high; over = over; idle = idle })) may.allowed may.in_range none).within.near n
 
 pub few-at-homes : NoNodeHasTooMany
 few-at-homes cfg calls may none n =
     let most : ℕ = 2 * cfg.high + cfg.over + cfg.idle in
-    let all = calls-steady most (begun cfg) calls (start-steady most cfg may.usable (record { high = omega arith; over = omega arith; idle = omega arith })) may.allowed may.in_range none in
-    subst (λ (c : Config). connections_at (after_calls (begun cfg) calls).books.loads n ≤ 2 * c.high) (configs-stay (begun cfg) calls) (all.within.homes n)
+    let all = calls-steady most (dispatch_begun cfg) calls (start-steady most cfg may.usable (record { high = omega arith; over = omega arith; idle = omega arith })) may.allowed may.in_range none in
+    subst (λ (c : Config). connections_at (after_calls (dispatch_begun cfg) calls).books.loads n ≤ 2 * c.high) (configs-stay (dispatch_begun cfg) calls) (all.within.homes n)

@@ -3,7 +3,7 @@ use Rattle.std.specs.Prelude.{ℕ, List, [], refl}
 use Rattle.std.specs.Coded.{Coded, code_by, coded×, coded_ℕ, coded_list}
 use Rattle.lard_base.specs.contracts.config.Config as config
 use Rattle.lard_base.specs.declared.config.Config.{Config}
-use Rattle.lard_loads.specs.Tally.{Tally, coded_tally, start}
+use Rattle.lard_loads.specs.Tally.{Tally, coded_tally, tally_start}
 use Rattle.lard_sets.specs.contracts.sets.ServerSet as server_set
 use Rattle.lard_sets.specs.declared.sets.ServerSet.{ServerSet}
 use Rattle.lard_dispatch.specs.contracts.line.Waiting as waiting
@@ -28,5 +28,5 @@ abbrev pub coded_dispatcher : Coded Dispatcher
 coded_dispatcher = code_by _ (coded× config.the_row.coded coded_books) (λ d. (d.config, d.books)) (λ p. record { config = p.0; books = p.1 }) (λ _. refl)
 
 -- no connection, no server set, and nobody waits
-abbrev pub begun : Config → Dispatcher
-begun cfg = record { config = cfg; books = record { loads = start cfg.nodes; sets = []; line = [] } }
+abbrev pub dispatch_begun : Config → Dispatcher
+dispatch_begun cfg = record { config = cfg; books = record { loads = tally_start cfg.nodes; sets = []; line = [] } }

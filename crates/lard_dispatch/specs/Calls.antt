@@ -18,7 +18,7 @@ use Rattle.lard_dispatch.specs.declared.dispatch.First.TheVariants.{Go, Waits}
 use Rattle.lard_dispatch.specs.declared.dispatch.Later.{Later}
 use Rattle.lard_dispatch.specs.declared.line.Waiting.{Waiting}
 use Rattle.lard_dispatch.specs.Books.{Books, Dispatcher}
-use Rattle.lard_dispatch.specs.Line.{without}
+use Rattle.lard_dispatch.specs.Line.{line_without}
 
 -- ---- server sets, as a choice changes them
 
@@ -104,9 +104,9 @@ abbrev pub released_from : Books → ℕ → Books
 released_from b c = record b { loads = released b.loads c }
 
 -- the first of the line is admitted, with the target that it waits with
-abbrev pub next_answer : Config → Millis → Books → List Waiting → Option (ℕ × FirstChoice)
-next_answer cfg now b [] = None
-next_answer cfg now b (w ∷ ws) = Some (w.c, choice_at cfg b w.target now)
+abbrev pub next_admission : Config → Millis → Books → List Waiting → Option (ℕ × FirstChoice)
+next_admission cfg now b [] = None
+next_admission cfg now b (w ∷ ws) = Some (w.c, choice_at cfg b w.target now)
 
 abbrev pub next_admitted : Config → Millis → Books → List Waiting → Books
 next_admitted cfg now b [] = b
@@ -114,7 +114,7 @@ next_admitted cfg now b (w ∷ ws) = admitted_with cfg (record b { line = ws }) 
 
 -- a connection is released, and the first of the line admitted
 abbrev pub ended_answer : Dispatcher → ℕ → Millis → Option (ℕ × FirstChoice)
-ended_answer d c now = next_answer d.config now (released_from d.books c) d.books.line
+ended_answer d c now = next_admission d.config now (released_from d.books c) d.books.line
 
 abbrev pub after_ended : Dispatcher → ℕ → Millis → Dispatcher
 after_ended d c now = record d { books = next_admitted d.config now (released_from d.books c) d.books.line }
@@ -122,8 +122,8 @@ after_ended d c now = record d { books = next_admitted d.config now (released_fr
 -- ---- the line, and closed nodes
 
 abbrev pub after_leave : Dispatcher → ℕ → Dispatcher
-after_leave d c = record d { books = record d.books { line = without d.books.line c } }
+after_leave d c = record d { books = record d.books { line = line_without d.books.line c } }
 
 -- an open node is closed, and serves no target any longer
 abbrev pub after_close : Dispatcher → ℕ → Dispatcher
-after_close d n = if is_open d.books.loads n then record d { books = record d.books { loads = tally.closed d.books.loads n; sets = sets.closed d.books.sets n } } else d
+after_close d n = if is_open d.books.loads n then record d { books = record d.books { loads = tally.tally_closed d.books.loads n; sets = sets.sets_closed d.books.sets n } } else d

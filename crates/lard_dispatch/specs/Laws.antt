@@ -5,9 +5,9 @@ use Rattle.lard_base.specs.declared.config.Config.{Config}
 use Rattle.lard_base.specs.declared.ids.Millis.{Millis}
 use Rattle.lard_loads.specs.Tally.{admitted, has_other_open, home}
 use Rattle.lard_dispatch.specs.declared.dispatch.Ask.{Ask}
-use Rattle.lard_dispatch.specs.Books.{Dispatcher, begun}
+use Rattle.lard_dispatch.specs.Books.{Dispatcher, dispatch_begun}
 use Rattle.lard_dispatch.specs.Calls.{after_close, after_ended, after_first, after_later, after_leave}
-use Rattle.lard_dispatch.specs.Line.{waits}
+use Rattle.lard_dispatch.specs.Line.{line_waits}
 use Rattle.lard_dispatch.specs.Sound.{AreApart, IsNode}
 
 -- a call of the dispatcher
@@ -20,7 +20,7 @@ pub data Call : Type 0 where
 
 -- what the caller of each has to see to
 abbrev pub IsAllowed : Dispatcher → Call → Type 0
-IsAllowed d (First c target now) = (home d.books.loads c ≡ None) × (waits d.books.line c ≡ false)
+IsAllowed d (First c target now) = (home d.books.loads c ≡ None) × (line_waits d.books.line c ≡ false)
 IsAllowed d (Later ask now) = home d.books.loads ask.c ≡ Some ask.home
 IsAllowed d (Ended c now) = is_some (home d.books.loads c) ≡ true
 IsAllowed d (Leave c) = Unit {0}
@@ -43,12 +43,12 @@ AreAllowed d [] = Unit {0}
 AreAllowed d (call ∷ calls) = IsAllowed d call × AreAllowed (after_call d call) calls
 
 -- At no moment are more connections admitted than there is room for.
-abbrev pub StaysWithinTheRoom : Type 0
-StaysWithinTheRoom = (cfg : Config) (calls : List Call) → config_check cfg ≡ Ok tt → AreAllowed (begun cfg) calls
-    → admitted (after_calls (begun cfg) calls).books.loads ≤ room_of cfg
+abbrev pub AdmitsWithinTheRoom : Type 0
+AdmitsWithinTheRoom = (cfg : Config) (calls : List Call) → config_check cfg ≡ Ok tt → AreAllowed (dispatch_begun cfg) calls
+    → admitted (after_calls (dispatch_begun cfg) calls).books.loads ≤ room_of cfg
 
 -- Somebody waits only while as many are admitted as there is room for; nobody waits who is admitted, and nobody twice.
 abbrev pub WaitsForRoomAlone : Type 0
-WaitsForRoomAlone = (cfg : Config) (calls : List Call) → config_check cfg ≡ Ok tt → AreAllowed (begun cfg) calls
-    → (0 < length (after_calls (begun cfg) calls).books.line → admitted (after_calls (begun cfg) calls).books.loads ≡ room_of cfg)
-    × AreApart (after_calls (begun cfg) calls).books.loads.standings (after_calls (begun cfg) calls).books.line
+WaitsForRoomAlone = (cfg : Config) (calls : List Call) → config_check cfg ≡ Ok tt → AreAllowed (dispatch_begun cfg) calls
+    → (0 < length (after_calls (dispatch_begun cfg) calls).books.line → admitted (after_calls (dispatch_begun cfg) calls).books.loads ≡ room_of cfg)
+    × AreApart (after_calls (dispatch_begun cfg) calls).books.loads.standings (after_calls (dispatch_begun cfg) calls).books.line

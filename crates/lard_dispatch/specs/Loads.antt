@@ -4,14 +4,14 @@ use Rattle.std.specs.List.{AllByRecursion}
 use Rattle.lard_base.specs.Config.{config_check, room_of}
 use Rattle.lard_base.specs.declared.config.Config.{Config}
 use Rattle.lard_loads.specs.Charges.{Charge, Connect, IsConnection, Release, Share, BatchOver, charges_from, units_at}
-use Rattle.lard_loads.specs.Charges.{Call as Counted}
+use Rattle.lard_loads.specs.Charges.{LoadCall as Counted}
 use Rattle.lard_loads.specs.Tally.{Tally, admitted, connections, home, load, numbers}
 use Rattle.lard_policy.specs.declared.first.FirstChoice.{FirstChoice}
 use Rattle.lard_costs.specs.declared.later.LaterChoice.{LaterChoice}
 use Rattle.lard_dispatch.specs.declared.dispatch.Ask.{Ask}
 use Rattle.lard_dispatch.specs.declared.dispatch.First.{First as Answer}
 use Rattle.lard_dispatch.specs.declared.dispatch.First.TheVariants.{Go, Waits}
-use Rattle.lard_dispatch.specs.Books.{Dispatcher, begun}
+use Rattle.lard_dispatch.specs.Books.{Dispatcher, dispatch_begun}
 use Rattle.lard_dispatch.specs.Calls.{ended_answer, first_answer, later_answer}
 use Rattle.lard_dispatch.specs.Laws.{AreAllowed, Call, after_call, after_calls}
 use Rattle.lard_dispatch.specs.Laws.Call.{First, Later, Ended, Leave, Close}
@@ -33,40 +33,40 @@ abbrev pub later_counted : Ask → List LaterChoice → List Counted
 later_counted ask choices = map (λ choice. Share ask.c choice.node ask.size) choices
 
 -- the calls of the loads that a call of the dispatcher makes, by what it answers
-abbrev pub counted : Dispatcher → Call → List Counted
-counted d (First c target now) = first_counted c (first_answer d target now)
-counted d (Later ask now) = BatchOver ask.c ∷ later_counted ask (later_answer d ask now).choices
-counted d (Ended c now) = Release c ∷ next_counted (ended_answer d c now)
-counted d (Leave c) = []
-counted d (Close n) = []
+abbrev pub counted_calls : Dispatcher → Call → List Counted
+counted_calls d (First c target now) = first_counted c (first_answer d target now)
+counted_calls d (Later ask now) = BatchOver ask.c ∷ later_counted ask (later_answer d ask now).choices
+counted_calls d (Ended c now) = Release c ∷ next_counted (ended_answer d c now)
+counted_calls d (Leave c) = []
+counted_calls d (Close n) = []
 
 abbrev pub all_counted : Dispatcher → List Call → List Counted
 all_counted d [] = []
-all_counted d (call ∷ calls) = counted d call ++ all_counted (after_call d call) calls
+all_counted d (call ∷ calls) = counted_calls d call ++ all_counted (after_call d call) calls
 
 -- the charges that are open after these calls
 abbrev pub open_charges : Config → List Call → List Charge
-open_charges cfg calls = charges_from [] (all_counted (begun cfg) calls)
+open_charges cfg calls = charges_from [] (all_counted (dispatch_begun cfg) calls)
 
 -- the loads after these calls
 abbrev pub loads_after : Config → List Call → Tally
-loads_after cfg calls = (after_calls (begun cfg) calls).books.loads
+loads_after cfg calls = (after_calls (dispatch_begun cfg) calls).books.loads
 
 -- ---- premises
 
 -- a call names a connection, and a batch has no more paths than requests
-abbrev pub IsInRange : Call → Type 0
-IsInRange (First c target now) = IsConnection c
-IsInRange (Later ask now) = IsConnection ask.c × (length ask.paths ≤ ask.size)
-IsInRange (Ended c now) = IsConnection c
-IsInRange (Leave c) = Unit {0}
-IsInRange (Close n) = Unit {0}
+abbrev pub IsCallInRange : Call → Type 0
+IsCallInRange (First c target now) = IsConnection c
+IsCallInRange (Later ask now) = IsConnection ask.c × (length ask.paths ≤ ask.size)
+IsCallInRange (Ended c now) = IsConnection c
+IsCallInRange (Leave c) = Unit {0}
+IsCallInRange (Close n) = Unit {0}
 
 -- calls as they may be made with such a configuration
 pub record MayBeMade (cfg : Config) (calls : List Call) : Type 0 where
   pub usable : config_check cfg ≡ Ok tt
-  pub allowed : AreAllowed (begun cfg) calls
-  pub in_range : AllByRecursion IsInRange calls
+  pub allowed : AreAllowed (dispatch_begun cfg) calls
+  pub in_range : AllByRecursion IsCallInRange calls
 
 -- no node is closed
 abbrev pub ClosesNone : Call → Type 0
@@ -112,13 +112,13 @@ NoLoadExceedsTheThresholds = (cfg : Config) (calls : List Call) → MayBeMade cf
 -- ---- connections, without their shares
 
 -- a home that is this node
-abbrev pub is_at : Option ℕ → ℕ → Bool
-is_at None n = false
-is_at (Some h) n = nat_eq h n
+abbrev pub is_home_of_node : Option ℕ → ℕ → Bool
+is_home_of_node None n = false
+is_home_of_node (Some h) n = nat_eq h n
 
 -- how many connections are at a node: those whose home it is
 abbrev pub connections_at : Tally → ℕ → ℕ
-connections_at t n = count_by (λ c. is_at (home t c) n) connections
+connections_at t n = count_by (λ c. is_home_of_node (home t c) n) connections
 
 -- Where no node is closed, no node has more than 2 T_high connections.
 abbrev pub NoNodeHasTooMany : Type 0

@@ -11,12 +11,12 @@ use Rattle.lard_sets.specs.Sets.{set_of}
 use Rattle.lard_sets.specs.declared.sets.ServerSet.{ServerSet}
 use Rattle.lard_dispatch.specs.declared.line.Waiting.{Waiting}
 use Rattle.lard_dispatch.specs.Books.{Dispatcher}
-use Rattle.lard_dispatch.specs.Line.{waits}
+use Rattle.lard_dispatch.specs.Line.{line_waits}
 
 -- nobody waits who is admitted, and nobody twice
 abbrev pub AreApart : FinMap nat_cmp Standing → List Waiting → Type 0
 AreApart standings [] = Unit {0}
-AreApart standings (w ∷ ws) = (map.get standings w.c ≡ None) × (waits ws w.c ≡ false) × AreApart standings ws
+AreApart standings (w ∷ ws) = (map.get standings w.c ≡ None) × (line_waits ws w.c ≡ false) × AreApart standings ws
 
 abbrev pub IsNode : ℕ → ℕ → Type 0
 IsNode nodes n = (1 ≤ n) × (n ≤ nodes)
@@ -33,7 +33,7 @@ AreServedByNodes nodes sets = (target : List ℕ) (n : ℕ) → has (set_of sets
 abbrev pub AreBefore : ℕ → List (List ℕ × ServerSet) → Type 0
 AreBefore now sets = (target : List ℕ) → (set_of sets target).modified.0 ≤ now
 
-pub record IsSound (d : Dispatcher) : Type 0 where
+pub record IsDispatcherSound (d : Dispatcher) : Type 0 where
   pub usable : config_check d.config ≡ Ok tt
   pub nodes : d.books.loads.nodes ≡ d.config.nodes
   pub open_nodes : AllByRecursion (IsNode d.config.nodes) d.books.loads.open_nodes

@@ -7,10 +7,10 @@ ghost use Rattle.std.specs.Vec.{vec_capacity};
 ghost use Rattle.lard_base.specs.Config.{config_check};
 ghost use Rattle.lard_loads.specs.Tally.{connected, has_other_open, home as home_of, is_open, open_shares, shared};
 ghost use Rattle.lard_sets.specs.Sets.{has_place, set_of};
-ghost use Rattle.lard_dispatch.specs.Books.{Books, Dispatcher, begun};
+ghost use Rattle.lard_dispatch.specs.Books.{Books, Dispatcher, dispatch_begun};
 ghost use Rattle.lard_dispatch.specs.Calls.{all_choices, all_shared, all_touched, later_choice_at, unlined, joined, reduced, choice_at, first_answer, after_first, later_answer, after_later, ended_answer, after_ended, after_leave, after_close};
-ghost use Rattle.lard_dispatch.specs.Line.{waits};
-ghost use Rattle.lard_dispatch.specs.Sound.{AreBefore, AreServedByNodes, IsSound};
+ghost use Rattle.lard_dispatch.specs.Line.{line_waits};
+ghost use Rattle.lard_dispatch.specs.Sound.{AreBefore, AreServedByNodes, IsDispatcherSound};
 
 use crate::line::Line;
 use lard_base::{Config, ConnId, Items, Millis, NoMemory, NodeId, Path, Paths};
@@ -71,7 +71,7 @@ impl Model for Dispatch {
     ghost use Rattle.std.specs.Prelude.{◌≡◌};
     ghost use Rattle.lard_base.specs.Config.{room_of};
     ghost use Rattle.lard_dispatch.specs.Books.{Dispatcher, coded_dispatcher};
-    ghost use Rattle.lard_dispatch.specs.Sound.{IsSound};
+    ghost use Rattle.lard_dispatch.specs.Sound.{IsDispatcherSound};
 
     ghost Value = { Dispatcher };
 
@@ -79,14 +79,14 @@ impl Model for Dispatch {
 
     ghost view = { λ d. record { config = d.config; books = record { loads = d.loads; sets = d.sets; line = d.line } } };
 
-    ghost invariant = { λ d. (d.room ≡ room_of d.config) × IsSound (record { config = d.config; books = record { loads = d.loads; sets = d.sets; line = d.line } }) };
+    ghost invariant = { λ d. (d.room ≡ room_of d.config) × IsDispatcherSound (record { config = d.config; books = record { loads = d.loads; sets = d.sets; line = d.line } }) };
 }
 
 impl Dispatch {
     /// No connection, and no server set. The configuration passes its check. `NoMemory` where memory runs out.
     pub fn new(alloc: Global, config: Config) -> Result<Dispatch, NoMemory>
         requires { config_check config ≡ Ok tt }
-        ensures value { IfOk result (λ d. d ≡ begun config) }
+        ensures value { IfOk result (λ d. d ≡ dispatch_begun config) }
         ensures clock { IfOk result (λ d. AreBefore 0 d.books.sets) }
     {
         let Ok(()) = config.check() else {
@@ -109,14 +109,14 @@ impl Dispatch {
     /// The loads of the nodes, lent, with what holds between two calls.
     pub fn loads(&self) -> &Loads
         ensures value { result.now ≡ self.now.books.loads }
-        ensures law { IsSound self.now }
+        ensures law { IsDispatcherSound self.now }
     {
         &self.loads
     }
 
     /// Whether the connection waits.
     pub fn waits(&self, c: ConnId) -> bool
-        ensures { result ≡ waits self.now.books.line c }
+        ensures { result ≡ line_waits self.now.books.line c }
     {
         self.line.waits(c)
     }
@@ -125,7 +125,7 @@ impl Dispatch {
     /// there is room, and else waits. No set was changed after `now`. Without memory nothing changes.
     pub fn first(&mut self, c: ConnId, target: &Path, now: Millis) -> Result<First, NoMemory>
         requires free { home_of self.old.books.loads c ≡ None }
-        requires away { waits self.old.books.line c ≡ false }
+        requires away { line_waits self.old.books.line c ≡ false }
         requires clock { AreBefore now.0 self.old.books.sets }
         ensures clock { OnOk result (AreBefore now.0 self.new.books.sets) }
         ensures answer { IfOk result (λ first. first ≡ first_answer self.old target.now now) }

@@ -1,11 +1,11 @@
 //! What holds after any number of calls.
 
-ghost use Rattle.lard_dispatch.specs.Laws.{StaysWithinTheRoom, WaitsForRoomAlone};
+ghost use Rattle.lard_dispatch.specs.Laws.{AdmitsWithinTheRoom, WaitsForRoomAlone};
 ghost use Rattle.lard_dispatch.specs.Loads.{FewAreHighWhileNoneIsLow, LoadsAddUp, LoadsAreCharges, NoLoadExceedsTheRoom, NoLoadExceedsTheThresholds, NoNodeHasTooMany, SharesAreWithinWholes};
 
 /// At no moment are more connections admitted than there is room for.
 pub fn admission_is_bounded()
-    ensures { StaysWithinTheRoom }
+    ensures { AdmitsWithinTheRoom }
 {}
 
 /// Somebody waits only while as many are admitted as there is room for; nobody waits who is admitted, and nobody twice.

@@ -1,7 +1,7 @@
 //! The line of waiting connections.
 
 ghost use Rattle.std.specs.Prelude.{◌≡◌, ◌+◌, ◌<◌, ◌≤◌, false, [], length, replicate, ◌∷◌, ◌++◌, IfOk, OnOk, OnErr, IfNone, IfSome, slice_get, option_copied};
-ghost use Rattle.lard_dispatch.specs.Line.{arrival_of, waits, without};
+ghost use Rattle.lard_dispatch.specs.Line.{arrival_of, line_waits, line_without};
 
 use lard_base::{ConnId, NoMemory, Path};
 use std::alloc::{AllocError, Global};
@@ -30,13 +30,13 @@ pub struct Line {
 impl Model for Line {
     ghost use Rattle.std.specs.Prelude.{List};
     ghost use Rattle.lard_dispatch.specs.declared.line.Waiting.{Waiting};
-    ghost use Rattle.lard_dispatch.specs.Line.{IsKept, who};
+    ghost use Rattle.lard_dispatch.specs.Line.{IsLineKept, who};
 
     ghost Value = { List Waiting };
 
     ghost view = { λ l. who l.waiting.entries };
 
-    ghost invariant = { λ l. IsKept l.waiting.entries l.arrivals.items l.next };
+    ghost invariant = { λ l. IsLineKept l.waiting.entries l.arrivals.items l.next };
 }
 
 impl Line {
@@ -55,7 +55,7 @@ impl Line {
 
     /// Whether the connection waits.
     pub fn waits(&self, c: ConnId) -> bool
-        ensures { result ≡ waits self.now c }
+        ensures { result ≡ line_waits self.now c }
     {
         let arrival = arrival_of(self.arrivals.as_slice(), c);
         self.waiting.contains_key(&arrival)
@@ -63,7 +63,7 @@ impl Line {
 
     /// Puts a connection that does not wait behind all others. Without memory nothing changes.
     pub fn push(&mut self, c: ConnId, target: Path) -> Result<(), NoMemory>
-        requires { waits self.old c ≡ false }
+        requires { line_waits self.old c ≡ false }
         ensures ok { OnOk result (self.new ≡ self.old ++ record { c = c; target = target } ∷ []) }
         ensures err { OnErr result (self.new ≡ self.old) }
     {
@@ -100,7 +100,7 @@ impl Line {
 
     /// Takes a connection out of the line, wherever it stands. One that does not wait changes nothing.
     pub fn leave(&mut self, c: ConnId)
-        ensures { self.new ≡ without self.old c }
+        ensures { self.new ≡ line_without self.old c }
     {
         let arrival = arrival_of(self.arrivals.as_slice(), c);
         let _ = self.waiting.remove(&arrival);

@@ -3,7 +3,7 @@ use Rattle.std.proofs.Common.{◌≡◌, ℕ, ◌+◌, ◌-◌, ◌^◌, ◌<◌
 use Rattle.std.specs.Prelude.{if◌then◌else◌}
 use Rattle.std.proofs.lemmas.Bool.{cond_both, cases_lt, lt-ltb, and_from, false≢true}
 use Rattle.std.proofs.lemmas.List.{drop-take, drop-drop, drop_all, length-take, take_min, take_all, take-take}
-use Rattle.lard_recv.specs.Recv.{Received, awaited, room, begins_after, fresh, gained}
+use Rattle.lard_recv.specs.Recv.{Received, awaited, receive_room, begins_after, fresh_bytes, gained}
 use Rattle.lard_seq.specs.Seq.{one_if, seq_add, seq_offset}
 use Rattle.lard_arrival.specs.Arrival.{IsPartAt}
 use Rattle.lard_endpoint.specs.Laws.{IsTrueData}
@@ -40,15 +40,15 @@ module _ (r : Received) (all : List ℕ) (k seq : ℕ) (data_ : List ℕ) (got :
   next = let none : one_if r.fin ≡ 0 = ap one_if open_ in ap (seq_add r.irs) (omega arith)
 
   -- a segment that begins at the awaited byte or before it
-  behind : k ≤ r.got → IsPartAt r.got (fresh r seq data_) all
+  behind : k ≤ r.got → IsPartAt r.got (fresh_bytes r seq data_) all
   behind le =
       let first = t.first in
       let most = t.most in
       let offset : seq_offset (awaited r) seq ≡ r.got - k =
       ap (seq_offset (awaited r)) t.number ∙ ap (λ n. seq_offset n (seq_add r.irs (1 + k))) next ∙ offset_later r.irs (1 + r.got) (1 + k) first (omega arith) (omega arith) ∙ omega arith in
       let place : k + (r.got - k) ≡ r.got = omega arith in
-      subst (λ (d : ℕ). IsPartAt r.got (take (room r) (drop d data_)) all) (sym offset)
-      (subst (λ (n : ℕ). IsPartAt n (take (room r) (drop (r.got - k) data_)) all) place (cut_part k (r.got - k) (room r) data_ all (omega arith) t.part))
+      subst (λ (d : ℕ). IsPartAt r.got (take (receive_room r) (drop d data_)) all) (sym offset)
+      (subst (λ (n : ℕ). IsPartAt n (take (receive_room r) (drop (r.got - k) data_)) all) place (cut_part k (r.got - k) (receive_room r) data_ all (omega arith) t.part))
 
   -- one that begins after it is seen
   ahead : r.got < k → begins_after seq (awaited r) ≡ true
@@ -61,11 +61,11 @@ module _ (r : Received) (all : List ℕ) (k seq : ℕ) (data_ : List ℕ) (got :
       and_from (nat_lt 0 (seq_offset seq (awaited r))) (nat_lt (seq_offset seq (awaited r)) (2 ^ 31))
       (lt-ltb 0 (seq_offset seq (awaited r)) (omega arith)) (lt-ltb (seq_offset seq (awaited r)) (2 ^ 31) (omega arith))
 
-  not_ahead : begins_after seq (awaited r) ≡ false → IsPartAt r.got (fresh r seq data_) all
+  not_ahead : begins_after seq (awaited r) ≡ false → IsPartAt r.got (fresh_bytes r seq data_) all
   not_ahead e = ⊎_elim (λ (lt : r.got < k). absurd (false≢true (sym e ∙ ahead lt))) (λ (le : k ≤ r.got). behind le) (cases_lt r.got k)
 
 pub gained-part : (r : Received) (all : List ℕ) (k seq : ℕ) (data_ : List ℕ) → r.got ≤ length all → IsTrueData r all k seq data_ → IsPartAt r.got (gained r seq data_) all
 gained-part r all k seq data_ h t =
     let P : List ℕ → Type 0 = λ z. IsPartAt r.got z all in
-    cond_both (begins_after seq (awaited r)) [] (if r.fin then [] else fresh r seq data_) P (λ b. nothing_at r.got all h)
-    (λ b. cond_both r.fin [] (fresh r seq data_) P (λ f. nothing_at r.got all h) (λ f. not_ahead r all k seq data_ h t f b))
+    cond_both (begins_after seq (awaited r)) [] (if r.fin then [] else fresh_bytes r seq data_) P (λ b. nothing_at r.got all h)
+    (λ b. cond_both r.fin [] (fresh_bytes r seq data_) P (λ f. nothing_at r.got all h) (λ f. not_ahead r all k seq data_ h t f b))

@@ -2,10 +2,10 @@
 use Rattle.std.proofs.Common.{◌≡◌, ℕ, ◌+◌, ◌-◌, ◌^◌, ◌<◌, ◌≤◌, max, Bool, true, false, nat_lt, ◌==◌, not, ◌&&◌, ◌||◌, List, ◌++◌, length, drop, arith, length-append, length-drop, sym, ap, ◌∙◌, refl}
 use Rattle.std.proofs.lemmas.Bool.{cond_both, cond-true, ltb-true, ltb-false, eqb-true, eqb-false, and_parts, not-true}
 use Rattle.std.specs.Prelude.{if◌then◌else◌, Option, Some, None}
-use Rattle.lard_recv.specs.Recv.{Received, IsReceived, room, begins_after, awaited, fresh, ends, taken, arrived}
+use Rattle.lard_recv.specs.Recv.{Received, IsReceived, receive_room, begins_after, awaited, fresh_bytes, ends, bytes_taken, arrived}
 use Rattle.lard_recv.proofs.Window.{arrived-irs, fresh-fits}
 use Rattle.lard_send.proofs.Sent.{after_ack-irs}
-use Rattle.lard_send.specs.Send.{Sending, IsSending, symbols, is_newer, moved_up, windowed, after_ack, left, may_send, unsent_bytes, next_len, next_fin, next_piece, after_next, resent_piece, after_resend, queued_too}
+use Rattle.lard_send.specs.Send.{Sending, IsSending, symbols, is_newer, moved_up, windowed, after_ack, send_left, may_send, unsent_bytes, next_len, next_fin, next_piece, after_next, resent_piece, after_resend, queued_too}
 use Rattle.lard_send.specs.declared.piece.Piece.{Piece}
 use Rattle.lard_endpoint.specs.declared.control.arriving.Arrival.{Arrival}
 use Rattle.lard_endpoint.specs.declared.control.arriving.Arrival.TheVariants.{Fine, AckOwed, Reset}
@@ -17,7 +17,7 @@ use Rattle.lard_endpoint.specs.Control.{ControlBlock, IsControlBlock, rcv_nxt, r
 use Rattle.lard_endpoint.specs.Leaving.{told, owes, after_owed, after_piece, advanced, retried, after_emit, after_timer}
 
 -- ---- the receiving half
-taken-sound : (r : Received) (bytes : List ℕ) (fin : Bool) → length bytes ≤ room r → IsReceived r → IsReceived (taken r bytes fin)
+taken-sound : (r : Received) (bytes : List ℕ) (fin : Bool) → length bytes ≤ receive_room r → IsReceived r → IsReceived (bytes_taken r bytes fin)
 taken-sound r bytes fin le h =
     let size = length-append r.unread bytes in
     record {
@@ -31,7 +31,7 @@ pub arrived-sound : (r : Received) (seq : ℕ) (data_ : List ℕ) (fin : Bool) �
 arrived-sound r seq data_ fin h =
     let least = fresh-fits r seq data_ in
     cond_both (begins_after seq (awaited r)) r _ IsReceived (λ b. h)
-    (λ b. cond_both r.fin r (taken r (fresh r seq data_) (ends r seq data_ fin)) IsReceived (λ f. h) (λ f. taken-sound r (fresh r seq data_) (ends r seq data_ fin) least h))
+    (λ b. cond_both r.fin r (bytes_taken r (fresh_bytes r seq data_) (ends r seq data_ fin)) IsReceived (λ f. h) (λ f. taken-sound r (fresh_bytes r seq data_) (ends r seq data_ fin) least h))
 
 -- ---- the sending half
 moved_up-sound : (s : Sending) (offset : ℕ) → offset ≤ s.nxt → IsSending s → IsSending (moved_up s offset)
@@ -65,11 +65,11 @@ nxt-sound s nxt a b h = record { sent = a; queued = b; kept = h.kept; most = h.m
 -- what is sent next is queued
 next-within : (s : Sending) (b : Bool) → IsSending s → may_send s ≡ true → next_fin s ≡ b → s.nxt + next_len s + one_if b ≤ symbols s
 next-within s true h m e =
-    let ends = and_parts s.finished ((next_len s == unsent_bytes s) && nat_lt (next_len s) (left s)) e in
+    let ends = and_parts s.finished ((next_len s == unsent_bytes s) && nat_lt (next_len s) (send_left s)) e in
     let one : one_if s.finished ≡ 1 = ap one_if ends.0 in
-    let all : next_len s ≡ unsent_bytes s = eqb-true (next_len s) (unsent_bytes s) (and_parts (next_len s == unsent_bytes s) (nat_lt (next_len s) (left s)) ends.1).0 in
-    let may = and_parts (not (s.una == 0)) (nat_lt s.nxt (symbols s) && nat_lt 0 (left s)) m in
-    let some : s.nxt < symbols s = ltb-true s.nxt (symbols s) (and_parts (nat_lt s.nxt (symbols s)) (nat_lt 0 (left s)) may.1).0 in
+    let all : next_len s ≡ unsent_bytes s = eqb-true (next_len s) (unsent_bytes s) (and_parts (next_len s == unsent_bytes s) (nat_lt (next_len s) (send_left s)) ends.1).0 in
+    let may = and_parts (not (s.una == 0)) (nat_lt s.nxt (symbols s) && nat_lt 0 (send_left s)) m in
+    let some : s.nxt < symbols s = ltb-true s.nxt (symbols s) (and_parts (nat_lt s.nxt (symbols s)) (nat_lt 0 (send_left s)) may.1).0 in
     let begun : s.una ≡ 0 → ⊥ = eqb-false s.una 0 (not-true (s.una == 0) may.0) in
     omega arith
 next-within s false h m e = omega arith

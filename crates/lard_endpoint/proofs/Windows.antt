@@ -7,7 +7,7 @@ use Rattle.lard_endpoint.specs.declared.control.arriving.Arrival.{Arrival}
 use Rattle.lard_endpoint.specs.declared.control.arriving.Arrival.TheVariants.{Fine, AckOwed, Reset}
 use Rattle.lard_endpoint.specs.Arriving.{owing, on_text, on_acked, on_ack, on_syn, on_rst, on_unacceptable, on_segment}
 use Rattle.lard_endpoint.specs.Control.{ControlBlock, rcv_nxt, rcv_wnd}
-use Rattle.lard_endpoint.specs.Laws.{Call, Arrives, Queues, Finishes, Reads, Discards, Emits, Fires, called, after_calls, TellsTheWindow}
+use Rattle.lard_endpoint.specs.Laws.{EndpointCall, Arrives, Queues, Finishes, Reads, Discards, Emits, Fires, called, endpoint_after_calls, TellsTheWindow}
 use Rattle.lard_endpoint.specs.Leaving.{piece_ready, ack_ready, told, owes, owed_ready, ready_of, after_piece, advanced, retried, emitted, after_emit, timed, after_timer}
 use Rattle.lard_recv.proofs.Window.{end-arrived, end-read}
 use Rattle.lard_recv.specs.Recv.{Received, arrived, window_end}
@@ -15,14 +15,14 @@ use Rattle.lard_segment.specs.declared.segment.Ready.{Ready}
 use Rattle.lard_segment.specs.Segment.{Said}
 use Rattle.lard_send.proofs.Firsts.{next-allowed}
 use Rattle.lard_send.specs.declared.piece.Piece.{Piece}
-use Rattle.lard_send.specs.Send.{Sending, after_ack, next_piece, resent_piece, IsAllowed}
+use Rattle.lard_send.specs.Send.{Sending, after_ack, next_piece, resent_piece, IsPieceAllowed}
 use Rattle.lard_seq.specs.Seq.{one_if, seq_offset}
 
 -- ---- the peer's window
 abbrev Stays : Sending → Ready → Type 0
 Stays s r = (r.len ≤ s.mss) × (r.flags.syn ≡ false → 0 < r.len + one_if r.flags.fin → (1 + r.at) + r.len + one_if r.flags.fin ≤ s.una + s.wnd)
 
-piece-stays : (c : ControlBlock) (s : Sending) (p : Piece) → IsAllowed s p → Stays s (piece_ready c p)
+piece-stays : (c : ControlBlock) (s : Sending) (p : Piece) → IsPieceAllowed s p → Stays s (piece_ready c p)
 piece-stays c s p h = (h.small, λ e some. let first = h.first e in let below = h.below e in omega arith)
 
 by_piece : (c d : ControlBlock) (p : Option Piece) (b : Bool) → next_piece c.send ≡ p → IfSome (ready_of d p (if b then Some (ack_ready d) else None)) (Stays c.send)
@@ -106,7 +106,7 @@ emit-recv c = by_sent c.reset (owes (advanced c)) c (advanced c) (next_piece c.s
 pub timer-recv : (c : ControlBlock) → (after_timer c).recv ≡ c.recv
 timer-recv c = by_sent c.reset false c (retried c) (resent_piece c.send) refl
 
-end-called : (c : ControlBlock) (call : Call) → window_end c.recv ≤ window_end (called c call).recv
+end-called : (c : ControlBlock) (call : EndpointCall) → window_end c.recv ≤ window_end (called c call).recv
 end-called c (Arrives s) = segment-recv (λ r. window_end c.recv ≤ window_end r) c s (omega arith) (end-arrived c.recv s.seq s.payload s.flags.fin)
 end-called c (Queues bytes) = omega arith
 end-called c Finishes = omega arith
@@ -115,7 +115,7 @@ end-called c Discards = (end-read c.recv 0).1
 end-called c Emits = subst (λ (r : Received). window_end c.recv ≤ window_end r) (sym (emit-recv c)) (omega arith)
 end-called c Fires = subst (λ (r : Received). window_end c.recv ≤ window_end r) (sym (timer-recv c)) (omega arith)
 
-pub end-stays : (c : ControlBlock) (calls : List Call) → window_end c.recv ≤ window_end (after_calls c calls).recv
+pub end-stays : (c : ControlBlock) (calls : List EndpointCall) → window_end c.recv ≤ window_end (endpoint_after_calls c calls).recv
 end-stays c [] = omega arith
 end-stays c (call ∷ calls) =
     let one = end-called c call in

@@ -3,9 +3,9 @@
 use Rattle.std.specs.Prelude.{◌≡◌, ℕ, Bool, false, List, []}
 use Rattle.lard_arrival.specs.Arrival.{peer_mss}
 use Rattle.lard_base.specs.declared.limits.TheConstants.{RECEIVE_WINDOW}
-use Rattle.lard_recv.specs.Recv.{Received, IsReceived, restored, room, awaited, consumed, discarded}
+use Rattle.lard_recv.specs.Recv.{Received, IsReceived, restored, receive_room, awaited, consumed, discarded}
 use Rattle.lard_segment.specs.Segment.{Said}
-use Rattle.lard_send.specs.Send.{Sending, IsSending, begun, queued_too, closed}
+use Rattle.lard_send.specs.Send.{Sending, IsSending, send_begun, queued_too, send_closed}
 use Rattle.lard_seq.specs.Seq.{seq_add}
 
 pub record ControlBlock : Type 0 where
@@ -26,7 +26,7 @@ abbrev pub rcv_nxt : ControlBlock → ℕ
 rcv_nxt c = awaited c.recv
 
 abbrev pub rcv_wnd : ControlBlock → ℕ
-rcv_wnd c = room c.recv
+rcv_wnd c = receive_room c.recv
 
 -- SND.NXT
 abbrev pub snd_nxt : ControlBlock → ℕ
@@ -37,7 +37,7 @@ snd_nxt c = seq_add c.send.iss c.send.nxt
 abbrev pub listening : Said → ℕ → ControlBlock
 listening syn iss = record {
   recv = restored syn.seq 0 false [];
-  send = begun iss syn.seq syn.wnd (peer_mss syn.mss);
+  send = send_begun iss syn.seq syn.wnd (peer_mss syn.mss);
   owed = false;
   last_window = RECEIVE_WINDOW;
   reset = false;
@@ -49,7 +49,7 @@ queueing c bytes = record c { send = queued_too c.send bytes }
 
 -- The FIN is to follow the queued bytes (RFC 9293, 3.10.4).
 abbrev pub finishing : ControlBlock → ControlBlock
-finishing c = record c { send = closed c.send }
+finishing c = record c { send = send_closed c.send }
 
 -- The first n unread bytes are read (RFC 9293, 3.10.3).
 abbrev pub consuming : ControlBlock → ℕ → ControlBlock

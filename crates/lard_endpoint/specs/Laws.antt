@@ -90,16 +90,16 @@ EmittedStaysInTheWindow = (c : ControlBlock) (r : Ready) → emitted c ≡ Some 
     × (r.flags.syn ≡ false → 0 < r.len + one_if r.flags.fin → (1 + r.at) + r.len + one_if r.flags.fin ≤ c.send.una + c.send.wnd)
 
 -- The calls in which an endpoint goes on.
-pub data Call : Type 0 where
-  Arrives : Said → Call
-  Queues : List ℕ → Call
-  Finishes : Call
-  Reads : ℕ → Call
-  Discards : Call
-  Emits : Call
-  Fires : Call
+pub data EndpointCall : Type 0 where
+  Arrives : Said → EndpointCall
+  Queues : List ℕ → EndpointCall
+  Finishes : EndpointCall
+  Reads : ℕ → EndpointCall
+  Discards : EndpointCall
+  Emits : EndpointCall
+  Fires : EndpointCall
 
-abbrev pub called : ControlBlock → Call → ControlBlock
+abbrev pub called : ControlBlock → EndpointCall → ControlBlock
 called c (Arrives s) = (on_segment c s).1
 called c (Queues bytes) = queueing c bytes
 called c Finishes = finishing c
@@ -108,14 +108,14 @@ called c Discards = discarding_on c
 called c Emits = after_emit c
 called c Fires = after_timer c
 
-abbrev pub after_calls : ControlBlock → List Call → ControlBlock
-after_calls c [] = c
-after_calls c (call ∷ calls) = after_calls (called c call) calls
+abbrev pub endpoint_after_calls : ControlBlock → List EndpointCall → ControlBlock
+endpoint_after_calls c [] = c
+endpoint_after_calls c (call ∷ calls) = endpoint_after_calls (called c call) calls
 
 -- Whatever calls come, the end of the window, RCV.NXT and RCV.WND together, is not taken back (RFC 9293, 3.8.6: a receiver
 -- should not shrink its window).
 abbrev pub WindowIsNotTakenBack : Type 0
-WindowIsNotTakenBack = (c : ControlBlock) (calls : List Call) → window_end c.recv ≤ window_end (after_calls c calls).recv
+WindowIsNotTakenBack = (c : ControlBlock) (calls : List EndpointCall) → window_end c.recv ≤ window_end (endpoint_after_calls c calls).recv
 
 -- A segment tells this end: RCV.NXT, and RCV.WND from there on.
 pub record TellsTheWindow (c : ControlBlock) (r : Ready) : Type 0 where

@@ -8,16 +8,16 @@ use Rattle.lard_files.specs.declared.fault.FileFault.{FileFault}
 use Rattle.lard_files.specs.declared.fault.FileFault.TheVariants.{Repeated, TooLong, TooMany, TooMuch, NoMemory}
 
 -- the pairs that the entries of a map of vectors are seen as
-abbrev pub shown : List (Vec ℕ Global × List ℕ) → List (List ℕ × List ℕ)
-shown entries = map (λ e. (e.0.items, e.1)) entries
+abbrev pub files_shown : List (Vec ℕ Global × List ℕ) → List (List ℕ × List ℕ)
+files_shown entries = map (λ e. (e.0.items, e.1)) entries
 
 -- the bytes of the file with a path, if there is one
 abbrev pub file_at : List (List ℕ × List ℕ) → List ℕ → Option (List ℕ)
 file_at files path = lookup (bytes_eq path) files
 
 -- the lengths of all files, added up
-abbrev pub total : List (List ℕ × List ℕ) → ℕ
-total files = sum_by (λ f. length f.1) files
+abbrev pub files_total : List (List ℕ × List ℕ) → ℕ
+files_total files = sum_by (λ f. length f.1) files
 
 -- a path that a file may have: 1 to 1,024 bytes
 abbrev pub IsPath : List ℕ → Type 0
@@ -42,10 +42,10 @@ first_fault there count sum len =
 
 -- whether a file of len bytes may be added under a path
 abbrev pub add_check : List (List ℕ × List ℕ) → List ℕ → ℕ → Result (Unit {0}) FileFault
-add_check files path len = first_fault (is_some (file_at files path)) (length files) (total files) len
+add_check files path len = first_fault (is_some (file_at files path)) (length files) (files_total files) len
 
 -- what an addition answers: the fault of the check where there is one; else it is done, or memory ran out
-abbrev pub Answers : Result (Unit {0}) FileFault → Result (Unit {0}) FileFault → Type 0
-Answers given (Ok done) = given ≡ Ok tt
-Answers given (Err NoMemory) = given ≡ Ok tt
-Answers given (Err fault) = given ≡ Err fault
+abbrev pub AnswersAddition : Result (Unit {0}) FileFault → Result (Unit {0}) FileFault → Type 0
+AnswersAddition given (Ok done) = given ≡ Ok tt
+AnswersAddition given (Err NoMemory) = given ≡ Ok tt
+AnswersAddition given (Err fault) = given ≡ Err fault

@@ -1,7 +1,7 @@
 //! The map from paths to bytes.
 
 ghost use Rattle.std.specs.Prelude.{◌≡◌, ◌≢◌, ℕ, ◌<◌, ◌≤◌, ◌^◌, List, [], ◌∷◌, ◌++◌, length, IfOk, OnOk, OnErr, IfSome, option_copied};
-ghost use Rattle.lard_files.specs.Files.{file_at, add_check, Answers, IsContent, IsPath, first_fault as first_fault_of};
+ghost use Rattle.lard_files.specs.Files.{file_at, add_check, AnswersAddition, IsContent, IsPath, first_fault as first_fault_of};
 
 use crate::fault::FileFault;
 use indexmap::IndexMap;
@@ -22,13 +22,13 @@ pub struct Files {
 impl Model for Files {
     ghost use Rattle.std.specs.Prelude.{ℕ, ◌≡◌, ◌≤◌, List, All};
     ghost use Rattle.lard_base.specs.declared.limits.TheConstants.{MAX_ALL_FILES_BYTES};
-    ghost use Rattle.lard_files.specs.Files.{IsFile, shown, total};
+    ghost use Rattle.lard_files.specs.Files.{IsFile, files_shown, files_total};
 
     ghost Value = { List (List ℕ × List ℕ) };
 
-    ghost view = { λ f. shown f.files.entries };
+    ghost view = { λ f. files_shown f.files.entries };
 
-    ghost invariant = { λ f. (f.bytes ≡ total (shown f.files.entries)) × (f.bytes ≤ MAX_ALL_FILES_BYTES) × All IsFile (shown f.files.entries) };
+    ghost invariant = { λ f. (f.bytes ≡ files_total (files_shown f.files.entries)) × (f.bytes ≤ MAX_ALL_FILES_BYTES) × All IsFile (files_shown f.files.entries) };
 }
 
 impl Files {
@@ -49,7 +49,7 @@ impl Files {
     pub fn add(&mut self, path: &[u8], bytes: &[u8]) -> Result<(), FileFault>
         requires some_path { 1 ≤ length path.now }
         requires short_path { length path.now ≤ MAX_PATH_BYTES }
-        ensures answer { Answers (add_check self.old path.now (length bytes.now)) result }
+        ensures answer { AnswersAddition (add_check self.old path.now (length bytes.now)) result }
         ensures ok { OnOk result (self.new ≡ self.old ++ (path.now, bytes.now) ∷ []) }
         ensures err { OnErr result (self.new ≡ self.old) }
         ensures found { OnOk result (file_at self.new path.now ≡ Some bytes.now) }

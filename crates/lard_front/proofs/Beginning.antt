@@ -7,13 +7,13 @@ use Rattle.lard_endpoint.specs.Control.{ControlBlock, listening}
 use Rattle.lard_segment.specs.Segment.{Said}
 use Rattle.lard_rules.specs.declared.front.FrontRest.{FrontRest}
 use Rattle.lard_rules.specs.declared.front.FrontState.{FrontState}
-use Rattle.lard_rules.specs.Front.{holds, rest_of, rests, rest_after, turn_here}
+use Rattle.lard_rules.specs.Front.{holds, front_rest, front_rests, rest_after, turn_here}
 use Rattle.lard_rules.specs.FrontPlace.{front_part}
 use Rattle.lard_rules.specs.FrontSound.{Serves}
 use Rattle.lard_front.specs.Hand.{Holds, deed_turn}
 use Rattle.lard_handoff_front.specs.declared.row.FrontConn.TheVariants as stage
 use Rattle.lard_handoff_front.specs.declared.row.FrontRow.{FrontRow}
-use Rattle.lard_handoff_front.specs.Front.{Fronts, begun}
+use Rattle.lard_handoff_front.specs.Front.{Fronts, row_begun}
 use Rattle.lard_resend.specs.Pending.{held, put_list}
 use Rattle.lard_rules.specs.declared.places.Ending.{Ending}
 use Rattle.lard_rules.specs.declared.places.Turn.{Turn}
@@ -24,21 +24,21 @@ use Rattle.lard_table.specs.Table.{put_or}
 abbrev pub first_row : FrontRow
 first_row = record { stage = stage.Lent; epoch = record { 0 = 1 }; ended_by = None }
 
-module _ (s : FrontState) (c : ℕ) (b : ControlBlock) (m : Fronts) (r : FinMap nat_cmp FrontRest) (kept : m ≡ table.insert s.conns c (begun b)) (set : r ≡ table.insert s.rests c (rest_of None)) where
+module _ (s : FrontState) (c : ℕ) (b : ControlBlock) (m : Fronts) (r : FinMap nat_cmp FrontRest) (kept : m ≡ table.insert s.conns c (row_begun b)) (set : r ≡ table.insert s.rests c (front_rest None)) where
   abbrev met : FrontState
   met = record s { conns = m; rests = r }
 
-  pub found : table.get m c ≡ Some (begun b)
-  found = ap (λ u. table.get u c) kept ∙ get_inserted s.conns c (begun b)
+  pub found : table.get m c ≡ Some (row_begun b)
+  found = ap (λ u. table.get u c) kept ∙ get_inserted s.conns c (row_begun b)
 
-  pub found_rest : table.get r c ≡ Some (rest_of None)
-  found_rest = ap (λ u. table.get u c) set ∙ get_inserted s.rests c (rest_of None)
+  pub found_rest : table.get r c ≡ Some (front_rest None)
+  found_rest = ap (λ u. table.get u c) set ∙ get_inserted s.rests c (front_rest None)
 
   abbrev pub met_holds : Serves 0 b.recv b.send → held s.kept c ≡ [] → (table.get s.kept c ≡ Some [] → ⊥) → Holds met c false
   met_holds serves none some = record {
-    row = begun b;
+    row = row_begun b;
     block = b;
-    rest = rest_of None;
+    rest = front_rest None;
     found = found;
     stage = refl;
     found_rest = found_rest;
@@ -48,13 +48,13 @@ module _ (s : FrontState) (c : ℕ) (b : ControlBlock) (m : Fronts) (r : FinMap 
   }
 
   -- what is held from there on is held from the beginning
-  pub met_is : (x : Ending × Turn) → deed_turn met c (holds (front_part met c) (begun b) (rest_of (table.get r c)) x) ≡ deed_turn s c (holds (front_part s c) first_row (rest_of None) x)
+  pub met_is : (x : Ending × Turn) → deed_turn met c (holds (front_part met c) (row_begun b) (front_rest (table.get r c)) x) ≡ deed_turn s c (holds (front_part s c) first_row (front_rest None) x)
   met_is x =
-      ap (λ o. deed_turn met c (holds (front_part met c) (begun b) (rest_of o) x)) found_rest
+      ap (λ o. deed_turn met c (holds (front_part met c) (row_begun b) (front_rest o) x)) found_rest
       ∙ (λ i. (
         record s {
-          conns = (ap (λ u. put_or u c (rests (front_part s c) first_row (rest_of None) stage.Held x.0).row) kept ∙ put_twice s.conns c (Some (begun b)) (rests (front_part s c) first_row (rest_of None) stage.Held x.0).row) i;
-          rests = (ap (λ u. put_or u c (rest_after (rest_of None) x.0)) set ∙ put_twice s.rests c (Some (rest_of None)) (rest_after (rest_of None) x.0)) i;
+          conns = (ap (λ u. put_or u c (front_rests (front_part s c) first_row (front_rest None) stage.Held x.0).row) kept ∙ put_twice s.conns c (Some (row_begun b)) (front_rests (front_part s c) first_row (front_rest None) stage.Held x.0).row) i;
+          rests = (ap (λ u. put_or u c (rest_after (front_rest None) x.0)) set ∙ put_twice s.rests c (Some (front_rest None)) (rest_after (front_rest None) x.0)) i;
           kept = put_list s.kept c (held s.kept c);
         },
         turn_here x.1,

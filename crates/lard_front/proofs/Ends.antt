@@ -11,7 +11,7 @@ use Rattle.lard_dispatch.specs.Calls.{after_ended}
 use Rattle.lard_endpoint.specs.declared.control.moving.Final.{Final}
 use Rattle.lard_rules.specs.declared.front.FrontState.{FrontState}
 use Rattle.lard_rules.specs.declared.front.FrontTurn.{FrontTurn}
-use Rattle.lard_rules.specs.Front.{FrontEnv, ack_sent, ended_by, front_ended, saying}
+use Rattle.lard_rules.specs.Front.{FrontEnv, ack_sent, front_ended_by, front_ended, front_saying}
 use Rattle.lard_rules.specs.FrontPlace.{front_part}
 use Rattle.lard_front.specs.declared.releasing.Released.{Released}
 use Rattle.lard_front.specs.Hand.{deed_turn}
@@ -24,7 +24,7 @@ use Rattle.lard_handoff_front.specs.Row.{is_away}
 use Rattle.lard_journal.specs.declared.rec.Rec.TheVariants as rec
 use Rattle.lard_resend.proofs.Renewed.{settled_is}
 use Rattle.lard_resend.specs.declared.kept.Kept.{Kept}
-use Rattle.lard_resend.specs.Pending.{settled}
+use Rattle.lard_resend.specs.Pending.{pending_settled}
 
 -- a turn that was given, with the state that it leaves
 pub both_are : {E : Type 0} (r : Result Released E) (new st : FrontState) (t : FrontTurn) (y : FrontState × FrontTurn) → IfOk r (λ x. new ≡ st) → IfOk r (λ x. x.turn ≡ t) → (st, t) ≡ y → IfOk r (λ x. (new, x.turn) ≡ y)
@@ -36,16 +36,16 @@ module _ (env : FrontEnv) (s : FrontState) (from : ℕ) (epoch : Epoch) (last : 
   k = env.serve.c
 
   abbrev After : Option FrontRow → Type 0
-  After o = n ≡ fronts.after_ended s.conns k epoch last o
+  After o = n ≡ fronts.front_after_ended s.conns k epoch last o
 
   -- an end that is new
   pub new_is : (m : FinMap nat_cmp (List Kept)) (d : Dispatcher) (next : Epoch) (t : FrontTurn) → New next ≡ end_answer epoch.0 (table.get s.conns k) → After (table.get s.conns k)
-      → m ≡ settled s.kept k kind.Offer 0 → (table.get s.kept k ≡ Some [] → ⊥) → d ≡ after_ended s.dispatch k env.now
-      → t ≡ record (saying (ack_sent env from epoch.0)) { notes = rec.Took place.Front k next ∷ rec.Released k ∷ [] }
+      → m ≡ pending_settled s.kept k kind.Offer 0 → (table.get s.kept k ≡ Some [] → ⊥) → d ≡ after_ended s.dispatch k env.now
+      → t ≡ record (front_saying (ack_sent env from epoch.0)) { notes = rec.Took place.Front k next ∷ rec.Released k ∷ [] }
       → (record s { conns = n; rests = table.remove s.rests k; kept = m; dispatch = d }, t) ≡ deed_turn s k (front_ended env (front_part s k) from epoch.0 last)
   new_is m d next t new after drops some left told = go (table.get s.conns k) new after where
     Comes : Option FrontRow → OnEnded → Type 0
-    Comes o a = (record s { conns = n; rests = table.remove s.rests k; kept = m; dispatch = d }, t) ≡ deed_turn s k (ended_by env (front_part s k) from epoch.0 last o a)
+    Comes o a = (record s { conns = n; rests = table.remove s.rests k; kept = m; dispatch = d }, t) ≡ deed_turn s k (front_ended_by env (front_part s k) from epoch.0 last o a)
 
     by : (row : FrontRow) (a w : Bool) → New next ≡ cond {A = OnEnded} a (New (next_epoch row)) (cond w Again Stale) → n ≡ cond a (table.insert s.conns k (fronts.ended_row epoch last row)) s.conns
         → Comes (Some row) (cond a (New (next_epoch row)) (cond w Again Stale))
@@ -53,7 +53,7 @@ module _ (env : FrontEnv) (s : FrontState) (from : ℕ) (epoch : Epoch) (last : 
         let same : next ≡ next_epoch row = cc in
         λ i. (
           record s { conns = after i; rests = table.remove s.rests k; kept = (drops ∙ settled_is s.kept k kind.Offer 0 some) i; dispatch = left i },
-          (told ∙ ap (λ (e : Epoch). record (saying (ack_sent env from epoch.0)) { notes = rec.Took place.Front k e ∷ rec.Released k ∷ [] }) same) i,
+          (told ∙ ap (λ (e : Epoch). record (front_saying (ack_sent env from epoch.0)) { notes = rec.Took place.Front k e ∷ rec.Released k ∷ [] }) same) i,
         )
     by row false true new after = let no : New next ≡ Again = new in absurd cc
     by row false false new after = let no : New next ≡ Stale = new in absurd cc

@@ -4,15 +4,15 @@ use Rattle.std.specs.FinMap as table
 use Rattle.lard_dispatch.specs.Sound.{AreBefore}
 use Rattle.lard_rules.specs.declared.front.FrontState.{FrontState}
 use Rattle.lard_rules.specs.declared.front.FrontTurn.{FrontTurn}
-use Rattle.lard_rules.specs.Front.{Deed, Drops, Says, Does, Did, FrontPart, front_admitted}
-use Rattle.lard_rules.specs.FrontPlace.{FrontSetting, admits, admits_too, ended_deed, front_deed, front_env, front_part, front_put, front_step, in_order, joined, out_of, put_back, timers_of}
-use Rattle.lard_rules.specs.FrontSound.{IsFrontSound, Waits, standing}
+use Rattle.lard_rules.specs.Front.{FrontDeed, Drops, Says, Does, Did, FrontPart, front_admitted}
+use Rattle.lard_rules.specs.FrontPlace.{FrontSetting, admits, admits_too, ended_deed, front_deed, front_env, front_part, front_put, front_step, in_order, front_joined, front_out_of, put_back, front_timers}
+use Rattle.lard_rules.specs.FrontSound.{IsFrontSound, Waits, dispatch_standing}
 use Rattle.lard_rules.proofs.FrontEnded.{Comes, next-waits}
 use Rattle.lard_rules.proofs.FrontKeeping.{put-some}
 use Rattle.lard_rules.proofs.FrontParts.{part_put}
 use Rattle.lard_rules.proofs.FrontStepping.{step-stays}
 use Rattle.lard_front.specs.declared.turns.Armed.{Armed}
-use Rattle.lard_front.specs.Hand.{armed_of, changes, deed_turn, gives, next_by}
+use Rattle.lard_front.specs.Hand.{armed_of, changes, deed_turn, gives, next_admitted_by}
 use Rattle.lard_front.specs.Place.{head_too}
 use Rattle.lard_front.proofs.Steps.{changes_are}
 use Rattle.lard_journal.specs.declared.rec.Rec.{Rec}
@@ -25,16 +25,16 @@ use Rattle.lard_endpoint.specs.declared.control.moving.Final.{Final}
 
 -- what was given to the code is what the rules give
 pub too_is : (s n : FrontState) (turn t : FrontTurn) (timers : List Rec) (c d : ℕ) (o : Option (FrontPart × FrontTurn)) (all : FrontTurn) (others both : List Rec) (was is : Armed)
-    → option_map (gives s d) o ≡ Some (n, t) → all ≡ joined turn t → was ≡ armed_of (front_part s d) → is ≡ armed_of (front_part n d) → others ≡ changes d was is → both ≡ in_order c d timers others
-    → (n, out_of all both) ≡ head_too s turn timers c d o
+    → option_map (gives s d) o ≡ Some (n, t) → all ≡ front_joined turn t → was ≡ armed_of (front_part s d) → is ≡ armed_of (front_part n d) → others ≡ changes d was is → both ≡ in_order c d timers others
+    → (n, front_out_of all both) ≡ head_too s turn timers c d o
 too_is s n turn t timers c d None all others both was is given joins before after changed order = let no : ◌≡◌ {A = Option (FrontState × FrontTurn)} None (Some (n, t)) = given in absurd cc
 too_is s n turn t timers c d (Some y) all others both was is given joins before after changed order =
     let same : (n, t) ≡ gives s d y = some_is (n, t) (gives s d y) given in
     let state : n ≡ front_put s d y.0 = ap (λ (x : FrontState × FrontTurn). x.0) same in
     let told : t ≡ y.1 = ap (λ (x : FrontState × FrontTurn). x.1) same in
-    let timed : others ≡ timers_of d (front_part s d) y.0 =
+    let timed : others ≡ front_timers d (front_part s d) y.0 =
     changed ∙ (λ i. changes d (before i) ((after ∙ ap (λ (u : FrontState). armed_of (front_part u d)) state ∙ ap armed_of (part_put s d y.0)) i)) ∙ changes_are d (front_part s d) y.0 in
-    (λ i. (state i, out_of ((joins ∙ ap (joined turn) told) i) ((order ∙ ap (in_order c d timers) timed) i))) where
+    (λ i. (state i, front_out_of ((joins ∙ ap (front_joined turn) told) i) ((order ∙ ap (in_order c d timers) timed) i))) where
       some_is : (x y : FrontState × FrontTurn) → Some y ≡ Some x → x ≡ y
       some_is x y e = cc
 
@@ -42,7 +42,7 @@ too_is s n turn t timers c d (Some y) all others both was is given joins before 
 
 module _ (k : FrontSetting) (s : FrontState) (c : ℕ) where
   -- nobody is admitted in its place
-  pub alone_is : (deed : Deed) → next_by s.dispatch c k.now deed ≡ None → front_deed s c deed ≡ ended_deed k s c deed
+  pub alone_is : (deed : FrontDeed) → next_admitted_by s.dispatch c k.now deed ≡ None → front_deed s c deed ≡ ended_deed k s c deed
   alone_is Drops none = refl
   alone_is (Says turn) none = refl
   alone_is (Does x) none = sym (ap (admits k s (put_back s c x) c x) none)
@@ -50,27 +50,27 @@ module _ (k : FrontSetting) (s : FrontState) (c : ℕ) where
   abbrev After : FrontState → FrontTurn → List Rec → ℕ × FirstChoice → FrontState × Out
   After t turn timers next = head_too t turn timers c next.0 (front_admitted (front_env k t next.0 0) (front_part t next.0) next.1)
 
-  too_same : (t : FrontState) (x : Did) (d : ℕ) (o : Option (FrontPart × FrontTurn)) → head_too t x.turn (timers_of c (front_part s c) x.part) c d o ≡ admits_too s t c x d o
+  too_same : (t : FrontState) (x : Did) (d : ℕ) (o : Option (FrontPart × FrontTurn)) → head_too t x.turn (front_timers c (front_part s c) x.part) c d o ≡ admits_too s t c x d o
   too_same t x d None = refl
   too_same t x d (Some y) = refl
 
   -- the head is
-  pub headed_is : (deed : Deed) (t : FrontState) (turn : FrontTurn) (timers : List Rec) (was is : Armed) (next : ℕ × FirstChoice) → (t, turn) ≡ deed_turn s c deed → Some next ≡ next_by s.dispatch c k.now deed
+  pub headed_is : (deed : FrontDeed) (t : FrontState) (turn : FrontTurn) (timers : List Rec) (was is : Armed) (next : ℕ × FirstChoice) → (t, turn) ≡ deed_turn s c deed → Some next ≡ next_admitted_by s.dispatch c k.now deed
       → was ≡ armed_of (front_part s c) → is ≡ armed_of (front_part t c) → timers ≡ changes c was is → After t turn timers next ≡ ended_deed k s c deed
   headed_is Drops t turn timers was is next did some before after changed = let no : Some next ≡ None = some in absurd cc
   headed_is (Says said) t turn timers was is next did some before after changed = let no : Some next ≡ None = some in absurd cc
   headed_is (Does x) t turn timers was is next did some before after changed =
       let state : t ≡ put_back s c x = ap (λ (y : FrontState × FrontTurn). y.0) did in
       let told : turn ≡ x.turn = ap (λ (y : FrontState × FrontTurn). y.1) did in
-      let timed : timers ≡ timers_of c (front_part s c) x.part =
+      let timed : timers ≡ front_timers c (front_part s c) x.part =
       changed ∙ (λ i. changes c (before i) ((after ∙ ap (λ (u : FrontState). armed_of (front_part u c)) state ∙ ap armed_of (part_put s c x.part)) i)) ∙ changes_are c (front_part s c) x.part in
       (λ i. After (state i) (told i) (timed i) next)
       ∙ too_same (put_back s c x) x next.0 (front_admitted (front_env k (put_back s c x) next.0 0) (front_part (put_back s c x) next.0) next.1)
       ∙ ap (admits k s (put_back s c x) c x) some
 
   -- the head waits, and an empty list is not kept of it
-  pub head_waits : (from epoch : ℕ) (last : Final) (deed : Deed) (t : FrontState) (turn : FrontTurn) (next : ℕ × FirstChoice) → IsFrontSound s → Comes (front_env k s c 0) (front_part s c) from epoch last (standing s.dispatch c) deed
-      → (t, turn) ≡ deed_turn s c deed → Some next ≡ next_by s.dispatch c k.now deed → Waits (front_part t next.0) × (table.get t.kept next.0 ≡ Some [] → ⊥)
+  pub head_waits : (from epoch : ℕ) (last : Final) (deed : FrontDeed) (t : FrontState) (turn : FrontTurn) (next : ℕ × FirstChoice) → IsFrontSound s → Comes (front_env k s c 0) (front_part s c) from epoch last (dispatch_standing s.dispatch c) deed
+      → (t, turn) ≡ deed_turn s c deed → Some next ≡ next_admitted_by s.dispatch c k.now deed → Waits (front_part t next.0) × (table.get t.kept next.0 ≡ Some [] → ⊥)
   head_waits from epoch last Drops t turn next sound comes did some = let no : Some next ≡ None = some in absurd cc
   head_waits from epoch last (Says said) t turn next sound comes did some = let no : Some next ≡ None = some in absurd cc
   head_waits from epoch last (Does x) t turn next sound comes did some =

@@ -8,10 +8,10 @@ use Rattle.lard_dispatch.specs.Books.{Dispatcher}
 use Rattle.lard_dispatch.specs.Calls.{after_first, first_answer}
 use Rattle.lard_dispatch.specs.declared.dispatch.First.{First}
 use Rattle.lard_dispatch.specs.declared.dispatch.First.TheVariants as first
-use Rattle.lard_rules.specs.Front.{Does, handed_off, offering, placed, rest_of}
+use Rattle.lard_rules.specs.Front.{Does, handed_off, offering, placed, front_rest}
 use Rattle.lard_rules.specs.FrontPlace.{front_part}
 use Rattle.lard_front.specs.declared.turns.Around.{Around}
-use Rattle.lard_front.specs.Hand.{deed_turn, env_of, handed_at, read_deed}
+use Rattle.lard_front.specs.Hand.{deed_turn, front_env_of, handed_at, read_deed}
 use Rattle.lard_handoff_front.specs.declared.row.FrontConn.TheVariants as stage
 use Rattle.lard_handoff_front.specs.declared.row.FrontRow.{FrontRow}
 use Rattle.lard_handoff_front.specs.Front.{Fronts, in_stage, with_stage}
@@ -45,11 +45,11 @@ module _ (around : Around) (s : FrontState) (b : ControlBlock) (w : Served) (pat
 
   pub placed_is : (m : Fronts) (d : Dispatcher) (new : FrontState) (t : FrontTurn) → m ≡ with_stage s.conns k (in_stage false b) (table.get s.conns k) → d ≡ after_first s.dispatch k path around.time
       → first.Go choice ≡ first_answer s.dispatch path around.time
-      → handed_at (env_of around (record s { conns = m; dispatch = d })) (record s { conns = m; dispatch = d }) w path choice (table.get m k) ≡ Some (new, t)
-      → (new, t) ≡ deed_turn s k (read_deed (env_of around s) (front_part s k) (service_of b w) (Some path) (table.get s.conns k))
+      → handed_at (front_env_of around (record s { conns = m; dispatch = d })) (record s { conns = m; dispatch = d }) w path choice (table.get m k) ≡ Some (new, t)
+      → (new, t) ≡ deed_turn s k (read_deed (front_env_of around s) (front_part s k) (service_of b w) (Some path) (table.get s.conns k))
   placed_is m d new t put after answer handed =
-      let part = offering (env_of around s) row (service_of b w) path choice.node in
-      let there = sym handed ∙ ap (handed_at (env_of around (record s { conns = m; dispatch = d })) (record s { conns = m; dispatch = d }) w path choice) (back_found m put) in
+      let part = offering (front_env_of around s) row (service_of b w) path choice.node in
+      let there = sym handed ∙ ap (handed_at (front_env_of around (record s { conns = m; dispatch = d })) (record s { conns = m; dispatch = d }) w path choice) (back_found m put) in
       some_is _ _ there
       ∙ (λ i. (
         record s {
@@ -58,9 +58,9 @@ module _ (around : Around) (s : FrontState) (b : ControlBlock) (w : Served) (pat
           kept = put_list s.kept k part.kept;
           dispatch = after i;
         },
-        (handed_off (env_of around s) row (service_of b w) path choice).1,
+        (handed_off (front_env_of around s) row (service_of b w) path choice).1,
       ))
-      ∙ ap (λ (f : First). deed_turn s k (Does (placed (env_of around s) (front_part s k) row (rest_of (table.get s.rests k)) (service_of b w) path f))) answer
-      ∙ sym (ap (λ (o : Option FrontRow). deed_turn s k (read_deed (env_of around s) (front_part s k) (service_of b w) (Some path) o)) found) where
+      ∙ ap (λ (f : First). deed_turn s k (Does (placed (front_env_of around s) (front_part s k) row (front_rest (table.get s.rests k)) (service_of b w) path f))) answer
+      ∙ sym (ap (λ (o : Option FrontRow). deed_turn s k (read_deed (front_env_of around s) (front_part s k) (service_of b w) (Some path) o)) found) where
         some_is : (x y : FrontState × FrontTurn) → Some x ≡ Some y → x ≡ y
         some_is x y e = cc

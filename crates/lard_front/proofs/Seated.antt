@@ -6,9 +6,9 @@ use Rattle.std.specs.Ordering.{nat_cmp}
 use Rattle.lard_dispatch.specs.Books.{Dispatcher}
 use Rattle.lard_rules.specs.declared.front.FrontRest.{FrontRest}
 use Rattle.lard_rules.specs.declared.front.FrontState.{FrontState}
-use Rattle.lard_rules.specs.Front.{rest_after, rest_of, rests}
+use Rattle.lard_rules.specs.Front.{rest_after, front_rest, front_rests}
 use Rattle.lard_rules.specs.FrontPlace.{front_part, front_put}
-use Rattle.lard_front.specs.Hand.{Lends, rested_in}
+use Rattle.lard_front.specs.Hand.{Lends, front_rested_in}
 use Rattle.lard_handoff_front.specs.declared.row.FrontConn.TheVariants as stage
 use Rattle.lard_handoff_front.specs.declared.row.FrontRow.{FrontRow}
 use Rattle.lard_handoff_front.specs.Front.{in_stage, with_stage}
@@ -33,10 +33,10 @@ did_it (Ok a) b e f x = x
 did_it (Err a) b e f x = let none : true ≡ false = sym e ∙ f in absurd cc
 
 pub rested_is : (t : FrontState) (c : ℕ) (row : FrontRow) (rest : FrontRest) → table.get t.conns c ≡ Some row → table.get t.rests c ≡ Some rest → (table.get t.kept c ≡ Some [] → ⊥)
-    → (w : Bool) (e : Ending) → rested_in t c w e ≡ front_put t c (rests (front_part t c) row rest (in_stage w) e)
+    → (w : Bool) (e : Ending) → front_rested_in t c w e ≡ front_put t c (front_rests (front_part t c) row rest (in_stage w) e)
 rested_is t c row rest found found_rest some w (Here b n) = λ i. record t {
   conns = with_stage t.conns c (in_stage w b) (found i);
-  rests = table.insert t.rests c (record (rest_of (found_rest i)) { count = n });
+  rests = table.insert t.rests c (record (front_rest (found_rest i)) { count = n });
   kept = sym (list_got t.kept c some) i;
 }
 rested_is t c row rest found found_rest some w (Over last) = λ i. record t {
@@ -46,15 +46,15 @@ rested_is t c row rest found found_rest some w (Over last) = λ i. record t {
 }
 
 abbrev with_target : FrontState → ℕ → List ℕ → FrontRest
-with_target s c path = record (rest_of (table.get s.rests c)) { target = Some path }
+with_target s c path = record (front_rest (table.get s.rests c)) { target = Some path }
 
 -- put back to wait with a path
 pub waited_is : (s : FrontState) (c : ℕ) → Lends s c → (path : List ℕ) (m : FinMap nat_cmp FrontRest) (d : Dispatcher) → m ≡ table.insert s.rests c (with_target s c path) → (row : FrontRow) → table.get s.conns c ≡ Some row → (e : Ending)
-    → rested_in (record s { rests = m; dispatch = d }) c true e ≡ record (front_put s c (rests (front_part s c) row (with_target s c path) stage.Waiting e)) { dispatch = d }
+    → front_rested_in (record s { rests = m; dispatch = d }) c true e ≡ record (front_put s c (front_rests (front_part s c) row (with_target s c path) stage.Waiting e)) { dispatch = d }
 waited_is s c lends path m d set row found e =
     rested_is (record s { rests = m; dispatch = d }) c row (with_target s c path) found (ap (λ u. table.get u c) set ∙ get_inserted s.rests c (with_target s c path)) lends.some_kept true e
     ∙ (λ i. record s {
-      conns = put_or s.conns c (rests (front_part s c) row (with_target s c path) stage.Waiting e).row;
+      conns = put_or s.conns c (front_rests (front_part s c) row (with_target s c path) stage.Waiting e).row;
       rests = (ap (λ u. put_or u c (rest_after (with_target s c path) e)) set ∙ put_twice s.rests c (Some (with_target s c path)) (rest_after (with_target s c path) e)) i;
       kept = put_list s.kept c (held s.kept c);
       dispatch = d;

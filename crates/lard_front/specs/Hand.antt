@@ -7,15 +7,15 @@ use Rattle.lard_base.specs.declared.place.TimerKind.TheVariants as kind
 use Rattle.lard_dispatch.specs.Books.{Dispatcher}
 use Rattle.lard_dispatch.specs.Calls.{ended_answer, first_answer, later_answer}
 use Rattle.lard_dispatch.specs.Laws.{after_calls}
-use Rattle.lard_dispatch.specs.Line.{waits}
+use Rattle.lard_dispatch.specs.Line.{line_waits}
 use Rattle.lard_dispatch.specs.Sound.{AreBefore}
 use Rattle.lard_endpoint.specs.Control.{ControlBlock}
 use Rattle.lard_endpoint.specs.Arriving.{on_segment}
 use Rattle.lard_rules.specs.declared.front.FrontRest.{FrontRest}
 use Rattle.lard_rules.specs.declared.front.FrontState.{FrontState}
 use Rattle.lard_rules.specs.declared.front.FrontTurn.{FrontTurn}
-use Rattle.lard_rules.specs.Front.{Deed, Drops, Says, Does, FrontEnv, FrontPart, fired, front_armed, handed_off, heard, holds, leaves_by, rest_of, rests, saying, settled_by, turn_here, waits_on}
-use Rattle.lard_rules.specs.FrontPlace.{front_part, front_put, out_of, put_back}
+use Rattle.lard_rules.specs.Front.{FrontDeed, Drops, Says, Does, FrontEnv, FrontPart, front_fired, front_armed, handed_off, heard, holds, leaves_by, front_rest, front_rests, front_saying, settled_by, turn_here, waits_on}
+use Rattle.lard_rules.specs.FrontPlace.{front_part, front_put, front_out_of, put_back}
 use Rattle.lard_rules.specs.FrontReading.{MayMove, Reading}
 use Rattle.lard_rules.specs.FrontSound.{IsHere}
 use Rattle.lard_front.specs.declared.reading.Going.{Going}
@@ -61,8 +61,8 @@ MayGo b (Last target) = MayMove b target
 -- ---- a turn
 
 -- what the rules rest on, with the dispatcher as it is
-abbrev pub env_of : Around → FrontState → FrontEnv
-env_of e s = record {
+abbrev pub front_env_of : Around → FrontState → FrontEnv
+front_env_of e s = record {
   serve = env_seen e.serve;
   iss = e.iss.0;
   now = e.time;
@@ -71,12 +71,12 @@ env_of e s = record {
 }
 
 -- nothing is done
-abbrev pub silent : FrontTurn
-silent = saying []
+abbrev pub front_silent : FrontTurn
+front_silent = front_saying []
 
 -- what a rule comes to: the state, and the turn
-abbrev pub deed_turn : FrontState → ℕ → Deed → FrontState × FrontTurn
-deed_turn s c Drops = (s, silent)
+abbrev pub deed_turn : FrontState → ℕ → FrontDeed → FrontState × FrontTurn
+deed_turn s c Drops = (s, front_silent)
 deed_turn s c (Says turn) = (s, turn)
 deed_turn s c (Does x) = (put_back s c x, x.turn)
 
@@ -90,24 +90,24 @@ changes c was is = kind_change place.Front c kind.Tcp was.tcp is.tcp ++ kind_cha
 
 -- what a turn on connection c comes to
 abbrev pub out_by : ℕ → Armed → Armed → FrontTurn → Out
-out_by c was is turn = out_of turn (changes c was is)
+out_by c was is turn = front_out_of turn (changes c was is)
 
 -- ---- an endpoint in hand
 
 -- the endpoint of connection c is in hand
-abbrev pub lent : FrontState → ℕ → FrontState
-lent s c = record s { conns = with_stage s.conns c stage.Lent (table.get s.conns c) }
+abbrev pub front_lent : FrontState → ℕ → FrontState
+front_lent s c = record s { conns = with_stage s.conns c stage.Lent (table.get s.conns c) }
 
-abbrev pub count_of : Option FrontRest → ℕ
-count_of rest = (rest_of rest).count
+abbrev pub front_count_of : Option FrontRest → ℕ
+front_count_of rest = (front_rest rest).count
 
 -- it is put back where its turn ended, to wait or not
-abbrev pub rested_in : FrontState → ℕ → Bool → Ending → FrontState
-rested_in s c waiting (Here b count) = record s {
+abbrev pub front_rested_in : FrontState → ℕ → Bool → Ending → FrontState
+front_rested_in s c waiting (Here b count) = record s {
   conns = with_stage s.conns c (in_stage waiting b) (table.get s.conns c);
-  rests = table.insert s.rests c (record (rest_of (table.get s.rests c)) { count = count });
+  rests = table.insert s.rests c (record (front_rest (table.get s.rests c)) { count = count });
 }
-rested_in s c waiting (Over last) = record s { conns = with_stage s.conns c (stage.Closed last) (table.get s.conns c); rests = table.remove s.rests c }
+front_rested_in s c waiting (Over last) = record s { conns = with_stage s.conns c (stage.Closed last) (table.get s.conns c); rests = table.remove s.rests c }
 
 -- ---- a connection whose endpoint is here
 
@@ -135,9 +135,9 @@ pub record Lends (s : FrontState) (c : ℕ) : Type 0 where
   pub some_kept : table.get s.kept c ≡ Some [] → ⊥
 
 -- what was read of an endpoint in hand is said, or the connection is placed
-abbrev pub read_deed : FrontEnv → FrontPart → Service → Option (List ℕ) → Option FrontRow → Deed
+abbrev pub read_deed : FrontEnv → FrontPart → Service → Option (List ℕ) → Option FrontRow → FrontDeed
 read_deed env p w target None = Drops
-read_deed env p w target (Some row) = settled_by env p row (rest_of p.rest) w target
+read_deed env p w target (Some row) = settled_by env p row (front_rest p.rest) w target
 
 -- ---- the hand-off
 
@@ -158,65 +158,65 @@ handed_at env s w path choice (Some row) = handed_by env s w path choice row (he
 -- an endpoint in hand is put back to wait with this path, and says what it may
 abbrev pub waits_with : FrontEnv → FrontState → Service → List ℕ → FrontRow → Ending × Turn → FrontState × FrontTurn
 waits_with env s w path row given = (
-  record (front_put s env.serve.c (rests (front_part s env.serve.c) row (record (rest_of (table.get s.rests env.serve.c)) { target = Some path }) stage.Waiting given.0)) { dispatch = after_calls s.dispatch (leaves_by env.serve.c given.0) },
+  record (front_put s env.serve.c (front_rests (front_part s env.serve.c) row (record (front_rest (table.get s.rests env.serve.c)) { target = Some path }) stage.Waiting given.0)) { dispatch = after_calls s.dispatch (leaves_by env.serve.c given.0) },
   turn_here given.1,
 )
 
 abbrev pub waits_at : FrontEnv → FrontState → Service → List ℕ → Option FrontRow → FrontState × FrontTurn
-waits_at env s w path None = (s, silent)
+waits_at env s w path None = (s, front_silent)
 waits_at env s w path (Some row) = waits_with env s w path row (spoken env.serve (record w { notes = w.notes ++ rec.Waits env.serve.c ∷ [] }) [])
 
 -- neither admitted nor in the line, and no server set was changed after this time
 pub record IsFree (d : Dispatcher) (c time : ℕ) : Type 0 where
   pub home : home d.books.loads c ≡ None
-  pub away : waits d.books.line c ≡ false
+  pub away : line_waits d.books.line c ≡ false
   pub clock : AreBefore time d.books.sets
 
 -- ---- a segment of a connection whose endpoint is here
 
-abbrev pub heard_by : FrontEnv → FrontPart → Said → FrontRow → Option ControlBlock → Deed
-heard_by env p s row None = Drops
-heard_by env p s row (Some b) = heard env p row (rest_of p.rest) (on_segment b s).1
+abbrev pub front_heard_by : FrontEnv → FrontPart → Said → FrontRow → Option ControlBlock → FrontDeed
+front_heard_by env p s row None = Drops
+front_heard_by env p s row (Some b) = heard env p row (front_rest p.rest) (on_segment b s).1
 
 -- it is held: the endpoint takes the segment, and what may be read is read
-abbrev pub heard_at : FrontEnv → FrontPart → Said → Option FrontRow → Deed
+abbrev pub heard_at : FrontEnv → FrontPart → Said → Option FrontRow → FrontDeed
 heard_at env p s None = Drops
-heard_at env p s (Some row) = heard_by env p s row (held_in row.stage)
+heard_at env p s (Some row) = front_heard_by env p s row (held_in row.stage)
 
-abbrev pub waits_heard_by : FrontEnv → FrontPart → Said → FrontRow → Option ControlBlock → Deed
+abbrev pub waits_heard_by : FrontEnv → FrontPart → Said → FrontRow → Option ControlBlock → FrontDeed
 waits_heard_by env p s row None = Drops
-waits_heard_by env p s row (Some b) = waits_on env p row (rest_of p.rest) (spoken env.serve (serving (on_segment b s).1 (rest_of p.rest).count []) [])
+waits_heard_by env p s row (Some b) = waits_on env p row (front_rest p.rest) (spoken env.serve (serving (on_segment b s).1 (front_rest p.rest).count []) [])
 
 -- it waits: the endpoint takes the segment, and nothing is read
-abbrev pub waits_heard : FrontEnv → FrontPart → Said → Option FrontRow → Deed
+abbrev pub waits_heard : FrontEnv → FrontPart → Said → Option FrontRow → FrontDeed
 waits_heard env p s None = Drops
 waits_heard env p s (Some row) = waits_heard_by env p s row (held_in row.stage)
 
 -- its timer fires
-abbrev pub fires_held_by : FrontEnv → FrontPart → FrontRow → Option ControlBlock → Deed
+abbrev pub fires_held_by : FrontEnv → FrontPart → FrontRow → Option ControlBlock → FrontDeed
 fires_held_by env p row None = Drops
-fires_held_by env p row (Some b) = holds p row (rest_of p.rest) (fired env (rest_of p.rest) b)
+fires_held_by env p row (Some b) = holds p row (front_rest p.rest) (front_fired env (front_rest p.rest) b)
 
-abbrev pub fires_held : FrontEnv → FrontPart → Option FrontRow → Deed
+abbrev pub fires_held : FrontEnv → FrontPart → Option FrontRow → FrontDeed
 fires_held env p None = Drops
 fires_held env p (Some row) = fires_held_by env p row (held_in row.stage)
 
-abbrev pub fires_waiting_by : FrontEnv → FrontPart → FrontRow → Option ControlBlock → Deed
+abbrev pub fires_waiting_by : FrontEnv → FrontPart → FrontRow → Option ControlBlock → FrontDeed
 fires_waiting_by env p row None = Drops
-fires_waiting_by env p row (Some b) = waits_on env p row (rest_of p.rest) (fired env (rest_of p.rest) b)
+fires_waiting_by env p row (Some b) = waits_on env p row (front_rest p.rest) (front_fired env (front_rest p.rest) b)
 
-abbrev pub fires_waiting : FrontEnv → FrontPart → Option FrontRow → Deed
+abbrev pub fires_waiting : FrontEnv → FrontPart → Option FrontRow → FrontDeed
 fires_waiting env p None = Drops
 fires_waiting env p (Some row) = fires_waiting_by env p row (held_in row.stage)
 
 -- ---- an end
 
 -- who is admitted in the place of one that ended
-abbrev pub next_by : Dispatcher → ℕ → Millis → Deed → Option (ℕ × FirstChoice)
-next_by d c time Drops = None
-next_by d c time (Says turn) = None
-next_by d c time (Does x) = ended_answer d c time
+abbrev pub next_admitted_by : Dispatcher → ℕ → Millis → FrontDeed → Option (ℕ × FirstChoice)
+next_admitted_by d c time Drops = None
+next_admitted_by d c time (Says turn) = None
+next_admitted_by d c time (Does x) = ended_answer d c time
 
 -- the path with which a connection waits
 abbrev pub target_of : Option FrontRest → Option (List ℕ)
-target_of rest = (rest_of rest).target
+target_of rest = (front_rest rest).target

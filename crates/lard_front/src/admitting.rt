@@ -7,7 +7,7 @@ ghost use Rattle.lard_rules.specs.Front.{front_admitted};
 ghost use Rattle.lard_rules.specs.FrontPlace.{front_part};
 ghost use Rattle.lard_rules.specs.FrontSound.{HasTarget};
 ghost use Rattle.lard_front.specs.Bounds.{IsFrontTurn};
-ghost use Rattle.lard_front.specs.Hand.{Holds, count_of, env_of, gives, target_of};
+ghost use Rattle.lard_front.specs.Hand.{Holds, front_count_of, front_env_of, gives, target_of};
 ghost use Rattle.lard_handoff_front.specs.Front.{MayBeOffered};
 
 use crate::handing::hand_off;
@@ -29,10 +29,10 @@ pub fn admit(
     choice: FirstChoice,
 ) -> Result<FrontTurn, NoMemory>
     requires holds { Holds state.old around.now.serve.c true }
-    requires may { MayBeOffered (table.get state.old.conns around.now.serve.c) (count_of (table.get state.old.rests around.now.serve.c)) }
-    requires few { count_of (table.get state.old.rests around.now.serve.c) < 2 ^ 31 }
+    requires may { MayBeOffered (table.get state.old.conns around.now.serve.c) (front_count_of (table.get state.old.rests around.now.serve.c)) }
+    requires few { front_count_of (table.get state.old.rests around.now.serve.c) < 2 ^ 31 }
     requires target { HasTarget (table.get state.old.rests around.now.serve.c) }
-    ensures turn { IfOk result (λ turn. option_map (gives state.old around.now.serve.c) (front_admitted (env_of around.now state.old) (front_part state.old around.now.serve.c) choice) ≡ Some (state.new, turn)) }
+    ensures turn { IfOk result (λ turn. option_map (gives state.old around.now.serve.c) (front_admitted (front_env_of around.now state.old) (front_part state.old around.now.serve.c) choice) ≡ Some (state.new, turn)) }
     ensures fits { IfOk result IsFrontTurn }
     ensures quiet { IfOk result (λ turn. turn.segments ≡ []) }
 {

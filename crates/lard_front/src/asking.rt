@@ -3,12 +3,12 @@
 ghost use Rattle.std.specs.Prelude.{◌≡◌, ℕ, ◌+◌, ◌-◌, ◌<◌, ◌^◌, ◌==◌, List, [], ◌++◌, length, map, slice_get, IfOk, OnOk, Some, IsSome, option_copied};
 ghost use Rattle.std.specs.FinMap as table;
 ghost use Rattle.lard_dispatch.specs.Sound.{AreBefore};
-ghost use Rattle.lard_rules.specs.Front.{assigned_notes, front_asked, is_at, is_with, over_note};
+ghost use Rattle.lard_rules.specs.Front.{assigned_notes, front_asked, is_row_at, is_with, over_note};
 ghost use Rattle.lard_rules.specs.FrontPlace.{front_part};
 ghost use Rattle.lard_rules.specs.FrontSound.{HasTag, IsAsk};
 ghost use Rattle.lard_front.specs.Bounds.{IsFrontTurn};
-ghost use Rattle.lard_front.specs.Asking.{MayShare, assigned_by, kept_rests};
-ghost use Rattle.lard_front.specs.Hand.{deed_turn, env_of};
+ghost use Rattle.lard_front.specs.Asking.{AsksFromHome, assigned_by, kept_rests};
+ghost use Rattle.lard_front.specs.Hand.{deed_turn, front_env_of};
 ghost use Rattle.lard_loads.specs.Tally.{home};
 
 use crate::passing::telling;
@@ -36,11 +36,11 @@ pub fn asked(
 ) -> Result<FrontTurn, NoMemory>
     requires number { ask.c ≡ around.now.serve.c }
     requires ask { IsAsk ask }
-    requires home { MayShare state.old ask epoch.0 }
+    requires home { AsksFromHome state.old ask epoch.0 }
     requires tag { HasTag (table.get state.old.rests ask.c) }
     requires kept { table.get state.old.kept ask.c ≡ Some [] → ⊥ }
     requires clock { AreBefore around.now.time.0 state.old.dispatch.books.sets }
-    ensures turn { IfOk result (λ turn. (state.new, turn) ≡ deed_turn state.old ask.c (front_asked (env_of around.now state.old) (front_part state.old ask.c) ask.home epoch.0 ask)) }
+    ensures turn { IfOk result (λ turn. (state.new, turn) ≡ deed_turn state.old ask.c (front_asked (front_env_of around.now state.old) (front_part state.old ask.c) ask.home epoch.0 ask)) }
     ensures fits { IfOk result IsFrontTurn }
     ensures clock { OnOk result (AreBefore around.now.time.0 state.new.dispatch.books.sets) }
 {
@@ -68,7 +68,7 @@ pub fn asked(
 
 /// Whether the connection is with this node, in this epoch.
 fn is_at(row: Option<&FrontRow>, from: NodeId, epoch: Epoch) -> bool
-    ensures { result ≡ is_at from epoch.0 (option_copied row.entry) }
+    ensures { result ≡ is_row_at from epoch.0 (option_copied row.entry) }
 {
     match row {
         Some(row) => is_with(&row.stage, from, epoch),
@@ -116,7 +116,7 @@ fn assign(
     requires home { home state.old.dispatch.books.loads ask.c ≡ Some ask.home }
     requires there { IsSome (table.get state.old.rests ask.c) }
     requires clock { AreBefore around.now.time.0 state.old.dispatch.books.sets }
-    ensures turn { IfOk result (λ turn. (state.new, turn) ≡ assigned_by (env_of around.now state.old) state.old epoch.0 ask assigned) }
+    ensures turn { IfOk result (λ turn. (state.new, turn) ≡ assigned_by (front_env_of around.now state.old) state.old epoch.0 ask assigned) }
     ensures fits { IfOk result IsFrontTurn }
     ensures clock { OnOk result (AreBefore around.now.time.0 state.new.dispatch.books.sets) }
 {

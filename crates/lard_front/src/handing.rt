@@ -4,7 +4,7 @@ ghost use Rattle.std.specs.Prelude.{◌≡◌, ◌+◌, ◌^◌, ◌<◌, ◌≤
 ghost use Rattle.std.specs.FinMap as table;
 ghost use Rattle.lard_base.specs.declared.limits.TheConstants.{MAX_MESSAGE_BYTES, MAX_STREAM_BYTES};
 ghost use Rattle.lard_front.specs.Bounds.{IsFrontTurn};
-ghost use Rattle.lard_front.specs.Hand.{env_of, handed_at};
+ghost use Rattle.lard_front.specs.Hand.{front_env_of, handed_at};
 ghost use Rattle.lard_handoff_front.specs.Front.{MayBeOffered};
 ghost use Rattle.lard_resend.specs.Pending.{held, renewed};
 
@@ -34,7 +34,7 @@ pub fn hand_off(
     requires none { held state.old.kept around.now.serve.c ≡ [] }
     requires few { service.count < 2 ^ 31 }
     requires answered { service.answered ≤ MAX_STREAM_BYTES }
-    ensures turn { IfOk result (λ turn. handed_at (env_of around.now state.old) state.old service path choice (table.get state.old.conns around.now.serve.c) ≡ Some (state.new, turn)) }
+    ensures turn { IfOk result (λ turn. handed_at (front_env_of around.now state.old) state.old service path choice (table.get state.old.conns around.now.serve.c) ≡ Some (state.new, turn)) }
     ensures fits { IfOk result IsFrontTurn }
     ensures quiet { IfOk result (λ turn. turn.segments ≡ []) }
 {

@@ -6,10 +6,10 @@ ghost use Rattle.lard_base.specs.declared.limits.TheConstants.{MAX_STREAM_BYTES}
 ghost use Rattle.lard_rules.specs.FrontPlace.{front_part};
 ghost use Rattle.lard_rules.specs.FrontReading.{MayMove};
 ghost use Rattle.lard_front.specs.Bounds.{IsFrontTurn};
-ghost use Rattle.lard_front.specs.Hand.{Holds, IsFree, Lends, deed_turn, env_of, fires_held, fires_waiting, heard_at, read_deed, waits_heard};
+ghost use Rattle.lard_front.specs.Hand.{Holds, IsFree, Lends, deed_turn, front_env_of, fires_held, fires_waiting, heard_at, read_deed, waits_heard};
 ghost use Rattle.lard_handoff_front.specs.Front.{may_put};
 ghost use Rattle.lard_endpoint.specs.Leaving.{after_timer, timed};
-ghost use Rattle.lard_rules.specs.Serving.{ready_of, serving, spoken};
+ghost use Rattle.lard_rules.specs.Serving.{serving_ready_of, serving, spoken};
 ghost use Rattle.lard_segment.specs.Segment.{said};
 ghost use Rattle.lard_serving.specs.Bounds.{IsTurn};
 ghost use Rattle.lard_serving.specs.Serving.{IsCounted, env_seen, service_of};
@@ -36,7 +36,7 @@ pub fn hear_held(
     requires holds { Holds state.old around.now.serve.c false }
     requires free { IsFree state.old.dispatch around.now.serve.c around.now.time.0 }
     requires stream { around.now.serve.stream ≤ MAX_STREAM_BYTES }
-    ensures turn { IfOk result (λ turn. (state.new, turn) ≡ deed_turn state.old around.now.serve.c (heard_at (env_of around.now state.old) (front_part state.old around.now.serve.c) (said segment.now) (table.get state.old.conns around.now.serve.c))) }
+    ensures turn { IfOk result (λ turn. (state.new, turn) ≡ deed_turn state.old around.now.serve.c (heard_at (front_env_of around.now state.old) (front_part state.old around.now.serve.c) (said segment.now) (table.get state.old.conns around.now.serve.c))) }
     ensures fits { IfOk result IsFrontTurn }
 {
     let c = around.serve.c;
@@ -74,7 +74,7 @@ fn go_on(
     requires few { service.count < 2 ^ 31 }
     requires answered { service.answered ≤ MAX_STREAM_BYTES }
     requires asked { service.count ≤ endpoint.recv.got - length endpoint.recv.unread }
-    ensures turn { IfOk result (λ turn. (state.new, turn) ≡ deed_turn state.old around.now.serve.c (read_deed (env_of around.now state.old) (front_part state.old around.now.serve.c) (service_of endpoint service) target (table.get state.old.conns around.now.serve.c))) }
+    ensures turn { IfOk result (λ turn. (state.new, turn) ≡ deed_turn state.old around.now.serve.c (read_deed (front_env_of around.now state.old) (front_part state.old around.now.serve.c) (service_of endpoint service) target (table.get state.old.conns around.now.serve.c))) }
     ensures fits { IfOk result IsFrontTurn }
 {
     match target {
@@ -94,7 +94,7 @@ fn settle(
     requires lends { Lends state.old around.now.serve.c }
     requires lent { may_put (table.get state.old.conns around.now.serve.c) ≡ true }
     requires counted { IsCounted endpoint service }
-    ensures turn { IfOk result (λ turn. (state.new, turn) ≡ deed_turn state.old around.now.serve.c (read_deed (env_of around.now state.old) (front_part state.old around.now.serve.c) (service_of endpoint service) None (table.get state.old.conns around.now.serve.c))) }
+    ensures turn { IfOk result (λ turn. (state.new, turn) ≡ deed_turn state.old around.now.serve.c (read_deed (front_env_of around.now state.old) (front_part state.old around.now.serve.c) (service_of endpoint service) None (table.get state.old.conns around.now.serve.c))) }
     ensures fits { IfOk result IsFrontTurn }
 {
     let (ending, turn) = settled(alloc, &around.serve, endpoint, service);
@@ -111,7 +111,7 @@ pub fn hear_waiting(
     segment: &Segment<'_>,
 ) -> Result<FrontTurn, NoMemory>
     requires holds { Holds state.old around.now.serve.c true }
-    ensures turn { IfOk result (λ turn. (state.new, turn) ≡ deed_turn state.old around.now.serve.c (waits_heard (env_of around.now state.old) (front_part state.old around.now.serve.c) (said segment.now) (table.get state.old.conns around.now.serve.c))) }
+    ensures turn { IfOk result (λ turn. (state.new, turn) ≡ deed_turn state.old around.now.serve.c (waits_heard (front_env_of around.now state.old) (front_part state.old around.now.serve.c) (said segment.now) (table.get state.old.conns around.now.serve.c))) }
     ensures fits { IfOk result IsFrontTurn }
 {
     let c = around.serve.c;
@@ -134,7 +134,7 @@ pub fn fire_held(
     around: &Around<'_>,
 ) -> Result<FrontTurn, NoMemory>
     requires holds { Holds state.old around.now.serve.c false }
-    ensures turn { IfOk result (λ turn. (state.new, turn) ≡ deed_turn state.old around.now.serve.c (fires_held (env_of around.now state.old) (front_part state.old around.now.serve.c) (table.get state.old.conns around.now.serve.c))) }
+    ensures turn { IfOk result (λ turn. (state.new, turn) ≡ deed_turn state.old around.now.serve.c (fires_held (front_env_of around.now state.old) (front_part state.old around.now.serve.c) (table.get state.old.conns around.now.serve.c))) }
     ensures fits { IfOk result IsFrontTurn }
 {
     let c = around.serve.c;
@@ -152,7 +152,7 @@ pub fn fire_waiting(
     around: &Around<'_>,
 ) -> Result<FrontTurn, NoMemory>
     requires holds { Holds state.old around.now.serve.c true }
-    ensures turn { IfOk result (λ turn. (state.new, turn) ≡ deed_turn state.old around.now.serve.c (fires_waiting (env_of around.now state.old) (front_part state.old around.now.serve.c) (table.get state.old.conns around.now.serve.c))) }
+    ensures turn { IfOk result (λ turn. (state.new, turn) ≡ deed_turn state.old around.now.serve.c (fires_waiting (front_env_of around.now state.old) (front_part state.old around.now.serve.c) (table.get state.old.conns around.now.serve.c))) }
     ensures fits { IfOk result IsFrontTurn }
 {
     let c = around.serve.c;
@@ -167,7 +167,7 @@ pub fn fire_waiting(
 /// What an endpoint says whose timer fires (RFC 9293, 3.10.8).
 fn fired(alloc: Global, env: &Env<'_>, mut endpoint: Endpoint, count: u32) -> Ends
     requires { count ≤ endpoint.send.total }
-    ensures turn { IfOk result.1 (λ turn. (result.0, turn) ≡ spoken (env_seen env.now) (serving (after_timer endpoint) count []) (ready_of (env_seen env.now) (after_timer endpoint) (timed endpoint))) }
+    ensures turn { IfOk result.1 (λ turn. (result.0, turn) ≡ spoken (env_seen env.now) (serving (after_timer endpoint) count []) (serving_ready_of (env_seen env.now) (after_timer endpoint) (timed endpoint))) }
     ensures fits { IfOk result.1 IsTurn }
 {
     let ready = endpoint.timer();

@@ -4,10 +4,10 @@ ghost use Rattle.std.specs.Prelude.{◌≡◌, [], ◌++◌, IfOk, Some};
 ghost use Rattle.std.specs.FinMap as table;
 ghost use Rattle.lard_dispatch.specs.Sound.{AreBefore};
 ghost use Rattle.lard_rules.specs.Front.{front_admitted, front_ended};
-ghost use Rattle.lard_rules.specs.FrontPlace.{ended_deed, front_env, front_part, in_order, joined};
+ghost use Rattle.lard_rules.specs.FrontPlace.{ended_deed, front_env, front_part, in_order, front_joined};
 ghost use Rattle.lard_rules.specs.FrontSound.{IsFrontSound, Waits};
 ghost use Rattle.lard_front.specs.Bounds.{IsFrontOut, IsFrontTurn};
-ghost use Rattle.lard_front.specs.Place.{head_too, setting_seen};
+ghost use Rattle.lard_front.specs.Place.{head_too, front_setting_seen};
 
 use crate::admitting::admit;
 use crate::releasing::{Released, end};
@@ -35,8 +35,8 @@ pub fn ended(
 ) -> Result<Out, NoMemory>
     requires sound { IsFrontSound state.old }
     requires clock { AreBefore setting.now.now.0 state.old.dispatch.books.sets }
-    ensures out { IfOk result (λ out. (state.new, out) ≡ ended_deed (setting_seen setting.entry.now) state.old c
-        (front_ended (front_env (setting_seen setting.entry.now) state.old c 0) (front_part state.old c) from epoch.0 last)) }
+    ensures out { IfOk result (λ out. (state.new, out) ≡ ended_deed (front_setting_seen setting.entry.now) state.old c
+        (front_ended (front_env (front_setting_seen setting.entry.now) state.old c 0) (front_part state.old c) from epoch.0 last)) }
     ensures fits { IfOk result IsFrontOut }
 {
     let around = Around {
@@ -73,7 +73,7 @@ fn admits_too(
     requires fits { IsFrontTurn turn }
     requires quiet { turn.segments ≡ [] }
     ensures out { IfOk result (λ out. (state.new, out) ≡ head_too state.old turn timers c next.0
-        (front_admitted (front_env (setting_seen setting.entry.now) state.old next.0 0) (front_part state.old next.0) next.1)) }
+        (front_admitted (front_env (front_setting_seen setting.entry.now) state.old next.0 0) (front_part state.old next.0) next.1)) }
     ensures fits { IfOk result IsFrontOut }
 {
     let (head, choice) = next;
@@ -99,7 +99,7 @@ fn joined(turn: FrontTurn, behind: FrontTurn) -> Result<FrontTurn, NoMemory>
     requires fits { IsFrontTurn turn }
     requires behind { IsFrontTurn behind }
     requires quiet { turn.segments ≡ [] }
-    ensures turn { IfOk result (λ all. all ≡ joined turn behind) }
+    ensures turn { IfOk result (λ all. all ≡ front_joined turn behind) }
     ensures fits { IfOk result IsFrontTurn }
 {
     let FrontTurn {

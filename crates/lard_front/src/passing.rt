@@ -7,7 +7,7 @@ ghost use Rattle.lard_rules.specs.Front.{front_taken};
 ghost use Rattle.lard_rules.specs.FrontPlace.{front_part};
 ghost use Rattle.lard_front.specs.Bounds.{IsFrontTurn};
 ghost use Rattle.lard_front.specs.Hand.{deed_turn};
-ghost use Rattle.lard_front.specs.Told.{telling};
+ghost use Rattle.lard_front.specs.Told.{front_telling};
 ghost use Rattle.lard_message.specs.Message.{IsOfTable};
 
 use crate::turns::{saying, silent};
@@ -26,7 +26,7 @@ pub fn telling(
     body: Body,
 ) -> Result<FrontTurn, NoMemory>
     requires { IsOfTable body }
-    ensures turn { IfOk result (λ turn. turn ≡ telling c epoch.0 node body) }
+    ensures turn { IfOk result (λ turn. turn ≡ front_telling c epoch.0 node body) }
     ensures fits { IfOk result IsFrontTurn }
 {
     let bytes = encode(alloc, &Message { c, epoch, body })?;
@@ -46,7 +46,7 @@ pub fn forward(
 ) -> Result<FrontTurn, NoMemory>
     requires some { 20 ≤ length bytes.now }
     requires short { length bytes.now ≤ MAX_SEGMENT_BYTES }
-    ensures turn { IfOk result (λ turn. turn ≡ telling c epoch.0 node (Body.Forward bytes.now)) }
+    ensures turn { IfOk result (λ turn. turn ≡ front_telling c epoch.0 node (Body.Forward bytes.now)) }
     ensures fits { IfOk result IsFrontTurn }
 {
     let copy = Bytes::from_slice(alloc, bytes)?;

@@ -4,11 +4,11 @@ ghost use Rattle.std.specs.Prelude.{◌≡◌, ◌-◌, ◌^◌, ◌<◌, ◌≤
 ghost use Rattle.std.specs.FinMap as table;
 ghost use Rattle.lard_base.specs.declared.limits.TheConstants.{MAX_STREAM_BYTES};
 ghost use Rattle.lard_endpoint.specs.Moving.{may_freeze};
-ghost use Rattle.lard_rules.specs.Front.{leaves_by, rest_of};
+ghost use Rattle.lard_rules.specs.Front.{leaves_by, front_rest};
 ghost use Rattle.lard_rules.specs.FrontPlace.{front_part};
 ghost use Rattle.lard_handoff_front.specs.Front.{may_put};
 ghost use Rattle.lard_front.specs.Bounds.{IsFrontTurn};
-ghost use Rattle.lard_front.specs.Hand.{IsFree, Lends, deed_turn, env_of, read_deed, waits_at};
+ghost use Rattle.lard_front.specs.Hand.{IsFree, Lends, deed_turn, front_env_of, read_deed, waits_at};
 ghost use Rattle.lard_dispatch.specs.Laws.{after_calls};
 ghost use Rattle.lard_serving.specs.Serving.{IsCounted, service_of};
 
@@ -35,7 +35,7 @@ fn wait(
 ) -> Result<FrontTurn, NoMemory>
     requires lends { Lends state.old around.now.serve.c }
     requires counted { IsCounted endpoint service }
-    ensures turn { IfOk result (λ turn. (state.new, turn) ≡ waits_at (env_of around.now state.old) state.old (service_of endpoint service) path (table.get state.old.conns around.now.serve.c)) }
+    ensures turn { IfOk result (λ turn. (state.new, turn) ≡ waits_at (front_env_of around.now state.old) state.old (service_of endpoint service) path (table.get state.old.conns around.now.serve.c)) }
     ensures fits { IfOk result IsFrontTurn }
 {
     let c = around.serve.c;
@@ -65,7 +65,7 @@ pub fn leave_by(dispatch: &mut Dispatch, c: ConnId, ending: &Ending)
 #[tactic(auto, using(lard_table::proofs::Map::insert_twice, lard_table::proofs::Map::get_inserted))]
 fn set_target(rests: &mut Table<FrontRest>, alloc: Global, c: ConnId, path: Path)
     requires { IsSome (table.get rests.old c) }
-    ensures { rests.new ≡ table.insert rests.old c (record (rest_of (table.get rests.old c)) { target = Some path }) }
+    ensures { rests.new ≡ table.insert rests.old c (record (front_rest (table.get rests.old c)) { target = Some path }) }
 {
     let mut rest = rests.replace(c.number(), no_rest(alloc));
     rest.target = Some(path);
@@ -90,7 +90,7 @@ pub fn place(
     requires few { service.count < 2 ^ 31 }
     requires answered { service.answered ≤ MAX_STREAM_BYTES }
     requires asked { service.count ≤ endpoint.recv.got - length endpoint.recv.unread }
-    ensures turn { IfOk result (λ turn. (state.new, turn) ≡ deed_turn state.old around.now.serve.c (read_deed (env_of around.now state.old) (front_part state.old around.now.serve.c) (service_of endpoint service) (Some path) (table.get state.old.conns around.now.serve.c))) }
+    ensures turn { IfOk result (λ turn. (state.new, turn) ≡ deed_turn state.old around.now.serve.c (read_deed (front_env_of around.now state.old) (front_part state.old around.now.serve.c) (service_of endpoint service) (Some path) (table.get state.old.conns around.now.serve.c))) }
     ensures fits { IfOk result IsFrontTurn }
 {
     let c = around.serve.c;

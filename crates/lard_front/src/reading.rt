@@ -6,7 +6,7 @@ ghost use Rattle.lard_answers.specs.Answers.{good_path};
 ghost use Rattle.lard_base.specs.declared.limits.TheConstants.{MAX_STREAM_BYTES};
 ghost use Rattle.lard_block.specs.Blocks.{cut_of};
 ghost use Rattle.lard_files.specs.Files.{file_at};
-ghost use Rattle.lard_rules.specs.FrontReading.{MayMove, block_at, reads, reads_block, reads_found};
+ghost use Rattle.lard_rules.specs.FrontReading.{MayMove, block_at, front_reads, reads_block, reads_found};
 ghost use Rattle.lard_front.specs.Hand.{MayGo, reading_of, step_seen};
 ghost use Rattle.lard_request.specs.Verdict.{verdict};
 ghost use Rattle.lard_serving.specs.Serving.{IsCounted, env_seen, service_of};
@@ -39,7 +39,7 @@ pub fn read(
 ) -> Result<Option<Path>, NoMemory>
     requires stream { env.now.stream ≤ MAX_STREAM_BYTES }
     requires counted { IsCounted endpoint.old service.old }
-    ensures read { IfOk result (λ target. reading_of endpoint.new service.new target ≡ reads (env_seen env.now) (reading_of endpoint.old service.old None)) }
+    ensures read { IfOk result (λ target. reading_of endpoint.new service.new target ≡ front_reads (env_seen env.now) (reading_of endpoint.old service.old None)) }
     ensures counted { OnOk result (IsCounted endpoint.new service.new) }
     ensures may { IfOk result (λ target. MayMove endpoint.new target) }
 {

@@ -4,11 +4,11 @@ ghost use Rattle.std.specs.Prelude.{◌≡◌, ◌≤◌, true, [], IfOk, length
 ghost use Rattle.std.specs.FinMap as table;
 ghost use Rattle.lard_base.specs.declared.limits.TheConstants.{MAX_SEGMENT_BYTES, MAX_STREAM_BYTES};
 ghost use Rattle.lard_dispatch.specs.Sound.{AreBefore};
-ghost use Rattle.lard_rules.specs.Front.{begun, front_gets, front_hears, front_timer};
+ghost use Rattle.lard_rules.specs.Front.{front_begun, front_gets, front_hears, front_timer};
 ghost use Rattle.lard_rules.specs.FrontPlace.{front_deed, front_part};
 ghost use Rattle.lard_rules.specs.FrontSound.{IsFrontSound};
 ghost use Rattle.lard_front.specs.Bounds.{AreMessages, IsFrontOut, IsFrontTurn};
-ghost use Rattle.lard_front.specs.Hand.{deed_turn, env_of};
+ghost use Rattle.lard_front.specs.Hand.{deed_turn, front_env_of};
 ghost use Rattle.lard_resend.specs.Pending.{AreFit, held, sent_of};
 ghost use Rattle.lard_rules.specs.Tombstone.{is_plain_syn};
 ghost use Rattle.lard_segment.specs.Segment.{decoded, said};
@@ -40,7 +40,7 @@ pub fn receive(
     requires stream { around.now.serve.stream ≤ MAX_STREAM_BYTES }
     requires short { length bytes.now ≤ MAX_SEGMENT_BYTES }
     ensures out { IfOk result (λ out. (state.new, out) ≡ front_deed state.old around.now.serve.c
-        (front_gets (env_of around.now state.old) (front_part state.old around.now.serve.c) bytes.now (decoded bytes.now around.now.serve.c Dir.ToCluster))) }
+        (front_gets (front_env_of around.now state.old) (front_part state.old around.now.serve.c) bytes.now (decoded bytes.now around.now.serve.c Dir.ToCluster))) }
     ensures fits { IfOk result IsFrontOut }
 {
     let c = around.serve.c;
@@ -61,7 +61,7 @@ fn get(
     requires stream { around.now.serve.stream ≤ MAX_STREAM_BYTES }
     requires short { length bytes.now ≤ MAX_SEGMENT_BYTES }
     ensures turn { IfOk result (λ turn. (state.new, turn) ≡ deed_turn state.old around.now.serve.c
-        (front_gets (env_of around.now state.old) (front_part state.old around.now.serve.c) bytes.now (decoded bytes.now around.now.serve.c Dir.ToCluster))) }
+        (front_gets (front_env_of around.now state.old) (front_part state.old around.now.serve.c) bytes.now (decoded bytes.now around.now.serve.c Dir.ToCluster))) }
     ensures fits { IfOk result IsFrontTurn }
 {
     match decode(bytes, around.serve.c, Dir::ToCluster) {
@@ -84,7 +84,7 @@ fn hear(
     requires some { 20 ≤ length bytes.now }
     requires short { length bytes.now ≤ MAX_SEGMENT_BYTES }
     ensures turn { IfOk result (λ turn. (state.new, turn) ≡ deed_turn state.old around.now.serve.c
-        (front_hears (env_of around.now state.old) (front_part state.old around.now.serve.c) bytes.now (said segment.now) (table.get state.old.conns around.now.serve.c))) }
+        (front_hears (front_env_of around.now state.old) (front_part state.old around.now.serve.c) bytes.now (said segment.now) (table.get state.old.conns around.now.serve.c))) }
     ensures fits { IfOk result IsFrontTurn }
 {
     let c = around.serve.c;
@@ -126,7 +126,7 @@ fn meet(
     requires none { held state.old.kept around.now.serve.c ≡ [] }
     requires some { table.get state.old.kept around.now.serve.c ≡ Some [] → ⊥ }
     requires plain { is_plain_syn (said segment.now) ≡ true }
-    ensures turn { IfOk result (λ turn. (state.new, turn) ≡ deed_turn state.old around.now.serve.c (begun (env_of around.now state.old) (front_part state.old around.now.serve.c) (said segment.now))) }
+    ensures turn { IfOk result (λ turn. (state.new, turn) ≡ deed_turn state.old around.now.serve.c (front_begun (front_env_of around.now state.old) (front_part state.old around.now.serve.c) (said segment.now))) }
     ensures fits { IfOk result IsFrontTurn }
 {
     let c = around.serve.c;
@@ -146,7 +146,7 @@ fn meet(
 /// The timers of a connection fire (RFC 9293, 3.10.8). Without memory the state is of no use any more but to be spent.
 pub fn time_out(state: &mut FrontState, alloc: Global, around: &Around<'_>) -> Result<Out, NoMemory>
     requires sound { IsFrontSound state.old }
-    ensures out { IfOk result (λ out. (state.new, out) ≡ front_deed state.old around.now.serve.c (front_timer (env_of around.now state.old) (front_part state.old around.now.serve.c))) }
+    ensures out { IfOk result (λ out. (state.new, out) ≡ front_deed state.old around.now.serve.c (front_timer (front_env_of around.now state.old) (front_part state.old around.now.serve.c))) }
     ensures fits { IfOk result IsFrontOut }
 {
     let c = around.serve.c;
@@ -158,7 +158,7 @@ pub fn time_out(state: &mut FrontState, alloc: Global, around: &Around<'_>) -> R
 /// The endpoint's timer fires, or the Offer that awaits an answer is told again.
 fn fire(state: &mut FrontState, alloc: Global, around: &Around<'_>) -> Result<FrontTurn, NoMemory>
     requires sound { IsFrontSound state.old }
-    ensures turn { IfOk result (λ turn. (state.new, turn) ≡ deed_turn state.old around.now.serve.c (front_timer (env_of around.now state.old) (front_part state.old around.now.serve.c))) }
+    ensures turn { IfOk result (λ turn. (state.new, turn) ≡ deed_turn state.old around.now.serve.c (front_timer (front_env_of around.now state.old) (front_part state.old around.now.serve.c))) }
     ensures fits { IfOk result IsFrontTurn }
 {
     let c = around.serve.c;

@@ -4,13 +4,13 @@ ghost use Rattle.std.specs.Prelude.{◌≡◌, true, is_some, [], ◌∷◌, IfO
 ghost use Rattle.std.specs.FinMap as table;
 ghost use Rattle.lard_dispatch.specs.Calls.{after_ended, ended_answer};
 ghost use Rattle.lard_dispatch.specs.Sound.{AreBefore};
-ghost use Rattle.lard_rules.specs.Front.{ack_sent, front_ended, saying};
+ghost use Rattle.lard_rules.specs.Front.{ack_sent, front_ended, front_saying};
 ghost use Rattle.lard_rules.specs.FrontPlace.{front_part};
 ghost use Rattle.lard_rules.specs.FrontSound.{IsFrontSound};
 ghost use Rattle.lard_front.specs.Bounds.{IsFrontTurn};
-ghost use Rattle.lard_front.specs.Hand.{deed_turn, env_of, next_by};
+ghost use Rattle.lard_front.specs.Hand.{deed_turn, front_env_of, next_admitted_by};
 ghost use Rattle.lard_loads.specs.Tally.{home};
-ghost use Rattle.lard_resend.specs.Pending.{settled};
+ghost use Rattle.lard_resend.specs.Pending.{pending_settled};
 
 use crate::passing::telling;
 use crate::turns::{Around, silent};
@@ -46,10 +46,10 @@ pub fn end(
 ) -> Result<Released, NoMemory>
     requires sound { IsFrontSound state.old }
     requires clock { AreBefore around.now.time.0 state.old.dispatch.books.sets }
-    ensures turn { IfOk result (λ x. (state.new, x.turn) ≡ deed_turn state.old around.now.serve.c (front_ended (env_of around.now state.old) (front_part state.old around.now.serve.c) from epoch.0 last)) }
+    ensures turn { IfOk result (λ x. (state.new, x.turn) ≡ deed_turn state.old around.now.serve.c (front_ended (front_env_of around.now state.old) (front_part state.old around.now.serve.c) from epoch.0 last)) }
     ensures fits { IfOk result (λ x. IsFrontTurn x.turn) }
     ensures quiet { IfOk result (λ x. x.turn.segments ≡ []) }
-    ensures next { IfOk result (λ x. x.next ≡ next_by state.old.dispatch around.now.serve.c around.now.time (front_ended (env_of around.now state.old) (front_part state.old around.now.serve.c) from epoch.0 last)) }
+    ensures next { IfOk result (λ x. x.next ≡ next_admitted_by state.old.dispatch around.now.serve.c around.now.time (front_ended (front_env_of around.now state.old) (front_part state.old around.now.serve.c) from epoch.0 last)) }
 {
     let c = around.serve.c;
     match state.conns.on_ended(c, epoch, last) {
@@ -80,10 +80,10 @@ fn release(
     requires clock { AreBefore around.now.time.0 state.old.dispatch.books.sets }
     ensures state { IfOk result (λ x. state.new ≡ record state.old {
       rests = table.remove state.old.rests around.now.serve.c;
-      kept = settled state.old.kept around.now.serve.c TimerKind.Offer 0;
+      kept = pending_settled state.old.kept around.now.serve.c TimerKind.Offer 0;
       dispatch = after_ended state.old.dispatch around.now.serve.c around.now.time;
     }) }
-    ensures turn { IfOk result (λ x. x.turn ≡ record (saying (ack_sent (env_of around.now state.old) from epoch.0)) { notes = Rec.Took Place.Front around.now.serve.c next ∷ Rec.Released around.now.serve.c ∷ [] }) }
+    ensures turn { IfOk result (λ x. x.turn ≡ record (front_saying (ack_sent (front_env_of around.now state.old) from epoch.0)) { notes = Rec.Took Place.Front around.now.serve.c next ∷ Rec.Released around.now.serve.c ∷ [] }) }
     ensures fits { IfOk result (λ x. IsFrontTurn x.turn) }
     ensures quiet { IfOk result (λ x. x.turn.segments ≡ []) }
     ensures next { IfOk result (λ x. x.next ≡ ended_answer state.old.dispatch around.now.serve.c around.now.time) }

@@ -2,8 +2,8 @@
 
 ghost use Rattle.std.specs.Prelude.{◌≡◌, true, is_some, IsSome, None, Some};
 ghost use Rattle.std.specs.FinMap as table;
-ghost use Rattle.lard_rules.specs.Front.{rest_of};
-ghost use Rattle.lard_front.specs.Hand.{count_of, lent, rested_in};
+ghost use Rattle.lard_rules.specs.Front.{front_rest};
+ghost use Rattle.lard_front.specs.Hand.{front_count_of, front_lent, front_rested_in};
 ghost use Rattle.lard_handoff_front.specs.Front.{endpoint_of, may_put};
 
 use lard_base::{ConnId, Nodes};
@@ -16,7 +16,7 @@ use std::alloc::Global;
 pub fn take_out(state: &mut FrontState, c: ConnId) -> Endpoint
     requires { is_some (endpoint_of (table.get state.old.conns c)) ≡ true }
     ensures endpoint { endpoint_of (table.get state.old.conns c) ≡ Some result }
-    ensures after { state.new ≡ lent state.old c }
+    ensures after { state.new ≡ front_lent state.old c }
     ensures lent { may_put (table.get state.new.conns c) ≡ true }
 {
     match state.conns.take(c) {
@@ -27,7 +27,7 @@ pub fn take_out(state: &mut FrontState, c: ConnId) -> Endpoint
 
 /// How many responses were queued on a connection.
 pub fn count_of(rests: &Table<FrontRest>, c: ConnId) -> u32
-    ensures { result ≡ count_of (table.get rests.now c) }
+    ensures { result ≡ front_count_of (table.get rests.now c) }
 {
     match rests.get(c.number()) {
         Some(rest) => rest.count,
@@ -39,7 +39,7 @@ pub fn count_of(rests: &Table<FrontRest>, c: ConnId) -> u32
 pub fn put_back(state: &mut FrontState, alloc: Global, c: ConnId, waiting: bool, ending: Ending)
     requires lent { may_put (table.get state.old.conns c) ≡ true }
     requires rest { IsSome (table.get state.old.rests c) }
-    ensures { state.new ≡ rested_in state.old c waiting ending }
+    ensures { state.new ≡ front_rested_in state.old c waiting ending }
 {
     match ending {
         Ending::Here { endpoint, count } => {
@@ -57,7 +57,7 @@ pub fn put_back(state: &mut FrontState, alloc: Global, c: ConnId, waiting: bool,
 #[tactic(auto, using(lard_table::proofs::Map::insert_twice, lard_table::proofs::Map::get_inserted))]
 fn set_count(rests: &mut Table<FrontRest>, alloc: Global, c: ConnId, count: u32)
     requires { IsSome (table.get rests.old c) }
-    ensures { rests.new ≡ table.insert rests.old c (record (rest_of (table.get rests.old c)) { count = count }) }
+    ensures { rests.new ≡ table.insert rests.old c (record (front_rest (table.get rests.old c)) { count = count }) }
 {
     let mut rest = rests.replace(c.number(), no_rest(alloc));
     rest.count = count;
@@ -66,7 +66,7 @@ fn set_count(rests: &mut Table<FrontRest>, alloc: Global, c: ConnId, count: u32)
 
 /// Nothing is known of what was done.
 pub fn no_rest(alloc: Global) -> FrontRest
-    ensures { result ≡ rest_of None }
+    ensures { result ≡ front_rest None }
 {
     FrontRest {
         count: 0,

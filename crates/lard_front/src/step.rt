@@ -6,7 +6,7 @@ ghost use Rattle.lard_dispatch.specs.Sound.{AreBefore};
 ghost use Rattle.lard_rules.specs.FrontPlace.{front_step};
 ghost use Rattle.lard_rules.specs.FrontSound.{IsFrontSound};
 ghost use Rattle.lard_front.specs.Bounds.{IsFrontOut, IsShort};
-ghost use Rattle.lard_front.specs.Place.{setting_seen};
+ghost use Rattle.lard_front.specs.Place.{front_setting_seen};
 
 use crate::receiving::{receive, time_out};
 use crate::told::message_comes;
@@ -39,7 +39,7 @@ pub fn step(
     requires clock { AreBefore setting.now.now.0 state.old.dispatch.books.sets }
     requires stream { setting.now.stream ≤ MAX_STREAM_BYTES }
     requires short { IsShort input }
-    ensures ok { IfOk result (λ out. (state.new, out) ≡ front_step (setting_seen setting.entry.now) state.old input) }
+    ensures ok { IfOk result (λ out. (state.new, out) ≡ front_step (front_setting_seen setting.entry.now) state.old input) }
     ensures sound { OnOk result (IsFrontSound state.new) }
     ensures clock { OnOk result (AreBefore setting.entry.now.now.0 state.new.dispatch.books.sets) }
     ensures fits { IfOk result IsFrontOut }
@@ -58,7 +58,7 @@ fn act(
     requires clock { AreBefore setting.now.now.0 state.old.dispatch.books.sets }
     requires stream { setting.now.stream ≤ MAX_STREAM_BYTES }
     requires short { IsShort input }
-    ensures out { IfOk result (λ out. (state.new, out) ≡ front_step (setting_seen setting.entry.now) state.old input) }
+    ensures out { IfOk result (λ out. (state.new, out) ≡ front_step (front_setting_seen setting.entry.now) state.old input) }
     ensures fits { IfOk result IsFrontOut }
 {
     match input {

@@ -6,7 +6,7 @@ ghost use Rattle.lard_rules.specs.Front.{front_asked, front_taken};
 ghost use Rattle.lard_rules.specs.FrontPlace.{front_deed, front_env, front_part, front_told, message_comes};
 ghost use Rattle.lard_rules.specs.FrontSound.{IsAsk, IsFrontSound};
 ghost use Rattle.lard_front.specs.Bounds.{IsFrontOut};
-ghost use Rattle.lard_front.specs.Place.{setting_seen};
+ghost use Rattle.lard_front.specs.Place.{front_setting_seen};
 ghost use Rattle.lard_message.specs.declared.fault.MsgFault.TheVariants as fault_kind;
 ghost use Rattle.lard_message.specs.Message.{IsOfTable};
 ghost use Rattle.lard_message.specs.Reading.{decoded_message};
@@ -37,7 +37,7 @@ pub fn message_comes(
 ) -> Result<Out, NoMemory>
     requires sound { IsFrontSound state.old }
     requires clock { AreBefore setting.now.now.0 state.old.dispatch.books.sets }
-    ensures out { IfOk result (λ out. (state.new, out) ≡ message_comes (setting_seen setting.entry.now) state.old from (decoded_message bytes.now)) }
+    ensures out { IfOk result (λ out. (state.new, out) ≡ message_comes (front_setting_seen setting.entry.now) state.old from (decoded_message bytes.now)) }
     ensures fits { IfOk result IsFrontOut }
 {
     match decode(alloc, bytes) {
@@ -74,7 +74,7 @@ fn told(
     requires sound { IsFrontSound state.old }
     requires clock { AreBefore setting.now.now.0 state.old.dispatch.books.sets }
     requires table { IsOfTable message.body }
-    ensures out { IfOk result (λ out. (state.new, out) ≡ front_told (setting_seen setting.entry.now) state.old from message.c message.epoch.0 message.body) }
+    ensures out { IfOk result (λ out. (state.new, out) ≡ front_told (front_setting_seen setting.entry.now) state.old from message.c message.epoch.0 message.body) }
     ensures fits { IfOk result IsFrontOut }
 {
     let Message { c, epoch, body } = message;
@@ -142,7 +142,7 @@ fn answer(
     requires clock { AreBefore setting.now.now.0 state.old.dispatch.books.sets }
     requires ask { IsAsk ask }
     ensures out { IfOk result (λ out. (state.new, out) ≡ front_deed state.old ask.c
-        (front_asked (front_env (setting_seen setting.entry.now) state.old ask.c 0) (front_part state.old ask.c) ask.home epoch.0 ask)) }
+        (front_asked (front_env (front_setting_seen setting.entry.now) state.old ask.c 0) (front_part state.old ask.c) ask.home epoch.0 ask)) }
     ensures fits { IfOk result IsFrontOut }
 {
     let c = ask.c;

@@ -4,11 +4,11 @@ ghost use Rattle.std.specs.Prelude.{◌≡◌, ◌==◌, [], ◌∷◌, ◌++◌
 ghost use Rattle.std.specs.FinMap as table;
 ghost use Rattle.std.specs.List.{list_any};
 ghost use Rattle.lard_base.specs.declared.place.TimerKind.TheVariants as kind;
-ghost use Rattle.lard_rules.specs.Front.{front_armed, row_armed, saying, stage_armed, turn_here};
-ghost use Rattle.lard_rules.specs.FrontPlace.{front_part, out_of};
+ghost use Rattle.lard_rules.specs.Front.{front_armed, row_armed, front_saying, stage_armed, turn_here};
+ghost use Rattle.lard_rules.specs.FrontPlace.{front_part, front_out_of};
 ghost use Rattle.lard_front.specs.Bounds.{AreMessages, IsFrontOut, IsFrontTurn};
-ghost use Rattle.lard_front.specs.Hand.{changes, armed_of, out_by, silent};
-ghost use Rattle.lard_resend.specs.Kept.{rank};
+ghost use Rattle.lard_front.specs.Hand.{changes, armed_of, out_by, front_silent};
+ghost use Rattle.lard_resend.specs.Kept.{kind_rank};
 ghost use Rattle.lard_rules.specs.Outs.{kind_change};
 ghost use Rattle.lard_rules.specs.Speaking.{listed};
 ghost use Rattle.lard_serving.specs.Bounds.{IsTurn};
@@ -73,13 +73,13 @@ fn stage_armed(stage: &FrontConn) -> bool
 }
 
 fn has_offer(kept: &[Kept]) -> bool
-    ensures { result ≡ list_any (λ x. rank x.kind == rank kind.Offer) kept.now }
+    ensures { result ≡ list_any (λ x. kind_rank x.kind == kind_rank kind.Offer) kept.now }
 {
     kept.iter().any(|kept| is_offer(kept))
 }
 
 fn is_offer(kept: &Kept) -> bool
-    ensures { result ≡ (rank kept.now.kind == rank kind.Offer) }
+    ensures { result ≡ (kind_rank kept.now.kind == kind_rank kind.Offer) }
 {
     match kept.kind {
         TimerKind::Tcp => false,
@@ -125,7 +125,7 @@ fn push(recs: &mut Recs, rec: Option<Rec>) -> Result<(), NoMemory>
 
 /// Nothing is done.
 pub fn silent(alloc: Global) -> FrontTurn
-    ensures turn { result ≡ silent }
+    ensures turn { result ≡ front_silent }
     ensures fits { IsFrontTurn result }
 {
     saying(alloc, Sends::new(alloc))
@@ -134,7 +134,7 @@ pub fn silent(alloc: Global) -> FrontTurn
 /// These messages go out, and nothing else is done.
 pub fn saying(alloc: Global, messages: Sends) -> FrontTurn
     requires { AreMessages messages }
-    ensures turn { result ≡ saying messages }
+    ensures turn { result ≡ front_saying messages }
     ensures fits { IsFrontTurn result }
 {
     FrontTurn {
@@ -185,7 +185,7 @@ pub fn out_by(
 /// What a turn comes to, whose timers changed so.
 pub fn out_of(turn: FrontTurn, timers: Recs) -> Out
     requires { IsFrontTurn turn }
-    ensures out { result ≡ out_of turn timers }
+    ensures out { result ≡ front_out_of turn timers }
     ensures fits { IsFrontOut result }
 {
     let FrontTurn {

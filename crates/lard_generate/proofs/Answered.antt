@@ -5,7 +5,7 @@ use Rattle.std.specs.Fmt.{digits}
 use Rattle.lard_request.specs.declared.verdict.Code.TheVariants.{Ok}
 use Rattle.lard_response.specs.Response.{response, status_line}
 use Rattle.lard_generate.specs.Clients.{answer_len}
-use Rattle.lard_generate.specs.Files.{content_of}
+use Rattle.lard_generate.specs.Files.{generated_content}
 use Rattle.lard_generate.specs.Laws.{AnswersAreCounted}
 use Rattle.lard_generate.proofs.Listing.{length-listed}
 use Rattle.lard_generate.proofs.Paths.{found}
@@ -32,5 +32,5 @@ length-response body =
 
 pub counted : AnswersAreCounted
 counted sizes c file below =
-    let bytes = content_of file (slice_index sizes file) in
+    let bytes = generated_content file (slice_index sizes file) in
     (bytes, found sizes 256 file below (omega arith), ap answer_len (sym (length-listed (λ j. (file + j) % 256) (slice_index sizes file))) ∙ sym (length-response bytes))

@@ -6,23 +6,23 @@ use Rattle.lard_base.specs.declared.event.Event.{Event}
 use Rattle.lard_base.specs.declared.event.Event.TheVariants.{Settle}
 use Rattle.lard_generate.specs.declared.action.Action.{Action}
 use Rattle.lard_generate.specs.declared.schedule.Schedule.{Schedule}
-use Rattle.lard_generate.specs.Clients.{drawn_open, drawn_actions, drawn_fate, event_of, rounds}
+use Rattle.lard_generate.specs.Clients.{drawn_open, drawn_actions, drawn_fate, action_event, rounds}
 use Rattle.lard_generate.specs.Draws.{each, seeded}
-use Rattle.lard_generate.specs.Files.{drawn_size, files_of}
+use Rattle.lard_generate.specs.Files.{drawn_size, generated_files}
 use Rattle.lard_generate.specs.Generated.{generated}
 
 -- the events, with those of actions and the rounds that all of it takes
 abbrev pub events_of : ℕ → List ℕ → List Event → List Action → List Event → List Event
-events_of clients sizes opens actions fates = opens ++ map event_of actions ++ fates ++ Settle (rounds clients sizes actions) ∷ []
+events_of clients sizes opens actions fates = opens ++ map action_event actions ++ fates ++ Settle (rounds clients sizes actions) ∷ []
 
 abbrev pub schedule_of : ℕ → List ℕ → List Event → List Action → List Event → Schedule
-schedule_of clients sizes opens actions fates = record { files = files_of sizes; events = events_of clients sizes opens actions fates }
+schedule_of clients sizes opens actions fates = record { files = generated_files sizes; events = events_of clients sizes opens actions fates }
 
 pub parts_are : (clients : ℕ) (sizes : List ℕ) (opens : List Event) (actions : List Action) (fates : List Event) (files : List (List ℕ × List ℕ)) (events : List Event)
-    → files ≡ files_of sizes → events ≡ events_of clients sizes opens actions fates
+    → files ≡ generated_files sizes → events ≡ events_of clients sizes opens actions fates
     → ◌≡◌ {A = Schedule} (record { files = files; events = events }) (schedule_of clients sizes opens actions fates)
 parts_are clients sizes opens actions fates files events f e =
-    ap (λ (xs : List (List ℕ × List ℕ)). record { files = xs; events = events }) f ∙ ap (λ (xs : List Event). record { files = files_of sizes; events = xs }) e
+    ap (λ (xs : List (List ℕ × List ℕ)). record { files = xs; events = events }) f ∙ ap (λ (xs : List Event). record { files = generated_files sizes; events = xs }) e
 
 -- What was drawn one after another from the seed makes the generated schedule.
 pub assembled : (seed clients : ℕ) (f g h i j : Lcg) (sizes : List ℕ) (opens fates : List Event) (actions : List Action)

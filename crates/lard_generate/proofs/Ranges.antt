@@ -7,10 +7,10 @@ use Rattle.std.proofs.lemmas.List.Sums.{sum_by-append}
 use Rattle.rand_pcg.specs.Lcg.{Lcg}
 use Rattle.lard_generate.specs.declared.action.Action.{Action}
 use Rattle.lard_generate.specs.declared.action.Action.TheVariants.{Ask, Shut}
-use Rattle.lard_generate.specs.Clients.{drawn_actions, drawn_ask, fields, head_of, rounds, shut_at}
+use Rattle.lard_generate.specs.Clients.{drawn_actions, drawn_ask, fields, request_head, rounds, shut_at}
 use Rattle.lard_generate.specs.Draws.{behind, draw, each}
 use Rattle.lard_generate.specs.Files.{drawn_size}
-use Rattle.lard_generate.specs.Rounds.{AsksForFile, cost}
+use Rattle.lard_generate.specs.Rounds.{AsksForFile, action_cost}
 use Rattle.lard_generate.proofs.Costs.{rounds_by_cost}
 use Rattle.lard_generate.proofs.Making.{All-each, sum_by-each, length-each}
 
@@ -59,34 +59,34 @@ length-fields : length fields ≡ 476
 unfolding fields
 length-fields = refl
 
-length-head_of : (file : ℕ) → file < 256 → length (head_of file) ≤ 485
+length-head_of : (file : ℕ) → file < 256 → length (request_head file) ≤ 485
 length-head_of file small = omega (arith, length-append (decimal file) fields, length-decimal-le 3 file (omega arith) (omega arith) (omega arith), length-fields)
 
 -- what a request takes at most
 abbrev most : ℕ
 most = 64 + 16 * (485 + 8192 + 37 + 4)
 
-ask_cost : (sizes : List ℕ) (c file : ℕ) → length sizes ≡ 256 → All IsSmall sizes → file < 256 → cost sizes (Ask c file) ≤ most
+ask_cost : (sizes : List ℕ) (c file : ℕ) → length sizes ≡ 256 → All IsSmall sizes → file < 256 → action_cost sizes (Ask c file) ≤ most
 ask_cost sizes c file count small below =
     let size : slice_index sizes file ≤ 8192 = All-get_or IsSmall sizes file 0 (omega arith) small in
     omega (arith, size, length-head_of file below, length-decimal-le 4 (slice_index sizes file) (omega arith) (omega arith) (omega arith))
 
-shut_cost : (sizes : List ℕ) (c n : ℕ) → sum_by (cost sizes) (shut_at c n) ≡ 0
+shut_cost : (sizes : List ℕ) (c n : ℕ) → sum_by (action_cost sizes) (shut_at c n) ≡ 0
 shut_cost sizes c n = go (nat_eq n 0) where
-  go : (b : Bool) → sum_by (cost sizes) (if b then [] else Shut c ∷ []) ≡ 0
+  go : (b : Bool) → sum_by (action_cost sizes) (if b then [] else Shut c ∷ []) ≡ 0
   go true = refl
   go false = refl
 
-asks_cost : (sizes : List ℕ) (c n : ℕ) (g : Lcg) → length sizes ≡ 256 → All IsSmall sizes → sum_by (cost sizes) (each (drawn_ask c) n g).0 ≤ n * most
+asks_cost : (sizes : List ℕ) (c n : ℕ) (g : Lcg) → length sizes ≡ 256 → All IsSmall sizes → sum_by (action_cost sizes) (each (drawn_ask c) n g).0 ≤ n * most
 asks_cost sizes c n g count small =
-    sum_by-each (cost sizes) most (drawn_ask c) n g (λ k h. omega (arith, ask_cost sizes c (draw 256 h) count small (omega arith)))
+    sum_by-each (action_cost sizes) most (drawn_ask c) n g (λ k h. omega (arith, ask_cost sizes c (draw 256 h) count small (omega arith)))
 
-actions_cost : (sizes : List ℕ) (c : ℕ) (g : Lcg) → length sizes ≡ 256 → All IsSmall sizes → sum_by (cost sizes) (drawn_actions c g).0 ≤ 10 * most
+actions_cost : (sizes : List ℕ) (c : ℕ) (g : Lcg) → length sizes ≡ 256 → All IsSmall sizes → sum_by (action_cost sizes) (drawn_actions c g).0 ≤ 10 * most
 actions_cost sizes c g count small =
     let asks = each (drawn_ask c) (1 + draw 10 g) (behind g) in
     omega (
       arith,
-      sum_by-append (cost sizes) asks.0 (shut_at c (draw 4 asks.1)),
+      sum_by-append (action_cost sizes) asks.0 (shut_at c (draw 4 asks.1)),
       asks_cost sizes c (1 + draw 10 g) (behind g) count small,
       shut_cost sizes c (draw 4 asks.1),
     )
@@ -98,7 +98,7 @@ rounds_fit clients sizes g few count small =
     omega (
       arith,
       rounds_by_cost clients sizes (each drawn_actions clients g).0,
-      sum_by-each (cost sizes) (10 * most) drawn_actions clients g (λ c h. actions_cost sizes c h count small),
+      sum_by-each (action_cost sizes) (10 * most) drawn_actions clients g (λ c h. actions_cost sizes c h count small),
     )
 
 pub rounds_are_fit : (clients : ℕ) (g h i j : Lcg) (sizes : List ℕ) (actions : List Action) → clients ≤ 2000

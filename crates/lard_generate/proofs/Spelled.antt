@@ -19,9 +19,9 @@ use Rattle.lard_schedule.specs.Events.{is_visible}
 use Rattle.lard_schedule.specs.Files.{is_file_path, is_no_question}
 use Rattle.lard_generate.specs.declared.action.Action.{Action}
 use Rattle.lard_generate.specs.declared.action.Action.TheVariants.{Ask, Shut}
-use Rattle.lard_generate.specs.Clients.{drawn_actions, drawn_ask, drawn_fate, drawn_open, event_of, fate_at, fields, head_of, rounds, shut_at}
-use Rattle.lard_generate.specs.Draws.{behind, draw, each, seeded, word}
-use Rattle.lard_generate.specs.Files.{content_of, drawn_size, file_of, files_of, listed, path_of}
+use Rattle.lard_generate.specs.Clients.{drawn_actions, drawn_ask, drawn_fate, drawn_open, action_event, fate_at, fields, request_head, rounds, shut_at}
+use Rattle.lard_generate.specs.Draws.{behind, draw, each, seeded, drawn_word}
+use Rattle.lard_generate.specs.Files.{generated_content, drawn_size, generated_file, generated_files, listed_to, generated_path}
 use Rattle.lard_generate.specs.Generated.{generated}
 use Rattle.lard_generate.specs.Laws.{EventsAreSpelled, FilesAreSpelled, IsSpelled, IsSpelledFile}
 use Rattle.lard_generate.proofs.Listing.{length-listed}
@@ -34,8 +34,8 @@ turned : (n by : ℕ) → n < 2 ^ 32 → rotate_right w32 n by < 2 ^ 32
 turned n by small = or_of_32 (n / 2 ^ (by % 32)) (n * 2 ^ ((32 - by % 32) % 32) % 2 ^ 32) (omega (arith, div-le_self n (2 ^ (by % 32)))) (omega arith)
 
 -- a word has 32 bits
-word_fits : (g : Lcg) → word g < 2 ^ 32
-unfolding word
+word_fits : (g : Lcg) → drawn_word g < 2 ^ 32
+unfolding drawn_word
 word_fits g = turned _ (g.state / 2 ^ 59) (omega arith)
 
 -- ---- bytes
@@ -69,15 +69,15 @@ decimal_passes : (p : ℕ → Bool) → ((b : ℕ) → 48 ≤ b → b ≤ 57 →
 decimal_passes p fine n small = digits_pass p fine (decimal n) (decimal_is_IsNumeral n small).0.1
 
 -- what holds at each place of a list that is given place by place
-All-listed : {A : Type 0} (P : A → Type 0) (f : ℕ → A) (n : ℕ) → ((k : ℕ) → k < n → P (f k)) → All P (listed f n)
-unfolding listed
+All-listed : {A : Type 0} (P : A → Type 0) (f : ℕ → A) (n : ℕ) → ((k : ℕ) → k < n → P (f k)) → All P (listed_to f n)
+unfolding listed_to
 All-listed P f zero holds = All-nil P
 All-listed P f (suc n) holds =
-    All-append P (listed f n) (f n ∷ []) (All-listed P f n (λ k low. holds k (omega arith))) (All-cons P (f n) [] (holds n (omega arith)) (All-nil P))
+    All-append P (listed_to f n) (f n ∷ []) (All-listed P f n (λ k low. holds k (omega arith))) (All-cons P (f n) [] (holds n (omega arith)) (All-nil P))
 
 -- ---- files
 
-path_fine : (i : ℕ) → i < 256 → is_file_path (path_of i) ≡ true
+path_fine : (i : ℕ) → i < 256 → is_file_path (generated_path i) ≡ true
 path_fine i small =
     let digits = decimal i in
     let short : nat_lt (length (102 ∷ digits)) 1024 ≡ true = grind (arith, nat_tests, length-decimal-le 3 i (omega arith) (omega arith) (omega arith)) in
@@ -85,18 +85,18 @@ path_fine i small =
     let plain = decimal_passes is_no_question (λ b low high. grind (arith, nat_tests, low, high)) i (omega arith) in
     all_three (nat_lt (length (102 ∷ digits)) 1024) (list_all is_visible digits) (list_all is_no_question digits) short visible plain
 
-content_fine : (i size : ℕ) → IsBytes (content_of i size)
+content_fine : (i size : ℕ) → IsBytes (generated_content i size)
 content_fine i size =
-    bytes_pass (content_of i size)
-    (list_all-from_AllPass is_byte (content_of i size) (All-listed (λ b. is_byte b ≡ true) (λ j. (i + j) % 256) size (λ j low. grind (arith, nat_tests))))
+    bytes_pass (generated_content i size)
+    (list_all-from_AllPass is_byte (generated_content i size) (All-listed (λ b. is_byte b ≡ true) (λ j. (i + j) % 256) size (λ j low. grind (arith, nat_tests))))
 
 sizes_some : (g : Lcg) → All (λ size. 1 ≤ size) (each drawn_size 256 g).0
 sizes_some g = All-each (λ size. 1 ≤ size) drawn_size 256 g (λ k h low high. All-cons (λ size. 1 ≤ size) (1 + draw 8192 h) [] (omega arith) (All-nil (λ size. 1 ≤ size)))
 
-sized_fine : (g : Lcg) → All IsSpelledFile (files_of (each drawn_size 256 g).0)
+sized_fine : (g : Lcg) → All IsSpelledFile (generated_files (each drawn_size 256 g).0)
 sized_fine g =
     let sizes = (each drawn_size 256 g).0 in
-    All-listed IsSpelledFile (file_of sizes) 256 (λ i small.
+    All-listed IsSpelledFile (generated_file sizes) 256 (λ i small.
     let least : 1 ≤ slice_index sizes i = All-get_or (λ size. 1 ≤ size) sizes i 0 (omega (arith, length-sizes g)) (sizes_some g) in
     let most : slice_index sizes i ≤ 8192 = All-get_or IsSmall sizes i 0 (omega (arith, length-sizes g)) (sizes_small g) in
     let length_is = length-listed (λ j. (i + j) % 256) (slice_index sizes i) in
@@ -111,18 +111,18 @@ files_spelled seed clients = sized_fine (seeded seed)
 opens_fine : (clients : ℕ) (g : Lcg) → clients ≤ 2000 → All IsSpelled (each drawn_open clients g).0
 opens_fine clients g few =
     All-each IsSpelled drawn_open clients g (λ c h low high.
-    All-cons IsSpelled (event.Open c (word h) (word (behind h)) 65535 1460) []
+    All-cons IsSpelled (event.Open c (drawn_word h) (drawn_word (behind h)) 65535 1460) []
     (((low, omega arith), word_fits h, word_fits (behind h), (omega arith, omega arith), (omega arith, omega arith)), tt) (All-nil IsSpelled))
 
-head_fine : (file : ℕ) → file < 256 → IsBytes (head_of file)
+head_fine : (file : ℕ) → file < 256 → IsBytes (request_head file)
 unfolding fields
 head_fine file small =
-    bytes_pass (head_of file)
+    bytes_pass (request_head file)
     (list_all-append is_byte (decimal file) fields ∙ ap (λ t. t && list_all is_byte fields) (decimal_passes is_byte (λ b low high. grind (arith, nat_tests, low, high)) file (omega arith)))
 
 -- the event of an action is spelled
 abbrev IsFine : Action → Type 0
-IsFine action = IsSpelled (event_of action)
+IsFine action = IsSpelled (action_event action)
 
 shut_fine : (c n : ℕ) → 1 ≤ c → c ≤ 2000 → All IsFine (shut_at c n)
 shut_fine c n low high = go (nat_eq n 0) where
@@ -159,10 +159,10 @@ events_spelled seed clients few =
     let opens = each drawn_open clients sizes.1 in
     let actions = each drawn_actions clients opens.1 in
     let fates = each drawn_fate clients actions.1 in
-    let moves = map event_of actions.0 in
+    let moves = map action_event actions.0 in
     let last = event.Settle (rounds clients sizes.0 actions.0) in
     let fit = rounds_are_fit clients (seeded seed) sizes.1 opens.1 actions.1 sizes.0 actions.0 few refl refl in
-    let acted = All-map IsSpelled event_of actions.0 (actions_fine clients opens.1 few) in
+    let acted = All-map IsSpelled action_event actions.0 (actions_fine clients opens.1 few) in
     All-append IsSpelled (opens.0 ++ moves ++ fates.0) (last ∷ [])
     (All-append IsSpelled (opens.0 ++ moves) fates.0 (All-append IsSpelled opens.0 moves (opens_fine clients sizes.1 few) acted) (fates_fine clients actions.1 few))
     (All-cons IsSpelled last [] ((omega arith, fit), tt) (All-nil IsSpelled))

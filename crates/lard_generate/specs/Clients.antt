@@ -5,14 +5,14 @@ use Rattle.lard_base.specs.declared.event.Event.{Event}
 use Rattle.lard_base.specs.declared.event.Event.TheVariants as event
 use Rattle.lard_generate.specs.declared.action.Action.{Action}
 use Rattle.lard_generate.specs.declared.action.Action.TheVariants.{Ask, Shut}
-use Rattle.lard_generate.specs.Draws.{draw, word, behind, each}
-use Rattle.lard_generate.specs.Files.{path_of}
+use Rattle.lard_generate.specs.Draws.{draw, drawn_word, behind, each}
+use Rattle.lard_generate.specs.Files.{generated_path}
 
 -- ---- opens
 
 -- client c opens, with two draws for its initial sequence number and for the cluster's
 abbrev pub drawn_open : ℕ → Lcg → List Event × Lcg
-drawn_open c g = (event.Open c (word g) (word (behind g)) 65535 1460 ∷ [], behind (behind g))
+drawn_open c g = (event.Open c (drawn_word g) (drawn_word (behind g)) 65535 1460 ∷ [], behind (behind g))
 
 -- ---- requests
 
@@ -38,8 +38,8 @@ fields =
     ++ codes "\r\n"
 
 -- the head of a request for a file
-abbrev pub head_of : ℕ → List ℕ
-head_of file = codes "GET " ++ path_of file ++ fields
+abbrev pub request_head : ℕ → List ℕ
+request_head file = codes "GET " ++ generated_path file ++ fields
 
 -- client c asks for a file, with a request of its own
 abbrev pub drawn_ask : ℕ → ℕ → Lcg → List Action × Lcg
@@ -56,9 +56,9 @@ drawn_actions c g =
     (asks.0 ++ shut_at c (draw 4 asks.1), behind asks.1)
 
 -- the event of an action
-abbrev pub event_of : Action → Event
-event_of (Ask c file) = event.Write c (head_of file)
-event_of (Shut c) = event.Shut c
+abbrev pub action_event : Action → Event
+action_event (Ask c file) = event.Write c (request_head file)
+action_event (Shut c) = event.Shut c
 
 -- ---- SYNs
 
@@ -75,23 +75,23 @@ drawn_fate c g = (fate_at c (draw 8 g), behind g)
 -- ---- rounds
 
 -- how many requests an action writes, how many bytes these have, and how many bytes their answers have where files have these sizes
-abbrev pub requests : Action → ℕ
-requests (Ask c file) = 1
-requests (Shut c) = 0
+abbrev pub requests_written : Action → ℕ
+requests_written (Ask c file) = 1
+requests_written (Shut c) = 0
 
-abbrev pub written : Action → ℕ
-written (Ask c file) = length (head_of file)
-written (Shut c) = 0
+abbrev pub bytes_written : Action → ℕ
+bytes_written (Ask c file) = length (request_head file)
+bytes_written (Shut c) = 0
 
 -- the length of a response that carries so many bytes: its head has 37 bytes and the digits of this number
 abbrev pub answer_len : ℕ → ℕ
 answer_len size = size + 37 + length (decimal size)
 
-abbrev pub answered : List ℕ → Action → ℕ
-answered sizes (Ask c file) = answer_len (slice_index sizes file)
-answered sizes (Shut c) = 0
+abbrev pub answer_bytes_of : List ℕ → Action → ℕ
+answer_bytes_of sizes (Ask c file) = answer_len (slice_index sizes file)
+answer_bytes_of sizes (Shut c) = 0
 
 -- the most rounds in which all of it settles: 128 for each client and 128 more, 64 for each request, and 16 for each byte that is written or answered
 abbrev pub rounds : ℕ → List ℕ → List Action → ℕ
 rounds clients sizes actions =
-    128 * (clients + 1) + 64 * sum_by requests actions + 16 * (sum_by written actions + sum_by (answered sizes) actions)
+    128 * (clients + 1) + 64 * sum_by requests_written actions + 16 * (sum_by bytes_written actions + sum_by (answer_bytes_of sizes) actions)

@@ -8,15 +8,15 @@ unfoldable pub seeded : ℕ → Lcg
 seeded seed = started 64 multiplier_64 seed (increment_of 64 1)
 
 -- the next word, and the generator behind it
-unfoldable pub word : Lcg → ℕ
-word g = (pcg32 g).0
+unfoldable pub drawn_word : Lcg → ℕ
+drawn_word g = (pcg32 g).0
 
 unfoldable pub behind : Lcg → Lcg
 behind g = (pcg32 g).1
 
 -- a draw modulo m: the remainder of the next word
 abbrev pub draw : ℕ → Lcg → ℕ
-draw m g = word g % m
+draw m g = drawn_word g % m
 
 -- what f makes for 1, 2, .., n in order, each of the draws behind those of the one before, and the generator behind all of them
 unfoldable pub each : {A : Type 0} → (ℕ → Lcg → List A × Lcg) → ℕ → Lcg → List A × Lcg

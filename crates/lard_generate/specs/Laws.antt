@@ -5,17 +5,17 @@ use Rattle.lard_base.specs.declared.event.Event.{Event}
 use Rattle.lard_files.specs.Files.{file_at}
 use Rattle.lard_request.specs.declared.verdict.Code.TheVariants.{Ok}
 use Rattle.lard_response.specs.Response.{response}
-use Rattle.lard_schedule.specs.Events.{IsInRange}
+use Rattle.lard_schedule.specs.Events.{IsInLineRange}
 use Rattle.lard_schedule.specs.Files.{is_file_path}
 use Rattle.lard_schedule.specs.Laws.{HasBytes}
 use Rattle.lard_generate.specs.declared.action.Action.TheVariants.{Ask}
-use Rattle.lard_generate.specs.Clients.{answered}
-use Rattle.lard_generate.specs.Files.{files_of, path_of}
+use Rattle.lard_generate.specs.Clients.{answer_bytes_of}
+use Rattle.lard_generate.specs.Files.{generated_files, generated_path}
 use Rattle.lard_generate.specs.Generated.{generated}
 
 -- a line can have this event
 abbrev pub IsSpelled : Event → Type 0
-IsSpelled event = IsInRange event × HasBytes event
+IsSpelled event = IsInLineRange event × HasBytes event
 
 abbrev pub EventsAreSpelled : Type 0
 EventsAreSpelled = (seed clients : ℕ) → clients ≤ 2000 → All IsSpelled (generated seed clients).events
@@ -31,4 +31,4 @@ FilesAreSpelled = (seed clients : ℕ) → All IsSpelledFile (generated seed cli
 abbrev pub AnswersAreCounted : Type 0
 AnswersAreCounted =
     (sizes : List ℕ) (c file : ℕ) → file < 256
-    → (bytes : List ℕ) × (file_at (files_of sizes) (path_of file) ≡ Some bytes) × (answered sizes (Ask c file) ≡ length (response Ok bytes false false))
+    → (bytes : List ℕ) × (file_at (generated_files sizes) (generated_path file) ≡ Some bytes) × (answer_bytes_of sizes (Ask c file) ≡ length (response Ok bytes false false))

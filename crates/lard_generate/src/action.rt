@@ -1,7 +1,7 @@
 //! What the clients do once they opened.
 
 ghost use Rattle.std.specs.Prelude.{◌≡◌, ◌≤◌, ◌+◌, ◌++◌, map, IfOk, OnOk};
-ghost use Rattle.lard_generate.specs.Clients.{drawn_actions, drawn_ask, event_of, fields, head_of, shut_at};
+ghost use Rattle.lard_generate.specs.Clients.{drawn_actions, drawn_ask, action_event, fields, request_head, shut_at};
 ghost use Rattle.lard_generate.specs.Draws.{behind, draw, each};
 
 use crate::draws::{client, draw};
@@ -75,7 +75,7 @@ fn push_shut(actions: &mut Items<Action>, c: ConnId, draw: u32) -> Result<(), No
 
 /// The events of actions. `NoMemory` where memory runs out.
 pub fn events(alloc: Global, actions: &[Action]) -> Result<Events, NoMemory>
-    ensures { IfOk result (λ events. events ≡ map event_of actions.now) }
+    ensures { IfOk result (λ events. events ≡ map action_event actions.now) }
 {
     let mut events = Events::new(alloc);
     for action in actions {
@@ -86,7 +86,7 @@ pub fn events(alloc: Global, actions: &[Action]) -> Result<Events, NoMemory>
 
 /// The event of an action.
 fn event(alloc: Global, action: Action) -> Result<Event, NoMemory>
-    ensures { IfOk result (λ event. event ≡ event_of action) }
+    ensures { IfOk result (λ event. event ≡ action_event action) }
 {
     match action {
         Action::Ask { c, file } => {
@@ -99,7 +99,7 @@ fn event(alloc: Global, action: Action) -> Result<Event, NoMemory>
 
 /// The head of a request for a file.
 fn head(alloc: Global, file: u32) -> Result<Bytes, NoMemory>
-    ensures { IfOk result (λ bytes. bytes ≡ head_of file) }
+    ensures { IfOk result (λ bytes. bytes ≡ request_head file) }
 {
     let path = path(alloc, file)?;
     let mut head = Vec::from_slice(alloc, b"GET ")?;

@@ -1,16 +1,16 @@
 //! Draws, and numbers as they are used.
 
 ghost use Rattle.std.specs.Prelude.{◌≡◌, ◌<◌, ◌≤◌};
-ghost use Rattle.lard_generate.specs.Draws.{behind, draw, word};
+ghost use Rattle.lard_generate.specs.Draws.{behind, draw, drawn_word};
 
 use lard_base::ConnId;
 use rand_core::utils::NextWord;
 use rand_pcg::Lcg64Xsh32;
 
 /// The next word.
-#[tactic(auto, unfolding(crate::specs::Draws::word, crate::specs::Draws::behind))]
+#[tactic(auto, unfolding(crate::specs::Draws::drawn_word, crate::specs::Draws::behind))]
 pub fn word(draws: &mut Lcg64Xsh32) -> u32
-    ensures word { result ≡ word draws.old }
+    ensures word { result ≡ drawn_word draws.old }
     ensures behind { draws.new ≡ behind draws.old }
 {
     draws.next_word()

@@ -3,7 +3,7 @@
 ghost use Rattle.std.specs.Prelude.{◌≡◌, ◌<◌, ◌≤◌, ◌+◌, ◌++◌, ◌%◌, [], ◌∷◌, length, All, IfOk, OnOk};
 ghost use Rattle.lard_files.specs.Files.{add_check};
 ghost use Rattle.lard_generate.specs.Draws.{each};
-ghost use Rattle.lard_generate.specs.Files.{content_of, drawn_size, files_of, path_of};
+ghost use Rattle.lard_generate.specs.Files.{generated_content, drawn_size, generated_files, generated_path};
 
 use crate::draws::draw;
 use itoa::Buffer;
@@ -33,7 +33,7 @@ pub fn sizes(alloc: Global, draws: &mut Lcg64Xsh32) -> Result<Items<u32>, NoMemo
 pub fn files(alloc: Global, sizes: &[u32]) -> Result<Files, NoMemory>
     requires count { length sizes.now ≡ FILES }
     requires small { All (λ size. size ≤ MAX_SIZE) sizes.now }
-    ensures { IfOk result (λ files. files ≡ files_of sizes.now) }
+    ensures { IfOk result (λ files. files ≡ generated_files sizes.now) }
 {
     let mut files = Files::new(alloc);
     for i in 0..FILES {
@@ -45,8 +45,8 @@ pub fn files(alloc: Global, sizes: &[u32]) -> Result<Files, NoMemory>
 /// Adds a file that may be added. Only memory may be wanting.
 fn add(alloc: Global, files: &mut Files, i: u32, size: u32) -> Result<(), NoMemory>
     requires number { i < FILES }
-    requires allowed { add_check files.old (path_of i) size ≡ Ok tt }
-    ensures { OnOk result (files.new ≡ files.old ++ (path_of i, content_of i size) ∷ []) }
+    requires allowed { add_check files.old (generated_path i) size ≡ Ok tt }
+    ensures { OnOk result (files.new ≡ files.old ++ (generated_path i, generated_content i size) ∷ []) }
 {
     let path = path(alloc, i)?;
     let content = content(alloc, i, size)?;
@@ -59,7 +59,7 @@ fn add(alloc: Global, files: &mut Files, i: u32, size: u32) -> Result<(), NoMemo
 
 /// The path of the file with this number, counted from 0. `NoMemory` where memory runs out.
 pub fn path(alloc: Global, i: u32) -> Result<Vec<u8>, NoMemory>
-    ensures { IfOk result (λ path. path.items ≡ path_of i) }
+    ensures { IfOk result (λ path. path.items ≡ generated_path i) }
 {
     let mut digits = Buffer::new();
     let mut path = Vec::from_slice(alloc, b"/f")?;
@@ -69,7 +69,7 @@ pub fn path(alloc: Global, i: u32) -> Result<Vec<u8>, NoMemory>
 
 /// The bytes of a file.
 fn content(alloc: Global, i: u32, size: u32) -> Result<Vec<u8>, NoMemory>
-    ensures content { IfOk result (λ content. content.items ≡ content_of i size) }
+    ensures content { IfOk result (λ content. content.items ≡ generated_content i size) }
     ensures size { IfOk result (λ content. length content.items ≡ size) }
 {
     let mut content = Vec::with_capacity(alloc, size as usize)?;

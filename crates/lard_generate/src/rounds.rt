@@ -1,8 +1,8 @@
 //! How many rounds it takes to settle, at most.
 
 ghost use Rattle.std.specs.Prelude.{◌≡◌, ◌≤◌, ◌<◌, ◌+◌, ◌^◌, length, All, decimal};
-ghost use Rattle.lard_generate.specs.Clients.{answer_len, head_of, rounds};
-ghost use Rattle.lard_generate.specs.Rounds.{AsksForFile, cost};
+ghost use Rattle.lard_generate.specs.Clients.{answer_len, request_head, rounds};
+ghost use Rattle.lard_generate.specs.Rounds.{AsksForFile, action_cost};
 
 use crate::action::{Action, fields};
 use crate::files::FILES;
@@ -27,8 +27,8 @@ pub fn rounds(clients: u32, sizes: &[u32], actions: &[Action]) -> u32
 fn cost(sizes: &[u32], action: Action) -> u64
     requires count { length sizes.now ≡ FILES }
     requires file { AsksForFile action }
-    requires fits { cost sizes.now action < 2 ^ 32 }
-    ensures { result ≡ cost sizes.now action }
+    requires fits { action_cost sizes.now action < 2 ^ 32 }
+    ensures { result ≡ action_cost sizes.now action }
 {
     match action {
         Action::Ask { file, .. } => 64 + 16 * (head_len(file) + answer_len(sizes[file as usize])),
@@ -38,7 +38,7 @@ fn cost(sizes: &[u32], action: Action) -> u64
 
 /// The length of the head of a request for a file: `GET /f`, the file's number, and the fields.
 fn head_len(file: u32) -> u64
-    ensures { result ≡ length (head_of file) }
+    ensures { result ≡ length (request_head file) }
 {
     6 + digits(file) + fields().len() as u64
 }

@@ -3,8 +3,8 @@ use Rattle.std.proofs.Common.{◌≡◌, ◌≤◌, ◌⊎◌, inl, inr, ℕ, �
 use Rattle.std.proofs.lemmas.List.Sums.{fold-append}
 use Rattle.std.specs.List.{fold, list_any}
 use Rattle.lard_base.specs.declared.config.Config.{Config}
-use Rattle.lard_law_connections.specs.PolicyLaws.{ArePaired, Due, First, Later, MayAdmit, Nothing}
-use Rattle.lard_counts.specs.Ledger.{Ledger, admitted, blank, ledger, ledger_step}
+use Rattle.lard_law_connections.specs.PolicyLaws.{ArePaired, AssignmentDue, First, Later, MayAdmit, Nothing}
+use Rattle.lard_counts.specs.Ledger.{Ledger, ledger_admitted, blank_ledger, ledger, ledger_step}
 use Rattle.lard_law_connections.proofs.PolicyIns.{count, count-append, none-left, others, others-left}
 use Rattle.lard_history.proofs.Seeing.{by_number, other_number, same_number}
 use Rattle.lard_history.specs.Journal.{assigned, assigned_step}
@@ -68,7 +68,7 @@ module _ (config : Config) (c : ℕ) where
   -- ---- who is admitted has an assignment
 
   -- what is due counts as one
-  abbrev ahead : Due → ℕ
+  abbrev ahead : AssignmentDue → ℕ
   ahead (First d) = cond (nat_eq d c) 1 0
   ahead (Later d) = 0
   ahead Nothing = 0
@@ -79,7 +79,7 @@ module _ (config : Config) (c : ℕ) where
     go true = length-append a ((path, n) ∷ [])
     go false = omega arith
 
-  assigned-within : (due : Due) (l : Ledger) (a : List (List ℕ × ℕ)) (rs : List Rec) → ArePaired due rs → count c l.ins ≤ length a + ahead due
+  assigned-within : (due : AssignmentDue) (l : Ledger) (a : List (List ℕ × ℕ)) (rs : List Rec) → ArePaired due rs → count c l.ins ≤ length a + ahead due
       → count c (fold ledger_step l rs).ins ≤ length (fold (assigned_step c) a rs)
   assigned-within Nothing l a [] h le = omega (arith, le)
   assigned-within (First d) l a [] h le = absurd h
@@ -125,12 +125,12 @@ module _ (config : Config) (c : ℕ) where
   once-all past (r ∷ rs) each le =
       subst (λ (K : List Rec). count c (ledger config K).ins ≤ 1) (append_assoc past (r ∷ []) rs)
       (once-all (past ++ r ∷ []) rs each.1
-      (subst (λ (l : Ledger). count c l.ins ≤ 1) (sym (fold-append ledger_step (blank config) past (r ∷ []))) (once-more (ledger config past) r each.0 le)))
+      (subst (λ (l : Ledger). count c l.ins ≤ 1) (sym (fold-append ledger_step (blank_ledger config) past (r ∷ []))) (once-more (ledger config past) r each.0 le)))
 
 -- In a journal that keeps the laws of admission, where requests of connections 1 to n alone were assigned, at most n are admitted.
 pub admitted-few : (config : Config) (n : ℕ) (J : List Rec) → EachMay (λ (before : List Rec) (r : Rec). MayAdmit config (ledger config before) r) [] J → ArePaired Nothing J
-    → ((c : ℕ) → IsTo n c ⊎ (length (assigned J c) ≡ 0)) → admitted (ledger config J) ≤ n
+    → ((c : ℕ) → IsTo n c ⊎ (length (assigned J c) ≡ 0)) → ledger_admitted (ledger config J) ≤ n
 admitted-few config n J admits paired h = few-once n (ledger config J).ins (λ c. one c (h c)) (λ c. once-all config c [] J admits (omega arith)) where
   one : (c : ℕ) → IsTo n c ⊎ (length (assigned J c) ≡ 0) → IsTo n c ⊎ (count c (ledger config J).ins ≡ 0)
   one c (inl to) = inl to
-  one c (inr none) = inr (let few = assigned-within config c Nothing (blank config) [] J paired (omega arith) in omega (arith, few, none))
+  one c (inr none) = inr (let few = assigned-within config c Nothing (blank_ledger config) [] J paired (omega arith) in omega (arith, few, none))

@@ -52,13 +52,13 @@ abbrev received : Rec → ℕ
 received (rec.Accepted c bytes) = length bytes
 received _ = 0
 
-one-taken : (n : ℕ) (r : Rec) → counted.accepted_step n r ≡ n + received r
+one-taken : (n : ℕ) (r : Rec) → counted.accepted_bytes_step n r ≡ n + received r
 one-taken n (rec.Accepted c bytes) = refl
 one-taken n _ = omega arith
 
-all-taken : (n : ℕ) (J : List Rec) → fold counted.accepted_step n J ≡ n + weigh received J
+all-taken : (n : ℕ) (J : List Rec) → fold counted.accepted_bytes_step n J ≡ n + weigh received J
 all-taken n [] = omega arith
-all-taken n (r ∷ J) = let one = one-taken n r in let more = all-taken (counted.accepted_step n r) J in omega (arith, one, more)
+all-taken n (r ∷ J) = let one = one-taken n r in let more = all-taken (counted.accepted_bytes_step n r) J in omega (arith, one, more)
 
 one-accepted : (c : ℕ) (before : List ℕ) (r : Rec) → length (accepted_step c before r) ≡ length before + share receiver received c r
 one-accepted c before (rec.Accepted d bytes) = go (nat_eq d c) where
@@ -81,9 +81,9 @@ all-accepted c before (r ∷ J) =
 
 module _ (n : ℕ) (J : List Rec) where
   -- Where nothing was served on other connections, the requests that are counted are those of connections 1 to n.
-  pub requests-together : ((c : ℕ) → IsTo n c ⊎ (served J c ≡ 0)) → counted.requests J ≡ sum_to (served J) n
+  pub requests-together : ((c : ℕ) → IsTo n c ⊎ (served J c ≡ 0)) → counted.requests_answered J ≡ sum_to (served J) n
   requests-together h =
-      let all : counted.requests J ≡ weigh responses J = all-requests 0 J ∙ omega arith in
+      let all : counted.requests_answered J ≡ weigh responses J = all-requests 0 J ∙ omega arith in
       all ∙ by-number responded responses n J (λ c. one c (h c)) ∙ sym (sum-same (served J) (λ c. weigh (share responded responses c) J) n (λ c to. is c)) where
         is : (c : ℕ) → served J c ≡ weigh (share responded responses c) J
         is c = all-served c 0 J ∙ omega arith
@@ -93,9 +93,9 @@ module _ (n : ℕ) (J : List Rec) where
         one c (inr none) = inr (sym (is c) ∙ none)
 
   -- Where other clients accepted nothing, the bytes that are counted are those of clients 1 to n.
-  pub bytes-together : ((c : ℕ) → IsTo n c ⊎ (length (accepted J c) ≡ 0)) → counted.accepted J ≡ sum_to (λ c. length (accepted J c)) n
+  pub bytes-together : ((c : ℕ) → IsTo n c ⊎ (length (accepted J c) ≡ 0)) → counted.accepted_bytes J ≡ sum_to (λ c. length (accepted J c)) n
   bytes-together h =
-      let all : counted.accepted J ≡ weigh received J = all-taken 0 J ∙ omega arith in
+      let all : counted.accepted_bytes J ≡ weigh received J = all-taken 0 J ∙ omega arith in
       all ∙ by-number receiver received n J (λ c. one c (h c)) ∙ sym (sum-same (λ c. length (accepted J c)) (λ c. weigh (share receiver received c) J) n (λ c to. is c)) where
         is : (c : ℕ) → length (accepted J c) ≡ weigh (share receiver received c) J
         is c = all-accepted c [] J ∙ omega arith

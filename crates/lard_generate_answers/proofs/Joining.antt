@@ -13,9 +13,9 @@ use Rattle.lard_base.specs.declared.event.Event.{Event}
 use Rattle.lard_bound.specs.Bound.{openers, opener_step}
 use Rattle.lard_laws.proofs.BackingMarks.{each-at}
 use Rattle.lard_laws.specs.Lawful.{IsLawful}
-use Rattle.lard_counts.specs.Ledger.{Ledger, admitted, blank, ledger, ledger_step}
+use Rattle.lard_counts.specs.Ledger.{Ledger, ledger_admitted, blank_ledger, ledger, ledger_step}
 use Rattle.lard_laws.specs.Quiet.{IsInLine}
-use Rattle.lard_generate_bound.specs.Shares.{numbers}
+use Rattle.lard_generate_bound.specs.Shares.{numbers_to}
 use Rattle.lard_history.specs.Journal.{accepted, accepted_step, assigned, is_touched, reset_step, served, served_step, touched_step, was_reset, wrote, wrote_step}
 use Rattle.lard_history.specs.Laws.{EachMay}
 use Rattle.lard_journal.specs.declared.rec.Rec.{Rec}
@@ -53,7 +53,7 @@ front-nothing xs ys p none = let all = ap (λ l. length l) p.1 in let both = len
 
 -- What is known of a journal of which clients 1 to n are all.
 pub record IsTheirs (files : FilesAt) (stream n : ℕ) (J : List Rec) : Type 0 where
-  pub opened_are : openers J ≡ numbers n
+  pub opened_are : openers J ≡ numbers_to n
   pub alone : (c : ℕ) → (IsTo n c → ⊥) → wrote J c ≡ []
   pub untouched : (c : ℕ) → is_touched J c ≡ false
   pub unaborted : (c : ℕ) → has_aborted J c ≡ false
@@ -102,8 +102,8 @@ module _ (config : Config) (files : FilesAt) (n : ℕ) (J K : List Rec) (theirs 
 
   -- ---- the line
 
-  few : admitted (ledger config J) ≤ n
-  few = subst (λ (l : Ledger). admitted l ≤ n) same.counted (admitted-few config n K laws.admission laws.nodes (λ c. one c (to-or-not n c))) where
+  few : ledger_admitted (ledger config J) ≤ n
+  few = subst (λ (l : Ledger). ledger_admitted l ≤ n) same.counted (admitted-few config n K laws.admission laws.nodes (λ c. one c (to-or-not n c))) where
     one : (c : ℕ) → IsTo n c ⊎ (IsTo n c → ⊥) → IsTo n c ⊎ (length (assigned K c) ≡ 0)
     one c (inl to) = inl to
     one c (inr none) = inr (assigned-none c none)
@@ -118,7 +118,7 @@ module _ (config : Config) (files : FilesAt) (n : ℕ) (J K : List Rec) (theirs 
     not-in-line : (c : ℕ) → IsInLine config before c → ⊥
     not-in-line c h =
         let full = h.1 in
-        let counted : admitted (ledger config before) ≡ admitted (ledger config J) = ap admitted (before-same ledger_step (blank config) (λ l. refl)) in
+        let counted : ledger_admitted (ledger config before) ≡ ledger_admitted (ledger config J) = ap ledger_admitted (before-same ledger_step (blank_ledger config) (λ l. refl)) in
         omega (arith, full, counted, few, room)
 
     complete : (c : ℕ) → IsTo n c → IsComplete files before c

@@ -7,12 +7,12 @@ use Rattle.std.specs.FinMap as table
 use Rattle.std.specs.List.{fold, list_all}
 use Rattle.lard_base.specs.declared.event.Event.{Event}
 use Rattle.lard_base.specs.declared.event.Event.TheVariants as event
-use Rattle.lard_client.specs.Control.{ClientBlock, is_writing, written, written_len}
+use Rattle.lard_client.specs.Control.{ClientBlock, is_writing, client_written, written_len}
 use Rattle.lard_client.specs.Control as client
 use Rattle.lard_rules.specs.declared.fault.StepFault.{StepFault}
 use Rattle.lard_rules.specs.declared.fault.StepFault.TheVariants as fault
 use Rattle.lard_rules.specs.declared.machine.Machine.{Machine}
-use Rattle.lard_rules.specs.Machine.{client_does, client_goes_on, happens, limit_reached, machine_step, opened, told, unless_limit, wrote}
+use Rattle.lard_rules.specs.Machine.{client_acts, client_goes_on, happens, limit_reached, machine_step, machine_opened, machine_told, unless_limit, machine_wrote}
 use Rattle.lard_law_view.proofs.After.{IsAfter}
 use Rattle.lard_generate_bound.proofs.Leaving.{IsUnwritten, unwritten, wrote-still}
 use Rattle.lard_generate_bound.proofs.Walking.{one-folds}
@@ -55,11 +55,11 @@ ok-same m n e = cc
 
 -- ---- it opens
 
-pub opened-can : (m : Machine) (c isn iss wnd mss : ℕ) (n : Machine) (o : Option Station) → opened m c isn iss wnd mss o ≡ Ok n → Puts m n c × CanWrite n c
-unfolding opened told
+pub opened-can : (m : Machine) (c isn iss wnd mss : ℕ) (n : Machine) (o : Option Station) → machine_opened m c isn iss wnd mss o ≡ Ok n → Puts m n c × CanWrite n c
+unfolding machine_opened machine_told
 opened-can m c isn iss wnd mss n (Some x) is = cc
 opened-can m c isn iss wnd mss n None is =
-    let spoke = like-speaks (client.opened c isn wnd mss) in
+    let spoke = like-speaks (client.client_opened c isn wnd mss) in
     let station : Station = record { client = (client_opens c isn wnd mss).0; iss = iss } in
     let clients : n.clients ≡ table.insert m.clients c station = ap (λ (k : Machine). k.clients) (sym (ok-same _ n is)) in (
       record { station = station; clients = clients },
@@ -76,10 +76,10 @@ pub record Written (m n : Machine) (c : ℕ) (bytes : List ℕ) : Type 0 where
   pub is : n.journal ≡ m.journal ++ rec.Event (m.events + 1) (event.Write c bytes) ∷ rec.Wrote by bytes ∷ rows
 
 goes-written : (m : Machine) (c : ℕ) (bytes : List ℕ) (x : Station) → x.client.c ≡ c → is_writing x.client ≡ true
-    → Written m (client_goes_on m (event.Write c bytes) [] c x (speaking (rec.Wrote x.client.c bytes ∷ []) [] (written x.client bytes))) c bytes
-unfolding told
+    → Written m (client_goes_on m (event.Write c bytes) [] c x (speaking (rec.Wrote x.client.c bytes ∷ []) [] (client_written x.client bytes))) c bytes
+unfolding machine_told
 goes-written m c bytes x number writing =
-    let y : ClientBlock = written x.client bytes in
+    let y : ClientBlock = client_written x.client bytes in
     let spoke = like-speaks y in
     let on = like-written x.client bytes in
     let station : Station = record { client = (speaking (rec.Wrote x.client.c bytes ∷ []) [] y).0; iss = x.iss } in
@@ -92,10 +92,10 @@ goes-written m c bytes x number writing =
     }
 
 pub written-of : (m n : Machine) (c : ℕ) (bytes : List ℕ) → CanWrite m c → happens m (event.Write c bytes) ≡ Ok n → Written m n c bytes
-unfolding wrote
-written-of m n c bytes h is = go (nat_lt m.config.stream (written_len h.station.client bytes)) (subst (λ (o : Option Station). wrote m (event.Write c bytes) c bytes o ≡ Ok n) h.there is) where
-  writing : client_writes h.station.client bytes ≡ speaking (rec.Wrote h.station.client.c bytes ∷ []) [] (written h.station.client bytes)
-  writing = cond-true (is_writing h.station.client) (speaking (rec.Wrote h.station.client.c bytes ∷ []) [] (written h.station.client bytes)) (h.station.client, silent) h.writing
+unfolding machine_wrote
+written-of m n c bytes h is = go (nat_lt m.config.stream (written_len h.station.client bytes)) (subst (λ (o : Option Station). machine_wrote m (event.Write c bytes) c bytes o ≡ Ok n) h.there is) where
+  writing : client_writes h.station.client bytes ≡ speaking (rec.Wrote h.station.client.c bytes ∷ []) [] (client_written h.station.client bytes)
+  writing = cond-true (is_writing h.station.client) (speaking (rec.Wrote h.station.client.c bytes ∷ []) [] (client_written h.station.client bytes)) (h.station.client, silent) h.writing
 
   go : (b : Bool) → cond {A = Result Machine StepFault} b (Err (fault.Limit what.Stream)) (Ok (client_goes_on m (event.Write c bytes) [] c h.station (client_writes h.station.client bytes))) ≡ Ok n → Written m n c bytes
   go true e = cc
@@ -103,8 +103,8 @@ written-of m n c bytes h is = go (nat_lt m.config.stream (written_len h.station.
 
 -- ---- it shuts
 
-pub shut-puts : (m n : Machine) (c : ℕ) (o : Option Station) → client_does m (event.Shut c) [] c client_shuts o ≡ Ok n → Puts m n c
-unfolding client_does told
+pub shut-puts : (m n : Machine) (c : ℕ) (o : Option Station) → client_acts m (event.Shut c) [] c client_shuts o ≡ Ok n → Puts m n c
+unfolding client_acts machine_told
 shut-puts m n c None is = cc
 shut-puts m n c (Some x) is = record { station = record { client = (client_shuts x.client).0; iss = x.iss }; clients = ap (λ (k : Machine). k.clients) (sym (ok-same _ n is)) }
 

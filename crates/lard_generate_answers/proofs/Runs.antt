@@ -5,9 +5,9 @@ use Rattle.lard_answers.specs.Answers.{answer_bytes}
 use Rattle.lard_base.specs.declared.config.Config.{Config}
 use Rattle.lard_base.specs.declared.event.Event.{Event}
 use Rattle.lard_base.specs.declared.event.Event.TheVariants as event
-use Rattle.lard_bound.specs.Bound.{bytes_of, opener_step, openers, total_of}
+use Rattle.lard_bound.specs.Bound.{bytes_both_ways, opener_step, openers, total_of}
 use Rattle.lard_rules.specs.declared.machine.Machine.{Machine}
-use Rattle.lard_rules.specs.Machine.{start}
+use Rattle.lard_rules.specs.Machine.{machine_start}
 use Rattle.lard_laws.proofs.Lawful.{journals-lawful}
 use Rattle.lard_files.specs.Files.{file_at}
 use Rattle.lard_generate.specs.Clients.{drawn_actions, drawn_open}
@@ -16,8 +16,8 @@ use Rattle.lard_generate.specs.Files.{drawn_size}
 use Rattle.lard_generate.specs.Generated.{generated}
 use Rattle.lard_generate.specs.Laws.{IsSpelled}
 use Rattle.lard_generate.proofs.Spelled.{events_spelled}
-use Rattle.lard_generate_bound.specs.Laws.{before_settle, rounds_of}
-use Rattle.lard_generate_bound.specs.Shares.{numbers}
+use Rattle.lard_generate_bound.specs.Laws.{before_settle, generated_rounds}
+use Rattle.lard_generate_bound.specs.Shares.{numbers_to}
 use Rattle.lard_generate_bound.proofs.Reaching.{before-follows, before-plain, openers-are, reach-the-bound, settles-last}
 use Rattle.lard_history.specs.Journal.{touched_step, wrote, wrote_step}
 use Rattle.lard_history.specs.Laws.{Follows, is_own}
@@ -31,7 +31,7 @@ use Rattle.lard_law_settles.proofs.DoneRuns.{runs-are-done}
 use Rattle.lard_law_settles.proofs.DoneSame.{tells-the-same}
 use Rattle.lard_law_settles.specs.DoneSame.{TellsTheSame}
 use Rattle.lard_settling.proofs.Folds.{TakesSteps}
-use Rattle.lard_settling.specs.Events.{Goes, event_step}
+use Rattle.lard_settling.specs.Events.{GoesThrough, event_step}
 use Rattle.lard_settling.specs.Written.{IsWrittenOut}
 use Rattle.lard_generate_answers.specs.Counted.{writes}
 use Rattle.lard_generate_answers.specs.Laws.{GeneratedRunsAnswerAll}
@@ -42,7 +42,7 @@ use Rattle.lard_generate_answers.proofs.Sums.{IsTo}
 use Rattle.lard_generate_answers.proofs.Writing.{keeps-all, writes-append}
 
 -- the last of some events was done behind all others
-last-apart : (es : List Event) (e : Event) (m n : Machine) → Goes m (es ++ e ∷ []) n → (k : Machine) × Goes m es k × (event_step k e ≡ Ok n)
+last-apart : (es : List Event) (e : Event) (m n : Machine) → GoesThrough m (es ++ e ∷ []) n → (k : Machine) × GoesThrough m es k × (event_step k e ≡ Ok n)
 last-apart [] e m n g = (m, refl, g.2 ∙ ap (λ (k : Machine). Ok k) (sym g.3))
 last-apart (d ∷ es) e m n g = let more = last-apart es e g.0 n g.3 in (more.0, (g.0, g.1, g.2, more.1), more.2)
 
@@ -67,8 +67,8 @@ aborted-over c = record { events = λ a i e. refl; comes = λ a k. refl; others 
 aborted-steps : (c : ℕ) → TakesSteps (aborted_step c)
 aborted-steps c = record { events = λ a i j e. refl; inner = λ a i e. refl; settles = λ a i rounds. refl; settled = λ a rounds. refl; unsettled = λ a rounds left. refl }
 
-module _ (seed clients : ℕ) (few : clients ≤ 2000) (config : Config) (m n : Machine) (goes : Goes (start config (generated seed clients).files) (before_settle seed clients) m)
-    (is : event_step m (event.Settle (rounds_of seed clients)) ≡ Ok n) where
+module _ (seed clients : ℕ) (few : clients ≤ 2000) (config : Config) (m n : Machine) (goes : GoesThrough (machine_start config (generated seed clients).files) (before_settle seed clients) m)
+    (is : event_step m (event.Settle (generated_rounds seed clients)) ≡ Ok n) where
   abbrev files : List (List ℕ × List ℕ)
   files = (generated seed clients).files
 
@@ -80,33 +80,33 @@ module _ (seed clients : ℕ) (few : clients ≤ 2000) (config : Config) (m n : 
   written-out : IsWrittenOut config files m
   written-out = before-written config files (before_settle seed clients) m (before-plain seed clients) goes
 
-  opened : openers m.journal ≡ numbers clients
+  opened : openers m.journal ≡ numbers_to clients
   opened =
       let sizes = each drawn_size 256 (seeded seed) in
       let opens = each drawn_open clients sizes.1 in
       openers-are clients sizes.1 opens.1 (each drawn_actions clients opens.1).1 [] m.journal told
 
-  rounds-fit : rounds_of seed clients < 2 ^ 32
-  rounds-fit = (last-of IsSpelled (before_settle seed clients) (event.Settle (rounds_of seed clients)) (subst (All IsSpelled) (settles-last seed clients) (events_spelled seed clients few))).0.1
+  rounds-fit : generated_rounds seed clients < 2 ^ 32
+  rounds-fit = (last-of IsSpelled (before_settle seed clients) (event.Settle (generated_rounds seed clients)) (subst (All IsSpelled) (settles-last seed clients) (events_spelled seed clients few))).0.1
 
   -- the answers to one client have few bytes
   answers-small : (c : ℕ) → IsTo clients c → length (answer_bytes (file_at files) (wrote m.journal c)) ≤ 2 ^ 28
   answers-small c to =
       let bound = (reach-the-bound seed clients config m goes).0 in
-      let one = one-of-all (bytes_of (file_at files) m.journal) c (openers m.journal) (subst (Has c) (sym opened) (numbers-have c clients to)) in
+      let one = one-of-all (bytes_both_ways (file_at files) m.journal) c (openers m.journal) (subst (Has c) (sym opened) (numbers-have c clients to)) in
       omega (arith, bound, one, rounds-fit)
 
   -- ---- and behind it
 
   behind : (c : ℕ) → IsWrittenOut config files n × (wrote n.journal c ≡ wrote m.journal c)
-  behind c = settle-says config files (wrote_step c) (wrote-over c) (wrote-steps c) [] (wrote m.journal c) m n (rounds_of seed clients) written-out refl is
+  behind c = settle-says config files (wrote_step c) (wrote-over c) (wrote-steps c) [] (wrote m.journal c) m n (generated_rounds seed clients) written-out refl is
 
   pub theirs : (stream : ℕ) → 2 ^ 28 ≤ stream → IsTheirs (file_at files) stream clients n.journal
   theirs stream wide = record {
-    opened_are = (settle-says config files opener_step openers-over opener-steps [] (numbers clients) m n (rounds_of seed clients) written-out opened is).1;
+    opened_are = (settle-says config files opener_step openers-over opener-steps [] (numbers_to clients) m n (generated_rounds seed clients) written-out opened is).1;
     alone = λ c none. (behind c).1 ∙ not-written seed clients c m.journal none told;
-    untouched = λ c. (settle-says config files (touched_step c) (touched-over c) (touched-steps c) false false m n (rounds_of seed clients) written-out ((reach-the-bound seed clients config m goes).1 c).0 is).1;
-    unaborted = λ c. (settle-says config files (aborted_step c) (aborted-over c) (aborted-steps c) false false m n (rounds_of seed clients) written-out (not-aborted c (before_settle seed clients) m.journal (before-plain seed clients) told) is).1;
+    untouched = λ c. (settle-says config files (touched_step c) (touched-over c) (touched-steps c) false false m n (generated_rounds seed clients) written-out ((reach-the-bound seed clients config m goes).1 c).0 is).1;
+    unaborted = λ c. (settle-says config files (aborted_step c) (aborted-over c) (aborted-steps c) false false m n (generated_rounds seed clients) written-out (not-aborted c (before_settle seed clients) m.journal (before-plain seed clients) told) is).1;
     small = λ c to.
         let least = answers-small c to in
         let same : length (answer_bytes (file_at files) (wrote n.journal c)) ≡ length (answer_bytes (file_at files) (wrote m.journal c)) = ap (λ (q : List ℕ). length (answer_bytes (file_at files) q)) (behind c).1 in
@@ -122,13 +122,13 @@ module _ (seed clients : ℕ) (few : clients ≤ 2000) (config : Config) (m n : 
       let sizes = each drawn_size 256 (seeded seed) in
       let opens = each drawn_open clients sizes.1 in
       let actions = each drawn_actions clients opens.1 in
-      let all = keeps-all config files clients sizes.1 opens.1 actions.1 (start config files) m ([], refl) (λ d to. absurd (omega (arith, to.0, to.1))) goes in
-      (behind c).1 ∙ all.says c ∙ sym (settle-writes c (rounds_of seed clients) (before_settle seed clients)) ∙ ap (writes c) (sym (settles-last seed clients))
+      let all = keeps-all config files clients sizes.1 opens.1 actions.1 (machine_start config files) m ([], refl) (λ d to. absurd (omega (arith, to.0, to.1))) goes in
+      (behind c).1 ∙ all.says c ∙ sym (settle-writes c (generated_rounds seed clients) (before_settle seed clients)) ∙ ap (writes c) (sym (settles-last seed clients))
 
 pub runs-answer-all : GeneratedRunsAnswerAll
 runs-answer-all seed clients config n before done few checked room wide goes settled =
     let files = (generated seed clients).files in
-    let apart = last-apart (before_settle seed clients) (event.Settle (rounds_of seed clients)) (start config files) n (subst (λ (all : List Event). Goes (start config files) all n) (settles-last seed clients) goes) in
+    let apart = last-apart (before_settle seed clients) (event.Settle (generated_rounds seed clients)) (machine_start config files) n (subst (λ (all : List Event). GoesThrough (machine_start config files) all n) (settles-last seed clients) goes) in
     let w : IsWrittenOut config files n = (behind seed clients few config apart.0 n apart.1 apart.2 0).0 in
     counts config (file_at files) clients n.journal w.plain.journal
     (theirs seed clients few config apart.0 n apart.1 apart.2 config.stream wide)

@@ -12,7 +12,7 @@ use Rattle.lard_history.specs.Laws.{EachMay, MayReset}
 use Rattle.lard_journal.specs.declared.rec.Rec.{Rec}
 use Rattle.lard_journal.specs.declared.rec.Rec.TheVariants as rec
 use Rattle.lard_laws.proofs.BackingMarks.{untouched-before, writes-on}
-use Rattle.lard_law_connections.specs.BytesRecords.{MayServe}
+use Rattle.lard_law_connections.specs.BytesRecords.{MayServeOwned}
 
 -- ---- the first answers
 
@@ -87,7 +87,7 @@ module _ (files : FilesAt) (stream c : ℕ) where
 
   -- ---- record by record
 
-  fits-one : (past : List Rec) (r : Rec) → MayServe files past r → MayReset stream past r → is_touched past c ≡ false → length (answer_bytes files (wrote past c)) ≤ stream → Fits past
+  fits-one : (past : List Rec) (r : Rec) → MayServeOwned files past r → MayReset stream past r → is_touched past c ≡ false → length (answer_bytes files (wrote past c)) ≤ stream → Fits past
       → FitsAs (wrote_step c (wrote past c) r) (served_step c (served past c) r) (served_bytes_step c (served_bytes past c) r) (reset_step c (was_reset past c) r)
   fits-one past (rec.Wrote d more) serve reset un within h = go (nat_eq d c) where
     go : (b : Bool) → FitsAs (cond b (wrote past c ++ more) (wrote past c)) (served past c) (served_bytes past c) (was_reset past c)
@@ -96,13 +96,13 @@ module _ (files : FilesAt) (stream c : ℕ) where
   fits-one past (rec.Served place d r code size via) serve reset un within h = go (nat_eq d c) refl where
     go : (b : Bool) → nat_eq d c ≡ b → FitsAs (wrote past c) (cond b (served past c + 1) (served past c)) (cond b (served_bytes past c + size) (served_bytes past c)) (was_reset past c)
     go true e =
-        let law = subst (λ i. MayServe files past (rec.Served place i r code size via)) (eqb-true d c e) serve un in
+        let law = subst (λ i. MayServeOwned files past (rec.Served place i r code size via)) (eqb-true d c e) serve un in
         fits-served (wrote past c) (served past c) (served_bytes past c) size (was_reset past c) law.1.2 h
     go false e = h
   fits-one past (rec.Reset place d total) serve reset un within h = go (nat_eq d c) refl where
     go : (b : Bool) → nat_eq d c ≡ b → FitsAs (wrote past c) (served past c) (served_bytes past c) (cond b true (was_reset past c))
     go true e =
-        let law = subst (λ i. MayServe files past (rec.Reset place i total)) (eqb-true d c e) serve un in
+        let law = subst (λ i. MayServeOwned files past (rec.Reset place i total)) (eqb-true d c e) serve un in
         absurd (not-reset (wrote past c) (served past c) (served_bytes past c) total (was_reset past c) law.1 reset.0 within h)
     go false e = h
   fits-one past _ serve reset un within h = h
@@ -123,7 +123,7 @@ module _ (files : FilesAt) (stream c : ℕ) where
       let few = prefix-short (answer_bytes files (wrote past c)) (answer_bytes files (wrote past c ++ on.0)) (answer_bytes-grow files (wrote past c) on.0) in
       omega (arith, few, within, ap (λ (q : List ℕ). length (answer_bytes files q)) on.1)
 
-  fits-all : (past rs : List Rec) → EachMay (MayServe files) past rs → EachMay (MayReset stream) past rs → is_touched (past ++ rs) c ≡ false → length (answer_bytes files (wrote (past ++ rs) c)) ≤ stream → Fits past → Fits (past ++ rs)
+  fits-all : (past rs : List Rec) → EachMay (MayServeOwned files) past rs → EachMay (MayReset stream) past rs → is_touched (past ++ rs) c ≡ false → length (answer_bytes files (wrote (past ++ rs) c)) ≤ stream → Fits past → Fits (past ++ rs)
   fits-all past [] serves resets un within h = subst Fits (sym (append-nil past)) h
   fits-all past (r ∷ rs) serves resets un within h =
       let whole = append_assoc past (r ∷ []) rs in
@@ -133,5 +133,5 @@ module _ (files : FilesAt) (stream c : ℕ) where
       (fits-more past r (fits-one past r serves.0 resets.0 (untouched-before past (r ∷ rs) c un) (within-before past (r ∷ rs) within) h)))
 
   -- In a journal that serves the answers and resets at the limit, where all answers are within it.
-  pub answers-fit : (J : List Rec) → EachMay (MayServe files) [] J → EachMay (MayReset stream) [] J → is_touched J c ≡ false → length (answer_bytes files (wrote J c)) ≤ stream → Fits J
+  pub answers-fit : (J : List Rec) → EachMay (MayServeOwned files) [] J → EachMay (MayReset stream) [] J → is_touched J c ≡ false → length (answer_bytes files (wrote J c)) ≤ stream → Fits J
   answers-fit J serves resets un within = fits-all [] J serves resets un within (refl, omega arith, refl)

@@ -7,7 +7,7 @@ use Rattle.lard_base.specs.declared.config.Config.{Config}
 use Rattle.lard_base.specs.declared.event.Event.{Event}
 use Rattle.lard_base.specs.declared.event.Event.TheVariants as event
 use Rattle.lard_rules.specs.declared.machine.Machine.{Machine}
-use Rattle.lard_rules.specs.Machine.{start}
+use Rattle.lard_rules.specs.Machine.{machine_start}
 use Rattle.lard_law_view.proofs.Carried.{reached-viewed}
 use Rattle.lard_generate_bound.proofs.Leaving.{IsPlain}
 use Rattle.lard_journal.specs.declared.rec.Rec.{Rec}
@@ -19,8 +19,8 @@ use Rattle.lard_law_settles.proofs.SettlesFiring.{IsInner, deliver-inner, disk-i
 use Rattle.lard_law_settles.proofs.SettlesInside.{InnerKept, IsClosed, SettleEnds, settle-ends}
 use Rattle.lard_settling.proofs.Folds.{TakesSteps, fold-written}
 use Rattle.lard_settling.proofs.Written.{written}
-use Rattle.lard_settling.specs.Events.{Goes, MayCome, event_step}
-use Rattle.lard_settling.specs.Settling.{left}
+use Rattle.lard_settling.specs.Events.{GoesThrough, MayCome, event_step}
+use Rattle.lard_settling.specs.Settling.{settle_left}
 use Rattle.lard_settling.specs.Steps.{closing, inner_step, settle_begun}
 use Rattle.lard_settling.specs.Written.{IsWrittenOut, is_settle}
 
@@ -36,14 +36,14 @@ module _ (config : Config) (files : List (List ℕ × List ℕ)) where
       let kind = plain-kind e plain in
       (written config files).steps m n e w (plain-rule e kind may) (plain-done m n e kind is)
 
-  all-written : (es : List Event) (m n : Machine) → All IsPlain es → IsWrittenOut config files m → Goes m es n → IsWrittenOut config files n
+  all-written : (es : List Event) (m n : Machine) → All IsPlain es → IsWrittenOut config files m → GoesThrough m es n → IsWrittenOut config files n
   all-written [] m n plain w goes = subst (IsWrittenOut config files) (sym goes) w
   all-written (e ∷ es) m n plain w goes =
       all-written es goes.0 n (All-tail IsPlain e es plain) (plain-written m goes.0 e w (All-head IsPlain e es plain) goes.1 goes.2) goes.3
 
   -- the state to which they lead can be written out
-  pub before-written : (es : List Event) (m : Machine) → All IsPlain es → Goes (start config files) es m → IsWrittenOut config files m
-  before-written es m plain goes = all-written es (start config files) m plain (written config files).begins goes
+  pub before-written : (es : List Event) (m : Machine) → All IsPlain es → GoesThrough (machine_start config files) es m → IsWrittenOut config files m
+  before-written es m plain goes = all-written es (machine_start config files) m plain (written config files).begins goes
 
   -- ---- the settle
 
@@ -80,8 +80,8 @@ module _ (config : Config) (files : List (List ℕ × List ℕ)) where
 
     closed-says : (n : Machine) (rounds : ℕ) → IsClosed Says IsInner rounds n → Says n
     closed-says n rounds c = subst Says (sym c.is) (record {
-      is = (written config files).closes c.last c.done (left c.last) c.holds.is;
-      says = fold-append step a c.last.journal (closing c.done (left c.last) ∷ []) ∙ closing-same (fold step a c.last.journal) c.done (left c.last) ∙ c.holds.says;
+      is = (written config files).closes c.last c.done (settle_left c.last) c.holds.is;
+      says = fold-append step a c.last.journal (closing c.done (settle_left c.last) ∷ []) ∙ closing-same (fold step a c.last.journal) c.done (settle_left c.last) ∙ c.holds.says;
     })
 
     -- behind it the state can be written out, and its journal says the same

@@ -8,11 +8,11 @@ use Rattle.lard_base.specs.declared.event.Event.TheVariants as event
 use Rattle.lard_bound.specs.Bound.{opener_step, openers}
 use Rattle.lard_generate.specs.declared.action.Action.{Action}
 use Rattle.lard_generate.specs.declared.action.Action.TheVariants.{Ask, Shut}
-use Rattle.lard_generate.specs.Clients.{drawn_actions, drawn_ask, event_of, head_of, shut_at}
+use Rattle.lard_generate.specs.Clients.{drawn_actions, drawn_ask, action_event, request_head, shut_at}
 use Rattle.lard_generate.specs.Draws.{behind, draw, each}
 use Rattle.lard_generate.proofs.Making.{All-each}
 use Rattle.lard_generate_bound.specs.Laws.{before_settle}
-use Rattle.lard_generate_bound.specs.Shares.{actor, numbers}
+use Rattle.lard_generate_bound.specs.Shares.{actor, numbers_to}
 use Rattle.lard_generate_bound.proofs.Leaving.{IsPlain, fates-are, opens-are, unwritten, wrote-still}
 use Rattle.lard_generate_bound.proofs.Walking.{Leaves, all-leave}
 use Rattle.lard_history.proofs.Seeing.{by_number, has-before, has-behind, other_number, same_number}
@@ -47,16 +47,16 @@ open-numbers c (rec.Opened d isn iss wnd mss ∷ J) os k known h =
 open-numbers c (r ∷ J) os k known h = open-numbers c J os k known h
 
 -- each from 1 to n is among the numbers up to n
-pub numbers-have : (c n : ℕ) → IsTo n c → Has c (numbers n)
+pub numbers-have : (c n : ℕ) → IsTo n c → Has c (numbers_to n)
 numbers-have c zero to = absurd (omega (arith, to.0, to.1))
-numbers-have c (suc n) to = by_number (Has c (numbers n ++ (n + 1) ∷ [])) (n + 1) c
-    (λ same. has-behind c (numbers n) ((n + 1) ∷ []) (inl same))
+numbers-have c (suc n) to = by_number (Has c (numbers_to n ++ (n + 1) ∷ [])) (n + 1) c
+    (λ same. has-behind c (numbers_to n) ((n + 1) ∷ []) (inl same))
     (earlier (numbers-have c n)) where
-      earlier : (IsTo n c → Has c (numbers n)) → n + 1 ≢ c → Has c (numbers n ++ (n + 1) ∷ [])
-      earlier more apart = has-before c (numbers n) ((n + 1) ∷ []) (more (to.0, omega (arith, to.1, apart)))
+      earlier : (IsTo n c → Has c (numbers_to n)) → n + 1 ≢ c → Has c (numbers_to n ++ (n + 1) ∷ [])
+      earlier more apart = has-before c (numbers_to n) ((n + 1) ∷ []) (more (to.0, omega (arith, to.1, apart)))
 
 -- where those who opened are 1 to n, each of them has
-pub opened : (n c : ℕ) (J : List Rec) → openers J ≡ numbers n → IsTo n c → IsSome (numbers_of J c)
+pub opened : (n c : ℕ) (J : List Rec) → openers J ≡ numbers_to n → IsTo n c → IsSome (numbers_of J c)
 opened n c J are to = open-numbers c J [] None (λ no. absurd no) (subst (Has c) (sym are) (numbers-have c n to))
 
 -- ---- the clients of actions
@@ -85,13 +85,13 @@ actors-to : (n : ℕ) (g : Lcg) → All (λ a. IsTo n (actor a)) (each drawn_act
 actors-to n g = All-each (λ a. IsTo n (actor a)) drawn_actions n g
     (λ k h low high. all-weaker (λ a. actor a ≡ k) (λ a. IsTo n (actor a)) (λ a is. subst (IsTo n) (sym is) (low, high)) (drawn_actions k h).0 (actions-of k h))
 
-events-are : (P : Event → Type 0) (n : ℕ) → ((c file : ℕ) → IsTo n c → P (event.Write c (head_of file))) → ((c : ℕ) → IsTo n c → P (event.Shut c)) → (actions : List Action) → All (λ a. IsTo n (actor a)) actions
-    → All P (map event_of actions)
+events-are : (P : Event → Type 0) (n : ℕ) → ((c file : ℕ) → IsTo n c → P (event.Write c (request_head file))) → ((c : ℕ) → IsTo n c → P (event.Shut c)) → (actions : List Action) → All (λ a. IsTo n (actor a)) actions
+    → All P (map action_event actions)
 events-are P n write shut [] all = All-nil P
 events-are P n write shut (Ask c file ∷ actions) all =
-    All-cons P (event.Write c (head_of file)) (map event_of actions) (write c file (All-head (λ a. IsTo n (actor a)) (Ask c file) actions all)) (events-are P n write shut actions (All-tail (λ a. IsTo n (actor a)) (Ask c file) actions all))
+    All-cons P (event.Write c (request_head file)) (map action_event actions) (write c file (All-head (λ a. IsTo n (actor a)) (Ask c file) actions all)) (events-are P n write shut actions (All-tail (λ a. IsTo n (actor a)) (Ask c file) actions all))
 events-are P n write shut (Shut c ∷ actions) all =
-    All-cons P (event.Shut c) (map event_of actions) (shut c (All-head (λ a. IsTo n (actor a)) (Shut c) actions all)) (events-are P n write shut actions (All-tail (λ a. IsTo n (actor a)) (Shut c) actions all))
+    All-cons P (event.Shut c) (map action_event actions) (shut c (All-head (λ a. IsTo n (actor a)) (Shut c) actions all)) (events-are P n write shut actions (All-tail (λ a. IsTo n (actor a)) (Shut c) actions all))
 
 -- ---- what they leave
 
@@ -129,5 +129,5 @@ not-written seed n c J none w = all-leave (wrote_step c) (wrote-still c) (before
     (All-append (Leaves (wrote_step c)) _ _
     (All-append (Leaves (wrote_step c)) _ _
     (opens-are (Leaves (wrote_step c)) (λ d isn iss. unwritten c (event.Open d isn iss 65535 1460) tt) n _)
-    (events-are (Leaves (wrote_step c)) n (λ d file to. writes-other c d (head_of file) (λ same. none (subst (IsTo n) same to))) (λ d to. unwritten c (event.Shut d) tt) _ (actors-to n _)))
+    (events-are (Leaves (wrote_step c)) n (λ d file to. writes-other c d (request_head file) (λ same. none (subst (IsTo n) same to))) (λ d to. unwritten c (event.Shut d) tt) _ (actors-to n _)))
     (fates-are (Leaves (wrote_step c)) (λ k. unwritten c (event.Lose k) tt) (λ k. unwritten c (event.Deliver k) tt) n _)) w

@@ -7,17 +7,17 @@ use Rattle.lard_base.specs.declared.event.Event.{Event}
 use Rattle.lard_base.specs.declared.event.Event.TheVariants as event
 use Rattle.lard_rules.specs.declared.machine.Machine.{Machine}
 use Rattle.lard_rules.specs.Bounds.{HasRule}
-use Rattle.lard_rules.specs.Machine.{IsReached, Passes, machine_step, start}
+use Rattle.lard_rules.specs.Machine.{IsReached, Passes, machine_step, machine_start}
 use Rattle.lard_law_view.proofs.After.{IsAfter, step-after}
 use Rattle.lard_law_view.proofs.Carried.{reached-viewed}
 use Rattle.lard_generate.specs.declared.action.Action.TheVariants.{Ask, Shut}
-use Rattle.lard_generate.specs.Clients.{drawn_actions, drawn_ask, drawn_fate, drawn_open, event_of, fate_at, shut_at}
+use Rattle.lard_generate.specs.Clients.{drawn_actions, drawn_ask, drawn_fate, drawn_open, action_event, fate_at, shut_at}
 use Rattle.lard_generate.specs.Draws.{behind, draw, each}
 use Rattle.lard_generate_bound.proofs.Leaving.{IsPlain, IsUnwritten}
 use Rattle.lard_generate_bound.proofs.Reaching.{plain-rule, plain-step}
 use Rattle.lard_history.proofs.Seeing.{by_number}
 use Rattle.lard_history.specs.Journal.{request, wrote}
-use Rattle.lard_settling.specs.Events.{Goes, MayCome, event_step}
+use Rattle.lard_settling.specs.Events.{GoesThrough, MayCome, event_step}
 use Rattle.std.specs.FinMap as table
 use Rattle.lard_generate_answers.specs.Counted.{writes}
 use Rattle.lard_generate_answers.proofs.Requests.{CanWrite, done-happens, opened-can, others-can, same-says, shut-puts, write-says, written-of}
@@ -46,7 +46,7 @@ module _ (config : Config) (files : List (List ℕ × List ℕ)) where
 
   -- so they do from each state in which these may write
   abbrev pub Keeps : (ℕ → Type 0) → (ℕ → Type 0) → List Event → Type 0
-  Keeps S T es = (m n : Machine) → Reached m → MayAll S m → Goes m es n → Leads T es m n
+  Keeps S T es = (m n : Machine) → Reached m → MayAll S m → GoesThrough m es n → Leads T es m n
 
   -- ---- one event
 
@@ -64,7 +64,7 @@ module _ (config : Config) (files : List (List ℕ × List ℕ)) where
   steps m n e r plain may is =
       let rule = plain-rule e plain may in
       let done = plain-step m n e plain is in
-      record { reached = (r.0 ++ e ∷ [], passes-on r.0 (start config files) m n e r.1 rule done); done = done; after = step-after m (reached-viewed config files m r) e n rule done }
+      record { reached = (r.0 ++ e ∷ [], passes-on r.0 (machine_start config files) m n e r.1 rule done); done = done; after = step-after m (reached-viewed config files m r) e n rule done }
 
   keeps-one : (S T : ℕ → Type 0) (e : Event) → IsPlain e
       → ((m n : Machine) → MayAll S m → machine_step m e ≡ Ok n → IsAfter m e n → MayAll T n × ((q : ℕ) → wrote n.journal q ≡ wrote m.journal q ++ writes q (e ∷ []))) → Keeps S T (e ∷ [])
@@ -75,7 +75,7 @@ module _ (config : Config) (files : List (List ℕ × List ℕ)) where
 
   -- ---- several
 
-  goes-apart : (xs ys : List Event) (m n : Machine) → Goes m (xs ++ ys) n → (k : Machine) × Goes m xs k × Goes k ys n
+  goes-apart : (xs ys : List Event) (m n : Machine) → GoesThrough m (xs ++ ys) n → (k : Machine) × GoesThrough m xs k × GoesThrough k ys n
   goes-apart [] ys m n g = (m, refl, g)
   goes-apart (e ∷ es) ys m n g = let more = goes-apart es ys g.0 n g.3 in (more.0, (g.0, g.1, g.2, more.1), more.2)
 
@@ -128,32 +128,32 @@ module _ (config : Config) (files : List (List ℕ × List ℕ)) where
   abbrev IsBehind : ℕ → ℕ → ℕ → Type 0
   IsBehind n k c = (k < c) × (c ≤ n)
 
-  keeps-ask : (n k file : ℕ) → k < n → Keeps (IsBehind n k) (IsBehind n k) (map event_of (Ask (k + 1) file ∷ []))
-  keeps-ask n k file less = keeps-one (IsBehind n k) (IsBehind n k) (event_of (Ask (k + 1) file)) tt (λ m j may done a.
-      let w = written-of m j (k + 1) _ (may (k + 1) (omega arith, omega (arith, less))) (done-happens m j (event_of (Ask (k + 1) file)) done) in (
+  keeps-ask : (n k file : ℕ) → k < n → Keeps (IsBehind n k) (IsBehind n k) (map action_event (Ask (k + 1) file ∷ []))
+  keeps-ask n k file less = keeps-one (IsBehind n k) (IsBehind n k) (action_event (Ask (k + 1) file)) tt (λ m j may done a.
+      let w = written-of m j (k + 1) _ (may (k + 1) (omega arith, omega (arith, less))) (done-happens m j (action_event (Ask (k + 1) file)) done) in (
         λ c is. by_number (CanWrite j c) c (k + 1) (λ same. subst (CanWrite j) (sym same) w.can) (λ other. others-can m j (k + 1) c w.puts other (may c is)),
         λ q. write-says m j (k + 1) _ q w a ∙ ap (λ (l : List ℕ). wrote m.journal q ++ l) (sym (append-nil _)),
       ))
 
-  keeps-shut : (n k : ℕ) → Keeps (IsBehind n k) (IsBehind n (k + 1)) (map event_of (Shut (k + 1) ∷ []))
+  keeps-shut : (n k : ℕ) → Keeps (IsBehind n k) (IsBehind n (k + 1)) (map action_event (Shut (k + 1) ∷ []))
   keeps-shut n k = keeps-one (IsBehind n k) (IsBehind n (k + 1)) (event.Shut (k + 1)) tt (λ m j may done a.
       let p = shut-puts m j (k + 1) (table.get m.clients (k + 1)) (done-happens m j (event.Shut (k + 1)) done) in (
         λ c is. others-can m j (k + 1) c p (λ same. omega (arith, is.0, same)) (may c (omega (arith, is.0), is.1)),
         λ q. says-nothing m j (event.Shut (k + 1)) q tt refl a,
       ))
 
-  keeps-end : (n k d : ℕ) → Keeps (IsBehind n k) (IsBehind n (k + 1)) (map event_of (shut_at (k + 1) d))
+  keeps-end : (n k d : ℕ) → Keeps (IsBehind n k) (IsBehind n (k + 1)) (map action_event (shut_at (k + 1) d))
   keeps-end n k d = go (nat_eq d 0) where
-    go : (b : Bool) → Keeps (IsBehind n k) (IsBehind n (k + 1)) (map event_of (cond b [] (Shut (k + 1) ∷ [])))
+    go : (b : Bool) → Keeps (IsBehind n k) (IsBehind n (k + 1)) (map action_event (cond b [] (Shut (k + 1) ∷ [])))
     go true = keeps-fewer (IsBehind n k) (IsBehind n k) (IsBehind n (k + 1)) [] (λ c is. (omega (arith, is.0), is.1)) (keeps-nothing (IsBehind n k))
     go false = keeps-shut n k
 
-  keeps-client : (n k : ℕ) (g : Lcg) → k < n → Keeps (IsBehind n k) (IsBehind n (k + 1)) (map event_of (drawn_actions (k + 1) g).0)
+  keeps-client : (n k : ℕ) (g : Lcg) → k < n → Keeps (IsBehind n k) (IsBehind n (k + 1)) (map action_event (drawn_actions (k + 1) g).0)
   keeps-client n k g less =
       let asks = each (drawn_ask (k + 1)) (1 + draw 10 g) (behind g) in
-      subst (Keeps (IsBehind n k) (IsBehind n (k + 1))) (sym (map-append event_of asks.0 (shut_at (k + 1) (draw 4 asks.1))))
-      (keeps-both (IsBehind n k) (IsBehind n k) (IsBehind n (k + 1)) (map event_of asks.0) (map event_of (shut_at (k + 1) (draw 4 asks.1)))
-      (keeps-each (λ i. IsBehind n k) (drawn_ask (k + 1)) (map event_of) refl (map-append event_of) (1 + draw 10 g) (behind g) (λ i h low. keeps-ask n k (draw 256 h) less))
+      subst (Keeps (IsBehind n k) (IsBehind n (k + 1))) (sym (map-append action_event asks.0 (shut_at (k + 1) (draw 4 asks.1))))
+      (keeps-both (IsBehind n k) (IsBehind n k) (IsBehind n (k + 1)) (map action_event asks.0) (map action_event (shut_at (k + 1) (draw 4 asks.1)))
+      (keeps-each (λ i. IsBehind n k) (drawn_ask (k + 1)) (map action_event) refl (map-append action_event) (1 + draw 10 g) (behind g) (λ i h low. keeps-ask n k (draw 256 h) less))
       (keeps-end n k (draw 4 asks.1)))
 
   -- nobody needs to write any longer
@@ -174,13 +174,13 @@ module _ (config : Config) (files : List (List ℕ × List ℕ)) where
     go false false = keeps-nothing Nobody
 
   -- all of them before the settle
-  pub keeps-all : (n : ℕ) (f g h : Lcg) → Keeps (IsTo 0) Nobody ((each drawn_open n f).0 ++ map event_of (each drawn_actions n g).0 ++ (each drawn_fate n h).0)
+  pub keeps-all : (n : ℕ) (f g h : Lcg) → Keeps (IsTo 0) Nobody ((each drawn_open n f).0 ++ map action_event (each drawn_actions n g).0 ++ (each drawn_fate n h).0)
   keeps-all n f g h =
       let opens = (each drawn_open n f).0 in
-      let acts = map event_of (each drawn_actions n g).0 in
+      let acts = map action_event (each drawn_actions n g).0 in
       let fates = (each drawn_fate n h).0 in
       let first : Keeps (IsTo 0) (IsTo n) opens = keeps-each IsTo drawn_open (λ es. es) refl (λ xs ys. refl) n f (λ k l less. keeps-open k _ _ 65535 1460) in
-      let second : Keeps (IsBehind n 0) (IsBehind n n) acts = keeps-each (IsBehind n) drawn_actions (map event_of) refl (map-append event_of) n g (λ k l less. keeps-client n k l less) in
+      let second : Keeps (IsBehind n 0) (IsBehind n n) acts = keeps-each (IsBehind n) drawn_actions (map action_event) refl (map-append action_event) n g (λ k l less. keeps-client n k l less) in
       let third : Keeps Nobody Nobody fates = keeps-each (λ i. Nobody) drawn_fate (λ es. es) refl (λ xs ys. refl) n h (λ k l less. keeps-fate (k + 1) (draw 8 l)) in
       keeps-both (IsTo 0) Nobody Nobody (opens ++ acts) fates
       (keeps-both (IsTo 0) (IsTo n) Nobody opens acts first (keeps-fewer (IsTo n) (IsBehind n n) Nobody acts (λ c no. absurd no) (λ m j r may goes. second m j r (λ c is. may c (omega (arith, is.0), is.1)) goes)))

@@ -5,7 +5,7 @@ use Rattle.lard_base.specs.declared.event.Event.{Event}
 use Rattle.lard_base.specs.declared.event.Event.TheVariants as event
 use Rattle.lard_history.specs.Journal.{request}
 use Rattle.lard_journal.specs.declared.rec.Rec.{Rec}
-use Rattle.lard_summary.specs.Counts.{accepted, requests}
+use Rattle.lard_summary.specs.Counts.{accepted_bytes, requests_answered}
 
 -- f 1 + f 2 + .. + f n
 abbrev pub sum_to : (ℕ → ℕ) → ℕ → ℕ
@@ -30,5 +30,5 @@ answer_size files es n = sum_to (λ c. length (answer_bytes files (writes c es))
 -- The requests that are counted of a journal are all responses to what clients 1 to n write by these events, and the bytes that are counted
 -- are theirs.
 pub record CountsAllAnswers (files : FilesAt) (es : List Event) (n : ℕ) (J : List Rec) : Type 0 where
-  pub requests_are : requests J ≡ answer_count files es n
-  pub accepted_are : accepted J ≡ answer_size files es n
+  pub requests_are : requests_answered J ≡ answer_count files es n
+  pub accepted_are : accepted_bytes J ≡ answer_size files es n

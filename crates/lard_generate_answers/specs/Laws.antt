@@ -3,12 +3,12 @@ use Rattle.std.specs.Prelude.{◌≡◌, ℕ, ◌≤◌, ◌<◌, ◌^◌, List,
 use Rattle.lard_base.specs.Config.{config_check, room_of}
 use Rattle.lard_base.specs.declared.config.Config.{Config}
 use Rattle.lard_rules.specs.declared.machine.Machine.{Machine}
-use Rattle.lard_rules.specs.Machine.{start}
+use Rattle.lard_rules.specs.Machine.{machine_start}
 use Rattle.lard_files.specs.Files.{file_at}
 use Rattle.lard_generate.specs.Generated.{generated}
 use Rattle.lard_journal.specs.declared.rec.Rec.{Rec}
 use Rattle.lard_journal.specs.declared.rec.Rec.TheVariants as rec
-use Rattle.lard_settling.specs.Events.{Goes}
+use Rattle.lard_settling.specs.Events.{GoesThrough}
 use Rattle.lard_generate_answers.specs.Counted.{CountsAllAnswers}
 
 -- Where all events of a generated schedule were done and its settle left nothing, in a cluster with room for more than its clients and a
@@ -17,5 +17,5 @@ abbrev pub GeneratedRunsAnswerAll : Type 0
 GeneratedRunsAnswerAll =
     (seed clients : ℕ) (config : Config) (m : Machine) (before : List Rec) (done : ℕ)
     → clients ≤ 2000 → config_check config ≡ Ok tt → clients < room_of config → 2 ^ 28 ≤ config.stream
-    → Goes (start config (generated seed clients).files) (generated seed clients).events m → m.journal ≡ before ++ rec.Settled done ∷ []
+    → GoesThrough (machine_start config (generated seed clients).files) (generated seed clients).events m → m.journal ≡ before ++ rec.Settled done ∷ []
     → CountsAllAnswers (file_at (generated seed clients).files) (generated seed clients).events clients m.journal

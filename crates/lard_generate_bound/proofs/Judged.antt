@@ -14,11 +14,11 @@ use Rattle.lard_request.specs.declared.verdict.Verdict.{Verdict}
 use Rattle.lard_request.specs.declared.verdict.Verdict.TheVariants.{Serve, Fault}
 use Rattle.lard_request.specs.Fields.{has_content, has_good_host, is_close, says_close, values}
 use Rattle.lard_request.specs.Head as head
-use Rattle.lard_request.specs.Head.{run, word, blank, newline, version, section, field}
+use Rattle.lard_request.specs.Head.{run, word, blank_lines, newline, version, section, field}
 use Rattle.lard_request.specs.Target as target
-use Rattle.lard_request.specs.Verdict.{verdict, pairs, has_bare_feed, head_verdict}
-use Rattle.lard_generate.specs.Clients.{head_of, fields}
-use Rattle.lard_generate.specs.Files.{path_of}
+use Rattle.lard_request.specs.Verdict.{verdict, pairs_in, has_bare_feed, head_verdict}
+use Rattle.lard_generate.specs.Clients.{request_head, fields}
+use Rattle.lard_generate.specs.Files.{generated_path}
 use lib.Utf8.{encode}
 
 -- ---- tests
@@ -35,7 +35,7 @@ is_whole n _ = false
 
 -- the head of a request for this file is judged and cut so, and is short
 abbrev is_good : ℕ → Bool
-is_good file = serves (path_of file) (verdict (head_of file)) && (is_whole (length (head_of file)) (cut_of (head_of file)) && nat_lt (length (head_of file)) 486)
+is_good file = serves (generated_path file) (verdict (request_head file)) && (is_whole (length (request_head file)) (cut_of (request_head file)) && nat_lt (length (request_head file)) 486)
 
 -- so it is of each file below n
 abbrev all_good : ℕ → Bool
@@ -44,7 +44,7 @@ all_good (suc n) = is_good n && all_good n
 
 -- of all files, computed
 all_are : all_good 256 ≡ true
-unfolding verdict pairs has_bare_feed head_verdict head.head_of run word blank newline version section field digits fields is_token_byte trim_ows has_content has_good_host is_close says_close values target.path_of is_utf8 chars encode cut_of skipped head_end
+unfolding verdict pairs_in has_bare_feed head_verdict head.head_of run word blank_lines newline version section field digits fields is_token_byte trim_ows has_content has_good_host is_close says_close values target.path_of is_utf8 chars encode cut_of skipped head_end
 all_are = refl
 
 -- and so of each one
@@ -82,20 +82,20 @@ whole-is n _ h = cc
 
 module _ (file : ℕ) (small : file < 256) where
   -- its three tests, apart
-  good : (serves (path_of file) (verdict (head_of file)) ≡ true) × ((is_whole (length (head_of file)) (cut_of (head_of file)) && nat_lt (length (head_of file)) 486) ≡ true)
-  good = and_parts (serves (path_of file) (verdict (head_of file))) (is_whole (length (head_of file)) (cut_of (head_of file)) && nat_lt (length (head_of file)) 486) (below 256 file all_are small)
+  good : (serves (generated_path file) (verdict (request_head file)) ≡ true) × ((is_whole (length (request_head file)) (cut_of (request_head file)) && nat_lt (length (request_head file)) 486) ≡ true)
+  good = and_parts (serves (generated_path file) (verdict (request_head file))) (is_whole (length (request_head file)) (cut_of (request_head file)) && nat_lt (length (request_head file)) 486) (below 256 file all_are small)
 
-  rest : (is_whole (length (head_of file)) (cut_of (head_of file)) ≡ true) × (nat_lt (length (head_of file)) 486 ≡ true)
-  rest = and_parts (is_whole (length (head_of file)) (cut_of (head_of file))) (nat_lt (length (head_of file)) 486) good.1
+  rest : (is_whole (length (request_head file)) (cut_of (request_head file)) ≡ true) × (nat_lt (length (request_head file)) 486 ≡ true)
+  rest = and_parts (is_whole (length (request_head file)) (cut_of (request_head file))) (nat_lt (length (request_head file)) 486) good.1
 
   -- it is judged to be a request for the file's path
-  pub head-verdict : verdict (head_of file) ≡ Serve (path_of file) false false
-  head-verdict = serves-is (path_of file) (verdict (head_of file)) good.0
+  pub head-verdict : verdict (request_head file) ≡ Serve (generated_path file) false false
+  head-verdict = serves-is (generated_path file) (verdict (request_head file)) good.0
 
   -- it is the block that is found first
-  pub head-cut : cut_of (head_of file) ≡ Block 0 (length (head_of file))
-  head-cut = whole-is (length (head_of file)) (cut_of (head_of file)) rest.0
+  pub head-cut : cut_of (request_head file) ≡ Block 0 (length (request_head file))
+  head-cut = whole-is (length (request_head file)) (cut_of (request_head file)) rest.0
 
   -- it is short
-  pub head-short : length (head_of file) < 486
+  pub head-short : length (request_head file) < 486
   head-short = grind (arith, nat_tests, rest.1)

@@ -10,8 +10,8 @@ use Rattle.lard_base.specs.declared.event.Event.TheVariants as event
 use Rattle.lard_bound.specs.Bound.{opener_step}
 use Rattle.lard_generate.specs.declared.action.Action.{Action}
 use Rattle.lard_generate.specs.declared.action.Action.TheVariants.{Ask, Shut}
-use Rattle.lard_generate.specs.Clients.{drawn_fate, drawn_open, event_of, head_of}
-use Rattle.lard_generate.specs.Draws.{behind, draw, each, word}
+use Rattle.lard_generate.specs.Clients.{drawn_fate, drawn_open, action_event, request_head}
+use Rattle.lard_generate.specs.Draws.{behind, draw, each, drawn_word}
 use Rattle.lard_generate.proofs.Making.{All-each}
 use Rattle.lard_history.specs.Journal.{touched_step, wrote_step}
 use Rattle.lard_history.specs.Laws.{is_own}
@@ -85,7 +85,7 @@ unopening _ plain i own a is = absurd plain
 module _ (P : Event → Type 0) where
   -- of each client that opens
   pub opens-are : ((c isn iss : ℕ) → P (event.Open c isn iss 65535 1460)) → (n : ℕ) (g : Lcg) → All P (each drawn_open n g).0
-  opens-are is n g = All-each P drawn_open n g (λ c h low high. All-cons P (event.Open c (word h) (word (behind h)) 65535 1460) [] (is c (word h) (word (behind h))) (All-nil P))
+  opens-are is n g = All-each P drawn_open n g (λ c h low high. All-cons P (event.Open c (drawn_word h) (drawn_word (behind h)) 65535 1460) [] (is c (drawn_word h) (drawn_word (behind h))) (All-nil P))
 
   -- of each SYN that is lost or comes twice
   pub fates-are : ((k : ℕ) → P (event.Lose k)) → ((k : ℕ) → P (event.Deliver k)) → (n : ℕ) (g : Lcg) → All P (each drawn_fate n g).0
@@ -96,7 +96,7 @@ module _ (P : Event → Type 0) where
     go c false false = All-nil P
 
   -- of each request and each end
-  pub acts-are : ((c : ℕ) (bytes : List ℕ) → P (event.Write c bytes)) → ((c : ℕ) → P (event.Shut c)) → (actions : List Action) → All P (map event_of actions)
+  pub acts-are : ((c : ℕ) (bytes : List ℕ) → P (event.Write c bytes)) → ((c : ℕ) → P (event.Shut c)) → (actions : List Action) → All P (map action_event actions)
   acts-are write shut [] = All-nil P
-  acts-are write shut (Ask c file ∷ actions) = All-cons P (event.Write c (head_of file)) (map event_of actions) (write c (head_of file)) (acts-are write shut actions)
-  acts-are write shut (Shut c ∷ actions) = All-cons P (event.Shut c) (map event_of actions) (shut c) (acts-are write shut actions)
+  acts-are write shut (Ask c file ∷ actions) = All-cons P (event.Write c (request_head file)) (map action_event actions) (write c (request_head file)) (acts-are write shut actions)
+  acts-are write shut (Shut c ∷ actions) = All-cons P (event.Shut c) (map action_event actions) (shut c) (acts-are write shut actions)

@@ -10,27 +10,27 @@ use Rattle.lard_base.specs.declared.config.Config.{Config}
 use Rattle.lard_base.specs.declared.event.Event.{Event}
 use Rattle.lard_base.specs.declared.event.Event.TheVariants as event
 use Rattle.lard_block.specs.Blocks.{blocks}
-use Rattle.lard_bound.specs.Bound.{IsOrdinary, bytes_of, opener_step, openers, requests_of, settling_bound, total_of}
+use Rattle.lard_bound.specs.Bound.{IsOrdinary, bytes_both_ways, opener_step, openers, requests_of, settling_bound, total_of}
 use Rattle.lard_rules.specs.declared.fault.StepFault.{StepFault}
 use Rattle.lard_rules.specs.declared.machine.Machine.{Machine}
 use Rattle.lard_rules.specs.Bounds.{HasRule}
-use Rattle.lard_rules.specs.Machine.{Passes, machine_step, start}
+use Rattle.lard_rules.specs.Machine.{Passes, machine_step, machine_start}
 use Rattle.lard_laws.proofs.StepsFollowing.{follows}
 use Rattle.lard_files.specs.Files.{file_at}
 use Rattle.lard_generate.specs.declared.action.Action.{Action}
 use Rattle.lard_generate.specs.declared.action.Action.TheVariants.{Ask}
-use Rattle.lard_generate.specs.Clients.{answered, drawn_actions, drawn_fate, drawn_open, event_of, head_of, requests, rounds, written}
+use Rattle.lard_generate.specs.Clients.{answer_bytes_of, drawn_actions, drawn_fate, drawn_open, action_event, request_head, requests_written, rounds, bytes_written}
 use Rattle.lard_generate.specs.Draws.{each, seeded}
-use Rattle.lard_generate.specs.Files.{drawn_size, files_of}
+use Rattle.lard_generate.specs.Files.{drawn_size, generated_files}
 use Rattle.lard_generate.specs.Generated.{generated}
 use Rattle.lard_generate.proofs.Ranges.{actions_are_below}
 use Rattle.lard_history.specs.Journal.{touched_step, wrote, wrote_step}
 use Rattle.lard_history.specs.Laws.{Follows}
 use Rattle.lard_journal.specs.declared.rec.Rec.{Rec}
-use Rattle.lard_settling.specs.Events.{Goes, MayCome, event_step, stepped_from}
+use Rattle.lard_settling.specs.Events.{GoesThrough, MayCome, event_step, stepped_from}
 use Rattle.lard_settling.specs.Settling.{Stop}
 use Rattle.lard_generate_bound.specs.Laws.{RoundsReachTheBound, SettlesLast, before_settle}
-use Rattle.lard_generate_bound.specs.Shares.{Wrote, numbers, share}
+use Rattle.lard_generate_bound.specs.Shares.{Wrote, numbers_to, share}
 use Rattle.lard_generate_bound.proofs.Cut.{heads-answered, heads-blocks, heads-length}
 use Rattle.lard_generate_bound.proofs.Leaving.{IsPlain, acts-are, fates-are, opener-still, opens-are, touched-still, unopening, untouched, unwritten, wrote-still}
 use Rattle.lard_generate_bound.proofs.Sharing.{length-numbers, shares-within, total-most, total-plus, writes-few}
@@ -40,7 +40,7 @@ use Rattle.lard_generate_bound.proofs.Writing.{opens-open, writes}
 -- ---- a journal that follows the events
 
 module _ (clients : ℕ) (f g h : Lcg) (sizes : List ℕ) (J : List Rec)
-    (w : Follows 1 ((each drawn_open clients f).0 ++ map event_of (each drawn_actions clients g).0 ++ (each drawn_fate clients h).0) J) where
+    (w : Follows 1 ((each drawn_open clients f).0 ++ map action_event (each drawn_actions clients g).0 ++ (each drawn_fate clients h).0) J) where
   -- the parts of the schedule
   abbrev opens : List Event
   opens = (each drawn_open clients f).0
@@ -52,21 +52,21 @@ module _ (clients : ℕ) (f g h : Lcg) (sizes : List ℕ) (J : List Rec)
   fates = (each drawn_fate clients h).0
 
   -- the steps of all but the fates of SYNs, and of these
-  outer : Parts 1 (opens ++ map event_of actions) fates J
-  outer = parts (opens ++ map event_of actions) fates 1 J w
+  outer : Parts 1 (opens ++ map action_event actions) fates J
+  outer = parts (opens ++ map action_event actions) fates 1 J w
 
   -- the steps of opening, and of the actions
-  inner : Parts 1 opens (map event_of actions) outer.front
-  inner = parts opens (map event_of actions) 1 outer.front outer.first
+  inner : Parts 1 opens (map action_event actions) outer.front
+  inner = parts opens (map action_event actions) 1 outer.front outer.first
 
   -- the clients that opened are 1 to n
-  pub openers-are : openers J ≡ numbers clients
+  pub openers-are : openers J ≡ numbers_to clients
   openers-are =
       ap (fold opener_step []) outer.is ∙ fold-append opener_step [] outer.front outer.back
       ∙ all-leave opener_step opener-still fates outer.next outer.back (fold opener_step [] outer.front)
       (fates-are (Leaves opener_step) (λ k. unopening (event.Lose k) tt) (λ k. unopening (event.Deliver k) tt) clients h) outer.second
       ∙ ap (fold opener_step []) inner.is ∙ fold-append opener_step [] inner.front inner.back
-      ∙ all-leave opener_step opener-still (map event_of actions) inner.next inner.back (fold opener_step [] inner.front)
+      ∙ all-leave opener_step opener-still (map action_event actions) inner.next inner.back (fold opener_step [] inner.front)
       (acts-are (Leaves opener_step) (λ c bytes. unopening (event.Write c bytes) tt) (λ c. unopening (event.Shut c) tt) actions) inner.second
       ∙ opens-open clients f 1 inner.front [] inner.first
 
@@ -88,48 +88,48 @@ module _ (clients : ℕ) (f g h : Lcg) (sizes : List ℕ) (J : List Rec)
       (writes c actions inner.next inner.back [] (actions_are_below clients g (each drawn_actions clients g).1 actions refl) inner.second)
 
   -- it has no more bytes, requests and bytes of answers than its client's share of the actions
-  its-length : (c : ℕ) → length (wrote J c) ≤ sum_by (share c written) actions
+  its-length : (c : ℕ) → length (wrote J c) ≤ sum_by (share c bytes_written) actions
   its-length c =
       let x = its c in
-      let all : length (wrote J c) ≡ sum_by (λ file. length (head_of file)) x.files = ap length x.is ∙ heads-length x.files in
-      let most : sum_by (λ file. length (head_of file)) x.files ≤ sum_by (share c written) actions = x.fewer written in
+      let all : length (wrote J c) ≡ sum_by (λ file. length (request_head file)) x.files = ap length x.is ∙ heads-length x.files in
+      let most : sum_by (λ file. length (request_head file)) x.files ≤ sum_by (share c bytes_written) actions = x.fewer bytes_written in
       omega (arith, all, most)
 
-  its-requests : (c : ℕ) → requests_of J c ≤ sum_by (share c requests) actions
+  its-requests : (c : ℕ) → requests_of J c ≤ sum_by (share c requests_written) actions
   its-requests c =
       let x = its c in
       let all : requests_of J c ≡ sum_by (λ file. 1) x.files = ap (λ (bytes : List ℕ). length (blocks bytes)) x.is ∙ heads-blocks x.files x.small in
-      let most : sum_by (λ file. 1) x.files ≤ sum_by (share c requests) actions = x.fewer requests in
+      let most : sum_by (λ file. 1) x.files ≤ sum_by (share c requests_written) actions = x.fewer requests_written in
       omega (arith, all, most)
 
-  its-answers : (c : ℕ) → length (answer_bytes (file_at (files_of sizes)) (wrote J c)) ≤ sum_by (share c (answered sizes)) actions
+  its-answers : (c : ℕ) → length (answer_bytes (file_at (generated_files sizes)) (wrote J c)) ≤ sum_by (share c (answer_bytes_of sizes)) actions
   its-answers c =
       let x = its c in
-      let all : length (answer_bytes (file_at (files_of sizes)) (wrote J c)) ≡ sum_by (λ file. answered sizes (Ask c file)) x.files =
-      ap (λ (bytes : List ℕ). length (answer_bytes (file_at (files_of sizes)) bytes)) x.is ∙ heads-answered sizes c x.files x.small in
-      let most : sum_by (λ file. answered sizes (Ask c file)) x.files ≤ sum_by (share c (answered sizes)) actions = x.fewer (answered sizes) in
+      let all : length (answer_bytes (file_at (generated_files sizes)) (wrote J c)) ≡ sum_by (λ file. answer_bytes_of sizes (Ask c file)) x.files =
+      ap (λ (bytes : List ℕ). length (answer_bytes (file_at (generated_files sizes)) bytes)) x.is ∙ heads-answered sizes c x.files x.small in
+      let most : sum_by (λ file. answer_bytes_of sizes (Ask c file)) x.files ≤ sum_by (share c (answer_bytes_of sizes)) actions = x.fewer (answer_bytes_of sizes) in
       omega (arith, all, most)
 
   -- and all clients together no more than all actions
-  all-requests : total_of (requests_of J) (openers J) ≤ sum_by requests actions
+  all-requests : total_of (requests_of J) (openers J) ≤ sum_by requests_written actions
   all-requests =
-      let cs : List ℕ = numbers clients in
+      let cs : List ℕ = numbers_to clients in
       let same : total_of (requests_of J) (openers J) ≡ total_of (requests_of J) cs = ap (total_of (requests_of J)) openers-are in
-      let few : total_of (requests_of J) cs ≤ total_of (λ c. sum_by (share c requests) actions) cs = total-most (requests_of J) (λ c. sum_by (share c requests) actions) cs its-requests in
-      omega (arith, same, few, shares-within requests clients actions)
+      let few : total_of (requests_of J) cs ≤ total_of (λ c. sum_by (share c requests_written) actions) cs = total-most (requests_of J) (λ c. sum_by (share c requests_written) actions) cs its-requests in
+      omega (arith, same, few, shares-within requests_written clients actions)
 
-  all-bytes : total_of (bytes_of (file_at (files_of sizes)) J) (openers J) ≤ sum_by written actions + sum_by (answered sizes) actions
+  all-bytes : total_of (bytes_both_ways (file_at (generated_files sizes)) J) (openers J) ≤ sum_by bytes_written actions + sum_by (answer_bytes_of sizes) actions
   all-bytes =
-      let cs : List ℕ = numbers clients in
-      let mine : ℕ → ℕ = λ c. sum_by (share c written) actions in
-      let back : ℕ → ℕ = λ c. sum_by (share c (answered sizes)) actions in
-      let counted : ℕ → ℕ = bytes_of (file_at (files_of sizes)) J in
+      let cs : List ℕ = numbers_to clients in
+      let mine : ℕ → ℕ = λ c. sum_by (share c bytes_written) actions in
+      let back : ℕ → ℕ = λ c. sum_by (share c (answer_bytes_of sizes)) actions in
+      let counted : ℕ → ℕ = bytes_both_ways (file_at (generated_files sizes)) J in
       let same : total_of counted (openers J) ≡ total_of counted cs = ap (total_of counted) openers-are in
       let few : total_of counted cs ≤ total_of (λ c. mine c + back c) cs = total-most counted (λ c. mine c + back c) cs (λ c. omega (arith, its-length c, its-answers c)) in
-      omega (arith, same, few, total-plus mine back cs, shares-within written clients actions, shares-within (answered sizes) clients actions)
+      omega (arith, same, few, total-plus mine back cs, shares-within bytes_written clients actions, shares-within (answer_bytes_of sizes) clients actions)
 
   -- the rounds are enough
-  reaches : settling_bound (file_at (files_of sizes)) J ≤ rounds clients sizes actions
+  reaches : settling_bound (file_at (generated_files sizes)) J ≤ rounds clients sizes actions
   reaches =
       let count : length (openers J) ≡ clients = ap length openers-are ∙ length-numbers clients in
       omega (arith, count, all-requests, all-bytes)
@@ -137,9 +137,9 @@ module _ (clients : ℕ) (f g h : Lcg) (sizes : List ℕ) (J : List Rec)
   -- no packet was put on the way in a client's name, and each client wrote few bytes
   ordinary : IsOrdinary J
   ordinary c = (
-    all-leave (touched_step c) (touched-still c) (opens ++ map event_of actions ++ fates) 1 J false
-        (All-append (Leaves (touched_step c)) (opens ++ map event_of actions) fates
-        (All-append (Leaves (touched_step c)) opens (map event_of actions)
+    all-leave (touched_step c) (touched-still c) (opens ++ map action_event actions ++ fates) 1 J false
+        (All-append (Leaves (touched_step c)) (opens ++ map action_event actions) fates
+        (All-append (Leaves (touched_step c)) opens (map action_event actions)
         (opens-are (Leaves (touched_step c)) (λ d isn iss. untouched c (event.Open d isn iss 65535 1460) tt) clients f)
         (acts-are (Leaves (touched_step c)) (λ d bytes. untouched c (event.Write d bytes) tt) (λ d. untouched c (event.Shut d) tt) actions))
         (fates-are (Leaves (touched_step c)) (λ k. untouched c (event.Lose k) tt) (λ k. untouched c (event.Deliver k) tt) clients h)) w,
@@ -169,7 +169,7 @@ plain-rule (event.Settle rounds) plain may = absurd plain
 plain-rule _ plain may = may
 
 -- so events without a settle pass as in a run without settles
-plain-passes : (es : List Event) (m n : Machine) → All IsPlain es → Goes m es n → Passes m es n
+plain-passes : (es : List Event) (m n : Machine) → All IsPlain es → GoesThrough m es n → Passes m es n
 plain-passes [] m n plain g = g
 plain-passes (e ∷ es) m n plain g =
     let first = All-head IsPlain e es plain in
@@ -189,16 +189,16 @@ module _ (seed clients : ℕ) where
       let opens = each drawn_open clients sizes.1 in
       let actions = each drawn_actions clients opens.1 in
       let fates = each drawn_fate clients actions.1 in
-      All-append IsPlain (opens.0 ++ map event_of actions.0) fates.0
-      (All-append IsPlain opens.0 (map event_of actions.0)
+      All-append IsPlain (opens.0 ++ map action_event actions.0) fates.0
+      (All-append IsPlain opens.0 (map action_event actions.0)
       (opens-are IsPlain (λ c isn iss. tt) clients sizes.1) (acts-are IsPlain (λ c bytes. tt) (λ c. tt) actions.0))
       (fates-are IsPlain (λ k. tt) (λ k. tt) clients actions.1)
 
   -- the journal follows them
-  pub before-follows : (config : Config) (m : Machine) → Goes (start config (generated seed clients).files) (before_settle seed clients) m → Follows 1 (before_settle seed clients) m.journal
+  pub before-follows : (config : Config) (m : Machine) → GoesThrough (machine_start config (generated seed clients).files) (before_settle seed clients) m → Follows 1 (before_settle seed clients) m.journal
   before-follows config m goes =
       let files = (generated seed clients).files in
-      follows config files (before_settle seed clients) m (plain-passes (before_settle seed clients) (start config files) m before-plain goes)
+      follows config files (before_settle seed clients) m (plain-passes (before_settle seed clients) (machine_start config files) m before-plain goes)
 
 pub reach-the-bound : RoundsReachTheBound
 unfolding generated

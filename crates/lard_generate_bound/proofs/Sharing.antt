@@ -7,10 +7,10 @@ use Rattle.rand_pcg.specs.Lcg.{Lcg}
 use Rattle.lard_bound.specs.Bound.{total_of}
 use Rattle.lard_generate.specs.declared.action.Action.{Action}
 use Rattle.lard_generate.specs.declared.action.Action.TheVariants.{Ask, Shut}
-use Rattle.lard_generate.specs.Clients.{drawn_actions, drawn_ask, shut_at, written}
+use Rattle.lard_generate.specs.Clients.{drawn_actions, drawn_ask, shut_at, bytes_written}
 use Rattle.lard_generate.specs.Draws.{behind, draw, each}
 use Rattle.lard_generate.proofs.Making.{sum_by-each}
-use Rattle.lard_generate_bound.specs.Shares.{actor, numbers, share}
+use Rattle.lard_generate_bound.specs.Shares.{actor, numbers_to, share}
 use Rattle.lard_generate_bound.proofs.Judged.{head-short}
 
 -- ---- totals
@@ -33,9 +33,9 @@ total-nothing [] = refl
 total-nothing (c ∷ cs) = omega (arith, total-nothing cs)
 
 -- there are n numbers
-pub length-numbers : (n : ℕ) → length (numbers n) ≡ n
+pub length-numbers : (n : ℕ) → length (numbers_to n) ≡ n
 length-numbers zero = refl
-length-numbers (suc n) = omega (arith, length-append (numbers n) ((n + 1) ∷ []), length-numbers n)
+length-numbers (suc n) = omega (arith, length-append (numbers_to n) ((n + 1) ∷ []), length-numbers n)
 
 -- ---- all clients' shares
 
@@ -49,35 +49,35 @@ chosen k true = omega arith
 chosen k false = omega arith
 
 -- is counted once at most, and not before that number
-counted-once : (d k n : ℕ) → (n < d → total_of (only d k) (numbers n) ≡ 0) × (total_of (only d k) (numbers n) ≤ k)
+counted-once : (d k n : ℕ) → (n < d → total_of (only d k) (numbers_to n) ≡ 0) × (total_of (only d k) (numbers_to n) ≤ k)
 counted-once d k zero = (λ less. refl, omega arith)
 counted-once d k (suc n) = go (counted-once d k n) (nat_eq d (n + 1)) refl where
-  all : total_of (only d k) (numbers n ++ (n + 1) ∷ []) ≡ total_of (only d k) (numbers n) + (only d k (n + 1) + 0)
-  all = total-append (only d k) (numbers n) ((n + 1) ∷ [])
+  all : total_of (only d k) (numbers_to n ++ (n + 1) ∷ []) ≡ total_of (only d k) (numbers_to n) + (only d k (n + 1) + 0)
+  all = total-append (only d k) (numbers_to n) ((n + 1) ∷ [])
 
-  go : (n < d → total_of (only d k) (numbers n) ≡ 0) × (total_of (only d k) (numbers n) ≤ k) → (b : Bool) → nat_eq d (n + 1) ≡ b
-      → (suc n < d → total_of (only d k) (numbers n ++ (n + 1) ∷ []) ≡ 0) × (total_of (only d k) (numbers n ++ (n + 1) ∷ []) ≤ k)
+  go : (n < d → total_of (only d k) (numbers_to n) ≡ 0) × (total_of (only d k) (numbers_to n) ≤ k) → (b : Bool) → nat_eq d (n + 1) ≡ b
+      → (suc n < d → total_of (only d k) (numbers_to n ++ (n + 1) ∷ []) ≡ 0) × (total_of (only d k) (numbers_to n ++ (n + 1) ∷ []) ≤ k)
   go before true e =
       let same : d ≡ n + 1 = grind (arith, nat_tests, e) in
       let last : only d k (n + 1) ≡ k = ap (λ b. if b then k else 0) e in
-      let none : total_of (only d k) (numbers n) ≡ 0 = before.0 (omega (arith, same)) in
+      let none : total_of (only d k) (numbers_to n) ≡ 0 = before.0 (omega (arith, same)) in
       (λ less. absurd (omega (arith, less, same)), omega (arith, all, last, none))
   go before false e =
       let last : only d k (n + 1) ≡ 0 = ap (λ b. if b then k else 0) e in
-      (λ less. let none : total_of (only d k) (numbers n) ≡ 0 = before.0 (omega (arith, less)) in omega (arith, all, last, none), omega (arith, all, last, before.1))
+      (λ less. let none : total_of (only d k) (numbers_to n) ≡ 0 = before.0 (omega (arith, less)) in omega (arith, all, last, none), omega (arith, all, last, before.1))
 
 -- The shares of all clients are no more than the whole.
-pub shares-within : (cost : Action → ℕ) (n : ℕ) (actions : List Action) → total_of (λ c. sum_by (share c cost) actions) (numbers n) ≤ sum_by cost actions
-shares-within cost n [] = omega (arith, total-nothing (numbers n))
+pub shares-within : (cost : Action → ℕ) (n : ℕ) (actions : List Action) → total_of (λ c. sum_by (share c cost) actions) (numbers_to n) ≤ sum_by cost actions
+shares-within cost n [] = omega (arith, total-nothing (numbers_to n))
 shares-within cost n (action ∷ actions) =
     let first : ℕ → ℕ = only (actor action) (cost action) in
     let others : ℕ → ℕ = λ c. sum_by (share c cost) actions in
-    let split : total_of (λ c. sum_by (share c cost) (action ∷ actions)) (numbers n) ≤ total_of (λ c. first c + others c) (numbers n) =
-    total-most (λ c. sum_by (share c cost) (action ∷ actions)) (λ c. first c + others c) (numbers n) (λ c. omega (arith, sum_by-cons (share c cost) action actions)) in
+    let split : total_of (λ c. sum_by (share c cost) (action ∷ actions)) (numbers_to n) ≤ total_of (λ c. first c + others c) (numbers_to n) =
+    total-most (λ c. sum_by (share c cost) (action ∷ actions)) (λ c. first c + others c) (numbers_to n) (λ c. omega (arith, sum_by-cons (share c cost) action actions)) in
     omega (
       arith,
       split,
-      total-plus first others (numbers n),
+      total-plus first others (numbers_to n),
       (counted-once (actor action) (cost action) n).1,
       shares-within cost n actions,
       sum_by-cons cost action actions,
@@ -86,63 +86,63 @@ shares-within cost n (action ∷ actions) =
 -- ---- what one client writes
 
 -- a request's bytes, where it is client c's
-ask-share : (c d file : ℕ) → file < 256 → share c written (Ask d file) ≤ 485
-ask-share c d file small = omega (arith, chosen (written (Ask d file)) (nat_eq d c), head-short file small)
+ask-share : (c d file : ℕ) → file < 256 → share c bytes_written (Ask d file) ≤ 485
+ask-share c d file small = omega (arith, chosen (bytes_written (Ask d file)) (nat_eq d c), head-short file small)
 
 -- shutting writes nothing
-shut-share : (c d n : ℕ) → sum_by (share c written) (shut_at d n) ≡ 0
+shut-share : (c d n : ℕ) → sum_by (share c bytes_written) (shut_at d n) ≡ 0
 shut-share c d n = go (nat_eq n 0) where
-  go : (b : Bool) → sum_by (share c written) (if b then [] else Shut d ∷ []) ≡ 0
+  go : (b : Bool) → sum_by (share c bytes_written) (if b then [] else Shut d ∷ []) ≡ 0
   go true = refl
-  go false = omega (arith, sum_by-cons (share c written) (Shut d) [], chosen 0 (nat_eq d c))
+  go false = omega (arith, sum_by-cons (share c bytes_written) (Shut d) [], chosen 0 (nat_eq d c))
 
 -- several requests, of which each has so many bytes at most
-asks-share : (c d b n : ℕ) (g : Lcg) → ((file : ℕ) → file < 256 → share c written (Ask d file) ≤ b) → sum_by (share c written) (each (drawn_ask d) n g).0 ≤ n * b
+asks-share : (c d b n : ℕ) (g : Lcg) → ((file : ℕ) → file < 256 → share c bytes_written (Ask d file) ≤ b) → sum_by (share c bytes_written) (each (drawn_ask d) n g).0 ≤ n * b
 asks-share c d b n g small =
-    sum_by-each (share c written) b (drawn_ask d) n g
-    (λ k h. let one : share c written (Ask d (draw 256 h)) ≤ b = small (draw 256 h) (omega arith) in omega (arith, one, sum_by-cons (share c written) (Ask d (draw 256 h)) []))
+    sum_by-each (share c bytes_written) b (drawn_ask d) n g
+    (λ k h. let one : share c bytes_written (Ask d (draw 256 h)) ≤ b = small (draw 256 h) (omega arith) in omega (arith, one, sum_by-cons (share c bytes_written) (Ask d (draw 256 h)) []))
 
 -- one client's actions
-client-most : (c d : ℕ) (g : Lcg) → sum_by (share c written) (drawn_actions d g).0 ≤ 4850
+client-most : (c d : ℕ) (g : Lcg) → sum_by (share c bytes_written) (drawn_actions d g).0 ≤ 4850
 client-most c d g =
     let asks = each (drawn_ask d) (1 + draw 10 g) (behind g) in
     omega (
       arith,
-      sum_by-append (share c written) asks.0 (shut_at d (draw 4 asks.1)),
+      sum_by-append (share c bytes_written) asks.0 (shut_at d (draw 4 asks.1)),
       asks-share c d 485 (1 + draw 10 g) (behind g) (ask-share c d),
       shut-share c d (draw 4 asks.1),
     )
 
 -- those of another one are none of c's
-client-none : (c d : ℕ) (g : Lcg) → nat_eq d c ≡ false → sum_by (share c written) (drawn_actions d g).0 ≡ 0
+client-none : (c d : ℕ) (g : Lcg) → nat_eq d c ≡ false → sum_by (share c bytes_written) (drawn_actions d g).0 ≡ 0
 client-none c d g other =
     let asks = each (drawn_ask d) (1 + draw 10 g) (behind g) in
     omega (
       arith,
-      sum_by-append (share c written) asks.0 (shut_at d (draw 4 asks.1)),
-      asks-share c d 0 (1 + draw 10 g) (behind g) (λ file small. let none : share c written (Ask d file) ≡ 0 = ap (λ b. if b then written (Ask d file) else 0) other in omega (arith, none)),
+      sum_by-append (share c bytes_written) asks.0 (shut_at d (draw 4 asks.1)),
+      asks-share c d 0 (1 + draw 10 g) (behind g) (λ file small. let none : share c bytes_written (Ask d file) ≡ 0 = ap (λ b. if b then bytes_written (Ask d file) else 0) other in omega (arith, none)),
       shut-share c d (draw 4 asks.1),
     )
 
 -- behind the actions of others, and before them
-few-further : (c n : ℕ) (front last : List Action) → (n < c → sum_by (share c written) front ≡ 0) × (sum_by (share c written) front ≤ 4850)
-    → (nat_eq (n + 1) c ≡ false → sum_by (share c written) last ≡ 0) → sum_by (share c written) last ≤ 4850
-    → (suc n < c → sum_by (share c written) (front ++ last) ≡ 0) × (sum_by (share c written) (front ++ last) ≤ 4850)
+few-further : (c n : ℕ) (front last : List Action) → (n < c → sum_by (share c bytes_written) front ≡ 0) × (sum_by (share c bytes_written) front ≤ 4850)
+    → (nat_eq (n + 1) c ≡ false → sum_by (share c bytes_written) last ≡ 0) → sum_by (share c bytes_written) last ≤ 4850
+    → (suc n < c → sum_by (share c bytes_written) (front ++ last) ≡ 0) × (sum_by (share c bytes_written) (front ++ last) ≤ 4850)
 few-further c n front last before others most = go (nat_eq (n + 1) c) refl where
-  all : sum_by (share c written) (front ++ last) ≡ sum_by (share c written) front + sum_by (share c written) last
-  all = sum_by-append (share c written) front last
+  all : sum_by (share c bytes_written) (front ++ last) ≡ sum_by (share c bytes_written) front + sum_by (share c bytes_written) last
+  all = sum_by-append (share c bytes_written) front last
 
-  go : (b : Bool) → nat_eq (n + 1) c ≡ b → (suc n < c → sum_by (share c written) (front ++ last) ≡ 0) × (sum_by (share c written) (front ++ last) ≤ 4850)
+  go : (b : Bool) → nat_eq (n + 1) c ≡ b → (suc n < c → sum_by (share c bytes_written) (front ++ last) ≡ 0) × (sum_by (share c bytes_written) (front ++ last) ≤ 4850)
   go true e =
       let same : n + 1 ≡ c = grind (arith, nat_tests, e) in
-      let none : sum_by (share c written) front ≡ 0 = before.0 (omega (arith, same)) in
+      let none : sum_by (share c bytes_written) front ≡ 0 = before.0 (omega (arith, same)) in
       (λ less. absurd (omega (arith, less, same)), omega (arith, all, most, none))
   go false e =
-      let nothing : sum_by (share c written) last ≡ 0 = others e in
-      (λ less. let none : sum_by (share c written) front ≡ 0 = before.0 (omega (arith, less)) in omega (arith, all, none, nothing), omega (arith, all, before.1, nothing))
+      let nothing : sum_by (share c bytes_written) last ≡ 0 = others e in
+      (λ less. let none : sum_by (share c bytes_written) front ≡ 0 = before.0 (omega (arith, less)) in omega (arith, all, none, nothing), omega (arith, all, before.1, nothing))
 
 -- Client c writes no more than its own ten requests.
-pub writes-few : (c n : ℕ) (g : Lcg) → (n < c → sum_by (share c written) (each drawn_actions n g).0 ≡ 0) × (sum_by (share c written) (each drawn_actions n g).0 ≤ 4850)
+pub writes-few : (c n : ℕ) (g : Lcg) → (n < c → sum_by (share c bytes_written) (each drawn_actions n g).0 ≡ 0) × (sum_by (share c bytes_written) (each drawn_actions n g).0 ≤ 4850)
 unfolding each
 writes-few c zero g = (λ less. refl, omega arith)
 writes-few c (suc n) g =

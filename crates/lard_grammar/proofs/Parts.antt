@@ -12,7 +12,7 @@ use Rattle.lard_schedule.specs.declared.reader.Reader.{Reader}
 use Rattle.lard_schedule.specs.declared.reader.Stage.{Stage}
 use Rattle.lard_schedule.specs.declared.reader.Stage.TheVariants.{Start, Settings, Files, Running}
 use Rattle.lard_schedule.specs.Laws.{IsBefore, IsLineOf, MayStand}
-use Rattle.lard_schedule.specs.Reader.{HasRange, after, has, item_of, no_keys, with_key}
+use Rattle.lard_schedule.specs.Reader.{HasRange, reader_after, has_key, item_of, no_keys, with_key}
 use Rattle.lard_grammar.specs.Schedule.{AreEvents, AreFiles, AreSettings, Found, IsNew, at_end, configured, read_from, with_item}
 
 -- ---- a line that is read
@@ -20,13 +20,13 @@ use Rattle.lard_grammar.specs.Schedule.{AreEvents, AreFiles, AreSettings, Found,
 -- what a line and those behind it give
 abbrev pub go_on : Reader → Found → List (List ℕ) → Option Item → Option Found
 go_on r f tail None = None
-go_on r f tail (Some x) = read_from (after r x) (with_item f x) tail
+go_on r f tail (Some x) = read_from (reader_after r x) (with_item f x) tail
 
 pub line_on : (r : Reader) (f : Found) (line next : List ℕ) (more : List (List ℕ)) (o : Option Item) → item_of r line ≡ o → read_from r f (line ∷ next ∷ more) ≡ go_on r f (next ∷ more) o
 line_on r f line next more None e = rw (e, read_from) refl
 line_on r f line next more (Some x) e = rw (e, read_from) refl
 
-pub reads_on : (r : Reader) (f : Found) (line : List ℕ) (tail : List (List ℕ)) (x : Item) → item_of r line ≡ Some x → tail ≢ [] → read_from r f (line ∷ tail) ≡ read_from (after r x) (with_item f x) tail
+pub reads_on : (r : Reader) (f : Found) (line : List ℕ) (tail : List (List ℕ)) (x : Item) → item_of r line ≡ Some x → tail ≢ [] → read_from r f (line ∷ tail) ≡ read_from (reader_after r x) (with_item f x) tail
 reads_on r f line [] x e some = absurd (some refl)
 reads_on r f line (next ∷ more) x e some = line_on r f line next more (Some x) e
 
@@ -58,7 +58,7 @@ pub events_found : (r : Reader) (f g : Found) (lines : List (List ℕ)) → r.st
 events_found r f g [] at h = cc
 events_found r f g (last ∷ []) at h = ended_found r.stage last f g at h
 events_found r f g (line ∷ next ∷ more) at h = go (item_of r line) refl (sym (line_on r f line next more (item_of r line) refl) ∙ h) (λ q d a k. events_found q d g (next ∷ more) a k) where
-  one : (x : Item) → IsLineOf line x → MayStand r x → HasRange x → read_from (after r x) (with_item f x) (next ∷ more) ≡ Some g
+  one : (x : Item) → IsLineOf line x → MayStand r x → HasRange x → read_from (reader_after r x) (with_item f x) (next ∷ more) ≡ Some g
       → ((q : Reader) (d : Found) → q.stage ≡ Running → read_from q d (next ∷ more) ≡ Some g → EventsIn d g (next ∷ more)) → EventsIn f g (line ∷ next ∷ more)
   one item.Header is may range k later = let both : Start ≡ Running = sym may ∙ at in cc
   one (item.Set key value) is may range k later = let both : Settings ≡ Running = sym may.0 ∙ at in cc
@@ -102,9 +102,9 @@ pub record FilesIn (f g : Found) (lines : List (List ℕ)) : Type 0 where
   pub is : g ≡ record { config = f.config; files = f.files ++ files; events = f.events ++ events }
 
 -- behind `go`
-gone : (r : Reader) (f g : Found) (line next : List ℕ) (more : List (List ℕ)) → IsLineOf line item.Go → read_from (after r item.Go) f (next ∷ more) ≡ Some g → FilesIn f g (line ∷ next ∷ more)
+gone : (r : Reader) (f g : Found) (line next : List ℕ) (more : List (List ℕ)) → IsLineOf line item.Go → read_from (reader_after r item.Go) f (next ∷ more) ≡ Some g → FilesIn f g (line ∷ next ∷ more)
 gone r f g line next more is k =
-    let rest = events_found (after r item.Go) f g (next ∷ more) refl k in
+    let rest = events_found (reader_after r item.Go) f g (next ∷ more) refl k in
     record {
       named = [];
       go = line;
@@ -144,11 +144,11 @@ pub files_found : (r : Reader) (f g : Found) (lines : List (List ℕ)) → r.sta
 files_found r f g [] at h = cc
 files_found r f g (last ∷ []) at h = absurd (not_ended r.stage last f g (λ e. let both : Files ≡ Running = sym at ∙ e in cc) h)
 files_found r f g (line ∷ next ∷ more) at h = go (item_of r line) refl (sym (line_on r f line next more (item_of r line) refl) ∙ h) (λ q d a k. files_found q d g (next ∷ more) a k) where
-  one : (x : Item) → IsLineOf line x → MayStand r x → HasRange x → read_from (after r x) (with_item f x) (next ∷ more) ≡ Some g
+  one : (x : Item) → IsLineOf line x → MayStand r x → HasRange x → read_from (reader_after r x) (with_item f x) (next ∷ more) ≡ Some g
       → ((q : Reader) (d : Found) → q.stage ≡ Files → read_from q d (next ∷ more) ≡ Some g → FilesIn d g (next ∷ more)) → FilesIn f g (line ∷ next ∷ more)
   one item.Header is may range k later = let both : Start ≡ Files = sym may ∙ at in cc
   one (item.Set key value) is may range k later = let both : Settings ≡ Files = sym may.0 ∙ at in cc
-  one (item.File path bytes) is may range k later = filed f g line (next ∷ more) path bytes is range (later (after r (item.File path bytes)) (with_item f (item.File path bytes)) refl k)
+  one (item.File path bytes) is may range k later = filed f g line (next ∷ more) path bytes is range (later (reader_after r (item.File path bytes)) (with_item f (item.File path bytes)) refl k)
   one item.Go is may range k later = gone r f g line next more is k
   one (item.Event e) is may range k later = let both : Files ≡ Running = sym at ∙ may in cc
 
@@ -162,21 +162,21 @@ pub files_read : (r : Reader) (f : Found) (named : List (List ℕ)) (go : List �
     → read_from r f (named ++ go ∷ (steps ++ [] ∷ [])) ≡ Some (record { config = f.config; files = f.files ++ files; events = f.events ++ events })
 files_read r f [] go steps [] events before are goes events_are =
     reads_on r f go (steps ++ [] ∷ []) item.Go (line_read r go item.Go goes before tt) (behind_some steps [] [])
-    ∙ events_read (after r item.Go) f steps events refl events_are ∙ ap (λ fs. Some (record { config = f.config; files = fs; events = f.events ++ events })) (sym (append-nil f.files))
+    ∙ events_read (reader_after r item.Go) f steps events refl events_are ∙ ap (λ fs. Some (record { config = f.config; files = fs; events = f.events ++ events })) (sym (append-nil f.files))
 files_read r f [] go steps (file ∷ files) events before are goes events_are = absurd are
 files_read r f (line ∷ named) go steps [] events before are goes events_are = absurd are
 files_read r f (line ∷ named) go steps (file ∷ files) events before are goes events_are =
     reads_on r f line (named ++ go ∷ (steps ++ [] ∷ [])) (item.File file.0 file.1) (line_read r line (item.File file.0 file.1) are.0 before are.1) (behind_some named (steps ++ [] ∷ []) go)
-    ∙ files_read (after r (item.File file.0 file.1)) (with_item f (item.File file.0 file.1)) named go steps files events tt are.2 goes events_are
+    ∙ files_read (reader_after r (item.File file.0 file.1)) (with_item f (item.File file.0 file.1)) named go steps files events tt are.2 goes events_are
     ∙ ap (λ fs. Some (record { config = f.config; files = fs; events = f.events ++ events })) (append_assoc f.files (file ∷ []) files)
 
 -- ---- settings
 
 -- the keys that were set are those of a list
 abbrev pub AreSet : Keys → List Key → Type 0
-AreSet set keys = (key : Key) → (has set key ≡ false → IsNew key keys) × (IsNew key keys → has set key ≡ false)
+AreSet set keys = (key : Key) → (has_key set key ≡ false → IsNew key keys) × (IsNew key keys → has_key set key ≡ false)
 
-all_unset : (key : Key) → has no_keys key ≡ false
+all_unset : (key : Key) → has_key no_keys key ≡ false
 all_unset key.Nodes = refl
 all_unset key.Low = refl
 all_unset key.High = refl
@@ -192,13 +192,13 @@ none_set k = (λ e. tt, λ n. all_unset k)
 
 one_more : (set : Keys) (keys : List Key) (key : Key) → AreSet set keys → AreSet (with_key set key) (key ∷ keys)
 one_more set keys key h other = (new, unset) where
-  differs : has (with_key set key) other ≡ false → other ≢ key
-  differs e same = let there : has (with_key set key) other ≡ true = ap (has (with_key set key)) same ∙ has_set set key in let both : false ≡ true = sym e ∙ there in cc
+  differs : has_key (with_key set key) other ≡ false → other ≢ key
+  differs e same = let there : has_key (with_key set key) other ≡ true = ap (has_key (with_key set key)) same ∙ has_set set key in let both : false ≡ true = sym e ∙ there in cc
 
-  new : has (with_key set key) other ≡ false → IsNew other (key ∷ keys)
+  new : has_key (with_key set key) other ≡ false → IsNew other (key ∷ keys)
   new e = (differs e, (h other).0 (sym (has_other set key other (differs e)) ∙ e))
 
-  unset : IsNew other (key ∷ keys) → has (with_key set key) other ≡ false
+  unset : IsNew other (key ∷ keys) → has_key (with_key set key) other ≡ false
   unset n = has_other set key other n.0 ∙ (h other).1 n.1
 
 pub record SettingsIn (keys : List Key) (f g : Found) (lines : List (List ℕ)) : Type 0 where
@@ -216,11 +216,11 @@ pub settings_found : (r : Reader) (keys : List Key) (f g : Found) (lines : List 
 settings_found r keys f g [] at set h = cc
 settings_found r keys f g (last ∷ []) at set h = absurd (not_ended r.stage last f g (λ e. let both : Settings ≡ Running = sym at ∙ e in cc) h)
 settings_found r keys f g (line ∷ next ∷ more) at set h = go (item_of r line) refl (sym (line_on r f line next more (item_of r line) refl) ∙ h) (λ q ks d a s k. settings_found q ks d g (next ∷ more) a s k) where
-  one : (x : Item) → IsLineOf line x → MayStand r x → HasRange x → read_from (after r x) (with_item f x) (next ∷ more) ≡ Some g
+  one : (x : Item) → IsLineOf line x → MayStand r x → HasRange x → read_from (reader_after r x) (with_item f x) (next ∷ more) ≡ Some g
       → ((q : Reader) (ks : List Key) (d : Found) → q.stage ≡ Settings → AreSet q.keys ks → read_from q d (next ∷ more) ≡ Some g → SettingsIn ks d g (next ∷ more)) → SettingsIn keys f g (line ∷ next ∷ more)
   one item.Header is may range k later = let both : Start ≡ Settings = sym may ∙ at in cc
   one (item.Set key value) is may range k later =
-      let found = later (after r (item.Set key value)) (key ∷ keys) (with_item f (item.Set key value)) at (one_more r.keys keys key set) k in
+      let found = later (reader_after r (item.Set key value)) (key ∷ keys) (with_item f (item.Set key value)) at (one_more r.keys keys key set) k in
       record {
         settings = line ∷ found.settings;
         tail = found.tail;
@@ -230,7 +230,7 @@ settings_found r keys f g (line ∷ next ∷ more) at set h = go (item_of r line
         rest = found.rest;
       }
   one (item.File path bytes) is may range k later =
-      unset keys f g (line ∷ next ∷ more) (filed f g line (next ∷ more) path bytes is range (files_found (after r (item.File path bytes)) (with_item f (item.File path bytes)) g (next ∷ more) refl k))
+      unset keys f g (line ∷ next ∷ more) (filed f g line (next ∷ more) path bytes is range (files_found (reader_after r (item.File path bytes)) (with_item f (item.File path bytes)) g (next ∷ more) refl k))
   one item.Go is may range k later = unset keys f g (line ∷ next ∷ more) (gone r f g line next more is k)
   one (item.Event e) is may range k later = let both : Settings ≡ Running = sym at ∙ may in cc
 
@@ -247,7 +247,7 @@ settings_read r keys f [] named go steps (s ∷ sets) files events at set are fi
 settings_read r keys f (line ∷ settings) named go steps [] files events at set are files_are goes events_are = absurd are
 settings_read r keys f (line ∷ settings) named go steps (s ∷ sets) files events at set are files_are goes events_are =
     reads_on r f line (settings ++ named ++ go ∷ (steps ++ [] ∷ [])) (item.Set s.0 s.1) (line_read r line (item.Set s.0 s.1) are.0 (at, (set s.0).1 are.2) are.1) (some_left settings)
-    ∙ settings_read (after r (item.Set s.0 s.1)) (s.0 ∷ keys) (with_item f (item.Set s.0 s.1)) settings named go steps sets files events at (one_more r.keys keys s.0 set) are.3 files_are goes events_are where
+    ∙ settings_read (reader_after r (item.Set s.0 s.1)) (s.0 ∷ keys) (with_item f (item.Set s.0 s.1)) settings named go steps sets files events at (one_more r.keys keys s.0 set) are.3 files_are goes events_are where
       some_left : (lines : List (List ℕ)) → lines ++ named ++ go ∷ (steps ++ [] ∷ []) ≢ []
       some_left [] e = behind_some named (steps ++ [] ∷ []) go e
       some_left (first ∷ lines) e = cc

@@ -8,8 +8,8 @@ use Rattle.lard_schedule.specs.declared.item.Item.{Item}
 use Rattle.lard_schedule.specs.declared.item.Item.TheVariants as item
 use Rattle.lard_schedule.specs.declared.reader.Stage.TheVariants.{Start, Settings, Running}
 use Rattle.lard_schedule.specs.Laws.{IsLineOf, MayStand}
-use Rattle.lard_schedule.specs.Reader.{after, item_of, start}
-use Rattle.lard_grammar.specs.Schedule.{AreEvents, AreFiles, Found, IsSchedule, nothing, read_from, schedule_of, with_item}
+use Rattle.lard_schedule.specs.Reader.{reader_after, item_of, reader_start}
+use Rattle.lard_grammar.specs.Schedule.{AreEvents, AreFiles, Found, IsSchedule, nothing_found, read_from, schedule_of, with_item}
 use Rattle.lard_grammar.proofs.Parts.{behind_some, go_on, line_on, none_set, reads_on, settings_found, settings_read, SettingsIn}
 use Rattle.lard_grammar.proofs.Texts.{cut_again, joined}
 
@@ -32,14 +32,14 @@ module _ (text : List ℕ) (config : Config) (files : List (List ℕ × List ℕ
   pub is_found : schedule_of text ≡ Some (record { config = config; files = files; events = events })
   unfolding schedule_of
   is_found =
-      ap (read_from start nothing) cut_lines
-      ∙ reads_on start nothing s.first (s.settings ++ s.named ++ s.go ∷ (s.steps ++ [] ∷ [])) item.Header (line_read start s.first item.Header s.heads refl tt) behind_first
-      ∙ settings_read (after start item.Header) [] nothing s.settings s.named s.go s.steps s.sets files events refl none_set s.sets_are s.files_are s.goes s.events_are
+      ap (read_from reader_start nothing_found) cut_lines
+      ∙ reads_on reader_start nothing_found s.first (s.settings ++ s.named ++ s.go ∷ (s.steps ++ [] ∷ [])) item.Header (line_read reader_start s.first item.Header s.heads refl tt) behind_first
+      ∙ settings_read (reader_after reader_start item.Header) [] nothing_found s.settings s.named s.go s.steps s.sets files events refl none_set s.sets_are s.files_are s.goes s.events_are
       ∙ ap (λ c. Some (record { config = c; files = files; events = events })) (sym s.config_is)
 
 -- ---- what is found is what a schedule stands for
 
-found_first : (text : List ℕ) (f : Found) (line : List ℕ) (tail : List (List ℕ)) → lines_of text ≡ line ∷ tail → IsLineOf line item.Header → SettingsIn [] nothing f tail → IsSchedule text f.config f.files f.events
+found_first : (text : List ℕ) (f : Found) (line : List ℕ) (tail : List (List ℕ)) → lines_of text ≡ line ∷ tail → IsLineOf line item.Header → SettingsIn [] nothing_found f tail → IsSchedule text f.config f.files f.events
 found_first text f line tail cut is set =
     let r = set.rest in
     let apart : lines_of text ≡ (line ∷ set.settings ++ r.named ++ r.go ∷ r.steps) ++ [] ∷ [] =
@@ -65,21 +65,21 @@ found_first text f line tail cut is set =
 pub found_is : (text : List ℕ) (f : Found) → schedule_of text ≡ Some f → IsSchedule text f.config f.files f.events
 unfolding schedule_of
 found_is text f h = go (lines_of text) refl h where
-  one : (x : Item) (line next : List ℕ) (more : List (List ℕ)) → lines_of text ≡ line ∷ next ∷ more → IsLineOf line x → MayStand start x → read_from (after start x) (with_item nothing x) (next ∷ more) ≡ Some f → IsSchedule text f.config f.files f.events
-  one item.Header line next more cut is may k = found_first text f line (next ∷ more) cut is (settings_found (after start item.Header) [] nothing f (next ∷ more) refl none_set k)
+  one : (x : Item) (line next : List ℕ) (more : List (List ℕ)) → lines_of text ≡ line ∷ next ∷ more → IsLineOf line x → MayStand reader_start x → read_from (reader_after reader_start x) (with_item nothing_found x) (next ∷ more) ≡ Some f → IsSchedule text f.config f.files f.events
+  one item.Header line next more cut is may k = found_first text f line (next ∷ more) cut is (settings_found (reader_after reader_start item.Header) [] nothing_found f (next ∷ more) refl none_set k)
   one (item.Set key value) line next more cut is may k = let both : Start ≡ Settings = may.0 in cc
   one (item.File path bytes) line next more cut is may k = absurd may
   one item.Go line next more cut is may k = absurd may
   one (item.Event e) line next more cut is may k = let both : Start ≡ Running = may in cc
 
-  read_first : (line next : List ℕ) (more : List (List ℕ)) → lines_of text ≡ line ∷ next ∷ more → (o : Option Item) → item_of start line ≡ o → go_on start nothing (next ∷ more) o ≡ Some f → IsSchedule text f.config f.files f.events
+  read_first : (line next : List ℕ) (more : List (List ℕ)) → lines_of text ≡ line ∷ next ∷ more → (o : Option Item) → item_of reader_start line ≡ o → go_on reader_start nothing_found (next ∷ more) o ≡ Some f → IsSchedule text f.config f.files f.events
   read_first line next more cut None e k = cc
-  read_first line next more cut (Some x) e k = let s = line_spelled start line x e in one x line next more cut s.0 s.1 k
+  read_first line next more cut (Some x) e k = let s = line_spelled reader_start line x e in one x line next more cut s.0 s.1 k
 
-  go : (lines : List (List ℕ)) → lines_of text ≡ lines → read_from start nothing lines ≡ Some f → IsSchedule text f.config f.files f.events
+  go : (lines : List (List ℕ)) → lines_of text ≡ lines → read_from reader_start nothing_found lines ≡ Some f → IsSchedule text f.config f.files f.events
   go [] cut k = cc
   go (last ∷ []) cut k = cc
-  go (line ∷ next ∷ more) cut k = read_first line next more cut (item_of start line) refl (sym (line_on start nothing line next more (item_of start line) refl) ∙ k)
+  go (line ∷ next ∷ more) cut k = read_first line next more cut (item_of reader_start line) refl (sym (line_on reader_start nothing_found line next more (item_of reader_start line) refl) ∙ k)
 
 -- ---- a text stands for one thing alone
 

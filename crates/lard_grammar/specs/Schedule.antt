@@ -11,10 +11,10 @@ use Rattle.lard_schedule.specs.declared.item.Item.TheVariants as item
 use Rattle.lard_schedule.specs.declared.reader.Reader.{Reader}
 use Rattle.lard_schedule.specs.declared.reader.Stage.{Stage}
 use Rattle.lard_schedule.specs.declared.reader.Stage.TheVariants.{Running}
-use Rattle.lard_schedule.specs.Events.{IsInRange}
+use Rattle.lard_schedule.specs.Events.{IsInLineRange}
 use Rattle.lard_schedule.specs.Files.{is_file_path}
 use Rattle.lard_schedule.specs.Laws.{IsLineOf}
-use Rattle.lard_schedule.specs.Reader.{after, item_of, start}
+use Rattle.lard_schedule.specs.Reader.{reader_after, item_of, reader_start}
 
 -- ---- lines
 
@@ -54,7 +54,7 @@ abbrev pub AreEvents : List (List ℕ) → List Event → Type 0
 AreEvents [] [] = Unit {0}
 AreEvents [] (event ∷ events) = ⊥
 AreEvents (line ∷ lines) [] = ⊥
-AreEvents (line ∷ lines) (event ∷ events) = IsLineOf line (item.Event event) × IsInRange event × AreEvents lines events
+AreEvents (line ∷ lines) (event ∷ events) = IsLineOf line (item.Event event) × IsInLineRange event × AreEvents lines events
 
 -- the configuration that settings make of another
 abbrev pub configured : Config → List (Key × ℕ) → Config
@@ -88,8 +88,8 @@ pub record Found : Type 0 where
   pub files : List (List ℕ × List ℕ)
   pub events : List Event
 
-abbrev pub nothing : Found
-nothing = record { config = standard; files = []; events = [] }
+abbrev pub nothing_found : Found
+nothing_found = record { config = standard; files = []; events = [] }
 
 abbrev pub with_item : Found → Item → Found
 with_item f item.Header = f
@@ -108,8 +108,8 @@ at_end _ _ f = None
 abbrev pub read_from : Reader → Found → List (List ℕ) → Option Found
 read_from r f [] = None
 read_from r f (last ∷ []) = at_end r.stage last f
-read_from r f (line ∷ next ∷ more) = elim (item_of r line) [ None ↦ None | Some x ↦ read_from (after r x) (with_item f x) (next ∷ more) ]
+read_from r f (line ∷ next ∷ more) = elim (item_of r line) [ None ↦ None | Some x ↦ read_from (reader_after r x) (with_item f x) (next ∷ more) ]
 
 -- what the reader finds in a whole text
 unfoldable pub schedule_of : List ℕ → Option Found
-schedule_of text = read_from start nothing (lines_of text)
+schedule_of text = read_from reader_start nothing_found (lines_of text)

@@ -12,23 +12,23 @@ use Rattle.lard_handoff_back.specs.declared.row.BackConn.TheVariants.{Here, Out,
 use Rattle.lard_handoff_back.specs.declared.row.BackRow.{BackRow}
 use Rattle.lard_handoff_back.specs.declared.table.Adopt.{Adopt}
 use Rattle.lard_handoff_back.specs.declared.table.Adopt.TheVariants.{New, Again, Stale}
-use Rattle.lard_handoff_back.specs.Row.{held_in, is_out, is_ended, is_gone}
+use Rattle.lard_handoff_back.specs.Row.{back_held, is_out, is_ended, is_gone}
 
 abbrev pub Backs : Type 0
 Backs = FinMap nat_cmp BackRow
 
 -- the same stay in another stage
-abbrev pub with_stage : Backs → ℕ → BackConn → Option BackRow → Backs
-with_stage m c stage None = m
-with_stage m c stage (Some row) = insert m c (record row { stage = stage })
+abbrev pub back_with_stage : Backs → ℕ → BackConn → Option BackRow → Backs
+back_with_stage m c stage None = m
+back_with_stage m c stage (Some row) = insert m c (record row { stage = stage })
 
-abbrev pub endpoint_of : Option BackRow → Option ControlBlock
-endpoint_of None = None
-endpoint_of (Some row) = held_in row.stage
+abbrev pub back_endpoint : Option BackRow → Option ControlBlock
+back_endpoint None = None
+back_endpoint (Some row) = back_held row.stage
 
-abbrev pub may_put : Option BackRow → Bool
-may_put None = false
-may_put (Some row) = is_out row.stage
+abbrev pub back_may_put : Option BackRow → Bool
+back_may_put None = false
+back_may_put (Some row) = is_out row.stage
 
 -- ---- an Offer
 
@@ -38,11 +38,11 @@ abbrev pub offer_answer : ℕ → Option BackRow → Adopt
 offer_answer e None = New
 offer_answer e (Some row) = if row.epoch.0 == e then Again else if nat_lt row.epoch.0 e && is_gone row.stage then New else Stale
 
-abbrev pub stay_of : Epoch → EndpointParts → BackRow
-stay_of epoch parts = record { stage = Here (adopted parts); epoch = epoch }
+abbrev pub stay_row : Epoch → EndpointParts → BackRow
+stay_row epoch parts = record { stage = Here (adopted parts); epoch = epoch }
 
 abbrev pub after_offer : Backs → ℕ → Epoch → EndpointParts → Adopt → Backs
-after_offer m c epoch parts New = insert m c (stay_of epoch parts)
+after_offer m c epoch parts New = insert m c (stay_row epoch parts)
 after_offer m c epoch parts Again = m
 after_offer m c epoch parts Stale = m
 
@@ -51,16 +51,16 @@ after_offer m c epoch parts Stale = m
 -- the endpoint that is here with this epoch
 abbrev pub staying : ℕ → Option BackRow → Option ControlBlock
 staying e None = None
-staying e (Some row) = if row.epoch.0 == e then held_in row.stage else None
+staying e (Some row) = if row.epoch.0 == e then back_held row.stage else None
 
-abbrev pub taken : Backs → ℕ → Option BackRow → Option ControlBlock → Backs
-taken m c o None = m
-taken m c o (Some b) = with_stage m c Out o
+abbrev pub back_taken : Backs → ℕ → Option BackRow → Option ControlBlock → Backs
+back_taken m c o None = m
+back_taken m c o (Some b) = back_with_stage m c Out o
 
 -- the epoch of an endpoint that is here
 abbrev pub epoch_of : Option BackRow → Option Epoch
 epoch_of None = None
-epoch_of (Some row) = option_map (λ b. row.epoch) (held_in row.stage)
+epoch_of (Some row) = option_map (λ b. row.epoch) (back_held row.stage)
 
 -- ---- the end of a stay
 
@@ -68,18 +68,18 @@ epoch_of (Some row) = option_map (λ b. row.epoch) (held_in row.stage)
 abbrev pub last_of : ControlBlock → Option Final
 last_of b = if may_end b then Some (final_of b (end_reason b)) else None
 
-abbrev pub ends : Option ControlBlock → Option Final
-ends None = None
-ends (Some b) = last_of b
+abbrev pub back_ends : Option ControlBlock → Option Final
+back_ends None = None
+back_ends (Some b) = last_of b
 
 abbrev pub given : Backs → ℕ → Option BackRow → Option Final → Backs
 given m c o None = m
-given m c o (Some last) = with_stage m c Ended o
+given m c o (Some last) = back_with_stage m c Ended o
 
 -- EndedAck is awaited in this epoch
 abbrev pub awaits_ack : ℕ → Option BackRow → Bool
 awaits_ack e None = false
 awaits_ack e (Some row) = row.epoch.0 == e && is_ended row.stage
 
-abbrev pub acknowledged : Backs → ℕ → ℕ → Option BackRow → Backs
-acknowledged m c e o = if awaits_ack e o then with_stage m c Gone o else m
+abbrev pub back_acknowledged : Backs → ℕ → ℕ → Option BackRow → Backs
+back_acknowledged m c e o = if awaits_ack e o then back_with_stage m c Gone o else m

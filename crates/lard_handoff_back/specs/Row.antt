@@ -5,11 +5,11 @@ use Rattle.lard_handoff_back.specs.declared.row.BackConn.{BackConn}
 use Rattle.lard_handoff_back.specs.declared.row.BackConn.TheVariants.{Here, Out, Ended, Gone}
 
 -- the endpoint that is here
-abbrev pub held_in : BackConn → Option ControlBlock
-held_in (Here b) = Some b
-held_in Out = None
-held_in Ended = None
-held_in Gone = None
+abbrev pub back_held : BackConn → Option ControlBlock
+back_held (Here b) = Some b
+back_held Out = None
+back_held Ended = None
+back_held Gone = None
 
 abbrev pub is_out : BackConn → Bool
 is_out Out = true

@@ -1,7 +1,7 @@
 //! A connection's row: the stage of its stay, and the epoch of it.
 
 ghost use Rattle.std.specs.Prelude.{◌≡◌, is_some};
-ghost use Rattle.lard_handoff_back.specs.Row.{held_in, is_gone, is_ended};
+ghost use Rattle.lard_handoff_back.specs.Row.{back_held, is_gone, is_ended};
 
 use lard_base::Epoch;
 use lard_endpoint::Endpoint;
@@ -28,7 +28,7 @@ pub struct BackRow {
 impl BackConn {
     /// The endpoint that is here; `None` for a stage without an endpoint, which is gone.
     pub fn into_endpoint(self) -> Option<Endpoint>
-        ensures { result ≡ held_in self }
+        ensures { result ≡ back_held self }
     {
         match self {
             BackConn::Here(endpoint) => return Some(endpoint),
@@ -40,7 +40,7 @@ impl BackConn {
 
     /// Whether an endpoint is here.
     pub fn has_endpoint(&self) -> bool
-        ensures { result ≡ is_some (held_in self.now) }
+        ensures { result ≡ is_some (back_held self.now) }
     {
         match self {
             BackConn::Here(_) => true,

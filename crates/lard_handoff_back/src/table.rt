@@ -6,7 +6,7 @@ ghost use Rattle.lard_base.specs.Parts.{IsValidParts};
 ghost use Rattle.lard_base.specs.declared.place.Reason.TheVariants.{Limit};
 ghost use Rattle.lard_endpoint.specs.Moving.{final_of};
 ghost use Rattle.lard_handoff_back.specs.declared.row.BackConn.TheVariants as stage;
-ghost use Rattle.lard_handoff_back.specs.Back.{acknowledged, after_offer, awaits_ack, endpoint_of, ends, epoch_of, given, may_put, offer_answer, staying, taken, with_stage};
+ghost use Rattle.lard_handoff_back.specs.Back.{back_acknowledged, after_offer, awaits_ack, back_endpoint, back_ends, epoch_of, given, back_may_put, offer_answer, staying, back_taken, back_with_stage};
 
 use crate::row::{BackConn, BackRow};
 use lard_base::{ConnId, EndpointParts, Epoch, NoMemory};
@@ -89,8 +89,8 @@ impl BackTable {
     /// nothing.
     pub fn take(&mut self, c: ConnId, epoch: Epoch) -> Option<Endpoint>
         ensures found { result ≡ staying epoch.0 (map.get self.old c) }
-        ensures after { self.new ≡ taken self.old c (map.get self.old c) (staying epoch.0 (map.get self.old c)) }
-        ensures out { OnSome result (may_put (map.get self.new c) ≡ true) }
+        ensures after { self.new ≡ back_taken self.old c (map.get self.old c) (staying epoch.0 (map.get self.old c)) }
+        ensures out { OnSome result (back_may_put (map.get self.new c) ≡ true) }
     {
         let number = c.number();
         if !stays(&self.conns, number, epoch) {
@@ -101,16 +101,16 @@ impl BackTable {
 
     /// Brings back the endpoint of a connection that is out.
     pub fn put(&mut self, c: ConnId, endpoint: Endpoint)
-        requires { may_put (map.get self.old c) ≡ true }
-        ensures { self.new ≡ with_stage self.old c (stage.Here endpoint) (map.get self.old c) }
+        requires { back_may_put (map.get self.old c) ≡ true }
+        ensures { self.new ≡ back_with_stage self.old c (stage.Here endpoint) (map.get self.old c) }
     {
         set_stage(&mut self.conns, c.number(), BackConn::Here(endpoint)).spend();
     }
 
     /// Ends a connection that is out, whose endpoint has ended. EndedAck is awaited then.
     pub fn close(&mut self, c: ConnId)
-        requires { may_put (map.get self.old c) ≡ true }
-        ensures { self.new ≡ with_stage self.old c stage.Ended (map.get self.old c) }
+        requires { back_may_put (map.get self.old c) ≡ true }
+        ensures { self.new ≡ back_with_stage self.old c stage.Ended (map.get self.old c) }
     {
         set_stage(&mut self.conns, c.number(), BackConn::Ended).spend();
     }
@@ -140,8 +140,8 @@ impl BackTable {
     /// Ends the endpoint of a connection, which is here, since it passed the stream limit. EndedAck is awaited then.
     pub fn kill(&mut self, c: ConnId) -> Final
         requires { is_some (epoch_of (map.get self.old c)) ≡ true }
-        ensures last { option_map (λ b. final_of b Limit) (endpoint_of (map.get self.old c)) ≡ Some result }
-        ensures after { self.new ≡ with_stage self.old c stage.Ended (map.get self.old c) }
+        ensures last { option_map (λ b. final_of b Limit) (back_endpoint (map.get self.old c)) ≡ Some result }
+        ensures after { self.new ≡ back_with_stage self.old c stage.Ended (map.get self.old c) }
     {
         let Some(endpoint) = set_stage(&mut self.conns, c.number(), BackConn::Ended).into_endpoint()
         else {
@@ -153,8 +153,8 @@ impl BackTable {
     /// Ends the endpoint of a connection, where it is here and may end, and answers its last numbers. EndedAck is
     /// awaited then. `None` where it is not here or may not end, which changes nothing.
     pub fn give(&mut self, c: ConnId) -> Option<Final>
-        ensures last { result ≡ ends (endpoint_of (map.get self.old c)) }
-        ensures after { self.new ≡ given self.old c (map.get self.old c) (ends (endpoint_of (map.get self.old c))) }
+        ensures last { result ≡ back_ends (back_endpoint (map.get self.old c)) }
+        ensures after { self.new ≡ given self.old c (map.get self.old c) (back_ends (back_endpoint (map.get self.old c))) }
     {
         let number = c.number();
         if !has_endpoint(&self.conns, number) {
@@ -176,7 +176,7 @@ impl BackTable {
     /// An EndedAck came: true exactly where it is awaited in this epoch, and then no longer.
     pub fn on_ended_ack(&mut self, c: ConnId, epoch: Epoch) -> bool
         ensures value { result ≡ awaits_ack epoch.0 (map.get self.old c) }
-        ensures after { self.new ≡ acknowledged self.old c epoch.0 (map.get self.old c) }
+        ensures after { self.new ≡ back_acknowledged self.old c epoch.0 (map.get self.old c) }
     {
         let number = c.number();
         if !awaits_ack(&self.conns, number, epoch) {
@@ -229,7 +229,7 @@ fn stays(conns: &Table<BackRow>, c: u32, epoch: Epoch) -> bool
 
 /// Whether the endpoint of a connection is here.
 fn has_endpoint(conns: &Table<BackRow>, c: u32) -> bool
-    ensures { result ≡ is_some (endpoint_of (map.get conns.now c)) }
+    ensures { result ≡ is_some (back_endpoint (map.get conns.now c)) }
 {
     match conns.get(c) {
         Some(row) => row.stage.has_endpoint(),
@@ -278,7 +278,7 @@ fn spend_row(row: Option<BackRow>) {
 fn set_stage(conns: &mut Table<BackRow>, c: u32, stage: BackConn) -> BackConn
     requires { IsSome (map.get conns.old c) }
     ensures before { option_map (λ row. row.stage) (map.get conns.old c) ≡ Some result }
-    ensures after { conns.new ≡ with_stage conns.old c stage (map.get conns.old c) }
+    ensures after { conns.new ≡ back_with_stage conns.old c stage (map.get conns.old c) }
     ensures there { option_map (λ row. row.stage) (map.get conns.new c) ≡ Some stage }
 {
     let Some(row) = conns.get(c) else {

@@ -10,7 +10,7 @@ use Rattle.lard_handoff_front.specs.declared.row.FrontConn.{FrontConn}
 use Rattle.lard_handoff_front.specs.declared.row.FrontConn.TheVariants.{Held, Waiting, Lent, Offering, Moved, Closed}
 use Rattle.lard_handoff_front.specs.declared.row.FrontRow.{FrontRow}
 use Rattle.lard_handoff_front.specs.Row.{held_in, is_away, is_waiting}
-use Rattle.lard_handoff_front.specs.Front.{Fronts, AreRows, after_ended, end_answer, ended_row, IsSmall, MayBeOffered, in_stage, leaving_of, next_epoch, offered, with_stage}
+use Rattle.lard_handoff_front.specs.Front.{Fronts, AreRows, front_after_ended, end_answer, ended_row, IsSmall, MayBeOffered, in_stage, leaving_of, next_epoch, offered, with_stage}
 use Rattle.std.proofs.lemmas.Bool.{cond-true}
 use Rattle.lard_handoff_front.specs.Laws.{EndsOnce, OffersOnce}
 use Rattle.lard_handoff_front.proofs.Rows.{row_put}
@@ -85,14 +85,14 @@ put_back m n c waiting epoch before b e h s t = go (get m c) refl e h s where
 -- ---- an end is new once, and an epoch is offered once
 
 end_is : (m : Fronts) (c : ℕ) (epoch : Epoch) (last : Final) (row : FrontRow) → get m c ≡ Some row → is_away epoch.0 row.stage ≡ true
-    → get (after_ended m c epoch last (get m c)) c ≡ Some (ended_row epoch last row)
+    → get (front_after_ended m c epoch last (get m c)) c ≡ Some (ended_row epoch last row)
 end_is m c epoch last row h away =
-    ap (λ (x : Fronts). get x c) (ap (after_ended m c epoch last) h ∙ cond-true (is_away epoch.0 row.stage) _ _ away) ∙ get_inserted m c (ended_row epoch last row)
+    ap (λ (x : Fronts). get x c) (ap (front_after_ended m c epoch last) h ∙ cond-true (is_away epoch.0 row.stage) _ _ away) ∙ get_inserted m c (ended_row epoch last row)
 
 pub once : EndsOnce
 once m c epoch last other row h away =
     let there = end_is m c epoch last row h away in
-    (ap (end_answer epoch.0) there ∙ cond-true (epoch.0 == epoch.0) _ _ (eq-eqb epoch.0 epoch.0 refl), ap (after_ended (after_ended m c epoch last (get m c)) c epoch other) there)
+    (ap (end_answer epoch.0) there ∙ cond-true (epoch.0 == epoch.0) _ _ (eq-eqb epoch.0 epoch.0 refl), ap (front_after_ended (front_after_ended m c epoch last (get m c)) c epoch other) there)
 
 pub rises : OffersOnce
 rises m c row h =

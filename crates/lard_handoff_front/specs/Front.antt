@@ -23,8 +23,8 @@ pub record AreRows (m : Fronts) : Type 0 where
   pub each : (c : ℕ) (row : FrontRow) → get m c ≡ Some row → IsRow row
 
 -- a connection that begins here: its first owner is the front end, in epoch 1
-abbrev pub begun : ControlBlock → FrontRow
-begun b = record { stage = Held b; epoch = record { 0 = 1 }; ended_by = None }
+abbrev pub row_begun : ControlBlock → FrontRow
+row_begun b = record { stage = Held b; epoch = record { 0 = 1 }; ended_by = None }
 
 -- the same connection in another stage
 abbrev pub with_stage : Fronts → ℕ → FrontConn → Option FrontRow → Fronts
@@ -39,8 +39,8 @@ abbrev pub may_put : Option FrontRow → Bool
 may_put None = false
 may_put (Some row) = is_lent row.stage
 
-abbrev pub taken : Fronts → ℕ → Option FrontRow → Fronts
-taken m c o = if is_some (endpoint_of o) then with_stage m c Lent o else m
+abbrev pub row_taken : Fronts → ℕ → Option FrontRow → Fronts
+row_taken m c o = if is_some (endpoint_of o) then with_stage m c Lent o else m
 
 abbrev pub in_stage : Bool → ControlBlock → FrontConn
 in_stage waiting b = if waiting then Waiting b else Held b
@@ -68,12 +68,12 @@ IsSmall None = ⊥
 IsSmall (Some row) = row.epoch.0 < 65000
 
 -- the Offer of an endpoint, in the next epoch
-abbrev pub offer_in : ℕ → Epoch → ControlBlock → ℕ → Message
-offer_in c epoch b served = record { c = c; epoch = epoch; body = body.Offer (parts_of b served) }
+abbrev pub offer_message : ℕ → Epoch → ControlBlock → ℕ → Message
+offer_message c epoch b served = record { c = c; epoch = epoch; body = body.Offer (parts_of b served) }
 
 abbrev pub offer_of : ℕ → Option FrontRow → ℕ → Option Message
 offer_of c None served = None
-offer_of c (Some row) served = option_map (λ b. offer_in c (next_epoch row) b served) (held_in row.stage)
+offer_of c (Some row) served = option_map (λ b. offer_message c (next_epoch row) b served) (held_in row.stage)
 
 abbrev pub offered : Fronts → ℕ → ℕ → Option FrontRow → Fronts
 offered m c node None = m
@@ -85,9 +85,9 @@ abbrev pub asked_node : ℕ → Option FrontRow → Option ℕ
 asked_node e None = None
 asked_node e (Some row) = offered_to e row.stage
 
-abbrev pub moved : Fronts → ℕ → Epoch → Option FrontRow → Option ℕ → Fronts
-moved m c epoch o None = m
-moved m c epoch o (Some node) = with_stage m c (Moved node epoch) o
+abbrev pub row_moved : Fronts → ℕ → Epoch → Option FrontRow → Option ℕ → Fronts
+row_moved m c epoch o None = m
+row_moved m c epoch o (Some node) = with_stage m c (Moved node epoch) o
 
 -- whether the connection ended by a call with this epoch
 abbrev pub ended_with : ℕ → Option Epoch → Bool
@@ -102,6 +102,6 @@ end_answer e (Some row) = if is_away e row.stage then New (next_epoch row) else 
 abbrev pub ended_row : Epoch → Final → FrontRow → FrontRow
 ended_row epoch last row = record { stage = Closed last; epoch = next_epoch row; ended_by = Some epoch }
 
-abbrev pub after_ended : Fronts → ℕ → Epoch → Final → Option FrontRow → Fronts
-after_ended m c epoch last None = m
-after_ended m c epoch last (Some row) = if is_away epoch.0 row.stage then insert m c (ended_row epoch last row) else m
+abbrev pub front_after_ended : Fronts → ℕ → Epoch → Final → Option FrontRow → Fronts
+front_after_ended m c epoch last None = m
+front_after_ended m c epoch last (Some row) = if is_away epoch.0 row.stage then insert m c (ended_row epoch last row) else m

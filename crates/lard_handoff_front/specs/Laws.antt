@@ -7,17 +7,17 @@ use Rattle.lard_handoff_front.specs.declared.row.FrontConn.{FrontConn}
 use Rattle.lard_handoff_front.specs.declared.row.FrontRow.{FrontRow}
 use Rattle.lard_handoff_front.specs.declared.table.OnEnded.TheVariants.{Again}
 use Rattle.lard_handoff_front.specs.Row.{is_away}
-use Rattle.lard_handoff_front.specs.Front.{Fronts, after_ended, end_answer, next_epoch, offered, with_stage}
+use Rattle.lard_handoff_front.specs.Front.{Fronts, front_after_ended, end_answer, next_epoch, offered, with_stage}
 
 -- An end is new once: behind it the same epoch is answered by Again, and changes nothing.
 abbrev pub EndsOnce : Type 0
 EndsOnce = (m : Fronts) (c : ℕ) (epoch : Epoch) (last other : Final) (row : FrontRow) → get m c ≡ Some row → is_away epoch.0 row.stage ≡ true
-    → (end_answer epoch.0 (get (after_ended m c epoch last (get m c)) c) ≡ Again)
-    × (after_ended (after_ended m c epoch last (get m c)) c epoch other (get (after_ended m c epoch last (get m c)) c) ≡ after_ended m c epoch last (get m c))
+    → (end_answer epoch.0 (get (front_after_ended m c epoch last (get m c)) c) ≡ Again)
+    × (front_after_ended (front_after_ended m c epoch last (get m c)) c epoch other (get (front_after_ended m c epoch last (get m c)) c) ≡ front_after_ended m c epoch last (get m c))
 
 -- An epoch is offered once: an Offer takes the next one, as an end does, and what sets a stage alone leaves it, so it never falls.
 abbrev pub OffersOnce : Type 0
 OffersOnce = (m : Fronts) (c : ℕ) (row : FrontRow) → get m c ≡ Some row
     → ((node : ℕ) → option_map (λ r. r.epoch) (get (offered m c node (get m c)) c) ≡ Some (next_epoch row))
-    × ((epoch : Epoch) (last : Final) → is_away epoch.0 row.stage ≡ true → option_map (λ r. r.epoch) (get (after_ended m c epoch last (get m c)) c) ≡ Some (next_epoch row))
+    × ((epoch : Epoch) (last : Final) → is_away epoch.0 row.stage ≡ true → option_map (λ r. r.epoch) (get (front_after_ended m c epoch last (get m c)) c) ≡ Some (next_epoch row))
     × ((stage : FrontConn) → option_map (λ r. r.epoch) (get (with_stage m c stage (get m c)) c) ≡ Some row.epoch)

@@ -8,7 +8,7 @@ ghost use Rattle.lard_message.specs.Message.{spelled_message};
 ghost use Rattle.lard_segment.specs.Segment.{said};
 ghost use Rattle.lard_handoff_front.specs.declared.row.FrontConn.TheVariants as stage;
 ghost use Rattle.lard_handoff_front.specs.Row.{held_in, IsRow};
-ghost use Rattle.lard_handoff_front.specs.Front.{MayBeOffered, MayLeave, after_ended, asked_node, begun, end_answer, endpoint_of, ended_row, ended_with, IsSmall, leaving_of, offer_in, in_stage, may_put, moved, next_epoch, offer_of, offered, taken, with_stage};
+ghost use Rattle.lard_handoff_front.specs.Front.{MayBeOffered, MayLeave, front_after_ended, asked_node, row_begun, end_answer, endpoint_of, ended_row, ended_with, IsSmall, leaving_of, offer_message, in_stage, may_put, row_moved, next_epoch, offer_of, offered, row_taken, with_stage};
 
 use crate::row::{FrontConn, FrontRow};
 use lard_base::{Bytes, ConnId, Epoch, NoMemory, NodeId};
@@ -110,7 +110,7 @@ impl FrontTable {
         requires no_ack { syn.now.flags.ack ≡ false }
         requires no_rst { syn.now.flags.rst ≡ false }
         requires no_fin { syn.now.flags.fin ≡ false }
-        ensures ok { OnOk result (self.new ≡ map.insert self.old c (begun (listening (said syn.now) iss.0))) }
+        ensures ok { OnOk result (self.new ≡ map.insert self.old c (row_begun (listening (said syn.now) iss.0))) }
         ensures err { OnErr result (self.new ≡ self.old) }
     {
         let endpoint = Endpoint::listen(alloc, syn, iss)?;
@@ -127,7 +127,7 @@ impl FrontTable {
     #[tactic(auto, using(crate::proofs::Rows::stage_put))]
     pub fn take(&mut self, c: ConnId) -> Option<Endpoint>
         ensures found { result ≡ endpoint_of (map.get self.old c) }
-        ensures after { self.new ≡ taken self.old c (map.get self.old c) }
+        ensures after { self.new ≡ row_taken self.old c (map.get self.old c) }
         ensures lent { OnSome result (may_put (map.get self.new c) ≡ true) }
     {
         let number = c.number();
@@ -225,7 +225,7 @@ impl FrontTable {
     /// A Taken came: true exactly where the Offer of this epoch has no answer yet. The connection is moved then.
     pub fn on_taken(&mut self, c: ConnId, epoch: Epoch) -> bool
         ensures value { result ≡ is_some (asked_node epoch.0 (map.get self.old c)) }
-        ensures after { self.new ≡ moved self.old c epoch (map.get self.old c) (asked_node epoch.0 (map.get self.old c)) }
+        ensures after { self.new ≡ row_moved self.old c epoch (map.get self.old c) (asked_node epoch.0 (map.get self.old c)) }
     {
         let number = c.number();
         let Some(node) = asked_node(&self.conns, number, epoch) else {
@@ -239,7 +239,7 @@ impl FrontTable {
     /// numbers, and the front end's in the next epoch. Again and Stale change nothing.
     pub fn on_ended(&mut self, c: ConnId, epoch: Epoch, last: Final) -> OnEnded
         ensures answer { result ≡ end_answer epoch.0 (map.get self.old c) }
-        ensures after { self.new ≡ after_ended self.old c epoch last (map.get self.old c) }
+        ensures after { self.new ≡ front_after_ended self.old c epoch last (map.get self.old c) }
     {
         let number = c.number();
         let Some(row) = self.conns.get(number) else {
@@ -309,7 +309,7 @@ fn write_offer(
     served: u32,
 ) -> Result<Bytes, NoMemory>
     requires { served ≤ frozen.now.recv.got - length frozen.now.recv.unread }
-    ensures bytes { IfOk result (λ bytes. bytes ≡ spelled_message (offer_in c epoch frozen.now served)) }
+    ensures bytes { IfOk result (λ bytes. bytes ≡ spelled_message (offer_message c epoch frozen.now served)) }
     ensures size { IfOk result (λ bytes. length bytes ≤ MAX_MESSAGE_BYTES) }
 {
     let parts = frozen.parts(alloc, served)?;

@@ -4,7 +4,7 @@ use Rattle.std.specs.Prelude.{◌⊎◌}
 use Rattle.lard_base.specs.declared.event.Event.{Event}
 use Rattle.lard_base.specs.declared.event.Event.TheVariants as event
 use Rattle.lard_base.specs.declared.place.Place.{Place}
-use Rattle.lard_history.specs.Journal.{acting, acting_at, acting_in, event_step, goal_of, goal_step, last_event}
+use Rattle.lard_history.specs.Journal.{acting, acting_at, acting_in, last_event_step, goal_of, goal_step, last_event}
 use Rattle.lard_history.specs.Laws.{EachMay, MayAct, first_place}
 use Rattle.lard_history.specs.Steps.{is_opening}
 use Rattle.lard_history.proofs.Counts.{goal_of-append, last_event-append}
@@ -54,7 +54,7 @@ comes-acting J k p to = record {
 
 event-same : (past : List Rec) (r : Rec) → is_opening r ≡ false → last_event (past ++ r ∷ []) ≡ last_event past
 event-same past r n = last_event-append past (r ∷ []) ∙ go r n where
-  go : (r : Rec) → is_opening r ≡ false → event_step (last_event past) r ≡ last_event past
+  go : (r : Rec) → is_opening r ≡ false → last_event_step (last_event past) r ≡ last_event past
   go (rec.Event i e) n = let no : true ≡ false = n in absurd cc
   go (rec.Inner e) n = let no : true ≡ false = n in absurd cc
   go _ n = refl

@@ -2,7 +2,7 @@
 use Rattle.std.proofs.Common.{◌≡◌, ℕ, List, ◌++◌, None, false}
 use Rattle.std.proofs.lemmas.List.Sums.{fold-append}
 use Rattle.std.specs.List.{fold}
-use Rattle.lard_history.specs.Journal.{answered_bytes, answered_step, bytes_step, event_step, goal_of, goal_step, is_lost, last_event, lost_step, packet_bytes, sent_count, sent_step}
+use Rattle.lard_history.specs.Journal.{answered_bytes, answered_step, bytes_step, last_event_step, goal_of, goal_step, is_lost, last_event, lost_step, packet_bytes, sent_count, sent_step}
 use Rattle.lard_journal.specs.declared.rec.Rec.{Rec}
 
 module _ (J rs : List Rec) where
@@ -21,5 +21,5 @@ module _ (J rs : List Rec) where
   pub is_lost-append : (k : ℕ) → is_lost (J ++ rs) k ≡ fold (lost_step k) (is_lost J k) rs
   is_lost-append k = fold-append (lost_step k) false J rs
 
-  pub last_event-append : last_event (J ++ rs) ≡ fold event_step (last_event J) rs
-  last_event-append = fold-append event_step None J rs
+  pub last_event-append : last_event (J ++ rs) ≡ fold last_event_step (last_event J) rs
+  last_event-append = fold-append last_event_step None J rs

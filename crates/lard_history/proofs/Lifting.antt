@@ -8,7 +8,7 @@ use Rattle.lard_base.specs.declared.place.Place.{Place}
 use Rattle.lard_base.specs.declared.place.Place.TheVariants.{Front, Node, Client}
 use Rattle.lard_history.specs.Journal.{Tale, about, event_shuts, goes_to, is_cluster, tale, tale_step, untold}
 use Rattle.lard_history.specs.Laws.{EachMay}
-use Rattle.lard_history.specs.Own.{EachRow, Seen, Row, Came, came, conn_of, event_conn, net_of, net_step, one_of, own, plain, seen_of, seen_on, seen_step, tale_of, whose}
+use Rattle.lard_history.specs.Own.{EachRow, Seen, Row, Came, came_seen, conn_of, event_conn, net_of, net_step, one_of, own, plain, seen_of, seen_on, seen_step, tale_of, whose}
 use Rattle.lard_history.proofs.Seeing.{by_number, other_number, own-append, seen-mine, seen-other}
 use Rattle.lard_history.proofs.Tales.{other}
 use Rattle.lard_journal.specs.declared.rec.Rec.{Rec}
@@ -27,7 +27,7 @@ seen-nobody step a q net (rec.Got k) e = go (packet_at net k) where
     by_bool true = h
     by_bool false = refl
 
-  go : (o : Option Packet) → fold (seen_step step) a (came q o) ≡ a
+  go : (o : Option Packet) → fold (seen_step step) a (came_seen q o) ≡ a
   go None = refl
   go (Some p) = one (conn_of p.from p.to p.bytes) (Came _) refl
 seen-nobody step a q net r e = ap (λ o. fold (seen_step step) a (one_of q o (Row (plain r)))) e

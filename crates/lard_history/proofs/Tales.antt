@@ -5,7 +5,7 @@ use Rattle.std.proofs.lemmas.List.Sums.{fold-append}
 use Rattle.std.specs.List.{fold}
 use Rattle.lard_base.specs.declared.place.Place.{Place}
 use Rattle.lard_base.specs.declared.place.Place.TheVariants.{Front, Node, Client}
-use Rattle.lard_history.specs.Journal.{Tale, about, accepted, accepted_step, assigned, assigned_step, closed_step, epoch_step, event_shuts, fin_sent, fin_step, fin_to, goes_to, has_closed, home, home_step, is_cluster, is_in, is_touched, last_epoch, numbers_of, numbers_step, owner, owner_step, reset_step, said_fin, served, served_bytes, served_bytes_step, served_step, tale, tale_step, told_on, touched_step, untold, waits, was_reset, wrote, wrote_step}
+use Rattle.lard_history.specs.Journal.{Tale, about, accepted, accepted_step, assigned, assigned_step, closed_step, epoch_step, event_shuts, fin_sent, fin_step, fin_to, goes_to, has_closed, home_told, home_step, is_cluster, is_in, is_touched, last_epoch, numbers_of, numbers_step, owner, owner_step, reset_step, said_fin, served, served_bytes, served_bytes_step, served_step, tale, tale_step, told_on, touched_step, untold, waits, was_reset, wrote, wrote_step}
 use Rattle.lard_history.proofs.Each.{Each}
 use Rattle.lard_journal.specs.declared.rec.Rec.{Rec}
 use Rattle.lard_journal.specs.declared.rec.Rec.TheVariants as rec
@@ -66,7 +66,7 @@ module _ (J : List Rec) (c : ℕ) where
   unfolding tale
   closed-tale = field_of (λ t. t.has_closed) (closed_step c) c (λ t r. refl) untold J
 
-  pub home-tale : home J c ≡ (tale J c).home
+  pub home-tale : home_told J c ≡ (tale J c).home
   unfolding tale
   home-tale = field_of (λ t. t.home) (home_step c) c (λ t r. refl) untold J
 

@@ -55,14 +55,14 @@ packet_bytes J = fold bytes_step 0 J
 
 -- ---- steps
 
-abbrev pub event_step : Option Event → Rec → Option Event
-event_step last (rec.Event i e) = Some e
-event_step last (rec.Inner e) = Some e
-event_step last _ = last
+abbrev pub last_event_step : Option Event → Rec → Option Event
+last_event_step last (rec.Event i e) = Some e
+last_event_step last (rec.Inner e) = Some e
+last_event_step last _ = last
 
 -- the event of the last step
 abbrev pub last_event : List Rec → Option Event
-last_event J = fold event_step None J
+last_event J = fold last_event_step None J
 
 -- the place that acts in a step of this event: that to which the packet was sent, or that which the event names, or the node whose
 -- disk is done with a job
@@ -273,8 +273,8 @@ home_step c home (rec.Released d) = if nat_eq d c then None else home
 home_step c home _ = home
 
 -- the node to which the first request of connection c was assigned, until its admission ended
-abbrev pub home : List Rec → ℕ → Option ℕ
-home J c = fold (home_step c) None J
+abbrev pub home_told : List Rec → ℕ → Option ℕ
+home_told J c = fold (home_step c) None J
 
 abbrev pub assigned_step : ℕ → List (List ℕ × ℕ) → Rec → List (List ℕ × ℕ)
 assigned_step c chosen (rec.AssignedFirst d r path n add remove) = if nat_eq d c then chosen ++ (path, n) ∷ [] else chosen

@@ -111,13 +111,13 @@ abbrev pub one_of : {B : Type 0} → ℕ → Option ℕ → B → List B
 one_of q None b = []
 one_of q (Some c) b = if nat_eq c q then b ∷ [] else []
 
-abbrev pub came : ℕ → Option Packet → List Seen
-came q None = []
-came q (Some p) = one_of q (conn_of p.from p.to p.bytes) (Came (letter_of p))
+abbrev pub came_seen : ℕ → Option Packet → List Seen
+came_seen q None = []
+came_seen q (Some p) = one_of q (conn_of p.from p.to p.bytes) (Came (letter_of p))
 
 -- what connection q sees of a record, where these packets were sent before
 abbrev pub seen_of : ℕ → List Packet → Rec → List Seen
-seen_of q net (rec.Got k) = came q (packet_at net k)
+seen_of q net (rec.Got k) = came_seen q (packet_at net k)
 seen_of q net r = one_of q (whose r) (Row (plain r))
 
 -- of records

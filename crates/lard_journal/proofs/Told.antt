@@ -21,7 +21,7 @@ use Rattle.lard_base.specs.declared.place.Via.TheVariants as via
 use Rattle.lard_base.specs.Spelling.{place_word, event_words}
 use Rattle.lard_journal.specs.declared.rec.Rec.{Rec}
 use Rattle.lard_journal.specs.declared.rec.Rec.TheVariants as rec
-use Rattle.lard_journal.specs.Range.{IsNumber, IsUnspaced, IsPlaceInRange, IsChoiceInRange, IsViaInRange, IsEventInRange, IsInRange}
+use Rattle.lard_journal.specs.Range.{IsNumber, IsUnspaced, IsPlaceInRange, IsChoiceInRange, IsViaInRange, IsEventInRange, IsRecordInRange}
 use Rattle.lard_journal.specs.Report.{node_word, choice_word, via_word, kind_word, rec_words, rec_line}
 use Rattle.lard_journal.proofs.Cut.{is_plain, is_plain_byte, all_plain, is_sentence, cut, cut-line_of, plain-decimal, plain-encode_lower}
 
@@ -232,7 +232,7 @@ plain-event (event.Settle rounds) h = rw (plain-decimal rounds) refl
 plain-event (event.Inject c bytes) h = rw (plain-decimal c, plain-encode_lower bytes h.1) refl
 
 -- a record has words, and they are plain
-plain-rec : (r : Rec) → IsInRange r → is_sentence (rec_words r) ≡ true
+plain-rec : (r : Rec) → IsRecordInRange r → is_sentence (rec_words r) ≡ true
 plain-rec (rec.Event i event) h = rw (plain-decimal i, plain-event event h.1) refl
 plain-rec (rec.Inner event) h = rw (plain-event event h) refl
 plain-rec (rec.Opened c isn iss wnd mss) h = rw (plain-decimal c, plain-decimal isn, plain-decimal iss, plain-decimal wnd, plain-decimal mss) refl
@@ -264,7 +264,7 @@ plain-rec (rec.Settled rounds) h = rw (plain-decimal rounds) refl
 plain-rec (rec.Unsettled rounds left) h = rw (plain-decimal rounds, plain-decimal left) refl
 
 -- what the words of a record are read back as
-rec_back : (r : Rec) → IsInRange r → rec_of (rec_words r) ≡ r
+rec_back : (r : Rec) → IsRecordInRange r → rec_of (rec_words r) ≡ r
 rec_back (rec.Event i event) h = rw (number_back i h.0, event_back event h.1) refl
 rec_back (rec.Inner event) h = rw (event_back event h) refl
 rec_back (rec.Opened c isn iss wnd mss) h = rw (number_back c h.0, number_back isn h.1, number_back iss h.2, number_back wnd h.3, number_back mss h.4) refl
@@ -296,17 +296,17 @@ rec_back (rec.Settled rounds) h = rw (number_back rounds h) refl
 rec_back (rec.Unsettled rounds left) h = rw (number_back rounds h.0, number_back left h.1) refl
 
 -- the words of a record's line
-pub cut-rec_line : (r : Rec) (rest : List ℕ) → IsInRange r → cut (rec_line r ++ rest) ≡ rec_words r
+pub cut-rec_line : (r : Rec) (rest : List ℕ) → IsRecordInRange r → cut (rec_line r ++ rest) ≡ rec_words r
 cut-rec_line r rest h = cut-line_of (rec_words r) rest (plain-rec r h)
 
 -- two texts that begin with lines of records begin with the same record
-pub first_rec : (r s : Rec) (behind also_behind : List ℕ) → IsInRange r → IsInRange s → rec_line r ++ behind ≡ rec_line s ++ also_behind → r ≡ s
+pub first_rec : (r s : Rec) (behind also_behind : List ℕ) → IsRecordInRange r → IsRecordInRange s → rec_line r ++ behind ≡ rec_line s ++ also_behind → r ≡ s
 first_rec r s behind also_behind in_range also_in_range same =
     sym (rec_back r in_range)
     ∙ ap rec_of (sym (cut-rec_line r behind in_range) ∙ ap cut same ∙ cut-rec_line s also_behind also_in_range)
     ∙ rec_back s also_in_range
 
 -- different records have different lines
-pub rec_line-injective : (r s : Rec) → IsInRange r → IsInRange s → rec_line r ≡ rec_line s → r ≡ s
+pub rec_line-injective : (r s : Rec) → IsRecordInRange r → IsRecordInRange s → rec_line r ≡ rec_line s → r ≡ s
 rec_line-injective r s in_range also_in_range same =
     first_rec r s [] [] in_range also_in_range (ap (λ line. line ++ []) same)

@@ -7,7 +7,7 @@ use Rattle.std.proofs.lemmas.List.Elements.{All-head, All-tail}
 use Rattle.lard_base.specs.declared.config.Config.{Config}
 use Rattle.lard_journal.specs.declared.rec.Rec.{Rec}
 use Rattle.lard_journal.specs.declared.rec.Rec.TheVariants as rec
-use Rattle.lard_journal.specs.Range.{IsInRange, IsFileInRange, IsConfigInRange, IsReportInRange}
+use Rattle.lard_journal.specs.Range.{IsRecordInRange, IsFileInRange, IsConfigInRange, IsReportInRange}
 use Rattle.lard_journal.specs.Report.{rec_words, rec_line, heading_words, heading_line, file_words, file_text, report}
 use Rattle.lard_journal.proofs.Cut.{cut, cut-line_of, plain-decimal}
 use Rattle.lard_journal.proofs.Told.{word_at, number_of, number_back, plain-path, cut-rec_line, first_rec}
@@ -49,20 +49,20 @@ rec_kind (rec.Settled rounds) = refl
 rec_kind (rec.Unsettled rounds left) = refl
 
 -- where no text is left, no line of a record is
-no_rec : (r : Rec) (rest : List ℕ) → IsInRange r → [] ≡ rec_line r ++ rest → ⊥
+no_rec : (r : Rec) (rest : List ℕ) → IsRecordInRange r → [] ≡ rec_line r ++ rest → ⊥
 no_rec r rest h e =
     let clash : ◌≡◌ {A = ℕ} 0 2 = ap kind_of_line (ap cut e ∙ cut-rec_line r rest h) ∙ rec_kind r in
     absurd (omega arith)
 
 -- the same lines are of the same records
-recs_same : (recs others : List Rec) → All IsInRange recs → All IsInRange others → flat_map rec_line recs ≡ flat_map rec_line others → recs ≡ others
+recs_same : (recs others : List Rec) → All IsRecordInRange recs → All IsRecordInRange others → flat_map rec_line recs ≡ flat_map rec_line others → recs ≡ others
 recs_same [] [] h k e = refl
-recs_same [] (s ∷ others) h k e = absurd (no_rec s (flat_map rec_line others) (All-head IsInRange s others k) e)
-recs_same (r ∷ recs) [] h k e = absurd (no_rec r (flat_map rec_line recs) (All-head IsInRange r recs h) (sym e))
+recs_same [] (s ∷ others) h k e = absurd (no_rec s (flat_map rec_line others) (All-head IsRecordInRange s others k) e)
+recs_same (r ∷ recs) [] h k e = absurd (no_rec r (flat_map rec_line recs) (All-head IsRecordInRange r recs h) (sym e))
 recs_same (r ∷ recs) (s ∷ others) h k e =
-    let first : r ≡ s = first_rec r s (flat_map rec_line recs) (flat_map rec_line others) (All-head IsInRange r recs h) (All-head IsInRange s others k) e in
+    let first : r ≡ s = first_rec r s (flat_map rec_line recs) (flat_map rec_line others) (All-head IsRecordInRange r recs h) (All-head IsRecordInRange s others k) e in
     let rest : flat_map rec_line recs ≡ flat_map rec_line others = append_cancel_left (rec_line s) (flat_map rec_line recs) (flat_map rec_line others) (ap (λ t. rec_line t ++ flat_map rec_line recs) (sym first) ∙ e) in
-    ap (λ t. t ∷ recs) first ∙ ap (λ t. s ∷ t) (recs_same recs others (All-tail IsInRange r recs h) (All-tail IsInRange s others k) rest)
+    ap (λ t. t ∷ recs) first ∙ ap (λ t. s ∷ t) (recs_same recs others (All-tail IsRecordInRange r recs h) (All-tail IsRecordInRange s others k) rest)
 
 -- the words of a file's line
 cut-file_text : (file : List ℕ × ℕ) (rest : List ℕ) → IsFileInRange file → cut (file_text file ++ rest) ≡ file_words file
@@ -77,16 +77,16 @@ file_back : (file : List ℕ × ℕ) → IsFileInRange file → file_of (file_wo
 file_back file h = rw (number_back file.1 h.1) refl
 
 -- lines of records are none of a file
-no_file : (recs : List Rec) (file : List ℕ × ℕ) (rest : List ℕ) → All IsInRange recs → IsFileInRange file → flat_map rec_line recs ≡ file_text file ++ rest → ⊥
+no_file : (recs : List Rec) (file : List ℕ × ℕ) (rest : List ℕ) → All IsRecordInRange recs → IsFileInRange file → flat_map rec_line recs ≡ file_text file ++ rest → ⊥
 no_file [] file rest h k e =
     let clash : ◌≡◌ {A = ℕ} 0 1 = ap kind_of_line (ap cut e ∙ cut-file_text file rest k) in
     absurd (omega arith)
 no_file (r ∷ recs) file rest h k e =
-    let clash : ◌≡◌ {A = ℕ} 2 1 = sym (rec_kind r) ∙ ap kind_of_line (sym (cut-rec_line r (flat_map rec_line recs) (All-head IsInRange r recs h)) ∙ ap cut e ∙ cut-file_text file rest k) in
+    let clash : ◌≡◌ {A = ℕ} 2 1 = sym (rec_kind r) ∙ ap kind_of_line (sym (cut-rec_line r (flat_map rec_line recs) (All-head IsRecordInRange r recs h)) ∙ ap cut e ∙ cut-file_text file rest k) in
     absurd (omega arith)
 
 -- the same lines behind the heading are of the same files and records
-lines_same : (files others : List (List ℕ × ℕ)) (recs more : List Rec) → All IsFileInRange files → All IsFileInRange others → All IsInRange recs → All IsInRange more → flat_map file_text files ++ flat_map rec_line recs ≡ flat_map file_text others ++ flat_map rec_line more → (files ≡ others) × (recs ≡ more)
+lines_same : (files others : List (List ℕ × ℕ)) (recs more : List Rec) → All IsFileInRange files → All IsFileInRange others → All IsRecordInRange recs → All IsRecordInRange more → flat_map file_text files ++ flat_map rec_line recs ≡ flat_map file_text others ++ flat_map rec_line more → (files ≡ others) × (recs ≡ more)
 lines_same [] [] recs more fh gh rh sh e = (refl, recs_same recs more rh sh e)
 lines_same [] (g ∷ others) recs more fh gh rh sh e =
     absurd (no_file recs g (flat_map file_text others ++ flat_map rec_line more) rh (All-head IsFileInRange g others gh) (e ∙ append_assoc (file_text g) (flat_map file_text others) (flat_map rec_line more)))

@@ -52,36 +52,36 @@ IsEventInRange (event.Settle rounds) = IsNumber rounds
 IsEventInRange (event.Inject c bytes) = IsNumber c × IsBytes bytes
 
 -- the same of a record
-abbrev pub IsInRange : Rec → Type 0
-IsInRange (rec.Event i event) = IsNumber i × IsEventInRange event
-IsInRange (rec.Inner event) = IsEventInRange event
-IsInRange (rec.Opened c isn iss wnd mss) = IsNumber c × IsNumber isn × IsNumber iss × IsNumber wnd × IsNumber mss
-IsInRange (rec.Wrote c bytes) = IsNumber c × IsBytes bytes
-IsInRange (rec.Sent k from to bytes) = IsNumber k × IsPlaceInRange from × IsPlaceInRange to × IsBytes bytes
-IsInRange (rec.Got k) = IsNumber k
-IsInRange (rec.Lost k) = IsNumber k
-IsInRange (rec.Accepted c bytes) = IsNumber c × IsBytes bytes
-IsInRange (rec.Eof c) = IsNumber c
-IsInRange (rec.Took place c epoch) = IsPlaceInRange place × IsNumber c × IsNumber epoch.0
-IsInRange (rec.Gave place c epoch) = IsPlaceInRange place × IsNumber c × IsNumber epoch.0
-IsInRange (rec.Waits c) = IsNumber c
-IsInRange (rec.Admitted c) = IsNumber c
-IsInRange (rec.Released c) = IsNumber c
-IsInRange (rec.AssignedFirst c r path n add remove) = IsNumber c × IsNumber r × IsUnspaced path × IsNumber n × IsChoiceInRange add × IsChoiceInRange remove
-IsInRange (rec.AssignedLater c r path n add size queue) = IsNumber c × IsNumber r × IsUnspaced path × IsNumber n × IsChoiceInRange add × IsNumber size × IsNumber queue
-IsInRange (rec.BatchOver c) = IsNumber c
-IsInRange (rec.Served place c r code length via) = IsPlaceInRange place × IsNumber c × IsNumber r × IsNumber code × IsNumber length × IsViaInRange via
-IsInRange (rec.Hit n path) = IsNumber n × IsUnspaced path
-IsInRange (rec.Queued n m c r path) = IsNumber n × IsNumber m × IsNumber c × IsNumber r × IsUnspaced path
-IsInRange (rec.Read n m c r path) = IsNumber n × IsNumber m × IsNumber c × IsNumber r × IsUnspaced path
-IsInRange (rec.Armed place c _) = IsPlaceInRange place × IsNumber c
-IsInRange (rec.Cleared place c _) = IsPlaceInRange place × IsNumber c
-IsInRange (rec.Reset place c count) = IsPlaceInRange place × IsNumber c × IsNumber count
-IsInRange (rec.Aborted c) = IsNumber c
-IsInRange (rec.Injected c) = IsNumber c
-IsInRange (rec.Clock time) = IsNumber time.0
-IsInRange (rec.Settled rounds) = IsNumber rounds
-IsInRange (rec.Unsettled rounds left) = IsNumber rounds × IsNumber left
+abbrev pub IsRecordInRange : Rec → Type 0
+IsRecordInRange (rec.Event i event) = IsNumber i × IsEventInRange event
+IsRecordInRange (rec.Inner event) = IsEventInRange event
+IsRecordInRange (rec.Opened c isn iss wnd mss) = IsNumber c × IsNumber isn × IsNumber iss × IsNumber wnd × IsNumber mss
+IsRecordInRange (rec.Wrote c bytes) = IsNumber c × IsBytes bytes
+IsRecordInRange (rec.Sent k from to bytes) = IsNumber k × IsPlaceInRange from × IsPlaceInRange to × IsBytes bytes
+IsRecordInRange (rec.Got k) = IsNumber k
+IsRecordInRange (rec.Lost k) = IsNumber k
+IsRecordInRange (rec.Accepted c bytes) = IsNumber c × IsBytes bytes
+IsRecordInRange (rec.Eof c) = IsNumber c
+IsRecordInRange (rec.Took place c epoch) = IsPlaceInRange place × IsNumber c × IsNumber epoch.0
+IsRecordInRange (rec.Gave place c epoch) = IsPlaceInRange place × IsNumber c × IsNumber epoch.0
+IsRecordInRange (rec.Waits c) = IsNumber c
+IsRecordInRange (rec.Admitted c) = IsNumber c
+IsRecordInRange (rec.Released c) = IsNumber c
+IsRecordInRange (rec.AssignedFirst c r path n add remove) = IsNumber c × IsNumber r × IsUnspaced path × IsNumber n × IsChoiceInRange add × IsChoiceInRange remove
+IsRecordInRange (rec.AssignedLater c r path n add size queue) = IsNumber c × IsNumber r × IsUnspaced path × IsNumber n × IsChoiceInRange add × IsNumber size × IsNumber queue
+IsRecordInRange (rec.BatchOver c) = IsNumber c
+IsRecordInRange (rec.Served place c r code length via) = IsPlaceInRange place × IsNumber c × IsNumber r × IsNumber code × IsNumber length × IsViaInRange via
+IsRecordInRange (rec.Hit n path) = IsNumber n × IsUnspaced path
+IsRecordInRange (rec.Queued n m c r path) = IsNumber n × IsNumber m × IsNumber c × IsNumber r × IsUnspaced path
+IsRecordInRange (rec.Read n m c r path) = IsNumber n × IsNumber m × IsNumber c × IsNumber r × IsUnspaced path
+IsRecordInRange (rec.Armed place c _) = IsPlaceInRange place × IsNumber c
+IsRecordInRange (rec.Cleared place c _) = IsPlaceInRange place × IsNumber c
+IsRecordInRange (rec.Reset place c count) = IsPlaceInRange place × IsNumber c × IsNumber count
+IsRecordInRange (rec.Aborted c) = IsNumber c
+IsRecordInRange (rec.Injected c) = IsNumber c
+IsRecordInRange (rec.Clock time) = IsNumber time.0
+IsRecordInRange (rec.Settled rounds) = IsNumber rounds
+IsRecordInRange (rec.Unsettled rounds left) = IsNumber rounds × IsNumber left
 
 -- the same of a file's path and length
 abbrev pub IsFileInRange : List ℕ × ℕ → Type 0
@@ -94,4 +94,4 @@ IsConfigInRange c = IsNumber c.nodes × IsNumber c.low × IsNumber c.high × IsN
 pub record IsReportInRange (config : Config) (files : List (List ℕ × ℕ)) (recs : List Rec) : Type 0 where
   pub numbers : IsConfigInRange config
   pub paths : All IsFileInRange files
-  pub records : All IsInRange recs
+  pub records : All IsRecordInRange recs

@@ -4,7 +4,7 @@ ghost use Rattle.std.specs.Prelude.{◌≡◌, [], ◌∷◌, ◌++◌, ℕ, Lis
 ghost use Rattle.std.specs.List.{flat_map};
 ghost use Rattle.lard_base.specs.declared.config.Config.{Config};
 ghost use Rattle.lard_journal.specs.declared.rec.Rec.{Rec};
-ghost use Rattle.lard_journal.specs.Range.{IsInRange, IsReportInRange};
+ghost use Rattle.lard_journal.specs.Range.{IsRecordInRange, IsReportInRange};
 ghost use Rattle.lard_journal.specs.Report.{heading_line, file_text, rec_line, report};
 
 /// A report grows at its end: it begins with the heading, goes on with a line for each file in their
@@ -20,7 +20,7 @@ pub fn report_grows()
 /// A report tells its configuration, its files and its records: two that differ in one of them differ.
 /// Numbers are to be below 2^64, bytes to be bytes, and paths to have no spaces and control bytes.
 pub fn report_tells_all()
-    ensures record { (r s : Rec) → IsInRange r → IsInRange s → rec_line r ≡ rec_line s → r ≡ s }
+    ensures record { (r s : Rec) → IsRecordInRange r → IsRecordInRange s → rec_line r ≡ rec_line s → r ≡ s }
     ensures whole { (config also : Config) (files others : List (List ℕ × ℕ)) (recs more : List Rec)
         → IsReportInRange config files recs → IsReportInRange also others more
         → report config files recs ≡ report also others more

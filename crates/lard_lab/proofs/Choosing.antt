@@ -5,7 +5,7 @@ use Rattle.std.specs.List.{AllByRecursion}
 use Rattle.std.specs.Str.{bytes_eq}
 use Rattle.lard_base.specs.declared.config.Config.{Config}
 use Rattle.lard_base.specs.declared.ids.Millis.{Millis}
-use Rattle.lard_cache.specs.Recency.{Recency, has}
+use Rattle.lard_cache.specs.Recency.{Recency, has_path}
 use Rattle.lard_loads.specs.Tally.{Tally, numbers}
 use Rattle.lard_policy.specs.First.{is_overloaded, least_node}
 use Rattle.lard_policy.specs.declared.first.FirstChoice.{FirstChoice}
@@ -15,10 +15,10 @@ use Rattle.lard_lab.specs.declared.policy.Policy.{Policy}
 use Rattle.lard_lab.specs.declared.policy.Policy.TheVariants.{Hash, Lard}
 use Rattle.lard_lab.specs.declared.targets.Target.{Target}
 use Rattle.lard_lab.specs.Backends.{empty, fed, one_if}
-use Rattle.lard_lab.specs.Desk.{Desk, answer_at, choice_at, choice_by, chosen_for, is_full, served_by}
+use Rattle.lard_lab.specs.Desk.{Desk, answer_at, desk_choice, choice_by, chosen_for, is_desk_full, served_by}
 use Rattle.lard_lab.specs.Laws.{GoesTo, PathsKeepTheirNode, ServersAreKept}
 use Rattle.lard_lab.specs.Policy.{hash_of}
-use Rattle.lard_lab.specs.Report.{Request, all_hits, all_requests, assignments, count_of, desk_after, desk_by, desk_requested, desk_with, hits_of, node_of, request_in, request_of, subtrace}
+use Rattle.lard_lab.specs.Report.{Request, all_hits, all_requests, assignments, count_true, desk_after, desk_by, desk_requested, desk_with, hits_of, node_chosen, request_in, request_of, subtrace}
 use Rattle.lard_lab.specs.Targets.{target_at, with_target}
 
 -- ---- by hash
@@ -32,7 +32,7 @@ hash-choice : (policy : Policy) (cfg : Config) (t : Tally) (now : Millis) (made 
 unfolding choice_by
 hash-choice policy cfg t now made path target e = ap (λ (p : Policy). (choice_by p cfg t now made path target).node) e
 
-hashes : (cfg : Config) (d : Desk) (path : List ℕ) (target : Target) → IsHashing cfg d → (full : Bool) → GoesTo (1 + hash_of path % cfg.nodes) (node_of (cond full None (Some (choice_at d path target))))
+hashes : (cfg : Config) (d : Desk) (path : List ℕ) (target : Target) → IsHashing cfg d → (full : Bool) → GoesTo (1 + hash_of path % cfg.nodes) (node_chosen (cond full None (Some (desk_choice d path target))))
 hashes cfg d path target h true = tt
 hashes cfg d path target h false = hash-choice d.policy d.config d.loads d.time d.made path target h.policy ∙ ap (λ (c : Config). 1 + hash_of path % c.nodes) h.config
 
@@ -41,7 +41,7 @@ Hashes cfg r = GoesTo (1 + hash_of r.0 % cfg.nodes) r.1
 
 hash-request : (cfg : Config) (d : Desk) (path : List ℕ) (o : Option Target) → IsHashing cfg d → AllByRecursion (Hashes cfg) (request_of d path o) × IsHashing cfg (desk_requested d path o)
 hash-request cfg d path None h = (tt, h)
-hash-request cfg d path (Some target) h = ((hashes cfg d path target h (is_full d), tt), go (answer_at d path target)) where
+hash-request cfg d path (Some target) h = ((hashes cfg d path target h (is_desk_full d), tt), go (answer_at d path target)) where
   go : (o : Option FirstChoice) → IsHashing cfg (desk_by d path target o)
   go None = record { policy = h.policy; config = h.config }
   go (Some choice) = record { policy = h.policy; config = h.config }
@@ -85,7 +85,7 @@ lard-choice policy cfg t now made path target n e server calm =
     ∙ ap (λ (b : Bool). cond b (least_node t) n) calm
 
 kept-server : (d : Desk) (path : List ℕ) (target : Target) (n : ℕ) → d.policy ≡ Lard → target.server ≡ Some n → is_overloaded d.loads d.config n ≡ false → (full : Bool)
-    → GoesTo n (node_of (cond full None (Some (choice_at d path target))))
+    → GoesTo n (node_chosen (cond full None (Some (desk_choice d path target))))
 kept-server d path target n e server calm true = tt
 kept-server d path target n e server calm false = lard-choice d.policy d.config d.loads d.time d.made path target n e server calm
 
@@ -93,16 +93,16 @@ pub servers-kept : ServersAreKept
 servers-kept = record {
   last = λ d path target choice there. subst (λ (o : Option Target). IfSome o (λ t. t.server ≡ Some choice.node))
       (sym (written-found d.targets path target (chosen_for target choice d.time) there)) refl;
-  kept = λ d path target n e server calm. kept-server d path target n e server calm (is_full d);
+  kept = λ d path target n e server calm. kept-server d path target n e server calm (is_desk_full d);
 }
 
 -- ---- sums
 
 -- no more hit than were made
-few-hits : (size : List ℕ → ℕ) (c : Recency) (ps : List (List ℕ)) → count_of (hits_of size c ps) ≤ length ps
+few-hits : (size : List ℕ → ℕ) (c : Recency) (ps : List (List ℕ)) → count_true (hits_of size c ps) ≤ length ps
 few-hits size c [] = omega arith
-few-hits size c (p ∷ ps) = go (has c.entries p) (few-hits size (fed c p (size p)) ps) where
-  go : (b : Bool) → count_of (hits_of size (fed c p (size p)) ps) ≤ length ps → one_if b + count_of (hits_of size (fed c p (size p)) ps) ≤ length (p ∷ ps)
+few-hits size c (p ∷ ps) = go (has_path c.entries p) (few-hits size (fed c p (size p)) ps) where
+  go : (b : Bool) → count_true (hits_of size (fed c p (size p)) ps) ≤ length ps → one_if b + count_true (hits_of size (fed c p (size p)) ps) ≤ length (p ∷ ps)
   go true h = omega (arith, h)
   go false h = omega (arith, h)
 
@@ -111,4 +111,4 @@ sum-below f g each [] = omega arith
 sum-below f g each (n ∷ ns) = let one = each n in let more = sum-below f g each ns in omega (arith, one, more, sum_by-cons f n ns, sum_by-cons g n ns)
 
 pub hits-below : (size : List ℕ → ℕ) (cfg : Config) (rs : List Request) → all_hits size cfg rs ≤ all_requests cfg rs
-hits-below size cfg rs = sum-below (λ n. count_of (hits_of size (empty cfg.cache) (subtrace n rs))) (λ n. length (subtrace n rs)) (λ n. few-hits size (empty cfg.cache) (subtrace n rs)) (numbers cfg.nodes)
+hits-below size cfg rs = sum-below (λ n. count_true (hits_of size (empty cfg.cache) (subtrace n rs))) (λ n. length (subtrace n rs)) (λ n. few-hits size (empty cfg.cache) (subtrace n rs)) (numbers cfg.nodes)

@@ -11,7 +11,7 @@ use Rattle.lard_base.specs.declared.config.ConfigFault.{ConfigFault}
 use Rattle.lard_base.specs.declared.config.ConfigFault.TheVariants.{Range}
 use Rattle.lard_base.specs.declared.config.Key.TheVariants.{Nodes, Low, High, Age, Idle, Over, Miss, Cache, Stream}
 use Rattle.lard_base.specs.Config.{checked_from, config_check}
-use Rattle.lard_cache.specs.Recency.{has}
+use Rattle.lard_cache.specs.Recency.{has_path}
 use Rattle.lard_loads.specs.declared.loads.TheConstants.{WHOLE}
 use Rattle.lard_loads.specs.Tally.{Standing, home_of, load, numbers}
 use Rattle.lard_loads.proofs.Charged.{each_sum}
@@ -23,12 +23,12 @@ use Rattle.lard_lab.specs.declared.event.LabEvent.TheVariants.{Req, Done, Clock}
 use Rattle.lard_lab.specs.declared.event.LabFault.{LabFault}
 use Rattle.lard_lab.specs.declared.event.LabFault.TheVariants.{Limit, NotOpen}
 use Rattle.lard_lab.specs.declared.targets.Target.{Target}
-use Rattle.lard_lab.specs.Backends.{backend_after, empty, is_hit, keeps, node_after, one_if, served, set_after}
-use Rattle.lard_lab.specs.Desk.{Desk, assigned, choice_at, chosen_for, done_with, is_full, is_open, later_by, passed_over}
-use Rattle.lard_lab.specs.Lab.{State, after, fault_of, load_with_one, outcome_by, path_fault, requested, requested_by, told, told_of}
-use Rattle.lard_lab.specs.Laws.{PassAll, after_all, line_in, told_all}
-use Rattle.lard_lab.specs.Report.{File, Request, all_hits, all_requests, assignments, backend_of, backends_of, count_of, desk_after, desk_by, desk_requested, full_among, hits_of, kept_by, lines_from, node_of, peak_of, request_in, request_of, size_in, subtrace}
-use Rattle.lard_lab.specs.Sound.{IsSound}
+use Rattle.lard_lab.specs.Backends.{backend_after, empty, is_hit, keeps, node_after, one_if, stores_served, backends_after}
+use Rattle.lard_lab.specs.Desk.{Desk, desk_assigned, desk_choice, chosen_for, done_with, is_desk_full, is_request_open, later_by, request_passed_over}
+use Rattle.lard_lab.specs.Lab.{State, lab_after, fault_of, load_with_one, outcome_by, path_fault, requested, requested_by, lab_told, request_told}
+use Rattle.lard_lab.specs.Laws.{PassAll, lab_after_all, line_in, told_all}
+use Rattle.lard_lab.specs.Report.{File, Request, all_hits, all_requests, assignments, backend_of, backends_of, count_true, desk_after, desk_by, desk_requested, full_among, hits_of, kept_by, lines_from, node_chosen, peak_of, request_in, request_of, file_size_in, subtrace}
+use Rattle.lard_lab.specs.Sound.{IsDeskSound}
 use Rattle.lard_lab.specs.Targets.{target_at}
 use Rattle.lard_lab.specs.Text.{request_line}
 use Rattle.lard_lab.proofs.Chosen.{IsNode, choice-node}
@@ -43,15 +43,15 @@ abbrev pub ServedBy : ℕ → Target → Type 0
 ServedBy nodes t = IfSome t.server (IsNode nodes)
 
 pub record Follows (files : List File) (s : State) (before : List Request) (peaks : ℕ → ℕ) : Type 0 where
-  pub sound : IsSound s.desk
+  pub sound : IsDeskSound s.desk
   pub all_open : s.desk.loads.open_nodes ≡ numbers s.desk.config.nodes
   pub servers : (q : List ℕ) → IfSome (target_at s.desk.targets q) (ServedBy s.desk.config.nodes)
   pub sizes : (q : List ℕ) → size_found (target_at s.desk.targets q) ≡ lookup (bytes_eq q) files
   pub made : s.desk.made ≡ length before
-  pub nodes : s.stores.nodes ≡ backends_of (size_in files) s.desk.config before peaks
+  pub nodes : s.stores.nodes ≡ backends_of (file_size_in files) s.desk.config before peaks
   pub requests : s.stores.requests ≡ all_requests s.desk.config before
   pub full : s.stores.requests + full_among before ≡ length before
-  pub hits : s.stores.hits ≡ all_hits (size_in files) s.desk.config before
+  pub hits : s.stores.hits ≡ all_hits (file_size_in files) s.desk.config before
   pub loads : (n : ℕ) → load s.desk.loads n / WHOLE ≤ peaks n
 
 append-nil : {X : Type 0} (xs : List X) → xs ++ [] ≡ xs
@@ -64,7 +64,7 @@ append-nil {X} (x ∷ xs) = ap (λ (ys : List X). x ∷ ys) (append-nil xs)
 pub same-peaks : (size : List ℕ → ℕ) (cfg : Config) (rs : List Request) (p q : ℕ → ℕ) → ((n : ℕ) → p n ≡ q n) → backends_of size cfg rs p ≡ backends_of size cfg rs q
 same-peaks size cfg rs p q same = same-row (backend_of size cfg.cache rs p) (backend_of size cfg.cache rs q) 1 cfg.nodes (λ n l h. one n (same n)) where
   one : (n : ℕ) → p n ≡ q n → backend_of size cfg.cache rs p n ≡ backend_of size cfg.cache rs q n
-  one n e = ap (λ (k : ℕ). let paths : List (List ℕ) = subtrace n rs in let b : Backend = record { cache = kept_by size (empty cfg.cache) paths; requests = length paths; hits = count_of (hits_of size (empty cfg.cache) paths); peak = k } in b) e
+  one n e = ap (λ (k : ℕ). let paths : List (List ℕ) = subtrace n rs in let b : Backend = record { cache = kept_by size (empty cfg.cache) paths; requests = length paths; hits = count_true (hits_of size (empty cfg.cache) paths); peak = k } in b) e
 
 repeaked : (files : List File) (s : State) (before : List Request) (p q : ℕ → ℕ) → ((n : ℕ) → p n ≡ q n) → Follows files s before p → Follows files s before q
 repeaked files s before p q same f = record {
@@ -73,7 +73,7 @@ repeaked files s before p q same f = record {
   servers = f.servers;
   sizes = f.sizes;
   made = f.made;
-  nodes = f.nodes ∙ same-peaks (size_in files) s.desk.config before p q same;
+  nodes = f.nodes ∙ same-peaks (file_size_in files) s.desk.config before p q same;
   requests = f.requests;
   full = f.full;
   hits = f.hits;
@@ -86,20 +86,20 @@ repeaked files s before p q same f = record {
 pub record StepsBy (files : List File) (s t : State) (before : List Request) (peaks : ℕ → ℕ) (d : Desk) (line : Option (List ℕ)) (rs : List Request) : Type 0 where
   pub desk : t.desk ≡ d
   pub config : d.config ≡ s.desk.config
-  pub text : line_in line ≡ lines_from (size_in files) s.desk.config.cache before rs
+  pub text : line_in line ≡ lines_from (file_size_in files) s.desk.config.cache before rs
   pub next : Follows files t (before ++ rs) (λ n. max (peaks n) (load d.loads n / WHOLE))
 
 abbrev StepsTo : List File → State → List Request → (ℕ → ℕ) → List ℕ → Target → Option FirstChoice → Type 0
-StepsTo files s before peaks path target o = StepsBy files s (requested_by s path target o) before peaks (desk_by s.desk path target o) (Some (request_line (s.desk.made + 1) path (outcome_by s path o))) ((path, node_of o) ∷ [])
+StepsTo files s before peaks path target o = StepsBy files s (requested_by s path target o) before peaks (desk_by s.desk path target o) (Some (request_line (s.desk.made + 1) path (outcome_by s path o))) ((path, node_chosen o) ∷ [])
 
 abbrev StepsAt : List File → State → List Request → (ℕ → ℕ) → List ℕ → Option Target → Type 0
-StepsAt files s before peaks path o = StepsBy files s (requested s path o) before peaks (desk_requested s.desk path o) (told_of s path o) (request_of s.desk path o)
+StepsAt files s before peaks path o = StepsBy files s (requested s path o) before peaks (desk_requested s.desk path o) (request_told s path o) (request_of s.desk path o)
 
 abbrev pub Steps : List File → State → List Request → (ℕ → ℕ) → LabEvent → Type 0
-Steps files s before peaks e = StepsBy files s (after s e) before peaks (desk_after s.desk e) (told s e) (request_in s.desk e)
+Steps files s before peaks e = StepsBy files s (lab_after s e) before peaks (desk_after s.desk e) (lab_told s e) (request_in s.desk e)
 
 -- a desk on which nothing is said of requests: its open requests became no more
-still : (files : List File) (s : State) (d : Desk) (before : List Request) (peaks : ℕ → ℕ) → Follows files s before peaks → IsSound d → d.config ≡ s.desk.config → d.made ≡ s.desk.made → d.targets ≡ s.desk.targets
+still : (files : List File) (s : State) (d : Desk) (before : List Request) (peaks : ℕ → ℕ) → Follows files s before peaks → IsDeskSound d → d.config ≡ s.desk.config → d.made ≡ s.desk.made → d.targets ≡ s.desk.targets
     → d.loads.open_nodes ≡ s.desk.loads.open_nodes → ((n : ℕ) → load d.loads n / WHOLE ≤ load s.desk.loads n / WHOLE)
     → Follows files (record s { desk = d }) (before ++ []) (λ n. max (peaks n) (load d.loads n / WHOLE))
 still files s d before peaks f sound config made targets open_nodes fewer =
@@ -109,35 +109,35 @@ still files s d before peaks f sound config made targets open_nodes fewer =
       servers = λ q. subst (λ (c : Config). IfSome (target_at d.targets q) (ServedBy c.nodes)) (sym config) (subst (λ (ts : List (List ℕ × Target)). IfSome (target_at ts q) (ServedBy s.desk.config.nodes)) (sym targets) (f.servers q));
       sizes = λ q. ap (λ (ts : List (List ℕ × Target)). size_found (target_at ts q)) targets ∙ f.sizes q;
       made = made ∙ f.made;
-      nodes = f.nodes ∙ ap (λ (c : Config). backends_of (size_in files) c before peaks) (sym config)
-          ∙ same-peaks (size_in files) d.config before peaks (λ n. max (peaks n) (load d.loads n / WHOLE)) (λ n. let a = f.loads n in let b = fewer n in omega (arith, a, b));
+      nodes = f.nodes ∙ ap (λ (c : Config). backends_of (file_size_in files) c before peaks) (sym config)
+          ∙ same-peaks (file_size_in files) d.config before peaks (λ n. max (peaks n) (load d.loads n / WHOLE)) (λ n. let a = f.loads n in let b = fewer n in omega (arith, a, b));
       requests = f.requests ∙ ap (λ (c : Config). all_requests c before) (sym config);
       full = f.full;
-      hits = f.hits ∙ ap (λ (c : Config). all_hits (size_in files) c before) (sym config);
+      hits = f.hits ∙ ap (λ (c : Config). all_hits (file_size_in files) c before) (sym config);
       loads = λ n. omega arith;
     })
 
-open-number : (d : Desk) (i : ℕ) → IsSound d → is_open d i ≡ true → (1 ≤ i) × (i ≤ 16384)
+open-number : (d : Desk) (i : ℕ) → IsDeskSound d → is_request_open d i ≡ true → (1 ≤ i) × (i ≤ 16384)
 open-number d i s there = (go i there, least (nat_le (suc d.made) i) refl) where
-  go : (k : ℕ) → is_open d k ≡ true → 1 ≤ k
-  go zero h = let none : is_open d 0 ≡ false = ap (λ (o : Option Standing). is_some (home_of o)) s.none in let never : false ≡ true = sym none ∙ h in absurd (cc)
+  go : (k : ℕ) → is_request_open d k ≡ true → 1 ≤ k
+  go zero h = let none : is_request_open d 0 ≡ false = ap (λ (o : Option Standing). is_some (home_of o)) s.none in let never : false ≡ true = sym none ∙ h in absurd (cc)
   go (suc k) h = omega arith
 
   least : (b : Bool) → nat_le (suc d.made) i ≡ b → i ≤ 16384
   least true e =
       let above : d.made < i = grind (arith, nat_tests, e) in
-      let none : is_open d i ≡ false = ap (λ (o : Option Standing). is_some (home_of o)) (s.free i above) in
+      let none : is_request_open d i ≡ false = ap (λ (o : Option Standing). is_some (home_of o)) (s.free i above) in
       let never : false ≡ true = sym none ∙ there in absurd (cc)
   least false e = let few = s.few in let below : i ≤ d.made = grind (arith, nat_tests, e) in omega (arith, few, below)
 
-is-open : (d : Desk) (i : ℕ) → cond {A = Option LabFault} (is_open d i) None (Some (NotOpen i)) ≡ None → is_open d i ≡ true
-is-open d i h = go (is_open d i) h where
+is-open : (d : Desk) (i : ℕ) → cond {A = Option LabFault} (is_request_open d i) None (Some (NotOpen i)) ≡ None → is_request_open d i ≡ true
+is-open d i h = go (is_request_open d i) h where
   go : (b : Bool) → cond {A = Option LabFault} b None (Some (NotOpen i)) ≡ None → b ≡ true
   go true e = refl
   go false e = cc
 
 done-steps : (files : List File) (s : State) (before : List Request) (peaks : ℕ → ℕ) (i : ℕ) → Follows files s before peaks → fault_of s (Done i) ≡ None → Steps files s before peaks (Done i)
-unfolding after told fault_of desk_after request_in
+unfolding lab_after lab_told fault_of desk_after request_in
 done-steps files s before peaks i f passes =
     let range : (1 ≤ i) × (i ≤ 16384) = open-number s.desk i f.sound (is-open s.desk i passes) in record {
       desk = refl;
@@ -147,7 +147,7 @@ done-steps files s before peaks i f passes =
     }
 
 clock-steps : (files : List File) (s : State) (before : List Request) (peaks : ℕ → ℕ) (ms : ℕ) → Follows files s before peaks → Steps files s before peaks (Clock ms)
-unfolding after told fault_of desk_after request_in
+unfolding lab_after lab_told fault_of desk_after request_in
 clock-steps files s before peaks ms f = record {
   desk = refl;
   config = refl;
@@ -158,16 +158,16 @@ clock-steps files s before peaks ms f = record {
 -- ---- a request that is full
 
 full-nodes : (files : List File) (s : State) (before : List Request) (peaks : ℕ → ℕ) (path : List ℕ) → Follows files s before peaks
-    → s.stores.nodes ≡ backends_of (size_in files) s.desk.config (before ++ (path, None) ∷ []) (λ n. max (peaks n) (load s.desk.loads n / WHOLE))
+    → s.stores.nodes ≡ backends_of (file_size_in files) s.desk.config (before ++ (path, None) ∷ []) (λ n. max (peaks n) (load s.desk.loads n / WHOLE))
 full-nodes files s before peaks path f =
-    f.nodes ∙ same-row (backend_of (size_in files) s.desk.config.cache before peaks) (backend_of (size_in files) s.desk.config.cache (before ++ (path, None) ∷ []) (λ n. max (peaks n) (load s.desk.loads n / WHOLE)))
-    1 s.desk.config.nodes (λ n l h. sym (backend-other (size_in files) s.desk.config.cache before path None peaks n (max (peaks n) (load s.desk.loads n / WHOLE)) refl (let a = f.loads n in omega (arith, a))))
+    f.nodes ∙ same-row (backend_of (file_size_in files) s.desk.config.cache before peaks) (backend_of (file_size_in files) s.desk.config.cache (before ++ (path, None) ∷ []) (λ n. max (peaks n) (load s.desk.loads n / WHOLE)))
+    1 s.desk.config.nodes (λ n l h. sym (backend-other (file_size_in files) s.desk.config.cache before path None peaks n (max (peaks n) (load s.desk.loads n / WHOLE)) refl (let a = f.loads n in omega (arith, a))))
 
 no-paths : (n : ℕ) (before : List Request) (path : List ℕ) → subtrace n (before ++ (path, None) ∷ []) ≡ subtrace n before
 no-paths n before path = subtrace-behind n before (path, None)
 
 full-follows : (files : List File) (s : State) (before : List Request) (peaks : ℕ → ℕ) (path : List ℕ) → s.desk.made < 16384 → Follows files s before peaks
-    → Follows files (record s { desk = passed_over s.desk }) (before ++ (path, None) ∷ []) (λ n. max (peaks n) (load s.desk.loads n / WHOLE))
+    → Follows files (record s { desk = request_passed_over s.desk }) (before ++ (path, None) ∷ []) (λ n. max (peaks n) (load s.desk.loads n / WHOLE))
 full-follows files s before peaks path few f =
     let long : length (before ++ (path, None) ∷ []) ≡ length before + 1 = length-append before ((path, None) ∷ []) in
     let more : full_among (before ++ (path, None) ∷ []) ≡ full_among before + 1 = full-behind before (path, None) in record {
@@ -179,8 +179,8 @@ full-follows files s before peaks path few f =
       nodes = full-nodes files s before peaks path f;
       requests = f.requests ∙ each_sum (λ n. length (subtrace n before)) (λ n. length (subtrace n (before ++ (path, None) ∷ []))) (λ n. ap length (sym (no-paths n before path))) (numbers s.desk.config.nodes);
       full = let full = f.full in omega (arith, full, long, more);
-      hits = f.hits ∙ each_sum (λ n. count_of (hits_of (size_in files) (empty s.desk.config.cache) (subtrace n before))) (λ n. count_of (hits_of (size_in files) (empty s.desk.config.cache) (subtrace n (before ++ (path, None) ∷ []))))
-          (λ n. ap (λ (ps : List (List ℕ)). count_of (hits_of (size_in files) (empty s.desk.config.cache) ps)) (sym (no-paths n before path))) (numbers s.desk.config.nodes);
+      hits = f.hits ∙ each_sum (λ n. count_true (hits_of (file_size_in files) (empty s.desk.config.cache) (subtrace n before))) (λ n. count_true (hits_of (file_size_in files) (empty s.desk.config.cache) (subtrace n (before ++ (path, None) ∷ []))))
+          (λ n. ap (λ (ps : List (List ℕ)). count_true (hits_of (file_size_in files) (empty s.desk.config.cache) ps)) (sym (no-paths n before path))) (numbers s.desk.config.nodes);
       loads = λ n. omega arith;
     }
 
@@ -189,7 +189,7 @@ full-follows files s before peaks path few f =
 module _ (files : List File) (s : State) (before : List Request) (peaks : ℕ → ℕ) (path : List ℕ) (target : Target) (choice : FirstChoice) (f : Follows files s before peaks)
     (there : target_at s.desk.targets path ≡ Some target) (few : s.desk.made < 16384) (node : IsNode s.desk.config.nodes choice.node) where
   abbrev behind : Desk
-  behind = assigned s.desk path target choice
+  behind = desk_assigned s.desk path target choice
 
   abbrev rows : List Request
   rows = before ++ (path, Some choice.node) ∷ []
@@ -198,12 +198,12 @@ module _ (files : List File) (s : State) (before : List Request) (peaks : ℕ �
   now_peaks m = max (peaks m) (load behind.loads m / WHOLE)
 
   abbrev was : ℕ → Backend
-  was = backend_of (size_in files) s.desk.config.cache before peaks
+  was = backend_of (file_size_in files) s.desk.config.cache before peaks
 
   abbrev is_now : ℕ → Backend
-  is_now = backend_of (size_in files) s.desk.config.cache rows now_peaks
+  is_now = backend_of (file_size_in files) s.desk.config.cache rows now_peaks
 
-  size-is : target.size ≡ size_in files path
+  size-is : target.size ≡ file_size_in files path
   size-is = ap (λ (o : Option ℕ). unwrap_or o 0) (sym (ap size_found there) ∙ f.sizes path)
 
   loaded : load behind.loads choice.node / WHOLE ≡ load_with_one s.desk choice.node
@@ -223,25 +223,25 @@ module _ (files : List File) (s : State) (before : List Request) (peaks : ℕ �
   one-now : backend_after (was choice.node) path target.size (load_with_one s.desk choice.node) ≡ is_now choice.node
   one-now =
       ap (λ (k : ℕ). backend_after (was choice.node) path k (load_with_one s.desk choice.node)) size-is
-      ∙ sym (backend-behind (size_in files) s.desk.config.cache before path (Some choice.node) peaks choice.node (load_with_one s.desk choice.node) same-node)
-      ∙ ap (λ (l : ℕ). backend_of (size_in files) s.desk.config.cache rows (λ m. max (peaks m) l) choice.node) (sym loaded)
+      ∙ sym (backend-behind (file_size_in files) s.desk.config.cache before path (Some choice.node) peaks choice.node (load_with_one s.desk choice.node) same-node)
+      ∙ ap (λ (l : ℕ). backend_of (file_size_in files) s.desk.config.cache rows (λ m. max (peaks m) l) choice.node) (sym loaded)
 
   others-now : (m : ℕ) → m ≢ choice.node → is_now m ≡ was m
   others-now m apart =
       let other : nat_eq choice.node m ≡ false = ne_eqb choice.node m (λ e. apart (sym e)) in
       let load_same = other-load m other in let most = f.loads m in
-      backend-other (size_in files) s.desk.config.cache before path (Some choice.node) peaks m (now_peaks m) other (omega (arith, load_same, most))
+      backend-other (file_size_in files) s.desk.config.cache before path (Some choice.node) peaks m (now_peaks m) other (omega (arith, load_same, most))
 
-  nodes-now : node_after s.stores.nodes (choice.node - 1) path target.size (load_with_one s.desk choice.node) ≡ backends_of (size_in files) s.desk.config rows now_peaks
+  nodes-now : node_after s.stores.nodes (choice.node - 1) path target.size (load_with_one s.desk choice.node) ≡ backends_of (file_size_in files) s.desk.config rows now_peaks
   nodes-now =
       let low : 1 ≤ choice.node = node.0 in let high : choice.node ≤ s.desk.config.nodes = node.1 in
-      ap (λ (o : Option Backend). set_after s.stores.nodes (choice.node - 1) o path target.size (load_with_one s.desk choice.node)) found
+      ap (λ (o : Option Backend). backends_after s.stores.nodes (choice.node - 1) o path target.size (load_with_one s.desk choice.node)) found
       ∙ ap (λ (b : Backend). set s.stores.nodes (choice.node - 1) b) one-now
       ∙ ap (λ (bs : List Backend). set bs (choice.node - 1) (is_now choice.node)) f.nodes
       ∙ set-row was is_now 1 s.desk.config.nodes (choice.node - 1) choice.node (omega (arith, low)) (omega (arith, low, high)) others-now
 
   -- what is in the cache
-  hit : is_hit s.stores choice.node path ≡ has (kept_by (size_in files) (empty s.desk.config.cache) (subtrace choice.node before)).entries path
+  hit : is_hit s.stores choice.node path ≡ has_path (kept_by (file_size_in files) (empty s.desk.config.cache) (subtrace choice.node before)).entries path
   hit = ap (λ (o : Option Backend). keeps o path) found
 
   paths-now : (m : ℕ) → subtrace m rows ≡ with_one (nat_eq choice.node m) (subtrace m before) path
@@ -259,7 +259,7 @@ module _ (files : List File) (s : State) (before : List Request) (peaks : ℕ �
       let sum = changed_sum (λ m. count (subtrace m rows)) (λ m. count (subtrace m before)) choice.node 1 s.desk.config.nodes low (omega (arith, high)) others in
       omega (arith, sum, here)
 
-  assigned-follows : Follows files (record { desk = behind; stores = served s.stores choice.node path target.size (load_with_one s.desk choice.node) }) rows now_peaks
+  assigned-follows : Follows files (record { desk = behind; stores = stores_served s.stores choice.node path target.size (load_with_one s.desk choice.node) }) rows now_peaks
   assigned-follows =
       let long : length rows ≡ length before + 1 = length-append before ((path, Some choice.node) ∷ []) in
       let same : full_among rows ≡ full_among before = full-behind before (path, Some choice.node) ∙ omega arith in
@@ -273,17 +273,17 @@ module _ (files : List File) (s : State) (before : List Request) (peaks : ℕ �
         requests = ap (λ (k : ℕ). k + 1) f.requests ∙ grown length 1 (length-append (subtrace choice.node before) (path ∷ []));
         full = let full = f.full in omega (arith, full, long, same);
         hits = ap (λ (k : ℕ). k + one_if (is_hit s.stores choice.node path)) f.hits
-            ∙ ap (λ (b : Bool). all_hits (size_in files) s.desk.config before + one_if b) hit
-            ∙ grown (λ ps. count_of (hits_of (size_in files) (empty s.desk.config.cache) ps)) (one_if (has (kept_by (size_in files) (empty s.desk.config.cache) (subtrace choice.node before)).entries path))
-            (hits-behind (size_in files) (empty s.desk.config.cache) (subtrace choice.node before) path);
+            ∙ ap (λ (b : Bool). all_hits (file_size_in files) s.desk.config before + one_if b) hit
+            ∙ grown (λ ps. count_true (hits_of (file_size_in files) (empty s.desk.config.cache) ps)) (one_if (has_path (kept_by (file_size_in files) (empty s.desk.config.cache) (subtrace choice.node before)).entries path))
+            (hits-behind (file_size_in files) (empty s.desk.config.cache) (subtrace choice.node before) path);
         loads = λ n. omega arith;
       }
 
-  assigned-text : request_line (s.desk.made + 1) path (Some (choice.node, is_hit s.stores choice.node path)) ≡ lines_from (size_in files) s.desk.config.cache before ((path, Some choice.node) ∷ [])
+  assigned-text : request_line (s.desk.made + 1) path (Some (choice.node, is_hit s.stores choice.node path)) ≡ lines_from (file_size_in files) s.desk.config.cache before ((path, Some choice.node) ∷ [])
   assigned-text =
       ap (λ (k : ℕ). request_line (k + 1) path (Some (choice.node, is_hit s.stores choice.node path))) f.made
       ∙ ap (λ (b : Bool). request_line (length before + 1) path (Some (choice.node, b))) hit
-      ∙ sym (append-nil (request_line (length before + 1) path (Some (choice.node, has (kept_by (size_in files) (empty s.desk.config.cache) (subtrace choice.node before)).entries path))))
+      ∙ sym (append-nil (request_line (length before + 1) path (Some (choice.node, has_path (kept_by (file_size_in files) (empty s.desk.config.cache) (subtrace choice.node before)).entries path))))
 
 -- ---- any request
 
@@ -301,7 +301,7 @@ few-made s path target h = go (nat_le 16384 s.desk.made) refl h where
 
 -- a request with its target, and where it goes
 requested-steps : (files : List File) (s : State) (before : List Request) (peaks : ℕ → ℕ) (path : List ℕ) (target : Target) → Follows files s before peaks → target_at s.desk.targets path ≡ Some target
-    → s.desk.made < 16384 → IsNode s.desk.config.nodes (choice_at s.desk path target).node → (full : Bool) → StepsTo files s before peaks path target (cond full None (Some (choice_at s.desk path target)))
+    → s.desk.made < 16384 → IsNode s.desk.config.nodes (desk_choice s.desk path target).node → (full : Bool) → StepsTo files s before peaks path target (cond full None (Some (desk_choice s.desk path target)))
 requested-steps files s before peaks path target f there few node true = record {
   desk = refl;
   config = refl;
@@ -311,20 +311,20 @@ requested-steps files s before peaks path target f there few node true = record 
 requested-steps files s before peaks path target f there few node false = record {
   desk = refl;
   config = refl;
-  text = assigned-text files s before peaks path target (choice_at s.desk path target) f there few node;
-  next = assigned-follows files s before peaks path target (choice_at s.desk path target) f there few node;
+  text = assigned-text files s before peaks path target (desk_choice s.desk path target) f there few node;
+  next = assigned-follows files s before peaks path target (desk_choice s.desk path target) f there few node;
 }
 
 req-steps : (files : List File) (s : State) (before : List Request) (peaks : ℕ → ℕ) (path : List ℕ) → Follows files s before peaks → fault_of s (Req path) ≡ None → Steps files s before peaks (Req path)
-unfolding after told fault_of desk_after request_in
+unfolding lab_after lab_told fault_of desk_after request_in
 req-steps files s before peaks path f passes = go (target_at s.desk.targets path) refl passes where
-  node : (target : Target) → target_at s.desk.targets path ≡ Some target → IsNode s.desk.config.nodes (choice_at s.desk path target).node
+  node : (target : Target) → target_at s.desk.targets path ≡ Some target → IsNode s.desk.config.nodes (desk_choice s.desk path target).node
   node target there = choice-node s.desk.policy s.desk.config s.desk.loads s.desk.time s.desk.made path target (some-node s.desk.config f.sound.usable) f.sound.nodes f.all_open
       (subst (λ (o : Option Target). IfSome o (ServedBy s.desk.config.nodes)) there (f.servers path))
 
   go : (o : Option Target) → target_at s.desk.targets path ≡ o → path_fault s.desk.made o ≡ None → StepsAt files s before peaks path o
   go None e p = cc
-  go (Some target) e p = requested-steps files s before peaks path target f e (few-made s path target p) (node target e) (is_full s.desk)
+  go (Some target) e p = requested-steps files s before peaks path target f e (few-made s path target p) (node target e) (is_desk_full s.desk)
 
 steps : (files : List File) (s : State) (before : List Request) (peaks : ℕ → ℕ) (e : LabEvent) → Follows files s before peaks → fault_of s e ≡ None → Steps files s before peaks e
 steps files s before peaks (Req path) f passes = req-steps files s before peaks path f passes
@@ -334,26 +334,26 @@ steps files s before peaks (Clock ms) f passes = clock-steps files s before peak
 -- ---- all events
 
 pub record Told (files : List File) (s : State) (before : List Request) (peaks : ℕ → ℕ) (es : List LabEvent) : Type 0 where
-  pub config : (after_all s es).desk.config ≡ s.desk.config
-  pub text : told_all s es ≡ lines_from (size_in files) s.desk.config.cache before (assignments s.desk es)
-  pub last : Follows files (after_all s es) (before ++ assignments s.desk es) (λ n. max (peaks n) (peak_of n s.desk es))
+  pub config : (lab_after_all s es).desk.config ≡ s.desk.config
+  pub text : told_all s es ≡ lines_from (file_size_in files) s.desk.config.cache before (assignments s.desk es)
+  pub last : Follows files (lab_after_all s es) (before ++ assignments s.desk es) (λ n. max (peaks n) (peak_of n s.desk es))
 
 told-more : (files : List File) (s : State) (before : List Request) (peaks : ℕ → ℕ) (e : LabEvent) (es : List LabEvent) → Steps files s before peaks e
-    → Told files (after s e) (before ++ request_in s.desk e) (λ n. max (peaks n) (load (desk_after s.desk e).loads n / WHOLE)) es → Told files s before peaks (e ∷ es)
+    → Told files (lab_after s e) (before ++ request_in s.desk e) (λ n. max (peaks n) (load (desk_after s.desk e).loads n / WHOLE)) es → Told files s before peaks (e ∷ es)
 told-more files s before peaks e es step rest =
     let d : Desk = desk_after s.desk e in
     let rs : List Request = request_in s.desk e in
-    let config : (after s e).desk.config ≡ s.desk.config = ap (λ (d : Desk). d.config) step.desk ∙ step.config in record {
+    let config : (lab_after s e).desk.config ≡ s.desk.config = ap (λ (d : Desk). d.config) step.desk ∙ step.config in record {
       config = rest.config ∙ config;
-      text = ap (λ (t : List ℕ). t ++ told_all (after s e) es) step.text
-          ∙ ap (λ (t : List ℕ). lines_from (size_in files) s.desk.config.cache before rs ++ t)
-          (rest.text ∙ ap (λ (c : Config). lines_from (size_in files) c.cache (before ++ rs) (assignments (after s e).desk es)) config
-          ∙ ap (λ (d : Desk). lines_from (size_in files) s.desk.config.cache (before ++ rs) (assignments d es)) step.desk)
-          ∙ sym (lines-behind (size_in files) s.desk.config.cache before rs (assignments d es));
-      last = repeaked files (after_all (after s e) es) (before ++ (rs ++ assignments d es)) (λ n. max (max (peaks n) (load d.loads n / WHOLE)) (peak_of n d es)) (λ n. max (peaks n) (max (load d.loads n / WHOLE) (peak_of n d es)))
+      text = ap (λ (t : List ℕ). t ++ told_all (lab_after s e) es) step.text
+          ∙ ap (λ (t : List ℕ). lines_from (file_size_in files) s.desk.config.cache before rs ++ t)
+          (rest.text ∙ ap (λ (c : Config). lines_from (file_size_in files) c.cache (before ++ rs) (assignments (lab_after s e).desk es)) config
+          ∙ ap (λ (d : Desk). lines_from (file_size_in files) s.desk.config.cache (before ++ rs) (assignments d es)) step.desk)
+          ∙ sym (lines-behind (file_size_in files) s.desk.config.cache before rs (assignments d es));
+      last = repeaked files (lab_after_all (lab_after s e) es) (before ++ (rs ++ assignments d es)) (λ n. max (max (peaks n) (load d.loads n / WHOLE)) (peak_of n d es)) (λ n. max (peaks n) (max (load d.loads n / WHOLE) (peak_of n d es)))
           (λ n. omega arith)
-          (subst (λ (xs : List Request). Follows files (after_all (after s e) es) xs (λ n. max (max (peaks n) (load d.loads n / WHOLE)) (peak_of n d es))) (append_assoc before rs (assignments d es))
-          (subst (λ (x : Desk). Follows files (after_all (after s e) es) (before ++ rs ++ assignments x es) (λ n. max (max (peaks n) (load d.loads n / WHOLE)) (peak_of n x es))) step.desk rest.last));
+          (subst (λ (xs : List Request). Follows files (lab_after_all (lab_after s e) es) xs (λ n. max (max (peaks n) (load d.loads n / WHOLE)) (peak_of n d es))) (append_assoc before rs (assignments d es))
+          (subst (λ (x : Desk). Follows files (lab_after_all (lab_after s e) es) (before ++ rs ++ assignments x es) (λ n. max (max (peaks n) (load d.loads n / WHOLE)) (peak_of n x es))) step.desk rest.last));
     }
 
 pub follows : (files : List File) (es : List LabEvent) (s : State) (before : List Request) (peaks : ℕ → ℕ) → Follows files s before peaks → PassAll s es → Told files s before peaks es
@@ -364,4 +364,4 @@ follows files [] s before peaks f pass = record {
 }
 follows files (e ∷ es) s before peaks f pass =
     let step = steps files s before peaks e f pass.0 in
-    told-more files s before peaks e es step (follows files es (after s e) (before ++ request_in s.desk e) (λ n. max (peaks n) (load (desk_after s.desk e).loads n / WHOLE)) step.next pass.1)
+    told-more files s before peaks e es step (follows files es (lab_after s e) (before ++ request_in s.desk e) (λ n. max (peaks n) (load (desk_after s.desk e).loads n / WHOLE)) step.next pass.1)

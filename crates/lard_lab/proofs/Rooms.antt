@@ -12,9 +12,9 @@ use Rattle.lard_policy.specs.declared.first.FirstChoice.{FirstChoice}
 use Rattle.lard_lab.specs.declared.event.LabEvent.{LabEvent}
 use Rattle.lard_lab.specs.declared.event.LabEvent.TheVariants.{Req, Done, Clock}
 use Rattle.lard_lab.specs.declared.targets.Target.{Target}
-use Rattle.lard_lab.specs.Desk.{choice_at, is_full}
-use Rattle.lard_lab.specs.Lab.{State, after, filed, opened, requested, requested_by}
-use Rattle.lard_lab.specs.Laws.{RoomIsKept, after_all, lab_with, with_files}
+use Rattle.lard_lab.specs.Desk.{desk_choice, is_desk_full}
+use Rattle.lard_lab.specs.Lab.{State, lab_after, lab_filed, lab_opened, requested, requested_by}
+use Rattle.lard_lab.specs.Laws.{RoomIsKept, lab_after_all, lab_with, with_files}
 use Rattle.lard_lab.specs.Report.{File}
 use Rattle.lard_lab.specs.Targets.{target_at}
 
@@ -34,7 +34,7 @@ no-more m k = go (is_some (map.get m k)) (len-remove nat_cmp_total m k) where
   go true e = omega (arith, e)
   go false e = omega (arith, e)
 
-roomy-answered : (cfg : Config) (s : State) (path : List ℕ) (target : Target) (choice : FirstChoice) → IsRoomy cfg s → (full : Bool) → is_full s.desk ≡ full → IsRoomy cfg (requested_by s path target (cond full None (Some choice)))
+roomy-answered : (cfg : Config) (s : State) (path : List ℕ) (target : Target) (choice : FirstChoice) → IsRoomy cfg s → (full : Bool) → is_desk_full s.desk ≡ full → IsRoomy cfg (requested_by s path target (cond full None (Some choice)))
 roomy-answered cfg s path target choice r true e = record { config = r.config; within = r.within }
 roomy-answered cfg s path target choice r false e =
     let room : admitted s.desk.loads < room_of s.desk.config = grind (arith, nat_tests, e) in
@@ -44,23 +44,23 @@ roomy-answered cfg s path target choice r false e =
 
 roomy-requested : (cfg : Config) (s : State) (path : List ℕ) (o : Option Target) → IsRoomy cfg s → IsRoomy cfg (requested s path o)
 roomy-requested cfg s path None r = r
-roomy-requested cfg s path (Some target) r = roomy-answered cfg s path target (choice_at s.desk path target) r (is_full s.desk) refl
+roomy-requested cfg s path (Some target) r = roomy-answered cfg s path target (desk_choice s.desk path target) r (is_desk_full s.desk) refl
 
-roomy-after : (cfg : Config) (s : State) (e : LabEvent) → IsRoomy cfg s → IsRoomy cfg (after s e)
-unfolding after
+roomy-after : (cfg : Config) (s : State) (e : LabEvent) → IsRoomy cfg s → IsRoomy cfg (lab_after s e)
+unfolding lab_after
 roomy-after cfg s (Req path) r = roomy-requested cfg s path (target_at s.desk.targets path) r
 roomy-after cfg s (Done i) r = let less = no-more s.desk.loads.standings i in let within = r.within in record { config = r.config; within = omega (arith, less, within) }
 roomy-after cfg s (Clock ms) r = record { config = r.config; within = r.within }
 
-roomy-all : (cfg : Config) (es : List LabEvent) (s : State) → IsRoomy cfg s → IsRoomy cfg (after_all s es)
+roomy-all : (cfg : Config) (es : List LabEvent) (s : State) → IsRoomy cfg s → IsRoomy cfg (lab_after_all s es)
 roomy-all cfg [] s r = r
-roomy-all cfg (e ∷ es) s r = roomy-all cfg es (after s e) (roomy-after cfg s e r)
+roomy-all cfg (e ∷ es) s r = roomy-all cfg es (lab_after s e) (roomy-after cfg s e r)
 
 roomy-files : (cfg : Config) (files : List File) (s : State) → IsRoomy cfg s → IsRoomy cfg (with_files s files)
 roomy-files cfg [] s r = r
-roomy-files cfg (f ∷ files) s r = roomy-files cfg files (filed s f.0 f.1) (record { config = r.config; within = r.within })
+roomy-files cfg (f ∷ files) s r = roomy-files cfg files (lab_filed s f.0 f.1) (record { config = r.config; within = r.within })
 
 pub room-kept : RoomIsKept
 room-kept policy cfg files es =
     let none : map.len (map.empty {X = Standing} {R = nat_cmp}) ≡ 0 = len-empty nat_cmp Standing in
-    (roomy-all cfg es (lab_with policy cfg files) (roomy-files cfg files (opened policy cfg) (record { config = refl; within = omega (arith, none) }))).within
+    (roomy-all cfg es (lab_with policy cfg files) (roomy-files cfg files (lab_opened policy cfg) (record { config = refl; within = omega (arith, none) }))).within

@@ -11,9 +11,9 @@ use Rattle.lard_loads.specs.Tally.{Standing, home_of}
 use Rattle.lard_policy.specs.declared.first.FirstChoice.{FirstChoice}
 use Rattle.lard_lab.specs.declared.policy.Policy.{Policy}
 use Rattle.lard_lab.specs.declared.targets.Target.{Target}
-use Rattle.lard_lab.specs.Desk.{Desk, assigned, begun, chosen_for, done_with, is_open, later_by, passed_over}
-use Rattle.lard_lab.specs.Sound.{IsKept, IsSound}
-use Rattle.lard_lab.specs.Targets.{AreFresh, fresh, target_at}
+use Rattle.lard_lab.specs.Desk.{Desk, desk_assigned, desk_begun, chosen_for, done_with, is_request_open, later_by, request_passed_over}
+use Rattle.lard_lab.specs.Sound.{IsTargetKept, IsDeskSound}
+use Rattle.lard_lab.specs.Targets.{AreFresh, fresh_target, target_at}
 use Rattle.lard_lab.proofs.Sizes.{fresh-found}
 use Rattle.lard_lab.proofs.Kept.{kept_at, kept-added, kept-chosen, kept-later, kept-written}
 
@@ -31,17 +31,17 @@ removed-none m k q none = get-remove nat_cmp_total m k q ∙ go (eq_by_cmp nat_c
   go true = refl
   go false = none
 
-pub begun-with-sound : (policy : Policy) (cfg : Config) (targets : List (List ℕ × Target)) → config_check cfg ≡ Ok tt → AreFresh targets → IsSound (record (begun policy cfg) { targets = targets })
+pub begun-with-sound : (policy : Policy) (cfg : Config) (targets : List (List ℕ × Target)) → config_check cfg ≡ Ok tt → AreFresh targets → IsDeskSound (record (desk_begun policy cfg) { targets = targets })
 begun-with-sound policy cfg targets usable all = record {
   usable = usable;
   nodes = refl;
   few = omega arith;
   none = get-empty nat_cmp 0;
   free = λ i h. get-empty nat_cmp i;
-  kept = λ path. fresh-found (IsKept cfg.nodes 0) targets path (λ size. record { server = tt; modified = omega arith }) all;
+  kept = λ path. fresh-found (IsTargetKept cfg.nodes 0) targets path (λ size. record { server = tt; modified = omega arith }) all;
 }
 
-pub added-sound : (d : Desk) (path : List ℕ) (size : ℕ) → IsSound d → IsSound (record d { targets = d.targets ++ (path, fresh size) ∷ [] })
+pub added-sound : (d : Desk) (path : List ℕ) (size : ℕ) → IsDeskSound d → IsDeskSound (record d { targets = d.targets ++ (path, fresh_target size) ∷ [] })
 added-sound d path size s = record {
   usable = s.usable;
   nodes = s.nodes;
@@ -51,7 +51,7 @@ added-sound d path size s = record {
   kept = kept-added d.config.nodes d.time.0 d.targets path size s.kept;
 }
 
-pub passed-sound : (d : Desk) → d.made < 16384 → IsSound d → IsSound (passed_over d)
+pub passed-sound : (d : Desk) → d.made < 16384 → IsDeskSound d → IsDeskSound (request_passed_over d)
 passed-sound d few s = record {
   usable = s.usable;
   nodes = s.nodes;
@@ -61,8 +61,8 @@ passed-sound d few s = record {
   kept = s.kept;
 }
 
-pub assigned-sound : (d : Desk) (path : List ℕ) (target : Target) (choice : FirstChoice) → d.made < 16384 → target_at d.targets path ≡ Some target → choice.node ≤ d.config.nodes → IsSound d
-    → IsSound (assigned d path target choice)
+pub assigned-sound : (d : Desk) (path : List ℕ) (target : Target) (choice : FirstChoice) → d.made < 16384 → target_at d.targets path ≡ Some target → choice.node ≤ d.config.nodes → IsDeskSound d
+    → IsDeskSound (desk_assigned d path target choice)
 assigned-sound d path target choice few there node s = record {
   usable = s.usable;
   nodes = s.nodes;
@@ -73,7 +73,7 @@ assigned-sound d path target choice few there node s = record {
       (kept-chosen d.config.nodes d.time target choice node (kept_at d.config.nodes d.time.0 d.targets path target s.kept there)) s.kept;
 }
 
-pub done-sound : (d : Desk) (i : ℕ) → IsSound d → IsSound (done_with d i)
+pub done-sound : (d : Desk) (i : ℕ) → IsDeskSound d → IsDeskSound (done_with d i)
 done-sound d i s = record {
   usable = s.usable;
   nodes = s.nodes;
@@ -83,7 +83,7 @@ done-sound d i s = record {
   kept = s.kept;
 }
 
-pub later-sound : (d : Desk) (ms : ℕ) → IsSound d → IsSound (later_by d ms)
+pub later-sound : (d : Desk) (ms : ℕ) → IsDeskSound d → IsDeskSound (later_by d ms)
 later-sound d ms s = record {
   usable = s.usable;
   nodes = s.nodes;
@@ -94,10 +94,10 @@ later-sound d ms s = record {
 }
 
 -- a number that no request has yet is that of no open one
-pub none-open : (d : Desk) (i : ℕ) → IsSound d → (i ≡ 0) ⊎ (d.made < i) → is_open d i ≡ false
-none-open d i s (inl e) = ap (λ (k : ℕ). is_open d k) e ∙ ap (λ (o : Option Standing). is_some (home_of o)) s.none
+pub none-open : (d : Desk) (i : ℕ) → IsDeskSound d → (i ≡ 0) ⊎ (d.made < i) → is_request_open d i ≡ false
+none-open d i s (inl e) = ap (λ (k : ℕ). is_request_open d k) e ∙ ap (λ (o : Option Standing). is_some (home_of o)) s.none
 none-open d i s (inr h) = ap (λ (o : Option Standing). is_some (home_of o)) (s.free i h)
 
 -- the request that comes next has the number of no open one
-pub next-free : (d : Desk) → IsSound d → map.get d.loads.standings (d.made + 1) ≡ None
+pub next-free : (d : Desk) → IsDeskSound d → map.get d.loads.standings (d.made + 1) ≡ None
 next-free d s = s.free (d.made + 1) (omega arith)

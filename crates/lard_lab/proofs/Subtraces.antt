@@ -3,10 +3,10 @@ use Rattle.std.proofs.Common.{◌≡◌, ◌≢◌, ℕ, zero, suc, ◌+◌, ◌
 use Rattle.std.proofs.Math.ListN.{set}
 use Rattle.std.proofs.lemmas.List.{length-append}
 use Rattle.std.specs.List.{range_with_len}
-use Rattle.lard_cache.specs.Recency.{Recency, has}
+use Rattle.lard_cache.specs.Recency.{Recency, has_path}
 use Rattle.lard_lab.specs.declared.backends.Backend.{Backend}
 use Rattle.lard_lab.specs.Backends.{backend_after, empty, fed, one_if}
-use Rattle.lard_lab.specs.Report.{Request, backend_of, count_of, full_among, hits_of, is_at, kept_by, lines_from, outcome_of, subtrace}
+use Rattle.lard_lab.specs.Report.{Request, backend_of, count_true, full_among, hits_of, is_node_at, kept_by, lines_from, outcome_of, subtrace}
 use Rattle.lard_lab.specs.Text.{request_line}
 
 -- ---- paths
@@ -16,7 +16,7 @@ kept-behind size c [] p = refl
 kept-behind size c (q ∷ qs) p = kept-behind size (fed c q (size q)) qs p
 
 pub hits-behind : (size : List ℕ → ℕ) (c : Recency) (ps : List (List ℕ)) (p : List ℕ)
-    → count_of (hits_of size c (ps ++ p ∷ [])) ≡ count_of (hits_of size c ps) + one_if (has (kept_by size c ps).entries p)
+    → count_true (hits_of size c (ps ++ p ∷ [])) ≡ count_true (hits_of size c ps) + one_if (has_path (kept_by size c ps).entries p)
 hits-behind size c [] p = omega arith
 hits-behind size c (q ∷ qs) p = let more = hits-behind size (fed c q (size q)) qs p in omega (arith, more)
 
@@ -26,9 +26,9 @@ hits-behind size c (q ∷ qs) p = let more = hits-behind size (fed c q (size q))
 abbrev pub with_one : Bool → List (List ℕ) → List ℕ → List (List ℕ)
 with_one b ps p = cond b (ps ++ p ∷ []) ps
 
-pub subtrace-behind : (n : ℕ) (rs : List Request) (r : Request) → subtrace n (rs ++ r ∷ []) ≡ with_one (is_at n r.1) (subtrace n rs) r.0
+pub subtrace-behind : (n : ℕ) (rs : List Request) (r : Request) → subtrace n (rs ++ r ∷ []) ≡ with_one (is_node_at n r.1) (subtrace n rs) r.0
 subtrace-behind n [] r = refl
-subtrace-behind n (q ∷ qs) r = go (is_at n q.1) (is_at n r.1) (subtrace-behind n qs r) where
+subtrace-behind n (q ∷ qs) r = go (is_node_at n q.1) (is_node_at n r.1) (subtrace-behind n qs r) where
   go : (a b : Bool) → subtrace n (qs ++ r ∷ []) ≡ with_one b (subtrace n qs) r.0
       → cond a (q.0 ∷ subtrace n (qs ++ r ∷ [])) (subtrace n (qs ++ r ∷ [])) ≡ with_one b (cond a (q.0 ∷ subtrace n qs) (subtrace n qs)) r.0
   go true true e = ap (λ (ps : List (List ℕ)). q.0 ∷ ps) e
@@ -80,19 +80,19 @@ set-row {X} f g a (suc k) (suc i) c is low others = go (sym (others a (λ e. ome
 -- ---- nodes
 
 -- a node with one request more, and any other
-pub backend-behind : (size : List ℕ → ℕ) (limit : ℕ) (rs : List Request) (path : List ℕ) (o : Option ℕ) (peaks : ℕ → ℕ) (n load : ℕ) → is_at n o ≡ true
+pub backend-behind : (size : List ℕ → ℕ) (limit : ℕ) (rs : List Request) (path : List ℕ) (o : Option ℕ) (peaks : ℕ → ℕ) (n load : ℕ) → is_node_at n o ≡ true
     → backend_of size limit (rs ++ (path, o) ∷ []) (λ m. max (peaks m) load) n ≡ backend_after (backend_of size limit rs peaks n) path (size path) load
 backend-behind size limit rs path o peaks n load at =
     let same : subtrace n (rs ++ (path, o) ∷ []) ≡ subtrace n rs ++ path ∷ [] = subtrace-behind n rs (path, o) ∙ ap (λ (b : Bool). with_one b (subtrace n rs) path) at in
-    let whole : List (List ℕ) → Backend = λ ps. record { cache = kept_by size (empty limit) ps; requests = length ps; hits = count_of (hits_of size (empty limit) ps); peak = max (peaks n) load } in
+    let whole : List (List ℕ) → Backend = λ ps. record { cache = kept_by size (empty limit) ps; requests = length ps; hits = count_true (hits_of size (empty limit) ps); peak = max (peaks n) load } in
     ap whole same ∙ parts (kept-behind size (empty limit) (subtrace n rs) path) (length-append (subtrace n rs) (path ∷ [])) (hits-behind size (empty limit) (subtrace n rs) path) where
       parts : {c d : Recency} {r s h i : ℕ} → c ≡ d → r ≡ s → h ≡ i → let p : ℕ = max (peaks n) load in
           let a : Backend = record { cache = c; requests = r; hits = h; peak = p } in let b : Backend = record { cache = d; requests = s; hits = i; peak = p } in a ≡ b
       parts x y z = cc
 
-pub backend-other : (size : List ℕ → ℕ) (limit : ℕ) (rs : List Request) (path : List ℕ) (o : Option ℕ) (peaks : ℕ → ℕ) (n p : ℕ) → is_at n o ≡ false → p ≡ peaks n
+pub backend-other : (size : List ℕ → ℕ) (limit : ℕ) (rs : List Request) (path : List ℕ) (o : Option ℕ) (peaks : ℕ → ℕ) (n p : ℕ) → is_node_at n o ≡ false → p ≡ peaks n
     → backend_of size limit (rs ++ (path, o) ∷ []) (λ m. p) n ≡ backend_of size limit rs peaks n
 backend-other size limit rs path o peaks n p at same =
     let paths : subtrace n (rs ++ (path, o) ∷ []) ≡ subtrace n rs = subtrace-behind n rs (path, o) ∙ ap (λ (b : Bool). with_one b (subtrace n rs) path) at in
-    let whole : List (List ℕ) → ℕ → Backend = λ ps k. record { cache = kept_by size (empty limit) ps; requests = length ps; hits = count_of (hits_of size (empty limit) ps); peak = k } in
+    let whole : List (List ℕ) → ℕ → Backend = λ ps k. record { cache = kept_by size (empty limit) ps; requests = length ps; hits = count_true (hits_of size (empty limit) ps); peak = k } in
     ap (λ (ps : List (List ℕ)). whole ps p) paths ∙ ap (whole (subtrace n rs)) same

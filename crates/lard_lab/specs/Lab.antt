@@ -12,9 +12,9 @@ use Rattle.lard_lab.specs.declared.event.LabFault.{LabFault}
 use Rattle.lard_lab.specs.declared.event.LabFault.TheVariants.{NoFile, NotOpen, Limit, NoMemory}
 use Rattle.lard_lab.specs.declared.policy.Policy.{Policy}
 use Rattle.lard_lab.specs.declared.targets.Target.{Target}
-use Rattle.lard_lab.specs.Backends.{Stores, coded_stores, is_hit, served, untouched}
-use Rattle.lard_lab.specs.Desk.{Desk, answer_at, assigned, begun, coded_desk, done_with, is_open, later_by, passed_over}
-use Rattle.lard_lab.specs.Targets.{fresh, target_at}
+use Rattle.lard_lab.specs.Backends.{Stores, coded_stores, is_hit, stores_served, untouched}
+use Rattle.lard_lab.specs.Desk.{Desk, answer_at, desk_assigned, desk_begun, coded_desk, done_with, is_request_open, later_by, request_passed_over}
+use Rattle.lard_lab.specs.Targets.{fresh_target, target_at}
 use Rattle.lard_lab.specs.Text.{node_lines, request_line, totals_line}
 
 -- what the choices rest on, and what the nodes keep and count
@@ -26,16 +26,16 @@ abbrev pub coded_state : Coded State
 coded_state = code_by _ (coded× coded_desk coded_stores) (λ s. (s.desk, s.stores)) (λ p. record { desk = p.0; stores = p.1 }) (λ _. refl)
 
 -- no file, and no request
-abbrev pub opened : Policy → Config → State
-opened policy cfg = record { desk = begun policy cfg; stores = untouched cfg.nodes cfg.cache }
+abbrev pub lab_opened : Policy → Config → State
+lab_opened policy cfg = record { desk = desk_begun policy cfg; stores = untouched cfg.nodes cfg.cache }
 
 -- files that were added before, and no request
 abbrev pub opened_with : Policy → Config → List (List ℕ × Target) → State
-opened_with policy cfg targets = record { desk = record (begun policy cfg) { targets = targets }; stores = untouched cfg.nodes cfg.cache }
+opened_with policy cfg targets = record { desk = record (desk_begun policy cfg) { targets = targets }; stores = untouched cfg.nodes cfg.cache }
 
 -- one file more
-abbrev pub filed : State → List ℕ → ℕ → State
-filed s path size = record s { desk = record s.desk { targets = s.desk.targets ++ (path, fresh size) ∷ [] } }
+abbrev pub lab_filed : State → List ℕ → ℕ → State
+lab_filed s path size = record s { desk = record s.desk { targets = s.desk.targets ++ (path, fresh_target size) ∷ [] } }
 
 -- ---- a request
 
@@ -44,8 +44,8 @@ abbrev pub load_with_one : Desk → ℕ → ℕ
 load_with_one d n = load d.loads n / WHOLE + 1
 
 abbrev pub requested_by : State → List ℕ → Target → Option FirstChoice → State
-requested_by s path target None = record s { desk = passed_over s.desk }
-requested_by s path target (Some choice) = record { desk = assigned s.desk path target choice; stores = served s.stores choice.node path target.size (load_with_one s.desk choice.node) }
+requested_by s path target None = record s { desk = request_passed_over s.desk }
+requested_by s path target (Some choice) = record { desk = desk_assigned s.desk path target choice; stores = stores_served s.stores choice.node path target.size (load_with_one s.desk choice.node) }
 
 abbrev pub requested : State → List ℕ → Option Target → State
 requested s path None = s
@@ -56,23 +56,23 @@ abbrev pub outcome_by : State → List ℕ → Option FirstChoice → Option (�
 outcome_by s path None = None
 outcome_by s path (Some choice) = Some (choice.node, is_hit s.stores choice.node path)
 
-abbrev pub told_of : State → List ℕ → Option Target → Option (List ℕ)
-told_of s path None = None
-told_of s path (Some target) = Some (request_line (s.desk.made + 1) path (outcome_by s path (answer_at s.desk path target)))
+abbrev pub request_told : State → List ℕ → Option Target → Option (List ℕ)
+request_told s path None = None
+request_told s path (Some target) = Some (request_line (s.desk.made + 1) path (outcome_by s path (answer_at s.desk path target)))
 
 -- ---- any event
 
 -- the state behind an event that is not refused
-unfoldable pub after : State → LabEvent → State
-after s (Req path) = requested s path (target_at s.desk.targets path)
-after s (Done i) = record s { desk = done_with s.desk i }
-after s (Clock ms) = record s { desk = later_by s.desk ms }
+unfoldable pub lab_after : State → LabEvent → State
+lab_after s (Req path) = requested s path (target_at s.desk.targets path)
+lab_after s (Done i) = record s { desk = done_with s.desk i }
+lab_after s (Clock ms) = record s { desk = later_by s.desk ms }
 
 -- its line, where it is a request
-unfoldable pub told : State → LabEvent → Option (List ℕ)
-told s (Req path) = told_of s path (target_at s.desk.targets path)
-told s (Done i) = None
-told s (Clock ms) = None
+unfoldable pub lab_told : State → LabEvent → Option (List ℕ)
+lab_told s (Req path) = request_told s path (target_at s.desk.targets path)
+lab_told s (Done i) = None
+lab_told s (Clock ms) = None
 
 abbrev pub path_fault : ℕ → Option Target → Option LabFault
 path_fault made None = Some NoFile
@@ -81,20 +81,20 @@ path_fault made (Some target) = if nat_le MAX_REQUESTS made then Some Limit else
 -- the first cause that speaks against an event
 unfoldable pub fault_of : State → LabEvent → Option LabFault
 fault_of s (Req path) = path_fault s.desk.made (target_at s.desk.targets path)
-fault_of s (Done i) = if is_open s.desk i then None else Some (NotOpen i)
+fault_of s (Done i) = if is_request_open s.desk i then None else Some (NotOpen i)
 fault_of s (Clock ms) = None
 
 -- What a call answers: the line, where there is no cause against the event; or the first cause; or memory ran out.
-abbrev pub Answers : Option LabFault → Option (List ℕ) → Result (Option (List ℕ)) LabFault → Type 0
-Answers fault line (Ok given) = (fault ≡ None) × (given ≡ line)
-Answers fault line (Err NoMemory) = fault ≡ None
-Answers fault line (Err cause) = fault ≡ Some cause
+abbrev pub AnswersEvent : Option LabFault → Option (List ℕ) → Result (Option (List ℕ)) LabFault → Type 0
+AnswersEvent fault line (Ok given) = (fault ≡ None) × (given ≡ line)
+AnswersEvent fault line (Err NoMemory) = fault ≡ None
+AnswersEvent fault line (Err cause) = fault ≡ Some cause
 
 -- the clock stays below 2^64
-abbrev pub KeepsTime : State → LabEvent → Type 0
-KeepsTime s (Req path) = Unit {0}
-KeepsTime s (Done i) = Unit {0}
-KeepsTime s (Clock ms) = s.desk.time.0 + ms < 2 ^ 64
+abbrev pub KeepsClock : State → LabEvent → Type 0
+KeepsClock s (Req path) = Unit {0}
+KeepsClock s (Done i) = Unit {0}
+KeepsClock s (Clock ms) = s.desk.time.0 + ms < 2 ^ 64
 
 -- the lines at the end of a report
 unfoldable pub totals_text : State → List ℕ

@@ -3,7 +3,7 @@ use Rattle.std.specs.Prelude.{ℕ, ◌+◌, ◌/◌, Bool, false, nat_eq, max, i
 use Rattle.std.specs.Map.{lookup}
 use Rattle.std.specs.Str.{bytes_eq}
 use Rattle.lard_base.specs.declared.config.Config.{Config}
-use Rattle.lard_cache.specs.Recency.{Recency, has}
+use Rattle.lard_cache.specs.Recency.{Recency, has_path}
 use Rattle.lard_loads.specs.declared.loads.TheConstants.{WHOLE}
 use Rattle.lard_loads.specs.Tally.{load, numbers}
 use Rattle.lard_policy.specs.declared.first.FirstChoice.{FirstChoice}
@@ -13,16 +13,16 @@ use Rattle.lard_lab.specs.declared.event.LabEvent.TheVariants.{Req, Done, Clock}
 use Rattle.lard_lab.specs.declared.policy.Policy.{Policy}
 use Rattle.lard_lab.specs.declared.targets.Target.{Target}
 use Rattle.lard_lab.specs.Backends.{empty, fed, one_if}
-use Rattle.lard_lab.specs.Desk.{Desk, answer_at, assigned, begun, done_with, later_by, passed_over}
-use Rattle.lard_lab.specs.Targets.{fresh, target_at}
-use Rattle.lard_lab.specs.Text.{heading_line, node_lines, request_line, totals_line}
+use Rattle.lard_lab.specs.Desk.{Desk, answer_at, desk_assigned, desk_begun, done_with, later_by, request_passed_over}
+use Rattle.lard_lab.specs.Targets.{fresh_target, target_at}
+use Rattle.lard_lab.specs.Text.{lab_heading_line, node_lines, request_line, totals_line}
 
 -- ---- assignments, for which no cache is looked at
 
 -- the desk behind a request
 abbrev pub desk_by : Desk → List ℕ → Target → Option FirstChoice → Desk
-desk_by d path target None = passed_over d
-desk_by d path target (Some choice) = assigned d path target choice
+desk_by d path target None = request_passed_over d
+desk_by d path target (Some choice) = desk_assigned d path target choice
 
 abbrev pub desk_requested : Desk → List ℕ → Option Target → Desk
 desk_requested d path None = d
@@ -38,13 +38,13 @@ desk_after d (Clock ms) = later_by d ms
 abbrev pub Request : Type 0
 Request = List ℕ × Option ℕ
 
-abbrev pub node_of : Option FirstChoice → Option ℕ
-node_of None = None
-node_of (Some choice) = Some choice.node
+abbrev pub node_chosen : Option FirstChoice → Option ℕ
+node_chosen None = None
+node_chosen (Some choice) = Some choice.node
 
 abbrev pub request_of : Desk → List ℕ → Option Target → List Request
 request_of d path None = []
-request_of d path (Some target) = (path, node_of (answer_at d path target)) ∷ []
+request_of d path (Some target) = (path, node_chosen (answer_at d path target)) ∷ []
 
 -- the request of an event, where it is one
 unfoldable pub request_in : Desk → LabEvent → List Request
@@ -59,14 +59,14 @@ assignments d (e ∷ es) = request_in d e ++ assignments (desk_after d e) es
 
 -- ---- the hits of a node
 
-abbrev pub is_at : ℕ → Option ℕ → Bool
-is_at n None = false
-is_at n (Some m) = nat_eq m n
+abbrev pub is_node_at : ℕ → Option ℕ → Bool
+is_node_at n None = false
+is_node_at n (Some m) = nat_eq m n
 
 -- the paths of a node's requests alone, in order
 abbrev pub subtrace : ℕ → List Request → List (List ℕ)
 subtrace n [] = []
-subtrace n (r ∷ rs) = if is_at n r.1 then r.0 ∷ subtrace n rs else subtrace n rs
+subtrace n (r ∷ rs) = if is_node_at n r.1 then r.0 ∷ subtrace n rs else subtrace n rs
 
 -- the recency list that was fed with these paths, of files of these sizes
 abbrev pub kept_by : (List ℕ → ℕ) → Recency → List (List ℕ) → Recency
@@ -76,11 +76,11 @@ kept_by size cache (path ∷ paths) = kept_by size (fed cache path (size path)) 
 -- whether each of these paths is in the list when it comes
 abbrev pub hits_of : (List ℕ → ℕ) → Recency → List (List ℕ) → List Bool
 hits_of size cache [] = []
-hits_of size cache (path ∷ paths) = has cache.entries path ∷ hits_of size (fed cache path (size path)) paths
+hits_of size cache (path ∷ paths) = has_path cache.entries path ∷ hits_of size (fed cache path (size path)) paths
 
-abbrev pub count_of : List Bool → ℕ
-count_of [] = 0
-count_of (b ∷ bs) = one_if b + count_of bs
+abbrev pub count_true : List Bool → ℕ
+count_true [] = 0
+count_true (b ∷ bs) = one_if b + count_true bs
 
 -- ---- the greatest load of a node
 
@@ -96,19 +96,19 @@ abbrev pub File : Type 0
 File = List ℕ × ℕ
 
 -- how many bytes the file of a path has
-abbrev pub size_in : List File → List ℕ → ℕ
-size_in files path = unwrap_or (lookup (bytes_eq path) files) 0
+abbrev pub file_size_in : List File → List ℕ → ℕ
+file_size_in files path = unwrap_or (lookup (bytes_eq path) files) 0
 
 -- the desk with these files, before the first event
 abbrev pub desk_with : Policy → Config → List File → Desk
-desk_with policy cfg files = record (begun policy cfg) { targets = map (λ f. (f.0, fresh f.1)) files }
+desk_with policy cfg files = record (desk_begun policy cfg) { targets = map (λ f. (f.0, fresh_target f.1)) files }
 
 -- What is counted of a node: its cache, its requests and its hits are those of its subtrace alone.
 abbrev pub backend_of : (List ℕ → ℕ) → ℕ → List Request → (ℕ → ℕ) → ℕ → Backend
 backend_of size limit rs peaks n = record {
   cache = kept_by size (empty limit) (subtrace n rs);
   requests = length (subtrace n rs);
-  hits = count_of (hits_of size (empty limit) (subtrace n rs));
+  hits = count_true (hits_of size (empty limit) (subtrace n rs));
   peak = peaks n;
 }
 
@@ -118,7 +118,7 @@ backends_of size cfg rs peaks = map (backend_of size cfg.cache rs peaks) (number
 -- the node of a request, and whether its path was in the list of the node's requests before
 abbrev pub outcome_of : (List ℕ → ℕ) → ℕ → List Request → List ℕ → Option ℕ → Option (ℕ × Bool)
 outcome_of size limit before path None = None
-outcome_of size limit before path (Some n) = Some (n, has (kept_by size (empty limit) (subtrace n before)).entries path)
+outcome_of size limit before path (Some n) = Some (n, has_path (kept_by size (empty limit) (subtrace n before)).entries path)
 
 -- a line for each request, behind those before
 abbrev pub lines_from : (List ℕ → ℕ) → ℕ → List Request → List Request → List ℕ
@@ -132,7 +132,7 @@ full_among (r ∷ rs) = one_if (is_none r.1) + full_among rs
 
 -- the hits of all nodes
 abbrev pub all_hits : (List ℕ → ℕ) → Config → List Request → ℕ
-all_hits size cfg rs = sum_by (λ n. count_of (hits_of size (empty cfg.cache) (subtrace n rs))) (numbers cfg.nodes)
+all_hits size cfg rs = sum_by (λ n. count_true (hits_of size (empty cfg.cache) (subtrace n rs))) (numbers cfg.nodes)
 
 -- the requests that went to a node
 abbrev pub all_requests : Config → List Request → ℕ
@@ -147,4 +147,4 @@ unfoldable pub lab_report : Policy → Config → List File → List LabEvent �
 lab_report policy cfg files es =
     let d : Desk = desk_with policy cfg files in
     let rs : List Request = assignments d es in
-    heading_line policy cfg ++ lines_from (size_in files) cfg.cache [] rs ++ totals_of (size_in files) cfg rs (λ n. peak_of n d es)
+    lab_heading_line policy cfg ++ lines_from (file_size_in files) cfg.cache [] rs ++ totals_of (file_size_in files) cfg rs (λ n. peak_of n d es)

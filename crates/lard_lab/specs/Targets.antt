@@ -10,28 +10,28 @@ use Rattle.lard_sets.specs.Sets.{no_servers}
 use Rattle.lard_lab.specs.declared.targets.Target.{Target}
 
 -- the pairs that the entries of a map of vectors are seen as
-abbrev pub shown : List (Vec ℕ Global × Target) → List (List ℕ × Target)
-shown entries = map (λ e. (e.0.items, e.1)) entries
+abbrev pub targets_shown : List (Vec ℕ Global × Target) → List (List ℕ × Target)
+targets_shown entries = map (λ e. (e.0.items, e.1)) entries
 
 -- what is kept of a path, where it is that of a file
 abbrev pub target_at : List (List ℕ × Target) → List ℕ → Option Target
 target_at targets path = lookup (bytes_eq path) targets
 
 -- the sizes of all files, added up
-abbrev pub total : List (List ℕ × Target) → ℕ
-total targets = sum_by (λ t. t.1.size) targets
+abbrev pub targets_total : List (List ℕ × Target) → ℕ
+targets_total targets = sum_by (λ t. t.1.size) targets
 
 -- whether a file of so many bytes may be added under a path, by the rules for files of a run
-abbrev pub add_check : List (List ℕ × Target) → List ℕ → ℕ → Result (Unit {0}) FileFault
-add_check targets path size = first_fault (is_some (target_at targets path)) (length targets) (total targets) size
+abbrev pub target_check : List (List ℕ × Target) → List ℕ → ℕ → Result (Unit {0}) FileFault
+target_check targets path size = first_fault (is_some (target_at targets path)) (length targets) (targets_total targets) size
 
 -- no request was for it yet
-abbrev pub fresh : ℕ → Target
-fresh size = record { size = size; server = None; set = no_servers }
+abbrev pub fresh_target : ℕ → Target
+fresh_target size = record { size = size; server = None; set = no_servers }
 
 -- no request was for any of them yet
 abbrev pub AreFresh : List (List ℕ × Target) → Type 0
-AreFresh targets = AllByRecursion (λ t. t.1 ≡ fresh t.1.size) targets
+AreFresh targets = AllByRecursion (λ t. t.1 ≡ fresh_target t.1.size) targets
 
 -- this is kept of a path, where it is that of a file
 abbrev pub with_target : List (List ℕ × Target) → List ℕ → Target → List (List ℕ × Target)

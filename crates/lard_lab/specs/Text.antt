@@ -14,8 +14,8 @@ unfoldable pub numbers_text : Config → List ℕ
 numbers_text cfg = thresholds_text cfg ++ (codes " age " ++ decimal cfg.age) ++ (codes " cache " ++ decimal cfg.cache) ++ codes "\n"
 
 -- lab POLICY nodes A low B high C age D cache E
-unfoldable pub heading_line : Policy → Config → List ℕ
-heading_line policy cfg = codes "lab " ++ policy_word policy ++ numbers_text cfg
+unfoldable pub lab_heading_line : Policy → Config → List ℕ
+lab_heading_line policy cfg = codes "lab " ++ policy_word policy ++ numbers_text cfg
 
 abbrev pub outcome_word : Bool → List ℕ
 outcome_word hit = if hit then codes " hit\n" else codes " miss\n"

@@ -2,11 +2,11 @@
 
 ghost use Rattle.std.specs.Prelude.{◌≡◌, ◌+◌, ◌%◌, ◌/◌, ◌<◌, ◌≤◌, ◌^◌, [], ◌∷◌, ◌++◌, Ok, Some, IfOk, IfSome, OnOk, OnErr, if◌then◌else◌};
 ghost use Rattle.lard_base.specs.Config.{config_check};
-ghost use Rattle.lard_files.specs.Files.{Answers};
+ghost use Rattle.lard_files.specs.Files.{AnswersAddition};
 ghost use Rattle.lard_loads.specs.Tally.{load};
 ghost use Rattle.lard_policy.specs.First.{is_overloaded};
-ghost use Rattle.lard_lab.specs.Desk.{answer_at, assigned, begun, choice_at, choice_by, chosen_for, done_with, is_full, is_open, joined, later_by, passed_over, plain, reduced, served_by};
-ghost use Rattle.lard_lab.specs.Targets.{AreFresh, add_check, fresh, target_at};
+ghost use Rattle.lard_lab.specs.Desk.{answer_at, desk_assigned, desk_begun, desk_choice, choice_by, chosen_for, done_with, is_desk_full, is_request_open, desk_joined, later_by, request_passed_over, plain_choice, desk_reduced, served_by};
+ghost use Rattle.lard_lab.specs.Targets.{AreFresh, target_check, fresh_target, target_at};
 
 use crate::policy::{Policy, hash_of};
 use crate::targets::{Target, Targets};
@@ -39,7 +39,7 @@ impl Model for Assigner {
     ghost use Rattle.std.specs.Prelude.{◌≡◌};
     ghost use Rattle.lard_base.specs.Config.{room_of};
     ghost use Rattle.lard_lab.specs.Desk.{Desk, coded_desk};
-    ghost use Rattle.lard_lab.specs.Sound.{IsSound};
+    ghost use Rattle.lard_lab.specs.Sound.{IsDeskSound};
 
     ghost Value = { Desk };
 
@@ -47,14 +47,14 @@ impl Model for Assigner {
 
     ghost view = { λ a. record { policy = a.policy; config = a.config; time = a.time; made = a.made; loads = a.loads; targets = a.targets } };
 
-    ghost invariant = { λ a. (a.room ≡ room_of a.config) × IsSound (record { policy = a.policy; config = a.config; time = a.time; made = a.made; loads = a.loads; targets = a.targets }) };
+    ghost invariant = { λ a. (a.room ≡ room_of a.config) × IsDeskSound (record { policy = a.policy; config = a.config; time = a.time; made = a.made; loads = a.loads; targets = a.targets }) };
 }
 
 impl Assigner {
     /// No request and no file. The configuration passes its check.
     pub fn new(alloc: Global, policy: Policy, config: Config) -> Result<Assigner, NoMemory>
         requires { config_check config ≡ Ok tt }
-        ensures { IfOk result (λ a. a ≡ begun policy config) }
+        ensures { IfOk result (λ a. a ≡ desk_begun policy config) }
     {
         Assigner::with_targets(alloc, policy, config, Targets::new(alloc))
     }
@@ -68,7 +68,7 @@ impl Assigner {
     ) -> Result<Assigner, NoMemory>
         requires usable { config_check config ≡ Ok tt }
         requires fresh { AreFresh targets }
-        ensures { IfOk result (λ a. a ≡ record (begun policy config) { targets = targets }) }
+        ensures { IfOk result (λ a. a ≡ record (desk_begun policy config) { targets = targets }) }
     {
         let Ok(()) = config.check() else {
             unreachable!();
@@ -88,8 +88,8 @@ impl Assigner {
 
     /// Adds a file of so many bytes. The causes are those of `Targets::add`.
     pub fn add(&mut self, path: &[u8], size: u64) -> Result<(), FileFault>
-        ensures answer { Answers (add_check self.old.targets path.now size) result }
-        ensures ok { OnOk result (self.new ≡ record self.old { targets = self.old.targets ++ (path.now, fresh size) ∷ [] }) }
+        ensures answer { AnswersAddition (target_check self.old.targets path.now size) result }
+        ensures ok { OnOk result (self.new ≡ record self.old { targets = self.old.targets ++ (path.now, fresh_target size) ∷ [] }) }
         ensures err { OnErr result (self.new ≡ self.old) }
     {
         self.targets.add(path, size)
@@ -136,7 +136,7 @@ impl Assigner {
         requires few { self.old.made < 16384 }
         requires target { target_at self.old.targets path.now ≡ Some target.now }
         requires node { choice.node ≤ self.old.config.nodes }
-        ensures { self.new ≡ assigned self.old path.now target.now choice }
+        ensures { self.new ≡ desk_assigned self.old path.now target.now choice }
     {
         let number = self.made + 1;
         let Some(c) = ConnId::new(number) else {
@@ -151,15 +151,15 @@ impl Assigner {
     /// Notes a request that is full.
     pub fn pass_over(&mut self)
         requires { self.old.made < 16384 }
-        ensures { self.new ≡ passed_over self.old }
+        ensures { self.new ≡ request_passed_over self.old }
     {
         self.made += 1;
     }
 
     /// Ends the request with this number, and answers whether it was open. Any other number changes nothing.
     pub fn end(&mut self, number: u32) -> bool
-        ensures value { result ≡ is_open self.old number }
-        ensures after { self.new ≡ (if is_open self.old number then done_with self.old number else self.old) }
+        ensures value { result ≡ is_request_open self.old number }
+        ensures after { self.new ≡ (if is_request_open self.old number then done_with self.old number else self.old) }
     {
         if number == 0 || number > self.made {
             return false;
@@ -186,7 +186,7 @@ impl Assigner {
     #[tactic(auto, unfolding(crate::specs::Desk::choice_by))]
     fn choice(&self, path: &[u8], target: &Target) -> FirstChoice
         requires { target_at self.now.targets path.now ≡ Some target.now }
-        ensures choice { result ≡ choice_at self.now path.now target.now }
+        ensures choice { result ≡ desk_choice self.now path.now target.now }
         ensures within { result.node ≤ self.now.config.nodes }
     {
         match self.policy {
@@ -206,7 +206,7 @@ impl Assigner {
 
 /// A choice that changes no server set.
 fn plain(node: NodeId) -> FirstChoice
-    ensures { result ≡ plain node }
+    ensures { result ≡ plain_choice node }
 {
     FirstChoice {
         node,
@@ -265,7 +265,7 @@ fn chosen_for(target: &Target, choice: FirstChoice, now: Millis) -> Target
 
 /// A set that a node joins, if one does.
 fn joined(set: ServerSet, node: Option<NodeId>, now: Millis) -> ServerSet
-    ensures { result ≡ joined set node now }
+    ensures { result ≡ desk_joined set node now }
 {
     match node {
         Some(n) => ServerSet {
@@ -278,7 +278,7 @@ fn joined(set: ServerSet, node: Option<NodeId>, now: Millis) -> ServerSet
 
 /// A set that a node leaves, if one does.
 fn reduced(set: ServerSet, node: Option<NodeId>, now: Millis) -> ServerSet
-    ensures { result ≡ reduced set node now }
+    ensures { result ≡ desk_reduced set node now }
 {
     match node {
         Some(n) => ServerSet {

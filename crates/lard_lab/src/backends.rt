@@ -1,8 +1,8 @@
 //! The nodes behind the front end: what each keeps in its cache, and what is counted of it.
 
 ghost use Rattle.std.specs.Prelude.{◌≡◌, ◌+◌, ◌-◌, ◌<◌, ◌≤◌, length, slice_get, Some, IfOk, IfSome, OnOk, OnErr};
-ghost use Rattle.lard_cache.specs.Recency.{has};
-ghost use Rattle.lard_lab.specs.Backends.{backend_after, cold, empty, fed, is_hit, node_after, served, untouched};
+ghost use Rattle.lard_cache.specs.Recency.{has_path};
+ghost use Rattle.lard_lab.specs.Backends.{backend_after, cold, empty, fed, is_hit, node_after, stores_served, untouched};
 
 use lard_base::{NoMemory, NodeId, Path};
 use lard_cache::Cache;
@@ -40,7 +40,7 @@ impl Backend {
     fn serve(&mut self, path: &Path, size: u32, load: u32) -> Result<bool, NoMemory>
         requires requests { self.old.requests < 16384 }
         requires hits { self.old.hits < 16384 }
-        ensures hit { IfOk result (λ hit. hit ≡ has self.old.cache.entries path.now) }
+        ensures hit { IfOk result (λ hit. hit ≡ has_path self.old.cache.entries path.now) }
         ensures ok { OnOk result (self.new ≡ backend_after self.old path.now size load) }
         ensures err { OnErr result (self.new ≡ self.old) }
     {
@@ -55,7 +55,7 @@ impl Backend {
 /// Feeds a cache with a path whose file has so many bytes, and answers whether it was there: then it comes to the front, and
 /// else it is put. Without memory nothing changes.
 fn feed(cache: &mut Cache, path: &Path, size: u32) -> Result<bool, NoMemory>
-    ensures hit { IfOk result (λ hit. hit ≡ has cache.old.entries path.now) }
+    ensures hit { IfOk result (λ hit. hit ≡ has_path cache.old.entries path.now) }
     ensures ok { OnOk result (cache.new ≡ fed cache.old path.now size) }
     ensures err { OnErr result (cache.new ≡ cache.old) }
 {
@@ -76,7 +76,7 @@ pub struct Backends {
 
 impl Model for Backends {
     ghost use Rattle.std.specs.Prelude.{◌≤◌, All};
-    ghost use Rattle.lard_lab.specs.Backends.{IsCounted, Stores, coded_stores};
+    ghost use Rattle.lard_lab.specs.Backends.{IsCountedOf, Stores, coded_stores};
 
     ghost Value = { Stores };
 
@@ -84,7 +84,7 @@ impl Model for Backends {
 
     ghost view = { λ b. record { nodes = b.nodes.items; requests = b.requests; hits = b.hits } };
 
-    ghost invariant = { λ b. (b.hits ≤ b.requests) × All (IsCounted b.requests b.hits) b.nodes.items };
+    ghost invariant = { λ b. (b.hits ≤ b.requests) × All (IsCountedOf b.requests b.hits) b.nodes.items };
 }
 
 impl Backends {
@@ -116,7 +116,7 @@ impl Backends {
     pub fn serve(&mut self, n: NodeId, path: &Path, size: u32, load: u32) -> Result<(), NoMemory>
         requires node { n ≤ length self.old.nodes }
         requires few { self.old.requests < 16384 }
-        ensures ok { OnOk result (self.new ≡ served self.old n path.now size load) }
+        ensures ok { OnOk result (self.new ≡ stores_served self.old n path.now size load) }
         ensures err { OnErr result (self.new ≡ self.old) }
     {
         let at = n.number() as usize - 1;
@@ -153,7 +153,7 @@ fn serve_at(
 ) -> Result<bool, NoMemory>
     requires node { at < length nodes.old.items }
     requires few { IfSome (slice_get nodes.old.items at) (λ b. (b.requests < 16384) × (b.hits < 16384)) }
-    ensures hit { IfOk result (λ hit. IfSome (slice_get nodes.old.items at) (λ b. hit ≡ has b.cache.entries path.now)) }
+    ensures hit { IfOk result (λ hit. IfSome (slice_get nodes.old.items at) (λ b. hit ≡ has_path b.cache.entries path.now)) }
     ensures ok { OnOk result (nodes.new.items ≡ node_after nodes.old.items at path.now size load) }
     ensures err { OnErr result (nodes.new.items ≡ nodes.old.items) }
 {

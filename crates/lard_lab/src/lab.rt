@@ -3,10 +3,10 @@
 ghost use Rattle.std.specs.Prelude.{◌≡◌, ◌+◌, ◌<◌, ◌≤◌, Ok, Some, None, IfOk, OnOk, OnErr};
 ghost use Rattle.lard_base.specs.Config.{config_check};
 ghost use Rattle.lard_files.specs.Files as files;
-ghost use Rattle.lard_lab.specs.Desk.{passed_over};
-ghost use Rattle.lard_lab.specs.Targets.{AreFresh, add_check, target_at};
+ghost use Rattle.lard_lab.specs.Desk.{request_passed_over};
+ghost use Rattle.lard_lab.specs.Targets.{AreFresh, target_check, target_at};
 ghost use Rattle.lard_lab.specs.Text.{request_line};
-ghost use Rattle.lard_lab.specs.Lab.{Answers, KeepsTime, after, fault_of, filed, opened, opened_with, outcome_by, path_fault, requested, requested_by, told, told_of, totals_text};
+ghost use Rattle.lard_lab.specs.Lab.{AnswersEvent, KeepsClock, lab_after, fault_of, lab_filed, lab_opened, opened_with, outcome_by, path_fault, requested, requested_by, lab_told, request_told, totals_text};
 
 use crate::assigner::{Assigner, MAX_REQUESTS};
 use crate::backends::Backends;
@@ -46,7 +46,7 @@ impl Lab {
     /// once.
     pub fn new(alloc: Global, policy: Policy, config: Config) -> Result<Lab, NoMemory>
         requires { config_check config ≡ Ok tt }
-        ensures { IfOk result (λ lab. lab ≡ opened policy config) }
+        ensures { IfOk result (λ lab. lab ≡ lab_opened policy config) }
     {
         Ok(Lab {
             alloc,
@@ -77,8 +77,8 @@ impl Lab {
     /// where the path is there, `TooLong` with the size above 2^20 bytes, `TooMany` with the number of files above 65,536,
     /// `TooMuch` with the sum of their sizes above 2^26 bytes, both counted with this one, `NoMemory`.
     pub fn file(&mut self, path: &[u8], size: u64) -> Result<(), FileFault>
-        ensures answer { files.Answers (add_check self.old.desk.targets path.now size) result }
-        ensures ok { OnOk result (self.new ≡ filed self.old path.now size) }
+        ensures answer { files.AnswersAddition (target_check self.old.desk.targets path.now size) result }
+        ensures ok { OnOk result (self.new ≡ lab_filed self.old path.now size) }
         ensures err { OnErr result (self.new ≡ self.old) }
     {
         self.assigner.add(path, size)
@@ -87,11 +87,11 @@ impl Lab {
     /// Does what an event does, and answers the line of a request. The first of these answers that applies comes, and the
     /// lab is then as it was: `NoFile` where no file has the request's path, `NotOpen` where no request has this number, or
     /// it was full, or it is done, `Limit` where 16,384 requests were made before this one, `NoMemory`.
-    #[tactic(auto, unfolding(crate::specs::Lab::after, crate::specs::Lab::told, crate::specs::Lab::fault_of))]
+    #[tactic(auto, unfolding(crate::specs::Lab::lab_after, crate::specs::Lab::lab_told, crate::specs::Lab::fault_of))]
     pub fn event(&mut self, event: LabEvent) -> Result<Option<Bytes>, LabFault>
-        requires { KeepsTime self.old event }
-        ensures answer { Answers (fault_of self.old event) (told self.old event) result }
-        ensures ok { OnOk result (self.new ≡ after self.old event) }
+        requires { KeepsClock self.old event }
+        ensures answer { AnswersEvent (fault_of self.old event) (lab_told self.old event) result }
+        ensures ok { OnOk result (self.new ≡ lab_after self.old event) }
         ensures err { OnErr result (self.new ≡ self.old) }
     {
         match event {
@@ -129,7 +129,7 @@ impl Lab {
 
     /// A request comes.
     fn request(&mut self, path: Path) -> Result<Option<Bytes>, LabFault>
-        ensures answer { Answers (path_fault self.old.desk.made (target_at self.old.desk.targets path)) (told_of self.old path (target_at self.old.desk.targets path)) result }
+        ensures answer { AnswersEvent (path_fault self.old.desk.made (target_at self.old.desk.targets path)) (request_told self.old path (target_at self.old.desk.targets path)) result }
         ensures ok { OnOk result (self.new ≡ requested self.old path (target_at self.old.desk.targets path)) }
         ensures err { OnErr result (self.new ≡ self.old) }
     {
@@ -149,7 +149,7 @@ impl Lab {
     fn answer(&mut self, path: &Path, target: &Target) -> Result<Bytes, NoMemory>
         requires few { self.old.desk.made < 16384 }
         requires there { target_at self.old.desk.targets path.now ≡ Some target.now }
-        ensures line { IfOk result (λ line. Some line ≡ told_of self.old path.now (Some target.now)) }
+        ensures line { IfOk result (λ line. Some line ≡ request_told self.old path.now (Some target.now)) }
         ensures ok { OnOk result (self.new ≡ requested self.old path.now (Some target.now)) }
         ensures err { OnErr result (self.new ≡ self.old) }
     {
@@ -187,7 +187,7 @@ impl Lab {
     fn pass_over(&mut self, path: &Path) -> Result<Bytes, NoMemory>
         requires { self.old.desk.made < 16384 }
         ensures line { IfOk result (λ line. line ≡ request_line (self.old.desk.made + 1) path.now None) }
-        ensures ok { OnOk result (self.new ≡ record self.old { desk = passed_over self.old.desk }) }
+        ensures ok { OnOk result (self.new ≡ record self.old { desk = request_passed_over self.old.desk }) }
         ensures err { OnErr result (self.new ≡ self.old) }
     {
         let number = self.assigner.made() + 1;

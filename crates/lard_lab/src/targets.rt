@@ -2,9 +2,9 @@
 
 ghost use Rattle.std.specs.Prelude.{◌≡◌, ◌<◌, ◌≤◌, ◌^◌, [], ◌∷◌, ◌++◌, length, Some, OnOk, OnErr, IfSome};
 ghost use Rattle.lard_base.specs.declared.limits.TheConstants.{MAX_ALL_FILES_BYTES, MAX_FILE_BYTES};
-ghost use Rattle.lard_files.specs.Files.{Answers, first_fault as first_fault_of};
+ghost use Rattle.lard_files.specs.Files.{AnswersAddition, first_fault as first_fault_of};
 ghost use Rattle.lard_sets.specs.Sets.{no_servers};
-ghost use Rattle.lard_lab.specs.Targets.{add_check, fresh, target_at, with_target};
+ghost use Rattle.lard_lab.specs.Targets.{target_check, fresh_target, target_at, with_target};
 
 use indexmap::IndexMap;
 use lard_base::limits::{MAX_ALL_FILES_BYTES, MAX_FILE_BYTES, MAX_FILES};
@@ -35,14 +35,14 @@ pub struct Targets {
 impl Model for Targets {
     ghost use Rattle.std.specs.Prelude.{ℕ, ◌≡◌, ◌≤◌, List};
     ghost use Rattle.lard_base.specs.declared.limits.TheConstants.{MAX_ALL_FILES_BYTES};
-    ghost use Rattle.lard_lab.specs.Targets.{shown, total};
+    ghost use Rattle.lard_lab.specs.Targets.{targets_shown, targets_total};
     ghost use Rattle.lard_lab.specs.declared.targets.Target.{Target};
 
     ghost Value = { List (List ℕ × Target) };
 
-    ghost view = { λ t. shown t.targets.entries };
+    ghost view = { λ t. targets_shown t.targets.entries };
 
-    ghost invariant = { λ t. (t.bytes ≡ total (shown t.targets.entries)) × (t.bytes ≤ MAX_ALL_FILES_BYTES) };
+    ghost invariant = { λ t. (t.bytes ≡ targets_total (targets_shown t.targets.entries)) × (t.bytes ≤ MAX_ALL_FILES_BYTES) };
 }
 
 impl Targets {
@@ -61,8 +61,8 @@ impl Targets {
     /// number of files above 65,536, `TooMuch` with the sum of their sizes above 2^26 bytes, both counted with this one,
     /// `NoMemory`.
     pub fn add(&mut self, path: &[u8], size: u64) -> Result<(), FileFault>
-        ensures answer { Answers (add_check self.old path.now size) result }
-        ensures ok { OnOk result (self.new ≡ self.old ++ (path.now, fresh size) ∷ []) }
+        ensures answer { AnswersAddition (target_check self.old path.now size) result }
+        ensures ok { OnOk result (self.new ≡ self.old ++ (path.now, fresh_target size) ∷ []) }
         ensures err { OnErr result (self.new ≡ self.old) }
     {
         self.check(path, size)?;
@@ -91,7 +91,7 @@ impl Targets {
 
     /// Whether a file of so many bytes may be added under this path, or the first fault that speaks against it.
     fn check(&self, path: &[u8], size: u64) -> Result<(), FileFault>
-        ensures { result ≡ add_check self.now path.now size }
+        ensures { result ≡ target_check self.now path.now size }
     {
         first_fault(
             self.targets.contains_key(path),
@@ -103,8 +103,8 @@ impl Targets {
 
     /// Keeps a file that may be added.
     fn keep(&mut self, path: &[u8], size: u32) -> Result<(), NoMemory>
-        requires allowed { add_check self.old path.now size ≡ Ok tt }
-        ensures ok { OnOk result (self.new ≡ self.old ++ (path.now, fresh size) ∷ []) }
+        requires allowed { target_check self.old path.now size ≡ Ok tt }
+        ensures ok { OnOk result (self.new ≡ self.old ++ (path.now, fresh_target size) ∷ []) }
         ensures err { OnErr result (self.new ≡ self.old) }
     {
         let alloc = *self.targets.allocator();
@@ -117,7 +117,7 @@ impl Targets {
 
 /// A target that no request was for yet.
 fn fresh(size: u32) -> Target
-    ensures { result ≡ fresh size }
+    ensures { result ≡ fresh_target size }
 {
     Target {
         size,

@@ -1,7 +1,7 @@
 //! The lines of a report.
 
 ghost use Rattle.std.specs.Prelude.{◌≡◌, ◌+◌, ◌++◌, IfOk, OnOk, codes, decimal};
-ghost use Rattle.lard_lab.specs.Text.{heading_line, node_line, node_lines, numbers_text, outcome_word, request_line, thresholds_text, totals_line};
+ghost use Rattle.lard_lab.specs.Text.{lab_heading_line, node_line, node_lines, numbers_text, outcome_word, request_line, thresholds_text, totals_line};
 
 use crate::backends::Backend;
 use crate::policy::Policy;
@@ -10,9 +10,9 @@ use lard_base::{Bytes, Config, NoMemory, NodeId};
 use std::alloc::Global;
 
 /// The first line of a report: the policy, and the numbers of the configuration that count.
-#[tactic(auto, unfolding(crate::specs::Text::heading_line))]
+#[tactic(auto, unfolding(crate::specs::Text::lab_heading_line))]
 pub fn heading(alloc: Global, policy: Policy, config: &Config) -> Result<Bytes, NoMemory>
-    ensures { IfOk result (λ text. text ≡ heading_line policy config.now) }
+    ensures { IfOk result (λ text. text ≡ lab_heading_line policy config.now) }
 {
     let mut text = Vec::new(alloc);
     push_text(&mut text, "lab ")?;

@@ -3,7 +3,7 @@ use Rattle.std.proofs.Common.{◌≡◌, ℕ, ◌+◌, ◌≤◌, ◌<◌, List,
 use Rattle.std.proofs.lemmas.Bool.Decides.{nat_tests}
 use Rattle.std.specs.Prelude.{nat_lt}
 use Rattle.lard_base.specs.declared.limits.TheConstants.{MAX_INPUT_BYTES}
-use Rattle.lard_base.specs.Config.{IsInRange, config_check, range_check}
+use Rattle.lard_base.specs.Config.{AreKeysInRange, config_check, range_check}
 use Rattle.lard_base.specs.declared.config.ConfigFault.{ConfigFault}
 use Rattle.lard_base.specs.declared.config.Key.{Key}
 use Rattle.lard_files.specs.declared.fault.FileFault.{FileFault}
@@ -14,10 +14,10 @@ use Rattle.lard_lab.specs.declared.event.LabFault.{LabFault}
 use Rattle.lard_lab.specs.declared.event.LabFault.TheVariants as lab_fault
 use Rattle.lard_lab.specs.declared.policy.Policy.{Policy}
 use Rattle.lard_lab.specs.Lab.{fault_of}
-use Rattle.lard_lab.specs.Targets.{add_check, target_at, total}
+use Rattle.lard_lab.specs.Targets.{target_check, target_at, targets_total}
 use Rattle.lard_lab_run.specs.Causes.{AddsNoneInLab, EndsLabLine, IsLabUnfit, MayNotAddInLab, RefusesInLab, RequestsMore, StandsInLab}
 use Rattle.lard_lab_run.specs.Items.{lab_item_of}
-use Rattle.lard_lab_run.specs.Trial.{LabProgress, lab_begin, lab_begun, lab_config_set, lab_counted, lab_ended_by, lab_file_ends, lab_filed, lab_followed, lab_found, lab_is_past, lab_item_taken, lab_moved, lab_passed, lab_taken}
+use Rattle.lard_lab_run.specs.Trial.{LabProgress, lab_begin, lab_begun, lab_config_set, lab_counted, lab_ended_by, lab_file_ends, trace_filed, lab_followed, lab_found, lab_is_past, lab_item_taken, lab_moved, lab_passed, lab_taken}
 use Rattle.lard_lab_run.specs.declared.end.LabEnd.{LabEnd}
 use Rattle.lard_lab_run.specs.declared.end.LabEnd.TheVariants.{Done, Refused, ReadFault, WriteFault, NoMemory, Limit}
 use Rattle.lard_lab_run.specs.declared.end.LabLimit.TheVariants as limit
@@ -36,35 +36,35 @@ pub record Knows (n bytes : ℕ) (s : LabProgress) : Type 0 where
   pub lines : s.lines ≡ n
   pub read : s.read ≡ bytes
   pub small : s.read ≤ MAX_INPUT_BYTES
-  pub ranged : IsInRange s.config
+  pub ranged : AreKeysInRange s.config
 
 pub begin-knows : (policy : Policy) → Knows 0 0 (lab_begin policy)
 begin-knows policy = record { lines = refl; read = refl; small = omega arith; ranged = standard_ranged }
 
-module _ (s t : LabProgress) (ranged : IsInRange s.config) where
-  ranged_as : (u : LabProgress) → IsInRange u.config → ◌≡◌ {A = Result LabProgress LabEnd} (Ok u) (Ok t) → IsInRange t.config
-  ranged_as u h e = subst (λ (v : LabProgress). IsInRange v.config) (ok_is u t e) h
+module _ (s t : LabProgress) (ranged : AreKeysInRange s.config) where
+  ranged_as : (u : LabProgress) → AreKeysInRange u.config → ◌≡◌ {A = Result LabProgress LabEnd} (Ok u) (Ok t) → AreKeysInRange t.config
+  ranged_as u h e = subst (λ (v : LabProgress). AreKeysInRange v.config) (ok_is u t e) h
 
-  set-ranged : (key : Key) (value : ℕ) (r : Result (Unit {0}) ConfigFault) → range_check key value ≡ r → lab_config_set s key value r ≡ Ok t → IsInRange t.config
+  set-ranged : (key : Key) (value : ℕ) (r : Result (Unit {0}) ConfigFault) → range_check key value ≡ r → lab_config_set s key value r ≡ Ok t → AreKeysInRange t.config
   set-ranged key value (Ok u) c e = ranged_as _ (set_ranged s.config key value ranged (range_passed key value c)) e
   set-ranged key value (Err fault) c e = cc
 
-  filed-ranged : (path : List ℕ) (size : ℕ) (r : Result (Unit {0}) FileFault) → lab_filed s path size r ≡ Ok t → IsInRange t.config
+  filed-ranged : (path : List ℕ) (size : ℕ) (r : Result (Unit {0}) FileFault) → trace_filed s path size r ≡ Ok t → AreKeysInRange t.config
   filed-ranged path size (Ok u) e = ranged_as _ ranged e
   filed-ranged path size (Err fault) e = cc
 
-  begun-ranged : (r : Result (Unit {0}) ConfigFault) → lab_begun s r ≡ Ok t → IsInRange t.config
+  begun-ranged : (r : Result (Unit {0}) ConfigFault) → lab_begun s r ≡ Ok t → AreKeysInRange t.config
   begun-ranged (Ok u) e = ranged_as _ ranged e
   begun-ranged (Err fault) e = cc
 
-  moved-ranged : (d : LabEvent) (f : Option LabFault) → lab_moved s d f ≡ Ok t → IsInRange t.config
+  moved-ranged : (d : LabEvent) (f : Option LabFault) → lab_moved s d f ≡ Ok t → AreKeysInRange t.config
   moved-ranged d None e = ranged_as _ ranged e
   moved-ranged d (Some fault) e = cc
 
-  taken-ranged : (x : Item) → lab_taken s x ≡ Ok t → IsInRange t.config
+  taken-ranged : (x : Item) → lab_taken s x ≡ Ok t → AreKeysInRange t.config
   taken-ranged item.Header e = ranged_as s ranged e
   taken-ranged (item.Set key value) e = set-ranged key value (range_check key value) refl e
-  taken-ranged (item.File path size) e = filed-ranged path size (add_check s.targets path size) e
+  taken-ranged (item.File path size) e = filed-ranged path size (target_check s.targets path size) e
   taken-ranged item.Go e = begun-ranged (config_check s.config) e
   taken-ranged (item.Event d) e = moved-ranged d (fault_of s.lab d) e
 
@@ -115,7 +115,7 @@ module _ (n bytes : ℕ) (s : LabProgress) (k : Knows n bytes s) (line : List �
     set-ends key value (Ok u) stands c h = absurd (never _ _ (sym h))
     set-ends key value (Err fault) stands c h = refused_here (why.Config fault) (item.Set key value, stands, range-fault key value fault c) h
 
-    file-ends : (path : List ℕ) (size : ℕ) (f : FileFault) → StandsInLab s.reader line (item.File path size) → MayNotAddInLab (target_at s.targets path) (length s.targets) (total s.targets) size f
+    file-ends : (path : List ℕ) (size : ℕ) (f : FileFault) → StandsInLab s.reader line (item.File path size) → MayNotAddInLab (target_at s.targets path) (length s.targets) (targets_total s.targets) size f
         → ◌≡◌ {A = Result LabProgress LabEnd} (Err (lab_file_ends (s.lines + 1) f)) (Err end) → EndsLabLine s n bytes line end
     file-ends path size file_fault.Repeated stands c h = refused_here (why.File file_fault.Repeated) (path, size, stands, c) h
     file-ends path size (file_fault.TooLong m) stands c h = absurd c
@@ -123,10 +123,10 @@ module _ (n bytes : ℕ) (s : LabProgress) (k : Knows n bytes s) (line : List �
     file-ends path size (file_fault.TooMuch m) stands c h = refused_here (why.File (file_fault.TooMuch m)) (path, size, stands, c) h
     file-ends path size file_fault.NoMemory stands c h = absurd c
 
-    filed-ends : (path : List ℕ) (size : ℕ) (r : Result (Unit {0}) FileFault) → StandsInLab s.reader line (item.File path size) → add_check s.targets path size ≡ r
-        → lab_filed (lab_followed (lab_counted s line) (item.File path size)) path size r ≡ Err end → EndsLabLine s n bytes line end
+    filed-ends : (path : List ℕ) (size : ℕ) (r : Result (Unit {0}) FileFault) → StandsInLab s.reader line (item.File path size) → target_check s.targets path size ≡ r
+        → trace_filed (lab_followed (lab_counted s line) (item.File path size)) path size r ≡ Err end → EndsLabLine s n bytes line end
     filed-ends path size (Ok u) stands c h = absurd (never _ _ (sym h))
-    filed-ends path size (Err f) stands c h = file-ends path size f stands (file-fault (target_at s.targets path) (length s.targets) (total s.targets) size stands.2.1 f c) h
+    filed-ends path size (Err f) stands c h = file-ends path size f stands (file-fault (target_at s.targets path) (length s.targets) (targets_total s.targets) size stands.2.1 f c) h
 
     begun-ends : (r : Result (Unit {0}) ConfigFault) → StandsInLab s.reader line item.Go → config_check s.config ≡ r → lab_begun (lab_followed (lab_counted s line) item.Go) r ≡ Err end → EndsLabLine s n bytes line end
     begun-ends (Ok u) stands c h = absurd (never _ _ (sym h))
@@ -148,7 +148,7 @@ module _ (n bytes : ℕ) (s : LabProgress) (k : Knows n bytes s) (line : List �
     item-ends : (x : Item) → StandsInLab s.reader line x → lab_taken (lab_followed (lab_counted s line) x) x ≡ Err end → EndsLabLine s n bytes line end
     item-ends item.Header stands h = absurd (never _ _ (sym h))
     item-ends (item.Set key value) stands h = set-ends key value (range_check key value) stands refl h
-    item-ends (item.File path size) stands h = filed-ends path size (add_check s.targets path size) stands refl h
+    item-ends (item.File path size) stands h = filed-ends path size (target_check s.targets path size) stands refl h
     item-ends item.Go stands h = begun-ends (config_check s.config) stands refl h
     item-ends (item.Event d) stands h = moved-ends d (fault_of s.lab d) stands refl h
 
@@ -186,7 +186,7 @@ module _ (n bytes : ℕ) (s : LabProgress) (k : Knows n bytes s) (line : List �
 
     file-refused : (f : FileFault) → AddsNoneInLab s line f → lab_passed s line ≡ Err (lab_file_ends (s.lines + 1) f)
     file-refused f u =
-        stands_by (item.File u.0 u.1) u.2 ∙ ap (lab_filed (lab_followed (lab_counted s line) (item.File u.0 u.1)) u.0 u.1) (fault-file (target_at s.targets u.0) (length s.targets) (total s.targets) u.1 u.2.2.1 f u.3)
+        stands_by (item.File u.0 u.1) u.2 ∙ ap (trace_filed (lab_followed (lab_counted s line) (item.File u.0 u.1)) u.0 u.1) (fault-file (target_at s.targets u.0) (length s.targets) (targets_total s.targets) u.1 u.2.2.1 f u.3)
 
     refused : (cause : LabWhy) → RefusesInLab s line cause → lab_passed s line ≡ Err (Refused (s.lines + 1) cause)
     refused why.Syntax u = read_by None ((none_is s.reader line).1 u)

@@ -10,11 +10,11 @@ use Rattle.lard_lab.specs.declared.event.LabFault.{LabFault}
 use Rattle.lard_lab.specs.declared.policy.Policy.{Policy}
 use Rattle.lard_lab.specs.declared.targets.Target.{Target}
 use Rattle.lard_lab.specs.Lab as lab
-use Rattle.lard_lab.specs.Lab.{State, fault_of, opened_with, told, totals_text}
-use Rattle.lard_lab.specs.Laws.{PassAll, after_all, lab_with, line_in, told_all}
+use Rattle.lard_lab.specs.Lab.{State, fault_of, opened_with, lab_told, totals_text}
+use Rattle.lard_lab.specs.Laws.{PassAll, lab_after_all, lab_with, line_in, told_all}
 use Rattle.lard_lab.specs.Report.{File, lab_report}
-use Rattle.lard_lab.specs.Targets.{add_check, fresh}
-use Rattle.lard_lab.specs.Text.{heading_line}
+use Rattle.lard_lab.specs.Targets.{target_check, fresh_target}
+use Rattle.lard_lab.specs.Text.{lab_heading_line}
 use Rattle.lard_lab.proofs.Beginning.{first-is}
 use Rattle.lard_lab.proofs.Reported.{report-told}
 use Rattle.lard_lab.proofs.Sizes.{fresh_all}
@@ -25,7 +25,7 @@ use Rattle.lard_schedule.specs.Laws.{IsBefore}
 use Rattle.lard_lab_run.specs.Causes.{MayStandInLab}
 use Rattle.lard_lab_run.specs.Items.{lab_reader_after}
 use Rattle.lard_lab_run.specs.Told.{IsSoFar, Trace, no_trace, lab_read_from, trace_of, lab_with_item}
-use Rattle.lard_lab_run.specs.Trial.{LeadsInLab, LabProgress, lab_begin, lab_begun, lab_config_set, lab_counted, lab_event_gain, lab_filed, lab_followed, lab_gain, heading_gain, lab_item_gain, lab_moved, lab_taken}
+use Rattle.lard_lab_run.specs.Trial.{LeadsInLab, LabProgress, lab_begin, lab_begun, lab_config_set, lab_counted, lab_event_gain, trace_filed, lab_followed, lab_gain, heading_gain, lab_item_gain, lab_moved, lab_taken}
 use Rattle.lard_lab_run.specs.declared.end.LabEnd.{LabEnd}
 use Rattle.lard_lab_run.specs.declared.item.Item.{Item}
 use Rattle.lard_lab_run.specs.declared.item.Item.TheVariants as item
@@ -33,29 +33,29 @@ use Rattle.lard_lab_run.proofs.Passing.{Took, ok_is, never, passed-took, taken-r
 
 -- ---- a lab behind one event more
 
-after-on : (s : State) (es : List LabEvent) (e : LabEvent) → after_all s (es ++ e ∷ []) ≡ lab.after (after_all s es) e
+after-on : (s : State) (es : List LabEvent) (e : LabEvent) → lab_after_all s (es ++ e ∷ []) ≡ lab.lab_after (lab_after_all s es) e
 after-on s [] e = refl
-after-on s (d ∷ es) e = after-on (lab.after s d) es e
+after-on s (d ∷ es) e = after-on (lab.lab_after s d) es e
 
-told-on : (s : State) (es : List LabEvent) (e : LabEvent) → told_all s (es ++ e ∷ []) ≡ told_all s es ++ line_in (told (after_all s es) e)
-told-on s [] e = append-nil (line_in (told s e))
-told-on s (d ∷ es) e = ap (λ (xs : List ℕ). line_in (told s d) ++ xs) (told-on (lab.after s d) es e) ∙ sym (append_assoc (line_in (told s d)) (told_all (lab.after s d) es) (line_in (told (after_all (lab.after s d) es) e)))
+told-on : (s : State) (es : List LabEvent) (e : LabEvent) → told_all s (es ++ e ∷ []) ≡ told_all s es ++ line_in (lab_told (lab_after_all s es) e)
+told-on s [] e = append-nil (line_in (lab_told s e))
+told-on s (d ∷ es) e = ap (λ (xs : List ℕ). line_in (lab_told s d) ++ xs) (told-on (lab.lab_after s d) es e) ∙ sym (append_assoc (line_in (lab_told s d)) (told_all (lab.lab_after s d) es) (line_in (lab_told (lab_after_all (lab.lab_after s d) es) e)))
 
-pass-on : (s : State) (es : List LabEvent) (e : LabEvent) → PassAll s es → fault_of (after_all s es) e ≡ None → PassAll s (es ++ e ∷ [])
+pass-on : (s : State) (es : List LabEvent) (e : LabEvent) → PassAll s es → fault_of (lab_after_all s es) e ≡ None → PassAll s (es ++ e ∷ [])
 pass-on s [] e all none = (none, tt)
-pass-on s (d ∷ es) e all none = (all.0, pass-on (lab.after s d) es e all.1 none)
+pass-on s (d ∷ es) e all none = (all.0, pass-on (lab.lab_after s d) es e all.1 none)
 
-fresh-on : (files : List File) (path : List ℕ) (size : ℕ) → fresh_all files ++ (path, fresh size) ∷ [] ≡ fresh_all (files ++ (path, size) ∷ [])
+fresh-on : (files : List File) (path : List ℕ) (size : ℕ) → fresh_all files ++ (path, fresh_target size) ∷ [] ≡ fresh_all (files ++ (path, size) ∷ [])
 fresh-on [] path size = refl
-fresh-on (f ∷ files) path size = ap (λ (ts : List (List ℕ × Target)). (f.0, fresh f.1) ∷ ts) (fresh-on files path size)
+fresh-on (f ∷ files) path size = ap (λ (ts : List (List ℕ × Target)). (f.0, fresh_target f.1) ∷ ts) (fresh-on files path size)
 
 -- ---- what holds of a state and the trace that led to it
 
 -- before `go` the files are those of the trace, and it has no event; behind it the lab is the one that its events lead to
 abbrev Stage-is : Policy → Stage → Trace → LabProgress → List ℕ → Type 0
 Stage-is policy Running t s written =
-    (config_check t.config ≡ Ok tt) × PassAll (lab_with policy t.config t.files) t.events × (written ≡ heading_line policy t.config ++ told_all (lab_with policy t.config t.files) t.events)
-    × (s.lab ≡ after_all (lab_with policy t.config t.files) t.events)
+    (config_check t.config ≡ Ok tt) × PassAll (lab_with policy t.config t.files) t.events × (written ≡ lab_heading_line policy t.config ++ told_all (lab_with policy t.config t.files) t.events)
+    × (s.lab ≡ lab_after_all (lab_with policy t.config t.files) t.events)
 Stage-is policy Start t s written = (written ≡ []) × (t.events ≡ []) × (s.targets ≡ fresh_all t.files)
 Stage-is policy Settings t s written = (written ≡ []) × (t.events ≡ []) × (s.targets ≡ fresh_all t.files)
 Stage-is policy Files t s written = (written ≡ []) × (t.events ≡ []) × (s.targets ≡ fresh_all t.files)
@@ -108,7 +108,7 @@ module _ (policy : Policy) (t : Trace) (s u : LabProgress) (written : List ℕ) 
         stage = subst (λ (st : Stage). Stage-is policy st (lab_with_item t (item.Set key value)) (record (on line (item.Set key value)) { config = set_key s.config key value }) (written ++ [])) (sym stage) (still h.0, h.1, h.2);
       }) e
 
-  file-keeps : (line path : List ℕ) (size : ℕ) (r : Result (Unit {0}) FileFault) → IsBefore s.reader.stage → lab_filed (on line (item.File path size)) path size r ≡ Ok u
+  file-keeps : (line path : List ℕ) (size : ℕ) (r : Result (Unit {0}) FileFault) → IsBefore s.reader.stage → trace_filed (on line (item.File path size)) path size r ≡ Ok u
       → Keeps policy (lab_with_item t (item.File path size)) u (written ++ [])
   file-keeps line path size (Err fault) before e = absurd (never _ _ e)
   file-keeps line path size (Ok done) before e =
@@ -116,7 +116,7 @@ module _ (policy : Policy) (t : Trace) (s u : LabProgress) (written : List ℕ) 
       keeps-as (item.File path size) _ [] (record {
         policy_is = k.policy_is;
         config = k.config;
-        stage = (still h.0, h.1, ap (λ (ts : List (List ℕ × Target)). ts ++ (path, fresh size) ∷ []) h.2 ∙ fresh-on t.files path size);
+        stage = (still h.0, h.1, ap (λ (ts : List (List ℕ × Target)). ts ++ (path, fresh_target size) ∷ []) h.2 ∙ fresh-on t.files path size);
       }) e
 
   -- the lab that begins is that of the trace's files
@@ -131,15 +131,15 @@ module _ (policy : Policy) (t : Trace) (s u : LabProgress) (written : List ℕ) 
   go-keeps line (Ok done) before c e =
       let h = early policy t s written s.reader.stage before k.stage in
       let none : PassAll (lab_with policy t.config t.files) t.events = subst (PassAll (lab_with policy t.config t.files)) (sym h.1) tt in
-      keeps-as item.Go _ (heading_line s.policy s.config) (record {
+      keeps-as item.Go _ (lab_heading_line s.policy s.config) (record {
         policy_is = k.policy_is;
         config = k.config;
         stage = (
           ap config_check (sym k.config) ∙ c,
           none,
-          ap (λ (xs : List ℕ). xs ++ heading_line s.policy s.config) h.0 ∙ ap (λ (p : Policy). heading_line p s.config) k.policy_is ∙ ap (heading_line policy) k.config
-              ∙ sym (append-nil (heading_line policy t.config)) ∙ ap (λ (es : List LabEvent). heading_line policy t.config ++ told_all (lab_with policy t.config t.files) es) (sym h.1),
-          opens h.2 ∙ ap (after_all (lab_with policy t.config t.files)) (sym h.1),
+          ap (λ (xs : List ℕ). xs ++ lab_heading_line s.policy s.config) h.0 ∙ ap (λ (p : Policy). lab_heading_line p s.config) k.policy_is ∙ ap (lab_heading_line policy) k.config
+              ∙ sym (append-nil (lab_heading_line policy t.config)) ∙ ap (λ (es : List LabEvent). lab_heading_line policy t.config ++ told_all (lab_with policy t.config t.files) es) (sym h.1),
+          opens h.2 ∙ ap (lab_after_all (lab_with policy t.config t.files)) (sym h.1),
         );
       }) e
 
@@ -149,23 +149,23 @@ module _ (policy : Policy) (t : Trace) (s u : LabProgress) (written : List ℕ) 
   event-keeps line d None stage c e =
       let h = at Running stage in
       let first : State = lab_with policy t.config t.files in
-      keeps-as (item.Event d) _ (line_in (told s.lab d)) (record {
+      keeps-as (item.Event d) _ (line_in (lab_told s.lab d)) (record {
         policy_is = k.policy_is;
         config = k.config;
-        stage = subst (λ (st : Stage). Stage-is policy st (lab_with_item t (item.Event d)) (record (on line (item.Event d)) { lab = lab.after s.lab d }) (written ++ line_in (told s.lab d))) (sym stage) (
+        stage = subst (λ (st : Stage). Stage-is policy st (lab_with_item t (item.Event d)) (record (on line (item.Event d)) { lab = lab.lab_after s.lab d }) (written ++ line_in (lab_told s.lab d))) (sym stage) (
           h.0,
           pass-on first t.events d h.1 (ap (λ (l : State). fault_of l d) (sym h.3) ∙ c),
-          ap (λ (xs : List ℕ). xs ++ line_in (told s.lab d)) h.2 ∙ append_assoc (heading_line policy t.config) (told_all first t.events) (line_in (told s.lab d))
-              ∙ ap (λ (l : State). heading_line policy t.config ++ (told_all first t.events ++ line_in (told l d))) h.3
-              ∙ ap (λ (xs : List ℕ). heading_line policy t.config ++ xs) (sym (told-on first t.events d)),
-          ap (λ (l : State). lab.after l d) h.3 ∙ sym (after-on first t.events d),
+          ap (λ (xs : List ℕ). xs ++ line_in (lab_told s.lab d)) h.2 ∙ append_assoc (lab_heading_line policy t.config) (told_all first t.events) (line_in (lab_told s.lab d))
+              ∙ ap (λ (l : State). lab_heading_line policy t.config ++ (told_all first t.events ++ line_in (lab_told l d))) h.3
+              ∙ ap (λ (xs : List ℕ). lab_heading_line policy t.config ++ xs) (sym (told-on first t.events d)),
+          ap (λ (l : State). lab.lab_after l d) h.3 ∙ sym (after-on first t.events d),
         );
       }) e
 
   taken-keeps : (line : List ℕ) (x : Item) → MayStandInLab s.reader x → lab_taken (on line x) x ≡ Ok u → Keeps policy (lab_with_item t x) u (written ++ lab_item_gain (on line x) x)
   taken-keeps line item.Header may e = header-keeps line may e
   taken-keeps line (item.Set key value) may e = set-keeps line key value (range_check key value) may.0 e
-  taken-keeps line (item.File path size) may e = file-keeps line path size (add_check s.targets path size) may e
+  taken-keeps line (item.File path size) may e = file-keeps line path size (target_check s.targets path size) may e
   taken-keeps line item.Go may e = go-keeps line (config_check s.config) may refl e
   taken-keeps line (item.Event d) may e = event-keeps line d (fault_of s.lab d) may refl e
 
@@ -213,4 +213,4 @@ told-report policy lines written s l running =
     let first : State = lab_with policy t.config t.files in
     let h : Stage-is policy Running t s written = subst (λ (st : Stage). Stage-is policy st t s written) running (all-keep policy lines written s l).stage in
     ap (λ (xs : List ℕ). xs ++ totals_text s.lab) h.2
-    ∙ ap (λ (x : State). heading_line policy t.config ++ told_all first t.events ++ totals_text x) h.3 ∙ report-told policy t.config t.files t.events h.0 h.1
+    ∙ ap (λ (x : State). lab_heading_line policy t.config ++ told_all first t.events ++ totals_text x) h.3 ∙ report-told policy t.config t.files t.events h.0 h.1

@@ -2,7 +2,7 @@
 use Rattle.std.proofs.Common.{◌≡◌, ℕ, ◌+◌, ◌-◌, ◌*◌, ◌^◌, ◌≤◌, ◌<◌, List, [], ◌∷◌, Bool, true, false, cond, Option, Some, None, Result, Ok, Err, refl, sym, ap, ◌∙◌, subst, arith, nat_eq, nat_le, nat_lt}
 use Rattle.std.proofs.lemmas.Bool.Decides.{nat_tests}
 use Rattle.std.specs.Prelude.{IsSome, is_some}
-use Rattle.lard_base.specs.Config.{IsInRange, checked_from, config_check, is_in_range, range_check, room_of, set_key, standard, value_of}
+use Rattle.lard_base.specs.Config.{AreKeysInRange, checked_from, config_check, is_in_range, range_check, room_of, set_key, standard, value_of}
 use Rattle.lard_base.specs.declared.config.Config.{Config}
 use Rattle.lard_base.specs.declared.config.ConfigFault.{ConfigFault}
 use Rattle.lard_base.specs.declared.config.ConfigFault.TheVariants.{Range, LowHigh, NoRoom}
@@ -16,7 +16,7 @@ use Rattle.lard_lab.specs.declared.event.LabEvent.TheVariants as event
 use Rattle.lard_lab.specs.declared.event.LabFault.{LabFault}
 use Rattle.lard_lab.specs.declared.event.LabFault.TheVariants as fault
 use Rattle.lard_lab.specs.declared.targets.Target.{Target}
-use Rattle.lard_lab.specs.Desk.{is_open}
+use Rattle.lard_lab.specs.Desk.{is_request_open}
 use Rattle.lard_lab.specs.Lab.{State, fault_of, path_fault}
 use Rattle.lard_lab.specs.Targets.{target_at}
 use Rattle.lard_lab_run.specs.Causes.{DisagreesInLab, IsLabFit, IsKey, MayNotAddInLab}
@@ -80,7 +80,7 @@ module _ (key : Key) (value : ℕ) where
 
 -- ---- each number that the lines set, or none did, is in its range
 
-pub standard_ranged : IsInRange standard
+pub standard_ranged : AreKeysInRange standard
 standard_ranged Nodes = refl
 standard_ranged Low = refl
 standard_ranged High = refl
@@ -91,7 +91,7 @@ standard_ranged Miss = refl
 standard_ranged Cache = refl
 standard_ranged Stream = refl
 
-pub set_ranged : (c : Config) (key : Key) (value : ℕ) → IsInRange c → is_in_range key value ≡ true → IsInRange (set_key c key value)
+pub set_ranged : (c : Config) (key : Key) (value : ℕ) → AreKeysInRange c → is_in_range key value ≡ true → AreKeysInRange (set_key c key value)
 set_ranged c Nodes value h e Nodes = e
 set_ranged c Nodes value h e other = h other
 set_ranged c Low value h e Low = e
@@ -125,7 +125,7 @@ is_no_room others low e = grind (arith, nat_tests, e)
 no_room : (others low : ℕ) → others + low ≤ 1 → nat_eq (others + low - 1) 0 ≡ true
 no_room others low h = grind (arith, nat_tests, h)
 
-module _ (c : Config) (ranged : IsInRange c) where
+module _ (c : Config) (ranged : AreKeysInRange c) where
   -- how the check goes on where each number is in its range
   passes : (key : Key) (keys : List Key) → checked_from c (key ∷ keys) ≡ checked_from c keys
   passes key keys = ap (λ b. cond {A = Result (Unit {0}) ConfigFault} b (checked_from c keys) (Err (Range key (value_of c key)))) (ranged key)
@@ -193,7 +193,7 @@ module _ (there : Option Target) (count sum size : ℕ) (short : size ≤ 2 ^ 20
 -- why an event is refused
 abbrev pub IsRefused : State → LabEvent → LabFault → Type 0
 IsRefused s e fault.NoFile = (path : List ℕ) × (e ≡ event.Req path) × (target_at s.desk.targets path ≡ None)
-IsRefused s e (fault.NotOpen i) = (e ≡ event.Done i) × (is_open s.desk i ≡ false)
+IsRefused s e (fault.NotOpen i) = (e ≡ event.Done i) × (is_request_open s.desk i ≡ false)
 IsRefused s e fault.Limit = (path : List ℕ) × (e ≡ event.Req path) × IsSome (target_at s.desk.targets path) × (16384 ≤ s.desk.made)
 IsRefused s e fault.NoMemory = ⊥
 
@@ -210,8 +210,8 @@ path-refused s path f (Some target) t e = go (nat_le 16384 s.desk.made) refl e w
 pub event-refused : (s : State) (e : LabEvent) (f : LabFault) → fault_of s e ≡ Some f → IsRefused s e f
 unfolding fault_of
 event-refused s (event.Req path) f e = path-refused s path f (target_at s.desk.targets path) refl e
-event-refused s (event.Done i) f e = go (is_open s.desk i) refl e where
-  go : (b : Bool) → is_open s.desk i ≡ b → cond b None (Some (fault.NotOpen i)) ≡ Some f → IsRefused s (event.Done i) f
+event-refused s (event.Done i) f e = go (is_request_open s.desk i) refl e where
+  go : (b : Bool) → is_request_open s.desk i ≡ b → cond b None (Some (fault.NotOpen i)) ≡ Some f → IsRefused s (event.Done i) f
   go false p h = some_fault s (event.Done i) (fault.NotOpen i) f (refl, p) h
   go true p h = cc
 event-refused s (event.Clock ms) f e = cc

@@ -16,11 +16,11 @@ use Rattle.lard_policy.specs.declared.first.FirstChoice.{FirstChoice}
 use Rattle.lard_lab.specs.Desk.{answer_at}
 use Rattle.lard_lab.specs.Lab as lab
 use Rattle.lard_lab.specs.Lab.{State, fault_of, requested, requested_by}
-use Rattle.lard_lab.specs.Targets.{AreFresh, add_check, fresh, target_at}
+use Rattle.lard_lab.specs.Targets.{AreFresh, target_check, fresh_target, target_at}
 use Rattle.lard_schedule.specs.declared.reader.Reader.{Reader}
 use Rattle.lard_lab_run.specs.Causes.{StandsInLab}
 use Rattle.lard_lab_run.specs.Items.{HasLabRange, IsLabEventInRange, lab_item_of}
-use Rattle.lard_lab_run.specs.Trial.{IsLabSound, LabProgress, lab_begin, lab_begun, lab_config_set, lab_counted, lab_event_gain, lab_filed, lab_followed, lab_found, lab_gain, heading_gain, lab_is_past, lab_item_gain, lab_item_taken, lab_judged, lab_judged_gain, lab_moved, lab_passed, lab_taken}
+use Rattle.lard_lab_run.specs.Trial.{IsLabSound, LabProgress, lab_begin, lab_begun, lab_config_set, lab_counted, lab_event_gain, trace_filed, lab_followed, lab_found, lab_gain, heading_gain, lab_is_past, lab_item_gain, lab_item_taken, lab_judged, lab_judged_gain, lab_moved, lab_passed, lab_taken}
 use Rattle.lard_lab_run.specs.declared.end.LabEnd.{LabEnd}
 use Rattle.lard_lab_run.specs.declared.end.LabEnd.TheVariants.{Limit}
 use Rattle.lard_lab_run.specs.declared.end.LabLimit.TheVariants.{Input}
@@ -95,7 +95,7 @@ module _ (s t : LabProgress) where
   set-read key value (Ok u) e = read_as _ (record { lines = refl; read = refl; policy = refl; reader = refl }) e
   set-read key value (Err fault) e = cc
 
-  filed-read : (path : List ℕ) (size : ℕ) (r : Result (Unit {0}) FileFault) → lab_filed s path size r ≡ Ok t → HaveRead s t
+  filed-read : (path : List ℕ) (size : ℕ) (r : Result (Unit {0}) FileFault) → trace_filed s path size r ≡ Ok t → HaveRead s t
   filed-read path size (Ok u) e = read_as _ (record { lines = refl; read = refl; policy = refl; reader = refl }) e
   filed-read path size (Err fault) e = cc
 
@@ -110,7 +110,7 @@ module _ (s t : LabProgress) where
   pub taken-read : (x : Item) → lab_taken s x ≡ Ok t → HaveRead s t
   taken-read item.Header e = read_as s (record { lines = refl; read = refl; policy = refl; reader = refl }) e
   taken-read (item.Set key value) e = set-read key value (range_check key value) e
-  taken-read (item.File path size) e = filed-read path size (add_check s.targets path size) e
+  taken-read (item.File path size) e = filed-read path size (target_check s.targets path size) e
   taken-read item.Go e = begun-read (config_check s.config) e
   taken-read (item.Event d) e = moved-read d (fault_of s.lab d) e
 
@@ -147,7 +147,7 @@ refused-nothing s line end e = go (lab_is_past s line) (lab_item_of s.reader lin
 
 -- ---- what lines keep
 
-pub added-fresh : (targets : List (List ℕ × Target)) (path : List ℕ) (size : ℕ) → AreFresh targets → AreFresh (targets ++ (path, fresh size) ∷ [])
+pub added-fresh : (targets : List (List ℕ × Target)) (path : List ℕ) (size : ℕ) → AreFresh targets → AreFresh (targets ++ (path, fresh_target size) ∷ [])
 added-fresh [] path size all = (refl, tt)
 added-fresh (t ∷ ts) path size all = (all.0, added-fresh ts path size all.1)
 
@@ -165,8 +165,8 @@ request-time s path (Some target) = by-time s path target (answer_at s.desk path
 later-time : (a ms : ℕ) → ms < 2 ^ 32 → a + ms ≤ a + 2 ^ 32
 later-time a ms small = omega (arith, small)
 
-event-time : (s : State) (e : LabEvent) → IsLabEventInRange e → (lab.after s e).desk.time.0 ≤ s.desk.time.0 + 2 ^ 32
-unfolding lab.after
+event-time : (s : State) (e : LabEvent) → IsLabEventInRange e → (lab.lab_after s e).desk.time.0 ≤ s.desk.time.0 + 2 ^ 32
+unfolding lab.lab_after
 event-time s (event.Req path) range = request-time s path (target_at s.desk.targets path)
 event-time s (event.Done i) range = as-late _ _ refl
 event-time s (event.Clock ms) range = later-time s.desk.time.0 ms range
@@ -183,7 +183,7 @@ module _ (s t : LabProgress) (all : AreFresh s.targets) where
   set-grows key value (Ok u) e = grows_as _ (all, as-late _ _ refl) e
   set-grows key value (Err fault) e = cc
 
-  filed-grows : (path : List ℕ) (size : ℕ) (r : Result (Unit {0}) FileFault) → lab_filed s path size r ≡ Ok t → Grows s t
+  filed-grows : (path : List ℕ) (size : ℕ) (r : Result (Unit {0}) FileFault) → trace_filed s path size r ≡ Ok t → Grows s t
   filed-grows path size (Ok u) e = grows_as _ (added-fresh s.targets path size all, as-late _ _ refl) e
   filed-grows path size (Err fault) e = cc
 
@@ -198,7 +198,7 @@ module _ (s t : LabProgress) (all : AreFresh s.targets) where
   taken-grows : (x : Item) → HasLabRange x → lab_taken s x ≡ Ok t → Grows s t
   taken-grows item.Header range e = grows_as s (all, as-late _ _ refl) e
   taken-grows (item.Set key value) range e = set-grows key value (range_check key value) e
-  taken-grows (item.File path size) range e = filed-grows path size (add_check s.targets path size) e
+  taken-grows (item.File path size) range e = filed-grows path size (target_check s.targets path size) e
   taken-grows item.Go range e = begun-grows (config_check s.config) e
   taken-grows (item.Event d) range e = moved-grows d (fault_of s.lab d) range e
 

@@ -13,7 +13,7 @@ use Rattle.lard_schedule.specs.declared.reader.Stage.TheVariants.{Start, Setting
 use Rattle.lard_schedule.specs.Events.{is_path, number_alone}
 use Rattle.lard_schedule.specs.Files.{is_file_path, path_then}
 use Rattle.lard_schedule.specs.Laws.{IsBefore}
-use Rattle.lard_schedule.specs.Reader.{has}
+use Rattle.lard_schedule.specs.Reader.{has_key}
 use Rattle.lard_schedule.specs.Words.{◌>>=◌, ended, number_then, word_then, words_of}
 use Rattle.lard_schedule.proofs.Found.{bind_some, cond_some, ended_some, number_alone_read, number_alone_spelled, number_then_read, number_then_spelled, some_same, word_spelled}
 use Rattle.lard_schedule.proofs.Places.{text_is}
@@ -58,7 +58,7 @@ key_read Miss may = absurd may
 key_read Cache may = refl
 key_read Stream may = absurd may
 
-value_spelled : (reader : Reader) (k : Key) (words : List (List ℕ)) (x : Item) → reader.stage ≡ Settings → has reader.keys k ≡ false → IsKey k
+value_spelled : (reader : Reader) (k : Key) (words : List (List ℕ)) (x : Item) → reader.stage ≡ Settings → has_key reader.keys k ≡ false → IsKey k
     → lab_value_of k words ≡ Some x → IsAt reader (key_word k ∷ words) x
 unfolding lab_value_of
 value_spelled reader k words x stage new may e =
@@ -73,8 +73,8 @@ value_spelled reader k words x stage new may e =
 
 set_spelled : (reader : Reader) (k : Key) (words : List (List ℕ)) (x : Item) → reader.stage ≡ Settings → IsKey k → lab_set_of reader.keys k words ≡ Some x
     → IsAt reader (key_word k ∷ words) x
-set_spelled reader k words x stage may e = go (has reader.keys k) refl e where
-  go : (t : Bool) → has reader.keys k ≡ t → cond t None (lab_value_of k words) ≡ Some x → IsAt reader (key_word k ∷ words) x
+set_spelled reader k words x stage may e = go (has_key reader.keys k) refl e where
+  go : (t : Bool) → has_key reader.keys k ≡ t → cond t None (lab_value_of k words) ≡ Some x → IsAt reader (key_word k ∷ words) x
   go true f g = let none : None ≡ Some x = g in cc
   go false f g = value_spelled reader k words x stage f may g
 
@@ -203,7 +203,7 @@ value_read : (k : Key) (value : ℕ) → value < 2 ^ 64 → lab_value_of k (deci
 unfolding lab_value_of
 value_read k value small = rw (number_then_read (2 ^ 64 - 1) value [] (omega arith) (omega arith)) refl
 
-setting_read : (set : Keys) (k : Key) (value : ℕ) → has set k ≡ false → IsKey k → value < 2 ^ 64 → lab_setting_of set (key_word k ∷ decimal value ∷ []) ≡ Some (item.Set k value)
+setting_read : (set : Keys) (k : Key) (value : ℕ) → has_key set k ≡ false → IsKey k → value < 2 ^ 64 → lab_setting_of set (key_word k ∷ decimal value ∷ []) ≡ Some (item.Set k value)
 unfolding lab_setting_of
 setting_read set k value new may small =
     ap (λ o. lab_setting_or set o (decimal value ∷ []) (key_word k ∷ decimal value ∷ [])) (key_read k may)

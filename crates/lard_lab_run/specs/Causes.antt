@@ -13,12 +13,12 @@ use Rattle.lard_lab.specs.declared.event.LabEvent.{LabEvent}
 use Rattle.lard_lab.specs.declared.event.LabEvent.TheVariants as event
 use Rattle.lard_lab.specs.declared.policy.Policy.{Policy}
 use Rattle.lard_lab.specs.declared.targets.Target.{Target}
-use Rattle.lard_lab.specs.Desk.{is_open}
-use Rattle.lard_lab.specs.Targets.{target_at, total}
+use Rattle.lard_lab.specs.Desk.{is_request_open}
+use Rattle.lard_lab.specs.Targets.{target_at, targets_total}
 use Rattle.lard_schedule.specs.declared.reader.Reader.{Reader}
 use Rattle.lard_schedule.specs.declared.reader.Stage.TheVariants.{Start, Settings, Running}
 use Rattle.lard_schedule.specs.Laws.{IsBefore}
-use Rattle.lard_schedule.specs.Reader.{has}
+use Rattle.lard_schedule.specs.Reader.{has_key}
 use Rattle.lard_lab_run.specs.declared.end.LabEnd.{LabEnd}
 use Rattle.lard_lab_run.specs.declared.end.LabEnd.TheVariants.{Done, Refused, Limit}
 use Rattle.lard_lab_run.specs.declared.end.LabLimit.TheVariants as limit
@@ -60,7 +60,7 @@ IsKey key.Stream = ⊥
 -- a line may stand here: `lab 1` first; then each key once; then files; then `go`; then events
 abbrev pub MayStandInLab : Reader → Item → Type 0
 MayStandInLab reader item.Header = reader.stage ≡ Start
-MayStandInLab reader (item.Set key value) = (reader.stage ≡ Settings) × (has reader.keys key ≡ false) × IsKey key
+MayStandInLab reader (item.Set key value) = (reader.stage ≡ Settings) × (has_key reader.keys key ≡ false) × IsKey key
 MayStandInLab reader (item.File path size) = IsBefore reader.stage
 MayStandInLab reader item.Go = IsBefore reader.stage
 MayStandInLab reader (item.Event e) = reader.stage ≡ Running
@@ -110,7 +110,7 @@ MayNotAddInLab there count sum size file_fault.NoMemory = ⊥
 
 -- it is a file that may not be added to those before, for this reason
 abbrev pub AddsNoneInLab : LabProgress → List ℕ → FileFault → Type 0
-AddsNoneInLab s line fault = (path : List ℕ) × (size : ℕ) × StandsInLab s.reader line (item.File path size) × MayNotAddInLab (target_at s.targets path) (length s.targets) (total s.targets) size fault
+AddsNoneInLab s line fault = (path : List ℕ) × (size : ℕ) × StandsInLab s.reader line (item.File path size) × MayNotAddInLab (target_at s.targets path) (length s.targets) (targets_total s.targets) size fault
 
 -- ---- causes
 
@@ -122,7 +122,7 @@ RefusesInLab s line (why.File fault) = AddsNoneInLab s line fault
 -- it requests a path that no file has
 RefusesInLab s line why.NoFile = (path : List ℕ) × StandsInLab s.reader line (item.Event (event.Req path)) × (target_at s.lab.desk.targets path ≡ None)
 -- it says that a request is done which is not assigned, or done
-RefusesInLab s line (why.NotOpen i) = StandsInLab s.reader line (item.Event (event.Done i)) × (is_open s.lab.desk i ≡ false)
+RefusesInLab s line (why.NotOpen i) = StandsInLab s.reader line (item.Event (event.Done i)) × (is_request_open s.lab.desk i ≡ false)
 
 -- it requests the path of a file behind 16,384 requests
 abbrev pub RequestsMore : LabProgress → List ℕ → Type 0

@@ -12,7 +12,7 @@ use Rattle.lard_schedule.specs.declared.reader.Stage.{Stage}
 use Rattle.lard_schedule.specs.declared.reader.Stage.TheVariants.{Start, Settings, Files, Running}
 use Rattle.lard_schedule.specs.Events.{is_path, number_alone}
 use Rattle.lard_schedule.specs.Files.{is_file_path, path_then}
-use Rattle.lard_schedule.specs.Reader.{has, key_among, with_key}
+use Rattle.lard_schedule.specs.Reader.{has_key, key_among, with_key}
 use Rattle.lard_schedule.specs.Words.{◌>>=◌, ended, number_then, word_then, words_of}
 use Rattle.lard_lab_run.specs.declared.item.Item.{Item}
 use Rattle.lard_lab_run.specs.declared.item.Item.TheVariants.{Header, Set, File, Go, Event}
@@ -34,7 +34,7 @@ lab_value_of key words = do
 
 -- a key that was set is not set again
 abbrev pub lab_set_of : Keys → Key → List (List ℕ) → Option Item
-lab_set_of set key words = if has set key then None else lab_value_of key words
+lab_set_of set key words = if has_key set key then None else lab_value_of key words
 
 -- what comes after the word `file`: a path, and how many bytes the file has, to 2^20
 unfoldable pub lab_file_of : List (List ℕ) → Option Item

@@ -9,7 +9,7 @@ use Rattle.lard_lab.specs.declared.event.LabEvent.{LabEvent}
 use Rattle.lard_lab.specs.declared.policy.Policy.{Policy}
 use Rattle.lard_lab.specs.Laws.{PassAll, lab_with, told_all}
 use Rattle.lard_lab.specs.Report.{File, lab_report}
-use Rattle.lard_lab.specs.Text.{heading_line}
+use Rattle.lard_lab.specs.Text.{lab_heading_line}
 use Rattle.lard_lines.specs.Lines.{lines_of}
 use Rattle.lard_schedule.specs.declared.reader.Reader.{Reader}
 use Rattle.lard_schedule.specs.declared.reader.Stage.{Stage}
@@ -48,14 +48,14 @@ lab_read_from r t [] = t
 lab_read_from r t (line ∷ lines) = elim (lab_item_of r line) [ None ↦ t | Some x ↦ lab_read_from (lab_reader_after r x) (lab_with_item t x) lines ]
 
 abbrev pub trace_of : List (List ℕ) → Trace
-trace_of lines = lab_read_from reader.start no_trace lines
+trace_of lines = lab_read_from reader.reader_start no_trace lines
 
 -- ---- what is written
 
 -- Of lines that passed: nothing before `go`; behind it the heading, and the lines of the requests so far, none of which was refused.
 abbrev pub IsSoFar : Policy → Stage → Trace → List ℕ → Type 0
 IsSoFar policy Running t told =
-    (config_check t.config ≡ Ok tt) × PassAll (lab_with policy t.config t.files) t.events × (told ≡ heading_line policy t.config ++ told_all (lab_with policy t.config t.files) t.events)
+    (config_check t.config ≡ Ok tt) × PassAll (lab_with policy t.config t.files) t.events × (told ≡ lab_heading_line policy t.config ++ told_all (lab_with policy t.config t.files) t.events)
 IsSoFar policy Start t told = told ≡ []
 IsSoFar policy Settings t told = told ≡ []
 IsSoFar policy Files t told = told ≡ []

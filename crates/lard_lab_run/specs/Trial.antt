@@ -16,10 +16,10 @@ use Rattle.lard_lab.specs.declared.event.LabFault.TheVariants as lab_fault
 use Rattle.lard_lab.specs.declared.policy.Policy.{Policy}
 use Rattle.lard_lab.specs.declared.targets.Target.{Target}
 use Rattle.lard_lab.specs.Lab as lab
-use Rattle.lard_lab.specs.Lab.{State, fault_of, opened, opened_with, told, totals_text}
+use Rattle.lard_lab.specs.Lab.{State, fault_of, lab_opened, opened_with, lab_told, totals_text}
 use Rattle.lard_lab.specs.Laws.{line_in}
-use Rattle.lard_lab.specs.Targets.{AreFresh, add_check, fresh}
-use Rattle.lard_lab.specs.Text.{heading_line}
+use Rattle.lard_lab.specs.Targets.{AreFresh, target_check, fresh_target}
+use Rattle.lard_lab.specs.Text.{lab_heading_line}
 use Rattle.lard_lines.specs.Lines.{lines_of}
 use Rattle.lard_schedule.specs.declared.reader.Reader.{Reader}
 use Rattle.lard_schedule.specs.declared.reader.Stage.{Stage}
@@ -46,7 +46,7 @@ pub record LabProgress : Type 0 where
 
 -- before the first line
 abbrev pub lab_begin : Policy → LabProgress
-lab_begin policy = record { policy = policy; reader = reader.start; config = standard; targets = []; lines = 0; read = 0; lab = opened policy standard }
+lab_begin policy = record { policy = policy; reader = reader.reader_start; config = standard; targets = []; lines = 0; read = 0; lab = lab_opened policy standard }
 
 -- ---- what an item does, on the line that was counted last
 
@@ -64,9 +64,9 @@ lab_file_ends line (file_fault.TooMuch n) = Refused line (why.File (file_fault.T
 lab_file_ends line file_fault.NoMemory = NoMemory
 
 -- a file is added, if it may be
-abbrev pub lab_filed : LabProgress → List ℕ → ℕ → Result (Unit {0}) FileFault → Result LabProgress LabEnd
-lab_filed s path size (Ok _) = Ok (record s { targets = s.targets ++ (path, fresh size) ∷ [] })
-lab_filed s path size (Err fault) = Err (lab_file_ends s.lines fault)
+abbrev pub trace_filed : LabProgress → List ℕ → ℕ → Result (Unit {0}) FileFault → Result LabProgress LabEnd
+trace_filed s path size (Ok _) = Ok (record s { targets = s.targets ++ (path, fresh_target size) ∷ [] })
+trace_filed s path size (Err fault) = Err (lab_file_ends s.lines fault)
 
 -- the lab begins with the files, if the configuration can be used
 abbrev pub lab_begun : LabProgress → Result (Unit {0}) ConfigFault → Result LabProgress LabEnd
@@ -82,25 +82,25 @@ lab_ended_by line lab_fault.NoMemory = NoMemory
 
 -- an event happens, if nothing speaks against it
 abbrev pub lab_moved : LabProgress → LabEvent → Option LabFault → Result LabProgress LabEnd
-lab_moved s e None = Ok (record s { lab = lab.after s.lab e })
+lab_moved s e None = Ok (record s { lab = lab.lab_after s.lab e })
 lab_moved s e (Some fault) = Err (lab_ended_by s.lines fault)
 
 abbrev pub lab_taken : LabProgress → Item → Result LabProgress LabEnd
 lab_taken s item.Header = Ok s
 lab_taken s (item.Set key value) = lab_config_set s key value (range_check key value)
-lab_taken s (item.File path size) = lab_filed s path size (add_check s.targets path size)
+lab_taken s (item.File path size) = trace_filed s path size (target_check s.targets path size)
 lab_taken s item.Go = lab_begun s (config_check s.config)
 lab_taken s (item.Event e) = lab_moved s e (fault_of s.lab e)
 
 -- ---- what is written by an item
 
 abbrev pub heading_gain : LabProgress → Result (Unit {0}) ConfigFault → List ℕ
-heading_gain s (Ok _) = heading_line s.policy s.config
+heading_gain s (Ok _) = lab_heading_line s.policy s.config
 heading_gain s (Err fault) = []
 
 -- the line of a request that is not refused
 abbrev pub lab_event_gain : LabProgress → LabEvent → Option LabFault → List ℕ
-lab_event_gain s e None = line_in (told s.lab e)
+lab_event_gain s e None = line_in (lab_told s.lab e)
 lab_event_gain s e (Some fault) = []
 
 abbrev pub lab_item_gain : LabProgress → Item → List ℕ

@@ -2,12 +2,12 @@
 
 ghost use Rattle.std.specs.Prelude.{◌≡◌, ◌<◌, ◌≤◌, ◌^◌, length, Ok, IfOk};
 ghost use Rattle.lard_base.specs.Config.{config_check, range_check};
-ghost use Rattle.lard_lab.specs.Lab.{KeepsTime, totals_text};
-ghost use Rattle.lard_lab.specs.Targets.{AreFresh, add_check};
-ghost use Rattle.lard_lab.specs.Text.{heading_line};
+ghost use Rattle.lard_lab.specs.Lab.{KeepsClock, totals_text};
+ghost use Rattle.lard_lab.specs.Targets.{AreFresh, target_check};
+ghost use Rattle.lard_lab.specs.Text.{lab_heading_line};
 ghost use Rattle.lard_lab_run.specs.Items.{HasLabRange};
 ghost use Rattle.lard_lab_run.specs.Seen.{lab_seen};
-ghost use Rattle.lard_lab_run.specs.Trial.{AddsInLab, CountsLabFault, EndsLabCount, Finishes, IsJudged, IsLabSound, PassesInLab, SetsInLab, WritesInLab, lab_begin, lab_begun, lab_config_set, end_gain, lab_ending, lab_filed, lab_gain, lab_item_gain, lab_passed, lab_taken};
+ghost use Rattle.lard_lab_run.specs.Trial.{AddsInLab, CountsLabFault, EndsLabCount, Finishes, IsJudged, IsLabSound, PassesInLab, SetsInLab, WritesInLab, lab_begin, lab_begun, lab_config_set, end_gain, lab_ending, trace_filed, lab_gain, lab_item_gain, lab_passed, lab_taken};
 
 use crate::end::{LabEnd, LabLimit, LabWhy, ended_by, file_ends, refused};
 use crate::item::Item;
@@ -112,7 +112,7 @@ impl Trial {
 
     /// Adds a file, if it may be added.
     fn file(&mut self, path: Path, size: u64) -> Result<(), LabEnd>
-        ensures { AddsInLab (lab_filed (lab_seen self.old) path size (add_check self.old.targets path size)) (lab_seen self.new) result }
+        ensures { AddsInLab (trace_filed (lab_seen self.old) path size (target_check self.old.targets path size)) (lab_seen self.new) result }
     {
         if let Err(fault) = self.targets.add(path.as_slice(), size) {
             return Err(file_ends(self.lines, fault));
@@ -140,7 +140,7 @@ impl Trial {
         requires usable { config_check self.old.config ≡ Ok tt }
         requires fresh { AreFresh self.old.targets }
         ensures begun { IfOk result (λ text. lab_begun (lab_seen self.old) (Ok tt) ≡ Ok (lab_seen self.new)) }
-        ensures text { IfOk result (λ text. text ≡ heading_line self.old.policy self.old.config) }
+        ensures text { IfOk result (λ text. text ≡ lab_heading_line self.old.policy self.old.config) }
     {
         let text = heading(alloc, self.policy, &self.config)?;
         let targets = mem::replace(&mut self.targets, Targets::new(alloc));
@@ -150,7 +150,7 @@ impl Trial {
 
     /// Does what an event does, and writes the line of a request.
     fn event<K: Sink>(&mut self, sink: &mut K, event: LabEvent) -> Result<(), LabEnd>
-        requires { KeepsTime self.old.lab event }
+        requires { KeepsClock self.old.lab event }
         ensures taken { PassesInLab (lab_taken (lab_seen self.old) (Item.Event event)) (lab_item_gain (lab_seen self.old) (Item.Event event)) (K.written sink.old) (K.written sink.new) (lab_seen self.new) result }
         ensures faults { CountsLabFault (K.faults sink.old) (K.faults sink.new) result }
     {

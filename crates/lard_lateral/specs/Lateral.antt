@@ -9,7 +9,7 @@ use Rattle.lard_message.specs.declared.message.Body.TheVariants as body
 use Rattle.lard_message.specs.declared.message.Message.{Message}
 use Rattle.lard_message.specs.Message.{spelled_message}
 use Rattle.lard_resend.specs.declared.kept.Kept.{Kept}
-use Rattle.lard_resend.specs.Pending.{renewed, settled, under}
+use Rattle.lard_resend.specs.Pending.{renewed, pending_settled, under}
 
 -- the Fetch of a request
 abbrev pub fetching : ℕ → ℕ → ℕ → List ℕ → Message
@@ -43,4 +43,4 @@ is_awaited m from c epoch r = is_from from epoch (under m c kind.Fetch r)
 
 -- a content that came is awaited no longer; one that is not awaited changes nothing
 abbrev pub after_content : FinMap nat_cmp (List Kept) → ℕ → ℕ → ℕ → ℕ → FinMap nat_cmp (List Kept)
-after_content m from c epoch r = if is_awaited m from c epoch r then settled m c kind.Fetch r else m
+after_content m from c epoch r = if is_awaited m from c epoch r then pending_settled m c kind.Fetch r else m

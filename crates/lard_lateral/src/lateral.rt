@@ -5,7 +5,7 @@ ghost use Rattle.std.specs.FinMap as map;
 ghost use Rattle.lard_base.specs.declared.limits.TheConstants.{MAX_MESSAGE_BYTES, MAX_PATH_BYTES};
 ghost use Rattle.lard_base.specs.declared.place.TimerKind.TheVariants as kind;
 ghost use Rattle.lard_message.specs.Message.{spelled_message};
-ghost use Rattle.lard_resend.specs.Pending.{AreFit, held, settled, under};
+ghost use Rattle.lard_resend.specs.Pending.{AreFit, held, pending_settled, under};
 ghost use Rattle.lard_lateral.specs.Lateral.{fetching, wanting, is_awaited, is_from, is_node, names_epoch, after_content};
 
 use lard_base::{Bytes, ConnId, Epoch, NoMemory, NodeId, Path, Place, TimerKind};
@@ -62,7 +62,7 @@ impl Lateral {
         ensures bytes { IfOk result (λ bytes. bytes ≡ spelled_message (fetching c epoch.0 r path.now)) }
         ensures ok { OnOk result (self.new ≡ wanting self.old c epoch.0 r node path.now) }
         ensures size { IfOk result (λ bytes. length bytes ≤ MAX_MESSAGE_BYTES) }
-        ensures err { OnErr result (self.new ≡ settled self.old c kind.Fetch r) }
+        ensures err { OnErr result (self.new ≡ pending_settled self.old c kind.Fetch r) }
     {
         let kind = TimerKind::Fetch;
         let _ = self.fetches.settle(PendingKey { c, kind, r });

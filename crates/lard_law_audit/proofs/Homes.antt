@@ -1,8 +1,8 @@
 -- A connection that has a node is in, at every moment: its first assignment stands directly behind the record that admits it.
 use Rattle.std.proofs.Common.{◌≡◌, ℕ, Bool, true, false, cond, is_some, List, [], ◌∷◌, ◌++◌, Option, Some, None, refl, sym, ap, ◌∙◌, subst, nat_eq, eqb-true}
 use Rattle.std.proofs.lemmas.List.Sums.{fold-append}
-use Rattle.lard_audit.specs.Sound.{due_behind, due_by, last_of}
-use Rattle.lard_history.specs.Journal.{home, home_step, in_step, is_in}
+use Rattle.lard_audit.specs.Sound.{audit_due_behind, due_by, audit_last_of}
+use Rattle.lard_history.specs.Journal.{home_told, home_step, in_step, is_in}
 use Rattle.lard_history.specs.Laws.{EachMay}
 use Rattle.lard_history.proofs.Seeing.{same_number}
 use Rattle.lard_journal.specs.declared.rec.Rec.{Rec}
@@ -11,11 +11,11 @@ use Rattle.lard_law_audit.proofs.Behind.{MayPair, PairsAt, last-behind}
 
 -- Who has a node is in, and so is one whose first assignment is due.
 pub record HomesIn (past : List Rec) : Type 0 where
-  pub homes : (c : ℕ) → is_some (home past c) ≡ true → is_in past c ≡ true
-  pub due : (c : ℕ) → due_behind (last_of past) ≡ Some c → is_in past c ≡ true
+  pub homes : (c : ℕ) → is_some (home_told past c) ≡ true → is_in past c ≡ true
+  pub due : (c : ℕ) → audit_due_behind (audit_last_of past) ≡ Some c → is_in past c ≡ true
 
 -- what each record makes of one connection
-home-behind : (past : List Rec) (r : Rec) (c : ℕ) → home (past ++ r ∷ []) c ≡ home_step c (home past c) r
+home-behind : (past : List Rec) (r : Rec) (c : ℕ) → home_told (past ++ r ∷ []) c ≡ home_step c (home_told past c) r
 home-behind past r c = fold-append (home_step c) None past (r ∷ [])
 
 in-behind : (past : List Rec) (r : Rec) (c : ℕ) → is_in (past ++ r ∷ []) c ≡ in_step c (is_in past c) r
@@ -55,9 +55,9 @@ due-in c i _ e = absurd cc
 homes-on : (past : List Rec) (r : Rec) → HomesIn past → PairsAt past r → HomesIn (past ++ r ∷ [])
 homes-on past r h may = record {
   homes = λ c some. in-behind past r c
-      ∙ keeps-in c (home past c) (is_in past c) (due_behind (last_of past)) r (h.homes c) (λ d is same. subst (λ (k : ℕ). is_in past k ≡ true) same (h.due d is)) may
+      ∙ keeps-in c (home_told past c) (is_in past c) (audit_due_behind (audit_last_of past)) r (h.homes c) (λ d is same. subst (λ (k : ℕ). is_in past k ≡ true) same (h.due d is)) may
       (sym (ap is_some (home-behind past r c)) ∙ some);
-  due = λ c is. in-behind past r c ∙ due-in c (is_in past c) r (sym (ap due_behind (last-behind past r)) ∙ is);
+  due = λ c is. in-behind past r c ∙ due-in c (is_in past c) r (sym (ap audit_due_behind (last-behind past r)) ∙ is);
 }
 
 homes-each : (past rs : List Rec) → HomesIn past → EachMay PairsAt past rs → EachMay (λ past r. HomesIn past) past rs

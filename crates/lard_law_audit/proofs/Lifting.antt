@@ -2,18 +2,18 @@
 use Rattle.std.proofs.Common.{◌≡◌, ◌+◌, ℕ, true, false, cond, List, [], ◌∷◌, ◌++◌, Option, Some, None, refl, sym, ap, ◌∙◌, subst, append_assoc, append-nil}
 use Rattle.std.proofs.lemmas.List.Sums.{fold-append}
 use Rattle.std.specs.List.{fold}
-use Rattle.lard_audit.specs.Sound.{due_behind, last_of}
+use Rattle.lard_audit.specs.Sound.{audit_due_behind, audit_last_of}
 use Rattle.lard_base.specs.declared.event.Event.{Event}
 use Rattle.lard_base.specs.declared.event.Event.TheVariants as event
 use Rattle.lard_history.specs.Laws.{EachMay}
 use Rattle.lard_journal.specs.declared.rec.Rec.{Rec}
 use Rattle.lard_journal.specs.declared.rec.Rec.TheVariants as rec
 use Rattle.lard_law_audit.proofs.Behind.{MayPair, PairsAt, due_next, due_of, event_in, last-behind, next-is, pairs-one}
-use Rattle.lard_law_connections.specs.PolicyLaws.{ArePaired, Due}
-use Rattle.lard_law_connections.specs.PolicyLaws.Due.{First, Later, Nothing}
+use Rattle.lard_law_connections.specs.PolicyLaws.{ArePaired, AssignmentDue}
+use Rattle.lard_law_connections.specs.PolicyLaws.AssignmentDue.{First, Later, Nothing}
 use Rattle.lard_settling.proofs.Folds.{unmarked-written, written-append}
 use Rattle.lard_settling.proofs.Plain.{is_mark}
-use Rattle.lard_settling.specs.Order.{AllStand, Begun, IsInStep, MayStand, Nothing as Closed, Phase, phase_at, phase_step}
+use Rattle.lard_settling.specs.Order.{AllStand, Begun, IsInStep, MayStandInPhase, Nothing as Closed, Phase, phase_at, phase_step}
 use Rattle.lard_settling.specs.Written.{is_settle, steps_with, written_from, written_out, written_rec}
 
 -- ---- with a record more
@@ -57,13 +57,13 @@ module _ (may : List Rec → Rec → Type 0) where
 
 -- what is told in a step stands behind the same event
 abbrev pub SameAt : List Rec → Rec → Type 0
-SameAt past r = is_mark r ≡ false → event_in (last_of past) ≡ event_in (last_of (written_out past))
+SameAt past r = is_mark r ≡ false → event_in (audit_last_of past) ≡ event_in (audit_last_of (written_out past))
 
 -- so it is behind a record that leaves a journal in a step
 abbrev IsSame : Phase → List Rec → Type 0
-IsSame p past = IsInStep p → event_in (last_of past) ≡ event_in (last_of (written_out past))
+IsSame p past = IsInStep p → event_in (audit_last_of past) ≡ event_in (audit_last_of (written_out past))
 
-plain-stands : (p : Phase) (r : Rec) → is_mark r ≡ false → MayStand p r → IsInStep p
+plain-stands : (p : Phase) (r : Rec) → is_mark r ≡ false → MayStandInPhase p r → IsInStep p
 plain-stands p (rec.Event i e) plain h = let no : true ≡ false = plain in absurd cc
 plain-stands p (rec.Inner e) plain h = let no : true ≡ false = plain in absurd cc
 plain-stands p (rec.Settled done) plain h = let no : true ≡ false = plain in absurd cc
@@ -72,17 +72,17 @@ plain-stands p _ plain h = h
 
 -- behind a record that stands for this one
 behind-both : (past : List Rec) (r x : Rec) → written_rec (fold steps_with 0 past) r ≡ x ∷ [] → event_in (Some r) ≡ event_in (Some x)
-    → event_in (last_of (past ++ r ∷ [])) ≡ event_in (last_of (written_out (past ++ r ∷ [])))
+    → event_in (audit_last_of (past ++ r ∷ [])) ≡ event_in (audit_last_of (written_out (past ++ r ∷ [])))
 behind-both past r x is same =
     ap event_in (last-behind past r) ∙ same ∙ sym (ap event_in (last-behind (written_out past) x))
-    ∙ ap (λ (l : List Rec). event_in (last_of l)) (ap (λ l. written_out past ++ l) (sym is) ∙ sym (written-more past r))
+    ∙ ap (λ (l : List Rec). event_in (audit_last_of l)) (ap (λ l. written_out past ++ l) (sym is) ∙ sym (written-more past r))
 
 -- behind an event of the schedule
 event-same : (past : List Rec) (k : ℕ) (e : Event) → IsSame (phase_at e) (past ++ rec.Event k e ∷ [])
 event-same past k (event.Settle rounds) inside = absurd inside
 event-same past k e inside = behind-both past (rec.Event k e) (rec.Event (fold steps_with 0 past + 1) e) refl refl
 
-one-same : (p : Phase) (past : List Rec) (r : Rec) → MayStand p r → IsSame (phase_step p r) (past ++ r ∷ [])
+one-same : (p : Phase) (past : List Rec) (r : Rec) → MayStandInPhase p r → IsSame (phase_step p r) (past ++ r ∷ [])
 one-same p past (rec.Event k e) h inside = event-same past k e inside
 one-same p past (rec.Inner e) h inside = behind-both past (rec.Inner e) (rec.Event (fold steps_with 0 past + 1) e) refl refl
 one-same p past (rec.Settled done) h inside = absurd inside
@@ -112,12 +112,12 @@ none-due p c i (rec.Unsettled done left ∷ rs) out h pairs = none-due Closed c 
 none-due p c i (r ∷ rs) out h pairs = out h.0
 
 -- a record of a settle's own, where nothing is due
-mark-pairs : (d : Due) (r : Rec) → ((c : ℕ) → d ≡ First c → ⊥) → MayPair None r → MayPair (due_of d) r
+mark-pairs : (d : AssignmentDue) (r : Rec) → ((c : ℕ) → d ≡ First c → ⊥) → MayPair None r → MayPair (due_of d) r
 mark-pairs Nothing r none h = h
 mark-pairs (Later c) r none h = h
 mark-pairs (First c) r none h = absurd (none c refl)
 
-mark-next : (d : Due) → ((c : ℕ) → d ≡ First c → ⊥) → due_of d ≡ None
+mark-next : (d : AssignmentDue) → ((c : ℕ) → d ≡ First c → ⊥) → due_of d ≡ None
 mark-next Nothing none = refl
 mark-next (Later c) none = refl
 mark-next (First c) none = absurd (none c refl)
@@ -131,37 +131,37 @@ abbrev Pairs : List Rec → List Rec → Type 0
 Pairs past rs = EachMay PairsAt past rs
 
 -- one that stands for itself
-plain-pairs : (past rs ws : List Rec) (d : Due) (r : Rec) → due_of d ≡ due_behind (last_of past) → ArePaired d (r ∷ ws)
-    → ((f : Due) → due_of f ≡ due_behind (last_of (past ++ r ∷ [])) → ArePaired f ws → Pairs (past ++ r ∷ []) rs) → Pairs past (r ∷ rs)
+plain-pairs : (past rs ws : List Rec) (d : AssignmentDue) (r : Rec) → due_of d ≡ audit_due_behind (audit_last_of past) → ArePaired d (r ∷ ws)
+    → ((f : AssignmentDue) → due_of f ≡ audit_due_behind (audit_last_of (past ++ r ∷ [])) → ArePaired f ws → Pairs (past ++ r ∷ []) rs) → Pairs past (r ∷ rs)
 plain-pairs past rs ws d r is h later =
     let one = pairs-one d r ws h in (
       subst (λ (o : Option ℕ). MayPair o r) is one.0,
-      later (due_next r) (next-is r ∙ sym (ap due_behind (last-behind past r))) one.1,
+      later (due_next r) (next-is r ∙ sym (ap audit_due_behind (last-behind past r))) one.1,
     )
 
 -- one that begins a step
-step-pairs : (past rs ws : List Rec) (d : Due) (i : ℕ) (e : Event) (r : Rec) → due_of d ≡ due_behind (last_of past) → due_behind (Some r) ≡ None → ((o : Option ℕ) → MayPair o (rec.Event i e) → MayPair o r)
-    → ArePaired d (rec.Event i e ∷ ws) → ((f : Due) → due_of f ≡ due_behind (last_of (past ++ r ∷ [])) → ArePaired f ws → Pairs (past ++ r ∷ []) rs) → Pairs past (r ∷ rs)
+step-pairs : (past rs ws : List Rec) (d : AssignmentDue) (i : ℕ) (e : Event) (r : Rec) → due_of d ≡ audit_due_behind (audit_last_of past) → audit_due_behind (Some r) ≡ None → ((o : Option ℕ) → MayPair o (rec.Event i e) → MayPair o r)
+    → ArePaired d (rec.Event i e ∷ ws) → ((f : AssignmentDue) → due_of f ≡ audit_due_behind (audit_last_of (past ++ r ∷ [])) → ArePaired f ws → Pairs (past ++ r ∷ []) rs) → Pairs past (r ∷ rs)
 step-pairs past rs ws d i e r is none alike h later =
     let one = pairs-one d (rec.Event i e) ws h in (
       subst (λ (o : Option ℕ). MayPair o r) is (alike (due_of d) one.0),
-      later Nothing (sym (ap due_behind (last-behind past r) ∙ none)) one.1,
+      later Nothing (sym (ap audit_due_behind (last-behind past r) ∙ none)) one.1,
     )
 
 -- one that is left out
-left-pairs : (past rs ws : List Rec) (d : Due) (r : Rec) → due_of d ≡ due_behind (last_of past) → due_behind (Some r) ≡ None → MayPair None r → ((c : ℕ) → ArePaired (First c) ws → ⊥)
-    → ArePaired d ws → ((f : Due) → due_of f ≡ due_behind (last_of (past ++ r ∷ [])) → ArePaired f ws → Pairs (past ++ r ∷ []) rs) → Pairs past (r ∷ rs)
+left-pairs : (past rs ws : List Rec) (d : AssignmentDue) (r : Rec) → due_of d ≡ audit_due_behind (audit_last_of past) → audit_due_behind (Some r) ≡ None → MayPair None r → ((c : ℕ) → ArePaired (First c) ws → ⊥)
+    → ArePaired d ws → ((f : AssignmentDue) → due_of f ≡ audit_due_behind (audit_last_of (past ++ r ∷ [])) → ArePaired f ws → Pairs (past ++ r ∷ []) rs) → Pairs past (r ∷ rs)
 left-pairs past rs ws d r is none may out h later =
-    let not : (c : ℕ) → d ≡ First c → ⊥ = λ c e. out c (subst (λ (f : Due). ArePaired f ws) e h) in (
+    let not : (c : ℕ) → d ≡ First c → ⊥ = λ c e. out c (subst (λ (f : AssignmentDue). ArePaired f ws) e h) in (
       subst (λ (o : Option ℕ). MayPair o r) is (mark-pairs d r not may),
-      later d (mark-next d not ∙ sym (ap due_behind (last-behind past r) ∙ none)) h,
+      later d (mark-next d not ∙ sym (ap audit_due_behind (last-behind past r) ∙ none)) h,
     )
 
-pairs-all : (p : Phase) (past rs : List Rec) (i : ℕ) (d : Due) → due_of d ≡ due_behind (last_of past) → AllStand p rs → ArePaired d (written_from i rs) → Pairs past rs
+pairs-all : (p : Phase) (past rs : List Rec) (i : ℕ) (d : AssignmentDue) → due_of d ≡ audit_due_behind (audit_last_of past) → AllStand p rs → ArePaired d (written_from i rs) → Pairs past rs
 pairs-all p past [] i d is h pairs = tt
 pairs-all p past (rec.Event k e ∷ rs) i d is h pairs = go e h.1 pairs (λ q j s f. pairs-all q (past ++ rec.Event k e ∷ []) rs j f) where
   go : (g : Event) → AllStand (phase_at g) rs → ArePaired d (cond (is_settle g) [] (rec.Event (i + 1) g ∷ []) ++ written_from (cond (is_settle g) i (i + 1)) rs)
-      → ((q : Phase) (j : ℕ) → Unit {0} → (f : Due) → due_of f ≡ due_behind (last_of (past ++ rec.Event k e ∷ [])) → AllStand q rs → ArePaired f (written_from j rs) → Pairs (past ++ rec.Event k e ∷ []) rs)
+      → ((q : Phase) (j : ℕ) → Unit {0} → (f : AssignmentDue) → due_of f ≡ audit_due_behind (audit_last_of (past ++ rec.Event k e ∷ [])) → AllStand q rs → ArePaired f (written_from j rs) → Pairs (past ++ rec.Event k e ∷ []) rs)
       → Pairs past (rec.Event k e ∷ rs)
   go (event.Settle rounds) s more later = left-pairs past rs (written_from i rs) d (rec.Event k e) is refl tt (λ c. none-due (Begun rounds) c i rs (λ inside. inside) s) more (λ f eq ws. later (Begun rounds) i tt f eq s ws)
   go g s more later = step-pairs past rs (written_from (i + 1) rs) d (i + 1) g (rec.Event k e) is refl (λ o. swapped o g) more (λ f eq ws. later (phase_at g) (i + 1) tt f eq s ws) where

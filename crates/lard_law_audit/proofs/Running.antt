@@ -14,10 +14,10 @@ use Rattle.lard_laws.proofs.Lawful.{journals-lawful}
 use Rattle.lard_laws.specs.Lawful.{IsLawful}
 use Rattle.lard_rules.specs.declared.fault.StepFault.{StepFault}
 use Rattle.lard_rules.specs.declared.machine.Machine.{Machine}
-use Rattle.lard_rules.specs.Machine.{start}
+use Rattle.lard_rules.specs.Machine.{machine_start}
 use Rattle.lard_settling.proofs.Written.{written}
-use Rattle.lard_settling.specs.Events.{Goes, LeadsTo, MayCome, event_step}
-use Rattle.lard_settling.specs.Settling.{left}
+use Rattle.lard_settling.specs.Events.{GoesThrough, LeadsTo, MayCome, event_step}
+use Rattle.lard_settling.specs.Settling.{settle_left}
 use Rattle.lard_settling.specs.Written.{IsWrittenOut, is_settle}
 
 module _ (config : Config) (files : List (List ℕ × List ℕ)) where
@@ -37,7 +37,7 @@ module _ (config : Config) (files : List (List ℕ × List ℕ)) where
   settle-written m rounds h = settle-ends Is IsInner kept m rounds (λ n is. (written config files).settle m n rounds h is)
 
   closed-written : (n : Machine) (rounds : ℕ) → IsClosed Is IsInner rounds n → Is n
-  closed-written n rounds c = subst Is (sym c.is) ((written config files).closes c.last c.done (left c.last) c.holds)
+  closed-written n rounds c = subst Is (sym c.is) ((written config files).closes c.last c.done (settle_left c.last) c.holds)
 
   event-written : (m n : Machine) (e : Event) → Is m → MayCome e → event_step m e ≡ Ok n → Is n
   event-written m n e h may is = go (either-kind e) where
@@ -47,7 +47,7 @@ module _ (config : Config) (files : List (List ℕ × List ℕ)) where
         let done : event_step m (event.Settle s.0) ≡ Ok n = sym (ap (event_step m) s.1) ∙ is in
         closed-written n s.0 (subst (SettleEnds Is IsInner m s.0) done (settle-written m s.0 h))
 
-  goes-written : (es : List Event) (m n : Machine) → Is m → Goes m es n → Is n
+  goes-written : (es : List Event) (m n : Machine) → Is m → GoesThrough m es n → Is n
   goes-written [] m n h goes = subst Is (sym goes) h
   goes-written (e ∷ es) m n h goes = goes-written es goes.0 n (event-written m goes.0 e h goes.1 goes.2) goes.3
 
@@ -58,9 +58,9 @@ module _ (config : Config) (files : List (List ℕ × List ℕ)) where
     go (inl began) = subst Is (sym began.0) h
     go (inr ended) = ended.0
 
-  leads-written : (es : List Event) (m : Machine) → LeadsTo (start config files) es m → Is m
-  leads-written es m (inl goes) = goes-written es (start config files) m (written config files).begins goes
-  leads-written es m (inr i) = stop-written i.behind m i.rounds i.fault (goes-written i.before (start config files) i.behind (written config files).begins i.goes) i.stops
+  leads-written : (es : List Event) (m : Machine) → LeadsTo (machine_start config files) es m → Is m
+  leads-written es m (inl goes) = goes-written es (machine_start config files) m (written config files).begins goes
+  leads-written es m (inr i) = stop-written i.behind m i.rounds i.fault (goes-written i.before (machine_start config files) i.behind (written config files).begins i.goes) i.stops
 
 pub settled-runs-sound : SettledRunsAreSound
 settled-runs-sound config files es m checked leads =

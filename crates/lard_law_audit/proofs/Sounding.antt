@@ -1,9 +1,9 @@
 -- A lawful journal is sound, record by record.
 use Rattle.std.proofs.Common.{◌≡◌, ℕ, true, is_some, List, [], ◌∷◌, ◌++◌, None, refl, sym, ap, ◌∙◌, append_assoc}
-use Rattle.lard_audit.specs.Sound.{IsSound, broken, due_behind, files_of, first_broken, job_at, job_behind, keeps_admission, keeps_cache, keeps_choice, keeps_clock, keeps_network, keeps_owner, keeps_sender, last_of, may_arrive}
+use Rattle.lard_audit.specs.Sound.{IsSound, broken, audit_due_behind, audit_files_of, first_broken, audit_job_at, job_behind, keeps_admission, keeps_cache, keeps_choice, keeps_clock, keeps_network, keeps_owner, keeps_sender, audit_last_of, may_arrive}
 use Rattle.lard_base.specs.Config.{room_of}
 use Rattle.lard_base.specs.declared.config.Config.{Config}
-use Rattle.lard_counts.specs.Ledger.{Ledger, admitted, is_in, ledger}
+use Rattle.lard_counts.specs.Ledger.{Ledger, ledger_admitted, is_in_ledger, ledger}
 use Rattle.lard_counts.specs.Stores.{cached, jobs}
 use Rattle.lard_files.specs.Files.{file_at}
 use Rattle.lard_history.specs.Journal.{last_epoch, owner, sent_count, time_of}
@@ -16,7 +16,7 @@ use Rattle.lard_law_audit.proofs.Homes.{HomesIn, homes-in}
 use Rattle.lard_law_audit.proofs.Keeping.{admission-kept, cache-kept, choice-kept, clock-kept, network-kept, owner-kept, sender-kept}
 use Rattle.lard_law_connections.proofs.PolicyHomes.{stands-so}
 use Rattle.lard_law_connections.specs.PolicyLaws.{MayAdmit, MayAssign}
-use Rattle.lard_law_connections.specs.PolicyLaws.Due.{Nothing}
+use Rattle.lard_law_connections.specs.PolicyLaws.AssignmentDue.{Nothing}
 use Rattle.lard_law_connections.specs.StoresLaws.{MayStore}
 use Rattle.lard_laws.proofs.Lawful.{journals-lawful}
 use Rattle.lard_laws.specs.Lawful.{IsLawful}
@@ -52,7 +52,7 @@ module _ (config : Config) (files : List (List ℕ × List ℕ)) where
   each-moment P J past [] is h = tt
   each-moment P J past (r ∷ rs) is h = (h past (r ∷ rs) (sym is), each-moment P J (past ++ r ∷ []) rs (append_assoc past (r ∷ []) rs ∙ is) h)
 
-  pub homes-told : (past : List Rec) → HomesIn past → (c : ℕ) → is_some (home (ledger config past).loads c) ≡ true → is_in (ledger config past) c ≡ true
+  pub homes-told : (past : List Rec) → HomesIn past → (c : ℕ) → is_some (home (ledger config past).loads c) ≡ true → is_in_ledger (ledger config past) c ≡ true
   homes-told past h c some = let told = stands-so config past c in told.0 ∙ h.homes c (sym (ap is_some told.1) ∙ some)
 
   keeps-all : (past : List Rec) (r : Rec) → Stands past r → broken config (file_lengths files) past r ≡ None
@@ -62,9 +62,9 @@ module _ (config : Config) (files : List (List ℕ × List ℕ)) where
       let network : keeps_network (sent_count past) (may_arrive past) r ≡ true = network-kept past r s.network in
       let own : keeps_owner (owner past) (last_epoch past) r ≡ true = owner-kept past r s.owns s.sends in
       let sender : keeps_sender (owner past) r ≡ true = sender-kept past r s.sends in
-      let admission : keeps_admission (due_behind (last_of past)) (room_of config) (admitted l) (is_in l) r ≡ true = admission-kept config l (due_behind (last_of past)) r s.pairs s.admits in
-      let choice : keeps_choice config l.now l.loads l.sets (is_in l) r ≡ true = choice-kept config l r (homes-told past s.homes) s.assigns in
-      let cache : keeps_cache (file_lengths files) (cached (files_of (file_lengths files)) config.cache past) (λ n. job_at (jobs past n) (job_behind (last_of past) n)) r ≡ true = cache-kept files config.cache past r s.reads s.stores in
+      let admission : keeps_admission (audit_due_behind (audit_last_of past)) (room_of config) (ledger_admitted l) (is_in_ledger l) r ≡ true = admission-kept config l (audit_due_behind (audit_last_of past)) r s.pairs s.admits in
+      let choice : keeps_choice config l.now l.loads l.sets (is_in_ledger l) r ≡ true = choice-kept config l r (homes-told past s.homes) s.assigns in
+      let cache : keeps_cache (file_lengths files) (cached (audit_files_of (file_lengths files)) config.cache past) (λ n. audit_job_at (jobs past n) (job_behind (audit_last_of past) n)) r ≡ true = cache-kept files config.cache past r s.reads s.stores in
       let clock : keeps_clock l.now r ≡ true = clock-kept past l r s.now s.tells in
       λ i. first_broken (network i) (own i) (sender i) (admission i) (choice i) (cache i) (clock i)
 

@@ -8,7 +8,7 @@ use Rattle.lard_files.specs.Files.{file_at}
 use Rattle.lard_journal.specs.declared.rec.Rec.{Rec}
 use Rattle.lard_laws.specs.Lawful.{IsLawful}
 use Rattle.lard_rules.specs.declared.machine.Machine.{Machine}
-use Rattle.lard_rules.specs.Machine.{IsReached, start}
+use Rattle.lard_rules.specs.Machine.{IsReached, machine_start}
 use Rattle.lard_settling.specs.Events.{LeadsTo}
 use Rattle.lard_settling.specs.Order.{SettlesInOrder}
 use Rattle.lard_settling.specs.Written.{written_out}
@@ -32,4 +32,4 @@ SettledIsSound = (config : Config) (files : List (List ℕ × List ℕ)) (J : Li
 -- Such a journal is that of every run with settles, wherever it ended, also inside one.
 abbrev pub SettledRunsAreSound : Type 0
 SettledRunsAreSound =
-    (config : Config) (files : List (List ℕ × List ℕ)) (es : List Event) (m : Machine) → config_check config ≡ Ok tt → LeadsTo (start config files) es m → IsSound config (file_lengths files) m.journal
+    (config : Config) (files : List (List ℕ × List ℕ)) (es : List Event) (m : Machine) → config_check config ≡ Ok tt → LeadsTo (machine_start config files) es m → IsSound config (file_lengths files) m.journal

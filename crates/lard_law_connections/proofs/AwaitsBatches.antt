@@ -8,7 +8,7 @@ use Rattle.lard_base.specs.declared.place.Place.TheVariants.{Front}
 use Rattle.lard_base.specs.declared.place.TimerKind.{TimerKind}
 use Rattle.lard_base.specs.declared.place.TimerKind.TheVariants as kind
 use Rattle.lard_base.specs.declared.place.Via.TheVariants as via
-use Rattle.lard_law_connections.specs.Awaits.{AskKept, BatchComes, ComesBy, FetchKept}
+use Rattle.lard_law_connections.specs.Awaits.{AskKept, BatchComes, IsToCome, FetchKept}
 use Rattle.lard_history.proofs.Each.{Each}
 use Rattle.lard_lateral.specs.Lateral.{is_from, is_node, names_epoch}
 use Rattle.lard_rules.specs.declared.stay.Entry.{Entry}
@@ -65,22 +65,22 @@ module _ (files : FilesAt) where
     one e.progress h.0,
     batch-on kept fetches more found (r + 1) es ask (λ i node low high f. fetch i node (omega (arith, low)) (omega (arith, high)) f) h.1,
   ) where
-    one : (p : Progress) → ComesBy files kept fetches r e.verdict p → ComesBy files more found r e.verdict p
+    one : (p : Progress) → IsToCome files kept fetches r e.verdict p → IsToCome files more found r e.verdict p
     one progress.Named k = (ask k.0, k.1)
     one (progress.Awaited node) k = fetch r node (omega arith) (omega arith) k
     one progress.Reading k = tt
     one (progress.Ready way) k = tt
 
   -- one more request
-  pub batch-push : (kept fetches : List Kept) (r i : ℕ) (es : List Entry) (e : Entry) → i ≡ r + length es → BatchComes files kept fetches r es → ComesBy files kept fetches i e.verdict e.progress → BatchComes files kept fetches r (es ++ e ∷ [])
-  batch-push kept fetches r i [] e at h k = (subst (λ (n : ℕ). ComesBy files kept fetches n e.verdict e.progress) (omega (arith, at)) k, tt)
+  pub batch-push : (kept fetches : List Kept) (r i : ℕ) (es : List Entry) (e : Entry) → i ≡ r + length es → BatchComes files kept fetches r es → IsToCome files kept fetches i e.verdict e.progress → BatchComes files kept fetches r (es ++ e ∷ [])
+  batch-push kept fetches r i [] e at h k = (subst (λ (n : ℕ). IsToCome files kept fetches n e.verdict e.progress) (omega (arith, at)) k, tt)
   batch-push kept fetches r i (x ∷ es) e at h k = (h.0, batch-push kept fetches (r + 1) i es e (omega (arith, at)) h.1 k)
 
   -- a completed job
   pub batch-read : (kept fetches : List Kept) (r i : ℕ) (es : List Entry) → BatchComes files kept fetches r es → BatchComes files kept fetches r (come_on read_progress i es)
   batch-read kept fetches r i [] h = tt
   batch-read kept fetches r zero (e ∷ es) h = (one e.progress h.0, h.1) where
-    one : (p : Progress) → ComesBy files kept fetches r e.verdict p → ComesBy files kept fetches r e.verdict (read_progress p)
+    one : (p : Progress) → IsToCome files kept fetches r e.verdict p → IsToCome files kept fetches r e.verdict (read_progress p)
     one progress.Named k = k
     one (progress.Awaited node) k = k
     one progress.Reading k = tt
@@ -92,13 +92,13 @@ module _ (files : FilesAt) where
     it-is : (node : ℕ) → FetchKept at node fetches → (node == from) ≡ true
     it-is node h = subst (λ (p : Place). is_node p from ≡ true) h.2 (and_parts (is_node h.0.to from) (names_epoch h.0.bytes epoch) (sym (ap (is_from from epoch) h.1) ∙ came)).0
 
-    here-comes : (v : Verdict) (p : Progress) → ComesBy files kept fetches at v p → ComesBy files kept (without kind.Fetch at fetches) at v (come_progress from p)
+    here-comes : (v : Verdict) (p : Progress) → IsToCome files kept fetches at v p → IsToCome files kept (without kind.Fetch at fetches) at v (come_progress from p)
     here-comes v progress.Named k = k
-    here-comes v (progress.Awaited node) k = subst (λ (p : Progress). ComesBy files kept (without kind.Fetch at fetches) at v p) (sym (cond-true (node == from) (progress.Ready (via.Node from)) (progress.Awaited node) (it-is node k))) tt
+    here-comes v (progress.Awaited node) k = subst (λ (p : Progress). IsToCome files kept (without kind.Fetch at fetches) at v p) (sym (cond-true (node == from) (progress.Ready (via.Node from)) (progress.Awaited node) (it-is node k))) tt
     here-comes v progress.Reading k = tt
     here-comes v (progress.Ready way) k = tt
 
-    other-comes : (r : ℕ) (v : Verdict) (p : Progress) → (at ≡ r → ⊥) → ComesBy files kept fetches r v p → ComesBy files kept (without kind.Fetch at fetches) r v p
+    other-comes : (r : ℕ) (v : Verdict) (p : Progress) → (at ≡ r → ⊥) → IsToCome files kept fetches r v p → IsToCome files kept (without kind.Fetch at fetches) r v p
     other-comes r v progress.Named not k = k
     other-comes r v (progress.Awaited node) not k = fetch-left at r node fetches not k
     other-comes r v progress.Reading not k = tt
@@ -112,8 +112,8 @@ module _ (files : FilesAt) where
     batch-came r i [] is h = tt
     batch-came r zero (e ∷ es) is h =
         let same : at ≡ r = omega (arith, is) in (
-          subst (λ (n : ℕ). ComesBy files kept (without kind.Fetch at fetches) n e.verdict (come_progress from e.progress)) same
-              (here-comes e.verdict e.progress (subst (λ (n : ℕ). ComesBy files kept fetches n e.verdict e.progress) (sym same) h.0)),
+          subst (λ (n : ℕ). IsToCome files kept (without kind.Fetch at fetches) n e.verdict (come_progress from e.progress)) same
+              (here-comes e.verdict e.progress (subst (λ (n : ℕ). IsToCome files kept fetches n e.verdict e.progress) (sym same) h.0)),
           batch-later (r + 1) es (omega (arith, same)) h.1,
         )
     batch-came r (suc i) (e ∷ es) is h = (other-comes r e.verdict e.progress (λ same. omega (arith, same, is)) h.0, batch-came (r + 1) i es (omega (arith, is)) h.1)
@@ -133,7 +133,7 @@ module _ (files : FilesAt) where
   pub early-asked : (kept fetches : List Kept) (r : ℕ) (es : List Entry) → AskKept kept → AreEarly es → BatchComes files kept fetches r es
   early-asked kept fetches r [] ask h = tt
   early-asked kept fetches r (e ∷ es) ask h = (one e.progress h.0, early-asked kept fetches (r + 1) es ask h.1) where
-    one : (p : Progress) → IsEarly e.verdict p → ComesBy files kept fetches r e.verdict p
+    one : (p : Progress) → IsEarly e.verdict p → IsToCome files kept fetches r e.verdict p
     one progress.Named k = (ask, k)
     one (progress.Awaited node) k = absurd k
     one progress.Reading k = tt
@@ -159,7 +159,7 @@ module _ (files : FilesAt) where
   pub early-none : (kept fetches : List Kept) (r : ℕ) (es : List Entry) → named_paths files es ≡ [] → AreEarly es → BatchComes files kept fetches r es
   early-none kept fetches r [] none h = tt
   early-none kept fetches r (e ∷ es) none h = (one e.progress refl h.0, early-none kept fetches (r + 1) es (none-behind (named_path files e) (named_paths files es) none) h.1) where
-    one : (p : Progress) → e.progress ≡ p → IsEarly e.verdict p → ComesBy files kept fetches r e.verdict p
+    one : (p : Progress) → e.progress ≡ p → IsEarly e.verdict p → IsToCome files kept fetches r e.verdict p
     one progress.Named at k = absurd (some-named e es at k none)
     one (progress.Awaited node) at k = absurd k
     one progress.Reading at k = tt

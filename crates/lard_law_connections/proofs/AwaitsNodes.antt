@@ -21,19 +21,19 @@ use Rattle.lard_handoff_back.specs.declared.row.BackConn.TheVariants as back
 use Rattle.lard_handoff_back.specs.declared.row.BackRow.{BackRow}
 use Rattle.lard_handoff_back.specs.declared.table.Adopt.{Adopt}
 use Rattle.lard_handoff_back.specs.declared.table.Adopt.TheVariants.{New, Again, Stale}
-use Rattle.lard_handoff_back.specs.Back.{awaits_ack, endpoint_of, offer_answer, staying}
-use Rattle.lard_handoff_back.specs.Row.{held_in}
+use Rattle.lard_handoff_back.specs.Back.{awaits_ack, back_endpoint, offer_answer, staying}
+use Rattle.lard_handoff_back.specs.Row.{back_held}
 use Rattle.lard_history.specs.Own.{Seen}
 use Rattle.lard_lateral.specs.Lateral.{is_from}
 use Rattle.lard_rules.specs.declared.stay.Stay.{Stay}
-use Rattle.lard_rules.specs.Node.{Deed, Drops, Says, Does, NodePart, asked_kept, begins, both_of, come_by, fired_by, gone, heard_by, is_awaited, kept_after, node_acknowledged, node_content, node_forwarded, node_offered, node_read, node_tagged, node_timer, offered_by, read_by, saying, tagged_by, taken_sent, wants_kept, with_work, work_of}
+use Rattle.lard_rules.specs.Node.{NodeDeed, Drops, Says, Does, NodePart, asked_kept, node_begins, both_of, come_by, node_fired_by, gone, node_heard_by, is_tag_awaited, kept_after, node_acknowledged, node_content, node_forwarded, node_offered, node_read, node_tagged, node_timer, offered_by, node_read_by, node_saying, tagged_by, taken_sent, wants_kept, with_work, work_of}
 use Rattle.lard_rules.specs.Stay.{NodeEnv, Work, came_for, come_on, come_progress, goes_on, named_paths, read_progress, reads_batch, tagged}
 use Rattle.lard_resend.specs.Kept.{is_under, without}
 use Rattle.lard_rules.specs.declared.places.Ending.{Ending}
 use Rattle.lard_rules.specs.declared.places.Ending.TheVariants as ending
 use Rattle.lard_rules.specs.declared.places.Turn.{Turn}
 use Rattle.lard_rules.specs.Loop.{state_of}
-use Rattle.lard_rules.specs.Serving.{ServeEnv, Service, cut_off, ready_of, serving, settled, spoken}
+use Rattle.lard_rules.specs.Serving.{ServeEnv, Service, cut_off, serving_ready_of, serving, serving_settled, spoken}
 use Rattle.lard_rules.specs.Speaking.{speaks}
 use Rattle.lard_segment.specs.declared.fault.SegFault.{SegFault}
 use Rattle.lard_segment.specs.Segment.{Said}
@@ -50,7 +50,7 @@ spoken-served env s before =
     let b : ControlBlock = (speaks env.c s.block).1 in
     cond_both (may_end b) (ending.Over (final_of b (end_reason b))) (ending.Here b s.count) (HasServed s.count) (λ t. tt) (λ t. refl)
 
-pub settled-served : (env : ServeEnv) (s : Service) → HasServed s.count (settled env s).0
+pub settled-served : (env : ServeEnv) (s : Service) → HasServed s.count (serving_settled env s).0
 settled-served env s = go s.over where
   go : (o : Option ℕ) → HasServed s.count (elim o as (λ p. Ending × Turn) [ None ↦ spoken env s [] | Some total ↦ cut_off env s ]).0
   go None = spoken-served env s []
@@ -66,13 +66,13 @@ module _ (env : NodeEnv) where
 
   -- ---- the rules
 
-  abbrev pub DeedComes : Deed → Type 0
+  abbrev pub DeedComes : NodeDeed → Type 0
   DeedComes Drops = Unit {0}
   DeedComes (Says ms) = Unit {0}
   DeedComes (Does given) = NodeComes files given.0
 
   goes-come : (part : NodePart) (before : List (Place × List ℕ)) (k : Work) → Comes env part.kept part.fetches k → DeedComes (with_work env part before (goes_on env k))
-  goes-come part before k h = after-comes part (goes_on env k) (settled env.serve (goes_on env k).service).0 (settled-served env.serve (goes_on env k).service) (goes-comes env part.kept part.fetches k h)
+  goes-come part before k h = after-comes part (goes_on env k) (serving_settled env.serve (goes_on env k).service).0 (settled-served env.serve (goes_on env k).service) (goes-comes env part.kept part.fetches k h)
 
   module _ (p : NodePart) (h : NodeComes files p) where
     abbrev IsHere : ControlBlock × Stay → Type 0
@@ -83,21 +83,21 @@ module _ (env : NodeEnv) where
       of-stay b None k = none
       of-stay b (Some s) k = some (b, s) k
 
-      of-stage : (d : BackConn) → StageComes files p d → P (both_of (held_in d) p.stay)
+      of-stage : (d : BackConn) → StageComes files p d → P (both_of (back_held d) p.stay)
       of-stage (back.Here b) k = of-stay b p.stay k
       of-stage _ k = none
 
-      at-endpoint : (q : Option BackRow) → RowComes files p q → P (both_of (endpoint_of q) p.stay)
+      at-endpoint : (q : Option BackRow) → RowComes files p q → P (both_of (back_endpoint q) p.stay)
       at-endpoint None k = none
       at-endpoint (Some row) k = of-stage row.stage k
 
       at-epoch : (q : Option BackRow) → RowComes files p q → P (both_of (staying env.epoch q) p.stay)
       at-epoch None k = none
-      at-epoch (Some row) k = cond_both (row.epoch.0 == env.epoch) (held_in row.stage) None (λ o. P (both_of o p.stay)) (λ t. of-stage row.stage k) (λ t. none)
+      at-epoch (Some row) k = cond_both (row.epoch.0 == env.epoch) (back_held row.stage) None (λ o. P (both_of o p.stay)) (λ t. of-stage row.stage k) (λ t. none)
 
     pub forwarded-comes : (r : Result Said SegFault) → DeedComes (node_forwarded env p r)
     forwarded-comes (Err fault) = tt
-    forwarded-comes (Ok s) = at-epoch (λ y. DeedComes (heard_by env p (Ok s) y)) tt (λ y comes. goes-come p [] (work_of (on_segment y.0 s).1 y.1) comes) p.row h
+    forwarded-comes (Ok s) = at-epoch (λ y. DeedComes (node_heard_by env p (Ok s) y)) tt (λ y comes. goes-come p [] (work_of (on_segment y.0 s).1 y.1) comes) p.row h
 
     pub tagged-comes : (number : ℕ) (nodes : List ℕ) → DeedComes (node_tagged env p number nodes)
     tagged-comes number nodes = at-epoch (λ y. DeedComes (tagged_by env number nodes p y)) tt
@@ -105,7 +105,7 @@ module _ (env : NodeEnv) where
         let part : NodePart = record p { kept = without timer.Ask 0 p.kept } in
         let k : Work = work_of y.0 y.1 in
         let named : ℕ = length (named_paths files y.1.batch) in
-        cond_both (is_awaited env number nodes p y.1) (with_work env part [] (goes_on env (tagged env nodes k))) Drops DeedComes
+        cond_both (is_tag_awaited env number nodes p y.1) (with_work env part [] (goes_on env (tagged env nodes k))) Drops DeedComes
         (λ t.
         let count : length nodes ≡ named = eqb-true (length nodes) named (and_parts (y.1.asks == number) (length nodes == named) (and_parts (is_some (find (is_under timer.Ask 0) p.kept)) (y.1.asks == number && length nodes == named) t).1).1 in
         goes-come part [] (tagged env nodes k)
@@ -128,7 +128,7 @@ module _ (env : NodeEnv) where
         p.row h
 
     pub read-comes : (r : ℕ) → DeedComes (node_read env p r)
-    read-comes r = at-epoch (λ y. DeedComes (read_by env r p y)) tt
+    read-comes r = at-epoch (λ y. DeedComes (node_read_by env r p y)) tt
         (λ y comes.
         let k : Work = work_of y.0 y.1 in
         goes-come p [] (came_for read_progress r k)
@@ -137,10 +137,10 @@ module _ (env : NodeEnv) where
         p.row h
 
     pub timer-comes : DeedComes (node_timer env p)
-    timer-comes = at-endpoint (λ y. DeedComes (fired_by env p y)) tt
+    timer-comes = at-endpoint (λ y. DeedComes (node_fired_by env p y)) tt
         (λ y comes.
         let s : Service = serving (after_timer y.0) y.1.served [] in
-        let before : List (Place × List ℕ) = ready_of env.serve (after_timer y.0) (timed y.0) in
+        let before : List (Place × List ℕ) = serving_ready_of env.serve (after_timer y.0) (timed y.0) in
         after-comes p (work_of (after_timer y.0) y.1) (spoken env.serve s before).0 (spoken-served env.serve s before) comes)
         p.row h
 
@@ -151,10 +151,10 @@ module _ (env : NodeEnv) where
     pub acknowledged-comes : DeedComes (node_acknowledged env p)
     acknowledged-comes =
         let q : NodePart = record p { row = gone p.row; kept = without timer.Ended 0 p.kept } in
-        cond_both (awaits_ack env.epoch p.row) (Does (q, saying [])) Drops DeedComes (λ t. gone-comes q p.row) (λ t. tt)
+        cond_both (awaits_ack env.epoch p.row) (Does (q, node_saying [])) Drops DeedComes (λ t. gone-comes q p.row) (λ t. tt)
 
   offered-by : (p : NodePart) (parts : EndpointParts) (a : Adopt) → DeedComes (offered_by env parts p a)
-  offered-by p parts New = goes-come p (taken_sent env) (state_of (reads_batch env true (begins env parts))) (batch-state env p.kept p.fetches true (begins env parts) refl)
+  offered-by p parts New = goes-come p (taken_sent env) (state_of (reads_batch env true (node_begins env parts))) (batch-state env p.kept p.fetches true (node_begins env parts) refl)
   offered-by p parts Again = tt
   offered-by p parts Stale = tt
 
@@ -163,7 +163,7 @@ module _ (env : NodeEnv) where
 
 -- ---- its move
 
-pub node-move : (env : NodeEnv) (x : Conn) (n : ℕ) (heads : List Seen) (d : Deed) → DeedComes env d → AwaitsWhatItAsked env.serve.files x → AwaitsWhatItAsked env.serve.files (grown x (node_does x n heads d))
+pub node-move : (env : NodeEnv) (x : Conn) (n : ℕ) (heads : List Seen) (d : NodeDeed) → DeedComes env d → AwaitsWhatItAsked env.serve.files x → AwaitsWhatItAsked env.serve.files (grown x (node_does x n heads d))
 node-move env x n heads Drops k h = h
 node-move env x n heads (Says ms) k h = h
 node-move env x n heads (Does given) k h = put-each x.part.nodes n given.0 (λ m p. NodeComes env.serve.files p) k (λ m other. h m)

@@ -6,7 +6,7 @@ use Rattle.lard_base.specs.declared.place.Place.TheVariants.{Client, Front, Node
 use Rattle.lard_law_connections.specs.Awaits.{AwaitsWhatItAsked, NodeComes}
 use Rattle.lard_law_connections.specs.AwaitsLaws.{ConnectionsAwait}
 use Rattle.lard_law_connections.proofs.AwaitsNodes.{DeedComes, acknowledged-comes, content-comes, forwarded-comes, node-move, offered-comes, read-comes, tagged-comes, timer-comes}
-use Rattle.lard_law_view.specs.Carry.{IsLaw, MayMove, setting}
+use Rattle.lard_law_view.specs.Carry.{IsLaw, MayRestOn, setting}
 use Rattle.lard_law_view.specs.View.{ClientRules, Conn, FrontRules, IsNodeEnv, Move, NodeRules, Rules, Setting, event_seen, front_does, grown, node_does, packet_seen}
 use Rattle.lard_law_view.proofs.Carried.{carried}
 use Rattle.lard_files.specs.Files.{file_at}
@@ -24,14 +24,14 @@ abbrev Anything : Conn → Type 0
 Anything x = Unit {0}
 
 -- the front end changes nothing that a node keeps
-front-move : (files : FilesAt) (x : Conn) (heads : List Seen) (d : front.Deed) → AwaitsWhatItAsked files x → AwaitsWhatItAsked files (grown x (front_does x heads d))
+front-move : (files : FilesAt) (x : Conn) (heads : List Seen) (d : front.FrontDeed) → AwaitsWhatItAsked files x → AwaitsWhatItAsked files (grown x (front_does x heads d))
 front-move files x heads front.Drops h = h
 front-move files x heads (front.Says turn) h = h
 front-move files x heads (front.Does did) h = h
 
 module _ (k : Setting) where
   abbrev Awaits : Conn → Move → Type 0
-  Awaits x v = MayMove Anything x → AwaitsWhatItAsked k.files x → AwaitsWhatItAsked k.files (grown x v)
+  Awaits x v = MayRestOn Anything x → AwaitsWhatItAsked k.files x → AwaitsWhatItAsked k.files (grown x v)
 
   clients : ClientRules k Awaits
   clients = record {
@@ -57,7 +57,7 @@ module _ (k : Setting) where
   }
 
   -- a rule of a node, whose files are the run's
-  by-node : (x : Conn) (n epoch : ℕ) (env : NodeEnv) → IsNodeEnv k x.c n epoch env → (heads : List Seen) (d : node.Deed) → (NodeComes env.serve.files (x.part.nodes n) → DeedComes env d) → AwaitsWhatItAsked k.files x → AwaitsWhatItAsked k.files (grown x (node_does x n heads d))
+  by-node : (x : Conn) (n epoch : ℕ) (env : NodeEnv) → IsNodeEnv k x.c n epoch env → (heads : List Seen) (d : node.NodeDeed) → (NodeComes env.serve.files (x.part.nodes n) → DeedComes env d) → AwaitsWhatItAsked k.files x → AwaitsWhatItAsked k.files (grown x (node_does x n heads d))
   by-node x n epoch env is heads d rule h =
       subst (λ (files : FilesAt). AwaitsWhatItAsked files x → AwaitsWhatItAsked files (grown x (node_does x n heads d))) is.files (λ g. node-move env x n heads d (rule (g n)) g) h
 

@@ -5,7 +5,7 @@ use Rattle.std.proofs.lemmas.List.{length_push}
 use Rattle.std.proofs.lemmas.Option.{slice_get-get_or}
 use Rattle.lard_answers.specs.Answers.{FilesAt, answer, good_path}
 use Rattle.lard_base.specs.declared.place.Via.TheVariants as via
-use Rattle.lard_law_connections.specs.Awaits.{BatchComes, ComesBy, FetchKept}
+use Rattle.lard_law_connections.specs.Awaits.{BatchComes, IsToCome, FetchKept}
 use Rattle.lard_law_connections.proofs.AwaitsBatches.{AreEarly, IsEarly, anew-found, batch-on, batch-push, early-asked, early-none, fetch-on, wants-on, wants-push}
 use Rattle.lard_history.proofs.Each.{Each, Each-append, Each-weaker}
 use Rattle.lard_journal.specs.declared.rec.Rec.TheVariants as rec
@@ -16,12 +16,12 @@ use Rattle.lard_rules.specs.declared.stay.Progress.{Progress}
 use Rattle.lard_rules.specs.declared.stay.Progress.TheVariants as progress
 use Rattle.lard_rules.specs.declared.stay.Want.{Want}
 use Rattle.lard_rules.specs.Node.{anew, ask_kept, asked_kept, fetch_of, wants_kept}
-use Rattle.lard_rules.specs.Stay.{NodeEnv, Work, and_path, asks_for, entered, enters, enters_first, enters_one, goes_on, left, named_path, named_paths, next_in, path_in, progress_of, read_entry, reads_batch, reads_these, serves_by, serves_first, serves_with, started, started_here, started_there, starts_at, starts_named, starts_one, turn, turned}
+use Rattle.lard_rules.specs.Stay.{NodeEnv, Work, and_path, asks_for, entered, enters, enters_first, enters_one, goes_on, work_left, named_path, named_paths, next_in, path_in, progress_of, read_entry, reads_batch, reads_these, serves_by, serves_first, serves_with, started, started_here, started_there, starts_at, starts_named, starts_one, stay_turn, turned}
 use Rattle.lard_reader.specs.Batches.{batch_of, bytes_used}
 use Rattle.lard_request.specs.declared.verdict.Verdict.{Verdict}
 use Rattle.lard_resend.specs.declared.kept.Kept.{Kept}
 use Rattle.lard_rules.specs.Loop.{Step, More, Done, state_of}
-use Rattle.lard_rules.specs.Serving.{Service, consumed, ended_at_fin, may_read, passed_over, queued}
+use Rattle.lard_rules.specs.Serving.{Service, serving_consumed, ended_at_fin, may_read, passed_over, queued}
 use Rattle.lard_rules.proofs.Runs.{runs_keep}
 use Rattle.lard_rules.proofs.StayFalling.{none-left}
 
@@ -89,10 +89,10 @@ module _ (env : NodeEnv) (kept0 fetches0 : List Kept) where
 
   these-come : (here : Bool) (used : ℕ) (k : Work) (vs : List Verdict) → k.batch ≡ [] → StepComes (reads_these env here used k vs)
   these-come here used k [] none =
-      let w : Work = record k { service = ended_at_fin (consumed used k.service) } in
+      let w : Work = record k { service = ended_at_fin (serving_consumed used k.service) } in
       subst (λ (es : List Entry). BatchComes files (kept_then w) (fetches_then w) (w.service.count + 1) es) (sym none) tt
   these-come here used k (v ∷ vs) none =
-      let rest : Work = record k { service = consumed used k.service } in
+      let rest : Work = record k { service = serving_consumed used k.service } in
       let all : Work = enters env here (k.service.count + 1) (v ∷ vs) rest in
       asks-come (length (v ∷ vs)) (named_paths files all.batch) all refl (enters-early here (k.service.count + 1) (v ∷ vs) rest (subst (AreEarly files) (sym none) tt))
 
@@ -122,14 +122,14 @@ module _ (env : NodeEnv) (kept0 fetches0 : List Kept) where
   turned-comes k next.Read e h = batch-comes false k (none-left k.batch e)
   turned-comes k next.Stop e h = h
 
-  turn-comes : (k : Work) → Comes k → StepComes (turn env k)
+  turn-comes : (k : Work) → Comes k → StepComes (stay_turn env k)
   turn-comes k h = go (may_read k.service) where
     go : (b : Bool) → StepComes (turned env k (cond b (next_in k.batch) next.Stop))
     go true = turned-comes k (next_in k.batch) refl h
     go false = h
 
   pub goes-comes : (k : Work) → Comes k → Comes (goes_on env k)
-  goes-comes k h = runs_keep (turn env) left Comes (record {
+  goes-comes k h = runs_keep (stay_turn env) work_left Comes (record {
     more = λ y z e p. subst StepComes e (turn-comes y p);
     done = λ y z e p. subst StepComes e (turn-comes y p);
   }) k h
@@ -141,7 +141,7 @@ module _ (env : NodeEnv) (kept0 fetches0 : List Kept) where
     pub next_is : r ≡ (k.service.count + 1) + length k.batch
     pub below : Each (λ (w : Want). w.r < r) k.wants
 
-  push-starts : (e : Entry) (k : Work) (r : ℕ) → Starts k r → ComesBy files [] (fetches_then k) r e.verdict e.progress → Starts (entered e k) (r + 1)
+  push-starts : (e : Entry) (k : Work) (r : ℕ) → Starts k r → IsToCome files [] (fetches_then k) r e.verdict e.progress → Starts (entered e k) (r + 1)
   push-starts e k r h by = record {
     comes = batch-push files [] (fetches_then k) (k.service.count + 1) r k.batch e h.next_is h.comes by;
     next_is = omega (arith, h.next_is, length_push k.batch e);
@@ -197,7 +197,7 @@ module _ (env : NodeEnv) (kept0 fetches0 : List Kept) where
       named : (p : Progress) → e.progress ≡ p → (o : Option (List ℕ)) → path_in files e p ≡ o → named_path files e ≡ o
       named p at o is = ap (path_in files e) at ∙ is
 
-      stay : named_path files e ≡ None → ComesBy files [] (fetches_then k) r e.verdict e.progress → Later → Next_of at r es (starts_one env (slice_get nodes at) r e k)
+      stay : named_path files e ≡ None → IsToCome files [] (fetches_then k) r e.verdict e.progress → Later → Next_of at r es (starts_one env (slice_get nodes at) r e k)
       stay none by later = subst (Next_of at r es) (sym (stays-as (slice_get nodes at) r e k none))
           (later at (entered e k) (push-starts e k r h by) (ap (λ (o : Option (List ℕ)). at + length (and_path o (named_paths files es))) (sym none) ∙ count))
 
@@ -213,12 +213,12 @@ module _ (env : NodeEnv) (kept0 fetches0 : List Kept) where
       named-good p None is good later = absurd (good is)
       named-good p (Some path) is good later = start path (named progress.Named p (Some path) is) later
 
-      go : (p : Progress) → e.progress ≡ p → ComesBy files kept0 fetches0 r e.verdict e.progress → Later → Next_of at r es (starts_one env (slice_get nodes at) r e k)
-      go progress.Named is by later = named-good is (good_path files e.verdict) refl (subst (ComesBy files kept0 fetches0 r e.verdict) is by).1 later
+      go : (p : Progress) → e.progress ≡ p → IsToCome files kept0 fetches0 r e.verdict e.progress → Later → Next_of at r es (starts_one env (slice_get nodes at) r e k)
+      go progress.Named is by later = named-good is (good_path files e.verdict) refl (subst (IsToCome files kept0 fetches0 r e.verdict) is by).1 later
       go (progress.Awaited node) is by later =
-          stay (named (progress.Awaited node) is None refl) (subst (ComesBy files [] (fetches_then k) r e.verdict) (sym is) (wants-on env k.wants r node fetches0 h.below (subst (ComesBy files kept0 fetches0 r e.verdict) is by))) later
-      go progress.Reading is by later = stay (named progress.Reading is None refl) (subst (ComesBy files [] (fetches_then k) r e.verdict) (sym is) tt) later
-      go (progress.Ready way) is by later = stay (named (progress.Ready way) is None refl) (subst (ComesBy files [] (fetches_then k) r e.verdict) (sym is) tt) later
+          stay (named (progress.Awaited node) is None refl) (subst (IsToCome files [] (fetches_then k) r e.verdict) (sym is) (wants-on env k.wants r node fetches0 h.below (subst (IsToCome files kept0 fetches0 r e.verdict) is by))) later
+      go progress.Reading is by later = stay (named progress.Reading is None refl) (subst (IsToCome files [] (fetches_then k) r e.verdict) (sym is) tt) later
+      go (progress.Ready way) is by later = stay (named (progress.Ready way) is None refl) (subst (IsToCome files [] (fetches_then k) r e.verdict) (sym is) tt) later
 
   -- whatever else is kept
   pub all-started : (k : Work) → AllStarted k → Comes k

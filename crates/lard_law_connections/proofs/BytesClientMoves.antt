@@ -8,22 +8,22 @@ use Rattle.lard_base.specs.declared.place.Place.{Place}
 use Rattle.lard_base.specs.declared.place.Place.TheVariants.{Client, Front, Node}
 use Rattle.lard_client.specs.Control.{ClientBlock, written_len}
 use Rattle.lard_rules.specs.Bounds.{HasRule}
-use Rattle.lard_law_connections.specs.BytesAgreement.{ConnAgrees, IsFair, IsFairOn, IsInner, IsNode, IsOpen, IsTruthful, IsUnopened, SeatAgrees, StayComesOn, TaleAgrees}
+use Rattle.lard_law_connections.specs.BytesAgreement.{ConnAgrees, IsFair, IsFairOn, IsInner, IsNodePlace, IsOpen, IsTruthful, IsConnUnopened, SeatAgrees, StayComesOn, TaleAgreesWithTalk}
 use Rattle.lard_law_connections.proofs.BytesLaw.{Helps, IsSeenTrue, IsTrueMove, StaysTruthful}
-use Rattle.lard_law_connections.specs.BytesRecords.{IsTrueAfter}
+use Rattle.lard_law_connections.specs.BytesRecords.{IsOwnedTrueAfter}
 use Rattle.lard_law_connections.proofs.BytesFair.{GoesOnFairly, all-on}
 use Rattle.lard_law_connections.proofs.BytesLater.{said-stays, seat-stays}
 use Rattle.lard_law_connections.proofs.BytesTelling.{Tells, client-tells, heads-true, timers-true, words-true}
 use Rattle.lard_law_connections.proofs.BytesTold.{Bytes, bytes_of, heads-fin, move-bytes, tale-agrees}
 use Rattle.lard_law_view.specs.Carry.{tale_at}
-use Rattle.lard_law_view.specs.View.{AreBetween, ClientRules, Conn, GoesBetween, IsSound, Move, Setting, Was, client_begins, client_does, event_seen, grown, letter, letters_of, packet_seen, seen_in, timer_rows}
+use Rattle.lard_law_view.specs.View.{AreBetween, ClientRules, Conn, GoesBetween, IsConnSound, Move, Setting, Was, client_begins, client_does, event_seen, grown, letter, letters_of, packet_seen, seen_in, timer_rows}
 use Rattle.lard_law_view.proofs.Rows.{grown-tale, move-lawful, tale_before}
 use Rattle.lard_law_view.proofs.Timers.{timer_rows-are}
 use Rattle.lard_history.specs.Journal.{Tale, request, told_on}
 use Rattle.lard_history.specs.Own.{EachRow, Has, Letter, Seen}
 use Rattle.lard_history.proofs.Each.{Each, Each-append}
 use Rattle.lard_journal.specs.declared.rec.Rec.{Rec}
-use Rattle.lard_law_view.specs.Agreement.{AreWords, IsReply}
+use Rattle.lard_law_view.specs.Agreement.{AreClientWords, IsReply}
 use Rattle.lard_law_view.specs.Keeping.{ClientKeeps, ClientOpened, ClientTurned, accepted_in, unwritten, written_in}
 use Rattle.lard_law_view.specs.Truthful.{Talk}
 use Rattle.lard_law_view.proofs.ClientHearing.{hears-turned}
@@ -46,7 +46,7 @@ use Rattle.lard_law_view.proofs.RowLists.{client-sends-tale}
 pub open-at : (files : FilesAt) (x : Conn) (s : Station) → x.part.station ≡ Some s → (h : IsTruthful files x) → IsOpen files x h.talk h.pend s
 open-at files x s there h = subst (ConnAgrees files x h.talk h.pend) there h.agrees
 
-pub words-fair : (k : Talk) (c d : ℕ) (x : Conn) (ss : List (Place × List ℕ)) → AreWords c k.w ss → Each (IsFair k c x.part) (map (letter (Client d)) ss)
+pub words-fair : (k : Talk) (c d : ℕ) (x : Conn) (ss : List (Place × List ℕ)) → AreClientWords c k.w ss → Each (IsFair k c x.part) (map (letter (Client d)) ss)
 words-fair k c d x [] h = tt
 words-fair k c d x (s ∷ ss) h = (subst (λ (to : Place). IsFair k c x.part (record { from = Client d; to = to; bytes = s.1 })) (sym h.0) h.1, words-fair k c d x ss h.2)
 
@@ -60,7 +60,7 @@ has-between : (c : ℕ) (l : Letter) (ls : List Letter) → Has l ls → AreBetw
 has-between c l [] h b = absurd h
 has-between c l (y ∷ ys) h b = ⊎_elim (λ (e : y ≡ l). subst (λ (z : Letter). GoesBetween c z.from z.to z.bytes) e b.0) (λ (t : Has l ys). has-between c l ys t b.1) h
 
-pub was-between : (x : Conn) (from to : Place) (bytes : List ℕ) → IsSound x → Was x from to bytes → GoesBetween x.c from to bytes
+pub was-between : (x : Conn) (from to : Place) (bytes : List ℕ) → IsConnSound x → Was x from to bytes → GoesBetween x.c from to bytes
 was-between x from to bytes sound was = has-between x.c (record { from = from; to = to; bytes = bytes }) x.letters was sound.between
 
 -- ---- a client's turn
@@ -82,7 +82,7 @@ module _ (files : FilesAt) (x : Conn) (s : Station) (there : x.part.station ≡ 
     abbrev noted : Tale
     noted = told_on x.c before given.1.notes
 
-    before-agrees : TaleAgrees k s.client.accepted before
+    before-agrees : TaleAgreesWithTalk k s.client.accepted before
     before-agrees = tale-agrees k s.client.accepted (tale_at x) before quiet (λ e. h.tale.fin (sym (heads-fin x.c heads (tale_at x) help.heads) ∙ e)) h.tale
 
     adds : Adds before (written_in given.1.notes) (accepted_in given.1.notes) 0 0 false noted
@@ -136,7 +136,7 @@ module _ (files : FilesAt) (x : Conn) (s : Station) (there : x.part.station ≡ 
         subst (λ (b : List ℕ). IsPrefix b k.out.bytes) same (drop given.0.accepted k.out.bytes, sym (take-append-drop given.0.accepted k.out.bytes))
 
     seen-true : EachRow (IsSeenTrue files x.c) x.seen (seen_in x v)
-    seen-true = move-lawful (IsTrueAfter files x.c) x v (heads-true files x.c x.seen heads help.heads)
+    seen-true = move-lawful (IsOwnedTrueAfter files x.c) x v (heads-true files x.c x.seen heads help.heads)
         (client-tells files x.c before given.1.notes t.notes (client-true files x.c k.out.bytes k.w.bytes (said-front files k.w k.out k.vs h.says) before given.1.notes t.notes wrote-so accepted-so))
         (words-true files x.c x.c noted given.1.segments) tt tt
         (timers-true files x.c (Client x.c) x.c _ (timer_rows (Client x.c) x.c x.part v.part) (timer_rows-are (Client x.c) x.c x.part v.part))
@@ -150,7 +150,7 @@ module _ (files : FilesAt) (x : Conn) (s : Station) (there : x.part.station ≡ 
 inner-fair : (k : Talk) (c : ℕ) (x : Conn) (ls : List Letter) → Each IsInner ls → Each (IsFair k c x.part) ls
 inner-fair k c x [] h = tt
 inner-fair k c x (l ∷ ls) h = (one l.from l.to h.0.0 h.0.1, inner-fair k c x ls h.1) where
-  one : (from to : Place) → IsNode from → IsNode to → IsFairOn k c x.part from to l.bytes
+  one : (from to : Place) → IsNodePlace from → IsNodePlace to → IsFairOn k c x.part from to l.bytes
   one (Node n) (Node m) a b = tt
   one Front to a b = absurd a
   one (Client d) to a b = absurd a
@@ -167,7 +167,7 @@ module _ (files : FilesAt) (x : Conn) (isn iss wnd mss : ℕ) (rule : HasRule (e
   abbrev begun : Talk
   begun = record { w = unwritten isn; out = nobody; vs = []; was_reset = false }
 
-  unopened : IsUnopened x
+  unopened : IsConnUnopened x
   unopened = subst (ConnAgrees files x h.talk h.pend) none h.agrees
 
   abbrev given : ClientBlock × Turn
@@ -183,14 +183,14 @@ module _ (files : FilesAt) (x : Conn) (isn iss wnd mss : ℕ) (rule : HasRule (e
       ∙ heads-fin x.c w.heads (tale_at x) help.heads ∙ unopened.fin
 
   opens-seen : Helps x w → EachRow (IsSeenTrue files x.c) x.seen (seen_in x w)
-  opens-seen help = move-lawful (IsTrueAfter files x.c) x w (heads-true files x.c x.seen w.heads help.heads)
+  opens-seen help = move-lawful (IsOwnedTrueAfter files x.c) x w (heads-true files x.c x.seen w.heads help.heads)
       (subst (λ (ns : List Rec). Tells files x.c (tale_before x w) ns) (sym it.notes) tt)
       (words-true files x.c x.c (told_on x.c (tale_before x w) given.1.notes) given.1.segments) tt tt
       (timers-true files x.c (Client x.c) x.c _ (timer_rows (Client x.c) x.c x.part w.part) (timer_rows-are (Client x.c) x.c x.part w.part))
 
   opens-truthful : Helps x w → IsTruthful files (grown x w)
   opens-truthful help =
-      let u : IsUnopened x = unopened in
+      let u : IsConnUnopened x = unopened in
       let told : bytes_of (tale_at (grown x w)) ≡ bytes_of (tale_before x w) = move-bytes x w help.own.messages help.own.gave ∙ ap (λ (ns : List Rec). bytes_of (told_on x.c (tale_before x w) ns)) it.notes in
       record {
         talk = begun;

@@ -5,22 +5,22 @@ use Rattle.std.proofs.lemmas.Bool.{cond_both, or_parts}
 use Rattle.lard_base.specs.declared.place.Place.{Place}
 use Rattle.lard_base.specs.declared.place.Reason.{Reason}
 use Rattle.lard_base.specs.declared.place.Reason.TheVariants as reason
-use Rattle.lard_law_connections.specs.BytesAgreement.{EndAgrees, EndedIt, HasRead, HoldsIt, IsWide}
-use Rattle.lard_law_connections.specs.BytesTurning.{EndTurned, IsReading, Serves}
+use Rattle.lard_law_connections.specs.BytesAgreement.{EndAgreesPending, EndedWithNumbers, HasReadPending, HoldsItPending, IsWide}
+use Rattle.lard_law_connections.specs.BytesTurning.{EndTurned, IsReading, TurnServes}
 use Rattle.lard_law_connections.proofs.BytesReading.{read-same}
 use Rattle.lard_law_connections.proofs.BytesWide.{half-wide, wide-half}
 use Rattle.lard_endpoint.specs.Control.{ControlBlock}
 use Rattle.lard_endpoint.specs.Leaving.{emits_left}
 use Rattle.lard_endpoint.specs.Moving.{end_reason, final_of, is_closed, may_end}
 use Rattle.lard_law_view.specs.Agreement.{AreReplies, IsReply}
-use Rattle.lard_law_view.specs.Keeping.{resets}
+use Rattle.lard_law_view.specs.Keeping.{is_reset_record}
 use Rattle.lard_law_view.proofs.EndpointStreams.{IsBetween, between-sound}
 use Rattle.lard_law_view.proofs.EndpointSpeaking.{Spoke, awaits-within, emits-spoke, emits_symbols-spoke}
 use Rattle.lard_request.specs.declared.verdict.Verdict.{Verdict}
 use Rattle.lard_rules.specs.declared.places.Ending.{Ending}
 use Rattle.lard_rules.specs.declared.places.Ending.TheVariants as ending
 use Rattle.lard_rules.specs.declared.places.Turn.{Turn}
-use Rattle.lard_rules.specs.Serving.{ServeEnv, Service, cut_off, limit_said, settled, spoken, told}
+use Rattle.lard_rules.specs.Serving.{ServeEnv, Service, cut_off, limit_said, serving_settled, spoken, serving_told}
 use Rattle.lard_rules.specs.Speaking.{speaks, speaks_symbols}
 use Rattle.lard_rules.proofs.Wide.{speaks-wide}
 use Rattle.lard_law_view.specs.Truth.{Stream}
@@ -42,15 +42,15 @@ module _ (env : ServeEnv) (w out : Stream) (vs : List Verdict) (was_reset : Bool
   Ends pend given = EndTurned env.files env.c w out vs was_reset pend given
 
   abbrev pub reset_in : Service → Bool
-  reset_in s = was_reset || list_any resets s.notes
+  reset_in s = was_reset || list_any is_reset_record s.notes
 
   -- what is left of an endpoint that ended
-  ended-it : (now : Stream) (b : ControlBlock) (why : Reason) (r : Bool) → IsBetween w now b → (why ≡ reason.Limit → r ≡ true) → EndedIt w r (final_of b why)
+  ended-it : (now : Stream) (b : ControlBlock) (why : Reason) (r : Bool) → IsBetween w now b → (why ≡ reason.Limit → r ≡ true) → EndedWithNumbers w r (final_of b why)
   ended-it now b why r h limit = record { snd_fits = omega arith; rcv_fits = omega arith; acks = awaits-within w now b h; limit = limit }
 
   -- one that said what it may, and was not reset, is held as it was
-  still-holds : (s : Service) (pend : List Verdict) (g : Serves env.files env.c w out vs s pend) (r : Bool) (said : List (Place × List ℕ) × ControlBlock) → Spoke env.c w g.out_now r s.block said → HasRead w s.block g.vs_now pend
-      → IsWide said.1 → said.1.reset ≡ false → HoldsIt w g.out_now g.vs_now pend said.1 s.count
+  still-holds : (s : Service) (pend : List Verdict) (g : TurnServes env.files env.c w out vs s pend) (r : Bool) (said : List (Place × List ℕ) × ControlBlock) → Spoke env.c w g.out_now r s.block said → HasReadPending w s.block g.vs_now pend
+      → IsWide said.1 → said.1.reset ≡ false → HoldsItPending w g.out_now g.vs_now pend said.1 s.count
   still-holds s pend g r said talk read wide calm = record {
     counted = g.counted;
     not_reset = calm;
@@ -62,14 +62,14 @@ module _ (env : ServeEnv) (w out : Stream) (vs : List Verdict) (was_reset : Bool
     has_read = read-same w g.out_now s.block said.1 g.vs_now pend g.between talk.between talk.recv read;
   }
 
-  pub spoken-ends : (s : Service) (pend : List Verdict) (g : Serves env.files env.c w out vs s pend) (before : List (Place × List ℕ)) → HasRead w s.block g.vs_now pend
+  pub spoken-ends : (s : Service) (pend : List Verdict) (g : TurnServes env.files env.c w out vs s pend) (before : List (Place × List ℕ)) → HasReadPending w s.block g.vs_now pend
       → AreReplies env.c w g.out_now (reset_in s) before → Ends pend (spoken env s before)
   spoken-ends s pend g before read replies =
       let r = reset_in s in
       let said = speaks env.c s.block in
       let talk : Spoke env.c w g.out_now r s.block said = emits-spoke env.c w g.out_now r (emits_left s.block) s.block g.between in
       let wide : IsWide said.1 = wide-half said.1 (speaks-wide env.c s.block (half-wide s.block g.wide)) in
-      let P : Ending → Type 0 = λ e. EndAgrees w g.out_now g.vs_now pend r e in
+      let P : Ending → Type 0 = λ e. EndAgreesPending w g.out_now g.vs_now pend r e in
       record {
         out_after = g.out_now;
         vs_after = g.vs_now;
@@ -91,10 +91,10 @@ module _ (env : ServeEnv) (w out : Stream) (vs : List Verdict) (was_reset : Bool
   }
 
   -- at the stream limit
-  cut_off-ends : (s : Service) (pend others : List Verdict) → Serves env.files env.c w out vs s pend → list_any resets s.notes ≡ true → Ends others (cut_off env s)
+  cut_off-ends : (s : Service) (pend others : List Verdict) → TurnServes env.files env.c w out vs s pend → list_any is_reset_record s.notes ≡ true → Ends others (cut_off env s)
   cut_off-ends s pend others g e =
       let r = reset_in s in
-      let was : r ≡ true = or-last was_reset (list_any resets s.notes) e in
+      let was : r ≡ true = or-last was_reset (list_any is_reset_record s.notes) e in
       let said = speaks_symbols env.c s.block in
       let talk : Spoke env.c w g.out_now r s.block said = emits_symbols-spoke env.c w g.out_now r (emits_left s.block) s.block g.between in
       let last = final_of said.1 reason.Limit in
@@ -105,11 +105,11 @@ module _ (env : ServeEnv) (w out : Stream) (vs : List Verdict) (was_reset : Bool
         says = g.says;
         agrees = ended-it g.out_now said.1 reason.Limit r talk.between (λ f. was);
         noted = g.noted;
-        sent = replies-append env.c w g.out_now r said.0 (told env (limit_said last) ∷ []) talk.sent ((refl, (limit_said last, refl, limit-reply g.out_now said.1 r was), tt));
+        sent = replies-append env.c w g.out_now r said.0 (serving_told env (limit_said last) ∷ []) talk.sent ((refl, (limit_said last, refl, limit-reply g.out_now said.1 r was), tt));
       }
 
   -- of what is in hand, whatever that came to
-  pub settled-ends : (s : Service) (pend : List Verdict) → Serves env.files env.c w out vs s pend → Ends pend (settled env s)
+  pub settled-ends : (s : Service) (pend : List Verdict) → TurnServes env.files env.c w out vs s pend → Ends pend (serving_settled env s)
   settled-ends s pend g = go s.over g.reading where
     go : (o : Option ℕ) → IsReading w g.vs_now pend s.block s.notes o → Ends pend (elim o [ None ↦ spoken env s [] | Some total ↦ cut_off env s ])
     go None read = spoken-ends s pend g [] read tt

@@ -3,7 +3,7 @@ use Rattle.std.proofs.Common.{◌≡◌, ◌⊎◌, ℕ, List, [], ◌∷◌, Ok
 use Rattle.lard_base.specs.declared.place.Place.{Place}
 use Rattle.lard_base.specs.declared.place.Place.TheVariants.{Client, Front, Node}
 use Rattle.lard_law_connections.specs.BytesAgreement.{FrontTells, IsFair, IsFairOn, IsKept, NodeTells}
-use Rattle.lard_law_connections.specs.Places.{FrontSaid, HasEnded, IsDecided, IsOffered, IsOver, LetterMay, MaySay, NodeSaid, head_of}
+use Rattle.lard_law_connections.specs.Places.{FrontSaid, HasEnded, IsDecided, IsOffered, IsOver, LetterMay, MaySay, NodeSaid, message_head}
 use Rattle.lard_law_connections.proofs.PlacesGrowing.{Grows, decided-grows, ended-grows, offered-grows}
 use Rattle.lard_law_connections.proofs.PlacesHeads.{decoded-head}
 use Rattle.lard_law_view.specs.View.{Part}
@@ -45,10 +45,10 @@ module _ (k l : Talk) (c : ℕ) (p q : Part) (on : GoesOnFairly k l p q) where
       told
 
   -- what places says of a message, by its head
-  said-front : (n : ℕ) (bytes : List ℕ) (m : Message) → decoded_message bytes ≡ Ok m → MaySay p Front (Node n) (head_of bytes) → FrontSaid p n m.epoch.0 (kind_of m.body)
+  said-front : (n : ℕ) (bytes : List ℕ) (m : Message) → decoded_message bytes ≡ Ok m → MaySay p Front (Node n) (message_head bytes) → FrontSaid p n m.epoch.0 (kind_of m.body)
   said-front n bytes m d h = subst (MaySay p Front (Node n)) (decoded-head bytes m d) h
 
-  said-node : (n : ℕ) (bytes : List ℕ) (m : Message) → decoded_message bytes ≡ Ok m → MaySay p (Node n) Front (head_of bytes) → NodeSaid (p.nodes n).row m.epoch.0 (kind_of m.body)
+  said-node : (n : ℕ) (bytes : List ℕ) (m : Message) → decoded_message bytes ≡ Ok m → MaySay p (Node n) Front (message_head bytes) → NodeSaid (p.nodes n).row m.epoch.0 (kind_of m.body)
   said-node n bytes m d h = subst (MaySay p (Node n) Front) (decoded-head bytes m d) h
 
   front-on : (n e : ℕ) (bytes : List ℕ) (b : Body) → FrontSaid p n e (kind_of b) → FrontTells k c p n e bytes b → FrontTells l c q n e bytes b
@@ -60,7 +60,7 @@ module _ (k l : Talk) (c : ℕ) (p q : Part) (on : GoesOnFairly k l p q) where
   node-on n e bytes (body.Ended reason snd rcv count) said told = end-on n e bytes said told
   node-on n e bytes _ said told = tt
 
-  fair-on : (from to : Place) (bytes : List ℕ) → MaySay p from to (head_of bytes) → IsFairOn k c p from to bytes → IsFairOn l c q from to bytes
+  fair-on : (from to : Place) (bytes : List ℕ) → MaySay p from to (message_head bytes) → IsFairOn k c p from to bytes → IsFairOn l c q from to bytes
   fair-on (Client d) Front bytes may f = (f.0, f.1, word-later k.w l.w f.0 on.talk.w f.2)
   fair-on Front (Client d) bytes may f = (f.0, f.1, reply-later k l f.0 on.talk f.2)
   fair-on (Node n) (Client d) bytes may f = (f.0, f.1, reply-later k l f.0 on.talk f.2)

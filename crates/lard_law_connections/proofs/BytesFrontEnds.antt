@@ -3,7 +3,7 @@ use Rattle.std.proofs.Common.{◌≡◌, ◌≤◌, ◌+◌, ◌==◌, ◌&&◌,
 use Rattle.std.specs.List.{list_any}
 use Rattle.lard_base.specs.declared.place.Place.TheVariants.{Front, Node}
 use Rattle.lard_base.specs.declared.place.Reason.{Reason}
-use Rattle.lard_law_connections.specs.BytesAgreement.{AwayAgrees, BackAgrees, EndedIt, IsEnding, IsFair, IsKept, IsOpen, NodeAgrees, NodeTells, RowAgrees, SeatAgrees, StageAgrees}
+use Rattle.lard_law_connections.specs.BytesAgreement.{AwayAgrees, BackAgrees, EndedWithNumbers, IsEnding, IsFair, IsKept, IsOpen, NodeAgrees, NodeTells, RowAgrees, SeatAgrees, StageAgrees}
 use Rattle.lard_law_connections.specs.BytesKeeping.{FrontSays}
 use Rattle.lard_law_connections.proofs.BytesLaw.{Helps, IsTrueMove, StaysTruthful}
 use Rattle.lard_law_connections.specs.BytesTurning.{IsNoteOf}
@@ -17,13 +17,13 @@ use Rattle.lard_law_connections.specs.Places.{HasEnded, IsDecided, IsLeft, Ownin
 use Rattle.lard_law_connections.proofs.PlacesFrontMessages.{came-says}
 use Rattle.lard_law_connections.proofs.PlacesFrontRules.{decided-there, there-decided}
 use Rattle.lard_law_view.specs.Carry.{tale_at}
-use Rattle.lard_law_view.specs.View.{Conn, IsFrontEnv, Setting, Spells, Was, front_does, packet_seen, with_front}
+use Rattle.lard_law_view.specs.View.{Conn, IsFrontEnv, Setting, SpellsMessage, Was, front_does, packet_seen, with_front}
 use Rattle.lard_law_view.proofs.Rows.{tale_before}
 use Rattle.lard_costs.specs.declared.later.LaterChoice.{LaterChoice}
 use Rattle.lard_dispatch.specs.declared.dispatch.Ask.{Ask}
 use Rattle.lard_endpoint.specs.declared.control.moving.Final.{Final}
 use Rattle.lard_rules.specs.declared.front.FrontRest.{FrontRest}
-use Rattle.lard_rules.specs.Front.{Deed, Does, Drops, Says, FrontEnv, FrontPart, ack_sent, ask_of, asked_by, assigned_notes, assigns, ended_by, front_asked, front_ended, is_at, is_with, message, over_note, saying, tag_sent}
+use Rattle.lard_rules.specs.Front.{FrontDeed, Does, Drops, Says, FrontEnv, FrontPart, ack_sent, ask_of, asked_by, assigned_notes, assigns, front_ended_by, front_asked, front_ended, is_row_at, is_with, message, over_note, front_saying, tag_sent}
 use Rattle.lard_handoff_back.specs.declared.row.BackConn.{BackConn}
 use Rattle.lard_handoff_back.specs.declared.row.BackConn.TheVariants as back
 use Rattle.lard_handoff_back.specs.declared.row.BackRow.{BackRow}
@@ -36,7 +36,7 @@ use Rattle.lard_handoff_front.specs.Row.{is_away}
 use Rattle.lard_history.specs.Own.{Seen}
 use Rattle.lard_history.proofs.Each.{Each}
 use Rattle.lard_journal.specs.declared.rec.Rec.{Rec}
-use Rattle.lard_law_view.specs.Keeping.{resets, served_in, size_in}
+use Rattle.lard_law_view.specs.Keeping.{is_reset_record, served_in, bytes_served_in}
 use Rattle.lard_law_view.specs.Truthful.{Talk}
 use Rattle.lard_message.specs.declared.message.Body.TheVariants as body
 use Rattle.lard_message.specs.declared.message.Message.{Message}
@@ -52,8 +52,8 @@ use Rattle.lard_law_view.specs.Truth.{Stream}
 record Mute (c : ℕ) (rs : List Rec) : Type 0 where
   each : Each (IsNoteOf c) rs
   served : served_in rs ≡ 0
-  size : size_in rs ≡ 0
-  reset : list_any resets rs ≡ false
+  size : bytes_served_in rs ≡ 0
+  reset : list_any is_reset_record rs ≡ false
 
 assigned-mute : (c : ℕ) (ask : Ask) (r : ℕ) (paths : List (List ℕ)) (choices : List LaterChoice) → Mute c (assigned_notes c ask r paths choices)
 assigned-mute c ask r [] choices = record { each = tt; served = refl; size = refl; reset = refl }
@@ -85,7 +85,7 @@ ending-of w out vs pend r c e n own p is over agrees = go p.row is over agrees w
 
 -- so the message that tells it says how it ended
 told-end : (w : Stream) (r : Bool) (c f : ℕ) (kept : List Kept) (bytes : List ℕ) → IsEnding w r c f kept → IsKept kept bytes → (m : Message) (why : Reason) (snd rcv count : ℕ) → decoded_message bytes ≡ Ok m → m.body ≡ body.Ended why snd rcv count
-    → EndedIt w r (record { reason = why; snd = record { 0 = snd }; rcv = record { 0 = rcv } })
+    → EndedWithNumbers w r (record { reason = why; snd = record { 0 = snd }; rcv = record { 0 = rcv } })
 told-end w r c f kept bytes h k m why snd rcv count d is =
     let same : ended_kept c f h.last h.count ∷ [] ≡ k.0 ∷ [] = sym h.kept_is ∙ k.1 in
     let one : ended_kept c f h.last h.count ≡ k.0 = ap (first (ended_kept c f h.last h.count)) same in
@@ -96,11 +96,11 @@ told-end w r c f kept bytes h k m why snd rcv count d is =
       first q (y ∷ ys) = y
 
 module _ (k : Setting) (small : k.stream ≤ 2 ^ 30) (x : Conn) (s : Station) (there : x.part.station ≡ Some s) (l : Talk) (pend : List Verdict) (o : IsOpen k.files x l pend s) (heads : List Seen)
-    (quiet : (d : Deed) → bytes_of (tale_before x (front_does x heads d)) ≡ bytes_of (tale_at x)) (env : FrontEnv) (is : IsFrontEnv k x.c env) where
+    (quiet : (d : FrontDeed) → bytes_of (tale_before x (front_does x heads d)) ≡ bytes_of (tale_at x)) (env : FrontEnv) (is : IsFrontEnv k x.c env) where
   abbrev p : FrontPart
   p = x.part.front
 
-  abbrev Goes : Deed → Type 0
+  abbrev Goes : FrontDeed → Type 0
   Goes d = Helps x (front_does x heads d) → IsTrueMove k.files x (front_does x heads d)
 
   ack-says : (q : FrontPart) (n epoch : ℕ) → Each (FrontSays x.c q) (ack_sent env n epoch)
@@ -109,9 +109,9 @@ module _ (k : Setting) (small : k.stream ≤ 2 ^ 30) (x : Conn) (s : Station) (t
   tag-says : (q : FrontPart) (n epoch number : ℕ) (nodes : List ℕ) → Each (FrontSays x.c q) (tag_sent env n epoch number nodes)
   tag-says q n epoch number nodes = subst (λ (c : ℕ). Each (FrontSays c q) (tag_sent env n epoch number nodes)) is.number ((n, epoch, body.Tag number nodes, refl, tt), tt)
 
-  ends-moves : (row : FrontRow) (m epoch : ℕ) (last : Final) → EndedIt l.w l.was_reset last → Goes (ended_by env p m epoch last (Some row) (New (next_epoch row)))
+  ends-moves : (row : FrontRow) (m epoch : ℕ) (last : Final) → EndedWithNumbers l.w l.was_reset last → Goes (front_ended_by env p m epoch last (Some row) (New (next_epoch row)))
   ends-moves row m epoch last ended help =
-      let d : Deed = ended_by env p m epoch last (Some row) (New (next_epoch row)) in
+      let d : FrontDeed = front_ended_by env p m epoch last (Some row) (New (next_epoch row)) in
       move-goes k.files x s there l pend o (front_does x heads d) help
       (record { heads = quiet d; station = refl; offers = λ i e a b. absurd b; ends = λ i e over. inl refl })
       (idle-goes k.files x s there l pend o (front_does x heads d) (record { each = (tt, (tt, tt)); served = refl; size = refl; reset = refl; seat = ended; ways = o.ways; sent = tt; letters = all-say l x.c (front_does x heads d).part (ack_sent env m epoch) (ack-says (front_does x heads d).part.front m epoch) }))
@@ -124,14 +124,14 @@ module _ (k : Setting) (small : k.stream ≤ 2 ^ 30) (x : Conn) (s : Station) (t
   away-seat rest n epoch e (stage.Moved i f) w h = h
   away-seat rest n epoch e _ w h = let no : false ≡ true = w in absurd cc
 
-  row-seat : (rest : Option FrontRest) (n epoch : ℕ) (row : Option FrontRow) → is_at n epoch row ≡ true → SeatAgrees l.w l.out l.vs pend l.was_reset x.c x.part row
+  row-seat : (rest : Option FrontRest) (n epoch : ℕ) (row : Option FrontRow) → is_row_at n epoch row ≡ true → SeatAgrees l.w l.out l.vs pend l.was_reset x.c x.part row
       → SeatAgrees l.w l.out l.vs pend l.was_reset x.c (with_front x.part (record p { rest = rest })) row
   row-seat rest n epoch None w h = let no : false ≡ true = w in absurd cc
   row-seat rest n epoch (Some row) w h = away-seat rest n epoch row.epoch.0 row.stage w h
 
-  assigns-moves : (rest : FrontRest) (n epoch : ℕ) (ask : Ask) → is_at n epoch p.row ≡ true → Goes (Does (assigns env p rest n epoch ask (env.later ask)))
+  assigns-moves : (rest : FrontRest) (n epoch : ℕ) (ask : Ask) → is_row_at n epoch p.row ≡ true → Goes (Does (assigns env p rest n epoch ask (env.later ask)))
   assigns-moves rest n epoch ask at help =
-      let d : Deed = Does (assigns env p rest n epoch ask (env.later ask)) in
+      let d : FrontDeed = Does (assigns env p rest n epoch ask (env.later ask)) in
       let mute : Mute x.c (over_note env.serve.c (env.later ask).over ++ assigned_notes env.serve.c ask rest.assigned ask.paths (env.later ask).choices) =
       subst (λ (c : ℕ). Mute c (over_note env.serve.c (env.later ask).over ++ assigned_notes env.serve.c ask rest.assigned ask.paths (env.later ask).choices)) is.number
       (over-mute env.serve.c (env.later ask).over _ (assigned-mute env.serve.c ask rest.assigned ask.paths (env.later ask).choices)) in
@@ -148,24 +148,24 @@ module _ (k : Setting) (small : k.stream ≤ 2 ^ 30) (x : Conn) (s : Station) (t
         letters = all-say l x.c (front_does x heads d).part (assigns env p rest n epoch ask (env.later ask)).turn.messages (tag-says (front_does x heads d).part.front n epoch ask.number (map (λ y. y.node) (env.later ask).choices));
       }))
 
-  asks-rest : (n epoch : ℕ) (ask : Ask) → is_at n epoch p.row ≡ true → (rest : Option FrontRest) → Goes (asked_by env p n epoch ask rest)
+  asks-rest : (n epoch : ℕ) (ask : Ask) → is_row_at n epoch p.row ≡ true → (rest : Option FrontRest) → Goes (asked_by env p n epoch ask rest)
   asks-rest n epoch ask at None = drops-goes k small x s there l pend o heads (quiet Drops)
   asks-rest n epoch ask at (Some rest) = go (ask.number == rest.asks + 1) (ask.number == rest.asks && nat_lt 0 rest.asks) where
-    go : (a b : Bool) → Goes (cond a (Does (assigns env p rest n epoch ask (env.later ask))) (cond b (Says (saying (tag_sent env n epoch rest.asks rest.tag))) Drops))
+    go : (a b : Bool) → Goes (cond a (Does (assigns env p rest n epoch ask (env.later ask))) (cond b (Says (front_saying (tag_sent env n epoch rest.asks rest.tag))) Drops))
     go true b = assigns-moves rest n epoch ask at
-    go false true = λ help. says-goes k small x s there l pend o heads (saying (tag_sent env n epoch rest.asks rest.tag)) (quiet (Says (saying (tag_sent env n epoch rest.asks rest.tag)))) refl tt
+    go false true = λ help. says-goes k small x s there l pend o heads (front_saying (tag_sent env n epoch rest.asks rest.tag)) (quiet (Says (front_saying (tag_sent env n epoch rest.asks rest.tag)))) refl tt
         (all-say l x.c x.part (tag_sent env n epoch rest.asks rest.tag) (tag-says p n epoch rest.asks rest.tag)) help
     go false false = drops-goes k small x s there l pend o heads (quiet Drops)
 
   asks-goes : (n epoch : ℕ) (ask : Ask) → Goes (front_asked env p n epoch ask)
-  asks-goes n epoch ask = go (is_at n epoch p.row) refl where
-    go : (b : Bool) → is_at n epoch p.row ≡ b → Goes (cond b (asked_by env p n epoch ask p.rest) Drops)
+  asks-goes n epoch ask = go (is_row_at n epoch p.row) refl where
+    go : (b : Bool) → is_row_at n epoch p.row ≡ b → Goes (cond b (asked_by env p n epoch ask p.rest) Drops)
     go true e = asks-rest n epoch ask e p.rest
     go false e = drops-goes k small x s there l pend o heads (quiet Drops)
 
   -- ---- an Ended
 
-  module _ (m epoch : ℕ) (why : Reason) (snd rcv count : ℕ) (bytes : List ℕ) (spells : Spells x.c epoch (body.Ended why snd rcv count) bytes) (was : Was x (Node m) Front bytes) where
+  module _ (m epoch : ℕ) (why : Reason) (snd rcv count : ℕ) (bytes : List ℕ) (spells : SpellsMessage x.c epoch (body.Ended why snd rcv count) bytes) (was : Was x (Node m) Front bytes) where
     abbrev last : Final
     last = record { reason = why; snd = record { 0 = snd }; rcv = record { 0 = rcv } }
 
@@ -177,7 +177,7 @@ module _ (k : Setting) (small : k.stream ≤ 2 ^ 30) (x : Conn) (s : Station) (t
     told = (has-fair (IsFair l x.c x.part) (record { from = Node m; to = Front; bytes = bytes }) x.letters was o.fair) _ spells
 
     end-at : (row : FrontRow) (n : ℕ) → p.row ≡ Some row → row.epoch.0 ≡ epoch → OthersArePast n row.epoch.0 x.part.nodes → IsThere n row.epoch.0 (owning (tale_at x)) (x.part.nodes n).row
-        → IsOver epoch here.row → NodeAgrees l.w l.out l.vs pend l.was_reset x.c (x.part.nodes n) → EndedIt l.w l.was_reset last
+        → IsOver epoch here.row → NodeAgrees l.w l.out l.vs pend l.was_reset x.c (x.part.nodes n) → EndedWithNumbers l.w l.was_reset last
     end-at row n found same others is over agrees = go (m == n) refl where
       mine : IsOver row.epoch.0 here.row
       mine = subst (λ (e : ℕ). IsOver e here.row) (sym same) over
@@ -185,7 +185,7 @@ module _ (k : Setting) (small : k.stream ≤ 2 ^ 30) (x : Conn) (s : Station) (t
       unknown : IsKept here.kept bytes
       unknown = ⊎_elim (λ h. absurd (omega (arith, same, subst (HasEnded epoch) found h))) (λ h. h) told
 
-      go : (b : Bool) → (m == n) ≡ b → EndedIt l.w l.was_reset last
+      go : (b : Bool) → (m == n) ≡ b → EndedWithNumbers l.w l.was_reset last
       go true e =
           let eq : n ≡ m = sym (eqb-true m n e) in
           let end = ending-of l.w l.out l.vs pend l.was_reset x.c row.epoch.0 m (owning (tale_at x)) here
@@ -194,7 +194,7 @@ module _ (k : Setting) (small : k.stream ≤ 2 ^ 30) (x : Conn) (s : Station) (t
       go false e = absurd (past-undecided row.epoch.0 here.row (others m (λ eq. let no : true ≡ false = sym (eq-eqb m n eq) ∙ e in cc)) (over-decided row.epoch.0 here.row mine))
 
     -- where it is away, at which node and in this epoch
-    end-stage : (row : FrontRow) (d : FrontConn) → p.row ≡ Some row → row.stage ≡ d → is_away epoch d ≡ true → IsOver epoch here.row → Helps x (front_does x heads (ended_by env p m epoch last (Some row) (New (next_epoch row)))) → EndedIt l.w l.was_reset last
+    end-stage : (row : FrontRow) (d : FrontConn) → p.row ≡ Some row → row.stage ≡ d → is_away epoch d ≡ true → IsOver epoch here.row → Helps x (front_does x heads (front_ended_by env p m epoch last (Some row) (New (next_epoch row)))) → EndedWithNumbers l.w l.was_reset last
     end-stage row (stage.Offering n f) found at away over help =
         let sits : StageSits row.epoch.0 (owning (tale_at x)) x.part.nodes (stage.Offering n f) = subst (StageSits row.epoch.0 (owning (tale_at x)) x.part.nodes) at (subst (Sits (owning (tale_at x)) x.part.nodes) found help.placed.sits).0 in
         let same : row.epoch.0 ≡ epoch = sym sits.1 ∙ eqb-true f.0 epoch away in
@@ -214,29 +214,29 @@ module _ (k : Setting) (small : k.stream ≤ 2 ^ 30) (x : Conn) (s : Station) (t
         end-at row n found same sits.2 sits.3 over seat.1
     end-stage row _ found at away over help = let no : false ≡ true = away in absurd cc
 
-    end-row : (over : IsOver epoch here.row) (row : Option FrontRow) → p.row ≡ row → Goes (ended_by env p m epoch last row (end_answer epoch row))
+    end-row : (over : IsOver epoch here.row) (row : Option FrontRow) → p.row ≡ row → Goes (front_ended_by env p m epoch last row (end_answer epoch row))
     end-row over None found = drops-goes k small x s there l pend o heads (quiet Drops)
     end-row over (Some row) found = go (is_away epoch row.stage) refl (ended_with epoch row.ended_by) where
-      go : (a : Bool) → is_away epoch row.stage ≡ a → (b : Bool) → Goes (ended_by env p m epoch last (Some row) (cond a (New (next_epoch row)) (cond b Again Stale)))
+      go : (a : Bool) → is_away epoch row.stage ≡ a → (b : Bool) → Goes (front_ended_by env p m epoch last (Some row) (cond a (New (next_epoch row)) (cond b Again Stale)))
       go true e b = λ help. ends-moves row m epoch last (end-stage row row.stage found refl e over help) help
-      go false e true = λ help. says-goes k small x s there l pend o heads (saying (ack_sent env m epoch)) (quiet (Says (saying (ack_sent env m epoch)))) refl tt (all-say l x.c x.part (ack_sent env m epoch) (ack-says p m epoch)) help
+      go false e true = λ help. says-goes k small x s there l pend o heads (front_saying (ack_sent env m epoch)) (quiet (Says (front_saying (ack_sent env m epoch)))) refl tt (all-say l x.c x.part (ack_sent env m epoch) (ack-says p m epoch)) help
       go false e false = drops-goes k small x s there l pend o heads (quiet Drops)
 
 -- ---- two rules
 
-packet-quiet : (x : Conn) (n : ℕ) (bytes : List ℕ) (d : Deed) → bytes_of (tale_before x (front_does x (packet_seen (Node n) Front bytes) d)) ≡ bytes_of (tale_at x)
+packet-quiet : (x : Conn) (n : ℕ) (bytes : List ℕ) (d : FrontDeed) → bytes_of (tale_before x (front_does x (packet_seen (Node n) Front bytes) d)) ≡ bytes_of (tale_at x)
 packet-quiet x n bytes Drops = refl
 packet-quiet x n bytes (Says turn) = refl
 packet-quiet x n bytes (Does did) = refl
 
 module _ (k : Setting) (small : k.stream ≤ 2 ^ 30) where
-  pub asked-stays : (x : Conn) (env : FrontEnv) (n epoch number queue size : ℕ) (paths : List (List ℕ)) (bytes : List ℕ) → IsFrontEnv k x.c env → Spells x.c epoch (body.Ask number queue size paths) bytes → Was x (Node n) Front bytes
+  pub asked-stays : (x : Conn) (env : FrontEnv) (n epoch number queue size : ℕ) (paths : List (List ℕ)) (bytes : List ℕ) → IsFrontEnv k x.c env → SpellsMessage x.c epoch (body.Ask number queue size paths) bytes → Was x (Node n) Front bytes
       → StaysTruthful k x (front_does x (packet_seen (Node n) Front bytes) (front_asked env x.part.front n epoch (ask_of x.c n number queue size paths)))
   asked-stays x env n epoch number queue size paths bytes is spells was help h =
       let opened = opened-at k.files x h (node-opens x n bytes was) in
       asks-goes k small x opened.0 opened.1 h.talk h.pend (open-at k.files x opened.0 opened.1 h) (packet_seen (Node n) Front bytes) (packet-quiet x n bytes) env is n epoch (ask_of x.c n number queue size paths) help
 
-  pub ended-stays : (x : Conn) (env : FrontEnv) (n epoch : ℕ) (why : Reason) (snd rcv count : ℕ) (bytes : List ℕ) → IsFrontEnv k x.c env → Spells x.c epoch (body.Ended why snd rcv count) bytes → Was x (Node n) Front bytes
+  pub ended-stays : (x : Conn) (env : FrontEnv) (n epoch : ℕ) (why : Reason) (snd rcv count : ℕ) (bytes : List ℕ) → IsFrontEnv k x.c env → SpellsMessage x.c epoch (body.Ended why snd rcv count) bytes → Was x (Node n) Front bytes
       → StaysTruthful k x (front_does x (packet_seen (Node n) Front bytes) (front_ended env x.part.front n epoch (record { reason = why; snd = record { 0 = snd }; rcv = record { 0 = rcv } })))
   ended-stays x env n epoch why snd rcv count bytes is spells was help h =
       let opened = opened-at k.files x h (node-opens x n bytes was) in

@@ -4,8 +4,8 @@ use Rattle.std.specs.List.{list_any}
 use Rattle.lard_answers.specs.Answers.{FilesAt}
 use Rattle.lard_base.specs.declared.ids.Epoch.{Epoch}
 use Rattle.lard_base.specs.declared.place.Place.TheVariants.{Front, Node}
-use Rattle.lard_law_connections.specs.BytesAgreement.{AwayAgrees, ConnAgrees, IsFair, IsInner, IsOpen, IsTruthful, IsUnopened, NodeAgrees, SeatAgrees, StageAgrees}
-use Rattle.lard_law_connections.specs.BytesKeeping.{AdmittedKeeps, FrontAgrees, FrontTurned}
+use Rattle.lard_law_connections.specs.BytesAgreement.{AwayAgrees, ConnAgrees, IsFair, IsInner, IsOpen, IsTruthful, IsConnUnopened, NodeAgrees, SeatAgrees, StageAgrees}
+use Rattle.lard_law_connections.specs.BytesKeeping.{AdmittedKeeps, FrontPartAgrees, FrontTurned}
 use Rattle.lard_law_connections.proofs.BytesLaw.{Helps, IsTrueMove, StaysTruthful}
 use Rattle.lard_law_connections.proofs.BytesClientMoves.{has-fair, open-at}
 use Rattle.lard_law_connections.proofs.BytesFrontMoves.{IsOurs, RowIsOurs, all-say, drops-goes, front-seat, home-past, ours-unoffered, seat-front, talk-of}
@@ -16,11 +16,11 @@ use Rattle.lard_law_connections.specs.Places.{IsDecided, IsPast, IsThere, Sits, 
 use Rattle.lard_law_connections.proofs.PlacesFrontMessages.{came-says}
 use Rattle.lard_law_connections.proofs.PlacesFrontRules.{decided-there, there-decided}
 use Rattle.lard_law_view.specs.Carry.{tale_at}
-use Rattle.lard_law_view.specs.View.{Conn, IsFrontEnv, Move, Setting, Spells, Was, front_admits, front_does, letter, packet_seen}
+use Rattle.lard_law_view.specs.View.{Conn, IsFrontEnv, Move, Setting, SpellsMessage, Was, front_admits, front_does, letter, packet_seen}
 use Rattle.lard_law_view.proofs.Rows.{tale_before}
 use Rattle.lard_endpoint.specs.Control.{ControlBlock}
 use Rattle.lard_rules.specs.declared.front.FrontTurn.{FrontTurn}
-use Rattle.lard_rules.specs.Front.{Deed, Does, Drops, Says, FrontEnv, FrontPart, admitted_at, admitted_by, front_admitted, front_taken, taken_by}
+use Rattle.lard_rules.specs.Front.{FrontDeed, Does, Drops, Says, FrontEnv, FrontPart, admitted_at, admitted_by, front_admitted, front_taken, taken_by}
 use Rattle.lard_handoff_back.specs.declared.row.BackRow.{BackRow}
 use Rattle.lard_handoff_front.specs.declared.row.FrontConn.{FrontConn}
 use Rattle.lard_handoff_front.specs.declared.row.FrontConn.TheVariants as stage
@@ -28,7 +28,7 @@ use Rattle.lard_handoff_front.specs.declared.row.FrontRow.{FrontRow}
 use Rattle.lard_handoff_front.specs.Row.{offered_to}
 use Rattle.lard_history.specs.Own.{Seen}
 use Rattle.lard_history.proofs.Each.{Each-append}
-use Rattle.lard_law_view.specs.Keeping.{resets}
+use Rattle.lard_law_view.specs.Keeping.{is_reset_record}
 use Rattle.lard_law_view.specs.Truthful.{Talk}
 use Rattle.lard_message.specs.declared.message.Body.TheVariants as body
 use Rattle.lard_policy.specs.declared.first.FirstChoice.{FirstChoice}
@@ -37,14 +37,14 @@ use Rattle.lard_rules.specs.declared.places.Station.{Station}
 
 -- ---- its client opened
 
-pub opened-at : (files : FilesAt) (x : Conn) (h : IsTruthful files x) → (IsUnopened x → ⊥) → (s : Station) × (x.part.station ≡ Some s)
+pub opened-at : (files : FilesAt) (x : Conn) (h : IsTruthful files x) → (IsConnUnopened x → ⊥) → (s : Station) × (x.part.station ≡ Some s)
 opened-at files x h not = go x.part.station refl h.agrees where
   go : (o : Option Station) → x.part.station ≡ o → ConnAgrees files x h.talk h.pend o → (s : Station) × (x.part.station ≡ Some s)
   go None e u = absurd (not u)
   go (Some s) e u = (s, e)
 
 -- of one that did not, nothing comes to the front end
-pub node-opens : (x : Conn) (n : ℕ) (bytes : List ℕ) → Was x (Node n) Front bytes → IsUnopened x → ⊥
+pub node-opens : (x : Conn) (n : ℕ) (bytes : List ℕ) → Was x (Node n) Front bytes → IsConnUnopened x → ⊥
 node-opens x n bytes was u = (has-fair IsInner (record { from = Node n; to = Front; bytes = bytes }) x.letters was u.inner).1
 
 pub past-undecided : (e : ℕ) (o : Option BackRow) → IsPast e o → IsDecided e o → ⊥
@@ -55,12 +55,12 @@ module _ (k : Setting) (small : k.stream ≤ 2 ^ 30) (x : Conn) (s : Station) (t
   abbrev p : FrontPart
   p = x.part.front
 
-  abbrev Goes : Deed → Type 0
+  abbrev Goes : FrontDeed → Type 0
   Goes d = Helps x (front_does x heads d) → IsTrueMove k.files x (front_does x heads d)
 
   -- ---- a Taken
 
-  module _ (quiet : (d : Deed) → bytes_of (tale_before x (front_does x heads d)) ≡ bytes_of (tale_at x)) where
+  module _ (quiet : (d : FrontDeed) → bytes_of (tale_before x (front_does x heads d)) ≡ bytes_of (tale_at x)) where
     taken-moves : (row : FrontRow) (n : ℕ) (d : Epoch) (epoch m : ℕ) → p.row ≡ Some row → row.stage ≡ stage.Offering n d → d.0 ≡ epoch → IsDecided epoch (x.part.nodes m).row → Goes (taken_by p epoch (Some row) (Some n))
     taken-moves row n d epoch m found at same decided help =
         let v : Move = front_does x heads (taken_by p epoch (Some row) (Some n)) in
@@ -91,14 +91,14 @@ module _ (k : Setting) (small : k.stream ≤ 2 ^ 30) (x : Conn) (s : Station) (t
 -- ---- the rules
 
 module _ (k : Setting) (small : k.stream ≤ 2 ^ 30) where
-  pub taken-stays : (x : Conn) (env : FrontEnv) (n epoch : ℕ) (bytes : List ℕ) → IsFrontEnv k x.c env → Spells x.c epoch body.Taken bytes → Was x (Node n) Front bytes
+  pub taken-stays : (x : Conn) (env : FrontEnv) (n epoch : ℕ) (bytes : List ℕ) → IsFrontEnv k x.c env → SpellsMessage x.c epoch body.Taken bytes → Was x (Node n) Front bytes
       → StaysTruthful k x (front_does x (packet_seen (Node n) Front bytes) (front_taken x.part.front epoch))
   taken-stays x env n epoch bytes is spells was help h =
       let opened = opened-at k.files x h (node-opens x n bytes was) in
       let o = open-at k.files x opened.0 opened.1 h in
       taken-row k small x opened.0 opened.1 h.talk h.pend o (packet_seen (Node n) Front bytes) (λ d. quiet-at d) epoch n
       (came-says x (Node n) Front epoch body.Taken bytes help.placed.letters was spells) x.part.front.row refl help where
-        quiet-at : (d : Deed) → bytes_of (tale_before x (front_does x (packet_seen (Node n) Front bytes) d)) ≡ bytes_of (tale_at x)
+        quiet-at : (d : FrontDeed) → bytes_of (tale_before x (front_does x (packet_seen (Node n) Front bytes) d)) ≡ bytes_of (tale_at x)
         quiet-at Drops = refl
         quiet-at (Says turn) = refl
         quiet-at (Does did) = refl
@@ -113,14 +113,14 @@ module _ (k : Setting) (small : k.stream ≤ 2 ^ 30) where
       let same : FrontEnv = record env { iss = s.iss } in
       let mine : IsFrontEnv k x.c same = record { place = is.place; number = is.number; files = is.files; stream = is.stream } in
       let ours : RowIsOurs x.part.front.row = subst RowIsOurs (sym found) (subst IsOurs (sym at) tt) in
-      let agrees : FrontAgrees l.w l.out l.vs l.was_reset same.serve.c x.part.front =
-      subst (λ (c : ℕ). FrontAgrees l.w l.out l.vs l.was_reset c x.part.front) (sym is.number) (seat-front l.w l.out l.vs pend l.was_reset x.c x.part x.part.front.row ours o.seat) in
+      let agrees : FrontPartAgrees l.w l.out l.vs l.was_reset same.serve.c x.part.front =
+      subst (λ (c : ℕ). FrontPartAgrees l.w l.out l.vs l.was_reset c x.part.front) (sym is.number) (seat-front l.w l.out l.vs pend l.was_reset x.c x.part x.part.front.row ours o.seat) in
       let kept = admissions-keep same l.w l.out l.vs l.was_reset x.part.front choice (talk-of k small x same mine s l pend o refl) agrees in
       let t : FrontTurned k.files x.c l.w l.out l.vs l.was_reset given.0 given.1 =
       subst (λ (files : FilesAt). FrontTurned files x.c l.w l.out l.vs l.was_reset given.0 given.1) is.files
       (subst (λ (c : ℕ). FrontTurned env.serve.files c l.w l.out l.vs l.was_reset given.0 given.1) is.number
       (subst (AdmittedKeeps env.serve.files env.serve.c l.w l.out l.vs l.was_reset) admitted kept)) in
-      let r : Bool = l.was_reset || list_any resets given.1.notes in
+      let r : Bool = l.was_reset || list_any is_reset_record given.1.notes in
       let after : Talk = talk_after k.files x s there l pend o v t.out_after t.vs_after in
       let past = home-past k small x s there same mine l pend o (owning (tale_at x)) row (stage.Waiting b) at tt (subst (Sits (owning (tale_at x)) x.part.nodes) found help.placed.sits) in
       move-goes k.files x s there l pend o v help

@@ -7,7 +7,7 @@ use Rattle.lard_base.specs.declared.ids.Epoch.{Epoch}
 use Rattle.lard_base.specs.declared.place.Place.{Place}
 use Rattle.lard_base.specs.declared.place.Place.TheVariants.{Client, Front, Node}
 use Rattle.lard_law_connections.specs.BytesAgreement.{FrontHolds, FrontTells, IsFair, IsFairOn, IsOpen, SeatAgrees, StageAgrees}
-use Rattle.lard_law_connections.specs.BytesKeeping.{FrontAgrees, FrontDeedKeeps, FrontRowAgrees, FrontSays, FrontStageAgrees, FrontTurned, IsFrontTalk, SaysOfKind}
+use Rattle.lard_law_connections.specs.BytesKeeping.{FrontPartAgrees, FrontDeedKeeps, FrontRowAgrees, FrontSays, FrontStageAgrees, FrontTurned, IsFrontTalk, SaysOfKind}
 use Rattle.lard_law_connections.proofs.BytesLaw.{Helps, IsTrueMove, StaysTruthful}
 use Rattle.lard_law_connections.proofs.BytesClientMoves.{has-fair, open-at}
 use Rattle.lard_law_connections.proofs.BytesFronts.{front-hears, timer-keeps}
@@ -21,9 +21,9 @@ use Rattle.lard_law_view.specs.Carry.{tale_at}
 use Rattle.lard_law_view.specs.View.{AreSent, Conn, IsFrontEnv, Move, Part, Setting, Was, event_seen, front_does, letter, packet_seen}
 use Rattle.lard_law_view.proofs.Rows.{tale_before}
 use Rattle.lard_rules.specs.declared.front.FrontTurn.{FrontTurn}
-use Rattle.lard_rules.specs.Front.{Deed, Did, Does, Drops, FrontEnv, FrontPart, Says, begun, fired_by, fires_at, forwarded, front_gets, front_hears, front_timer, hears_at, message, met, rest_of, saying, settled_by, turn_here}
+use Rattle.lard_rules.specs.Front.{FrontDeed, Did, Does, Drops, FrontEnv, FrontPart, Says, front_begun, front_fired_by, fires_at, forwarded, front_gets, front_hears, front_timer, hears_at, message, met, front_rest, front_saying, settled_by, turn_here}
 use Rattle.lard_rules.specs.declared.front.FrontRest.{FrontRest}
-use Rattle.lard_rules.specs.FrontReading.{Reading, reads}
+use Rattle.lard_rules.specs.FrontReading.{Reading, front_reads}
 use Rattle.lard_endpoint.specs.Arriving.{on_segment}
 use Rattle.lard_rules.specs.Serving.{Service, serving}
 use Rattle.lard_handoff_front.specs.declared.row.FrontConn.{FrontConn}
@@ -32,7 +32,7 @@ use Rattle.lard_handoff_front.specs.declared.row.FrontRow.{FrontRow}
 use Rattle.lard_history.specs.Own.{Seen}
 use Rattle.lard_history.proofs.Each.{Each, Each-append}
 use Rattle.lard_law_view.specs.Agreement.{AreReplies, IsWord, SaysAnswers}
-use Rattle.lard_law_view.specs.Keeping.{resets, served_in, size_in}
+use Rattle.lard_law_view.specs.Keeping.{is_reset_record, served_in, bytes_served_in}
 use Rattle.lard_law_view.specs.Truthful.{Talk}
 use Rattle.lard_message.specs.declared.kind.Kind.TheVariants as kind
 use Rattle.lard_message.specs.declared.message.Body.{Body}
@@ -142,13 +142,13 @@ module _ (w out : Stream) (vs pend : List Verdict) (r : Bool) (c : ℕ) (p : Par
 
 module _ (k : Setting) (small : k.stream ≤ 2 ^ 30) (x : Conn) (s : Station) (there : x.part.station ≡ Some s) (l : Talk) (pend : List Verdict) (o : IsOpen k.files x l pend s) where
   -- what goes out where nothing is kept anew
-  abbrev MessagesFair : Deed → Type 0
+  abbrev MessagesFair : FrontDeed → Type 0
   MessagesFair Drops = Unit {0}
   MessagesFair (Says turn) = Each (IsFair l x.c x.part) (map (letter Front) turn.messages)
   MessagesFair (Does did) = Unit {0}
 
   abbrev IsQuiet : List Seen → Type 0
-  IsQuiet heads = (d : Deed) → bytes_of (tale_before x (front_does x heads d)) ≡ bytes_of (tale_at x)
+  IsQuiet heads = (d : FrontDeed) → bytes_of (tale_before x (front_does x heads d)) ≡ bytes_of (tale_at x)
 
   pub says-goes : (heads : List Seen) (turn : FrontTurn) → bytes_of (tale_before x (front_does x heads (Says turn))) ≡ bytes_of (tale_at x) → turn.notes ≡ [] → AreReplies x.c l.w l.out l.was_reset turn.segments
       → Each (IsFair l x.c x.part) (map (letter Front) turn.messages) → Helps x (front_does x heads (Says turn)) → IsTrueMove k.files x (front_does x heads (Says turn))
@@ -159,8 +159,8 @@ module _ (k : Setting) (small : k.stream ≤ 2 ^ 30) (x : Conn) (s : Station) (t
       (idle-goes k.files x s there l pend o v (record {
         each = subst (Each _) (sym none) tt;
         served = ap served_in none;
-        size = ap size_in none;
-        reset = ap (list_any resets) none;
+        size = ap bytes_served_in none;
+        reset = ap (list_any is_reset_record) none;
         seat = o.seat;
         ways = o.ways;
         sent = replies;
@@ -171,7 +171,7 @@ module _ (k : Setting) (small : k.stream ≤ 2 ^ 30) (x : Conn) (s : Station) (t
       → FrontTurned k.files x.c l.w l.out l.vs l.was_reset did.part did.turn → Helps x (front_does x heads (Does did)) → IsTrueMove k.files x (front_does x heads (Does did))
   does-goes heads did quiet unoffered past t help =
       let v : Move = front_does x heads (Does did) in
-      let r : Bool = l.was_reset || list_any resets did.turn.notes in
+      let r : Bool = l.was_reset || list_any is_reset_record did.turn.notes in
       let after : Talk = talk_after k.files x s there l pend o v t.out_after t.vs_after in
       move-goes k.files x s there l pend o v help
       (record { heads = quiet; station = refl; offers = λ n e a b. absurd (unoffered n e a); ends = λ n e over. inl refl })
@@ -194,7 +194,7 @@ module _ (k : Setting) (small : k.stream ≤ 2 ^ 30) (x : Conn) (s : Station) (t
       (record { heads = quiet; station = refl; offers = λ n e a b. refl; ends = λ n e over. inl refl })
       (idle-goes k.files x s there l pend o (front_does x heads Drops) (record { each = tt; served = refl; size = refl; reset = refl; seat = o.seat; ways = o.ways; sent = tt; letters = tt }))
 
-  deed-goes : (heads : List Seen) (d : Deed) → IsQuiet heads → ((n e : ℕ) → IsOffered n e x.part.front.row → ⊥) → ArePast 1 x.part.nodes → MessagesFair d
+  deed-goes : (heads : List Seen) (d : FrontDeed) → IsQuiet heads → ((n e : ℕ) → IsOffered n e x.part.front.row → ⊥) → ArePast 1 x.part.nodes → MessagesFair d
       → FrontDeedKeeps k.files x.c l.w l.out l.vs l.was_reset d → Helps x (front_does x heads d) → IsTrueMove k.files x (front_does x heads d)
   deed-goes heads Drops quiet unoffered past fair t help = drops-goes heads (quiet Drops) help
   deed-goes heads (Says turn) quiet unoffered past fair t help = says-goes heads turn (quiet (Says turn)) t.0 t.1 fair help
@@ -213,11 +213,11 @@ talk-of k small x env is s l pend o iss = record {
 
 module _ (k : Setting) (small : k.stream ≤ 2 ^ 30) (x : Conn) (s : Station) (there : x.part.station ≡ Some s) (env : FrontEnv) (is : IsFrontEnv k x.c env) (l : Talk) (pend : List Verdict) (o : IsOpen k.files x l pend s) where
   -- for its own number and files
-  own-keeps : (d : Deed) → FrontDeedKeeps env.serve.files env.serve.c l.w l.out l.vs l.was_reset d → FrontDeedKeeps k.files x.c l.w l.out l.vs l.was_reset d
+  own-keeps : (d : FrontDeed) → FrontDeedKeeps env.serve.files env.serve.c l.w l.out l.vs l.was_reset d → FrontDeedKeeps k.files x.c l.w l.out l.vs l.was_reset d
   own-keeps d h = subst (λ (files : FilesAt). FrontDeedKeeps files x.c l.w l.out l.vs l.was_reset d) is.files (subst (λ (c : ℕ). FrontDeedKeeps env.serve.files c l.w l.out l.vs l.was_reset d) is.number h)
 
-  own-agrees : RowIsOurs x.part.front.row → FrontAgrees l.w l.out l.vs l.was_reset env.serve.c x.part.front
-  own-agrees ours = subst (λ (c : ℕ). FrontAgrees l.w l.out l.vs l.was_reset c x.part.front) (sym is.number) (seat-front l.w l.out l.vs pend l.was_reset x.c x.part x.part.front.row ours o.seat)
+  own-agrees : RowIsOurs x.part.front.row → FrontPartAgrees l.w l.out l.vs l.was_reset env.serve.c x.part.front
+  own-agrees ours = subst (λ (c : ℕ). FrontPartAgrees l.w l.out l.vs l.was_reset c x.part.front) (sym is.number) (seat-front l.w l.out l.vs pend l.was_reset x.c x.part x.part.front.row ours o.seat)
 
   -- what its Offer says was sent before
   again-fair : (ks : List Kept) → AreSent x Front ks → Each (IsFair l x.c x.part) (map (letter Front) (map sent_of ks))
@@ -234,7 +234,7 @@ module _ (k : Setting) (small : k.stream ≤ 2 ^ 30) (x : Conn) (s : Station) (t
     abbrev p : FrontPart
     p = x.part.front
 
-    abbrev Goes : Deed → Type 0
+    abbrev Goes : FrontDeed → Type 0
     Goes d = Helps x (front_does x heads d) → IsTrueMove k.files x (front_does x heads d)
 
     placed-fair : (row : FrontRow) (rest : FrontRest) (w : Service) (target : Option (List ℕ)) → MessagesFair k small x s there l pend o (settled_by env p row rest w target)
@@ -262,11 +262,11 @@ module _ (k : Setting) (small : k.stream ≤ 2 ^ 30) (x : Conn) (s : Station) (t
     no-words w = tt
 
     forwards : (n : ℕ) (d : Epoch) → Goes (forwarded env n d bytes)
-    forwards n d help = says-goes k small x s there l pend o heads (saying ((Node n, message env.serve.c d.0 (body.Forward bytes)) ∷ [])) (quiet (forwarded env n d bytes)) refl tt
+    forwards n d help = says-goes k small x s there l pend o heads (front_saying ((Node n, message env.serve.c d.0 (body.Forward bytes)) ∷ [])) (quiet (forwarded env n d bytes)) refl tt
         (subst (λ (c : ℕ). IsFair l x.c x.part (letter Front (Node n, message c d.0 (body.Forward bytes)))) (sym is.number) (forward-fair l x.c x.part n d.0 bytes sd is_spelled word), tt) help
 
     hears-stage : (row : FrontRow) (d : FrontConn) → p.row ≡ Some row → row.stage ≡ d → Goes (hears_at env p row bytes sd d)
-    hears-stage row (stage.Held b) found at help = let y : Reading = reads env.serve (record { service = serving (on_segment b sd).1 (rest_of p.rest).count []; target = None }) in at-home row (stage.Held b) found at tt tt (placed-fair row (rest_of p.rest) y.service y.target) help
+    hears-stage row (stage.Held b) found at help = let y : Reading = front_reads env.serve (record { service = serving (on_segment b sd).1 (front_rest p.rest).count []; target = None }) in at-home row (stage.Held b) found at tt tt (placed-fair row (front_rest p.rest) y.service y.target) help
     hears-stage row (stage.Waiting b) found at help = at-home row (stage.Waiting b) found at tt tt tt help
     hears-stage row stage.Lent found at help = drops-goes k small x s there l pend o heads (quiet Drops) help
     hears-stage row (stage.Offering n d) found at help = forwards n d help
@@ -283,7 +283,7 @@ module _ (k : Setting) (small : k.stream ≤ 2 ^ 30) (x : Conn) (s : Station) (t
         let sits : Sits (owning (tale_at x)) x.part.nodes None = subst (Sits (owning (tale_at x)) x.part.nodes) found help.placed.sits in
         deed-goes k small x s there l pend o heads (met env p sd) quiet (ours-unoffered p.row mine) (λ n. past-later 0 1 (x.part.nodes n).row (omega arith) (sits.1 n)) (met-fair (is_plain_syn sd) refl)
         (own-keeps (met env p sd) (subst (λ (r : Option FrontRow). FrontDeedKeeps env.serve.files env.serve.c l.w l.out l.vs l.was_reset (front_hears env p bytes sd r)) found all)) help where
-          met-fair : (b : Bool) → is_plain_syn sd ≡ b → MessagesFair k small x s there l pend o (cond b (begun env p sd) Drops)
+          met-fair : (b : Bool) → is_plain_syn sd ≡ b → MessagesFair k small x s there l pend o (cond b (front_begun env p sd) Drops)
           met-fair true e = tt
           met-fair false e = tt
 
@@ -296,7 +296,7 @@ module _ (k : Setting) (small : k.stream ≤ 2 ^ 30) (x : Conn) (s : Station) (t
     abbrev q : FrontPart
     q = x.part.front
 
-    abbrev Fires : Deed → Type 0
+    abbrev Fires : FrontDeed → Type 0
     Fires d = Helps x (front_does x heads d) → IsTrueMove k.files x (front_does x heads d)
 
     fires-home : (row : FrontRow) (d : FrontConn) → q.row ≡ Some row → row.stage ≡ d → IsBefore d → IsOurs d → MessagesFair k small x s there l pend o (fires_at env q row d) → Fires (fires_at env q row d)
@@ -307,16 +307,16 @@ module _ (k : Setting) (small : k.stream ≤ 2 ^ 30) (x : Conn) (s : Station) (t
         (home-past (owning (tale_at x)) row d at before (subst (Sits (owning (tale_at x)) x.part.nodes) found help.placed.sits)) fair
         (own-keeps (fires_at env q row d)
         (subst (λ (e : FrontConn). FrontDeedKeeps env.serve.files env.serve.c l.w l.out l.vs l.was_reset (fires_at env q row e)) at
-        (subst (λ (r : Option FrontRow). FrontDeedKeeps env.serve.files env.serve.c l.w l.out l.vs l.was_reset (fired_by env q r)) found all))) help
+        (subst (λ (r : Option FrontRow). FrontDeedKeeps env.serve.files env.serve.c l.w l.out l.vs l.was_reset (front_fired_by env q r)) found all))) help
 
     fires-stage : (row : FrontRow) (d : FrontConn) → q.row ≡ Some row → row.stage ≡ d → Fires (fires_at env q row d)
     fires-stage row (stage.Held b) found at help = fires-home row (stage.Held b) found at tt tt tt help
     fires-stage row (stage.Waiting b) found at help = fires-home row (stage.Waiting b) found at tt tt tt help
     fires-stage row (stage.Offering n d) found at help =
-        says-goes k small x s there l pend o heads (saying (map sent_of q.kept)) (quiet (Says (saying (map sent_of q.kept)))) refl tt (again-fair q.kept help.sound.front) help
+        says-goes k small x s there l pend o heads (front_saying (map sent_of q.kept)) (quiet (Says (front_saying (map sent_of q.kept)))) refl tt (again-fair q.kept help.sound.front) help
     fires-stage row _ found at help = drops-goes k small x s there l pend o heads (quiet Drops) help
 
-    fires-row : (row : Option FrontRow) → q.row ≡ row → Fires (fired_by env q row)
+    fires-row : (row : Option FrontRow) → q.row ≡ row → Fires (front_fired_by env q row)
     fires-row None found help = drops-goes k small x s there l pend o heads (quiet Drops) help
     fires-row (Some row) found help = fires-stage row row.stage found refl help
 
@@ -329,7 +329,7 @@ module _ (k : Setting) (small : k.stream ≤ 2 ^ 30) where
       let same : FrontEnv = record env { iss = s.iss } in
       let mine : IsFrontEnv k x.c same = record { place = is.place; number = is.number; files = is.files; stream = is.stream } in
       fires-row k small x s there same mine h.talk h.pend o (talk-of k small x same mine s h.talk h.pend o refl) (event_seen (event.Timer Front x.c)) (λ d. quiet-at d) x.part.front.row refl help where
-        quiet-at : (d : Deed) → bytes_of (tale_before x (front_does x (event_seen (event.Timer Front x.c)) d)) ≡ bytes_of (tale_at x)
+        quiet-at : (d : FrontDeed) → bytes_of (tale_before x (front_does x (event_seen (event.Timer Front x.c)) d)) ≡ bytes_of (tale_at x)
         quiet-at Drops = refl
         quiet-at (Says turn) = refl
         quiet-at (Does did) = refl
@@ -343,7 +343,7 @@ module _ (k : Setting) (small : k.stream ≤ 2 ^ 30) where
       let same : decoded bytes x.c ToCluster ≡ Ok f.0 = ap (λ (b : List ℕ). decoded b x.c ToCluster) f.1 ∙ again x.c ToCluster f.0 f.2.sendable in
       subst (λ (r : Result Said SegFault). Helps x (front_does x heads (front_gets env x.part.front bytes r)) → IsTrueMove k.files x (front_does x heads (front_gets env x.part.front bytes r))) (sym same)
       (hears-row k small x s there env is h.talk h.pend o bytes f.0 f.1 f.2 (talk-of k small x env is s h.talk h.pend o iss) heads (λ d. quiet-at d) x.part.front.row refl) help where
-        quiet-at : (d : Deed) → bytes_of (tale_before x (front_does x (packet_seen (Client x.c) Front bytes) d)) ≡ bytes_of (tale_at x)
+        quiet-at : (d : FrontDeed) → bytes_of (tale_before x (front_does x (packet_seen (Client x.c) Front bytes) d)) ≡ bytes_of (tale_at x)
         quiet-at Drops = refl
         quiet-at (Says turn) = refl
         quiet-at (Does did) = refl

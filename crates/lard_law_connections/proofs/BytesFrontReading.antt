@@ -7,29 +7,29 @@ use Rattle.lard_block.specs.declared.block.Found.{Found}
 use Rattle.lard_block.specs.declared.block.Found.TheVariants as found
 use Rattle.lard_block.specs.Blocks.{Head, cut_of}
 use Rattle.lard_block.proofs.Division.{cuts-block}
-use Rattle.lard_law_connections.specs.BytesAgreement.{HasRead}
+use Rattle.lard_law_connections.specs.BytesAgreement.{HasReadPending}
 use Rattle.lard_law_connections.specs.BytesTurning.{IsReading}
 use Rattle.lard_law_connections.proofs.BytesReading.{read-alone}
 use Rattle.lard_law_connections.proofs.BytesServing.{MayGo, So, answered-serves, consumed-serves, ended-serves, go-on, left_of, may-go}
 use Rattle.lard_law_connections.proofs.BytesWays.{own-way}
 use Rattle.lard_endpoint.specs.Control.{ControlBlock, consuming}
 use Rattle.lard_endpoint.specs.Moving.{may_freeze}
-use Rattle.lard_rules.specs.FrontReading.{Reading, block_at, left, reads, reads_block, reads_found, targeted, turn, with_service}
+use Rattle.lard_rules.specs.FrontReading.{Reading, block_at, reading_left, front_reads, reads_block, reads_found, targeted, reading_turn, with_service}
 use Rattle.lard_law_view.proofs.ReadingBytes.{IsJudged, begins-block, begins-long, cuts-more, next-verdict, place, read-judged}
 use Rattle.lard_request.specs.declared.verdict.Code.TheVariants as code
 use Rattle.lard_request.specs.declared.verdict.Verdict.{Verdict}
 use Rattle.lard_request.specs.declared.verdict.Verdict.TheVariants.{Fault}
 use Rattle.lard_request.specs.Verdict.{verdict}
 use Rattle.lard_rules.specs.Loop.{Step, More, Done, runs_on}
-use Rattle.lard_rules.specs.Serving.{ServeEnv, Service, answered, consumed, ended_at_fin, may_read}
+use Rattle.lard_rules.specs.Serving.{ServeEnv, Service, answered, serving_consumed, ended_at_fin, may_read}
 use Rattle.lard_law_view.specs.Truth.{Hears, Stream}
 
-module _ (w : Stream) (b : ControlBlock) (vs : List Verdict) (heard : Hears w b.recv) (keeps : b.recv.discarding ≡ false) (read : HasRead w b vs []) where
+module _ (w : Stream) (b : ControlBlock) (vs : List Verdict) (heard : Hears w b.recv) (keeps : b.recv.discarding ≡ false) (read : HasReadPending w b vs []) where
   judged : IsJudged (take (place b.recv) w.bytes) vs
   judged = (read-alone w b vs read).cut keeps
 
   -- a block is the next
-  pub block-read : (skip len : ℕ) → cut_of b.recv.unread ≡ found.Block skip len → HasRead w (consuming b (skip + len)) vs (verdict (take len (drop skip b.recv.unread)) ∷ [])
+  pub block-read : (skip len : ℕ) → cut_of b.recv.unread ≡ found.Block skip len → HasReadPending w (consuming b (skip + len)) vs (verdict (take len (drop skip b.recv.unread)) ∷ [])
   block-read skip len e =
       let unread = b.recv.unread in
       let v = verdict (take len (drop skip unread)) in
@@ -41,7 +41,7 @@ module _ (w : Stream) (b : ControlBlock) (vs : List Verdict) (heard : Hears w b.
       }
 
   -- or a head that is too long
-  pub long-read : (skip n : ℕ) → cut_of b.recv.unread ≡ found.TooLong skip → HasRead w (consuming b n) vs (Fault code.FieldsTooLarge ∷ [])
+  pub long-read : (skip n : ℕ) → cut_of b.recv.unread ≡ found.TooLong skip → HasReadPending w (consuming b n) vs (Fault code.FieldsTooLarge ∷ [])
   long-read skip n e = record {
     cut = λ f g. absurd cc;
     goes_on = λ f. read.goes_on keeps;
@@ -50,7 +50,7 @@ module _ (w : Stream) (b : ControlBlock) (vs : List Verdict) (heard : Hears w b.
   }
 
   -- or pairs that are skipped
-  pairs-read : (skip : ℕ) → cut_of b.recv.unread ≡ found.More skip → HasRead w (consuming b skip) vs []
+  pairs-read : (skip : ℕ) → cut_of b.recv.unread ≡ found.More skip → HasReadPending w (consuming b skip) vs []
   pairs-read skip e = record {
     cut = λ f g. read-judged w b.recv heard keeps skip vs [] judged (cuts-more b.recv.unread skip e);
     goes_on = λ f. read.goes_on keeps;
@@ -98,9 +98,9 @@ module _ (env : ServeEnv) (w out : Stream) (vs : List Verdict) (most : env.strea
     go None r = r
     go (Some total) r = r
 
-  answers-so : (v : Verdict) → good_path env.files v ≡ None → (n : ℕ) (s : Service) (h : Reads s) → MayGo w h.vs_now [] s → HasRead w (consuming s.block n) h.vs_now (v ∷ []) → Reads (answered env Own v (consumed n s))
+  answers-so : (v : Verdict) → good_path env.files v ≡ None → (n : ℕ) (s : Service) (h : Reads s) → MayGo w h.vs_now [] s → HasReadPending w (consuming s.block n) h.vs_now (v ∷ []) → Reads (answered env Own v (serving_consumed n s))
   answers-so v none n s h may read =
-      let t : Service = consumed n s in
+      let t : Service = serving_consumed n s in
       let so : So env w out vs t (v ∷ []) = consumed-serves env w out vs n s (v ∷ []) h may.none read in
       nothing-left (answered env Own v t) v (answered-serves env w out vs most Own v [] t so (go-on env w out vs t (v ∷ []) so may.none may.unfinished may.keeps) (own-way env.files v none))
 
@@ -109,7 +109,7 @@ module _ (env : ServeEnv) (w out : Stream) (vs : List Verdict) (most : env.strea
 
   found-so : (x : Reading) (h : IsOn x) → MayGo w h.0.vs_now [] x.service → (f : Found) → cut_of x.service.block.recv.unread ≡ f → ReadsSo (reads_found env x f)
   found-so x h may (found.More skip) e =
-      let t : Service = consumed skip x.service in
+      let t : Service = serving_consumed skip x.service in
       let so : Reads t = consumed-serves env w out vs skip x.service [] h.0 may.none (pairs-read w x.service.block h.0.vs_now h.0.between.hears may.keeps may.read skip e) in
       still x (ended_at_fin t) (ended-serves env w out vs t so (go-on env w out vs t [] so may.none may.unfinished may.keeps)) h.1
   found-so x h may (found.Block skip len) e = by_path (good_path env.files (block_at x skip len)) refl where
@@ -120,19 +120,19 @@ module _ (env : ServeEnv) (w out : Stream) (vs : List Verdict) (most : env.strea
       let all = length x.service.block.recv.unread in
       (answers-so (Fault code.FieldsTooLarge) refl all x.service h.0 may (long-read w x.service.block h.0.vs_now h.0.between.hears may.keeps may.read skip all e), h.1)
 
-  pub turn-so : (x : Reading) → IsOn x → ReadsSo (turn env x)
+  pub turn-so : (x : Reading) → IsOn x → ReadsSo (reading_turn env x)
   turn-so x h = cond_both (may_read x.service) (reads_found env x (cut_of x.service.block.recv.unread)) (Done x) ReadsSo
       (λ may. found-so x h (may-go w h.0.vs_now [] x.service may h.0.reading) (cut_of x.service.block.recv.unread) refl)
       (λ may. still x x.service h.0 h.1)
 
   -- so many turns
-  stops-on : (n : ℕ) (x : Reading) → IsOn x → HasStopped (runs_on n (turn env) x)
+  stops-on : (n : ℕ) (x : Reading) → IsOn x → HasStopped (runs_on n (reading_turn env) x)
   unfolding runs_on
   stops-on zero x h = still x x.service h.0 h.1
-  stops-on (suc n) x h = go (turn env x) (turn-so x h) (stops-on n) where
-    go : (s : Step Reading) → ReadsSo s → ((y : Reading) → IsOn y → HasStopped (runs_on n (turn env) y)) → HasStopped (elim s as (λ s. Reading) [ More y ↦ runs_on n (turn env) y | Done y ↦ y ])
+  stops-on (suc n) x h = go (reading_turn env x) (turn-so x h) (stops-on n) where
+    go : (s : Step Reading) → ReadsSo s → ((y : Reading) → IsOn y → HasStopped (runs_on n (reading_turn env) y)) → HasStopped (elim s as (λ s. Reading) [ More y ↦ runs_on n (reading_turn env) y | Done y ↦ y ])
     go (More y) k later = later y k
     go (Done y) k later = k
 
-  pub reads-so : (s : Service) → Reads s → HasStopped (reads env (record { service = s; target = None }))
-  reads-so s h = stops-on (left (record { service = s; target = None }) + 1) (record { service = s; target = None }) (h, refl)
+  pub reads-so : (s : Service) → Reads s → HasStopped (front_reads env (record { service = s; target = None }))
+  reads-so s h = stops-on (reading_left (record { service = s; target = None }) + 1) (record { service = s; target = None }) (h, refl)

@@ -6,8 +6,8 @@ use Rattle.lard_answers.specs.Answers.{answer}
 use Rattle.lard_base.specs.declared.place.Place.TheVariants as place
 use Rattle.lard_base.specs.declared.place.Reason.{Reason}
 use Rattle.lard_base.specs.declared.place.Reason.TheVariants as reason
-use Rattle.lard_law_connections.specs.BytesAgreement.{EndAgrees, EndedIt, FrontHolds, FrontWaits, HasRead, HoldsIt}
-use Rattle.lard_law_connections.specs.BytesKeeping.{AdmissionsKeep, AdmittedKeeps, EndsKeep, FrontAgrees, FrontDeedKeeps, FrontHearsTruth, FrontRowAgrees, FrontStageAgrees, FrontTimerKeeps, FrontTurned, IsFrontTalk}
+use Rattle.lard_law_connections.specs.BytesAgreement.{EndAgreesPending, EndedWithNumbers, FrontHolds, FrontWaits, HasReadPending, HoldsItPending}
+use Rattle.lard_law_connections.specs.BytesKeeping.{AdmissionsKeep, AdmittedKeeps, EndsKeep, FrontPartAgrees, FrontDeedKeeps, FrontHearsTruth, FrontRowAgrees, FrontStageAgrees, FrontTimerKeeps, FrontTurned, IsFrontTalk}
 use Rattle.lard_law_connections.specs.BytesTurning.{EndTurned, IsReading}
 use Rattle.lard_law_connections.proofs.BytesEnding.{settled-ends, spoken-ends}
 use Rattle.lard_law_connections.proofs.BytesFrontReading.{GoesOver, reads-so}
@@ -21,8 +21,8 @@ use Rattle.lard_endpoint.specs.Moving.{may_freeze, parts_of}
 use Rattle.lard_endpoint.proofs.Adoption.{frozen_stands}
 use Rattle.lard_rules.specs.declared.front.FrontRest.{FrontRest}
 use Rattle.lard_rules.specs.declared.front.FrontTurn.{FrontTurn}
-use Rattle.lard_rules.specs.Front.{Deed, Drops, Says, FrontEnv, FrontPart, admitted_at, admitted_by, admitted_with, begun, ended_by, fired, fired_by, fires_at, front_hears, handed_off, hears_at, heard, holds, placed, rest_of, rests, settled_by, turn_here, waits_on}
-use Rattle.lard_rules.specs.FrontReading.{MayMove, Reading, reads}
+use Rattle.lard_rules.specs.Front.{FrontDeed, Drops, Says, FrontEnv, FrontPart, admitted_at, admitted_by, front_admitted_with, front_begun, front_ended_by, front_fired, front_fired_by, fires_at, front_hears, handed_off, hears_at, heard, holds, placed, front_rest, front_rests, settled_by, turn_here, waits_on}
+use Rattle.lard_rules.specs.FrontReading.{MayMove, Reading, front_reads}
 use Rattle.lard_rules.specs.FrontSound.{Serves}
 use Rattle.lard_rules.proofs.FrontBlocks.{EndsIdle, EndsServing, idle-of, segment-idle, segment-serves, settled-serves, spoken-idle, spoken-serves, timer-idle, timer-serves}
 use Rattle.lard_rules.proofs.FrontTurns.{reads-stop}
@@ -35,7 +35,7 @@ use Rattle.lard_handoff_front.specs.Front.{end_answer, next_epoch}
 use Rattle.lard_journal.specs.declared.rec.Rec.{Rec}
 use Rattle.lard_journal.specs.declared.rec.Rec.TheVariants as rec
 use Rattle.lard_law_view.specs.Agreement.{IsReply, IsWord}
-use Rattle.lard_law_view.specs.Keeping.{resets}
+use Rattle.lard_law_view.specs.Keeping.{is_reset_record}
 use Rattle.lard_law_view.proofs.EndpointStreams.{IsBetween, between-begun, between-sound}
 use Rattle.lard_law_view.proofs.Notes.{or-false}
 use Rattle.lard_dispatch.specs.declared.dispatch.First.{First}
@@ -47,14 +47,14 @@ use Rattle.lard_rules.specs.declared.places.Ending.{Ending}
 use Rattle.lard_rules.specs.declared.places.Ending.TheVariants as ending
 use Rattle.lard_rules.specs.declared.places.Turn.{Turn}
 use Rattle.lard_rules.specs.Tombstone.{is_plain_syn, is_telling, last_ack, last_words, refusal, tombstone}
-use Rattle.lard_rules.specs.Serving.{Service, ready_of, serving, settled, spoken}
+use Rattle.lard_rules.specs.Serving.{Service, serving_ready_of, serving, serving_settled, spoken}
 use Rattle.lard_segment.specs.Segment.{Said}
 use Rattle.lard_law_view.specs.Truth.{Stream}
 use Rattle.lard_law_view.proofs.Growth.{goes_on-same}
 use Rattle.lard_law_view.proofs.Pieces.{bare-true}
 
 module _ (env : FrontEnv) (w out : Stream) (vs : List Verdict) (was_reset : Bool) where
-  abbrev Keeps : Deed → Type 0
+  abbrev Keeps : FrontDeed → Type 0
   Keeps d = FrontDeedKeeps env.serve.files env.serve.c w out vs was_reset d
 
   abbrev Turns : FrontPart → FrontTurn → Type 0
@@ -65,21 +65,21 @@ module _ (env : FrontEnv) (w out : Stream) (vs : List Verdict) (was_reset : Bool
 
   -- ---- the end of a turn of an endpoint that is here
 
-  ends-turn : (part : FrontPart) (given : Ending × Turn) (h : Ends given) → FrontAgrees w h.out_after h.vs_after (was_reset || list_any resets given.1.notes) env.serve.c part → Turns part (turn_here given.1)
+  ends-turn : (part : FrontPart) (given : Ending × Turn) (h : Ends given) → FrontPartAgrees w h.out_after h.vs_after (was_reset || list_any is_reset_record given.1.notes) env.serve.c part → Turns part (turn_here given.1)
   ends-turn part given h agrees =
       record { out_after = h.out_after; vs_after = h.vs_after; longer = h.longer; says = h.says; agrees = agrees; noted = h.noted; sent = h.sent; said = tt }
 
   holds-keep : (p : FrontPart) (row : FrontRow) (rest : FrontRest) (given : Ending × Turn) → Ends given → EndsServing given.0 → Keeps (holds p row rest given)
-  holds-keep p row rest given h serves = ends-turn (rests p row rest stage.Held given.0) given h (go given.0 h.agrees serves) where
-    go : (e : Ending) → EndAgrees w h.out_after h.vs_after [] (was_reset || list_any resets given.1.notes) e → EndsServing e
-        → FrontAgrees w h.out_after h.vs_after (was_reset || list_any resets given.1.notes) env.serve.c (rests p row rest stage.Held e)
+  holds-keep p row rest given h serves = ends-turn (front_rests p row rest stage.Held given.0) given h (go given.0 h.agrees serves) where
+    go : (e : Ending) → EndAgreesPending w h.out_after h.vs_after [] (was_reset || list_any is_reset_record given.1.notes) e → EndsServing e
+        → FrontPartAgrees w h.out_after h.vs_after (was_reset || list_any is_reset_record given.1.notes) env.serve.c (front_rests p row rest stage.Held e)
     go (ending.Here b count) held serves = record { none = refl; serves = serves; holds = held }
     go (ending.Over last) ended serves = ended
 
-  waits-turn : (p : FrontPart) (row : FrontRow) (rest : FrontRest) (given : Ending × Turn) → Ends given → EndsServing given.0 → EndsIdle given.0 → Turns (rests p row rest stage.Waiting given.0) (turn_here given.1)
-  waits-turn p row rest given h serves idle = ends-turn (rests p row rest stage.Waiting given.0) given h (go given.0 h.agrees serves idle) where
-    go : (e : Ending) → EndAgrees w h.out_after h.vs_after [] (was_reset || list_any resets given.1.notes) e → EndsServing e → EndsIdle e
-        → FrontAgrees w h.out_after h.vs_after (was_reset || list_any resets given.1.notes) env.serve.c (rests p row rest stage.Waiting e)
+  waits-turn : (p : FrontPart) (row : FrontRow) (rest : FrontRest) (given : Ending × Turn) → Ends given → EndsServing given.0 → EndsIdle given.0 → Turns (front_rests p row rest stage.Waiting given.0) (turn_here given.1)
+  waits-turn p row rest given h serves idle = ends-turn (front_rests p row rest stage.Waiting given.0) given h (go given.0 h.agrees serves idle) where
+    go : (e : Ending) → EndAgreesPending w h.out_after h.vs_after [] (was_reset || list_any is_reset_record given.1.notes) e → EndsServing e → EndsIdle e
+        → FrontPartAgrees w h.out_after h.vs_after (was_reset || list_any is_reset_record given.1.notes) env.serve.c (front_rests p row rest stage.Waiting e)
     go (ending.Here b count) held serves idle = (record { none = refl; serves = serves; holds = held }, idle)
     go (ending.Over last) ended serves idle = ended
 
@@ -87,10 +87,10 @@ module _ (env : FrontEnv) (w out : Stream) (vs : List Verdict) (was_reset : Bool
 
   -- what it was served so far, with nothing to reset
   module _ (s : Service) (so : So env.serve w out vs s []) (none : s.over ≡ None) (serves : Serves s.count s.block.recv s.block.send) (may : may_freeze s.block ≡ true) where
-    read : HasRead w s.block so.vs_now []
+    read : HasReadPending w s.block so.vs_now []
     read = subst (λ (o : Option ℕ). IsReading w so.vs_now [] s.block s.notes o) none so.reading
 
-    pub frozen-holds : HoldsIt w so.out_now so.vs_now [] s.block s.count
+    pub frozen-holds : HoldsItPending w so.out_now so.vs_now [] s.block s.count
     frozen-holds =
         let sound = between-sound w so.out_now s.block so.between in
         record {
@@ -119,7 +119,7 @@ module _ (env : FrontEnv) (w out : Stream) (vs : List Verdict) (was_reset : Bool
         }
 
     waiting-turn : (p : FrontPart) (row : FrontRow) (rest : FrontRest) (path : List ℕ)
-        → Turns (rests p row (record rest { target = Some path }) stage.Waiting (spoken env.serve (record s { notes = s.notes ++ rec.Waits env.serve.c ∷ [] }) []).0)
+        → Turns (front_rests p row (record rest { target = Some path }) stage.Waiting (spoken env.serve (record s { notes = s.notes ++ rec.Waits env.serve.c ∷ [] }) []).0)
         (turn_here (spoken env.serve (record s { notes = s.notes ++ rec.Waits env.serve.c ∷ [] }) []).1)
     waiting-turn p row rest path =
         let v : Service = record s { notes = s.notes ++ rec.Waits env.serve.c ∷ [] } in
@@ -136,45 +136,45 @@ module _ (env : FrontEnv) (w out : Stream) (vs : List Verdict) (was_reset : Bool
 
   settled-keep : (p : FrontPart) (row : FrontRow) (rest : FrontRest) (s : Service) (target : Option (List ℕ)) → So env.serve w out vs s [] → GoesOver target s → Serves s.count s.block.recv s.block.send → MayMove s.block target
       → Keeps (settled_by env p row rest s target)
-  settled-keep p row rest s None so over serves may = holds-keep p row rest (settled env.serve s) (settled-ends env.serve w out vs was_reset s [] so) (settled-serves env.serve s serves)
+  settled-keep p row rest s None so over serves may = holds-keep p row rest (serving_settled env.serve s) (settled-ends env.serve w out vs was_reset s [] so) (settled-serves env.serve s serves)
   settled-keep p row rest s (Some path) so over serves may = placed-keep s so over serves may p row rest path (env.first path)
 
   module _ (talk : IsFrontTalk env w out vs) (p : FrontPart) where
-    heard-keep : (row : FrontRow) (b : ControlBlock) (s : Said) → IsWord w s → FrontHolds w out vs [] b (rest_of p.rest).count → Keeps (heard env p row (rest_of p.rest) (on_segment b s).1)
+    heard-keep : (row : FrontRow) (b : ControlBlock) (s : Said) → IsWord w s → FrontHolds w out vs [] b (front_rest p.rest).count → Keeps (heard env p row (front_rest p.rest) (on_segment b s).1)
     heard-keep row b s word h =
-        let start : Service = serving (on_segment b s).1 (rest_of p.rest).count [] in
-        let x : Reading = reads env.serve (record { service = start; target = None }) in
-        let so = reads-so env.serve w out vs talk.most start (heard-so env.serve w out vs talk.says [] b (rest_of p.rest).count h.holds talk.stream s word) in
-        let stop = reads-stop env.serve start (segment-serves (rest_of p.rest).count b s h.serves) in
-        settled-keep p row (rest_of p.rest) x.service x.target so.0 so.1 stop.0 stop.1
+        let start : Service = serving (on_segment b s).1 (front_rest p.rest).count [] in
+        let x : Reading = front_reads env.serve (record { service = start; target = None }) in
+        let so = reads-so env.serve w out vs talk.most start (heard-so env.serve w out vs talk.says [] b (front_rest p.rest).count h.holds talk.stream s word) in
+        let stop = reads-stop env.serve start (segment-serves (front_rest p.rest).count b s h.serves) in
+        settled-keep p row (front_rest p.rest) x.service x.target so.0 so.1 stop.0 stop.1
 
-    waited-keep : (row : FrontRow) (b : ControlBlock) (s : Said) → IsWord w s → FrontWaits w out vs [] b (rest_of p.rest).count
-        → Keeps (waits_on env p row (rest_of p.rest) (spoken env.serve (serving (on_segment b s).1 (rest_of p.rest).count []) []))
+    waited-keep : (row : FrontRow) (b : ControlBlock) (s : Said) → IsWord w s → FrontWaits w out vs [] b (front_rest p.rest).count
+        → Keeps (waits_on env p row (front_rest p.rest) (spoken env.serve (serving (on_segment b s).1 (front_rest p.rest).count []) []))
     waited-keep row b s word h =
-        let v : Service = serving (on_segment b s).1 (rest_of p.rest).count [] in
-        let so = heard-so env.serve w out vs talk.says [] b (rest_of p.rest).count h.0.holds talk.stream s word in
-        waits-turn p row (rest_of p.rest) (spoken env.serve v []) (spoken-ends env.serve w out vs was_reset v [] so [] so.reading tt)
-        (spoken-serves env.serve v [] (segment-serves (rest_of p.rest).count b s h.0.serves)) (spoken-idle env.serve v [] (segment-idle b s (idle-of b h.1 h.0.serves.sent)))
+        let v : Service = serving (on_segment b s).1 (front_rest p.rest).count [] in
+        let so = heard-so env.serve w out vs talk.says [] b (front_rest p.rest).count h.0.holds talk.stream s word in
+        waits-turn p row (front_rest p.rest) (spoken env.serve v []) (spoken-ends env.serve w out vs was_reset v [] so [] so.reading tt)
+        (spoken-serves env.serve v [] (segment-serves (front_rest p.rest).count b s h.0.serves)) (spoken-idle env.serve v [] (segment-idle b s (idle-of b h.1 h.0.serves.sent)))
 
     -- ---- a connection that begins
 
-    begun-keep : (s : Said) → IsWord w s → vs ≡ [] → out.ended ≡ false → s.seq ≡ w.first → Keeps (begun env p s)
+    begun-keep : (s : Said) → IsWord w s → vs ≡ [] → out.ended ≡ false → s.seq ≡ w.first → Keeps (front_begun env p s)
     begun-keep s word none open_ first =
         let row : FrontRow = record { stage = stage.Lent; epoch = record { 0 = 1 }; ended_by = None } in
         let start : Service = serving (listening s env.iss) 0 (rec.Took place.Front env.serve.c (record { 0 = 1 }) ∷ []) in
         let empty : out.bytes ≡ [] = talk.says.spoken ∙ ap (λ us. concat (map (answer env.serve.files) us)) none in
         let between : IsBetween w out (listening s env.iss) = subst (λ (n : ℕ). IsBetween w out (listening s n)) (sym talk.begins) (between-begun w out s talk.says.number empty open_ first) in
         let number : env.iss < 2 ^ 32 = subst (λ (n : ℕ). n < 2 ^ 32) (sym talk.begins) talk.says.number in
-        let none-read : HasRead w (listening s env.iss) vs [] = subst (λ (us : List Verdict). HasRead w (listening s env.iss) us []) (sym none)
+        let none-read : HasReadPending w (listening s env.iss) vs [] = subst (λ (us : List Verdict). HasReadPending w (listening s env.iss) us []) (sym none)
         (record { cut = λ f g z. refl; goes_on = λ f. refl; stops = λ f. absurd cc; fronts = λ z. (_, refl) }) in
         let so : So env.serve w out vs start [] = begins-so env.serve w out vs talk.says [] (listening s env.iss) 0 (rec.Took place.Front env.serve.c (record { 0 = 1 }) ∷ []) (sym (ap length none)) between
         (record { wnd = word.sendable.wnd_fits; wl1 = word.sendable.seq_fits; wl2 = number }) none-read (record { each = (tt, tt); served = omega arith; size = omega arith; unless_ended = inr refl; serve = λ t told. ((λ J e. tt), tt) }) in
-        holds-keep p row (rest_of None) (spoken env.serve start []) (spoken-ends env.serve w out vs was_reset start [] so [] so.reading tt)
+        holds-keep p row (front_rest None) (spoken env.serve start []) (spoken-ends env.serve w out vs was_reset start [] so [] so.reading tt)
         (spoken-serves env.serve start [] (record { counted = omega arith; asked = omega arith; most = omega arith; sent = omega arith }))
 
     -- ---- a connection that ended
 
-    words-reply : (why : Reason) (last : Final) (s : Said) → s.ack < 2 ^ 32 → last.reason ≡ why → EndedIt w was_reset last → IfSome (last_words why last s) (IsReply w out was_reset)
+    words-reply : (why : Reason) (last : Final) (s : Said) → s.ack < 2 ^ 32 → last.reason ≡ why → EndedWithNumbers w was_reset last → IfSome (last_words why last s) (IsReply w out was_reset)
     words-reply reason.Closed last s fits e h =
         let P : Option Said → Type 0 = λ o. IfSome o (IsReply w out was_reset) in
         let ack = h.acks in
@@ -215,36 +215,36 @@ module _ (env : FrontEnv) (w out : Stream) (vs : List Verdict) (was_reset : Bool
     hears-keep row bytes s word (stage.Closed last) h = tombstone-keeps (last_words last.reason last s) (words-reply last.reason last s word.sendable.ack_fits refl h)
 
     gets-keep : (bytes : List ℕ) (s : Said) → IsWord w s → (o : Option FrontRow) → FrontRowAgrees w out vs was_reset env.serve.c p o → Keeps (front_hears env p bytes s o)
-    gets-keep bytes s word None h = cond_both (is_plain_syn s) (begun env p s) Drops Keeps (λ syn. begun-keep s word h.0 h.1 (word.true_of.greets (and_parts s.flags.syn _ syn).0)) (λ t. tt)
+    gets-keep bytes s word None h = cond_both (is_plain_syn s) (front_begun env p s) Drops Keeps (λ syn. begun-keep s word h.0 h.1 (word.true_of.greets (and_parts s.flags.syn _ syn).0)) (λ t. tt)
     gets-keep bytes s word (Some row) h = hears-keep row bytes s word row.stage h
 
     fires-keep : (row : FrontRow) (at : FrontConn) → FrontStageAgrees w out vs was_reset env.serve.c row.epoch.0 p at → Keeps (fires_at env p row at)
     fires-keep row (stage.Held b) h =
-        let rest = rest_of p.rest in
+        let rest = front_rest p.rest in
         let v : Service = serving (after_timer b) rest.count [] in
-        holds-keep p row rest (fired env rest b) (fired-ends env.serve w out vs talk.says [] b rest.count h.holds was_reset)
-        (spoken-serves env.serve v (ready_of env.serve (after_timer b) (timed b)) (timer-serves rest.count b h.serves))
+        holds-keep p row rest (front_fired env rest b) (fired-ends env.serve w out vs talk.says [] b rest.count h.holds was_reset)
+        (spoken-serves env.serve v (serving_ready_of env.serve (after_timer b) (timed b)) (timer-serves rest.count b h.serves))
     fires-keep row (stage.Waiting b) h =
-        let rest = rest_of p.rest in
+        let rest = front_rest p.rest in
         let v : Service = serving (after_timer b) rest.count [] in
-        waits-turn p row rest (fired env rest b) (fired-ends env.serve w out vs talk.says [] b rest.count h.0.holds was_reset)
-        (spoken-serves env.serve v (ready_of env.serve (after_timer b) (timed b)) (timer-serves rest.count b h.0.serves))
-        (spoken-idle env.serve v (ready_of env.serve (after_timer b) (timed b)) (timer-idle b (idle-of b h.1 h.0.serves.sent)))
+        waits-turn p row rest (front_fired env rest b) (fired-ends env.serve w out vs talk.says [] b rest.count h.0.holds was_reset)
+        (spoken-serves env.serve v (serving_ready_of env.serve (after_timer b) (timed b)) (timer-serves rest.count b h.0.serves))
+        (spoken-idle env.serve v (serving_ready_of env.serve (after_timer b) (timed b)) (timer-idle b (idle-of b h.1 h.0.serves.sent)))
     fires-keep row (stage.Offering node epoch) h = (refl, tt)
     fires-keep row _ h = tt
 
-    timer-keep : (o : Option FrontRow) → FrontRowAgrees w out vs was_reset env.serve.c p o → Keeps (fired_by env p o)
+    timer-keep : (o : Option FrontRow) → FrontRowAgrees w out vs was_reset env.serve.c p o → Keeps (front_fired_by env p o)
     timer-keep None h = tt
     timer-keep (Some row) h = fires-keep row row.stage h
 
-    ends-keep : (from epoch : ℕ) (last : Final) → EndedIt w was_reset last → (o : Option FrontRow) (given : OnEnded) → Keeps (ended_by env p from epoch last o given)
+    ends-keep : (from epoch : ℕ) (last : Final) → EndedWithNumbers w was_reset last → (o : Option FrontRow) (given : OnEnded) → Keeps (front_ended_by env p from epoch last o given)
     ends-keep from epoch last h None given = tt
     ends-keep from epoch last h (Some row) (New next) = record {
       out_after = out;
       vs_after = vs;
       longer = goes_on-same out;
       says = talk.says;
-      agrees = subst (λ (r : Bool). EndedIt w r last) (or-false was_reset) h;
+      agrees = subst (λ (r : Bool). EndedWithNumbers w r last) (or-false was_reset) h;
       noted = record { each = (tt, (tt, tt)); served = omega arith; size = omega arith; unless_ended = inr refl; serve = λ t told. ((λ J e. tt), ((λ J e. tt), tt)) };
       sent = tt;
       said = ((from, epoch, body.EndedAck, refl, tt), tt);
@@ -252,15 +252,15 @@ module _ (env : FrontEnv) (w out : Stream) (vs : List Verdict) (was_reset : Bool
     ends-keep from epoch last h (Some row) Again = (refl, tt)
     ends-keep from epoch last h (Some row) Stale = tt
 
-    with-keep : (row : FrontRow) (b : ControlBlock) (choice : FirstChoice) → FrontWaits w out vs [] b (rest_of p.rest).count → (target : Option (List ℕ))
-        → AdmittedKeeps env.serve.files env.serve.c w out vs was_reset (admitted_with env row (rest_of p.rest) b choice target)
+    with-keep : (row : FrontRow) (b : ControlBlock) (choice : FirstChoice) → FrontWaits w out vs [] b (front_rest p.rest).count → (target : Option (List ℕ))
+        → AdmittedKeeps env.serve.files env.serve.c w out vs was_reset (front_admitted_with env row (front_rest p.rest) b choice target)
     with-keep row b choice h None = tt
     with-keep row b choice h (Some path) =
-        let count = (rest_of p.rest).count in
+        let count = (front_rest p.rest).count in
         handed-turn (serving b count []) (same-so env.serve w out vs talk.says [] b count h.0.holds) refl h.0.serves h.1 row path choice
 
     admits-keep : (choice : FirstChoice) (row : FrontRow) (at : FrontConn) → FrontStageAgrees w out vs was_reset env.serve.c row.epoch.0 p at → AdmittedKeeps env.serve.files env.serve.c w out vs was_reset (admitted_at env p choice row at)
-    admits-keep choice row (stage.Waiting b) h = with-keep row b choice h (rest_of p.rest).target
+    admits-keep choice row (stage.Waiting b) h = with-keep row b choice h (front_rest p.rest).target
     admits-keep choice row _ h = tt
 
     head-keeps : (choice : FirstChoice) (o : Option FrontRow) → FrontRowAgrees w out vs was_reset env.serve.c p o → AdmittedKeeps env.serve.files env.serve.c w out vs was_reset (admitted_by env p choice o)

@@ -2,7 +2,7 @@
 use Rattle.std.proofs.Common.{◌≡◌, ◌≤◌, ◌-◌, ℕ, Bool, List, [], ◌++◌, length, take, Option, Some, None, arith, ap, ◌∙◌, sym, subst, append_assoc, inl, inr, ⊎_elim}
 use Rattle.lard_answers.specs.Answers.{IsPrefix, verdicts, verdicts_on}
 use Rattle.lard_block.specs.Blocks.{blocks}
-use Rattle.lard_law_connections.specs.BytesAgreement.{AwayAgrees, BackAgrees, EndedIt, FrontHolds, HasRead, HoldsIt, IsEnding, IsOffering, NodeAgrees, RowAgrees, SeatAgrees, StageAgrees, StayAgrees}
+use Rattle.lard_law_connections.specs.BytesAgreement.{AwayAgrees, BackAgrees, EndedWithNumbers, FrontHolds, HasReadPending, HoldsItPending, IsEnding, IsOffering, NodeAgrees, RowAgrees, SeatAgrees, StageAgrees, StayAgrees}
 use Rattle.lard_law_connections.specs.BytesKeeping.{SaidStays, SeatStays}
 use Rattle.lard_law_view.specs.View.{Part}
 use Rattle.lard_endpoint.specs.Control.{ControlBlock}
@@ -29,7 +29,7 @@ module _ (w v : Stream) (g : GoesOn w v) where
       subst (λ (all : List ℕ). IsPrefix us (verdicts all)) (sym (append_assoc w.bytes more z) ∙ ap (λ l. l ++ z) (sym g.bytes.1)) (h (more ++ z))
 
   module _ (out : Stream) (vs pend : List Verdict) where
-    read-on : (b : ControlBlock) → Hears w b.recv → HasRead w b vs pend → HasRead v b vs pend
+    read-on : (b : ControlBlock) → Hears w b.recv → HasReadPending w b vs pend → HasReadPending v b vs pend
     read-on b heard h =
         let n = b.recv.got - length b.recv.unread in
         let within : n ≤ length w.bytes = omega (arith, heard.within) in
@@ -41,7 +41,7 @@ module _ (w v : Stream) (g : GoesOn w v) where
           fronts = fronts-on (vs ++ pend) h.fronts;
         }
 
-    holds-on : (b : ControlBlock) (count : ℕ) → HoldsIt w out vs pend b count → HoldsIt v out vs pend b count
+    holds-on : (b : ControlBlock) (count : ℕ) → HoldsItPending w out vs pend b count → HoldsItPending v out vs pend b count
     holds-on b count h = record {
       counted = h.counted;
       not_reset = h.not_reset;
@@ -53,7 +53,7 @@ module _ (w v : Stream) (g : GoesOn w v) where
       has_read = read-on b h.hears h.has_read;
     }
 
-  ended-on : (r : Bool) (last : Final) → EndedIt w r last → EndedIt v r last
+  ended-on : (r : Bool) (last : Final) → EndedWithNumbers w r last → EndedWithNumbers v r last
   ended-on r last h =
       let a = h.acks in
       let le = a.2 in

@@ -2,12 +2,12 @@
 use Rattle.std.specs.Prelude.{◌≡◌, ℕ, List, [], ◌∷◌, Option, Some}
 use Rattle.lard_answers.specs.Answers.{FilesAt}
 use Rattle.lard_base.specs.declared.place.Place.{Place}
-use Rattle.lard_rules.specs.Bounds.{IsNumber}
+use Rattle.lard_rules.specs.Bounds.{IsConnNumber}
 use Rattle.lard_law_connections.specs.BytesAgreement.{IsTruthful}
-use Rattle.lard_law_connections.specs.BytesRecords.{IsTrueAfter}
+use Rattle.lard_law_connections.specs.BytesRecords.{IsOwnedTrueAfter}
 use Rattle.lard_law_connections.proofs.PlacesTurns.{IsPlaced, Owes}
 use Rattle.lard_law_view.specs.Carry.{tale_at}
-use Rattle.lard_law_view.specs.View.{Conn, IsSound, Move, Setting, grown, seen_in}
+use Rattle.lard_law_view.specs.View.{Conn, IsConnSound, Move, Setting, grown, seen_in}
 use Rattle.lard_law_view.proofs.Fine.{IsItsOwn}
 use Rattle.lard_history.specs.Journal.{owner_step}
 use Rattle.lard_history.specs.Own.{Came, EachRow, Row, Seen, tale_of}
@@ -39,8 +39,8 @@ OwnerServes c owner (r ∷ rs) = ServesOwn owner r × OwnerServes c (owner_step 
 
 -- What is known of a connection and of its move beside the bytes: the view has it of each rule, and the law of places.
 pub record Helps (x : Conn) (v : Move) : Type 0 where
-  pub number : IsNumber x.c
-  pub sound : IsSound x
+  pub number : IsConnNumber x.c
+  pub sound : IsConnSound x
   pub placed : IsPlaced x
   pub owes : Owes x v
   pub own : IsItsOwn x v
@@ -49,7 +49,7 @@ pub record Helps (x : Conn) (v : Move) : Type 0 where
 
 -- what a connection sees of a record is true
 abbrev pub IsSeenTrue : FilesAt → ℕ → List Seen → Rec → Type 0
-IsSeenTrue files c past r = IsTrueAfter files c (tale_of c past) r
+IsSeenTrue files c past r = IsOwnedTrueAfter files c (tale_of c past) r
 
 -- behind the move its connection agrees, and all that it sees of the move is true
 abbrev pub IsTrueMove : FilesAt → Conn → Move → Type 0

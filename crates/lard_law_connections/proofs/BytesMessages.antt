@@ -3,7 +3,7 @@ use Rattle.std.proofs.Common.{◌≡◌, ◌≤◌, ◌<◌, ◌-◌, ◌^◌, �
 use Rattle.std.specs.Int.{to_be_bytes, w32}
 use Rattle.lard_base.specs.declared.parts.EndpointParts.{EndpointParts}
 use Rattle.lard_base.specs.declared.place.Reason.{Reason}
-use Rattle.lard_law_connections.specs.BytesAgreement.{EndedIt}
+use Rattle.lard_law_connections.specs.BytesAgreement.{EndedWithNumbers}
 use Rattle.lard_law_connections.specs.BytesKeeping.{EndsAreRead, ForwardsAreRead, OffersAreRead}
 use Rattle.lard_law_connections.proofs.PlacesHeads.{spelled-body}
 use Rattle.lard_endpoint.specs.Moving.{parts_of}
@@ -13,7 +13,7 @@ use Rattle.lard_message.specs.declared.message.Body.{Body}
 use Rattle.lard_message.specs.declared.message.Body.TheVariants as body
 use Rattle.lard_message.specs.declared.message.Message.{Message}
 use Rattle.lard_message.specs.Message.{IsMessage, body_bytes, reason_byte}
-use Rattle.lard_message.specs.Reading.{ended_at, number_at, reason_at}
+use Rattle.lard_message.specs.Reading.{ended_body_at, number_at, reason_at}
 use Rattle.lard_message.proofs.Fields.{bind_then, number_again, reason_again, some_same, wide32}
 use Rattle.lard_message.proofs.Whole.{again}
 
@@ -71,9 +71,9 @@ ended_of : Ends → Body → Ends
 ended_of d (body.Ended why snd rcv n) = (why, snd, rcv)
 ended_of d _ = d
 
-pub ended-fields : (why : Reason) (snd rcv count : ℕ) → snd < 2 ^ 32 → rcv < 2 ^ 32 → (b : Body) (rest : List ℕ) → ended_at (body_bytes (body.Ended why snd rcv count)) ≡ Some (b, rest)
+pub ended-fields : (why : Reason) (snd rcv count : ℕ) → snd < 2 ^ 32 → rcv < 2 ^ 32 → (b : Body) (rest : List ℕ) → ended_body_at (body_bytes (body.Ended why snd rcv count)) ≡ Some (b, rest)
     → (n : ℕ) × (body.Ended why snd rcv n ≡ b)
-unfolding ended_at
+unfolding ended_body_at
 ended-fields why snd rcv count s r b rest e =
     let r3 : List ℕ = to_be_bytes w32 count in
     let r2 : List ℕ = to_be_bytes w32 rcv ++ r3 in
@@ -97,4 +97,4 @@ ends-read c e w was_reset last count h m why snd rcv n decodes ended =
     let fields = ended-fields last.reason last.snd.0 last.rcv.0 count h.snd_fits h.rcv_fits m.body read.0 read.1 in
     let bodies : body.Ended last.reason last.snd.0 last.rcv.0 fields.0 ≡ body.Ended why snd rcv n = fields.1 ∙ ended in
     let same : (last.reason, last.snd.0, last.rcv.0) ≡ (why, snd, rcv) = ap (ended_of (why, snd, rcv)) bodies in
-    subst (λ (t : Ends). EndedIt w was_reset (record { reason = t.0; snd = record { 0 = t.1 }; rcv = record { 0 = t.2 } })) same h
+    subst (λ (t : Ends). EndedWithNumbers w was_reset (record { reason = t.0; snd = record { 0 = t.1 }; rcv = record { 0 = t.2 } })) same h

@@ -4,10 +4,10 @@ use Rattle.std.specs.List.{list_any}
 use Rattle.lard_answers.specs.Answers.{FilesAt}
 use Rattle.lard_base.specs.declared.place.Place.{Place}
 use Rattle.lard_base.specs.declared.place.Place.TheVariants.{Front, Node}
-use Rattle.lard_law_connections.specs.BytesAgreement.{ConnAgrees, IsFair, IsOpen, IsTruthful, SeatAgrees, StayComesOn, TaleAgrees}
+use Rattle.lard_law_connections.specs.BytesAgreement.{ConnAgrees, IsFair, IsOpen, IsTruthful, SeatAgrees, StayComesOn, TaleAgreesWithTalk}
 use Rattle.lard_law_connections.proofs.BytesLaw.{Helps, IsSeenTrue, IsTrueMove, OwnerServes}
-use Rattle.lard_law_connections.specs.BytesRecords.{IsTrueAfter}
-use Rattle.lard_law_connections.specs.BytesTurning.{Counts, IsNoteOf}
+use Rattle.lard_law_connections.specs.BytesRecords.{IsOwnedTrueAfter}
+use Rattle.lard_law_connections.specs.BytesTurning.{CountsResponses, IsNoteOf}
 use Rattle.lard_law_connections.proofs.BytesFair.{GoesOnFairly, all-on}
 use Rattle.lard_law_connections.proofs.BytesNext.{mute-answers}
 use Rattle.lard_law_connections.proofs.BytesTelling.{gave-true, heads-true, messages-true, notes-true, replies-moment, replies-true, timers-true}
@@ -21,7 +21,7 @@ use Rattle.lard_history.specs.Journal.{Tale, told_on}
 use Rattle.lard_history.specs.Own.{EachRow}
 use Rattle.lard_history.proofs.Each.{Each, Each-append}
 use Rattle.lard_law_view.specs.Agreement.{AreReplies, SaysAnswers}
-use Rattle.lard_law_view.specs.Keeping.{resets, served_in, size_in}
+use Rattle.lard_law_view.specs.Keeping.{is_reset_record, served_in, bytes_served_in}
 use Rattle.lard_law_view.specs.Truthful.{Talk}
 use Rattle.lard_law_view.proofs.Notes.{or-false}
 use Rattle.lard_law_view.proofs.Segments.{Moment}
@@ -43,7 +43,7 @@ replies-fair k c p place is (s ∷ ss) h = (one place is, replies-fair k c p pla
 
 module _ (files : FilesAt) (x : Conn) (s : Station) (there : x.part.station ≡ Some s) (k : Talk) (pend : List Verdict) (h : IsOpen files x k pend s) (v : Move) where
   abbrev pub talk_after : Stream → List Verdict → Talk
-  talk_after out vs = record { w = k.w; out = out; vs = vs; was_reset = k.was_reset || list_any resets v.said.notes }
+  talk_after out vs = record { w = k.w; out = out; vs = vs; was_reset = k.was_reset || list_any is_reset_record v.said.notes }
 
   -- what the place's turn makes of the streams, of what is kept, and of what packets say
   pub record TurnGoes : Type 0 where
@@ -52,10 +52,10 @@ module _ (files : FilesAt) (x : Conn) (s : Station) (there : x.part.station ≡ 
     pub pend_after : List Verdict
     pub longer : GoesOn k.out out_after
     pub says : SaysAnswers files k.w out_after vs_after
-    pub seat : SeatAgrees k.w out_after vs_after pend_after (k.was_reset || list_any resets v.said.notes) x.c v.part v.part.front.row
+    pub seat : SeatAgrees k.w out_after vs_after pend_after (k.was_reset || list_any is_reset_record v.said.notes) x.c v.part v.part.front.row
     pub ways : (n : ℕ) → StayComesOn files (v.part.nodes n).stay
-    pub noted : Counts files x.c k.w k.out k.vs vs_after out_after.bytes v.said.notes
-    pub sent : AreReplies x.c k.w out_after (k.was_reset || list_any resets v.said.notes) v.said.segments
+    pub noted : CountsResponses files x.c k.w k.out k.vs vs_after out_after.bytes v.said.notes
+    pub sent : AreReplies x.c k.w out_after (k.was_reset || list_any is_reset_record v.said.notes) v.said.segments
     pub letters : Each (IsFair (talk_after out_after vs_after) x.c v.part) (letters_of v)
 
   pub record Frame : Type 0 where
@@ -84,13 +84,13 @@ module _ (files : FilesAt) (x : Conn) (s : Station) (there : x.part.station ≡ 
     sent = told_on x.c noted (map (sending v.place) v.said.segments)
 
     -- what is told before the notes, and behind them
-    before-agrees : TaleAgrees k n before
+    before-agrees : TaleAgreesWithTalk k n before
     before-agrees = tale-agrees k n (tale_at x) before frame.heads (λ e. h.tale.fin (sym (heads-fin x.c v.heads (tale_at x) help.heads) ∙ e)) h.tale
 
     still-ended : k.out.ended ≡ true → t.out_after.ended ≡ true
     still-ended e = ap (λ (y : Stream). y.ended) (t.longer.ended e) ∙ e
 
-    noted-agrees : TaleAgrees after n noted
+    noted-agrees : TaleAgreesWithTalk after n noted
     noted-agrees = served-tale k after n before noted v.said.notes before-agrees refl t.longer.first
         (front-take n k.out.bytes t.out_after.bytes t.longer.bytes h.client.accepts.within) still-ended t.noted.served t.noted.size refl (place-notes x.c before v.said.notes t.noted.each)
 
@@ -116,7 +116,7 @@ module _ (files : FilesAt) (x : Conn) (s : Station) (there : x.part.station ≡ 
 
     on : GoesOnFairly k after x.part v.part
     on = record {
-      talk = record { w = goes_on-same k.w; out = t.longer; reset = reset-on (list_any resets v.said.notes) };
+      talk = record { w = goes_on-same k.w; out = t.longer; reset = reset-on (list_any is_reset_record v.said.notes) };
       grows = help.owes.grows;
       offers = frame.offers;
       ends = frame.ends;
@@ -149,7 +149,7 @@ module _ (files : FilesAt) (x : Conn) (s : Station) (there : x.part.station ≡ 
     owned = subst (λ (o : Option Place). OwnerServes x.c o v.said.notes) (sym (ap (λ (w : Owning). w.owner) help.owes.same)) help.serves
 
     seen-true : EachRow (IsSeenTrue files x.c) x.seen (seen_in x v)
-    seen-true = move-lawful (IsTrueAfter files x.c) x v (heads-true files x.c x.seen v.heads help.heads)
+    seen-true = move-lawful (IsOwnedTrueAfter files x.c) x v (heads-true files x.c x.seen v.heads help.heads)
         (notes-true files x.c k.out before v.said.notes t.noted.each t.noted.unless_ended before-agrees.fin owned
         (t.noted.serve before (record { wrote = before-agrees.wrote; served = before-agrees.served; served_bytes = before-agrees.served_bytes })))
         (replies-true files x.c k.w t.out_after t.vs_after after.was_reset t.says v.place noted v.said.segments help.own.segments t.sent noted-moment)
@@ -164,8 +164,8 @@ module _ (files : FilesAt) (x : Conn) (s : Station) (there : x.part.station ≡ 
   pub record Idle : Type 0 where
     pub each : Each (IsNoteOf x.c) v.said.notes
     pub served : served_in v.said.notes ≡ 0
-    pub size : size_in v.said.notes ≡ 0
-    pub reset : list_any resets v.said.notes ≡ false
+    pub size : bytes_served_in v.said.notes ≡ 0
+    pub reset : list_any is_reset_record v.said.notes ≡ false
     pub seat : SeatAgrees k.w k.out k.vs pend k.was_reset x.c v.part v.part.front.row
     pub ways : (n : ℕ) → StayComesOn files (v.part.nodes n).stay
     pub sent : AreReplies x.c k.w k.out k.was_reset v.said.segments
@@ -173,7 +173,7 @@ module _ (files : FilesAt) (x : Conn) (s : Station) (there : x.part.station ≡ 
 
   pub idle-goes : Idle → TurnGoes
   idle-goes i =
-      let same : k.was_reset ≡ (k.was_reset || list_any resets v.said.notes) = or-false k.was_reset ∙ ap (λ b. k.was_reset || b) (sym i.reset) in
+      let same : k.was_reset ≡ (k.was_reset || list_any is_reset_record v.said.notes) = or-false k.was_reset ∙ ap (λ b. k.was_reset || b) (sym i.reset) in
       record {
         out_after = k.out;
         vs_after = k.vs;

@@ -8,13 +8,13 @@ use Rattle.lard_law_connections.specs.BytesRecords.{AnswersNext, ComesBy, IsWay,
 use Rattle.lard_law_connections.specs.BytesTurning.{AnswersAfter, IsNoteOf}
 use Rattle.lard_law_connections.proofs.BytesTold.{place-notes}
 use Rattle.lard_law_view.specs.Carry.{TellsBy}
-use Rattle.lard_law_view.specs.View.{named}
+use Rattle.lard_law_view.specs.View.{named_records}
 use Rattle.lard_history.specs.Journal.{Tale, served_bytes, tale, tale_step, told_on}
 use Rattle.lard_history.proofs.Each.{Each}
 use Rattle.lard_history.proofs.Tales.{served-tale, served_bytes-tale}
 use Rattle.lard_journal.specs.declared.rec.Rec.{Rec}
 use Rattle.lard_journal.specs.declared.rec.Rec.TheVariants as rec
-use Rattle.lard_law_view.specs.Keeping.{TellsOf, resets, served_in, size_in}
+use Rattle.lard_law_view.specs.Keeping.{TellsOf, is_reset_record, served_in, bytes_served_in}
 use Rattle.lard_law_view.proofs.Notes.{Adds}
 use Rattle.lard_law_view.proofs.Serving.{answer-is, verdict-is}
 use Rattle.lard_request.specs.declared.verdict.Verdict.{Verdict}
@@ -39,7 +39,7 @@ module _ (files : FilesAt) (c : ℕ) (w said : List ℕ) (vs : List Verdict) (pa
 -- ---- notes
 
 -- those that serve and reset nothing say nothing of it
-pub mute-answers : (files : FilesAt) (c : ℕ) (t : Tale) (rs : List Rec) → Each (IsNoteOf c) rs → served_in rs ≡ 0 → list_any resets rs ≡ false → TellsBy (AnswersAfter files c) c t rs
+pub mute-answers : (files : FilesAt) (c : ℕ) (t : Tale) (rs : List Rec) → Each (IsNoteOf c) rs → served_in rs ≡ 0 → list_any is_reset_record rs ≡ false → TellsBy (AnswersAfter files c) c t rs
 mute-answers files c t [] h none calm = tt
 mute-answers files c t (rec.Served place d r code size via ∷ rs) h none calm = absurd (omega (arith, none))
 mute-answers files c t (rec.Reset place d total ∷ rs) h none calm = let no : true ≡ false = calm in absurd cc
@@ -58,18 +58,18 @@ mute-answers files c t (rec.BatchOver d ∷ rs) h none calm = ((λ J e. tt), mut
 mute-answers files c t (_ ∷ rs) h none calm = absurd h.0
 
 -- what is told behind the notes of a turn
-pub tells-on : (c : ℕ) (w said said_now : List ℕ) (vs us : List Verdict) (notes : List Rec) → Each (IsNoteOf c) notes → length us ≡ length vs + served_in notes → length said_now ≡ length said + size_in notes
+pub tells-on : (c : ℕ) (w said said_now : List ℕ) (vs us : List Verdict) (notes : List Rec) → Each (IsNoteOf c) notes → length us ≡ length vs + served_in notes → length said_now ≡ length said + bytes_served_in notes
     → (t : Tale) → TellsOf w said vs t → TellsOf w said_now us (told_on c t notes)
 tells-on c w said said_now vs us notes each served size t told =
-    let adds : Adds t [] [] (served_in notes) (size_in notes) (list_any resets notes) (told_on c t notes) = place-notes c t notes each in
+    let adds : Adds t [] [] (served_in notes) (bytes_served_in notes) (list_any is_reset_record notes) (told_on c t notes) = place-notes c t notes each in
     record {
       wrote = adds.wrote ∙ append-nil t.wrote ∙ told.wrote;
       served = adds.served ∙ ap (λ (n : ℕ). n + served_in notes) told.served ∙ sym served;
-      served_bytes = adds.served_bytes ∙ ap (λ (n : ℕ). n + size_in notes) told.served_bytes ∙ sym size;
+      served_bytes = adds.served_bytes ∙ ap (λ (n : ℕ). n + bytes_served_in notes) told.served_bytes ∙ sym size;
     }
 
 -- a record that names no connection may be left out
-pub named-tells : (may : Tale → Rec → Type 0) (c : ℕ) (t : Tale) (rs : List Rec) → Each (IsNoteOf c) rs → TellsBy may c t rs → TellsBy may c t (named rs)
+pub named-tells : (may : Tale → Rec → Type 0) (c : ℕ) (t : Tale) (rs : List Rec) → Each (IsNoteOf c) rs → TellsBy may c t rs → TellsBy may c t (named_records rs)
 named-tells may c t [] h e = tt
 named-tells may c t (rec.Hit n path ∷ rs) h e = named-tells may c t rs h.1 e.1
 named-tells may c t (rec.Served place d r code size via ∷ rs) h e = (e.0, named-tells may c (tale_step c t (rec.Served place d r code size via)) rs h.1 e.1)

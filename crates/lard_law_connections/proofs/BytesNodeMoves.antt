@@ -18,7 +18,7 @@ use Rattle.lard_law_connections.proofs.PlacesFrontRules.{has-each}
 use Rattle.lard_law_connections.proofs.PlacesHeads.{kinds-same}
 use Rattle.lard_law_connections.proofs.PlacesTurns.{IsPlaced}
 use Rattle.lard_law_view.specs.Carry.{TellsBy, tale_at}
-use Rattle.lard_law_view.specs.View.{AreSent, Conn, Move, Part, Setting, letter, node_put, nothing_said, stands, with_node}
+use Rattle.lard_law_view.specs.View.{AreSent, Conn, Move, Part, Setting, letter, node_put_back, nothing_said, stands, with_node}
 use Rattle.lard_law_view.proofs.Parts.{put-same}
 use Rattle.lard_law_view.proofs.Rows.{tale_before}
 use Rattle.lard_endpoint.specs.Control.{ControlBlock}
@@ -33,7 +33,7 @@ use Rattle.lard_history.specs.Own.{Seen}
 use Rattle.lard_history.proofs.Each.{Each, Each-append}
 use Rattle.lard_journal.specs.declared.rec.Rec.{Rec}
 use Rattle.lard_law_view.specs.Agreement.{AreReplies}
-use Rattle.lard_law_view.specs.Keeping.{resets, served_in, size_in}
+use Rattle.lard_law_view.specs.Keeping.{is_reset_record, served_in, bytes_served_in}
 use Rattle.lard_law_view.specs.Truthful.{Talk}
 use Rattle.lard_message.specs.declared.message.Body.{Body}
 use Rattle.lard_message.specs.declared.message.Body.TheVariants as body
@@ -75,8 +75,8 @@ IsAt n (stage.Moved m d) = m ≡ n
 IsAt n _ = ⊥
 
 module _ (x : Conn) (n : ℕ) (q : NodePart) where
-  put-at : (m : ℕ) → m ≡ n → node_put x.part.nodes n q m ≡ q
-  put-at m e = ap (node_put x.part.nodes n q) e ∙ put-same x.part.nodes n q
+  put-at : (m : ℕ) → m ≡ n → node_put_back x.part.nodes n q m ≡ q
+  put-at m e = ap (node_put_back x.part.nodes n q) e ∙ put-same x.part.nodes n q
 
   -- what node n keeps anew agrees, so the connection does
   stage-with : (w out : Stream) (vs pend : List Verdict) (r : Bool) (e : ℕ) (d : FrontConn) → IsAt n d → IsDecided e q.row → NodeAgrees w out vs pend r x.c q → StageAgrees w out vs pend r x.c (with_node x.part n q) e d
@@ -88,14 +88,14 @@ module _ (x : Conn) (n : ℕ) (q : NodePart) where
       → SeatAgrees w out vs pend r x.c (with_node x.part n q) x.part.front.row
   seat-with w out vs pend r row found at decided h = subst (SeatAgrees w out vs pend r x.c (with_node x.part n q)) (sym found) (stage-with w out vs pend r row.epoch.0 row.stage at decided h)
 
-  pub ends-put : ((e : ℕ) → IsOver e (x.part.nodes n).row → HasEnded e x.part.front.row) → (i e : ℕ) → IsOver e (x.part.nodes i).row → ((node_put x.part.nodes n q i).kept ≡ (x.part.nodes i).kept) ⊎ HasEnded e x.part.front.row
+  pub ends-put : ((e : ℕ) → IsOver e (x.part.nodes n).row → HasEnded e x.part.front.row) → (i e : ℕ) → IsOver e (x.part.nodes i).row → ((node_put_back x.part.nodes n q i).kept ≡ (x.part.nodes i).kept) ⊎ HasEnded e x.part.front.row
   ends-put known i e over = go (i == n) refl where
     go : (b : Bool) → (i == n) ≡ b → ((cond b q (x.part.nodes i)).kept ≡ (x.part.nodes i).kept) ⊎ HasEnded e x.part.front.row
     go true same = inr (known e (subst (λ (j : ℕ). IsOver e (x.part.nodes j).row) (eqb-true i n same) over))
     go false same = inl refl
 
   -- and what it keeps of its batch is on its way
-  pub ways-put : (files : FilesAt) → ((i : ℕ) → StayComesOn files (x.part.nodes i).stay) → StayComesOn files q.stay → (i : ℕ) → StayComesOn files (node_put x.part.nodes n q i).stay
+  pub ways-put : (files : FilesAt) → ((i : ℕ) → StayComesOn files (x.part.nodes i).stay) → StayComesOn files q.stay → (i : ℕ) → StayComesOn files (node_put_back x.part.nodes n q i).stay
   ways-put files ways mine i = go (i == n) where
     go : (b : Bool) → StayComesOn files (cond b q (x.part.nodes i)).stay
     go true = mine
@@ -185,8 +185,8 @@ module _ (k : Setting) (small : k.stream ≤ 2 ^ 30) (x : Conn) (s : Station) (t
   pub record Noted (c : ℕ) (all notes : List Rec) : Type 0 where
     pub each : Each (IsNoteOf c) notes → Each (IsNoteOf c) all
     pub served : Each (IsNoteOf c) notes → served_in all ≡ served_in notes
-    pub size : Each (IsNoteOf c) notes → size_in all ≡ size_in notes
-    pub reset : Each (IsNoteOf c) notes → list_any resets all ≡ list_any resets notes
+    pub size : Each (IsNoteOf c) notes → bytes_served_in all ≡ bytes_served_in notes
+    pub reset : Each (IsNoteOf c) notes → list_any is_reset_record all ≡ list_any is_reset_record notes
     pub serve : Each (IsNoteOf c) notes → (t : Tale) → TellsBy (AnswersAfter k.files c) c t notes → TellsBy (AnswersAfter k.files c) c t all
 
   abbrev pub does_with : List Rec → NodePart × NodeTurn → Move
@@ -219,12 +219,12 @@ module _ (k : Setting) (small : k.stream ≤ 2 ^ 30) (x : Conn) (s : Station) (t
   does-goes notes given e all quiet t row found at same known help =
       let v : Move = does_with notes given in
       let each = t.noted.each in
-      let reset : list_any resets notes ≡ list_any resets given.1.notes = all.reset each in
-      let back : (l.was_reset || list_any resets given.1.notes) ≡ (l.was_reset || list_any resets notes) = ap (λ b. l.was_reset || b) (sym reset) in
+      let reset : list_any is_reset_record notes ≡ list_any is_reset_record given.1.notes = all.reset each in
+      let back : (l.was_reset || list_any is_reset_record given.1.notes) ≡ (l.was_reset || list_any is_reset_record notes) = ap (λ b. l.was_reset || b) (sym reset) in
       let after : Talk = talk_after k.files x s there l pend o v t.out_after t.vs_after in
       let ends = ends-put x n given.0 known in
       let on : GoesOnFairly l after x.part v.part = record {
-        talk = record { w = goes_on-same l.w; out = t.longer; reset = λ f. ap (λ b. b || list_any resets notes) f };
+        talk = record { w = goes_on-same l.w; out = t.longer; reset = λ f. ap (λ b. b || list_any is_reset_record notes) f };
         grows = help.owes.grows;
         offers = λ i f a b. refl;
         ends = ends;
@@ -247,7 +247,7 @@ module _ (k : Setting) (small : k.stream ≤ 2 ^ 30) (x : Conn) (s : Station) (t
         longer = t.longer;
         says = t.says;
         seat = subst (λ (b : Bool). SeatAgrees l.w t.out_after t.vs_after t.pend_after b x.c v.part x.part.front.row) back
-            (seat-with x n given.0 l.w t.out_after t.vs_after t.pend_after (l.was_reset || list_any resets given.1.notes) row found at (subst (λ (f : ℕ). IsDecided f given.0.row) (sym same) t.decided) t.agrees);
+            (seat-with x n given.0 l.w t.out_after t.vs_after t.pend_after (l.was_reset || list_any is_reset_record given.1.notes) row found at (subst (λ (f : ℕ). IsDecided f given.0.row) (sym same) t.decided) t.agrees);
         ways = ways-put x n given.0 k.files o.ways t.ways;
         noted = record {
           each = all.each each;
@@ -262,7 +262,7 @@ module _ (k : Setting) (small : k.stream ≤ 2 ^ 30) (x : Conn) (s : Station) (t
       })
 
   -- it says this, and keeps what it kept
-  pub stands-goes : (notes : List Rec) (messages : List (Place × List ℕ)) → Each (IsNoteOf x.c) notes → served_in notes ≡ 0 → size_in notes ≡ 0 → list_any resets notes ≡ false
+  pub stands-goes : (notes : List Rec) (messages : List (Place × List ℕ)) → Each (IsNoteOf x.c) notes → served_in notes ≡ 0 → bytes_served_in notes ≡ 0 → list_any is_reset_record notes ≡ false
       → bytes_of (tale_before x (stands x (Node n) heads (record nothing_said { notes = notes; messages = messages }))) ≡ bytes_of (tale_at x)
       → Each (IsFair l x.c x.part) (map (letter (Node n)) messages) → Helps x (stands x (Node n) heads (record nothing_said { notes = notes; messages = messages }))
       → IsTrueMove k.files x (stands x (Node n) heads (record nothing_said { notes = notes; messages = messages }))

@@ -1,6 +1,6 @@
 -- The acknowledgement of an end, what a node does for others, and what changes nothing, leave a connection in agreement.
 use Rattle.lard_segment.specs.Segment as spelling
-use Rattle.lard_law_view.specs.Keeping.{resets, served_in, size_in}
+use Rattle.lard_law_view.specs.Keeping.{is_reset_record, served_in, bytes_served_in}
 use Rattle.lard_law_connections.specs.BytesTurning.{IsNoteOf}
 use Rattle.std.proofs.Common.{Bool, List, None, Option, Result, Some, [], ap, arith, cond, eqb-true, false, inl, inr, map, refl, subst, sym, true, ℕ, ⊎_elim, ◌&&◌, ◌<◌, ◌==◌, ◌^◌, ◌∙◌, ◌∷◌, ◌≡◌, ◌≤◌}
 use Rattle.std.specs.List.{list_any}
@@ -11,9 +11,9 @@ use Rattle.lard_base.specs.declared.parts.EndpointParts.{EndpointParts}
 use Rattle.lard_base.specs.declared.place.Place.{Place}
 use Rattle.lard_base.specs.declared.place.Place.TheVariants.{Front, Node}
 use Rattle.lard_base.specs.declared.place.TimerKind.TheVariants as timer
-use Rattle.lard_law_connections.specs.BytesAgreement.{ConnAgrees, IsFair, IsInner, IsOffering, IsOpen, IsTruthful, IsUnopened, NodeAgrees, SeatAgrees, StageAgrees}
+use Rattle.lard_law_connections.specs.BytesAgreement.{ConnAgrees, IsFair, IsInner, IsOffering, IsOpen, IsTruthful, IsConnUnopened, NodeAgrees, SeatAgrees, StageAgrees}
 use Rattle.lard_law_connections.proofs.BytesLaw.{Helps, IsSeenTrue, IsTrueMove, OwnerServes, StaysTruthful}
-use Rattle.lard_law_connections.specs.BytesRecords.{IsTrueAfter}
+use Rattle.lard_law_connections.specs.BytesRecords.{IsOwnedTrueAfter}
 use Rattle.lard_law_connections.proofs.BytesNext.{mute-answers}
 use Rattle.lard_law_connections.proofs.BytesTelling.{Tells, gave-true, heads-true, messages-true, notes-true, timers-true}
 use Rattle.lard_law_connections.proofs.BytesClientMoves.{has-fair, open-at}
@@ -25,7 +25,7 @@ use Rattle.lard_law_connections.proofs.BytesTold.{Bytes, bytes_of, gave-fin, hea
 use Rattle.lard_law_connections.specs.Places.{HasEnded, IsDecided, IsOver, IsPast, Owning, Sits, owning}
 use Rattle.lard_law_connections.proofs.PlacesFrontMessages.{came-says}
 use Rattle.lard_law_view.specs.Carry.{tale_at}
-use Rattle.lard_law_view.specs.View.{Conn, IsNodeEnv, Move, NodeRules, Said, Setting, Spells, Was, contents, epoch_in, event_seen, grown, letter, letters_of, node_does, node_put, nothing_said, packet_seen, reads_first, seen_in, sending, stands, timer_rows, with_node}
+use Rattle.lard_law_view.specs.View.{Conn, IsNodeEnv, Move, NodeRules, TurnSaid, Setting, SpellsMessage, Was, content_said, epoch_in, event_seen, grown, letter, letters_of, node_does, node_put_back, nothing_said, packet_seen, reads_first, seen_in, sending, stands, timer_rows, with_node}
 use Rattle.lard_law_view.proofs.Rows.{grown-tale, move-lawful, tale_before, tale_said}
 use Rattle.lard_law_view.proofs.Timers.{timer_rows-are}
 use Rattle.lard_handoff_back.specs.declared.row.BackConn.TheVariants as back
@@ -42,7 +42,7 @@ use Rattle.lard_journal.specs.declared.rec.Rec.{Rec}
 use Rattle.lard_journal.specs.declared.rec.Rec.TheVariants as rec
 use Rattle.lard_law_view.specs.Truthful.{Talk}
 use Rattle.lard_message.specs.declared.message.Body.TheVariants as body
-use Rattle.lard_rules.specs.Node.{Deed, Does, Drops, NodePart, Says, both_of, come_by, gone, node_acknowledged, node_content, node_forwarded, node_offered, node_read, node_tagged, node_timer, read_by, saying}
+use Rattle.lard_rules.specs.Node.{NodeDeed, Does, Drops, NodePart, Says, both_of, come_by, gone, node_acknowledged, node_content, node_forwarded, node_offered, node_read, node_tagged, node_timer, node_read_by, node_saying}
 use Rattle.lard_rules.specs.Stay.{NodeEnv}
 use Rattle.lard_request.specs.declared.verdict.Verdict.{Verdict}
 use Rattle.lard_resend.specs.Kept.{without}
@@ -55,11 +55,11 @@ use Rattle.lard_law_view.specs.Truth.{Stream}
 
 -- ---- the acknowledgement of an end
 
-module _ (k : Setting) (small : k.stream ≤ 2 ^ 30) (x : Conn) (s : Station) (there : x.part.station ≡ Some s) (l : Talk) (pend : List Verdict) (o : IsOpen k.files x l pend s) (n : ℕ) (heads : List Seen) (quiet : (d : Deed) → bytes_of (tale_before x (node_does x n heads d)) ≡ bytes_of (tale_at x)) where
+module _ (k : Setting) (small : k.stream ≤ 2 ^ 30) (x : Conn) (s : Station) (there : x.part.station ≡ Some s) (l : Talk) (pend : List Verdict) (o : IsOpen k.files x l pend s) (n : ℕ) (heads : List Seen) (quiet : (d : NodeDeed) → bytes_of (tale_before x (node_does x n heads d)) ≡ bytes_of (tale_at x)) where
   abbrev p : NodePart
   p = x.part.nodes n
 
-  abbrev Goes : Deed → Type 0
+  abbrev Goes : NodeDeed → Type 0
   Goes d = Helps x (node_does x n heads d) → IsTrueMove k.files x (node_does x n heads d)
 
   module _ (row : BackRow) (found : p.row ≡ Some row) (ended : HasEnded row.epoch.0 x.part.front.row) where
@@ -70,14 +70,14 @@ module _ (k : Setting) (small : k.stream ≤ 2 ^ 30) (x : Conn) (s : Station) (t
     gone-is = ap gone found
 
     -- the connection is elsewhere: in a later epoch
-    past-put : (m e : ℕ) → row.epoch.0 < e → IsPast e (x.part.nodes m).row → IsPast e (node_put x.part.nodes n q m).row
+    past-put : (m e : ℕ) → row.epoch.0 < e → IsPast e (x.part.nodes m).row → IsPast e (node_put_back x.part.nodes n q m).row
     past-put m e less h = go (m == n) where
       go : (b : Bool) → IsPast e (cond b q (x.part.nodes m)).row
       go true = subst (IsPast e) (sym gone-is) (less, tt)
       go false = h
 
     has-put : (m e : ℕ) → row.epoch.0 < e → IsDecided e (x.part.nodes m).row × NodeAgrees l.w l.out l.vs pend l.was_reset x.c (x.part.nodes m)
-        → IsDecided e (node_put x.part.nodes n q m).row × NodeAgrees l.w l.out l.vs pend l.was_reset x.c (node_put x.part.nodes n q m)
+        → IsDecided e (node_put_back x.part.nodes n q m).row × NodeAgrees l.w l.out l.vs pend l.was_reset x.c (node_put_back x.part.nodes n q m)
     has-put m e less h = go (m == n) refl where
       go : (b : Bool) → (m == n) ≡ b → IsDecided e (cond b q (x.part.nodes m)).row × NodeAgrees l.w l.out l.vs pend l.was_reset x.c (cond b q (x.part.nodes m))
       go true same = let g : e ≤ row.epoch.0 = subst (IsDecided e) found (subst (λ (i : ℕ). IsDecided e (x.part.nodes i).row) (eqb-true m n same) h.0) in absurd (omega (arith, g, less))
@@ -98,34 +98,34 @@ module _ (k : Setting) (small : k.stream ≤ 2 ^ 30) (x : Conn) (s : Station) (t
     over-known f over None less = absurd less
     over-known f over (Some g) less = let le : IsOver f (Some row) = subst (IsOver f) found over in omega (arith, le.0, less)
 
-    gone-goes : Goes (Does (q, saying []))
-    gone-goes help = move-goes k.files x s there l pend o (node_does x n heads (Does (q, saying []))) help
-        (record { heads = quiet (Does (q, saying [])); station = refl; offers = λ i f a b. refl; ends = ends-put x n q (λ f over. over-known f over x.part.front.row ended) })
-        (idle-goes k.files x s there l pend o (node_does x n heads (Does (q, saying []))) (record { each = tt; served = refl; size = refl; reset = refl; seat = row-put x.part.front.row ended o.seat; ways = ways-put x n q k.files o.ways (o.ways n); sent = tt; letters = tt }))
+    gone-goes : Goes (Does (q, node_saying []))
+    gone-goes help = move-goes k.files x s there l pend o (node_does x n heads (Does (q, node_saying []))) help
+        (record { heads = quiet (Does (q, node_saying [])); station = refl; offers = λ i f a b. refl; ends = ends-put x n q (λ f over. over-known f over x.part.front.row ended) })
+        (idle-goes k.files x s there l pend o (node_does x n heads (Does (q, node_saying []))) (record { each = tt; served = refl; size = refl; reset = refl; seat = row-put x.part.front.row ended o.seat; ways = ways-put x n q k.files o.ways (o.ways n); sent = tt; letters = tt }))
 
   rest-drops : Goes Drops
   rest-drops help = stands-goes k small x s there l pend o n heads [] [] tt refl refl refl (quiet Drops) tt help
 
   acknowledged-goes : (env : NodeEnv) → HasEnded env.epoch x.part.front.row → Goes (node_acknowledged env p)
   acknowledged-goes env ended = by-row p.row refl where
-    by-row : (r : Option BackRow) → p.row ≡ r → Goes (cond (awaits_ack env.epoch r) (Does (record p { row = gone p.row; kept = without timer.Ended 0 p.kept }, saying [])) Drops)
+    by-row : (r : Option BackRow) → p.row ≡ r → Goes (cond (awaits_ack env.epoch r) (Does (record p { row = gone p.row; kept = without timer.Ended 0 p.kept }, node_saying [])) Drops)
     by-row None found = rest-drops
     by-row (Some row) found = go (row.epoch.0 == env.epoch && is_ended row.stage) refl where
-      go : (b : Bool) → (row.epoch.0 == env.epoch && is_ended row.stage) ≡ b → Goes (cond b (Does (record p { row = gone p.row; kept = without timer.Ended 0 p.kept }, saying [])) Drops)
+      go : (b : Bool) → (row.epoch.0 == env.epoch && is_ended row.stage) ≡ b → Goes (cond b (Does (record p { row = gone p.row; kept = without timer.Ended 0 p.kept }, node_saying [])) Drops)
       go true e = gone-goes row found (subst (λ (f : ℕ). HasEnded f x.part.front.row) (sym (eqb-true row.epoch.0 env.epoch (and_parts (row.epoch.0 == env.epoch) (is_ended row.stage) e).0)) ended)
       go false e = rest-drops
 
 -- ---- nothing of bytes happens to one whose client did not open
 
 module _ (files : FilesAt) (x : Conn) (none : x.part.station ≡ None) (h : IsTruthful files x) where
-  never : IsUnopened x
+  never : IsConnUnopened x
   never = subst (ConnAgrees files x h.talk h.pend) none h.agrees
 
   -- what is told then is of no stream
   abbrev nobody : Stream
   nobody = record { first = 0; bytes = []; ended = true }
 
-  module _ (place : Place) (heads : List Seen) (said : Said) (each : Each (IsNoteOf x.c) said.notes) (served : served_in said.notes ≡ 0) (calm : list_any resets said.notes ≡ false) (silent : said.segments ≡ []) (help : Helps x (stands x place heads said)) where
+  module _ (place : Place) (heads : List Seen) (said : TurnSaid) (each : Each (IsNoteOf x.c) said.notes) (served : served_in said.notes ≡ 0) (calm : list_any is_reset_record said.notes ≡ false) (silent : said.segments ≡ []) (help : Helps x (stands x place heads said)) where
     abbrev v : Move
     v = stands x place heads said
 
@@ -147,7 +147,7 @@ module _ (files : FilesAt) (x : Conn) (none : x.part.station ≡ None) (h : IsTr
         ∙ never.fin
 
     seen-true : EachRow (IsSeenTrue files x.c) x.seen (seen_in x v)
-    seen-true = move-lawful (IsTrueAfter files x.c) x v (heads-true files x.c x.seen heads help.heads)
+    seen-true = move-lawful (IsOwnedTrueAfter files x.c) x v (heads-true files x.c x.seen heads help.heads)
         (notes-true files x.c nobody before said.notes each (inr served) (λ e. refl)
         (subst (λ (o : Option Place). OwnerServes x.c o said.notes) (sym (ap (λ (w : Owning). w.owner) help.owes.same)) help.serves) (mute-answers files x.c before said.notes each served calm))
         (subst (λ (ss : List (Place × List ℕ)). Tells files x.c noted (map (sending place) ss)) (sym silent) tt)
@@ -187,15 +187,15 @@ module _ (files : FilesAt) (x : Conn) (none : x.part.station ≡ None) (h : IsTr
 -- ---- the rules
 
 -- of one whose client did not open no packet comes between the front end and a node
-pub front-opens : (x : Conn) (n : ℕ) (bytes : List ℕ) → Was x Front (Node n) bytes → IsUnopened x → ⊥
+pub front-opens : (x : Conn) (n : ℕ) (bytes : List ℕ) → Was x Front (Node n) bytes → IsConnUnopened x → ⊥
 front-opens x n bytes was u = (has-fair IsInner (record { from = Front; to = Node n; bytes = bytes }) x.letters was u.inner).0
 
-node-quiet : (x : Conn) (from : Place) (n : ℕ) (bytes : List ℕ) (d : Deed) → bytes_of (tale_before x (node_does x n (packet_seen from (Node n) bytes) d)) ≡ bytes_of (tale_at x)
+node-quiet : (x : Conn) (from : Place) (n : ℕ) (bytes : List ℕ) (d : NodeDeed) → bytes_of (tale_before x (node_does x n (packet_seen from (Node n) bytes) d)) ≡ bytes_of (tale_at x)
 node-quiet x from n bytes Drops = refl
 node-quiet x from n bytes (Says messages) = refl
 node-quiet x from n bytes (Does given) = refl
 
-event-quiet : (x : Conn) (n : ℕ) (d : Deed) → bytes_of (tale_before x (node_does x n (event_seen (event.Timer (Node n) x.c)) d)) ≡ bytes_of (tale_at x)
+event-quiet : (x : Conn) (n : ℕ) (d : NodeDeed) → bytes_of (tale_before x (node_does x n (event_seen (event.Timer (Node n) x.c)) d)) ≡ bytes_of (tale_at x)
 event-quiet x n Drops = refl
 event-quiet x n (Says messages) = refl
 event-quiet x n (Does given) = refl
@@ -208,13 +208,13 @@ module _ (k : Setting) (small : k.stream ≤ 2 ^ 30) where
     go None e = none e
     go (Some s) e = opened s e
 
-  offered-stays : (x : Conn) (n epoch : ℕ) (env : NodeEnv) (parts : EndpointParts) (bytes : List ℕ) → IsNodeEnv k x.c n epoch env → Spells x.c epoch (body.Offer parts) bytes → Was x Front (Node n) bytes
+  offered-stays : (x : Conn) (n epoch : ℕ) (env : NodeEnv) (parts : EndpointParts) (bytes : List ℕ) → IsNodeEnv k x.c n epoch env → SpellsMessage x.c epoch (body.Offer parts) bytes → Was x Front (Node n) bytes
       → StaysTruthful k x (node_does x n (packet_seen Front (Node n) bytes) (node_offered env (x.part.nodes n) parts))
   offered-stays x n epoch env parts bytes is spells was help h =
       let opened = opened-at k.files x h (front-opens x n bytes was) in
       offers-goes k small x opened.0 opened.1 h.talk h.pend (open-at k.files x opened.0 opened.1 h) n env epoch is (packet_seen Front (Node n) bytes) (node-quiet x Front n bytes) parts bytes spells was help
 
-  forwarded-stays : (x : Conn) (n epoch : ℕ) (env : NodeEnv) (segment bytes : List ℕ) → IsNodeEnv k x.c n epoch env → Spells x.c epoch (body.Forward segment) bytes → Was x Front (Node n) bytes
+  forwarded-stays : (x : Conn) (n epoch : ℕ) (env : NodeEnv) (segment bytes : List ℕ) → IsNodeEnv k x.c n epoch env → SpellsMessage x.c epoch (body.Forward segment) bytes → Was x Front (Node n) bytes
       → StaysTruthful k x (node_does x n (packet_seen Front (Node n) bytes) (node_forwarded env (x.part.nodes n) (decoded segment x.c ToCluster)))
   forwarded-stays x n epoch env segment bytes is spells was help h =
       let opened = opened-at k.files x h (front-opens x n bytes was) in
@@ -225,34 +225,34 @@ module _ (k : Setting) (small : k.stream ≤ 2 ^ 30) where
       (sym (ap (λ (b : List ℕ). decoded b x.c ToCluster) f.1 ∙ again x.c ToCluster f.0 f.2.sendable))
       (forwards-goes k small x opened.0 opened.1 h.talk h.pend o n env epoch is heads (node-quiet x Front n bytes) f.0 f.2) help
 
-  tagged-stays : (x : Conn) (n epoch number : ℕ) (nodes : List ℕ) (env : NodeEnv) (bytes : List ℕ) → IsNodeEnv k x.c n epoch env → Spells x.c epoch (body.Tag number nodes) bytes → Was x Front (Node n) bytes
+  tagged-stays : (x : Conn) (n epoch number : ℕ) (nodes : List ℕ) (env : NodeEnv) (bytes : List ℕ) → IsNodeEnv k x.c n epoch env → SpellsMessage x.c epoch (body.Tag number nodes) bytes → Was x Front (Node n) bytes
       → StaysTruthful k x (node_does x n (packet_seen Front (Node n) bytes) (node_tagged env (x.part.nodes n) number nodes))
   tagged-stays x n epoch number nodes env bytes is spells was help h =
       let opened = opened-at k.files x h (front-opens x n bytes was) in
       tags-goes k small x opened.0 opened.1 h.talk h.pend (open-at k.files x opened.0 opened.1 h) n env epoch is (packet_seen Front (Node n) bytes) (node-quiet x Front n bytes) number nodes help
 
-  acknowledged-stays : (x : Conn) (n epoch : ℕ) (env : NodeEnv) (bytes : List ℕ) → IsNodeEnv k x.c n epoch env → Spells x.c epoch body.EndedAck bytes → Was x Front (Node n) bytes
+  acknowledged-stays : (x : Conn) (n epoch : ℕ) (env : NodeEnv) (bytes : List ℕ) → IsNodeEnv k x.c n epoch env → SpellsMessage x.c epoch body.EndedAck bytes → Was x Front (Node n) bytes
       → StaysTruthful k x (node_does x n (packet_seen Front (Node n) bytes) (node_acknowledged env (x.part.nodes n)))
   acknowledged-stays x n epoch env bytes is spells was help h =
       let opened = opened-at k.files x h (front-opens x n bytes was) in
       acknowledged-goes k small x opened.0 opened.1 h.talk h.pend (open-at k.files x opened.0 opened.1 h) n (packet_seen Front (Node n) bytes) (node-quiet x Front n bytes) env
       (subst (λ (e : ℕ). HasEnded e x.part.front.row) (sym is.epoch_is) (came-says x Front (Node n) epoch body.EndedAck bytes help.placed.letters was spells)) help
 
-  content-stays : (x : Conn) (n from epoch r : ℕ) (env : NodeEnv) (file bytes : List ℕ) → IsNodeEnv k x.c n epoch env → Spells x.c epoch (body.Content r file) bytes → Was x (Node from) (Node n) bytes
+  content-stays : (x : Conn) (n from epoch r : ℕ) (env : NodeEnv) (file bytes : List ℕ) → IsNodeEnv k x.c n epoch env → SpellsMessage x.c epoch (body.Content r file) bytes → Was x (Node from) (Node n) bytes
       → StaysTruthful k x (node_does x n (packet_seen (Node from) (Node n) bytes) (node_content env (x.part.nodes n) from r))
   content-stays x n from epoch r env file bytes is spells was help h =
       let heads : List Seen = packet_seen (Node from) (Node n) bytes in
-      let Goes : Deed → Type 0 = λ d. Helps x (node_does x n heads d) → IsTrueMove k.files x (node_does x n heads d) in
+      let Goes : NodeDeed → Type 0 = λ d. Helps x (node_does x n heads d) → IsTrueMove k.files x (node_does x n heads d) in
       by-station x (IsTrueMove k.files x (node_does x n heads (node_content env (x.part.nodes n) from r)))
       (λ s there. contents-goes k small x s there h.talk h.pend (open-at k.files x s there h) n env epoch is heads (node-quiet x (Node from) n bytes) from r help)
       (λ none. subst Goes (sym (ap (come_by env from r (x.part.nodes n)) (nothing-here k.files x none h n env.epoch help.placed.sits))) (λ o. unopened-goes k.files x none h (Node n) heads nothing_said tt refl refl refl o refl tt) help)
 
   read-stays : (x : Conn) (n epoch r : ℕ) (env : NodeEnv) (path : List ℕ) → IsNodeEnv k x.c n epoch env → StaysTruthful k x (reads_first (rec.Read n n x.c r path) (node_does x n [] (node_read env (x.part.nodes n) r)))
   read-stays x n epoch r env path is help h =
-      let Goes : Deed → Type 0 = λ d. Helps x (reads_first (rec.Read n n x.c r path) (node_does x n [] d)) → IsTrueMove k.files x (reads_first (rec.Read n n x.c r path) (node_does x n [] d)) in
+      let Goes : NodeDeed → Type 0 = λ d. Helps x (reads_first (rec.Read n n x.c r path) (node_does x n [] d)) → IsTrueMove k.files x (reads_first (rec.Read n n x.c r path) (node_does x n [] d)) in
       by-station x (IsTrueMove k.files x (reads_first (rec.Read n n x.c r path) (node_does x n [] (node_read env (x.part.nodes n) r))))
       (λ s there. read-goes k small x s there h.talk h.pend (open-at k.files x s there h) n env epoch is r path help)
-      (λ none. subst Goes (sym (ap (read_by env r (x.part.nodes n)) (nothing-here k.files x none h n env.epoch help.placed.sits)))
+      (λ none. subst Goes (sym (ap (node_read_by env r (x.part.nodes n)) (nothing-here k.files x none h n env.epoch help.placed.sits)))
       (λ o. unopened-goes k.files x none h (Node n) [] (record nothing_said { notes = rec.Read n n x.c r path ∷ [] }) (tt, tt) refl refl refl o refl tt) help)
 
   fires-stays : (x : Conn) (s : Station) (n : ℕ) (env : NodeEnv) → x.part.station ≡ Some s → IsNodeEnv k x.c n (epoch_in (x.part.nodes n)) env
@@ -261,7 +261,7 @@ module _ (k : Setting) (small : k.stream ≤ 2 ^ 30) where
       fires-goes k small x s there h.talk h.pend (open-at k.files x s there h) n env (epoch_in (x.part.nodes n)) is (event_seen (event.Timer (Node n) x.c)) (event-quiet x n) is.epoch_is help
 
   -- what it does for another node
-  for-others : (x : Conn) (n : ℕ) (heads : List Seen) (notes : List Rec) (messages : List (Place × List ℕ)) → Each (IsNoteOf x.c) notes → served_in notes ≡ 0 → size_in notes ≡ 0 → list_any resets notes ≡ false
+  for-others : (x : Conn) (n : ℕ) (heads : List Seen) (notes : List Rec) (messages : List (Place × List ℕ)) → Each (IsNoteOf x.c) notes → served_in notes ≡ 0 → bytes_served_in notes ≡ 0 → list_any is_reset_record notes ≡ false
       → ((t : Tale) → bytes_of (told_on x.c t notes) ≡ bytes_of t) → bytes_of (tale_before x (stands x (Node n) heads (record nothing_said { notes = notes; messages = messages }))) ≡ bytes_of (tale_at x)
       → Each IsInner (map (letter (Node n)) messages) → ((l : Talk) → Each (IsFair l x.c x.part) (map (letter (Node n)) messages)) → StaysTruthful k x (stands x (Node n) heads (record nothing_said { notes = notes; messages = messages }))
   for-others x n heads notes messages each served size reset mute quiet inner fair help h =
@@ -278,9 +278,9 @@ module _ (k : Setting) (small : k.stream ≤ 2 ^ 30) where
     acknowledged = acknowledged-stays;
     read = read-stays;
     fires = fires-stays;
-    answers = λ x n from epoch r path file bytes there spells was. for-others x n (packet_seen (Node from) (Node n) bytes) [] (contents k n from x.c epoch r path).messages tt refl refl refl (λ t. refl) refl ((tt, tt), tt) (λ l. (tt, tt));
+    answers = λ x n from epoch r path file bytes there spells was. for-others x n (packet_seen (Node from) (Node n) bytes) [] (content_said k n from x.c epoch r path).messages tt refl refl refl (λ t. refl) refl ((tt, tt), tt) (λ l. (tt, tt));
     queues = λ x n from epoch r path file bytes there spells was. for-others x n (packet_seen (Node from) (Node n) bytes) (rec.Queued n from x.c r path ∷ []) [] (tt, tt) refl refl refl (λ t. refl) refl tt (λ l. tt);
-    brings = λ x n from epoch r path. for-others x n [] (rec.Read n from x.c r path ∷ []) (contents k n from x.c epoch r path).messages (tt, tt) refl refl refl (λ t. refl) refl ((tt, tt), tt) (λ l. (tt, tt));
+    brings = λ x n from epoch r path. for-others x n [] (rec.Read n from x.c r path ∷ []) (content_said k n from x.c epoch r path).messages (tt, tt) refl refl refl (λ t. refl) refl ((tt, tt), tt) (λ l. (tt, tt));
   }
 
   -- a packet comes, and nothing is done

@@ -30,20 +30,20 @@ use Rattle.lard_law_connections.proofs.BytesTold.{bytes_of, named-each, named-re
 use Rattle.lard_law_connections.specs.Places.{HasEnded, IsDecided, IsOffered, IsOver, IsPast, Offers, Sits, StageSits, owning}
 use Rattle.lard_law_connections.proofs.PlacesTurns.{IsPlaced}
 use Rattle.lard_law_view.specs.Carry.{tale_at}
-use Rattle.lard_law_view.specs.View.{Conn, IsNodeEnv, Setting, Spells, Was, epoch_in, letter, named, node_does, reads_first}
+use Rattle.lard_law_view.specs.View.{Conn, IsNodeEnv, Setting, SpellsMessage, Was, epoch_in, letter, named_records, node_does, reads_first}
 use Rattle.lard_law_view.proofs.Rows.{tale_before}
 use Rattle.lard_endpoint.specs.Control.{ControlBlock}
 use Rattle.lard_handoff_back.specs.declared.row.BackConn.{BackConn}
 use Rattle.lard_handoff_back.specs.declared.row.BackConn.TheVariants as back
 use Rattle.lard_handoff_back.specs.declared.row.BackRow.{BackRow}
-use Rattle.lard_handoff_back.specs.Back.{endpoint_of, offer_answer, staying}
-use Rattle.lard_handoff_back.specs.Row.{held_in, is_gone}
+use Rattle.lard_handoff_back.specs.Back.{back_endpoint, offer_answer, staying}
+use Rattle.lard_handoff_back.specs.Row.{back_held, is_gone}
 use Rattle.lard_history.specs.Own.{Seen}
 use Rattle.lard_history.proofs.Each.{Each}
 use Rattle.lard_journal.specs.declared.rec.Rec.{Rec}
 use Rattle.lard_law_view.specs.Agreement.{IsWord, SaysAnswers}
 use Rattle.lard_law_view.specs.Truthful.{Talk}
-use Rattle.lard_rules.specs.Node.{Deed, Does, Drops, NodePart, Says, again_sent, both_of, come_by, fired_by, heard_by, here, node_content, node_forwarded, node_offered, node_read, node_tagged, node_timer, offered_by, read_by, tagged_by, taken_sent}
+use Rattle.lard_rules.specs.Node.{NodeDeed, Does, Drops, NodePart, Says, again_sent, both_of, come_by, node_fired_by, node_heard_by, here, node_content, node_forwarded, node_offered, node_read, node_tagged, node_timer, offered_by, node_read_by, tagged_by, taken_sent}
 use Rattle.lard_rules.specs.declared.stay.Stay.{Stay}
 use Rattle.lard_rules.specs.Stay.{NodeEnv}
 use Rattle.lard_request.specs.declared.verdict.Verdict.{Verdict}
@@ -53,7 +53,7 @@ use Rattle.lard_law_view.specs.Truth.{IsStream}
 use Rattle.lard_law_view.proofs.Speaking.{speaks-stream}
 
 -- a node's notes that name a connection are counted as its notes
-named-noted : (c : ℕ) (notes : List Rec) (k : Setting) (small : k.stream ≤ 2 ^ 30) (x : Conn) (s : Station) (there : x.part.station ≡ Some s) (l : Talk) (pend : List Verdict) (o : IsOpen k.files x l pend s) (n : ℕ) (heads : List Seen) → Noted k small x s there l pend o n heads c (named notes) notes
+named-noted : (c : ℕ) (notes : List Rec) (k : Setting) (small : k.stream ≤ 2 ^ 30) (x : Conn) (s : Station) (there : x.part.station ≡ Some s) (l : Talk) (pend : List Verdict) (o : IsOpen k.files x l pend s) (n : ℕ) (heads : List Seen) → Noted k small x s there l pend o n heads c (named_records notes) notes
 named-noted c notes k small x s there l pend o n heads = record { each = named-each c notes; served = named-served c notes; size = named-size c notes; reset = named-resets c notes; serve = λ e t f. named-tells (AnswersAfter k.files c) c t notes e f }
 
 module _ (k : Setting) (small : k.stream ≤ 2 ^ 30) (x : Conn) (s : Station) (there : x.part.station ≡ Some s) (l : Talk) (pend : List Verdict) (o : IsOpen k.files x l pend s) (n : ℕ) (env : NodeEnv) (epoch : ℕ) (is : IsNodeEnv k x.c n epoch env) where
@@ -70,17 +70,17 @@ module _ (k : Setting) (small : k.stream ≤ 2 ^ 30) (x : Conn) (s : Station) (t
     says = subst (λ (files : FilesAt). SaysAnswers files l.w l.out l.vs) (sym is.files) o.says;
   }
 
-  own-keeps : (d : Deed) → DeedKeeps env.serve.files env.serve.c env.epoch p l.w l.out l.vs l.was_reset d → DeedKeeps k.files x.c env.epoch p l.w l.out l.vs l.was_reset d
+  own-keeps : (d : NodeDeed) → DeedKeeps env.serve.files env.serve.c env.epoch p l.w l.out l.vs l.was_reset d → DeedKeeps k.files x.c env.epoch p l.w l.out l.vs l.was_reset d
   own-keeps d h = subst (λ (files : FilesAt). DeedKeeps files x.c env.epoch p l.w l.out l.vs l.was_reset d) is.files (subst (λ (c : ℕ). DeedKeeps env.serve.files c env.epoch p l.w l.out l.vs l.was_reset d) is.number h)
 
   own-agrees : NodeAgrees l.w l.out l.vs pend l.was_reset x.c p → NodeAgrees l.w l.out l.vs pend l.was_reset env.serve.c p
   own-agrees h = subst (λ (c : ℕ). NodeAgrees l.w l.out l.vs pend l.was_reset c p) (sym is.number) h
 
-  abbrev Goes : List Seen → Deed → Type 0
+  abbrev Goes : List Seen → NodeDeed → Type 0
   Goes heads d = Helps x (node_does x n heads d) → IsTrueMove k.files x (node_does x n heads d)
 
   abbrev IsQuiet : List Seen → Type 0
-  IsQuiet heads = (d : Deed) → bytes_of (tale_before x (node_does x n heads d)) ≡ bytes_of (tale_at x)
+  IsQuiet heads = (d : NodeDeed) → bytes_of (tale_before x (node_does x n heads d)) ≡ bytes_of (tale_at x)
 
   drops-goes : (heads : List Seen) → IsQuiet heads → Goes heads Drops
   drops-goes heads quiet help = stands-goes k small x s there l pend o n heads [] [] tt refl refl refl (quiet Drops) tt help
@@ -92,37 +92,37 @@ module _ (k : Setting) (small : k.stream ≤ 2 ^ 30) (x : Conn) (s : Station) (t
       (λ f. all-node l x.c n x.part ms f) h
 
   -- where the front end knows that it is at this node, in this epoch
-  deed-with : (heads : List Seen) → IsQuiet heads → (d : Deed) → DeedKeeps k.files x.c env.epoch p l.w l.out l.vs l.was_reset d → (row : FrontRow) → x.part.front.row ≡ Some row → IsAt n row.stage → row.epoch.0 ≡ env.epoch
+  deed-with : (heads : List Seen) → IsQuiet heads → (d : NodeDeed) → DeedKeeps k.files x.c env.epoch p l.w l.out l.vs l.was_reset d → (row : FrontRow) → x.part.front.row ≡ Some row → IsAt n row.stage → row.epoch.0 ≡ env.epoch
       → ((f : ℕ) → IsOver f p.row → HasEnded f x.part.front.row) → Goes heads d
   deed-with heads quiet Drops keeps row found at same known help = drops-goes heads quiet help
   deed-with heads quiet (Says ms) keeps row found at same known help = stands-goes k small x s there l pend o n heads [] ms tt refl refl refl (quiet (Says ms)) (says-fair heads ms keeps help) help
   deed-with heads quiet (Does given) keeps row found at same known help =
-      does-goes k small x s there l pend o n heads (named given.1.notes) given env.epoch (named-noted x.c given.1.notes k small x s there l pend o n heads) (quiet (Does given)) keeps row found at same known help
+      does-goes k small x s there l pend o n heads (named_records given.1.notes) given env.epoch (named-noted x.c given.1.notes k small x s there l pend o n heads) (quiet (Does given)) keeps row found at same known help
 
-  deed-goes : (heads : List Seen) → IsQuiet heads → (d : Deed) → DeedKeeps k.files x.c env.epoch p l.w l.out l.vs l.was_reset d → It env.epoch → Goes heads d
+  deed-goes : (heads : List Seen) → IsQuiet heads → (d : NodeDeed) → DeedKeeps k.files x.c env.epoch p l.w l.out l.vs l.was_reset d → It env.epoch → Goes heads d
   deed-goes heads quiet d keeps it help = let has = it help.placed in deed-with heads quiet d keeps has.0.row has.0.found has.0.at has.0.same has.1 help
 
   -- where its endpoint is here
-  row-has : (row : BackRow) → p.row ≡ Some row → (d : BackConn) → row.stage ≡ d → (b : ControlBlock) → held_in d ≡ Some b → It row.epoch.0
+  row-has : (row : BackRow) → p.row ≡ Some row → (d : BackConn) → row.stage ≡ d → (b : ControlBlock) → back_held d ≡ Some b → It row.epoch.0
   row-has row found (back.Here c) at b e = λ placed. (has-it x l pend o.seat placed n row c found at, known x l pend o.seat placed n row c found at)
   row-has row found _ at b e = let no : None ≡ Some b = e in absurd cc
 
-  stage-or : (row : BackRow) → p.row ≡ Some row → (h : Option ControlBlock) → held_in row.stage ≡ h → row.epoch.0 ≡ env.epoch → (both_of h p.stay ≡ None) ⊎ It env.epoch
+  stage-or : (row : BackRow) → p.row ≡ Some row → (h : Option ControlBlock) → back_held row.stage ≡ h → row.epoch.0 ≡ env.epoch → (both_of h p.stay ≡ None) ⊎ It env.epoch
   stage-or row found None e same = inl refl
   stage-or row found (Some b) e same = inr (subst It same (row-has row found row.stage refl b e))
 
   here-row : (r : Option BackRow) → p.row ≡ r → (both_of (staying env.epoch r) p.stay ≡ None) ⊎ It env.epoch
   here-row None found = inl refl
   here-row (Some row) found = go (row.epoch.0 == env.epoch) refl where
-    go : (b : Bool) → (row.epoch.0 == env.epoch) ≡ b → (both_of (cond b (held_in row.stage) None) p.stay ≡ None) ⊎ It env.epoch
-    go true e = stage-or row found (held_in row.stage) refl (eqb-true row.epoch.0 env.epoch e)
+    go : (b : Bool) → (row.epoch.0 == env.epoch) ≡ b → (both_of (cond b (back_held row.stage) None) p.stay ≡ None) ⊎ It env.epoch
+    go true e = stage-or row found (back_held row.stage) refl (eqb-true row.epoch.0 env.epoch e)
     go false e = inl refl
 
   pub here-or : (here env.epoch p ≡ None) ⊎ It env.epoch
   here-or = here-row p.row refl
 
   -- a rule over what is here
-  by-here : (heads : List Seen) → IsQuiet heads → (rule : Option (ControlBlock × Stay) → Deed) → rule None ≡ Drops → ((it : It env.epoch) (placed : IsPlaced x) → DeedKeeps k.files x.c env.epoch p l.w l.out l.vs l.was_reset (rule (here env.epoch p)))
+  by-here : (heads : List Seen) → IsQuiet heads → (rule : Option (ControlBlock × Stay) → NodeDeed) → rule None ≡ Drops → ((it : It env.epoch) (placed : IsPlaced x) → DeedKeeps k.files x.c env.epoch p l.w l.out l.vs l.was_reset (rule (here env.epoch p)))
       → Goes heads (rule (here env.epoch p))
   by-here heads quiet rule none keeps help = ⊎_elim
       (λ (e : here env.epoch p ≡ None). subst (Goes heads) (sym (ap rule e ∙ none)) (drops-goes heads quiet) help)
@@ -135,7 +135,7 @@ module _ (k : Setting) (small : k.stream ≤ 2 ^ 30) (x : Conn) (s : Station) (t
   ways-here = subst (λ (files : FilesAt). StayComesOn files p.stay) (sym is.files) (o.ways n)
 
   pub forwards-goes : (heads : List Seen) → IsQuiet heads → (sd : Said) → IsWord l.w sd → Goes heads (node_forwarded env p (Ok sd))
-  forwards-goes heads quiet sd word = by-here heads quiet (heard_by env p (Ok sd)) refl (λ it placed. own-keeps (node_forwarded env p (Ok sd)) (node-hears env l.w l.out l.vs pend l.was_reset p sd talk-of (agrees-by it placed) ways-here word))
+  forwards-goes heads quiet sd word = by-here heads quiet (node_heard_by env p (Ok sd)) refl (λ it placed. own-keeps (node_forwarded env p (Ok sd)) (node-hears env l.w l.out l.vs pend l.was_reset p sd talk-of (agrees-by it placed) ways-here word))
 
   pub tags-goes : (heads : List Seen) → IsQuiet heads → (number : ℕ) (nodes : List ℕ) → Goes heads (node_tagged env p number nodes)
   tags-goes heads quiet number nodes = by-here heads quiet (tagged_by env number nodes p) refl (λ it placed. own-keeps (node_tagged env p number nodes) (tags-keep number nodes env l.w l.out l.vs pend l.was_reset p talk-of (agrees-by it placed) ways-here))
@@ -145,13 +145,13 @@ module _ (k : Setting) (small : k.stream ≤ 2 ^ 30) (x : Conn) (s : Station) (t
 
   -- ---- its timers
 
-  pub endpoint-or : (r : Option BackRow) → p.row ≡ r → env.epoch ≡ elim r [ None ↦ 0 | Some row ↦ row.epoch.0 ] → (both_of (endpoint_of r) p.stay ≡ None) ⊎ It env.epoch
+  pub endpoint-or : (r : Option BackRow) → p.row ≡ r → env.epoch ≡ elim r [ None ↦ 0 | Some row ↦ row.epoch.0 ] → (both_of (back_endpoint r) p.stay ≡ None) ⊎ It env.epoch
   endpoint-or None found same = inl refl
-  endpoint-or (Some row) found same = stage-or row found (held_in row.stage) refl (sym same)
+  endpoint-or (Some row) found same = stage-or row found (back_held row.stage) refl (sym same)
 
   pub fires-goes : (heads : List Seen) → IsQuiet heads → env.epoch ≡ epoch_in p → Goes heads (node_timer env p)
   fires-goes heads quiet same help = ⊎_elim
-      (λ (e : both_of (endpoint_of p.row) p.stay ≡ None). subst (Goes heads) (sym (ap (fired_by env p) e))
+      (λ (e : both_of (back_endpoint p.row) p.stay ≡ None). subst (Goes heads) (sym (ap (node_fired_by env p) e))
       (λ h. stands-goes k small x s there l pend o n heads [] (again_sent p) tt refl refl refl (quiet (Says (again_sent p))) (again-fair k small x s there l pend o n heads (node_does x n heads (Says (again_sent p))) h) h) help)
       (λ (it : It env.epoch). deed-goes heads quiet (node_timer env p) (own-keeps (node_timer env p) (timer-keeps env l.w l.out l.vs pend l.was_reset p talk-of (agrees-by it help.placed) ways-here)) it help)
       (endpoint-or p.row refl same)
@@ -162,30 +162,30 @@ module _ (k : Setting) (small : k.stream ≤ 2 ^ 30) (x : Conn) (s : Station) (t
     abbrev read_row : Rec
     read_row = rec.Read n n x.c r path
 
-    abbrev GoesFirst : Deed → Type 0
+    abbrev GoesFirst : NodeDeed → Type 0
     GoesFirst d = Helps x (reads_first read_row (node_does x n [] d)) → IsTrueMove k.files x (reads_first read_row (node_does x n [] d))
 
     first-drops : GoesFirst Drops
     first-drops help = stands-goes k small x s there l pend o n [] (read_row ∷ []) [] (tt, tt) refl refl refl refl tt help
 
-    first-goes : (d : Deed) → DeedKeeps k.files x.c env.epoch p l.w l.out l.vs l.was_reset d → It env.epoch → GoesFirst d
+    first-goes : (d : NodeDeed) → DeedKeeps k.files x.c env.epoch p l.w l.out l.vs l.was_reset d → It env.epoch → GoesFirst d
     first-goes Drops keeps it help = first-drops help
     first-goes (Says ms) keeps it help = stands-goes k small x s there l pend o n [] (read_row ∷ []) ms (tt, tt) refl refl refl refl
         (⊎_elim (λ (e : ms ≡ again_sent p). subst (λ (ns : List (Place × List ℕ)). Each (IsFair l x.c x.part) (map (letter (Node n)) ns)) (sym e) (again-fair k small x s there l pend o n [] (reads_first read_row (node_does x n [] (Says ms))) help)) (λ f. all-node l x.c n x.part ms f) keeps) help
     first-goes (Does given) keeps it help =
         let has = it help.placed in
-        does-goes k small x s there l pend o n [] (read_row ∷ named given.1.notes) given env.epoch
+        does-goes k small x s there l pend o n [] (read_row ∷ named_records given.1.notes) given env.epoch
         (record { each = λ e. (tt, named-each x.c given.1.notes e); served = named-served x.c given.1.notes; size = named-size x.c given.1.notes; reset = named-resets x.c given.1.notes; serve = λ e t f. ((λ J same. tt), named-tells (AnswersAfter k.files x.c) x.c t given.1.notes e f) }) refl keeps has.0.row has.0.found has.0.at has.0.same has.1 help
 
     pub read-goes : GoesFirst (node_read env p r)
     read-goes help = ⊎_elim
-        (λ (e : here env.epoch p ≡ None). subst GoesFirst (sym (ap (read_by env r p) e)) first-drops help)
+        (λ (e : here env.epoch p ≡ None). subst GoesFirst (sym (ap (node_read_by env r p) e)) first-drops help)
         (λ (it : It env.epoch). first-goes (node_read env p r) (own-keeps (node_read env p r) (reads-keep r env l.w l.out l.vs pend l.was_reset p talk-of (agrees-by it help.placed) ways-here)) it help)
         here-or
 
   -- ---- an Offer
 
-  module _ (heads : List Seen) (quiet : IsQuiet heads) (parts : EndpointParts) (bytes : List ℕ) (spells : Spells x.c epoch (body.Offer parts) bytes) (was : Was x Front (Node n) bytes) where
+  module _ (heads : List Seen) (quiet : IsQuiet heads) (parts : EndpointParts) (bytes : List ℕ) (spells : SpellsMessage x.c epoch (body.Offer parts) bytes) (was : Was x Front (Node n) bytes) where
     told : IsDecided epoch p.row ⊎ IsKept x.part.front.kept bytes
     told = (has-fair (IsFair l x.c x.part) (record { from = Front; to = Node n; bytes = bytes }) x.letters was o.fair) _ spells
 

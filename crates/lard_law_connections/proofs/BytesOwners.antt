@@ -14,8 +14,8 @@ use Rattle.lard_law_connections.proofs.PlacesLoops.{batch-state, came-notes, goe
 use Rattle.lard_law_connections.proofs.PlacesNodeRules.{Begins, here-has}
 use Rattle.lard_law_connections.proofs.PlacesRows.{IsPlain, plain-named}
 use Rattle.lard_law_connections.proofs.PlacesTurns.{IsPlaced}
-use Rattle.lard_law_view.specs.Carry.{MayMove, tale_at}
-use Rattle.lard_law_view.specs.View.{ClientRules, Conn, FrontRules, IsNodeEnv, Move, NodeRules, Setting, UntouchedRules, client_begins, client_does, front_does, named, node_does, packet_seen, event_seen, reads_first}
+use Rattle.lard_law_view.specs.Carry.{MayRestOn, tale_at}
+use Rattle.lard_law_view.specs.View.{ClientRules, Conn, FrontRules, IsNodeEnv, Move, NodeRules, Setting, UntouchedRules, client_begins, client_does, front_does, named_records, node_does, packet_seen, event_seen, reads_first}
 use Rattle.lard_law_view.proofs.Fine.{IsItsOwn}
 use Rattle.lard_law_view.proofs.Saying.{NotedAt}
 use Rattle.lard_client.specs.Control.{ClientBlock}
@@ -29,9 +29,9 @@ use Rattle.lard_endpoint.specs.Control.{ControlBlock}
 use Rattle.lard_rules.specs.declared.front.FrontRest.{FrontRest}
 use Rattle.lard_rules.specs.declared.front.FrontTurn.{FrontTurn}
 use Rattle.lard_rules.specs.Front as front
-use Rattle.lard_rules.specs.Front.{FrontEnv, FrontPart, admitted_at, admitted_by, admitted_with, ask_of, asked_by, assigned_notes, assigns, begun, ended_by, fired_by, fires_at, front_admitted, front_asked, front_ended, front_gets, front_hears, front_taken, front_timer, handed_off, heard, hears_at, is_at, over_note, placed, rest_of, settled_by, tag_sent, taken_by}
-use Rattle.lard_rules.specs.FrontReading.{Reading, reads}
-use Rattle.lard_handoff_back.specs.Back.{awaits_ack, endpoint_of, offer_answer}
+use Rattle.lard_rules.specs.Front.{FrontEnv, FrontPart, admitted_at, admitted_by, front_admitted_with, ask_of, asked_by, assigned_notes, assigns, front_begun, front_ended_by, front_fired_by, fires_at, front_admitted, front_asked, front_ended, front_gets, front_hears, front_taken, front_timer, handed_off, heard, hears_at, is_row_at, over_note, placed, front_rest, settled_by, tag_sent, taken_by}
+use Rattle.lard_rules.specs.FrontReading.{Reading, front_reads}
+use Rattle.lard_handoff_back.specs.Back.{awaits_ack, back_endpoint, offer_answer}
 use Rattle.lard_handoff_back.specs.declared.table.Adopt.{Adopt}
 use Rattle.lard_handoff_back.specs.declared.table.Adopt.TheVariants.{Again, New, Stale}
 use Rattle.lard_handoff_front.specs.declared.row.FrontConn.{FrontConn}
@@ -49,7 +49,7 @@ use Rattle.lard_lateral.specs.Lateral.{is_from}
 use Rattle.lard_law_view.proofs.Notes.{same-number}
 use Rattle.lard_rules.specs.declared.stay.Stay.{Stay}
 use Rattle.lard_rules.specs.Node as node
-use Rattle.lard_rules.specs.Node.{NodePart, begins, both_of, come_by, heard_by, here, is_awaited, node_acknowledged, node_content, node_forwarded, node_offered, node_read, node_tagged, node_timer, offered_by, read_by, tagged_by, taken_sent, with_work, work_of}
+use Rattle.lard_rules.specs.Node.{NodePart, node_begins, both_of, come_by, node_heard_by, here, is_tag_awaited, node_acknowledged, node_content, node_forwarded, node_offered, node_read, node_tagged, node_timer, offered_by, node_read_by, tagged_by, taken_sent, with_work, work_of}
 use Rattle.lard_rules.specs.Stay.{NodeEnv, Work, came_for, come_progress, goes_on, read_progress, reads_batch, tagged}
 use Rattle.lard_policy.specs.declared.first.FirstChoice.{FirstChoice}
 use Rattle.lard_resend.specs.Kept.{is_under, without}
@@ -58,7 +58,7 @@ use Rattle.lard_rules.specs.declared.places.Turn.{Turn}
 use Rattle.lard_rules.specs.Client.{client_aborts, client_gets, client_holds, client_shuts, client_takes, client_timer, client_writes}
 use Rattle.lard_rules.specs.Tombstone.{is_plain_syn, last_words, tombstone}
 use Rattle.lard_rules.specs.Loop.{state_of}
-use Rattle.lard_rules.specs.Serving.{Service, serving, settled}
+use Rattle.lard_rules.specs.Serving.{Service, serving, serving_settled}
 use Rattle.lard_segment.specs.declared.fault.SegFault.{SegFault}
 use Rattle.lard_segment.specs.declared.segment.Dir.TheVariants.{ToClient}
 use Rattle.lard_segment.specs.Segment.{Said, decoded}
@@ -112,7 +112,7 @@ pub record Known (x : Conn) (v : Move) : Type 0 where
   pub serves : OwnerServes x.c (tale_at x).owner v.said.notes
 
 abbrev pub Knows : Conn → Move → Type 0
-Knows x v = MayMove IsPlaced x → IsItsOwn x v → Known x v
+Knows x v = MayRestOn IsPlaced x → IsItsOwn x v → Known x v
 
 -- ---- a client
 
@@ -129,7 +129,7 @@ client-knows x s heads given h may own = record { heads = h; serves = silent-ser
 
 -- ---- the front end
 
-abbrev notes_of : front.Deed → List Rec
+abbrev notes_of : front.FrontDeed → List Rec
 notes_of front.Drops = []
 notes_of (front.Says turn) = turn.notes
 notes_of (front.Does did) = did.turn.notes
@@ -138,17 +138,17 @@ module _ (x : Conn) (heads : List Seen) (quiet : Each IsHead heads) where
   abbrev owner_now : Option Place
   owner_now = (tale_at x).owner
 
-  front-known : (d : front.Deed) → OwnerServes x.c owner_now (notes_of d) → Known x (front_does x heads d)
+  front-known : (d : front.FrontDeed) → OwnerServes x.c owner_now (notes_of d) → Known x (front_does x heads d)
   front-known front.Drops h = record { heads = quiet; serves = h }
   front-known (front.Says turn) h = record { heads = quiet; serves = h }
   front-known (front.Does did) h = record { heads = quiet; serves = h }
 
-  front-noted : (d : front.Deed) → IsItsOwn x (front_does x heads d) → Each (NotedAt Front x.c) (notes_of d)
+  front-noted : (d : front.FrontDeed) → IsItsOwn x (front_does x heads d) → Each (NotedAt Front x.c) (notes_of d)
   front-noted front.Drops own = tt
   front-noted (front.Says turn) own = own.notes
   front-noted (front.Does did) own = own.notes
 
-  front-plain : (d : front.Deed) → IsItsOwn x (front_does x heads d) → Each IsPlain (notes_of d) → owner_now ≡ Some Front → Known x (front_does x heads d)
+  front-plain : (d : front.FrontDeed) → IsItsOwn x (front_does x heads d) → Each IsPlain (notes_of d) → owner_now ≡ Some Front → Known x (front_does x heads d)
   front-plain d own plain e = front-known d (plain-serve Front x.c owner_now (notes_of d) (front-noted d own) plain e)
 
   -- it owns what it holds
@@ -171,22 +171,22 @@ module _ (x : Conn) (heads : List Seen) (quiet : Each IsHead heads) where
 
     heard-plain : (row : FrontRow) (rest : FrontRest) (b : ControlBlock) → Each IsPlain (notes_of (heard env p row rest b))
     heard-plain row rest b =
-        let y : Reading = reads env.serve (record { service = serving b rest.count []; target = None }) in
+        let y : Reading = front_reads env.serve (record { service = serving b rest.count []; target = None }) in
         settled-plain row rest y.service (reads-notes (Each IsPlain) plain-more env.serve (record { service = serving b rest.count []; target = None }) tt) y.target
 
   module _ (env : FrontEnv) where
     abbrev p : FrontPart
     p = x.part.front
 
-    abbrev KnowsIt : front.Deed → Type 0
+    abbrev KnowsIt : front.FrontDeed → Type 0
     KnowsIt d = IsPlaced x → IsItsOwn x (front_does x heads d) → Known x (front_does x heads d)
 
-    nothing : (d : front.Deed) → notes_of d ≡ [] → KnowsIt d
+    nothing : (d : front.FrontDeed) → notes_of d ≡ [] → KnowsIt d
     nothing d none sits own = front-known d (subst (OwnerServes x.c owner_now) (sym none) tt)
 
     hears-stage : (bytes : List ℕ) (s : Said) (row : FrontRow) (d : FrontConn) → p.row ≡ Some row → row.stage ≡ d → KnowsIt (hears_at env p row bytes s d)
     hears-stage bytes s row (stage.Held b) found at =
-        λ sits own. front-plain (hears_at env p row bytes s (stage.Held b)) own (heard-plain env p row (rest_of p.rest) (on_segment b s).1) (home-owner sits row (stage.Held b) found at tt)
+        λ sits own. front-plain (hears_at env p row bytes s (stage.Held b)) own (heard-plain env p row (front_rest p.rest) (on_segment b s).1) (home-owner sits row (stage.Held b) found at tt)
     hears-stage bytes s row (stage.Waiting b) found at = nothing (hears_at env p row bytes s (stage.Waiting b)) refl
     hears-stage bytes s row stage.Lent found at = nothing front.Drops refl
     hears-stage bytes s row (stage.Offering n e) found at = nothing (hears_at env p row bytes s (stage.Offering n e)) refl
@@ -198,8 +198,8 @@ module _ (x : Conn) (heads : List Seen) (quiet : Each IsHead heads) where
 
     hears-row : (bytes : List ℕ) (s : Said) (row : Option FrontRow) → p.row ≡ row → KnowsIt (front_hears env p bytes s row)
     hears-row bytes s None found = go (is_plain_syn s) where
-      go : (b : Bool) → KnowsIt (cond b (begun env p s) front.Drops)
-      go true = λ sits own. front-known (begun env p s) (tt, tt)
+      go : (b : Bool) → KnowsIt (cond b (front_begun env p s) front.Drops)
+      go true = λ sits own. front-known (front_begun env p s) (tt, tt)
       go false = nothing front.Drops refl
     hears-row bytes s (Some row) found = hears-stage bytes s row row.stage found refl
 
@@ -216,7 +216,7 @@ module _ (x : Conn) (heads : List Seen) (quiet : Each IsHead heads) where
     fires-none row (stage.Moved n e) = refl
     fires-none row (stage.Closed last) = refl
 
-    timer-none : (row : Option FrontRow) → notes_of (fired_by env p row) ≡ []
+    timer-none : (row : Option FrontRow) → notes_of (front_fired_by env p row) ≡ []
     timer-none None = refl
     timer-none (Some row) = fires-none row row.stage
 
@@ -225,7 +225,7 @@ module _ (x : Conn) (heads : List Seen) (quiet : Each IsHead heads) where
     taken-none epoch (Some row) None = refl
     taken-none epoch (Some row) (Some n) = refl
 
-    abbrev Silent : front.Deed → Type 0
+    abbrev Silent : front.FrontDeed → Type 0
     Silent d = Each IsSilent (notes_of d)
 
     assigned-silent : (c : ℕ) (ask : Ask) (r : ℕ) (paths : List (List ℕ)) (choices : List LaterChoice) → Each IsSilent (assigned_notes c ask r paths choices)
@@ -239,20 +239,20 @@ module _ (x : Conn) (heads : List Seen) (quiet : Each IsHead heads) where
 
     asked-silent : (n epoch : ℕ) (ask : Ask) (rest : Option FrontRest) → Silent (asked_by env p n epoch ask rest)
     asked-silent n epoch ask None = tt
-    asked-silent n epoch ask (Some rest) = cond_both (ask.number == rest.asks + 1) (front.Does (assigns env p rest n epoch ask (env.later ask))) (cond (ask.number == rest.asks && nat_lt 0 rest.asks) (front.Says (front.saying (tag_sent env n epoch rest.asks rest.tag))) front.Drops) Silent
+    asked-silent n epoch ask (Some rest) = cond_both (ask.number == rest.asks + 1) (front.Does (assigns env p rest n epoch ask (env.later ask))) (cond (ask.number == rest.asks && nat_lt 0 rest.asks) (front.Says (front.front_saying (tag_sent env n epoch rest.asks rest.tag))) front.Drops) Silent
         (λ t. over-silent env.serve.c (env.later ask).over (assigned_notes env.serve.c ask rest.assigned ask.paths (env.later ask).choices) (assigned-silent env.serve.c ask rest.assigned ask.paths (env.later ask).choices))
-        (λ t. cond_both (ask.number == rest.asks && nat_lt 0 rest.asks) (front.Says (front.saying (tag_sent env n epoch rest.asks rest.tag))) front.Drops Silent (λ u. tt) (λ u. tt))
+        (λ t. cond_both (ask.number == rest.asks && nat_lt 0 rest.asks) (front.Says (front.front_saying (tag_sent env n epoch rest.asks rest.tag))) front.Drops Silent (λ u. tt) (λ u. tt))
 
     asks-silent : (n epoch : ℕ) (ask : Ask) → Silent (front_asked env p n epoch ask)
-    asks-silent n epoch ask = cond_both (is_at n epoch p.row) (asked_by env p n epoch ask p.rest) front.Drops Silent (λ t. asked-silent n epoch ask p.rest) (λ t. tt)
+    asks-silent n epoch ask = cond_both (is_row_at n epoch p.row) (asked_by env p n epoch ask p.rest) front.Drops Silent (λ t. asked-silent n epoch ask p.rest) (λ t. tt)
 
-    ends-silent : (n epoch : ℕ) (last : Final) (row : Option FrontRow) (given : OnEnded) → Silent (ended_by env p n epoch last row given)
+    ends-silent : (n epoch : ℕ) (last : Final) (row : Option FrontRow) (given : OnEnded) → Silent (front_ended_by env p n epoch last row given)
     ends-silent n epoch last None given = tt
     ends-silent n epoch last (Some row) (ended.New next) = (tt, (tt, tt))
     ends-silent n epoch last (Some row) ended.Again = tt
     ends-silent n epoch last (Some row) ended.Stale = tt
 
-    silent-known : (d : front.Deed) → Silent d → Known x (front_does x heads d)
+    silent-known : (d : front.FrontDeed) → Silent d → Known x (front_does x heads d)
     silent-known d h = front-known d (silent-serve x.c owner_now (notes_of d) h)
 
 -- who is admitted is served nothing yet
@@ -261,12 +261,12 @@ module _ (env : FrontEnv) (p : FrontPart) where
   GivenSilent None = Unit {0}
   GivenSilent (Some given) = Each IsSilent given.1.notes
 
-  with-silent : (row : FrontRow) (rest : FrontRest) (b : ControlBlock) (choice : FirstChoice) (target : Option (List ℕ)) → GivenSilent (admitted_with env row rest b choice target)
+  with-silent : (row : FrontRow) (rest : FrontRest) (b : ControlBlock) (choice : FirstChoice) (target : Option (List ℕ)) → GivenSilent (front_admitted_with env row rest b choice target)
   with-silent row rest b choice None = tt
   with-silent row rest b choice (Some path) = (tt, (tt, tt))
 
   at-silent : (choice : FirstChoice) (row : FrontRow) (d : FrontConn) → GivenSilent (admitted_at env p choice row d)
-  at-silent choice row (stage.Waiting b) = with-silent row (rest_of p.rest) b choice (rest_of p.rest).target
+  at-silent choice row (stage.Waiting b) = with-silent row (front_rest p.rest) b choice (front_rest p.rest).target
   at-silent choice row _ = tt
 
   admitted-silent : (choice : FirstChoice) (o : Option FrontRow) → GivenSilent (admitted_by env p choice o)
@@ -275,10 +275,10 @@ module _ (env : FrontEnv) (p : FrontPart) where
 
 -- ---- a node
 
-abbrev notes_at : node.Deed → List Rec
+abbrev notes_at : node.NodeDeed → List Rec
 notes_at node.Drops = []
 notes_at (node.Says messages) = []
-notes_at (node.Does given) = named given.1.notes
+notes_at (node.Does given) = named_records given.1.notes
 
 module _ (k : Setting) (x : Conn) (heads : List Seen) (quiet : Each IsHead heads) (n epoch : ℕ) (env : NodeEnv) (is : IsNodeEnv k x.c n epoch env) where
   abbrev now : Option Place
@@ -287,23 +287,23 @@ module _ (k : Setting) (x : Conn) (heads : List Seen) (quiet : Each IsHead heads
   abbrev ours : NodePart
   ours = x.part.nodes n
 
-  node-known : (d : node.Deed) → OwnerServes x.c now (notes_at d) → Known x (node_does x n heads d)
+  node-known : (d : node.NodeDeed) → OwnerServes x.c now (notes_at d) → Known x (node_does x n heads d)
   node-known node.Drops h = record { heads = quiet; serves = h }
   node-known (node.Says messages) h = record { heads = quiet; serves = h }
   node-known (node.Does given) h = record { heads = quiet; serves = h }
 
-  node-noted : (d : node.Deed) → IsItsOwn x (node_does x n heads d) → Each (NotedAt (Node n) x.c) (notes_at d)
+  node-noted : (d : node.NodeDeed) → IsItsOwn x (node_does x n heads d) → Each (NotedAt (Node n) x.c) (notes_at d)
   node-noted node.Drops own = tt
   node-noted (node.Says messages) own = tt
   node-noted (node.Does given) own = own.notes
 
   -- what is behind its notes
-  abbrev Serves : node.Deed → Type 0
+  abbrev Serves : node.NodeDeed → Type 0
   Serves d = Each (NotedAt (Node n) x.c) (notes_at d) → OwnerServes x.c now (notes_at d)
 
   work-serves : (p : NodePart) (before : List (Place × List ℕ)) (w : Work) → now ≡ Some (Node n) → Each IsPlain w.service.notes → Serves (with_work env p before w)
   work-serves p before w e plain noted =
-      plain-serve (Node n) x.c now (named (settled env.serve w.service).1.notes) noted (plain-named (settled env.serve w.service).1.notes (subst (Each IsPlain) (sym (settled-is env.serve w.service).notes) plain)) e
+      plain-serve (Node n) x.c now (named_records (serving_settled env.serve w.service).1.notes) noted (plain-named (serving_settled env.serve w.service).1.notes (subst (Each IsPlain) (sym (settled-is env.serve w.service).notes) plain)) e
 
   goes-serves : (p : NodePart) (w : Work) → now ≡ Some (Node n) → Each IsPlain w.service.notes → Serves (with_work env p [] (goes_on env w))
   goes-serves p w e plain = work-serves p [] (goes_on env w) e (goes-notes (Each IsPlain) plain-more env w plain)
@@ -315,14 +315,14 @@ module _ (k : Setting) (x : Conn) (heads : List Seen) (quiet : Each IsHead heads
     owns : (y : ControlBlock × Stay) → Here (Some y) → now ≡ Some (Node n)
     owns y e = (here-has x placed n env.epoch y.0 y.1 e).owner
 
-    hears-serves : (r : Result Said SegFault) (o : Option (ControlBlock × Stay)) → Here o → Serves (heard_by env ours r o)
+    hears-serves : (r : Result Said SegFault) (o : Option (ControlBlock × Stay)) → Here o → Serves (node_heard_by env ours r o)
     hears-serves (Err fault) o e = λ noted. tt
     hears-serves (Ok s) None e = λ noted. tt
     hears-serves (Ok s) (Some y) e = goes-serves ours (work_of (on_segment y.0 s).1 y.1) (owns y e) tt
 
     tags-serves : (number : ℕ) (tags : List ℕ) (o : Option (ControlBlock × Stay)) → Here o → Serves (tagged_by env number tags ours o)
     tags-serves number tags None e = λ noted. tt
-    tags-serves number tags (Some y) e = cond_both (is_awaited env number tags ours y.1) (with_work env (record ours { kept = without kind.Ask 0 ours.kept }) [] (goes_on env (tagged env tags (work_of y.0 y.1)))) node.Drops Serves
+    tags-serves number tags (Some y) e = cond_both (is_tag_awaited env number tags ours y.1) (with_work env (record ours { kept = without kind.Ask 0 ours.kept }) [] (goes_on env (tagged env tags (work_of y.0 y.1)))) node.Drops Serves
         (λ t. goes-serves (record ours { kept = without kind.Ask 0 ours.kept }) (tagged env tags (work_of y.0 y.1)) (owns y e) (tagged-notes (Each IsPlain) plain-more env tags (work_of y.0 y.1) tt))
         (λ t noted. tt)
 
@@ -333,7 +333,7 @@ module _ (k : Setting) (x : Conn) (heads : List Seen) (quiet : Each IsHead heads
         (λ t. goes-serves (record ours { fetches = without kind.Fetch r ours.fetches }) (came_for (come_progress from) r (work_of y.0 y.1)) (owns y e) (came-notes (Each IsPlain) plain-more (come_progress from) r (work_of y.0 y.1) tt))
         (λ t noted. tt)
 
-    reads-serves : (r : ℕ) (o : Option (ControlBlock × Stay)) → Here o → Serves (read_by env r ours o)
+    reads-serves : (r : ℕ) (o : Option (ControlBlock × Stay)) → Here o → Serves (node_read_by env r ours o)
     reads-serves r None e = λ noted. tt
     reads-serves r (Some y) e = goes-serves ours (came_for read_progress r (work_of y.0 y.1)) (owns y e) (came-notes (Each IsPlain) plain-more read_progress r (work_of y.0 y.1) tt)
 
@@ -348,27 +348,27 @@ module _ (k : Setting) (x : Conn) (heads : List Seen) (quiet : Each IsHead heads
   offers-serves : (parts : EndpointParts) (a : Adopt) → Serves (offered_by env parts ours a)
   offers-serves parts New noted =
       let took : Rec = rec.Took (Node env.n) env.serve.c (record { 0 = env.epoch }) in
-      let work : Work = goes_on env (state_of (reads_batch env true (begins env parts))) in
+      let work : Work = goes_on env (state_of (reads_batch env true (node_begins env parts))) in
       let all : Begins took work.service.notes =
-      goes-notes (Begins took) (begins-more took) env (state_of (reads_batch env true (begins env parts))) (batch-state (Begins took) (begins-more took) env true (begins env parts) ([], refl, tt)) in
-      let same : (settled env.serve work.service).1.notes ≡ took ∷ all.0 = (settled-is env.serve work.service).notes ∙ all.1 in
-      let mine : Each (NotedAt (Node n) x.c) (named (took ∷ all.0)) = subst (λ (l : List Rec). Each (NotedAt (Node n) x.c) (named l)) same noted in
-      subst (λ (l : List Rec). OwnerServes x.c now (named l)) (sym same) (takes-serves (named all.0) (plain-named all.0 all.2) mine.1)
+      goes-notes (Begins took) (begins-more took) env (state_of (reads_batch env true (node_begins env parts))) (batch-state (Begins took) (begins-more took) env true (node_begins env parts) ([], refl, tt)) in
+      let same : (serving_settled env.serve work.service).1.notes ≡ took ∷ all.0 = (settled-is env.serve work.service).notes ∙ all.1 in
+      let mine : Each (NotedAt (Node n) x.c) (named_records (took ∷ all.0)) = subst (λ (l : List Rec). Each (NotedAt (Node n) x.c) (named_records l)) same noted in
+      subst (λ (l : List Rec). OwnerServes x.c now (named_records l)) (sym same) (takes-serves (named_records all.0) (plain-named all.0 all.2) mine.1)
   offers-serves parts Again noted = tt
   offers-serves parts Stale noted = tt
 
   acknowledged-serves : Serves (node_acknowledged env ours)
-  acknowledged-serves = cond_both (awaits_ack env.epoch ours.row) (node.Does (record ours { row = node.gone ours.row; kept = without kind.Ended 0 ours.kept }, node.saying [])) node.Drops Serves (λ t noted. tt) (λ t noted. tt)
+  acknowledged-serves = cond_both (awaits_ack env.epoch ours.row) (node.Does (record ours { row = node.gone ours.row; kept = without kind.Ended 0 ours.kept }, node.node_saying [])) node.Drops Serves (λ t noted. tt) (λ t noted. tt)
 
-  fires-serves : (o : Option (ControlBlock × Stay)) → Serves (node.fired_by env ours o)
+  fires-serves : (o : Option (ControlBlock × Stay)) → Serves (node.node_fired_by env ours o)
   fires-serves None noted = tt
   fires-serves (Some y) noted = tt
 
-  by-node : (d : node.Deed) → Serves d → IsItsOwn x (node_does x n heads d) → Known x (node_does x n heads d)
+  by-node : (d : node.NodeDeed) → Serves d → IsItsOwn x (node_does x n heads d) → Known x (node_does x n heads d)
   by-node d serves own = node-known d (serves (node-noted d own))
 
   -- the record of a job stands before what it leads to
-  by-job : (r : ℕ) (path : List ℕ) (d : node.Deed) → Serves d → IsItsOwn x (reads_first (rec.Read n n x.c r path) (node_does x n heads d)) → Known x (reads_first (rec.Read n n x.c r path) (node_does x n heads d))
+  by-job : (r : ℕ) (path : List ℕ) (d : node.NodeDeed) → Serves d → IsItsOwn x (reads_first (rec.Read n n x.c r path) (node_does x n heads d)) → Known x (reads_first (rec.Read n n x.c r path) (node_does x n heads d))
   by-job r path node.Drops serves own = record { heads = quiet; serves = (tt, serves tt) }
   by-job r path (node.Says messages) serves own = record { heads = quiet; serves = (tt, serves tt) }
   by-job r path (node.Does given) serves own = record { heads = quiet; serves = (tt, serves own.notes.1) }
@@ -419,7 +419,7 @@ module _ (k : Setting) where
     acknowledged = λ x n epoch env bytes is spells was may own. by-node k x (packet_seen Front (Node n) bytes) (tt, tt) n epoch env is _ (acknowledged-serves k x (packet_seen Front (Node n) bytes) (tt, tt) n epoch env is) own;
     read = λ x n epoch r env path is may own. by-job k x [] tt n epoch env is r path _ (reads-serves k x [] tt n epoch env is may.given r (here env.epoch (x.part.nodes n)) refl) own;
     fires = λ x s n env there is may own. by-node k x (event_seen (event.Timer (Node n) x.c)) (tt, tt) n _ env is _
-        (fires-serves k x (event_seen (event.Timer (Node n) x.c)) (tt, tt) n _ env is (both_of (endpoint_of (x.part.nodes n).row) (x.part.nodes n).stay)) own;
+        (fires-serves k x (event_seen (event.Timer (Node n) x.c)) (tt, tt) n _ env is (both_of (back_endpoint (x.part.nodes n).row) (x.part.nodes n).stay)) own;
     answers = λ x n from epoch r path file bytes there spells was may own. record { heads = (tt, tt); serves = tt };
     queues = λ x n from epoch r path file bytes there spells was may own. record { heads = (tt, tt); serves = (tt, tt) };
     brings = λ x n from epoch r path may own. record { heads = tt; serves = (tt, tt) };

@@ -8,7 +8,7 @@ use Rattle.lard_answers.proofs.Following.{until_close-behind}
 use Rattle.lard_answers.proofs.Growing.{IsPrefix-trans, until_close-cons, until_close-nil, verdicts-are, verdicts-grow}
 use Rattle.lard_block.specs.Blocks.{blocks}
 use Rattle.lard_block.proofs.Skips.{cuts-pairs}
-use Rattle.lard_law_connections.specs.BytesAgreement.{HasRead}
+use Rattle.lard_law_connections.specs.BytesAgreement.{HasReadPending}
 use Rattle.lard_endpoint.specs.Arriving.{on_segment}
 use Rattle.lard_endpoint.specs.Control.{ControlBlock, consuming, discarding_on, finishing}
 use Rattle.lard_law_view.specs.Agreement as one
@@ -16,7 +16,7 @@ use Rattle.lard_law_view.proofs.EndpointStreams.{IsBetween, same-finished, segme
 use Rattle.lard_law_view.proofs.ReadingBytes.{IsJudged, place, read-judged, read-split}
 use Rattle.lard_reader.specs.Batches.{batch_of, batch_pieces, bytes_used}
 use Rattle.lard_reader.proofs.Taken.{batch-open_cut, batch-verdicts}
-use Rattle.lard_recv.specs.Recv.{Received, awaited, begins_after, ends, fresh, taken}
+use Rattle.lard_recv.specs.Recv.{Received, awaited, begins_after, ends, fresh_bytes, bytes_taken}
 use Rattle.lard_request.specs.declared.verdict.Verdict.{Verdict}
 use Rattle.lard_request.specs.Verdict.{closes}
 use Rattle.lard_rules.specs.Serving.{closed_behind}
@@ -25,7 +25,7 @@ use Rattle.lard_law_view.specs.Truth.{Hears, Stream}
 
 -- ---- where nothing waits, it is as where a place answers at once
 
-pub read-alone : (w : Stream) (b : ControlBlock) (vs : List Verdict) → HasRead w b vs [] → one.HasRead w b vs
+pub read-alone : (w : Stream) (b : ControlBlock) (vs : List Verdict) → HasReadPending w b vs [] → one.HasRead w b vs
 read-alone w b vs h = record {
   cut = λ e z. subst (λ (us : List Verdict). verdicts_on (blocks (take (place b.recv) w.bytes ++ z)) ≡ us ++ verdicts_on (blocks z)) (append-nil vs) (h.cut e refl z);
   goes_on = h.goes_on;
@@ -35,7 +35,7 @@ read-alone w b vs h = record {
 -- ---- another endpoint between the same streams
 
 pub read-carried : (w out : Stream) (b d : ControlBlock) (vs pend : List Verdict) → IsBetween w out b → IsBetween w out d → d.recv.discarding ≡ b.recv.discarding
-    → (b.recv.discarding ≡ false → place d.recv ≡ place b.recv) → HasRead w b vs pend → HasRead w d vs pend
+    → (b.recv.discarding ≡ false → place d.recv ≡ place b.recv) → HasReadPending w b vs pend → HasReadPending w d vs pend
 read-carried w out b d vs pend h k same at read =
     let finished = same-finished w out b d h k in
     let P : ℕ → Type 0 = λ n. IsJudged (take n w.bytes) (vs ++ pend) in
@@ -46,17 +46,17 @@ read-carried w out b d vs pend h k same at read =
       fronts = read.fronts;
     }
 
-pub read-same : (w out : Stream) (b d : ControlBlock) (vs pend : List Verdict) → IsBetween w out b → IsBetween w out d → d.recv ≡ b.recv → HasRead w b vs pend → HasRead w d vs pend
+pub read-same : (w out : Stream) (b d : ControlBlock) (vs pend : List Verdict) → IsBetween w out b → IsBetween w out d → d.recv ≡ b.recv → HasReadPending w b vs pend → HasReadPending w d vs pend
 read-same w out b d vs pend h k e = read-carried w out b d vs pend h k (ap (λ r. r.discarding) e) (λ _. ap place e)
 
 -- what arrives stands behind the unread bytes
-pub read-arrived : (w out : Stream) (b : ControlBlock) (vs pend : List Verdict) (s : Said) → IsBetween w out b → IsBetween w out (on_segment b s).1 → HasRead w b vs pend
-    → HasRead w (on_segment b s).1 vs pend
+pub read-arrived : (w out : Stream) (b : ControlBlock) (vs pend : List Verdict) (s : Said) → IsBetween w out b → IsBetween w out (on_segment b s).1 → HasReadPending w b vs pend
+    → HasReadPending w (on_segment b s).1 vs pend
 read-arrived w out b vs pend s h k =
     let r = b.recv in
     let P : Received → Type 0 = λ z. (z.discarding ≡ r.discarding) × (r.discarding ≡ false → place z ≡ place r) in
-    let more = fresh r s.seq s.payload in
-    let grown : Received = taken r more (ends r s.seq s.payload s.flags.fin) in
+    let more = fresh_bytes r s.seq s.payload in
+    let grown : Received = bytes_taken r more (ends r s.seq s.payload s.flags.fin) in
     let same : P r = (refl, λ _. refl) in
     let size = length-append r.unread more in
     let within = h.hears.sound.within in
@@ -76,7 +76,7 @@ behind-judged x y vs judged open_ =
 prefix-behind : {A : Type 0} (vs xs ys : List A) → IsPrefix xs ys → IsPrefix (vs ++ xs) (vs ++ ys)
 prefix-behind vs xs ys h = (h.0, ap (λ l. vs ++ l) h.1 ∙ sym (append_assoc vs xs h.0))
 
-module _ (w : Stream) (b : ControlBlock) (vs : List Verdict) (heard : Hears w b.recv) (keeps : b.recv.discarding ≡ false) (read : HasRead w b vs []) where
+module _ (w : Stream) (b : ControlBlock) (vs : List Verdict) (heard : Hears w b.recv) (keeps : b.recv.discarding ≡ false) (read : HasReadPending w b vs []) where
   abbrev unread : List ℕ
   unread = b.recv.unread
 
@@ -96,7 +96,7 @@ module _ (w : Stream) (b : ControlBlock) (vs : List Verdict) (heard : Hears w b.
       subst (IsPrefix (vs ++ batch_of n unread)) (sym all)
       (prefix-behind vs (batch_of n unread) (verdicts (unread ++ (rest ++ z))) (IsPrefix-trans (batch_of n unread) (verdicts unread) (verdicts (unread ++ (rest ++ z))) first more))
 
-  pub batch-read : (n : ℕ) → HasRead w (consuming b (bytes_used n unread)) vs (batch_of n unread)
+  pub batch-read : (n : ℕ) → HasReadPending w (consuming b (bytes_used n unread)) vs (batch_of n unread)
   batch-read n = record {
     cut = λ e open_. subst (λ (us : List Verdict). IsJudged (take (place (consuming b (bytes_used n unread)).recv) w.bytes) (vs ++ us)) (batch-verdicts n unread)
         (read-judged w b.recv heard keeps (bytes_used n unread) vs (batch_pieces n unread) alone (batch-open_cut cuts-pairs n unread open_));
@@ -137,7 +137,7 @@ last-closes (a ∷ vs) v rest (u ∷ us) more e c =
 
 -- what comes next of all that is answered, with all that was read behind it
 pub record IsFirst (w : Stream) (vs : List Verdict) (v : Verdict) (rest : List Verdict) (b : ControlBlock) : Type 0 where
-  pub read : HasRead w b vs (v ∷ rest)
+  pub read : HasReadPending w b vs (v ∷ rest)
   pub keeps : b.recv.discarding ≡ false
 
 first-last : (w : Stream) (vs : List Verdict) (v : Verdict) (rest : List Verdict) (b : ControlBlock) → IsFirst w vs v rest b → closes v ≡ true → rest ≡ []
@@ -149,8 +149,8 @@ first-assoc : (vs : List Verdict) (v : Verdict) (rest : List Verdict) → vs ++ 
 first-assoc vs v rest = sym (append_assoc vs (v ∷ []) rest)
 
 -- behind its answer
-pub first-read : (w : Stream) (vs : List Verdict) (v : Verdict) (rest : List Verdict) (b d : ControlBlock) → IsFirst w vs v rest b → d.recv ≡ b.recv → HasRead w (closed_behind v d) (vs ++ v ∷ []) rest
-first-read w vs v rest b d f same = cond_both (closes v) (finishing (discarding_on d)) d (λ (e : ControlBlock). HasRead w e (vs ++ v ∷ []) rest)
+pub first-read : (w : Stream) (vs : List Verdict) (v : Verdict) (rest : List Verdict) (b d : ControlBlock) → IsFirst w vs v rest b → d.recv ≡ b.recv → HasReadPending w (closed_behind v d) (vs ++ v ∷ []) rest
+first-read w vs v rest b d f same = cond_both (closes v) (finishing (discarding_on d)) d (λ (e : ControlBlock). HasReadPending w e (vs ++ v ∷ []) rest)
     (λ shut. record {
       cut = λ e. absurd cc;
       goes_on = λ e. absurd cc;

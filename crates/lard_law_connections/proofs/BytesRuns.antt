@@ -8,7 +8,7 @@ use Rattle.lard_rules.specs.declared.machine.Machine.{Machine}
 use Rattle.lard_rules.specs.Machine.{IsReached}
 use Rattle.lard_law_connections.specs.BytesAgreement.{IsTruthful}
 use Rattle.lard_law_connections.proofs.BytesLaw.{IsSeenTrue, IsTrueMove, StaysTruthful}
-use Rattle.lard_law_connections.specs.BytesRecords.{MayServe}
+use Rattle.lard_law_connections.specs.BytesRecords.{MayServeOwned}
 use Rattle.lard_law_connections.specs.BytesRuns.{ClientsAcceptAnswers, JournalsServeTheAnswers, JournalsTellTheTruth, StatesAreTruthful}
 use Rattle.lard_law_connections.proofs.BytesClientMoves.{clients}
 use Rattle.lard_law_connections.proofs.BytesFrontEnds.{asked-stays, ended-stays}
@@ -19,7 +19,7 @@ use Rattle.lard_law_connections.proofs.BytesOwners.{Known, Knows, known}
 use Rattle.lard_law_connections.proofs.PlacesLaw.{owing}
 use Rattle.lard_law_connections.proofs.PlacesRuns.{each-placed}
 use Rattle.lard_law_connections.proofs.PlacesTurns.{IsPlaced, Owes}
-use Rattle.lard_law_view.specs.Carry.{Guarded, IsGuardedLaw, MayMove, OfEach, WhileUntouched, setting, tale_at}
+use Rattle.lard_law_view.specs.Carry.{Guarded, IsGuardedLaw, MayRestOn, OfEach, WhileUntouched, setting, tale_at}
 use Rattle.lard_law_view.specs.View.{Conn, Move, Setting, UntouchedRules, conn}
 use Rattle.lard_law_view.proofs.Carried.{carried}
 use Rattle.lard_law_view.proofs.Fine.{IsFine, IsItsOwn, fine}
@@ -57,7 +57,7 @@ module _ (k : Setting) (small : k.stream ≤ 2 ^ 30) where
   }
 
   abbrev Owed : Conn → Move → Type 0
-  Owed x v = MayMove IsPlaced x → IsPlaced x → Owes x v
+  Owed x v = MayRestOn IsPlaced x → IsPlaced x → Owes x v
 
   abbrev Given : Conn → Move → Type 0
   Given x v = (IsFine x v × Owed x v) × Knows x v
@@ -66,7 +66,7 @@ module _ (k : Setting) (small : k.stream ≤ 2 ^ 30) where
   All x v = Given x v × StaysTruthful k x v
 
   abbrev Wanted : Conn → Move → Type 0
-  Wanted x v = MayMove IsPlaced x → (tale_at x).touched ≡ false → IsTruthful k.files x → IsTrueMove k.files x v
+  Wanted x v = MayRestOn IsPlaced x → (tale_at x).touched ≡ false → IsTruthful k.files x → IsTrueMove k.files x v
 
   all : UntouchedRules k All
   all = untouched-both k Given (StaysTruthful k) (untouched-both k (λ x v. IsFine x v × Owed x v) Knows (untouched-both k IsFine Owed (fine k).untouched (owing k IsPlaced).untouched) (known k)) mine
@@ -97,7 +97,7 @@ module _ (files : FilesAt) where
 
   -- what the connection sees of a record, the journal may say, as long as the schedule did not touch it
   abbrev May : List Rec → Rec → Type 0
-  May J r = MayTell files J r × MayServe files J r × MayAccept files J r
+  May J r = MayTell files J r × MayServeOwned files J r × MayAccept files J r
 
   says : (J : List Rec) (r : Rec) (c d : ℕ) → d ≡ c → seen_true c (own c J) (plain r) → is_touched J d ≡ false → May J (plain r)
   says J r c d same h u = h
@@ -117,12 +117,12 @@ module _ (files : FilesAt) where
   tells-somebody J (rec.Served place d r code size via) c e h = λ u. let same : d ≡ c = cc in (says J (rec.Served place d r code size via) c d same h u).0 u
   tells-somebody J _ c e h = tt
 
-  serves-somebody : (J : List Rec) (r : Rec) (c : ℕ) → whose r ≡ Some c → seen_true c (own c J) (plain r) → MayServe files J r
+  serves-somebody : (J : List Rec) (r : Rec) (c : ℕ) → whose r ≡ Some c → seen_true c (own c J) (plain r) → MayServeOwned files J r
   serves-somebody J (rec.Served place d r code size via) c e h = λ u. let same : d ≡ c = cc in (says J (rec.Served place d r code size via) c d same h u).1 u
   serves-somebody J (rec.Reset place d total) c e h = λ u. let same : d ≡ c = cc in (says J (rec.Reset place d total) c d same h u).1 u
   serves-somebody J _ c e h = tt
 
-  serves-nobody : (J : List Rec) (r : Rec) → whose r ≡ None → MayServe files J r
+  serves-nobody : (J : List Rec) (r : Rec) → whose r ≡ None → MayServeOwned files J r
   serves-nobody J (rec.Served place d r code size via) e = let no : Some d ≡ None = e in absurd cc
   serves-nobody J (rec.Reset place d total) e = let no : Some d ≡ None = e in absurd cc
   serves-nobody J _ e = tt
@@ -155,7 +155,7 @@ pub journals-tell : JournalsTellTheTruth
 journals-tell config files m small r = by-records config files small (MayTell (file_at files)) (tells-nobody (file_at files)) (tells-somebody (file_at files)) m r
 
 pub journals-serve : JournalsServeTheAnswers
-journals-serve config files m small r = by-records config files small (MayServe (file_at files)) (serves-nobody (file_at files)) (serves-somebody (file_at files)) m r
+journals-serve config files m small r = by-records config files small (MayServeOwned (file_at files)) (serves-nobody (file_at files)) (serves-somebody (file_at files)) m r
 
 pub clients-accept : ClientsAcceptAnswers
 clients-accept config files m small r = at_every_moment (file_at files) m.journal

@@ -6,9 +6,9 @@ use Rattle.std.proofs.lemmas.List.{map-append}
 use Rattle.std.proofs.lemmas.List.Folds.{concat-append, list_any-append}
 use Rattle.lard_answers.specs.Answers.{FilesAt, IsPrefix, answer, answer_code, verdicts}
 use Rattle.lard_base.specs.declared.place.Via.{Via}
-use Rattle.lard_law_connections.specs.BytesAgreement.{HasRead}
+use Rattle.lard_law_connections.specs.BytesAgreement.{HasReadPending}
 use Rattle.lard_law_connections.specs.BytesRecords.{IsWay}
-use Rattle.lard_law_connections.specs.BytesTurning.{AnswersAfter, Counts, IsNoteOf, IsReading, Serves}
+use Rattle.lard_law_connections.specs.BytesTurning.{AnswersAfter, CountsResponses, IsNoteOf, IsReading, TurnServes}
 use Rattle.lard_law_connections.proofs.BytesNext.{answers-next, mute-answers, resets-next, tells-on}
 use Rattle.lard_law_connections.proofs.BytesReading.{IsFirst, first-fronts, first-read}
 use Rattle.lard_law_connections.proofs.BytesWide.{wide-half}
@@ -19,11 +19,11 @@ use Rattle.lard_history.proofs.Each.{Each, Each-append}
 use Rattle.lard_journal.specs.declared.rec.Rec.{Rec}
 use Rattle.lard_journal.specs.declared.rec.Rec.TheVariants as rec
 use Rattle.lard_law_view.specs.Agreement.{SaysAnswers}
-use Rattle.lard_law_view.specs.Keeping.{TellsOf, resets, served_in, size_in}
+use Rattle.lard_law_view.specs.Keeping.{TellsOf, is_reset_record, served_in, bytes_served_in}
 use Rattle.lard_law_view.proofs.EndpointStreams.{IsBetween, Onward, between-consumed, between-discarded, onward-finished, onward-queued}
 use Rattle.lard_request.specs.declared.verdict.Verdict.{Verdict}
 use Rattle.lard_request.specs.Verdict.{closes}
-use Rattle.lard_rules.specs.Serving.{ServeEnv, Service, answered, closed_behind, consumed, ended_at_fin, may_read, passed_over, queued}
+use Rattle.lard_rules.specs.Serving.{ServeEnv, Service, answered, closed_behind, serving_consumed, ended_at_fin, may_read, passed_over, queued}
 use Rattle.lard_rules.proofs.Wide.{closed-wide}
 use Rattle.lard_law_view.specs.Truth.{GoesOn, Stream}
 use Rattle.lard_law_view.proofs.RowLists.{TellsBy-append}
@@ -56,18 +56,18 @@ served-append [] ys = omega arith
 served-append (rec.Served by c n code size via ∷ xs) ys = let e = served-append xs ys in omega arith
 served-append (other ∷ xs) ys = served-append xs ys
 
-size-append : (xs ys : List Rec) → size_in (xs ++ ys) ≡ size_in xs + size_in ys
+size-append : (xs ys : List Rec) → bytes_served_in (xs ++ ys) ≡ bytes_served_in xs + bytes_served_in ys
 size-append [] ys = omega arith
 size-append (rec.Served by c n code size via ∷ xs) ys = let e = size-append xs ys in omega arith
 size-append (other ∷ xs) ys = size-append xs ys
 
-pub counts-nothing : (files : FilesAt) (c : ℕ) (w out : Stream) (vs : List Verdict) → Counts files c w out vs vs out.bytes []
+pub counts-nothing : (files : FilesAt) (c : ℕ) (w out : Stream) (vs : List Verdict) → CountsResponses files c w out vs vs out.bytes []
 counts-nothing files c w out vs = record { each = tt; served = omega arith; size = omega arith; unless_ended = inr refl; serve = λ t told. tt }
 
 -- more notes
-module _ (files : FilesAt) (c : ℕ) (w out : Stream) (vs us us_next : List Verdict) (said said_next : List ℕ) (notes rs : List Rec) (h : Counts files c w out vs us said notes) where
-  pub counts-more : Each (IsNoteOf c) rs → length us_next ≡ length us + served_in rs → length said_next ≡ length said + size_in rs → (out.ended ≡ false) ⊎ (served_in rs ≡ 0)
-      → ((t : Tale) → TellsOf w.bytes said us t → TellsBy (AnswersAfter files c) c t rs) → Counts files c w out vs us_next said_next (notes ++ rs)
+module _ (files : FilesAt) (c : ℕ) (w out : Stream) (vs us us_next : List Verdict) (said said_next : List ℕ) (notes rs : List Rec) (h : CountsResponses files c w out vs us said notes) where
+  pub counts-more : Each (IsNoteOf c) rs → length us_next ≡ length us + served_in rs → length said_next ≡ length said + bytes_served_in rs → (out.ended ≡ false) ⊎ (served_in rs ≡ 0)
+      → ((t : Tale) → TellsOf w.bytes said us t → TellsBy (AnswersAfter files c) c t rs) → CountsResponses files c w out vs us_next said_next (notes ++ rs)
   counts-more each served size unless answers =
       let a = served-append notes rs in
       let b = size-append notes rs in
@@ -81,8 +81,8 @@ module _ (files : FilesAt) (c : ℕ) (w out : Stream) (vs us us_next : List Verd
       }
 
 -- more that serve and reset nothing
-pub counts-mute : (files : FilesAt) (c : ℕ) (w out : Stream) (vs us : List Verdict) (said : List ℕ) (notes rs : List Rec) → Counts files c w out vs us said notes → Each (IsNoteOf c) rs
-    → served_in rs ≡ 0 → size_in rs ≡ 0 → list_any resets rs ≡ false → Counts files c w out vs us said (notes ++ rs)
+pub counts-mute : (files : FilesAt) (c : ℕ) (w out : Stream) (vs us : List Verdict) (said : List ℕ) (notes rs : List Rec) → CountsResponses files c w out vs us said notes → Each (IsNoteOf c) rs
+    → served_in rs ≡ 0 → bytes_served_in rs ≡ 0 → list_any is_reset_record rs ≡ false → CountsResponses files c w out vs us said (notes ++ rs)
 counts-mute files c w out vs us said notes rs h each served size calm =
     counts-more files c w out vs us us said said notes rs h each (omega (arith, served)) (omega (arith, size)) (inr served) (λ t told. mute-answers files c t rs each served calm)
 
@@ -125,7 +125,7 @@ pub record MayGo (w : Stream) (vs pend : List Verdict) (s : Service) : Type 0 wh
   pub none : s.over ≡ None
   pub unfinished : s.block.send.finished ≡ false
   pub keeps : s.block.recv.discarding ≡ false
-  pub read : HasRead w s.block vs pend
+  pub read : HasReadPending w s.block vs pend
 
 pub may-go : (w : Stream) (vs pend : List Verdict) (s : Service) → may_read s ≡ true → IsReading w vs pend s.block s.notes s.over → MayGo w vs pend s
 may-go w vs pend s may reading =
@@ -133,9 +133,9 @@ may-go w vs pend s may reading =
     let rest = and_parts (not s.block.send.finished) limit (and_parts (not s.block.reset) (not s.block.send.finished && limit) may).1 in
     let none = none-over s.over rest.1 in
     let unfinished = not-true s.block.send.finished rest.0 in
-    let read : HasRead w s.block vs pend = subst (λ (o : Option ℕ). IsReading w vs pend s.block s.notes o) none reading in
+    let read : HasReadPending w s.block vs pend = subst (λ (o : Option ℕ). IsReading w vs pend s.block s.notes o) none reading in
     record { none = none; unfinished = unfinished; keeps = keeps-still s.block.recv.discarding refl read unfinished; read = read } where
-      keeps-still : (b : Bool) → s.block.recv.discarding ≡ b → HasRead w s.block vs pend → s.block.send.finished ≡ false → s.block.recv.discarding ≡ false
+      keeps-still : (b : Bool) → s.block.recv.discarding ≡ b → HasReadPending w s.block vs pend → s.block.send.finished ≡ false → s.block.recv.discarding ≡ false
       keeps-still true e read f = absurd (both_ways s.block.send.finished f (read.stops e).0)
       keeps-still false e read f = e
 
@@ -143,14 +143,14 @@ may-go w vs pend s may reading =
 
 module _ (env : ServeEnv) (w out : Stream) (vs : List Verdict) where
   abbrev pub So : Service → List Verdict → Type 0
-  So s pend = Serves env.files env.c w out vs s pend
+  So s pend = TurnServes env.files env.c w out vs s pend
 
   pub go-on : (s : Service) (pend : List Verdict) (h : So s pend) → s.over ≡ None → s.block.send.finished ≡ false → s.block.recv.discarding ≡ false → MayGo w h.vs_now pend s
   go-on s pend h none unfinished keeps =
       record { none = none; unfinished = unfinished; keeps = keeps; read = subst (λ (o : Option ℕ). IsReading w h.vs_now pend s.block s.notes o) none h.reading }
 
   -- notes that tell nothing of bytes
-  pub noted-serves : (notes : List Rec) (s : Service) (pend : List Verdict) → Each (IsNoteOf env.c) notes → served_in notes ≡ 0 → size_in notes ≡ 0 → list_any resets notes ≡ false → So s pend
+  pub noted-serves : (notes : List Rec) (s : Service) (pend : List Verdict) → Each (IsNoteOf env.c) notes → served_in notes ≡ 0 → bytes_served_in notes ≡ 0 → list_any is_reset_record notes ≡ false → So s pend
       → So (record s { notes = s.notes ++ notes }) pend
   noted-serves notes s pend each served size calm h = record {
     out_now = h.out_now;
@@ -165,7 +165,7 @@ module _ (env : ServeEnv) (w out : Stream) (vs : List Verdict) where
   } where
     reading : (o : Option ℕ) → IsReading w h.vs_now pend s.block s.notes o → IsReading w h.vs_now pend s.block (s.notes ++ notes) o
     reading None r = r
-    reading (Some total) r = list_any-append resets s.notes notes ∙ ap (λ b. b || list_any resets notes) r
+    reading (Some total) r = list_any-append is_reset_record s.notes notes ∙ ap (λ b. b || list_any is_reset_record notes) r
 
   -- the verdict on the first that waits is the next on what the client wrote
   next-is : (v : Verdict) (rest : List Verdict) (s : Service) (h : So s (v ∷ rest)) → MayGo w h.vs_now (v ∷ rest) s → IsPrefix (h.vs_now ++ v ∷ []) (verdicts w.bytes)
@@ -187,7 +187,7 @@ module _ (env : ServeEnv) (w out : Stream) (vs : List Verdict) where
         wide = h.wide;
         noted = counts-more env.files env.c w out vs h.vs_now h.vs_now h.out_now.bytes h.out_now.bytes s.notes (rec.Reset env.place env.c total ∷ []) h.noted (refl, tt) (omega arith) (omega arith) (inr refl)
             (λ t told. ((λ J e. resets-next env.files env.c w.bytes h.out_now.bytes h.vs_now J (subst (TellsOf w.bytes h.out_now.bytes h.vs_now) (sym e) told) v (next-is v rest s h may) total same), tt));
-        reading = list_any-append resets s.notes (rec.Reset env.place env.c total ∷ []) ∙ or-last (list_any resets s.notes) true refl;
+        reading = list_any-append is_reset_record s.notes (rec.Reset env.place env.c total ∷ []) ∙ or-last (list_any is_reset_record s.notes) true refl;
       }
 
   -- a response is queued
@@ -244,7 +244,7 @@ module _ (env : ServeEnv) (w out : Stream) (vs : List Verdict) where
         counted = h.counted;
         between = next.between;
         wide = record { wnd = h.wide.wnd; wl1 = h.wide.wl1; wl2 = h.wide.wl2 };
-        noted = subst (λ (said : List ℕ). Counts env.files env.c w out vs h.vs_now said s.notes) (sym next.bytes_are) h.noted;
+        noted = subst (λ (said : List ℕ). CountsResponses env.files env.c w out vs h.vs_now said s.notes) (sym next.bytes_are) h.noted;
         reading = subst (λ (o : Option ℕ). IsReading w h.vs_now [] (finishing s.block) s.notes o) (sym may.none)
             (record { cut = may.read.cut; goes_on = may.read.goes_on; stops = λ e. (refl, (may.read.stops e).1, refl); fronts = may.read.fronts });
       }
@@ -253,7 +253,7 @@ module _ (env : ServeEnv) (w out : Stream) (vs : List Verdict) where
   ended-serves s h may = cond_both s.block.recv.fin (record s { block = finishing s.block }) s (λ t. So t []) (λ t. finished-serves s h may) (λ t. h)
 
   -- some of the unread bytes were read, as so many verdicts
-  pub consumed-serves : (n : ℕ) (s : Service) (pend : List Verdict) (h : So s []) → s.over ≡ None → HasRead w (consuming s.block n) h.vs_now pend → So (consumed n s) pend
+  pub consumed-serves : (n : ℕ) (s : Service) (pend : List Verdict) (h : So s []) → s.over ≡ None → HasReadPending w (consuming s.block n) h.vs_now pend → So (serving_consumed n s) pend
   consumed-serves n s pend h none read = record {
     out_now = h.out_now;
     vs_now = h.vs_now;

@@ -7,7 +7,7 @@ use Rattle.lard_base.specs.declared.parts.EndpointParts.{EndpointParts}
 use Rattle.lard_base.specs.declared.place.Place.{Place}
 use Rattle.lard_base.specs.declared.place.Place.TheVariants as place
 use Rattle.lard_base.specs.declared.place.TimerKind.TheVariants as kind
-use Rattle.lard_law_connections.specs.BytesAgreement.{AreOnTheWay, BackAgrees, EndAgrees, FrontHolds, HoldsIt, NodeAgrees, RowAgrees, StayAgrees, StayComesOn}
+use Rattle.lard_law_connections.specs.BytesAgreement.{AreOnTheWay, BackAgrees, EndAgreesPending, FrontHolds, HoldsItPending, NodeAgrees, RowAgrees, StayAgrees, StayComesOn}
 use Rattle.lard_law_connections.specs.BytesKeeping.{ContentsKeep, DeedKeeps, IsTalk, NodeHearsTruth, NodeTimerKeeps, NodeSays, NodeTurned, OffersKeep, ReadsKeep, TagsKeep}
 use Rattle.lard_law_connections.specs.BytesTurning.{EndTurned}
 use Rattle.lard_law_connections.proofs.BytesEnding.{settled-ends}
@@ -25,12 +25,12 @@ use Rattle.lard_handoff_back.specs.declared.row.BackConn.TheVariants as back
 use Rattle.lard_handoff_back.specs.declared.row.BackRow.{BackRow}
 use Rattle.lard_handoff_back.specs.declared.table.Adopt.{Adopt}
 use Rattle.lard_handoff_back.specs.declared.table.Adopt.TheVariants.{New, Again, Stale}
-use Rattle.lard_handoff_back.specs.Back.{endpoint_of, offer_answer, staying}
-use Rattle.lard_handoff_back.specs.Row.{held_in}
+use Rattle.lard_handoff_back.specs.Back.{back_endpoint, offer_answer, staying}
+use Rattle.lard_handoff_back.specs.Row.{back_held}
 use Rattle.lard_journal.specs.declared.rec.Rec.TheVariants as rec
 use Rattle.lard_lateral.specs.Lateral.{is_from}
 use Rattle.lard_law_view.specs.Agreement.{IsWord, SaysAnswers}
-use Rattle.lard_law_view.specs.Keeping.{resets}
+use Rattle.lard_law_view.specs.Keeping.{is_reset_record}
 use Rattle.lard_rules.specs.declared.node.NodeTurn.{NodeTurn}
 use Rattle.lard_rules.specs.declared.stay.Asked.{Asked}
 use Rattle.lard_rules.specs.declared.stay.Stay.{Stay}
@@ -38,7 +38,7 @@ use Rattle.lard_rules.specs.declared.stay.Want.{Want}
 use Rattle.lard_message.specs.declared.message.Body.TheVariants as body
 use Rattle.lard_history.proofs.Each.{Each, Each-append}
 use Rattle.lard_law_connections.specs.Places.{IsDecided}
-use Rattle.lard_rules.specs.Node.{Deed, Drops, NodePart, again_sent, asked_sent, begins, both_of, come_by, ended_sent, fired, fired_by, heard_by, here, is_awaited, kept_after, node_offered, offered_by, read_by, rests, tagged_by, taken_sent, turn_by, wants_sent, with_work, work_of}
+use Rattle.lard_rules.specs.Node.{NodeDeed, Drops, NodePart, again_sent, asked_sent, node_begins, both_of, come_by, ended_sent, node_fired, node_fired_by, node_heard_by, here, is_tag_awaited, kept_after, node_offered, offered_by, node_read_by, node_rests, tagged_by, taken_sent, turn_by, wants_sent, with_work, work_of}
 use Rattle.lard_rules.specs.Node as node
 use Rattle.lard_rules.specs.Stay.{NodeEnv, Work, came_for, come_progress, goes_on, read_progress, reads_batch, tagged}
 use Rattle.lard_recv.specs.Recv.{restored}
@@ -48,7 +48,7 @@ use Rattle.lard_rules.specs.declared.places.Ending.{Ending}
 use Rattle.lard_rules.specs.declared.places.Ending.TheVariants as ending
 use Rattle.lard_rules.specs.declared.places.Turn.{Turn}
 use Rattle.lard_rules.specs.Loop.{state_of}
-use Rattle.lard_rules.specs.Serving.{ready_of, serving, settled, spoken}
+use Rattle.lard_rules.specs.Serving.{serving_ready_of, serving, serving_settled, spoken}
 use Rattle.lard_segment.specs.Segment.{Said}
 use Rattle.lard_send.specs.Send.{resumed}
 use Rattle.lard_law_view.specs.Truth.{Stream}
@@ -57,15 +57,15 @@ module _ (env : NodeEnv) (w out : Stream) (vs : List Verdict) (was_reset : Bool)
   abbrev Turns : NodePart → NodePart × NodeTurn → Type 0
   Turns p given = NodeTurned env.serve.files env.serve.c env.epoch p w out vs was_reset given
 
-  abbrev Keeps : NodePart → Deed → Type 0
+  abbrev Keeps : NodePart → NodeDeed → Type 0
   Keeps p d = DeedKeeps env.serve.files env.serve.c env.epoch p w out vs was_reset d
 
   -- ---- the end of a turn
 
-  ends-agree : (p : NodePart) (k : Work) (now : Stream) (us : List Verdict) (r : Bool) (e : Ending) → EndAgrees w now us (verdicts_of k.batch) r e
+  ends-agree : (p : NodePart) (k : Work) (now : Stream) (us : List Verdict) (r : Bool) (e : Ending) → EndAgreesPending w now us (verdicts_of k.batch) r e
       → NodeAgrees w now us (verdicts_of k.batch) r env.serve.c (kept_after env p k e)
   ends-agree p k now us r (ending.Here b count) h = (refl, h)
-  ends-agree p k now us r (ending.Over last) h = record { last = last; count = node.count_of k.service.over; ended = h; kept_is = refl }
+  ends-agree p k now us r (ending.Over last) h = record { last = last; count = node.reset_count k.service.over; ended = h; kept_is = refl }
 
   ends-way : (p : NodePart) (k : Work) (e : Ending) → Right env w out vs k → StayComesOn env.serve.files (kept_after env p k e).stay
   ends-way p k (ending.Here b count) right = right
@@ -86,7 +86,7 @@ module _ (env : NodeEnv) (w out : Stream) (vs : List Verdict) (was_reset : Bool)
 
   ended-says : (p : NodePart) (k : Work) (e : Ending) → Each (NodeSays env.serve.c (kept_after env p k e)) (ended_sent env k.service.over e)
   ended-says p k (ending.Here b count) = tt
-  ended-says p k (ending.Over last) = (inr (env.epoch, body.Ended last.reason last.snd.0 last.rcv.0 (node.count_of k.service.over), refl, (_, refl, refl)), tt)
+  ended-says p k (ending.Over last) = (inr (env.epoch, body.Ended last.reason last.snd.0 last.rcv.0 (node.reset_count k.service.over), refl, (_, refl, refl)), tt)
 
   abbrev rest_of_it : Work → Ending → List (Place × List ℕ)
   rest_of_it k e = (asked_sent env k.asked ++ wants_sent env k.wants) ++ ended_sent env k.service.over e
@@ -113,7 +113,7 @@ module _ (env : NodeEnv) (w out : Stream) (vs : List Verdict) (was_reset : Bool)
     pend_after = verdicts_of k.batch;
     longer = h.longer;
     says = h.says;
-    agrees = ends-agree p k h.out_after h.vs_after (was_reset || list_any resets given.1.notes) given.0 h.agrees;
+    agrees = ends-agree p k h.out_after h.vs_after (was_reset || list_any is_reset_record given.1.notes) given.0 h.agrees;
     noted = h.noted;
     ways = ends-way p k given.0 right;
     sent = h.sent;
@@ -131,11 +131,11 @@ module _ (env : NodeEnv) (w out : Stream) (vs : List Verdict) (was_reset : Bool)
   none-before old q = record { again = []; first = []; is = refl; told = inl refl; said = tt }
 
   work-turns : (old p : NodePart) (before : List (Place × List ℕ)) (k : Work) → ((q : NodePart) → Before old q before) → Works env w out vs k → Right env w out vs k → Keeps old (with_work env p before k)
-  work-turns old p before k first h right = rests-turn old p before k (settled env.serve k.service) (first _) right (settled-ends env.serve w out vs was_reset k.service (verdicts_of k.batch) h)
+  work-turns old p before k first h right = rests-turn old p before k (serving_settled env.serve k.service) (first _) right (settled-ends env.serve w out vs was_reset k.service (verdicts_of k.batch) h)
 
   -- a stay that agrees
   abbrev pub IsHeld : List Verdict → ControlBlock × Stay → Type 0
-  IsHeld pend x = (pend ≡ verdicts_of x.1.batch) × HoldsIt w out vs pend x.0 x.1.served × AreOnTheWay env.serve.files x.1.batch
+  IsHeld pend x = (pend ≡ verdicts_of x.1.batch) × HoldsItPending w out vs pend x.0 x.1.served × AreOnTheWay env.serve.files x.1.batch
 
   pub same-works : (pend : List Verdict) (x : ControlBlock × Stay) → SaysAnswers env.serve.files w out vs → IsHeld pend x → Works env w out vs (work_of x.0 x.1)
   same-works pend x says h = subst (So env.serve w out vs (serving x.0 x.1.served [])) h.0 (same-so env.serve w out vs says pend x.0 x.1.served h.1)
@@ -148,17 +148,17 @@ module _ (env : NodeEnv) (w out : Stream) (vs : List Verdict) (was_reset : Bool)
     of-stay b None h ways = absurd h
     of-stay b (Some s) h ways = some (b, s) (h.0, h.1, ways)
 
-    of-stage : (p : NodePart) (c e : ℕ) (d : BackConn) → BackAgrees w out vs pend was_reset c e p d → StayComesOn env.serve.files p.stay → P (both_of (held_in d) p.stay)
+    of-stage : (p : NodePart) (c e : ℕ) (d : BackConn) → BackAgrees w out vs pend was_reset c e p d → StayComesOn env.serve.files p.stay → P (both_of (back_held d) p.stay)
     of-stage p c e (back.Here b) h ways = of-stay b p.stay h ways
     of-stage p c e _ h ways = none
 
-    pub at-endpoint : (p : NodePart) (c : ℕ) (o : Option BackRow) → RowAgrees w out vs pend was_reset c p o → StayComesOn env.serve.files p.stay → P (both_of (endpoint_of o) p.stay)
+    pub at-endpoint : (p : NodePart) (c : ℕ) (o : Option BackRow) → RowAgrees w out vs pend was_reset c p o → StayComesOn env.serve.files p.stay → P (both_of (back_endpoint o) p.stay)
     at-endpoint p c None h ways = absurd h
     at-endpoint p c (Some row) h ways = of-stage p c row.epoch.0 row.stage h ways
 
     pub at-epoch : (p : NodePart) (c : ℕ) (o : Option BackRow) → RowAgrees w out vs pend was_reset c p o → StayComesOn env.serve.files p.stay → P (both_of (staying env.epoch o) p.stay)
     at-epoch p c None h ways = absurd h
-    at-epoch p c (Some row) h ways = cond_both (row.epoch.0 == env.epoch) (held_in row.stage) None (λ b. P (both_of b p.stay))
+    at-epoch p c (Some row) h ways = cond_both (row.epoch.0 == env.epoch) (back_held row.stage) None (λ b. P (both_of b p.stay))
         (λ t. of-stage p c row.epoch.0 row.stage h ways) (λ t. none)
 
   -- ---- the rules
@@ -167,15 +167,15 @@ module _ (env : NodeEnv) (w out : Stream) (vs : List Verdict) (was_reset : Bool)
     goes-turn : (p_kept : NodePart) (k : Work) → Works env w out vs k → Right env w out vs k → Keeps p (with_work env p_kept [] (goes_on env k))
     goes-turn p_kept k works right = work-turns p p_kept [] (goes_on env k) (none-before p) (goes-so env w out vs talk.most k works right) (goes-right env k right)
 
-    hears-turn : (s : Said) → IsWord w s → Keeps p (heard_by env p (Ok s) (here env.epoch p))
-    hears-turn s word = at-epoch pend (λ x. Keeps p (heard_by env p (Ok s) x)) tt
+    hears-turn : (s : Said) → IsWord w s → Keeps p (node_heard_by env p (Ok s) (here env.epoch p))
+    hears-turn s word = at-epoch pend (λ x. Keeps p (node_heard_by env p (Ok s) x)) tt
         (λ x held. goes-turn p (work_of (on_segment x.0 s).1 x.1)
         (subst (So env.serve w out vs (serving (on_segment x.0 s).1 x.1.served [])) held.0 (heard-so env.serve w out vs talk.says pend x.0 x.1.served held.1 talk.stream s word)) held.2)
         p env.serve.c p.row h ways
 
     tags-turn : (number : ℕ) (nodes : List ℕ) → Keeps p (tagged_by env number nodes p (here env.epoch p))
     tags-turn number nodes = at-epoch pend (λ x. Keeps p (tagged_by env number nodes p x)) tt
-        (λ x held. cond_both (is_awaited env number nodes p x.1) (with_work env (record p { kept = without kind.Ask 0 p.kept }) [] (goes_on env (tagged env nodes (work_of x.0 x.1)))) Drops (Keeps p)
+        (λ x held. cond_both (is_tag_awaited env number nodes p x.1) (with_work env (record p { kept = without kind.Ask 0 p.kept }) [] (goes_on env (tagged env nodes (work_of x.0 x.1)))) Drops (Keeps p)
         (λ t. goes-turn (record p { kept = without kind.Ask 0 p.kept }) (tagged env nodes (work_of x.0 x.1)) (tagged-so env w out vs nodes (work_of x.0 x.1) (same-works pend x talk.says held)) (tagged-right env nodes (work_of x.0 x.1) held.2))
         (λ t. tt))
         p env.serve.c p.row h ways
@@ -190,18 +190,18 @@ module _ (env : NodeEnv) (w out : Stream) (vs : List Verdict) (was_reset : Bool)
         (λ t. tt))
         p env.serve.c p.row h ways
 
-    reads-turn : (r : ℕ) → Keeps p (read_by env r p (here env.epoch p))
-    reads-turn r = at-epoch pend (λ x. Keeps p (read_by env r p x)) tt
+    reads-turn : (r : ℕ) → Keeps p (node_read_by env r p (here env.epoch p))
+    reads-turn r = at-epoch pend (λ x. Keeps p (node_read_by env r p x)) tt
         (λ x held. goes-turn p (came_for read_progress r (work_of x.0 x.1)) (came-so env w out vs read_progress r (work_of x.0 x.1) (same-works pend x talk.says held))
         (came-right env.serve.files read_progress (read_progress-on env.serve.files) r (work_of x.0 x.1) held.2))
         p env.serve.c p.row h ways
 
-    fires-turn : Keeps p (fired_by env p (both_of (endpoint_of p.row) p.stay))
-    fires-turn = at-endpoint pend (λ x. Keeps p (fired_by env p x)) (inl refl) (λ x held. fires x held) p env.serve.c p.row h ways where
+    fires-turn : Keeps p (node_fired_by env p (both_of (back_endpoint p.row) p.stay))
+    fires-turn = at-endpoint pend (λ x. Keeps p (node_fired_by env p x)) (inl refl) (λ x held. fires x held) p env.serve.c p.row h ways where
       fires : (x : ControlBlock × Stay) → IsHeld pend x
-          → Turns p (fired env p x (spoken env.serve (serving (after_timer x.0) x.1.served []) (ready_of env.serve (after_timer x.0) (timed x.0))))
+          → Turns p (node_fired env p x (spoken env.serve (serving (after_timer x.0) x.1.served []) (serving_ready_of env.serve (after_timer x.0) (timed x.0))))
       fires x held =
-          let given : Ending × Turn = spoken env.serve (serving (after_timer x.0) x.1.served []) (ready_of env.serve (after_timer x.0) (timed x.0)) in
+          let given : Ending × Turn = spoken env.serve (serving (after_timer x.0) x.1.served []) (serving_ready_of env.serve (after_timer x.0) (timed x.0)) in
           rests-turn p p (again_sent p) (work_of (after_timer x.0) x.1) given (record { again = again_sent p; first = []; is = sym (append-nil (again_sent p)); told = inr refl; said = tt }) held.2
           (subst (λ (us : List Verdict). EndTurned env.serve.files env.serve.c w out vs was_reset us given) held.0 (fired-ends env.serve w out vs talk.says pend x.0 x.1.served held.1 was_reset))
 
@@ -243,7 +243,7 @@ module _ (env : NodeEnv) (w out : Stream) (vs : List Verdict) (was_reset : Bool)
 
     offers-turn : (a : Adopt) → Keeps p (offered_by env parts p a)
     offers-turn New =
-        let first : Work = begins env parts in
+        let first : Work = node_begins env parts in
         let may : MayGo w offered-so.vs_now [] first.service = go-on env.serve w out vs first.service [] offered-so refl refl refl in
         let works = first-so env w out vs true first offered-so may refl in
         let right = batch-right env true first tt in

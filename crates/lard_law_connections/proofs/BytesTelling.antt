@@ -4,7 +4,7 @@ use Rattle.lard_answers.specs.Answers.{FilesAt}
 use Rattle.lard_base.specs.declared.place.Place.{Place}
 use Rattle.lard_base.specs.declared.place.Place.TheVariants.{Client, Front, Node}
 use Rattle.lard_law_connections.proofs.BytesLaw.{IsHead, IsSeenTrue, OwnerServes}
-use Rattle.lard_law_connections.specs.BytesRecords.{IsTrueAfter, MayServe}
+use Rattle.lard_law_connections.specs.BytesRecords.{IsOwnedTrueAfter, MayServeOwned}
 use Rattle.lard_law_connections.specs.BytesTurning.{AnswersAfter, IsNoteOf}
 use Rattle.lard_law_view.specs.Carry.{TellsBy}
 use Rattle.lard_law_view.specs.View.{GoesBetween, IsMachine, sending}
@@ -27,7 +27,7 @@ use Rattle.lard_law_view.specs.Truth.{Stream}
 
 module _ (files : FilesAt) (c : ℕ) where
   abbrev pub Tells : Tale → List Rec → Type 0
-  Tells t rs = TellsBy (IsTrueAfter files c) c t rs
+  Tells t rs = TellsBy (IsOwnedTrueAfter files c) c t rs
 
   -- ---- heads, timers, what is given up, messages
 
@@ -44,7 +44,7 @@ module _ (files : FilesAt) (c : ℕ) where
   timers-true place d t (rec.Cleared p e kind ∷ rs) h = ((λ J is. (tt, tt, tt)), timers-true place d (tale_step c t (rec.Cleared p e kind)) rs h.1)
   timers-true place d t (_ ∷ rs) h = absurd h.0
 
-  gave-may : (place : Place) (d : ℕ) (t : Tale) (r : Rec) → GaveAt place d r → IsTrueAfter files c t r
+  gave-may : (place : Place) (d : ℕ) (t : Tale) (r : Rec) → GaveAt place d r → IsOwnedTrueAfter files c t r
   gave-may Front d t (rec.Gave p e epoch) h = λ J is. (tt, tt, tt)
   gave-may (Node n) d t (rec.Gave p e epoch) h = λ J is. (tt, tt, tt)
   gave-may (Client k) d t r h = absurd h
@@ -56,7 +56,7 @@ module _ (files : FilesAt) (c : ℕ) where
   gave-true place d t (r ∷ rs) h = (gave-may place d t r h.0, gave-true place d (tale_step c t r) rs h.1)
 
   -- a message to another machine tells a client nothing
-  message-may : (t : Tale) (from to : Place) (bytes : List ℕ) → IsMachine to → IsTrueAfter files c t (rec.Sent 0 from to bytes)
+  message-may : (t : Tale) (from to : Place) (bytes : List ℕ) → IsMachine to → IsOwnedTrueAfter files c t (rec.Sent 0 from to bytes)
   message-may t from (Client d) bytes m = absurd m
   message-may t (Client d) to bytes m = λ J is. (tt, tt, tt)
   message-may t Front Front bytes m = λ J is. (tt, tt, tt)
@@ -132,10 +132,10 @@ module _ (files : FilesAt) (c : ℕ) where
     next-moment (Client d) t s m r h = absurd m
 
     -- it is true where it stands
-    reply-told : SaysAnswers files w out vs → (place : Place) (t : Tale) (s : Place × List ℕ) → IsMachine place → AreReplies c w out reset (s ∷ []) → At t → IsTrueAfter files c t (sending place s)
-    reply-told says Front t s m r h J e = subst (λ (to : Place). MayTell files J (rec.Sent 0 Front to s.1) × MayServe files J (rec.Sent 0 Front to s.1) × old.MayAccept files J (rec.Sent 0 Front to s.1)) (sym r.0)
+    reply-told : SaysAnswers files w out vs → (place : Place) (t : Tale) (s : Place × List ℕ) → IsMachine place → AreReplies c w out reset (s ∷ []) → At t → IsOwnedTrueAfter files c t (sending place s)
+    reply-told says Front t s m r h J e = subst (λ (to : Place). MayTell files J (rec.Sent 0 Front to s.1) × MayServeOwned files J (rec.Sent 0 Front to s.1) × old.MayAccept files J (rec.Sent 0 Front to s.1)) (sym r.0)
         ((λ u. told-one files c w out vs reset J r.1.0 s.1 says (subst At (sym e) h) r.1.1 r.1.2), tt, tt)
-    reply-told says (Node n) t s m r h J e = subst (λ (to : Place). MayTell files J (rec.Sent 0 (Node n) to s.1) × MayServe files J (rec.Sent 0 (Node n) to s.1) × old.MayAccept files J (rec.Sent 0 (Node n) to s.1)) (sym r.0)
+    reply-told says (Node n) t s m r h J e = subst (λ (to : Place). MayTell files J (rec.Sent 0 (Node n) to s.1) × MayServeOwned files J (rec.Sent 0 (Node n) to s.1) × old.MayAccept files J (rec.Sent 0 (Node n) to s.1)) (sym r.0)
         ((λ u. told-one files c w out vs reset J r.1.0 s.1 says (subst At (sym e) h) r.1.1 r.1.2), tt, tt)
     reply-told says (Client d) t s m r h J e = absurd m
 

@@ -3,11 +3,11 @@ use Rattle.std.proofs.Common.{◌≡◌, ◌+◌, ◌||◌, ℕ, Bool, true, fal
 use Rattle.std.specs.List.{fold, list_any}
 use Rattle.lard_base.specs.declared.place.Place.{Place}
 use Rattle.lard_base.specs.declared.place.Place.TheVariants.{Client, Front, Node}
-use Rattle.lard_law_connections.specs.BytesAgreement.{TaleAgrees}
+use Rattle.lard_law_connections.specs.BytesAgreement.{TaleAgreesWithTalk}
 use Rattle.lard_law_connections.proofs.BytesLaw.{IsHead}
 use Rattle.lard_law_connections.specs.BytesTurning.{IsNoteOf}
 use Rattle.lard_law_view.specs.Carry.{tale_at}
-use Rattle.lard_law_view.specs.View.{Conn, Move, grown, named, sending}
+use Rattle.lard_law_view.specs.View.{Conn, Move, grown, named_records, sending}
 use Rattle.lard_law_view.proofs.Saying.{AreMessages, GaveAt}
 use Rattle.lard_law_view.proofs.Rows.{grown-tale, tale_before}
 use Rattle.lard_history.specs.Journal.{Numbers, Tale, tale_step, told_on}
@@ -15,7 +15,7 @@ use Rattle.lard_history.specs.Own.{Came, Row, Seen, seen_step}
 use Rattle.lard_history.proofs.Each.{Each}
 use Rattle.lard_journal.specs.declared.rec.Rec.{Rec}
 use Rattle.lard_journal.specs.declared.rec.Rec.TheVariants as rec
-use Rattle.lard_law_view.specs.Keeping.{resets, served_in, size_in}
+use Rattle.lard_law_view.specs.Keeping.{is_reset_record, served_in, bytes_served_in}
 use Rattle.lard_law_view.specs.Truthful.{Talk}
 use Rattle.lard_law_view.proofs.Notes.{Adds, adds-both, adds-none, or-false, same-number}
 use Rattle.lard_law_view.specs.Truth.{Stream}
@@ -33,7 +33,7 @@ pub record Bytes : Type 0 where
 abbrev pub bytes_of : Tale → Bytes
 bytes_of t = record { numbers = t.numbers; wrote = t.wrote; accepted = t.accepted; served = t.served; served_bytes = t.served_bytes; was_reset = t.was_reset }
 
-pub tale-agrees : (k : Talk) (n : ℕ) (t u : Tale) → bytes_of u ≡ bytes_of t → (u.fin_sent ≡ true → k.out.ended ≡ true) → TaleAgrees k n t → TaleAgrees k n u
+pub tale-agrees : (k : Talk) (n : ℕ) (t u : Tale) → bytes_of u ≡ bytes_of t → (u.fin_sent ≡ true → k.out.ended ≡ true) → TaleAgreesWithTalk k n t → TaleAgreesWithTalk k n u
 tale-agrees k n t u e fin h = record {
   numbers = ap (λ (b : Bytes). b.numbers) e ∙ h.numbers;
   wrote = ap (λ (b : Bytes). b.wrote) e ∙ h.wrote;
@@ -92,10 +92,10 @@ move-bytes x v of gave =
 quiet : (t u v : Tale) (n s : ℕ) (r : Bool) → Adds t [] [] 0 0 false u → Adds u [] [] n s r v → Adds t [] [] n s r v
 quiet t u v n s r a b = adds-both t u v [] [] [] [] 0 n n 0 s s false r (omega arith) (omega arith) a b
 
-pub place-notes : (c : ℕ) (t : Tale) (rs : List Rec) → Each (IsNoteOf c) rs → Adds t [] [] (served_in rs) (size_in rs) (list_any resets rs) (told_on c t rs)
+pub place-notes : (c : ℕ) (t : Tale) (rs : List Rec) → Each (IsNoteOf c) rs → Adds t [] [] (served_in rs) (bytes_served_in rs) (list_any is_reset_record rs) (told_on c t rs)
 place-notes c t [] h = adds-none t t refl refl refl refl refl refl refl
 place-notes c t (rec.Served place d r code size via ∷ rs) h =
-    adds-both t (tale_step c t (rec.Served place d r code size via)) (told_on c (tale_step c t (rec.Served place d r code size via)) rs) [] [] [] [] 1 (served_in rs) (1 + served_in rs) size (size_in rs) (size + size_in rs) false (list_any resets rs) refl refl
+    adds-both t (tale_step c t (rec.Served place d r code size via)) (told_on c (tale_step c t (rec.Served place d r code size via)) rs) [] [] [] [] 1 (served_in rs) (1 + served_in rs) size (bytes_served_in rs) (size + bytes_served_in rs) false (list_any is_reset_record rs) refl refl
     (record {
       numbers = refl;
       wrote = sym (append-nil t.wrote);
@@ -107,7 +107,7 @@ place-notes c t (rec.Served place d r code size via ∷ rs) h =
     })
     (place-notes c (tale_step c t (rec.Served place d r code size via)) rs h.1)
 place-notes c t (rec.Reset place d total ∷ rs) h =
-    adds-both t (tale_step c t (rec.Reset place d total)) (told_on c (tale_step c t (rec.Reset place d total)) rs) [] [] [] [] 0 (served_in rs) (served_in rs) 0 (size_in rs) (size_in rs) true (list_any resets rs) (omega arith) (omega arith)
+    adds-both t (tale_step c t (rec.Reset place d total)) (told_on c (tale_step c t (rec.Reset place d total)) rs) [] [] [] [] 0 (served_in rs) (served_in rs) 0 (bytes_served_in rs) (bytes_served_in rs) true (list_any is_reset_record rs) (omega arith) (omega arith)
     (record {
       numbers = refl;
       wrote = sym (append-nil t.wrote);
@@ -137,7 +137,7 @@ place-notes c t (_ ∷ rs) h = absurd h.0
 
 -- ---- of a node's notes those count that name a connection
 
-pub named-each : (c : ℕ) (rs : List Rec) → Each (IsNoteOf c) rs → Each (IsNoteOf c) (named rs)
+pub named-each : (c : ℕ) (rs : List Rec) → Each (IsNoteOf c) rs → Each (IsNoteOf c) (named_records rs)
 named-each c [] h = tt
 named-each c (rec.Served place d r code size via ∷ rs) h = (h.0, named-each c rs h.1)
 named-each c (rec.Reset place d total ∷ rs) h = (h.0, named-each c rs h.1)
@@ -155,20 +155,20 @@ named-each c (_ ∷ rs) h = absurd h.0
 
 -- what counts a record that names a connection, or nothing, counts the same of the named ones
 module _ {A : Type 0} (f : List Rec → A) (g : Rec → A → A) (more : (r : Rec) (rs : List Rec) → f (r ∷ rs) ≡ g r (f rs)) (none : (n : ℕ) (path : List ℕ) (a : A) → g (rec.Hit n path) a ≡ a) where
-  pub named-same : (c : ℕ) (rs : List Rec) → Each (IsNoteOf c) rs → f (named rs) ≡ f rs
+  pub named-same : (c : ℕ) (rs : List Rec) → Each (IsNoteOf c) rs → f (named_records rs) ≡ f rs
   named-same c [] h = refl
   named-same c (rec.Hit n path ∷ rs) h = named-same c rs h.1 ∙ sym (none n path (f rs)) ∙ sym (more (rec.Hit n path) rs)
-  named-same c (rec.Served place d r code size via ∷ rs) h = more _ (named rs) ∙ ap (g _) (named-same c rs h.1) ∙ sym (more (rec.Served place d r code size via) rs)
-  named-same c (rec.Reset place d total ∷ rs) h = more _ (named rs) ∙ ap (g _) (named-same c rs h.1) ∙ sym (more (rec.Reset place d total) rs)
-  named-same c (rec.Took place d epoch ∷ rs) h = more _ (named rs) ∙ ap (g _) (named-same c rs h.1) ∙ sym (more (rec.Took place d epoch) rs)
-  named-same c (rec.Queued n m d r path ∷ rs) h = more _ (named rs) ∙ ap (g _) (named-same c rs h.1) ∙ sym (more (rec.Queued n m d r path) rs)
-  named-same c (rec.Read n m d r path ∷ rs) h = more _ (named rs) ∙ ap (g _) (named-same c rs h.1) ∙ sym (more (rec.Read n m d r path) rs)
-  named-same c (rec.Waits d ∷ rs) h = more _ (named rs) ∙ ap (g _) (named-same c rs h.1) ∙ sym (more (rec.Waits d) rs)
-  named-same c (rec.Admitted d ∷ rs) h = more _ (named rs) ∙ ap (g _) (named-same c rs h.1) ∙ sym (more (rec.Admitted d) rs)
-  named-same c (rec.Released d ∷ rs) h = more _ (named rs) ∙ ap (g _) (named-same c rs h.1) ∙ sym (more (rec.Released d) rs)
-  named-same c (rec.AssignedFirst d r path n add remove ∷ rs) h = more _ (named rs) ∙ ap (g _) (named-same c rs h.1) ∙ sym (more (rec.AssignedFirst d r path n add remove) rs)
-  named-same c (rec.AssignedLater d r path n add size queue ∷ rs) h = more _ (named rs) ∙ ap (g _) (named-same c rs h.1) ∙ sym (more (rec.AssignedLater d r path n add size queue) rs)
-  named-same c (rec.BatchOver d ∷ rs) h = more _ (named rs) ∙ ap (g _) (named-same c rs h.1) ∙ sym (more (rec.BatchOver d) rs)
+  named-same c (rec.Served place d r code size via ∷ rs) h = more _ (named_records rs) ∙ ap (g _) (named-same c rs h.1) ∙ sym (more (rec.Served place d r code size via) rs)
+  named-same c (rec.Reset place d total ∷ rs) h = more _ (named_records rs) ∙ ap (g _) (named-same c rs h.1) ∙ sym (more (rec.Reset place d total) rs)
+  named-same c (rec.Took place d epoch ∷ rs) h = more _ (named_records rs) ∙ ap (g _) (named-same c rs h.1) ∙ sym (more (rec.Took place d epoch) rs)
+  named-same c (rec.Queued n m d r path ∷ rs) h = more _ (named_records rs) ∙ ap (g _) (named-same c rs h.1) ∙ sym (more (rec.Queued n m d r path) rs)
+  named-same c (rec.Read n m d r path ∷ rs) h = more _ (named_records rs) ∙ ap (g _) (named-same c rs h.1) ∙ sym (more (rec.Read n m d r path) rs)
+  named-same c (rec.Waits d ∷ rs) h = more _ (named_records rs) ∙ ap (g _) (named-same c rs h.1) ∙ sym (more (rec.Waits d) rs)
+  named-same c (rec.Admitted d ∷ rs) h = more _ (named_records rs) ∙ ap (g _) (named-same c rs h.1) ∙ sym (more (rec.Admitted d) rs)
+  named-same c (rec.Released d ∷ rs) h = more _ (named_records rs) ∙ ap (g _) (named-same c rs h.1) ∙ sym (more (rec.Released d) rs)
+  named-same c (rec.AssignedFirst d r path n add remove ∷ rs) h = more _ (named_records rs) ∙ ap (g _) (named-same c rs h.1) ∙ sym (more (rec.AssignedFirst d r path n add remove) rs)
+  named-same c (rec.AssignedLater d r path n add size queue ∷ rs) h = more _ (named_records rs) ∙ ap (g _) (named-same c rs h.1) ∙ sym (more (rec.AssignedLater d r path n add size queue) rs)
+  named-same c (rec.BatchOver d ∷ rs) h = more _ (named_records rs) ∙ ap (g _) (named-same c rs h.1) ∙ sym (more (rec.BatchOver d) rs)
   named-same c (_ ∷ rs) h = absurd h.0
 
 served_by : Rec → ℕ → ℕ
@@ -179,38 +179,38 @@ size_by : Rec → ℕ → ℕ
 size_by (rec.Served place d r code size via) n = size + n
 size_by _ n = n
 
-pub named-resets : (c : ℕ) (rs : List Rec) → Each (IsNoteOf c) rs → list_any resets (named rs) ≡ list_any resets rs
-named-resets = named-same (list_any resets) (λ r b. resets r || b) (λ r rs. refl) (λ n path b. refl)
+pub named-resets : (c : ℕ) (rs : List Rec) → Each (IsNoteOf c) rs → list_any is_reset_record (named_records rs) ≡ list_any is_reset_record rs
+named-resets = named-same (list_any is_reset_record) (λ r b. is_reset_record r || b) (λ r rs. refl) (λ n path b. refl)
 
 served-more : (r : Rec) (rs : List Rec) → served_in (r ∷ rs) ≡ served_by r (served_in rs)
 unfolding served_by
 served-more (rec.Served place d k code size via) rs = refl
 served-more _ rs = refl
 
-size-more : (r : Rec) (rs : List Rec) → size_in (r ∷ rs) ≡ size_by r (size_in rs)
+size-more : (r : Rec) (rs : List Rec) → bytes_served_in (r ∷ rs) ≡ size_by r (bytes_served_in rs)
 unfolding size_by
 size-more (rec.Served place d k code size via) rs = refl
 size-more _ rs = refl
 
-pub named-served : (c : ℕ) (rs : List Rec) → Each (IsNoteOf c) rs → served_in (named rs) ≡ served_in rs
+pub named-served : (c : ℕ) (rs : List Rec) → Each (IsNoteOf c) rs → served_in (named_records rs) ≡ served_in rs
 unfolding served_by
 named-served = named-same served_in served_by served-more (λ n path a. refl)
 
-pub named-size : (c : ℕ) (rs : List Rec) → Each (IsNoteOf c) rs → size_in (named rs) ≡ size_in rs
+pub named-size : (c : ℕ) (rs : List Rec) → Each (IsNoteOf c) rs → bytes_served_in (named_records rs) ≡ bytes_served_in rs
 unfolding size_by
-named-size = named-same size_in size_by size-more (λ n path a. refl)
+named-size = named-same bytes_served_in size_by size-more (λ n path a. refl)
 
 -- ---- what a turn adds, by what it counted
 
 -- of a place that serves
-pub served-tale : (k l : Talk) (n : ℕ) (t u : Tale) (notes : List Rec) → TaleAgrees k n t → l.w ≡ k.w → l.out.first ≡ k.out.first → take n l.out.bytes ≡ take n k.out.bytes
-    → (k.out.ended ≡ true → l.out.ended ≡ true) → length l.vs ≡ length k.vs + served_in notes → length l.out.bytes ≡ length k.out.bytes + size_in notes → l.was_reset ≡ (k.was_reset || list_any resets notes) → Adds t [] [] (served_in notes) (size_in notes) (list_any resets notes) u → TaleAgrees l n u
+pub served-tale : (k l : Talk) (n : ℕ) (t u : Tale) (notes : List Rec) → TaleAgreesWithTalk k n t → l.w ≡ k.w → l.out.first ≡ k.out.first → take n l.out.bytes ≡ take n k.out.bytes
+    → (k.out.ended ≡ true → l.out.ended ≡ true) → length l.vs ≡ length k.vs + served_in notes → length l.out.bytes ≡ length k.out.bytes + bytes_served_in notes → l.was_reset ≡ (k.was_reset || list_any is_reset_record notes) → Adds t [] [] (served_in notes) (bytes_served_in notes) (list_any is_reset_record notes) u → TaleAgreesWithTalk l n u
 served-tale k l n t u notes h w first same ended served size reset adds = record {
   numbers = adds.numbers ∙ h.numbers ∙ (λ i. Some (record { isn = (sym w i).first; iss = sym first i }));
   wrote = adds.wrote ∙ append-nil t.wrote ∙ h.wrote ∙ ap (λ (s : Stream). s.bytes) (sym w);
   accepted_is = adds.accepted ∙ append-nil t.accepted ∙ h.accepted_is ∙ sym same;
   served = adds.served ∙ ap (λ m. m + served_in notes) h.served ∙ sym served;
-  served_bytes = adds.served_bytes ∙ ap (λ m. m + size_in notes) h.served_bytes ∙ sym size;
-  was_reset = adds.was_reset ∙ ap (λ b. b || list_any resets notes) h.was_reset ∙ sym reset;
+  served_bytes = adds.served_bytes ∙ ap (λ m. m + bytes_served_in notes) h.served_bytes ∙ sym size;
+  was_reset = adds.was_reset ∙ ap (λ b. b || list_any is_reset_record notes) h.was_reset ∙ sym reset;
   fin = λ e. ended (h.fin (sym adds.fin_sent ∙ e));
 }

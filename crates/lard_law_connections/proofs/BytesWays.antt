@@ -14,11 +14,11 @@ use Rattle.lard_rules.specs.declared.stay.Next.{Next}
 use Rattle.lard_rules.specs.declared.stay.Next.TheVariants as next
 use Rattle.lard_rules.specs.declared.stay.Progress.{Progress}
 use Rattle.lard_rules.specs.declared.stay.Progress.TheVariants as progress
-use Rattle.lard_rules.specs.Stay.{NodeEnv, Work, asks_for, came_for, come_on, come_progress, entered, enters, enters_first, enters_one, goes_on, left, left_by, named_path, named_paths, next_of, noted, path_in, progress_of, reads_batch, reads_these, read_entry, read_progress, serves_by, serves_first, started, started_here, started_there, starts_at, starts_named, starts_one, tagged, turn, turned}
+use Rattle.lard_rules.specs.Stay.{NodeEnv, Work, asks_for, came_for, come_on, come_progress, entered, enters, enters_first, enters_one, goes_on, work_left, left_by, named_path, named_paths, next_of, noted, path_in, progress_of, reads_batch, reads_these, read_entry, read_progress, serves_by, serves_first, started, started_here, started_there, starts_at, starts_named, starts_one, tagged, stay_turn, turned}
 use Rattle.lard_reader.specs.Batches.{batch_of, bytes_used}
 use Rattle.lard_request.specs.declared.verdict.Verdict.{Verdict}
 use Rattle.lard_rules.specs.Loop.{Step, More, Done, state_of}
-use Rattle.lard_rules.specs.Serving.{answered, consumed}
+use Rattle.lard_rules.specs.Serving.{answered, serving_consumed}
 use Rattle.lard_rules.proofs.Runs.{runs_keep}
 
 -- ---- ways
@@ -111,8 +111,8 @@ module _ (env : NodeEnv) where
   these-right : (here : Bool) (used : ℕ) (w : Work) (vs : List Verdict) → So w → StepsRight (reads_these env here used w vs)
   these-right here used w [] h = h
   these-right here used w (v ∷ vs) h =
-      let all : Work = enters env here (w.service.count + 1) (v ∷ vs) (record w { service = consumed used w.service }) in
-      asks-right (length (v ∷ vs)) (named_paths files all.batch) all (all-right here (w.service.count + 1) (v ∷ vs) (record w { service = consumed used w.service }) h)
+      let all : Work = enters env here (w.service.count + 1) (v ∷ vs) (record w { service = serving_consumed used w.service }) in
+      asks-right (length (v ∷ vs)) (named_paths files all.batch) all (all-right here (w.service.count + 1) (v ∷ vs) (record w { service = serving_consumed used w.service }) h)
 
   batch-steps : (here : Bool) (w : Work) → So w → StepsRight (reads_batch env here w)
   batch-steps here w h = these-right here (bytes_used 8 w.service.block.recv.unread) w (batch_of 8 w.service.block.recv.unread) h
@@ -141,11 +141,11 @@ module _ (env : NodeEnv) where
   turned-right w next.Read h = batch-steps false w h
   turned-right w next.Stop h = h
 
-  pub turn-right : (w : Work) → So w → StepsRight (turn env w)
+  pub turn-right : (w : Work) → So w → StepsRight (stay_turn env w)
   turn-right w h = turned-right w (next_of w) h
 
   pub goes-right : (w : Work) → So w → So (goes_on env w)
-  goes-right w h = runs_keep (turn env) left So (record {
+  goes-right w h = runs_keep (stay_turn env) work_left So (record {
     more = λ y z e p. subst StepsRight e (turn-right y p);
     done = λ y z e p. subst StepsRight e (turn-right y p);
   }) w h

@@ -5,7 +5,7 @@ use Rattle.std.proofs.lemmas.Bool.{cond_both}
 use Rattle.std.proofs.lemmas.List.{map-append}
 use Rattle.lard_answers.specs.Answers.{good_path}
 use Rattle.lard_base.specs.declared.place.Via.TheVariants as via
-use Rattle.lard_law_connections.specs.BytesAgreement.{AreOnTheWay, ComesOn, HasRead}
+use Rattle.lard_law_connections.specs.BytesAgreement.{AreOnTheWay, ComesOn, HasReadPending}
 use Rattle.lard_law_connections.specs.BytesTurning.{IsNoteOf}
 use Rattle.lard_law_connections.proofs.BytesReading.{batch-read}
 use Rattle.lard_law_connections.proofs.BytesServing.{MayGo, So, answered-serves, consumed-serves, ended-serves, go-on, left_of, may-go, noted-serves}
@@ -14,17 +14,17 @@ use Rattle.lard_endpoint.specs.Control.{consuming}
 use Rattle.lard_history.proofs.Each.{Each, Each-append}
 use Rattle.lard_journal.specs.declared.rec.Rec.{Rec}
 use Rattle.lard_journal.specs.declared.rec.Rec.TheVariants as rec
-use Rattle.lard_law_view.specs.Keeping.{resets, served_in, size_in}
+use Rattle.lard_law_view.specs.Keeping.{is_reset_record, served_in, bytes_served_in}
 use Rattle.lard_rules.specs.declared.stay.Entry.{Entry}
 use Rattle.lard_rules.specs.declared.stay.Next.{Next}
 use Rattle.lard_rules.specs.declared.stay.Next.TheVariants as next
 use Rattle.lard_rules.specs.declared.stay.Progress.{Progress}
 use Rattle.lard_rules.specs.declared.stay.Progress.TheVariants as progress
-use Rattle.lard_rules.specs.Stay.{NodeEnv, Work, asks_for, came_for, come_on, entered, enters, enters_first, enters_one, goes_on, left, left_by, named_path, named_paths, next_by, next_in, noted, reads_batch, reads_these, read_entry, serves_by, serves_first, started, started_here, started_there, starts_at, starts_named, starts_one, tagged, turn, turned}
+use Rattle.lard_rules.specs.Stay.{NodeEnv, Work, asks_for, came_for, come_on, entered, enters, enters_first, enters_one, goes_on, work_left, left_by, named_path, named_paths, next_by, next_in, noted, reads_batch, reads_these, read_entry, serves_by, serves_first, started, started_here, started_there, starts_at, starts_named, starts_one, tagged, stay_turn, turned}
 use Rattle.lard_reader.specs.Batches.{batch_of, bytes_used}
 use Rattle.lard_request.specs.declared.verdict.Verdict.{Verdict}
 use Rattle.lard_rules.specs.Loop.{Step, More, Done, state_of}
-use Rattle.lard_rules.specs.Serving.{Service, answered, consumed, ended_at_fin, may_read}
+use Rattle.lard_rules.specs.Serving.{Service, answered, serving_consumed, ended_at_fin, may_read}
 use Rattle.lard_rules.proofs.Runs.{runs_keep}
 use Rattle.lard_law_view.specs.Truth.{Stream}
 
@@ -136,13 +136,13 @@ mute-served (rec.Hit n path ∷ rs) h = mute-served rs h.1
 mute-served (rec.Queued n m d r path ∷ rs) h = mute-served rs h.1
 mute-served (_ ∷ rs) h = absurd h.0
 
-mute-resets : (rs : List Rec) → Each IsMute rs → list_any resets rs ≡ false
+mute-resets : (rs : List Rec) → Each IsMute rs → list_any is_reset_record rs ≡ false
 mute-resets [] h = refl
 mute-resets (rec.Hit n path ∷ rs) h = mute-resets rs h.1
 mute-resets (rec.Queued n m d r path ∷ rs) h = mute-resets rs h.1
 mute-resets (_ ∷ rs) h = absurd h.0
 
-mute-size : (rs : List Rec) → Each IsMute rs → size_in rs ≡ 0
+mute-size : (rs : List Rec) → Each IsMute rs → bytes_served_in rs ≡ 0
 mute-size [] h = refl
 mute-size (rec.Hit n path ∷ rs) h = mute-size rs h.1
 mute-size (rec.Queued n m d r path ∷ rs) h = mute-size rs h.1
@@ -181,15 +181,15 @@ module _ (env : NodeEnv) (w out : Stream) (vs : List Verdict) where
       → StepsSo (reads_these env here (bytes_used 8 k.service.block.recv.unread) k us)
   these-so here k h may none [] is =
       let used : ℕ = bytes_used 8 k.service.block.recv.unread in
-      let read : HasRead w (consuming k.service.block used) h.vs_now [] = subst (HasRead w (consuming k.service.block used) h.vs_now) is (batch-read w k.service.block h.vs_now h.between.hears may.keeps may.read 8) in
-      let s : Service = consumed used k.service in
+      let read : HasReadPending w (consuming k.service.block used) h.vs_now [] = subst (HasReadPending w (consuming k.service.block used) h.vs_now) is (batch-read w k.service.block h.vs_now h.between.hears may.keeps may.read 8) in
+      let s : Service = serving_consumed used k.service in
       let so : So env.serve w out vs s [] = consumed-serves env.serve w out vs used k.service [] h may.none read in
       subst (λ (es : List Entry). So env.serve w out vs (ended_at_fin s) (verdicts_of es)) (sym none)
       (ended-serves env.serve w out vs s so (go-on env.serve w out vs s [] so may.none may.unfinished may.keeps))
   these-so here k h may none (v ∷ us) is =
       let used : ℕ = bytes_used 8 k.service.block.recv.unread in
-      let read : HasRead w (consuming k.service.block used) h.vs_now (v ∷ us) = subst (HasRead w (consuming k.service.block used) h.vs_now) is (batch-read w k.service.block h.vs_now h.between.hears may.keeps may.read 8) in
-      let start : Work = record k { service = consumed used k.service } in
+      let read : HasReadPending w (consuming k.service.block used) h.vs_now (v ∷ us) = subst (HasReadPending w (consuming k.service.block used) h.vs_now) is (batch-read w k.service.block h.vs_now h.between.hears may.keeps may.read 8) in
+      let start : Work = record k { service = serving_consumed used k.service } in
       let so : So env.serve w out vs start.service (v ∷ us) = consumed-serves env.serve w out vs used k.service (v ∷ us) h may.none read in
       let all : Work = enters env here (k.service.count + 1) (v ∷ us) start in
       let e : Enters start all (v ∷ us) = all-enter env here (k.service.count + 1) (v ∷ us) start in
@@ -239,7 +239,7 @@ module _ (env : NodeEnv) (w out : Stream) (vs : List Verdict) where
     serves-none (progress.Awaited node) f = cc
   next-so most k may h right es is next.Stop e = h
 
-  pub turn-so : env.serve.stream ≤ 2 ^ 30 → (k : Work) → Works k → Right k → StepsSo (turn env k)
+  pub turn-so : env.serve.stream ≤ 2 ^ 30 → (k : Work) → Works k → Right k → StepsSo (stay_turn env k)
   turn-so most k h right = go (may_read k.service) refl where
     go : (b : Bool) → may_read k.service ≡ b → StepsSo (turned env k (cond b (next_in k.batch) next.Stop))
     go true may = next-so most k may h right k.batch refl (next_in k.batch) refl
@@ -247,7 +247,7 @@ module _ (env : NodeEnv) (w out : Stream) (vs : List Verdict) where
 
   -- the stay goes on
   pub goes-so : env.serve.stream ≤ 2 ^ 30 → (k : Work) → Works k → Right k → Works (goes_on env k)
-  goes-so most k h right = (runs_keep (turn env) left (λ (u : Work). Works u × Right u) (record {
+  goes-so most k h right = (runs_keep (stay_turn env) work_left (λ (u : Work). Works u × Right u) (record {
     more = λ y z e p. (subst StepsSo e (turn-so most y p.0 p.1), subst (StepsRight env) e (turn-right env y p.1));
     done = λ y z e p. (subst StepsSo e (turn-so most y p.0 p.1), subst (StepsRight env) e (turn-right env y p.1));
   }) k (h, right)).0

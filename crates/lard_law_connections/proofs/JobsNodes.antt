@@ -21,8 +21,8 @@ use Rattle.lard_handoff_back.specs.declared.row.BackConn.TheVariants as back
 use Rattle.lard_handoff_back.specs.declared.row.BackRow.{BackRow}
 use Rattle.lard_handoff_back.specs.declared.table.Adopt.{Adopt}
 use Rattle.lard_handoff_back.specs.declared.table.Adopt.TheVariants.{New, Again, Stale}
-use Rattle.lard_handoff_back.specs.Back.{awaits_ack, endpoint_of, offer_answer, staying}
-use Rattle.lard_handoff_back.specs.Row.{held_in}
+use Rattle.lard_handoff_back.specs.Back.{awaits_ack, back_endpoint, offer_answer, staying}
+use Rattle.lard_handoff_back.specs.Row.{back_held}
 use Rattle.lard_history.specs.Own.{Has}
 use Rattle.lard_history.proofs.Seeing.{by_number, same_number}
 use Rattle.lard_lateral.specs.Lateral.{is_from}
@@ -37,21 +37,21 @@ use Rattle.lard_rules.specs.declared.node.NodeState.{NodeState}
 use Rattle.lard_rules.specs.declared.node.NodeTurn.{NodeTurn}
 use Rattle.lard_rules.specs.declared.stay.Entry.{Entry}
 use Rattle.lard_rules.specs.declared.stay.Stay.{Stay}
-use Rattle.lard_rules.specs.Node.{Deed, Drops, Says, Does, NodePart, begins, both_of, come_by, fired_by, gone, heard_by, is_awaited, kept_after, node_acknowledged, node_content, node_forwarded, node_offered, node_read, node_tagged, node_timer, offered_by, read_by, saying, tagged_by, taken_sent, with_work, work_of}
-use Rattle.lard_rules.specs.NodePlace.{NodeSetting, aside, brought, completed, content_sent, disk_step, epoch_at, fetched, fetched_file, node_deed, node_env, node_gets, node_hears, node_part, node_put, node_step, told}
+use Rattle.lard_rules.specs.Node.{NodeDeed, Drops, Says, Does, NodePart, node_begins, both_of, come_by, node_fired_by, gone, node_heard_by, is_tag_awaited, kept_after, node_acknowledged, node_content, node_forwarded, node_offered, node_read, node_tagged, node_timer, offered_by, node_read_by, node_saying, tagged_by, taken_sent, with_work, work_of}
+use Rattle.lard_rules.specs.NodePlace.{NodeSetting, aside, node_brought, completed, content_sent, disk_step, node_epoch_at, fetched, fetched_file, node_deed, node_env, node_gets, node_hears, node_part, node_put, node_step, stores_told}
 use Rattle.lard_rules.specs.Stay.{NodeEnv, Work, came_for, come_on, come_progress, goes_on, read_progress, reads_batch, tagged}
 use Rattle.lard_resend.specs.Kept.{is_under, without}
 use Rattle.lard_rules.specs.declared.places.Out.{Out}
 use Rattle.lard_rules.specs.declared.places.Ending.{Ending}
 use Rattle.lard_rules.specs.declared.places.Ending.TheVariants as ending
 use Rattle.lard_rules.specs.Loop.{state_of}
-use Rattle.lard_rules.specs.Serving.{Service, ready_of, serving, settled, spoken}
+use Rattle.lard_rules.specs.Serving.{Service, serving_ready_of, serving, serving_settled, spoken}
 use Rattle.lard_segment.specs.declared.fault.SegFault.{SegFault}
 use Rattle.lard_segment.specs.declared.segment.Dir.TheVariants.{ToCluster}
 use Rattle.lard_segment.specs.Segment.{Said, decoded}
 
 -- A rule of connection c at node n, which has these jobs, leaves what is read to the jobs that there are then.
-abbrev pub DeedReads : ℕ → ℕ → List Job → Option Stay → Option BackRow → Deed → Type 0
+abbrev pub DeedReads : ℕ → ℕ → List Job → Option Stay → Option BackRow → NodeDeed → Type 0
 DeedReads n c disk stay row Drops = RowReads (HasJob n c disk) stay row
 DeedReads n c disk stay row (Says messages) = RowReads (HasJob n c disk) stay row
 DeedReads n c disk stay row (Does given) = PartReads n c (disk ++ given.1.jobs) given.0
@@ -60,7 +60,7 @@ module _ (env : NodeEnv) (disk : List Job) (p : NodePart) where
   abbrev Jobs : ℕ → ℕ → Type 0
   Jobs = HasJob env.n env.serve.c disk
 
-  abbrev IsDeed : Deed → Type 0
+  abbrev IsDeed : NodeDeed → Type 0
   IsDeed d = DeedReads env.n env.serve.c disk p.stay p.row d
 
   after-reads : (part : NodePart) (w : Work) (e : Ending) → HasServed w.service.count e → Reads env disk w → PartReads env.n env.serve.c (disk ++ w.jobs) (kept_after env part w e)
@@ -69,7 +69,7 @@ module _ (env : NodeEnv) (disk : List Job) (p : NodePart) where
 
   goes-deed : (stay : Option Stay) (row : Option BackRow) (part : NodePart) (before : List (Place × List ℕ)) (w : Work) → Reads env disk w
       → DeedReads env.n env.serve.c disk stay row (with_work env part before (goes_on env w))
-  goes-deed stay row part before w h = after-reads part (goes_on env w) (settled env.serve (goes_on env w).service).0 (settled-served env.serve (goes_on env w).service) (goes-read env disk w h)
+  goes-deed stay row part before w h = after-reads part (goes_on env w) (serving_settled env.serve (goes_on env w).service).0 (settled-served env.serve (goes_on env w).service) (goes-read env disk w h)
 
   -- what is in hand of a stay
   abbrev IsHere : ControlBlock × Stay → Type 0
@@ -86,29 +86,29 @@ module _ (env : NodeEnv) (disk : List Job) (p : NodePart) where
       of-stay b None k = none
       of-stay b (Some s) k = some (b, s) k
 
-      of-stage : (d : BackConn) → StageReads (Jobs env.epoch) p.stay d → P (both_of (held_in d) p.stay)
+      of-stage : (d : BackConn) → StageReads (Jobs env.epoch) p.stay d → P (both_of (back_held d) p.stay)
       of-stage (back.Here b) k = of-stay b p.stay k
       of-stage _ k = none
 
-      at-endpoint : (q : Option BackRow) → ((row : BackRow) → q ≡ Some row → row.epoch.0 ≡ env.epoch) → RowReads Jobs p.stay q → P (both_of (endpoint_of q) p.stay)
+      at-endpoint : (q : Option BackRow) → ((row : BackRow) → q ≡ Some row → row.epoch.0 ≡ env.epoch) → RowReads Jobs p.stay q → P (both_of (back_endpoint q) p.stay)
       at-endpoint None is k = none
       at-endpoint (Some row) is k = of-stage row.stage (subst (λ (e : ℕ). StageReads (Jobs e) p.stay row.stage) (is row refl) k)
 
       at-epoch : (q : Option BackRow) → RowReads Jobs p.stay q → P (both_of (staying env.epoch q) p.stay)
       at-epoch None k = none
-      at-epoch (Some row) k = cond_both (row.epoch.0 == env.epoch) (held_in row.stage) None (λ o. P (both_of o p.stay))
+      at-epoch (Some row) k = cond_both (row.epoch.0 == env.epoch) (back_held row.stage) None (λ o. P (both_of o p.stay))
           (λ t. of-stage row.stage (subst (λ (e : ℕ). StageReads (Jobs e) p.stay row.stage) (eqb-true row.epoch.0 env.epoch t) k)) (λ t. none)
 
     pub forwarded-reads : (r : Result Said SegFault) → IsDeed (node_forwarded env p r)
     forwarded-reads (Err fault) = h
-    forwarded-reads (Ok s) = at-epoch (λ y. IsDeed (heard_by env p (Ok s) y)) h
+    forwarded-reads (Ok s) = at-epoch (λ y. IsDeed (node_heard_by env p (Ok s) y)) h
         (λ y k. goes-deed p.stay p.row p [] (work_of (on_segment y.0 s).1 y.1) (in-hand (on_segment y.0 s).1 y.1 k)) p.row h
 
     pub tagged-deed : (number : ℕ) (nodes : List ℕ) → IsDeed (node_tagged env p number nodes)
     tagged-deed number nodes = at-epoch (λ y. IsDeed (tagged_by env number nodes p y)) h
         (λ y k.
         let part : NodePart = record p { kept = without timer.Ask 0 p.kept } in
-        cond_both (is_awaited env number nodes p y.1) (with_work env part [] (goes_on env (tagged env nodes (work_of y.0 y.1)))) Drops IsDeed
+        cond_both (is_tag_awaited env number nodes p y.1) (with_work env part [] (goes_on env (tagged env nodes (work_of y.0 y.1)))) Drops IsDeed
         (λ t. goes-deed p.stay p.row part [] (tagged env nodes (work_of y.0 y.1)) (tagged-reads env disk nodes (work_of y.0 y.1) refl (in-hand y.0 y.1 k)))
         (λ t. h))
         p.row h
@@ -127,10 +127,10 @@ module _ (env : NodeEnv) (disk : List Job) (p : NodePart) where
         p.row h
 
     pub timer-reads : ((row : BackRow) → p.row ≡ Some row → row.epoch.0 ≡ env.epoch) → IsDeed (node_timer env p)
-    timer-reads is = at-endpoint (λ y. IsDeed (fired_by env p y)) h
+    timer-reads is = at-endpoint (λ y. IsDeed (node_fired_by env p y)) h
         (λ y k.
         let s : Service = serving (after_timer y.0) y.1.served [] in
-        let before : List (Place × List ℕ) = ready_of env.serve (after_timer y.0) (timed y.0) in
+        let before : List (Place × List ℕ) = serving_ready_of env.serve (after_timer y.0) (timed y.0) in
         after-reads p (work_of (after_timer y.0) y.1) (spoken env.serve s before).0 (spoken-served env.serve s before) (in-hand (after_timer y.0) y.1 k))
         p.row is h
 
@@ -139,10 +139,10 @@ module _ (env : NodeEnv) (disk : List Job) (p : NodePart) where
     gone-reads (Some row) = tt
 
     pub acknowledged-reads : IsDeed (node_acknowledged env p)
-    acknowledged-reads = cond_both (awaits_ack env.epoch p.row) (Does (record p { row = gone p.row; kept = without timer.Ended 0 p.kept }, saying [])) Drops IsDeed (λ t. gone-reads p.row) (λ t. h)
+    acknowledged-reads = cond_both (awaits_ack env.epoch p.row) (Does (record p { row = gone p.row; kept = without timer.Ended 0 p.kept }, node_saying [])) Drops IsDeed (λ t. gone-reads p.row) (λ t. h)
 
     offered-by : (parts : EndpointParts) (a : Adopt) → IsDeed (offered_by env parts p a)
-    offered-by parts New = goes-deed p.stay p.row p (taken_sent env) (state_of (reads_batch env true (begins env parts))) (batch-reads env disk true (begins env parts) refl)
+    offered-by parts New = goes-deed p.stay p.row p (taken_sent env) (state_of (reads_batch env true (node_begins env parts))) (batch-reads env disk true (node_begins env parts) refl)
     offered-by parts Again = h
     offered-by parts Stale = h
 
@@ -156,7 +156,7 @@ module _ (env : NodeEnv) (disk : List Job) (p : NodePart) where
     abbrev pub AllBut : ℕ → ℕ → Type 0
     AllBut e r = Jobs e r ⊎ ((e ≡ env.epoch) × (r ≡ one))
 
-    abbrev Done : Option Stay → BackConn → Deed → Type 0
+    abbrev Done : Option Stay → BackConn → NodeDeed → Type 0
     Done stay stage Drops = StageReads (Jobs env.epoch) stay stage
     Done stay stage (Says messages) = StageReads (Jobs env.epoch) stay stage
     Done stay stage (Does given) = PartReads env.n env.serve.c (disk ++ given.1.jobs) given.0
@@ -171,25 +171,25 @@ module _ (env : NodeEnv) (disk : List Job) (p : NodePart) where
         (λ less. let below : one ≤ s.served = ltb-false s.served one less in
         more s.batch (reads-behind (Jobs env.epoch) one (s.served + 1) s.batch (λ i same. omega (arith, same, below)) h))
 
-    done-stay : (b : ControlBlock) (o : Option Stay) → StayReads (But (Jobs env.epoch) one) o → Done o (back.Here b) (read_by env one p (both_of (Some b) o))
+    done-stay : (b : ControlBlock) (o : Option Stay) → StayReads (But (Jobs env.epoch) one) o → Done o (back.Here b) (node_read_by env one p (both_of (Some b) o))
     done-stay b None h = tt
     done-stay b (Some s) h = goes-deed None None p [] (came_for read_progress one (work_of b s)) (read-by b s h)
 
-    done-stage : (o : Option Stay) (stage : BackConn) → StageReads (But (Jobs env.epoch) one) o stage → Done o stage (read_by env one p (both_of (held_in stage) o))
+    done-stage : (o : Option Stay) (stage : BackConn) → StageReads (But (Jobs env.epoch) one) o stage → Done o stage (node_read_by env one p (both_of (back_held stage) o))
     done-stage o (back.Here b) h = done-stay b o h
     done-stage o _ h = tt
 
-    of-epoch : (o : Option Stay) (row : BackRow) (d : Deed) → row.epoch.0 ≡ env.epoch → Done o row.stage d → DeedReads env.n env.serve.c disk o (Some row) d
+    of-epoch : (o : Option Stay) (row : BackRow) (d : NodeDeed) → row.epoch.0 ≡ env.epoch → Done o row.stage d → DeedReads env.n env.serve.c disk o (Some row) d
     of-epoch o row Drops same h = subst (λ (e : ℕ). StageReads (Jobs e) o row.stage) (sym same) h
     of-epoch o row (Says messages) same h = subst (λ (e : ℕ). StageReads (Jobs e) o row.stage) (sym same) h
     of-epoch o row (Does given) same h = h
 
-    done-row : (o : Option Stay) (q : Option BackRow) → RowReads AllBut o q → DeedReads env.n env.serve.c disk o q (read_by env one p (both_of (staying env.epoch q) o))
+    done-row : (o : Option Stay) (q : Option BackRow) → RowReads AllBut o q → DeedReads env.n env.serve.c disk o q (node_read_by env one p (both_of (staying env.epoch q) o))
     done-row o None h = tt
-    done-row o (Some row) h = cond_both (row.epoch.0 == env.epoch) (held_in row.stage) None (λ x. DeedReads env.n env.serve.c disk o (Some row) (read_by env one p (both_of x o)))
+    done-row o (Some row) h = cond_both (row.epoch.0 == env.epoch) (back_held row.stage) None (λ x. DeedReads env.n env.serve.c disk o (Some row) (node_read_by env one p (both_of x o)))
         (λ t.
         let same : row.epoch.0 ≡ env.epoch = eqb-true row.epoch.0 env.epoch t in
-        of-epoch o row (read_by env one p (both_of (held_in row.stage) o)) same
+        of-epoch o row (node_read_by env one p (both_of (back_held row.stage) o)) same
         (done-stage o row.stage (stage-more (AllBut row.epoch.0) (But (Jobs env.epoch) one) o row.stage
         (λ i k. ⊎_elim (λ (job : Jobs row.epoch.0 i). inl (subst (λ (e : ℕ). Jobs e i) same job)) (λ (it : (row.epoch.0 ≡ env.epoch) × (i ≡ one)). inr it.1) k) h)))
         (λ f. stage-more (AllBut row.epoch.0) (Jobs row.epoch.0) o row.stage
@@ -215,7 +215,7 @@ module _ (k : NodeSetting) where
   aside-reads : (s : NodeState) (t : NodeTurn) → NodeReads k.n s → NodeReads k.n (aside s t).0
   aside-reads s t h q = more-reads s t.jobs q (node_part s q) (h q)
 
-  did-reads : (s : NodeState) (c : ℕ) (p : NodePart) (t : NodeTurn) → ((q : ℕ) → q ≢ c → PartReads k.n q s.disk (node_part s q)) → PartReads k.n c (s.disk ++ t.jobs) p → NodeReads k.n (told (node_put s c p) t)
+  did-reads : (s : NodeState) (c : ℕ) (p : NodePart) (t : NodeTurn) → ((q : ℕ) → q ≢ c → PartReads k.n q s.disk (node_part s q)) → PartReads k.n c (s.disk ++ t.jobs) p → NodeReads k.n (stores_told (node_put s c p) t)
   did-reads s c p t others mine q = by_number (PartReads k.n q (s.disk ++ t.jobs) (node_part (node_put s c p) q)) q c
       (λ same. subst (λ (d : ℕ). PartReads k.n d (s.disk ++ t.jobs) (node_part (node_put s c p) d)) (sym same) (subst (PartReads k.n c (s.disk ++ t.jobs)) (sym (node-here s c p)) mine))
       (λ other. subst (PartReads k.n q (s.disk ++ t.jobs)) (sym (node-elsewhere s c q p other)) (more-reads s t.jobs q (node_part s q) (others q other)))
@@ -224,9 +224,9 @@ module _ (k : NodeSetting) where
   both-read s c others mine q = by_number (PartReads k.n q s.disk (node_part s q)) q c
       (λ same. subst (λ (d : ℕ). PartReads k.n d s.disk (node_part s d)) (sym same) mine) (λ other. others q other)
 
-  deed-reads : (s : NodeState) (c : ℕ) (d : Deed) → ((q : ℕ) → q ≢ c → PartReads k.n q s.disk (node_part s q)) → DeedReads k.n c s.disk (node_part s c).stay (node_part s c).row d → NodeReads k.n (node_deed k s c d).0
+  deed-reads : (s : NodeState) (c : ℕ) (d : NodeDeed) → ((q : ℕ) → q ≢ c → PartReads k.n q s.disk (node_part s q)) → DeedReads k.n c s.disk (node_part s c).stay (node_part s c).row d → NodeReads k.n (node_deed k s c d).0
   deed-reads s c Drops others h = both-read s c others h
-  deed-reads s c (Says messages) others h = aside-reads s (saying messages) (both-read s c others h)
+  deed-reads s c (Says messages) others h = aside-reads s (node_saying messages) (both-read s c others h)
   deed-reads s c (Does x) others h = did-reads s c x.0 x.1 others h
 
   -- ---- messages
@@ -277,12 +277,12 @@ module _ (k : NodeSetting) where
         (left-but-it k.n job.c j s.disk job e r at had))
         (h job.c)
 
-    brought-reads : NodeReads k.n (brought k after job).0
-    brought-reads = cond_both (job.origin == k.n) (node_deed k after job.c (node_read env (node_part after job.c) job.r)) (aside after (saying (content_sent k job.origin job.c job.epoch.0 job.r job.path ∷ [])))
+    brought-reads : NodeReads k.n (node_brought k after job).0
+    brought-reads = cond_both (job.origin == k.n) (node_deed k after job.c (node_read env (node_part after job.c) job.r)) (aside after (node_saying (content_sent k job.origin job.c job.epoch.0 job.r job.path ∷ [])))
         (λ (x : NodeState × Out). NodeReads k.n x.0)
         (λ t. deed-reads after job.c (node_read env (node_part after job.c) job.r) (λ q other. left-reads q (λ e r it. other (sym (names q e r it.1).0)))
         (read-reads env after.disk (node_part after job.c) job.r mine))
-        (λ f. aside-reads after (saying (content_sent k job.origin job.c job.epoch.0 job.r job.path ∷ [])) (λ q. left-reads q (λ e r it. both_ways (job.origin == k.n) f (rw it.0 (same_number k.n)))))
+        (λ f. aside-reads after (node_saying (content_sent k job.origin job.c job.epoch.0 job.r job.path ∷ [])) (λ q. left-reads q (λ e r it. both_ways (job.origin == k.n) f (rw it.0 (same_number k.n)))))
 
   disk-reads : (s : NodeState) (j : ℕ) (o : Option Job) → job_at s.disk j ≡ o → NodeReads k.n s → NodeReads k.n (disk_step k s j o).0
   disk-reads s j None at h = h
@@ -290,10 +290,10 @@ module _ (k : NodeSetting) where
 
   -- ---- a step
 
-  row-epoch : (s : NodeState) (c : ℕ) (row : BackRow) → (node_part s c).row ≡ Some row → row.epoch.0 ≡ epoch_at s c
+  row-epoch : (s : NodeState) (c : ℕ) (row : BackRow) → (node_part s c).row ≡ Some row → row.epoch.0 ≡ node_epoch_at s c
   row-epoch s c row is = sym (ap (λ (o : Option BackRow). elim o as (λ o. ℕ) [ None ↦ 0 | Some r ↦ r.epoch.0 ]) is)
 
   pub step-reads : (s : NodeState) (i : BackIn) → NodeReads k.n s → NodeReads k.n (node_step k s i).0
   step-reads s (input.Message from bytes) h = gets-reads s from (decoded_message bytes) h
-  step-reads s (input.Timer c) h = deed-reads s c (node_timer (node_env k s c (epoch_at s c)) (node_part s c)) (λ q other. h q) (timer-reads (node_env k s c (epoch_at s c)) s.disk (node_part s c) (h c) (row-epoch s c))
+  step-reads s (input.Timer c) h = deed-reads s c (node_timer (node_env k s c (node_epoch_at s c)) (node_part s c)) (λ q other. h q) (timer-reads (node_env k s c (node_epoch_at s c)) s.disk (node_part s c) (h c) (row-epoch s c))
   step-reads s (input.Disk j) h = disk-reads s j (job_at s.disk j) refl h

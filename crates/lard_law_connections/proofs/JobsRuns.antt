@@ -6,7 +6,7 @@ use Rattle.std.specs.Ordering.{nat_cmp}
 use Rattle.std.specs.Prelude.{slice_set}
 use Rattle.lard_base.specs.declared.event.Event.{Event}
 use Rattle.lard_rules.specs.declared.machine.Machine.{Machine}
-use Rattle.lard_rules.specs.Machine.{machine_step, node_at, node_setting, told}
+use Rattle.lard_rules.specs.Machine.{machine_step, node_at, node_setting, machine_told}
 use Rattle.lard_law_connections.specs.Jobs.{BatchReads, HasJob, NodeReads, PartReads, ReadsBy, RowReads, StageReads, StayReads}
 use Rattle.lard_law_connections.specs.JobsLaws.{ReadsAreJobs, ReadsAreQueued}
 use Rattle.lard_law_connections.proofs.JobsNodes.{step-reads}
@@ -38,7 +38,7 @@ AllRead m = (n : ℕ) (s : NodeState) → node_at m.nodes n ≡ Some s → NodeR
 
 module _ (m : Machine) (e : Event) (read : AllRead m) where
   node-reads : (n : Machine) (step : NodeStep m e n) → AllRead n
-  unfolding told
+  unfolding machine_told
   node-reads n step i u at =
       let t : NodeState = (node_step (node_setting m step.i) step.s step.comes).0 in
       let nodes : List NodeState = slice_set m.nodes (step.i - 1) t in

@@ -13,7 +13,7 @@ use Rattle.lard_rules.specs.declared.stay.Entry.{Entry}
 use Rattle.lard_rules.specs.declared.stay.Progress.TheVariants as progress
 use Rattle.lard_rules.specs.Stay.{NodeEnv, Work, entered, goes_on, noted, own_job, progress_of, read_entry, reads_batch, serves_with, tagged}
 use Rattle.lard_rules.specs.Loop.{state_of}
-use Rattle.lard_rules.specs.Serving.{Service, answered, consumed, ended_at_fin, passed_over, queued}
+use Rattle.lard_rules.specs.Serving.{Service, answered, serving_consumed, ended_at_fin, passed_over, queued}
 use Rattle.lard_rules.proofs.StayKeeping.{EachFrom, KeptByStay, batch-keeps, goes-keep, next_number, tagged-keeps}
 
 module _ (env : NodeEnv) (disk : List Job) where
@@ -62,7 +62,7 @@ module _ (env : NodeEnv) (disk : List Job) where
     wants = λ node r path v w good is f h. pushed (record { verdict = v; progress = progress.Awaited node }) w r is h tt;
     enters = λ v w h. pushed (read_entry env.serve.files v) w (next_number w) refl h (read-by (next_number w) w.jobs (good_path env.serve.files v));
     asks = λ size path paths w e h. h;
-    takes = λ used w none h. none-read (record w { service = consumed used w.service }) none;
+    takes = λ used w none h. none-read (record w { service = serving_consumed used w.service }) none;
     ends = λ w none h. none-read (record w { service = ended_at_fin w.service }) none;
     serves = λ way e rest w may first is h. answered-count way e rest w (subst (BatchReads (Job_for w.jobs) (w.service.count + 1)) first h);
   }

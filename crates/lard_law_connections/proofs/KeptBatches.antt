@@ -7,7 +7,7 @@ use Rattle.lard_base.specs.declared.place.TimerKind.{TimerKind}
 use Rattle.lard_base.specs.declared.place.TimerKind.TheVariants as kind
 use Rattle.lard_lateral.specs.Lateral.{is_from}
 use Rattle.lard_base.specs.declared.place.Via.TheVariants as via
-use Rattle.lard_law_connections.specs.Kept.{IsFetch, awaited_in, awaits}
+use Rattle.lard_law_connections.specs.Kept.{IsFetchFromOther, contents_awaited, awaits_content}
 use Rattle.lard_rules.specs.declared.stay.Entry.{Entry}
 use Rattle.lard_rules.specs.declared.stay.Progress.{Progress}
 use Rattle.lard_rules.specs.declared.stay.Progress.TheVariants as progress
@@ -74,18 +74,18 @@ named-come files f calm (suc i) (e ∷ es) = ap (and_path (named_path files e)) 
 
 module _ (N : ℕ → Type 0) (files : FilesAt) (c e n : ℕ) where
   pub record AreFetches (ks : List Kept) : Type 0 where
-    pub each : AllByRecursion (IsFetch N files c e n) ks
+    pub each : AllByRecursion (IsFetchFromOther N files c e n) ks
     pub order : AreInOrder ks
 
   -- one takes the place of its number
-  pub anew-fetches : (k : Kept) (ks : List Kept) → IsFetch N files c e n k → AreFetches ks → AreFetches (anew k ks)
+  pub anew-fetches : (k : Kept) (ks : List Kept) → IsFetchFromOther N files c e n k → AreFetches ks → AreFetches (anew k ks)
   anew-fetches k ks one h = record {
-    each = put_all (IsFetch N files c e n) k (without k.kind k.r ks) one (drop_all (IsFetch N files c e n) k.kind k.r ks h.each);
+    each = put_all (IsFetchFromOther N files c e n) k (without k.kind k.r ks) one (drop_all (IsFetchFromOther N files c e n) k.kind k.r ks h.each);
     order = (keeps k (without k.kind k.r ks) (drop_keeps k.kind k.r ks h.order) (drops k.kind k.r ks)).0;
   }
 
   pub without-fetches : (r : ℕ) (ks : List Kept) → AreFetches ks → AreFetches (without kind.Fetch r ks)
-  without-fetches r ks h = record { each = drop_all (IsFetch N files c e n) kind.Fetch r ks h.each; order = drop_keeps kind.Fetch r ks h.order }
+  without-fetches r ks h = record { each = drop_all (IsFetchFromOther N files c e n) kind.Fetch r ks h.each; order = drop_keeps kind.Fetch r ks h.order }
 
 -- one less, where one is found
 pub found-less : (a : TimerKind) (r from epoch : ℕ) (ks : List Kept) → is_from from epoch (find (is_under a r) ks) ≡ true → length (without a r ks) + 1 ≤ length ks
@@ -97,12 +97,12 @@ found-less a r from epoch (k ∷ ks) h = go (is_under a r k) h (λ f. found-less
 
 -- ---- how many contents are awaited
 
-pub awaited-push : (es : List Entry) (x : Entry) → awaited_in (es ++ x ∷ []) ≡ awaited_in es + awaits x.progress
+pub awaited-push : (es : List Entry) (x : Entry) → contents_awaited (es ++ x ∷ []) ≡ contents_awaited es + awaits_content x.progress
 awaited-push [] x = omega arith
 awaited-push (e ∷ es) x = let rest = awaited-push es x in omega (arith, rest)
 
 -- one that has no node yet awaits none
-pub named-awaits : (files : FilesAt) (e : Entry) (p : Progress) (path : List ℕ) → path_in files e p ≡ Some path → awaits p ≡ 0
+pub named-awaits : (files : FilesAt) (e : Entry) (p : Progress) (path : List ℕ) → path_in files e p ≡ Some path → awaits_content p ≡ 0
 named-awaits files e progress.Named path is = refl
 named-awaits files e progress.Reading path is = refl
 named-awaits files e (progress.Ready way) path is = refl
@@ -110,7 +110,7 @@ named-awaits files e (progress.Awaited node) path is = let no : None ≡ Some pa
 
 -- so many at most are awaited no more, where a request comes on
 abbrev pub Loses : ℕ → (Progress → Progress) → Type 0
-Loses n f = (p : Progress) → awaits p ≤ awaits (f p) + n
+Loses n f = (p : Progress) → awaits_content p ≤ awaits_content (f p) + n
 
 pub read-loses : Loses 0 read_progress
 read-loses progress.Named = omega arith
@@ -124,7 +124,7 @@ come-loses from progress.Reading = omega arith
 come-loses from (progress.Ready way) = omega arith
 come-loses from (progress.Awaited node) = omega arith
 
-pub awaited-come : (n : ℕ) (f : Progress → Progress) → Loses n f → (i : ℕ) (es : List Entry) → awaited_in es ≤ awaited_in (come_on f i es) + n
+pub awaited-come : (n : ℕ) (f : Progress → Progress) → Loses n f → (i : ℕ) (es : List Entry) → contents_awaited es ≤ contents_awaited (come_on f i es) + n
 awaited-come n f loses i [] = omega arith
 awaited-come n f loses zero (e ∷ es) = let one = loses e.progress in omega (arith, one)
 awaited-come n f loses (suc i) (e ∷ es) = let rest = awaited-come n f loses i es in omega (arith, rest)

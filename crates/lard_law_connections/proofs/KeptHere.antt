@@ -5,8 +5,8 @@ use Rattle.lard_endpoint.specs.Control.{ControlBlock}
 use Rattle.lard_handoff_back.specs.declared.row.BackConn.{BackConn}
 use Rattle.lard_handoff_back.specs.declared.row.BackConn.TheVariants as back
 use Rattle.lard_handoff_back.specs.declared.row.BackRow.{BackRow}
-use Rattle.lard_handoff_back.specs.Back.{endpoint_of, staying}
-use Rattle.lard_handoff_back.specs.Row.{held_in}
+use Rattle.lard_handoff_back.specs.Back.{back_endpoint, staying}
+use Rattle.lard_handoff_back.specs.Row.{back_held}
 use Rattle.lard_rules.specs.declared.stay.Stay.{Stay}
 use Rattle.lard_rules.specs.Node.{NodePart, both_of, here}
 
@@ -21,7 +21,7 @@ here-is e p b s is = go p.row refl is where
   in-stay d None at f = let no : ◌≡◌ {A = Option (ControlBlock × Stay)} None (Some (b, s)) = f in absurd cc
   in-stay d (Some t) at f = (ap (λ (o : Option (ControlBlock × Stay)). elim o as (λ y. ControlBlock) [ None ↦ d | Some y ↦ y.0 ]) f, at ∙ ap (λ (o : Option (ControlBlock × Stay)). elim o as (λ y. Option Stay) [ None ↦ None | Some y ↦ Some y.1 ]) f)
 
-  in-stage : (row : BackRow) → p.row ≡ Some row → row.epoch.0 ≡ e → (st : BackConn) → row.stage ≡ st → both_of (held_in st) p.stay ≡ Some (b, s) → IsHere e p b s
+  in-stage : (row : BackRow) → p.row ≡ Some row → row.epoch.0 ≡ e → (st : BackConn) → row.stage ≡ st → both_of (back_held st) p.stay ≡ Some (b, s) → IsHere e p b s
   in-stage row found same (back.Here d) at f =
       let both = in-stay d p.stay refl f in record {
         row = found ∙ (λ i. Some (record { stage = (at ∙ ap back.Here both.0) i; epoch = record { 0 = same i } }));
@@ -31,7 +31,7 @@ here-is e p b s is = go p.row refl is where
   in-stage row found same back.Ended at f = let no : ◌≡◌ {A = Option (ControlBlock × Stay)} None (Some (b, s)) = f in absurd cc
   in-stage row found same back.Gone at f = let no : ◌≡◌ {A = Option (ControlBlock × Stay)} None (Some (b, s)) = f in absurd cc
 
-  by-epoch : (row : BackRow) → p.row ≡ Some row → (t : Bool) → (row.epoch.0 == e) ≡ t → both_of (cond t (held_in row.stage) None) p.stay ≡ Some (b, s) → IsHere e p b s
+  by-epoch : (row : BackRow) → p.row ≡ Some row → (t : Bool) → (row.epoch.0 == e) ≡ t → both_of (cond t (back_held row.stage) None) p.stay ≡ Some (b, s) → IsHere e p b s
   by-epoch row found true t f = in-stage row found (eqb-true row.epoch.0 e t) row.stage refl f
   by-epoch row found false t f = let no : ◌≡◌ {A = Option (ControlBlock × Stay)} None (Some (b, s)) = f in absurd cc
 
@@ -40,10 +40,10 @@ here-is e p b s is = go p.row refl is where
   go (Some row) found f = by-epoch row found (row.epoch.0 == e) refl f
 
 -- the epoch of its row is that of its timer
-pub here-timer : (e : ℕ) (p : NodePart) → e ≡ epoch_in p → both_of (endpoint_of p.row) p.stay ≡ here e p
+pub here-timer : (e : ℕ) (p : NodePart) → e ≡ epoch_in p → both_of (back_endpoint p.row) p.stay ≡ here e p
 here-timer e p at = go p.row refl where
-  go : (o : Option BackRow) → p.row ≡ o → both_of (endpoint_of o) p.stay ≡ both_of (staying e o) p.stay
+  go : (o : Option BackRow) → p.row ≡ o → both_of (back_endpoint o) p.stay ≡ both_of (staying e o) p.stay
   go None found = refl
   go (Some row) found =
       let same : row.epoch.0 ≡ e = sym (at ∙ ap (λ (o : Option BackRow). epoch_in (record p { row = o })) found) in
-      ap (λ b. both_of (cond b (held_in row.stage) None) p.stay) (sym (eq-eqb row.epoch.0 e same))
+      ap (λ b. both_of (cond b (back_held row.stage) None) p.stay) (sym (eq-eqb row.epoch.0 e same))

@@ -6,7 +6,7 @@ use Rattle.lard_answers.specs.Answers.{FilesAt}
 use Rattle.lard_base.specs.declared.parts.EndpointParts.{EndpointParts}
 use Rattle.lard_base.specs.declared.place.Place.{Place}
 use Rattle.lard_base.specs.declared.place.TimerKind.TheVariants as kind
-use Rattle.lard_law_connections.specs.Kept.{AsksFor, awaited_in, HereKeeps, IsKeptByStage, NodeKeeps, NodeRowKeeps, NodeStageKeeps, StayKeeps}
+use Rattle.lard_law_connections.specs.Kept.{AsksFor, contents_awaited, HereKeeps, IsKeptByStage, NodeKeepsMessages, NodeRowKeeps, NodeStageKeeps, StayKeeps}
 use Rattle.lard_law_connections.proofs.KeptBatches.{AreFetches, IsCalm, Loses, awaited-come, come-calm, come-loses, found-less, named-come, read-calm, read-loses, without-fetches}
 use Rattle.lard_law_connections.proofs.KeptStays.{Awaits, Follows, Starts, batch-state, goes-await, started-await, starts-all}
 use Rattle.lard_law_view.specs.View.{Conn, epoch_in, grown, node_does}
@@ -19,14 +19,14 @@ use Rattle.lard_handoff_back.specs.declared.row.BackConn.TheVariants as back
 use Rattle.lard_handoff_back.specs.declared.row.BackRow.{BackRow}
 use Rattle.lard_handoff_back.specs.declared.table.Adopt.{Adopt}
 use Rattle.lard_handoff_back.specs.declared.table.Adopt.TheVariants.{New, Again, Stale}
-use Rattle.lard_handoff_back.specs.Back.{awaits_ack, endpoint_of, offer_answer, staying}
-use Rattle.lard_handoff_back.specs.Row.{held_in, is_ended, is_gone}
+use Rattle.lard_handoff_back.specs.Back.{awaits_ack, back_endpoint, offer_answer, staying}
+use Rattle.lard_handoff_back.specs.Row.{back_held, is_ended, is_gone}
 use Rattle.lard_history.specs.Own.{Seen}
 use Rattle.lard_history.proofs.Each.{Each}
 use Rattle.lard_lateral.specs.Lateral.{is_from}
 use Rattle.lard_rules.specs.declared.stay.Asked.{Asked}
 use Rattle.lard_rules.specs.declared.stay.Stay.{Stay}
-use Rattle.lard_rules.specs.Node.{Deed, Drops, Says, Does, NodePart, begins, both_of, come_by, count_of, fired_by, gone, heard_by, here, is_awaited, kept_after, node_acknowledged, node_content, node_forwarded, node_offered, node_read, node_tagged, node_timer, offered_by, read_by, saying, tagged_by, taken_sent, with_work, work_of}
+use Rattle.lard_rules.specs.Node.{NodeDeed, Drops, Says, Does, NodePart, node_begins, both_of, come_by, reset_count, node_fired_by, gone, node_heard_by, here, is_tag_awaited, kept_after, node_acknowledged, node_content, node_forwarded, node_offered, node_read, node_tagged, node_timer, offered_by, node_read_by, node_saying, tagged_by, taken_sent, with_work, work_of}
 use Rattle.lard_rules.specs.Stay.{NodeEnv, Work, came_for, come_on, come_progress, goes_on, named_paths, read_progress, reads_batch, tagged}
 use Rattle.lard_rules.specs.declared.stay.Progress.{Progress}
 use Rattle.lard_resend.specs.declared.kept.Kept.{Kept}
@@ -34,15 +34,15 @@ use Rattle.lard_resend.specs.Kept.{is_under, without}
 use Rattle.lard_rules.specs.declared.places.Ending.{Ending}
 use Rattle.lard_rules.specs.declared.places.Ending.TheVariants as ending
 use Rattle.lard_rules.specs.Loop.{state_of}
-use Rattle.lard_rules.specs.Serving.{ready_of, serving, settled, spoken}
+use Rattle.lard_rules.specs.Serving.{serving_ready_of, serving, serving_settled, spoken}
 use Rattle.lard_segment.specs.declared.fault.SegFault.{SegFault}
 use Rattle.lard_segment.specs.Segment.{Said}
 
 -- what node n does for connection c leaves what its stage awaits
-abbrev pub DeedKeeps : (ℕ → Type 0) → FilesAt → ℕ → ℕ → Deed → Type 0
+abbrev pub DeedKeeps : (ℕ → Type 0) → FilesAt → ℕ → ℕ → NodeDeed → Type 0
 DeedKeeps N files c n Drops = Unit {0}
 DeedKeeps N files c n (Says ms) = Unit {0}
-DeedKeeps N files c n (Does given) = NodeKeeps N files c n given.0
+DeedKeeps N files c n (Does given) = NodeKeepsMessages N files c n given.0
 
 -- A stay goes on from one in which so many Asks were made, and in which these paths had no node.
 abbrev pub StayFollows : FilesAt → ℕ → List (List ℕ) → Stay → Type 0
@@ -57,19 +57,19 @@ abbrev pub IsOfEpoch : ℕ → Option BackRow → Type 0
 IsOfEpoch e None = ⊥
 IsOfEpoch e (Some row) = row.epoch.0 ≡ e
 
-abbrev pub DeedFollows : FilesAt → ℕ → ℕ → List (List ℕ) → Deed → Type 0
+abbrev pub DeedFollows : FilesAt → ℕ → ℕ → List (List ℕ) → NodeDeed → Type 0
 DeedFollows files e asks0 named0 Drops = Unit {0}
 DeedFollows files e asks0 named0 (Says ms) = Unit {0}
 DeedFollows files e asks0 named0 (Does given) = MayFollow files asks0 named0 given.0.stay × IsOfEpoch e given.0.row
 
 -- nothing that is kept changes
-abbrev pub IsIdle : Deed → Type 0
+abbrev pub IsIdle : NodeDeed → Type 0
 IsIdle Drops = Unit {0}
 IsIdle (Says ms) = Unit {0}
 IsIdle (Does given) = ⊥
 
 -- it goes on from what was here before; and nothing changes, where nothing was
-abbrev pub DeedGoes : FilesAt → ℕ → Option (ControlBlock × Stay) → Deed → Type 0
+abbrev pub DeedGoes : FilesAt → ℕ → Option (ControlBlock × Stay) → NodeDeed → Type 0
 DeedGoes files e None d = IsIdle d
 DeedGoes files e (Some y) d = DeedFollows files e y.1.asks (named_paths files y.1.batch) d
 
@@ -82,11 +82,11 @@ module _ (N : ℕ → Type 0) (env : NodeEnv) where
   abbrev files : FilesAt
   files = env.serve.files
 
-  abbrev pub Keeps : Deed → Type 0
+  abbrev pub Keeps : NodeDeed → Type 0
   Keeps d = DeedKeeps N env.serve.files env.serve.c env.n d
 
   abbrev pub PartKeeps : NodePart → Type 0
-  PartKeeps p = NodeKeeps N env.serve.files env.serve.c env.n p
+  PartKeeps p = NodeKeepsMessages N env.serve.files env.serve.c env.n p
 
   follows-by : (asks0 : ℕ) (named0 : List (List ℕ)) (o : Option Asked) (s : Stay) → Follows asks0 named0 o s.asks (named_paths files s.batch) → StayFollows files asks0 named0 s
   follows-by asks0 named0 None s h = inl h
@@ -99,11 +99,11 @@ module _ (N : ℕ → Type 0) (env : NodeEnv) where
       follows-by asks0 named0 k.asked (record { served = count; batch = k.batch; asks = k.asks }) h.2,
       refl,
     )
-    after-keeps part k (ending.Over last) h = (((last, count_of k.service.over, refl), refl), tt, refl)
+    after-keeps part k (ending.Over last) h = (((last, reset_count k.service.over, refl), refl), tt, refl)
 
     goes-keep : (part : NodePart) (before : List (Place × List ℕ)) (k : Work) → Awaits N env part.kept part.fetches asks0 named0 k
         → Keeps (with_work env part before (goes_on env k)) × DeedFollows files env.epoch asks0 named0 (with_work env part before (goes_on env k))
-    goes-keep part before k h = let all = after-keeps part (goes_on env k) (settled env.serve (goes_on env k).service).0 (goes-await N env part.kept part.fetches asks0 named0 k h) in (all.0, (all.1, all.2))
+    goes-keep part before k h = let all = after-keeps part (goes_on env k) (serving_settled env.serve (goes_on env k).service).0 (goes-await N env part.kept part.fetches asks0 named0 k h) in (all.0, (all.1, all.2))
 
   module _ (p : NodePart) (h : PartKeeps p) where
     abbrev RowKeeps : Option BackRow → Type 0
@@ -120,21 +120,21 @@ module _ (N : ℕ → Type 0) (env : NodeEnv) where
       of-stay e b None same k = absurd k
       of-stay e b (Some s) same k = some (b, s) (subst (λ (d : ℕ). StayKeeps N env.serve.files env.serve.c d env.n p s) same k)
 
-      of-stage : (e : ℕ) (d : BackConn) → e ≡ env.epoch → StageKeeps e d → P (both_of (held_in d) p.stay)
+      of-stage : (e : ℕ) (d : BackConn) → e ≡ env.epoch → StageKeeps e d → P (both_of (back_held d) p.stay)
       of-stage e (back.Here b) same k = of-stay e b p.stay same k
       of-stage e _ same k = none
 
       at-epoch : (q : Option BackRow) → RowKeeps q → P (both_of (staying env.epoch q) p.stay)
       at-epoch None k = none
-      at-epoch (Some row) k = cond_both (row.epoch.0 == env.epoch) (held_in row.stage) None (λ o. P (both_of o p.stay)) (λ t. of-stage row.epoch.0 row.stage (eqb-true row.epoch.0 env.epoch t) k) (λ t. none)
+      at-epoch (Some row) k = cond_both (row.epoch.0 == env.epoch) (back_held row.stage) None (λ o. P (both_of o p.stay)) (λ t. of-stage row.epoch.0 row.stage (eqb-true row.epoch.0 env.epoch t) k) (λ t. none)
 
-      at-endpoint : env.epoch ≡ epoch_in p → (q : Option BackRow) → p.row ≡ q → RowKeeps q → P (both_of (endpoint_of q) p.stay)
+      at-endpoint : env.epoch ≡ epoch_in p → (q : Option BackRow) → p.row ≡ q → RowKeeps q → P (both_of (back_endpoint q) p.stay)
       at-endpoint at None found k = none
       at-endpoint at (Some row) found k =
           of-stage row.epoch.0 row.stage (sym (at ∙ ap (λ (o : Option BackRow). epoch_in (record p { row = o })) found)) k
 
     -- what is so of what a rule does, where this was here
-    abbrev pub Goes : Option (ControlBlock × Stay) → Deed → Type 0
+    abbrev pub Goes : Option (ControlBlock × Stay) → NodeDeed → Type 0
     Goes o d = Keeps d × DeedGoes files env.epoch o d
 
     abbrev named_of : Stay → List (List ℕ)
@@ -150,7 +150,7 @@ module _ (N : ℕ → Type 0) (env : NodeEnv) where
 
     pub forwarded-keeps : (r : Result Said SegFault) → Goes (here env.epoch p) (node_forwarded env p r)
     forwarded-keeps (Err fault) = (tt, dropped (here env.epoch p))
-    forwarded-keeps (Ok s) = at-epoch (λ o. Goes o (heard_by env p (Ok s) o)) (tt, tt) (λ y k. goes-keep y.1.asks (named_of y.1) p [] (work_of (on_segment y.0 s).1 y.1) (begun (on_segment y.0 s).1 y.1 k)) p.row h
+    forwarded-keeps (Ok s) = at-epoch (λ o. Goes o (node_heard_by env p (Ok s) o)) (tt, tt) (λ y k. goes-keep y.1.asks (named_of y.1) p [] (work_of (on_segment y.0 s).1 y.1) (begun (on_segment y.0 s).1 y.1 k)) p.row h
 
     pub tagged-keeps : (number : ℕ) (nodes : List ℕ) → ((y : ControlBlock × Stay) → here env.epoch p ≡ Some y → y.1.asks ≡ number → Each N nodes) → Goes (here env.epoch p) (node_tagged env p number nodes)
     tagged-keeps number nodes all = at-epoch (λ o. (here env.epoch p ≡ o → Goes o (tagged_by env number nodes p o))) (λ e. (tt, tt))
@@ -158,12 +158,12 @@ module _ (N : ℕ → Type 0) (env : NodeEnv) where
         let part : NodePart = record p { kept = without kind.Ask 0 p.kept } in
         let w : Work = work_of y.0 y.1 in
         let named : ℕ = length (named_paths files y.1.batch) in
-        cond_both (is_awaited env number nodes p y.1) (with_work env part [] (goes_on env (tagged env nodes w))) Drops (Goes (Some y))
+        cond_both (is_tag_awaited env number nodes p y.1) (with_work env part [] (goes_on env (tagged env nodes w))) Drops (Goes (Some y))
         (λ t.
         let same : y.1.asks ≡ number = eqb-true y.1.asks number (and_parts (y.1.asks == number) (length nodes == named) (and_parts (is_some (find (is_under kind.Ask 0) p.kept)) (y.1.asks == number && length nodes == named) t).1).0 in
         let count : length nodes ≡ named = eqb-true (length nodes) named (and_parts (y.1.asks == number) (length nodes == named) (and_parts (is_some (find (is_under kind.Ask 0) p.kept)) (y.1.asks == number && length nodes == named) t).1).1 in
         let left : without kind.Ask 0 p.kept ≡ [] = asks-left env.serve.c env.epoch y.1.asks (named_paths files y.1.batch) p.kept k.asks in
-        let first : Starts N env part.kept p.fetches y.1.asks (named_of y.1) (awaited_in y.1.batch) (record w { batch = [] }) = (refl, record { each = k.fetches; order = k.order }, refl, refl, let few = k.few in omega (arith, few)) in
+        let first : Starts N env part.kept p.fetches y.1.asks (named_of y.1) (contents_awaited y.1.batch) (record w { batch = [] }) = (refl, record { each = k.fetches; order = k.order }, refl, refl, let few = k.few in omega (arith, few)) in
         goes-keep y.1.asks (named_of y.1) part [] (tagged env nodes w)
         (started-await N env part.kept p.fetches y.1.asks (named_of y.1) (tagged env nodes w) left (starts-all N env part.kept p.fetches y.1.asks (named_of y.1) nodes (all y is same) 0 (w.service.count + 1) w.batch (record w { batch = [] }) first (omega (arith, count)))))
         (λ t. (tt, tt)))
@@ -200,15 +200,15 @@ module _ (N : ℕ → Type 0) (env : NodeEnv) where
         p.row h
 
     pub read-keeps : (r : ℕ) → Goes (here env.epoch p) (node_read env p r)
-    read-keeps r = at-epoch (λ o. Goes o (read_by env r p o)) (tt, tt)
+    read-keeps r = at-epoch (λ o. Goes o (node_read_by env r p o)) (tt, tt)
         (λ y k. goes-keep y.1.asks (named_of y.1) p [] (came_for read_progress r (work_of y.0 y.1))
         (come-awaits p.fetches 0 read_progress (read-calm files) read-loses r y.0 y.1 k (record { each = k.fetches; order = k.order }) (omega arith)))
         p.row h
 
-    pub timer-keeps : env.epoch ≡ epoch_in p → Goes (both_of (endpoint_of p.row) p.stay) (node_timer env p)
-    timer-keeps at = at-endpoint (λ o. Goes o (fired_by env p o)) (tt, tt)
+    pub timer-keeps : env.epoch ≡ epoch_in p → Goes (both_of (back_endpoint p.row) p.stay) (node_timer env p)
+    timer-keeps at = at-endpoint (λ o. Goes o (node_fired_by env p o)) (tt, tt)
         (λ y k.
-        let all = after-keeps y.1.asks (named_of y.1) p (work_of (after_timer y.0) y.1) (spoken env.serve (serving (after_timer y.0) y.1.served []) (ready_of env.serve (after_timer y.0) (timed y.0))).0 (begun (after_timer y.0) y.1 k) in
+        let all = after-keeps y.1.asks (named_of y.1) p (work_of (after_timer y.0) y.1) (spoken env.serve (serving (after_timer y.0) y.1.served []) (serving_ready_of env.serve (after_timer y.0) (timed y.0))).0 (begun (after_timer y.0) y.1 k) in
         (all.0, (all.1, all.2)))
         at p.row refl h
 
@@ -227,7 +227,7 @@ module _ (N : ℕ → Type 0) (env : NodeEnv) where
     pub acknowledged-keeps : Keeps (node_acknowledged env p)
     acknowledged-keeps =
         let q : NodePart = record p { row = gone p.row; kept = without kind.Ended 0 p.kept } in
-        cond_both (awaits_ack env.epoch p.row) (Does (q, saying [])) Drops Keeps (λ t. gone-keeps p.row h t) (λ t. tt)
+        cond_both (awaits_ack env.epoch p.row) (Does (q, node_saying [])) Drops Keeps (λ t. gone-keeps p.row h t) (λ t. tt)
 
     -- ---- an Offer
 
@@ -252,8 +252,8 @@ module _ (N : ℕ → Type 0) (env : NodeEnv) where
     offered-by : (parts : EndpointParts) (a : Adopt) → (a ≡ New → (p.kept ≡ []) × (p.fetches ≡ [])) → Keeps (offered_by env parts p a) × DeedFollows files env.epoch 0 [] (offered_by env parts p a)
     offered-by parts New none =
         let empty = none refl in
-        goes-keep 0 [] p (taken_sent env) (state_of (reads_batch env true (begins env parts)))
-        (batch-state N env p.kept p.fetches 0 [] true (begins env parts) refl
+        goes-keep 0 [] p (taken_sent env) (state_of (reads_batch env true (node_begins env parts)))
+        (batch-state N env p.kept p.fetches 0 [] true (node_begins env parts) refl
         (empty.0, subst (λ (ks : List Kept). AreFetches N env.serve.files env.serve.c env.epoch env.n ks) (sym empty.1) (record { each = tt; order = tt }), (refl, inl refl), (let none = ap (λ (ks : List Kept). length ks) empty.1 in omega (arith, none))))
     offered-by parts Again none = (tt, tt)
     offered-by parts Stale none = (tt, tt)
@@ -263,7 +263,7 @@ module _ (N : ℕ → Type 0) (env : NodeEnv) where
 
 -- ---- its move
 
-pub node-move : (N : ℕ → Type 0) (fs : FilesAt) (x : Conn) (n : ℕ) (heads : List Seen) (d : Deed) → DeedKeeps N fs x.c n d → IsKeptByStage N fs x → IsKeptByStage N fs (grown x (node_does x n heads d))
+pub node-move : (N : ℕ → Type 0) (fs : FilesAt) (x : Conn) (n : ℕ) (heads : List Seen) (d : NodeDeed) → DeedKeeps N fs x.c n d → IsKeptByStage N fs x → IsKeptByStage N fs (grown x (node_does x n heads d))
 node-move N fs x n heads Drops k h = record { front = h.front; nodes = h.nodes }
 node-move N fs x n heads (Says ms) k h = record { front = h.front; nodes = h.nodes }
-node-move N fs x n heads (Does given) k h = record { front = h.front; nodes = put-each x.part.nodes n given.0 (λ m p. NodeKeeps N fs x.c m p) k (λ m other. h.nodes m) }
+node-move N fs x n heads (Does given) k h = record { front = h.front; nodes = put-each x.part.nodes n given.0 (λ m p. NodeKeepsMessages N fs x.c m p) k (λ m other. h.nodes m) }

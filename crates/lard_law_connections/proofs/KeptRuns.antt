@@ -10,9 +10,9 @@ use Rattle.lard_law_connections.proofs.KeptFronts as front_keeps
 use Rattle.lard_law_connections.proofs.KeptFronts.{AdmittedKeeps, admitted-keeps, asked-keeps, ended-keeps, front-move, gets-keep, taken-keeps}
 use Rattle.lard_law_connections.proofs.KeptNodes as node_keeps
 use Rattle.lard_law_connections.proofs.KeptNodes.{acknowledged-keeps, content-keeps, forwarded-keeps, node-move, offered-keeps, read-keeps, tagged-keeps}
-use Rattle.lard_law_connections.specs.Kept.{FrontKeeps, NodeKeeps}
-use Rattle.lard_law_view.specs.Carry.{IsLaw, MayMove, OfEach, setting}
-use Rattle.lard_law_view.specs.View.{ClientRules, Conn, FrontRules, IsFrontEnv, IsNodeEnv, Move, NodeRules, Rules, Setting, Spells, Was, event_seen, front_does, grown, node_does, packet_seen}
+use Rattle.lard_law_connections.specs.Kept.{FrontKeeps, NodeKeepsMessages}
+use Rattle.lard_law_view.specs.Carry.{IsLaw, MayRestOn, OfEach, setting}
+use Rattle.lard_law_view.specs.View.{ClientRules, Conn, FrontRules, IsFrontEnv, IsNodeEnv, Move, NodeRules, Rules, Setting, SpellsMessage, Was, event_seen, front_does, grown, node_does, packet_seen}
 use Rattle.lard_law_view.proofs.Carried.{carried}
 use Rattle.lard_files.specs.Files.{file_at}
 use Rattle.lard_rules.specs.Front as front
@@ -30,12 +30,12 @@ use Rattle.lard_segment.specs.Segment.{decoded}
 
 -- a Tag that was sent, and has the number of the last Ask of its stay, names nodes of which N is so
 abbrev pub TagsName : (ℕ → Type 0) → Conn → Type 0
-TagsName N x = (n epoch number : ℕ) (nodes bytes : List ℕ) → Spells x.c epoch (body.Tag number nodes) bytes → Was x Front (Node n) bytes
+TagsName N x = (n epoch number : ℕ) (nodes bytes : List ℕ) → SpellsMessage x.c epoch (body.Tag number nodes) bytes → Was x Front (Node n) bytes
     → (y : ControlBlock × Stay) → here epoch (x.part.nodes n) ≡ Some y → y.1.asks ≡ number → Each N nodes
 
 module _ (N : ℕ → Type 0) (Given : Conn → Type 0) (names : (x : Conn) → Given x → TagsName N x) (k : Setting) where
   abbrev Keeps : Conn → Move → Type 0
-  Keeps x v = MayMove Given x → IsKeptByStage N k.files x → IsKeptByStage N k.files (grown x v)
+  Keeps x v = MayRestOn Given x → IsKeptByStage N k.files x → IsKeptByStage N k.files (grown x v)
 
   clients : ClientRules k Keeps
   clients = record {
@@ -51,7 +51,7 @@ module _ (N : ℕ → Type 0) (Given : Conn → Type 0) (names : (x : Conn) → 
   }
 
   -- a rule of the front end
-  by-front : (x : Conn) (env : FrontEnv) → IsFrontEnv k x.c env → (heads : List Seen) (d : front.Deed) → (FrontKeeps env.serve.c x.part.front → front_keeps.DeedKeeps env.serve.c d)
+  by-front : (x : Conn) (env : FrontEnv) → IsFrontEnv k x.c env → (heads : List Seen) (d : front.FrontDeed) → (FrontKeeps env.serve.c x.part.front → front_keeps.DeedKeeps env.serve.c d)
       → IsKeptByStage N k.files x → IsKeptByStage N k.files (grown x (front_does x heads d))
   by-front x env is heads d rule h =
       front-move N k.files x heads d (subst (λ (c : ℕ). FrontKeeps c x.part.front → front_keeps.DeedKeeps c d) is.number rule h.front) h
@@ -70,12 +70,12 @@ module _ (N : ℕ → Type 0) (Given : Conn → Type 0) (names : (x : Conn) → 
   }
 
   -- a rule of a node
-  by-node : (x : Conn) (n epoch : ℕ) (env : NodeEnv) → IsNodeEnv k x.c n epoch env → (heads : List Seen) (d : node.Deed)
-      → (NodeKeeps N env.serve.files env.serve.c env.n (x.part.nodes n) → node_keeps.DeedKeeps N env.serve.files env.serve.c env.n d) → IsKeptByStage N k.files x → IsKeptByStage N k.files (grown x (node_does x n heads d))
+  by-node : (x : Conn) (n epoch : ℕ) (env : NodeEnv) → IsNodeEnv k x.c n epoch env → (heads : List Seen) (d : node.NodeDeed)
+      → (NodeKeepsMessages N env.serve.files env.serve.c env.n (x.part.nodes n) → node_keeps.DeedKeeps N env.serve.files env.serve.c env.n d) → IsKeptByStage N k.files x → IsKeptByStage N k.files (grown x (node_does x n heads d))
   by-node x n epoch env is heads d rule h =
       let all : ◌≡◌ {A = FilesAt × ℕ × ℕ} (env.serve.files, env.serve.c, env.n) (k.files, x.c, n) = λ i. (is.files i, is.number i, is.node i) in
       node-move N k.files x n heads d
-      (subst (λ (t : FilesAt × ℕ × ℕ). NodeKeeps N t.0 t.1 t.2 (x.part.nodes n) → node_keeps.DeedKeeps N t.0 t.1 t.2 d) all rule (h.nodes n)) h
+      (subst (λ (t : FilesAt × ℕ × ℕ). NodeKeepsMessages N t.0 t.1 t.2 (x.part.nodes n) → node_keeps.DeedKeeps N t.0 t.1 t.2 d) all rule (h.nodes n)) h
 
   nodes : NodeRules k Keeps
   nodes = record {

@@ -7,7 +7,7 @@ use Rattle.lard_base.specs.declared.place.TimerKind.TheVariants as kind
 use Rattle.lard_base.specs.declared.place.Via.{Via}
 use Rattle.lard_base.specs.declared.place.Via.TheVariants as via
 use Rattle.lard_law_connections.proofs.AwaitsBatches.{wants-push}
-use Rattle.lard_law_connections.specs.Kept.{AsksFor, IsFetch, awaited_in, awaits}
+use Rattle.lard_law_connections.specs.Kept.{AsksFor, IsFetchFromOther, contents_awaited, awaits_content}
 use Rattle.lard_law_connections.proofs.KeptBatches.{AreFetches, anew-fetches, awaited-push, named-awaits, named-file, named-push}
 use Rattle.lard_resend.proofs.Lengths.{anew-more}
 use Rattle.lard_history.proofs.Each.{Each}
@@ -20,14 +20,14 @@ use Rattle.lard_rules.specs.declared.stay.Progress.{Progress}
 use Rattle.lard_rules.specs.declared.stay.Progress.TheVariants as progress
 use Rattle.lard_rules.specs.declared.stay.Want.{Want}
 use Rattle.lard_rules.specs.Node.{anew, ask_kept, asked_kept, fetch_of, wants_kept}
-use Rattle.lard_rules.specs.Stay.{NodeEnv, Work, and_path, asks_for, entered, enters, enters_first, enters_one, goes_on, left, left_by, named_path, named_paths, next_in, path_in, reads_batch, reads_these, serves_by, serves_first, started, started_here, started_there, starts_at, starts_named, starts_one, turn, turned}
+use Rattle.lard_rules.specs.Stay.{NodeEnv, Work, and_path, asks_for, entered, enters, enters_first, enters_one, goes_on, work_left, left_by, named_path, named_paths, next_in, path_in, reads_batch, reads_these, serves_by, serves_first, started, started_here, started_there, starts_at, starts_named, starts_one, stay_turn, turned}
 use Rattle.lard_reader.specs.Batches.{batch_of, bytes_used}
 use Rattle.lard_request.specs.declared.verdict.Verdict.{Verdict}
 use Rattle.lard_resend.specs.declared.kept.Kept.{Kept}
 use Rattle.lard_resend.specs.Kept.{without}
 use Rattle.lard_resend.proofs.Held.{put_some}
 use Rattle.lard_rules.specs.Loop.{Step, More, Done, state_of}
-use Rattle.lard_rules.specs.Serving.{Service, answered, consumed, may_read}
+use Rattle.lard_rules.specs.Serving.{Service, answered, serving_consumed, may_read}
 use Rattle.lard_rules.proofs.Runs.{runs_keep}
 use Rattle.lard_rules.proofs.StayFalling.{none-left}
 
@@ -56,7 +56,7 @@ module _ (N : ℕ → Type 0) (env : NodeEnv) (kept0 fetches0 : List Kept) (asks
   Names asks es ks = AsksFor env.serve.c env.epoch asks (named_paths env.serve.files es) ks
 
   abbrev pub Awaits : Work → Type 0
-  Awaits k = Names k.asks k.batch (kept_then k) × AreKept (fetches_then k) × Follows asks0 named0 k.asked k.asks (named_paths env.serve.files k.batch) × (length (fetches_then k) ≤ awaited_in k.batch)
+  Awaits k = Names k.asks k.batch (kept_then k) × AreKept (fetches_then k) × Follows asks0 named0 k.asked k.asks (named_paths env.serve.files k.batch) × (length (fetches_then k) ≤ contents_awaited k.batch)
 
   -- ---- requests are entered
 
@@ -110,7 +110,7 @@ module _ (N : ℕ → Type 0) (env : NodeEnv) (kept0 fetches0 : List Kept) (asks
   asks-fetches size [] w h = h
   asks-fetches size (path ∷ paths) w h = h
 
-  asks-few : (size : ℕ) (paths : List (List ℕ)) (w : Work) → length (fetches_then w) ≤ 0 → length (fetches_then (asks_for env size paths w)) ≤ awaited_in (asks_for env size paths w).batch
+  asks-few : (size : ℕ) (paths : List (List ℕ)) (w : Work) → length (fetches_then w) ≤ 0 → length (fetches_then (asks_for env size paths w)) ≤ contents_awaited (asks_for env size paths w).batch
   asks-few size [] w h = omega (arith, h)
   asks-few size (path ∷ paths) w h = omega (arith, h)
 
@@ -130,11 +130,11 @@ module _ (N : ℕ → Type 0) (env : NodeEnv) (kept0 fetches0 : List Kept) (asks
   these-await : (here : Bool) (used : ℕ) (w : Work) (vs : List Verdict) → w.batch ≡ [] → Awaits w → StepAwaits (reads_these env here used w vs)
   these-await here used w [] none h = h
   these-await here used w (v ∷ vs) none h =
-      let rest : Work = record w { service = consumed used w.service } in
+      let rest : Work = record w { service = serving_consumed used w.service } in
       let all : Work = enters env here (w.service.count + 1) (v ∷ vs) rest in
       let same : IsSame rest all = enters-same rest here (w.service.count + 1) (v ∷ vs) rest (refl, refl, refl) in
       let idle : w.asked ≡ None = none-asked w.asked (none-then w none h) in
-      let few : length (fetches_then w) ≤ 0 = subst (λ (es : List Entry). length (fetches_then w) ≤ awaited_in es) none h.3 in
+      let few : length (fetches_then w) ≤ 0 = subst (λ (es : List Entry). length (fetches_then w) ≤ contents_awaited es) none h.3 in
       let follows : Follows asks0 named0 None w.asks (named_paths files w.batch) = subst (λ (o : Option Asked). Follows asks0 named0 o w.asks (named_paths files w.batch)) idle h.2 in (
         asks-names (length (v ∷ vs)) (named_paths files all.batch) all refl (ap (λ (o : Option Asked). asked_kept env o kept0) same.1 ∙ none-then w none h),
         asks-fetches (length (v ∷ vs)) (named_paths files all.batch) all (subst (λ (ws : List Want). AreKept (wants_kept env ws fetches0)) (sym same.2) h.1),
@@ -159,12 +159,12 @@ module _ (N : ℕ → Type 0) (env : NodeEnv) (kept0 fetches0 : List Kept) (asks
   served-same w e rest way None is at = ap (named_paths files) is ∙ ap (λ (p : Progress). and_path (path_in files e p) (named_paths files rest)) at
   served-same w e rest way (Some total) is at = ap (named_paths files) is
 
-  served-awaited : (w : Work) (e : Entry) (rest : List Entry) (way : Via) (over : Option ℕ) → w.batch ≡ e ∷ rest → e.progress ≡ progress.Ready way → awaited_in w.batch ≡ awaited_in (left_by over e rest)
+  served-awaited : (w : Work) (e : Entry) (rest : List Entry) (way : Via) (over : Option ℕ) → w.batch ≡ e ∷ rest → e.progress ≡ progress.Ready way → contents_awaited w.batch ≡ contents_awaited (left_by over e rest)
   served-awaited w e rest way None is at =
-      let all = ap awaited_in is in
-      let none : awaits e.progress ≡ 0 = ap awaits at in
+      let all = ap contents_awaited is in
+      let none : awaits_content e.progress ≡ 0 = ap awaits_content at in
       omega (arith, all, none)
-  served-awaited w e rest way (Some total) is at = ap awaited_in is
+  served-awaited w e rest way (Some total) is at = ap contents_awaited is
 
   serves-await : (w : Work) (e : Entry) (rest : List Entry) (p : Progress) → w.batch ≡ e ∷ rest → e.progress ≡ p → Awaits w → Awaits (serves_by env e rest w p)
   serves-await w e rest (progress.Ready way) is at h =
@@ -186,14 +186,14 @@ module _ (N : ℕ → Type 0) (env : NodeEnv) (kept0 fetches0 : List Kept) (asks
   turned-awaits w next.Read e h = batch-awaits false w (none-left w.batch e) h
   turned-awaits w next.Stop e h = h
 
-  turn-awaits : (w : Work) → Awaits w → StepAwaits (turn env w)
+  turn-awaits : (w : Work) → Awaits w → StepAwaits (stay_turn env w)
   turn-awaits w h = go (may_read w.service) where
     go : (b : Bool) → StepAwaits (turned env w (cond b (next_in w.batch) next.Stop))
     go true = turned-awaits w (next_in w.batch) refl h
     go false = h
 
   pub goes-await : (w : Work) → Awaits w → Awaits (goes_on env w)
-  goes-await w h = runs_keep (turn env) left Awaits (record {
+  goes-await w h = runs_keep (stay_turn env) work_left Awaits (record {
     more = λ y z e p. subst StepAwaits e (turn-awaits y p);
     done = λ y z e p. subst StepAwaits e (turn-awaits y p);
   }) w h
@@ -202,14 +202,14 @@ module _ (N : ℕ → Type 0) (env : NodeEnv) (kept0 fetches0 : List Kept) (asks
 
   -- no Ask was made, and behind those that were started so many contents are awaited
   abbrev pub Starts : ℕ → Work → Type 0
-  Starts m k = (named_paths files k.batch ≡ []) × AreKept (fetches_then k) × (k.asks ≡ asks0) × (k.asked ≡ None) × (length (fetches_then k) ≤ awaited_in k.batch + m)
+  Starts m k = (named_paths files k.batch ≡ []) × AreKept (fetches_then k) × (k.asks ≡ asks0) × (k.asked ≡ None) × (length (fetches_then k) ≤ contents_awaited k.batch + m)
 
-  push-starts : (m : ℕ) (x : Entry) (k : Work) → Starts (awaits x.progress + m) k → named_path files x ≡ None → Starts m (entered x k)
+  push-starts : (m : ℕ) (x : Entry) (k : Work) → Starts (awaits_content x.progress + m) k → named_path files x ≡ None → Starts m (entered x k)
   push-starts m x k h none = (named-push files k.batch x h.0 none, h.1, h.2, h.3, let all = awaited-push k.batch x in let few = h.4 in omega (arith, all, few))
 
   here-starts : (m r : ℕ) (path : List ℕ) (v : Verdict) (k : Work) → Starts m k → Starts m (started_here env r path v k)
   here-starts m r path v k h =
-      let few : length (fetches_then k) ≤ awaited_in k.batch + (0 + m) = let all = h.4 in omega (arith, all) in
+      let few : length (fetches_then k) ≤ contents_awaited k.batch + (0 + m) = let all = h.4 in omega (arith, all) in
       let same : Starts (0 + m) k = (h.0, h.1, h.2, h.3, few) in
       cond_both (env.cached path) (hit_here path v k) (queued_here r path v k) (Starts m)
       (λ t. push-starts m (record { verdict = v; progress = progress.Ready via.Cache }) k same refl)
@@ -218,7 +218,7 @@ module _ (N : ℕ → Type 0) (env : NodeEnv) (kept0 fetches0 : List Kept) (asks
   there-starts : (m node r : ℕ) (path : List ℕ) (v : Verdict) (k : Work) → Starts m k → is_some (files path) ≡ true → node ≢ env.n → N node → Starts m (started_there node r path v k)
   there-starts m node r path v k h file other there =
       let want : Want = record { r = r; node = node; path = path } in
-      let mine : IsFetch N env.serve.files env.serve.c env.epoch env.n (fetch_of env want) = record { r = r; node = node; path = path; is = refl; file = file; other = other; there = there } in
+      let mine : IsFetchFromOther N env.serve.files env.serve.c env.epoch env.n (fetch_of env want) = record { r = r; node = node; path = path; is = refl; file = file; other = other; there = there } in
       let x : Entry = record { verdict = v; progress = progress.Awaited node } in
       let now : wants_kept env (k.wants ++ want ∷ []) fetches0 ≡ anew (fetch_of env want) (fetches_then k) = wants-push env k.wants want fetches0 in (
         named-push files k.batch x h.0 refl,
@@ -250,25 +250,25 @@ module _ (N : ℕ → Type 0) (env : NodeEnv) (kept0 fetches0 : List Kept) (asks
     stays-as None r e k none = refl
     stays-as (Some node) r e k none = ap (starts_named env node r e k) none
 
-    pub starts-all : (at r : ℕ) (es : List Entry) (k : Work) → Starts (awaited_in es) k → at + length (named_paths files es) ≡ length nodes → Starts 0 (starts_at env nodes at r es k)
+    pub starts-all : (at r : ℕ) (es : List Entry) (k : Work) → Starts (contents_awaited es) k → at + length (named_paths files es) ≡ length nodes → Starts 0 (starts_at env nodes at r es k)
     unfolding starts_at
     starts-all at r [] k h count = h
     starts-all at r (e ∷ es) k h count = go (named_path files e) refl (λ at k h count. starts-all at (r + 1) es k h count) where
       Later : Type 0
-      Later = (at : ℕ) (k : Work) → Starts (awaited_in es) k → at + length (named_paths files es) ≡ length nodes → Starts 0 (starts_at env nodes at (r + 1) es k)
+      Later = (at : ℕ) (k : Work) → Starts (contents_awaited es) k → at + length (named_paths files es) ≡ length nodes → Starts 0 (starts_at env nodes at (r + 1) es k)
 
       go : (o : Option (List ℕ)) → named_path files e ≡ o → Later → Next_of at r es (starts_one env (slice_get nodes at) r e k)
       go None none later = subst (Next_of at r es) (sym (stays-as (slice_get nodes at) r e k none))
-          (later at (entered e k) (push-starts (awaited_in es) e k h none) (ap (λ (o : Option (List ℕ)). at + length (and_path o (named_paths files es))) (sym none) ∙ count))
+          (later at (entered e k) (push-starts (contents_awaited es) e k h none) (ap (λ (o : Option (List ℕ)). at + length (and_path o (named_paths files es))) (sym none) ∙ count))
       go (Some path) is later =
           let total : at + length (path ∷ named_paths files es) ≡ length nodes = ap (λ (o : Option (List ℕ)). at + length (and_path o (named_paths files es))) (sym is) ∙ count in
           let node : ℕ = get_or nodes at 0 in
           let got : slice_get nodes at ≡ Some node = slice_get-get_or nodes at 0 (omega (arith, total)) in
           let one : starts_one env (slice_get nodes at) r e k ≡ (true, started env node r path e.verdict k) = ap (λ (o : Option ℕ). starts_one env o r e k) got ∙ ap (starts_named env node r e k) is in
-          let none : awaits e.progress ≡ 0 = named-awaits files e e.progress path is in
-          let behind : Starts (awaited_in es) k = (h.0, h.1, h.2, h.3, let few = h.4 in omega (arith, few, none)) in
+          let none : awaits_content e.progress ≡ 0 = named-awaits files e e.progress path is in
+          let behind : Starts (contents_awaited es) k = (h.0, h.1, h.2, h.3, let few = h.4 in omega (arith, few, none)) in
           subst (Next_of at r es) (sym one)
-          (later (at + 1) (started env node r path e.verdict k) (started-starts (awaited_in es) node r path e.verdict k behind (named-file files e e.progress path is) (each-at nodes at node got all)) (omega (arith, total)))
+          (later (at + 1) (started env node r path e.verdict k) (started-starts (contents_awaited es) node r path e.verdict k behind (named-file files e e.progress path is) (each-at nodes at node got all)) (omega (arith, total)))
 
   -- and no Ask is kept
   pub started-await : (k : Work) → kept0 ≡ [] → Starts 0 k → Awaits k

@@ -5,7 +5,7 @@ use Rattle.std.proofs.lemmas.List.Sums.{fold-append}
 use Rattle.lard_base.specs.declared.ids.Epoch.{Epoch}
 use Rattle.lard_base.specs.declared.place.Place.{Place}
 use Rattle.lard_base.specs.declared.place.Place.TheVariants.{Client, Front, Node}
-use Rattle.lard_law_connections.specs.LimitsCounts.{BackCounts, Counts, EndpointCounts, FrontCounts, FrontStageCounts, LetterCounts, Served, served_in}
+use Rattle.lard_law_connections.specs.LimitsCounts.{BackCounts, IsWithinStream, EndpointCounts, FrontCounts, FrontStageCounts, LetterCounts, Served, served_by_tale}
 use Rattle.lard_law_connections.proofs.LimitsMoves.{IsLimited, MoveCounts, client-letters, idle-counts, other-letter}
 use Rattle.lard_law_connections.proofs.LimitsOffers.{offer-counts}
 use Rattle.lard_law_connections.proofs.LimitsReading.{HasStopped, MayPlace, reads-so}
@@ -15,7 +15,7 @@ use Rattle.lard_law_connections.specs.Places.{ArePast, IsLeft, IsOffered, IsPast
 use Rattle.lard_law_connections.proofs.PlacesFrontRules.{has-each}
 use Rattle.lard_law_connections.proofs.PlacesTurns.{IsPlaced}
 use Rattle.lard_law_view.specs.Carry.{tale_at}
-use Rattle.lard_law_view.specs.View.{AreSent, Conn, IsFrontEnv, IsSound, Move, Part, Setting, front_does, letter}
+use Rattle.lard_law_view.specs.View.{AreSent, Conn, IsFrontEnv, IsConnSound, Move, Part, Setting, front_does, letter}
 use Rattle.lard_costs.specs.declared.later.LaterChoice.{LaterChoice}
 use Rattle.lard_dispatch.specs.declared.dispatch.Ask.{Ask}
 use Rattle.lard_dispatch.specs.declared.dispatch.First.{First}
@@ -31,8 +31,8 @@ use Rattle.lard_endpoint.specs.Moving.{may_freeze}
 use Rattle.lard_endpoint.proofs.Sound.{after_timer-sound, on_segment-sound}
 use Rattle.lard_rules.specs.declared.front.FrontRest.{FrontRest}
 use Rattle.lard_rules.specs.declared.front.FrontTurn.{FrontTurn}
-use Rattle.lard_rules.specs.Front.{Deed, Drops, Says, Does, FrontEnv, FrontPart, ack_sent, admitted_at, admitted_by, admitted_with, asked_by, assigned_notes, assigns, begun, ended_by, fired_by, fires_at, front_admitted, front_asked, front_ended, front_gets, front_hears, front_taken, front_timer, handed_off, heard, hears_at, holds, is_at, leaves_by, message, met, over_note, placed, rest_of, rests, saying, settled_by, stage_after, tag_sent, taken_by, turn_here, waits_on}
-use Rattle.lard_rules.specs.FrontReading.{Reading, reads}
+use Rattle.lard_rules.specs.Front.{FrontDeed, Drops, Says, Does, FrontEnv, FrontPart, ack_sent, admitted_at, admitted_by, front_admitted_with, asked_by, assigned_notes, assigns, front_begun, front_ended_by, front_fired_by, fires_at, front_admitted, front_asked, front_ended, front_gets, front_hears, front_taken, front_timer, handed_off, heard, hears_at, holds, is_row_at, leaves_by, message, met, over_note, placed, front_rest, front_rests, front_saying, settled_by, stage_after, tag_sent, taken_by, turn_here, waits_on}
+use Rattle.lard_rules.specs.FrontReading.{Reading, front_reads}
 use Rattle.lard_rules.proofs.FrontBlocks.{EndsIdle, idle-of, segment-idle, spoken-idle, timer-idle}
 use Rattle.lard_handoff_back.specs.declared.row.BackConn.{BackConn}
 use Rattle.lard_handoff_back.specs.declared.row.BackConn.TheVariants as back
@@ -56,7 +56,7 @@ use Rattle.lard_rules.specs.declared.places.Ending.{Ending}
 use Rattle.lard_rules.specs.declared.places.Ending.TheVariants as ending
 use Rattle.lard_rules.specs.declared.places.Turn.{Turn}
 use Rattle.lard_rules.specs.Tombstone.{is_plain_syn, last_words, tombstone}
-use Rattle.lard_rules.specs.Serving.{Service, ready_of, serving, settled, spoken}
+use Rattle.lard_rules.specs.Serving.{Service, serving_ready_of, serving, serving_settled, spoken}
 use Rattle.lard_rules.proofs.Endpoints.{listening-sound}
 use Rattle.lard_rules.proofs.Totals.{segment-many, timer-many}
 use Rattle.lard_segment.specs.declared.fault.SegFault.{SegFault}
@@ -75,12 +75,12 @@ past-counts stream v e (Some row) h = left-counts stream v row.stage h.1
 
 -- ---- one connection
 
-module _ (k : Setting) (most : k.stream ≤ 2 ^ 30) (x : Conn) (sound_x : IsSound x) (at_place : IsPlaced x) (h : IsLimited k.stream x) (heads : List Seen) (seen : Each IsMuteSeen heads) (env : FrontEnv) (is : IsFrontEnv k x.c env) where
+module _ (k : Setting) (most : k.stream ≤ 2 ^ 30) (x : Conn) (sound_x : IsConnSound x) (at_place : IsPlaced x) (h : IsLimited k.stream x) (heads : List Seen) (seen : Each IsMuteSeen heads) (env : FrontEnv) (is : IsFrontEnv k x.c env) where
   abbrev p : FrontPart
   p = x.part.front
 
   abbrev w : Served
-  w = served_in (tale_at x)
+  w = served_by_tale (tale_at x)
 
   abbrev nodes : ℕ → NodePart
   nodes = x.part.nodes
@@ -88,15 +88,15 @@ module _ (k : Setting) (most : k.stream ≤ 2 ^ 30) (x : Conn) (sound_x : IsSoun
   abbrev own : Owning
   own = owning (tale_at x)
 
-  abbrev Stays : Deed → Type 0
+  abbrev Stays : FrontDeed → Type 0
   Stays d = MoveCounts k.stream x (front_does x heads d)
 
   dropped : Stays Drops
   dropped = idle-counts k.stream x (front_does x heads Drops) (record { heads = seen; notes = tt; front = h.counted.front; nodes = h.counted.nodes; letters = tt })
 
   -- messages go out, of which none is a new Offer
-  says : (ms : List (Place × List ℕ)) → Each (LetterCounts k.stream w x.part) (map (letter Front) ms) → Stays (Says (saying ms))
-  says ms sent = idle-counts k.stream x (front_does x heads (Says (saying ms)))
+  says : (ms : List (Place × List ℕ)) → Each (LetterCounts k.stream w x.part) (map (letter Front) ms) → Stays (Says (front_saying ms))
+  says ms sent = idle-counts k.stream x (front_does x heads (Says (front_saying ms)))
       (record { heads = seen; notes = tt; front = h.counted.front; nodes = h.counted.nodes; letters = sent })
 
   -- ---- an endpoint that is here
@@ -112,9 +112,9 @@ module _ (k : Setting) (most : k.stream ≤ 2 ^ 30) (x : Conn) (sound_x : IsSoun
 
   ends-limited : IsOurs → (row : FrontRow) (rest : FrontRest) (stays : ControlBlock → FrontConn) (given : Ending × Turn) (calls : List Call) → TurnCounts env.serve.stream env.serve.c w given → EndSound given.0
       → ((v : Served) (b : ControlBlock) (count : ℕ) → given.0 ≡ ending.Here b count → EndpointCounts k.stream v b → FrontStageCounts k.stream v (stays b))
-      → Stays (Does (record { part = rests p row rest stays given.0; turn = turn_here given.1; calls = calls }))
+      → Stays (Does (record { part = front_rests p row rest stays given.0; turn = turn_here given.1; calls = calls }))
   ends-limited ours row rest stays given calls counts sound stay =
-      let d : Deed = Does (record { part = rests p row rest stays given.0; turn = turn_here given.1; calls = calls }) in
+      let d : FrontDeed = Does (record { part = front_rests p row rest stays given.0; turn = turn_here given.1; calls = calls }) in
       let v : Move = front_does x heads d in
       let t : TurnCounts k.stream x.c w given = own-turn given counts in
       let then : Served = after_all w given.1.notes in
@@ -137,7 +137,7 @@ module _ (k : Setting) (most : k.stream ≤ 2 ^ 30) (x : Conn) (sound_x : IsSoun
   idle-at given b count at idle = subst EndsIdle at idle
 
   waits-limited : IsOurs → (row : FrontRow) (rest : FrontRest) (given : Ending × Turn) (calls : List Call) → TurnCounts env.serve.stream env.serve.c w given → EndSound given.0 → EndsIdle given.0
-      → Stays (Does (record { part = rests p row rest stage.Waiting given.0; turn = turn_here given.1; calls = calls }))
+      → Stays (Does (record { part = front_rests p row rest stage.Waiting given.0; turn = turn_here given.1; calls = calls }))
   waits-limited ours row rest given calls counts sound idle = ends-limited ours row rest stage.Waiting given calls counts sound (λ v b count at c. (c, idle-at given b count at idle))
 
   -- it is handed off: its Offer begins with all that was served
@@ -149,8 +149,8 @@ module _ (k : Setting) (most : k.stream ≤ 2 ^ 30) (x : Conn) (sound_x : IsSoun
       let more : List Rec = rec.Admitted env.serve.c ∷ rec.AssignedFirst env.serve.c (s.count + 1) path choice.node choice.add choice.remove ∷ [] in
       let then : Served = after_all w (s.notes ++ more) in
       let now : then ≡ after_all w s.notes = fold-append after w s.notes more ∙ mute-after (after_all w s.notes) more (tt, (tt, tt)) in
-      let counts : Counts k.stream (after_all w s.notes) s.block.send.total =
-      subst (λ (n : ℕ). Counts n (after_all w s.notes) s.block.send.total) is.stream (unless s.over none serving.counts) in
+      let counts : IsWithinStream k.stream (after_all w s.notes) s.block.send.total =
+      subst (λ (n : ℕ). IsWithinStream n (after_all w s.notes) s.block.send.total) is.stream (unless s.over none serving.counts) in
       let told : CountsBy k.stream x.c w s.notes = subst (λ (c : ℕ). CountsBy k.stream c w s.notes) is.number (subst (λ (n : ℕ). CountsBy n env.serve.c w s.notes) is.stream serving.told) in
       record {
         heads = seen;
@@ -160,11 +160,11 @@ module _ (k : Setting) (most : k.stream ≤ 2 ^ 30) (x : Conn) (sound_x : IsSoun
         old = inr (λ n f offered. absurd (ours.unoffered n f offered));
         letters = (
           offer-counts k.stream then v.part choice.node env.serve.c (next_epoch row).0 s.count s.block
-              (record { sound = sound; counts = subst (λ (u : Served). Counts k.stream u s.block.send.total) (sym now) counts }) may,
+              (record { sound = sound; counts = subst (λ (u : Served). IsWithinStream k.stream u s.block.send.total) (sym now) counts }) may,
           tt,
         );
       } where
-        unless : (o : Option ℕ) → o ≡ None → UnlessOver env.serve w o s.block.send.total (after_all w s.notes) → Counts env.serve.stream (after_all w s.notes) s.block.send.total
+        unless : (o : Option ℕ) → o ≡ None → UnlessOver env.serve w o s.block.send.total (after_all w s.notes) → IsWithinStream env.serve.stream (after_all w s.notes) s.block.send.total
         unless None e c = c
         unless (Some total) e c = let no : Some total ≡ None = e in absurd cc
 
@@ -179,14 +179,14 @@ module _ (k : Setting) (most : k.stream ≤ 2 ^ 30) (x : Conn) (sound_x : IsSoun
       (spoken-counts env.serve w t [] none tt (noted-mute env.serve w s more (tt, tt) serving)) (spoken-sound env.serve t [] sound) (spoken-idle env.serve t [] (idle-of s.block may sound.sending.queued))
 
   settled-limited : IsOurs → (row : FrontRow) (rest : FrontRest) (s : Service) (o : Option (List ℕ)) → IsServing env.serve w s → IsControlBlock s.block → MayPlace o s → Stays (settled_by env p row rest s o)
-  settled-limited ours row rest s None serving sound may = holds-limited ours row rest (settled env.serve s) (settled-counts env.serve w s serving) (settled-sound env.serve s sound)
+  settled-limited ours row rest s None serving sound may = holds-limited ours row rest (serving_settled env.serve s) (settled-counts env.serve w s serving) (settled-sound env.serve s sound)
   settled-limited ours row rest s (Some path) serving sound may = placed-limited ours row rest s path (env.first path) serving sound may.0 may.1
 
   abbrev within : env.serve.stream ≤ 2 ^ 30
   within = subst (λ (n : ℕ). n ≤ 2 ^ 30) (sym is.stream) most
 
-  own-counts : (total : ℕ) → Counts k.stream w total → Counts env.serve.stream w total
-  own-counts total c = subst (λ (n : ℕ). Counts n w total) (sym is.stream) c
+  own-counts : (total : ℕ) → IsWithinStream k.stream w total → IsWithinStream env.serve.stream w total
+  own-counts total c = subst (λ (n : ℕ). IsWithinStream n w total) (sym is.stream) c
 
   -- with the endpoint that it has
   here-serving : (b d : ControlBlock) (count : ℕ) → d.send.total ≡ b.send.total → EndpointCounts k.stream w b → IsServing env.serve w (serving d count [])
@@ -195,7 +195,7 @@ module _ (k : Setting) (most : k.stream ≤ 2 ^ 30) (x : Conn) (sound_x : IsSoun
   heard-limited : IsOurs → (row : FrontRow) (rest : FrontRest) (b : ControlBlock) (s : Segment) → EndpointCounts k.stream w b → Stays (heard env p row rest (on_segment b s).1)
   heard-limited ours row rest b s h =
       let start : Service = serving (on_segment b s).1 rest.count [] in
-      let r : Reading = reads env.serve (record { service = start; target = None }) in
+      let r : Reading = front_reads env.serve (record { service = start; target = None }) in
       let stop : HasStopped env.serve w within r = reads-so env.serve w within start (here-serving b (on_segment b s).1 rest.count (segment-many b s) h, on_segment-sound b s h.sound) in
       settled-limited ours row rest r.service r.target stop.0.0 stop.0.1 stop.1
 
@@ -248,14 +248,14 @@ module _ (k : Setting) (most : k.stream ≤ 2 ^ 30) (x : Conn) (sound_x : IsSoun
   -- ---- a segment
 
   met-limited : (s : Segment) → p.row ≡ None → Stays (met env p s)
-  met-limited s none = cond_both (is_plain_syn s) (begun env p s) Drops Stays
+  met-limited s none = cond_both (is_plain_syn s) (front_begun env p s) Drops Stays
       (λ t.
       let row : FrontRow = record { stage = stage.Lent; epoch = record { 0 = 1 }; ended_by = None } in
       let start : Service = serving (listening s env.iss) 0 (rec.Took Front env.serve.c (record { 0 = 1 }) ∷ []) in
       let at : Sits own nodes None = subst (Sits own nodes) none at_place.sits in
-      let counts : Counts env.serve.stream w 0 = own-counts 0 (subst (FrontCounts k.stream w) none h.counted.front) in
+      let counts : IsWithinStream env.serve.stream w 0 = own-counts 0 (subst (FrontCounts k.stream w) none h.counted.front) in
       let ours : IsOurs = record { e = 0; past = at.1; unoffered = λ n d. subst (λ (o : Option FrontRow). IsOffered n d o → ⊥) (sym none) (λ o. o) } in
-      holds-limited ours row (rest_of None) (spoken env.serve start []) (spoken-counts env.serve w start [] refl tt (record { told = (tt, tt); counts = counts })) (spoken-sound env.serve start [] (listening-sound s env.iss)))
+      holds-limited ours row (front_rest None) (spoken env.serve start []) (spoken-counts env.serve w start [] refl tt (record { told = (tt, tt); counts = counts })) (spoken-sound env.serve start [] (listening-sound s env.iss)))
       (λ t. dropped)
 
   tombstone-limited : (o : Option Segment) → Stays (Says (turn_here (tombstone env.serve o)))
@@ -264,16 +264,16 @@ module _ (k : Setting) (most : k.stream ≤ 2 ^ 30) (x : Conn) (sound_x : IsSoun
   tombstone-limited (Some s) = idle-counts k.stream x (front_does x heads (Says (turn_here (tombstone env.serve (Some s)))))
       (record { heads = seen; notes = tt; front = h.counted.front; nodes = h.counted.nodes; letters = (tt, tt) })
 
-  forwards : (n : ℕ) (e : Epoch) (bytes : List ℕ) → Stays (Says (saying ((Node n, message env.serve.c e.0 (body.Forward bytes)) ∷ [])))
+  forwards : (n : ℕ) (e : Epoch) (bytes : List ℕ) → Stays (Says (front_saying ((Node n, message env.serve.c e.0 (body.Forward bytes)) ∷ [])))
   forwards n e bytes = says ((Node n, message env.serve.c e.0 (body.Forward bytes)) ∷ []) (other-letter k.stream w x.part n env.serve.c e.0 (body.Forward bytes) (λ i. cc), tt)
 
   hears-at : (bytes : List ℕ) (s : Segment) (row : FrontRow) → p.row ≡ Some row → (st : FrontConn) → row.stage ≡ st → Stays (hears_at env p row bytes s st)
   hears-at bytes s row found (stage.Held b) at =
-      heard-limited (ours-at row (stage.Held b) found at tt) row (rest_of p.rest) b s (subst (FrontStageCounts k.stream w) at (counts-row row found))
+      heard-limited (ours-at row (stage.Held b) found at tt) row (front_rest p.rest) b s (subst (FrontStageCounts k.stream w) at (counts-row row found))
   hears-at bytes s row found (stage.Waiting b) at =
       let c : FrontStageCounts k.stream w (stage.Waiting b) = subst (FrontStageCounts k.stream w) at (counts-row row found) in
-      says-waiting (ours-at row (stage.Waiting b) found at tt) row (rest_of p.rest) b (on_segment b s).1 [] (segment-many b s) (on_segment-sound b s c.0.sound)
-      (spoken-idle env.serve (serving (on_segment b s).1 (rest_of p.rest).count []) [] (segment-idle b s (idle-of b c.1 c.0.sound.sending.queued))) tt c.0
+      says-waiting (ours-at row (stage.Waiting b) found at tt) row (front_rest p.rest) b (on_segment b s).1 [] (segment-many b s) (on_segment-sound b s c.0.sound)
+      (spoken-idle env.serve (serving (on_segment b s).1 (front_rest p.rest).count []) [] (segment-idle b s (idle-of b c.1 c.0.sound.sending.queued))) tt c.0
   hears-at bytes s row found stage.Lent at = dropped
   hears-at bytes s row found (stage.Offering n e) at = forwards n e bytes
   hears-at bytes s row found (stage.Moved n e) at = forwards n e bytes
@@ -296,16 +296,16 @@ module _ (k : Setting) (most : k.stream ≤ 2 ^ 30) (x : Conn) (sound_x : IsSoun
   fires-at : (row : FrontRow) → p.row ≡ Some row → (st : FrontConn) → row.stage ≡ st → Stays (fires_at env p row st)
   fires-at row found (stage.Held b) at =
       let c : EndpointCounts k.stream w b = subst (FrontStageCounts k.stream w) at (counts-row row found) in
-      says-held (ours-at row (stage.Held b) found at tt) row (rest_of p.rest) b (after_timer b) (ready_of env.serve (after_timer b) (timed b)) (timer-many b) (after_timer-sound b c.sound) (ready-to env.serve (after_timer b) (timed b)) c
+      says-held (ours-at row (stage.Held b) found at tt) row (front_rest p.rest) b (after_timer b) (serving_ready_of env.serve (after_timer b) (timed b)) (timer-many b) (after_timer-sound b c.sound) (ready-to env.serve (after_timer b) (timed b)) c
   fires-at row found (stage.Waiting b) at =
       let c : FrontStageCounts k.stream w (stage.Waiting b) = subst (FrontStageCounts k.stream w) at (counts-row row found) in
-      let before : List (Place × List ℕ) = ready_of env.serve (after_timer b) (timed b) in
-      says-waiting (ours-at row (stage.Waiting b) found at tt) row (rest_of p.rest) b (after_timer b) before (timer-many b) (after_timer-sound b c.0.sound)
-      (spoken-idle env.serve (serving (after_timer b) (rest_of p.rest).count []) before (timer-idle b (idle-of b c.1 c.0.sound.sending.queued))) (ready-to env.serve (after_timer b) (timed b)) c.0
+      let before : List (Place × List ℕ) = serving_ready_of env.serve (after_timer b) (timed b) in
+      says-waiting (ours-at row (stage.Waiting b) found at tt) row (front_rest p.rest) b (after_timer b) before (timer-many b) (after_timer-sound b c.0.sound)
+      (spoken-idle env.serve (serving (after_timer b) (front_rest p.rest).count []) before (timer-idle b (idle-of b c.1 c.0.sound.sending.queued))) (ready-to env.serve (after_timer b) (timed b)) c.0
   fires-at row found (stage.Offering n e) at = says (map sent_of p.kept) (resent-letters p.kept sound_x.front)
   fires-at row found _ at = dropped
 
-  fires : (o : Option FrontRow) → p.row ≡ o → Stays (fired_by env p o)
+  fires : (o : Option FrontRow) → p.row ≡ o → Stays (front_fired_by env p o)
   fires None found = dropped
   fires (Some row) found = fires-at row found row.stage refl
 
@@ -339,8 +339,8 @@ module _ (k : Setting) (most : k.stream ≤ 2 ^ 30) (x : Conn) (sound_x : IsSoun
   asked-by n epoch ask None = dropped
   asked-by n epoch ask (Some rest) =
       let l : Later = env.later ask in
-      let d : Deed = Does (assigns env p rest n epoch ask l) in
-      cond_both (ask.number == rest.asks + 1) d (cond (ask.number == rest.asks && nat_lt 0 rest.asks) (Says (saying (tag_sent env n epoch rest.asks rest.tag))) Drops) Stays
+      let d : FrontDeed = Does (assigns env p rest n epoch ask l) in
+      cond_both (ask.number == rest.asks + 1) d (cond (ask.number == rest.asks && nat_lt 0 rest.asks) (Says (front_saying (tag_sent env n epoch rest.asks rest.tag))) Drops) Stays
       (λ t. idle-counts k.stream x (front_does x heads d) (record {
         heads = seen;
         notes = Each-append IsMute (over_note env.serve.c l.over) (assigned_notes env.serve.c ask rest.assigned ask.paths l.choices) (over-mute env.serve.c l.over) (assigned-mute env.serve.c ask rest.assigned ask.paths l.choices);
@@ -348,19 +348,19 @@ module _ (k : Setting) (most : k.stream ≤ 2 ^ 30) (x : Conn) (sound_x : IsSoun
         nodes = h.counted.nodes;
         letters = tag-letters n epoch ask.number (map (λ y. y.node) l.choices) (front_does x heads d).part;
       }))
-      (λ t. cond_both (ask.number == rest.asks && nat_lt 0 rest.asks) (Says (saying (tag_sent env n epoch rest.asks rest.tag))) Drops Stays
+      (λ t. cond_both (ask.number == rest.asks && nat_lt 0 rest.asks) (Says (front_saying (tag_sent env n epoch rest.asks rest.tag))) Drops Stays
       (λ u. says (tag_sent env n epoch rest.asks rest.tag) (tag-letters n epoch rest.asks rest.tag x.part)) (λ u. dropped))
 
   pub asked-limited : (n epoch : ℕ) (ask : Ask) → Stays (front_asked env p n epoch ask)
-  asked-limited n epoch ask = cond_both (is_at n epoch p.row) (asked_by env p n epoch ask p.rest) Drops Stays (λ t. asked-by n epoch ask p.rest) (λ t. dropped)
+  asked-limited n epoch ask = cond_both (is_row_at n epoch p.row) (asked_by env p n epoch ask p.rest) Drops Stays (λ t. asked-by n epoch ask p.rest) (λ t. dropped)
 
   ack-letters : (n epoch : ℕ) (q : Part) → Each (LetterCounts k.stream w q) (map (letter Front) (ack_sent env n epoch))
   ack-letters n epoch q = (other-letter k.stream w q n env.serve.c epoch body.EndedAck (λ i. cc), tt)
 
-  ended-by : (n epoch : ℕ) (last : Final) (o : Option FrontRow) (a : OnEnded) → Stays (ended_by env p n epoch last o a)
+  ended-by : (n epoch : ℕ) (last : Final) (o : Option FrontRow) (a : OnEnded) → Stays (front_ended_by env p n epoch last o a)
   ended-by n epoch last None a = dropped
-  ended-by n epoch last (Some row) (New next) = idle-counts k.stream x (front_does x heads (ended_by env p n epoch last (Some row) (New next)))
-      (record { heads = seen; notes = (tt, (tt, tt)); front = tt; nodes = h.counted.nodes; letters = ack-letters n epoch (front_does x heads (ended_by env p n epoch last (Some row) (New next))).part })
+  ended-by n epoch last (Some row) (New next) = idle-counts k.stream x (front_does x heads (front_ended_by env p n epoch last (Some row) (New next)))
+      (record { heads = seen; notes = (tt, (tt, tt)); front = tt; nodes = h.counted.nodes; letters = ack-letters n epoch (front_does x heads (front_ended_by env p n epoch last (Some row) (New next))).part })
   ended-by n epoch last (Some row) Again = says (ack_sent env n epoch) (ack-letters n epoch x.part)
   ended-by n epoch last (Some row) Stale = dropped
 
@@ -373,17 +373,17 @@ module _ (k : Setting) (most : k.stream ≤ 2 ^ 30) (x : Conn) (sound_x : IsSoun
   Admitted given = MoveCounts k.stream x (front_does x heads (Does (record { part = given.0; turn = given.1; calls = [] })))
 
   module _ (choice : FirstChoice) (given : FrontPart × FrontTurn) where
-    admitted-with : (row : FrontRow) (b : ControlBlock) (o : Option (List ℕ)) → p.row ≡ Some row → row.stage ≡ stage.Waiting b → admitted_with env row (rest_of p.rest) b choice o ≡ Some given → Admitted given
+    admitted-with : (row : FrontRow) (b : ControlBlock) (o : Option (List ℕ)) → p.row ≡ Some row → row.stage ≡ stage.Waiting b → front_admitted_with env row (front_rest p.rest) b choice o ≡ Some given → Admitted given
     admitted-with row b None found at e = let no : None ≡ Some given = e in absurd cc
     admitted-with row b (Some path) found at e =
-        let s : Service = serving b (rest_of p.rest).count [] in
+        let s : Service = serving b (front_rest p.rest).count [] in
         let handed : FrontPart × FrontTurn = handed_off env row s path choice in
         let same : handed ≡ given = cc in
         let c : FrontStageCounts k.stream w (stage.Waiting b) = subst (FrontStageCounts k.stream w) at (counts-row row found) in
-        subst Admitted same (handed-limited (ours-at row (stage.Waiting b) found at tt) row s path choice [] (here-serving b b (rest_of p.rest).count refl c.0) c.0.sound c.1 refl)
+        subst Admitted same (handed-limited (ours-at row (stage.Waiting b) found at tt) row s path choice [] (here-serving b b (front_rest p.rest).count refl c.0) c.0.sound c.1 refl)
 
     admitted-at : (row : FrontRow) (st : FrontConn) → p.row ≡ Some row → row.stage ≡ st → admitted_at env p choice row st ≡ Some given → Admitted given
-    admitted-at row (stage.Waiting b) found at e = admitted-with row b (rest_of p.rest).target found at e
+    admitted-at row (stage.Waiting b) found at e = admitted-with row b (front_rest p.rest).target found at e
     admitted-at row _ found at e = let no : None ≡ Some given = e in absurd cc
 
     admitted-by : (o : Option FrontRow) → p.row ≡ o → admitted_by env p choice o ≡ Some given → Admitted given

@@ -4,15 +4,15 @@ use Rattle.std.proofs.lemmas.List.Sums.{fold-append}
 use Rattle.std.specs.List.{fold}
 use Rattle.lard_base.specs.declared.place.Place.{Place}
 use Rattle.lard_base.specs.declared.place.Place.TheVariants.{Client, Front, Node}
-use Rattle.lard_rules.specs.Bounds.{IsNumber}
-use Rattle.lard_law_connections.specs.LimitsCounts.{BackCounts, BodyCounts, Counts, FrontCounts, IsCounted, LetterCounts, LetterCountsOn, Served, served_in}
+use Rattle.lard_rules.specs.Bounds.{IsConnNumber}
+use Rattle.lard_law_connections.specs.LimitsCounts.{BackCounts, BodyCounts, IsWithinStream, FrontCounts, CountsWhatWasServed, LetterCounts, LetterCountsOn, Served, served_by_tale}
 use Rattle.lard_law_connections.proofs.LimitsRows.{CountsBy, IsMute, IsMuteSeen, MayStand, after, after_all, clients-mute, counts-append, counts-told, gaves-mute, mute-after, mute-counts, sends-mute, timers-mute}
-use Rattle.lard_law_connections.specs.Places.{Head, IsDecided, IsOffered, LetterMay, MaySay, head_of}
+use Rattle.lard_law_connections.specs.Places.{Head, IsDecided, IsOffered, LetterMay, MaySay, message_head}
 use Rattle.lard_law_connections.proofs.PlacesGrowing.{Grows, decided-grows}
 use Rattle.lard_law_connections.proofs.PlacesHeads.{decoded-head, head, spelled-some}
 use Rattle.lard_law_connections.proofs.PlacesTurns.{IsPlaced, Owes}
 use Rattle.lard_law_view.specs.Carry.{tale_at}
-use Rattle.lard_law_view.specs.View.{Conn, Move, Part, grown, letter, letters_of, rows_of, seen_in, sending, timer_rows, by_client, with_station, IsSound, Said, stands}
+use Rattle.lard_law_view.specs.View.{Conn, Move, Part, grown, letter, letters_of, rows_of, seen_in, sending, timer_rows, by_client, with_station, IsConnSound, TurnSaid, stands}
 use Rattle.lard_law_view.proofs.Fine.{IsItsOwn}
 use Rattle.lard_law_view.proofs.Saying.{NotedAt}
 use Rattle.lard_law_view.proofs.Rows.{grown-told, tale_before}
@@ -37,15 +37,15 @@ use Rattle.lard_law_view.proofs.RowLists.{MayBeSeen, each_row-told}
 
 -- What is known of a connection and of its move beside what was served: the view has it of each rule, and the law of places.
 pub record Helps (x : Conn) (v : Move) : Type 0 where
-  pub number : IsNumber x.c
-  pub sound : IsSound x
+  pub number : IsConnNumber x.c
+  pub sound : IsConnSound x
   pub placed : IsPlaced x
   pub owes : Owes x v
   pub own : IsItsOwn x v
 
 -- a connection is counted, and each of its records may stand
 pub record IsLimited (stream : ℕ) (x : Conn) : Type 0 where
-  pub counted : IsCounted stream x
+  pub counted : CountsWhatWasServed stream x
   pub lawful : EachRow (MayBeSeen (MayStand stream x.c) x.c) [] x.seen
 
 -- ---- what is seen before the notes tells nothing of what was served
@@ -54,25 +54,25 @@ mute-heads : (stream c : ℕ) (past ss : List Seen) → Each IsMuteSeen ss → E
 mute-heads stream c past [] h = tt
 mute-heads stream c past (Row r ∷ ss) h = (one r h.0, mute-heads stream c (past ++ Row r ∷ []) ss h.1) where
   one : (r : Rec) → IsMute r → MayStand stream c (tale_of c past) r
-  one r m = (mute-counts stream c (served_in (tale_of c past)) (r ∷ []) (m, tt)).0
+  one r m = (mute-counts stream c (served_by_tale (tale_of c past)) (r ∷ []) (m, tt)).0
 mute-heads stream c past (Came l ∷ ss) h = mute-heads stream c (past ++ Came l ∷ []) ss h.1
 
-mute-tale : (c : ℕ) (t : Tale) (ss : List Seen) → Each IsMuteSeen ss → served_in (fold (seen_step (tale_step c)) t ss) ≡ served_in t
+mute-tale : (c : ℕ) (t : Tale) (ss : List Seen) → Each IsMuteSeen ss → served_by_tale (fold (seen_step (tale_step c)) t ss) ≡ served_by_tale t
 mute-tale c t [] h = refl
 mute-tale c t (Row r ∷ ss) h = mute-tale c (tale_step c t r) ss h.1 ∙ one where
-  one : served_in (tale_step c t r) ≡ served_in t
-  one = (counts-told 0 c t (r ∷ []) (mute-counts 0 c (served_in t) (r ∷ []) (h.0, tt))).1 ∙ mute-after (served_in t) (r ∷ []) (h.0, tt)
+  one : served_by_tale (tale_step c t r) ≡ served_by_tale t
+  one = (counts-told 0 c t (r ∷ []) (mute-counts 0 c (served_by_tale t) (r ∷ []) (h.0, tt))).1 ∙ mute-after (served_by_tale t) (r ∷ []) (h.0, tt)
 mute-tale c t (Came l ∷ ss) h = mute-tale c t ss h.1
 
 -- ---- packets
 
 -- an Offer that was sent counts on, where nothing more was served, or where its node decided
 module _ (stream : ℕ) (w v : Served) (p q : Part) (grows : Grows p q) (old : (v ≡ w) ⊎ ((n e : ℕ) → IsOffered n e p.front.row → IsDecided e (q.nodes n).row)) where
-  offer-on : (n e total : ℕ) → MaySay p Front (Node n) (Some (head kind.Offer e)) → IsDecided e (p.nodes n).row ⊎ Counts stream w total → IsDecided e (q.nodes n).row ⊎ Counts stream v total
+  offer-on : (n e total : ℕ) → MaySay p Front (Node n) (Some (head kind.Offer e)) → IsDecided e (p.nodes n).row ⊎ IsWithinStream stream w total → IsDecided e (q.nodes n).row ⊎ IsWithinStream stream v total
   offer-on n e total said h = ⊎_elim
       (λ (decided : IsDecided e (p.nodes n).row). inl (decided-grows e (p.nodes n).row (q.nodes n).row (grows.nodes n) decided))
-      (λ (counts : Counts stream w total). ⊎_elim
-      (λ (same : v ≡ w). inr (subst (λ (u : Served). Counts stream u total) (sym same) counts))
+      (λ (counts : IsWithinStream stream w total). ⊎_elim
+      (λ (same : v ≡ w). inr (subst (λ (u : Served). IsWithinStream stream u total) (sym same) counts))
       (λ (all : (n e : ℕ) → IsOffered n e p.front.row → IsDecided e (q.nodes n).row). inl (⊎_elim
       (λ (decided : IsDecided e (p.nodes n).row). decided-grows e (p.nodes n).row (q.nodes n).row (grows.nodes n) decided)
       (λ (offered : IsOffered n e p.front.row). all n e offered) said))
@@ -82,7 +82,7 @@ module _ (stream : ℕ) (w v : Served) (p q : Part) (grows : Grows p q) (old : (
   body-on n e (body.Offer parts) said h = offer-on n e (parts.una - 1) said h
   body-on n e _ said h = tt
 
-  letter-on : (from to : Place) (bytes : List ℕ) → MaySay p from to (head_of bytes) → LetterCountsOn stream w p from to bytes → LetterCountsOn stream v q from to bytes
+  letter-on : (from to : Place) (bytes : List ℕ) → MaySay p from to (message_head bytes) → LetterCountsOn stream w p from to bytes → LetterCountsOn stream v q from to bytes
   letter-on Front (Node n) bytes said h = λ m d. body-on n m.epoch.0 m.body (subst (MaySay p Front (Node n)) (decoded-head bytes m d) said) (h m d)
   letter-on Front Front bytes said h = tt
   letter-on Front (Client c) bytes said h = tt
@@ -138,11 +138,11 @@ other-letter stream w p n c e b other m d = go m.body same where
 
 module _ (stream : ℕ) (x : Conn) (v : Move) where
   abbrev w : Served
-  w = served_in (tale_at x)
+  w = served_by_tale (tale_at x)
 
   -- what was served behind its notes
   abbrev pub served_then : Served
-  served_then = after_all (served_in (tale_at x)) v.said.notes
+  served_then = after_all (served_by_tale (tale_at x)) v.said.notes
 
   -- The notes may stand, and behind them every place counts what was served.
   pub record MoveCounts : Type 0 where
@@ -183,7 +183,7 @@ module _ (stream : ℕ) (x : Conn) (v : Move) where
     abbrev timers : List Rec
     timers = timer_rows v.place x.c x.part v.part
 
-    before : served_in (tale_before x v) ≡ w
+    before : served_by_tale (tale_before x v) ≡ w
     before = mute-tale x.c (tale_at x) v.heads m.heads
 
     -- the records behind the notes say nothing of it
@@ -207,11 +207,11 @@ module _ (stream : ℕ) (x : Conn) (v : Move) where
     rows-after : after_all w (rows_of x v) ≡ served_then
     rows-after = ap (after_all w) rows-are ∙ fold-append after w v.said.notes (sent ++ v.said.gave ++ told ++ timers) ∙ mute-after served_then (sent ++ v.said.gave ++ told ++ timers) rest-mute
 
-    all-told : TellsBy (MayStand stream x.c) x.c (tale_before x v) (rows_of x v) × (served_in (told_on x.c (tale_before x v) (rows_of x v)) ≡ after_all (served_in (tale_before x v)) (rows_of x v))
+    all-told : TellsBy (MayStand stream x.c) x.c (tale_before x v) (rows_of x v) × (served_by_tale (told_on x.c (tale_before x v) (rows_of x v)) ≡ after_all (served_by_tale (tale_before x v)) (rows_of x v))
     all-told = counts-told stream x.c (tale_before x v) (rows_of x v) (subst (λ (u : Served). CountsBy stream x.c u (rows_of x v)) (sym before) rows-count)
 
-    now : served_in (tale_at (grown x v)) ≡ served_then
-    now = ap served_in (grown-told (tale_step x.c) untold x v) ∙ all-told.1 ∙ ap (λ (u : Served). after_all u (rows_of x v)) before ∙ rows-after
+    now : served_by_tale (tale_at (grown x v)) ≡ served_then
+    now = ap served_by_tale (grown-told (tale_step x.c) untold x v) ∙ all-told.1 ∙ ap (λ (u : Served). after_all u (rows_of x v)) before ∙ rows-after
 
     seen-may : EachRow (MayBeSeen (MayStand stream x.c) x.c) x.seen (seen_in x v)
     seen-may = each_row-append (MayBeSeen (MayStand stream x.c) x.c) x.seen v.heads (map Row (rows_of x v)) (mute-heads stream x.c x.seen v.heads m.heads)
@@ -237,7 +237,7 @@ pub client-counts : (stream : ℕ) (x : Conn) (heads : List Seen) (s : Station) 
     → MoveCounts stream x (record { place = Client x.c; heads = heads; said = by_client given.1; part = with_station x.part s })
 client-counts stream x heads s given h seen noted =
     let v : Move = record { place = Client x.c; heads = heads; said = by_client given.1; part = with_station x.part s } in
-    let w : Served = served_in (tale_at x) in
+    let w : Served = served_by_tale (tale_at x) in
     idle-counts stream x v (record {
       heads = seen;
       notes = clients-mute x.c x.c given.1.notes noted;
@@ -247,10 +247,10 @@ client-counts stream x heads s given h seen noted =
     })
 
 -- nothing that is kept changes, and nothing is served
-pub stands-counts : (stream : ℕ) (x : Conn) (place : Place) (heads : List Seen) (s : Said) → IsLimited stream x → Each IsMuteSeen heads → Each IsMute s.notes → s.segments ≡ [] → Each (LetterCounts stream (served_in (tale_at x)) x.part) (map (letter place) s.messages)
+pub stands-counts : (stream : ℕ) (x : Conn) (place : Place) (heads : List Seen) (s : TurnSaid) → IsLimited stream x → Each IsMuteSeen heads → Each IsMute s.notes → s.segments ≡ [] → Each (LetterCounts stream (served_by_tale (tale_at x)) x.part) (map (letter place) s.messages)
     → MoveCounts stream x (stands x place heads s)
 stands-counts stream x place heads s h seen mute none letters =
-    let w : Served = served_in (tale_at x) in
+    let w : Served = served_by_tale (tale_at x) in
     idle-counts stream x (stands x place heads s) (record {
       heads = seen;
       notes = mute;

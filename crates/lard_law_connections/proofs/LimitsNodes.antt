@@ -6,7 +6,7 @@ use Rattle.lard_base.specs.declared.parts.EndpointParts.{EndpointParts}
 use Rattle.lard_base.specs.declared.place.Place.{Place}
 use Rattle.lard_base.specs.declared.place.Place.TheVariants.{Front, Node}
 use Rattle.lard_base.specs.declared.place.TimerKind.TheVariants as timer
-use Rattle.lard_law_connections.specs.LimitsCounts.{BackCounts, BackStageCounts, Counts, FrontCounts, FrontStageCounts, LetterCounts, Served, served_in}
+use Rattle.lard_law_connections.specs.LimitsCounts.{BackCounts, BackStageCounts, IsWithinStream, FrontCounts, FrontStageCounts, LetterCounts, Served, served_by_tale}
 use Rattle.lard_law_connections.proofs.LimitsFronts.{past-counts}
 use Rattle.lard_law_connections.proofs.LimitsMoves.{IsLimited, MoveCounts, idle-counts, node-letters}
 use Rattle.lard_law_connections.proofs.LimitsRows.{IsMute, IsMuteSeen, after_all, named-counts}
@@ -18,7 +18,7 @@ use Rattle.lard_law_connections.proofs.PlacesFrontRules.{has-each}
 use Rattle.lard_law_connections.proofs.PlacesNodeRules.{by-node, past-held}
 use Rattle.lard_law_connections.proofs.PlacesTurns.{IsPlaced}
 use Rattle.lard_law_view.specs.Carry.{tale_at}
-use Rattle.lard_law_view.specs.View.{Conn, IsNodeEnv, Move, Setting, Spells, Was, epoch_in, letter, named, node_does, node_put}
+use Rattle.lard_law_view.specs.View.{Conn, IsNodeEnv, Move, Setting, SpellsMessage, Was, epoch_in, letter, named_records, node_does, node_put_back}
 use Rattle.lard_law_view.proofs.Parts.{put-each, put-same}
 use Rattle.lard_endpoint.specs.Arriving.{on_segment}
 use Rattle.lard_endpoint.specs.Control.{ControlBlock, consuming}
@@ -27,8 +27,8 @@ use Rattle.lard_handoff_back.specs.declared.row.BackConn.{BackConn}
 use Rattle.lard_handoff_back.specs.declared.row.BackConn.TheVariants as back
 use Rattle.lard_handoff_back.specs.declared.row.BackRow.{BackRow}
 use Rattle.lard_handoff_back.specs.declared.table.Adopt.TheVariants.{New, Again, Stale}
-use Rattle.lard_handoff_back.specs.Back.{awaits_ack, endpoint_of, offer_answer, staying}
-use Rattle.lard_handoff_back.specs.Row.{held_in, is_gone}
+use Rattle.lard_handoff_back.specs.Back.{awaits_ack, back_endpoint, offer_answer, staying}
+use Rattle.lard_handoff_back.specs.Row.{back_held, is_gone}
 use Rattle.lard_handoff_front.specs.declared.row.FrontConn.{FrontConn}
 use Rattle.lard_handoff_front.specs.declared.row.FrontConn.TheVariants as stage
 use Rattle.lard_handoff_front.specs.declared.row.FrontRow.{FrontRow}
@@ -39,14 +39,14 @@ use Rattle.lard_journal.specs.declared.rec.Rec.TheVariants as rec
 use Rattle.lard_lateral.specs.Lateral.{is_from}
 use Rattle.lard_message.specs.declared.message.Body.TheVariants as body
 use Rattle.lard_rules.specs.declared.stay.Stay.{Stay}
-use Rattle.lard_rules.specs.Node.{Deed, Drops, Says, Does, NodePart, again_sent, begins, both_of, come_by, fired, fired_by, gone, heard_by, here, is_awaited, kept_after, node_acknowledged, node_content, node_forwarded, node_offered, node_read, node_tagged, node_timer, offered_by, read_by, saying, tagged_by, taken_sent, turn_by, with_work, work_of}
+use Rattle.lard_rules.specs.Node.{NodeDeed, Drops, Says, Does, NodePart, again_sent, node_begins, both_of, come_by, node_fired, node_fired_by, gone, node_heard_by, here, is_tag_awaited, kept_after, node_acknowledged, node_content, node_forwarded, node_offered, node_read, node_tagged, node_timer, offered_by, node_read_by, node_saying, tagged_by, taken_sent, turn_by, with_work, work_of}
 use Rattle.lard_rules.specs.Stay.{NodeEnv, Work, came_for, come_progress, goes_on, read_progress, reads_batch, tagged}
 use Rattle.lard_resend.specs.Kept.{is_under, without}
 use Rattle.lard_rules.specs.declared.places.Ending.{Ending}
 use Rattle.lard_rules.specs.declared.places.Ending.TheVariants as ending
 use Rattle.lard_rules.specs.declared.places.Turn.{Turn}
 use Rattle.lard_rules.specs.Loop.{state_of}
-use Rattle.lard_rules.specs.Serving.{ServeEnv, ready_of, serving, settled, spoken}
+use Rattle.lard_rules.specs.Serving.{ServeEnv, serving_ready_of, serving, serving_settled, spoken}
 use Rattle.lard_rules.proofs.Totals.{segment-many, timer-many}
 use Rattle.lard_segment.specs.declared.fault.SegFault.{SegFault}
 use Rattle.lard_segment.specs.Segment.{Said as Segment}
@@ -71,7 +71,7 @@ stay-counts env u = record {
 
 module _ (k : Setting) (x : Conn) (at_place : IsPlaced x) (h : IsLimited k.stream x) where
   abbrev w : Served
-  w = served_in (tale_at x)
+  w = served_by_tale (tale_at x)
 
   abbrev nodes : ℕ → NodePart
   nodes = x.part.nodes
@@ -123,13 +123,13 @@ module _ (k : Setting) (x : Conn) (at_place : IsPlaced x) (h : IsLimited k.strea
   -- the endpoint that is here, and what it counts
   record HasIt (n e : ℕ) (b : ControlBlock) : Type 0 where
     here_is : IsHere n e
-    counts : Counts k.stream w b.send.total
+    counts : IsWithinStream k.stream w b.send.total
 
-  held-stage : (st : BackConn) (b : ControlBlock) → held_in st ≡ Some b → st ≡ back.Here b
+  held-stage : (st : BackConn) (b : ControlBlock) → back_held st ≡ Some b → st ≡ back.Here b
   held-stage (back.Here c) b e = let same : c ≡ b = cc in ap back.Here same
   held-stage _ b e = let no : None ≡ Some b = e in absurd cc
 
-  has-row : (n : ℕ) (row : BackRow) (b : ControlBlock) → (nodes n).row ≡ Some row → held_in row.stage ≡ Some b → HasIt n row.epoch.0 b
+  has-row : (n : ℕ) (row : BackRow) (b : ControlBlock) → (nodes n).row ≡ Some row → back_held row.stage ≡ Some b → HasIt n row.epoch.0 b
   has-row n row b is held =
       let at : row.stage ≡ back.Here b = held-stage row.stage b held in
       record {
@@ -150,7 +150,7 @@ module _ (k : Setting) (x : Conn) (at_place : IsPlaced x) (h : IsLimited k.strea
     go : (o : Option BackRow) → (nodes n).row ≡ o → staying e o ≡ Some b → HasIt n e b
     go None found held = let no : None ≡ Some b = held in absurd cc
     go (Some row) found held = by_epoch (row.epoch.0 == e) refl held where
-      by_epoch : (t : Bool) → (row.epoch.0 == e) ≡ t → cond t (held_in row.stage) None ≡ Some b → HasIt n e b
+      by_epoch : (t : Bool) → (row.epoch.0 == e) ≡ t → cond t (back_held row.stage) None ≡ Some b → HasIt n e b
       by_epoch true same at = subst (λ (d : ℕ). HasIt n d b) (eqb-true row.epoch.0 e same) (has-row n row b found at)
       by_epoch false same at = let no : None ≡ Some b = at in absurd cc
 
@@ -160,7 +160,7 @@ module _ (k : Setting) (x : Conn) (at_place : IsPlaced x) (h : IsLimited k.strea
     abbrev ours : NodePart
     ours = x.part.nodes n
 
-    abbrev Stays : Deed → Type 0
+    abbrev Stays : NodeDeed → Type 0
     Stays d = MoveCounts k.stream x (node_does x n heads d)
 
     pub dropped : Stays Drops
@@ -189,7 +189,7 @@ module _ (k : Setting) (x : Conn) (at_place : IsPlaced x) (h : IsLimited k.strea
         let v : Move = node_does x n heads (Does (q, turn_by env before work given)) in
         let t : TurnCounts k.stream x.c w given = own-turn w given counts in
         let called = named-counts k.stream x.c w given.1.notes t.told in
-        let then : Served = after_all w (named given.1.notes) in
+        let then : Served = after_all w (named_records given.1.notes) in
         let ends : EndCounts k.stream then given.0 = subst (λ (u : Served). EndCounts k.stream u given.0) (sym called.1) t.ends in
         record {
           heads = seen;
@@ -198,22 +198,22 @@ module _ (k : Setting) (x : Conn) (at_place : IsPlaced x) (h : IsLimited k.strea
           nodes = put-each nodes n q (λ m r. BackCounts k.stream then r.row) (row-counts then part work given.0 ends) (λ m other. it.others then m other);
           old = inr (λ m d offered.
               let o = it.offered m d offered in
-              subst (λ (j : ℕ). IsDecided d (node_put nodes n q j).row) (sym o.0) (subst (λ (r : NodePart). IsDecided d r.row) (sym (put-same nodes n q)) (row-decided part work given.0 d o.1)));
+              subst (λ (j : ℕ). IsDecided d (node_put_back nodes n q j).row) (sym o.0) (subst (λ (r : NodePart). IsDecided d r.row) (sym (put-same nodes n q)) (row-decided part work given.0 d o.1)));
           letters = Each-append (LetterCounts k.stream then v.part) (map (letter (Node n)) given.1.segments) (map (letter (Node n)) (turn_by env before work given).messages)
               (node-letters k.stream then v.part n given.1.segments) (node-letters k.stream then v.part n (turn_by env before work given).messages);
         }
 
     works-limited : IsHere n env.epoch → (part : NodePart) (before : List (Place × List ℕ)) (work : Work) → IsServing env.serve w work.service → Stays (with_work env part before work)
-    works-limited it part before work serving = turn-limited it part before work (settled env.serve work.service) (settled-counts env.serve w work.service serving)
+    works-limited it part before work serving = turn-limited it part before work (serving_settled env.serve work.service) (settled-counts env.serve w work.service serving)
 
     goes-limited : IsHere n env.epoch → (part : NodePart) (work : Work) → IsServing env.serve w work.service → Stays (with_work env part [] (goes_on env work))
     goes-limited it part work serving = works-limited it part [] (goes_on env work) (goes-so env (IsServing env.serve w) (stay-counts env.serve w) work serving)
 
     -- with the endpoint that it has
-    begins-here : (b d : ControlBlock) (count : ℕ) → d.send.total ≡ b.send.total → Counts k.stream w b.send.total → IsServing env.serve w (serving d count [])
-    begins-here b d count same c = begins-serving env.serve w b d count same (subst (λ (m : ℕ). Counts m w b.send.total) (sym is.stream) c)
+    begins-here : (b d : ControlBlock) (count : ℕ) → d.send.total ≡ b.send.total → IsWithinStream k.stream w b.send.total → IsServing env.serve w (serving d count [])
+    begins-here b d count same c = begins-serving env.serve w b d count same (subst (λ (m : ℕ). IsWithinStream m w b.send.total) (sym is.stream) c)
 
-    heard-by : (r : Result Segment SegFault) (o : Option (ControlBlock × Stay)) → here env.epoch ours ≡ o → Stays (heard_by env ours r o)
+    heard-by : (r : Result Segment SegFault) (o : Option (ControlBlock × Stay)) → here env.epoch ours ≡ o → Stays (node_heard_by env ours r o)
     heard-by (Err fault) o e = dropped
     heard-by (Ok s) None e = dropped
     heard-by (Ok s) (Some y) e =
@@ -225,7 +225,7 @@ module _ (k : Setting) (x : Conn) (at_place : IsPlaced x) (h : IsLimited k.strea
 
     tagged-by : (number : ℕ) (tags : List ℕ) (o : Option (ControlBlock × Stay)) → here env.epoch ours ≡ o → Stays (tagged_by env number tags ours o)
     tagged-by number tags None e = dropped
-    tagged-by number tags (Some y) e = cond_both (is_awaited env number tags ours y.1) _ Drops Stays
+    tagged-by number tags (Some y) e = cond_both (is_tag_awaited env number tags ours y.1) _ Drops Stays
         (λ t.
         let it : HasIt n env.epoch y.0 = here-has n env.epoch y.0 y.1 e in
         goes-limited it.here_is (record ours { kept = without timer.Ask 0 ours.kept }) (tagged env tags (work_of y.0 y.1))
@@ -247,7 +247,7 @@ module _ (k : Setting) (x : Conn) (at_place : IsPlaced x) (h : IsLimited k.strea
     pub content-limited : (from r : ℕ) → Stays (node_content env ours from r)
     content-limited from r = come-by from r (here env.epoch ours) refl
 
-    read-by : (r : ℕ) (o : Option (ControlBlock × Stay)) → here env.epoch ours ≡ o → Stays (read_by env r ours o)
+    read-by : (r : ℕ) (o : Option (ControlBlock × Stay)) → here env.epoch ours ≡ o → Stays (node_read_by env r ours o)
     read-by r None e = dropped
     read-by r (Some y) e =
         let it : HasIt n env.epoch y.0 = here-has n env.epoch y.0 y.1 e in
@@ -259,12 +259,12 @@ module _ (k : Setting) (x : Conn) (at_place : IsPlaced x) (h : IsLimited k.strea
 
     -- ---- an Offer
 
-    took-limited : (parts : EndpointParts) → IsHere n env.epoch → Counts k.stream w (parts.una - 1) → Stays (with_work env ours (taken_sent env) (goes_on env (state_of (reads_batch env true (begins env parts)))))
+    took-limited : (parts : EndpointParts) → IsHere n env.epoch → IsWithinStream k.stream w (parts.una - 1) → Stays (with_work env ours (taken_sent env) (goes_on env (state_of (reads_batch env true (node_begins env parts)))))
     took-limited parts it counts =
-        let start : IsServing env.serve w (begins env parts).service = record { told = (tt, tt); counts = subst (λ (m : ℕ). Counts m w (parts.una - 1)) (sym is.stream) counts } in
-        let first : Work = state_of (reads_batch env true (begins env parts)) in
+        let start : IsServing env.serve w (node_begins env parts).service = record { told = (tt, tt); counts = subst (λ (m : ℕ). IsWithinStream m w (parts.una - 1)) (sym is.stream) counts } in
+        let first : Work = state_of (reads_batch env true (node_begins env parts)) in
         let kept : KeptByServing env.serve (IsServing env.serve w) = stay-counts env.serve w in
-        works-limited it ours (taken_sent env) (goes_on env first) (goes-so env (IsServing env.serve w) kept first (batch-state env (IsServing env.serve w) kept true (begins env parts) refl start))
+        works-limited it ours (taken_sent env) (goes_on env first) (goes-so env (IsServing env.serve w) kept first (batch-state env (IsServing env.serve w) kept true (node_begins env parts) refl start))
 
     offered-here : (o : Option FrontRow) → x.part.front.row ≡ o → IsOffered n env.epoch o → IsHere n env.epoch
     offered-here None found offered = absurd offered
@@ -281,12 +281,12 @@ module _ (k : Setting) (x : Conn) (at_place : IsPlaced x) (h : IsLimited k.strea
       go (stage.Moved m d) at offers = absurd offers
       go (stage.Closed last) at offers = absurd offers
 
-    module _ (parts : EndpointParts) (said : IsDecided env.epoch ours.row ⊎ IsOffered n env.epoch x.part.front.row) (counted : IsDecided env.epoch ours.row ⊎ Counts k.stream w (parts.una - 1)) where
+    module _ (parts : EndpointParts) (said : IsDecided env.epoch ours.row ⊎ IsOffered n env.epoch x.part.front.row) (counted : IsDecided env.epoch ours.row ⊎ IsWithinStream k.stream w (parts.una - 1)) where
       -- where the node has not decided
       new-limited : (IsDecided env.epoch ours.row → ⊥) → Stays (offered_by env parts ours New)
       new-limited undecided =
           let offered : IsOffered n env.epoch x.part.front.row = ⊎_elim (λ (d : IsDecided env.epoch ours.row). absurd (undecided d)) (λ (o : IsOffered n env.epoch x.part.front.row). o) said in
-          let counts : Counts k.stream w (parts.una - 1) = ⊎_elim (λ (d : IsDecided env.epoch ours.row). absurd (undecided d)) (λ (c : Counts k.stream w (parts.una - 1)). c) counted in
+          let counts : IsWithinStream k.stream w (parts.una - 1) = ⊎_elim (λ (d : IsDecided env.epoch ours.row). absurd (undecided d)) (λ (c : IsWithinStream k.stream w (parts.una - 1)). c) counted in
           took-limited parts (offered-here x.part.front.row refl offered) counts
 
       offered-row : (o : Option BackRow) → ours.row ≡ o → Stays (offered_by env parts ours (offer_answer env.epoch o))
@@ -300,10 +300,10 @@ module _ (k : Setting) (x : Conn) (at_place : IsPlaced x) (h : IsLimited k.strea
         go true = says (taken_sent env)
         go false = or_stale (nat_lt row.epoch.0 env.epoch && is_gone row.stage) refl
 
-    pub offered-limited : (parts : EndpointParts) (bytes : List ℕ) → Spells x.c epoch (body.Offer parts) bytes → Was x Front (Node n) bytes → Stays (node_offered env ours parts)
+    pub offered-limited : (parts : EndpointParts) (bytes : List ℕ) → SpellsMessage x.c epoch (body.Offer parts) bytes → Was x Front (Node n) bytes → Stays (node_offered env ours parts)
     offered-limited parts bytes spells was = offered-row parts
         (subst (λ (e : ℕ). IsDecided e ours.row ⊎ IsOffered n e x.part.front.row) (sym is.epoch_is) (came-says x Front (Node n) epoch (body.Offer parts) bytes at_place.letters was spells))
-        (subst (λ (e : ℕ). IsDecided e ours.row ⊎ Counts k.stream w (parts.una - 1)) (sym is.epoch_is)
+        (subst (λ (e : ℕ). IsDecided e ours.row ⊎ IsWithinStream k.stream w (parts.una - 1)) (sym is.epoch_is)
         ((has-each (LetterCounts k.stream w x.part) (record { from = Front; to = Node n; bytes = bytes }) x.letters was h.counted.letters) _ spells))
         ours.row refl
 
@@ -316,8 +316,8 @@ module _ (k : Setting) (x : Conn) (at_place : IsPlaced x) (h : IsLimited k.strea
     pub acknowledged-limited : Stays (node_acknowledged env ours)
     acknowledged-limited =
         let q : NodePart = record ours { row = gone ours.row; kept = without timer.Ended 0 ours.kept } in
-        cond_both (awaits_ack env.epoch ours.row) (Does (q, saying [])) Drops Stays
-        (λ t. idle-counts k.stream x (node_does x n heads (Does (q, saying []))) (record {
+        cond_both (awaits_ack env.epoch ours.row) (Does (q, node_saying [])) Drops Stays
+        (λ t. idle-counts k.stream x (node_does x n heads (Does (q, node_saying []))) (record {
           heads = seen;
           notes = tt;
           front = h.counted.front;
@@ -332,26 +332,26 @@ module _ (k : Setting) (x : Conn) (at_place : IsPlaced x) (h : IsLimited k.strea
   abbrev mine : NodePart
   mine = x.part.nodes n
 
-  abbrev Fires : Deed → Type 0
+  abbrev Fires : NodeDeed → Type 0
   Fires d = MoveCounts k.stream x (node_does x n heads d)
 
   here-fires : (b : ControlBlock) (s : Stay) → HasIt k x at_place h n env.epoch b
-      → Fires (Does (fired env mine (b, s) (spoken env.serve (serving (after_timer b) s.served []) (ready_of env.serve (after_timer b) (timed b)))))
+      → Fires (Does (node_fired env mine (b, s) (spoken env.serve (serving (after_timer b) s.served []) (serving_ready_of env.serve (after_timer b) (timed b)))))
   here-fires b s it =
-      let before : List (Place × List ℕ) = ready_of env.serve (after_timer b) (timed b) in
+      let before : List (Place × List ℕ) = serving_ready_of env.serve (after_timer b) (timed b) in
       turn-limited k x at_place h n (epoch_in mine) env is heads seen it.here_is mine (again_sent mine) (work_of (after_timer b) s) (spoken env.serve (serving (after_timer b) s.served []) before)
-      (spoken-counts env.serve (served_in (tale_at x)) (serving (after_timer b) s.served []) before refl (ready-to env.serve (after_timer b) (timed b))
+      (spoken-counts env.serve (served_by_tale (tale_at x)) (serving (after_timer b) s.served []) before refl (ready-to env.serve (after_timer b) (timed b))
       (begins-here k x at_place h n (epoch_in mine) env is heads seen b (after_timer b) s.served (timer-many b) it.counts))
 
-  held-row : (o : Option BackRow) → mine.row ≡ o → (b : ControlBlock) → endpoint_of o ≡ Some b → HasIt k x at_place h n env.epoch b
+  held-row : (o : Option BackRow) → mine.row ≡ o → (b : ControlBlock) → back_endpoint o ≡ Some b → HasIt k x at_place h n env.epoch b
   held-row None found b e = let no : None ≡ Some b = e in absurd cc
   held-row (Some row) found b e =
       subst (λ (d : ℕ). HasIt k x at_place h n d b) (sym (is.epoch_is ∙ ap (λ (o : Option BackRow). epoch_in (record mine { row = o })) found)) (has-row k x at_place h n row b found e)
 
-  fires-by : (o : Option ControlBlock) → endpoint_of mine.row ≡ o → (t : Option Stay) → Fires (fired_by env mine (both_of o t))
+  fires-by : (o : Option ControlBlock) → back_endpoint mine.row ≡ o → (t : Option Stay) → Fires (node_fired_by env mine (both_of o t))
   fires-by None e t = says k x at_place h n (epoch_in mine) env is heads seen (again_sent mine)
   fires-by (Some b) e None = says k x at_place h n (epoch_in mine) env is heads seen (again_sent mine)
   fires-by (Some b) e (Some s) = here-fires b s (held-row mine.row refl b e)
 
   pub fires-limited : Fires (node_timer env mine)
-  fires-limited = fires-by (endpoint_of mine.row) refl mine.stay
+  fires-limited = fires-by (back_endpoint mine.row) refl mine.stay

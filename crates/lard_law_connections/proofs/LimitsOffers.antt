@@ -4,7 +4,7 @@ use Rattle.std.specs.Int.{Width, byte_len, from_be_bytes, to_be_bytes, w16, w32}
 use Rattle.std.proofs.lemmas.List.{drop_at}
 use Rattle.lard_base.specs.declared.parts.EndpointParts.{EndpointParts}
 use Rattle.lard_base.specs.declared.place.Place.TheVariants.{Front, Node}
-use Rattle.lard_law_connections.specs.LimitsCounts.{BodyCounts, Counts, EndpointCounts, LetterCountsOn, Served}
+use Rattle.lard_law_connections.specs.LimitsCounts.{BodyCounts, IsWithinStream, EndpointCounts, LetterCountsOn, Served}
 use Rattle.lard_law_connections.proofs.PlacesHeads.{spelled-body}
 use Rattle.lard_law_view.specs.View.{Part}
 use Rattle.lard_endpoint.specs.Control.{ControlBlock}
@@ -13,7 +13,7 @@ use Rattle.lard_endpoint.proofs.Adoption.{frozen_stands}
 use Rattle.lard_message.specs.declared.message.Body.{Body}
 use Rattle.lard_message.specs.declared.message.Body.TheVariants as body
 use Rattle.lard_message.specs.declared.message.Message.{Message}
-use Rattle.lard_message.specs.Message.{counted, flag_byte, parts_bytes}
+use Rattle.lard_message.specs.Message.{counted_bytes, flag_byte, parts_bytes}
 use Rattle.lard_message.specs.Reading.{counted_at, decoded_message, flag_at, number_at, offer_at, parts_at}
 use Rattle.lard_message.proofs.Fields.{bind_then, flag_again, number_again, some_same, wide32}
 use Rattle.lard_rules.specs.Front.{message}
@@ -30,7 +30,7 @@ rest-of w n rest a len e = go (nat_lt (length (to_be_bytes w n ++ rest)) (byte_l
 
 module _ (p : EndpointParts) (fits : p.una < 2 ^ 32) where
   abbrev r6 : List ℕ
-  r6 = to_be_bytes w16 p.wnd ++ to_be_bytes w32 p.wl1 ++ to_be_bytes w32 p.wl2 ++ to_be_bytes w16 p.mss ++ to_be_bytes w32 p.served ++ counted p.unread
+  r6 = to_be_bytes w16 p.wnd ++ to_be_bytes w32 p.wl1 ++ to_be_bytes w32 p.wl2 ++ to_be_bytes w16 p.mss ++ to_be_bytes w32 p.served ++ counted_bytes p.unread
 
   abbrev r5 : List ℕ
   r5 = to_be_bytes w32 p.una ++ r6
@@ -91,7 +91,7 @@ offer-counts stream w part n c e count b h may m d = go m.body refl where
       let most = h.sound.sending.most in
       let una : parts.una ≡ b.send.una = offer-read c e (parts_of b count) (omega (arith, stands, most)) m parts d is in
       let same : parts.una - 1 ≡ b.send.total = omega (arith, una, stands) in
-      inr (subst (Counts stream w) (sym same) h.counts)
+      inr (subst (IsWithinStream stream w) (sym same) h.counts)
   go (body.Forward segment) is = tt
   go body.Taken is = tt
   go (body.Ask number queue size paths) is = tt

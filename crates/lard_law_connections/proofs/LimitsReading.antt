@@ -10,12 +10,12 @@ use Rattle.lard_law_connections.specs.LimitsCounts.{Served}
 use Rattle.lard_law_connections.proofs.LimitsServing.{IsServing, answered-serving, answered-sound, ended-serving, ended-sound, reads-unfinished, reads-within, reblocked}
 use Rattle.lard_endpoint.specs.Control.{IsControlBlock, consuming}
 use Rattle.lard_endpoint.specs.Moving.{may_freeze}
-use Rattle.lard_rules.specs.FrontReading.{Reading, block_at, left, reads, reads_block, reads_found, targeted, turn, with_service}
+use Rattle.lard_rules.specs.FrontReading.{Reading, block_at, reading_left, front_reads, reads_block, reads_found, targeted, reading_turn, with_service}
 use Rattle.lard_request.specs.declared.verdict.Code.TheVariants as code
 use Rattle.lard_request.specs.declared.verdict.Verdict.{Verdict}
 use Rattle.lard_request.specs.declared.verdict.Verdict.TheVariants.{Fault}
 use Rattle.lard_rules.specs.Loop.{Step, More, Done, runs_on}
-use Rattle.lard_rules.specs.Serving.{ServeEnv, Service, answered, consumed, ended_at_fin, may_read}
+use Rattle.lard_rules.specs.Serving.{ServeEnv, Service, answered, serving_consumed, ended_at_fin, may_read}
 use Rattle.lard_rules.proofs.Endpoints.{consuming-sound}
 
 -- what is to be placed may move, and nothing is to be reset
@@ -41,40 +41,40 @@ module _ (env : ServeEnv) (u : Served) (most : env.stream ≤ 2 ^ 30) where
   still : (x : Reading) (s : Service) → Reads s → x.target ≡ None → HasStopped (with_service x s)
   still x s h none = (h, subst (λ (o : Option (List ℕ)). MayPlace o s) (sym none) tt)
 
-  consumed-reads : (n : ℕ) (s : Service) → Reads s → Reads (consumed n s)
+  consumed-reads : (n : ℕ) (s : Service) → Reads s → Reads (serving_consumed n s)
   consumed-reads n s h = (reblocked env u s (consuming s.block n) refl h.0, consuming-sound s.block n h.1)
 
-  answered-reads : (v : Verdict) (n : ℕ) (s : Service) → may_read s ≡ true → Reads s → Reads (answered env Own v (consumed n s))
+  answered-reads : (v : Verdict) (n : ℕ) (s : Service) → may_read s ≡ true → Reads s → Reads (answered env Own v (serving_consumed n s))
   answered-reads v n s may h =
-      let c : Reads (consumed n s) = consumed-reads n s h in
-      (answered-serving env u Own v (consumed n s) (reads-within s may) c.0, answered-sound env Own v (consumed n s) most (reads-unfinished s may) c.1)
+      let c : Reads (serving_consumed n s) = consumed-reads n s h in
+      (answered-serving env u Own v (serving_consumed n s) (reads-within s may) c.0, answered-sound env Own v (serving_consumed n s) most (reads-unfinished s may) c.1)
 
-  ended-reads : (n : ℕ) (s : Service) → Reads s → Reads (ended_at_fin (consumed n s))
-  ended-reads n s h = let c : Reads (consumed n s) = consumed-reads n s h in (ended-serving env u (consumed n s) c.0, ended-sound (consumed n s) c.1)
+  ended-reads : (n : ℕ) (s : Service) → Reads s → Reads (ended_at_fin (serving_consumed n s))
+  ended-reads n s h = let c : Reads (serving_consumed n s) = consumed-reads n s h in (ended-serving env u (serving_consumed n s) c.0, ended-sound (serving_consumed n s) c.1)
 
   targeted-so : (path : List ℕ) (x : Reading) → may_read x.service ≡ true → IsOn x → HasStopped (targeted path x)
   targeted-so path x may h = cond_both (may_freeze x.service.block) (record x { target = Some path }) x HasStopped (λ t. (h.0, (t, reads-within x.service may))) (λ t. still x x.service h.0 h.1)
 
   found-so : (x : Reading) → IsOn x → may_read x.service ≡ true → (f : Found) → ReadsSo (reads_found env x f)
-  found-so x h may (found.More skip) = still x (ended_at_fin (consumed skip x.service)) (ended-reads skip x.service h.0) h.1
+  found-so x h may (found.More skip) = still x (ended_at_fin (serving_consumed skip x.service)) (ended-reads skip x.service h.0) h.1
   found-so x h may (found.Block skip len) = by_path (good_path env.files (block_at x skip len)) where
     by_path : (o : Option (List ℕ)) → ReadsSo (reads_block env x (skip + len) (block_at x skip len) o)
     by_path None = (answered-reads (block_at x skip len) (skip + len) x.service may h.0, h.1)
     by_path (Some path) = targeted-so path x may h
   found-so x h may (found.TooLong skip) = (answered-reads (Fault code.FieldsTooLarge) (length x.service.block.recv.unread) x.service may h.0, h.1)
 
-  turn-so : (x : Reading) → IsOn x → ReadsSo (turn env x)
+  turn-so : (x : Reading) → IsOn x → ReadsSo (reading_turn env x)
   turn-so x h = cond_both (may_read x.service) (reads_found env x (cut_of x.service.block.recv.unread)) (Done x) ReadsSo
       (λ may. found-so x h may (cut_of x.service.block.recv.unread)) (λ may. still x x.service h.0 h.1)
 
   -- so many turns
-  stops-on : (n : ℕ) (x : Reading) → IsOn x → HasStopped (runs_on n (turn env) x)
+  stops-on : (n : ℕ) (x : Reading) → IsOn x → HasStopped (runs_on n (reading_turn env) x)
   unfolding runs_on
   stops-on zero x h = still x x.service h.0 h.1
-  stops-on (suc n) x h = go (turn env x) (turn-so x h) (stops-on n) where
-    go : (s : Step Reading) → ReadsSo s → ((y : Reading) → IsOn y → HasStopped (runs_on n (turn env) y)) → HasStopped (elim s as (λ s. Reading) [ More y ↦ runs_on n (turn env) y | Done y ↦ y ])
+  stops-on (suc n) x h = go (reading_turn env x) (turn-so x h) (stops-on n) where
+    go : (s : Step Reading) → ReadsSo s → ((y : Reading) → IsOn y → HasStopped (runs_on n (reading_turn env) y)) → HasStopped (elim s as (λ s. Reading) [ More y ↦ runs_on n (reading_turn env) y | Done y ↦ y ])
     go (More y) k later = later y k
     go (Done y) k later = k
 
-  pub reads-so : (s : Service) → Reads s → HasStopped (reads env (record { service = s; target = None }))
-  reads-so s h = stops-on (left (record { service = s; target = None }) + 1) (record { service = s; target = None }) (h, refl)
+  pub reads-so : (s : Service) → Reads s → HasStopped (front_reads env (record { service = s; target = None }))
+  reads-so s h = stops-on (reading_left (record { service = s; target = None }) + 1) (record { service = s; target = None }) (h, refl)

@@ -3,8 +3,8 @@ use Rattle.std.proofs.Common.{◌≡◌, ◌≤◌, ◌<◌, ◌+◌, ℕ, List,
 use Rattle.std.specs.List.{fold}
 use Rattle.lard_base.specs.declared.place.Place.{Place}
 use Rattle.lard_base.specs.declared.place.Place.TheVariants.{Client, Front, Node}
-use Rattle.lard_law_connections.specs.LimitsCounts.{Served, served_in}
-use Rattle.lard_law_view.specs.View.{Part, named, sending, timer_rows}
+use Rattle.lard_law_connections.specs.LimitsCounts.{Served, served_by_tale}
+use Rattle.lard_law_view.specs.View.{Part, named_records, sending, timer_rows}
 use Rattle.lard_law_view.proofs.Saying.{GaveAt, NotedAt}
 use Rattle.lard_law_view.proofs.Timers.{IsTimerAt, timer_rows-are}
 use Rattle.lard_history.specs.Journal.{Tale, served_bytes, tale, tale_step, told_on, was_reset}
@@ -34,7 +34,7 @@ MayCount stream c w (rec.Reset place d total) = (d ≡ c) × (stream < total) ×
 MayCount stream c w _ = Unit {0}
 
 abbrev pub MayStand : ℕ → ℕ → Tale → Rec → Type 0
-MayStand stream c t r = MayCount stream c (served_in t) r
+MayStand stream c t r = MayCount stream c (served_by_tale t) r
 
 -- records, one after another
 abbrev pub CountsBy : ℕ → ℕ → Served → List Rec → Type 0
@@ -44,7 +44,7 @@ CountsBy stream c w (r ∷ rs) = MayCount stream c w r × CountsBy stream c (aft
 abbrev pub after_all : Served → List Rec → Served
 after_all w rs = fold after w rs
 
-one-step : (stream c : ℕ) (t : Tale) (r : Rec) → MayStand stream c t r → served_in (tale_step c t r) ≡ after (served_in t) r
+one-step : (stream c : ℕ) (t : Tale) (r : Rec) → MayStand stream c t r → served_by_tale (tale_step c t r) ≡ after (served_by_tale t) r
 one-step stream c t (rec.Served place d r code size via) h =
     let mine : nat_eq d c ≡ true = subst (λ (n : ℕ). nat_eq n c ≡ true) (sym h.0) (same_number c) in
     λ i. record { bytes = cond (mine i) (t.served_bytes + size) t.served_bytes; was_reset = t.was_reset }
@@ -54,11 +54,11 @@ one-step stream c t (rec.Reset place d total) h =
 one-step stream c t _ h = refl
 
 -- and so in the tale
-pub counts-told : (stream c : ℕ) (t : Tale) (rs : List Rec) → CountsBy stream c (served_in t) rs
-    → TellsBy (MayStand stream c) c t rs × (served_in (told_on c t rs) ≡ after_all (served_in t) rs)
+pub counts-told : (stream c : ℕ) (t : Tale) (rs : List Rec) → CountsBy stream c (served_by_tale t) rs
+    → TellsBy (MayStand stream c) c t rs × (served_by_tale (told_on c t rs) ≡ after_all (served_by_tale t) rs)
 counts-told stream c t [] h = (tt, refl)
 counts-told stream c t (r ∷ rs) h =
-    let now : served_in (tale_step c t r) ≡ after (served_in t) r = one-step stream c t r h.0 in
+    let now : served_by_tale (tale_step c t r) ≡ after (served_by_tale t) r = one-step stream c t r h.0 in
     let later = counts-told stream c (tale_step c t r) rs (subst (λ (w : Served). CountsBy stream c w rs) (sym now) h.1) in
     ((h.0, later.0), later.1 ∙ ap (λ (w : Served). after_all w rs) now)
 
@@ -133,14 +133,14 @@ unnamed-mute (rec.Reset place d total) e = let no : Some d ≡ None = e in absur
 unnamed-mute _ e = tt
 
 -- so the notes that it names count as all do
-pub named-counts : (stream c : ℕ) (w : Served) (rs : List Rec) → CountsBy stream c w rs → CountsBy stream c w (named rs) × (after_all w (named rs) ≡ after_all w rs)
+pub named-counts : (stream c : ℕ) (w : Served) (rs : List Rec) → CountsBy stream c w rs → CountsBy stream c w (named_records rs) × (after_all w (named_records rs) ≡ after_all w rs)
 named-counts stream c w [] h = (tt, refl)
 named-counts stream c w (r ∷ rs) h = go (whose r) refl (named-counts stream c (after w r) rs h.1) where
-  go : (o : Option ℕ) → whose r ≡ o → CountsBy stream c (after w r) (named rs) × (after_all (after w r) (named rs) ≡ after_all (after w r) rs)
-      → CountsBy stream c w (cond (is_some o) (r ∷ named rs) (named rs)) × (after_all w (cond (is_some o) (r ∷ named rs) (named rs)) ≡ after_all (after w r) rs)
+  go : (o : Option ℕ) → whose r ≡ o → CountsBy stream c (after w r) (named_records rs) × (after_all (after w r) (named_records rs) ≡ after_all (after w r) rs)
+      → CountsBy stream c w (cond (is_some o) (r ∷ named_records rs) (named_records rs)) × (after_all w (cond (is_some o) (r ∷ named_records rs) (named_records rs)) ≡ after_all (after w r) rs)
   go None e later =
       let same : after w r ≡ w = mute-step w r (unnamed-mute r e) in
-      (subst (λ (v : Served). CountsBy stream c v (named rs)) same later.0, ap (λ (v : Served). after_all v (named rs)) (sym same) ∙ later.1)
+      (subst (λ (v : Served). CountsBy stream c v (named_records rs)) same later.0, ap (λ (v : Served). after_all v (named_records rs)) (sym same) ∙ later.1)
   go (Some d) e later = ((h.0, later.0), later.1)
 
 -- ---- what is seen before the notes

@@ -11,8 +11,8 @@ use Rattle.lard_law_connections.proofs.LimitsRows.{MayStand, lawful-local}
 use Rattle.lard_law_connections.proofs.PlacesLaw.{owing}
 use Rattle.lard_law_connections.proofs.PlacesRuns.{each-placed}
 use Rattle.lard_law_connections.proofs.PlacesTurns.{IsPlaced, Owes}
-use Rattle.lard_law_view.specs.Carry.{IsLaw, MayMove, OfEach, setting}
-use Rattle.lard_law_view.specs.View.{ClientRules, Conn, client_begins, event_seen, inject_seen, FrontRules, Move, NodeRules, Rules, Setting, brought_said, conn, contents, grown, nothing_said, packet_seen, reads_first}
+use Rattle.lard_law_view.specs.Carry.{IsLaw, MayRestOn, OfEach, setting}
+use Rattle.lard_law_view.specs.View.{ClientRules, Conn, client_begins, event_seen, inject_seen, FrontRules, Move, NodeRules, Rules, Setting, brought_said, conn, content_said, grown, nothing_said, packet_seen, reads_first}
 use Rattle.lard_law_view.proofs.Carried.{carried}
 use Rattle.lard_law_view.proofs.Fine.{IsFine, fine}
 use Rattle.lard_law_view.proofs.Guarded.{both, weaker}
@@ -30,7 +30,7 @@ use Rattle.lard_law_view.proofs.PlaceTurns.{aborts-turn, fires-turn, hears-turn,
 module _ (k : Setting) (most : k.stream ≤ 2 ^ 30) where
   -- what the move of each rule owes
   abbrev Counting : Conn → Move → Type 0
-  Counting x v = MayMove IsPlaced x → IsLimited k.stream x → MoveCounts k.stream x v
+  Counting x v = MayRestOn IsPlaced x → IsLimited k.stream x → MoveCounts k.stream x v
 
   clients : ClientRules k Counting
   clients = record {
@@ -68,7 +68,7 @@ module _ (k : Setting) (most : k.stream ≤ 2 ^ 30) where
     acknowledged = λ x n epoch env bytes is spells was m h. acknowledged-limited k x m.given h n epoch env is (packet_seen Front (Node n) bytes) (tt, tt);
     read = λ x n epoch r env path is m h. read-first x n r path _ (read-limited k x m.given h n epoch env is [] tt r);
     fires = λ x s n env there is m h. fires-limited k x m.given h n env is (event_seen (event.Timer (Node n) x.c)) (tt, tt);
-    answers = λ x n from epoch r path file bytes there spells was m h. stands-counts k.stream x (Node n) (packet_seen (Node from) (Node n) bytes) (contents k n from x.c epoch r path) h (tt, tt) tt refl (tt, tt);
+    answers = λ x n from epoch r path file bytes there spells was m h. stands-counts k.stream x (Node n) (packet_seen (Node from) (Node n) bytes) (content_said k n from x.c epoch r path) h (tt, tt) tt refl (tt, tt);
     queues = λ x n from epoch r path file bytes there spells was m h. stands-counts k.stream x (Node n) (packet_seen (Node from) (Node n) bytes) (record nothing_said { notes = rec.Queued n from x.c r path ∷ [] }) h (tt, tt) (tt, tt) refl tt;
     brings = λ x n from epoch r path m h. stands-counts k.stream x (Node n) [] (brought_said k n from x.c epoch r path) h tt (tt, tt) refl (tt, tt);
   }
@@ -85,12 +85,12 @@ module _ (k : Setting) (most : k.stream ≤ 2 ^ 30) where
   }
 
   abbrev Owed : Conn → Move → Type 0
-  Owed x v = MayMove IsPlaced x → IsPlaced x → Owes x v
+  Owed x v = MayRestOn IsPlaced x → IsPlaced x → Owes x v
 
   limits-law : IsLaw k IsPlaced (IsLimited k.stream)
   limits-law = record {
     begins = λ c. record { counted = record { front = record { bytes = refl; within = omega arith; not_reset = refl }; nodes = λ n. tt; letters = tt }; lawful = tt };
-    moves = weaker k (λ x v. (IsFine x v × Owed x v) × Counting x v) (λ x v. MayMove IsPlaced x → IsLimited k.stream x → IsLimited k.stream (grown x v))
+    moves = weaker k (λ x v. (IsFine x v × Owed x v) × Counting x v) (λ x v. MayRestOn IsPlaced x → IsLimited k.stream x → IsLimited k.stream (grown x v))
         (λ x v all may h. move-limited k.stream x v (all.1 may h)
         (record { number = may.number; sound = may.sound; placed = may.given; owes = all.0.1 may may.given; own = (all.0.0 may.number may.sound).0 }) h)
         (both k (λ x v. IsFine x v × Owed x v) Counting (both k IsFine Owed (fine k) (owing k IsPlaced)) counting);

@@ -7,7 +7,7 @@ use Rattle.lard_base.specs.declared.place.Place.{Place}
 use Rattle.lard_base.specs.declared.place.Place.TheVariants.{Client}
 use Rattle.lard_base.specs.declared.place.Reason.TheVariants.{Limit}
 use Rattle.lard_base.specs.declared.place.Via.{Via}
-use Rattle.lard_law_connections.specs.LimitsCounts.{Counts, Served}
+use Rattle.lard_law_connections.specs.LimitsCounts.{IsWithinStream, Served}
 use Rattle.lard_law_connections.proofs.LimitsRows.{CountsBy, IsMute, after, after_all, counts-append, mute-after, mute-counts}
 use Rattle.lard_endpoint.specs.Control.{ControlBlock, IsControlBlock, discarding_on, finishing, queueing}
 use Rattle.lard_endpoint.specs.Moving.{end_reason, final_of, may_end}
@@ -20,7 +20,7 @@ use Rattle.lard_request.specs.Verdict.{closes}
 use Rattle.lard_rules.specs.declared.places.Ending.{Ending}
 use Rattle.lard_rules.specs.declared.places.Ending.TheVariants as ending
 use Rattle.lard_rules.specs.declared.places.Turn.{Turn}
-use Rattle.lard_rules.specs.Serving.{ServeEnv, Service, answered, closed_behind, cut_off, ended_at_fin, limit_said, may_read, passed_over, queued, rested, settled, spoken, told}
+use Rattle.lard_rules.specs.Serving.{ServeEnv, Service, answered, closed_behind, cut_off, ended_at_fin, limit_said, may_read, passed_over, queued, rested, serving_settled, spoken, serving_told}
 use Rattle.lard_rules.specs.Speaking.{speaks, speaks_symbols}
 use Rattle.lard_rules.proofs.Endpoints.{closed-sound, finishing-sound}
 use Rattle.lard_rules.proofs.Loops.{speaks_keep}
@@ -44,7 +44,7 @@ closed-many v b = cond_both (closes v) (finishing (discarding_on b)) b (λ d. d.
 -- ---- the end of a turn
 
 abbrev pub EndCounts : ℕ → Served → Ending → Type 0
-EndCounts stream v (ending.Here b count) = Counts stream v b.send.total
+EndCounts stream v (ending.Here b count) = IsWithinStream stream v b.send.total
 EndCounts stream v (ending.Over last) = Unit {0}
 
 -- A turn that is over, where so much was served before it: its notes may stand, and where the connection stays its endpoint counts
@@ -59,7 +59,7 @@ pub record TurnCounts (stream c : ℕ) (u : Served) (given : Ending × Turn) : T
 module _ (env : ServeEnv) (u : Served) where
   -- what the endpoint counts, unless the connection is to be reset
   abbrev pub UnlessOver : Option ℕ → ℕ → Served → Type 0
-  UnlessOver None total v = Counts env.stream v total
+  UnlessOver None total v = IsWithinStream env.stream v total
   UnlessOver (Some over) total v = Unit {0}
 
   -- a service between two of its turns
@@ -85,7 +85,7 @@ module _ (env : ServeEnv) (u : Served) where
       let bytes : List ℕ = answer env.files v in
       let total : ℕ = s.block.send.total in
       let w : Served = after_all u s.notes in
-      let c : Counts env.stream w total = subst (λ (o : Option ℕ). UnlessOver o total w) none h.counts in
+      let c : IsWithinStream env.stream w total = subst (λ (o : Option ℕ). UnlessOver o total w) none h.counts in
       let reset : Rec = rec.Reset env.place env.c (total + length bytes) in
       let served : Rec = rec.Served env.place env.c (s.count + 1) (answer_code env.files v) (length bytes) via in
       cond_both (nat_lt env.stream (total + length bytes)) (passed_over env (total + length bytes) s) (queued env via v bytes s) IsServing
@@ -99,7 +99,7 @@ module _ (env : ServeEnv) (u : Served) where
       let many : (closed_behind v (queueing s.block bytes)).send.total ≡ total + length bytes = closed-many v (queueing s.block bytes) in
       record {
         told = counts-append env.stream env.c u s.notes (served ∷ []) h.told ((refl, omega (arith, le, are), c.not_reset), tt);
-        counts = subst (λ (x : Served). Counts env.stream x (closed_behind v (queueing s.block bytes)).send.total) (sym (fold-append after u s.notes (served ∷ [])))
+        counts = subst (λ (x : Served). IsWithinStream env.stream x (closed_behind v (queueing s.block bytes)).send.total) (sym (fold-append after u s.notes (served ∷ [])))
             (record { bytes = omega (arith, are, many); within = omega (arith, le, many); not_reset = c.not_reset });
       })
 
@@ -108,17 +108,17 @@ module _ (env : ServeEnv) (u : Served) where
 
   -- ---- the end of a turn
 
-  rested-counts : (v : Served) (b : ControlBlock) (count : ℕ) → Counts env.stream v b.send.total → EndCounts env.stream v (rested b count)
+  rested-counts : (v : Served) (b : ControlBlock) (count : ℕ) → IsWithinStream env.stream v b.send.total → EndCounts env.stream v (rested b count)
   rested-counts v b count h = cond_both (may_end b) (ending.Over (final_of b (end_reason b))) (ending.Here b count) (EndCounts env.stream v) (λ t. tt) (λ t. h)
 
   pub spoken-counts : (s : Service) (before : List (Place × List ℕ)) → s.over ≡ None → AllTo (Client env.c) before → IsServing s → TurnCounts env.stream env.c u (spoken env s before)
   spoken-counts s before none to h =
       let said = speaks-to env.c s.block in
       let w : Served = after_all u s.notes in
-      let c : Counts env.stream w s.block.send.total = subst (λ (o : Option ℕ). UnlessOver o s.block.send.total w) none h.counts in
+      let c : IsWithinStream env.stream w s.block.send.total = subst (λ (o : Option ℕ). UnlessOver o s.block.send.total w) none h.counts in
       record {
         told = h.told;
-        ends = rested-counts w (speaks env.c s.block).1 s.count (subst (Counts env.stream w) (sym said.many) c);
+        ends = rested-counts w (speaks env.c s.block).1 s.count (subst (IsWithinStream env.stream w) (sym said.many) c);
         to = Each-append (λ m. m.0 ≡ Client env.c) before (speaks env.c s.block).0 to said.to;
       }
 
@@ -128,18 +128,18 @@ module _ (env : ServeEnv) (u : Served) where
       record {
         told = h.told;
         ends = tt;
-        to = Each-append (λ m. m.0 ≡ Client env.c) (speaks_symbols env.c s.block).0 (told env (limit_said (final_of (speaks_symbols env.c s.block).1 Limit)) ∷ []) said.to (refl, tt);
+        to = Each-append (λ m. m.0 ≡ Client env.c) (speaks_symbols env.c s.block).0 (serving_told env (limit_said (final_of (speaks_symbols env.c s.block).1 Limit)) ∷ []) said.to (refl, tt);
       }
 
-  pub settled-counts : (s : Service) → IsServing s → TurnCounts env.stream env.c u (settled env s)
+  pub settled-counts : (s : Service) → IsServing s → TurnCounts env.stream env.c u (serving_settled env s)
   settled-counts s h = go s.over refl where
     go : (o : Option ℕ) → s.over ≡ o → TurnCounts env.stream env.c u (elim o as (λ p. Ending × Turn) [ None ↦ spoken env s [] | Some total ↦ cut_off env s ])
     go None e = spoken-counts s [] e tt h
     go (Some total) e = cut_off-counts s h
 
   -- an endpoint that is here, as it begins a turn
-  pub begins-serving : (b d : ControlBlock) (count : ℕ) → d.send.total ≡ b.send.total → Counts env.stream u b.send.total → IsServing (record { block = d; count = count; notes = []; answered = 0; over = None })
-  begins-serving b d count e h = record { told = tt; counts = subst (Counts env.stream u) (sym e) h }
+  pub begins-serving : (b d : ControlBlock) (count : ℕ) → d.send.total ≡ b.send.total → IsWithinStream env.stream u b.send.total → IsServing (record { block = d; count = count; notes = []; answered = 0; over = None })
+  begins-serving b d count e h = record { told = tt; counts = subst (IsWithinStream env.stream u) (sym e) h }
 
 -- ---- the endpoint stays sound
 
@@ -167,7 +167,7 @@ spoken-sound env s before h =
     let b : ControlBlock = (speaks env.c s.block).1 in
     cond_both (may_end b) (ending.Over (final_of b (end_reason b))) (ending.Here b s.count) EndSound (λ t. tt) (λ t. speaks-sound env.c s.block h)
 
-pub settled-sound : (env : ServeEnv) (s : Service) → IsControlBlock s.block → EndSound (settled env s).0
+pub settled-sound : (env : ServeEnv) (s : Service) → IsControlBlock s.block → EndSound (serving_settled env s).0
 settled-sound env s h = go s.over where
   go : (o : Option ℕ) → EndSound (elim o as (λ p. Ending × Turn) [ None ↦ spoken env s [] | Some total ↦ cut_off env s ]).0
   go None = spoken-sound env s [] h

@@ -8,7 +8,7 @@ use Rattle.lard_journal.specs.declared.rec.Rec.TheVariants as rec
 use Rattle.lard_request.specs.declared.verdict.Verdict.{Verdict}
 use Rattle.lard_rules.specs.declared.stay.Progress.{Progress}
 use Rattle.lard_rules.specs.Loop.{state_of}
-use Rattle.lard_rules.specs.Serving.{ServeEnv, Service, answered, consumed, ended_at_fin, may_read}
+use Rattle.lard_rules.specs.Serving.{ServeEnv, Service, answered, serving_consumed, ended_at_fin, may_read}
 use Rattle.lard_rules.specs.Stay.{NodeEnv, Work, came_for, goes_on, noted, reads_batch, tagged}
 use Rattle.lard_rules.proofs.StayKeeping.{KeptByNotes, batch-works, came-works, goes-works, tagged-works}
 
@@ -21,7 +21,7 @@ IsStart _ = ⊥
 -- P is kept where the start of requests is noted, where bytes are read, behind the client's FIN, and where one is answered
 pub record KeptByServing (env : ServeEnv) (P : Service → Type 0) : Type 0 where
   pub notes : (s : Service) (rs : List Rec) → Each IsStart rs → P s → P (noted rs s)
-  pub reads : (s : Service) (n : ℕ) → P s → P (consumed n s)
+  pub reads : (s : Service) (n : ℕ) → P s → P (serving_consumed n s)
   pub ends : (s : Service) → P s → P (ended_at_fin s)
   pub answers : (s : Service) (way : Via) (v : Verdict) → may_read s ≡ true → P s → P (answered env way v s)
 

@@ -9,23 +9,23 @@ use Rattle.lard_base.specs.declared.event.Event.{Event}
 use Rattle.lard_base.specs.declared.place.Place.TheVariants.{Front}
 use Rattle.lard_rules.specs.declared.machine.Machine.{Machine}
 use Rattle.lard_rules.specs.Bounds.{HasRule}
-use Rattle.lard_rules.specs.Machine.{IsReached, clocked, front_gave, front_setting, machine_step, start, told}
+use Rattle.lard_rules.specs.Machine.{IsReached, clocked, front_gave, front_setting, machine_step, machine_start, machine_told}
 use Rattle.lard_law_connections.proofs.LineCalls.{StepCalls, step-calls}
 use Rattle.lard_law_connections.proofs.LineCharging.{IsBelow, below-same, falls-below, rises-below}
 use Rattle.lard_law_connections.proofs.LineRuns.{step-ordered-so}
-use Rattle.lard_law_connections.specs.LineLaws.{ConnectionsStayFew, HasFewConnections, IsNearTheThresholds, IsNotBusy, IsWithinTheRoom, LoadsStayNearTheThresholds, LoadsStayWithinTheRoom, NeverAllBusy, connections, greatest_threshold}
+use Rattle.lard_law_connections.specs.LineLaws.{ConnectionsStayFew, HasFewConnections, IsNearTheThresholds, IsNotBusy, IsWithinTheRoom, LoadsStayNearTheThresholds, LoadsStayWithinTheRoom, NeverAllBusy, connections_told, greatest_threshold}
 use Rattle.lard_law_connections.proofs.PolicyAsides.{EachFrom, May, from-append, from-may, may-from}
 use Rattle.lard_law_connections.proofs.PolicyCalm.{first_rows, last_rows, told-journal}
 use Rattle.lard_law_connections.proofs.PolicyCounted.{books-are-told, loads-are-charges, reached-counted, standings-are-told}
 use Rattle.lard_law_connections.proofs.PolicyForms.{Clocks, FrontStays, FrontStep, step-form}
 use Rattle.lard_law_connections.proofs.PolicyNumbers.{IsNumbered, reached-numbered}
-use Rattle.lard_counts.specs.Ledger.{Ledger, blank, ledger, ledger_step}
-use Rattle.lard_law_connections.specs.PolicyLoads.{load}
+use Rattle.lard_counts.specs.Ledger.{Ledger, blank_ledger, ledger, ledger_step}
+use Rattle.lard_law_connections.specs.PolicyLoads.{load_told}
 use Rattle.lard_law_view.proofs.Carried.{IsOn, carried-keep}
 use Rattle.lard_law_view.proofs.Runs.{passes-more}
-use Rattle.lard_dispatch.specs.Books.{Dispatcher, begun}
+use Rattle.lard_dispatch.specs.Books.{Dispatcher, dispatch_begun}
 use Rattle.lard_dispatch.specs.Laws.{AreAllowed, Call, after_call, after_calls}
-use Rattle.lard_dispatch.specs.Loads.{ClosesNone, IsInRange, MayBeMade, connections_at, is_at, loads_after}
+use Rattle.lard_dispatch.specs.Loads.{ClosesNone, IsCallInRange, MayBeMade, connections_at, is_home_of_node, loads_after}
 use Rattle.lard_dispatch.proofs.Homes.{few-are-high}
 use Rattle.lard_dispatch.proofs.Shares.{within-the-room}
 use Rattle.lard_dispatch.proofs.Thresholds.{few-at-homes, near-the-thresholds}
@@ -75,13 +75,13 @@ one-less high a b le = grind (arith, nat_tests, le)
 
 pub record HasCalls (config : Config) (m : Machine) : Type 0 where
   pub calls : List Call
-  pub is : m.front.dispatch ≡ after_calls (begun config) calls
+  pub is : m.front.dispatch ≡ after_calls (dispatch_begun config) calls
   pub may : MayBeMade config calls
   pub closes : AllByRecursion ClosesNone calls
 
 module _ (config : Config) (files : List (List ℕ × List ℕ)) (checked : config_check config ≡ Ok tt) where
   one-more : (m n : Machine) (e : Event) → IsOn config files m → HasRule e → machine_step m e ≡ Ok n → IsReached config files n
-  one-more m n e on rule is = (on.reached.0 ++ e ∷ [], passes-more on.reached.0 (start config files) m n e on.reached.1 rule is)
+  one-more m n e on rule is = (on.reached.0 ++ e ∷ [], passes-more on.reached.0 (machine_start config files) m n e on.reached.1 rule is)
 
   same-calls : (m n : Machine) → n.front ≡ m.front → HasCalls config m → HasCalls config n
   same-calls m n e h = record { calls = h.calls; is = ap (λ (f : FrontState). f.dispatch) e ∙ h.is; may = h.may; closes = h.closes }
@@ -95,14 +95,14 @@ module _ (config : Config) (files : List (List ℕ × List ℕ)) (checked : conf
       (each-behind IsNumbered m.journal (first_rows w e ++ o.notes ++ last_rows w Front o) (subst (Each IsNumbered) (told-journal w e Front o) numbered)))
 
   moved-calls : (m : Machine) (e : Event) (t : FrontState) (o : Out) → StepCalls m.front.dispatch (t, o) → Each IsNumbered o.notes → HasCalls config m → HasCalls config (front_gave m e (behind e) (t, o))
-  unfolding told
+  unfolding machine_told
   moved-calls m e t o s numbered h = record {
     calls = h.calls ++ s.calls;
-    is = s.is ∙ ap (λ (d : Dispatcher). after_calls d s.calls) h.is ∙ sym (after-append (begun config) h.calls s.calls);
+    is = s.is ∙ ap (λ (d : Dispatcher). after_calls d s.calls) h.is ∙ sym (after-append (dispatch_begun config) h.calls s.calls);
     may = record {
       usable = checked;
-      allowed = allowed-append (begun config) h.calls s.calls h.may.allowed (subst (λ (d : Dispatcher). AreAllowed d s.calls) h.is s.allowed);
-      in_range = all-append IsInRange h.calls s.calls h.may.in_range (s.fit.in_range numbered);
+      allowed = allowed-append (dispatch_begun config) h.calls s.calls h.may.allowed (subst (λ (d : Dispatcher). AreAllowed d s.calls) h.is s.allowed);
+      in_range = all-append IsCallInRange h.calls s.calls h.may.in_range (s.fit.in_range numbered);
     };
     closes = all-append ClosesNone h.calls s.calls h.closes s.fit.closes;
   }
@@ -165,7 +165,7 @@ module _ (config : Config) (files : List (List ℕ × List ℕ)) (checked : conf
       let down : EachFrom (λ k r. IsBelow k.loads l.loads) l o.falls = falls-below l l.loads o.falls o.falling (each-before IsNumbered o.falls o.rises numbered) (below-same l.loads) in
       let up = rises-below config u o.rises o.rising (each-behind IsNumbered o.falls o.rises numbered) (may-split l o.falls o.rises lawful) in
       let end : loads_in k ≡ (fold ledger_step u o.rises).loads = (books-are-told config files k checked reached).0
-      ∙ ap (λ (x : Ledger). x.loads) (ap (ledger config) (adds.1 ∙ ap (λ (zs : List Rec). m.journal ++ zs) o.split) ∙ fold-append ledger_step (blank config) m.journal (o.falls ++ o.rises) ∙ fold-append ledger_step l o.falls o.rises) in (
+      ∙ ap (λ (x : Ledger). x.loads) (ap (ledger config) (adds.1 ∙ ap (λ (zs : List Rec). m.journal ++ zs) o.split) ∙ fold-append ledger_step (blank_ledger config) m.journal (o.falls ++ o.rises) ∙ fold-append ledger_step l o.falls o.rises) in (
         rs,
         adds.1,
         from-may config (λ k r. HasNoMore k.loads) m.journal rs (subst (EachFrom (λ k r. HasNoMore k.loads) l) (sym o.split)
@@ -195,16 +195,16 @@ module _ (config : Config) (files : List (List ℕ × List ℕ)) (checked : conf
     so : loads_after config calls.calls ≡ loads_in most.state
     so = sym (ap (λ (d : Dispatcher). d.books.loads) calls.is)
 
-    load-most : (n bound : ℕ) → tally.load (loads_after config calls.calls) n ≤ bound → load past n ≤ bound
+    load-most : (n bound : ℕ) → tally.load (loads_after config calls.calls) n ≤ bound → load_told past n ≤ bound
     load-most n bound h =
-        let told_is : tally.load (ledger config past).loads n ≡ load past n = (loads-are-charges config files m checked r past later is).0 n in
+        let told_is : tally.load (ledger config past).loads n ≡ load_told past n = (loads-are-charges config files m checked r past later is).0 n in
         let within : tally.load (ledger config past).loads n ≤ tally.load (loads_in most.state) n = most.below.loads n in
         let same : tally.load (loads_after config calls.calls) n ≡ tally.load (loads_in most.state) n = ap (λ (t : Tally). tally.load t n) so in
         omega (arith, h, told_is, within, same)
 
-    connections-most : (n : ℕ) → connections past n ≤ connections_at (loads_after config calls.calls) n
+    connections-most : (n : ℕ) → connections_told past n ≤ connections_at (loads_after config calls.calls) n
     connections-most n =
-        let told_is : connections_at (ledger config past).loads n ≡ connections past n = λ i. count_by (λ c. is_at ((standings-are-told config files m checked r past later is c).1 i) n) tally.connections in
+        let told_is : connections_at (ledger config past).loads n ≡ connections_told past n = λ i. count_by (λ c. is_home_of_node ((standings-are-told config files m checked r past later is c).1 i) n) tally.connections in
         let within : connections_at (ledger config past).loads n ≤ connections_at (loads_in most.state) n = most.below.homes n in
         let same : connections_at (loads_after config calls.calls) n ≡ connections_at (loads_in most.state) n = ap (λ (t : Tally). connections_at t n) so in
         omega (arith, told_is, within, same)
@@ -219,9 +219,9 @@ module _ (config : Config) (files : List (List ℕ × List ℕ)) (checked : conf
     few-so n = let few = few-at-homes config calls.calls calls.may calls.closes n in let less = connections-most n in omega (arith, few, less)
 
     -- no node is high that is not in that state
-    highs-less : count_by (λ n. nat_le config.high (connections past n)) (tally.numbers config.nodes) ≤ count_by (λ n. nat_le config.high (connections_at (loads_after config calls.calls) n)) (tally.numbers config.nodes)
-    highs-less = sum_by-le-sum_by (λ n. cond {A = ℕ} (nat_le config.high (connections past n)) 1 0) (λ n. cond {A = ℕ} (nat_le config.high (connections_at (loads_after config calls.calls) n)) 1 0) (tally.numbers config.nodes)
-        (λ n. one-less config.high (connections past n) (connections_at (loads_after config calls.calls) n) (connections-most n))
+    highs-less : count_by (λ n. nat_le config.high (connections_told past n)) (tally.numbers config.nodes) ≤ count_by (λ n. nat_le config.high (connections_at (loads_after config calls.calls) n)) (tally.numbers config.nodes)
+    highs-less = sum_by-le-sum_by (λ n. cond {A = ℕ} (nat_le config.high (connections_told past n)) 1 0) (λ n. cond {A = ℕ} (nat_le config.high (connections_at (loads_after config calls.calls) n)) 1 0) (tally.numbers config.nodes)
+        (λ n. one-less config.high (connections_told past n) (connections_at (loads_after config calls.calls) n) (connections-most n))
 
     busy-so : IsNotBusy config (ledger config past) past
     busy-so low =

@@ -13,16 +13,16 @@ use Rattle.lard_dispatch.specs.Books.{Dispatcher}
 use Rattle.lard_dispatch.specs.Calls.{ended_answer}
 use Rattle.lard_dispatch.specs.Laws.{AreAllowed, Call, after_calls}
 use Rattle.lard_dispatch.specs.Laws as call
-use Rattle.lard_dispatch.specs.Loads.{ClosesNone, IsInRange}
+use Rattle.lard_dispatch.specs.Loads.{ClosesNone, IsCallInRange}
 use Rattle.lard_endpoint.specs.declared.control.moving.Final.{Final}
 use Rattle.lard_endpoint.specs.Arriving.{on_segment}
 use Rattle.lard_rules.specs.declared.front.FrontRest.{FrontRest}
 use Rattle.lard_rules.specs.declared.front.FrontState.{FrontState}
 use Rattle.lard_rules.specs.declared.front.FrontTurn.{FrontTurn}
-use Rattle.lard_rules.specs.Front.{Deed, Drops, Says, Does, Did, FrontEnv, FrontPart, ask_of, asked_by, assigned_notes, assigns, begun, ends, fired, fired_by, fires_at, front_admitted, front_asked, front_ended, front_gets, front_hears, front_taken, front_timer, hears_at, is_at, leaves_by, over_note, placed, rest_of, saying, settled_by, tag_sent, taken_by, waits_on}
+use Rattle.lard_rules.specs.Front.{FrontDeed, Drops, Says, Does, Did, FrontEnv, FrontPart, ask_of, asked_by, assigned_notes, assigns, front_begun, front_ends, front_fired, front_fired_by, fires_at, front_admitted, front_asked, front_ended, front_gets, front_hears, front_taken, front_timer, hears_at, is_row_at, leaves_by, over_note, placed, front_rest, front_saying, settled_by, tag_sent, taken_by, waits_on}
 use Rattle.lard_rules.specs.FrontPlace.{FrontSetting, admits, admits_too, ended_deed, front_deed, front_env, front_part, front_step, front_told, message_comes, put_back}
-use Rattle.lard_rules.specs.FrontReading.{Reading, reads}
-use Rattle.lard_rules.specs.FrontSound.{IsFrontSound, standing}
+use Rattle.lard_rules.specs.FrontReading.{Reading, front_reads}
+use Rattle.lard_rules.specs.FrontSound.{IsFrontSound, dispatch_standing}
 use Rattle.lard_rules.proofs.FrontDeeds.{IsOf, asked-keeps, gets-keeps, many-choices, taken-keeps, timer-keeps}
 use Rattle.lard_rules.proofs.FrontEnded.{Comes, end-comes, may-end}
 use Rattle.lard_rules.proofs.FrontKeeping.{DeedKeeps}
@@ -58,9 +58,9 @@ use Rattle.lard_segment.specs.Segment.{Said, decoded}
 -- its calls close no node, and are in range where its notes are
 pub record AreFit (notes : List Rec) (calls : List Call) : Type 0 where
   pub closes : AllByRecursion ClosesNone calls
-  pub in_range : Each IsNumbered notes → AllByRecursion IsInRange calls
+  pub in_range : Each IsNumbered notes → AllByRecursion IsCallInRange calls
 
-abbrev pub DeedFits : Deed → Type 0
+abbrev pub DeedFits : FrontDeed → Type 0
 DeedFits Drops = Unit {0}
 DeedFits (Says t) = Unit {0}
 DeedFits (Does x) = AreFit x.turn.notes x.calls
@@ -96,29 +96,29 @@ module _ (env : FrontEnv) (p : FrontPart) where
 
   hears-fit : (row : FrontRow) (bytes : List ℕ) (said : Said) (at : FrontConn) → DeedFits (hears_at env p row bytes said at)
   hears-fit row bytes said (stage.Held b) =
-      let x : Reading = reads env.serve (record { service = serving (on_segment b said).1 (rest_of p.rest).count []; target = None }) in
-      settled-fits row (rest_of p.rest) x.service x.target
-  hears-fit row bytes said (stage.Waiting b) = waits-fit row (rest_of p.rest) (spoken env.serve (serving (on_segment b said).1 (rest_of p.rest).count []) [])
+      let x : Reading = front_reads env.serve (record { service = serving (on_segment b said).1 (front_rest p.rest).count []; target = None }) in
+      settled-fits row (front_rest p.rest) x.service x.target
+  hears-fit row bytes said (stage.Waiting b) = waits-fit row (front_rest p.rest) (spoken env.serve (serving (on_segment b said).1 (front_rest p.rest).count []) [])
   hears-fit row bytes said _ = tt
 
   gets-fit : (bytes : List ℕ) (r : Result Said SegFault) → DeedFits (front_gets env p bytes r)
   gets-fit bytes (Err fault) = tt
   gets-fit bytes (Ok said) = go p.row where
     go : (o : Option FrontRow) → DeedFits (front_hears env p bytes said o)
-    go None = cond_both (is_plain_syn said) (begun env p said) Drops DeedFits (λ t. no-calls _) (λ t. tt)
+    go None = cond_both (is_plain_syn said) (front_begun env p said) Drops DeedFits (λ t. no-calls _) (λ t. tt)
     go (Some row) = hears-fit row bytes said row.stage
 
   timer-fits : DeedFits (front_timer env p)
   timer-fits = go p.row where
     at : (row : FrontRow) (conn : FrontConn) → DeedFits (fires_at env p row conn)
     at row (stage.Held b) = no-calls []
-    at row (stage.Waiting b) = waits-fit row (rest_of p.rest) (fired env (rest_of p.rest) b)
+    at row (stage.Waiting b) = waits-fit row (front_rest p.rest) (front_fired env (front_rest p.rest) b)
     at row stage.Lent = tt
     at row (stage.Offering node epoch) = tt
     at row (stage.Moved node epoch) = tt
     at row (stage.Closed last) = tt
 
-    go : (o : Option FrontRow) → DeedFits (fired_by env p o)
+    go : (o : Option FrontRow) → DeedFits (front_fired_by env p o)
     go None = tt
     go (Some row) = at row row.stage
 
@@ -138,7 +138,7 @@ module _ (env : FrontEnv) (p : FrontPart) where
   assigns-numbered ask r (path ∷ paths) (choice ∷ choices) false some same e = e.0
 
   asked-fits : (d : Dispatcher) → IsOf env d → (from epoch number queue size : ℕ) (paths : List (List ℕ)) → 1 ≤ length paths → length paths ≤ size → DeedFits (front_asked env p from epoch (ask_of c from number queue size paths))
-  asked-fits d of from epoch number queue size paths some within = cond_both (is_at from epoch p.row) (asked_by env p from epoch ask p.rest) Drops DeedFits (λ t. by p.rest) (λ t. tt) where
+  asked-fits d of from epoch number queue size paths some within = cond_both (is_row_at from epoch p.row) (asked_by env p from epoch ask p.rest) Drops DeedFits (λ t. by p.rest) (λ t. tt) where
     ask : Ask
     ask = ask_of c from number queue size paths
 
@@ -151,7 +151,7 @@ module _ (env : FrontEnv) (p : FrontPart) where
     by : (o : Option FrontRest) → DeedFits (asked_by env p from epoch ask o)
     by None = tt
     by (Some rest) =
-        let again : Deed = Says (saying (tag_sent env from epoch rest.asks rest.tag)) in
+        let again : FrontDeed = Says (front_saying (tag_sent env from epoch rest.asks rest.tag)) in
         cond_both (ask.number == rest.asks + 1) (Does (assigns env p rest from epoch ask (env.later ask))) (cond (ask.number == rest.asks && nat_lt 0 rest.asks) again Drops) DeedFits
         (λ t. new rest) (λ t. cond_both (ask.number == rest.asks && nat_lt 0 rest.asks) again Drops DeedFits (λ u. tt) (λ u. tt))
 
@@ -171,7 +171,7 @@ module _ (k : FrontSetting) (s : FrontState) (sound : IsFrontSound s) where
   still-calls : (t : Out) → Calls (s, t)
   still-calls t = record { calls = []; is = refl; allowed = tt; fit = no-calls t.notes }
 
-  deed-calls : (c : ℕ) (deed : Deed) → DeedKeeps s.dispatch c k.now deed → DeedFits deed → Calls (front_deed s c deed)
+  deed-calls : (c : ℕ) (deed : FrontDeed) → DeedKeeps s.dispatch c k.now deed → DeedFits deed → Calls (front_deed s c deed)
   deed-calls c Drops keeps fits = still-calls _
   deed-calls c (Says t) keeps fits = still-calls _
   deed-calls c (Does x) keeps fits = record { calls = x.calls; is = refl; allowed = keeps.allowed; fit = fits }
@@ -181,7 +181,7 @@ module _ (k : FrontSetting) (s : FrontState) (sound : IsFrontSound s) where
 
   -- where a connection ended, and perhaps another one is admitted
   ended-calls : (c from epoch : ℕ) (last : Final) → Calls (ended_deed k s c (front_ended (front_env k s c 0) (front_part s c) from epoch last))
-  ended-calls c from epoch last = go (front_ended (front_env k s c 0) (front_part s c) from epoch last) (end-comes (front_env k s c 0) (front_part s c) from epoch last (standing s.dispatch c) (sound.each c)) where
+  ended-calls c from epoch last = go (front_ended (front_env k s c 0) (front_part s c) from epoch last) (end-comes (front_env k s c 0) (front_part s c) from epoch last (dispatch_standing s.dispatch c) (sound.each c)) where
     too : (x : Did) (d : ℕ) (o : Option (FrontPart × FrontTurn)) → AreAllowed s.dispatch x.calls → AreFit x.turn.notes x.calls → Calls (admits_too s (put_back s c x) c x d o)
     too x d None allowed fit = record { calls = x.calls; is = refl; allowed = allowed; fit = fit }
     too x d (Some y) allowed fit = record {
@@ -198,11 +198,11 @@ module _ (k : FrontSetting) (s : FrontState) (sound : IsFrontSound s) where
     next x None allowed fit = record { calls = x.calls; is = refl; allowed = allowed; fit = fit }
     next x (Some n) allowed fit = too x n.0 (front_admitted (front_env k (put_back s c x) n.0 0) (front_part (put_back s c x) n.0) n.1) allowed fit
 
-    go : (deed : Deed) → Comes (front_env k s c 0) (front_part s c) from epoch last (standing s.dispatch c) deed → Calls (ended_deed k s c deed)
+    go : (deed : FrontDeed) → Comes (front_env k s c 0) (front_part s c) from epoch last (dispatch_standing s.dispatch c) deed → Calls (ended_deed k s c deed)
     go Drops comes = still-calls _
     go (Says t) comes = still-calls _
     go (Does x) comes = subst (λ (y : Did). Calls (ended_deed k s c (Does y))) (sym comes.1)
-        (next (ends (front_env k s c 0) (front_part s c) from epoch last comes.0 (next_epoch comes.0)) (ended_answer s.dispatch c k.now) (may-end s.dispatch c k.now comes.2, tt)
+        (next (front_ends (front_env k s c 0) (front_part s c) from epoch last comes.0 (next_epoch comes.0)) (ended_answer s.dispatch c k.now) (may-end s.dispatch c k.now comes.2, tt)
         (record { closes = (tt, tt); in_range = λ e. (e.1.0, tt) }))
 
   told-calls : (from c epoch : ℕ) (b : Body) → IsOfTable b → Calls (front_told k s from c epoch b)

@@ -18,7 +18,7 @@ use Rattle.lard_journal.specs.declared.rec.Rec.{Rec}
 use Rattle.lard_journal.specs.declared.rec.Rec.TheVariants as rec
 use Rattle.lard_loads.specs.declared.slot.Share.{Share}
 use Rattle.lard_loads.specs.Charges.{IsConnection}
-use Rattle.lard_loads.specs.Tally.{Standing, Tally, batch_ended, connected, ending, load, released, shared, sharing, units_of, units_of_share}
+use Rattle.lard_loads.specs.Tally.{Standing, Tally, batch_ended, connected, batch_ended_with, load, released, shared, sharing, units_of, units_of_share}
 use Rattle.lard_loads.proofs.Counts.{sum-put}
 use Rattle.lard_loads.proofs.Sums.{load-put}
 use Rattle.lard_table.specs.Table.{put_or}
@@ -61,7 +61,7 @@ released-falls t c one = put-less t c None one (λ n. omega arith) (λ n. omega 
 
 ended-falls : (t : Tally) (c : ℕ) → IsConnection c → IsBelow (batch_ended t c) t
 ended-falls t c one = go (map.get t.standings c) refl where
-  go : (o : Option Standing) → map.get t.standings c ≡ o → IsBelow (ending t c o) t
+  go : (o : Option Standing) → map.get t.standings c ≡ o → IsBelow (batch_ended_with t c o) t
   go None e = below-same t
   go (Some s) e = put-less t c (Some (record s { shares = [] })) one
       (λ n. subst (λ (o : Option Standing). units_of (Some (record s { shares = [] })) n ≤ units_of o n) (sym e) (omega arith))

@@ -11,7 +11,7 @@ use Rattle.lard_endpoint.specs.declared.control.moving.Final.{Final}
 use Rattle.lard_endpoint.specs.Control.{ControlBlock}
 use Rattle.lard_rules.specs.declared.front.FrontRest.{FrontRest}
 use Rattle.lard_rules.specs.declared.front.FrontTurn.{FrontTurn}
-use Rattle.lard_rules.specs.Front.{Deed, Drops, Says, Does, FrontEnv, FrontPart, admitted_at, admitted_by, admitted_with, asked_by, assigned_notes, assigns, ended_by, front_admitted, front_asked, front_ended, front_taken, is_at, over_note, rest_of, saying, tag_sent, taken_by}
+use Rattle.lard_rules.specs.Front.{FrontDeed, Drops, Says, Does, FrontEnv, FrontPart, admitted_at, admitted_by, front_admitted_with, asked_by, assigned_notes, assigns, front_ended_by, front_admitted, front_asked, front_ended, front_taken, is_row_at, over_note, front_rest, front_saying, tag_sent, taken_by}
 use Rattle.lard_handoff_front.specs.declared.row.FrontConn.{FrontConn}
 use Rattle.lard_handoff_front.specs.declared.row.FrontConn.TheVariants as stage
 use Rattle.lard_handoff_front.specs.declared.row.FrontRow.{FrontRow}
@@ -57,11 +57,11 @@ module _ (env : FrontEnv) (p : FrontPart) (s : Stand) (h : RowStands s p.row) wh
       (sym (all-same c s notes (Each-append (IsSame c) (over_note c l.over) (assigned_notes c ask rest.assigned ask.paths l.choices) (over-same c c l.over) (assigned-same c c ask rest.assigned ask.paths l.choices)))) h
 
   pub asked-stands : (from epoch : ℕ) (ask : Ask) → DeedStands c s p (front_asked env p from epoch ask)
-  asked-stands from epoch ask = cond_both (is_at from epoch p.row) (asked_by env p from epoch ask p.rest) Drops (DeedStands c s p) (λ t. by p.rest) (λ t. h) where
+  asked-stands from epoch ask = cond_both (is_row_at from epoch p.row) (asked_by env p from epoch ask p.rest) Drops (DeedStands c s p) (λ t. by p.rest) (λ t. h) where
     by : (o : Option FrontRest) → DeedStands c s p (asked_by env p from epoch ask o)
     by None = h
     by (Some rest) =
-        let again : Deed = Says (saying (tag_sent env from epoch rest.asks rest.tag)) in
+        let again : FrontDeed = Says (front_saying (tag_sent env from epoch rest.asks rest.tag)) in
         cond_both (ask.number == rest.asks + 1) (Does (assigns env p rest from epoch ask (env.later ask))) (cond (ask.number == rest.asks && nat_lt 0 rest.asks) again Drops) (DeedStands c s p)
         (λ t. assigns-stands rest from epoch ask (env.later ask)) (λ t. cond_both (ask.number == rest.asks && nat_lt 0 rest.asks) again Drops (DeedStands c s p) (λ u. h) (λ u. h))
 
@@ -74,12 +74,12 @@ module _ (env : FrontEnv) (p : FrontPart) (s : Stand) (h : RowStands s p.row) wh
 
   pub ended-stands : (from epoch : ℕ) (last : Final) → DeedStands c s p (front_ended env p from epoch last)
   ended-stands from epoch last = go p.row refl where
-    by : (row : FrontRow) (a b : Bool) → is_away epoch row.stage ≡ a → RowStands s (Some row) → DeedStands c s p (ended_by env p from epoch last (Some row) (cond a (New (next_epoch row)) (cond b Again Stale)))
+    by : (row : FrontRow) (a b : Bool) → is_away epoch row.stage ≡ a → RowStands s (Some row) → DeedStands c s p (front_ended_by env p from epoch last (Some row) (cond a (New (next_epoch row)) (cond b Again Stale)))
     by row true b away k = let was : Counts s false 1 true = away-counts epoch row.stage away k in record { waits_is = was.waits_is; times = was.times; inside_is = refl }
     by row false true away k = h
     by row false false away k = h
 
-    go : (o : Option FrontRow) → p.row ≡ o → DeedStands c s p (ended_by env p from epoch last o (end_answer epoch o))
+    go : (o : Option FrontRow) → p.row ≡ o → DeedStands c s p (front_ended_by env p from epoch last o (end_answer epoch o))
     go None found = h
     go (Some row) found = by row (is_away epoch row.stage) (ended_with epoch row.ended_by) refl (subst (RowStands s) found h)
 
@@ -98,12 +98,12 @@ module _ (env : FrontEnv) (p : FrontPart) (s : Stand) (h : RowStands s p.row) wh
     by None is k = let no : None ≡ Some given = is in absurd cc
     by (Some x) is k = let same : x ≡ given = cc in subst Stands same k
 
-    with_path : (row : FrontRow) (o : Option (List ℕ)) (b : ControlBlock) → AllStand (admitted_with env row (rest_of p.rest) b choice o)
+    with_path : (row : FrontRow) (o : Option (List ℕ)) (b : ControlBlock) → AllStand (front_admitted_with env row (front_rest p.rest) b choice o)
     with_path row None b = tt
     with_path row (Some path) b = record { waits_is = refl; times = omega arith; inside_is = refl }
 
     at : (row : FrontRow) (conn : FrontConn) → admitted_at env p choice row conn ≡ Some given → Stands given
-    at row (stage.Waiting b) is = by (admitted_with env row (rest_of p.rest) b choice (rest_of p.rest).target) is (with_path row (rest_of p.rest).target b)
+    at row (stage.Waiting b) is = by (front_admitted_with env row (front_rest p.rest) b choice (front_rest p.rest).target) is (with_path row (front_rest p.rest).target b)
     at row (stage.Held b) is = let no : None ≡ Some given = is in absurd cc
     at row stage.Lent is = let no : None ≡ Some given = is in absurd cc
     at row (stage.Offering n epoch) is = let no : None ≡ Some given = is in absurd cc

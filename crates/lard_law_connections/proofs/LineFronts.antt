@@ -19,8 +19,8 @@ use Rattle.lard_endpoint.specs.Moving.{may_freeze}
 use Rattle.lard_endpoint.proofs.Silence.{emit-none}
 use Rattle.lard_endpoint.proofs.Sound.{on_segment-sound}
 use Rattle.lard_rules.specs.declared.front.FrontRest.{FrontRest}
-use Rattle.lard_rules.specs.Front.{Deed, Drops, Says, Does, FrontEnv, FrontPart, begun, ends, fired, fired_by, fires_at, front_gets, front_hears, front_timer, hears_at, holds, placed, rest_of, settled_by, stage_after, waits_on}
-use Rattle.lard_rules.specs.FrontReading.{MayMove, Reading, reads}
+use Rattle.lard_rules.specs.Front.{FrontDeed, Drops, Says, Does, FrontEnv, FrontPart, front_begun, front_ends, front_fired, front_fired_by, fires_at, front_gets, front_hears, front_timer, hears_at, holds, placed, front_rest, settled_by, stage_after, waits_on}
+use Rattle.lard_rules.specs.FrontReading.{MayMove, Reading, front_reads}
 use Rattle.lard_handoff_front.specs.declared.row.FrontConn.{FrontConn}
 use Rattle.lard_handoff_front.specs.declared.row.FrontConn.TheVariants as stage
 use Rattle.lard_handoff_front.specs.declared.row.FrontRow.{FrontRow}
@@ -31,7 +31,7 @@ use Rattle.lard_rules.specs.declared.places.Ending.{Ending}
 use Rattle.lard_rules.specs.declared.places.Ending.TheVariants as ending
 use Rattle.lard_rules.specs.declared.places.Turn.{Turn}
 use Rattle.lard_rules.specs.Tombstone.{is_plain_syn, last_words, tombstone}
-use Rattle.lard_rules.specs.Serving.{Service, serving, settled, spoken}
+use Rattle.lard_rules.specs.Serving.{Service, serving, serving_settled, spoken}
 use Rattle.lard_rules.specs.Serving as serve
 use Rattle.lard_rules.specs.Speaking.{speaks}
 use Rattle.lard_segment.specs.declared.fault.SegFault.{SegFault}
@@ -76,7 +76,7 @@ row-alike s t a e (Some row) h = stage-alike s t a e row.stage h
 -- ---- a deed
 
 -- behind what it says, what is kept stands
-abbrev pub DeedStands : ℕ → Stand → FrontPart → Deed → Type 0
+abbrev pub DeedStands : ℕ → Stand → FrontPart → FrontDeed → Type 0
 DeedStands c s p Drops = RowStands s p.row
 DeedStands c s p (Says t) = RowStands (stand_behind c place.Front s t.notes t.segments) p.row
 DeedStands c s p (Does x) = RowStands (stand_behind c place.Front s x.turn.notes x.turn.segments) x.part.row
@@ -153,10 +153,10 @@ module _ (env : FrontEnv) (small : env.serve.stream ≤ 2 ^ 30) (number : env.is
     noted-is : fold (row_step c) v w.notes ≡ v
     noted-is = all-same c v w.notes (read-same c w.notes serves.notes)
 
-    unplaced : DeedStands c v p (holds p row rest (settled env.serve w))
-    unplaced = holds-stands c v w.notes (settled env.serve w)
-        (subst (λ (t : Stand). EndsHeld c t.told w.notes (settled env.serve w)) (sym noted-is)
-        (subst (λ (o : Option Said). EndsHeld c o w.notes (settled env.serve w)) (sym told_is) (settled-ends env.serve s.told w serves.ready)))
+    unplaced : DeedStands c v p (holds p row rest (serving_settled env.serve w))
+    unplaced = holds-stands c v w.notes (serving_settled env.serve w)
+        (subst (λ (t : Stand). EndsHeld c t.told w.notes (serving_settled env.serve w)) (sym noted-is)
+        (subst (λ (o : Option Said). EndsHeld c o w.notes (serving_settled env.serve w)) (sym told_is) (settled-ends env.serve s.told w serves.ready)))
         (subst (λ (t : Stand). Counts t false 0 false) (sym noted-is) out)
 
     module _ (path : List ℕ) (may : may_freeze w.block ≡ true) where
@@ -199,7 +199,7 @@ module _ (env : FrontEnv) (small : env.serve.stream ≤ 2 ^ 30) (number : env.is
   begun-loud : (o : Option Said) (said : Said) → emitted (listening said env.iss) ≡ None → IsTold o (listening said env.iss)
   begun-loud o said e = let none : next_piece (listening said env.iss).send ≡ None = (emit-none (listening said env.iss) refl e).1 in absurd (cc)
 
-  begun-stands : (v : Stand) (said : Said) → Counts v false 0 false → DeedStands c v p (begun env p said)
+  begun-stands : (v : Stand) (said : Said) → Counts v false 0 false → DeedStands c v p (front_begun env p said)
   begun-stands v said out =
       let b : ControlBlock = listening said env.iss in
       let w : Service = serving b 0 (rec.Took place.Front c (record { 0 = 1 }) ∷ []) in
@@ -213,13 +213,13 @@ module _ (env : FrontEnv) (small : env.serve.stream ≤ 2 ^ 30) (number : env.is
 
   -- one that waits leaves the line by the segment that resets it, and by no other
   waiting-hears : (row : FrontRow) (said : Said) (b : ControlBlock) → StageStands s (stage.Waiting b)
-      → DeedStands c (came_so s (Ok said)) p (waits_on env p row (rest_of p.rest) (spoken env.serve (serving (on_segment b said).1 (rest_of p.rest).count []) []))
+      → DeedStands c (came_so s (Ok said)) p (waits_on env p row (front_rest p.rest) (spoken env.serve (serving (on_segment b said).1 (front_rest p.rest).count []) []))
   waiting-hears row said b h = go (is_reset b said) refl where
     d : ControlBlock
     d = (on_segment b said).1
 
     w : Service
-    w = serving d (rest_of p.rest).count []
+    w = serving d (front_rest p.rest).count []
 
     t : Hears b (is_reset b said) d
     t = segment-hears b said h.1.held.open_
@@ -230,7 +230,7 @@ module _ (env : FrontEnv) (small : env.serve.stream ≤ 2 ^ 30) (number : env.is
     goes : (x : Bool) → is_reset b said ≡ x → leaves s.told (Ok said) ≡ x
     goes x e = reset-leaves s.told b said h.1.held ∙ e
 
-    go : (x : Bool) → is_reset b said ≡ x → DeedStands c (came_so s (Ok said)) p (waits_on env p row (rest_of p.rest) (spoken env.serve w []))
+    go : (x : Bool) → is_reset b said ≡ x → DeedStands c (came_so s (Ok said)) p (waits_on env p row (front_rest p.rest) (spoken env.serve w []))
     go true e =
         let over = spoken-over env.serve s.told w ready (t.reset_is ∙ e) in
         let k : Counts (came_so s (Ok said)) false 1 false = record { waits_is = ap (λ (x : Bool). cond x false s.waits) (goes true e); times = h.0.times; inside_is = h.0.inside_is } in
@@ -246,10 +246,10 @@ module _ (env : FrontEnv) (small : env.serve.stream ≤ 2 ^ 30) (number : env.is
   hears-stands row bytes said (stage.Held b) is found h =
       let v : Stand = came_so s (Ok said) in
       let alike : IsAlike s v = came-out s (Ok said) h.0.waits_is in
-      let w : Service = serving (on_segment b said).1 (rest_of p.rest).count [] in
-      let x : Reading = reads env.serve (record { service = w; target = None }) in
+      let w : Service = serving (on_segment b said).1 (front_rest p.rest).count [] in
+      let x : Reading = front_reads env.serve (record { service = w; target = None }) in
       let read : HasRead s.told env.serve small x = all-read s.told env.serve small w (record { ready = heard-ready b said h.1; notes = tt }) in
-      settled-stands v alike refl (counts-alike s v false 0 false alike h.0) row (rest_of p.rest) x.service read.0 x.target read.1
+      settled-stands v alike refl (counts-alike s v false 0 false alike h.0) row (front_rest p.rest) x.service read.0 x.target read.1
   hears-stands row bytes said (stage.Waiting b) is found h = waiting-hears row said b h
   hears-stands row bytes said stage.Lent is found h = still (counts-alike s (came_so s (Ok said)) false 0 false (came-out s (Ok said) h.waits_is) h) where
     still : StageStands (came_so s (Ok said)) stage.Lent → RowStands (came_so s (Ok said)) p.row
@@ -270,7 +270,7 @@ module _ (env : FrontEnv) (small : env.serve.stream ≤ 2 ^ 30) (number : env.is
     by_row None e k =
         let v : Stand = came_so s (Ok said) in
         let out : Counts v false 0 false = counts-alike s v false 0 false (came-out s (Ok said) k.waits_is) k in
-        cond_both (is_plain_syn said) (begun env p said) Drops (DeedStands c v p) (λ t. begun-stands v said out) (λ t. subst (RowStands v) (sym e) out)
+        cond_both (is_plain_syn said) (front_begun env p said) Drops (DeedStands c v p) (λ t. begun-stands v said out) (λ t. subst (RowStands v) (sym e) out)
     by_row (Some row) e k = hears-stands row bytes said row.stage refl e k
 
 -- ---- timers
@@ -281,18 +281,18 @@ module _ (env : FrontEnv) (p : FrontPart) (s : Stand) where
 
   fires-stands : (row : FrontRow) (at : FrontConn) → row.stage ≡ at → p.row ≡ Some row → StageStands s at → DeedStands here s p (fires_at env p row at)
   fires-stands row (stage.Held b) is found h =
-      let w : Service = serving (after_timer b) (rest_of p.rest).count [] in
-      holds-stands here s [] (fired env (rest_of p.rest) b)
-      (held-ends here s.told w b (serve.ready_of env.serve (after_timer b) (timed b) ++ (speaks here (after_timer b)).0, (speaks here (after_timer b)).1) h.1.open_ (timer-spoken env.serve s.told b h.1.sound h.1.told_is)) h.0
+      let w : Service = serving (after_timer b) (front_rest p.rest).count [] in
+      holds-stands here s [] (front_fired env (front_rest p.rest) b)
+      (held-ends here s.told w b (serve.serving_ready_of env.serve (after_timer b) (timed b) ++ (speaks here (after_timer b)).0, (speaks here (after_timer b)).1) h.1.open_ (timer-spoken env.serve s.told b h.1.sound h.1.told_is)) h.0
   fires-stands row (stage.Waiting b) is found h =
-      let w : Service = serving (after_timer b) (rest_of p.rest).count [] in
-      waits-stands here s [] (fired env (rest_of p.rest) b)
-      (waiting-ends here s.told w b (serve.ready_of env.serve (after_timer b) (timed b) ++ (speaks here (after_timer b)).0, (speaks here (after_timer b)).1) h.1.held.open_ h.1.freezes
+      let w : Service = serving (after_timer b) (front_rest p.rest).count [] in
+      waits-stands here s [] (front_fired env (front_rest p.rest) b)
+      (waiting-ends here s.told w b (serve.serving_ready_of env.serve (after_timer b) (timed b) ++ (speaks here (after_timer b)).0, (speaks here (after_timer b)).1) h.1.held.open_ h.1.freezes
       (timer-spoken env.serve s.told b h.1.held.sound h.1.held.told_is)) h.0
   fires-stands row _ is found h = subst (RowStands s) (sym found) (subst (StageStands s) (sym is) h)
 
   pub timer-stands : RowStands s p.row → DeedStands here s p (front_timer env p)
   timer-stands h = go p.row refl h where
-    go : (o : Option FrontRow) → p.row ≡ o → RowStands s o → DeedStands here s p (fired_by env p o)
+    go : (o : Option FrontRow) → p.row ≡ o → RowStands s o → DeedStands here s p (front_fired_by env p o)
     go None e k = h
     go (Some row) e k = fires-stands row row.stage refl e k

@@ -9,7 +9,7 @@ use Rattle.lard_endpoint.specs.declared.control.arriving.Arrival.TheVariants.{Fi
 use Rattle.lard_endpoint.specs.Arriving.{owing, on_text, on_acked, on_ack, on_syn, on_unacceptable, on_segment}
 use Rattle.lard_endpoint.specs.Control.{ControlBlock, IsControlBlock, rcv_nxt, rcv_wnd}
 use Rattle.lard_endpoint.specs.Moving.{may_freeze}
-use Rattle.lard_recv.specs.Recv.{Received, begins_after, awaited, fresh, ends, taken, arrived}
+use Rattle.lard_recv.specs.Recv.{Received, begins_after, awaited, fresh_bytes, ends, bytes_taken, arrived}
 use Rattle.lard_segment.specs.Segment.{Said}
 use Rattle.lard_send.specs.Send.{Sending, is_newer, moved_up, windowed, after_ack, symbols, is_clear}
 use Rattle.lard_seq.specs.Seq.{one_if, seq_offset}
@@ -59,7 +59,7 @@ owing-hears b c x h = record { send = h.send; discarding = h.discarding; last = 
 
 arrived-discarding : (r : Received) (seq : ℕ) (data_ : List ℕ) (fin : Bool) → (arrived r seq data_ fin).discarding ≡ r.discarding
 arrived-discarding r seq data_ fin = cond_both (begins_after seq (awaited r)) r _ (λ t. t.discarding ≡ r.discarding) (λ b. refl)
-    (λ b. cond_both r.fin r (taken r (fresh r seq data_) (ends r seq data_ fin)) (λ t. t.discarding ≡ r.discarding) (λ f. refl) (λ f. refl))
+    (λ b. cond_both r.fin r (bytes_taken r (fresh_bytes r seq data_) (ends r seq data_ fin)) (λ t. t.discarding ≡ r.discarding) (λ f. refl) (λ f. refl))
 
 on_acked-hears : (b c : ControlBlock) (x : Bool) (s : Said) → Hears b x c → Leaves b x (on_acked c s)
 on_acked-hears b c x s h =

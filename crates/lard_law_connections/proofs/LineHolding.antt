@@ -20,7 +20,7 @@ use Rattle.lard_endpoint.specs.Leaving.{advanced, emitted, owed_ready, owes, rea
 use Rattle.lard_endpoint.specs.Moving.{end_reason, final_of, is_closed, may_end, may_freeze}
 use Rattle.lard_endpoint.proofs.Silence.{emit-none}
 use Rattle.lard_endpoint.proofs.Sound.{queueing-sound}
-use Rattle.lard_rules.specs.FrontReading.{MayMove, Reading, block_at, left, reads, reads_block, reads_found, targeted, turn, with_service}
+use Rattle.lard_rules.specs.FrontReading.{MayMove, Reading, block_at, reading_left, front_reads, reads_block, reads_found, targeted, reading_turn, with_service}
 use Rattle.lard_history.proofs.Each.{Each, Each-append}
 use Rattle.lard_journal.specs.declared.rec.Rec.{Rec}
 use Rattle.lard_journal.specs.declared.rec.Rec.TheVariants as rec
@@ -34,7 +34,7 @@ use Rattle.lard_rules.specs.declared.places.Ending.TheVariants as ending
 use Rattle.lard_rules.specs.declared.places.Turn.{Turn}
 use Rattle.lard_rules.specs.Loop.{Step, runs_on}
 use Rattle.lard_rules.specs.Loop as loop
-use Rattle.lard_rules.specs.Serving.{ServeEnv, Service, answered, closed_behind, consumed, cut_off, ended_at_fin, may_read, passed_over, queued, rested, settled, limit_said, spoken, told}
+use Rattle.lard_rules.specs.Serving.{ServeEnv, Service, answered, closed_behind, serving_consumed, cut_off, ended_at_fin, may_read, passed_over, queued, rested, serving_settled, limit_said, spoken, serving_told}
 use Rattle.lard_rules.specs.Speaking.{speaks, speaks_symbols}
 use Rattle.lard_rules.proofs.Saying.{speaks-done}
 use Rattle.lard_segment.specs.declared.segment.Ready.{Ready}
@@ -191,7 +191,7 @@ module _ (o : Option Said) where
           notes = Each-append IsRead w.notes (rec.Served env.place env.c (w.count + 1) (answer_code env.files v) (length bytes) Own ∷ []) h.notes (tt, tt);
         })
 
-    consumed-serves : (n : ℕ) (w : Service) → Serves w → Serves (consumed n w)
+    consumed-serves : (n : ℕ) (w : Service) → Serves w → Serves (serving_consumed n w)
     consumed-serves n w h = record { ready = consuming-ready w.block n h.ready; notes = h.notes }
 
     ended-serves : (w : Service) → Serves w → Serves (ended_at_fin w)
@@ -222,28 +222,28 @@ module _ (o : Option Said) where
       go false h = refl
 
     found-reads : (x : Reading) → may_read x.service ≡ true → (f : Found) → IsReading x → ReadOn (reads_found env x f)
-    found-reads x may (found.More skip) h = still x (ended_at_fin (consumed skip x.service)) (ended-serves (consumed skip x.service) (consumed-serves skip x.service h.0)) h.1
+    found-reads x may (found.More skip) h = still x (ended_at_fin (serving_consumed skip x.service)) (ended-serves (serving_consumed skip x.service) (consumed-serves skip x.service h.0)) h.1
     found-reads x may (found.Block skip len) h = by_path (good_path env.files (block_at x skip len)) where
       by_path : (p : Option (List ℕ)) → ReadOn (reads_block env x (skip + len) (block_at x skip len) p)
-      by_path None = (answered-serves (block_at x skip len) (consumed (skip + len) x.service) (unfinished x.service may) (consumed-serves (skip + len) x.service h.0), h.1)
+      by_path None = (answered-serves (block_at x skip len) (serving_consumed (skip + len) x.service) (unfinished x.service may) (consumed-serves (skip + len) x.service h.0), h.1)
       by_path (Some path) = targeted-reads path x h
     found-reads x may (found.TooLong skip) h =
-        (answered-serves (Fault code.FieldsTooLarge) (consumed (length x.service.block.recv.unread) x.service) (unfinished x.service may) (consumed-serves (length x.service.block.recv.unread) x.service h.0), h.1)
+        (answered-serves (Fault code.FieldsTooLarge) (serving_consumed (length x.service.block.recv.unread) x.service) (unfinished x.service may) (consumed-serves (length x.service.block.recv.unread) x.service h.0), h.1)
 
-    turn-reads : (x : Reading) → IsReading x → ReadOn (turn env x)
+    turn-reads : (x : Reading) → IsReading x → ReadOn (reading_turn env x)
     turn-reads x h = cond_both (may_read x.service) (reads_found env x (cut_of x.service.block.recv.unread)) (loop.Done x) ReadOn
         (λ may. found-reads x may (cut_of x.service.block.recv.unread) h) (λ t. still x x.service h.0 h.1)
 
-    reads-on : (n : ℕ) (x : Reading) → IsReading x → HasRead (runs_on n (turn env) x)
+    reads-on : (n : ℕ) (x : Reading) → IsReading x → HasRead (runs_on n (reading_turn env) x)
     unfolding runs_on
     reads-on zero x h = still x x.service h.0 h.1
-    reads-on (suc n) x h = go (turn env x) (turn-reads x h) (reads-on n) where
-      go : (s : Step Reading) → ReadOn s → ((y : Reading) → IsReading y → HasRead (runs_on n (turn env) y)) → HasRead (elim s as (λ s. Reading) [ loop.More y ↦ runs_on n (turn env) y | loop.Done y ↦ y ])
+    reads-on (suc n) x h = go (reading_turn env x) (turn-reads x h) (reads-on n) where
+      go : (s : Step Reading) → ReadOn s → ((y : Reading) → IsReading y → HasRead (runs_on n (reading_turn env) y)) → HasRead (elim s as (λ s. Reading) [ loop.More y ↦ runs_on n (reading_turn env) y | loop.Done y ↦ y ])
       go (loop.More y) k later = later y k
       go (loop.Done y) k later = k
 
-    pub all-read : (w : Service) → Serves w → HasRead (reads env (record { service = w; target = None }))
-    all-read w h = reads-on (left (record { service = w; target = None }) + 1) (record { service = w; target = None }) (h, refl)
+    pub all-read : (w : Service) → Serves w → HasRead (front_reads env (record { service = w; target = None }))
+    all-read w h = reads-on (reading_left (record { service = w; target = None }) + 1) (record { service = w; target = None }) (h, refl)
 
 -- ---- the end of a turn
 
@@ -329,12 +329,12 @@ module _ (env : ServeEnv) (o : Option Said) (w : Service) (h : IsReady o w.block
   spoken-waits open_ may = waiting-ends env.c o w w.block (speaks env.c w.block) open_ may (speaks-spoken env.c o w.block h.sound (ready-quiet o w.block h open_))
 
   -- or is cut off at the stream limit
-  pub settled-ends : EndsHeld env.c o w.notes (settled env w)
+  pub settled-ends : EndsHeld env.c o w.notes (serving_settled env w)
   settled-ends = go w.over where
     go : (p : Option ℕ) → EndsHeld env.c o w.notes (elim p as (λ p. Ending × Turn) [ None ↦ spoken env w [] | Some total ↦ cut_off env w ])
     go None = spoken-ends
     go (Some total) = record {
       noted = refl;
-      to = Each-append (λ s. s.0 ≡ Client env.c) (speaks_symbols env.c w.block).0 (told env (limit_said (final_of (speaks_symbols env.c w.block).1 Limit)) ∷ []) (speaks_symbols-to env.c w.block).to (refl, tt);
+      to = Each-append (λ s. s.0 ≡ Client env.c) (speaks_symbols env.c w.block).0 (serving_told env (limit_said (final_of (speaks_symbols env.c w.block).1 Limit)) ∷ []) (speaks_symbols-to env.c w.block).to (refl, tt);
       held = λ b count e. let no : ending.Over (final_of (speaks_symbols env.c w.block).1 Limit) ≡ ending.Here b count = e in absurd cc;
     }

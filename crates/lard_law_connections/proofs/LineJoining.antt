@@ -13,7 +13,7 @@ use Rattle.lard_law_connections.proofs.LineTurns.{IsBare, IsEntry, IsNoted, Note
 use Rattle.lard_law_connections.specs.Line.{leaves}
 use Rattle.lard_law_connections.specs.Places.{Owning, Sits, StageSits, owning}
 use Rattle.lard_law_connections.proofs.PlacesTurns.{IsPlaced}
-use Rattle.lard_law_view.specs.Carry.{IsLaw, MayMove, tale_at}
+use Rattle.lard_law_view.specs.Carry.{IsLaw, MayRestOn, tale_at}
 use Rattle.lard_law_view.specs.View.{Conn, Move, Setting, grown, rows_of, seen_in, sending, timer_rows}
 use Rattle.lard_law_view.proofs.Fine.{IsFine, IsItsOwn, fine}
 use Rattle.lard_law_view.proofs.Guarded.{both, weaker}
@@ -216,7 +216,7 @@ IsLinedThere x = IsLined x × IsPlaced x
 pub joining-law : (k : Setting) → k.stream ≤ 2 ^ 30 → IsLaw k IsLinedThere JoinsFree
 joining-law k small = record {
   begins = λ c. tt;
-  moves = weaker k (λ x v. IsFine x v × Notes x v) (λ x v. MayMove IsLinedThere x → JoinsFree x → JoinsFree (grown x v))
+  moves = weaker k (λ x v. IsFine x v × Notes x v) (λ x v. MayRestOn IsLinedThere x → JoinsFree x → JoinsFree (grown x v))
       (λ x v h may so. each_row-append (MayJoin x.c) [] x.seen (seen_in x v) so (move-rows x may.given.0 may.given.1 v (h.0 may.number may.sound).0 (h.1 may.given.0)))
       (both k IsFine Notes (fine k) (noting k small));
 }

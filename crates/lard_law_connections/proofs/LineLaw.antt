@@ -13,13 +13,13 @@ use Rattle.lard_law_connections.specs.Places.{Owning, Sits, StageSits, owning}
 use Rattle.lard_law_connections.proofs.PlacesRows.{MayOwnBy, OwnsBy, after, after_all}
 use Rattle.lard_law_connections.proofs.PlacesLaw.{owing}
 use Rattle.lard_law_connections.proofs.PlacesTurns.{IsPlaced, Owes}
-use Rattle.lard_law_view.specs.Carry.{IsLaw, MayMove, tale_at}
-use Rattle.lard_law_view.specs.View.{ClientRules, Conn, FrontRules, IsFrontEnv, IsUnheard, Move, NodeRules, Rules, Said, Setting, blank, brought_said, client_begins, client_does, contents, event_seen, front_does, grown, inject_seen, node_does, nothing_said, packet_seen, reads_first, sending, stands, timer_rows}
+use Rattle.lard_law_view.specs.Carry.{IsLaw, MayRestOn, tale_at}
+use Rattle.lard_law_view.specs.View.{ClientRules, Conn, FrontRules, IsFrontEnv, IsUnheard, Move, NodeRules, Rules, TurnSaid, Setting, blank_conn, brought_said, client_begins, client_does, content_said, event_seen, front_does, grown, inject_seen, node_does, nothing_said, packet_seen, reads_first, sending, stands, timer_rows}
 use Rattle.lard_law_view.proofs.Fine.{IsFine, IsItsOwn, fine}
 use Rattle.lard_law_view.proofs.Guarded.{both, weaker}
 use Rattle.lard_law_view.proofs.Saying.{AllBetween, NotedAt}
 use Rattle.lard_rules.specs.Front as front
-use Rattle.lard_rules.specs.Front.{FrontEnv, FrontPart, admitted_by, ask_of, asked_by, is_at, front_asked, front_ended, front_gets, front_taken, front_timer, taken_by, ended_by}
+use Rattle.lard_rules.specs.Front.{FrontEnv, FrontPart, admitted_by, ask_of, asked_by, is_row_at, front_asked, front_ended, front_gets, front_taken, front_timer, taken_by, front_ended_by}
 use Rattle.lard_handoff_front.specs.declared.row.FrontConn.{FrontConn}
 use Rattle.lard_handoff_front.specs.declared.row.FrontConn.TheVariants as stage
 use Rattle.lard_handoff_front.specs.declared.row.FrontRow.{FrontRow}
@@ -44,7 +44,7 @@ pub record IsLined (x : Conn) : Type 0 where
   pub opened : x.part.station ≡ None → x.part.front.row ≡ None
   pub stands : RowStands (stand_at x) x.part.front.row
 
-pub blank-lined : (c : ℕ) → IsLined (blank c)
+pub blank-lined : (c : ℕ) → IsLined (blank_conn c)
 blank-lined c = record { number = λ s e. let no : None ≡ Some s = e in absurd cc; opened = λ e. refl; stands = record { waits_is = refl; times = omega arith; inside_is = refl } }
 
 -- ---- where another place than the front end acts
@@ -141,7 +141,7 @@ abbrev Lines : Conn → Move → Type 0
 Lines x v = IsItsOwn x v → Owes x v → IsPlaced x → IsLined x → IsLined (grown x v)
 
 -- what is behind the heads and a deed
-front-lined : (x : Conn) (heads : List Seen) (d : front.Deed) → (IsLined x → x.part.station ≡ None → d ≡ front.Drops)
+front-lined : (x : Conn) (heads : List Seen) (d : front.FrontDeed) → (IsLined x → x.part.station ≡ None → d ≡ front.Drops)
     → (IsLined x → DeedStands x.c (fold (stand_step x.c) (stand_at x) heads) x.part.front d) → IsItsOwn x (front_does x heads d) → IsLined x → IsLined (grown x (front_does x heads d))
 front-lined x heads front.Drops none stood own h = record {
   number = h.number;
@@ -192,7 +192,7 @@ pub record IsThere (x : Conn) (heads : List Seen) (v : Move) : Type 0 where
   pub station : v.part.station ≡ x.part.station
   pub heads_are : v.heads ≡ heads
 
-pub node-there : (x : Conn) (n : ℕ) (heads : List Seen) (d : node.Deed) → IsThere x heads (node_does x n heads d)
+pub node-there : (x : Conn) (n : ℕ) (heads : List Seen) (d : node.NodeDeed) → IsThere x heads (node_does x n heads d)
 node-there x n heads node.Drops = record { place = tt; front = refl; station = refl; heads_are = refl }
 node-there x n heads (node.Says messages) = record { place = tt; front = refl; station = refl; heads_are = refl }
 node-there x n heads (node.Does given) = record { place = tt; front = refl; station = refl; heads_are = refl }
@@ -235,7 +235,7 @@ module _ (k : Setting) (small : k.stream ≤ 2 ^ 30) where
   }
 
   -- the rule is one of this connection
-  by-front : (x : Conn) (env : FrontEnv) → IsFrontEnv k x.c env → (heads : List Seen) (d : front.Deed) → (IsLined x → x.part.station ≡ None → d ≡ front.Drops)
+  by-front : (x : Conn) (env : FrontEnv) → IsFrontEnv k x.c env → (heads : List Seen) (d : front.FrontDeed) → (IsLined x → x.part.station ≡ None → d ≡ front.Drops)
       → (IsLined x → DeedStands env.serve.c (fold (stand_step x.c) (stand_at x) heads) x.part.front d) → Lines x (front_does x heads d)
   by-front x env is heads d none stood own owes placed h =
       front-lined x heads d none (λ h. subst (λ (c : ℕ). DeedStands c (fold (stand_step x.c) (stand_at x) heads) x.part.front d) is.number (stood h)) own h
@@ -243,7 +243,7 @@ module _ (k : Setting) (small : k.stream ≤ 2 ^ 30) where
   small-in : (c : ℕ) (env : FrontEnv) → IsFrontEnv k c env → env.serve.stream ≤ 2 ^ 30
   small-in c env is = subst (λ (n : ℕ). n ≤ 2 ^ 30) (sym is.stream) small
 
-  known : (x : Conn) (s : Station) (d : front.Deed) → x.part.station ≡ Some s → x.part.station ≡ None → d ≡ front.Drops
+  known : (x : Conn) (s : Station) (d : front.FrontDeed) → x.part.station ≡ Some s → x.part.station ≡ None → d ≡ front.Drops
   known x s d there e = let no : Some s ≡ None = sym there ∙ e in absurd cc
 
   fronts : FrontRules k Lines
@@ -257,23 +257,23 @@ module _ (k : Setting) (small : k.stream ≤ 2 ^ 30) where
         (λ h e. ap (λ (o : Option FrontRow). taken_by x.part.front epoch o (asked_node epoch o)) (h.opened e))
         (λ h. taken-stands env.serve.c (stand_at x) x.part.front epoch h.stands);
     asked = λ x env n epoch number queue size paths bytes is spells was. by-front x env is (packet_seen (Node n) Front bytes) (front_asked env x.part.front n epoch (ask_of x.c n number queue size paths))
-        (λ h e. ap (λ (o : Option FrontRow). cond (is_at n epoch o) (asked_by env x.part.front n epoch (ask_of x.c n number queue size paths) x.part.front.rest) front.Drops) (h.opened e))
+        (λ h e. ap (λ (o : Option FrontRow). cond (is_row_at n epoch o) (asked_by env x.part.front n epoch (ask_of x.c n number queue size paths) x.part.front.rest) front.Drops) (h.opened e))
         (λ h. asked-stands env x.part.front (stand_at x) h.stands n epoch (ask_of x.c n number queue size paths));
     ended = λ x env n epoch reason snd rcv count bytes is spells was. by-front x env is (packet_seen (Node n) Front bytes) (front_ended env x.part.front n epoch (record { reason = reason; snd = record { 0 = snd }; rcv = record { 0 = rcv } }))
-        (λ h e. ap (λ (o : Option FrontRow). ended_by env x.part.front n epoch (record { reason = reason; snd = record { 0 = snd }; rcv = record { 0 = rcv } }) o (end_answer epoch o)) (h.opened e))
+        (λ h e. ap (λ (o : Option FrontRow). front_ended_by env x.part.front n epoch (record { reason = reason; snd = record { 0 = snd }; rcv = record { 0 = rcv } }) o (end_answer epoch o)) (h.opened e))
         (λ h. ended-stands env x.part.front (stand_at x) h.stands n epoch (record { reason = reason; snd = record { 0 = snd }; rcv = record { 0 = rcv } }));
     admitted = λ x env choice given is e. by-front x env is [] (front.Does (record { part = given.0; turn = given.1; calls = [] }))
         (λ h none. let no : None ≡ Some given = sym (ap (admitted_by env x.part.front choice) (h.opened none)) ∙ e in absurd cc)
         (λ h. admitted-stands env x.part.front (stand_at x) h.stands choice given e);
   }
 
-  by-node : (x : Conn) (n : ℕ) (heads : List Seen) (d : node.Deed) → fold (stand_step x.c) (stand_at x) heads ≡ stand_at x → Lines x (node_does x n heads d)
+  by-node : (x : Conn) (n : ℕ) (heads : List Seen) (d : node.NodeDeed) → fold (stand_step x.c) (stand_at x) heads ≡ stand_at x → Lines x (node_does x n heads d)
   by-node x n heads d same = aside x (node_does x n heads d) (there-aside x heads (node_does x n heads d) same (node-there x n heads d))
 
-  said-aside : (x : Conn) (n : ℕ) (heads : List Seen) (said : Said) → fold (stand_step x.c) (stand_at x) heads ≡ stand_at x → Lines x (stands x (Node n) heads said)
+  said-aside : (x : Conn) (n : ℕ) (heads : List Seen) (said : TurnSaid) → fold (stand_step x.c) (stand_at x) heads ≡ stand_at x → Lines x (stands x (Node n) heads said)
   said-aside x n heads said same = aside x (stands x (Node n) heads said) (there-aside x heads (stands x (Node n) heads said) same (record { place = tt; front = refl; station = refl; heads_are = refl }))
 
-  read-lined : (x : Conn) (n : ℕ) (r : Rec) (d : node.Deed) → Lines x (reads_first r (node_does x n [] d))
+  read-lined : (x : Conn) (n : ℕ) (r : Rec) (d : node.NodeDeed) → Lines x (reads_first r (node_does x n [] d))
   read-lined x n r d =
       let t : IsThere x [] (node_does x n [] d) = node-there x n [] d in
       aside x (reads_first r (node_does x n [] d)) (there-aside x [] (reads_first r (node_does x n [] d)) refl (record { place = t.place; front = t.front; station = t.station; heads_are = t.heads_are }))
@@ -287,7 +287,7 @@ module _ (k : Setting) (small : k.stream ≤ 2 ^ 30) where
     acknowledged = λ x n epoch env bytes is spells was. by-node x n (packet_seen Front (Node n) bytes) (node_acknowledged env (x.part.nodes n)) refl;
     read = λ x n epoch r env path is. read-lined x n (rec.Read n n x.c r path) (node_read env (x.part.nodes n) r);
     fires = λ x s n env there is. by-node x n (event_seen (event.Timer (Node n) x.c)) (node_timer env (x.part.nodes n)) refl;
-    answers = λ x n from epoch r path file bytes there spells was. said-aside x n (packet_seen (Node from) (Node n) bytes) (contents k n from x.c epoch r path) refl;
+    answers = λ x n from epoch r path file bytes there spells was. said-aside x n (packet_seen (Node from) (Node n) bytes) (content_said k n from x.c epoch r path) refl;
     queues = λ x n from epoch r path file bytes there spells was. said-aside x n (packet_seen (Node from) (Node n) bytes) (record nothing_said { notes = rec.Queued n from x.c r path ∷ [] }) refl;
     brings = λ x n from epoch r path. said-aside x n [] (brought_said k n from x.c epoch r path) refl;
   }
@@ -316,7 +316,7 @@ module _ (k : Setting) (small : k.stream ≤ 2 ^ 30) where
   pub line-law : IsLaw k IsPlaced IsLined
   line-law = record {
     begins = blank-lined;
-    moves = weaker k (λ x v. (MayMove IsPlaced x → IsPlaced x → Owes x v) × (IsFine x v × Lines x v)) (λ x v. MayMove IsPlaced x → IsLined x → IsLined (grown x v))
+    moves = weaker k (λ x v. (MayRestOn IsPlaced x → IsPlaced x → Owes x v) × (IsFine x v × Lines x v)) (λ x v. MayRestOn IsPlaced x → IsLined x → IsLined (grown x v))
         (λ x v h may lined. h.1.1 (h.1.0 may.number may.sound).0 (h.0 may may.given) may.given lined)
-        (both k (λ x v. MayMove IsPlaced x → IsPlaced x → Owes x v) (λ x v. IsFine x v × Lines x v) (owing k IsPlaced) (both k IsFine Lines (fine k) lines));
+        (both k (λ x v. MayRestOn IsPlaced x → IsPlaced x → Owes x v) (λ x v. IsFine x v × Lines x v) (owing k IsPlaced) (both k IsFine Lines (fine k) lines));
   }

@@ -3,19 +3,19 @@ use Rattle.std.proofs.Common.{◌≡◌, ℕ, ◌+◌, ◌≤◌, nat_eq, ◌||�
 use Rattle.std.specs.List.{filter, list_any}
 use Rattle.lard_law_connections.proofs.PolicyIns.{count}
 use Rattle.lard_law_connections.proofs.PolicyWaiting.{within-wider}
-use Rattle.lard_law_connections.specs.PolicyLine.{IsWithin}
+use Rattle.lard_law_connections.specs.PolicyLine.{IsSublist}
 use Rattle.lard_history.proofs.Seeing.{by_number, other_number, same_number}
 
 abbrev has : ℕ → List ℕ → Bool
 has c xs = list_any (nat_eq c) xs
 
 -- what does not stand in a list does not in one within it
-absent : (c : ℕ) (xs zs : List ℕ) → IsWithin xs zs → count c zs ≡ 0 → has c xs ≡ false
+absent : (c : ℕ) (xs zs : List ℕ) → IsSublist xs zs → count c zs ≡ 0 → has c xs ≡ false
 absent c [] zs h none = refl
 absent c (x ∷ xs) [] h none = absurd h
 absent c (x ∷ xs) (z ∷ zs) h none = ⊎_elim
-    (λ (k : (x ≡ z) × IsWithin xs zs). go (nat_eq c z) refl none k.0 (λ n. absent c xs zs k.1 n))
-    (λ (k : IsWithin (x ∷ xs) zs). absent c (x ∷ xs) zs k (less (nat_eq c z) (count c zs) none))
+    (λ (k : (x ≡ z) × IsSublist xs zs). go (nat_eq c z) refl none k.0 (λ n. absent c xs zs k.1 n))
+    (λ (k : IsSublist (x ∷ xs) zs). absent c (x ∷ xs) zs k (less (nat_eq c z) (count c zs) none))
     h
   where
     less : (b : Bool) (n : ℕ) → cond b 1 0 + n ≡ 0 → n ≡ 0
@@ -46,20 +46,20 @@ same-rest x xs ys out too same c = by_number (has c xs ≡ has c ys) c x
     (λ e. subst (λ (n : ℕ). has n xs ≡ has n ys) (sym e) (out ∙ sym too))
     (λ n. let f : nat_eq c x ≡ false = other_number c x n in sym (ap (λ (b : Bool). b || has c xs) f) ∙ same c ∙ ap (λ (b : Bool). b || has c ys) f)
 
-pub within-same : (zs xs ys : List ℕ) → ((c : ℕ) → count c zs ≤ 1) → IsWithin xs zs → IsWithin ys zs → ((c : ℕ) → has c xs ≡ has c ys) → xs ≡ ys
+pub within-same : (zs xs ys : List ℕ) → ((c : ℕ) → count c zs ≤ 1) → IsSublist xs zs → IsSublist ys zs → ((c : ℕ) → has c xs ≡ has c ys) → xs ≡ ys
 within-same zs [] ys once h k same = sym (none-has ys (λ c. sym (same c)))
 within-same zs (x ∷ xs) [] once h k same = none-has (x ∷ xs) same
 within-same [] (x ∷ xs) (y ∷ ys) once h k same = absurd h
 within-same (z ∷ zs) (x ∷ xs) (y ∷ ys) once h k same =
-    let later : (us vs : List ℕ) → IsWithin us zs → IsWithin vs zs → ((c : ℕ) → has c us ≡ has c vs) → us ≡ vs = λ us vs p q s. within-same zs us vs (λ c. rest-once c z zs (once c)) p q s in
+    let later : (us vs : List ℕ) → IsSublist us zs → IsSublist vs zs → ((c : ℕ) → has c us ≡ has c vs) → us ≡ vs = λ us vs p q s. within-same zs us vs (λ c. rest-once c z zs (once c)) p q s in
     ⊎_elim
-    (λ (p : (x ≡ z) × IsWithin xs zs). ⊎_elim
-    (λ (q : (y ≡ z) × IsWithin ys zs). both later p.0 p.1 q.0 q.1)
-    (λ (q : IsWithin (y ∷ ys) zs). absurd (one x xs (y ∷ ys) p.0 q (same z)))
+    (λ (p : (x ≡ z) × IsSublist xs zs). ⊎_elim
+    (λ (q : (y ≡ z) × IsSublist ys zs). both later p.0 p.1 q.0 q.1)
+    (λ (q : IsSublist (y ∷ ys) zs). absurd (one x xs (y ∷ ys) p.0 q (same z)))
     k)
-    (λ (p : IsWithin (x ∷ xs) zs). ⊎_elim
-    (λ (q : (y ≡ z) × IsWithin ys zs). absurd (one y ys (x ∷ xs) q.0 p (sym (same z))))
-    (λ (q : IsWithin (y ∷ ys) zs). later (x ∷ xs) (y ∷ ys) p q same)
+    (λ (p : IsSublist (x ∷ xs) zs). ⊎_elim
+    (λ (q : (y ≡ z) × IsSublist ys zs). absurd (one y ys (x ∷ xs) q.0 p (sym (same z))))
+    (λ (q : IsSublist (y ∷ ys) zs). later (x ∷ xs) (y ∷ ys) p q same)
     k)
     h
   where
@@ -67,12 +67,12 @@ within-same (z ∷ zs) (x ∷ xs) (y ∷ ys) once h k same =
     none = fresh z zs (once z)
 
     -- one has the front, and the other has not
-    one : (a : ℕ) (us vs : List ℕ) → a ≡ z → IsWithin vs zs → has z (a ∷ us) ≡ has z vs → ⊥
+    one : (a : ℕ) (us vs : List ℕ) → a ≡ z → IsSublist vs zs → has z (a ∷ us) ≡ has z vs → ⊥
     one a us vs e w s =
         let there : has z (a ∷ us) ≡ true = ap (λ (n : ℕ). nat_eq z n || has z us) e ∙ ap (λ (b : Bool). b || has z us) (same_number z) in
         let no : true ≡ false = sym there ∙ s ∙ absent z vs zs w none in absurd cc
 
-    both : ((us vs : List ℕ) → IsWithin us zs → IsWithin vs zs → ((c : ℕ) → has c us ≡ has c vs) → us ≡ vs) → x ≡ z → IsWithin xs zs → y ≡ z → IsWithin ys zs → x ∷ xs ≡ y ∷ ys
+    both : ((us vs : List ℕ) → IsSublist us zs → IsSublist vs zs → ((c : ℕ) → has c us ≡ has c vs) → us ≡ vs) → x ≡ z → IsSublist xs zs → y ≡ z → IsSublist ys zs → x ∷ xs ≡ y ∷ ys
     both later e p f q =
         let front : y ≡ x = f ∙ sym e in
         let out : has x xs ≡ false = subst (λ (n : ℕ). has n xs ≡ false) (sym e) (absent z xs zs p none) in
@@ -83,30 +83,30 @@ within-same (z ∷ zs) (x ∷ xs) (y ∷ ys) once h k same =
 -- ---- what is taken out of both, or of one
 
 -- whatever passes
-pub both-within : (p : ℕ → Bool) (xs ys : List ℕ) → IsWithin xs ys → IsWithin (filter p xs) (filter p ys)
+pub both-within : (p : ℕ → Bool) (xs ys : List ℕ) → IsSublist xs ys → IsSublist (filter p xs) (filter p ys)
 both-within p [] ys h = tt
 both-within p (x ∷ xs) [] h = absurd h
 both-within p (x ∷ xs) (y ∷ ys) h = ⊎_elim
-    (λ (k : (x ≡ y) × IsWithin xs ys). subst (λ (n : ℕ). IsWithin (cond (p n) (n ∷ filter p xs) (filter p xs)) (filter p (y ∷ ys))) (sym k.0) (go (p y) (both-within p xs ys k.1)))
-    (λ (k : IsWithin (x ∷ xs) ys). wider (p y) (filter p (x ∷ xs)) (both-within p (x ∷ xs) ys k))
+    (λ (k : (x ≡ y) × IsSublist xs ys). subst (λ (n : ℕ). IsSublist (cond (p n) (n ∷ filter p xs) (filter p xs)) (filter p (y ∷ ys))) (sym k.0) (go (p y) (both-within p xs ys k.1)))
+    (λ (k : IsSublist (x ∷ xs) ys). wider (p y) (filter p (x ∷ xs)) (both-within p (x ∷ xs) ys k))
     h
   where
-    go : (b : Bool) → IsWithin (filter p xs) (filter p ys) → IsWithin (cond b (y ∷ filter p xs) (filter p xs)) (cond b (y ∷ filter p ys) (filter p ys))
+    go : (b : Bool) → IsSublist (filter p xs) (filter p ys) → IsSublist (cond b (y ∷ filter p xs) (filter p xs)) (cond b (y ∷ filter p ys) (filter p ys))
     go true w = inl (refl, w)
     go false w = w
 
-    wider : (b : Bool) (us : List ℕ) → IsWithin us (filter p ys) → IsWithin us (cond b (y ∷ filter p ys) (filter p ys))
+    wider : (b : Bool) (us : List ℕ) → IsSublist us (filter p ys) → IsSublist us (cond b (y ∷ filter p ys) (filter p ys))
     wider true us w = within-wider us (filter p ys) y w
     wider false us w = w
 
-pub less-within : (p : ℕ → Bool) (xs ys : List ℕ) → IsWithin xs ys → IsWithin (filter p xs) ys
+pub less-within : (p : ℕ → Bool) (xs ys : List ℕ) → IsSublist xs ys → IsSublist (filter p xs) ys
 less-within p [] ys h = tt
 less-within p (x ∷ xs) [] h = absurd h
 less-within p (x ∷ xs) (y ∷ ys) h = ⊎_elim
-    (λ (k : (x ≡ y) × IsWithin xs ys). go (p x) (less-within p xs ys k.1) k.0)
-    (λ (k : IsWithin (x ∷ xs) ys). within-wider (filter p (x ∷ xs)) ys y (less-within p (x ∷ xs) ys k))
+    (λ (k : (x ≡ y) × IsSublist xs ys). go (p x) (less-within p xs ys k.1) k.0)
+    (λ (k : IsSublist (x ∷ xs) ys). within-wider (filter p (x ∷ xs)) ys y (less-within p (x ∷ xs) ys k))
     h
   where
-    go : (b : Bool) → IsWithin (filter p xs) ys → x ≡ y → IsWithin (cond b (x ∷ filter p xs) (filter p xs)) (y ∷ ys)
+    go : (b : Bool) → IsSublist (filter p xs) ys → x ≡ y → IsSublist (cond b (x ∷ filter p xs) (filter p xs)) (y ∷ ys)
     go true w e = inl (e, w)
     go false w e = within-wider (filter p xs) ys y w

@@ -10,7 +10,7 @@ use Rattle.lard_base.specs.declared.place.Place.{Place}
 use Rattle.lard_base.specs.declared.place.Place.TheVariants.{Client, Front, Node}
 use Rattle.lard_rules.specs.declared.machine.Machine.{Machine}
 use Rattle.lard_rules.specs.Bounds.{HasRule}
-use Rattle.lard_rules.specs.Machine.{clocked, machine_step, passed, told}
+use Rattle.lard_rules.specs.Machine.{clocked, machine_step, passed, machine_told}
 use Rattle.lard_law_connections.proofs.LineHolding.{IsRead}
 use Rattle.lard_law_connections.proofs.LineLaw.{IsLined}
 use Rattle.lard_law_connections.proofs.LineNotes.{Alone, Begins, Ends, Enters, Goes, IsLater, Noted, Reads, Shares, Was, Waits}
@@ -19,7 +19,7 @@ use Rattle.lard_law_connections.proofs.LineSteps.{IsNoEntry, IsQuiet, IsRising, 
 use Rattle.lard_law_connections.proofs.LineTelling.{stands-told}
 use Rattle.lard_law_connections.proofs.LineTurns.{IsEntry, IsNoted, Notes, was_at}
 use Rattle.lard_law_connections.specs.LineLaws.{AdmitsBehind, AdmitsHead, MayPass}
-use Rattle.lard_law_connections.specs.Line.{Line, leaves, left_at, left_by, line, line_step, nobody, without}
+use Rattle.lard_law_connections.specs.Line.{Line, leaves, line_left_at, line_left_by, waiting_line, line_step, nobody, all_but}
 use Rattle.lard_law_connections.proofs.PolicyCalm.{first_rows, last_rows, told-journal}
 use Rattle.lard_law_connections.proofs.PolicyHomes.{less-any}
 use Rattle.lard_law_view.specs.View.{IsViewed, Move, Part, Rules, conn, setting_of}
@@ -27,7 +27,7 @@ use Rattle.lard_law_view.proofs.AnyShape.{IsAct, each-act, one-act, two-act}
 use Rattle.lard_law_view.proofs.Saying.{NotedAt, notes-all}
 use Rattle.lard_law_view.proofs.Shapes.{NamesNobody, ReadsOn, Shapes, both_out, each_out, move_of, with_rest}
 use Rattle.lard_law_view.proofs.Stepping.{step-has}
-use Rattle.lard_law_connections.specs.PolicyLaws.{last_of}
+use Rattle.lard_law_connections.specs.PolicyLaws.{last_record}
 use Rattle.lard_rules.specs.Front.{over_note}
 use Rattle.lard_history.specs.Laws.{EachMay}
 use Rattle.lard_history.specs.Own.{Has, Row, Seen, own, seen_on}
@@ -68,12 +68,12 @@ pass-append End Last l before (x ∷ xs) ys h k = (h.0, pass-append End Last (li
 pub pass-on : (J rs : List Rec) → PassTo IsSettled nobody None J → Pass (fold line_step nobody J) rs → PassTo IsSettled nobody None (J ++ rs)
 pass-on J rs h k = pass-append IsSettled IsSettled nobody None J rs h k
 
-pub pass-may : (past rs : List Rec) → PassTo IsSettled (fold line_step nobody past) (last_of past) rs → EachMay MayPass past rs
+pub pass-may : (past rs : List Rec) → PassTo IsSettled (fold line_step nobody past) (last_record past) rs → EachMay MayPass past rs
 pass-may past [] h = tt
 pass-may past (r ∷ rs) h = (
   h.0,
   pass-may (past ++ r ∷ []) rs
-      (subst (λ (l : Line). PassTo IsSettled l (last_of (past ++ r ∷ [])) rs) (sym (fold-append line_step nobody past (r ∷ [])))
+      (subst (λ (l : Line). PassTo IsSettled l (last_record (past ++ r ∷ [])) rs) (sym (fold-append line_step nobody past (r ∷ [])))
       (subst (λ (o : Option Rec). PassTo IsSettled (line_step (fold line_step nobody past) r) o rs) (sym (fold-append (λ before r. Some r) None past (r ∷ []))) h.1)),
 )
 
@@ -145,11 +145,11 @@ still-then End l (r ∷ rs) last e k before settled = (
 
 -- all of it, or all but one
 abbrev IsLess : List ℕ → List ℕ → Type 0
-IsLess xs ys = (xs ≡ ys) ⊎ ((c : ℕ) × (xs ≡ without c ys))
+IsLess xs ys = (xs ≡ ys) ⊎ ((c : ℕ) × (xs ≡ all_but c ys))
 
-left-less : (to from : Place) (bytes : List ℕ) (l : Line) → IsLess (left_by to from bytes l.told l.waits) l.waits
+left-less : (to from : Place) (bytes : List ℕ) (l : Line) → IsLess (line_left_by to from bytes l.told l.waits) l.waits
 left-less Front (Client c) bytes l = go (leaves (l.told c) (decoded bytes c ToCluster)) where
-  go : (b : Bool) → IsLess (cond b (without c l.waits) l.waits) l.waits
+  go : (b : Bool) → IsLess (cond b (all_but c l.waits) l.waits) l.waits
   go true = inr (c, refl)
   go false = inl refl
 left-less Front Front bytes l = inl refl
@@ -157,7 +157,7 @@ left-less Front (Node n) bytes l = inl refl
 left-less (Node m) from bytes l = inl refl
 left-less (Client d) from bytes l = inl refl
 
-at-less : (o : Option Packet) (l : Line) → IsLess (left_at o l.told l.waits) l.waits
+at-less : (o : Option Packet) (l : Line) → IsLess (line_left_at o l.told l.waits) l.waits
 at-less None l = inl refl
 at-less (Some p) l = left-less p.to p.from p.bytes l
 
@@ -169,17 +169,17 @@ first-less l i (event.Inject c bytes) = inl refl
 first-less l i _ = inl refl
 
 none-less : (xs : List ℕ) → IsLess xs [] → xs ≡ []
-none-less xs h = ⊎_elim (λ (e : xs ≡ []). e) (λ (k : (c : ℕ) × (xs ≡ without c [])). k.1) h
+none-less xs h = ⊎_elim (λ (e : xs ≡ []). e) (λ (k : (c : ℕ) × (xs ≡ all_but c [])). k.1) h
 
 -- the first stays there, where it stays
 head-kept : (d : ℕ) (ds xs : List ℕ) → IsLess xs (d ∷ ds) → has d xs ≡ true → (es : List ℕ) × (xs ≡ d ∷ es)
 head-kept d ds xs h there = ⊎_elim
     (λ (e : xs ≡ d ∷ ds). (ds, e))
-    (λ (k : (c : ℕ) × (xs ≡ without c (d ∷ ds))). by_number ((es : List ℕ) × (xs ≡ d ∷ es)) k.0 d
+    (λ (k : (c : ℕ) × (xs ≡ all_but c (d ∷ ds))). by_number ((es : List ℕ) × (xs ≡ d ∷ es)) k.0 d
     (λ same.
-    let gone : has d (without k.0 (d ∷ ds)) ≡ false = less-any d k.0 (d ∷ ds) ∙ ap (λ (b : Bool). cond b false (has d (d ∷ ds))) (ap (λ (n : ℕ). nat_eq n d) same ∙ same_number d) in
+    let gone : has d (all_but k.0 (d ∷ ds)) ≡ false = less-any d k.0 (d ∷ ds) ∙ ap (λ (b : Bool). cond b false (has d (d ∷ ds))) (ap (λ (n : ℕ). nat_eq n d) same ∙ same_number d) in
     let no : true ≡ false = sym there ∙ ap (has d) k.1 ∙ gone in absurd cc)
-    (λ apart. (without k.0 ds, k.1 ∙ ap (λ (b : Bool). cond (not b) (d ∷ without k.0 ds) (without k.0 ds)) (other_number k.0 d apart))))
+    (λ apart. (all_but k.0 ds, k.1 ∙ ap (λ (b : Bool). cond (not b) (d ∷ all_but k.0 ds) (all_but k.0 ds)) (other_number k.0 d apart))))
     h
 
 -- ---- whom a release lets in
@@ -348,19 +348,19 @@ module _ (m : Machine) (view : IsViewed m) (lined : (q : ℕ) → IsLined (conn 
 
   -- the first of that line is admitted, by these records, and so it is where one is released
   abbrev LetsFirst : List Rec → Type 0
-  LetsFirst rs = Each (AdmitsHead (line m.journal)) rs × LetsIn (line m.journal) rs
+  LetsFirst rs = Each (AdmitsHead (waiting_line m.journal)) rs × LetsIn (waiting_line m.journal) rs
 
   -- Then the first is, at each moment.
   abbrev pub Adds : Machine → Type 0
   Adds n = (rs : List Rec) × (n.journal ≡ m.journal ++ rs) × (LetsFirst rs → Pass before rs)
 
   -- how a connection stands is told by the line
-  waits-told : (c : ℕ) → has c (line m.journal) ≡ (stand_at (conn m c)).waits
+  waits-told : (c : ℕ) → has c (waiting_line m.journal) ≡ (stand_at (conn m c)).waits
   unfolding conn
   waits-told c = (stands-told c m.journal).waits_is
 
   -- what a connection sees nothing of leaves it in the line
-  unseen-stays : (c i : ℕ) (e : Event) → seen_on c m.net (rec.Event i e ∷ behind e) ≡ [] → has c (behind_first i e).waits ≡ has c (line m.journal)
+  unseen-stays : (c i : ℕ) (e : Event) → seen_on c m.net (rec.Event i e ∷ behind e) ≡ [] → has c (behind_first i e).waits ≡ has c (waiting_line m.journal)
   unseen-stays c i e none =
       let rows : List Rec = rec.Event i e ∷ behind e in
       let seen : own c (m.journal ++ rows) ≡ own c m.journal = own-append c m.journal rows ∙ ap (λ (net : List Packet). own c m.journal ++ seen_on c net rows) view.told
@@ -383,7 +383,7 @@ module _ (m : Machine) (view : IsViewed m) (lined : (q : ℕ) → IsLined (conn 
       (rec.Event (w.events + 1) e ∷ own, ap (λ (J : List Rec). J ++ rec.Event (w.events + 1) e ∷ own) same, λ lets. quiet-pass before (rec.Event (w.events + 1) e ∷ own) (((λ i. refl), tt, tt, tt), quiet))
 
   told-adds : (w : Machine) (e : Event) (place : Place) (o : Out) → IsAct m w e place o
-      → (LetsFirst o.notes → Pass (behind_first (w.events + 1) e) o.notes) → Adds (told w e (behind e) place o)
+      → (LetsFirst o.notes → Pass (behind_first (w.events + 1) e) o.notes) → Adds (machine_told w e (behind e) place o)
   told-adds w e place o act notes =
       let first : List Rec = first_rows w e in
       let last : List Rec = last_rows w place o in
@@ -393,7 +393,7 @@ module _ (m : Machine) (view : IsViewed m) (lined : (q : ℕ) → IsLined (conn 
         told-journal w e place o ∙ ap (λ (J : List Rec). J ++ (first ++ o.notes ++ last)) act.put.journal,
         λ lets at settled. pass-append IsSettled IsSettled before at (first ++ o.notes) last
             (pass-append IsSettled IsSettled before at first o.notes (quiet-pass before first quiet at settled)
-            (notes (part-behind (AdmitsHead (line m.journal)) first o.notes (part-before (AdmitsHead (line m.journal)) (first ++ o.notes) last lets.0), between-lets (line m.journal) first o.notes last quiet still lets.1)))
+            (notes (part-behind (AdmitsHead (waiting_line m.journal)) first o.notes (part-before (AdmitsHead (waiting_line m.journal)) (first ++ o.notes) last lets.0), between-lets (waiting_line m.journal) first o.notes last quiet still lets.1)))
             (quiet-pass (fold line_step before (first ++ o.notes)) last still),
       )
 
@@ -404,10 +404,10 @@ module _ (m : Machine) (view : IsViewed m) (lined : (q : ℕ) → IsLined (conn 
   own-pass : (i : ℕ) (e : Event) (c : ℕ) (v : Move) → seen_on c m.net (rec.Event i e ∷ behind e) ≡ v.heads → IsNoted (conn m c) v → v.place ≡ Front → LetsFirst v.said.notes → Pass (behind_first i e) v.said.notes
   unfolding conn
   own-pass i e c v seen h at lets = ⊎_elim
-      (λ (k : Noted c (was_at (conn m c)) v.said.notes). noted-pass (line m.journal) (behind_first i e) (first-less before i e) c (was_at (conn m c)) (waits-told c) v.said.notes k lets.0 lets.1)
+      (λ (k : Noted c (was_at (conn m c)) v.said.notes). noted-pass (waiting_line m.journal) (behind_first i e) (first-less before i e) c (was_at (conn m c)) (waits-told c) v.said.notes k lets.0 lets.1)
       (λ (k : IsEntry (conn m c) v).
-      let in_ : has c (line m.journal) ≡ true = waits-told c ∙ k.waits in
-      alone-pass (line m.journal) (behind_first i e) (first-less before i e) c v.said.notes in_ (unseen-stays c i e (seen ∙ k.none) ∙ in_) lets.0 k.enters)
+      let in_ : has c (waiting_line m.journal) ≡ true = waits-told c ∙ k.waits in
+      alone-pass (waiting_line m.journal) (behind_first i e) (first-less before i e) c v.said.notes in_ (unseen-stays c i e (seen ∙ k.none) ∙ in_) lets.0 k.enters)
       (h.noted at)
 
   notes-pass : (i : ℕ) (e : Event) (place : Place) (c : ℕ) (heads : List Seen) (ns : List Rec) (o : Out) (p : Part) → seen_on c m.net (rec.Event i e ∷ behind e) ≡ heads → Each (NotedAt place c) o.notes
@@ -423,7 +423,7 @@ module _ (m : Machine) (view : IsViewed m) (lined : (q : ℕ) → IsLined (conn 
       → y.heads ≡ [] → xs ++ zs ≡ v.said.notes → Each (λ r. ReadsOn r × NotedAt Front c r) zs → LetsFirst (xs ++ y.said.notes ++ zs) → Pass (behind_first i e) (xs ++ y.said.notes ++ zs)
   unfolding conn
   pair-pass i e c d v y xs zs apart unseen h k at too none same on lets =
-      let L : List ℕ = line m.journal in
+      let L : List ℕ = waiting_line m.journal in
       let l : Line = behind_first i e in
       let ys : List Rec = y.said.notes in
       let entry : IsEntry (conn m d) y = k.alone too none in

@@ -16,8 +16,8 @@ use Rattle.lard_endpoint.specs.Arriving.{on_segment}
 use Rattle.lard_endpoint.specs.Control.{ControlBlock}
 use Rattle.lard_rules.specs.declared.front.FrontRest.{FrontRest}
 use Rattle.lard_rules.specs.declared.front.FrontTurn.{FrontTurn}
-use Rattle.lard_rules.specs.Front.{Deed, Drops, Says, Does, FrontEnv, FrontPart, admitted_at, admitted_by, admitted_with, asked_by, assigned_notes, assigns, begun, ended_by, fired_by, fires_at, front_admitted, front_asked, front_ended, front_gets, front_hears, front_taken, front_timer, hears_at, is_at, over_note, placed, rest_of, saying, settled_by, tag_sent, taken_by}
-use Rattle.lard_rules.specs.FrontReading.{Reading, reads}
+use Rattle.lard_rules.specs.Front.{FrontDeed, Drops, Says, Does, FrontEnv, FrontPart, admitted_at, admitted_by, front_admitted_with, asked_by, assigned_notes, assigns, front_begun, front_ended_by, front_fired_by, fires_at, front_admitted, front_asked, front_ended, front_gets, front_hears, front_taken, front_timer, hears_at, is_row_at, over_note, placed, front_rest, front_saying, settled_by, tag_sent, taken_by}
+use Rattle.lard_rules.specs.FrontReading.{Reading, front_reads}
 use Rattle.lard_handoff_front.specs.declared.row.FrontConn.{FrontConn}
 use Rattle.lard_handoff_front.specs.declared.row.FrontConn.TheVariants as stage
 use Rattle.lard_handoff_front.specs.declared.row.FrontRow.{FrontRow}
@@ -29,7 +29,7 @@ use Rattle.lard_journal.specs.declared.rec.Rec.{Rec}
 use Rattle.lard_journal.specs.declared.rec.Rec.TheVariants as rec
 use Rattle.lard_policy.specs.declared.first.FirstChoice.{FirstChoice}
 use Rattle.lard_rules.specs.Tombstone.{is_plain_syn, last_words, tombstone}
-use Rattle.lard_rules.specs.Serving.{Service, serving, settled}
+use Rattle.lard_rules.specs.Serving.{Service, serving, serving_settled}
 use Rattle.lard_segment.specs.declared.fault.SegFault.{SegFault}
 use Rattle.lard_segment.specs.Segment.{Said}
 
@@ -64,7 +64,7 @@ pub data Noted (c : ℕ) (s : Was) : List Rec → Type 0 where
   Shares : (over : Bool) (rs : List Rec) → Each IsLater rs → Noted c s (over_note c over ++ rs)
   Ends : (epoch : Epoch) → s.inside ≡ true → Noted c s (rec.Took place.Front c epoch ∷ rec.Released c ∷ [])
 
-abbrev pub DeedNotes : ℕ → Was → Deed → Type 0
+abbrev pub DeedNotes : ℕ → Was → FrontDeed → Type 0
 DeedNotes c s Drops = Unit {0}
 DeedNotes c s (Says t) = Noted c s t.notes
 DeedNotes c s (Does x) = Noted c s x.turn.notes
@@ -79,23 +79,23 @@ module _ (env : FrontEnv) (small : env.serve.stream ≤ 2 ^ 30) (number : env.is
   c = env.serve.c
 
   -- of one that is held, or not
-  abbrev NotesOf : Bool → Deed → Type 0
+  abbrev NotesOf : Bool → FrontDeed → Type 0
   NotesOf held d = DeedNotes c (was s held) d
 
   placed-noted : (row : FrontRow) (rest : FrontRest) (w : Service) (path : List ℕ) (f : First) → Each IsRead w.notes → s.waits ≡ false → NotesOf true (Does (placed env p row rest w path f))
   placed-noted row rest w path (first.Go choice) read out = Goes w.notes (w.count + 1) path choice.node choice.add choice.remove read out
   placed-noted row rest w path first.Waits read out = Waits w.notes read refl
 
-  settled-noted : (row : FrontRow) (rest : FrontRest) (w : Service) (target : Option (List ℕ)) → (settled env.serve w).1.notes ≡ w.notes → Each IsRead w.notes → s.waits ≡ false → NotesOf true (settled_by env p row rest w target)
+  settled-noted : (row : FrontRow) (rest : FrontRest) (w : Service) (target : Option (List ℕ)) → (serving_settled env.serve w).1.notes ≡ w.notes → Each IsRead w.notes → s.waits ≡ false → NotesOf true (settled_by env p row rest w target)
   settled-noted row rest w None same read out = subst (Noted c (was s true)) (sym same) (Reads w.notes read)
   settled-noted row rest w (Some path) same read out = placed-noted row rest w path (env.first path) read out
 
   hears-noted : (row : FrontRow) (bytes : List ℕ) (said : Said) (at : FrontConn) → StageStands s at → NotesOf (is_held at) (hears_at env p row bytes said at)
   hears-noted row bytes said (stage.Held b) h =
-      let w : Service = serving (on_segment b said).1 (rest_of p.rest).count [] in
-      let x : Reading = reads env.serve (record { service = w; target = None }) in
+      let w : Service = serving (on_segment b said).1 (front_rest p.rest).count [] in
+      let x : Reading = front_reads env.serve (record { service = w; target = None }) in
       let read : HasRead s.told env.serve small x = all-read s.told env.serve small w (record { ready = heard-ready env small number p s b said h.1; notes = tt }) in
-      settled-noted row (rest_of p.rest) x.service x.target (settled-ends env.serve s.told x.service read.0.ready).noted read.0.notes h.0.waits_is
+      settled-noted row (front_rest p.rest) x.service x.target (settled-ends env.serve s.told x.service read.0.ready).noted read.0.notes h.0.waits_is
   hears-noted row bytes said (stage.Waiting b) h = none-noted c (was s false)
   hears-noted row bytes said stage.Lent h = tt
   hears-noted row bytes said (stage.Offering node epoch) h = none-noted c (was s false)
@@ -109,7 +109,7 @@ module _ (env : FrontEnv) (small : env.serve.stream ≤ 2 ^ 30) (number : env.is
   gets-noted bytes (Err fault) h = tt
   gets-noted bytes (Ok said) h = by_row p.row h where
     by_row : (o : Option FrontRow) → RowStands s o → NotesOf (held_there o) (front_hears env p bytes said o)
-    by_row None k = cond_both (is_plain_syn said) (begun env p said) Drops (NotesOf false) (λ t. Begins k.inside_is) (λ t. tt)
+    by_row None k = cond_both (is_plain_syn said) (front_begun env p said) Drops (NotesOf false) (λ t. Begins k.inside_is) (λ t. tt)
     by_row (Some row) k = hears-noted row bytes said row.stage k
 
 -- ---- timers, and messages
@@ -124,7 +124,7 @@ timer-noted env p s = go p.row where
   at row (stage.Moved node epoch) = tt
   at row (stage.Closed last) = tt
 
-  go : (o : Option FrontRow) → DeedNotes env.serve.c s (fired_by env p o)
+  go : (o : Option FrontRow) → DeedNotes env.serve.c s (front_fired_by env p o)
   go None = tt
   go (Some row) = at row row.stage
 
@@ -141,23 +141,23 @@ assigned-later c ask r (path ∷ paths) [] = tt
 assigned-later c ask r (path ∷ paths) (choice ∷ choices) = (tt, assigned-later c ask (r + 1) paths choices)
 
 pub asked-noted : (env : FrontEnv) (p : FrontPart) (s : Was) (from epoch : ℕ) (ask : Ask) → DeedNotes env.serve.c s (front_asked env p from epoch ask)
-asked-noted env p s from epoch ask = cond_both (is_at from epoch p.row) (asked_by env p from epoch ask p.rest) Drops (DeedNotes env.serve.c s) (λ t. by p.rest) (λ t. tt) where
+asked-noted env p s from epoch ask = cond_both (is_row_at from epoch p.row) (asked_by env p from epoch ask p.rest) Drops (DeedNotes env.serve.c s) (λ t. by p.rest) (λ t. tt) where
   by : (o : Option FrontRest) → DeedNotes env.serve.c s (asked_by env p from epoch ask o)
   by None = tt
   by (Some rest) =
-      let again : Deed = Says (saying (tag_sent env from epoch rest.asks rest.tag)) in
+      let again : FrontDeed = Says (front_saying (tag_sent env from epoch rest.asks rest.tag)) in
       cond_both (ask.number == rest.asks + 1) (Does (assigns env p rest from epoch ask (env.later ask))) (cond (ask.number == rest.asks && nat_lt 0 rest.asks) again Drops) (DeedNotes env.serve.c s)
       (λ t. Shares (env.later ask).over (assigned_notes env.serve.c ask rest.assigned ask.paths (env.later ask).choices) (assigned-later env.serve.c ask rest.assigned ask.paths (env.later ask).choices))
       (λ t. cond_both (ask.number == rest.asks && nat_lt 0 rest.asks) again Drops (DeedNotes env.serve.c s) (λ u. none-noted env.serve.c s) (λ u. tt))
 
 pub ended-noted : (env : FrontEnv) (p : FrontPart) (s : Stand) (held : Bool) → RowStands s p.row → (from epoch : ℕ) (last : Final) → DeedNotes env.serve.c (was s held) (front_ended env p from epoch last)
 ended-noted env p s held h from epoch last = go p.row h where
-  by : (row : FrontRow) (a b : Bool) → is_away epoch row.stage ≡ a → RowStands s (Some row) → DeedNotes env.serve.c (was s held) (ended_by env p from epoch last (Some row) (cond a (New (next_epoch row)) (cond b Again Stale)))
+  by : (row : FrontRow) (a b : Bool) → is_away epoch row.stage ≡ a → RowStands s (Some row) → DeedNotes env.serve.c (was s held) (front_ended_by env p from epoch last (Some row) (cond a (New (next_epoch row)) (cond b Again Stale)))
   by row true b away k = Ends (next_epoch row) (away-counts env p s h epoch row.stage away k).inside_is
   by row false true away k = none-noted env.serve.c (was s held)
   by row false false away k = tt
 
-  go : (o : Option FrontRow) → RowStands s o → DeedNotes env.serve.c (was s held) (ended_by env p from epoch last o (end_answer epoch o))
+  go : (o : Option FrontRow) → RowStands s o → DeedNotes env.serve.c (was s held) (front_ended_by env p from epoch last o (end_answer epoch o))
   go None k = tt
   go (Some row) k = by row (is_away epoch row.stage) (ended_with epoch row.ended_by) refl k
 
@@ -173,12 +173,12 @@ AllEnter c (Some x) = Enters c x.1.notes
 
 pub admitted-enters : (env : FrontEnv) (p : FrontPart) (choice : FirstChoice) (given : FrontPart × FrontTurn) → front_admitted env p choice ≡ Some given → Enters env.serve.c given.1.notes
 admitted-enters env p choice given e = subst (AllEnter env.serve.c) e (go p.row) where
-  with_path : (row : FrontRow) (o : Option (List ℕ)) (b : ControlBlock) → AllEnter env.serve.c (admitted_with env row (rest_of p.rest) b choice o)
+  with_path : (row : FrontRow) (o : Option (List ℕ)) (b : ControlBlock) → AllEnter env.serve.c (front_admitted_with env row (front_rest p.rest) b choice o)
   with_path row None b = tt
-  with_path row (Some path) b = Alone ((rest_of p.rest).count + 1) path choice.node choice.add choice.remove
+  with_path row (Some path) b = Alone ((front_rest p.rest).count + 1) path choice.node choice.add choice.remove
 
   at : (row : FrontRow) (conn : FrontConn) → AllEnter env.serve.c (admitted_at env p choice row conn)
-  at row (stage.Waiting b) = with_path row (rest_of p.rest).target b
+  at row (stage.Waiting b) = with_path row (front_rest p.rest).target b
   at row (stage.Held b) = tt
   at row stage.Lent = tt
   at row (stage.Offering n epoch) = tt

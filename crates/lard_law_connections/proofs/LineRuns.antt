@@ -21,7 +21,7 @@ use Rattle.lard_law_connections.proofs.LineTelling.{stands-told}
 use Rattle.lard_law_connections.proofs.LineSteps.{IsInOrder, step-adds}
 use Rattle.lard_law_connections.proofs.LineTurns.{Notes, noting}
 use Rattle.lard_law_connections.specs.LineLaws.{AdmitsHead, LineIsKept, LineIsOfThoseWhoWait, LineNeedsAFullRoom, LinePasses, MayWait, MustRelease, TakesRelease, WaitsAtAFullRoom, WaitsAtTheFrontEnd, waits_there}
-use Rattle.lard_law_connections.specs.Line.{Line, leaves, left_at, left_by, line, line_step, nobody, without}
+use Rattle.lard_law_connections.specs.Line.{Line, leaves, line_left_at, line_left_by, waiting_line, line_step, nobody, all_but}
 use Rattle.lard_law_connections.specs.Places.{Owning}
 use Rattle.lard_law_connections.proofs.PlacesRuns.{each-placed}
 use Rattle.lard_law_connections.proofs.PlacesTurns.{IsPlaced}
@@ -30,19 +30,19 @@ use Rattle.lard_law_connections.proofs.PolicyHomes.{stands-so}
 use Rattle.lard_law_connections.proofs.PolicyIns.{count}
 use Rattle.lard_law_connections.proofs.PolicyWaiting.{who, within-more}
 use Rattle.lard_law_connections.specs.PolicyLaws.{AdmitsFirst, PassesOn}
-use Rattle.lard_counts.specs.Ledger.{is_in, ledger}
-use Rattle.lard_law_connections.specs.PolicyLine.{IsWithin, waiting, waiting_step}
+use Rattle.lard_counts.specs.Ledger.{is_in_ledger, ledger}
+use Rattle.lard_law_connections.specs.PolicyLine.{IsSublist, waiting, waiting_step}
 use Rattle.lard_law_view.specs.Carry.{setting}
 use Rattle.lard_law_view.specs.View.{Rules, Setting, conn, part_of}
 use Rattle.lard_law_view.proofs.After.{IsAfter, step-after}
 use Rattle.lard_law_view.proofs.Carried.{IsOn, carried, carried-keep, on-setting}
 use Rattle.lard_law_view.proofs.InSteps.{carried-ends, carried-records}
 use Rattle.lard_dispatch.specs.declared.line.Waiting.{Waiting}
-use Rattle.lard_dispatch.specs.Line.{waits}
+use Rattle.lard_dispatch.specs.Line.{line_waits}
 use Rattle.lard_rules.specs.declared.front.FrontRest.{FrontRest}
 use Rattle.lard_rules.specs.FrontPlace.{front_part}
 use Rattle.lard_rules.specs.Front.{FrontPart}
-use Rattle.lard_rules.specs.FrontSound.{IsRowSound, IsStageSound, Standing, standing}
+use Rattle.lard_rules.specs.FrontSound.{IsRowSound, IsStageSound, DispatchStanding, dispatch_standing}
 use Rattle.lard_handoff_front.specs.declared.row.FrontConn.{FrontConn}
 use Rattle.lard_handoff_front.specs.declared.row.FrontConn.TheVariants as stage
 use Rattle.lard_handoff_front.specs.declared.row.FrontRow.{FrontRow}
@@ -64,9 +64,9 @@ use Rattle.lard_segment.specs.Segment.{decoded}
 
 -- ---- the line is within those who were to wait
 
-left-within : (to from : Place) (bytes : List ℕ) (l : Line) (ws : List ℕ) → IsWithin l.waits ws → IsWithin (left_by to from bytes l.told l.waits) ws
+left-within : (to from : Place) (bytes : List ℕ) (l : Line) (ws : List ℕ) → IsSublist l.waits ws → IsSublist (line_left_by to from bytes l.told l.waits) ws
 left-within Front (Client c) bytes l ws h = go (leaves (l.told c) (decoded bytes c ToCluster)) where
-  go : (b : Bool) → IsWithin (cond b (without c l.waits) l.waits) ws
+  go : (b : Bool) → IsSublist (cond b (all_but c l.waits) l.waits) ws
   go true = less-within _ l.waits ws h
   go false = h
 left-within Front Front bytes l ws h = h
@@ -74,11 +74,11 @@ left-within Front (Node n) bytes l ws h = h
 left-within (Node m) from bytes l ws h = h
 left-within (Client d) from bytes l ws h = h
 
-at-within : (o : Option Packet) (l : Line) (ws : List ℕ) → IsWithin l.waits ws → IsWithin (left_at o l.told l.waits) ws
+at-within : (o : Option Packet) (l : Line) (ws : List ℕ) → IsSublist l.waits ws → IsSublist (line_left_at o l.told l.waits) ws
 at-within None l ws h = h
 at-within (Some p) l ws h = left-within p.to p.from p.bytes l ws h
 
-one-within : (l : Line) (ws : List ℕ) (r : Rec) → IsWithin l.waits ws → IsWithin (line_step l r).waits (waiting_step ws r)
+one-within : (l : Line) (ws : List ℕ) (r : Rec) → IsSublist l.waits ws → IsSublist (line_step l r).waits (waiting_step ws r)
 one-within l ws (rec.Waits c) h = within-more c l.waits ws h
 one-within l ws (rec.Admitted c) h = both-within _ l.waits ws h
 one-within l ws (rec.Got k) h = at-within (packet_at l.net k) l ws h
@@ -86,7 +86,7 @@ one-within l ws (rec.Sent k from to bytes) h = h
 one-within l ws (rec.Lost k) h = h
 one-within l ws _ h = h
 
-all-within : (l : Line) (ws : List ℕ) (rs : List Rec) → IsWithin l.waits ws → IsWithin (fold line_step l rs).waits (fold waiting_step ws rs)
+all-within : (l : Line) (ws : List ℕ) (rs : List Rec) → IsSublist l.waits ws → IsSublist (fold line_step l rs).waits (fold waiting_step ws rs)
 all-within l ws [] h = h
 all-within l ws (r ∷ rs) h = all-within (line_step l r) (waiting_step ws r) rs (one-within l ws r h)
 
@@ -95,18 +95,18 @@ all-within l ws (r ∷ rs) h = all-within (line_step l r) (waiting_step ws r) rs
 equal-turned : (a b : ℕ) → nat_eq a b ≡ nat_eq b a
 equal-turned a b = by_number (nat_eq a b ≡ nat_eq b a) a b (λ e. ap (λ (n : ℕ). nat_eq n b) e ∙ same_number b ∙ sym (ap (nat_eq b) e ∙ same_number b)) (λ n. other_number a b n ∙ sym (other_number b a (λ e. n (sym e))))
 
-waits-has : (c : ℕ) (ws : List Waiting) → list_any (nat_eq c) (who ws) ≡ waits ws c
+waits-has : (c : ℕ) (ws : List Waiting) → list_any (nat_eq c) (who ws) ≡ line_waits ws c
 waits-has c [] = refl
 waits-has c (w ∷ ws) = λ i. equal-turned c w.c i || waits-has c ws i
 
-stage-waits : (e : ℕ) (rest : Option FrontRest) (kept : List Kept) (at : Standing) (s : Stand) (conn : FrontConn) → IsStageSound e rest kept at conn → StageStands s conn → (at.waits ≡ s.waits) × (s.times ≤ 1)
-stage-waits e rest kept at s (stage.Held b) h k = let few = k.0.times in (ap (λ (x : Standing). x.waits) h.2 ∙ sym k.0.waits_is, omega (arith, few))
-stage-waits e rest kept at s (stage.Waiting b) h k = (ap (λ (x : Standing). x.waits) h.2 ∙ sym k.0.waits_is, k.0.times)
+stage-waits : (e : ℕ) (rest : Option FrontRest) (kept : List Kept) (at : DispatchStanding) (s : Stand) (conn : FrontConn) → IsStageSound e rest kept at conn → StageStands s conn → (at.waits ≡ s.waits) × (s.times ≤ 1)
+stage-waits e rest kept at s (stage.Held b) h k = let few = k.0.times in (ap (λ (x : DispatchStanding). x.waits) h.2 ∙ sym k.0.waits_is, omega (arith, few))
+stage-waits e rest kept at s (stage.Waiting b) h k = (ap (λ (x : DispatchStanding). x.waits) h.2 ∙ sym k.0.waits_is, k.0.times)
 stage-waits e rest kept at s stage.Lent h k = absurd h
-stage-waits e rest kept at s _ h k = (ap (λ (x : Standing). x.waits) h ∙ sym k.waits_is, k.times)
+stage-waits e rest kept at s _ h k = (ap (λ (x : DispatchStanding). x.waits) h ∙ sym k.waits_is, k.times)
 
-row-waits : (rest : Option FrontRest) (kept : List Kept) (at : Standing) (s : Stand) (o : Option FrontRow) → IsRowSound rest kept at o → RowStands s o → (at.waits ≡ s.waits) × (s.times ≤ 1)
-row-waits rest kept at s None h k = let few = k.times in (ap (λ (x : Standing). x.waits) h.1 ∙ sym k.waits_is, omega (arith, few))
+row-waits : (rest : Option FrontRest) (kept : List Kept) (at : DispatchStanding) (s : Stand) (o : Option FrontRow) → IsRowSound rest kept at o → RowStands s o → (at.waits ≡ s.waits) × (s.times ≤ 1)
+row-waits rest kept at s None h k = let few = k.times in (ap (λ (x : DispatchStanding). x.waits) h.1 ∙ sym k.waits_is, omega (arith, few))
 row-waits rest kept at s (Some row) h k = stage-waits row.epoch.0 rest kept at s row.stage h k
 
 module _ (config : Config) (files : List (List ℕ × List ℕ)) (checked : config_check config ≡ Ok tt) where
@@ -118,23 +118,23 @@ module _ (config : Config) (files : List (List ℕ × List ℕ)) (checked : conf
   unfolding conn part_of
   stood m r q = (each-lined m r q).stands
 
-  pub line-kept : (m : Machine) → IsReached config files m → map (λ (w : Waiting). w.c) m.front.dispatch.books.line ≡ line m.journal
-  line-kept m r = within-same (waiting m.journal) (who Kept) (line m.journal) once counted.line (all-within nobody [] m.journal tt) same where
+  pub line-kept : (m : Machine) → IsReached config files m → map (λ (w : Waiting). w.c) m.front.dispatch.books.line ≡ waiting_line m.journal
+  line-kept m r = within-same (waiting m.journal) (who Kept) (waiting_line m.journal) once counted.line (all-within nobody [] m.journal tt) same where
     Kept : List Waiting
     Kept = m.front.dispatch.books.line
 
     counted : IsCounted config m
     counted = reached-counted config files checked m r
 
-    so : (q : ℕ) → (waits Kept q ≡ (fold (stand_step q) unknown (own q m.journal)).waits) × ((fold (stand_step q) unknown (own q m.journal)).times ≤ 1)
+    so : (q : ℕ) → (line_waits Kept q ≡ (fold (stand_step q) unknown (own q m.journal)).waits) × ((fold (stand_step q) unknown (own q m.journal)).times ≤ 1)
     so q =
         let p : FrontPart = front_part m.front q in
-        row-waits p.rest p.kept (standing m.front.dispatch q) (fold (stand_step q) unknown (own q m.journal)) p.row (counted.sound.each q) (stood m r q)
+        row-waits p.rest p.kept (dispatch_standing m.front.dispatch q) (fold (stand_step q) unknown (own q m.journal)) p.row (counted.sound.each q) (stood m r q)
 
     once : (q : ℕ) → count q (waiting m.journal) ≤ 1
     once q = subst (λ (n : ℕ). n ≤ 1) (sym (stands-told q m.journal).times) (so q).1
 
-    same : (q : ℕ) → list_any (nat_eq q) (who Kept) ≡ list_any (nat_eq q) (line m.journal)
+    same : (q : ℕ) → list_any (nat_eq q) (who Kept) ≡ list_any (nat_eq q) (waiting_line m.journal)
     same q = waits-has q Kept ∙ (so q).0 ∙ sym (stands-told q m.journal).waits_is
 
 pub line-is-kept : LineIsKept
@@ -190,7 +190,7 @@ waits-at-the-front-end config files m checked r = joins-free config files checke
 
 pub line-needs-a-full-room : (config : Config) (files : List (List ℕ × List ℕ)) (m : Machine) → config_check config ≡ Ok tt → IsReached config files m → LineNeedsAFullRoom config m.journal
 line-needs-a-full-room config files m checked r some =
-    let same : length m.front.dispatch.books.line ≡ length (line m.journal) = sym (length-map m.front.dispatch.books.line (λ (w : Waiting). w.c)) ∙ ap (λ (cs : List ℕ). length cs) (line-kept config files checked m r) in
+    let same : length m.front.dispatch.books.line ≡ length (waiting_line m.journal) = sym (length-map m.front.dispatch.books.line (λ (w : Waiting). w.c)) ∙ ap (λ (cs : List ℕ). length cs) (line-kept config files checked m r) in
     (books-are-told config files m checked r).3 (subst (λ (n : ℕ). 0 < n) (sym same) some)
 
 pub waits-at-a-full-room : WaitsAtAFullRoom
@@ -199,13 +199,13 @@ waits-at-a-full-room config files m checked r = carried-ends config files (LineN
 -- ---- the records of a step
 
 module _ (config : Config) (files : List (List ℕ × List ℕ)) (checked : config_check config ≡ Ok tt) where
-  inside-is : (m : Machine) → IsReached config files m → (q : ℕ) → is_in (ledger config m.journal) q ≡ (stand_at (conn m q)).inside
+  inside-is : (m : Machine) → IsReached config files m → (q : ℕ) → is_in_ledger (ledger config m.journal) q ≡ (stand_at (conn m q)).inside
   unfolding conn
   inside-is m r q = (stands-so config m.journal q).0 ∙ (stands-told q m.journal).inside
 
   -- what each step adds is in order
-  pub step-ordered-so : (m n : Machine) (e : Event) → IsOn config files m → HasRule e → machine_step m e ≡ Ok n → (rs : List Rec) × (n.journal ≡ m.journal ++ rs) × IsInOrder (is_in (ledger config m.journal)) rs
-  step-ordered-so m n e on rule is = step-adds m (each-lined config files checked m on.reached) (is_in (ledger config m.journal)) (inside-is m on.reached) on.view
+  pub step-ordered-so : (m n : Machine) (e : Event) → IsOn config files m → HasRule e → machine_step m e ≡ Ok n → (rs : List Rec) × (n.journal ≡ m.journal ++ rs) × IsInOrder (is_in_ledger (ledger config m.journal)) rs
+  step-ordered-so m n e on rule is = step-adds m (each-lined config files checked m on.reached) (is_in_ledger (ledger config m.journal)) (inside-is m on.reached) on.view
       (subst (λ (s : Setting). Rules s Notes) (on-setting config files m on) (noting (setting config files) (usable config checked).stream)) n e rule is
 
 -- ---- it passes in its order

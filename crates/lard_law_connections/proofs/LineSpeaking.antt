@@ -11,7 +11,7 @@ use Rattle.lard_endpoint.specs.Control.{ControlBlock, IsControlBlock, rcv_nxt, r
 use Rattle.lard_endpoint.specs.Leaving.{told, own_mss, piece_ready, ack_ready, owes, owed_ready, after_owed, ready_of, after_piece, advanced, retried, emitted, after_emit, timed, after_timer, filled, emits_left}
 use Rattle.lard_endpoint.proofs.Ends.{emit-falls}
 use Rattle.lard_endpoint.proofs.Sound.{after_emit-sound, after_timer-sound}
-use Rattle.lard_recv.specs.Recv.{awaited, room}
+use Rattle.lard_recv.specs.Recv.{awaited, receive_room}
 use Rattle.lard_rules.specs.Serving as serving
 use Rattle.lard_rules.specs.Serving.{ServeEnv}
 use Rattle.lard_rules.specs.Speaking.{emits, speaks, to_client}
@@ -73,16 +73,16 @@ piece-tells b c p e iss small =
         no_ack = λ f. absurd (cc);
       };
       ack = ap awaited e;
-      window = ap room e;
-      last = ap room e;
+      window = ap receive_room e;
+      last = ap receive_room e;
     }
 
 ack-tells : (b c : ControlBlock) → c.recv ≡ b.recv → Tells b (ack_ready c) (told c)
 ack-tells b c e = record {
   sendable = record { seq_fits = omega arith; ack_fits = omega arith; wnd_fits = omega arith; some_mss = tt; small_mss = tt; small_payload = omega arith; no_ack = λ f. absurd (cc) };
   ack = ap awaited e;
-  window = ap room e;
-  last = ap room e;
+  window = ap receive_room e;
+  last = ap receive_room e;
 }
 
 abbrev AllTell : ControlBlock → Option Ready → ControlBlock → Type 0
@@ -166,7 +166,7 @@ tells-told c b d r e t = record {
   is = ap said_of (again c ToClient (filled d r) t.sendable);
   ack = t.ack ∙ sym (ap awaited e);
   window = t.window ∙ sym t.last;
-  shut = λ z. t.last ∙ sym (ap room e) ∙ z;
+  shut = λ z. t.last ∙ sym (ap receive_room e) ∙ z;
 }
 
 -- it stays so while what came and the window that was told do
@@ -176,7 +176,7 @@ told-on o b d e l k = record {
   is = k.is;
   ack = k.ack ∙ sym (ap awaited e);
   window = k.window ∙ sym l;
-  shut = λ z. l ∙ k.shut (sym (ap room e) ∙ z);
+  shut = λ z. l ∙ k.shut (sym (ap receive_room e) ∙ z);
 }
 
 timer-window : (b : ControlBlock) → timed b ≡ None → (after_timer b).last_window ≡ b.last_window
@@ -228,7 +228,7 @@ module _ (c : ℕ) where
 -- what the timer sends, and then the rest
 module _ (env : ServeEnv) where
   abbrev timer_given : ControlBlock → Option Ready → List (Place × List ℕ) × ControlBlock
-  timer_given b o = (serving.ready_of env (after_timer b) o ++ (speaks env.c (after_timer b)).0, (speaks env.c (after_timer b)).1)
+  timer_given b o = (serving.serving_ready_of env (after_timer b) o ++ (speaks env.c (after_timer b)).0, (speaks env.c (after_timer b)).1)
 
   pub timer-spoken : (o : Option Said) (b : ControlBlock) → IsSound b → IsTold o b → HasSpoken env.c o b (timer_given b (timed b))
   timer-spoken o b h k = go (timed b) refl (timed-tells b h) where

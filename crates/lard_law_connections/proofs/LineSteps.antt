@@ -8,13 +8,13 @@ use Rattle.lard_base.specs.declared.place.Place.{Place}
 use Rattle.lard_base.specs.declared.place.Place.TheVariants.{Client, Front, Node}
 use Rattle.lard_rules.specs.declared.machine.Machine.{Machine}
 use Rattle.lard_rules.specs.Bounds.{HasRule}
-use Rattle.lard_rules.specs.Machine.{clocked, machine_step, passed, segments_sent, told}
+use Rattle.lard_rules.specs.Machine.{clocked, machine_step, passed, segments_sent, machine_told}
 use Rattle.lard_law_connections.proofs.LineHolding.{IsRead}
 use Rattle.lard_law_connections.proofs.LineLaw.{IsLined}
 use Rattle.lard_law_connections.proofs.LineNotes.{Begins, Ends, Enters, Alone, Goes, IsLater, Noted, Reads, Shares, Was, Waits}
 use Rattle.lard_law_connections.proofs.LineStands.{stand_at}
 use Rattle.lard_law_connections.proofs.LineTurns.{IsEntry, IsNoted, Notes, was_at}
-use Rattle.lard_law_connections.specs.LineLaws.{AreReleased, Due, Nothing, Release, due_behind}
+use Rattle.lard_law_connections.specs.LineLaws.{AreReleased, LineDue, Nothing, Release, due_behind}
 use Rattle.lard_law_connections.proofs.PolicyCalm.{first_rows, last_rows, told-journal}
 use Rattle.lard_law_view.specs.View.{IsViewed, Move, Part, Rules, conn, setting_of}
 use Rattle.lard_law_view.proofs.AnyShape.{IsAct, SomeGift, SomeTimer, each-act, one-act, two-act}
@@ -123,7 +123,7 @@ on-quiet _ h = absurd h
 -- ---- lists of records
 
 module _ (inside : ℕ → Bool) where
-  released-append : (o : Due) (xs ys : List Rec) → AreReleased inside o xs → AreReleased inside Nothing ys → AreReleased inside o (xs ++ ys)
+  released-append : (o : LineDue) (xs ys : List Rec) → AreReleased inside o xs → AreReleased inside Nothing ys → AreReleased inside o (xs ++ ys)
   released-append Nothing [] ys h k = k
   released-append (Release c) [] ys h k = absurd h
   released-append Nothing (x ∷ xs) ys h k = released-append (due_behind inside x) xs ys h k
@@ -132,7 +132,7 @@ module _ (inside : ℕ → Bool) where
   -- where nothing is due
   none-due : (rs : List Rec) → Each (λ r. due_behind inside r ≡ Nothing) rs → AreReleased inside Nothing rs
   none-due [] e = tt
-  none-due (r ∷ rs) e = subst (λ (o : Due). AreReleased inside o rs) (sym e.0) (none-due rs e.1)
+  none-due (r ∷ rs) e = subst (λ (o : LineDue). AreReleased inside o rs) (sym e.0) (none-due rs e.1)
 
   quiet-released : (rs : List Rec) → Each IsQuiet rs → AreReleased inside Nothing rs
   quiet-released rs e = none-due rs (Each-weaker IsQuiet (λ r. due_behind inside r ≡ Nothing) (λ r q. q.0 inside) rs e)
@@ -263,7 +263,7 @@ module _ (inside : ℕ → Bool) where
 
   -- ---- what stands before records that release nobody
 
-  front-released : (o : Due) (xs zs : List Rec) → AreReleased inside o (xs ++ zs) → Each IsRising zs → AreReleased inside o xs
+  front-released : (o : LineDue) (xs zs : List Rec) → AreReleased inside o (xs ++ zs) → Each IsRising zs → AreReleased inside o xs
   front-released Nothing [] zs h e = tt
   front-released (Release c) [] [] h e = absurd h
   front-released (Release c) [] (z ∷ zs) h e = absurd (subst IsRising h.0 e.0)
@@ -335,7 +335,7 @@ module _ (m : Machine) (lined : (q : ℕ) → IsLined (conn m q)) (inside : ℕ 
   passed-adds w e own same quiet =
       (rec.Event (w.events + 1) e ∷ own, ap (λ (J : List Rec). J ++ rec.Event (w.events + 1) e ∷ own) same, quiet-order inside (rec.Event (w.events + 1) e ∷ own) (((λ i. refl), tt, tt, tt), quiet))
 
-  told-adds : (w : Machine) (e : Event) (place : Place) (o : Out) → IsAct m w e place o → IsInOrder inside o.notes → Adds (told w e (behind e) place o)
+  told-adds : (w : Machine) (e : Event) (place : Place) (o : Out) → IsAct m w e place o → IsInOrder inside o.notes → Adds (machine_told w e (behind e) place o)
   told-adds w e place o act notes = (
     first_rows w e ++ o.notes ++ last_rows w place o,
     told-journal w e place o ∙ ap (λ (J : List Rec). J ++ (first_rows w e ++ o.notes ++ last_rows w place o)) act.put.journal,

@@ -5,12 +5,12 @@ use Rattle.std.specs.List.{fold, list_any}
 use Rattle.lard_base.specs.declared.place.Place.{Place}
 use Rattle.lard_base.specs.declared.place.Place.TheVariants.{Front, Node, Client}
 use Rattle.lard_law_connections.proofs.LineStands.{Stand, stand_step, unknown}
-use Rattle.lard_law_connections.specs.Line.{Line, leaves, left_at, left_by, line, line_step, nobody, said_of, told_by, without}
+use Rattle.lard_law_connections.specs.Line.{Line, leaves, line_left_at, line_left_by, waiting_line, line_step, nobody, said_of, told_by, all_but}
 use Rattle.lard_law_connections.proofs.PolicyHomes.{any-more, less-any}
 use Rattle.lard_law_connections.proofs.PolicyIns.{count, count-append, none-left, others-left}
 use Rattle.lard_law_connections.specs.PolicyLine.{waiting, waiting_step}
 use Rattle.lard_history.specs.Journal.{in_step, is_in}
-use Rattle.lard_history.specs.Own.{Seen, Row, Came, came, conn_of, net_step, one_of, own, plain, seen_of, seen_on, whose}
+use Rattle.lard_history.specs.Own.{Seen, Row, Came, came_seen, conn_of, net_step, one_of, own, plain, seen_of, seen_on, whose}
 use Rattle.lard_history.proofs.Seeing.{by_number, other_number, same_number}
 use Rattle.lard_journal.specs.declared.rec.Rec.{Rec}
 use Rattle.lard_journal.specs.declared.rec.Rec.TheVariants as rec
@@ -65,8 +65,8 @@ module _ (c : ℕ) where
           inside = h.inside;
         })
 
-    admitted-agrees : (d : ℕ) → Agrees told (without d waits) (waiting_step ws (rec.Admitted d)) (in_step c i (rec.Admitted d)) (fold (stand_step c) s (one_of c (Some d) (Row (rec.Admitted d))))
-    admitted-agrees d = by_conn s d (λ n. Row (rec.Admitted n)) (λ n t. Agrees told (without n waits) (waiting_step ws (rec.Admitted n)) (in_step c i (rec.Admitted n)) t)
+    admitted-agrees : (d : ℕ) → Agrees told (all_but d waits) (waiting_step ws (rec.Admitted d)) (in_step c i (rec.Admitted d)) (fold (stand_step c) s (one_of c (Some d) (Row (rec.Admitted d))))
+    admitted-agrees d = by_conn s d (λ n. Row (rec.Admitted n)) (λ n t. Agrees told (all_but n waits) (waiting_step ws (rec.Admitted n)) (in_step c i (rec.Admitted n)) t)
         (record {
           told_is = h.told_is;
           waits_is = less-any c c waits ∙ ap (λ (b : Bool). cond b false (list_any (nat_eq c) waits)) (same_number c);
@@ -100,8 +100,8 @@ module _ (c : ℕ) where
 
     -- ---- what comes
 
-    left-agrees : (from to : Place) (bytes : List ℕ) → Agrees told (left_by to from bytes told waits) ws i (fold (stand_step c) s (one_of c (conn_of from to bytes) (Came (record { from = from; to = to; bytes = bytes }))))
-    left-agrees (Client d) Front bytes = by_conn s d (λ n. Came (record { from = Client n; to = Front; bytes = bytes })) (λ n t. Agrees told (left_by Front (Client n) bytes told waits) ws i t)
+    left-agrees : (from to : Place) (bytes : List ℕ) → Agrees told (line_left_by to from bytes told waits) ws i (fold (stand_step c) s (one_of c (conn_of from to bytes) (Came (record { from = from; to = to; bytes = bytes }))))
+    left-agrees (Client d) Front bytes = by_conn s d (λ n. Came (record { from = Client n; to = Front; bytes = bytes })) (λ n t. Agrees told (line_left_by Front (Client n) bytes told waits) ws i t)
         (record {
           told_is = h.told_is;
           waits_is = mine (leaves (told c) (decoded bytes c ToCluster)) ∙ ap (λ (o : Option Said). cond (leaves o (decoded bytes c ToCluster)) false s.waits) h.told_is;
@@ -110,11 +110,11 @@ module _ (c : ℕ) where
         })
         (λ n. record { told_is = h.told_is; waits_is = others n (leaves (told d) (decoded bytes d ToCluster)); times = h.times; inside = h.inside })
       where
-        mine : (b : Bool) → list_any (nat_eq c) (cond b (without c waits) waits) ≡ cond b false s.waits
+        mine : (b : Bool) → list_any (nat_eq c) (cond b (all_but c waits) waits) ≡ cond b false s.waits
         mine true = less-any c c waits ∙ ap (λ (t : Bool). cond t false (list_any (nat_eq c) waits)) (same_number c)
         mine false = h.waits_is
 
-        others : d ≢ c → (b : Bool) → list_any (nat_eq c) (cond b (without d waits) waits) ≡ s.waits
+        others : d ≢ c → (b : Bool) → list_any (nat_eq c) (cond b (all_but d waits) waits) ≡ s.waits
         others n true = less-any c d waits ∙ ap (λ (t : Bool). cond t false (list_any (nat_eq c) waits)) (other_number d c n) ∙ h.waits_is
         others n false = h.waits_is
     left-agrees Front Front bytes = subst (Agrees told waits ws i) (sym (unmoved s (conn_of Front Front bytes) (Came (record { from = Front; to = Front; bytes = bytes })) refl)) h
@@ -122,7 +122,7 @@ module _ (c : ℕ) where
     left-agrees from (Client d) bytes = subst (Agrees told waits ws i) (sym (unmoved s (conn_of from (Client d) bytes) (Came (record { from = from; to = Client d; bytes = bytes })) refl)) h
     left-agrees from (Node n) bytes = subst (Agrees told waits ws i) (sym (unmoved s (conn_of from (Node n) bytes) (Came (record { from = from; to = Node n; bytes = bytes })) refl)) h
 
-    got-agrees : (o : Option Packet) → Agrees told (left_at o told waits) ws i (fold (stand_step c) s (came c o))
+    got-agrees : (o : Option Packet) → Agrees told (line_left_at o told waits) ws i (fold (stand_step c) s (came_seen c o))
     got-agrees None = h
     got-agrees (Some p) = left-agrees p.from p.to p.bytes
 
@@ -156,6 +156,6 @@ module _ (c : ℕ) where
       ap (λ (net : List Packet). fold (stand_step c) (fold (stand_step c) s (seen_of c l.net r)) (seen_on c net rs)) (line-net l r) ∙ sym (fold-append (stand_step c) s (seen_of c l.net r) (seen_on c (net_step l.net r) rs)) in
       subst (Told (fold line_step (line_step l r) rs) (fold waiting_step (waiting_step ws r) rs) (fold (in_step c) (in_step c i r) rs)) same later
 
-  pub stands-told : (J : List Rec) → Agrees (fold line_step nobody J).told (line J) (waiting J) (is_in J c) (fold (stand_step c) unknown (own c J))
+  pub stands-told : (J : List Rec) → Agrees (fold line_step nobody J).told (waiting_line J) (waiting J) (is_in J c) (fold (stand_step c) unknown (own c J))
   unfolding own
   stands-told J = all-agree nobody [] false unknown J (record { told_is = refl; waits_is = refl; times = refl; inside = refl })

@@ -54,18 +54,18 @@ elsewhere (Client d) there at = let no : Client d ≡ Front = at in absurd cc
 aside : (x : Conn) (v : Move) → IsElsewhere v.place → Each IsBare v.heads → Notes x v
 aside x v there bare h = record { bare = bare; noted = λ at. absurd (elsewhere v.place there at); alone = λ at none. absurd (elsewhere v.place there at) }
 
-by-node : (x : Conn) (n : ℕ) (heads : List Seen) (d : node.Deed) → Each IsBare heads → Notes x (node_does x n heads d)
+by-node : (x : Conn) (n : ℕ) (heads : List Seen) (d : node.NodeDeed) → Each IsBare heads → Notes x (node_does x n heads d)
 by-node x n heads d bare =
     let there : IsThere x heads (node_does x n heads d) = node-there x n heads d in
     aside x (node_does x n heads d) there.place (subst (Each IsBare) (sym there.heads_are) bare)
 
 -- something is seen before what the front end does
-by-front : (x : Conn) (env : FrontEnv) (first : Seen) (rest : List Seen) (d : front.Deed) → env.serve.c ≡ x.c → Each IsBare (first ∷ rest) → (IsLined x → DeedNotes env.serve.c (was_at x) d) → Notes x (front_does x (first ∷ rest) d)
+by-front : (x : Conn) (env : FrontEnv) (first : Seen) (rest : List Seen) (d : front.FrontDeed) → env.serve.c ≡ x.c → Each IsBare (first ∷ rest) → (IsLined x → DeedNotes env.serve.c (was_at x) d) → Notes x (front_does x (first ∷ rest) d)
 by-front x env first rest d same bare noted h = go d (subst (λ (c : ℕ). DeedNotes c (was_at x) d) same (noted h)) where
   some : first ∷ rest ≡ [] → ⊥
   some e = cc
 
-  go : (d : front.Deed) → DeedNotes x.c (was_at x) d → IsNoted x (front_does x (first ∷ rest) d)
+  go : (d : front.FrontDeed) → DeedNotes x.c (was_at x) d → IsNoted x (front_does x (first ∷ rest) d)
   go front.Drops k = record { bare = bare; noted = λ at. inl (none-noted x.c (was_at x)); alone = λ at none. absurd (some none) }
   go (front.Says t) k = record { bare = bare; noted = λ at. inl k; alone = λ at none. absurd (some none) }
   go (front.Does did) k = record { bare = bare; noted = λ at. inl k; alone = λ at none. absurd (some none) }

@@ -8,7 +8,7 @@ use Rattle.lard_block.specs.declared.block.Found.TheVariants as found
 use Rattle.lard_block.specs.Blocks.{cut_of}
 use Rattle.lard_endpoint.specs.Control.{finishing}
 use Rattle.lard_endpoint.specs.Moving.{may_freeze}
-use Rattle.lard_rules.specs.FrontReading.{Reading, block_at, left, reads, reads_block, reads_found, targeted, turn}
+use Rattle.lard_rules.specs.FrontReading.{Reading, block_at, reading_left, front_reads, reads_block, reads_found, targeted, reading_turn}
 use Rattle.lard_history.proofs.Each.{Each, Each-append}
 use Rattle.lard_journal.specs.declared.rec.Rec.{Rec}
 use Rattle.lard_journal.specs.declared.rec.Rec.TheVariants as rec
@@ -16,7 +16,7 @@ use Rattle.lard_request.specs.declared.verdict.Code.TheVariants as code
 use Rattle.lard_request.specs.declared.verdict.Verdict.{Verdict}
 use Rattle.lard_request.specs.declared.verdict.Verdict.TheVariants.{Fault}
 use Rattle.lard_rules.specs.Loop.{Step, More, Done}
-use Rattle.lard_rules.specs.Serving.{ServeEnv, Service, answered, consumed, ended_at_fin, may_read, passed_over, queued}
+use Rattle.lard_rules.specs.Serving.{ServeEnv, Service, answered, serving_consumed, ended_at_fin, may_read, passed_over, queued}
 use Rattle.lard_rules.proofs.Runs.{runs_keep}
 
 abbrev pub IsAnswer : Rec → Type 0
@@ -47,19 +47,19 @@ module _ (env : ServeEnv) where
   targeted-notes path x h = cond_both (may_freeze x.service.block) (record x { target = Some path }) x (λ (y : Reading). Notes y.service) (λ t. h) (λ t. h)
 
   block-notes : (x : Reading) (n : ℕ) (v : Verdict) (o : Option (List ℕ)) → Notes x.service → ReadsSo (reads_block env x n v o)
-  block-notes x n v None h = answered-notes v (consumed n x.service) h
+  block-notes x n v None h = answered-notes v (serving_consumed n x.service) h
   block-notes x n v (Some path) h = targeted-notes path x h
 
   found-notes : (x : Reading) (f : Found) → Notes x.service → ReadsSo (reads_found env x f)
-  found-notes x (found.More skip) h = ended-notes (consumed skip x.service) h
+  found-notes x (found.More skip) h = ended-notes (serving_consumed skip x.service) h
   found-notes x (found.Block skip len) h = block-notes x (skip + len) (block_at x skip len) (good_path env.files (block_at x skip len)) h
-  found-notes x (found.TooLong skip) h = answered-notes (Fault code.FieldsTooLarge) (consumed (length x.service.block.recv.unread) x.service) h
+  found-notes x (found.TooLong skip) h = answered-notes (Fault code.FieldsTooLarge) (serving_consumed (length x.service.block.recv.unread) x.service) h
 
-  turn-notes : (x : Reading) → Notes x.service → ReadsSo (turn env x)
+  turn-notes : (x : Reading) → Notes x.service → ReadsSo (reading_turn env x)
   turn-notes x h = cond_both (may_read x.service) (reads_found env x (cut_of x.service.block.recv.unread)) (Done x) ReadsSo (λ t. found-notes x (cut_of x.service.block.recv.unread) h) (λ t. h)
 
-  pub reads-answers : (x : Reading) → Each IsAnswer x.service.notes → Each IsAnswer (reads env x).service.notes
-  reads-answers x h = runs_keep (turn env) left (λ (y : Reading). Notes y.service) (record {
+  pub reads-answers : (x : Reading) → Each IsAnswer x.service.notes → Each IsAnswer (front_reads env x).service.notes
+  reads-answers x h = runs_keep (reading_turn env) reading_left (λ (y : Reading). Notes y.service) (record {
     more = λ y z e p. subst ReadsSo e (turn-notes y p);
     done = λ y z e p. subst ReadsSo e (turn-notes y p);
   }) x h

@@ -4,14 +4,14 @@ use Rattle.std.specs.List.{fold, list_any}
 use Rattle.std.proofs.lemmas.List.Folds.{list_any-append}
 use Rattle.lard_base.specs.declared.place.Place.{Place}
 use Rattle.lard_base.specs.declared.place.Place.TheVariants.{Client, Front, Node}
-use Rattle.lard_rules.specs.Bounds.{IsNumber}
+use Rattle.lard_rules.specs.Bounds.{IsConnNumber}
 use Rattle.lard_law_connections.specs.Motion.{Forwards, HandsOff, forwards_by, IsHandedOff, TakesBack, TakesFirst, first_end, first_syn, first_takes, forwards_of, later_takes}
-use Rattle.lard_law_connections.specs.MotionStory.{Story, ended_in, first_node, forward_to, front_gave, front_took, is_among, is_syn_in, of_row, picked, row_step, segment_in, story, to_node}
+use Rattle.lard_law_connections.specs.MotionStory.{Story, ended_in, first_node, forward_to, front_gave_epoch, front_took, is_among, is_syn_in, of_row, picked, row_step, segment_in, story, to_node}
 use Rattle.lard_law_connections.proofs.MotionPicking.{IsApart, IsStill, apart-ended, apart-segments, apart-story, apart-syn, came-none, pick, pick-parts, pick-seen, picked-append, rows-syn, sends-still, still-all, stills-first, stills-gave, stills-took, still-first, still-gave, still-took, or-false, story-grown, timers-none, timers-still, pick-none}
-use Rattle.lard_law_connections.specs.Places.{IsDecided, head_of}
+use Rattle.lard_law_connections.specs.Places.{IsDecided, message_head}
 use Rattle.lard_law_connections.proofs.PlacesGrowing.{decided-grows}
 use Rattle.lard_law_connections.proofs.PlacesTurns.{IsPlaced, Owes}
-use Rattle.lard_law_view.specs.View.{Conn, IsMachine, IsSound, Move, grown, letter, letters_of, rows_of, seen_in, sending, timer_rows}
+use Rattle.lard_law_view.specs.View.{Conn, IsMachine, IsConnSound, Move, grown, letter, letters_of, rows_of, seen_in, sending, timer_rows}
 use Rattle.lard_law_view.proofs.Fine.{IsItsOwn}
 use Rattle.lard_law_view.proofs.Saying.{GaveAt, NotedAt}
 use Rattle.lard_law_view.proofs.Timers.{IsTimerAt}
@@ -30,8 +30,8 @@ use Rattle.lard_rules.specs.Speaking.{listed}
 
 -- What is known of a connection and of its move beside its way: the view has it of each rule, and the law of places.
 pub record Helps (x : Conn) (v : Move) : Type 0 where
-  pub number : IsNumber x.c
-  pub sound : IsSound x
+  pub number : IsConnNumber x.c
+  pub sound : IsConnSound x
   pub placed : IsPlaced x
   pub owes : Owes x v
   pub own : IsItsOwn x v
@@ -72,7 +72,7 @@ SomeDecided e nodes = (m : ℕ) × IsDecided e (nodes m).row
 
 -- what is kept is an Offer
 abbrev pub IsOfferKept : Kept → Type 0
-IsOfferKept k = (e : ℕ) × (head_of k.bytes ≡ Some (record { kind = kind.Offer; epoch = e }))
+IsOfferKept k = (e : ℕ) × (message_head k.bytes ≡ Some (record { kind = kind.Offer; epoch = e }))
 
 abbrev pub IsNotOfClient : Letter → Type 0
 IsNotOfClient l = IsMachine l.from
@@ -100,7 +100,7 @@ Moves x v = FrontMoves x.c x.seen (seen_in x v) × IsKnown (grown x v)
 -- what is seen of the move
 pub record Lists (x : Conn) (v : Move) (takes gives firsts : List ℕ) (forwards : List (ℕ × List ℕ)) (syn : Bool) (ended : List ℕ) (segments : List (List ℕ)) : Type 0 where
   pub takes_are : picked (of_row front_took) (seen_in x v) ≡ takes
-  pub gives_are : picked (of_row front_gave) (seen_in x v) ≡ gives
+  pub gives_are : picked (of_row front_gave_epoch) (seen_in x v) ≡ gives
   pub firsts_are : picked (of_row first_node) (seen_in x v) ≡ firsts
   pub forwards_are : picked (of_row forward_to) (seen_in x v) ≡ forwards
   pub syn_is : list_any (is_syn_in x.c) (seen_in x v) ≡ syn
@@ -169,7 +169,7 @@ timer-unsent place d (rec.Cleared p k kind) h = tt
 timer-unsent place d _ h = absurd h
 
 -- no note gives anything up
-note-gave : (place : Place) (c : ℕ) (r : Rec) → NotedAt place c r → front_gave r ≡ None
+note-gave : (place : Place) (c : ℕ) (r : Rec) → NotedAt place c r → front_gave_epoch r ≡ None
 note-gave Front c (rec.Gave p d epoch) h = absurd h
 note-gave (Node n) c (rec.Gave p d epoch) h = absurd h
 note-gave (Client e) c (rec.Gave p d epoch) h = absurd h
@@ -213,9 +213,9 @@ module _ (x : Conn) (v : Move) (own : IsItsOwn x v) (parts : Parts x v) where
   seen-takes takes e = behind front_took takes (bare-none front_took (λ r s u. still-took r s) v.heads parts.heads)
       (still-none front_took stills-took takes [] e (pick-none front_took v.said.gave (Each-weaker (GaveAt v.place x.c) (λ r. front_took r ≡ None) (gave-took v.place x.c) v.said.gave own.gave)) ∙ append-nil takes)
 
-  pub seen-gives : (gives : List ℕ) → pick front_gave v.said.gave ≡ gives → picked (of_row front_gave) (seen_in x v) ≡ gives
-  seen-gives gives e = behind front_gave gives (bare-none front_gave (λ r s u. still-gave r s) v.heads parts.heads)
-      (still-none front_gave stills-gave [] gives (pick-none front_gave v.said.notes (Each-weaker (NotedAt v.place x.c) (λ r. front_gave r ≡ None) (note-gave v.place x.c) v.said.notes own.notes)) e)
+  pub seen-gives : (gives : List ℕ) → pick front_gave_epoch v.said.gave ≡ gives → picked (of_row front_gave_epoch) (seen_in x v) ≡ gives
+  seen-gives gives e = behind front_gave_epoch gives (bare-none front_gave_epoch (λ r s u. still-gave r s) v.heads parts.heads)
+      (still-none front_gave_epoch stills-gave [] gives (pick-none front_gave_epoch v.said.notes (Each-weaker (NotedAt v.place x.c) (λ r. front_gave_epoch r ≡ None) (note-gave v.place x.c) v.said.notes own.notes)) e)
 
   pub seen-firsts : (firsts : List ℕ) → pick first_node v.said.notes ≡ firsts → picked (of_row first_node) (seen_in x v) ≡ firsts
   seen-firsts firsts e = behind first_node firsts (bare-none first_node (λ r s u. still-first r s) v.heads parts.heads)

@@ -9,7 +9,7 @@ use Rattle.lard_base.specs.declared.place.Place.{Place}
 use Rattle.lard_base.specs.declared.place.Place.TheVariants.{Client, Front, Node}
 use Rattle.lard_base.specs.declared.place.TimerKind.TheVariants as timer
 use Rattle.lard_law_connections.specs.Motion.{IsHandedOff, first_end, first_syn, first_takes, forwards_by, forwards_of, later_takes}
-use Rattle.lard_law_connections.specs.MotionStory.{Story, first_node, forward_to, front_gave, front_took, is_among, row_step, story, to_node}
+use Rattle.lard_law_connections.specs.MotionStory.{Story, first_node, forward_to, front_gave_epoch, front_took, is_among, row_step, story, to_node}
 use Rattle.lard_law_connections.proofs.MotionAnswers.{reads-answers}
 use Rattle.lard_law_connections.proofs.MotionElsewhere.{Helps, IsAway, IsHeld, IsKnown, IsNotOfClient, IsOfferKept, IsOver, Lists, Moves, Parts, RowKnown, SomeDecided, StageKnown, by-lists, machine-letters, no-end, no-forwards, no-syn, no-takes, seen-ended, seen-firsts, seen-forwards, seen-gives, seen-said, seen-segments, seen-syn, seen-takes}
 use Rattle.lard_law_connections.proofs.MotionPicking.{IsStill, pick, pick-append, segments-none, still-all, stills-first, stills-took, story-grown}
@@ -31,8 +31,8 @@ use Rattle.lard_endpoint.specs.Control.{ControlBlock, listening}
 use Rattle.lard_endpoint.specs.Leaving.{after_timer, timed}
 use Rattle.lard_rules.specs.declared.front.FrontRest.{FrontRest}
 use Rattle.lard_rules.specs.declared.front.FrontTurn.{FrontTurn}
-use Rattle.lard_rules.specs.Front.{Deed, Did, Drops, Says, Does, FrontEnv, FrontPart, ack_sent, admitted_at, admitted_by, admitted_with, asked_by, assigned_notes, assigns, begun, ended_by, ends, fired, fired_by, fires_at, front_admitted, front_asked, front_ended, front_hears, front_taken, front_timer, handed_off, heard, hears_at, is_at, leaves_by, message, met, over_note, placed, rest_of, rests, saying, settled_by, stage_after, tag_sent, taken_by, turn_here}
-use Rattle.lard_rules.specs.FrontReading.{Reading, reads}
+use Rattle.lard_rules.specs.Front.{FrontDeed, Did, Drops, Says, Does, FrontEnv, FrontPart, ack_sent, admitted_at, admitted_by, front_admitted_with, asked_by, assigned_notes, assigns, front_begun, front_ended_by, front_ends, front_fired, front_fired_by, fires_at, front_admitted, front_asked, front_ended, front_hears, front_taken, front_timer, handed_off, heard, hears_at, is_row_at, leaves_by, message, met, over_note, placed, front_rest, front_rests, front_saying, settled_by, stage_after, tag_sent, taken_by, turn_here}
+use Rattle.lard_rules.specs.FrontReading.{Reading, front_reads}
 use Rattle.lard_handoff_back.specs.declared.row.BackRow.{BackRow}
 use Rattle.lard_handoff_front.specs.declared.row.FrontConn.{FrontConn}
 use Rattle.lard_handoff_front.specs.declared.row.FrontConn.TheVariants as stage
@@ -54,7 +54,7 @@ use Rattle.lard_rules.specs.declared.places.Ending.TheVariants as ending
 use Rattle.lard_rules.specs.declared.places.Turn.{Turn}
 use Rattle.lard_rules.specs.Tombstone.{is_plain_syn, last_words, tombstone}
 use Rattle.lard_rules.specs.Speaking.{listed}
-use Rattle.lard_rules.specs.Serving.{Service, ready_of, serving, settled, spoken}
+use Rattle.lard_rules.specs.Serving.{Service, serving_ready_of, serving, serving_settled, spoken}
 use Rattle.lard_segment.specs.Segment.{Said as Segment}
 use Rattle.lard_law_view.proofs.EndpointSends.{AllTo, ready-to}
 use Rattle.lard_law_connections.proofs.MotionComings.{assigned-still, over-still, Heads, answers-still, behind_heads, forwarded-is, not-forwarded, resent-none, row-behind, without-kept}
@@ -79,14 +79,14 @@ module _ (k : Setting) (x : Conn) (at_place : IsPlaced x) (known : IsKnown x) (h
   u = behind_heads t syn es
 
   -- it is given
-  abbrev pub Goes : Deed → Type 0
+  abbrev pub Goes : FrontDeed → Type 0
   Goes d = Helps x (front_does x heads d) → Moves x (front_does x heads d)
 
   -- ---- a move, by its lists
 
   pub record Turns (part : FrontPart) (turn : FrontTurn) (takes gives firsts : List ℕ) (forwards : List (ℕ × List ℕ)) (then : Story) : Type 0 where
     pub takes_are : pick front_took turn.notes ≡ takes
-    pub gives_are : pick front_gave turn.gave ≡ gives
+    pub gives_are : pick front_gave_epoch turn.gave ≡ gives
     pub firsts_are : pick first_node turn.notes ≡ firsts
     pub forwards_are : pick forward_to (map (sending Front) turn.messages) ≡ forwards
     pub to : AllTo (Client x.c) turn.segments
@@ -143,7 +143,7 @@ module _ (k : Setting) (x : Conn) (at_place : IsPlaced x) (known : IsKnown x) (h
       → AllTo (Client x.c) turn.segments → RowKnown u part.row → Each IsOfferKept part.kept → Helps x (move part turn) → Moves x (move part turn)
   calm-move part turn forwards calm notes none messages to row kept = turns-move part turn [] [] [] forwards u (record {
     takes_are = stills-took turn.notes notes;
-    gives_are = ap (pick front_gave) none;
+    gives_are = ap (pick front_gave_epoch) none;
     firsts_are = stills-first turn.notes notes;
     forwards_are = messages;
     to = to;
@@ -181,10 +181,10 @@ module _ (k : Setting) (x : Conn) (at_place : IsPlaced x) (known : IsKnown x) (h
 
   -- a turn of an endpoint that is here
   ends-move : (row : FrontRow) → p.row ≡ Some row → IsHeld t → (rest : FrontRest) (stays : ControlBlock → FrontConn) → ((b : ControlBlock) → StageKnown u (stays b)) → (given : Ending × Turn) (calls : List Call)
-      → Each IsStill given.1.notes → AllTo (Client env.serve.c) given.1.segments → Goes (Does (record { part = rests p row rest stays given.0; turn = turn_here given.1; calls = calls }))
+      → Each IsStill given.1.notes → AllTo (Client env.serve.c) given.1.segments → Goes (Does (record { part = front_rests p row rest stays given.0; turn = turn_here given.1; calls = calls }))
   ends-move row found h rest stays stay given calls notes to =
       let r : RowKnown t (Some row) = row-of row found in
-      calm-move (rests p row rest stays given.0) (turn_here given.1) [] (held-calm row found h) notes refl refl (subst (λ (c : ℕ). AllTo (Client c) given.1.segments) is.number to)
+      calm-move (front_rests p row rest stays given.0) (turn_here given.1) [] (held-calm row found h) notes refl refl (subst (λ (c : ℕ). AllTo (Client c) given.1.segments) is.number to)
       (r.0, ap (λ b. b || syn) r.1, go given.0) known.kept where
         go : (e : Ending) → StageKnown u (stage_after stays e)
         go (ending.Here b count) = stay b
@@ -239,12 +239,12 @@ module _ (k : Setting) (x : Conn) (at_place : IsPlaced x) (known : IsKnown x) (h
   settled-move : (row : FrontRow) → p.row ≡ Some row → IsHeld t → row.epoch.0 ≡ 1 → ArePast 1 nodes → es ≡ [] → (rest : FrontRest) (s : Service) (o : Option (List ℕ)) → Each IsStill s.notes → Goes (settled_by env p row rest s o)
   settled-move row found h one past none rest s None notes =
       let done = settled-is env.serve s in
-      ends-move row found h rest stage.Held (λ b. held-behind h) (settled env.serve s) [] (subst (Each IsStill) (sym done.notes) notes) done.to
+      ends-move row found h rest stage.Held (λ b. held-behind h) (serving_settled env.serve s) [] (subst (Each IsStill) (sym done.notes) notes) done.to
   settled-move row found h one past none rest s (Some path) notes = placed-move row found h one past none rest s path (env.first path) notes
 
   heard-move : (row : FrontRow) → p.row ≡ Some row → IsHeld t → row.epoch.0 ≡ 1 → ArePast 1 nodes → es ≡ [] → (rest : FrontRest) (b : ControlBlock) → Goes (heard env p row rest b)
   heard-move row found h one past none rest b =
-      let r : Reading = reads env.serve (record { service = serving b rest.count []; target = None }) in
+      let r : Reading = front_reads env.serve (record { service = serving b rest.count []; target = None }) in
       settled-move row found h one past none rest r.service r.target (answers-still r.service.notes (reads-answers env.serve (record { service = serving b rest.count []; target = None }) tt))
 
   -- ---- what is kept is as it was
@@ -254,7 +254,7 @@ module _ (k : Setting) (x : Conn) (at_place : IsPlaced x) (known : IsKnown x) (h
   same-row plain none = row-behind t syn es p.row plain none known.row
 
   drops-move : Calm [] → RowKnown u p.row → Goes Drops
-  drops-move calm row = calm-move p (saying []) [] calm tt refl refl tt row known.kept
+  drops-move calm row = calm-move p (front_saying []) [] calm tt refl refl tt row known.kept
 
   says-move : (turn : FrontTurn) (forwards : List (ℕ × List ℕ)) → Calm forwards → RowKnown u p.row → turn.notes ≡ [] → turn.gave ≡ [] → pick forward_to (map (sending Front) turn.messages) ≡ forwards → AllTo (Client x.c) turn.segments
       → Goes (Says turn)
@@ -287,13 +287,13 @@ module _ (k : Setting) (x : Conn) (at_place : IsPlaced x) (known : IsKnown x) (h
     pub nothing-drops : segments ≡ [] → syn ≡ false → Goes Drops
     nothing-drops no_segments no_syn = drops-move (nothing-calm no_segments no_syn) (row-stays (λ e. no_syn))
 
-    nothing-says : segments ≡ [] → syn ≡ false → (ms : List (Place × List ℕ)) → pick forward_to (map (sending Front) ms) ≡ [] → Goes (Says (saying ms))
-    nothing-says no_segments no_syn ms messages = says-move (saying ms) [] (nothing-calm no_segments no_syn) (row-stays (λ e. no_syn)) refl refl messages tt
+    nothing-says : segments ≡ [] → syn ≡ false → (ms : List (Place × List ℕ)) → pick forward_to (map (sending Front) ms) ≡ [] → Goes (Says (front_saying ms))
+    nothing-says no_segments no_syn ms messages = says-move (front_saying ms) [] (nothing-calm no_segments no_syn) (row-stays (λ e. no_syn)) refl refl messages tt
 
     -- ---- a segment
 
     -- it is taken first
-    begun-move : (s : Segment) → p.row ≡ None → syn ≡ true → Goes (begun env p s)
+    begun-move : (s : Segment) → p.row ≡ None → syn ≡ true → Goes (front_begun env p s)
     begun-move s none plain =
         let row : FrontRow = record { stage = stage.Lent; epoch = record { 0 = 1 }; ended_by = None } in
         let w : Service = serving (listening s env.iss) 0 (rec.Took Front env.serve.c (record { 0 = 1 }) ∷ []) in
@@ -302,7 +302,7 @@ module _ (k : Setting) (x : Conn) (at_place : IsPlaced x) (known : IsKnown x) (h
         let r : RowKnown t None = subst (RowKnown t) none known.row in
         let free : first_takes t (1 ∷ []) ≡ 1 ∷ [] = ap (λ b. cond b [] (1 ∷ [])) r.0 in
         let now : first_syn t syn ≡ 1 ∷ [] = λ i. cond (not (r.1 i) && plain i) (1 ∷ []) [] in
-        let part : FrontPart = rests p row (rest_of None) stage.Held given.0 in
+        let part : FrontPart = front_rests p row (front_rest None) stage.Held given.0 in
         turns-move part (turn_here given.1) (1 ∷ []) [] [] [] then (record {
           takes_are = refl;
           gives_are = refl;
@@ -325,7 +325,7 @@ module _ (k : Setting) (x : Conn) (at_place : IsPlaced x) (known : IsKnown x) (h
     met-move : (s : Segment) → p.row ≡ None → syn ≡ is_plain_syn s → Goes (met env p s)
     met-move s none plain =
         let r : RowKnown t None = subst (RowKnown t) none known.row in
-        cond_both (is_plain_syn s) (begun env p s) Drops Goes
+        cond_both (is_plain_syn s) (front_begun env p s) Drops Goes
         (λ e. begun-move s none (plain ∙ e))
         (λ e.
         let no_syn : syn ≡ false = plain ∙ e in
@@ -335,9 +335,9 @@ module _ (k : Setting) (x : Conn) (at_place : IsPlaced x) (known : IsKnown x) (h
     sits-row row found = let at : Sits own nodes (Some row) = subst (Sits own nodes) found at_place.sits in at.0
 
     module _ (bytes : List ℕ) (comes : segments ≡ bytes ∷ []) where
-      forwards-move : (row : FrontRow) (n : ℕ) (d : Epoch) → p.row ≡ Some row → IsAway t n d.0 → Goes (Says (saying ((Node n, message env.serve.c d.0 (body.Forward bytes)) ∷ [])))
+      forwards-move : (row : FrontRow) (n : ℕ) (d : Epoch) → p.row ≡ Some row → IsAway t n d.0 → Goes (Says (front_saying ((Node n, message env.serve.c d.0 (body.Forward bytes)) ∷ [])))
       forwards-move row n d found h =
-          let turn : FrontTurn = saying ((Node n, message env.serve.c d.0 (body.Forward bytes)) ∷ []) in
+          let turn : FrontTurn = front_saying ((Node n, message env.serve.c d.0 (body.Forward bytes)) ∷ []) in
           let sent : List (ℕ × List ℕ) = (n, message env.serve.c d.0 (body.Forward bytes)) ∷ [] in
           let mine : sent ≡ (n, message x.c d.0 (body.Forward bytes)) ∷ [] = ap (λ (c : ℕ). (n, message c d.0 (body.Forward bytes)) ∷ []) is.number in
           let due : forwards_of x.c t segments ≡ (n, message x.c d.0 (body.Forward bytes)) ∷ [] = λ i. cond (h.away i) (forwards_by x.c (h.node i) (h.epoch i) (comes i)) [] in
@@ -352,11 +352,11 @@ module _ (k : Setting) (x : Conn) (at_place : IsPlaced x) (known : IsKnown x) (h
       hears-at : (s : Segment) (row : FrontRow) → p.row ≡ Some row → (st : FrontConn) → row.stage ≡ st → Goes (hears_at env p row bytes s st)
       hears-at s row found (stage.Held b) at =
           let sits : StageSits row.epoch.0 own nodes (stage.Held b) = subst (StageSits row.epoch.0 own nodes) at (sits-row row found) in
-          heard-move row found (subst (StageKnown t) at (row-of row found).2) sits.0 (subst (λ (e : ℕ). ArePast e nodes) sits.0 sits.1.1) none_ended (rest_of p.rest) (on_segment b s).1
+          heard-move row found (subst (StageKnown t) at (row-of row found).2) sits.0 (subst (λ (e : ℕ). ArePast e nodes) sits.0 sits.1.1) none_ended (front_rest p.rest) (on_segment b s).1
       hears-at s row found (stage.Waiting b) at =
-          let w : Service = serving (on_segment b s).1 (rest_of p.rest).count [] in
+          let w : Service = serving (on_segment b s).1 (front_rest p.rest).count [] in
           let h : IsHeld t = subst (StageKnown t) at (row-of row found).2 in
-          ends-move row found h (rest_of p.rest) stage.Waiting (λ c. held-behind h) (spoken env.serve w []) (leaves_by env.serve.c (spoken env.serve w []).0) tt (spoken-to env.serve w [] tt)
+          ends-move row found h (front_rest p.rest) stage.Waiting (λ c. held-behind h) (spoken env.serve w []) (leaves_by env.serve.c (spoken env.serve w []).0) tt (spoken-to env.serve w [] tt)
       hears-at s row found stage.Lent at = let sits : StageSits row.epoch.0 own nodes stage.Lent = subst (StageSits row.epoch.0 own nodes) at (sits-row row found) in absurd sits
       hears-at s row found (stage.Offering n d) at = forwards-move row n d found (subst (StageKnown t) at (row-of row found).2)
       hears-at s row found (stage.Moved n d) at = forwards-move row n d found (subst (StageKnown t) at (row-of row found).2)
@@ -373,17 +373,17 @@ module _ (k : Setting) (x : Conn) (at_place : IsPlaced x) (known : IsKnown x) (h
       fires-at : (row : FrontRow) → p.row ≡ Some row → (st : FrontConn) → row.stage ≡ st → Goes (fires_at env p row st)
       fires-at row found (stage.Held b) at =
           let h : IsHeld t = subst (StageKnown t) at (row-of row found).2 in
-          let given : Ending × Turn = fired env (rest_of p.rest) b in
-          ends-move row found h (rest_of p.rest) stage.Held (λ c. held-behind h) given [] tt (spoken-to env.serve (serving (after_timer b) (rest_of p.rest).count []) (ready_of env.serve (after_timer b) (timed b)) (ready-to env.serve (after_timer b) (timed b)))
+          let given : Ending × Turn = front_fired env (front_rest p.rest) b in
+          ends-move row found h (front_rest p.rest) stage.Held (λ c. held-behind h) given [] tt (spoken-to env.serve (serving (after_timer b) (front_rest p.rest).count []) (serving_ready_of env.serve (after_timer b) (timed b)) (ready-to env.serve (after_timer b) (timed b)))
       fires-at row found (stage.Waiting b) at =
           let h : IsHeld t = subst (StageKnown t) at (row-of row found).2 in
-          let given : Ending × Turn = fired env (rest_of p.rest) b in
-          ends-move row found h (rest_of p.rest) stage.Waiting (λ c. held-behind h) given (leaves_by env.serve.c given.0) tt
-          (spoken-to env.serve (serving (after_timer b) (rest_of p.rest).count []) (ready_of env.serve (after_timer b) (timed b)) (ready-to env.serve (after_timer b) (timed b)))
+          let given : Ending × Turn = front_fired env (front_rest p.rest) b in
+          ends-move row found h (front_rest p.rest) stage.Waiting (λ c. held-behind h) given (leaves_by env.serve.c given.0) tt
+          (spoken-to env.serve (serving (after_timer b) (front_rest p.rest).count []) (serving_ready_of env.serve (after_timer b) (timed b)) (ready-to env.serve (after_timer b) (timed b)))
       fires-at row found (stage.Offering n d) at = nothing-says no_segments no_syn (map sent_of p.kept) (resent-none p.kept known.kept)
       fires-at row found _ at = nothing-drops no_segments no_syn
 
-      fires : (o : Option FrontRow) → p.row ≡ o → Goes (fired_by env p o)
+      fires : (o : Option FrontRow) → p.row ≡ o → Goes (front_fired_by env p o)
       fires None found = nothing-drops no_segments no_syn
       fires (Some row) found = fires-at row found row.stage refl
 
@@ -397,7 +397,7 @@ module _ (k : Setting) (x : Conn) (at_place : IsPlaced x) (known : IsKnown x) (h
           let r : RowKnown t (Some row) = row-of row found in
           let h : IsAway t n d.0 = subst (StageKnown t) at r.2 in
           let away : IsAway u n d.0 = record { away = h.away; epoch = h.epoch; node = h.node; ended = still-away n d.0 h } in
-          calm-move part (saying []) [] (nothing-calm no_segments no_syn) tt refl refl tt (r.0, ap (λ b. b || syn) r.1, subst (IsAway u n) same away) (without-kept p.kept known.kept)
+          calm-move part (front_saying []) [] (nothing-calm no_segments no_syn) tt refl refl tt (r.0, ap (λ b. b || syn) r.1, subst (IsAway u n) same away) (without-kept p.kept known.kept)
 
       taken-at : (epoch : ℕ) (row : FrontRow) → p.row ≡ Some row → (st : FrontConn) → row.stage ≡ st → Goes (taken_by p epoch (Some row) (offered_to epoch st))
       taken-at epoch row found (stage.Offering n d) at = go (d.0 == epoch) refl where
@@ -422,15 +422,15 @@ module _ (k : Setting) (x : Conn) (at_place : IsPlaced x) (known : IsKnown x) (h
       asked-by n epoch ask (Some rest) =
           let l : Later = env.later ask in
           let did : Did = assigns env p rest n epoch ask l in
-          cond_both (ask.number == rest.asks + 1) (Does did) (cond (ask.number == rest.asks && nat_lt 0 rest.asks) (Says (saying (tag_sent env n epoch rest.asks rest.tag))) Drops) Goes
+          cond_both (ask.number == rest.asks + 1) (Does did) (cond (ask.number == rest.asks && nat_lt 0 rest.asks) (Says (front_saying (tag_sent env n epoch rest.asks rest.tag))) Drops) Goes
           (λ e. calm-move did.part did.turn [] (nothing-calm no_segments no_syn)
           (Each-append IsStill (over_note env.serve.c l.over) (assigned_notes env.serve.c ask rest.assigned ask.paths l.choices) (over-still env.serve.c l.over) (assigned-still env.serve.c ask rest.assigned ask.paths l.choices))
           refl (tag-none n epoch ask.number _) tt (row-stays (λ e. no_syn)) known.kept)
-          (λ e. cond_both (ask.number == rest.asks && nat_lt 0 rest.asks) (Says (saying (tag_sent env n epoch rest.asks rest.tag))) Drops Goes
+          (λ e. cond_both (ask.number == rest.asks && nat_lt 0 rest.asks) (Says (front_saying (tag_sent env n epoch rest.asks rest.tag))) Drops Goes
           (λ f. nothing-says no_segments no_syn (tag_sent env n epoch rest.asks rest.tag) (tag-none n epoch rest.asks rest.tag)) (λ f. nothing-drops no_segments no_syn))
 
       pub asked-move : (n epoch : ℕ) (ask : Ask) → Goes (front_asked env p n epoch ask)
-      asked-move n epoch ask = cond_both (is_at n epoch p.row) (asked_by env p n epoch ask p.rest) Drops Goes (λ e. asked-by n epoch ask p.rest) (λ e. nothing-drops no_segments no_syn)
+      asked-move n epoch ask = cond_both (is_row_at n epoch p.row) (asked_by env p n epoch ask p.rest) Drops Goes (λ e. asked-by n epoch ask p.rest) (λ e. nothing-drops no_segments no_syn)
 
   -- ---- an Ended comes
 
@@ -505,9 +505,9 @@ module _ (k : Setting) (x : Conn) (at_place : IsPlaced x) (known : IsKnown x) (h
     ack-none = ap (λ o. listed o ++ []) (not-forwarded n env.serve.c epoch body.EndedAck (λ i. cc))
 
     -- it ended where it is away
-    away-ends : (last : Final) (row : FrontRow) → p.row ≡ Some row → (m : ℕ) (d : Epoch) → IsAway t m d.0 → d.0 ≡ epoch → row.epoch.0 ≡ d.0 → Goes (Does (ends env p n epoch last row (next_epoch row)))
+    away-ends : (last : Final) (row : FrontRow) → p.row ≡ Some row → (m : ℕ) (d : Epoch) → IsAway t m d.0 → d.0 ≡ epoch → row.epoch.0 ≡ d.0 → Goes (Does (front_ends env p n epoch last row (next_epoch row)))
     away-ends last row found m d h same at =
-        let did : Did = ends env p n epoch last row (next_epoch row) in
+        let did : Did = front_ends env p n epoch last row (next_epoch row) in
         let next : List ℕ = (row.epoch.0 + 1) ∷ [] in
         let then : Story = record u { took = true; away = false } in
         let r : RowKnown t (Some row) = row-of row found in
@@ -540,19 +540,19 @@ module _ (k : Setting) (x : Conn) (at_place : IsPlaced x) (known : IsKnown x) (h
               let it : epoch ≡ e = sym same ∙ some-same d.0 e (sym h.epoch ∙ some) in
               ap (λ l. is_among e (t.ended ++ l)) comes ∙ list_any-append (λ i. i == e) t.ended (epoch ∷ []) ∙ ap (λ b. is_among e t.ended || (b || false)) (eq-eqb epoch e it) ∙ or-true (is_among e t.ended)
 
-    away-by : (last : Final) (row : FrontRow) → p.row ≡ Some row → (st : FrontConn) → row.stage ≡ st → is_away epoch st ≡ true → StageSits row.epoch.0 own nodes st → Goes (Does (ends env p n epoch last row (next_epoch row)))
+    away-by : (last : Final) (row : FrontRow) → p.row ≡ Some row → (st : FrontConn) → row.stage ≡ st → is_away epoch st ≡ true → StageSits row.epoch.0 own nodes st → Goes (Does (front_ends env p n epoch last row (next_epoch row)))
     away-by last row found (stage.Offering m d) at away sits = away-ends last row found m d (subst (StageKnown t) at (row-of row found).2) (eqb-true d.0 epoch away) (sym sits.1)
     away-by last row found (stage.Moved m d) at away sits = away-ends last row found m d (subst (StageKnown t) at (row-of row found).2) (eqb-true d.0 epoch away) (sym sits.1)
     away-by last row found _ at away sits = let no : false ≡ true = away in absurd cc
 
-    ended-row : (last : Final) (row : FrontRow) → p.row ≡ Some row → Goes (ended_by env p n epoch last (Some row) (end_answer epoch (Some row)))
+    ended-row : (last : Final) (row : FrontRow) → p.row ≡ Some row → Goes (front_ended_by env p n epoch last (Some row) (end_answer epoch (Some row)))
     ended-row last row found = go (is_away epoch row.stage) refl (ended_with epoch row.ended_by) where
-      go : (a : Bool) → is_away epoch row.stage ≡ a → (b : Bool) → Goes (ended_by env p n epoch last (Some row) (cond a (New (next_epoch row)) (cond b Again Stale)))
+      go : (a : Bool) → is_away epoch row.stage ≡ a → (b : Bool) → Goes (front_ended_by env p n epoch last (Some row) (cond a (New (next_epoch row)) (cond b Again Stale)))
       go true e b = away-by last row found row.stage refl e (let at : Sits own nodes (Some row) = subst (Sits own nodes) found at_place.sits in at.0)
-      go false e true = let calm = stays-calm row found e in says-move (saying (ack_sent env n epoch)) [] calm.0 calm.1 refl refl ack-none tt
+      go false e true = let calm = stays-calm row found e in says-move (front_saying (ack_sent env n epoch)) [] calm.0 calm.1 refl refl ack-none tt
       go false e false = let calm = stays-calm row found e in drops-move calm.0 calm.1
 
-    ended-by : (last : Final) (o : Option FrontRow) → p.row ≡ o → Goes (ended_by env p n epoch last o (end_answer epoch o))
+    ended-by : (last : Final) (o : Option FrontRow) → p.row ≡ o → Goes (front_ended_by env p n epoch last o (end_answer epoch o))
     ended-by last None found = unknown-drops found
     ended-by last (Some row) found = ended-row last row found
 
@@ -565,17 +565,17 @@ module _ (k : Setting) (x : Conn) (at_place : IsPlaced x) (known : IsKnown x) (h
     abbrev Admitted : FrontPart × FrontTurn → Type 0
     Admitted g = Goes (Does (record { part = g.0; turn = g.1; calls = [] }))
 
-    admitted-with : (row : FrontRow) (b : ControlBlock) (o : Option (List ℕ)) → p.row ≡ Some row → row.stage ≡ stage.Waiting b → admitted_with env row (rest_of p.rest) b choice o ≡ Some given → Admitted given
+    admitted-with : (row : FrontRow) (b : ControlBlock) (o : Option (List ℕ)) → p.row ≡ Some row → row.stage ≡ stage.Waiting b → front_admitted_with env row (front_rest p.rest) b choice o ≡ Some given → Admitted given
     admitted-with row b None found at e = let no : None ≡ Some given = e in absurd cc
     admitted-with row b (Some path) found at e =
-        let s : Service = serving b (rest_of p.rest).count [] in
+        let s : Service = serving b (front_rest p.rest).count [] in
         let handed : FrontPart × FrontTurn = handed_off env row s path choice in
         let same : handed ≡ given = cc in
         let sits : StageSits row.epoch.0 own nodes (stage.Waiting b) = subst (StageSits row.epoch.0 own nodes) at (let q : Sits own nodes (Some row) = subst (Sits own nodes) found at_place.sits in q.0) in
         subst Admitted same (handed-move row found (subst (StageKnown t) at (row-of row found).2) sits.0 (subst (λ (e : ℕ). ArePast e nodes) sits.0 sits.1.1) none_ended s path choice [] tt)
 
     admitted-at : (row : FrontRow) (st : FrontConn) → p.row ≡ Some row → row.stage ≡ st → admitted_at env p choice row st ≡ Some given → Admitted given
-    admitted-at row (stage.Waiting b) found at e = admitted-with row b (rest_of p.rest).target found at e
+    admitted-at row (stage.Waiting b) found at e = admitted-with row b (front_rest p.rest).target found at e
     admitted-at row _ found at e = let no : None ≡ Some given = e in absurd cc
 
     admitted-by : (o : Option FrontRow) → p.row ≡ o → admitted_by env p choice o ≡ Some given → Admitted given

@@ -9,7 +9,7 @@ use Rattle.lard_base.specs.declared.place.Place.TheVariants.{Node}
 use Rattle.lard_base.specs.declared.place.TimerKind.TheVariants as timer
 use Rattle.lard_rules.specs.Machine.{is_no_node}
 use Rattle.lard_law_connections.specs.Motion.{EachIsTold, NodeEnds, Says as SaysIt, above}
-use Rattle.lard_law_connections.specs.MotionStory.{from_node, highest, node_gave, node_took, of_row, offer_in, picked}
+use Rattle.lard_law_connections.specs.MotionStory.{from_node, highest, node_gave_epoch, node_took, of_row, epoch_offered, picked}
 use Rattle.lard_law_connections.proofs.MotionElsewhere.{Helps}
 use Rattle.lard_law_connections.proofs.MotionPicking.{pick, pick-append, pick-none, pick-parts, pick-seen}
 use Rattle.lard_law_connections.specs.Places.{Head, IsDecided, IsOffered, Offers, Owning, Sits, StageSits, owning}
@@ -19,7 +19,7 @@ use Rattle.lard_law_connections.proofs.PlacesNodeRules.{Begins, has-at, here-has
 use Rattle.lard_law_connections.proofs.PlacesRows.{IsPlain, plain-named}
 use Rattle.lard_law_connections.proofs.PlacesTurns.{IsPlaced}
 use Rattle.lard_law_view.specs.Carry.{tale_at}
-use Rattle.lard_law_view.specs.View.{Conn, IsNodeEnv, Move, Setting, epoch_in, named, node_does, node_put, rows_of, seen_in, sending, timer_rows}
+use Rattle.lard_law_view.specs.View.{Conn, IsNodeEnv, Move, Setting, epoch_in, named_records, node_does, node_put_back, rows_of, seen_in, sending, timer_rows}
 use Rattle.lard_law_view.proofs.Fine.{IsItsOwn}
 use Rattle.lard_law_view.proofs.Parts.{put-same}
 use Rattle.lard_endpoint.specs.Arriving.{on_segment}
@@ -29,8 +29,8 @@ use Rattle.lard_handoff_back.specs.declared.row.BackConn.{BackConn}
 use Rattle.lard_handoff_back.specs.declared.row.BackConn.TheVariants as back
 use Rattle.lard_handoff_back.specs.declared.row.BackRow.{BackRow}
 use Rattle.lard_handoff_back.specs.declared.table.Adopt.TheVariants.{New, Again, Stale}
-use Rattle.lard_handoff_back.specs.Back.{awaits_ack, endpoint_of, offer_answer, staying}
-use Rattle.lard_handoff_back.specs.Row.{held_in, is_gone}
+use Rattle.lard_handoff_back.specs.Back.{awaits_ack, back_endpoint, offer_answer, staying}
+use Rattle.lard_handoff_back.specs.Row.{back_held, is_gone}
 use Rattle.lard_handoff_front.specs.declared.row.FrontConn.{FrontConn}
 use Rattle.lard_handoff_front.specs.declared.row.FrontConn.TheVariants as stage
 use Rattle.lard_handoff_front.specs.declared.row.FrontRow.{FrontRow}
@@ -45,14 +45,14 @@ use Rattle.lard_message.specs.declared.message.Body.TheVariants as body
 use Rattle.lard_message.specs.declared.message.Message.{Message}
 use Rattle.lard_message.specs.Message.{spelled_message}
 use Rattle.lard_rules.specs.declared.stay.Stay.{Stay}
-use Rattle.lard_rules.specs.Node.{Deed, Drops, Says, Does, NodePart, again_sent, all_sent, begins, both_of, come_by, count_of, ended_sent, fired_by, gone, heard_by, here, is_awaited, kept_after, node_acknowledged, node_content, node_forwarded, node_offered, node_read, node_tagged, node_timer, offered_by, read_by, saying, tagged_by, taken_sent, turn_by, with_work, work_of}
+use Rattle.lard_rules.specs.Node.{NodeDeed, Drops, Says, Does, NodePart, again_sent, all_sent, node_begins, both_of, come_by, reset_count, ended_sent, node_fired_by, gone, node_heard_by, here, is_tag_awaited, kept_after, node_acknowledged, node_content, node_forwarded, node_offered, node_read, node_tagged, node_timer, offered_by, node_read_by, node_saying, tagged_by, taken_sent, turn_by, with_work, work_of}
 use Rattle.lard_rules.specs.Stay.{NodeEnv, Work, came_for, come_progress, goes_on, read_progress, reads_batch, tagged}
 use Rattle.lard_resend.specs.Kept.{is_under, without}
 use Rattle.lard_rules.specs.declared.places.Ending.{Ending}
 use Rattle.lard_rules.specs.declared.places.Ending.TheVariants as ending
 use Rattle.lard_rules.specs.declared.places.Turn.{Turn}
 use Rattle.lard_rules.specs.Loop.{state_of}
-use Rattle.lard_rules.specs.Serving.{ready_of, serving, settled, spoken}
+use Rattle.lard_rules.specs.Serving.{serving_ready_of, serving, serving_settled, spoken}
 use Rattle.lard_rules.specs.Speaking.{listed}
 use Rattle.lard_segment.specs.declared.fault.SegFault.{SegFault}
 use Rattle.lard_segment.specs.Segment.{Said as Segment}
@@ -80,7 +80,7 @@ says-behind h (x ∷ xs) ys s = ⊎_elim (λ e. inl e) (λ e. inr (says-behind h
 -- ---- one node
 
 module _ (k : Setting) (x : Conn) (at_place : IsPlaced x) (known : NodesKnown x) (n epoch : ℕ) (env : NodeEnv) (is : IsNodeEnv k x.c n epoch env) (heads : List Seen) (first : Each IsFirst heads)
-    (others_heads : (m : ℕ) → m ≢ n → picked (offer_in m) heads ≡ []) where
+    (others_heads : (m : ℕ) → m ≢ n → picked (epoch_offered m) heads ≡ []) where
   abbrev ours : NodePart
   ours = x.part.nodes n
 
@@ -93,7 +93,7 @@ module _ (k : Setting) (x : Conn) (at_place : IsPlaced x) (known : NodesKnown x)
   abbrev before : ℕ
   before = highest (picked (of_row (node_took n)) x.seen)
 
-  abbrev pub Goes : Deed → Type 0
+  abbrev pub Goes : NodeDeed → Type 0
   Goes d = Helps x (node_does x n heads d) → NodesGo k.nodes x (node_does x n heads d)
 
   -- of node n by itself, and of every other one
@@ -103,10 +103,10 @@ module _ (k : Setting) (x : Conn) (at_place : IsPlaced x) (known : NodesKnown x)
     go m true e = subst (At k.nodes x v) (sym (eqb-true m n e)) at
     go m false e =
         let other : m ≢ n = λ f. both_ways (m == n) e (eq-eqb m n f) in
-        other-at k.nodes m x v mine known (subst (Each IsFirst) (sym seen) first) (subst (λ (hs : List Seen). picked (offer_in m) hs ≡ []) (sym seen) (others_heads m other))
+        other-at k.nodes m x v mine known (subst (Each IsFirst) (sym seen) first) (subst (λ (hs : List Seen). picked (epoch_offered m) hs ≡ []) (sym seen) (others_heads m other))
         (subst (IsOther m) (sym place) (λ f. other (sym f))) (same m other)
 
-  put-other : (q : NodePart) (m : ℕ) → m ≢ n → node_put nodes n q m ≡ nodes m
+  put-other : (q : NodePart) (m : ℕ) → m ≢ n → node_put_back nodes n q m ≡ nodes m
   put-other q m other = ap (λ b. cond b q (nodes m)) (other_number m n other)
 
   late-as : (o : Option BackRow) → ours.row ≡ o → IsLate o
@@ -114,10 +114,10 @@ module _ (k : Setting) (x : Conn) (at_place : IsPlaced x) (known : NodesKnown x)
 
   -- ---- where no Offer comes to it
 
-  module _ (none : picked (offer_in n) heads ≡ []) where
-    stays-at : (v : Move) → IsItsOwn x v → v.heads ≡ heads → v.part.nodes n ≡ ours → pick (node_took n) v.said.notes ≡ [] → pick (node_gave n) v.said.gave ≡ [] → At k.nodes x v n
+  module _ (none : picked (epoch_offered n) heads ≡ []) where
+    stays-at : (v : Move) → IsItsOwn x v → v.heads ≡ heads → v.part.nodes n ≡ ours → pick (node_took n) v.said.notes ≡ [] → pick (node_gave_epoch n) v.said.gave ≡ [] → At k.nodes x v n
     stays-at v mine seen same took gave =
-        quiet-at k.nodes n x v mine known (subst (Each IsFirst) (sym seen) first) (subst (λ (hs : List Seen). picked (offer_in n) hs ≡ []) (sym seen) none) took gave (ap epoch_in same) (subst (λ (p : NodePart). IsLate p.row) (sym same) (known.late n))
+        quiet-at k.nodes n x v mine known (subst (Each IsFirst) (sym seen) first) (subst (λ (hs : List Seen). picked (epoch_offered n) hs ≡ []) (sym seen) none) took gave (ap epoch_in same) (subst (λ (p : NodePart). IsLate p.row) (sym same) (known.late n))
 
     pub dropped : Goes Drops
     dropped help = by-own (node_does x n heads Drops) help.own refl refl (λ m other. refl) (stays-at (node_does x n heads Drops) help.own refl refl refl refl)
@@ -146,8 +146,8 @@ module _ (k : Setting) (x : Conn) (at_place : IsPlaced x) (known : NodesKnown x)
       let msgs : List (Place × List ℕ) = all_sent env before_sent work in
       let end : List (Place × List ℕ) = ended_sent env work.service.over (ending.Over last) in
       let h : Head = record { kind = kind.Ended; epoch = env.epoch } in
-      let gave : pick (node_gave n) v.said.gave ≡ env.epoch ∷ [] = ap (λ b. listed (cond b (Some env.epoch) None) ++ []) (ap (λ (m : ℕ). nat_eq m n) is.node ∙ same_number n) in
-      let m : Message = record { c = env.serve.c; epoch = record { 0 = env.epoch }; body = body.Ended last.reason last.snd.0 last.rcv.0 (count_of work.service.over) } in
+      let gave : pick (node_gave_epoch n) v.said.gave ≡ env.epoch ∷ [] = ap (λ b. listed (cond b (Some env.epoch) None) ++ []) (ap (λ (m : ℕ). nat_eq m n) is.node ∙ same_number n) in
+      let m : Message = record { c = env.serve.c; epoch = record { 0 = env.epoch }; body = body.Ended last.reason last.snd.0 last.rcv.0 (reset_count work.service.over) } in
       let bytes : List ℕ = spelled_message m in
       let one : pick (from_node n) (map (sending (Node n)) end) ≡ bytes ∷ [] = ap (λ b. listed (cond b (Some bytes) None) ++ []) (same_number n) in
       let small : env.epoch < 2 ^ 16 = omega (arith, two) in
@@ -161,15 +161,15 @@ module _ (k : Setting) (x : Conn) (at_place : IsPlaced x) (known : NodesKnown x)
       let all : SaysIt h (picked (of_row (from_node n)) (seen_in x v)) = subst (SaysIt h) (sym (pick-seen (from_node n) x v)) (says-before h (picked (of_row (from_node n)) heads) (pick (from_node n) (rows_of x v)) rows) in
       subst (λ (l : List ℕ). EachIsTold l (picked (of_row (from_node n)) (seen_in x v))) (sym (seen-gave n x v mine first (env.epoch ∷ []) gave)) (all, tt)
 
-  turn-go : (part : NodePart) (before_sent : List (Place × List ℕ)) (work : Work) (given : Ending × Turn) (takes : List ℕ) → env.epoch ≡ 2 → pick (node_took n) (named given.1.notes) ≡ takes
-      → (is_no_node k.nodes n ≡ false → takes ≡ above before (picked (offer_in n) heads)) → max before (highest takes) ≡ env.epoch → Goes (Does (kept_after env part work given.0, turn_by env before_sent work given))
+  turn-go : (part : NodePart) (before_sent : List (Place × List ℕ)) (work : Work) (given : Ending × Turn) (takes : List ℕ) → env.epoch ≡ 2 → pick (node_took n) (named_records given.1.notes) ≡ takes
+      → (is_no_node k.nodes n ≡ false → takes ≡ above before (picked (epoch_offered n) heads)) → max before (highest takes) ≡ env.epoch → Goes (Does (kept_after env part work given.0, turn_by env before_sent work given))
   turn-go part before_sent work given takes two took due then help =
       let q : NodePart = kept_after env part work given.0 in
       let v : Move = node_does x n heads (Does (q, turn_by env before_sent work given)) in
       by-own v help.own refl refl (put-other q) (record {
         takes = takes;
         takes_are = seen-took n x v help.own first takes took;
-        due = λ there. due there ∙ ap (above before) (sym (seen-offers n x v help.own first (picked (offer_in n) heads) refl));
+        due = λ there. due there ∙ ap (above before) (sym (seen-offers n x v help.own first (picked (epoch_offered n) heads) refl));
         ends = gave-told part before_sent work given two help.own;
         then = then ∙ sym (ap epoch_in (put-same nodes n q) ∙ kept-epoch part work given.0);
         late = subst (λ (p : NodePart). IsLate p.row) (sym (put-same nodes n q)) (kept-late part work given.0 two);
@@ -185,7 +185,7 @@ module _ (k : Setting) (x : Conn) (at_place : IsPlaced x) (known : NodesKnown x)
   staying-epoch : (o : Option BackRow) (b : ControlBlock) → staying env.epoch o ≡ Some b → (elim o as (λ q. ℕ) [ None ↦ 0 | Some row ↦ row.epoch.0 ]) ≡ env.epoch
   staying-epoch None b e = let no : None ≡ Some b = e in absurd cc
   staying-epoch (Some row) b e = go (row.epoch.0 == env.epoch) refl e where
-    go : (t : Bool) → (row.epoch.0 == env.epoch) ≡ t → cond t (held_in row.stage) None ≡ Some b → row.epoch.0 ≡ env.epoch
+    go : (t : Bool) → (row.epoch.0 == env.epoch) ≡ t → cond t (back_held row.stage) None ≡ Some b → row.epoch.0 ≡ env.epoch
     go true f h = eqb-true row.epoch.0 env.epoch f
     go false f h = let no : None ≡ Some b = h in absurd cc
 
@@ -204,20 +204,20 @@ module _ (k : Setting) (x : Conn) (at_place : IsPlaced x) (known : NodesKnown x)
   }
 
   -- no Offer comes, and nothing is taken
-  module _ (none : picked (offer_in n) heads ≡ []) where
+  module _ (none : picked (epoch_offered n) heads ≡ []) where
     plain-go : IsHere → (part : NodePart) (before_sent : List (Place × List ℕ)) (work : Work) (given : Ending × Turn) → Each IsPlain given.1.notes → Goes (Does (kept_after env part work given.0, turn_by env before_sent work given))
-    plain-go it part before_sent work given plain = turn-go part before_sent work given [] it.two (plains-took n (named given.1.notes) (plain-named given.1.notes plain))
+    plain-go it part before_sent work given plain = turn-go part before_sent work given [] it.two (plains-took n (named_records given.1.notes) (plain-named given.1.notes plain))
         (λ there. ap (above before) (sym none)) (max-none before ∙ known.highest_is n ∙ it.now)
 
     works-go : IsHere → (part : NodePart) (work : Work) → Each IsPlain work.service.notes → Goes (with_work env part [] (goes_on env work))
     works-go it part work plain =
         let w : Work = goes_on env work in
         let done = settled-is env.serve w.service in
-        plain-go it part [] w (settled env.serve w.service) (subst (Each IsPlain) (sym done.notes) (goes-notes (Each IsPlain) plain-more env work plain)) where
+        plain-go it part [] w (serving_settled env.serve w.service) (subst (Each IsPlain) (sym done.notes) (goes-notes (Each IsPlain) plain-more env work plain)) where
           plain-more : (ns rs : List Rec) → Each IsPlain rs → Each IsPlain ns → Each IsPlain (ns ++ rs)
           plain-more ns rs p h = Each-append IsPlain ns rs h p
 
-    heard-by : (r : Result Segment SegFault) (o : Option (ControlBlock × Stay)) → here env.epoch ours ≡ o → Goes (heard_by env ours r o)
+    heard-by : (r : Result Segment SegFault) (o : Option (ControlBlock × Stay)) → here env.epoch ours ≡ o → Goes (node_heard_by env ours r o)
     heard-by (Err fault) o e = dropped none
     heard-by (Ok s) None e = dropped none
     heard-by (Ok s) (Some y) e = works-go (is-here y.0 y.1 e) ours (work_of (on_segment y.0 s).1 y.1) tt
@@ -230,7 +230,7 @@ module _ (k : Setting) (x : Conn) (at_place : IsPlaced x) (known : NodesKnown x)
 
     tagged-by : (number : ℕ) (tags : List ℕ) (o : Option (ControlBlock × Stay)) → here env.epoch ours ≡ o → Goes (tagged_by env number tags ours o)
     tagged-by number tags None e = dropped none
-    tagged-by number tags (Some y) e = cond_both (is_awaited env number tags ours y.1) _ Drops Goes
+    tagged-by number tags (Some y) e = cond_both (is_tag_awaited env number tags ours y.1) _ Drops Goes
         (λ t. works-go (is-here y.0 y.1 e) (record ours { kept = without timer.Ask 0 ours.kept }) (tagged env tags (work_of y.0 y.1)) (tagged-notes (Each IsPlain) plain-on env tags (work_of y.0 y.1) tt))
         (λ t. dropped none)
 
@@ -246,7 +246,7 @@ module _ (k : Setting) (x : Conn) (at_place : IsPlaced x) (known : NodesKnown x)
     pub content-go : (from r : ℕ) → Goes (node_content env ours from r)
     content-go from r = come-by from r (here env.epoch ours) refl
 
-    read-by : (r : ℕ) (o : Option (ControlBlock × Stay)) → here env.epoch ours ≡ o → Goes (read_by env r ours o)
+    read-by : (r : ℕ) (o : Option (ControlBlock × Stay)) → here env.epoch ours ≡ o → Goes (node_read_by env r ours o)
     read-by r None e = dropped none
     read-by r (Some y) e = works-go (is-here y.0 y.1 e) ours (came_for read_progress r (work_of y.0 y.1)) (came-notes (Each IsPlain) plain-on read_progress r (work_of y.0 y.1) tt)
 
@@ -265,9 +265,9 @@ module _ (k : Setting) (x : Conn) (at_place : IsPlaced x) (known : NodesKnown x)
     pub acknowledged-go : Goes (node_acknowledged env ours)
     acknowledged-go =
         let q : NodePart = record ours { row = gone ours.row; kept = without timer.Ended 0 ours.kept } in
-        cond_both (awaits_ack env.epoch ours.row) (Does (q, saying [])) Drops Goes
+        cond_both (awaits_ack env.epoch ours.row) (Does (q, node_saying [])) Drops Goes
         (λ t help.
-        let v : Move = node_does x n heads (Does (q, saying [])) in
+        let v : Move = node_does x n heads (Does (q, node_saying [])) in
         by-own v help.own refl refl (put-other q)
         (quiet-at k.nodes n x v help.own known first none refl refl (ap epoch_in (put-same nodes n q) ∙ gone-epoch ours.row)
         (subst (λ (p : NodePart). IsLate p.row) (sym (put-same nodes n q)) (gone-late ours.row (known.late n)))))
@@ -275,12 +275,12 @@ module _ (k : Setting) (x : Conn) (at_place : IsPlaced x) (known : NodesKnown x)
 
   -- ---- an Offer comes to it
 
-  module _ (parts : EndpointParts) (comes : picked (offer_in n) heads ≡ env.epoch ∷ []) (said : IsDecided env.epoch ours.row ⊎ IsOffered n env.epoch x.part.front.row) where
+  module _ (parts : EndpointParts) (comes : picked (epoch_offered n) heads ≡ env.epoch ∷ []) (said : IsDecided env.epoch ours.row ⊎ IsOffered n env.epoch x.part.front.row) where
     -- of an epoch that is not above what it had
-    stale-at : (v : Move) → IsItsOwn x v → v.heads ≡ heads → v.part.nodes n ≡ ours → pick (node_took n) v.said.notes ≡ [] → pick (node_gave n) v.said.gave ≡ [] → nat_lt (epoch_in ours) env.epoch ≡ false → At k.nodes x v n
+    stale-at : (v : Move) → IsItsOwn x v → v.heads ≡ heads → v.part.nodes n ≡ ours → pick (node_took n) v.said.notes ≡ [] → pick (node_gave_epoch n) v.said.gave ≡ [] → nat_lt (epoch_in ours) env.epoch ≡ false → At k.nodes x v n
     stale-at v mine seen same took gave old =
         let firsts : Each IsFirst v.heads = subst (Each IsFirst) (sym seen) first in
-        let offers : picked (offer_in n) (seen_in x v) ≡ env.epoch ∷ [] = seen-offers n x v mine firsts (env.epoch ∷ []) (ap (picked (offer_in n)) seen ∙ comes) in
+        let offers : picked (epoch_offered n) (seen_in x v) ≡ env.epoch ∷ [] = seen-offers n x v mine firsts (env.epoch ∷ []) (ap (picked (epoch_offered n)) seen ∙ comes) in
         record {
           takes = [];
           takes_are = seen-took n x v mine firsts [] took;
@@ -322,16 +322,16 @@ module _ (k : Setting) (x : Conn) (at_place : IsPlaced x) (known : NodesKnown x)
     new-go undecided above_it =
         let two : env.epoch ≡ 2 = undecided-two undecided in
         let took : Rec = rec.Took (Node env.n) env.serve.c (record { 0 = env.epoch }) in
-        let start : Work = begins env parts in
+        let start : Work = node_begins env parts in
         let work : Work = goes_on env (state_of (reads_batch env true start)) in
-        let given : Ending × Turn = settled env.serve work.service in
+        let given : Ending × Turn = serving_settled env.serve work.service in
         let done = settled-is env.serve work.service in
         let all : Begins took work.service.notes = goes-notes (Begins took) (begins-more took) env (state_of (reads_batch env true start)) (batch-state (Begins took) (begins-more took) env true start ([], refl, tt)) in
         let notes : given.1.notes ≡ took ∷ all.0 = done.notes ∙ all.1 in
-        let takes : pick (node_took n) (named given.1.notes) ≡ env.epoch ∷ [] =
-        ap (λ (l : List Rec). pick (node_took n) (named l)) notes
-        ∙ ap (λ b. listed (cond b (Some env.epoch) None) ++ pick (node_took n) (named all.0)) (ap (λ (m : ℕ). nat_eq m n) is.node ∙ same_number n)
-        ∙ ap (λ (l : List ℕ). env.epoch ∷ l) (plains-took n (named all.0) (plain-named all.0 all.2)) in
+        let takes : pick (node_took n) (named_records given.1.notes) ≡ env.epoch ∷ [] =
+        ap (λ (l : List Rec). pick (node_took n) (named_records l)) notes
+        ∙ ap (λ b. listed (cond b (Some env.epoch) None) ++ pick (node_took n) (named_records all.0)) (ap (λ (m : ℕ). nat_eq m n) is.node ∙ same_number n)
+        ∙ ap (λ (l : List ℕ). env.epoch ∷ l) (plains-took n (named_records all.0) (plain-named all.0 all.2)) in
         let over : before < env.epoch = omega (arith, known.highest_is n, ltb-true (epoch_in ours) env.epoch above_it) in
         turn-go ours (taken_sent env) work given (env.epoch ∷ []) two takes
         (λ there. sym (ap (above before) comes ∙ ap (λ (b : Bool). cond b (env.epoch ∷ []) []) (lt-ltb before env.epoch over))) (omega (arith, over))
@@ -374,30 +374,30 @@ module _ (k : Setting) (x : Conn) (at_place : IsPlaced x) (known : NodesKnown x)
 
 -- ---- its timer fires
 
-module _ (k : Setting) (x : Conn) (at_place : IsPlaced x) (known : NodesKnown x) (n : ℕ) (env : NodeEnv) (is : IsNodeEnv k x.c n (epoch_in (x.part.nodes n)) env) (heads : List Seen) (first : Each IsFirst heads) (none : (m : ℕ) → picked (offer_in m) heads ≡ []) where
+module _ (k : Setting) (x : Conn) (at_place : IsPlaced x) (known : NodesKnown x) (n : ℕ) (env : NodeEnv) (is : IsNodeEnv k x.c n (epoch_in (x.part.nodes n)) env) (heads : List Seen) (first : Each IsFirst heads) (none : (m : ℕ) → picked (epoch_offered m) heads ≡ []) where
   abbrev mine : NodePart
   mine = x.part.nodes n
 
-  abbrev Fires : Deed → Type 0
+  abbrev Fires : NodeDeed → Type 0
   Fires d = Goes k x at_place known n (epoch_in mine) env is heads first (λ m other. none m) d
 
-  two-at : (row : BackRow) (b : ControlBlock) → mine.row ≡ Some row → held_in row.stage ≡ Some b → row.epoch.0 ≡ 2
+  two-at : (row : BackRow) (b : ControlBlock) → mine.row ≡ Some row → back_held row.stage ≡ Some b → row.epoch.0 ≡ 2
   two-at row b found held = (has-at x at_place n row b found (in-stage row.stage held) x.part.front.row refl).can.two where
-    in-stage : (st : BackConn) → held_in st ≡ Some b → st ≡ back.Here b
+    in-stage : (st : BackConn) → back_held st ≡ Some b → st ≡ back.Here b
     in-stage (back.Here c) h = let same : c ≡ b = cc in ap back.Here same
     in-stage back.Out h = let no : None ≡ Some b = h in absurd cc
     in-stage back.Ended h = let no : None ≡ Some b = h in absurd cc
     in-stage back.Gone h = let no : None ≡ Some b = h in absurd cc
 
-  here-at : (o : Option BackRow) → mine.row ≡ o → (b : ControlBlock) → endpoint_of o ≡ Some b → env.epoch ≡ 2
+  here-at : (o : Option BackRow) → mine.row ≡ o → (b : ControlBlock) → back_endpoint o ≡ Some b → env.epoch ≡ 2
   here-at None found b e = let no : None ≡ Some b = e in absurd cc
   here-at (Some row) found b e = is.epoch_is ∙ ap (λ (o : Option BackRow). epoch_in (record mine { row = o })) found ∙ two-at row b found e
 
-  fires-by : (o : Option ControlBlock) → endpoint_of mine.row ≡ o → (y : Option Stay) → Fires (fired_by env mine (both_of o y))
+  fires-by : (o : Option ControlBlock) → back_endpoint mine.row ≡ o → (y : Option Stay) → Fires (node_fired_by env mine (both_of o y))
   fires-by None e y = says-go k x at_place known n (epoch_in mine) env is heads first (λ m other. none m) (none n) (again_sent mine)
   fires-by (Some b) e None = says-go k x at_place known n (epoch_in mine) env is heads first (λ m other. none m) (none n) (again_sent mine)
   fires-by (Some b) e (Some s) = plain-go k x at_place known n (epoch_in mine) env is heads first (λ m other. none m) (none n) (record { two = here-at mine.row refl b e; now = sym is.epoch_is }) mine (again_sent mine)
-      (work_of (after_timer b) s) (spoken env.serve (serving (after_timer b) s.served []) (ready_of env.serve (after_timer b) (timed b))) tt
+      (work_of (after_timer b) s) (spoken env.serve (serving (after_timer b) s.served []) (serving_ready_of env.serve (after_timer b) (timed b))) tt
 
   pub fires-go : Fires (node_timer env mine)
-  fires-go = fires-by (endpoint_of mine.row) refl mine.stay
+  fires-go = fires-by (back_endpoint mine.row) refl mine.stay

@@ -4,7 +4,7 @@ use Rattle.lard_base.specs.declared.place.Place.{Place}
 use Rattle.lard_base.specs.declared.place.Place.TheVariants.{Client, Front, Node}
 use Rattle.lard_rules.specs.Machine.{is_no_node}
 use Rattle.lard_law_connections.specs.Motion.{EachIsTold, NodeEnds, NodeTakes, above}
-use Rattle.lard_law_connections.specs.MotionStory.{from_node, highest, node_gave, node_took, of_row, offer_in, picked}
+use Rattle.lard_law_connections.specs.MotionStory.{from_node, highest, node_gave_epoch, node_took, of_row, epoch_offered, picked}
 use Rattle.lard_law_connections.proofs.MotionPicking.{came-none, pick, pick-none, pick-parts, pick-seen, picked-append, picked-none, timers-none}
 use Rattle.lard_law_view.specs.View.{Conn, Move, epoch_in, grown, rows_of, seen_in, sending, timer_rows}
 use Rattle.lard_law_view.proofs.Fine.{IsItsOwn}
@@ -44,7 +44,7 @@ NodesGo nodes x v = NodesMove nodes x.seen (seen_in x v) × NodesKnown (grown x 
 pub record At (nodes : ℕ) (x : Conn) (v : Move) (n : ℕ) : Type 0 where
   pub takes : List ℕ
   pub takes_are : picked (of_row (node_took n)) (seen_in x v) ≡ takes
-  pub due : is_no_node nodes n ≡ false → takes ≡ above (highest (picked (of_row (node_took n)) x.seen)) (picked (offer_in n) (seen_in x v))
+  pub due : is_no_node nodes n ≡ false → takes ≡ above (highest (picked (of_row (node_took n)) x.seen)) (picked (epoch_offered n) (seen_in x v))
   pub ends : NodeEnds n (seen_in x v)
   pub then : max (highest (picked (of_row (node_took n)) x.seen)) (highest takes) ≡ epoch_in (v.part.nodes n)
   pub late : IsLate (v.part.nodes n).row
@@ -84,7 +84,7 @@ took-behind n (Row (rec.Injected c)) h = refl
 took-behind n (Row _) h = absurd h
 took-behind n (Came l) h = refl
 
-gave-behind : (n : ℕ) → IsBehind (node_gave n)
+gave-behind : (n : ℕ) → IsBehind (node_gave_epoch n)
 gave-behind n (Row (rec.Event i e)) h = refl
 gave-behind n (Row (rec.Opened c isn iss wnd mss)) h = refl
 gave-behind n (Row (rec.Injected c)) h = refl
@@ -98,7 +98,7 @@ timer-took n place d (rec.Armed p k kind) h = refl
 timer-took n place d (rec.Cleared p k kind) h = refl
 timer-took n place d _ h = absurd h
 
-timer-gave : (n : ℕ) (place : Place) (d : ℕ) (r : Rec) → IsTimerAt place d r → node_gave n r ≡ None
+timer-gave : (n : ℕ) (place : Place) (d : ℕ) (r : Rec) → IsTimerAt place d r → node_gave_epoch n r ≡ None
 timer-gave n place d (rec.Armed p k kind) h = refl
 timer-gave n place d (rec.Cleared p k kind) h = refl
 timer-gave n place d _ h = absurd h
@@ -107,12 +107,12 @@ sends-took : (n : ℕ) (place : Place) (ss : List (Place × List ℕ)) → pick 
 sends-took n place [] = refl
 sends-took n place (s ∷ ss) = sends-took n place ss
 
-sends-gave : (n : ℕ) (place : Place) (ss : List (Place × List ℕ)) → pick (node_gave n) (map (sending place) ss) ≡ []
+sends-gave : (n : ℕ) (place : Place) (ss : List (Place × List ℕ)) → pick (node_gave_epoch n) (map (sending place) ss) ≡ []
 sends-gave n place [] = refl
 sends-gave n place (s ∷ ss) = sends-gave n place ss
 
 -- no note gives anything up, and what is given up is not taken
-note-gave : (n : ℕ) (place : Place) (c : ℕ) (r : Rec) → NotedAt place c r → node_gave n r ≡ None
+note-gave : (n : ℕ) (place : Place) (c : ℕ) (r : Rec) → NotedAt place c r → node_gave_epoch n r ≡ None
 note-gave n Front c (rec.Gave p d epoch) h = absurd h
 note-gave n (Node m) c (rec.Gave p d epoch) h = absurd h
 note-gave n (Client e) c (rec.Gave p d epoch) h = absurd h
@@ -135,26 +135,26 @@ module _ (n : ℕ) (x : Conn) (v : Move) (own : IsItsOwn x v) (first : Each IsFi
       ++ sends-took n v.place v.said.messages i ++ pick-none (node_took n) (timer_rows v.place x.c x.part v.part) (timers-none (node_took n) (timer-took n) v.place x.c x.part v.part) i)
       ∙ append-nil (takes ++ [] ++ [] ++ []) ∙ append-nil (takes ++ [] ++ []) ∙ append-nil (takes ++ []) ∙ append-nil takes
 
-  pub seen-gave : (gives : List ℕ) → pick (node_gave n) v.said.gave ≡ gives → picked (of_row (node_gave n)) (seen_in x v) ≡ gives
+  pub seen-gave : (gives : List ℕ) → pick (node_gave_epoch n) v.said.gave ≡ gives → picked (of_row (node_gave_epoch n)) (seen_in x v) ≡ gives
   seen-gave gives e =
-      pick-seen (node_gave n) x v
-      ∙ ap (λ l. l ++ pick (node_gave n) (rows_of x v)) (picked-none (of_row (node_gave n)) v.heads (Each-weaker IsFirst (λ s. of_row (node_gave n) s ≡ None) (gave-behind n) v.heads first))
-      ∙ pick-parts (node_gave n) x v
-      ∙ (λ i. pick-none (node_gave n) v.said.notes (Each-weaker (NotedAt v.place x.c) (λ r. node_gave n r ≡ None) (note-gave n v.place x.c) v.said.notes own.notes) i
+      pick-seen (node_gave_epoch n) x v
+      ∙ ap (λ l. l ++ pick (node_gave_epoch n) (rows_of x v)) (picked-none (of_row (node_gave_epoch n)) v.heads (Each-weaker IsFirst (λ s. of_row (node_gave_epoch n) s ≡ None) (gave-behind n) v.heads first))
+      ∙ pick-parts (node_gave_epoch n) x v
+      ∙ (λ i. pick-none (node_gave_epoch n) v.said.notes (Each-weaker (NotedAt v.place x.c) (λ r. node_gave_epoch n r ≡ None) (note-gave n v.place x.c) v.said.notes own.notes) i
       ++ sends-gave n v.place v.said.segments i ++ e i
-      ++ sends-gave n v.place v.said.messages i ++ pick-none (node_gave n) (timer_rows v.place x.c x.part v.part) (timers-none (node_gave n) (timer-gave n) v.place x.c x.part v.part) i)
+      ++ sends-gave n v.place v.said.messages i ++ pick-none (node_gave_epoch n) (timer_rows v.place x.c x.part v.part) (timers-none (node_gave_epoch n) (timer-gave n) v.place x.c x.part v.part) i)
       ∙ append-nil (gives ++ []) ∙ append-nil gives
 
   -- the Offers that come are seen first
-  pub seen-offers : (offers : List ℕ) → picked (offer_in n) v.heads ≡ offers → picked (offer_in n) (seen_in x v) ≡ offers
-  seen-offers offers e = picked-append (offer_in n) v.heads (map Row (rows_of x v)) ∙ (λ i. e i ++ came-none (offer_in n) (λ r. refl) (rows_of x v) i) ∙ append-nil offers
+  pub seen-offers : (offers : List ℕ) → picked (epoch_offered n) v.heads ≡ offers → picked (epoch_offered n) (seen_in x v) ≡ offers
+  seen-offers offers e = picked-append (epoch_offered n) v.heads (map Row (rows_of x v)) ∙ (λ i. e i ++ came-none (epoch_offered n) (λ r. refl) (rows_of x v) i) ∙ append-nil offers
 
 -- ---- where node n does nothing of it
 
 pub max-none : (h : ℕ) → max h 0 ≡ h
 max-none h = omega arith
 
-pub quiet-at : (nodes n : ℕ) (x : Conn) (v : Move) → IsItsOwn x v → NodesKnown x → Each IsFirst v.heads → picked (offer_in n) v.heads ≡ [] → pick (node_took n) v.said.notes ≡ [] → pick (node_gave n) v.said.gave ≡ []
+pub quiet-at : (nodes n : ℕ) (x : Conn) (v : Move) → IsItsOwn x v → NodesKnown x → Each IsFirst v.heads → picked (epoch_offered n) v.heads ≡ [] → pick (node_took n) v.said.notes ≡ [] → pick (node_gave_epoch n) v.said.gave ≡ []
     → epoch_in (v.part.nodes n) ≡ epoch_in (x.part.nodes n) → IsLate (v.part.nodes n).row → At nodes x v n
 quiet-at nodes n x v own known first offers took gave same late = record {
   takes = [];
@@ -182,7 +182,7 @@ other-took n (Node m) c (rec.Took (Client e) d epoch) o h = refl
 other-took n (Node m) c (rec.Took (Node k) d epoch) o h = ap (λ b. cond b (Some epoch.0) None) (other_number k n (λ same. o (sym h.0 ∙ same)))
 other-took n place c _ o h = refl
 
-other-gave : (n : ℕ) (place : Place) (c : ℕ) (r : Rec) → IsOther n place → GaveAt place c r → node_gave n r ≡ None
+other-gave : (n : ℕ) (place : Place) (c : ℕ) (r : Rec) → IsOther n place → GaveAt place c r → node_gave_epoch n r ≡ None
 other-gave n Front c (rec.Gave Front d epoch) o h = refl
 other-gave n Front c (rec.Gave (Node m) d epoch) o h = absurd h
 other-gave n Front c (rec.Gave (Client e) d epoch) o h = refl
@@ -192,8 +192,8 @@ other-gave n (Node m) c (rec.Gave (Client e) d epoch) o h = refl
 other-gave n (Node m) c (rec.Gave (Node k) d epoch) o h = ap (λ b. cond b (Some epoch.0) None) (other_number k n (λ same. o (sym h.0 ∙ same)))
 other-gave n place c _ o h = refl
 
-pub other-at : (nodes n : ℕ) (x : Conn) (v : Move) → IsItsOwn x v → NodesKnown x → Each IsFirst v.heads → picked (offer_in n) v.heads ≡ [] → IsOther n v.place → v.part.nodes n ≡ x.part.nodes n → At nodes x v n
+pub other-at : (nodes n : ℕ) (x : Conn) (v : Move) → IsItsOwn x v → NodesKnown x → Each IsFirst v.heads → picked (epoch_offered n) v.heads ≡ [] → IsOther n v.place → v.part.nodes n ≡ x.part.nodes n → At nodes x v n
 other-at nodes n x v own known first offers other same = quiet-at nodes n x v own known first offers
     (pick-none (node_took n) v.said.notes (Each-weaker (NotedAt v.place x.c) (λ r. node_took n r ≡ None) (λ r. other-took n v.place x.c r other) v.said.notes own.notes))
-    (pick-none (node_gave n) v.said.gave (Each-weaker (GaveAt v.place x.c) (λ r. node_gave n r ≡ None) (λ r. other-gave n v.place x.c r other) v.said.gave own.gave))
+    (pick-none (node_gave_epoch n) v.said.gave (Each-weaker (GaveAt v.place x.c) (λ r. node_gave_epoch n r ≡ None) (λ r. other-gave n v.place x.c r other) v.said.gave own.gave))
     (ap epoch_in same) (subst (λ (p : NodePart). IsLate p.row) (sym same) (known.late n))

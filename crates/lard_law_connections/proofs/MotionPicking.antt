@@ -4,7 +4,7 @@ use Rattle.std.proofs.lemmas.List.Sums.{fold-append}
 use Rattle.std.specs.List.{fold, list_any}
 use Rattle.lard_base.specs.declared.place.Place.{Place}
 use Rattle.lard_base.specs.declared.place.Place.TheVariants.{Client, Front, Node}
-use Rattle.lard_law_connections.specs.MotionStory.{Story, ended_in, ended_on, first_node, front_gave, front_took, is_syn_in, of_row, picked, row_step, segment_in, segment_on, story, story_step, syn_on, untold}
+use Rattle.lard_law_connections.specs.MotionStory.{Story, ended_in, ended_on, first_node, front_gave_epoch, front_took, is_syn_in, of_row, picked, row_step, segment_in, segment_on, story, story_step, syn_on, untold_story}
 use Rattle.lard_law_view.specs.View.{Conn, Move, Part, rows_of, seen_in, sending, timer_rows}
 use Rattle.lard_law_view.proofs.Timers.{IsTimerAt, timer_rows-are}
 use Rattle.lard_history.specs.Own.{Seen, Row, Came}
@@ -104,7 +104,7 @@ still-took (rec.Took (Node n) c epoch) h = refl
 still-took (rec.Took (Client d) c epoch) h = refl
 still-took _ h = refl
 
-pub still-gave : (r : Rec) → IsStill r → front_gave r ≡ None
+pub still-gave : (r : Rec) → IsStill r → front_gave_epoch r ≡ None
 still-gave (rec.Gave Front c epoch) h = absurd h
 still-gave (rec.Gave (Node n) c epoch) h = refl
 still-gave (rec.Gave (Client d) c epoch) h = refl
@@ -117,8 +117,8 @@ still-first _ h = refl
 pub stills-took : (rs : List Rec) → Each IsStill rs → pick front_took rs ≡ []
 stills-took rs h = pick-none front_took rs (Each-weaker IsStill (λ r. front_took r ≡ None) still-took rs h)
 
-pub stills-gave : (rs : List Rec) → Each IsStill rs → pick front_gave rs ≡ []
-stills-gave rs h = pick-none front_gave rs (Each-weaker IsStill (λ r. front_gave r ≡ None) still-gave rs h)
+pub stills-gave : (rs : List Rec) → Each IsStill rs → pick front_gave_epoch rs ≡ []
+stills-gave rs h = pick-none front_gave_epoch rs (Each-weaker IsStill (λ r. front_gave_epoch r ≡ None) still-gave rs h)
 
 pub stills-first : (rs : List Rec) → Each IsStill rs → pick first_node rs ≡ []
 stills-first rs h = pick-none first_node rs (Each-weaker IsStill (λ r. first_node r ≡ None) still-first rs h)
@@ -147,7 +147,7 @@ story-grown x v =
     let T : List Rec = timer_rows v.place x.c x.part v.part in
     let t : Story = fold (story_step x.c) (story x.c x.seen) v.heads in
     let noted : Story = fold row_step t v.said.notes in
-    fold-append (story_step x.c) untold x.seen (seen_in x v)
+    fold-append (story_step x.c) untold_story x.seen (seen_in x v)
     ∙ fold-append (story_step x.c) (story x.c x.seen) v.heads (map Row (rows_of x v))
     ∙ story-rows x.c t (rows_of x v)
     ∙ fold-append row_step t (v.said.notes ++ S ++ v.said.gave ++ M) T

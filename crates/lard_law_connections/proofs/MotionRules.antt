@@ -9,7 +9,7 @@ use Rattle.lard_base.specs.declared.place.Place.TheVariants.{Client, Front, Node
 use Rattle.lard_client.specs.Control.{ClientBlock}
 use Rattle.lard_rules.specs.Machine.{is_no_node}
 use Rattle.lard_law_connections.specs.Motion.{EachIsTold, above}
-use Rattle.lard_law_connections.specs.MotionStory.{Story, decoded_bytes, ended_epoch, ended_on, from_node, highest, is_among, is_syn, node_took, offer_epoch, offer_in, offer_on, of_row, picked, segment_on, story, syn_on}
+use Rattle.lard_law_connections.specs.MotionStory.{Story, decoded_bytes, ended_epoch, ended_on, from_node, highest, is_among, is_syn, node_took, offer_epoch, epoch_offered, offer_on, of_row, picked, segment_on, story, syn_on}
 use Rattle.lard_law_connections.proofs.MotionElsewhere.{Helps, IsBare, IsKnown, IsNotOfClient, Moves, SomeDecided, else-moves, machine-letters, quiet-moves}
 use Rattle.lard_law_connections.proofs.MotionFronts as fronts
 use Rattle.lard_law_connections.proofs.MotionComings.{Heads}
@@ -20,8 +20,8 @@ use Rattle.lard_law_connections.specs.Places.{IsDecided, IsOffered, IsOver}
 use Rattle.lard_law_connections.proofs.PlacesFrontMessages.{came-says}
 use Rattle.lard_law_connections.proofs.PlacesFrontRules.{has-each}
 use Rattle.lard_law_connections.proofs.PlacesTurns.{IsPlaced, Owes}
-use Rattle.lard_law_view.specs.Carry.{MayMove}
-use Rattle.lard_law_view.specs.View.{ClientRules, Conn, IsFrontEnv, IsNodeEnv, IsForFront, IsForNode, IsNobody, IsUnheard, Move, Rules, Setting, Spells, Was, client_begins, client_does, contents, epoch_in, event_seen, front_admits, front_does, inject_seen, letter, node_does, nothing_said, packet_seen, reads_first, rows_of, seen_in, stands}
+use Rattle.lard_law_view.specs.Carry.{MayRestOn}
+use Rattle.lard_law_view.specs.View.{ClientRules, Conn, IsFrontEnv, IsNodeEnv, IsForFront, IsForNode, IsNobody, IsUnheard, Move, Rules, Setting, SpellsMessage, Was, client_begins, client_does, content_said, epoch_in, event_seen, front_admits, front_does, inject_seen, letter, node_does, nothing_said, packet_seen, reads_first, rows_of, seen_in, stands}
 use Rattle.lard_law_view.proofs.Fine.{IsItsOwn}
 use Rattle.lard_rules.specs.declared.front.FrontTurn.{FrontTurn}
 use Rattle.lard_rules.specs.Front as front
@@ -57,7 +57,7 @@ pub record Way (x : Conn) : Type 0 where
 
 -- the move is as it must be, and what is known stays known
 abbrev pub Goes : Setting → Conn → Move → Type 0
-Goes k x v = MayMove IsPlaced x → Way x → Helps x v → Moves x v × NodesGo k.nodes x v
+Goes k x v = MayRestOn IsPlaced x → Way x → Helps x v → Moves x v × NodesGo k.nodes x v
 
 -- ---- what is seen first
 
@@ -66,7 +66,7 @@ pub record IsClear (x : Conn) (heads : List Seen) : Type 0 where
   pub apart : Each (IsApart x.c) heads
   pub bare : Each IsBare heads
   pub first : Each IsFirst heads
-  pub offers : (n : ℕ) → picked (offer_in n) heads ≡ []
+  pub offers : (n : ℕ) → picked (epoch_offered n) heads ≡ []
 
 -- a packet that comes to a client
 client-clear : (x : Conn) (from : Place) (d : ℕ) (bytes : List ℕ) → IsClear x (packet_seen from (Client d) bytes)
@@ -134,7 +134,7 @@ module _ (x : Conn) where
 
 module _ (k : Setting) (x : Conn) where
   -- the nodes are as they were
-  front-nodes : (heads : List Seen) → Each IsFirst heads → ((n : ℕ) → picked (offer_in n) heads ≡ []) → NodesKnown x → (d : front.Deed) → IsItsOwn x (front_does x heads d) → NodesGo k.nodes x (front_does x heads d)
+  front-nodes : (heads : List Seen) → Each IsFirst heads → ((n : ℕ) → picked (epoch_offered n) heads ≡ []) → NodesKnown x → (d : front.FrontDeed) → IsItsOwn x (front_does x heads d) → NodesGo k.nodes x (front_does x heads d)
   front-nodes heads first offers known front.Drops own = nodes-go k.nodes x (front_does x heads front.Drops) (λ n. other-at k.nodes n x (front_does x heads front.Drops) own known first (offers n) tt refl)
   front-nodes heads first offers known (front.Says turn) own = nodes-go k.nodes x (front_does x heads (front.Says turn)) (λ n. other-at k.nodes n x (front_does x heads (front.Says turn)) own known first (offers n) tt refl)
   front-nodes heads first offers known (front.Does did) own = nodes-go k.nodes x (front_does x heads (front.Does did)) (λ n. other-at k.nodes n x (front_does x heads (front.Does did)) own known first (offers n) tt refl)
@@ -161,20 +161,20 @@ module _ (k : Setting) (x : Conn) where
     front-nodes (event_seen (event.Timer Front x.c)) (tt, tt) (λ n. refl) way.nodes (front_timer env x.part.front) help.own,
   )
 
-  taken-goes : (env : FrontEnv) → IsFrontEnv k x.c env → (n epoch : ℕ) (bytes : List ℕ) → Spells x.c epoch body.Taken bytes → Goes k x (front_does x (packet_seen (Node n) Front bytes) (front_taken x.part.front epoch))
+  taken-goes : (env : FrontEnv) → IsFrontEnv k x.c env → (n epoch : ℕ) (bytes : List ℕ) → SpellsMessage x.c epoch body.Taken bytes → Goes k x (front_does x (packet_seen (Node n) Front bytes) (front_taken x.part.front epoch))
   taken-goes env is n epoch bytes spells may way help = (
     fronts.taken-move k x may.given way.front (packet_seen (Node n) Front bytes) false [] [] (message-heads x n bytes None (ap ended_epoch spells)) env is (still-ended x way.front) refl refl refl epoch help,
     front-nodes (packet_seen (Node n) Front bytes) (tt, tt) (λ m. refl) way.nodes (front_taken x.part.front epoch) help.own,
   )
 
-  asked-goes : (env : FrontEnv) → IsFrontEnv k x.c env → (n epoch number queue size : ℕ) (paths : List (List ℕ)) (bytes : List ℕ) → Spells x.c epoch (body.Ask number queue size paths) bytes
+  asked-goes : (env : FrontEnv) → IsFrontEnv k x.c env → (n epoch number queue size : ℕ) (paths : List (List ℕ)) (bytes : List ℕ) → SpellsMessage x.c epoch (body.Ask number queue size paths) bytes
       → Goes k x (front_does x (packet_seen (Node n) Front bytes) (front_asked env x.part.front n epoch (ask_of x.c n number queue size paths)))
   asked-goes env is n epoch number queue size paths bytes spells may way help = (
     fronts.asked-move k x may.given way.front (packet_seen (Node n) Front bytes) false [] [] (message-heads x n bytes None (ap ended_epoch spells)) env is (still-ended x way.front) refl refl refl n epoch (ask_of x.c n number queue size paths) help,
     front-nodes (packet_seen (Node n) Front bytes) (tt, tt) (λ m. refl) way.nodes (front_asked env x.part.front n epoch (ask_of x.c n number queue size paths)) help.own,
   )
 
-  ended-goes : (env : FrontEnv) → IsFrontEnv k x.c env → (n epoch : ℕ) (reason : _) (snd rcv count : ℕ) (bytes : List ℕ) → Spells x.c epoch (body.Ended reason snd rcv count) bytes → Was x (Node n) Front bytes
+  ended-goes : (env : FrontEnv) → IsFrontEnv k x.c env → (n epoch : ℕ) (reason : _) (snd rcv count : ℕ) (bytes : List ℕ) → SpellsMessage x.c epoch (body.Ended reason snd rcv count) bytes → Was x (Node n) Front bytes
       → Goes k x (front_does x (packet_seen (Node n) Front bytes) (front_ended env x.part.front n epoch (record { reason = reason; snd = record { 0 = snd }; rcv = record { 0 = rcv } })))
   ended-goes env is n epoch reason snd rcv count bytes spells was may way help = (
     fronts.ended-move k x may.given way.front (packet_seen (Node n) Front bytes) false (epoch ∷ []) [] (message-heads x n bytes (Some epoch) (ap ended_epoch spells)) env is ended n epoch refl refl refl
@@ -210,25 +210,25 @@ module _ (k : Setting) (x : Conn) (n : ℕ) where
       (Each-append IsNotOfClient (map (letter (Node n)) ss) (map (letter (Node n)) ms) (machine-letters (Node n) ss tt) (machine-letters (Node n) ms tt))
 
   -- the front end is as it was
-  node-front : (heads : List Seen) → Each (IsApart x.c) heads → Each IsBare heads → IsKnown x → (d : node.Deed) → Helps x (node_does x n heads d) → Moves x (node_does x n heads d)
+  node-front : (heads : List Seen) → Each (IsApart x.c) heads → Each IsBare heads → IsKnown x → (d : node.NodeDeed) → Helps x (node_does x n heads d) → Moves x (node_does x n heads d)
   node-front heads apart bare known node.Drops help = else-moves x (node_does x n heads node.Drops) help known tt apart bare refl (node-fresh known [] [])
   node-front heads apart bare known (node.Says ms) help = else-moves x (node_does x n heads (node.Says ms)) help known tt apart bare refl (node-fresh known [] ms)
   node-front heads apart bare known (node.Does y) help = else-moves x (node_does x n heads (node.Does y)) help known tt apart bare refl (node-fresh known y.1.segments y.1.messages)
 
   -- and so it is behind the record of a job
-  read-front : (r : Rec) → IsKnown x → (d : node.Deed) → Helps x (reads_first r (node_does x n [] d)) → Moves x (reads_first r (node_does x n [] d))
+  read-front : (r : Rec) → IsKnown x → (d : node.NodeDeed) → Helps x (reads_first r (node_does x n [] d)) → Moves x (reads_first r (node_does x n [] d))
   read-front r known node.Drops help = else-moves x (reads_first r (node_does x n [] node.Drops)) help known tt tt tt refl (node-fresh known [] [])
   read-front r known (node.Says ms) help = else-moves x (reads_first r (node_does x n [] (node.Says ms))) help known tt tt tt refl (node-fresh known [] ms)
   read-front r known (node.Does y) help = else-moves x (reads_first r (node_does x n [] (node.Does y))) help known tt tt tt refl (node-fresh known y.1.segments y.1.messages)
 
   -- no other node hears what comes to this one
-  others-unheard : (from : Place) (bytes : List ℕ) (m : ℕ) → m ≢ n → picked (offer_in m) (packet_seen from (Node n) bytes) ≡ []
+  others-unheard : (from : Place) (bytes : List ℕ) (m : ℕ) → m ≢ n → picked (epoch_offered m) (packet_seen from (Node n) bytes) ≡ []
   others-unheard Front bytes m other = append-nil (listed (cond (nat_eq n m) (offer_epoch (decoded_message bytes)) None)) ∙ ap (λ b. listed (cond b (offer_epoch (decoded_message bytes)) None)) (other_number n m (λ e. other (sym e)))
   others-unheard (Node j) bytes m other = refl
   others-unheard (Client d) bytes m other = refl
 
   -- what comes to it from the front end
-  this-hears : (bytes : List ℕ) (o : Option ℕ) → offer_epoch (decoded_message bytes) ≡ o → picked (offer_in n) (packet_seen Front (Node n) bytes) ≡ listed o
+  this-hears : (bytes : List ℕ) (o : Option ℕ) → offer_epoch (decoded_message bytes) ≡ o → picked (epoch_offered n) (packet_seen Front (Node n) bytes) ≡ listed o
   this-hears bytes o e =
       append-nil (listed (cond (nat_eq n n) (offer_epoch (decoded_message bytes)) None)) ∙ ap (λ b. listed (cond b (offer_epoch (decoded_message bytes)) None)) (same_number n) ∙ ap listed e
 
@@ -238,7 +238,7 @@ module _ (k : Setting) (x : Conn) (n : ℕ) where
   node-apart : (from : ℕ) (bytes : List ℕ) → Each (IsApart x.c) (packet_seen (Node from) (Node n) bytes)
   node-apart from bytes = ((refl, refl, refl), tt)
 
-  offered-goes : (epoch : ℕ) (env : NodeEnv) (parts : EndpointParts) (bytes : List ℕ) → IsNodeEnv k x.c n epoch env → Spells x.c epoch (body.Offer parts) bytes → Was x Front (Node n) bytes
+  offered-goes : (epoch : ℕ) (env : NodeEnv) (parts : EndpointParts) (bytes : List ℕ) → IsNodeEnv k x.c n epoch env → SpellsMessage x.c epoch (body.Offer parts) bytes → Was x Front (Node n) bytes
       → Goes k x (node_does x n (packet_seen Front (Node n) bytes) (node_offered env (x.part.nodes n) parts))
   offered-goes epoch env parts bytes is spells was may way help = (
     node-front (packet_seen Front (Node n) bytes) (front-apart bytes) (tt, tt) way.front (node_offered env (x.part.nodes n) parts) help,
@@ -247,14 +247,14 @@ module _ (k : Setting) (x : Conn) (n : ℕ) where
         (subst (λ (e : ℕ). IsDecided e (x.part.nodes n).row ⊎ IsOffered n e x.part.front.row) (sym is.epoch_is) (came-says x Front (Node n) epoch (body.Offer parts) bytes may.given.letters was spells)) help,
   )
 
-  forwarded-goes : (epoch : ℕ) (env : NodeEnv) (segment bytes : List ℕ) → IsNodeEnv k x.c n epoch env → Spells x.c epoch (body.Forward segment) bytes
+  forwarded-goes : (epoch : ℕ) (env : NodeEnv) (segment bytes : List ℕ) → IsNodeEnv k x.c n epoch env → SpellsMessage x.c epoch (body.Forward segment) bytes
       → Goes k x (node_does x n (packet_seen Front (Node n) bytes) (node_forwarded env (x.part.nodes n) (decoded segment x.c ToCluster)))
   forwarded-goes epoch env segment bytes is spells may way help = (
     node-front (packet_seen Front (Node n) bytes) (front-apart bytes) (tt, tt) way.front (node_forwarded env (x.part.nodes n) (decoded segment x.c ToCluster)) help,
     turns.forwarded-go k x may.given way.nodes n epoch env is (packet_seen Front (Node n) bytes) (tt, tt) (others-unheard Front bytes) (this-hears bytes None (ap offer_epoch spells)) (decoded segment x.c ToCluster) help,
   )
 
-  tagged-goes : (epoch number : ℕ) (tags : List ℕ) (env : NodeEnv) (bytes : List ℕ) → IsNodeEnv k x.c n epoch env → Spells x.c epoch (body.Tag number tags) bytes
+  tagged-goes : (epoch number : ℕ) (tags : List ℕ) (env : NodeEnv) (bytes : List ℕ) → IsNodeEnv k x.c n epoch env → SpellsMessage x.c epoch (body.Tag number tags) bytes
       → Goes k x (node_does x n (packet_seen Front (Node n) bytes) (node_tagged env (x.part.nodes n) number tags))
   tagged-goes epoch number tags env bytes is spells may way help = (
     node-front (packet_seen Front (Node n) bytes) (front-apart bytes) (tt, tt) way.front (node_tagged env (x.part.nodes n) number tags) help,
@@ -267,7 +267,7 @@ module _ (k : Setting) (x : Conn) (n : ℕ) where
     turns.content-go k x may.given way.nodes n epoch env is (packet_seen (Node from) (Node n) bytes) (tt, tt) (others-unheard (Node from) bytes) refl from r help,
   )
 
-  acknowledged-goes : (epoch : ℕ) (env : NodeEnv) (bytes : List ℕ) → IsNodeEnv k x.c n epoch env → Spells x.c epoch body.EndedAck bytes
+  acknowledged-goes : (epoch : ℕ) (env : NodeEnv) (bytes : List ℕ) → IsNodeEnv k x.c n epoch env → SpellsMessage x.c epoch body.EndedAck bytes
       → Goes k x (node_does x n (packet_seen Front (Node n) bytes) (node_acknowledged env (x.part.nodes n)))
   acknowledged-goes epoch env bytes is spells may way help = (
     node-front (packet_seen Front (Node n) bytes) (front-apart bytes) (tt, tt) way.front (node_acknowledged env (x.part.nodes n)) help,
@@ -306,14 +306,14 @@ module _ (k : Setting) (x : Conn) (n : ℕ) where
         },
       )
 
-  no-heads-at : (d : node.Deed) → (node_does x n [] d).heads ≡ []
+  no-heads-at : (d : node.NodeDeed) → (node_does x n [] d).heads ≡ []
   no-heads-at node.Drops = refl
   no-heads-at (node.Says ms) = refl
   no-heads-at (node.Does y) = refl
 
   read-goes : (epoch r : ℕ) (env : NodeEnv) (path : List ℕ) → IsNodeEnv k x.c n epoch env → Goes k x (reads_first (rec.Read n n x.c r path) (node_does x n [] (node_read env (x.part.nodes n) r)))
   read-goes epoch r env path is may way help =
-      let d : node.Deed = node_read env (x.part.nodes n) r in
+      let d : node.NodeDeed = node_read env (x.part.nodes n) r in
       let v : Move = node_does x n [] d in (
         read-front (rec.Read n n x.c r path) way.front d help,
         read-nodes r path v (no-heads-at d) (turns.read-go k x may.given way.nodes n epoch env is [] tt (λ m other. refl) refl r (behind-read r path v help)),
@@ -369,7 +369,7 @@ module _ (k : Setting) (x : Conn) (from to : Place) (bytes : List ℕ) where
     one Front (Node m) w u = (refl, refl, refl)
 
   -- no Offer comes to a node that is there
-  no-offer : (n : ℕ) → IsUnheard k.nodes x.part.station from to bytes → is_no_node k.nodes n ≡ false → picked (offer_in n) (packet_seen from to bytes) ≡ []
+  no-offer : (n : ℕ) → IsUnheard k.nodes x.part.station from to bytes → is_no_node k.nodes n ≡ false → picked (epoch_offered n) (packet_seen from to bytes) ≡ []
   no-offer n unheard there = append-nil (listed (offer_on n from to bytes)) ∙ ap listed (one from to unheard) where
     by-number : (m : ℕ) → ((msg : Message) → decoded_message bytes ≡ Ok msg → IsForNode (kind_of msg.body) → is_no_node k.nodes m ≡ true) → (b : Bool) → nat_eq m n ≡ b → cond b (offer_epoch (decoded_message bytes)) None ≡ None
     by-number m unheard false e = refl
@@ -462,9 +462,9 @@ module _ (k : Setting) where
         acknowledged = λ x n epoch env bytes is spells was. acknowledged-goes k x n epoch env bytes is spells;
         read = λ x n epoch r env path is. read-goes k x n epoch r env path is;
         fires = λ x s n env there is. fires-at-node k x n env is;
-        answers = λ x n from epoch r path file bytes there spells was. stands-goes k x n (packet_seen (Node from) (Node n) bytes) [] (contents k n from x.c epoch r path).messages (between-clear k x n from bytes) (λ m. refl);
+        answers = λ x n from epoch r path file bytes there spells was. stands-goes k x n (packet_seen (Node from) (Node n) bytes) [] (content_said k n from x.c epoch r path).messages (between-clear k x n from bytes) (λ m. refl);
         queues = λ x n from epoch r path file bytes there spells was. stands-goes k x n (packet_seen (Node from) (Node n) bytes) (rec.Queued n from x.c r path ∷ []) [] (between-clear k x n from bytes) (λ m. refl);
-        brings = λ x n from epoch r path. stands-goes k x n [] (rec.Read n from x.c r path ∷ []) (contents k n from x.c epoch r path).messages (nothing-clear k x n) (λ m. refl);
+        brings = λ x n from epoch r path. stands-goes k x n [] (rec.Read n from x.c r path ∷ []) (content_said k n from x.c epoch r path).messages (nothing-clear k x n) (λ m. refl);
       };
       ignores = λ x from to bytes was. ignores-goes k x from to bytes was;
     };

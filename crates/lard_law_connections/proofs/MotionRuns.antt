@@ -10,7 +10,7 @@ use Rattle.lard_law_connections.proofs.MotionRules.{Goes, Way, all-go}
 use Rattle.lard_law_connections.proofs.PlacesLaw.{owing}
 use Rattle.lard_law_connections.proofs.PlacesRuns.{each-placed}
 use Rattle.lard_law_connections.proofs.PlacesTurns.{IsPlaced, Owes}
-use Rattle.lard_law_view.specs.Carry.{IsLaw, IsStepLaw, MayMove, OfEach, setting}
+use Rattle.lard_law_view.specs.Carry.{IsLaw, IsStepLaw, MayRestOn, OfEach, setting}
 use Rattle.lard_law_view.specs.View.{Conn, Move, Rules, Setting, grown, seen_in}
 use Rattle.lard_law_view.proofs.Carried.{carried}
 use Rattle.lard_law_view.proofs.Fine.{IsFine, fine}
@@ -33,7 +33,7 @@ nothing-moves nodes c past =
 
 module _ (k : Setting) where
   abbrev Owed : Conn → Move → Type 0
-  Owed x v = MayMove IsPlaced x → IsPlaced x → Owes x v
+  Owed x v = MayRestOn IsPlaced x → IsPlaced x → Owes x v
 
   abbrev All : Conn → Move → Type 0
   All x v = (IsFine x v × Owed x v) × Goes k x v
@@ -41,7 +41,7 @@ module _ (k : Setting) where
   all : Rules k All
   all = both k (λ x v. IsFine x v × Owed x v) (Goes k) (both k IsFine Owed (fine k) (owing k IsPlaced)) (all-go k)
 
-  helped : (x : Conn) (v : Move) → All x v → MayMove IsPlaced x → Helps x v
+  helped : (x : Conn) (v : Move) → All x v → MayRestOn IsPlaced x → Helps x v
   helped x v h may = record { number = may.number; sound = may.sound; placed = may.given; owes = h.0.1 may may.given; own = (h.0.0 may.number may.sound).0 }
 
   way-law : IsLaw k IsPlaced Way
@@ -50,7 +50,7 @@ module _ (k : Setting) where
       front = record { row = (refl, refl, record { away = refl; epoch = refl }); ended = λ e among. absurd cc; kept = tt; fresh = λ none. tt };
       nodes = record { highest_is = λ n. refl; late = λ n. tt };
     };
-    moves = weaker k All (λ x v. MayMove IsPlaced x → Way x → Way (grown x v))
+    moves = weaker k All (λ x v. MayRestOn IsPlaced x → Way x → Way (grown x v))
         (λ x v h may way. let gone = h.1 may way (helped x v h may) in record { front = gone.0.1; nodes = gone.1.1 }) all;
   }
 
@@ -61,9 +61,9 @@ module _ (k : Setting) where
   motion-law : IsStepLaw k Given (IsMotion k.nodes)
   motion-law = record {
     still = nothing-moves k.nodes;
-    moves = weaker k All (λ x v. MayMove Given x → IsMotion k.nodes x.c x.seen (seen_in x v))
+    moves = weaker k All (λ x v. MayRestOn Given x → IsMotion k.nodes x.c x.seen (seen_in x v))
         (λ x v h may.
-        let placed : MayMove IsPlaced x = record { number = may.number; sound = may.sound; given = may.given.0 } in
+        let placed : MayRestOn IsPlaced x = record { number = may.number; sound = may.sound; given = may.given.0 } in
         let gone = h.1 placed may.given.1 (helped x v h placed) in
         let front : FrontMoves x.c x.seen (seen_in x v) = gone.0.0 in
         let nodes : NodesMove k.nodes x.seen (seen_in x v) = gone.1.0 in

@@ -8,7 +8,7 @@ use Rattle.lard_answers.specs.Answers.{closes_any, verdicts_on}
 use Rattle.lard_answers.proofs.Following.{verdicts_on-moved}
 use Rattle.lard_block.specs.declared.block.Found.{Found}
 use Rattle.lard_block.specs.declared.block.Found.TheVariants.{Block, More, TooLong}
-use Rattle.lard_block.specs.Blocks.{Cuts, Head, Long, Piece, blocks, cut_of, head_end, moved, pieces, skipped}
+use Rattle.lard_block.specs.Blocks.{Cuts, Head, Long, Piece, blocks, cut_of, head_end, piece_moved, pieces, skipped}
 use Rattle.lard_block.proofs.Cutting.{IsCut, cut_is, found-more, is_cut}
 use Rattle.lard_block.proofs.Division.{block-first, cuts-block, cuts-join, cuts-nothing, long-last, none-yet}
 use Rattle.lard_block.proofs.Skips.{cuts-pairs}
@@ -102,12 +102,12 @@ empty-lines x skip e h = go (nat_lt (skipped x) (length x)) refl where
 
 -- ---- blocks further on
 
-moved-ends : (k n m : ℕ) (ps : List Piece) → k + n ≤ m → Each (EndsBy n) ps → Each (EndsBy m) (map (moved k) ps)
+moved-ends : (k n m : ℕ) (ps : List Piece) → k + n ≤ m → Each (EndsBy n) ps → Each (EndsBy m) (map (piece_moved k) ps)
 moved-ends k n m [] le h = tt
 moved-ends k n m (Head block after ∷ ps) le h = (let e : after ≤ n = h.0 in omega (arith, le, e), moved-ends k n m ps le h.1)
 moved-ends k n m (Long ∷ ps) le h = absurd h.0
 
-moved-begins : (k n m : ℕ) (ps : List Piece) → m ≤ k + n → Each (BeginsFrom n) ps → Each (BeginsFrom m) (map (moved k) ps)
+moved-begins : (k n m : ℕ) (ps : List Piece) → m ≤ k + n → Each (BeginsFrom n) ps → Each (BeginsFrom m) (map (piece_moved k) ps)
 moved-begins k n m [] le h = tt
 moved-begins k n m (Head block after ∷ ps) le h = (let e : n + length block ≤ after = h.0 in omega (arith, le, e), moved-begins k n m ps le h.1)
 moved-begins k n m (Long ∷ ps) le h = (tt, moved-begins k n m ps le h.1)
@@ -179,8 +179,8 @@ module _ (x : List ℕ) (skip len : ℕ) (e : cut_of x ≡ Block skip len) where
       let l : length (take k x) ≡ k = length-take-le k x c.within in
       let m : length behind ≡ length x - k = length-drop k x in
       record {
-        ps = Head block k ∷ map (moved (length (take k x))) d.ps;
-        cuts = subst (λ (q : List ℕ). Cuts q (Head block k ∷ map (moved (length (take k x))) d.ps)) (take-append-drop k x) (cuts-join (take k x) behind (Head block k ∷ []) d.ps (cuts-block x skip len e) d.cuts);
+        ps = Head block k ∷ map (piece_moved (length (take k x))) d.ps;
+        cuts = subst (λ (q : List ℕ). Cuts q (Head block k ∷ map (piece_moved (length (take k x))) d.ps)) (take-append-drop k x) (cuts-join (take k x) behind (Head block k ∷ []) d.ps (cuts-block x skip len e) d.cuts);
         same = ap (λ (us : List Verdict). verdict block ∷ us) (verdicts_on-moved (length (take k x)) d.ps ∙ d.same) ∙ ap (λ (u : Verdict). u ∷ vs) (first-same v vs h);
         ends = (c.within, moved-ends (length (take k x)) (length behind) (length x) d.ps (omega (arith, l, m, c.within)) d.ends);
       }
@@ -213,7 +213,7 @@ cut-at n w vs le h open_ =
     let x : List ℕ = take n w in
     let d : Divided x vs = divided (length x) x vs (omega arith) h open_ in
     let l : length x ≡ n = length-take-le n w le in
-    let rest : List Piece = map (moved (length x)) (blocks (drop n w)) in
+    let rest : List Piece = map (piece_moved (length x)) (blocks (drop n w)) in
     let all : blocks w ≡ d.ps ++ rest = ap blocks (sym (take-append-drop n w)) ∙ d.cuts (drop n w) in
     let many : length d.ps ≡ length vs = sym (length-map d.ps _) ∙ ap length d.same in
     let first : take (length vs) (blocks w) ≡ d.ps = ap (take (length vs)) all ∙ take_at d.ps rest (length vs) many in

@@ -4,7 +4,7 @@ use Rattle.std.specs.List.{concat}
 use Rattle.lard_answers.specs.Answers.{FilesAt, answers, verdicts_on}
 use Rattle.lard_block.specs.Blocks.{blocks}
 use Rattle.lard_law_connections.specs.BytesAgreement.{FrontHolds}
-use Rattle.lard_law_connections.specs.Offers.{Carries, IsCutAt}
+use Rattle.lard_law_connections.specs.Offers.{ArePartsOf, IsCutAt}
 use Rattle.lard_law_connections.proofs.OffersCutting.{cut-at}
 use Rattle.lard_endpoint.specs.Control.{ControlBlock}
 use Rattle.lard_endpoint.specs.Moving.{may_freeze, parts_of}
@@ -24,7 +24,7 @@ pub record Tells (w out : Stream) (vs : List Verdict) (t : Tale) : Type 0 where
   pub served : t.served ≡ length vs
 
 module _ (files : FilesAt) (w out : Stream) (vs : List Verdict) (b : ControlBlock) (count : ℕ) (says : SaysAnswers files w out vs) (h : FrontHolds w out vs [] b count) (frozen : may_freeze b ≡ true) where
-  pub carries : (J : List Rec) (c : ℕ) → Tells w out vs (tale J c) → Carries files J c (parts_of b count)
+  pub carries : (J : List Rec) (c : ℕ) → Tells w out vs (tale J c) → ArePartsOf files J c (parts_of b count)
   carries J c told =
       let held = h.holds in
       let s = frozen_stands b held.sound frozen in

@@ -5,9 +5,9 @@ use Rattle.lard_base.specs.declared.event.Event.TheVariants as event
 use Rattle.lard_base.specs.declared.ids.Epoch.{Epoch}
 use Rattle.lard_base.specs.declared.place.Place.{Place}
 use Rattle.lard_base.specs.declared.place.Place.TheVariants.{Client, Front, Node}
-use Rattle.lard_rules.specs.Bounds.{IsNumber}
+use Rattle.lard_rules.specs.Bounds.{IsConnNumber}
 use Rattle.lard_law_connections.specs.BytesAgreement.{IsFair, IsFairOn, IsOpen, IsTruthful}
-use Rattle.lard_law_connections.specs.BytesKeeping.{AdmittedKeeps, FrontAgrees, FrontDeedKeeps, FrontTurned, IsFrontTalk}
+use Rattle.lard_law_connections.specs.BytesKeeping.{AdmittedKeeps, FrontPartAgrees, FrontDeedKeeps, FrontTurned, IsFrontTalk}
 use Rattle.lard_law_connections.proofs.BytesClientMoves.{has-fair, open-at}
 use Rattle.lard_law_connections.proofs.BytesFrontMessages.{opened-at}
 use Rattle.lard_law_connections.proofs.BytesFrontMoves.{IsOurs, RowIsOurs, seat-front, talk-of}
@@ -27,8 +27,8 @@ use Rattle.lard_endpoint.specs.Control.{ControlBlock}
 use Rattle.lard_endpoint.specs.declared.control.moving.Final.{Final}
 use Rattle.lard_rules.specs.declared.front.FrontRest.{FrontRest}
 use Rattle.lard_rules.specs.declared.front.FrontTurn.{FrontTurn}
-use Rattle.lard_rules.specs.Front.{Deed, Does, Drops, FrontEnv, FrontPart, Says, admitted_at, admitted_by, admitted_with, ask_of, asked_by, assigns, begun, ended_by, fired_by, fires_at, forwarded, front_admitted, front_gets, front_hears, front_timer, handed_off, hears_at, is_at, message, met, placed, rest_of, saying, settled_by, tag_sent, taken_by}
-use Rattle.lard_rules.specs.FrontReading.{Reading, reads}
+use Rattle.lard_rules.specs.Front.{FrontDeed, Does, Drops, FrontEnv, FrontPart, Says, admitted_at, admitted_by, front_admitted_with, ask_of, asked_by, assigns, front_begun, front_ended_by, front_fired_by, fires_at, forwarded, front_admitted, front_gets, front_hears, front_timer, handed_off, hears_at, is_row_at, message, met, placed, front_rest, front_saying, settled_by, tag_sent, taken_by}
+use Rattle.lard_rules.specs.FrontReading.{Reading, front_reads}
 use Rattle.lard_handoff_front.specs.declared.row.FrontConn.{FrontConn}
 use Rattle.lard_handoff_front.specs.declared.row.FrontConn.TheVariants as stage
 use Rattle.lard_handoff_front.specs.declared.row.FrontRow.{FrontRow}
@@ -64,7 +64,7 @@ SaysTruth files x v = SaysAt files x v v.place
 
 -- ---- the front end
 
-module _ (k : Setting) (small : k.stream ≤ 2 ^ 30) (x : Conn) (number : IsNumber x.c) (s : Station) (there : x.part.station ≡ Some s) (l : Talk) (pend : List Verdict) (o : IsOpen k.files x l pend s) (env : FrontEnv) (is : IsFrontEnv k x.c env) (talk : IsFrontTalk env l.w l.out l.vs) where
+module _ (k : Setting) (small : k.stream ≤ 2 ^ 30) (x : Conn) (number : IsConnNumber x.c) (s : Station) (there : x.part.station ≡ Some s) (l : Talk) (pend : List Verdict) (o : IsOpen k.files x l pend s) (env : FrontEnv) (is : IsFrontEnv k x.c env) (talk : IsFrontTalk env l.w l.out l.vs) where
   abbrev p : FrontPart
   p = x.part.front
 
@@ -72,26 +72,26 @@ module _ (k : Setting) (small : k.stream ≤ 2 ^ 30) (x : Conn) (number : IsNumb
   told-at : Tells l.w l.out l.vs (tale_at x)
   told-at = record { numbers = o.tale.numbers; wrote = o.tale.wrote; served = o.tale.served }
 
-  own-agrees : RowIsOurs p.row → FrontAgrees l.w l.out l.vs l.was_reset env.serve.c p
-  own-agrees ours = subst (λ (c : ℕ). FrontAgrees l.w l.out l.vs l.was_reset c p) (sym is.number) (seat-front l.w l.out l.vs pend l.was_reset x.c x.part p.row ours o.seat)
+  own-agrees : RowIsOurs p.row → FrontPartAgrees l.w l.out l.vs l.was_reset env.serve.c p
+  own-agrees ours = subst (λ (c : ℕ). FrontPartAgrees l.w l.out l.vs l.was_reset c p) (sym is.number) (seat-front l.w l.out l.vs pend l.was_reset x.c x.part p.row ours o.seat)
 
-  own-keeps : (d : Deed) → FrontDeedKeeps env.serve.files env.serve.c l.w l.out l.vs l.was_reset d → FrontDeedKeeps k.files x.c l.w l.out l.vs l.was_reset d
+  own-keeps : (d : FrontDeed) → FrontDeedKeeps env.serve.files env.serve.c l.w l.out l.vs l.was_reset d → FrontDeedKeeps k.files x.c l.w l.out l.vs l.was_reset d
   own-keeps d h = subst (λ (files : FilesAt). FrontDeedKeeps files x.c l.w l.out l.vs l.was_reset d) is.files (subst (λ (c : ℕ). FrontDeedKeeps env.serve.files c l.w l.out l.vs l.was_reset d) is.number h)
 
-  module _ (heads : List Seen) (told : (d : Deed) → Tells l.w l.out l.vs (tale_before x (front_does x heads d))) where
-    abbrev Speaks : Deed → Type 0
+  module _ (heads : List Seen) (told : (d : FrontDeed) → Tells l.w l.out l.vs (tale_before x (front_does x heads d))) where
+    abbrev Speaks : FrontDeed → Type 0
     Speaks d = SaysTruth k.files x (front_does x heads d)
 
-    abbrev Keeps : Deed → Type 0
+    abbrev Keeps : FrontDeed → Type 0
     Keeps d = FrontDeedKeeps k.files x.c l.w l.out l.vs l.was_reset d
 
     -- it says nothing to nodes
-    abbrev IsMute : Deed → Type 0
+    abbrev IsMute : FrontDeed → Type 0
     IsMute Drops = Unit {0}
     IsMute (Says turn) = turn.messages ≡ []
     IsMute (Does did) = did.turn.messages ≡ []
 
-    mute-speaks : (d : Deed) → IsMute d → Keeps d → Speaks d
+    mute-speaks : (d : FrontDeed) → IsMute d → Keeps d → Speaks d
     mute-speaks Drops m t = (tt, tt)
     mute-speaks (Says turn) m t = (replies-to x.c l.w l.out l.was_reset turn.segments t.1, subst (Each _) (sym m) tt)
     mute-speaks (Does did) m t = (replies-to x.c l.w t.out_after _ did.turn.segments t.sent, subst (Each _) (sym m) tt)
@@ -122,15 +122,15 @@ module _ (k : Setting) (small : k.stream ≤ 2 ^ 30) (x : Conn) (number : IsNumb
 
       hears-stage : (row : FrontRow) (d : FrontConn) → p.row ≡ Some row → row.stage ≡ d → Speaks (hears_at env p row bytes sd d)
       hears-stage row (stage.Held b) found at =
-          let y : Reading = reads env.serve (record { service = serving (on_segment b sd).1 (rest_of p.rest).count []; target = None }) in
-          settled-speaks row (rest_of p.rest) y.service y.target (stage-keeps row (stage.Held b) found at tt)
+          let y : Reading = front_reads env.serve (record { service = serving (on_segment b sd).1 (front_rest p.rest).count []; target = None }) in
+          settled-speaks row (front_rest p.rest) y.service y.target (stage-keeps row (stage.Held b) found at tt)
       hears-stage row (stage.Waiting b) found at = mute-speaks (hears_at env p row bytes sd (stage.Waiting b)) refl (stage-keeps row (stage.Waiting b) found at tt)
       hears-stage row stage.Lent found at = (tt, tt)
       hears-stage row (stage.Offering n d) found at = forwards n d
       hears-stage row (stage.Moved n d) found at = forwards n d
       hears-stage row (stage.Closed last) found at = mute-speaks (hears_at env p row bytes sd (stage.Closed last)) refl (stage-keeps row (stage.Closed last) found at tt)
 
-      met-mute : (b : Bool) → IsMute (cond b (begun env p sd) Drops)
+      met-mute : (b : Bool) → IsMute (cond b (front_begun env p sd) Drops)
       met-mute true = refl
       met-mute false = tt
 
@@ -158,7 +158,7 @@ module _ (k : Setting) (small : k.stream ≤ 2 ^ 30) (x : Conn) (number : IsNumb
         let all = timer-keeps env l.w l.out l.vs l.was_reset p talk (own-agrees mine) in
         own-keeps (fires_at env p row d)
         (subst (λ (e : FrontConn). FrontDeedKeeps env.serve.files env.serve.c l.w l.out l.vs l.was_reset (fires_at env p row e)) at
-        (subst (λ (r : Option FrontRow). FrontDeedKeeps env.serve.files env.serve.c l.w l.out l.vs l.was_reset (fired_by env p r)) found all))
+        (subst (λ (r : Option FrontRow). FrontDeedKeeps env.serve.files env.serve.c l.w l.out l.vs l.was_reset (front_fired_by env p r)) found all))
 
     fires-stage : AreSent x Front p.kept → (row : FrontRow) (d : FrontConn) → p.row ≡ Some row → row.stage ≡ d → Speaks (fires_at env p row d)
     fires-stage sent row (stage.Held b) found at = mute-speaks (fires_at env p row (stage.Held b)) refl (fires-home row (stage.Held b) found at tt)
@@ -166,7 +166,7 @@ module _ (k : Setting) (small : k.stream ≤ 2 ^ 30) (x : Conn) (number : IsNumb
     fires-stage sent row (stage.Offering n d) found at = (tt, again-goes _ p.kept sent)
     fires-stage sent row _ found at = (tt, tt)
 
-    fires-row : AreSent x Front p.kept → (row : Option FrontRow) → p.row ≡ row → Speaks (fired_by env p row)
+    fires-row : AreSent x Front p.kept → (row : Option FrontRow) → p.row ≡ row → Speaks (front_fired_by env p row)
     fires-row sent None found = (tt, tt)
     fires-row sent (Some row) found = fires-stage sent row row.stage found refl
 
@@ -176,7 +176,7 @@ module _ (k : Setting) (small : k.stream ≤ 2 ^ 30) (x : Conn) (number : IsNumb
   some-same a b e = cc
 
   module _ (choice : FirstChoice) (given : FrontPart × FrontTurn) (admitted : front_admitted env p choice ≡ Some given) where
-    admits-target : (row : FrontRow) (b : ControlBlock) → p.row ≡ Some row → row.stage ≡ stage.Waiting b → (target : Option (List ℕ)) → admitted_with env row (rest_of p.rest) b choice target ≡ Some given → SaysTruth k.files x (front_admits x given)
+    admits-target : (row : FrontRow) (b : ControlBlock) → p.row ≡ Some row → row.stage ≡ stage.Waiting b → (target : Option (List ℕ)) → front_admitted_with env row (front_rest p.rest) b choice target ≡ Some given → SaysTruth k.files x (front_admits x given)
     admits-target row b found at None e = let no : None ≡ Some given = e in absurd cc
     admits-target row b found at (Some path) e =
         let ours : RowIsOurs p.row = subst RowIsOurs (sym found) (subst IsOurs (sym at) tt) in
@@ -185,14 +185,14 @@ module _ (k : Setting) (small : k.stream ≤ 2 ^ 30) (x : Conn) (number : IsNumb
         subst (λ (files : FilesAt). FrontTurned files x.c l.w l.out l.vs l.was_reset given.0 given.1) is.files
         (subst (λ (c : ℕ). FrontTurned env.serve.files c l.w l.out l.vs l.was_reset given.0 given.1) is.number
         (subst (AdmittedKeeps env.serve.files env.serve.c l.w l.out l.vs l.was_reset) admitted kept)) in
-        let w : Service = serving b (rest_of p.rest).count [] in
+        let w : Service = serving b (front_rest p.rest).count [] in
         let same : handed_off env row w path choice ≡ given = some-same (handed_off env row w path choice) given e in
         subst (λ (g : FrontPart × FrontTurn). SaysTruth k.files x (front_admits x g)) same
         (handed-says k.files x number l.w l.out l.vs l.was_reset talk.stream (tale_at x) told-at env row w path choice
         (subst (λ (g : FrontPart × FrontTurn). FrontTurned k.files x.c l.w l.out l.vs l.was_reset g.0 g.1) (sym same) t))
 
     pub admits-waiting : (row : FrontRow) (b : ControlBlock) → p.row ≡ Some row → row.stage ≡ stage.Waiting b → admitted_at env p choice row (stage.Waiting b) ≡ Some given → SaysTruth k.files x (front_admits x given)
-    admits-waiting row b found at e = admits-target row b found at (rest_of p.rest).target e
+    admits-waiting row b found at e = admits-target row b found at (front_rest p.rest).target e
 
 -- ---- the rules of the front end
 
@@ -218,7 +218,7 @@ module _ (k : Setting) (small : k.stream ≤ 2 ^ 30) where
       let talk = talk-of k small x env is s h.talk h.pend o iss in
       subst (λ (r : Result Said SegFault). SaysTruth k.files x (front_does x heads (front_gets env x.part.front bytes r))) (sym same)
       (hears-row k small x number s there h.talk h.pend o env is talk heads (told-so o) bytes f.0 f.2 x.part.front.row refl) where
-        told-so : IsOpen k.files x h.talk h.pend s → (d : Deed) → Tells h.talk.w h.talk.out h.talk.vs (tale_before x (front_does x (packet_seen (Client x.c) Front bytes) d))
+        told-so : IsOpen k.files x h.talk h.pend s → (d : FrontDeed) → Tells h.talk.w h.talk.out h.talk.vs (tale_before x (front_does x (packet_seen (Client x.c) Front bytes) d))
         told-so o Drops = told-at k small x number s there h.talk h.pend o env is (talk-of k small x env is s h.talk h.pend o iss)
         told-so o (Says turn) = told-at k small x number s there h.talk h.pend o env is (talk-of k small x env is s h.talk h.pend o iss)
         told-so o (Does did) = told-at k small x number s there h.talk h.pend o env is (talk-of k small x env is s h.talk h.pend o iss)
@@ -228,7 +228,7 @@ module _ (k : Setting) (small : k.stream ≤ 2 ^ 30) where
       let o = open-at k.files x s there h in
       let talk = talk-of k small x (same x s env is) (same-is x s env is) s h.talk h.pend o refl in
       fires-row k small x number s there h.talk h.pend o (same x s env is) (same-is x s env is) talk (event_seen (event.Timer Front x.c)) (told-so o) sound.front x.part.front.row refl where
-        told-so : IsOpen k.files x h.talk h.pend s → (d : Deed) → Tells h.talk.w h.talk.out h.talk.vs (tale_before x (front_does x (event_seen (event.Timer Front x.c)) d))
+        told-so : IsOpen k.files x h.talk h.pend s → (d : FrontDeed) → Tells h.talk.w h.talk.out h.talk.vs (tale_before x (front_does x (event_seen (event.Timer Front x.c)) d))
         told-so o Drops = record { numbers = o.tale.numbers; wrote = o.tale.wrote; served = o.tale.served }
         told-so o (Says turn) = record { numbers = o.tale.numbers; wrote = o.tale.wrote; served = o.tale.served }
         told-so o (Does did) = record { numbers = o.tale.numbers; wrote = o.tale.wrote; served = o.tale.served }
@@ -236,7 +236,7 @@ module _ (k : Setting) (small : k.stream ≤ 2 ^ 30) where
   -- ---- messages of nodes: no Offer is an answer to them
 
   module _ (x : Conn) (heads : List Seen) where
-    abbrev Is : Deed → Type 0
+    abbrev Is : FrontDeed → Type 0
     Is d = SaysTruth k.files x (front_does x heads d)
 
     taken-row : (q : FrontPart) (epoch : ℕ) (row : Option FrontRow) (asked : Option ℕ) → Is (taken_by q epoch row asked)
@@ -253,11 +253,11 @@ module _ (k : Setting) (small : k.stream ≤ 2 ^ 30) where
     asked-rest : (env : FrontEnv) (q : FrontPart) (from epoch : ℕ) (ask : Ask) (rest : Option FrontRest) → Is (asked_by env q from epoch ask rest)
     asked-rest env q from epoch ask None = (tt, tt)
     asked-rest env q from epoch ask (Some rest) = by_next (ask.number == rest.asks + 1) where
-      by_last : (b : Bool) → Is (cond b (Says (saying (tag_sent env from epoch rest.asks rest.tag))) Drops)
+      by_last : (b : Bool) → Is (cond b (Says (front_saying (tag_sent env from epoch rest.asks rest.tag))) Drops)
       by_last true = (tt, (tag-goes _ from env.serve.c epoch rest.asks rest.tag, tt))
       by_last false = (tt, tt)
 
-      by_next : (b : Bool) → Is (cond b (Does (assigns env q rest from epoch ask (env.later ask))) (cond (ask.number == rest.asks && nat_lt 0 rest.asks) (Says (saying (tag_sent env from epoch rest.asks rest.tag))) Drops))
+      by_next : (b : Bool) → Is (cond b (Does (assigns env q rest from epoch ask (env.later ask))) (cond (ask.number == rest.asks && nat_lt 0 rest.asks) (Says (front_saying (tag_sent env from epoch rest.asks rest.tag))) Drops))
       by_next true = (tt, (tag-goes _ from env.serve.c epoch ask.number _, tt))
       by_next false = by_last (ask.number == rest.asks && nat_lt 0 rest.asks)
 
@@ -265,7 +265,7 @@ module _ (k : Setting) (small : k.stream ≤ 2 ^ 30) where
     asked-at env q from epoch ask true = asked-rest env q from epoch ask q.rest
     asked-at env q from epoch ask false = (tt, tt)
 
-    ended-row : (env : FrontEnv) (q : FrontPart) (from epoch : ℕ) (last : Final) (row : Option FrontRow) (given : OnEnded) → Is (ended_by env q from epoch last row given)
+    ended-row : (env : FrontEnv) (q : FrontPart) (from epoch : ℕ) (last : Final) (row : Option FrontRow) (given : OnEnded) → Is (front_ended_by env q from epoch last row given)
     ended-row env q from epoch last None given = (tt, tt)
     ended-row env q from epoch last (Some row) (New next) = (tt, (ack-goes _ from env.serve.c epoch, tt))
     ended-row env q from epoch last (Some row) Again = (tt, (ack-goes _ from env.serve.c epoch, tt))
@@ -273,7 +273,7 @@ module _ (k : Setting) (small : k.stream ≤ 2 ^ 30) where
 
   -- ---- admissions
 
-  module _ (x : Conn) (number : IsNumber x.c) (h : IsTruthful k.files x) (env : FrontEnv) (is : IsFrontEnv k x.c env) (choice : FirstChoice) (given : FrontPart × FrontTurn) where
+  module _ (x : Conn) (number : IsConnNumber x.c) (h : IsTruthful k.files x) (env : FrontEnv) (is : IsFrontEnv k x.c env) (choice : FirstChoice) (given : FrontPart × FrontTurn) where
     -- the station of what has a row
     admits-stage : (row : FrontRow) → x.part.front.row ≡ Some row → (d : FrontConn) → row.stage ≡ d → front_admitted env x.part.front choice ≡ Some given → admitted_at env x.part.front choice row d ≡ Some given → SaysTruth k.files x (front_admits x given)
     admits-stage row found (stage.Waiting b) at whole e =
@@ -294,7 +294,7 @@ module _ (k : Setting) (small : k.stream ≤ 2 ^ 30) where
     fires = fires;
     taken = λ x env n epoch bytes is spells was number sound h. taken-row x (packet_seen (Node n) Front bytes) x.part.front epoch x.part.front.row (asked_node epoch x.part.front.row);
     asked = λ x env n epoch z queue size paths bytes is spells was number sound h.
-        asked-at x (packet_seen (Node n) Front bytes) env x.part.front n epoch (ask_of x.c n z queue size paths) (is_at n epoch x.part.front.row);
+        asked-at x (packet_seen (Node n) Front bytes) env x.part.front n epoch (ask_of x.c n z queue size paths) (is_row_at n epoch x.part.front.row);
     ended = λ x env n epoch reason snd rcv count bytes is spells was number sound h.
         ended-row x (packet_seen (Node n) Front bytes) env x.part.front n epoch (record { reason = reason; snd = record { 0 = snd }; rcv = record { 0 = rcv } }) x.part.front.row (end_answer epoch x.part.front.row);
     admitted = λ x env choice given is e number sound h. admits-row x number h env is choice given x.part.front.row refl e e;

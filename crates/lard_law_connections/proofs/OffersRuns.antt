@@ -15,7 +15,7 @@ use Rattle.lard_law_connections.proofs.OffersRules.{SaysAt, SaysTruth, Wants, fr
 use Rattle.lard_law_connections.proofs.OffersSent.{AreSeen, grown-seen, own-sends}
 use Rattle.lard_law_connections.proofs.PlacesRuns.{each-placed}
 use Rattle.lard_law_connections.proofs.PlacesTurns.{IsPlaced}
-use Rattle.lard_law_view.specs.Carry.{Guarded, IsGuardedLaw, MayMove, OfEach, Untouched, WhileUntouched, setting, tale_at}
+use Rattle.lard_law_view.specs.Carry.{Guarded, IsGuardedLaw, MayRestOn, OfEach, Untouched, WhileUntouched, setting, tale_at}
 use Rattle.lard_law_view.specs.View.{Conn, Move, NodeRules, Setting, UntouchedRules, conn, grown, node_does, nothing_said, packet_seen, reads_first, seen_in, stands}
 use Rattle.lard_law_view.proofs.Carried.{carried}
 use Rattle.lard_law_view.proofs.Fine.{IsFine, IsItsOwn, fine}
@@ -35,12 +35,12 @@ use Rattle.lard_rules.specs.Node as node
 -- ---- the other places say nothing of the front end
 
 module _ (k : Setting) (small : k.stream ≤ 2 ^ 30) where
-  node-says : (x : Conn) (n : ℕ) (heads : List Seen) (d : node.Deed) → SaysTruth k.files x (node_does x n heads d)
+  node-says : (x : Conn) (n : ℕ) (heads : List Seen) (d : node.NodeDeed) → SaysTruth k.files x (node_does x n heads d)
   node-says x n heads node.Drops = tt
   node-says x n heads (node.Says messages) = tt
   node-says x n heads (node.Does given) = tt
 
-  read-says : (x : Conn) (n : ℕ) (r : Rec) (d : node.Deed) → SaysTruth k.files x (reads_first r (node_does x n [] d))
+  read-says : (x : Conn) (n : ℕ) (r : Rec) (d : node.NodeDeed) → SaysTruth k.files x (reads_first r (node_does x n [] d))
   read-says x n r node.Drops = tt
   read-says x n r (node.Says messages) = tt
   read-says x n r (node.Does given) = tt
@@ -85,7 +85,7 @@ module _ (k : Setting) (small : k.stream ≤ 2 ^ 30) where
   all = untouched-both k (λ x v. IsFine x v × Owed (Wants k small) x v) Knows (untouched-both k IsFine (Owed (Wants k small)) (fine k).untouched rules) (known k)
 
   abbrev Moves : Conn → Move → Type 0
-  Moves x v = MayMove Given x → (tale_at x).touched ≡ false → AreSeen x → AreSeen (grown x v) × EachRow (Mine k.files x.c) x.seen (seen_in x v)
+  Moves x v = MayRestOn Given x → (tale_at x).touched ≡ false → AreSeen x → AreSeen (grown x v) × EachRow (Mine k.files x.c) x.seen (seen_in x v)
 
   moves : (x : Conn) (v : Move) → All x v → Moves x v
   moves x v h may untouched seen =

@@ -4,7 +4,7 @@ use Rattle.std.specs.List.{list_any}
 use Rattle.lard_answers.specs.Answers.{FilesAt}
 use Rattle.lard_base.specs.declared.place.Place.{Place}
 use Rattle.lard_base.specs.declared.place.Place.TheVariants.{Client, Front, Node}
-use Rattle.lard_rules.specs.Bounds.{IsNumber}
+use Rattle.lard_rules.specs.Bounds.{IsConnNumber}
 use Rattle.lard_law_connections.specs.BytesAgreement.{FrontHolds, IsOffering}
 use Rattle.lard_law_connections.specs.BytesKeeping.{FrontTurned}
 use Rattle.lard_law_connections.proofs.BytesTold.{Bytes, bytes_of, place-notes}
@@ -23,7 +23,7 @@ use Rattle.lard_history.specs.Journal.{Tale, tale, told_on}
 use Rattle.lard_history.proofs.Each.{Each}
 use Rattle.lard_journal.specs.declared.rec.Rec.{Rec}
 use Rattle.lard_law_view.specs.Agreement.{AreReplies}
-use Rattle.lard_law_view.specs.Keeping.{resets, served_in, size_in}
+use Rattle.lard_law_view.specs.Keeping.{is_reset_record, served_in, bytes_served_in}
 use Rattle.lard_law_view.proofs.Notes.{Adds}
 use Rattle.lard_message.specs.declared.kind.Kind.TheVariants as kind
 use Rattle.lard_message.specs.declared.message.Body.{Body}
@@ -70,7 +70,7 @@ other-goes files x b n c e y other = inr (λ J is m d. no-offer files J x.c m.bo
 -- ---- an Offer
 
 -- what is read of it is the parts of the endpoint that was frozen
-module _ (c e : ℕ) (w out : Stream) (vs : List Verdict) (b : ControlBlock) (count : ℕ) (number : IsNumber c) (is : IsStream w) (h : FrontHolds w out vs [] b count) (frozen : may_freeze b ≡ true) where
+module _ (c e : ℕ) (w out : Stream) (vs : List Verdict) (b : ControlBlock) (count : ℕ) (number : IsConnNumber c) (is : IsStream w) (h : FrontHolds w out vs [] b count) (frozen : may_freeze b ≡ true) where
   abbrev offer : Body
   offer = body.Offer (parts_of b count)
 
@@ -105,11 +105,11 @@ first_bytes (k ∷ ks) = k.bytes
 
 -- ---- a hand-off
 
-module _ (files : FilesAt) (x : Conn) (number : IsNumber x.c) (w out : Stream) (vs : List Verdict) (r : Bool) (stream : IsStream w) (before : Tale) (told : Tells w out vs before) where
+module _ (files : FilesAt) (x : Conn) (number : IsConnNumber x.c) (w out : Stream) (vs : List Verdict) (r : Bool) (stream : IsStream w) (before : Tale) (told : Tells w out vs before) where
   -- what is told behind the notes of a turn
   turn-tells : (p : _) (t : FrontTurn) (h : FrontTurned files x.c w out vs r p t) → Tells w h.out_after h.vs_after (told_on x.c before t.notes)
   turn-tells p t h =
-      let adds : Adds before [] [] (served_in t.notes) (size_in t.notes) (list_any resets t.notes) (told_on x.c before t.notes) = place-notes x.c before t.notes h.noted.each in
+      let adds : Adds before [] [] (served_in t.notes) (bytes_served_in t.notes) (list_any is_reset_record t.notes) (told_on x.c before t.notes) = place-notes x.c before t.notes h.noted.each in
       record {
         numbers = adds.numbers ∙ told.numbers ∙ (λ i. Some (record { isn = w.first; iss = sym h.longer.first i }));
         wrote = adds.wrote ∙ append-nil before.wrote ∙ told.wrote;

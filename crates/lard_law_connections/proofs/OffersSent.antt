@@ -1,9 +1,9 @@
 -- Packets that were sent before, in what a connection sees.
 use Rattle.std.proofs.Common.{◌≡◌, ◌⊎◌, ℕ, Bool, true, false, cond, List, [], ◌∷◌, ◌++◌, map, Option, Some, None, ap, inl, inr, ⊎_elim, nat_eq}
 use Rattle.lard_base.specs.declared.place.Place.{Place}
-use Rattle.lard_law_connections.specs.Offers.{Sends, WasSent}
+use Rattle.lard_law_connections.specs.Offers.{Sends, WasSentBetween}
 use Rattle.lard_law_view.specs.View.{Conn, Move, grown, letter, letters_of, rows_of, seen_in, sending, timer_rows}
-use Rattle.lard_history.specs.Own.{Came, Has, Letter, Row, Seen, came, conn_of, letter_of, net_step, one_of, own, plain, seen_of, seen_on, whose}
+use Rattle.lard_history.specs.Own.{Came, Has, Letter, Row, Seen, came_seen, conn_of, letter_of, net_step, one_of, own, plain, seen_of, seen_on, whose}
 use Rattle.lard_journal.specs.declared.rec.Rec.{Rec}
 use Rattle.lard_journal.specs.declared.rec.Rec.TheVariants as rec
 use Rattle.lard_net.specs.Net.{Packet, packet_at}
@@ -46,7 +46,7 @@ module _ (from to : Place) (bytes : List ℕ) where
     go true k = ⊎_elim (λ (s : Sends from to bytes (plain r)). plain-sends r s) (λ (n : ⊥). absurd n) k
     go false k = absurd k
 
-  came-sends : (q : ℕ) (o : Option Packet) → SentSeen from to bytes (came q o) → ⊥
+  came-sends : (q : ℕ) (o : Option Packet) → SentSeen from to bytes (came_seen q o) → ⊥
   came-sends q None h = h
   came-sends q (Some p) h = go (conn_of p.from p.to p.bytes) h where
     go : (o : Option ℕ) → SentSeen from to bytes (one_of q o (Came (letter_of p))) → ⊥
@@ -60,13 +60,13 @@ module _ (from to : Place) (bytes : List ℕ) where
   of-sends q net (rec.Got k) h = absurd (came-sends q (packet_at net k) h)
   of-sends q net r h = one-sends q (whose r) r h
 
-  on-sends : (q : ℕ) (net : List Packet) (rs : List Rec) → SentSeen from to bytes (seen_on q net rs) → WasSent from to bytes rs
+  on-sends : (q : ℕ) (net : List Packet) (rs : List Rec) → SentSeen from to bytes (seen_on q net rs) → WasSentBetween from to bytes rs
   on-sends q net [] h = h
   on-sends q net (r ∷ rs) h = ⊎_elim (λ (a : SentSeen from to bytes (seen_of q net r)). inl (of-sends q net r a))
       (λ (b : SentSeen from to bytes (seen_on q (net_step net r) rs)). inr (on-sends q (net_step net r) rs b))
       (seen-either (seen_of q net r) (seen_on q (net_step net r) rs) h)
 
-  pub own-sends : (q : ℕ) (J : List Rec) → SentSeen from to bytes (own q J) → WasSent from to bytes J
+  pub own-sends : (q : ℕ) (J : List Rec) → SentSeen from to bytes (own q J) → WasSentBetween from to bytes J
   unfolding own
   own-sends q J h = on-sends q [] J h
 

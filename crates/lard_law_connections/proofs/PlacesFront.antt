@@ -3,22 +3,22 @@ use Rattle.std.proofs.Common.{◌≡◌, ℕ, ◌+◌, ◌≤◌, List, [], ◌�
 use Rattle.std.specs.List.{fold}
 use Rattle.lard_base.specs.declared.place.Place.{Place}
 use Rattle.lard_base.specs.declared.place.Place.TheVariants.{Client, Front, Node}
-use Rattle.lard_law_connections.specs.Places.{EndedBefore, IsHome, IsPast, LetterMay, MaySay, Offers, Owning, Sits, StageSits, head_of, owning}
+use Rattle.lard_law_connections.specs.Places.{EndedBefore, IsHome, IsPast, LetterMay, MaySay, Offers, Owning, Sits, StageSits, message_head, owning}
 use Rattle.lard_law_connections.proofs.PlacesGrowing.{FrontGrows, back-still, front-still, past-later}
 use Rattle.lard_law_connections.proofs.PlacesHeads.{spelled-head}
 use Rattle.lard_law_connections.proofs.PlacesLoops.{reads-notes, settled-is, spoken-to}
 use Rattle.lard_law_connections.proofs.PlacesRows.{IsPlain, MayStand, OwnsBy, after_all, plain-after, plain-owns}
 use Rattle.lard_law_connections.proofs.PlacesTurns.{IsPlaced, Owes, Turned, timers-plain, turned-after, turned-owns}
 use Rattle.lard_law_view.specs.Carry.{tale_at}
-use Rattle.lard_law_view.specs.View.{Conn, IsMachine, Part, Said, by_front, front_does, letter, nothing_said, with_front}
+use Rattle.lard_law_view.specs.View.{Conn, IsMachine, Part, TurnSaid, by_front, front_does, letter, nothing_said, with_front}
 use Rattle.lard_dispatch.specs.declared.dispatch.First.{First}
 use Rattle.lard_dispatch.specs.declared.dispatch.First.TheVariants as first
 use Rattle.lard_dispatch.specs.Laws.{Call}
 use Rattle.lard_dispatch.specs.Laws as call
 use Rattle.lard_endpoint.specs.Control.{ControlBlock}
 use Rattle.lard_rules.specs.declared.front.FrontRest.{FrontRest}
-use Rattle.lard_rules.specs.Front.{Drops, Says, Does, FrontEnv, FrontPart, heard, leaves_by, placed, rests, saying, settled_by, stage_after, turn_here}
-use Rattle.lard_rules.specs.FrontReading.{Reading, reads}
+use Rattle.lard_rules.specs.Front.{Drops, Says, Does, FrontEnv, FrontPart, heard, leaves_by, placed, front_rests, front_saying, settled_by, stage_after, turn_here}
+use Rattle.lard_rules.specs.FrontReading.{Reading, front_reads}
 use Rattle.lard_handoff_front.specs.declared.row.FrontConn.{FrontConn}
 use Rattle.lard_handoff_front.specs.declared.row.FrontConn.TheVariants as stage
 use Rattle.lard_handoff_front.specs.declared.row.FrontRow.{FrontRow}
@@ -29,7 +29,7 @@ use Rattle.lard_journal.specs.declared.rec.Rec.TheVariants as rec
 use Rattle.lard_rules.specs.declared.places.Ending.{Ending}
 use Rattle.lard_rules.specs.declared.places.Ending.TheVariants as ending
 use Rattle.lard_rules.specs.declared.places.Turn.{Turn}
-use Rattle.lard_rules.specs.Serving.{Service, serving, settled, spoken}
+use Rattle.lard_rules.specs.Serving.{Service, serving, serving_settled, spoken}
 use Rattle.lard_law_view.proofs.EndpointSends.{AllTo}
 use Rattle.lard_law_view.proofs.RowLists.{MayBeSeen}
 
@@ -44,8 +44,8 @@ pub record IsQuiet (x : Conn) (heads : List Seen) : Type 0 where
 
 pub segment-letters : (q : Part) (place : Place) (c : ℕ) (ss : List (Place × List ℕ)) → AllTo (Client c) ss → Each (LetterMay q) (map (letter place) ss)
 segment-letters q place c [] to = tt
-segment-letters q place c (s ∷ ss) to = (subst (λ (p : Place). MaySay q place p (head_of s.1)) (sym to.0) (one place), segment-letters q place c ss to.1) where
-  one : (place : Place) → MaySay q place (Client c) (head_of s.1)
+segment-letters q place c (s ∷ ss) to = (subst (λ (p : Place). MaySay q place p (message_head s.1)) (sym to.0) (one place), segment-letters q place c ss to.1) where
+  one : (place : Place) → MaySay q place (Client c) (message_head s.1)
   one Front = tt
   one (Node n) = tt
   one (Client d) = tt
@@ -55,14 +55,14 @@ none-letters q place ss none = subst (λ (l : List (Place × List ℕ)). Each (L
 
 -- what a message says, where it goes
 abbrev pub Tells : Part → Place → Place × List ℕ → Type 0
-Tells q place m = MaySay q place m.0 (head_of m.1)
+Tells q place m = MaySay q place m.0 (message_head m.1)
 
 pub message-letters : (q : Part) (place : Place) (ms : List (Place × List ℕ)) → Each (Tells q place) ms → Each (LetterMay q) (map (letter place) ms)
 message-letters q place [] h = tt
 message-letters q place (m ∷ ms) h = (h.0, message-letters q place ms h.1)
 
 -- all packets of a turn
-pub turn-letters : (q : Part) (place : Place) (c : ℕ) (w v : Owning) (s : Said) → Turned c place w s v → Each (Tells q place) s.messages
+pub turn-letters : (q : Part) (place : Place) (c : ℕ) (w v : Owning) (s : TurnSaid) → Turned c place w s v → Each (Tells q place) s.messages
     → Each (LetterMay q) (map (letter place) s.segments ++ map (letter place) s.messages)
 turn-letters q place c w v s t m = Each-append (LetterMay q) (map (letter place) s.segments) (map (letter place) s.messages)
     (⊎_elim (λ (mine : AllTo (Client c) s.segments × ((after_all w s.notes).owner ≡ Some place) × IsMachine place). segment-letters q place c s.segments mine.0)
@@ -75,7 +75,7 @@ module _ (x : Conn) (heads : List Seen) (quiet : IsQuiet x heads) where
   abbrev w : Owning
   w = owning (tale_at x)
 
-  pub front-owes : (s : Said) (part : FrontPart) (v : Owning) → Turned x.c Front w s v → Sits v x.part.nodes part.row → FrontGrows x.part.nodes x.part.front.row part.row
+  pub front-owes : (s : TurnSaid) (part : FrontPart) (v : Owning) → Turned x.c Front w s v → Sits v x.part.nodes part.row → FrontGrows x.part.nodes x.part.front.row part.row
       → Each (Tells (with_front x.part part) Front) s.messages → Owes x (record { place = Front; heads = heads; said = s; part = with_front x.part part })
   front-owes s part v t sits grows tells =
       let q : Part = with_front x.part part in
@@ -98,8 +98,8 @@ module _ (x : Conn) (heads : List Seen) (quiet : IsQuiet x heads) where
     drops-owes = front-owes nothing_said x.part.front w (nothing-turned Front) placed.sits (front-still x.part.nodes x.part.front.row) tt
 
     -- messages go out, and nothing else is done
-    pub messages-owe : (ms : List (Place × List ℕ)) → Each (λ m. IsMachine m.0) ms → Each (Tells x.part Front) ms → Owes x (front_does x heads (Says (saying ms)))
-    messages-owe ms machines tells = front-owes (by_front (saying ms)) x.part.front w
+    pub messages-owe : (ms : List (Place × List ℕ)) → Each (λ m. IsMachine m.0) ms → Each (Tells x.part Front) ms → Owes x (front_does x heads (Says (front_saying ms)))
+    messages-owe ms machines tells = front-owes (by_front (front_saying ms)) x.part.front w
         (record { notes = tt; segments = inr refl; gave = tt; messages = machines; then = refl }) placed.sits (front-still x.part.nodes x.part.front.row) tells
 
   -- ---- an endpoint that is here
@@ -110,8 +110,8 @@ module _ (x : Conn) (heads : List Seen) (quiet : IsQuiet x heads) where
       → row.epoch.0 ≤ 3 → EndedBefore row.epoch.0 row.ended_by → IsHome row.epoch.0 v x.part.nodes
       → ((st : FrontConn) → FrontGrows x.part.nodes x.part.front.row (Some (record row { stage = st })))
       → OwnsBy x.c w given.1.notes → after_all w given.1.notes ≡ v → AllTo (Client x.c) given.1.segments
-      → Owes x (front_does x heads (Does (record { part = rests x.part.front row rest stays given.0; turn = turn_here given.1; calls = calls })))
-  ends-owe row rest stays given calls v stay small ended home grows notes then to = front-owes (by_front (turn_here given.1)) (rests x.part.front row rest stays given.0) v
+      → Owes x (front_does x heads (Does (record { part = front_rests x.part.front row rest stays given.0; turn = turn_here given.1; calls = calls })))
+  ends-owe row rest stays given calls v stay small ended home grows notes then to = front-owes (by_front (turn_here given.1)) (front_rests x.part.front row rest stays given.0) v
       (record { notes = notes; segments = inl (to, ap (λ (u : Owning). u.owner) (then ∙ home.0), tt); gave = tt; messages = tt; then = then })
       (go given.0, ended) (grows (stage_after stays given.0)) tt where
         go : (e : Ending) → StageSits row.epoch.0 v x.part.nodes (stage_after stays e)
@@ -130,7 +130,7 @@ module _ (x : Conn) (heads : List Seen) (quiet : IsQuiet x heads) where
     pub goes-owe : (rest : FrontRest) (stays : ControlBlock → FrontConn) (given : Ending × Turn) (calls : List Call)
         → ((b : ControlBlock) → IsHome row.epoch.0 w x.part.nodes → StageSits row.epoch.0 w x.part.nodes (stays b))
         → Each IsPlain given.1.notes → AllTo (Client env.serve.c) given.1.segments
-        → Owes x (front_does x heads (Does (record { part = rests x.part.front row rest stays given.0; turn = turn_here given.1; calls = calls })))
+        → Owes x (front_does x heads (Does (record { part = front_rests x.part.front row rest stays given.0; turn = turn_here given.1; calls = calls })))
     goes-owe rest stays given calls stay plain to = ends-owe row rest stays given calls w stay (omega (arith, one)) ended home here-grows
         (plain-owns x.c w given.1.notes plain) (plain-after w given.1.notes plain) (to-mine given.1.segments to)
 
@@ -163,16 +163,16 @@ module _ (x : Conn) (heads : List Seen) (quiet : IsQuiet x heads) where
     settled-owes : (rest : FrontRest) (s : Service) (o : Option (List ℕ)) → Each IsPlain s.notes → Owes x (front_does x heads (settled_by env x.part.front row rest s o))
     settled-owes rest s None plain =
         let is = settled-is env.serve s in
-        goes-owe rest stage.Held (settled env.serve s) [] (λ b home. (one, home)) (subst (Each IsPlain) (sym is.notes) plain) is.to
+        goes-owe rest stage.Held (serving_settled env.serve s) [] (λ b home. (one, home)) (subst (Each IsPlain) (sym is.notes) plain) is.to
     settled-owes rest s (Some path) plain = placed-owes rest s path (env.first path) plain
 
     pub heard-owes : (rest : FrontRest) (b : ControlBlock) → Owes x (front_does x heads (heard env x.part.front row rest b))
     heard-owes rest b =
-        let r : Reading = reads env.serve (record { service = serving b rest.count []; target = None }) in
+        let r : Reading = front_reads env.serve (record { service = serving b rest.count []; target = None }) in
         settled-owes rest r.service r.target (reads-notes (Each IsPlain) (λ ns rs plain h. Each-append IsPlain ns rs h plain) env.serve (record { service = serving b rest.count []; target = None }) tt)
 
     -- what is said in a stage of waiting or of being held
     pub says-owe : (rest : FrontRest) (stays : ControlBlock → FrontConn) (s : Service) (before : List (Place × List ℕ)) (calls : List Call)
         → ((b : ControlBlock) → IsHome row.epoch.0 w x.part.nodes → StageSits row.epoch.0 w x.part.nodes (stays b)) → Each IsPlain s.notes → AllTo (Client env.serve.c) before
-        → Owes x (front_does x heads (Does (record { part = rests x.part.front row rest stays (spoken env.serve s before).0; turn = turn_here (spoken env.serve s before).1; calls = calls })))
+        → Owes x (front_does x heads (Does (record { part = front_rests x.part.front row rest stays (spoken env.serve s before).0; turn = turn_here (spoken env.serve s before).1; calls = calls })))
     says-owe rest stays s before calls stay plain to = goes-owe rest stays (spoken env.serve s before) calls stay plain (spoken-to env.serve s before to)

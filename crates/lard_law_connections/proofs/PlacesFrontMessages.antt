@@ -12,7 +12,7 @@ use Rattle.lard_law_connections.proofs.PlacesHeads.{decoded-head, head, spelled-
 use Rattle.lard_law_connections.proofs.PlacesRows.{IsPlain, plain-after, plain-owns}
 use Rattle.lard_law_connections.proofs.PlacesTurns.{IsPlaced, Owes}
 use Rattle.lard_law_view.specs.Carry.{tale_at}
-use Rattle.lard_law_view.specs.View.{Conn, IsFrontEnv, Part, Setting, Spells, Was, by_front, front_admits, front_does, with_front}
+use Rattle.lard_law_view.specs.View.{Conn, IsFrontEnv, Part, Setting, SpellsMessage, Was, by_front, front_admits, front_does, with_front}
 use Rattle.lard_costs.specs.declared.later.LaterChoice.{LaterChoice}
 use Rattle.lard_dispatch.specs.declared.dispatch.Ask.{Ask}
 use Rattle.lard_dispatch.specs.declared.dispatch.First.TheVariants as first
@@ -21,7 +21,7 @@ use Rattle.lard_endpoint.specs.declared.control.moving.Final.{Final}
 use Rattle.lard_endpoint.specs.Control.{ControlBlock}
 use Rattle.lard_rules.specs.declared.front.FrontRest.{FrontRest}
 use Rattle.lard_rules.specs.declared.front.FrontTurn.{FrontTurn}
-use Rattle.lard_rules.specs.Front.{Deed, Drops, Says, Does, FrontEnv, FrontPart, ack_sent, admitted_at, admitted_by, admitted_with, asked_by, assigned_notes, assigns, ended_by, ends, front_admitted, front_asked, front_ended, front_taken, handed_off, is_at, over_note, rest_of, saying, tag_sent, taken_by}
+use Rattle.lard_rules.specs.Front.{FrontDeed, Drops, Says, Does, FrontEnv, FrontPart, ack_sent, admitted_at, admitted_by, front_admitted_with, asked_by, assigned_notes, assigns, front_ended_by, front_ends, front_admitted, front_asked, front_ended, front_taken, handed_off, is_row_at, over_note, front_rest, front_saying, tag_sent, taken_by}
 use Rattle.lard_handoff_back.specs.declared.row.BackConn.{BackConn}
 use Rattle.lard_handoff_back.specs.declared.row.BackConn.TheVariants as back
 use Rattle.lard_handoff_back.specs.declared.row.BackRow.{BackRow}
@@ -43,7 +43,7 @@ use Rattle.lard_policy.specs.declared.first.FirstChoice.{FirstChoice}
 use Rattle.lard_rules.specs.Serving.{serving}
 
 -- what a packet that came says, where it is a message of this connection
-pub came-says : (x : Conn) (from to : Place) (epoch : ℕ) (b : Body) (bytes : List ℕ) → Each (LetterMay x.part) x.letters → Was x from to bytes → Spells x.c epoch b bytes
+pub came-says : (x : Conn) (from to : Place) (epoch : ℕ) (b : Body) (bytes : List ℕ) → Each (LetterMay x.part) x.letters → Was x from to bytes → SpellsMessage x.c epoch b bytes
     → MaySay x.part from to (Some (head (kind_of b) epoch))
 came-says x from to epoch b bytes letters was spells =
     subst (MaySay x.part from to) (decoded-head bytes _ spells) (has-each (LetterMay x.part) (record { from = from; to = to; bytes = bytes }) x.letters was letters)
@@ -90,7 +90,7 @@ module _ (k : Setting) (x : Conn) (heads : List Seen) (quiet : IsQuiet x heads) 
   abbrev nodes : ℕ → NodePart
   nodes = x.part.nodes
 
-  abbrev Owed : Deed → Type 0
+  abbrev Owed : FrontDeed → Type 0
   Owed d = Owes x (front_does x heads d)
 
   dropped : Owed Drops
@@ -110,7 +110,7 @@ module _ (k : Setting) (x : Conn) (heads : List Seen) (quiet : IsQuiet x heads) 
       let now : epoch ≡ row.epoch.0 = sym same ∙ sits.1 in
       let there : IsThere n row.epoch.0 w (nodes n).row = decided-there n row.epoch.0 w nodes sits.2 m sits.3 (subst (λ (e : ℕ). IsDecided e (nodes m).row) now decided) in
       let next : FrontRow = record row { stage = stage.Moved n (record { 0 = epoch }) } in
-      front-owes x heads quiet (by_front (saying [])) _ w
+      front-owes x heads quiet (by_front (front_saying [])) _ w
       (record { notes = tt; segments = inr refl; gave = tt; messages = tt; then = refl })
       ((sits.0, now, sits.2, there), h.1)
       (subst (λ (o : Option FrontRow). FrontGrows nodes o (Some next)) (sym found) (
@@ -132,7 +132,7 @@ module _ (k : Setting) (x : Conn) (heads : List Seen) (quiet : IsQuiet x heads) 
   taken-by epoch m decided None e = dropped
   taken-by epoch m decided (Some row) e = taken-at epoch m row e decided row.stage refl
 
-  pub taken-rule : (m epoch : ℕ) (bytes : List ℕ) → Spells x.c epoch body.Taken bytes → Was x (Node m) Front bytes → Owed (front_taken p epoch)
+  pub taken-rule : (m epoch : ℕ) (bytes : List ℕ) → SpellsMessage x.c epoch body.Taken bytes → Was x (Node m) Front bytes → Owed (front_taken p epoch)
   taken-rule m epoch bytes spells was = taken-by epoch m (came-says x (Node m) Front epoch body.Taken bytes held.letters was spells) p.row refl
 
   -- ---- an Ask
@@ -162,19 +162,19 @@ module _ (k : Setting) (x : Conn) (heads : List Seen) (quiet : IsQuiet x heads) 
   asked-by n epoch ask None = dropped
   asked-by n epoch ask (Some rest) =
       cond_both (ask.number == rest.asks + 1) (Does (assigns env p rest n epoch ask (env.later ask))) _ Owed (λ t. assigns-owe rest n epoch ask (env.later ask))
-      (λ t. cond_both (ask.number == rest.asks && nat_lt 0 rest.asks) (Says (saying (tag_sent env n epoch rest.asks rest.tag))) Drops Owed
+      (λ t. cond_both (ask.number == rest.asks && nat_lt 0 rest.asks) (Says (front_saying (tag_sent env n epoch rest.asks rest.tag))) Drops Owed
       (λ u. messages-owe x heads quiet held (tag_sent env n epoch rest.asks rest.tag) (tt, tt) (tag-tells x.part n epoch rest.asks rest.tag)) (λ u. dropped))
 
   pub asked-rule : (n epoch : ℕ) (ask : Ask) → Owed (front_asked env p n epoch ask)
-  asked-rule n epoch ask = cond_both (is_at n epoch p.row) (asked_by env p n epoch ask p.rest) Drops Owed (λ t. asked-by n epoch ask p.rest) (λ t. dropped)
+  asked-rule n epoch ask = cond_both (is_row_at n epoch p.row) (asked_by env p n epoch ask p.rest) Drops Owed (λ t. asked-by n epoch ask p.rest) (λ t. dropped)
 
   -- ---- an Ended
 
   -- The connection is with node n in this epoch, and the node m that says so has given it up.
   ends-owe-one : (row : FrontRow) (m n epoch : ℕ) (last : Final) → p.row ≡ Some row → IsWith x row n → row.epoch.0 ≡ epoch → IsOver epoch (nodes m).row
-      → ((i e : ℕ) → Offers i e row.stage → (i ≡ n) × (e ≡ row.epoch.0)) → EndedBefore row.epoch.0 row.ended_by → Owed (Does (ends env p m epoch last row (next_epoch row)))
+      → ((i e : ℕ) → Offers i e row.stage → (i ≡ n) × (e ≡ row.epoch.0)) → EndedBefore row.epoch.0 row.ended_by → Owed (Does (front_ends env p m epoch last row (next_epoch row)))
   ends-owe-one row m n epoch last found away now over offered before =
-      let did = ends env p m epoch last row (next_epoch row) in
+      let did = front_ends env p m epoch last row (next_epoch row) in
       let q : Part = with_front x.part did.part in
       let e : ℕ = row.epoch.0 in
       let over_e : IsOver e (nodes m).row = subst (λ (f : ℕ). IsOver f (nodes m).row) (sym now) over in
@@ -228,7 +228,7 @@ module _ (k : Setting) (x : Conn) (heads : List Seen) (quiet : IsQuiet x heads) 
   with-node row found epoch _ at away P then = let no : false ≡ true = away in absurd cc
 
   -- it ended before, and is acknowledged again
-  again-owes : (row : FrontRow) (m epoch : ℕ) → p.row ≡ Some row → ended_with epoch row.ended_by ≡ true → Owed (Says (saying (ack_sent env m epoch)))
+  again-owes : (row : FrontRow) (m epoch : ℕ) → p.row ≡ Some row → ended_with epoch row.ended_by ≡ true → Owed (Says (front_saying (ack_sent env m epoch)))
   again-owes row m epoch found again =
       let h = find-row row found in
       let before : epoch < row.epoch.0 = earlier row.ended_by again h.1 in
@@ -240,21 +240,21 @@ module _ (k : Setting) (x : Conn) (heads : List Seen) (quiet : IsQuiet x heads) 
         earlier None e h = let no : false ≡ true = e in absurd cc
         earlier (Some by) e h = let same : by.0 ≡ epoch = eqb-true by.0 epoch e in omega (arith, same, h)
 
-  ended-row : (m epoch : ℕ) (last : Final) (row : FrontRow) → p.row ≡ Some row → IsOver epoch (nodes m).row → Owed (ended_by env p m epoch last (Some row) (end_answer epoch (Some row)))
+  ended-row : (m epoch : ℕ) (last : Final) (row : FrontRow) → p.row ≡ Some row → IsOver epoch (nodes m).row → Owed (front_ended_by env p m epoch last (Some row) (end_answer epoch (Some row)))
   ended-row m epoch last row found over = go (is_away epoch row.stage) refl where
-    go : (b : Bool) → is_away epoch row.stage ≡ b → Owed (ended_by env p m epoch last (Some row) (cond b (New (next_epoch row)) (cond (ended_with epoch row.ended_by) Again Stale)))
+    go : (b : Bool) → is_away epoch row.stage ≡ b → Owed (front_ended_by env p m epoch last (Some row) (cond b (New (next_epoch row)) (cond (ended_with epoch row.ended_by) Again Stale)))
     go true away = with-node row found epoch row.stage refl away _
         (λ n there now offered. ends-owe-one row m n epoch last found there now over offered (find-row row found).1)
     go false away = again (ended_with epoch row.ended_by) refl where
-      again : (b : Bool) → ended_with epoch row.ended_by ≡ b → Owed (ended_by env p m epoch last (Some row) (cond b Again Stale))
+      again : (b : Bool) → ended_with epoch row.ended_by ≡ b → Owed (front_ended_by env p m epoch last (Some row) (cond b Again Stale))
       again true e = again-owes row m epoch found e
       again false e = dropped
 
-  ended-by : (m epoch : ℕ) (last : Final) → IsOver epoch (nodes m).row → (o : Option FrontRow) → p.row ≡ o → Owed (ended_by env p m epoch last o (end_answer epoch o))
+  ended-by : (m epoch : ℕ) (last : Final) → IsOver epoch (nodes m).row → (o : Option FrontRow) → p.row ≡ o → Owed (front_ended_by env p m epoch last o (end_answer epoch o))
   ended-by m epoch last over None e = dropped
   ended-by m epoch last over (Some row) e = ended-row m epoch last row e over
 
-  pub ended-rule : (m epoch : ℕ) (b : Body) (bytes : List ℕ) (last : Final) → kind_of b ≡ kind.Ended → Spells x.c epoch b bytes → Was x (Node m) Front bytes → Owed (front_ended env p m epoch last)
+  pub ended-rule : (m epoch : ℕ) (b : Body) (bytes : List ℕ) (last : Final) → kind_of b ≡ kind.Ended → SpellsMessage x.c epoch b bytes → Was x (Node m) Front bytes → Owed (front_ended env p m epoch last)
   ended-rule m epoch b bytes last kind spells was =
       ended-by m epoch last (subst (λ (k : Kind). MaySay x.part (Node m) Front (Some (head k epoch))) kind (came-says x (Node m) Front epoch b bytes held.letters was spells)) p.row refl
 
@@ -265,10 +265,10 @@ module _ (k : Setting) (x : Conn) (held : IsPlaced x) (env : FrontEnv) (is : IsF
   nothing_seen = record { may = tt; same = refl }
 
   admitted-with : (row : FrontRow) (b : ControlBlock) (given : FrontPart × FrontTurn) (o : Option (List ℕ)) → x.part.front.row ≡ Some row → row.stage ≡ stage.Waiting b
-      → admitted_with env row (rest_of x.part.front.rest) b choice o ≡ Some given → Owes x (front_admits x given)
+      → front_admitted_with env row (front_rest x.part.front.rest) b choice o ≡ Some given → Owes x (front_admits x given)
   admitted-with row b given None found at e = let no : None ≡ Some given = e in absurd cc
   admitted-with row b given (Some path) found at e =
-      let rest : FrontRest = rest_of x.part.front.rest in
+      let rest : FrontRest = front_rest x.part.front.rest in
       let handed : FrontPart × FrontTurn = handed_off env row (serving b rest.count []) path choice in
       let same : handed ≡ given = cc in
       let h = sits-row k x [] nothing_seen held env is row found in
@@ -278,7 +278,7 @@ module _ (k : Setting) (x : Conn) (held : IsPlaced x) (env : FrontEnv) (is : IsF
 
   admitted-at : (row : FrontRow) (given : FrontPart × FrontTurn) (st : FrontConn) → x.part.front.row ≡ Some row → row.stage ≡ st → admitted_at env x.part.front choice row st ≡ Some given
       → Owes x (front_admits x given)
-  admitted-at row given (stage.Waiting b) found at e = admitted-with row b given (rest_of x.part.front.rest).target found at e
+  admitted-at row given (stage.Waiting b) found at e = admitted-with row b given (front_rest x.part.front.rest).target found at e
   admitted-at row given _ found at e = let no : None ≡ Some given = e in absurd cc
 
   admitted-by : (given : FrontPart × FrontTurn) (o : Option FrontRow) → x.part.front.row ≡ o → admitted_by env x.part.front choice o ≡ Some given → Owes x (front_admits x given)

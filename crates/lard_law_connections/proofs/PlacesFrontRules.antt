@@ -10,12 +10,12 @@ use Rattle.lard_law_connections.proofs.PlacesHeads.{spelled-some}
 use Rattle.lard_law_connections.proofs.PlacesLoops.{spoken-to}
 use Rattle.lard_law_connections.proofs.PlacesTurns.{IsPlaced, Owes}
 use Rattle.lard_law_view.specs.Carry.{tale_at}
-use Rattle.lard_law_view.specs.View.{AreSent, Conn, IsFrontEnv, IsMachine, IsSound, Setting, by_front, front_does}
+use Rattle.lard_law_view.specs.View.{AreSent, Conn, IsFrontEnv, IsMachine, IsConnSound, Setting, by_front, front_does}
 use Rattle.lard_endpoint.specs.declared.control.moving.Final.{Final}
 use Rattle.lard_endpoint.specs.Arriving.{on_segment}
 use Rattle.lard_endpoint.specs.Control.{listening}
 use Rattle.lard_endpoint.specs.Leaving.{after_timer, timed}
-use Rattle.lard_rules.specs.Front.{Deed, Drops, Says, FrontEnv, FrontPart, begun, fired, fired_by, fires_at, front_gets, front_hears, front_timer, hears_at, leaves_by, message, met, rest_of, saying, turn_here}
+use Rattle.lard_rules.specs.Front.{FrontDeed, Drops, Says, FrontEnv, FrontPart, front_begun, front_fired, front_fired_by, fires_at, front_gets, front_hears, front_timer, hears_at, leaves_by, message, met, front_rest, front_saying, turn_here}
 use Rattle.lard_handoff_front.specs.declared.row.FrontConn.{FrontConn}
 use Rattle.lard_handoff_front.specs.declared.row.FrontConn.TheVariants as stage
 use Rattle.lard_handoff_front.specs.declared.row.FrontRow.{FrontRow}
@@ -30,7 +30,7 @@ use Rattle.lard_resend.specs.Pending.{sent_of}
 use Rattle.lard_rules.specs.declared.places.Ending.{Ending}
 use Rattle.lard_rules.specs.declared.places.Turn.{Turn}
 use Rattle.lard_rules.specs.Tombstone.{is_plain_syn, last_words, tombstone}
-use Rattle.lard_rules.specs.Serving.{ready_of, serving, spoken}
+use Rattle.lard_rules.specs.Serving.{serving_ready_of, serving, spoken}
 use Rattle.lard_segment.specs.declared.fault.SegFault.{SegFault}
 use Rattle.lard_segment.specs.Segment.{Said as Segment}
 use Rattle.lard_law_view.proofs.EndpointSends.{AllTo, ready-to}
@@ -94,7 +94,7 @@ module _ (k : Setting) (x : Conn) (heads : List Seen) (quiet : IsQuiet x heads) 
   abbrev nodes : ℕ → NodePart
   nodes = x.part.nodes
 
-  abbrev Owed : Deed → Type 0
+  abbrev Owed : FrontDeed → Type 0
   Owed d = Owes x (front_does x heads d)
 
   dropped : Owed Drops
@@ -105,7 +105,7 @@ module _ (k : Setting) (x : Conn) (heads : List Seen) (quiet : IsQuiet x heads) 
   sits-row row found = subst (Sits w nodes) found placed.sits
 
   -- a message to a node of which nothing is to be shown
-  forwards : (n e : ℕ) (bytes : List ℕ) → Owed (Says (saying ((Node n, message env.serve.c e (body.Forward bytes)) ∷ [])))
+  forwards : (n e : ℕ) (bytes : List ℕ) → Owed (Says (front_saying ((Node n, message env.serve.c e (body.Forward bytes)) ∷ [])))
   forwards n e bytes = messages-owe x heads quiet placed ((Node n, message env.serve.c e (body.Forward bytes)) ∷ []) (tt, tt)
       (subst (λ h. MaySay x.part Front (Node n) h) (sym (spelled-some _)) tt, tt)
 
@@ -120,8 +120,8 @@ module _ (k : Setting) (x : Conn) (heads : List Seen) (quiet : IsQuiet x heads) 
       let home : IsHome 1 v nodes = (refl, λ n. past-later 0 1 (nodes n).row (omega arith) (at.1 n)) in
       let fresh : w.epoch ≡ 0 = ap (λ (u : Owning). u.epoch) at.0 in
       let free : w.owner ≡ None = ap (λ (u : Owning). u.owner) at.0 in
-      cond_both (is_plain_syn s) (begun env p s) Drops Owed
-      (λ t. ends-owe x heads quiet row (rest_of None) stage.Held given [] v (λ b home. (refl, home)) (omega arith) tt home
+      cond_both (is_plain_syn s) (front_begun env p s) Drops Owed
+      (λ t. ends-owe x heads quiet row (front_rest None) stage.Held given [] v (λ b home. (refl, home)) (omega arith) tt home
       (λ st. subst (λ (o : Option FrontRow). FrontGrows nodes o (Some (record row { stage = st }))) (sym none) tt)
       ((is.number, omega (arith, fresh), free), tt) refl
       (subst (λ (c : ℕ). AllTo (Client c) given.1.segments) is.number (spoken-to env.serve (serving (listening s env.iss) 0 (rec.Took Front env.serve.c (record { 0 = 1 }) ∷ [])) [] tt)))
@@ -143,12 +143,12 @@ module _ (k : Setting) (x : Conn) (heads : List Seen) (quiet : IsQuiet x heads) 
   hears-at bytes s row found (stage.Held b) at =
       let h = sits-row row found in
       let sits : StageSits row.epoch.0 w nodes (stage.Held b) = subst (StageSits row.epoch.0 w nodes) at h.0 in
-      heard-owes x heads quiet env is.number row found sits.0 sits.1 h.1 (λ n e. subst (λ (q : FrontConn). Offers n e q → ⊥) (sym at) (λ o. o)) (rest_of p.rest) (on_segment b s).1
+      heard-owes x heads quiet env is.number row found sits.0 sits.1 h.1 (λ n e. subst (λ (q : FrontConn). Offers n e q → ⊥) (sym at) (λ o. o)) (front_rest p.rest) (on_segment b s).1
   hears-at bytes s row found (stage.Waiting b) at =
       let h = sits-row row found in
       let sits : StageSits row.epoch.0 w nodes (stage.Waiting b) = subst (StageSits row.epoch.0 w nodes) at h.0 in
-      says-owe x heads quiet env is.number row found sits.0 sits.1 h.1 (λ n e. subst (λ (q : FrontConn). Offers n e q → ⊥) (sym at) (λ o. o)) (rest_of p.rest) stage.Waiting
-      (serving (on_segment b s).1 (rest_of p.rest).count []) [] (leaves_by env.serve.c (spoken env.serve (serving (on_segment b s).1 (rest_of p.rest).count []) []).0) (λ b home. (sits.0, home)) tt tt
+      says-owe x heads quiet env is.number row found sits.0 sits.1 h.1 (λ n e. subst (λ (q : FrontConn). Offers n e q → ⊥) (sym at) (λ o. o)) (front_rest p.rest) stage.Waiting
+      (serving (on_segment b s).1 (front_rest p.rest).count []) [] (leaves_by env.serve.c (spoken env.serve (serving (on_segment b s).1 (front_rest p.rest).count []) []).0) (λ b home. (sits.0, home)) tt tt
   hears-at bytes s row found stage.Lent at = dropped
   hears-at bytes s row found (stage.Offering n e) at = forwards n e.0 bytes
   hears-at bytes s row found (stage.Moved n e) at = forwards n e.0 bytes
@@ -166,23 +166,23 @@ module _ (k : Setting) (x : Conn) (heads : List Seen) (quiet : IsQuiet x heads) 
 
   -- ---- timers
 
-  module _ (sound : IsSound x) where
+  module _ (sound : IsConnSound x) where
     fires-at : (row : FrontRow) → p.row ≡ Some row → (st : FrontConn) → row.stage ≡ st → Owed (fires_at env p row st)
     fires-at row found (stage.Held b) at =
         let h = sits-row row found in
         let sits : StageSits row.epoch.0 w nodes (stage.Held b) = subst (StageSits row.epoch.0 w nodes) at h.0 in
-        says-owe x heads quiet env is.number row found sits.0 sits.1 h.1 (λ n e. subst (λ (q : FrontConn). Offers n e q → ⊥) (sym at) (λ o. o)) (rest_of p.rest) stage.Held
-        (serving (after_timer b) (rest_of p.rest).count []) (ready_of env.serve (after_timer b) (timed b)) [] (λ b home. (sits.0, home)) tt (ready-to env.serve (after_timer b) (timed b))
+        says-owe x heads quiet env is.number row found sits.0 sits.1 h.1 (λ n e. subst (λ (q : FrontConn). Offers n e q → ⊥) (sym at) (λ o. o)) (front_rest p.rest) stage.Held
+        (serving (after_timer b) (front_rest p.rest).count []) (serving_ready_of env.serve (after_timer b) (timed b)) [] (λ b home. (sits.0, home)) tt (ready-to env.serve (after_timer b) (timed b))
     fires-at row found (stage.Waiting b) at =
         let h = sits-row row found in
         let sits : StageSits row.epoch.0 w nodes (stage.Waiting b) = subst (StageSits row.epoch.0 w nodes) at h.0 in
-        says-owe x heads quiet env is.number row found sits.0 sits.1 h.1 (λ n e. subst (λ (q : FrontConn). Offers n e q → ⊥) (sym at) (λ o. o)) (rest_of p.rest) stage.Waiting
-        (serving (after_timer b) (rest_of p.rest).count []) (ready_of env.serve (after_timer b) (timed b)) (leaves_by env.serve.c (fired env (rest_of p.rest) b).0) (λ b home. (sits.0, home)) tt (ready-to env.serve (after_timer b) (timed b))
+        says-owe x heads quiet env is.number row found sits.0 sits.1 h.1 (λ n e. subst (λ (q : FrontConn). Offers n e q → ⊥) (sym at) (λ o. o)) (front_rest p.rest) stage.Waiting
+        (serving (after_timer b) (front_rest p.rest).count []) (serving_ready_of env.serve (after_timer b) (timed b)) (leaves_by env.serve.c (front_fired env (front_rest p.rest) b).0) (λ b home. (sits.0, home)) tt (ready-to env.serve (after_timer b) (timed b))
     fires-at row found (stage.Offering n e) at =
         messages-owe x heads quiet placed (map sent_of p.kept) (resent-machines x Front p.kept sound.front) (resent-tells x Front p.kept placed.letters sound.front)
     fires-at row found _ at = dropped
 
-    fires : (o : Option FrontRow) → p.row ≡ o → Owed (fired_by env p o)
+    fires : (o : Option FrontRow) → p.row ≡ o → Owed (front_fired_by env p o)
     fires None e = dropped
     fires (Some row) e = fires-at row e row.stage refl
 

@@ -3,7 +3,7 @@ use Rattle.std.proofs.Common.{◌≡◌, ℕ, ◌+◌, ◌<◌, ◌^◌, Bool, t
 use Rattle.std.specs.Int.{w32}
 use Rattle.std.proofs.lemmas.Nat.{from_be_bytes-to_be_bytes_2}
 use Rattle.lard_base.specs.declared.ids.TheConstants.ConnId.{MAX}
-use Rattle.lard_law_connections.specs.Places.{Head, head_of}
+use Rattle.lard_law_connections.specs.Places.{Head, message_head}
 use Rattle.lard_message.specs.declared.fault.MsgFault.{MsgFault}
 use Rattle.lard_message.specs.declared.fault.MsgFault.TheVariants as fault
 use Rattle.lard_message.specs.declared.kind.Kind.{Kind}
@@ -11,15 +11,15 @@ use Rattle.lard_message.specs.declared.kind.Kind.TheVariants as kind
 use Rattle.lard_message.specs.declared.message.Body.{Body}
 use Rattle.lard_message.specs.declared.message.Body.TheVariants as body
 use Rattle.lard_message.specs.declared.message.Message.{Message}
-use Rattle.lard_message.specs.Kinds.{is_version, kind_named, number_of, version_of}
+use Rattle.lard_message.specs.Kinds.{is_version, kind_named, kind_number, version_of}
 use Rattle.lard_message.specs.Message.{body_bytes, header_bytes, kind_of, spelled_message}
-use Rattle.lard_message.specs.Reading.{ask_at, body_at, byte_at, connection_at, content_at, counted_at, decoded_message, ended_at, nodes_of, number_at, parts_at, paths_at, reason_at, taken_at, epoch_at, fetch_at, is_of_table, length_at, number_byte, offer_at, tag_at, version_at, with_body, with_kind}
+use Rattle.lard_message.specs.Reading.{ask_at, body_at, byte_at, connection_at, content_at, counted_at, decoded_message, ended_body_at, nodes_of, number_at, parts_at, paths_at, reason_at, taken_at, epoch_at, fetch_at, is_of_table, length_at, number_byte, offer_at, tag_at, version_at, with_body, with_kind}
 use Rattle.lard_message.proofs.Fields.{bind_then, some_same}
 
 abbrev pub head : Kind → ℕ → Head
 head k e = record { kind = k; epoch = e }
 
-pub named-again : (k : Kind) → kind_named (version_of k) (number_of k) ≡ Some k
+pub named-again : (k : Kind) → kind_named (version_of k) (kind_number k) ≡ Some k
 named-again kind.Offer = refl
 named-again kind.Taken = refl
 named-again kind.Forward = refl
@@ -34,19 +34,19 @@ abbrev with_epoch : ℕ → Option Kind → Option Head
 with_epoch e o = option_map (λ k. record { kind = k; epoch = e }) o
 
 -- what was written has its kind
-pub spelled-some : (m : Message) → head_of (spelled_message m) ≡ Some (head (kind_of m.body) (epoch_at (spelled_message m)))
+pub spelled-some : (m : Message) → message_head (spelled_message m) ≡ Some (head (kind_of m.body) (epoch_at (spelled_message m)))
 unfolding spelled_message
 spelled-some m =
     let k : Kind = kind_of m.body in
-    let bytes : List ℕ = header_bytes (version_of k) (number_of k) m.c m.epoch.0 (length (body_bytes m.body)) ++ body_bytes m.body in
+    let bytes : List ℕ = header_bytes (version_of k) (kind_number k) m.c m.epoch.0 (length (body_bytes m.body)) ++ body_bytes m.body in
     ap (with_epoch (epoch_at bytes)) (named-again k)
 
 -- and its epoch
-pub spelled-head : (m : Message) → m.epoch.0 < 2 ^ 16 → head_of (spelled_message m) ≡ Some (head (kind_of m.body) m.epoch.0)
+pub spelled-head : (m : Message) → m.epoch.0 < 2 ^ 16 → message_head (spelled_message m) ≡ Some (head (kind_of m.body) m.epoch.0)
 unfolding spelled_message
 spelled-head m small =
     let k : Kind = kind_of m.body in
-    let bytes : List ℕ = header_bytes (version_of k) (number_of k) m.c m.epoch.0 (length (body_bytes m.body)) ++ body_bytes m.body in
+    let bytes : List ℕ = header_bytes (version_of k) (kind_number k) m.c m.epoch.0 (length (body_bytes m.body)) ++ body_bytes m.body in
     let epoch : epoch_at bytes ≡ m.epoch.0 = from_be_bytes-to_be_bytes_2 m.epoch.0 small in
     spelled-some m ∙ ap (λ (e : ℕ). Some (head k e)) epoch
 
@@ -86,8 +86,8 @@ module _ (bytes : List ℕ) (b : Body) (rest : List ℕ) where
       bind_then (number_at w32 bytes) _ y e (λ r e1 n1. bind_then (number_at w32 r.1) _ y n1 (λ len e2 n2. bind_then (taken_at len.0 len.1) _ y n2 (λ content e3 n3.
       first-kind (body.Content r.0 content.0, content.1) n3)))
 
-  ended-kind : ended_at bytes ≡ Some (b, rest) → kind_of b ≡ kind.Ended
-  unfolding ended_at
+  ended-kind : ended_body_at bytes ≡ Some (b, rest) → kind_of b ≡ kind.Ended
+  unfolding ended_body_at
   ended-kind e =
       bind_then (reason_at bytes) _ y e (λ reason e1 n1. bind_then (number_at w32 reason.1) _ y n1 (λ snd e2 n2. bind_then (number_at w32 snd.1) _ y n2 (λ rcv e3 n3.
       bind_then (number_at w32 rcv.1) _ y n3 (λ count e4 n4. first-kind (body.Ended reason.0 snd.0 rcv.0 count.0, count.1) n4))))
@@ -131,7 +131,7 @@ module _ (bytes : List ℕ) (m : Message) where
       let c = let-through (not (nat_le 1 (connection_at bytes) && nat_le (connection_at bytes) MAX)) fault.Field _ m b in
       by-body k (body_at k (drop 10 bytes)) refl c
 
-  pub decoded-head : decoded_message bytes ≡ Ok m → head_of bytes ≡ Some (head (kind_of m.body) m.epoch.0)
+  pub decoded-head : decoded_message bytes ≡ Ok m → message_head bytes ≡ Some (head (kind_of m.body) m.epoch.0)
   unfolding decoded_message
   decoded-head h =
       let a = let-through (nat_lt (length bytes) 10) fault.Short _ m h in
@@ -159,7 +159,7 @@ module _ (x m : Message) where
   unfolding decoded_message spelled_message
   spelled-body h =
       let k : Kind = kind_of x.body in
-      let bytes : List ℕ = header_bytes (version_of k) (number_of k) x.c x.epoch.0 (length (body_bytes x.body)) ++ body_bytes x.body in
+      let bytes : List ℕ = header_bytes (version_of k) (kind_number k) x.c x.epoch.0 (length (body_bytes x.body)) ++ body_bytes x.body in
       let a = let-through (nat_lt (length bytes) 10) fault.Short _ m h in
       let b = let-through (not (is_version (version_at bytes))) fault.Version _ m a in
       let named : with_kind bytes (Some k) ≡ Ok m = subst (λ (o : Option Kind). with_kind bytes o ≡ Ok m) (named-again k) b in

@@ -12,8 +12,8 @@ use Rattle.lard_law_connections.proofs.PlacesNode.{plain-turned, stands-owes}
 use Rattle.lard_law_connections.proofs.PlacesNodeEnds.{acknowledged-rule, timer-rule}
 use Rattle.lard_law_connections.proofs.PlacesNodeRules.{content-rule, forwarded-rule, offered-rule, read-rule, tagged-rule}
 use Rattle.lard_law_connections.proofs.PlacesTurns.{IsPlaced, Owes}
-use Rattle.lard_law_view.specs.Carry.{MayMove}
-use Rattle.lard_law_view.specs.View.{ClientRules, Conn, FrontRules, Move, NodeRules, Rules, Setting, contents, event_seen, nothing_said, packet_seen}
+use Rattle.lard_law_view.specs.Carry.{MayRestOn}
+use Rattle.lard_law_view.specs.View.{ClientRules, Conn, FrontRules, Move, NodeRules, Rules, Setting, content_said, event_seen, nothing_said, packet_seen}
 use Rattle.lard_rules.specs.Front.{ask_of}
 use Rattle.lard_history.specs.Journal.{request}
 use Rattle.lard_history.specs.Own.{Row}
@@ -46,7 +46,7 @@ open-quiet x isn iss wnd mss = record { may = (tt, (tt, tt)); same = refl }
 
 module _ (k : Setting) (Given : Conn → Type 0) where
   abbrev pub Owing : Conn → Move → Type 0
-  Owing x v = MayMove Given x → IsPlaced x → Owes x v
+  Owing x v = MayRestOn Given x → IsPlaced x → Owes x v
 
   clients : ClientRules k Owing
   clients = record {
@@ -90,12 +90,12 @@ module _ (k : Setting) (Given : Conn → Type 0) where
           letters = o.letters;
         };
     fires = λ x s n env there is m h. timer-rule k x _ (event-quiet x (event.Timer (Node n) x.c)) h m.sound n env is;
-    answers = λ x n from epoch r path file bytes there spells was m h. stands-owes x _ (packet-quiet x (Node from) (Node n) bytes) h (Node n) (contents k n from x.c epoch r path)
-        (plain-turned x _ (packet-quiet x (Node from) (Node n) bytes) (Node n) [] (contents k n from x.c epoch r path).messages tt (tt, tt)) (tt, tt);
+    answers = λ x n from epoch r path file bytes there spells was m h. stands-owes x _ (packet-quiet x (Node from) (Node n) bytes) h (Node n) (content_said k n from x.c epoch r path)
+        (plain-turned x _ (packet-quiet x (Node from) (Node n) bytes) (Node n) [] (content_said k n from x.c epoch r path).messages tt (tt, tt)) (tt, tt);
     queues = λ x n from epoch r path file bytes there spells was m h. stands-owes x _ (packet-quiet x (Node from) (Node n) bytes) h (Node n) (record nothing_said { notes = rec.Queued n from x.c r path ∷ [] })
         (plain-turned x _ (packet-quiet x (Node from) (Node n) bytes) (Node n) (rec.Queued n from x.c r path ∷ []) [] (tt, tt) tt) tt;
     brings = λ x n from epoch r path m h. stands-owes x [] (none-quiet x) h (Node n) _
-        (plain-turned x [] (none-quiet x) (Node n) (rec.Read n from x.c r path ∷ []) (contents k n from x.c epoch r path).messages (tt, tt) (tt, tt)) (tt, tt);
+        (plain-turned x [] (none-quiet x) (Node n) (rec.Read n from x.c r path ∷ []) (content_said k n from x.c epoch r path).messages (tt, tt) (tt, tt)) (tt, tt);
   }
 
   pub owing : Rules k Owing

@@ -24,7 +24,7 @@ use Rattle.lard_rules.specs.declared.stay.Next.{Next}
 use Rattle.lard_rules.specs.declared.stay.Next.TheVariants as next
 use Rattle.lard_rules.specs.declared.stay.Progress.{Progress}
 use Rattle.lard_rules.specs.declared.stay.Progress.TheVariants as progress
-use Rattle.lard_rules.specs.Stay.{NodeEnv, Work, asks_for, came_for, come_on, entered, enters, enters_first, enters_one, goes_on, left, named_path, named_paths, next_of, noted, reads_batch, reads_these, serves_by, serves_first, started, started_here, started_there, starts_at, starts_named, starts_one, tagged, turn, turned}
+use Rattle.lard_rules.specs.Stay.{NodeEnv, Work, asks_for, came_for, come_on, entered, enters, enters_first, enters_one, goes_on, work_left, named_path, named_paths, next_of, noted, reads_batch, reads_these, serves_by, serves_first, started, started_here, started_there, starts_at, starts_named, starts_one, tagged, stay_turn, turned}
 use Rattle.lard_reader.specs.Batches.{batch_of, bytes_used}
 use Rattle.lard_request.specs.declared.verdict.Code.TheVariants as code
 use Rattle.lard_request.specs.declared.verdict.Verdict.{Verdict}
@@ -32,7 +32,7 @@ use Rattle.lard_request.specs.declared.verdict.Verdict.TheVariants.{Fault}
 use Rattle.lard_rules.specs.declared.places.Ending.{Ending}
 use Rattle.lard_rules.specs.declared.places.Turn.{Turn}
 use Rattle.lard_rules.specs.Loop.{Step, More, Done, state_of}
-use Rattle.lard_rules.specs.Serving.{ServeEnv, Service, answered, consumed, cut_off, ended_at_fin, limit_said, may_read, passed_over, queued, settled, spoken, told}
+use Rattle.lard_rules.specs.Serving.{ServeEnv, Service, answered, serving_consumed, cut_off, ended_at_fin, limit_said, may_read, passed_over, queued, serving_settled, spoken, serving_told}
 use Rattle.lard_rules.specs.Speaking.{speaks, speaks_symbols}
 use Rattle.lard_rules.proofs.Runs.{runs_keep}
 use Rattle.lard_law_view.proofs.EndpointSends.{AllTo, speaks-to, speaks_symbols-to}
@@ -43,7 +43,7 @@ pub spoken-to : (env : ServeEnv) (w : Service) (before : List (Place × List ℕ
 spoken-to env w before to = Each-append (λ s. s.0 ≡ Client env.c) before (speaks env.c w.block).0 to (speaks-to env.c w.block).to
 
 cut_off-to : (env : ServeEnv) (w : Service) → AllTo (Client env.c) (cut_off env w).1.segments
-cut_off-to env w = Each-append (λ s. s.0 ≡ Client env.c) (speaks_symbols env.c w.block).0 (told env (limit_said (final_of (speaks_symbols env.c w.block).1 Limit)) ∷ [])
+cut_off-to env w = Each-append (λ s. s.0 ≡ Client env.c) (speaks_symbols env.c w.block).0 (serving_told env (limit_said (final_of (speaks_symbols env.c w.block).1 Limit)) ∷ [])
     (speaks_symbols-to env.c w.block).to (refl, tt)
 
 -- what was in hand is said, with the notes that it had
@@ -51,7 +51,7 @@ pub record IsSettled (env : ServeEnv) (w : Service) (given : Ending × Turn) : T
   pub notes : given.1.notes ≡ w.notes
   pub to : AllTo (Client env.c) given.1.segments
 
-pub settled-is : (env : ServeEnv) (w : Service) → IsSettled env w (settled env w)
+pub settled-is : (env : ServeEnv) (w : Service) → IsSettled env w (serving_settled env w)
 settled-is env w = go w.over where
   go : (o : Option ℕ) → IsSettled env w (elim o as (λ p. Ending × Turn) [ None ↦ spoken env w [] | Some total ↦ cut_off env w ])
   go None = record { notes = refl; to = spoken-to env w [] tt }
@@ -81,20 +81,20 @@ module _ (P : List Rec → Type 0) (more : (ns rs : List Rec) → Each IsPlain r
   targeted-notes path x h = cond_both (may_freeze x.service.block) (record x { target = Some path }) x (λ y. P y.service.notes) (λ t. h) (λ t. h)
 
   block-notes : (env : ServeEnv) (x : Reading) (n : ℕ) (v : Verdict) (o : Option (List ℕ)) → P x.service.notes → ReadsSo (reads_block env x n v o)
-  block-notes env x n v None h = answered-notes env Own v (consumed n x.service) h
+  block-notes env x n v None h = answered-notes env Own v (serving_consumed n x.service) h
   block-notes env x n v (Some path) h = targeted-notes path x h
 
   found-notes : (env : ServeEnv) (x : Reading) (f : Found) → P x.service.notes → ReadsSo (reads_found env x f)
-  found-notes env x (found.More skip) h = ended-notes (consumed skip x.service) h
+  found-notes env x (found.More skip) h = ended-notes (serving_consumed skip x.service) h
   found-notes env x (found.Block skip len) h = block-notes env x (skip + len) (block_at x skip len) (good_path env.files (block_at x skip len)) h
-  found-notes env x (found.TooLong skip) h = answered-notes env Own (Fault code.FieldsTooLarge) (consumed (length x.service.block.recv.unread) x.service) h
+  found-notes env x (found.TooLong skip) h = answered-notes env Own (Fault code.FieldsTooLarge) (serving_consumed (length x.service.block.recv.unread) x.service) h
 
-  front-turn : (env : ServeEnv) (x : Reading) → P x.service.notes → ReadsSo (front.turn env x)
+  front-turn : (env : ServeEnv) (x : Reading) → P x.service.notes → ReadsSo (front.reading_turn env x)
   front-turn env x h = cond_both (may_read x.service) (reads_found env x (cut_of x.service.block.recv.unread)) (Done x) ReadsSo
       (λ t. found-notes env x (cut_of x.service.block.recv.unread) h) (λ t. h)
 
-  pub reads-notes : (env : ServeEnv) (x : Reading) → P x.service.notes → P (front.reads env x).service.notes
-  reads-notes env x h = runs_keep (front.turn env) front.left (λ y. P y.service.notes) (record {
+  pub reads-notes : (env : ServeEnv) (x : Reading) → P x.service.notes → P (front.front_reads env x).service.notes
+  reads-notes env x h = runs_keep (front.reading_turn env) front.reading_left (λ y. P y.service.notes) (record {
     more = λ y z e p. subst ReadsSo e (front-turn env y p);
     done = λ y z e p. subst ReadsSo e (front-turn env y p);
   }) x h
@@ -143,10 +143,10 @@ module _ (P : List Rec → Type 0) (more : (ns rs : List Rec) → Each IsPlain r
   StepsSo (Done w) = WorksSo w
 
   these-notes : (env : NodeEnv) (here : Bool) (used : ℕ) (w : Work) (vs : List Verdict) → WorksSo w → StepsSo (reads_these env here used w vs)
-  these-notes env here used w [] h = ended-notes (consumed used w.service) h
+  these-notes env here used w [] h = ended-notes (serving_consumed used w.service) h
   these-notes env here used w (v ∷ vs) h =
-      let u : Work = enters env here (w.service.count + 1) (v ∷ vs) (record w { service = consumed used w.service }) in
-      asks-notes env (length (v ∷ vs)) (named_paths env.serve.files u.batch) u (enters-notes env here (w.service.count + 1) (v ∷ vs) (record w { service = consumed used w.service }) h)
+      let u : Work = enters env here (w.service.count + 1) (v ∷ vs) (record w { service = serving_consumed used w.service }) in
+      asks-notes env (length (v ∷ vs)) (named_paths env.serve.files u.batch) u (enters-notes env here (w.service.count + 1) (v ∷ vs) (record w { service = serving_consumed used w.service }) h)
 
   state-notes : (s : Step Work) → StepsSo s → WorksSo (state_of s)
   state-notes (More w) h = h
@@ -173,7 +173,7 @@ module _ (P : List Rec → Type 0) (more : (ns rs : List Rec) → Each IsPlain r
   turned-notes env w next.Stop h = h
 
   pub goes-notes : (env : NodeEnv) (w : Work) → WorksSo w → WorksSo (goes_on env w)
-  goes-notes env w h = runs_keep (turn env) left WorksSo (record {
+  goes-notes env w h = runs_keep (stay_turn env) work_left WorksSo (record {
     more = λ y z e p. subst StepsSo e (turned-notes env y (next_of y) p);
     done = λ y z e p. subst StepsSo e (turned-notes env y (next_of y) p);
   }) w h

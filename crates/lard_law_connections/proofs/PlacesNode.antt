@@ -9,7 +9,7 @@ use Rattle.lard_law_connections.proofs.PlacesHeads.{spelled-head, spelled-some}
 use Rattle.lard_law_connections.proofs.PlacesRows.{IsPlain, OwnsBy, after_all, plain-after, plain-owns}
 use Rattle.lard_law_connections.proofs.PlacesTurns.{IsPlaced, Owes, Turned, timers-plain, turned-after, turned-owns}
 use Rattle.lard_law_view.specs.Carry.{tale_at}
-use Rattle.lard_law_view.specs.View.{Conn, IsMachine, Part, Said, by_node, named, node_does, node_put, nothing_said, stands, with_node}
+use Rattle.lard_law_view.specs.View.{Conn, IsMachine, Part, TurnSaid, by_node, named_records, node_does, node_put_back, nothing_said, stands, with_node}
 use Rattle.lard_law_view.proofs.Parts.{put-each, put-same}
 use Rattle.lard_handoff_back.specs.declared.row.BackConn.{BackConn}
 use Rattle.lard_handoff_back.specs.declared.row.BackConn.TheVariants as back
@@ -32,7 +32,7 @@ module _ (x : Conn) (heads : List Seen) (quiet : IsQuiet x heads) where
 
   -- ---- nothing that is kept changes
 
-  pub stands-owes : (placed : IsPlaced x) (place : Place) (s : Said) → Turned x.c place w s w → Each (Tells x.part place) s.messages → Owes x (stands x place heads s)
+  pub stands-owes : (placed : IsPlaced x) (place : Place) (s : TurnSaid) → Turned x.c place w s w → Each (Tells x.part place) s.messages → Owes x (stands x place heads s)
   stands-owes placed place s t tells =
       let timers = timers-plain place x.c x.part x.part in
       record {
@@ -57,7 +57,7 @@ module _ (x : Conn) (heads : List Seen) (quiet : IsQuiet x heads) where
 
   -- ---- one node's part changes
 
-  pub node-owes : (n : ℕ) (s : Said) (q : NodePart) (v : Owning) → Turned x.c (Node n) w s v → Sits v (node_put x.part.nodes n q) x.part.front.row → BackGrows (x.part.nodes n).row q.row
+  pub node-owes : (n : ℕ) (s : TurnSaid) (q : NodePart) (v : Owning) → Turned x.c (Node n) w s v → Sits v (node_put_back x.part.nodes n q) x.part.front.row → BackGrows (x.part.nodes n).row q.row
       → Each (Tells (with_node x.part n q) (Node n)) s.messages → Owes x (record { place = Node n; heads = heads; said = s; part = with_node x.part n q })
   node-owes n s q v t sits grows tells =
       let p : Part = with_node x.part n q in
@@ -79,7 +79,7 @@ module _ (x : Conn) (heads : List Seen) (quiet : IsQuiet x heads) where
 -- it sits at node n in whatever stage of this epoch
 pub record CanSit (x : Conn) (n e : ℕ) : Type 0 where
   pub two : e ≡ 2
-  pub sits : (v : Owning) (q : NodePart) (st : BackConn) → q.row ≡ Some (record { stage = st; epoch = record { 0 = e } }) → Owns n st v.owner → v.epoch ≡ e → Sits v (node_put x.part.nodes n q) x.part.front.row
+  pub sits : (v : Owning) (q : NodePart) (st : BackConn) → q.row ≡ Some (record { stage = st; epoch = record { 0 = e } }) → Owns n st v.owner → v.epoch ≡ e → Sits v (node_put_back x.part.nodes n q) x.part.front.row
   pub grows : (st : BackConn) → BackGrows (x.part.nodes n).row (Some (record { stage = st; epoch = record { 0 = e } }))
 
 module _ (x : Conn) (heads : List Seen) (quiet : IsQuiet x heads) (n : ℕ) (env : NodeEnv) (number : env.serve.c ≡ x.c) (node : env.n ≡ n) (can : CanSit x n env.epoch) where
@@ -116,7 +116,7 @@ module _ (x : Conn) (heads : List Seen) (quiet : IsQuiet x heads) (n : ℕ) (env
 
   -- What was in hand is put back: it stays, or it ended. The node owns it behind its notes.
   pub rests-owe : (part : NodePart) (before : List (Place × List ℕ)) (k : Work) (given : Ending × Turn) (u : Owning) → u.owner ≡ Some (Node n) → u.epoch ≡ env.epoch
-      → OwnsBy x.c owned (named given.1.notes) → after_all owned (named given.1.notes) ≡ u → AllTo (Client env.serve.c) given.1.segments
+      → OwnsBy x.c owned (named_records given.1.notes) → after_all owned (named_records given.1.notes) ≡ u → AllTo (Client env.serve.c) given.1.segments
       → Each (λ m. IsMachine m.0) before → ((q : NodePart) (st : BackConn) → q.row ≡ Some (put_row st) → Each (Tells (with_node x.part n q) (Node n)) before)
       → Owes x (node_does x n heads (Does (kept_after env part k given.0, turn_by env before k given)))
   rests-owe part before k (ending.Here b count, turn) u mine epoch notes then to machines tells =

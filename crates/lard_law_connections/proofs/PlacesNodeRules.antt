@@ -18,7 +18,7 @@ use Rattle.lard_law_connections.proofs.PlacesNode.{CanSit, node-drops, node-says
 use Rattle.lard_law_connections.proofs.PlacesRows.{IsPlain, OwnsBy, after_all, plain-after, plain-named, plain-owns}
 use Rattle.lard_law_connections.proofs.PlacesTurns.{IsPlaced, Owes}
 use Rattle.lard_law_view.specs.Carry.{tale_at}
-use Rattle.lard_law_view.specs.View.{Conn, IsMachine, IsNodeEnv, Setting, Spells, Was, named, node_does, node_put, with_node}
+use Rattle.lard_law_view.specs.View.{Conn, IsMachine, IsNodeEnv, Setting, SpellsMessage, Was, named_records, node_does, node_put_back, with_node}
 use Rattle.lard_law_view.proofs.Parts.{put-each, put-same}
 use Rattle.lard_endpoint.specs.Arriving.{on_segment}
 use Rattle.lard_endpoint.specs.Control.{ControlBlock}
@@ -27,7 +27,7 @@ use Rattle.lard_handoff_back.specs.declared.row.BackConn.TheVariants as back
 use Rattle.lard_handoff_back.specs.declared.row.BackRow.{BackRow}
 use Rattle.lard_handoff_back.specs.declared.table.Adopt.TheVariants.{New, Again, Stale}
 use Rattle.lard_handoff_back.specs.Back.{offer_answer, staying}
-use Rattle.lard_handoff_back.specs.Row.{held_in, is_gone}
+use Rattle.lard_handoff_back.specs.Row.{back_held, is_gone}
 use Rattle.lard_handoff_front.specs.declared.row.FrontConn.{FrontConn}
 use Rattle.lard_handoff_front.specs.declared.row.FrontConn.TheVariants as stage
 use Rattle.lard_handoff_front.specs.declared.row.FrontRow.{FrontRow}
@@ -38,13 +38,13 @@ use Rattle.lard_journal.specs.declared.rec.Rec.TheVariants as rec
 use Rattle.lard_lateral.specs.Lateral.{is_from}
 use Rattle.lard_message.specs.declared.message.Body.TheVariants as body
 use Rattle.lard_rules.specs.declared.stay.Stay.{Stay}
-use Rattle.lard_rules.specs.Node.{Deed, Drops, Says, Does, NodePart, begins, both_of, come_by, heard_by, here, is_awaited, node_content, node_forwarded, node_offered, node_read, node_tagged, kept_after, offered_by, read_by, tagged_by, taken_sent, turn_by, with_work, work_of}
+use Rattle.lard_rules.specs.Node.{NodeDeed, Drops, Says, Does, NodePart, node_begins, both_of, come_by, node_heard_by, here, is_tag_awaited, node_content, node_forwarded, node_offered, node_read, node_tagged, kept_after, offered_by, node_read_by, tagged_by, taken_sent, turn_by, with_work, work_of}
 use Rattle.lard_rules.specs.Stay.{NodeEnv, Work, came_for, come_progress, goes_on, read_progress, reads_batch, tagged}
 use Rattle.lard_resend.specs.Kept.{is_under, without}
 use Rattle.lard_rules.specs.declared.places.Ending.{Ending}
 use Rattle.lard_rules.specs.declared.places.Turn.{Turn}
 use Rattle.lard_rules.specs.Loop.{state_of}
-use Rattle.lard_rules.specs.Serving.{settled}
+use Rattle.lard_rules.specs.Serving.{serving_settled}
 use Rattle.lard_segment.specs.declared.fault.SegFault.{SegFault}
 use Rattle.lard_segment.specs.Segment.{Said as Segment}
 use Rattle.lard_law_view.proofs.EndpointSends.{AllTo}
@@ -104,22 +104,22 @@ module _ (x : Conn) (held : IsPlaced x) where
     pub owner : w.owner ≡ Some (Node n)
     pub epoch : w.epoch ≡ e
 
-  others-put : (n e : ℕ) (q : NodePart) → OthersArePast n e nodes → OthersArePast n e (node_put nodes n q)
+  others-put : (n e : ℕ) (q : NodePart) → OthersArePast n e nodes → OthersArePast n e (node_put_back nodes n q)
   others-put n e q others m other = put-each nodes n q (λ j r. j ≢ n → IsPast e r.row) (λ same. absurd (same refl)) (λ j no yes. others j yes) m other
 
   -- what holds of node n where it is put back in this epoch
-  put-there : (n e : ℕ) (v : Owning) (q : NodePart) (st : BackConn) → q.row ≡ Some (record { stage = st; epoch = record { 0 = e } }) → Owns n st v.owner → v.epoch ≡ e → IsThere n e v (node_put nodes n q n).row
+  put-there : (n e : ℕ) (v : Owning) (q : NodePart) (st : BackConn) → q.row ≡ Some (record { stage = st; epoch = record { 0 = e } }) → Owns n st v.owner → v.epoch ≡ e → IsThere n e v (node_put_back nodes n q n).row
   put-there n e v q st is owns epoch =
       subst (λ (r : NodePart). IsThere n e v r.row) (sym (put-same nodes n q)) (subst (IsThere n e v) (sym is) (refl, epoch, owns))
 
   offering-sits : (f : FrontRow) (n e : ℕ) → x.part.front.row ≡ Some f → (st : FrontConn) → f.stage ≡ st → StageSits f.epoch.0 w nodes st → f.epoch.0 ≡ e → OthersArePast n e nodes
       → ((v : Owning) (ps : ℕ → NodePart) → OthersArePast n f.epoch.0 ps → IsThere n f.epoch.0 v (ps n).row → StageSits f.epoch.0 v ps st)
-      → (v : Owning) (q : NodePart) (b : BackConn) → q.row ≡ Some (record { stage = b; epoch = record { 0 = e } }) → Owns n b v.owner → v.epoch ≡ e → Sits v (node_put nodes n q) x.part.front.row
+      → (v : Owning) (q : NodePart) (b : BackConn) → q.row ≡ Some (record { stage = b; epoch = record { 0 = e } }) → Owns n b v.owner → v.epoch ≡ e → Sits v (node_put_back nodes n q) x.part.front.row
   offering-sits f n e found st at s same others make v q b is owns epoch =
-      subst (Sits v (node_put nodes n q)) (sym found) (
-        subst (StageSits f.epoch.0 v (node_put nodes n q)) (sym at) (make v (node_put nodes n q)
-            (subst (λ (d : ℕ). OthersArePast n d (node_put nodes n q)) (sym same) (others-put n e q others))
-            (subst (λ (d : ℕ). IsThere n d v (node_put nodes n q n).row) (sym same) (put-there n e v q b is owns epoch))),
+      subst (Sits v (node_put_back nodes n q)) (sym found) (
+        subst (StageSits f.epoch.0 v (node_put_back nodes n q)) (sym at) (make v (node_put_back nodes n q)
+            (subst (λ (d : ℕ). OthersArePast n d (node_put_back nodes n q)) (sym same) (others-put n e q others))
+            (subst (λ (d : ℕ). IsThere n d v (node_put_back nodes n q n).row) (sym same) (put-there n e v q b is owns epoch))),
         let h : Sits w nodes (Some f) = subst (Sits w nodes) found held.sits in h.1,
       )
 
@@ -174,7 +174,7 @@ module _ (x : Conn) (held : IsPlaced x) where
     both-of (Some c) None h = let no : ◌≡◌ {A = Option (ControlBlock × Stay)} None (Some (b, s)) = h in absurd cc
     both-of (Some c) (Some r) h = ap (λ (o : Option (ControlBlock × Stay)). option_map (λ p. p.0) o) h
 
-    in-stage : (st : BackConn) → held_in st ≡ Some b → st ≡ back.Here b
+    in-stage : (st : BackConn) → back_held st ≡ Some b → st ≡ back.Here b
     in-stage (back.Here c) h = let same : c ≡ b = cc in ap back.Here same
     in-stage back.Out h = let no : None ≡ Some b = h in absurd cc
     in-stage back.Ended h = let no : None ≡ Some b = h in absurd cc
@@ -183,7 +183,7 @@ module _ (x : Conn) (held : IsPlaced x) where
     go : (o : Option BackRow) → (nodes n).row ≡ o → staying e o ≡ Some b → HasIt n e
     go None is h = let no : None ≡ Some b = h in absurd cc
     go (Some row) is h = by_epoch (row.epoch.0 == e) refl h where
-      by_epoch : (t : Bool) → (row.epoch.0 == e) ≡ t → cond t (held_in row.stage) None ≡ Some b → HasIt n e
+      by_epoch : (t : Bool) → (row.epoch.0 == e) ≡ t → cond t (back_held row.stage) None ≡ Some b → HasIt n e
       by_epoch true same k = subst (HasIt n) (eqb-true row.epoch.0 e same) (has-at n row b is (in-stage row.stage k) x.part.front.row refl)
       by_epoch false same k = let no : None ≡ Some b = k in absurd cc
 
@@ -206,7 +206,7 @@ module _ (k : Setting) (x : Conn) (heads : List Seen) (quiet : IsQuiet x heads) 
   abbrev owned : Owning
   owned = owning (tale_at x)
 
-  abbrev Owed : Deed → Type 0
+  abbrev Owed : NodeDeed → Type 0
   Owed d = Owes x (node_does x n heads d)
 
   dropped : Owed Drops
@@ -218,21 +218,21 @@ module _ (k : Setting) (x : Conn) (heads : List Seen) (quiet : IsQuiet x heads) 
       → ((q : NodePart) (st : BackConn) → q.row ≡ Some (record { stage = st; epoch = record { 0 = env.epoch } }) → Each (Tells (with_node x.part n q) (Node n)) before)
       → Owed (Does (kept_after env part work given.0, turn_by env before work given))
   turn-owes has part before work given plain to machines tells =
-      let notes : Each IsPlain (named given.1.notes) = plain-named given.1.notes plain in
+      let notes : Each IsPlain (named_records given.1.notes) = plain-named given.1.notes plain in
       rests-owe x heads quiet n env is.number is.node has.can part before work given owned has.owner has.epoch
-      (plain-owns x.c owned (named given.1.notes) notes) (plain-after owned (named given.1.notes) notes) to machines tells
+      (plain-owns x.c owned (named_records given.1.notes) notes) (plain-after owned (named_records given.1.notes) notes) to machines tells
 
   works-owe : HasIt x held n env.epoch → (part : NodePart) (work : Work) → Each IsPlain work.service.notes → Owed (with_work env part [] work)
   works-owe has part work plain =
       let done = settled-is env.serve work.service in
-      turn-owes has part [] work (settled env.serve work.service) (subst (Each IsPlain) (sym done.notes) plain) done.to tt (λ q st e. tt)
+      turn-owes has part [] work (serving_settled env.serve work.service) (subst (Each IsPlain) (sym done.notes) plain) done.to tt (λ q st e. tt)
 
   goes-owe : HasIt x held n env.epoch → (part : NodePart) (work : Work) → Each IsPlain work.service.notes → Owed (with_work env part [] (goes_on env work))
   goes-owe has part work plain = works-owe has part (goes_on env work) (goes-notes (Each IsPlain) plain-more env work plain)
 
   -- ---- a Forward, a Tag, a Content, a job of its own
 
-  heard-by : (r : Result Segment SegFault) (o : Option (ControlBlock × Stay)) → here env.epoch ours ≡ o → Owed (heard_by env ours r o)
+  heard-by : (r : Result Segment SegFault) (o : Option (ControlBlock × Stay)) → here env.epoch ours ≡ o → Owed (node_heard_by env ours r o)
   heard-by (Err fault) o e = dropped
   heard-by (Ok s) None e = dropped
   heard-by (Ok s) (Some y) e = goes-owe (here-has x held n env.epoch y.0 y.1 e) ours (work_of (on_segment y.0 s).1 y.1) tt
@@ -242,7 +242,7 @@ module _ (k : Setting) (x : Conn) (heads : List Seen) (quiet : IsQuiet x heads) 
 
   tagged-by : (number : ℕ) (tags : List ℕ) (o : Option (ControlBlock × Stay)) → here env.epoch ours ≡ o → Owed (tagged_by env number tags ours o)
   tagged-by number tags None e = dropped
-  tagged-by number tags (Some y) e = cond_both (is_awaited env number tags ours y.1) _ Drops Owed
+  tagged-by number tags (Some y) e = cond_both (is_tag_awaited env number tags ours y.1) _ Drops Owed
       (λ t. goes-owe (here-has x held n env.epoch y.0 y.1 e) (record ours { kept = without kind.Ask 0 ours.kept }) (tagged env tags (work_of y.0 y.1)) (tagged-notes (Each IsPlain) plain-more env tags (work_of y.0 y.1) tt))
       (λ t. dropped)
 
@@ -258,7 +258,7 @@ module _ (k : Setting) (x : Conn) (heads : List Seen) (quiet : IsQuiet x heads) 
   pub content-rule : (from r : ℕ) → Owed (node_content env ours from r)
   content-rule from r = come-by from r (here env.epoch ours) refl
 
-  read-by : (r : ℕ) (o : Option (ControlBlock × Stay)) → here env.epoch ours ≡ o → Owed (read_by env r ours o)
+  read-by : (r : ℕ) (o : Option (ControlBlock × Stay)) → here env.epoch ours ≡ o → Owed (node_read_by env r ours o)
   read-by r None e = dropped
   read-by r (Some y) e =
       goes-owe (here-has x held n env.epoch y.0 y.1 e) ours (came_for read_progress r (work_of y.0 y.1)) (came-notes (Each IsPlain) plain-more read_progress r (work_of y.0 y.1) tt)
@@ -269,20 +269,20 @@ module _ (k : Setting) (x : Conn) (heads : List Seen) (quiet : IsQuiet x heads) 
   -- ---- an Offer
 
   -- the node takes it, where it was on its way to it
-  took-owes : (parts : EndpointParts) → CanSit x n env.epoch → owned.owner ≡ None → owned.epoch < env.epoch → Owed (with_work env ours (taken_sent env) (goes_on env (state_of (reads_batch env true (begins env parts)))))
+  took-owes : (parts : EndpointParts) → CanSit x n env.epoch → owned.owner ≡ None → owned.epoch < env.epoch → Owed (with_work env ours (taken_sent env) (goes_on env (state_of (reads_batch env true (node_begins env parts)))))
   took-owes parts can free before =
       let took : Rec = rec.Took (Node env.n) env.serve.c (record { 0 = env.epoch }) in
-      let first : Work = begins env parts in
+      let first : Work = node_begins env parts in
       let work : Work = goes_on env (state_of (reads_batch env true first)) in
-      let given : Ending × Turn = settled env.serve work.service in
+      let given : Ending × Turn = serving_settled env.serve work.service in
       let done = settled-is env.serve work.service in
       let all : Begins took work.service.notes = goes-notes (Begins took) (begins-more took) env (state_of (reads_batch env true first)) (batch-state (Begins took) (begins-more took) env true first ([], refl, tt)) in
       let notes : given.1.notes ≡ took ∷ all.0 = done.notes ∙ all.1 in
-      let plain : Each IsPlain (named all.0) = plain-named all.0 all.2 in
+      let plain : Each IsPlain (named_records all.0) = plain-named all.0 all.2 in
       let u : Owning = record { owner = Some (Node env.n); epoch = env.epoch } in
       rests-owe x heads quiet n env is.number is.node can ours (taken_sent env) work given u (ap (λ (m : ℕ). Some (Node m)) is.node) refl
-      (subst (λ (l : List Rec). OwnsBy x.c owned (named l)) (sym notes) ((is.number, before, free), plain-owns x.c u (named all.0) plain))
-      (subst (λ (l : List Rec). after_all owned (named l) ≡ u) (sym notes) (plain-after u (named all.0) plain))
+      (subst (λ (l : List Rec). OwnsBy x.c owned (named_records l)) (sym notes) ((is.number, before, free), plain-owns x.c u (named_records all.0) plain))
+      (subst (λ (l : List Rec). after_all owned (named_records l) ≡ u) (sym notes) (plain-after u (named_records all.0) plain))
       done.to (tt, tt)
       (λ q st row. (
         subst (λ h. MaySay (with_node x.part n q) (Node n) Front h) (sym (spelled-head _ (omega (arith, can.two))))
@@ -352,7 +352,7 @@ module _ (k : Setting) (x : Conn) (heads : List Seen) (quiet : IsQuiet x heads) 
       or_stale true t = new t
       or_stale false t = dropped
 
-  pub offered-rule : (parts : EndpointParts) (bytes : List ℕ) → Spells x.c epoch (body.Offer parts) bytes → Was x Front (Node n) bytes → Owed (node_offered env ours parts)
+  pub offered-rule : (parts : EndpointParts) (bytes : List ℕ) → SpellsMessage x.c epoch (body.Offer parts) bytes → Was x Front (Node n) bytes → Owed (node_offered env ours parts)
   offered-rule parts bytes spells was =
       offered-row parts ours.row refl (subst (λ (e : ℕ). IsDecided e ours.row ⊎ IsOffered n e x.part.front.row) (sym is.epoch_is) (came-says x Front (Node n) epoch (body.Offer parts) bytes held.letters was spells))
 

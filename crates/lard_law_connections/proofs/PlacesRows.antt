@@ -5,7 +5,7 @@ use Rattle.lard_base.specs.declared.place.Place.{Place}
 use Rattle.lard_base.specs.declared.place.Place.TheVariants.{Client, Front, Node}
 use Rattle.lard_base.specs.declared.place.TimerKind.{TimerKind}
 use Rattle.lard_law_connections.specs.Places.{Owning, owning}
-use Rattle.lard_law_view.specs.View.{IsMachine, named, sending}
+use Rattle.lard_law_view.specs.View.{IsMachine, named_records, sending}
 use Rattle.lard_history.specs.Journal.{Tale, tale_step, told_on}
 use Rattle.lard_history.specs.Own.{whose}
 use Rattle.lard_history.proofs.Each.{Each}
@@ -98,10 +98,10 @@ pub plain-owns : (c : ℕ) (w : Owning) (rs : List Rec) → Each IsPlain rs → 
 plain-owns c w [] h = tt
 plain-owns c w (r ∷ rs) h = (plain-may c w r h.0, plain-owns c (after w r) rs h.1)
 
-pub plain-named : (rs : List Rec) → Each IsPlain rs → Each IsPlain (named rs)
+pub plain-named : (rs : List Rec) → Each IsPlain rs → Each IsPlain (named_records rs)
 plain-named [] h = tt
 plain-named (r ∷ rs) h = go (is_some (whose r)) (plain-named rs h.1) where
-  go : (b : Bool) → Each IsPlain (named rs) → Each IsPlain (cond b (r ∷ named rs) (named rs))
+  go : (b : Bool) → Each IsPlain (named_records rs) → Each IsPlain (cond b (r ∷ named_records rs) (named_records rs))
   go true later = (h.0, later)
   go false later = later
 

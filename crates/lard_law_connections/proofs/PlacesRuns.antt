@@ -8,8 +8,8 @@ use Rattle.lard_law_connections.proofs.PlacesLaw.{owing}
 use Rattle.lard_law_connections.proofs.PlacesRows.{MayStand}
 use Rattle.lard_law_connections.proofs.PlacesTelling.{IsLawful, lawful-local}
 use Rattle.lard_law_connections.proofs.PlacesTurns.{IsPlaced, Owes, owes-placed}
-use Rattle.lard_law_view.specs.Carry.{IsLaw, MayMove, OfEach, setting}
-use Rattle.lard_law_view.specs.View.{Conn, Setting, blank, conn, grown}
+use Rattle.lard_law_view.specs.Carry.{IsLaw, MayRestOn, OfEach, setting}
+use Rattle.lard_law_view.specs.View.{Conn, Setting, blank_conn, conn, grown}
 use Rattle.lard_law_view.proofs.Carried.{carried}
 use Rattle.lard_law_view.proofs.Guarded.{weaker}
 use Rattle.lard_law_view.proofs.InSteps.{carried-records}
@@ -21,13 +21,13 @@ use Rattle.lard_law_view.proofs.RowLists.{MayBeSeen}
 abbrev Anything : Conn → Type 0
 Anything x = Unit {0}
 
-blank-placed : (c : ℕ) → IsPlaced (blank c)
+blank-placed : (c : ℕ) → IsPlaced (blank_conn c)
 blank-placed c = record { sits = (refl, λ n. tt); letters = tt; lawful = tt }
 
 places-law : (k : Setting) → IsLaw k Anything IsPlaced
 places-law k = record {
   begins = blank-placed;
-  moves = weaker k (λ x v. MayMove Anything x → IsPlaced x → Owes x v) (λ x v. MayMove Anything x → IsPlaced x → IsPlaced (grown x v))
+  moves = weaker k (λ x v. MayRestOn Anything x → IsPlaced x → Owes x v) (λ x v. MayRestOn Anything x → IsPlaced x → IsPlaced (grown x v))
       (λ x v owes may placed. owes-placed x v (owes may placed) placed) (owing k Anything);
 }
 

@@ -10,7 +10,7 @@ use Rattle.lard_law_connections.specs.Places.{LetterMay, Owning, Sits, SitsAt, o
 use Rattle.lard_law_connections.proofs.PlacesGrowing.{Grows, letters-grow}
 use Rattle.lard_law_connections.proofs.PlacesRows.{IsPlain, MayStand, OwnsBy, after_all, change-owns, machines-own, owner-owns, owns-append, owns-told, plain-after, plain-owns, sends-after}
 use Rattle.lard_law_view.specs.Carry.{tale_at}
-use Rattle.lard_law_view.specs.View.{Conn, IsMachine, Move, Part, Said, grown, letters_of, rows_of, seen_in, sending, station_armed, timer_rows}
+use Rattle.lard_law_view.specs.View.{Conn, IsMachine, Move, Part, TurnSaid, grown, letters_of, rows_of, seen_in, sending, station_armed, timer_rows}
 use Rattle.lard_rules.specs.Front.{front_armed}
 use Rattle.lard_history.specs.Journal.{Tale, tale_step, told_on, untold}
 use Rattle.lard_history.specs.Own.{EachRow, Row, seen_step}
@@ -18,7 +18,7 @@ use Rattle.lard_history.proofs.Each.{Each, Each-append}
 use Rattle.lard_history.proofs.Lifting.{each_row-append}
 use Rattle.lard_journal.specs.declared.rec.Rec.{Rec}
 use Rattle.lard_rules.specs.Node.{node_armed}
-use Rattle.lard_rules.specs.Outs.{kind_change, kinds}
+use Rattle.lard_rules.specs.Outs.{kind_change, timer_kinds}
 use Rattle.lard_law_view.proofs.EndpointSends.{AllTo}
 use Rattle.lard_law_view.specs.WhileUntouched.{TellsBy}
 use Rattle.lard_law_view.proofs.RowLists.{MayBeSeen, each_row-told, seen-rows}
@@ -27,7 +27,7 @@ use Rattle.lard_law_view.proofs.RowLists.{MayBeSeen, each_row-told, seen-rows}
 
 -- Who owned the connection so owns it so behind what a place said: its notes may stand, its segments are the owner's, and it gives
 -- up what it owns.
-pub record Turned (c : ℕ) (place : Place) (w : Owning) (s : Said) (v : Owning) : Type 0 where
+pub record Turned (c : ℕ) (place : Place) (w : Owning) (s : TurnSaid) (v : Owning) : Type 0 where
   pub notes : OwnsBy c w s.notes
   pub segments : (AllTo (Client c) s.segments × ((after_all w s.notes).owner ≡ Some place) × IsMachine place) ⊎ (s.segments ≡ [])
   pub gave : OwnsBy c (after_all w s.notes) s.gave
@@ -42,9 +42,9 @@ pub timers-plain : (place : Place) (c : ℕ) (p q : Part) → Each IsPlain (time
 unfolding timer_rows
 timers-plain (Client d) c p q = change-owns c (record { owner = None; epoch = 0 }) (Client d) c kind.Tcp (station_armed p.station) (station_armed q.station)
 timers-plain Front c p q = flat-plain (λ k. kind_change Front c k (front_armed p.front k) (front_armed q.front k))
-    (λ k. change-owns c (record { owner = None; epoch = 0 }) Front c k (front_armed p.front k) (front_armed q.front k)) kinds
+    (λ k. change-owns c (record { owner = None; epoch = 0 }) Front c k (front_armed p.front k) (front_armed q.front k)) timer_kinds
 timers-plain (Node n) c p q = flat-plain (λ k. kind_change (Node n) c k (node_armed (p.nodes n) k) (node_armed (q.nodes n) k))
-    (λ k. change-owns c (record { owner = None; epoch = 0 }) (Node n) c k (node_armed (p.nodes n) k) (node_armed (q.nodes n) k)) kinds
+    (λ k. change-owns c (record { owner = None; epoch = 0 }) (Node n) c k (node_armed (p.nodes n) k) (node_armed (q.nodes n) k)) timer_kinds
 
 segments-own : (c : ℕ) (place : Place) (w : Owning) (ss : List (Place × List ℕ)) → (AllTo (Client c) ss × (w.owner ≡ Some place) × IsMachine place) ⊎ (ss ≡ [])
     → OwnsBy c w (map (sending place) ss)
@@ -52,7 +52,7 @@ segments-own c place w ss h = ⊎_elim
     (λ (mine : AllTo (Client c) ss × (w.owner ≡ Some place) × IsMachine place). owner-owns c w place ss mine.2 mine.1 mine.0)
     (λ (none : ss ≡ []). subst (λ (l : List (Place × List ℕ)). OwnsBy c w (map (sending place) l)) (sym none) tt) h
 
-module _ (c : ℕ) (place : Place) (w v : Owning) (s : Said) (timers : List Rec) (t : Turned c place w s v) (plain : Each IsPlain timers) where
+module _ (c : ℕ) (place : Place) (w v : Owning) (s : TurnSaid) (timers : List Rec) (t : Turned c place w s v) (plain : Each IsPlain timers) where
   abbrev S : List Rec
   S = map (sending place) s.segments
 

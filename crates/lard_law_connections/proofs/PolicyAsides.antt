@@ -7,9 +7,9 @@ use Rattle.lard_base.specs.declared.event.Event.{Event}
 use Rattle.lard_base.specs.declared.event.Event.TheVariants as event
 use Rattle.lard_base.specs.declared.place.Place.{Place}
 use Rattle.lard_base.specs.declared.place.Place.TheVariants.{Front, Node, Client}
-use Rattle.lard_law_connections.specs.PolicyLaws.{ArePaired, Due, MayAdmit, MayAssign, MayRelease, MayShare, last_of}
-use Rattle.lard_law_connections.specs.PolicyLaws.Due.{First, Later, Nothing}
-use Rattle.lard_counts.specs.Ledger.{Ledger, blank, ledger, ledger_step}
+use Rattle.lard_law_connections.specs.PolicyLaws.{ArePaired, AssignmentDue, MayAdmit, MayAssign, MayRelease, MayShare, last_record}
+use Rattle.lard_law_connections.specs.PolicyLaws.AssignmentDue.{First, Later, Nothing}
+use Rattle.lard_counts.specs.Ledger.{Ledger, blank_ledger, ledger, ledger_step}
 use Rattle.lard_law_view.proofs.Saying.{GaveAt, NotedAt}
 use Rattle.lard_law_view.proofs.Timers.{IsTimerAt}
 use Rattle.lard_history.specs.Laws.{EachMay}
@@ -35,12 +35,12 @@ from-append may l (x ∷ xs) ys e f = (e.0, from-append may (ledger_step l x) xs
 -- so it is of a journal, behind its past
 pub from-may : (cfg : Config) (may : Ledger → Rec → Type 0) (past rs : List Rec) → EachFrom may (ledger cfg past) rs → EachMay (λ past r. may (ledger cfg past) r) past rs
 from-may cfg may past [] e = tt
-from-may cfg may past (r ∷ rs) e = (e.0, from-may cfg may (past ++ r ∷ []) rs (subst (λ (l : Ledger). EachFrom may l rs) (sym (fold-append ledger_step (blank cfg) past (r ∷ []))) e.1))
+from-may cfg may past (r ∷ rs) e = (e.0, from-may cfg may (past ++ r ∷ []) rs (subst (λ (l : Ledger). EachFrom may l rs) (sym (fold-append ledger_step (blank_ledger cfg) past (r ∷ []))) e.1))
 
 -- and back
 pub may-from : (cfg : Config) (may : Ledger → Rec → Type 0) (past rs : List Rec) → EachMay (λ past r. may (ledger cfg past) r) past rs → EachFrom may (ledger cfg past) rs
 may-from cfg may past [] e = tt
-may-from cfg may past (r ∷ rs) e = (e.0, subst (λ (l : Ledger). EachFrom may l rs) (fold-append ledger_step (blank cfg) past (r ∷ [])) (may-from cfg may (past ++ r ∷ []) rs e.1))
+may-from cfg may past (r ∷ rs) e = (e.0, subst (λ (l : Ledger). EachFrom may l rs) (fold-append ledger_step (blank_ledger cfg) past (r ∷ [])) (may-from cfg may (past ++ r ∷ []) rs e.1))
 
 -- ---- what stands directly before
 
@@ -55,15 +55,15 @@ pub after-append : (before : Option Rec) (l : Ledger) (xs ys : List Rec) → Eac
 after-append before l [] ys e f = f before
 after-append before l (x ∷ xs) ys e f = (e.0, after-append (Some x) (ledger_step l x) xs ys e.1 f)
 
-pub after-may : (cfg : Config) (past rs : List Rec) → EachAfter (last_of past) (ledger cfg past) rs → EachMay (λ past r. MayFollow (last_of past) (ledger cfg past) r) past rs
+pub after-may : (cfg : Config) (past rs : List Rec) → EachAfter (last_record past) (ledger cfg past) rs → EachMay (λ past r. MayFollow (last_record past) (ledger cfg past) r) past rs
 after-may cfg past [] e = tt
 after-may cfg past (r ∷ rs) e = (
   e.0,
   after-may cfg (past ++ r ∷ []) rs (subst (λ (o : Option Rec). EachAfter o (ledger cfg (past ++ r ∷ [])) rs) (sym (fold-append (λ (before : Option Rec) (r : Rec). Some r) None past (r ∷ [])))
-      (subst (λ (l : Ledger). EachAfter (Some r) l rs) (sym (fold-append ledger_step (blank cfg) past (r ∷ []))) e.1)),
+      (subst (λ (l : Ledger). EachAfter (Some r) l rs) (sym (fold-append ledger_step (blank_ledger cfg) past (r ∷ []))) e.1)),
 )
 
-pub paired-append : (due : Due) (xs ys : List Rec) → ArePaired due xs → ArePaired Nothing ys → ArePaired due (xs ++ ys)
+pub paired-append : (due : AssignmentDue) (xs ys : List Rec) → ArePaired due xs → ArePaired Nothing ys → ArePaired due (xs ++ ys)
 paired-append Nothing [] ys h f = f
 paired-append (First c) [] ys h f = absurd h
 paired-append (Later c) [] ys h f = absurd h

@@ -14,7 +14,7 @@ use Rattle.lard_base.specs.declared.ids.Millis.{Millis}
 use Rattle.lard_base.specs.declared.place.Place.TheVariants.{Front}
 use Rattle.lard_rules.specs.declared.machine.Machine.{Machine}
 use Rattle.lard_rules.specs.Bounds.{HasRule}
-use Rattle.lard_rules.specs.Machine.{IsReached, clocked, front_gave, front_setting, machine_step, start, told}
+use Rattle.lard_rules.specs.Machine.{IsReached, clocked, front_gave, front_setting, machine_step, machine_start, machine_told}
 use Rattle.lard_law_connections.proofs.PolicyAsides.{EachAfter, EachFrom, IsAside, May, MayFollow, after-may, from-may, may-from, paired-append}
 use Rattle.lard_law_connections.proofs.PolicyCalm.{FrontActs, IsCalm, first-aside, first_rows, last-aside, last_rows, step-calm, told-journal}
 use Rattle.lard_law_connections.proofs.PolicyForms.{Clocks, FrontStays, FrontStep, step-form}
@@ -29,10 +29,10 @@ use Rattle.lard_law_connections.proofs.PolicyServers.{modified, served}
 use Rattle.lard_law_connections.proofs.PolicyStanding.{HasNodes, all-has, blank-has}
 use Rattle.lard_law_connections.proofs.PolicySteps.{StepTells, step-tells}
 use Rattle.lard_law_connections.proofs.PolicyWaiting.{Leaves, asides-idle, between-leaves, idle-leaves, who}
-use Rattle.lard_law_connections.specs.PolicyLine.{IsWithin, waiting, waiting_step}
-use Rattle.lard_law_connections.specs.PolicyLaws.{AdmitsByRoom, AdmitsFirst, AdmitsInOrder, AdmitsToANode, ArePaired, AssignsAsStated, BooksAreTold, LineIsTold, LoadsAreCharges, MayAdmit, MayAssign, MayRelease, MayShare, PassesOn, ReleasesWhatItTook, ServersAreTold, SharesOneBatch, StandingsAreTold, StaysWithinTheRoom, last_of}
-use Rattle.lard_law_connections.specs.PolicyLaws.Due.{Nothing}
-use Rattle.lard_counts.specs.Ledger.{Ledger, admitted, blank, ledger, ledger_step}
+use Rattle.lard_law_connections.specs.PolicyLine.{IsSublist, waiting, waiting_step}
+use Rattle.lard_law_connections.specs.PolicyLaws.{AdmitsByRoom, AdmitsFirst, AdmitsInOrder, AdmitsToANode, ArePaired, AssignsAsStated, BooksAreTold, LineIsTold, LoadsAreAlwaysCharges, MayAdmit, MayAssign, MayRelease, MayShare, PassesOn, ReleasesWhatItTook, ServersAreTold, SharesOneBatch, StandingsAreTold, RoomIsNeverPassed, last_record}
+use Rattle.lard_law_connections.specs.PolicyLaws.AssignmentDue.{Nothing}
+use Rattle.lard_counts.specs.Ledger.{Ledger, ledger_admitted, blank_ledger, ledger, ledger_step}
 use Rattle.lard_law_connections.specs.PolicyLoads.{charges}
 use Rattle.lard_law_view.specs.View.{IsViewed}
 use Rattle.lard_dispatch.proofs.AllCalls.{some-node}
@@ -58,7 +58,7 @@ abbrev pub Lawful : Config → List Rec → List Rec → Type 0
 Lawful cfg past rs = EachMay (λ past r. May cfg (ledger cfg past) r) past rs
 
 abbrev pub Follows : Config → List Rec → List Rec → Type 0
-Follows cfg past rs = EachMay (λ past r. MayFollow (last_of past) (ledger cfg past) r) past rs
+Follows cfg past rs = EachMay (λ past r. MayFollow (last_record past) (ledger cfg past) r) past rs
 
 abbrev time_in : Machine → Millis
 time_in m = record { 0 = m.now }
@@ -74,24 +74,24 @@ pub record IsCounted (cfg : Config) (m : Machine) : Type 0 where
   pub law : Lawful cfg [] m.journal
   pub paired : ArePaired Nothing m.journal
   pub follows : Follows cfg [] m.journal
-  pub line : IsWithin (who m.front.dispatch.books.line) (waiting m.journal)
+  pub line : IsSublist (who m.front.dispatch.books.line) (waiting m.journal)
 
 module _ (cfg : Config) (m : Machine) (counted : IsCounted cfg m) where
   -- ---- the journal goes on
 
   on-is : (rows : List Rec) (d : Books) → (leads : Leads cfg (time_in m) counted.ins m.front.dispatch.books rows d) → ledger cfg (m.journal ++ rows) ≡ at (time_in m) leads.more d
-  on-is rows d leads = fold-append ledger_step (blank cfg) m.journal rows ∙ ap (λ (l : Ledger). fold ledger_step l rows) counted.is ∙ leads.then
+  on-is rows d leads = fold-append ledger_step (blank_ledger cfg) m.journal rows ∙ ap (λ (l : Ledger). fold ledger_step l rows) counted.is ∙ leads.then
 
   on-law : (rows : List Rec) (d : Books) → Leads cfg (time_in m) counted.ins m.front.dispatch.books rows d → Lawful cfg [] (m.journal ++ rows)
   on-law rows d leads = each_append (λ past r. May cfg (ledger cfg past) r) [] m.journal rows counted.law
       (from-may cfg (May cfg) m.journal rows (subst (λ (l : Ledger). EachFrom (May cfg) l rows) (sym counted.is) leads.may))
 
   on-follows : (rows : List Rec) (d : Books) → Leads cfg (time_in m) counted.ins m.front.dispatch.books rows d → Follows cfg [] (m.journal ++ rows)
-  on-follows rows d leads = each_append (λ past r. MayFollow (last_of past) (ledger cfg past) r) [] m.journal rows counted.follows
-      (after-may cfg m.journal rows (subst (λ (l : Ledger). EachAfter (last_of m.journal) l rows) (sym counted.is) (leads.after (last_of m.journal))))
+  on-follows rows d leads = each_append (λ past r. MayFollow (last_record past) (ledger cfg past) r) [] m.journal rows counted.follows
+      (after-may cfg m.journal rows (subst (λ (l : Ledger). EachAfter (last_record m.journal) l rows) (sym counted.is) (leads.after (last_record m.journal))))
 
-  on-line : (rows : List Rec) (after : List Waiting) → Leaves m.front.dispatch.books.line rows after → IsWithin (who after) (waiting (m.journal ++ rows))
-  on-line rows after leaves = subst (IsWithin (who after)) (sym (fold-append waiting_step [] m.journal rows)) (leaves (waiting m.journal) counted.line)
+  on-line : (rows : List Rec) (after : List Waiting) → Leaves m.front.dispatch.books.line rows after → IsSublist (who after) (waiting (m.journal ++ rows))
+  on-line rows after leaves = subst (IsSublist (who after)) (sym (fold-append waiting_step [] m.journal rows)) (leaves (waiting m.journal) counted.line)
 
   -- ---- the front end stays
 
@@ -107,8 +107,8 @@ module _ (cfg : Config) (m : Machine) (counted : IsCounted cfg m) where
         law = subst (Lawful cfg []) (sym calm.1) (on-law calm.0 m.front.dispatch.books leads);
         paired = subst (ArePaired Nothing) (sym calm.1) (paired-append Nothing m.journal calm.0 counted.paired leads.paired);
         follows = subst (Follows cfg []) (sym calm.1) (on-follows calm.0 m.front.dispatch.books leads);
-        line = subst (λ (f : FrontState). IsWithin (who f.dispatch.books.line) (waiting n.journal)) (sym same)
-            (subst (λ (J : List Rec). IsWithin (who m.front.dispatch.books.line) (waiting J)) (sym calm.1)
+        line = subst (λ (f : FrontState). IsSublist (who f.dispatch.books.line) (waiting n.journal)) (sym same)
+            (subst (λ (J : List Rec). IsSublist (who m.front.dispatch.books.line) (waiting J)) (sym calm.1)
             (on-line calm.0 m.front.dispatch.books.line (idle-leaves m.front.dispatch.books.line calm.0 (asides-idle calm.0 calm.2))));
       }
 
@@ -139,7 +139,7 @@ module _ (cfg : Config) (m : Machine) (counted : IsCounted cfg m) where
         both-lead cfg (time_in m) counted.ins m.front.dispatch.books t.dispatch.books t.dispatch.books (first ++ o.notes) last front (aside-leads cfg (time_in m) front.more t.dispatch.books front.in_ last lasts)
 
     moved-counted : IsCounted cfg (front_gave m e (behind e) (t, o))
-    unfolding told
+    unfolding machine_told
     moved-counted =
         let J : (front_gave m e (behind e) (t, o)).journal ≡ m.journal ++ (first ++ o.notes ++ last) = told-journal w e Front o in record {
           config_is = tells.config ∙ counted.config_is;
@@ -151,7 +151,7 @@ module _ (cfg : Config) (m : Machine) (counted : IsCounted cfg m) where
           law = subst (Lawful cfg []) (sym J) (on-law (first ++ o.notes ++ last) t.dispatch.books whole);
           paired = subst (ArePaired Nothing) (sym J) (paired-append Nothing m.journal (first ++ o.notes ++ last) counted.paired whole.paired);
           follows = subst (Follows cfg []) (sym J) (on-follows (first ++ o.notes ++ last) t.dispatch.books whole);
-          line = subst (λ (J : List Rec). IsWithin (who t.dispatch.books.line) (waiting J)) (sym J) (on-line (first ++ o.notes ++ last) t.dispatch.books.line
+          line = subst (λ (J : List Rec). IsSublist (who t.dispatch.books.line) (waiting J)) (sym J) (on-line (first ++ o.notes ++ last) t.dispatch.books.line
               (between-leaves m.front.dispatch.books.line t.dispatch.books.line first o.notes last (asides-idle first (first-aside m e)) tells.waits (asides-idle last lasts)));
         }
 
@@ -166,10 +166,10 @@ module _ (cfg : Config) (m : Machine) (counted : IsCounted cfg m) where
         lined = counted.lined;
         ins = counted.ins;
         in_ = counted.in_;
-        is = fold-append ledger_step (blank cfg) m.journal rows ∙ ap (λ (l : Ledger). fold ledger_step l rows) counted.is;
+        is = fold-append ledger_step (blank_ledger cfg) m.journal rows ∙ ap (λ (l : Ledger). fold ledger_step l rows) counted.is;
         law = each_append (λ past r. May cfg (ledger cfg past) r) [] m.journal rows counted.law (from-may cfg (May cfg) m.journal rows ((tt, tt), ((tt, tt), tt)));
         paired = paired-append Nothing m.journal rows counted.paired tt;
-        follows = each_append (λ past r. MayFollow (last_of past) (ledger cfg past) r) [] m.journal rows counted.follows ((tt, tt), ((tt, tt), tt));
+        follows = each_append (λ past r. MayFollow (last_record past) (ledger cfg past) r) [] m.journal rows counted.follows ((tt, tt), ((tt, tt), tt));
         line = on-line rows m.front.dispatch.books.line (idle-leaves m.front.dispatch.books.line rows ((λ ys. refl), ((λ ys. refl), tt)));
       }
 
@@ -244,7 +244,7 @@ none-in = record {
 }
 
 module _ (config : Config) (files : List (List ℕ × List ℕ)) (checked : config_check config ≡ Ok tt) where
-  start-counted : IsCounted config (start config files)
+  start-counted : IsCounted config (machine_start config files)
   start-counted = record { config_is = refl; sound = start-sound config checked; lined = tt; ins = []; in_ = none-in; is = refl; law = tt; paired = tt; follows = tt; line = tt }
 
   pub reached-counted : (m : Machine) → IsReached config files m → IsCounted config m
@@ -268,16 +268,16 @@ admits-in-order config files m n e checked r rule is = step-ordered config m (re
 
 pub shares-one-batch : SharesOneBatch
 shares-one-batch config files m checked r =
-    each_weaker (λ past r. MayFollow (last_of past) (ledger config past) r) (λ past r. MayShare (last_of past) (ledger config past) r) (λ past r h. h.0) [] m.journal (reached-counted config files checked m r).follows
+    each_weaker (λ past r. MayFollow (last_record past) (ledger config past) r) (λ past r. MayShare (last_record past) (ledger config past) r) (λ past r h. h.0) [] m.journal (reached-counted config files checked m r).follows
 
 pub releases-what-it-took : ReleasesWhatItTook
 releases-what-it-took config files m checked r =
-    each_weaker (λ past r. MayFollow (last_of past) (ledger config past) r) (λ past r. MayRelease (last_of past) r) (λ past r h. h.1) [] m.journal (reached-counted config files checked m r).follows
+    each_weaker (λ past r. MayFollow (last_record past) (ledger config past) r) (λ past r. MayRelease (last_record past) r) (λ past r h. h.1) [] m.journal (reached-counted config files checked m r).follows
 
 pub books-are-told : BooksAreTold
 books-are-told config files m checked r =
     let counted : IsCounted config m = reached-counted config files checked m r in
-    let many : tally.admitted m.front.dispatch.books.loads ≡ admitted (ledger config m.journal) = sym counted.in_.many ∙ sym (ap (λ (l : Ledger). length l.ins) counted.is) in (
+    let many : tally.admitted m.front.dispatch.books.loads ≡ ledger_admitted (ledger config m.journal) = sym counted.in_.many ∙ sym (ap (λ (l : Ledger). length l.ins) counted.is) in (
       sym (ap (λ (l : Ledger). l.loads) counted.is),
       sym (ap (λ (l : Ledger). l.sets) counted.is),
       many,
@@ -290,17 +290,17 @@ line-is-told config files m checked r = (reached-counted config files checked m 
 -- ---- the room
 
 module _ (cfg : Config) where
-  one-within : (l : Ledger) (r : Rec) → MayAdmit cfg l r → admitted l ≤ room_of cfg → admitted (ledger_step l r) ≤ room_of cfg
+  one-within : (l : Ledger) (r : Rec) → MayAdmit cfg l r → ledger_admitted l ≤ room_of cfg → ledger_admitted (ledger_step l r) ≤ room_of cfg
   one-within l (rec.Admitted c) may within = let less = may.0 in let more = length-append l.ins (c ∷ []) in omega (arith, less, more)
   one-within l (rec.Released c) may within = let sum = length-others c l.ins in omega (arith, sum, within)
   one-within l _ may within = within
 
-  all-within : (past rs : List Rec) → EachMay (λ past r. MayAdmit cfg (ledger cfg past) r) past rs → admitted (ledger cfg past) ≤ room_of cfg → admitted (ledger cfg (past ++ rs)) ≤ room_of cfg
-  all-within past [] e within = subst (λ (J : List Rec). admitted (ledger cfg J) ≤ room_of cfg) (sym (append-nil past)) within
-  all-within past (r ∷ rs) e within = subst (λ (J : List Rec). admitted (ledger cfg J) ≤ room_of cfg) (append_assoc past (r ∷ []) rs)
-      (all-within (past ++ r ∷ []) rs e.1 (subst (λ (l : Ledger). admitted l ≤ room_of cfg) (sym (fold-append ledger_step (blank cfg) past (r ∷ []))) (one-within (ledger cfg past) r e.0 within)))
+  all-within : (past rs : List Rec) → EachMay (λ past r. MayAdmit cfg (ledger cfg past) r) past rs → ledger_admitted (ledger cfg past) ≤ room_of cfg → ledger_admitted (ledger cfg (past ++ rs)) ≤ room_of cfg
+  all-within past [] e within = subst (λ (J : List Rec). ledger_admitted (ledger cfg J) ≤ room_of cfg) (sym (append-nil past)) within
+  all-within past (r ∷ rs) e within = subst (λ (J : List Rec). ledger_admitted (ledger cfg J) ≤ room_of cfg) (append_assoc past (r ∷ []) rs)
+      (all-within (past ++ r ∷ []) rs e.1 (subst (λ (l : Ledger). ledger_admitted l ≤ room_of cfg) (sym (fold-append ledger_step (blank_ledger cfg) past (r ∷ []))) (one-within (ledger cfg past) r e.0 within)))
 
-pub stays-within : StaysWithinTheRoom
+pub stays-within : RoomIsNeverPassed
 stays-within config files m checked r past later is =
     all-within config [] past (each_then (λ past r. MayAdmit config (ledger config past) r) m.journal past later is (admits-by-room config files m checked r)) (omega arith)
 
@@ -312,19 +312,19 @@ each-before P [] ys e = tt
 each-before P (x ∷ xs) ys e = (e.0, each-before P xs ys e.1)
 
 module _ (config : Config) (files : List (List ℕ × List ℕ)) (m : Machine) (checked : config_check config ≡ Ok tt) (r : IsReached config files m) (past later : List Rec) (is : m.journal ≡ past ++ later) where
-  past-may : EachFrom (May config) (blank config) past
+  past-may : EachFrom (May config) (blank_ledger config) past
   past-may = may-from config (May config) [] past (each_then (λ past r. May config (ledger config past) r) m.journal past later is (reached-counted config files checked m r).law)
 
   past-numbered : Each IsNumbered past
   past-numbered = each-before IsNumbered past later (subst (Each IsNumbered) is (reached-numbered config files m r))
 
   pub past-has : HasNodes config (ledger config past)
-  past-has = all-has config (some-node config checked) (blank config) past (blank-has config checked) past-may
+  past-has = all-has config (some-node config checked) (blank_ledger config) past (blank-has config checked) past-may
 
   pub past-charged : IsCharged (ledger config past).loads (charges past)
   past-charged = charged config (some-node config checked) past (blank-has config checked) past-numbered past-may
 
-pub loads-are-charges : LoadsAreCharges
+pub loads-are-charges : LoadsAreAlwaysCharges
 loads-are-charges config files m checked r past later is =
     let has : HasNodes config (ledger config past) = past-has config files m checked r past later is in
     ((past-charged config files m checked r past later is).loads, has.nodes, has.open_nodes)
@@ -347,7 +347,7 @@ pub servers-are-told : ServersAreTold
 servers-are-told config files m checked r past later is = (
   served config (some-node config checked) past (blank-has config checked) (past-may config files m checked r past later is),
   modified config (some-node config checked) past,
-  all-times (blank config) 0 past refl,
+  all-times (blank_ledger config) 0 past refl,
 )
 
 pub standings-are-told : StandingsAreTold

@@ -6,10 +6,10 @@ use Rattle.lard_base.specs.declared.event.Event.{Event}
 use Rattle.lard_base.specs.declared.event.Event.TheVariants as event
 use Rattle.lard_base.specs.declared.place.Place.{Place}
 use Rattle.lard_base.specs.declared.place.Place.TheVariants.{Front, Node, Client}
-use Rattle.lard_client.specs.Control.{ClientBlock, is_armed, written_len}
+use Rattle.lard_client.specs.Control.{ClientBlock, is_client_armed, written_len}
 use Rattle.lard_rules.specs.declared.fault.StepFault.{StepFault}
 use Rattle.lard_rules.specs.declared.machine.Machine.{Machine}
-use Rattle.lard_rules.specs.Machine.{client_acted, client_does, client_goes_on, clocked, completes, delivered, disk_at, from_place, front_gave, front_setting, happens, is_no_job, is_no_node, limit_reached, lost, machine_step, node_acts, node_at, node_gave, node_setting, opened, passed, timer, to_client, to_front, to_place, told, unless_limit, wrote}
+use Rattle.lard_rules.specs.Machine.{client_acted, client_acts, client_goes_on, clocked, completes, delivered, disk_at, from_place, front_gave, front_setting, happens, is_no_job, is_no_node, limit_reached, lost, machine_step, node_acts, node_at, node_gave, node_setting, machine_opened, passed, timer, machine_to_client, machine_to_front, to_place, machine_told, unless_limit, machine_wrote}
 use Rattle.lard_law_connections.proofs.PolicyAsides.{behind-aside}
 use Rattle.lard_law_connections.proofs.PolicyCalm.{FrontActs, IsCalm, IsUntimed, passed-calm}
 use Rattle.lard_rules.specs.FrontPlace.{front_step}
@@ -70,24 +70,24 @@ module _ (m : Machine) where
 
     module _ (never : FrontActs m e → ⊥) (untimed : IsUntimed e) where
       client-form : (own : List Rec) (c iss : ℕ) (was : Bool) (given : ClientBlock × Turn) → IsForm m e (client_acted m e own c iss was given)
-      unfolding told
+      unfolding machine_told
       client-form own c iss was given = inl (record { front = refl; now = refl; untimed = untimed; calm = inl never })
 
       goes-form : (own : List Rec) (c : ℕ) (x : Station) (given : ClientBlock × Turn) → IsForm m e (client_goes_on m e own c x given)
-      goes-form own c x given = client-form own c x.iss (is_armed x.client) given
+      goes-form own c x given = client-form own c x.iss (is_client_armed x.client) given
 
-      wrote-form : (c : ℕ) (bytes : List ℕ) (o : Option Station) → Formed m e (wrote m e c bytes o)
-      unfolding wrote
+      wrote-form : (c : ℕ) (bytes : List ℕ) (o : Option Station) → Formed m e (machine_wrote m e c bytes o)
+      unfolding machine_wrote
       wrote-form c bytes None = tt
       wrote-form c bytes (Some x) = either (nat_lt m.config.stream (written_len x.client bytes)) _ _ tt (goes-form [] c x (client_writes x.client bytes))
 
-      does-form : (own : List Rec) (c : ℕ) (rule : ClientBlock → ClientBlock × Turn) (o : Option Station) → Formed m e (client_does m e own c rule o)
-      unfolding client_does
+      does-form : (own : List Rec) (c : ℕ) (rule : ClientBlock → ClientBlock × Turn) (o : Option Station) → Formed m e (client_acts m e own c rule o)
+      unfolding client_acts
       does-form own c rule None = tt
       does-form own c rule (Some x) = goes-form own c x (rule x.client)
 
       gave-form : (own : List Rec) (i : ℕ) (given : NodeState × Out) → IsForm m e (node_gave m e own i given)
-      unfolding told
+      unfolding machine_told
       gave-form own i given = inl (record { front = refl; now = refl; untimed = untimed; calm = inl never })
 
       node-form : (i : ℕ) (comes : BackIn) (o : Option NodeState) → IsForm m e (node_acts m e (behind e) i comes o)
@@ -96,8 +96,8 @@ module _ (m : Machine) where
 
   -- ---- events of clients
 
-  opened-form : (c isn iss wnd mss : ℕ) (o : Option Station) → Formed m (event.Open c isn iss wnd mss) (opened m c isn iss wnd mss o)
-  unfolding opened
+  opened-form : (c isn iss wnd mss : ℕ) (o : Option Station) → Formed m (event.Open c isn iss wnd mss) (machine_opened m c isn iss wnd mss o)
+  unfolding machine_opened
   opened-form c isn iss wnd mss None =
       client-form (event.Open c isn iss wnd mss) (λ h. let no : Some (Client c) ≡ Some Front = h [] in cc) tt (rec.Opened c isn iss wnd mss ∷ []) c iss false (client_opens c isn wnd mss)
   opened-form c isn iss wnd mss (Some x) = tt
@@ -122,11 +122,11 @@ module _ (m : Machine) where
         let same : Some p ≡ Some h.0 = sym at ∙ h.1 in
         let one : p ≡ h.0 = cc in never (sym is ∙ ap (λ (l : Packet). l.to) one ∙ h.3)
 
-    front-gets : (c : ℕ) (o : Option Station) → IsForm m e (to_front m k p.bytes c o)
+    front-gets : (c : ℕ) (o : Option Station) → IsForm m e (machine_to_front m k p.bytes c o)
     front-gets c None = passed-form e tt
     front-gets c (Some x) = front-form e (input.Segment c (record { 0 = x.iss }) p.bytes)
 
-    client-gets-form : (never : FrontActs m e → ⊥) (c : ℕ) (o : Option Station) → IsForm m e (to_client m k p.bytes c o)
+    client-gets-form : (never : FrontActs m e → ⊥) (c : ℕ) (o : Option Station) → IsForm m e (machine_to_client m k p.bytes c o)
     client-gets-form never c None = passed-form e tt
     client-gets-form never c (Some x) = goes-form e never tt (rec.Got k ∷ []) c x (client_gets x.client (decoded p.bytes c ToClient))
 

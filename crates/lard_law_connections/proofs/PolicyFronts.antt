@@ -20,16 +20,16 @@ use Rattle.lard_dispatch.specs.Books.{Dispatcher}
 use Rattle.lard_dispatch.specs.Calls.{admitted_with, after_first, batch_over, choice_at, first_answer, is_full, later_answer}
 use Rattle.lard_dispatch.specs.Laws.{after_calls}
 use Rattle.lard_dispatch.specs.Laws as call
-use Rattle.lard_dispatch.specs.Line.{waits, without}
-use Rattle.lard_dispatch.specs.Sound.{IsSound}
+use Rattle.lard_dispatch.specs.Line.{line_waits, line_without}
+use Rattle.lard_dispatch.specs.Sound.{IsDispatcherSound}
 use Rattle.lard_dispatch.proofs.Soundness.{not-in}
 use Rattle.lard_endpoint.specs.Arriving.{on_segment}
 use Rattle.lard_endpoint.specs.Control.{listening}
 use Rattle.lard_rules.specs.declared.front.FrontRest.{FrontRest}
 use Rattle.lard_rules.specs.declared.front.FrontTurn.{FrontTurn}
-use Rattle.lard_rules.specs.Front.{Deed, Drops, Says, Does, Did, FrontEnv, FrontPart, ask_of, asked_by, assigned_notes, assigns, begun, fired, fired_by, fires_at, front_asked, front_gets, front_hears, front_taken, front_timer, hears_at, holds, is_at, leaves_by, over_note, placed, rest_of, rests, saying, settled_by, tag_sent, taken_by, turn_here, waits_on}
-use Rattle.lard_rules.specs.FrontReading.{Reading, reads}
-use Rattle.lard_rules.specs.FrontSound.{IsPartSound, IsRowSound, IsStageSound, Standing, nowhere, standing}
+use Rattle.lard_rules.specs.Front.{FrontDeed, Drops, Says, Does, Did, FrontEnv, FrontPart, ask_of, asked_by, assigned_notes, assigns, front_begun, front_fired, front_fired_by, fires_at, front_asked, front_gets, front_hears, front_taken, front_timer, hears_at, holds, is_row_at, leaves_by, over_note, placed, front_rest, front_rests, front_saying, settled_by, tag_sent, taken_by, turn_here, waits_on}
+use Rattle.lard_rules.specs.FrontReading.{Reading, front_reads}
+use Rattle.lard_rules.specs.FrontSound.{IsPartSound, IsRowSound, IsStageSound, DispatchStanding, nowhere, dispatch_standing}
 use Rattle.lard_rules.proofs.FrontDeeds.{IsOf, away-stands}
 use Rattle.lard_handoff_front.specs.declared.row.FrontConn.{FrontConn}
 use Rattle.lard_handoff_front.specs.declared.row.FrontConn.TheVariants as stage
@@ -45,7 +45,7 @@ use Rattle.lard_rules.specs.declared.places.Ending.{Ending}
 use Rattle.lard_rules.specs.declared.places.Ending.TheVariants.{Here, Over}
 use Rattle.lard_rules.specs.declared.places.Turn.{Turn}
 use Rattle.lard_rules.specs.Tombstone.{is_plain_syn, last_words, tombstone}
-use Rattle.lard_rules.specs.Serving.{Service, serving, settled, spoken}
+use Rattle.lard_rules.specs.Serving.{Service, serving, serving_settled, spoken}
 use Rattle.lard_segment.specs.declared.fault.SegFault.{SegFault}
 use Rattle.lard_segment.specs.Segment.{Said}
 
@@ -69,7 +69,7 @@ pub record IsMute (t : FrontTurn) : Type 0 where
   pub notes : t.notes ≡ []
   pub gave : t.gave ≡ []
 
-abbrev pub DeedTells : Dispatcher → ℕ → Millis → List ℕ → FrontPart → Deed → Type 0
+abbrev pub DeedTells : Dispatcher → ℕ → Millis → List ℕ → FrontPart → FrontDeed → Type 0
 DeedTells d c now ins p Drops = Unit {0}
 DeedTells d c now ins p (Says turn) = IsMute turn
 DeedTells d c now ins p (Does x) = Tells d c now ins p x
@@ -82,7 +82,7 @@ module _ (d : Dispatcher) (ins : List ℕ) (in_ : AreIn ins d.books.loads.standi
   -- ---- an endpoint that is here
 
   -- one that does not wait is held on, or ended
-  pub holds-tells : (c : ℕ) (now : Millis) (p : FrontPart) (row : FrontRow) (rest : FrontRest) (given : Ending × Turn) → waits d.books.line c ≡ false → Each IsAside given.1.notes
+  pub holds-tells : (c : ℕ) (now : Millis) (p : FrontPart) (row : FrontRow) (rest : FrontRest) (given : Ending × Turn) → line_waits d.books.line c ≡ false → Each IsAside given.1.notes
       → DeedTells d c now ins p (holds p row rest given)
   holds-tells c now p row rest given free asides = record {
     leads = aside-leads d.config now ins d.books in_ given.1.notes asides;
@@ -93,7 +93,7 @@ module _ (d : Dispatcher) (ins : List ℕ) (in_ : AreIn ins d.books.loads.standi
   }
 
   -- one that waits waits on, or leaves the line
-  pub waits-tells : (env : FrontEnv) (p : FrontPart) (row : FrontRow) (given : Ending × Turn) → Each IsAside given.1.notes → DeedTells d env.serve.c env.now ins p (waits_on env p row (rest_of p.rest) given)
+  pub waits-tells : (env : FrontEnv) (p : FrontPart) (row : FrontRow) (given : Ending × Turn) → Each IsAside given.1.notes → DeedTells d env.serve.c env.now ins p (waits_on env p row (front_rest p.rest) given)
   waits-tells env p row (Here b count, turn) asides = record {
     leads = aside-leads d.config env.now ins d.books in_ turn.notes asides;
     gave = tt;
@@ -112,7 +112,7 @@ module _ (d : Dispatcher) (ins : List ℕ) (in_ : AreIn ins d.books.loads.standi
 
   -- ---- it is placed
 
-  module _ (sound : IsSound d) (env : FrontEnv) (free : standing d env.serve.c ≡ nowhere) (p : FrontPart) (row : FrontRow) (rest : FrontRest) (w : Service) (path : List ℕ) (asides : Each IsAside w.notes) where
+  module _ (sound : IsDispatcherSound d) (env : FrontEnv) (free : dispatch_standing d env.serve.c ≡ nowhere) (p : FrontPart) (row : FrontRow) (rest : FrontRest) (w : Service) (path : List ℕ) (asides : Each IsAside w.notes) where
     abbrev c : ℕ
     c = env.serve.c
 
@@ -125,8 +125,8 @@ module _ (d : Dispatcher) (ins : List ℕ) (in_ : AreIn ins d.books.loads.standi
     abbrev going : Dispatcher
     going = record d { books = admitted_with d.config d.books env.serve.c path env.now }
 
-    absent : waits d.books.line env.serve.c ≡ false
-    absent = ap (λ (x : Standing). x.waits) free
+    absent : line_waits d.books.line env.serve.c ≡ false
+    absent = ap (λ (x : DispatchStanding). x.waits) free
 
     -- what the dispatcher answers, and has then
     abbrev Answers : First → Dispatcher → Type 0
@@ -147,14 +147,14 @@ module _ (d : Dispatcher) (ins : List ℕ) (in_ : AreIn ins d.books.loads.standi
 
     goes : admitted d.books.loads < room_of d.config → Goes (choice_at d.config d.books path env.now) going
     goes less = behind-asides d.config env.now ins d.books going.books w.notes _ in_ asides
-        (admit-leads d.config env.now ins d.books in_ env.serve.c (w.count + 1) path (not-in d.books.loads env.serve.c (ap (λ (x : Standing). x.home) free)) less)
+        (admit-leads d.config env.now ins d.books in_ env.serve.c (w.count + 1) path (not-in d.books.loads env.serve.c (ap (λ (x : DispatchStanding). x.home) free)) less)
 
     -- it waits
     abbrev heard : Ending × Turn
     heard = spoken env.serve (record w { notes = w.notes ++ rec.Waits env.serve.c ∷ [] }) []
 
     abbrev did : Ending → Did
-    did e = record { part = rests p row (record rest { target = Some path }) stage.Waiting e; turn = turn_here heard.1; calls = call.First env.serve.c path env.now ∷ leaves_by env.serve.c e }
+    did e = record { part = front_rests p row (record rest { target = Some path }) stage.Waiting e; turn = turn_here heard.1; calls = call.First env.serve.c path env.now ∷ leaves_by env.serve.c e }
 
     abbrev Stands : Dispatcher → Type 0
     Stands e = Leads d.config env.now ins d.books (w.notes ++ rec.Waits env.serve.c ∷ []) e.books
@@ -172,7 +172,7 @@ module _ (d : Dispatcher) (ins : List ℕ) (in_ : AreIn ins d.books.loads.standi
     between-other : (t : ℕ → Option (List ℕ)) (q : ℕ) → (q ≡ env.serve.c → ⊥) → between t q ≡ t q
     between-other t q n = ap (λ (b : Bool). cond b (Some path) (t q)) (ne_eqb q env.serve.c n)
 
-    left-lined : (t u : ℕ → Option (List ℕ)) → ((q : ℕ) → (q ≡ env.serve.c → ⊥) → u q ≡ t q) → AreLined t d.books.line → AreLined u (without (d.books.line ++ newcomer ∷ []) env.serve.c)
+    left-lined : (t u : ℕ → Option (List ℕ)) → ((q : ℕ) → (q ≡ env.serve.c → ⊥) → u q ≡ t q) → AreLined t d.books.line → AreLined u (line_without (d.books.line ++ newcomer ∷ []) env.serve.c)
     left-lined t u others h = lined-without (between t) u env.serve.c (λ q n. others q n ∙ sym (between-other t q n)) (d.books.line ++ newcomer ∷ [])
         (last-lined t (between t) (between-other t) (ap (λ (b : Bool). cond b (Some path) (t env.serve.c)) (eq-eqb env.serve.c env.serve.c refl)) h)
 
@@ -209,9 +209,9 @@ module _ (d : Dispatcher) (ins : List ℕ) (in_ : AreIn ins d.books.loads.standi
           leads = record { more = leads.more; then = leads.then; in_ = leads.in_; may = leads.may; paired = leads.paired; after = leads.after };
           gave = tt;
           ordered = waits-ordered;
-          waits = subst (λ (e : Dispatcher). Leaves d.books.line (w.notes ++ rec.Waits env.serve.c ∷ []) (without e.books.line env.serve.c)) (sym h.0)
+          waits = subst (λ (e : Dispatcher). Leaves d.books.line (w.notes ++ rec.Waits env.serve.c ∷ []) (line_without e.books.line env.serve.c)) (sym h.0)
               (left-leaves env.serve.c d.books.line (w.notes ++ rec.Waits env.serve.c ∷ []) (d.books.line ++ newcomer ∷ []) waits-last);
-          lines = λ t u others was is l. subst (λ (e : Dispatcher). AreLined u (without e.books.line env.serve.c)) (sym h.0) (left-lined t u others l);
+          lines = λ t u others was is l. subst (λ (e : Dispatcher). AreLined u (line_without e.books.line env.serve.c)) (sym h.0) (left-lined t u others l);
         }
 
     placed-tells : (f : First) → Answers f (after_first d env.serve.c path env.now) → Tells d env.serve.c env.now ins p (placed env p row rest w path f)
@@ -226,24 +226,24 @@ module _ (d : Dispatcher) (ins : List ℕ) (in_ : AreIn ins d.books.loads.standi
     placed-tells first.Waits h = wait heard.0 h
 
   -- what was read is said, or it is placed
-  read-tells : (sound : IsSound d) (env : FrontEnv) → IsOf env d → standing d env.serve.c ≡ nowhere → (p : FrontPart) (row : FrontRow) (rest : FrontRest) (w : Service) (target : Option (List ℕ)) → Each IsAside w.notes
+  read-tells : (sound : IsDispatcherSound d) (env : FrontEnv) → IsOf env d → dispatch_standing d env.serve.c ≡ nowhere → (p : FrontPart) (row : FrontRow) (rest : FrontRest) (w : Service) (target : Option (List ℕ)) → Each IsAside w.notes
       → DeedTells d env.serve.c env.now ins p (settled_by env p row rest w target)
   read-tells sound env of free p row rest w None asides =
-      holds-tells env.serve.c env.now p row rest (settled env.serve w) (ap (λ (x : Standing). x.waits) free) (subst (Each IsAside) (sym (settled-notes env.serve w)) asides)
+      holds-tells env.serve.c env.now p row rest (serving_settled env.serve w) (ap (λ (x : DispatchStanding). x.waits) free) (subst (Each IsAside) (sym (settled-notes env.serve w)) asides)
   read-tells sound env of free p row rest w (Some path) asides = placed-tells sound env free p row rest w path asides (env.first path)
       (subst (λ f. Answers sound env free p row rest w path asides f (after_first d env.serve.c path env.now)) (sym (of.first path)) (answers sound env free p row rest w path asides))
 
   -- ---- what comes of a client
 
-  module _ (sound : IsSound d) (env : FrontEnv) (of : IsOf env d) (p : FrontPart) where
-    abbrev TellsOf : Deed → Type 0
+  module _ (sound : IsDispatcherSound d) (env : FrontEnv) (of : IsOf env d) (p : FrontPart) where
+    abbrev TellsOf : FrontDeed → Type 0
     TellsOf deed = DeedTells d env.serve.c env.now ins p deed
 
-    hears-tells : (row : FrontRow) (bytes : List ℕ) (s : Said) (at : FrontConn) → IsStageSound row.epoch.0 p.rest p.kept (standing d env.serve.c) at → TellsOf (hears_at env p row bytes s at)
+    hears-tells : (row : FrontRow) (bytes : List ℕ) (s : Said) (at : FrontConn) → IsStageSound row.epoch.0 p.rest p.kept (dispatch_standing d env.serve.c) at → TellsOf (hears_at env p row bytes s at)
     hears-tells row bytes s (stage.Held b) h =
-        let x : Reading = record { service = serving (on_segment b s).1 (rest_of p.rest).count []; target = None } in
-        read-tells sound env of h.2 p row (rest_of p.rest) (reads env.serve x).service (reads env.serve x).target (reads-notes env.serve x tt)
-    hears-tells row bytes s (stage.Waiting b) h = waits-tells env p row (spoken env.serve (serving (on_segment b s).1 (rest_of p.rest).count []) []) tt
+        let x : Reading = record { service = serving (on_segment b s).1 (front_rest p.rest).count []; target = None } in
+        read-tells sound env of h.2 p row (front_rest p.rest) (front_reads env.serve x).service (front_reads env.serve x).target (reads-notes env.serve x tt)
+    hears-tells row bytes s (stage.Waiting b) h = waits-tells env p row (spoken env.serve (serving (on_segment b s).1 (front_rest p.rest).count []) []) tt
     hears-tells row bytes s stage.Lent h = tt
     hears-tells row bytes s (stage.Offering node epoch) h = record { notes = refl; gave = refl }
     hears-tells row bytes s (stage.Moved node epoch) h = record { notes = refl; gave = refl }
@@ -252,28 +252,28 @@ module _ (d : Dispatcher) (ins : List ℕ) (in_ : AreIn ins d.books.loads.standi
       words None = record { notes = refl; gave = refl }
       words (Some said) = record { notes = refl; gave = refl }
 
-    row-tells : (bytes : List ℕ) (s : Said) (o : Option FrontRow) → IsRowSound p.rest p.kept (standing d env.serve.c) o → TellsOf (front_hears env p bytes s o)
-    row-tells bytes s None h = cond_both (is_plain_syn s) (begun env p s) Drops TellsOf
-        (λ t. holds-tells env.serve.c env.now p (record { stage = stage.Lent; epoch = record { 0 = 1 }; ended_by = None }) (rest_of None)
-        (spoken env.serve (serving (listening s env.iss) 0 (rec.Took place.Front env.serve.c (record { 0 = 1 }) ∷ [])) []) (ap (λ (x : Standing). x.waits) h.1) (tt, tt))
+    row-tells : (bytes : List ℕ) (s : Said) (o : Option FrontRow) → IsRowSound p.rest p.kept (dispatch_standing d env.serve.c) o → TellsOf (front_hears env p bytes s o)
+    row-tells bytes s None h = cond_both (is_plain_syn s) (front_begun env p s) Drops TellsOf
+        (λ t. holds-tells env.serve.c env.now p (record { stage = stage.Lent; epoch = record { 0 = 1 }; ended_by = None }) (front_rest None)
+        (spoken env.serve (serving (listening s env.iss) 0 (rec.Took place.Front env.serve.c (record { 0 = 1 }) ∷ [])) []) (ap (λ (x : DispatchStanding). x.waits) h.1) (tt, tt))
         (λ t. tt)
     row-tells bytes s (Some row) h = hears-tells row bytes s row.stage h
 
-    pub gets-tells : (bytes : List ℕ) (r : Result Said SegFault) → IsPartSound p (standing d env.serve.c) → TellsOf (front_gets env p bytes r)
+    pub gets-tells : (bytes : List ℕ) (r : Result Said SegFault) → IsPartSound p (dispatch_standing d env.serve.c) → TellsOf (front_gets env p bytes r)
     gets-tells bytes (Err fault) h = tt
     gets-tells bytes (Ok s) h = row-tells bytes s p.row h
 
     -- ---- timers
 
-    fires-tells : (row : FrontRow) (at : FrontConn) → IsStageSound row.epoch.0 p.rest p.kept (standing d env.serve.c) at → TellsOf (fires_at env p row at)
-    fires-tells row (stage.Held b) h = holds-tells env.serve.c env.now p row (rest_of p.rest) (fired env (rest_of p.rest) b) (ap (λ (x : Standing). x.waits) h.2) tt
-    fires-tells row (stage.Waiting b) h = waits-tells env p row (fired env (rest_of p.rest) b) tt
+    fires-tells : (row : FrontRow) (at : FrontConn) → IsStageSound row.epoch.0 p.rest p.kept (dispatch_standing d env.serve.c) at → TellsOf (fires_at env p row at)
+    fires-tells row (stage.Held b) h = holds-tells env.serve.c env.now p row (front_rest p.rest) (front_fired env (front_rest p.rest) b) (ap (λ (x : DispatchStanding). x.waits) h.2) tt
+    fires-tells row (stage.Waiting b) h = waits-tells env p row (front_fired env (front_rest p.rest) b) tt
     fires-tells row (stage.Offering node epoch) h = record { notes = refl; gave = refl }
     fires-tells row _ h = tt
 
-    pub timer-tells : IsPartSound p (standing d env.serve.c) → TellsOf (front_timer env p)
+    pub timer-tells : IsPartSound p (dispatch_standing d env.serve.c) → TellsOf (front_timer env p)
     timer-tells h = go p.row h where
-      go : (o : Option FrontRow) → IsRowSound p.rest p.kept (standing d env.serve.c) o → TellsOf (fired_by env p o)
+      go : (o : Option FrontRow) → IsRowSound p.rest p.kept (dispatch_standing d env.serve.c) o → TellsOf (front_fired_by env p o)
       go None h = tt
       go (Some row) h = fires-tells row row.stage h
 
@@ -286,18 +286,18 @@ module _ (d : Dispatcher) (ins : List ℕ) (in_ : AreIn ins d.books.loads.standi
       abbrev After : Dispatcher
       After = after_calls d (call.Later ask env.now ∷ [])
 
-      at-home : (o : Option FrontRow) → is_at from epoch o ≡ true → IsRowSound p.rest p.kept (standing d env.serve.c) o → standing d env.serve.c ≡ record { home = Some from; waits = false }
+      at-home : (o : Option FrontRow) → is_row_at from epoch o ≡ true → IsRowSound p.rest p.kept (dispatch_standing d env.serve.c) o → dispatch_standing d env.serve.c ≡ record { home = Some from; waits = false }
       at-home None there h = let no : false ≡ true = there in absurd cc
-      at-home (Some row) there h = away-stands from epoch row.stage p.rest p.kept (standing d env.serve.c) row.epoch.0 there h
+      at-home (Some row) there h = away-stands from epoch row.stage p.rest p.kept (dispatch_standing d env.serve.c) row.epoch.0 there h
 
       asked-lines : (t u : ℕ → Option (List ℕ)) → ((q : ℕ) → u q ≡ t q) → AreLined t d.books.line → AreLined u After.books.line
       asked-lines t u same lined = subst (AreLined u) (sym (line-shared d.config env.now ask paths (batch_over d.books ask))) (lined-same t u same d.books.line lined)
 
-      new-tells : (rest : FrontRest) → p.rest ≡ Some rest → standing d env.serve.c ≡ record { home = Some from; waits = false } → (l : Later) → l ≡ later_answer d ask env.now
+      new-tells : (rest : FrontRest) → p.rest ≡ Some rest → dispatch_standing d env.serve.c ≡ record { home = Some from; waits = false } → (l : Later) → l ≡ later_answer d ask env.now
           → Tells d env.serve.c env.now ins p (assigns env p rest from epoch ask l)
       new-tells rest found home l is = record {
         leads = subst (λ (y : Later). Leads d.config env.now ins d.books (assigns env p rest from epoch ask y).turn.notes After.books) (sym is)
-            (later-leads d.config env.now ask ins rest.assigned d.books some within most in_ (ap (λ (x : Standing). x.home) home));
+            (later-leads d.config env.now ask ins rest.assigned d.books some within most in_ (ap (λ (x : DispatchStanding). x.home) home));
         gave = tt;
         ordered = none-ordered d.books.line (assigns env p rest from epoch ask l).turn.notes
             (Each-append IsNeither (over_note env.serve.c l.over) (assigned_notes env.serve.c ask rest.assigned paths l.choices) (over-neither env.serve.c l.over) (assigned-neither env.serve.c ask rest.assigned paths l.choices));
@@ -307,16 +307,16 @@ module _ (d : Dispatcher) (ins : List ℕ) (in_ : AreIn ins d.books.loads.standi
         lines = λ t u others was now_is lined. asked-lines t u (same-all env.serve.c t u rest.target others (was ∙ ap target_of found) now_is) lined;
       }
 
-      asked-by : (o : Option FrontRest) → p.rest ≡ o → standing d env.serve.c ≡ record { home = Some from; waits = false } → TellsOf (asked_by env p from epoch ask o)
+      asked-by : (o : Option FrontRest) → p.rest ≡ o → dispatch_standing d env.serve.c ≡ record { home = Some from; waits = false } → TellsOf (asked_by env p from epoch ask o)
       asked-by None found home = tt
       asked-by (Some rest) found home =
-          let again : Deed = Says (saying (tag_sent env from epoch rest.asks rest.tag)) in
+          let again : FrontDeed = Says (front_saying (tag_sent env from epoch rest.asks rest.tag)) in
           cond_both (ask.number == rest.asks + 1) (Does (assigns env p rest from epoch ask (env.later ask))) (cond (ask.number == rest.asks && nat_lt 0 rest.asks) again Drops) TellsOf
           (λ t. new-tells rest found home (env.later ask) (of.later ask))
           (λ t. cond_both (ask.number == rest.asks && nat_lt 0 rest.asks) again Drops TellsOf (λ u. record { notes = refl; gave = refl }) (λ u. tt))
 
-      pub asked-tells : IsPartSound p (standing d env.serve.c) → TellsOf (front_asked env p from epoch ask)
-      asked-tells h = cond_both (is_at from epoch p.row) (asked_by env p from epoch ask p.rest) Drops TellsOf (λ there. asked-by p.rest refl (at-home p.row there h)) (λ t. tt)
+      pub asked-tells : IsPartSound p (dispatch_standing d env.serve.c) → TellsOf (front_asked env p from epoch ask)
+      asked-tells h = cond_both (is_row_at from epoch p.row) (asked_by env p from epoch ask p.rest) Drops TellsOf (λ there. asked-by p.rest refl (at-home p.row there h)) (λ t. tt)
 
   -- ---- a Taken
 

@@ -7,14 +7,14 @@ use Rattle.std.specs.FinMap.{get-empty}
 use Rattle.std.specs.List.{filter, fold, list_any}
 use Rattle.std.specs.Ordering.{nat_cmp}
 use Rattle.lard_base.specs.declared.config.Config.{Config}
-use Rattle.lard_counts.specs.Ledger.{Ledger, blank, is_in, ledger_step}
+use Rattle.lard_counts.specs.Ledger.{Ledger, blank_ledger, is_in_ledger, ledger_step}
 use Rattle.lard_dispatch.proofs.Sharing.{home-ended, home-shared}
 use Rattle.lard_history.specs.Journal as told
 use Rattle.lard_history.specs.Journal.{home_step, in_step}
 use Rattle.lard_history.proofs.Seeing.{by_number, other_number, same_number}
 use Rattle.lard_journal.specs.declared.rec.Rec.{Rec}
 use Rattle.lard_journal.specs.declared.rec.Rec.TheVariants as rec
-use Rattle.lard_loads.specs.Tally.{Standing, Tally, batch_ended, connected, ending, home, home_of, released, shared, sharing}
+use Rattle.lard_loads.specs.Tally.{Standing, Tally, batch_ended, connected, batch_ended_with, home, home_of, released, shared, sharing}
 use Rattle.lard_table.proofs.Map.{get_inserted, get_other, get_put_other, get_put_same}
 
 -- ---- who is in
@@ -63,7 +63,7 @@ less-any c d xs = by_number (list_any (nat_eq c) (filter (λ x. not (nat_eq d x)
     (λ e. ap (λ (k : ℕ). list_any (nat_eq c) (filter (λ x. not (nat_eq k x)) xs)) e ∙ none-any c xs ∙ sym (ap (λ (b : Bool). cond b false (list_any (nat_eq c) xs)) (ap (λ (k : ℕ). nat_eq k c) e ∙ same_number c)))
     (λ n. others-any c d xs n ∙ sym (ap (λ (b : Bool). cond b false (list_any (nat_eq c) xs)) (other_number d c n)))
 
-one-in : (c : ℕ) (l : Ledger) (r : Rec) → is_in (ledger_step l r) c ≡ in_step c (is_in l c) r
+one-in : (c : ℕ) (l : Ledger) (r : Rec) → is_in_ledger (ledger_step l r) c ≡ in_step c (is_in_ledger l c) r
 one-in c l (rec.Admitted d) = any-more c d l.ins
 one-in c l (rec.Released d) = less-any c d l.ins
 one-in c l (rec.AssignedFirst d r path n add remove) = refl
@@ -96,7 +96,7 @@ module _ (t : Tally) (c d : ℕ) where
   shared-home n size = by_number (home (shared t d n size) c ≡ home t c) c d
       (λ e. subst (λ (k : ℕ). home (shared t d n size) k ≡ home t k) (sym e) (home-shared t d n size)) (λ apart. other-shared n size apart (map.get t.standings d))
 
-  other-ended : (c ≡ d → ⊥) → (o : Option Standing) → home (ending t d o) c ≡ home t c
+  other-ended : (c ≡ d → ⊥) → (o : Option Standing) → home (batch_ended_with t d o) c ≡ home t c
   other-ended apart None = refl
   other-ended apart (Some s) = ap home_of (get_other t.standings d c _ apart)
 
@@ -114,7 +114,7 @@ one-home c l _ = refl
 
 -- ---- a journal
 
-all-in : (c : ℕ) (l : Ledger) (rs : List Rec) → is_in (fold ledger_step l rs) c ≡ fold (in_step c) (is_in l c) rs
+all-in : (c : ℕ) (l : Ledger) (rs : List Rec) → is_in_ledger (fold ledger_step l rs) c ≡ fold (in_step c) (is_in_ledger l c) rs
 all-in c l [] = refl
 all-in c l (r ∷ rs) = all-in c (ledger_step l r) rs ∙ ap (λ (b : Bool). fold (in_step c) b rs) (one-in c l r)
 
@@ -122,8 +122,8 @@ all-homes : (c : ℕ) (l : Ledger) (rs : List Rec) → home (fold ledger_step l 
 all-homes c l [] = refl
 all-homes c l (r ∷ rs) = all-homes c (ledger_step l r) rs ∙ ap (λ (o : Option ℕ). fold (home_step c) o rs) (one-home c l r)
 
-pub stands-so : (cfg : Config) (J : List Rec) (c : ℕ) → (is_in (fold ledger_step (blank cfg) J) c ≡ told.is_in J c) × (home (fold ledger_step (blank cfg) J).loads c ≡ told.home J c)
+pub stands-so : (cfg : Config) (J : List Rec) (c : ℕ) → (is_in_ledger (fold ledger_step (blank_ledger cfg) J) c ≡ told.is_in J c) × (home (fold ledger_step (blank_ledger cfg) J).loads c ≡ told.home_told J c)
 stands-so cfg J c = (
-  all-in c (blank cfg) J,
-  all-homes c (blank cfg) J ∙ ap (λ (o : Option ℕ). fold (home_step c) o J) (ap home_of (get-empty nat_cmp c)),
+  all-in c (blank_ledger cfg) J,
+  all-homes c (blank_ledger cfg) J ∙ ap (λ (o : Option ℕ). fold (home_step c) o J) (ap home_of (get-empty nat_cmp c)),
 )

@@ -12,7 +12,7 @@ use Rattle.lard_base.specs.declared.place.Place.TheVariants.{Front}
 use Rattle.lard_law_connections.proofs.PolicyAsides.{EachAfter, EachFrom, IsAside, May, after-append, asides-after, asides-may, asides-paired, asides-same, from-append, paired-append}
 use Rattle.lard_law_connections.proofs.PolicyIns.{AreIn, in-less, in-more, in-not, in-same, in-there}
 use Rattle.lard_law_connections.specs.PolicyLaws.{ArePaired, IsBehind}
-use Rattle.lard_law_connections.specs.PolicyLaws.Due.{Nothing}
+use Rattle.lard_law_connections.specs.PolicyLaws.AssignmentDue.{Nothing}
 use Rattle.lard_counts.specs.Ledger.{Ledger, ledger_step}
 use Rattle.lard_costs.specs.declared.later.LaterChoice.{LaterChoice}
 use Rattle.lard_dispatch.specs.declared.dispatch.Ask.{Ask}
@@ -24,7 +24,7 @@ use Rattle.lard_rules.specs.Front.{assigned_notes, over_note}
 use Rattle.lard_history.proofs.Each.{Each}
 use Rattle.lard_journal.specs.declared.rec.Rec.{Rec}
 use Rattle.lard_journal.specs.declared.rec.Rec.TheVariants as rec
-use Rattle.lard_loads.specs.Tally.{Standing, Tally, admitted, batch_ended, ending, home, home_of, open_shares, shared, shares_of, sharing}
+use Rattle.lard_loads.specs.Tally.{Standing, Tally, admitted, batch_ended, batch_ended_with, home, home_of, open_shares, shared, shares_of, sharing}
 use Rattle.lard_loads.specs.declared.slot.Share.{Share}
 use Rattle.lard_table.proofs.Map.{put_got}
 use Rattle.lard_table.specs.Table.{put_or}
@@ -110,7 +110,7 @@ module _ (cfg : Config) (now : Millis) (ask : Ask) where
 
   ended-in : (ins : List ℕ) (t : Tally) → AreIn ins t.standings → AreIn ins (batch_ended t ask.c).standings
   ended-in ins t h = go (map.get t.standings ask.c) refl where
-    go : (o : Option Standing) → map.get t.standings ask.c ≡ o → AreIn ins (ending t ask.c o).standings
+    go : (o : Option Standing) → map.get t.standings ask.c ≡ o → AreIn ins (batch_ended_with t ask.c o).standings
     go None e = h
     go (Some s) e = in-same ins t.standings ask.c s _ h e
 
@@ -147,13 +147,13 @@ module _ (cfg : Config) (now : Millis) (ask : Ask) where
   -- where no share is open, none ends
   none-ends : (t : Tally) → nat_lt 0 (open_shares t ask.c) ≡ false → batch_ended t ask.c ≡ t
   none-ends t none = go (map.get t.standings ask.c) refl none where
-    with-shares : (s : Standing) → map.get t.standings ask.c ≡ Some s → (xs : List Share) → s.shares ≡ xs → nat_lt 0 (length xs) ≡ false → ending t ask.c (Some s) ≡ t
+    with-shares : (s : Standing) → map.get t.standings ask.c ≡ Some s → (xs : List Share) → s.shares ≡ xs → nat_lt 0 (length xs) ≡ false → batch_ended_with t ask.c (Some s) ≡ t
     with-shares s e [] is h =
         let got : map.insert t.standings ask.c s ≡ t.standings = ap (λ (o : Option Standing). put_or t.standings ask.c o) (sym e) ∙ put_got t.standings ask.c in
         ap (λ (x : Standing). record t { standings = map.insert t.standings ask.c x }) (λ i. record { home = s.home; shares = sym is i }) ∙ (λ i. record t { standings = got i })
     with-shares s e (x ∷ xs) is h = absurd (omega (arith, ltb-false 0 (length (x ∷ xs)) h))
 
-    go : (o : Option Standing) → map.get t.standings ask.c ≡ o → nat_lt 0 (length (shares_of o)) ≡ false → ending t ask.c o ≡ t
+    go : (o : Option Standing) → map.get t.standings ask.c ≡ o → nat_lt 0 (length (shares_of o)) ≡ false → batch_ended_with t ask.c o ≡ t
     go None e h = refl
     go (Some s) e h = with-shares s e s.shares refl h
 

@@ -3,15 +3,15 @@ use Rattle.std.proofs.Common.{◌≡◌, ℕ, ◌==◌, ◌||◌, not, Bool, tru
 use Rattle.std.proofs.lemmas.Bool.{eqb-false}
 use Rattle.std.specs.FinMap as table
 use Rattle.lard_dispatch.specs.declared.line.Waiting.{Waiting}
-use Rattle.lard_dispatch.specs.Line.{waits, without}
+use Rattle.lard_dispatch.specs.Line.{line_waits, line_without}
 use Rattle.lard_rules.specs.declared.front.FrontRest.{FrontRest}
 use Rattle.lard_rules.specs.declared.front.FrontState.{FrontState}
-use Rattle.lard_rules.specs.Front.{rest_of}
+use Rattle.lard_rules.specs.Front.{front_rest}
 use Rattle.lard_history.proofs.Each.{Each, Each-append}
 
 -- the path with which a connection waits, if it does
 abbrev pub target_of : Option FrontRest → Option (List ℕ)
-target_of rest = (rest_of rest).target
+target_of rest = (front_rest rest).target
 
 abbrev pub targets : FrontState → ℕ → Option (List ℕ)
 targets s c = target_of (table.get s.rests c)
@@ -26,18 +26,18 @@ module _ (t u : ℕ → Option (List ℕ)) where
 
   module _ (c : ℕ) (others : (q : ℕ) → (q ≡ c → ⊥) → u q ≡ t q) where
     -- where the connection does not wait
-    pub lined-absent : (line : List Waiting) → waits line c ≡ false → AreLined t line → AreLined u line
+    pub lined-absent : (line : List Waiting) → line_waits line c ≡ false → AreLined t line → AreLined u line
     lined-absent [] none h = tt
     lined-absent (w ∷ ws) none h = go (w.c == c) refl none h.0 (λ later. lined-absent ws later h.1) where
-      go : (b : Bool) → (w.c == c) ≡ b → (b || waits ws c) ≡ false → t w.c ≡ Some w.target → (waits ws c ≡ false → AreLined u ws) → AreLined u (w ∷ ws)
+      go : (b : Bool) → (w.c == c) ≡ b → (b || line_waits ws c) ≡ false → t w.c ≡ Some w.target → (line_waits ws c ≡ false → AreLined u ws) → AreLined u (w ∷ ws)
       go true is out own later = let never : true ≡ false = out in absurd cc
       go false is out own later = (others w.c (eqb-false w.c c is) ∙ own, later out)
 
     -- where it leaves
-    pub lined-without : (line : List Waiting) → AreLined t line → AreLined u (without line c)
+    pub lined-without : (line : List Waiting) → AreLined t line → AreLined u (line_without line c)
     lined-without [] h = tt
     lined-without (w ∷ ws) h = go (w.c == c) refl h.0 (lined-without ws h.1) where
-      go : (b : Bool) → (w.c == c) ≡ b → t w.c ≡ Some w.target → AreLined u (without ws c) → AreLined u (cond (not b) (w ∷ without ws c) (without ws c))
+      go : (b : Bool) → (w.c == c) ≡ b → t w.c ≡ Some w.target → AreLined u (line_without ws c) → AreLined u (cond (not b) (w ∷ line_without ws c) (line_without ws c))
       go true is own later = later
       go false is own later = (others w.c (eqb-false w.c c is) ∙ own, later)
 

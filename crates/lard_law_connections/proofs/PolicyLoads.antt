@@ -6,45 +6,45 @@ use Rattle.lard_base.specs.declared.config.Config.{Config}
 use Rattle.lard_law_connections.proofs.PolicyAsides.{EachFrom, May}
 use Rattle.lard_law_connections.proofs.PolicyNumbers.{IsNumbered}
 use Rattle.lard_law_connections.proofs.PolicyStanding.{HasNodes, first-within, later-within, one-has}
-use Rattle.lard_counts.specs.Ledger.{Ledger, blank, ledger_step}
+use Rattle.lard_counts.specs.Ledger.{Ledger, blank_ledger, ledger_step}
 use Rattle.lard_law_connections.specs.PolicyLoads.{charge_step, charges}
 use Rattle.lard_dispatch.proofs.Soundness.{is-in, not-in}
 use Rattle.lard_history.proofs.Each.{Each}
 use Rattle.lard_journal.specs.declared.rec.Rec.{Rec}
 use Rattle.lard_journal.specs.declared.rec.Rec.TheVariants as rec
-use Rattle.lard_loads.specs.Charges.{BatchOver, Call, Charge, Connect, MayCallAll, Release, Share, after, after_all, charges_from}
+use Rattle.lard_loads.specs.Charges.{BatchOver, LoadCall, Charge, Connect, MayCallAll, Release, Share, tally_after, tally_after_all, charges_from}
 use Rattle.lard_loads.specs.Charges as loads
-use Rattle.lard_loads.specs.Tally.{Standing, Tally, shares_of, start}
+use Rattle.lard_loads.specs.Tally.{Standing, Tally, shares_of, tally_start}
 use Rattle.lard_loads.proofs.Charged.{IsCharged, all_charged}
 
 -- ---- the calls of the loads that records tell
 
-abbrev calls_by : Rec → List Call
+abbrev calls_by : Rec → List LoadCall
 calls_by (rec.AssignedFirst c r path n add remove) = Connect c n ∷ []
 calls_by (rec.AssignedLater c r path n add size queue) = Share c n size ∷ []
 calls_by (rec.BatchOver c) = BatchOver c ∷ []
 calls_by (rec.Released c) = Release c ∷ []
 calls_by _ = []
 
-abbrev calls_of : List Rec → List Call
+abbrev calls_of : List Rec → List LoadCall
 calls_of [] = []
 calls_of (r ∷ rs) = calls_by r ++ calls_of rs
 
-after-append : (t : Tally) (xs ys : List Call) → after_all t (xs ++ ys) ≡ after_all (after_all t xs) ys
+after-append : (t : Tally) (xs ys : List LoadCall) → tally_after_all t (xs ++ ys) ≡ tally_after_all (tally_after_all t xs) ys
 after-append t [] ys = refl
-after-append t (x ∷ xs) ys = after-append (after t x) xs ys
+after-append t (x ∷ xs) ys = after-append (tally_after t x) xs ys
 
-charges-append : (cs : List Charge) (xs ys : List Call) → charges_from cs (xs ++ ys) ≡ charges_from (charges_from cs xs) ys
+charges-append : (cs : List Charge) (xs ys : List LoadCall) → charges_from cs (xs ++ ys) ≡ charges_from (charges_from cs xs) ys
 charges-append cs [] ys = refl
 charges-append cs (x ∷ xs) ys = charges-append (loads.charged cs x) xs ys
 
-may-append : (t : Tally) (xs ys : List Call) → MayCallAll t xs → MayCallAll (after_all t xs) ys → MayCallAll t (xs ++ ys)
+may-append : (t : Tally) (xs ys : List LoadCall) → MayCallAll t xs → MayCallAll (tally_after_all t xs) ys → MayCallAll t (xs ++ ys)
 may-append t [] ys e f = f
-may-append t (x ∷ xs) ys e f = (e.0, may-append (after t x) xs ys e.1 f)
+may-append t (x ∷ xs) ys e f = (e.0, may-append (tally_after t x) xs ys e.1 f)
 
 -- ---- a record
 
-one-loads : (l : Ledger) (r : Rec) → after_all l.loads (calls_by r) ≡ (ledger_step l r).loads
+one-loads : (l : Ledger) (r : Rec) → tally_after_all l.loads (calls_by r) ≡ (ledger_step l r).loads
 one-loads l (rec.AssignedFirst c r path n add remove) = refl
 one-loads l (rec.AssignedLater c r path n add size queue) = refl
 one-loads l (rec.BatchOver c) = refl
@@ -84,14 +84,14 @@ module _ (cfg : Config) (some : 1 ≤ cfg.nodes) where
   all-may l (r ∷ rs) has numbers may = may-append l.loads (calls_by r) (calls_of rs) (one-may l r has numbers.0 may.0)
       (subst (λ (t : Tally). MayCallAll t (calls_of rs)) (sym (one-loads l r)) (all-may (ledger_step l r) rs (one-has cfg some l has r may.0) numbers.1 may.1))
 
-  all-loads : (l : Ledger) (rs : List Rec) → after_all l.loads (calls_of rs) ≡ (fold ledger_step l rs).loads
+  all-loads : (l : Ledger) (rs : List Rec) → tally_after_all l.loads (calls_of rs) ≡ (fold ledger_step l rs).loads
   all-loads l [] = refl
-  all-loads l (r ∷ rs) = after-append l.loads (calls_by r) (calls_of rs) ∙ ap (λ (t : Tally). after_all t (calls_of rs)) (one-loads l r) ∙ all-loads (ledger_step l r) rs
+  all-loads l (r ∷ rs) = after-append l.loads (calls_by r) (calls_of rs) ∙ ap (λ (t : Tally). tally_after_all t (calls_of rs)) (one-loads l r) ∙ all-loads (ledger_step l r) rs
 
   all-charges : (cs : List Charge) (rs : List Rec) → charges_from cs (calls_of rs) ≡ fold charge_step cs rs
   all-charges cs [] = refl
   all-charges cs (r ∷ rs) = charges-append cs (calls_by r) (calls_of rs) ∙ ap (λ (xs : List Charge). charges_from xs (calls_of rs)) (one-charges cs r) ∙ all-charges (charge_step cs r) rs
 
-  pub charged : (J : List Rec) → HasNodes cfg (blank cfg) → Each IsNumbered J → EachFrom (May cfg) (blank cfg) J → IsCharged (fold ledger_step (blank cfg) J).loads (charges J)
-  charged J has numbers may = subst (λ (t : Tally). IsCharged t (charges J)) (all-loads (blank cfg) J)
-      (subst (IsCharged (after_all (start cfg.nodes) (calls_of J))) (all-charges [] J) (all_charged cfg.nodes (calls_of J) (all-may (blank cfg) J has numbers may)))
+  pub charged : (J : List Rec) → HasNodes cfg (blank_ledger cfg) → Each IsNumbered J → EachFrom (May cfg) (blank_ledger cfg) J → IsCharged (fold ledger_step (blank_ledger cfg) J).loads (charges J)
+  charged J has numbers may = subst (λ (t : Tally). IsCharged t (charges J)) (all-loads (blank_ledger cfg) J)
+      (subst (IsCharged (tally_after_all (tally_start cfg.nodes) (calls_of J))) (all-charges [] J) (all_charged cfg.nodes (calls_of J) (all-may (blank_ledger cfg) J has numbers may)))

@@ -6,8 +6,8 @@ use Rattle.lard_base.specs.declared.event.Event.TheVariants as event
 use Rattle.lard_base.specs.declared.place.Place.{Place}
 use Rattle.lard_base.specs.declared.place.Place.TheVariants.{Front, Node, Client}
 use Rattle.lard_rules.specs.declared.machine.Machine.{Machine}
-use Rattle.lard_rules.specs.Bounds.{HasRule, IsNumber}
-use Rattle.lard_rules.specs.Machine.{IsReached, clocked, machine_step, passed, told}
+use Rattle.lard_rules.specs.Bounds.{HasRule, IsConnNumber}
+use Rattle.lard_rules.specs.Machine.{IsReached, clocked, machine_step, passed, machine_told}
 use Rattle.lard_law_connections.proofs.PolicyAsides.{IsAside, note-aside}
 use Rattle.lard_law_connections.proofs.PolicyCalm.{first-aside, first_rows, last-aside, last_rows, some-gifts-aside, some-timers-aside, told-journal}
 use Rattle.lard_law_view.specs.View.{IsViewed}
@@ -21,12 +21,12 @@ use Rattle.lard_rules.specs.declared.places.Out.{Out}
 use Rattle.lard_law_view.proofs.OwnRecords.{behind}
 
 abbrev pub IsNumbered : Rec → Type 0
-IsNumbered (rec.Waits c) = IsNumber c
-IsNumbered (rec.Admitted c) = IsNumber c
-IsNumbered (rec.Released c) = IsNumber c
-IsNumbered (rec.AssignedFirst c r path n add remove) = IsNumber c
-IsNumbered (rec.AssignedLater c r path n add size queue) = IsNumber c
-IsNumbered (rec.BatchOver c) = IsNumber c
+IsNumbered (rec.Waits c) = IsConnNumber c
+IsNumbered (rec.Admitted c) = IsConnNumber c
+IsNumbered (rec.Released c) = IsConnNumber c
+IsNumbered (rec.AssignedFirst c r path n add remove) = IsConnNumber c
+IsNumbered (rec.AssignedLater c r path n add size queue) = IsConnNumber c
+IsNumbered (rec.BatchOver c) = IsConnNumber c
 IsNumbered _ = Unit {0}
 
 aside-numbered : (r : Rec) → IsAside r → IsNumbered r
@@ -38,16 +38,16 @@ aside-numbered (rec.AssignedLater c r path n add size queue) h = absurd h
 aside-numbered (rec.BatchOver c) h = absurd h
 aside-numbered _ h = tt
 
-note-numbered : (place : Place) (c : ℕ) (r : Rec) → IsNumber c → NotedAt place c r → IsNumbered r
+note-numbered : (place : Place) (c : ℕ) (r : Rec) → IsConnNumber c → NotedAt place c r → IsNumbered r
 note-numbered Front c (rec.Took Front d epoch) n h = tt
 note-numbered Front c (rec.Served Front d r code size via) n h = tt
 note-numbered Front c (rec.Reset Front d total) n h = tt
-note-numbered Front c (rec.Waits d) n h = subst IsNumber (sym h) n
-note-numbered Front c (rec.Admitted d) n h = subst IsNumber (sym h) n
-note-numbered Front c (rec.AssignedFirst d r path k add remove) n h = subst IsNumber (sym h) n
-note-numbered Front c (rec.AssignedLater d r path k add size queue) n h = subst IsNumber (sym h) n
-note-numbered Front c (rec.BatchOver d) n h = subst IsNumber (sym h) n
-note-numbered Front c (rec.Released d) n h = subst IsNumber (sym h) n
+note-numbered Front c (rec.Waits d) n h = subst IsConnNumber (sym h) n
+note-numbered Front c (rec.Admitted d) n h = subst IsConnNumber (sym h) n
+note-numbered Front c (rec.AssignedFirst d r path k add remove) n h = subst IsConnNumber (sym h) n
+note-numbered Front c (rec.AssignedLater d r path k add size queue) n h = subst IsConnNumber (sym h) n
+note-numbered Front c (rec.BatchOver d) n h = subst IsConnNumber (sym h) n
+note-numbered Front c (rec.Released d) n h = subst IsConnNumber (sym h) n
 note-numbered (Node k) c r n h = aside-numbered r (note-aside (Node k) c r tt h)
 note-numbered (Client d) c r n h = aside-numbered r (note-aside (Client d) c r tt h)
 note-numbered _ c _ n h = absurd h
@@ -63,7 +63,7 @@ module _ (m : Machine) where
   passed-adds : (e : Event) (own : List Rec) → Each IsNumbered own → Adds (passed m e own)
   passed-adds e own numbered = (rec.Event (m.events + 1) e ∷ own, refl, (tt, numbered))
 
-  told-adds : (w : Machine) (e : Event) (place : Place) (o : Out) → IsAct m w e place o → Adds (told w e (behind e) place o)
+  told-adds : (w : Machine) (e : Event) (place : Place) (o : Out) → IsAct m w e place o → Adds (machine_told w e (behind e) place o)
   told-adds w e place o act = (
     first_rows w e ++ o.notes ++ last_rows w place o,
     told-journal w e place o ∙ ap (λ (J : List Rec). J ++ (first_rows w e ++ o.notes ++ last_rows w place o)) act.put.journal,

@@ -10,7 +10,7 @@ use Rattle.lard_block.specs.Blocks.{cut_of}
 use Rattle.lard_law_connections.proofs.PolicyAsides.{IsAside}
 use Rattle.lard_endpoint.specs.Control.{finishing}
 use Rattle.lard_endpoint.specs.Moving.{may_freeze}
-use Rattle.lard_rules.specs.FrontReading.{Reading, block_at, reads, reads_block, reads_found, targeted, turn}
+use Rattle.lard_rules.specs.FrontReading.{Reading, block_at, front_reads, reads_block, reads_found, targeted, reading_turn}
 use Rattle.lard_rules.specs.FrontReading as front
 use Rattle.lard_history.proofs.Each.{Each, Each-append}
 use Rattle.lard_journal.specs.declared.rec.Rec.TheVariants as rec
@@ -20,11 +20,11 @@ use Rattle.lard_request.specs.declared.verdict.Verdict.TheVariants.{Fault}
 use Rattle.lard_rules.specs.declared.places.Ending.{Ending}
 use Rattle.lard_rules.specs.declared.places.Turn.{Turn}
 use Rattle.lard_rules.specs.Loop.{Step, More, Done}
-use Rattle.lard_rules.specs.Serving.{ServeEnv, Service, answered, consumed, cut_off, ended_at_fin, may_read, passed_over, queued, settled, spoken}
+use Rattle.lard_rules.specs.Serving.{ServeEnv, Service, answered, serving_consumed, cut_off, ended_at_fin, may_read, passed_over, queued, serving_settled, spoken}
 use Rattle.lard_rules.proofs.Runs.{runs_keep}
 
 -- what was in hand is said, with the notes that it had
-pub settled-notes : (env : ServeEnv) (w : Service) → (settled env w).1.notes ≡ w.notes
+pub settled-notes : (env : ServeEnv) (w : Service) → (serving_settled env w).1.notes ≡ w.notes
 settled-notes env w = go w.over where
   go : (o : Option ℕ) → (elim o as (λ p. Ending × Turn) [ None ↦ spoken env w [] | Some total ↦ cut_off env w ]).1.notes ≡ w.notes
   go None = refl
@@ -53,20 +53,20 @@ targeted-notes : (path : List ℕ) (x : Reading) → Notes x.service → Notes (
 targeted-notes path x h = cond_both (may_freeze x.service.block) (record x { target = Some path }) x (λ y. Notes y.service) (λ t. h) (λ t. h)
 
 block-notes : (env : ServeEnv) (x : Reading) (n : ℕ) (v : Verdict) (o : Option (List ℕ)) → Notes x.service → ReadsSo (reads_block env x n v o)
-block-notes env x n v None h = answered-notes env Own v (consumed n x.service) h
+block-notes env x n v None h = answered-notes env Own v (serving_consumed n x.service) h
 block-notes env x n v (Some path) h = targeted-notes path x h
 
 found-notes : (env : ServeEnv) (x : Reading) (f : Found) → Notes x.service → ReadsSo (reads_found env x f)
-found-notes env x (found.More skip) h = ended-notes (consumed skip x.service) h
+found-notes env x (found.More skip) h = ended-notes (serving_consumed skip x.service) h
 found-notes env x (found.Block skip len) h = block-notes env x (skip + len) (block_at x skip len) (good_path env.files (block_at x skip len)) h
-found-notes env x (found.TooLong skip) h = answered-notes env Own (Fault code.FieldsTooLarge) (consumed (length x.service.block.recv.unread) x.service) h
+found-notes env x (found.TooLong skip) h = answered-notes env Own (Fault code.FieldsTooLarge) (serving_consumed (length x.service.block.recv.unread) x.service) h
 
-turn-notes : (env : ServeEnv) (x : Reading) → Notes x.service → ReadsSo (turn env x)
+turn-notes : (env : ServeEnv) (x : Reading) → Notes x.service → ReadsSo (reading_turn env x)
 turn-notes env x h = cond_both (may_read x.service) (reads_found env x (cut_of x.service.block.recv.unread)) (Done x) ReadsSo
     (λ t. found-notes env x (cut_of x.service.block.recv.unread) h) (λ t. h)
 
-pub reads-notes : (env : ServeEnv) (x : Reading) → Notes x.service → Notes (reads env x).service
-reads-notes env x h = runs_keep (turn env) front.left (λ y. Notes y.service) (record {
+pub reads-notes : (env : ServeEnv) (x : Reading) → Notes x.service → Notes (front_reads env x).service
+reads-notes env x h = runs_keep (reading_turn env) front.reading_left (λ y. Notes y.service) (record {
   more = λ y z e p. subst ReadsSo e (turn-notes env y p);
   done = λ y z e p. subst ReadsSo e (turn-notes env y p);
 }) x h

@@ -8,7 +8,7 @@ use Rattle.lard_base.specs.declared.ids.Millis.{Millis}
 use Rattle.lard_base.specs.Members.{has}
 use Rattle.lard_law_connections.proofs.PolicyAsides.{EachFrom, May}
 use Rattle.lard_law_connections.proofs.PolicyStanding.{HasNodes, first-within, later-within, one-has}
-use Rattle.lard_counts.specs.Ledger.{Ledger, blank, ledger_step, server_set}
+use Rattle.lard_counts.specs.Ledger.{Ledger, blank_ledger, ledger_step, server_set}
 use Rattle.lard_law_connections.specs.PolicyServers.{Dated, dated, dated_step, last_mod, serves_step, taken_in, taken_out}
 use Rattle.lard_law_connections.specs.PolicyServers as told
 use Rattle.lard_dispatch.specs.Calls.{joined, reduced}
@@ -16,8 +16,8 @@ use Rattle.lard_dispatch.specs.Sound.{IsNode}
 use Rattle.lard_journal.specs.declared.rec.Rec.{Rec}
 use Rattle.lard_journal.specs.declared.rec.Rec.TheVariants as rec
 use Rattle.lard_sets.specs.declared.sets.ServerSet.{ServerSet}
-use Rattle.lard_sets.specs.Laws.{Call, NameNodes, RemoveKept, after_call, after_calls, changed, changed_after, serves, serves_after}
-use Rattle.lard_sets.specs.Laws.Call.{Touch, Add, Remove, Close}
+use Rattle.lard_sets.specs.Laws.{SetCall, NameNodes, RemoveKept, sets_after_call, sets_after_calls, changed, changed_after, serves_after_all, serves_after}
+use Rattle.lard_sets.specs.Laws.SetCall.{Touch, Add, Remove, Close}
 use Rattle.lard_sets.specs.Sets.{added, has_place, place, put, removed, set_of, touched}
 use Rattle.lard_sets.proofs.Changes.{last_change, last_decides, place-put}
 
@@ -26,65 +26,65 @@ Sets = List (List ℕ × ServerSet)
 
 -- ---- lists of calls
 
-after-append : (sets : Sets) (xs ys : List Call) → after_calls sets (xs ++ ys) ≡ after_calls (after_calls sets xs) ys
+after-append : (sets : Sets) (xs ys : List SetCall) → sets_after_calls sets (xs ++ ys) ≡ sets_after_calls (sets_after_calls sets xs) ys
 after-append sets [] ys = refl
-after-append sets (x ∷ xs) ys = after-append (after_call sets x) xs ys
+after-append sets (x ∷ xs) ys = after-append (sets_after_call sets x) xs ys
 
-name-append : (xs ys : List Call) → NameNodes xs → NameNodes ys → NameNodes (xs ++ ys)
+name-append : (xs ys : List SetCall) → NameNodes xs → NameNodes ys → NameNodes (xs ++ ys)
 name-append [] ys e f = f
 name-append (Touch t ∷ xs) ys e f = name-append xs ys e f
 name-append (Add t n now ∷ xs) ys e f = (e.0, name-append xs ys e.1 f)
 name-append (Remove t n now ∷ xs) ys e f = (e.0, name-append xs ys e.1 f)
 name-append (Close n ∷ xs) ys e f = (e.0, name-append xs ys e.1 f)
 
-kept-append : (sets : Sets) (xs ys : List Call) → RemoveKept sets xs → RemoveKept (after_calls sets xs) ys → RemoveKept sets (xs ++ ys)
+kept-append : (sets : Sets) (xs ys : List SetCall) → RemoveKept sets xs → RemoveKept (sets_after_calls sets xs) ys → RemoveKept sets (xs ++ ys)
 kept-append sets [] ys e f = f
 kept-append sets (Touch t ∷ xs) ys e f = kept-append (touched sets t) xs ys e f
 kept-append sets (Add t n now ∷ xs) ys e f = kept-append (added sets t n now) xs ys e f
 kept-append sets (Remove t n now ∷ xs) ys e f = (e.0, kept-append (removed sets t n now) xs ys e.1 f)
-kept-append sets (Close n ∷ xs) ys e f = kept-append (after_call sets (Close n)) xs ys e f
+kept-append sets (Close n ∷ xs) ys e f = kept-append (sets_after_call sets (Close n)) xs ys e f
 
-serves-append : (t : List ℕ) (k : ℕ) (was : Bool) (xs ys : List Call) → serves t k was (xs ++ ys) ≡ serves t k (serves t k was xs) ys
+serves-append : (t : List ℕ) (k : ℕ) (was : Bool) (xs ys : List SetCall) → serves_after_all t k was (xs ++ ys) ≡ serves_after_all t k (serves_after_all t k was xs) ys
 serves-append t k was [] ys = refl
 serves-append t k was (x ∷ xs) ys = serves-append t k (serves_after t k was x) xs ys
 
-changed-append : (t : List ℕ) (last : Millis) (xs ys : List Call) → changed t last (xs ++ ys) ≡ changed t (changed t last xs) ys
+changed-append : (t : List ℕ) (last : Millis) (xs ys : List SetCall) → changed t last (xs ++ ys) ≡ changed t (changed t last xs) ys
 changed-append t last [] ys = refl
 changed-append t last (x ∷ xs) ys = changed-append t (changed_after t last x) xs ys
 
 -- ---- the calls that an assignment tells
 
-abbrev add_calls : List ℕ → Option ℕ → Millis → List Call
+abbrev add_calls : List ℕ → Option ℕ → Millis → List SetCall
 add_calls path None now = []
 add_calls path (Some n) now = Add path n now ∷ []
 
-abbrev remove_calls : List ℕ → Option ℕ → Millis → List Call
+abbrev remove_calls : List ℕ → Option ℕ → Millis → List SetCall
 remove_calls path None now = []
 remove_calls path (Some n) now = Remove path n now ∷ []
 
-abbrev calls_by : Millis → Rec → List Call
+abbrev calls_by : Millis → Rec → List SetCall
 calls_by now (rec.AssignedFirst c r path n add remove) = Touch path ∷ (add_calls path add now ++ remove_calls path remove now)
 calls_by now (rec.AssignedLater c r path n add size queue) = Touch path ∷ add_calls path add now
 calls_by now _ = []
 
-abbrev calls_of : Ledger → List Rec → List Call
+abbrev calls_of : Ledger → List Rec → List SetCall
 calls_of l [] = []
 calls_of l (r ∷ rs) = calls_by l.now r ++ calls_of (ledger_step l r) rs
 
 -- ---- of one assignment
 
-joined-is : (sets : Sets) (path : List ℕ) (add : Option ℕ) (now : Millis) → after_calls sets (add_calls path add now) ≡ joined sets path add now
+joined-is : (sets : Sets) (path : List ℕ) (add : Option ℕ) (now : Millis) → sets_after_calls sets (add_calls path add now) ≡ joined sets path add now
 joined-is sets path None now = refl
 joined-is sets path (Some n) now = refl
 
-reduced-is : (sets : Sets) (path : List ℕ) (remove : Option ℕ) (now : Millis) → after_calls sets (remove_calls path remove now) ≡ reduced sets path remove now
+reduced-is : (sets : Sets) (path : List ℕ) (remove : Option ℕ) (now : Millis) → sets_after_calls sets (remove_calls path remove now) ≡ reduced sets path remove now
 reduced-is sets path None now = refl
 reduced-is sets path (Some n) now = refl
 
-one-sets : (l : Ledger) (r : Rec) → after_calls l.sets (calls_by l.now r) ≡ (ledger_step l r).sets
+one-sets : (l : Ledger) (r : Rec) → sets_after_calls l.sets (calls_by l.now r) ≡ (ledger_step l r).sets
 one-sets l (rec.AssignedFirst c r path n add remove) =
     after-append (touched l.sets path) (add_calls path add l.now) (remove_calls path remove l.now)
-    ∙ ap (λ (s : Sets). after_calls s (remove_calls path remove l.now)) (joined-is (touched l.sets path) path add l.now)
+    ∙ ap (λ (s : Sets). sets_after_calls s (remove_calls path remove l.now)) (joined-is (touched l.sets path) path add l.now)
     ∙ reduced-is (joined (touched l.sets path) path add l.now) path remove l.now
 one-sets l (rec.AssignedLater c r path n add size queue) = joined-is (touched l.sets path) path add l.now
 one-sets l (rec.Clock time) = refl
@@ -111,7 +111,7 @@ removes-keep sets path (Some n) now there = (there, tt)
 
 one-kept : (l : Ledger) (r : Rec) → RemoveKept l.sets (calls_by l.now r)
 one-kept l (rec.AssignedFirst c r path n add remove) = kept-append (touched l.sets path) (add_calls path add l.now) (remove_calls path remove l.now) (adds-keep (touched l.sets path) path add l.now)
-    (removes-keep (after_calls (touched l.sets path) (add_calls path add l.now)) path remove l.now
+    (removes-keep (sets_after_calls (touched l.sets path) (add_calls path add l.now)) path remove l.now
     (ap (λ (s : Sets). has_place s path) (joined-is (touched l.sets path) path add l.now) ∙ joined-there l.sets path add l.now))
 one-kept l (rec.AssignedLater c r path n add size queue) = adds-keep (touched l.sets path) path add l.now
 one-kept l _ = tt
@@ -127,7 +127,7 @@ removes-name nodes path (Some n) now h = (h.0, tt)
 -- ---- who serves
 
 module _ (t : List ℕ) (k : ℕ) where
-  adds-serve : (was : Bool) (path : List ℕ) (add : Option ℕ) (now : Millis) → serves t k was (add_calls path add now) ≡ cond (bytes_eq t path) (taken_in k add was) was
+  adds-serve : (was : Bool) (path : List ℕ) (add : Option ℕ) (now : Millis) → serves_after_all t k was (add_calls path add now) ≡ cond (bytes_eq t path) (taken_in k add was) was
   adds-serve was path None now = go (bytes_eq t path) where
     go : (b : Bool) → was ≡ cond b was was
     go true = refl
@@ -137,7 +137,7 @@ module _ (t : List ℕ) (k : ℕ) where
     go true = refl
     go false = refl
 
-  removes-serve : (was : Bool) (path : List ℕ) (remove : Option ℕ) (now : Millis) → serves t k was (remove_calls path remove now) ≡ cond (bytes_eq t path) (taken_out k remove was) was
+  removes-serve : (was : Bool) (path : List ℕ) (remove : Option ℕ) (now : Millis) → serves_after_all t k was (remove_calls path remove now) ≡ cond (bytes_eq t path) (taken_out k remove was) was
   removes-serve was path None now = go (bytes_eq t path) where
     go : (b : Bool) → was ≡ cond b was was
     go true = refl
@@ -147,10 +147,10 @@ module _ (t : List ℕ) (k : ℕ) where
     go true = refl
     go false = refl
 
-  one-serves : (now : Millis) (was : Bool) (r : Rec) → serves t k was (calls_by now r) ≡ serves_step t k was r
+  one-serves : (now : Millis) (was : Bool) (r : Rec) → serves_after_all t k was (calls_by now r) ≡ serves_step t k was r
   one-serves now was (rec.AssignedFirst c r path n add remove) =
       serves-append t k was (add_calls path add now) (remove_calls path remove now)
-      ∙ ap (λ (b : Bool). serves t k b (remove_calls path remove now)) (adds-serve was path add now)
+      ∙ ap (λ (b : Bool). serves_after_all t k b (remove_calls path remove now)) (adds-serve was path add now)
       ∙ removes-serve (cond (bytes_eq t path) (taken_in k add was) was) path remove now
       ∙ go (bytes_eq t path) where
         go : (b : Bool) → cond b (taken_out k remove (cond b (taken_in k add was) was)) (cond b (taken_in k add was) was) ≡ cond b (taken_out k remove (taken_in k add was)) was
@@ -159,10 +159,10 @@ module _ (t : List ℕ) (k : ℕ) where
   one-serves now was (rec.AssignedLater c r path n add size queue) = adds-serve was path add now
   one-serves now was _ = refl
 
-  all-serves : (l : Ledger) (was : Bool) (rs : List Rec) → serves t k was (calls_of l rs) ≡ fold (serves_step t k) was rs
+  all-serves : (l : Ledger) (was : Bool) (rs : List Rec) → serves_after_all t k was (calls_of l rs) ≡ fold (serves_step t k) was rs
   all-serves l was [] = refl
   all-serves l was (r ∷ rs) = serves-append t k was (calls_by l.now r) (calls_of (ledger_step l r) rs)
-      ∙ ap (λ (b : Bool). serves t k b (calls_of (ledger_step l r) rs)) (one-serves l.now was r) ∙ all-serves (ledger_step l r) (serves_step t k was r) rs
+      ∙ ap (λ (b : Bool). serves_after_all t k b (calls_of (ledger_step l r) rs)) (one-serves l.now was r) ∙ all-serves (ledger_step l r) (serves_step t k was r) rs
 
 -- ---- when
 
@@ -234,9 +234,9 @@ module _ (t : List ℕ) where
 
 -- ---- a journal
 
-all-sets : (l : Ledger) (rs : List Rec) → after_calls l.sets (calls_of l rs) ≡ (fold ledger_step l rs).sets
+all-sets : (l : Ledger) (rs : List Rec) → sets_after_calls l.sets (calls_of l rs) ≡ (fold ledger_step l rs).sets
 all-sets l [] = refl
-all-sets l (r ∷ rs) = after-append l.sets (calls_by l.now r) (calls_of (ledger_step l r) rs) ∙ ap (λ (s : Sets). after_calls s (calls_of (ledger_step l r) rs)) (one-sets l r) ∙ all-sets (ledger_step l r) rs
+all-sets l (r ∷ rs) = after-append l.sets (calls_by l.now r) (calls_of (ledger_step l r) rs) ∙ ap (λ (s : Sets). sets_after_calls s (calls_of (ledger_step l r) rs)) (one-sets l r) ∙ all-sets (ledger_step l r) rs
 
 all-kept : (l : Ledger) (rs : List Rec) → RemoveKept l.sets (calls_of l rs)
 all-kept l [] = tt
@@ -255,9 +255,9 @@ module _ (cfg : Config) (some : 1 ≤ cfg.nodes) where
   all-name l [] has may = tt
   all-name l (r ∷ rs) has may = name-append (calls_by l.now r) (calls_of (ledger_step l r) rs) (one-names l r has may.0) (all-name (ledger_step l r) rs (one-has cfg some l has r may.0) may.1)
 
-  pub served : (J : List Rec) → HasNodes cfg (blank cfg) → EachFrom (May cfg) (blank cfg) J → (path : List ℕ) (k : ℕ) → 1 ≤ k
-      → has (server_set (fold ledger_step (blank cfg) J) path).members k ≡ told.serves J path k
-  served J has_ may path k low = ap (λ (s : Sets). has (set_of s path).members k) (sym (all-sets (blank cfg) J)) ∙ last_decides (calls_of (blank cfg) J) path k low (all-name (blank cfg) J has_ may) ∙ all-serves path k (blank cfg) false J
+  pub served : (J : List Rec) → HasNodes cfg (blank_ledger cfg) → EachFrom (May cfg) (blank_ledger cfg) J → (path : List ℕ) (k : ℕ) → 1 ≤ k
+      → has (server_set (fold ledger_step (blank_ledger cfg) J) path).members k ≡ told.serves J path k
+  served J has_ may path k low = ap (λ (s : Sets). has (set_of s path).members k) (sym (all-sets (blank_ledger cfg) J)) ∙ last_decides (calls_of (blank_ledger cfg) J) path k low (all-name (blank_ledger cfg) J has_ may) ∙ all-serves path k (blank_ledger cfg) false J
 
-  pub modified : (J : List Rec) (path : List ℕ) → (server_set (fold ledger_step (blank cfg) J) path).modified ≡ last_mod J path
-  modified J path = ap (λ (s : Sets). (set_of s path).modified) (sym (all-sets (blank cfg) J)) ∙ last_change (calls_of (blank cfg) J) path (all-kept (blank cfg) J) ∙ all-dates path (blank cfg) (record { 0 = 0 }) J
+  pub modified : (J : List Rec) (path : List ℕ) → (server_set (fold ledger_step (blank_ledger cfg) J) path).modified ≡ last_mod J path
+  modified J path = ap (λ (s : Sets). (set_of s path).modified) (sym (all-sets (blank_ledger cfg) J)) ∙ last_change (calls_of (blank_ledger cfg) J) path (all-kept (blank_ledger cfg) J) ∙ all-dates path (blank_ledger cfg) (record { 0 = 0 }) J

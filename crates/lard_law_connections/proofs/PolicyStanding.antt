@@ -6,12 +6,12 @@ use Rattle.std.specs.List.{AllByRecursion, fold, range_with_len}
 use Rattle.lard_base.specs.Config.{config_check}
 use Rattle.lard_base.specs.declared.config.Config.{Config}
 use Rattle.lard_law_connections.proofs.PolicyAsides.{EachFrom, May}
-use Rattle.lard_counts.specs.Ledger.{Ledger, blank, ledger_step, server_set}
+use Rattle.lard_counts.specs.Ledger.{Ledger, blank_ledger, ledger_step, server_set}
 use Rattle.lard_costs.specs.declared.later.LaterChoice.{LaterChoice}
 use Rattle.lard_costs.specs.Later.{later_choice}
-use Rattle.lard_dispatch.specs.Books.{begun}
+use Rattle.lard_dispatch.specs.Books.{dispatch_begun}
 use Rattle.lard_dispatch.specs.Calls.{joined}
-use Rattle.lard_dispatch.specs.Sound.{AreAtNodes, AreServedByNodes, IsNode, IsSound}
+use Rattle.lard_dispatch.specs.Sound.{AreAtNodes, AreServedByNodes, IsNode, IsDispatcherSound}
 use Rattle.lard_dispatch.proofs.AllCalls.{some-node}
 use Rattle.lard_dispatch.proofs.Chosen.{IsChosen, all-numbers, choice-within}
 use Rattle.lard_dispatch.proofs.Counted.{later-has}
@@ -21,7 +21,7 @@ use Rattle.lard_dispatch.proofs.Soundness.{begun-sound, home-node}
 use Rattle.lard_dispatch.proofs.Standing.{at-nodes-put}
 use Rattle.lard_journal.specs.declared.rec.Rec.{Rec}
 use Rattle.lard_journal.specs.declared.rec.Rec.TheVariants as rec
-use Rattle.lard_loads.specs.Tally.{Standing, Tally, batch_ended, ending, home, numbers, shared, sharing}
+use Rattle.lard_loads.specs.Tally.{Standing, Tally, batch_ended, batch_ended_with, home, numbers, shared, sharing}
 use Rattle.lard_policy.specs.declared.first.FirstChoice.{FirstChoice}
 use Rattle.lard_policy.specs.First.{first_choice}
 use Rattle.lard_sets.specs.Sets.{touched}
@@ -55,7 +55,7 @@ shared-stays cfg t c n size = go (map.get t.standings c) refl where
 
 ended-stays : (cfg : Config) (t : Tally) (c : ℕ) → Stays cfg t (batch_ended t c)
 ended-stays cfg t c = go (map.get t.standings c) refl where
-  go : (o : Option Standing) → map.get t.standings c ≡ o → Stays cfg t (ending t c o)
+  go : (o : Option Standing) → map.get t.standings c ≡ o → Stays cfg t (batch_ended_with t c o)
   go None e = record { nodes = refl; open_nodes = refl; homes = λ h. h }
   go (Some s) e = put-stays cfg t c s _ e refl
 
@@ -116,8 +116,8 @@ module _ (cfg : Config) (some : 1 ≤ cfg.nodes) (l : Ledger) (has : HasNodes cf
   one-has (rec.Admitted c) may = record { nodes = has.nodes; open_nodes = has.open_nodes; homes = has.homes; served = has.served }
   one-has _ may = has
 
-pub blank-has : (cfg : Config) → config_check cfg ≡ Ok tt → HasNodes cfg (blank cfg)
-blank-has cfg checked = let sound : IsSound (begun cfg) = begun-sound cfg checked (some-node cfg checked) in record { nodes = refl; open_nodes = refl; homes = sound.at_nodes; served = sound.served }
+pub blank-has : (cfg : Config) → config_check cfg ≡ Ok tt → HasNodes cfg (blank_ledger cfg)
+blank-has cfg checked = let sound : IsDispatcherSound (dispatch_begun cfg) = begun-sound cfg checked (some-node cfg checked) in record { nodes = refl; open_nodes = refl; homes = sound.at_nodes; served = sound.served }
 
 -- ---- a journal
 

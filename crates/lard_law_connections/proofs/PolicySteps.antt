@@ -18,17 +18,17 @@ use Rattle.lard_law_connections.proofs.PolicyOrder.{IsOrdered, alone-ordered, no
 use Rattle.lard_law_connections.proofs.PolicyWaiting.{Leaves, head-within, idle-leaves}
 use Rattle.lard_dispatch.specs.declared.line.Waiting.{Waiting}
 use Rattle.lard_dispatch.specs.Books.{Books, Dispatcher}
-use Rattle.lard_dispatch.specs.Calls.{next_admitted, next_answer, released_from}
-use Rattle.lard_dispatch.specs.Line.{waits}
+use Rattle.lard_dispatch.specs.Calls.{next_admitted, next_admission, released_from}
+use Rattle.lard_dispatch.specs.Line.{line_waits}
 use Rattle.lard_dispatch.specs.Sound.{AreApart}
 use Rattle.lard_dispatch.proofs.AllCalls.{configs-stay}
 use Rattle.lard_dispatch.proofs.Soundness.{free-first, is-in}
 use Rattle.lard_endpoint.specs.declared.control.moving.Final.{Final}
 use Rattle.lard_rules.specs.declared.front.FrontState.{FrontState}
 use Rattle.lard_rules.specs.declared.front.FrontTurn.{FrontTurn}
-use Rattle.lard_rules.specs.Front.{Deed, Drops, Says, Does, Did, FrontEnv, FrontPart, ask_of, ended_by, ends, front_armed, front_asked, front_ended, front_gets, front_taken, front_timer, handed_off}
-use Rattle.lard_rules.specs.FrontPlace.{FrontSetting, admits, admits_too, ended_deed, front_deed, front_did, front_env, front_part, front_put, front_step, front_told, in_order, message_comes, out_of, put_back, timers_of}
-use Rattle.lard_rules.specs.FrontSound.{IsFrontSound, Standing, Waits, standing}
+use Rattle.lard_rules.specs.Front.{FrontDeed, Drops, Says, Does, Did, FrontEnv, FrontPart, ask_of, front_ended_by, front_ends, front_armed, front_asked, front_ended, front_gets, front_taken, front_timer, handed_off}
+use Rattle.lard_rules.specs.FrontPlace.{FrontSetting, admits, admits_too, ended_deed, front_deed, front_did, front_env, front_part, front_put, front_step, front_told, in_order, message_comes, front_out_of, put_back, front_timers}
+use Rattle.lard_rules.specs.FrontSound.{IsFrontSound, DispatchStanding, Waits, dispatch_standing}
 use Rattle.lard_rules.proofs.FrontDeeds.{IsOf}
 use Rattle.lard_rules.proofs.FrontEnded.{Comes, IsAdmitted, chosen, end-comes, head-apart, head-given, head-waiting, may-end}
 use Rattle.lard_handoff_front.specs.declared.row.FrontRow.{FrontRow}
@@ -50,7 +50,7 @@ use Rattle.lard_policy.specs.declared.first.FirstChoice.{FirstChoice}
 use Rattle.lard_rules.specs.declared.front.FrontIn.{FrontIn}
 use Rattle.lard_rules.specs.declared.front.FrontIn.TheVariants as input
 use Rattle.lard_rules.specs.declared.places.Out.{Out}
-use Rattle.lard_rules.specs.Outs.{kind_change, kinds, nothing_done}
+use Rattle.lard_rules.specs.Outs.{kind_change, timer_kinds, nothing_done}
 use Rattle.lard_rules.specs.Serving.{serving}
 use Rattle.lard_segment.specs.declared.segment.Dir.TheVariants.{ToCluster}
 use Rattle.lard_segment.specs.Segment.{decoded}
@@ -69,8 +69,8 @@ changes-aside c was is [] = tt
 changes-aside c was is (kind ∷ kinds) =
     Each-append IsAside (kind_change place.Front c kind (was kind) (is kind)) (flat_map (λ kind. kind_change place.Front c kind (was kind) (is kind)) kinds) (one-aside c kind (was kind) (is kind)) (changes-aside c was is kinds)
 
-timers-aside : (c : ℕ) (p q : FrontPart) → Each IsAside (timers_of c p q)
-timers-aside c p q = changes-aside c (front_armed p) (front_armed q) kinds
+timers-aside : (c : ℕ) (p q : FrontPart) → Each IsAside (front_timers c p q)
+timers-aside c p q = changes-aside c (front_armed p) (front_armed q) timer_kinds
 
 ordered-aside : (c d : ℕ) (cs ds : List Rec) → Each IsAside cs → Each IsAside ds → Each IsAside (in_order c d cs ds)
 ordered-aside c d cs ds h k = cond_both (nat_lt d c) (ds ++ cs) (cs ++ ds) (Each IsAside) (λ t. Each-append IsAside ds cs k h) (λ t. Each-append IsAside cs ds h k)
@@ -101,14 +101,14 @@ targets-other : (s : FrontState) (c : ℕ) (p : FrontPart) (q : ℕ) → (q ≡ 
 targets-other s c p q n = ap target_of (get_put_other s.rests c q p.rest n)
 
 -- an end that is told again is acknowledged, and nothing else is said
-abbrev SaysMute : Deed → Type 0
+abbrev SaysMute : FrontDeed → Type 0
 SaysMute Drops = Unit {0}
 SaysMute (Says t) = IsMute t
 SaysMute (Does x) = Unit {0}
 
 front-mute : (env : FrontEnv) (p : FrontPart) (from epoch : ℕ) (last : Final) → SaysMute (front_ended env p from epoch last)
 front-mute env p from epoch last = go p.row (end_answer epoch p.row) where
-  go : (o : Option FrontRow) (given : OnEnded) → SaysMute (ended_by env p from epoch last o given)
+  go : (o : Option FrontRow) (given : OnEnded) → SaysMute (front_ended_by env p from epoch last o given)
   go None given = tt
   go (Some row) (New next) = tt
   go (Some row) Again = record { notes = refl; gave = refl }
@@ -121,7 +121,7 @@ module _ (k : FrontSetting) (s : FrontState) (sound : IsFrontSound s) (lined : A
   still-tells : Fine (s, nothing_done)
   still-tells = record { leads = aside-leads s.dispatch.config k.now ins s.dispatch.books in_ [] tt; gave = tt; timers = tt; lined = lined; config = refl; ordered = none-ordered s.dispatch.books.line [] tt; waits = idle-leaves s.dispatch.books.line [] tt }
 
-  says-tells : (t : FrontTurn) → IsMute t → Fine (s, out_of t [])
+  says-tells : (t : FrontTurn) → IsMute t → Fine (s, front_out_of t [])
   says-tells t mute = record {
     leads = aside-leads s.dispatch.config k.now ins s.dispatch.books in_ t.notes (subst (Each IsAside) (sym mute.notes) tt);
     gave = subst (Each IsAside) (sym mute.gave) tt;
@@ -143,7 +143,7 @@ module _ (k : FrontSetting) (s : FrontState) (sound : IsFrontSound s) (lined : A
     waits = h.waits;
   }
 
-  deed-tells : (c : ℕ) (deed : Deed) → DeedTells s.dispatch c k.now ins (front_part s c) deed → Fine (front_deed s c deed)
+  deed-tells : (c : ℕ) (deed : FrontDeed) → DeedTells s.dispatch c k.now ins (front_part s c) deed → Fine (front_deed s c deed)
   deed-tells c Drops h = still-tells
   deed-tells c (Says t) h = says-tells t h
   deed-tells c (Does x) h = did-tells c x h
@@ -153,12 +153,12 @@ module _ (k : FrontSetting) (s : FrontState) (sound : IsFrontSound s) (lined : A
 
   -- ---- where a connection ended
 
-  module _ (c from epoch : ℕ) (last : Final) (row : FrontRow) (admitted_ : IsAdmitted (standing s.dispatch c)) where
+  module _ (c from epoch : ℕ) (last : Final) (row : FrontRow) (admitted_ : IsAdmitted (dispatch_standing s.dispatch c)) where
     abbrev d : Dispatcher
     d = s.dispatch
 
     abbrev did : Did
-    did = ends (front_env k s c 0) (front_part s c) from epoch last row (next_epoch row)
+    did = front_ends (front_env k s c 0) (front_part s c) from epoch last row (next_epoch row)
 
     abbrev after : FrontState
     after = put_back s c did
@@ -172,7 +172,7 @@ module _ (k : FrontSetting) (s : FrontState) (sound : IsFrontSound s) (lined : A
     released-tells : Leads d.config k.now ins d.books (rec.Took place.Front c (next_epoch row) ∷ rec.Released c ∷ []) (released_from d.books c)
     released-tells = release-leads d.config k.now ins d.books in_ c (next_epoch row) there
 
-    alone-tells : d.books.line ≡ [] → Fine (after, out_of did.turn (timers_of c (front_part s c) did.part))
+    alone-tells : d.books.line ≡ [] → Fine (after, front_out_of did.turn (front_timers c (front_part s c) did.part))
     alone-tells none = record {
       leads = subst (λ (l : List Waiting). Leads d.config k.now ins d.books (rec.Took place.Front c (next_epoch row) ∷ rec.Released c ∷ []) (books_with l)) (sym none) released-tells;
       gave = tt;
@@ -229,16 +229,16 @@ module _ (k : FrontSetting) (s : FrontState) (sound : IsFrontSound s) (lined : A
       -- who is behind it waits on
       rest-lined : (h : Waits (front_part after w.c)) → AreLined (targets (front_put after w.c (given_by h).0)) ws
       rest-lined h =
-          let mine : waits (w ∷ ws) c ≡ false = subst (λ (l : List Waiting). waits l c ≡ false) line (ap (λ (x : Standing). x.waits) admitted_.1) in
+          let mine : line_waits (w ∷ ws) c ≡ false = subst (λ (l : List Waiting). line_waits l c ≡ false) line (ap (λ (x : DispatchStanding). x.waits) admitted_.1) in
           lined-absent (targets after) (targets (front_put after w.c (given_by h).0)) w.c (targets-other after w.c (given_by h).0) ws apart.1
-          (lined-absent (targets s) (targets after) c (targets-other s c did.part) ws (second-false (w.c == c) (waits ws c) mine) lined-here.1)
+          (lined-absent (targets s) (targets after) c (targets-other s c did.part) ws (second-false (w.c == c) (line_waits ws c) mine) lined-here.1)
 
       handed-tells : (h : Waits (front_part after w.c)) → Fine (admits_too s after c did w.c (Some (given_by h)))
       handed-tells h = record {
         leads = subst (λ (l : List Waiting). Leads d.config k.now ins d.books ((rec.Took place.Front c (next_epoch row) ∷ rec.Released c ∷ []) ++ head_notes (h.rest.count + 1) h.path) (books_with l)) (sym line)
             (both-tell (h.rest.count + 1) h.path (same-path h));
         gave = (tt, tt);
-        timers = ordered-aside c w.c (timers_of c (front_part s c) did.part) (timers_of w.c (front_part after w.c) (given_by h).0) (timers-aside c (front_part s c) did.part)
+        timers = ordered-aside c w.c (front_timers c (front_part s c) did.part) (front_timers w.c (front_part after w.c) (given_by h).0) (timers-aside c (front_part s c) did.part)
             (timers-aside w.c (front_part after w.c) (given_by h).0);
         lined = subst (λ (l : List Waiting). AreLined (targets (front_put after w.c (given_by h).0)) (books_with l).line) (sym line) (rest-lined h);
         config = refl;
@@ -248,18 +248,18 @@ module _ (k : FrontSetting) (s : FrontState) (sound : IsFrontSound s) (lined : A
             (λ ys within. head-within w ws ys apart.1 within);
       }
 
-      head-tells : Fine (admits k s after c did (next_answer d.config k.now (released_from d.books c) (w ∷ ws)))
+      head-tells : Fine (admits k s after c did (next_admission d.config k.now (released_from d.books c) (w ∷ ws)))
       unfolding head
       head-tells = subst (λ (o : Option (FrontPart × FrontTurn)). Fine (admits_too s after c did w.c o)) (sym (head-given k s sound c from epoch last row admitted_ w ws line)) (handed-tells head)
 
-    end-tells : (ws : List Waiting) → d.books.line ≡ ws → Fine (admits k s after c did (next_answer d.config k.now (released_from d.books c) ws))
+    end-tells : (ws : List Waiting) → d.books.line ≡ ws → Fine (admits k s after c did (next_admission d.config k.now (released_from d.books c) ws))
     end-tells [] line = alone-tells line
     end-tells (w ∷ ws) line = head-tells w ws line
 
   ended-tells : (c from epoch : ℕ) (last : Final) → Fine (ended_deed k s c (front_ended (front_env k s c 0) (front_part s c) from epoch last))
-  ended-tells c from epoch last = go (front_ended (front_env k s c 0) (front_part s c) from epoch last) (end-comes (front_env k s c 0) (front_part s c) from epoch last (standing s.dispatch c) (sound.each c))
+  ended-tells c from epoch last = go (front_ended (front_env k s c 0) (front_part s c) from epoch last) (end-comes (front_env k s c 0) (front_part s c) from epoch last (dispatch_standing s.dispatch c) (sound.each c))
       (front-mute (front_env k s c 0) (front_part s c) from epoch last) where
-        go : (deed : Deed) → Comes (front_env k s c 0) (front_part s c) from epoch last (standing s.dispatch c) deed → SaysMute deed → Fine (ended_deed k s c deed)
+        go : (deed : FrontDeed) → Comes (front_env k s c 0) (front_part s c) from epoch last (dispatch_standing s.dispatch c) deed → SaysMute deed → Fine (ended_deed k s c deed)
         go Drops comes mute = still-tells
         go (Says t) comes mute = says-tells t mute
         go (Does x) comes mute = subst (λ y. Fine (ended_deed k s c (Does y))) (sym comes.1) (end-tells c from epoch last comes.0 comes.2 s.dispatch.books.line refl)

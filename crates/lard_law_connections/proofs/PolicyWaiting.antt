@@ -4,11 +4,11 @@ use Rattle.std.proofs.lemmas.Bool.{eqb-false}
 use Rattle.std.proofs.lemmas.List.Sums.{fold-append}
 use Rattle.std.specs.List.{filter, fold}
 use Rattle.lard_law_connections.proofs.PolicyAsides.{IsAside}
-use Rattle.lard_law_connections.specs.PolicyLine.{IsWithin, waiting_step}
+use Rattle.lard_law_connections.specs.PolicyLine.{IsSublist, waiting_step}
 use Rattle.lard_costs.specs.declared.later.LaterChoice.{LaterChoice}
 use Rattle.lard_dispatch.specs.declared.dispatch.Ask.{Ask}
 use Rattle.lard_dispatch.specs.declared.line.Waiting.{Waiting}
-use Rattle.lard_dispatch.specs.Line.{waits, without}
+use Rattle.lard_dispatch.specs.Line.{line_waits, line_without}
 use Rattle.lard_rules.specs.Front.{assigned_notes, over_note}
 use Rattle.lard_history.proofs.Each.{Each, Each-weaker}
 use Rattle.lard_history.proofs.Seeing.{other_number}
@@ -21,21 +21,21 @@ who line = map (λ (w : Waiting). w.c) line
 
 -- ---- lists
 
-pub within-wider : (xs ys : List ℕ) (y : ℕ) → IsWithin xs ys → IsWithin xs (y ∷ ys)
+pub within-wider : (xs ys : List ℕ) (y : ℕ) → IsSublist xs ys → IsSublist xs (y ∷ ys)
 within-wider [] ys y h = tt
 within-wider (x ∷ xs) ys y h = inr h
 
-pub within-tail : (x : ℕ) (xs ys : List ℕ) → IsWithin (x ∷ xs) ys → IsWithin xs ys
+pub within-tail : (x : ℕ) (xs ys : List ℕ) → IsSublist (x ∷ xs) ys → IsSublist xs ys
 within-tail x xs [] h = absurd h
 within-tail x xs (y ∷ ys) (inl h) = within-wider xs ys y h.1
 within-tail x xs (y ∷ ys) (inr h) = within-wider xs ys y (within-tail x xs ys h)
 
-within-none : (c : ℕ) (ys : List ℕ) → IsWithin (c ∷ []) (ys ++ c ∷ [])
+within-none : (c : ℕ) (ys : List ℕ) → IsSublist (c ∷ []) (ys ++ c ∷ [])
 within-none c [] = inl (refl, tt)
 within-none c (y ∷ ys) = inr (within-none c ys)
 
 -- one more at the end of both
-pub within-more : (c : ℕ) (xs ys : List ℕ) → IsWithin xs ys → IsWithin (xs ++ c ∷ []) (ys ++ c ∷ [])
+pub within-more : (c : ℕ) (xs ys : List ℕ) → IsSublist xs ys → IsSublist (xs ++ c ∷ []) (ys ++ c ∷ [])
 within-more c [] ys h = within-none c ys
 within-more c (x ∷ xs) [] h = absurd h
 within-more c (x ∷ xs) (y ∷ ys) (inl h) = inl (h.0, within-more c xs ys h.1)
@@ -46,48 +46,48 @@ abbrev IsNone : ℕ → List ℕ → Type 0
 IsNone c xs = Each (λ x. x ≡ c → ⊥) xs
 
 -- is taken out of those
-within-others : (c : ℕ) (xs ys : List ℕ) → IsNone c xs → IsWithin xs ys → IsWithin xs (filter (λ d. not (nat_eq c d)) ys)
+within-others : (c : ℕ) (xs ys : List ℕ) → IsNone c xs → IsSublist xs ys → IsSublist xs (filter (λ d. not (nat_eq c d)) ys)
 within-others c [] ys none h = tt
 within-others c (x ∷ xs) [] none h = absurd h
 within-others c (x ∷ xs) (y ∷ ys) none (inl h) =
     ap-other (other_number c y (λ e. none.0 (h.0 ∙ sym e))) (inl (h.0, within-others c xs ys none.1 h.1)) where
-      ap-other : nat_eq c y ≡ false → IsWithin (x ∷ xs) (y ∷ filter (λ d. not (nat_eq c d)) ys) → IsWithin (x ∷ xs) (cond (not (nat_eq c y)) (y ∷ filter (λ d. not (nat_eq c d)) ys) (filter (λ d. not (nat_eq c d)) ys))
-      ap-other e h = subst (λ (b : Bool). IsWithin (x ∷ xs) (cond (not b) (y ∷ filter (λ d. not (nat_eq c d)) ys) (filter (λ d. not (nat_eq c d)) ys))) (sym e) h
+      ap-other : nat_eq c y ≡ false → IsSublist (x ∷ xs) (y ∷ filter (λ d. not (nat_eq c d)) ys) → IsSublist (x ∷ xs) (cond (not (nat_eq c y)) (y ∷ filter (λ d. not (nat_eq c d)) ys) (filter (λ d. not (nat_eq c d)) ys))
+      ap-other e h = subst (λ (b : Bool). IsSublist (x ∷ xs) (cond (not b) (y ∷ filter (λ d. not (nat_eq c d)) ys) (filter (λ d. not (nat_eq c d)) ys))) (sym e) h
 within-others c (x ∷ xs) (y ∷ ys) none (inr h) = go (nat_eq c y) (within-others c (x ∷ xs) ys none h) where
-  go : (b : Bool) → IsWithin (x ∷ xs) (filter (λ d. not (nat_eq c d)) ys) → IsWithin (x ∷ xs) (cond (not b) (y ∷ filter (λ d. not (nat_eq c d)) ys) (filter (λ d. not (nat_eq c d)) ys))
+  go : (b : Bool) → IsSublist (x ∷ xs) (filter (λ d. not (nat_eq c d)) ys) → IsSublist (x ∷ xs) (cond (not b) (y ∷ filter (λ d. not (nat_eq c d)) ys) (filter (λ d. not (nat_eq c d)) ys))
   go true h = h
   go false h = inr h
 
 -- ---- a line
 
-waits-none : (c : ℕ) (line : List Waiting) → waits line c ≡ false → IsNone c (who line)
+waits-none : (c : ℕ) (line : List Waiting) → line_waits line c ≡ false → IsNone c (who line)
 waits-none c [] h = tt
 waits-none c (w ∷ ws) h = go (w.c == c) refl h (waits-none c ws) where
-  go : (b : Bool) → (w.c == c) ≡ b → (b || waits ws c) ≡ false → (waits ws c ≡ false → IsNone c (who ws)) → IsNone c (who (w ∷ ws))
+  go : (b : Bool) → (w.c == c) ≡ b → (b || line_waits ws c) ≡ false → (line_waits ws c ≡ false → IsNone c (who ws)) → IsNone c (who (w ∷ ws))
   go true is out later = let never : true ≡ false = out in absurd cc
   go false is out later = (eqb-false w.c c is, later out)
 
 -- its head is admitted
-pub head-within : (w : Waiting) (ws : List Waiting) (ys : List ℕ) → waits ws w.c ≡ false → IsWithin (who (w ∷ ws)) ys → IsWithin (who ws) (filter (λ d. not (nat_eq w.c d)) ys)
+pub head-within : (w : Waiting) (ws : List Waiting) (ys : List ℕ) → line_waits ws w.c ≡ false → IsSublist (who (w ∷ ws)) ys → IsSublist (who ws) (filter (λ d. not (nat_eq w.c d)) ys)
 head-within w ws ys apart h = within-others w.c (who ws) ys (waits-none w.c ws apart) (within-tail w.c (who ws) ys h)
 
 -- one leaves
-pub left-within : (c : ℕ) (line : List Waiting) (ys : List ℕ) → IsWithin (who line) ys → IsWithin (who (without line c)) ys
+pub left-within : (c : ℕ) (line : List Waiting) (ys : List ℕ) → IsSublist (who line) ys → IsSublist (who (line_without line c)) ys
 left-within c [] ys h = tt
 left-within c (w ∷ ws) [] h = absurd h
 left-within c (w ∷ ws) (y ∷ ys) (inl h) = go (w.c == c) (left-within c ws ys h.1) where
-  go : (b : Bool) → IsWithin (who (without ws c)) ys → IsWithin (who (cond (not b) (w ∷ without ws c) (without ws c))) (y ∷ ys)
-  go true later = within-wider (who (without ws c)) ys y later
+  go : (b : Bool) → IsSublist (who (line_without ws c)) ys → IsSublist (who (cond (not b) (w ∷ line_without ws c) (line_without ws c))) (y ∷ ys)
+  go true later = within-wider (who (line_without ws c)) ys y later
   go false later = inl (h.0, later)
-left-within c (w ∷ ws) (y ∷ ys) (inr h) = within-wider (who (without (w ∷ ws) c)) ys y (left-within c (w ∷ ws) ys h)
+left-within c (w ∷ ws) (y ∷ ys) (inr h) = within-wider (who (line_without (w ∷ ws) c)) ys y (left-within c (w ∷ ws) ys h)
 
 -- one comes last
 who-more : (line : List Waiting) (w : Waiting) → who (line ++ w ∷ []) ≡ who line ++ w.c ∷ []
 who-more [] w = refl
 who-more (v ∷ vs) w = ap (λ xs. v.c ∷ xs) (who-more vs w)
 
-pub come-within : (line : List Waiting) (w : Waiting) (ys : List ℕ) → IsWithin (who line) ys → IsWithin (who (line ++ w ∷ [])) (ys ++ w.c ∷ [])
-come-within line w ys h = subst (λ (xs : List ℕ). IsWithin xs (ys ++ w.c ∷ [])) (sym (who-more line w)) (within-more w.c (who line) ys h)
+pub come-within : (line : List Waiting) (w : Waiting) (ys : List ℕ) → IsSublist (who line) ys → IsSublist (who (line ++ w ∷ [])) (ys ++ w.c ∷ [])
+come-within line w ys h = subst (λ (xs : List ℕ). IsSublist xs (ys ++ w.c ∷ [])) (sym (who-more line w)) (within-more w.c (who line) ys h)
 
 -- ---- notes by which nobody waits, and nobody is admitted
 
@@ -121,18 +121,18 @@ assigned-idle c ask r (path ∷ paths) (choice ∷ choices) = ((λ ys. refl), as
 
 -- These notes take those who wait from one line to another.
 abbrev pub Leaves : List Waiting → List Rec → List Waiting → Type 0
-Leaves line notes after = (ys : List ℕ) → IsWithin (who line) ys → IsWithin (who after) (fold waiting_step ys notes)
+Leaves line notes after = (ys : List ℕ) → IsSublist (who line) ys → IsSublist (who after) (fold waiting_step ys notes)
 
 pub idle-leaves : (line : List Waiting) (notes : List Rec) → Each IsIdle notes → Leaves line notes line
-idle-leaves line notes e = λ ys h. subst (IsWithin (who line)) (sym (idle-same notes ys e)) h
+idle-leaves line notes e = λ ys h. subst (IsSublist (who line)) (sym (idle-same notes ys e)) h
 
-pub left-leaves : (c : ℕ) (line : List Waiting) (notes : List Rec) (after : List Waiting) → Leaves line notes after → Leaves line notes (without after c)
+pub left-leaves : (c : ℕ) (line : List Waiting) (notes : List Rec) (after : List Waiting) → Leaves line notes after → Leaves line notes (line_without after c)
 left-leaves c line notes after l = λ ys h. left-within c after (fold waiting_step ys notes) (l ys h)
 
 pub waits-leaves : (line : List Waiting) (notes : List Rec) (w : Waiting) → Each IsIdle notes → Leaves line (notes ++ rec.Waits w.c ∷ []) (line ++ w ∷ [])
-waits-leaves line notes w e = λ ys h. subst (IsWithin (who (line ++ w ∷ []))) (sym (behind-idle notes (rec.Waits w.c ∷ []) ys e)) (come-within line w ys h)
+waits-leaves line notes w e = λ ys h. subst (IsSublist (who (line ++ w ∷ []))) (sym (behind-idle notes (rec.Waits w.c ∷ []) ys e)) (come-within line w ys h)
 
 -- between such notes
 pub between-leaves : (line after : List Waiting) (xs rs ys : List Rec) → Each IsIdle xs → Leaves line rs after → Each IsIdle ys → Leaves line (xs ++ rs ++ ys) after
 between-leaves line after xs rs ys before l behind =
-    λ zs h. subst (IsWithin (who after)) (sym (fold-append waiting_step zs (xs ++ rs) ys ∙ idle-same ys (fold waiting_step zs (xs ++ rs)) behind ∙ behind-idle xs rs zs before)) (l zs h)
+    λ zs h. subst (IsSublist (who after)) (sym (fold-append waiting_step zs (xs ++ rs) ys ∙ idle-same ys (fold waiting_step zs (xs ++ rs)) behind ∙ behind-idle xs rs zs before)) (l zs h)

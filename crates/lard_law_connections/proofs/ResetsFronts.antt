@@ -31,7 +31,7 @@ use Rattle.lard_law_connections.proofs.ResetsMoves.{IsBehindResets, MoveResets, 
 use Rattle.lard_law_connections.proofs.ResetsRows.{AllKeepRst, IsUnsentSeen, resets-stay, resets_on, row-more}
 use Rattle.lard_law_connections.proofs.ResetsTurns.{EndingAfter, IsBehind, SayTo, TurnResets, are-fair, reads-behind, settled-resets, spoken-resets, timed-plain, tombstone-says}
 use Rattle.lard_law_view.specs.Carry.{tale_at}
-use Rattle.lard_law_view.specs.View.{Conn, IsFrontEnv, IsSound, Setting, Spells, Was, front_does}
+use Rattle.lard_law_view.specs.View.{Conn, IsFrontEnv, IsConnSound, Setting, SpellsMessage, Was, front_does}
 use Rattle.lard_message.specs.declared.message.Body.TheVariants as body
 use Rattle.lard_policy.specs.declared.first.FirstChoice.{FirstChoice}
 use Rattle.lard_resend.specs.Pending.{sent_of}
@@ -40,27 +40,27 @@ use Rattle.lard_rules.specs.declared.front.FrontTurn.{FrontTurn}
 use Rattle.lard_rules.specs.declared.places.Ending.{Ending}
 use Rattle.lard_rules.specs.declared.places.Ending.TheVariants as ending
 use Rattle.lard_rules.specs.declared.places.Turn.{Turn}
-use Rattle.lard_rules.specs.Front.{Deed, Drops, Says, Does, FrontEnv, FrontPart, ack_sent, admitted_at, admitted_by, admitted_with, asked_by, assigned_notes, assigns, begun, ended_by, fired, fired_by, fires_at, front_admitted, front_asked, front_ended, front_gets, front_hears, front_taken, front_timer, handed_off, heard, hears_at, holds, is_at, leaves_by, message, met, over_note, placed, rest_of, rests, saying, settled_by, stage_after, tag_sent, taken_by, turn_here, waits_on}
-use Rattle.lard_rules.specs.FrontReading.{Reading, reads}
-use Rattle.lard_rules.specs.Serving.{Service, ready_of, serving, settled, spoken}
+use Rattle.lard_rules.specs.Front.{FrontDeed, Drops, Says, Does, FrontEnv, FrontPart, ack_sent, admitted_at, admitted_by, front_admitted_with, asked_by, assigned_notes, assigns, front_begun, front_ended_by, front_fired, front_fired_by, fires_at, front_admitted, front_asked, front_ended, front_gets, front_hears, front_taken, front_timer, handed_off, heard, hears_at, holds, is_row_at, leaves_by, message, met, over_note, placed, front_rest, front_rests, front_saying, settled_by, stage_after, tag_sent, taken_by, turn_here, waits_on}
+use Rattle.lard_rules.specs.FrontReading.{Reading, front_reads}
+use Rattle.lard_rules.specs.Serving.{Service, serving_ready_of, serving, serving_settled, spoken}
 use Rattle.lard_rules.specs.Tombstone.{is_plain_syn, last_words, tombstone}
 use Rattle.lard_segment.specs.declared.fault.SegFault.{SegFault}
 use Rattle.lard_segment.specs.Segment.{Said as Segment}
 
-module _ (k : Setting) (x : Conn) (sound_x : IsSound x) (h : IsBehindResets x) (heads : List Seen) (seen : Each IsUnsentSeen heads) (env : FrontEnv) (is : IsFrontEnv k x.c env) where
+module _ (k : Setting) (x : Conn) (sound_x : IsConnSound x) (h : IsBehindResets x) (heads : List Seen) (seen : Each IsUnsentSeen heads) (env : FrontEnv) (is : IsFrontEnv k x.c env) where
   abbrev p : FrontPart
   p = x.part.front
 
   abbrev was : Bool
   was = (tale_at x).was_reset
 
-  abbrev Stays : Deed → Type 0
+  abbrev Stays : FrontDeed → Type 0
   Stays d = MoveResets x (front_does x heads d)
 
   dropped : Stays Drops
   dropped = record { heads = seen; segments = tt; messages = tt; front = h.ends.front }
 
-  says : (ms : List (Place × List ℕ)) → AllKeepRst was Front ms → Stays (Says (saying ms))
+  says : (ms : List (Place × List ℕ)) → AllKeepRst was Front ms → Stays (Says (front_saying ms))
   says ms fair = record { heads = seen; segments = tt; messages = fair; front = h.ends.front }
 
   -- a stage in which nothing is kept of an end
@@ -70,7 +70,7 @@ module _ (k : Setting) (x : Conn) (sound_x : IsSound x) (h : IsBehindResets x) (
   -- ---- an endpoint that is here
 
   ends-behind : (row : FrontRow) (rest : FrontRest) (stays : ControlBlock → FrontConn) (given : Ending × Turn) (calls : List Call) → ((b : ControlBlock) → IsFree (stays b)) → TurnResets env.serve.c was given
-      → Stays (Does (record { part = rests p row rest stays given.0; turn = turn_here given.1; calls = calls }))
+      → Stays (Does (record { part = front_rests p row rest stays given.0; turn = turn_here given.1; calls = calls }))
   ends-behind row rest stays given calls free turn =
       let t : TurnResets x.c was given = subst (λ (c : ℕ). TurnResets c was given) is.number turn in
       let then : Bool = resets_on x.c was given.1.notes in
@@ -104,20 +104,20 @@ module _ (k : Setting) (x : Conn) (sound_x : IsSound x) (h : IsBehindResets x) (
       ends-behind row (record rest { target = Some path }) stage.Waiting given (call.First env.serve.c path env.now ∷ leaves_by env.serve.c given.0) waiting-free (spoken-resets env.serve was t [] tt)
 
   settled-behind : (row : FrontRow) (rest : FrontRest) (s : Service) (o : Option (List ℕ)) → IsBehind env.serve was s → Stays (settled_by env p row rest s o)
-  settled-behind row rest s None behind = holds-behind row rest (settled env.serve s) (settled-resets env.serve was s behind)
+  settled-behind row rest s None behind = holds-behind row rest (serving_settled env.serve s) (settled-resets env.serve was s behind)
   settled-behind row rest s (Some path) behind = placed-behind row rest s path (env.first path)
 
   heard-behind : (row : FrontRow) (rest : FrontRest) (b : ControlBlock) → Stays (heard env p row rest b)
   heard-behind row rest b =
       let start : Reading = record { service = serving b rest.count []; target = None } in
-      let r : Reading = reads env.serve start in
+      let r : Reading = front_reads env.serve start in
       settled-behind row rest r.service r.target (reads-behind env.serve was start tt)
 
   -- ---- a segment
 
   met-behind : (s : Segment) → Stays (met env p s)
-  met-behind s = cond_both (is_plain_syn s) (begun env p s) Drops Stays
-      (λ t. holds-behind (record { stage = stage.Lent; epoch = record { 0 = 1 }; ended_by = None }) (rest_of None)
+  met-behind s = cond_both (is_plain_syn s) (front_begun env p s) Drops Stays
+      (λ t. holds-behind (record { stage = stage.Lent; epoch = record { 0 = 1 }; ended_by = None }) (front_rest None)
       (spoken env.serve (serving (listening s env.iss) 0 (rec.Took Front env.serve.c (record { 0 = 1 }) ∷ [])) [])
       (spoken-resets env.serve was (serving (listening s env.iss) 0 (rec.Took Front env.serve.c (record { 0 = 1 }) ∷ [])) [] tt))
       (λ t. dropped)
@@ -128,14 +128,14 @@ module _ (k : Setting) (x : Conn) (sound_x : IsSound x) (h : IsBehindResets x) (
     go None say = dropped
     go (Some s) say = record { heads = seen; segments = are-fair env.serve.c was Front (tombstone env.serve (Some s)).segments say; messages = tt; front = h.ends.front }
 
-  forwards : (n : ℕ) (e : Epoch) (bytes : List ℕ) → Stays (Says (saying ((Node n, message env.serve.c e.0 (body.Forward bytes)) ∷ [])))
+  forwards : (n : ℕ) (e : Epoch) (bytes : List ℕ) → Stays (Says (front_saying ((Node n, message env.serve.c e.0 (body.Forward bytes)) ∷ [])))
   forwards n e bytes = says ((Node n, message env.serve.c e.0 (body.Forward bytes)) ∷ []) ((tt, tt), tt)
 
   hears-at : (bytes : List ℕ) (s : Segment) (row : FrontRow) → p.row ≡ Some row → (st : FrontConn) → row.stage ≡ st → Stays (hears_at env p row bytes s st)
-  hears-at bytes s row found (stage.Held b) at = heard-behind row (rest_of p.rest) (on_segment b s).1
+  hears-at bytes s row found (stage.Held b) at = heard-behind row (front_rest p.rest) (on_segment b s).1
   hears-at bytes s row found (stage.Waiting b) at =
-      let start : Service = serving (on_segment b s).1 (rest_of p.rest).count [] in
-      waits-behind row (rest_of p.rest) (spoken env.serve start []) (spoken-resets env.serve was start [] tt)
+      let start : Service = serving (on_segment b s).1 (front_rest p.rest).count [] in
+      waits-behind row (front_rest p.rest) (spoken env.serve start []) (spoken-resets env.serve was start [] tt)
   hears-at bytes s row found stage.Lent at = dropped
   hears-at bytes s row found (stage.Offering n e) at = forwards n e bytes
   hears-at bytes s row found (stage.Moved n e) at = forwards n e bytes
@@ -151,16 +151,16 @@ module _ (k : Setting) (x : Conn) (sound_x : IsSound x) (h : IsBehindResets x) (
 
   -- ---- timers
 
-  fired-behind : (rest : FrontRest) (b : ControlBlock) → TurnResets env.serve.c was (fired env rest b)
-  fired-behind rest b = spoken-resets env.serve was (serving (after_timer b) rest.count []) (ready_of env.serve (after_timer b) (timed b)) (timed-plain env.serve b)
+  fired-behind : (rest : FrontRest) (b : ControlBlock) → TurnResets env.serve.c was (front_fired env rest b)
+  fired-behind rest b = spoken-resets env.serve was (serving (after_timer b) rest.count []) (serving_ready_of env.serve (after_timer b) (timed b)) (timed-plain env.serve b)
 
   fires-at : (row : FrontRow) (st : FrontConn) → Stays (fires_at env p row st)
-  fires-at row (stage.Held b) = holds-behind row (rest_of p.rest) (fired env (rest_of p.rest) b) (fired-behind (rest_of p.rest) b)
-  fires-at row (stage.Waiting b) = waits-behind row (rest_of p.rest) (fired env (rest_of p.rest) b) (fired-behind (rest_of p.rest) b)
+  fires-at row (stage.Held b) = holds-behind row (front_rest p.rest) (front_fired env (front_rest p.rest) b) (fired-behind (front_rest p.rest) b)
+  fires-at row (stage.Waiting b) = waits-behind row (front_rest p.rest) (front_fired env (front_rest p.rest) b) (fired-behind (front_rest p.rest) b)
   fires-at row (stage.Offering n e) = says (map sent_of p.kept) (kept-fair x Front p.kept h.ends sound_x.front)
   fires-at row _ = dropped
 
-  fires : (o : Option FrontRow) → Stays (fired_by env p o)
+  fires : (o : Option FrontRow) → Stays (front_fired_by env p o)
   fires None = dropped
   fires (Some row) = fires-at row row.stage
 
@@ -181,24 +181,24 @@ module _ (k : Setting) (x : Conn) (sound_x : IsSound x) (h : IsBehindResets x) (
   asked-by n epoch ask None = dropped
   asked-by n epoch ask (Some rest) =
       let l : Later = env.later ask in
-      let d : Deed = Does (assigns env p rest n epoch ask l) in
+      let d : FrontDeed = Does (assigns env p rest n epoch ask l) in
       let notes : List Rec = over_note env.serve.c l.over ++ assigned_notes env.serve.c ask rest.assigned ask.paths l.choices in
-      cond_both (ask.number == rest.asks + 1) d (cond (ask.number == rest.asks && nat_lt 0 rest.asks) (Says (saying (tag_sent env n epoch rest.asks rest.tag))) Drops) Stays
+      cond_both (ask.number == rest.asks + 1) d (cond (ask.number == rest.asks && nat_lt 0 rest.asks) (Says (front_saying (tag_sent env n epoch rest.asks rest.tag))) Drops) Stays
       (λ t. record { heads = seen; segments = tt; messages = ((tt, tt), tt); front = row-more was (resets_on x.c was notes) p.row (resets-stay x.c notes was) h.ends.front })
-      (λ t. cond_both (ask.number == rest.asks && nat_lt 0 rest.asks) (Says (saying (tag_sent env n epoch rest.asks rest.tag))) Drops Stays
+      (λ t. cond_both (ask.number == rest.asks && nat_lt 0 rest.asks) (Says (front_saying (tag_sent env n epoch rest.asks rest.tag))) Drops Stays
       (λ u. says (tag_sent env n epoch rest.asks rest.tag) ((tt, tt), tt)) (λ u. dropped))
 
   pub asked-behind : (n epoch : ℕ) (ask : Ask) → Stays (front_asked env p n epoch ask)
-  asked-behind n epoch ask = cond_both (is_at n epoch p.row) (asked_by env p n epoch ask p.rest) Drops Stays (λ t. asked-by n epoch ask p.rest) (λ t. dropped)
+  asked-behind n epoch ask = cond_both (is_row_at n epoch p.row) (asked_by env p n epoch ask p.rest) Drops Stays (λ t. asked-by n epoch ask p.rest) (λ t. dropped)
 
-  ended-by : (n epoch : ℕ) (last : Final) → EndsAfter was last.reason → (o : Option FrontRow) (a : OnEnded) → Stays (ended_by env p n epoch last o a)
+  ended-by : (n epoch : ℕ) (last : Final) → EndsAfter was last.reason → (o : Option FrontRow) (a : OnEnded) → Stays (front_ended_by env p n epoch last o a)
   ended-by n epoch last after None a = dropped
   ended-by n epoch last after (Some row) (New next) = record { heads = seen; segments = tt; messages = ((tt, tt), tt); front = after }
   ended-by n epoch last after (Some row) Again = says (ack_sent env n epoch) ((tt, tt), tt)
   ended-by n epoch last after (Some row) Stale = dropped
 
   -- an Ended that came tells the limit only of a connection that was reset
-  pub ended-behind : (n epoch : ℕ) (reason : Reason) (snd rcv count : ℕ) (bytes : List ℕ) → Spells x.c epoch (body.Ended reason snd rcv count) bytes → Was x (Node n) Front bytes
+  pub ended-behind : (n epoch : ℕ) (reason : Reason) (snd rcv count : ℕ) (bytes : List ℕ) → SpellsMessage x.c epoch (body.Ended reason snd rcv count) bytes → Was x (Node n) Front bytes
       → Stays (front_ended env p n epoch (record { reason = reason; snd = record { 0 = snd }; rcv = record { 0 = rcv } }))
   ended-behind n epoch reason snd rcv count bytes spells sent =
       let said = has-each (record { from = Node n; to = Front; bytes = bytes }) (LetterEndsBehind was) x.letters sent h.ends.letters in
@@ -210,15 +210,15 @@ module _ (k : Setting) (x : Conn) (sound_x : IsSound x) (h : IsBehindResets x) (
   Admitted given = MoveResets x (front_does x heads (Does (record { part = given.0; turn = given.1; calls = [] })))
 
   module _ (choice : FirstChoice) (given : FrontPart × FrontTurn) where
-    admitted-with : (row : FrontRow) (b : ControlBlock) (o : Option (List ℕ)) → admitted_with env row (rest_of p.rest) b choice o ≡ Some given → Admitted given
+    admitted-with : (row : FrontRow) (b : ControlBlock) (o : Option (List ℕ)) → front_admitted_with env row (front_rest p.rest) b choice o ≡ Some given → Admitted given
     admitted-with row b None e = let no : None ≡ Some given = e in absurd cc
     admitted-with row b (Some path) e =
-        let s : Service = serving b (rest_of p.rest).count [] in
+        let s : Service = serving b (front_rest p.rest).count [] in
         let same : handed_off env row s path choice ≡ given = cc in
         subst Admitted same (handed-behind row s path choice [])
 
     admitted-at : (row : FrontRow) (st : FrontConn) → admitted_at env p choice row st ≡ Some given → Admitted given
-    admitted-at row (stage.Waiting b) e = admitted-with row b (rest_of p.rest).target e
+    admitted-at row (stage.Waiting b) e = admitted-with row b (front_rest p.rest).target e
     admitted-at row _ e = let no : None ≡ Some given = e in absurd cc
 
     admitted-by : (o : Option FrontRow) → admitted_by env p choice o ≡ Some given → Admitted given

@@ -12,7 +12,7 @@ use Rattle.lard_law_connections.proofs.PlacesHeads.{kinds-same, spelled-body}
 use Rattle.lard_law_connections.specs.ResetsLaws.{BodyEndsBehind, EndsAfter, EndsBehindResets, SaysEndsBehind, LetterEndsBehind, RowEndsBehind}
 use Rattle.lard_law_connections.proofs.ResetsRows.{AllKeepRst, IsUnsentSeen, MayStand, Since, client-fair, fair-letters, gaves-unsent, letters-more, machine-rst, notes-unsent, resets-more, resets-stay, resets_on, row-more, seen-stays, sent-tell, timers-unsent, told-reset, told-stays, unsent-seen, unsent-tell}
 use Rattle.lard_law_view.specs.Carry.{tale_at}
-use Rattle.lard_law_view.specs.View.{AreSent, Conn, Move, Said, by_client, grown, letter, letters_of, seen_in, sending, stands, timer_rows, with_station}
+use Rattle.lard_law_view.specs.View.{AreSent, Conn, Move, TurnSaid, by_client, grown, letter, letters_of, seen_in, sending, stands, timer_rows, with_station}
 use Rattle.lard_law_view.proofs.Fine.{IsItsOwn}
 use Rattle.lard_law_view.proofs.RowLists.{MayBeSeen}
 use Rattle.lard_law_view.proofs.Rows.{grown-lawful, grown-tale, move-lawful, tale_before, tale_said}
@@ -21,7 +21,7 @@ use Rattle.lard_message.specs.declared.kind.Kind.TheVariants as kind
 use Rattle.lard_message.specs.declared.message.Body.{Body}
 use Rattle.lard_message.specs.declared.message.Body.TheVariants as body
 use Rattle.lard_message.specs.Message.{body_bytes, kind_of, reason_byte}
-use Rattle.lard_message.specs.Reading.{ended_at, number_at, reason_at}
+use Rattle.lard_message.specs.Reading.{ended_body_at, number_at, reason_at}
 use Rattle.lard_message.proofs.Fields.{bind_then, reason_again, some_same}
 use Rattle.lard_resend.specs.declared.kept.Kept.{Kept}
 use Rattle.lard_resend.specs.Pending.{sent_of}
@@ -118,7 +118,7 @@ client-resets x heads s given h seen =
     }
 
 -- nothing that is kept changes, and no segment is sent
-pub stands-resets : (x : Conn) (place : Place) (heads : List Seen) (s : Said) → IsBehindResets x → Each IsUnsentSeen heads → s.segments ≡ [] → AllKeepRst (resets_on x.c (tale_at x).was_reset s.notes) place s.messages
+pub stands-resets : (x : Conn) (place : Place) (heads : List Seen) (s : TurnSaid) → IsBehindResets x → Each IsUnsentSeen heads → s.segments ≡ [] → AllKeepRst (resets_on x.c (tale_at x).was_reset s.notes) place s.messages
     → MoveResets x (stands x place heads s)
 stands-resets x place heads s h seen none fair =
     let was : Bool = (tale_at x).was_reset in
@@ -141,8 +141,8 @@ pub other-ends : (was : Bool) (n c e : ℕ) (b : Body) → (kind_of b ≡ kind.E
 other-ends was n c e b other m read = other-body was m.body b other (kinds-same (record { c = c; epoch = record { 0 = e }; body = b }) m read)
 
 -- an Ended is read with the reason with which it was spelled
-ended-reason : (was : Bool) (why : Reason) (snd rcv count : ℕ) (b : Body) (rest : List ℕ) → EndsAfter was why → ended_at (body_bytes (body.Ended why snd rcv count)) ≡ Some (b, rest) → BodyEndsBehind was b
-unfolding ended_at
+ended-reason : (was : Bool) (why : Reason) (snd rcv count : ℕ) (b : Body) (rest : List ℕ) → EndsAfter was why → ended_body_at (body_bytes (body.Ended why snd rcv count)) ≡ Some (b, rest) → BodyEndsBehind was b
+unfolding ended_body_at
 ended-reason was why snd rcv count b rest h e =
     let r1 : List ℕ = to_be_bytes w32 snd ++ to_be_bytes w32 rcv ++ to_be_bytes w32 count in
     let y : Body × List ℕ = (b, rest) in

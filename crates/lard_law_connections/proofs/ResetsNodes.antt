@@ -11,7 +11,7 @@ use Rattle.lard_endpoint.specs.Control.{ControlBlock}
 use Rattle.lard_endpoint.specs.Leaving.{after_timer, timed}
 use Rattle.lard_handoff_back.specs.declared.table.Adopt.{Adopt}
 use Rattle.lard_handoff_back.specs.declared.table.Adopt.TheVariants.{New, Again, Stale}
-use Rattle.lard_handoff_back.specs.Back.{awaits_ack, endpoint_of, offer_answer}
+use Rattle.lard_handoff_back.specs.Back.{awaits_ack, back_endpoint, offer_answer}
 use Rattle.lard_history.specs.Own.{Seen}
 use Rattle.lard_history.proofs.Each.{Each, Each-append}
 use Rattle.lard_law_connections.proofs.LimitsWorking.{batch-state, came-so, goes-so, tagged-so}
@@ -20,7 +20,7 @@ use Rattle.lard_law_connections.proofs.ResetsRows.{AllKeepRst, KeepsRst, IsUnsen
 use Rattle.lard_law_connections.proofs.ResetsTurns.{EndingAfter, IsBehind, TurnResets, are-fair, serving-behind, settled-resets, spoken-resets, timed-plain}
 use Rattle.lard_lateral.specs.Lateral.{is_from}
 use Rattle.lard_law_view.specs.Carry.{tale_at}
-use Rattle.lard_law_view.specs.View.{AreSent, Conn, IsNodeEnv, IsSound, Setting, named, node_does}
+use Rattle.lard_law_view.specs.View.{AreSent, Conn, IsNodeEnv, IsConnSound, Setting, named_records, node_does}
 use Rattle.lard_message.specs.declared.message.Body.TheVariants as body
 use Rattle.lard_resend.specs.declared.kept.Kept.{Kept}
 use Rattle.lard_resend.specs.Kept.{is_under, without}
@@ -31,8 +31,8 @@ use Rattle.lard_rules.specs.declared.stay.Asked.{Asked}
 use Rattle.lard_rules.specs.declared.stay.Stay.{Stay}
 use Rattle.lard_rules.specs.declared.stay.Want.{Want}
 use Rattle.lard_rules.specs.Loop.{state_of}
-use Rattle.lard_rules.specs.Node.{Deed, Drops, Says, Does, NodePart, again_sent, all_sent, asked_sent, begins, both_of, come_by, ended_sent, fired_by, gone, heard_by, here, is_awaited, kept_after, node_acknowledged, node_content, node_forwarded, node_offered, node_read, node_tagged, node_timer, offered_by, read_by, saying, tagged_by, taken_sent, turn_by, wants_sent, with_work, work_of}
-use Rattle.lard_rules.specs.Serving.{ready_of, serving, settled, spoken}
+use Rattle.lard_rules.specs.Node.{NodeDeed, Drops, Says, Does, NodePart, again_sent, all_sent, asked_sent, node_begins, both_of, come_by, ended_sent, node_fired_by, gone, node_heard_by, here, is_tag_awaited, kept_after, node_acknowledged, node_content, node_forwarded, node_offered, node_read, node_tagged, node_timer, offered_by, node_read_by, node_saying, tagged_by, taken_sent, turn_by, wants_sent, with_work, work_of}
+use Rattle.lard_rules.specs.Serving.{serving_ready_of, serving, serving_settled, spoken}
 use Rattle.lard_rules.specs.Stay.{NodeEnv, Work, came_for, come_progress, goes_on, read_progress, reads_batch, tagged}
 use Rattle.lard_segment.specs.declared.fault.SegFault.{SegFault}
 use Rattle.lard_segment.specs.Segment.{Said as Segment}
@@ -41,14 +41,14 @@ both-sent : (x : Conn) (place : Place) (ks ls : List Kept) → AreSent x place k
 both-sent x place [] ls sent more = more
 both-sent x place (k ∷ ks) ls sent more = (sent.0, both-sent x place ks ls sent.1 more)
 
-module _ (k : Setting) (x : Conn) (sound_x : IsSound x) (h : IsBehindResets x) (n epoch : ℕ) (env : NodeEnv) (is : IsNodeEnv k x.c n epoch env) (heads : List Seen) (seen : Each IsUnsentSeen heads) where
+module _ (k : Setting) (x : Conn) (sound_x : IsConnSound x) (h : IsBehindResets x) (n epoch : ℕ) (env : NodeEnv) (is : IsNodeEnv k x.c n epoch env) (heads : List Seen) (seen : Each IsUnsentSeen heads) where
   abbrev ours : NodePart
   ours = x.part.nodes n
 
   abbrev was : Bool
   was = (tale_at x).was_reset
 
-  abbrev Stays : Deed → Type 0
+  abbrev Stays : NodeDeed → Type 0
   Stays d = MoveResets x (node_does x n heads d)
 
   dropped : Stays Drops
@@ -91,26 +91,26 @@ module _ (k : Setting) (x : Conn) (sound_x : IsSound x) (h : IsBehindResets x) (
   turn-behind part before work given fair turn =
       let t : TurnResets x.c was given = subst (λ (c : ℕ). TurnResets c was given) is.number turn in
       let all : Bool = resets_on x.c was given.1.notes in
-      let then : Bool = resets_on x.c was (named given.1.notes) in
+      let then : Bool = resets_on x.c was (named_records given.1.notes) in
       let same : all ≡ then = sym (named-resets x.c given.1.notes was) in
       record {
         heads = seen;
         segments = subst (λ (b : Bool). AllKeepRst b (Node n) given.1.segments) same (are-fair x.c all (Node n) given.1.segments t.says);
         messages = subst (λ (b : Bool). AllKeepRst b (Node n) (all_sent env before work ++ ended_sent env work.service.over given.0)) same
             (all-fair all before work given.0 (fair-more was all (Node n) before (resets-stay x.c given.1.notes was) fair) t.ends);
-        front = row-more was then x.part.front.row (resets-stay x.c (named given.1.notes) was) h.ends.front;
+        front = row-more was then x.part.front.row (resets-stay x.c (named_records given.1.notes) was) h.ends.front;
       }
 
   abbrev Works : Work → Type 0
   Works w = IsBehind env.serve was w.service
 
   works-behind : (part : NodePart) (before : List (Place × List ℕ)) (work : Work) → AllKeepRst was (Node n) before → Works work → Stays (with_work env part before work)
-  works-behind part before work fair behind = turn-behind part before work (settled env.serve work.service) fair (settled-resets env.serve was work.service behind)
+  works-behind part before work fair behind = turn-behind part before work (serving_settled env.serve work.service) fair (settled-resets env.serve was work.service behind)
 
   goes-behind : (part : NodePart) (work : Work) → Works work → Stays (with_work env part [] (goes_on env work))
   goes-behind part work behind = works-behind part [] (goes_on env work) tt (goes-so env (IsBehind env.serve was) (serving-behind env.serve was) work behind)
 
-  heard-by : (r : Result Segment SegFault) (o : Option (ControlBlock × Stay)) → Stays (heard_by env ours r o)
+  heard-by : (r : Result Segment SegFault) (o : Option (ControlBlock × Stay)) → Stays (node_heard_by env ours r o)
   heard-by (Err fault) o = dropped
   heard-by (Ok s) None = dropped
   heard-by (Ok s) (Some y) = goes-behind ours (work_of (on_segment y.0 s).1 y.1) tt
@@ -120,7 +120,7 @@ module _ (k : Setting) (x : Conn) (sound_x : IsSound x) (h : IsBehindResets x) (
 
   tagged-by : (number : ℕ) (tags : List ℕ) (o : Option (ControlBlock × Stay)) → Stays (tagged_by env number tags ours o)
   tagged-by number tags None = dropped
-  tagged-by number tags (Some y) = cond_both (is_awaited env number tags ours y.1) _ Drops Stays
+  tagged-by number tags (Some y) = cond_both (is_tag_awaited env number tags ours y.1) _ Drops Stays
       (λ t. goes-behind (record ours { kept = without timer.Ask 0 ours.kept }) (tagged env tags (work_of y.0 y.1)) (tagged-so env (IsBehind env.serve was) (serving-behind env.serve was) tags (work_of y.0 y.1) tt))
       (λ t. dropped)
 
@@ -137,7 +137,7 @@ module _ (k : Setting) (x : Conn) (sound_x : IsSound x) (h : IsBehindResets x) (
   pub content-behind : (from r : ℕ) → Stays (node_content env ours from r)
   content-behind from r = come-by from r (here env.epoch ours)
 
-  read-by : (r : ℕ) (o : Option (ControlBlock × Stay)) → Stays (read_by env r ours o)
+  read-by : (r : ℕ) (o : Option (ControlBlock × Stay)) → Stays (node_read_by env r ours o)
   read-by r None = dropped
   read-by r (Some y) = goes-behind ours (came_for read_progress r (work_of y.0 y.1)) (came-so env (IsBehind env.serve was) (serving-behind env.serve was) read_progress r (work_of y.0 y.1) tt)
 
@@ -148,9 +148,9 @@ module _ (k : Setting) (x : Conn) (sound_x : IsSound x) (h : IsBehindResets x) (
 
   offered-by : (parts : EndpointParts) (a : Adopt) → Stays (offered_by env parts ours a)
   offered-by parts New =
-      let first : Work = state_of (reads_batch env true (begins env parts)) in
+      let first : Work = state_of (reads_batch env true (node_begins env parts)) in
       works-behind ours (taken_sent env) (goes_on env first) (taken-fair was)
-      (goes-so env (IsBehind env.serve was) (serving-behind env.serve was) first (batch-state env (IsBehind env.serve was) (serving-behind env.serve was) true (begins env parts) refl tt))
+      (goes-so env (IsBehind env.serve was) (serving-behind env.serve was) first (batch-state env (IsBehind env.serve was) (serving-behind env.serve was) true (node_begins env parts) refl tt))
   offered-by parts Again = says (taken_sent env) (taken-fair was)
   offered-by parts Stale = dropped
 
@@ -161,19 +161,19 @@ module _ (k : Setting) (x : Conn) (sound_x : IsSound x) (h : IsBehindResets x) (
 
   pub acknowledged-behind : Stays (node_acknowledged env ours)
   acknowledged-behind =
-      let d : Deed = Does (record ours { row = gone ours.row; kept = without timer.Ended 0 ours.kept }, saying []) in
+      let d : NodeDeed = Does (record ours { row = gone ours.row; kept = without timer.Ended 0 ours.kept }, node_saying []) in
       cond_both (awaits_ack env.epoch ours.row) d Drops Stays
       (λ t. record { heads = seen; segments = tt; messages = tt; front = h.ends.front })
       (λ t. dropped)
 
   -- ---- its timer fires
 
-  fires-by : (o : Option (ControlBlock × Stay)) → Stays (fired_by env ours o)
+  fires-by : (o : Option (ControlBlock × Stay)) → Stays (node_fired_by env ours o)
   fires-by None = says (again_sent ours) again-fair
   fires-by (Some y) =
-      let before : List (Place × List ℕ) = ready_of env.serve (after_timer y.0) (timed y.0) in
+      let before : List (Place × List ℕ) = serving_ready_of env.serve (after_timer y.0) (timed y.0) in
       let start = serving (after_timer y.0) y.1.served [] in
       turn-behind ours (again_sent ours) (work_of (after_timer y.0) y.1) (spoken env.serve start before) again-fair (spoken-resets env.serve was start before (timed-plain env.serve y.0))
 
   pub fires-behind : Stays (node_timer env ours)
-  fires-behind = fires-by (both_of (endpoint_of ours.row) ours.stay)
+  fires-behind = fires-by (both_of (back_endpoint ours.row) ours.stay)

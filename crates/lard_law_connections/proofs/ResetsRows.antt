@@ -12,7 +12,7 @@ use Rattle.lard_history.proofs.Tales.{reset-tale}
 use Rattle.lard_journal.specs.declared.rec.Rec.{Rec}
 use Rattle.lard_journal.specs.declared.rec.Rec.TheVariants as rec
 use Rattle.lard_law_connections.specs.ResetsLaws.{BodyEndsBehind, SaysEndsBehind, HasRstOnly, LetterEndsBehind, MaySendRst, ResetsOnly, RowEndsBehind, StageEndsBehind}
-use Rattle.lard_law_view.specs.View.{IsMachine, Part, letter, named, sending, timer_rows}
+use Rattle.lard_law_view.specs.View.{IsMachine, Part, letter, named_records, sending, timer_rows}
 use Rattle.lard_law_view.specs.WhileUntouched.{TellsBy}
 use Rattle.lard_law_view.proofs.RowLists.{MayBeSeen}
 use Rattle.lard_law_view.proofs.Saying.{GaveAt, NotedAt}
@@ -77,11 +77,11 @@ unnamed-same c a (rec.Reset place d total) e = let no : Some d ≡ None = e in a
 unnamed-same c a _ e = refl
 
 -- what a node names of its notes tells what all do
-pub named-resets : (c : ℕ) (rs : List Rec) (a : Bool) → resets_on c a (named rs) ≡ resets_on c a rs
+pub named-resets : (c : ℕ) (rs : List Rec) (a : Bool) → resets_on c a (named_records rs) ≡ resets_on c a rs
 named-resets c [] a = refl
 named-resets c (r ∷ rs) a = go (whose r) refl (named-resets c rs a) (named-resets c rs (reset_step c a r)) where
-  go : (o : Option ℕ) → whose r ≡ o → resets_on c a (named rs) ≡ resets_on c a rs → resets_on c (reset_step c a r) (named rs) ≡ resets_on c (reset_step c a r) rs
-      → resets_on c a (cond (is_some o) (r ∷ named rs) (named rs)) ≡ resets_on c (reset_step c a r) rs
+  go : (o : Option ℕ) → whose r ≡ o → resets_on c a (named_records rs) ≡ resets_on c a rs → resets_on c (reset_step c a r) (named_records rs) ≡ resets_on c (reset_step c a r) rs
+      → resets_on c a (cond (is_some o) (r ∷ named_records rs) (named_records rs)) ≡ resets_on c (reset_step c a r) rs
   go None e same later = same ∙ ap (λ (b : Bool). resets_on c b rs) (sym (unnamed-same c a r e))
   go (Some d) e same later = later
 

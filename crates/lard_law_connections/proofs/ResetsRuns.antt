@@ -10,8 +10,8 @@ use Rattle.lard_law_connections.proofs.ResetsFronts.{admitted-behind, asked-behi
 use Rattle.lard_law_connections.proofs.ResetsMoves.{IsBehindResets, MoveResets, client-resets, move-behind, stands-resets}
 use Rattle.lard_law_connections.proofs.ResetsNodes.{acknowledged-behind, content-behind, fires-behind, forwarded-behind, offered-behind, read-behind, tagged-behind}
 use Rattle.lard_law_connections.proofs.ResetsRows.{MayStand, rst-local}
-use Rattle.lard_law_view.specs.Carry.{IsLaw, MayMove, OfEach, setting}
-use Rattle.lard_law_view.specs.View.{ClientRules, Conn, FrontRules, Move, NodeRules, Rules, Setting, brought_said, client_begins, conn, contents, epoch_in, event_seen, grown, inject_seen, nothing_said, packet_seen, reads_first}
+use Rattle.lard_law_view.specs.Carry.{IsLaw, MayRestOn, OfEach, setting}
+use Rattle.lard_law_view.specs.View.{ClientRules, Conn, FrontRules, Move, NodeRules, Rules, Setting, brought_said, client_begins, conn, content_said, epoch_in, event_seen, grown, inject_seen, nothing_said, packet_seen, reads_first}
 use Rattle.lard_law_view.proofs.Carried.{carried}
 use Rattle.lard_law_view.proofs.Fine.{IsFine, fine}
 use Rattle.lard_law_view.proofs.Guarded.{both, weaker}
@@ -28,7 +28,7 @@ Anything x = Unit {0}
 
 -- what the move of each rule owes
 abbrev Owing : Conn → Move → Type 0
-Owing x v = MayMove Anything x → IsBehindResets x → MoveResets x v
+Owing x v = MayRestOn Anything x → IsBehindResets x → MoveResets x v
 
 module _ (k : Setting) where
   clients : ClientRules k Owing
@@ -67,7 +67,7 @@ module _ (k : Setting) where
     acknowledged = λ x n epoch env bytes is spells sent m h. acknowledged-behind k x m.sound h n epoch env is (packet_seen Front (Node n) bytes) (tt, tt);
     read = λ x n epoch r env path is m h. read-first x n r path _ (read-behind k x m.sound h n epoch env is [] tt r);
     fires = λ x s n env there is m h. fires-behind k x m.sound h n (epoch_in (x.part.nodes n)) env is (event_seen (event.Timer (Node n) x.c)) (tt, tt);
-    answers = λ x n from epoch r path file bytes there spells sent m h. stands-resets x (Node n) (packet_seen (Node from) (Node n) bytes) (contents k n from x.c epoch r path) h (tt, tt) refl ((tt, tt), tt);
+    answers = λ x n from epoch r path file bytes there spells sent m h. stands-resets x (Node n) (packet_seen (Node from) (Node n) bytes) (content_said k n from x.c epoch r path) h (tt, tt) refl ((tt, tt), tt);
     queues = λ x n from epoch r path file bytes there spells sent m h. stands-resets x (Node n) (packet_seen (Node from) (Node n) bytes) (record nothing_said { notes = rec.Queued n from x.c r path ∷ [] }) h (tt, tt) refl tt;
     brings = λ x n from epoch r path m h. stands-resets x (Node n) [] (brought_said k n from x.c epoch r path) h tt refl ((tt, tt), tt);
   }
@@ -86,7 +86,7 @@ module _ (k : Setting) where
   resets-law : IsLaw k Anything IsBehindResets
   resets-law = record {
     begins = λ c. record { ends = record { front = tt; letters = tt }; lawful = tt };
-    moves = weaker k (λ x v. IsFine x v × Owing x v) (λ x v. MayMove Anything x → IsBehindResets x → IsBehindResets (grown x v))
+    moves = weaker k (λ x v. IsFine x v × Owing x v) (λ x v. MayRestOn Anything x → IsBehindResets x → IsBehindResets (grown x v))
         (λ x v all may h. move-behind x v (all.0 may.number may.sound).0 (all.1 may h) h) (both k IsFine Owing (fine k) owing);
   }
 

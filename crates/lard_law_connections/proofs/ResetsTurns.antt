@@ -30,9 +30,9 @@ use Rattle.lard_request.specs.declared.verdict.Verdict.TheVariants.{Fault}
 use Rattle.lard_rules.specs.declared.places.Ending.{Ending}
 use Rattle.lard_rules.specs.declared.places.Ending.TheVariants as ending
 use Rattle.lard_rules.specs.declared.places.Turn.{Turn}
-use Rattle.lard_rules.specs.FrontReading.{Reading, block_at, left, reads, reads_block, reads_found, turn}
+use Rattle.lard_rules.specs.FrontReading.{Reading, block_at, reading_left, front_reads, reads_block, reads_found, reading_turn}
 use Rattle.lard_rules.specs.Loop.{Step, More, Done}
-use Rattle.lard_rules.specs.Serving.{ServeEnv, Service, answered, consumed, cut_off, ended_at_fin, limit_said, may_read, passed_over, queued, ready_of, settled, spoken, told}
+use Rattle.lard_rules.specs.Serving.{ServeEnv, Service, answered, serving_consumed, cut_off, ended_at_fin, limit_said, may_read, passed_over, queued, serving_ready_of, serving_settled, spoken, serving_told}
 use Rattle.lard_rules.specs.Speaking.{speaks, speaks_symbols}
 use Rattle.lard_rules.specs.Tombstone.{is_telling, last_ack, last_words, refusal, tombstone}
 use Rattle.lard_endpoint.specs.declared.control.moving.Final.{Final}
@@ -44,7 +44,7 @@ use Rattle.lard_segment.specs.declared.segment.Dir.TheVariants.{ToClient}
 use Rattle.lard_segment.specs.declared.segment.Flags.{Flags}
 use Rattle.lard_segment.specs.declared.segment.Ready.{Ready}
 use Rattle.lard_segment.specs.Checksum.{checksum_of}
-use Rattle.lard_segment.specs.Fields.{flag_byte, flags_of, word_at}
+use Rattle.lard_segment.specs.Fields.{flags_byte, flags_of, word_at}
 use Rattle.lard_segment.specs.Options.{mss_in}
 use Rattle.lard_segment.specs.Segment.{Said, IsSendable, are_ports, begins_at, decoded, spelled, with_data, with_mss}
 use Rattle.lard_segment.proofs.Again.{again}
@@ -75,7 +75,7 @@ read-flags bytes c s h =
     let d = let_through (not (are_ports bytes ToClient)) fault.Port _ s b in
     data-flags bytes (begins_at bytes) s d
 
-spelled-byte : (c : ℕ) (s : Said) → slice_index (spelled c ToClient s) 13 ≡ flag_byte s.flags
+spelled-byte : (c : ℕ) (s : Said) → slice_index (spelled c ToClient s) 13 ≡ flags_byte s.flags
 unfolding spelled
 spelled-byte c s = refl
 
@@ -83,7 +83,7 @@ spelled-byte c s = refl
 bare_with : Flags → Said
 bare_with f = record { seq = 0; ack = 0; flags = f; wnd = 0; mss = None; payload = [] }
 
-bits-again : (f : Flags) → flags_of (flag_byte f) ≡ f
+bits-again : (f : Flags) → flags_of (flags_byte f) ≡ f
 unfolding bare_with
 bits-again f =
     let s : Said = bare_with f in
@@ -122,9 +122,9 @@ speaks-plain c b = speaks_keep c (λ b ss d. SayTo c false ss) (saying-plain c) 
 symbols-plain : (c : ℕ) (b : ControlBlock) → SayTo c false (speaks_symbols c b).0
 symbols-plain c b = symbols_keep c (λ b ss d. SayTo c false ss) (saying-plain c) (λ b r e held. tt) b
 
-pub timed-plain : (env : ServeEnv) (b : ControlBlock) → SayTo env.c false (ready_of env (after_timer b) (timed b))
+pub timed-plain : (env : ServeEnv) (b : ControlBlock) → SayTo env.c false (serving_ready_of env (after_timer b) (timed b))
 timed-plain env b = go (timed b) refl where
-  go : (o : Option Ready) → timed b ≡ o → SayTo env.c false (ready_of env (after_timer b) o)
+  go : (o : Option Ready) → timed b ≡ o → SayTo env.c false (serving_ready_of env (after_timer b) o)
   go None e = tt
   go (Some r) e = (plain-says env.c (filled (after_timer b) r) (timed-tells b r e).no_rst, tt)
 
@@ -206,11 +206,11 @@ module _ (env : ServeEnv) (was : Bool) where
       let now : Bool = resets_on env.c was s.notes in
       let said : List (Place × List ℕ) × ControlBlock = speaks_symbols env.c s.block in
       record {
-        says = Each-append (SaysTo env.c now) said.0 (told env (limit_said (final_of said.1 Limit)) ∷ []) (say-more env.c false now said.0 (since-false now) (symbols-plain env.c s.block)) ((refl, λ t d r. told_so), tt);
+        says = Each-append (SaysTo env.c now) said.0 (serving_told env (limit_said (final_of said.1 Limit)) ∷ []) (say-more env.c false now said.0 (since-false now) (symbols-plain env.c s.block)) ((refl, λ t d r. told_so), tt);
         ends = λ e. told_so;
       }
 
-  pub settled-resets : (s : Service) → IsBehind s → TurnResets env.c was (settled env s)
+  pub settled-resets : (s : Service) → IsBehind s → TurnResets env.c was (serving_settled env s)
   settled-resets s h = go s.over h where
     go : (o : Option ℕ) → OverTold o (resets_on env.c was s.notes) → TurnResets env.c was (elim o as (λ p. Ending × Turn) [ None ↦ spoken env s [] | Some total ↦ cut_off env s ])
     go None h = spoken-resets s [] tt
@@ -226,19 +226,19 @@ module _ (env : ServeEnv) (was : Bool) where
   ReadsSo (Done y) = Reads y
 
   block-so : (x : Reading) (n : ℕ) (v : Verdict) (o : Option (List ℕ)) → Reads x → ReadsSo (reads_block env x n v o)
-  block-so x n v None h = answered-behind Own v (consumed n x.service) h
+  block-so x n v None h = answered-behind Own v (serving_consumed n x.service) h
   block-so x n v (Some path) h = cond_both _ (record x { target = Some path }) x Reads (λ t. h) (λ t. h)
 
   found-so : (x : Reading) (f : Found) → Reads x → ReadsSo (reads_found env x f)
-  found-so x (found.More skip) h = ended-behind (consumed skip x.service) h
+  found-so x (found.More skip) h = ended-behind (serving_consumed skip x.service) h
   found-so x (found.Block skip len) h = block-so x (skip + len) (block_at x skip len) (good_path env.files (block_at x skip len)) h
-  found-so x (found.TooLong skip) h = answered-behind Own (Fault code.FieldsTooLarge) (consumed (length x.service.block.recv.unread) x.service) h
+  found-so x (found.TooLong skip) h = answered-behind Own (Fault code.FieldsTooLarge) (serving_consumed (length x.service.block.recv.unread) x.service) h
 
-  turn-so : (x : Reading) → Reads x → ReadsSo (turn env x)
+  turn-so : (x : Reading) → Reads x → ReadsSo (reading_turn env x)
   turn-so x h = cond_both (may_read x.service) (reads_found env x (cut_of x.service.block.recv.unread)) (Done x) ReadsSo (λ t. found-so x (cut_of x.service.block.recv.unread) h) (λ t. h)
 
-  pub reads-behind : (x : Reading) → Reads x → Reads (reads env x)
-  reads-behind x h = runs_keep (turn env) left Reads (record {
+  pub reads-behind : (x : Reading) → Reads x → Reads (front_reads env x)
+  reads-behind x h = runs_keep (reading_turn env) reading_left Reads (record {
     more = λ y z e p. subst ReadsSo e (turn-so y p);
     done = λ y z e p. subst ReadsSo e (turn-so y p);
   }) x h

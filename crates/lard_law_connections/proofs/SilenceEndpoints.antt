@@ -19,7 +19,7 @@ use Rattle.lard_endpoint.specs.Leaving.{advanced, after_emit, after_owed, after_
 use Rattle.lard_endpoint.specs.Moving.{adopted, is_closed, may_end}
 use Rattle.lard_endpoint.proofs.Ends.{emit-falls}
 use Rattle.lard_endpoint.proofs.Sound.{after_emit-sound, after_timer-sound, on_segment-sound}
-use Rattle.lard_recv.specs.Recv.{Received, arrived, awaited, begins_after, ends, fresh, taken}
+use Rattle.lard_recv.specs.Recv.{Received, arrived, awaited, begins_after, ends, fresh_bytes, bytes_taken}
 use Rattle.lard_request.specs.declared.verdict.Verdict.{Verdict}
 use Rattle.lard_request.specs.Verdict.{closes}
 use Rattle.lard_rules.specs.Serving.{ServeEnv, Service, answered, ended_at_fin, passed_over, queued}
@@ -55,7 +55,7 @@ Onward b r = (r.1.last_window ≡ b.last_window) × (b.recv.got ≤ r.1.recv.got
 
 got-arrived : (r : Received) (seq : ℕ) (bytes : List ℕ) (fin : Bool) → r.got ≤ (arrived r seq bytes fin).got
 got-arrived r seq bytes fin =
-    let more : Received = taken r (fresh r seq bytes) (ends r seq bytes fin) in
+    let more : Received = bytes_taken r (fresh_bytes r seq bytes) (ends r seq bytes fin) in
     cond_both (begins_after seq (awaited r)) r (cond r.fin r more) (λ (z : Received). r.got ≤ z.got) (λ t. omega arith) (λ t. cond_both r.fin r more (λ (z : Received). r.got ≤ z.got) (λ u. omega arith) (λ u. omega arith))
 
 acked-onward : (b : ControlBlock) (s : Said) → Onward b (on_acked b s)

@@ -16,8 +16,8 @@ use Rattle.lard_law_connections.proofs.SilenceFronts as fronts
 use Rattle.lard_law_connections.proofs.SilenceNodes as nodes
 use Rattle.lard_law_connections.proofs.SilencePlaces.{known-front, node-weaker}
 use Rattle.lard_law_connections.proofs.SilenceTurns.{IsKept}
-use Rattle.lard_law_view.specs.Carry.{IsLaw, MayMove, setting}
-use Rattle.lard_law_view.specs.View.{ClientRules, Conn, FrontRules, IsFrontEnv, IsNodeEnv, Move, NodeRules, Rules, Setting, Spells, event_seen, front_does, grown, node_does, packet_seen, with_station}
+use Rattle.lard_law_view.specs.Carry.{IsLaw, MayRestOn, setting}
+use Rattle.lard_law_view.specs.View.{ClientRules, Conn, FrontRules, IsFrontEnv, IsNodeEnv, Move, NodeRules, Rules, Setting, SpellsMessage, event_seen, front_does, grown, node_does, packet_seen, with_station}
 use Rattle.lard_law_view.proofs.Carried.{carried}
 use Rattle.lard_law_view.proofs.Parts.{put-each}
 use Rattle.lard_rules.specs.Front as front
@@ -38,7 +38,7 @@ abbrev Nothing : Conn → Type 0
 Nothing x = Unit {0}
 
 -- the parts of an Offer are in their ranges
-pub offer-valid : (c epoch : ℕ) (parts : EndpointParts) (bytes : List ℕ) → Spells c epoch (body.Offer parts) bytes → IsValidParts parts
+pub offer-valid : (c epoch : ℕ) (parts : EndpointParts) (bytes : List ℕ) → SpellsMessage c epoch (body.Offer parts) bytes → IsValidParts parts
 offer-valid c epoch parts bytes spells = subst IsTold spells (message-told bytes)
 
 -- last words are of any kind
@@ -48,11 +48,11 @@ any-words (Some s) = λ d. tt
 
 module _ (k : Setting) (small : k.stream ≤ 2 ^ 30) where
   abbrev Speaks : Conn → Move → Type 0
-  Speaks x v = MayMove Nothing x → AllHaveSpoken x → AllHaveSpoken (grown x v)
+  Speaks x v = MayRestOn Nothing x → AllHaveSpoken x → AllHaveSpoken (grown x v)
 
   -- ---- clients
 
-  by-client : (x : Conn) (s : Station) (y : ClientBlock) → x.part.station ≡ Some s → (ClientHasSpoken s.client → ClientHasSpoken y) → MayMove Nothing x → PartHasSpoken x.part → PartHasSpoken (with_station x.part (record { client = y; iss = s.iss }))
+  by-client : (x : Conn) (s : Station) (y : ClientBlock) → x.part.station ≡ Some s → (ClientHasSpoken s.client → ClientHasSpoken y) → MayRestOn Nothing x → PartHasSpoken x.part → PartHasSpoken (with_station x.part (record { client = y; iss = s.iss }))
   by-client x s y there rule may h = record { client = rule (subst StationHasSpoken there h.client); front = h.front; nodes = h.nodes }
 
   client-rules : ClientRules k Speaks
@@ -70,7 +70,7 @@ module _ (k : Setting) (small : k.stream ≤ 2 ^ 30) where
 
   -- ---- the front end
 
-  front-move : (x : Conn) (heads : List Seen) (c : ℕ) (d : front.Deed) → fronts.DeedHas HasSpoken AnyReply c d → AllHaveSpoken x → AllHaveSpoken (grown x (front_does x heads d))
+  front-move : (x : Conn) (heads : List Seen) (c : ℕ) (d : front.FrontDeed) → fronts.DeedHas HasSpoken AnyReply c d → AllHaveSpoken x → AllHaveSpoken (grown x (front_does x heads d))
   front-move x heads c front.Drops g h = h
   front-move x heads c (front.Says turn) g h = h
   front-move x heads c (front.Does did) g h = record { client = h.client; front = known-front _ HasSpoken (λ b r. r.0) did.part.row g.0; nodes = h.nodes }
@@ -98,7 +98,7 @@ module _ (k : Setting) (small : k.stream ≤ 2 ^ 30) where
 
   -- ---- the nodes
 
-  node-move : (x : Conn) (n : ℕ) (heads : List Seen) (c : ℕ) (d : node.Deed) → nodes.DeedHas HasSpoken HasSpoken AnyReply c d → AllHaveSpoken x → AllHaveSpoken (grown x (node_does x n heads d))
+  node-move : (x : Conn) (n : ℕ) (heads : List Seen) (c : ℕ) (d : node.NodeDeed) → nodes.DeedHas HasSpoken HasSpoken AnyReply c d → AllHaveSpoken x → AllHaveSpoken (grown x (node_does x n heads d))
   node-move x n heads c node.Drops g h = h
   node-move x n heads c (node.Says ms) g h = h
   node-move x n heads c (node.Does given) g h = record { client = h.client; front = h.front; nodes = put-each x.part.nodes n given.0 (λ m p. NodeHas HasSpoken HasSpoken p) (node-weaker _ HasSpoken HasSpoken (λ b r. r.0) given.0 g.0) (λ m other. h.nodes m) }

@@ -14,7 +14,7 @@ use Rattle.lard_endpoint.specs.Arriving.{on_segment}
 use Rattle.lard_endpoint.specs.Control.{ControlBlock}
 use Rattle.lard_endpoint.specs.Leaving.{after_emit, after_timer, emitted, filled, timed}
 use Rattle.lard_endpoint.specs.Moving.{end_reason, final_of, may_end, may_freeze}
-use Rattle.lard_rules.specs.FrontReading.{Reading, block_at, left, reads, reads_block, reads_found, turn}
+use Rattle.lard_rules.specs.FrontReading.{Reading, block_at, reading_left, front_reads, reads_block, reads_found, reading_turn}
 use Rattle.lard_history.proofs.Each.{Each, Each-append, Each-weaker}
 use Rattle.lard_recv.specs.Recv.{restored}
 use Rattle.lard_request.specs.declared.verdict.Code.TheVariants as code
@@ -24,14 +24,14 @@ use Rattle.lard_rules.specs.declared.places.Ending.{Ending}
 use Rattle.lard_rules.specs.declared.places.Ending.TheVariants as ending
 use Rattle.lard_rules.specs.declared.places.Turn.{Turn}
 use Rattle.lard_rules.specs.Loop.{Step, More, Done}
-use Rattle.lard_rules.specs.Serving.{ServeEnv, Service, consumed, cut_off, limit_said, may_read, ready_of, rested, serving, settled, spoken, told}
+use Rattle.lard_rules.specs.Serving.{ServeEnv, Service, serving_consumed, cut_off, limit_said, may_read, serving_ready_of, rested, serving, serving_settled, spoken, serving_told}
 use Rattle.lard_rules.specs.Speaking.{speaks, speaks_symbols, to_client}
 use Rattle.lard_rules.proofs.Loops.{speaks_keep, symbols_keep}
 use Rattle.lard_rules.proofs.Runs.{runs_keep}
 use Rattle.lard_segment.specs.declared.segment.Dir.TheVariants.{ToClient}
 use Rattle.lard_segment.specs.declared.segment.Ready.{Ready}
 use Rattle.lard_segment.specs.Segment.{Said, spelled}
-use Rattle.lard_send.specs.Send.{begun}
+use Rattle.lard_send.specs.Send.{send_begun}
 
 -- ---- what goes out
 
@@ -44,7 +44,7 @@ AreTold c P ps = Each (Told c P) ps
 
 -- an endpoint, where any will do
 abbrev pub nobody : ControlBlock
-nobody = record { recv = restored 0 0 false []; send = begun 0 0 0 0; owed = false; last_window = 0; reset = false }
+nobody = record { recv = restored 0 0 false []; send = send_begun 0 0 0 0; owed = false; last_window = 0; reset = false }
 
 -- what is so of one segment is so of another predicate
 pub told-weaker : (c : ℕ) (P Q : Said → Type 0) → ((s : Said) → P s → Q s) → (ps : List (Place × List ℕ)) → AreTold c P ps → AreTold c Q ps
@@ -118,18 +118,18 @@ module _ (env : ServeEnv) (P R : ControlBlock → Type 0) (Word : Said → Type 
       let d : ControlBlock = (speaks_symbols env.c w.block).1 in
       let l : Spoke w.block (speaks_symbols env.c w.block).0 d = symbols-kept w.block h in
       let last = limit_said (final_of d Limit) in
-      record { ends = tt; sent = (d, Each-append (Told env.c (Reply d)) (speaks_symbols env.c w.block).0 (told env last ∷ []) l.sent ((refl, (last, refl, k.cuts d l.kept)), tt)) }
+      record { ends = tt; sent = (d, Each-append (Told env.c (Reply d)) (speaks_symbols env.c w.block).0 (serving_told env last ∷ []) l.sent ((refl, (last, refl, k.cuts d l.kept)), tt)) }
 
-  pub settled-has : (w : Service) → P w.block → TurnHas (settled env w)
+  pub settled-has : (w : Service) → P w.block → TurnHas (serving_settled env w)
   settled-has w h = go w.over where
     go : (o : Option ℕ) → TurnHas (elim o as (λ p. Ending × Turn) [ None ↦ spoken env w [] | Some total ↦ cut_off env w ])
     go None = spoken-has w [] h tt
     go (Some total) = cut-has w h
 
   -- what its timer sends again goes out first
-  pub fired-has : (b : ControlBlock) (count : ℕ) → R b → TurnHas (spoken env (serving (after_timer b) count []) (ready_of env (after_timer b) (timed b)))
-  fired-has b count h = spoken-has (serving (after_timer b) count []) (ready_of env (after_timer b) (timed b)) (k.fires b h) (go (timed b) refl) where
-    go : (o : Option Ready) → timed b ≡ o → AreTold env.c (Reply (after_timer b)) (ready_of env (after_timer b) o)
+  pub fired-has : (b : ControlBlock) (count : ℕ) → R b → TurnHas (spoken env (serving (after_timer b) count []) (serving_ready_of env (after_timer b) (timed b)))
+  fired-has b count h = spoken-has (serving (after_timer b) count []) (serving_ready_of env (after_timer b) (timed b)) (k.fires b h) (go (timed b) refl) where
+    go : (o : Option Ready) → timed b ≡ o → AreTold env.c (Reply (after_timer b)) (serving_ready_of env (after_timer b) o)
     go None e = tt
     go (Some r) e = ((refl, (filled (after_timer b) r, refl, k.again b r h e)), tt)
 
@@ -141,21 +141,21 @@ module _ (env : ServeEnv) (P : Service → Type 0) (kept : KeptByServing env P) 
   StepKeeps (Done x) = P x.service
 
   block-keeps : (x : Reading) (n : ℕ) (v : Verdict) (o : Option (List ℕ)) → may_read x.service ≡ true → P x.service → StepKeeps (reads_block env x n v o)
-  block-keeps x n v None may h = kept.answers (consumed n x.service) Own v may (kept.reads x.service n h)
+  block-keeps x n v None may h = kept.answers (serving_consumed n x.service) Own v may (kept.reads x.service n h)
   block-keeps x n v (Some path) may h = cond_both (may_freeze x.service.block) (record x { target = Some path }) x (λ (y : Reading). P y.service) (λ t. h) (λ t. h)
 
   found-keeps : (x : Reading) (f : Found) → may_read x.service ≡ true → P x.service → StepKeeps (reads_found env x f)
-  found-keeps x (found.More skip) may h = kept.ends (consumed skip x.service) (kept.reads x.service skip h)
+  found-keeps x (found.More skip) may h = kept.ends (serving_consumed skip x.service) (kept.reads x.service skip h)
   found-keeps x (found.Block skip len) may h = block-keeps x (skip + len) (block_at x skip len) (good_path env.files (block_at x skip len)) may h
   found-keeps x (found.TooLong skip) may h =
-      kept.answers (consumed (length x.service.block.recv.unread) x.service) Own (Fault code.FieldsTooLarge) may (kept.reads x.service (length x.service.block.recv.unread) h)
+      kept.answers (serving_consumed (length x.service.block.recv.unread) x.service) Own (Fault code.FieldsTooLarge) may (kept.reads x.service (length x.service.block.recv.unread) h)
 
-  turn-keeps : (x : Reading) → P x.service → StepKeeps (turn env x)
+  turn-keeps : (x : Reading) → P x.service → StepKeeps (reading_turn env x)
   turn-keeps x h = cond_both (may_read x.service) (reads_found env x (cut_of x.service.block.recv.unread)) (Done x) StepKeeps
       (λ may. found-keeps x (cut_of x.service.block.recv.unread) may h) (λ t. h)
 
-  pub reads-keep : (x : Reading) → P x.service → P (reads env x).service
-  reads-keep x h = runs_keep (turn env) left (λ (y : Reading). P y.service) (record {
+  pub reads-keep : (x : Reading) → P x.service → P (front_reads env x).service
+  reads-keep x h = runs_keep (reading_turn env) reading_left (λ (y : Reading). P y.service) (record {
     more = λ y z e p. subst StepKeeps e (turn-keeps y p);
     done = λ y z e p. subst StepKeeps e (turn-keeps y p);
   }) x h

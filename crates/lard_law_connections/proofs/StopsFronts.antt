@@ -21,8 +21,8 @@ use Rattle.lard_endpoint.specs.Leaving.{after_timer, timed}
 use Rattle.lard_endpoint.specs.Moving.{may_freeze}
 use Rattle.lard_rules.specs.declared.front.FrontRest.{FrontRest}
 use Rattle.lard_rules.specs.declared.front.FrontTurn.{FrontTurn}
-use Rattle.lard_rules.specs.Front.{Deed, Drops, Says, Does, FrontEnv, FrontPart, admitted_at, admitted_by, admitted_with, asked_by, assigns, begun, ended_by, fired, fired_by, fires_at, front_admitted, front_asked, front_ended, front_gets, front_hears, front_taken, front_timer, handed_off, heard, hears_at, holds, is_at, met, placed, rest_of, saying, settled_by, stage_after, tag_sent, taken_by}
-use Rattle.lard_rules.specs.FrontReading.{Reading, block_at, left, reads, reads_block, reads_found, targeted, turn}
+use Rattle.lard_rules.specs.Front.{FrontDeed, Drops, Says, Does, FrontEnv, FrontPart, admitted_at, admitted_by, front_admitted_with, asked_by, assigns, front_begun, front_ended_by, front_fired, front_fired_by, fires_at, front_admitted, front_asked, front_ended, front_gets, front_hears, front_taken, front_timer, handed_off, heard, hears_at, holds, is_row_at, met, placed, front_rest, front_saying, settled_by, stage_after, tag_sent, taken_by}
+use Rattle.lard_rules.specs.FrontReading.{Reading, block_at, reading_left, front_reads, reads_block, reads_found, targeted, reading_turn}
 use Rattle.lard_rules.proofs.FrontTurns.{falls}
 use Rattle.lard_handoff_front.specs.declared.row.FrontConn.{FrontConn}
 use Rattle.lard_handoff_front.specs.declared.row.FrontConn.TheVariants as stage
@@ -43,7 +43,7 @@ use Rattle.lard_rules.specs.declared.places.Ending.TheVariants as ending
 use Rattle.lard_rules.specs.declared.places.Turn.{Turn}
 use Rattle.lard_rules.specs.Tombstone.{is_plain_syn}
 use Rattle.lard_rules.specs.Loop.{Step, More, Done, runs_on}
-use Rattle.lard_rules.specs.Serving.{ServeEnv, Service, answered, consumed, cut_off, may_read, ready_of, serving, settled, spoken}
+use Rattle.lard_rules.specs.Serving.{ServeEnv, Service, answered, serving_consumed, cut_off, may_read, serving_ready_of, serving, serving_settled, spoken}
 use Rattle.lard_rules.specs.Speaking.{speaks}
 use Rattle.lard_segment.specs.declared.fault.SegFault.{SegFault}
 use Rattle.lard_segment.specs.Segment.{Said}
@@ -63,8 +63,8 @@ module _ (env : ServeEnv) where
   StepRests (More y) = MayRest y.service × (y.target ≡ None)
   StepRests (Done y) = Rests y
 
-  answers-rest : (v : Verdict) (n : ℕ) (s : Service) → may_read s ≡ true → MayRest (answered env Own v (consumed n s))
-  answers-rest v n s may none closed = stopped-discarding (answered env Own v (consumed n s)).block (answered-closes env Own v (consumed n s) (unfinished-there s may) closed)
+  answers-rest : (v : Verdict) (n : ℕ) (s : Service) → may_read s ≡ true → MayRest (answered env Own v (serving_consumed n s))
+  answers-rest v n s may none closed = stopped-discarding (answered env Own v (serving_consumed n s)).block (answered-closes env Own v (serving_consumed n s) (unfinished-there s may) closed)
 
   targeted-rests : (x : Reading) (path : List ℕ) → IsHeldBack env.files x.service.block ⊎ (may_freeze x.service.block ≡ true) → Rests (targeted path x)
   targeted-rests x path h = cond_both (may_freeze x.service.block) (record x { target = Some path }) x Rests
@@ -78,28 +78,28 @@ module _ (env : ServeEnv) where
     go false e = inl (record { skip = skip; len = len; path = path; found = is; good = good }, unfinished-there x.service may, e)
 
   found-rests : (x : Reading) → x.target ≡ None → may_read x.service ≡ true → (f : Found) → cut_of x.service.block.recv.unread ≡ f → StepRests (reads_found env x f)
-  found-rests x none may (found.More skip) is = λ t over calm. inl (ended-stopped (consumed skip x.service) (unfinished-there x.service may) (none-behind x.service.block.recv.unread skip is))
+  found-rests x none may (found.More skip) is = λ t over calm. inl (ended-stopped (serving_consumed skip x.service) (unfinished-there x.service may) (none-behind x.service.block.recv.unread skip is))
   found-rests x none may (found.Block skip len) is = by_path (good_path env.files (block_at x skip len)) refl where
     by_path : (o : Option (List ℕ)) → good_path env.files (block_at x skip len) ≡ o → StepRests (reads_block env x (skip + len) (block_at x skip len) o)
     by_path None e = (answers-rest (block_at x skip len) (skip + len) x.service may, none)
     by_path (Some path) e = good-rests x skip len path is e may
   found-rests x none may (found.TooLong skip) is = (answers-rest (Fault code.FieldsTooLarge) (length x.service.block.recv.unread) x.service may, none)
 
-  turn-rests : (x : Reading) → MayRest x.service → x.target ≡ None → StepRests (turn env x)
+  turn-rests : (x : Reading) → MayRest x.service → x.target ≡ None → StepRests (reading_turn env x)
   turn-rests x h none = cond_both (may_read x.service) (reads_found env x (cut_of x.service.block.recv.unread)) (Done x) StepRests
       (λ may. found-rests x none may (cut_of x.service.block.recv.unread) refl)
       (λ may t over calm. inl (h over (closed-there x.service over calm may)))
 
-  stops-on : (n : ℕ) (x : Reading) → left x < n → MayRest x.service → x.target ≡ None → Rests (runs_on n (turn env) x)
+  stops-on : (n : ℕ) (x : Reading) → reading_left x < n → MayRest x.service → x.target ≡ None → Rests (runs_on n (reading_turn env) x)
   unfolding runs_on
   stops-on zero x less h none = absurd (omega (arith, less))
-  stops-on (suc n) x less h none = go (turn env x) refl (turn-rests x h none) (stops-on n) where
-    go : (s : Step Reading) → turn env x ≡ s → StepRests s → ((y : Reading) → left y < n → MayRest y.service → y.target ≡ None → Rests (runs_on n (turn env) y)) → Rests (elim s as (λ s. Reading) [ More y ↦ runs_on n (turn env) y | Done y ↦ y ])
+  stops-on (suc n) x less h none = go (reading_turn env x) refl (turn-rests x h none) (stops-on n) where
+    go : (s : Step Reading) → reading_turn env x ≡ s → StepRests s → ((y : Reading) → reading_left y < n → MayRest y.service → y.target ≡ None → Rests (runs_on n (reading_turn env) y)) → Rests (elim s as (λ s. Reading) [ More y ↦ runs_on n (reading_turn env) y | Done y ↦ y ])
     go (More y) e k later = let fall = falls env x y e in later y (omega (arith, fall, less)) k.0 k.1
     go (Done y) e k later = k
 
-  pub reads-rest : (s : Service) → MayRest s → Rests (reads env (record { service = s; target = None }))
-  reads-rest s h = stops-on (left (record { service = s; target = None }) + 1) (record { service = s; target = None }) (omega arith) h refl
+  pub reads-rest : (s : Service) → MayRest s → Rests (front_reads env (record { service = s; target = None }))
+  reads-rest s h = stops-on (reading_left (record { service = s; target = None }) + 1) (record { service = s; target = None }) (omega arith) h refl
 
   -- ---- the end of a turn
 
@@ -115,7 +115,7 @@ module _ (env : ServeEnv) where
             (h (sym same.4 ∙ calm)),
       ))
 
-  settled-stops : (s : Service) → (s.over ≡ None → s.block.reset ≡ false → HasStopped s.block ⊎ IsHeldBack env.files s.block) → Stays (HeldStops env.files) (settled env s).0
+  settled-stops : (s : Service) → (s.over ≡ None → s.block.reset ≡ false → HasStopped s.block ⊎ IsHeldBack env.files s.block) → Stays (HeldStops env.files) (serving_settled env s).0
   settled-stops s h = go s.over refl where
     go : (o : Option ℕ) → s.over ≡ o → Stays (HeldStops env.files) (elim o as (λ p. Ending × Turn) [ None ↦ spoken env s [] | Some total ↦ cut_off env s ]).0
     go None e = spoken-stops s [] (h e)
@@ -124,7 +124,7 @@ module _ (env : ServeEnv) where
 -- ---- what the front end keeps
 
 -- what it keeps behind a deed
-abbrev pub DeedStops : FilesAt → Deed → Type 0
+abbrev pub DeedStops : FilesAt → FrontDeed → Type 0
 DeedStops files Drops = Unit {0}
 DeedStops files (Says turn) = Unit {0}
 DeedStops files (Does did) = FrontStops files did.part.row
@@ -133,7 +133,7 @@ module _ (env : FrontEnv) (p : FrontPart) (h : FrontStops env.serve.files p.row)
   abbrev own : FilesAt
   own = env.serve.files
 
-  abbrev Goes : Deed → Type 0
+  abbrev Goes : FrontDeed → Type 0
   Goes d = DeedStops own d
 
   stage-held : (e : Ending) → Stays (HeldStops own) e → FrontStageStops own (stage_after stage.Held e)
@@ -152,13 +152,13 @@ module _ (env : FrontEnv) (p : FrontPart) (h : FrontStops env.serve.files p.row)
   placed-stops row rest w path first.Waits = stage-waiting _
 
   settled-by : (row : FrontRow) (rest : FrontRest) (w : Service) (t : Option (List ℕ)) → (t ≡ None → w.over ≡ None → w.block.reset ≡ false → HasStopped w.block ⊎ IsHeldBack own w.block) → Goes (settled_by env p row rest w t)
-  settled-by row rest w None k = holds-stop row rest (settled env.serve w) (settled-stops env.serve w (k refl))
+  settled-by row rest w None k = holds-stop row rest (serving_settled env.serve w) (settled-stops env.serve w (k refl))
   settled-by row rest w (Some path) k = placed-stops row rest w path (env.first path)
 
   heard-stops : (row : FrontRow) (rest : FrontRest) (b : ControlBlock) → (b.send.finished ≡ true → HasStopped b) → Goes (heard env p row rest b)
   heard-stops row rest b k =
       let start : Service = serving b rest.count [] in
-      let r : Reading = reads env.serve (record { service = start; target = None }) in
+      let r : Reading = front_reads env.serve (record { service = start; target = None }) in
       settled-by row rest r.service r.target (reads-rest env.serve start (λ none closed. k closed))
 
   -- a segment that arrives leaves it stopped where it is closed
@@ -171,14 +171,14 @@ module _ (env : FrontEnv) (p : FrontPart) (h : FrontStops env.serve.files p.row)
   held-row row st found at = subst (FrontStageStops own) at (subst (FrontStops own) found h)
 
   met-stops : (s : Said) → Goes (met env p s)
-  met-stops s = cond_both (is_plain_syn s) (begun env p s) Drops Goes
+  met-stops s = cond_both (is_plain_syn s) (front_begun env p s) Drops Goes
       (λ t.
       let start : Service = serving (listening s env.iss) 0 (rec.Took Front env.serve.c (record { 0 = 1 }) ∷ []) in
-      holds-stop (record { stage = stage.Lent; epoch = record { 0 = 1 }; ended_by = None }) (rest_of None) (spoken env.serve start []) (spoken-stops env.serve start [] (λ calm. inl (stopped-begun s env.iss))))
+      holds-stop (record { stage = stage.Lent; epoch = record { 0 = 1 }; ended_by = None }) (front_rest None) (spoken env.serve start []) (spoken-stops env.serve start [] (λ calm. inl (stopped-begun s env.iss))))
       (λ t. tt)
 
   hears-at-stops : (row : FrontRow) → p.row ≡ Some row → (bytes : List ℕ) (s : Said) (st : FrontConn) → row.stage ≡ st → Goes (hears_at env p row bytes s st)
-  hears-at-stops row found bytes s (stage.Held b) at = heard-stops row (rest_of p.rest) (on_segment b s).1 (arrived-stops b s (held-row row (stage.Held b) found at))
+  hears-at-stops row found bytes s (stage.Held b) at = heard-stops row (front_rest p.rest) (on_segment b s).1 (arrived-stops b s (held-row row (stage.Held b) found at))
   hears-at-stops row found bytes s (stage.Waiting b) at = stage-waiting _
   hears-at-stops row found bytes s _ at = tt
 
@@ -194,12 +194,12 @@ module _ (env : FrontEnv) (p : FrontPart) (h : FrontStops env.serve.files p.row)
   fires-at-stops row found (stage.Held b) at =
       let held : HeldStops own b = held-row row (stage.Held b) found at in
       let same : Same b (after_timer b) = timer-same b in
-      holds-stop row (rest_of p.rest) (fired env (rest_of p.rest) b) (spoken-stops env.serve (serving (after_timer b) (rest_of p.rest).count []) (ready_of env.serve (after_timer b) (timed b)) (λ calm.
+      holds-stop row (front_rest p.rest) (front_fired env (front_rest p.rest) b) (spoken-stops env.serve (serving (after_timer b) (front_rest p.rest).count []) (serving_ready_of env.serve (after_timer b) (timed b)) (λ calm.
       ⊎_elim (λ (t : HasStopped b). inl (same-stopped b (after_timer b) same t)) (λ (t : IsHeldBack own b). inr (same-held own b (after_timer b) same t)) held.1))
   fires-at-stops row found (stage.Waiting b) at = stage-waiting _
   fires-at-stops row found _ at = tt
 
-  fires-stops : (q : Option FrontRow) → p.row ≡ q → Goes (fired_by env p q)
+  fires-stops : (q : Option FrontRow) → p.row ≡ q → Goes (front_fired_by env p q)
   fires-stops None found = tt
   fires-stops (Some row) found = fires-at-stops row found row.stage refl
 
@@ -209,13 +209,13 @@ module _ (env : FrontEnv) (p : FrontPart) (h : FrontStops env.serve.files p.row)
   asked-by-stops : (n epoch : ℕ) (ask : Ask) (q : Option FrontRest) → Goes (asked_by env p n epoch ask q)
   asked-by-stops n epoch ask None = tt
   asked-by-stops n epoch ask (Some rest) =
-      cond_both (ask.number == rest.asks + 1) (Does (assigns env p rest n epoch ask (env.later ask))) (cond (ask.number == rest.asks && nat_lt 0 rest.asks) (Says (saying (tag_sent env n epoch rest.asks rest.tag))) Drops) Goes (λ t. h)
-      (λ t. cond_both (ask.number == rest.asks && nat_lt 0 rest.asks) (Says (saying (tag_sent env n epoch rest.asks rest.tag))) Drops Goes (λ u. tt) (λ u. tt))
+      cond_both (ask.number == rest.asks + 1) (Does (assigns env p rest n epoch ask (env.later ask))) (cond (ask.number == rest.asks && nat_lt 0 rest.asks) (Says (front_saying (tag_sent env n epoch rest.asks rest.tag))) Drops) Goes (λ t. h)
+      (λ t. cond_both (ask.number == rest.asks && nat_lt 0 rest.asks) (Says (front_saying (tag_sent env n epoch rest.asks rest.tag))) Drops Goes (λ u. tt) (λ u. tt))
 
   pub asked-stops : (n epoch : ℕ) (ask : Ask) → Goes (front_asked env p n epoch ask)
-  asked-stops n epoch ask = cond_both (is_at n epoch p.row) (asked_by env p n epoch ask p.rest) Drops Goes (λ t. asked-by-stops n epoch ask p.rest) (λ t. tt)
+  asked-stops n epoch ask = cond_both (is_row_at n epoch p.row) (asked_by env p n epoch ask p.rest) Drops Goes (λ t. asked-by-stops n epoch ask p.rest) (λ t. tt)
 
-  ended-by-stops : (n epoch : ℕ) (last : Final) (q : Option FrontRow) (a : OnEnded) → Goes (ended_by env p n epoch last q a)
+  ended-by-stops : (n epoch : ℕ) (last : Final) (q : Option FrontRow) (a : OnEnded) → Goes (front_ended_by env p n epoch last q a)
   ended-by-stops n epoch last None a = tt
   ended-by-stops n epoch last (Some row) (New next) = tt
   ended-by-stops n epoch last (Some row) Again = tt
@@ -225,14 +225,14 @@ module _ (env : FrontEnv) (p : FrontPart) (h : FrontStops env.serve.files p.row)
   ended-stops n epoch last = ended-by-stops n epoch last p.row (end_answer epoch p.row)
 
   module _ (choice : FirstChoice) (given : FrontPart × FrontTurn) where
-    admitted-with : (row : FrontRow) (b : ControlBlock) (t : Option (List ℕ)) → admitted_with env row (rest_of p.rest) b choice t ≡ Some given → FrontStops own given.0.row
+    admitted-with : (row : FrontRow) (b : ControlBlock) (t : Option (List ℕ)) → front_admitted_with env row (front_rest p.rest) b choice t ≡ Some given → FrontStops own given.0.row
     admitted-with row b None e = let no : None ≡ Some given = e in absurd cc
     admitted-with row b (Some path) e =
-        let same : handed_off env row (serving b (rest_of p.rest).count []) path choice ≡ given = cc in
+        let same : handed_off env row (serving b (front_rest p.rest).count []) path choice ≡ given = cc in
         subst (λ (g : FrontPart × FrontTurn). FrontStops own g.0.row) same tt
 
     admitted-at : (row : FrontRow) (st : FrontConn) → admitted_at env p choice row st ≡ Some given → FrontStops own given.0.row
-    admitted-at row (stage.Waiting b) e = admitted-with row b (rest_of p.rest).target e
+    admitted-at row (stage.Waiting b) e = admitted-with row b (front_rest p.rest).target e
     admitted-at row _ e = let no : None ≡ Some given = e in absurd cc
 
     admitted-by : (q : Option FrontRow) → admitted_by env p choice q ≡ Some given → FrontStops own given.0.row
@@ -253,7 +253,7 @@ taken-stops files p epoch = taken-by-stops files p epoch p.row (asked_node epoch
 
 -- ---- its move
 
-pub front-move : (files : FilesAt) (x : Conn) (heads : List Seen) (d : Deed) → DeedStops files d → ReadingStops files x → ReadingStops files (grown x (front_does x heads d))
+pub front-move : (files : FilesAt) (x : Conn) (heads : List Seen) (d : FrontDeed) → DeedStops files d → ReadingStops files x → ReadingStops files (grown x (front_does x heads d))
 front-move files x heads Drops k h = h
 front-move files x heads (Says turn) k h = h
 front-move files x heads (Does did) k h = (k, h.1)

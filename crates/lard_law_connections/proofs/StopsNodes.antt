@@ -10,7 +10,7 @@ use Rattle.lard_base.specs.declared.place.Via.TheVariants as via
 use Rattle.lard_block.specs.declared.block.Found.{Found}
 use Rattle.lard_block.specs.declared.block.Found.TheVariants as found
 use Rattle.lard_block.specs.Blocks.{blocks, cut_of}
-use Rattle.lard_law_connections.specs.Stops.{BackStageStops, HereStops, IsAwaited, NodeStops, ReadingStops, RowStops, StayStops}
+use Rattle.lard_law_connections.specs.Stops.{BackStageStops, HereStops, FirstIsAwaited, NodeStops, ReadingStops, RowStops, StayStops}
 use Rattle.lard_rules.proofs.StayFalling.{falls, none-left}
 use Rattle.lard_law_connections.proofs.StopsSame.{Same, Stays, answered-closes, closed-there, ended-stopped, none-behind, rested-stays, same-stopped, segment-closes, speaks-same, timer-same}
 use Rattle.lard_law_view.specs.View.{Conn, node_does, grown}
@@ -23,8 +23,8 @@ use Rattle.lard_handoff_back.specs.declared.row.BackConn.TheVariants as back
 use Rattle.lard_handoff_back.specs.declared.row.BackRow.{BackRow}
 use Rattle.lard_handoff_back.specs.declared.table.Adopt.{Adopt}
 use Rattle.lard_handoff_back.specs.declared.table.Adopt.TheVariants.{New, Again, Stale}
-use Rattle.lard_handoff_back.specs.Back.{awaits_ack, endpoint_of, offer_answer, staying}
-use Rattle.lard_handoff_back.specs.Row.{held_in}
+use Rattle.lard_handoff_back.specs.Back.{awaits_ack, back_endpoint, offer_answer, staying}
+use Rattle.lard_handoff_back.specs.Row.{back_held}
 use Rattle.lard_history.specs.Own.{Seen}
 use Rattle.lard_journal.specs.declared.rec.Rec.TheVariants as rec
 use Rattle.lard_lateral.specs.Lateral.{is_from}
@@ -37,11 +37,11 @@ use Rattle.lard_rules.specs.declared.stay.Next.TheVariants as next
 use Rattle.lard_rules.specs.declared.stay.Progress.{Progress}
 use Rattle.lard_rules.specs.declared.stay.Progress.TheVariants as progress
 use Rattle.lard_rules.specs.declared.stay.Stay.{Stay}
-use Rattle.lard_rules.specs.Node.{Deed, Drops, Says, Does, NodePart, begins, both_of, come_by, fired_by, gone, heard_by, here, is_awaited, kept_after, node_acknowledged, node_content, node_forwarded, node_offered, node_read, node_tagged, node_timer, offered_by, read_by, saying, tagged_by, taken_sent, with_work, work_of}
-use Rattle.lard_rules.specs.Stay.{NodeEnv, Work, asking, asks_for, came_for, come_on, come_progress, entered, enters, enters_first, enters_one, goes_on, left, named_path, named_paths, next_in, read_progress, reads_batch, reads_these, serves_by, serves_first, started, started_here, started_there, starts_at, starts_named, starts_one, tagged, turn, turned}
+use Rattle.lard_rules.specs.Node.{NodeDeed, Drops, Says, Does, NodePart, node_begins, both_of, come_by, node_fired_by, gone, node_heard_by, here, is_tag_awaited, kept_after, node_acknowledged, node_content, node_forwarded, node_offered, node_read, node_tagged, node_timer, offered_by, node_read_by, node_saying, tagged_by, taken_sent, with_work, work_of}
+use Rattle.lard_rules.specs.Stay.{NodeEnv, Work, asking, asks_for, came_for, come_on, come_progress, entered, enters, enters_first, enters_one, goes_on, work_left, named_path, named_paths, next_in, read_progress, reads_batch, reads_these, serves_by, serves_first, started, started_here, started_there, starts_at, starts_named, starts_one, tagged, stay_turn, turned}
 use Rattle.lard_reader.specs.Batches.{batch_of, bytes_used}
 use Rattle.lard_reader.proofs.Going.{batch-closed, batch-long, batch-open, used-suc}
-use Rattle.lard_recv.specs.Recv.{Received, awaited, begins_after, ends, fresh, taken}
+use Rattle.lard_recv.specs.Recv.{Received, awaited, begins_after, ends, fresh_bytes, bytes_taken}
 use Rattle.lard_request.specs.declared.verdict.Code.TheVariants.{FieldsTooLarge}
 use Rattle.lard_request.specs.declared.verdict.Verdict.{Verdict}
 use Rattle.lard_request.specs.declared.verdict.Verdict.TheVariants.{Fault}
@@ -51,7 +51,7 @@ use Rattle.lard_rules.specs.declared.places.Ending.{Ending}
 use Rattle.lard_rules.specs.declared.places.Ending.TheVariants as ending
 use Rattle.lard_rules.specs.declared.places.Turn.{Turn}
 use Rattle.lard_rules.specs.Loop.{Step, More, Done, runs_on, state_of}
-use Rattle.lard_rules.specs.Serving.{Service, answered, consumed, cut_off, ended_at_fin, may_read, ready_of, serving, settled, spoken}
+use Rattle.lard_rules.specs.Serving.{Service, answered, serving_consumed, cut_off, ended_at_fin, may_read, serving_ready_of, serving, serving_settled, spoken}
 use Rattle.lard_rules.specs.Speaking.{speaks}
 use Rattle.lard_segment.specs.declared.fault.SegFault.{SegFault}
 use Rattle.lard_segment.specs.Segment.{Said}
@@ -73,7 +73,7 @@ none-read q none = go (cut_of q) refl where
   go (found.Block s l) e = absurd (by_close s l e (closes (verdict (take l (drop s q)))) refl)
   go (found.TooLong s) e = absurd (some (Fault FieldsTooLarge) [] (batch_of 8 q) (batch-long 7 q s e) none)
 
-awaited-batch : (es : List Entry) → next_in es ≡ next.Stop → IsAwaited es
+awaited-batch : (es : List Entry) → next_in es ≡ next.Stop → FirstIsAwaited es
 awaited-batch [] h = let no : next.Read ≡ next.Stop = h in absurd cc
 awaited-batch (e ∷ es) h = h
 
@@ -84,7 +84,7 @@ segment-keeps b s e = sym same ∙ e where
   r = b.recv
 
   grown_by : Received
-  grown_by = taken r (fresh r s.seq s.payload) (ends r s.seq s.payload s.flags.fin)
+  grown_by = bytes_taken r (fresh_bytes r s.seq s.payload) (ends r s.seq s.payload s.flags.fin)
 
   same : (on_segment b s).1.recv.discarding ≡ b.recv.discarding
   same = segment-takes (λ z. z.discarding ≡ r.discarding) s b refl
@@ -98,14 +98,14 @@ Closes b batch = b.send.finished ≡ true → HasStopped b × (b.recv.discarding
 
 -- and while it goes on, the first is awaited, or nothing is left
 abbrev pub IsAt : ControlBlock → List Entry → Type 0
-IsAt b batch = (b.send.finished ≡ false → IsAwaited batch ⊎ (HasStopped b × (batch ≡ []))) × Closes b batch
+IsAt b batch = (b.send.finished ≡ false → FirstIsAwaited batch ⊎ (HasStopped b × (batch ≡ []))) × Closes b batch
 
 open-closes : (b : ControlBlock) (batch : List Entry) → b.send.finished ≡ false → Closes b batch
 open-closes b batch open_ closed = absurd (both_ways b.send.finished open_ closed)
 
 pub same-at : (b d : ControlBlock) (batch : List Entry) → Same b d → IsAt b batch → IsAt d batch
 same-at b d batch same h = (
-  (λ open_. ⊎_elim (λ (a : IsAwaited batch). inl a) (λ (t : HasStopped b × (batch ≡ [])). inr (same-stopped b d same t.0, t.1)) (h.0 (sym same.3 ∙ open_))),
+  (λ open_. ⊎_elim (λ (a : FirstIsAwaited batch). inl a) (λ (t : HasStopped b × (batch ≡ [])). inr (same-stopped b d same t.0, t.1)) (h.0 (sym same.3 ∙ open_))),
   (λ closed. let t = h.1 (sym same.3 ∙ closed) in (same-stopped b d same t.0, λ e. t.1 (sym (ap (λ r. r.discarding) same.0) ∙ e))),
 )
 
@@ -189,11 +189,11 @@ module _ (env : NodeEnv) where
       → StepRests (reads_these env here (bytes_used 8 k.service.block.recv.unread) k vs) × MayRest (state_of (reads_these env here (bytes_used 8 k.service.block.recv.unread) k vs))
   these-at here k open_ none [] e =
       let used = bytes_used 8 k.service.block.recv.unread in
-      let st : HasStopped (ended_at_fin (consumed used k.service)).block = ended-stopped (consumed used k.service) open_ (none-read k.service.block.recv.unread e) in
+      let st : HasStopped (ended_at_fin (serving_consumed used k.service)).block = ended-stopped (serving_consumed used k.service) open_ (none-read k.service.block.recv.unread e) in
       ((λ over calm. ((λ o. inr (st, none)), (λ closed. (st, λ d. none)))), (λ closed. (st, λ d. none)))
   these-at here k open_ none (v ∷ vs) e =
       let used = bytes_used 8 k.service.block.recv.unread in
-      let rest : Work = record k { service = consumed used k.service } in
+      let rest : Work = record k { service = serving_consumed used k.service } in
       let all : Work = enters env here (k.service.count + 1) (v ∷ vs) rest in
       let size = length (v ∷ vs) in
       let same : (asking env size all).service.block ≡ rest.service.block = asks-block size (named_paths env.serve.files all.batch) all ∙ enters-block here (k.service.count + 1) (v ∷ vs) rest in
@@ -219,22 +219,22 @@ module _ (env : NodeEnv) where
   turned-at k next.Read e may h = (batch-at false k (unfinished-there k.service may) (none-left k.batch e)).0
   turned-at k next.Stop e may h = λ over calm. ((λ open_. inl (awaited-batch k.batch e)), h)
 
-  turn-at : (k : Work) → MayRest k → StepRests (turn env k)
+  turn-at : (k : Work) → MayRest k → StepRests (stay_turn env k)
   turn-at k h = go (may_read k.service) refl where
     go : (b : Bool) → may_read k.service ≡ b → StepRests (turned env k (cond b (next_in k.batch) next.Stop))
     go true may = turned-at k (next_in k.batch) refl may h
     go false may = λ over calm. ((λ open_. absurd (both_ways k.service.block.send.finished open_ (closed-there k.service over calm may))), h)
 
-  goes-on : (n : ℕ) (k : Work) → left k < n → MayRest k → Rests (runs_on n (turn env) k)
+  goes-on : (n : ℕ) (k : Work) → work_left k < n → MayRest k → Rests (runs_on n (stay_turn env) k)
   unfolding runs_on
   goes-on zero k less h = absurd (omega (arith, less))
-  goes-on (suc n) k less h = go (turn env k) refl (turn-at k h) (goes-on n) where
-    go : (s : Step Work) → turn env k ≡ s → StepRests s → ((y : Work) → left y < n → MayRest y → Rests (runs_on n (turn env) y)) → Rests (elim s as (λ s. Work) [ More y ↦ runs_on n (turn env) y | Done y ↦ y ])
+  goes-on (suc n) k less h = go (stay_turn env k) refl (turn-at k h) (goes-on n) where
+    go : (s : Step Work) → stay_turn env k ≡ s → StepRests s → ((y : Work) → work_left y < n → MayRest y → Rests (runs_on n (stay_turn env) y)) → Rests (elim s as (λ s. Work) [ More y ↦ runs_on n (stay_turn env) y | Done y ↦ y ])
     go (More y) e g later = let fall = falls env k y e in later y (omega (arith, fall, less)) g
     go (Done y) e g later = g
 
   pub goes-rest : (k : Work) → MayRest k → Rests (goes_on env k)
-  goes-rest k h = goes-on (left k + 1) k (omega arith) h
+  goes-rest k h = goes-on (work_left k + 1) k (omega arith) h
 
   -- ---- the end of a turn
 
@@ -248,7 +248,7 @@ module _ (env : NodeEnv) where
       let same : Same s.block b = speaks-same env.serve.c s.block in
       rested-stays (λ d. StayStops d batch) b s.count (λ calm. let at : IsAt b batch = same-at s.block b batch same (h (sym same.4 ∙ calm)) in record { not_reset = calm; open_ = at.0; closed = at.1 })
 
-  settled-at : (k : Work) → Rests k → Stays (λ b. StayStops b k.batch) (settled env.serve k.service).0
+  settled-at : (k : Work) → Rests k → Stays (λ b. StayStops b k.batch) (serving_settled env.serve k.service).0
   settled-at k h = go k.service.over refl where
     go : (o : Option ℕ) → k.service.over ≡ o → Stays (λ b. StayStops b k.batch) (elim o as (λ p. Ending × Turn) [ None ↦ spoken env.serve k.service [] | Some total ↦ cut_off env.serve k.service ]).0
     go None e = spoken-at k.service [] k.batch (h e)
@@ -256,13 +256,13 @@ module _ (env : NodeEnv) where
 
   -- ---- the rules
 
-  abbrev pub DeedStops : Deed → Type 0
+  abbrev pub DeedStops : NodeDeed → Type 0
   DeedStops Drops = Unit {0}
   DeedStops (Says ms) = Unit {0}
   DeedStops (Does given) = NodeStops given.0
 
   works-stop : (p : NodePart) (before : List (Place × List ℕ)) (k : Work) → Rests k → DeedStops (with_work env p before k)
-  works-stop p before k h = after-stops p k (settled env.serve k.service).0 (settled-at k h)
+  works-stop p before k h = after-stops p k (serving_settled env.serve k.service).0 (settled-at k h)
 
   goes-stop : (p : NodePart) (before : List (Place × List ℕ)) (k : Work) → MayRest k → DeedStops (with_work env p before (goes_on env k))
   goes-stop p before k h = works-stop p before (goes_on env k) (goes-rest k h)
@@ -274,21 +274,21 @@ module _ (env : NodeEnv) where
       of-stay b None k = none
       of-stay b (Some s) k = some (b, s) k
 
-      of-stage : (d : BackConn) (o : Option Stay) → BackStageStops d o → P (both_of (held_in d) o)
+      of-stage : (d : BackConn) (o : Option Stay) → BackStageStops d o → P (both_of (back_held d) o)
       of-stage (back.Here b) o k = of-stay b o k
       of-stage _ o k = none
 
-      at-endpoint : (q : Option BackRow) → RowStops q p.stay → P (both_of (endpoint_of q) p.stay)
+      at-endpoint : (q : Option BackRow) → RowStops q p.stay → P (both_of (back_endpoint q) p.stay)
       at-endpoint None k = none
       at-endpoint (Some row) k = of-stage row.stage p.stay k
 
       at-epoch : (q : Option BackRow) → RowStops q p.stay → P (both_of (staying env.epoch q) p.stay)
       at-epoch None k = none
-      at-epoch (Some row) k = cond_both (row.epoch.0 == env.epoch) (held_in row.stage) None (λ o. P (both_of o p.stay)) (λ t. of-stage row.stage p.stay k) (λ t. none)
+      at-epoch (Some row) k = cond_both (row.epoch.0 == env.epoch) (back_held row.stage) None (λ o. P (both_of o p.stay)) (λ t. of-stage row.stage p.stay k) (λ t. none)
 
     pub forwarded-stops : (r : Result Said SegFault) → DeedStops (node_forwarded env p r)
     forwarded-stops (Err fault) = tt
-    forwarded-stops (Ok s) = at-epoch (λ y. DeedStops (heard_by env p (Ok s) y)) tt
+    forwarded-stops (Ok s) = at-epoch (λ y. DeedStops (node_heard_by env p (Ok s) y)) tt
         (λ y stops.
         let same = segment-closes y.0 s in
         goes-stop p [] (work_of (on_segment y.0 s).1 y.1) (λ closed.
@@ -311,7 +311,7 @@ module _ (env : NodeEnv) where
 
     pub tagged-stops : (number : ℕ) (nodes : List ℕ) → DeedStops (node_tagged env p number nodes)
     tagged-stops number nodes = at-epoch (λ y. DeedStops (tagged_by env number nodes p y)) tt
-        (λ y stops. cond_both (is_awaited env number nodes p y.1) (with_work env (record p { kept = without timer.Ask 0 p.kept }) [] (goes_on env (tagged env nodes (work_of y.0 y.1)))) Drops DeedStops
+        (λ y stops. cond_both (is_tag_awaited env number nodes p y.1) (with_work env (record p { kept = without timer.Ask 0 p.kept }) [] (goes_on env (tagged env nodes (work_of y.0 y.1)))) Drops DeedStops
         (λ t. goes-stop (record p { kept = without timer.Ask 0 p.kept }) [] (tagged env nodes (work_of y.0 y.1)) (tagged-closes nodes y stops)) (λ t. tt))
         p.row h
 
@@ -322,15 +322,15 @@ module _ (env : NodeEnv) where
         p.row h
 
     pub read-stops : (r : ℕ) → DeedStops (node_read env p r)
-    read-stops r = at-epoch (λ y. DeedStops (read_by env r p y)) tt
+    read-stops r = at-epoch (λ y. DeedStops (node_read_by env r p y)) tt
         (λ y stops. goes-stop p [] (came_for read_progress r (work_of y.0 y.1)) (came-closes read_progress r y stops)) p.row h
 
     pub timer-stops : DeedStops (node_timer env p)
-    timer-stops = at-endpoint (λ y. DeedStops (fired_by env p y)) tt
+    timer-stops = at-endpoint (λ y. DeedStops (node_fired_by env p y)) tt
         (λ y stops.
         let same : Same y.0 (after_timer y.0) = timer-same y.0 in
         let s : Service = serving (after_timer y.0) y.1.served [] in
-        let before : List (Place × List ℕ) = ready_of env.serve (after_timer y.0) (timed y.0) in
+        let before : List (Place × List ℕ) = serving_ready_of env.serve (after_timer y.0) (timed y.0) in
         after-stops p (work_of (after_timer y.0) y.1) (spoken env.serve s before).0
         (spoken-at s before y.1.batch (λ calm. same-at y.0 (after_timer y.0) y.1.batch same (stops.open_, stops.closed))))
         p.row h
@@ -340,10 +340,10 @@ module _ (env : NodeEnv) where
     gone-stops (Some row) = tt
 
     pub acknowledged-stops : DeedStops (node_acknowledged env p)
-    acknowledged-stops = cond_both (awaits_ack env.epoch p.row) (Does (record p { row = gone p.row; kept = without timer.Ended 0 p.kept }, saying [])) Drops DeedStops (λ t. gone-stops p.row) (λ t. tt)
+    acknowledged-stops = cond_both (awaits_ack env.epoch p.row) (Does (record p { row = gone p.row; kept = without timer.Ended 0 p.kept }, node_saying [])) Drops DeedStops (λ t. gone-stops p.row) (λ t. tt)
 
   offered-by : (p : NodePart) (parts : EndpointParts) (a : Adopt) → DeedStops (offered_by env parts p a)
-  offered-by p parts New = goes-stop p (taken_sent env) (state_of (reads_batch env true (begins env parts))) (batch-at true (begins env parts) refl refl).1
+  offered-by p parts New = goes-stop p (taken_sent env) (state_of (reads_batch env true (node_begins env parts))) (batch-at true (node_begins env parts) refl refl).1
   offered-by p parts Again = tt
   offered-by p parts Stale = tt
 
@@ -352,7 +352,7 @@ module _ (env : NodeEnv) where
 
 -- ---- its move
 
-pub node-move : (env : NodeEnv) (x : Conn) (n : ℕ) (heads : List Seen) (d : Deed) → DeedStops env d → (files : FilesAt) → ReadingStops files x → ReadingStops files (grown x (node_does x n heads d))
+pub node-move : (env : NodeEnv) (x : Conn) (n : ℕ) (heads : List Seen) (d : NodeDeed) → DeedStops env d → (files : FilesAt) → ReadingStops files x → ReadingStops files (grown x (node_does x n heads d))
 node-move env x n heads Drops k files h = h
 node-move env x n heads (Says ms) k files h = h
 node-move env x n heads (Does given) k files h = (h.0, put-each x.part.nodes n given.0 (λ m p. NodeStops p) k (λ m other. h.1 m))

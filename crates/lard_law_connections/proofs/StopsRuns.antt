@@ -7,7 +7,7 @@ use Rattle.lard_law_connections.specs.StopsLaws.{ConnectionsStop}
 use Rattle.lard_law_connections.specs.Stops.{FrontStops, ReadingStops}
 use Rattle.lard_law_connections.proofs.StopsFronts as fronts
 use Rattle.lard_law_connections.proofs.StopsNodes as nodes
-use Rattle.lard_law_view.specs.Carry.{IsLaw, MayMove, setting}
+use Rattle.lard_law_view.specs.Carry.{IsLaw, MayRestOn, setting}
 use Rattle.lard_law_view.specs.View.{ClientRules, Conn, FrontRules, IsFrontEnv, Move, NodeRules, Rules, Setting, event_seen, front_does, grown, packet_seen}
 use Rattle.lard_law_view.proofs.Carried.{carried}
 use Rattle.lard_files.specs.Files.{file_at}
@@ -24,7 +24,7 @@ Anything x = Unit {0}
 
 module _ (k : Setting) where
   abbrev Stops : Conn → Move → Type 0
-  Stops x v = MayMove Anything x → ReadingStops k.files x → ReadingStops k.files (grown x v)
+  Stops x v = MayRestOn Anything x → ReadingStops k.files x → ReadingStops k.files (grown x v)
 
   clients : ClientRules k Stops
   clients = record {
@@ -40,7 +40,7 @@ module _ (k : Setting) where
   }
 
   -- a rule of the front end, whose files are the run's
-  by-front : (x : Conn) (env : front.FrontEnv) → IsFrontEnv k x.c env → (heads : List Seen) (d : front.Deed) → (FrontStops env.serve.files x.part.front.row → fronts.DeedStops env.serve.files d) → ReadingStops k.files x → ReadingStops k.files (grown x (front_does x heads d))
+  by-front : (x : Conn) (env : front.FrontEnv) → IsFrontEnv k x.c env → (heads : List Seen) (d : front.FrontDeed) → (FrontStops env.serve.files x.part.front.row → fronts.DeedStops env.serve.files d) → ReadingStops k.files x → ReadingStops k.files (grown x (front_does x heads d))
   by-front x env is heads d rule h =
       subst (λ (files : FilesAt). ReadingStops files x → ReadingStops files (grown x (front_does x heads d))) is.files
       (λ g. fronts.front-move env.serve.files x heads d (rule g.0) g) h

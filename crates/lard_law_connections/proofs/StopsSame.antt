@@ -6,7 +6,7 @@ use Rattle.lard_answers.specs.Answers.{FilesAt, answer, good_path}
 use Rattle.lard_arrival.specs.Arrival.{bare, is_acceptable, is_allowed}
 use Rattle.lard_base.specs.declared.place.Via.{Via}
 use Rattle.lard_block.specs.declared.block.Found.TheVariants.{More}
-use Rattle.lard_block.specs.Blocks.{blocks, cut_of, moved}
+use Rattle.lard_block.specs.Blocks.{blocks, cut_of, piece_moved}
 use Rattle.lard_block.proofs.Division.{none-yet}
 use Rattle.lard_law_connections.specs.Stops.{IsHeldBack}
 use Rattle.lard_endpoint.specs.declared.control.arriving.Arrival.{Arrival}
@@ -124,7 +124,7 @@ nothing-mapped f (x ∷ xs) e = absurd (cc)
 
 -- behind the pairs that are skipped there is no block where there was none before them
 pub none-behind : (q : List ℕ) (skip : ℕ) → cut_of q ≡ More skip → blocks (drop skip q) ≡ []
-none-behind q skip e = nothing-mapped (moved (length (take skip q))) (blocks (drop skip q))
+none-behind q skip e = nothing-mapped (piece_moved (length (take skip q))) (blocks (drop skip q))
     (sym (cuts-more q skip e (drop skip q)) ∙ ap blocks (take-append-drop skip q) ∙ none-yet q skip e)
 
 -- where no whole block is left it has stopped, behind the client's FIN with its own

@@ -7,7 +7,7 @@ use Rattle.lard_base.specs.declared.place.Place.{Place}
 use Rattle.lard_base.specs.declared.place.Place.TheVariants.{Front, Node, Client}
 use Rattle.lard_rules.specs.declared.machine.Machine.{Machine}
 use Rattle.lard_rules.specs.Bounds.{HasRule}
-use Rattle.lard_rules.specs.Machine.{clocked, machine_step, passed, segments_sent, told}
+use Rattle.lard_rules.specs.Machine.{clocked, machine_step, passed, segments_sent, machine_told}
 use Rattle.lard_law_connections.proofs.StoresAsides.{IsAside, behind-aside, gave-aside, note-aside, sents-aside, timer-aside}
 use Rattle.lard_law_view.specs.View.{IsViewed}
 use Rattle.lard_law_view.proofs.AnyShape.{AnyShape, IsAct, SomeGift, SomeNote, SomeTimer, step-any}
@@ -39,8 +39,8 @@ last_rows w place o = sent_records (length w.net + 1) place o.segments ++ o.gave
 regroup : (A S G M T : List Rec) → A ++ S ++ G ++ M ++ T ≡ A ++ (S ++ G ++ M ++ T)
 regroup A S G M T = ap (λ l. l ++ M ++ T) (append_assoc A S G) ∙ ap (λ l. l ++ T) (append_assoc A (S ++ G) M) ∙ append_assoc A (S ++ G ++ M) T
 
-pub told-journal : (w : Machine) (e : Event) (place : Place) (o : Out) → (told w e (behind e) place o).journal ≡ w.journal ++ (first_rows w e ++ o.notes ++ last_rows w place o)
-unfolding told
+pub told-journal : (w : Machine) (e : Event) (place : Place) (o : Out) → (machine_told w e (behind e) place o).journal ≡ w.journal ++ (first_rows w e ++ o.notes ++ last_rows w place o)
+unfolding machine_told
 told-journal w e place o = ap (λ (rs : List Rec). w.journal ++ rs)
     (regroup (first_rows w e ++ o.notes) (sent_records (length w.net + 1) place o.segments) o.gave (sent_records (length (segments_sent w place o) + 1) place o.messages) o.timers)
 
@@ -61,7 +61,7 @@ module _ (m : Machine) where
   pub passed-calm : (e : Event) (own : List Rec) → Each IsAside own → IsCalm m (passed m e own)
   passed-calm e own asides = (rec.Event (m.events + 1) e ∷ own, refl, (tt, asides))
 
-  told-calm : (w : Machine) (e : Event) (place : Place) (o : Out) → IsAct m w e place o → NamesAll place → IsCalm m (told w e (behind e) place o)
+  told-calm : (w : Machine) (e : Event) (place : Place) (o : Out) → IsAct m w e place o → NamesAll place → IsCalm m (machine_told w e (behind e) place o)
   told-calm w e place o act names = (
     first_rows w e ++ o.notes ++ last_rows w place o,
     told-journal w e place o ∙ ap (λ (J : List Rec). J ++ (first_rows w e ++ o.notes ++ last_rows w place o)) act.put.journal,
@@ -74,7 +74,7 @@ module _ (m : Machine) where
   abbrev IsEither : Event → Machine → Type 0
   IsEither e n = NodeActs m e ⊎ IsCalm m n
 
-  act-either : (w : Machine) (e : Event) (place : Place) (o : Out) → IsAct m w e place o → IsEither e (told w e (behind e) place o)
+  act-either : (w : Machine) (e : Event) (place : Place) (o : Out) → IsAct m w e place o → IsEither e (machine_told w e (behind e) place o)
   act-either w e (Node i) o act = inl (i, act.acts)
   act-either w e Front o act = inr (told-calm w e Front o act tt)
   act-either w e (Client d) o act = inr (told-calm w e (Client d) o act tt)

@@ -8,7 +8,7 @@ use Rattle.lard_base.specs.declared.place.Place.TheVariants.{Node}
 use Rattle.lard_rules.specs.declared.machine.Machine.{Machine}
 use Rattle.lard_rules.specs.Bounds.{HasRule}
 use Rattle.lard_rules.specs.Machine.{machine_step, node_at, node_setting}
-use Rattle.lard_law_connections.specs.StoresLaws.{Completes, DisksAreRead, MustRead, NoneRead, is_read, job_told}
+use Rattle.lard_law_connections.specs.StoresLaws.{CompletesJob, DisksAreRead, MustRead, NoneRead, is_read, job_told}
 use Rattle.lard_counts.specs.Stores.{jobs}
 use Rattle.lard_law_connections.proofs.StoresAsides.{IsAside, aside, behind-aside}
 use Rattle.lard_law_connections.proofs.StoresCalm.{IsCalm, NodeActs, first_rows, last-aside, last_rows, told-journal}
@@ -49,7 +49,7 @@ notes-unread n files has (r ∷ rs) e = (one r e.0, notes-unread n files has rs 
 joined : (xs ys : List Rec) → NoneRead xs → NoneRead ys → NoneRead (xs ++ ys)
 joined xs ys e f = all-append (λ r. is_read r ≡ false) xs ys e f
 
-others-complete : (past : List Rec) (e : Event) (rs : List Rec) → IsOther e → NoneRead rs → Completes past e rs
+others-complete : (past : List Rec) (e : Event) (rs : List Rec) → IsOther e → NoneRead rs → CompletesJob past e rs
 others-complete past (event.Disk n j) rs other none = absurd other
 others-complete past _ rs other none = none
 
@@ -70,15 +70,15 @@ calm-reads m n e after other calm =
 
 -- node k.n moves, which has the jobs that J tells; behind the notes no job is read
 module _ (k : NodeSetting) (J : List Rec) (e : Event) (s : NodeState) (told : jobs J k.n ≡ map job_told s.disk) (last : List Rec) (none : NoneRead last) where
-  plain : (notes : List Rec) → IsOther e → NoneRead (behind e) → NoneRead notes → Completes J e (behind e ++ notes ++ last)
+  plain : (notes : List Rec) → IsOther e → NoneRead (behind e) → NoneRead notes → CompletesJob J e (behind e ++ notes ++ last)
   plain notes other first e_ = others-complete J e (behind e ++ notes ++ last) other (joined (behind e ++ notes) last (joined (behind e) notes first e_) none)
 
-  moves-read : (i : BackIn) (x : NodeState × Out) → Comes e k.n s i → NoneRead (behind e) → NodeMoves k s i x → Completes J e (behind e ++ x.1.notes ++ last)
+  moves-read : (i : BackIn) (x : NodeState × Out) → Comes e k.n s i → NoneRead (behind e) → NodeMoves k s i x → CompletesJob J e (behind e ++ x.1.notes ++ last)
   moves-read (back.Disk j) x named first (Plain idle moves) = let no : None ≡ Some named.1 = sym idle ∙ named.2 in absurd cc
   moves-read (back.Timer c) x named first (Plain idle moves) = plain x.1.notes named first (notes-unread k.n k.files _ x.1.notes moves.notes.each)
   moves-read (back.Message from bytes) x named first (Plain idle moves) = plain x.1.notes named first (notes-unread k.n k.files _ x.1.notes moves.notes.each)
   moves-read (back.Disk j) x named first (Reads {job = job} {x = y} is moves) =
-      subst (λ (d : Event). Completes J d (behind d ++ rec.Read k.n job.origin job.c job.r job.path ∷ y.1.notes ++ last)) (sym named.0)
+      subst (λ (d : Event). CompletesJob J d (behind d ++ rec.Read k.n job.origin job.c job.r job.path ∷ y.1.notes ++ last)) (sym named.0)
       (job_told job, y.1.notes ++ last, waiting-is J k.n j s.disk job told is, refl, joined y.1.notes last (notes-unread k.n k.files _ y.1.notes moves.notes.each) none)
 
 step-reads : (m n : Machine) (e : Event) → IsViewed m → HasRule e → machine_step m e ≡ Ok n → (after : IsAfter m e n)

@@ -7,10 +7,10 @@ use Rattle.lard_base.specs.declared.event.Event.{Event}
 use Rattle.lard_base.specs.declared.event.Event.TheVariants as event
 use Rattle.lard_base.specs.declared.place.Place.{Place}
 use Rattle.lard_base.specs.declared.place.Place.TheVariants.{Front, Node, Client}
-use Rattle.lard_client.specs.Control.{ClientBlock, is_armed, written_len}
+use Rattle.lard_client.specs.Control.{ClientBlock, is_client_armed, written_len}
 use Rattle.lard_rules.specs.declared.fault.StepFault.{StepFault}
 use Rattle.lard_rules.specs.declared.machine.Machine.{Machine}
-use Rattle.lard_rules.specs.Machine.{client_acted, client_does, client_goes_on, clocked, completes, delivered, disk_at, from_place, front_acts, happens, is_no_job, is_no_node, limit_reached, lost, machine_step, node_acts, node_at, node_gave, node_setting, opened, passed, timer, to_client, to_front, to_place, told, unless_limit, wrote}
+use Rattle.lard_rules.specs.Machine.{client_acted, client_acts, client_goes_on, clocked, completes, delivered, disk_at, from_place, front_acts, happens, is_no_job, is_no_node, limit_reached, lost, machine_step, node_acts, node_at, node_gave, node_setting, machine_opened, passed, timer, machine_to_client, machine_to_front, to_place, machine_told, unless_limit, machine_wrote}
 use Rattle.lard_law_connections.proofs.StoresAsides.{behind-aside}
 use Rattle.lard_law_connections.proofs.StoresCalm.{IsCalm, NodeActs, passed-calm}
 use Rattle.lard_law_view.proofs.Nothing.{numbered}
@@ -73,23 +73,23 @@ module _ (m : Machine) where
 
     module _ (never : NodeActs m e → ⊥) where
       client-form : (own : List Rec) (c iss : ℕ) (was : Bool) (given : ClientBlock × Turn) → IsForm m e (client_acted m e own c iss was given)
-      unfolding told
+      unfolding machine_told
       client-form own c iss was given = inl (refl, inl never)
 
       goes-form : (own : List Rec) (c : ℕ) (x : Station) (given : ClientBlock × Turn) → IsForm m e (client_goes_on m e own c x given)
-      goes-form own c x given = client-form own c x.iss (is_armed x.client) given
+      goes-form own c x given = client-form own c x.iss (is_client_armed x.client) given
 
       front-form : (own : List Rec) (i : FrontIn) → IsForm m e (front_acts m e own i)
-      unfolding told
+      unfolding machine_told
       front-form own i = inl (refl, inl never)
 
-      wrote-form : (c : ℕ) (bytes : List ℕ) (o : Option Station) → Formed m e (wrote m e c bytes o)
-      unfolding wrote
+      wrote-form : (c : ℕ) (bytes : List ℕ) (o : Option Station) → Formed m e (machine_wrote m e c bytes o)
+      unfolding machine_wrote
       wrote-form c bytes None = tt
       wrote-form c bytes (Some x) = either (nat_lt m.config.stream (written_len x.client bytes)) _ _ tt (goes-form [] c x (client_writes x.client bytes))
 
-      does-form : (own : List Rec) (c : ℕ) (rule : ClientBlock → ClientBlock × Turn) (o : Option Station) → Formed m e (client_does m e own c rule o)
-      unfolding client_does
+      does-form : (own : List Rec) (c : ℕ) (rule : ClientBlock → ClientBlock × Turn) (o : Option Station) → Formed m e (client_acts m e own c rule o)
+      unfolding client_acts
       does-form own c rule None = tt
       does-form own c rule (Some x) = goes-form own c x (rule x.client)
 
@@ -102,8 +102,8 @@ module _ (m : Machine) where
 
   -- ---- events of clients
 
-  opened-form : (c isn iss wnd mss : ℕ) (o : Option Station) → Formed m (event.Open c isn iss wnd mss) (opened m c isn iss wnd mss o)
-  unfolding opened
+  opened-form : (c isn iss wnd mss : ℕ) (o : Option Station) → Formed m (event.Open c isn iss wnd mss) (machine_opened m c isn iss wnd mss o)
+  unfolding machine_opened
   opened-form c isn iss wnd mss None =
       client-form (event.Open c isn iss wnd mss) (λ h. let no : Some (Client c) ≡ Some (Node h.0) = h.1 [] in cc) (rec.Opened c isn iss wnd mss ∷ []) c iss false (client_opens c isn wnd mss)
   opened-form c isn iss wnd mss (Some x) = tt
@@ -127,11 +127,11 @@ module _ (m : Machine) where
         let same : Some p ≡ Some h.1.0 = sym at ∙ h.1.1 in
         let one : p ≡ h.1.0 = cc in never h.0 (sym is ∙ ap (λ (l : Packet). l.to) one ∙ h.1.3)
 
-    front-gets : (never : NodeActs m e → ⊥) (c : ℕ) (o : Option Station) → IsForm m e (to_front m k p.bytes c o)
+    front-gets : (never : NodeActs m e → ⊥) (c : ℕ) (o : Option Station) → IsForm m e (machine_to_front m k p.bytes c o)
     front-gets never c None = passed-form e tt
     front-gets never c (Some x) = front-form e never (rec.Got k ∷ []) (input.Segment c (record { 0 = x.iss }) p.bytes)
 
-    client-gets-form : (never : NodeActs m e → ⊥) (c : ℕ) (o : Option Station) → IsForm m e (to_client m k p.bytes c o)
+    client-gets-form : (never : NodeActs m e → ⊥) (c : ℕ) (o : Option Station) → IsForm m e (machine_to_client m k p.bytes c o)
     client-gets-form never c None = passed-form e tt
     client-gets-form never c (Some x) = goes-form e never (rec.Got k ∷ []) c x (client_gets x.client (decoded p.bytes c ToClient))
 

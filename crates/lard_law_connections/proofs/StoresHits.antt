@@ -3,7 +3,7 @@ use Rattle.std.proofs.Common.{◌≡◌, ℕ, Bool, true, false, cond, List, [],
 use Rattle.std.proofs.lemmas.Slice.Eq.{bytes_eq-Decides}
 use Rattle.std.specs.Map.{remove_entry}
 use Rattle.std.specs.Str.{bytes_eq}
-use Rattle.lard_cache.specs.Recency.{after_hit, brought, has, size_at}
+use Rattle.lard_cache.specs.Recency.{after_hit, brought_forward, has_path, size_at}
 
 abbrev Entries : Type 0
 Entries = List (List ℕ × ℕ)
@@ -20,12 +20,12 @@ found-other (e ∷ es) p q other = go (bytes_eq p e.0) refl (found-other es p q 
   go false is later = ap (λ (o : Option ℕ). cond (bytes_eq q e.0) (Some e.1) o) later
 
 -- a hit changes nothing of what is in
-pub hit-has : (es : Entries) (p q : List ℕ) → has (after_hit es p) q ≡ has es q
+pub hit-has : (es : Entries) (p q : List ℕ) → has_path (after_hit es p) q ≡ has_path es q
 hit-has es p q = go (size_at es p) refl where
-  go : (o : Option ℕ) → size_at es p ≡ o → has (brought es p o) q ≡ has es q
+  go : (o : Option ℕ) → size_at es p ≡ o → has_path (brought_forward es p o) q ≡ has_path es q
   go None none = refl
   go (Some size) some = by (bytes_eq q p) refl where
-    by : (b : Bool) → bytes_eq q p ≡ b → is_some (cond {A = Option ℕ} (bytes_eq q p) (Some size) (size_at (remove_entry (bytes_eq p) es) q)) ≡ has es q
+    by : (b : Bool) → bytes_eq q p ≡ b → is_some (cond {A = Option ℕ} (bytes_eq q p) (Some size) (size_at (remove_entry (bytes_eq p) es) q)) ≡ has_path es q
     by true is =
         let same : q ≡ p = (bytes_eq-Decides q p).0 is in
         ap (λ (b : Bool). is_some (cond {A = Option ℕ} b (Some size) (size_at (remove_entry (bytes_eq p) es) q))) is ∙ sym (ap (λ x. is_some (size_at es x)) same ∙ ap (λ (o : Option ℕ). is_some o) some)

@@ -7,9 +7,9 @@ use Rattle.std.specs.Prelude.{slice_get}
 use Rattle.std.specs.Option.{option_map}
 use Rattle.lard_answers.specs.Answers.{FilesAt}
 use Rattle.lard_base.specs.declared.event.Event.TheVariants.{Disk}
-use Rattle.lard_cache.specs.Recency.{Recency, after_put, has}
+use Rattle.lard_cache.specs.Recency.{Recency, after_put, has_path}
 use Rattle.lard_law_connections.specs.StoresLaws.{MayStore, job_told}
-use Rattle.lard_counts.specs.Stores.{Queue, bytes_in, cache_of, cache_step, jobs, jobs_step, no_jobs, queue_of, size_of, waiting_at, without_waiting}
+use Rattle.lard_counts.specs.Stores.{Queue, bytes_of_file, cache_of, cache_step, jobs, jobs_step, no_jobs, queue_of, size_of, waiting_at, without_waiting}
 use Rattle.lard_law_connections.proofs.StoresAsides.{IsAside, cache-behind, jobs-behind}
 use Rattle.lard_law_connections.proofs.StoresNodes.{MovesFrom, NodeMoves, Plain, Reads}
 use Rattle.lard_law_connections.proofs.StoresNotes.{IsKept, notes-kept, notes-may, other-test, others-kept, own-test}
@@ -23,7 +23,7 @@ use Rattle.lard_journal.specs.declared.rec.Rec.TheVariants as rec
 use Rattle.lard_rules.specs.declared.node.BackIn.{BackIn}
 use Rattle.lard_rules.specs.declared.node.BackIn.TheVariants as back
 use Rattle.lard_rules.specs.declared.node.NodeState.{NodeState}
-use Rattle.lard_rules.specs.NodePlace.{NodeSetting, bytes_of, completed, hits}
+use Rattle.lard_rules.specs.NodePlace.{NodeSetting, content_bytes, completed, hits}
 use Rattle.lard_rules.specs.declared.places.Out.{Out}
 
 -- ---- a job among the jobs that are told
@@ -47,7 +47,7 @@ without-told disk j = go (nat_eq j 0) where
   go true = refl
   go false = (λ i. take-map job_told at disk i ++ drop-map job_told (suc at) disk i) ∙ sym (map-append job_told (take at disk) (drop (suc at) disk))
 
-size-is : (o : Option (List ℕ)) → bytes_in o ≡ length (bytes_of o)
+size-is : (o : Option (List ℕ)) → bytes_of_file o ≡ length (content_bytes o)
 size-is None = refl
 size-is (Some bytes) = refl
 
@@ -67,11 +67,11 @@ module _ (k : NodeSetting) (limit : ℕ) where
   moves-lead : (J : List Rec) (s : NodeState) (x : NodeState × Out) → IsKept k.files limit J k.n s.cache s.disk → MovesFrom k s x → Leads k.files limit J k.n x.1.notes x.0
   moves-lead J s x kept moves =
       let grown : IsKept k.files limit (J ++ x.1.notes) k.n (hits x.1.notes s.cache) (s.disk ++ moves.jobs) =
-      notes-kept k.n k.files (has s.cache.entries) limit J x.1.notes s.cache s.disk moves.jobs moves.notes kept in
+      notes-kept k.n k.files (has_path s.cache.entries) limit J x.1.notes s.cache s.disk moves.jobs moves.notes kept in
       record {
         mine = record { jobs_are = grown.jobs_are ∙ ap (map job_told) (sym moves.disk_is); cache_is = grown.cache_is ∙ sym moves.cache_is };
-        others = λ q cache disk other was. others-kept k.n k.files (has s.cache.entries) limit q J x.1.notes cache disk other moves.notes.each was;
-        law = notes-may k.n k.files (has s.cache.entries) limit J x.1.notes moves.notes.each (λ path. ap (λ (c : Recency). has c.entries path) kept.cache_is);
+        others = λ q cache disk other was. others-kept k.n k.files (has_path s.cache.entries) limit q J x.1.notes cache disk other moves.notes.each was;
+        law = notes-may k.n k.files (has_path s.cache.entries) limit J x.1.notes moves.notes.each (λ path. ap (λ (c : Recency). has_path c.entries path) kept.cache_is);
       }
 
   -- the j-th job is read

@@ -6,7 +6,7 @@ use Rattle.std.specs.List.{flat_map, list_any}
 use Rattle.lard_base.specs.declared.place.Place.{Place}
 use Rattle.lard_base.specs.declared.place.Place.TheVariants.{Front, Node}
 use Rattle.lard_base.specs.declared.place.TimerKind.{TimerKind}
-use Rattle.lard_cache.specs.Recency.{Recency, has}
+use Rattle.lard_cache.specs.Recency.{Recency, has_path}
 use Rattle.lard_law_connections.proofs.StoresAsides.{IsAside}
 use Rattle.lard_law_connections.proofs.StoresNotes.{Tells}
 use Rattle.lard_law_connections.proofs.StoresTurns.{DeedTells, acknowledged-deed, content-deed, fires-deed, forwarded-deed, nothing-told, offered-deed, read-deed, tagged-deed}
@@ -23,10 +23,10 @@ use Rattle.lard_rules.specs.declared.node.BackIn.{BackIn}
 use Rattle.lard_rules.specs.declared.node.BackIn.TheVariants as back
 use Rattle.lard_rules.specs.declared.node.NodeState.{NodeState}
 use Rattle.lard_rules.specs.declared.node.NodeTurn.{NodeTurn}
-use Rattle.lard_rules.specs.Node.{Deed, Drops, Says, Does, node_acknowledged, node_armed, node_content, node_forwarded, node_offered, node_read, node_tagged, node_timer, saying}
-use Rattle.lard_rules.specs.NodePlace.{NodeSetting, aside, brought, completed, content_sent, disk_step, epoch_at, fetched, fetched_file, hits, node_deed, node_env, node_gets, node_hears, node_part, node_step, with_first}
+use Rattle.lard_rules.specs.Node.{NodeDeed, Drops, Says, Does, node_acknowledged, node_armed, node_content, node_forwarded, node_offered, node_read, node_tagged, node_timer, node_saying}
+use Rattle.lard_rules.specs.NodePlace.{NodeSetting, aside, node_brought, completed, content_sent, disk_step, node_epoch_at, fetched, fetched_file, hits, node_deed, node_env, node_gets, node_hears, node_part, node_step, with_first}
 use Rattle.lard_rules.specs.declared.places.Out.{Out}
-use Rattle.lard_rules.specs.Outs.{kind_change, kinds, nothing_done}
+use Rattle.lard_rules.specs.Outs.{kind_change, timer_kinds, nothing_done}
 use Rattle.lard_segment.specs.declared.segment.Dir.TheVariants.{ToCluster}
 use Rattle.lard_segment.specs.Segment.{decoded}
 
@@ -36,7 +36,7 @@ pub record Moves (n : ℕ) (files : FilesAt) (cache : Recency) (disk : List Job)
   pub jobs : List Job
   pub disk_is : t.disk ≡ disk ++ jobs
   pub cache_is : t.cache ≡ hits o.notes cache
-  pub notes : Tells n files (has cache.entries) o.notes jobs
+  pub notes : Tells n files (has_path cache.entries) o.notes jobs
   pub gave : Each IsAside o.gave
   pub timers : Each IsAside o.timers
 
@@ -61,21 +61,21 @@ module _ (k : NodeSetting) where
   MovesFrom s x = Moves k.n k.files s.cache s.disk x.0 x.1
 
   stays : (s : NodeState) → MovesFrom s (s, nothing_done)
-  stays s = record { jobs = []; disk_is = sym (append-nil s.disk); cache_is = refl; notes = nothing-told k.n k.files (has s.cache.entries); gave = tt; timers = tt }
+  stays s = record { jobs = []; disk_is = sym (append-nil s.disk); cache_is = refl; notes = nothing-told k.n k.files (has_path s.cache.entries); gave = tt; timers = tt }
 
-  aside-moves : (s : NodeState) (t : NodeTurn) → Tells k.n k.files (has s.cache.entries) t.notes t.jobs → MovesFrom s (aside s t)
+  aside-moves : (s : NodeState) (t : NodeTurn) → Tells k.n k.files (has_path s.cache.entries) t.notes t.jobs → MovesFrom s (aside s t)
   aside-moves s t tells = record { jobs = t.jobs; disk_is = refl; cache_is = refl; notes = tells; gave = tt; timers = tt }
 
-  deed-moves : (s : NodeState) (c : ℕ) (d : Deed) → DeedTells k.n k.files (has s.cache.entries) d → MovesFrom s (node_deed k s c d)
+  deed-moves : (s : NodeState) (c : ℕ) (d : NodeDeed) → DeedTells k.n k.files (has_path s.cache.entries) d → MovesFrom s (node_deed k s c d)
   deed-moves s c Drops h = stays s
-  deed-moves s c (Says messages) h = aside-moves s (saying messages) (nothing-told k.n k.files (has s.cache.entries))
+  deed-moves s c (Says messages) h = aside-moves s (node_saying messages) (nothing-told k.n k.files (has_path s.cache.entries))
   deed-moves s c (Does x) h = record {
     jobs = x.1.jobs;
     disk_is = refl;
     cache_is = refl;
     notes = h.notes;
     gave = h.gave;
-    timers = timers-aside (Node k.n) c (node_armed (node_part s c)) (node_armed x.0) kinds;
+    timers = timers-aside (Node k.n) c (node_armed (node_part s c)) (node_armed x.0) timer_kinds;
   }
 
   -- ---- messages
@@ -85,7 +85,7 @@ module _ (k : NodeSetting) where
   fetched-moves s from c epoch r path (Some bytes) is = cond_both (list_any (is_for c epoch r) s.disk) (s, nothing_done) (aside s (fetched_file k s from c epoch r path)) (MovesFrom s)
       (λ t. stays s)
       (λ t. aside-moves s (fetched_file k s from c epoch r path)
-      (cond_both (has s.cache.entries path) _ _ (λ (u : NodeTurn). Tells k.n k.files (has s.cache.entries) u.notes u.jobs)
+      (cond_both (has_path s.cache.entries path) _ _ (λ (u : NodeTurn). Tells k.n k.files (has_path s.cache.entries) u.notes u.jobs)
       (λ there. record { told = refl; each = ((refl, there), tt) })
       (λ there. record { told = refl; each = ((refl, there, ap is_some is), tt) })))
 
@@ -104,11 +104,11 @@ module _ (k : NodeSetting) where
 
   -- ---- the disk
 
-  brought-moves : (s : NodeState) (job : Job) → MovesFrom s (brought k s job)
+  brought-moves : (s : NodeState) (job : Job) → MovesFrom s (node_brought k s job)
   brought-moves s job = cond_both (job.origin == k.n) (node_deed k s job.c (node_read (node_env k s job.c job.epoch.0) (node_part s job.c) job.r))
-      (aside s (saying (content_sent k job.origin job.c job.epoch.0 job.r job.path ∷ []))) (MovesFrom s)
+      (aside s (node_saying (content_sent k job.origin job.c job.epoch.0 job.r job.path ∷ []))) (MovesFrom s)
       (λ t. deed-moves s job.c (node_read (node_env k s job.c job.epoch.0) (node_part s job.c) job.r) (read-deed (node_env k s job.c job.epoch.0) (node_part s job.c) job.r))
-      (λ t. aside-moves s (saying (content_sent k job.origin job.c job.epoch.0 job.r job.path ∷ [])) (nothing-told k.n k.files (has s.cache.entries)))
+      (λ t. aside-moves s (node_saying (content_sent k job.origin job.c job.epoch.0 job.r job.path ∷ [])) (nothing-told k.n k.files (has_path s.cache.entries)))
 
   -- no job is there that this would complete
   abbrev pub IsIdle : NodeState → BackIn → Type 0
@@ -127,5 +127,5 @@ module _ (k : NodeSetting) where
 
   pub step-moves : (s : NodeState) (i : BackIn) → NodeMoves s i (node_step k s i)
   step-moves s (back.Message from bytes) = Plain tt (gets-moves s from (decoded_message bytes))
-  step-moves s (back.Timer c) = Plain tt (deed-moves s c (node_timer (node_env k s c (epoch_at s c)) (node_part s c)) (fires-deed (node_env k s c (epoch_at s c)) (node_part s c)))
+  step-moves s (back.Timer c) = Plain tt (deed-moves s c (node_timer (node_env k s c (node_epoch_at s c)) (node_part s c)) (fires-deed (node_env k s c (node_epoch_at s c)) (node_part s c)))
   step-moves s (back.Disk j) = disk-moves s j (job_at s.disk j) refl

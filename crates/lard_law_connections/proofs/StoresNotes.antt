@@ -4,7 +4,7 @@ use Rattle.std.proofs.lemmas.List.{map-append}
 use Rattle.std.proofs.lemmas.List.Sums.{fold-append}
 use Rattle.std.specs.List.{fold}
 use Rattle.lard_answers.specs.Answers.{FilesAt}
-use Rattle.lard_cache.specs.Recency.{Recency, after_hit, has}
+use Rattle.lard_cache.specs.Recency.{Recency, after_hit, has_path}
 use Rattle.lard_law_connections.specs.StoresLaws.{MayStore, job_told}
 use Rattle.lard_counts.specs.Stores.{Queue, Waiting, cache_of, cache_step, cached, jobs, jobs_step, no_jobs, queue_of}
 use Rattle.lard_law_connections.proofs.StoresAsides.{IsAside, aside}
@@ -124,20 +124,20 @@ module _ (n : ℕ) (files : FilesAt) (has_ : List ℕ → Bool) where
 
   -- ---- each note stands where the cache lets it: what goes to the front stays in
 
-  step-has : (cache : Recency) (r : Rec) → MayNote n files has_ r → (path : List ℕ) → has (cache_step files n cache r).entries path ≡ has cache.entries path
-  step-has cache r may path = ap (λ (x : Recency). has x.entries path) (one-cache cache r may) ∙ stays r where
-    stays : (r : Rec) → has (hit_step cache.entries r) path ≡ has cache.entries path
+  step-has : (cache : Recency) (r : Rec) → MayNote n files has_ r → (path : List ℕ) → has_path (cache_step files n cache r).entries path ≡ has_path cache.entries path
+  step-has cache r may path = ap (λ (x : Recency). has_path x.entries path) (one-cache cache r may) ∙ stays r where
+    stays : (r : Rec) → has_path (hit_step cache.entries r) path ≡ has_path cache.entries path
     stays (rec.Hit k p) = hit-has cache.entries p path
     stays _ = refl
 
-  pub notes-may : (limit : ℕ) (J notes : List Rec) → Each (MayNote n files has_) notes → ((path : List ℕ) → has (cached files limit J n) path ≡ has_ path) → EachMay (MayStore files limit) J notes
+  pub notes-may : (limit : ℕ) (J notes : List Rec) → Each (MayNote n files has_) notes → ((path : List ℕ) → has_path (cached files limit J n) path ≡ has_ path) → EachMay (MayStore files limit) J notes
   notes-may limit J [] e same = tt
   notes-may limit J (r ∷ rs) e same = (
     one r e.0,
     notes-may limit (J ++ r ∷ []) rs e.1
-        (λ path. ap (λ (x : Recency). has x.entries path) (fold-append (cache_step files n) (record { entries = []; limit = limit }) J (r ∷ [])) ∙ step-has (cache_of files limit J n) r e.0 path ∙ same path),
+        (λ path. ap (λ (x : Recency). has_path x.entries path) (fold-append (cache_step files n) (record { entries = []; limit = limit }) J (r ∷ [])) ∙ step-has (cache_of files limit J n) r e.0 path ∙ same path),
   ) where
     one : (r : Rec) → MayNote n files has_ r → MayStore files limit J r
-    one (rec.Hit k path) h = ap (λ j. has (cached files limit J j) path) h.0 ∙ same path ∙ h.1
-    one (rec.Queued k m c r path) h = (ap (λ j. has (cached files limit J j) path) h.0 ∙ same path ∙ h.1, h.2)
+    one (rec.Hit k path) h = ap (λ j. has_path (cached files limit J j) path) h.0 ∙ same path ∙ h.1
+    one (rec.Queued k m c r path) h = (ap (λ j. has_path (cached files limit J j) path) h.0 ∙ same path ∙ h.1, h.2)
     one r h = (aside r h).may files limit J

@@ -10,7 +10,7 @@ use Rattle.lard_base.specs.declared.event.Event.TheVariants as event
 use Rattle.lard_base.specs.declared.place.Place.TheVariants.{Node}
 use Rattle.lard_rules.specs.declared.machine.Machine.{Machine}
 use Rattle.lard_rules.specs.Bounds.{HasRule}
-use Rattle.lard_rules.specs.Machine.{IsReached, machine_step, node_at, node_gave, node_setting, start, told}
+use Rattle.lard_rules.specs.Machine.{IsReached, machine_step, node_at, node_gave, node_setting, machine_start, machine_told}
 use Rattle.lard_law_connections.specs.StoresLaws.{CachesAreTold, JobsAreTold, MayStore, StoresAreLawful, job_told}
 use Rattle.lard_counts.specs.Stores.{Queue, jobs_step, no_jobs, queue_of}
 use Rattle.lard_law_connections.proofs.StoresAsides.{IsAside, asides-may}
@@ -24,7 +24,7 @@ use Rattle.lard_law_view.proofs.Carried.{carried-keep}
 use Rattle.lard_law_view.proofs.Parts.{node-others, node-set}
 use Rattle.lard_law_view.proofs.Runs.{of-nodes}
 use Rattle.lard_files.specs.Files.{file_at}
-use Rattle.lard_history.specs.Journal.{event_step}
+use Rattle.lard_history.specs.Journal.{last_event_step}
 use Rattle.lard_history.specs.Laws.{EachMay}
 use Rattle.lard_history.proofs.Each.{Each, each_append}
 use Rattle.lard_history.proofs.Seeing.{by_number}
@@ -58,7 +58,7 @@ calm-stored files limit m n stored same calm =
 named-after : (k : NodeSetting) (limit : ℕ) (J : List Rec) (c : ℕ) (e : Event) (i : BackIn) (s : NodeState) → Comes e k.n s i → IsNamed k limit (J ++ rec.Event c e ∷ behind e) i
 named-after k limit J c e (back.Disk j) s comes = subst (λ (d : Event). IsNamed k limit (J ++ rec.Event c d ∷ behind d) (back.Disk j)) (sym comes.0) (
   ap (λ (q : Queue). q.at) (fold-append (jobs_step k.n) no_jobs J (rec.Event c (event.Disk k.n j) ∷ [])) ∙ own-test k.n k.n j (queue_of J k.n).at refl,
-  fold-append event_step None J (rec.Event c (event.Disk k.n j) ∷ []),
+  fold-append last_event_step None J (rec.Event c (event.Disk k.n j) ∷ []),
 )
 named-after k limit J c e (back.Timer d) s comes = tt
 named-after k limit J c e (back.Message from bytes) s comes = tt
@@ -118,7 +118,7 @@ module _ (limit : ℕ) (m : Machine) (stored : IsStored (file_at m.files) limit 
       (asides-may files limit (m.journal ++ first ++ o.notes) last lasts))
 
   pub node-stored : IsStored files limit (node_gave m e (behind e) i (t, o))
-  unfolding told
+  unfolding machine_told
   node-stored =
       let J : (node_gave m e (behind e) i (t, o)).journal ≡ m.journal ++ rows = told-journal w e (Node i) o in
       record {
@@ -154,7 +154,7 @@ module _ (config : Config) (files : List (List ℕ × List ℕ)) where
   abbrev Stored : Machine → Type 0
   Stored m = IsStored (file_at files) config.cache m
 
-  start-stored : Stored (start config files)
+  start-stored : Stored (machine_start config files)
   start-stored = record {
     kept = λ n s at. of-nodes (λ (o : Option NodeState). o ≡ Some s → IsKept (file_at files) config.cache [] n s.cache s.disk) config.nodes (no_stays config.cache)
         (λ e. let no : None ≡ Some s = e in absurd cc)

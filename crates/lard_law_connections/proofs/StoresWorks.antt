@@ -12,7 +12,7 @@ use Rattle.lard_rules.specs.Stay.{NodeEnv, Work, own_job}
 use Rattle.lard_request.specs.declared.verdict.Verdict.{Verdict}
 use Rattle.lard_rules.specs.declared.places.Ending.{Ending}
 use Rattle.lard_rules.specs.declared.places.Turn.{Turn}
-use Rattle.lard_rules.specs.Serving.{Service, answered, cut_off, ended_at_fin, passed_over, queued, settled, spoken}
+use Rattle.lard_rules.specs.Serving.{Service, answered, cut_off, ended_at_fin, passed_over, queued, serving_settled, spoken}
 use Rattle.lard_rules.proofs.StayKeeping.{KeptByNotes}
 
 module _ (env : NodeEnv) where
@@ -37,7 +37,7 @@ module _ (env : NodeEnv) where
   ended-told jobs w h = cond_both w.block.recv.fin (record w { block = finishing w.block }) w (λ (x : Service). Told x jobs) (λ t. h) (λ t. h)
 
   -- the end of a turn notes nothing more
-  pub settled-told : (jobs : List Job) (w : Service) → Told w jobs → Tells env.n env.serve.files env.cached (settled env.serve w).1.notes jobs
+  pub settled-told : (jobs : List Job) (w : Service) → Told w jobs → Tells env.n env.serve.files env.cached (serving_settled env.serve w).1.notes jobs
   settled-told jobs w h = go w.over where
     go : (o : Option ℕ) → Tells env.n env.serve.files env.cached (elim o as (λ p. Ending × Turn) [ None ↦ spoken env.serve w [] | Some total ↦ cut_off env.serve w ]).1.notes jobs
     go None = h

@@ -26,16 +26,16 @@ abbrev pub FetchKept : ℕ → ℕ → List Kept → Type 0
 FetchKept r node ks = (k : Kept) × (find (is_under kind.Fetch r) ks ≡ Some k) × (k.to ≡ Node node)
 
 -- A request that has no node yet is for a file, and an Ask is kept; the Fetch of one whose content is to come is kept.
-abbrev pub ComesBy : FilesAt → List Kept → List Kept → ℕ → Verdict → Progress → Type 0
-ComesBy files kept fetches r v progress.Named = AskKept kept × (good_path files v ≡ None → ⊥)
-ComesBy files kept fetches r v (progress.Awaited node) = FetchKept r node fetches
-ComesBy files kept fetches r v progress.Reading = Unit {0}
-ComesBy files kept fetches r v (progress.Ready way) = Unit {0}
+abbrev pub IsToCome : FilesAt → List Kept → List Kept → ℕ → Verdict → Progress → Type 0
+IsToCome files kept fetches r v progress.Named = AskKept kept × (good_path files v ≡ None → ⊥)
+IsToCome files kept fetches r v (progress.Awaited node) = FetchKept r node fetches
+IsToCome files kept fetches r v progress.Reading = Unit {0}
+IsToCome files kept fetches r v (progress.Ready way) = Unit {0}
 
 -- so it is of each request of a batch, the first with number r
 abbrev pub BatchComes : FilesAt → List Kept → List Kept → ℕ → List Entry → Type 0
 BatchComes files kept fetches r [] = Unit {0}
-BatchComes files kept fetches r (e ∷ es) = ComesBy files kept fetches r e.verdict e.progress × BatchComes files kept fetches (r + 1) es
+BatchComes files kept fetches r (e ∷ es) = IsToCome files kept fetches r e.verdict e.progress × BatchComes files kept fetches (r + 1) es
 
 abbrev pub StayComes : FilesAt → NodePart → Option Stay → Type 0
 StayComes files p None = Unit {0}

@@ -14,7 +14,7 @@ use Rattle.lard_law_view.specs.View.{Conn, Part}
 use Rattle.lard_endpoint.specs.Control.{ControlBlock, IsControlBlock}
 use Rattle.lard_endpoint.specs.declared.control.moving.Final.{Final}
 use Rattle.lard_endpoint.specs.Moving.{may_freeze, parts_of}
-use Rattle.lard_rules.specs.Front.{message, rest_of}
+use Rattle.lard_rules.specs.Front.{message, front_rest}
 use Rattle.lard_rules.specs.FrontSound.{Serves}
 use Rattle.lard_handoff_back.specs.declared.row.BackConn.{BackConn}
 use Rattle.lard_handoff_back.specs.declared.row.BackConn.TheVariants as back
@@ -50,7 +50,7 @@ use Rattle.lard_law_view.specs.Truth.{Stream, stream_of, Speaks, Hears}
 
 -- The verdicts vs were answered, and pend were read behind them and are not answered yet. While none of them closes, what was read
 -- is cut into their pieces, whatever follows; behind an answer that closes nothing more is read.
-pub record HasRead (w : Stream) (b : ControlBlock) (vs pend : List Verdict) : Type 0 where
+pub record HasReadPending (w : Stream) (b : ControlBlock) (vs pend : List Verdict) : Type 0 where
   pub cut : b.recv.discarding ≡ false → closes_any pend ≡ false → (z : List ℕ)
       → verdicts_on (blocks (take (b.recv.got - length b.recv.unread) w.bytes ++ z)) ≡ (vs ++ pend) ++ verdicts_on (blocks z)
   pub goes_on : b.recv.discarding ≡ false → closes_any vs ≡ false
@@ -66,7 +66,7 @@ pub record IsWide (b : ControlBlock) : Type 0 where
   pub wl2 : b.send.wl2 < 2 ^ 32
 
 -- A place holds the endpoint, which its peer did not reset, and answered these verdicts.
-pub record HoldsIt (w out : Stream) (vs pend : List Verdict) (b : ControlBlock) (count : ℕ) : Type 0 where
+pub record HoldsItPending (w out : Stream) (vs pend : List Verdict) (b : ControlBlock) (count : ℕ) : Type 0 where
   pub counted : count ≡ length vs
   pub not_reset : b.reset ≡ false
   pub sound : IsControlBlock b
@@ -74,19 +74,19 @@ pub record HoldsIt (w out : Stream) (vs pend : List Verdict) (b : ControlBlock) 
   pub out_is : out ≡ stream_of b.send out.bytes
   pub hears : Hears w b.recv
   pub wide : IsWide b
-  pub has_read : HasRead w b vs pend
+  pub has_read : HasReadPending w b vs pend
 
 -- It ended, with these numbers; for the stream limit behind a reset.
-pub record EndedIt (w : Stream) (was_reset : Bool) (last : Final) : Type 0 where
+pub record EndedWithNumbers (w : Stream) (was_reset : Bool) (last : Final) : Type 0 where
   pub snd_fits : last.snd.0 < 2 ^ 32
   pub rcv_fits : last.rcv.0 < 2 ^ 32
   pub acks : (n : ℕ) × (last.rcv.0 ≡ seq_add w.first n) × (n ≤ 2 + length w.bytes)
   pub limit : last.reason ≡ reason.Limit → was_reset ≡ true
 
 -- at the end of a turn of the place that held it
-abbrev pub EndAgrees : Stream → Stream → List Verdict → List Verdict → Bool → Ending → Type 0
-EndAgrees w out vs pend was_reset (ending.Here b count) = HoldsIt w out vs pend b count
-EndAgrees w out vs pend was_reset (ending.Over last) = EndedIt w was_reset last
+abbrev pub EndAgreesPending : Stream → Stream → List Verdict → List Verdict → Bool → Ending → Type 0
+EndAgreesPending w out vs pend was_reset (ending.Here b count) = HoldsItPending w out vs pend b count
+EndAgreesPending w out vs pend was_reset (ending.Over last) = EndedWithNumbers w was_reset last
 
 -- ---- the seat
 
@@ -94,7 +94,7 @@ EndAgrees w out vs pend was_reset (ending.Over last) = EndedIt w was_reset last
 pub record FrontHolds (w out : Stream) (vs pend : List Verdict) (b : ControlBlock) (count : ℕ) : Type 0 where
   pub none : pend ≡ []
   pub serves : Serves count b.recv b.send
-  pub holds : HoldsIt w out vs [] b count
+  pub holds : HoldsItPending w out vs [] b count
 
 -- and may move, while it waits to be admitted
 abbrev pub FrontWaits : Stream → Stream → List Verdict → List Verdict → ControlBlock → ℕ → Type 0
@@ -111,7 +111,7 @@ pub record IsOffering (w out : Stream) (vs pend : List Verdict) (c n e : ℕ) (k
 -- a node that has it: its batch is what was read and is not answered
 abbrev pub StayAgrees : Stream → Stream → List Verdict → List Verdict → ControlBlock → Option Stay → Type 0
 StayAgrees w out vs pend b None = ⊥
-StayAgrees w out vs pend b (Some s) = (pend ≡ map (λ e. e.verdict) s.batch) × HoldsIt w out vs pend b s.served
+StayAgrees w out vs pend b (Some s) = (pend ≡ map (λ e. e.verdict) s.batch) × HoldsItPending w out vs pend b s.served
 
 -- A request that is ready is answered as it may be; one that awaits its content, or its node, is for a file.
 abbrev pub ComesOn : FilesAt → Verdict → Progress → Type 0
@@ -130,7 +130,7 @@ StayComesOn files (Some s) = AreOnTheWay files s.batch
 pub record IsEnding (w : Stream) (was_reset : Bool) (c e : ℕ) (kept : List Kept) : Type 0 where
   pub last : Final
   pub count : ℕ
-  pub ended : EndedIt w was_reset last
+  pub ended : EndedWithNumbers w was_reset last
   pub kept_is : kept ≡ ended_kept c e last count ∷ []
 
 abbrev pub BackAgrees : Stream → Stream → List Verdict → List Verdict → Bool → ℕ → ℕ → NodePart → BackConn → Type 0
@@ -152,12 +152,12 @@ AwayAgrees w out vs pend was_reset c n e p =
     (IsPast e (p.nodes n).row × IsOffering w out vs pend c n e p.front.kept) ⊎ (IsDecided e (p.nodes n).row × NodeAgrees w out vs pend was_reset c (p.nodes n))
 
 abbrev pub StageAgrees : Stream → Stream → List Verdict → List Verdict → Bool → ℕ → Part → ℕ → FrontConn → Type 0
-StageAgrees w out vs pend was_reset c p e (stage.Held b) = FrontHolds w out vs pend b (rest_of p.front.rest).count
-StageAgrees w out vs pend was_reset c p e (stage.Waiting b) = FrontWaits w out vs pend b (rest_of p.front.rest).count
+StageAgrees w out vs pend was_reset c p e (stage.Held b) = FrontHolds w out vs pend b (front_rest p.front.rest).count
+StageAgrees w out vs pend was_reset c p e (stage.Waiting b) = FrontWaits w out vs pend b (front_rest p.front.rest).count
 StageAgrees w out vs pend was_reset c p e stage.Lent = ⊥
 StageAgrees w out vs pend was_reset c p e (stage.Offering n d) = AwayAgrees w out vs pend was_reset c n e p
 StageAgrees w out vs pend was_reset c p e (stage.Moved n d) = IsDecided e (p.nodes n).row × NodeAgrees w out vs pend was_reset c (p.nodes n)
-StageAgrees w out vs pend was_reset c p e (stage.Closed last) = EndedIt w was_reset last
+StageAgrees w out vs pend was_reset c p e (stage.Closed last) = EndedWithNumbers w was_reset last
 
 abbrev pub SeatAgrees : Stream → Stream → List Verdict → List Verdict → Bool → ℕ → Part → Option FrontRow → Type 0
 SeatAgrees w out vs pend was_reset c p None = (vs ≡ []) × (pend ≡ []) × (out.ended ≡ false)
@@ -180,9 +180,9 @@ abbrev pub NodeTells : Part → ℕ → ℕ → List ℕ → Body → Type 0
 NodeTells p n e bytes (body.Ended reason snd rcv count) = HasEnded e p.front.row ⊎ IsKept (p.nodes n).kept bytes
 NodeTells p n e bytes _ = Unit {0}
 
-abbrev pub IsNode : Place → Type 0
-IsNode (Node n) = Unit {0}
-IsNode _ = ⊥
+abbrev pub IsNodePlace : Place → Type 0
+IsNodePlace (Node n) = Unit {0}
+IsNodePlace _ = ⊥
 
 -- what comes of a packet whenever it comes
 abbrev pub IsFairOn : Talk → ℕ → Part → Place → Place → List ℕ → Type 0
@@ -199,7 +199,7 @@ IsFair k c p l = IsFairOn k c p l.from l.to l.bytes
 -- ---- the journal
 
 -- It says what was written, accepted and answered.
-pub record TaleAgrees (k : Talk) (accepted : ℕ) (t : Tale) : Type 0 where
+pub record TaleAgreesWithTalk (k : Talk) (accepted : ℕ) (t : Tale) : Type 0 where
   pub numbers : t.numbers ≡ Some (record { isn = k.w.first; iss = k.out.first })
   pub wrote : t.wrote ≡ k.w.bytes
   pub accepted_is : t.accepted ≡ take accepted k.out.bytes
@@ -218,14 +218,14 @@ pub record IsOpen (files : FilesAt) (x : Conn) (k : Talk) (pend : List Verdict) 
   pub seat : SeatAgrees k.w k.out k.vs pend k.was_reset x.c x.part x.part.front.row
   pub ways : (n : ℕ) → StayComesOn files (x.part.nodes n).stay
   pub fair : Each (IsFair k x.c x.part) x.letters
-  pub tale : TaleAgrees k s.client.accepted (tale_at x)
+  pub tale : TaleAgreesWithTalk k s.client.accepted (tale_at x)
 
 -- a packet of no client, nor of the front end
 abbrev pub IsInner : Letter → Type 0
-IsInner l = IsNode l.from × IsNode l.to
+IsInner l = IsNodePlace l.from × IsNodePlace l.to
 
 -- Before that, the front end knows nothing of it, and nothing was written, accepted or answered.
-pub record IsUnopened (x : Conn) : Type 0 where
+pub record IsConnUnopened (x : Conn) : Type 0 where
   pub front : x.part.front.row ≡ None
   pub stays : (n : ℕ) → (x.part.nodes n).stay ≡ None
   pub inner : Each IsInner x.letters
@@ -237,7 +237,7 @@ pub record IsUnopened (x : Conn) : Type 0 where
   pub fin : (tale_at x).fin_sent ≡ false
 
 abbrev pub ConnAgrees : FilesAt → Conn → Talk → List Verdict → Option Station → Type 0
-ConnAgrees files x k pend None = IsUnopened x
+ConnAgrees files x k pend None = IsConnUnopened x
 ConnAgrees files x k pend (Some s) = IsOpen files x k pend s
 
 -- What its client, the place that has it, the journal and all its packets say agrees.

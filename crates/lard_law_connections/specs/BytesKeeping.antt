@@ -7,23 +7,23 @@ use Rattle.lard_base.specs.declared.parts.EndpointParts.{EndpointParts}
 use Rattle.lard_base.specs.declared.place.Place.{Place}
 use Rattle.lard_base.specs.declared.place.Place.TheVariants.{Front, Node}
 use Rattle.lard_base.specs.declared.place.Reason.{Reason}
-use Rattle.lard_rules.specs.Bounds.{IsNumber}
-use Rattle.lard_law_connections.specs.BytesAgreement.{EndedIt, FrontHolds, FrontWaits, IsKept, IsOffering, NodeAgrees, SeatAgrees, StayComesOn}
-use Rattle.lard_law_connections.specs.BytesTurning.{Counts}
+use Rattle.lard_rules.specs.Bounds.{IsConnNumber}
+use Rattle.lard_law_connections.specs.BytesAgreement.{EndedWithNumbers, FrontHolds, FrontWaits, IsKept, IsOffering, NodeAgrees, SeatAgrees, StayComesOn}
+use Rattle.lard_law_connections.specs.BytesTurning.{CountsResponses}
 use Rattle.lard_law_connections.specs.Places.{IsDecided}
 use Rattle.lard_law_view.specs.View.{Part}
 use Rattle.lard_endpoint.specs.declared.control.moving.Final.{Final}
 use Rattle.lard_endpoint.specs.Control.{ControlBlock}
 use Rattle.lard_endpoint.specs.Moving.{may_freeze, parts_of}
 use Rattle.lard_rules.specs.declared.front.FrontTurn.{FrontTurn}
-use Rattle.lard_rules.specs.Front.{FrontEnv, FrontPart, front_admitted, front_ended, front_gets, front_timer, message, rest_of}
+use Rattle.lard_rules.specs.Front.{FrontEnv, FrontPart, front_admitted, front_ended, front_gets, front_timer, message, front_rest}
 use Rattle.lard_rules.specs.Front as front
 use Rattle.lard_handoff_front.specs.declared.row.FrontConn.{FrontConn}
 use Rattle.lard_handoff_front.specs.declared.row.FrontConn.TheVariants as stage
 use Rattle.lard_handoff_front.specs.declared.row.FrontRow.{FrontRow}
 use Rattle.lard_history.proofs.Each.{Each}
 use Rattle.lard_law_view.specs.Agreement.{AreReplies, IsWord, SaysAnswers}
-use Rattle.lard_law_view.specs.Keeping.{resets}
+use Rattle.lard_law_view.specs.Keeping.{is_reset_record}
 use Rattle.lard_message.specs.declared.kind.Kind.{Kind}
 use Rattle.lard_message.specs.declared.kind.Kind.TheVariants as kind
 use Rattle.lard_message.specs.declared.message.Body.{Body}
@@ -32,7 +32,7 @@ use Rattle.lard_message.specs.declared.message.Message.{Message}
 use Rattle.lard_message.specs.Message.{kind_of}
 use Rattle.lard_message.specs.Reading.{decoded_message}
 use Rattle.lard_rules.specs.declared.node.NodeTurn.{NodeTurn}
-use Rattle.lard_rules.specs.Node.{Deed, Does, Drops, NodePart, Says, again_sent, node_content, node_forwarded, node_offered, node_read, node_tagged, node_timer}
+use Rattle.lard_rules.specs.Node.{NodeDeed, Does, Drops, NodePart, Says, again_sent, node_content, node_forwarded, node_offered, node_read, node_tagged, node_timer}
 use Rattle.lard_rules.specs.Stay.{NodeEnv}
 use Rattle.lard_policy.specs.declared.first.FirstChoice.{FirstChoice}
 use Rattle.lard_request.specs.declared.verdict.Verdict.{Verdict}
@@ -56,10 +56,10 @@ pub record NodeTurned (files : FilesAt) (c e : ℕ) (before : NodePart) (w out :
   pub pend_after : List Verdict
   pub longer : GoesOn out out_after
   pub says : SaysAnswers files w out_after vs_after
-  pub agrees : NodeAgrees w out_after vs_after pend_after (was_reset || list_any resets given.1.notes) c given.0
-  pub noted : Counts files c w out vs vs_after out_after.bytes given.1.notes
+  pub agrees : NodeAgrees w out_after vs_after pend_after (was_reset || list_any is_reset_record given.1.notes) c given.0
+  pub noted : CountsResponses files c w out vs vs_after out_after.bytes given.1.notes
   pub ways : StayComesOn files given.0.stay
-  pub sent : AreReplies c w out_after (was_reset || list_any resets given.1.notes) given.1.segments
+  pub sent : AreReplies c w out_after (was_reset || list_any is_reset_record given.1.notes) given.1.segments
   pub decided : IsDecided e given.0.row
   pub again : List (Place × List ℕ)
   pub more : List (Place × List ℕ)
@@ -68,7 +68,7 @@ pub record NodeTurned (files : FilesAt) (c e : ℕ) (before : NodePart) (w out :
   pub said : Each (NodeSays c given.0) more
 
 -- what a rule of a node comes to: what it drops or answers alone changes nothing, and it says what it said before, or an answer
-abbrev pub DeedKeeps : FilesAt → ℕ → ℕ → NodePart → Stream → Stream → List Verdict → Bool → Deed → Type 0
+abbrev pub DeedKeeps : FilesAt → ℕ → ℕ → NodePart → Stream → Stream → List Verdict → Bool → NodeDeed → Type 0
 DeedKeeps files c e before w out vs was_reset Drops = Unit {0}
 DeedKeeps files c e before w out vs was_reset (Says messages) = (messages ≡ again_sent before) ⊎ Each (NodeSays c before) messages
 DeedKeeps files c e before w out vs was_reset (Does given) = NodeTurned files c e before w out vs was_reset given
@@ -80,7 +80,7 @@ pub record IsTalk (env : NodeEnv) (w out : Stream) (vs : List Verdict) : Type 0 
   pub says : SaysAnswers env.serve.files w out vs
 
 -- A rule keeps the agreement of a connection that the node has.
-abbrev pub NodeKeeps : (NodeEnv → NodePart → Deed) → Type 0
+abbrev pub NodeKeeps : (NodeEnv → NodePart → NodeDeed) → Type 0
 NodeKeeps rule = (env : NodeEnv) (w out : Stream) (vs pend : List Verdict) (was_reset : Bool) (p : NodePart) → IsTalk env w out vs → NodeAgrees w out vs pend was_reset env.serve.c p
     → StayComesOn env.serve.files p.stay → DeedKeeps env.serve.files env.serve.c env.epoch p w out vs was_reset (rule env p)
 
@@ -111,19 +111,19 @@ OffersKeep = (env : NodeEnv) (w out : Stream) (vs pend : List Verdict) (was_rese
 
 -- What the front end keeps of a connection that it has, or that it offers. Of one that a node has nothing is said here.
 abbrev pub FrontStageAgrees : Stream → Stream → List Verdict → Bool → ℕ → ℕ → FrontPart → FrontConn → Type 0
-FrontStageAgrees w out vs was_reset c e p (stage.Held b) = FrontHolds w out vs [] b (rest_of p.rest).count
-FrontStageAgrees w out vs was_reset c e p (stage.Waiting b) = FrontWaits w out vs [] b (rest_of p.rest).count
+FrontStageAgrees w out vs was_reset c e p (stage.Held b) = FrontHolds w out vs [] b (front_rest p.rest).count
+FrontStageAgrees w out vs was_reset c e p (stage.Waiting b) = FrontWaits w out vs [] b (front_rest p.rest).count
 FrontStageAgrees w out vs was_reset c e p stage.Lent = ⊥
 FrontStageAgrees w out vs was_reset c e p (stage.Offering n d) = IsOffering w out vs [] c n e p.kept
 FrontStageAgrees w out vs was_reset c e p (stage.Moved n d) = ⊥
-FrontStageAgrees w out vs was_reset c e p (stage.Closed last) = EndedIt w was_reset last
+FrontStageAgrees w out vs was_reset c e p (stage.Closed last) = EndedWithNumbers w was_reset last
 
 abbrev pub FrontRowAgrees : Stream → Stream → List Verdict → Bool → ℕ → FrontPart → Option FrontRow → Type 0
 FrontRowAgrees w out vs was_reset c p None = (vs ≡ []) × (out.ended ≡ false)
 FrontRowAgrees w out vs was_reset c p (Some row) = FrontStageAgrees w out vs was_reset c row.epoch.0 p row.stage
 
-abbrev pub FrontAgrees : Stream → Stream → List Verdict → Bool → ℕ → FrontPart → Type 0
-FrontAgrees w out vs was_reset c p = FrontRowAgrees w out vs was_reset c p p.row
+abbrev pub FrontPartAgrees : Stream → Stream → List Verdict → Bool → ℕ → FrontPart → Type 0
+FrontPartAgrees w out vs was_reset c p = FrontRowAgrees w out vs was_reset c p p.row
 
 -- What it says to a node: an Offer is the one that it keeps, and it forwards nothing.
 abbrev pub SaysOfKind : FrontPart → List ℕ → Kind → Type 0
@@ -141,13 +141,13 @@ pub record FrontTurned (files : FilesAt) (c : ℕ) (w out : Stream) (vs : List V
   pub vs_after : List Verdict
   pub longer : GoesOn out out_after
   pub says : SaysAnswers files w out_after vs_after
-  pub agrees : FrontAgrees w out_after vs_after (was_reset || list_any resets turn.notes) c part
-  pub noted : Counts files c w out vs vs_after out_after.bytes turn.notes
-  pub sent : AreReplies c w out_after (was_reset || list_any resets turn.notes) turn.segments
+  pub agrees : FrontPartAgrees w out_after vs_after (was_reset || list_any is_reset_record turn.notes) c part
+  pub noted : CountsResponses files c w out vs vs_after out_after.bytes turn.notes
+  pub sent : AreReplies c w out_after (was_reset || list_any is_reset_record turn.notes) turn.segments
   pub said : Each (FrontSays c part) turn.messages
 
 -- what a rule of the front end comes to; where it keeps what it kept, it notes nothing, and says what is true
-abbrev pub FrontDeedKeeps : FilesAt → ℕ → Stream → Stream → List Verdict → Bool → front.Deed → Type 0
+abbrev pub FrontDeedKeeps : FilesAt → ℕ → Stream → Stream → List Verdict → Bool → front.FrontDeed → Type 0
 FrontDeedKeeps files c w out vs was_reset front.Drops = Unit {0}
 FrontDeedKeeps files c w out vs was_reset (front.Says turn) = (turn.notes ≡ []) × AreReplies c w out was_reset turn.segments
 FrontDeedKeeps files c w out vs was_reset (front.Does did) = FrontTurned files c w out vs was_reset did.part did.turn
@@ -161,16 +161,16 @@ pub record IsFrontTalk (env : FrontEnv) (w out : Stream) (vs : List Verdict) : T
 -- a true segment of the client comes
 abbrev pub FrontHearsTruth : Type 0
 FrontHearsTruth = (env : FrontEnv) (w out : Stream) (vs : List Verdict) (was_reset : Bool) (p : FrontPart) (bytes : List ℕ) (s : Said) → IsFrontTalk env w out vs
-    → FrontAgrees w out vs was_reset env.serve.c p → IsWord w s → FrontDeedKeeps env.serve.files env.serve.c w out vs was_reset (front_gets env p bytes (Ok s))
+    → FrontPartAgrees w out vs was_reset env.serve.c p → IsWord w s → FrontDeedKeeps env.serve.files env.serve.c w out vs was_reset (front_gets env p bytes (Ok s))
 
 abbrev pub FrontTimerKeeps : Type 0
 FrontTimerKeeps = (env : FrontEnv) (w out : Stream) (vs : List Verdict) (was_reset : Bool) (p : FrontPart) → IsFrontTalk env w out vs
-    → FrontAgrees w out vs was_reset env.serve.c p → FrontDeedKeeps env.serve.files env.serve.c w out vs was_reset (front_timer env p)
+    → FrontPartAgrees w out vs was_reset env.serve.c p → FrontDeedKeeps env.serve.files env.serve.c w out vs was_reset (front_timer env p)
 
 -- a node tells how the connection ended there
 abbrev pub EndsKeep : Type 0
 EndsKeep = (env : FrontEnv) (w out : Stream) (vs : List Verdict) (was_reset : Bool) (p : FrontPart) (from epoch : ℕ) (last : Final) → IsFrontTalk env w out vs
-    → EndedIt w was_reset last → FrontDeedKeeps env.serve.files env.serve.c w out vs was_reset (front_ended env p from epoch last)
+    → EndedWithNumbers w was_reset last → FrontDeedKeeps env.serve.files env.serve.c w out vs was_reset (front_ended env p from epoch last)
 
 -- the head of the line is admitted, where there is one
 abbrev pub AdmittedKeeps : FilesAt → ℕ → Stream → Stream → List Verdict → Bool → Option (FrontPart × FrontTurn) → Type 0
@@ -179,7 +179,7 @@ AdmittedKeeps files c w out vs was_reset (Some given) = FrontTurned files c w ou
 
 abbrev pub AdmissionsKeep : Type 0
 AdmissionsKeep = (env : FrontEnv) (w out : Stream) (vs : List Verdict) (was_reset : Bool) (p : FrontPart) (choice : FirstChoice) → IsFrontTalk env w out vs
-    → FrontAgrees w out vs was_reset env.serve.c p → AdmittedKeeps env.serve.files env.serve.c w out vs was_reset (front_admitted env p choice)
+    → FrontPartAgrees w out vs was_reset env.serve.c p → AdmittedKeeps env.serve.files env.serve.c w out vs was_reset (front_admitted env p choice)
 
 -- ---- the client
 
@@ -196,7 +196,7 @@ SaidStays = (files : FilesAt) (w w_after out : Stream) (vs : List Verdict) → G
 
 -- What a place reads of an Offer is the parts of the endpoint that was frozen.
 abbrev pub OffersAreRead : Type 0
-OffersAreRead = (c e : ℕ) (w out : Stream) (vs pend : List Verdict) (b : ControlBlock) (count : ℕ) → IsNumber c → e < 2 ^ 16 → IsStream w → FrontHolds w out vs pend b count → may_freeze b ≡ true
+OffersAreRead = (c e : ℕ) (w out : Stream) (vs pend : List Verdict) (b : ControlBlock) (count : ℕ) → IsConnNumber c → e < 2 ^ 16 → IsStream w → FrontHolds w out vs pend b count → may_freeze b ≡ true
     → (m : Message) (parts : EndpointParts) → decoded_message (message c e (body.Offer (parts_of b count))) ≡ Ok m → m.body ≡ body.Offer parts → parts ≡ parts_of b count
 
 -- What it reads of a Forward is the segment as it came.
@@ -205,5 +205,5 @@ ForwardsAreRead = (c e : ℕ) (bytes segment : List ℕ) (m : Message) → decod
 
 -- What it reads of an Ended is why and with which numbers the connection ended.
 abbrev pub EndsAreRead : Type 0
-EndsAreRead = (c e : ℕ) (w : Stream) (was_reset : Bool) (last : Final) (count : ℕ) → EndedIt w was_reset last → (m : Message) (why : Reason) (snd rcv n : ℕ)
-    → decoded_message (message c e (body.Ended last.reason last.snd.0 last.rcv.0 count)) ≡ Ok m → m.body ≡ body.Ended why snd rcv n → EndedIt w was_reset (record { reason = why; snd = record { 0 = snd }; rcv = record { 0 = rcv } })
+EndsAreRead = (c e : ℕ) (w : Stream) (was_reset : Bool) (last : Final) (count : ℕ) → EndedWithNumbers w was_reset last → (m : Message) (why : Reason) (snd rcv n : ℕ)
+    → decoded_message (message c e (body.Ended last.reason last.snd.0 last.rcv.0 count)) ≡ Ok m → m.body ≡ body.Ended why snd rcv n → EndedWithNumbers w was_reset (record { reason = why; snd = record { 0 = snd }; rcv = record { 0 = rcv } })

@@ -33,16 +33,16 @@ abbrev pub ResetsNext : FilesAt → List Rec → ℕ → ℕ → Type 0
 ResetsNext files past c total = option_map (λ bytes. served_bytes past c + length bytes) (next_answer files past c) ≡ Some total
 
 -- Both are of the place that owns the connection. So it is of each client whose connection the schedule did not touch.
-abbrev pub MayServe : FilesAt → List Rec → Rec → Type 0
-MayServe files past (rec.Served place c r code size via) = is_touched past c ≡ false → (owner past c ≡ Some place) × AnswersNext files past c r code size via
-MayServe files past (rec.Reset place c total) = is_touched past c ≡ false → (owner past c ≡ Some place) × ResetsNext files past c total
-MayServe files past _ = Unit {0}
+abbrev pub MayServeOwned : FilesAt → List Rec → Rec → Type 0
+MayServeOwned files past (rec.Served place c r code size via) = is_touched past c ≡ false → (owner past c ≡ Some place) × AnswersNext files past c r code size via
+MayServeOwned files past (rec.Reset place c total) = is_touched past c ≡ false → (owner past c ≡ Some place) × ResetsNext files past c total
+MayServeOwned files past _ = Unit {0}
 
 abbrev pub ServesTheAnswers : FilesAt → List Rec → Type 0
-ServesTheAnswers files J = EachMay (MayServe files) [] J
+ServesTheAnswers files J = EachMay (MayServeOwned files) [] J
 
 -- ---- all of them
 
 -- A record of connection c is true where this is told of c: it may stand in each journal that tells this.
-abbrev pub IsTrueAfter : FilesAt → ℕ → Tale → Rec → Type 0
-IsTrueAfter files c t r = (J : List Rec) → tale J c ≡ t → MayTell files J r × MayServe files J r × MayAccept files J r
+abbrev pub IsOwnedTrueAfter : FilesAt → ℕ → Tale → Rec → Type 0
+IsOwnedTrueAfter files c t r = (J : List Rec) → tale J c ≡ t → MayTell files J r × MayServeOwned files J r × MayAccept files J r

@@ -11,8 +11,8 @@ use Rattle.lard_files.specs.Files.{file_at}
 use Rattle.lard_history.specs.Laws.{AcceptsOnlyAnswers, TellsTheTruth}
 
 -- Every state that events lead to, where the stream limit is within what one direction of a connection carries.
-abbrev pub Always : (List (List ℕ × List ℕ) → Machine → Type 0) → Type 0
-Always P = (config : Config) (files : List (List ℕ × List ℕ)) (m : Machine) → config.stream ≤ MAX_STREAM_BYTES → IsReached config files m → P files m
+abbrev pub AlwaysWithinStreams : (List (List ℕ × List ℕ) → Machine → Type 0) → Type 0
+AlwaysWithinStreams P = (config : Config) (files : List (List ℕ × List ℕ)) (m : Machine) → config.stream ≤ MAX_STREAM_BYTES → IsReached config files m → P files m
 
 -- What its client, the place that has it, the journal and all its packets say of a connection that the schedule did not touch
 -- agrees, wherever the connection is.
@@ -21,12 +21,12 @@ StatesAreTruthful = (config : Config) (files : List (List ℕ × List ℕ)) → 
 
 -- What the cluster sends to a client is true, whichever of its places sends it.
 abbrev pub JournalsTellTheTruth : Type 0
-JournalsTellTheTruth = Always (λ files m. TellsTheTruth (file_at files) m.journal)
+JournalsTellTheTruth = AlwaysWithinStreams (λ files m. TellsTheTruth (file_at files) m.journal)
 
 -- Each response answers the next request, and a reset stands where the next one would be.
 abbrev pub JournalsServeTheAnswers : Type 0
-JournalsServeTheAnswers = Always (λ files m. ServesTheAnswers (file_at files) m.journal)
+JournalsServeTheAnswers = AlwaysWithinStreams (λ files m. ServesTheAnswers (file_at files) m.journal)
 
 -- At every moment, what a client accepted is a prefix of the right responses to what it wrote.
 abbrev pub ClientsAcceptAnswers : Type 0
-ClientsAcceptAnswers = Always (λ files m. AcceptsOnlyAnswers (file_at files) m.journal)
+ClientsAcceptAnswers = AlwaysWithinStreams (λ files m. AcceptsOnlyAnswers (file_at files) m.journal)

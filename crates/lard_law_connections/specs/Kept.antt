@@ -8,7 +8,7 @@ use Rattle.lard_base.specs.declared.place.TimerKind.TheVariants as kind
 use Rattle.lard_law_view.specs.View.{Conn}
 use Rattle.lard_endpoint.specs.declared.control.moving.Final.{Final}
 use Rattle.lard_rules.specs.declared.front.FrontRest.{FrontRest}
-use Rattle.lard_rules.specs.Front.{FrontPart, rest_of}
+use Rattle.lard_rules.specs.Front.{FrontPart, front_rest}
 use Rattle.lard_rules.specs.FrontSound.{HasTarget}
 use Rattle.lard_handoff_back.specs.declared.row.BackConn.{BackConn}
 use Rattle.lard_handoff_back.specs.declared.row.BackConn.TheVariants as back
@@ -43,7 +43,7 @@ abbrev pub FrontStageKeeps : ℕ → FrontPart → FrontConn → Type 0
 FrontStageKeeps c p (stage.Held b) = HasRest p.rest × (p.kept ≡ [])
 FrontStageKeeps c p (stage.Waiting b) = HasTarget p.rest × (p.kept ≡ [])
 FrontStageKeeps c p stage.Lent = ⊥
-FrontStageKeeps c p (stage.Offering n e) = HasRest p.rest × IsOffer c n e.0 (rest_of p.rest).count p.kept
+FrontStageKeeps c p (stage.Offering n e) = HasRest p.rest × IsOffer c n e.0 (front_rest p.rest).count p.kept
 FrontStageKeeps c p (stage.Moved n e) = HasRest p.rest × (p.kept ≡ [])
 FrontStageKeeps c p (stage.Closed last) = p.kept ≡ []
 
@@ -62,7 +62,7 @@ AsksFor c e number [] ks = ks ≡ []
 AsksFor c e number (path ∷ paths) ks = (queue : ℕ) × (size : ℕ) × (ks ≡ ask_kept c e (record { number = number; queue = queue; size = size; paths = path ∷ paths }) ∷ []) × (0 < number)
 
 -- the Fetch of a file, by node n from another one, of which N is so
-pub record IsFetch (N : ℕ → Type 0) (files : FilesAt) (c e n : ℕ) (k : Kept) : Type 0 where
+pub record IsFetchFromOther (N : ℕ → Type 0) (files : FilesAt) (c e n : ℕ) (k : Kept) : Type 0 where
   pub r : ℕ
   pub node : ℕ
   pub path : List ℕ
@@ -72,21 +72,21 @@ pub record IsFetch (N : ℕ → Type 0) (files : FilesAt) (c e n : ℕ) (k : Kep
   pub there : N node
 
 -- how many requests await a content of another node
-abbrev pub awaits : Progress → ℕ
-awaits (progress.Awaited node) = 1
-awaits _ = 0
+abbrev pub awaits_content : Progress → ℕ
+awaits_content (progress.Awaited node) = 1
+awaits_content _ = 0
 
-abbrev pub awaited_in : List Entry → ℕ
-awaited_in [] = 0
-awaited_in (e ∷ es) = awaits e.progress + awaited_in es
+abbrev pub contents_awaited : List Entry → ℕ
+contents_awaited [] = 0
+contents_awaited (e ∷ es) = awaits_content e.progress + contents_awaited es
 
 -- The Ask that is kept names the requests that have no node, and its number is that of the last Ask. The Fetches are of files, stand in
 -- the order of their requests, and are no more than contents are awaited.
 pub record StayKeeps (N : ℕ → Type 0) (files : FilesAt) (c e n : ℕ) (p : NodePart) (s : Stay) : Type 0 where
   pub asks : AsksFor c e s.asks (named_paths files s.batch) p.kept
-  pub fetches : AllByRecursion (IsFetch N files c e n) p.fetches
+  pub fetches : AllByRecursion (IsFetchFromOther N files c e n) p.fetches
   pub order : AreInOrder p.fetches
-  pub few : length p.fetches ≤ awaited_in s.batch
+  pub few : length p.fetches ≤ contents_awaited s.batch
 
 abbrev pub HereKeeps : (ℕ → Type 0) → FilesAt → ℕ → ℕ → ℕ → NodePart → Option Stay → Type 0
 HereKeeps N files c e n p None = ⊥
@@ -106,11 +106,11 @@ abbrev pub NodeRowKeeps : (ℕ → Type 0) → FilesAt → ℕ → ℕ → NodeP
 NodeRowKeeps N files c n p None = (p.kept ≡ []) × (p.fetches ≡ [])
 NodeRowKeeps N files c n p (Some row) = NodeStageKeeps N files c row.epoch.0 n p row.stage
 
-abbrev pub NodeKeeps : (ℕ → Type 0) → FilesAt → ℕ → ℕ → NodePart → Type 0
-NodeKeeps N files c n p = NodeRowKeeps N files c n p p.row
+abbrev pub NodeKeepsMessages : (ℕ → Type 0) → FilesAt → ℕ → ℕ → NodePart → Type 0
+NodeKeepsMessages N files c n p = NodeRowKeeps N files c n p p.row
 
 -- ---- one connection
 
 pub record IsKeptByStage (N : ℕ → Type 0) (files : FilesAt) (x : Conn) : Type 0 where
   pub front : FrontKeeps x.c x.part.front
-  pub nodes : (n : ℕ) → NodeKeeps N files x.c n (x.part.nodes n)
+  pub nodes : (n : ℕ) → NodeKeepsMessages N files x.c n (x.part.nodes n)

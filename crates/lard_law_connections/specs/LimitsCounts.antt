@@ -26,11 +26,11 @@ pub record Served : Type 0 where
   pub bytes : ℕ
   pub was_reset : Bool
 
-abbrev pub served_in : Tale → Served
-served_in t = record { bytes = t.served_bytes; was_reset = t.was_reset }
+abbrev pub served_by_tale : Tale → Served
+served_by_tale t = record { bytes = t.served_bytes; was_reset = t.was_reset }
 
 -- All responses had so many bytes, within the limit, and none was too many.
-pub record Counts (stream : ℕ) (w : Served) (total : ℕ) : Type 0 where
+pub record IsWithinStream (stream : ℕ) (w : Served) (total : ℕ) : Type 0 where
   pub bytes : w.bytes ≡ total
   pub within : total ≤ stream
   pub not_reset : w.was_reset ≡ false
@@ -40,7 +40,7 @@ pub record Counts (stream : ℕ) (w : Served) (total : ℕ) : Type 0 where
 -- the front end's endpoint
 pub record EndpointCounts (stream : ℕ) (w : Served) (b : ControlBlock) : Type 0 where
   pub sound : IsControlBlock b
-  pub counts : Counts stream w b.send.total
+  pub counts : IsWithinStream stream w b.send.total
 
 -- one that waits may move
 abbrev pub FrontStageCounts : ℕ → Served → FrontConn → Type 0
@@ -50,11 +50,11 @@ FrontStageCounts stream w _ = Unit {0}
 
 -- before the front end knows a connection, nothing was served on it
 abbrev pub FrontCounts : ℕ → Served → Option FrontRow → Type 0
-FrontCounts stream w None = Counts stream w 0
+FrontCounts stream w None = IsWithinStream stream w 0
 FrontCounts stream w (Some row) = FrontStageCounts stream w row.stage
 
 abbrev pub BackStageCounts : ℕ → Served → BackConn → Type 0
-BackStageCounts stream w (back.Here b) = Counts stream w b.send.total
+BackStageCounts stream w (back.Here b) = IsWithinStream stream w b.send.total
 BackStageCounts stream w _ = Unit {0}
 
 abbrev pub BackCounts : ℕ → Served → Option BackRow → Type 0
@@ -65,7 +65,7 @@ BackCounts stream w (Some row) = BackStageCounts stream w row.stage
 
 -- an Offer that its node has not decided: what is adopted from it begins with all that was served
 abbrev pub BodyCounts : ℕ → Served → ℕ → Option BackRow → Body → Type 0
-BodyCounts stream w e row (body.Offer parts) = IsDecided e row ⊎ Counts stream w (parts.una - 1)
+BodyCounts stream w e row (body.Offer parts) = IsDecided e row ⊎ IsWithinStream stream w (parts.una - 1)
 BodyCounts stream w e row _ = Unit {0}
 
 abbrev pub LetterCountsOn : ℕ → Served → Part → Place → Place → List ℕ → Type 0
@@ -78,7 +78,7 @@ LetterCounts stream w p l = LetterCountsOn stream w p l.from l.to l.bytes
 -- ---- one connection
 
 -- Whatever has an endpoint of it, or its Offer, counts what was served on it.
-pub record IsCounted (stream : ℕ) (x : Conn) : Type 0 where
-  pub front : FrontCounts stream (served_in (tale_at x)) x.part.front.row
-  pub nodes : (n : ℕ) → BackCounts stream (served_in (tale_at x)) (x.part.nodes n).row
-  pub letters : Each (LetterCounts stream (served_in (tale_at x)) x.part) x.letters
+pub record CountsWhatWasServed (stream : ℕ) (x : Conn) : Type 0 where
+  pub front : FrontCounts stream (served_by_tale (tale_at x)) x.part.front.row
+  pub nodes : (n : ℕ) → BackCounts stream (served_by_tale (tale_at x)) (x.part.nodes n).row
+  pub letters : Each (LetterCounts stream (served_by_tale (tale_at x)) x.part) x.letters

@@ -4,13 +4,13 @@ use Rattle.lard_base.specs.declared.config.Config.{Config}
 use Rattle.lard_base.specs.declared.limits.TheConstants.{MAX_STREAM_BYTES}
 use Rattle.lard_rules.specs.declared.machine.Machine.{Machine}
 use Rattle.lard_rules.specs.Machine.{IsReached}
-use Rattle.lard_law_connections.specs.LimitsCounts.{IsCounted}
+use Rattle.lard_law_connections.specs.LimitsCounts.{CountsWhatWasServed}
 use Rattle.lard_law_view.specs.Carry.{OfEach}
 use Rattle.lard_history.specs.Laws.{ResetsAtTheLimit}
 
 -- Whatever has an endpoint of a connection, or its Offer, counts what was served on it.
 abbrev pub ConnectionsAreCounted : Type 0
-ConnectionsAreCounted = (config : Config) (files : List (List ℕ × List ℕ)) → config.stream ≤ MAX_STREAM_BYTES → OfEach config files (IsCounted config.stream)
+ConnectionsAreCounted = (config : Config) (files : List (List ℕ × List ℕ)) → config.stream ≤ MAX_STREAM_BYTES → OfEach config files (CountsWhatWasServed config.stream)
 
 -- The responses on a connection have at most as many bytes as the stream limit, and none follows a reset.
 abbrev pub ResetsAreLawful : Type 0

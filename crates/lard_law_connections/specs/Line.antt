@@ -51,26 +51,26 @@ told_by Front from bytes told = told
 told_by (Node n) from bytes told = told
 
 -- all but one
-abbrev pub without : ℕ → List ℕ → List ℕ
-without c cs = filter (λ d. not (nat_eq c d)) cs
+abbrev pub all_but : ℕ → List ℕ → List ℕ
+all_but c cs = filter (λ d. not (nat_eq c d)) cs
 
 -- to whom, and from whom: a segment of a client that comes to the front end may take it out of the line
-abbrev pub left_by : Place → Place → List ℕ → (ℕ → Option Said) → List ℕ → List ℕ
-left_by Front (Client c) bytes told waits = if leaves (told c) (decoded bytes c ToCluster) then without c waits else waits
-left_by Front Front bytes told waits = waits
-left_by Front (Node n) bytes told waits = waits
-left_by (Node m) from bytes told waits = waits
-left_by (Client d) from bytes told waits = waits
+abbrev pub line_left_by : Place → Place → List ℕ → (ℕ → Option Said) → List ℕ → List ℕ
+line_left_by Front (Client c) bytes told waits = if leaves (told c) (decoded bytes c ToCluster) then all_but c waits else waits
+line_left_by Front Front bytes told waits = waits
+line_left_by Front (Node n) bytes told waits = waits
+line_left_by (Node m) from bytes told waits = waits
+line_left_by (Client d) from bytes told waits = waits
 
-abbrev pub left_at : Option Packet → (ℕ → Option Said) → List ℕ → List ℕ
-left_at None told waits = waits
-left_at (Some p) told waits = left_by p.to p.from p.bytes told waits
+abbrev pub line_left_at : Option Packet → (ℕ → Option Said) → List ℕ → List ℕ
+line_left_at None told waits = waits
+line_left_at (Some p) told waits = line_left_by p.to p.from p.bytes told waits
 
 -- A connection comes last where it is to wait, and is out where it is admitted, or leaves.
 abbrev pub line_step : Line → Rec → Line
 line_step l (rec.Waits c) = record l { waits = l.waits ++ c ∷ [] }
-line_step l (rec.Admitted c) = record l { waits = without c l.waits }
-line_step l (rec.Got k) = record l { waits = left_at (packet_at l.net k) l.told l.waits }
+line_step l (rec.Admitted c) = record l { waits = all_but c l.waits }
+line_step l (rec.Got k) = record l { waits = line_left_at (packet_at l.net k) l.told l.waits }
 line_step l (rec.Sent k from to bytes) = record l { net = net_step l.net (rec.Sent k from to bytes); told = told_by to from bytes l.told }
 line_step l (rec.Lost k) = record l { net = net_step l.net (rec.Lost k) }
 line_step l _ = l
@@ -80,5 +80,5 @@ abbrev pub nobody : Line
 nobody = record { net = []; told = λ q. None; waits = [] }
 
 -- those who wait, in the order in which they were told to
-abbrev pub line : List Rec → List ℕ
-line J = (fold line_step nobody J).waits
+abbrev pub waiting_line : List Rec → List ℕ
+waiting_line J = (fold line_step nobody J).waits

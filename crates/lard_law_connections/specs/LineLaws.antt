@@ -7,14 +7,14 @@ use Rattle.lard_base.specs.declared.place.Place.TheVariants.{Front}
 use Rattle.lard_base.specs.Config.{config_check, room_of}
 use Rattle.lard_rules.specs.declared.machine.Machine.{Machine}
 use Rattle.lard_rules.specs.Machine.{IsReached}
-use Rattle.lard_law_connections.specs.Line.{line}
-use Rattle.lard_law_connections.specs.PolicyLaws.{AtEveryMoment, last_of}
-use Rattle.lard_counts.specs.Ledger.{Ledger, admitted, is_in, ledger}
-use Rattle.lard_law_connections.specs.PolicyLoads.{load}
-use Rattle.lard_dispatch.specs.Loads.{is_at}
+use Rattle.lard_law_connections.specs.Line.{waiting_line}
+use Rattle.lard_law_connections.specs.PolicyLaws.{AtEveryMoment, last_record}
+use Rattle.lard_counts.specs.Ledger.{Ledger, ledger_admitted, is_in_ledger, ledger}
+use Rattle.lard_law_connections.specs.PolicyLoads.{load_told}
+use Rattle.lard_dispatch.specs.Loads.{is_home_of_node}
 use Rattle.lard_handoff_front.specs.declared.row.FrontRow.{FrontRow}
 use Rattle.lard_handoff_front.specs.Row.{is_waiting}
-use Rattle.lard_history.specs.Journal.{home, last_epoch, owner}
+use Rattle.lard_history.specs.Journal.{home_told, last_epoch, owner}
 use Rattle.lard_history.specs.Laws.{EachMay}
 use Rattle.lard_history.specs.Steps.{AtEachEnd, EachStep, steps}
 use Rattle.lard_journal.specs.declared.rec.Rec.{Rec}
@@ -22,14 +22,14 @@ use Rattle.lard_journal.specs.declared.rec.Rec.TheVariants as rec
 use Rattle.lard_loads.specs.Tally as tally
 
 -- P is so in every state that events lead to
-abbrev pub Always : (Config → Machine → Type 0) → Type 0
-Always P = (config : Config) (files : List (List ℕ × List ℕ)) (m : Machine) → config_check config ≡ Ok tt → IsReached config files m → P config m
+abbrev pub AlwaysConfigured : (Config → Machine → Type 0) → Type 0
+AlwaysConfigured P = (config : Config) (files : List (List ℕ × List ℕ)) (m : Machine) → config_check config ≡ Ok tt → IsReached config files m → P config m
 
 -- ---- the line
 
 -- The front end keeps the line that the journal tells, in its order.
 abbrev pub LineIsKept : Type 0
-LineIsKept = Always (λ config m. map (λ w. w.c) m.front.dispatch.books.line ≡ line m.journal)
+LineIsKept = AlwaysConfigured (λ config m. map (λ w. w.c) m.front.dispatch.books.line ≡ waiting_line m.journal)
 
 -- a connection waits at the front end
 abbrev pub waits_there : Option FrontRow → Bool
@@ -38,24 +38,24 @@ waits_there (Some row) = is_waiting row.stage
 
 -- Those who wait there are in the line, and nobody else.
 abbrev pub LineIsOfThoseWhoWait : Type 0
-LineIsOfThoseWhoWait = Always (λ config m. (c : ℕ) → list_any (nat_eq c) (line m.journal) ≡ waits_there (table.get m.front.conns c))
+LineIsOfThoseWhoWait = AlwaysConfigured (λ config m. (c : ℕ) → list_any (nat_eq c) (waiting_line m.journal) ≡ waits_there (table.get m.front.conns c))
 
 -- somebody is in the line only where as many are admitted as there is room for
 abbrev pub LineNeedsAFullRoom : Config → List Rec → Type 0
-LineNeedsAFullRoom config J = 0 < length (line J) → admitted (ledger config J) ≡ room_of config
+LineNeedsAFullRoom config J = 0 < length (waiting_line J) → ledger_admitted (ledger config J) ≡ room_of config
 
 -- So it is at the end of each step.
 abbrev pub WaitsAtAFullRoom : Type 0
-WaitsAtAFullRoom = Always (λ config m. AtEachEnd (LineNeedsAFullRoom config) m.journal)
+WaitsAtAFullRoom = AlwaysConfigured (λ config m. AtEachEnd (LineNeedsAFullRoom config) m.journal)
 
 -- A connection is to wait only where it is not admitted, is not in the line, and the front end owns it, in its first epoch.
 abbrev pub MayWait : Ledger → List Rec → Rec → Type 0
-MayWait l past (rec.Waits c) = (is_in l c ≡ false) × (list_any (nat_eq c) (line past) ≡ false) × (owner past c ≡ Some Front) × (last_epoch past c ≡ 1)
+MayWait l past (rec.Waits c) = (is_in_ledger l c ≡ false) × (list_any (nat_eq c) (waiting_line past) ≡ false) × (owner past c ≡ Some Front) × (last_epoch past c ≡ 1)
 MayWait l past _ = Unit {0}
 
 -- So it is of each record.
 abbrev pub WaitsAtTheFrontEnd : Type 0
-WaitsAtTheFrontEnd = Always (λ config m. EachMay (λ past r. MayWait (ledger config past) past r) [] m.journal)
+WaitsAtTheFrontEnd = AlwaysConfigured (λ config m. EachMay (λ past r. MayWait (ledger config past) past r) [] m.journal)
 
 -- who is admitted while somebody is in the line is its first
 abbrev pub AdmitsHead : List ℕ → Rec → Type 0
@@ -70,44 +70,44 @@ AdmitsBehind _ _ _ = Unit {0}
 -- Both are by the line as it is just before the record. No journal ends directly behind a release while somebody is in the line, since
 -- the room is not full there.
 abbrev pub MayPass : List Rec → Rec → Type 0
-MayPass past r = AdmitsHead (line past) r × AdmitsBehind (line past) (last_of past) r
+MayPass past r = AdmitsHead (waiting_line past) r × AdmitsBehind (waiting_line past) (last_record past) r
 
 -- So it is of each record.
 abbrev pub LinePasses : Type 0
-LinePasses = Always (λ config m. EachMay MayPass [] m.journal)
+LinePasses = AlwaysConfigured (λ config m. EachMay MayPass [] m.journal)
 
 -- ---- releases
 
 -- what is due directly behind a record: nothing, or the release of a connection
-pub data Due : Type 0 where
-  Nothing : Due
-  Release : ℕ → Due
+pub data LineDue : Type 0 where
+  Nothing : LineDue
+  Release : ℕ → LineDue
 
 -- A release is due where the front end takes a connection that was admitted before the step, or takes it in an epoch behind the first.
-abbrev pub due_behind : (ℕ → Bool) → Rec → Due
+abbrev pub due_behind : (ℕ → Bool) → Rec → LineDue
 due_behind inside (rec.Took Front c epoch) = if inside c || nat_lt 1 epoch.0 then Release c else Nothing
 due_behind inside _ = Nothing
 
 -- each that is due stands there
-abbrev pub AreReleased : (ℕ → Bool) → Due → List Rec → Type 0
+abbrev pub AreReleased : (ℕ → Bool) → LineDue → List Rec → Type 0
 AreReleased inside Nothing [] = Unit {0}
 AreReleased inside (Release c) [] = ⊥
 AreReleased inside Nothing (r ∷ rs) = AreReleased inside (due_behind inside r) rs
 AreReleased inside (Release c) (r ∷ rs) = (r ≡ rec.Released c) × AreReleased inside Nothing rs
 
 abbrev pub MustRelease : Config → List Rec → List Rec → Type 0
-MustRelease config past s = AreReleased (is_in (ledger config past)) Nothing s
+MustRelease config past s = AreReleased (is_in_ledger (ledger config past)) Nothing s
 
 -- Where the front end takes a connection that is admitted, or takes it in an epoch behind the first, the connection is released,
 -- directly behind that record.
 abbrev pub TakesRelease : Type 0
-TakesRelease = Always (λ config m. EachStep (MustRelease config) [] (steps m.journal))
+TakesRelease = AlwaysConfigured (λ config m. EachStep (MustRelease config) [] (steps m.journal))
 
 -- ---- loads
 
 -- no load is above a whole for each connection that there is room for
 abbrev pub IsWithinTheRoom : Config → Ledger → List Rec → Type 0
-IsWithinTheRoom config l past = (n : ℕ) → load past n ≤ 840 * room_of config
+IsWithinTheRoom config l past = (n : ℕ) → load_told past n ≤ 840 * room_of config
 
 abbrev pub LoadsStayWithinTheRoom : Type 0
 LoadsStayWithinTheRoom = AtEveryMoment IsWithinTheRoom
@@ -118,25 +118,25 @@ greatest_threshold config = max (2 * config.high) (max config.over config.idle)
 
 -- nor above it by more than a whole
 abbrev pub IsNearTheThresholds : Config → Ledger → List Rec → Type 0
-IsNearTheThresholds config l past = (n : ℕ) → load past n ≤ 840 * (greatest_threshold config + 1)
+IsNearTheThresholds config l past = (n : ℕ) → load_told past n ≤ 840 * (greatest_threshold config + 1)
 
 abbrev pub LoadsStayNearTheThresholds : Type 0
 LoadsStayNearTheThresholds = AtEveryMoment IsNearTheThresholds
 
 -- how many connections have node n as their home: each from its first assignment to its release
-abbrev pub connections : List Rec → ℕ → ℕ
-connections J n = count_by (λ c. is_at (home J c) n) tally.connections
+abbrev pub connections_told : List Rec → ℕ → ℕ
+connections_told J n = count_by (λ c. is_home_of_node (home_told J c) n) tally.connections
 
 -- no node has more of them than twice `high`
 abbrev pub HasFewConnections : Config → Ledger → List Rec → Type 0
-HasFewConnections config l past = (n : ℕ) → connections past n ≤ 2 * config.high
+HasFewConnections config l past = (n : ℕ) → connections_told past n ≤ 2 * config.high
 
 abbrev pub ConnectionsStayFew : Type 0
 ConnectionsStayFew = AtEveryMoment HasFewConnections
 
 -- and while no node has fewer than `low`, at least two have fewer than `high`
 abbrev pub IsNotBusy : Config → Ledger → List Rec → Type 0
-IsNotBusy config l past = ((n : ℕ) → 1 ≤ n → n ≤ config.nodes → config.low ≤ connections past n) → count_by (λ n. nat_le config.high (connections past n)) (tally.numbers config.nodes) + 2 ≤ config.nodes
+IsNotBusy config l past = ((n : ℕ) → 1 ≤ n → n ≤ config.nodes → config.low ≤ connections_told past n) → count_by (λ n. nat_le config.high (connections_told past n)) (tally.numbers config.nodes) + 2 ≤ config.nodes
 
 abbrev pub NeverAllBusy : Type 0
 NeverAllBusy = AtEveryMoment IsNotBusy

@@ -2,8 +2,8 @@
 use Rattle.std.specs.Prelude.{◌≡◌, ◌⊎◌, ℕ, ◌+◌, ◌&&◌, nat_lt, not, Bool, false, if◌then◌else◌, List, [], ◌∷◌, map, Option, Some, None}
 use Rattle.std.specs.List.{list_any}
 use Rattle.lard_rules.specs.Machine.{is_no_node}
-use Rattle.lard_law_connections.specs.MotionStory.{Story, ended_in, first_node, forward_to, from_node, front_gave, front_took, highest, is_among, is_syn_in, node_gave, node_took, of_row, offer_in, picked, segment_in, story, to_node}
-use Rattle.lard_law_connections.specs.Places.{Head, head_of}
+use Rattle.lard_law_connections.specs.MotionStory.{Story, ended_in, first_node, forward_to, from_node, front_gave_epoch, front_took, highest, is_among, is_syn_in, node_gave_epoch, node_took, of_row, epoch_offered, picked, segment_in, story, to_node}
+use Rattle.lard_law_connections.specs.Places.{Head, message_head}
 use Rattle.lard_rules.specs.Front.{message}
 use Rattle.lard_history.specs.Own.{Seen, net_of, own, seen_on}
 use Rattle.lard_journal.specs.declared.rec.Rec.{Rec}
@@ -28,7 +28,7 @@ TakesFirst c past step = first_takes (story c past) (picked (of_row front_took) 
 -- these messages have one to node n with this head
 abbrev pub SaysTo : ℕ → Head → List (ℕ × List ℕ) → Type 0
 SaysTo n h [] = ⊥
-SaysTo n h (s ∷ ss) = ((s.0 ≡ n) × (head_of s.1 ≡ Some h)) ⊎ SaysTo n h ss
+SaysTo n h (s ∷ ss) = ((s.0 ≡ n) × (message_head s.1 ≡ Some h)) ⊎ SaysTo n h ss
 
 -- it is given up in these epochs, assigned first to these nodes, and this is said to nodes
 abbrev pub IsHandedOff : List ℕ → List ℕ → List (ℕ × List ℕ) → Type 0
@@ -39,7 +39,7 @@ IsHandedOff _ _ said = ⊥
 -- The front end gives a connection up exactly in the step in which its first request is assigned, and an Offer goes to that node then,
 -- in the next epoch.
 abbrev pub HandsOff : List Seen → Type 0
-HandsOff step = IsHandedOff (picked (of_row front_gave) step) (picked (of_row first_node) step) (picked (of_row to_node) step)
+HandsOff step = IsHandedOff (picked (of_row front_gave_epoch) step) (picked (of_row first_node) step) (picked (of_row to_node) step)
 
 -- ---- a node takes it
 
@@ -51,14 +51,14 @@ above h (e ∷ es) = if nat_lt h e then e ∷ above h es else above h es
 -- A node takes a connection exactly in the step in which an Offer comes to it whose epoch exceeds those in which it took it before, in
 -- that epoch.
 abbrev pub NodeTakes : ℕ → List Seen → List Seen → Type 0
-NodeTakes n past step = picked (of_row (node_took n)) step ≡ above (highest (picked (of_row (node_took n)) past)) (picked (offer_in n) step)
+NodeTakes n past step = picked (of_row (node_took n)) step ≡ above (highest (picked (of_row (node_took n)) past)) (picked (epoch_offered n) step)
 
 -- ---- it ends there
 
 -- one of these messages has this head
 abbrev pub Says : Head → List (List ℕ) → Type 0
 Says h [] = ⊥
-Says h (s ∷ ss) = (head_of s ≡ Some h) ⊎ Says h ss
+Says h (s ∷ ss) = (message_head s ≡ Some h) ⊎ Says h ss
 
 abbrev pub EachIsTold : List ℕ → List (List ℕ) → Type 0
 EachIsTold [] said = Unit {0}
@@ -66,7 +66,7 @@ EachIsTold (e ∷ es) said = Says (record { kind = kind.Ended; epoch = e }) said
 
 -- In the step in which a node gives a connection up, an Ended of that epoch goes to the front end.
 abbrev pub NodeEnds : ℕ → List Seen → Type 0
-NodeEnds n step = EachIsTold (picked (of_row (node_gave n)) step) (picked (of_row (from_node n)) step)
+NodeEnds n step = EachIsTold (picked (of_row (node_gave_epoch n)) step) (picked (of_row (from_node n)) step)
 
 -- ---- the front end takes it again
 

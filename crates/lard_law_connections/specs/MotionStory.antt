@@ -3,7 +3,7 @@ use Rattle.std.specs.Prelude.{ℕ, ◌+◌, ◌||◌, ◌==◌, nat_eq, max, Boo
 use Rattle.std.specs.List.{fold, list_any}
 use Rattle.lard_base.specs.declared.place.Place.{Place}
 use Rattle.lard_base.specs.declared.place.Place.TheVariants.{Front, Node, Client}
-use Rattle.lard_law_connections.specs.Places.{Head, head_of}
+use Rattle.lard_law_connections.specs.Places.{Head, message_head}
 use Rattle.lard_history.specs.Own.{Seen, Row, Came}
 use Rattle.lard_journal.specs.declared.rec.Rec.{Rec}
 use Rattle.lard_journal.specs.declared.rec.Rec.TheVariants as rec
@@ -88,9 +88,9 @@ abbrev pub is_syn_in : ℕ → Seen → Bool
 is_syn_in c (Row r) = false
 is_syn_in c (Came l) = syn_on c l.from l.to l.bytes
 
-abbrev pub offer_in : ℕ → Seen → Option ℕ
-offer_in n (Row r) = None
-offer_in n (Came l) = offer_on n l.from l.to l.bytes
+abbrev pub epoch_offered : ℕ → Seen → Option ℕ
+epoch_offered n (Row r) = None
+epoch_offered n (Came l) = offer_on n l.from l.to l.bytes
 
 abbrev pub ended_in : Seen → Option ℕ
 ended_in (Row r) = None
@@ -103,18 +103,18 @@ abbrev pub front_took : Rec → Option ℕ
 front_took (rec.Took Front c epoch) = Some epoch.0
 front_took _ = None
 
-abbrev pub front_gave : Rec → Option ℕ
-front_gave (rec.Gave Front c epoch) = Some epoch.0
-front_gave _ = None
+abbrev pub front_gave_epoch : Rec → Option ℕ
+front_gave_epoch (rec.Gave Front c epoch) = Some epoch.0
+front_gave_epoch _ = None
 
 -- and a node
 abbrev pub node_took : ℕ → Rec → Option ℕ
 node_took n (rec.Took (Node m) c epoch) = if nat_eq m n then Some epoch.0 else None
 node_took n _ = None
 
-abbrev pub node_gave : ℕ → Rec → Option ℕ
-node_gave n (rec.Gave (Node m) c epoch) = if nat_eq m n then Some epoch.0 else None
-node_gave n _ = None
+abbrev pub node_gave_epoch : ℕ → Rec → Option ℕ
+node_gave_epoch n (rec.Gave (Node m) c epoch) = if nat_eq m n then Some epoch.0 else None
+node_gave_epoch n _ = None
 
 -- the node to which the first request is assigned
 abbrev pub first_node : Rec → Option ℕ
@@ -146,7 +146,7 @@ is_forward (Some h) = elim h.kind [
 
 -- a Forward that the front end sends
 abbrev pub forward_to : Rec → Option (ℕ × List ℕ)
-forward_to (rec.Sent k Front (Node n) bytes) = if is_forward (head_of bytes) then Some (n, bytes) else None
+forward_to (rec.Sent k Front (Node n) bytes) = if is_forward (message_head bytes) then Some (n, bytes) else None
 forward_to _ = None
 
 abbrev pub of_row : {A : Type 0} → (Rec → Option A) → Seen → Option A
@@ -164,8 +164,8 @@ pub record Story : Type 0 where
   pub node : Option ℕ  -- that of its first assignment
   pub ended : List ℕ  -- the epochs of each Ended that came to it
 
-abbrev pub untold : Story
-untold = record { syn = false; took = false; away = false; epoch = None; node = None; ended = [] }
+abbrev pub untold_story : Story
+untold_story = record { syn = false; took = false; away = false; epoch = None; node = None; ended = [] }
 
 abbrev pub row_step : Story → Rec → Story
 row_step t (rec.Took Front c epoch) = record t { took = true; away = false }
@@ -178,7 +178,7 @@ story_step c t (Row r) = row_step t r
 story_step c t (Came l) = record t { syn = t.syn || syn_on c l.from l.to l.bytes; ended = t.ended ++ listed (ended_on l.from l.to l.bytes) }
 
 abbrev pub story : ℕ → List Seen → Story
-story c seen = fold (story_step c) untold seen
+story c seen = fold (story_step c) untold_story seen
 
 -- the highest of these epochs, or 0
 abbrev pub highest : List ℕ → ℕ

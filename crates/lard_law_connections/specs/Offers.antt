@@ -5,7 +5,7 @@ use Rattle.lard_base.specs.declared.parts.EndpointParts.{EndpointParts}
 use Rattle.lard_base.specs.declared.place.Place.{Place}
 use Rattle.lard_base.specs.declared.place.Place.TheVariants.{Front, Node}
 use Rattle.lard_block.specs.Blocks.{Cuts, Head, Long, Piece, blocks}
-use Rattle.lard_law_connections.specs.BytesRuns.{Always}
+use Rattle.lard_law_connections.specs.BytesRuns.{AlwaysWithinStreams}
 use Rattle.lard_files.specs.Files.{file_at}
 use Rattle.lard_history.specs.Journal.{is_touched, numbers_of, said_to, served, wrote}
 use Rattle.lard_history.specs.Laws.{EachMay}
@@ -24,15 +24,15 @@ abbrev pub Sends : Place → Place → List ℕ → Rec → Type 0
 Sends from to bytes (rec.Sent k sender goal sent) = (sender ≡ from) × (goal ≡ to) × (sent ≡ bytes)
 Sends from to bytes _ = ⊥
 
-abbrev pub WasSent : Place → Place → List ℕ → List Rec → Type 0
-WasSent from to bytes [] = ⊥
-WasSent from to bytes (r ∷ rs) = Sends from to bytes r ⊎ WasSent from to bytes rs
+abbrev pub WasSentBetween : Place → Place → List ℕ → List Rec → Type 0
+WasSentBetween from to bytes [] = ⊥
+WasSentBetween from to bytes (r ∷ rs) = Sends from to bytes r ⊎ WasSentBetween from to bytes rs
 
 -- ---- what is carried
 
 -- how many bytes of the client were read
-abbrev pub read_of : EndpointParts → ℕ
-read_of p = p.got - length p.unread
+abbrev pub bytes_read_of : EndpointParts → ℕ
+bytes_read_of p = p.got - length p.unread
 
 -- the block ends within the first n bytes
 abbrev pub EndsBy : ℕ → Piece → Type 0
@@ -55,23 +55,23 @@ pub record IsCutAt (n count : ℕ) (bytes : List ℕ) : Type 0 where
 -- The parts are those of connection c now: its first numbers; how many responses were queued, with all their bytes acknowledged,
 -- the SYN before them too; and of what the client wrote, the bytes that were received and not read. What was read is cut behind the
 -- blocks that were answered.
-pub record Carries (files : FilesAt) (past : List Rec) (c : ℕ) (p : EndpointParts) : Type 0 where
+pub record ArePartsOf (files : FilesAt) (past : List Rec) (c : ℕ) (p : EndpointParts) : Type 0 where
   pub numbers : numbers_of past c ≡ Some (record { isn = p.irs; iss = p.iss })
   pub served_is : p.served ≡ served past c
   pub una_is : p.una ≡ 1 + length (said_to files past c)
   pub within : (length p.unread ≤ p.got) × (p.got ≤ length (wrote past c))
-  pub unread_is : p.unread ≡ drop (read_of p) (take p.got (wrote past c))
-  pub cut : IsCutAt (read_of p) (served past c) (wrote past c)
+  pub unread_is : p.unread ≡ drop (bytes_read_of p) (take p.got (wrote past c))
+  pub cut : IsCutAt (bytes_read_of p) (served past c) (wrote past c)
 
 abbrev pub BodyCarries : FilesAt → List Rec → ℕ → Body → Type 0
-BodyCarries files past c (body.Offer parts) = Carries files past c parts
+BodyCarries files past c (body.Offer parts) = ArePartsOf files past c parts
 BodyCarries files past c _ = Unit {0}
 
 -- Of a message of the front end to a node, which was not sent there before: so it is of each connection that the schedule did
 -- not touch.
 abbrev pub OffersTo : FilesAt → List Rec → Place → Place → List ℕ → Type 0
 OffersTo files past Front (Node n) bytes =
-    (m : Message) → decoded_message bytes ≡ Ok m → is_touched past m.c ≡ false → (WasSent Front (Node n) bytes past → ⊥) → BodyCarries files past m.c m.body
+    (m : Message) → decoded_message bytes ≡ Ok m → is_touched past m.c ≡ false → (WasSentBetween Front (Node n) bytes past → ⊥) → BodyCarries files past m.c m.body
 OffersTo files past _ _ bytes = Unit {0}
 
 abbrev pub MayOffer : FilesAt → List Rec → Rec → Type 0
@@ -84,4 +84,4 @@ CarryTheEndpoint files J = EachMay (MayOffer files) [] J
 
 -- in every run of the cluster
 abbrev pub OffersCarryTheEndpoint : Type 0
-OffersCarryTheEndpoint = Always (λ files m. CarryTheEndpoint (file_at files) m.journal)
+OffersCarryTheEndpoint = AlwaysWithinStreams (λ files m. CarryTheEndpoint (file_at files) m.journal)

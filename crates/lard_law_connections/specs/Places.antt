@@ -99,8 +99,8 @@ pub record Head : Type 0 where
   pub kind : Kind
   pub epoch : ℕ
 
-abbrev pub head_of : List ℕ → Option Head
-head_of bytes = option_map (λ k. record { kind = k; epoch = epoch_at bytes }) (kind_named (version_at bytes) (number_byte bytes))
+abbrev pub message_head : List ℕ → Option Head
+message_head bytes = option_map (λ k. record { kind = k; epoch = epoch_at bytes }) (kind_named (version_at bytes) (number_byte bytes))
 
 -- the node has decided about an Offer of this epoch
 abbrev pub IsDecided : ℕ → Option BackRow → Type 0
@@ -145,7 +145,7 @@ MaySay p _ _ _ = Unit {0}
 
 -- whatever comes of a packet, whenever it comes
 abbrev pub LetterMay : Part → Letter → Type 0
-LetterMay p l = MaySay p l.from l.to (head_of l.bytes)
+LetterMay p l = MaySay p l.from l.to (message_head l.bytes)
 
 -- ---- one connection
 

@@ -9,7 +9,7 @@ use Rattle.lard_base.specs.Config.{config_check, room_of}
 use Rattle.lard_base.specs.declared.config.Config.{Config}
 use Rattle.lard_rules.specs.declared.machine.Machine.{Machine}
 use Rattle.lard_rules.specs.Machine.{IsReached, machine_step}
-use Rattle.lard_counts.specs.Ledger.{Ledger, admitted, is_in, ledger, server_set}
+use Rattle.lard_counts.specs.Ledger.{Ledger, ledger_admitted, is_in_ledger, ledger, server_set}
 use Rattle.lard_costs.specs.declared.later.LaterChoice.{LaterChoice}
 use Rattle.lard_costs.specs.Later.{later_choice}
 use Rattle.lard_history.specs.Laws.{EachMay}
@@ -17,8 +17,8 @@ use Rattle.lard_history.specs.Own.{Has}
 use Rattle.lard_journal.specs.declared.rec.Rec.{Rec}
 use Rattle.lard_journal.specs.declared.rec.Rec.TheVariants as rec
 use Rattle.lard_base.specs.Members.{has}
-use Rattle.lard_law_connections.specs.PolicyLine.{IsWithin, waiting}
-use Rattle.lard_law_connections.specs.PolicyLoads.{load}
+use Rattle.lard_law_connections.specs.PolicyLine.{IsSublist, waiting}
+use Rattle.lard_law_connections.specs.PolicyLoads.{load_told}
 use Rattle.lard_law_connections.specs.PolicyServers.{last_mod, serves}
 use Rattle.lard_history.specs.Journal as history
 use Rattle.lard_history.specs.Journal.{time_of}
@@ -32,20 +32,20 @@ use Rattle.lard_policy.specs.First.{first_choice}
 -- A connection is to wait only where as many are admitted as there is room for. One is admitted only where there is room, and it
 -- is not; one is released only where it is.
 abbrev pub MayAdmit : Config → Ledger → Rec → Type 0
-MayAdmit cfg l (rec.Waits c) = admitted l ≡ room_of cfg
-MayAdmit cfg l (rec.Admitted c) = (admitted l < room_of cfg) × (is_in l c ≡ false)
-MayAdmit cfg l (rec.Released c) = is_in l c ≡ true
+MayAdmit cfg l (rec.Waits c) = ledger_admitted l ≡ room_of cfg
+MayAdmit cfg l (rec.Admitted c) = (ledger_admitted l < room_of cfg) × (is_in_ledger l c ≡ false)
+MayAdmit cfg l (rec.Released c) = is_in_ledger l c ≡ true
 MayAdmit cfg l _ = Unit {0}
 
 -- what is due directly behind a record: nothing, the first assignment of a connection, or a later one
-pub data Due : Type 0 where
-  Nothing : Due
-  First : ℕ → Due
-  Later : ℕ → Due
+pub data AssignmentDue : Type 0 where
+  Nothing : AssignmentDue
+  First : ℕ → AssignmentDue
+  Later : ℕ → AssignmentDue
 
 -- Directly behind each `admitted` stands the first assignment of its connection, and none stands elsewhere. Directly behind the end
 -- of shares stands a later assignment of their connection.
-abbrev pub ArePaired : Due → List Rec → Type 0
+abbrev pub ArePaired : AssignmentDue → List Rec → Type 0
 ArePaired Nothing [] = Unit {0}
 ArePaired (First c) [] = ⊥
 ArePaired (Later c) [] = ⊥
@@ -100,8 +100,8 @@ MayRelease before (rec.Released c) = IsTaken c before
 MayRelease before _ = Unit {0}
 
 -- the last record, if there is one
-abbrev pub last_of : List Rec → Option Rec
-last_of J = fold (λ before r. Some r) None J
+abbrev pub last_record : List Rec → Option Rec
+last_record J = fold (λ before r. Some r) None J
 
 -- ---- every run, with a configuration that may be used
 
@@ -117,24 +117,24 @@ abbrev pub AdmitsToANode : Type 0
 AdmitsToANode = (config : Config) (files : List (List ℕ × List ℕ)) (m : Machine) → config_check config ≡ Ok tt → IsReached config files m → ArePaired Nothing m.journal
 
 abbrev pub ReleasesWhatItTook : Type 0
-ReleasesWhatItTook = (config : Config) (files : List (List ℕ × List ℕ)) (m : Machine) → config_check config ≡ Ok tt → IsReached config files m → EachMay (λ past r. MayRelease (last_of past) r) [] m.journal
+ReleasesWhatItTook = (config : Config) (files : List (List ℕ × List ℕ)) (m : Machine) → config_check config ≡ Ok tt → IsReached config files m → EachMay (λ past r. MayRelease (last_record past) r) [] m.journal
 
 abbrev pub SharesOneBatch : Type 0
 SharesOneBatch = (config : Config) (files : List (List ℕ × List ℕ)) (m : Machine) → config_check config ≡ Ok tt → IsReached config files m
-    → EachMay (λ past r. MayShare (last_of past) (ledger config past) r) [] m.journal
+    → EachMay (λ past r. MayShare (last_record past) (ledger config past) r) [] m.journal
 
 -- The books of the front end are the ledger of the journal, and somebody waits only while as many are admitted as there is room for.
 abbrev pub BooksAreTold : Type 0
 BooksAreTold = (config : Config) (files : List (List ℕ × List ℕ)) (m : Machine) → config_check config ≡ Ok tt → IsReached config files m
     → (m.front.dispatch.books.loads ≡ (ledger config m.journal).loads)
     × (m.front.dispatch.books.sets ≡ (ledger config m.journal).sets)
-    × (tally.admitted m.front.dispatch.books.loads ≡ admitted (ledger config m.journal))
-    × (0 < length m.front.dispatch.books.line → admitted (ledger config m.journal) ≡ room_of config)
+    × (tally.admitted m.front.dispatch.books.loads ≡ ledger_admitted (ledger config m.journal))
+    × (0 < length m.front.dispatch.books.line → ledger_admitted (ledger config m.journal) ≡ room_of config)
 
 -- The line of the front end stands among those who wait by the journal, in their order.
 abbrev pub LineIsTold : Type 0
 LineIsTold = (config : Config) (files : List (List ℕ × List ℕ)) (m : Machine) → config_check config ≡ Ok tt → IsReached config files m
-    → IsWithin (map (λ w. w.c) m.front.dispatch.books.line) (waiting m.journal)
+    → IsSublist (map (λ w. w.c) m.front.dispatch.books.line) (waiting m.journal)
 
 -- ---- steps
 
@@ -159,19 +159,19 @@ AtEveryMoment P = (config : Config) (files : List (List ℕ × List ℕ)) (m : M
     → (past later : List Rec) → m.journal ≡ past ++ later → P config (ledger config past) past
 
 -- At no moment are more connections admitted than there is room for.
-abbrev pub StaysWithinTheRoom : Type 0
-StaysWithinTheRoom = AtEveryMoment (λ cfg l past. admitted l ≤ room_of cfg)
+abbrev pub RoomIsNeverPassed : Type 0
+RoomIsNeverPassed = AtEveryMoment (λ cfg l past. ledger_admitted l ≤ room_of cfg)
 
 -- The ledger has each connection in, and at the node, as the journal tells of it alone.
 abbrev pub StandingsAreTold : Type 0
-StandingsAreTold = AtEveryMoment (λ cfg l past. (c : ℕ) → (is_in l c ≡ history.is_in past c) × (home l.loads c ≡ history.home past c))
+StandingsAreTold = AtEveryMoment (λ cfg l past. (c : ℕ) → (is_in_ledger l c ≡ history.is_in past c) × (home l.loads c ≡ history.home_told past c))
 
 -- The loads of the ledger are what the charges add up to, and no node is closed.
 abbrev pub AreLoadsCharged : Config → Ledger → List Rec → Type 0
-AreLoadsCharged cfg l past = ((n : ℕ) → tally.load l.loads n ≡ load past n) × (l.loads.nodes ≡ cfg.nodes) × (l.loads.open_nodes ≡ numbers cfg.nodes)
+AreLoadsCharged cfg l past = ((n : ℕ) → tally.load l.loads n ≡ load_told past n) × (l.loads.nodes ≡ cfg.nodes) × (l.loads.open_nodes ≡ numbers cfg.nodes)
 
-abbrev pub LoadsAreCharges : Type 0
-LoadsAreCharges = AtEveryMoment AreLoadsCharged
+abbrev pub LoadsAreAlwaysCharges : Type 0
+LoadsAreAlwaysCharges = AtEveryMoment AreLoadsCharged
 
 -- Its server sets have the nodes that the assignments of their paths took in and did not take out, and their dates; and its time
 -- is the last that was told.

@@ -14,7 +14,7 @@ abbrev pub waiting : List Rec → List ℕ
 waiting J = fold waiting_step [] J
 
 -- these stand among those, in the same order
-abbrev pub IsWithin : List ℕ → List ℕ → Type 0
-IsWithin [] ys = Unit {0}
-IsWithin (x ∷ xs) [] = ⊥
-IsWithin (x ∷ xs) (y ∷ ys) = ((x ≡ y) × IsWithin xs ys) ⊎ IsWithin (x ∷ xs) ys
+abbrev pub IsSublist : List ℕ → List ℕ → Type 0
+IsSublist [] ys = Unit {0}
+IsSublist (x ∷ xs) [] = ⊥
+IsSublist (x ∷ xs) (y ∷ ys) = ((x ≡ y) × IsSublist xs ys) ⊎ IsSublist (x ∷ xs) ys

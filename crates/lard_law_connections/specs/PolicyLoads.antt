@@ -3,7 +3,7 @@ use Rattle.std.specs.Prelude.{ℕ, ◌/◌, true, false, not, List, [], ◌∷�
 use Rattle.std.specs.List.{filter, fold}
 use Rattle.lard_journal.specs.declared.rec.Rec.{Rec}
 use Rattle.lard_journal.specs.declared.rec.Rec.TheVariants as rec
-use Rattle.lard_loads.specs.Charges.{Charge, is_home, is_of, is_share_of, units_at}
+use Rattle.lard_loads.specs.Charges.{Charge, is_home, is_charge_of, is_share_of, units_at}
 
 -- A first assignment charges its node 840, until the connection is released. A later one to another node than that charges its node
 -- 840 divided by the size of the batch, until the batch is over or the connection is released.
@@ -11,12 +11,12 @@ abbrev pub charge_step : List Charge → Rec → List Charge
 charge_step xs (rec.AssignedFirst c r path n add remove) = xs ++ record { c = c; node = n; units = 840; share = false } ∷ []
 charge_step xs (rec.AssignedLater c r path n add size queue) = if is_home xs c n then xs else xs ++ record { c = c; node = n; units = 840 / size; share = true } ∷ []
 charge_step xs (rec.BatchOver c) = filter (λ x. not (is_share_of c x)) xs
-charge_step xs (rec.Released c) = filter (λ x. not (is_of c x)) xs
+charge_step xs (rec.Released c) = filter (λ x. not (is_charge_of c x)) xs
 charge_step xs _ = xs
 
 abbrev pub charges : List Rec → List Charge
 charges J = fold charge_step [] J
 
 -- the load of node n, in 840ths of a connection
-abbrev pub load : List Rec → ℕ → ℕ
-load J n = sum_by (units_at n) (charges J)
+abbrev pub load_told : List Rec → ℕ → ℕ
+load_told J n = sum_by (units_at n) (charges J)

@@ -23,7 +23,7 @@ pub record HasSpoken (b : ControlBlock) : Type 0 where
 pub record ClientHasSpoken (x : ClientBlock) : Type 0 where
   pub bytes : List ℕ
   pub speaks : Speaks x.send bytes
-  pub none : client.emitted x ≡ None
+  pub none : client.client_emitted x ≡ None
   pub nothing_held : x.holding ≡ false → x.held ≡ 0
 
 abbrev pub StationHasSpoken : Option Station → Type 0

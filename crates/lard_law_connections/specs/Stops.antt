@@ -49,15 +49,15 @@ FrontStops files (Some row) = FrontStageStops files row.stage
 -- ---- at a node
 
 -- the first request of the batch is not ready
-abbrev pub IsAwaited : List Entry → Type 0
-IsAwaited [] = ⊥
-IsAwaited (e ∷ es) = next_by e.progress ≡ Stop
+abbrev pub FirstIsAwaited : List Entry → Type 0
+FirstIsAwaited [] = ⊥
+FirstIsAwaited (e ∷ es) = next_by e.progress ≡ Stop
 
 -- The endpoint was not reset. While it goes on, the first of the batch is awaited, or there is none and no request is left to be
 -- read. Behind its FIN there is none, unless what comes is discarded.
 pub record StayStops (b : ControlBlock) (batch : List Entry) : Type 0 where
   pub not_reset : b.reset ≡ false
-  pub open_ : b.send.finished ≡ false → IsAwaited batch ⊎ (HasStopped b × (batch ≡ []))
+  pub open_ : b.send.finished ≡ false → FirstIsAwaited batch ⊎ (HasStopped b × (batch ≡ []))
   pub closed : b.send.finished ≡ true → HasStopped b × (b.recv.discarding ≡ false → batch ≡ [])
 
 abbrev pub HereStops : ControlBlock → Option Stay → Type 0

@@ -5,7 +5,7 @@ use Rattle.lard_answers.specs.Answers.{FilesAt}
 use Rattle.lard_base.specs.declared.config.Config.{Config}
 use Rattle.lard_base.specs.declared.event.Event.{Event}
 use Rattle.lard_base.specs.declared.event.Event.TheVariants.{Disk}
-use Rattle.lard_cache.specs.Recency.{has}
+use Rattle.lard_cache.specs.Recency.{has_path}
 use Rattle.lard_rules.specs.declared.machine.Machine.{Machine}
 use Rattle.lard_rules.specs.Machine.{IsReached, node_at}
 use Rattle.lard_counts.specs.Stores.{Waiting, cached, jobs, waiting_at}
@@ -43,8 +43,8 @@ CachesAreTold = OfEachNode (λ config files J n s. cached (file_at files) config
 -- A hit is of a path that the cache has. A job is queued for one that it has not, and that a file has. What is read is the job that
 -- the event of the step names.
 abbrev pub MayStore : FilesAt → ℕ → List Rec → Rec → Type 0
-MayStore files limit past (rec.Hit n path) = has (cached files limit past n) path ≡ true
-MayStore files limit past (rec.Queued n m c r path) = (has (cached files limit past n) path ≡ false) × (is_some (files path) ≡ true)
+MayStore files limit past (rec.Hit n path) = has_path (cached files limit past n) path ≡ true
+MayStore files limit past (rec.Queued n m c r path) = (has_path (cached files limit past n) path ≡ false) × (is_some (files path) ≡ true)
 MayStore files limit past (rec.Read n m c r path) = (j : ℕ) × (last_event past ≡ Some (Disk n j)) × (waiting_at (jobs past n) j ≡ Some (m, c, r, path))
 MayStore files limit past _ = Unit {0}
 
@@ -62,13 +62,13 @@ abbrev pub NoneRead : List Rec → Type 0
 NoneRead rs = AllByRecursion (λ r. is_read r ≡ false) rs
 
 -- Directly behind the event of a disk stands the job that it names, which is read; no other is. In no other step is one read.
-abbrev pub Completes : List Rec → Event → List Rec → Type 0
-Completes past (Disk n j) rs = (job : Waiting) × (rest : List Rec) × (waiting_at (jobs past n) j ≡ Some job) × (rs ≡ rec.Read n job.0 job.1 job.2 job.3 ∷ rest) × NoneRead rest
-Completes past _ rs = NoneRead rs
+abbrev pub CompletesJob : List Rec → Event → List Rec → Type 0
+CompletesJob past (Disk n j) rs = (job : Waiting) × (rest : List Rec) × (waiting_at (jobs past n) j ≡ Some job) × (rs ≡ rec.Read n job.0 job.1 job.2 job.3 ∷ rest) × NoneRead rest
+CompletesJob past _ rs = NoneRead rs
 
 abbrev pub MustRead : List Rec → List Rec → Type 0
-MustRead past (rec.Event i e ∷ rs) = Completes past e rs
-MustRead past (rec.Inner e ∷ rs) = Completes past e rs
+MustRead past (rec.Event i e ∷ rs) = CompletesJob past e rs
+MustRead past (rec.Inner e ∷ rs) = CompletesJob past e rs
 MustRead past _ = Unit {0}
 
 abbrev pub DisksAreRead : Type 0

@@ -17,7 +17,7 @@ ghost use Rattle.lard_law_connections.specs.LineLaws.{ConnectionsStayFew, LineIs
 ghost use Rattle.lard_law_connections.specs.MotionRuns.{ConnectionsMoveInSteps};
 ghost use Rattle.lard_law_connections.specs.Offers.{OffersCarryTheEndpoint};
 ghost use Rattle.lard_law_connections.specs.PlacesLaws.{EachConnectionSits, OwnersAreLawful, SendersAreLawful};
-ghost use Rattle.lard_law_connections.specs.PolicyLaws.{AdmitsByRoom, AdmitsInOrder, AdmitsToANode, AssignsAsStated, BooksAreTold, LineIsTold, LoadsAreCharges, ReleasesWhatItTook, ServersAreTold, SharesOneBatch, StandingsAreTold, StaysWithinTheRoom};
+ghost use Rattle.lard_law_connections.specs.PolicyLaws.{AdmitsByRoom, AdmitsInOrder, AdmitsToANode, AssignsAsStated, BooksAreTold, LineIsTold, LoadsAreAlwaysCharges, ReleasesWhatItTook, ServersAreTold, SharesOneBatch, StandingsAreTold, RoomIsNeverPassed};
 ghost use Rattle.lard_law_connections.specs.ResetsLaws.{EndsFollowResets, RstFollowsResets};
 ghost use Rattle.lard_law_connections.specs.SilenceLaws.{ConnectionsHaveSpoken};
 ghost use Rattle.lard_law_connections.specs.StopsLaws.{ConnectionsStop};
@@ -30,7 +30,7 @@ ghost use Rattle.lard_law_connections.specs.StoresLaws.{CachesAreTold, DisksAreR
 /// released directly behind the record that the front end took it.
 pub fn admission_is_counted()
     ensures records { AdmitsByRoom }
-    ensures room { StaysWithinTheRoom }
+    ensures room { RoomIsNeverPassed }
     ensures nodes { AdmitsToANode }
     ensures order { AdmitsInOrder }
     ensures releases { ReleasesWhatItTook }
@@ -41,7 +41,7 @@ pub fn admission_is_counted()
 /// just before it. The shares of a batch are over before the next one's are opened.
 pub fn choices_are_as_stated()
     ensures choices { AssignsAsStated }
-    ensures loads { LoadsAreCharges }
+    ensures loads { LoadsAreAlwaysCharges }
     ensures servers { ServersAreTold }
     ensures batches { SharesOneBatch }
 {}

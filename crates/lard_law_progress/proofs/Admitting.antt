@@ -8,7 +8,7 @@ use Rattle.lard_bound.specs.Units.{Whole, units}
 use Rattle.lard_law_view.specs.View.{Conn, Part, Setting, front_admits, grown, with_front}
 use Rattle.lard_endpoint.specs.Control.{ControlBlock}
 use Rattle.lard_rules.specs.declared.front.FrontTurn.{FrontTurn}
-use Rattle.lard_rules.specs.Front.{FrontEnv, FrontPart, admitted_at, admitted_by, admitted_with, front_admitted, handed_off, rest_of}
+use Rattle.lard_rules.specs.Front.{FrontEnv, FrontPart, admitted_at, admitted_by, front_admitted_with, front_admitted, handed_off, front_rest}
 use Rattle.lard_handoff_front.specs.declared.row.FrontConn.{FrontConn}
 use Rattle.lard_handoff_front.specs.declared.row.FrontConn.TheVariants as stage
 use Rattle.lard_handoff_front.specs.declared.row.FrontRow.{FrontRow}
@@ -24,10 +24,10 @@ none-given g e = cc
 
 module _ (files : FilesAt) (p : Part) (st : Station) (env : FrontEnv) (choice : FirstChoice) (given : FrontPart × FrontTurn) (same : spot_of files (with_front p given.0) st ≡ spot_of files p st) where
   module _ (row : FrontRow) (at : p.front.row ≡ Some row) (fresh : IsFresh p.nodes (Some row)) where
-    with-target : (c : FrontConn) → row.stage ≡ c → (target : Option (List ℕ)) → (waits : (b : ControlBlock) × (c ≡ stage.Waiting b)) → admitted_with env row (rest_of p.front.rest) waits.0 choice target ≡ Some given → ⊥
+    with-target : (c : FrontConn) → row.stage ≡ c → (target : Option (List ℕ)) → (waits : (b : ControlBlock) × (c ≡ stage.Waiting b)) → front_admitted_with env row (front_rest p.front.rest) waits.0 choice target ≡ Some given → ⊥
     with-target c is None waits e = none-given given e
     with-target c is (Some path) waits e =
-        let count = (rest_of p.front.rest).count in
+        let count = (front_rest p.front.rest).count in
         let g : handed_off env row (serving waits.0 count []) path choice ≡ given = cc in
         let was = ap (post_of files st.client) (seat-at p row (stage.Waiting waits.0) at (is ∙ waits.1)) in
         let now = ap (post_of files st.client) (seat-offering p env row (serving waits.0 count []) path choice.node (fresh choice.node)) in
@@ -37,7 +37,7 @@ module _ (files : FilesAt) (p : Part) (st : Station) (env : FrontEnv) (choice : 
         cc
 
     at-stage : (c : FrontConn) → row.stage ≡ c → admitted_at env p.front choice row c ≡ Some given → ⊥
-    at-stage (stage.Waiting b) is e = with-target (stage.Waiting b) is (rest_of p.front.rest).target (b, refl) e
+    at-stage (stage.Waiting b) is e = with-target (stage.Waiting b) is (front_rest p.front.rest).target (b, refl) e
     at-stage _ is e = none-given given e
 
   pub admitted-moves : IsFresh p.nodes p.front.row → front_admitted env p.front choice ≡ Some given → ⊥

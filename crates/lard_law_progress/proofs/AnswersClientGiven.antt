@@ -6,11 +6,11 @@ use Rattle.lard_base.specs.declared.place.Place.{Place}
 use Rattle.lard_base.specs.declared.place.Place.TheVariants.{Client, Front, Node}
 use Rattle.lard_base.specs.declared.place.Reason.{Reason}
 use Rattle.lard_base.specs.declared.place.Reason.TheVariants.{Closed, Limit, Peer}
-use Rattle.lard_bound.specs.Seats.{Held, Here, Over, Seat, seat_of}
-use Rattle.lard_bound.specs.Units.{taken}
+use Rattle.lard_bound.specs.Seats.{Held, Here, Over, SeatNow, seat_of}
+use Rattle.lard_bound.specs.Units.{symbols_taken}
 use Rattle.lard_client.specs.Control.{ClientBlock}
 use Rattle.lard_client.specs.declared.phase.Phase.TheVariants.{Open}
-use Rattle.lard_client.specs.Leaving.{emitted}
+use Rattle.lard_client.specs.Leaving.{client_emitted}
 use Rattle.lard_law_view.specs.View.{Conn, Was}
 use Rattle.lard_endpoint.specs.Control.{ControlBlock}
 use Rattle.lard_rules.specs.declared.places.Station.{Station}
@@ -22,7 +22,7 @@ use Rattle.lard_seq.specs.Seq.{seq_add, seq_offset}
 -- A client that holds nothing while it is open, and has said all that it may.
 pub record IsCalm (st : Station) (x : ClientBlock) : Type 0 where
   pub sound : IsSending x.send
-  pub none : emitted x ≡ None
+  pub none : client_emitted x ≡ None
   pub held : x.phase ≡ Open → x.held ≡ 0
   pub holding : x.phase ≡ Open → x.holding ≡ false
   pub some : 1 ≤ x.wnd
@@ -30,7 +30,7 @@ pub record IsCalm (st : Station) (x : ClientBlock) : Type 0 where
   pub isn_small : x.send.iss < 2 ^ 32
   pub iss_small : st.iss < 2 ^ 32
   pub few : symbols x.send ≤ 2 ^ 31
-  pub far : taken x + x.wnd ≤ 2 ^ 31
+  pub far : symbols_taken x + x.wnd ≤ 2 ^ 31
   -- before it is established it sent its SYN, and from then on all
   pub alone : x.phase ≡ Open → x.send.una ≡ 0 → x.send.nxt ≡ 1
   pub all : x.phase ≡ Open → (x.send.una == 0) ≡ false → symbols x.send ≤ x.send.nxt
@@ -50,16 +50,16 @@ EndTells x Limit = (x.send.una == 0) ≡ false
 
 -- What has the connection acknowledges no more than its client took, which is all that it sent.
 abbrev pub Tells : ClientBlock → ControlBlock → Type 0
-Tells x b = (b.send.una ≤ taken x) × (b.send.una ≡ symbols b.send → taken x ≤ b.send.una)
+Tells x b = (b.send.una ≤ symbols_taken x) × (b.send.una ≡ symbols b.send → symbols_taken x ≤ b.send.una)
 
-abbrev pub SeatTells : ClientBlock → Seat → Type 0
+abbrev pub SeatTells : ClientBlock → SeatNow → Type 0
 SeatTells x (Held b count) = Tells x b
 SeatTells x (Here told n e b s) = Tells x b × ((x.send.una == 0) ≡ false)
 SeatTells x (Over last) = EndTells x last.reason
 SeatTells x _ = Unit {0}
 
 -- where the connection is that a client's acknowledged numbers matter: no more was taken of it than it has
-abbrev pub Matters : Seat → Type 0
+abbrev pub Matters : SeatNow → Type 0
 Matters (Held b count) = Unit {0}
 Matters (Here told n e b s) = Unit {0}
 Matters (Over last) = last.reason ≡ Closed
@@ -67,14 +67,14 @@ Matters _ = ⊥
 
 -- A segment of the cluster acknowledges what the client sent; what it has is within what one direction carries, and nothing stands behind
 -- the FIN; a RST has no symbols, and one without ACK has a number that the client awaited once.
-pub record IsReply (st : Station) (x : ClientBlock) (z : Seat) (s : Said) : Type 0 where
+pub record IsReply (st : Station) (x : ClientBlock) (z : SeatNow) (s : Said) : Type 0 where
   pub ack_small : s.ack < 2 ^ 32
   pub seq_small : s.seq < 2 ^ 32
   pub greets : x.phase ≡ Open → x.send.una ≡ 0 → s.flags.ack ≡ true → seq_offset s.ack x.send.iss ≡ 1
   pub acks : x.phase ≡ Open → (x.send.una == 0) ≡ false → Matters z → s.flags.ack ≡ true → seq_offset s.ack x.send.iss ≤ x.send.nxt
   pub most : s.flags.rst ≡ false → s.flags.syn ≡ false → 1 ≤ seg_len s → seq_offset s.seq st.iss + length s.payload ≤ 1 + MAX_STREAM_BYTES
-  pub last : s.flags.rst ≡ false → x.eof ≡ true → 1 ≤ seg_len s → seq_offset s.seq st.iss + seg_len s ≤ taken x
-  pub refuses : s.flags.rst ≡ true → s.flags.ack ≡ false → (seg_len s ≡ 0) × (a : ℕ) × (s.seq ≡ seq_add st.iss a) × (a ≤ taken x)
+  pub last : s.flags.rst ≡ false → x.eof ≡ true → 1 ≤ seg_len s → seq_offset s.seq st.iss + seg_len s ≤ symbols_taken x
+  pub refuses : s.flags.rst ≡ true → s.flags.ack ≡ false → (seg_len s ≡ 0) × (a : ℕ) × (s.seq ≡ seq_add st.iss a) × (a ≤ symbols_taken x)
 
 pub record ClientGiven (x : Conn) : Type 0 where
   pub calm : (st : Station) → x.part.station ≡ Some st → IsCalm st st.client

@@ -5,9 +5,9 @@ use Rattle.std.proofs.lemmas.Bool.{cases_lt, cond_both, cond-false, cond-true}
 use Rattle.std.proofs.lemmas.Bool.Decides.{nat_tests}
 use Rattle.lard_arrival.specs.Arrival.{bare, is_acceptable, is_allowed, is_in_window, last_number, seg_len}
 use Rattle.lard_base.specs.declared.limits.TheConstants.{MAX_STREAM_BYTES}
-use Rattle.lard_bound.specs.Units.{taken}
-use Rattle.lard_client.specs.Arriving.{accepting, begins_after, ends, fresh_len, known, nothing, on_ack, on_fresh, on_rst, on_segment, on_syn, on_text, on_unacceptable, owing, part_of, reset_by_peer, room}
-use Rattle.lard_client.specs.Control.{ClientBlock, rcv_nxt, rcv_wnd}
+use Rattle.lard_bound.specs.Units.{symbols_taken}
+use Rattle.lard_client.specs.Arriving.{accepting, client_begins_after, client_ends, fresh_len, known, heard_nothing, client_on_ack, on_fresh, client_on_rst, client_on_segment, client_on_syn, client_on_text, client_on_unacceptable, client_owing, client_part_of, reset_by_peer, client_room}
+use Rattle.lard_client.specs.Control.{ClientBlock, client_rcv_nxt, client_rcv_wnd}
 use Rattle.lard_client.specs.declared.heard.Heard.{Heard}
 use Rattle.lard_client.specs.declared.phase.Phase.TheVariants.{Reset}
 use Rattle.lard_law_progress.proofs.AnswersClientKeeps.{ack-irs}
@@ -19,7 +19,7 @@ use Rattle.lard_seq.specs.Seq.{one_if, seq_add, seq_offset}
 abbrev pub took : ClientBlock → ℕ
 took x = 1 + x.accepted + one_if x.eof
 
-pub took-taken : (x : ClientBlock) → (x.send.una == 0) ≡ false → taken x ≡ took x
+pub took-taken : (x : ClientBlock) → (x.send.una == 0) ≡ false → symbols_taken x ≡ took x
 took-taken x open_ = cond-false (x.send.una == 0) 0 (1 + x.accepted + cond x.eof 1 0) open_ ∙ ap (λ n. 1 + x.accepted + n) (one x.eof) where
   one : (t : Bool) → cond t 1 0 ≡ one_if t
   one true = refl
@@ -40,42 +40,42 @@ equal x y e = grind (arith, nat_tests, e)
 -- It is established; its window is open, and does not reach far.
 pub record IsListening (x : ClientBlock) : Type 0 where
   pub established : (x.send.una == 0) ≡ false
-  pub wide : 1 ≤ rcv_wnd x
-  pub far : took x + rcv_wnd x ≤ 2 ^ 31
+  pub wide : 1 ≤ client_rcv_wnd x
+  pub far : took x + client_rcv_wnd x ≤ 2 ^ 31
   pub irs_small : x.send.irs < 2 ^ 32
 
 module _ (x : ClientBlock) (s : Said) (listens : IsListening x) where
   -- ---- in the window or not
 
-  open_window : (rcv_wnd x == 0) ≡ false
-  open_window = above (rcv_wnd x) listens.wide
+  open_window : (client_rcv_wnd x == 0) ≡ false
+  open_window = above (client_rcv_wnd x) listens.wide
 
-  not-allowed : is_allowed (rcv_nxt x) (rcv_wnd x) s ≡ false
-  not-allowed = λ i. ((open_window i) && (s.seq == rcv_nxt x)) && (not s.flags.rst && not s.flags.syn)
+  not-allowed : is_allowed (client_rcv_nxt x) (client_rcv_wnd x) s ≡ false
+  not-allowed = λ i. ((open_window i) && (s.seq == client_rcv_nxt x)) && (not s.flags.rst && not s.flags.syn)
 
   -- where its first number is, it is
-  in-window : nat_lt (seq_offset s.seq (rcv_nxt x)) (rcv_wnd x) ≡ true → is_acceptable (rcv_nxt x) (rcv_wnd x) s ≡ true
+  in-window : nat_lt (seq_offset s.seq (client_rcv_nxt x)) (client_rcv_wnd x) ≡ true → is_acceptable (client_rcv_nxt x) (client_rcv_wnd x) s ≡ true
   in-window first =
-      let w = rcv_wnd x in
-      let n = rcv_nxt x in
+      let w = client_rcv_wnd x in
+      let n = client_rcv_nxt x in
       let more : (is_in_window n w s.seq || is_in_window n w (last_number s)) ≡ true = ap (λ (t : Bool). t || is_in_window n w (last_number s)) first in
       cond_both (seg_len s == 0) (cond (w == 0) (s.seq == n) (is_in_window n w s.seq)) (cond (w == 0) false (is_in_window n w s.seq || is_in_window n w (last_number s))) (λ (t : Bool). t ≡ true)
       (λ t. cond-false (w == 0) (s.seq == n) (is_in_window n w s.seq) open_window ∙ first)
       (λ t. cond-false (w == 0) false (is_in_window n w s.seq || is_in_window n w (last_number s)) open_window ∙ more)
 
   -- one without symbols is in it nowhere else
-  out-of-window : seg_len s ≡ 0 → nat_lt (seq_offset s.seq (rcv_nxt x)) (rcv_wnd x) ≡ false → is_acceptable (rcv_nxt x) (rcv_wnd x) s ≡ false
+  out-of-window : seg_len s ≡ 0 → nat_lt (seq_offset s.seq (client_rcv_nxt x)) (client_rcv_wnd x) ≡ false → is_acceptable (client_rcv_nxt x) (client_rcv_wnd x) s ≡ false
   out-of-window none first =
-      let w = rcv_wnd x in
-      let n = rcv_nxt x in
+      let w = client_rcv_wnd x in
+      let n = client_rcv_nxt x in
       cond-true (seg_len s == 0) (cond (w == 0) (s.seq == n) (is_in_window n w s.seq)) (cond (w == 0) false (is_in_window n w s.seq || is_in_window n w (last_number s))) (ap (λ m. m == 0) none)
       ∙ cond-false (w == 0) (s.seq == n) (is_in_window n w s.seq) open_window ∙ first
 
-  pub at-next : s.seq ≡ rcv_nxt x → is_acceptable (rcv_nxt x) (rcv_wnd x) s ≡ true
+  pub at-next : s.seq ≡ client_rcv_nxt x → is_acceptable (client_rcv_nxt x) (client_rcv_wnd x) s ≡ true
   at-next at =
       let w = listens.wide in
-      let zero_ : seq_offset s.seq (rcv_nxt x) ≡ 0 = ap (λ n. seq_offset n (rcv_nxt x)) at ∙ same (rcv_nxt x) in
-      in-window (within (seq_offset s.seq (rcv_nxt x)) (rcv_wnd x) (omega (arith, zero_, w)))
+      let zero_ : seq_offset s.seq (client_rcv_nxt x) ≡ 0 = ap (λ n. seq_offset n (client_rcv_nxt x)) at ∙ same (client_rcv_nxt x) in
+      in-window (within (seq_offset s.seq (client_rcv_nxt x)) (client_rcv_wnd x) (omega (arith, zero_, w)))
     where
       same : (n : ℕ) → seq_offset n n ≡ 0
       same n = omega arith
@@ -83,31 +83,31 @@ module _ (x : ClientBlock) (s : Said) (listens : IsListening x) where
   -- ---- a reset
 
   -- at the number that is awaited it resets
-  pub resets-at : s.flags.rst ≡ true → s.seq ≡ rcv_nxt x → (on_segment x s).1.phase ≡ Reset
+  pub resets-at : s.flags.rst ≡ true → s.seq ≡ client_rcv_nxt x → (client_on_segment x s).1.phase ≡ Reset
   resets-at rst at =
-      let a : on_segment x s ≡ on_rst x s = cond-true (is_acceptable (rcv_nxt x) (rcv_wnd x) s) (on_rst x s) (on_unacceptable x s) (at-next at) in
-      let c : on_rst x s ≡ cond (s.seq == rcv_nxt x) (nothing, reset_by_peer x) (nothing, owing x) =
-      cond-false (not s.flags.rst) (on_syn x s) (cond (s.seq == rcv_nxt x) (nothing, reset_by_peer x) (nothing, owing x)) (ap not rst) in
-      let e : cond (s.seq == rcv_nxt x) (nothing, reset_by_peer x) (nothing, owing x) ≡ (nothing, reset_by_peer x) =
-      cond-true (s.seq == rcv_nxt x) (nothing, reset_by_peer x) (nothing, owing x) (equal s.seq (rcv_nxt x) at) in
+      let a : client_on_segment x s ≡ client_on_rst x s = cond-true (is_acceptable (client_rcv_nxt x) (client_rcv_wnd x) s) (client_on_rst x s) (client_on_unacceptable x s) (at-next at) in
+      let c : client_on_rst x s ≡ cond (s.seq == client_rcv_nxt x) (heard_nothing, reset_by_peer x) (heard_nothing, client_owing x) =
+      cond-false (not s.flags.rst) (client_on_syn x s) (cond (s.seq == client_rcv_nxt x) (heard_nothing, reset_by_peer x) (heard_nothing, client_owing x)) (ap not rst) in
+      let e : cond (s.seq == client_rcv_nxt x) (heard_nothing, reset_by_peer x) (heard_nothing, client_owing x) ≡ (heard_nothing, reset_by_peer x) =
+      cond-true (s.seq == client_rcv_nxt x) (heard_nothing, reset_by_peer x) (heard_nothing, client_owing x) (equal s.seq (client_rcv_nxt x) at) in
       ap (λ (r : Heard × ClientBlock). r.1.phase) (a ∙ c ∙ e)
 
-  unanswered : s.flags.rst ≡ true → is_acceptable (rcv_nxt x) (rcv_wnd x) s ≡ false → (on_segment x s).1 ≡ x
+  unanswered : s.flags.rst ≡ true → is_acceptable (client_rcv_nxt x) (client_rcv_wnd x) s ≡ false → (client_on_segment x s).1 ≡ x
   unanswered rst out =
-      let is : on_segment x s ≡ (nothing, x) =
-      cond-false (is_acceptable (rcv_nxt x) (rcv_wnd x) s) (on_rst x s) (on_unacceptable x s) out
-      ∙ cond-false (is_allowed (rcv_nxt x) (rcv_wnd x) s) (on_ack (owing x) (bare s)) (cond s.flags.rst (nothing, x) (nothing, owing x)) not-allowed
-      ∙ cond-true s.flags.rst (nothing, x) (nothing, owing x) rst in
+      let is : client_on_segment x s ≡ (heard_nothing, x) =
+      cond-false (is_acceptable (client_rcv_nxt x) (client_rcv_wnd x) s) (client_on_rst x s) (client_on_unacceptable x s) out
+      ∙ cond-false (is_allowed (client_rcv_nxt x) (client_rcv_wnd x) s) (client_on_ack (client_owing x) (bare s)) (cond s.flags.rst (heard_nothing, x) (heard_nothing, client_owing x)) not-allowed
+      ∙ cond-true s.flags.rst (heard_nothing, x) (heard_nothing, client_owing x) rst in
       ap (λ (r : Heard × ClientBlock). r.1) is
 
   -- So a refusal, whose number was awaited once, resets, or nothing comes of it.
-  pub refused : seg_len s ≡ 0 → s.flags.rst ≡ true → (a : ℕ) → s.seq ≡ seq_add x.send.irs a → a ≤ took x → ((on_segment x s).1.phase ≡ Reset) ⊎ ((on_segment x s).1 ≡ x)
+  pub refused : seg_len s ≡ 0 → s.flags.rst ≡ true → (a : ℕ) → s.seq ≡ seq_add x.send.irs a → a ≤ took x → ((client_on_segment x s).1.phase ≡ Reset) ⊎ ((client_on_segment x s).1 ≡ x)
   refused none rst a number most = ⊎_elim
       (λ (l : a < took x).
       let f = listens.far in
-      let off : seq_offset s.seq (rcv_nxt x) ≡ seq_offset (seq_add x.send.irs a) (seq_add x.send.irs (took x)) = ap (λ n. seq_offset n (rcv_nxt x)) number in
+      let off : seq_offset s.seq (client_rcv_nxt x) ≡ seq_offset (seq_add x.send.irs a) (seq_add x.send.irs (took x)) = ap (λ n. seq_offset n (client_rcv_nxt x)) number in
       let up : 2 ^ 31 ≤ seq_offset (seq_add x.send.irs a) (seq_add x.send.irs (took x)) = apart x.send.irs a (took x) listens.irs_small l (omega (arith, f)) in
-      inr (unanswered rst (out-of-window none (beyond (seq_offset s.seq (rcv_nxt x)) (rcv_wnd x) (omega (arith, off, up, f))))))
+      inr (unanswered rst (out-of-window none (beyond (seq_offset s.seq (client_rcv_nxt x)) (client_rcv_wnd x) (omega (arith, off, up, f))))))
       (λ (l : took x ≤ a). let same : a ≡ took x = omega (arith, l, most) in inl (resets-at rst (number ∙ ap (seq_add x.send.irs) same)))
       (cases_lt a (took x))
     where
@@ -116,24 +116,24 @@ module _ (x : ClientBlock) (s : Said) (listens : IsListening x) where
 
   -- ---- a SYN
 
-  pub syn-owed : s.flags.syn ≡ true → s.flags.rst ≡ false → (on_segment x s).1.owed ≡ true
+  pub syn-owed : s.flags.syn ≡ true → s.flags.rst ≡ false → (client_on_segment x s).1.owed ≡ true
   syn-owed syn no_rst =
       let Owes : Heard × ClientBlock → Type 0 = λ r. r.1.owed ≡ true in
-      cond_both {A = Heard × ClientBlock} (is_acceptable (rcv_nxt x) (rcv_wnd x) s) (on_rst x s) (on_unacceptable x s) Owes
+      cond_both {A = Heard × ClientBlock} (is_acceptable (client_rcv_nxt x) (client_rcv_wnd x) s) (client_on_rst x s) (client_on_unacceptable x s) Owes
       (λ t.
-      let rst : on_rst x s ≡ on_syn x s = cond-true (not s.flags.rst) (on_syn x s) (cond (s.seq == rcv_nxt x) (nothing, reset_by_peer x) (nothing, owing x)) (ap not no_rst) in
-      let is : on_syn x s ≡ (nothing, owing x) = cond-true s.flags.syn (nothing, owing x) (on_ack x s) syn in
+      let rst : client_on_rst x s ≡ client_on_syn x s = cond-true (not s.flags.rst) (client_on_syn x s) (cond (s.seq == client_rcv_nxt x) (heard_nothing, reset_by_peer x) (heard_nothing, client_owing x)) (ap not no_rst) in
+      let is : client_on_syn x s ≡ (heard_nothing, client_owing x) = cond-true s.flags.syn (heard_nothing, client_owing x) (client_on_ack x s) syn in
       ap (λ (r : Heard × ClientBlock). r.1.owed) (rst ∙ is))
       (λ t.
-      let is : on_unacceptable x s ≡ (nothing, owing x) =
-      cond-false (is_allowed (rcv_nxt x) (rcv_wnd x) s) (on_ack (owing x) (bare s)) (cond s.flags.rst (nothing, x) (nothing, owing x)) not-allowed ∙ cond-false s.flags.rst (nothing, x) (nothing, owing x) no_rst in
+      let is : client_on_unacceptable x s ≡ (heard_nothing, client_owing x) =
+      cond-false (is_allowed (client_rcv_nxt x) (client_rcv_wnd x) s) (client_on_ack (client_owing x) (bare s)) (cond s.flags.rst (heard_nothing, x) (heard_nothing, client_owing x)) not-allowed ∙ cond-false s.flags.rst (heard_nothing, x) (heard_nothing, client_owing x) no_rst in
       ap (λ (r : Heard × ClientBlock). r.1.owed) is)
 
   -- ---- data
 
   -- It begins at the number that is awaited, and what it has does not go beyond what one direction carries.
   pub record IsNext : Type 0 where
-    pub at : s.seq ≡ rcv_nxt x
+    pub at : s.seq ≡ client_rcv_nxt x
     pub acks : s.flags.ack ≡ true
     pub no_syn : s.flags.syn ≡ false
     pub no_rst : s.flags.rst ≡ false
@@ -152,28 +152,28 @@ module _ (x : ClientBlock) (s : Said) (listens : IsListening x) where
     first n e = grind (arith, nat_tests, e)
 
   -- more is taken of that than before
-  pub takes-next : IsNext → took x < took (on_segment x s).1
+  pub takes-next : IsNext → took x < took (client_on_segment x s).1
   takes-next h =
       let after : ClientBlock = record x { send = after_ack x.send s.ack s.seq s.wnd } in
-      let a : on_segment x s ≡ on_rst x s = cond-true (is_acceptable (rcv_nxt x) (rcv_wnd x) s) (on_rst x s) (on_unacceptable x s) (at-next h.at) in
-      let c : on_rst x s ≡ on_syn x s = cond-true (not s.flags.rst) (on_syn x s) (cond (s.seq == rcv_nxt x) (nothing, reset_by_peer x) (nothing, owing x)) (ap not h.no_rst) in
-      let d : on_syn x s ≡ on_ack x s = cond-false s.flags.syn (nothing, owing x) (on_ack x s) h.no_syn in
-      let e : on_ack x s ≡ on_text after s =
-      cond-false (not s.flags.ack) (nothing, x) (cond (nat_lt x.send.nxt (seq_offset s.ack x.send.iss)) (nothing, owing x) (on_text after s)) (ap not h.acks)
-      ∙ cond-false (nat_lt x.send.nxt (seq_offset s.ack x.send.iss)) (nothing, owing x) (on_text after s) h.known_ack in
-      let f : on_text after s ≡ on_fresh (owing after) s = cond-false ((length s.payload == 0) && not s.flags.fin) (nothing, after) (on_fresh (owing after) s) (some-text (length s.payload) s.flags.fin h.some) in
-      let whole : (on_segment x s).1 ≡ (on_fresh (owing after) s).1 = ap (λ (r : Heard × ClientBlock). r.1) (a ∙ c ∙ d ∙ e ∙ f) in
-      let y : ClientBlock = owing after in
-      let at_y : s.seq ≡ rcv_nxt y = h.at ∙ ap (λ n. seq_add n (took x)) (sym (ack-irs x.send s.ack s.seq s.wnd)) in
-      let none : known y s ≡ 0 = ap (seq_offset (rcv_nxt y)) at_y ∙ itself (rcv_nxt y) in
-      let first : begins_after y s ≡ false = not-after (is_in_window (rcv_nxt y) (rcv_wnd y) s.seq) (s.seq == rcv_nxt y) (equal s.seq (rcv_nxt y) at_y) in
-      let is : on_fresh y s ≡ (part_of y s, accepting y (fresh_len y s) (ends y s)) =
-      cond-false (begins_after y s || y.eof) (nothing, y) (part_of y s, accepting y (fresh_len y s) (ends y s)) (λ i. first i || h.going i) in
-      let n : fresh_len y s ≡ min (length s.payload - 0) (room y) = ap (λ m. min (length s.payload - m) (room y)) none in
-      let fin : one_if (ends y s) ≡ one_if (s.flags.fin && (0 + fresh_len y s == length s.payload)) = ap (λ m. one_if (s.flags.fin && (m + fresh_len y s == length s.payload))) none in
+      let a : client_on_segment x s ≡ client_on_rst x s = cond-true (is_acceptable (client_rcv_nxt x) (client_rcv_wnd x) s) (client_on_rst x s) (client_on_unacceptable x s) (at-next h.at) in
+      let c : client_on_rst x s ≡ client_on_syn x s = cond-true (not s.flags.rst) (client_on_syn x s) (cond (s.seq == client_rcv_nxt x) (heard_nothing, reset_by_peer x) (heard_nothing, client_owing x)) (ap not h.no_rst) in
+      let d : client_on_syn x s ≡ client_on_ack x s = cond-false s.flags.syn (heard_nothing, client_owing x) (client_on_ack x s) h.no_syn in
+      let e : client_on_ack x s ≡ client_on_text after s =
+      cond-false (not s.flags.ack) (heard_nothing, x) (cond (nat_lt x.send.nxt (seq_offset s.ack x.send.iss)) (heard_nothing, client_owing x) (client_on_text after s)) (ap not h.acks)
+      ∙ cond-false (nat_lt x.send.nxt (seq_offset s.ack x.send.iss)) (heard_nothing, client_owing x) (client_on_text after s) h.known_ack in
+      let f : client_on_text after s ≡ on_fresh (client_owing after) s = cond-false ((length s.payload == 0) && not s.flags.fin) (heard_nothing, after) (on_fresh (client_owing after) s) (some-text (length s.payload) s.flags.fin h.some) in
+      let whole : (client_on_segment x s).1 ≡ (on_fresh (client_owing after) s).1 = ap (λ (r : Heard × ClientBlock). r.1) (a ∙ c ∙ d ∙ e ∙ f) in
+      let y : ClientBlock = client_owing after in
+      let at_y : s.seq ≡ client_rcv_nxt y = h.at ∙ ap (λ n. seq_add n (took x)) (sym (ack-irs x.send s.ack s.seq s.wnd)) in
+      let none : known y s ≡ 0 = ap (seq_offset (client_rcv_nxt y)) at_y ∙ itself (client_rcv_nxt y) in
+      let first : client_begins_after y s ≡ false = not-after (is_in_window (client_rcv_nxt y) (client_rcv_wnd y) s.seq) (s.seq == client_rcv_nxt y) (equal s.seq (client_rcv_nxt y) at_y) in
+      let is : on_fresh y s ≡ (client_part_of y s, accepting y (fresh_len y s) (client_ends y s)) =
+      cond-false (client_begins_after y s || y.eof) (heard_nothing, y) (client_part_of y s, accepting y (fresh_len y s) (client_ends y s)) (λ i. first i || h.going i) in
+      let n : fresh_len y s ≡ min (length s.payload - 0) (client_room y) = ap (λ m. min (length s.payload - m) (client_room y)) none in
+      let fin : one_if (client_ends y s) ≡ one_if (s.flags.fin && (0 + fresh_len y s == length s.payload)) = ap (λ m. one_if (s.flags.fin && (m + fresh_len y s == length s.payload))) none in
       let open_ : one_if x.eof ≡ 0 = ap one_if h.going in
-      let up = finish x.accepted (length s.payload) (fresh_len y s) (rcv_wnd x) s.flags.fin listens.wide n h.most h.some in
-      let last : took x < took (accepting y (fresh_len y s) (ends y s)) = omega (arith, up, fin, open_) in
+      let up = finish x.accepted (length s.payload) (fresh_len y s) (client_rcv_wnd x) s.flags.fin listens.wide n h.most h.some in
+      let last : took x < took (accepting y (fresh_len y s) (client_ends y s)) = omega (arith, up, fin, open_) in
       subst (λ (z : ClientBlock). took x < took z) (sym (whole ∙ ap (λ (r : Heard × ClientBlock). r.1) is)) last
     where
       itself : (n : ℕ) → seq_offset n n ≡ 0

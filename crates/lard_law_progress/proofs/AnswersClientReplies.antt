@@ -6,13 +6,13 @@ use Rattle.std.proofs.lemmas.Bool.Decides.{nat_tests}
 use Rattle.lard_arrival.specs.Arrival.{seg_len}
 use Rattle.lard_base.specs.declared.limits.TheConstants.{MAX_STREAM_BYTES}
 use Rattle.lard_bound.specs.Nears.{IsAnswer, IsUntold}
-use Rattle.lard_bound.specs.Seats.{Seat}
-use Rattle.lard_bound.specs.Spots.{Ends, Spot}
-use Rattle.lard_bound.specs.Units.{taken}
-use Rattle.lard_client.specs.Arriving.{arrived, on_segment}
-use Rattle.lard_client.specs.Control.{ClientBlock, is_open, is_open_in, rcv_nxt, rcv_wnd}
+use Rattle.lard_bound.specs.Seats.{SeatNow}
+use Rattle.lard_bound.specs.Spots.{EndpointSymbols, Spot}
+use Rattle.lard_bound.specs.Units.{symbols_taken}
+use Rattle.lard_client.specs.Arriving.{client_arrived, client_on_segment}
+use Rattle.lard_client.specs.Control.{ClientBlock, is_client_open, is_open_in, client_rcv_nxt, client_rcv_wnd}
 use Rattle.lard_client.specs.declared.phase.Phase.TheVariants.{Open, Reset}
-use Rattle.lard_client.specs.Leaving.{ack_ready, owed_ready, owes, ready_of}
+use Rattle.lard_client.specs.Leaving.{client_ack_ready, client_owed_ready, client_owes, client_ready_of}
 use Rattle.lard_law_progress.proofs.AnswersClientGiven.{IsCalm, IsReply, Matters}
 use Rattle.lard_law_progress.proofs.AnswersClientHears.{IsListening, at-next, refused, resets-at, syn-owed, takes-next, took, took-taken}
 use Rattle.lard_law_progress.proofs.AnswersClientKeeps.{IsSame, heard-few, heard-same, heard-sound}
@@ -34,12 +34,12 @@ pub record GoesOn (x y : ClientBlock) : Type 0 where
   pub una : y.send.una ≡ x.send.una
   pub symbols_ : symbols y.send ≡ symbols x.send
 
-module _ (st : Station) (s : Said) (calm : IsCalm st st.client) (is_open_ : st.client.phase ≡ Open) (established : (st.client.send.una == 0) ≡ false) (z : Seat) (reply : IsReply st st.client z s) where
+module _ (st : Station) (s : Said) (calm : IsCalm st st.client) (is_open_ : st.client.phase ≡ Open) (established : (st.client.send.una == 0) ≡ false) (z : SeatNow) (reply : IsReply st st.client z s) where
   abbrev x : ClientBlock
   x = st.client
 
   abbrev y : ClientBlock
-  y = (on_segment x s).1
+  y = (client_on_segment x s).1
 
   above : (n : ℕ) → 1 ≤ n → (n == 0) ≡ false
   above n e = grind (arith, nat_tests, e)
@@ -50,35 +50,35 @@ module _ (st : Station) (s : Said) (calm : IsCalm st st.client) (is_open_ : st.c
   within : (a b : ℕ) → a < b → nat_lt a b ≡ true
   within a b e = grind (arith, nat_tests, e)
 
-  took-is : taken x ≡ took x
+  took-is : symbols_taken x ≡ took x
   took-is = took-taken x established
 
-  window : rcv_wnd x ≡ x.wnd
+  window : client_rcv_wnd x ≡ x.wnd
   window = let h : x.held ≡ 0 = calm.held is_open_ in omega (arith, h)
 
   listens : IsListening x
   listens =
-      let w = window in let a : 1 ≤ x.wnd = calm.some in let f : taken x + x.wnd ≤ 2 ^ 31 = calm.far in let t = took-is in
+      let w = window in let a : 1 ≤ x.wnd = calm.some in let f : symbols_taken x + x.wnd ≤ 2 ^ 31 = calm.far in let t = took-is in
       let i : x.send.irs ≡ st.iss = calm.irs established in let l : st.iss < 2 ^ 32 = calm.iss_small in
       record { established = established; wide = omega (arith, w, a); far = omega (arith, w, f, t); irs_small = omega (arith, i, l) }
 
   -- it owed nothing, and its window was told as an open one
   quiet : (x.owed ≡ false) × ((x.last_window == 0) ≡ false)
   quiet =
-      let w : nat_lt 0 (rcv_wnd x) ≡ true = within 0 (rcv_wnd x) listens.wide in
-      let one = by-open (is_open x) (ap is_open_in is_open_) calm.none in
+      let w : nat_lt 0 (client_rcv_wnd x) ≡ true = within 0 (client_rcv_wnd x) listens.wide in
+      let one = by-open (is_client_open x) (ap is_open_in is_open_) calm.none in
       let two = by-piece (next_piece x.send) one in
-      parts (not (x.send.una == 0)) x.owed (x.last_window == 0) (nat_lt 0 (rcv_wnd x)) (ap not established) w (by-owed (owes x) two)
+      parts (not (x.send.una == 0)) x.owed (x.last_window == 0) (nat_lt 0 (client_rcv_wnd x)) (ap not established) w (by-owed (client_owes x) two)
     where
-      by-open : (t : Bool) → t ≡ true → cond {A = Option Ready} (not t) None (ready_of x (next_piece x.send) (owed_ready x)) ≡ None → ready_of x (next_piece x.send) (owed_ready x) ≡ None
+      by-open : (t : Bool) → t ≡ true → cond {A = Option Ready} (not t) None (client_ready_of x (next_piece x.send) (client_owed_ready x)) ≡ None → client_ready_of x (next_piece x.send) (client_owed_ready x) ≡ None
       by-open true e f = f
       by-open false e f = absurd (let bad : false ≡ true = e in cc)
 
-      by-piece : (p : Option Piece) → ready_of x p (owed_ready x) ≡ None → owed_ready x ≡ None
+      by-piece : (p : Option Piece) → client_ready_of x p (client_owed_ready x) ≡ None → client_owed_ready x ≡ None
       by-piece (Some p) f = absurd cc
       by-piece None f = f
 
-      by-owed : (t : Bool) → cond {A = Option Ready} t (Some (ack_ready x)) None ≡ None → t ≡ false
+      by-owed : (t : Bool) → cond {A = Option Ready} t (Some (client_ack_ready x)) None ≡ None → t ≡ false
       by-owed true f = absurd cc
       by-owed false f = refl
 
@@ -105,13 +105,13 @@ module _ (st : Station) (s : Said) (calm : IsCalm st st.client) (is_open_ : st.c
       }
 
   -- what is said of it then
-  pub y-window : rcv_wnd y ≡ x.wnd
+  pub y-window : client_rcv_wnd y ≡ x.wnd
   y-window = let w1 : y.wnd ≡ x.wnd = same.wnd in let w2 : y.held ≡ x.held = same.held in let h : x.held ≡ 0 = calm.held is_open_ in omega (arith, w1, w2, h)
 
   -- its acknowledgement tells how many symbols it took
-  pub y-tells : seq_offset (rcv_nxt y) st.iss ≡ took y
+  pub y-tells : seq_offset (client_rcv_nxt y) st.iss ≡ took y
   y-tells =
-      let f : taken x + x.wnd ≤ 2 ^ 31 = calm.far in
+      let f : symbols_taken x + x.wnd ≤ 2 ^ 31 = calm.far in
       let t = took-is in
       let few : y.accepted ≤ 2 ^ 31 = heard-few x s (omega (arith, f, t)) in
       let one = most y.eof in
@@ -127,7 +127,7 @@ module _ (st : Station) (s : Said) (calm : IsCalm st st.client) (is_open_ : st.c
   unanswered goes rst ack owed =
       let h = reply.refuses rst ack in
       let number : s.seq ≡ seq_add x.send.irs h.1 = h.2 ∙ ap (λ n. seq_add n h.1) (sym (calm.irs established)) in
-      let most : h.1 ≤ took x = let m : h.1 ≤ taken x = h.3 in let t = took-is in omega (arith, m, t) in
+      let most : h.1 ≤ took x = let m : h.1 ≤ symbols_taken x = h.3 in let t = took-is in omega (arith, m, t) in
       ⊎_elim
       (λ (e : y.phase ≡ Reset). let bad : Reset ≡ Open = sym e ∙ goes.phase ∙ is_open_ in cc)
       (λ (e : y ≡ x). let bad : true ≡ false = sym owed ∙ ap (λ (z : ClientBlock). z.owed) e ∙ quiet.0 in cc)
@@ -143,10 +143,10 @@ module _ (st : Station) (s : Said) (calm : IsCalm st st.client) (is_open_ : st.c
     open_ = is_open_;
     established = established;
     known = under x.send.nxt (seq_offset s.ack x.send.iss) (reply.acks is_open_ established bound acks);
-    wide = above (rcv_wnd x) listens.wide;
+    wide = above (client_rcv_wnd x) listens.wide;
   }
 
-  arrives-is : Matters z → s.flags.ack ≡ true → arrived x s ≡ on_segment x s
+  arrives-is : Matters z → s.flags.ack ≡ true → client_arrived x s ≡ client_on_segment x s
   arrives-is bound acks = arrives x s (talk bound acks)
 
   more-taken : Matters z → s.flags.ack ≡ true → took x ≤ took y
@@ -162,7 +162,7 @@ module _ (st : Station) (s : Said) (calm : IsCalm st st.client) (is_open_ : st.c
       ends-up false true on = omega arith
       ends-up false false on = omega arith
 
-  module _ (t : Spot) (e : Ends) (iss : t.iss ≡ st.iss) (knows : e.una ≤ taken x) (bound : Matters z) (h : IsUntold t e s) where
+  module _ (t : Spot) (e : EndpointSymbols) (iss : t.iss ≡ st.iss) (knows : e.una ≤ symbols_taken x) (bound : Matters z) (h : IsUntold t e s) where
     first : seq_offset s.seq st.iss ≡ e.una
     first = ap (seq_offset s.seq) (sym iss) ∙ h.from
 
@@ -193,9 +193,9 @@ module _ (st : Station) (s : Said) (calm : IsCalm st st.client) (is_open_ : st.c
         let is_owed : y.owed ≡ true = ap (λ r. r.1.owed) (sym (arrives-is bound h.acks)) ∙ owed.0 in
         let m = more-taken bound h.acks in
         let t = took-is in
-        (is_owed, ⊎_elim (λ (l : e.una < taken x). omega (arith, l, m, t)) (λ (l : taken x ≤ e.una). at-once some.1 (omega (arith, l, knows))) (cases_lt e.una (taken x)))
+        (is_owed, ⊎_elim (λ (l : e.una < symbols_taken x). omega (arith, l, m, t)) (λ (l : symbols_taken x ≤ e.una). at-once some.1 (omega (arith, l, knows))) (cases_lt e.una (symbols_taken x)))
       where
-        at-once : 1 ≤ length s.payload + one_if s.flags.fin → e.una ≡ taken x → e.una < took y
+        at-once : 1 ≤ length s.payload + one_if s.flags.fin → e.una ≡ symbols_taken x → e.una < took y
         at-once some at =
             let f = first in
             let b = behind in
@@ -217,7 +217,7 @@ module _ (st : Station) (s : Said) (calm : IsCalm st st.client) (is_open_ : st.c
           where
             not-ended : (q : Bool) → x.eof ≡ q → q ≡ false
             not-ended false is = refl
-            not-ended true is = absurd (let l : seq_offset s.seq st.iss + seg_len s ≤ taken x = reply.last h.no_rst is (let o = first in let b = behind in omega (arith, o, b)) in let b = behind in omega (arith, l, b, at))
+            not-ended true is = absurd (let l : seq_offset s.seq st.iss + seg_len s ≤ symbols_taken x = reply.last h.no_rst is (let o = first in let b = behind in omega (arith, o, b)) in let b = behind in omega (arith, l, b, at))
 
     -- it owes an acknowledgement, of more than that
     pub untold-owed : (y.owed ≡ true) × (e.una < took y)
@@ -228,9 +228,9 @@ module _ (st : Station) (s : Said) (calm : IsCalm st st.client) (is_open_ : st.c
 
   -- ---- an acknowledgement of what it does not know to be taken is a unit
 
-  pub answer-tells : (t : Spot) → Matters z → t.iss ≡ st.iss → t.isn ≡ x.send.iss → t.una ≡ x.send.una → IsAnswer t (taken x) s → GoesOn x y → ⊥
+  pub answer-tells : (t : Spot) → Matters z → t.iss ≡ st.iss → t.isn ≡ x.send.iss → t.una ≡ x.send.una → IsAnswer t (symbols_taken x) s → GoesOn x y → ⊥
   answer-tells t bound iss isn una h goes =
-      let at : s.seq ≡ rcv_nxt x = number-is ∙ ap (seq_add st.iss) (ap (seq_offset s.seq) (sym iss) ∙ h.number ∙ took-is) ∙ ap (λ n. seq_add n (took x)) (sym (calm.irs established)) in
+      let at : s.seq ≡ client_rcv_nxt x = number-is ∙ ap (seq_add st.iss) (ap (seq_offset s.seq) (sym iss) ∙ h.number ∙ took-is) ∙ ap (λ n. seq_add n (took x)) (sym (calm.irs established)) in
       let acks : s.flags.ack ≡ true = (plain-parts s.flags.syn s.flags.fin s.flags.rst s.flags.ack (length s.payload) h.plain).3 in
       let up : x.send.una < seq_offset s.ack x.send.iss = subst (λ n. x.send.una < seq_offset s.ack n) isn (subst (λ n. n < seq_offset s.ack t.isn) una h.more) in
       let tells = plain-tells x s (talk bound acks) h.plain (at-next x s listens at) (within x.send.una (seq_offset s.ack x.send.iss) up) in
@@ -239,7 +239,7 @@ module _ (st : Station) (s : Said) (calm : IsCalm st st.client) (is_open_ : st.c
       omega (arith, now, old, up)
 
   -- and so is a reset at the number that it awaits
-  pub reset-tells : (t : Spot) → t.iss ≡ st.iss → s.flags.rst ≡ true → seq_offset s.seq t.iss ≡ taken x → GoesOn x y → ⊥
+  pub reset-tells : (t : Spot) → t.iss ≡ st.iss → s.flags.rst ≡ true → seq_offset s.seq t.iss ≡ symbols_taken x → GoesOn x y → ⊥
   reset-tells t iss rst number goes =
-      let at : s.seq ≡ rcv_nxt x = number-is ∙ ap (seq_add st.iss) (ap (seq_offset s.seq) (sym iss) ∙ number ∙ took-is) ∙ ap (λ n. seq_add n (took x)) (sym (calm.irs established)) in
+      let at : s.seq ≡ client_rcv_nxt x = number-is ∙ ap (seq_add st.iss) (ap (seq_offset s.seq) (sym iss) ∙ number ∙ took-is) ∙ ap (λ n. seq_add n (took x)) (sym (calm.irs established)) in
       let bad : Reset ≡ Open = sym (resets-at x s listens rst at) ∙ goes.phase ∙ is_open_ in cc

@@ -7,7 +7,7 @@ use Rattle.lard_bound.specs.Nears.{Near, NearSegment, OfSegment}
 use Rattle.lard_bound.specs.Seats.{seat_of}
 use Rattle.lard_bound.specs.Spots.{Spot, spot_of}
 use Rattle.lard_bound.specs.Units.{Whole}
-use Rattle.lard_client.specs.Arriving.{arrived}
+use Rattle.lard_client.specs.Arriving.{client_arrived}
 use Rattle.lard_client.specs.Control.{ClientBlock}
 use Rattle.lard_law_view.specs.View.{Conn, GoesBetween, Move, Setting, Was, client_does, event_seen, letter, packet_seen, with_station}
 use Rattle.lard_law_view.proofs.Turned.{between-has}
@@ -51,10 +51,10 @@ module _ (k : Setting) (w : Whole) (x : Conn) (st : Station) (is : x.part.statio
     after_client r = record { client = (given r).0; iss = st.iss }
 
     -- behind the turn the spot tells of the client what it told before
-    goes-on : (s : Said) → spot_of k.files (with_station x.part (after_client (Ok s))) (after_client (Ok s)) ≡ spot_of k.files x.part st → GoesOn st.client (arrived st.client s).1
+    goes-on : (s : Said) → spot_of k.files (with_station x.part (after_client (Ok s))) (after_client (Ok s)) ≡ spot_of k.files x.part st → GoesOn st.client (client_arrived st.client s).1
     unfolding spot_of
     goes-on s same =
-        let y = (arrived st.client s).1 in
+        let y = (client_arrived st.client s).1 in
         let told = speaks-told y in
         let ends : symbols (client_speaks y).1.send ≡ symbols y.send = λ i. 1 + told.ahead.total i + one_if (told.finished i) in
         record {
@@ -86,7 +86,7 @@ module _ (k : Setting) (w : Whole) (x : Conn) (st : Station) (is : x.part.statio
           answers-by k w x (does (Ok s)) came st (after_client (Ok s)) is refl lasts (λ up same.
           let read : decoded bytes st.client.c ToClient ≡ Ok s = ap (λ n. decoded bytes n ToClient) c ∙ e in
           let h = heard-answers k.files x.part st (seat_of x.part) from cluster bytes s (g.calm st is) (g.seat st is) (g.replies st from bytes s is cluster was e) read (goes-on s same) in
-          let R : ℕ → Spot → Type 0 = λ n t. Replies k.files t n (record { from = from; to = Client n; bytes = bytes }) (map (letter (Client n)) (segments_of (arrived st.client s)) ++ []) in
+          let R : ℕ → Spot → Type 0 = λ n t. Replies k.files t n (record { from = from; to = Client n; bytes = bytes }) (map (letter (Client n)) (segments_of (client_arrived st.client s)) ++ []) in
           subst (λ n. R n (spot_of k.files x.part st)) c (subst (R st.client.c) (sym (seated-is k.files x.part st)) h))
 
 -- the rules of a client that a settle makes

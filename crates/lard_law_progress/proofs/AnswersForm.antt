@@ -6,10 +6,10 @@ use Rattle.lard_base.specs.declared.place.Place.TheVariants.{Client, Front, Node
 use Rattle.lard_bound.specs.Chains.{chain}
 use Rattle.lard_bound.specs.Nears.{Near}
 use Rattle.lard_bound.specs.Progress.{Answers, Any, Every, IfCame, IsFetch, IsWarm, Lasts, NearOn, came_in, chain_on, spot_at, spot_with}
-use Rattle.lard_bound.specs.Seats.{Seat, seat_of, tells_end}
+use Rattle.lard_bound.specs.Seats.{SeatNow, seat_of, tells_end}
 use Rattle.lard_bound.specs.Spots.{Spot, post_of, spot_of}
 use Rattle.lard_bound.specs.Units.{Whole, units}
-use Rattle.lard_law_view.specs.Carry.{MayMove}
+use Rattle.lard_law_view.specs.Carry.{MayRestOn}
 use Rattle.lard_law_view.specs.View.{Conn, Move, Part, Setting, grown, letters_of}
 use Rattle.lard_history.specs.Own.{Letter}
 use Rattle.lard_message.specs.declared.message.Body.{Body}
@@ -48,7 +48,7 @@ IsLateOn x l = (st : Station) → x.part.station ≡ Some st → IsLate x.c l
 -- behind the first rounds.
 abbrev pub Owes : Setting → Whole → (Conn → Type 0) → Conn → Move → Type 0
 Owes k w Given x v =
-    MayMove Given x → Given (grown x v) → IfCame (IsWarm x) (came_in v.heads) → IfCame (IsLateOn x) (came_in v.heads) → Lasts k w x v → IfCame (Answers k w x v) (came_in v.heads)
+    MayRestOn Given x → Given (grown x v) → IfCame (IsWarm x) (came_in v.heads) → IfCame (IsLateOn x) (came_in v.heads) → Lasts k w x v → IfCame (Answers k w x v) (came_in v.heads)
 
 -- Of packet l, on which these are sent: their chains are shorter, and if it is near, one of them is nearer.
 pub record Replies (files : FilesAt) (t : Spot) (c : ℕ) (l : Letter) (sent : List Letter) : Type 0 where
@@ -88,7 +88,7 @@ module _ (k : Setting) (w : Whole) (x : Conn) (v : Move) (l : Letter) (st st' : 
 
 -- ---- the spot of a connection at a seat
 
-abbrev pub seated : FilesAt → Part → Station → Seat → Spot
+abbrev pub seated : FilesAt → Part → Station → SeatNow → Spot
 seated files p st z = record {
   phase = st.client.phase;
   isn = st.client.send.iss;

@@ -6,13 +6,13 @@ use Rattle.lard_base.specs.declared.place.Place.{Place}
 use Rattle.lard_base.specs.declared.place.Place.TheVariants.{Client, Front, Node}
 use Rattle.lard_bound.specs.Nears.{NearSaid, OfMessage}
 use Rattle.lard_bound.specs.Progress.{Answers, IfCame, IsWarm, IsWarmBy, IsWarmSegment, IsWarmWord, Lasts, NearOn, came_in, spot_at, spot_with}
-use Rattle.lard_bound.specs.Seats.{Held, Over, Seat, Waiting, seat_in, seat_of}
+use Rattle.lard_bound.specs.Seats.{Held, Over, SeatNow, Waiting, seat_in, seat_of}
 use Rattle.lard_bound.specs.Spots.{Spot}
 use Rattle.lard_bound.specs.Units.{Whole}
-use Rattle.lard_law_view.specs.Carry.{MayMove}
+use Rattle.lard_law_view.specs.Carry.{MayRestOn}
 use Rattle.lard_law_view.specs.View.{Conn, FrontRules, IsForFront, IsFrontEnv, IsUnheard, Move, Setting, Was, event_seen, front_does, grown, nothing_said, packet_seen, stands}
 use Rattle.lard_endpoint.specs.declared.control.moving.Final.{Final}
-use Rattle.lard_rules.specs.Front.{Deed, Drops, Says, Does, FrontEnv, front_asked, front_ended, front_gets, front_hears, front_taken, front_timer, hears_at, rest_of, ask_of}
+use Rattle.lard_rules.specs.Front.{FrontDeed, Drops, Says, Does, FrontEnv, front_asked, front_ended, front_gets, front_hears, front_taken, front_timer, hears_at, front_rest, ask_of}
 use Rattle.lard_handoff_front.specs.declared.row.FrontConn.{FrontConn}
 use Rattle.lard_handoff_front.specs.declared.row.FrontConn.TheVariants as stage
 use Rattle.lard_handoff_front.specs.declared.row.FrontRow.{FrontRow}
@@ -39,7 +39,7 @@ use Rattle.lard_segment.specs.Segment.{Said, decoded}
 
 -- ---- a client's segment
 
-module _ (k : Setting) (w : Whole) (x : Conn) (bytes : List ℕ) (st : Station) (was : x.part.station ≡ Some st) (env : FrontEnv) (is_env : IsFrontEnv k x.c env) (may : MayMove (FrontGiven k.files w) x)
+module _ (k : Setting) (w : Whole) (x : Conn) (bytes : List ℕ) (st : Station) (was : x.part.station ≡ Some st) (env : FrontEnv) (is_env : IsFrontEnv k x.c env) (may : MayRestOn (FrontGiven k.files w) x)
     (sent : Was x (Client x.c) Front bytes) (warm : IsWarm x (l k w x bytes)) (only : IsOnlyRefusal x (l k w x bytes)) where
   -- its window is the client's
   warm-word : (s : Said) → decoded bytes x.c ToCluster ≡ Ok s → IsWarmWord st.client s st.client.phase
@@ -51,21 +51,21 @@ module _ (k : Setting) (w : Whole) (x : Conn) (bytes : List ℕ) (st : Station) 
   word : (s : Said) → decoded bytes x.c ToCluster ≡ Ok s → IsWord st (seat_of x.part) bytes s
   word s reads_so = may.given.words st bytes s was sent reads_so
 
-  at : (z : Seat) → seat_of x.part ≡ z → AtSeat w st z
+  at : (z : SeatNow) → seat_of x.part ≡ z → AtSeat w st z
   at z seat = subst (AtSeat w st) seat (may.given.seats st was)
 
   hears-at : (s : Said) → decoded bytes x.c ToCluster ≡ Ok s → (row : FrontRow) (c : FrontConn) → seat_of x.part ≡ seat_in x.part.front x.part.nodes c → IsStage c → Owes k w x bytes (hears_at env x.part.front row bytes s c)
   hears-at s reads_so row (stage.Held b) seat good =
-      let h = at (Held b (rest_of x.part.front.rest).count) seat in
+      let h = at (Held b (front_rest x.part.front.rest).count) seat in
       heard-owes k w x bytes st was s reads_so env is_env row b seat h.0 (word s reads_so) only (warm-word s reads_so)
   hears-at s reads_so row (stage.Waiting b) seat good =
-      let h = at (Waiting b (rest_of x.part.front.rest).count) seat in
+      let h = at (Waiting b (front_rest x.part.front.rest).count) seat in
       waiting-owes k w x bytes st was s reads_so env row b seat h.0 h.1 (word s reads_so) only
   hears-at s reads_so row stage.Lent seat good = absurd good
   hears-at s reads_so row (stage.Offering node e) seat good =
-      forwarded-owes k w x bytes st was s reads_so env is_env may.number (word s reads_so) false node (rest_of x.part.front.rest).count e good seat
+      forwarded-owes k w x bytes st was s reads_so env is_env may.number (word s reads_so) false node (front_rest x.part.front.rest).count e good seat
   hears-at s reads_so row (stage.Moved node e) seat good =
-      forwarded-owes k w x bytes st was s reads_so env is_env may.number (word s reads_so) true node (rest_of x.part.front.rest).count e good seat
+      forwarded-owes k w x bytes st was s reads_so env is_env may.number (word s reads_so) true node (front_rest x.part.front.rest).count e good seat
   hears-at s reads_so row (stage.Closed last) seat good =
       over-owes k w x bytes st was s reads_so env is_env last seat (word s reads_so) (at (Over last) seat)
 
@@ -86,15 +86,15 @@ module _ (k : Setting) (w : Whole) where
 
   -- of each move, given what holds before it and behind it
   abbrev pub Owed : Conn → Move → Type 0
-  Owed x v = MayMove (FrontGiven k.files w) x → FrontGiven k.files w (grown x v) → Comes x v.heads → Lasts k w x v → IfCame (Answers k w x v) (came_in v.heads)
+  Owed x v = MayRestOn (FrontGiven k.files w) x → FrontGiven k.files w (grown x v) → Comes x v.heads → Lasts k w x v → IfCame (Answers k w x v) (came_in v.heads)
 
-  by-packet : (x : Conn) (from to : Place) (bytes : List ℕ) (deed : Deed) → let a : Letter = record { from = from; to = to; bytes = bytes } in let v = front_does x (packet_seen from to bytes) deed in
-      (MayMove (FrontGiven k.files w) x → IsWarm x a × IsLateOn x a → Lasts k w x v → FrontGiven k.files w (grown x v) → Answers k w x v a) → Owed x v
+  by-packet : (x : Conn) (from to : Place) (bytes : List ℕ) (deed : FrontDeed) → let a : Letter = record { from = from; to = to; bytes = bytes } in let v = front_does x (packet_seen from to bytes) deed in
+      (MayRestOn (FrontGiven k.files w) x → IsWarm x a × IsLateOn x a → Lasts k w x v → FrontGiven k.files w (grown x v) → Answers k w x v a) → Owed x v
   by-packet x from to bytes Drops h may later comes lasts = h may comes lasts later
   by-packet x from to bytes (Says turn) h may later comes lasts = h may comes lasts later
   by-packet x from to bytes (Does did) h may later comes lasts = h may comes lasts later
 
-  by-timer : (x : Conn) (deed : Deed) → let e = event_seen (event.Timer Front x.c) in Owed x (front_does x e deed)
+  by-timer : (x : Conn) (deed : FrontDeed) → let e = event_seen (event.Timer Front x.c) in Owed x (front_does x e deed)
   by-timer x Drops may later comes lasts = tt
   by-timer x (Says turn) may later comes lasts = tt
   by-timer x (Does did) may later comes lasts = tt

@@ -6,20 +6,20 @@ use Rattle.lard_base.specs.declared.place.Place.TheVariants.{Front, Node}
 use Rattle.lard_base.specs.declared.place.TimerKind.TheVariants as kind
 use Rattle.lard_bound.specs.Chains.{chain, node_chain, of_message}
 use Rattle.lard_bound.specs.Nears.{Near, NearAsk, NearSaid, OfMessage}
-use Rattle.lard_bound.specs.Seats.{Gone, Held, Here, Offered, Over, Seat, Staying, Unborn, Waiting, seat_away, seat_by, seat_in, seat_of}
+use Rattle.lard_bound.specs.Seats.{Gone, Held, Here, Offered, Over, SeatNow, Staying, Unborn, Waiting, seat_away, seat_by, seat_in, seat_of}
 use Rattle.lard_bound.specs.Spots.{Spot, post_of}
 use Rattle.lard_bound.specs.Units.{Whole}
-use Rattle.lard_rules.specs.Bounds.{IsNumber}
-use Rattle.lard_law_view.specs.View.{Conn, IsFrontEnv, Part, Setting, Spells, grown, letters_of, with_front}
+use Rattle.lard_rules.specs.Bounds.{IsConnNumber}
+use Rattle.lard_law_view.specs.View.{Conn, IsFrontEnv, Part, Setting, SpellsMessage, grown, letters_of, with_front}
 use Rattle.lard_dispatch.specs.declared.dispatch.Ask.{Ask}
 use Rattle.lard_endpoint.specs.Control.{ControlBlock}
 use Rattle.lard_rules.specs.declared.front.FrontRest.{FrontRest}
-use Rattle.lard_rules.specs.Front.{Deed, Drops, Says, Does, FrontEnv, FrontPart, ask_of, asked_by, assigns, front_asked, is_at, message, rest_of, saying, tag_sent}
+use Rattle.lard_rules.specs.Front.{FrontDeed, Drops, Says, Does, FrontEnv, FrontPart, ask_of, asked_by, assigns, front_asked, is_row_at, message, front_rest, front_saying, tag_sent}
 use Rattle.lard_handoff_front.specs.declared.row.FrontConn.{FrontConn}
 use Rattle.lard_handoff_front.specs.declared.row.FrontConn.TheVariants as stage
 use Rattle.lard_handoff_front.specs.declared.row.FrontRow.{FrontRow}
 use Rattle.lard_message.specs.declared.message.Body.TheVariants as body
-use Rattle.lard_message.specs.Message.{IsNode}
+use Rattle.lard_message.specs.Message.{IsNodeNumber}
 use Rattle.lard_rules.specs.Node.{NodePart}
 use Rattle.lard_rules.specs.Stay.{named_paths}
 use Rattle.lard_law_progress.proofs.AnswersFrontGiven.{FrontGiven, HasTag, IsAsked}
@@ -30,7 +30,7 @@ use Rattle.lard_resend.specs.Kept.{is_under}
 use Rattle.lard_rules.specs.declared.places.Station.{Station}
 
 -- where the connection is hangs on how many responses were queued, and on no more of the rest
-seat-count : (f g : FrontPart) (nodes : ℕ → NodePart) → (rest_of g.rest).count ≡ (rest_of f.rest).count → (o : Option FrontRow) → seat_by g nodes o ≡ seat_by f nodes o
+seat-count : (f g : FrontPart) (nodes : ℕ → NodePart) → (front_rest g.rest).count ≡ (front_rest f.rest).count → (o : Option FrontRow) → seat_by g nodes o ≡ seat_by f nodes o
 seat-count f g nodes e None = refl
 seat-count f g nodes e (Some row) = at row.stage where
   at : (c : FrontConn) → seat_in g nodes c ≡ seat_in f nodes c
@@ -43,10 +43,10 @@ seat-count f g nodes e (Some row) = at row.stage where
 
 same-seat : (p : Part) (rest more : FrontRest) → p.front.rest ≡ Some rest → more.count ≡ rest.count → seat_of (with_front p (record p.front { rest = Some more })) ≡ seat_of p
 unfolding seat_of
-same-seat p rest more is same = seat-count p.front (record p.front { rest = Some more }) p.nodes (same ∙ sym (ap (λ (o : Option FrontRest). (rest_of o).count) is)) p.front.row
+same-seat p rest more is same = seat-count p.front (record p.front { rest = Some more }) p.nodes (same ∙ sym (ap (λ (o : Option FrontRest). (front_rest o).count) is)) p.front.row
 
-module _ (k : Setting) (w : Whole) (x : Conn) (env : FrontEnv) (is_env : IsFrontEnv k x.c env) (number_is : IsNumber x.c) (given : FrontGiven k.files w x) (n : ℕ) (bytes : List ℕ) (epoch number queue size : ℕ) (paths : List (List ℕ))
-    (spells : Spells x.c epoch (body.Ask number queue size paths) bytes) where
+module _ (k : Setting) (w : Whole) (x : Conn) (env : FrontEnv) (is_env : IsFrontEnv k x.c env) (number_is : IsConnNumber x.c) (given : FrontGiven k.files w x) (n : ℕ) (bytes : List ℕ) (epoch number queue size : ℕ) (paths : List (List ℕ))
+    (spells : SpellsMessage x.c epoch (body.Ask number queue size paths) bytes) where
   abbrev ask : Ask
   ask = ask_of x.c n number queue size paths
 
@@ -59,7 +59,7 @@ module _ (k : Setting) (w : Whole) (x : Conn) (env : FrontEnv) (is_env : IsFront
   asked-chain t = ap (of_message (λ m. node_chain m.body)) spells
 
   -- the stay that awaits its answer
-  record IsAwaiting (z : Seat) : Type 0 where
+  record IsAwaiting (z : SeatNow) : Type 0 where
     told : Bool
     block : ControlBlock
     stay : Staying
@@ -68,17 +68,17 @@ module _ (k : Setting) (w : Whole) (x : Conn) (env : FrontEnv) (is_env : IsFront
     number_of : number ≡ stay.stay.asks
     count : length paths ≡ length (named_paths k.files stay.stay.batch)
 
-  awaiting : (st : Station) (z : Seat) → NearAsk 2 n epoch number (length paths) (post_of k.files st.client z) → IsAwaiting z
+  awaiting : (st : Station) (z : SeatNow) → NearAsk 2 n epoch number (length paths) (post_of k.files st.client z) → IsAwaiting z
   awaiting st (Here told m e b s) near = record { told = told; block = b; stay = s; seat = λ i. Here told (near.0 i) (near.1 i) b s; kept = near.2.0; number_of = near.2.1; count = near.2.2 }
   awaiting st _ near = absurd near
 
   -- and what the front end knows of it
-  known : (z : Seat) → seat_of x.part ≡ z → (h : IsAwaiting z) → IsAsked k.files h.stay x.part.front.rest
+  known : (z : SeatNow) → seat_of x.part ≡ z → (h : IsAwaiting z) → IsAsked k.files h.stay x.part.front.rest
   known z seat h = given.asks h.told n epoch h.block h.stay (seat ∙ h.seat) h.kept
 
   -- a Tag of as many nodes is what the stay awaits
-  tag-near : (st : Station) (z : Seat) → IsAwaiting z → (m : ℕ) (nodes : List ℕ) → number ≡ m → length nodes ≡ length paths → NearAsk 1 n epoch m (length nodes) (post_of k.files st.client z)
-  tag-near st z h m nodes is same = subst (λ (y : Seat). NearAsk 1 n epoch m (length nodes) (post_of k.files st.client y)) (sym h.seat) (refl, refl, (h.kept, sym is ∙ h.number_of, same ∙ h.count))
+  tag-near : (st : Station) (z : SeatNow) → IsAwaiting z → (m : ℕ) (nodes : List ℕ) → number ≡ m → length nodes ≡ length paths → NearAsk 1 n epoch m (length nodes) (post_of k.files st.client z)
+  tag-near st z h m nodes is same = subst (λ (y : SeatNow). NearAsk 1 n epoch m (length nodes) (post_of k.files st.client y)) (sym h.seat) (refl, refl, (h.kept, sym is ∙ h.number_of, same ∙ h.count))
 
   -- ---- what is done
 
@@ -87,10 +87,10 @@ module _ (k : Setting) (w : Whole) (x : Conn) (env : FrontEnv) (is_env : IsFront
     fits : m < 2 ^ 32
     some : 1 ≤ length nodes
     few : length nodes ≤ 8
-    are_nodes : AllByRecursion IsNode nodes
-    many : (z : Seat) → seat_of x.part ≡ z → IsAwaiting z → length nodes ≡ length paths
+    are_nodes : AllByRecursion IsNodeNumber nodes
+    many : (z : SeatNow) → seat_of x.part ≡ z → IsAwaiting z → length nodes ≡ length paths
 
-  tag-owes : (st : Station) → x.part.station ≡ Some st → is_at n epoch x.part.front.row ≡ true → (deed : Deed) (m : ℕ) (nodes : List ℕ) → number ≡ m
+  tag-owes : (st : Station) → x.part.station ≡ Some st → is_row_at n epoch x.part.front.row ≡ true → (deed : FrontDeed) (m : ℕ) (nodes : List ℕ) → number ≡ m
       → letters_of (does k w x n bytes deed) ≡ record { from = Front; to = Node n; bytes = message env.serve.c epoch (body.Tag m nodes) } ∷ []
       → (FrontGiven k.files w (grown x (does k w x n bytes deed)) → IsAnswer m nodes) → Owes k w x n bytes deed
   tag-owes st was at deed m nodes is letters answer lasts later =
@@ -108,7 +108,7 @@ module _ (k : Setting) (w : Whole) (x : Conn) (env : FrontEnv) (is_env : IsFront
   given_nodes = map (λ c. c.node) (env.later ask).choices
 
   -- the next Ask: what the dispatcher answered is the Tag that is kept then
-  next-owes : (st : Station) → x.part.station ≡ Some st → is_at n epoch x.part.front.row ≡ true → (rest : FrontRest) → x.part.front.rest ≡ Some rest → (number == rest.asks + 1) ≡ true
+  next-owes : (st : Station) → x.part.station ≡ Some st → is_row_at n epoch x.part.front.row ≡ true → (rest : FrontRest) → x.part.front.rest ≡ Some rest → (number == rest.asks + 1) ≡ true
       → Owes k w x n bytes (Does (assigns env x.part.front rest n epoch ask (env.later ask)))
   next-owes st was at rest found is = tag-owes st was at (Does (assigns env x.part.front rest n epoch ask (env.later ask))) number given_nodes refl refl (λ later.
       let more : FrontRest = record rest { asks = number; tag = given_nodes; assigned = rest.assigned + length (env.later ask).choices } in
@@ -126,13 +126,13 @@ module _ (k : Setting) (w : Whole) (x : Conn) (env : FrontEnv) (is_env : IsFront
       })
 
   -- the last Ask that was answered
-  last-owes : (st : Station) → x.part.station ≡ Some st → is_at n epoch x.part.front.row ≡ true → (rest : FrontRest) → x.part.front.rest ≡ Some rest → ((number == rest.asks) && nat_lt 0 rest.asks) ≡ true
-      → Owes k w x n bytes (Says (saying (tag_sent env n epoch rest.asks rest.tag)))
+  last-owes : (st : Station) → x.part.station ≡ Some st → is_row_at n epoch x.part.front.row ≡ true → (rest : FrontRest) → x.part.front.rest ≡ Some rest → ((number == rest.asks) && nat_lt 0 rest.asks) ≡ true
+      → Owes k w x n bytes (Says (front_saying (tag_sent env n epoch rest.asks rest.tag)))
   last-owes st was at rest found is =
       let both = and_parts (number == rest.asks) (nat_lt 0 rest.asks) is in
       let last : number ≡ rest.asks = eqb-true number rest.asks both.0 in
       let tag : HasTag rest = given.tags rest found (ltb-true 0 rest.asks both.1) in
-      tag-owes st was at (Says (saying (tag_sent env n epoch rest.asks rest.tag))) rest.asks rest.tag last refl (λ later. record {
+      tag-owes st was at (Says (front_saying (tag_sent env n epoch rest.asks rest.tag))) rest.asks rest.tag last refl (λ later. record {
         fits = tag.number;
         some = tag.some;
         few = tag.few;
@@ -156,22 +156,22 @@ module _ (k : Setting) (w : Whole) (x : Conn) (env : FrontEnv) (is_env : IsFront
 
   pub asked-answers : Owes k w x n bytes (front_asked env x.part.front n epoch ask)
   asked-answers = by-station x.part.station refl where
-    by-rest : (st : Station) → x.part.station ≡ Some st → is_at n epoch x.part.front.row ≡ true → (o : Option FrontRest) → x.part.front.rest ≡ o → Owes k w x n bytes (asked_by env x.part.front n epoch ask o)
+    by-rest : (st : Station) → x.part.station ≡ Some st → is_row_at n epoch x.part.front.row ≡ true → (o : Option FrontRest) → x.part.front.rest ≡ o → Owes k w x n bytes (asked_by env x.part.front n epoch ask o)
     by-rest st was at None found = drops-owes k w x n bytes st was (λ z seat d near.
         let h = awaiting st z (asked-near (at_seat k.files x.part st z) (suc d) near).0 in subst (IsAsked k.files h.stay) found (known z seat h))
     by-rest st was at (Some rest) found =
-        cond_both (number == rest.asks + 1) (Does (assigns env x.part.front rest n epoch ask (env.later ask))) (cond ((number == rest.asks) && nat_lt 0 rest.asks) (Says (saying (tag_sent env n epoch rest.asks rest.tag))) Drops) (Owes k w x n bytes)
+        cond_both (number == rest.asks + 1) (Does (assigns env x.part.front rest n epoch ask (env.later ask))) (cond ((number == rest.asks) && nat_lt 0 rest.asks) (Says (front_saying (tag_sent env n epoch rest.asks rest.tag))) Drops) (Owes k w x n bytes)
         (λ t. next-owes st was at rest found t)
-        (λ t. cond_both ((number == rest.asks) && nat_lt 0 rest.asks) (Says (saying (tag_sent env n epoch rest.asks rest.tag))) Drops (Owes k w x n bytes)
+        (λ t. cond_both ((number == rest.asks) && nat_lt 0 rest.asks) (Says (front_saying (tag_sent env n epoch rest.asks rest.tag))) Drops (Owes k w x n bytes)
         (λ u. last-owes st was at rest found u) (λ u. other-owes st was rest found t u))
 
     by-place : (st : Station) → x.part.station ≡ Some st → Owes k w x n bytes (front_asked env x.part.front n epoch ask)
-    by-place st was = cond_both (is_at n epoch x.part.front.row) (asked_by env x.part.front n epoch ask x.part.front.rest) Drops (Owes k w x n bytes)
+    by-place st was = cond_both (is_row_at n epoch x.part.front.row) (asked_by env x.part.front n epoch ask x.part.front.rest) Drops (Owes k w x n bytes)
         (λ t. by-rest st was t x.part.front.rest refl)
         (λ t. drops-owes k w x n bytes st was (λ z seat d near.
         let h = awaiting st z (asked-near (at_seat k.files x.part st z) (suc d) near).0 in
         let there = home x.part h.told n epoch h.block h.stay (seat ∙ h.seat) in let bad : true ≡ false = sym there ∙ t in cc))
 
     by-station : (o : Option Station) → x.part.station ≡ o → Owes k w x n bytes (front_asked env x.part.front n epoch ask)
-    by-station None none = subst (λ (o : Option FrontRow). Owes k w x n bytes (cond (is_at n epoch o) (asked_by env x.part.front n epoch ask x.part.front.rest) Drops)) (sym (given.unopened none)) (unopened-owes k w x n bytes none)
+    by-station None none = subst (λ (o : Option FrontRow). Owes k w x n bytes (cond (is_row_at n epoch o) (asked_by env x.part.front n epoch ask x.part.front.rest) Drops)) (sym (given.unopened none)) (unopened-owes k w x n bytes none)
     by-station (Some st) was = by-place st was

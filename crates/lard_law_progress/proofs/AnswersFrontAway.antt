@@ -7,14 +7,14 @@ use Rattle.lard_base.specs.declared.place.Place.TheVariants.{Client, Front, Node
 use Rattle.lard_bound.specs.Chains.{chain, front_chain, of_message, word_chain, word_result}
 use Rattle.lard_bound.specs.Nears.{Near, NearForward, NearTold, NearWord, OfMessage, OfSegment}
 use Rattle.lard_bound.specs.Progress.{Answers, Lasts}
-use Rattle.lard_bound.specs.Seats.{Held, Over, Seat, Unborn, seat_away, seat_of}
+use Rattle.lard_bound.specs.Seats.{Held, Over, SeatNow, Unborn, seat_away, seat_of}
 use Rattle.lard_bound.specs.Spots.{Spot, post_of}
 use Rattle.lard_bound.specs.Units.{Whole}
-use Rattle.lard_rules.specs.Bounds.{IsNumber}
+use Rattle.lard_rules.specs.Bounds.{IsConnNumber}
 use Rattle.lard_law_view.specs.View.{Conn, IsFrontEnv, Move, Setting, front_does, grown, packet_seen}
 use Rattle.lard_endpoint.specs.Control.{ControlBlock, listening}
 use Rattle.lard_endpoint.specs.declared.control.moving.Final.{Final}
-use Rattle.lard_rules.specs.Front.{Deed, Drops, FrontEnv, begun, forwarded, holds, message, met, rest_of}
+use Rattle.lard_rules.specs.Front.{FrontDeed, Drops, FrontEnv, front_begun, forwarded, holds, message, met, front_rest}
 use Rattle.lard_handoff_front.specs.declared.row.FrontConn.TheVariants as stage
 use Rattle.lard_handoff_front.specs.declared.row.FrontRow.{FrontRow}
 use Rattle.lard_history.specs.Own.{Letter}
@@ -40,15 +40,15 @@ module _ (k : Setting) (w : Whole) (x : Conn) (bytes : List ℕ) where
   abbrev pub l : Letter
   l = record { from = Client x.c; to = Front; bytes = bytes }
 
-  abbrev pub does : Deed → Move
+  abbrev pub does : FrontDeed → Move
   does deed = front_does x (packet_seen (Client x.c) Front bytes) deed
 
   -- what is owed of a deed
-  abbrev pub Owes : Deed → Type 0
+  abbrev pub Owes : FrontDeed → Type 0
   Owes deed = Lasts k w x (does deed) → FrontGiven k.files w (grown x (does deed)) → Answers k w x (does deed) l
 
   module _ (st : Station) (was : x.part.station ≡ Some st) where
-    pub drops-owes : (z : Seat) → seat_of x.part ≡ z → ((d : ℕ) → Near k.files (at_seat k.files x.part st z) x.c (suc d) l → ⊥) → Owes Drops
+    pub drops-owes : (z : SeatNow) → seat_of x.part ≡ z → ((d : ℕ) → Near k.files (at_seat k.files x.part st z) x.c (suc d) l → ⊥) → Owes Drops
     drops-owes z seat never lasts later = answers-by k w x (does Drops) l st was lasts z seat (λ up. nothing-comes k.files (at_seat k.files x.part st z) x.c l never)
 
     -- what does not decode
@@ -66,40 +66,40 @@ module _ (k : Setting) (w : Whole) (x : Conn) (bytes : List ℕ) where
 
       -- ---- a SYN
 
-      begun-held : (row : FrontRow) (d : ControlBlock) (t : Turn) → seat_of (does (holds x.part.front row (rest_of None) (ending.Here d 0, t))).part ≡ Held d 0
+      begun-held : (row : FrontRow) (d : ControlBlock) (t : Turn) → seat_of (does (holds x.part.front row (front_rest None) (ending.Here d 0, t))).part ≡ Held d 0
       unfolding seat_of
       begun-held row d t = refl
 
-      begun-over : (row : FrontRow) (last : Final) (t : Turn) → seat_of (does (holds x.part.front row (rest_of None) (ending.Over last, t))).part ≡ Over last
+      begun-over : (row : FrontRow) (last : Final) (t : Turn) → seat_of (does (holds x.part.front row (front_rest None) (ending.Over last, t))).part ≡ Over last
       unfolding seat_of
       begun-over row last t = refl
 
-      begun-owes : (env : FrontEnv) → seat_of x.part ≡ Unborn → Owes (begun env x.part.front s)
+      begun-owes : (env : FrontEnv) → seat_of x.part ≡ Unborn → Owes (front_begun env x.part.front s)
       begun-owes env seat =
           let row : FrontRow = record { stage = stage.Lent; epoch = record { 0 = 1 }; ended_by = None } in
           let q = serving (listening s env.iss) 0 (rec.Took Front env.serve.c (record { 0 = 1 }) ∷ []) in
-          spoken-cases env.serve q (λ (g : Ending × Turn). Owes (holds x.part.front row (rest_of None) g))
+          spoken-cases env.serve q (λ (g : Ending × Turn). Owes (holds x.part.front row (front_rest None) g))
           (λ last t lasts later.
-          let v = does (holds x.part.front row (rest_of None) (ending.Over last, t)) in
+          let v = does (holds x.part.front row (front_rest None) (ending.Over last, t)) in
           unit-goes k w x v l (λ up. let bad = moves-on k w x v l st was was Unborn (Over last) seat (begun-over row last t) lasts up in cc))
           (λ stays lasts later.
           let d = (speaks env.serve.c q.block).1 in
           let t = turn_of q ([] ++ (speaks env.serve.c q.block).0) in
-          let v = does (holds x.part.front row (rest_of None) (ending.Here d 0, t)) in
+          let v = does (holds x.part.front row (front_rest None) (ending.Here d 0, t)) in
           unit-goes k w x v l (λ up. let bad = moves-on k w x v l st was was Unborn (Held d 0) seat (begun-held row d t) lasts up in cc))
 
       pub met-owes : (env : FrontEnv) → seat_of x.part ≡ Unborn → Owes (met env x.part.front s)
-      met-owes env seat = cond_both (is_plain_syn s) (begun env x.part.front s) Drops Owes (λ t. begun-owes env seat)
+      met-owes env seat = cond_both (is_plain_syn s) (front_begun env x.part.front s) Drops Owes (λ t. begun-owes env seat)
           (λ t. drops-owes Unborn seat (λ d near. let h = word-near (at_seat k.files x.part st Unborn) (suc d) near in let bad : true ≡ false = sym h.0 ∙ t in cc))
 
       -- ---- a connection that is away
 
       near-forward : (t : Spot) (told : Bool) (node e count : ℕ) (q : NodePart) (d : ℕ) → NearWord t (suc d) s (post_of k.files st.client (seat_away told node e count q))
           → NearForward t d node e (Ok s) (post_of k.files st.client (seat_away told node e count q))
-      near-forward t told node e count q d = away-cases told node e count q (λ (z : Seat). NearWord t (suc d) s (post_of k.files st.client z) → NearForward t d node e (Ok s) (post_of k.files st.client z))
+      near-forward t told node e count q d = away-cases told node e count q (λ (z : SeatNow). NearWord t (suc d) s (post_of k.files st.client z) → NearForward t d node e (Ok s) (post_of k.files st.client z))
           (λ near. near) (λ b near. (refl, refl, near)) (λ near. near)
 
-      pub forwarded-owes : (env : FrontEnv) → IsFrontEnv k x.c env → IsNumber x.c → IsWord st (seat_of x.part) bytes s → (told : Bool) (node count : ℕ) (e : Epoch) → e.0 < 2 ^ 16
+      pub forwarded-owes : (env : FrontEnv) → IsFrontEnv k x.c env → IsConnNumber x.c → IsWord st (seat_of x.part) bytes s → (told : Bool) (node count : ℕ) (e : Epoch) → e.0 < 2 ^ 16
           → seat_of x.part ≡ seat_away told node e.0 count (x.part.nodes node) → Owes (forwarded env node e bytes)
       forwarded-owes env is_env number word told node count e small seat lasts later =
           let z = seat_away told node e.0 count (x.part.nodes node) in

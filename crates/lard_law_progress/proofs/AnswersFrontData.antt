@@ -5,7 +5,7 @@ use Rattle.lard_arrival.specs.Arrival.{seg_len}
 use Rattle.lard_base.specs.declared.limits.TheConstants.{MAX_STREAM_BYTES, RECEIVE_WINDOW}
 use Rattle.lard_bound.specs.Nears.{Crosses, IsAnswer}
 use Rattle.lard_bound.specs.Spots.{Spot}
-use Rattle.lard_bound.specs.Units.{taken}
+use Rattle.lard_bound.specs.Units.{symbols_taken}
 use Rattle.lard_endpoint.specs.Arriving.{on_segment}
 use Rattle.lard_endpoint.specs.Control.{ControlBlock, rcv_nxt, snd_nxt}
 use Rattle.lard_endpoint.specs.Leaving.{ack_ready, filled, told}
@@ -15,7 +15,7 @@ use Rattle.lard_law_progress.proofs.AnswersFrontSaying.{ack-known, flag-none, no
 use Rattle.lard_law_progress.proofs.Data.{CarriesData, IsOwing, data-owes, heard}
 use Rattle.lard_law_progress.proofs.Silence.{heard-keeps, heard-kept}
 use Rattle.lard_law_progress.proofs.Stays.{IsAlike}
-use Rattle.lard_recv.specs.Recv.{Received, room}
+use Rattle.lard_recv.specs.Recv.{Received, receive_room}
 use Rattle.lard_rules.specs.declared.places.Station.{Station}
 use Rattle.lard_segment.specs.Segment.{IsSendable, Said}
 use Rattle.lard_send.specs.Send.{Sending, symbols}
@@ -30,12 +30,12 @@ flag-len false = refl
 number-small : (b n : ℕ) → seq_add b n < 2 ^ 32
 number-small b n = omega arith
 
-room-small : (r : Received) → room r < 2 ^ 16
+room-small : (r : Received) → receive_room r < 2 ^ 16
 room-small r = least (length r.unread) r.got where
   least : (u g : ℕ) → min (RECEIVE_WINDOW - u) (MAX_STREAM_BYTES - g) < 2 ^ 16
   least u g = omega arith
 
-module _ (st : Station) (b : ControlBlock) (s : Said) (bytes : List ℕ) (talk : IsTalking st b) (acked : seq_offset s.ack st.iss ≤ taken st.client) (small : s.seq < 2 ^ 32)
+module _ (st : Station) (b : ControlBlock) (s : Said) (bytes : List ℕ) (talk : IsTalking st b) (acked : seq_offset s.ack st.iss ≤ symbols_taken st.client) (small : s.seq < 2 ^ 32)
     (within : seq_offset s.seq st.client.send.iss + seg_len s ≤ symbols st.client.send) where
   abbrev isn : ℕ
   isn = st.client.send.iss
@@ -55,10 +55,10 @@ module _ (st : Station) (b : ControlBlock) (s : Said) (bytes : List ℕ) (talk :
       let w : seq_offset s.seq isn + seg_len s ≤ symbols st.client.send = within in
       let k : st.client.send.una ≤ heard b.recv = talk.knows in
       let sp : heard b.recv ≤ symbols st.client.send = talk.spoke in
-      let wide : symbols st.client.send < heard b.recv + room b.recv = talk.wide in
-      let far : heard b.recv + room b.recv ≤ 2 ^ 31 = talk.far in
-      let sent : taken st.client ≤ b.send.nxt = talk.sent in
-      let a : seq_offset s.ack st.iss ≤ taken st.client = acked in
+      let wide : symbols st.client.send < heard b.recv + receive_room b.recv = talk.wide in
+      let far : heard b.recv + receive_room b.recv ≤ 2 ^ 31 = talk.far in
+      let sent : symbols_taken st.client ≤ b.send.nxt = talk.sent in
+      let a : seq_offset s.ack st.iss ≤ symbols_taken st.client = acked in
       record {
         data_is = record {
           first = subst (λ n. n < 2 ^ 32) (sym talk.irs) talk.isn_small;

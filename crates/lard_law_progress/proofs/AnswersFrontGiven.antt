@@ -8,8 +8,8 @@ use Rattle.lard_base.specs.declared.limits.TheConstants.{MAX_SEGMENT_BYTES}
 use Rattle.lard_base.specs.declared.place.Place.TheVariants.{Client, Front}
 use Rattle.lard_base.specs.declared.place.Reason.TheVariants.{Closed}
 use Rattle.lard_base.specs.declared.place.TimerKind.TheVariants as kind
-use Rattle.lard_bound.specs.Seats.{Gone, Held, Here, Offered, Over, Seat, Staying, Unborn, Waiting, seat_of, tells_end}
-use Rattle.lard_bound.specs.Units.{Whole, taken}
+use Rattle.lard_bound.specs.Seats.{Gone, Held, Here, Offered, Over, SeatNow, Staying, Unborn, Waiting, seat_of, tells_end}
+use Rattle.lard_bound.specs.Units.{Whole, symbols_taken}
 use Rattle.lard_client.specs.declared.phase.Phase.TheVariants as phase
 use Rattle.lard_law_view.specs.View.{Conn, Was}
 use Rattle.lard_endpoint.specs.Control.{ControlBlock, IsControlBlock}
@@ -20,11 +20,11 @@ use Rattle.lard_handoff_front.specs.declared.row.FrontConn.{FrontConn}
 use Rattle.lard_handoff_front.specs.declared.row.FrontConn.TheVariants as stage
 use Rattle.lard_handoff_front.specs.declared.row.FrontRow.{FrontRow}
 use Rattle.lard_history.specs.Own.{Letter}
-use Rattle.lard_message.specs.Message.{IsNode}
+use Rattle.lard_message.specs.Message.{IsNodeNumber}
 use Rattle.lard_rules.specs.Stay.{named_paths}
 use Rattle.lard_law_progress.proofs.Data.{heard}
 use Rattle.lard_law_progress.proofs.Silence.{IsSilent}
-use Rattle.lard_recv.specs.Recv.{room}
+use Rattle.lard_recv.specs.Recv.{receive_room}
 use Rattle.lard_resend.specs.Kept.{is_under}
 use Rattle.lard_rules.specs.declared.places.Station.{Station}
 use Rattle.lard_segment.specs.declared.segment.Dir.TheVariants.{ToCluster}
@@ -44,12 +44,12 @@ pub record IsTalking (st : Station) (b : ControlBlock) : Type 0 where
   pub iss : b.send.iss ≡ st.iss
   pub isn_small : st.client.send.iss < 2 ^ 32
   pub iss_small : st.iss < 2 ^ 32
-  pub acked : b.send.una ≤ taken st.client
-  pub sent : taken st.client ≤ b.send.nxt
+  pub acked : b.send.una ≤ symbols_taken st.client
+  pub sent : symbols_taken st.client ≤ b.send.nxt
   pub knows : st.client.send.una ≤ heard b.recv
   pub spoke : heard b.recv ≤ symbols st.client.send
-  pub wide : symbols st.client.send < heard b.recv + room b.recv
-  pub far : heard b.recv + room b.recv ≤ 2 ^ 31
+  pub wide : symbols st.client.send < heard b.recv + receive_room b.recv
+  pub far : heard b.recv + receive_room b.recv ≤ 2 ^ 31
   pub shut : b.recv.fin ≡ true → symbols st.client.send ≤ heard b.recv
   pub here : st.client.phase ≡ phase.Reset → ⊥
 
@@ -57,11 +57,11 @@ pub record IsTalking (st : Station) (b : ControlBlock) : Type 0 where
 pub record HasClosed (st : Station) (last : Final) : Type 0 where
   pub snd_small : last.snd.0 < 2 ^ 32
   pub rcv_small : last.rcv.0 < 2 ^ 32
-  pub all : last.reason ≡ Closed → st.client.phase ≡ phase.Open → (seq_offset last.snd.0 st.iss ≡ taken st.client) × (seq_offset last.rcv.0 st.client.send.iss ≡ symbols st.client.send)
+  pub all : last.reason ≡ Closed → st.client.phase ≡ phase.Open → (seq_offset last.snd.0 st.iss ≡ symbols_taken st.client) × (seq_offset last.rcv.0 st.client.send.iss ≡ symbols st.client.send)
 
-abbrev pub AtSeat : Whole → Station → Seat → Type 0
+abbrev pub AtSeat : Whole → Station → SeatNow → Type 0
 AtSeat w st Unborn = Unit {0}
-AtSeat w st (Held b count) = IsTalking st b × (count ≤ w.requests) × (taken st.client ≤ w.answers + 2)
+AtSeat w st (Held b count) = IsTalking st b × (count ≤ w.requests) × (symbols_taken st.client ≤ w.answers + 2)
 AtSeat w st (Waiting b count) = IsTalking st b × (may_freeze b ≡ true)
 AtSeat w st (Offered n e count) = Unit {0}
 AtSeat w st (Here told n e b s) = Unit {0}
@@ -71,17 +71,17 @@ AtSeat w st (Over last) = HasClosed st last
 -- ---- a client's segments
 
 -- a number that the front end awaited once, where it has the endpoint
-abbrev pub WasAwaited : Station → ℕ → Seat → Type 0
+abbrev pub WasAwaited : Station → ℕ → SeatNow → Type 0
 WasAwaited st seq (Held b count) = (a : ℕ) × (seq ≡ seq_add st.client.send.iss a) × (a ≤ heard b.recv)
 WasAwaited st seq (Waiting b count) = (a : ℕ) × (seq ≡ seq_add st.client.send.iss a) × (a ≤ heard b.recv)
 WasAwaited st seq _ = Unit {0}
 
 -- A segment of this client, which the packet carries: it acknowledges what the client took, has symbols that the client has, and a RST
 -- only where the client was aborted; one without ACK answers an acknowledgement.
-pub record IsWord (st : Station) (z : Seat) (bytes : List ℕ) (s : Said) : Type 0 where
+pub record IsWord (st : Station) (z : SeatNow) (bytes : List ℕ) (s : Said) : Type 0 where
   pub seq_small : s.seq < 2 ^ 32
   pub ack_small : s.ack < 2 ^ 32
-  pub acks : s.flags.ack ≡ true → seq_offset s.ack st.iss ≤ taken st.client
+  pub acks : s.flags.ack ≡ true → seq_offset s.ack st.iss ≤ symbols_taken st.client
   pub within : s.flags.rst ≡ false → 1 ≤ seg_len s → seq_offset s.seq st.client.send.iss + seg_len s ≤ symbols st.client.send
   pub open_ : st.client.phase ≡ phase.Open → s.flags.rst ≡ false
   pub refuses : s.flags.rst ≡ true → s.flags.ack ≡ false → (seg_len s ≡ 0) × WasAwaited st s.seq z
@@ -105,7 +105,7 @@ pub record HasTag (rest : FrontRest) : Type 0 where
   pub number : rest.asks < 2 ^ 32
   pub some : 1 ≤ length rest.tag
   pub few : length rest.tag ≤ 8
-  pub nodes : AllByRecursion IsNode rest.tag
+  pub nodes : AllByRecursion IsNodeNumber rest.tag
 
 -- The Ask that a stay has out is the next one, or the last, whose Tag names as many nodes as requests have none.
 abbrev pub IsAsked : FilesAt → Staying → Option FrontRest → Type 0

@@ -3,8 +3,8 @@ use Rattle.std.proofs.Common.{◌≡◌, ◌⊎◌, ◌<◌, ◌≤◌, ◌+◌,
 use Rattle.std.proofs.lemmas.Bool.{eq-eqb, eqb-true}
 use Rattle.lard_answers.specs.Answers.{FilesAt}
 use Rattle.lard_bound.specs.Progress.{IsWarmWord}
-use Rattle.lard_bound.specs.Seats.{Held, Seat, seat_of}
-use Rattle.lard_bound.specs.Units.{Whole, is_stale, left_with, one_if_not, taken, tellers}
+use Rattle.lard_bound.specs.Seats.{Held, SeatNow, seat_of}
+use Rattle.lard_bound.specs.Units.{Whole, is_stale, left_with, one_if_not, symbols_taken, tellers}
 use Rattle.lard_client.specs.declared.phase.Phase.{Phase}
 use Rattle.lard_client.specs.declared.phase.Phase.TheVariants as phase
 use Rattle.lard_law_view.specs.View.{Part, with_front}
@@ -46,11 +46,11 @@ less-count n c m e = omega arith
 pub held-as-left : (k : Whole) (K : ℕ) (files : FilesAt) (p : Part) (st : Station) (b e : ControlBlock) (count more : ℕ) (f : FrontPart) → seat_of p ≡ Held b count → seat_of (with_front p f) ≡ Held e more
     → Carries st.client b e count more → FitsAt k st.client e more → left_with k K p st ≤ left_with k K (with_front p f) st → IsAsLeft st b e count more
 held-as-left k K files p st b e count more f seat now keeps fits up =
-    let w : left_with k K p st ≡ left_by k st (Held b count) (tellers p.nodes K) = ap (λ (z : Seat). left_by k st z (tellers p.nodes K)) seat in
-    let n : left_with k K (with_front p f) st ≡ left_by k st (Held e more) (tellers p.nodes K) = ap (λ (z : Seat). left_by k st z (tellers p.nodes K)) now in
+    let w : left_with k K p st ≡ left_by k st (Held b count) (tellers p.nodes K) = ap (λ (z : SeatNow). left_by k st z (tellers p.nodes K)) seat in
+    let n : left_with k K (with_front p f) st ≡ left_by k st (Held e more) (tellers p.nodes K) = ap (λ (z : SeatNow). left_by k st z (tellers p.nodes K)) now in
     let u1 : b.send.una ≤ e.send.una = keeps.una in
-    let u2 : e.send.una ≤ taken st.client = fits.acked in
-    let u3 : taken st.client ≤ k.answers + 2 = fits.taken_in in
+    let u2 : e.send.una ≤ symbols_taken st.client = fits.acked in
+    let u3 : symbols_taken st.client ≤ k.answers + 2 = fits.taken_in in
     let s = not-less b.send.finished e.send.finished keeps.shut in
     let t : is_stale st.client e ≤ is_stale st.client b = keeps.stale in
     let c = less-count k.requests count more keeps.up in record {

@@ -7,9 +7,9 @@ use Rattle.lard_base.specs.declared.place.Place.TheVariants.{Client, Front}
 use Rattle.lard_bound.specs.Chains.{is_current, is_plain}
 use Rattle.lard_bound.specs.Nears.{Crosses, IsNews, Near, NearHeld, NearReply, NearSegment, OfSegment}
 use Rattle.lard_bound.specs.Progress.{Answers, Any, IsWarmWord, Lasts}
-use Rattle.lard_bound.specs.Seats.{Held, Over, Seat, Waiting, seat_away, seat_of}
-use Rattle.lard_bound.specs.Spots.{Spot, awaited_in, ends_of, post_of}
-use Rattle.lard_bound.specs.Units.{Whole, taken}
+use Rattle.lard_bound.specs.Seats.{Held, Over, SeatNow, Waiting, seat_away, seat_of}
+use Rattle.lard_bound.specs.Spots.{Spot, number_awaited, ends_of, post_of}
+use Rattle.lard_bound.specs.Units.{Whole, symbols_taken}
 use Rattle.lard_client.specs.declared.phase.Phase.{Phase}
 use Rattle.lard_client.specs.declared.phase.Phase.TheVariants as phase
 use Rattle.lard_law_view.specs.View.{Conn, IsFrontEnv, Move, Setting, letter, with_front}
@@ -21,7 +21,7 @@ use Rattle.lard_endpoint.specs.declared.control.moving.Final.{Final}
 use Rattle.lard_endpoint.specs.Leaving.{ack_ready, emitted, told}
 use Rattle.lard_endpoint.specs.Moving.{may_end}
 use Rattle.lard_rules.specs.declared.front.FrontRest.{FrontRest}
-use Rattle.lard_rules.specs.Front.{Does, FrontEnv, heard, holds, offering, placed, rest_of, rests, settled_by}
+use Rattle.lard_rules.specs.Front.{Does, FrontEnv, heard, holds, offering, placed, front_rest, front_rests, settled_by}
 use Rattle.lard_rules.specs.FrontReading as reading
 use Rattle.lard_rules.specs.FrontReading.{Reading}
 use Rattle.lard_handoff_front.specs.declared.row.FrontRow.{FrontRow}
@@ -44,7 +44,7 @@ use Rattle.lard_rules.specs.declared.places.Ending.{Ending}
 use Rattle.lard_rules.specs.declared.places.Ending.TheVariants as ending
 use Rattle.lard_rules.specs.declared.places.Station.{Station}
 use Rattle.lard_rules.specs.declared.places.Turn.{Turn}
-use Rattle.lard_rules.specs.Serving.{Service, serving, settled, spoken, turn_of}
+use Rattle.lard_rules.specs.Serving.{Service, serving, serving_settled, spoken, turn_of}
 use Rattle.lard_rules.specs.Speaking.{speaks, to_client}
 use Rattle.lard_rules.proofs.Saying.{speaks-done}
 use Rattle.lard_segment.specs.declared.segment.Dir.TheVariants.{ToClient, ToCluster}
@@ -54,10 +54,10 @@ use Rattle.lard_send.specs.Send.{symbols}
 use Rattle.lard_seq.specs.Seq.{seq_offset}
 
 module _ (k : Setting) (w : Whole) (x : Conn) (bytes : List ℕ) (st : Station) (was : x.part.station ≡ Some st) (s : Said) (reads_so : decoded bytes x.c ToCluster ≡ Ok s) (env : FrontEnv) (is_env : IsFrontEnv k x.c env)
-    (row : FrontRow) (b : ControlBlock) (seat : seat_of x.part ≡ Held b (rest_of x.part.front.rest).count) (talk : IsTalking st b) (word : IsWord st (seat_of x.part) bytes s)
+    (row : FrontRow) (b : ControlBlock) (seat : seat_of x.part ≡ Held b (front_rest x.part.front.rest).count) (talk : IsTalking st b) (word : IsWord st (seat_of x.part) bytes s)
     (only : IsOnlyRefusal x (l k w x bytes)) (warm : IsWarmWord st.client s st.client.phase) where
   abbrev rest : FrontRest
-  rest = rest_of x.part.front.rest
+  rest = front_rest x.part.front.rest
 
   abbrev t : Spot
   t = at_seat k.files x.part st (Held b rest.count)
@@ -69,7 +69,7 @@ module _ (k : Setting) (w : Whole) (x : Conn) (bytes : List ℕ) (st : Station) 
   start = serving d rest.count []
 
   abbrev done : Reading
-  done = reading.reads env.serve (record { service = start; target = None })
+  done = reading.front_reads env.serve (record { service = start; target = None })
 
   abbrev q : Service
   q = done.service
@@ -100,7 +100,7 @@ module _ (k : Setting) (w : Whole) (x : Conn) (bytes : List ℕ) (st : Station) 
   -- ---- it acknowledges what the endpoint sent
 
   acked-sent : s.flags.ack ≡ true → seq_offset s.ack st.iss ≤ b.send.nxt
-  acked-sent ack = let a : seq_offset s.ack st.iss ≤ taken st.client = word.acks ack in let c : taken st.client ≤ b.send.nxt = talk.sent in omega (arith, a, c)
+  acked-sent ack = let a : seq_offset s.ack st.iss ≤ symbols_taken st.client = word.acks ack in let c : symbols_taken st.client ≤ b.send.nxt = talk.sent in omega (arith, a, c)
 
   -- ---- where no unit goes
 
@@ -148,7 +148,7 @@ module _ (k : Setting) (w : Whole) (x : Conn) (bytes : List ℕ) (st : Station) 
     -- data is acknowledged, and that is news to the client
     data-answered : (n : ℕ) → 1 ≤ n → st.client.phase ≡ phase.Open → Crosses t s → b.send.una ≡ symbols b.send → Any (λ a. Near k.files t x.c n a) (map (letter Front) ss ++ [])
     data-answered n some is h clear =
-        let acked : seq_offset s.ack st.iss ≤ taken st.client = word.acks h.acks in
+        let acked : seq_offset s.ack st.iss ≤ symbols_taken st.client = word.acks h.acks in
         let within = word.within h.no_rst (let a : seq_offset s.seq st.client.send.iss ≤ st.client.send.una = h.from in let c : st.client.send.una < seq_offset s.seq st.client.send.iss + seg_len s = h.to in omega (arith, a, c)) in
         let owes = crosses-owes st b s bytes talk acked word.seq_small within t refl refl h clear in
         let v = q.block in
@@ -169,7 +169,7 @@ module _ (k : Setting) (w : Whole) (x : Conn) (bytes : List ℕ) (st : Station) 
         near
     led n phase.Aborted is near =
         let h = word.refuses near.0 (only s reads_so near.0) in
-        let at : s.seq ≡ rcv_nxt b = near.1 ∙ ap (awaited_in b) is in
+        let at : s.seq ≡ rcv_nxt b = near.1 ∙ ap (number_awaited b) is in
         absurd (never-reset (at-awaited st b s talk h.0 near.0 at))
     led n phase.Reset is near = absurd near
 
@@ -191,7 +191,7 @@ module _ (k : Setting) (w : Whole) (x : Conn) (bytes : List ℕ) (st : Station) 
   held turn = refl
 
   -- it is held on, or ends
-  held-owes : Owes k w x bytes (holds x.part.front row rest (settled env.serve q))
+  held-owes : Owes k w x bytes (holds x.part.front row rest (serving_settled env.serve q))
   held-owes = settled-cases env.serve q (λ (g : Ending × Turn). Owes k w x bytes (holds x.part.front row rest g))
       (λ last turn lasts later.
       let v = does k w x bytes (holds x.part.front row rest (ending.Over last, turn)) in
@@ -201,35 +201,35 @@ module _ (k : Setting) (w : Whole) (x : Conn) (bytes : List ℕ) (st : Station) 
       let v = does k w x bytes (holds x.part.front row rest (ending.Here e q.count, turn)) in
       answers-by k w x v (l k w x bytes) st was lasts (Held b rest.count) seat (λ up.
       let there = subst (AtSeat w st) (held turn) (later.seats st was) in
-      let left = held-as-left w k.nodes k.files x.part st b e rest.count q.count (rests x.part.front row rest stage.Held (ending.Here e q.count)) seat (held turn)
+      let left = held-as-left w k.nodes k.files x.part st b e rest.count q.count (front_rests x.part.front row rest stage.Held (ending.Here e q.count)) seat (held turn)
       (carries-on st b s rest.count q e further said window) (record { acked = there.0.acked; taken_in = there.2; few = there.1 }) (left-still k w x v (l k w x bytes) st was was up) in
       answered-by left none stays))
 
   -- ---- or it is placed
 
-  apart : (z : Seat) → (post_of k.files st.client z ≡ post_of k.files st.client (Held b rest.count) → ⊥) → (v : Move) → v.part.station ≡ Some st → seat_of v.part ≡ z → Lasts k w x v → Answers k w x v (l k w x bytes)
+  apart : (z : SeatNow) → (post_of k.files st.client z ≡ post_of k.files st.client (Held b rest.count) → ⊥) → (v : Move) → v.part.station ≡ Some st → seat_of v.part ≡ z → Lasts k w x v → Answers k w x v (l k w x bytes)
   apart z never v is now lasts = unit-goes k w x v (l k w x bytes) (λ up. never (moves-on k w x v (l k w x bytes) st was is (Held b rest.count) z seat now lasts up))
 
   offered : (path : List ℕ) (node : ℕ) → seat_of (with_front x.part (offering env row q path node)) ≡ seat_away false node (next_epoch row).0 q.count (x.part.nodes node)
   unfolding seat_of
   offered path node = refl
 
-  waits : (more : FrontRest) (c : ControlBlock) (n : ℕ) → seat_of (with_front x.part (rests x.part.front row more stage.Waiting (ending.Here c n))) ≡ Waiting c n
+  waits : (more : FrontRest) (c : ControlBlock) (n : ℕ) → seat_of (with_front x.part (front_rests x.part.front row more stage.Waiting (ending.Here c n))) ≡ Waiting c n
   unfolding seat_of
   waits more c n = refl
 
-  stops : (more : FrontRest) (last : Final) → seat_of (with_front x.part (rests x.part.front row more stage.Waiting (ending.Over last))) ≡ Over last
+  stops : (more : FrontRest) (last : Final) → seat_of (with_front x.part (front_rests x.part.front row more stage.Waiting (ending.Over last))) ≡ Over last
   unfolding seat_of
   stops more last = refl
 
-  ends : (more : FrontRest) (g : Ending) → post_of k.files st.client (seat_of (with_front x.part (rests x.part.front row more stage.Waiting g))) ≡ post_of k.files st.client (Held b rest.count) → ⊥
+  ends : (more : FrontRest) (g : Ending) → post_of k.files st.client (seat_of (with_front x.part (front_rests x.part.front row more stage.Waiting g))) ≡ post_of k.files st.client (Held b rest.count) → ⊥
   ends more (ending.Here c n) f = let bad = sym (ap (post_of k.files st.client) (waits more c n)) ∙ f in cc
   ends more (ending.Over last) f = let bad = sym (ap (post_of k.files st.client) (stops more last)) ∙ f in cc
 
   placed-owes : (path : List ℕ) (f : First) → Owes k w x bytes (Does (placed env x.part.front row rest q path f))
   placed-owes path (first.Go choice) lasts later =
       apart (seat_away false choice.node (next_epoch row).0 q.count (x.part.nodes choice.node))
-      (away-cases false choice.node (next_epoch row).0 q.count (x.part.nodes choice.node) (λ (z : Seat). post_of k.files st.client z ≡ post_of k.files st.client (Held b rest.count) → ⊥) (λ f. cc) (λ c f. cc) (λ f. cc))
+      (away-cases false choice.node (next_epoch row).0 q.count (x.part.nodes choice.node) (λ (z : SeatNow). post_of k.files st.client z ≡ post_of k.files st.client (Held b rest.count) → ⊥) (λ f. cc) (λ c f. cc) (λ f. cc))
       (does k w x bytes (Does (placed env x.part.front row rest q path (first.Go choice)))) was (offered path choice.node) lasts
   placed-owes path first.Waits lasts later =
       let g = spoken env.serve (record q { notes = q.notes ++ rec.Waits env.serve.c ∷ [] }) [] in

@@ -10,12 +10,12 @@ use Rattle.lard_bound.specs.Chains.{chain, is_current, reply_chain, word_chain}
 use Rattle.lard_bound.specs.Nears.{Crosses, Near, NearClosing, NearEnded, NearSegment, OfSegment}
 use Rattle.lard_bound.specs.Seats.{Over, seat_of}
 use Rattle.lard_bound.specs.Spots.{Spot}
-use Rattle.lard_bound.specs.Units.{Whole, taken}
+use Rattle.lard_bound.specs.Units.{Whole, symbols_taken}
 use Rattle.lard_client.specs.declared.phase.Phase.{Phase}
 use Rattle.lard_client.specs.declared.phase.Phase.TheVariants as phase
 use Rattle.lard_law_view.specs.View.{Conn, IsFrontEnv, Setting}
 use Rattle.lard_endpoint.specs.declared.control.moving.Final.{Final}
-use Rattle.lard_rules.specs.Front.{Deed, Says, FrontEnv, turn_here}
+use Rattle.lard_rules.specs.Front.{FrontDeed, Says, FrontEnv, turn_here}
 use Rattle.lard_history.specs.Own.{Letter}
 use Rattle.lard_law_progress.proofs.AnswersFrontAway.{Owes, does, l, word-chained, word-near}
 use Rattle.lard_law_progress.proofs.AnswersFrontGiven.{HasClosed, IsWord}
@@ -59,15 +59,15 @@ module _ (k : Setting) (w : Whole) (x : Conn) (bytes : List ℕ) (st : Station) 
   abbrev t : Spot
   t = at_seat k.files x.part st (Over last)
 
-  abbrev deed : Option Said → Deed
+  abbrev deed : Option Said → FrontDeed
   deed o = Says (turn_here (tombstone env.serve o))
 
   -- what was near, by why the connection ended and what became of its client
-  ended-near : (r : Reason) (ph : Phase) → last.reason ≡ r → st.client.phase ≡ ph → (d : ℕ) → Near k.files t x.c d (l k w x bytes) → NearEnded t d (taken st.client) s r ph
-  ended-near r ph why is d near = subst (NearEnded t d (taken st.client) s r) is (subst (λ (y : Reason). NearEnded t d (taken st.client) s y st.client.phase) why (word-near k w x bytes st was s reads_so t d near))
+  ended-near : (r : Reason) (ph : Phase) → last.reason ≡ r → st.client.phase ≡ ph → (d : ℕ) → Near k.files t x.c d (l k w x bytes) → NearEnded t d (symbols_taken st.client) s r ph
+  ended-near r ph why is d near = subst (NearEnded t d (symbols_taken st.client) s r) is (subst (λ (y : Reason). NearEnded t d (symbols_taken st.client) s y st.client.phase) why (word-near k w x bytes st was s reads_so t d near))
 
-  closing-near : (r : Reason) (ph : Phase) → last.reason ≡ r → st.client.phase ≡ ph → (d : ℕ) (a : Said) → NearClosing t d (taken st.client) a r ph → NearSegment t d a t.post
-  closing-near r ph why is d a near = subst (λ (y : Reason). NearClosing t d (taken st.client) a y st.client.phase) (sym why) (subst (NearClosing t d (taken st.client) a r) (sym is) near)
+  closing-near : (r : Reason) (ph : Phase) → last.reason ≡ r → st.client.phase ≡ ph → (d : ℕ) (a : Said) → NearClosing t d (symbols_taken st.client) a r ph → NearSegment t d a t.post
+  closing-near r ph why is d a near = subst (λ (y : Reason). NearClosing t d (symbols_taken st.client) a y st.client.phase) (sym why) (subst (NearClosing t d (symbols_taken st.client) a r) (sym is) near)
 
   silent-owes : ((d : ℕ) → Near k.files t x.c (suc d) (l k w x bytes) → ⊥) → Owes k w x bytes (deed None)
   silent-owes never lasts later = answers-by k w x (does k w x bytes (deed None)) (l k w x bytes) st was lasts (Over last) seat (λ up. nothing-comes k.files t x.c (l k w x bytes) never)
@@ -116,7 +116,7 @@ module _ (k : Setting) (w : Whole) (x : Conn) (bytes : List ℕ) (st : Station) 
   -- ---- the stream limit was reached
 
   abbrev Refused : ℕ → Type 0
-  Refused d = (s.flags.ack ≡ true) × (s.flags.rst ≡ false) × (seq_offset s.ack st.iss ≡ taken st.client) × (2 ≤ suc d)
+  Refused d = (s.flags.ack ≡ true) × (s.flags.rst ≡ false) × (seq_offset s.ack st.iss ≡ symbols_taken st.client) × (2 ≤ suc d)
 
   limit-near : last.reason ≡ reason.Limit → (d : ℕ) → Near k.files t x.c (suc d) (l k w x bytes) → (st.client.phase ≡ phase.Open) × Refused d
   limit-near why d near = go st.client.phase refl where

@@ -20,19 +20,19 @@ use Rattle.lard_law_progress.proofs.AnswersFrontGiven.{IsTalking}
 use Rattle.lard_law_progress.proofs.AnswersFrontSpots.{AreToClient}
 use Rattle.lard_law_progress.proofs.Data.{heard}
 use Rattle.lard_law_progress.proofs.Silence.{IsSilent, heard-kept, plain-heard, plain-parts}
-use Rattle.lard_recv.specs.Recv.{room}
+use Rattle.lard_recv.specs.Recv.{receive_room}
 use Rattle.lard_rules.specs.declared.places.Ending.{Ending}
 use Rattle.lard_rules.specs.declared.places.Ending.TheVariants as ending
 use Rattle.lard_rules.specs.declared.places.Station.{Station}
 use Rattle.lard_rules.specs.declared.places.Turn.{Turn}
-use Rattle.lard_rules.specs.Serving.{ServeEnv, Service, cut_off, settled, spoken, turn_of}
+use Rattle.lard_rules.specs.Serving.{ServeEnv, Service, cut_off, serving_settled, spoken, turn_of}
 use Rattle.lard_rules.specs.Speaking.{emits, speaks, speaks_symbols, to_client}
 use Rattle.lard_rules.proofs.Loops.{speaks_keep}
 use Rattle.lard_segment.specs.declared.segment.Ready.{Ready}
 use Rattle.lard_segment.specs.Segment.{Said}
 use Rattle.lard_send.specs.declared.piece.Piece.{Piece}
 use Rattle.lard_send.proofs.Sent.{next-rests}
-use Rattle.lard_send.specs.Send.{Sending, byte_piece, left, may_send, next_fin, next_len, next_piece, symbols, syn_piece}
+use Rattle.lard_send.specs.Send.{Sending, byte_piece, send_left, may_send, next_fin, next_len, next_piece, symbols, syn_piece}
 use Rattle.lard_seq.specs.Seq.{one_if, seq_add, seq_offset}
 use Rattle.lard_seq.proofs.Laws.{add-offset}
 
@@ -57,7 +57,7 @@ spoken-cases env w P over here =
     cond_both (may_end d) (ending.Over (final_of d (end_reason d))) (ending.Here d w.count) (λ (o : Ending). P (o, t)) (λ e. over (final_of d (end_reason d)) t) (λ e. here e)
 
 pub settled-cases : (env : ServeEnv) (w : Service) (P : Ending × Turn → Type 0) → ((last : Final) (t : Turn) → P (ending.Over last, t))
-    → (w.over ≡ None → may_end (speaks env.c w.block).1 ≡ false → P (ending.Here (speaks env.c w.block).1 w.count, turn_of w ([] ++ (speaks env.c w.block).0))) → P (settled env w)
+    → (w.over ≡ None → may_end (speaks env.c w.block).1 ≡ false → P (ending.Here (speaks env.c w.block).1 w.count, turn_of w ([] ++ (speaks env.c w.block).0))) → P (serving_settled env w)
 settled-cases env w P over here = go w.over refl where
   go : (o : Option ℕ) → w.over ≡ o → P (elim o as (λ t. Ending × Turn) [ None ↦ spoken env w [] | Some total ↦ cut_off env w ])
   go None e = spoken-cases env w P over (here e)
@@ -74,7 +74,7 @@ pub none-left : (s : Sending) → symbols s ≤ s.nxt → next_piece s ≡ None
 none-left s all =
     let some : (s.nxt == 0) ≡ false = not-zero s.nxt (omega (arith, all)) in
     let done : nat_lt s.nxt (symbols s) ≡ false = le-ltb s.nxt (symbols s) all in
-    let shut : may_send s ≡ false = last (not (s.una == 0)) (nat_lt s.nxt (symbols s)) (nat_lt 0 (left s)) done in
+    let shut : may_send s ≡ false = last (not (s.una == 0)) (nat_lt s.nxt (symbols s)) (nat_lt 0 (send_left s)) done in
     cond-false (s.nxt == 0) (Some syn_piece) (cond (may_send s) (Some (byte_piece s (s.nxt - 1) (next_len s) (next_fin s))) None) some
     ∙ cond-false (may_send s) (Some (byte_piece s (s.nxt - 1) (next_len s) (next_fin s))) None shut
   where
@@ -129,7 +129,7 @@ module _ (st : Station) (b : ControlBlock) (s : Said) (talk : IsTalking st b) wh
   d = (on_segment b s).1
 
   wide : 1 ≤ rcv_wnd b
-  wide = let a : heard b.recv ≤ symbols st.client.send = talk.spoke in let c : symbols st.client.send < heard b.recv + room b.recv = talk.wide in omega (arith, a, c)
+  wide = let a : heard b.recv ≤ symbols st.client.send = talk.spoke in let c : symbols st.client.send < heard b.recv + receive_room b.recv = talk.wide in omega (arith, a, c)
 
   next-is : rcv_nxt b ≡ seq_add isn (heard b.recv)
   next-is = ap (λ n. seq_add n (heard b.recv)) talk.irs
@@ -153,7 +153,7 @@ module _ (st : Station) (b : ControlBlock) (s : Said) (talk : IsTalking st b) wh
 
   pub current-fits : s.seq < 2 ^ 32 → is_plain s ≡ true → seq_offset s.seq isn ≡ symbols st.client.send → is_acceptable (rcv_nxt b) (rcv_wnd b) s ≡ true
   current-fits small plain last =
-      let a : heard b.recv ≤ symbols st.client.send = talk.spoke in let c : symbols st.client.send < heard b.recv + room b.recv = talk.wide in let f : heard b.recv + room b.recv ≤ 2 ^ 31 = talk.far in
+      let a : heard b.recv ≤ symbols st.client.send = talk.spoke in let c : symbols st.client.send < heard b.recv + receive_room b.recv = talk.wide in let f : heard b.recv + receive_room b.recv ≤ 2 ^ 31 = talk.far in
       let number : s.seq ≡ seq_add isn (symbols st.client.send) = sym (add-offset s.seq isn small talk.isn_small) ∙ ap (seq_add isn) last in
       let off : seq_offset s.seq (rcv_nxt b) ≡ symbols st.client.send - heard b.recv =
       ap (λ n. seq_offset n (rcv_nxt b)) number ∙ ap (seq_offset (seq_add isn (symbols st.client.send))) next-is ∙ offset_later isn (symbols st.client.send) (heard b.recv) talk.isn_small a (omega (arith, c, f)) in
@@ -206,7 +206,7 @@ module _ (st : Station) (b : ControlBlock) (s : Said) (talk : IsTalking st b) wh
   pub refused : seg_len s ≡ 0 → s.flags.rst ≡ true → (a : ℕ) → s.seq ≡ seq_add isn a → a ≤ heard b.recv → (d ≡ record b { reset = true }) ⊎ (d ≡ b)
   refused none rst a number most = ⊎_elim
       (λ (l : a < heard b.recv).
-      let h : heard b.recv + room b.recv ≤ 2 ^ 31 = talk.far in
+      let h : heard b.recv + receive_room b.recv ≤ 2 ^ 31 = talk.far in
       let off : seq_offset s.seq (rcv_nxt b) ≡ seq_offset (seq_add isn a) (seq_add isn (heard b.recv)) = ap (λ n. seq_offset n (rcv_nxt b)) number ∙ ap (seq_offset (seq_add isn a)) next-is in
       let up : 2 ^ 31 ≤ seq_offset (seq_add isn a) (seq_add isn (heard b.recv)) = far isn a (heard b.recv) talk.isn_small l (omega (arith, h)) in
       inr (unanswered rst (by-number none ∙ le-ltb (seq_offset s.seq (rcv_nxt b)) (rcv_wnd b) (omega (arith, off, up, h)))))

@@ -7,9 +7,9 @@ use Rattle.lard_base.specs.declared.place.Place.TheVariants.{Client, Front}
 use Rattle.lard_bound.specs.Chains.{chain, chain_between, is_current, reply_chain, word_chain}
 use Rattle.lard_bound.specs.Nears.{Near}
 use Rattle.lard_bound.specs.Progress.{Answers, Any, Every, Lasts, NearOn, chain_at, chain_on, spot_at, spot_with}
-use Rattle.lard_bound.specs.Seats.{Gone, Here, Offered, Seat, seat_away, seat_by, seat_decided, seat_of, seat_there, staying_of, tells_end}
+use Rattle.lard_bound.specs.Seats.{Gone, Here, Offered, SeatNow, seat_away, seat_by, seat_decided, seat_of, seat_there, staying_of, tells_end}
 use Rattle.lard_bound.specs.Spots.{Nowhere, Post, Spot, post_of, spot_of}
-use Rattle.lard_bound.specs.Units.{Whole, left_at, left_with, units}
+use Rattle.lard_bound.specs.Units.{Whole, left_to_client, left_with, units}
 use Rattle.lard_law_view.specs.View.{Conn, Move, Part, Setting, grown, letter, letters_of}
 use Rattle.lard_endpoint.specs.Control.{ControlBlock}
 use Rattle.lard_handoff_back.specs.declared.row.BackConn.{BackConn}
@@ -27,7 +27,7 @@ use Rattle.lard_send.specs.Send.{symbols}
 -- ---- seats
 
 -- the spot of a connection at this seat
-abbrev pub at_seat : FilesAt → Part → Station → Seat → Spot
+abbrev pub at_seat : FilesAt → Part → Station → SeatNow → Spot
 at_seat files p st z = record {
   phase = st.client.phase;
   isn = st.client.send.iss;
@@ -38,7 +38,7 @@ at_seat files p st z = record {
   telling = λ n. tells_end (p.nodes n).row;
 }
 
-pub spot-seat : (files : FilesAt) (p : Part) (st : Station) (z : Seat) → seat_of p ≡ z → spot_of files p st ≡ at_seat files p st z
+pub spot-seat : (files : FilesAt) (p : Part) (st : Station) (z : SeatNow) → seat_of p ≡ z → spot_of files p st ≡ at_seat files p st z
 unfolding spot_of
 spot-seat files p st z e = λ i. record {
   phase = st.client.phase;
@@ -56,7 +56,7 @@ unfolding seat_of
 seat-row p o e = ap (seat_by p.front p.nodes) e
 
 -- what a node has decided of the epoch in which it was offered
-pub away-cases : (told : Bool) (n e count : ℕ) (q : NodePart) (P : Seat → Type 0) → P (Offered n e count) → ((b : ControlBlock) → P (Here told n e b (staying_of q))) → P (Gone told n e) → P (seat_away told n e count q)
+pub away-cases : (told : Bool) (n e count : ℕ) (q : NodePart) (P : SeatNow → Type 0) → P (Offered n e count) → ((b : ControlBlock) → P (Here told n e b (staying_of q))) → P (Gone told n e) → P (seat_away told n e count q)
 away-cases told n e count q P out here gone = go q.row where
   there : (c : BackConn) → P (seat_there told n e count q c)
   there (back.Here b) = here b
@@ -92,7 +92,7 @@ module _ (k : Setting) (w : Whole) (x : Conn) (v : Move) (l : Letter) where
   pub unit-goes : (Still → ⊥) → Answers k w x v l
   unit-goes never = record { shorter = λ up. absurd (never up); leads = λ up d near. absurd (never up) }
 
-  pub answers-by : (st : Station) → x.part.station ≡ Some st → Lasts k w x v → (z : Seat) → seat_of x.part ≡ z → (Still → AnswersBy k.files (at_seat k.files x.part st z) x.c l (letters_of v)) → Answers k w x v l
+  pub answers-by : (st : Station) → x.part.station ≡ Some st → Lasts k w x v → (z : SeatNow) → seat_of x.part ≡ z → (Still → AnswersBy k.files (at_seat k.files x.part st z) x.c l (letters_of v)) → Answers k w x v l
   answers-by st was lasts z seat h =
       let t = at_seat k.files x.part st z in
       let now : spot_at k.files x ≡ Some t = ap (spot_with k.files x) was ∙ ap (λ (s : Spot). Some s) (spot-seat k.files x.part st z seat) in
@@ -115,7 +115,7 @@ module _ (k : Setting) (w : Whole) (x : Conn) (v : Move) (l : Letter) where
   }
 
   -- what decides of a packet does not stay at another post
-  pub moves-on : (st : Station) → x.part.station ≡ Some st → v.part.station ≡ Some st → (z y : Seat) → seat_of x.part ≡ z → seat_of v.part ≡ y → Lasts k w x v → Still
+  pub moves-on : (st : Station) → x.part.station ≡ Some st → v.part.station ≡ Some st → (z y : SeatNow) → seat_of x.part ≡ z → seat_of v.part ≡ y → Lasts k w x v → Still
       → post_of k.files st.client y ≡ post_of k.files st.client z
   unfolding spot_of
   moves-on st was is z y seat later lasts up =
@@ -128,8 +128,8 @@ module _ (k : Setting) (w : Whole) (x : Conn) (v : Move) (l : Letter) where
 pub left-still : (k : Setting) (w : Whole) (x : Conn) (v : Move) (l : Letter) (st : Station) → x.part.station ≡ Some st → v.part.station ≡ Some st → Still k w x v l → left_with w k.nodes x.part st ≤ left_with w k.nodes v.part st
 unfolding units
 left-still k w x v l st was is up =
-    let a : units w k.nodes x ≡ left_with w k.nodes x.part st = ap (left_at w k.nodes x.part) was in
-    let b : units w k.nodes (grown x v) ≡ left_with w k.nodes v.part st = ap (left_at w k.nodes v.part) is in
+    let a : units w k.nodes x ≡ left_with w k.nodes x.part st = ap (left_to_client w k.nodes x.part) was in
+    let b : units w k.nodes (grown x v) ≡ left_with w k.nodes v.part st = ap (left_to_client w k.nodes v.part) is in
     omega (arith, a, b, up)
 
 -- ---- letters to a client

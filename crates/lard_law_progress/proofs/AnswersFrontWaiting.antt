@@ -3,16 +3,16 @@ use Rattle.std.proofs.Common.{◌≡◌, ◌≤◌, ◌&&◌, ◌||◌, not, ℕ
 use Rattle.std.proofs.lemmas.Bool.{and_parts, eqb-true, or_cases}
 use Rattle.lard_base.specs.declared.place.Place.{Place}
 use Rattle.lard_bound.specs.Chains.{is_current, is_plain}
-use Rattle.lard_bound.specs.Seats.{Over, Seat, Waiting, seat_of}
+use Rattle.lard_bound.specs.Seats.{Over, SeatNow, Waiting, seat_of}
 use Rattle.lard_bound.specs.Spots.{Spot}
-use Rattle.lard_bound.specs.Units.{Whole, taken}
+use Rattle.lard_bound.specs.Units.{Whole, symbols_taken}
 use Rattle.lard_law_view.specs.View.{Conn, Setting}
 use Rattle.lard_endpoint.specs.Arriving.{on_segment}
 use Rattle.lard_endpoint.specs.Control.{ControlBlock}
 use Rattle.lard_endpoint.specs.declared.control.moving.Final.{Final}
 use Rattle.lard_endpoint.specs.Leaving.{emitted}
 use Rattle.lard_endpoint.specs.Moving.{may_end, may_freeze}
-use Rattle.lard_rules.specs.Front.{FrontEnv, rest_of, waits_on}
+use Rattle.lard_rules.specs.Front.{FrontEnv, front_rest, waits_on}
 use Rattle.lard_rules.specs.declared.front.FrontRest.{FrontRest}
 use Rattle.lard_handoff_front.specs.declared.row.FrontRow.{FrontRow}
 use Rattle.lard_law_progress.proofs.AnswersFrontAway.{Owes, does, l, word-chained, word-near}
@@ -34,7 +34,7 @@ use Rattle.lard_send.specs.Send.{is_clear, symbols}
 use Rattle.lard_seq.specs.Seq.{seq_offset}
 
 -- the number of a refusal was awaited by the endpoint
-pub awaited-here : (st : Station) (seq : ℕ) (z : Seat) (b : ControlBlock) (count : ℕ) → z ≡ Waiting b count → WasAwaited st seq z → WasAwaited st seq (Waiting b count)
+pub awaited-here : (st : Station) (seq : ℕ) (z : SeatNow) (b : ControlBlock) (count : ℕ) → z ≡ Waiting b count → WasAwaited st seq z → WasAwaited st seq (Waiting b count)
 awaited-here st seq z b count is h = subst (WasAwaited st seq) is h
 
 -- an endpoint that may be frozen has all acknowledged
@@ -42,9 +42,9 @@ pub frozen-clear : (b : ControlBlock) → may_freeze b ≡ true → b.send.una �
 frozen-clear b e = eqb-true b.send.una (symbols b.send) (and_parts (is_clear b.send) (not b.send.finished) (and_parts (is_clear b.send && not b.send.finished) (not b.recv.discarding && not b.reset) e).0).0
 
 module _ (k : Setting) (w : Whole) (x : Conn) (bytes : List ℕ) (st : Station) (was : x.part.station ≡ Some st) (s : Said) (reads_so : decoded bytes x.c ToCluster ≡ Ok s) (env : FrontEnv) (row : FrontRow) (b : ControlBlock)
-    (seat : seat_of x.part ≡ Waiting b (rest_of x.part.front.rest).count) (talk : IsTalking st b) (frozen : may_freeze b ≡ true) (word : IsWord st (seat_of x.part) bytes s) (only : IsOnlyRefusal x (l k w x bytes)) where
+    (seat : seat_of x.part ≡ Waiting b (front_rest x.part.front.rest).count) (talk : IsTalking st b) (frozen : may_freeze b ≡ true) (word : IsWord st (seat_of x.part) bytes s) (only : IsOnlyRefusal x (l k w x bytes)) where
   abbrev rest : FrontRest
-  rest = rest_of x.part.front.rest
+  rest = front_rest x.part.front.rest
 
   abbrev t : Spot
   t = at_seat k.files x.part st (Waiting b rest.count)
@@ -71,8 +71,8 @@ module _ (k : Setting) (w : Whole) (x : Conn) (bytes : List ℕ) (st : Station) 
       (λ (now : is_current t s ≡ true).
       let c = and_parts (is_plain s) (seq_offset s.seq t.isn == t.last) now in
       let p = plain-parts s.flags.syn s.flags.fin s.flags.rst s.flags.ack (length s.payload) c.0 in
-      let acked : seq_offset s.ack st.iss ≤ taken st.client = word.acks p.3 in
-      let sent : taken st.client ≤ b.send.nxt = talk.sent in
+      let acked : seq_offset s.ack st.iss ≤ symbols_taken st.client = word.acks p.3 in
+      let sent : symbols_taken st.client ≤ b.send.nxt = talk.sent in
       let clear = frozen-clear b frozen in
       let most : b.send.una ≤ b.send.nxt = talk.sound.sending.sent in
       clear-silent st b s talk word.seq_small c.0 (eqb-true (seq_offset s.seq t.isn) t.last c.1) (omega (arith, acked, sent)) (omega (arith, clear, most)))

@@ -6,7 +6,7 @@ use Rattle.lard_base.specs.declared.place.Place.TheVariants.{Client, Front, Node
 use Rattle.lard_base.specs.declared.place.TimerKind.TheVariants as timer
 use Rattle.lard_bound.specs.Nears.{Near, NearAside, NearForward, NearOffer, NearTold, OfMessage}
 use Rattle.lard_bound.specs.Progress.{Answers, IsFetch, NearOn, spot_with}
-use Rattle.lard_bound.specs.Seats.{Gone, Held, Here, Offered, Over, Seat, Unborn, Waiting, seat_of, tells_end}
+use Rattle.lard_bound.specs.Seats.{Gone, Held, Here, Offered, Over, SeatNow, Unborn, Waiting, seat_of, tells_end}
 use Rattle.lard_bound.specs.Spots.{Spot, post_of, spot_of}
 use Rattle.lard_bound.specs.Units.{Whole}
 use Rattle.lard_rules.specs.Machine.{is_no_node}
@@ -48,7 +48,7 @@ module _ (k : Setting) (w : Whole) (x : Conn) where
 
     offer-there : (d e : ℕ) → NearOffer d n e t.post → there n
     offer-there d e near = go (seat_of x.part) refl (seat-sits x.part) (subst (NearOffer d n e) (post-is k.files x.part st) near) where
-      go : (z : Seat) → seat_of x.part ≡ z → Sits x.part z → NearOffer d n e (post_of k.files st.client z) → there n
+      go : (z : SeatNow) → seat_of x.part ≡ z → Sits x.part z → NearOffer d n e (post_of k.files st.client z) → there n
       go (Here told m f b s) is sits h = row-there m _ sits.0.there h.0
       go (Gone told m f) is sits h = row-there m sits.row sits.there h.0
       go (Offered m f count) is sits h = subst there h.0 (given.placed m f count is)

@@ -9,11 +9,11 @@ use Rattle.lard_rules.specs.declared.stay.Next.{Next}
 use Rattle.lard_rules.specs.declared.stay.Next.TheVariants as next
 use Rattle.lard_rules.specs.declared.stay.Progress.{Progress}
 use Rattle.lard_rules.specs.declared.stay.Progress.TheVariants as progress
-use Rattle.lard_rules.specs.Stay.{NodeEnv, Work, asks_for, asking, entered, enters, enters_first, enters_one, goes_on, left, named_paths, next_of, reads_these, serves_by, serves_first, started_here, turn, turned}
+use Rattle.lard_rules.specs.Stay.{NodeEnv, Work, asks_for, asking, entered, enters, enters_first, enters_one, goes_on, work_left, named_paths, next_of, reads_these, serves_by, serves_first, started_here, stay_turn, turned}
 use Rattle.lard_reader.specs.Batches.{batch_of, bytes_used}
 use Rattle.lard_request.specs.declared.verdict.Verdict.{Verdict}
 use Rattle.lard_rules.specs.Loop.{Step, More, Done}
-use Rattle.lard_rules.specs.Serving.{consumed}
+use Rattle.lard_rules.specs.Serving.{serving_consumed}
 use Rattle.lard_rules.proofs.Runs.{runs_keep}
 
 pub record Asks (a b : Work) : Type 0 where
@@ -83,7 +83,7 @@ module _ (env : NodeEnv) where
   reads-asks : (here : Bool) (used : ℕ) (w : Work) (vs : List Verdict) → StepAsks w (reads_these env here used w vs)
   reads-asks here used w [] = record { up = omega arith; asked = inl refl; wants = refl }
   reads-asks here used w (v ∷ vs) =
-      let a : Work = record w { service = consumed used w.service } in
+      let a : Work = record w { service = serving_consumed used w.service } in
       let b = enters env here (w.service.count + 1) (v ∷ vs) a in
       let h = enters-same here (w.service.count + 1) (v ∷ vs) a in
       let n : b.asks ≡ w.asks = h.asks in
@@ -106,7 +106,7 @@ module _ (env : NodeEnv) where
   turn-asks w next.Stop = asks-self w
 
   pub goes-asks : (a : Work) → Asks a (goes_on env a)
-  goes-asks a = runs_keep (turn env) left (Asks a) (record {
+  goes-asks a = runs_keep (stay_turn env) work_left (Asks a) (record {
     more = λ y z e p. asks-then a y z p (subst (StepAsks y) e (turn-asks y (next_of y)));
     done = λ y z e p. asks-then a y z p (subst (StepAsks y) e (turn-asks y (next_of y)));
   }) a (asks-self a)

@@ -6,10 +6,10 @@ use Rattle.lard_answers.specs.Answers.{FilesAt}
 use Rattle.lard_base.specs.declared.place.Place.TheVariants.{Front, Node}
 use Rattle.lard_base.specs.declared.place.TimerKind.TheVariants as kind
 use Rattle.lard_bound.specs.Nears.{IsAwaited, IsWanted, Near, NearAsk, NearAside, NearTold, OfMessage}
-use Rattle.lard_bound.specs.Seats.{Gone, Held, Here, Offered, Over, Seat, Unborn, Waiting, seat_of, stay_of, staying_of, telling, tells_end}
+use Rattle.lard_bound.specs.Seats.{Gone, Held, Here, Offered, Over, SeatNow, Unborn, Waiting, seat_of, stay_of, staying_of, telling, tells_end}
 use Rattle.lard_bound.specs.Spots.{Spot, awaits_of, post_of, spot_of}
 use Rattle.lard_bound.specs.Units.{Whole}
-use Rattle.lard_law_view.specs.View.{Conn, IsNodeEnv, Part, Setting, Spells, Was, node_put, with_node}
+use Rattle.lard_law_view.specs.View.{Conn, IsNodeEnv, Part, Setting, SpellsMessage, Was, node_put_back, with_node}
 use Rattle.lard_endpoint.specs.Control.{ControlBlock}
 use Rattle.lard_handoff_back.specs.declared.row.BackConn.{BackConn}
 use Rattle.lard_handoff_back.specs.declared.row.BackConn.TheVariants as back
@@ -20,7 +20,7 @@ use Rattle.lard_lateral.specs.Lateral.{is_from}
 use Rattle.lard_message.specs.declared.message.Body.TheVariants as body
 use Rattle.lard_message.specs.declared.message.Message.{Message}
 use Rattle.lard_rules.specs.declared.stay.Stay.{Stay}
-use Rattle.lard_rules.specs.Node.{NodePart, gone, here, is_awaited, node_acknowledged, node_content, node_tagged, come_by, rests, saying, tagged_by, with_work, work_of}
+use Rattle.lard_rules.specs.Node.{NodePart, gone, here, is_tag_awaited, node_acknowledged, node_content, node_tagged, come_by, node_rests, node_saying, tagged_by, with_work, work_of}
 use Rattle.lard_rules.specs.Node as node
 use Rattle.lard_rules.specs.Stay.{NodeEnv, came_for, come_progress, goes_on, named_paths, tagged}
 use Rattle.lard_law_progress.proofs.AnswersNodeDeeds.{OwesBy, does-owes, drops-owes, is-here}
@@ -44,7 +44,7 @@ at-same p told n m e f b same_n same_e h = subst (λ (i : ℕ). IsHere p told i 
 module _ (files : FilesAt) (p : Part) (st : Station) (n e : ℕ) where
   pub ask-awaits : (least number count : ℕ) → NearAsk least n e number count (spot_of files p st).post → AwaitsAt p n e (λ q. IsAwaited number count (awaits_of files (staying_of q)))
   ask-awaits least number count near = go (seat_of p) (seat-sits p) (subst (NearAsk least n e number count) (post-is files p st) near) where
-    go : (z : Seat) → Sits p z → NearAsk least n e number count (post_of files st.client z) → AwaitsAt p n e (λ q. IsAwaited number count (awaits_of files (staying_of q)))
+    go : (z : SeatNow) → Sits p z → NearAsk least n e number count (post_of files st.client z) → AwaitsAt p n e (λ q. IsAwaited number count (awaits_of files (staying_of q)))
     go (Here told m f b s) sits h =
         let a : IsAwaited number count (awaits_of files (staying_of (p.nodes m))) = subst (λ z. IsAwaited number count (awaits_of files z)) sits.1 h.2 in
         (told, b, at-same p told n m e f b h.0 h.1 sits.0, subst (λ (i : ℕ). IsAwaited number count (awaits_of files (staying_of (p.nodes i)))) h.0 a)
@@ -60,7 +60,7 @@ module _ (files : FilesAt) (p : Part) (st : Station) (n e : ℕ) where
 
   pub content-awaits : (from r : ℕ) → IsWanted n e from r (spot_of files p st).post → AwaitsAt p n e (Wants from r)
   content-awaits from r near = go (seat_of p) (seat-sits p) (subst (IsWanted n e from r) (post-is files p st) near) where
-    go : (z : Seat) → Sits p z → IsWanted n e from r (post_of files st.client z) → AwaitsAt p n e (Wants from r)
+    go : (z : SeatNow) → Sits p z → IsWanted n e from r (post_of files st.client z) → AwaitsAt p n e (Wants from r)
     go (Here told m f b s) sits h =
         let a : Wants from r (p.nodes m) = subst (λ z. is_from from e (find (is_under kind.Fetch r) (awaits_of files z).fetches) ≡ true) sits.1 h.2 in
         (told, b, at-same p told n m e f b h.0 h.1 sits.0, subst (λ (i : ℕ). Wants from r (p.nodes i)) h.0 a)
@@ -93,8 +93,8 @@ module _ (k : Setting) (w : Whole) (x : Conn) (n epoch : ℕ) (env : NodeEnv) (o
 
   -- ---- a Tag
 
-  module _ (number : ℕ) (nodes bytes : List ℕ) (spells : Spells x.c epoch (body.Tag number nodes) bytes) (was : Was x Front (Node n) bytes) where
-    abbrev Tags : node.Deed → Type 0
+  module _ (number : ℕ) (nodes bytes : List ℕ) (spells : SpellsMessage x.c epoch (body.Tag number nodes) bytes) (was : Was x Front (Node n) bytes) where
+    abbrev Tags : node.NodeDeed → Type 0
     Tags deed = OwesBy k w x n Front bytes was deed
 
     tag-near : (st : Station) (d : ℕ) → Near k.files (spot_of k.files x.part st) x.c (suc d) (record { from = Front; to = Node n; bytes = bytes })
@@ -105,7 +105,7 @@ module _ (k : Setting) (w : Whole) (x : Conn) (n epoch : ℕ) (env : NodeEnv) (o
         ask-awaits k.files x.part st n epoch 1 number (length nodes) h.0
 
     counts : NodeGiven k w x → (st : Station) (d : ℕ) → Near k.files (spot_of k.files x.part st) x.c (suc d) (record { from = Front; to = Node n; bytes = bytes })
-        → (b : ControlBlock) × (s : Stay) × (here env.epoch q ≡ Some (b, s)) × (is_awaited env number nodes q s ≡ true)
+        → (b : ControlBlock) × (s : Stay) × (here env.epoch q ≡ Some (b, s)) × (is_tag_awaited env number nodes q s ≡ true)
     counts given st d near =
         let h = tag-near st d near in
         let s = has-both given h.0 h.1 h.2 in
@@ -115,9 +115,9 @@ module _ (k : Setting) (w : Whole) (x : Conn) (n epoch : ℕ) (env : NodeEnv) (o
         a.2 ∙ ap (λ (o : Option Stay). length (named_paths k.files (stay_of o).batch)) s.2 ∙ ap (λ (f : FilesAt). length (named_paths f s.0.batch)) (sym of.files) in
         (h.1, s.0, s.1, all-three (is_some (find (is_under kind.Ask 0) q.kept)) s.0.asks number (length nodes) (length (named_paths env.serve.files s.0.batch)) a.0 (sym asks) named)
 
-    tag-test : (b : ControlBlock) (s : Stay) → here env.epoch q ≡ Some (b, s) → (t : Bool) → is_awaited env number nodes q s ≡ t
+    tag-test : (b : ControlBlock) (s : Stay) → here env.epoch q ≡ Some (b, s) → (t : Bool) → is_tag_awaited env number nodes q s ≡ t
         → Tags (cond t (with_work env (record q { kept = without kind.Ask 0 q.kept }) [] (goes_on env (tagged env nodes (work_of b s)))) node.Drops)
-    tag-test b s is true e = does-owes k w x n Front bytes was (λ given. given.opened n bytes was) (rests env (record q { kept = without kind.Ask 0 q.kept }) [] (goes_on env (tagged env nodes (work_of b s))))
+    tag-test b s is true e = does-owes k w x n Front bytes was (λ given. given.opened n bytes was) (node_rests env (record q { kept = without kind.Ask 0 q.kept }) [] (goes_on env (tagged env nodes (work_of b s))))
         (λ given after warm late st st_is c_is up same.
         let both = both-here q env.epoch b s is in
         let at = is-here k w x given n env.epoch b both.0 in
@@ -128,7 +128,7 @@ module _ (k : Setting) (w : Whole) (x : Conn) (n epoch : ℕ) (env : NodeEnv) (o
         let h = counts given st d near in
         let pair : ◌≡◌ {A = Option (ControlBlock × Stay)} (Some (b, s)) (Some (h.0, h.1)) = sym is ∙ h.2 in
         let same : s ≡ h.1 = ap (λ (o : Option (ControlBlock × Stay)). elim o [ None ↦ s | Some z ↦ z.1 ]) pair in
-        let bad : true ≡ false = sym h.3 ∙ sym (ap (is_awaited env number nodes q) same) ∙ e in cc)
+        let bad : true ≡ false = sym h.3 ∙ sym (ap (is_tag_awaited env number nodes q) same) ∙ e in cc)
 
     pub tagged-owes : Tags (node_tagged env q number nodes)
     tagged-owes = go (here env.epoch q) refl where
@@ -136,12 +136,12 @@ module _ (k : Setting) (w : Whole) (x : Conn) (n epoch : ℕ) (env : NodeEnv) (o
       go None is = drops-owes k w x n Front bytes was (λ given st st_is d near.
           let h = counts given st d near in
           let bad : ◌≡◌ {A = Option (ControlBlock × Stay)} None (Some (h.0, h.1)) = sym is ∙ h.2 in cc)
-      go (Some z) is = tag-test z.0 z.1 is (is_awaited env number nodes q z.1) refl
+      go (Some z) is = tag-test z.0 z.1 is (is_tag_awaited env number nodes q z.1) refl
 
   -- ---- a content
 
-  module _ (from r : ℕ) (file bytes : List ℕ) (spells : Spells x.c epoch (body.Content r file) bytes) (was : Was x (Node from) (Node n) bytes) where
-    abbrev Brings : node.Deed → Type 0
+  module _ (from r : ℕ) (file bytes : List ℕ) (spells : SpellsMessage x.c epoch (body.Content r file) bytes) (was : Was x (Node from) (Node n) bytes) where
+    abbrev Brings : node.NodeDeed → Type 0
     Brings deed = OwesBy k w x n (Node from) bytes was deed
 
     abbrev is_wanted : Bool
@@ -162,7 +162,7 @@ module _ (k : Setting) (w : Whole) (x : Conn) (n epoch : ℕ) (env : NodeEnv) (o
 
     come-test : (b : ControlBlock) (s : Stay) → here env.epoch q ≡ Some (b, s) → (t : Bool) → is_wanted ≡ t
         → Brings (cond t (with_work env (record q { fetches = without kind.Fetch r q.fetches }) [] (goes_on env (came_for (come_progress from) r (work_of b s)))) node.Drops)
-    come-test b s is true e = does-owes k w x n (Node from) bytes was (λ given. given.held n env.epoch b (both-here q env.epoch b s is).0) (rests env (record q { fetches = without kind.Fetch r q.fetches }) [] (goes_on env (came_for (come_progress from) r (work_of b s))))
+    come-test b s is true e = does-owes k w x n (Node from) bytes was (λ given. given.held n env.epoch b (both-here q env.epoch b s is).0) (node_rests env (record q { fetches = without kind.Fetch r q.fetches }) [] (goes_on env (came_for (come_progress from) r (work_of b s))))
         (λ given after warm late st st_is c_is up same.
         let both = both-here q env.epoch b s is in
         let at = is-here k w x given n env.epoch b both.0 in
@@ -183,8 +183,8 @@ module _ (k : Setting) (w : Whole) (x : Conn) (n epoch : ℕ) (env : NodeEnv) (o
 
   -- ---- the acknowledgement of an end
 
-  module _ (bytes : List ℕ) (spells : Spells x.c epoch body.EndedAck bytes) (was : Was x Front (Node n) bytes) where
-    abbrev Acks : node.Deed → Type 0
+  module _ (bytes : List ℕ) (spells : SpellsMessage x.c epoch body.EndedAck bytes) (was : Was x Front (Node n) bytes) where
+    abbrev Acks : node.NodeDeed → Type 0
     Acks deed = OwesBy k w x n Front bytes was deed
 
     ack-near : (st : Station) (d : ℕ) → Near k.files (spot_of k.files x.part st) x.c (suc d) (record { from = Front; to = Node n; bytes = bytes }) → tells_end q.row ≡ Some epoch
@@ -213,13 +213,13 @@ module _ (k : Setting) (w : Whole) (x : Conn) (n epoch : ℕ) (env : NodeEnv) (o
     unfolding spot_of
     after-tells st kept same =
         let r : NodePart = record q { row = gone q.row; kept = kept } in
-        let t : tells_end (node_put x.part.nodes n r n).row ≡ tells_end q.row = ap (λ (s : Spot). s.telling n) same in
+        let t : tells_end (node_put_back x.part.nodes n r n).row ≡ tells_end q.row = ap (λ (s : Spot). s.telling n) same in
         sym (ap (λ (z : NodePart). tells_end z.row) (put-there x.part.nodes n r) ∙ gone-tells q.row) ∙ t
 
     pub acknowledged-owes : Acks (node_acknowledged env q)
     acknowledged-owes = go (awaits_ack env.epoch q.row) refl where
-      go : (t : Bool) → awaits_ack env.epoch q.row ≡ t → Acks (cond t (node.Does (record q { row = gone q.row; kept = without kind.Ended 0 q.kept }, saying [])) node.Drops)
-      go true is = does-owes k w x n Front bytes was (λ given. given.opened n bytes was) (record q { row = gone q.row; kept = without kind.Ended 0 q.kept }, saying []) (λ given after warm late st st_is c_is up same. record {
+      go : (t : Bool) → awaits_ack env.epoch q.row ≡ t → Acks (cond t (node.Does (record q { row = gone q.row; kept = without kind.Ended 0 q.kept }, node_saying [])) node.Drops)
+      go true is = does-owes k w x n Front bytes was (λ given. given.opened n bytes was) (record q { row = gone q.row; kept = without kind.Ended 0 q.kept }, node_saying []) (λ given after warm late st st_is c_is up same. record {
         shorter = tt;
         leads = λ d near. absurd (let bad : None ≡ Some epoch = after-tells st (without kind.Ended 0 q.kept) same ∙ ack-near st d near in cc);
       })

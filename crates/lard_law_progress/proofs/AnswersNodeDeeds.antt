@@ -5,11 +5,11 @@ use Rattle.lard_base.specs.declared.place.Place.TheVariants.{Node}
 use Rattle.lard_bound.specs.Nears.{Near}
 use Rattle.lard_bound.specs.Progress.{Answers, IsWarm, NearOn, spot_with}
 use Rattle.lard_bound.specs.Spots.{spot_of}
-use Rattle.lard_bound.specs.Units.{Whole, left_at, left_with, units}
+use Rattle.lard_bound.specs.Units.{Whole, left_to_client, left_with, units}
 use Rattle.lard_law_view.specs.View.{Conn, Move, Setting, Was, grown, letter, letters_of, node_does, nothing_said, packet_seen, stands, with_node}
 use Rattle.lard_endpoint.specs.Control.{ControlBlock}
 use Rattle.lard_history.specs.Own.{Letter}
-use Rattle.lard_rules.specs.Node.{Deed, NodePart}
+use Rattle.lard_rules.specs.Node.{NodeDeed, NodePart}
 use Rattle.lard_rules.specs.Node as node
 use Rattle.lard_rules.specs.declared.node.NodeTurn.{NodeTurn}
 use Rattle.lard_law_progress.proofs.AnswersForm.{IsLateOn, Owes, Replies, answers-by, no-reply}
@@ -26,7 +26,7 @@ module _ (k : Setting) (w : Whole) (x : Conn) where
     abbrev pub came_letter : Letter
     came_letter = record { from = from; to = Node n; bytes = bytes }
 
-    abbrev pub OwesBy : Deed → Type 0
+    abbrev pub OwesBy : NodeDeed → Type 0
     OwesBy deed = Owes k w (NodeGiven k w) x (node_does x n (packet_seen from (Node n) bytes) deed)
 
     abbrev pub IsFar : Station → Type 0
@@ -61,7 +61,7 @@ module _ (k : Setting) (w : Whole) (x : Conn) where
         → left_with w k.nodes x.part st ≤ left_with w k.nodes (with_node x.part n given.0) st
     unfolding units
     less given st is up =
-        let A : Option Station → Type 0 = λ o. left_at w k.nodes x.part o ≤ left_at w k.nodes (with_node x.part n given.0) o in
+        let A : Option Station → Type 0 = λ o. left_to_client w k.nodes x.part o ≤ left_to_client w k.nodes (with_node x.part n given.0) o in
         subst A is up
 
     pub does-owes : Opens → (given : NodePart × NodeTurn)

@@ -10,12 +10,12 @@ use Rattle.lard_base.specs.declared.place.Place.TheVariants.{Client, Front, Node
 use Rattle.lard_bound.specs.Chains.{aside_chain, chain, front_chain, is_current, is_plain, node_chain, of_message, reply_chain, word_chain, word_result}
 use Rattle.lard_bound.specs.Nears.{Crosses, IsNews, Near, NearForward, NearHeld, NearReply, NearSegment, NearTold, OfMessage, OfSegment}
 use Rattle.lard_bound.specs.Progress.{Any, Every, IsFetch, IsWarm, IsWarmBody, IsWarmBy, IsWarmMessage, IsWarmSegment, IsWarmWord}
-use Rattle.lard_bound.specs.Seats.{Gone, Held, Here, Offered, Over, Seat, Unborn, Waiting, seat_of, staying_of}
-use Rattle.lard_bound.specs.Spots.{Post, Spot, awaited_in, ends_of, post_of, spot_of}
-use Rattle.lard_bound.specs.Units.{Whole, left_with, taken}
+use Rattle.lard_bound.specs.Seats.{Gone, Held, Here, Offered, Over, SeatNow, Unborn, Waiting, seat_of, staying_of}
+use Rattle.lard_bound.specs.Spots.{Post, Spot, number_awaited, ends_of, post_of, spot_of}
+use Rattle.lard_bound.specs.Units.{Whole, left_with, symbols_taken}
 use Rattle.lard_client.specs.declared.phase.Phase.{Phase}
 use Rattle.lard_client.specs.declared.phase.Phase.TheVariants as phase
-use Rattle.lard_law_view.specs.View.{Conn, IsNodeEnv, Part, Setting, Spells, Was, letter, with_node}
+use Rattle.lard_law_view.specs.View.{Conn, IsNodeEnv, Part, Setting, SpellsMessage, Was, letter, with_node}
 use Rattle.lard_endpoint.specs.Arriving.{on_segment}
 use Rattle.lard_endpoint.specs.Control.{ControlBlock}
 use Rattle.lard_endpoint.specs.Leaving.{ack_ready, told}
@@ -26,7 +26,7 @@ use Rattle.lard_message.specs.declared.message.Body.TheVariants as body
 use Rattle.lard_message.specs.declared.message.Message.{Message}
 use Rattle.lard_message.specs.Reading.{decoded_message}
 use Rattle.lard_rules.specs.declared.stay.Stay.{Stay}
-use Rattle.lard_rules.specs.Node.{NodePart, heard_by, here, kept_after, node_forwarded, rests, with_work, work_of}
+use Rattle.lard_rules.specs.Node.{NodePart, node_heard_by, here, kept_after, node_forwarded, node_rests, with_work, work_of}
 use Rattle.lard_rules.specs.Node as node
 use Rattle.lard_rules.specs.Stay.{NodeEnv, Work, goes_on}
 use Rattle.lard_law_progress.proofs.AnswersForm.{Replies, seated, seated-is}
@@ -113,7 +113,7 @@ forward-awaits files p st n e d s near = go (seat_of p) (seat-sits p) near where
   at-same : (told : Bool) (m f : ℕ) (b : ControlBlock) → m ≡ n → f ≡ e → IsHere p told m f b → IsHere p told n e b
   at-same told m f b same_n same_e h = subst (λ (i : ℕ). IsHere p told i e b) same_n (subst (λ (j : ℕ). IsHere p told m j b) same_e h)
 
-  go : (z : Seat) → Sits p z → NearForward t d n e (Ok s) (post_of files st.client z) → ForwardAt files p st n e d t s
+  go : (z : SeatNow) → Sits p z → NearForward t d n e (Ok s) (post_of files st.client z) → ForwardAt files p st n e d t s
   go (Here told m f b u) sits h = (told, b, at-same told m f b h.0 h.1 sits.0, h.2)
   go Unborn sits h = absurd h
   go (Held b count) sits h = absurd h
@@ -124,12 +124,12 @@ forward-awaits files p st n e d s near = go (seat_of p) (seat-sits p) near where
 
 -- ---- the rule
 
-module _ (k : Setting) (w : Whole) (x : Conn) (n epoch : ℕ) (env : NodeEnv) (of : IsNodeEnv k x.c n epoch env) (segment bytes : List ℕ) (spells : Spells x.c epoch (body.Forward segment) bytes)
+module _ (k : Setting) (w : Whole) (x : Conn) (n epoch : ℕ) (env : NodeEnv) (of : IsNodeEnv k x.c n epoch env) (segment bytes : List ℕ) (spells : SpellsMessage x.c epoch (body.Forward segment) bytes)
     (was : Was x Front (Node n) bytes) where
   abbrev q : NodePart
   q = x.part.nodes n
 
-  abbrev Forwards : node.Deed → Type 0
+  abbrev Forwards : node.NodeDeed → Type 0
   Forwards deed = OwesBy k w x n Front bytes was deed
 
   abbrev came : Letter
@@ -155,7 +155,7 @@ module _ (k : Setting) (w : Whole) (x : Conn) (n epoch : ℕ) (env : NodeEnv) (o
     abbrev d0 : ControlBlock
     d0 = (on_segment b s).1
 
-    abbrev z : Seat
+    abbrev z : SeatNow
     z = Here told_ n env.epoch b (staying_of q)
 
     abbrev t : Spot
@@ -168,14 +168,14 @@ module _ (k : Setting) (w : Whole) (x : Conn) (n epoch : ℕ) (env : NodeEnv) (o
     hears = record { shut = (heard-kept b s).finished; stale = hears-stale st b env s talk warm }
 
     module _ (still : IsStill w k.nodes k.files x.part st told_ n b env at_ d0 stay stay_is) (few : read_of turn ≤ w.requests)
-        (up : left_with w k.nodes x.part st ≤ left_with w k.nodes (with_node x.part n (rests env q [] turn).0) st) where
+        (up : left_with w k.nodes x.part st ≤ left_with w k.nodes (with_node x.part n (node_rests env q [] turn).0) st) where
       abbrev segments : List (Place × List ℕ)
-      segments = (rests env q [] turn).1.segments
+      segments = (node_rests env q [] turn).1.segments
 
       abbrev Sent : List (Place × List ℕ) → List Letter
-      Sent ss = map (letter (Node n)) ss ++ map (letter (Node n)) (rests env q [] turn).1.messages
+      Sent ss = map (letter (Node n)) ss ++ map (letter (Node n)) (node_rests env q [] turn).1.messages
 
-      none-sent : map (letter (Node n)) (rests env q [] turn).1.messages ≡ []
+      none-sent : map (letter (Node n)) (node_rests env q [] turn).1.messages ≡ []
       none-sent = ap (map (letter (Node n))) (no-messages w k.nodes k.files x.part st told_ n b env at_ d0 stay stay_is still hears few up)
 
       una : d0.send.una ≡ b.send.una
@@ -188,7 +188,7 @@ module _ (k : Setting) (w : Whole) (x : Conn) (n epoch : ℕ) (env : NodeEnv) (o
       never-reset e = not-reset w k.nodes k.files x.part st told_ n b env at_ d0 stay stay_is still hears few up e
 
       known : s.flags.ack ≡ true → seq_offset s.ack st.iss ≤ b.send.nxt
-      known acks = let a : seq_offset s.ack st.iss ≤ taken st.client = word.acks acks in let c : taken st.client ≤ b.send.nxt = talk.sent in omega (arith, a, c)
+      known acks = let a : seq_offset s.ack st.iss ≤ symbols_taken st.client = word.acks acks in let c : symbols_taken st.client ≤ b.send.nxt = talk.sent in omega (arith, a, c)
 
       -- ---- nothing is said to a refusal, and to an acknowledgement with the last number
 
@@ -221,7 +221,7 @@ module _ (k : Setting) (w : Whole) (x : Conn) (n epoch : ℕ) (env : NodeEnv) (o
             subst (λ (ls : List Letter). Every (λ a. chain t x.c a < chain t x.c came) ls) (sym (no-more none)) tt
         go false e =
             let three : chain t x.c came ≡ 3 = word-is ∙ cond-false (s.flags.rst || is_current t s) 0 3 e in
-            all-short t x.c n (chain t x.c came) (omega (arith, three)) segments (rests env q [] turn).1.messages
+            all-short t x.c n (chain t x.c came) (omega (arith, three)) segments (node_rests env q [] turn).1.messages
 
       -- ---- what leads further
 
@@ -242,7 +242,7 @@ module _ (k : Setting) (w : Whole) (x : Conn) (n epoch : ℕ) (env : NodeEnv) (o
 
       crosses : (d : ℕ) → st.client.phase ≡ phase.Open → Crosses t s → b.send.una ≡ symbols b.send → 2 ≤ suc d → Any (λ a. Near k.files t x.c d a) (Sent segments)
       crosses d open_ h clear two =
-          let acked : seq_offset s.ack st.iss ≤ taken st.client = word.acks h.acks in
+          let acked : seq_offset s.ack st.iss ≤ symbols_taken st.client = word.acks h.acks in
           let inside : seq_offset s.seq st.client.send.iss + seg_len s ≤ symbols st.client.send = word.within h.no_rst (let a : seq_offset s.seq st.client.send.iss ≤ st.client.send.una = h.from in let c : st.client.send.una < seq_offset s.seq st.client.send.iss + seg_len s = h.to in omega (arith, a, c)) in
           let e = turn.service.block in
           let same = alike w k.nodes k.files x.part st told_ n b env at_ d0 stay stay_is still hears few up in
@@ -266,7 +266,7 @@ module _ (k : Setting) (w : Whole) (x : Conn) (n epoch : ℕ) (env : NodeEnv) (o
         go phase.Open is (inr h) = inl (crosses d is h.0 h.1 h.2)
         go phase.Aborted is h =
             let r = word.refuses h.0 (late h.0) in
-            absurd (never-reset (ap (λ (c : ControlBlock). c.reset) (at-awaited st b s talk r.0 h.0 (h.1 ∙ ap (λ (ph : Phase). awaited_in b ph) is))))
+            absurd (never-reset (ap (λ (c : ControlBlock). c.reset) (at-awaited st b s talk r.0 h.0 (h.1 ∙ ap (λ (ph : Phase). number_awaited b ph) is))))
         go phase.Reset is h = absurd h
 
   -- ---- all of it
@@ -278,11 +278,11 @@ module _ (k : Setting) (w : Whole) (x : Conn) (n epoch : ℕ) (env : NodeEnv) (o
       subst (IsWarmSegment st.client) (ap (λ m. decoded segment m ToCluster) c_is ∙ read) c
 
   heard-owes : (s : Said) → decoded segment x.c ToCluster ≡ Ok s → (b : ControlBlock) (stay : Stay) → here env.epoch q ≡ Some (b, stay) → Forwards (with_work env q [] (goes_on env (work_of (on_segment b s).1 stay)))
-  heard-owes s read b stay is = does-owes k w x n Front bytes was (λ given. given.opened n bytes was) (rests env q [] (goes_on env (work_of (on_segment b s).1 stay))) (λ given after warm late st st_is c_is up same.
+  heard-owes s read b stay is = does-owes k w x n Front bytes was (λ given. given.opened n bytes was) (node_rests env q [] (goes_on env (work_of (on_segment b s).1 stay))) (λ given after warm late st st_is c_is up same.
       let both = both-here q env.epoch b stay is in
       let at = is-here k w x given n env.epoch b both.0 in
       let turn = goes_on env (work_of (on_segment b s).1 stay) in
-      let spells_env : Spells x.c env.epoch (body.Forward segment) bytes = subst (λ (e : ℕ). Spells x.c e (body.Forward segment) bytes) (sym of.epoch_is) spells in
+      let spells_env : SpellsMessage x.c env.epoch (body.Forward segment) bytes = subst (λ (e : ℕ). SpellsMessage x.c e (body.Forward segment) bytes) (sym of.epoch_is) spells in
       let talk = given.talks st n env.epoch b st_is both.0 in
       let word = given.words st n env.epoch b segment bytes s st_is both.0 spells_env was read in
       let late_word : s.flags.rst ≡ true → s.flags.ack ≡ false = late st st_is (record { c = x.c; epoch = record { 0 = epoch }; body = body.Forward segment }) spells s read in
@@ -292,7 +292,7 @@ module _ (k : Setting) (w : Whole) (x : Conn) (n epoch : ℕ) (env : NodeEnv) (o
       (still-seat k.files x.part st at.0 n b env at.1 q [] turn stays) in
       let t = seated k.files x.part st (Here at.0 n env.epoch b (staying_of q)) in
       let spot : spot_of k.files x.part st ≡ t = seated-is k.files x.part st ∙ ap (seated k.files x.part st) (here-seat x.part at.0 n env.epoch b at.1) in
-      let R : Spot → Type 0 = λ u. Replies k.files u x.c came (map (letter (Node n)) (rests env q [] turn).1.segments ++ map (letter (Node n)) (rests env q [] turn).1.messages) in
+      let R : Spot → Type 0 = λ u. Replies k.files u x.c came (map (letter (Node n)) (node_rests env q [] turn).1.segments ++ map (letter (Node n)) (node_rests env q [] turn).1.messages) in
       subst R (sym spot) (record {
         shorter = shorter st s read at.0 b at.1 stay both.1 talk word late_word warm_word stays few up;
         leads = λ d near. leads st s read at.0 b at.1 stay both.1 talk word late_word warm_word stays few up d
@@ -301,7 +301,7 @@ module _ (k : Setting) (w : Whole) (x : Conn) (n epoch : ℕ) (env : NodeEnv) (o
 
   pub forwarded-owes : Forwards (node_forwarded env q (decoded segment x.c ToCluster))
   forwarded-owes = by-read (decoded segment x.c ToCluster) refl where
-    by-here : (s : Said) → decoded segment x.c ToCluster ≡ Ok s → (o : Option (ControlBlock × Stay)) → here env.epoch q ≡ o → Forwards (heard_by env q (Ok s) o)
+    by-here : (s : Said) → decoded segment x.c ToCluster ≡ Ok s → (o : Option (ControlBlock × Stay)) → here env.epoch q ≡ o → Forwards (node_heard_by env q (Ok s) o)
     by-here s read None is = drops-owes k w x n Front bytes was (λ given st st_is d near.
         let h = at-node st (suc d) s read near in
         let stay = given.stays n epoch h.1 h.2.there in
@@ -309,7 +309,7 @@ module _ (k : Setting) (w : Whole) (x : Conn) (n epoch : ℕ) (env : NodeEnv) (o
         let bad : ◌≡◌ {A = Option (ControlBlock × Stay)} None (Some (h.1, stay.0)) = sym is ∙ some in cc)
     by-here s read (Some y) is = heard-owes s read y.0 y.1 is
 
-    by-read : (r : Result Said SegFault) → decoded segment x.c ToCluster ≡ r → Forwards (heard_by env q r (here env.epoch q))
+    by-read : (r : Result Said SegFault) → decoded segment x.c ToCluster ≡ r → Forwards (node_heard_by env q r (here env.epoch q))
     by-read (Err fault) read = drops-owes k w x n Front bytes was (λ given st st_is d near.
         let t = spot_of k.files x.part st in
         far t (suc d) t.post fault (subst (λ (r : Result Said SegFault). NearForward t (suc d) n epoch r t.post) read (near-is t (suc d) near)))

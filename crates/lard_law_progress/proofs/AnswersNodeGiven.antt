@@ -5,9 +5,9 @@ use Rattle.lard_base.specs.declared.limits.TheConstants.{MAX_FILE_BYTES}
 use Rattle.lard_base.specs.declared.parts.EndpointParts.{EndpointParts}
 use Rattle.lard_base.specs.declared.place.Place.TheVariants.{Front, Node}
 use Rattle.lard_bound.specs.Seats.{Here, Offered, Staying, seat_of}
-use Rattle.lard_bound.specs.Units.{Whole, taken}
+use Rattle.lard_bound.specs.Units.{Whole, symbols_taken}
 use Rattle.lard_rules.specs.Machine.{is_no_node}
-use Rattle.lard_law_view.specs.View.{Conn, Setting, Spells, Was}
+use Rattle.lard_law_view.specs.View.{Conn, Setting, SpellsMessage, Was}
 use Rattle.lard_endpoint.specs.Control.{ControlBlock}
 use Rattle.lard_handoff_back.specs.declared.row.BackConn.TheVariants as back
 use Rattle.lard_handoff_back.specs.declared.row.BackRow.{BackRow}
@@ -37,14 +37,14 @@ HasIt x n e b = (x.part.nodes n).row ≡ Some (record { stage = back.Here b; epo
 -- the number that was acknowledged.
 pub record IsForwarded (st : Station) (b : ControlBlock) (s : Said) : Type 0 where
   pub seq_small : s.seq < 2 ^ 32
-  pub acks : s.flags.ack ≡ true → seq_offset s.ack st.iss ≤ taken st.client
+  pub acks : s.flags.ack ≡ true → seq_offset s.ack st.iss ≤ symbols_taken st.client
   pub within : s.flags.rst ≡ false → 1 ≤ seg_len s → seq_offset s.seq st.client.send.iss + seg_len s ≤ symbols st.client.send
   pub refuses : s.flags.rst ≡ true → s.flags.ack ≡ false → (seg_len s ≡ 0) × (a : ℕ) × (s.seq ≡ seq_add st.client.send.iss a) × (a ≤ heard b.recv)
 
 pub record NodeGiven (k : Setting) (w : Whole) (x : Conn) : Type 0 where
   -- what the front end says to a node, a Fetch, and a node that has the connection: its client opened
   pub opened : (n : ℕ) (bytes : List ℕ) → Was x Front (Node n) bytes → (st : Station) × (x.part.station ≡ Some st)
-  pub fetched : (m n e r : ℕ) (path bytes : List ℕ) → Spells x.c e (body.Fetch r path) bytes → Was x (Node m) (Node n) bytes → (st : Station) × (x.part.station ≡ Some st)
+  pub fetched : (m n e r : ℕ) (path bytes : List ℕ) → SpellsMessage x.c e (body.Fetch r path) bytes → Was x (Node m) (Node n) bytes → (st : Station) × (x.part.station ≡ Some st)
   pub held : (n e : ℕ) (b : ControlBlock) → HasIt x n e b → (st : Station) × (x.part.station ≡ Some st)
   pub bytes : (l : Letter) → Has l x.letters → AreBytes l.bytes
   pub files : (path file : List ℕ) → k.files path ≡ Some file → length file ≤ MAX_FILE_BYTES
@@ -52,7 +52,7 @@ pub record NodeGiven (k : Setting) (w : Whole) (x : Conn) : Type 0 where
   pub homes : (n e : ℕ) (b : ControlBlock) → HasIt x n e b → (told : Bool) × (row : FrontRow) × (x.part.front.row ≡ Some row) × IsWith told n e row.stage
   pub stays : (n e : ℕ) (b : ControlBlock) → HasIt x n e b → (s : Stay) × ((x.part.nodes n).stay ≡ Some s)
   -- an Offer that is new to its node is the one that the front end makes
-  pub news : (n e : ℕ) (parts : EndpointParts) (bytes : List ℕ) → Spells x.c e (body.Offer parts) bytes → Was x Front (Node n) bytes → offer_answer e (x.part.nodes n).row ≡ New
+  pub news : (n e : ℕ) (parts : EndpointParts) (bytes : List ℕ) → SpellsMessage x.c e (body.Offer parts) bytes → Was x Front (Node n) bytes → offer_answer e (x.part.nodes n).row ≡ New
       → (row : FrontRow) × (x.part.front.row ≡ Some row) × (row.stage ≡ stage.Offering n (record { 0 = e }))
   -- a node to which a connection is offered had none of it before
   pub fresh : (n e count : ℕ) → seat_of x.part ≡ Offered n e count → (x.part.nodes n).row ≡ None
@@ -60,7 +60,7 @@ pub record NodeGiven (k : Setting) (w : Whole) (x : Conn) : Type 0 where
   pub few : (told : Bool) (n e : ℕ) (b : ControlBlock) (s : Staying) → seat_of x.part ≡ Here told n e b s → read_in s ≤ w.requests
   -- an endpoint talks with this client, and what is forwarded to it are the client's segments
   pub talks : (st : Station) (n e : ℕ) (b : ControlBlock) → x.part.station ≡ Some st → HasIt x n e b → IsTalking st b
-  pub words : (st : Station) (n e : ℕ) (b : ControlBlock) (segment bytes : List ℕ) (s : Said) → x.part.station ≡ Some st → HasIt x n e b → Spells x.c e (body.Forward segment) bytes → Was x Front (Node n) bytes
+  pub words : (st : Station) (n e : ℕ) (b : ControlBlock) (segment bytes : List ℕ) (s : Said) → x.part.station ≡ Some st → HasIt x n e b → SpellsMessage x.c e (body.Forward segment) bytes → Was x Front (Node n) bytes
       → decoded segment x.c ToCluster ≡ Ok s → IsForwarded st b s
   -- a node that decided about it is there, and so is one to which it is offered
   pub there : (n : ℕ) (row : BackRow) → (x.part.nodes n).row ≡ Some row → is_no_node k.nodes n ≡ false

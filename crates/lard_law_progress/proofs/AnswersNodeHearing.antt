@@ -7,7 +7,7 @@ use Rattle.lard_answers.specs.Answers.{FilesAt}
 use Rattle.lard_base.specs.declared.place.Place.{Place}
 use Rattle.lard_bound.specs.Progress.{IsWarmWord}
 use Rattle.lard_bound.specs.Seats.{Staying, stay_of, staying_of}
-use Rattle.lard_bound.specs.Spots.{Ends}
+use Rattle.lard_bound.specs.Spots.{EndpointSymbols}
 use Rattle.lard_bound.specs.Units.{Whole, is_stale, left_with, one_if_not}
 use Rattle.lard_client.specs.Control.{ClientBlock}
 use Rattle.lard_client.specs.declared.phase.Phase.{Phase}
@@ -17,7 +17,7 @@ use Rattle.lard_endpoint.specs.Arriving.{on_segment}
 use Rattle.lard_endpoint.specs.Control.{ControlBlock}
 use Rattle.lard_endpoint.specs.Moving.{end_reason, final_of, is_closed, may_end}
 use Rattle.lard_rules.specs.declared.stay.Stay.{Stay}
-use Rattle.lard_rules.specs.Node.{NodePart, rests, work_of}
+use Rattle.lard_rules.specs.Node.{NodePart, node_rests, work_of}
 use Rattle.lard_rules.specs.Stay.{NodeEnv, Work, goes_on}
 use Rattle.lard_law_progress.proofs.AnswersFrontGiven.{IsTalking}
 use Rattle.lard_law_progress.proofs.AnswersNodeSeats.{IsHere}
@@ -32,7 +32,7 @@ use Rattle.lard_rules.specs.declared.places.Ending.{Ending}
 use Rattle.lard_rules.specs.declared.places.Ending.TheVariants as ending
 use Rattle.lard_rules.specs.declared.places.Station.{Station}
 use Rattle.lard_rules.specs.declared.places.Turn.{Turn}
-use Rattle.lard_rules.specs.Serving.{cut_off, settled, spoken}
+use Rattle.lard_rules.specs.Serving.{cut_off, serving_settled, spoken}
 use Rattle.lard_rules.specs.Speaking.{speaks}
 use Rattle.lard_rules.proofs.Saying.{speaks-done}
 use Rattle.lard_segment.specs.Segment.{Said}
@@ -70,7 +70,7 @@ module _ (w : Whole) (K : ℕ) (files : FilesAt) (p : Part) (st : Station) (told
     pub stale : is_stale x d0 ≤ is_stale x b
 
   -- the turn, behind which nothing went
-  module _ (still : IsStill) (hears : Hears) (few : read_of v ≤ w.requests) (up : left_with w K p st ≤ left_with w K (with_node p n (rests env q [] v).0) st) where
+  module _ (still : IsStill) (hears : Hears) (few : read_of v ≤ w.requests) (up : left_with w K p st ≤ left_with w K (with_node p n (node_rests env q [] v).0) st) where
     un : Unmoved w K files p st told n b env h q [] w0 s0 s0-is
     un = unmoved w K files p st told n b env h q [] w0 s0 s0-is still (record { shut = hears.shut; stale = hears.stale; read = refl; costs = omega arith }) few up
 
@@ -84,15 +84,15 @@ module _ (w : Whole) (K : ℕ) (files : FilesAt) (p : Part) (st : Station) (told
     said = speaks-said env.serve.c v.service.block
 
     pub una-same : d0.send.una ≡ b.send.una
-    una-same = sym (said.una ∙ ap (λ (z : Sending). z.una) alike.send) ∙ ap (λ (e : Ends). e.una) still.ends
+    una-same = sym (said.una ∙ ap (λ (z : Sending). z.una) alike.send) ∙ ap (λ (e : EndpointSymbols). e.una) still.ends
 
-    pub no-messages : (rests env q [] v).1.messages ≡ []
+    pub no-messages : (node_rests env q [] v).1.messages ≡ []
     no-messages = no-message files p st told n b env h q [] v still un.idle.asked un.idle.wants
 
-    settled-is : settled env.serve v.service ≡ spoken env.serve v.service []
+    settled-is : serving_settled env.serve v.service ≡ spoken env.serve v.service []
     settled-is = ap (λ (o : Option ℕ). elim o as (λ t. Ending × Turn) [ None ↦ spoken env.serve v.service [] | Some total ↦ cut_off env.serve v.service ]) still.none
 
-    pub segments-are : (rests env q [] v).1.segments ≡ (speaks env.serve.c v.service.block).0
+    pub segments-are : (node_rests env q [] v).1.segments ≡ (speaks env.serve.c v.service.block).0
     segments-are = ap (λ (r : Ending × Turn). r.1.segments) settled-is
 
     -- what was reset ends, and then it is not here
@@ -100,12 +100,12 @@ module _ (w : Whole) (K : ℕ) (files : FilesAt) (p : Part) (st : Station) (told
     not-reset e =
         let r : after.reset ≡ true = said.reset ∙ alike.reset ∙ e in
         let may : may_end after ≡ true = ap (λ (t : Bool). t || is_closed after) r in
-        let over : (settled env.serve v.service).0 ≡ ending.Over (final_of after (end_reason after)) =
+        let over : (serving_settled env.serve v.service).0 ≡ ending.Over (final_of after (end_reason after)) =
         ap (λ (o : Ending × Turn). o.0) settled-is ∙ cond-true (may_end after) (ending.Over (final_of after (end_reason after))) (ending.Here after v.service.count) may in
         let bad : ending.Over (final_of after (end_reason after)) ≡ ending.Here after v.service.count = sym over ∙ still.ends_here in cc
 
     -- an endpoint with nothing to say says nothing
-    pub silent-segments : IsSilent d0 → (rests env q [] v).1.segments ≡ []
+    pub silent-segments : IsSilent d0 → (node_rests env q [] v).1.segments ≡ []
     silent-segments quiet =
         let none = alike-none d0 v.service.block quiet alike in
         segments-are ∙ ap (λ (r : List (Place × List ℕ) × ControlBlock). r.0) (speaks-done env.serve.c v.service.block none)

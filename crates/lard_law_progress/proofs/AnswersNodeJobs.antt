@@ -7,7 +7,7 @@ use Rattle.lard_bound.specs.Chains.{aside_chain, chain, of_message}
 use Rattle.lard_bound.specs.Progress.{Every, Lasts, chain_at, chain_on, spot_with}
 use Rattle.lard_bound.specs.Seats.{Staying, stay_of, staying_of}
 use Rattle.lard_bound.specs.Spots.{Spot, spot_of}
-use Rattle.lard_bound.specs.Units.{Whole, batch_left, is_stale, left_at, left_with, units}
+use Rattle.lard_bound.specs.Units.{Whole, batch_left, is_stale, left_to_client, left_with, units}
 use Rattle.lard_law_connections.specs.Places.{Head}
 use Rattle.lard_law_connections.proofs.PlacesHeads.{decoded-head, spelled-some}
 use Rattle.lard_law_view.specs.View.{Conn, Move, Setting, brought_said, grown, letter, letters_of, node_does, reads_first, stands, with_node}
@@ -25,9 +25,9 @@ use Rattle.lard_rules.specs.declared.node.NodeTurn.{NodeTurn}
 use Rattle.lard_rules.specs.declared.stay.Asked.{Asked}
 use Rattle.lard_rules.specs.declared.stay.Stay.{Stay}
 use Rattle.lard_rules.specs.declared.stay.Want.{Want}
-use Rattle.lard_rules.specs.Node.{NodePart, here, node_read, read_by, rests, work_of}
+use Rattle.lard_rules.specs.Node.{NodePart, here, node_read, node_read_by, node_rests, work_of}
 use Rattle.lard_rules.specs.Node as node
-use Rattle.lard_rules.specs.NodePlace.{bytes_of}
+use Rattle.lard_rules.specs.NodePlace.{content_bytes}
 use Rattle.lard_rules.specs.Stay.{NodeEnv, Work, came_for, goes_on, read_progress}
 use Rattle.lard_law_progress.proofs.AnswersMessages.{content_letter, of_conn}
 use Rattle.lard_law_progress.proofs.AnswersNodeDeeds.{is-here}
@@ -42,7 +42,7 @@ use Rattle.lard_rules.specs.declared.places.Ending.{Ending}
 use Rattle.lard_rules.specs.declared.places.Ending.TheVariants as ending
 use Rattle.lard_rules.specs.declared.places.Station.{Station}
 use Rattle.lard_rules.specs.declared.places.Turn.{Turn}
-use Rattle.lard_rules.specs.Serving.{Service, cut_off, settled, spoken}
+use Rattle.lard_rules.specs.Serving.{Service, cut_off, serving_settled, spoken}
 use Rattle.lard_rules.proofs.Saying.{speaks-done}
 
 -- what is sent as a job is done has no chain, where no unit goes
@@ -76,7 +76,7 @@ module _ (k : Setting) (w : Whole) (x : Conn) where
   pub brings-works : (n from epoch r : ℕ) (path : List ℕ) → JobOwes k w x (stands x (Node n) [] (brought_said k n from x.c epoch r path))
   brings-works n from epoch r path up =
       let v = stands x (Node n) [] (brought_said k n from x.c epoch r path) in
-      by-spot v (spot_with k.files (grown x v) x.part.station) (letters_of v) (λ t e. (let none = nothing-comes t x.c n from epoch r (bytes_of (k.files path)) in omega (arith, none), tt))
+      by-spot v (spot_with k.files (grown x v) x.part.station) (letters_of v) (λ t e. (let none = nothing-comes t x.c n from epoch r (content_bytes (k.files path)) in omega (arith, none), tt))
 
 -- ---- a request of its own
 
@@ -84,7 +84,7 @@ module _ (k : Setting) (w : Whole) (x : Conn) (n epoch r : ℕ) (env : NodeEnv) 
   abbrev q : NodePart
   q = x.part.nodes n
 
-  abbrev does : node.Deed → Move
+  abbrev does : node.NodeDeed → Move
   does deed = reads_first (rec.Read n n x.c r path) (node_does x n [] deed)
 
   module _ (st : Station) (is : x.part.station ≡ Some st) (b : ControlBlock) (stay : Stay) (has : here env.epoch q ≡ Some (b, stay)) where
@@ -98,8 +98,8 @@ module _ (k : Setting) (w : Whole) (x : Conn) (n epoch r : ℕ) (env : NodeEnv) 
     s0 = record { stay = stay; kept = q.kept; fetches = q.fetches }
 
     -- nothing is sent
-    read-silent : NodeGiven k w x → NodeGiven k w (grown x (does (node.Does (rests env q [] turn)))) → left_with w k.nodes x.part st ≤ left_with w k.nodes (with_node x.part n (rests env q [] turn).0) st
-        → spot_of k.files (with_node x.part n (rests env q [] turn).0) st ≡ spot_of k.files x.part st → letters_of (does (node.Does (rests env q [] turn))) ≡ []
+    read-silent : NodeGiven k w x → NodeGiven k w (grown x (does (node.Does (node_rests env q [] turn)))) → left_with w k.nodes x.part st ≤ left_with w k.nodes (with_node x.part n (node_rests env q [] turn).0) st
+        → spot_of k.files (with_node x.part n (node_rests env q [] turn).0) st ≡ spot_of k.files x.part st → letters_of (does (node.Does (node_rests env q [] turn))) ≡ []
     read-silent given after up same =
         let both = both-here q env.epoch b stay has in
         let at = is-here k w x given n env.epoch b both.0 in
@@ -121,24 +121,24 @@ module _ (k : Setting) (w : Whole) (x : Conn) (n epoch r : ℕ) (env : NodeEnv) 
         let talk = given.talks st n env.epoch b is both.0 in
         let alike : IsAlike b turn.service.block = subst (λ (z : ControlBlock). IsAlike z turn.service.block) block un.idle.block in
         let none = alike-none b turn.service.block talk.silent alike in
-        let spoke : settled env.serve turn.service ≡ spoken env.serve turn.service [] =
+        let spoke : serving_settled env.serve turn.service ≡ spoken env.serve turn.service [] =
         ap (λ (o : Option ℕ). elim o as (λ t. Ending × Turn) [ None ↦ spoken env.serve turn.service [] | Some total ↦ cut_off env.serve turn.service ]) stays.none in
-        let segments : (rests env q [] turn).1.segments ≡ [] = ap (λ (r : Ending × Turn). r.1.segments) spoke ∙ ap (λ (r : List (Place × List ℕ) × ControlBlock). r.0) (speaks-done env.serve.c turn.service.block none) in
-        let messages : (rests env q [] turn).1.messages ≡ [] = no-message k.files x.part st at.0 n b env at.1 q [] turn stays (un.idle.asked ∙ h.4) (un.idle.wants ∙ h.3) in
+        let segments : (node_rests env q [] turn).1.segments ≡ [] = ap (λ (r : Ending × Turn). r.1.segments) spoke ∙ ap (λ (r : List (Place × List ℕ) × ControlBlock). r.0) (speaks-done env.serve.c turn.service.block none) in
+        let messages : (node_rests env q [] turn).1.messages ≡ [] = no-message k.files x.part st at.0 n b env at.1 q [] turn stays (un.idle.asked ∙ h.4) (un.idle.wants ∙ h.3) in
         λ i. map (letter (Node n)) (segments i) ++ map (letter (Node n)) (messages i)
 
   unit-parts : (given : NodePart × NodeTurn) (st : Station) → x.part.station ≡ Some st → units w k.nodes x ≤ units w k.nodes (grown x (does (node.Does given))) → left_with w k.nodes x.part st ≤ left_with w k.nodes (with_node x.part n given.0) st
   unfolding units
   unit-parts given st is up =
-      let A : Option Station → Type 0 = λ o. left_at w k.nodes x.part o ≤ left_at w k.nodes (with_node x.part n given.0) o in
+      let A : Option Station → Type 0 = λ o. left_to_client w k.nodes x.part o ≤ left_to_client w k.nodes (with_node x.part n given.0) o in
       subst A is up
 
   pub read-works : NodeGiven k w x → NodeGiven k w (grown x (does (node_read env q r))) → Lasts k w x (does (node_read env q r)) → JobOwes k w x (does (node_read env q r))
   read-works given = go (here env.epoch q) refl where
-    none-sent : (deed : node.Deed) → letters_of (does deed) ≡ [] → Every (λ a. chain_at k.files (grown x (does deed)) a < 1) (letters_of (does deed))
+    none-sent : (deed : node.NodeDeed) → letters_of (does deed) ≡ [] → Every (λ a. chain_at k.files (grown x (does deed)) a < 1) (letters_of (does deed))
     none-sent deed none = subst (λ (ls : List Letter). Every (λ a. chain_at k.files (grown x (does deed)) a < 1) ls) (sym none) tt
 
-    opened : (deed : node.Deed) (o : Option Station) → x.part.station ≡ o → (does deed).part.station ≡ o → ((st : Station) → o ≡ Some st → letters_of (does deed) ≡ []) → Every (λ a. chain_at k.files (grown x (does deed)) a < 1) (letters_of (does deed))
+    opened : (deed : node.NodeDeed) (o : Option Station) → x.part.station ≡ o → (does deed).part.station ≡ o → ((st : Station) → o ≡ Some st → letters_of (does deed) ≡ []) → Every (λ a. chain_at k.files (grown x (does deed)) a < 1) (letters_of (does deed))
     opened deed (Some st) is now h = none-sent deed (h st refl)
     opened deed None is now h =
         let C : Option Station → Type 0 = λ o. Every (λ a. chain_on (spot_with k.files (grown x (does deed)) o) x.c a < 1) (letters_of (does deed)) in
@@ -148,10 +148,10 @@ module _ (k : Setting) (w : Whole) (x : Conn) (n epoch r : ℕ) (env : NodeEnv) 
         all [] = tt
         all (l ∷ ls) = (omega arith, all ls)
 
-    go : (o : Option (ControlBlock × Stay)) → here env.epoch q ≡ o → NodeGiven k w (grown x (does (read_by env r q o))) → Lasts k w x (does (read_by env r q o)) → JobOwes k w x (does (read_by env r q o))
+    go : (o : Option (ControlBlock × Stay)) → here env.epoch q ≡ o → NodeGiven k w (grown x (does (node_read_by env r q o))) → Lasts k w x (does (node_read_by env r q o)) → JobOwes k w x (does (node_read_by env r q o))
     go None is after lasts up = tt
-    go (Some (b, stay)) is after lasts up = opened (read_by env r q (Some (b, stay))) x.part.station refl refl (λ st at.
-        let given_turn = rests env q [] (goes_on env (came_for read_progress r (work_of b stay))) in
+    go (Some (b, stay)) is after lasts up = opened (node_read_by env r q (Some (b, stay))) x.part.station refl refl (λ st at.
+        let given_turn = node_rests env q [] (goes_on env (came_for read_progress r (work_of b stay))) in
         let later : spot_with k.files (grown x (does (node.Does given_turn))) x.part.station ≡ spot_with k.files x x.part.station = lasts.steady up in
         let both : Some (spot_of k.files (with_node x.part n given_turn.0) st) ≡ Some (spot_of k.files x.part st) =
         sym (ap (spot_with k.files (grown x (does (node.Does given_turn)))) at) ∙ later ∙ ap (spot_with k.files x) at in

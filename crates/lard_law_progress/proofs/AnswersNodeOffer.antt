@@ -9,13 +9,13 @@ use Rattle.lard_base.specs.declared.place.Place.TheVariants.{Front, Node}
 use Rattle.lard_bound.specs.Chains.{chain, front_chain, of_message}
 use Rattle.lard_bound.specs.Nears.{IsUnaware, Near, NearOffer, NearTaken, NearTold, OfMessage}
 use Rattle.lard_bound.specs.Progress.{IsFetch}
-use Rattle.lard_bound.specs.Seats.{Gone, Held, Here, Offered, Over, Seat, Unborn, Waiting, seat_decided, seat_of}
+use Rattle.lard_bound.specs.Seats.{Gone, Held, Here, Offered, Over, SeatNow, Unborn, Waiting, seat_decided, seat_of}
 use Rattle.lard_bound.specs.Spots.{AtNode, Left, OnOffer, Post, Spot, awaits_of, ends_of, post_of, spot_of}
 use Rattle.lard_bound.specs.Seats as seats
 use Rattle.lard_bound.specs.Units.{Whole}
-use Rattle.lard_law_view.specs.View.{Conn, IsNodeEnv, Part, Setting, Spells, Was, with_node}
+use Rattle.lard_law_view.specs.View.{Conn, IsNodeEnv, Part, Setting, SpellsMessage, Was, with_node}
 use Rattle.lard_endpoint.specs.Control.{ControlBlock}
-use Rattle.lard_rules.specs.Front.{rest_of}
+use Rattle.lard_rules.specs.Front.{front_rest}
 use Rattle.lard_handoff_back.specs.declared.row.BackConn.TheVariants as back
 use Rattle.lard_handoff_back.specs.declared.row.BackRow.{BackRow}
 use Rattle.lard_handoff_back.specs.declared.table.Adopt.{Adopt}
@@ -29,7 +29,7 @@ use Rattle.lard_message.specs.declared.message.Body.TheVariants as body
 use Rattle.lard_message.specs.declared.message.Message.{Message}
 use Rattle.lard_message.specs.Message.{IsMessage}
 use Rattle.lard_message.proofs.Whole.{spelled_so}
-use Rattle.lard_rules.specs.Node.{NodePart, kept_after, message, node_offered, offered_by, rests, taken_sent}
+use Rattle.lard_rules.specs.Node.{NodePart, kept_after, message, node_offered, offered_by, node_rests, taken_sent}
 use Rattle.lard_rules.specs.Node as node
 use Rattle.lard_rules.specs.Stay.{NodeEnv, Work}
 use Rattle.lard_law_progress.proofs.AnswersMessages.{of_conn, taken-chain, taken-may, taken-near, taken_letter}
@@ -42,7 +42,7 @@ use Rattle.lard_law_progress.proofs.NodeRules.{taking}
 use Rattle.lard_rules.specs.declared.places.Ending.{Ending}
 use Rattle.lard_rules.specs.declared.places.Ending.TheVariants as ending
 use Rattle.lard_rules.specs.declared.places.Station.{Station}
-use Rattle.lard_rules.specs.Serving.{settled}
+use Rattle.lard_rules.specs.Serving.{serving_settled}
 use Rattle.lard_rules.specs.Speaking.{speaks}
 
 -- ---- what an Offer that is near is answered by
@@ -76,7 +76,7 @@ module _ (files : FilesAt) (p : Part) (st : Station) (n e : ℕ) (fresh : (n e c
 
   pub offer-met : (d : ℕ) → NearOffer (suc d) n e (spot_of files p st).post → IsMet p d n e (spot_of files p st).post
   offer-met d near = subst (IsMet p d n e) (sym (post-is files p st)) (go (seat_of p) refl (seat-sits p) (subst (NearOffer (suc d) n e) (post-is files p st) near)) where
-    go : (z : Seat) → seat_of p ≡ z → Sits p z → NearOffer (suc d) n e (post_of files st.client z) → IsMet p d n e (post_of files st.client z)
+    go : (z : SeatNow) → seat_of p ≡ z → Sits p z → NearOffer (suc d) n e (post_of files st.client z) → IsMet p d n e (post_of files st.client z)
     go (Here told m f b s) is sits h = at-node told m f d b s (record { stage = back.Here b; epoch = record { 0 = f } }) sits.0.there refl h.0 h.1 h.2
     go (Gone told m f) is sits h = away told m f d sits.row sits.there sits.epoch h.0 h.1 h.2
     go (Offered m f count) is sits h =
@@ -102,7 +102,7 @@ module _ (files : FilesAt) (p : Part) (st : Station) (n : ℕ) (env : NodeEnv) (
   q = p.nodes n
 
   abbrev at : ℕ
-  at = (rest_of p.front.rest).count
+  at = (front_rest p.front.rest).count
 
   abbrev put : Ending → Part
   put o = with_node p n (kept_after env q w o)
@@ -111,7 +111,7 @@ module _ (files : FilesAt) (p : Part) (st : Station) (n : ℕ) (env : NodeEnv) (
   was = ap (post_of files st.client) (seat-with p n env.epoch false row front with_ ∙ new-open false n env.epoch at q q.row is_new)
 
   -- then it is somewhere else
-  pub new-moves : spot_of files (with_node p n (rests env q before w).0) st ≡ spot_of files p st → ⊥
+  pub new-moves : spot_of files (with_node p n (node_rests env q before w).0) st ≡ spot_of files p st → ⊥
   new-moves same = by-ending env.serve w.service (λ o. post_of files st.client (seat_of (put o)) ≡ OnOffer n env.epoch → ⊥)
       (λ none post.
       let d = (speaks env.serve.c w.service.block).1 in
@@ -122,16 +122,16 @@ module _ (files : FilesAt) (p : Part) (st : Station) (n : ℕ) (env : NodeEnv) (
       let after = kept_after env q w (ending.Over last) in
       let now = ap (post_of files st.client) (seat-put p n env.epoch false row after front with_ ∙ away-ended false n env.epoch at after refl) in
       let bad : Left false n env.epoch ≡ OnOffer n env.epoch = sym now ∙ post in cc)
-      (sym (post-is files (put (settled env.serve w.service).0) st) ∙ ap (λ (s : Spot). s.post) same ∙ post-is files p st ∙ was)
+      (sym (post-is files (put (serving_settled env.serve w.service).0) st) ∙ ap (λ (s : Spot). s.post) same ∙ post-is files p st ∙ was)
 
 -- ---- the rule
 
 module _ (k : Setting) (w : Whole) (x : Conn) (n epoch : ℕ) (env : NodeEnv) (of : IsNodeEnv k x.c n epoch env) (parts : EndpointParts) (bytes : List ℕ)
-    (spells : Spells x.c epoch (body.Offer parts) bytes) (was_sent : Was x Front (Node n) bytes) where
+    (spells : SpellsMessage x.c epoch (body.Offer parts) bytes) (was_sent : Was x Front (Node n) bytes) where
   abbrev qq : NodePart
   qq = x.part.nodes n
 
-  abbrev Offers : node.Deed → Type 0
+  abbrev Offers : node.NodeDeed → Type 0
   Offers deed = OwesBy k w x n Front bytes was_sent deed
 
   abbrev offer_letter : Letter
@@ -173,7 +173,7 @@ module _ (k : Setting) (w : Whole) (x : Conn) (n epoch : ℕ) (env : NodeEnv) (o
   pub offered-owes : Offers (node_offered env qq parts)
   offered-owes = go (offer_answer env.epoch qq.row) refl where
     go : (a : Adopt) → offer_answer env.epoch qq.row ≡ a → Offers (offered_by env parts qq a)
-    go adopt.New is = does-owes k w x n Front bytes was_sent (λ given. given.opened n bytes was_sent) (rests env qq (taken_sent env) (taking env parts)) (λ given after warm late st st_is c_is up same.
+    go adopt.New is = does-owes k w x n Front bytes was_sent (λ given. given.opened n bytes was_sent) (node_rests env qq (taken_sent env) (taking env parts)) (λ given after warm late st st_is c_is up same.
         let h = given.news n epoch parts bytes spells was_sent (answer-is ∙ is) in
         let stage_is : IsWith false n env.epoch h.0.stage = h.2 ∙ ap (λ (e : ℕ). stage.Offering n (record { 0 = e })) (sym of.epoch_is) in
         absurd (new-moves k.files x.part st n env h.0 h.1 stage_is is (taken_sent env) (taking env parts) same))

@@ -5,7 +5,7 @@ use Rattle.lard_base.specs.declared.place.Place.TheVariants.{Node}
 use Rattle.lard_bound.specs.Chains.{aside_chain, chain, of_message}
 use Rattle.lard_bound.specs.Spots.{spot_of}
 use Rattle.lard_bound.specs.Units.{Whole}
-use Rattle.lard_law_view.specs.View.{Conn, NodeRules, Setting, Spells, Was, contents, event_seen, node_does, nothing_said, packet_seen, reads_first, stands}
+use Rattle.lard_law_view.specs.View.{Conn, NodeRules, Setting, SpellsMessage, Was, content_said, event_seen, node_does, nothing_said, packet_seen, reads_first, stands}
 use Rattle.lard_history.specs.Own.{Letter}
 use Rattle.lard_journal.specs.declared.rec.Rec.TheVariants as rec
 use Rattle.lard_message.specs.declared.message.Body.TheVariants as body
@@ -14,7 +14,7 @@ use Rattle.lard_message.specs.Message.{IsMessage}
 use Rattle.lard_message.proofs.Whole.{spelled_so}
 use Rattle.lard_rules.specs.Node as node
 use Rattle.lard_rules.specs.Node.{node_acknowledged, node_content, node_forwarded, node_offered, node_read, node_tagged, node_timer}
-use Rattle.lard_rules.specs.NodePlace.{bytes_of}
+use Rattle.lard_rules.specs.NodePlace.{content_bytes}
 use Rattle.lard_rules.specs.Stay.{NodeEnv}
 use Rattle.lard_law_progress.proofs.AnswersForm.{Owes, answers-by}
 use Rattle.lard_law_progress.proofs.AnswersMessages.{content-chain, content-may, content_letter, of_conn}
@@ -25,27 +25,27 @@ use Rattle.lard_law_progress.proofs.AnswersNodeOffer.{offered-owes}
 
 -- ---- a Fetch
 
-module _ (k : Setting) (w : Whole) (x : Conn) (n from epoch r : ℕ) (path file bytes : List ℕ) (is : k.files path ≡ Some file) (spells : Spells x.c epoch (body.Fetch r path) bytes) (was : Was x (Node from) (Node n) bytes) where
+module _ (k : Setting) (w : Whole) (x : Conn) (n from epoch r : ℕ) (path file bytes : List ℕ) (is : k.files path ≡ Some file) (spells : SpellsMessage x.c epoch (body.Fetch r path) bytes) (was : Was x (Node from) (Node n) bytes) where
   abbrev came : Letter
   came = record { from = Node from; to = Node n; bytes = bytes }
 
   -- what is read of a file that is there
-  file-is : bytes_of (k.files path) ≡ file
-  file-is = ap bytes_of is
+  file-is : content_bytes (k.files path) ≡ file
+  file-is = ap content_bytes is
 
-  pub content-fits : NodeGiven k w x → IsMessage (of_conn x.c epoch (body.Content r (bytes_of (k.files path))))
+  pub content-fits : NodeGiven k w x → IsMessage (of_conn x.c epoch (body.Content r (content_bytes (k.files path))))
   content-fits given =
       let fetch = (spelled_so bytes (of_conn x.c epoch (body.Fetch r path)) (given.bytes came was) spells).0 in
       subst (λ (f : List ℕ). IsMessage (of_conn x.c epoch (body.Content r f))) (sym file-is) (content-may x.c epoch r path file fetch (given.files path file is))
 
   -- it is answered by the content, whose chain is shorter
-  pub answers-owes : Owes k w (NodeGiven k w) x (stands x (Node n) (packet_seen (Node from) (Node n) bytes) (contents k n from x.c epoch r path))
+  pub answers-owes : Owes k w (NodeGiven k w) x (stands x (Node n) (packet_seen (Node from) (Node n) bytes) (content_said k n from x.c epoch r path))
   answers-owes may after warm late lasts =
       let o = may.given.fetched from n epoch r path bytes spells was in
       let t = spot_of k.files x.part o.0 in
-      let none : chain t x.c (content_letter n from x.c epoch r (bytes_of (k.files path))) ≡ 0 = content-chain k.files t x.c epoch r n from (bytes_of (k.files path)) (content-fits may.given) in
+      let none : chain t x.c (content_letter n from x.c epoch r (content_bytes (k.files path))) ≡ 0 = content-chain k.files t x.c epoch r n from (content_bytes (k.files path)) (content-fits may.given) in
       let one : chain t x.c came ≡ 1 = ap (of_message (λ (m : Message). aside_chain m.body)) spells in
-      answers-by k w x (stands x (Node n) (packet_seen (Node from) (Node n) bytes) (contents k n from x.c epoch r path)) came o.0 o.0 o.1 o.1 lasts
+      answers-by k w x (stands x (Node n) (packet_seen (Node from) (Node n) bytes) (content_said k n from x.c epoch r path)) came o.0 o.0 o.1 o.1 lasts
       (λ up same. record { shorter = (omega (arith, none, one), tt); leads = λ d near. inr (x.c, epoch, r, path, spells) })
 
   -- or a job is queued for it
@@ -72,14 +72,14 @@ node-answers k w = record {
 } where
   no-packet-read : (x : Conn) (n epoch r : ℕ) (env : NodeEnv) (path : List ℕ) → Owes k w (NodeGiven k w) x (reads_first (rec.Read n n x.c r path) (node_does x n [] (node_read env (x.part.nodes n) r)))
   no-packet-read x n epoch r env path = go (node_read env (x.part.nodes n) r) where
-    go : (deed : node.Deed) → Owes k w (NodeGiven k w) x (reads_first (rec.Read n n x.c r path) (node_does x n [] deed))
+    go : (deed : node.NodeDeed) → Owes k w (NodeGiven k w) x (reads_first (rec.Read n n x.c r path) (node_does x n [] deed))
     go node.Drops may after warm late lasts = tt
     go (node.Says messages) may after warm late lasts = tt
     go (node.Does given) may after warm late lasts = tt
 
   no-packet-fires : (x : Conn) (n : ℕ) (env : NodeEnv) → Owes k w (NodeGiven k w) x (node_does x n (event_seen (event.Timer (Node n) x.c)) (node_timer env (x.part.nodes n)))
   no-packet-fires x n env = go (node_timer env (x.part.nodes n)) where
-    go : (deed : node.Deed) → Owes k w (NodeGiven k w) x (node_does x n (event_seen (event.Timer (Node n) x.c)) deed)
+    go : (deed : node.NodeDeed) → Owes k w (NodeGiven k w) x (node_does x n (event_seen (event.Timer (Node n) x.c)) deed)
     go node.Drops may after warm late lasts = tt
     go (node.Says messages) may after warm late lasts = tt
     go (node.Does given) may after warm late lasts = tt

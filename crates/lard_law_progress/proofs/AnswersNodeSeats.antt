@@ -2,15 +2,15 @@
 use Rattle.std.proofs.Common.{◌≡◌, ◌==◌, ◌⊎◌, ℕ, Bool, true, false, cond, Option, Some, None, inl, inr, refl, sym, ap, ◌∙◌, subst, arith}
 use Rattle.std.proofs.lemmas.Bool.{cond-true, eqb-true}
 use Rattle.std.proofs.lemmas.Bool.Decides.{nat_tests}
-use Rattle.lard_bound.specs.Seats.{Gone, Here, Offered, Seat, seat_by, seat_decided, seat_in, seat_of, seat_there, staying_of}
+use Rattle.lard_bound.specs.Seats.{Gone, Here, Offered, SeatNow, seat_by, seat_decided, seat_in, seat_of, seat_there, staying_of}
 use Rattle.lard_law_view.specs.View.{Part}
 use Rattle.lard_endpoint.specs.Control.{ControlBlock}
-use Rattle.lard_rules.specs.Front.{rest_of}
+use Rattle.lard_rules.specs.Front.{front_rest}
 use Rattle.lard_handoff_back.specs.declared.row.BackConn.{BackConn}
 use Rattle.lard_handoff_back.specs.declared.row.BackConn.TheVariants as back
 use Rattle.lard_handoff_back.specs.declared.row.BackRow.{BackRow}
 use Rattle.lard_handoff_back.specs.Back.{staying}
-use Rattle.lard_handoff_back.specs.Row.{held_in}
+use Rattle.lard_handoff_back.specs.Row.{back_held}
 use Rattle.lard_handoff_front.specs.declared.row.FrontConn.{FrontConn}
 use Rattle.lard_handoff_front.specs.declared.row.FrontConn.TheVariants as stage
 use Rattle.lard_handoff_front.specs.declared.row.FrontRow.{FrontRow}
@@ -37,7 +37,7 @@ IsOpen e None = Unit {0}
 IsOpen e (Some row) = ((row.epoch.0 == e) ≡ false) ⊎ (row.stage ≡ back.Out)
 
 -- what a seat tells of the places
-abbrev pub Sits : Part → Seat → Type 0
+abbrev pub Sits : Part → SeatNow → Type 0
 Sits p (Here told n e b s) = IsHere p told n e b × (s ≡ staying_of (p.nodes n))
 Sits p (Gone told n e) = IsDone p n e
 Sits p (Offered n e count) = IsOpen e (p.nodes n).row
@@ -66,8 +66,8 @@ seat-sits p = by-row p.front.row refl where
   by-stage front row (stage.Held b) is = tt
   by-stage front row (stage.Waiting b) is = tt
   by-stage front row stage.Lent is = tt
-  by-stage front row (stage.Offering n e) is = decided-sits p front row false n e.0 (rest_of p.front.rest).count is (p.nodes n).row refl
-  by-stage front row (stage.Moved n e) is = decided-sits p front row true n e.0 (rest_of p.front.rest).count is (p.nodes n).row refl
+  by-stage front row (stage.Offering n e) is = decided-sits p front row false n e.0 (front_rest p.front.rest).count is (p.nodes n).row refl
+  by-stage front row (stage.Moved n e) is = decided-sits p front row true n e.0 (front_rest p.front.rest).count is (p.nodes n).row refl
   by-stage front row (stage.Closed last) is = tt
 
   by-row : (o : Option FrontRow) → p.front.row ≡ o → Sits p (seat_by p.front p.nodes o)
@@ -77,7 +77,7 @@ seat-sits p = by-row p.front.row refl where
 -- ---- a connection that a node has
 
 pub here-seat : (p : Part) (told : Bool) (n e : ℕ) (b : ControlBlock) → IsHere p told n e b → seat_of p ≡ Here told n e b (staying_of (p.nodes n))
-here-seat p told n e b h = seat-with p n e told h.front h.row h.with_ ∙ away-here told n e (rest_of p.front.rest).count (p.nodes n) b h.there
+here-seat p told n e b h = seat-with p n e told h.front h.row h.with_ ∙ away-here told n e (front_rest p.front.rest).count (p.nodes n) b h.there
 
 self : (n : ℕ) → (n == n) ≡ true
 self n = grind (arith, nat_tests)
@@ -101,13 +101,13 @@ both-here q e b s is = by-row q.row refl is where
       let two : u ≡ s = ap (λ (o : Option (ControlBlock × Stay)). elim o [ None ↦ u | Some z ↦ z.1 ]) f in
       (r ∙ (λ i. Some (record { stage = (g ∙ ap back.Here one) i; epoch = record { 0 = same i } })), h ∙ ap (λ (z : Stay). Some z) two)
 
-  by-stage : (row : BackRow) → q.row ≡ Some row → row.epoch.0 ≡ e → (z : BackConn) → row.stage ≡ z → both_of (held_in z) q.stay ≡ Some (b, s) → Both q e b s
+  by-stage : (row : BackRow) → q.row ≡ Some row → row.epoch.0 ≡ e → (z : BackConn) → row.stage ≡ z → both_of (back_held z) q.stay ≡ Some (b, s) → Both q e b s
   by-stage row r same (back.Here d) g f = by-stay row d r same g q.stay refl f
   by-stage row r same back.Out g f = absurd (let bad : None ≡ Some (b, s) = f in cc)
   by-stage row r same back.Ended g f = absurd (let bad : None ≡ Some (b, s) = f in cc)
   by-stage row r same back.Gone g f = absurd (let bad : None ≡ Some (b, s) = f in cc)
 
-  by-epoch : (row : BackRow) → q.row ≡ Some row → (t : Bool) → (row.epoch.0 == e) ≡ t → both_of (cond t (held_in row.stage) None) q.stay ≡ Some (b, s) → Both q e b s
+  by-epoch : (row : BackRow) → q.row ≡ Some row → (t : Bool) → (row.epoch.0 == e) ≡ t → both_of (cond t (back_held row.stage) None) q.stay ≡ Some (b, s) → Both q e b s
   by-epoch row r true same f = by-stage row r (eqb-true row.epoch.0 e same) row.stage refl f
   by-epoch row r false same f = absurd (let bad : None ≡ Some (b, s) = f in cc)
 

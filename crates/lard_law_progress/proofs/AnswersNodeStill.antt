@@ -7,16 +7,16 @@ use Rattle.lard_answers.specs.Answers.{FilesAt}
 use Rattle.lard_base.specs.declared.place.Place.{Place}
 use Rattle.lard_base.specs.declared.place.TimerKind.TheVariants as kind
 use Rattle.lard_bound.specs.Seats.{Here, seat_of, stay_of, staying_of}
-use Rattle.lard_bound.specs.Spots.{AtNode, Awaits, Ends, Left, Post, Spot, awaits_of, ends_of, post_of, spot_of}
+use Rattle.lard_bound.specs.Spots.{AtNode, Awaits, EndpointSymbols, Left, Post, Spot, awaits_of, ends_of, post_of, spot_of}
 use Rattle.lard_client.specs.Control.{ClientBlock}
 use Rattle.lard_law_view.specs.View.{Part, with_node}
 use Rattle.lard_endpoint.specs.Control.{ControlBlock}
 use Rattle.lard_endpoint.specs.declared.control.moving.Final.{Final}
-use Rattle.lard_rules.specs.Front.{rest_of}
+use Rattle.lard_rules.specs.Front.{front_rest}
 use Rattle.lard_rules.specs.declared.stay.Asked.{Asked}
 use Rattle.lard_rules.specs.declared.stay.Stay.{Stay}
 use Rattle.lard_rules.specs.declared.stay.Want.{Want}
-use Rattle.lard_rules.specs.Node.{NodePart, asked_kept, asked_sent, ended_sent, kept_after, rests, wants_kept, wants_sent, work_of}
+use Rattle.lard_rules.specs.Node.{NodePart, asked_kept, asked_sent, ended_sent, kept_after, node_rests, wants_kept, wants_sent, work_of}
 use Rattle.lard_rules.specs.Stay.{NodeEnv, Work, came_for, come_progress, goes_on, tagged}
 use Rattle.lard_law_progress.proofs.AnswersNodeAsks.{Asks, goes-asks}
 use Rattle.lard_law_progress.proofs.AnswersNodeSeats.{IsHere, here-seat}
@@ -27,11 +27,11 @@ use Rattle.lard_resend.specs.Kept.{is_under, without}
 use Rattle.lard_rules.specs.declared.places.Ending.{Ending}
 use Rattle.lard_rules.specs.declared.places.Ending.TheVariants as ending
 use Rattle.lard_rules.specs.declared.places.Station.{Station}
-use Rattle.lard_rules.specs.Serving.{settled}
+use Rattle.lard_rules.specs.Serving.{serving_settled}
 use Rattle.lard_rules.specs.Speaking.{speaks}
 
 -- what a post has of a node's stay
-abbrev pub ends_or : Ends → Post → Ends
+abbrev pub ends_or : EndpointSymbols → Post → EndpointSymbols
 ends_or z (AtNode told n e ends a) = ends
 ends_or z _ = z
 
@@ -57,7 +57,7 @@ module _ (files : FilesAt) (p : Part) (st : Station) (told : Bool) (n : ℕ) (b 
 
     pub record Still : Type 0 where
       pub none : w.service.over ≡ None
-      pub ends_here : (settled env.serve w.service).0 ≡ ending.Here left_here w.service.count
+      pub ends_here : (serving_settled env.serve w.service).0 ≡ ending.Here left_here w.service.count
       pub ends : ends_of x left_here ≡ ends_of x b
       pub awaits : awaits_of files (staying_of (kept_after env pp w (ending.Here left_here w.service.count))) ≡ awaits_of files (staying_of q)
 
@@ -70,19 +70,19 @@ module _ (files : FilesAt) (p : Part) (st : Station) (told : Bool) (n : ℕ) (b 
     here-post : (d : ControlBlock) (count : ℕ) → post_of files x (seat_of (put (ending.Here d count))) ≡ AtNode told n env.epoch (ends_of x d) (awaits_of files (staying_of (kept_after env pp w (ending.Here d count))))
     here-post d count =
         let after = kept_after env pp w (ending.Here d count) in
-        ap (post_of files x) (seat-put p n env.epoch told h.front after h.row h.with_ ∙ away-here told n env.epoch (rest_of p.front.rest).count after d refl)
+        ap (post_of files x) (seat-put p n env.epoch told h.front after h.row h.with_ ∙ away-here told n env.epoch (front_rest p.front.rest).count after d refl)
 
     over-post : (last : Final) → post_of files x (seat_of (put (ending.Over last))) ≡ Left told n env.epoch
     over-post last =
         let after = kept_after env pp w (ending.Over last) in
-        ap (post_of files x) (seat-put p n env.epoch told h.front after h.row h.with_ ∙ away-ended told n env.epoch (rest_of p.front.rest).count after refl)
+        ap (post_of files x) (seat-put p n env.epoch told h.front after h.row h.with_ ∙ away-ended told n env.epoch (front_rest p.front.rest).count after refl)
 
-    pub still : spot_of files (with_node p n (rests env pp before w).0) st ≡ spot_of files p st → Still
+    pub still : spot_of files (with_node p n (node_rests env pp before w).0) st ≡ spot_of files p st → Still
     still same =
         let was : IsPost (post_of files x (seat_of p)) = ap (post_of files x) (here-seat p told n env.epoch b h) in
-        let now : IsPost (post_of files x (seat_of (put (settled env.serve w.service).0))) =
-        sym (post-is files (put (settled env.serve w.service).0) st) ∙ ap (λ (s : Spot). s.post) same ∙ post-is files p st ∙ was in
-        by-ending env.serve w.service (λ o. (settled env.serve w.service).0 ≡ o → IsPost (post_of files x (seat_of (put o))) → Still)
+        let now : IsPost (post_of files x (seat_of (put (serving_settled env.serve w.service).0))) =
+        sym (post-is files (put (serving_settled env.serve w.service).0) st) ∙ ap (λ (s : Spot). s.post) same ∙ post-is files p st ∙ was in
+        by-ending env.serve w.service (λ o. (serving_settled env.serve w.service).0 ≡ o → IsPost (post_of files x (seat_of (put o))) → Still)
         (λ none is post.
         let d = left_here in
         let both = sym (here-post d w.service.count) ∙ post in
@@ -91,10 +91,10 @@ module _ (files : FilesAt) (p : Part) (st : Station) (told : Bool) (n : ℕ) (b 
         refl now
 
     -- where it sits then
-    pub still-seat : Still → seat_of (with_node p n (rests env pp before w).0) ≡ Here told n env.epoch left_here (staying_of (kept_after env pp w (ending.Here left_here w.service.count)))
+    pub still-seat : Still → seat_of (with_node p n (node_rests env pp before w).0) ≡ Here told n env.epoch left_here (staying_of (kept_after env pp w (ending.Here left_here w.service.count)))
     still-seat s =
         let after = kept_after env pp w (ending.Here left_here w.service.count) in
-        ap (λ (o : Ending). seat_of (put o)) s.ends_here ∙ seat-put p n env.epoch told h.front after h.row h.with_ ∙ away-here told n env.epoch (rest_of p.front.rest).count after left_here refl
+        ap (λ (o : Ending). seat_of (put o)) s.ends_here ∙ seat-put p n env.epoch told h.front after h.row h.with_ ∙ away-here told n env.epoch (front_rest p.front.rest).count after left_here refl
 
     -- ---- what is sent then
 
@@ -102,11 +102,11 @@ module _ (files : FilesAt) (p : Part) (st : Station) (told : Bool) (n : ℕ) (b 
     pub unasked : (a : Work) → a.asked ≡ None → Asks a w → w.asks ≡ a.asks → w.asked ≡ None
     unasked a none asks same = ⊎_elim (λ (e : w.asked ≡ a.asked). e ∙ none) (λ (l : a.asks < w.asks). absurd (omega (arith, l, same))) asks.asked
 
-    pub no-message : Still → w.asked ≡ None → w.wants ≡ [] → (rests env pp before w).1.messages ≡ before
+    pub no-message : Still → w.asked ≡ None → w.wants ≡ [] → (node_rests env pp before w).1.messages ≡ before
     no-message s asked wants =
         let a : asked_sent env w.asked ≡ [] = ap (asked_sent env) asked in
         let c : wants_sent env w.wants ≡ [] = ap (wants_sent env) wants in
-        let e : ended_sent env w.service.over (settled env.serve w.service).0 ≡ [] = ap (ended_sent env w.service.over) s.ends_here in
+        let e : ended_sent env w.service.over (serving_settled env.serve w.service).0 ≡ [] = ap (ended_sent env w.service.over) s.ends_here in
         (λ i. ((before ++ a i) ++ c i) ++ e i) ∙ append-nil ((before ++ []) ++ []) ∙ append-nil (before ++ []) ∙ append-nil before
 
   -- ---- what comes for a request

@@ -4,15 +4,15 @@ use Rattle.std.proofs.lemmas.Bool.{cases_lt}
 use Rattle.std.proofs.Common.{◌≡◌, ◌<◌, ◌≤◌, ◌⊎◌, ◌+◌, ◌*◌, ◌==◌, ℕ, Bool, true, false, cond, List, is_some, Option, ⊎_elim, refl, sym, ap, ◌∙◌, arith}
 use Rattle.lard_answers.specs.Answers.{FilesAt}
 use Rattle.lard_base.specs.declared.place.Place.{Place}
-use Rattle.lard_bound.specs.Seats.{Here, Seat, Staying, seat_of, staying_of, tells_end}
-use Rattle.lard_bound.specs.Spots.{Ends}
+use Rattle.lard_bound.specs.Seats.{Here, SeatNow, Staying, seat_of, staying_of, tells_end}
+use Rattle.lard_bound.specs.Spots.{EndpointSymbols}
 use Rattle.lard_bound.specs.Units.{Whole, client_left, heard_left, is_stale, left_with, one_if_not, requests_left, seat_left, tellers}
 use Rattle.lard_client.specs.Control.{ClientBlock}
 use Rattle.lard_law_view.specs.View.{Part, with_node}
 use Rattle.lard_endpoint.specs.Control.{ControlBlock}
-use Rattle.lard_rules.specs.Front.{rest_of}
+use Rattle.lard_rules.specs.Front.{front_rest}
 use Rattle.lard_handoff_back.specs.declared.row.BackRow.{BackRow}
-use Rattle.lard_rules.specs.Node.{NodePart, kept_after, rests}
+use Rattle.lard_rules.specs.Node.{NodePart, kept_after, node_rests}
 use Rattle.lard_rules.specs.Stay.{NodeEnv, Work, goes_on}
 use Rattle.lard_law_progress.proofs.AnswersNodeSeats.{IsHere, here-seat}
 use Rattle.lard_law_progress.proofs.AnswersNodeStill.{Still, left_here}
@@ -56,30 +56,30 @@ module _ (k : Whole) (K : ℕ) (files : FilesAt) (p : Part) (st : Station) (told
   abbrev p' : Part
   p' = with_node p n after
 
-  abbrev left_by : Seat → ℕ → ℕ
+  abbrev left_by : SeatNow → ℕ → ℕ
   left_by z t = client_left k x + heard_left k x z + (seat_left k x z + t) + requests_left k z
 
   was : left_with k K p st ≡ left_by (Here told n env.epoch b s) (tellers p.nodes K)
-  was = ap (λ (z : Seat). left_by z (tellers p.nodes K)) (here-seat p told n env.epoch b h ∙ ap (Here told n env.epoch b) (sym s_is))
+  was = ap (λ (z : SeatNow). left_by z (tellers p.nodes K)) (here-seat p told n env.epoch b h ∙ ap (Here told n env.epoch b) (sym s_is))
 
   now : left_with k K p' st ≡ left_by (Here told n env.epoch d (staying_of after)) (tellers p.nodes K)
   now =
-      let seat : seat_of p' ≡ Here told n env.epoch d (staying_of after) = seat-put p n env.epoch told h.front after h.row h.with_ ∙ away-here told n env.epoch (rest_of p.front.rest).count after d refl in
+      let seat : seat_of p' ≡ Here told n env.epoch d (staying_of after) = seat-put p n env.epoch told h.front after h.row h.with_ ∙ away-here told n env.epoch (front_rest p.front.rest).count after d refl in
       let quiet : tells after ≡ tells (p.nodes n) = sym (ap (λ (o : Option BackRow). cond (is_some (tells_end o)) 1 0) h.there) in
       let same : tellers p'.nodes K ≡ tellers p.nodes K = tellers-same p.nodes n after quiet K in
-      ap (λ (z : Seat). left_by z (tellers p'.nodes K)) seat ∙ ap (left_by (Here told n env.epoch d (staying_of after))) same
+      ap (λ (z : SeatNow). left_by z (tellers p'.nodes K)) seat ∙ ap (left_by (Here told n env.epoch d (staying_of after))) same
 
-  here-part : IsStill → (rests env pp before w).0 ≡ after
+  here-part : IsStill → (node_rests env pp before w).0 ≡ after
   here-part still = ap (kept_after env pp w) still.ends_here
 
-  pub unmoved : IsStill → Begun → read_of w ≤ k.requests → left_with k K p st ≤ left_with k K (with_node p n (rests env pp before w).0) st → Unmoved
+  pub unmoved : IsStill → Begun → read_of w ≤ k.requests → left_with k K p st ≤ left_with k K (with_node p n (node_rests env pp before w).0) st → Unmoved
   unmoved still begun few up0 =
-      let up : left_with k K p st ≤ left_with k K p' st = let e : left_with k K (with_node p n (rests env pp before w).0) st ≡ left_with k K p' st = ap (λ (q : NodePart). left_with k K (with_node p n q) st) (here-part still) in omega (arith, up0, e) in
+      let up : left_with k K p st ≤ left_with k K p' st = let e : left_with k K (with_node p n (node_rests env pp before w).0) st ≡ left_with k K p' st = ap (λ (q : NodePart). left_with k K (with_node p n q) st) (here-part still) in omega (arith, up0, e) in
       let o = goes-onward env pp.kept pp.fetches w0 in
       let said : IsSaid w.service.block d = speaks-said env.serve.c w.service.block in
       let a = was in
       let c = now in
-      let una : d.send.una ≡ b.send.una = ap (λ (e : Ends). e.una) still.ends in
+      let una : d.send.una ≡ b.send.una = ap (λ (e : EndpointSymbols). e.una) still.ends in
       let shut : b.send.finished ≡ true → d.send.finished ≡ true = λ e. said.finished ∙ o.shut (begun.shut ∙ e) in
       let f = not-less b.send.finished d.send.finished shut in
       let t1 : is_stale x d ≡ is_stale x w0.service.block = ap (λ z. one_if_not (z == x.wnd)) (said.wnd ∙ o.wnd) in

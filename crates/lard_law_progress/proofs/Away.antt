@@ -4,24 +4,24 @@ use Rattle.std.proofs.lemmas.Bool.{cond_both, cond-true, eqb-true}
 use Rattle.std.proofs.lemmas.Bool.Decides.{nat_tests}
 use Rattle.lard_answers.specs.Answers.{FilesAt}
 use Rattle.lard_base.specs.declared.place.Place.{Place}
-use Rattle.lard_bound.specs.Seats.{Gone, Here, Offered, Seat, Staying, seat_away, seat_by, seat_decided, seat_in, seat_of, staying_of, tells_end}
-use Rattle.lard_bound.specs.Spots.{AtNode, awaited_in, ends_of, post_of, spot_of}
-use Rattle.lard_bound.specs.Units.{Whole, block_left, client_left, ended_left, heard_left, is_stale, left_with, one_if_not, requests_left, seat_left, stay_left, taken, tellers}
+use Rattle.lard_bound.specs.Seats.{Gone, Here, Offered, SeatNow, Staying, seat_away, seat_by, seat_decided, seat_in, seat_of, staying_of, tells_end}
+use Rattle.lard_bound.specs.Spots.{AtNode, number_awaited, ends_of, post_of, spot_of}
+use Rattle.lard_bound.specs.Units.{Whole, block_left, client_left, ended_left, heard_left, is_stale, left_with, one_if_not, requests_left, seat_left, stay_left, symbols_taken, tellers}
 use Rattle.lard_client.specs.Control.{ClientBlock}
 use Rattle.lard_client.specs.declared.phase.Phase.{Phase}
 use Rattle.lard_client.specs.declared.phase.Phase.TheVariants as phase
-use Rattle.lard_law_view.specs.View.{Part, node_put, with_node}
+use Rattle.lard_law_view.specs.View.{Part, node_put_back, with_node}
 use Rattle.lard_endpoint.specs.Control.{ControlBlock}
 use Rattle.lard_base.specs.declared.place.Reason.TheVariants.{Limit}
 use Rattle.lard_endpoint.specs.declared.control.moving.Final.{Final}
 use Rattle.lard_endpoint.specs.Moving.{end_reason, final_of, may_end}
-use Rattle.lard_rules.specs.Front.{rest_of}
+use Rattle.lard_rules.specs.Front.{front_rest}
 use Rattle.lard_handoff_back.specs.declared.row.BackConn.TheVariants as back
 use Rattle.lard_handoff_back.specs.declared.row.BackRow.{BackRow}
 use Rattle.lard_handoff_front.specs.declared.row.FrontConn.{FrontConn}
 use Rattle.lard_handoff_front.specs.declared.row.FrontConn.TheVariants as stage
 use Rattle.lard_handoff_front.specs.declared.row.FrontRow.{FrontRow}
-use Rattle.lard_rules.specs.Node.{NodePart, asked_kept, kept_after, rests, wants_kept}
+use Rattle.lard_rules.specs.Node.{NodePart, asked_kept, kept_after, node_rests, wants_kept}
 use Rattle.lard_rules.specs.Stay.{NodeEnv, Work, named_paths}
 use Rattle.lard_law_progress.proofs.Ends.{IsSaid, speaks-said}
 use Rattle.lard_law_progress.proofs.Less.{Lasting}
@@ -33,7 +33,7 @@ use Rattle.lard_rules.specs.declared.places.Ending.{Ending}
 use Rattle.lard_rules.specs.declared.places.Ending.TheVariants as ending
 use Rattle.lard_rules.specs.declared.places.Station.{Station}
 use Rattle.lard_rules.specs.declared.places.Turn.{Turn}
-use Rattle.lard_rules.specs.Serving.{ServeEnv, Service, cut_off, settled, spoken}
+use Rattle.lard_rules.specs.Serving.{ServeEnv, Service, cut_off, serving_settled, spoken}
 use Rattle.lard_rules.specs.Speaking.{speaks, speaks_symbols}
 use Rattle.lard_send.specs.Send.{symbols}
 use Rattle.lard_seq.specs.Seq.{one_if}
@@ -48,17 +48,17 @@ abbrev pub IsWith : Bool → ℕ → ℕ → FrontConn → Type 0
 IsWith false n e c = c ≡ stage.Offering n (record { 0 = e })
 IsWith true n e c = c ≡ stage.Moved n (record { 0 = e })
 
-pub put-there : (nodes : ℕ → NodePart) (n : ℕ) (q : NodePart) → node_put nodes n q n ≡ q
+pub put-there : (nodes : ℕ → NodePart) (n : ℕ) (q : NodePart) → node_put_back nodes n q n ≡ q
 put-there nodes n q = cond-true (n == n) q (nodes n) (self n)
 
-pub seat-with : (p : Part) (n e : ℕ) (told : Bool) (row : FrontRow) → p.front.row ≡ Some row → IsWith told n e row.stage → seat_of p ≡ seat_away told n e (rest_of p.front.rest).count (p.nodes n)
+pub seat-with : (p : Part) (n e : ℕ) (told : Bool) (row : FrontRow) → p.front.row ≡ Some row → IsWith told n e row.stage → seat_of p ≡ seat_away told n e (front_rest p.front.rest).count (p.nodes n)
 unfolding seat_of
 seat-with p n e false row front with_ = ap (λ (o : Option FrontRow). seat_by p.front p.nodes o) front ∙ ap (seat_in p.front p.nodes) with_
 seat-with p n e true row front with_ = ap (λ (o : Option FrontRow). seat_by p.front p.nodes o) front ∙ ap (seat_in p.front p.nodes) with_
 
 pub seat-put : (p : Part) (n e : ℕ) (told : Bool) (row : FrontRow) (q : NodePart) → p.front.row ≡ Some row → IsWith told n e row.stage
-    → seat_of (with_node p n q) ≡ seat_away told n e (rest_of p.front.rest).count q
-seat-put p n e told row q front with_ = seat-with (with_node p n q) n e told row front with_ ∙ ap (seat_away told n e (rest_of p.front.rest).count) (put-there p.nodes n q)
+    → seat_of (with_node p n q) ≡ seat_away told n e (front_rest p.front.rest).count q
+seat-put p n e told row q front with_ = seat-with (with_node p n q) n e told row front with_ ∙ ap (seat_away told n e (front_rest p.front.rest).count) (put-there p.nodes n q)
 
 pub away-here : (told : Bool) (n e count : ℕ) (q : NodePart) (b : ControlBlock) → q.row ≡ Some (record { stage = back.Here b; epoch = record { 0 = e } }) → seat_away told n e count q ≡ Here told n e b (staying_of q)
 away-here told n e count q b is = ap (seat_decided told n e count q) is ∙ cond-true (e == e) (Here told n e b (staying_of q)) (Offered n e count) (self e)
@@ -72,35 +72,35 @@ abbrev pub tells : NodePart → ℕ
 tells q = cond (is_some (tells_end q.row)) 1 0
 
 -- one more at the most, and where the node told as much before, none
-pub tellers-put : (nodes : ℕ → NodePart) (n : ℕ) (q : NodePart) (m : ℕ) → tellers (node_put nodes n q) m ≤ tellers nodes m + tells q
+pub tellers-put : (nodes : ℕ → NodePart) (n : ℕ) (q : NodePart) (m : ℕ) → tellers (node_put_back nodes n q) m ≤ tellers nodes m + tells q
 tellers-put nodes n q zero = omega arith
 tellers-put nodes n q (suc m) = go (suc m == n) refl (tellers-put nodes n q m) where
-  below : (nodes : ℕ → NodePart) (n : ℕ) (q : NodePart) (m k : ℕ) → k < n → k ≤ m → tellers (node_put nodes n q) k ≡ tellers nodes k
+  below : (nodes : ℕ → NodePart) (n : ℕ) (q : NodePart) (m k : ℕ) → k < n → k ≤ m → tellers (node_put_back nodes n q) k ≡ tellers nodes k
   below nodes n q m zero low in_ = refl
   below nodes n q m (suc k) low in_ =
       let other : (suc k == n) ≡ false = apart (suc k) n low in
-      let rest : tellers (node_put nodes n q) k ≡ tellers nodes k = below nodes n q m k (omega arith) (omega arith) in
+      let rest : tellers (node_put_back nodes n q) k ≡ tellers nodes k = below nodes n q m k (omega arith) (omega arith) in
       let one : tells (cond (suc k == n) q (nodes (suc k))) ≡ tells (nodes (suc k)) = ap (λ (b : Bool). tells (cond b q (nodes (suc k)))) other in
       omega (arith, rest, one)
     where
       apart : (a b : ℕ) → a < b → (a == b) ≡ false
       apart a b l = grind (arith, nat_tests, l)
 
-  go : (b : Bool) → (suc m == n) ≡ b → tellers (node_put nodes n q) m ≤ tellers nodes m + tells q → tells (cond b q (nodes (suc m))) + tellers (node_put nodes n q) m ≤ (tells (nodes (suc m)) + tellers nodes m) + tells q
-  go true e h = let same : tellers (node_put nodes n q) m ≡ tellers nodes m = below nodes n q m m (let is : suc m ≡ n = eqb-true (suc m) n e in omega arith) (omega arith) in omega (arith, same)
+  go : (b : Bool) → (suc m == n) ≡ b → tellers (node_put_back nodes n q) m ≤ tellers nodes m + tells q → tells (cond b q (nodes (suc m))) + tellers (node_put_back nodes n q) m ≤ (tells (nodes (suc m)) + tellers nodes m) + tells q
+  go true e h = let same : tellers (node_put_back nodes n q) m ≡ tellers nodes m = below nodes n q m m (let is : suc m ≡ n = eqb-true (suc m) n e in omega arith) (omega arith) in omega (arith, same)
   go false e h = omega (arith, h)
 
-pub tellers-same : (nodes : ℕ → NodePart) (n : ℕ) (q : NodePart) → tells q ≡ tells (nodes n) → (m : ℕ) → tellers (node_put nodes n q) m ≡ tellers nodes m
+pub tellers-same : (nodes : ℕ → NodePart) (n : ℕ) (q : NodePart) → tells q ≡ tells (nodes n) → (m : ℕ) → tellers (node_put_back nodes n q) m ≡ tellers nodes m
 tellers-same nodes n q e zero = refl
 tellers-same nodes n q e (suc m) = go (suc m == n) refl (tellers-same nodes n q e m) where
-  go : (b : Bool) → (suc m == n) ≡ b → tellers (node_put nodes n q) m ≡ tellers nodes m → tells (cond b q (nodes (suc m))) + tellers (node_put nodes n q) m ≡ tells (nodes (suc m)) + tellers nodes m
+  go : (b : Bool) → (suc m == n) ≡ b → tellers (node_put_back nodes n q) m ≡ tellers nodes m → tells (cond b q (nodes (suc m))) + tellers (node_put_back nodes n q) m ≡ tells (nodes (suc m)) + tellers nodes m
   go true is h = let same : tells (nodes n) ≡ tells (nodes (suc m)) = ap (λ z. tells (nodes z)) (sym (eqb-true (suc m) n is)) in omega (arith, h, e, same)
   go false is h = omega (arith, h)
 
 -- ---- the end of a turn
 
 -- the endpoint said what it may and is still here, or it ended
-pub by-ending : (env : ServeEnv) (w : Service) (P : Ending → Type 0) → (w.over ≡ None → P (ending.Here (speaks env.c w.block).1 w.count)) → ((last : Final) → P (ending.Over last)) → P (settled env w).0
+pub by-ending : (env : ServeEnv) (w : Service) (P : Ending → Type 0) → (w.over ≡ None → P (ending.Here (speaks env.c w.block).1 w.count)) → ((last : Final) → P (ending.Over last)) → P (serving_settled env w).0
 by-ending env w P here over = go w.over refl where
   go : (o : Option ℕ) → w.over ≡ o → P (elim o as (λ t. Ending × Turn) [ None ↦ spoken env w [] | Some total ↦ cut_off env w ]).0
   go None e =
@@ -132,7 +132,7 @@ stay-same k r r' c c' up in_ cheap = omega arith
 
 module _ (k : Whole) (K : ℕ) (files : FilesAt) (p : Part) (st : Station) (n : ℕ) (told : Bool) (row : FrontRow) (b : ControlBlock) (env : NodeEnv)
     (front : p.front.row ≡ Some row) (with_ : IsWith told n env.epoch row.stage) (here : (p.nodes n).row ≡ Some (record { stage = back.Here b; epoch = record { 0 = env.epoch } }))
-    (una : b.send.una ≤ taken st.client) where
+    (una : b.send.una ≤ symbols_taken st.client) where
   abbrev x : ClientBlock
   x = st.client
 
@@ -140,23 +140,23 @@ module _ (k : Whole) (K : ℕ) (files : FilesAt) (p : Part) (st : Station) (n : 
   s = staying_of (p.nodes n)
 
   abbrev at : ℕ
-  at = (rest_of p.front.rest).count
+  at = (front_rest p.front.rest).count
 
   seat-is : seat_of p ≡ Here told n env.epoch b s
   seat-is = seat-with p n env.epoch told row front with_ ∙ away-here told n env.epoch at (p.nodes n) b here
 
-  abbrev left_by : Seat → ℕ → ℕ
+  abbrev left_by : SeatNow → ℕ → ℕ
   left_by seat t = client_left k x + heard_left k x seat + (seat_left k x seat + t) + requests_left k seat
 
   abbrev pub IsLess : Part → Type 0
   IsLess p' = Lasting k K files p st p' st
 
   was : left_with k K p st ≡ left_by (Here told n env.epoch b s) (tellers p.nodes K)
-  was = ap (λ (z : Seat). left_by z (tellers p.nodes K)) seat-is
+  was = ap (λ (z : SeatNow). left_by z (tellers p.nodes K)) seat-is
 
   ended-less : (ph : Phase) → ended_left k x ph ≤ block_left k x b
-  ended-less phase.Open = let l : b.send.una ≤ taken x = una in omega arith
-  ended-less phase.Aborted = let l : b.send.una ≤ taken x = una in omega arith
+  ended-less phase.Open = let l : b.send.una ≤ symbols_taken x = una in omega arith
+  ended-less phase.Aborted = let l : b.send.una ≤ symbols_taken x = una in omega arith
   ended-less phase.Reset = omega arith
 
   -- it ended: a unit goes
@@ -164,7 +164,7 @@ module _ (k : Whole) (K : ℕ) (files : FilesAt) (p : Part) (st : Station) (n : 
   ends-less q is =
       let p' = with_node p n q in
       let seat : seat_of p' ≡ Gone told n env.epoch = seat-put p n env.epoch told row q front with_ ∙ away-ended told n env.epoch at q is in
-      let now : left_with k K p' st ≡ left_by (Gone told n env.epoch) (tellers p'.nodes K) = ap (λ (z : Seat). left_by z (tellers p'.nodes K)) seat in
+      let now : left_with k K p' st ≡ left_by (Gone told n env.epoch) (tellers p'.nodes K) = ap (λ (z : SeatNow). left_by z (tellers p'.nodes K)) seat in
       let more = tellers-put p.nodes n q K in
       let one = tells-one q in
       let heard = ended-less x.phase in
@@ -176,8 +176,8 @@ module _ (k : Whole) (K : ℕ) (files : FilesAt) (p : Part) (st : Station) (n : 
 
   -- what holds of a connection that is still there
   pub record Fits (d : ControlBlock) (w : Work) : Type 0 where
-    pub acked : d.send.una ≤ taken x
-    pub taken_in : taken x ≤ k.answers + 2
+    pub acked : d.send.una ≤ symbols_taken x
+    pub taken_in : symbols_taken x ≤ k.answers + 2
     pub few : read_of w ≤ k.requests
 
   module _ (kept fetches : List Kept) (w : Work) (works : Works x env b s kept fetches w) where
@@ -198,15 +198,15 @@ module _ (k : Whole) (K : ℕ) (files : FilesAt) (p : Part) (st : Station) (n : 
     same-spot d said seat quiet u fin h =
         let q = q_of d w.service.count in
         let total : d.send.total ≡ b.send.total = said.ahead.total ∙ h.total in
-        let waits : awaited_in d x.phase ≡ awaited_in b x.phase = awaited-same x env x.phase w.service.block d (ap awaited said.recv) ∙ h.awaits in
+        let waits : number_awaited d x.phase ≡ number_awaited b x.phase = awaited-same x env x.phase w.service.block d (ap awaited said.recv) ∙ h.awaits in
         let ends : ends_of x d ≡ ends_of x b = λ i. record { una = u i; symbols = 1 + total i + one_if (fin i); awaited = waits i } in
         let now : post_of files x (Here told n env.epoch d (staying_of q)) ≡ post_of files x (Here told n env.epoch b s) =
         λ i. AtNode told n env.epoch (ends i) (record { asks = h.asks i; named = length (named_paths files (h.batch i)); kept = h.kept_is i; fetches = h.fetches_are i }) in
         let post : post_of files x (seat_of (with_node p n q)) ≡ post_of files x (seat_of p) = ap (post_of files x) seat ∙ now ∙ sym (ap (post_of files x) seat-is) in
-        let tell : (z : ℕ) → tells_end (node_put p.nodes n q z).row ≡ tells_end (p.nodes z).row = told-same q refl in
+        let tell : (z : ℕ) → tells_end (node_put_back p.nodes n q z).row ≡ tells_end (p.nodes z).row = told-same q refl in
         λ i. record { phase = x.phase; isn = x.send.iss; iss = st.iss; una = x.send.una; last = symbols x.send; post = post i; telling = λ z. tell z i }
       where
-        told-same : (q : NodePart) → tells_end q.row ≡ None → (z : ℕ) → tells_end (node_put p.nodes n q z).row ≡ tells_end (p.nodes z).row
+        told-same : (q : NodePart) → tells_end q.row ≡ None → (z : ℕ) → tells_end (node_put_back p.nodes n q z).row ≡ tells_end (p.nodes z).row
         told-same q e z = go (z == n) refl where
           go : (b : Bool) → (z == n) ≡ b → tells_end (cond b q (p.nodes z)).row ≡ tells_end (p.nodes z).row
           go true is = e ∙ sym (ap (λ (y : ℕ). tells_end (p.nodes y).row) (eqb-true z n is) ∙ ap tells_end here)
@@ -220,12 +220,12 @@ module _ (k : Whole) (K : ℕ) (files : FilesAt) (p : Part) (st : Station) (n : 
         let seat : seat_of p' ≡ Here told n env.epoch d s' = seat-put p n env.epoch told row q front with_ ∙ away-here told n env.epoch at q d refl in
         let quiet : tells q ≡ tells (p.nodes n) = sym (ap (λ (o : Option BackRow). cond (is_some (tells_end o)) 1 0) here) in
         let same : tellers p'.nodes K ≡ tellers p.nodes K = tellers-same p.nodes n q quiet K in
-        let now : left_with k K p' st ≡ left_by (Here told n env.epoch d s') (tellers p'.nodes K) = ap (λ (z : Seat). left_by z (tellers p'.nodes K)) seat in
+        let now : left_with k K p' st ≡ left_by (Here told n env.epoch d s') (tellers p'.nodes K) = ap (λ (z : SeatNow). left_by z (tellers p'.nodes K)) seat in
         let w0 = was in
         let u1 : d.send.una ≡ w.service.block.send.una = said.una in
         let u2 : b.send.una ≤ w.service.block.send.una = works.una in
-        let u3 : d.send.una ≤ taken x = fits.acked in
-        let u4 : taken x ≤ k.answers + 2 = fits.taken_in in
+        let u3 : d.send.una ≤ symbols_taken x = fits.acked in
+        let u4 : symbols_taken x ≤ k.answers + 2 = fits.taken_in in
         let shut : b.send.finished ≡ true → d.send.finished ≡ true = λ e. said.finished ∙ works.shut e in
         let f1 = not-less b.send.finished d.send.finished shut in
         let t1 : is_stale x d ≡ is_stale x w.service.block = ap (λ z. one_if_not (z == x.wnd)) said.wnd in
@@ -250,8 +250,8 @@ module _ (k : Whole) (K : ℕ) (files : FilesAt) (p : Part) (st : Station) (n : 
         }
 
     -- and the whole turn
-    pub turn-less : (before : List (Place × List ℕ)) (pp : NodePart) → pp.kept ≡ kept → pp.fetches ≡ fetches → ((d : ControlBlock) (count : ℕ) → (settled env.serve w.service).0 ≡ ending.Here d count → Fits d w)
-        → IsLess (with_node p n (rests env pp before w).0)
+    pub turn-less : (before : List (Place × List ℕ)) (pp : NodePart) → pp.kept ≡ kept → pp.fetches ≡ fetches → ((d : ControlBlock) (count : ℕ) → (serving_settled env.serve w.service).0 ≡ ending.Here d count → Fits d w)
+        → IsLess (with_node p n (node_rests env pp before w).0)
     turn-less before pp ks fs fits =
         let E : Ending → Type 0 = λ o. ((d : ControlBlock) (count : ℕ) → o ≡ ending.Here d count → Fits d w) → IsLess (with_node p n (kept_after env pp w o)) in
         by-ending env.serve w.service E

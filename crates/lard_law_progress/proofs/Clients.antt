@@ -4,15 +4,15 @@ use Rattle.std.proofs.lemmas.Bool.{cond_both}
 use Rattle.std.proofs.lemmas.Bool.Decides.{nat_tests}
 use Rattle.lard_answers.specs.Answers.{FilesAt}
 use Rattle.lard_arrival.specs.Arrival.{bare, is_acceptable, is_allowed}
-use Rattle.lard_bound.specs.Seats.{Gone, Held, Here, Offered, Over, Seat, Unborn, Waiting, seat_of, tells_end}
-use Rattle.lard_bound.specs.Spots.{AtFront, AtNode, Ended, awaited_in, awaits_of, post_of, spot_of}
-use Rattle.lard_bound.specs.Units.{Whole, client_left, ended_left, hand_off, heard_left, left_with, one_if_not, requests_left, seat_left, spoken_left, taken, tellers}
-use Rattle.lard_client.specs.Arriving.{accepting, answers_syn, arrived, begins_after, ends, established, fresh_len, heard_in, nothing, on_ack, on_fresh, on_greeting, on_rst, on_segment, on_syn, on_text, on_unacceptable, owing, part_of, reset_by_peer}
-use Rattle.lard_client.specs.Control.{ClientBlock, is_open, rcv_nxt, rcv_wnd}
+use Rattle.lard_bound.specs.Seats.{Gone, Held, Here, Offered, Over, SeatNow, Unborn, Waiting, seat_of, tells_end}
+use Rattle.lard_bound.specs.Spots.{AtFront, AtNode, Ended, number_awaited, awaits_of, post_of, spot_of}
+use Rattle.lard_bound.specs.Units.{Whole, client_left, ended_left, hand_off, heard_left, left_with, one_if_not, requests_left, seat_left, spoken_left, symbols_taken, tellers}
+use Rattle.lard_client.specs.Arriving.{accepting, answers_syn, client_arrived, client_begins_after, client_ends, established, fresh_len, heard_in, heard_nothing, client_on_ack, on_fresh, on_greeting, client_on_rst, client_on_segment, client_on_syn, client_on_text, client_on_unacceptable, client_owing, client_part_of, reset_by_peer}
+use Rattle.lard_client.specs.Control.{ClientBlock, is_client_open, client_rcv_nxt, client_rcv_wnd}
 use Rattle.lard_client.specs.declared.heard.Heard.{Heard}
 use Rattle.lard_client.specs.declared.phase.Phase.{Phase}
 use Rattle.lard_client.specs.declared.phase.Phase.TheVariants.{Open, Aborted, Reset}
-use Rattle.lard_client.specs.Leaving.{after_emit, after_owed, after_piece, after_timer, owes, told}
+use Rattle.lard_client.specs.Leaving.{client_after_emit, client_after_owed, client_after_piece, client_after_timer, client_owes, client_told}
 use Rattle.lard_law_view.specs.View.{Part, with_station}
 use Rattle.lard_law_progress.proofs.Away.{not-less, not-same}
 use Rattle.lard_law_progress.proofs.Ends.{IsAhead, ahead-self, ahead-then, kept-ahead}
@@ -59,12 +59,12 @@ module _ (x : ClientBlock) where
 
   fresh-takes : (y : ClientBlock) (s : Said) → Takes x y → On (on_fresh y s)
   fresh-takes y s h = go y.eof refl where
-    go : (e : Bool) → y.eof ≡ e → On (cond (begins_after y s || e) (nothing, y) (part_of y s, accepting y (fresh_len y s) (ends y s)))
-    go true is = cond_both {A = Heard × ClientBlock} (begins_after y s || true) (nothing, y) (part_of y s, accepting y (fresh_len y s) (ends y s)) On (λ t. h) (λ t. absurd (never (begins_after y s) t)) where
+    go : (e : Bool) → y.eof ≡ e → On (cond (client_begins_after y s || e) (heard_nothing, y) (client_part_of y s, accepting y (fresh_len y s) (client_ends y s)))
+    go true is = cond_both {A = Heard × ClientBlock} (client_begins_after y s || true) (heard_nothing, y) (client_part_of y s, accepting y (fresh_len y s) (client_ends y s)) On (λ t. h) (λ t. absurd (never (client_begins_after y s) t)) where
       never : (b : Bool) → (b || true) ≡ false → ⊥
       never true e = cc
       never false e = cc
-    go false is = cond_both {A = Heard × ClientBlock} (begins_after y s || false) (nothing, y) (part_of y s, accepting y (fresh_len y s) (ends y s)) On (λ t. h)
+    go false is = cond_both {A = Heard × ClientBlock} (client_begins_after y s || false) (heard_nothing, y) (client_part_of y s, accepting y (fresh_len y s) (client_ends y s)) On (λ t. h)
         (λ t. record {
           accepted = let a : x.accepted ≤ y.accepted = h.accepted in omega arith;
           eof = λ e. absurd (let bad : true ≡ false = sym (h.eof e) ∙ is in cc);
@@ -72,44 +72,44 @@ module _ (x : ClientBlock) where
           phase = h.phase;
         })
 
-  text-takes : (y : ClientBlock) (s : Said) → Takes x y → On (on_text y s)
-  text-takes y s h = cond_both {A = Heard × ClientBlock} ((length s.payload == 0) && not s.flags.fin) (nothing, y) (on_fresh (owing y) s) On (λ t. h)
-      (λ t. fresh-takes (owing y) s (record { accepted = h.accepted; eof = h.eof; wnd = h.wnd; phase = h.phase }))
+  text-takes : (y : ClientBlock) (s : Said) → Takes x y → On (client_on_text y s)
+  text-takes y s h = cond_both {A = Heard × ClientBlock} ((length s.payload == 0) && not s.flags.fin) (heard_nothing, y) (on_fresh (client_owing y) s) On (λ t. h)
+      (λ t. fresh-takes (client_owing y) s (record { accepted = h.accepted; eof = h.eof; wnd = h.wnd; phase = h.phase }))
 
-  ack-takes : (y : ClientBlock) (s : Said) → Takes x y → On (on_ack y s)
+  ack-takes : (y : ClientBlock) (s : Said) → Takes x y → On (client_on_ack y s)
   ack-takes y s h =
       let after : ClientBlock = record y { send = after_ack y.send s.ack s.seq s.wnd } in
-      cond_both {A = Heard × ClientBlock} (not s.flags.ack) (nothing, y) (cond (nat_lt y.send.nxt (seq_offset s.ack y.send.iss)) (nothing, owing y) (on_text after s)) On (λ t. h)
-      (λ t. cond_both {A = Heard × ClientBlock} (nat_lt y.send.nxt (seq_offset s.ack y.send.iss)) (nothing, owing y) (on_text after s) On
+      cond_both {A = Heard × ClientBlock} (not s.flags.ack) (heard_nothing, y) (cond (nat_lt y.send.nxt (seq_offset s.ack y.send.iss)) (heard_nothing, client_owing y) (client_on_text after s)) On (λ t. h)
+      (λ t. cond_both {A = Heard × ClientBlock} (nat_lt y.send.nxt (seq_offset s.ack y.send.iss)) (heard_nothing, client_owing y) (client_on_text after s) On
       (λ t. record { accepted = h.accepted; eof = h.eof; wnd = h.wnd; phase = h.phase })
       (λ t. text-takes after s (record { accepted = h.accepted; eof = h.eof; wnd = h.wnd; phase = h.phase })))
 
-  segment-takes : (s : Said) → x.phase ≡ Open → On (on_segment x s)
-  segment-takes s open_ = cond_both {A = Heard × ClientBlock} (is_acceptable (rcv_nxt x) (rcv_wnd x) s) (on_rst x s) (on_unacceptable x s) On
-      (λ t. cond_both {A = Heard × ClientBlock} (not s.flags.rst) (on_syn x s) (cond (s.seq == rcv_nxt x) (nothing, reset_by_peer x) (nothing, owing x)) On
-      (λ t. cond_both {A = Heard × ClientBlock} s.flags.syn (nothing, owing x) (on_ack x s) On (λ t. owed) (λ t. ack-takes x s (takes-self x)))
-      (λ t. cond_both {A = Heard × ClientBlock} (s.seq == rcv_nxt x) (nothing, reset_by_peer x) (nothing, owing x) On
+  segment-takes : (s : Said) → x.phase ≡ Open → On (client_on_segment x s)
+  segment-takes s open_ = cond_both {A = Heard × ClientBlock} (is_acceptable (client_rcv_nxt x) (client_rcv_wnd x) s) (client_on_rst x s) (client_on_unacceptable x s) On
+      (λ t. cond_both {A = Heard × ClientBlock} (not s.flags.rst) (client_on_syn x s) (cond (s.seq == client_rcv_nxt x) (heard_nothing, reset_by_peer x) (heard_nothing, client_owing x)) On
+      (λ t. cond_both {A = Heard × ClientBlock} s.flags.syn (heard_nothing, client_owing x) (client_on_ack x s) On (λ t. owed) (λ t. ack-takes x s (takes-self x)))
+      (λ t. cond_both {A = Heard × ClientBlock} (s.seq == client_rcv_nxt x) (heard_nothing, reset_by_peer x) (heard_nothing, client_owing x) On
       (λ t. record { accepted = omega arith; eof = λ e. e; wnd = refl; phase = inr (open_, refl) }) (λ t. owed)))
-      (λ t. cond_both {A = Heard × ClientBlock} (is_allowed (rcv_nxt x) (rcv_wnd x) s) (on_ack (owing x) (bare s)) (cond s.flags.rst (nothing, x) (nothing, owing x)) On
-      (λ t. ack-takes (owing x) (bare s) owed)
-      (λ t. cond_both {A = Heard × ClientBlock} s.flags.rst (nothing, x) (nothing, owing x) On (λ t. takes-self x) (λ t. owed)))
+      (λ t. cond_both {A = Heard × ClientBlock} (is_allowed (client_rcv_nxt x) (client_rcv_wnd x) s) (client_on_ack (client_owing x) (bare s)) (cond s.flags.rst (heard_nothing, x) (heard_nothing, client_owing x)) On
+      (λ t. ack-takes (client_owing x) (bare s) owed)
+      (λ t. cond_both {A = Heard × ClientBlock} s.flags.rst (heard_nothing, x) (heard_nothing, client_owing x) On (λ t. takes-self x) (λ t. owed)))
     where
-      owed : Takes x (owing x)
+      owed : Takes x (client_owing x)
       owed = record { accepted = omega arith; eof = λ e. e; wnd = refl; phase = inl refl }
 
   greeting-takes : (s : Said) → x.phase ≡ Open → On (on_greeting x s)
-  greeting-takes s open_ = cond_both {A = Heard × ClientBlock} (not (answers_syn x s)) (nothing, x) (cond s.flags.rst (nothing, reset_by_peer x) (cond s.flags.syn (nothing, established x s) (nothing, x))) On (λ t. takes-self x)
-      (λ t. cond_both {A = Heard × ClientBlock} s.flags.rst (nothing, reset_by_peer x) (cond s.flags.syn (nothing, established x s) (nothing, x)) On
+  greeting-takes s open_ = cond_both {A = Heard × ClientBlock} (not (answers_syn x s)) (heard_nothing, x) (cond s.flags.rst (heard_nothing, reset_by_peer x) (cond s.flags.syn (heard_nothing, established x s) (heard_nothing, x))) On (λ t. takes-self x)
+      (λ t. cond_both {A = Heard × ClientBlock} s.flags.rst (heard_nothing, reset_by_peer x) (cond s.flags.syn (heard_nothing, established x s) (heard_nothing, x)) On
       (λ t. record { accepted = omega arith; eof = λ e. e; wnd = refl; phase = inr (open_, refl) })
-      (λ t. cond_both {A = Heard × ClientBlock} s.flags.syn (nothing, established x s) (nothing, x) On
+      (λ t. cond_both {A = Heard × ClientBlock} s.flags.syn (heard_nothing, established x s) (heard_nothing, x) On
       (λ t. record { accepted = omega arith; eof = λ e. e; wnd = refl; phase = inl refl }) (λ t. takes-self x)))
 
   -- and one that is not open takes nothing
-  pub arrived-takes : (s : Said) → Takes x (arrived x s).1 × ((x.phase ≡ Open → ⊥) → (arrived x s).1 ≡ x)
-  unfolding arrived
+  pub arrived-takes : (s : Said) → Takes x (client_arrived x s).1 × ((x.phase ≡ Open → ⊥) → (client_arrived x s).1 ≡ x)
+  unfolding client_arrived
   arrived-takes s = go x.phase refl where
     go : (p : Phase) → x.phase ≡ p → On (heard_in p x s) × ((p ≡ Open → ⊥) → (heard_in p x s).1 ≡ x)
-    go Open is = (cond_both {A = Heard × ClientBlock} (x.send.una == 0) (on_greeting x s) (on_segment x s) On (λ t. greeting-takes s is) (λ t. segment-takes s is), λ no_. absurd (no_ refl))
+    go Open is = (cond_both {A = Heard × ClientBlock} (x.send.una == 0) (on_greeting x s) (client_on_segment x s) On (λ t. greeting-takes s is) (λ t. segment-takes s is), λ no_. absurd (no_ refl))
     go Aborted is = (takes-self x, λ no_. refl)
     go Reset is = (takes-self x, λ no_. refl)
 
@@ -164,25 +164,25 @@ kept-iss n = record {
 next-told : (x : ClientBlock) → ((after_next x.send).una ≡ x.send.una) × ((after_next x.send).finished ≡ x.send.finished) × ((after_next x.send).iss ≡ x.send.iss) → IsTold x (record x { send = after_next x.send })
 next-told x h = record { ahead = (kept-ahead x.send).nexts x.send (ahead-self x.send); una = h.0; finished = h.1; iss = h.2; accepted = refl; eof = refl; wnd = refl; phase = refl }
 
-piece-told : (x y z : ClientBlock) (p : Option Piece) → IsTold x y → IsTold x z → IsTold x (after_piece y p z)
+piece-told : (x y z : ClientBlock) (p : Option Piece) → IsTold x y → IsTold x z → IsTold x (client_after_piece y p z)
 piece-told x y z (Some p) h k = record { ahead = h.ahead; una = h.una; finished = h.finished; iss = h.iss; accepted = h.accepted; eof = h.eof; wnd = h.wnd; phase = h.phase }
 piece-told x y z None h k = k
 
-emit-told : (x : ClientBlock) → IsTold x (after_emit x)
+emit-told : (x : ClientBlock) → IsTold x (client_after_emit x)
 emit-told x =
     let a : IsTold x (record x { send = after_next x.send }) = next-told x (next-same x.send) in
-    let owed : IsTold x (after_owed x) = cond_both (owes x) (told x) x (IsTold x) (λ t. record { ahead = ahead-self x.send; una = refl; finished = refl; iss = refl; accepted = refl; eof = refl; wnd = refl; phase = refl }) (λ t. told-self x) in
-    cond_both (not (is_open x)) x (after_piece (record x { send = after_next x.send }) (next_piece x.send) (after_owed x)) (IsTold x) (λ t. told-self x)
-    (λ t. piece-told x (record x { send = after_next x.send }) (after_owed x) (next_piece x.send) a owed)
+    let owed : IsTold x (client_after_owed x) = cond_both (client_owes x) (client_told x) x (IsTold x) (λ t. record { ahead = ahead-self x.send; una = refl; finished = refl; iss = refl; accepted = refl; eof = refl; wnd = refl; phase = refl }) (λ t. told-self x) in
+    cond_both (not (is_client_open x)) x (client_after_piece (record x { send = after_next x.send }) (next_piece x.send) (client_after_owed x)) (IsTold x) (λ t. told-self x)
+    (λ t. piece-told x (record x { send = after_next x.send }) (client_after_owed x) (next_piece x.send) a owed)
 
 pub speaks-told : (x : ClientBlock) → IsTold x (client_speaks x).1
-speaks-told x = client_keeps (λ y ss z. IsTold y z) (record { rests = told-self; says = λ y r ss z e h. told-then y (after_emit y) z (emit-told y) h }) x
+speaks-told x = client_keeps (λ y ss z. IsTold y z) (record { rests = told-self; says = λ y r ss z e h. told-then y (client_after_emit y) z (emit-told y) h }) x
 
-pub timer-told : (x : ClientBlock) → IsTold x (after_timer x)
+pub timer-told : (x : ClientBlock) → IsTold x (client_after_timer x)
 timer-told x =
     let h = again-same x.send in
     let a : IsTold x (record x { send = after_resend x.send }) = record { ahead = (kept-ahead x.send).resends x.send (ahead-self x.send); una = h.0; finished = h.1; iss = h.2; accepted = refl; eof = refl; wnd = refl; phase = refl } in
-    cond_both (not (is_open x)) x (after_piece (record x { send = after_resend x.send }) (resent_piece x.send) x) (IsTold x) (λ t. told-self x)
+    cond_both (not (is_client_open x)) x (client_after_piece (record x { send = after_resend x.send }) (resent_piece x.send) x) (IsTold x) (λ t. told-self x)
     (λ t. piece-told x (record x { send = after_resend x.send }) x (resent_piece x.send) a (told-self x))
 
 -- ---- the whole turn
@@ -194,9 +194,9 @@ pub record Turned (x y : ClientBlock) : Type 0 where
   pub takes : Takes x y
   pub still : (x.phase ≡ Open → ⊥) → (y.send.una ≡ x.send.una) × (y.send.finished ≡ x.send.finished) × (y.accepted ≡ x.accepted) × (y.eof ≡ x.eof)
 
-pub heard-turned : (x : ClientBlock) (s : Said) → Turned x (client_speaks (arrived x s).1).1
+pub heard-turned : (x : ClientBlock) (s : Said) → Turned x (client_speaks (client_arrived x s).1).1
 heard-turned x s =
-    let y = (arrived x s).1 in
+    let y = (client_arrived x s).1 in
     let z = (client_speaks y).1 in
     let a = arrived-takes x s in
     let t = speaks-told y in
@@ -209,10 +209,10 @@ heard-turned x s =
       still = λ shut. let same = a.1 shut in (t.una ∙ ap (λ (u : ClientBlock). u.send.una) same, t.finished ∙ ap (λ (u : ClientBlock). u.send.finished) same, t.accepted ∙ ap (λ (u : ClientBlock). u.accepted) same, t.eof ∙ ap (λ (u : ClientBlock). u.eof) same);
     }
 
-pub timer-turned : (x : ClientBlock) → Turned x (client_speaks (after_timer x)).1
+pub timer-turned : (x : ClientBlock) → Turned x (client_speaks (client_after_timer x)).1
 timer-turned x =
-    let t = told-then x (after_timer x) (client_speaks (after_timer x)).1 (timer-told x) (speaks-told (after_timer x)) in
-    let z = (client_speaks (after_timer x)).1 in
+    let t = told-then x (client_after_timer x) (client_speaks (client_after_timer x)).1 (timer-told x) (speaks-told (client_after_timer x)) in
+    let z = (client_speaks (client_after_timer x)).1 in
     record {
       ahead = t.ahead;
       iss = t.iss;
@@ -228,7 +228,7 @@ ends-up true false on = absurd (let bad : false ≡ true = on refl in cc)
 ends-up false true on = omega arith
 ends-up false false on = omega arith
 
-pub taken-up : (x y : ClientBlock) → x.send.una ≤ y.send.una → x.accepted ≤ y.accepted → (x.eof ≡ true → y.eof ≡ true) → taken x ≤ taken y
+pub taken-up : (x y : ClientBlock) → x.send.una ≤ y.send.una → x.accepted ≤ y.accepted → (x.eof ≡ true → y.eof ≡ true) → symbols_taken x ≤ symbols_taken y
 taken-up x y una accepted eof = go (x.send.una == 0) (y.send.una == 0) (zero-too x.send.una y.send.una una) (ends-up x.eof y.eof eof) where
   zero-too : (a b : ℕ) → a ≤ b → (b == 0) ≡ true → (a == 0) ≡ true
   zero-too a b l e = grind (arith, nat_tests, l, e)
@@ -240,14 +240,14 @@ taken-up x y una accepted eof = go (x.send.una == 0) (y.send.una == 0) (zero-too
   go false false on e = omega (arith, e, accepted)
 
 module _ (k : Whole) (K : ℕ) (files : FilesAt) (p : Part) (st : Station) (y : ClientBlock) (turned : Turned st.client y)
-    (within : y.send.una ≤ k.written + 2) (taken_in : taken y ≤ k.answers + 2) where
+    (within : y.send.una ≤ k.written + 2) (taken_in : symbols_taken y ≤ k.answers + 2) where
   abbrev x : ClientBlock
   x = st.client
 
   abbrev p' : Part
   p' = with_station p (record { client = y; iss = st.iss })
 
-  more : taken x ≤ taken y
+  more : symbols_taken x ≤ symbols_taken y
   more = taken-up x y turned.ahead.una turned.takes.accepted turned.takes.eof
 
   shut : one_if_not y.send.finished ≤ one_if_not x.send.finished
@@ -278,7 +278,7 @@ module _ (k : Whole) (K : ℕ) (files : FilesAt) (p : Part) (st : Station) (y : 
   ended-less Reset Aborted (inl e) = absurd (let bad : Aborted ≡ Reset = e in cc)
   ended-less Reset Aborted (inr e) = absurd (let bad : Reset ≡ Open = e.0 in cc)
 
-  heard-less : (z : Seat) → heard_left k y z ≤ heard_left k x z
+  heard-less : (z : SeatNow) → heard_left k y z ≤ heard_left k x z
   heard-less Unborn = let m = more in omega (arith, m)
   heard-less (Held b count) = omega arith
   heard-less (Waiting b count) = omega arith
@@ -287,12 +287,12 @@ module _ (k : Whole) (K : ℕ) (files : FilesAt) (p : Part) (st : Station) (y : 
   heard-less (Gone told n e) = ended-less x.phase y.phase turned.takes.phase
   heard-less (Over last) = ended-less x.phase y.phase turned.takes.phase
 
-  seat-same : (z : Seat) → seat_left k y z ≡ seat_left k x z
+  seat-same : (z : SeatNow) → seat_left k y z ≡ seat_left k x z
   seat-same (Held b count) = ap (λ w. 1 + hand_off k.requests + one_if_not (b.send.wnd == w)) turned.takes.wnd
   seat-same (Here told n e b s) = ap (λ w. 3 + one_if_not told + one_if_not (b.send.wnd == w)) turned.takes.wnd
   seat-same _ = refl
 
-  abbrev left_by : ClientBlock → Seat → ℕ
+  abbrev left_by : ClientBlock → SeatNow → ℕ
   left_by u z = client_left k u + heard_left k u z + (seat_left k u z + tellers p.nodes K) + requests_left k z
 
   sits : seat_of p' ≡ seat_of p
@@ -322,20 +322,20 @@ module _ (k : Whole) (K : ℕ) (files : FilesAt) (p : Part) (st : Station) (y : 
   numbers Aborted is up = let h = turned.still (λ o. let bad : Aborted ≡ Open = sym is ∙ o in cc) in (h.0, h.1)
   numbers Reset is up = let h = turned.still (λ o. let bad : Reset ≡ Open = sym is ∙ o in cc) in (h.0, h.1)
 
-  taken-is : (y.send.una ≡ x.send.una) → (y.accepted ≡ x.accepted) → (y.eof ≡ x.eof) → taken y ≡ taken x
+  taken-is : (y.send.una ≡ x.send.una) → (y.accepted ≡ x.accepted) → (y.eof ≡ x.eof) → symbols_taken y ≡ symbols_taken x
   taken-is u a e = λ i. cond (u i == 0) 0 (1 + a i + cond (e i) 1 0)
 
-  taken-same : (q : Phase) → x.phase ≡ q → ended_left k x q ≤ ended_left k y q → taken y ≡ taken x
+  taken-same : (q : Phase) → x.phase ≡ q → ended_left k x q ≤ ended_left k y q → symbols_taken y ≡ symbols_taken x
   taken-same Open is up = let m = more in omega (arith, up, m, taken_in)
   taken-same Aborted is up = let h = turned.still (λ o. let bad : Aborted ≡ Open = sym is ∙ o in cc) in taken-is h.0 h.2 h.3
   taken-same Reset is up = let h = turned.still (λ o. let bad : Reset ≡ Open = sym is ∙ o in cc) in taken-is h.0 h.2 h.3
 
-  post-same : (z : Seat) → y.phase ≡ x.phase → heard_left k x z ≤ heard_left k y z → post_of files y z ≡ post_of files x z
+  post-same : (z : SeatNow) → y.phase ≡ x.phase → heard_left k x z ≤ heard_left k y z → post_of files y z ≡ post_of files x z
   post-same Unborn ph up = refl
-  post-same (Held b count) ph up = ap (λ (q : Phase). AtFront (record { una = b.send.una; symbols = symbols b.send; awaited = awaited_in b q })) ph
+  post-same (Held b count) ph up = ap (λ (q : Phase). AtFront (record { una = b.send.una; symbols = symbols b.send; awaited = number_awaited b q })) ph
   post-same (Waiting b count) ph up = refl
   post-same (Offered n e count) ph up = refl
-  post-same (Here told n e b s) ph up = ap (λ (q : Phase). AtNode told n e (record { una = b.send.una; symbols = symbols b.send; awaited = awaited_in b q }) (awaits_of files s)) ph
+  post-same (Here told n e b s) ph up = ap (λ (q : Phase). AtNode told n e (record { una = b.send.una; symbols = symbols b.send; awaited = number_awaited b q }) (awaits_of files s)) ph
   post-same (Gone told n e) ph up = refl
   post-same (Over last) ph up = ap (Ended last) (taken-same x.phase refl (let same : ended_left k y y.phase ≡ ended_left k y x.phase = ap (ended_left k y) ph in omega (arith, up, same)))
 

@@ -10,7 +10,7 @@ use Rattle.lard_endpoint.specs.Arriving.{on_ack, on_acked, on_rst, on_segment, o
 use Rattle.lard_endpoint.specs.Control.{ControlBlock, rcv_nxt, rcv_wnd}
 use Rattle.lard_endpoint.proofs.Numbers.{offset_later}
 use Rattle.lard_law_progress.proofs.Ends.{ahead-self, kept-ahead}
-use Rattle.lard_recv.specs.Recv.{Received, arrived, awaited, begins_after, ends, fresh, room, taken}
+use Rattle.lard_recv.specs.Recv.{Received, arrived, awaited, begins_after, ends, fresh_bytes, receive_room, bytes_taken}
 use Rattle.lard_segment.specs.Segment.{Said}
 use Rattle.lard_send.specs.Send.{Sending, after_ack}
 use Rattle.lard_seq.specs.Seq.{one_if, seq_add, seq_offset}
@@ -28,7 +28,7 @@ pub record IsData (r : Received) (c f seq : ℕ) (data_ : List ℕ) (fin : Bool)
   pub from : f ≤ c
   pub known : c ≤ heard r
   pub to : c < f + (length data_ + one_if fin)
-  pub some : 1 ≤ room r
+  pub some : 1 ≤ receive_room r
   pub small : heard r ≤ 2 ^ 31
   pub last : r.fin ≡ true → f + (length data_ + one_if fin) ≤ heard r  -- nothing stands behind the FIN
 
@@ -61,7 +61,7 @@ behind first f h seq i is low small = ⊎_elim (λ (l : f < h). inr (omega (arit
 
 pub data-taken : (r : Received) (c f seq : ℕ) (data_ : List ℕ) (fin : Bool) → IsData r c f seq data_ fin → c < heard (arrived r seq data_ fin)
 data-taken r c f seq data_ fin h = go r.fin refl where
-  go : (t : Bool) → r.fin ≡ t → c < heard (cond (begins_after seq (awaited r)) r (cond t r (taken r (fresh r seq data_) (ends r seq data_ fin))))
+  go : (t : Bool) → r.fin ≡ t → c < heard (cond (begins_after seq (awaited r)) r (cond t r (bytes_taken r (fresh_bytes r seq data_) (ends r seq data_ fin))))
   go true is =
       let l : f + (length data_ + one_if fin) ≤ heard r = h.last is in
       let b : c < f + (length data_ + one_if fin) = h.to in
@@ -72,13 +72,13 @@ data-taken r c f seq data_ fin h = go r.fin refl where
       let i : r.irs < 2 ^ 32 = h.first in
       let off : seq_offset (awaited r) seq ≡ heard r - f = ap (seq_offset (awaited r)) h.number ∙ offset_later r.irs (heard r) f i (omega (arith, a, b)) s in
       let back : (seq_offset seq (awaited r) ≡ 0) ⊎ (2 ^ 31 ≤ seq_offset seq (awaited r)) = behind r.irs f (heard r) seq i h.number (omega (arith, a, b)) s in
-      let len : length (fresh r seq data_) ≡ min (room r) (length data_ - (heard r - f)) =
-      length-take (room r) (drop (seq_offset (awaited r) seq) data_) ∙ ap (min (room r)) (length-drop (seq_offset (awaited r) seq) data_ ∙ ap (λ n. length data_ - n) off) in
-      let e : ends r seq data_ fin ≡ (fin && ((heard r - f) + length (fresh r seq data_) == length data_)) = ap (λ n. fin && (n + length (fresh r seq data_) == length data_)) off in
-      let done : c < heard r + length (fresh r seq data_) + one_if (fin && ((heard r - f) + length (fresh r seq data_) == length data_)) =
-      finish (heard r) f c (length data_) (length (fresh r seq data_)) (room r) fin a b h.to h.some len in
-      let same : one_if (ends r seq data_ fin) ≡ one_if (fin && ((heard r - f) + length (fresh r seq data_) == length data_)) = ap one_if e in
-      cond_both (begins_after seq (awaited r)) r (taken r (fresh r seq data_) (ends r seq data_ fin)) (λ (q : Received). c < heard q)
+      let len : length (fresh_bytes r seq data_) ≡ min (receive_room r) (length data_ - (heard r - f)) =
+      length-take (receive_room r) (drop (seq_offset (awaited r) seq) data_) ∙ ap (min (receive_room r)) (length-drop (seq_offset (awaited r) seq) data_ ∙ ap (λ n. length data_ - n) off) in
+      let e : ends r seq data_ fin ≡ (fin && ((heard r - f) + length (fresh_bytes r seq data_) == length data_)) = ap (λ n. fin && (n + length (fresh_bytes r seq data_) == length data_)) off in
+      let done : c < heard r + length (fresh_bytes r seq data_) + one_if (fin && ((heard r - f) + length (fresh_bytes r seq data_) == length data_)) =
+      finish (heard r) f c (length data_) (length (fresh_bytes r seq data_)) (receive_room r) fin a b h.to h.some len in
+      let same : one_if (ends r seq data_ fin) ≡ one_if (fin && ((heard r - f) + length (fresh_bytes r seq data_) == length data_)) = ap one_if e in
+      cond_both (begins_after seq (awaited r)) r (bytes_taken r (fresh_bytes r seq data_) (ends r seq data_ fin)) (λ (q : Received). c < heard q)
       (λ t. absurd (let bad : true ≡ false = sym t ∙ not-after (seq_offset seq (awaited r)) back in cc))
       (λ t. omega (arith, done, same, none))
 
@@ -92,8 +92,8 @@ pub record CarriesData (b : ControlBlock) (c f : ℕ) (s : Said) : Type 0 where
   pub no_rst : s.flags.rst ≡ false
   pub known : nat_lt b.send.nxt (seq_offset s.ack b.send.iss) ≡ false
   pub established : (b.send.una == 0) ≡ false
-  pub within : f + (length s.payload + one_if s.flags.fin) ≤ heard b.recv + room b.recv
-  pub far : heard b.recv + room b.recv ≤ 2 ^ 31
+  pub within : f + (length s.payload + one_if s.flags.fin) ≤ heard b.recv + receive_room b.recv
+  pub far : heard b.recv + receive_room b.recv ≤ 2 ^ 31
 
 -- behind it an ACK is owed, and more was taken than symbol c
 pub record IsOwing (b : ControlBlock) (c : ℕ) (r : Arrival × ControlBlock) : Type 0 where
@@ -140,10 +140,10 @@ old-data b c f s h no_ = ⊎_elim (λ (l : heard b.recv < f + (length s.payload 
   fits l =
       let d = h.data_is in
       let a : f ≤ c = d.from in let k : c ≤ heard b.recv = d.known in let t : c < f + (length s.payload + one_if s.flags.fin) = d.to in
-      let w : 1 ≤ room b.recv = d.some in
+      let w : 1 ≤ receive_room b.recv = d.some in
       let i : b.recv.irs < 2 ^ 32 = d.first in
-      let far : heard b.recv + room b.recv ≤ 2 ^ 31 = h.far in
-      let in_ : f + (length s.payload + one_if s.flags.fin) ≤ heard b.recv + room b.recv = h.within in
+      let far : heard b.recv + receive_room b.recv ≤ 2 ^ 31 = h.far in
+      let in_ : f + (length s.payload + one_if s.flags.fin) ≤ heard b.recv + receive_room b.recv = h.within in
       let syn : cond s.flags.syn 1 0 ≡ 0 = is-one s.flags.syn ∙ ap one_if h.no_syn in
       let fin : cond s.flags.fin 1 0 ≡ one_if s.flags.fin = is-one s.flags.fin in
       let len : seg_len s ≡ length s.payload + one_if s.flags.fin = omega (arith, syn, fin) in

@@ -11,7 +11,7 @@ use Rattle.lard_dispatch.specs.declared.dispatch.Ask.{Ask}
 use Rattle.lard_endpoint.specs.declared.control.moving.Final.{Final}
 use Rattle.lard_rules.specs.declared.front.FrontRest.{FrontRest}
 use Rattle.lard_rules.specs.Front as front
-use Rattle.lard_rules.specs.Front.{Does, Drops, FrontEnv, FrontPart, Says, asked_by, assigns, ended_by, ends, front_asked, front_ended, front_taken, is_at, rest_of, saying, tag_sent, taken_by}
+use Rattle.lard_rules.specs.Front.{Does, Drops, FrontEnv, FrontPart, Says, asked_by, assigns, front_ended_by, front_ends, front_asked, front_ended, front_taken, is_row_at, front_rest, front_saying, tag_sent, taken_by}
 use Rattle.lard_handoff_back.specs.declared.row.BackConn.{BackConn}
 use Rattle.lard_handoff_back.specs.declared.row.BackConn.TheVariants as back
 use Rattle.lard_handoff_back.specs.declared.row.BackRow.{BackRow}
@@ -31,7 +31,7 @@ use Rattle.lard_resend.specs.Kept.{without}
 use Rattle.lard_rules.specs.declared.places.Station.{Station}
 
 module _ (w : Whole) (K : ℕ) (files : FilesAt) (p : Part) (st : Station) where
-  abbrev Owes : front.Deed → Type 0
+  abbrev Owes : front.FrontDeed → Type 0
   Owes d = FrontLasts w K files p st d
 
   abbrev To : FrontPart → Type 0
@@ -58,7 +58,7 @@ module _ (w : Whole) (K : ℕ) (files : FilesAt) (p : Part) (st : Station) where
   taken-at row n d epoch at is same known =
       let r : FrontRow = record row { stage = stage.Moved n (record { 0 = epoch }) } in
       let f : FrontPart = record p.front { row = Some r; kept = without kind.Offer 0 p.front.kept } in
-      let count = (rest_of p.front.rest).count in
+      let count = (front_rest p.front.rest).count in
       let was : seat_of p ≡ seat_away false n epoch count (p.nodes n) = seat-at p row (stage.Offering n d) at is ∙ ap (λ e. seat_away false n e count (p.nodes n)) same in
       let now : seat_of (with_front p f) ≡ seat_away true n epoch count (p.nodes n) = seat-at (with_front p f) r (stage.Moved n (record { 0 = epoch })) refl refl in
       flips f n epoch count (p.nodes n) (p.nodes n).row was now
@@ -79,25 +79,25 @@ module _ (w : Whole) (K : ℕ) (files : FilesAt) (p : Part) (st : Station) where
   asks-by : (env : FrontEnv) (from epoch : ℕ) (ask : Ask) (o : Option FrontRest) → p.front.rest ≡ o → Owes (asked_by env p.front from epoch ask o)
   asks-by env from epoch ask None at = tt
   asks-by env from epoch ask (Some rest) at =
-      let again = cond (ask.number == rest.asks && nat_lt 0 rest.asks) (Says (saying (tag_sent env from epoch rest.asks rest.tag))) Drops in
+      let again = cond (ask.number == rest.asks && nat_lt 0 rest.asks) (Says (front_saying (tag_sent env from epoch rest.asks rest.tag))) Drops in
       cond_both (ask.number == rest.asks + 1) (Does (assigns env p.front rest from epoch ask (env.later ask))) again Owes
       (λ t known. let f = (assigns env p.front rest from epoch ask (env.later ask)).part in
-      front-stays w K files p st f (seat-counts w K files p st f (sym (ap (λ (o : Option FrontRest). (rest_of o).count) at)) refl))
-      (λ t. cond_both (ask.number == rest.asks && nat_lt 0 rest.asks) (Says (saying (tag_sent env from epoch rest.asks rest.tag))) Drops Owes (λ t. tt) (λ t. tt))
+      front-stays w K files p st f (seat-counts w K files p st f (sym (ap (λ (o : Option FrontRest). (front_rest o).count) at)) refl))
+      (λ t. cond_both (ask.number == rest.asks && nat_lt 0 rest.asks) (Says (front_saying (tag_sent env from epoch rest.asks rest.tag))) Drops Owes (λ t. tt) (λ t. tt))
 
   pub asked-lasts : (env : FrontEnv) (from epoch : ℕ) (ask : Ask) → Owes (front_asked env p.front from epoch ask)
-  asked-lasts env from epoch ask = cond_both (is_at from epoch p.front.row) (asked_by env p.front from epoch ask p.front.rest) Drops Owes (λ t. asks-by env from epoch ask p.front.rest refl) (λ t. tt)
+  asked-lasts env from epoch ask = cond_both (is_row_at from epoch p.front.row) (asked_by env p.front from epoch ask p.front.rest) Drops Owes (λ t. asks-by env from epoch ask p.front.rest refl) (λ t. tt)
 
   -- ---- it ended at its node
 
   pub ended-lasts : (env : FrontEnv) (from epoch : ℕ) (last : Final) → ((row : FrontRow) → p.front.row ≡ Some row → is_away epoch row.stage ≡ true → IsGone (seat_of p)) → Owes (front_ended env p.front from epoch last)
   ended-lasts env from epoch last gone = go p.front.row refl where
-    go : (o : Option FrontRow) → p.front.row ≡ o → Owes (ended_by env p.front from epoch last o (end_answer epoch o))
+    go : (o : Option FrontRow) → p.front.row ≡ o → Owes (front_ended_by env p.front from epoch last o (end_answer epoch o))
     go None at = tt
     go (Some row) at =
-        let P : OnEnded → Type 0 = λ g. Owes (ended_by env p.front from epoch last (Some row) g) in
+        let P : OnEnded → Type 0 = λ g. Owes (front_ended_by env p.front from epoch last (Some row) g) in
         cond_both (is_away epoch row.stage) (New (next_epoch row)) (cond (ended_with epoch row.ended_by) Again Stale) P
         (λ t known. let g = gone row at t in
-        let f = (ends env p.front from epoch last row (next_epoch row)).part in
+        let f = (front_ends env p.front from epoch last row (next_epoch row)).part in
         ended-over w K files p st f g.told g.n g.e last g.is (seat-at (with_front p f) (ended_row (record { 0 = epoch }) last row) (stage.Closed last) refl refl))
         (λ t. cond_both (ended_with epoch row.ended_by) Again Stale P (λ t. tt) (λ t. tt))

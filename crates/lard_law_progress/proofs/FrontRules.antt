@@ -4,8 +4,8 @@ use Rattle.std.proofs.lemmas.Bool.{cond_both}
 use Rattle.lard_answers.specs.Answers.{FilesAt}
 use Rattle.lard_bound.specs.Progress.{IsWarmWord}
 use Rattle.lard_bound.specs.Seats.{Held, Over, seat_of}
-use Rattle.lard_bound.specs.Spots.{awaited_in}
-use Rattle.lard_bound.specs.Units.{Whole, is_stale, one_if_not, taken}
+use Rattle.lard_bound.specs.Spots.{number_awaited}
+use Rattle.lard_bound.specs.Units.{Whole, is_stale, one_if_not, symbols_taken}
 use Rattle.lard_client.specs.Control.{ClientBlock}
 use Rattle.lard_client.specs.declared.phase.Phase.{Phase}
 use Rattle.lard_client.specs.declared.phase.Phase.TheVariants as phase
@@ -16,8 +16,8 @@ use Rattle.lard_endpoint.specs.declared.control.moving.Final.{Final}
 use Rattle.lard_endpoint.specs.Leaving.{after_timer}
 use Rattle.lard_endpoint.specs.Moving.{end_reason, final_of, may_end}
 use Rattle.lard_rules.specs.declared.front.FrontRest.{FrontRest}
-use Rattle.lard_rules.specs.Front.{FrontPart, rests}
-use Rattle.lard_rules.specs.FrontReading.{reads}
+use Rattle.lard_rules.specs.Front.{FrontPart, front_rests}
+use Rattle.lard_rules.specs.FrontReading.{front_reads}
 use Rattle.lard_handoff_front.specs.declared.row.FrontConn.{FrontConn}
 use Rattle.lard_handoff_front.specs.declared.row.FrontConn.TheVariants as stage
 use Rattle.lard_handoff_front.specs.declared.row.FrontRow.{FrontRow}
@@ -32,7 +32,7 @@ use Rattle.lard_recv.specs.Recv.{awaited}
 use Rattle.lard_rules.specs.declared.places.Ending.{Ending}
 use Rattle.lard_rules.specs.declared.places.Ending.TheVariants as ending
 use Rattle.lard_rules.specs.declared.places.Station.{Station}
-use Rattle.lard_rules.specs.Serving.{ServeEnv, Service, rested, serving, settled}
+use Rattle.lard_rules.specs.Serving.{ServeEnv, Service, rested, serving, serving_settled}
 use Rattle.lard_rules.specs.Speaking.{speaks}
 use Rattle.lard_segment.specs.Segment.{Said}
 use Rattle.lard_send.specs.Send.{Sending}
@@ -41,7 +41,7 @@ use Rattle.lard_send.specs.Send.{Sending}
 pub by-rest : (c : ℕ) (b : ControlBlock) (count : ℕ) (P : Ending → Type 0) → P (ending.Here (speaks c b).1 count) → ((last : Final) → P (ending.Over last)) → P (rested (speaks c b).1 count)
 by-rest c b count P here over = let d = (speaks c b).1 in cond_both (may_end d) (ending.Over (final_of d (end_reason d))) (ending.Here d count) P (λ t. over (final_of d (end_reason d))) (λ t. here)
 
-module _ (k : Whole) (K : ℕ) (files : FilesAt) (p : Part) (st : Station) (b : ControlBlock) (count : ℕ) (held : seat_of p ≡ Held b count) (acked : b.send.una ≤ taken st.client) where
+module _ (k : Whole) (K : ℕ) (files : FilesAt) (p : Part) (st : Station) (b : ControlBlock) (count : ℕ) (held : seat_of p ≡ Held b count) (acked : b.send.una ≤ symbols_taken st.client) where
   abbrev x : ClientBlock
   x = st.client
 
@@ -54,13 +54,13 @@ module _ (k : Whole) (K : ℕ) (files : FilesAt) (p : Part) (st : Station) (b : 
     pub shut : b.send.finished ≡ true → d.send.finished ≡ true
     pub stale : is_stale x d ≤ is_stale x b
     pub total : d.send.total ≡ b.send.total
-    pub waits : awaited_in d x.phase ≡ awaited_in b x.phase
+    pub waits : number_awaited d x.phase ≡ number_awaited b x.phase
 
-  seat-held : (f : FrontPart) (row : FrontRow) (rest : FrontRest) (d : ControlBlock) (n : ℕ) → seat_of (with_front p (rests f row rest stage.Held (ending.Here d n))) ≡ Held d n
+  seat-held : (f : FrontPart) (row : FrontRow) (rest : FrontRest) (d : ControlBlock) (n : ℕ) → seat_of (with_front p (front_rests f row rest stage.Held (ending.Here d n))) ≡ Held d n
   unfolding seat_of
   seat-held f row rest d n = refl
 
-  seat-over : (f : FrontPart) (row : FrontRow) (rest : FrontRest) (stays : ControlBlock → FrontConn) (last : Final) → seat_of (with_front p (rests f row rest stays (ending.Over last))) ≡ Over last
+  seat-over : (f : FrontPart) (row : FrontRow) (rest : FrontRest) (stays : ControlBlock → FrontConn) (last : Final) → seat_of (with_front p (front_rests f row rest stays (ending.Over last))) ≡ Over last
   unfolding seat_of
   seat-over f row rest stays last = refl
 
@@ -97,16 +97,16 @@ module _ (k : Whole) (K : ℕ) (files : FilesAt) (p : Part) (st : Station) (b : 
       still-open false q on e = refl
 
   -- what was read is said: it is held, or it ended
-  pub held-lasts : (env : NodeEnv) (serve : ServeEnv) (f : FrontPart) (row : FrontRow) (rest : FrontRest) (d : ControlBlock) → Came d → let w = (reads serve (record { service = serving d count []; target = None })).service in
-      ((e : ControlBlock) (n : ℕ) → (settled serve w).0 ≡ ending.Here e n → FitsAt k x e n) → To (rests f row rest stage.Held (settled serve w).0)
+  pub held-lasts : (env : NodeEnv) (serve : ServeEnv) (f : FrontPart) (row : FrontRow) (rest : FrontRest) (d : ControlBlock) → Came d → let w = (front_reads serve (record { service = serving d count []; target = None })).service in
+      ((e : ControlBlock) (n : ℕ) → (serving_settled serve w).0 ≡ ending.Here e n → FitsAt k x e n) → To (front_rests f row rest stage.Held (serving_settled serve w).0)
   held-lasts env serve f row rest d came fits =
-      let r = reads serve (record { service = serving d count []; target = None }) in
+      let r = front_reads serve (record { service = serving d count []; target = None }) in
       let w = r.service in
       let h = (reads-further serve (serving d count [])).0 in
-      by-ending serve w (λ (o : Ending). ((e : ControlBlock) (n : ℕ) → o ≡ ending.Here e n → FitsAt k x e n) → To (rests f row rest stage.Held o))
+      by-ending serve w (λ (o : Ending). ((e : ControlBlock) (n : ℕ) → o ≡ ending.Here e n → FitsAt k x e n) → To (front_rests f row rest stage.Held o))
       (λ none fit. let e = (speaks serve.c w.block).1 in
-      held-less k K files p st b count held acked (rests f row rest stage.Held (ending.Here e w.count)) e w.count (seat-held f row rest e w.count) (keeps env d w e came h none (speaks-said serve.c w.block)) (fit e w.count refl))
-      (λ last fit. over-less k K files p st b count held acked (rests f row rest stage.Held (ending.Over last)) last (seat-over f row rest stage.Held last))
+      held-less k K files p st b count held acked (front_rests f row rest stage.Held (ending.Here e w.count)) e w.count (seat-held f row rest e w.count) (keeps env d w e came h none (speaks-said serve.c w.block)) (fit e w.count refl))
+      (λ last fit. over-less k K files p st b count held acked (front_rests f row rest stage.Held (ending.Over last)) last (seat-over f row rest stage.Held last))
       fits
 
   -- a segment
@@ -120,7 +120,7 @@ module _ (k : Whole) (K : ℕ) (files : FilesAt) (p : Part) (st : Station) (b : 
         shut = a.shut;
         stale = window-on x env b d.send.wnd (⊎_elim (λ (e : d.send.wnd ≡ b.send.wnd). inl e) (λ (e : d.send.wnd ≡ said.wnd). inr (e ∙ warm)) (heard-window b said));
         total = a.total;
-        waits = ap (awaited_in d) is ∙ sym (ap (awaited_in b) is);
+        waits = ap (number_awaited d) is ∙ sym (ap (number_awaited b) is);
       }
   came-by env said phase.Aborted is warm here =
       let a = heard-ahead b said in
@@ -139,12 +139,12 @@ module _ (k : Whole) (K : ℕ) (files : FilesAt) (p : Part) (st : Station) (b : 
 
   -- the timer: it says again what it may, and stays or ends
   pub timer-lasts : (env : NodeEnv) (c : ℕ) (f : FrontPart) (row : FrontRow) (rest : FrontRest)
-      → ((e : ControlBlock) (n : ℕ) → rested (speaks c (after_timer b)).1 count ≡ ending.Here e n → FitsAt k x e n) → To (rests f row rest stage.Held (rested (speaks c (after_timer b)).1 count))
+      → ((e : ControlBlock) (n : ℕ) → rested (speaks c (after_timer b)).1 count ≡ ending.Here e n → FitsAt k x e n) → To (front_rests f row rest stage.Held (rested (speaks c (after_timer b)).1 count))
   timer-lasts env c f row rest fits =
       let t = timer-said b in
-      by-rest c (after_timer b) count (λ (o : Ending). ((e : ControlBlock) (n : ℕ) → o ≡ ending.Here e n → FitsAt k x e n) → To (rests f row rest stage.Held o))
+      by-rest c (after_timer b) count (λ (o : Ending). ((e : ControlBlock) (n : ℕ) → o ≡ ending.Here e n → FitsAt k x e n) → To (front_rests f row rest stage.Held o))
       (λ fit. let e = (speaks c (after_timer b)).1 in let s = speaks-said c (after_timer b) in
-      held-less k K files p st b count held acked (rests f row rest stage.Held (ending.Here e count)) e count (seat-held f row rest e count)
+      held-less k K files p st b count held acked (front_rests f row rest stage.Held (ending.Here e count)) e count (seat-held f row rest e count)
       (record {
         una = let u : e.send.una ≡ (after_timer b).send.una = s.una in let v : (after_timer b).send.una ≡ b.send.una = t.una in omega (arith, u, v);
         shut = λ z. s.finished ∙ t.finished ∙ z;
@@ -152,5 +152,5 @@ module _ (k : Whole) (K : ℕ) (files : FilesAt) (p : Part) (st : Station) (b : 
         up = omega arith;
         way = inr (inr (s.ahead.total ∙ t.ahead.total, awaited-same x env x.phase b e (ap awaited (s.recv ∙ t.recv))));
       }) (fit e count refl))
-      (λ last fit. over-less k K files p st b count held acked (rests f row rest stage.Held (ending.Over last)) last (seat-over f row rest stage.Held last))
+      (λ last fit. over-less k K files p st b count held acked (front_rests f row rest stage.Held (ending.Over last)) last (seat-over f row rest stage.Held last))
       fits

@@ -1,9 +1,9 @@
 -- A connection that the front end has, and what becomes of it in a step: nothing that is left to do on it comes back.
 use Rattle.std.proofs.Common.{◌≡◌, ◌⊎◌, ◌<◌, ◌≤◌, ◌+◌, ◌-◌, ◌*◌, ℕ, zero, suc, Bool, true, false, ⊎_elim, refl, sym, ap, ◌∙◌, arith}
 use Rattle.lard_answers.specs.Answers.{FilesAt}
-use Rattle.lard_bound.specs.Seats.{Held, Offered, Over, Seat, Waiting, seat_of, tells_end}
-use Rattle.lard_bound.specs.Spots.{AtFront, awaited_in, ends_of, post_of, spot_of}
-use Rattle.lard_bound.specs.Units.{Whole, block_left, client_left, ended_left, hand_off, heard_left, is_stale, left_with, one_if_not, requests_left, seat_left, taken, tellers}
+use Rattle.lard_bound.specs.Seats.{Held, Offered, Over, SeatNow, Waiting, seat_of, tells_end}
+use Rattle.lard_bound.specs.Spots.{AtFront, number_awaited, ends_of, post_of, spot_of}
+use Rattle.lard_bound.specs.Units.{Whole, block_left, client_left, ended_left, hand_off, heard_left, is_stale, left_with, one_if_not, requests_left, seat_left, symbols_taken, tellers}
 use Rattle.lard_client.specs.Control.{ClientBlock}
 use Rattle.lard_client.specs.declared.phase.Phase.{Phase}
 use Rattle.lard_client.specs.declared.phase.Phase.TheVariants as phase
@@ -30,12 +30,12 @@ pub record Keeps (x : ClientBlock) (b d : ControlBlock) (count more : ℕ) : Typ
   pub shut : b.send.finished ≡ true → d.send.finished ≡ true
   pub stale : is_stale x d ≤ is_stale x b
   pub up : count ≤ more
-  pub way : (count < more) ⊎ (((b.send.finished ≡ false) × (d.send.finished ≡ true)) ⊎ ((d.send.total ≡ b.send.total) × (awaited_in d x.phase ≡ awaited_in b x.phase)))
+  pub way : (count < more) ⊎ (((b.send.finished ≡ false) × (d.send.finished ≡ true)) ⊎ ((d.send.total ≡ b.send.total) × (number_awaited d x.phase ≡ number_awaited b x.phase)))
 
 -- what holds of a connection that the front end still has: no more is acknowledged than was taken, and no more answered than there is
 pub record FitsAt (k : Whole) (x : ClientBlock) (d : ControlBlock) (count : ℕ) : Type 0 where
-  pub acked : d.send.una ≤ taken x
-  pub taken_in : taken x ≤ k.answers + 2
+  pub acked : d.send.una ≤ symbols_taken x
+  pub taken_in : symbols_taken x ≤ k.answers + 2
   pub few : count ≤ k.requests
 
 same-una : (a y z : ℕ) → z ≤ y → y ≤ a → a - z ≤ a - y → y ≡ z
@@ -47,11 +47,11 @@ count-less n c m e = omega arith
 count-falls : (n c m : ℕ) → c < m → m ≤ n → 4 * (n - m) < 4 * (n - c)
 count-falls n c m e l = omega arith
 
-module _ (k : Whole) (K : ℕ) (files : FilesAt) (p : Part) (st : Station) (b : ControlBlock) (count : ℕ) (seat : seat_of p ≡ Held b count) (acked : b.send.una ≤ taken st.client) where
+module _ (k : Whole) (K : ℕ) (files : FilesAt) (p : Part) (st : Station) (b : ControlBlock) (count : ℕ) (seat : seat_of p ≡ Held b count) (acked : b.send.una ≤ symbols_taken st.client) where
   abbrev x : ClientBlock
   x = st.client
 
-  abbrev left_by : Seat → ℕ
+  abbrev left_by : SeatNow → ℕ
   left_by z = client_left k x + heard_left k x z + (seat_left k x z + tellers p.nodes K) + requests_left k z
 
   abbrev pub IsLess : Part → Type 0
@@ -61,15 +61,15 @@ module _ (k : Whole) (K : ℕ) (files : FilesAt) (p : Part) (st : Station) (b : 
   was = ap left_by seat
 
   -- it is somewhere else: a unit goes
-  leaves : (f : FrontPart) (z : Seat) → seat_of (with_front p f) ≡ z → left_by z < left_by (Held b count) → IsLess (with_front p f)
+  leaves : (f : FrontPart) (z : SeatNow) → seat_of (with_front p f) ≡ z → left_by z < left_by (Held b count) → IsLess (with_front p f)
   leaves f z is low =
       let now : left_with k K (with_front p f) st ≡ left_by z = ap left_by is in
       let w = was in
       record { less = omega (arith, now, w, low); steady = λ up. absurd (omega (arith, up, now, w, low)) }
 
   ended-less : (ph : Phase) → ended_left k x ph ≤ block_left k x b
-  ended-less phase.Open = let l : b.send.una ≤ taken x = acked in omega arith
-  ended-less phase.Aborted = let l : b.send.una ≤ taken x = acked in omega arith
+  ended-less phase.Open = let l : b.send.una ≤ symbols_taken x = acked in omega arith
+  ended-less phase.Aborted = let l : b.send.una ≤ symbols_taken x = acked in omega arith
   ended-less phase.Reset = omega arith
 
   pub over-less : (f : FrontPart) (last : Final) → seat_of (with_front p f) ≡ Over last → IsLess (with_front p f)
@@ -82,7 +82,7 @@ module _ (k : Whole) (K : ℕ) (files : FilesAt) (p : Part) (st : Station) (b : 
   -- handed off, where there is a request, and all that was said is acknowledged
   pub offered-less : (f : FrontPart) (n e : ℕ) (d : ControlBlock) (more : ℕ) → seat_of (with_front p f) ≡ Offered n e more → Carries x b d count more → d.send.finished ≡ false → 1 ≤ k.requests → IsLess (with_front p f)
   offered-less f n e d more is keeps open_ some = leaves f (Offered n e more) is
-      (let u : b.send.una ≤ taken x = acked in
+      (let u : b.send.una ≤ symbols_taken x = acked in
       let h = some-more k.requests some in
       let c = count-less k.requests count more keeps.up in
       let o : one_if_not b.send.finished ≡ 1 = opens b.send.finished d.send.finished keeps.shut open_ in
@@ -102,7 +102,7 @@ module _ (k : Whole) (K : ℕ) (files : FilesAt) (p : Part) (st : Station) (b : 
       omega (arith, h, c, s))
 
   same-spot : (f : FrontPart) (d : ControlBlock) (more : ℕ) → seat_of (with_front p f) ≡ Held d more → d.send.una ≡ b.send.una → d.send.finished ≡ b.send.finished → d.send.total ≡ b.send.total
-      → awaited_in d x.phase ≡ awaited_in b x.phase → spot_of files (with_front p f) st ≡ spot_of files p st
+      → number_awaited d x.phase ≡ number_awaited b x.phase → spot_of files (with_front p f) st ≡ spot_of files p st
   unfolding spot_of
   same-spot f d more is u fin total waits =
       let ends : ends_of x d ≡ ends_of x b = λ i. record { una = u i; symbols = 1 + total i + one_if (fin i); awaited = waits i } in
@@ -116,8 +116,8 @@ module _ (k : Whole) (K : ℕ) (files : FilesAt) (p : Part) (st : Station) (b : 
       let now : left_with k K p' st ≡ left_by (Held d more) = ap left_by is in
       let w = was in
       let u1 : b.send.una ≤ d.send.una = keeps.una in
-      let u2 : d.send.una ≤ taken x = fits.acked in
-      let u3 : taken x ≤ k.answers + 2 = fits.taken_in in
+      let u2 : d.send.una ≤ symbols_taken x = fits.acked in
+      let u3 : symbols_taken x ≤ k.answers + 2 = fits.taken_in in
       let s = not-less b.send.finished d.send.finished keeps.shut in
       let t : is_stale x d ≤ is_stale x b = keeps.stale in
       let c = count-less k.requests count more keeps.up in record {
@@ -129,8 +129,8 @@ module _ (k : Whole) (K : ℕ) (files : FilesAt) (p : Part) (st : Station) (b : 
             let r : 4 * (k.requests - count) ≤ 4 * (k.requests - more) = omega (arith, up, now, w, u1, s, t, c) in
             ⊎_elim
             (λ (l : count < more). absurd (let v = count-falls k.requests count more l fits.few in omega (arith, v, r)))
-            (λ (e : ((b.send.finished ≡ false) × (d.send.finished ≡ true)) ⊎ ((d.send.total ≡ b.send.total) × (awaited_in d x.phase ≡ awaited_in b x.phase))). ⊎_elim
+            (λ (e : ((b.send.finished ≡ false) × (d.send.finished ≡ true)) ⊎ ((d.send.total ≡ b.send.total) × (number_awaited d x.phase ≡ number_awaited b x.phase))). ⊎_elim
             (λ (l : (b.send.finished ≡ false) × (d.send.finished ≡ true)). absurd (let bad : true ≡ false = sym l.1 ∙ fin ∙ l.0 in cc))
-            (λ (l : (d.send.total ≡ b.send.total) × (awaited_in d x.phase ≡ awaited_in b x.phase)). same-spot f d more is u fin l.0 l.1) e)
+            (λ (l : (d.send.total ≡ b.send.total) × (number_awaited d x.phase ≡ number_awaited b x.phase)). same-spot f d more is u fin l.0 l.1) e)
             keeps.way;
       }

@@ -6,14 +6,14 @@ use Rattle.lard_base.specs.declared.parts.EndpointParts.{EndpointParts}
 use Rattle.lard_base.specs.declared.place.Place.TheVariants.{Front, Node}
 use Rattle.lard_base.specs.declared.place.Reason.{Reason}
 use Rattle.lard_bound.specs.Progress.{IfCame, IsWarm, Lasts, came_in}
-use Rattle.lard_bound.specs.Seats.{Gone, Held, Here, Offered, Over, Seat, Unborn, Waiting, seat_of}
-use Rattle.lard_bound.specs.Units.{Whole, taken}
+use Rattle.lard_bound.specs.Seats.{Gone, Held, Here, Offered, Over, SeatNow, Unborn, Waiting, seat_of}
+use Rattle.lard_bound.specs.Units.{Whole, symbols_taken}
 use Rattle.lard_client.specs.Control.{ClientBlock}
 use Rattle.lard_client.specs.declared.phase.Phase.TheVariants as phase
-use Rattle.lard_law_view.specs.Carry.{MayMove}
-use Rattle.lard_law_view.specs.View.{Conn, Move, Part, Setting, Spells, Was, grown}
+use Rattle.lard_law_view.specs.Carry.{MayRestOn}
+use Rattle.lard_law_view.specs.View.{Conn, Move, Part, Setting, SpellsMessage, Was, grown}
 use Rattle.lard_endpoint.specs.Control.{ControlBlock}
-use Rattle.lard_rules.specs.Front.{FrontPart, rest_of}
+use Rattle.lard_rules.specs.Front.{FrontPart, front_rest}
 use Rattle.lard_handoff_back.specs.Back.{offer_answer}
 use Rattle.lard_handoff_back.specs.declared.row.BackConn.TheVariants as back
 use Rattle.lard_handoff_back.specs.declared.row.BackRow.{BackRow}
@@ -34,12 +34,12 @@ use Rattle.lard_rules.specs.declared.places.Station.{Station}
 
 -- What is acknowledged was taken, no more requests were read than there are, and a client that was reset is nobody's any more. Before
 -- it begins, a client took nothing; one that waits or is offered has a request.
-abbrev pub SeatKnown : Whole → ClientBlock → Seat → Type 0
-SeatKnown w x Unborn = taken x ≡ 0
-SeatKnown w x (Held b count) = (b.send.una ≤ taken x) × (count ≤ w.requests) × (x.phase ≡ phase.Reset → ⊥)
-SeatKnown w x (Waiting b count) = (b.send.una ≤ taken x) × (1 ≤ w.requests) × (b.send.finished ≡ false)
+abbrev pub SeatKnown : Whole → ClientBlock → SeatNow → Type 0
+SeatKnown w x Unborn = symbols_taken x ≡ 0
+SeatKnown w x (Held b count) = (b.send.una ≤ symbols_taken x) × (count ≤ w.requests) × (x.phase ≡ phase.Reset → ⊥)
+SeatKnown w x (Waiting b count) = (b.send.una ≤ symbols_taken x) × (1 ≤ w.requests) × (b.send.finished ≡ false)
 SeatKnown w x (Offered n e count) = 1 ≤ w.requests
-SeatKnown w x (Here told n e b s) = (b.send.una ≤ taken x) × (read_in s ≤ w.requests) × (x.phase ≡ phase.Reset → ⊥)
+SeatKnown w x (Here told n e b s) = (b.send.una ≤ symbols_taken x) × (read_in s ≤ w.requests) × (x.phase ≡ phase.Reset → ⊥)
 SeatKnown w x (Gone told n e) = Unit {0}
 SeatKnown w x (Over last) = Unit {0}
 
@@ -69,11 +69,11 @@ pub record IsNewOffer (p : Part) (x : ClientBlock) (n e : ℕ) (parts : Endpoint
   pub with_ : row.stage ≡ stage.Offering n (record { 0 = e })
   pub kept : (p.nodes n).kept ≡ []
   pub fetches : (p.nodes n).fetches ≡ []
-  pub served : parts.served ≡ (rest_of p.front.rest).count
-  pub una : taken x ≤ parts.una
+  pub served : parts.served ≡ (front_rest p.front.rest).count
+  pub una : symbols_taken x ≤ parts.una
 
 -- its stay is over, and the front end does not know so
-pub record IsGone (z : Seat) : Type 0 where
+pub record IsGone (z : SeatNow) : Type 0 where
   pub told : Bool
   pub n : ℕ
   pub e : ℕ
@@ -84,14 +84,14 @@ pub record IsGone (z : Seat) : Type 0 where
 -- Of a connection whose client opened, in a cluster of so many nodes.
 pub record Known (nodes : ℕ) (w : Whole) (x : Conn) (st : Station) : Type 0 where
   pub said : st.client.send.una ≤ w.written + 2
-  pub heard : taken st.client ≤ w.answers + 2
+  pub heard : symbols_taken st.client ≤ w.answers + 2
   pub seat : SeatKnown w st.client (seat_of x.part)
   pub fresh : IsFresh x.part.nodes x.part.front.row
   pub homes : (n e : ℕ) (b : ControlBlock) → (x.part.nodes n).row ≡ Some (record { stage = back.Here b; epoch = record { 0 = e } }) → IsAt x.part.front n e
   pub there : (n : ℕ) (row : BackRow) → (x.part.nodes n).row ≡ Some row → (1 ≤ n) × (n ≤ nodes)
-  pub offers : (n e : ℕ) (parts : EndpointParts) (bytes : List ℕ) → Spells x.c e (body.Offer parts) bytes → Was x Front (Node n) bytes → offer_answer e (x.part.nodes n).row ≡ New
+  pub offers : (n e : ℕ) (parts : EndpointParts) (bytes : List ℕ) → SpellsMessage x.c e (body.Offer parts) bytes → Was x Front (Node n) bytes → offer_answer e (x.part.nodes n).row ≡ New
       → IsNewOffer x.part st.client n e parts
-  pub ends : (n e : ℕ) (why : Reason) (snd rcv count : ℕ) (bytes : List ℕ) → Spells x.c e (body.Ended why snd rcv count) bytes → Was x (Node n) Front bytes
+  pub ends : (n e : ℕ) (why : Reason) (snd rcv count : ℕ) (bytes : List ℕ) → SpellsMessage x.c e (body.Ended why snd rcv count) bytes → Was x (Node n) Front bytes
       → (row : FrontRow) → x.part.front.row ≡ Some row → is_away e row.stage ≡ true → IsGone (seat_of x.part)
 
 abbrev pub Given : Setting → (ℕ → Whole) → Conn → Type 0
@@ -116,4 +116,4 @@ AreInner ss = Each IsInnerSeen ss
 
 -- Of each inner step, with which comes a packet that was sent behind the first rounds, if any.
 abbrev pub Owed : Setting → (ℕ → Whole) → Conn → Move → Type 0
-Owed k all x v = MayMove (Given k all) x → Given k all (grown x v) → AreInner v.heads → IfCame (IsWarm x) (came_in v.heads) → Lasts k (all x.c) x v
+Owed k all x v = MayRestOn (Given k all) x → Given k all (grown x v) → AreInner v.heads → IfCame (IsWarm x) (came_in v.heads) → Lasts k (all x.c) x v

@@ -4,19 +4,19 @@ use Rattle.std.proofs.lemmas.Bool.{eqb-true}
 use Rattle.std.proofs.lemmas.Bool.Decides.{nat_tests}
 use Rattle.lard_answers.specs.Answers.{FilesAt}
 use Rattle.lard_base.specs.declared.place.Place.{Place}
-use Rattle.lard_bound.specs.Seats.{Gone, Held, Here, Offered, Over, Seat, Staying, Unborn, Waiting, seat_of, staying_of, tells_end}
+use Rattle.lard_bound.specs.Seats.{Gone, Held, Here, Offered, Over, SeatNow, Staying, Unborn, Waiting, seat_of, staying_of, tells_end}
 use Rattle.lard_bound.specs.Spots.{post_of, spot_of}
-use Rattle.lard_bound.specs.Units.{Whole, block_left, ended_left, is_stale, left_with, one_if_not, taken, tellers, untaken}
+use Rattle.lard_bound.specs.Units.{Whole, block_left, ended_left, is_stale, left_with, one_if_not, symbols_taken, tellers, untaken}
 use Rattle.lard_client.specs.Control.{ClientBlock}
 use Rattle.lard_client.specs.declared.phase.Phase.{Phase}
 use Rattle.lard_client.specs.declared.phase.Phase.TheVariants as phase
-use Rattle.lard_law_view.specs.View.{Part, node_put, with_front, with_node}
+use Rattle.lard_law_view.specs.View.{Part, node_put_back, with_front, with_node}
 use Rattle.lard_endpoint.specs.Control.{ControlBlock}
 use Rattle.lard_endpoint.specs.declared.control.moving.Final.{Final}
-use Rattle.lard_rules.specs.Front.{FrontPart, rest_of}
+use Rattle.lard_rules.specs.Front.{FrontPart, front_rest}
 use Rattle.lard_handoff_back.specs.declared.row.BackConn.TheVariants as back
 use Rattle.lard_handoff_front.specs.declared.row.FrontRow.{FrontRow}
-use Rattle.lard_rules.specs.Node.{NodePart, asked_kept, kept_after, rests, wants_kept}
+use Rattle.lard_rules.specs.Node.{NodePart, asked_kept, kept_after, node_rests, wants_kept}
 use Rattle.lard_rules.specs.Stay.{NodeEnv, Work}
 use Rattle.lard_law_progress.proofs.Away.{IsWith, away-ended, away-here, by-ending, not-less, seat-put, stay-less, tellers-put, tellers-same, tells, tells-one}
 use Rattle.lard_law_progress.proofs.Ends.{IsSaid, speaks-said}
@@ -51,13 +51,13 @@ module _ (k : Whole) (K : ℕ) (files : FilesAt) (p : Part) (st : Station) where
   ended-untaken phase.Aborted = omega arith
   ended-untaken phase.Reset = omega arith
 
-  ended-block : (b : ControlBlock) → b.send.una ≤ taken x → (ph : Phase) → ended_left k x ph ≤ block_left k x b
+  ended-block : (b : ControlBlock) → b.send.una ≤ symbols_taken x → (ph : Phase) → ended_left k x ph ≤ block_left k x b
   ended-block b una phase.Open = omega (arith, una)
   ended-block b una phase.Aborted = omega (arith, una)
   ended-block b una phase.Reset = omega arith
 
   -- ---- a SYN comes: the front end has an endpoint of which nothing is acknowledged
-  pub begins-less : (f : FrontPart) (d : ControlBlock) → seat_of p ≡ Unborn → seat_of (with_front p f) ≡ Held d 0 → taken x ≤ d.send.una → To (with_front p f)
+  pub begins-less : (f : FrontPart) (d : ControlBlock) → seat_of p ≡ Unborn → seat_of (with_front p f) ≡ Held d 0 → symbols_taken x ≤ d.send.una → To (with_front p f)
   begins-less f d was now una =
       let s = stale-one x d in let g = flag-one d.send.finished in
       falls k K files p (with_front p f) st Unborn (Held d 0) was now (omega (arith, una, s, g))
@@ -70,8 +70,8 @@ module _ (k : Whole) (K : ℕ) (files : FilesAt) (p : Part) (st : Station) where
   pub waits-on : (f : FrontPart) (b d : ControlBlock) (count : ℕ) → seat_of p ≡ Waiting b count → seat_of (with_front p f) ≡ Waiting d count → b.send.una ≤ d.send.una → (b.send.finished ≡ true → d.send.finished ≡ true) → To (with_front p f)
   unfolding spot_of
   waits-on f b d count was now una shut =
-      let w : left_with k K p st ≡ left_by k st (Waiting b count) (tellers p.nodes K) = ap (λ (s : Seat). left_by k st s (tellers p.nodes K)) was in
-      let n : left_with k K (with_front p f) st ≡ left_by k st (Waiting d count) (tellers p.nodes K) = ap (λ (s : Seat). left_by k st s (tellers p.nodes K)) now in
+      let w : left_with k K p st ≡ left_by k st (Waiting b count) (tellers p.nodes K) = ap (λ (s : SeatNow). left_by k st s (tellers p.nodes K)) was in
+      let n : left_with k K (with_front p f) st ≡ left_by k st (Waiting d count) (tellers p.nodes K) = ap (λ (s : SeatNow). left_by k st s (tellers p.nodes K)) now in
       let s = not-less b.send.finished d.send.finished shut in record {
         less = omega (arith, w, n, una, s);
         steady = λ up.
@@ -79,11 +79,11 @@ module _ (k : Whole) (K : ℕ) (files : FilesAt) (p : Part) (st : Station) where
             λ i. record { phase = x.phase; isn = x.send.iss; iss = st.iss; una = x.send.una; last = symbols x.send; post = post i; telling = λ z. tells_end (p.nodes z).row };
       }
 
-  pub waits-over : (f : FrontPart) (b : ControlBlock) (count : ℕ) (last : Final) → seat_of p ≡ Waiting b count → seat_of (with_front p f) ≡ Over last → b.send.una ≤ taken x → To (with_front p f)
+  pub waits-over : (f : FrontPart) (b : ControlBlock) (count : ℕ) (last : Final) → seat_of p ≡ Waiting b count → seat_of (with_front p f) ≡ Over last → b.send.una ≤ symbols_taken x → To (with_front p f)
   waits-over f b count last was now una = let e = ended-block b una x.phase in falls k K files p (with_front p f) st (Waiting b count) (Over last) was now (omega (arith, e))
 
   -- it is admitted to a node
-  pub admitted-less : (f : FrontPart) (b : ControlBlock) (count n e : ℕ) → seat_of p ≡ Waiting b count → seat_of (with_front p f) ≡ Offered n e count → b.send.una ≤ taken x → b.send.finished ≡ false → To (with_front p f)
+  pub admitted-less : (f : FrontPart) (b : ControlBlock) (count n e : ℕ) → seat_of p ≡ Waiting b count → seat_of (with_front p f) ≡ Offered n e count → b.send.una ≤ symbols_taken x → b.send.finished ≡ false → To (with_front p f)
   admitted-less f b count n e was now una open_ =
       let o : one_if_not b.send.finished ≡ 1 = ap one_if_not open_ in
       falls k K files p (with_front p f) st (Waiting b count) (Offered n e count) was now (omega (arith, una, o))
@@ -91,9 +91,9 @@ module _ (k : Whole) (K : ℕ) (files : FilesAt) (p : Part) (st : Station) where
   -- ---- a node takes it
 
   module _ (n : ℕ) (row : FrontRow) (env : NodeEnv) (front : p.front.row ≡ Some row) (with_ : IsWith false n env.epoch row.stage)
-      (offered : seat_of p ≡ Offered n env.epoch (rest_of p.front.rest).count) (quiet : tells (p.nodes n) ≡ 0) where
+      (offered : seat_of p ≡ Offered n env.epoch (front_rest p.front.rest).count) (quiet : tells (p.nodes n) ≡ 0) where
     abbrev count : ℕ
-    count = (rest_of p.front.rest).count
+    count = (front_rest p.front.rest).count
 
     pub over-there : (q : NodePart) → q.row ≡ Some (record { stage = back.Ended; epoch = record { 0 = env.epoch } }) → To (with_node p n q)
     over-there q is =
@@ -103,7 +103,7 @@ module _ (k : Whole) (K : ℕ) (files : FilesAt) (p : Part) (st : Station) where
 
     -- what the endpoint that it adopted, and its work behind that, are
     pub record Adopts (w : Work) : Type 0 where
-      pub una : taken x ≤ w.service.block.send.una
+      pub una : symbols_taken x ≤ w.service.block.send.una
       pub more : count ≤ read_of w
       pub cheap : cost env [] [] w + 4 * count ≤ 4 * read_of w
       pub few : w.service.over ≡ None → read_of w ≤ k.requests
@@ -122,16 +122,16 @@ module _ (k : Whole) (K : ℕ) (files : FilesAt) (p : Part) (st : Station) where
           fetches = wants_kept env w.wants [];
         } in
         let seat : seat_of (with_node p n q) ≡ Here false n env.epoch d (staying_of q) = seat-put p n env.epoch false row q front with_ ∙ away-here false n env.epoch count q d refl in
-        let same : tellers (node_put p.nodes n q) K ≡ tellers p.nodes K = tellers-same p.nodes n q (sym quiet) K in
+        let same : tellers (node_put_back p.nodes n q) K ≡ tellers p.nodes K = tellers-same p.nodes n q (sym quiet) K in
         let u : d.send.una ≡ w.service.block.send.una = said.una in
-        let t : taken x ≤ w.service.block.send.una = a.una in
+        let t : symbols_taken x ≤ w.service.block.send.una = a.una in
         let s = stale-one x d in let g = flag-one d.send.finished in
         let c0 : cost env [] [] w + 4 * count ≤ 4 * read_of w = a.cheap in
         let c : cost env [] [] w + 4 * count ≤ 0 + 4 * read_of w = omega (arith, c0) in
         let r = stay-less k count (read_of w) 0 (cost env [] [] w) a.more (a.few none) c in
         falls k K files p (with_node p n q) st (Offered n env.epoch count) (Here false n env.epoch d (staying_of q)) offered seat (omega (arith, same, u, t, s, g, r))
 
-    pub adopted-less : (before : List (Place × List ℕ)) (pp : NodePart) (w : Work) → pp.kept ≡ [] → pp.fetches ≡ [] → Adopts w → To (with_node p n (rests env pp before w).0)
+    pub adopted-less : (before : List (Place × List ℕ)) (pp : NodePart) (w : Work) → pp.kept ≡ [] → pp.fetches ≡ [] → Adopts w → To (with_node p n (node_rests env pp before w).0)
     adopted-less before pp w ks fs a =
         by-ending env.serve w.service (λ (o : Ending). To (with_node p n (kept_after env pp w o)))
         (λ none. let d = (speaks env.serve.c w.service.block).1 in subst (λ (ks' : List Kept). To (with_node p n (record {
@@ -161,12 +161,12 @@ module _ (k : Whole) (K : ℕ) (files : FilesAt) (p : Part) (st : Station) where
 
   -- ---- the node hears that its end is known
 
-  pub acknowledged-less : (n : ℕ) (q : NodePart) (z : Seat) → seat_of p ≡ z → seat_of (with_node p n q) ≡ z → 1 ≤ n → n ≤ K → tells (p.nodes n) ≡ 1 → tells q ≡ 0 → To (with_node p n q)
+  pub acknowledged-less : (n : ℕ) (q : NodePart) (z : SeatNow) → seat_of p ≡ z → seat_of (with_node p n q) ≡ z → 1 ≤ n → n ≤ K → tells (p.nodes n) ≡ 1 → tells q ≡ 0 → To (with_node p n q)
   acknowledged-less n q z was now some within told quiet =
       let f = fewer p.nodes n q some told quiet K within in
       falls k K files p (with_node p n q) st z z was now (omega (arith, f))
     where
-      above : (nodes : ℕ → NodePart) (n : ℕ) (q : NodePart) (m : ℕ) → m < n → tellers (node_put nodes n q) m ≡ tellers nodes m
+      above : (nodes : ℕ → NodePart) (n : ℕ) (q : NodePart) (m : ℕ) → m < n → tellers (node_put_back nodes n q) m ≡ tellers nodes m
       above nodes n q zero low = refl
       above nodes n q (suc m) low =
           let other : (suc m == n) ≡ false = apart (suc m) n low in
@@ -177,10 +177,10 @@ module _ (k : Whole) (K : ℕ) (files : FilesAt) (p : Part) (st : Station) where
           apart : (a b : ℕ) → a < b → (a == b) ≡ false
           apart a b l = grind (arith, nat_tests, l)
 
-      fewer : (nodes : ℕ → NodePart) (n : ℕ) (q : NodePart) → 1 ≤ n → tells (nodes n) ≡ 1 → tells q ≡ 0 → (m : ℕ) → n ≤ m → tellers (node_put nodes n q) m + 1 ≤ tellers nodes m
+      fewer : (nodes : ℕ → NodePart) (n : ℕ) (q : NodePart) → 1 ≤ n → tells (nodes n) ≡ 1 → tells q ≡ 0 → (m : ℕ) → n ≤ m → tellers (node_put_back nodes n q) m + 1 ≤ tellers nodes m
       fewer nodes n q some told quiet zero in_ = absurd (omega (arith, some, in_))
       fewer nodes n q some told quiet (suc m) in_ = go (suc m == n) refl (λ i. fewer nodes n q some told quiet m i) where
-        go : (b : Bool) → (suc m == n) ≡ b → (n ≤ m → tellers (node_put nodes n q) m + 1 ≤ tellers nodes m) → tells (cond b q (nodes (suc m))) + tellers (node_put nodes n q) m + 1 ≤ tells (nodes (suc m)) + tellers nodes m
+        go : (b : Bool) → (suc m == n) ≡ b → (n ≤ m → tellers (node_put_back nodes n q) m + 1 ≤ tellers nodes m) → tells (cond b q (nodes (suc m))) + tellers (node_put_back nodes n q) m + 1 ≤ tells (nodes (suc m)) + tellers nodes m
         go true is later =
             let n' : suc m ≡ n = eqb-true (suc m) n is in
             let one : tells (nodes (suc m)) ≡ 1 = ap (λ z. tells (nodes z)) n' ∙ told in

@@ -5,9 +5,9 @@ use Rattle.lard_base.specs.declared.place.Place.TheVariants.{Client, Front, Node
 use Rattle.lard_bound.specs.Progress.{IfCame, IsWarm, IsWarmBy, IsWarmMessage, IsWarmSegment, Lasts, came_in, spot_with}
 use Rattle.lard_bound.specs.Seats.{seat_of}
 use Rattle.lard_bound.specs.Spots.{spot_of}
-use Rattle.lard_bound.specs.Units.{Whole, left_at, units}
+use Rattle.lard_bound.specs.Units.{Whole, left_to_client, units}
 use Rattle.lard_client.specs.Control.{ClientBlock}
-use Rattle.lard_law_view.specs.View.{ClientRules, Conn, FrontRules, IsSound, Move, NodeRules, Part, Rules, Setting, Spells, brought_said, client_does, contents, event_seen, front_admits, front_does, grown, node_does, nothing_said, packet_seen, reads_first, stands}
+use Rattle.lard_law_view.specs.View.{ClientRules, Conn, FrontRules, IsConnSound, Move, NodeRules, Part, Rules, Setting, SpellsMessage, brought_said, client_does, content_said, event_seen, front_admits, front_does, grown, node_does, nothing_said, packet_seen, reads_first, stands}
 use Rattle.lard_rules.specs.Front as front
 use Rattle.lard_rules.specs.Front.{ask_of, front_asked, front_ended, front_gets, front_taken, front_timer}
 use Rattle.lard_handoff_back.specs.Back.{offer_answer}
@@ -43,8 +43,8 @@ use Rattle.lard_segment.specs.Segment.{Said, decoded}
 nobody : (k : Setting) (w : Whole) (x : Conn) (v : Move) → x.part.station ≡ None → v.part.station ≡ None → Lasts k w x v
 unfolding units
 nobody k w x v was is =
-    let a : units w k.nodes x ≡ 0 = ap (left_at w k.nodes x.part) was in
-    let b : units w k.nodes (grown x v) ≡ 0 = ap (left_at w k.nodes v.part) is in record {
+    let a : units w k.nodes x ≡ 0 = ap (left_to_client w k.nodes x.part) was in
+    let b : units w k.nodes (grown x v) ≡ 0 = ap (left_to_client w k.nodes v.part) is in record {
       less = omega (arith, a, b);
       steady = λ up. ap (spot_with k.files (grown x v)) is ∙ sym (ap (spot_with k.files x) was);
     }
@@ -68,12 +68,12 @@ first-lasts k w x r v h = record { less = h.less; steady = λ up. spot-part k.fi
 -- ---- what comes is warm
 
 -- whatever a deed is, its heads stand first
-pub front-heads : (x : Conn) (heads : List Seen) (d : front.Deed) → (front_does x heads d).heads ≡ heads
+pub front-heads : (x : Conn) (heads : List Seen) (d : front.FrontDeed) → (front_does x heads d).heads ≡ heads
 front-heads x heads front.Drops = refl
 front-heads x heads (front.Says turn) = refl
 front-heads x heads (front.Does did) = refl
 
-pub node-heads : (x : Conn) (n : ℕ) (heads : List Seen) (d : node.Deed) → (node_does x n heads d).heads ≡ heads
+pub node-heads : (x : Conn) (n : ℕ) (heads : List Seen) (d : node.NodeDeed) → (node_does x n heads d).heads ≡ heads
 node-heads x n heads node.Drops = refl
 node-heads x n heads (node.Says messages) = refl
 node-heads x n heads (node.Does given) = refl
@@ -81,13 +81,13 @@ node-heads x n heads (node.Does given) = refl
 came-by : (x : Conn) {heads hs : List Seen} → heads ≡ hs → IfCame (IsWarm x) (came_in heads) → IfCame (IsWarm x) (came_in hs)
 came-by x same h = subst (λ (ss : List Seen). IfCame (IsWarm x) (came_in ss)) same h
 
-warm-word : (x : Conn) (st : Station) (bytes : List ℕ) → IsSound x → x.part.station ≡ Some st → IsWarm x (record { from = Client x.c; to = Front; bytes = bytes }) → IsWarmSegment st.client (decoded bytes x.c ToCluster)
+warm-word : (x : Conn) (st : Station) (bytes : List ℕ) → IsConnSound x → x.part.station ≡ Some st → IsWarm x (record { from = Client x.c; to = Front; bytes = bytes }) → IsWarmSegment st.client (decoded bytes x.c ToCluster)
 warm-word x st bytes sound at h =
     let l : Letter = record { from = Client x.c; to = Front; bytes = bytes } in
     let its : IsWarmSegment st.client (decoded bytes st.client.c ToCluster) = subst (λ (o : Option Station). IsWarmBy o l) at h in
     subst (λ c. IsWarmSegment st.client (decoded bytes c ToCluster)) (sound.client st at) its
 
-warm-forward : (x : Conn) (st : Station) (n epoch : ℕ) (segment bytes : List ℕ) → IsSound x → x.part.station ≡ Some st → Spells x.c epoch (body.Forward segment) bytes → IsWarm x (record { from = Front; to = Node n; bytes = bytes })
+warm-forward : (x : Conn) (st : Station) (n epoch : ℕ) (segment bytes : List ℕ) → IsConnSound x → x.part.station ≡ Some st → SpellsMessage x.c epoch (body.Forward segment) bytes → IsWarm x (record { from = Front; to = Node n; bytes = bytes })
     → IsWarmSegment st.client (decoded segment x.c ToCluster)
 warm-forward x st n epoch segment bytes sound at spells h =
     let l : Letter = record { from = Front; to = Node n; bytes = bytes } in
@@ -102,7 +102,7 @@ module _ (k : Setting) (all : ℕ → Whole) where
   abbrev After : Conn → Part → Type 0
   After x p = (st : Station) → p.station ≡ Some st → SeatKnown (all x.c) st.client (seat_of p)
 
-  front-deed : (x : Conn) (heads : List Seen) (d : front.Deed) → ((st : Station) → x.part.station ≡ Some st → FrontLasts (all x.c) k.nodes k.files x.part st d) → After x (front_does x heads d).part
+  front-deed : (x : Conn) (heads : List Seen) (d : front.FrontDeed) → ((st : Station) → x.part.station ≡ Some st → FrontLasts (all x.c) k.nodes k.files x.part st d) → After x (front_does x heads d).part
       → Lasts k (all x.c) x (front_does x heads d)
   front-deed x heads front.Drops h g = idles k (all x.c) x (front_does x heads front.Drops) refl
   front-deed x heads (front.Says turn) h g = idles k (all x.c) x (front_does x heads (front.Says turn)) refl
@@ -110,7 +110,7 @@ module _ (k : Setting) (all : ℕ → Whole) where
       let v = front_does x heads (front.Does did) in
       by-station k (all x.c) x v refl (λ st at. lasts k (all x.c) x v st st at at (h st at (g st at)))
 
-  node-deed : (x : Conn) (n : ℕ) (heads : List Seen) (d : node.Deed) → ((st : Station) → x.part.station ≡ Some st → NodeLasts (all x.c) k.nodes k.files x.part st n d) → After x (node_does x n heads d).part
+  node-deed : (x : Conn) (n : ℕ) (heads : List Seen) (d : node.NodeDeed) → ((st : Station) → x.part.station ≡ Some st → NodeLasts (all x.c) k.nodes k.files x.part st n d) → After x (node_does x n heads d).part
       → Lasts k (all x.c) x (node_does x n heads d)
   node-deed x n heads node.Drops h g = idles k (all x.c) x (node_does x n heads node.Drops) refl
   node-deed x n heads (node.Says messages) h g = idles k (all x.c) x (node_does x n heads (node.Says messages)) refl
@@ -206,7 +206,7 @@ module _ (k : Setting) (all : ℕ → Whole) where
     fires = λ x s n env there is m g inner came. node-deed x n (event_seen (event.Timer (Node n) x.c)) (node_timer env (x.part.nodes n))
         (λ st at. let known = m.given st at in fires-last (all x.c) k.nodes k.files x.part st n env known.seat known.heard (known.homes n env.epoch) is.epoch_is)
         (λ st at. (g st at).seat);
-    answers = λ x n from epoch r path file bytes is spells was m g inner came. idles k (all x.c) x (stands x (Node n) (packet_seen (Node from) (Node n) bytes) (contents k n from x.c epoch r path)) refl;
+    answers = λ x n from epoch r path file bytes is spells was m g inner came. idles k (all x.c) x (stands x (Node n) (packet_seen (Node from) (Node n) bytes) (content_said k n from x.c epoch r path)) refl;
     queues = λ x n from epoch r path file bytes is spells was m g inner came.
         idles k (all x.c) x (stands x (Node n) (packet_seen (Node from) (Node n) bytes) (record nothing_said { notes = rec.Queued n from x.c r path ∷ [] })) refl;
     brings = λ x n from epoch r path m g inner came. idles k (all x.c) x (stands x (Node n) [] (brought_said k n from x.c epoch r path)) refl;

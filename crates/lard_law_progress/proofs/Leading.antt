@@ -5,8 +5,8 @@ use Rattle.lard_base.specs.declared.place.Place.{Place}
 use Rattle.lard_base.specs.declared.place.Place.TheVariants.{Client, Front, Node}
 use Rattle.lard_bound.specs.Progress.{Answers, IfCame, IsWarm, Lasts, came_in}
 use Rattle.lard_bound.specs.Units.{Whole, units}
-use Rattle.lard_law_view.specs.Carry.{MayMove}
-use Rattle.lard_law_view.specs.View.{ClientRules, Conn, contents, FrontRules, IsNobody, IsUnheard, Move, NodeRules, Rules, Setting, brought_said, client_does, event_seen, front_admits, front_does, grown, node_does, nothing_said, packet_seen, reads_first, stands}
+use Rattle.lard_law_view.specs.Carry.{MayRestOn}
+use Rattle.lard_law_view.specs.View.{ClientRules, Conn, content_said, FrontRules, IsNobody, IsUnheard, Move, NodeRules, Rules, Setting, brought_said, client_does, event_seen, front_admits, front_does, grown, node_does, nothing_said, packet_seen, reads_first, stands}
 use Rattle.lard_law_view.proofs.Saying.{NamesAll}
 use Rattle.lard_rules.specs.Front as front
 use Rattle.lard_rules.specs.Front.{ask_of, front_asked, front_ended, front_gets, front_taken, front_timer}
@@ -57,7 +57,7 @@ pub record Leads (k : Setting) (w : Whole) (x : Conn) (v : Move) : Type 0 where
   pub works : v.heads ≡ [] → JobOwes k w x v
 
 abbrev pub OwesAll : Setting → (ℕ → Whole) → Conn → Move → Type 0
-OwesAll k all x v = MayMove (AllGiven k all) x → AllGiven k all (grown x v) → Comes x v → Leads k (all x.c) x v
+OwesAll k all x v = MayRestOn (AllGiven k all) x → AllGiven k all (grown x v) → Comes x v → Leads k (all x.c) x v
 
 both-came : (P Q : Letter → Type 0) (o : Option Letter) → IfCame P o → IfCame Q o → IfCame (λ l. P l × Q l) o
 both-came P Q None p q = tt
@@ -65,13 +65,13 @@ both-came P Q (Some l) p q = (p, q)
 
 module _ (k : Setting) (all : ℕ → Whole) where
   abbrev Answered : Conn → Move → Type 0
-  Answered x v = MayMove (AllGiven k all) x → AllGiven k all (grown x v) → Comes x v → Lasts k (all x.c) x v → IfCame (Answers k (all x.c) x v) (came_in v.heads)
+  Answered x v = MayRestOn (AllGiven k all) x → AllGiven k all (grown x v) → Comes x v → Lasts k (all x.c) x v → IfCame (Answers k (all x.c) x v) (came_in v.heads)
 
   -- what a rule of prog owes, with what is given of all
-  may : (H : Conn → Type 0) (x : Conn) → MayMove (AllGiven k all) x → (AllGiven k all x → H x) → MayMove H x
+  may : (H : Conn → Type 0) (x : Conn) → MayRestOn (AllGiven k all) x → (AllGiven k all x → H x) → MayRestOn H x
   may H x m f = record { number = m.number; sound = m.sound; given = f m.given }
 
-  lasting : (x : Conn) (v : Move) → Owed k all x v → MayMove (AllGiven k all) x → AllGiven k all (grown x v) → Comes x v → Lasts k (all x.c) x v
+  lasting : (x : Conn) (v : Move) → Owed k all x v → MayRestOn (AllGiven k all) x → AllGiven k all (grown x v) → Comes x v → Lasts k (all x.c) x v
   lasting x v owed m after comes = owed (may (Given k all) x m (λ g. g.known)) after.known comes.inner comes.warm
 
   -- a move that sees its event
@@ -112,10 +112,10 @@ module _ (k : Setting) (all : ℕ → Whole) where
   abbrev FrontOf : Conn → Conn → Type 0
   FrontOf x y = FrontGiven k.files (all x.c) y
 
-  front-sees : (x : Conn) (h : Seen) (d : front.Deed) → let v = front_does x (h ∷ []) d in Owed k all x v → Answered x v → OwesAll k all x v
+  front-sees : (x : Conn) (h : Seen) (d : front.FrontDeed) → let v = front_does x (h ∷ []) d in Owed k all x v → Answered x v → OwesAll k all x v
   front-sees x h d = sees x (front_does x (h ∷ []) d) (begun h [] (front_does x (h ∷ []) d).heads (front-heads x (h ∷ []) d))
 
-  front-by : (x : Conn) (v : Move) → (MayMove (FrontOf x) x → FrontOf x (grown x v) → IfCame (λ a. IsWarm x a × IsLateOn x a) (came_in v.heads) → Lasts k (all x.c) x v → IfCame (Answers k (all x.c) x v) (came_in v.heads))
+  front-by : (x : Conn) (v : Move) → (MayRestOn (FrontOf x) x → FrontOf x (grown x v) → IfCame (λ a. IsWarm x a × IsLateOn x a) (came_in v.heads) → Lasts k (all x.c) x v → IfCame (Answers k (all x.c) x v) (came_in v.heads))
       → Answered x v
   front-by x v h m after comes l = h (may (FrontOf x) x m (λ g. g.front)) after.front (both-came (IsWarm x) (IsLateOn x) (came_in v.heads) comes.warm comes.late) l
 
@@ -155,14 +155,14 @@ module _ (k : Setting) (all : ℕ → Whole) where
   abbrev NodeOf : Conn → Conn → Type 0
   NodeOf x y = NodeGiven k (all x.c) y
 
-  node-sees : (x : Conn) (n : ℕ) (h : Seen) (d : node.Deed) → let v = node_does x n (h ∷ []) d in Owed k all x v → Answered x v → OwesAll k all x v
+  node-sees : (x : Conn) (n : ℕ) (h : Seen) (d : node.NodeDeed) → let v = node_does x n (h ∷ []) d in Owed k all x v → Answered x v → OwesAll k all x v
   node-sees x n h d = sees x (node_does x n (h ∷ []) d) (begun h [] (node_does x n (h ∷ []) d).heads (node-heads x n (h ∷ []) d))
 
   node-by : (x : Conn) (v : Move) → Owes k (all x.c) (NodeOf x) x v → Answered x v
   node-by x v h m after comes l = h (may (NodeOf x) x m (λ g. g.node)) after.node comes.warm comes.late l
 
   -- a node's deed is at its place
-  node-place : (x : Conn) (n : ℕ) (heads : List Seen) (d : node.Deed) → (node_does x n heads d).place ≡ Node n
+  node-place : (x : Conn) (n : ℕ) (heads : List Seen) (d : node.NodeDeed) → (node_does x n heads d).place ≡ Node n
   node-place x n heads node.Drops = refl
   node-place x n heads (node.Says messages) = refl
   node-place x n heads (node.Does given) = refl
@@ -204,7 +204,7 @@ module _ (k : Setting) (all : ℕ → Whole) where
         let h = Row (rec.Event 0 (event.Timer (Node n) x.c)) in
         node-sees x n h d (lasts_all.untouched.node.fires x s n env at is) (node-by x (node_does x n (h ∷ []) d) ((node-answers k (all x.c)).fires x s n env at is));
     answers = λ x n from epoch r path file bytes is spells was.
-        let v = stands x (Node n) (packet_seen (Node from) (Node n) bytes) (contents k n from x.c epoch r path) in
+        let v = stands x (Node n) (packet_seen (Node from) (Node n) bytes) (content_said k n from x.c epoch r path) in
         sees x v (begun (Came (record { from = Node from; to = Node n; bytes = bytes })) [] (packet_seen (Node from) (Node n) bytes) refl) (lasts_all.untouched.node.answers x n from epoch r path file bytes is spells was)
         (node-by x v ((node-answers k (all x.c)).answers x n from epoch r path file bytes is spells was));
     queues = λ x n from epoch r path file bytes is spells was.

@@ -2,9 +2,9 @@
 use Rattle.std.proofs.Common.{◌≡◌, ◌<◌, ◌≤◌, ◌+◌, ℕ, Some, sym, ap, ◌∙◌, arith}
 use Rattle.lard_answers.specs.Answers.{FilesAt}
 use Rattle.lard_bound.specs.Progress.{Lasts, spot_with}
-use Rattle.lard_bound.specs.Seats.{Seat, seat_of}
+use Rattle.lard_bound.specs.Seats.{SeatNow, seat_of}
 use Rattle.lard_bound.specs.Spots.{Spot, spot_of}
-use Rattle.lard_bound.specs.Units.{Whole, client_left, heard_left, left_at, left_with, requests_left, seat_left, tellers, units}
+use Rattle.lard_bound.specs.Units.{Whole, client_left, heard_left, left_to_client, left_with, requests_left, seat_left, tellers, units}
 use Rattle.lard_law_view.specs.View.{Conn, Move, Part, Setting, grown}
 use Rattle.lard_rules.specs.declared.places.Station.{Station}
 
@@ -14,23 +14,23 @@ pub record Lasting (k : Whole) (K : ℕ) (files : FilesAt) (p : Part) (st : Stat
   pub steady : left_with k K p st ≤ left_with k K p' st' → spot_of files p' st' ≡ spot_of files p st
 
 -- what is left by where the connection is, and how many nodes tell an end
-abbrev pub left_by : Whole → Station → Seat → ℕ → ℕ
+abbrev pub left_by : Whole → Station → SeatNow → ℕ → ℕ
 left_by k st z t = client_left k st.client + heard_left k st.client z + (seat_left k st.client z + t) + requests_left k z
 
 -- it is somewhere else: a unit goes
-pub falls : (k : Whole) (K : ℕ) (files : FilesAt) (p p' : Part) (st : Station) (a z : Seat) → seat_of p ≡ a → seat_of p' ≡ z
+pub falls : (k : Whole) (K : ℕ) (files : FilesAt) (p p' : Part) (st : Station) (a z : SeatNow) → seat_of p ≡ a → seat_of p' ≡ z
     → left_by k st z (tellers p'.nodes K) < left_by k st a (tellers p.nodes K) → Lasting k K files p st p' st
 falls k K files p p' st a z is now low =
-    let w : left_with k K p st ≡ left_by k st a (tellers p.nodes K) = ap (λ (s : Seat). left_by k st s (tellers p.nodes K)) is in
-    let n : left_with k K p' st ≡ left_by k st z (tellers p'.nodes K) = ap (λ (s : Seat). left_by k st s (tellers p'.nodes K)) now in
+    let w : left_with k K p st ≡ left_by k st a (tellers p.nodes K) = ap (λ (s : SeatNow). left_by k st s (tellers p.nodes K)) is in
+    let n : left_with k K p' st ≡ left_by k st z (tellers p'.nodes K) = ap (λ (s : SeatNow). left_by k st s (tellers p'.nodes K)) now in
     record { less = omega (arith, w, n, low); steady = λ up. absurd (omega (arith, up, w, n, low)) }
 
 -- so it is of a move
 pub lasts : (k : Setting) (w : Whole) (x : Conn) (v : Move) (st st' : Station) → x.part.station ≡ Some st → v.part.station ≡ Some st' → Lasting w k.nodes k.files x.part st v.part st' → Lasts k w x v
 unfolding units
 lasts k w x v st st' was is h =
-    let a : units w k.nodes x ≡ left_with w k.nodes x.part st = ap (left_at w k.nodes x.part) was in
-    let b : units w k.nodes (grown x v) ≡ left_with w k.nodes v.part st' = ap (left_at w k.nodes v.part) is in
+    let a : units w k.nodes x ≡ left_with w k.nodes x.part st = ap (left_to_client w k.nodes x.part) was in
+    let b : units w k.nodes (grown x v) ≡ left_with w k.nodes v.part st' = ap (left_to_client w k.nodes v.part) is in
     let l : left_with w k.nodes v.part st' ≤ left_with w k.nodes x.part st = h.less in record {
       less = omega (arith, a, b, l);
       steady = λ up.
@@ -42,7 +42,7 @@ lasts k w x v st st' was is h =
 pub idles : (k : Setting) (w : Whole) (x : Conn) (v : Move) → v.part ≡ x.part → Lasts k w x v
 unfolding units
 idles k w x v same =
-    let a : units w k.nodes (grown x v) ≡ units w k.nodes x = λ i. left_at w k.nodes (same i) (same i).station in record {
+    let a : units w k.nodes (grown x v) ≡ units w k.nodes x = λ i. left_to_client w k.nodes (same i) (same i).station in record {
       less = omega (arith, a);
       steady = λ up. ap (λ (p : Part). spot_with k.files (record { c = x.c; part = p; letters = x.letters; seen = x.seen }) p.station) same;
     }

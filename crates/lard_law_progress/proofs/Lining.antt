@@ -8,7 +8,7 @@ use Rattle.lard_endpoint.specs.Arriving.{on_segment}
 use Rattle.lard_endpoint.specs.Control.{ControlBlock}
 use Rattle.lard_endpoint.specs.Leaving.{after_timer}
 use Rattle.lard_rules.specs.declared.front.FrontTurn.{FrontTurn}
-use Rattle.lard_rules.specs.Front.{FrontEnv, FrontPart, admitted_at, admitted_by, admitted_with, fires_at, front_admitted, handed_off, hears_at, offering, rest_of, rests}
+use Rattle.lard_rules.specs.Front.{FrontEnv, FrontPart, admitted_at, admitted_by, front_admitted_with, fires_at, front_admitted, handed_off, hears_at, offering, front_rest, front_rests}
 use Rattle.lard_handoff_front.specs.declared.row.FrontConn.{FrontConn}
 use Rattle.lard_handoff_front.specs.declared.row.FrontConn.TheVariants as stage
 use Rattle.lard_handoff_front.specs.declared.row.FrontRow.{FrontRow}
@@ -32,7 +32,7 @@ module _ (w : Whole) (K : ℕ) (files : FilesAt) (p : Part) (st : Station) where
 
   module _ (row : FrontRow) (b : ControlBlock) (at : p.front.row ≡ Some row) (is : row.stage ≡ stage.Waiting b) (known : SeatKnown w st.client (seat_of p)) where
     abbrev count : ℕ
-    count = (rest_of p.front.rest).count
+    count = (front_rest p.front.rest).count
 
     waits : seat_of p ≡ Waiting b count
     waits = seat-at p row (stage.Waiting b) at is
@@ -41,15 +41,15 @@ module _ (w : Whole) (K : ℕ) (files : FilesAt) (p : Part) (st : Station) where
     knows = subst (SeatKnown w st.client) waits known
 
     -- an endpoint that is as good says what it may: it goes on to wait, or ends
-    goes-on : (c : ℕ) (d : ControlBlock) → b.send.una ≤ d.send.una → (b.send.finished ≡ true → d.send.finished ≡ true) → To (rests p.front row (rest_of p.front.rest) stage.Waiting (rested (speaks c d).1 count))
+    goes-on : (c : ℕ) (d : ControlBlock) → b.send.una ≤ d.send.una → (b.send.finished ≡ true → d.send.finished ≡ true) → To (front_rests p.front row (front_rest p.front.rest) stage.Waiting (rested (speaks c d).1 count))
     goes-on c d una shut =
         let e = (speaks c d).1 in
         let s = speaks-said c d in
-        let rest = rest_of p.front.rest in
+        let rest = front_rest p.front.rest in
         let u : e.send.una ≡ d.send.una = s.una in
-        by-rest c d count (λ (o : Ending). To (rests p.front row rest stage.Waiting o))
-        (waits-on w K files p st (rests p.front row rest stage.Waiting (ending.Here e count)) b e count waits (seat-waits p p.front row rest e count) (omega (arith, u, una)) (λ t. s.finished ∙ shut t))
-        (λ last. waits-over w K files p st (rests p.front row rest stage.Waiting (ending.Over last)) b count last waits (seat-over p p.front row rest stage.Waiting last) knows.0)
+        by-rest c d count (λ (o : Ending). To (front_rests p.front row rest stage.Waiting o))
+        (waits-on w K files p st (front_rests p.front row rest stage.Waiting (ending.Here e count)) b e count waits (seat-waits p p.front row rest e count) (omega (arith, u, una)) (λ t. s.finished ∙ shut t))
+        (λ last. waits-over w K files p st (front_rests p.front row rest stage.Waiting (ending.Over last)) b count last waits (seat-over p p.front row rest stage.Waiting last) knows.0)
 
     pub line-hears : (env : FrontEnv) (bytes : List ℕ) (s : Said) → FrontLasts w K files p st (hears_at env p.front row bytes s (stage.Waiting b))
     line-hears env bytes s behind = let h = heard-ahead b s in goes-on env.serve.c (on_segment b s).1 h.una h.shut
@@ -65,7 +65,7 @@ module _ (w : Whole) (K : ℕ) (files : FilesAt) (p : Part) (st : Station) where
         admitted-less w K files p st f b count choice.node (row.epoch.0 + 1) waits (seat-offering p env row (serving b count []) path choice.node (fresh choice.node)) knows.0 knows.2
 
     pub admits-with : (env : FrontEnv) (choice : FirstChoice) (given : FrontPart × FrontTurn) → IsFresh p.nodes (Some row) → (target : Option (List ℕ))
-        → admitted_with env row (rest_of p.front.rest) b choice target ≡ Some given → To given.0
+        → front_admitted_with env row (front_rest p.front.rest) b choice target ≡ Some given → To given.0
     admits-with env choice given fresh None e = absurd (let bad : ◌≡◌ {A = Option (FrontPart × FrontTurn)} None (Some given) = e in cc)
     admits-with env choice given fresh (Some path) e =
         let same : handed_off env row (serving b count []) path choice ≡ given = cc in
@@ -73,7 +73,7 @@ module _ (w : Whole) (K : ℕ) (files : FilesAt) (p : Part) (st : Station) where
 
   admits-at : (env : FrontEnv) (choice : FirstChoice) (given : FrontPart × FrontTurn) (row : FrontRow) → p.front.row ≡ Some row → SeatKnown w st.client (seat_of p) → IsFresh p.nodes (Some row)
       → (s : FrontConn) → row.stage ≡ s → admitted_at env p.front choice row s ≡ Some given → To given.0
-  admits-at env choice given row at known fresh (stage.Waiting b) is e = admits-with row b at is known env choice given fresh (rest_of p.front.rest).target e
+  admits-at env choice given row at known fresh (stage.Waiting b) is e = admits-with row b at is known env choice given fresh (front_rest p.front.rest).target e
   admits-at env choice given row at known fresh _ is e = absurd (let bad : ◌≡◌ {A = Option (FrontPart × FrontTurn)} None (Some given) = e in cc)
 
   pub admitted-lasts : (env : FrontEnv) (choice : FirstChoice) (given : FrontPart × FrontTurn) → SeatKnown w st.client (seat_of p) → IsFresh p.nodes p.front.row → front_admitted env p.front choice ≡ Some given → To given.0

@@ -1,7 +1,7 @@
 -- How much is left to do at the most, and of all connections together.
 use Rattle.std.proofs.Common.{◌≡◌, ◌<◌, ◌≤◌, ◌+◌, ◌-◌, ◌*◌, ℕ, zero, suc, length, ⊎_elim, sym, subst, arith}
 use Rattle.std.proofs.lemmas.Bool.{cases_lt}
-use Rattle.lard_bound.specs.Seats.{Gone, Held, Here, Offered, Over, Seat, Staying, Unborn, Waiting, seat_of}
+use Rattle.lard_bound.specs.Seats.{Gone, Held, Here, Offered, Over, SeatNow, Staying, Unborn, Waiting, seat_of}
 use Rattle.lard_bound.specs.Units.{Whole, batch_left, ended_left, hand_off, heard_left, left_with, requests_left, seat_left, spoken_left, tellers, units, units_to}
 use Rattle.lard_client.specs.Control.{ClientBlock}
 use Rattle.lard_client.specs.declared.phase.Phase.{Phase}
@@ -21,7 +21,7 @@ pub record IsModestStay (k : Whole) (s : Staying) : Type 0 where
   pub asks : length s.kept ≤ 1
   pub fetches : batch_left s.stay.batch + length s.fetches ≤ 2 * length s.stay.batch
 
-abbrev pub IsModest : Whole → ℕ → Seat → Type 0
+abbrev pub IsModest : Whole → ℕ → SeatNow → Type 0
 IsModest k t Unborn = t ≡ 0
 IsModest k t (Held b count) = t ≡ 0
 IsModest k t (Waiting b count) = (t ≡ 0) × (1 ≤ k.requests)
@@ -41,7 +41,7 @@ module _ (k : Whole) (x : ClientBlock) where
   ended-most phase.Aborted = omega arith
   ended-most phase.Reset = omega arith
 
-  heard-most : (z : Seat) → heard_left k x z ≤ k.answers + 3
+  heard-most : (z : SeatNow) → heard_left k x z ≤ k.answers + 3
   heard-most Unborn = omega arith
   heard-most (Held b count) = let f = flag-one b.send.finished in omega (arith, f)
   heard-most (Waiting b count) = let f = flag-one b.send.finished in omega (arith, f)
@@ -58,7 +58,7 @@ module _ (k : Whole) (x : ClientBlock) where
   stay-most n s b c a f x y z w = omega arith
 
   -- where it is, and its requests
-  way-most : (t : ℕ) (z : Seat) → IsModest k t z → seat_left k x z + t + requests_left k z ≤ 7 + 7 * k.requests
+  way-most : (t : ℕ) (z : SeatNow) → IsModest k t z → seat_left k x z + t + requests_left k z ≤ 7 + 7 * k.requests
   way-most t Unborn m = let h = hand-most k.requests in omega (arith, h, m)
   way-most t (Held b count) m = let h = hand-most k.requests in let s = stale-one x b in omega (arith, h, s, m)
   way-most t (Waiting b count) m = let a = m.0 in let r = m.1 in omega (arith, a, r)

@@ -6,16 +6,16 @@ use Rattle.lard_answers.specs.Answers.{FilesAt}
 use Rattle.lard_base.specs.declared.parts.EndpointParts.{EndpointParts}
 use Rattle.lard_base.specs.declared.place.TimerKind.TheVariants as kind
 use Rattle.lard_bound.specs.Progress.{IsWarmSegment, IsWarmWord}
-use Rattle.lard_bound.specs.Seats.{Gone, Here, Offered, Seat, seat_away, seat_by, seat_decided, seat_in, seat_of, seat_there, stay_of, staying_of, telling, tells_end}
-use Rattle.lard_bound.specs.Units.{Whole, taken}
+use Rattle.lard_bound.specs.Seats.{Gone, Here, Offered, SeatNow, seat_away, seat_by, seat_decided, seat_in, seat_of, seat_there, stay_of, staying_of, telling, tells_end}
+use Rattle.lard_bound.specs.Units.{Whole, symbols_taken}
 use Rattle.lard_client.specs.Control.{ClientBlock}
-use Rattle.lard_law_view.specs.View.{Part, epoch_in, node_put, with_node}
+use Rattle.lard_law_view.specs.View.{Part, epoch_in, node_put_back, with_node}
 use Rattle.lard_endpoint.specs.Arriving.{on_segment}
 use Rattle.lard_endpoint.specs.Control.{ControlBlock}
 use Rattle.lard_endpoint.specs.Leaving.{after_timer}
-use Rattle.lard_rules.specs.Front.{rest_of}
-use Rattle.lard_handoff_back.specs.Back.{awaits_ack, endpoint_of, offer_answer, staying}
-use Rattle.lard_handoff_back.specs.Row.{held_in, is_ended, is_gone}
+use Rattle.lard_rules.specs.Front.{front_rest}
+use Rattle.lard_handoff_back.specs.Back.{awaits_ack, back_endpoint, offer_answer, staying}
+use Rattle.lard_handoff_back.specs.Row.{back_held, is_ended, is_gone}
 use Rattle.lard_handoff_back.specs.declared.row.BackConn.{BackConn}
 use Rattle.lard_handoff_back.specs.declared.row.BackConn.TheVariants as back
 use Rattle.lard_handoff_back.specs.declared.row.BackRow.{BackRow}
@@ -27,7 +27,7 @@ use Rattle.lard_handoff_front.specs.declared.row.FrontRow.{FrontRow}
 use Rattle.lard_lateral.specs.Lateral.{is_from}
 use Rattle.lard_rules.specs.declared.stay.Stay.{Stay}
 use Rattle.lard_rules.specs.Node as node
-use Rattle.lard_rules.specs.Node.{Does, Drops, NodePart, both_of, come_by, fired_by, gone, heard_by, here, is_awaited, kept_after, node_acknowledged, node_content, node_forwarded, node_offered, node_read, node_tagged, node_timer, offered_by, read_by, saying, tagged_by, taken_sent, with_work, work_of}
+use Rattle.lard_rules.specs.Node.{Does, Drops, NodePart, both_of, come_by, node_fired_by, gone, node_heard_by, here, is_tag_awaited, kept_after, node_acknowledged, node_content, node_forwarded, node_offered, node_read, node_tagged, node_timer, offered_by, node_read_by, node_saying, tagged_by, taken_sent, with_work, work_of}
 use Rattle.lard_rules.specs.Stay.{NodeEnv, Work, came_for, come_progress, goes_on, read_progress, tagged}
 use Rattle.lard_law_progress.proofs.Away.{Fits, away-here, by-ending, seat-put, seat-with, tells}
 use Rattle.lard_law_progress.proofs.Given.{IsAt, IsNewOffer, SeatKnown}
@@ -40,7 +40,7 @@ use Rattle.lard_resend.specs.Kept.{is_under, without}
 use Rattle.lard_rules.specs.declared.places.Ending.{Ending}
 use Rattle.lard_rules.specs.declared.places.Ending.TheVariants as ending
 use Rattle.lard_rules.specs.declared.places.Station.{Station}
-use Rattle.lard_rules.specs.Serving.{ServeEnv, Service, settled}
+use Rattle.lard_rules.specs.Serving.{ServeEnv, Service, serving_settled}
 use Rattle.lard_rules.specs.Speaking.{speaks}
 use Rattle.lard_segment.specs.declared.fault.SegFault.{SegFault}
 use Rattle.lard_segment.specs.Segment.{Said}
@@ -53,7 +53,7 @@ module _ (e : ℕ) (q : NodePart) (P : Option (ControlBlock × Stay) → Type 0)
   by-stay b is None at = none
   by-stay b is (Some s) at = subst (λ (t : Stay). P (Some (b, t))) (ap stay_of at) (there b is)
 
-  by-stage : (row : BackRow) → q.row ≡ Some row → row.epoch.0 ≡ e → (s : BackConn) → row.stage ≡ s → P (both_of (held_in s) q.stay)
+  by-stage : (row : BackRow) → q.row ≡ Some row → row.epoch.0 ≡ e → (s : BackConn) → row.stage ≡ s → P (both_of (back_held s) q.stay)
   by-stage row at same (back.Here b) is =
       let now : ◌≡◌ {A = Option BackRow} (Some row) (Some (record { stage = back.Here b; epoch = record { 0 = e } })) = λ i. Some (record { stage = is i; epoch = record { 0 = same i } }) in
       by-stay b (at ∙ now) q.stay refl
@@ -63,17 +63,17 @@ module _ (e : ℕ) (q : NodePart) (P : Option (ControlBlock × Stay) → Type 0)
   by-here = go q.row refl where
     go : (o : Option BackRow) → q.row ≡ o → P (both_of (staying e o) q.stay)
     go None at = none
-    go (Some row) at = cond_both (row.epoch.0 == e) (held_in row.stage) None (λ (o : Option ControlBlock). P (both_of o q.stay)) (λ t. by-stage row at (eqb-true row.epoch.0 e t) row.stage refl) (λ t. none)
+    go (Some row) at = cond_both (row.epoch.0 == e) (back_held row.stage) None (λ (o : Option ControlBlock). P (both_of o q.stay)) (λ t. by-stage row at (eqb-true row.epoch.0 e t) row.stage refl) (λ t. none)
 
   -- whatever its epoch is
-  pub by-own : e ≡ epoch_in q → P (both_of (endpoint_of q.row) q.stay)
+  pub by-own : e ≡ epoch_in q → P (both_of (back_endpoint q.row) q.stay)
   by-own same = go q.row refl where
-    go : (o : Option BackRow) → q.row ≡ o → P (both_of (endpoint_of o) q.stay)
+    go : (o : Option BackRow) → q.row ≡ o → P (both_of (back_endpoint o) q.stay)
     go None at = none
     go (Some row) at = let its : epoch_in q ≡ row.epoch.0 = ap (λ (o : Option BackRow). epoch_in (record q { row = o })) at in by-stage row at (sym (same ∙ its)) row.stage refl
 
 -- what is still here served as many as were counted
-ending-count : (env : ServeEnv) (s : Service) (d : ControlBlock) (count : ℕ) → (settled env s).0 ≡ ending.Here d count → count ≡ s.count
+ending-count : (env : ServeEnv) (s : Service) (d : ControlBlock) (count : ℕ) → (serving_settled env s).0 ≡ ending.Here d count → count ≡ s.count
 ending-count env s d count = by-ending env s (λ (o : Ending). o ≡ ending.Here d count → count ≡ s.count)
     (λ none e. let is : ◌≡◌ {A = Ending} (ending.Here (speaks env.c s.block).1 s.count) (ending.Here d count) = e in cc)
     (λ last e. absurd (let bad : ◌≡◌ {A = Ending} (ending.Over last) (ending.Here d count) = e in cc))
@@ -119,7 +119,7 @@ module _ (w : Whole) (K : ℕ) (files : FilesAt) (p : Part) (st : Station) (n : 
   abbrev q : NodePart
   q = p.nodes n
 
-  abbrev Owes : node.Deed → Type 0
+  abbrev Owes : node.NodeDeed → Type 0
   Owes d = NodeLasts w K files p st n d
 
   abbrev Behind : NodePart → Type 0
@@ -127,33 +127,33 @@ module _ (w : Whole) (K : ℕ) (files : FilesAt) (p : Part) (st : Station) (n : 
 
   -- ---- a connection that is here
 
-  module _ (known : SeatKnown w x (seat_of p)) (heard_all : taken x ≤ w.answers + 2) (b : ControlBlock) (is : q.row ≡ Some (record { stage = back.Here b; epoch = record { 0 = env.epoch } })) (at : IsAt p.front n env.epoch) where
+  module _ (known : SeatKnown w x (seat_of p)) (heard_all : symbols_taken x ≤ w.answers + 2) (b : ControlBlock) (is : q.row ≡ Some (record { stage = back.Here b; epoch = record { 0 = env.epoch } })) (at : IsAt p.front n env.epoch) where
     sits : seat_of p ≡ Here at.told n env.epoch b (staying_of q)
-    sits = seat-with p n env.epoch at.told at.row at.front at.with_ ∙ away-here at.told n env.epoch (rest_of p.front.rest).count q b is
+    sits = seat-with p n env.epoch at.told at.row at.front at.with_ ∙ away-here at.told n env.epoch (front_rest p.front.rest).count q b is
 
     knows : SeatKnown w x (Here at.told n env.epoch b (staying_of q))
     knows = subst (SeatKnown w x) sits known
 
     -- what is known behind a turn, where it is still here
-    fits : (pp : NodePart) (v : Work) → Behind (kept_after env pp v (settled env.serve v.service).0) → (d : ControlBlock) (count : ℕ) → (settled env.serve v.service).0 ≡ ending.Here d count
+    fits : (pp : NodePart) (v : Work) → Behind (kept_after env pp v (serving_settled env.serve v.service).0) → (d : ControlBlock) (count : ℕ) → (serving_settled env.serve v.service).0 ≡ ending.Here d count
         → Fits w K files p st n at.told at.row b env at.front at.with_ is knows.0 d v
     fits pp v behind d count same =
         let z : NodePart = kept_after env pp v (ending.Here d count) in
-        let there : seat_of (with_node p n z) ≡ Here at.told n env.epoch d (staying_of z) = seat-put p n env.epoch at.told at.row z at.front at.with_ ∙ away-here at.told n env.epoch (rest_of p.front.rest).count z d refl in
-        let now : seat_of (with_node p n (kept_after env pp v (settled env.serve v.service).0)) ≡ Here at.told n env.epoch d (staying_of z) = ap (λ (o : Ending). seat_of (with_node p n (kept_after env pp v o))) same ∙ there in
+        let there : seat_of (with_node p n z) ≡ Here at.told n env.epoch d (staying_of z) = seat-put p n env.epoch at.told at.row z at.front at.with_ ∙ away-here at.told n env.epoch (front_rest p.front.rest).count z d refl in
+        let now : seat_of (with_node p n (kept_after env pp v (serving_settled env.serve v.service).0)) ≡ Here at.told n env.epoch d (staying_of z) = ap (λ (o : Ending). seat_of (with_node p n (kept_after env pp v o))) same ∙ there in
         let h : SeatKnown w x (Here at.told n env.epoch d (staying_of z)) = subst (SeatKnown w x) now behind in
         let c = ending-count env.serve v.service d count same in
         let few : count + length v.batch ≤ w.requests = h.1 in
         record { acked = h.0; taken_in = heard_all; few = omega (arith, few, c) }
 
-    hears : (s : Said) → IsWarmWord x s x.phase → Owes (heard_by env q (Ok s) (Some (b, stay_of q.stay)))
+    hears : (s : Said) → IsWarmWord x s x.phase → Owes (node_heard_by env q (Ok s) (Some (b, stay_of q.stay)))
     hears s warm behind = forwarded-lasts w K files p st n at.told at.row b env at.front at.with_ is knows.0 s warm knows.2 (fits q (goes_on env (work_of (on_segment b s).1 (stay_of q.stay))) behind)
 
     tags : (number : ℕ) (nodes : List ℕ) → Owes (tagged_by env number nodes q (Some (b, stay_of q.stay)))
     tags number nodes =
         let v = goes_on env (tagged env nodes (work_of b (stay_of q.stay))) in
         let rest : NodePart = record q { kept = without kind.Ask 0 q.kept } in
-        cond_both (is_awaited env number nodes q (stay_of q.stay)) (with_work env rest [] v) Drops Owes
+        cond_both (is_tag_awaited env number nodes q (stay_of q.stay)) (with_work env rest [] v) Drops Owes
         (λ t behind. tagged-lasts w K files p st n at.told at.row b env at.front at.with_ is knows.0 nodes (and_parts _ _ t).0 (fits rest v behind))
         (λ t. tt)
 
@@ -166,17 +166,17 @@ module _ (w : Whole) (K : ℕ) (files : FilesAt) (p : Part) (st : Station) (n : 
         (λ t behind. content-lasts w K files p st n at.told at.row b env at.front at.with_ is knows.0 from r (awaited-some from env.epoch found t) (fits rest v behind))
         (λ t. tt)
 
-    reads : (r : ℕ) → Owes (read_by env r q (Some (b, stay_of q.stay)))
+    reads : (r : ℕ) → Owes (node_read_by env r q (Some (b, stay_of q.stay)))
     reads r behind = read-lasts w K files p st n at.told at.row b env at.front at.with_ is knows.0 r (fits q (goes_on env (came_for read_progress r (work_of b (stay_of q.stay)))) behind)
 
-    fires : Owes (fired_by env q (Some (b, stay_of q.stay)))
+    fires : Owes (node_fired_by env q (Some (b, stay_of q.stay)))
     fires behind = timer-lasts w K files p st n at.told at.row b env at.front at.with_ is knows.0 [] (fits q (work_of (after_timer b) (stay_of q.stay)) behind)
 
-  module _ (known : SeatKnown w x (seat_of p)) (heard_all : taken x ≤ w.answers + 2)
+  module _ (known : SeatKnown w x (seat_of p)) (heard_all : symbols_taken x ≤ w.answers + 2)
       (homes : (b : ControlBlock) → q.row ≡ Some (record { stage = back.Here b; epoch = record { 0 = env.epoch } }) → IsAt p.front n env.epoch) where
     pub forwards-last : (r : Result Said SegFault) → IsWarmSegment x r → Owes (node_forwarded env q r)
     forwards-last (Err fault) warm = tt
-    forwards-last (Ok s) warm = by-here env.epoch q (λ (o : Option (ControlBlock × Stay)). Owes (heard_by env q (Ok s) o)) tt (λ b is. hears known heard_all b is (homes b is) s warm)
+    forwards-last (Ok s) warm = by-here env.epoch q (λ (o : Option (ControlBlock × Stay)). Owes (node_heard_by env q (Ok s) o)) tt (λ b is. hears known heard_all b is (homes b is) s warm)
 
     pub tags-last : (number : ℕ) (nodes : List ℕ) → Owes (node_tagged env q number nodes)
     tags-last number nodes = by-here env.epoch q (λ (o : Option (ControlBlock × Stay)). Owes (tagged_by env number nodes q o)) tt (λ b is. tags known heard_all b is (homes b is) number nodes)
@@ -185,20 +185,20 @@ module _ (w : Whole) (K : ℕ) (files : FilesAt) (p : Part) (st : Station) (n : 
     contents-last from r = by-here env.epoch q (λ (o : Option (ControlBlock × Stay)). Owes (come_by env from r q o)) tt (λ b is. comes known heard_all b is (homes b is) from r)
 
     pub reads-last : (r : ℕ) → Owes (node_read env q r)
-    reads-last r = by-here env.epoch q (λ (o : Option (ControlBlock × Stay)). Owes (read_by env r q o)) tt (λ b is. reads known heard_all b is (homes b is) r)
+    reads-last r = by-here env.epoch q (λ (o : Option (ControlBlock × Stay)). Owes (node_read_by env r q o)) tt (λ b is. reads known heard_all b is (homes b is) r)
 
     pub fires-last : env.epoch ≡ epoch_in q → Owes (node_timer env q)
-    fires-last own = by-own env.epoch q (λ (o : Option (ControlBlock × Stay)). Owes (fired_by env q o)) tt (λ b is. fires known heard_all b is (homes b is)) own
+    fires-last own = by-own env.epoch q (λ (o : Option (ControlBlock × Stay)). Owes (node_fired_by env q o)) tt (λ b is. fires known heard_all b is (homes b is)) own
 
   -- ---- an Offer that is new
 
   adopts : (parts : EndpointParts) → offer_answer env.epoch q.row ≡ New → IsNewOffer p x n env.epoch parts → Owes (offered_by env parts q New)
   adopts parts new o behind =
       let v = taking env parts in
-      let count = (rest_of p.front.rest).count in
+      let count = (front_rest p.front.rest).count in
       let free = new-row n env.epoch count q q.row new in
       let offered : seat_of p ≡ Offered n env.epoch count = seat-with p n env.epoch false o.row o.front o.with_ ∙ free.0 in
-      let E : Ending → Type 0 = λ e. (settled env.serve v.service).0 ≡ e → Behind (kept_after env q v e) → Lasting w K files p st (with_node p n (kept_after env q v (settled env.serve v.service).0)) st in
+      let E : Ending → Type 0 = λ e. (serving_settled env.serve v.service).0 ≡ e → Behind (kept_after env q v e) → Lasting w K files p st (with_node p n (kept_after env q v (serving_settled env.serve v.service).0)) st in
       by-ending env.serve v.service E
       (λ none same there. offered-lasts w K files p st n o.row env o.front o.with_ offered free.1 parts o.kept o.fetches o.served o.una
       (λ none.
@@ -207,7 +207,7 @@ module _ (w : Whole) (K : ℕ) (files : FilesAt) (p : Part) (st : Station) (n : 
       let now : seat_of (with_node p n z) ≡ Here false n env.epoch d (staying_of z) = seat-put p n env.epoch false o.row z o.front o.with_ ∙ away-here false n env.epoch count z d refl in
       let h : SeatKnown w x (Here false n env.epoch d (staying_of z)) = subst (SeatKnown w x) now there in
       h.1))
-      (λ last same there. over-there w K files p st n o.row env o.front o.with_ offered free.1 (kept_after env q v (settled env.serve v.service).0) (ap (λ (e : Ending). (kept_after env q v e).row) same))
+      (λ last same there. over-there w K files p st n o.row env o.front o.with_ offered free.1 (kept_after env q v (serving_settled env.serve v.service).0) (ap (λ (e : Ending). (kept_after env q v e).row) same))
       refl behind
 
   pub offers-last : (parts : EndpointParts) → (offer_answer env.epoch q.row ≡ New → IsNewOffer p x n env.epoch parts) → Owes (node_offered env q parts)
@@ -221,26 +221,26 @@ module _ (w : Whole) (K : ℕ) (files : FilesAt) (p : Part) (st : Station) (n : 
 
   -- the connection is where it was
   module _ (row : BackRow) (z : NodePart) (was : q.row ≡ Some row) (ended : is_ended row.stage ≡ true) (now : z.row ≡ Some (record row { stage = back.Gone })) where
-    same-away : (told : Bool) (m e count : ℕ) → seat_away told m e count (node_put p.nodes n z m) ≡ seat_away told m e count (p.nodes m)
+    same-away : (told : Bool) (m e count : ℕ) → seat_away told m e count (node_put_back p.nodes n z m) ≡ seat_away told m e count (p.nodes m)
     same-away told m e count = cond_both (m == n) z (p.nodes m) (λ (y : NodePart). seat_away told m e count y ≡ seat_away told m e count (p.nodes m))
         (λ t.
         let a : seat_away told m e count z ≡ cond (row.epoch.0 == e) (Gone told m e) (Offered m e count) = ap (seat_decided told m e count z) now in
         let b : seat_away told m e count (p.nodes m) ≡ seat_away told m e count q = ap (λ i. seat_away told m e count (p.nodes i)) (eqb-true m n t) in
         let c : seat_away told m e count q ≡ cond (row.epoch.0 == e) (seat_there told m e count q row.stage) (Offered m e count) = ap (seat_decided told m e count q) was in
         let d : cond (row.epoch.0 == e) (seat_there told m e count q row.stage) (Offered m e count) ≡ cond (row.epoch.0 == e) (Gone told m e) (Offered m e count) =
-        ap (λ (s : Seat). cond (row.epoch.0 == e) s (Offered m e count)) (ended-there told m e count q row.stage ended) in
+        ap (λ (s : SeatNow). cond (row.epoch.0 == e) s (Offered m e count)) (ended-there told m e count q row.stage ended) in
         a ∙ sym (b ∙ c ∙ d))
         (λ t. refl)
 
-    same-stage : (s : FrontConn) → seat_in p.front (node_put p.nodes n z) s ≡ seat_in p.front p.nodes s
-    same-stage (stage.Offering m d) = same-away false m d.0 (rest_of p.front.rest).count
-    same-stage (stage.Moved m d) = same-away true m d.0 (rest_of p.front.rest).count
+    same-stage : (s : FrontConn) → seat_in p.front (node_put_back p.nodes n z) s ≡ seat_in p.front p.nodes s
+    same-stage (stage.Offering m d) = same-away false m d.0 (front_rest p.front.rest).count
+    same-stage (stage.Moved m d) = same-away true m d.0 (front_rest p.front.rest).count
     same-stage _ = refl
 
     same-seat : seat_of (with_node p n z) ≡ seat_of p
     unfolding seat_of
     same-seat = go p.front.row where
-      go : (o : Option FrontRow) → seat_by p.front (node_put p.nodes n z) o ≡ seat_by p.front p.nodes o
+      go : (o : Option FrontRow) → seat_by p.front (node_put_back p.nodes n z) o ≡ seat_by p.front p.nodes o
       go None = refl
       go (Some r) = same-stage r.stage
 
@@ -253,7 +253,7 @@ module _ (w : Whole) (K : ℕ) (files : FilesAt) (p : Part) (st : Station) (n : 
   pub acknowledged-lasts : ((row : BackRow) → q.row ≡ Some row → (1 ≤ n) × (n ≤ K)) → Owes (node_acknowledged env q)
   acknowledged-lasts there =
       let z : NodePart = record q { row = gone q.row; kept = without kind.Ended 0 q.kept } in
-      cond_both (awaits_ack env.epoch q.row) (Does (z, saying [])) Drops Owes (λ t behind. go q.row refl t) (λ t. tt)
+      cond_both (awaits_ack env.epoch q.row) (Does (z, node_saying [])) Drops Owes (λ t behind. go q.row refl t) (λ t. tt)
     where
       go : (o : Option BackRow) → q.row ≡ o → awaits_ack env.epoch o ≡ true → Lasting w K files p st (with_node p n (record q { row = gone q.row; kept = without kind.Ended 0 q.kept })) st
       go None at t = absurd (let bad : false ≡ true = t in cc)

@@ -7,16 +7,16 @@ use Rattle.lard_base.specs.declared.place.Place.{Place}
 use Rattle.lard_base.specs.declared.place.TimerKind.TheVariants as kind
 use Rattle.lard_bound.specs.Progress.{IsWarmWord}
 use Rattle.lard_bound.specs.Seats.{Offered, Staying, seat_of, staying_of}
-use Rattle.lard_bound.specs.Units.{Whole, taken}
+use Rattle.lard_bound.specs.Units.{Whole, symbols_taken}
 use Rattle.lard_client.specs.declared.phase.Phase.TheVariants as phase
 use Rattle.lard_law_view.specs.View.{Part, with_node}
 use Rattle.lard_endpoint.specs.Arriving.{on_segment}
 use Rattle.lard_endpoint.specs.Control.{ControlBlock}
 use Rattle.lard_endpoint.specs.Leaving.{after_timer}
-use Rattle.lard_rules.specs.Front.{rest_of}
+use Rattle.lard_rules.specs.Front.{front_rest}
 use Rattle.lard_handoff_back.specs.declared.row.BackConn.TheVariants as back
 use Rattle.lard_handoff_front.specs.declared.row.FrontRow.{FrontRow}
-use Rattle.lard_rules.specs.Node.{NodePart, begins, rests, taken_sent, work_of}
+use Rattle.lard_rules.specs.Node.{NodePart, node_begins, node_rests, taken_sent, work_of}
 use Rattle.lard_rules.specs.Stay.{NodeEnv, Work, came_for, come_progress, goes_on, read_progress, reads_batch, tagged}
 use Rattle.lard_law_progress.proofs.Away.{Fits, IsWith, tells, turn-less}
 use Rattle.lard_law_progress.proofs.Handing.{adopted-less}
@@ -28,13 +28,13 @@ use Rattle.lard_resend.specs.Kept.{is_under, without}
 use Rattle.lard_rules.specs.declared.places.Ending.TheVariants as ending
 use Rattle.lard_rules.specs.declared.places.Station.{Station}
 use Rattle.lard_rules.specs.Loop.{state_of}
-use Rattle.lard_rules.specs.Serving.{settled}
+use Rattle.lard_rules.specs.Serving.{serving_settled}
 use Rattle.lard_segment.specs.Segment.{Said}
 
 -- A connection that is at node n: the front end's row, the node's, and no more is acknowledged than the client took.
 module _ (k : Whole) (K : ℕ) (files : FilesAt) (p : Part) (st : Station) (n : ℕ) (told : Bool) (row : FrontRow) (b : ControlBlock) (env : NodeEnv)
     (front : p.front.row ≡ Some row) (with_ : IsWith told n env.epoch row.stage) (here : (p.nodes n).row ≡ Some (record { stage = back.Here b; epoch = record { 0 = env.epoch } }))
-    (una : b.send.una ≤ taken st.client) where
+    (una : b.send.una ≤ symbols_taken st.client) where
   abbrev q : NodePart
   q = p.nodes n
 
@@ -43,10 +43,10 @@ module _ (k : Whole) (K : ℕ) (files : FilesAt) (p : Part) (st : Station) (n : 
 
   -- what holds of it behind the turn, if it is still there then
   abbrev pub Then : Work → Type 0
-  Then w = (d : ControlBlock) (count : ℕ) → (settled env.serve w.service).0 ≡ ending.Here d count → Fits k K files p st n told row b env front with_ here una d w
+  Then w = (d : ControlBlock) (count : ℕ) → (serving_settled env.serve w.service).0 ≡ ending.Here d count → Fits k K files p st n told row b env front with_ here una d w
 
   abbrev pub To : List (Place × List ℕ) → NodePart → Work → Type 0
-  To before pp w = Lasting k K files p st (with_node p n (rests env pp before w).0) st
+  To before pp w = Lasting k K files p st (with_node p n (node_rests env pp before w).0) st
 
   done : (kept fetches : List Kept) (w : Work) → Works st.client env b s kept fetches w → (before : List (Place × List ℕ)) (pp : NodePart) → pp.kept ≡ kept → pp.fetches ≡ fetches → Then w → To before pp w
   done kept fetches w works before pp ks fs fits = turn-less k K files p st n told row b env front with_ here una kept fetches w works before pp ks fs fits
@@ -77,20 +77,20 @@ module _ (k : Whole) (K : ℕ) (files : FilesAt) (p : Part) (st : Station) (n : 
 
 -- A node takes a connection, and reads its first batch.
 abbrev pub taking : NodeEnv → EndpointParts → Work
-taking env parts = goes_on env (state_of (reads_batch env true (begins env parts)))
+taking env parts = goes_on env (state_of (reads_batch env true (node_begins env parts)))
 
-takes-on : (env : NodeEnv) (parts : EndpointParts) → Onward env [] [] (begins env parts) (taking env parts)
+takes-on : (env : NodeEnv) (parts : EndpointParts) → Onward env [] [] (node_begins env parts) (taking env parts)
 takes-on env parts =
-    let a = begins env parts in
+    let a = node_begins env parts in
     let c = state_of (reads_batch env true a) in
     onward-then env [] [] a c (goes_on env c) (first-batch env [] [] a refl refl) (goes-onward env [] [] c)
 
 module _ (k : Whole) (K : ℕ) (files : FilesAt) (p : Part) (st : Station) (n : ℕ) (row : FrontRow) (env : NodeEnv) (front : p.front.row ≡ Some row) (with_ : IsWith false n env.epoch row.stage)
-    (offered : seat_of p ≡ Offered n env.epoch (rest_of p.front.rest).count) (quiet : tells (p.nodes n) ≡ 0) where
+    (offered : seat_of p ≡ Offered n env.epoch (front_rest p.front.rest).count) (quiet : tells (p.nodes n) ≡ 0) where
   -- Nothing was kept there of it. The Offer has the endpoint as the front end counts, and what the client took was acknowledged to it.
-  pub offered-lasts : (parts : EndpointParts) → (p.nodes n).kept ≡ [] → (p.nodes n).fetches ≡ [] → parts.served ≡ (rest_of p.front.rest).count → taken st.client ≤ parts.una
+  pub offered-lasts : (parts : EndpointParts) → (p.nodes n).kept ≡ [] → (p.nodes n).fetches ≡ [] → parts.served ≡ (front_rest p.front.rest).count → symbols_taken st.client ≤ parts.una
       → ((taking env parts).service.over ≡ None → read_of (taking env parts) ≤ k.requests)
-      → Lasting k K files p st (with_node p n (rests env (p.nodes n) (taken_sent env) (taking env parts)).0) st
+      → Lasting k K files p st (with_node p n (node_rests env (p.nodes n) (taken_sent env) (taking env parts)).0) st
   offered-lasts parts ks fs served una few =
       let o = takes-on env parts in
       let w = taking env parts in

@@ -4,7 +4,7 @@ use Rattle.std.proofs.lemmas.Bool.{and_parts, cond_both, not-true}
 use Rattle.lard_answers.specs.Answers.{FilesAt}
 use Rattle.lard_bound.specs.Progress.{IsWarmSegment, IsWarmWord}
 use Rattle.lard_bound.specs.Seats.{Held, Waiting, seat_of}
-use Rattle.lard_bound.specs.Units.{Whole, taken}
+use Rattle.lard_bound.specs.Units.{Whole, symbols_taken}
 use Rattle.lard_client.specs.Control.{ClientBlock}
 use Rattle.lard_law_view.specs.View.{Part, with_front}
 use Rattle.lard_dispatch.specs.declared.dispatch.First.{First}
@@ -14,8 +14,8 @@ use Rattle.lard_endpoint.specs.Control.{ControlBlock, listening}
 use Rattle.lard_endpoint.specs.Leaving.{after_timer}
 use Rattle.lard_endpoint.specs.Moving.{may_freeze}
 use Rattle.lard_rules.specs.declared.front.FrontRest.{FrontRest}
-use Rattle.lard_rules.specs.Front.{Does, Drops, FrontEnv, FrontPart, begun, fired_by, fires_at, front_gets, front_hears, front_timer, hears_at, met, offering, placed, rest_of, rests, settled_by}
-use Rattle.lard_rules.specs.FrontReading.{Reading, reads}
+use Rattle.lard_rules.specs.Front.{Does, Drops, FrontEnv, FrontPart, front_begun, front_fired_by, fires_at, front_gets, front_hears, front_timer, hears_at, met, offering, placed, front_rest, front_rests, settled_by}
+use Rattle.lard_rules.specs.FrontReading.{Reading, front_reads}
 use Rattle.lard_handoff_front.specs.declared.row.FrontConn.{FrontConn}
 use Rattle.lard_handoff_front.specs.declared.row.FrontConn.TheVariants as stage
 use Rattle.lard_handoff_front.specs.declared.row.FrontRow.{FrontRow}
@@ -34,7 +34,7 @@ use Rattle.lard_rules.specs.declared.places.Ending.{Ending}
 use Rattle.lard_rules.specs.declared.places.Ending.TheVariants as ending
 use Rattle.lard_rules.specs.declared.places.Station.{Station}
 use Rattle.lard_rules.specs.Tombstone.{is_plain_syn}
-use Rattle.lard_rules.specs.Serving.{ServeEnv, Service, rested, serving, settled}
+use Rattle.lard_rules.specs.Serving.{ServeEnv, Service, rested, serving, serving_settled}
 use Rattle.lard_rules.specs.Speaking.{speaks}
 use Rattle.lard_segment.specs.declared.fault.SegFault.{SegFault}
 use Rattle.lard_segment.specs.Segment.{Said}
@@ -59,24 +59,24 @@ module _ (w : Whole) (K : ℕ) (files : FilesAt) (p : Part) (st : Station) where
 
   -- ---- it begins
 
-  begins : (env : FrontEnv) (s : Said) → p.front.row ≡ None → taken x ≡ 0 → FrontLasts w K files p st (begun env p.front s)
+  begins : (env : FrontEnv) (s : Said) → p.front.row ≡ None → symbols_taken x ≡ 0 → FrontLasts w K files p st (front_begun env p.front s)
   begins env s at none behind =
       let row : FrontRow = record { stage = stage.Lent; epoch = record { 0 = 1 }; ended_by = None } in
       let was = seat-none p at in
       let b = listening s env.iss in
       let e = (speaks env.serve.c b).1 in
-      by-rest env.serve.c b 0 (λ (o : Ending). To (rests p.front row (rest_of None) stage.Held o))
-      (begins-less w K files p st (rests p.front row (rest_of None) stage.Held (ending.Here e 0)) e was (seat-held p p.front row (rest_of None) e 0) (omega (arith, none)))
-      (λ last. begins-over w K files p st (rests p.front row (rest_of None) stage.Held (ending.Over last)) last was (seat-over p p.front row (rest_of None) stage.Held last))
+      by-rest env.serve.c b 0 (λ (o : Ending). To (front_rests p.front row (front_rest None) stage.Held o))
+      (begins-less w K files p st (front_rests p.front row (front_rest None) stage.Held (ending.Here e 0)) e was (seat-held p p.front row (front_rest None) e 0) (omega (arith, none)))
+      (λ last. begins-over w K files p st (front_rests p.front row (front_rest None) stage.Held (ending.Over last)) last was (seat-over p p.front row (front_rest None) stage.Held last))
 
-  meets : (env : FrontEnv) (s : Said) → p.front.row ≡ None → taken x ≡ 0 → FrontLasts w K files p st (met env p.front s)
-  meets env s at none = cond_both (is_plain_syn s) (begun env p.front s) Drops (FrontLasts w K files p st) (λ t. begins env s at none) (λ t. tt)
+  meets : (env : FrontEnv) (s : Said) → p.front.row ≡ None → symbols_taken x ≡ 0 → FrontLasts w K files p st (met env p.front s)
+  meets env s at none = cond_both (is_plain_syn s) (front_begun env p.front s) Drops (FrontLasts w K files p st) (λ t. begins env s at none) (λ t. tt)
 
   -- ---- the front end has it
 
-  module _ (row : FrontRow) (b : ControlBlock) (at : p.front.row ≡ Some row) (is : row.stage ≡ stage.Held b) (known : SeatKnown w x (seat_of p)) (heard_all : taken x ≤ w.answers + 2) (fresh : IsFresh p.nodes (Some row)) where
+  module _ (row : FrontRow) (b : ControlBlock) (at : p.front.row ≡ Some row) (is : row.stage ≡ stage.Held b) (known : SeatKnown w x (seat_of p)) (heard_all : symbols_taken x ≤ w.answers + 2) (fresh : IsFresh p.nodes (Some row)) where
     abbrev rest : FrontRest
-    rest = rest_of p.front.rest
+    rest = front_rest p.front.rest
 
     abbrev count : ℕ
     count = rest.count
@@ -88,9 +88,9 @@ module _ (w : Whole) (K : ℕ) (files : FilesAt) (p : Part) (st : Station) where
     knows = subst (SeatKnown w x) held known
 
     -- what is known behind a turn, where the front end still has it
-    fits : (o : Ending) → Then (rests p.front row rest stage.Held o) → (e : ControlBlock) (n : ℕ) → o ≡ ending.Here e n → FitsAt w x e n
+    fits : (o : Ending) → Then (front_rests p.front row rest stage.Held o) → (e : ControlBlock) (n : ℕ) → o ≡ ending.Here e n → FitsAt w x e n
     fits o behind e n same =
-        let sits : seat_of (with_front p (rests p.front row rest stage.Held o)) ≡ Held e n = ap (λ (o : Ending). seat_of (with_front p (rests p.front row rest stage.Held o))) same ∙ seat-held p p.front row rest e n in
+        let sits : seat_of (with_front p (front_rests p.front row rest stage.Held o)) ≡ Held e n = ap (λ (o : Ending). seat_of (with_front p (front_rests p.front row rest stage.Held o))) same ∙ seat-held p p.front row rest e n in
         let h : SeatKnown w x (Held e n) = subst (SeatKnown w x) sits behind in
         record { acked = h.0; taken_in = heard_all; few = h.1 }
 
@@ -99,7 +99,7 @@ module _ (w : Whole) (K : ℕ) (files : FilesAt) (p : Part) (st : Station) where
 
     module _ (env : FrontEnv) (d : ControlBlock) (came : HasCome d) where
       abbrev r : Reading
-      r = reads env.serve (record { service = serving d count []; target = None })
+      r = front_reads env.serve (record { service = serving d count []; target = None })
 
       abbrev v : Service
       v = r.service
@@ -120,14 +120,14 @@ module _ (w : Whole) (K : ℕ) (files : FilesAt) (p : Part) (st : Station) where
       waits : (path : List ℕ) → FrontLasts w K files p st (Does (placed env p.front row rest v path first.Waits))
       waits path behind =
           let next : FrontRest = record rest { target = Some path } in
-          by-rest env.serve.c v.block v.count (λ (o : Ending). Then (rests p.front row next stage.Waiting o) → To (rests p.front row next stage.Waiting o))
+          by-rest env.serve.c v.block v.count (λ (o : Ending). Then (front_rests p.front row next stage.Waiting o) → To (front_rests p.front row next stage.Waiting o))
           (λ behind.
           let e = (speaks env.serve.c v.block).1 in
-          let f = rests p.front row next stage.Waiting (ending.Here e v.count) in
+          let f = front_rests p.front row next stage.Waiting (ending.Here e v.count) in
           let sits = seat-waits p p.front row next e v.count in
           let h : SeatKnown w x (Waiting e v.count) = subst (SeatKnown w x) sits behind in
           waiting-less w K files p st b count held knows.0 f e v.count sits (carries w K files p st b count held knows.0 (no_node env.serve) d v e came further (speaks-said env.serve.c v.block)) h.1)
-          (λ last behind. over-less w K files p st b count held knows.0 (rests p.front row next stage.Waiting (ending.Over last)) last (seat-over p p.front row next stage.Waiting last))
+          (λ last behind. over-less w K files p st b count held knows.0 (front_rests p.front row next stage.Waiting (ending.Over last)) last (seat-over p p.front row next stage.Waiting last))
           behind
 
       places : (path : List ℕ) → may_freeze v.block ≡ true → (g : First) → FrontLasts w K files p st (Does (placed env p.front row rest v path g))
@@ -136,7 +136,7 @@ module _ (w : Whole) (K : ℕ) (files : FilesAt) (p : Part) (st : Station) where
 
       -- what was read is said, or a request is placed
       settles : (o : Option (List ℕ)) → r.target ≡ o → FrontLasts w K files p st (settled_by env p.front row rest v o)
-      settles None e = λ behind. held-lasts w K files p st b count held knows.0 (no_node env.serve) env.serve p.front row rest d came (λ e n same. fits (settled env.serve v).0 behind e n same)
+      settles None e = λ behind. held-lasts w K files p st b count held knows.0 (no_node env.serve) env.serve p.front row rest d came (λ e n same. fits (serving_settled env.serve v).0 behind e n same)
       settles (Some path) e = ⊎_elim
           (λ (none : r.target ≡ None). absurd (let bad : ◌≡◌ {A = Option (List ℕ)} (Some path) None = sym e ∙ none in cc))
           (λ (may : may_freeze v.block ≡ true). places path may (env.first path))
@@ -145,7 +145,7 @@ module _ (w : Whole) (K : ℕ) (files : FilesAt) (p : Part) (st : Station) where
     held-hears : (env : FrontEnv) (bytes : List ℕ) (s : Said) → IsWarmWord x s x.phase → FrontLasts w K files p st (hears_at env p.front row bytes s (stage.Held b))
     held-hears env bytes s warm =
         let d = (on_segment b s).1 in
-        settles env d (segment-came w K files p st b count held knows.0 (no_node env.serve) s warm knows.2) (reads env.serve (record { service = serving d count []; target = None })).target refl
+        settles env d (segment-came w K files p st b count held knows.0 (no_node env.serve) s warm knows.2) (front_reads env.serve (record { service = serving d count []; target = None })).target refl
 
     held-fires : (env : FrontEnv) → FrontLasts w K files p st (fires_at env p.front row (stage.Held b))
     held-fires env behind =
@@ -153,7 +153,7 @@ module _ (w : Whole) (K : ℕ) (files : FilesAt) (p : Part) (st : Station) where
 
   -- ---- by its stage
 
-  module _ (known : SeatKnown w x (seat_of p)) (heard_all : taken x ≤ w.answers + 2) (fresh : IsFresh p.nodes p.front.row) where
+  module _ (known : SeatKnown w x (seat_of p)) (heard_all : symbols_taken x ≤ w.answers + 2) (fresh : IsFresh p.nodes p.front.row) where
     hears-at : (env : FrontEnv) (bytes : List ℕ) (s : Said) → IsWarmWord x s x.phase → (row : FrontRow) → p.front.row ≡ Some row → (z : FrontConn) → row.stage ≡ z → FrontLasts w K files p st (hears_at env p.front row bytes s z)
     hears-at env bytes s warm row at (stage.Held b) is = held-hears row b at is known heard_all (subst (IsFresh p.nodes) at fresh) env bytes s warm
     hears-at env bytes s warm row at (stage.Waiting b) is = line-hears w K files p st row b at is known env bytes s
@@ -174,6 +174,6 @@ module _ (w : Whole) (K : ℕ) (files : FilesAt) (p : Part) (st : Station) where
 
     pub fires-lasts : (env : FrontEnv) → FrontLasts w K files p st (front_timer env p.front)
     fires-lasts env = go p.front.row refl where
-      go : (o : Option FrontRow) → p.front.row ≡ o → FrontLasts w K files p st (fired_by env p.front o)
+      go : (o : Option FrontRow) → p.front.row ≡ o → FrontLasts w K files p st (front_fired_by env p.front o)
       go None at = tt
       go (Some row) at = fires-at env row at row.stage refl

@@ -11,16 +11,16 @@ use Rattle.lard_block.specs.declared.block.Found.TheVariants.{Block, More, TooLo
 use Rattle.lard_block.specs.Blocks.{cut_of}
 use Rattle.lard_endpoint.specs.Control.{ControlBlock, discarding_on, finishing, queueing}
 use Rattle.lard_endpoint.specs.Moving.{may_freeze}
-use Rattle.lard_rules.specs.FrontReading.{Reading, block_at, reads, reads_block, reads_found, targeted, turn}
+use Rattle.lard_rules.specs.FrontReading.{Reading, block_at, front_reads, reads_block, reads_found, targeted, reading_turn}
 use Rattle.lard_law_progress.proofs.Stays.{IsAlike, alike-self, alike-then}
-use Rattle.lard_recv.specs.Recv.{Received, room}
+use Rattle.lard_recv.specs.Recv.{Received, receive_room}
 use Rattle.lard_request.specs.declared.verdict.Code.TheVariants as code
 use Rattle.lard_request.specs.declared.verdict.Verdict.{Verdict}
 use Rattle.lard_request.specs.declared.verdict.Verdict.TheVariants.{Fault}
 use Rattle.lard_request.specs.Verdict.{closes}
 use Rattle.lard_rules.specs.Loop.{Step, runs_on}
 use Rattle.lard_rules.specs.Loop as loop
-use Rattle.lard_rules.specs.Serving.{ServeEnv, Service, answered, closed_behind, consumed, ended_at_fin, may_read, passed_over, queued}
+use Rattle.lard_rules.specs.Serving.{ServeEnv, Service, answered, closed_behind, serving_consumed, ended_at_fin, may_read, passed_over, queued}
 use Rattle.lard_send.specs.Send.{Sending}
 
 -- nothing is done but that less is unread
@@ -70,10 +70,10 @@ module _ (env : ServeEnv) where
   behind v b = cond_both (closes v) (finishing (discarding_on b)) b (λ (d : ControlBlock). (d.send.una ≡ b.send.una) × (d.send.wnd ≡ b.send.wnd) × (b.send.finished ≡ true → d.send.finished ≡ true))
       (λ t. (refl, refl, λ e. refl)) (λ t. (refl, refl, λ e. e))
 
-  answers : (v : Verdict) (n : ℕ) (w : Service) → w.over ≡ None → Further w (answered env Own v (consumed n w))
+  answers : (v : Verdict) (n : ℕ) (w : Service) → w.over ≡ None → Further w (answered env Own v (serving_consumed n w))
   answers v n w none =
       let bytes = answer env.files v in
-      let read : Service = consumed n w in
+      let read : Service = serving_consumed n w in
       let total = w.block.send.total + length bytes in
       cond_both (nat_lt env.stream total) (passed_over env total read) (queued env Own v bytes read) (Further w)
       (λ t. record { una = refl; wnd = refl; shut = λ e. e; limit = λ e. refl; more = omega arith; way = inr (inr (inl refl)) })
@@ -86,14 +86,14 @@ module _ (env : ServeEnv) where
         way = inl (omega arith);
       })
 
-  wider : (n : ℕ) (r : Received) → room r ≤ room (record r { unread = drop n r.unread })
+  wider : (n : ℕ) (r : Received) → receive_room r ≤ receive_room (record r { unread = drop n r.unread })
   wider n r = let l = length-drop n r.unread in less (length r.unread) (length (drop n r.unread)) r.got (omega (arith, l)) where
     less : (x y z : ℕ) → y ≤ x → min (RECEIVE_WINDOW - x) (MAX_STREAM_BYTES - z) ≤ min (RECEIVE_WINDOW - y) (MAX_STREAM_BYTES - z)
     less x y z e = omega (arith, e)
 
-  stops : (n : ℕ) (w : Service) → w.block.send.finished ≡ false → Further w (ended_at_fin (consumed n w))
+  stops : (n : ℕ) (w : Service) → w.block.send.finished ≡ false → Further w (ended_at_fin (serving_consumed n w))
   stops n w open_ =
-      let read : Service = consumed n w in
+      let read : Service = serving_consumed n w in
       cond_both w.block.recv.fin (record read { block = finishing read.block }) read (Further w)
       (λ t. record { una = refl; wnd = refl; shut = λ e. refl; limit = λ e. e; more = omega arith; way = inr (inl (open_, refl)) })
       (λ t. record {
@@ -117,14 +117,14 @@ module _ (env : ServeEnv) where
   targets a path x h = cond_both (may_freeze x.service.block) (record x { target = Some path }) x (Reads a) (λ t. (h.0, inr t)) (λ t. h)
 
   block-reads : (a : Service) (x : Reading) (n : ℕ) (v : Verdict) (o : Option (List ℕ)) → x.service.over ≡ None → x.target ≡ None → Reads a x → StepReads a (reads_block env x n v o)
-  block-reads a x n v None none free h = (further-then a x.service (answered env Own v (consumed n x.service)) h.0 (answers v n x.service none), inl free)
+  block-reads a x n v None none free h = (further-then a x.service (answered env Own v (serving_consumed n x.service)) h.0 (answers v n x.service none), inl free)
   block-reads a x n v (Some path) none free h = targets a path x h
 
   found-reads : (a : Service) (x : Reading) (f : Found) → x.service.over ≡ None → x.service.block.send.finished ≡ false → x.target ≡ None → Reads a x → StepReads a (reads_found env x f)
-  found-reads a x (More skip) none open_ free h = (further-then a x.service (ended_at_fin (consumed skip x.service)) h.0 (stops skip x.service open_), inl free)
+  found-reads a x (More skip) none open_ free h = (further-then a x.service (ended_at_fin (serving_consumed skip x.service)) h.0 (stops skip x.service open_), inl free)
   found-reads a x (Block skip len) none open_ free h = block-reads a x (skip + len) (block_at x skip len) (good_path env.files (block_at x skip len)) none free h
   found-reads a x (TooLong skip) none open_ free h =
-      (further-then a x.service (answered env Own (Fault code.FieldsTooLarge) (consumed (length x.service.block.recv.unread) x.service)) h.0 (answers (Fault code.FieldsTooLarge) (length x.service.block.recv.unread) x.service none), inl free)
+      (further-then a x.service (answered env Own (Fault code.FieldsTooLarge) (serving_consumed (length x.service.block.recv.unread) x.service)) h.0 (answers (Fault code.FieldsTooLarge) (length x.service.block.recv.unread) x.service none), inl free)
 
   may-parts : (reset shut : Bool) (o : Option ℕ) → (not reset && (not shut && (elim o [ None ↦ true | Some total ↦ false ]))) ≡ true → (shut ≡ false) × (o ≡ None)
   may-parts true shut o e = absurd (let bad : false ≡ true = e in cc)
@@ -145,7 +145,7 @@ module _ (env : ServeEnv) where
     go (Some path) h = h
   with-target a x (TooLong skip) free h = (h, free)
 
-  turn-reads : (a : Service) (x : Reading) → Reads a x → x.target ≡ None → OnlyOpen a (turn env x)
+  turn-reads : (a : Service) (x : Reading) → Reads a x → x.target ≡ None → OnlyOpen a (reading_turn env x)
   turn-reads a x h free = go (may_read x.service) refl where
     go : (b : Bool) → may_read x.service ≡ b → OnlyOpen a (cond b (reads_found env x (cut_of x.service.block.recv.unread)) (loop.Done x))
     go true e =
@@ -153,15 +153,15 @@ module _ (env : ServeEnv) where
         with-target a x (cut_of x.service.block.recv.unread) free (found-reads a x (cut_of x.service.block.recv.unread) p.1 p.0 free h)
     go false e = h
 
-  reads-on : (a : Service) (n : ℕ) (x : Reading) → Reads a x → x.target ≡ None → Reads a (runs_on n (turn env) x)
+  reads-on : (a : Service) (n : ℕ) (x : Reading) → Reads a x → x.target ≡ None → Reads a (runs_on n (reading_turn env) x)
   unfolding runs_on
   reads-on a zero x h free = h
-  reads-on a (suc n) x h free = go (λ y. reads-on a n y) (turn env x) (turn-reads a x h free) where
-    go : ((y : Reading) → Reads a y → y.target ≡ None → Reads a (runs_on n (turn env) y)) → (s : Step Reading) → OnlyOpen a s → Reads a (elim s [ loop.More y ↦ runs_on n (turn env) y | loop.Done y ↦ y ])
+  reads-on a (suc n) x h free = go (λ y. reads-on a n y) (reading_turn env x) (turn-reads a x h free) where
+    go : ((y : Reading) → Reads a y → y.target ≡ None → Reads a (runs_on n (reading_turn env) y)) → (s : Step Reading) → OnlyOpen a s → Reads a (elim s [ loop.More y ↦ runs_on n (reading_turn env) y | loop.Done y ↦ y ])
     go on (loop.More y) h = on y h.0 h.1
     go on (loop.Done y) h = h
 
   -- all that it reads of an endpoint; where a request is to be placed, the endpoint may be frozen
-  pub reads-further : (a : Service) → Further a (reads env (record { service = a; target = None })).service
-      × (((reads env (record { service = a; target = None })).target ≡ None) ⊎ (may_freeze (reads env (record { service = a; target = None })).service.block ≡ true))
+  pub reads-further : (a : Service) → Further a (front_reads env (record { service = a; target = None })).service
+      × (((front_reads env (record { service = a; target = None })).target ≡ None) ⊎ (may_freeze (front_reads env (record { service = a; target = None })).service.block ≡ true))
   reads-further a = reads-on a (length a.block.recv.unread + 1) (record { service = a; target = None }) (further-self a, inl refl) refl

@@ -3,7 +3,7 @@ use Rattle.std.proofs.Common.{◌≡◌, ◌≤◌, ◌+◌, ◌==◌, ℕ, Bool
 use Rattle.std.proofs.lemmas.Bool.{cond-false}
 use Rattle.std.proofs.lemmas.Bool.Decides.{nat_tests}
 use Rattle.lard_answers.specs.Answers.{FilesAt}
-use Rattle.lard_bound.specs.Seats.{Held, Offered, Over, Seat, Unborn, Waiting, seat_away, seat_by, seat_decided, seat_in, seat_of, seat_there, tells_end}
+use Rattle.lard_bound.specs.Seats.{Held, Offered, Over, SeatNow, Unborn, Waiting, seat_away, seat_by, seat_decided, seat_in, seat_of, seat_there, tells_end}
 use Rattle.lard_bound.specs.Spots.{post_of, spot_of}
 use Rattle.lard_bound.specs.Units.{Whole, left_with, tellers}
 use Rattle.lard_law_view.specs.View.{Part, with_front, with_node}
@@ -11,7 +11,7 @@ use Rattle.lard_endpoint.specs.Control.{ControlBlock}
 use Rattle.lard_endpoint.specs.declared.control.moving.Final.{Final}
 use Rattle.lard_rules.specs.declared.front.FrontRest.{FrontRest}
 use Rattle.lard_rules.specs.Front as front
-use Rattle.lard_rules.specs.Front.{FrontEnv, FrontPart, offering, rest_of, rests}
+use Rattle.lard_rules.specs.Front.{FrontEnv, FrontPart, offering, front_rest, front_rests}
 use Rattle.lard_handoff_back.specs.declared.row.BackRow.{BackRow}
 use Rattle.lard_handoff_front.specs.declared.row.FrontConn.{FrontConn}
 use Rattle.lard_handoff_front.specs.declared.row.FrontConn.TheVariants as stage
@@ -37,15 +37,15 @@ seat-at p row s at is = ap (seat_by p.front p.nodes) at ∙ ap (seat_in p.front 
 
 -- ---- behind a turn of the front end
 
-pub seat-held : (p : Part) (f : FrontPart) (row : FrontRow) (rest : FrontRest) (d : ControlBlock) (n : ℕ) → seat_of (with_front p (rests f row rest stage.Held (ending.Here d n))) ≡ Held d n
+pub seat-held : (p : Part) (f : FrontPart) (row : FrontRow) (rest : FrontRest) (d : ControlBlock) (n : ℕ) → seat_of (with_front p (front_rests f row rest stage.Held (ending.Here d n))) ≡ Held d n
 unfolding seat_of
 seat-held p f row rest d n = refl
 
-pub seat-waits : (p : Part) (f : FrontPart) (row : FrontRow) (rest : FrontRest) (d : ControlBlock) (n : ℕ) → seat_of (with_front p (rests f row rest stage.Waiting (ending.Here d n))) ≡ Waiting d n
+pub seat-waits : (p : Part) (f : FrontPart) (row : FrontRow) (rest : FrontRest) (d : ControlBlock) (n : ℕ) → seat_of (with_front p (front_rests f row rest stage.Waiting (ending.Here d n))) ≡ Waiting d n
 unfolding seat_of
 seat-waits p f row rest d n = refl
 
-pub seat-over : (p : Part) (f : FrontPart) (row : FrontRow) (rest : FrontRest) (stays : ControlBlock → FrontConn) (last : Final) → seat_of (with_front p (rests f row rest stays (ending.Over last))) ≡ Over last
+pub seat-over : (p : Part) (f : FrontPart) (row : FrontRow) (rest : FrontRest) (stays : ControlBlock → FrontConn) (last : Final) → seat_of (with_front p (front_rests f row rest stays (ending.Over last))) ≡ Over last
 unfolding seat_of
 seat-over p f row rest stays last = refl
 
@@ -66,7 +66,7 @@ module _ (w : Whole) (K : ℕ) (files : FilesAt) (p : Part) (st : Station) where
   pub front-stays : (f : FrontPart) → seat_of (with_front p f) ≡ seat_of p → Lasting w K files p st (with_front p f) st
   unfolding spot_of
   front-stays f same = record {
-    less = let e : left_with w K (with_front p f) st ≡ left_with w K p st = ap (λ (s : Seat). left_by w st s (tellers p.nodes K)) same in omega (arith, e);
+    less = let e : left_with w K (with_front p f) st ≡ left_with w K p st = ap (λ (s : SeatNow). left_by w st s (tellers p.nodes K)) same in omega (arith, e);
     steady = λ up i. record {
       phase = st.client.phase;
       isn = st.client.send.iss;
@@ -79,7 +79,7 @@ module _ (w : Whole) (K : ℕ) (files : FilesAt) (p : Part) (st : Station) where
   }
 
   -- where so many responses were queued as before, and the row is the same
-  counts : (f : FrontPart) → (rest_of f.rest).count ≡ (rest_of p.front.rest).count → (o : Option FrontRow) → seat_by f p.nodes o ≡ seat_by p.front p.nodes o
+  counts : (f : FrontPart) → (front_rest f.rest).count ≡ (front_rest p.front.rest).count → (o : Option FrontRow) → seat_by f p.nodes o ≡ seat_by p.front p.nodes o
   counts f same None = refl
   counts f same (Some row) = go row.stage where
     go : (s : FrontConn) → seat_in f p.nodes s ≡ seat_in p.front p.nodes s
@@ -90,18 +90,18 @@ module _ (w : Whole) (K : ℕ) (files : FilesAt) (p : Part) (st : Station) where
     go (stage.Moved n e) = ap (λ c. seat_away true n e.0 c (p.nodes n)) same
     go (stage.Closed last) = refl
 
-  pub seat-counts : (f : FrontPart) → (rest_of f.rest).count ≡ (rest_of p.front.rest).count → f.row ≡ p.front.row → seat_of (with_front p f) ≡ seat_of p
+  pub seat-counts : (f : FrontPart) → (front_rest f.rest).count ≡ (front_rest p.front.rest).count → f.row ≡ p.front.row → seat_of (with_front p f) ≡ seat_of p
   unfolding seat_of
   seat-counts f same rows = ap (seat_by f p.nodes) rows ∙ counts f same p.front.row
 
   -- ---- what a rule owes of its deed, where all that is known holds behind it
 
-  abbrev pub FrontLasts : front.Deed → Type 0
+  abbrev pub FrontLasts : front.FrontDeed → Type 0
   FrontLasts front.Drops = Unit {0}
   FrontLasts (front.Says turn) = Unit {0}
   FrontLasts (front.Does did) = SeatKnown w st.client (seat_of (with_front p did.part)) → Lasting w K files p st (with_front p did.part) st
 
-  abbrev pub NodeLasts : ℕ → node.Deed → Type 0
+  abbrev pub NodeLasts : ℕ → node.NodeDeed → Type 0
   NodeLasts n node.Drops = Unit {0}
   NodeLasts n (node.Says messages) = Unit {0}
   NodeLasts n (node.Does given) = SeatKnown w st.client (seat_of (with_node p n given.0)) → Lasting w K files p st (with_node p n given.0) st

@@ -17,15 +17,15 @@ use Rattle.lard_rules.specs.declared.stay.Progress.{Progress}
 use Rattle.lard_rules.specs.declared.stay.Progress.TheVariants as progress
 use Rattle.lard_rules.specs.declared.stay.Want.{Want}
 use Rattle.lard_rules.specs.Node.{ask_kept, asked_kept, wants_kept}
-use Rattle.lard_rules.specs.Stay.{NodeEnv, Work, asks_for, asking, entered, enters, enters_first, enters_one, goes_on, left, named_paths, next_in, read_entry, reads_batch, reads_these, serves_by, serves_first, serves_with, started_here, turn, turned}
+use Rattle.lard_rules.specs.Stay.{NodeEnv, Work, asks_for, asking, entered, enters, enters_first, enters_one, goes_on, work_left, named_paths, next_in, read_entry, reads_batch, reads_these, serves_by, serves_first, serves_with, started_here, stay_turn, turned}
 use Rattle.lard_resend.proofs.Lengths.{anew-more, length-anew}
 use Rattle.lard_reader.specs.Batches.{batch_of, bytes_used}
-use Rattle.lard_recv.specs.Recv.{Received, awaited, room}
+use Rattle.lard_recv.specs.Recv.{Received, awaited, receive_room}
 use Rattle.lard_request.specs.declared.verdict.Verdict.{Verdict}
 use Rattle.lard_request.specs.Verdict.{closes}
 use Rattle.lard_resend.specs.declared.kept.Kept.{Kept}
 use Rattle.lard_rules.specs.Loop.{Step, More, Done, state_of}
-use Rattle.lard_rules.specs.Serving.{Service, closed_behind, consumed, ended_at_fin, may_read, passed_over, queued}
+use Rattle.lard_rules.specs.Serving.{Service, closed_behind, serving_consumed, ended_at_fin, may_read, passed_over, queued}
 use Rattle.lard_rules.proofs.Runs.{runs_keep}
 use Rattle.lard_rules.proofs.StayFalling.{none-left}
 use Rattle.lard_send.specs.Send.{Sending}
@@ -38,7 +38,7 @@ read_of w = w.service.count + length w.batch
 pub record IsAlike (b d : ControlBlock) : Type 0 where
   pub send : d.send ≡ b.send
   pub awaits : awaited d.recv ≡ awaited b.recv
-  pub roomy : room b.recv ≤ room d.recv
+  pub roomy : receive_room b.recv ≤ receive_room d.recv
   pub owed : d.owed ≡ b.owed
   pub last_window : d.last_window ≡ b.last_window
   pub reset : d.reset ≡ b.reset
@@ -64,7 +64,7 @@ pub alike-then : (b d f : ControlBlock) → IsAlike b d → IsAlike d f → IsAl
 alike-then b d f h k = record {
   send = k.send ∙ h.send;
   awaits = k.awaits ∙ h.awaits;
-  roomy = let x : room b.recv ≤ room d.recv = h.roomy in let y : room d.recv ≤ room f.recv = k.roomy in omega arith;
+  roomy = let x : receive_room b.recv ≤ receive_room d.recv = h.roomy in let y : receive_room d.recv ≤ receive_room f.recv = k.roomy in omega arith;
   owed = k.owed ∙ h.owed;
   last_window = k.last_window ∙ h.last_window;
   reset = k.reset ∙ h.reset;
@@ -259,15 +259,15 @@ module _ (env : NodeEnv) (kept fetches : List Kept) where
   StepOn w (More b) = Onward w b
   StepOn w (Done b) = Onward w b
 
-  wider : (n : ℕ) (r : Received) → room r ≤ room (record r { unread = drop n r.unread })
+  wider : (n : ℕ) (r : Received) → receive_room r ≤ receive_room (record r { unread = drop n r.unread })
   wider n r = let l = length-drop n r.unread in less (length r.unread) (length (drop n r.unread)) r.got (omega (arith, l)) where
     less : (x y z : ℕ) → y ≤ x → min (RECEIVE_WINDOW - x) (MAX_STREAM_BYTES - z) ≤ min (RECEIVE_WINDOW - y) (MAX_STREAM_BYTES - z)
     less x y z e = omega (arith, e)
 
   -- where there is none, the cluster's FIN follows the client's
-  ends : (used : ℕ) (w : Work) → w.service.block.send.finished ≡ false → Onward w (record w { service = ended_at_fin (consumed used w.service) })
+  ends : (used : ℕ) (w : Work) → w.service.block.send.finished ≡ false → Onward w (record w { service = ended_at_fin (serving_consumed used w.service) })
   ends used w open_ =
-      let read : Service = consumed used w.service in
+      let read : Service = serving_consumed used w.service in
       cond_both w.service.block.recv.fin (record read { block = finishing read.block }) read (λ (s : Service). Onward w (record w { service = s }))
       (λ t. record { una = refl; wnd = refl; shut = λ e. refl; limit = λ e. e; more = omega arith; cheap = omega arith; way = inr (inl (open_, refl)) })
       (λ t. record {
@@ -291,7 +291,7 @@ module _ (env : NodeEnv) (kept fetches : List Kept) where
   reads-these : (here : Bool) (used : ℕ) (w : Work) (vs : List Verdict) → w.batch ≡ [] → w.service.block.send.finished ≡ false → StepOn w (reads_these env here used w vs)
   reads-these here used w [] none open_ = ends used w open_
   reads-these here used w (v ∷ vs) none open_ =
-      let a : Work = record w { service = consumed used w.service } in
+      let a : Work = record w { service = serving_consumed used w.service } in
       let b = enters env here (w.service.count + 1) (v ∷ vs) a in
       let c = asking env (length (v ∷ vs)) b in
       let h = enters-all here (w.service.count + 1) (v ∷ vs) a in
@@ -331,14 +331,14 @@ module _ (env : NodeEnv) (kept fetches : List Kept) where
   may-parts false false None e = (refl, refl)
   may-parts false false (Some total) e = absurd (let bad : false ≡ true = e in cc)
 
-  turn-on : (w : Work) → StepOn w (turn env w)
+  turn-on : (w : Work) → StepOn w (stay_turn env w)
   turn-on w = go (may_read w.service) refl where
     go : (b : Bool) → may_read w.service ≡ b → StepOn w (turned env w (cond b (next_in w.batch) next.Stop))
     go true e = let p = may-parts w.service.block.reset w.service.block.send.finished w.service.over e in turned-on w (next_in w.batch) refl p.1 p.0
     go false e = onward-self w
 
   pub goes-onward : (a : Work) → Onward a (goes_on env a)
-  goes-onward a = runs_keep (turn env) left (Onward a) (record {
+  goes-onward a = runs_keep (stay_turn env) work_left (Onward a) (record {
     more = λ y z e p. onward-then a y z p (subst (StepOn y) e (turn-on y));
     done = λ y z e p. onward-then a y z p (subst (StepOn y) e (turn-on y));
   }) a (onward-self a)

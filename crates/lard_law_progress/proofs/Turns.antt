@@ -7,7 +7,7 @@ use Rattle.lard_arrival.specs.Arrival.{bare, is_acceptable}
 use Rattle.lard_base.specs.declared.place.TimerKind.TheVariants as kind
 use Rattle.lard_bound.specs.Progress.{IsWarmWord}
 use Rattle.lard_bound.specs.Seats.{Staying}
-use Rattle.lard_bound.specs.Spots.{awaited_in}
+use Rattle.lard_bound.specs.Spots.{number_awaited}
 use Rattle.lard_bound.specs.Units.{batch_left, is_stale, one_if_not}
 use Rattle.lard_client.specs.Control.{ClientBlock}
 use Rattle.lard_client.specs.declared.phase.Phase.{Phase}
@@ -42,7 +42,7 @@ module _ (x : ClientBlock) (env : NodeEnv) where
   -- nothing changes that decides what comes of a packet
   pub record Rests (b : ControlBlock) (s : Staying) (kept fetches : List Kept) (w : Work) : Type 0 where
     pub total : w.service.block.send.total ≡ b.send.total
-    pub awaits : awaited_in w.service.block x.phase ≡ awaited_in b x.phase
+    pub awaits : number_awaited w.service.block x.phase ≡ number_awaited b x.phase
     pub asks : w.asks ≡ s.stay.asks
     pub batch : w.batch ≡ s.stay.batch
     pub kept_is : asked_kept env w.asked kept ≡ s.kept
@@ -60,7 +60,7 @@ module _ (x : ClientBlock) (env : NodeEnv) where
     pub cheap : cost env kept fetches w + 4 * read_in s ≤ cost_in s + 4 * read_of w
     pub way : Falls s kept fetches w ⊎ (((b.send.finished ≡ false) × (w.service.block.send.finished ≡ true)) ⊎ ((is_some w.service.over ≡ true) ⊎ Rests b s kept fetches w))
 
-  pub awaited-same : (p : Phase) (b d : ControlBlock) → rcv_nxt d ≡ rcv_nxt b → awaited_in d p ≡ awaited_in b p
+  pub awaited-same : (p : Phase) (b d : ControlBlock) → rcv_nxt d ≡ rcv_nxt b → number_awaited d p ≡ number_awaited b p
   awaited-same phase.Open b d e = refl
   awaited-same phase.Aborted b d e = e
   awaited-same phase.Reset b d e = refl
@@ -148,7 +148,7 @@ module _ (x : ClientBlock) (env : NodeEnv) where
         stale = window-on b d.send.wnd (⊎_elim (λ (e : d.send.wnd ≡ b.send.wnd). inl e) (λ (e : d.send.wnd ≡ said.wnd). inr (e ∙ warm)) (heard-window b said));
         more = omega arith;
         cheap = omega arith;
-        way = inr (inr (inr (record { total = a.total; awaits = ap (awaited_in d) is ∙ sym (ap (awaited_in b) is); asks = refl; batch = refl; kept_is = refl; fetches_are = refl })));
+        way = inr (inr (inr (record { total = a.total; awaits = ap (number_awaited d) is ∙ sym (ap (number_awaited b) is); asks = refl; batch = refl; kept_is = refl; fetches_are = refl })));
       }
   heard-by b s said phase.Aborted is warm here =
       let a = heard-ahead b said in
@@ -229,7 +229,7 @@ module _ (x : ClientBlock) (env : NodeEnv) where
             (λ (t : batch_left w.batch < batch_left s.stay.batch). inl (omega arith))
             (λ (t : batch_left s.stay.batch ≤ batch_left w.batch). inr (inr (inr (record {
               total = ap (λ (z : ControlBlock). z.send.total) block;
-              awaits = ap (λ (z : ControlBlock). awaited_in z x.phase) block;
+              awaits = ap (λ (z : ControlBlock). number_awaited z x.phase) block;
               asks = h.5;
               batch = read-still r (work_of b s.stay) t;
               kept_is = ap (λ (o : Option Asked). asked_kept env o s.kept) h.4;

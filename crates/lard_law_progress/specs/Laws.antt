@@ -2,10 +2,10 @@
 use Rattle.std.specs.Prelude.{ℕ, ◌+◌, ◌≤◌, ◌≡◌}
 use Rattle.lard_answers.specs.Answers.{FilesAt}
 use Rattle.lard_bound.specs.Spots.{spot_of}
-use Rattle.lard_bound.specs.Units.{Whole, left_with, taken}
-use Rattle.lard_client.specs.Arriving.{arrived}
+use Rattle.lard_bound.specs.Units.{Whole, left_with, symbols_taken}
+use Rattle.lard_client.specs.Arriving.{client_arrived}
 use Rattle.lard_client.specs.Control.{ClientBlock}
-use Rattle.lard_client.specs.Leaving.{after_timer}
+use Rattle.lard_client.specs.Leaving.{client_after_timer}
 use Rattle.lard_law_view.specs.View.{Part, with_station}
 use Rattle.lard_rules.specs.declared.places.Station.{Station}
 use Rattle.lard_rules.specs.Speaking.{client_speaks}
@@ -17,11 +17,11 @@ with_client st y = record { client = y; iss = st.iss }
 -- Behind a turn that leaves this client no unit came back; and where none went, all is as it was that decides what comes of a packet. The
 -- client knows of no more than it has, and took no more than there is.
 abbrev pub LeavesNoMore : ClientBlock → Whole → ℕ → FilesAt → Part → Station → Type 0
-LeavesNoMore y k nodes files p st = y.send.una ≤ k.written + 2 → taken y ≤ k.answers + 2
+LeavesNoMore y k nodes files p st = y.send.una ≤ k.written + 2 → symbols_taken y ≤ k.answers + 2
     → (left_with k nodes (with_station p (with_client st y)) (with_client st y) ≤ left_with k nodes p st)
     × (left_with k nodes p st ≤ left_with k nodes (with_station p (with_client st y)) (with_client st y) → spot_of files (with_station p (with_client st y)) (with_client st y) ≡ spot_of files p st)
 
 -- a client that hears a segment, and one whose timer fires
 abbrev pub ClientsLeaveNoMore : Type 0
 ClientsLeaveNoMore = (k : Whole) (nodes : ℕ) (files : FilesAt) (p : Part) (st : Station) →
-    ((s : Said) → LeavesNoMore (client_speaks (arrived st.client s).1).1 k nodes files p st) × LeavesNoMore (client_speaks (after_timer st.client)).1 k nodes files p st
+    ((s : Said) → LeavesNoMore (client_speaks (client_arrived st.client s).1).1 k nodes files p st) × LeavesNoMore (client_speaks (client_after_timer st.client)).1 k nodes files p st

@@ -9,7 +9,7 @@ use Rattle.lard_rules.specs.declared.fault.StepFault.{StepFault}
 use Rattle.lard_rules.specs.declared.fault.Refusal.TheVariants.{NoClient, NoJob, NoNode, WasLost}
 use Rattle.lard_rules.specs.declared.fault.StepFault.TheVariants.{Limit, Refused}
 use Rattle.lard_rules.specs.declared.machine.Machine.{Machine}
-use Rattle.lard_rules.specs.Machine.{completes, delivered, disk_at, from_place, is_no_job, is_no_node, limit_reached, machine_step, node_acts, node_at, node_gave, node_setting, timer, timer_at, to_client, to_front, to_place, told, unless_limit}
+use Rattle.lard_rules.specs.Machine.{completes, delivered, disk_at, from_place, is_no_job, is_no_node, limit_reached, machine_step, node_acts, node_at, node_gave, node_setting, timer, timer_at, machine_to_client, machine_to_front, to_place, machine_told, unless_limit}
 use Rattle.lard_disk.specs.declared.disk.Job.{Job}
 use Rattle.lard_journal.specs.declared.rec.Rec.TheVariants as rec
 use Rattle.lard_rules.specs.declared.fault.What.{What}
@@ -30,18 +30,18 @@ abbrev pub GoesTo : Machine → Machine → Packet → Type 0
 GoesTo m n p = (n.nodes ≡ m.nodes) ⊎ ((i : ℕ) × (s : NodeState) × (p.to ≡ Node i) × (node_at m.nodes i ≡ Some s))
 
 module _ (m : Machine) (k : ℕ) (p : Packet) where
-  client-nodes : (bytes : List ℕ) (c : ℕ) (o : Option Station) → (to_client m k bytes c o).nodes ≡ m.nodes
-  unfolding told
+  client-nodes : (bytes : List ℕ) (c : ℕ) (o : Option Station) → (machine_to_client m k bytes c o).nodes ≡ m.nodes
+  unfolding machine_told
   client-nodes bytes c None = refl
   client-nodes bytes c (Some x) = refl
 
-  front-nodes : (bytes : List ℕ) (c : ℕ) (o : Option Station) → (to_front m k bytes c o).nodes ≡ m.nodes
-  unfolding told
+  front-nodes : (bytes : List ℕ) (c : ℕ) (o : Option Station) → (machine_to_front m k bytes c o).nodes ≡ m.nodes
+  unfolding machine_told
   front-nodes bytes c None = refl
   front-nodes bytes c (Some x) = refl
 
   from-nodes : (bytes : List ℕ) (from : Place) → (from_place m k bytes from).nodes ≡ m.nodes
-  unfolding told
+  unfolding machine_told
   from-nodes bytes (Client c) = front-nodes bytes c (table.get m.clients c)
   from-nodes bytes Front = refl
   from-nodes bytes (Node a) = refl
@@ -70,7 +70,7 @@ abbrev pub FiresTo : Machine → Machine → Place → ℕ → Type 0
 FiresTo m n p c = (n.nodes ≡ m.nodes) ⊎ ((i : ℕ) × (s : NodeState) × (node_at m.nodes i ≡ Some s) × (n ≡ node_gave m (event.Timer p c) [] i (node_step (node_setting m i) s (back.Timer c))))
 
 pub timer-goes : (m n : Machine) (p : Place) (c : ℕ) → machine_step m (event.Timer p c) ≡ Ok n → FiresTo m n p c
-unfolding machine_step timer told
+unfolding machine_step timer machine_told
 timer-goes m n p c is = limited (limit_reached m) is where
   at-node : (i : ℕ) (o : Option NodeState) → node_at m.nodes i ≡ o → node_acts m (event.Timer (Node i) c) [] i (back.Timer c) o ≡ n → FiresTo m n (Node i) c
   at-node i None at e = inl (ap (λ (x : Machine). x.nodes) (sym e))

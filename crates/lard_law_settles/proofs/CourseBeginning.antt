@@ -13,9 +13,9 @@ use Rattle.lard_base.specs.declared.place.Place.TheVariants.{Front, Node, Client
 use Rattle.lard_base.specs.declared.place.TimerKind.{TimerKind}
 use Rattle.lard_base.specs.declared.place.TimerKind.TheVariants as kind
 use Rattle.lard_bound.specs.Seats.{Waiting, seat_of}
-use Rattle.lard_bound.specs.Units.{Whole, units_of}
+use Rattle.lard_bound.specs.Units.{Whole, machine_units}
 use Rattle.lard_rules.specs.declared.machine.Machine.{Machine}
-use Rattle.lard_rules.specs.Bounds.{HasTimer, IsNumber}
+use Rattle.lard_rules.specs.Bounds.{HasTimer, IsConnNumber}
 use Rattle.lard_rules.specs.Machine.{node_at}
 use Rattle.lard_laws.specs.StepsTimers.{RunsAsKept}
 use Rattle.lard_law_view.specs.View.{Conn, Move, conn, kept_at, part_of, station_armed}
@@ -26,7 +26,7 @@ use Rattle.lard_law_settles.proofs.CourseGoing.{IsPlain}
 use Rattle.lard_law_settles.proofs.CourseLasting.{moves}
 use Rattle.lard_law_view.proofs.Steps.{shown}
 use Rattle.lard_law_settles.proofs.CourseOwing.{IsFirst, IsStep}
-use Rattle.lard_dispatch.specs.Line.{waits}
+use Rattle.lard_dispatch.specs.Line.{line_waits}
 use Rattle.lard_endpoint.specs.Control.{ControlBlock}
 use Rattle.lard_rules.specs.Front.{front_armed}
 use Rattle.lard_history.specs.Journal.{is_running}
@@ -44,7 +44,7 @@ pub record Timers (m : Machine) : Type 0 where
   pub seats : AllByRecursion NamesSeat m.journal
   pub few : m.config.nodes ≤ 64
   pub nodes : length m.nodes ≡ m.config.nodes
-  pub line : (c : ℕ) (b : ControlBlock) (count : ℕ) → seat_of (part_of m c) ≡ Waiting b count → waits m.front.dispatch.books.line c ≡ true
+  pub line : (c : ℕ) (b : ControlBlock) (count : ℕ) → seat_of (part_of m c) ≡ Waiting b count → line_waits m.front.dispatch.books.line c ≡ true
 
 off-if : (b : Bool) → (b ≡ true → ⊥) → b ≡ false
 off-if true h = absurd (h refl)
@@ -109,7 +109,7 @@ module _ (m : Machine) (t : Timers m) (c : ℕ) where
         client-on e d.1.0 has d.1.1,
         front-off (Client e) more due_ d.0.1 (no-sooner-client-front e c d.0.0),
         node-off (Client e) more due_ d.0.1 (λ i some few. no-sooner-client-node e i c d.0.0 few),
-        λ b count waits_. both_ways (waits m.front.dispatch.books.line c) d.2 (t.line c b count waits_),
+        λ b count waits_. both_ways (line_waits m.front.dispatch.books.line c) d.2 (t.line c b count waits_),
       )
     where
       client-on : (e : ℕ) (kind : TimerKind) → HasTimer (Client e) c → is_running m.journal (Client e) c kind ≡ true → station_armed (part_of m c).station ≡ true
@@ -137,16 +137,16 @@ module _ (Given : Conn → Type 0) (Came : Conn → Move → Type 0) (Good : Mac
   unfolding conn
   first-here = is-first m t c p more has due_
 
-  pub begins-near : (units_of all n < units_of all m) ⊎ Nearer (game all Good) n 0 3
+  pub begins-near : (machine_units all n < machine_units all m) ⊎ Nearer (game all Good) n 0 3
   begins-near = ⊎_elim
-      (λ (falls : units_of all n < units_of all m). inl falls)
-      (λ (up : units_of all m ≤ units_of all n).
+      (λ (falls : machine_units all n < machine_units all m). inl falls)
+      (λ (up : machine_units all m ≤ machine_units all n).
       let h = moves Given Came all m n e s c (Row (rec.Event 0 e)) its-shown in
-      let number : IsNumber c = subst IsNumber named h.shown.number in
+      let number : IsConnNumber c = subst IsConnNumber named h.shown.number in
       let heads : h.move.heads ≡ Row (rec.Event 0 (event.Timer p (conn m c).c)) ∷ [] =
       h.shown.heads ∙ ap (λ (q : ℕ). shown m e q) named ∙ its-shown ∙ ap (λ (q : ℕ). Row (rec.Event 0 (event.Timer p q)) ∷ []) (sym named) in
       let near = h.leads.fires p heads first-here (still Given Came Good all m n e s plain up c number h) in
       let x = near-new Given Came Good all m n e s plain c number h 3 near in
       let late = x.is_new in
       inr (record { number = x.number; is_new = omega (arith, late); waits = x.waits; leads = x.leads }))
-      (cases_lt (units_of all n) (units_of all m))
+      (cases_lt (machine_units all n) (machine_units all m))

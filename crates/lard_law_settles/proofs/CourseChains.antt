@@ -9,7 +9,7 @@ use Rattle.lard_base.specs.declared.place.Reason.TheVariants as reason
 use Rattle.lard_bound.specs.Chains.{aside_chain, chain_between, front_chain, is_current, node_chain, of_message, reply_chain, word_result}
 use Rattle.lard_bound.specs.Nears.{Crosses, IsAnswer, IsNews, IsUntold, IsUnaware, NearAside, NearBetween, NearEnd, NearEnded, NearEnding, NearClosing, NearForward, NearHeld, NearLast, NearOffer, NearReply, NearSaid, NearSegment, NearTaken, NearTold, NearWord, OfMessage, OfSegment}
 use Rattle.lard_bound.specs.Progress.{NearOn, chain_on}
-use Rattle.lard_bound.specs.Spots.{AtFront, AtNode, Ended, Ends, InLine, Left, Nowhere, OnOffer, Post, Spot}
+use Rattle.lard_bound.specs.Spots.{AtFront, AtNode, Ended, EndpointSymbols, InLine, Left, Nowhere, OnOffer, Post, Spot}
 use Rattle.lard_client.specs.declared.phase.Phase.{Phase}
 use Rattle.lard_client.specs.declared.phase.Phase.TheVariants as phase
 use Rattle.lard_rules.specs.declared.machine.Machine.{Machine}
@@ -93,11 +93,11 @@ module _ (t : Spot) where
   none : (n : ℕ) → 1 ≤ n → n ≤ 0 → ⊥
   none n some h = omega (arith, some, h)
 
-  held-open : (e : Ends) (s : Said) → (IsNews t e s × (1 ≤ 0)) ⊎ (Crosses t s × (e.una ≡ e.symbols) × (2 ≤ 0)) → ⊥
+  held-open : (e : EndpointSymbols) (s : Said) → (IsNews t e s × (1 ≤ 0)) ⊎ (Crosses t s × (e.una ≡ e.symbols) × (2 ≤ 0)) → ⊥
   held-open e s (inl h) = none 1 (omega arith) h.1
   held-open e s (inr h) = none 2 (omega arith) h.2
 
-  held-never : (e : Ends) (s : Said) (ph : Phase) → NearHeld t 0 e s ph → ⊥
+  held-never : (e : EndpointSymbols) (s : Said) (ph : Phase) → NearHeld t 0 e s ph → ⊥
   held-never e s phase.Open h = held-open e s h
   held-never e s phase.Aborted h = none 1 (omega arith) h.2
   held-never e s phase.Reset h = h
@@ -121,11 +121,11 @@ module _ (t : Spot) where
   word-never s (Left told n k) h = h
   word-never s (Ended last taken) h = ended-never taken s last.reason t.phase h
 
-  reply-open : (back : ℕ) → 1 ≤ back → (e : Ends) (s : Said) → (IsUntold t e s × (back ≤ 0)) ⊎ (IsAnswer t e.una s × (e.una ≡ e.symbols) × (1 ≤ 0)) → ⊥
+  reply-open : (back : ℕ) → 1 ≤ back → (e : EndpointSymbols) (s : Said) → (IsUntold t e s × (back ≤ 0)) ⊎ (IsAnswer t e.una s × (e.una ≡ e.symbols) × (1 ≤ 0)) → ⊥
   reply-open back some e s (inl h) = none back some h.1
   reply-open back some e s (inr h) = none 1 (omega arith) h.2
 
-  reply-never : (back : ℕ) → 1 ≤ back → (e : Ends) (s : Said) (ph : Phase) → NearReply t back 0 e s ph → ⊥
+  reply-never : (back : ℕ) → 1 ≤ back → (e : EndpointSymbols) (s : Said) (ph : Phase) → NearReply t back 0 e s ph → ⊥
   reply-never back some e s phase.Open h = reply-open back some e s h
   reply-never back some e s phase.Aborted h = none back some h.3
   reply-never back some e s phase.Reset h = h

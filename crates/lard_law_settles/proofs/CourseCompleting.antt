@@ -5,12 +5,12 @@ use Rattle.lard_base.specs.declared.place.Place.{Place}
 use Rattle.lard_base.specs.declared.place.Place.TheVariants.{Node}
 use Rattle.lard_bound.specs.Progress.{chain_at, spot_at}
 use Rattle.lard_bound.specs.Spots.{Spot}
-use Rattle.lard_bound.specs.Units.{Whole, units_of}
+use Rattle.lard_bound.specs.Units.{Whole, machine_units}
 use Rattle.lard_rules.specs.declared.fault.StepFault.{StepFault}
 use Rattle.lard_rules.specs.declared.fault.Refusal.TheVariants.{NoJob, NoNode}
 use Rattle.lard_rules.specs.declared.fault.StepFault.TheVariants.{Limit, Refused}
 use Rattle.lard_rules.specs.declared.machine.Machine.{Machine}
-use Rattle.lard_rules.specs.Bounds.{IsNumber}
+use Rattle.lard_rules.specs.Bounds.{IsConnNumber}
 use Rattle.lard_rules.specs.Machine.{completes, disk_at, is_no_job, is_no_node, limit_reached, machine_step, node_at, node_gave, node_setting, unless_limit}
 use Rattle.lard_law_view.specs.View.{Conn, Move, conn, grown, letters_of}
 use Rattle.lard_law_settles.specs.CourseGame.{JobNearOn, game}
@@ -33,9 +33,9 @@ use Rattle.lard_message.specs.Message.{IsMessage}
 use Rattle.lard_net.specs.Net.{packet_at}
 use Rattle.lard_rules.specs.declared.node.BackIn.TheVariants as back
 use Rattle.lard_rules.specs.declared.node.NodeState.{NodeState}
-use Rattle.lard_rules.specs.Node.{message, node_read, saying}
+use Rattle.lard_rules.specs.Node.{message, node_read, node_saying}
 use Rattle.lard_rules.specs.NodePlace as place
-use Rattle.lard_rules.specs.NodePlace.{NodeSetting, brought, bytes_of, completed, content_sent, disk_step, node_deed, node_env, node_part, node_step, with_first}
+use Rattle.lard_rules.specs.NodePlace.{NodeSetting, node_brought, content_bytes, completed, content_sent, disk_step, node_deed, node_env, node_part, node_step, with_first}
 use Rattle.lard_rounds.specs.Rounds.{AreShorter, Nearer}
 use Rattle.lard_rules.specs.declared.places.Out.{Out}
 
@@ -71,7 +71,7 @@ pub record Sends (k : NodeSetting) (job : Job) (given : NodeState × Out) : Type
 pub job-sends : (k : NodeSetting) (s : NodeState) (job : Job) → job_at s.disk 1 ≡ Some job → job.origin ≢ k.n → Sends k job (node_step k s (back.Disk 1))
 job-sends k s job at other =
     let z : NodeState = completed k s 1 job in
-    let t : NodeState × Out = place.aside z (saying (content_sent k job.origin job.c job.epoch.0 job.r job.path ∷ [])) in
+    let t : NodeState × Out = place.aside z (node_saying (content_sent k job.origin job.c job.epoch.0 job.r job.path ∷ [])) in
     let r : Rec = rec.Read k.n job.origin job.c job.r job.path in
     let mine : NodeState × Out = node_deed k z job.c (node_read (node_env k z job.c job.epoch.0) (node_part z job.c) job.r) in
     let first : Sends k job (with_first r t) = record { segments = refl; messages = refl } in
@@ -81,7 +81,7 @@ job-sends k s job at other =
 -- ---- what comes of it
 
 module _ (Given : Conn → Type 0) (Came_ : Conn → Move → Type 0) (Good : Machine → Type 0) (all : ℕ → Whole) (m n : Machine) (i : ℕ) (s : IsStep Given Came_ all m n (event.Disk i 1)) (plain : IsPlain m n) where
-  pub job-shorter : units_of all m ≤ units_of all n → AreShorter (game all Good) n (length m.net) 1
+  pub job-shorter : machine_units all m ≤ machine_units all n → AreShorter (game all Good) n (length m.net) 1
   job-shorter up k on late =
       let new = new-is Given Came_ Good all m n (event.Disk i 1) s plain k on late in
       let still_ = still Given Came_ Good all m n (event.Disk i 1) s plain up new.c new.number new.moved_ in
@@ -90,9 +90,9 @@ module _ (Given : Conn → Type 0) (Came_ : Conn → Move → Type 0) (Good : Ma
       let is = new.chain in
       omega (arith, short, is)
 
-module _ (Good : Machine → Type 0) (all : ℕ → Whole) (m n : Machine) (plain : IsPlain m n) (facts : Fetches m) (spots : (q : ℕ) → IsNumber q → spot_at (file_at m.files) (conn n q) ≡ spot_at (file_at m.files) (conn m q))
-    (i : ℕ) (job : Job) (s : NodeState) (there : node_at m.nodes i ≡ Some s) (at : job_at s.disk 1 ≡ Some job) (is : machine_step m (event.Disk i 1) ≡ Ok n) (may : IsMessage (content_of job.c job.epoch.0 job.r (bytes_of (file_at m.files job.path)))) where
-  pub job-leads : (d : ℕ) → JobNearOn m (i, job) (suc d) (spot_at (file_at m.files) (conn m job.c)) → IsNumber job.c → Nearer (game all Good) n (length m.net) d
+module _ (Good : Machine → Type 0) (all : ℕ → Whole) (m n : Machine) (plain : IsPlain m n) (facts : Fetches m) (spots : (q : ℕ) → IsConnNumber q → spot_at (file_at m.files) (conn n q) ≡ spot_at (file_at m.files) (conn m q))
+    (i : ℕ) (job : Job) (s : NodeState) (there : node_at m.nodes i ≡ Some s) (at : job_at s.disk 1 ≡ Some job) (is : machine_step m (event.Disk i 1) ≡ Ok n) (may : IsMessage (content_of job.c job.epoch.0 job.r (content_bytes (file_at m.files job.path)))) where
+  pub job-leads : (d : ℕ) → JobNearOn m (i, job) (suc d) (spot_at (file_at m.files) (conn m job.c)) → IsConnNumber job.c → Nearer (game all Good) n (length m.net) d
   job-leads d near number = go (spot_at (file_at m.files) (conn m job.c)) refl near where
     go : (o : Option Spot) → spot_at (file_at m.files) (conn m job.c) ≡ o → JobNearOn m (i, job) (suc d) o → Nearer (game all Good) n (length m.net) d
     go None spot h = absurd h
@@ -100,9 +100,9 @@ module _ (Good : Machine → Type 0) (all : ℕ → Whole) (m n : Machine) (plai
         let given : NodeState × Out = node_step (node_setting m i) s (back.Disk 1) in
         let step = completed-at m n i s there is in
         let sends = job-sends (node_setting m i) s job at h.1 in
-        let x : Place × List ℕ = (Node job.origin, message job.c job.epoch.0 (body.Content job.r (bytes_of (file_at m.files job.path)))) in
+        let x : Place × List ℕ = (Node job.origin, message job.c job.epoch.0 (body.Content job.r (content_bytes (file_at m.files job.path)))) in
         let sent : packet_at n.net (length m.net + 1) ≡ Some (packet_of (Node i) x) =
         ap (λ (z : Machine). packet_at z.net (length m.net + 1)) step ∙ gave-sends m i s there (event.Disk i 1) [] given x sends.segments sends.messages in
         let spot_behind : spot_at (file_at n.files) (conn n job.c) ≡ Some t = ap (λ f. spot_at (file_at f) (conn n job.c)) plain.files ∙ spots job.c number ∙ spot in
         let two : 2 ≤ suc d = h.2 in
-        content-nearer Good all m n plain job.c job.epoch.0 job.r job.origin i d (bytes_of (file_at m.files job.path)) number may t spot_behind h.0 (omega (arith, two)) sent
+        content-nearer Good all m n plain job.c job.epoch.0 job.r job.origin i d (content_bytes (file_at m.files job.path)) number may t spot_behind h.0 (omega (arith, two)) sent

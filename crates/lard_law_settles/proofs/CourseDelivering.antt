@@ -5,9 +5,9 @@ use Rattle.lard_answers.specs.Answers.{FilesAt}
 use Rattle.lard_base.specs.declared.event.Event.{Event}
 use Rattle.lard_base.specs.declared.event.Event.TheVariants as event
 use Rattle.lard_bound.specs.Progress.{Answers, Any, IfCame, IsFetch, NearAt, came_in, chain_at}
-use Rattle.lard_bound.specs.Units.{Whole, units, units_of}
+use Rattle.lard_bound.specs.Units.{Whole, units, machine_units}
 use Rattle.lard_rules.specs.declared.machine.Machine.{Machine}
-use Rattle.lard_rules.specs.Bounds.{IsNumber}
+use Rattle.lard_rules.specs.Bounds.{IsConnNumber}
 use Rattle.lard_law_view.specs.View.{Conn, Move, conn, grown, letters_of, setting_of}
 use Rattle.lard_law_view.proofs.Saying.{NamesAll}
 use Rattle.lard_law_settles.specs.Course.{NearIn, chain_by, chain_in, chain_of}
@@ -18,7 +18,7 @@ use Rattle.lard_law_view.proofs.Steps.{shown}
 use Rattle.lard_law_settles.proofs.CourseOwing.{IsStep}
 use Rattle.lard_law_settles.proofs.CourseSending.{any-has, every-has, has-new, more, new-has, new-letters, new-none}
 use Rattle.lard_files.specs.Files.{file_at}
-use Rattle.lard_history.specs.Own.{Came, Has, Letter, Seen, came, conn_of, letter_of, letters}
+use Rattle.lard_history.specs.Own.{Came, Has, Letter, Seen, came_seen, conn_of, letter_of, letters}
 use Rattle.lard_history.proofs.Seeing.{by_number, one-mine, one-other}
 use Rattle.lard_net.specs.Net.{Packet, packet_at}
 use Rattle.lard_rounds.specs.Rounds.{AreShorter, Nearer}
@@ -40,7 +40,7 @@ module _ (Given : Conn → Type 0) (Came_ : Conn → Move → Type 0) (Good : Ma
   pub record IsNew (k : ℕ) : Type 0 where
     pub packet : Packet
     pub c : ℕ
-    pub number : IsNumber c
+    pub number : IsConnNumber c
     pub moved_ : Move_of c
     pub has : Has (letter_of packet) (letters_of moved_.move)
     pub chain : chain_in n k ≡ chain_at files (grown (conn m c) moved_.move) (letter_of packet)
@@ -65,7 +65,7 @@ module _ (Given : Conn → Type 0) (Came_ : Conn → Move → Type 0) (Good : Ma
       (moved Given Came_ all m n e s q)
 
   -- a letter that a connection sends, and which is near then, is a new packet
-  pub near-new : (q : ℕ) → IsNumber q → (h : Move_of q) (d : ℕ) → Any (λ a. NearAt files (grown (conn m q) h.move) d a) (letters_of h.move) → Nearer (game all Good) n (length m.net) d
+  pub near-new : (q : ℕ) → IsConnNumber q → (h : Move_of q) (d : ℕ) → Any (λ a. NearAt files (grown (conn m q) h.move) d a) (letters_of h.move) → Nearer (game all Good) n (length m.net) d
   near-new q number h d any =
       let a = any-has (λ a. NearAt files (grown (conn m q) h.move) d a) (letters_of h.move) any in
       let has : Has a.0 (letters q (more m n plain.packets)) = subst (λ ls. Has a.0 ls) (sym (new-letters m n plain.packets q h.move h.grows)) a.1 in
@@ -80,21 +80,21 @@ module _ (Given : Conn → Type 0) (Came_ : Conn → Move → Type 0) (Good : Ma
       }
 
   -- where no unit goes, none of a connection that moves does
-  pub still : units_of all m ≤ units_of all n → (q : ℕ) → IsNumber q → (h : Move_of q) → units (all q) m.config.nodes (conn m q) ≤ units (all q) m.config.nodes (grown (conn m q) h.move)
+  pub still : machine_units all m ≤ machine_units all n → (q : ℕ) → IsConnNumber q → (h : Move_of q) → units (all q) m.config.nodes (conn m q) ≤ units (all q) m.config.nodes (grown (conn m q) h.move)
   still up q number h = subst (λ (y : Conn). units (all q) m.config.nodes (conn m q) ≤ units (all q) m.config.nodes y) h.grows (each-still Given Came_ all m n e s up q number.0 number.1)
 
 -- ---- of one that is delivered
 
 module _ (Given : Conn → Type 0) (Came_ : Conn → Move → Type 0) (Good : Machine → Type 0) (all : ℕ → Whole) (m n : Machine) (k : ℕ) (s : IsStep Given Came_ all m n (event.Deliver k)) (plain : IsPlain m n)
-    (p : Packet) (at : packet_at m.net k ≡ Some p) (c : ℕ) (of : conn_of p.from p.to p.bytes ≡ Some c) (number : IsNumber c) where
+    (p : Packet) (at : packet_at m.net k ≡ Some p) (c : ℕ) (of : conn_of p.from p.to p.bytes ≡ Some c) (number : IsConnNumber c) where
   abbrev e : Event
   e = event.Deliver k
 
   its-shown : shown m e c ≡ Came (letter_of p) ∷ []
-  its-shown = ap (λ o. came c o ++ []) at ∙ ap (λ l. l ++ []) (one-mine c (conn_of p.from p.to p.bytes) (Came (letter_of p)) of)
+  its-shown = ap (λ o. came_seen c o ++ []) at ∙ ap (λ l. l ++ []) (one-mine c (conn_of p.from p.to p.bytes) (Came (letter_of p)) of)
 
   others-shown : (q : ℕ) → (q ≡ c → ⊥) → shown m e q ≡ []
-  others-shown q other = ap (λ o. came q o ++ []) at ∙ ap (λ l. l ++ []) (one-other c q (conn_of p.from p.to p.bytes) (Came (letter_of p)) other of)
+  others-shown q other = ap (λ o. came_seen q o ++ []) at ∙ ap (λ l. l ++ []) (one-other c q (conn_of p.from p.to p.bytes) (Came (letter_of p)) other of)
 
   abbrev its : Type 0
   its = Moved Given Came_ all m n e s c (conn n c)
@@ -116,7 +116,7 @@ module _ (Given : Conn → Type 0) (Came_ : Conn → Move → Type 0) (Good : Ma
   unfolding conn
   number-named q = refl
 
-  shorter : units_of all m ≤ units_of all n → AreShorter (game all Good) n (length m.net) (chain_in m k)
+  shorter : machine_units all m ≤ machine_units all n → AreShorter (game all Good) n (length m.net) (chain_in m k)
   shorter up i on late =
       let new = new-is Given Came_ Good all m n e s plain i on late in
       let still_ = still Given Came_ Good all m n e s plain up new.c new.number new.moved_ in
@@ -138,11 +138,11 @@ module _ (Given : Conn → Type 0) (Came_ : Conn → Move → Type 0) (Good : Ma
           let old = chain-is m k c p at of in
           omega (arith, less, is, old))
 
-  pub packet-shorter : units_of all m ≤ units_of all n → AreShorter (game all Good) n (length m.net) (chain_in m k) ⊎ Nearer (game all Good) n (length m.net) 3
+  pub packet-shorter : machine_units all m ≤ machine_units all n → AreShorter (game all Good) n (length m.net) (chain_in m k) ⊎ Nearer (game all Good) n (length m.net) 3
   packet-shorter up = inl (shorter up)
 
   -- one that is near leads further, or it is a Fetch
-  pub packet-leads : units_of all m ≤ units_of all n → (d : ℕ) → NearAt (file_at m.files) (conn m c) (suc d) (letter_of p) → Nearer (game all Good) n (length m.net) d ⊎ IsFetch (letter_of p)
+  pub packet-leads : machine_units all m ≤ machine_units all n → (d : ℕ) → NearAt (file_at m.files) (conn m c) (suc d) (letter_of p) → Nearer (game all Good) n (length m.net) d ⊎ IsFetch (letter_of p)
   packet-leads up d near = ⊎_elim
       (λ (a : Any (λ a. NearAt (file_at m.files) (grown (conn m c) its-move.move) d a) (letters_of its-move.move)). inl (near-new Given Came_ Good all m n e s plain c number its-move d a))
       (λ (f : IsFetch (letter_of p)). inr f)

@@ -13,9 +13,9 @@ use Rattle.lard_bound.specs.Seats.{seat_of}
 use Rattle.lard_bound.specs.Spots.{Spot}
 use Rattle.lard_bound.specs.Units.{Whole}
 use Rattle.lard_rules.specs.declared.machine.Machine.{Machine}
-use Rattle.lard_rules.specs.Bounds.{IsNumber}
+use Rattle.lard_rules.specs.Bounds.{IsConnNumber}
 use Rattle.lard_rules.specs.Machine.{is_no_node, machine_step, node_at, node_gave, node_setting}
-use Rattle.lard_law_view.specs.View.{IsViewed, Spells, Was, conn, part_of}
+use Rattle.lard_law_view.specs.View.{IsViewed, SpellsMessage, Was, conn, part_of}
 use Rattle.lard_law_view.proofs.Naming.{decoded-names}
 use Rattle.lard_law_view.proofs.Nothing.{node-there}
 use Rattle.lard_law_settles.specs.CourseGame.{JobNearOn, game}
@@ -36,7 +36,7 @@ use Rattle.lard_rules.specs.Sent.{packet_of}
 use Rattle.lard_net.specs.Net.{Packet, packet_at}
 use Rattle.lard_rules.specs.declared.node.NodeState.{NodeState}
 use Rattle.lard_rules.specs.Node.{message}
-use Rattle.lard_rules.specs.NodePlace.{bytes_of, fetched, node_gets}
+use Rattle.lard_rules.specs.NodePlace.{content_bytes, fetched, node_gets}
 use Rattle.lard_rounds.specs.Rounds.{JobNearer, Nearer}
 use Rattle.lard_rules.specs.declared.places.Out.{Out}
 use Rattle.lard_segment.specs.declared.fault.SegFault.{SegFault}
@@ -97,13 +97,13 @@ file-of None e = absurd (let no : false ≡ true = e in cc)
 file-of (Some file) e = (file, refl)
 
 module _ (Good : Machine → Type 0) (all : ℕ → Whole) (m n : Machine) (plain : IsPlain m n) (view : IsViewed m) (facts : Fetches m)
-    (spots : (q : ℕ) → IsNumber q → spot_at (file_at m.files) (conn n q) ≡ spot_at (file_at m.files) (conn m q)) where
+    (spots : (q : ℕ) → IsConnNumber q → spot_at (file_at m.files) (conn n q) ≡ spot_at (file_at m.files) (conn m q)) where
   -- the spot behind the step
-  spot-behind : (c : ℕ) → IsNumber c → (t : Spot) → spot_at (file_at m.files) (conn m c) ≡ Some t → spot_at (file_at n.files) (conn n c) ≡ Some t
+  spot-behind : (c : ℕ) → IsConnNumber c → (t : Spot) → spot_at (file_at m.files) (conn m c) ≡ Some t → spot_at (file_at n.files) (conn n c) ≡ Some t
   spot-behind c number t is = ap (λ f. spot_at (file_at f) (conn n c)) plain.files ∙ spots c number ∙ is
 
   -- a job that waits leads to one
-  job-nearer : (b a c e r d : ℕ) (job : Job) (z : NodeState) → node_at n.nodes b ≡ Some z → Has job z.disk → job.c ≡ c → job.epoch.0 ≡ e → job.r ≡ r → job.origin ≡ a → IsNumber c → (t : Spot)
+  job-nearer : (b a c e r d : ℕ) (job : Job) (z : NodeState) → node_at n.nodes b ≡ Some z → Has job z.disk → job.c ≡ c → job.epoch.0 ≡ e → job.r ≡ r → job.origin ≡ a → IsConnNumber c → (t : Spot)
       → spot_at (file_at n.files) (conn n c) ≡ Some t → IsWanted a e b r t.post → a ≢ b → 2 ≤ d → JobNearer (game all Good) n d
   job-nearer b a c e r d job z at has is-c is-e is-r is-a number t spot wanted apart two =
       let near : JobNear (file_at n.files) t b d job = (
@@ -112,10 +112,10 @@ module _ (Good : Machine → Type 0) (all : ℕ → Whole) (m n : Machine) (plai
         two,
       ) in
       let here : spot_at (file_at n.files) (conn n job.c) ≡ Some t = ap (λ (i : ℕ). spot_at (file_at n.files) (conn n i)) is-c ∙ spot in
-      record { job = (b, job); waits = (z, at, has); leads = (subst (JobNearOn n (b, job) d) (sym here) near, subst IsNumber (sym is-c) number) }
+      record { job = (b, job); waits = (z, at, has); leads = (subst (JobNearOn n (b, job) d) (sym here) near, subst IsConnNumber (sym is-c) number) }
 
   -- the node that is asked has it, or queues a job
-  module _ (k q e r a b d : ℕ) (path file : List ℕ) (number : IsNumber q) (has_file : file_at m.files path ≡ Some file) (may : IsMessage (content_of q e r file)) (apart : a ≢ b) (two : 2 ≤ suc d)
+  module _ (k q e r a b d : ℕ) (path file : List ℕ) (number : IsConnNumber q) (has_file : file_at m.files path ≡ Some file) (may : IsMessage (content_of q e r file)) (apart : a ≢ b) (two : 2 ≤ suc d)
       (t : Spot) (spot : spot_at (file_at m.files) (conn m q) ≡ Some t) (wanted : IsWanted a e b r t.post) (s : NodeState) (there : node_at m.nodes b ≡ Some s) where
     abbrev given : NodeState × Out
     given = fetched (node_setting m b) s a q e r path (Some file)
@@ -134,7 +134,7 @@ module _ (Good : Machine → Type 0) (all : ℕ → Whole) (m n : Machine) (plai
         inr (job-nearer b a q e r (suc d) job s state has its.0 its.1 its.2 origin number t (spot-behind q number t spot) wanted apart two)
     outcome-leads step (Sent none one) =
         let x : Place × List ℕ = (Node a, message q e (body.Content r file)) in
-        let messages : given.1.messages ≡ x ∷ [] = one ∙ ap (λ (o : Option (List ℕ)). (Node a, message q e (body.Content r (bytes_of o))) ∷ []) has_file in
+        let messages : given.1.messages ≡ x ∷ [] = one ∙ ap (λ (o : Option (List ℕ)). (Node a, message q e (body.Content r (content_bytes o))) ∷ []) has_file in
         let sent : packet_at n.net (length m.net + 1) ≡ Some (packet_of (Node b) x) =
         ap (λ (z : Machine). packet_at z.net (length m.net + 1)) step ∙ gave-sends m b s there (event.Deliver k) (rec.Got k ∷ []) given x none messages in
         inl (content-nearer Good all m n plain q e r a b d file number may t (spot-behind q number t spot) wanted (omega (arith, two)) sent)
@@ -142,8 +142,8 @@ module _ (Good : Machine → Type 0) (all : ℕ → Whole) (m n : Machine) (plai
         let state : node_at n.nodes b ≡ Some given.0 = ap (λ (x : Machine). node_at x.nodes b) step ∙ gave-state m b s there (event.Deliver k) (rec.Got k ∷ []) given in
         inr (job-nearer b a q e r (suc d) (record { origin = a; c = q; epoch = record { 0 = e }; r = r; path = path }) given.0 state has refl refl refl refl number t (spot-behind q number t spot) wanted apart two)
 
-  module _ (k q : ℕ) (p : Packet) (at : packet_at m.net k ≡ Some p) (of : conn_of p.from p.to p.bytes ≡ Some q) (number : IsNumber q) (is : machine_step m (event.Deliver k) ≡ Ok n) (e r : ℕ) (path : List ℕ)
-      (spells : Spells q e (body.Fetch r path) p.bytes) where
+  module _ (k q : ℕ) (p : Packet) (at : packet_at m.net k ≡ Some p) (of : conn_of p.from p.to p.bytes ≡ Some q) (number : IsConnNumber q) (is : machine_step m (event.Deliver k) ≡ Ok n) (e r : ℕ) (path : List ℕ)
+      (spells : SpellsMessage q e (body.Fetch r path) p.bytes) where
     was : (a b : ℕ) → p.from ≡ Node a → p.to ≡ Node b → Was (conn m q) (Node a) (Node b) p.bytes
     unfolding conn
     was a b from to = subst (λ (l : Letter). Has l (letters q m.net)) (λ i. record { from = from i; to = to i; bytes = p.bytes }) (has-letter q k m.net p at of)
@@ -168,7 +168,7 @@ module _ (Good : Machine → Type 0) (all : ℕ → Whole) (m n : Machine) (plai
         outcome-leads k q e r a b d path file.0 number file.1 may goal.0 asked.two t spot asked.wanted s.0 s.1 step (outcome (node_setting m b) s.0 a q e r path file.0)
 
   -- what is near and a Fetch
-  pub fetches-lead : (k q d : ℕ) (p : Packet) → packet_at m.net k ≡ Some p → conn_of p.from p.to p.bytes ≡ Some q → IsNumber q → machine_step m (event.Deliver k) ≡ Ok n → NearAt (file_at m.files) (conn m q) (suc d) (letter_of p) → IsFetch (letter_of p)
+  pub fetches-lead : (k q d : ℕ) (p : Packet) → packet_at m.net k ≡ Some p → conn_of p.from p.to p.bytes ≡ Some q → IsConnNumber q → machine_step m (event.Deliver k) ≡ Ok n → NearAt (file_at m.files) (conn m q) (suc d) (letter_of p) → IsFetch (letter_of p)
       → Nearer (game all Good) n (length m.net) d ⊎ JobNearer (game all Good) n (suc d)
   unfolding conn
   fetches-lead k q d p at of number is near (c, e, r, path, spells) = go (spot_at (file_at m.files) (conn m q)) refl near where

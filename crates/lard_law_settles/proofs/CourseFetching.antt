@@ -11,18 +11,18 @@ use Rattle.lard_base.specs.declared.place.Place.TheVariants.{Node}
 use Rattle.lard_base.specs.declared.place.TimerKind.TheVariants as kind
 use Rattle.lard_bound.specs.Nears.{IsWanted, NearAside, OfMessage}
 use Rattle.lard_bound.specs.Progress.{NearAt, NearOn, spot_at, spot_with}
-use Rattle.lard_bound.specs.Seats.{Gone, Held, Here, Offered, Over, Seat, Staying, Unborn, Waiting, seat_of}
+use Rattle.lard_bound.specs.Seats.{Gone, Held, Here, Offered, Over, SeatNow, Staying, Unborn, Waiting, seat_of}
 use Rattle.lard_bound.specs.Spots.{Spot, post_of, spot_of}
 use Rattle.lard_bound.specs.Units.{Whole}
-use Rattle.lard_cache.specs.Recency.{has}
+use Rattle.lard_cache.specs.Recency.{has_path}
 use Rattle.lard_client.specs.Control.{ClientBlock}
 use Rattle.lard_rules.specs.declared.fault.StepFault.{StepFault}
 use Rattle.lard_rules.specs.declared.fault.Refusal.TheVariants.{WasLost}
 use Rattle.lard_rules.specs.declared.fault.StepFault.TheVariants.{Limit, Refused}
 use Rattle.lard_rules.specs.declared.machine.Machine.{Machine}
-use Rattle.lard_rules.specs.Bounds.{IsNumber}
-use Rattle.lard_rules.specs.Machine.{delivered, limit_reached, machine_step, node_acts, node_at, node_gave, node_setting, to_place, told, unless_limit}
-use Rattle.lard_law_view.specs.View.{Conn, Spells, Was, conn, part_of, with_node}
+use Rattle.lard_rules.specs.Bounds.{IsConnNumber}
+use Rattle.lard_rules.specs.Machine.{delivered, limit_reached, machine_step, node_acts, node_at, node_gave, node_setting, to_place, machine_told, unless_limit}
+use Rattle.lard_law_view.specs.View.{Conn, SpellsMessage, Was, conn, part_of, with_node}
 use Rattle.lard_law_view.proofs.Naming.{spelled-named}
 use Rattle.lard_law_view.proofs.Parts.{node-here, node-mine, node-set}
 use Rattle.lard_law_settles.specs.CourseGame.{game}
@@ -49,8 +49,8 @@ use Rattle.lard_rules.specs.declared.node.BackIn.TheVariants as back
 use Rattle.lard_rules.specs.declared.node.NodeState.{NodeState}
 use Rattle.lard_rules.specs.declared.node.NodeTurn.{NodeTurn}
 use Rattle.lard_rules.specs.Node as node
-use Rattle.lard_rules.specs.Node.{NodePart, message, saying}
-use Rattle.lard_rules.specs.NodePlace.{NodeSetting, aside, bytes_of, content_sent, fetched, fetched_file, node_deed, node_gets, node_part}
+use Rattle.lard_rules.specs.Node.{NodePart, message, node_saying}
+use Rattle.lard_rules.specs.NodePlace.{NodeSetting, aside, content_bytes, content_sent, fetched, fetched_file, node_deed, node_gets, node_part}
 use Rattle.lard_resend.specs.Kept.{is_under}
 use Rattle.lard_rounds.specs.Rounds.{Nearer}
 use Rattle.lard_rules.specs.declared.places.Out.{Out}
@@ -61,12 +61,12 @@ use Rattle.lard_rules.specs.Outs.{nothing_done}
 
 module _ (m : Machine) (b : ℕ) (s : NodeState) (there : node_at m.nodes b ≡ Some s) (e : Event) (own : List Rec) (given : NodeState × Out) where
   pub gave-state : node_at (node_gave m e own b given).nodes b ≡ Some given.0
-  unfolding told
+  unfolding machine_told
   gave-state = node-set m.nodes b s given.0 there
 
   -- one message is sent, and nothing else
   pub gave-sends : (x : Place × List ℕ) → given.1.segments ≡ [] → given.1.messages ≡ x ∷ [] → packet_at (node_gave m e own b given).net (length m.net + 1) ≡ Some (packet_of (Node b) x)
-  unfolding told
+  unfolding machine_told
   gave-sends x none one =
       let net : (node_gave m e own b given).net ≡ m.net ++ packet_of (Node b) x ∷ [] =
       (λ i. (m.net ++ packets_of (Node b) (none i)) ++ packets_of (Node b) (one i)) ∙ ap (λ (ps : List Packet). ps ++ packet_of (Node b) x ∷ []) (append-nil m.net) in
@@ -76,7 +76,7 @@ module _ (m : Machine) (b : ℕ) (s : NodeState) (there : node_at m.nodes b ≡ 
 -- of connection q: its part is as what the node keeps says
 module _ (m : Machine) (q : ℕ) where
   part-behind : (e : Event) (own : List Rec) (i : ℕ) (given : NodeState × Out) → part_of (node_gave m e own i given) q ≡ part_of (record m { nodes = slice_set m.nodes (i - 1) given.0 }) q
-  unfolding told part_of
+  unfolding machine_told part_of
   part-behind e own i given = refl
 
   -- what a rule did on it is its part
@@ -96,7 +96,7 @@ unfolding conn
 near-conn files n c d l h = h
 
 module _ (Good : Machine → Type 0) (all : ℕ → Whole) (m n : Machine) (plain : IsPlain m n) where
-  pub content-nearer : (c e r a b d : ℕ) (file : List ℕ) → IsNumber c → IsMessage (content_of c e r file) → (t : Spot) → spot_at (file_at n.files) (conn n c) ≡ Some t → IsWanted a e b r t.post → 1 ≤ d
+  pub content-nearer : (c e r a b d : ℕ) (file : List ℕ) → IsConnNumber c → IsMessage (content_of c e r file) → (t : Spot) → spot_at (file_at n.files) (conn n c) ≡ Some t → IsWanted a e b r t.post → 1 ≤ d
       → packet_at n.net (length m.net + 1) ≡ Some (packet_of (Node b) (Node a, message c e (body.Content r file))) → Nearer (game all Good) n (length m.net) d
   content-nearer c e r a b d file number may t spot wanted some sent =
       let bytes : List ℕ = message c e (body.Content r file) in
@@ -122,14 +122,14 @@ module _ (Good : Machine → Type 0) (all : ℕ → Whole) (m n : Machine) (plai
 
 -- ---- who awaits it
 
-pub record IsHome (z : Seat) (h e from r : ℕ) : Type 0 where
+pub record IsHome (z : SeatNow) (h e from r : ℕ) : Type 0 where
   pub told : Bool
   pub block : ControlBlock
   pub staying : Staying
   pub seat : z ≡ Here told h e block staying
   pub wanted : is_from from e (find (is_under kind.Fetch r) staying.fetches) ≡ true
 
-pub wanted-home : (files : FilesAt) (x : ClientBlock) (z : Seat) (h e from r : ℕ) → IsWanted h e from r (post_of files x z) → IsHome z h e from r
+pub wanted-home : (files : FilesAt) (x : ClientBlock) (z : SeatNow) (h e from r : ℕ) → IsWanted h e from r (post_of files x z) → IsHome z h e from r
 wanted-home files x (Here told n i b s) h e from r w =
     let at : Here told n i b s ≡ Here told h e b s = λ j. Here told (w.0 j) (w.1 j) b s in
     record { told = told; block = b; staying = s; seat = at; wanted = subst (λ (k : ℕ). is_from from k (find (is_under kind.Fetch r) s.fetches) ≡ true) w.1 (subst (λ (k : ℕ). is_from from k (find (is_under kind.Fetch r) s.fetches) ≡ true) (sym w.1) w.2) }
@@ -149,8 +149,8 @@ spot-home files x t h e from r is w = go x.part.station is where
 pub record Fetches (m : Machine) : Type 0 where
   pub goals : (q h e from r : ℕ) → IsHome (seat_of (part_of m q)) h e from r → (h ≢ from) × (1 ≤ from) × (from ≤ m.config.nodes)
   pub origins : (i : ℕ) (s : NodeState) (job : Job) → node_at m.nodes i ≡ Some s → Has job s.disk → (h from r : ℕ) → IsHome (seat_of (part_of m job.c)) h job.epoch.0 from r → job.origin ≡ h
-  pub contents : (q a b e r : ℕ) (path file bytes : List ℕ) → Was (conn m q) (Node a) (Node b) bytes → Spells q e (body.Fetch r path) bytes → file_at m.files path ≡ Some file → IsMessage (content_of q e r file)
-  pub jobs : (i : ℕ) (s : NodeState) (job : Job) → node_at m.nodes i ≡ Some s → Has job s.disk → IsMessage (content_of job.c job.epoch.0 job.r (bytes_of (file_at m.files job.path)))
+  pub contents : (q a b e r : ℕ) (path file bytes : List ℕ) → Was (conn m q) (Node a) (Node b) bytes → SpellsMessage q e (body.Fetch r path) bytes → file_at m.files path ≡ Some file → IsMessage (content_of q e r file)
+  pub jobs : (i : ℕ) (s : NodeState) (job : Job) → node_at m.nodes i ≡ Some s → Has job s.disk → IsMessage (content_of job.c job.epoch.0 job.r (content_bytes (file_at m.files job.path)))
 
 -- ---- what the node does
 
@@ -173,13 +173,13 @@ outcome k s a c e r path file = queued (list_any (is_for c e r) s.disk) refl whe
   job = record { origin = a; c = c; epoch = record { 0 = e }; r = r; path = path }
 
   cached : (b : Bool)
-      → Outcome k s a c e r path (aside s (cond b (record (saying (content_sent k a c e r path ∷ [])) { notes = rec.Hit k.n path ∷ [] }) (record (saying []) { notes = rec.Queued k.n a c r path ∷ []; jobs = job ∷ [] })))
+      → Outcome k s a c e r path (aside s (cond b (record (node_saying (content_sent k a c e r path ∷ [])) { notes = rec.Hit k.n path ∷ [] }) (record (node_saying []) { notes = rec.Queued k.n a c r path ∷ []; jobs = job ∷ [] })))
   cached true = Sent refl refl
   cached false = Queues (has-behind job s.disk (job ∷ []) (inl refl))
 
   queued : (b : Bool) → list_any (is_for c e r) s.disk ≡ b → Outcome k s a c e r path (cond b (s, nothing_done) (aside s (fetched_file k s a c e r path)))
   queued true is = let j = any-job (is_for c e r) s.disk is in Queued j.0 j.1 j.2 refl
-  queued false is = cached (has s.cache.entries path)
+  queued false is = cached (has_path s.cache.entries path)
 
 -- ---- the step
 

@@ -20,7 +20,7 @@ use Rattle.lard_base.specs.declared.place.TimerKind.{TimerKind}
 use Rattle.lard_dispatch.specs.Books.{Dispatcher}
 use Rattle.lard_history.specs.Journal.{is_running}
 use Rattle.lard_journal.specs.declared.rec.Rec.{Rec}
-use Rattle.lard_settling.specs.Settling.{is_own, is_own_at}
+use Rattle.lard_settling.specs.Settling.{is_own_seat, is_own_at}
 
 -- ---- lists by rising numbers
 
@@ -115,10 +115,10 @@ module _ (free : Running → Bool) (own : Place × ℕ → Bool) where
 
 -- ---- the agenda
 
-module _ (d : Dispatcher) (J : List Rec) (all : AllByRecursion NamesSeat J) (p : Place) (c : ℕ) (more : List (Place × ℕ)) (is : filter is_own (due d (agenda_of J)) ≡ (p, c) ∷ more) where
+module _ (d : Dispatcher) (J : List Rec) (all : AllByRecursion NamesSeat J) (p : Place) (c : ℕ) (more : List (Place × ℕ)) (is : filter is_own_seat (due d (agenda_of J)) ≡ (p, c) ∷ more) where
   -- it is due
   pub first-due : IsDue d J (p, c)
-  first-due = (subst (AllByRecursion (IsDue d J)) is (all-filter is_own (IsDue d J) (due d (agenda_of J)) (timers_are_listed d J all))).0
+  first-due = (subst (AllByRecursion (IsDue d J)) is (all-filter is_own_seat (IsDue d J) (due d (agenda_of J)) (timers_are_listed d J all))).0
 
   -- and no other at a seat before it
   pub no-sooner : (q : Place) (e : ℕ) (kind : TimerKind) → IsSeated q e → is_own_at q e ≡ true → is_running J q e kind ≡ true → stalled_at q d.books.line e ≡ false → seat p c ≤ seat q e
@@ -129,5 +129,5 @@ module _ (d : Dispatcher) (J : List Rec) (all : AllByRecursion NamesSeat J) (p :
         let same_ = one_seat r.place q r.c e (kept_is_seated J all (seat q e) r f) seated (sym (nothing_idle J (seat q e) r f).0) in
         let m = (agenda_of J).running in
         let here : is_stalled d r ≡ false = (λ i. stalled_at (same_.0 i) d.books.line (same_.1 i)) ∙ free in
-        least (λ r. not (is_stalled d r)) is_own (entries m) (entries_sorted m) (λ k v h. (nothing_idle J k v (get-entries m k ∙ h)).0) p c more is (seat q e) r (sym (get-entries m (seat q e)) ∙ f)
+        least (λ r. not (is_stalled d r)) is_own_seat (entries m) (entries_sorted m) (λ k v h. (nothing_idle J k v (get-entries m k ∙ h)).0) p c more is (seat q e) r (sym (get-entries m (seat q e)) ∙ f)
         (ap not here) ((λ i. is_own_at (same_.0 i) (same_.1 i)) ∙ own)

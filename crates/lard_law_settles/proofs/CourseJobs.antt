@@ -9,7 +9,7 @@ use Rattle.lard_law_settles.proofs.CourseQueueing.{QueuesNone, content-none, for
 use Rattle.lard_disk.specs.declared.disk.Job.{Job}
 use Rattle.lard_disk.specs.Jobs.{is_for}
 use Rattle.lard_endpoint.specs.Control.{ControlBlock}
-use Rattle.lard_handoff_back.specs.Back.{awaits_ack, endpoint_of}
+use Rattle.lard_handoff_back.specs.Back.{awaits_ack, back_endpoint}
 use Rattle.lard_message.specs.declared.fault.MsgFault.{MsgFault}
 use Rattle.lard_message.specs.declared.message.Body.{Body}
 use Rattle.lard_message.specs.declared.message.Body.TheVariants as body
@@ -18,7 +18,7 @@ use Rattle.lard_rules.specs.declared.node.NodeState.{NodeState}
 use Rattle.lard_rules.specs.declared.node.NodeTurn.{NodeTurn}
 use Rattle.lard_rules.specs.declared.stay.Stay.{Stay}
 use Rattle.lard_rules.specs.Node as node
-use Rattle.lard_rules.specs.Node.{NodePart, both_of, gone, node_acknowledged, node_content, node_forwarded, node_offered, node_tagged, node_timer, saying}
+use Rattle.lard_rules.specs.Node.{NodePart, both_of, gone, node_acknowledged, node_content, node_forwarded, node_offered, node_tagged, node_timer, node_saying}
 use Rattle.lard_rules.specs.NodePlace.{NodeSetting, aside, fetched, fetched_file, node_deed, node_env, node_gets, node_hears, node_part}
 use Rattle.lard_rules.specs.Stay.{NodeEnv}
 use Rattle.lard_resend.specs.Kept.{without}
@@ -31,24 +31,24 @@ use Rattle.lard_segment.specs.Segment.{decoded}
 -- ---- a turn
 
 -- the jobs that a rule queues
-abbrev pub jobs_of : node.Deed → List Job
+abbrev pub jobs_of : node.NodeDeed → List Job
 jobs_of node.Drops = []
 jobs_of (node.Says messages) = []
 jobs_of (node.Does given) = given.1.jobs
 
-none-of : (d : node.Deed) → QueuesNone d → jobs_of d ≡ []
+none-of : (d : node.NodeDeed) → QueuesNone d → jobs_of d ≡ []
 none-of node.Drops h = refl
 none-of (node.Says messages) h = refl
 none-of (node.Does given) h = h
 
 pub timer-queues : (env : NodeEnv) (p : NodePart) → jobs_of (node_timer env p) ≡ []
-timer-queues env p = go (both_of (endpoint_of p.row) p.stay) where
-  go : (o : Option (ControlBlock × Stay)) → jobs_of (node.fired_by env p o) ≡ []
+timer-queues env p = go (both_of (back_endpoint p.row) p.stay) where
+  go : (o : Option (ControlBlock × Stay)) → jobs_of (node.node_fired_by env p o) ≡ []
   go None = refl
   go (Some x) = refl
 
 module _ (k : NodeSetting) (s : NodeState) where
-  pub deed-adds : (c : ℕ) (d : node.Deed) → (node_deed k s c d).0.disk ≡ s.disk ++ jobs_of d
+  pub deed-adds : (c : ℕ) (d : node.NodeDeed) → (node_deed k s c d).0.disk ≡ s.disk ++ jobs_of d
   deed-adds c node.Drops = sym (append-nil s.disk)
   deed-adds c (node.Says messages) = refl
   deed-adds c (node.Does given) = refl
@@ -71,12 +71,12 @@ module _ (k : NodeSetting) (s : NodeState) where
   rests : (from : Place) (r : Result Message MsgFault) → Leaves from r s
   rests from r = record { jobs = []; disk = sym (append-nil s.disk); why = Nothing refl }
 
-  tags : (c e number : ℕ) (nodes : List ℕ) (d : node.Deed) → node_tagged (node_env k s c e) (node_part s c) number nodes ≡ d → Leaves Front (Ok (record { c = c; epoch = record { 0 = e }; body = body.Tag number nodes })) (node_deed k s c d).0
+  tags : (c e number : ℕ) (nodes : List ℕ) (d : node.NodeDeed) → node_tagged (node_env k s c e) (node_part s c) number nodes ≡ d → Leaves Front (Ok (record { c = c; epoch = record { 0 = e }; body = body.Tag number nodes })) (node_deed k s c d).0
   tags c e number nodes node.Drops is = rests Front _
   tags c e number nodes (node.Says messages) is = record { jobs = []; disk = refl; why = Nothing refl }
   tags c e number nodes (node.Does given) is = record { jobs = given.1.jobs; disk = refl; why = Tagged c e number nodes given refl refl is refl refl }
 
-  quiet : (from : Place) (m : Message) (d : node.Deed) → jobs_of d ≡ [] → Leaves from (Ok m) (node_deed k s m.c d).0
+  quiet : (from : Place) (m : Message) (d : node.NodeDeed) → jobs_of d ≡ [] → Leaves from (Ok m) (node_deed k s m.c d).0
   quiet from m d none = record { jobs = []; disk = deed-adds m.c d ∙ ap (λ (js : List Job). s.disk ++ js) none; why = Nothing refl }
 
   asks : (a c e n : ℕ) (path : List ℕ) (o : Option (List ℕ)) → Leaves (Node a) (Ok (record { c = c; epoch = record { 0 = e }; body = body.Fetch n path })) (fetched k s a c e n path o).0
@@ -96,7 +96,7 @@ module _ (k : NodeSetting) (s : NodeState) where
       tags c e number nodes (node_tagged (node_env k s c e) (node_part s c) number nodes) refl
   hears Front c e body.EndedAck =
       quiet Front (record { c = c; epoch = record { 0 = e }; body = body.EndedAck }) (node_acknowledged (node_env k s c e) (node_part s c))
-      (cond_both (awaits_ack e (node_part s c).row) (node.Does (record (node_part s c) { row = gone (node_part s c).row; kept = without kind.Ended 0 (node_part s c).kept }, saying [])) node.Drops (λ (d : node.Deed). jobs_of d ≡ []) (λ t. refl)
+      (cond_both (awaits_ack e (node_part s c).row) (node.Does (record (node_part s c) { row = gone (node_part s c).row; kept = without kind.Ended 0 (node_part s c).kept }, node_saying [])) node.Drops (λ (d : node.NodeDeed). jobs_of d ≡ []) (λ t. refl)
       (λ t. refl))
   hears Front c e body.Taken = rests Front _
   hears Front c e (body.Ask number queue size paths) = rests Front _

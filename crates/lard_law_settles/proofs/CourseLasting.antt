@@ -9,9 +9,9 @@ use Rattle.lard_base.specs.declared.event.Event.TheVariants as event
 use Rattle.lard_base.specs.declared.ids.TheConstants.ConnId.{MAX}
 use Rattle.lard_base.specs.declared.place.Place.{Place}
 use Rattle.lard_bound.specs.Progress.{spot_at}
-use Rattle.lard_bound.specs.Units.{Whole, units, units_of}
+use Rattle.lard_bound.specs.Units.{Whole, units, machine_units}
 use Rattle.lard_rules.specs.declared.machine.Machine.{Machine}
-use Rattle.lard_law_view.specs.View.{Conn, Goes, Move, conn, grown, setting_of}
+use Rattle.lard_law_view.specs.View.{Conn, GoesBy, Move, conn, grown, setting_of}
 use Rattle.lard_law_view.proofs.Acts.{ActsAlone, ActsMany, IsPassing, said_rows, step_acts}
 use Rattle.lard_law_view.proofs.Steps.{IsShown, shown, step_comes}
 use Rattle.lard_law_settles.proofs.CourseOwing.{IsStep, Leads, Owed}
@@ -45,7 +45,7 @@ module _ (Given : Conn → Type 0) (Came : Conn → Move → Type 0) (all : ℕ 
 
   pub moved : (q : ℕ) → (conn n q ≡ conn m q) ⊎ Moved q (conn n q)
   moved q = go (conn n q) (s.behind q) (λ v h grows. s.came q v h grows) (step_comes m n e (Owed Given Came all (setting_of m)) s.view s.rules s.rule s.is q) where
-    go : (y : Conn) → Given y → ((v : Move) → IsShown m e (conn m q) v → y ≡ grown (conn m q) v → Came (conn m q) v) → Goes (λ x v. IsShown m e x v × Owed Given Came all (setting_of m) x v) (conn m q) y → (y ≡ conn m q) ⊎ Moved q y
+    go : (y : Conn) → Given y → ((v : Move) → IsShown m e (conn m q) v → y ≡ grown (conn m q) v → Came (conn m q) v) → GoesBy (λ x v. IsShown m e x v × Owed Given Came all (setting_of m) x v) (conn m q) y → (y ≡ conn m q) ⊎ Moved q y
     go y g came (inl stays) = inl stays
     go y g came (inr (v, p, grows)) = inr (record {
       move = v;
@@ -130,17 +130,17 @@ module _ (Given : Conn → Type 0) (Came : Conn → Move → Type 0) (all : ℕ 
   each-less : (c : ℕ) → units (all c) n.config.nodes (conn n c) ≤ units (all c) m.config.nodes (conn m c)
   each-less c = let h = (one c).less in let k = same-nodes c (conn n c) in omega (arith, h, k)
 
-  pub all-less : units_of all n ≤ units_of all m
+  pub all-less : machine_units all n ≤ machine_units all m
   all-less = sum-less all m n MAX (λ c some in_. each-less c)
 
   -- where no unit of the whole goes, none of any connection does
-  pub each-still : units_of all m ≤ units_of all n → (q : ℕ) → 1 ≤ q → q ≤ MAX → units (all q) nodes (conn m q) ≤ units (all q) nodes (conn n q)
+  pub each-still : machine_units all m ≤ machine_units all n → (q : ℕ) → 1 ≤ q → q ≤ MAX → units (all q) nodes (conn m q) ≤ units (all q) nodes (conn n q)
   each-still up q some in_ =
       let h = sum-still all m n MAX (λ c some in_. each-less c) up q some in_ in
       let k = same-nodes q (conn n q) in
       omega (arith, h, k)
 
-  pub all-steady : units_of all m ≤ units_of all n → (q : ℕ) → 1 ≤ q → q ≤ MAX → spot_at files (conn n q) ≡ spot_at files (conn m q)
+  pub all-steady : machine_units all m ≤ machine_units all n → (q : ℕ) → 1 ≤ q → q ≤ MAX → spot_at files (conn n q) ≡ spot_at files (conn m q)
   all-steady up q some in_ = (one q).steady (each-still up q some in_)
 
   -- and where none goes of a connection, its own is

@@ -11,7 +11,7 @@ use Rattle.lard_base.specs.declared.event.Event.TheVariants as event
 use Rattle.lard_base.specs.declared.place.Place.{Place}
 use Rattle.lard_rules.specs.declared.machine.Machine.{Machine}
 use Rattle.lard_rules.specs.Bounds.{HasRule}
-use Rattle.lard_rules.specs.Machine.{clocked, machine_step, passed, segments_sent, told, told_rows}
+use Rattle.lard_rules.specs.Machine.{clocked, machine_step, passed, segments_sent, machine_told, told_rows}
 use Rattle.lard_law_view.specs.View.{IsViewed}
 use Rattle.lard_law_view.proofs.AnyShape.{AnyShape, step-any}
 use Rattle.lard_law_view.proofs.Shapes.{IsPut}
@@ -76,8 +76,8 @@ module _ (k : ℕ) where
 -- ---- shape by shape
 
 module _ (m : Machine) where
-  told-new : (w : Machine) (e : Event) (place : Place) (o : Out) → IsPut m w → ((k : ℕ) → SaysLittle k (length m.net) o) → AreNew m (told w e (behind e) place o)
-  unfolding told
+  told-new : (w : Machine) (e : Event) (place : Place) (o : Out) → IsPut m w → ((k : ℕ) → SaysLittle k (length m.net) o) → AreNew m (machine_told w e (behind e) place o)
+  unfolding machine_told
   told-new w e place o put little k late within =
       let first : ℕ = length m.net in
       let same : length w.net ≡ first = ap (λ ps. length ps) put.net in

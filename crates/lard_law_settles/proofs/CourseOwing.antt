@@ -11,7 +11,7 @@ use Rattle.lard_bound.specs.Units.{Whole, units}
 use Rattle.lard_rules.specs.declared.machine.Machine.{Machine}
 use Rattle.lard_rules.specs.Bounds.{HasRule}
 use Rattle.lard_rules.specs.Machine.{machine_step}
-use Rattle.lard_law_view.specs.Carry.{MayMove}
+use Rattle.lard_law_view.specs.Carry.{MayRestOn}
 use Rattle.lard_law_view.specs.View.{Conn, IsViewed, Move, Part, Rules, Setting, conn, event_seen, grown, letters_of, setting_of, station_armed}
 use Rattle.lard_law_view.proofs.Saying.{NamesAll}
 use Rattle.lard_law_view.proofs.Steps.{IsShown}
@@ -45,7 +45,7 @@ pub record Leads (k : Setting) (w : Whole) (x : Conn) (v : Move) : Type 0 where
 
 -- given what holds of the connection before the step and behind it, and of the move: what comes with it, and that it was not ignored
 abbrev pub Owed : (Conn → Type 0) → (Conn → Move → Type 0) → (ℕ → Whole) → Setting → Conn → Move → Type 0
-Owed Given Came all k x v = MayMove Given x → Given (grown x v) → Came x v → Leads k (all x.c) x v
+Owed Given Came all k x v = MayRestOn Given x → Given (grown x v) → Came x v → Leads k (all x.c) x v
 
 -- A step of a settle, from m to n.
 pub record IsStep (Given : Conn → Type 0) (Came : Conn → Move → Type 0) (all : ℕ → Whole) (m n : Machine) (e : Event) : Type 0 where

@@ -18,16 +18,16 @@ use Rattle.lard_rules.specs.declared.stay.Progress.{Progress}
 use Rattle.lard_rules.specs.declared.stay.Progress.TheVariants as progress
 use Rattle.lard_rules.specs.declared.stay.Stay.{Stay}
 use Rattle.lard_rules.specs.Node as node
-use Rattle.lard_rules.specs.Node.{NodePart, come_by, heard_by, here, node_content, node_forwarded, node_read, read_by, with_work, work_of}
+use Rattle.lard_rules.specs.Node.{NodePart, come_by, node_heard_by, here, node_content, node_forwarded, node_read, node_read_by, with_work, work_of}
 use Rattle.lard_rules.specs.NodePlace as place
-use Rattle.lard_rules.specs.NodePlace.{NodeSetting, brought, completed, content_sent, disk_step, node_deed, node_env, node_part, node_step}
-use Rattle.lard_rules.specs.Stay.{NodeEnv, Work, asks_for, came_for, come_on, come_progress, enters, goes_on, left, named_paths, next_in, read_entry, entered, read_progress, reads_these, serves_by, serves_first, turn, turned}
+use Rattle.lard_rules.specs.NodePlace.{NodeSetting, node_brought, completed, content_sent, disk_step, node_deed, node_env, node_part, node_step}
+use Rattle.lard_rules.specs.Stay.{NodeEnv, Work, asks_for, came_for, come_on, come_progress, enters, goes_on, work_left, named_paths, next_in, read_entry, entered, read_progress, reads_these, serves_by, serves_first, stay_turn, turned}
 use Rattle.lard_reader.specs.Batches.{batch_of, bytes_used}
 use Rattle.lard_request.specs.declared.verdict.Verdict.{Verdict}
 use Rattle.lard_resend.specs.Kept.{is_under, without}
 use Rattle.lard_rules.specs.declared.places.Out.{Out}
 use Rattle.lard_rules.specs.Loop.{Step, More, Done}
-use Rattle.lard_rules.specs.Serving.{consumed, may_read}
+use Rattle.lard_rules.specs.Serving.{serving_consumed, may_read}
 use Rattle.lard_rules.proofs.Runs.{runs_keep}
 use Rattle.lard_segment.specs.declared.fault.SegFault.{SegFault}
 use Rattle.lard_segment.specs.Segment.{Said}
@@ -54,7 +54,7 @@ module _ (env : NodeEnv) (J : List Job) where
   these-same : (used : ℕ) (w : Work) (vs : List Verdict) → Same w → StepSame (reads_these env false used w vs)
   these-same used w [] h = h
   these-same used w (v ∷ vs) h =
-      let rest : Work = record w { service = consumed used w.service } in
+      let rest : Work = record w { service = serving_consumed used w.service } in
       let all : Work = enters env false (w.service.count + 1) (v ∷ vs) rest in
       asks-same (length (v ∷ vs)) (named_paths env.serve.files all.batch) all (enter-same (w.service.count + 1) (v ∷ vs) rest h)
 
@@ -73,14 +73,14 @@ module _ (env : NodeEnv) (J : List Job) where
   turned-same w next.Read h = these-same (bytes_used 8 w.service.block.recv.unread) w (batch_of 8 w.service.block.recv.unread) h
   turned-same w next.Stop h = h
 
-  turn-same : (w : Work) → Same w → StepSame (turn env w)
+  turn-same : (w : Work) → Same w → StepSame (stay_turn env w)
   turn-same w h = go (may_read w.service) where
     go : (b : Bool) → StepSame (turned env w (cond b (next_in w.batch) next.Stop))
     go true = turned-same w (next_in w.batch) h
     go false = h
 
   pub goes-same : (w : Work) → Same w → Same (goes_on env w)
-  goes-same w h = runs_keep (turn env) left Same (record {
+  goes-same w h = runs_keep (stay_turn env) work_left Same (record {
     more = λ y z e p. subst StepSame e (turn-same y p);
     done = λ y z e p. subst StepSame e (turn-same y p);
   }) w h
@@ -94,25 +94,25 @@ came-same f r w = go (nat_lt w.service.count r) where
 
 -- ---- a job is done
 
-abbrev pub QueuesNone : node.Deed → Type 0
+abbrev pub QueuesNone : node.NodeDeed → Type 0
 QueuesNone node.Drops = Unit {0}
 QueuesNone (node.Says messages) = Unit {0}
 QueuesNone (node.Does given) = given.1.jobs ≡ []
 
-read-none : (env : NodeEnv) (r : ℕ) (p : NodePart) (o : Option (ControlBlock × Stay)) → QueuesNone (read_by env r p o)
+read-none : (env : NodeEnv) (r : ℕ) (p : NodePart) (o : Option (ControlBlock × Stay)) → QueuesNone (node_read_by env r p o)
 read-none env r p None = tt
 read-none env r p (Some x) = goes-same env [] (came_for read_progress r (node.work_of x.0 x.1)) (came-same read_progress r (node.work_of x.0 x.1))
 
 module _ (k : NodeSetting) where
-  deed-disk : (s : NodeState) (c : ℕ) (d : node.Deed) → QueuesNone d → (node_deed k s c d).0.disk ≡ s.disk
+  deed-disk : (s : NodeState) (c : ℕ) (d : node.NodeDeed) → QueuesNone d → (node_deed k s c d).0.disk ≡ s.disk
   deed-disk s c node.Drops h = refl
   deed-disk s c (node.Says messages) h = append-nil s.disk
   deed-disk s c (node.Does given) h = ap (λ (js : List Job). s.disk ++ js) h ∙ append-nil s.disk
 
-  brought-disk : (s : NodeState) (job : Job) → (brought k s job).0.disk ≡ s.disk
+  brought-disk : (s : NodeState) (job : Job) → (node_brought k s job).0.disk ≡ s.disk
   brought-disk s job =
       let mine = node_deed k s job.c (node_read (node_env k s job.c job.epoch.0) (node_part s job.c) job.r) in
-      let others = place.aside s (node.saying (content_sent k job.origin job.c job.epoch.0 job.r job.path ∷ [])) in
+      let others = place.aside s (node.node_saying (content_sent k job.origin job.c job.epoch.0 job.r job.path ∷ [])) in
       cond_both (job.origin == k.n) mine others (λ (x : NodeState × Out). x.0.disk ≡ s.disk)
       (λ t. deed-disk s job.c (node_read (node_env k s job.c job.epoch.0) (node_part s job.c) job.r)
       (read-none (node_env k s job.c job.epoch.0) job.r (node_part s job.c) (here job.epoch.0 (node_part s job.c))))
@@ -129,7 +129,7 @@ module _ (k : NodeSetting) where
 pub forwarded-none : (env : NodeEnv) (p : NodePart) (r : Result Said SegFault) → QueuesNone (node_forwarded env p r)
 forwarded-none env p (Err fault) = tt
 forwarded-none env p (Ok s) = go (here env.epoch p) where
-  go : (o : Option (ControlBlock × Stay)) → QueuesNone (heard_by env p (Ok s) o)
+  go : (o : Option (ControlBlock × Stay)) → QueuesNone (node_heard_by env p (Ok s) o)
   go None = tt
   go (Some x) = goes-same env [] (work_of (on_segment x.0 s).1 x.1) refl
 

@@ -9,12 +9,12 @@ use Rattle.lard_base.specs.declared.parts.EndpointParts.{EndpointParts}
 use Rattle.lard_base.specs.declared.place.Place.TheVariants.{Front, Node}
 use Rattle.lard_base.specs.declared.place.TimerKind.TheVariants as kind
 use Rattle.lard_bound.specs.Nears.{IsWanted, Near, NearAside, NearAsk, NearEnding, NearOffer, NearSaid, NearTold, OfMessage}
-use Rattle.lard_bound.specs.Seats.{Gone, Offered, Over, Seat, seat_decided, seat_of, seat_there, stay_of, staying_of, tells_end}
+use Rattle.lard_bound.specs.Seats.{Gone, Offered, Over, SeatNow, seat_decided, seat_of, seat_there, stay_of, staying_of, tells_end}
 use Rattle.lard_bound.specs.Spots.{AtNode, Spot, awaits_of, ends_of, post_of, spot_of}
 use Rattle.lard_law_view.specs.View.{Conn, Part}
 use Rattle.lard_endpoint.specs.Control.{ControlBlock}
 use Rattle.lard_endpoint.specs.declared.control.moving.Final.{Final}
-use Rattle.lard_rules.specs.Front.{rest_of}
+use Rattle.lard_rules.specs.Front.{front_rest}
 use Rattle.lard_handoff_back.specs.declared.row.BackConn.{BackConn}
 use Rattle.lard_handoff_back.specs.declared.row.BackConn.TheVariants as back
 use Rattle.lard_handoff_back.specs.declared.row.BackRow.{BackRow}
@@ -87,7 +87,7 @@ BackKept files c p None = (p.kept ≡ []) × (p.fetches ≡ [])
 BackKept files c p (Some row) = StageKept files c row.epoch.0 p row.stage
 
 -- Where nothing is decided of the end that a node tells, the stay is over; else the front end has its last numbers.
-pub data IsTold (z : Seat) (n e : ℕ) : Type 0 where
+pub data IsTold (z : SeatNow) (n e : ℕ) : Type 0 where
   Left : (told : Bool) → z ≡ Gone told n e → IsTold z n e
   Known : (last : Final) → z ≡ Over last → IsTold z n e
 
@@ -139,14 +139,14 @@ module _ (files : FilesAt) (p : Part) (st : Station) (c : ℕ) where
 
     decided-near : (count : ℕ) (q : NodePart) (o : Option BackRow) → NearOffer 3 n e (post_of files st.client (seat_decided false n e count q o))
     decided-near count q None = (refl, refl, omega arith)
-    decided-near count q (Some row) = cond_both (row.epoch.0 == e) (seat_there false n e count q row.stage) (Offered n e count) (λ (z : Seat). NearOffer 3 n e (post_of files st.client z))
+    decided-near count q (Some row) = cond_both (row.epoch.0 == e) (seat_there false n e count q row.stage) (Offered n e count) (λ (z : SeatNow). NearOffer 3 n e (post_of files st.client z))
         (λ same. there-near count q row.stage) (λ other. (refl, refl, omega arith))
 
     pub offer-near : (row : FrontRow) → p.front.row ≡ Some row → row.stage ≡ stage.Offering n (record { 0 = e }) → (parts : EndpointParts) → IsMessage (of_conn c e (body.Offer parts))
         → Near files t c 3 (record { from = Front; to = Node n; bytes = message c e (body.Offer parts) })
     offer-near row is at parts may =
         let seat = seat-with p n e false row is at in
-        let near : NearOffer 3 n e t.post = subst (NearOffer 3 n e) (sym (post-is ∙ ap (post_of files st.client) seat)) (decided-near (rest_of p.front.rest).count (p.nodes n) (p.nodes n).row) in
+        let near : NearOffer 3 n e t.post = subst (NearOffer 3 n e) (sym (post-is ∙ ap (post_of files st.client) seat)) (decided-near (front_rest p.front.rest).count (p.nodes n) (p.nodes n).row) in
         subst (OfMessage (λ (m : Message). NearTold t c 3 n m.epoch.0 m.body)) (sym (again (of_conn c e (body.Offer parts)) may)) near
 
     -- ---- of a stay
@@ -156,7 +156,7 @@ module _ (files : FilesAt) (p : Part) (st : Station) (c : ℕ) where
       q = p.nodes n
 
       post-here : t.post ≡ AtNode home.told n e (ends_of st.client b) (awaits_of files (staying_of q))
-      post-here = post-is ∙ ap (post_of files st.client) (seat-with p n e home.told home.row home.front home.with_ ∙ away-here home.told n e (rest_of p.front.rest).count q b there)
+      post-here = post-is ∙ ap (post_of files st.client) (seat-with p n e home.told home.row home.front home.with_ ∙ away-here home.told n e (front_rest p.front.rest).count q b there)
 
       pub ask-near : (a : IsAsk files c e s q.kept)
           → Near files t c 3 (record { from = Node n; to = Front; bytes = message c e (body.Ask s.asks a.queue a.size (named_paths files s.batch)) })

@@ -3,8 +3,8 @@ use Rattle.std.proofs.Common.{◌≡◌, ◌<◌, ◌≤◌, ◌==◌, ◌&&◌,
 use Rattle.std.proofs.lemmas.Bool.{both_ways, eqb-false}
 use Rattle.lard_arrival.specs.Arrival.{seg_len}
 use Rattle.lard_base.specs.declared.place.Place.TheVariants as place
-use Rattle.lard_bound.specs.Nears.{IsUntold, first_of}
-use Rattle.lard_bound.specs.Spots.{Ends, Spot}
+use Rattle.lard_bound.specs.Nears.{IsUntold, first_symbol}
+use Rattle.lard_bound.specs.Spots.{EndpointSymbols, Spot}
 use Rattle.lard_endpoint.specs.Control.{ControlBlock, rcv_nxt, rcv_wnd}
 use Rattle.lard_endpoint.specs.Leaving.{after_piece, after_timer, filled, own_mss, piece_ready, ready_of, retried, timed, told}
 use Rattle.lard_rules.specs.Serving as serving
@@ -159,9 +159,9 @@ module _ (env : ServeEnv) (b : ControlBlock) (bytes : List ℕ) (open_ : b.reset
   filled-is = ap (λ (t : Sending). filled (told (record b { send = t })) (piece_ready (record b { send = t }) piece)) (resend-moves b.send)
 
   -- its timer sends this first
-  pub timer-says : serving.ready_of env (after_timer b) (timed b) ≡ (place.Client env.c, spelled env.c ToClient said) ∷ []
+  pub timer-says : serving.serving_ready_of env (after_timer b) (timed b) ≡ (place.Client env.c, spelled env.c ToClient said) ∷ []
   timer-says =
-      ap (serving.ready_of env (after_timer b)) timed-is
+      ap (serving.serving_ready_of env (after_timer b)) timed-is
       ∙ ap (λ (d : ControlBlock). to_client env.c d (piece_ready (retried b) piece) ∷ []) after-is
       ∙ ap (λ (s : Said). (place.Client env.c, spelled env.c ToClient s) ∷ []) filled-is
 
@@ -170,14 +170,14 @@ module _ (env : ServeEnv) (b : ControlBlock) (bytes : List ℕ) (open_ : b.reset
       let fair = timed-fair b bytes h (piece_ready (retried b) piece) timed-is in
       subst IsSendable (ap (λ (d : ControlBlock). filled d (piece_ready (retried b) piece)) after-is ∙ filled-is) fair.1
 
-  pub timer-untold : (t : Spot) (e : Ends) → t.iss ≡ b.send.iss → e.una ≡ b.send.una → b.send.una < 2 ^ 32 → IsUntold t e said
+  pub timer-untold : (t : Spot) (e : EndpointSymbols) → t.iss ≡ b.send.iss → e.una ≡ b.send.una → b.send.una < 2 ^ 32 → IsUntold t e said
   timer-untold t e iss una low =
       let first : seq_offset said.seq b.send.iss ≡ b.send.una = first-is b.send.iss b.send.una piece.at piece.syn h.number low resent.syn resent.at in
       let size : length (piece_bytes b.send piece) ≡ piece.len = piece_size b.send bytes piece h (resent-carries b.send piece h.sound resent.is) in
       let some = resent.some in
       let syn = bit piece.syn in
       let fin = bit piece.fin in
-      let from : first_of t.iss said ≡ e.una = ap (seq_offset said.seq) iss ∙ first ∙ sym una in
+      let from : first_symbol t.iss said ≡ e.una = ap (seq_offset said.seq) iss ∙ first ∙ sym una in
       record {
         acks = refl;
         no_rst = refl;

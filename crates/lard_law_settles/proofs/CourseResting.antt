@@ -6,14 +6,14 @@ use Rattle.lard_agenda.specs.Laws.{is_on_way}
 use Rattle.lard_base.specs.declared.event.Event.{Event}
 use Rattle.lard_base.specs.declared.event.Event.TheVariants as event
 use Rattle.lard_bound.specs.Progress.{IsFetch, NearAt}
-use Rattle.lard_bound.specs.Units.{Whole, units_of}
+use Rattle.lard_bound.specs.Units.{Whole, machine_units}
 use Rattle.lard_rules.specs.declared.machine.Machine.{Machine}
 use Rattle.lard_rules.specs.Bounds.{HasRule}
 use Rattle.lard_rules.specs.Machine.{machine_step, node_at}
 use Rattle.lard_law_view.specs.View.{Conn, IsViewed, Move, Rules, conn, grown, setting_of}
 use Rattle.lard_law_view.proofs.After.{IsAfter, step-after}
 use Rattle.lard_law_settles.specs.Course.{chain_in}
-use Rattle.lard_law_settles.specs.CourseGame.{Completes, FiresAt, Begins, Task, Waits, game}
+use Rattle.lard_law_settles.specs.CourseGame.{CompletesFirst, FiresAt, Begins, Task, TaskWaits, game}
 use Rattle.lard_law_settles.proofs.CourseBeginning.{Timers, begins-near}
 use Rattle.lard_law_settles.proofs.CourseChains.{chains-are-short, near-never}
 use Rattle.lard_law_settles.proofs.CourseCompleting.{job-leads, job-shorter}
@@ -124,11 +124,11 @@ module _ (Given : Conn → Type 0) (Came : Conn → Move → Type 0) (all : ℕ 
         others = (ways m n e good on is).others;
         jobs = λ t waits. ⊎_elim
             (λ (d : (z : NodeState) × (e ≡ event.Disk t.0 1) × (node_at m.nodes t.0 ≡ Some z) × (job_at z.disk 1 ≡ Some t.1)). absurd (let bad : e ≡ event.Disk t.0 1 = d.1 in cc))
-            (λ (h : Waits n t). h)
+            (λ (h : TaskWaits n t). h)
             (left.kept t waits);
         queues = λ t waits. ⊎_elim
-            (λ (h : Waits m t). inl h)
-            (λ (h : (i : ℕ) × (e ≡ event.Deliver i) × (units_of all m ≤ units_of all n → 1 ≤ chain_in m i)). inr (λ up.
+            (λ (h : TaskWaits m t). inl h)
+            (λ (h : (i : ℕ) × (e ≡ event.Deliver i) × (machine_units all m ≤ machine_units all n → 1 ≤ chain_in m i)). inr (λ up.
             let same : k ≡ h.0 = deliver-same k h.0 h.1 in subst (λ i. 1 ≤ chain_in m i) (sym same) (h.2 up)))
             (left.queued t waits);
         shorter = packet-shorter Given Came Good all m n k s plain p.0 p.1 of.0 of.1 of.2;
@@ -146,7 +146,7 @@ module _ (Given : Conn → Type 0) (Came : Conn → Move → Type 0) (all : ℕ 
 
   -- ---- a job
 
-  job : (m n : Machine) (t : Task) → Good m → Waits m t → Completes m t n → rounds.Completes (game all Good) 3 m t n
+  job : (m n : Machine) (t : Task) → Good m → TaskWaits m t → CompletesFirst m t n → rounds.Completes (game all Good) 3 m t n
   job m n t good waits (z, there, at, is) =
       let e : Event = event.Disk t.0 1 in
       let s = step m n e good refl is in
@@ -157,11 +157,11 @@ module _ (Given : Conn → Type 0) (Came : Conn → Move → Type 0) (all : ℕ 
         others = λ i on. ⊎_elim (λ (no_ : ⊥). absurd no_) (λ (h : is_on_way n.journal i ≡ true). h) ((ways m n e good refl is).others i on);
         jobs = λ u waits_. ⊎_elim
             (λ (d : (y : NodeState) × (e ≡ event.Disk u.0 1) × (node_at m.nodes u.0 ≡ Some y) × (job_at y.disk 1 ≡ Some u.1)). inl (same-task t u z d.0 there at (disk-same t.0 u.0 d.1) d.2 d.3))
-            (λ (h : Waits n u). inr h)
+            (λ (h : TaskWaits n u). inr h)
             (left.kept u waits_);
         queues = λ u waits_. ⊎_elim
-            (λ (h : Waits m u). h)
-            (λ (h : (i : ℕ) × (e ≡ event.Deliver i) × (units_of all m ≤ units_of all n → 1 ≤ chain_in m i)). absurd (let bad : e ≡ event.Deliver h.0 = h.1 in cc))
+            (λ (h : TaskWaits m u). h)
+            (λ (h : (i : ℕ) × (e ≡ event.Deliver i) × (machine_units all m ≤ machine_units all n → 1 ≤ chain_in m i)). absurd (let bad : e ≡ event.Deliver h.0 = h.1 in cc))
             (left.queued u waits_);
         shorter = λ up. inl (job-shorter Given Came Good all m n t.0 s plain up);
         leads = λ up d near.
@@ -199,12 +199,12 @@ module _ (Given : Conn → Type 0) (Came : Conn → Move → Type 0) (all : ℕ 
         goes = goes-on Given Came Good all m n e s plain (w.goes m n e good has is);
         others = λ i on. ⊎_elim (λ (no_ : ⊥). absurd no_) (λ (h : is_on_way n.journal i ≡ true). h) ((ways m n e good has is).others i on);
         queues = λ u waits_. ⊎_elim
-            (λ (h : Waits m u). h)
-            (λ (h : (i : ℕ) × (e ≡ event.Deliver i) × (units_of all m ≤ units_of all n → 1 ≤ chain_in m i)). absurd (let bad : e ≡ event.Deliver h.0 = h.1 in cc))
+            (λ (h : TaskWaits m u). h)
+            (λ (h : (i : ℕ) × (e ≡ event.Deliver i) × (machine_units all m ≤ machine_units all n → 1 ≤ chain_in m i)). absurd (let bad : e ≡ event.Deliver h.0 = h.1 in cc))
             (left.queued u waits_);
       }
 
-  begin : (m n : Machine) → Good m → IsIdle (game all Good) m → Begins m n → (units_of all n < units_of all m) ⊎ Nearer (game all Good) n 0 3
+  begin : (m n : Machine) → Good m → IsIdle (game all Good) m → Begins m n → (machine_units all n < machine_units all m) ⊎ Nearer (game all Good) n 0 3
   begin m n good idle (p, c, more, has, due_, is) =
       let e : Event = event.Timer p c in
       let plain = plain-of m n e good has is (ways m n e good has is).packets in

@@ -5,7 +5,7 @@ use Rattle.lard_base.specs.declared.ids.TheConstants.ConnId.{MAX}
 use Rattle.lard_bound.specs.Progress.{NearAt, NearOn, chain_at, chain_on, spot_at}
 use Rattle.lard_bound.specs.Spots.{Spot}
 use Rattle.lard_rules.specs.declared.machine.Machine.{Machine}
-use Rattle.lard_rules.specs.Bounds.{IsNumber}
+use Rattle.lard_rules.specs.Bounds.{IsConnNumber}
 use Rattle.lard_law_view.specs.View.{conn}
 use Rattle.lard_law_settles.specs.Course.{NearIn, chain_by, chain_in, chain_of}
 use Rattle.lard_files.specs.Files.{file_at}
@@ -34,14 +34,14 @@ module _ (m n : Machine) (files : n.files ≡ m.files) (spots : (q : ℕ) → 1 
         near = subst (λ f. NearAt (file_at f) (conn n x.c) d (letter_of x.packet)) (sym files) there;
       }
 
-  same-chain : (q : ℕ) → IsNumber q → (l : Letter) → chain_at (file_at n.files) (conn n q) l ≡ chain_at (file_at m.files) (conn m q) l
+  same-chain : (q : ℕ) → IsConnNumber q → (l : Letter) → chain_at (file_at n.files) (conn n q) l ≡ chain_at (file_at m.files) (conn m q) l
   same-chain q number l =
       ap (λ f. chain_at (file_at f) (conn n q) l) files
       ∙ ap (λ s. chain_on s (conn n q).c l) (spots q number.0 number.1)
       ∙ ap (λ c. chain_on (spot_at (file_at m.files) (conn m q)) c l) (number-is q)
 
   -- of a packet whose connection has a number, where it has one
-  pub chain-stays : (k : ℕ) (p : Packet) → packet_at m.net k ≡ Some p → ((q : ℕ) → conn_of p.from p.to p.bytes ≡ Some q → IsNumber q) → chain_in n k ≡ chain_in m k
+  pub chain-stays : (k : ℕ) (p : Packet) → packet_at m.net k ≡ Some p → ((q : ℕ) → conn_of p.from p.to p.bytes ≡ Some q → IsConnNumber q) → chain_in n k ≡ chain_in m k
   chain-stays k p at numbered = ap (chain_by n) (packets k p at) ∙ go (conn_of p.from p.to p.bytes) refl ∙ sym (ap (chain_by m) at) where
     go : (o : Option ℕ) → conn_of p.from p.to p.bytes ≡ o → chain_of n p o ≡ chain_of m p o
     go None e = refl

@@ -9,16 +9,16 @@ use Rattle.lard_base.specs.declared.place.Place.TheVariants.{Front, Node}
 use Rattle.lard_bound.specs.Chains.{aside_chain, chain_between, front_chain, of_message}
 use Rattle.lard_bound.specs.Progress.{chain_on, spot_with}
 use Rattle.lard_bound.specs.Spots.{Spot, spot_of}
-use Rattle.lard_bound.specs.Units.{Whole, units, units_of}
+use Rattle.lard_bound.specs.Units.{Whole, units, machine_units}
 use Rattle.lard_rules.specs.declared.machine.Machine.{Machine}
-use Rattle.lard_rules.specs.Bounds.{IsNumber}
-use Rattle.lard_rules.specs.Machine.{machine_step, node_at, node_gave, node_setting, told}
-use Rattle.lard_law_view.specs.View.{Conn, IsNodeEnv, Move, Spells, Was, conn, part_of, setting_of, with_node}
+use Rattle.lard_rules.specs.Bounds.{IsConnNumber}
+use Rattle.lard_rules.specs.Machine.{machine_step, node_at, node_gave, node_setting, machine_told}
+use Rattle.lard_law_view.specs.View.{Conn, IsNodeEnv, Move, SpellsMessage, Was, conn, part_of, setting_of, with_node}
 use Rattle.lard_law_view.proofs.Naming.{decoded-names}
 use Rattle.lard_law_view.proofs.Parts.{node-kept, node-others}
 use Rattle.lard_law_settles.specs.Course.{chain_in}
 use Rattle.lard_law_settles.proofs.CourseActing.{FiresTo, GoesTo, deliver-goes, disk-goes, timer-goes}
-use Rattle.lard_law_settles.specs.CourseGame.{Task, Waits}
+use Rattle.lard_law_settles.specs.CourseGame.{Task, TaskWaits}
 use Rattle.lard_law_settles.proofs.CourseCompleting.{completed-at}
 use Rattle.lard_law_settles.proofs.CourseDelivering.{chain-is}
 use Rattle.lard_law_settles.proofs.CourseFetching.{deed-part, delivered-to, gave-state}
@@ -42,7 +42,7 @@ use Rattle.lard_rules.specs.declared.node.NodeState.{NodeState}
 use Rattle.lard_rules.specs.declared.node.NodeTurn.{NodeTurn}
 use Rattle.lard_rules.specs.Node as node
 use Rattle.lard_rules.specs.Node.{NodePart, node_tagged, node_timer}
-use Rattle.lard_rules.specs.NodePlace.{NodeSetting, epoch_at, node_deed, node_env, node_gets, node_part, node_step}
+use Rattle.lard_rules.specs.NodePlace.{NodeSetting, node_epoch_at, node_deed, node_env, node_gets, node_part, node_step}
 use Rattle.lard_rules.specs.Stay.{NodeEnv}
 use Rattle.lard_rules.specs.declared.places.Out.{Out}
 use Rattle.lard_rules.specs.declared.places.Station.{Station}
@@ -51,8 +51,8 @@ use Rattle.lard_rules.specs.declared.places.Station.{Station}
 
 -- those that waited, but the first of the node that completes it; and new ones of a packet of which something comes, or where a unit goes
 pub record Stocks (all : ℕ → Whole) (m : Machine) (e : Event) (n : Machine) : Type 0 where
-  pub kept : (t : Task) → Waits m t → ((s : NodeState) × (e ≡ event.Disk t.0 1) × (node_at m.nodes t.0 ≡ Some s) × (job_at s.disk 1 ≡ Some t.1)) ⊎ Waits n t
-  pub queued : (t : Task) → Waits n t → Waits m t ⊎ ((k : ℕ) × (e ≡ event.Deliver k) × (units_of all m ≤ units_of all n → 1 ≤ chain_in m k))
+  pub kept : (t : Task) → TaskWaits m t → ((s : NodeState) × (e ≡ event.Disk t.0 1) × (node_at m.nodes t.0 ≡ Some s) × (job_at s.disk 1 ≡ Some t.1)) ⊎ TaskWaits n t
+  pub queued : (t : Task) → TaskWaits n t → TaskWaits m t ⊎ ((k : ℕ) × (e ≡ event.Deliver k) × (machine_units all m ≤ machine_units all n → 1 ≤ chain_in m k))
 
 -- ---- what waits
 
@@ -65,7 +65,7 @@ some-state : (a b : NodeState) → Some a ≡ Some b → a ≡ b
 some-state a b e = cc
 
 -- where all nodes stay
-waits-same : (m n : Machine) (t : Task) → n.nodes ≡ m.nodes → Waits m t → Waits n t
+waits-same : (m n : Machine) (t : Task) → n.nodes ≡ m.nodes → TaskWaits m t → TaskWaits n t
 waits-same m n t same (z, at, has) = (z, ap (λ (ns : List NodeState). node_at ns t.0) same ∙ at, has)
 
 module _ (m n : Machine) (e : Event) (own : List Rec) (i : ℕ) (s : NodeState) (given : NodeState × Out) (there : node_at m.nodes i ≡ Some s) (is : n ≡ node_gave m e own i given) where
@@ -73,38 +73,38 @@ module _ (m n : Machine) (e : Event) (own : List Rec) (i : ℕ) (s : NodeState) 
   state = ap (λ (x : Machine). node_at x.nodes i) is ∙ gave-state m i s there e own given
 
   other : (j : ℕ) → j ≢ i → node_at n.nodes j ≡ node_at m.nodes j
-  unfolding told
+  unfolding machine_told
   other j apart = ap (λ (x : Machine). node_at x.nodes j) is ∙ node-others m.nodes i j s given.0 there apart
 
   -- what waits at the node and what waits elsewhere
-  waits-on : (t : Task) → Waits m t → ((t.0 ≡ i) × Has t.1 s.disk) ⊎ Waits n t
-  waits-on t (z, at, has) = by_number (((t.0 ≡ i) × Has t.1 s.disk) ⊎ Waits n t) t.0 i
+  waits-on : (t : Task) → TaskWaits m t → ((t.0 ≡ i) × Has t.1 s.disk) ⊎ TaskWaits n t
+  waits-on t (z, at, has) = by_number (((t.0 ≡ i) × Has t.1 s.disk) ⊎ TaskWaits n t) t.0 i
       (λ same. inl (same, subst (λ (y : NodeState). Has t.1 y.disk) (some-state z s (sym at ∙ ap (node_at m.nodes) same ∙ there)) has))
       (λ apart. inr (z, other t.0 apart ∙ at, has))
 
-  waits-back : (t : Task) → Waits n t → ((t.0 ≡ i) × Has t.1 given.0.disk) ⊎ Waits m t
-  waits-back t (z, at, has) = by_number (((t.0 ≡ i) × Has t.1 given.0.disk) ⊎ Waits m t) t.0 i
+  waits-back : (t : Task) → TaskWaits n t → ((t.0 ≡ i) × Has t.1 given.0.disk) ⊎ TaskWaits m t
+  waits-back t (z, at, has) = by_number (((t.0 ≡ i) × Has t.1 given.0.disk) ⊎ TaskWaits m t) t.0 i
       (λ same. inl (same, subst (λ (y : NodeState). Has t.1 y.disk) (some-state z given.0 (sym at ∙ ap (node_at n.nodes) same ∙ state)) has))
       (λ apart. inr (z, sym (other t.0 apart) ∙ at, has))
 
-  waits-here : (t : Task) → t.0 ≡ i → Has t.1 given.0.disk → Waits n t
+  waits-here : (t : Task) → t.0 ≡ i → Has t.1 given.0.disk → TaskWaits n t
   waits-here t same has = (given.0, ap (node_at n.nodes) same ∙ state, has)
 
-  waited-here : (t : Task) → t.0 ≡ i → Has t.1 s.disk → Waits m t
+  waited-here : (t : Task) → t.0 ≡ i → Has t.1 s.disk → TaskWaits m t
   waited-here t same has = (s, ap (node_at m.nodes) same ∙ there, has)
 
   -- where jobs are added, if any
   module _ (js : List Job) (disk : given.0.disk ≡ s.disk ++ js) where
-    pub added-kept : (t : Task) → Waits m t → Waits n t
+    pub added-kept : (t : Task) → TaskWaits m t → TaskWaits n t
     added-kept t w = ⊎_elim
         (λ (h : (t.0 ≡ i) × Has t.1 s.disk). waits-here t h.0 (subst (Has t.1) (sym disk) (has-before t.1 s.disk js h.1)))
-        (λ (h : Waits n t). h)
+        (λ (h : TaskWaits n t). h)
         (waits-on t w)
 
-    pub added-new : (t : Task) → Waits n t → Waits m t ⊎ Has t.1 js
+    pub added-new : (t : Task) → TaskWaits n t → TaskWaits m t ⊎ Has t.1 js
     added-new t w = ⊎_elim
         (λ (h : (t.0 ≡ i) × Has t.1 given.0.disk). ⊎_elim (λ (g : Has t.1 s.disk). inl (waited-here t h.0 g)) (λ (g : Has t.1 js). inr g) (has-parts t.1 s.disk js (subst (Has t.1) disk h.1)))
-        (λ (h : Waits m t). inl h)
+        (λ (h : TaskWaits m t). inl h)
         (waits-back t w)
 
 -- ---- what is given
@@ -112,19 +112,19 @@ module _ (m n : Machine) (e : Event) (own : List Rec) (i : ℕ) (s : NodeState) 
 -- the client of a connection of which an Offer or a Fetch was sent opened
 pub record Opened (m : Machine) : Type 0 where
   pub offers : (q i : ℕ) (bytes : List ℕ) → Was (conn m q) Front (Node i) bytes → (st : Station) × ((conn m q).part.station ≡ Some st)
-  pub fetches : (q a i e r : ℕ) (path bytes : List ℕ) → Was (conn m q) (Node a) (Node i) bytes → Spells q e (body.Fetch r path) bytes → (st : Station) × ((conn m q).part.station ≡ Some st)
+  pub fetches : (q a i e r : ℕ) (path bytes : List ℕ) → Was (conn m q) (Node a) (Node i) bytes → SpellsMessage q e (body.Fetch r path) bytes → (st : Station) × ((conn m q).part.station ≡ Some st)
 
 -- with a Tag that counts a unit of its connection goes
 abbrev pub TagsFall : (ℕ → Whole) → Machine → Machine → Type 0
-TagsFall all m n = (q i e number : ℕ) (nodes : List ℕ) (env : NodeEnv) (given : NodePart × NodeTurn) → IsNumber q → IsNodeEnv (setting_of m) q i e env → node_tagged env ((part_of m q).nodes i) number nodes ≡ node.Does given
+TagsFall all m n = (q i e number : ℕ) (nodes : List ℕ) (env : NodeEnv) (given : NodePart × NodeTurn) → IsConnNumber q → IsNodeEnv (setting_of m) q i e env → node_tagged env ((part_of m q).nodes i) number nodes ≡ node.Does given
     → part_of n q ≡ with_node (part_of m q) i given.0 → units (all q) m.config.nodes (conn n q) < units (all q) m.config.nodes (conn m q)
 
 -- ---- of a packet
 
 module _ (Given : Conn → Type 0) (Came : Conn → Move → Type 0) (all : ℕ → Whole) (m n : Machine) (k : ℕ) (step : IsStep Given Came all m n (event.Deliver k)) (opened : Opened m) (tags : TagsFall all m n)
-    (p : Packet) (at : packet_at m.net k ≡ Some p) (q : ℕ) (of : conn_of p.from p.to p.bytes ≡ Some q) (number : IsNumber q) where
+    (p : Packet) (at : packet_at m.net k ≡ Some p) (q : ℕ) (of : conn_of p.from p.to p.bytes ≡ Some q) (number : IsConnNumber q) where
   abbrev Comes : Type 0
-  Comes = units_of all m ≤ units_of all n → 1 ≤ chain_in m k
+  Comes = machine_units all m ≤ machine_units all n → 1 ≤ chain_in m k
 
   some-is : (a b : ℕ) → Some a ≡ Some b → a ≡ b
   some-is a b e = cc
@@ -179,7 +179,7 @@ module _ (Given : Conn → Type 0) (Came : Conn → Move → Type 0) (all : ℕ 
         omega (arith, one)
     by-why job js (Asked a c e r path from reads) has up =
         let same = same-node a i (record { c = c; epoch = record { 0 = e }; body = body.Fetch r path }) from to reads in
-        let spells : Spells q e (body.Fetch r path) p.bytes = reads ∙ ap (λ (j : ℕ). Ok (record { c = j; epoch = record { 0 = e }; body = body.Fetch r path })) same in
+        let spells : SpellsMessage q e (body.Fetch r path) p.bytes = reads ∙ ap (λ (j : ℕ). Ok (record { c = j; epoch = record { 0 = e }; body = body.Fetch r path })) same in
         let st = opened.fetches q a i e r path p.bytes (was (Node a) (Node i) from to) spells in
         let one : chain_in m k ≡ 1 = chain-by st.0 st.1 (Node a) (Node i) from to 1 (sym (ap (of_message (λ (x : Message). aside_chain x.body)) reads)) in
         omega (arith, one)
@@ -193,7 +193,7 @@ module _ (Given : Conn → Type 0) (Came : Conn → Move → Type 0) (all : ℕ 
     node-stocks = record {
       kept = λ t w. inr (added-kept m n (event.Deliver k) (rec.Got k ∷ []) i s given there got leaves.jobs leaves.disk t w);
       queued = λ t w. ⊎_elim
-          (λ (h : Waits m t). inl h)
+          (λ (h : TaskWaits m t). inl h)
           (λ (h : Has t.1 leaves.jobs). inr (k, refl, by-why t.1 leaves.jobs leaves.why h))
           (added-new m n (event.Deliver k) (rec.Got k ∷ []) i s given there got leaves.jobs leaves.disk t w);
     }
@@ -212,12 +212,12 @@ timer-stocks all m n p c step = go (timer-goes m n p c step) where
   go (inl same) = record { kept = λ t w. inr (waits-same m n t same w); queued = λ t w. inl (waits-same n m t (sym same) w) }
   go (inr (i, s, there, is)) =
       let ks : NodeSetting = node_setting m i in
-      let d = node_timer (node_env ks s c (epoch_at s c)) (node_part s c) in
+      let d = node_timer (node_env ks s c (node_epoch_at s c)) (node_part s c) in
       let given : NodeState × Out = node_step ks s (back.Timer c) in
-      let disk : given.0.disk ≡ s.disk ++ [] = deed-adds ks s c d ∙ ap (λ (js : List Job). s.disk ++ js) (timer-queues (node_env ks s c (epoch_at s c)) (node_part s c)) in
+      let disk : given.0.disk ≡ s.disk ++ [] = deed-adds ks s c d ∙ ap (λ (js : List Job). s.disk ++ js) (timer-queues (node_env ks s c (node_epoch_at s c)) (node_part s c)) in
       record {
         kept = λ t w. inr (added-kept m n (event.Timer p c) [] i s given there is [] disk t w);
-        queued = λ t w. ⊎_elim (λ (h : Waits m t). inl h) (λ (h : Has t.1 []). absurd h) (added-new m n (event.Timer p c) [] i s given there is [] disk t w);
+        queued = λ t w. ⊎_elim (λ (h : TaskWaits m t). inl h) (λ (h : Has t.1 []). absurd h) (added-new m n (event.Timer p c) [] i s given there is [] disk t w);
       }
 
 pub job-stocks : (all : ℕ → Whole) (m n : Machine) (i : ℕ) → machine_step m (event.Disk i 1) ≡ Ok n → Stocks all m (event.Disk i 1) n
@@ -229,15 +229,15 @@ job-stocks all m n i step =
     record {
       kept = λ t w. ⊎_elim
           (λ (h : (t.0 ≡ i) × Has t.1 f.state.disk). first f.state f.job f.jobs f.were f.at t h.0 (λ g. waits-here m n (event.Disk i 1) [] i f.state given f.at is t h.0 (subst (Has t.1) (sym rest) g)) (subst (Has t.1) f.were h.1))
-          (λ (h : Waits n t). inr h)
+          (λ (h : TaskWaits n t). inr h)
           (waits-on m n (event.Disk i 1) [] i f.state given f.at is t w);
       queued = λ t w. ⊎_elim
           (λ (h : (t.0 ≡ i) × Has t.1 given.0.disk). inl (waited-here m n (event.Disk i 1) [] i f.state given f.at is t h.0 (subst (Has t.1) (sym f.were) (inr (subst (Has t.1) rest h.1)))))
-          (λ (h : Waits m t). inl h)
+          (λ (h : TaskWaits m t). inl h)
           (waits-back m n (event.Disk i 1) [] i f.state given f.at is t w);
     }
   where
-    first : (s : NodeState) (j : Job) (js : List Job) → s.disk ≡ j ∷ js → node_at m.nodes i ≡ Some s → (t : Task) → t.0 ≡ i → (Has t.1 js → Waits n t) → Has t.1 (j ∷ js)
-        → ((z : NodeState) × (event.Disk i 1 ≡ event.Disk t.0 1) × (node_at m.nodes t.0 ≡ Some z) × (job_at z.disk 1 ≡ Some t.1)) ⊎ Waits n t
+    first : (s : NodeState) (j : Job) (js : List Job) → s.disk ≡ j ∷ js → node_at m.nodes i ≡ Some s → (t : Task) → t.0 ≡ i → (Has t.1 js → TaskWaits n t) → Has t.1 (j ∷ js)
+        → ((z : NodeState) × (event.Disk i 1 ≡ event.Disk t.0 1) × (node_at m.nodes t.0 ≡ Some z) × (job_at z.disk 1 ≡ Some t.1)) ⊎ TaskWaits n t
     first s j js were there t same later (inl is) = inl (s, ap (λ (x : ℕ). event.Disk x 1) (sym same), ap (node_at m.nodes) same ∙ there, ap (λ (d : List Job). job_at d 1) were ∙ ap Some is)
     first s j js were there t same later (inr h) = inr (later h)

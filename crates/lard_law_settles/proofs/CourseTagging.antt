@@ -17,7 +17,7 @@ use Rattle.lard_files.specs.Files.{file_at}
 use Rattle.lard_rules.specs.declared.node.NodeTurn.{NodeTurn}
 use Rattle.lard_rules.specs.declared.stay.Stay.{Stay}
 use Rattle.lard_rules.specs.Node as node
-use Rattle.lard_rules.specs.Node.{NodePart, here, is_awaited, node_tagged, rests, tagged_by, with_work, work_of}
+use Rattle.lard_rules.specs.Node.{NodePart, here, is_tag_awaited, node_tagged, node_rests, tagged_by, with_work, work_of}
 use Rattle.lard_rules.specs.Stay.{NodeEnv, goes_on, named_paths, tagged}
 use Rattle.lard_law_progress.proofs.AnswersNodeDeeds.{is-here}
 use Rattle.lard_law_progress.proofs.AnswersNodeGiven.{NodeGiven}
@@ -33,7 +33,7 @@ module _ (Given : Conn → Type 0) (Came : Conn → Move → Type 0) (all : ℕ 
 
     -- it counted, and the spot is as it was: that cannot be
     counted : (b : ControlBlock) (s : Stay) → here env.epoch (p.nodes i) ≡ Some (b, s) → is_some (find (is_under kind.Ask 0) (p.nodes i).kept) ≡ true
-        → g ≡ rests env (record (p.nodes i) { kept = without kind.Ask 0 (p.nodes i).kept }) [] (goes_on env (tagged env nodes (work_of b s)))
+        → g ≡ node_rests env (record (p.nodes i) { kept = without kind.Ask 0 (p.nodes i).kept }) [] (goes_on env (tagged env nodes (work_of b s)))
         → spot_at (file_at m.files) (conn n q) ≡ spot_at (file_at m.files) (conn m q) → ⊥
     unfolding conn
     counted b s is asked does spot =
@@ -42,12 +42,12 @@ module _ (Given : Conn → Type 0) (Came : Conn → Move → Type 0) (all : ℕ 
         let st = (given q).held i env.epoch b both.0 in
         let pp : NodePart = record (p.nodes i) { kept = without kind.Ask 0 (p.nodes i).kept } in
         let w = goes_on env (tagged env nodes (work_of b s)) in
-        let part : part_of n q ≡ with_node p i (rests env pp [] w).0 = put ∙ ap (λ (x : NodePart × NodeTurn). with_node p i x.0) does in
+        let part : part_of n q ≡ with_node p i (node_rests env pp [] w).0 = put ∙ ap (λ (x : NodePart × NodeTurn). with_node p i x.0) does in
         let S : Part → Option Station → Option Spot = λ x o. spot_with (file_at m.files) (record (conn n q) { part = x }) o in
-        let behind : spot_at (file_at m.files) (conn n q) ≡ Some (spot_of (file_at m.files) (with_node p i (rests env pp [] w).0) st.0) =
-        ap (λ (x : Part). S x x.station) part ∙ ap (S (with_node p i (rests env pp [] w).0)) st.1 in
+        let behind : spot_at (file_at m.files) (conn n q) ≡ Some (spot_of (file_at m.files) (with_node p i (node_rests env pp [] w).0) st.0) =
+        ap (λ (x : Part). S x x.station) part ∙ ap (S (with_node p i (node_rests env pp [] w).0)) st.1 in
         let before : spot_at (file_at m.files) (conn m q) ≡ Some (spot_of (file_at m.files) p st.0) = ap (spot_with (file_at m.files) (conn m q)) st.1 in
-        let same : spot_of (file_at m.files) (with_node p i (rests env pp [] w).0) st.0 ≡ spot_of (file_at m.files) p st.0 = some-spot _ _ (sym behind ∙ spot ∙ before) in
+        let same : spot_of (file_at m.files) (with_node p i (node_rests env pp [] w).0) st.0 ≡ spot_of (file_at m.files) p st.0 = some-spot _ _ (sym behind ∙ spot ∙ before) in
         tag-falls (file_at m.files) p st.0 at.0 i b env at.1 s nodes both.1 asked (still (file_at m.files) p st.0 at.0 i b env at.1 pp [] w same)
       where
         some-spot : (a b : Spot) → Some a ≡ Some b → a ≡ b
@@ -61,7 +61,7 @@ module _ (Given : Conn → Type 0) (Came : Conn → Move → Type 0) (all : ℕ 
 
     none-counts : node_tagged env (p.nodes i) number nodes ≡ node.Does g → spot_at (file_at m.files) (conn n q) ≡ spot_at (file_at m.files) (conn m q) → ⊥
     none-counts does spot = go (here env.epoch (p.nodes i)) refl does where
-      test : (b : ControlBlock) (s : Stay) → here env.epoch (p.nodes i) ≡ Some (b, s) → (t : Bool) → is_awaited env number nodes (p.nodes i) s ≡ t
+      test : (b : ControlBlock) (s : Stay) → here env.epoch (p.nodes i) ≡ Some (b, s) → (t : Bool) → is_tag_awaited env number nodes (p.nodes i) s ≡ t
           → cond t (with_work env (record (p.nodes i) { kept = without kind.Ask 0 (p.nodes i).kept }) [] (goes_on env (tagged env nodes (work_of b s)))) node.Drops ≡ node.Does g → ⊥
       test b s is true awaited h =
           let parts = and_parts (is_some (find (is_under kind.Ask 0) (p.nodes i).kept)) (s.asks == number && length nodes == length (named_paths env.serve.files s.batch)) awaited in
@@ -70,7 +70,7 @@ module _ (Given : Conn → Type 0) (Came : Conn → Move → Type 0) (all : ℕ 
 
       go : (o : Option (ControlBlock × Stay)) → here env.epoch (p.nodes i) ≡ o → tagged_by env number nodes (p.nodes i) o ≡ node.Does g → ⊥
       go None is h = drops-not h
-      go (Some x) is h = test x.0 x.1 is (is_awaited env number nodes (p.nodes i) x.1) refl h
+      go (Some x) is h = test x.0 x.1 is (is_tag_awaited env number nodes (p.nodes i) x.1) refl h
 
     tag-takes : node_tagged env (p.nodes i) number nodes ≡ node.Does g → units (all q) m.config.nodes (conn n q) < units (all q) m.config.nodes (conn m q)
     tag-takes does = ⊎_elim

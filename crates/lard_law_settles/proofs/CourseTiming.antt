@@ -18,12 +18,12 @@ use Rattle.lard_law_settles.proofs.CourseRenewing.{BackKept, IsAsk, IsEnded, IsF
 use Rattle.lard_endpoint.specs.Control.{ControlBlock}
 use Rattle.lard_endpoint.specs.Leaving.{after_timer, timed}
 use Rattle.lard_rules.specs.Front as front
-use Rattle.lard_rules.specs.Front.{FrontEnv, FrontPart, fired_by, fires_at, front_armed, front_timer, rest_of, row_armed, stage_armed}
+use Rattle.lard_rules.specs.Front.{FrontEnv, FrontPart, front_fired_by, fires_at, front_armed, front_timer, front_rest, row_armed, stage_armed}
 use Rattle.lard_handoff_back.specs.declared.row.BackConn.{BackConn}
 use Rattle.lard_handoff_back.specs.declared.row.BackConn.TheVariants as back
 use Rattle.lard_handoff_back.specs.declared.row.BackRow.{BackRow}
-use Rattle.lard_handoff_back.specs.Back.{endpoint_of}
-use Rattle.lard_handoff_back.specs.Row.{held_in}
+use Rattle.lard_handoff_back.specs.Back.{back_endpoint}
+use Rattle.lard_handoff_back.specs.Row.{back_held}
 use Rattle.lard_lateral.specs.Lateral.{fetch_kept}
 use Rattle.lard_message.specs.declared.message.Body.TheVariants as body
 use Rattle.lard_handoff_front.specs.declared.row.FrontConn.{FrontConn}
@@ -33,13 +33,13 @@ use Rattle.lard_history.specs.Own.{Has, Letter}
 use Rattle.lard_history.proofs.Seeing.{has-before, has-behind}
 use Rattle.lard_rules.specs.declared.stay.Stay.{Stay}
 use Rattle.lard_rules.specs.Node as node
-use Rattle.lard_rules.specs.Node.{NodePart, again_sent, both_of, fired, holds_kind, is_unsaid, message, node_armed, node_timer}
+use Rattle.lard_rules.specs.Node.{NodePart, again_sent, both_of, node_fired, holds_kind, is_unsaid, message, node_armed, node_timer}
 use Rattle.lard_rules.specs.Stay.{NodeEnv, named_paths}
 use Rattle.lard_resend.specs.declared.kept.Kept.{Kept}
-use Rattle.lard_resend.specs.Kept.{rank}
+use Rattle.lard_resend.specs.Kept.{kind_rank}
 use Rattle.lard_resend.specs.Pending.{sent_of}
 use Rattle.lard_rules.specs.declared.places.Station.{Station}
-use Rattle.lard_rules.specs.Serving.{ready_of, serving, spoken}
+use Rattle.lard_rules.specs.Serving.{serving_ready_of, serving, spoken}
 use Rattle.lard_send.specs.Send.{is_clear}
 
 -- ---- one of the letters of a move is near
@@ -73,14 +73,14 @@ module _ (k : Setting) (w : Whole) (x : Conn) (st : Station) (is : x.part.statio
   -- its timer is that of the endpoint, or something is kept
   front-armed : (p : FrontPart) (kd : TimerKind) → front_armed p kd ≡ true → (row_armed p.row ≡ true) ⊎ (p.kept ≡ [] → ⊥)
   front-armed p kind.Tcp on = inl on
-  front-armed p kind.Offer on = inr (λ none. both_ways false refl (sym (ap (list_any (λ k. rank k.kind == rank kind.Offer)) none) ∙ on))
+  front-armed p kind.Offer on = inr (λ none. both_ways false refl (sym (ap (list_any (λ k. kind_rank k.kind == kind_rank kind.Offer)) none) ∙ on))
   front-armed p _ on = absurd (both_ways false refl on)
 
   module _ (env : FrontEnv) (renews : Renews k.files x) where
     abbrev p : FrontPart
     p = x.part.front
 
-    abbrev pub FrontNear : front.Deed → Type 0
+    abbrev pub FrontNear : front.FrontDeed → Type 0
     FrontNear d = Lasts k w x (front_does x (event_seen (event.Timer Front x.c)) d) → SendsNear (front_does x (event_seen (event.Timer Front x.c)) d)
 
     -- where it has the endpoint, that sends what was not acknowledged
@@ -106,11 +106,11 @@ module _ (k : Setting) (w : Whole) (x : Conn) (st : Station) (is : x.part.statio
     by-stage held waits row at (stage.Offering n e) is_ (parts, kept, may) armed = λ lasts.
         let a : Letter = record { from = Front; to = Node n; bytes = message x.c e.0 (body.Offer parts) } in
         let near = offer-near k.files x.part st x.c n e.0 row at is_ parts may in
-        let v : Move = front_does x (event_seen (event.Timer Front x.c)) (front.Says (front.saying (map sent_of p.kept))) in
+        let v : Move = front_does x (event_seen (event.Timer Front x.c)) (front.Says (front.front_saying (map sent_of p.kept))) in
         let has : letters_of v ≡ a ∷ [] = ap (λ (ks : List Kept). map (letter Front) (map sent_of ks)) kept in
         near-by v lasts a (subst (Has a) (sym has) (inl refl)) near
 
-    by-row : HeldNear → WaitsClear → (o : Option FrontRow) → p.row ≡ o → RowKept x.c p.kept o → (row_armed o ≡ true) ⊎ (p.kept ≡ [] → ⊥) → FrontNear (fired_by env p o)
+    by-row : HeldNear → WaitsClear → (o : Option FrontRow) → p.row ≡ o → RowKept x.c p.kept o → (row_armed o ≡ true) ⊎ (p.kept ≡ [] → ⊥) → FrontNear (front_fired_by env p o)
     by-row held waits None at none (inl on) = absurd (both_ways false refl on)
     by-row held waits None at none (inr some) = absurd (some none)
     by-row held waits (Some row) at kept armed = by-stage held waits row at row.stage refl kept armed
@@ -121,7 +121,7 @@ module _ (k : Setting) (w : Whole) (x : Conn) (st : Station) (is : x.part.statio
   -- ---- a node
 
   -- the endpoint's timer, or something is kept, or a Fetch is
-  node-on : (q : NodePart) (kd : TimerKind) → node_armed q kd ≡ true → (is_unsaid (endpoint_of q.row) ≡ true) ⊎ ((q.kept ≡ [] → ⊥) ⊎ (q.fetches ≡ [] → ⊥))
+  node-on : (q : NodePart) (kd : TimerKind) → node_armed q kd ≡ true → (is_unsaid (back_endpoint q.row) ≡ true) ⊎ ((q.kept ≡ [] → ⊥) ⊎ (q.fetches ≡ [] → ⊥))
   node-on q kind.Tcp on = inl on
   node-on q kind.Offer on = absurd (both_ways false refl on)
   node-on q kind.Ask on = inr (inl (λ none. both_ways false refl (sym (ap (holds_kind kind.Ask) none) ∙ on)))
@@ -132,12 +132,12 @@ module _ (k : Setting) (w : Whole) (x : Conn) (st : Station) (is : x.part.statio
     abbrev q : NodePart
     q = x.part.nodes n
 
-    abbrev pub NodeNear : node.Deed → Type 0
+    abbrev pub NodeNear : node.NodeDeed → Type 0
     NodeNear d = Lasts k w x (node_does x n (event_seen (event.Timer (Node n) x.c)) d) → SendsNear (node_does x n (event_seen (event.Timer (Node n) x.c)) d)
 
     -- where it has the endpoint
-    abbrev pub HereDeed : ControlBlock → Stay → node.Deed
-    HereDeed b s = node.Does (fired env q (b, s) (spoken env.serve (serving (after_timer b) s.served []) (ready_of env.serve (after_timer b) (timed b))))
+    abbrev pub HereDeed : ControlBlock → Stay → node.NodeDeed
+    HereDeed b s = node.Does (node_fired env q (b, s) (spoken env.serve (serving (after_timer b) s.served []) (serving_ready_of env.serve (after_timer b) (timed b))))
 
     abbrev pub HereNear : Type 0
     HereNear = (e : ℕ) (b : ControlBlock) (s : Stay) → q.row ≡ Some (record { stage = back.Here b; epoch = record { 0 = e } }) → q.stay ≡ Some s → is_clear b.send ≡ false → NodeNear (HereDeed b s)
@@ -148,7 +148,7 @@ module _ (k : Setting) (w : Whole) (x : Conn) (st : Station) (is : x.part.statio
 
     said-here : (b : ControlBlock) (s : Stay) (j : Kept) → Has j (q.kept ++ q.fetches) → Has (letter (Node n) (sent_of j)) (letters_of (node_does x n (event_seen (event.Timer (Node n) x.c)) (HereDeed b s)))
     said-here b s j has =
-        let given = spoken env.serve (serving (after_timer b) s.served []) (ready_of env.serve (after_timer b) (timed b)) in
+        let given = spoken env.serve (serving (after_timer b) s.served []) (serving_ready_of env.serve (after_timer b) (timed b)) in
         let l : Letter = letter (Node n) (sent_of j) in
         let messages : List (Place × List ℕ) = again_sent q ++ [] ++ [] ++ node.ended_sent env None given.0 in
         let first : Has (sent_of j) messages =
@@ -196,17 +196,17 @@ module _ (k : Setting) (w : Whole) (x : Conn) (st : Station) (is : x.part.statio
         near-by (node_does x n (event_seen (event.Timer (Node n) x.c)) (node.Says (again_sent q))) lasts (letter (Node n) (sent_of j)) (said-none j has) near
 
     by-stay : HereNear → (e : ℕ) (b : ControlBlock) → q.row ≡ Some (record { stage = back.Here b; epoch = record { 0 = e } }) → (o : Option Stay) → q.stay ≡ o → StayKept k.files x.c e q o → Armed (Some b)
-        → NodeNear (node.fired_by env q (both_of (Some b) o))
+        → NodeNear (node.node_fired_by env q (both_of (Some b) o))
     by-stay here e b row None stay kept armed = absurd kept
     by-stay here e b row (Some s) stay kept armed = here-armed e b s row stay here kept.0 kept.1 armed
 
-    by-back : HereNear → (row : BackRow) → q.row ≡ Some row → (c : BackConn) → row.stage ≡ c → StageKept k.files x.c row.epoch.0 q c → Armed (held_in c) → NodeNear (node.fired_by env q (both_of (held_in c) q.stay))
+    by-back : HereNear → (row : BackRow) → q.row ≡ Some row → (c : BackConn) → row.stage ≡ c → StageKept k.files x.c row.epoch.0 q c → Armed (back_held c) → NodeNear (node.node_fired_by env q (both_of (back_held c) q.stay))
     by-back here row at (back.Here b) is_ kept armed = by-stay here row.epoch.0 b (at ∙ λ i. Some (record { stage = is_ i; epoch = record { 0 = row.epoch.0 } })) q.stay refl kept armed
     by-back here row at back.Out is_ kept armed = absurd kept
     by-back here row at back.Ended is_ kept armed = end-near row.epoch.0 (at ∙ λ i. Some (record { stage = is_ i; epoch = record { 0 = row.epoch.0 } })) kept.0
     by-back here row at back.Gone is_ kept armed = absurd (nothing-on armed kept)
 
-    by-node : HereNear → (o : Option BackRow) → q.row ≡ o → BackKept k.files x.c q o → Armed (endpoint_of o) → NodeNear (node.fired_by env q (both_of (endpoint_of o) q.stay))
+    by-node : HereNear → (o : Option BackRow) → q.row ≡ o → BackKept k.files x.c q o → Armed (back_endpoint o) → NodeNear (node.node_fired_by env q (both_of (back_endpoint o) q.stay))
     by-node here None at kept armed = absurd (nothing-on armed kept)
     by-node here (Some row) at kept armed = by-back here row at row.stage refl kept armed
 

@@ -10,13 +10,13 @@ use Rattle.lard_base.specs.declared.place.Reason.{Reason}
 use Rattle.lard_base.specs.declared.place.Reason.TheVariants as reason
 use Rattle.lard_base.specs.declared.place.TimerKind.{TimerKind}
 use Rattle.lard_base.specs.declared.place.TimerKind.TheVariants as kind
-use Rattle.lard_bound.specs.Nears.{Crosses, Near, NearEnd, NearEnded, NearHeld, NearWord, OfSegment, first_of}
+use Rattle.lard_bound.specs.Nears.{Crosses, Near, NearEnd, NearEnded, NearHeld, NearWord, OfSegment, first_symbol}
 use Rattle.lard_bound.specs.Progress.{Lasts}
-use Rattle.lard_bound.specs.Seats.{Held, Here, Over, Seat, Unborn, seat_by, seat_in, seat_of, staying_of}
+use Rattle.lard_bound.specs.Seats.{Held, Here, Over, SeatNow, Unborn, seat_by, seat_in, seat_of, staying_of}
 use Rattle.lard_bound.specs.Spots.{Post, Spot, ends_of, post_of, spot_of}
-use Rattle.lard_bound.specs.Units.{Whole, taken}
-use Rattle.lard_client.specs.Control.{ClientBlock, IsClientBlock, is_open, is_open_in, rcv_nxt, rcv_wnd}
-use Rattle.lard_client.specs.Leaving.{after_piece, after_timer, data_ready, filled, piece_ready, ready_of, syn_ready, timed, told}
+use Rattle.lard_bound.specs.Units.{Whole, symbols_taken}
+use Rattle.lard_client.specs.Control.{ClientBlock, IsClientBlock, is_client_open, is_open_in, client_rcv_nxt, client_rcv_wnd}
+use Rattle.lard_client.specs.Leaving.{client_after_piece, client_after_timer, data_ready, client_filled, client_piece_ready, client_ready_of, syn_ready, client_timed, client_told}
 use Rattle.lard_client.specs.declared.phase.Phase.{Phase}
 use Rattle.lard_client.specs.declared.phase.Phase.TheVariants as phase
 use Rattle.lard_law_view.specs.View.{Conn, Move, Setting, client_does, event_seen, letter, letters_of, station_armed}
@@ -26,7 +26,7 @@ use Rattle.lard_law_settles.proofs.CourseResending.{bit, IsResent, first-is, res
 use Rattle.lard_law_settles.proofs.CourseTiming.{not-off, SendsNear, near-by}
 use Rattle.lard_endpoint.specs.Control.{ControlBlock}
 use Rattle.lard_endpoint.specs.declared.control.moving.Final.{Final}
-use Rattle.lard_rules.specs.Front.{front_armed, rest_of}
+use Rattle.lard_rules.specs.Front.{front_armed, front_rest}
 use Rattle.lard_handoff_back.specs.declared.row.BackConn.{BackConn}
 use Rattle.lard_handoff_back.specs.declared.row.BackConn.TheVariants as back
 use Rattle.lard_handoff_back.specs.declared.row.BackRow.{BackRow}
@@ -38,7 +38,7 @@ use Rattle.lard_history.proofs.Seeing.{has-before}
 use Rattle.lard_rules.specs.Node.{NodePart, holds_kind, node_armed}
 use Rattle.lard_law_progress.proofs.Away.{away-here, seat-with}
 use Rattle.lard_resend.specs.declared.kept.Kept.{Kept}
-use Rattle.lard_resend.specs.Kept.{rank}
+use Rattle.lard_resend.specs.Kept.{kind_rank}
 use Rattle.lard_rules.specs.Client as rules
 use Rattle.lard_rules.specs.Client.{client_timer}
 use Rattle.lard_rules.specs.Tombstone.{is_plain_syn}
@@ -83,8 +83,8 @@ pub record IsTimed (x : Conn) (st : Station) : Type 0 where
   pub low : st.client.send.una < 2 ^ 32
   pub small : st.iss < 2 ^ 32
   pub unborn : x.part.front.row ≡ None → st.client.send.una ≡ 0
-  pub held : (row : FrontRow) (b : ControlBlock) → x.part.front.row ≡ Some row → row.stage ≡ stage.Held b → b.send.una ≤ taken st.client
-  pub here : (n e : ℕ) (b : ControlBlock) → (x.part.nodes n).row ≡ Some (record { stage = back.Here b; epoch = record { 0 = e } }) → b.send.una ≤ taken st.client
+  pub held : (row : FrontRow) (b : ControlBlock) → x.part.front.row ≡ Some row → row.stage ≡ stage.Held b → b.send.una ≤ symbols_taken st.client
+  pub here : (n e : ℕ) (b : ControlBlock) → (x.part.nodes n).row ≡ Some (record { stage = back.Here b; epoch = record { 0 = e } }) → b.send.una ≤ symbols_taken st.client
   pub decided : (row : FrontRow) (n e : ℕ) → x.part.front.row ≡ Some row → row.stage ≡ stage.Moved n (record { 0 = e }) → IsDecided (x.part.nodes n) e
   pub over : (row : FrontRow) (last : Final) → x.part.front.row ≡ Some row → row.stage ≡ stage.Closed last → st.client.phase ≡ phase.Open → IsLeft st last
 
@@ -99,7 +99,7 @@ on-off : (b : Bool) → not b ≡ false → b ≡ true
 on-off true e = refl
 on-off false e = absurd (both_ways true e refl)
 
-module _ (y : ClientBlock) (bytes : List ℕ) (sound : IsClientBlock y) (wide : y.wnd < 2 ^ 16) (h : Speaks y.send bytes) (low : y.send.una < 2 ^ 32) (open_ : is_open y ≡ true) (unclear : is_clear y.send ≡ false) where
+module _ (y : ClientBlock) (bytes : List ℕ) (sound : IsClientBlock y) (wide : y.wnd < 2 ^ 16) (h : Speaks y.send bytes) (low : y.send.una < 2 ^ 32) (open_ : is_client_open y ≡ true) (unclear : is_clear y.send ≡ false) where
   abbrev piece : Piece
   piece = (resent-first y.send h.sound unclear).0
 
@@ -112,15 +112,15 @@ module _ (y : ClientBlock) (bytes : List ℕ) (sound : IsClientBlock y) (wide : 
     seq = y.send.iss;
     ack = 0;
     flags = record { syn = true; ack = false; fin = false; rst = false; psh = false };
-    wnd = rcv_wnd y;
+    wnd = client_rcv_wnd y;
     mss = Some y.mss;
     payload = take 0 (drop (0 - acknowledged_bytes y.send) y.send.rest);
   }
   word false = record {
     seq = seq_add y.send.iss (1 + piece.at);
-    ack = rcv_nxt y;
+    ack = client_rcv_nxt y;
     flags = record { syn = false; ack = true; fin = piece.fin; rst = false; psh = piece.push };
-    wnd = rcv_wnd y;
+    wnd = client_rcv_wnd y;
     mss = None;
     payload = piece_bytes y.send piece;
   }
@@ -128,31 +128,31 @@ module _ (y : ClientBlock) (bytes : List ℕ) (sound : IsClientBlock y) (wide : 
   abbrev pub said : Said
   said = word piece.syn
 
-  timed-is : timed y ≡ Some (piece_ready y piece)
-  timed-is = ap (λ (t : Bool). cond {A = Option Ready} (not t) None (ready_of y (resent_piece y.send) None)) open_ ∙ ap (λ (o : Option Piece). ready_of y o None) resent.is
+  timed-is : client_timed y ≡ Some (client_piece_ready y piece)
+  timed-is = ap (λ (t : Bool). cond {A = Option Ready} (not t) None (client_ready_of y (resent_piece y.send) None)) open_ ∙ ap (λ (o : Option Piece). client_ready_of y o None) resent.is
 
-  after-is : after_timer y ≡ told (record y { send = after_resend y.send })
-  after-is = ap (λ (t : Bool). cond (not t) y (after_piece (record y { send = after_resend y.send }) (resent_piece y.send) y)) open_
-      ∙ ap (λ (o : Option Piece). after_piece (record y { send = after_resend y.send }) o y) resent.is
+  after-is : client_after_timer y ≡ client_told (record y { send = after_resend y.send })
+  after-is = ap (λ (t : Bool). cond (not t) y (client_after_piece (record y { send = after_resend y.send }) (resent_piece y.send) y)) open_
+      ∙ ap (λ (o : Option Piece). client_after_piece (record y { send = after_resend y.send }) o y) resent.is
 
-  word-is : (t : Bool) → filled (told (record y { send = record y.send { nxt = (after_resend y.send).nxt } })) (cond t (syn_ready y) (data_ready y piece)) ≡ word t
+  word-is : (t : Bool) → client_filled (client_told (record y { send = record y.send { nxt = (after_resend y.send).nxt } })) (cond t (syn_ready y) (data_ready y piece)) ≡ word t
   word-is true = refl
   word-is false = refl
 
-  filled-is : filled (after_timer y) (piece_ready y piece) ≡ said
+  filled-is : client_filled (client_after_timer y) (client_piece_ready y piece) ≡ said
   filled-is =
-      ap (λ (d : ClientBlock). filled d (piece_ready y piece)) after-is
-      ∙ ap (λ (s : Sending). filled (told (record y { send = s })) (piece_ready y piece)) (resend-moves y.send)
+      ap (λ (d : ClientBlock). client_filled d (client_piece_ready y piece)) after-is
+      ∙ ap (λ (s : Sending). client_filled (client_told (record y { send = s })) (client_piece_ready y piece)) (resend-moves y.send)
       ∙ word-is piece.syn
 
-  after-named : (after_timer y).c ≡ y.c
+  after-named : (client_after_timer y).c ≡ y.c
   after-named = ap (λ (d : ClientBlock). d.c) after-is
 
-  pub timer-says : rules.ready_of (after_timer y) (timed y) ≡ (Front, spelled y.c ToCluster said) ∷ []
-  timer-says = ap (rules.ready_of (after_timer y)) timed-is ∙ (λ i. (Front, spelled (after-named i) ToCluster (filled-is i)) ∷ [])
+  pub timer-says : rules.station_ready_of (client_after_timer y) (client_timed y) ≡ (Front, spelled y.c ToCluster said) ∷ []
+  timer-says = ap (rules.station_ready_of (client_after_timer y)) timed-is ∙ (λ i. (Front, spelled (after-named i) ToCluster (filled-is i)) ∷ [])
 
   pub timer-sendable : IsSendable said
-  timer-sendable = subst IsSendable filled-is (timed-fair y bytes sound wide h (piece_ready y piece) timed-is).1
+  timer-sendable = subst IsSendable filled-is (timed-fair y bytes sound wide h (client_piece_ready y piece) timed-is).1
 
   -- a SYN, or what crosses
   pub says-syn : y.send.una ≡ 0 → is_plain_syn said ≡ true
@@ -169,20 +169,20 @@ module _ (y : ClientBlock) (bytes : List ℕ) (sound : IsClientBlock y) (wide : 
       let some = resent.some in
       let none : one_if piece.syn ≡ 0 = ap one_if no_syn in
       let fin = bit piece.fin in
-      let from : first_of t.isn (word false) ≡ y.send.una = ap (seq_offset (seq_add y.send.iss (1 + piece.at))) isn ∙ first-is y.send.iss y.send.una piece.at false h.number low (sym e) (λ f. next) in
+      let from : first_symbol t.isn (word false) ≡ y.send.una = ap (seq_offset (seq_add y.send.iss (1 + piece.at))) isn ∙ first-is y.send.iss y.send.una piece.at false h.number low (sym e) (λ f. next) in
       let len : seg_len (word false) ≡ piece.len + 0 + one_if piece.fin = (λ i. size i + 0 + fin i) in
       subst (Crosses t) (sym (data-is e)) (record { acks = refl; no_syn = refl; no_rst = refl; from = omega (arith, from, una); to = omega (arith, from, len, some, none, una) })
 
   -- at the stream limit
-  pub says-limit : (t : Spot) → t.iss ≡ y.send.irs → y.send.irs < 2 ^ 32 → 1 + y.accepted + one_if y.eof < 2 ^ 32 → (y.send.una == 0) ≡ false → NearEnd t 3 (taken y) said reason.Limit
+  pub says-limit : (t : Spot) → t.iss ≡ y.send.irs → y.send.irs < 2 ^ 32 → 1 + y.accepted + one_if y.eof < 2 ^ 32 → (y.send.una == 0) ≡ false → NearEnd t 3 (symbols_taken y) said reason.Limit
   says-limit t iss small few e =
-      let ack : seq_offset (rcv_nxt y) t.iss ≡ 1 + y.accepted + one_if y.eof = ap (seq_offset (rcv_nxt y)) iss ∙ offset-add y.send.irs (1 + y.accepted + one_if y.eof) small few in
-      let all : taken y ≡ 1 + y.accepted + one_if y.eof = ap (λ b. cond b 0 (1 + y.accepted + cond y.eof 1 0)) e ∙ ap (λ n. 1 + y.accepted + n) (bit y.eof) in
-      subst (λ s. NearEnd t 3 (taken y) s reason.Limit) (sym (data-is e)) (refl, refl, ack ∙ sym all, omega arith)
+      let ack : seq_offset (client_rcv_nxt y) t.iss ≡ 1 + y.accepted + one_if y.eof = ap (seq_offset (client_rcv_nxt y)) iss ∙ offset-add y.send.irs (1 + y.accepted + one_if y.eof) small few in
+      let all : symbols_taken y ≡ 1 + y.accepted + one_if y.eof = ap (λ b. cond b 0 (1 + y.accepted + cond y.eof 1 0)) e ∙ ap (λ n. 1 + y.accepted + n) (bit y.eof) in
+      subst (λ s. NearEnd t 3 (symbols_taken y) s reason.Limit) (sym (data-is e)) (refl, refl, ack ∙ sym all, omega arith)
 
 -- ---- where it goes
 
-module _ (k : Setting) (w : Whole) (x : Conn) (st : Station) (is : x.part.station ≡ Some st) (renews : Renews k.files x) (f : IsTimed x st) (first : IsFirst x.part (Client x.c)) (open_ : is_open st.client ≡ true)
+module _ (k : Setting) (w : Whole) (x : Conn) (st : Station) (is : x.part.station ≡ Some st) (renews : Renews k.files x) (f : IsTimed x st) (first : IsFirst x.part (Client x.c)) (open_ : is_client_open st.client ≡ true)
     (unclear : is_clear st.client.send ≡ false) where
   abbrev y : ClientBlock
   y = st.client
@@ -222,24 +222,24 @@ module _ (k : Setting) (w : Whole) (x : Conn) (st : Station) (is : x.part.statio
   abbrev NearAtPost : Post → Type 0
   NearAtPost p = NearWord t 3 s p
 
-  by-seat : (z : Seat) → seat_of x.part ≡ z → NearAtPost (post_of k.files y z) → NearAtPost t.post
+  by-seat : (z : SeatNow) → seat_of x.part ≡ z → NearAtPost (post_of k.files y z) → NearAtPost t.post
   by-seat z at h = subst NearAtPost (sym (post-is ∙ ap (post_of k.files y) at)) h
 
   -- an endpoint that said all, and to which all was acknowledged: so the client knows it
-  knows : (b : ControlBlock) → is_clear b.send ≡ true → b.send.una ≤ taken y → (y.send.una == 0) ≡ false
+  knows : (b : ControlBlock) → is_clear b.send ≡ true → b.send.una ≤ symbols_taken y → (y.send.una == 0) ≡ false
   knows b clear heard = go (y.send.una == 0) refl where
     go : (t : Bool) → (y.send.una == 0) ≡ t → (y.send.una == 0) ≡ false
     go false e = e
     go true e =
-        let none : taken y ≡ 0 = ap (λ b. cond b 0 (1 + y.accepted + cond y.eof 1 0)) e in
+        let none : symbols_taken y ≡ 0 = ap (λ b. cond b 0 (1 + y.accepted + cond y.eof 1 0)) e in
         let all : b.send.una ≡ symbols b.send = eqb-true b.send.una (symbols b.send) clear in
         absurd (omega (arith, none, all, heard))
 
-  at-endpoint : (d : ℕ) → 2 ≤ d → (b : ControlBlock) → is_clear b.send ≡ true → b.send.una ≤ taken y → NearHeld t d (ends_of y b) s t.phase
+  at-endpoint : (d : ℕ) → 2 ≤ d → (b : ControlBlock) → is_clear b.send ≡ true → b.send.una ≤ symbols_taken y → NearHeld t d (ends_of y b) s t.phase
   at-endpoint d two b clear heard =
       subst (NearHeld t d (ends_of y b) s) (sym phase-is) (inr (crosses (knows b clear heard), eqb-true b.send.una (symbols b.send) clear, two))
 
-  at-end : (last : Final) → IsLeft st last → (why : Reason) → last.reason ≡ why → NearEnd t 3 (taken y) s why
+  at-end : (last : Final) → IsLeft st last → (why : Reason) → last.reason ≡ why → NearEnd t 3 (symbols_taken y) s why
   at-end last l reason.Closed why = (crosses l.established, omega arith)
   at-end last l reason.Peer why = absurd (l.no_peer why)
   at-end last l reason.Limit why =
@@ -257,7 +257,7 @@ module _ (k : Setting) (w : Whole) (x : Conn) (st : Station) (is : x.part.statio
   by-node row n e at moved d (back.Here b) is_ kept =
       let there : (x.part.nodes n).row ≡ Some (record { stage = back.Here b; epoch = record { 0 = e } }) = d.is ∙ λ i. Some (record { stage = is_ i; epoch = record { 0 = d.epoch i } }) in
       let unsaid : not (is_clear b.send) ≡ false = sym (ap (λ (o : Option BackRow). node_armed (record (x.part.nodes n) { row = o }) kind.Tcp) there) ∙ off-node n kind.Tcp in
-      by-seat (Here true n e b (staying_of (x.part.nodes n))) (seat-with x.part n e true row at moved ∙ away-here true n e (rest_of x.part.front.rest).count (x.part.nodes n) b there)
+      by-seat (Here true n e b (staying_of (x.part.nodes n))) (seat-with x.part n e true row at moved ∙ away-here true n e (front_rest x.part.front.rest).count (x.part.nodes n) b there)
       (at-endpoint 2 (omega arith) b (on-off (is_clear b.send) unsaid) (f.here n e b there))
   by-node row n e at moved d back.Out is_ kept = absurd kept
   by-node row n e at moved d back.Ended is_ kept = absurd (both_ways false refl (sym (sym (ap (holds_kind kind.Ended) kept.0.is) ∙ off-node n kind.Ended)))
@@ -266,20 +266,20 @@ module _ (k : Setting) (w : Whole) (x : Conn) (st : Station) (is : x.part.statio
   by-stage : (row : FrontRow) → x.part.front.row ≡ Some row → (c : FrontConn) → row.stage ≡ c → OfferKept x.c x.part.front.kept c → NearAtPost t.post
   unfolding seat_of
   by-stage row at (stage.Held b) is_ kept =
-      let seat : seat_of x.part ≡ Held b (rest_of x.part.front.rest).count = ap (seat_by x.part.front x.part.nodes) at ∙ ap (seat_in x.part.front x.part.nodes) is_ in
+      let seat : seat_of x.part ≡ Held b (front_rest x.part.front.rest).count = ap (seat_by x.part.front x.part.nodes) at ∙ ap (seat_in x.part.front x.part.nodes) is_ in
       let armed : front_armed x.part.front kind.Tcp ≡ not (is_clear b.send) = ap (λ (o : Option FrontRow). front_armed (record x.part.front { row = o }) kind.Tcp) (at ∙ λ i. Some (record row { stage = is_ i })) in
-      by-seat (Held b (rest_of x.part.front.rest).count) seat (at-endpoint 3 (omega arith) b (on-off (is_clear b.send) (sym armed ∙ off-front kind.Tcp)) (f.held row b at is_))
+      by-seat (Held b (front_rest x.part.front.rest).count) seat (at-endpoint 3 (omega arith) b (on-off (is_clear b.send) (sym armed ∙ off-front kind.Tcp)) (f.held row b at is_))
   by-stage row at (stage.Waiting b) is_ kept =
-      absurd (first.3 b (rest_of x.part.front.rest).count (ap (seat_by x.part.front x.part.nodes) at ∙ ap (seat_in x.part.front x.part.nodes) is_))
+      absurd (first.3 b (front_rest x.part.front.rest).count (ap (seat_by x.part.front x.part.nodes) at ∙ ap (seat_in x.part.front x.part.nodes) is_))
   by-stage row at stage.Lent is_ kept = absurd kept
   by-stage row at (stage.Offering n e) is_ kept =
-      absurd (both_ways false refl (sym (sym (ap (λ (ks : List Kept). list_any (λ j. rank j.kind == rank kind.Offer) ks) kept.1) ∙ off-front kind.Offer)))
+      absurd (both_ways false refl (sym (sym (ap (λ (ks : List Kept). list_any (λ j. kind_rank j.kind == kind_rank kind.Offer) ks) kept.1) ∙ off-front kind.Offer)))
   by-stage row at (stage.Moved n e) is_ kept =
       let d = f.decided row n e.0 at is_ in
       by-node row n e.0 at is_ d d.row.stage refl (subst (λ (o : Option BackRow). BackKept k.files x.c (x.part.nodes n) o) d.is (renews.nodes n))
   by-stage row at (stage.Closed last) is_ kept =
       let seat : seat_of x.part ≡ Over last = ap (seat_by x.part.front x.part.nodes) at ∙ ap (seat_in x.part.front x.part.nodes) is_ in
-      by-seat (Over last) seat (subst (NearEnded t 3 (taken y) s last.reason) (sym phase-is) (at-end last (f.over row last at is_ opened) last.reason refl))
+      by-seat (Over last) seat (subst (NearEnded t 3 (symbols_taken y) s last.reason) (sym phase-is) (at-end last (f.over row last at is_ opened) last.reason refl))
 
   by-row : (o : Option FrontRow) → x.part.front.row ≡ o → RowKept x.c x.part.front.kept o → NearAtPost t.post
   unfolding seat_of
@@ -296,7 +296,7 @@ module _ (k : Setting) (w : Whole) (x : Conn) (st : Station) (is : x.part.statio
       let v : Move = client_does x st (event_seen (event.Timer (Client x.c) x.c)) (client_timer y) in
       let l : Letter = record { from = Client x.c; to = Front; bytes = spelled x.c ToCluster s } in
       let says = timer-says y f.bytes f.sound f.wide f.speaks_ f.low open_ unclear ∙ ap (λ (c : ℕ). (Front, spelled c ToCluster s) ∷ []) f.named in
-      let segments : v.said.segments ≡ (Front, spelled x.c ToCluster s) ∷ (client_speaks (after_timer y)).0 = ap (λ (ss : List (Place × List ℕ)). ss ++ (client_speaks (after_timer y)).0) says in
+      let segments : v.said.segments ≡ (Front, spelled x.c ToCluster s) ∷ (client_speaks (client_after_timer y)).0 = ap (λ (ss : List (Place × List ℕ)). ss ++ (client_speaks (client_after_timer y)).0) says in
       let has : Has l (letters_of v) = has-before l (map (letter (Client x.c)) v.said.segments) (map (letter (Client x.c)) v.said.messages)
       (subst (λ (ss : List (Place × List ℕ)). Has l (map (letter (Client x.c)) ss)) (sym segments) (inl refl)) in
       near-by k w x st is v lasts l has sends-near
@@ -306,5 +306,5 @@ pub client-begins : (k : Setting) (w : Whole) (x : Conn) (st : Station) (is : x.
     → Lasts k w x (client_does x st (event_seen (event.Timer (Client x.c) x.c)) (client_timer st.client)) → SendsNear k w x st is (client_does x st (event_seen (event.Timer (Client x.c) x.c)) (client_timer st.client))
 client-begins k w x st is renews f first =
     let on : station_armed (Some st) ≡ true = sym (ap station_armed is) ∙ first.0 in
-    let both = and_parts (is_open st.client) (not (is_clear st.client.send)) on in
+    let both = and_parts (is_client_open st.client) (not (is_clear st.client.send)) on in
     client-near k w x st is renews f first both.0 (not-off (is_clear st.client.send) both.1)

@@ -6,7 +6,7 @@ use Rattle.lard_base.specs.declared.place.Place.{Place}
 use Rattle.lard_base.specs.declared.place.Place.TheVariants.{Client, Front, Node}
 use Rattle.lard_bound.specs.Nears.{Near, NearReply, NearSegment, OfSegment}
 use Rattle.lard_bound.specs.Seats.{Held, Waiting, Here, seat_by, seat_in, seat_of, staying_of}
-use Rattle.lard_bound.specs.Spots.{Spot, awaited_in, ends_of, post_of, spot_of}
+use Rattle.lard_bound.specs.Spots.{Spot, number_awaited, ends_of, post_of, spot_of}
 use Rattle.lard_bound.specs.Units.{Whole}
 use Rattle.lard_client.specs.declared.phase.Phase.{Phase}
 use Rattle.lard_client.specs.declared.phase.Phase.TheVariants as phase
@@ -16,7 +16,7 @@ use Rattle.lard_law_settles.proofs.CourseResending.{said, timer-says, timer-send
 use Rattle.lard_law_settles.proofs.CourseTiming.{WaitsClear, HereDeed, HereNear, HeldNear, near-by}
 use Rattle.lard_endpoint.specs.Control.{ControlBlock}
 use Rattle.lard_endpoint.specs.Leaving.{after_timer}
-use Rattle.lard_rules.specs.Front.{FrontEnv, fires_at, rest_of}
+use Rattle.lard_rules.specs.Front.{FrontEnv, fires_at, front_rest}
 use Rattle.lard_handoff_back.specs.declared.row.BackConn.TheVariants as back
 use Rattle.lard_handoff_front.specs.declared.row.FrontConn.TheVariants as stage
 use Rattle.lard_handoff_front.specs.declared.row.FrontRow.{FrontRow}
@@ -65,7 +65,7 @@ module _ (files : FilesAt) (p : Part) (st : Station) (c : ℕ) (b : ControlBlock
   -- whatever becomes of the client
   by-phase : (back : ℕ) → back ≤ 3 → (ph : Phase) → st.client.phase ≡ ph → NearReply t back 3 (ends_of st.client b) s ph
   by-phase back low phase.Open is = inl (timer-untold env b k.bytes k.open_ k.speaks_ unclear t (ends_of st.client b) (iss-is ∙ k.iss) refl k.low, low)
-  by-phase back low phase.Aborted is = (refl, refl, sym (ap (awaited_in b) is), low)
+  by-phase back low phase.Aborted is = (refl, refl, sym (ap (number_awaited b) is), low)
   by-phase back low phase.Reset is = absurd (k.here is)
 
   reply-near : (back : ℕ) → back ≤ 3 → NearReply t back 3 (ends_of st.client b) s t.phase
@@ -74,7 +74,7 @@ module _ (files : FilesAt) (p : Part) (st : Station) (c : ℕ) (b : ControlBlock
   read-again : (P : Said → Type 0) → P s → OfSegment P (decoded (spelled c ToClient s) c ToClient)
   read-again P h = subst (OfSegment P) (sym (again c ToClient s (timer-sendable env b k.bytes k.open_ k.speaks_ unclear))) h
 
-  pub held-near : seat_of p ≡ Held b (rest_of p.front.rest).count → Near files t c 3 (record { from = Front; to = Client c; bytes = spelled c ToClient s })
+  pub held-near : seat_of p ≡ Held b (front_rest p.front.rest).count → Near files t c 3 (record { from = Front; to = Client c; bytes = spelled c ToClient s })
   held-near seat =
       read-again (λ s. NearSegment t 3 s t.post)
       (subst (NearSegment t 3 s) (sym (post-is ∙ ap (post_of files st.client) seat)) (reply-near 2 (omega arith)))
@@ -82,25 +82,25 @@ module _ (files : FilesAt) (p : Part) (st : Station) (c : ℕ) (b : ControlBlock
   pub here-near : (n e : ℕ) → (p.nodes n).row ≡ Some (record { stage = back.Here b; epoch = record { 0 = e } }) → IsWithNode p n e
       → Near files t c 3 (record { from = Node n; to = Client c; bytes = spelled c ToClient s })
   here-near n e there home =
-      let seat = seat-with p n e home.told home.row home.front home.with_ ∙ away-here home.told n e (rest_of p.front.rest).count (p.nodes n) b there in
+      let seat = seat-with p n e home.told home.row home.front home.with_ ∙ away-here home.told n e (front_rest p.front.rest).count (p.nodes n) b there in
       read-again (λ s. NearSegment t 3 s t.post)
       (subst (NearSegment t 3 s) (sym (post-is ∙ ap (post_of files st.client) seat)) (reply-near 3 (omega arith)))
 
 -- ---- the rules
 
 module _ (k : Setting) (w : Whole) (x : Conn) (st : Station) (is : x.part.station ≡ Some st) (renews : Renews k.files x) where
-  seat-held : (row : FrontRow) (b : ControlBlock) → x.part.front.row ≡ Some row → row.stage ≡ stage.Held b → seat_of x.part ≡ Held b (rest_of x.part.front.rest).count
+  seat-held : (row : FrontRow) (b : ControlBlock) → x.part.front.row ≡ Some row → row.stage ≡ stage.Held b → seat_of x.part ≡ Held b (front_rest x.part.front.rest).count
   unfolding seat_of
   seat-held row b at is_ = ap (seat_by x.part.front x.part.nodes) at ∙ ap (seat_in x.part.front x.part.nodes) is_
 
   pub waits-clear : (env : FrontEnv) → ((b : ControlBlock) (count : ℕ) → seat_of x.part ≡ Waiting b count → is_clear b.send ≡ true) → WaitsClear k w x st is env renews
   unfolding seat_of
-  waits-clear env waits row b at is_ = waits b (rest_of x.part.front.rest).count (ap (seat_by x.part.front x.part.nodes) at ∙ ap (seat_in x.part.front x.part.nodes) is_)
+  waits-clear env waits row b at is_ = waits b (front_rest x.part.front.rest).count (ap (seat_by x.part.front x.part.nodes) at ∙ ap (seat_in x.part.front x.part.nodes) is_)
 
   pub held-begins : (env : FrontEnv) → IsFrontEnv k x.c env → ((b : ControlBlock) (count : ℕ) → seat_of x.part ≡ Held b count → IsSpeaking st b) → HeldNear k w x st is env renews
   held-begins env of speaking row b at is_ unclear lasts =
       let seat = seat-held row b at is_ in
-      let sp = speaking b (rest_of x.part.front.rest).count seat in
+      let sp = speaking b (front_rest x.part.front.rest).count seat in
       let s : Said = said env.serve b sp.bytes sp.open_ sp.speaks_ unclear in
       let c : ℕ = env.serve.c in
       let l : Letter = record { from = Front; to = Client c; bytes = spelled c ToClient s } in
@@ -116,7 +116,7 @@ module _ (k : Setting) (w : Whole) (x : Conn) (st : Station) (is : x.part.statio
   pub here-begins : (n epoch : ℕ) (env : NodeEnv) → IsNodeEnv k x.c n epoch env → ((told : Bool) (e : ℕ) (b : ControlBlock) → seat_of x.part ≡ Here told n e b (staying_of (x.part.nodes n)) → IsSpeaking st b) → HereNear k w x st is n env renews
   here-begins n epoch env of speaking e b stay row has_stay unclear lasts =
       let home = renews.homes n e b row in
-      let seat = seat-with x.part n e home.told home.row home.front home.with_ ∙ away-here home.told n e (rest_of x.part.front.rest).count (x.part.nodes n) b row in
+      let seat = seat-with x.part n e home.told home.row home.front home.with_ ∙ away-here home.told n e (front_rest x.part.front.rest).count (x.part.nodes n) b row in
       let sp = speaking home.told e b seat in
       let s : Said = said env.serve b sp.bytes sp.open_ sp.speaks_ unclear in
       let c : ℕ = env.serve.c in

@@ -40,12 +40,12 @@ timer-place : (q p : Place) (c : ℕ) → event_seen (event.Timer q c) ≡ event
 timer-place q p c e = cc
 
 -- a move's heads are those that it is given
-front-heads : (x : Conn) (hs : List Seen) (d : front.Deed) → (front_does x hs d).heads ≡ hs
+front-heads : (x : Conn) (hs : List Seen) (d : front.FrontDeed) → (front_does x hs d).heads ≡ hs
 front-heads x hs front.Drops = refl
 front-heads x hs (front.Says turn) = refl
 front-heads x hs (front.Does did) = refl
 
-node-heads : (x : Conn) (n : ℕ) (hs : List Seen) (d : node.Deed) → (node_does x n hs d).heads ≡ hs
+node-heads : (x : Conn) (n : ℕ) (hs : List Seen) (d : node.NodeDeed) → (node_does x n hs d).heads ≡ hs
 node-heads x n hs node.Drops = refl
 node-heads x n hs (node.Says messages) = refl
 node-heads x n hs (node.Does given) = refl

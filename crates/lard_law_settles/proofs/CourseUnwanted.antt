@@ -21,7 +21,7 @@ use Rattle.lard_base.specs.declared.ids.Epoch.{Epoch}
 use Rattle.lard_handoff_back.specs.declared.row.BackConn.{BackConn}
 use Rattle.lard_handoff_back.specs.declared.row.BackConn.TheVariants as back
 use Rattle.lard_handoff_back.specs.declared.row.BackRow.{BackRow}
-use Rattle.lard_history.specs.Own.{Came, Letter, Row, Seen, came, conn_of, letter_of}
+use Rattle.lard_history.specs.Own.{Came, Letter, Row, Seen, came_seen, conn_of, letter_of}
 use Rattle.lard_history.proofs.Each.{Each}
 use Rattle.lard_history.proofs.Seeing.{by_number, one-other, same_number}
 use Rattle.lard_journal.specs.declared.rec.Rec.TheVariants as rec
@@ -36,7 +36,7 @@ use Rattle.lard_rules.specs.declared.node.NodeTurn.{NodeTurn}
 use Rattle.lard_rules.specs.declared.stay.Stay.{Stay}
 use Rattle.lard_rules.specs.declared.stay.Want.{Want}
 use Rattle.lard_rules.specs.Node as node
-use Rattle.lard_rules.specs.Node.{NodePart, come_by, here, kept_after, node_content, rests, wants_kept, with_work, work_of}
+use Rattle.lard_rules.specs.Node.{NodePart, come_by, here, kept_after, node_content, node_rests, wants_kept, with_work, work_of}
 use Rattle.lard_rules.specs.NodePlace.{NodeSetting, node_deed, node_env, node_gets, node_hears, node_part}
 use Rattle.lard_rules.specs.Stay.{NodeEnv, Work, came_for, come_progress, goes_on}
 use Rattle.lard_law_progress.proofs.AnswersIgnored.{IsUnwanted}
@@ -49,7 +49,7 @@ use Rattle.lard_resend.specs.Kept.{is_under, without}
 use Rattle.lard_rules.specs.declared.places.Out.{Out}
 use Rattle.lard_rules.specs.declared.places.Ending.{Ending}
 use Rattle.lard_rules.specs.declared.places.Ending.TheVariants as ending
-use Rattle.lard_rules.specs.Serving.{settled}
+use Rattle.lard_rules.specs.Serving.{serving_settled}
 use Rattle.lard_law_view.proofs.Deliveries.{IsDelivered}
 
 -- ---- a node's part, where the content is awaited
@@ -86,11 +86,11 @@ module _ (env : NodeEnv) (q : NodePart) (b : ControlBlock) (s : Stay) (e : ℕ) 
       let rows = sym (ap (λ (x : NodePart). x.row) same) in
       stages-apart b (record { 0 = e }) (record { 0 = env.epoch }) (sym row ∙ rows)
 
-  pub content-changes : (here env.epoch q ≡ Some (b, s)) → (d : node.Deed) → node_content env q from r ≡ d → (given : NodePart × NodeTurn) × (d ≡ node.Does given) × (given.0 ≡ q → ⊥)
+  pub content-changes : (here env.epoch q ≡ Some (b, s)) → (d : node.NodeDeed) → node_content env q from r ≡ d → (given : NodePart × NodeTurn) × (d ≡ node.Does given) × (given.0 ≡ q → ⊥)
   content-changes is d deed =
-      let does : node_content env q from r ≡ node.Does (rests env qq [] w) =
+      let does : node_content env q from r ≡ node.Does (node_rests env qq [] w) =
       ap (come_by env from r q) is ∙ cond-true (is_from from env.epoch (find (is_under kind.Fetch r) q.fetches)) (with_work env qq [] w) node.Drops wanted in
-      (rests env qq [] w, sym deed ∙ does, differs (settled env.serve w.service).0)
+      (node_rests env qq [] w, sym deed ∙ does, differs (serving_settled env.serve w.service).0)
 
 -- ---- the step
 
@@ -138,7 +138,7 @@ module _ (m : Machine) (q : ℕ) where
         let mine : node_deed ks s x.c (node_content (node_env ks s x.c x.epoch.0) (node_part s x.c) a r) ≡ node_deed ks s q (node_content env (node_part s q) a r) =
         ap (λ (j : ℕ). node_deed ks s j (node_content (node_env ks s j x.epoch.0) (node_part s j) a r)) same in
         let gets : node_gets ks s p.from (decoded_message p.bytes) ≡ node_deed ks s q (node_content env (node_part s q) a r) = read ∙ heard ∙ mine in
-        let put : (node_gets ks s p.from (decoded_message p.bytes)).0 ≡ (node_deed ks s q (node.Does c.0)).0 = ap (λ (z : NodeState × Out). z.0) gets ∙ ap (λ (d : node.Deed). (node_deed ks s q d).0) c.1 in
+        let put : (node_gets ks s p.from (decoded_message p.bytes)).0 ≡ (node_deed ks s q (node.Does c.0)).0 = ap (λ (z : NodeState × Out). z.0) gets ∙ ap (λ (d : node.NodeDeed). (node_deed ks s q d).0) c.1 in
         let part = deed-part m q n (event.Deliver k) (rec.Got k ∷ []) i s (node_gets ks s p.from (decoded_message p.bytes)) c.0 there.1 got put in
         c.2 (put-is (part_of m q) i c.0.0 (sym part ∙ stays) ∙ kept)
 
@@ -163,7 +163,7 @@ unwanted m n e step listed q w given v seen grows l a i is from to stays x r fil
     let named : x.c ≡ q = some-is x.c q (sym names.named ∙ sym (λ j. conn_of (same_from j) (same_to j) p.bytes) ∙ mine) in
     changes m q w given n k delivers p d.3 mine (ap (λ (y : Conn). y.part) grows ∙ stays) a i same_from same_to x r file reads_ content named b here_.there awaits)
     (λ other.
-    let none : shown m (event.Deliver k) q ≡ [] = ap (λ o. came q o ++ []) d.3 ∙ ap (λ hs. hs ++ []) (one-other of.0 q (conn_of p.from p.to p.bytes) (Came (letter_of p)) (λ s. other (sym s)) of.1) in
+    let none : shown m (event.Deliver k) q ≡ [] = ap (λ o. came_seen q o ++ []) d.3 ∙ ap (λ hs. hs ++ []) (one-other of.0 q (conn_of p.from p.to p.bytes) (Came (letter_of p)) (λ s. other (sym s)) of.1) in
     let heads : v.heads ≡ [] = seen.heads ∙ ap (λ (y : Event). shown m y q) d.2 ∙ none in
     let bad : None ≡ Some l = sym (ap came_in heads) ∙ is in cc)
   where

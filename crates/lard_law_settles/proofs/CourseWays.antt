@@ -12,7 +12,7 @@ use Rattle.lard_base.specs.declared.place.Place.{Place}
 use Rattle.lard_base.specs.declared.place.Place.TheVariants.{Front, Node, Client}
 use Rattle.lard_rules.specs.declared.machine.Machine.{Machine}
 use Rattle.lard_rules.specs.Bounds.{HasRule}
-use Rattle.lard_rules.specs.Machine.{clocked, machine_step, passed, segments_sent, told, told_rows}
+use Rattle.lard_rules.specs.Machine.{clocked, machine_step, passed, segments_sent, machine_told, told_rows}
 use Rattle.lard_law_view.specs.View.{IsViewed}
 use Rattle.lard_law_view.proofs.AnyShape.{AnyShape, IsAct, SomeGift, SomeNote, SomeTimer, step-any}
 use Rattle.lard_law_view.proofs.Saying.{GaveAt, NotedAt}
@@ -221,8 +221,8 @@ module _ (m : Machine) where
   goes-all e n more packets h = record { more = more; packets = packets; others = λ k on. (h k).others on; way = λ k on. (h k).way on }
 
   told-goes : (w : Machine) (e : Event) (place : Place) (o : Out) → IsPut m w → ((k : ℕ) → SaysLittle k (length m.net) o) → (k : ℕ)
-      → Goes k (length m.net) e (is_on_way m.journal k) (is_on_way (told w e (behind e) place o).journal k)
-  unfolding told
+      → Goes k (length m.net) e (is_on_way m.journal k) (is_on_way (machine_told w e (behind e) place o).journal k)
+  unfolding machine_told
   told-goes w e place o put little k =
       let first : ℕ = length m.net in
       let was : Bool = is_on_way m.journal k in
@@ -245,16 +245,16 @@ module _ (m : Machine) where
       (go-behind k first e was (fold (way_flag k) was (behind e)) rest (own-passes k first e was)
       (rest-send k first place o (length w.net + 1) (length (segments_sent w place o) + 1) (omega (arith, same)) (omega (arith, same, sum)) (little k)))
 
-  told-ways : (w : Machine) (e : Event) (place : Place) (o : Out) → IsPut m w → ((k : ℕ) → SaysLittle k (length m.net) o) → Ways m e (told w e (behind e) place o)
-  unfolding told
+  told-ways : (w : Machine) (e : Event) (place : Place) (o : Out) → IsPut m w → ((k : ℕ) → SaysLittle k (length m.net) o) → Ways m e (machine_told w e (behind e) place o)
+  unfolding machine_told
   told-ways w e place o put little =
       let sent : List Packet = packets_of place o.segments ++ packets_of place o.messages in
       let net : (w.net ++ packets_of place o.segments) ++ packets_of place o.messages ≡ m.net ++ sent =
       ap (λ (ps : List Packet). (ps ++ packets_of place o.segments) ++ packets_of place o.messages) put.net ∙ append_assoc m.net (packets_of place o.segments) (packets_of place o.messages) in
       let sum : length (m.net ++ sent) ≡ length m.net + length sent = length-append m.net sent in
       let len : length ((w.net ++ packets_of place o.segments) ++ packets_of place o.messages) ≡ length (m.net ++ sent) = ap (λ ps. length ps) net in
-      goes-all e (told w e (behind e) place o) (omega (arith, len, sum))
-      (keeps-all e m (told w e (behind e) place o) (λ k p at. ap (λ (ps : List Packet). packet_at ps k) net ∙ packet-stays m.net sent k p at))
+      goes-all e (machine_told w e (behind e) place o) (omega (arith, len, sum))
+      (keeps-all e m (machine_told w e (behind e) place o) (λ k p at. ap (λ (ps : List Packet). packet_at ps k) net ∙ packet-stays m.net sent k p at))
       (told-goes w e place o put little)
 
   -- one record stands behind the event

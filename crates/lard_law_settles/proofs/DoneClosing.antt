@@ -14,8 +14,8 @@ use Rattle.lard_base.specs.declared.place.Place.TheVariants as place
 use Rattle.lard_base.specs.declared.place.TimerKind.{TimerKind}
 use Rattle.lard_rules.specs.declared.machine.Machine.{Machine}
 use Rattle.lard_law_connections.proofs.LineRuns.{line-needs-a-full-room}
-use Rattle.lard_law_connections.specs.Line.{line}
-use Rattle.lard_counts.specs.Ledger.{admitted, ledger}
+use Rattle.lard_law_connections.specs.Line.{waiting_line}
+use Rattle.lard_counts.specs.Ledger.{ledger_admitted, ledger}
 use Rattle.lard_laws.proofs.QuietEnds.{quiet-complete}
 use Rattle.lard_laws.specs.Quiet.{HasNoJob, IsInLine, reads_for}
 use Rattle.lard_laws.proofs.RecordsThere.{only-nodes}
@@ -36,7 +36,7 @@ use Rattle.lard_law_settles.proofs.RoundsLeft.{left-quiet}
 use Rattle.lard_law_settles.proofs.RoundsTold.{jobs-same, line-same, nodes-are, stalled-same}
 use Rattle.lard_law_settles.specs.RoundsToDo.{is_stalled_at}
 use Rattle.lard_settling.specs.Left.{jobs_at, jobs_from}
-use Rattle.lard_settling.specs.Settling.{is_quiet, jobs_left, left}
+use Rattle.lard_settling.specs.Settling.{is_quiet, jobs_left, settle_left}
 use Rattle.lard_settling.specs.Written.{IsWrittenOut}
 
 -- ---- lists
@@ -66,7 +66,7 @@ each-none m n (suc more) k none from to = by_number (jobs_at m k ≡ 0) n k
 
 -- ---- a state in which nothing is left
 
-module _ (config : Config) (files : List (List ℕ × List ℕ)) (checked : config_check config ≡ Ok tt) (m : Machine) (w : IsWrittenOut config files m) (none : left m ≡ 0) where
+module _ (config : Config) (files : List (List ℕ × List ℕ)) (checked : config_check config ≡ Ok tt) (m : Machine) (w : IsWrittenOut config files m) (none : settle_left m ≡ 0) where
   abbrev J : List Rec
   J = m.journal
 
@@ -84,7 +84,7 @@ module _ (config : Config) (files : List (List ℕ × List ℕ)) (checked : conf
 
   -- ---- timers
 
-  stalled : (c : ℕ) (p : Place) (kind : TimerKind) → is_running J p c kind ≡ true → is_stalled_at p (line J) c ≡ true
+  stalled : (c : ℕ) (p : Place) (kind : TimerKind) → is_running J p c kind ≡ true → is_stalled_at p (waiting_line J) c ≡ true
   stalled c p kind runs =
       let seats = seats-named config files m checked w in
       let rest : rests m.front.dispatch (agenda_of J) ≡ true = (and_parts (rests m.front.dispatch (agenda_of J)) (jobs_left m == 0) quiet).0 in
@@ -92,15 +92,15 @@ module _ (config : Config) (files : List (List ℕ × List ℕ)) (checked : conf
       sym (stalled-same p m.front.dispatch.books.line c ∙ ap (λ (l : List ℕ). is_stalled_at p l c) (line-same config files checked m w)) ∙ is
 
   -- those of one that is not in the line do not run
-  unstalled : (c : ℕ) (p : Place) → list_any (λ (i : ℕ). i == c) (line J) ≡ false → is_stalled_at p (line J) c ≡ false
+  unstalled : (c : ℕ) (p : Place) → list_any (λ (i : ℕ). i == c) (waiting_line J) ≡ false → is_stalled_at p (waiting_line J) c ≡ false
   unstalled c place.Front out = refl
   unstalled c (place.Node n) out = refl
   unstalled c (place.Client d) out = out
 
-  rests-out : (c : ℕ) → list_any (λ (i : ℕ). i == c) (line J) ≡ false → IsQuiet J c
+  rests-out : (c : ℕ) → list_any (λ (i : ℕ). i == c) (waiting_line J) ≡ false → IsQuiet J c
   rests-out c out p kind = go (is_running J p c kind) refl where
     go : (b : Bool) → is_running J p c kind ≡ b → is_running J p c kind ≡ false
-    go true runs = absurd (both_ways (is_stalled_at p (line J) c) (unstalled c p out) (stalled c p kind runs))
+    go true runs = absurd (both_ways (is_stalled_at p (waiting_line J) c) (unstalled c p out) (stalled c p kind runs))
     go false runs = runs
 
   -- ---- jobs
@@ -136,21 +136,21 @@ module _ (config : Config) (files : List (List ℕ × List ℕ)) (checked : conf
     shut = λ was. sym (same.clients.ends c) ∙ h.shut (same.clients.shuts c ∙ was);
   }
 
-  room-here : admitted (ledger config K) ≡ room_of config → admitted (ledger config J) ≡ room_of config
-  room-here h = sym (ap admitted same.counted) ∙ h
+  room-here : ledger_admitted (ledger config K) ≡ room_of config → ledger_admitted (ledger config J) ≡ room_of config
+  room-here h = sym (ap ledger_admitted same.counted) ∙ h
 
-  in-line : (c : ℕ) → list_any (λ (i : ℕ). i == c) (line J) ≡ true → IsInLine config J c
+  in-line : (c : ℕ) → list_any (λ (i : ℕ). i == c) (waiting_line J) ≡ true → IsInLine config J c
   in-line c found =
-      let has : Has c (line J) = found-has c (line J) found in
-      let some : 0 < length (line K) = has-some c (line K) (subst (Has c) (sym same.waits) has) in
+      let has : Has c (waiting_line J) = found-has c (waiting_line J) found in
+      let some : 0 < length (waiting_line K) = has-some c (waiting_line K) (subst (Has c) (sym same.waits) has) in
       (has, room-here (line-needs-a-full-room config files w.plain checked w.reached some))
 
   ends-so : (c : ℕ) → IsSome (numbers_of J c) → is_touched J c ≡ false → has_aborted J c ≡ false → was_reset J c ≡ false → IsComplete (file_at files) J c ⊎ IsInLine config J c
-  ends-so c opened calm stays whole = go (list_any (λ (i : ℕ). i == c) (line J)) refl where
+  ends-so c opened calm stays whole = go (list_any (λ (i : ℕ). i == c) (waiting_line J)) refl where
     rests-there : IsQuiet J c → IsQuiet K c
     rests-there h p kind = same.timers p c kind ∙ h p kind
 
-    go : (b : Bool) → list_any (λ (i : ℕ). i == c) (line J) ≡ b → IsComplete (file_at files) J c ⊎ IsInLine config J c
+    go : (b : Bool) → list_any (λ (i : ℕ). i == c) (waiting_line J) ≡ b → IsComplete (file_at files) J c ⊎ IsInLine config J c
     go true found = inr (in-line c found)
     go false out = ⊎_elim
         (λ (done : IsComplete (file_at files) K c). inl (complete-here c done))

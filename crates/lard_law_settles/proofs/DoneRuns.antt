@@ -6,7 +6,7 @@ use Rattle.lard_base.specs.declared.event.Event.{Event}
 use Rattle.lard_base.specs.declared.event.Event.TheVariants as event
 use Rattle.lard_rules.specs.declared.fault.StepFault.{StepFault}
 use Rattle.lard_rules.specs.declared.machine.Machine.{Machine}
-use Rattle.lard_rules.specs.Machine.{start}
+use Rattle.lard_rules.specs.Machine.{machine_start}
 use Rattle.lard_files.specs.Files.{file_at}
 use Rattle.lard_history.proofs.Each.{each_append}
 use Rattle.lard_history.specs.Laws.{EachMay}
@@ -21,8 +21,8 @@ use Rattle.lard_law_settles.specs.Done.{MaySettle}
 use Rattle.lard_law_settles.specs.DoneLaws.{SettledRunsAreDone}
 use Rattle.lard_settling.proofs.Plain.{AreUnmarked, is_mark}
 use Rattle.lard_settling.proofs.Written.{written}
-use Rattle.lard_settling.specs.Events.{Goes, MayCome, event_step}
-use Rattle.lard_settling.specs.Settling.{left}
+use Rattle.lard_settling.specs.Events.{GoesThrough, MayCome, event_step}
+use Rattle.lard_settling.specs.Settling.{settle_left}
 use Rattle.lard_settling.specs.Steps.{closing, inner_step, settle_begun}
 use Rattle.lard_settling.specs.Written.{IsWrittenOut, is_settle}
 
@@ -67,14 +67,14 @@ module _ (config : Config) (files : List (List ℕ × List ℕ)) (checked : conf
 
   -- ---- the one that does
 
-  closing-may : (m : Machine) (done remaining : ℕ) → IsWrittenOut config files m → left m ≡ remaining → EachMay May m.journal (closing done remaining ∷ [])
+  closing-may : (m : Machine) (done remaining : ℕ) → IsWrittenOut config files m → settle_left m ≡ remaining → EachMay May m.journal (closing done remaining ∷ [])
   closing-may m done zero w none = (done-with config files checked m w none, tt)
   closing-may m done (suc more) w some = (tt, tt)
 
   closed-stands : (n : Machine) (rounds : ℕ) → IsClosed Stands IsInner rounds n → Stands n
   closed-stands n rounds c = subst Stands (sym c.is) (record {
-    is = (written config files).closes c.last c.done (left c.last) c.holds.is;
-    each = each_append May [] c.last.journal (closing c.done (left c.last) ∷ []) c.holds.each (closing-may c.last c.done (left c.last) c.holds.is refl);
+    is = (written config files).closes c.last c.done (settle_left c.last) c.holds.is;
+    each = each_append May [] c.last.journal (closing c.done (settle_left c.last) ∷ []) c.holds.each (closing-may c.last c.done (settle_left c.last) c.holds.is refl);
   })
 
   -- ---- runs
@@ -95,11 +95,11 @@ module _ (config : Config) (files : List (List ℕ × List ℕ)) (checked : conf
         let done : event_step m (event.Settle s.0) ≡ Ok n = sym (ap (event_step m) s.1) ∙ is in
         closed-stands n s.0 (subst (SettleEnds Stands IsInner m s.0) done (settle-stands m s.0 h))
 
-  goes-stand : (es : List Event) (m n : Machine) → Stands m → Goes m es n → Stands n
+  goes-stand : (es : List Event) (m n : Machine) → Stands m → GoesThrough m es n → Stands n
   goes-stand [] m n h goes = subst Stands (sym goes) h
   goes-stand (e ∷ es) m n h goes = goes-stand es goes.0 n (event-stands m goes.0 e h goes.1 goes.2) goes.3
 
-  start-stands : Stands (start config files)
+  start-stands : Stands (machine_start config files)
   start-stands = record { is = (written config files).begins; each = tt }
 
   -- a run may end inside a settle
@@ -110,6 +110,6 @@ module _ (config : Config) (files : List (List ℕ × List ℕ)) (checked : conf
     go (inr ended) = ended.0.each
 
 pub runs-are-done : SettledRunsAreDone
-runs-are-done config files es m checked (inl goes) = (goes-stand config files checked es (start config files) m (start-stands config files checked) goes).each
+runs-are-done config files es m checked (inl goes) = (goes-stand config files checked es (machine_start config files) m (start-stands config files checked) goes).each
 runs-are-done config files es m checked (inr i) =
-    stop-stands config files checked i.behind m i.rounds i.fault (goes-stand config files checked i.before (start config files) i.behind (start-stands config files checked) i.goes) i.stops
+    stop-stands config files checked i.behind m i.rounds i.fault (goes-stand config files checked i.before (machine_start config files) i.behind (start-stands config files checked) i.goes) i.stops

@@ -7,11 +7,11 @@ use Rattle.lard_base.specs.declared.place.Place.{Place}
 use Rattle.lard_base.specs.declared.place.TimerKind.{TimerKind}
 use Rattle.lard_cache.specs.Recency.{Recency}
 use Rattle.lard_law_connections.specs.Line.{Line, line_step, nobody}
-use Rattle.lard_counts.specs.Ledger.{blank, ledger_step}
+use Rattle.lard_counts.specs.Ledger.{blank_ledger, ledger_step}
 use Rattle.lard_law_connections.specs.PolicyLoads.{charge_step}
 use Rattle.lard_counts.specs.Stores.{Queue, cache_step, jobs_step, no_jobs}
 use Rattle.lard_history.proofs.Tales.{accepted-tale, assigned-tale, epoch-tale, home-tale, numbers-tale, owner-tale, reset-tale, served-tale, served_bytes-tale, touched-tale, wrote-tale}
-use Rattle.lard_history.specs.Journal.{Tale, accepted, armed_step, assigned, bytes_step, home, is_touched, last_epoch, lost_step, numbers_of, owner, sent_step, served, served_bytes, tale, tale_step, time_step, untold, was_reset, wrote}
+use Rattle.lard_history.specs.Journal.{Tale, accepted, armed_step, assigned, bytes_step, home_told, is_touched, last_epoch, lost_step, numbers_of, owner, sent_step, served, served_bytes, tale, tale_step, time_step, untold, was_reset, wrote}
 use Rattle.lard_journal.specs.declared.rec.Rec.{Rec}
 use Rattle.lard_law_view.specs.Quiet.{aborted_step, ended_step, shut_step}
 use Rattle.lard_loads.specs.Charges.{units_at}
@@ -103,9 +103,9 @@ tells-the-same config files J = record {
   responses = by-tale J served (λ t. t.served) served-tale;
   bytes = by-tale J served_bytes (λ t. t.served_bytes) served_bytes-tale;
   resets = by-tale J was_reset (λ t. t.was_reset) reset-tale;
-  homes = by-tale J home (λ t. t.home) home-tale;
+  homes = by-tale J home_told (λ t. t.home) home-tale;
   requests = by-tale J assigned (λ t. t.assigned) assigned-tale;
-  counted = both J ledger_step ledger-steps (blank config);
+  counted = both J ledger_step ledger-steps (blank_ledger config);
   loads = λ n. ap (sum_by (units_at n)) (both J charge_step charge-steps []);
   waits = ap (λ (l : Line). l.waits) (both J line_step line-steps nobody);
   disks = λ n. ap (λ (q : Queue). q.list) (both J (jobs_step n) (jobs-steps n) no_jobs);

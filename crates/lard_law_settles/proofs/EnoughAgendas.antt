@@ -10,7 +10,7 @@ use Rattle.std.specs.List.{fold}
 use Rattle.std.specs.Ordering.{eq_by_cmp, is_lt, nat_cmp}
 use Rattle.std.specs.Prelude.{T}
 use Rattle.lard_agenda.proofs.Packets.{packets_are_told}
-use Rattle.lard_agenda.specs.Agenda.{agenda_of, due, free_of, no_seats, noted_by, nothing, on_way, running_step}
+use Rattle.lard_agenda.specs.Agenda.{agenda_of, due, free_of, no_seats, noted_by, nothing_noted, on_way, running_step}
 use Rattle.lard_agenda.specs.Laws.{is_on_way, way_flag}
 use Rattle.lard_agenda.specs.declared.agenda.Agenda.{Agenda}
 use Rattle.lard_agenda.specs.declared.kinds.Running.{Running}
@@ -22,7 +22,7 @@ use Rattle.lard_dispatch.specs.Books.{Dispatcher}
 use Rattle.lard_journal.specs.declared.rec.Rec.{Rec}
 use Rattle.lard_rounds.proofs.Listing.{AreApart, IsBut}
 use Rattle.lard_settling.specs.Left.{jobs_at, jobs_from}
-use Rattle.lard_settling.specs.Settling.{is_own, is_quiet, jobs_left}
+use Rattle.lard_settling.specs.Settling.{is_own_seat, is_quiet, jobs_left}
 use Rattle.lard_settling.specs.Steps.{closing, settle_closed}
 use Rattle.lard_settling.specs.Written.{IsWrittenOut}
 use Rattle.lard_settling.proofs.Folds.{TakesSteps, fold-written}
@@ -85,7 +85,7 @@ running-fold (r ∷ J) a = running-fold J (noted_by a r)
 
 running-is : (J : List Rec) → (agenda_of J).running ≡ fold running_step empty J
 unfolding agenda_of
-running-is J = running-fold J nothing
+running-is J = running-fold J nothing_noted
 
 -- the closing record of a settle changes nothing of it
 closing-runs : (J : List Rec) (done more : ℕ) → (agenda_of (J ++ closing done more ∷ [])).running ≡ (agenda_of J).running
@@ -122,8 +122,8 @@ module _ (config : Config) (files : List (List ℕ × List ℕ)) (m : Machine) (
   same-front = ap (λ (k : Machine). k.front.dispatch) w.same
 
   -- the seats of which a timer fires
-  pub same-seats : filter is_own (due m.front.dispatch (agenda_of m.journal)) ≡ seats_due p
-  same-seats = ap (λ d. filter is_own (due d (agenda_of m.journal))) same-front ∙ ap (λ (seats : List (Place × ℕ)). filter is_own seats) (sym (same-due p.front.dispatch))
+  pub same-seats : filter is_own_seat (due m.front.dispatch (agenda_of m.journal)) ≡ seats_due p
+  same-seats = ap (λ d. filter is_own_seat (due d (agenda_of m.journal))) same-front ∙ ap (λ (seats : List (Place × ℕ)). filter is_own_seat seats) (sym (same-due p.front.dispatch))
 
   pub same-jobs : (n : ℕ) → jobs_at m n ≡ jobs_at p n
   same-jobs n = ap (λ (k : Machine). jobs_at k n) w.same

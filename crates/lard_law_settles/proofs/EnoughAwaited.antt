@@ -4,15 +4,15 @@ use Rattle.std.proofs.lemmas.Bool.{and_parts}
 use Rattle.std.specs.List.{AllByRecursion}
 use Rattle.lard_answers.specs.Answers.{FilesAt}
 use Rattle.lard_base.specs.declared.place.TimerKind.TheVariants as kind
-use Rattle.lard_law_connections.specs.Awaits.{BatchComes, ComesBy}
+use Rattle.lard_law_connections.specs.Awaits.{BatchComes, IsToCome}
 use Rattle.lard_law_connections.proofs.AwaitsBatches.{batch-on, fetch-left}
-use Rattle.lard_law_connections.specs.Kept.{awaited_in, awaits}
+use Rattle.lard_law_connections.specs.Kept.{contents_awaited, awaits_content}
 use Rattle.lard_rules.specs.declared.stay.Entry.{Entry}
 use Rattle.lard_rules.specs.declared.stay.Progress.{Progress}
 use Rattle.lard_rules.specs.declared.stay.Progress.TheVariants as progress
 use Rattle.lard_law_progress.proofs.Coming.{without-fewer}
 use Rattle.lard_resend.specs.declared.kept.Kept.{Kept}
-use Rattle.lard_resend.specs.Kept.{is_under, rank, without}
+use Rattle.lard_resend.specs.Kept.{is_under, kind_rank, without}
 
 -- its number is below this one
 abbrev pub AreBelow : ℕ → List Kept → Type 0
@@ -24,18 +24,18 @@ below-all top r low [] h = tt
 below-all top r low (k ∷ ks) h = go (is_under kind.Fetch r k) refl (λ f. below-all top r low ks f) h where
   go : (t : Bool) → is_under kind.Fetch r k ≡ t → (AreBelow top (without kind.Fetch r ks) → AreBelow top ks) → AreBelow top (cond (not t) (k ∷ without kind.Fetch r ks) (without kind.Fetch r ks)) → AreBelow top (k ∷ ks)
   go true is later f =
-      let same : k.r ≡ r = eqb-true k.r r (and_parts (rank k.kind == rank kind.Fetch) (k.r == r) is).1 in
+      let same : k.r ≡ r = eqb-true k.r r (and_parts (kind_rank k.kind == kind_rank kind.Fetch) (k.r == r) is).1 in
       (omega (arith, same, low), later f)
   go false is later f = (f.0, later f.1)
 
 module _ (files : FilesAt) where
   -- where each request that awaits a content has its Fetch, and there are no more of them
-  pub all-awaited : (kept fetches : List Kept) (r : ℕ) (es : List Entry) → BatchComes files kept fetches r es → length fetches ≤ awaited_in es → AreBelow (r + length es) fetches
+  pub all-awaited : (kept fetches : List Kept) (r : ℕ) (es : List Entry) → BatchComes files kept fetches r es → length fetches ≤ contents_awaited es → AreBelow (r + length es) fetches
   all-awaited kept [] r [] h few = tt
   all-awaited kept (k ∷ ks) r [] h few = absurd (omega (arith, few))
   all-awaited kept fetches r (e ∷ es) h few = subst (λ (top : ℕ). AreBelow top fetches) (omega arith) (by e.progress h.0 few (λ fs b l. all-awaited kept fs (r + 1) es b l)) where
-    by : (p : Progress) → ComesBy files kept fetches r e.verdict p → length fetches ≤ awaits p + awaited_in es
-        → ((fs : List Kept) → BatchComes files kept fs (r + 1) es → length fs ≤ awaited_in es → AreBelow (r + 1 + length es) fs) → AreBelow (r + 1 + length es) fetches
+    by : (p : Progress) → IsToCome files kept fetches r e.verdict p → length fetches ≤ awaits_content p + contents_awaited es
+        → ((fs : List Kept) → BatchComes files kept fs (r + 1) es → length fs ≤ contents_awaited es → AreBelow (r + 1 + length es) fs) → AreBelow (r + 1 + length es) fetches
     by progress.Named c l later = later fetches h.1 (omega (arith, l))
     by progress.Reading c l later = later fetches h.1 (omega (arith, l))
     by (progress.Ready way) c l later = later fetches h.1 (omega (arith, l))

@@ -8,7 +8,7 @@ use Rattle.lard_bound.specs.Units.{Whole}
 use Rattle.lard_rules.specs.declared.machine.Machine.{Machine}
 use Rattle.lard_rules.specs.Machine.{Passes, is_no_node, node_at}
 use Rattle.lard_law_view.proofs.Carried.{reached-viewed}
-use Rattle.lard_law_settles.specs.CourseGame.{Task, Waits, game}
+use Rattle.lard_law_settles.specs.CourseGame.{Task, TaskWaits, game}
 use Rattle.lard_disk.specs.declared.disk.Job.{Job}
 use Rattle.lard_disk.specs.Jobs.{job_at}
 use Rattle.lard_history.specs.Own.{Has}
@@ -38,7 +38,7 @@ module _ (all : ℕ → Whole) (Good : Machine → Type 0) where
     others : (i : ℕ) → i ≢ n → jobs_at q i ≡ jobs_at m i
     many : length tasks ≡ count
 
-  first-task : (m l : Machine) (n : ℕ) (d : IsDone m n l) → Waits m (n, d.job)
+  first-task : (m l : Machine) (n : ℕ) (d : IsDone m n l) → TaskWaits m (n, d.job)
   first-task m l n d = (d.state, d.at, subst (Has d.job) (sym d.were) (inl refl))
 
   task-done : (m l : Machine) (n : ℕ) (d : IsDone m n l) → ((s : NodeState) × (node_at m.nodes n ≡ Some s) × (job_at s.disk 1 ≡ Some d.job))
@@ -149,7 +149,7 @@ module _ (all : ℕ → Whole) (Good : Machine → Type 0) where
     no-member job [] none has = has
     no-member job (j ∷ js) none has = absurd (omega (arith, none))
 
-    pub none-waits : (m : Machine) (w : Is config files m) → ((i : ℕ) → 1 ≤ i → i < 1 + config.nodes → jobs_at m i ≡ 0) → (t : Task) → Waits w.plain t → ⊥
+    pub none-waits : (m : Machine) (w : Is config files m) → ((i : ℕ) → 1 ≤ i → i < 1 + config.nodes → jobs_at m i ≡ 0) → (t : Task) → TaskWaits w.plain t → ⊥
     none-waits m w none t waits =
         let s : NodeState = waits.0 in
         let view = reached-viewed config files w.plain w.reached in

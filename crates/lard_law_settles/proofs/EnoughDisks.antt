@@ -5,7 +5,7 @@ use Rattle.lard_rules.specs.declared.fault.StepFault.{StepFault}
 use Rattle.lard_rules.specs.declared.fault.Refusal.TheVariants.{NoJob, NoNode}
 use Rattle.lard_rules.specs.declared.fault.StepFault.TheVariants.{Refused}
 use Rattle.lard_rules.specs.declared.machine.Machine.{Machine}
-use Rattle.lard_rules.specs.Machine.{completes, disk_at, is_no_job, is_no_node, limit_reached, machine_step, node_at, node_gave, node_setting, told, unless_limit}
+use Rattle.lard_rules.specs.Machine.{completes, disk_at, is_no_job, is_no_node, limit_reached, machine_step, node_at, node_gave, node_setting, machine_told, unless_limit}
 use Rattle.lard_law_view.proofs.Parts.{node-others, node-set}
 use Rattle.lard_law_settles.proofs.CourseQueueing.{first-disk}
 use Rattle.lard_disk.specs.declared.disk.Job.{Job}
@@ -28,7 +28,7 @@ pub record IsDone (m : Machine) (n : ℕ) (q : Machine) : Type 0 where
 
 gave-done : (m : Machine) (n : ℕ) (s : NodeState) (job : Job) (jobs : List Job) → node_at m.nodes n ≡ Some s → s.disk ≡ job ∷ jobs
     → IsDone m n (node_gave m (event.Disk n 1) [] n (node_step (node_setting m n) s (back.Disk 1)))
-unfolding told
+unfolding machine_told
 gave-done m n s job jobs at were =
     let given : NodeState × Out = node_step (node_setting m n) s (back.Disk 1) in
     let rest : given.0.disk ≡ jobs = first-disk (node_setting m n) s job jobs were in record {

@@ -8,8 +8,8 @@ use Rattle.lard_base.specs.declared.config.Config.{Config}
 use Rattle.lard_base.specs.declared.event.Event.{Event}
 use Rattle.lard_bound.specs.Bound.{IsOrdinary, settling_bound}
 use Rattle.lard_rules.specs.declared.machine.Machine.{Machine}
-use Rattle.lard_rules.specs.Machine.{start}
-use Rattle.lard_laws.specs.Records.{IsFile, IsGiven}
+use Rattle.lard_rules.specs.Machine.{machine_start}
+use Rattle.lard_laws.specs.Records.{IsRunFile, IsScheduled}
 use Rattle.lard_laws.proofs.RecordsNamed.{files-named}
 use Rattle.lard_law_view.specs.Carry.{setting}
 use Rattle.lard_law_view.specs.View.{conn}
@@ -26,10 +26,10 @@ use Rattle.lard_law_settles.proofs.EnoughKnownTimers.{timers-known}
 use Rattle.lard_law_settles.proofs.EnoughSums.{wholes}
 use Rattle.lard_law_settles.proofs.EnoughWithin.{IsWithin}
 use Rattle.lard_settling.specs.declared.settled.Settled.{Settled}
-use Rattle.lard_settling.specs.Events.{Goes, event_step, settled_to}
+use Rattle.lard_settling.specs.Events.{GoesThrough, event_step, settled_to}
 use Rattle.lard_settling.specs.Settling.{settled}
 
-module _ (config : Config) (files : List (List ℕ × List ℕ)) (checked : config_check config ≡ Ok tt) (are : All IsFile files) where
+module _ (config : Config) (files : List (List ℕ × List ℕ)) (checked : config_check config ≡ Ok tt) (are : All IsRunFile files) where
   -- all that is given of a connection within
   known : (m p : Machine) → IsWithin config files m.journal p → (q : ℕ) → Known (setting config files) (wholes (file_at files) m.journal) (conn p q)
   known m p w q =
@@ -39,24 +39,24 @@ module _ (config : Config) (files : List (List ℕ × List ℕ)) (checked : conf
       )
 
   -- of a state whose journal can be written out
-  pub ends : (m : Machine) (w : Is config files m) → Each IsGiven w.reached.0 → IsOrdinary m.journal → (rounds : ℕ) → settling_bound (file_at files) m.journal ≤ rounds
+  pub ends : (m : Machine) (w : Is config files m) → Each IsScheduled w.reached.0 → IsOrdinary m.journal → (rounds : ℕ) → settling_bound (file_at files) m.journal ≤ rounds
       → (n : Machine) (s : Settled) → settled m rounds ≡ Ok (n, s) → EndsQuiet n s
   ends m w given ordinary = rested config files checked are m (known m) w given ordinary
 
   -- and of one that events lead to, settles among them
-  pub enough : (before : List Event) (m : Machine) → Each IsGiven before → Goes (start config files) before m → IsOrdinary m.journal → (rounds : ℕ) → settling_bound (file_at files) m.journal ≤ rounds
+  pub enough : (before : List Event) (m : Machine) → Each IsScheduled before → GoesThrough (machine_start config files) before m → IsOrdinary m.journal → (rounds : ℕ) → settling_bound (file_at files) m.journal ≤ rounds
       → (n : Machine) (s : Settled) → settled m rounds ≡ Ok (n, s) → EndsQuiet n s
   enough before m given goes =
-      let gone = goes-gone config files (events config files checked are m) before (start config files) m (start-gone config files (events config files checked are m)) given goes in
+      let gone = goes-gone config files (events config files checked are m) before (machine_start config files) m (start-gone config files (events config files checked are m)) given goes in
       ends m gone.is gone.given
 
   -- such events lead from the start to numbers and files that are its own
-  module _ (m : Machine) (es : List Event) (given : Each IsGiven es) (goes : Goes (start config files) es m) (rounds : ℕ) (n : Machine) (s : Settled) (is : settled m rounds ≡ Ok (n, s)) where
+  module _ (m : Machine) (es : List Event) (given : Each IsScheduled es) (goes : GoesThrough (machine_start config files) es m) (rounds : ℕ) (n : Machine) (s : Settled) (is : settled m rounds ≡ Ok (n, s)) where
     gone : IsGone config files (events config files checked are m) n
     unfolding event_step
     gone =
         let given-all = events config files checked are m in
-        let here = goes-gone config files given-all es (start config files) m (start-gone config files given-all) given goes in
+        let here = goes-gone config files given-all es (machine_start config files) m (start-gone config files given-all) given goes in
         settle-gone config files given-all m n rounds here (ap settled_to is)
 
     pub kept-numbers : IsSet config files n

@@ -14,8 +14,8 @@ use Rattle.lard_endpoint.specs.Control.{ControlBlock, listening}
 use Rattle.lard_endpoint.specs.Leaving.{after_timer, timed}
 use Rattle.lard_rules.specs.declared.front.FrontRest.{FrontRest}
 use Rattle.lard_rules.specs.declared.front.FrontTurn.{FrontTurn}
-use Rattle.lard_rules.specs.Front.{Deed, Does, Drops, FrontEnv, FrontPart, Says, admitted_at, admitted_by, admitted_with, asked_by, assigns, begun, ended_by, fired_by, fires_at, front_admitted, front_asked, front_ended, front_gets, front_hears, front_taken, front_timer, hears_at, is_at, met, message, placed, rest_of, saying, settled_by, tag_sent, taken_by}
-use Rattle.lard_rules.specs.FrontReading.{reads}
+use Rattle.lard_rules.specs.Front.{FrontDeed, Does, Drops, FrontEnv, FrontPart, Says, admitted_at, admitted_by, front_admitted_with, asked_by, assigns, front_begun, front_ended_by, front_fired_by, fires_at, front_admitted, front_asked, front_ended, front_gets, front_hears, front_taken, front_timer, hears_at, is_row_at, met, message, placed, front_rest, front_saying, settled_by, tag_sent, taken_by}
+use Rattle.lard_rules.specs.FrontReading.{front_reads}
 use Rattle.lard_handoff_front.specs.declared.row.FrontConn.{FrontConn}
 use Rattle.lard_handoff_front.specs.declared.row.FrontConn.TheVariants as stage
 use Rattle.lard_handoff_front.specs.declared.row.FrontRow.{FrontRow}
@@ -32,7 +32,7 @@ use Rattle.lard_resend.specs.Pending.{sent_of}
 use Rattle.lard_rules.specs.Tombstone.{is_plain_syn, last_words, tombstone}
 use Rattle.lard_rules.specs.declared.places.Ending.{Ending}
 use Rattle.lard_rules.specs.declared.places.Turn.{Turn}
-use Rattle.lard_rules.specs.Serving.{ServeEnv, Service, cut_off, ready_of, serving, settled, spoken}
+use Rattle.lard_rules.specs.Serving.{ServeEnv, Service, cut_off, serving_ready_of, serving, serving_settled, spoken}
 use Rattle.lard_rules.specs.Speaking.{speaks, speaks_symbols}
 use Rattle.lard_segment.specs.declared.fault.SegFault.{SegFault}
 use Rattle.lard_segment.specs.Segment.{Said}
@@ -58,7 +58,7 @@ module _ (env : ServeEnv) where
   cut-to : (w : Service) → ToIts (cut_off env w).1.segments
   cut-to w = Each-append (λ s. s.0 ≡ Client env.c) (speaks_symbols env.c w.block).0 _ (speaks_symbols-to env.c w.block).to (refl, tt)
 
-  settled-to : (w : Service) → ToIts (settled env w).1.segments
+  settled-to : (w : Service) → ToIts (serving_settled env w).1.segments
   settled-to w = go w.over where
     go : (o : Option ℕ) → ToIts (elim o as (λ q. Ending × Turn) [ None ↦ spoken env w [] | Some total ↦ cut_off env w ]).1.segments
     go None = spoken-to w [] tt
@@ -87,7 +87,7 @@ pub record TurnHas (c : ℕ) (W : List ℕ → Type 0) (t : FrontTurn) : Type 0 
   pub segments : AllTo (Client c) t.segments
   pub messages : MessagesHave c W t.messages
 
-abbrev pub DeedHas : ℕ → (List ℕ → Type 0) → Deed → Type 0
+abbrev pub DeedHas : ℕ → (List ℕ → Type 0) → FrontDeed → Type 0
 DeedHas c W Drops = Unit {0}
 DeedHas c W (Says t) = TurnHas c W t
 DeedHas c W (Does x) = TurnHas c W x.turn
@@ -105,10 +105,10 @@ module _ (env : FrontEnv) (W : List ℕ → Type 0) where
   abbrev Has : FrontTurn → Type 0
   Has t = TurnHas c W t
 
-  abbrev HasDeed : Deed → Type 0
+  abbrev HasDeed : FrontDeed → Type 0
   HasDeed d = DeedHas c W d
 
-  one-said : (n e : ℕ) (b : Body) → BodyHas W b → Has (saying ((Node n, message c e b) ∷ []))
+  one-said : (n e : ℕ) (b : Body) → BodyHas W b → Has (front_saying ((Node n, message c e b) ∷ []))
   one-said n e b h = record { segments = tt; messages = ((n, e, b, refl, h), tt) }
 
   offers-said : (ks : List Kept) → Each (IsOffer c) ks → MessagesHave c W (map sent_of ks)
@@ -124,13 +124,13 @@ module _ (env : FrontEnv) (W : List ℕ → Type 0) where
   settled-has p row rest w (Some path) = placed-has p row rest w path (env.first path)
 
   met-has : (p : FrontPart) (s : Said) → HasDeed (met env p s)
-  met-has p s = cond_both (is_plain_syn s) (begun env p s) Drops HasDeed (λ t. record { segments = spoken-to env.serve (serving (listening s env.iss) 0 (rec.Took Front env.serve.c (record { 0 = 1 }) ∷ [])) [] tt; messages = tt }) (λ t. tt)
+  met-has p s = cond_both (is_plain_syn s) (front_begun env p s) Drops HasDeed (λ t. record { segments = spoken-to env.serve (serving (listening s env.iss) 0 (rec.Took Front env.serve.c (record { 0 = 1 }) ∷ [])) [] tt; messages = tt }) (λ t. tt)
 
   module _ (p : FrontPart) (bytes : List ℕ) (came : W bytes) where
     at-has : (row : FrontRow) (s : Said) (st : FrontConn) → HasDeed (hears_at env p row bytes s st)
     at-has row s (stage.Held b) =
-        let x = reads env.serve (record { service = serving (on_segment b s).1 (rest_of p.rest).count []; target = None }) in settled-has p row (rest_of p.rest) x.service x.target
-    at-has row s (stage.Waiting b) = record { segments = spoken-to env.serve (serving (on_segment b s).1 (rest_of p.rest).count []) [] tt; messages = tt }
+        let x = front_reads env.serve (record { service = serving (on_segment b s).1 (front_rest p.rest).count []; target = None }) in settled-has p row (front_rest p.rest) x.service x.target
+    at-has row s (stage.Waiting b) = record { segments = spoken-to env.serve (serving (on_segment b s).1 (front_rest p.rest).count []) [] tt; messages = tt }
     at-has row s stage.Lent = tt
     at-has row s (stage.Offering n e) = one-said n e.0 (body.Forward bytes) came
     at-has row s (stage.Moved n e) = one-said n e.0 (body.Forward bytes) came
@@ -145,18 +145,18 @@ module _ (env : FrontEnv) (W : List ℕ → Type 0) where
     gets-has (Ok s) = hears-has s p.row
 
   module _ (p : FrontPart) where
-    fired-has : (rest : FrontRest) (b : ControlBlock) → AllTo (Client c) (spoken env.serve (serving (after_timer b) rest.count []) (ready_of env.serve (after_timer b) (timed b))).1.segments
-    fired-has rest b = spoken-to env.serve (serving (after_timer b) rest.count []) (ready_of env.serve (after_timer b) (timed b)) (ready-to env.serve (after_timer b) (timed b))
+    fired-has : (rest : FrontRest) (b : ControlBlock) → AllTo (Client c) (spoken env.serve (serving (after_timer b) rest.count []) (serving_ready_of env.serve (after_timer b) (timed b))).1.segments
+    fired-has rest b = spoken-to env.serve (serving (after_timer b) rest.count []) (serving_ready_of env.serve (after_timer b) (timed b)) (ready-to env.serve (after_timer b) (timed b))
 
     fires-at-has : Each (IsOffer c) p.kept → (row : FrontRow) (st : FrontConn) → HasDeed (fires_at env p row st)
-    fires-at-has h row (stage.Held b) = record { segments = fired-has (rest_of p.rest) b; messages = tt }
-    fires-at-has h row (stage.Waiting b) = record { segments = fired-has (rest_of p.rest) b; messages = tt }
+    fires-at-has h row (stage.Held b) = record { segments = fired-has (front_rest p.rest) b; messages = tt }
+    fires-at-has h row (stage.Waiting b) = record { segments = fired-has (front_rest p.rest) b; messages = tt }
     fires-at-has h row (stage.Offering n e) = record { segments = tt; messages = offers-said p.kept h }
     fires-at-has h row _ = tt
 
     pub fires-has : Each (IsOffer c) p.kept → HasDeed (front_timer env p)
     fires-has h = go p.row where
-      go : (o : Option FrontRow) → HasDeed (fired_by env p o)
+      go : (o : Option FrontRow) → HasDeed (front_fired_by env p o)
       go None = tt
       go (Some row) = fires-at-has h row row.stage
 
@@ -170,17 +170,17 @@ module _ (env : FrontEnv) (W : List ℕ → Type 0) where
     asked-by-has : (from epoch : ℕ) (ask : Ask) (o : Option FrontRest) → HasDeed (asked_by env p from epoch ask o)
     asked-by-has from epoch ask None = tt
     asked-by-has from epoch ask (Some rest) =
-        let old : Deed = Says (saying (tag_sent env from epoch rest.asks rest.tag)) in
+        let old : FrontDeed = Says (front_saying (tag_sent env from epoch rest.asks rest.tag)) in
         cond_both (ask.number == rest.asks + 1) (Does (assigns env p rest from epoch ask (env.later ask))) _ HasDeed
         (λ t. record { segments = tt; messages = ((from, epoch, _, refl, tt), tt) })
         (λ t. cond_both (ask.number == rest.asks && nat_lt 0 rest.asks) old Drops HasDeed (λ u. one-said from epoch _ tt) (λ u. tt))
 
     pub asked-has : (from epoch : ℕ) (ask : Ask) → HasDeed (front_asked env p from epoch ask)
-    asked-has from epoch ask = cond_both (is_at from epoch p.row) (asked_by env p from epoch ask p.rest) Drops HasDeed (λ t. asked-by-has from epoch ask p.rest) (λ t. tt)
+    asked-has from epoch ask = cond_both (is_row_at from epoch p.row) (asked_by env p from epoch ask p.rest) Drops HasDeed (λ t. asked-by-has from epoch ask p.rest) (λ t. tt)
 
     pub ended-has : (from epoch : ℕ) (last : Final) → HasDeed (front_ended env p from epoch last)
     ended-has from epoch last = go p.row (end_answer epoch p.row) where
-      go : (o : Option FrontRow) (given : OnEnded) → HasDeed (ended_by env p from epoch last o given)
+      go : (o : Option FrontRow) (given : OnEnded) → HasDeed (front_ended_by env p from epoch last o given)
       go None given = tt
       go (Some row) (New next) = record { segments = tt; messages = ((from, epoch, body.EndedAck, refl, tt), tt) }
       go (Some row) Again = one-said from epoch body.EndedAck tt
@@ -191,12 +191,12 @@ module _ (env : FrontEnv) (W : List ℕ → Type 0) where
       Admits : Option (FrontPart × FrontTurn) → Type 0
       Admits o = o ≡ Some given → Has given.1
 
-      handed : (row : FrontRow) (rest : FrontRest) (b : ControlBlock) (o : Option (List ℕ)) → Admits (admitted_with env row rest b choice o)
+      handed : (row : FrontRow) (rest : FrontRest) (b : ControlBlock) (o : Option (List ℕ)) → Admits (front_admitted_with env row rest b choice o)
       handed row rest b None e = cc
       handed row rest b (Some path) e = let same = some-same _ given e in subst (λ (x : FrontPart × FrontTurn). Has x.1) same (record { segments = tt; messages = ((choice.node, _, _, refl, tt), tt) })
 
       at : (row : FrontRow) (st : FrontConn) → Admits (admitted_at env p choice row st)
-      at row (stage.Waiting b) e = handed row (rest_of p.rest) b (rest_of p.rest).target e
+      at row (stage.Waiting b) e = handed row (front_rest p.rest) b (front_rest p.rest).target e
       at row (stage.Held b) e = absurd (none-some given e)
       at row stage.Lent e = absurd (none-some given e)
       at row (stage.Offering n i) e = absurd (none-some given e)

@@ -8,7 +8,7 @@ use Rattle.lard_bound.specs.Units.{Whole, whole_of}
 use Rattle.lard_law_settles.proofs.KnownEverything as every
 use Rattle.lard_law_settles.proofs.KnownEverything.{known-by}
 use Rattle.lard_rules.specs.declared.machine.Machine.{Machine}
-use Rattle.lard_laws.specs.Records.{IsFile}
+use Rattle.lard_laws.specs.Records.{IsRunFile}
 use Rattle.lard_law_view.specs.Carry.{setting, tale_at}
 use Rattle.lard_law_view.specs.View.{Conn, Setting, conn}
 use Rattle.lard_files.specs.Files.{file_at}
@@ -25,7 +25,7 @@ use Rattle.lard_law_settles.proofs.EnoughRested.{all-events, free-of, free-tale,
 use Rattle.lard_law_settles.proofs.EnoughSums.{wholes}
 use Rattle.lard_law_settles.proofs.EnoughWithin.{IsWithin}
 
-module _ (config : Config) (files : List (List ℕ × List ℕ)) (checked : config_check config ≡ Ok tt) (are : All IsFile files) (m p : Machine) (w : IsWithin config files m.journal p) (q : ℕ) where
+module _ (config : Config) (files : List (List ℕ × List ℕ)) (checked : config_check config ≡ Ok tt) (are : All IsRunFile files) (m p : Machine) (w : IsWithin config files m.journal p) (q : ℕ) where
   abbrev pub x : Conn
   x = conn p q
 

@@ -15,12 +15,12 @@ use Rattle.lard_base.specs.declared.event.Event.{Event}
 use Rattle.lard_base.specs.declared.event.Event.TheVariants as event
 use Rattle.lard_base.specs.declared.place.Place.{Place}
 use Rattle.lard_base.specs.declared.place.Place.TheVariants.{Client, Front, Node}
-use Rattle.lard_client.specs.Control.{ClientBlock, aborted, is_established, is_holding, is_open, is_open_in, is_writing, opened, shut_down, written}
+use Rattle.lard_client.specs.Control.{ClientBlock, aborted, is_established, is_holding, is_client_open, is_open_in, is_writing, client_opened, shut_down, client_written}
 use Rattle.lard_rules.specs.Bounds.{HasRule}
 use Rattle.lard_rules.specs.declared.fault.Refusal.TheVariants.{NoClient}
 use Rattle.lard_rules.specs.declared.fault.StepFault.TheVariants.{Limit, Refused}
 use Rattle.lard_rules.specs.declared.machine.Machine.{Machine}
-use Rattle.lard_rules.specs.Machine.{IsReached, Passes, client_does, limit_reached, machine_step, start, told, unless_limit}
+use Rattle.lard_rules.specs.Machine.{IsReached, Passes, client_acts, limit_reached, machine_step, machine_start, machine_told, unless_limit}
 use Rattle.lard_law_view.specs.View.{ClientRules, Conn, IsMachine, IsViewed, Move, Part, Rules, Setting, conn, event_seen, grown, part_of, setting_of}
 use Rattle.lard_law_view.proofs.After.{IsAfter, step-after}
 use Rattle.lard_law_view.proofs.Carried.{carried-keep, reached-viewed}
@@ -54,9 +54,9 @@ none-of true b e = e
 none-of false b e = refl
 
 free-says : (y : ClientBlock) → y.holding ≡ false → is_holding (client_speaks y).1 ≡ false
-free-says y e = none-of (is_open (client_speaks y).1) (client_speaks y).1.holding ((speaks-keeps y).holding ∙ e)
+free-says y e = none-of (is_client_open (client_speaks y).1) (client_speaks y).1.holding ((speaks-keeps y).holding ∙ e)
 
-closed-says : (y : ClientBlock) → is_open y ≡ false → is_holding (client_speaks y).1 ≡ false
+closed-says : (y : ClientBlock) → is_client_open y ≡ false → is_holding (client_speaks y).1 ≡ false
 closed-says y shut = ap (λ o. o && (client_speaks y).1.holding) (ap is_open_in (speaks-told y).phase ∙ shut)
 
 says-holding : (y : ClientBlock) → is_holding (client_speaks y).1 ≡ true → is_holding y ≡ true
@@ -65,18 +65,18 @@ says-holding y h = holding-then y (client_speaks y).1 (inl (speaks-told y).phase
 takes-free : (x : ClientBlock) → is_holding (client_takes x).0 ≡ false
 takes-free x =
     let y : ClientBlock = record x { holding = false; held = 0; owed = x.owed || is_established x } in
-    cond_both (is_open x) y x (λ (z : ClientBlock). is_holding (client_speaks z).1 ≡ false) (λ t. free-says y refl) (λ f. closed-says x f)
+    cond_both (is_client_open x) y x (λ (z : ClientBlock). is_holding (client_speaks z).1 ≡ false) (λ t. free-says y refl) (λ f. closed-says x f)
 
 writes-holding : (x : ClientBlock) (bytes : List ℕ) → is_holding (client_writes x bytes).0 ≡ true → is_holding x ≡ true
-writes-holding x bytes = cond_both {A = ClientBlock × Turn} (is_writing x) (speaking (rec.Wrote x.c bytes ∷ []) [] (written x bytes)) (x, silent) (λ g. is_holding g.0 ≡ true → is_holding x ≡ true)
-    (λ t h. cond_both (is_writing x) _ x (λ (y : ClientBlock). is_holding y ≡ true → is_holding x ≡ true) (λ u k. k) (λ u k. k) (says-holding (written x bytes) h))
+writes-holding x bytes = cond_both {A = ClientBlock × Turn} (is_writing x) (speaking (rec.Wrote x.c bytes ∷ []) [] (client_written x bytes)) (x, silent) (λ g. is_holding g.0 ≡ true → is_holding x ≡ true)
+    (λ t h. cond_both (is_writing x) _ x (λ (y : ClientBlock). is_holding y ≡ true → is_holding x ≡ true) (λ u k. k) (λ u k. k) (says-holding (client_written x bytes) h))
     (λ t h. h)
 
 shuts-holding : (x : ClientBlock) → is_holding (client_speaks (shut_down x)).1 ≡ true → is_holding x ≡ true
-shuts-holding x h = cond_both (is_open x) _ x (λ (y : ClientBlock). is_holding y ≡ true → is_holding x ≡ true) (λ u k. k) (λ u k. k) (says-holding (shut_down x) h)
+shuts-holding x h = cond_both (is_client_open x) _ x (λ (y : ClientBlock). is_holding y ≡ true → is_holding x ≡ true) (λ u k. k) (λ u k. k) (says-holding (shut_down x) h)
 
 aborts-holding : (x : ClientBlock) → is_holding (aborted x) ≡ true → is_holding x ≡ true
-aborts-holding x = cond_both (is_open x) _ x (λ (y : ClientBlock). is_holding y ≡ true → is_holding x ≡ true) (λ u k. absurd (true≢false (sym k))) (λ u k. k)
+aborts-holding x = cond_both (is_client_open x) _ x (λ (y : ClientBlock). is_holding y ≡ true → is_holding x ≡ true) (λ u k. absurd (true≢false (sym k))) (λ u k. k)
 
 -- ---- a move: a client that holds behind it held before, or is told to
 
@@ -91,7 +91,7 @@ held-before x st there h = ap holds_there there ∙ h
 
 clients-hold : (k : Setting) → ClientRules k (Owed HoldsOn)
 clients-hold k = record {
-  opens = λ x isn iss wnd mss rule none number sound h. absurd (true≢false (sym h ∙ free-says (opened x.c isn wnd mss) refl));
+  opens = λ x isn iss wnd mss rule none number sound h. absurd (true≢false (sym h ∙ free-says (client_opened x.c isn wnd mss) refl));
   gets = λ x st path there le number sound h. inl (held-before x st there (writes-holding st.client _ h));
   writes = λ x st bytes there le number sound h. inl (held-before x st there (writes-holding st.client bytes h));
   shuts = λ x st there number sound h. inl (held-before x st there (shuts-holding st.client h));
@@ -145,13 +145,13 @@ module _ (m n : Machine) (e : Event) (v : IsViewed m) (rule : HasRule e) (is : m
 
 -- one that takes does not
 pub take-free : (m n : Machine) (d : ℕ) → machine_step m (event.Take d) ≡ Ok n → is_holder n d ≡ false
-unfolding machine_step client_does told
+unfolding machine_step client_acts machine_told
 take-free m n d is = limited (limit_reached m) is where
-  does : (o : Option Station) → client_does m (event.Take d) [] d client_takes o ≡ Ok n → is_holder n d ≡ false
+  does : (o : Option Station) → client_acts m (event.Take d) [] d client_takes o ≡ Ok n → is_holder n d ≡ false
   does None e = absurd (err-ok (Refused (NoClient d)) n e)
   does (Some x) e = subst (λ (k : Machine). is_holder k d ≡ false) (ok-same _ n e) (ap holds_there (get_inserted m.clients d (record { client = (client_takes x.client).0; iss = x.iss })) ∙ takes-free x.client)
 
-  limited : (o : Option What) → unless_limit o (client_does m (event.Take d) [] d client_takes (table.get m.clients d)) ≡ Ok n → is_holder n d ≡ false
+  limited : (o : Option What) → unless_limit o (client_acts m (event.Take d) [] d client_takes (table.get m.clients d)) ≡ Ok n → is_holder n d ≡ false
   limited None e = does (table.get m.clients d) e
   limited (Some what) e = absurd (err-ok (Limit what) n e)
 
@@ -263,7 +263,7 @@ module _ (config : Config) (files : List (List ℕ × List ℕ)) where
   -- as they take, one after the other, those that hold are to take yet
   takes-on : (cs : List ℕ) (p q : Machine) → IsReached config files p → Passes p (map event.Take cs) q → ((c : ℕ) → is_holder p c ≡ true → Has c cs) → (c : ℕ) → is_holder q c ≡ true → ⊥
   takes-on [] p q r same h c holds = h c (ap (λ (k : Machine). is_holder k c) (sym same) ∙ holds)
-  takes-on (d ∷ cs) p q r on h c holds = takes-on cs on.0 q (r.0 ++ event.Take d ∷ [], passes-more r.0 (start config files) p on.0 (event.Take d) r.1 tt on.2) on.3 (λ i held. ⊎_elim
+  takes-on (d ∷ cs) p q r on h c holds = takes-on cs on.0 q (r.0 ++ event.Take d ∷ [], passes-more r.0 (machine_start config files) p on.0 (event.Take d) r.1 tt on.2) on.3 (λ i held. ⊎_elim
       (λ (was : is_holder p i ≡ true). ⊎_elim
       (λ (same : d ≡ i). absurd (both_ways (is_holder on.0 i) (ap (is_holder on.0) (sym same) ∙ take-free p on.0 d on.2) held))
       (λ k. k)

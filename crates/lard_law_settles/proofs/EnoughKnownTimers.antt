@@ -9,14 +9,14 @@ use Rattle.lard_bound.specs.Units.{Whole}
 use Rattle.lard_client.specs.Control.{ClientBlock}
 use Rattle.lard_client.specs.declared.phase.Phase.TheVariants as phase
 use Rattle.lard_rules.specs.declared.machine.Machine.{Machine}
-use Rattle.lard_rules.specs.Bounds.{IsNumber}
+use Rattle.lard_rules.specs.Bounds.{IsConnNumber}
 use Rattle.lard_rules.specs.Machine.{IsReached}
 use Rattle.lard_law_connections.specs.BytesAgreement.{ConnAgrees, IsOpen}
 use Rattle.lard_law_connections.proofs.BytesRuns.{states-truthful}
 use Rattle.lard_laws.proofs.RecordsHolding.{Holds}
 use Rattle.lard_laws.proofs.RecordsNamed.{AreNamed}
 use Rattle.lard_law_view.specs.Carry.{setting, tale_at}
-use Rattle.lard_law_view.specs.View.{Conn, IsSound, Setting, conn}
+use Rattle.lard_law_view.specs.View.{Conn, IsConnSound, Setting, conn}
 use Rattle.lard_law_view.proofs.Carried.{reached-viewed}
 use Rattle.lard_law_settles.proofs.CourseTimingHeld.{IsSpeaking}
 use Rattle.lard_law_settles.proofs.CourseTimingRules.{KnowsTimers, TimersKnown}
@@ -40,10 +40,10 @@ module _ (config : Config) (files : List (List ℕ × List ℕ)) (small : config
   abbrev k : Setting
   k = setting config files
 
-  sound : IsSound x
+  sound : IsConnSound x
   sound = (reached-viewed config files m reached).sound q
 
-  number : (st : Station) → x.part.station ≡ Some st → IsNumber q
+  number : (st : Station) → x.part.station ≡ Some st → IsConnNumber q
   unfolding conn
   number st at = number-of x st sound at
 

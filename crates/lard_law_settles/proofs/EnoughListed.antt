@@ -4,9 +4,9 @@ use Rattle.std.specs.Prelude.{slice_get}
 use Rattle.lard_base.specs.declared.config.Config.{Config}
 use Rattle.lard_base.specs.declared.event.Event.{Event}
 use Rattle.lard_base.specs.declared.place.Place.{Place}
-use Rattle.lard_rules.specs.Bounds.{HasRule, IsNumber}
+use Rattle.lard_rules.specs.Bounds.{HasRule, IsConnNumber}
 use Rattle.lard_rules.specs.declared.machine.Machine.{Machine}
-use Rattle.lard_rules.specs.Machine.{IsReached, clocked, machine_step, told}
+use Rattle.lard_rules.specs.Machine.{IsReached, clocked, machine_step, machine_told}
 use Rattle.lard_law_view.specs.View.{IsViewed}
 use Rattle.lard_law_view.proofs.AnyShape.{AnyShape, IsAct, SomeSent, step-any}
 use Rattle.lard_law_view.proofs.Carried.{carried-keep}
@@ -22,7 +22,7 @@ use Rattle.lard_law_view.proofs.OwnRecords.{behind}
 
 -- it is of a connection with a number
 abbrev IsOfOne : Packet → Type 0
-IsOfOne p = (q : ℕ) × (conn_of p.from p.to p.bytes ≡ Some q) × IsNumber q
+IsOfOne p = (q : ℕ) × (conn_of p.from p.to p.bytes ≡ Some q) × IsConnNumber q
 
 abbrev AreOfOne : List Packet → Type 0
 AreOfOne ps = Each IsOfOne ps
@@ -37,8 +37,8 @@ lost-of-one (p ∷ net) zero h = (h.0, h.1)
 lost-of-one (p ∷ net) (suc i) h = (h.0, lost-of-one net i h.1)
 
 module _ (m : Machine) (h : AreOfOne m.net) where
-  told-of-one : (w : Machine) (e : Event) (place : Place) (o : Out) → IsAct m w e place o → AreOfOne (told w e (behind e) place o).net
-  unfolding told
+  told-of-one : (w : Machine) (e : Event) (place : Place) (o : Out) → IsAct m w e place o → AreOfOne (machine_told w e (behind e) place o).net
+  unfolding machine_told
   told-of-one w e place o act =
       Each-append IsOfOne (w.net ++ packets_of place o.segments) (packets_of place o.messages)
       (Each-append IsOfOne w.net (packets_of place o.segments) (subst AreOfOne (sym act.put.net) h) (sent-of-one place o.segments act.segments)) (sent-of-one place o.messages act.messages)

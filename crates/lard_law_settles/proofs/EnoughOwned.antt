@@ -24,7 +24,7 @@ use Rattle.lard_law_settles.proofs.SettlesFiring.{IsTimed, OfTimer, agenda-timed
 use Rattle.lard_law_settles.proofs.SettlesKeeping.{HasPacket}
 use Rattle.lard_law_settles.proofs.SettlesPackets.{on-way-there}
 use Rattle.lard_law_settles.proofs.SettlesSeats.{AreNamed, IsNamed, named-always}
-use Rattle.lard_settling.specs.Settling.{is_own, is_own_at}
+use Rattle.lard_settling.specs.Settling.{is_own_seat, is_own_at}
 
 -- ---- timers
 
@@ -41,11 +41,11 @@ own-is Front c h = refl
 own-is (Node n) c h = refl
 own-is (Client d) c h = ap (λ i. nat_eq i c) h ∙ same_number c
 
-own-none : (seats : List (Place × ℕ)) → Each Own seats → filter is_own seats ≡ [] → no_seats seats ≡ true
+own-none : (seats : List (Place × ℕ)) → Each Own seats → filter is_own_seat seats ≡ [] → no_seats seats ≡ true
 own-none [] all none = refl
 own-none (s ∷ seats) all none =
-    let own : is_own s ≡ true = own-is s.0 s.1 all.0 in
-    let some : s ∷ filter is_own seats ≡ [] = sym (ap (λ b. cond b (s ∷ filter is_own seats) (filter is_own seats)) own) ∙ none in absurd cc
+    let own : is_own_seat s ≡ true = own-is s.0 s.1 all.0 in
+    let some : s ∷ filter is_own_seat seats ≡ [] = sym (ap (λ b. cond b (s ∷ filter is_own_seat seats) (filter is_own_seat seats)) own) ∙ none in absurd cc
 
 module _ (config : Config) (files : List (List ℕ × List ℕ)) (m : Machine) (r : IsReached config files m) where
   all-own : Each Own (due m.front.dispatch (agenda_of m.journal))

@@ -8,13 +8,13 @@ use Rattle.lard_base.specs.declared.place.Place.TheVariants.{Front, Node}
 use Rattle.lard_base.specs.declared.place.TimerKind.TheVariants as kind
 use Rattle.lard_bound.specs.Seats.{seat_by, seat_in, seat_of}
 use Rattle.lard_rules.specs.declared.machine.Machine.{Machine}
-use Rattle.lard_rules.specs.Bounds.{IsNumber}
+use Rattle.lard_rules.specs.Bounds.{IsConnNumber}
 use Rattle.lard_rules.specs.Machine.{IsReached, node_at}
 use Rattle.lard_law_connections.specs.Awaits.{NodeComes, RowComes, StayComes}
 use Rattle.lard_law_connections.proofs.AwaitsRuns.{connections-await}
 use Rattle.lard_laws.specs.Homes.{KnowsOf, NoOtherKnows, RowHomes, StageHomes}
 use Rattle.lard_laws.proofs.HomesRuns.{connections-have-one-home}
-use Rattle.lard_law_connections.specs.Kept.{AsksFor, FrontRowKeeps, FrontStageKeeps, HereKeeps, IsFetch, NodeRowKeeps, NodeStageKeeps}
+use Rattle.lard_law_connections.specs.Kept.{AsksFor, FrontRowKeeps, FrontStageKeeps, HereKeeps, IsFetchFromOther, NodeRowKeeps, NodeStageKeeps}
 use Rattle.lard_law_connections.specs.KeptLaws.{AnyNode}
 use Rattle.lard_law_connections.proofs.KeptRuns.{connections-are-kept}
 use Rattle.lard_law_connections.specs.Places.{IsThere, Owning, Owns, Sits, StageSits, owning}
@@ -34,11 +34,11 @@ use Rattle.lard_law_settles.proofs.CourseRenewing.{BackKept, IsAsk, IsFetched, I
 use Rattle.lard_law_settles.proofs.CourseTimingClients.{IsDecided}
 use Rattle.lard_endpoint.specs.Control.{ControlBlock}
 use Rattle.lard_files.specs.Files.{file_at}
-use Rattle.lard_rules.specs.Front.{FrontPart, rest_of}
+use Rattle.lard_rules.specs.Front.{FrontPart, front_rest}
 use Rattle.lard_handoff_back.specs.declared.row.BackConn.{BackConn}
 use Rattle.lard_handoff_back.specs.declared.row.BackConn.TheVariants as back
 use Rattle.lard_handoff_back.specs.declared.row.BackRow.{BackRow}
-use Rattle.lard_handoff_back.specs.Back.{endpoint_of}
+use Rattle.lard_handoff_back.specs.Back.{back_endpoint}
 use Rattle.lard_handoff_front.specs.declared.row.FrontConn.{FrontConn}
 use Rattle.lard_handoff_front.specs.declared.row.FrontConn.TheVariants as stage
 use Rattle.lard_handoff_front.specs.declared.row.FrontRow.{FrontRow}
@@ -101,7 +101,7 @@ module _ (p : Part) (n e : ℕ) (is : (p.nodes n).row ≡ Some (record { stage =
         let node : m ≡ n = eqb-true m n t in
         let epoch : e ≡ d = subst (KnowsOf d) is (subst (λ (i : ℕ). KnowsOf d (p.nodes i).row) node its) in
         let with_it : IsWith told n e row.stage = subst (λ (i : ℕ). IsWith told i e row.stage) node (subst (λ (i : ℕ). IsWith told m i row.stage) (sym epoch) with_) in
-        Left told (seat-with p n e told row at with_it ∙ away-ended told n e (rest_of p.front.rest).count (p.nodes n) is)
+        Left told (seat-with p n e told row at with_it ∙ away-ended told n e (front_rest p.front.rest).count (p.nodes n) is)
 
   at-stage : (row : FrontRow) → p.front.row ≡ Some row → (c : FrontConn) → row.stage ≡ c → StageHomes p.nodes row.ended_by c → IsTold (seat_of p) n e
   unfolding seat_of
@@ -121,7 +121,7 @@ module _ (p : Part) (n e : ℕ) (is : (p.nodes n).row ≡ Some (record { stage =
 
 -- ---- what the front end keeps
 
-module _ (c : ℕ) (number : IsNumber c) where
+module _ (c : ℕ) (number : IsConnNumber c) where
   offered : (n e : ℕ) (ks : List Kept) → e < 2 ^ 16 → AreHeld Front ks → (parts : EndpointParts) → ks ≡ record { kind = kind.Offer; r = 0; to = Node n; bytes = message c e (body.Offer parts) } ∷ [] → OfferKept c ks (stage.Offering n (record { 0 = e }))
   offered n e ks early held parts is =
       let its : AreHeld Front (record { kind = kind.Offer; r = 0; to = Node n; bytes = message c e (body.Offer parts) } ∷ []) = subst (AreHeld Front) is held in
@@ -169,7 +169,7 @@ module _ (c : ℕ) (number : IsNumber c) where
         let may = ask-may c e number early s.asks h.0 h.1 paths low (each-all IsPath paths (paths-are s.batch)) held.0.3 in
         inr (record { queue = may.0; size = h.1; is = kept ∙ (λ i. record { kind = kind.Ask; r = 0; to = Front; bytes = may.1 i } ∷ []); may = may.2 })
 
-    fetched : (top : ℕ) → top ≤ 2 ^ 32 → (ks : List Kept) → AreBelow top ks → AreHeld (Node n) ks → AllByRecursion (IsFetch AnyNode files c e n) ks → AllByRecursion (IsFetched files c e) ks
+    fetched : (top : ℕ) → top ≤ 2 ^ 32 → (ks : List Kept) → AreBelow top ks → AreHeld (Node n) ks → AllByRecursion (IsFetchFromOther AnyNode files c e n) ks → AllByRecursion (IsFetched files c e) ks
     fetched top low [] below held h = tt
     fetched top low (k ∷ ks) below held h =
         let f = h.0 in
@@ -179,7 +179,7 @@ module _ (c : ℕ) (number : IsNumber c) where
           fetched top low ks below.1 held.1 h.1,
         )
 
-    stayed : (o : Option Stay) → records.HereKeeps (endpoint_of p.row) o → StayComes files p o → HereKeeps AnyNode files c e n p o → ((s : Stay) → o ≡ Some s → (b : ControlBlock) × BothKeep b s) → StayKept files c e p o
+    stayed : (o : Option Stay) → records.HereKeeps (back_endpoint p.row) o → StayComes files p o → HereKeeps AnyNode files c e n p o → ((s : Stay) → o ≡ Some s → (b : ControlBlock) × BothKeep b s) → StayKept files c e p o
     stayed None r comes h both = absurd h
     stayed (Some s) r comes h both =
         let y = both s refl in
@@ -193,7 +193,7 @@ module _ (c : ℕ) (number : IsNumber c) where
     staged : (st : BackConn) → p.row ≡ Some (record { stage = st; epoch = record { 0 = e } }) → RowComes files p (Some (record { stage = st; epoch = record { 0 = e } })) → NodeStageKeeps AnyNode files c e n p st → StageKept files c e p st
     staged (back.Here b) is comes h =
         let all : (o : Option Stay) → p.stay ≡ o → (s : Stay) → o ≡ Some s → (d : ControlBlock) × BothKeep d s =
-        λ o at s some. (b, subst (records.HereKeeps (Some b)) (at ∙ some) (subst (λ (r : Option BackRow). records.HereKeeps (endpoint_of r) p.stay) is keeps.here)) in
+        λ o at s some. (b, subst (records.HereKeeps (Some b)) (at ∙ some) (subst (λ (r : Option BackRow). records.HereKeeps (back_endpoint r) p.stay) is keeps.here)) in
         stayed p.stay keeps.here comes h (all p.stay refl)
     staged back.Out is comes h = absurd h
     staged back.Ended is comes h =
@@ -210,7 +210,7 @@ module _ (c : ℕ) (number : IsNumber c) where
 
 -- ---- in every state
 
-module _ (config : Config) (files : List (List ℕ × List ℕ)) (m : Machine) (reached : IsReached config files m) (holds : Holds m) (named : AreNamed (file_at files)) (q : ℕ) (number : IsNumber q) where
+module _ (config : Config) (files : List (List ℕ × List ℕ)) (m : Machine) (reached : IsReached config files m) (holds : Holds m) (named : AreNamed (file_at files)) (q : ℕ) (number : IsConnNumber q) where
   front-is : RowKept q (conn m q).part.front.kept (conn m q).part.front.row
   unfolding conn part_of
   front-is = front-kept q number (conn m q).part.front (owning (tale_at (conn m q))) (conn m q).part.nodes (holds.parts.front q).kept (each-placed config files m reached q).sits (connections-are-kept config files m reached q).front

@@ -12,13 +12,13 @@ use Rattle.lard_bound.specs.Units.{tellers, whole_of}
 use Rattle.lard_bound.specs.Seats.{seat_of}
 use Rattle.lard_rules.specs.declared.machine.Machine.{Machine}
 use Rattle.lard_rules.specs.Machine.{machine_step}
-use Rattle.lard_laws.specs.Records.{IsFile, IsGiven}
+use Rattle.lard_laws.specs.Records.{IsRunFile, IsScheduled}
 use Rattle.lard_laws.proofs.RecordsHolding.{Holds}
 use Rattle.lard_laws.proofs.RecordsNamed.{AreNamed, files-named}
 use Rattle.lard_laws.proofs.RecordsReached.{run-holds}
 use Rattle.lard_law_view.specs.Carry.{setting, tale_at}
 use Rattle.lard_client.specs.Control.{is_holding}
-use Rattle.lard_law_view.specs.View.{Conn, Move, Rules, Setting, Spells, conn, grown, part_of, setting_of}
+use Rattle.lard_law_view.specs.View.{Conn, Move, Rules, Setting, SpellsMessage, conn, grown, part_of, setting_of}
 use Rattle.lard_law_view.proofs.Carried.{reached-viewed}
 use Rattle.lard_law_settles.proofs.KnownEverything.{is-set, setting-is}
 use Rattle.lard_law_view.proofs.Steps.{IsShown}
@@ -82,7 +82,7 @@ came-also P Q ss h f = go (came_in ss) h where
   go None h = tt
   go (Some l) h = f l h
 
-module _ (config : Config) (files : List (List ℕ × List ℕ)) (checked : config_check config ≡ Ok tt) (are : All IsFile files) (m : Machine) where
+module _ (config : Config) (files : List (List ℕ × List ℕ)) (checked : config_check config ≡ Ok tt) (are : All IsRunFile files) (m : Machine) where
   abbrev pub Good : Machine → Type 0
   Good p = IsWithin config files m.journal p × OfAll Second p
 
@@ -95,8 +95,8 @@ module _ (config : Config) (files : List (List ℕ × List ℕ)) (checked : conf
     pub free-tale : (q : ℕ) → (tale_at (conn p q)).touched ≡ false
     free-tale q = known.free-tale config files (usable config checked).stream p w.reached q (w.untouched q)
 
-    pub all-events : All IsGiven w.reached.0
-    all-events = each-all IsGiven w.reached.0 w.given
+    pub all-events : All IsScheduled w.reached.0
+    all-events = each-all IsScheduled w.reached.0 w.given
 
     pub holds : Holds p
     holds = run-holds config files w.reached.0 p checked are all-events w.reached.1
@@ -122,7 +122,7 @@ module _ (config : Config) (files : List (List ℕ × List ℕ)) (checked : conf
     all-fetches = fetches config files checked p w.reached holds (subst (λ (fs : List (List ℕ × List ℕ)). AreNamed (file_at fs)) (sym (is-set config files p w.reached).files_are) (files-named files are))
         (config-of config files p w.reached) free-tale
 
-    spells-of : (q e r : ℕ) (path bytes : List ℕ) → Spells q e (body.Fetch r path) bytes → Spells (conn p q).c e (body.Fetch r path) bytes
+    spells-of : (q e r : ℕ) (path bytes : List ℕ) → SpellsMessage q e (body.Fetch r path) bytes → SpellsMessage (conn p q).c e (body.Fetch r path) bytes
     unfolding conn
     spells-of q e r path bytes s = s
 
@@ -214,5 +214,5 @@ module _ (config : Config) (files : List (List ℕ × List ℕ)) (checked : conf
     }
 
     -- so an ordinary settle with enough rounds ends with nothing left
-    pub rested : (w : Is config files m) → Each IsGiven w.reached.0 → IsOrdinary m.journal → (rounds : ℕ) → settling_bound (file_at files) m.journal ≤ rounds → (n : Machine) (s : Settled) → settled m rounds ≡ Ok (n, s) → EndsQuiet n s
+    pub rested : (w : Is config files m) → Each IsScheduled w.reached.0 → IsOrdinary m.journal → (rounds : ℕ) → settling_bound (file_at files) m.journal ≤ rounds → (n : Machine) (s : Settled) → settled m rounds ≡ Ok (n, s) → EndsQuiet n s
     rested w given ordinary rounds paid n s is = within-quiet config files m w rounds events (settles-within w rounds) given ordinary paid n s is

@@ -13,10 +13,10 @@ use Rattle.lard_base.specs.declared.place.Place.{Place}
 use Rattle.lard_bound.specs.Units.{Whole}
 use Rattle.lard_rules.specs.Bounds.{HasRule}
 use Rattle.lard_rules.specs.declared.machine.Machine.{Machine}
-use Rattle.lard_rules.specs.Machine.{IsReached, Passes, machine_step, start}
+use Rattle.lard_rules.specs.Machine.{IsReached, Passes, machine_step, machine_start}
 use Rattle.lard_law_view.proofs.Carried.{reached-viewed}
 use Rattle.lard_law_view.proofs.Runs.{passes-more}
-use Rattle.lard_law_settles.specs.CourseGame.{Task, Waits, game, seats_due}
+use Rattle.lard_law_settles.specs.CourseGame.{Task, TaskWaits, game, seats_due}
 use Rattle.lard_law_settles.proofs.CourseWays.{Takes, Ways, step-ways}
 use Rattle.lard_rounds.specs.Rounds.{FireOn, Game, IsIdle, Item, Job, Packet, Round, Rounds, Shoots, Works}
 use Rattle.lard_rounds.proofs.Listing.{DeliverOn, IsBut, IsReady, Leaves, Plays, Told, items_of, told-works}
@@ -38,7 +38,7 @@ module _ (config : Config) (files : List (List ℕ × List ℕ)) (all : ℕ → 
   -- ---- single steps
 
   reached-more : (m n : Machine) (e : Event) → Reached m → HasRule e → machine_step m e ≡ Ok n → Reached n
-  reached-more m n e r rule is = (r.0 ++ e ∷ [], passes-more r.0 (start config files) m n e r.1 rule is)
+  reached-more m n e r rule is = (r.0 ++ e ∷ [], passes-more r.0 (machine_start config files) m n e r.1 rule is)
 
   leaves : (m n : Machine) (e : Event) → Reached m → HasRule e → machine_step m e ≡ Ok n → Leaves G (Takes e) m n
   leaves m n e r rule is = let w : Ways m e n = step-ways m (reached-viewed config files m r) e n rule is in record { more = w.more; others = w.others; way = w.way }
@@ -95,7 +95,7 @@ module _ (config : Config) (files : List (List ℕ × List ℕ)) (all : ℕ → 
       nodes-are : k.config.nodes ≡ config.nodes
       nodes-are = ap (λ (c : Config). c.nodes) (same-config all Good config files k b.is)
 
-      none-left : (t : Task) → Waits e.is.plain t → ⊥
+      none-left : (t : Task) → TaskWaits e.is.plain t → ⊥
       none-left = none-waits all Good config files l e.is (λ i up low. e.done i up (omega (arith, low, nodes-are)))
 
       told : Told G Reached plays ks e.tasks w.plain e.is.plain

@@ -3,7 +3,7 @@ use Rattle.std.proofs.Common.{◌≡◌, List, [], ℕ, inl, inr, ⊎_elim, Ok, 
 use Rattle.lard_base.specs.declared.event.Event.{Event}
 use Rattle.lard_rules.specs.declared.machine.Machine.{Machine}
 use Rattle.lard_rules.specs.Machine.{machine_step}
-use Rattle.lard_law_view.specs.View.{Conn, Goes, IsViewed, Move, NodeRules, Rules, Setting, conn, grown, node_does, nothing_said, packet_seen, reads_first, setting_of, stands}
+use Rattle.lard_law_view.specs.View.{Conn, GoesBy, IsViewed, Move, NodeRules, Rules, Setting, conn, grown, node_does, nothing_said, packet_seen, reads_first, setting_of, stands}
 use Rattle.lard_law_view.proofs.Steps.{IsShown, step_comes}
 use Rattle.lard_history.proofs.Each.{Each-weaker}
 use Rattle.lard_history.specs.Own.{Came, Row, Seen}
@@ -14,12 +14,12 @@ use Rattle.lard_law_settles.proofs.EnoughWarming.{IsRounds, Warms, rounds-rule}
 use Rattle.lard_law_settles.proofs.EnoughWording.{First, IsCalmConn, IsRoundsSeen, Second, WarmsOwed, clients-warm, fronts-warm, node-warms, silent-warms}
 use Rattle.lard_law_view.proofs.Deliveries.{IsHead}
 
-deed-warms : (x : Conn) (n : ℕ) (heads : List Seen) (d : node.Deed) → Warms First Second x (node_does x n heads d)
+deed-warms : (x : Conn) (n : ℕ) (heads : List Seen) (d : node.NodeDeed) → Warms First Second x (node_does x n heads d)
 deed-warms x n heads node.Drops = node-warms x (node_does x n heads node.Drops) n refl refl
 deed-warms x n heads (node.Says messages) = node-warms x (node_does x n heads (node.Says messages)) n refl refl
 deed-warms x n heads (node.Does given) = node-warms x (node_does x n heads (node.Does given)) n refl refl
 
-read-warms : (x : Conn) (n : ℕ) (r : Rec) (d : node.Deed) → Warms First Second x (reads_first r (node_does x n [] d))
+read-warms : (x : Conn) (n : ℕ) (r : Rec) (d : node.NodeDeed) → Warms First Second x (reads_first r (node_does x n [] d))
 read-warms x n r node.Drops = node-warms x (reads_first r (node_does x n [] node.Drops)) n refl refl
 read-warms x n r (node.Says messages) = node-warms x (reads_first r (node_does x n [] (node.Says messages))) n refl refl
 read-warms x n r (node.Does given) = node-warms x (reads_first r (node_does x n [] (node.Does given))) n refl refl
@@ -61,7 +61,7 @@ rounds-seen e of (Came l) h = tt
 
 -- each connection stays as it is, or makes a move that warms
 pub step-warms : (m n : Machine) (e : Event) → IsViewed m → ((q : ℕ) → IsCalmConn (conn m q)) → IsRounds e → machine_step m e ≡ Ok n
-    → (q : ℕ) → Goes (λ x v. IsShown m e x v × Warms First Second x v) (conn m q) (conn n q)
+    → (q : ℕ) → GoesBy (λ x v. IsShown m e x v × Warms First Second x v) (conn m q) (conn n q)
 step-warms m n e view calm of is q = ⊎_elim
     (λ (same : conn n q ≡ conn m q). inl same)
     (λ (g : (v : Move) × (IsShown m e (conn m q) v × WarmsOwed (conn m q) v) × (conn n q ≡ grown (conn m q) v)).

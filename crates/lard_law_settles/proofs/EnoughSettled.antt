@@ -3,7 +3,7 @@ use Rattle.std.proofs.Common.{◌≡◌, ◌≤◌, ℕ, suc, ◌+◌, ◌*◌, 
 use Rattle.lard_base.specs.declared.config.Config.{Config}
 use Rattle.lard_bound.proofs.Paying.{enough}
 use Rattle.lard_bound.specs.Bound.{settling_bound}
-use Rattle.lard_bound.specs.Units.{Whole, units_of}
+use Rattle.lard_bound.specs.Units.{Whole, machine_units}
 use Rattle.lard_rules.specs.declared.fault.StepFault.{StepFault}
 use Rattle.lard_rules.specs.declared.machine.Machine.{Machine}
 use Rattle.lard_law_settles.specs.CourseGame.{game}
@@ -18,7 +18,7 @@ use Rattle.lard_law_settles.proofs.SettlesFiring.{take-inner}
 use Rattle.lard_law_settles.proofs.SettlesInside.{quiet-left}
 use Rattle.lard_settling.specs.declared.settled.Settled.{Settled}
 use Rattle.lard_settling.specs.declared.settled.Settled.TheVariants.{Quiet}
-use Rattle.lard_settling.specs.Settling.{Stop, all_inner, answer, closed_by, is_quiet, left, rounds_from, settled, settled_from, takes}
+use Rattle.lard_settling.specs.Settling.{Stop, all_inner, settle_answer, closed_by, is_quiet, settle_left, rounds_from, settled, settled_from, takes}
 use Rattle.lard_settling.specs.Steps.{settle_begun}
 use Rattle.lard_settling.proofs.Written.{written}
 
@@ -42,10 +42,10 @@ module _ (config : Config) (files : List (List ℕ × List ℕ)) (m : Machine) (
 
   module _ (Begun Between Good : Machine → Type 0) (h : SettlesBy Begun Between Good) (paid : settling_bound (file_at files) m.journal ≤ rounds) where
     -- two rounds behind the takes few units are left
-    few-left : (r : ℕ) → suc (suc r) ≡ rounds → (p : Machine) → Good p → (5 + 1 + 3) * (units_of all p + 1) ≤ r
+    few-left : (r : ℕ) → suc (suc r) ≡ rounds → (p : Machine) → Good p → (5 + 1 + 3) * (machine_units all p + 1) ≤ r
     few-left r is p good =
         let few = units-few (file_at files) m.journal p (h.modest p good) in
-        let pays : 9 * (units_of all p + 1) + 2 ≤ settling_bound (file_at files) m.journal = enough _ _ _ (units_of all p) few in
+        let pays : 9 * (machine_units all p + 1) + 2 ≤ settling_bound (file_at files) m.journal = enough _ _ _ (machine_units all p) few in
         omega (arith, is, pays, paid)
 
     comes-quiet : (r : ℕ) → suc (suc r) ≡ rounds → (p q : Machine) → Begun p → Rounds (game all Good) (suc (suc r)) p q → is_quiet q ≡ true
@@ -71,7 +71,7 @@ module _ (config : Config) (files : List (List ℕ × List ℕ)) (m : Machine) (
     closed-quiet t v begun (Err stop) is = tt
     closed-quiet t v begun (Ok (n, done)) is =
         let quiet = rounds-quiet t n v done begun is in
-        (closing-quiet n done (left n) ∙ quiet, done, ap (answer done) (quiet-left n quiet))
+        (closing-quiet n done (settle_left n) ∙ quiet, done, ap (settle_answer done) (quiet-left n quiet))
 
     from-quiet : (n : Machine) (v : Is config files n) → settle_begun m rounds ≡ Ok n → Closes (settled_from n rounds)
     from-quiet n v began = go (all_inner n (takes n)) refl where

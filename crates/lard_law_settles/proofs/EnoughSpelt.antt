@@ -4,8 +4,8 @@ use Rattle.std.proofs.Common.{◌≡◌, ◌<◌, ◌^◌, ℕ, List, [], ◌∷
 use Rattle.std.specs.Int.{to_be_bytes, w32}
 use Rattle.std.specs.List.{flat_map}
 use Rattle.lard_base.specs.declared.parts.EndpointParts.{EndpointParts}
-use Rattle.lard_rules.specs.Bounds.{IsNumber}
-use Rattle.lard_law_connections.specs.Places.{Head, head_of}
+use Rattle.lard_rules.specs.Bounds.{IsConnNumber}
+use Rattle.lard_law_connections.specs.Places.{Head, message_head}
 use Rattle.lard_law_connections.proofs.PlacesHeads.{spelled-some}
 use Rattle.lard_laws.proofs.RecordsLetters.{IsSpelled}
 use Rattle.lard_law_settles.proofs.CourseRenewing.{of_conn}
@@ -15,8 +15,8 @@ use Rattle.lard_message.specs.declared.kind.Kind.TheVariants as kind
 use Rattle.lard_message.specs.declared.message.Body.{Body}
 use Rattle.lard_message.specs.declared.message.Body.TheVariants as body
 use Rattle.lard_message.specs.declared.message.Message.{Message}
-use Rattle.lard_message.specs.Kinds.{number_of, version_of}
-use Rattle.lard_message.specs.Message.{Fits, IsMessage, IsOfTable, IsPath, body_bytes, counted, header_bytes, kind_of, spelled_message}
+use Rattle.lard_message.specs.Kinds.{kind_number, version_of}
+use Rattle.lard_message.specs.Message.{FitsFields, IsMessage, IsOfTable, IsPath, body_bytes, counted_bytes, header_bytes, kind_of, spelled_message}
 use Rattle.lard_message.proofs.Fields.{some_same}
 use Rattle.lard_rules.specs.Node.{message}
 
@@ -30,7 +30,7 @@ first_of (b ∷ bs) = b
 module _ (x : Message) (s : IsSpelled (spelled_message x)) where
   pub same-kind : kind_of s.message.body ≡ kind_of x.body
   same-kind =
-      some_same (kind_of s.message.body) (kind_of x.body) (ap kind_in (sym (spelled-some s.message)) ∙ ap (λ (bs : List ℕ). kind_in (head_of bs)) s.spelled ∙ ap kind_in (spelled-some x))
+      some_same (kind_of s.message.body) (kind_of x.body) (ap kind_in (sym (spelled-some s.message)) ∙ ap (λ (bs : List ℕ). kind_in (message_head bs)) s.spelled ∙ ap kind_in (spelled-some x))
 
   pub same-body : body_bytes s.message.body ≡ body_bytes x.body
   unfolding spelled_message
@@ -38,15 +38,15 @@ module _ (x : Message) (s : IsSpelled (spelled_message x)) where
 
 respelled : (c e : ℕ) (a b : Body) → kind_of a ≡ kind_of b → body_bytes a ≡ body_bytes b → message c e a ≡ message c e b
 unfolding spelled_message
-respelled c e a b kinds same = λ i. header_bytes (version_of (kinds i)) (number_of (kinds i)) c e (length (same i)) ++ same i
+respelled c e a b kinds same = λ i. header_bytes (version_of (kinds i)) (kind_number (kinds i)) c e (length (same i)) ++ same i
 
-module _ (c e : ℕ) (number : IsNumber c) (early : e < 2 ^ 16) where
-  may : (b : Body) → IsOfTable b → Fits b → IsMessage (of_conn c e b)
+module _ (c e : ℕ) (number : IsConnNumber c) (early : e < 2 ^ 16) where
+  may : (b : Body) → IsOfTable b → FitsFields b → IsMessage (of_conn c e b)
   may b table fits = record { some_connection = number.0; connection = number.1; epoch = early; table = table; fits = fits }
 
   pub offer-may : (parts : EndpointParts) → IsSpelled (message c e (body.Offer parts)) → (p : EndpointParts) × (message c e (body.Offer parts) ≡ message c e (body.Offer p)) × IsMessage (of_conn c e (body.Offer p))
   offer-may parts s = go s.message.body (same-kind (of_conn c e (body.Offer parts)) s) (same-body (of_conn c e (body.Offer parts)) s) s.is.table s.is.fits where
-    go : (b : Body) → kind_of b ≡ kind.Offer → body_bytes b ≡ body_bytes (body.Offer parts) → IsOfTable b → Fits b
+    go : (b : Body) → kind_of b ≡ kind.Offer → body_bytes b ≡ body_bytes (body.Offer parts) → IsOfTable b → FitsFields b
         → (p : EndpointParts) × (message c e (body.Offer parts) ≡ message c e (body.Offer p)) × IsMessage (of_conn c e (body.Offer p))
     go (body.Offer p) k same table fits = (p, respelled c e (body.Offer parts) (body.Offer p) refl (sym same), may (body.Offer p) table fits)
     go body.Taken k same table fits = absurd cc
@@ -64,7 +64,7 @@ module _ (c e : ℕ) (number : IsNumber c) (early : e < 2 ^ 16) where
 
   pub ended-may : (last : Final) (count : ℕ) → IsSpelled (message c e (told_end last count)) → (l : Final) × (n : ℕ) × (message c e (told_end last count) ≡ message c e (told_end l n)) × IsMessage (of_conn c e (told_end l n))
   ended-may last count s = go s.message.body (same-kind (of_conn c e (told_end last count)) s) (same-body (of_conn c e (told_end last count)) s) s.is.table s.is.fits where
-    go : (b : Body) → kind_of b ≡ kind.Ended → body_bytes b ≡ body_bytes (told_end last count) → IsOfTable b → Fits b
+    go : (b : Body) → kind_of b ≡ kind.Ended → body_bytes b ≡ body_bytes (told_end last count) → IsOfTable b → FitsFields b
         → (l : Final) × (n : ℕ) × (message c e (told_end last count) ≡ message c e (told_end l n)) × IsMessage (of_conn c e (told_end l n))
     go (body.Ended reason snd rcv n) k same table fits =
         let l : Final = record { reason = reason; snd = record { 0 = snd }; rcv = record { 0 = rcv } } in
@@ -98,7 +98,7 @@ module _ (c e : ℕ) (number : IsNumber c) (early : e < 2 ^ 16) where
   pub ask-may : (n queue size : ℕ) (paths : List (List ℕ)) → n < 2 ^ 32 → All IsPath paths → IsSpelled (message c e (body.Ask n queue size paths))
       → (q : ℕ) × (message c e (body.Ask n queue size paths) ≡ message c e (body.Ask n q size paths)) × IsMessage (of_conn c e (body.Ask n q size paths))
   ask-may n queue size paths low named s = go s.message.body (same-kind (of_conn c e (body.Ask n queue size paths)) s) (same-body (of_conn c e (body.Ask n queue size paths)) s) s.is.table s.is.fits where
-    go : (b : Body) → kind_of b ≡ kind.Ask → body_bytes b ≡ body_bytes (body.Ask n queue size paths) → IsOfTable b → Fits b
+    go : (b : Body) → kind_of b ≡ kind.Ask → body_bytes b ≡ body_bytes (body.Ask n queue size paths) → IsOfTable b → FitsFields b
         → (q : ℕ) × (message c e (body.Ask n queue size paths) ≡ message c e (body.Ask n q size paths)) × IsMessage (of_conn c e (body.Ask n q size paths))
     go (body.Ask m q z ps) k same table fits =
         let queues : to_be_bytes w32 q ≡ to_be_bytes w32 queue = ap (λ (bs : List ℕ). take 4 (drop 4 bs)) same in
@@ -108,7 +108,7 @@ module _ (c e : ℕ) (number : IsNumber c) (early : e < 2 ^ 16) where
         let some = table.1 in
         let within = table.2 in (
           q,
-          respelled c e (body.Ask n queue size paths) (body.Ask n q size paths) refl (λ i. to_be_bytes w32 n ++ sym queues i ++ size ∷ length paths ∷ flat_map counted paths),
+          respelled c e (body.Ask n queue size paths) (body.Ask n q size paths) refl (λ i. to_be_bytes w32 n ++ sym queues i ++ size ∷ length paths ∷ flat_map counted_bytes paths),
           may (body.Ask n q size paths) (omega (arith, few, sizes), omega (arith, some, lengths), omega (arith, within, lengths, sizes), named) (low, fits.1),
         )
     go body.Taken k same table fits = absurd cc

@@ -9,11 +9,11 @@ use Rattle.lard_base.specs.declared.config.Config.{Config}
 use Rattle.lard_base.specs.declared.event.Event.{Event}
 use Rattle.lard_base.specs.declared.event.Event.TheVariants as event
 use Rattle.lard_block.specs.Blocks.{blocks}
-use Rattle.lard_bound.specs.Bound.{IsOrdinary, bytes_of, opener_step, openers, requests_of, settling_bound, total_of}
+use Rattle.lard_bound.specs.Bound.{IsOrdinary, bytes_both_ways, opener_step, openers, requests_of, settling_bound, total_of}
 use Rattle.lard_rules.specs.declared.fault.StepFault.{StepFault}
 use Rattle.lard_rules.specs.declared.machine.Machine.{Machine}
-use Rattle.lard_rules.specs.Machine.{start}
-use Rattle.lard_laws.specs.Records.{IsGiven}
+use Rattle.lard_rules.specs.Machine.{machine_start}
+use Rattle.lard_laws.specs.Records.{IsScheduled}
 use Rattle.lard_law_view.proofs.Carried.{reached-viewed}
 use Rattle.lard_files.specs.Files.{file_at}
 use Rattle.lard_history.proofs.Each.{Each, Each-append, each_append}
@@ -26,7 +26,7 @@ use Rattle.lard_law_settles.proofs.EnoughBeside.{Is, err-ok, inner-plain, ok-sam
 use Rattle.lard_law_settles.proofs.EnoughSettled.{EndsQuiet}
 use Rattle.lard_law_settles.proofs.EnoughTelling.{PassesOver, inner-over, openers-over, touched-over, wrote-over}
 use Rattle.lard_law_settles.proofs.EnoughWithin.{opener-steps, touched-steps, wrote-steps}
-use Rattle.lard_law_settles.specs.Enough.{MayLeave}
+use Rattle.lard_law_settles.specs.Enough.{MayLeaveUnsettled}
 use Rattle.lard_law_settles.proofs.SettlesEvents.{begun-is, either-kind, plain-done, plain-rule}
 use Rattle.lard_law_settles.proofs.SettlesFiring.{IsInner, deliver-inner, disk-inner, firings-inner, inner-rule, take-inner}
 use Rattle.lard_law_settles.proofs.SettlesGiven.{InnerRows, StepRows, inner-rows, step-rows}
@@ -36,19 +36,19 @@ use Rattle.lard_settling.proofs.Plain.{AreUnmarked, is_mark}
 use Rattle.lard_settling.proofs.Written.{written}
 use Rattle.lard_settling.specs.declared.settled.Settled.{Settled}
 use Rattle.lard_settling.specs.declared.settled.Settled.TheVariants.{Quiet}
-use Rattle.lard_settling.specs.Events.{Goes, LeadsTo, MayCome, event_step, settled_to}
-use Rattle.lard_settling.specs.Settling.{Stop, all_inner, answer, closed_by, is_quiet, left, rounds_from, settled, settled_from, takes}
+use Rattle.lard_settling.specs.Events.{GoesThrough, LeadsTo, MayCome, event_step, settled_to}
+use Rattle.lard_settling.specs.Settling.{Stop, all_inner, settle_answer, closed_by, is_quiet, settle_left, rounds_from, settled, settled_from, takes}
 use Rattle.lard_settling.specs.Steps.{closing, inner_step, settle_begun, settle_closed}
 use Rattle.lard_settling.specs.Written.{is_settle}
 
 -- ---- records that leave nothing
 
 module _ (files : FilesAt) where
-  unmarked-may : (past : List Rec) (r : Rec) → is_mark r ≡ false → MayLeave files past r
+  unmarked-may : (past : List Rec) (r : Rec) → is_mark r ≡ false → MayLeaveUnsettled files past r
   unmarked-may past (rec.Unsettled done left) h = cc
   unmarked-may past _ h = tt
 
-  rows-may : (past rs : List Rec) → AreUnmarked rs → EachMay (MayLeave files) past rs
+  rows-may : (past rs : List Rec) → AreUnmarked rs → EachMay (MayLeaveUnsettled files) past rs
   rows-may past [] h = tt
   rows-may past (r ∷ rs) h = (unmarked-may past r h.0, rows-may (past ++ r ∷ []) rs h.1)
 
@@ -69,8 +69,8 @@ module _ (files : FilesAt) where
       let clients : length (openers K) ≡ length (openers J) = ap length s.opened in
       let requests : total_of (requests_of K) (openers K) ≡ total_of (requests_of J) (openers J) =
       total-same (requests_of K) (requests_of J) (λ c. ap (λ bytes. length (blocks bytes)) (s.written c)) (openers K) ∙ ap (total_of (requests_of J)) s.opened in
-      let bytes : total_of (bytes_of files K) (openers K) ≡ total_of (bytes_of files J) (openers J) =
-      total-same (bytes_of files K) (bytes_of files J) (λ c. ap (λ bytes. length bytes + length (answer_bytes files bytes)) (s.written c)) (openers K) ∙ ap (total_of (bytes_of files J)) s.opened in
+      let bytes : total_of (bytes_both_ways files K) (openers K) ≡ total_of (bytes_both_ways files J) (openers J) =
+      total-same (bytes_both_ways files K) (bytes_both_ways files J) (λ c. ap (λ bytes. length bytes + length (answer_bytes files bytes)) (s.written c)) (openers K) ∙ ap (total_of (bytes_both_ways files J)) s.opened in
       omega (arith, clients, requests, bytes)
 
   ordinary-same : (J K : List Rec) → Same J K → IsOrdinary K → IsOrdinary J
@@ -89,21 +89,21 @@ last-is J r = fold-append (λ o q. Some q) None J (r ∷ [])
 record Closing (n : Machine) (s : Settled) : Type 0 where
   pub at : Machine
   pub done : ℕ
-  pub is : n ≡ settle_closed at done (left at)
-  pub says : s ≡ answer done (left at)
+  pub is : n ≡ settle_closed at done (settle_left at)
+  pub says : s ≡ settle_answer done (settle_left at)
 
-left-closing : (k : Machine) (done l : ℕ) (n : Machine) (s : Settled) → l ≡ left k → ◌≡◌ {A = Result (Machine × Settled) Stop} (Ok (settle_closed k done l, answer done l)) (Ok (n, s)) → Closing n s
+left-closing : (k : Machine) (done l : ℕ) (n : Machine) (s : Settled) → l ≡ settle_left k → ◌≡◌ {A = Result (Machine × Settled) Stop} (Ok (settle_closed k done l, settle_answer done l)) (Ok (n, s)) → Closing n s
 left-closing k done l n s all is =
-    let same = ok-same (settle_closed k done l, answer done l) (n, s) is in record {
+    let same = ok-same (settle_closed k done l, settle_answer done l) (n, s) is in record {
       at = k;
       done = done;
       is = sym (ap (λ (p : Machine × Settled). p.0) same) ∙ ap (settle_closed k done) all;
-      says = sym (ap (λ (p : Machine × Settled). p.1) same) ∙ ap (answer done) all;
+      says = sym (ap (λ (p : Machine × Settled). p.1) same) ∙ ap (settle_answer done) all;
     }
 
 closed-closing : (x : Result (Machine × ℕ) Stop) (n : Machine) (s : Settled) → closed_by x ≡ Ok (n, s) → Closing n s
 closed-closing (Err stop) n s is = absurd (err-ok stop (n, s) is)
-closed-closing (Ok (k, done)) n s is = left-closing k done (left k) n s refl is
+closed-closing (Ok (k, done)) n s is = left-closing k done (settle_left k) n s refl is
 
 from-closing : (m : Machine) (rounds : ℕ) (n : Machine) (s : Settled) → settled_from m rounds ≡ Ok (n, s) → Closing n s
 from-closing m rounds n s = go (all_inner m (takes m)) where
@@ -122,8 +122,8 @@ settled-closing m rounds n s = go (settle_begun m rounds) where
 pub says-quiet : (m : Machine) (rounds : ℕ) (n : Machine) (s : Settled) → settled m rounds ≡ Ok (n, s) → is_quiet n ≡ true → (done : ℕ) × (s ≡ Quiet done)
 says-quiet m rounds n s is quiet =
     let c : Closing n s = settled-closing m rounds n s is in
-    let before : is_quiet c.at ≡ true = sym (closing-quiet c.at c.done (left c.at)) ∙ sym (ap is_quiet c.is) ∙ quiet in
-    (c.done, c.says ∙ ap (answer c.done) (quiet-left c.at before))
+    let before : is_quiet c.at ≡ true = sym (closing-quiet c.at c.done (settle_left c.at)) ∙ sym (ap is_quiet c.is) ∙ quiet in
+    (c.done, c.says ∙ ap (settle_answer c.done) (quiet-left c.at before))
 
 -- an event that is a settle is done where the settle is
 event-settled : (m : Machine) (rounds : ℕ) (n : Machine) → event_step m (event.Settle rounds) ≡ Ok n → (s : Settled) × (settled m rounds ≡ Ok (n, s))
@@ -133,15 +133,15 @@ event-settled m rounds n is = go (settled m rounds) is where
   go (Err stop) h = absurd (err-ok stop n h)
   go (Ok (k, s)) h = (s, ap (λ (j : Machine). Ok (j, s)) (ok-same k n h))
 
-quiet-none : (done left other : ℕ) → answer done left ≡ Quiet other → left ≡ 0
+quiet-none : (done left other : ℕ) → settle_answer done left ≡ Quiet other → left ≡ 0
 quiet-none done zero other h = refl
 quiet-none done (suc left) other h = cc
 
 -- one that ends quiet is closed by no record of what is left
 not-left : (n k : Machine) (s : Settled) (done more : ℕ) → Closing n s → EndsQuiet n s → n ≡ settle_closed k done (suc more) → ⊥
 not-left n k s done more c quiet is =
-    let none : left c.at ≡ 0 = quiet-none c.done (left c.at) quiet.1 (sym c.says ∙ quiet.2) in
-    let one : last_of n.journal ≡ Some (rec.Settled c.done) = ap (λ (j : Machine). last_of j.journal) c.is ∙ last-is c.at.journal (closing c.done (left c.at)) ∙ ap (λ i. Some (closing c.done i)) none in
+    let none : settle_left c.at ≡ 0 = quiet-none c.done (settle_left c.at) quiet.1 (sym c.says ∙ quiet.2) in
+    let one : last_of n.journal ≡ Some (rec.Settled c.done) = ap (λ (j : Machine). last_of j.journal) c.is ∙ last-is c.at.journal (closing c.done (settle_left c.at)) ∙ ap (λ i. Some (closing c.done i)) none in
     let other : last_of n.journal ≡ Some (rec.Unsettled done (suc more)) = ap (λ (j : Machine). last_of j.journal) is ∙ last-is k.journal (rec.Unsettled done (suc more)) in
     let no : Some (rec.Settled c.done) ≡ Some (rec.Unsettled done (suc more)) = sym one ∙ other in
     cc
@@ -149,10 +149,10 @@ not-left n k s done more c quiet is =
 -- ---- runs
 
 module _ (config : Config) (files : List (List ℕ × List ℕ))
-    (enough : (before : List Event) (m : Machine) → Each IsGiven before → Goes (start config files) before m → IsOrdinary m.journal → (rounds : ℕ) → settling_bound (file_at files) m.journal ≤ rounds
+    (enough : (before : List Event) (m : Machine) → Each IsScheduled before → GoesThrough (machine_start config files) before m → IsOrdinary m.journal → (rounds : ℕ) → settling_bound (file_at files) m.journal ≤ rounds
     → (n : Machine) (s : Settled) → settled m rounds ≡ Ok (n, s) → EndsQuiet n s) where
   abbrev May : List Rec → Rec → Type 0
-  May = MayLeave (file_at files)
+  May = MayLeaveUnsettled (file_at files)
 
   abbrev AreSame : List Rec → List Rec → Type 0
   AreSame = Same (file_at files)
@@ -216,18 +216,18 @@ module _ (config : Config) (files : List (List ℕ × List ℕ))
   -- a run so far
   record Runs (m : Machine) : Type 0 where
     pub before : List Event
-    pub given : Each IsGiven before
-    pub goes : Goes (start config files) before m
+    pub given : Each IsScheduled before
+    pub goes : GoesThrough (machine_start config files) before m
     pub stands : Stands m
 
   -- the closing record may stand
-  closing-may : (m n : Machine) (rounds : ℕ) → Runs m → event_step m (event.Settle rounds) ≡ Ok n → (c : IsClosed (StandsIn m.journal) IsInner rounds n) → EachMay May c.last.journal (closing c.done (left c.last) ∷ [])
-  closing-may m n rounds run is c = go (left c.last) refl where
-    over : (more : ℕ) → left c.last ≡ suc more → (left c.last ≡ 0) ⊎ (c.done ≡ rounds) → c.done ≡ rounds
+  closing-may : (m n : Machine) (rounds : ℕ) → Runs m → event_step m (event.Settle rounds) ≡ Ok n → (c : IsClosed (StandsIn m.journal) IsInner rounds n) → EachMay May c.last.journal (closing c.done (settle_left c.last) ∷ [])
+  closing-may m n rounds run is c = go (settle_left c.last) refl where
+    over : (more : ℕ) → settle_left c.last ≡ suc more → (settle_left c.last ≡ 0) ⊎ (c.done ≡ rounds) → c.done ≡ rounds
     over more some (inl none) = absurd (omega (arith, some, none))
     over more some (inr all) = all
 
-    test : (b : Bool) (more : ℕ) → nat_le (settling_bound (file_at files) m.journal) rounds ≡ b → left c.last ≡ suc more → IsOrdinary c.last.journal → c.done < settling_bound (file_at files) c.last.journal
+    test : (b : Bool) (more : ℕ) → nat_le (settling_bound (file_at files) m.journal) rounds ≡ b → settle_left c.last ≡ suc more → IsOrdinary c.last.journal → c.done < settling_bound (file_at files) c.last.journal
     test true more paid some ordinary =
         let s = event-settled m rounds n is in
         let quiet : EndsQuiet n s.0 = enough run.before m run.given run.goes (ordinary-same (file_at files) m.journal c.last.journal c.holds.same ordinary) rounds (leb-true _ _ paid) n s.0 s.1 in
@@ -238,14 +238,14 @@ module _ (config : Config) (files : List (List ℕ × List ℕ))
         let all = over more some c.over in
         omega (arith, less, same, all)
 
-    go : (i : ℕ) → left c.last ≡ i → EachMay May c.last.journal (closing c.done i ∷ [])
+    go : (i : ℕ) → settle_left c.last ≡ i → EachMay May c.last.journal (closing c.done i ∷ [])
     go zero is = (tt, tt)
     go (suc more) some = (λ ordinary. test (nat_le (settling_bound (file_at files) m.journal) rounds) more refl some ordinary, tt)
 
   closed-stands : (m n : Machine) (rounds : ℕ) → Runs m → event_step m (event.Settle rounds) ≡ Ok n → IsClosed (StandsIn m.journal) IsInner rounds n → Stands n
   closed-stands m n rounds run is c = subst Stands (sym c.is) (record {
-    is = (written config files).closes c.last c.done (left c.last) c.holds.is;
-    each = each_append May [] c.last.journal (closing c.done (left c.last) ∷ []) c.holds.each (closing-may m n rounds run is c);
+    is = (written config files).closes c.last c.done (settle_left c.last) c.holds.is;
+    each = each_append May [] c.last.journal (closing c.done (settle_left c.last) ∷ []) c.holds.each (closing-may m n rounds run is c);
   })
 
   plain-stands : (m n : Machine) (e : Event) → Stands m → is_settle e ≡ false → MayCome e → event_step m e ≡ Ok n → Stands n
@@ -264,20 +264,20 @@ module _ (config : Config) (files : List (List ℕ × List ℕ))
         let done : event_step m (event.Settle s.0) ≡ Ok n = sym (ap (event_step m) s.1) ∙ is in
         closed-stands m n s.0 run done (subst (SettleEnds (StandsIn m.journal) IsInner m s.0) done (settle-stands m s.0 run.stands))
 
-  goes-on : (es : List Event) (k m n : Machine) (e : Event) → Goes k es m → MayCome e → event_step m e ≡ Ok n → Goes k (es ++ e ∷ []) n
+  goes-on : (es : List Event) (k m n : Machine) (e : Event) → GoesThrough k es m → MayCome e → event_step m e ≡ Ok n → GoesThrough k (es ++ e ∷ []) n
   goes-on [] k m n e goes may is = (n, may, subst (λ (j : Machine). event_step j e ≡ Ok n) goes is, refl)
   goes-on (d ∷ es) k m n e goes may is = (goes.0, goes.1, goes.2, goes-on es goes.0 m n e goes.3 may is)
 
-  goes-stand : (es : List Event) (m n : Machine) → Each IsGiven es → Runs m → Goes m es n → Runs n
+  goes-stand : (es : List Event) (m n : Machine) → Each IsScheduled es → Runs m → GoesThrough m es n → Runs n
   goes-stand [] m n given run goes = subst Runs (sym goes) run
   goes-stand (e ∷ es) m n given run goes = goes-stand es goes.0 n given.1 (record {
     before = run.before ++ e ∷ [];
-    given = Each-append IsGiven run.before (e ∷ []) run.given (given.0, tt);
-    goes = goes-on run.before (start config files) m goes.0 e run.goes goes.1 goes.2;
+    given = Each-append IsScheduled run.before (e ∷ []) run.given (given.0, tt);
+    goes = goes-on run.before (machine_start config files) m goes.0 e run.goes goes.1 goes.2;
     stands = event-stands m goes.0 e run goes.1 goes.2;
   }) goes.3
 
-  start-runs : Runs (start config files)
+  start-runs : Runs (machine_start config files)
   start-runs = record { before = []; given = tt; goes = refl; stands = record { is = (written config files).begins; each = tt } }
 
   -- a run may end inside a settle
@@ -288,11 +288,11 @@ module _ (config : Config) (files : List (List ℕ × List ℕ))
     go (inr ended) = ended.0.each
 
   -- so it is in the journal of each run
-  pub enough-rounds : (es : List Event) (m : Machine) → Each IsGiven es → LeadsTo (start config files) es m → EachMay May [] m.journal
-  enough-rounds es m given (inl goes) = (goes-stand es (start config files) m given start-runs goes).stands.each
+  pub enough-rounds : (es : List Event) (m : Machine) → Each IsScheduled es → LeadsTo (machine_start config files) es m → EachMay May [] m.journal
+  enough-rounds es m given (inl goes) = (goes-stand es (machine_start config files) m given start-runs goes).stands.each
   enough-rounds es m given (inr i) =
-      let parts = given-parts i.before (event.Settle i.rounds ∷ []) (subst (Each IsGiven) i.are given) in
-      stop-stands i.behind m i.rounds i.fault (goes-stand i.before (start config files) i.behind parts start-runs i.goes).stands i.stops where
-        given-parts : (xs ys : List Event) → Each IsGiven (xs ++ ys) → Each IsGiven xs
+      let parts = given-parts i.before (event.Settle i.rounds ∷ []) (subst (Each IsScheduled) i.are given) in
+      stop-stands i.behind m i.rounds i.fault (goes-stand i.before (machine_start config files) i.behind parts start-runs i.goes).stands i.stops where
+        given-parts : (xs ys : List Event) → Each IsScheduled (xs ++ ys) → Each IsScheduled xs
         given-parts [] ys h = tt
         given-parts (x ∷ xs) ys h = (h.0, given-parts xs ys h.1)

@@ -3,9 +3,9 @@ use Rattle.std.proofs.Common.{◌≡◌, ◌≢◌, ◌<◌, ◌≤◌, ◌⊎�
 use Rattle.lard_answers.specs.Answers.{FilesAt, until_close, verdicts, verdicts_on}
 use Rattle.lard_base.specs.declared.ids.TheConstants.ConnId.{MAX}
 use Rattle.lard_block.specs.Blocks.{Piece, blocks}
-use Rattle.lard_bound.specs.Bound.{bytes_of, openers, requests_of, total_of}
+use Rattle.lard_bound.specs.Bound.{bytes_both_ways, openers, requests_of, total_of}
 use Rattle.lard_bound.specs.Seats.{seat_of}
-use Rattle.lard_bound.specs.Units.{Whole, left_at, left_with, tellers, units, units_of, units_to, whole_of}
+use Rattle.lard_bound.specs.Units.{Whole, left_to_client, left_with, tellers, units, machine_units, units_to, whole_of}
 use Rattle.lard_rules.specs.declared.machine.Machine.{Machine}
 use Rattle.lard_law_view.specs.View.{conn}
 use Rattle.lard_history.proofs.Seeing.{by_number, other_number, same_number}
@@ -81,9 +81,9 @@ module _ (files : FilesAt) (J : List Rec) where
   wholes c = whole_of files (wrote J c)
 
   abbrev worth : ℕ → ℕ
-  worth c = bytes_of files J c + 14 + 7 * requests_of J c
+  worth c = bytes_both_ways files J c + 14 + 7 * requests_of J c
 
-  total-worth : (cs : List ℕ) → total_of worth cs ≡ total_of (bytes_of files J) cs + 14 * length cs + 7 * total_of (requests_of J) cs
+  total-worth : (cs : List ℕ) → total_of worth cs ≡ total_of (bytes_both_ways files J) cs + 14 * length cs + 7 * total_of (requests_of J) cs
   total-worth [] = refl
   total-worth (c ∷ cs) = let rest = total-worth cs in omega (arith, rest)
 
@@ -116,9 +116,9 @@ module _ (files : FilesAt) (J : List Rec) where
     unfolding units
     each-few c = go (conn m c).part.station refl where
       go : (o : Option Station) → (conn m c).part.station ≡ o → (left_of c ≡ 0) ⊎ (Has c (openers J) × (left_of c ≤ worth c))
-      go None at = inl (ap (left_at (wholes c) m.config.nodes (conn m c).part) at)
+      go None at = inl (ap (left_to_client (wholes c) m.config.nodes (conn m c).part) at)
       go (Some s) at =
-          let is : left_of c ≡ left_with (wholes c) m.config.nodes (conn m c).part s = ap (left_at (wholes c) m.config.nodes (conn m c).part) at in
+          let is : left_of c ≡ left_with (wholes c) m.config.nodes (conn m c).part s = ap (left_to_client (wholes c) m.config.nodes (conn m c).part) at in
           let most = left-most (wholes c) m.config.nodes (conn m c).part s (h.modest c s at) in
           let few = requests-few c in
           inr (h.opened c s at, omega (arith, is, most, few))
@@ -128,7 +128,7 @@ module _ (files : FilesAt) (J : List Rec) where
     sum-is zero = refl
     sum-is (suc q) = ap (λ s. left_of (suc q) + s) (sum-is q)
 
-    pub units-few : units_of wholes m ≤ total_of (bytes_of files J) (openers J) + 14 * length (openers J) + 7 * total_of (requests_of J) (openers J)
-    units-few = in-all (units_of wholes m) (sum_to left_of MAX) (total_of worth (openers J)) _ (sum-is MAX) (sum-among worth (openers J) MAX left_of each-few) (total-worth (openers J)) where
+    pub units-few : machine_units wholes m ≤ total_of (bytes_both_ways files J) (openers J) + 14 * length (openers J) + 7 * total_of (requests_of J) (openers J)
+    units-few = in-all (machine_units wholes m) (sum_to left_of MAX) (total_of worth (openers J)) _ (sum-is MAX) (sum-among worth (openers J) MAX left_of each-few) (total-worth (openers J)) where
       in-all : (a b c d : ℕ) → a ≡ b → b ≤ c → c ≡ d → a ≤ d
       in-all a b c d e few f = omega (arith, e, few, f)

@@ -7,9 +7,9 @@ use Rattle.lard_base.specs.declared.place.Place.TheVariants.{Front}
 use Rattle.lard_bound.specs.Progress.{IsWarmWord}
 use Rattle.lard_client.specs.declared.phase.Phase.{Phase}
 use Rattle.lard_client.specs.declared.phase.Phase.TheVariants.{Open, Aborted, Reset}
-use Rattle.lard_client.specs.Arriving.{arrived, heard_in}
-use Rattle.lard_client.specs.Control.{ClientBlock, IsClientBlock, is_aborted_in, is_open, is_open_in, rcv_wnd}
-use Rattle.lard_client.specs.Leaving.{ack_ready, after_emit, after_owed, after_piece, after_timer, data_ready, emitted, filled, owed_ready, owes, piece_ready, ready_of, refusal, syn_ready, timed, told}
+use Rattle.lard_client.specs.Arriving.{client_arrived, heard_in}
+use Rattle.lard_client.specs.Control.{ClientBlock, IsClientBlock, is_aborted_in, is_client_open, is_open_in, client_rcv_wnd}
+use Rattle.lard_client.specs.Leaving.{client_ack_ready, client_after_emit, client_after_owed, client_after_piece, client_after_timer, data_ready, client_emitted, client_filled, client_owed_ready, client_owes, client_piece_ready, client_ready_of, client_refusal, syn_ready, client_timed, client_told}
 use Rattle.lard_client.proofs.Accepted.{arrived-bounded, arrived-ended, arrived-reply}
 use Rattle.lard_history.proofs.Each.{Each, Each-append, Each-weaker}
 use Rattle.lard_law_progress.proofs.Clients.{OnPhase, heard-turned, timer-turned}
@@ -83,77 +83,77 @@ module _ (c w : ℕ) where
       }
 
   -- what it may send names its window
-  window-is : (x : ClientBlock) → IsTalking c w x → rcv_wnd x ≡ w
+  window-is : (x : ClientBlock) → IsTalking c w x → client_rcv_wnd x ≡ w
   window-is x h = let none = h.held in let is = h.wnd_is in omega (arith, none, is)
 
-  piece-names : (x : ClientBlock) (p : Piece) → IsTalking c w x → ReadyNames w (Some (piece_ready x p))
+  piece-names : (x : ClientBlock) (p : Piece) → IsTalking c w x → ReadyNames w (Some (client_piece_ready x p))
   piece-names x p h = cond_both p.syn (syn_ready x) (data_ready x p) (λ (r : Ready). ReadyNames w (Some r)) (λ t. (window-is x h, refl)) (λ t. (window-is x h, refl))
 
-  or-names : (x : ClientBlock) (o : Option Piece) (other : Option Ready) → IsTalking c w x → ReadyNames w other → ReadyNames w (ready_of x o other)
+  or-names : (x : ClientBlock) (o : Option Piece) (other : Option Ready) → IsTalking c w x → ReadyNames w other → ReadyNames w (client_ready_of x o other)
   or-names x (Some p) other h k = piece-names x p h
   or-names x None other h k = k
 
-  emitted-names : (x : ClientBlock) → IsTalking c w x → ReadyNames w (emitted x)
-  emitted-names x h = cond_both {A = Option Ready} (not (is_open x)) None (ready_of x (next_piece x.send) (owed_ready x)) (ReadyNames w) (λ t. tt)
-      (λ t. or-names x (next_piece x.send) (owed_ready x) h (cond_both {A = Option Ready} (owes x) (Some (ack_ready x)) None (ReadyNames w) (λ u. (window-is x h, refl)) (λ u. tt)))
+  emitted-names : (x : ClientBlock) → IsTalking c w x → ReadyNames w (client_emitted x)
+  emitted-names x h = cond_both {A = Option Ready} (not (is_client_open x)) None (client_ready_of x (next_piece x.send) (client_owed_ready x)) (ReadyNames w) (λ t. tt)
+      (λ t. or-names x (next_piece x.send) (client_owed_ready x) h (cond_both {A = Option Ready} (client_owes x) (Some (client_ack_ready x)) None (ReadyNames w) (λ u. (window-is x h, refl)) (λ u. tt)))
 
-  timed-names : (x : ClientBlock) → IsTalking c w x → ReadyNames w (timed x)
-  timed-names x h = cond_both {A = Option Ready} (not (is_open x)) None (ready_of x (resent_piece x.send) None) (ReadyNames w) (λ t. tt) (λ t. or-names x (resent_piece x.send) None h tt)
+  timed-names : (x : ClientBlock) → IsTalking c w x → ReadyNames w (client_timed x)
+  timed-names x h = cond_both {A = Option Ready} (not (is_client_open x)) None (client_ready_of x (resent_piece x.send) None) (ReadyNames w) (λ t. tt) (λ t. or-names x (resent_piece x.send) None h tt)
 
   -- a segment that goes out, as it is filled in by the client behind it
-  said-ready : (x : ClientBlock) (r : Ready) (P : Said → Type 0) → x.c ≡ c → IsSendable (filled x r) → P (filled x r) → IsSaid c P (to_front x r)
-  said-ready x r P c_is sendable p = (refl, (filled x r, ap (λ k. spelled k ToCluster (filled x r)) c_is, sendable, p))
+  said-ready : (x : ClientBlock) (r : Ready) (P : Said → Type 0) → x.c ≡ c → IsSendable (client_filled x r) → P (client_filled x r) → IsSaid c P (to_front x r)
+  said-ready x r P c_is sendable p = (refl, (client_filled x r, ap (λ k. spelled k ToCluster (client_filled x r)) c_is, sendable, p))
 
-  emit-few : (x : ClientBlock) → x.accepted ≤ 2 ^ 30 → (after_emit x).accepted ≤ 2 ^ 30
+  emit-few : (x : ClientBlock) → x.accepted ≤ 2 ^ 30 → (client_after_emit x).accepted ≤ 2 ^ 30
   emit-few x few =
       let P : ClientBlock → Type 0 = λ y. y.accepted ≤ 2 ^ 30 in
-      cond_both (not (is_open x)) x (after_piece (record x { send = after_next x.send }) (next_piece x.send) (after_owed x)) P (λ t. few) (λ t. go (next_piece x.send) (cond_both (owes x) (told x) x P (λ u. few) (λ u. few)))
+      cond_both (not (is_client_open x)) x (client_after_piece (record x { send = after_next x.send }) (next_piece x.send) (client_after_owed x)) P (λ t. few) (λ t. go (next_piece x.send) (cond_both (client_owes x) (client_told x) x P (λ u. few) (λ u. few)))
     where
-      go : (p : Option Piece) → (after_owed x).accepted ≤ 2 ^ 30 → (after_piece (record x { send = after_next x.send }) p (after_owed x)).accepted ≤ 2 ^ 30
+      go : (p : Option Piece) → (client_after_owed x).accepted ≤ 2 ^ 30 → (client_after_piece (record x { send = after_next x.send }) p (client_after_owed x)).accepted ≤ 2 ^ 30
       go (Some p) h = few
       go None h = h
 
-  emit-speaks : (x : ClientBlock) (bytes : List ℕ) → Speaks x.send bytes → Speaks (after_emit x).send bytes
+  emit-speaks : (x : ClientBlock) (bytes : List ℕ) → Speaks x.send bytes → Speaks (client_after_emit x).send bytes
   emit-speaks x bytes h =
       let P : ClientBlock → Type 0 = λ y. Speaks y.send bytes in
-      cond_both (not (is_open x)) x (after_piece (record x { send = after_next x.send }) (next_piece x.send) (after_owed x)) P (λ t. h) (λ t. go (next_piece x.send) (cond_both (owes x) (told x) x P (λ u. h) (λ u. h)))
+      cond_both (not (is_client_open x)) x (client_after_piece (record x { send = after_next x.send }) (next_piece x.send) (client_after_owed x)) P (λ t. h) (λ t. go (next_piece x.send) (cond_both (client_owes x) (client_told x) x P (λ u. h) (λ u. h)))
     where
-      go : (p : Option Piece) → Speaks (after_owed x).send bytes → Speaks (after_piece (record x { send = after_next x.send }) p (after_owed x)).send bytes
+      go : (p : Option Piece) → Speaks (client_after_owed x).send bytes → Speaks (client_after_piece (record x { send = after_next x.send }) p (client_after_owed x)).send bytes
       go (Some p) k = (speaks-next x.send bytes h).0
       go None k = k
 
-  timer-few : (x : ClientBlock) → x.accepted ≤ 2 ^ 30 → (after_timer x).accepted ≤ 2 ^ 30
-  timer-few x few = cond_both (not (is_open x)) x (after_piece (record x { send = after_resend x.send }) (resent_piece x.send) x) (λ (y : ClientBlock). y.accepted ≤ 2 ^ 30) (λ t. few) (λ t. go (resent_piece x.send)) where
-    go : (p : Option Piece) → (after_piece (record x { send = after_resend x.send }) p x).accepted ≤ 2 ^ 30
+  timer-few : (x : ClientBlock) → x.accepted ≤ 2 ^ 30 → (client_after_timer x).accepted ≤ 2 ^ 30
+  timer-few x few = cond_both (not (is_client_open x)) x (client_after_piece (record x { send = after_resend x.send }) (resent_piece x.send) x) (λ (y : ClientBlock). y.accepted ≤ 2 ^ 30) (λ t. few) (λ t. go (resent_piece x.send)) where
+    go : (p : Option Piece) → (client_after_piece (record x { send = after_resend x.send }) p x).accepted ≤ 2 ^ 30
     go (Some p) = few
     go None = few
 
-  timer-speaks : (x : ClientBlock) (bytes : List ℕ) → Speaks x.send bytes → Speaks (after_timer x).send bytes
-  timer-speaks x bytes h = cond_both (not (is_open x)) x (after_piece (record x { send = after_resend x.send }) (resent_piece x.send) x) (λ (y : ClientBlock). Speaks y.send bytes) (λ t. h) (λ t. go (resent_piece x.send)) where
-    go : (p : Option Piece) → Speaks (after_piece (record x { send = after_resend x.send }) p x).send bytes
+  timer-speaks : (x : ClientBlock) (bytes : List ℕ) → Speaks x.send bytes → Speaks (client_after_timer x).send bytes
+  timer-speaks x bytes h = cond_both (not (is_client_open x)) x (client_after_piece (record x { send = after_resend x.send }) (resent_piece x.send) x) (λ (y : ClientBlock). Speaks y.send bytes) (λ t. h) (λ t. go (resent_piece x.send)) where
+    go : (p : Option Piece) → Speaks (client_after_piece (record x { send = after_resend x.send }) p x).send bytes
     go (Some p) = (speaks-resend x.send bytes h).0
     go None = h
 
-  emit-talks : (x : ClientBlock) → IsTalking c w x → IsTalking c w (after_emit x)
-  emit-talks x h = talks-on x (after_emit x) h (emit-keeps x) (emit-few x h.sound.bounded) h.bytes (emit-speaks x h.bytes h.speaks)
+  emit-talks : (x : ClientBlock) → IsTalking c w x → IsTalking c w (client_after_emit x)
+  emit-talks x h = talks-on x (client_after_emit x) h (emit-keeps x) (emit-few x h.sound.bounded) h.bytes (emit-speaks x h.bytes h.speaks)
 
   -- all that it says
   speaks-names : (x : ClientBlock) → IsTalking c w x → AreSaid c (Names w) (client_speaks x).0
   speaks-names x h = client_keeps (λ (y : ClientBlock) ss z. IsTalking c w y → AreSaid c (Names w) ss) (record {
     rests = λ y k. tt;
     says = λ y r ss z e later k. (
-      said-ready (after_emit y) r (Names w) ((emit-keeps y).c ∙ k.c_is) (emitted-fair y k.bytes k.sound k.fits k.speaks r e).1 (ready-names w (emitted y) r (emitted-names y k) e),
+      said-ready (client_after_emit y) r (Names w) ((emit-keeps y).c ∙ k.c_is) (emitted-fair y k.bytes k.sound k.fits k.speaks r e).1 (ready-names w (client_emitted y) r (emitted-names y k) e),
       later (emit-talks y k),
     );
   }) x h
 
 -- ---- one that is open no longer says nothing of itself
 
-closed-none : (x : ClientBlock) → is_open x ≡ false → emitted x ≡ None
-closed-none x shut = ap (λ b. cond {A = Option Ready} (not b) None (ready_of x (next_piece x.send) (owed_ready x))) shut
+closed-none : (x : ClientBlock) → is_client_open x ≡ false → client_emitted x ≡ None
+closed-none x shut = ap (λ b. cond {A = Option Ready} (not b) None (client_ready_of x (next_piece x.send) (client_owed_ready x))) shut
 
-closed-silent : (x : ClientBlock) → is_open x ≡ false → (client_speaks x).0 ≡ []
-closed-silent x shut = client_keeps (λ (y : ClientBlock) ss z. is_open y ≡ false → ss ≡ []) (record {
+closed-silent : (x : ClientBlock) → is_client_open x ≡ false → (client_speaks x).0 ≡ []
+closed-silent x shut = client_keeps (λ (y : ClientBlock) ss z. is_client_open y ≡ false → ss ≡ []) (record {
   rests = λ y h. refl;
   says = λ y r ss z e later h. let no : None ≡ Some r = sym (closed-none y h) ∙ e in absurd cc;
 }) x shut
@@ -202,8 +202,8 @@ fine-stays x z on wnd s h = (go x.phase z.phase on h.0, h.1) where
   go Reset Aborted (inr e) k = let bad : Aborted ≡ Reset = e.1 in absurd cc
 
 -- none is sent of what there is none
-none-said : (c : ℕ) (P : Said → Type 0) (x : ClientBlock) (o : Option Ready) (ss : List (Place × List ℕ)) → o ≡ None → AreSaid c P ss → AreSaid c P (rules.ready_of x o ++ ss)
-none-said c P x o ss none h = subst (λ (q : Option Ready). AreSaid c P (rules.ready_of x q ++ ss)) (sym none) h
+none-said : (c : ℕ) (P : Said → Type 0) (x : ClientBlock) (o : Option Ready) (ss : List (Place × List ℕ)) → o ≡ None → AreSaid c P ss → AreSaid c P (rules.station_ready_of x o ++ ss)
+none-said c P x o ss none h = subst (λ (q : Option Ready). AreSaid c P (rules.station_ready_of x q ++ ss)) (sym none) h
 
 -- a reset without ACK is fine of one that was aborted
 refusal-fine : (z : ClientBlock) → z.phase ≡ Aborted → (s : Said) → (s.flags.rst ≡ true) × (s.flags.ack ≡ false) → IsFineWord z s
@@ -213,10 +213,10 @@ abbrev ReadyRefuses : Option Ready → Type 0
 ReadyRefuses None = Unit {0}
 ReadyRefuses (Some r) = (r.flags.rst ≡ true) × (r.flags.ack ≡ false)
 
-reply-refuses : (x : ClientBlock) (s : Said) → x.phase ≡ Aborted → ReadyRefuses (arrived x s).0.reply
-unfolding arrived
+reply-refuses : (x : ClientBlock) (s : Said) → x.phase ≡ Aborted → ReadyRefuses (client_arrived x s).0.reply
+unfolding client_arrived
 reply-refuses x s is = subst (λ (p : Phase). ReadyRefuses (heard_in p x s).0.reply) (sym is)
-    (cond_both {A = Option Ready} (s.flags.ack && not s.flags.rst) (Some (refusal x s.ack)) None ReadyRefuses (λ t. (refl, refl)) (λ t. tt))
+    (cond_both {A = Option Ready} (s.flags.ack && not s.flags.rst) (Some (client_refusal x s.ack)) None ReadyRefuses (λ t. (refl, refl)) (λ t. tt))
 
 no-some : (o : Option Ready) → is_some o ≡ false → o ≡ None
 no-some None e = refl
@@ -225,48 +225,48 @@ no-some (Some r) e = absurd (true≢false e)
 -- A segment comes.
 module _ (x : ClientBlock) (h : IsCalm x) (s : Said) (fits : s.ack < 2 ^ 32) where
   abbrev y : ClientBlock
-  y = (arrived x s).1
+  y = (client_arrived x s).1
 
   abbrev z : ClientBlock
-  z = (client_speaks (arrived x s).1).1
+  z = (client_speaks (client_arrived x s).1).1
 
   abbrev Says : List (Place × List ℕ) → Type 0
   Says ss = AreSaid x.c (IsFineWord z) ss
 
-  silent-in : (p : Phase) → x.phase ≡ p → is_aborted_in p ≡ false → (arrived x s).0.reply ≡ None
+  silent-in : (p : Phase) → x.phase ≡ p → is_aborted_in p ≡ false → (client_arrived x s).0.reply ≡ None
   silent-in p is none =
-      let reply : is_some (arrived x s).0.reply ≡ false = arrived-reply x s ∙ ap (λ (q : Phase). is_aborted_in q && (s.flags.ack && not s.flags.rst)) is ∙ ap (λ b. b && (s.flags.ack && not s.flags.rst)) none in
-      no-some (arrived x s).0.reply reply
+      let reply : is_some (client_arrived x s).0.reply ≡ false = arrived-reply x s ∙ ap (λ (q : Phase). is_aborted_in q && (s.flags.ack && not s.flags.rst)) is ∙ ap (λ b. b && (s.flags.ack && not s.flags.rst)) none in
+      no-some (client_arrived x s).0.reply reply
 
-  open-says : x.phase ≡ Open → Says (rules.ready_of y (arrived x s).0.reply ++ (client_speaks y).0)
+  open-says : x.phase ≡ Open → Says (rules.station_ready_of y (client_arrived x s).0.reply ++ (client_speaks y).0)
   open-says open_ =
       let t = heard-turned x s in
       let on : IsTalking x.c x.wnd y = talks-on x.c x.wnd x y (talking x h open_) (arrived-keeps x s) (arrived-bounded x s h.sound.bounded) h.bytes (arriving-continues x h.bytes s h.speaks).0 in
-      none-said x.c (IsFineWord z) y (arrived x s).0.reply (client_speaks y).0 (silent-in Open open_ refl)
+      none-said x.c (IsFineWord z) y (client_arrived x s).0.reply (client_speaks y).0 (silent-in Open open_ refl)
       (said-weaker x.c (Names x.wnd) (IsFineWord z) (names-fine x z open_ t.takes.phase t.takes.wnd) (client_speaks y).0 (speaks-names x.c x.wnd y on))
 
   -- nothing of itself
-  closed-says : is_open x ≡ false → (ss : List (Place × List ℕ)) → Says ss → Says (ss ++ (client_speaks y).0)
+  closed-says : is_client_open x ≡ false → (ss : List (Place × List ℕ)) → Says ss → Says (ss ++ (client_speaks y).0)
   closed-says shut ss k =
       let same : y ≡ x = (arrived-ended x s shut).0 in
-      let none : (client_speaks y).0 ≡ [] = closed-silent y (ap is_open same ∙ shut) in
+      let none : (client_speaks y).0 ≡ [] = closed-silent y (ap is_client_open same ∙ shut) in
       Each-append (IsSaid x.c (IsFineWord z)) ss (client_speaks y).0 k (subst Says (sym none) tt)
 
-  reply-says : x.phase ≡ Aborted → (o : Option Ready) → (arrived x s).0.reply ≡ o → ReadyRefuses o → Says (rules.ready_of y o)
+  reply-says : x.phase ≡ Aborted → (o : Option Ready) → (client_arrived x s).0.reply ≡ o → ReadyRefuses o → Says (rules.station_ready_of y o)
   reply-says is None e k = tt
   reply-says is (Some r) e k =
       let left : z.phase ≡ Aborted = aborted-stays x.phase z.phase is (heard-turned x s).takes.phase in
-      (said-ready x.c x.wnd y r (IsFineWord z) (arrived-keeps x s).c (reply-fair (stream_of x.send h.bytes) x s r fits e).1 (refusal-fine z left (filled y r) k), tt) where
+      (said-ready x.c x.wnd y r (IsFineWord z) (arrived-keeps x s).c (reply-fair (stream_of x.send h.bytes) x s r fits e).1 (refusal-fine z left (client_filled y r) k), tt) where
         aborted-stays : (p q : Phase) → p ≡ Aborted → OnPhase p q → q ≡ Aborted
         aborted-stays p q is (inl e) = e ∙ is
         aborted-stays p q is (inr e) = let bad : Aborted ≡ Open = sym is ∙ e.0 in absurd cc
 
-  pub segment-says : Says (rules.ready_of y (arrived x s).0.reply ++ (client_speaks y).0)
+  pub segment-says : Says (rules.station_ready_of y (client_arrived x s).0.reply ++ (client_speaks y).0)
   segment-says = go x.phase refl where
-    go : (p : Phase) → x.phase ≡ p → Says (rules.ready_of y (arrived x s).0.reply ++ (client_speaks y).0)
+    go : (p : Phase) → x.phase ≡ p → Says (rules.station_ready_of y (client_arrived x s).0.reply ++ (client_speaks y).0)
     go Open is = open-says is
-    go Aborted is = closed-says (ap is_open_in is) (rules.ready_of y (arrived x s).0.reply) (reply-says is (arrived x s).0.reply refl (reply-refuses x s is))
-    go Reset is = closed-says (ap is_open_in is) (rules.ready_of y (arrived x s).0.reply) (subst (λ (o : Option Ready). Says (rules.ready_of y o)) (sym (silent-in Reset is refl)) tt)
+    go Aborted is = closed-says (ap is_open_in is) (rules.station_ready_of y (client_arrived x s).0.reply) (reply-says is (client_arrived x s).0.reply refl (reply-refuses x s is))
+    go Reset is = closed-says (ap is_open_in is) (rules.station_ready_of y (client_arrived x s).0.reply) (subst (λ (o : Option Ready). Says (rules.station_ready_of y o)) (sym (silent-in Reset is refl)) tt)
 
 -- all that it sends where a segment comes
 pub gets-says : (x : ClientBlock) (given : Result Said SegFault) → IsCalm x → ((s : Said) → given ≡ Ok s → s.ack < 2 ^ 32) → AreSaid x.c (IsFineWord (client_gets x given).0) (client_gets x given).1.segments
@@ -276,35 +276,35 @@ gets-says x (Ok s) h fits = segment-says x h s (fits s refl)
 -- Its timer fires.
 module _ (x : ClientBlock) (h : IsCalm x) where
   abbrev u : ClientBlock
-  u = after_timer x
+  u = client_after_timer x
 
   abbrev v : ClientBlock
-  v = (client_speaks (after_timer x)).1
+  v = (client_speaks (client_after_timer x)).1
 
   abbrev Fires : List (Place × List ℕ) → Type 0
   Fires ss = AreSaid x.c (IsFineWord v) ss
 
-  open-fires : x.phase ≡ Open → Fires (rules.ready_of u (timed x) ++ (client_speaks u).0)
+  open-fires : x.phase ≡ Open → Fires (rules.station_ready_of u (client_timed x) ++ (client_speaks u).0)
   open-fires open_ =
       let t : IsTalking x.c x.wnd x = talking x h open_ in
       let on : IsTalking x.c x.wnd u = talks-on x.c x.wnd x u t (timer-keeps x) (timer-few x.c x.wnd x h.sound.bounded) h.bytes (timer-speaks x.c x.wnd x h.bytes h.speaks) in
       let turned = timer-turned x in
-      said-weaker x.c (Names x.wnd) (IsFineWord v) (names-fine x v open_ turned.takes.phase turned.takes.wnd) (rules.ready_of u (timed x) ++ (client_speaks u).0)
-      (Each-append (IsSaid x.c (Names x.wnd)) (rules.ready_of u (timed x)) (client_speaks u).0 (first t (timed x) refl) (speaks-names x.c x.wnd u on)) where
-        first : IsTalking x.c x.wnd x → (o : Option Ready) → timed x ≡ o → AreSaid x.c (Names x.wnd) (rules.ready_of u o)
+      said-weaker x.c (Names x.wnd) (IsFineWord v) (names-fine x v open_ turned.takes.phase turned.takes.wnd) (rules.station_ready_of u (client_timed x) ++ (client_speaks u).0)
+      (Each-append (IsSaid x.c (Names x.wnd)) (rules.station_ready_of u (client_timed x)) (client_speaks u).0 (first t (client_timed x) refl) (speaks-names x.c x.wnd u on)) where
+        first : IsTalking x.c x.wnd x → (o : Option Ready) → client_timed x ≡ o → AreSaid x.c (Names x.wnd) (rules.station_ready_of u o)
         first t None e = tt
-        first t (Some r) e = (said-ready x.c x.wnd u r (Names x.wnd) (timer-keeps x).c (timed-fair x h.bytes h.sound h.fits h.speaks r e).1 (ready-names x.wnd (timed x) r (timed-names x.c x.wnd x t) e), tt)
+        first t (Some r) e = (said-ready x.c x.wnd u r (Names x.wnd) (timer-keeps x).c (timed-fair x h.bytes h.sound h.fits h.speaks r e).1 (ready-names x.wnd (client_timed x) r (timed-names x.c x.wnd x t) e), tt)
 
-  closed-fires : is_open x ≡ false → Fires (rules.ready_of u (timed x) ++ (client_speaks u).0)
+  closed-fires : is_client_open x ≡ false → Fires (rules.station_ready_of u (client_timed x) ++ (client_speaks u).0)
   closed-fires shut =
-      let none : timed x ≡ None = ap (λ b. cond {A = Option Ready} (not b) None (ready_of x (resent_piece x.send) None)) shut in
-      let same : u ≡ x = ap (λ b. cond {A = ClientBlock} (not b) x (after_piece (record x { send = after_resend x.send }) (resent_piece x.send) x)) shut in
-      let quiet : (client_speaks u).0 ≡ [] = closed-silent u (ap is_open same ∙ shut) in
-      none-said x.c (IsFineWord v) u (timed x) (client_speaks u).0 none (subst Fires (sym quiet) tt)
+      let none : client_timed x ≡ None = ap (λ b. cond {A = Option Ready} (not b) None (client_ready_of x (resent_piece x.send) None)) shut in
+      let same : u ≡ x = ap (λ b. cond {A = ClientBlock} (not b) x (client_after_piece (record x { send = after_resend x.send }) (resent_piece x.send) x)) shut in
+      let quiet : (client_speaks u).0 ≡ [] = closed-silent u (ap is_client_open same ∙ shut) in
+      none-said x.c (IsFineWord v) u (client_timed x) (client_speaks u).0 none (subst Fires (sym quiet) tt)
 
   pub fires-says : AreSaid x.c (IsFineWord (client_timer x).0) (client_timer x).1.segments
-  fires-says = go (is_open x) refl x.phase refl where
-    go : (b : Bool) → is_open x ≡ b → (p : Phase) → x.phase ≡ p → Fires (rules.ready_of u (timed x) ++ (client_speaks u).0)
+  fires-says = go (is_client_open x) refl x.phase refl where
+    go : (b : Bool) → is_client_open x ≡ b → (p : Phase) → x.phase ≡ p → Fires (rules.station_ready_of u (client_timed x) ++ (client_speaks u).0)
     go b open_ Open is = open-fires is
     go b open_ Aborted is = closed-fires (ap is_open_in is)
     go b open_ Reset is = closed-fires (ap is_open_in is)

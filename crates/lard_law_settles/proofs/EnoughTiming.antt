@@ -7,9 +7,9 @@ use Rattle.std.specs.List.{list_any}
 use Rattle.lard_base.proofs.Usable.{usable}
 use Rattle.lard_base.specs.Config.{config_check}
 use Rattle.lard_base.specs.declared.config.Config.{Config}
-use Rattle.lard_bound.specs.Seats.{Gone, Held, Here, Offered, Over, Seat, Unborn, Waiting, seat_away, seat_by, seat_decided, seat_in, seat_of, seat_there}
+use Rattle.lard_bound.specs.Seats.{Gone, Held, Here, Offered, Over, SeatNow, Unborn, Waiting, seat_away, seat_by, seat_decided, seat_in, seat_of, seat_there}
 use Rattle.lard_rules.specs.declared.machine.Machine.{Machine}
-use Rattle.lard_rules.specs.Machine.{IsReached, start}
+use Rattle.lard_rules.specs.Machine.{IsReached, machine_start}
 use Rattle.lard_law_connections.proofs.LineRuns.{line-is-kept, line-is-of-those-who-wait}
 use Rattle.lard_law_connections.specs.LineLaws.{waits_there}
 use Rattle.lard_laws.proofs.StepsTimers.{timers-kept}
@@ -17,10 +17,10 @@ use Rattle.lard_law_view.specs.View.{part_of}
 use Rattle.lard_law_view.proofs.Carried.{reached-viewed}
 use Rattle.lard_law_view.proofs.Runs.{passes-keep}
 use Rattle.lard_law_settles.proofs.CourseBeginning.{Timers}
-use Rattle.lard_dispatch.specs.Line.{is_of, waits}
+use Rattle.lard_dispatch.specs.Line.{is_of, line_waits}
 use Rattle.lard_dispatch.specs.declared.line.Waiting as line
 use Rattle.lard_endpoint.specs.Control.{ControlBlock}
-use Rattle.lard_rules.specs.Front.{FrontPart, rest_of}
+use Rattle.lard_rules.specs.Front.{FrontPart, front_rest}
 use Rattle.lard_rules.specs.FrontPlace.{front_part}
 use Rattle.lard_handoff_back.specs.declared.row.BackConn.{BackConn}
 use Rattle.lard_handoff_back.specs.declared.row.BackConn.TheVariants as back
@@ -39,11 +39,11 @@ use Rattle.lard_settling.proofs.Written.{written}
 -- a run without settles is one with none
 pub reached-written : (config : Config) (files : List (List ℕ × List ℕ)) (m : Machine) → IsReached config files m → IsWrittenOut config files m
 reached-written config files m r =
-    passes-keep (IsWrittenOut config files) (λ k n e w rule is. (written config files).steps k n e w rule is) r.0 (start config files) m r.1 (written config files).begins
+    passes-keep (IsWrittenOut config files) (λ k n e w rule is. (written config files).steps k n e w rule is) r.0 (machine_start config files) m r.1 (written config files).begins
 
 -- ---- where it waits
 
-abbrev waits_in : Seat → Bool
+abbrev waits_in : SeatNow → Bool
 waits_in (Waiting b count) = true
 waits_in _ = false
 
@@ -61,8 +61,8 @@ away-not told n e count p = go p.row where
 
 in-waits : (f : FrontPart) (nodes : ℕ → NodePart) (s : FrontConn) → waits_in (seat_in f nodes s) ≡ true → is_waiting s ≡ true
 in-waits f nodes (stage.Waiting b) h = refl
-in-waits f nodes (stage.Offering n e) h = absurd (both_ways (waits_in (seat_in f nodes (stage.Offering n e))) (away-not false n e.0 (rest_of f.rest).count (nodes n)) h)
-in-waits f nodes (stage.Moved n e) h = absurd (both_ways (waits_in (seat_in f nodes (stage.Moved n e))) (away-not true n e.0 (rest_of f.rest).count (nodes n)) h)
+in-waits f nodes (stage.Offering n e) h = absurd (both_ways (waits_in (seat_in f nodes (stage.Offering n e))) (away-not false n e.0 (front_rest f.rest).count (nodes n)) h)
+in-waits f nodes (stage.Moved n e) h = absurd (both_ways (waits_in (seat_in f nodes (stage.Moved n e))) (away-not true n e.0 (front_rest f.rest).count (nodes n)) h)
 in-waits f nodes _ h = h
 
 by-waits : (f : FrontPart) (nodes : ℕ → NodePart) (o : Option FrontRow) → waits_in (seat_by f nodes o) ≡ true → waits_there o ≡ true
@@ -75,7 +75,7 @@ unfolding seat_of part_of
 seat-waits m c h = by-waits (front_part m.front c) (part_of m c).nodes (table.get m.front.conns c) h
 
 -- the line, by the numbers of its connections
-line-same : (c : ℕ) (ws : List line.Waiting) → waits ws c ≡ list_any (nat_eq c) (map (λ w. w.c) ws)
+line-same : (c : ℕ) (ws : List line.Waiting) → line_waits ws c ≡ list_any (nat_eq c) (map (λ w. w.c) ws)
 line-same c [] = refl
 line-same c (w ∷ ws) = (λ i. is-of c w i || line-same c ws i) where
   is-of : (c : ℕ) (w : line.Waiting) → is_of c w ≡ nat_eq c w.c
@@ -84,7 +84,7 @@ line-same c (w ∷ ws) = (λ i. is-of c w i || line-same c ws i) where
       (λ other. grind (arith, nat_tests, other))
 
 module _ (config : Config) (files : List (List ℕ × List ℕ)) (checked : config_check config ≡ Ok tt) (m : Machine) (r : IsReached config files m) where
-  in-line : (c : ℕ) (b : ControlBlock) (count : ℕ) → seat_of (part_of m c) ≡ Waiting b count → waits m.front.dispatch.books.line c ≡ true
+  in-line : (c : ℕ) (b : ControlBlock) (count : ℕ) → seat_of (part_of m c) ≡ Waiting b count → line_waits m.front.dispatch.books.line c ≡ true
   in-line c b count is =
       let there : waits_there (table.get m.front.conns c) ≡ true = seat-waits m c (ap waits_in is) in
       line-same c m.front.dispatch.books.line

@@ -3,7 +3,7 @@ use Rattle.std.proofs.Common.{◌≡◌, ℕ, List, Option, Some, None, Result, 
 use Rattle.lard_base.specs.declared.place.Place.{Place}
 use Rattle.lard_base.specs.declared.place.Place.TheVariants.{Client, Front, Node}
 use Rattle.lard_bound.specs.Progress.{IsWarm, IsWarmBetween, IsWarmBody, IsWarmBy, IsWarmMessage, IsWarmSegment}
-use Rattle.lard_law_view.specs.View.{Conn, IsSound}
+use Rattle.lard_law_view.specs.View.{Conn, IsConnSound}
 use Rattle.lard_history.specs.Own.{Letter}
 use Rattle.lard_message.specs.declared.fault.MsgFault.{MsgFault}
 use Rattle.lard_message.specs.declared.message.Body.{Body}
@@ -43,7 +43,7 @@ module _ (x : Conn) (st : Station) (there : x.part.station ≡ Some st) (named :
   between-warm Front (Node n) l h = message-warm l.bytes h
   between-warm (Node n) _ l h = tt
 
-pub second-warm : (x : Conn) → IsSound x → (l : Letter) → Second x l → IsWarm x l
+pub second-warm : (x : Conn) → IsConnSound x → (l : Letter) → Second x l → IsWarm x l
 second-warm x sound l h = go x.part.station refl where
   go : (o : Option Station) → x.part.station ≡ o → IsWarmBy o l
   go None at = tt

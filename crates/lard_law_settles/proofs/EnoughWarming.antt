@@ -11,14 +11,14 @@ use Rattle.lard_bound.specs.Units.{Whole}
 use Rattle.lard_rules.specs.Bounds.{HasRule, HasTimer}
 use Rattle.lard_rules.specs.declared.machine.Machine.{Machine}
 use Rattle.lard_rules.specs.Machine.{IsReached, machine_step}
-use Rattle.lard_law_view.specs.View.{Conn, Goes, Move, conn, grown, letters_of}
+use Rattle.lard_law_view.specs.View.{Conn, GoesBy, Move, conn, grown, letters_of}
 use Rattle.lard_law_view.proofs.Carried.{reached-viewed}
 use Rattle.lard_law_settles.specs.CourseGame.{Task, game}
 use Rattle.lard_law_view.proofs.Steps.{IsShown, shown}
 use Rattle.lard_law_settles.proofs.CourseSending.{more, new-has, new-letters, new-none}
 use Rattle.lard_law_settles.proofs.CourseWays.{KeepsPackets, Takes, Ways, step-ways}
 use Rattle.lard_history.proofs.Seeing.{by_number, one-mine, one-other}
-use Rattle.lard_history.specs.Own.{Came, Has, Letter, Row, Seen, came, conn_of, letter_of, letters, one_of}
+use Rattle.lard_history.specs.Own.{Came, Has, Letter, Row, Seen, came_seen, conn_of, letter_of, letters, one_of}
 use Rattle.lard_journal.specs.declared.rec.Rec.TheVariants as rec
 use Rattle.lard_net.specs.Net.{Packet, packet_at}
 use Rattle.lard_rounds.proofs.Ripening.{ripens}
@@ -65,15 +65,15 @@ rounds-rule _ h = absurd h
 -- what is so of a packet is so of it where it comes
 came-so : (P : Conn → Letter → Type 0) (m : Machine) (k : ℕ) → OfPacket P m k → (q : ℕ) → IfCame (P (conn m q)) (came_in (shown m (event.Deliver k) q))
 came-so P m k so q = go (packet_at m.net k) refl where
-  of : (p : Packet) → packet_at m.net k ≡ Some p → (o : Option ℕ) → conn_of p.from p.to p.bytes ≡ o → IfCame (P (conn m q)) (came_in (came q (Some p) ++ []))
+  of : (p : Packet) → packet_at m.net k ≡ Some p → (o : Option ℕ) → conn_of p.from p.to p.bytes ≡ o → IfCame (P (conn m q)) (came_in (came_seen q (Some p) ++ []))
   of p at None is = subst (λ (o : Option ℕ). IfCame (P (conn m q)) (came_in (one_of q o (Came (letter_of p)) ++ []))) (sym is) tt
-  of p at (Some c) is = by_number (IfCame (P (conn m q)) (came_in (came q (Some p) ++ []))) c q
+  of p at (Some c) is = by_number (IfCame (P (conn m q)) (came_in (came_seen q (Some p) ++ []))) c q
       (λ same.
       let its : conn_of p.from p.to p.bytes ≡ Some q = is ∙ ap (λ d. Some d) same in
       subst (λ (ss : List Seen). IfCame (P (conn m q)) (came_in (ss ++ []))) (sym (one-mine q (conn_of p.from p.to p.bytes) (Came (letter_of p)) its)) (so p at q its))
       (λ other. subst (λ (ss : List Seen). IfCame (P (conn m q)) (came_in (ss ++ []))) (sym (one-other c q (conn_of p.from p.to p.bytes) (Came (letter_of p)) (λ s. other (sym s)) is)) tt)
 
-  go : (o : Option Packet) → packet_at m.net k ≡ o → IfCame (P (conn m q)) (came_in (came q o ++ []))
+  go : (o : Option Packet) → packet_at m.net k ≡ o → IfCame (P (conn m q)) (came_in (came_seen q o ++ []))
   go None at = tt
   go (Some p) at = of p at (conn_of p.from p.to p.bytes) refl
 
@@ -110,7 +110,7 @@ module _ (config : Config) (files : List (List ℕ × List ℕ)) (all : ℕ → 
   pub record Warming : Type 0 where
     pub reached : (m : Machine) → Within m → IsReached config files m
     pub kept : (m n : Machine) (e : Event) → Within m → IsRounds e → machine_step m e ≡ Ok n → Within n
-    pub moves : (m n : Machine) (e : Event) → Within m → IsRounds e → machine_step m e ≡ Ok n → (q : ℕ) → Goes (λ x v. IsShown m e x v × Warms First Second x v) (conn m q) (conn n q)
+    pub moves : (m n : Machine) (e : Event) → Within m → IsRounds e → machine_step m e ≡ Ok n → (q : ℕ) → GoesBy (λ x v. IsShown m e x v × Warms First Second x v) (conn m q) (conn n q)
     pub follows : (x : Conn) (l : Letter) → Second x l → First x l
 
   module _ (h : Warming) where

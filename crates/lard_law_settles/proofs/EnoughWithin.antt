@@ -12,11 +12,11 @@ use Rattle.lard_bound.specs.Bound.{IsOrdinary, opener_step, openers, settling_bo
 use Rattle.lard_bound.specs.Seats.{seat_of}
 use Rattle.lard_bound.specs.Units.{tellers}
 use Rattle.lard_rules.specs.declared.machine.Machine.{Machine}
-use Rattle.lard_rules.specs.Machine.{IsReached, Passes, machine_step, passed, start}
+use Rattle.lard_rules.specs.Machine.{IsReached, Passes, machine_step, passed, machine_start}
 use Rattle.lard_law_view.specs.View.{conn}
 use Rattle.lard_law_view.proofs.Carried.{reached-viewed}
 use Rattle.lard_law_view.proofs.Runs.{passes-more}
-use Rattle.lard_laws.specs.Records.{IsGiven}
+use Rattle.lard_laws.specs.Records.{IsScheduled}
 use Rattle.lard_law_settles.specs.CourseGame.{game}
 use Rattle.lard_files.specs.Files.{file_at}
 use Rattle.lard_history.proofs.Each.{Each, Each-append}
@@ -63,7 +63,7 @@ module _ (config : Config) (files : List (List ℕ × List ℕ)) where
   -- of the settle of journal J
   pub record IsWithin (J : List Rec) (m : Machine) : Type 0 where
     pub reached : IsReached config files m
-    pub given : Each IsGiven reached.0
+    pub given : Each IsScheduled reached.0
     pub wrote_same : (c : ℕ) → wrote m.journal c ≡ wrote J c
     pub openers_same : openers m.journal ≡ openers J
     pub untouched : (c : ℕ) → is_touched m.journal c ≡ false
@@ -75,7 +75,7 @@ module _ (config : Config) (files : List (List ℕ × List ℕ)) where
 
   -- an event of an inner step that is done is one that a schedule may give
   abbrev pub AreGiven : Type 0
-  AreGiven = (m n : Machine) (e : Event) → IsReached config files m → IsInner e → machine_step m e ≡ Ok n → IsGiven e
+  AreGiven = (m n : Machine) (e : Event) → IsReached config files m → IsInner e → machine_step m e ≡ Ok n → IsScheduled e
 
   few-same : (c : ℕ) (xs ys : List ℕ) → xs ≡ ys → length ys < 16383 → length xs < 16383
   few-same c xs ys same few = subst (λ (zs : List ℕ). length zs < 16383) (sym same) few
@@ -87,8 +87,8 @@ module _ (config : Config) (files : List (List ℕ × List ℕ)) where
       let inner : IsInner e = rounds-inner e of in
       let wrote_is : (c : ℕ) → wrote n.journal c ≡ wrote m.journal c = λ c. inner-over (wrote_step c) (wrote-over c) [] m n e view inner is in
       record {
-        reached = (w.reached.0 ++ e ∷ [], passes-more w.reached.0 (start config files) m n e w.reached.1 (rounds-rule e of) is);
-        given = Each-append IsGiven w.reached.0 (e ∷ []) w.given (events m n e w.reached inner is, tt);
+        reached = (w.reached.0 ++ e ∷ [], passes-more w.reached.0 (machine_start config files) m n e w.reached.1 (rounds-rule e of) is);
+        given = Each-append IsScheduled w.reached.0 (e ∷ []) w.given (events m n e w.reached inner is, tt);
         few = λ c. few-same c (wrote n.journal c) (wrote m.journal c) (wrote_is c) (w.few c);
         wrote_same = λ c. wrote_is c ∙ w.wrote_same c;
         openers_same = inner-over opener_step openers-over [] m n e view inner is ∙ w.openers_same;
@@ -105,7 +105,7 @@ module _ (config : Config) (files : List (List ℕ × List ℕ)) where
     takes-over : (cs : List ℕ) (p q : Machine) → IsReached config files p → Passes p (map event.Take cs) q → fold step a q.journal ≡ fold step a p.journal
     takes-over [] p q r same = ap (λ (k : Machine). fold step a k.journal) same
     takes-over (c ∷ cs) p q r on =
-        takes-over cs on.0 q (r.0 ++ event.Take c ∷ [], passes-more r.0 (start config files) p on.0 (event.Take c) r.1 tt on.2) on.3
+        takes-over cs on.0 q (r.0 ++ event.Take c ∷ [], passes-more r.0 (machine_start config files) p on.0 (event.Take c) r.1 tt on.2) on.3
         ∙ inner-over step over a p on.0 (event.Take c) (reached-viewed config files p r) tt on.2
 
     pub begun-over : (m n t : Machine) (rounds : ℕ) (w : Is config files n) → settle_begun m rounds ≡ Ok n → (b : Beside config files n w (takes n) t) → fold step a b.is.plain.journal ≡ fold step a m.journal
@@ -152,26 +152,26 @@ module _ (config : Config) (files : List (List ℕ × List ℕ)) where
       no-step zero = refl
       no-step (suc more) = refl
 
-  takes-given : AreGiven → (cs : List ℕ) (p q : Machine) → IsReached config files p → Passes p (map event.Take cs) q → Each IsGiven (map event.Take cs)
+  takes-given : AreGiven → (cs : List ℕ) (p q : Machine) → IsReached config files p → Passes p (map event.Take cs) q → Each IsScheduled (map event.Take cs)
   takes-given events [] p q r on = tt
   takes-given events (c ∷ cs) p q r on =
-      (events p on.0 (event.Take c) r tt on.2, takes-given events cs on.0 q (r.0 ++ event.Take c ∷ [], passes-more r.0 (start config files) p on.0 (event.Take c) r.1 tt on.2) on.3)
+      (events p on.0 (event.Take c) r tt on.2, takes-given events cs on.0 q (r.0 ++ event.Take c ∷ [], passes-more r.0 (machine_start config files) p on.0 (event.Take c) r.1 tt on.2) on.3)
 
   passes-append : (es fs : List Event) (a b c : Machine) → Passes a es b → Passes b fs c → Passes a (es ++ fs) c
   passes-append [] fs a b c same on = subst (λ (k : Machine). Passes k fs c) same on
   passes-append (e ∷ es) fs a b c past on = (past.0, past.1, past.2, passes-append es fs past.0 b c past.3 on)
 
   -- where the run up to the settle was ordinary
-  pub begun-within : AreGiven → (m n t : Machine) (rounds : ℕ) (w : Is config files m) (v : Is config files n) → Each IsGiven w.reached.0 → IsOrdinary m.journal → settle_begun m rounds ≡ Ok n → (b : Beside config files n v (takes n) t)
+  pub begun-within : AreGiven → (m n t : Machine) (rounds : ℕ) (w : Is config files m) (v : Is config files n) → Each IsScheduled w.reached.0 → IsOrdinary m.journal → settle_begun m rounds ≡ Ok n → (b : Beside config files n v (takes n) t)
       → IsWithin m.journal b.is.plain
   begun-within events m n t rounds w v given ordinary begun b =
       let cs : List ℕ = filter (is_holder n) (holders (agenda_of n.journal)) in
       let same : w.plain ≡ v.plain = begun-plain m n rounds w v begun in
-      let past : Passes (start config files) w.reached.0 v.plain = subst (Passes (start config files) w.reached.0) same w.reached.1 in
+      let past : Passes (machine_start config files) w.reached.0 v.plain = subst (Passes (machine_start config files) w.reached.0) same w.reached.1 in
       let wrote_is : (c : ℕ) → wrote b.is.plain.journal c ≡ wrote m.journal c = λ c. begun-over (wrote_step c) (wrote-over c) (wrote-steps c) [] m n t rounds v begun b in
       record {
-        reached = (w.reached.0 ++ map event.Take cs, passes-append w.reached.0 (map event.Take cs) (start config files) v.plain b.is.plain past b.passes);
-        given = Each-append IsGiven w.reached.0 (map event.Take cs) given (takes-given events cs v.plain b.is.plain v.reached b.passes);
+        reached = (w.reached.0 ++ map event.Take cs, passes-append w.reached.0 (map event.Take cs) (machine_start config files) v.plain b.is.plain past b.passes);
+        given = Each-append IsScheduled w.reached.0 (map event.Take cs) given (takes-given events cs v.plain b.is.plain v.reached b.passes);
         wrote_same = wrote_is;
         openers_same = begun-over opener_step openers-over opener-steps [] m n t rounds v begun b;
         untouched = λ c. begun-over (touched_step c) (touched-over c) (touched-steps c) false m n t rounds v begun b ∙ (ordinary c).0;
@@ -198,7 +198,7 @@ module _ (config : Config) (files : List (List ℕ × List ℕ)) where
           → IsModest (wholes (file_at files) m.journal c) (tellers (conn p c).part.nodes p.config.nodes) (seat_of (conn p c).part)
       pub owes : Owes (game (wholes (file_at files) m.journal) Good) 5 3
 
-    module _ (events : AreGiven) (h : SettlesWithin) (given : Each IsGiven w.reached.0) (ordinary : IsOrdinary m.journal) where
+    module _ (events : AreGiven) (h : SettlesWithin) (given : Each IsScheduled w.reached.0) (ordinary : IsOrdinary m.journal) where
       warming : Warming config files (wholes (file_at files) m.journal) Good (IsWithin m.journal) First Second
       warming = record {
         reached = λ p v. v.reached;

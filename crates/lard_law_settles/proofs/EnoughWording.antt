@@ -8,7 +8,7 @@ use Rattle.lard_bound.specs.Progress.{IfCame, came_in}
 use Rattle.lard_client.specs.Control.{ClientBlock}
 use Rattle.lard_law_connections.proofs.BytesMessages.{forwards-read}
 use Rattle.lard_law_connections.proofs.PlacesHeads.{kinds-same}
-use Rattle.lard_law_view.specs.Carry.{MayMove}
+use Rattle.lard_law_view.specs.Carry.{MayRestOn}
 use Rattle.lard_law_view.specs.View.{ClientRules, Conn, FrontRules, Move, Setting, Was, client_does, event_seen, front_admits, front_does, grown, letter, letters_of, packet_seen}
 use Rattle.lard_rules.specs.Front as front
 use Rattle.lard_rules.specs.Front.{ask_of, front_asked, front_ended, front_gets, front_taken, front_timer, message}
@@ -88,7 +88,7 @@ IsRoundsSeen (Row r) = Unit {0}
 IsRoundsSeen (Came l) = Unit {0}
 
 abbrev pub WarmsOwed : Conn → Move → Type 0
-WarmsOwed x v = MayMove IsCalmConn x → Each IsRoundsSeen v.heads → Warms First Second x v
+WarmsOwed x v = MayRestOn IsCalmConn x → Each IsRoundsSeen v.heads → Warms First Second x v
 
 -- ---- what stays
 
@@ -280,7 +280,7 @@ module _ (x : Conn) (v : Move) (place : v.place ≡ Front) (same : v.part.statio
         (λ p has. message-front p (each-has (MessageHas c (AreWordsOf x)) v.said.messages p says.1 has));
   }
 
-deed-warms : (x : Conn) (heads : List Seen) (c : ℕ) (d : front.Deed) → (IfCame (First x) (came_in heads) → DeedHas c (AreWordsOf x) d) → Warms First Second x (front_does x heads d)
+deed-warms : (x : Conn) (heads : List Seen) (c : ℕ) (d : front.FrontDeed) → (IfCame (First x) (came_in heads) → DeedHas c (AreWordsOf x) d) → Warms First Second x (front_does x heads d)
 deed-warms x heads c front.Drops f = silent-warms x (front_does x heads front.Drops) refl refl refl
 deed-warms x heads c (front.Says t) f = front-warms x (front_does x heads (front.Says t)) refl refl c c (λ came. let h = f came in (h.segments, h.messages))
 deed-warms x heads c (front.Does z) f = front-warms x (front_does x heads (front.Does z)) refl refl c c (λ came. let h = f came in (h.segments, h.messages))

@@ -5,15 +5,15 @@ use Rattle.lard_base.specs.declared.config.Config.{Config}
 use Rattle.lard_base.specs.declared.event.Event.TheVariants as event
 use Rattle.lard_base.specs.declared.place.Place.{Place}
 use Rattle.lard_base.specs.declared.place.Place.TheVariants.{Client, Front, Node}
-use Rattle.lard_client.specs.Arriving.{arrived}
-use Rattle.lard_client.specs.Control.{ClientBlock, aborted, held_on, is_established, is_open, is_open_in, is_writing, shut_down, taken, written}
+use Rattle.lard_client.specs.Arriving.{client_arrived}
+use Rattle.lard_client.specs.Control.{ClientBlock, aborted, held_on, is_established, is_client_open, is_open_in, is_writing, shut_down, client_taken, client_written}
 use Rattle.lard_client.specs.declared.heard.Heard.{Heard}
 use Rattle.lard_client.specs.declared.phase.Phase.{Phase}
 use Rattle.lard_client.specs.declared.phase.Phase.TheVariants.{Open, Aborted}
-use Rattle.lard_client.specs.Leaving.{after_timer, timed}
+use Rattle.lard_client.specs.Leaving.{client_after_timer, client_timed}
 use Rattle.lard_laws.specs.Acks.{story_at}
-use Rattle.lard_law_view.specs.Carry.{IsUntouchedLaw, MayMove, OfEach, Untouched, setting, tale_at}
-use Rattle.lard_law_view.specs.View.{Conn, IsMachine, Move, Setting, UntouchedRules, brought_said, client_begins, client_does, contents, event_seen, front_does, grown, node_does, nothing_said, packet_seen, reads_first, rows_of, sending, stands, timer_rows}
+use Rattle.lard_law_view.specs.Carry.{IsUntouchedLaw, MayRestOn, OfEach, Untouched, setting, tale_at}
+use Rattle.lard_law_view.specs.View.{Conn, IsMachine, Move, Setting, UntouchedRules, brought_said, client_begins, client_does, content_said, event_seen, front_does, grown, node_does, nothing_said, packet_seen, reads_first, rows_of, sending, stands, timer_rows}
 use Rattle.lard_law_view.proofs.Carried.{carried}
 use Rattle.lard_law_view.proofs.Fine.{IsFine, IsItsOwn, fine}
 use Rattle.lard_law_view.proofs.Guarded.{untouched-both, untouched-law, untouched-weaker}
@@ -33,11 +33,11 @@ use Rattle.lard_rules.specs.Node.{node_acknowledged, node_content, node_forwarde
 use Rattle.lard_law_progress.proofs.Clients.{OnPhase, arrived-takes, speaks-told, timer-told}
 use Rattle.lard_rules.specs.declared.places.Station.{Station}
 use Rattle.lard_rules.specs.declared.places.Turn.{Turn}
-use Rattle.lard_rules.specs.Client.{accepted_note, client_gets, client_holds, client_shuts, client_takes, client_timer, client_writes, eof_note, ready_of, silent, speaking}
+use Rattle.lard_rules.specs.Client.{accepted_note, client_gets, client_holds, client_shuts, client_takes, client_timer, client_writes, eof_note, station_ready_of, silent, speaking}
 use Rattle.lard_segment.specs.declared.fault.SegFault.{SegFault}
 use Rattle.lard_segment.specs.declared.segment.Dir.TheVariants.{ToClient, ToCluster}
 use Rattle.lard_segment.specs.Segment.{Said, decoded}
-use Rattle.lard_send.specs.Send.{closed, queued_too}
+use Rattle.lard_send.specs.Send.{send_closed, queued_too}
 
 -- ---- records that tell of no abort
 
@@ -113,17 +113,17 @@ module _ (x : Conn) where
       let still = move-still x v own plain (Each-weaker (NotedAt v.place x.c) IsStill (λ r. noted-still v.place x.c r machine) v.said.notes own.notes) in
       subst (λ (o : Option Station). Told o (story_at (grown x v)).aborted) (sym same) (subst (Told x.part.station) (sym still) h)
 
-  front-keeps : (heads : List Seen) → (story_seen x.c (story_at x) heads).aborted ≡ (story_at x).aborted → (d : front.Deed) → Keeps x (front_does x heads d)
+  front-keeps : (heads : List Seen) → (story_seen x.c (story_at x) heads).aborted ≡ (story_at x).aborted → (d : front.FrontDeed) → Keeps x (front_does x heads d)
   front-keeps heads plain front.Drops = machine-keeps (front_does x heads front.Drops) tt plain refl
   front-keeps heads plain (front.Says turn) = machine-keeps (front_does x heads (front.Says turn)) tt plain refl
   front-keeps heads plain (front.Does did) = machine-keeps (front_does x heads (front.Does did)) tt plain refl
 
-  node-keeps : (n : ℕ) (heads : List Seen) → (story_seen x.c (story_at x) heads).aborted ≡ (story_at x).aborted → (d : node.Deed) → Keeps x (node_does x n heads d)
+  node-keeps : (n : ℕ) (heads : List Seen) → (story_seen x.c (story_at x) heads).aborted ≡ (story_at x).aborted → (d : node.NodeDeed) → Keeps x (node_does x n heads d)
   node-keeps n heads plain node.Drops = machine-keeps (node_does x n heads node.Drops) tt plain refl
   node-keeps n heads plain (node.Says messages) = machine-keeps (node_does x n heads (node.Says messages)) tt plain refl
   node-keeps n heads plain (node.Does given) = machine-keeps (node_does x n heads (node.Does given)) tt plain refl
 
-  read-keeps : (n r : ℕ) (path : List ℕ) (d : node.Deed) → Keeps x (reads_first (rec.Read n n x.c r path) (node_does x n [] d))
+  read-keeps : (n r : ℕ) (path : List ℕ) (d : node.NodeDeed) → Keeps x (reads_first (rec.Read n n x.c r path) (node_does x n [] d))
   read-keeps n r path node.Drops = machine-keeps (reads_first (rec.Read n n x.c r path) (node_does x n [] node.Drops)) tt refl refl
   read-keeps n r path (node.Says messages) = machine-keeps (reads_first (rec.Read n n x.c r path) (node_does x n [] (node.Says messages))) tt refl refl
   read-keeps n r path (node.Does given) = machine-keeps (reads_first (rec.Read n n x.c r path) (node_does x n [] (node.Does given))) tt refl refl
@@ -142,23 +142,23 @@ speaks-goes : (x y : ClientBlock) (notes : List Rec) (segments : List (Place × 
 speaks-goes x y notes segments still opens = record { notes = still; opens = λ e. opens (sym (speaks-told y).phase ∙ e) }
 
 writes-goes : (x : ClientBlock) (bytes : List ℕ) → Goes x (client_writes x bytes)
-writes-goes x bytes = cond_both (is_writing x) (speaking (rec.Wrote x.c bytes ∷ []) [] (written x bytes)) (x, silent) (Goes x)
-    (λ t. speaks-goes x (written x bytes) (rec.Wrote x.c bytes ∷ []) [] (tt, tt)
+writes-goes x bytes = cond_both (is_writing x) (speaking (rec.Wrote x.c bytes ∷ []) [] (client_written x bytes)) (x, silent) (Goes x)
+    (λ t. speaks-goes x (client_written x bytes) (rec.Wrote x.c bytes ∷ []) [] (tt, tt)
     (cond_both (is_writing x) (record x { send = queued_too x.send bytes }) x (λ (y : ClientBlock). y.phase ≡ Open → x.phase ≡ Open) (λ u e. e) (λ u e. e)))
     (λ t. silent-goes x)
 
 shuts-goes : (x : ClientBlock) → Goes x (client_shuts x)
-shuts-goes x = speaks-goes x (shut_down x) [] [] tt (cond_both (is_open x) (record x { send = closed x.send }) x (λ (y : ClientBlock). y.phase ≡ Open → x.phase ≡ Open) (λ t e. e) (λ t e. e))
+shuts-goes x = speaks-goes x (shut_down x) [] [] tt (cond_both (is_client_open x) (record x { send = send_closed x.send }) x (λ (y : ClientBlock). y.phase ≡ Open → x.phase ≡ Open) (λ t e. e) (λ t e. e))
 
 holds-goes : (x : ClientBlock) → Goes x (client_holds x)
-holds-goes x = speaks-goes x (held_on x) [] [] tt (cond_both (is_open x) (record x { holding = true }) x (λ (y : ClientBlock). y.phase ≡ Open → x.phase ≡ Open) (λ t e. e) (λ t e. e))
+holds-goes x = speaks-goes x (held_on x) [] [] tt (cond_both (is_client_open x) (record x { holding = true }) x (λ (y : ClientBlock). y.phase ≡ Open → x.phase ≡ Open) (λ t e. e) (λ t e. e))
 
 takes-goes : (x : ClientBlock) → Goes x (client_takes x)
-takes-goes x = speaks-goes x (taken x) [] [] tt
-    (cond_both (is_open x) (record x { holding = false; held = 0; owed = x.owed || is_established x }) x (λ (y : ClientBlock). y.phase ≡ Open → x.phase ≡ Open) (λ t e. e) (λ t e. e))
+takes-goes x = speaks-goes x (client_taken x) [] [] tt
+    (cond_both (is_client_open x) (record x { holding = false; held = 0; owed = x.owed || is_established x }) x (λ (y : ClientBlock). y.phase ≡ Open → x.phase ≡ Open) (λ t e. e) (λ t e. e))
 
 fires-goes : (x : ClientBlock) → Goes x (client_timer x)
-fires-goes x = speaks-goes x (after_timer x) [] (ready_of (after_timer x) (timed x)) tt (λ e. sym (timer-told x).phase ∙ e)
+fires-goes x = speaks-goes x (client_after_timer x) [] (station_ready_of (client_after_timer x) (client_timed x)) tt (λ e. sym (timer-told x).phase ∙ e)
 
 phase-was : (p q : Phase) → OnPhase p q → q ≡ Open → p ≡ Open
 phase-was p q (inl same) e = sym same ∙ e
@@ -172,14 +172,14 @@ notes-still c h payload = Each-append IsStill (accepted_note c h payload) (eof_n
 gets-goes : (x : ClientBlock) (r : Result Said SegFault) → Goes x (client_gets x r)
 gets-goes x (Err fault) = silent-goes x
 gets-goes x (Ok s) =
-    let heard : Heard × ClientBlock = arrived x s in
-    speaks-goes x heard.1 (accepted_note heard.1.c heard.0 s.payload ++ eof_note heard.1.c heard.0) (ready_of heard.1 heard.0.reply) (notes-still heard.1.c heard.0 s.payload)
+    let heard : Heard × ClientBlock = client_arrived x s in
+    speaks-goes x heard.1 (accepted_note heard.1.c heard.0 s.payload ++ eof_note heard.1.c heard.0) (station_ready_of heard.1 heard.0.reply) (notes-still heard.1.c heard.0 s.payload)
     (phase-was x.phase heard.1.phase (arrived-takes x s).0.phase)
 
 abort-ends : (x : ClientBlock) → (aborted x).phase ≡ Open → ⊥
-abort-ends x = cond_both (is_open x) (record x { phase = Aborted }) x (λ (y : ClientBlock). y.phase ≡ Open → ⊥)
+abort-ends x = cond_both (is_client_open x) (record x { phase = Aborted }) x (λ (y : ClientBlock). y.phase ≡ Open → ⊥)
     (λ t e. let bad : Aborted ≡ Open = e in cc)
-    (λ t e. both_ways (is_open x) t (ap is_open_in e))
+    (λ t e. both_ways (is_client_open x) t (ap is_open_in e))
 
 module _ (x : Conn) (s : Station) (there : x.part.station ≡ Some s) where
   client-keeps : (heads : List Seen) → (story_seen x.c (story_at x) heads).aborted ≡ (story_at x).aborted → (given : ClientBlock × Turn) → Goes s.client given → Keeps x (client_does x s heads given)
@@ -225,7 +225,7 @@ module _ (k : Setting) where
       acknowledged = λ x n epoch env bytes is spells was. node-keeps x n (packet_seen Front (Node n) bytes) refl (node_acknowledged env (x.part.nodes n));
       read = λ x n epoch r env path is. read-keeps x n r path (node_read env (x.part.nodes n) r);
       fires = λ x s n env there is. node-keeps x n (event_seen (event.Timer (Node n) x.c)) refl (node_timer env (x.part.nodes n));
-      answers = λ x n from epoch r path file bytes there spells was. machine-keeps x (stands x (Node n) (packet_seen (Node from) (Node n) bytes) (contents k n from x.c epoch r path)) tt refl refl;
+      answers = λ x n from epoch r path file bytes there spells was. machine-keeps x (stands x (Node n) (packet_seen (Node from) (Node n) bytes) (content_said k n from x.c epoch r path)) tt refl refl;
       queues = λ x n from epoch r path file bytes there spells was. machine-keeps x (stands x (Node n) (packet_seen (Node from) (Node n) bytes) (record nothing_said { notes = rec.Queued n from x.c r path ∷ [] })) tt refl refl;
       brings = λ x n from epoch r path. machine-keeps x (stands x (Node n) [] (brought_said k n from x.c epoch r path)) tt refl refl;
     };
@@ -238,7 +238,7 @@ module _ (k : Setting) where
   Given x = Unit {0}
 
   abbrev Wanted : Conn → Move → Type 0
-  Wanted x v = MayMove Given x → (tale_at x).touched ≡ false → AbortedIsOver x → AbortedIsOver (grown x v)
+  Wanted x v = MayRestOn Given x → (tale_at x).touched ≡ false → AbortedIsOver x → AbortedIsOver (grown x v)
 
   abbrev All : Conn → Move → Type 0
   All x v = IsFine x v × Keeps x v

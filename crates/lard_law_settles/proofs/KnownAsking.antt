@@ -5,16 +5,16 @@ use Rattle.lard_answers.specs.Answers.{FilesAt, IsPrefix, verdicts}
 use Rattle.lard_bound.specs.Units.{Whole, whole_of}
 use Rattle.lard_laws.proofs.BackingNext.{next-for}
 use Rattle.lard_law_connections.specs.BytesAgreement.{IsOpen, SeatAgrees, StageAgrees}
-use Rattle.lard_law_connections.specs.Kept.{FrontKeeps, FrontRowKeeps, FrontStageKeeps, NodeKeeps, NodeRowKeeps, NodeStageKeeps}
+use Rattle.lard_law_connections.specs.Kept.{FrontKeeps, FrontRowKeeps, FrontStageKeeps, NodeKeepsMessages, NodeRowKeeps, NodeStageKeeps}
 use Rattle.lard_law_connections.specs.Places.{IsDecided, IsPast}
 use Rattle.lard_law_view.specs.Carry.{tale_at}
 use Rattle.lard_law_view.specs.View.{Conn}
-use Rattle.lard_laws.specs.WaysState.{BeginsWith, GoesItsWay, IsAway, IsPlacedOnce, IsWaiting, SeatWays, StageWays, StayWays, marks_at}
+use Rattle.lard_laws.specs.WaysState.{BeginsWithRequest, GoesItsWay, IsAway, IsPlacedOnce, WaitsForNext, SeatWays, StageWays, StayWays, marks_at}
 use Rattle.lard_laws.specs.WaysUnder.{Assigned}
 use Rattle.lard_laws.specs.Ways.{good_paths, paths_wanted}
 use Rattle.lard_endpoint.specs.Control.{ControlBlock}
 use Rattle.lard_rules.specs.declared.front.FrontRest.{FrontRest}
-use Rattle.lard_rules.specs.Front.{rest_of}
+use Rattle.lard_rules.specs.Front.{front_rest}
 use Rattle.lard_rules.specs.FrontSound.{HasTarget}
 use Rattle.lard_handoff_back.specs.Back.{offer_answer}
 use Rattle.lard_handoff_back.specs.declared.row.BackConn.{BackConn}
@@ -43,7 +43,7 @@ some-got [] i v e = absurd (let bad : ◌≡◌ {A = Option Verdict} None (Some 
 some-got (u ∷ us) i v e = omega arith
 
 -- the path with which a connection waits
-has-target : (r : Option FrontRest) → HasTarget r → (path : List ℕ) × ((rest_of r).target ≡ Some path)
+has-target : (r : Option FrontRest) → HasTarget r → (path : List ℕ) × ((front_rest r).target ≡ Some path)
 has-target None h = absurd h
 has-target (Some rest) h = go rest.target refl h where
   go : (t : Option (List ℕ)) → rest.target ≡ t → HasTarget (Some (record rest { target = t })) → (path : List ℕ) × (rest.target ≡ Some path)
@@ -72,19 +72,19 @@ module _ (files : FilesAt) (x : Conn) (st : Station) (k : Talk) (pend : List Ver
     kept : FrontStageKeeps x.c x.part.front s
     kept = subst (FrontStageKeeps x.c x.part.front) eq (subst (FrontRowKeeps x.c x.part.front) at keeps)
 
-  away-asks : (home e : ℕ) → IsAway files (marks_at x) (rest_of x.part.front.rest) home e (x.part.nodes home) → 1 ≤ w.requests
+  away-asks : (home e : ℕ) → IsAway files (marks_at x) (front_rest x.part.front.rest) home e (x.part.nodes home) → 1 ≤ w.requests
   away-asks home e h = ⊎_elim
-      (λ (p : IsPast e (x.part.nodes home).row × IsPlacedOnce files (marks_at x) (rest_of x.part.front.rest) home). was-assigned p.1.path home [] p.1.assigned)
-      (λ (d : IsDecided e (x.part.nodes home).row × ((path : List ℕ) × (others : List Assigned) × ((marks_at x).assigned ≡ (path, home) ∷ others)) × StayWays files home (marks_at x) (rest_of x.part.front.rest) (x.part.nodes home).stay).
+      (λ (p : IsPast e (x.part.nodes home).row × IsPlacedOnce files (marks_at x) (front_rest x.part.front.rest) home). was-assigned p.1.path home [] p.1.assigned)
+      (λ (d : IsDecided e (x.part.nodes home).row × ((path : List ℕ) × (others : List Assigned) × ((marks_at x).assigned ≡ (path, home) ∷ others)) × StayWays files home (marks_at x) (front_rest x.part.front.rest) (x.part.nodes home).stay).
       was-assigned d.1.0 home d.1.1 d.1.2)
       h
 
   waits-asks : (row : FrontRow) → x.part.front.row ≡ Some row → (b : ControlBlock) → row.stage ≡ stage.Waiting b → 1 ≤ w.requests
   waits-asks row at b eq =
       let target = has-target x.part.front.rest (kept row at (stage.Waiting b) eq).0 in
-      let begins : BeginsWith files b.recv.unread target.0 = subst (IsWaiting files b.recv.unread) target.1 (ways row at (stage.Waiting b) eq).1 in
+      let begins : BeginsWithRequest files b.recv.unread target.0 = subst (WaitsForNext files b.recv.unread) target.1 (ways row at (stage.Waiting b) eq).1 in
       let h = agrees row at (stage.Waiting b) eq in
-      let next = next-for files k.w k.out k.vs b (rest_of x.part.front.rest).count h.0.holds h.1 target.0 begins in
+      let next = next-for files k.w k.out k.vs b (front_rest x.part.front.rest).count h.0.holds h.1 target.0 begins in
       let some = some-got (verdicts k.w.bytes) next.before next.verdict next.is in
       let r = requests-are in
       omega (arith, some, r)
@@ -107,7 +107,7 @@ gone-idle N files c e n q (back.Here b) t h = absurd (let bad : false ≡ true =
 gone-idle N files c e n q back.Out t h = absurd h
 gone-idle N files c e n q back.Ended t h = absurd (let bad : false ≡ true = t in cc)
 
-pub new-idle : (N : ℕ → Type 0) (files : FilesAt) (c n e : ℕ) (q : NodePart) → NodeKeeps N files c n q → offer_answer e q.row ≡ New → (q.kept ≡ []) × (q.fetches ≡ [])
+pub new-idle : (N : ℕ → Type 0) (files : FilesAt) (c n e : ℕ) (q : NodePart) → NodeKeepsMessages N files c n q → offer_answer e q.row ≡ New → (q.kept ≡ []) × (q.fetches ≡ [])
 new-idle N files c n e q keeps new = go q.row keeps new where
   go : (o : Option BackRow) → NodeRowKeeps N files c n q o → offer_answer e o ≡ New → (q.kept ≡ []) × (q.fetches ≡ [])
   go None h new = h

@@ -12,7 +12,7 @@ use Rattle.lard_client.specs.Control.{ClientBlock, IsClientBlock, is_holding, is
 use Rattle.lard_client.specs.declared.phase.Phase.TheVariants.{Open}
 use Rattle.lard_rules.specs.declared.machine.Machine.{Machine}
 use Rattle.lard_rules.specs.Machine.{IsReached}
-use Rattle.lard_law_connections.specs.BytesAgreement.{ConnAgrees, IsFair, IsFairOn, IsInner, IsOpen, IsUnopened}
+use Rattle.lard_law_connections.specs.BytesAgreement.{ConnAgrees, IsFair, IsFairOn, IsInner, IsOpen, IsConnUnopened}
 use Rattle.lard_law_connections.proofs.BytesRuns.{states-truthful}
 use Rattle.lard_law_connections.specs.Kept.{FrontRowKeeps, FrontStageKeeps}
 use Rattle.lard_law_connections.proofs.KeptRuns.{connections-are-kept}
@@ -126,7 +126,7 @@ module _ (config : Config) (files : List (List ℕ × List ℕ)) (small : config
       go : (o : Option Station) → x.part.station ≡ o → s.ack < 2 ^ 32
       go None at =
           let truth = states-truthful config files small m reached q free-tale in
-          let u : IsUnopened x = subst (ConnAgrees (file_at files) x truth.talk truth.pend) at truth.agrees in
+          let u : IsConnUnopened x = subst (ConnAgrees (file_at files) x truth.talk truth.pend) at truth.agrees in
           absurd (has-each IsInner l x.letters was u.inner).1
       go (Some st) at =
           let o = open-of st at in

@@ -5,10 +5,10 @@ use Rattle.std.proofs.lemmas.Bool.{cases_lt}
 use Rattle.std.proofs.lemmas.Bool.Decides.{nat_tests}
 use Rattle.lard_answers.specs.Answers.{FilesAt}
 use Rattle.lard_base.specs.declared.limits.TheConstants.{MAX_STREAM_BYTES, RECEIVE_WINDOW}
-use Rattle.lard_bound.specs.Units.{taken}
-use Rattle.lard_client.specs.Control.{ClientBlock, is_open, is_open_in}
+use Rattle.lard_bound.specs.Units.{symbols_taken}
+use Rattle.lard_client.specs.Control.{ClientBlock, is_client_open, is_open_in}
 use Rattle.lard_client.specs.declared.phase.Phase.TheVariants.{Open}
-use Rattle.lard_client.specs.Leaving.{emitted, owed_ready, ready_of}
+use Rattle.lard_client.specs.Leaving.{client_emitted, client_owed_ready, client_ready_of}
 use Rattle.lard_law_connections.specs.BytesAgreement.{IsOpen}
 use Rattle.lard_law_view.specs.View.{Conn}
 use Rattle.lard_endpoint.specs.Control.{ControlBlock}
@@ -21,7 +21,7 @@ use Rattle.lard_request.specs.declared.verdict.Verdict.{Verdict}
 use Rattle.lard_rules.specs.declared.places.Station.{Station}
 use Rattle.lard_segment.specs.declared.segment.Ready.{Ready}
 use Rattle.lard_send.specs.declared.piece.Piece.{Piece}
-use Rattle.lard_send.specs.Send.{Sending, byte_piece, left, may_send, next_fin, next_len, next_piece, peer_room, symbols, syn_piece}
+use Rattle.lard_send.specs.Send.{Sending, byte_piece, send_left, may_send, next_fin, next_len, next_piece, peer_room, symbols, syn_piece}
 use Rattle.lard_seq.specs.Seq.{one_if}
 use Rattle.lard_law_view.specs.Truth.{Stream}
 
@@ -35,13 +35,13 @@ within : (a b : ℕ) → a < b → nat_lt a b ≡ true
 within a b e = grind (arith, nat_tests, e)
 
 -- an open client that says nothing has nothing to send
-pub nothing-next : (x : ClientBlock) → is_open x ≡ true → emitted x ≡ None → next_piece x.send ≡ None
-nothing-next x open_ none = by-piece (next_piece x.send) (by-open (is_open x) open_ none) where
-  by-open : (t : Bool) → t ≡ true → cond {A = Option Ready} (not t) None (ready_of x (next_piece x.send) (owed_ready x)) ≡ None → ready_of x (next_piece x.send) (owed_ready x) ≡ None
+pub nothing-next : (x : ClientBlock) → is_client_open x ≡ true → client_emitted x ≡ None → next_piece x.send ≡ None
+nothing-next x open_ none = by-piece (next_piece x.send) (by-open (is_client_open x) open_ none) where
+  by-open : (t : Bool) → t ≡ true → cond {A = Option Ready} (not t) None (client_ready_of x (next_piece x.send) (client_owed_ready x)) ≡ None → client_ready_of x (next_piece x.send) (client_owed_ready x) ≡ None
   by-open true e f = f
   by-open false e f = absurd (let bad : false ≡ true = e in cc)
 
-  by-piece : (p : Option Piece) → ready_of x p (owed_ready x) ≡ None → p ≡ None
+  by-piece : (p : Option Piece) → client_ready_of x p (client_owed_ready x) ≡ None → p ≡ None
   by-piece (Some p) f = absurd cc
   by-piece None f = refl
 
@@ -60,7 +60,7 @@ pub all-sent : (s : Sending) → next_piece s ≡ None → (s.una == 0) ≡ fals
 unfolding peer_room
 all-sent s none established wide = ⊎_elim (λ (l : s.nxt < symbols s). absurd (sends l (s.nxt == 0) (may_send s) (may l) none)) (λ (l : symbols s ≤ s.nxt). l) (cases_lt s.nxt (symbols s)) where
   may : s.nxt < symbols s → may_send s ≡ true
-  may l = λ i. not (established i) && (within s.nxt (symbols s) l i && within 0 (left s) (omega (arith, l, wide)) i)
+  may l = λ i. not (established i) && (within s.nxt (symbols s) l i && within 0 (send_left s) (omega (arith, l, wide)) i)
 
   sends : s.nxt < symbols s → (p m : Bool) → m ≡ true → cond p (Some syn_piece) (cond m (Some (byte_piece s (s.nxt - 1) (next_len s) (next_fin s))) None) ≡ None → ⊥
   sends l true m e f = cc
@@ -72,7 +72,7 @@ all-sent s none established wide = ⊎_elim (λ (l : s.nxt < symbols s). absurd 
 -- Beside the law of bytes: it has said all that it may, holds nothing, opened with a window, and knows of one that reaches far; before it is
 -- established it sent its SYN alone; and little was written.
 pub record HasRest (x : ClientBlock) (w : Stream) : Type 0 where
-  pub none : emitted x ≡ None
+  pub none : client_emitted x ≡ None
   pub held : x.phase ≡ Open → x.held ≡ 0
   pub holding : x.phase ≡ Open → x.holding ≡ false
   pub some : 1 ≤ x.wnd
@@ -116,6 +116,6 @@ calms files x st k pend o rest =
 -- what the endpoint knows to be taken was, and where that is all, no more was taken
 pub tells-of : (st : Station) (b : ControlBlock) → IsTalking st b → Tells st.client b
 tells-of st b talk =
-    let sent : taken st.client ≤ b.send.nxt = talk.sent in
+    let sent : symbols_taken st.client ≤ b.send.nxt = talk.sent in
     let queued : b.send.nxt ≤ symbols b.send = talk.sound.sending.queued in
     (talk.acked, λ all. omega (arith, sent, queued, all))

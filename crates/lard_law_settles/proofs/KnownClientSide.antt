@@ -6,8 +6,8 @@ use Rattle.lard_base.specs.declared.place.Place.{Place}
 use Rattle.lard_base.specs.declared.place.Place.TheVariants.{Client, Front, Node}
 use Rattle.lard_base.specs.declared.place.Reason.{Reason}
 use Rattle.lard_base.specs.declared.place.Reason.TheVariants.{Closed, Limit, Peer}
-use Rattle.lard_bound.specs.Seats.{Gone, Held, Here, Offered, Over, Seat, Unborn, Waiting, seat_of}
-use Rattle.lard_bound.specs.Units.{Whole, taken}
+use Rattle.lard_bound.specs.Seats.{Gone, Held, Here, Offered, Over, SeatNow, Unborn, Waiting, seat_of}
+use Rattle.lard_bound.specs.Units.{Whole, symbols_taken}
 use Rattle.lard_client.specs.Control.{is_open_in}
 use Rattle.lard_client.specs.declared.phase.Phase.TheVariants.{Open}
 use Rattle.lard_laws.specs.Acks.{FrontStageActs, OpenActs, bounds_of}
@@ -67,7 +67,7 @@ module _ (files : FilesAt) (stream : ℕ) (x : Conn) (st : Station) (at : x.part
   talks-at n e b has = talks-there files stream x st at laws nodes w known n e b has
 
   -- no more was taken than it has, where that matters
-  heard-within : (z : Seat) → seat_of x.part ≡ z → st.client.phase ≡ Open → Matters z → acts.heard ≤ symbols st.client.send
+  heard-within : (z : SeatNow) → seat_of x.part ≡ z → st.client.phase ≡ Open → Matters z → acts.heard ≤ symbols st.client.send
   heard-within (Held b count) eq open_ m =
       let has : SeatHas x.part (Held b count) = subst (SeatHas x.part) eq (seat-has x.part) in
       let spoke : heard b.recv ≤ symbols st.client.send = (held-talks files stream x st at laws b has).spoke in
@@ -88,10 +88,10 @@ module _ (files : FilesAt) (stream : ℕ) (x : Conn) (st : Station) (at : x.part
   heard-within _ eq open_ m = absurd m
 
   -- a refusal has the number of what was acknowledged
-  refused : (from : Place) (bytes : List ℕ) (s : Said) → IsCluster from → Was x from (Client x.c) bytes → decoded bytes x.c ToClient ≡ Ok s → Refuses st.iss (taken st.client) s
+  refused : (from : Place) (bytes : List ℕ) (s : Said) → IsCluster from → Was x from (Client x.c) bytes → decoded bytes x.c ToClient ≡ Ok s → Refuses st.iss (symbols_taken st.client) s
   refused from bytes s cluster was read rst ack =
       let l : Letter = record { from = from; to = Client x.c; bytes = bytes } in
-      let h = by-place from cluster (has-each (refusals.Refuses x.c x.letters) l x.letters was laws.refusals) s read rst ack in
+      let h = by-place from cluster (has-each (refusals.RefusesLetter x.c x.letters) l x.letters was laws.refusals) s read rst ack in
       let t = turned-down x st acts s.seq h.refuses in
       let a : t.0 ≤ taken_by st.client = t.2 in
       let same = taken-is st.client in
@@ -142,7 +142,7 @@ module _ (files : FilesAt) (stream : ℕ) (x : Conn) (st : Station) (at : x.part
     at-end last eq open_ Peer is = tt
     at-end last eq open_ Limit is = met-there (λ una. met.limit open_ una last eq is)
 
-    tells : (z : Seat) → seat_of x.part ≡ z → st.client.phase ≡ Open → SeatTells st.client z
+    tells : (z : SeatNow) → seat_of x.part ≡ z → st.client.phase ≡ Open → SeatTells st.client z
     tells (Held b count) eq open_ =
         let has : SeatHas x.part (Held b count) = subst (SeatHas x.part) eq (seat-has x.part) in
         tells-of st b (held-talks files stream x st at laws b has)

@@ -7,9 +7,9 @@ use Rattle.lard_answers.specs.Answers.{FilesAt, answer, answer_bytes, verdicts}
 use Rattle.lard_answers.proofs.Growing.{answers-are}
 use Rattle.lard_base.specs.declared.limits.TheConstants.{MAX_STREAM_BYTES}
 use Rattle.lard_base.specs.declared.place.Reason.TheVariants as reason
-use Rattle.lard_bound.specs.Units.{taken}
+use Rattle.lard_bound.specs.Units.{symbols_taken}
 use Rattle.lard_laws.specs.Acks.{AcksWhatWasTaken, EndActs, FrontActs, FrontStageActs, OpenActs, StationActs, bounds_of}
-use Rattle.lard_law_connections.specs.BytesAgreement.{EndedIt, IsOpen, IsTruthful, SeatAgrees, StageAgrees}
+use Rattle.lard_law_connections.specs.BytesAgreement.{EndedWithNumbers, IsOpen, IsTruthful, SeatAgrees, StageAgrees}
 use Rattle.lard_law_connections.proofs.BytesClientMoves.{open-at}
 use Rattle.lard_laws.specs.EndedEnds.{EndsAreTrue, IsTrueEnd, RowEnds, StageEnds, StationEnds, TellsEnds, WasClosed, written_by}
 use Rattle.lard_laws.proofs.EndedClients.{written-is}
@@ -51,7 +51,7 @@ module _ (files : FilesAt) (x : Conn) (truth : IsTruthful files x) (acts : AcksW
   act : EndActs (bounds_of x st r.heard) (ending.Over last)
   act = subst (FrontStageActs (bounds_of x st r.heard)) at (subst (FrontActs (bounds_of x st r.heard)) found r.within.front)
 
-  agrees : EndedIt l.w l.was_reset last
+  agrees : EndedWithNumbers l.w l.was_reset last
   agrees = subst (StageAgrees l.w l.out l.vs truth.pend l.was_reset x.c x.part row.epoch.0) at (subst (SeatAgrees l.w l.out l.vs truth.pend l.was_reset x.c x.part) found o.seat)
 
   module _ (why : last.reason ≡ reason.Closed) where
@@ -76,7 +76,7 @@ module _ (files : FilesAt) (x : Conn) (truth : IsTruthful files x) (acts : AcksW
     said-most = let front = said-front files l.w l.out l.vs o.says in omega (arith, ap length front.1, length-append l.out.bytes front.0, ap length all-said)
 
     -- its client took all of that
-    took : taken st.client ≡ 2 + length was.out.bytes
+    took : symbols_taken st.client ≡ 2 + length was.out.bytes
     took =
         let acks : Acks was.out.first (taken_by st.client) last.snd.0 = subst (λ (n : ℕ). Acks n (taken_by st.client) last.snd.0) (sym was.begins) (act.1.0 why) in
         let most = closed-taken files l.w was.out was.vs st.client was.says last why was.ended acks o.client.sound.bounded in
@@ -86,7 +86,7 @@ module _ (files : FilesAt) (x : Conn) (truth : IsTruthful files x) (acts : AcksW
 
     -- ---- the last numbers
 
-    snd-is : seq_offset last.snd.0 st.iss ≡ taken st.client
+    snd-is : seq_offset last.snd.0 st.iss ≡ symbols_taken st.client
     snd-is =
         let e = was.ended in
         let una : e.block.send.una ≡ symbols e.block.send = eqb-true e.block.send.una (symbols e.block.send) both.1 in

@@ -4,9 +4,9 @@ use Rattle.std.proofs.Common.{◌≡◌, ◌≤◌, ◌+◌, ◌==◌, not, ℕ,
 use Rattle.std.proofs.lemmas.Bool.{and_parts, both_ways, cond_both, eqb-true, not-true}
 use Rattle.std.proofs.lemmas.List.{length-append, length-map}
 use Rattle.lard_answers.specs.Answers.{FilesAt, IsPrefix, answer_bytes, verdicts}
-use Rattle.lard_bound.specs.Units.{Whole, taken, whole_of}
+use Rattle.lard_bound.specs.Units.{Whole, symbols_taken, whole_of}
 use Rattle.lard_client.specs.Control.{ClientBlock}
-use Rattle.lard_law_connections.specs.BytesAgreement.{HoldsIt}
+use Rattle.lard_law_connections.specs.BytesAgreement.{HoldsItPending}
 use Rattle.lard_endpoint.specs.Control.{ControlBlock}
 use Rattle.lard_endpoint.specs.Moving.{may_freeze}
 use Rattle.lard_law_view.specs.Agreement.{ClientAgrees, SaysAnswers}
@@ -24,7 +24,7 @@ use Rattle.lard_law_view.proofs.Growth.{front-length}
 -- ---- words for the same
 
 -- how much a client took, as both laws count it
-pub taken-same : (x : ClientBlock) → taken x ≡ taken_by x
+pub taken-same : (x : ClientBlock) → symbols_taken x ≡ taken_by x
 taken-same x = go (x.send.una == 0) where
   end_ : (e : Bool) → cond e 1 0 ≡ one_if e
   end_ true = refl
@@ -35,7 +35,7 @@ taken-same x = go (x.send.una == 0) where
   go false = ap (λ n. 1 + x.accepted + n) (end_ x.eof)
 
 -- no more than what it accepted, its SYN and its FIN
-pub taken-most : (x : ClientBlock) (n m : ℕ) → x.accepted ≤ n → (x.eof ≡ true → 1 ≤ m) → taken x ≤ 1 + n + m
+pub taken-most : (x : ClientBlock) (n m : ℕ) → x.accepted ≤ n → (x.eof ≡ true → 1 ≤ m) → symbols_taken x ≤ 1 + n + m
 taken-most x n m some fin = cond_both (x.send.una == 0) 0 (1 + x.accepted + cond x.eof 1 0) (λ t. t ≤ 1 + n + m) (λ t. omega arith) (λ t. go x.eof fin) where
   go : (e : Bool) → (e ≡ true → 1 ≤ m) → 1 + x.accepted + cond e 1 0 ≤ 1 + n + m
   go true fin = let f : 1 ≤ m = fin refl in omega (arith, some, f)
@@ -69,14 +69,14 @@ module _ (files : FilesAt) (c : ℕ) (st : Station) (k : Talk) (client : ClientA
       omega (arith, l, e)
 
   -- it took no more than the SYN, the bytes of all responses and the FIN
-  pub client-took : taken st.client ≤ w.answers + 2
+  pub client-took : symbols_taken st.client ≤ w.answers + 2
   client-took =
       let m = answers-most in
       let t = taken-most st.client (length k.out.bytes) 1 client.accepts.within (λ e. omega arith) in
       omega (arith, m, t)
 
   -- what was answered, and what was read behind that, are among all requests
-  pub read-most : (b : ControlBlock) (pend : List Verdict) (count : ℕ) → HoldsIt k.w k.out k.vs pend b count → count + length pend ≤ w.requests
+  pub read-most : (b : ControlBlock) (pend : List Verdict) (count : ℕ) → HoldsItPending k.w k.out k.vs pend b count → count + length pend ≤ w.requests
   read-most b pend count h =
       let f : IsPrefix (k.vs ++ pend) (verdicts k.w.bytes) = subst (λ (bytes : List ℕ). IsPrefix (k.vs ++ pend) (verdicts bytes)) (append-nil k.w.bytes) (h.has_read.fronts []) in
       let l = prefix-length (k.vs ++ pend) (verdicts k.w.bytes) f in
@@ -85,7 +85,7 @@ module _ (files : FilesAt) (c : ℕ) (st : Station) (k : Talk) (client : ClientA
       let e : w.requests ≡ length (verdicts k.w.bytes) = ap (λ (w : Whole). w.requests) is in
       omega (arith, l, a, n, e)
 
-  pub stay-most : (b : ControlBlock) (pend : List Verdict) (count : ℕ) (batch : List Entry) → pend ≡ map (λ e. e.verdict) batch → HoldsIt k.w k.out k.vs pend b count → count + length batch ≤ w.requests
+  pub stay-most : (b : ControlBlock) (pend : List Verdict) (count : ℕ) (batch : List Entry) → pend ≡ map (λ e. e.verdict) batch → HoldsItPending k.w k.out k.vs pend b count → count + length batch ≤ w.requests
   stay-most b pend count batch same h =
       let m = read-most b pend count h in
       let l : length pend ≡ length batch = ap (λ (vs : List Verdict). length vs) same ∙ length-map batch (λ e. e.verdict) in
@@ -94,7 +94,7 @@ module _ (files : FilesAt) (c : ℕ) (st : Station) (k : Talk) (client : ClientA
   -- ---- an endpoint that may move
 
   -- all that the client took was acknowledged to it
-  pub frozen-knows : (b : ControlBlock) (pend : List Verdict) (count : ℕ) → HoldsIt k.w k.out k.vs pend b count → may_freeze b ≡ true → taken st.client ≤ b.send.una
+  pub frozen-knows : (b : ControlBlock) (pend : List Verdict) (count : ℕ) → HoldsItPending k.w k.out k.vs pend b count → may_freeze b ≡ true → symbols_taken st.client ≤ b.send.una
   frozen-knows b pend count h may =
       let parts = and_parts (is_clear b.send) (not b.send.finished) (and_parts _ _ may).0 in
       let shut : b.send.finished ≡ false = not-true b.send.finished parts.1 in

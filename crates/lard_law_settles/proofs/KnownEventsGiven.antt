@@ -17,8 +17,8 @@ use Rattle.lard_rules.specs.declared.fault.StepFault.TheVariants.{Refused}
 use Rattle.lard_rules.specs.declared.machine.Machine.{Machine}
 use Rattle.lard_rules.specs.Bounds as bounds
 use Rattle.lard_rules.specs.Bounds.{HasTimer}
-use Rattle.lard_rules.specs.Machine.{IsReached, client_does, completes, delivered, disk_at, is_no_node, machine_step, node_acts, node_at, timer}
-use Rattle.lard_laws.specs.Records.{IsGiven}
+use Rattle.lard_rules.specs.Machine.{IsReached, client_acts, completes, delivered, disk_at, is_no_node, machine_step, node_acts, node_at, timer}
+use Rattle.lard_laws.specs.Records.{IsScheduled}
 use Rattle.lard_laws.proofs.RecordsReached.{below}
 use Rattle.lard_law_view.specs.View.{IsViewed, conn, part_of}
 use Rattle.lard_law_view.proofs.After.{step-after}
@@ -45,13 +45,13 @@ module _ (m n : Machine) (view : IsViewed m) (nodes : IsNumber m.config.nodes) w
   -- a client that opened has the number of a connection
   client-number : (c : ℕ) (x : Station) → table.get m.clients c ≡ Some x → IsNumber c
   unfolding conn part_of
-  client-number c x at = let h : bounds.IsNumber c = number-of (conn m c) x (view.sound c) at in let most = h.1 in omega (arith, most)
+  client-number c x at = let h : bounds.IsConnNumber c = number-of (conn m c) x (view.sound c) at in let most = h.1 in omega (arith, most)
 
   node-number : (i : ℕ) → is_no_node m.config.nodes i ≡ false → IsNumber i
   node-number i e = let l = ltb-false m.config.nodes i (or_parts (i == 0) (nat_lt m.config.nodes i) e).1 in omega (arith, l, nodes)
 
-  takes : (c : ℕ) (e : Event) (o : Option Station) → table.get m.clients c ≡ o → client_does m e [] c client_takes o ≡ Ok n → IsNumber c
-  unfolding client_does
+  takes : (c : ℕ) (e : Event) (o : Option Station) → table.get m.clients c ≡ o → client_acts m e [] c client_takes o ≡ Ok n → IsNumber c
+  unfolding client_acts
   takes c e None at is = never (Refused (NoClient c)) n is
   takes c e (Some x) at is = client-number c x at
 
@@ -77,7 +77,7 @@ module _ (m n : Machine) (view : IsViewed m) (nodes : IsNumber m.config.nodes) w
     test true t h = never (Refused (NoNode i m.config.nodes)) n h
     test false t h = node-number i t
 
-  pub event-given : (e : Event) → IsInner e → machine_step m e ≡ Ok n → IsGiven e
+  pub event-given : (e : Event) → IsInner e → machine_step m e ≡ Ok n → IsScheduled e
   event-given (event.Take c) h is = (takes c (event.Take c) (table.get m.clients c) refl (below m n (event.Take c) is).1, tt)
   event-given (event.Deliver k) h is =
       let parts = below m n (event.Deliver k) is in
@@ -92,7 +92,7 @@ module _ (m n : Machine) (view : IsViewed m) (nodes : IsNumber m.config.nodes) w
 pub config-of : (config : Config) (files : List (List ℕ × List ℕ)) (m : Machine) → IsReached config files m → m.config ≡ config
 config-of config files m reached = carried-keep config files (λ k. k.config ≡ config) refl (λ k n e on h rule is. (step-after k on.view e n rule is).config ∙ h) m reached
 
-pub settle-given : (config : Config) (files : List (List ℕ × List ℕ)) → config_check config ≡ Ok tt → (m n : Machine) (e : Event) → IsReached config files m → IsInner e → machine_step m e ≡ Ok n → IsGiven e
+pub settle-given : (config : Config) (files : List (List ℕ × List ℕ)) → config_check config ≡ Ok tt → (m n : Machine) (e : Event) → IsReached config files m → IsInner e → machine_step m e ≡ Ok n → IsScheduled e
 settle-given config files checked m n e reached of is =
     let few = (usable config checked).nodes in
     let same : m.config.nodes ≡ config.nodes = ap (λ (c : Config). c.nodes) (config-of config files m reached) in

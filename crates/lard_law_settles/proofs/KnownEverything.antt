@@ -8,7 +8,7 @@ use Rattle.lard_bound.specs.Seats.{Held, Waiting, seat_of}
 use Rattle.lard_bound.specs.Units.{Whole, whole_of}
 use Rattle.lard_rules.specs.declared.machine.Machine.{Machine}
 use Rattle.lard_rules.specs.Machine.{IsReached}
-use Rattle.lard_laws.specs.Records.{IsFile, IsGiven}
+use Rattle.lard_laws.specs.Records.{IsRunFile, IsScheduled}
 use Rattle.lard_laws.proofs.RecordsHolding.{Holds}
 use Rattle.lard_laws.proofs.RecordsReached.{run-holds}
 use Rattle.lard_law_view.specs.Carry.{setting, tale_at}
@@ -49,8 +49,8 @@ setting-is config files m reached =
 
 -- ---- a connection
 
-module _ (config : Config) (files : List (List ℕ × List ℕ)) (checked : config_check config ≡ Ok tt) (named : All IsFile files) (all : ℕ → Whole) (m : Machine) (reached : IsReached config files m)
-    (given : All IsGiven reached.0) (q : ℕ) (free : is_touched m.journal q ≡ false) (same : all q ≡ whole_of (file_at files) (wrote m.journal q)) where
+module _ (config : Config) (files : List (List ℕ × List ℕ)) (checked : config_check config ≡ Ok tt) (named : All IsRunFile files) (all : ℕ → Whole) (m : Machine) (reached : IsReached config files m)
+    (given : All IsScheduled reached.0) (q : ℕ) (free : is_touched m.journal q ≡ false) (same : all q ≡ whole_of (file_at files) (wrote m.journal q)) where
   abbrev x : Conn
   x = conn m q
 

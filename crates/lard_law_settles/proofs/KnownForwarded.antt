@@ -8,7 +8,7 @@ use Rattle.lard_client.specs.Control.{ClientBlock}
 use Rattle.lard_laws.specs.Acks.{LetterActs, OpenActs, bounds_of}
 use Rattle.lard_law_connections.specs.BytesAgreement.{IsFair, IsOpen}
 use Rattle.lard_law_connections.proofs.PlacesFrontRules.{has-each}
-use Rattle.lard_law_view.specs.View.{Conn, Spells, Was}
+use Rattle.lard_law_view.specs.View.{Conn, SpellsMessage, Was}
 use Rattle.lard_endpoint.specs.Control.{ControlBlock}
 use Rattle.lard_law_settles.proofs.KnownSegments.{acks-most, read-is, symbols-within}
 use Rattle.lard_law_settles.proofs.KnownTalking.{taken-is}
@@ -70,7 +70,7 @@ module _ (files : FilesAt) (x : Conn) (st : Station) (k : Talk) (pend : List Ver
   }
 
   -- one that the front end forwarded
-  pub forwarded : (n e : ℕ) (b : ControlBlock) (segment bytes : List ℕ) (s : Said) → Spells x.c e (body.Forward segment) bytes → Was x Front (Node n) bytes → decoded segment x.c ToCluster ≡ Ok s
+  pub forwarded : (n e : ℕ) (b : ControlBlock) (segment bytes : List ℕ) (s : Said) → SpellsMessage x.c e (body.Forward segment) bytes → Was x Front (Node n) bytes → decoded segment x.c ToCluster ≡ Ok s
       → Refuses st.client.send.iss (heard b.recv) s → IsForwarded st b s
   forwarded n e b segment bytes s spells was read refuses =
       let l : Letter = record { from = Front; to = Node n; bytes = bytes } in

@@ -18,7 +18,7 @@ use Rattle.lard_endpoint.specs.Control.{ControlBlock}
 use Rattle.lard_law_settles.proofs.KnownClosing.{has-closed}
 use Rattle.lard_law_settles.proofs.KnownStaying.{asks-given, ended-given}
 use Rattle.lard_rules.specs.declared.front.FrontRest.{FrontRest}
-use Rattle.lard_rules.specs.Front.{rest_of}
+use Rattle.lard_rules.specs.Front.{front_rest}
 use Rattle.lard_handoff_front.specs.declared.row.FrontConn.{FrontConn}
 use Rattle.lard_handoff_front.specs.declared.row.FrontConn.TheVariants as stage
 use Rattle.lard_handoff_front.specs.declared.row.FrontRow.{FrontRow}
@@ -45,7 +45,7 @@ stage-sits e o nodes (stage.Offering n d) h = let two : e ≡ 2 = h.0 in let sam
 stage-sits e o nodes (stage.Moved n d) h = let two : e ≡ 2 = h.0 in let same : d.0 ≡ e = h.1 in (omega (arith, two, same), omega (arith, two))
 stage-sits e o nodes (stage.Closed last) h = (tt, h.0)
 
-module _ (N : ℕ → Type 0) (files : FilesAt) (w : Whole) (x : Conn) (sits : SitsAt x) (truth : IsTruthful files x) (acts : AcksWhatWasTaken x) (told : EndsAreTrue files x) (keeps : RestKeeps (rest_of x.part.front.rest))
+module _ (N : ℕ → Type 0) (files : FilesAt) (w : Whole) (x : Conn) (sits : SitsAt x) (truth : IsTruthful files x) (acts : AcksWhatWasTaken x) (told : EndsAreTrue files x) (keeps : RestKeeps (front_rest x.part.front.rest))
     (homes : HasOneHome x) (agreed : Agreed N files x) (known : IsKnownElsewhere w x) where
   row-sits : (row : FrontRow) → x.part.front.row ≡ Some row → StageSits row.epoch.0 (owning (tale_at x)) x.part.nodes row.stage × EndedBefore row.epoch.0 row.ended_by
   row-sits row is = subst (Sits (owning (tale_at x)) x.part.nodes) is sits
@@ -62,7 +62,7 @@ module _ (N : ℕ → Type 0) (files : FilesAt) (w : Whole) (x : Conn) (sits : S
 
   tag-fits : (rest : FrontRest) → x.part.front.rest ≡ Some rest → 0 < rest.asks → HasTag rest
   tag-fits rest is some =
-      let k : RestKeeps rest = subst (λ (o : Option FrontRest). RestKeeps (rest_of o)) is keeps in
+      let k : RestKeeps rest = subst (λ (o : Option FrontRest). RestKeeps (front_rest o)) is keeps in
       record { number = k.asks; some = k.some some; few = k.short; nodes = k.tag }
 
   seat-known : (st : Station) → x.part.station ≡ Some st → AtSeat w st (seat_of x.part)
@@ -71,11 +71,11 @@ module _ (N : ℕ → Type 0) (files : FilesAt) (w : Whole) (x : Conn) (sits : S
     away t n e count q = away-cases t n e count q (AtSeat w st) tt (λ b. tt) tt
 
     by-stage : (row : FrontRow) → x.part.front.row ≡ Some row → (c : FrontConn) → row.stage ≡ c → seat_of x.part ≡ seat_in x.part.front x.part.nodes c → AtSeat w st (seat_in x.part.front x.part.nodes c)
-    by-stage row is (stage.Held b) at seat = known.held st b (rest_of x.part.front.rest).count there seat
-    by-stage row is (stage.Waiting b) at seat = known.waiting st b (rest_of x.part.front.rest).count there seat
+    by-stage row is (stage.Held b) at seat = known.held st b (front_rest x.part.front.rest).count there seat
+    by-stage row is (stage.Waiting b) at seat = known.waiting st b (front_rest x.part.front.rest).count there seat
     by-stage row is stage.Lent at seat = tt
-    by-stage row is (stage.Offering n d) at seat = away false n d.0 (rest_of x.part.front.rest).count (x.part.nodes n)
-    by-stage row is (stage.Moved n d) at seat = away true n d.0 (rest_of x.part.front.rest).count (x.part.nodes n)
+    by-stage row is (stage.Offering n d) at seat = away false n d.0 (front_rest x.part.front.rest).count (x.part.nodes n)
+    by-stage row is (stage.Moved n d) at seat = away true n d.0 (front_rest x.part.front.rest).count (x.part.nodes n)
     by-stage row is (stage.Closed last) at seat = has-closed files x truth acts told st there row last is at
 
     by-row : (o : Option FrontRow) → x.part.front.row ≡ o → AtSeat w st (seat_of x.part)

@@ -20,7 +20,7 @@ use Rattle.lard_laws.proofs.RecordsFronts.{RestKeeps}
 use Rattle.lard_laws.proofs.RecordsHolding.{Holds}
 use Rattle.lard_laws.proofs.TagsGoing.{each-agrees}
 use Rattle.lard_law_view.specs.Carry.{tale_at}
-use Rattle.lard_law_view.specs.View.{Conn, Spells, Was, conn, part_of}
+use Rattle.lard_law_view.specs.View.{Conn, SpellsMessage, Was, conn, part_of}
 use Rattle.lard_law_view.proofs.Carried.{reached-viewed}
 use Rattle.lard_laws.proofs.WindowsForwards.{forwards-were}
 use Rattle.lard_laws.proofs.WindowsWordRuns.{words-fit}
@@ -29,7 +29,7 @@ use Rattle.lard_endpoint.specs.Control.{ControlBlock}
 use Rattle.lard_files.specs.Files.{file_at}
 use Rattle.lard_law_settles.proofs.KnownFrontGiving.{front-given}
 use Rattle.lard_law_settles.proofs.KnownFrontWords.{word, word-there}
-use Rattle.lard_rules.specs.Front.{rest_of}
+use Rattle.lard_rules.specs.Front.{front_rest}
 use Rattle.lard_message.specs.declared.message.Body.TheVariants as body
 use Rattle.lard_law_progress.proofs.AnswersFrontGiven.{AtSeat, FrontGiven, IsWord}
 use Rattle.lard_law_progress.proofs.AnswersNodeGiven.{HasIt, IsForwarded}
@@ -38,7 +38,7 @@ use Rattle.lard_segment.specs.declared.segment.Dir.TheVariants.{ToCluster}
 use Rattle.lard_segment.specs.Segment.{Said, decoded}
 
 -- its Tag and its numbers are in their ranges
-rest-keeps : (m : Machine) (q : ℕ) → Holds m → RestKeeps (rest_of (conn m q).part.front.rest)
+rest-keeps : (m : Machine) (q : ℕ) → Holds m → RestKeeps (front_rest (conn m q).part.front.rest)
 unfolding conn part_of
 rest-keeps m q holds = (holds.parts.front q).rest
 
@@ -62,7 +62,7 @@ module _ (config : Config) (files : List (List ℕ × List ℕ)) (checked : conf
         word (file_at files) x st there truth.talk truth.pend agrees acts ((reached-viewed config files m reached).sound q) (words-fit config files (usable config checked).stream m reached q free) bytes s was read
 
     -- and one that the front end forwarded
-    pub each-forwarded : (n e : ℕ) (b : ControlBlock) (segment bytes : List ℕ) (s : Said) → HasIt x n e b → Spells x.c e (body.Forward segment) bytes → Was x Front (Node n) bytes → decoded segment x.c ToCluster ≡ Ok s
+    pub each-forwarded : (n e : ℕ) (b : ControlBlock) (segment bytes : List ℕ) (s : Said) → HasIt x n e b → SpellsMessage x.c e (body.Forward segment) bytes → Was x Front (Node n) bytes → decoded segment x.c ToCluster ≡ Ok s
         → IsForwarded st b s
     each-forwarded n e b segment bytes s here spells was read =
         word-there (file_at files) x st there truth.talk truth.pend agrees acts ((reached-viewed config files m reached).sound q) (words-fit config files (usable config checked).stream m reached q free)

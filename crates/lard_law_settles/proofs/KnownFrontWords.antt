@@ -4,16 +4,16 @@ use Rattle.lard_answers.specs.Answers.{FilesAt}
 use Rattle.lard_base.specs.declared.place.Place.{Place}
 use Rattle.lard_base.specs.declared.place.Place.TheVariants.{Client, Front, Node}
 use Rattle.lard_bound.specs.Seats.{seat_away, seat_in, seat_of}
-use Rattle.lard_client.specs.Control.{is_open, is_open_in}
+use Rattle.lard_client.specs.Control.{is_client_open, is_open_in}
 use Rattle.lard_client.specs.declared.phase.Phase.TheVariants as phase
 use Rattle.lard_laws.specs.Acks.{BackActs, FrontActs, FrontStageActs, LetterActs, OpenActs, bounds_of}
 use Rattle.lard_law_connections.specs.BytesAgreement.{IsFair, IsOpen}
 use Rattle.lard_law_connections.proofs.PlacesFrontRules.{has-each}
-use Rattle.lard_law_view.specs.View.{AreBetween, Conn, GoesBetween, IsSound, Spells, Was}
-use Rattle.lard_laws.specs.WindowsWords.{Fits, FitsOn, ForwardsWere, HasFittingWords, IsRefused, WordFits}
+use Rattle.lard_law_view.specs.View.{AreBetween, Conn, GoesBetween, IsConnSound, SpellsMessage, Was}
+use Rattle.lard_laws.specs.WindowsWords.{FitsClient, FitsOn, ForwardsWere, HasFittingWords, IsRefused, WordFits}
 use Rattle.lard_laws.proofs.WindowsLatest.{forward-fits}
 use Rattle.lard_endpoint.specs.Control.{ControlBlock}
-use Rattle.lard_rules.specs.Front.{rest_of}
+use Rattle.lard_rules.specs.Front.{front_rest}
 use Rattle.lard_law_settles.proofs.KnownSegments.{acks-most, read-is}
 use Rattle.lard_law_settles.proofs.KnownTalking.{taken-is}
 use Rattle.lard_law_settles.proofs.KnownForwarded.{Refuses, forwarded, taken-small}
@@ -45,7 +45,7 @@ between c ls l has all = has-each (λ (a : Letter). GoesBetween c a.from a.to a.
   each [] h = tt
   each (a ∷ as_) h = (h.0, each as_ h.1)
 
-module _ (files : FilesAt) (x : Conn) (st : Station) (there : x.part.station ≡ Some st) (k : Talk) (pend : List Verdict) (o : IsOpen files x k pend st) (acts : OpenActs x st) (sound : IsSound x) (fit : HasFittingWords x) where
+module _ (files : FilesAt) (x : Conn) (st : Station) (there : x.part.station ≡ Some st) (k : Talk) (pend : List Verdict) (o : IsOpen files x k pend st) (acts : OpenActs x st) (sound : IsConnSound x) (fit : HasFittingWords x) where
   -- ---- a refusal
 
   -- what it refuses acknowledged what was taken
@@ -66,7 +66,7 @@ module _ (files : FilesAt) (x : Conn) (st : Station) (there : x.part.station ≡
     by (Node n) is = acked (subst (λ (from : Place). LetterActs x.c (bounds_of x st acts.heard) x.part (record { from = from; to = Client x.c; bytes = r.letter.bytes })) is may r.said r.read r.acks)
 
   -- so its number was awaited by an endpoint that took so much
-  refusal-of : (s : Said) (b : ControlBlock) → acts.heard ≡ heard b.recv → Fits x.c st.client x.letters s → Refuses st.client.send.iss (heard b.recv) s
+  refusal-of : (s : Said) (b : ControlBlock) → acts.heard ≡ heard b.recv → FitsClient x.c st.client x.letters s → Refuses st.client.send.iss (heard b.recv) s
   refusal-of s b same fits rst ack =
       let a = refused-number s.seq (fits.refuses rst ack) in
       let most : a.0 ≤ acts.heard = a.2 in
@@ -89,15 +89,15 @@ module _ (files : FilesAt) (x : Conn) (st : Station) (there : x.part.station ≡
     by-stage row is (stage.Held b) at = here b (stage-heard row (stage.Held b) is at).0
     by-stage row is (stage.Waiting b) at = here b (stage-heard row (stage.Waiting b) is at).0
     by-stage row is stage.Lent at = tt
-    by-stage row is (stage.Offering n d) at = away false n d.0 (rest_of x.part.front.rest).count (x.part.nodes n)
-    by-stage row is (stage.Moved n d) at = away true n d.0 (rest_of x.part.front.rest).count (x.part.nodes n)
+    by-stage row is (stage.Offering n d) at = away false n d.0 (front_rest x.part.front.rest).count (x.part.nodes n)
+    by-stage row is (stage.Moved n d) at = away true n d.0 (front_rest x.part.front.rest).count (x.part.nodes n)
     by-stage row is (stage.Closed last) at = tt
 
     by-row : (r : Option FrontRow) → x.part.front.row ≡ r → WasAwaited st seq (seat_of x.part)
     by-row None is = subst (WasAwaited st seq) (sym (seat-row x.part None is)) tt
     by-row (Some row) is = subst (WasAwaited st seq) (sym (seat-row x.part (Some row) is)) (by-stage row is row.stage refl)
 
-  never-reset : (s : Said) → (s.flags.rst ≡ true → is_open st.client ≡ false) → st.client.phase ≡ phase.Open → s.flags.rst ≡ false
+  never-reset : (s : Said) → (s.flags.rst ≡ true → is_client_open st.client ≡ false) → st.client.phase ≡ phase.Open → s.flags.rst ≡ false
   never-reset s closed open_ = go s.flags.rst refl where
     go : (t : Bool) → s.flags.rst ≡ t → t ≡ false
     go false e = refl
@@ -109,7 +109,7 @@ module _ (files : FilesAt) (x : Conn) (st : Station) (there : x.part.station ≡
       let l : Letter = record { from = Client x.c; to = Front; bytes = bytes } in
       let fair = has-each (IsFair k x.c x.part) l x.letters was o.fair in
       let may : WordMay st.iss (taken_by st.client) (bounds_of x st acts.heard).aborted s = has-each (LetterActs x.c (bounds_of x st acts.heard) x.part) l x.letters was acts.within.packets s read in
-      let fits : Fits x.c st.client x.letters s = has-each (WordFits x.c st.client x.letters) l x.letters was (subst (FitsOn x) there fit) s read in
+      let fits : FitsClient x.c st.client x.letters s = has-each (WordFits x.c st.client x.letters) l x.letters was (subst (FitsOn x) there fit) s read in
       let same : fair.0 ≡ s = read-is x.c ToCluster bytes fair.0 s fair.1 fair.2.sendable read in
       let mine : agreement.IsWord k.w s = subst (agreement.IsWord k.w) same fair.2 in
       let length_is : length bytes ≡ length (spelled x.c ToCluster s) = ap (λ (xs : List ℕ). length xs) fair.1 ∙ ap (λ (y : Said). length (spelled x.c ToCluster y)) same in
@@ -131,7 +131,7 @@ module _ (files : FilesAt) (x : Conn) (st : Station) (there : x.part.station ≡
   -- ---- at a node
 
   -- a segment of the client that the front end forwarded
-  pub word-there : ForwardsWere x → (n e : ℕ) (b : ControlBlock) (segment bytes : List ℕ) (s : Said) → HasIt x n e b → Spells x.c e (body.Forward segment) bytes → Was x Front (Node n) bytes → decoded segment x.c ToCluster ≡ Ok s
+  pub word-there : ForwardsWere x → (n e : ℕ) (b : ControlBlock) (segment bytes : List ℕ) (s : Said) → HasIt x n e b → SpellsMessage x.c e (body.Forward segment) bytes → Was x Front (Node n) bytes → decoded segment x.c ToCluster ≡ Ok s
       → IsForwarded st b s
   word-there were n e b segment bytes s here spells was read =
       let heard_is : acts.heard ≡ heard b.recv = (subst (BackActs (bounds_of x st acts.heard)) here (acts.within.nodes n)).0 in

@@ -7,20 +7,20 @@ use Rattle.lard_base.specs.declared.parts.EndpointParts.{EndpointParts}
 use Rattle.lard_base.specs.declared.place.Place.TheVariants.{Front, Node}
 use Rattle.lard_base.specs.declared.place.TimerKind.TheVariants as kind
 use Rattle.lard_bound.specs.Units.{Whole, whole_of}
-use Rattle.lard_rules.specs.Bounds.{IsNumber}
+use Rattle.lard_rules.specs.Bounds.{IsConnNumber}
 use Rattle.lard_laws.specs.Acks.{OpenActs}
 use Rattle.lard_law_connections.specs.BytesAgreement.{AwayAgrees, FrontTells, IsFair, IsKept, IsOffering, IsOpen, NodeAgrees, SeatAgrees, StageAgrees}
 use Rattle.lard_law_connections.proofs.BytesMessages.{offers-read}
 use Rattle.lard_law_connections.specs.Kept.{FrontKeeps, FrontRowKeeps, FrontStageKeeps}
-use Rattle.lard_law_connections.specs.LimitsCounts.{IsCounted}
+use Rattle.lard_law_connections.specs.LimitsCounts.{CountsWhatWasServed}
 use Rattle.lard_law_connections.specs.Places.{IsDecided, IsPast, Sits, StageSits, owning}
 use Rattle.lard_law_connections.proofs.PlacesFrontMessages.{came-says}
 use Rattle.lard_law_connections.proofs.PlacesFrontRules.{has-each}
 use Rattle.lard_law_connections.proofs.PlacesTurns.{IsPlaced}
 use Rattle.lard_law_view.specs.Carry.{tale_at}
-use Rattle.lard_law_view.specs.View.{Conn, Spells, Was}
+use Rattle.lard_law_view.specs.View.{Conn, SpellsMessage, Was}
 use Rattle.lard_endpoint.specs.Moving.{parts_of}
-use Rattle.lard_rules.specs.Front.{message, rest_of}
+use Rattle.lard_rules.specs.Front.{message, front_rest}
 use Rattle.lard_handoff_back.specs.Back.{offer_answer}
 use Rattle.lard_handoff_back.specs.declared.row.BackRow.{BackRow}
 use Rattle.lard_handoff_back.specs.declared.table.Adopt.TheVariants.{New}
@@ -56,8 +56,8 @@ served-same c e d p q same a b =
     let bytes : to_be_bytes w32 p.served ≡ to_be_bytes w32 q.served = ap (λ (bs : List ℕ). take 4 (drop 39 bs)) same in
     sym (from_be_bytes-to_be_bytes_4 p.served a) ∙ ap (from_be_bytes w32) bytes ∙ from_be_bytes-to_be_bytes_4 q.served b
 
-module _ (files : FilesAt) (x : Conn) (st : Station) (k : Talk) (pend : List Verdict) (o : IsOpen files x k pend st) (acts : OpenActs x st) (stream : ℕ) (counts : IsCounted stream x) (placed : IsPlaced x)
-    (number : IsNumber x.c) (w : Whole) (is : w ≡ whole_of files k.w.bytes) (nodes : ℕ) (beside : Beside nodes w x) where
+module _ (files : FilesAt) (x : Conn) (st : Station) (k : Talk) (pend : List Verdict) (o : IsOpen files x k pend st) (acts : OpenActs x st) (stream : ℕ) (counts : CountsWhatWasServed stream x) (placed : IsPlaced x)
+    (number : IsConnNumber x.c) (w : Whole) (is : w ≡ whole_of files k.w.bytes) (nodes : ℕ) (beside : Beside nodes w x) where
   is-stream : IsStream k.w
   is-stream =
       let s = o.client.speaks in
@@ -69,7 +69,7 @@ module _ (files : FilesAt) (x : Conn) (st : Station) (k : Talk) (pend : List Ver
 
   -- ---- an Offer that is new
 
-  module _ (n e : ℕ) (parts : EndpointParts) (bytes : List ℕ) (spells : Spells x.c e (body.Offer parts) bytes) (was : Was x Front (Node n) bytes) (new : offer_answer e (x.part.nodes n).row ≡ New) where
+  module _ (n e : ℕ) (parts : EndpointParts) (bytes : List ℕ) (spells : SpellsMessage x.c e (body.Offer parts) bytes) (was : Was x Front (Node n) bytes) (new : offer_answer e (x.part.nodes n).row ≡ New) where
     at : IsOfferedAt x.part.front n e
     at = said-offered x.part.front n e (x.part.nodes n).row new (came-says x Front (Node n) e (body.Offer parts) bytes placed.letters was spells)
 
@@ -111,17 +111,17 @@ module _ (files : FilesAt) (x : Conn) (st : Station) (k : Talk) (pend : List Ver
     keeps : FrontStageKeeps x.c x.part.front (stage.Offering n (record { 0 = e }))
     keeps = subst (FrontStageKeeps x.c x.part.front) at.with_ (subst (FrontRowKeeps x.c x.part.front) at.front beside.keeps)
 
-    small : (rest_of x.part.front.rest).count < 2 ^ 32
-    small = subst (StageSmall (rest_of x.part.front.rest).count) at.with_ (subst (RowSmall (rest_of x.part.front.rest).count) at.front beside.small)
+    small : (front_rest x.part.front.rest).count < 2 ^ 32
+    small = subst (StageSmall (front_rest x.part.front.rest).count) at.with_ (subst (RowSmall (front_rest x.part.front.rest).count) at.front beside.small)
 
-    serves : parts.served ≡ (rest_of x.part.front.rest).count
+    serves : parts.served ≡ (front_rest x.part.front.rest).count
     serves =
         let own : EndpointParts = keeps.1.0 in
         let one : Kept = record { kind = kind.Offer; r = 0; to = Node n; bytes = message x.c e (body.Offer own) } in
         let same : kept.0 ∷ [] ≡ one ∷ [] = sym kept.1 ∙ keeps.1.1 in
         let k1 : kept.0 ≡ one = cc in
         let bytes_are : message x.c e (body.Offer own) ≡ message x.c at.row.epoch.0 (body.Offer (parts_of offering.block offering.count)) = sym (ap (λ (y : Kept). y.bytes) k1) ∙ kept.2 ∙ its-bytes in
-        let count : own.served ≡ (rest_of x.part.front.rest).count = keeps.1.2 in
+        let count : own.served ≡ (front_rest x.part.front.rest).count = keeps.1.2 in
         let fits = small in
         let counted = offering.holds.serves.counted in
         let most : offering.block.send.total ≤ 2 ^ 30 = offering.holds.holds.sound.sending.most in

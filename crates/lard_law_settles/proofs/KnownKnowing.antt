@@ -2,18 +2,18 @@
 use Rattle.std.proofs.Common.{◌≡◌, ◌⊎◌, ◌≤◌, ◌+◌, ◌==◌, ℕ, Bool, true, false, cond, List, [], length, Option, Some, None, inl, inr, ⊎_elim, refl, sym, ◌∙◌, subst, arith}
 use Rattle.std.proofs.lemmas.Bool.{both_ways, cond-true, cond_both, eq-eqb}
 use Rattle.lard_answers.specs.Answers.{FilesAt}
-use Rattle.lard_bound.specs.Seats.{Here, Offered, Seat, seat_away, seat_decided, seat_in, seat_of, seat_there, stay_of, staying_of}
-use Rattle.lard_bound.specs.Units.{Whole, taken, whole_of}
+use Rattle.lard_bound.specs.Seats.{Here, Offered, SeatNow, seat_away, seat_decided, seat_in, seat_of, seat_there, stay_of, staying_of}
+use Rattle.lard_bound.specs.Units.{Whole, symbols_taken, whole_of}
 use Rattle.lard_client.specs.declared.phase.Phase.TheVariants as phase
 use Rattle.lard_laws.specs.Acks.{BackActs, BackStageActs, FrontActs, FrontStageActs, OpenActs, bounds_of}
 use Rattle.lard_laws.proofs.AcksStory.{reset-told}
 use Rattle.lard_law_connections.specs.BytesAgreement.{AwayAgrees, BackAgrees, IsOffering, IsOpen, NodeAgrees, RowAgrees, SeatAgrees, StageAgrees, StayAgrees}
-use Rattle.lard_law_connections.specs.LimitsCounts.{BackCounts, BackStageCounts, FrontCounts, FrontStageCounts, IsCounted, served_in}
+use Rattle.lard_law_connections.specs.LimitsCounts.{BackCounts, BackStageCounts, FrontCounts, FrontStageCounts, CountsWhatWasServed, served_by_tale}
 use Rattle.lard_law_connections.specs.Places.{IsDecided, IsLeft, IsPast}
 use Rattle.lard_law_view.specs.Carry.{tale_at}
 use Rattle.lard_law_view.specs.View.{Conn}
 use Rattle.lard_endpoint.specs.Control.{ControlBlock}
-use Rattle.lard_rules.specs.Front.{rest_of}
+use Rattle.lard_rules.specs.Front.{front_rest}
 use Rattle.lard_handoff_back.specs.declared.row.BackConn.{BackConn}
 use Rattle.lard_handoff_back.specs.declared.row.BackConn.TheVariants as back
 use Rattle.lard_handoff_back.specs.declared.row.BackRow.{BackRow}
@@ -38,16 +38,16 @@ IsPlacing (stage.Offering n e) = Unit {0}
 IsPlacing (stage.Moved n e) = Unit {0}
 IsPlacing _ = ⊥
 
-module _ (files : FilesAt) (x : Conn) (st : Station) (k : Talk) (pend : List Verdict) (o : IsOpen files x k pend st) (acts : OpenActs x st) (stream : ℕ) (counts : IsCounted stream x)
+module _ (files : FilesAt) (x : Conn) (st : Station) (k : Talk) (pend : List Verdict) (o : IsOpen files x k pend st) (acts : OpenActs x st) (stream : ℕ) (counts : CountsWhatWasServed stream x)
     (w : Whole) (is : w ≡ whole_of files k.w.bytes) (asks : (row : FrontRow) → x.part.front.row ≡ Some row → IsPlacing row.stage → 1 ≤ w.requests) where
-  abbrev Here_ : Seat → Type 0
+  abbrev Here_ : SeatNow → Type 0
   Here_ z = SeatKnown w st.client z
 
-  knows : (n : ℕ) → n ≤ taken_by st.client → n ≤ taken st.client
+  knows : (n : ℕ) → n ≤ taken_by st.client → n ≤ symbols_taken st.client
   knows n h = let e = taken-same st.client in omega (arith, h, e)
 
   -- an endpoint that is here was not reset for the stream limit, so its client was not
-  open_ : (served_in (tale_at x)).was_reset ≡ false → st.client.phase ≡ phase.Reset → ⊥
+  open_ : (served_by_tale (tale_at x)).was_reset ≡ false → st.client.phase ≡ phase.Reset → ⊥
   open_ none was = absurd (both_ways (tale_at x).was_reset none (sym (reset-told x) ∙ acts.client.resets was))
 
   -- ---- at a node
@@ -63,7 +63,7 @@ module _ (files : FilesAt) (x : Conn) (st : Station) (k : Talk) (pend : List Ver
         (λ (r : RowAgrees k.w k.out k.vs pend k.was_reset x.c q q.row). subst (BackAgrees k.w k.out k.vs pend k.was_reset x.c row.epoch.0 q) eq (subst (RowAgrees k.w k.out k.vs pend k.was_reset x.c q) at r))
         node in
         let act : BackStageActs (bounds_of x st acts.heard) (back.Here b) = subst (BackStageActs (bounds_of x st acts.heard)) eq (subst (BackActs (bounds_of x st acts.heard)) at (acts.within.nodes n)) in
-        let counted : BackStageCounts stream (served_in (tale_at x)) (back.Here b) = subst (BackStageCounts stream (served_in (tale_at x))) eq (subst (BackCounts stream (served_in (tale_at x))) at (counts.nodes n)) in
+        let counted : BackStageCounts stream (served_by_tale (tale_at x)) (back.Here b) = subst (BackStageCounts stream (served_by_tale (tale_at x))) eq (subst (BackCounts stream (served_by_tale (tale_at x))) at (counts.nodes n)) in
         (knows b.send.una act.1.0, by-stay q.stay agrees, open_ counted.not_reset)
       where
         by-stay : (s : Option Stay) → StayAgrees k.w k.out k.vs pend b s → (stay_of s).served + length (stay_of s).batch ≤ w.requests
@@ -92,8 +92,8 @@ module _ (files : FilesAt) (x : Conn) (st : Station) (k : Talk) (pend : List Ver
     act : FrontStageActs (bounds_of x st acts.heard) s
     act = subst (FrontStageActs (bounds_of x st acts.heard)) eq (subst (FrontActs (bounds_of x st acts.heard)) at acts.within.front)
 
-    counted : FrontStageCounts stream (served_in (tale_at x)) s
-    counted = subst (FrontStageCounts stream (served_in (tale_at x))) eq (subst (FrontCounts stream (served_in (tale_at x))) at counts.front)
+    counted : FrontStageCounts stream (served_by_tale (tale_at x)) s
+    counted = subst (FrontStageCounts stream (served_by_tale (tale_at x))) eq (subst (FrontCounts stream (served_by_tale (tale_at x))) at counts.front)
 
     wants : IsPlacing s → 1 ≤ w.requests
     wants p = asks row at (subst IsPlacing (sym eq) p)
@@ -107,7 +107,7 @@ module _ (files : FilesAt) (x : Conn) (st : Station) (k : Talk) (pend : List Ver
       h
 
   -- before the front end knows it, nothing is acknowledged, so it took nothing
-  nobody : x.part.front.row ≡ None → taken st.client ≡ 0
+  nobody : x.part.front.row ≡ None → symbols_taken st.client ≡ 0
   nobody at =
       let none : acts.heard ≡ 0 = subst (FrontActs (bounds_of x st acts.heard)) at acts.within.front in
       let una : st.client.send.una ≤ acts.heard = acts.client.acknowledged in
@@ -117,14 +117,14 @@ module _ (files : FilesAt) (x : Conn) (st : Station) (k : Talk) (pend : List Ver
   stage-knows : (row : FrontRow) → x.part.front.row ≡ Some row → (s : FrontConn) → row.stage ≡ s → Here_ (seat_in x.part.front x.part.nodes s)
   stage-knows row at (stage.Held b) eq =
       let h = agrees row at (stage.Held b) eq in
-      let few = read-most files x.c st k o.client o.says w is b [] (rest_of x.part.front.rest).count h.holds in
+      let few = read-most files x.c st k o.client o.says w is b [] (front_rest x.part.front.rest).count h.holds in
       (knows b.send.una (act row at (stage.Held b) eq).1.0, omega (arith, few), open_ (counted row at (stage.Held b) eq).counts.not_reset)
   stage-knows row at (stage.Waiting b) eq = (knows b.send.una (act row at (stage.Waiting b) eq).1.0, wants row at (stage.Waiting b) eq tt, freeze-open b (agrees row at (stage.Waiting b) eq).1)
   stage-knows row at stage.Lent eq = absurd (agrees row at stage.Lent eq)
   stage-knows row at (stage.Offering n d) eq =
-      away false n d.0 (rest_of x.part.front.rest).count row.epoch.0 (wants row at (stage.Offering n d) eq tt) (offered row n (agrees row at (stage.Offering n d) eq))
+      away false n d.0 (front_rest x.part.front.rest).count row.epoch.0 (wants row at (stage.Offering n d) eq tt) (offered row n (agrees row at (stage.Offering n d) eq))
   stage-knows row at (stage.Moved n d) eq =
-      away true n d.0 (rest_of x.part.front.rest).count row.epoch.0 (wants row at (stage.Moved n d) eq tt) (inr (agrees row at (stage.Moved n d) eq).1)
+      away true n d.0 (front_rest x.part.front.rest).count row.epoch.0 (wants row at (stage.Moved n d) eq tt) (inr (agrees row at (stage.Moved n d) eq).1)
   stage-knows row at (stage.Closed last) eq = tt
 
   pub seat-knows : Here_ (seat_of x.part)

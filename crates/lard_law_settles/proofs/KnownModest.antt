@@ -3,12 +3,12 @@ use Rattle.std.proofs.Common.{◌≡◌, ◌≤◌, ◌+◌, ◌*◌, ◌==◌, 
 use Rattle.std.proofs.lemmas.Bool.{both_ways, cases_eq, cond_both, eq-eqb}
 use Rattle.lard_answers.specs.Answers.{FilesAt}
 use Rattle.lard_base.specs.declared.ids.Epoch.{Epoch}
-use Rattle.lard_bound.specs.Seats.{Offered, Seat, seat_decided, seat_in, seat_of, seat_there, stay_of, telling, tells_end}
+use Rattle.lard_bound.specs.Seats.{Offered, SeatNow, seat_decided, seat_in, seat_of, seat_there, stay_of, telling, tells_end}
 use Rattle.lard_bound.specs.Units.{Whole, batch_left, progress_left, tellers}
 use Rattle.lard_laws.specs.Homes.{HasOneHome, KnowsOf, NoneKnows, NoOtherKnows, RowHomes, StageHomes, WasAt}
-use Rattle.lard_law_connections.specs.Kept.{AsksFor, HereKeeps, IsKeptByStage, NodeRowKeeps, NodeStageKeeps, awaited_in, awaits}
+use Rattle.lard_law_connections.specs.Kept.{AsksFor, HereKeeps, IsKeptByStage, NodeRowKeeps, NodeStageKeeps, contents_awaited, awaits_content}
 use Rattle.lard_law_view.specs.View.{Conn}
-use Rattle.lard_rules.specs.Front.{rest_of}
+use Rattle.lard_rules.specs.Front.{front_rest}
 use Rattle.lard_handoff_back.specs.declared.row.BackConn.{BackConn}
 use Rattle.lard_handoff_back.specs.declared.row.BackConn.TheVariants as back
 use Rattle.lard_handoff_back.specs.declared.row.BackRow.{BackRow}
@@ -58,10 +58,10 @@ one-tells nodes home (suc m) h = ⊎_elim
 
 -- ---- what a node keeps of a stay
 
-two-each : (es : List Entry) → batch_left es + awaited_in es ≤ 2 * length es
+two-each : (es : List Entry) → batch_left es + contents_awaited es ≤ 2 * length es
 two-each [] = omega arith
 two-each (e ∷ es) = let one = two e.progress in let rest = two-each es in omega (arith, one, rest) where
-  two : (p : Progress) → progress_left p + awaits p ≤ 2
+  two : (p : Progress) → progress_left p + awaits_content p ≤ 2
   two progress.Named = omega arith
   two progress.Reading = omega arith
   two (progress.Awaited node) = omega arith
@@ -78,7 +78,7 @@ module _ (w : Whole) (N : ℕ → Type 0) (files : FilesAt) (x : Conn) (st : Sta
   abbrev nodes : ℕ → NodePart
   nodes = x.part.nodes
 
-  abbrev Bounded : Seat → Type 0
+  abbrev Bounded : SeatNow → Type 0
   Bounded z = SeatKnown w st.client z → IsModest w (tellers nodes K) z
 
   nobody : NoneKnows nodes → tellers nodes K ≡ 0
@@ -126,8 +126,8 @@ module _ (w : Whole) (N : ℕ → Type 0) (files : FilesAt) (x : Conn) (st : Sta
   by-stage row at (stage.Held b) is h = λ known. nobody h.0
   by-stage row at (stage.Waiting b) is h = λ known. (nobody h.0, asks row at (subst IsPlacing (sym is) tt))
   by-stage row at stage.Lent is h = absurd h
-  by-stage row at (stage.Offering n d) is h = decided false n d.0 (rest_of x.part.front.rest).count h.0 (asks row at (subst IsPlacing (sym is) tt)) (nodes n).row refl h.1
-  by-stage row at (stage.Moved n d) is h = decided true n d.0 (rest_of x.part.front.rest).count h.0 (asks row at (subst IsPlacing (sym is) tt)) (nodes n).row refl h.1
+  by-stage row at (stage.Offering n d) is h = decided false n d.0 (front_rest x.part.front.rest).count h.0 (asks row at (subst IsPlacing (sym is) tt)) (nodes n).row refl h.1
+  by-stage row at (stage.Moved n d) is h = decided true n d.0 (front_rest x.part.front.rest).count h.0 (asks row at (subst IsPlacing (sym is) tt)) (nodes n).row refl h.1
   by-stage row at (stage.Closed last) is h = λ known. was-told row.ended_by h
 
   pub modest : Bounded (seat_of x.part)

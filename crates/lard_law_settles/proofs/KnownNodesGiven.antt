@@ -10,13 +10,13 @@ use Rattle.lard_base.specs.declared.config.Config.{Config}
 use Rattle.lard_base.specs.declared.event.Event.{Event}
 use Rattle.lard_base.specs.declared.limits.TheConstants.{MAX_STREAM_BYTES}
 use Rattle.lard_base.specs.declared.place.Place.TheVariants.{Front, Node}
-use Rattle.lard_bound.specs.Seats.{Gone, Held, Here, Offered, Over, Seat, Unborn, Waiting, seat_away, seat_decided, seat_in, seat_of, seat_there, staying_of}
+use Rattle.lard_bound.specs.Seats.{Gone, Held, Here, Offered, Over, SeatNow, Unborn, Waiting, seat_away, seat_decided, seat_in, seat_of, seat_there, staying_of}
 use Rattle.lard_rules.specs.declared.machine.Machine.{Machine}
-use Rattle.lard_rules.specs.Machine.{IsReached, Passes, is_no_node, start}
+use Rattle.lard_rules.specs.Machine.{IsReached, Passes, is_no_node, machine_start}
 use Rattle.lard_laws.specs.BackingRequests.{IsFor}
 use Rattle.lard_laws.specs.BackingState.{LetterFor, SaysFor}
 use Rattle.lard_laws.proofs.BackingRules.{each-backed}
-use Rattle.lard_law_connections.specs.BytesAgreement.{ConnAgrees, IsInner, IsUnopened}
+use Rattle.lard_law_connections.specs.BytesAgreement.{ConnAgrees, IsInner, IsConnUnopened}
 use Rattle.lard_law_connections.proofs.BytesRuns.{states-truthful}
 use Rattle.lard_laws.specs.Homes.{KnowsOf, RowHomes, StageHomes}
 use Rattle.lard_laws.proofs.HomesRuns.{connections-have-one-home}
@@ -27,18 +27,18 @@ use Rattle.lard_law_connections.specs.Places.{owning}
 use Rattle.lard_law_connections.proofs.PlacesFrontMessages.{came-says}
 use Rattle.lard_law_connections.proofs.PlacesFrontRules.{has-each}
 use Rattle.lard_law_connections.proofs.PlacesRuns.{each-placed}
-use Rattle.lard_laws.specs.Records.{IsFile, IsGiven}
+use Rattle.lard_laws.specs.Records.{IsRunFile, IsScheduled}
 use Rattle.lard_laws.proofs.RecordsHolding.{IsPacket}
 use Rattle.lard_laws.proofs.RecordsReached.{run-holds}
 use Rattle.lard_laws.proofs.TagsGoing.{each-with}
 use Rattle.lard_law_view.specs.Carry.{setting, tale_at}
-use Rattle.lard_law_view.specs.View.{Conn, Setting, Spells, Was, conn}
+use Rattle.lard_law_view.specs.View.{Conn, Setting, SpellsMessage, Was, conn}
 use Rattle.lard_laws.specs.WaysState.{marks_at}
 use Rattle.lard_endpoint.specs.Control.{ControlBlock}
 use Rattle.lard_files.specs.Files.{file_at}
 use Rattle.lard_files.specs.Files as files_of
 use Rattle.lard_files.proofs.Lookups.{file-kept}
-use Rattle.lard_rules.specs.Front.{is_at, is_with, rest_of}
+use Rattle.lard_rules.specs.Front.{is_row_at, is_with, front_rest}
 use Rattle.lard_handoff_back.specs.declared.row.BackConn.{BackConn}
 use Rattle.lard_handoff_back.specs.declared.row.BackConn.TheVariants as back
 use Rattle.lard_handoff_back.specs.declared.row.BackRow.{BackRow}
@@ -81,11 +81,11 @@ in-range nodes n some within = or_from (n == 0) (nat_lt nodes n) (ne_eqb n 0 (λ
 -- ---- where a connection is offered
 
 -- what a seat says of where it goes
-abbrev node_in : Seat → ℕ
+abbrev node_in : SeatNow → ℕ
 node_in (Offered n e count) = n
 node_in _ = 0
 
-abbrev epoch_in : Seat → ℕ
+abbrev epoch_in : SeatNow → ℕ
 epoch_in (Offered n e count) = e
 epoch_in _ = 0
 
@@ -118,7 +118,7 @@ module _ (N : ℕ → Type 0) (x : Conn) (files : FilesAt) (c n e count : ℕ) w
 
   -- the row of a connection that is offered so
   pub record IsOfferedTo : Type 0 where
-    pub is_there : is_at n e x.part.front.row ≡ true
+    pub is_there : is_row_at n e x.part.front.row ≡ true
     pub none : (x.part.nodes n).row ≡ None
 
   module _ (keeps : (m : ℕ) → NodeRowKeeps N files c m (x.part.nodes m) (x.part.nodes m).row) (homes : RowHomes x.part.nodes x.part.front.row) where
@@ -126,17 +126,17 @@ module _ (N : ℕ → Type 0) (x : Conn) (files : FilesAt) (c n e count : ℕ) w
     same-test m d a b = and_from (m == n) (d == e) (eq-eqb m n a) (eq-eqb d e b)
 
     by-stage : (row : FrontRow) → x.part.front.row ≡ Some row → (s : FrontConn) → row.stage ≡ s → StageHomes x.part.nodes row.ended_by s → seat_in x.part.front x.part.nodes s ≡ Offered n e count → IsOfferedTo
-    by-stage row at (stage.Held b) is h eq = absurd (let bad : Held b (rest_of x.part.front.rest).count ≡ Offered n e count = eq in cc)
-    by-stage row at (stage.Waiting b) is h eq = absurd (let bad : Waiting b (rest_of x.part.front.rest).count ≡ Offered n e count = eq in cc)
+    by-stage row at (stage.Held b) is h eq = absurd (let bad : Held b (front_rest x.part.front.rest).count ≡ Offered n e count = eq in cc)
+    by-stage row at (stage.Waiting b) is h eq = absurd (let bad : Waiting b (front_rest x.part.front.rest).count ≡ Offered n e count = eq in cc)
     by-stage row at stage.Lent is h eq = absurd h
     by-stage row at (stage.Offering m d) is h eq =
-        let a = away false m d.0 (rest_of x.part.front.rest).count (keeps m) h.1 eq in record {
-          is_there = ap (is_at n e) at ∙ ap (is_with n e) is ∙ same-test m d.0 a.node a.epoch;
+        let a = away false m d.0 (front_rest x.part.front.rest).count (keeps m) h.1 eq in record {
+          is_there = ap (is_row_at n e) at ∙ ap (is_with n e) is ∙ same-test m d.0 a.node a.epoch;
           none = subst (λ i. (x.part.nodes i).row ≡ None) a.node a.none;
         }
     by-stage row at (stage.Moved m d) is h eq =
-        let a = away true m d.0 (rest_of x.part.front.rest).count (keeps m) h.1 eq in record {
-          is_there = ap (is_at n e) at ∙ ap (is_with n e) is ∙ same-test m d.0 a.node a.epoch;
+        let a = away true m d.0 (front_rest x.part.front.rest).count (keeps m) h.1 eq in record {
+          is_there = ap (is_row_at n e) at ∙ ap (is_with n e) is ∙ same-test m d.0 a.node a.epoch;
           none = subst (λ i. (x.part.nodes i).row ≡ None) a.node a.none;
         }
     by-stage row at (stage.Closed last) is h eq = absurd (let bad : Over last ≡ Offered n e count = eq in cc)
@@ -149,8 +149,8 @@ module _ (N : ℕ → Type 0) (x : Conn) (files : FilesAt) (c n e count : ℕ) w
 
 -- ---- every run
 
-module _ (config : Config) (files : List (List ℕ × List ℕ)) (small : config.stream ≤ MAX_STREAM_BYTES) (checked : config_check config ≡ Ok tt) (named : All IsFile files)
-    (es : List Event) (given : All IsGiven es) (m : Machine) (past : Passes (start config files) es m) (same : m.config ≡ config) (q : ℕ) where
+module _ (config : Config) (files : List (List ℕ × List ℕ)) (small : config.stream ≤ MAX_STREAM_BYTES) (checked : config_check config ≡ Ok tt) (named : All IsRunFile files)
+    (es : List Event) (given : All IsScheduled es) (m : Machine) (past : Passes (machine_start config files) es m) (same : m.config ≡ config) (q : ℕ) where
   abbrev reached : IsReached config files m
   reached = (es, past)
 
@@ -166,12 +166,12 @@ module _ (config : Config) (files : List (List ℕ × List ℕ)) (small : config
 
   module _ (free : (tale_at x).touched ≡ false) where
     -- what a connection whose client did not open has not
-    by-opened : (IsUnopened x → ⊥) → (st : Station) × (x.part.station ≡ Some st)
+    by-opened : (IsConnUnopened x → ⊥) → (st : Station) × (x.part.station ≡ Some st)
     by-opened never = go x.part.station refl where
       go : (o : Option Station) → x.part.station ≡ o → (st : Station) × (x.part.station ≡ Some st)
       go None at =
           let truth = states-truthful config files small m reached q free in
-          let u : IsUnopened x = subst (ConnAgrees (file_at files) x truth.talk truth.pend) at truth.agrees in
+          let u : IsConnUnopened x = subst (ConnAgrees (file_at files) x truth.talk truth.pend) at truth.agrees in
           absurd (never u)
       go (Some st) at = (st, at)
 
@@ -183,7 +183,7 @@ module _ (config : Config) (files : List (List ℕ × List ℕ)) (small : config
         let none : (n : ℕ) → (x.part.nodes n).row ≡ None = subst (RowHomes x.part.nodes) u.front (connections-have-one-home config files m reached q) in
         let bad : ◌≡◌ {A = Option BackRow} None (Some (record { stage = back.Here b; epoch = record { 0 = e } })) = sym (none n) ∙ has in cc)
 
-    pub fetch-opened : (i n e r : ℕ) (path bytes : List ℕ) → Spells x.c e (body.Fetch r path) bytes → Was x (Node i) (Node n) bytes → (st : Station) × (x.part.station ≡ Some st)
+    pub fetch-opened : (i n e r : ℕ) (path bytes : List ℕ) → SpellsMessage x.c e (body.Fetch r path) bytes → Was x (Node i) (Node n) bytes → (st : Station) × (x.part.station ≡ Some st)
     fetch-opened i n e r path bytes spells was = by-opened (λ u.
         let letter : Letter = record { from = Node i; to = Node n; bytes = bytes } in
         let says : SaysFor (file_at files) (marks_at x).wrote (Node i) (Node n) bytes = has-each (LetterFor (file_at files) (marks_at x).wrote) letter x.letters was ((each-backed config files small m reached q).0 free) in
@@ -203,7 +203,7 @@ module _ (config : Config) (files : List (List ℕ × List ℕ)) (small : config
     offered n e count eq = offered-to AnyNode x (file_at files) x.c n e count (connections-are-kept config files m reached q).nodes (connections-have-one-home config files m reached q) eq
 
     pub node-given : ((st : Station) (n e : ℕ) (b : ControlBlock) → x.part.station ≡ Some st → HasIt x n e b → IsTalking st b)
-        → ((st : Station) (n e : ℕ) (b : ControlBlock) (segment bytes : List ℕ) (s : Said) → x.part.station ≡ Some st → HasIt x n e b → Spells x.c e (body.Forward segment) bytes → Was x Front (Node n) bytes
+        → ((st : Station) (n e : ℕ) (b : ControlBlock) (segment bytes : List ℕ) (s : Said) → x.part.station ≡ Some st → HasIt x n e b → SpellsMessage x.c e (body.Forward segment) bytes → Was x Front (Node n) bytes
         → decoded segment x.c ToCluster ≡ Ok s → IsForwarded st b s)
         → NodeGiven k (written_on config files small m reached q) x
     node-given talks words =
@@ -212,7 +212,7 @@ module _ (config : Config) (files : List (List ℕ × List ℕ)) (small : config
           fetched = fetch-opened;
           held = held-opened;
           bytes = letter-bytes;
-          files = λ path file is. (file-kept files path file (each-all files_of.IsFile files (Each-weaker IsFile files_of.IsFile (λ f h. h.0) files (all-each IsFile files named))) is).1;
+          files = λ path file is. (file-kept files path file (each-all files_of.IsFile files (Each-weaker IsRunFile files_of.IsFile (λ f h. h.0) files (all-each IsRunFile files named))) is).1;
           homes = λ n e b has. let h = sits-at (owning (tale_at x)) x.part.front x.part.nodes placed.sits n e b has in (h.told, h.row, h.front, h.with_);
           stays = stays;
           news = λ n e parts bytes spells was new. let h = said-offered x.part.front n e (x.part.nodes n).row new (came-says x Front (Node n) e (body.Offer parts) bytes placed.letters was spells) in (h.row, h.front, h.with_);

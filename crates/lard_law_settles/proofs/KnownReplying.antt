@@ -3,8 +3,8 @@ use Rattle.std.proofs.Common.{◌≡◌, ◌<◌, ◌≤◌, ◌^◌, ◌==◌, 
 use Rattle.lard_answers.specs.Answers.{FilesAt}
 use Rattle.lard_base.specs.declared.place.Place.{Place}
 use Rattle.lard_base.specs.declared.place.Place.TheVariants.{Client, Front, Node}
-use Rattle.lard_bound.specs.Seats.{Seat, seat_of}
-use Rattle.lard_bound.specs.Units.{taken}
+use Rattle.lard_bound.specs.Seats.{SeatNow, seat_of}
+use Rattle.lard_bound.specs.Units.{symbols_taken}
 use Rattle.lard_client.specs.declared.phase.Phase.TheVariants.{Open}
 use Rattle.lard_laws.specs.Acks.{LetterActs, OpenActs, ReplyActs, bounds_of}
 use Rattle.lard_law_connections.specs.BytesAgreement.{IsFair, IsOpen}
@@ -29,13 +29,13 @@ use Rattle.lard_law_view.specs.Truth.{IsStream}
 
 -- Beside the two laws: no more of the client's was taken than it has, all of which it sent once it is established; only one that is
 -- established took the FIN; before that its SYN is what is acknowledged; and a refusal has the number of what was acknowledged.
-pub record MayReply (st : Station) (z : Seat) (heard : ℕ) (s : Said) : Type 0 where
+pub record MayReply (st : Station) (z : SeatNow) (heard : ℕ) (s : Said) : Type 0 where
   pub heard_most : st.client.phase ≡ Open → Matters z → heard ≤ symbols st.client.send
   pub all : st.client.phase ≡ Open → (st.client.send.una == 0) ≡ false → symbols st.client.send ≤ st.client.send.nxt
   pub few : symbols st.client.send < 2 ^ 32
   pub begun : st.client.eof ≡ true → (st.client.send.una == 0) ≡ false
   pub greets : st.client.phase ≡ Open → st.client.send.una ≡ 0 → s.flags.ack ≡ true → seq_offset s.ack st.client.send.iss ≡ 1
-  pub refuses : Refuses st.iss (taken st.client) s
+  pub refuses : Refuses st.iss (symbols_taken st.client) s
 
 module _ (files : FilesAt) (x : Conn) (st : Station) (k : Talk) (pend : List Verdict) (o : IsOpen files x k pend st) (acts : OpenActs x st) where
   out-stream : IsStream k.out

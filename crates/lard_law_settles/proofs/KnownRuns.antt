@@ -6,7 +6,7 @@ use Rattle.lard_base.specs.declared.limits.TheConstants.{MAX_STREAM_BYTES}
 use Rattle.lard_bound.specs.Seats.{seat_of}
 use Rattle.lard_bound.specs.Units.{Whole, tellers, whole_of}
 use Rattle.lard_rules.specs.declared.machine.Machine.{Machine}
-use Rattle.lard_rules.specs.Bounds.{IsNumber}
+use Rattle.lard_rules.specs.Bounds.{IsConnNumber}
 use Rattle.lard_rules.specs.Machine.{IsReached, node_at}
 pub use Rattle.lard_laws.specs.Acks.{OpenActs, StationActs, story_at}
 pub use Rattle.lard_laws.proofs.AcksRuns.{connections-ack}
@@ -18,7 +18,7 @@ use Rattle.lard_law_connections.proofs.KeptRuns.{connections-are-kept}
 use Rattle.lard_law_connections.proofs.LimitsRuns.{connections-counted}
 use Rattle.lard_law_connections.proofs.PlacesRuns.{each-placed}
 use Rattle.lard_law_view.specs.Carry.{tale_at}
-use Rattle.lard_law_view.specs.View.{Conn, IsSound, IsViewed, blank, conn, kept_at, part_of}
+use Rattle.lard_law_view.specs.View.{Conn, IsConnSound, IsViewed, blank_conn, conn, kept_at, part_of}
 use Rattle.lard_laws.proofs.WaysRuns.{each-guarded}
 use Rattle.lard_law_view.proofs.Carried.{reached-viewed}
 use Rattle.lard_files.specs.Files.{file_at}
@@ -50,10 +50,10 @@ node-there m view q n row is = go (node_at m.nodes n) refl is where
   go (Some s) at e = let l = node-counted m.nodes n s at in let same = view.nodes in (l.0, omega (arith, l.1, same))
 
 -- a client that opened has the number of a connection
-pub number-of : (x : Conn) (st : Station) → IsSound x → x.part.station ≡ Some st → IsNumber x.c
+pub number-of : (x : Conn) (st : Station) → IsConnSound x → x.part.station ≡ Some st → IsConnNumber x.c
 number-of x st sound at = ⊎_elim
-    (λ (n : IsNumber x.c). n)
-    (λ (none : x ≡ blank x.c). absurd (let bad : ◌≡◌ {A = Option Station} (Some st) None = sym at ∙ ap (λ (y : Conn). y.part.station) none in cc))
+    (λ (n : IsConnNumber x.c). n)
+    (λ (none : x ≡ blank_conn x.c). absurd (let bad : ◌≡◌ {A = Option Station} (Some st) None = sym at ∙ ap (λ (y : Conn). y.part.station) none in cc))
     sound.number
 
 module _ (config : Config) (files : List (List ℕ × List ℕ)) (small : config.stream ≤ MAX_STREAM_BYTES) (m : Machine) (reached : IsReached config files m) (q : ℕ) where

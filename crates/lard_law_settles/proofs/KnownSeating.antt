@@ -2,12 +2,12 @@
 use Rattle.std.proofs.Common.{◌≡◌, ◌≤◌, ◌==◌, ℕ, Bool, true, false, List, [], length, Option, Some, None, ⊎_elim, refl, sym, ◌∙◌, subst}
 use Rattle.std.proofs.lemmas.Bool.{both_ways, cond_both, eqb-true}
 use Rattle.lard_answers.specs.Answers.{FilesAt}
-use Rattle.lard_bound.specs.Seats.{Held, Here, Offered, Over, Seat, Waiting, seat_away, seat_decided, seat_in, seat_of, seat_there}
+use Rattle.lard_bound.specs.Seats.{Held, Here, Offered, Over, SeatNow, Waiting, seat_away, seat_decided, seat_in, seat_of, seat_there}
 use Rattle.lard_bound.specs.Units.{Whole}
 use Rattle.lard_laws.specs.Acks.{AcksWhatWasTaken, BackActs, EndActs, FrontActs, FrontStageActs, OpenActs, StationActs, bounds_of}
 use Rattle.lard_laws.proofs.AcksStory.{reset-told}
 use Rattle.lard_law_connections.specs.BytesAgreement.{AwayAgrees, ConnAgrees, IsOffering, IsOpen, IsTruthful, NodeAgrees, RowAgrees, SeatAgrees, StageAgrees, StayAgrees}
-use Rattle.lard_law_connections.specs.LimitsCounts.{BackCounts, FrontCounts, FrontStageCounts, IsCounted, served_in}
+use Rattle.lard_law_connections.specs.LimitsCounts.{BackCounts, FrontCounts, FrontStageCounts, CountsWhatWasServed, served_by_tale}
 use Rattle.lard_law_connections.specs.Places.{IsDecided, IsPast}
 use Rattle.lard_law_connections.specs.SilencePlaces.{BackHas, FrontHas, FrontStageHas, HereHas}
 use Rattle.lard_law_connections.specs.Silence.{AllHaveSpoken, HasSpoken}
@@ -18,7 +18,7 @@ use Rattle.lard_laws.specs.Windows.{AnyBlock, EndSent, IsReaching, ReachesOn, St
 use Rattle.lard_laws.specs.WindowsWords.{HasStarted}
 use Rattle.lard_endpoint.specs.Control.{ControlBlock}
 use Rattle.lard_endpoint.specs.Moving.{may_freeze}
-use Rattle.lard_rules.specs.Front.{rest_of}
+use Rattle.lard_rules.specs.Front.{front_rest}
 use Rattle.lard_law_settles.proofs.KnownTalking.{HasSaid, talks}
 use Rattle.lard_handoff_back.specs.declared.row.BackConn.{BackConn}
 use Rattle.lard_handoff_back.specs.declared.row.BackConn.TheVariants as back
@@ -42,7 +42,7 @@ use Rattle.lard_rules.specs.declared.places.Station.{Station}
 abbrev AtStage : Part → FrontConn → Type 0
 AtStage p c = (row : FrontRow) × (p.front.row ≡ Some row) × (row.stage ≡ c)
 
-abbrev pub SeatHas : Part → Seat → Type 0
+abbrev pub SeatHas : Part → SeatNow → Type 0
 SeatHas p (Held b count) = AtStage p (stage.Held b)
 SeatHas p (Waiting b count) = AtStage p (stage.Waiting b)
 SeatHas p (Here told n e b s) = (p.nodes n).row ≡ Some (record { stage = back.Here b; epoch = record { 0 = e } })
@@ -68,8 +68,8 @@ seat-has p = go p.front.row refl where
   at row is (stage.Held b) eq = (row, is, eq)
   at row is (stage.Waiting b) eq = (row, is, eq)
   at row is stage.Lent eq = tt
-  at row is (stage.Offering n d) eq = away false n d.0 (rest_of p.front.rest).count
-  at row is (stage.Moved n d) eq = away true n d.0 (rest_of p.front.rest).count
+  at row is (stage.Offering n d) eq = away false n d.0 (front_rest p.front.rest).count
+  at row is (stage.Moved n d) eq = away true n d.0 (front_rest p.front.rest).count
   at row is (stage.Closed last) eq = (row, is, eq)
 
   go : (o : Option FrontRow) → p.front.row ≡ o → SeatHas p (seat_of p)
@@ -82,7 +82,7 @@ seat-has p = go p.front.row refl where
 pub record IsLawful (files : FilesAt) (stream : ℕ) (x : Conn) : Type 0 where
   pub truth : IsTruthful files x
   pub acks : AcksWhatWasTaken x
-  pub counts : IsCounted stream x
+  pub counts : CountsWhatWasServed stream x
   pub spoken : AllHaveSpoken x
   pub reaches : IsReaching x
   pub refusals : RefusesSegments x
@@ -108,7 +108,7 @@ module _ (files : FilesAt) (stream : ℕ) (x : Conn) (st : Station) (at : x.part
   abbrev Sent : ControlBlock → Type 0
   Sent = EndSent x.c st.client st.iss x.letters
 
-  said : (b : ControlBlock) → HasSpoken b → Sent b → (served_in (tale_at x)).was_reset ≡ false → HasSaid st.client k.w b
+  said : (b : ControlBlock) → HasSpoken b → Sent b → (served_by_tale (tale_at x)).was_reset ≡ false → HasSaid st.client k.w b
   said b h sent none = record {
     stays = h.stays;
     none = h.none;
@@ -127,8 +127,8 @@ module _ (files : FilesAt) (stream : ℕ) (x : Conn) (st : Station) (at : x.part
     pub stage-acts : FrontStageActs (bounds_of x st open-acts.heard) s
     stage-acts = subst (FrontStageActs (bounds_of x st open-acts.heard)) eq (subst (FrontActs (bounds_of x st open-acts.heard)) is open-acts.within.front)
 
-    stage-counts : FrontStageCounts stream (served_in (tale_at x)) s
-    stage-counts = subst (FrontStageCounts stream (served_in (tale_at x))) eq (subst (FrontCounts stream (served_in (tale_at x))) is laws.counts.front)
+    stage-counts : FrontStageCounts stream (served_by_tale (tale_at x)) s
+    stage-counts = subst (FrontStageCounts stream (served_by_tale (tale_at x))) eq (subst (FrontCounts stream (served_by_tale (tale_at x))) is laws.counts.front)
 
     stage-spoke : FrontStageHas HasSpoken s
     stage-spoke = subst (FrontStageHas HasSpoken) eq (subst (FrontHas HasSpoken) is laws.spoken.front)
@@ -140,13 +140,13 @@ module _ (files : FilesAt) (stream : ℕ) (x : Conn) (st : Station) (at : x.part
   held-talks b (row, is, eq) =
       let s = stage.Held b in
       let h = stage-agrees row is s eq in
-      talks files x st k laws.truth.pend opens open-acts k.vs [] b (rest_of x.part.front.rest).count h.holds (stage-acts row is s eq) (said b (stage-spoke row is s eq) (stage-sent row is s eq) (stage-counts row is s eq).counts.not_reset)
+      talks files x st k laws.truth.pend opens open-acts k.vs [] b (front_rest x.part.front.rest).count h.holds (stage-acts row is s eq) (said b (stage-spoke row is s eq) (stage-sent row is s eq) (stage-counts row is s eq).counts.not_reset)
 
   pub waiting-talks : (b : ControlBlock) → AtStage x.part (stage.Waiting b) → IsTalking st b
   waiting-talks b (row, is, eq) =
       let s = stage.Waiting b in
       let h = stage-agrees row is s eq in
-      talks files x st k laws.truth.pend opens open-acts k.vs [] b (rest_of x.part.front.rest).count h.0.holds (stage-acts row is s eq) (said b (stage-spoke row is s eq) (stage-sent row is s eq) (stage-counts row is s eq).0.counts.not_reset)
+      talks files x st k laws.truth.pend opens open-acts k.vs [] b (front_rest x.part.front.rest).count h.0.holds (stage-acts row is s eq) (said b (stage-spoke row is s eq) (stage-sent row is s eq) (stage-counts row is s eq).0.counts.not_reset)
 
   pub may-freeze : (b : ControlBlock) → AtStage x.part (stage.Waiting b) → may_freeze b ≡ true
   may-freeze b (row, is, eq) = (stage-agrees row is (stage.Waiting b) eq).1
@@ -176,8 +176,8 @@ module _ (files : FilesAt) (stream : ℕ) (x : Conn) (st : Station) (at : x.part
 
     pub here-talks : IsAt x.part.front n e → IsTalking st b
     here-talks a = go (x.part.nodes n).stay (stays a) (subst (λ (o : Option BackRow). BackHas HasSpoken HasSpoken o (x.part.nodes n).stay) has (laws.spoken.nodes n)) (subst (λ (o : Option BackRow). BackHas Sent AnyBlock o (x.part.nodes n).stay) has (open-reaches.nodes n)) where
-      not-reset : (served_in (tale_at x)).was_reset ≡ false
-      not-reset = (subst (BackCounts stream (served_in (tale_at x))) has (laws.counts.nodes n)).not_reset
+      not-reset : (served_by_tale (tale_at x)).was_reset ≡ false
+      not-reset = (subst (BackCounts stream (served_by_tale (tale_at x))) has (laws.counts.nodes n)).not_reset
 
       go : (o : Option Stay) → StayAgrees k.w k.out k.vs laws.truth.pend b o → HereHas HasSpoken HasSpoken b o → HereHas Sent AnyBlock b o → IsTalking st b
       go None h spoke sent = absurd h

@@ -6,7 +6,7 @@ use Rattle.lard_bound.specs.Seats.{Gone, Offered, seat_away, seat_decided, seat_
 use Rattle.lard_law_connections.specs.Places.{IsComing, IsDecided, IsLeft, IsOffered, IsOver, IsPast, IsThere, Offers, OthersArePast, Owning, Sits, StageSits}
 use Rattle.lard_law_view.specs.View.{Part}
 use Rattle.lard_endpoint.specs.Control.{ControlBlock}
-use Rattle.lard_rules.specs.Front.{FrontPart, rest_of}
+use Rattle.lard_rules.specs.Front.{FrontPart, front_rest}
 use Rattle.lard_handoff_back.specs.Back.{offer_answer}
 use Rattle.lard_handoff_back.specs.Row.{is_gone}
 use Rattle.lard_handoff_back.specs.declared.row.BackConn.{BackConn}
@@ -118,10 +118,10 @@ module _ (w : Owning) (p : Part) (n e : ℕ) (over : IsOver e (p.nodes n).row) w
       (λ (other : n ≡ m → ⊥). absurd (past-undecided d (p.nodes n).row (others n other) (subst (λ i. IsDecided i (p.nodes n).row) same (over-decided e (p.nodes n).row over))))
       (cases_eq n m)
 
-  over-seat : (told : Bool) (m d : ℕ) → e ≡ d → n ≡ m → IsThere m d w (p.nodes m).row → seat_away told m d (rest_of p.front.rest).count (p.nodes m) ≡ Gone told m d
+  over-seat : (told : Bool) (m d : ℕ) → e ≡ d → n ≡ m → IsThere m d w (p.nodes m).row → seat_away told m d (front_rest p.front.rest).count (p.nodes m) ≡ Gone told m d
   over-seat told m d same eq there =
       let o : IsOver d (p.nodes m).row = subst (λ i. IsOver d (p.nodes i).row) eq (subst (λ i. IsOver i (p.nodes n).row) same over) in
-      over-gone w told m d (rest_of p.front.rest).count (p.nodes m) (p.nodes m).row there o
+      over-gone w told m d (front_rest p.front.rest).count (p.nodes m) (p.nodes m).row there o
 
   gone-stage : (row : FrontRow) → p.front.row ≡ Some row → (s : FrontConn) → row.stage ≡ s → StageSits row.epoch.0 w p.nodes s → is_away e s ≡ true → IsGone (seat_of p)
   gone-stage row at stage.Lent is h t = absurd h

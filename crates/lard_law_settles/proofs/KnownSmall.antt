@@ -12,7 +12,7 @@ use Rattle.lard_block.specs.declared.block.Found.{Found}
 use Rattle.lard_block.specs.declared.block.Found.TheVariants.{Block, More, TooLong}
 use Rattle.lard_law_connections.specs.BytesAgreement.{ConnAgrees, FrontHolds, IsTruthful, SeatAgrees, StageAgrees}
 use Rattle.lard_law_connections.proofs.BytesRuns.{states-truthful}
-use Rattle.lard_law_view.specs.Carry.{IsUntouchedLaw, MayMove, OfEach, Untouched, setting, tale_at}
+use Rattle.lard_law_view.specs.Carry.{IsUntouchedLaw, MayRestOn, OfEach, Untouched, setting, tale_at}
 use Rattle.lard_law_view.specs.View.{ClientRules, Conn, FrontRules, Move, NodeRules, Setting, front_does, grown, node_does, packet_seen, event_seen}
 use Rattle.lard_law_view.proofs.Carried.{carried}
 use Rattle.lard_law_view.proofs.Guarded.{untouched-law}
@@ -26,8 +26,8 @@ use Rattle.lard_endpoint.specs.Moving.{may_freeze}
 use Rattle.lard_endpoint.specs.declared.control.moving.Final.{Final}
 use Rattle.lard_rules.specs.declared.front.FrontRest.{FrontRest}
 use Rattle.lard_rules.specs.declared.front.FrontTurn.{FrontTurn}
-use Rattle.lard_rules.specs.Front.{Deed, Does, Drops, FrontEnv, FrontPart, Says, admitted_at, admitted_by, admitted_with, ask_of, asked_by, assigns, begun, ended_by, fired_by, fires_at, front_admitted, front_asked, front_ended, front_gets, front_hears, front_taken, front_timer, handed_off, hears_at, is_at, met, placed, rest_of, rests, saying, settled_by, tag_sent, taken_by}
-use Rattle.lard_rules.specs.FrontReading.{Reading, block_at, reads, reads_block, reads_found, turn}
+use Rattle.lard_rules.specs.Front.{FrontDeed, Does, Drops, FrontEnv, FrontPart, Says, admitted_at, admitted_by, front_admitted_with, ask_of, asked_by, assigns, front_begun, front_ended_by, front_fired_by, fires_at, front_admitted, front_asked, front_ended, front_gets, front_hears, front_taken, front_timer, handed_off, hears_at, is_row_at, met, placed, front_rest, front_rests, front_saying, settled_by, tag_sent, taken_by}
+use Rattle.lard_rules.specs.FrontReading.{Reading, block_at, front_reads, reads_block, reads_found, reading_turn}
 use Rattle.lard_handoff_front.specs.Front.{asked_node, end_answer}
 use Rattle.lard_handoff_front.specs.declared.row.FrontConn.{FrontConn}
 use Rattle.lard_handoff_front.specs.declared.row.FrontConn.TheVariants as stage
@@ -48,7 +48,7 @@ use Rattle.lard_rules.specs.declared.places.Station.{Station}
 use Rattle.lard_rules.specs.Tombstone.{is_plain_syn}
 use Rattle.lard_rules.specs.Loop.{Step, runs_on}
 use Rattle.lard_rules.specs.Loop as loop
-use Rattle.lard_rules.specs.Serving.{ServeEnv, Service, answered, consumed, ended_at_fin, may_read, passed_over, queued, serving, settled, spoken}
+use Rattle.lard_rules.specs.Serving.{ServeEnv, Service, answered, serving_consumed, ended_at_fin, may_read, passed_over, queued, serving, serving_settled, spoken}
 use Rattle.lard_segment.specs.declared.fault.SegFault.{SegFault}
 use Rattle.lard_segment.specs.declared.segment.Dir.TheVariants.{ToCluster}
 use Rattle.lard_segment.specs.Segment.{Said, decoded}
@@ -63,16 +63,16 @@ module _ (env : ServeEnv) where
   abbrev Below : ℕ → Reading → Type 0
   Below n x = x.service.count ≤ n
 
-  answers-one : (v : Verdict) (n : ℕ) (w : Service) → (answered env Own v (consumed n w)).count ≤ w.count + 1
+  answers-one : (v : Verdict) (n : ℕ) (w : Service) → (answered env Own v (serving_consumed n w)).count ≤ w.count + 1
   answers-one v n w =
       let bytes = answer env.files v in
-      let read : Service = consumed n w in
+      let read : Service = serving_consumed n w in
       let total = w.block.send.total + length bytes in
       cond_both (nat_lt env.stream total) (passed_over env total read) (queued env Own v bytes read) (λ (s : Service). s.count ≤ w.count + 1) (λ t. omega arith) (λ t. omega arith)
 
-  stops-none : (n : ℕ) (w : Service) → (ended_at_fin (consumed n w)).count ≤ w.count
+  stops-none : (n : ℕ) (w : Service) → (ended_at_fin (serving_consumed n w)).count ≤ w.count
   stops-none n w =
-      let read : Service = consumed n w in
+      let read : Service = serving_consumed n w in
       cond_both w.block.recv.fin (record read { block = finishing read.block }) read (λ (s : Service). s.count ≤ w.count) (λ t. omega arith) (λ t. omega arith)
 
   block-adds : (x : Reading) (n : ℕ) (v : Verdict) (o : Option (List ℕ)) → Adds x.service.count (reads_block env x n v o)
@@ -84,19 +84,19 @@ module _ (env : ServeEnv) where
   found-adds x (Block skip len) = block-adds x (skip + len) (block_at x skip len) (good_path env.files (block_at x skip len))
   found-adds x (TooLong skip) = answers-one (Fault code.FieldsTooLarge) (length x.service.block.recv.unread) x.service
 
-  turn-adds : (x : Reading) → Adds x.service.count (turn env x)
+  turn-adds : (x : Reading) → Adds x.service.count (reading_turn env x)
   turn-adds x = cond_both (may_read x.service) (reads_found env x (cut_of x.service.block.recv.unread)) (loop.Done x) (Adds x.service.count) (λ t. found-adds x (cut_of x.service.block.recv.unread)) (λ t. omega arith)
 
-  turns-most : (n : ℕ) (x : Reading) → Below (x.service.count + n) (runs_on n (turn env) x)
+  turns-most : (n : ℕ) (x : Reading) → Below (x.service.count + n) (runs_on n (reading_turn env) x)
   unfolding runs_on
   turns-most zero x = omega arith
-  turns-most (suc n) x = go (turn env x) (turn-adds x) (λ y. turns-most n y) where
-    go : (s : Step Reading) → Adds x.service.count s → ((y : Reading) → Below (y.service.count + n) (runs_on n (turn env) y))
-        → Below (x.service.count + suc n) (elim s [ loop.More y ↦ runs_on n (turn env) y | loop.Done y ↦ y ])
+  turns-most (suc n) x = go (reading_turn env x) (turn-adds x) (λ y. turns-most n y) where
+    go : (s : Step Reading) → Adds x.service.count s → ((y : Reading) → Below (y.service.count + n) (runs_on n (reading_turn env) y))
+        → Below (x.service.count + suc n) (elim s [ loop.More y ↦ runs_on n (reading_turn env) y | loop.Done y ↦ y ])
     go (loop.More y) a on = let h = on y in omega (arith, a, h)
     go (loop.Done y) a on = omega (arith, a)
 
-  reads-most : (a : Service) → (reads env (record { service = a; target = None })).service.count ≤ a.count + (length a.block.recv.unread + 1)
+  reads-most : (a : Service) → (front_reads env (record { service = a; target = None })).service.count ≤ a.count + (length a.block.recv.unread + 1)
   reads-most a = turns-most (length a.block.recv.unread + 1) (record { service = a; target = None })
 
 -- ---- what is kept
@@ -110,9 +110,9 @@ RowSmall count None = Unit {0}
 RowSmall count (Some row) = StageSmall count row.stage
 
 abbrev pub IsSmall : FrontPart → Type 0
-IsSmall p = RowSmall (rest_of p.rest).count p.row
+IsSmall p = RowSmall (front_rest p.rest).count p.row
 
-abbrev DeedSmall : Deed → Type 0
+abbrev DeedSmall : FrontDeed → Type 0
 DeedSmall Drops = Unit {0}
 DeedSmall (Says turn) = Unit {0}
 DeedSmall (Does did) = IsSmall did.part
@@ -123,15 +123,15 @@ StageFew count (stage.Held b) = (count ≤ 2 ^ 30) × IsControlBlock b
 StageFew count (stage.Waiting b) = count ≤ 2 ^ 30
 StageFew count _ = Unit {0}
 
-held-small : (f : FrontPart) (row : FrontRow) (rest : FrontRest) (e : Ending) → IsSmall (rests f row rest stage.Held e)
+held-small : (f : FrontPart) (row : FrontRow) (rest : FrontRest) (e : Ending) → IsSmall (front_rests f row rest stage.Held e)
 held-small f row rest (ending.Here b n) = tt
 held-small f row rest (ending.Over last) = tt
 
-waits-small : (f : FrontPart) (row : FrontRow) (rest : FrontRest) (e : Ending) → IsSmall (rests f row rest stage.Waiting e)
+waits-small : (f : FrontPart) (row : FrontRow) (rest : FrontRest) (e : Ending) → IsSmall (front_rests f row rest stage.Waiting e)
 waits-small f row rest (ending.Here b n) = tt
 waits-small f row rest (ending.Over last) = tt
 
-module _ (p : FrontPart) (few : (row : FrontRow) → p.row ≡ Some row → StageFew (rest_of p.rest).count row.stage) where
+module _ (p : FrontPart) (few : (row : FrontRow) → p.row ≡ Some row → StageFew (front_rest p.rest).count row.stage) where
   -- ---- a segment, and the timer
 
   placed-small : (env : FrontEnv) (row : FrontRow) (rest : FrontRest) (w : Service) (path : List ℕ) → w.count < 2 ^ 32 → (g : First) → DeedSmall (Does (placed env p row rest w path g))
@@ -139,26 +139,26 @@ module _ (p : FrontPart) (few : (row : FrontRow) → p.row ≡ Some row → Stag
   placed-small env row rest w path small first.Waits = waits-small p row (record rest { target = Some path }) (spoken env.serve w []).0
 
   settled-small : (env : FrontEnv) (row : FrontRow) (rest : FrontRest) (w : Service) → w.count < 2 ^ 32 → (o : Option (List ℕ)) → DeedSmall (settled_by env p row rest w o)
-  settled-small env row rest w small None = held-small p row rest (settled env.serve w).0
+  settled-small env row rest w small None = held-small p row rest (serving_settled env.serve w).0
   settled-small env row rest w small (Some path) = placed-small env row rest w path small (env.first path)
 
-  heard-small : (env : FrontEnv) (bytes : List ℕ) (s : Said) (row : FrontRow) (b : ControlBlock) → (rest_of p.rest).count ≤ 2 ^ 30 → IsControlBlock b → DeedSmall (hears_at env p row bytes s (stage.Held b))
+  heard-small : (env : FrontEnv) (bytes : List ℕ) (s : Said) (row : FrontRow) (b : ControlBlock) → (front_rest p.rest).count ≤ 2 ^ 30 → IsControlBlock b → DeedSmall (hears_at env p row bytes s (stage.Held b))
   heard-small env bytes s row b count sound =
       let d = (on_segment b s).1 in
-      let r = reads env.serve (record { service = serving d (rest_of p.rest).count []; target = None }) in
-      let most = reads-most env.serve (serving d (rest_of p.rest).count []) in
+      let r = front_reads env.serve (record { service = serving d (front_rest p.rest).count []; target = None }) in
+      let most = reads-most env.serve (serving d (front_rest p.rest).count []) in
       let kept = (on_segment-sound b s sound).received in
       let got : d.recv.got ≤ 2 ^ 30 = kept.received in
       let within : length d.recv.unread ≤ d.recv.got = kept.within in
-      settled-small env row (rest_of p.rest) r.service (omega (arith, most, count, got, within)) r.target
+      settled-small env row (front_rest p.rest) r.service (omega (arith, most, count, got, within)) r.target
 
-  hears-small : (env : FrontEnv) (bytes : List ℕ) (s : Said) (row : FrontRow) (z : FrontConn) → StageFew (rest_of p.rest).count z → DeedSmall (hears_at env p row bytes s z)
+  hears-small : (env : FrontEnv) (bytes : List ℕ) (s : Said) (row : FrontRow) (z : FrontConn) → StageFew (front_rest p.rest).count z → DeedSmall (hears_at env p row bytes s z)
   hears-small env bytes s row (stage.Held b) h = heard-small env bytes s row b h.0 h.1
-  hears-small env bytes s row (stage.Waiting b) h = waits-small p row (rest_of p.rest) (spoken env.serve (serving (on_segment b s).1 (rest_of p.rest).count []) []).0
+  hears-small env bytes s row (stage.Waiting b) h = waits-small p row (front_rest p.rest) (spoken env.serve (serving (on_segment b s).1 (front_rest p.rest).count []) []).0
   hears-small env bytes s row _ h = tt
 
   meets-small : (env : FrontEnv) (s : Said) → DeedSmall (met env p s)
-  meets-small env s = cond_both (is_plain_syn s) (begun env p s) Drops DeedSmall (λ t. held-small p (record { stage = stage.Lent; epoch = record { 0 = 1 }; ended_by = None }) (rest_of None) (spoken env.serve (serving (listening s env.iss) 0 []) []).0) (λ t. tt)
+  meets-small env s = cond_both (is_plain_syn s) (front_begun env p s) Drops DeedSmall (λ t. held-small p (record { stage = stage.Lent; epoch = record { 0 = 1 }; ended_by = None }) (front_rest None) (spoken env.serve (serving (listening s env.iss) 0 []) []).0) (λ t. tt)
 
   gets-small : (env : FrontEnv) (bytes : List ℕ) (r : Result Said SegFault) → DeedSmall (front_gets env p bytes r)
   gets-small env bytes (Err fault) = tt
@@ -170,14 +170,14 @@ module _ (p : FrontPart) (few : (row : FrontRow) → p.row ≡ Some row → Stag
   fires-small : (env : FrontEnv) → DeedSmall (front_timer env p)
   fires-small env = go p.row where
     by-stage : (row : FrontRow) (z : FrontConn) → DeedSmall (fires_at env p row z)
-    by-stage row (stage.Held b) = held-small p row (rest_of p.rest) _
-    by-stage row (stage.Waiting b) = waits-small p row (rest_of p.rest) _
+    by-stage row (stage.Held b) = held-small p row (front_rest p.rest) _
+    by-stage row (stage.Waiting b) = waits-small p row (front_rest p.rest) _
     by-stage row stage.Lent = tt
     by-stage row (stage.Offering n e) = tt
     by-stage row (stage.Moved n e) = tt
     by-stage row (stage.Closed last) = tt
 
-    go : (o : Option FrontRow) → DeedSmall (fired_by env p o)
+    go : (o : Option FrontRow) → DeedSmall (front_fired_by env p o)
     go None = tt
     go (Some row) = by-stage row row.stage
 
@@ -191,17 +191,17 @@ module _ (p : FrontPart) (few : (row : FrontRow) → p.row ≡ Some row → Stag
     go (Some row) (Some node) = tt
 
   asked-small : (env : FrontEnv) (from epoch : ℕ) (ask : Ask) → IsSmall p → DeedSmall (front_asked env p from epoch ask)
-  asked-small env from epoch ask small = cond_both (is_at from epoch p.row) (asked_by env p from epoch ask p.rest) Drops DeedSmall (λ t. go p.rest refl) (λ t. tt) where
+  asked-small env from epoch ask small = cond_both (is_row_at from epoch p.row) (asked_by env p from epoch ask p.rest) Drops DeedSmall (λ t. go p.rest refl) (λ t. tt) where
     go : (o : Option FrontRest) → p.rest ≡ o → DeedSmall (asked_by env p from epoch ask o)
     go None at = tt
     go (Some rest) at = cond_both (ask.number == rest.asks + 1) (Does (assigns env p rest from epoch ask (env.later ask)))
-        (cond (ask.number == rest.asks && nat_lt 0 rest.asks) (Says (saying (tag_sent env from epoch rest.asks rest.tag))) Drops) DeedSmall
-        (λ t. subst (λ (o : Option FrontRest). RowSmall (rest_of o).count p.row) at small)
-        (λ t. cond_both (ask.number == rest.asks && nat_lt 0 rest.asks) (Says (saying (tag_sent env from epoch rest.asks rest.tag))) Drops DeedSmall (λ t. tt) (λ t. tt))
+        (cond (ask.number == rest.asks && nat_lt 0 rest.asks) (Says (front_saying (tag_sent env from epoch rest.asks rest.tag))) Drops) DeedSmall
+        (λ t. subst (λ (o : Option FrontRest). RowSmall (front_rest o).count p.row) at small)
+        (λ t. cond_both (ask.number == rest.asks && nat_lt 0 rest.asks) (Says (front_saying (tag_sent env from epoch rest.asks rest.tag))) Drops DeedSmall (λ t. tt) (λ t. tt))
 
   ended-small : (env : FrontEnv) (from epoch : ℕ) (last : Final) → DeedSmall (front_ended env p from epoch last)
   ended-small env from epoch last = go p.row (end_answer epoch p.row) where
-    go : (o : Option FrontRow) (g : OnEnded) → DeedSmall (ended_by env p from epoch last o g)
+    go : (o : Option FrontRow) (g : OnEnded) → DeedSmall (front_ended_by env p from epoch last o g)
     go None g = tt
     go (Some row) (New next) = tt
     go (Some row) Again = tt
@@ -217,15 +217,15 @@ module _ (p : FrontPart) (few : (row : FrontRow) → p.row ≡ Some row → Stag
     never : None_ → IsSmall given.0
     never bad = absurd cc
 
-    with_ : (row : FrontRow) (b : ControlBlock) → (rest_of p.rest).count ≤ 2 ^ 30 → (target : Option (List ℕ)) → admitted_with env row (rest_of p.rest) b choice target ≡ Some given → IsSmall given.0
+    with_ : (row : FrontRow) (b : ControlBlock) → (front_rest p.rest).count ≤ 2 ^ 30 → (target : Option (List ℕ)) → front_admitted_with env row (front_rest p.rest) b choice target ≡ Some given → IsSmall given.0
     with_ row b few None e = never e
     with_ row b few (Some path) e =
-        let same : handed_off env row (serving b (rest_of p.rest).count []) path choice ≡ given = cc in
-        let small : (rest_of p.rest).count < 2 ^ 32 = omega (arith, few) in
+        let same : handed_off env row (serving b (front_rest p.rest).count []) path choice ≡ given = cc in
+        let small : (front_rest p.rest).count < 2 ^ 32 = omega (arith, few) in
         subst (λ (g : FrontPart × FrontTurn). IsSmall g.0) same small
 
-    at : (row : FrontRow) (z : FrontConn) → StageFew (rest_of p.rest).count z → admitted_at env p choice row z ≡ Some given → IsSmall given.0
-    at row (stage.Waiting b) h e = with_ row b h (rest_of p.rest).target e
+    at : (row : FrontRow) (z : FrontConn) → StageFew (front_rest p.rest).count z → admitted_at env p choice row z ≡ Some given → IsSmall given.0
+    at row (stage.Waiting b) h e = with_ row b h (front_rest p.rest).target e
     at row (stage.Held b) h e = never e
     at row stage.Lent h e = never e
     at row (stage.Offering n d) h e = never e
@@ -244,14 +244,14 @@ holds-few k pend b count h =
     let most : b.send.total ≤ 2 ^ 30 = h.holds.sound.sending.most in
     omega (arith, counted, most)
 
-stage-few : (x : Conn) (k : Talk) (pend : List Verdict) (e : ℕ) (z : FrontConn) → StageAgrees k.w k.out k.vs pend k.was_reset x.c x.part e z → StageFew (rest_of x.part.front.rest).count z
-stage-few x k pend e (stage.Held b) h = (holds-few k pend b (rest_of x.part.front.rest).count h, h.holds.sound)
-stage-few x k pend e (stage.Waiting b) h = holds-few k pend b (rest_of x.part.front.rest).count h.0
+stage-few : (x : Conn) (k : Talk) (pend : List Verdict) (e : ℕ) (z : FrontConn) → StageAgrees k.w k.out k.vs pend k.was_reset x.c x.part e z → StageFew (front_rest x.part.front.rest).count z
+stage-few x k pend e (stage.Held b) h = (holds-few k pend b (front_rest x.part.front.rest).count h, h.holds.sound)
+stage-few x k pend e (stage.Waiting b) h = holds-few k pend b (front_rest x.part.front.rest).count h.0
 stage-few x k pend e _ h = tt
 
-truth-few : (files : FilesAt) (x : Conn) → IsTruthful files x → (row : FrontRow) → x.part.front.row ≡ Some row → StageFew (rest_of x.part.front.rest).count row.stage
+truth-few : (files : FilesAt) (x : Conn) → IsTruthful files x → (row : FrontRow) → x.part.front.row ≡ Some row → StageFew (front_rest x.part.front.rest).count row.stage
 truth-few files x truth row at = go x.part.station truth.agrees where
-  go : (o : Option Station) → ConnAgrees files x truth.talk truth.pend o → StageFew (rest_of x.part.front.rest).count row.stage
+  go : (o : Option Station) → ConnAgrees files x truth.talk truth.pend o → StageFew (front_rest x.part.front.rest).count row.stage
   go None h = absurd (let bad : ◌≡◌ {A = Option FrontRow} (Some row) None = sym at ∙ h.front in cc)
   go (Some st) h = stage-few x truth.talk truth.pend row.epoch.0 row.stage
       (subst (SeatAgrees truth.talk.w truth.talk.out truth.talk.vs truth.pend truth.talk.was_reset x.c x.part) at h.seat)
@@ -263,19 +263,19 @@ module _ (k : Setting) where
   Given x = Untouched (IsTruthful k.files) x
 
   abbrev Wanted : Conn → Move → Type 0
-  Wanted x v = MayMove Given x → (tale_at x).touched ≡ false → IsSmall x.part.front → IsSmall (grown x v).part.front
+  Wanted x v = MayRestOn Given x → (tale_at x).touched ≡ false → IsSmall x.part.front → IsSmall (grown x v).part.front
 
-  front-deed : (x : Conn) (heads : List Seen) (d : Deed) → DeedSmall d → IsSmall x.part.front → IsSmall (front_does x heads d).part.front
+  front-deed : (x : Conn) (heads : List Seen) (d : FrontDeed) → DeedSmall d → IsSmall x.part.front → IsSmall (front_does x heads d).part.front
   front-deed x heads Drops h small = small
   front-deed x heads (Says turn) h small = small
   front-deed x heads (Does did) h small = h
 
-  node-deed : (x : Conn) (n : ℕ) (heads : List Seen) (d : node.Deed) → IsSmall x.part.front → IsSmall (node_does x n heads d).part.front
+  node-deed : (x : Conn) (n : ℕ) (heads : List Seen) (d : node.NodeDeed) → IsSmall x.part.front → IsSmall (node_does x n heads d).part.front
   node-deed x n heads node.Drops small = small
   node-deed x n heads (node.Says messages) small = small
   node-deed x n heads (node.Does given) small = small
 
-  few-of : (x : Conn) → MayMove Given x → (tale_at x).touched ≡ false → (row : FrontRow) → x.part.front.row ≡ Some row → StageFew (rest_of x.part.front.rest).count row.stage
+  few-of : (x : Conn) → MayRestOn Given x → (tale_at x).touched ≡ false → (row : FrontRow) → x.part.front.row ≡ Some row → StageFew (front_rest x.part.front.rest).count row.stage
   few-of x m free = truth-few k.files x (m.given free)
 
   clients : ClientRules k Wanted

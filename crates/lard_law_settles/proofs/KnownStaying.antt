@@ -5,7 +5,7 @@ use Rattle.std.proofs.lemmas.Bool.{cond_both, eqb-false, eqb-true}
 use Rattle.lard_answers.specs.Answers.{FilesAt}
 use Rattle.lard_base.specs.declared.ids.Epoch.{Epoch}
 use Rattle.lard_base.specs.declared.place.TimerKind.TheVariants as kind
-use Rattle.lard_bound.specs.Seats.{Here, Offered, Over, Seat, Staying, Unborn, seat_away, seat_decided, seat_in, seat_of, seat_there, stay_of, staying_of, tells_end, telling}
+use Rattle.lard_bound.specs.Seats.{Here, Offered, Over, SeatNow, Staying, Unborn, seat_away, seat_decided, seat_in, seat_of, seat_there, stay_of, staying_of, tells_end, telling}
 use Rattle.lard_laws.specs.Homes.{HasOneHome, KnowsOf, RowHomes, StageHomes, WasAt}
 use Rattle.lard_law_connections.specs.Kept.{HereKeeps, NodeRowKeeps}
 use Rattle.lard_law_connections.specs.KeptLaws.{AnyNode}
@@ -13,7 +13,7 @@ use Rattle.lard_laws.proofs.TagsAgree.{Agreed, asks-agree}
 use Rattle.lard_law_view.specs.View.{Conn, Part}
 use Rattle.lard_endpoint.specs.Control.{ControlBlock}
 use Rattle.lard_endpoint.specs.declared.control.moving.Final.{Final}
-use Rattle.lard_rules.specs.Front.{rest_of}
+use Rattle.lard_rules.specs.Front.{front_rest}
 use Rattle.lard_handoff_back.specs.declared.row.BackConn.{BackConn}
 use Rattle.lard_handoff_back.specs.declared.row.BackConn.TheVariants as back
 use Rattle.lard_handoff_back.specs.declared.row.BackRow.{BackRow}
@@ -47,7 +47,7 @@ away-stay t told m d count n e q b s = go q.row refl where
 
   go : (o : Option BackRow) → q.row ≡ o → seat_decided t m d count q o ≡ Here told n e b s → (m ≡ n) × HasHere q e b s
   go None is f = absurd cc
-  go (Some row) is f = cond_both (row.epoch.0 == d) (seat_there t m d count q row.stage) (Offered m d count) (λ (z : Seat). z ≡ Here told n e b s → (m ≡ n) × HasHere q e b s)
+  go (Some row) is f = cond_both (row.epoch.0 == d) (seat_there t m d count q row.stage) (Offered m d count) (λ (z : SeatNow). z ≡ Here told n e b s → (m ≡ n) × HasHere q e b s)
       (λ same. there row is (eqb-true row.epoch.0 d same) row.stage refl) (λ other g. absurd cc) f
 
 pub seat-stay : (p : Part) (told : Bool) (n e : ℕ) (b : ControlBlock) (s : Staying) → seat_of p ≡ Here told n e b s → HasHere (p.nodes n) e b s
@@ -59,8 +59,8 @@ seat-stay p told n e b s seat = go p.front.row refl where
   at (stage.Held d) f = absurd cc
   at (stage.Waiting d) f = absurd cc
   at stage.Lent f = absurd cc
-  at (stage.Offering m d) f = moved false m d.0 (rest_of p.front.rest).count f
-  at (stage.Moved m d) f = moved true m d.0 (rest_of p.front.rest).count f
+  at (stage.Offering m d) f = moved false m d.0 (front_rest p.front.rest).count f
+  at (stage.Moved m d) f = moved true m d.0 (front_rest p.front.rest).count f
   at (stage.Closed last) f = absurd cc
 
   go : (o : Option FrontRow) → p.front.row ≡ o → HasHere (p.nodes n) e b s
@@ -118,12 +118,12 @@ module _ (x : Conn) (homes : HasOneHome x) where
   pub ended-given : (row : FrontRow) (last : Final) (n i : ℕ) → x.part.front.row ≡ Some row → seat_of x.part ≡ Over last → tells_end (x.part.nodes n).row ≡ Some i → row.ended_by ≡ Some (record { 0 = i })
   ended-given row last n i is seat told = at row.stage (sym (seat-row x.part (Some row) is) ∙ seat) (subst (RowHomes x.part.nodes) is homes) where
     away : (t : Bool) (m d count : ℕ) → seat_away t m d count (x.part.nodes m) ≡ Over last → ⊥
-    away t m d count = away-cases t m d count (x.part.nodes m) (λ (z : Seat). z ≡ Over last → ⊥) (λ f. cc) (λ b f. cc) (λ f. cc)
+    away t m d count = away-cases t m d count (x.part.nodes m) (λ (z : SeatNow). z ≡ Over last → ⊥) (λ f. cc) (λ b f. cc) (λ f. cc)
 
     at : (c : FrontConn) → seat_in x.part.front x.part.nodes c ≡ Over last → StageHomes x.part.nodes row.ended_by c → row.ended_by ≡ Some (record { 0 = i })
     at (stage.Held b) f h = absurd cc
     at (stage.Waiting b) f h = absurd cc
     at stage.Lent f h = absurd cc
-    at (stage.Offering m d) f h = absurd (away false m d.0 (rest_of x.part.front.rest).count f)
-    at (stage.Moved m d) f h = absurd (away true m d.0 (rest_of x.part.front.rest).count f)
+    at (stage.Offering m d) f h = absurd (away false m d.0 (front_rest x.part.front.rest).count f)
+    at (stage.Moved m d) f h = absurd (away true m d.0 (front_rest x.part.front.rest).count f)
     at (stage.Closed final) f h = by-home row.ended_by n i h told

@@ -4,11 +4,11 @@ use Rattle.std.proofs.Common.{◌≡◌, ◌<◌, ◌≤◌, ◌+◌, ◌-◌, �
 use Rattle.std.proofs.lemmas.Bool.Decides.{nat_tests}
 use Rattle.lard_answers.specs.Answers.{FilesAt}
 use Rattle.lard_base.specs.declared.limits.TheConstants.{MAX_STREAM_BYTES, RECEIVE_WINDOW}
-use Rattle.lard_bound.specs.Units.{taken}
+use Rattle.lard_bound.specs.Units.{symbols_taken}
 use Rattle.lard_client.specs.Control.{ClientBlock}
 use Rattle.lard_client.specs.declared.phase.Phase.TheVariants as phase
 use Rattle.lard_laws.specs.Acks.{EndActs, OpenActs, bounds_of}
-use Rattle.lard_law_connections.specs.BytesAgreement.{HoldsIt, IsOpen}
+use Rattle.lard_law_connections.specs.BytesAgreement.{HoldsItPending, IsOpen}
 use Rattle.lard_law_view.specs.View.{Conn}
 use Rattle.lard_endpoint.specs.Control.{ControlBlock}
 use Rattle.lard_endpoint.specs.Leaving.{emitted}
@@ -25,7 +25,7 @@ use Rattle.lard_seq.specs.Seq.{one_if}
 use Rattle.lard_law_view.specs.Truth.{Stream}
 
 -- how much a client took, as both count it
-pub taken-is : (x : ClientBlock) → taken x ≡ taken_by x
+pub taken-is : (x : ClientBlock) → symbols_taken x ≡ taken_by x
 taken-is x = go (x.send.una == 0) where
   end_ : (e : Bool) → cond e 1 0 ≡ one_if e
   end_ true = refl
@@ -50,7 +50,7 @@ pub record HasSaid (x : ClientBlock) (w : Stream) (b : ControlBlock) : Type 0 wh
   pub few : length w.bytes ≤ 16382
 
 module _ (files : FilesAt) (x : Conn) (st : Station) (k : Talk) (pend : List Verdict) (o : IsOpen files x k pend st) (acts : OpenActs x st) (vs more : List Verdict) (b : ControlBlock) (count : ℕ)
-    (holds : HoldsIt k.w k.out vs more b count) (ends : EndActs (bounds_of x st acts.heard) (ending.Here b 0)) (said : HasSaid st.client k.w b) where
+    (holds : HoldsItPending k.w k.out vs more b count) (ends : EndActs (bounds_of x st acts.heard) (ending.Here b 0)) (said : HasSaid st.client k.w b) where
   first-is : k.w.first ≡ st.client.send.iss
   first-is = ap (λ (s : Stream). s.first) o.client.w_is
 

@@ -3,16 +3,16 @@ use Rattle.std.proofs.Common.{◌≡◌, ◌⊎◌, ◌≤◌, ◌<◌, ◌^◌,
 use Rattle.std.proofs.lemmas.Bool.{and_parts, cond_both}
 use Rattle.lard_answers.specs.Answers.{FilesAt}
 use Rattle.lard_base.specs.declared.place.Reason.TheVariants as reason
-use Rattle.lard_bound.specs.Seats.{Gone, Held, Here, Offered, Over, Seat, Unborn, Waiting, seat_away, seat_decided, seat_in, seat_of, seat_there}
-use Rattle.lard_bound.specs.Units.{Whole, taken}
+use Rattle.lard_bound.specs.Seats.{Gone, Held, Here, Offered, Over, SeatNow, Unborn, Waiting, seat_away, seat_decided, seat_in, seat_of, seat_there}
+use Rattle.lard_bound.specs.Units.{Whole, symbols_taken}
 use Rattle.lard_client.specs.declared.phase.Phase.TheVariants as phase
 use Rattle.lard_laws.specs.Acks.{BackActs, FrontActs, FrontStageActs, OpenActs, bounds_of, story_at}
-use Rattle.lard_law_connections.specs.BytesAgreement.{BackAgrees, HoldsIt, IsOffering, IsOpen, NodeAgrees, RowAgrees, SeatAgrees, StageAgrees, StayAgrees}
+use Rattle.lard_law_connections.specs.BytesAgreement.{BackAgrees, HoldsItPending, IsOffering, IsOpen, NodeAgrees, RowAgrees, SeatAgrees, StageAgrees, StayAgrees}
 use Rattle.lard_law_connections.specs.Places.{IsDecided, IsLeft, IsPast}
 use Rattle.lard_law_view.specs.View.{Conn}
 use Rattle.lard_endpoint.specs.Control.{ControlBlock}
 use Rattle.lard_endpoint.specs.declared.control.moving.Final.{Final}
-use Rattle.lard_rules.specs.Front.{rest_of}
+use Rattle.lard_rules.specs.Front.{front_rest}
 use Rattle.lard_handoff_back.specs.declared.row.BackConn.{BackConn}
 use Rattle.lard_handoff_back.specs.declared.row.BackConn.TheVariants as back
 use Rattle.lard_handoff_back.specs.declared.row.BackRow.{BackRow}
@@ -50,7 +50,7 @@ pub record Speaking (st : Station) (b : ControlBlock) : Type 0 where
   pub here : st.client.phase ≡ phase.Reset → ⊥
 
 -- so it is wherever there is one; one that waits has nothing more to say
-abbrev pub SpeaksAt : Station → Seat → Type 0
+abbrev pub SpeaksAt : Station → SeatNow → Type 0
 SpeaksAt st (Held b count) = Speaking st b
 SpeaksAt st (Waiting b count) = is_clear b.send ≡ true
 SpeaksAt st (Here told n e b s) = Speaking st b
@@ -83,12 +83,12 @@ module _ (files : FilesAt) (x : Conn) (st : Station) (k : Talk) (pend : List Ver
 
   -- ---- what is acknowledged was taken
 
-  pub held-acks : (row : FrontRow) (b : ControlBlock) → x.part.front.row ≡ Some row → row.stage ≡ stage.Held b → b.send.una ≤ taken st.client
+  pub held-acks : (row : FrontRow) (b : ControlBlock) → x.part.front.row ≡ Some row → row.stage ≡ stage.Held b → b.send.una ≤ symbols_taken st.client
   held-acks row b at is =
       let act : FrontStageActs (bounds_of x st acts.heard) (stage.Held b) = subst (FrontStageActs (bounds_of x st acts.heard)) is (subst (FrontActs (bounds_of x st acts.heard)) at acts.within.front) in
       let a = act.1.0 in let e = taken-same st.client in omega (arith, a, e)
 
-  pub here-acks : (n e : ℕ) (b : ControlBlock) → (x.part.nodes n).row ≡ Some (record { stage = back.Here b; epoch = record { 0 = e } }) → b.send.una ≤ taken st.client
+  pub here-acks : (n e : ℕ) (b : ControlBlock) → (x.part.nodes n).row ≡ Some (record { stage = back.Here b; epoch = record { 0 = e } }) → b.send.una ≤ symbols_taken st.client
   here-acks n e b is =
       let act = subst (BackActs (bounds_of x st acts.heard)) is (acts.within.nodes n) in
       let a = act.1.0 in let s = taken-same st.client in omega (arith, a, s)
@@ -101,7 +101,7 @@ module _ (files : FilesAt) (x : Conn) (st : Station) (k : Talk) (pend : List Ver
 
   -- ---- endpoints
 
-  speaking : (vs pending : List Verdict) (b : ControlBlock) (count : ℕ) → HoldsIt k.w k.out vs pending b count → (st.client.phase ≡ phase.Reset → ⊥) → Speaking st b
+  speaking : (vs pending : List Verdict) (b : ControlBlock) (count : ℕ) → HoldsItPending k.w k.out vs pending b count → (st.client.phase ≡ phase.Reset → ⊥) → Speaking st b
   speaking vs pending b count h here = record {
     open_ = h.not_reset;
     bytes = k.out.bytes;
@@ -112,7 +112,7 @@ module _ (files : FilesAt) (x : Conn) (st : Station) (k : Talk) (pend : List Ver
   }
 
   module _ (w : Whole) where
-    abbrev Tells : Seat → Type 0
+    abbrev Tells : SeatNow → Type 0
     Tells z = SeatKnown w st.client z → SpeaksAt st z
 
     module _ (told : Bool) (n e count last : ℕ) (node : IsPast last (x.part.nodes n).row ⊎ RowAgrees k.w k.out k.vs pend k.was_reset x.c (x.part.nodes n) (x.part.nodes n).row) where
@@ -143,14 +143,14 @@ module _ (files : FilesAt) (x : Conn) (st : Station) (k : Talk) (pend : List Ver
     stage-agrees row at s eq = subst (StageAgrees k.w k.out k.vs pend k.was_reset x.c x.part row.epoch.0) eq (subst (SeatAgrees k.w k.out k.vs pend k.was_reset x.c x.part) at o.seat)
 
     by-stage : (row : FrontRow) → x.part.front.row ≡ Some row → (s : FrontConn) → row.stage ≡ s → Tells (seat_in x.part.front x.part.nodes s)
-    by-stage row at (stage.Held b) eq = λ known. speaking k.vs [] b (rest_of x.part.front.rest).count (stage-agrees row at (stage.Held b) eq).holds known.2
+    by-stage row at (stage.Held b) eq = λ known. speaking k.vs [] b (front_rest x.part.front.rest).count (stage-agrees row at (stage.Held b) eq).holds known.2
     by-stage row at (stage.Waiting b) eq = λ known. (and_parts _ _ (and_parts _ _ (stage-agrees row at (stage.Waiting b) eq).1).0).0
     by-stage row at stage.Lent eq = absurd (stage-agrees row at stage.Lent eq)
-    by-stage row at (stage.Offering n d) eq = away false n d.0 (rest_of x.part.front.rest).count row.epoch.0 (⊎_elim
+    by-stage row at (stage.Offering n d) eq = away false n d.0 (front_rest x.part.front.rest).count row.epoch.0 (⊎_elim
         (λ (p : IsPast row.epoch.0 (x.part.nodes n).row × IsOffering k.w k.out k.vs pend x.c n row.epoch.0 x.part.front.kept). inl p.0)
         (λ (d : IsDecided row.epoch.0 (x.part.nodes n).row × NodeAgrees k.w k.out k.vs pend k.was_reset x.c (x.part.nodes n)). inr d.1)
         (stage-agrees row at (stage.Offering n d) eq))
-    by-stage row at (stage.Moved n d) eq = away true n d.0 (rest_of x.part.front.rest).count row.epoch.0 (inr (stage-agrees row at (stage.Moved n d) eq).1)
+    by-stage row at (stage.Moved n d) eq = away true n d.0 (front_rest x.part.front.rest).count row.epoch.0 (inr (stage-agrees row at (stage.Moved n d) eq).1)
     by-stage row at (stage.Closed last) eq = λ known. tt
 
     pub seat-speaks : Tells (seat_of x.part)

@@ -15,24 +15,24 @@ use Rattle.lard_law_settles.proofs.SettlesGiven.{InnerRows, inner-rows}
 use Rattle.lard_law_settles.proofs.SettlesInside.{quiet-left}
 use Rattle.lard_law_settles.proofs.RoundsLeft.{left-quiet}
 use Rattle.lard_law_settles.proofs.RoundsTold.{firings-same, jobs-same, left-same, nodes-are}
-use Rattle.lard_law_settles.specs.Rounds.{AreBegun, AreRounds, Completes, Fires, IsRound, IsTold, SomeCompletes, SomeFire, SomeOfRound, SomeSteps, Steps}
+use Rattle.lard_law_settles.specs.Rounds.{AreBegun, AreRounds, CompletesInTurn, Fires, IsRound, IsToldInStep, SomeCompletes, SomeFire, SomeOfRound, SomeSteps, InnerSteps}
 use Rattle.lard_law_settles.specs.RoundsToDo.{completions_in, deliveries_in, firings_in, left_in}
 use Rattle.lard_settling.proofs.Plain.{AreUnmarked, is_mark}
 use Rattle.lard_settling.proofs.Written.{written}
 use Rattle.lard_settling.specs.Left.{jobs_at}
-use Rattle.lard_settling.specs.Settling.{Stop, all_inner, completed_since, completions, deliveries, fired_since, firings, is_quiet, left, nodes_complete, round, rounds_from}
+use Rattle.lard_settling.specs.Settling.{Stop, all_inner, completed_since, completions, deliveries, fired_since, firings, is_quiet, settle_left, nodes_complete, round, rounds_from}
 use Rattle.lard_settling.specs.Steps.{inner_step}
 use Rattle.lard_settling.specs.Written.{IsWrittenOut}
 
 -- what is no mark is told in a step
-unmarked-told : (r : Rec) → is_mark r ≡ false → IsTold r
+unmarked-told : (r : Rec) → is_mark r ≡ false → IsToldInStep r
 unmarked-told (rec.Event i e) h = cc
 unmarked-told (rec.Inner e) h = cc
 unmarked-told (rec.Settled done) h = cc
 unmarked-told (rec.Unsettled done left) h = cc
 unmarked-told _ h = tt
 
-all-told : (rs : List Rec) → AreUnmarked rs → AllByRecursion IsTold rs
+all-told : (rs : List Rec) → AreUnmarked rs → AllByRecursion IsToldInStep rs
 all-told [] h = tt
 all-told (r ∷ rs) h = (unmarked-told r h.0, all-told rs h.1)
 
@@ -43,17 +43,17 @@ module _ (config : Config) (files : List (List ℕ × List ℕ)) (checked : conf
   -- ---- steps
 
   abbrev pub Come : Machine → List Event → Result Machine Stop → Type 0
-  Come m es (Ok n) = W n × Steps es m.journal n.journal
+  Come m es (Ok n) = W n × InnerSteps es m.journal n.journal
   Come m es (Err stop) = SomeSteps es m.journal stop.0.journal
 
   -- one more step before others
   one-before : (m k : Machine) (e : Event) (es : List Event) → InnerRows m e k → (x : Result Machine Stop) → Come k es x → Come m (e ∷ es) x
-  one-before m k e es on (Ok n) h = (h.0, (on.rows, all-told on.rows on.unmarked, subst (λ (J : List Rec). Steps es J n.journal) on.are h.1))
+  one-before m k e es on (Ok n) h = (h.0, (on.rows, all-told on.rows on.unmarked, subst (λ (J : List Rec). InnerSteps es J n.journal) on.are h.1))
   one-before m k e es on (Err stop) h = (
     e ∷ h.0,
     h.1,
     ap (λ xs. e ∷ xs) h.2,
-    (on.rows, all-told on.rows on.unmarked, subst (λ (J : List Rec). Steps h.0 J stop.0.journal) on.are h.3),
+    (on.rows, all-told on.rows on.unmarked, subst (λ (J : List Rec). InnerSteps h.0 J stop.0.journal) on.are h.3),
   )
 
   pub all-come : (es : List Event) (m : Machine) → W m → Each IsInner es → Come m es (all_inner m es)
@@ -68,7 +68,7 @@ module _ (config : Config) (files : List (List ℕ × List ℕ)) (checked : conf
   -- ---- nodes
 
   abbrev pub Nodes : ℕ → ℕ → Machine → Result Machine Stop → Type 0
-  Nodes n more m (Ok k) = W k × Completes n more m.journal k.journal
+  Nodes n more m (Ok k) = W k × CompletesInTurn n more m.journal k.journal
   Nodes n more m (Err stop) = SomeCompletes n more m.journal stop.0.journal
 
   nodes-come : (more n : ℕ) (m : Machine) → 1 ≤ n → n + more ≤ config.nodes + 1 → W m → Nodes n more m (nodes_complete m n more)
@@ -81,7 +81,7 @@ module _ (config : Config) (files : List (List ℕ × List ℕ)) (checked : conf
     mine : Come m (completions_in m.journal n) (all_inner m (completions m n))
     mine = subst (λ es. Come m es (all_inner m (completions m n))) same (all-come (completions m n) m w (disk-inner n (jobs_at m n)))
 
-    after : (k : Machine) (x : Result Machine Stop) → Steps (completions_in m.journal n) m.journal k.journal → Nodes (n + 1) more k x → Nodes n (suc more) m x
+    after : (k : Machine) (x : Result Machine Stop) → InnerSteps (completions_in m.journal n) m.journal k.journal → Nodes (n + 1) more k x → Nodes n (suc more) m x
     after k (Ok j) steps h = (h.0, (k.journal, steps, h.1))
     after k (Err stop) steps h = inr (k.journal, steps, h)
 
@@ -105,15 +105,15 @@ module _ (config : Config) (files : List (List ℕ × List ℕ)) (checked : conf
 
   -- behind the deliveries, since a journal of so many records
   abbrev Finished : List Rec → Machine → Result Machine Stop → Type 0
-  Finished J m (Ok k) = W k × ((L : List Rec) × Completes 1 config.nodes m.journal L × Fires (length L == length J) L k.journal)
-  Finished J m (Err stop) = SomeCompletes 1 config.nodes m.journal stop.0.journal ⊎ ((L : List Rec) × Completes 1 config.nodes m.journal L × SomeFire (length L == length J) L stop.0.journal)
+  Finished J m (Ok k) = W k × ((L : List Rec) × CompletesInTurn 1 config.nodes m.journal L × Fires (length L == length J) L k.journal)
+  Finished J m (Err stop) = SomeCompletes 1 config.nodes m.journal stop.0.journal ⊎ ((L : List Rec) × CompletesInTurn 1 config.nodes m.journal L × SomeFire (length L == length J) L stop.0.journal)
 
   finished-come : (J : List Rec) (m : Machine) → W m → Finished J m (completed_since (length J) m)
   finished-come J m w = go (nodes_complete m 1 m.config.nodes) mine where
     mine : Nodes 1 config.nodes m (nodes_complete m 1 m.config.nodes)
     mine = subst (λ count. Nodes 1 config.nodes m (nodes_complete m 1 count)) (sym (nodes-are config files checked m w)) (nodes-come config.nodes 1 m (omega arith) (omega arith) w)
 
-    after : (k : Machine) (x : Result Machine Stop) → Completes 1 config.nodes m.journal k.journal → Fired (length k.journal == length J) k x → Finished J m x
+    after : (k : Machine) (x : Result Machine Stop) → CompletesInTurn 1 config.nodes m.journal k.journal → Fired (length k.journal == length J) k x → Finished J m x
     after k (Ok j) all h = (h.0, (k.journal, all, h.1))
     after k (Err stop) all h = inr (k.journal, all, h)
 
@@ -128,7 +128,7 @@ module _ (config : Config) (files : List (List ℕ × List ℕ)) (checked : conf
   pub round-comes : (m : Machine) → W m → RoundCome m (round m)
   unfolding round
   round-comes m w = go (all_inner m (deliveries m)) (all-come (deliveries m) m w (deliver-inner _)) where
-    after : (k : Machine) (x : Result Machine Stop) → Steps (deliveries_in m.journal) m.journal k.journal → Finished m.journal k x → RoundCome m x
+    after : (k : Machine) (x : Result Machine Stop) → InnerSteps (deliveries_in m.journal) m.journal k.journal → Finished m.journal k x → RoundCome m x
     after k (Ok j) steps h = (h.0, record { delivered = k.journal; deliveries = steps; completed = h.1.0; completions = h.1.1; fires = h.1.2 })
     after k (Err stop) steps h = inr (k.journal, steps, h)
 
@@ -161,7 +161,7 @@ module _ (config : Config) (files : List (List ℕ × List ℕ)) (checked : conf
   unfolding rounds_from
   rounds-come zero done m w = (w, (0, omega arith, omega arith, inr refl, refl))
   rounds-come (suc more) done m w = test (is_quiet m) refl (λ k v. rounds-come more (done + 1) k v) where
-    same : left m ≡ left_in config.nodes m.journal
+    same : settle_left m ≡ left_in config.nodes m.journal
     same = left-same config files checked m w
 
     go : left_in config.nodes m.journal ≢ 0 → (x : Result Machine Stop) → RoundCome m x → ((k : Machine) → W k → RoundsCome more (done + 1) k (rounds_from more (done + 1) k))

@@ -10,7 +10,7 @@ use Rattle.lard_agenda.specs.declared.kinds.Running.{Running}
 use Rattle.lard_rules.specs.declared.machine.Machine.{Machine}
 use Rattle.lard_history.proofs.Each.{Each}
 use Rattle.lard_law_settles.proofs.SettlesFiring.{each-filter, each-map, entries-each}
-use Rattle.lard_settling.specs.Settling.{is_quiet, jobs_left, left}
+use Rattle.lard_settling.specs.Settling.{is_quiet, jobs_left, settle_left}
 
 -- a timer runs
 abbrev IsRunning : Running → Type 0
@@ -23,7 +23,7 @@ some-kinds : (rs : List Running) → Each IsRunning rs → no_seats (map (λ r. 
 some-kinds [] all some = cc
 some-kinds (r ∷ rs) all some = let one = some-kind r.kinds all.0 in omega (arith, one)
 
-pub left-quiet : (m : Machine) → is_quiet m ≡ false → left m ≡ 0 → ⊥
+pub left-quiet : (m : Machine) → is_quiet m ≡ false → settle_left m ≡ 0 → ⊥
 left-quiet m busy none = go (rests m.front.dispatch (agenda_of m.journal)) refl where
   timers : timers_left m.front.dispatch (agenda_of m.journal) ≡ 0
   timers = omega (arith, none)

@@ -5,7 +5,7 @@ use Rattle.lard_base.specs.declared.event.Event.{Event}
 use Rattle.lard_base.specs.declared.event.Event.TheVariants as event
 use Rattle.lard_journal.specs.declared.rec.Rec.{Rec}
 use Rattle.lard_journal.specs.declared.rec.Rec.TheVariants as rec
-use Rattle.lard_law_settles.specs.Rounds.{AreBegun, AreRounds, Completes, Fires, IsBegun, IsRound, IsTold, IsWhole, SettlesTakeRounds, SomeCompletes, SomeFire, SomeOfRound, SomeSteps, StandsAt, StandsBehind, Steps}
+use Rattle.lard_law_settles.specs.Rounds.{AreBegun, AreRounds, CompletesInTurn, Fires, IsBegun, IsRound, IsToldInStep, IsWhole, SettlesTakeRounds, SomeCompletes, SomeFire, SomeOfRound, SomeSteps, StandsAt, StandsBehind, InnerSteps}
 use Rattle.lard_law_settles.specs.RoundsToDo.{completions_in}
 use Rattle.lard_settling.proofs.Plain.{AreUnmarked, is_mark}
 use Rattle.lard_settling.specs.Steps.{closing}
@@ -107,21 +107,21 @@ grows-not J K is = ([], is ∙ sym (append-nil J), tt)
 grows-on : (J K L : List Rec) → Grows J K → Grows K L → Grows J L
 grows-on J K L h k = (h.0 ++ k.0, k.1 ∙ ap (λ xs. xs ++ k.0) h.1 ∙ append_assoc J h.0 k.0, none-append h.0 k.0 h.2 k.2)
 
-told-none : (rs : List Rec) → AllByRecursion IsTold rs → AreNone rs
+told-none : (rs : List Rec) → AllByRecursion IsToldInStep rs → AreNone rs
 told-none [] h = tt
 told-none (r ∷ rs) h = (go r h.0, told-none rs h.1) where
-  go : (q : Rec) → IsTold q → begins_settle q ≡ false
+  go : (q : Rec) → IsToldInStep q → begins_settle q ≡ false
   go (rec.Event i e) t = absurd t
   go _ t = refl
 
-steps-grow : (es : List Event) (J K : List Rec) → Steps es J K → Grows J K
+steps-grow : (es : List Event) (J K : List Rec) → InnerSteps es J K → Grows J K
 steps-grow [] J K is = grows-not J K is
 steps-grow (e ∷ es) J K h = grows-on J (J ++ rec.Inner e ∷ h.0) K (rec.Inner e ∷ h.0, refl, (refl, told-none h.0 h.1)) (steps-grow es (J ++ rec.Inner e ∷ h.0) K h.2)
 
 some-grow : (es : List Event) (J K : List Rec) → SomeSteps es J K → Grows J K
 some-grow es J K h = steps-grow h.0 J K h.3
 
-completes-grow : (n more : ℕ) (J K : List Rec) → Completes n more J K → Grows J K
+completes-grow : (n more : ℕ) (J K : List Rec) → CompletesInTurn n more J K → Grows J K
 completes-grow n zero J K is = grows-not J K is
 completes-grow n (suc more) J K h = grows-on J h.0 K (steps-grow (completions_in J n) J h.0 h.1) (completes-grow (n + 1) more h.0 K h.2)
 
@@ -147,7 +147,7 @@ module _ (nodes : ℕ) where
   some-round-grows : (J K : List Rec) → SomeOfRound nodes J K → Grows J K
   some-round-grows J K (inl h) = some-grow _ J K h
   some-round-grows J K (inr h) = grows-on J h.0 K (steps-grow _ J h.0 h.1) (behind h.0 h.2) where
-    behind : (L : List Rec) → SomeCompletes 1 nodes L K ⊎ ((M : List Rec) × Completes 1 nodes L M × SomeFire (length M == length J) M K) → Grows L K
+    behind : (L : List Rec) → SomeCompletes 1 nodes L K ⊎ ((M : List Rec) × CompletesInTurn 1 nodes L M × SomeFire (length M == length J) M K) → Grows L K
     behind L (inl some) = some-completes-grow 1 nodes L K some
     behind L (inr all) = grows-on L all.0 K (completes-grow 1 nodes L all.0 all.1) (some-fire-grow (length all.0 == length J) all.0 K all.2)
 

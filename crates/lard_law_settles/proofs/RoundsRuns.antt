@@ -6,7 +6,7 @@ use Rattle.lard_base.specs.declared.event.Event.{Event}
 use Rattle.lard_base.specs.declared.event.Event.TheVariants as event
 use Rattle.lard_rules.specs.declared.fault.StepFault.{StepFault}
 use Rattle.lard_rules.specs.declared.machine.Machine.{Machine}
-use Rattle.lard_rules.specs.Machine.{start}
+use Rattle.lard_rules.specs.Machine.{machine_start}
 use Rattle.lard_journal.specs.declared.rec.Rec.{Rec}
 use Rattle.lard_journal.specs.declared.rec.Rec.TheVariants as rec
 use Rattle.lard_law_settles.proofs.SettlesEvents.{begun-is, either-kind, plain-done, plain-rule}
@@ -16,12 +16,12 @@ use Rattle.lard_law_settles.proofs.RoundsComing.{Come, RoundsCome, all-come, rou
 use Rattle.lard_law_settles.proofs.RoundsRecords.{AreClosed, Grows, begun-grows, closed-closed, closed-stand, none-closed, none-take, unmarked-none, whole-grows}
 use Rattle.lard_law_settles.proofs.RoundsTold.{left-same, takes-same}
 use Rattle.lard_law_settles.specs.RoundsLaws.{RunsTakeRounds}
-use Rattle.lard_law_settles.specs.Rounds.{IsBegun, IsWhole, SettlesTakeRounds, Steps}
+use Rattle.lard_law_settles.specs.Rounds.{IsBegun, IsWhole, SettlesTakeRounds, InnerSteps}
 use Rattle.lard_law_settles.specs.RoundsToDo.{takes_in}
 use Rattle.lard_settling.proofs.Written.{written}
 use Rattle.lard_settling.specs.declared.settled.Settled.{Settled}
-use Rattle.lard_settling.specs.Events.{Goes, MayCome, event_step, settled_to}
-use Rattle.lard_settling.specs.Settling.{Stop, all_inner, closed_by, left, rounds_from, settled, settled_from, takes}
+use Rattle.lard_settling.specs.Events.{GoesThrough, MayCome, event_step, settled_to}
+use Rattle.lard_settling.specs.Settling.{Stop, all_inner, closed_by, settle_left, rounds_from, settled, settled_from, takes}
 use Rattle.lard_settling.specs.Steps.{closing, settle_begun}
 use Rattle.lard_settling.specs.Written.{IsWrittenOut, is_settle}
 
@@ -40,13 +40,13 @@ module _ (config : Config) (files : List (List ℕ × List ℕ)) (checked : conf
   Ends rounds J (Ok n) = W n × IsWhole config.nodes rounds J n.journal
   Ends rounds J (Err stop) = IsBegun config.nodes rounds J stop.0.journal
 
-  closes : (rounds : ℕ) (J : List Rec) (k : Machine) → Steps (takes_in J) J k.journal → (x : Result (Machine × ℕ) Stop) → RoundsCome config files checked rounds 0 k x → Ends rounds J (settled_to (closed_by x))
+  closes : (rounds : ℕ) (J : List Rec) (k : Machine) → InnerSteps (takes_in J) J k.journal → (x : Result (Machine × ℕ) Stop) → RoundsCome config files checked rounds 0 k x → Ends rounds J (settled_to (closed_by x))
   closes rounds J k taken (Err stop) h = inr (k.journal, taken, h)
   closes rounds J k taken (Ok (n, all)) h =
       let r = h.1 in
       let first = r.1 in
       let count : all ≡ r.0 = omega (arith, first) in (
-        (written config files).closes n all (left n) h.0,
+        (written config files).closes n all (settle_left n) h.0,
         record {
           taken = k.journal;
           takes = taken;
@@ -55,7 +55,7 @@ module _ (config : Config) (files : List (List ℕ × List ℕ)) (checked : conf
           are = r.4;
           few = r.2;
           over = r.3;
-          closed = ap (λ i. n.journal ++ closing i (left n) ∷ []) count ∙ ap (λ i. n.journal ++ closing r.0 i ∷ []) (left-same config files checked n h.0);
+          closed = ap (λ i. n.journal ++ closing i (settle_left n) ∷ []) count ∙ ap (λ i. n.journal ++ closing r.0 i ∷ []) (left-same config files checked n h.0);
         },
       )
 
@@ -119,11 +119,11 @@ module _ (config : Config) (files : List (List ℕ × List ℕ)) (checked : conf
     go (inl plain) = plain-closed m n e h plain may is
     go (inr s) = let ends = subst (Comes m s.0) (sym (ap (event_step m) s.1) ∙ is) (settle-comes m s.0 h.written_out) in whole-closed m n s.0 h ends.0 ends.1
 
-  goes-closed : (es : List Event) (m n : Machine) → IsClosed m → Goes m es n → IsClosed n
+  goes-closed : (es : List Event) (m n : Machine) → IsClosed m → GoesThrough m es n → IsClosed n
   goes-closed [] m n h goes = subst IsClosed (sym goes) h
   goes-closed (e ∷ es) m n h goes = goes-closed es goes.0 n (event-closed m goes.0 e h goes.1 goes.2) goes.3
 
-  start-closed : IsClosed (start config files)
+  start-closed : IsClosed (machine_start config files)
   start-closed = record { written_out = (written config files).begins; closed = tt }
 
   stands : (m : Machine) → IsClosed m → SettlesTakeRounds config.nodes [] m.journal
@@ -145,5 +145,5 @@ module _ (config : Config) (files : List (List ℕ × List ℕ)) (checked : conf
     go (inr begun) = begun-stands m rounds n.journal h begun
 
 pub take-rounds : RunsTakeRounds
-take-rounds config files es m checked (inl goes) = stands config files checked m (goes-closed config files checked es (start config files) m (start-closed config files checked) goes)
-take-rounds config files es m checked (inr i) = stops-stand config files checked i.behind m i.rounds i.fault (goes-closed config files checked i.before (start config files) i.behind (start-closed config files checked) i.goes) i.stops
+take-rounds config files es m checked (inl goes) = stands config files checked m (goes-closed config files checked es (machine_start config files) m (start-closed config files checked) goes)
+take-rounds config files es m checked (inr i) = stops-stand config files checked i.behind m i.rounds i.fault (goes-closed config files checked i.before (machine_start config files) i.behind (start-closed config files checked) i.goes) i.stops

@@ -15,13 +15,13 @@ use Rattle.lard_rules.specs.declared.machine.Machine.{Machine}
 use Rattle.lard_rules.specs.Machine.{is_no_node, node_at}
 use Rattle.lard_laws.proofs.ClientsTables.{client_at, clients-folded}
 use Rattle.lard_law_connections.proofs.LineRuns.{line-kept}
-use Rattle.lard_law_connections.specs.Line.{Line, line, line_step, nobody}
+use Rattle.lard_law_connections.specs.Line.{Line, waiting_line, line_step, nobody}
 use Rattle.lard_law_connections.proofs.StoresStored.{jobs-told}
 use Rattle.lard_counts.specs.Stores.{Queue, jobs, jobs_step, no_jobs}
 use Rattle.lard_law_view.proofs.Carried.{reached-viewed}
 use Rattle.lard_law_view.proofs.Nothing.{node-there}
 use Rattle.lard_law_view.specs.View.{conn, part_of}
-use Rattle.lard_dispatch.specs.Line.{waits}
+use Rattle.lard_dispatch.specs.Line.{line_waits}
 use Rattle.lard_dispatch.specs.declared.line.Waiting.{Waiting}
 use Rattle.lard_history.specs.Own.{own}
 use Rattle.lard_journal.specs.declared.rec.Rec.{Rec}
@@ -32,7 +32,7 @@ use Rattle.lard_law_settles.proofs.SettlesFew.{config-is}
 use Rattle.lard_law_settles.specs.RoundsToDo.{all_jobs, firing_in, firings_in, holds_in, is_holder_now, is_stalled_at, jobs_in, left_in, seats_of, takes_in}
 use Rattle.lard_settling.proofs.Folds.{TakesSteps, fold-written}
 use Rattle.lard_settling.specs.Left.{holds_there, is_holder, jobs_at, jobs_from, jobs_of}
-use Rattle.lard_settling.specs.Settling.{firings, is_own, left, takes}
+use Rattle.lard_settling.specs.Settling.{firings, is_own_seat, settle_left, takes}
 use Rattle.lard_settling.specs.Written.{IsWrittenOut}
 
 -- ---- lists
@@ -42,7 +42,7 @@ filter-same : {A : Type 0} (f g : A → Bool) → ((a : A) → f a ≡ g a) → 
 filter-same f g same [] = refl
 filter-same f g same (a ∷ as_) = ap (λ (b : Bool). cond b (a ∷ filter f as_) (filter f as_)) (same a) ∙ ap (λ xs. cond (g a) (a ∷ xs) xs) (filter-same f g same as_)
 
-numbers-wait : (ws : List Waiting) (c : ℕ) → waits ws c ≡ list_any (λ w. w == c) (map (λ (w : Waiting). w.c) ws)
+numbers-wait : (ws : List Waiting) (c : ℕ) → line_waits ws c ≡ list_any (λ w. w == c) (map (λ (w : Waiting). w.c) ws)
 numbers-wait [] c = refl
 numbers-wait (w ∷ ws) c = ap (λ (b : Bool). (w.c == c) || b) (numbers-wait ws c)
 
@@ -81,18 +81,18 @@ module _ (config : Config) (files : List (List ℕ × List ℕ)) (checked : conf
 
   -- ---- timers
 
-  pub line-same : map (λ (x : Waiting). x.c) m.front.dispatch.books.line ≡ line m.journal
+  pub line-same : map (λ (x : Waiting). x.c) m.front.dispatch.books.line ≡ waiting_line m.journal
   line-same =
-      let plain : map (λ (x : Waiting). x.c) w.plain.front.dispatch.books.line ≡ line w.plain.journal = line-kept config files checked w.plain w.reached in
-      let told : line w.plain.journal ≡ line m.journal = ap line w.journal ∙ ap (λ (l : Line). l.waits) (fold-written line_step line-steps nobody 0 m.journal) in
+      let plain : map (λ (x : Waiting). x.c) w.plain.front.dispatch.books.line ≡ waiting_line w.plain.journal = line-kept config files checked w.plain w.reached in
+      let told : waiting_line w.plain.journal ≡ waiting_line m.journal = ap waiting_line w.journal ∙ ap (λ (l : Line). l.waits) (fold-written line_step line-steps nobody 0 m.journal) in
       ap (λ (k : Machine). map (λ (x : Waiting). x.c) k.front.dispatch.books.line) w.same ∙ plain ∙ told
 
   firing-same : firing m.front.dispatch (agenda_of m.journal) ≡ firing_in m.journal
-  firing-same = filter-same (λ r. not (stalled_at r.place m.front.dispatch.books.line r.c)) (λ r. not (is_stalled_at r.place (line m.journal) r.c))
+  firing-same = filter-same (λ r. not (stalled_at r.place m.front.dispatch.books.line r.c)) (λ r. not (is_stalled_at r.place (waiting_line m.journal) r.c))
       (λ r. ap not (stalled-same r.place m.front.dispatch.books.line r.c ∙ ap (λ l. is_stalled_at r.place l r.c) line-same)) (values (agenda_of m.journal).running)
 
   pub firings-same : firings m ≡ firings_in m.journal
-  firings-same = ap (λ (rs : List Running). map {A = Place × ℕ} (λ seat. event.Timer seat.0 seat.1) (filter is_own (seats_of rs))) firing-same
+  firings-same = ap (λ (rs : List Running). map {A = Place × ℕ} (λ seat. event.Timer seat.0 seat.1) (filter is_own_seat (seats_of rs))) firing-same
 
   -- ---- jobs
 
@@ -120,7 +120,7 @@ module _ (config : Config) (files : List (List ℕ × List ℕ)) (checked : conf
 
   -- ---- what is left
 
-  pub left-same : left m ≡ left_in config.nodes m.journal
+  pub left-same : settle_left m ≡ left_in config.nodes m.journal
   left-same =
       let timers : kinds_in (firing m.front.dispatch (agenda_of m.journal)) ≡ kinds_in (firing_in m.journal) = ap kinds_in firing-same in
       let same : jobs_from m 1 m.config.nodes ≡ jobs_from m 1 config.nodes = ap (jobs_from m 1) nodes-are in

@@ -7,8 +7,8 @@ use Rattle.std.specs.FinMap.Entries.{below_all, find, is_sorted}
 use Rattle.std.specs.List.{fold}
 use Rattle.std.specs.Ordering.{eq_by_cmp, is_lt, nat_cmp}
 use Rattle.std.specs.Prelude.{T, filter}
-use Rattle.lard_agenda.specs.Agenda.{agenda_of, due, entry, free_of, is_stalled, noted_by, nothing, running_step, seat, timer_set}
-use Rattle.lard_agenda.specs.Kinds.{is_none, kinds_of, with_kind}
+use Rattle.lard_agenda.specs.Agenda.{agenda_of, due, entry, free_of, is_stalled, noted_by, nothing_noted, running_step, seat, timer_set}
+use Rattle.lard_agenda.specs.Kinds.{is_none, kinds_of, with_timer}
 use Rattle.lard_agenda.specs.declared.agenda.Agenda.{Agenda}
 use Rattle.lard_agenda.specs.declared.kinds.Kinds.{Kinds}
 use Rattle.lard_agenda.specs.declared.kinds.Running.{Running}
@@ -21,7 +21,7 @@ use Rattle.lard_rules.specs.Bounds.{HasRule, HasTimer}
 use Rattle.lard_history.proofs.Each.{Each}
 use Rattle.lard_journal.specs.declared.rec.Rec.{Rec}
 use Rattle.lard_journal.specs.declared.rec.Rec.TheVariants as rec
-use Rattle.lard_settling.specs.Settling.{firings, is_own}
+use Rattle.lard_settling.specs.Settling.{firings, is_own_seat}
 use Rattle.lard_law_settles.proofs.SettlesLists.{own-timer}
 use Rattle.lard_settling.specs.Order.{MayBeInner}
 use Rattle.lard_table.proofs.Map.{get_put}
@@ -49,7 +49,7 @@ module _ (Q : Place → ℕ → Type 0) where
   set-timed : (q : Place) (d : ℕ) (k : TimerKind) (on : Bool) (running : FinMap nat_cmp Running) → Q q d → AreTimed running → AreTimed (timer_set running q d k on)
   set-timed q d k on running own h at r e = go (eq_by_cmp nat_cmp at (seat q d)) (sym (get_put running (seat q d) at (entry q d kinds)) ∙ e) where
     kinds : Kinds
-    kinds = with_kind (kinds_of (get running (seat q d))) k on
+    kinds = with_timer (kinds_of (get running (seat q d))) k on
 
     go : (b : Bool) → cond b (entry q d kinds) (get running at) ≡ Some r → IsTimed r
     go true is = entry-timed q d kinds r (is_none kinds) own is
@@ -64,12 +64,12 @@ module _ (Q : Place → ℕ → Type 0) where
   all-timed [] a h all = h
   all-timed (r ∷ J) a h all = all-timed J (noted_by a r) (one-timed a r all.0 h) all.1
 
-  none-timed : AreTimed nothing.running
+  none-timed : AreTimed nothing_noted.running
   none-timed at r e = let h : None ≡ Some r = sym (get-empty nat_cmp at) ∙ e in absurd cc
 
   pub agenda-timed : (J : List Rec) → Each OfTimer J → AreTimed (agenda_of J).running
   unfolding agenda_of
-  agenda-timed J all = all-timed J nothing none-timed all
+  agenda-timed J all = all-timed J nothing_noted none-timed all
 
 -- ---- entries that are found by their keys
 
@@ -126,8 +126,8 @@ module _ (Q : Place → ℕ → Type 0) (R : Event → Type 0) (w : (p : Place) 
       let kept = entries-each (λ at r. IsTimed Q r) running (agenda-timed Q m.journal all) in
       let each : Each (IsTimed Q) (values running) = each-map (λ (e : ℕ × Running). IsTimed Q e.1) (IsTimed Q) (λ (e : ℕ × Running). e.1) (λ e h. h) (entries running) kept in
       let free : Each (IsTimed Q) (free_of m.front.dispatch (values running)) = each-filter (IsTimed Q) (λ r. not (is_stalled m.front.dispatch r)) (values running) each in
-      each-map (λ (s : Place × ℕ). Q s.0 s.1) R (λ (s : Place × ℕ). event.Timer s.0 s.1) (λ s h. w s.0 s.1 h) (filter is_own (due m.front.dispatch (agenda_of m.journal)))
-      (each-filter (λ (s : Place × ℕ). Q s.0 s.1) is_own (due m.front.dispatch (agenda_of m.journal))
+      each-map (λ (s : Place × ℕ). Q s.0 s.1) R (λ (s : Place × ℕ). event.Timer s.0 s.1) (λ s h. w s.0 s.1 h) (filter is_own_seat (due m.front.dispatch (agenda_of m.journal)))
+      (each-filter (λ (s : Place × ℕ). Q s.0 s.1) is_own_seat (due m.front.dispatch (agenda_of m.journal))
       (each-map (IsTimed Q) (λ (s : Place × ℕ). Q s.0 s.1) (λ (r : Running). (r.place, r.c)) (λ r h. h) (free_of m.front.dispatch (values running)) free))
 
 -- ---- the events of inner steps
@@ -140,11 +140,11 @@ IsInner (event.Disk n j) = j ≡ 1
 IsInner (event.Timer p c) = HasTimer p c
 IsInner _ = ⊥
 
-own-inner : (seats : List (Place × ℕ)) → Each IsInner (map (λ (s : Place × ℕ). event.Timer s.0 s.1) (filter is_own seats))
+own-inner : (seats : List (Place × ℕ)) → Each IsInner (map (λ (s : Place × ℕ). event.Timer s.0 s.1) (filter is_own_seat seats))
 own-inner [] = tt
-own-inner (x ∷ xs) = go (is_own x) refl (own-inner xs) where
-  go : (b : Bool) → is_own x ≡ b → Each IsInner (map (λ (s : Place × ℕ). event.Timer s.0 s.1) (filter is_own xs))
-      → Each IsInner (map (λ (s : Place × ℕ). event.Timer s.0 s.1) (cond b (x ∷ filter is_own xs) (filter is_own xs)))
+own-inner (x ∷ xs) = go (is_own_seat x) refl (own-inner xs) where
+  go : (b : Bool) → is_own_seat x ≡ b → Each IsInner (map (λ (s : Place × ℕ). event.Timer s.0 s.1) (filter is_own_seat xs))
+      → Each IsInner (map (λ (s : Place × ℕ). event.Timer s.0 s.1) (cond b (x ∷ filter is_own_seat xs) (filter is_own_seat xs)))
   go true e more = (own-timer x.0 x.1 e, more)
   go false e more = more
 

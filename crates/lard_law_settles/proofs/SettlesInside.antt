@@ -11,7 +11,7 @@ use Rattle.lard_rules.specs.declared.machine.Machine.{Machine}
 use Rattle.lard_history.proofs.Each.{Each}
 use Rattle.lard_settling.specs.declared.settled.Settled.{Settled}
 use Rattle.lard_settling.specs.Events.{event_step, settled_to}
-use Rattle.lard_settling.specs.Settling.{Stop, all_inner, closed_by, completed_since, completions, deliveries, fired_since, firings, is_quiet, jobs_left, left, nodes_complete, round, rounds_from, settled, settled_from, takes}
+use Rattle.lard_settling.specs.Settling.{Stop, all_inner, closed_by, completed_since, completions, deliveries, fired_since, firings, is_quiet, jobs_left, settle_left, nodes_complete, round, rounds_from, settled, settled_from, takes}
 use Rattle.lard_settling.specs.Steps.{inner_step, settle_begun, settle_closed}
 
 -- ---- where nothing is to be done, nothing is left
@@ -20,7 +20,7 @@ no-timers : (rs : List Running) → no_seats (map (λ r. (r.place, r.c)) rs) ≡
 no-timers [] h = refl
 no-timers (r ∷ rs) h = cc
 
-pub quiet-left : (m : Machine) → is_quiet m ≡ true → left m ≡ 0
+pub quiet-left : (m : Machine) → is_quiet m ≡ true → settle_left m ≡ 0
 quiet-left m h =
     let parts = and_parts (rests m.front.dispatch (agenda_of m.journal)) (jobs_left m == 0) h in
     let timers : timers_left m.front.dispatch (agenda_of m.journal) ≡ 0 = no-timers (firing m.front.dispatch (agenda_of m.journal)) parts.0 in
@@ -49,8 +49,8 @@ module _ (P : Machine → Type 0) (Q : Event → Type 0) where
     pub done : ℕ
     pub holds : P last
     pub few : done ≤ rounds
-    pub over : (left last ≡ 0) ⊎ (done ≡ rounds)
-    pub is : n ≡ settle_closed last done (left last)
+    pub over : (settle_left last ≡ 0) ⊎ (done ≡ rounds)
+    pub is : n ≡ settle_closed last done (settle_left last)
 
   -- it ended, or had not begun, or an inner step of it was not done
   abbrev pub SettleEnds : Machine → ℕ → Result Machine Stop → Type 0
@@ -94,7 +94,7 @@ module _ (P : Machine → Type 0) (Q : Event → Type 0) where
     -- ---- rounds
 
     abbrev RoundsLand : ℕ → Result (Machine × ℕ) Stop → Type 0
-    RoundsLand rounds (Ok (n, done)) = P n × (done ≤ rounds) × ((left n ≡ 0) ⊎ (done ≡ rounds))
+    RoundsLand rounds (Ok (n, done)) = P n × (done ≤ rounds) × ((settle_left n ≡ 0) ⊎ (done ≡ rounds))
     RoundsLand rounds (Err stop) = NotDone stop
 
     rounds-land : (rounds more done : ℕ) (m : Machine) → done + more ≡ rounds → P m → RoundsLand rounds (rounds_from more done m)
@@ -142,7 +142,7 @@ module _ (P : Machine → Type 0) (Q : Event → Type 0) where
 -- P is kept by inner steps of events that are Q, each event of a settle is, and P is kept where one of at most so many rounds is closed.
 pub record KeptInside (P : Machine → Type 0) (Q : Event → Type 0) (most : ℕ) : Type 0 where
   pub inner : (m n : Machine) (e : Event) → P m → Q e → inner_step m e ≡ Ok n → P n
-  pub closes : (m : Machine) (done : ℕ) → P m → done ≤ most → P (settle_closed m done (left m))
+  pub closes : (m : Machine) (done : ℕ) → P m → done ≤ most → P (settle_closed m done (settle_left m))
   pub takes : (m : Machine) → P m → Each Q (takes m)
   pub deliveries : (m : Machine) → P m → Each Q (deliveries m)
   pub completions : (m : Machine) (n : ℕ) → P m → Each Q (completions m n)

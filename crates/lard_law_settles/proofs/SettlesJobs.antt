@@ -7,7 +7,7 @@ use Rattle.lard_rules.specs.declared.fault.StepFault.{StepFault}
 use Rattle.lard_rules.specs.declared.fault.Refusal.TheVariants.{NoJob, NoNode}
 use Rattle.lard_rules.specs.declared.fault.StepFault.TheVariants.{Refused}
 use Rattle.lard_rules.specs.declared.machine.Machine.{Machine}
-use Rattle.lard_rules.specs.Machine.{completes, disk_at, is_no_job, is_no_node, node_at, node_gave, node_setting, told}
+use Rattle.lard_rules.specs.Machine.{completes, disk_at, is_no_job, is_no_node, node_at, node_gave, node_setting, machine_told}
 use Rattle.lard_law_view.proofs.Parts.{length-set, node-set}
 use Rattle.lard_disk.specs.declared.disk.Job.{Job}
 use Rattle.lard_disk.specs.Jobs.{job_at, without_job}
@@ -16,7 +16,7 @@ use Rattle.lard_rules.specs.declared.node.NodeState.{NodeState}
 use Rattle.lard_rules.specs.Node as node
 use Rattle.lard_rules.specs.Node.{node_read}
 use Rattle.lard_rules.specs.NodePlace as place
-use Rattle.lard_rules.specs.NodePlace.{NodeSetting, brought, completed, content_sent, disk_step, node_deed, node_env, node_part, node_step}
+use Rattle.lard_rules.specs.NodePlace.{NodeSetting, node_brought, completed, content_sent, disk_step, node_deed, node_env, node_part, node_step}
 use Rattle.lard_rules.specs.declared.places.Out.{Out}
 use Rattle.lard_settling.specs.Settling.{all_inner}
 use Rattle.lard_law_settles.specs.SettlesStops.{StopsAtLimits}
@@ -27,15 +27,15 @@ use Rattle.lard_settling.specs.Steps.{as_inner, inner_step}
 
 -- ---- one completion
 
-deed-more : (k : NodeSetting) (s : NodeState) (c : ℕ) (d : node.Deed) → length s.disk ≤ length (node_deed k s c d).0.disk
+deed-more : (k : NodeSetting) (s : NodeState) (c : ℕ) (d : node.NodeDeed) → length s.disk ≤ length (node_deed k s c d).0.disk
 deed-more k s c node.Drops = omega arith
 deed-more k s c (node.Says messages) = let sum = length-append s.disk [] in omega (arith, sum)
 deed-more k s c (node.Does given) = let sum = length-append s.disk given.1.jobs in omega (arith, sum)
 
-brought-more : (k : NodeSetting) (s : NodeState) (job : Job) → length s.disk ≤ length (brought k s job).0.disk
+brought-more : (k : NodeSetting) (s : NodeState) (job : Job) → length s.disk ≤ length (node_brought k s job).0.disk
 brought-more k s job =
     let mine = node_deed k s job.c (node_read (node_env k s job.c job.epoch.0) (node_part s job.c) job.r) in
-    let others = place.aside s (node.saying (content_sent k job.origin job.c job.epoch.0 job.r job.path ∷ [])) in
+    let others = place.aside s (node.node_saying (content_sent k job.origin job.c job.epoch.0 job.r job.path ∷ [])) in
     cond_both (job.origin == k.n) mine others (λ (x : NodeState × Out). length s.disk ≤ length x.0.disk)
     (λ t. deed-more k s job.c (node_read (node_env k s job.c job.epoch.0) (node_part s job.c) job.r))
     (λ t. let sum = length-append s.disk [] in omega (arith, sum))
@@ -66,7 +66,7 @@ job-there m n left h = go (node_at m.nodes n) refl h.1 where
 
 gave-jobs : (m : Machine) (n left : ℕ) (s : NodeState) (given : NodeState × Out) → length m.nodes ≡ m.config.nodes → node_at m.nodes n ≡ Some s → left ≤ length given.0.disk
     → HasJobs n left (as_inner m (node_gave m (event.Disk n 1) [] n given))
-unfolding told
+unfolding machine_told
 gave-jobs m n left s given same at more = (length-set m.nodes (n - 1) given.0 ∙ same, subst (λ (o : Option NodeState). left ≤ jobs_of o) (sym (node-set m.nodes n s given.0 at)) more)
 
 completion-done : (m : Machine) (n left : ℕ) → HasJobs n (suc left) m → DoneOrLimit (HasJobs n left) (inner_step m (event.Disk n 1))

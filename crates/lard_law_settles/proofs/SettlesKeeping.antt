@@ -6,12 +6,12 @@ use Rattle.lard_base.specs.declared.event.Event.{Event}
 use Rattle.lard_base.specs.declared.event.Event.TheVariants as event
 use Rattle.lard_base.specs.declared.place.Place.{Place}
 use Rattle.lard_base.specs.declared.place.Place.TheVariants as place
-use Rattle.lard_client.specs.Control.{ClientBlock, is_armed}
+use Rattle.lard_client.specs.Control.{ClientBlock, is_client_armed}
 use Rattle.lard_rules.specs.declared.fault.StepFault.{StepFault}
 use Rattle.lard_rules.specs.declared.fault.Refusal.TheVariants.{NoNode, WasLost}
 use Rattle.lard_rules.specs.declared.fault.StepFault.TheVariants.{Limit, Refused}
 use Rattle.lard_rules.specs.declared.machine.Machine.{Machine}
-use Rattle.lard_rules.specs.Machine.{client_does, client_goes_on, client_put, delivered, from_place, front_acts, front_gave, front_setting, happens, is_no_node, limit_reached, machine_step, node_acts, node_at, node_gave, node_setting, passed, timer, timer_at, to_client, to_front, to_place, told, unless_limit}
+use Rattle.lard_rules.specs.Machine.{client_acts, client_goes_on, client_put, delivered, from_place, front_acts, front_gave, front_setting, happens, is_no_node, limit_reached, machine_step, node_acts, node_at, node_gave, node_setting, passed, timer, timer_at, machine_to_client, machine_to_front, to_place, machine_told, unless_limit}
 use Rattle.lard_rules.specs.declared.front.FrontState.{FrontState}
 use Rattle.lard_rules.specs.FrontPlace.{front_step}
 use Rattle.lard_history.proofs.Each.{Each}
@@ -49,8 +49,8 @@ HasClient m c = (x : Station) × (table.get m.clients c ≡ Some x)
 abbrev pub Keeps : Machine → Machine → Type 0
 Keeps m n = (n.config ≡ m.config) × ((c : ℕ) → HasClient m c → HasClient n c) × ((more : List Packet) × (n.net ≡ m.net ++ more))
 
-told-keeps : (m : Machine) (e : Event) (own : List Rec) (p : Place) (o : Out) → Keeps m (told m e own p o)
-unfolding told
+told-keeps : (m : Machine) (e : Event) (own : List Rec) (p : Place) (o : Out) → Keeps m (machine_told m e own p o)
+unfolding machine_told
 told-keeps m e own p o = (refl, λ c h. h, (packets_of p o.segments ++ packets_of p o.messages, append_assoc m.net (packets_of p o.segments) (packets_of p o.messages)))
 
 passed-keeps : (m : Machine) (e : Event) (own : List Rec) → Keeps m (passed m e own)
@@ -64,7 +64,7 @@ put-has m c x q h = by_number (HasClient (client_put m c x) q) c q
 client-keeps : (m : Machine) (e : Event) (own : List Rec) (c : ℕ) (x : Station) (given : ClientBlock × Turn) → Keeps m (client_goes_on m e own c x given)
 client-keeps m e own c x given =
     let w : Machine = client_put m c (record { client = given.0; iss = x.iss }) in
-    let k : Keeps w (client_goes_on m e own c x given) = told-keeps w e own (place.Client c) (out_of (place.Client c) c (is_armed x.client) (is_armed given.0) given.1) in
+    let k : Keeps w (client_goes_on m e own c x given) = told-keeps w e own (place.Client c) (out_of (place.Client c) c (is_client_armed x.client) (is_client_armed given.0) given.1) in
     (k.0, λ q h. k.1 q (put-has m c (record { client = given.0; iss = x.iss }) q h), k.2)
 
 front-gave-keeps : (m : Machine) (e : Event) (own : List Rec) (given : FrontState × Out) → Keeps m (front_gave m e own given)
@@ -82,11 +82,11 @@ node-keeps m e own n i (Some s) = gave-keeps m e own n (node_step (node_setting 
 
 -- ---- packets
 
-front-gets : (m : Machine) (k : ℕ) (bytes : List ℕ) (c : ℕ) (o : Option Station) → Keeps m (to_front m k bytes c o)
+front-gets : (m : Machine) (k : ℕ) (bytes : List ℕ) (c : ℕ) (o : Option Station) → Keeps m (machine_to_front m k bytes c o)
 front-gets m k bytes c None = passed-keeps m (event.Deliver k) (rec.Got k ∷ [])
 front-gets m k bytes c (Some x) = front-keeps m (event.Deliver k) (rec.Got k ∷ []) (input.Segment c (record { 0 = x.iss }) bytes)
 
-client-gets : (m : Machine) (k : ℕ) (bytes : List ℕ) (c : ℕ) (o : Option Station) → Keeps m (to_client m k bytes c o)
+client-gets : (m : Machine) (k : ℕ) (bytes : List ℕ) (c : ℕ) (o : Option Station) → Keeps m (machine_to_client m k bytes c o)
 client-gets m k bytes c None = passed-keeps m (event.Deliver k) (rec.Got k ∷ [])
 client-gets m k bytes c (Some x) = client-keeps m (event.Deliver k) (rec.Got k ∷ []) c x (client_gets x.client (decoded bytes c ToClient))
 
@@ -131,9 +131,9 @@ unfolding delivered
 deliver-done m k h = let p : Packet = h.0 in done-by m (to_place m k p p.to) (delivered m k (packet_at m.net k))
     (ap (delivered m k) h.1 ∙ ap (λ (b : Bool). cond {A = Result Machine StepFault} b (Err (Refused (WasLost k))) (Ok (to_place m k p p.to))) h.2) (place-keeps m k p p.to)
 
-take-done : (m : Machine) (c : ℕ) → HasClient m c → IsDone m (client_does m (event.Take c) [] c client_takes (table.get m.clients c))
-unfolding client_does
-take-done m c h = let x : Station = h.0 in done-by m (client_goes_on m (event.Take c) [] c x (client_takes x.client)) _ (ap (client_does m (event.Take c) [] c client_takes) h.1) (client-keeps m (event.Take c) [] c x (client_takes x.client))
+take-done : (m : Machine) (c : ℕ) → HasClient m c → IsDone m (client_acts m (event.Take c) [] c client_takes (table.get m.clients c))
+unfolding client_acts
+take-done m c h = let x : Station = h.0 in done-by m (client_goes_on m (event.Take c) [] c x (client_takes x.client)) _ (ap (client_acts m (event.Take c) [] c client_takes) h.1) (client-keeps m (event.Take c) [] c x (client_takes x.client))
 
 fires-at : (m : Machine) (p : Place) (c : ℕ) (x : Station) → IsThere m.config.nodes p → IsDone m (timer_at m p c x)
 fires-at m place.Front c x there = done-by m _ _ refl (front-keeps m (event.Timer place.Front c) [] (input.Timer c))

@@ -12,8 +12,8 @@ use Rattle.lard_base.specs.declared.place.TimerKind.TheVariants.{Tcp, Offer, Ask
 use Rattle.lard_rules.specs.declared.machine.Machine.{Machine}
 use Rattle.lard_rules.specs.Machine.{IsReached, is_no_node, node_at}
 use Rattle.lard_laws.specs.StepsTimers.{armed_at, client_armed}
-use Rattle.lard_law_view.specs.Carry.{IsLaw, MayMove, OfEach, setting}
-use Rattle.lard_law_view.specs.View.{ClientRules, Conn, FrontRules, Move, NodeRules, Part, Setting, brought_said, conn, contents, front_does, grown, kept_at, letters_of, node_does, nothing_kept, nothing_said, packet_seen, part_of, stands}
+use Rattle.lard_law_view.specs.Carry.{IsLaw, MayRestOn, OfEach, setting}
+use Rattle.lard_law_view.specs.View.{ClientRules, Conn, FrontRules, Move, NodeRules, Part, Setting, brought_said, conn, content_said, front_does, grown, kept_at, letters_of, node_does, nothing_kept, nothing_said, packet_seen, part_of, stands}
 use Rattle.lard_law_view.proofs.Carried.{carried}
 use Rattle.lard_rules.specs.Front as front
 use Rattle.lard_rules.specs.Front.{FrontPart, front_admitted, front_armed}
@@ -69,12 +69,12 @@ stays-late x v part sent late none =
       letters = Each-append IsAmongNodes x.letters (letters_of v) u.letters sent;
     }
 
-front-station : (x : Conn) (heads : List Seen) (d : front.Deed) → (front_does x heads d).part.station ≡ x.part.station
+front-station : (x : Conn) (heads : List Seen) (d : front.FrontDeed) → (front_does x heads d).part.station ≡ x.part.station
 front-station x heads front.Drops = refl
 front-station x heads (front.Says turn) = refl
 front-station x heads (front.Does did) = refl
 
-node-station : (x : Conn) (n : ℕ) (heads : List Seen) (d : node.Deed) → (node_does x n heads d).part.station ≡ x.part.station
+node-station : (x : Conn) (n : ℕ) (heads : List Seen) (d : node.NodeDeed) → (node_does x n heads d).part.station ≡ x.part.station
 node-station x n heads node.Drops = refl
 node-station x n heads (node.Says messages) = refl
 node-station x n heads (node.Does given) = refl
@@ -83,21 +83,21 @@ abbrev Anything : Conn → Type 0
 Anything x = Unit {0}
 
 abbrev Owes : Conn → Move → Type 0
-Owes x v = MayMove Anything x → IsLate x → IsLate (grown x v)
+Owes x v = MayRestOn Anything x → IsLate x → IsLate (grown x v)
 
 -- at a place of the cluster, on a packet that did not go from node to node
-front-unheard : (x : Conn) (heads : List Seen) (d : front.Deed) (from to : Place) (bytes : List ℕ) → (GoesAmongNodes from to → ⊥) → Has (record { from = from; to = to; bytes = bytes }) x.letters → Owes x (front_does x heads d)
+front-unheard : (x : Conn) (heads : List Seen) (d : front.FrontDeed) (from to : Place) (bytes : List ℕ) → (GoesAmongNodes from to → ⊥) → Has (record { from = from; to = to; bytes = bytes }) x.letters → Owes x (front_does x heads d)
 front-unheard x heads d from to bytes never was may late none = absurd (never (was-among from to bytes x.letters (late (sym (front-station x heads d) ∙ none)).letters was))
 
-node-unheard : (x : Conn) (n : ℕ) (heads : List Seen) (d : node.Deed) (from to : Place) (bytes : List ℕ) → (GoesAmongNodes from to → ⊥) → Has (record { from = from; to = to; bytes = bytes }) x.letters → Owes x (node_does x n heads d)
+node-unheard : (x : Conn) (n : ℕ) (heads : List Seen) (d : node.NodeDeed) (from to : Place) (bytes : List ℕ) → (GoesAmongNodes from to → ⊥) → Has (record { from = from; to = to; bytes = bytes }) x.letters → Owes x (node_does x n heads d)
 node-unheard x n heads d from to bytes never was may late none = absurd (never (was-among from to bytes x.letters (late (sym (node-station x n heads d) ∙ none)).letters was))
 
 -- at a node that keeps nothing of it
-node-drops : (x : Conn) (n : ℕ) (heads : List Seen) (f : NodePart → node.Deed) → f nothing_kept ≡ node.Drops → Owes x (node_does x n heads (f (x.part.nodes n)))
+node-drops : (x : Conn) (n : ℕ) (heads : List Seen) (f : NodePart → node.NodeDeed) → f nothing_kept ≡ node.Drops → Owes x (node_does x n heads (f (x.part.nodes n)))
 node-drops x n heads f drops may late none =
     let u : IsUntold x = late (sym (node-station x n heads (f (x.part.nodes n))) ∙ none) in
     let is : f (x.part.nodes n) ≡ node.Drops = ap f (u.nodes n) ∙ drops in
-    subst (λ (d : node.Deed). IsUntold (grown x (node_does x n heads d))) (sym is)
+    subst (λ (d : node.NodeDeed). IsUntold (grown x (node_does x n heads d))) (sym is)
     (stays-late x (node_does x n heads node.Drops) refl tt late (sym (node-station x n heads (f (x.part.nodes n))) ∙ none))
 
 -- ---- every rule
@@ -134,7 +134,7 @@ nodes k = record {
   acknowledged = λ x n epoch env bytes is spells was. node-unheard x n _ _ Front (Node n) bytes (λ never. never) was;
   read = λ x n epoch r env path is may late none. let u = node-drops x n [] (λ p. node_read env p r) refl may late none in record { front = u.front; nodes = u.nodes; letters = u.letters };
   fires = λ x s n env there is may late none. absurd (some-none s (sym there ∙ sym (node-station x n _ _) ∙ none));
-  answers = λ x n from epoch r path file bytes there spells was may late. stays-late x (stands x (Node n) (packet_seen (Node from) (Node n) bytes) (contents k n from x.c epoch r path)) refl (tt, tt) late;
+  answers = λ x n from epoch r path file bytes there spells was may late. stays-late x (stands x (Node n) (packet_seen (Node from) (Node n) bytes) (content_said k n from x.c epoch r path)) refl (tt, tt) late;
   queues = λ x n from epoch r path file bytes there spells was may late. stays-late x (stands x (Node n) (packet_seen (Node from) (Node n) bytes) (record nothing_said { notes = rec.Queued n from x.c r path ∷ [] })) refl tt late;
   brings = λ x n from epoch r path may late. stays-late x (stands x (Node n) [] (brought_said k n from x.c epoch r path)) refl (tt, tt) late;
 }

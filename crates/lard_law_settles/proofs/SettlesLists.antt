@@ -21,7 +21,7 @@ use Rattle.lard_history.proofs.Each.{Each}
 use Rattle.lard_history.proofs.Seeing.{by_number, other_number}
 use Rattle.lard_history.specs.Journal.{armed_step, is_running}
 use Rattle.lard_rules.specs.declared.places.Station.{Station}
-use Rattle.lard_settling.specs.Settling.{deliveries, firings, is_own, is_own_at, takes}
+use Rattle.lard_settling.specs.Settling.{deliveries, firings, is_own_seat, is_own_at, takes}
 use Rattle.lard_law_settles.specs.SettlesStops.{CompletionsStopAtLimits, DeliveriesStopAtLimits, FiringsStopAtLimits, TakesStopAtLimits}
 use Rattle.lard_law_settles.proofs.SettlesJobs.{completions-stop}
 use Rattle.lard_law_settles.proofs.SettlesKeeping.{HasClient, HasPacket, IsReady, IsThere, all-ready}
@@ -60,7 +60,7 @@ armed-steps p c kind = record { events = λ a i j e. refl; inner = λ a i e. ref
 
 -- the events of the timers that are a place's own
 abbrev timers : List (Place × ℕ) → List Event
-timers seats = map (λ (seat : Place × ℕ). event.Timer seat.0 seat.1) (filter is_own seats)
+timers seats = map (λ (seat : Place × ℕ). event.Timer seat.0 seat.1) (filter is_own_seat seats)
 
 -- a timer that is a place's own has a rule
 pub own-timer : (p : Place) (c : ℕ) → is_own_at p c ≡ true → HasTimer p c
@@ -90,8 +90,8 @@ module _ (config : Config) (files : List (List ℕ × List ℕ)) (m : Machine) (
 
   timers-ready : (seats : List (Place × ℕ)) → AllByRecursion (IsDue m.front.dispatch m.journal) seats → Each (IsReady m) (timers seats)
   timers-ready [] h = tt
-  timers-ready (seat ∷ seats) h = go (is_own seat) refl (timers-ready seats h.1) where
-    go : (b : Bool) → is_own seat ≡ b → Each (IsReady m) (timers seats) → Each (IsReady m) (map (λ (s : Place × ℕ). event.Timer s.0 s.1) (cond b (seat ∷ filter is_own seats) (filter is_own seats)))
+  timers-ready (seat ∷ seats) h = go (is_own_seat seat) refl (timers-ready seats h.1) where
+    go : (b : Bool) → is_own_seat seat ≡ b → Each (IsReady m) (timers seats) → Each (IsReady m) (map (λ (s : Place × ℕ). event.Timer s.0 s.1) (cond b (seat ∷ filter is_own_seat seats) (filter is_own_seat seats)))
     go true own rest = (timer-there seat.0 seat.1 h.0.1.0 (own-timer seat.0 seat.1 own) h.0.1.1, rest)
     go false own rest = rest
 

@@ -6,17 +6,17 @@ use Rattle.lard_base.specs.declared.config.Config.{Config}
 use Rattle.lard_base.specs.declared.event.Event.{Event}
 use Rattle.lard_base.specs.declared.event.Event.TheVariants as event
 use Rattle.lard_rules.specs.declared.machine.Machine.{Machine}
-use Rattle.lard_rules.specs.Machine.{passed, start}
+use Rattle.lard_rules.specs.Machine.{passed, machine_start}
 use Rattle.lard_journal.specs.declared.rec.Rec.{Rec}
 use Rattle.lard_journal.specs.declared.rec.Rec.TheVariants as rec
-use Rattle.lard_settling.specs.Events.{Goes, MayCome, event_step}
-use Rattle.lard_settling.specs.Settling.{Stop, left}
+use Rattle.lard_settling.specs.Events.{GoesThrough, MayCome, event_step}
+use Rattle.lard_settling.specs.Settling.{Stop, settle_left}
 use Rattle.lard_law_settles.specs.SettlesOrder.{RunsSettleInOrder}
 use Rattle.lard_law_settles.proofs.SettlesEvents.{begun-is, either-kind, plain-done, plain-rule}
 use Rattle.lard_law_settles.proofs.SettlesFiring.{IsInner, deliver-inner, disk-inner, firings-inner, inner-rule, inner-stands, take-inner}
 use Rattle.lard_law_settles.proofs.SettlesGiven.{InnerRows, StepRows, inner-rows, step-rows}
 use Rattle.lard_law_settles.proofs.SettlesInside.{InnerKept, IsClosed, SettleEnds, settle-ends}
-use Rattle.lard_settling.specs.Order.{AllStand, Begun, Inside, IsInStep, MayStand, Nothing, Outside, Phase, further, open_in, phase_at, phase_step}
+use Rattle.lard_settling.specs.Order.{AllStand, Begun, Inside, IsInStep, MayStandInPhase, Nothing, Outside, Phase, further, open_settle, phase_at, phase_step}
 use Rattle.lard_settling.specs.Steps.{closing, inner_step, settle_begun, settle_closed}
 use Rattle.lard_settling.specs.Written.{IsWrittenOut, is_settle}
 use Rattle.lard_settling.proofs.Plain.{AreUnmarked, is_mark}
@@ -39,7 +39,7 @@ leads-append p q s J K h k = (
 )
 
 -- what is told in a step stands in it
-unmarked-stands : (p : Phase) → IsInStep p → (r : Rec) → is_mark r ≡ false → MayStand p r × (phase_step p r ≡ p)
+unmarked-stands : (p : Phase) → IsInStep p → (r : Rec) → is_mark r ≡ false → MayStandInPhase p r × (phase_step p r ≡ p)
 unmarked-stands p in_step (rec.Event i e) h = cc
 unmarked-stands p in_step (rec.Inner e) h = cc
 unmarked-stands p in_step (rec.Settled done) h = cc
@@ -54,7 +54,7 @@ rows-lead p in_step (r ∷ rs) h =
     ((one.0, subst (λ (x : Phase). AllStand x rs) (sym one.1) more.0), ap (λ (x : Phase). fold phase_step x rs) one.1 ∙ more.1)
 
 -- a record that leads into a step, and what is told in it
-step-leads : (p q : Phase) (r : Rec) (rs : List Rec) → MayStand p r → phase_step p r ≡ q → IsInStep q → AreUnmarked rs → Leads p (r ∷ rs) q
+step-leads : (p q : Phase) (r : Rec) (rs : List Rec) → MayStandInPhase p r → phase_step p r ≡ q → IsInStep q → AreUnmarked rs → Leads p (r ∷ rs) q
 step-leads p q r rs stands is in_step plain =
     let more = rows-lead q in_step rs plain in
     ((stands, subst (λ (x : Phase). AllStand x rs) (sym is) more.0), ap (λ (x : Phase). fold phase_step x rs) is ∙ more.1)
@@ -65,7 +65,7 @@ plain-phase (event.Settle rounds) h = cc
 plain-phase _ h = refl
 
 -- an inner step leads further into its settle
-further-in : (p : Phase) (rounds : ℕ) → open_in p ≡ Some rounds → further p ≡ Inside rounds
+further-in : (p : Phase) (rounds : ℕ) → open_settle p ≡ Some rounds → further p ≡ Inside rounds
 further-in Nothing rounds inside = cc
 further-in Outside rounds inside = cc
 further-in (Begun done) rounds inside = let same : done ≡ rounds = cc in ap Inside same
@@ -76,7 +76,7 @@ some-open None rounds h = cc
 some-open (Some done) rounds h = refl
 
 -- a settle is closed behind so many rounds, all of them where anything is left
-closing-leads : (p : Phase) (rounds done left : ℕ) → open_in p ≡ Some rounds → done ≤ rounds → (left ≡ 0) ⊎ (done ≡ rounds) → Leads p (closing done left ∷ []) Nothing
+closing-leads : (p : Phase) (rounds done left : ℕ) → open_settle p ≡ Some rounds → done ≤ rounds → (left ≡ 0) ⊎ (done ≡ rounds) → Leads p (closing done left ∷ []) Nothing
 closing-leads p rounds done zero inside few over = (((rounds, inside, few), tt), refl)
 closing-leads p rounds done (suc left) inside few (inl none) = absurd (omega (arith, none))
 closing-leads p rounds done (suc left) inside few (inr all) = (((inside ∙ ap Some (sym all), omega arith), tt), refl)
@@ -93,14 +93,14 @@ module _ (config : Config) (files : List (List ℕ × List ℕ)) where
     pub written_out : IsWrittenOut config files m
     pub phase : Phase
     pub comes : ComesTo m phase
-    pub closed : open_in phase ≡ None
+    pub closed : open_settle phase ≡ None
 
   -- inside one of so many rounds
   record IsInside (rounds : ℕ) (m : Machine) : Type 0 where
     pub written_out : IsWrittenOut config files m
     pub phase : Phase
     pub comes : ComesTo m phase
-    pub inside : open_in phase ≡ Some rounds
+    pub inside : open_settle phase ≡ Some rounds
 
   -- records more
   comes-on : (m n : Machine) (p q : Phase) (rs : List Rec) → ComesTo m p → n.journal ≡ m.journal ++ rs → Leads p rs q → ComesTo n q
@@ -113,7 +113,7 @@ module _ (config : Config) (files : List (List ℕ × List ℕ)) where
         written_out = (written config files).inner_steps m n e h.written_out (inner-rule e inner) is;
         phase = Inside rounds;
         comes = comes-on m n h.phase (Inside rounds) (rec.Inner e ∷ on.rows) h.comes on.are
-            (step-leads h.phase (Inside rounds) (rec.Inner e) on.rows (some-open (open_in h.phase) rounds h.inside, inner-stands e inner) (further-in h.phase rounds h.inside) tt on.unmarked);
+            (step-leads h.phase (Inside rounds) (rec.Inner e) on.rows (some-open (open_settle h.phase) rounds h.inside, inner-stands e inner) (further-in h.phase rounds h.inside) tt on.unmarked);
         inside = refl;
       }
 
@@ -140,9 +140,9 @@ module _ (config : Config) (files : List (List ℕ × List ℕ)) where
   closed-outside rounds n c =
       let h : IsInside rounds c.last = c.holds in
       subst IsOutside (sym c.is) (record {
-        written_out = (written config files).closes c.last c.done (left c.last) h.written_out;
+        written_out = (written config files).closes c.last c.done (settle_left c.last) h.written_out;
         phase = Nothing;
-        comes = comes-on c.last (settle_closed c.last c.done (left c.last)) h.phase Nothing (closing c.done (left c.last) ∷ []) h.comes refl (closing-leads h.phase rounds c.done (left c.last) h.inside c.few c.over);
+        comes = comes-on c.last (settle_closed c.last c.done (settle_left c.last)) h.phase Nothing (closing c.done (settle_left c.last) ∷ []) h.comes refl (closing-leads h.phase rounds c.done (settle_left c.last) h.inside c.few c.over);
         closed = refl;
       })
 
@@ -167,11 +167,11 @@ module _ (config : Config) (files : List (List ℕ × List ℕ)) where
 
   -- ---- runs
 
-  goes-outside : (es : List Event) (m n : Machine) → IsOutside m → Goes m es n → IsOutside n
+  goes-outside : (es : List Event) (m n : Machine) → IsOutside m → GoesThrough m es n → IsOutside n
   goes-outside [] m n h goes = subst IsOutside (sym goes) h
   goes-outside (e ∷ es) m n h goes = goes-outside es goes.0 n (event-outside m goes.0 e h goes.1 goes.2) goes.3
 
-  start-outside : IsOutside (start config files)
+  start-outside : IsOutside (machine_start config files)
   start-outside = record { written_out = (written config files).begins; phase = Nothing; comes = (tt, refl); closed = refl }
 
   -- a run may end inside a settle
@@ -182,5 +182,5 @@ module _ (config : Config) (files : List (List ℕ × List ℕ)) where
     over (inr ended) = subst (λ (k : Machine). AllStand Nothing k.journal) same ended.0.comes.0
 
 pub in-order : RunsSettleInOrder
-in-order config files es m (inl goes) = (goes-outside config files es (start config files) m (start-outside config files) goes).comes.0
-in-order config files es m (inr i) = inside-stands config files i.behind m i.rounds (m, i.fault) refl (goes-outside config files i.before (start config files) i.behind (start-outside config files) i.goes) i.stops
+in-order config files es m (inl goes) = (goes-outside config files es (machine_start config files) m (start-outside config files) goes).comes.0
+in-order config files es m (inr i) = inside-stands config files i.behind m i.rounds (m, i.fault) refl (goes-outside config files i.before (machine_start config files) i.behind (start-outside config files) i.goes) i.stops

@@ -10,7 +10,7 @@ use Rattle.lard_base.specs.declared.event.Event.{Event}
 use Rattle.lard_base.specs.declared.event.Event.TheVariants as event
 use Rattle.lard_base.specs.declared.place.Place.{Place}
 use Rattle.lard_base.specs.declared.place.Place.TheVariants.{Front, Node, Client}
-use Rattle.lard_rules.specs.Bounds.{HasRule, HasTimer, IsNumber}
+use Rattle.lard_rules.specs.Bounds.{HasRule, HasTimer, IsConnNumber}
 use Rattle.lard_rules.specs.declared.machine.Machine.{Machine}
 use Rattle.lard_rules.specs.Machine.{IsReached, machine_step}
 use Rattle.lard_base.proofs.Usable.{usable}
@@ -39,8 +39,8 @@ use Rattle.lard_law_view.proofs.OwnRecords.{behind}
 
 -- a timer is one of a connection, and a client has those of its own
 abbrev pub IsNamed : Rec → Type 0
-IsNamed (rec.Armed p c kind) = HasTimer p c × IsNumber c
-IsNamed (rec.Cleared p c kind) = HasTimer p c × IsNumber c
+IsNamed (rec.Armed p c kind) = HasTimer p c × IsConnNumber c
+IsNamed (rec.Cleared p c kind) = HasTimer p c × IsConnNumber c
 IsNamed _ = Unit {0}
 
 abbrev pub AreNamed : List Rec → Type 0
@@ -60,12 +60,12 @@ gave-named Front c (rec.Gave Front d epoch) h = tt
 gave-named (Node n) c (rec.Gave (Node j) d epoch) h = tt
 gave-named _ c _ h = absurd h
 
-timer-named : (place : Place) (c : ℕ) → HasTimer place c → IsNumber c → (r : Rec) → IsTimerAt place c r → IsNamed r
-timer-named place c own number (rec.Armed p d kind) h = (subst (λ (q : Place). HasTimer q d) (sym h.0) (subst (HasTimer place) (sym h.1) own), subst IsNumber (sym h.1) number)
-timer-named place c own number (rec.Cleared p d kind) h = (subst (λ (q : Place). HasTimer q d) (sym h.0) (subst (HasTimer place) (sym h.1) own), subst IsNumber (sym h.1) number)
+timer-named : (place : Place) (c : ℕ) → HasTimer place c → IsConnNumber c → (r : Rec) → IsTimerAt place c r → IsNamed r
+timer-named place c own number (rec.Armed p d kind) h = (subst (λ (q : Place). HasTimer q d) (sym h.0) (subst (HasTimer place) (sym h.1) own), subst IsConnNumber (sym h.1) number)
+timer-named place c own number (rec.Cleared p d kind) h = (subst (λ (q : Place). HasTimer q d) (sym h.0) (subst (HasTimer place) (sym h.1) own), subst IsConnNumber (sym h.1) number)
 timer-named place c own number _ h = absurd h
 
-rows-named : (place : Place) (c : ℕ) (p q : Part) → IsNumber c → HasTimer place c ⊎ (q ≡ p) → AreNamed (timer_rows place c p q)
+rows-named : (place : Place) (c : ℕ) (p q : Part) → IsConnNumber c → HasTimer place c ⊎ (q ≡ p) → AreNamed (timer_rows place c p q)
 rows-named place c p q number of = ⊎_elim
     (λ (own : HasTimer place c). Each-weaker (IsTimerAt place c) IsNamed (timer-named place c own number) (timer_rows place c p q) (timer_rows-are place c p q))
     (λ (same : q ≡ p). subst AreNamed (sym (ap (timer_rows place c p) same ∙ timer_rows-same place c p)) tt)
@@ -141,7 +141,7 @@ module _ (m : Machine) (view : IsViewed m) (e : Event) (adds : List Rec) where
       (notes-named v.place a.c a.noted a.moves.notes) (gaves-named v.place a.c v.said.gave own.gave) (rows-named v.place a.c (part_of m a.c) v.part a.moves.number seated))
 
   -- the records of the timers of several, one behind another
-  timers-named : (xs : List Moving) → Each (λ x. IsNumber x.c × Moves (conn m x.c) x.move) xs → AreNamed (timers_in m xs)
+  timers-named : (xs : List Moving) → Each (λ x. IsConnNumber x.c × Moves (conn m x.c) x.move) xs → AreNamed (timers_in m xs)
   unfolding conn
   timers-named [] h = tt
   timers-named (x ∷ xs) h = Each-append IsNamed (timer_rows x.move.place x.c (part_of m x.c) x.move.part) (timers_in m xs)
@@ -181,7 +181,7 @@ module _ (config : Config) (files : List (List ℕ × List ℕ)) where
 abbrev SitsLow : Place → ℕ → Type 0
 SitsLow p c = IsSeated p c × (seat p c < 2 ^ 32)
 
-seat-of : (nodes : ℕ) → nodes ≤ 64 → (p : Place) (c : ℕ) → HasTimer p c × IsNumber c → ((n : ℕ) → Some p ≡ Some (Node n) → (1 ≤ n) × (n ≤ nodes)) → SitsLow p c
+seat-of : (nodes : ℕ) → nodes ≤ 64 → (p : Place) (c : ℕ) → HasTimer p c × IsConnNumber c → ((n : ℕ) → Some p ≡ Some (Node n) → (1 ≤ n) × (n ≤ nodes)) → SitsLow p c
 seat-of nodes few Front c h there = let number = h.1 in ((tt, omega (arith, number)), omega (arith, number))
 seat-of nodes few (Node n) c h there = let number = h.1 in let one = there n refl in (((one.0, omega (arith, one, few)), omega (arith, number)), omega (arith, number, one, few))
 seat-of nodes few (Client d) c h there = let number = h.1 in let same : d ≡ c = h.0 in ((omega (arith, number, same), omega (arith, number)), omega (arith, number, same))

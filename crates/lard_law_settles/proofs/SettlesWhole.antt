@@ -13,7 +13,7 @@ use Rattle.lard_rules.specs.Machine.{limit_reached, passed, unless_limit}
 use Rattle.lard_history.proofs.Each.{Each}
 use Rattle.lard_rules.specs.declared.fault.What.{What}
 use Rattle.lard_settling.specs.declared.settled.Settled.{Settled}
-use Rattle.lard_settling.specs.Settling.{Stop, all_inner, closed_by, completed_since, completions, deliveries, fired_since, firings, is_own, is_quiet, nodes_complete, round, rounds_from, settled, settled_from, takes}
+use Rattle.lard_settling.specs.Settling.{Stop, all_inner, closed_by, completed_since, completions, deliveries, fired_since, firings, is_own_seat, is_quiet, nodes_complete, round, rounds_from, settled, settled_from, takes}
 use Rattle.lard_law_settles.specs.SettlesStops.{IsLimit, SettlesStopAtLimits, StopsAtLimits}
 use Rattle.lard_law_settles.proofs.SettlesLists.{completions-all, deliveries-stop, firings-stop, own-timer, takes-stop}
 use Rattle.lard_settling.specs.Left.{is_holder, jobs_at}
@@ -38,10 +38,10 @@ completions-ruled : (count n : ℕ) → AreRuled (replicate count (event.Disk n 
 completions-ruled zero n = tt
 completions-ruled (suc count) n = (tt, completions-ruled count n)
 
-firings-ruled : (seats : List (Place × ℕ)) → AreRuled (map (λ (seat : Place × ℕ). event.Timer seat.0 seat.1) (filter is_own seats))
+firings-ruled : (seats : List (Place × ℕ)) → AreRuled (map (λ (seat : Place × ℕ). event.Timer seat.0 seat.1) (filter is_own_seat seats))
 firings-ruled [] = tt
-firings-ruled (seat ∷ seats) = go (is_own seat) refl (firings-ruled seats) where
-  go : (b : Bool) → is_own seat ≡ b → AreRuled (map (λ (s : Place × ℕ). event.Timer s.0 s.1) (filter is_own seats)) → AreRuled (map (λ (s : Place × ℕ). event.Timer s.0 s.1) (cond b (seat ∷ filter is_own seats) (filter is_own seats)))
+firings-ruled (seat ∷ seats) = go (is_own_seat seat) refl (firings-ruled seats) where
+  go : (b : Bool) → is_own_seat seat ≡ b → AreRuled (map (λ (s : Place × ℕ). event.Timer s.0 s.1) (filter is_own_seat seats)) → AreRuled (map (λ (s : Place × ℕ). event.Timer s.0 s.1) (cond b (seat ∷ filter is_own_seat seats) (filter is_own_seat seats)))
   go true own rest = (own-timer seat.0 seat.1 own, rest)
   go false own rest = rest
 

@@ -2,7 +2,7 @@
 use Rattle.std.specs.Prelude.{◌≡◌, ℕ, Option, Some, None}
 use Rattle.lard_bound.specs.Progress.{NearAt, chain_at}
 use Rattle.lard_rules.specs.declared.machine.Machine.{Machine}
-use Rattle.lard_rules.specs.Bounds.{IsNumber}
+use Rattle.lard_rules.specs.Bounds.{IsConnNumber}
 use Rattle.lard_law_view.specs.View.{conn}
 use Rattle.lard_files.specs.Files.{file_at}
 use Rattle.lard_history.specs.Own.{conn_of, letter_of}
@@ -25,6 +25,6 @@ pub record NearIn (m : Machine) (d k : ℕ) : Type 0 where
   pub packet : Packet
   pub at : packet_at m.net k ≡ Some packet
   pub c : ℕ
-  pub number : IsNumber c
+  pub number : IsConnNumber c
   pub is_of : conn_of packet.from packet.to packet.bytes ≡ Some c
   pub near : NearAt (file_at m.files) (conn m c) d (letter_of packet)

@@ -4,7 +4,7 @@ use Rattle.lard_answers.specs.Answers.{FilesAt}
 use Rattle.lard_base.specs.declared.config.Config.{Config}
 use Rattle.lard_base.specs.declared.place.Place.{Place}
 use Rattle.lard_base.specs.declared.place.TimerKind.{TimerKind}
-use Rattle.lard_law_connections.specs.Line.{line}
+use Rattle.lard_law_connections.specs.Line.{waiting_line}
 use Rattle.lard_laws.specs.Quiet.{HasNoJob, IsInLine}
 use Rattle.lard_history.specs.Journal.{is_running, is_touched, numbers_of, was_reset}
 use Rattle.lard_journal.specs.declared.rec.Rec.{Rec}
@@ -15,7 +15,7 @@ use Rattle.lard_law_settles.specs.RoundsToDo.{is_stalled_at}
 -- Connection c is quiet but for timers that are stalled, since it is in the line, and no job waits for it. So it is complete, or in the
 -- line at a full room, unless its client aborted it, the stream limit reset it, or the schedule touched it.
 pub record IsDoneWith (config : Config) (files : FilesAt) (J : List Rec) (c : ℕ) : Type 0 where
-  pub quiet : (p : Place) (kind : TimerKind) → is_running J p c kind ≡ true → is_stalled_at p (line J) c ≡ true
+  pub quiet : (p : Place) (kind : TimerKind) → is_running J p c kind ≡ true → is_stalled_at p (waiting_line J) c ≡ true
   pub jobs : HasNoJob J c
   pub ends : is_touched J c ≡ false → has_aborted J c ≡ false → was_reset J c ≡ false → IsComplete files J c ⊎ IsInLine config J c
 

@@ -5,7 +5,7 @@ use Rattle.lard_answers.specs.Answers.{FilesAt}
 use Rattle.lard_base.specs.Config.{config_check}
 use Rattle.lard_base.specs.declared.config.Config.{Config}
 use Rattle.lard_base.specs.declared.event.Event.{Event}
-use Rattle.lard_rules.specs.Machine.{start}
+use Rattle.lard_rules.specs.Machine.{machine_start}
 use Rattle.lard_rules.specs.declared.machine.Machine.{Machine}
 use Rattle.lard_files.specs.Files.{file_at}
 use Rattle.lard_history.specs.Laws.{EachMay}
@@ -19,5 +19,5 @@ abbrev pub WrittenOutTellsTheSame : Type 0
 WrittenOutTellsTheSame = (config : Config) (files : FilesAt) (J : List Rec) → TellsTheSame config files J (written_out J)
 
 abbrev pub SettledRunsAreDone : Type 0
-SettledRunsAreDone = (config : Config) (files : List (List ℕ × List ℕ)) (es : List Event) (m : Machine) → config_check config ≡ Ok tt → LeadsTo (start config files) es m
+SettledRunsAreDone = (config : Config) (files : List (List ℕ × List ℕ)) (es : List Event) (m : Machine) → config_check config ≡ Ok tt → LeadsTo (machine_start config files) es m
     → EachMay (MaySettle config (file_at files)) [] m.journal

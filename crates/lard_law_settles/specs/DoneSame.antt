@@ -4,11 +4,11 @@ use Rattle.lard_answers.specs.Answers.{FilesAt}
 use Rattle.lard_base.specs.declared.config.Config.{Config}
 use Rattle.lard_base.specs.declared.place.Place.{Place}
 use Rattle.lard_base.specs.declared.place.TimerKind.{TimerKind}
-use Rattle.lard_law_connections.specs.Line.{line}
+use Rattle.lard_law_connections.specs.Line.{waiting_line}
 use Rattle.lard_counts.specs.Ledger.{ledger}
-use Rattle.lard_law_connections.specs.PolicyLoads.{load}
+use Rattle.lard_law_connections.specs.PolicyLoads.{load_told}
 use Rattle.lard_counts.specs.Stores.{cached, jobs}
-use Rattle.lard_history.specs.Journal.{accepted, assigned, home, is_lost, is_running, is_touched, last_epoch, numbers_of, owner, packet_bytes, sent_count, served, served_bytes, time_of, was_reset, wrote}
+use Rattle.lard_history.specs.Journal.{accepted, assigned, home_told, is_lost, is_running, is_touched, last_epoch, numbers_of, owner, packet_bytes, sent_count, served, served_bytes, time_of, was_reset, wrote}
 use Rattle.lard_journal.specs.declared.rec.Rec.{Rec}
 use Rattle.lard_law_view.specs.Quiet.{has_aborted, has_ended, was_shut}
 
@@ -31,11 +31,11 @@ pub record TellsTheSame (config : Config) (files : FilesAt) (J K : List Rec) : T
   pub responses : (c : ℕ) → served K c ≡ served J c
   pub bytes : (c : ℕ) → served_bytes K c ≡ served_bytes J c
   pub resets : (c : ℕ) → was_reset K c ≡ was_reset J c
-  pub homes : (c : ℕ) → home K c ≡ home J c
+  pub homes : (c : ℕ) → home_told K c ≡ home_told J c
   pub requests : (c : ℕ) → assigned K c ≡ assigned J c
   pub counted : ledger config K ≡ ledger config J
-  pub loads : (n : ℕ) → load K n ≡ load J n
-  pub waits : line K ≡ line J
+  pub loads : (n : ℕ) → load_told K n ≡ load_told J n
+  pub waits : waiting_line K ≡ waiting_line J
   pub disks : (n : ℕ) → jobs K n ≡ jobs J n
   pub caches : (limit n : ℕ) → cached files limit K n ≡ cached files limit J n
   pub timers : (p : Place) (c : ℕ) (kind : TimerKind) → is_running K p c kind ≡ is_running J p c kind

@@ -6,30 +6,30 @@ use Rattle.lard_base.specs.declared.config.Config.{Config}
 use Rattle.lard_base.specs.declared.event.Event.{Event}
 use Rattle.lard_bound.specs.Bound.{IsOrdinary, settling_bound}
 use Rattle.lard_rules.specs.declared.machine.Machine.{Machine}
-use Rattle.lard_rules.specs.Machine.{start}
-use Rattle.lard_laws.specs.Records.{IsFile, IsGiven}
+use Rattle.lard_rules.specs.Machine.{machine_start}
+use Rattle.lard_laws.specs.Records.{IsRunFile, IsScheduled}
 use Rattle.lard_files.specs.Files.{file_at}
 use Rattle.lard_journal.specs.declared.rec.Rec.{Rec}
 use Rattle.lard_journal.specs.declared.rec.Rec.TheVariants as rec
 use Rattle.lard_settling.specs.declared.settled.Settled.{Settled}
 use Rattle.lard_settling.specs.declared.settled.Settled.TheVariants.{Quiet}
-use Rattle.lard_settling.specs.Events.{Goes}
+use Rattle.lard_settling.specs.Events.{GoesThrough}
 use Rattle.lard_settling.specs.Settling.{is_quiet, settled}
 
 -- Of a settle of so many rounds, and what it answered: in each state that events lead to, settles among them, as lines can give the events
 -- and the files, nothing is left where the journal is ordinary and the rounds are as many as its bound.
 abbrev pub EndsWithEnough : Machine → ℕ → Settled → Type 0
-EndsWithEnough m rounds s = (config : Config) (files : List (List ℕ × List ℕ)) → config_check config ≡ Ok tt → All IsFile files → (es : List Event) → All IsGiven es → Goes (start config files) es m → IsOrdinary m.journal
+EndsWithEnough m rounds s = (config : Config) (files : List (List ℕ × List ℕ)) → config_check config ≡ Ok tt → All IsRunFile files → (es : List Event) → All IsScheduled es → GoesThrough (machine_start config files) es m → IsOrdinary m.journal
     → settling_bound (file_at files) m.journal ≤ rounds → (done : ℕ) × (s ≡ Quiet done)
 
 -- Of a state in which a settle has ended: where it was begun with as many rounds as the bound of its journal, in a state with an ordinary
 -- journal to which events led, as lines can give these and the files, settles among them, then no job waits, and no timer runs but those
 -- that are stalled.
 abbrev pub RestsWithEnough : Machine → Type 0
-RestsWithEnough n = All IsFile n.files → (es : List Event) → All IsGiven es → (m : Machine) → Goes (start n.config n.files) es m → IsOrdinary m.journal → (rounds : ℕ) → settling_bound (file_at n.files) m.journal ≤ rounds
+RestsWithEnough n = All IsRunFile n.files → (es : List Event) → All IsScheduled es → (m : Machine) → GoesThrough (machine_start n.config n.files) es m → IsOrdinary m.journal → (rounds : ℕ) → settling_bound (file_at n.files) m.journal ≤ rounds
     → (s : Settled) → settled m rounds ≡ Ok (n, s) → is_quiet n ≡ true
 
 -- A settle leaves something only where that is not so, or where it did fewer rounds than the bound of the journal.
-abbrev pub MayLeave : FilesAt → List Rec → Rec → Type 0
-MayLeave files past (rec.Unsettled done left) = IsOrdinary past → done < settling_bound files past
-MayLeave files past _ = Unit {0}
+abbrev pub MayLeaveUnsettled : FilesAt → List Rec → Rec → Type 0
+MayLeaveUnsettled files past (rec.Unsettled done left) = IsOrdinary past → done < settling_bound files past
+MayLeaveUnsettled files past _ = Unit {0}

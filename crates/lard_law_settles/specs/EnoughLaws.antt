@@ -4,11 +4,11 @@ use Rattle.lard_base.specs.Config.{config_check}
 use Rattle.lard_base.specs.declared.config.Config.{Config}
 use Rattle.lard_base.specs.declared.event.Event.{Event}
 use Rattle.lard_rules.specs.declared.machine.Machine.{Machine}
-use Rattle.lard_rules.specs.Machine.{start}
-use Rattle.lard_laws.specs.Records.{IsFile, IsGiven}
+use Rattle.lard_rules.specs.Machine.{machine_start}
+use Rattle.lard_laws.specs.Records.{IsRunFile, IsScheduled}
 use Rattle.lard_files.specs.Files.{file_at}
 use Rattle.lard_history.specs.Laws.{EachMay}
-use Rattle.lard_law_settles.specs.Enough.{EndsWithEnough, MayLeave, RestsWithEnough}
+use Rattle.lard_law_settles.specs.Enough.{EndsWithEnough, MayLeaveUnsettled, RestsWithEnough}
 use Rattle.lard_settling.specs.declared.settled.Settled.{Settled}
 use Rattle.lard_settling.specs.Events.{LeadsTo}
 use Rattle.lard_settling.specs.Settling.{settled}
@@ -24,5 +24,5 @@ SettlesRest = (n : Machine) → config_check n.config ≡ Ok tt → RestsWithEno
 
 -- So in the journal of each run: an `unsettled` stands only where that is not so, or behind fewer rounds than the bound.
 abbrev pub RunsSettle : Type 0
-RunsSettle = (config : Config) (files : List (List ℕ × List ℕ)) → config_check config ≡ Ok tt → All IsFile files → (es : List Event) (m : Machine) → All IsGiven es → LeadsTo (start config files) es m
-    → EachMay (MayLeave (file_at files)) [] m.journal
+RunsSettle = (config : Config) (files : List (List ℕ × List ℕ)) → config_check config ≡ Ok tt → All IsRunFile files → (es : List Event) (m : Machine) → All IsScheduled es → LeadsTo (machine_start config files) es m
+    → EachMay (MayLeaveUnsettled (file_at files)) [] m.journal

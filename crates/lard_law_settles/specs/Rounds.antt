@@ -11,36 +11,36 @@ use Rattle.lard_settling.specs.Steps.{closing}
 -- ---- steps
 
 -- a record that begins no step and closes no settle
-abbrev pub IsTold : Rec → Type 0
-IsTold (rec.Event i e) = ⊥
-IsTold (rec.Inner e) = ⊥
-IsTold (rec.Settled done) = ⊥
-IsTold (rec.Unsettled done left) = ⊥
-IsTold _ = Unit {0}
+abbrev pub IsToldInStep : Rec → Type 0
+IsToldInStep (rec.Event i e) = ⊥
+IsToldInStep (rec.Inner e) = ⊥
+IsToldInStep (rec.Settled done) = ⊥
+IsToldInStep (rec.Unsettled done left) = ⊥
+IsToldInStep _ = Unit {0}
 
 -- Inner steps of these events lead from journal J to K, one after another: of each its record stands there, and what was told in it.
-abbrev pub Steps : List Event → List Rec → List Rec → Type 0
-Steps [] J K = K ≡ J
-Steps (e ∷ es) J K = (told : List Rec) × AllByRecursion IsTold told × Steps es (J ++ rec.Inner e ∷ told) K
+abbrev pub InnerSteps : List Event → List Rec → List Rec → Type 0
+InnerSteps [] J K = K ≡ J
+InnerSteps (e ∷ es) J K = (told : List Rec) × AllByRecursion IsToldInStep told × InnerSteps es (J ++ rec.Inner e ∷ told) K
 
 -- ---- a round
 
 -- node after node, so many of them, the first of which is n
-abbrev pub Completes : ℕ → ℕ → List Rec → List Rec → Type 0
-Completes n zero J K = K ≡ J
-Completes n (suc more) J K = (L : List Rec) × Steps (completions_in J n) J L × Completes (n + 1) more L K
+abbrev pub CompletesInTurn : ℕ → ℕ → List Rec → List Rec → Type 0
+CompletesInTurn n zero J K = K ≡ J
+CompletesInTurn n (suc more) J K = (L : List Rec) × InnerSteps (completions_in J n) J L × CompletesInTurn (n + 1) more L K
 
 -- the timers fire, or not
 abbrev pub Fires : Bool → List Rec → List Rec → Type 0
-Fires true J K = Steps (firings_in J) J K
+Fires true J K = InnerSteps (firings_in J) J K
 Fires false J K = K ≡ J
 
 -- What is on its way is delivered, and jobs are completed; where the journal has grown by neither, the timers fire.
 pub record IsRound (nodes : ℕ) (J K : List Rec) : Type 0 where
   pub delivered : List Rec
-  pub deliveries : Steps (deliveries_in J) J delivered
+  pub deliveries : InnerSteps (deliveries_in J) J delivered
   pub completed : List Rec
-  pub completions : Completes 1 nodes delivered completed
+  pub completions : CompletesInTurn 1 nodes delivered completed
   pub fires : Fires (length completed == length J) completed K
 
 -- so many rounds, each where something is left
@@ -54,7 +54,7 @@ AreRounds nodes (suc more) J K = (left_in nodes J ≢ 0) × ((L : List Rec) × I
 -- were done; and that record tells how many were done, and what is left.
 pub record IsWhole (nodes rounds : ℕ) (J K : List Rec) : Type 0 where
   pub taken : List Rec
-  pub takes : Steps (takes_in J) J taken
+  pub takes : InnerSteps (takes_in J) J taken
   pub done : ℕ
   pub last : List Rec
   pub are : AreRounds nodes done taken last
@@ -66,11 +66,11 @@ pub record IsWhole (nodes rounds : ℕ) (J K : List Rec) : Type 0 where
 
 -- some of the steps, from the first on
 abbrev pub SomeSteps : List Event → List Rec → List Rec → Type 0
-SomeSteps es J K = (front : List Event) × (rest : List Event) × (es ≡ front ++ rest) × Steps front J K
+SomeSteps es J K = (front : List Event) × (rest : List Event) × (es ≡ front ++ rest) × InnerSteps front J K
 
 abbrev pub SomeCompletes : ℕ → ℕ → List Rec → List Rec → Type 0
 SomeCompletes n zero J K = K ≡ J
-SomeCompletes n (suc more) J K = SomeSteps (completions_in J n) J K ⊎ ((L : List Rec) × Steps (completions_in J n) J L × SomeCompletes (n + 1) more L K)
+SomeCompletes n (suc more) J K = SomeSteps (completions_in J n) J K ⊎ ((L : List Rec) × InnerSteps (completions_in J n) J L × SomeCompletes (n + 1) more L K)
 
 abbrev pub SomeFire : Bool → List Rec → List Rec → Type 0
 SomeFire true J K = SomeSteps (firings_in J) J K
@@ -79,7 +79,7 @@ SomeFire false J K = K ≡ J
 -- some of a round
 abbrev pub SomeOfRound : ℕ → List Rec → List Rec → Type 0
 SomeOfRound nodes J K = SomeSteps (deliveries_in J) J K
-    ⊎ ((L : List Rec) × Steps (deliveries_in J) J L × (SomeCompletes 1 nodes L K ⊎ ((M : List Rec) × Completes 1 nodes L M × SomeFire (length M == length J) M K)))
+    ⊎ ((L : List Rec) × InnerSteps (deliveries_in J) J L × (SomeCompletes 1 nodes L K ⊎ ((M : List Rec) × CompletesInTurn 1 nodes L M × SomeFire (length M == length J) M K)))
 
 -- whole rounds, fewer than so many, and some of the next
 pub record AreBegun (nodes rounds : ℕ) (J K : List Rec) : Type 0 where
@@ -92,7 +92,7 @@ pub record AreBegun (nodes rounds : ℕ) (J K : List Rec) : Type 0 where
 
 -- some of a settle
 abbrev pub IsBegun : ℕ → ℕ → List Rec → List Rec → Type 0
-IsBegun nodes rounds J K = SomeSteps (takes_in J) J K ⊎ ((taken : List Rec) × Steps (takes_in J) J taken × AreBegun nodes rounds taken K)
+IsBegun nodes rounds J K = SomeSteps (takes_in J) J K ⊎ ((taken : List Rec) × InnerSteps (takes_in J) J taken × AreBegun nodes rounds taken K)
 
 -- ---- a journal
 

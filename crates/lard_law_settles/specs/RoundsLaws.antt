@@ -4,9 +4,9 @@ use Rattle.lard_base.specs.Config.{config_check}
 use Rattle.lard_base.specs.declared.config.Config.{Config}
 use Rattle.lard_base.specs.declared.event.Event.{Event}
 use Rattle.lard_rules.specs.declared.machine.Machine.{Machine}
-use Rattle.lard_rules.specs.Machine.{start}
+use Rattle.lard_rules.specs.Machine.{machine_start}
 use Rattle.lard_law_settles.specs.Rounds.{SettlesTakeRounds}
 use Rattle.lard_settling.specs.Events.{LeadsTo}
 
 abbrev pub RunsTakeRounds : Type 0
-RunsTakeRounds = (config : Config) (files : List (List ℕ × List ℕ)) (es : List Event) (m : Machine) → config_check config ≡ Ok tt → LeadsTo (start config files) es m → SettlesTakeRounds config.nodes [] m.journal
+RunsTakeRounds = (config : Config) (files : List (List ℕ × List ℕ)) (es : List Event) (m : Machine) → config_check config ≡ Ok tt → LeadsTo (machine_start config files) es m → SettlesTakeRounds config.nodes [] m.journal

@@ -9,12 +9,12 @@ use Rattle.lard_base.specs.declared.event.Event.TheVariants as event
 use Rattle.lard_base.specs.declared.place.Place.{Place}
 use Rattle.lard_base.specs.declared.place.Place.TheVariants.{Front, Node, Client}
 use Rattle.lard_client.specs.Control.{ClientBlock, is_holding}
-use Rattle.lard_law_connections.specs.Line.{line}
+use Rattle.lard_law_connections.specs.Line.{waiting_line}
 use Rattle.lard_counts.specs.Stores.{jobs}
 use Rattle.lard_history.specs.Own.{own}
 use Rattle.lard_journal.specs.declared.rec.Rec.{Rec}
 use Rattle.lard_law_view.specs.ClientRule.{client_of}
-use Rattle.lard_settling.specs.Settling.{is_own}
+use Rattle.lard_settling.specs.Settling.{is_own_seat}
 use Rattle.lard_settling.specs.Written.{written_out}
 
 -- ---- clients
@@ -60,14 +60,14 @@ is_stalled_at (Node n) line c = false
 
 -- where timers run that are not stalled: the front end's, the nodes', the clients', each by connections
 abbrev pub firing_in : List Rec → List Running
-firing_in J = filter (λ r. not (is_stalled_at r.place (line J) r.c)) (values (agenda_of J).running)
+firing_in J = filter (λ r. not (is_stalled_at r.place (waiting_line J) r.c)) (values (agenda_of J).running)
 
 abbrev pub seats_of : List Running → List (Place × ℕ)
 seats_of rs = map (λ r. (r.place, r.c)) rs
 
 -- each fires, once for each place and connection
 abbrev pub firings_in : List Rec → List Event
-firings_in J = map (λ seat. event.Timer seat.0 seat.1) (filter is_own (seats_of (firing_in J)))
+firings_in J = map (λ seat. event.Timer seat.0 seat.1) (filter is_own_seat (seats_of (firing_in J)))
 
 -- ---- what is left
 

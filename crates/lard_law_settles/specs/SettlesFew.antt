@@ -3,10 +3,10 @@ use Rattle.std.specs.Prelude.{◌≡◌, ◌<◌, ◌^◌, ℕ, List, Ok}
 use Rattle.lard_base.specs.Config.{config_check}
 use Rattle.lard_base.specs.declared.config.Config.{Config}
 use Rattle.lard_rules.specs.declared.machine.Machine.{Machine}
-use Rattle.lard_settling.specs.Settling.{left}
+use Rattle.lard_settling.specs.Settling.{settle_left}
 use Rattle.lard_settling.specs.Written.{IsWrittenOut}
 
 -- In each state of a run, also inside a settle, fewer than 2^40 timers that are not stalled run and jobs wait, in all. So what a closing
 -- record says is left is a number of 64 bits.
 abbrev pub FewAreLeft : Type 0
-FewAreLeft = (config : Config) (files : List (List ℕ × List ℕ)) (m : Machine) → config_check config ≡ Ok tt → IsWrittenOut config files m → left m < 2 ^ 40
+FewAreLeft = (config : Config) (files : List (List ℕ × List ℕ)) (m : Machine) → config_check config ≡ Ok tt → IsWrittenOut config files m → settle_left m < 2 ^ 40

@@ -6,7 +6,7 @@ use Rattle.lard_client.specs.declared.heard.Heard.{Heard}
 use Rattle.lard_client.specs.declared.phase.Phase.{Phase}
 use Rattle.lard_client.specs.declared.phase.Phase.TheVariants.{Open, Aborted, Reset}
 use Rattle.lard_client.specs.Control.{ClientBlock, is_open_in, is_established}
-use Rattle.lard_client.specs.Arriving.{nothing, reset_by_peer, answers_syn, established, on_greeting, on_segment, heard_open, heard_in, arrived}
+use Rattle.lard_client.specs.Arriving.{heard_nothing, reset_by_peer, answers_syn, established, on_greeting, client_on_segment, heard_open, heard_in, client_arrived}
 use Rattle.lard_client.specs.Laws.{IsInOrder, IsTrueSegment, IsNextOf}
 use Rattle.lard_client.proofs.Accepted.{arrived-order, arrived-ended}
 use Rattle.lard_client.proofs.Outcomes.{Outcome, Quiet, Took, segment-outcome}
@@ -34,13 +34,13 @@ accepts-none x b y n f e a =
 greeting-takes : (x : Stream) (b : ClientBlock) (s : Said) → (b.send.una == 0) ≡ true → Accepts x b → (s.flags.syn ≡ true → s.seq ≡ x.first) → Takes x b s (on_greeting b s)
 greeting-takes x b s z a greets =
     let P : Heard × ClientBlock → Type 0 = Takes x b s in
-    let none : (y : ClientBlock) → y.accepted ≡ b.accepted → y.eof ≡ b.eof → (is_established y ≡ true → y.send.irs ≡ x.first) → P (nothing, y) = λ y n f e.
+    let none : (y : ClientBlock) → y.accepted ≡ b.accepted → y.eof ≡ b.eof → (is_established y ≡ true → y.send.irs ≡ x.first) → P (heard_nothing, y) = λ y n f e.
     (accepts-none x b y n f e a, none-part x b s.payload 0 refl a.within, n ∙ omega arith) in
     let unknown : is_established b ≡ true → ⊥ = λ e. let no : not true ≡ true = subst (λ t. not t ≡ true) z e in cc in
-    let synced = cond s.flags.syn (nothing, established b s) (nothing, b) in
-    cond_both (not (answers_syn b s)) (nothing, b) (cond s.flags.rst (nothing, reset_by_peer b) synced) P (λ t. none b refl refl (λ e. absurd (unknown e)))
-    (λ t. cond_both s.flags.rst (nothing, reset_by_peer b) synced P (λ u. none (reset_by_peer b) refl refl (λ e. absurd (unknown e)))
-    (λ u. cond_both s.flags.syn (nothing, established b s) (nothing, b) P
+    let synced = cond s.flags.syn (heard_nothing, established b s) (heard_nothing, b) in
+    cond_both (not (answers_syn b s)) (heard_nothing, b) (cond s.flags.rst (heard_nothing, reset_by_peer b) synced) P (λ t. none b refl refl (λ e. absurd (unknown e)))
+    (λ t. cond_both s.flags.rst (heard_nothing, reset_by_peer b) synced P (λ u. none (reset_by_peer b) refl refl (λ e. absurd (unknown e)))
+    (λ u. cond_both s.flags.syn (heard_nothing, established b s) (heard_nothing, b) P
     (λ v. none (established b s) refl refl (λ e. after_ack-irs (introduced b.send s.seq (peer_mss s.mss)) s.ack s.seq s.wnd ∙ greets v))
     (λ v. none b refl refl (λ e. absurd (unknown e)))))
 
@@ -85,44 +85,44 @@ stands-segment x b s t is e = record {
 }
 
 -- ---- any client
-open-is : (b : ClientBlock) (s : Said) → b.phase ≡ Open → arrived b s ≡ heard_open b s
-unfolding arrived
+open-is : (b : ClientBlock) (s : Said) → b.phase ≡ Open → client_arrived b s ≡ heard_open b s
+unfolding client_arrived
 open-is b s e = ap (λ p. heard_in p b s) e
 
-segment-is : (b : ClientBlock) (s : Said) → (b.send.una == 0) ≡ false → heard_open b s ≡ on_segment b s
-segment-is b s e = cond-false (b.send.una == 0) (on_greeting b s) (on_segment b s) e
+segment-is : (b : ClientBlock) (s : Said) → (b.send.una == 0) ≡ false → heard_open b s ≡ client_on_segment b s
+segment-is b s e = cond-false (b.send.una == 0) (on_greeting b s) (client_on_segment b s) e
 
 module _ (x : Stream) (b : ClientBlock) (s : Said) (is : IsStream x) (q : s.seq < 2 ^ 32) (a : Accepts x b) (t : IsTrueOf x s) where
   -- of an established client
-  segment-takes : (b.send.una == 0) ≡ false → arrived b s ≡ on_segment b s → Takes x b s (on_segment b s)
+  segment-takes : (b.send.una == 0) ≡ false → client_arrived b s ≡ client_on_segment b s → Takes x b s (client_on_segment b s)
   segment-takes z e =
       let known : is_established b ≡ true = ap not z in
       let order = subst (λ (r : Heard × ClientBlock). IsInOrder b s r.0 r.1) e (arrived-order b s q) in
       ⊎_elim
-      (λ (bare : IsBare s). bare-takes x b s (on_segment b s) a known order (segment-outcome b s) bare)
-      (λ (stands : Stands x s). stands-takes x b s (on_segment b s) a known order (segment-outcome b s) stands
+      (λ (bare : IsBare s). bare-takes x b s (client_on_segment b s) a known order (segment-outcome b s) bare)
+      (λ (stands : Stands x s). stands-takes x b s (client_on_segment b s) a known order (segment-outcome b s) stands
       (subst (λ (r : Heard × ClientBlock). IsNextOf b s r.0 x.bytes) e (true-accepted b s x.bytes stands.place a.within (stands-segment x b s stands is (a.first known)))))
       t.carries
 
   open-takes : b.phase ≡ Open → Takes x b s (heard_open b s)
   open-takes e =
-      cond_both (b.send.una == 0) (on_greeting b s) (on_segment b s) (Takes x b s)
+      cond_both (b.send.una == 0) (on_greeting b s) (client_on_segment b s) (Takes x b s)
       (λ z. greeting-takes x b s z a t.greets)
       (λ z. segment-takes z (open-is b s e ∙ segment-is b s z))
 
   -- of one that was aborted or reset
-  ended-takes : is_open_in b.phase ≡ false → Takes x b s (arrived b s)
+  ended-takes : is_open_in b.phase ≡ false → Takes x b s (client_arrived b s)
   ended-takes e =
       let same = arrived-ended b s e in (
         subst (λ (y : ClientBlock). Accepts x y) (sym same.0) a,
-        none-part x b (drop (arrived b s).0.from s.payload) (arrived b s).0.len same.1 a.within,
+        none-part x b (drop (client_arrived b s).0.from s.payload) (client_arrived b s).0.len same.1 a.within,
         (let len = same.1 in ap (λ y. y.accepted) same.0 ∙ omega arith),
       )
 
-  by_phase : (p : Phase) → b.phase ≡ p → Takes x b s (arrived b s)
+  by_phase : (p : Phase) → b.phase ≡ p → Takes x b s (client_arrived b s)
   by_phase Open e = subst (Takes x b s) (sym (open-is b s e)) (open-takes e)
   by_phase Aborted e = ended-takes (ap is_open_in e)
   by_phase Reset e = ended-takes (ap is_open_in e)
 
-  pub arrived-takes : Takes x b s (arrived b s)
+  pub arrived-takes : Takes x b s (client_arrived b s)
   arrived-takes = by_phase b.phase refl

@@ -5,7 +5,7 @@ use Rattle.lard_base.specs.declared.place.Place.{Place}
 use Rattle.lard_base.specs.declared.place.Place.TheVariants as place
 use Rattle.lard_base.specs.declared.place.Reason.TheVariants as reason
 use Rattle.lard_client.specs.declared.phase.Phase.TheVariants.{Aborted, Reset}
-use Rattle.lard_client.specs.Control.{ClientBlock, is_established, is_open, written_len}
+use Rattle.lard_client.specs.Control.{ClientBlock, is_established, is_client_open, written_len}
 use Rattle.lard_journal.specs.declared.rec.Rec.{Rec}
 use Rattle.lard_journal.specs.declared.rec.Rec.TheVariants as rec
 use Rattle.lard_law_view.specs.Agreement.{ClientAgrees}
@@ -108,7 +108,7 @@ pub record ClientActed (c iss heard : ℕ) (aborted was_reset : Bool) (x : Clien
   pub holds : ClientHolds heard aborted was_reset given.0
   pub sent : WordsMay c iss (taken_by given.0) aborted given.1.segments
   pub ended : given.0.eof ≡ true → (x.eof ≡ true) ⊎ (ends_in given.1.notes ≡ true)
-  pub was_open : is_open given.0 ≡ true → is_open x ≡ true
+  pub was_open : is_client_open given.0 ≡ true → is_client_open x ≡ true
   pub stays_shut : x.send.finished ≡ true → given.0.send.finished ≡ true
 
 -- a rule of a client that takes nothing from outside
@@ -149,7 +149,7 @@ pub record RulesAct : Type 0 where
   pub opens : ClientOpensActs
   pub writes : ClientWritesActs
   pub shuts : ClientActs client_shuts
-  pub finishes : (x : ClientBlock) → is_open (client_shuts x).0 ≡ true → (client_shuts x).0.send.finished ≡ true
+  pub finishes : (x : ClientBlock) → is_client_open (client_shuts x).0 ≡ true → (client_shuts x).0.send.finished ≡ true
   pub aborts : ClientAborts
   pub holds : ClientActs client_holds
   pub takes : ClientActs client_takes

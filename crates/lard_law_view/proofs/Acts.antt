@@ -7,8 +7,8 @@ use Rattle.lard_base.specs.declared.event.Event.TheVariants as event
 use Rattle.lard_base.specs.declared.place.Place.{Place}
 use Rattle.lard_base.specs.declared.place.Place.TheVariants.{Front}
 use Rattle.lard_rules.specs.declared.machine.Machine.{Machine}
-use Rattle.lard_rules.specs.Bounds.{HasRule, IsNumber}
-use Rattle.lard_rules.specs.Machine.{clocked, machine_step, told}
+use Rattle.lard_rules.specs.Bounds.{HasRule, IsConnNumber}
+use Rattle.lard_rules.specs.Machine.{clocked, machine_step, machine_told}
 use Rattle.lard_law_view.specs.View.{Conn, IsMachine, IsViewed, Move, Part, Rules, conn, part_of, setting_of, timer_rows}
 use Rattle.lard_law_view.proofs.AnyShape.{IsAct, each-act, two-act}
 use Rattle.lard_law_view.proofs.Heads.{ActsAt}
@@ -32,7 +32,7 @@ said_rows before net place notes segments gave messages timers =
 
 -- Connection c moves, behind these heads. What is noted may name none, as a path that goes to the front of a cache.
 pub record Moves (P : Conn → Move → Type 0) (m : Machine) (e : Event) (c : ℕ) (move : Move) (noted : List Rec) : Type 0 where
-  pub number : IsNumber c
+  pub number : IsConnNumber c
   pub does : P (conn m c) move
   pub event : Each (IsHead e) move.heads
   pub came : Each (IsDelivered m.net e) move.heads
@@ -71,7 +71,7 @@ pub record ActsMany (P : Conn → Move → Type 0) (m : Machine) (e : Event) (ad
   pub act : IsAct m w e place o
   pub moving : List Moving
   pub apart : AreApart moving
-  pub moves : Each (λ x. IsNumber x.c × P (conn m x.c) x.move) moving
+  pub moves : Each (λ x. IsConnNumber x.c × P (conn m x.c) x.move) moving
   pub timers : o.timers ≡ timers_in m moving
   pub are : adds ≡ said_rows (behind e) m.net place o.notes o.segments o.gave o.messages o.timers
 
@@ -90,13 +90,13 @@ pub record IsStepOf (P : Conn → Move → Type 0) (m n : Machine) (e : Event) :
 module _ (m : Machine) (P : Conn → Move → Type 0) where
   -- the records of an act, as they are told
   rows-are : (w : Machine) (e : Event) (place : Place) (o : Out) → w.net ≡ m.net → w.journal ≡ m.journal → w.events ≡ m.events
-      → (told w e (behind e) place o).journal ≡ m.journal ++ (rec.Event (m.events + 1) e ∷ said_rows (behind e) m.net place o.notes o.segments o.gave o.messages o.timers)
-  unfolding told
+      → (machine_told w e (behind e) place o).journal ≡ m.journal ++ (rec.Event (m.events + 1) e ∷ said_rows (behind e) m.net place o.notes o.segments o.gave o.messages o.timers)
+  unfolding machine_told
   rows-are w e place o net journal events = λ i. journal i ++ (rec.Event (events i + 1) e ∷ said_rows (behind e) (net i) place o.notes o.segments o.gave o.messages o.timers)
 
   one-acts : (w : Machine) (e : Event) (place : Place) (o : Out) (c : ℕ) (heads : List Seen) (ns : List Rec) (p : Part) → ActsOn m w e place o c heads ns p
-      → P (conn m c) (move_of place heads ns o p) → IsStepOf P m (told w e (behind e) place o) e
-  unfolding told
+      → P (conn m c) (move_of place heads ns o p) → IsStepOf P m (machine_told w e (behind e) place o) e
+  unfolding machine_told
   one-acts w e place o c heads ns p act does = record {
     events = ap (λ i. i + 1) act.put.events;
     adds = said_rows (behind e) m.net place o.notes o.segments o.gave o.messages o.timers;
@@ -111,9 +111,9 @@ module _ (m : Machine) (P : Conn → Move → Type 0) where
     }));
   }
 
-  many-act : (w : Machine) (e : Event) (place : Place) (o : Out) (moving : List Moving) → IsMachine place → IsAct m w e place o → AreApart moving → Each (λ x. IsNumber x.c × P (conn m x.c) x.move) moving
-      → o.timers ≡ timers_in m moving → IsStepOf P m (told w e (behind e) place o) e
-  unfolding told
+  many-act : (w : Machine) (e : Event) (place : Place) (o : Out) (moving : List Moving) → IsMachine place → IsAct m w e place o → AreApart moving → Each (λ x. IsConnNumber x.c × P (conn m x.c) x.move) moving
+      → o.timers ≡ timers_in m moving → IsStepOf P m (machine_told w e (behind e) place o) e
+  unfolding machine_told
   many-act w e place o moving machine act apart moves timers = record {
     events = ap (λ i. i + 1) act.put.events;
     adds = said_rows (behind e) m.net place o.notes o.segments o.gave o.messages o.timers;
@@ -122,7 +122,7 @@ module _ (m : Machine) (P : Conn → Move → Type 0) where
   }
 
   two-move : (w : Machine) (e : Event) (a b z : Out) (rows : List Rec) (c d : ℕ) (heads : List Seen) (ns : List Rec) (p r : Part) → ActsOnTwo m w e a b z rows c d heads ns p r
-      → P (conn m c) (move_of Front heads ns (with_rest a z) p) → P (conn m d) (move_of Front [] b.notes b r) → IsStepOf P m (told w e (behind e) Front (both_out a b z rows)) e
+      → P (conn m c) (move_of Front heads ns (with_rest a z) p) → P (conn m d) (move_of Front [] b.notes b r) → IsStepOf P m (machine_told w e (behind e) Front (both_out a b z rows)) e
   two-move w e a b z rows c d heads ns p r act does too =
       let x : Moving = record { c = c; move = move_of Front heads ns (with_rest a z) p } in
       let y : Moving = record { c = d; move = move_of Front [] b.notes b r } in
@@ -149,7 +149,7 @@ module _ (m : Machine) (P : Conn → Move → Type 0) where
   rising-apart place (x ∷ xs) h = (apart-behind place x.c xs h.0, rising-apart place xs h.1)
 
   movers-move : (w : Machine) (place : Place) (xs : List Mover) → Each (IsMover m w place) xs → Each (λ x. P (conn m x.c) (mover_move place x)) xs
-      → Each (λ x. IsNumber x.c × P (conn m x.c) x.move) (map (moving_of place) xs)
+      → Each (λ x. IsConnNumber x.c × P (conn m x.c) x.move) (map (moving_of place) xs)
   movers-move w place [] h made = tt
   movers-move w place (x ∷ xs) h made = ((h.0.number, made.0), movers-move w place xs h.1 made.1)
 
@@ -158,7 +158,7 @@ module _ (m : Machine) (P : Conn → Move → Type 0) where
   movers-timers w place (x ∷ xs) h = λ i. h.0.timers i ++ movers-timers w place xs h.1 i
 
   each-move : (w : Machine) (e : Event) (place : Place) (notes : List Rec) (xs : List Mover) → ActsOnEach m w e place notes xs → Each (λ x. P (conn m x.c) (mover_move place x)) xs
-      → IsStepOf P m (told w e (behind e) place (each_out notes xs)) e
+      → IsStepOf P m (machine_told w e (behind e) place (each_out notes xs)) e
   each-move w e place notes xs act made = many-act w e place (each_out notes xs) (map (moving_of place) xs) act.machine (each-act m w e place notes xs act) (rising-apart place xs act.rising)
       (movers-move w place xs act.movers made) (movers-timers w place xs act.movers)
 

@@ -9,7 +9,7 @@ use Rattle.lard_base.specs.declared.place.Place.{Place}
 use Rattle.lard_base.specs.declared.place.Place.TheVariants.{Front, Node}
 use Rattle.lard_rules.specs.declared.machine.Machine.{Machine}
 use Rattle.lard_rules.specs.Bounds.{HasRule}
-use Rattle.lard_rules.specs.Machine.{clocked, machine_step, node_at, passed, segments_sent, told, told_rows}
+use Rattle.lard_rules.specs.Machine.{clocked, machine_step, node_at, passed, segments_sent, machine_told, told_rows}
 use Rattle.lard_law_view.specs.View.{IsViewed}
 use Rattle.lard_law_view.proofs.AnyShape.{AnyShape, IsAct, SomeGift, SomeNote, SomeTimer, step-any}
 use Rattle.lard_law_view.proofs.Saying.{GaveAt, IsStill, gave-still, note-still}
@@ -117,8 +117,8 @@ own_first r own rest notes S G M T e =
 -- ---- a step
 
 module _ (m : Machine) (known : net_of m.journal ≡ m.net) where
-  told-after : (w : Machine) (e : Event) (place : Place) (o : Out) → IsAct m w e place o → IsAfter m e (told w e (behind e) place o)
-  unfolding told
+  told-after : (w : Machine) (e : Event) (place : Place) (o : Out) → IsAct m w e place o → IsAfter m e (machine_told w e (behind e) place o)
+  unfolding machine_told
   told-after w e place o act =
       let put : IsPut m w = act.put in
       let has : HasOwn e (behind e ++ o.notes) = act.first in

@@ -9,8 +9,8 @@ use Rattle.lard_base.specs.declared.event.Event.TheVariants as event
 use Rattle.lard_base.specs.declared.place.Place.{Place}
 use Rattle.lard_base.specs.declared.place.Place.TheVariants.{Front, Node}
 use Rattle.lard_rules.specs.declared.machine.Machine.{Machine}
-use Rattle.lard_rules.specs.Bounds.{HasRule, IsNumber}
-use Rattle.lard_rules.specs.Machine.{clocked, machine_step, passed, told}
+use Rattle.lard_rules.specs.Bounds.{HasRule, IsConnNumber}
+use Rattle.lard_rules.specs.Machine.{clocked, machine_step, passed, machine_told}
 use Rattle.lard_law_view.specs.View.{Conn, GoesBetween, IsViewed, Move, Part, part_of, setting_of, timer_rows}
 use Rattle.lard_law_view.proofs.Fine.{IsFine, fine}
 use Rattle.lard_law_view.proofs.Heads.{ActsAt, Begins}
@@ -31,7 +31,7 @@ use Rattle.lard_law_view.proofs.OwnRecords.{behind}
 -- ---- of some connection
 
 abbrev pub SomeNote : Place → Rec → Type 0
-SomeNote place r = (c : ℕ) × IsNumber c × NotedAt place c r
+SomeNote place r = (c : ℕ) × IsConnNumber c × NotedAt place c r
 
 abbrev pub SomeGift : Place → Rec → Type 0
 SomeGift place r = (c : ℕ) × GaveAt place c r
@@ -40,7 +40,7 @@ abbrev pub SomeTimer : Place → Rec → Type 0
 SomeTimer place r = (c : ℕ) × IsTimerAt place c r
 
 abbrev pub SomeSent : Place → Place × List ℕ → Type 0
-SomeSent place s = (c : ℕ) × IsNumber c × GoesBetween c place s.0 s.1
+SomeSent place s = (c : ℕ) × IsConnNumber c × GoesBetween c place s.0 s.1
 
 -- A place acts, and w is m with what it keeps put back.
 pub record IsAct (m w : Machine) (e : Event) (place : Place) (o : Out) : Type 0 where
@@ -80,7 +80,7 @@ none-counts place n (r ∷ rs) h = ap (λ k. fold answered_step k rs) (nobody-co
 
 -- ---- of one connection
 
-some-notes : (place : Place) (c : ℕ) (rs : List Rec) → IsNumber c → Each (NotedAt place c) rs → Each (SomeNote place) rs
+some-notes : (place : Place) (c : ℕ) (rs : List Rec) → IsConnNumber c → Each (NotedAt place c) rs → Each (SomeNote place) rs
 some-notes place c rs number h = Each-weaker (NotedAt place c) (SomeNote place) (λ r k. (c, number, k)) rs h
 
 some-gifts : (place : Place) (c : ℕ) (rs : List Rec) → Each (GaveAt place c) rs → Each (SomeGift place) rs
@@ -89,10 +89,10 @@ some-gifts place c rs h = Each-weaker (GaveAt place c) (SomeGift place) (λ r k.
 some-timers : (place : Place) (c : ℕ) (p q : Part) (rs : List Rec) → rs ≡ timer_rows place c p q → Each (SomeTimer place) rs
 some-timers place c p q rs e = subst (Each (SomeTimer place)) (sym e) (Each-weaker (IsTimerAt place c) (SomeTimer place) (λ r k. (c, k)) (timer_rows place c p q) (timer_rows-are place c p q))
 
-some-sents : (place : Place) (c : ℕ) (ss : List (Place × List ℕ)) → IsNumber c → AllBetween c place ss → Each (SomeSent place) ss
+some-sents : (place : Place) (c : ℕ) (ss : List (Place × List ℕ)) → IsConnNumber c → AllBetween c place ss → Each (SomeSent place) ss
 some-sents place c ss number h = Each-weaker (λ s. GoesBetween c place s.0 s.1) (SomeSent place) (λ s k. (c, number, k)) ss h
 
-some-messages : (place : Place) (c : ℕ) (ss : List (Place × List ℕ)) → IsNumber c → AreMessages c place ss → Each (SomeSent place) ss
+some-messages : (place : Place) (c : ℕ) (ss : List (Place × List ℕ)) → IsConnNumber c → AreMessages c place ss → Each (SomeSent place) ss
 some-messages place c ss number h = some-sents place c ss number (messages-between c place ss h)
 
 -- ---- lists, one behind another
@@ -175,7 +175,7 @@ module _ (m w : Machine) (e : Event) where
 
 -- Q is so of each step in which a place acts, and of each in which none does.
 pub record AnyShape (m : Machine) (Q : Event → Machine → Type 0) : Type 0 where
-  pub acts : (w : Machine) (e : Event) (place : Place) (o : Out) → IsAct m w e place o → Q e (told w e (behind e) place o)
+  pub acts : (w : Machine) (e : Event) (place : Place) (o : Out) → IsAct m w e place o → Q e (machine_told w e (behind e) place o)
   pub nobody : (k : ℕ) (l : Packet) → packet_at m.net k ≡ Some l → (l.lost ≡ false) × IsNobodyAt m l.to × IsUnheardAt m l → Q (event.Deliver k) (passed m (event.Deliver k) (rec.Got k ∷ []))
   pub loses : (k : ℕ) (l : Packet) → packet_at m.net k ≡ Some l → l.lost ≡ false → Q (event.Lose k) (passed (record m { net = lose_at (k - 1) m.net }) (event.Lose k) (rec.Lost k ∷ []))
   pub clocks : (ms : ℕ) → Q (event.Clock ms) (clocked m ms)

@@ -10,7 +10,7 @@ use Rattle.lard_history.proofs.Each.{Each, Each-append}
 use Rattle.lard_segment.specs.Checksum.{checksum_of}
 use Rattle.lard_segment.specs.declared.segment.Dir.{Dir}
 use Rattle.lard_segment.specs.declared.segment.Flags.{Flags}
-use Rattle.lard_segment.specs.Fields.{flag_byte, source_port, target_port}
+use Rattle.lard_segment.specs.Fields.{flags_byte, source_port, target_port}
 use Rattle.lard_segment.specs.Options.{option_bytes}
 use Rattle.lard_segment.specs.Segment.{Said, decoded, fixed_bytes, spelled, with_checksum}
 use Rattle.lard_segment.proofs.Decoded.{decoded-read}
@@ -96,7 +96,7 @@ cond-most true n = omega arith
 cond-most false n = omega arith
 
 -- the control bits are one byte
-flag-byte : (f : Flags) → flag_byte f < 256
+flag-byte : (f : Flags) → flags_byte f < 256
 flag-byte f =
     let a = cond-most f.fin 1 in
     let b = cond-most f.syn 2 in
@@ -116,7 +116,7 @@ bytes-fixed dir s begins checksum small =
     bytes-append (to_be_bytes w16 s.wnd ++ to_be_bytes w16 checksum) (to_be_bytes w16 0)
     (bytes-append (to_be_bytes w16 s.wnd) (to_be_bytes w16 checksum) (bytes-16 s.wnd) (bytes-16 checksum)) (bytes-16 0) in
     bytes-append (to_be_bytes w16 (source_port dir) ++ to_be_bytes w16 (target_port dir) ++ to_be_bytes w32 s.seq ++ to_be_bytes w32 s.ack)
-    (begins / 4 * 16 ∷ flag_byte s.flags ∷ to_be_bytes w16 s.wnd ++ to_be_bytes w16 checksum ++ to_be_bytes w16 0)
+    (begins / 4 * 16 ∷ flags_byte s.flags ∷ to_be_bytes w16 s.wnd ++ to_be_bytes w16 checksum ++ to_be_bytes w16 0)
     numbers (omega (arith, small), (flag-byte s.flags, rest))
 
 -- the segment with some checksum

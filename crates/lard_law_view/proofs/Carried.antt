@@ -3,11 +3,11 @@ use Rattle.std.proofs.Common.{◌≡◌, ℕ, List, [], ◌∷◌, ◌++◌, Som
 use Rattle.lard_base.specs.declared.config.Config.{Config}
 use Rattle.lard_base.specs.declared.event.Event.{Event}
 use Rattle.lard_rules.specs.declared.machine.Machine.{Machine}
-use Rattle.lard_rules.specs.Bounds.{HasRule, IsNumber}
-use Rattle.lard_rules.specs.Machine.{IsReached, machine_step, start}
-use Rattle.lard_law_view.specs.Carry.{MayMove, setting}
+use Rattle.lard_rules.specs.Bounds.{HasRule, IsConnNumber}
+use Rattle.lard_rules.specs.Machine.{IsReached, machine_step, machine_start}
+use Rattle.lard_law_view.specs.Carry.{MayRestOn, setting}
 use Rattle.lard_law_view.specs.Laws.{Carries, IsViewedAlways, StepsMove}
-use Rattle.lard_law_view.specs.View.{AreNumbered, Conn, Goes, IsSound, IsViewed, Move, Rules, Setting, blank, conn, grown, setting_of}
+use Rattle.lard_law_view.specs.View.{AreNumbered, Conn, GoesBy, IsConnSound, IsViewed, Move, Rules, Setting, blank_conn, conn, grown, setting_of}
 use Rattle.lard_law_view.proofs.After.{IsAfter, step-after}
 use Rattle.lard_law_view.proofs.Fine.{IsFine, fine}
 use Rattle.lard_law_view.proofs.Runs.{length-replicated, of-nodes, passes-keep, passes-more, start-blank}
@@ -26,7 +26,7 @@ step_moves m n e P view R rule is q = ⊎_elim
 -- ---- what the view rests on
 
 -- what holds of x, and of a connection where it goes
-pub gone : (Inv : Conn → Type 0) (P : Conn → Move → Type 0) (x y : Conn) → Inv x → ((v : Move) → P x v → Inv (grown x v)) → Goes P x y → Inv y
+pub gone : (Inv : Conn → Type 0) (P : Conn → Move → Type 0) (x y : Conn) → Inv x → ((v : Move) → P x v → Inv (grown x v)) → GoesBy P x y → Inv y
 gone Inv P x y held grows goes = ⊎_elim
     (λ (same : y ≡ x). subst Inv (sym same) held)
     (λ (k : (v : Move) × P x v × (y ≡ grown x v)). subst Inv (sym k.2) (grows k.0 k.1))
@@ -37,18 +37,18 @@ viewed-kept m n e view rule is =
     let after : IsAfter m e n = step-after m view e n rule is in
     let goes = step_moves m n e IsFine view (fine (setting_of m)) rule is in
     record {
-      sound = λ q. gone IsSound (λ x v. IsNumber x.c × IsFine x v) (conn m q) (conn n q) (view.sound q) (λ v good. (good.1 good.0 (view.sound q)).1) (goes q);
+      sound = λ q. gone IsConnSound (λ x v. IsConnNumber x.c × IsFine x v) (conn m q) (conn n q) (view.sound q) (λ v good. (good.1 good.0 (view.sound q)).1) (goes q);
       told = after.told;
       nodes = after.nodes ∙ view.nodes ∙ ap (λ (c : Config). c.nodes) (sym after.config);
       jobs = after.jobs view.jobs;
     }
 
-blank-sound : (c : ℕ) → IsSound (blank c)
+blank-sound : (c : ℕ) → IsConnSound (blank_conn c)
 blank-sound c = record { number = inr refl; between = tt; client = λ s e. let no : None ≡ Some s = e in absurd cc; front = tt; kept = λ n. tt; fetches = λ n. tt }
 
-pub start-viewed : (config : Config) (files : List (List ℕ × List ℕ)) → IsViewed (start config files)
+pub start-viewed : (config : Config) (files : List (List ℕ × List ℕ)) → IsViewed (machine_start config files)
 start-viewed config files = record {
-  sound = λ q. subst IsSound (sym (start-blank config files q)) (blank-sound q);
+  sound = λ q. subst IsConnSound (sym (start-blank config files q)) (blank-sound q);
   told = refl;
   nodes = length-replicated (no_stays config.cache) config.nodes;
   jobs = λ n s at. of-nodes (λ o. o ≡ Some s → AreNumbered s.disk) config.nodes (no_stays config.cache)
@@ -58,7 +58,7 @@ start-viewed config files = record {
 }
 
 pub reached-viewed : IsViewedAlways
-reached-viewed config files m r = passes-keep IsViewed viewed-kept r.0 (start config files) m r.1 (start-viewed config files)
+reached-viewed config files m r = passes-keep IsViewed viewed-kept r.0 (machine_start config files) m r.1 (start-viewed config files)
 
 -- ---- laws
 
@@ -75,29 +75,29 @@ module _ (config : Config) (files : List (List ℕ × List ℕ)) where
 
   on-more : (m n : Machine) (e : Event) → IsOn m → HasRule e → machine_step m e ≡ Ok n → IsOn n
   on-more m n e on rule is = let after : IsAfter m e n = step-after m on.view e n rule is in record {
-    reached = (on.reached.0 ++ e ∷ [], passes-more on.reached.0 (start config files) m n e on.reached.1 rule is);
+    reached = (on.reached.0 ++ e ∷ [], passes-more on.reached.0 (machine_start config files) m n e on.reached.1 rule is);
     view = viewed-kept m n e on.view rule is;
     config_is = after.config ∙ on.config_is;
     files_are = after.files ∙ on.files_are;
   }
 
-  on-start : IsOn (start config files)
+  on-start : IsOn (machine_start config files)
   on-start = record { reached = ([], refl); view = start-viewed config files; config_is = refl; files_are = refl }
 
   -- what each step keeps of a state that events lead to
-  pub carried-keep : (P : Machine → Type 0) → P (start config files) → ((m n : Machine) (e : Event) → IsOn m → P m → HasRule e → machine_step m e ≡ Ok n → P n)
+  pub carried-keep : (P : Machine → Type 0) → P (machine_start config files) → ((m n : Machine) (e : Event) → IsOn m → P m → HasRule e → machine_step m e ≡ Ok n → P n)
       → (m : Machine) → IsReached config files m → P m
   carried-keep P begins step m r = (passes-keep (λ k. IsOn k × P k)
       (λ k n e h rule is. (on-more k n e h.0 rule is, step k n e h.0 h.1 rule is))
-      r.0 (start config files) m r.1 (on-start, begins)).1
+      r.0 (machine_start config files) m r.1 (on-start, begins)).1
 
   -- each connection goes by a rule of the settings
   pub goes-on : (P : Conn → Move → Type 0) → Rules (setting config files) P → (m n : Machine) (e : Event) → IsOn m → HasRule e → machine_step m e ≡ Ok n
-      → (q : ℕ) → Goes (λ x v. IsNumber x.c × P x v) (conn m q) (conn n q)
+      → (q : ℕ) → GoesBy (λ x v. IsConnNumber x.c × P x v) (conn m q) (conn n q)
   goes-on P R m n e on rule is q = step_moves m n e P on.view (subst (λ (s : Setting). Rules s P) (on-setting m on) R) rule is q
 
 -- what holds where a connection moves
-pub may-move : (Given : Conn → Type 0) (x : Conn) → IsNumber x.c → IsSound x → Given x → MayMove Given x
+pub may-move : (Given : Conn → Type 0) (x : Conn) → IsConnNumber x.c → IsConnSound x → Given x → MayRestOn Given x
 may-move Given x number sound given = record { number = number; sound = sound; given = given }
 
 pub carried : Carries
@@ -105,7 +105,7 @@ unfolding conn
 carried config files Given Inv law given m r = carried-keep config files (λ k. (q : ℕ) → Inv (conn k q))
     (λ q. subst Inv (sym (start-blank config files q)) (law.begins q))
     (λ k n e on h rule is q.
-    let P : Conn → Move → Type 0 = λ x v. MayMove Given x → Inv x → Inv (grown x v) in
-    gone Inv (λ x v. IsNumber x.c × P x v) (conn k q) (conn n q) (h q) (λ v does. does.1 (may-move Given (conn k q) does.0 (on.view.sound q) (given k on.reached q)) (h q))
+    let P : Conn → Move → Type 0 = λ x v. MayRestOn Given x → Inv x → Inv (grown x v) in
+    gone Inv (λ x v. IsConnNumber x.c × P x v) (conn k q) (conn n q) (h q) (λ v does. does.1 (may-move Given (conn k q) does.0 (on.view.sound q) (given k on.reached q)) (h q))
     (goes-on config files P law.moves k n e on rule is q))
     m r

@@ -5,14 +5,14 @@ use Rattle.lard_arrival.specs.Arrival.{is_acceptable, is_allowed, bare, peer_mss
 use Rattle.lard_client.specs.declared.heard.Heard.{Heard}
 use Rattle.lard_client.specs.declared.phase.Phase.{Phase}
 use Rattle.lard_client.specs.declared.phase.Phase.TheVariants.{Open, Aborted, Reset}
-use Rattle.lard_client.specs.Control.{ClientBlock, IsClientBlock, is_open, is_established, is_writing, rcv_nxt, rcv_wnd, opened, written, shut_down, held_on, taken, aborted}
-use Rattle.lard_client.specs.Leaving.{syn_ready, data_ready, piece_ready, ack_ready, reset_ready, refusal, told, owes, owed_ready, after_owed, ready_of, after_piece, emitted, after_emit, timed, after_timer, abort_ready, filled}
-use Rattle.lard_client.specs.Arriving.{nothing, owing, reset_by_peer, begins_after, fresh_len, ends, accepting, part_of, on_fresh, on_text, on_ack, on_syn, on_rst, on_unacceptable, on_segment, answers_syn, established, on_greeting, heard_open, heard_in, arrived}
+use Rattle.lard_client.specs.Control.{ClientBlock, IsClientBlock, is_client_open, is_established, is_writing, client_rcv_nxt, client_rcv_wnd, client_opened, client_written, shut_down, held_on, client_taken, aborted}
+use Rattle.lard_client.specs.Leaving.{syn_ready, data_ready, client_piece_ready, client_ack_ready, reset_ready, client_refusal, client_told, client_owes, client_owed_ready, client_after_owed, client_ready_of, client_after_piece, client_emitted, client_after_emit, client_timed, client_after_timer, abort_ready, client_filled}
+use Rattle.lard_client.specs.Arriving.{heard_nothing, client_owing, reset_by_peer, client_begins_after, fresh_len, client_ends, accepting, client_part_of, on_fresh, client_on_text, client_on_ack, client_on_syn, client_on_rst, client_on_unacceptable, client_on_segment, answers_syn, established, on_greeting, heard_open, heard_in, client_arrived}
 use Rattle.lard_client.proofs.Accepted.{no_reply}
 use Rattle.lard_segment.specs.declared.segment.Ready.{Ready}
 use Rattle.lard_segment.specs.Segment.{Said}
 use Rattle.lard_send.specs.declared.piece.Piece.{Piece}
-use Rattle.lard_send.specs.Send.{Sending, queued_too, closed, introduced, next_piece, after_next, resent_piece, after_resend, after_ack}
+use Rattle.lard_send.specs.Send.{Sending, queued_too, send_closed, introduced, next_piece, after_next, resent_piece, after_resend, after_ack}
 use Rattle.lard_seq.specs.Seq.{seq_offset}
 use Rattle.lard_law_view.specs.Truth.{Stream, GoesOn, Speaks, Accepts, stream_of}
 use Rattle.lard_law_view.proofs.Pieces.{Carries, Fair, bare-true, piece_size, piece-true, next-carries, resent-carries}
@@ -21,29 +21,29 @@ use Rattle.lard_law_view.proofs.Speaking.{SpeaksAs, Continues, next-moves, resen
 -- ---- what it sends
 
 -- an ACK alone says nothing of its bytes, nor does a reset
-ack-fair : (x : Stream) (b : ClientBlock) → b.wnd < 2 ^ 16 → Fair x (filled (told b) (ack_ready b))
+ack-fair : (x : Stream) (b : ClientBlock) → b.wnd < 2 ^ 16 → Fair x (client_filled (client_told b) (client_ack_ready b))
 ack-fair x b w = (
-  bare-true x (filled (told b) (ack_ready b)) (λ e. absurd (cc)) refl refl,
+  bare-true x (client_filled (client_told b) (client_ack_ready b)) (λ e. absurd (cc)) refl refl,
   record { seq_fits = omega arith; ack_fits = omega arith; wnd_fits = omega arith; some_mss = tt; small_mss = tt; small_payload = omega arith; no_ack = λ e. absurd (cc) },
 )
 
-reset-fair : (x : Stream) (b d : ClientBlock) → Fair x (filled d (reset_ready b))
+reset-fair : (x : Stream) (b d : ClientBlock) → Fair x (client_filled d (reset_ready b))
 reset-fair x b d = (
-  bare-true x (filled d (reset_ready b)) (λ e. absurd (cc)) refl refl,
+  bare-true x (client_filled d (reset_ready b)) (λ e. absurd (cc)) refl refl,
   record { seq_fits = omega arith; ack_fits = omega arith; wnd_fits = omega arith; some_mss = tt; small_mss = tt; small_payload = omega arith; no_ack = λ e. absurd (cc) },
 )
 
-refusal-fair : (x : Stream) (b d : ClientBlock) (ack : ℕ) → ack < 2 ^ 32 → Fair x (filled d (refusal b ack))
+refusal-fair : (x : Stream) (b d : ClientBlock) (ack : ℕ) → ack < 2 ^ 32 → Fair x (client_filled d (client_refusal b ack))
 refusal-fair x b d ack n = (
-  bare-true x (filled d (refusal b ack)) (λ e. absurd (cc)) refl refl,
+  bare-true x (client_filled d (client_refusal b ack)) (λ e. absurd (cc)) refl refl,
   record { seq_fits = n; ack_fits = omega arith; wnd_fits = omega arith; some_mss = tt; small_mss = tt; small_payload = omega arith; no_ack = λ e. refl },
 )
 
 module _ (b : ClientBlock) (bytes : List ℕ) (sound : IsClientBlock b) (wide : b.wnd < 2 ^ 16) (h : Speaks b.send bytes) where
   -- a piece's segment, whatever NXT is then
-  piece-fair : (p : Piece) (n : ℕ) → Carries b.send p → Fair (stream_of b.send bytes) (filled (told (record b { send = record b.send { nxt = n } })) (piece_ready b p))
+  piece-fair : (p : Piece) (n : ℕ) → Carries b.send p → Fair (stream_of b.send bytes) (client_filled (client_told (record b { send = record b.send { nxt = n } })) (client_piece_ready b p))
   piece-fair p n k = go p.syn refl where
-    go : (syn : Bool) → p.syn ≡ syn → Fair (stream_of b.send bytes) (filled (told (record b { send = record b.send { nxt = n } })) (cond syn (syn_ready b) (data_ready b p)))
+    go : (syn : Bool) → p.syn ≡ syn → Fair (stream_of b.send bytes) (client_filled (client_told (record b { send = record b.send { nxt = n } })) (cond syn (syn_ready b) (data_ready b p)))
     go true e = (
       bare-true (stream_of b.send bytes) _ (λ f. refl) refl refl,
       record { seq_fits = h.number; ack_fits = omega arith; wnd_fits = omega arith; some_mss = sound.some_mss; small_mss = sound.small_mss; small_payload = omega arith; no_ack = λ f. refl },
@@ -51,30 +51,30 @@ module _ (b : ClientBlock) (bytes : List ℕ) (sound : IsClientBlock b) (wide : 
     go false e =
         let size = piece_size b.send bytes p h k in
         let small = k.small in (
-          piece-true b.send bytes p h k (rcv_nxt b) (rcv_wnd b) _ None refl refl,
+          piece-true b.send bytes p h k (client_rcv_nxt b) (client_rcv_wnd b) _ None refl refl,
           record { seq_fits = omega arith; ack_fits = omega arith; wnd_fits = omega arith; some_mss = tt; small_mss = tt; small_payload = omega arith; no_ack = λ f. absurd (cc) },
         )
 
-  next-fair : (p : Piece) → Carries b.send p → Fair (stream_of b.send bytes) (filled (told (record b { send = after_next b.send })) (piece_ready b p))
-  next-fair p k = subst (λ (t : Sending). Fair (stream_of b.send bytes) (filled (told (record b { send = t })) (piece_ready b p)))
+  next-fair : (p : Piece) → Carries b.send p → Fair (stream_of b.send bytes) (client_filled (client_told (record b { send = after_next b.send })) (client_piece_ready b p))
+  next-fair p k = subst (λ (t : Sending). Fair (stream_of b.send bytes) (client_filled (client_told (record b { send = t })) (client_piece_ready b p)))
       (sym (next-moves b.send)) (piece-fair p (after_next b.send).nxt k)
 
-  resend-fair : (p : Piece) → Carries b.send p → Fair (stream_of b.send bytes) (filled (told (record b { send = after_resend b.send })) (piece_ready b p))
-  resend-fair p k = subst (λ (t : Sending). Fair (stream_of b.send bytes) (filled (told (record b { send = t })) (piece_ready b p)))
+  resend-fair : (p : Piece) → Carries b.send p → Fair (stream_of b.send bytes) (client_filled (client_told (record b { send = after_resend b.send })) (client_piece_ready b p))
+  resend-fair p k = subst (λ (t : Sending). Fair (stream_of b.send bytes) (client_filled (client_told (record b { send = t })) (client_piece_ready b p)))
       (sym (resend-moves b.send)) (piece-fair p (after_resend b.send).nxt k)
 
   abbrev AllFair : Option Ready → ClientBlock → Type 0
-  AllFair o d = IfSome o (λ r. Fair (stream_of b.send bytes) (filled d r))
+  AllFair o d = IfSome o (λ r. Fair (stream_of b.send bytes) (client_filled d r))
 
-  owed-fair : (owed : Bool) → AllFair (cond owed (Some (ack_ready b)) None) (cond owed (told b) b)
+  owed-fair : (owed : Bool) → AllFair (cond owed (Some (client_ack_ready b)) None) (cond owed (client_told b) b)
   owed-fair true = ack-fair (stream_of b.send bytes) b wide
   owed-fair false = tt
 
-  next-all : (o : Option Piece) → next_piece b.send ≡ o → AllFair (ready_of b o (owed_ready b)) (after_piece (record b { send = after_next b.send }) o (after_owed b))
+  next-all : (o : Option Piece) → next_piece b.send ≡ o → AllFair (client_ready_of b o (client_owed_ready b)) (client_after_piece (record b { send = after_next b.send }) o (client_after_owed b))
   next-all (Some p) e = next-fair p (next-carries b.send p h.sound e)
-  next-all None e = owed-fair (owes b)
+  next-all None e = owed-fair (client_owes b)
 
-  resend-all : (o : Option Piece) → resent_piece b.send ≡ o → AllFair (ready_of b o None) (after_piece (record b { send = after_resend b.send }) o b)
+  resend-all : (o : Option Piece) → resent_piece b.send ≡ o → AllFair (client_ready_of b o None) (client_after_piece (record b { send = after_resend b.send }) o b)
   resend-all (Some p) e = resend-fair p (resent-carries b.send p h.sound e)
   resend-all None e = tt
 
@@ -82,27 +82,27 @@ module _ (b : ClientBlock) (bytes : List ℕ) (sound : IsClientBlock b) (wide : 
   if_open true o d f = tt
   if_open false o d f = f
 
-  pub emitted-fair : (r : Ready) → emitted b ≡ Some r → Fair (stream_of b.send bytes) (filled (after_emit b) r)
-  emitted-fair r e = subst (λ (o : Option Ready). AllFair o (after_emit b)) e (if_open (not (is_open b)) _ _ (next-all (next_piece b.send) refl))
+  pub emitted-fair : (r : Ready) → client_emitted b ≡ Some r → Fair (stream_of b.send bytes) (client_filled (client_after_emit b) r)
+  emitted-fair r e = subst (λ (o : Option Ready). AllFair o (client_after_emit b)) e (if_open (not (is_client_open b)) _ _ (next-all (next_piece b.send) refl))
 
-  pub timed-fair : (r : Ready) → timed b ≡ Some r → Fair (stream_of b.send bytes) (filled (after_timer b) r)
-  timed-fair r e = subst (λ (o : Option Ready). AllFair o (after_timer b)) e (if_open (not (is_open b)) _ _ (resend-all (resent_piece b.send) refl))
+  pub timed-fair : (r : Ready) → client_timed b ≡ Some r → Fair (stream_of b.send bytes) (client_filled (client_after_timer b) r)
+  timed-fair r e = subst (λ (o : Option Ready). AllFair o (client_after_timer b)) e (if_open (not (is_client_open b)) _ _ (resend-all (resent_piece b.send) refl))
 
-pub abort-fair : (x : Stream) (b : ClientBlock) (r : Ready) → abort_ready b ≡ Some r → Fair x (filled (aborted b) r)
+pub abort-fair : (x : Stream) (b : ClientBlock) (r : Ready) → abort_ready b ≡ Some r → Fair x (client_filled (aborted b) r)
 abort-fair x b r e =
-    let P : Option Ready → Type 0 = λ o. IfSome o (λ q. Fair x (filled (aborted b) q)) in
-    subst P e (cond_both (is_open b && is_established b) (Some (reset_ready b)) None P (λ t. reset-fair x b (aborted b)) (λ t. tt))
+    let P : Option Ready → Type 0 = λ o. IfSome o (λ q. Fair x (client_filled (aborted b) q)) in
+    subst P e (cond_both (is_client_open b && is_established b) (Some (reset_ready b)) None P (λ t. reset-fair x b (aborted b)) (λ t. tt))
 
 -- a reply, which only an aborted client gives
-phase-reply : (x : Stream) (p : Phase) (b : ClientBlock) (s : Said) → s.ack < 2 ^ 32 → IfSome (heard_in p b s).0.reply (λ r. Fair x (filled (heard_in p b s).1 r))
-phase-reply x Open b s n = no_reply b s (heard_open b s).0 (heard_open b s).1 (λ r. Fair x (filled (heard_open b s).1 r)) refl
-phase-reply x Aborted b s n = cond_both (s.flags.ack && not s.flags.rst) (Some (refusal b s.ack)) None (λ (o : Option Ready). IfSome o (λ r. Fair x (filled b r)))
+phase-reply : (x : Stream) (p : Phase) (b : ClientBlock) (s : Said) → s.ack < 2 ^ 32 → IfSome (heard_in p b s).0.reply (λ r. Fair x (client_filled (heard_in p b s).1 r))
+phase-reply x Open b s n = no_reply b s (heard_open b s).0 (heard_open b s).1 (λ r. Fair x (client_filled (heard_open b s).1 r)) refl
+phase-reply x Aborted b s n = cond_both (s.flags.ack && not s.flags.rst) (Some (client_refusal b s.ack)) None (λ (o : Option Ready). IfSome o (λ r. Fair x (client_filled b r)))
     (λ t. refusal-fair x b b s.ack n) (λ t. tt)
 phase-reply x Reset b s n = tt
 
-pub reply-fair : (x : Stream) (b : ClientBlock) (s : Said) (r : Ready) → s.ack < 2 ^ 32 → (arrived b s).0.reply ≡ Some r → Fair x (filled (arrived b s).1 r)
-unfolding arrived
-reply-fair x b s r n e = subst (λ (o : Option Ready). IfSome o (λ q. Fair x (filled (heard_in b.phase b s).1 q))) e (phase-reply x b.phase b s n)
+pub reply-fair : (x : Stream) (b : ClientBlock) (s : Said) (r : Ready) → s.ack < 2 ^ 32 → (client_arrived b s).0.reply ≡ Some r → Fair x (client_filled (client_arrived b s).1 r)
+unfolding client_arrived
+reply-fair x b s r n e = subst (λ (o : Option Ready). IfSome o (λ q. Fair x (client_filled (heard_in b.phase b s).1 q))) e (phase-reply x b.phase b s n)
 
 -- ---- sending changes neither stream
 accepts-unsent : (x : Stream) (b : ClientBlock) (n : ℕ) → Accepts x b → Accepts x (record b { send = record b.send { nxt = n } })
@@ -112,29 +112,29 @@ module _ (x : Stream) (b : ClientBlock) (bytes : List ℕ) (h : Speaks b.send by
   abbrev Left : ClientBlock → Type 0
   Left d = Speaks d.send bytes × (stream_of d.send bytes ≡ stream_of b.send bytes) × Accepts x d
 
-  told-left : (d : ClientBlock) → Left d → Left (told d)
+  told-left : (d : ClientBlock) → Left d → Left (client_told d)
   told-left d l = (l.0, l.1, record { first = l.2.first; within = l.2.within; final = l.2.final })
 
-  piece-left : (d other : ClientBlock) (p : Option Piece) → Left d → Left other → Left (after_piece d p other)
+  piece-left : (d other : ClientBlock) (p : Option Piece) → Left d → Left other → Left (client_after_piece d p other)
   piece-left d other (Some p) l k = told-left d l
   piece-left d other None l k = k
 
   sent-left : (t : Sending) (n : ℕ) → t ≡ record b.send { nxt = n } → SpeaksAs b.send bytes t → Left (record b { send = t })
   sent-left t n e s = (s.0, s.1, subst (λ (z : Sending). Accepts x (record b { send = z })) (sym e) (accepts-unsent x b n a))
 
-  pub emit-left : Left (after_emit b)
+  pub emit-left : Left (client_after_emit b)
   emit-left =
       let sent = sent-left (after_next b.send) (after_next b.send).nxt (next-moves b.send) (speaks-next b.send bytes h) in
       let unsent : Left b = (h, refl, a) in
-      cond_both (not (is_open b)) b (after_piece (record b { send = after_next b.send }) (next_piece b.send) (after_owed b)) Left (λ t. unsent)
-      (λ t. piece-left (record b { send = after_next b.send }) (after_owed b) (next_piece b.send) sent
-      (cond_both (owes b) (told b) b Left (λ u. told-left b unsent) (λ u. unsent)))
+      cond_both (not (is_client_open b)) b (client_after_piece (record b { send = after_next b.send }) (next_piece b.send) (client_after_owed b)) Left (λ t. unsent)
+      (λ t. piece-left (record b { send = after_next b.send }) (client_after_owed b) (next_piece b.send) sent
+      (cond_both (client_owes b) (client_told b) b Left (λ u. told-left b unsent) (λ u. unsent)))
 
-  pub timer-left : Left (after_timer b)
+  pub timer-left : Left (client_after_timer b)
   timer-left =
       let sent = sent-left (after_resend b.send) (after_resend b.send).nxt (resend-moves b.send) (speaks-resend b.send bytes h) in
       let unsent : Left b = (h, refl, a) in
-      cond_both (not (is_open b)) b (after_piece (record b { send = after_resend b.send }) (resent_piece b.send) b) Left (λ t. unsent)
+      cond_both (not (is_client_open b)) b (client_after_piece (record b { send = after_resend b.send }) (resent_piece b.send) b) Left (λ t. unsent)
       (λ t. piece-left (record b { send = after_resend b.send }) b (resent_piece b.send) sent unsent)
 
 -- ---- a segment arrives
@@ -147,37 +147,37 @@ still b bytes h = continues-as b.send b.send bytes (h, refl)
 -- a FIN that is taken finishes its own side
 fresh-continues : (b : ClientBlock) (bytes : List ℕ) (s : Said) → Speaks b.send bytes → Continuing b bytes (on_fresh b s)
 fresh-continues b bytes s h =
-    cond_both (begins_after b s || b.eof) (nothing, b) (part_of b s, accepting b (fresh_len b s) (ends b s)) (Continuing b bytes) (λ t. still b bytes h)
-    (λ t. cond_both (ends b s) (closed b.send) b.send (Continues b.send bytes) (λ u. speaks-closed b.send bytes h) (λ u. still b bytes h))
+    cond_both (client_begins_after b s || b.eof) (heard_nothing, b) (client_part_of b s, accepting b (fresh_len b s) (client_ends b s)) (Continuing b bytes) (λ t. still b bytes h)
+    (λ t. cond_both (client_ends b s) (send_closed b.send) b.send (Continues b.send bytes) (λ u. speaks-closed b.send bytes h) (λ u. still b bytes h))
 
-text-continues : (b : ClientBlock) (bytes : List ℕ) (s : Said) → Speaks b.send bytes → Continuing b bytes (on_text b s)
+text-continues : (b : ClientBlock) (bytes : List ℕ) (s : Said) → Speaks b.send bytes → Continuing b bytes (client_on_text b s)
 text-continues b bytes s h =
-    cond_both ((length s.payload == 0) && not s.flags.fin) (nothing, b) (on_fresh (owing b) s) (Continuing b bytes)
-    (λ t. still b bytes h) (λ t. fresh-continues (owing b) bytes s h)
+    cond_both ((length s.payload == 0) && not s.flags.fin) (heard_nothing, b) (on_fresh (client_owing b) s) (Continuing b bytes)
+    (λ t. still b bytes h) (λ t. fresh-continues (client_owing b) bytes s h)
 
-ack-continues : (b : ClientBlock) (bytes : List ℕ) (s : Said) → Speaks b.send bytes → Continuing b bytes (on_ack b s)
+ack-continues : (b : ClientBlock) (bytes : List ℕ) (s : Said) → Speaks b.send bytes → Continuing b bytes (client_on_ack b s)
 ack-continues b bytes s h =
     let send = after_ack b.send s.ack s.seq s.wnd in
     let acked : ClientBlock = record b { send = send } in
     let beyond = nat_lt b.send.nxt (seq_offset s.ack b.send.iss) in
     let kept = speaks-ack b.send bytes s.ack s.seq s.wnd h in
-    cond_both (not s.flags.ack) (nothing, b) (cond beyond (nothing, owing b) (on_text acked s)) (Continuing b bytes) (λ t. still b bytes h)
-    (λ t. cond_both beyond (nothing, owing b) (on_text acked s) (Continuing b bytes) (λ u. still b bytes h)
-    (λ u. continues-behind b.send send (on_text acked s).1.send bytes kept (text-continues acked bytes s kept.0)))
+    cond_both (not s.flags.ack) (heard_nothing, b) (cond beyond (heard_nothing, client_owing b) (client_on_text acked s)) (Continuing b bytes) (λ t. still b bytes h)
+    (λ t. cond_both beyond (heard_nothing, client_owing b) (client_on_text acked s) (Continuing b bytes) (λ u. still b bytes h)
+    (λ u. continues-behind b.send send (client_on_text acked s).1.send bytes kept (text-continues acked bytes s kept.0)))
 
-segment-continues : (b : ClientBlock) (bytes : List ℕ) (s : Said) → Speaks b.send bytes → Continuing b bytes (on_segment b s)
+segment-continues : (b : ClientBlock) (bytes : List ℕ) (s : Said) → Speaks b.send bytes → Continuing b bytes (client_on_segment b s)
 segment-continues b bytes s h =
     let P : Heard × ClientBlock → Type 0 = Continuing b bytes in
-    let reset : Heard × ClientBlock = cond (s.seq == rcv_nxt b) (nothing, reset_by_peer b) (nothing, owing b) in
-    let dropped : Heard × ClientBlock = cond s.flags.rst (nothing, b) (nothing, owing b) in
+    let reset : Heard × ClientBlock = cond (s.seq == client_rcv_nxt b) (heard_nothing, reset_by_peer b) (heard_nothing, client_owing b) in
+    let dropped : Heard × ClientBlock = cond s.flags.rst (heard_nothing, b) (heard_nothing, client_owing b) in
     let none = still b bytes h in
-    cond_both (is_acceptable (rcv_nxt b) (rcv_wnd b) s) (on_rst b s) (on_unacceptable b s) P
-    (λ t. cond_both (not s.flags.rst) (on_syn b s) reset P
-    (λ u. cond_both s.flags.syn (nothing, owing b) (on_ack b s) P (λ v. none) (λ v. ack-continues b bytes s h))
-    (λ u. cond_both (s.seq == rcv_nxt b) (nothing, reset_by_peer b) (nothing, owing b) P (λ v. none) (λ v. none)))
-    (λ t. cond_both (is_allowed (rcv_nxt b) (rcv_wnd b) s) (on_ack (owing b) (bare s)) dropped P
-    (λ u. ack-continues (owing b) bytes (bare s) h)
-    (λ u. cond_both s.flags.rst (nothing, b) (nothing, owing b) P (λ v. none) (λ v. none)))
+    cond_both (is_acceptable (client_rcv_nxt b) (client_rcv_wnd b) s) (client_on_rst b s) (client_on_unacceptable b s) P
+    (λ t. cond_both (not s.flags.rst) (client_on_syn b s) reset P
+    (λ u. cond_both s.flags.syn (heard_nothing, client_owing b) (client_on_ack b s) P (λ v. none) (λ v. ack-continues b bytes s h))
+    (λ u. cond_both (s.seq == client_rcv_nxt b) (heard_nothing, reset_by_peer b) (heard_nothing, client_owing b) P (λ v. none) (λ v. none)))
+    (λ t. cond_both (is_allowed (client_rcv_nxt b) (client_rcv_wnd b) s) (client_on_ack (client_owing b) (bare s)) dropped P
+    (λ u. ack-continues (client_owing b) bytes (bare s) h)
+    (λ u. cond_both s.flags.rst (heard_nothing, b) (heard_nothing, client_owing b) P (λ v. none) (λ v. none)))
 
 -- the cluster's SYN
 established-continues : (b : ClientBlock) (bytes : List ℕ) (s : Said) → Speaks b.send bytes → Continues b.send bytes (established b s).send
@@ -190,46 +190,46 @@ established-continues b bytes s h =
 greeting-continues : (b : ClientBlock) (bytes : List ℕ) (s : Said) → Speaks b.send bytes → Continuing b bytes (on_greeting b s)
 greeting-continues b bytes s h =
     let P : Heard × ClientBlock → Type 0 = Continuing b bytes in
-    let synced = cond s.flags.syn (nothing, established b s) (nothing, b) in
+    let synced = cond s.flags.syn (heard_nothing, established b s) (heard_nothing, b) in
     let none = still b bytes h in
-    cond_both (not (answers_syn b s)) (nothing, b) (cond s.flags.rst (nothing, reset_by_peer b) synced) P (λ t. none)
-    (λ t. cond_both s.flags.rst (nothing, reset_by_peer b) synced P (λ u. none)
-    (λ u. cond_both s.flags.syn (nothing, established b s) (nothing, b) P (λ v. established-continues b bytes s h) (λ v. none)))
+    cond_both (not (answers_syn b s)) (heard_nothing, b) (cond s.flags.rst (heard_nothing, reset_by_peer b) synced) P (λ t. none)
+    (λ t. cond_both s.flags.rst (heard_nothing, reset_by_peer b) synced P (λ u. none)
+    (λ u. cond_both s.flags.syn (heard_nothing, established b s) (heard_nothing, b) P (λ v. established-continues b bytes s h) (λ v. none)))
 
 phase-continues : (p : Phase) (b : ClientBlock) (bytes : List ℕ) (s : Said) → Speaks b.send bytes → Continuing b bytes (heard_in p b s)
-phase-continues Open b bytes s h = cond_both (b.send.una == 0) (on_greeting b s) (on_segment b s) (Continuing b bytes)
+phase-continues Open b bytes s h = cond_both (b.send.una == 0) (on_greeting b s) (client_on_segment b s) (Continuing b bytes)
     (λ t. greeting-continues b bytes s h) (λ t. segment-continues b bytes s h)
 phase-continues Aborted b bytes s h = still b bytes h
 phase-continues Reset b bytes s h = still b bytes h
 
-pub arriving-continues : (b : ClientBlock) (bytes : List ℕ) (s : Said) → Speaks b.send bytes → Continues b.send bytes (arrived b s).1.send
-unfolding arrived
+pub arriving-continues : (b : ClientBlock) (bytes : List ℕ) (s : Said) → Speaks b.send bytes → Continues b.send bytes (client_arrived b s).1.send
+unfolding client_arrived
 arriving-continues b bytes s h = phase-continues b.phase b bytes s h
 
 -- ---- the beginning, and its owner's calls
-pub opening-begins : (x : Stream) (c isn wnd mss : ℕ) → isn < 2 ^ 32 → Accepts x (opened c isn wnd mss) × Speaks (opened c isn wnd mss).send []
+pub opening-begins : (x : Stream) (c isn wnd mss : ℕ) → isn < 2 ^ 32 → Accepts x (client_opened c isn wnd mss) × Speaks (client_opened c isn wnd mss).send []
 opening-begins x c isn wnd mss n = (
   record { first = λ e. absurd (cc); within = omega arith; final = λ e. absurd (cc) },
   speaks-begun isn 0 0 536 n (omega arith) (omega arith),
 )
 
 pub written-speaks : (b : ClientBlock) (bytes more : List ℕ) → is_writing b ≡ true → length bytes + length more ≤ 2 ^ 30 → Speaks b.send bytes
-    → Speaks (written b more).send (bytes ++ more) × GoesOn (stream_of b.send bytes) (stream_of (written b more).send (bytes ++ more))
+    → Speaks (client_written b more).send (bytes ++ more) × GoesOn (stream_of b.send bytes) (stream_of (client_written b more).send (bytes ++ more))
 written-speaks b bytes more w le h =
     let P : ClientBlock → Type 0 = λ d. Speaks d.send (bytes ++ more) × GoesOn (stream_of b.send bytes) (stream_of d.send (bytes ++ more)) in
-    let unfinished = not-true b.send.finished (and_parts (is_open b) (not b.send.finished) w).1 in
+    let unfinished = not-true b.send.finished (and_parts (is_client_open b) (not b.send.finished) w).1 in
     cond_both (is_writing b) (record b { send = queued_too b.send more }) b P
     (λ t. speaks-queued b.send bytes more unfinished le h) (λ t. absurd (cc))
 
 pub closing-speaks : (b : ClientBlock) (bytes : List ℕ) → Speaks b.send bytes → Continues b.send bytes (shut_down b).send
 closing-speaks b bytes h =
-    cond_both (is_open b) (record b { send = closed b.send }) b (λ d. Continues b.send bytes d.send)
+    cond_both (is_client_open b) (record b { send = send_closed b.send }) b (λ d. Continues b.send bytes d.send)
     (λ t. speaks-closed b.send bytes h) (λ t. still b bytes h)
 
-pub others-change_nothing : (b : ClientBlock) → ((held_on b).send ≡ b.send) × ((taken b).send ≡ b.send) × ((aborted b).send ≡ b.send)
+pub others-change_nothing : (b : ClientBlock) → ((held_on b).send ≡ b.send) × ((client_taken b).send ≡ b.send) × ((aborted b).send ≡ b.send)
 others-change_nothing b =
     let P : ClientBlock → Type 0 = λ d. d.send ≡ b.send in (
-      cond_both (is_open b) (record b { holding = true }) b P (λ t. refl) (λ t. refl),
-      cond_both (is_open b) (record b { holding = false; held = 0; owed = b.owed || is_established b }) b P (λ t. refl) (λ t. refl),
-      cond_both (is_open b) (record b { phase = Aborted }) b P (λ t. refl) (λ t. refl),
+      cond_both (is_client_open b) (record b { holding = true }) b P (λ t. refl) (λ t. refl),
+      cond_both (is_client_open b) (record b { holding = false; held = 0; owed = b.owed || is_established b }) b P (λ t. refl) (λ t. refl),
+      cond_both (is_client_open b) (record b { phase = Aborted }) b P (λ t. refl) (λ t. refl),
     )

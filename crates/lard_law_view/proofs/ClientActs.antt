@@ -4,14 +4,14 @@ use Rattle.std.proofs.lemmas.Bool.{cond_both, cond-true}
 use Rattle.lard_base.specs.declared.place.Place.{Place}
 use Rattle.lard_client.specs.declared.heard.Heard.{Heard}
 use Rattle.lard_client.specs.declared.phase.Phase.TheVariants as phase
-use Rattle.lard_client.specs.Control.{ClientBlock, is_open, is_open_in, is_aborted_in, is_established, is_writing, opened, written, written_len, shut_down, held_on, taken, aborted}
-use Rattle.lard_client.specs.Arriving.{nothing, arrived}
-use Rattle.lard_client.specs.Leaving.{abort_ready, timed, after_timer, unsaid}
+use Rattle.lard_client.specs.Control.{ClientBlock, is_client_open, is_open_in, is_aborted_in, is_established, is_writing, client_opened, client_written, written_len, shut_down, held_on, client_taken, aborted}
+use Rattle.lard_client.specs.Arriving.{heard_nothing, client_arrived}
+use Rattle.lard_client.specs.Leaving.{abort_ready, client_timed, client_after_timer, unsaid}
 use Rattle.lard_journal.specs.declared.rec.Rec.{Rec}
 use Rattle.lard_journal.specs.declared.rec.Rec.TheVariants as rec
-use Rattle.lard_rules.specs.Client.{silent, ready_of, speaking, accepted_note, eof_note, client_writes, client_shuts, client_holds, client_takes, client_timer}
+use Rattle.lard_rules.specs.Client.{silent, station_ready_of, speaking, accepted_note, eof_note, client_writes, client_shuts, client_holds, client_takes, client_timer}
 use Rattle.lard_rules.specs.Speaking.{client_emits}
-use Rattle.lard_send.specs.Send.{Sending, queued_too, closed}
+use Rattle.lard_send.specs.Send.{Sending, queued_too, send_closed}
 use Rattle.lard_seq.specs.Seq.{seq_add, seq_offset}
 use Rattle.lard_law_view.specs.Truth.{Stream, Speaks, Accepts, stream_of}
 use Rattle.lard_law_view.proofs.Accepting.{arrived-takes}
@@ -78,16 +78,16 @@ module _ (c : ℕ) (w out : Stream) (x : ClientBlock) (heard : ℕ) (gone was_re
 
   -- nothing is done
   quiet-acted : ClientActed c out.first heard gone was_reset x (x, silent)
-  quiet-acted = acted (nothing, x) [] [] (still heard gone was_reset x nothing) (λ e. absurd (cc)) tt
+  quiet-acted = acted (heard_nothing, x) [] [] (still heard gone was_reset x heard_nothing) (λ e. absurd (cc)) tt
 
   -- it closes its side
   shuts-acted : ClientActed c out.first heard gone was_reset x (client_shuts x)
   shuts-acted =
       let a = h.accepts in
       let after : After (shut_down x) =
-      cond_both (is_open x) (record x { send = closed x.send }) x After
+      cond_both (is_client_open x) (record x { send = send_closed x.send }) x After
       (λ t. (alike x, record { first = a.first; within = a.within; final = a.final })) (λ t. after-same) in
-      acted-speaking (nothing, shut_down x) w.bytes [] [] after.0 (closing-speaks x w.bytes h.speaks).0 after.1 (shuts-step heard gone was_reset x)
+      acted-speaking (heard_nothing, shut_down x) w.bytes [] [] after.0 (closing-speaks x w.bytes h.speaks).0 after.1 (shuts-step heard gone was_reset x)
       (λ e. absurd (cc)) (λ m le. tt)
 
   -- it leaves bytes in its window
@@ -95,50 +95,50 @@ module _ (c : ℕ) (w out : Stream) (x : ClientBlock) (heard : ℕ) (gone was_re
   holds-acted =
       let a = h.accepts in
       let after : After (held_on x) =
-      cond_both (is_open x) (record x { holding = true }) x After
+      cond_both (is_client_open x) (record x { holding = true }) x After
       (λ t. (alike x, record { first = a.first; within = a.within; final = a.final })) (λ t. after-same) in
-      acted-speaking (nothing, held_on x) w.bytes [] [] after.0 (subst (λ (s : Sending). Speaks s w.bytes) (sym (others-change_nothing x).0) h.speaks) after.1
+      acted-speaking (heard_nothing, held_on x) w.bytes [] [] after.0 (subst (λ (s : Sending). Speaks s w.bytes) (sym (others-change_nothing x).0) h.speaks) after.1
       (holds-step heard gone was_reset x) (λ e. absurd (cc)) (λ m le. tt)
 
   -- it reads them
   takes-acted : ClientActed c out.first heard gone was_reset x (client_takes x)
   takes-acted =
       let a = h.accepts in
-      let after : After (taken x) =
-      cond_both (is_open x) (record x { holding = false; held = 0; owed = x.owed || is_established x }) x After
+      let after : After (client_taken x) =
+      cond_both (is_client_open x) (record x { holding = false; held = 0; owed = x.owed || is_established x }) x After
       (λ t. ((refl, refl, refl, λ e. omega arith), record { first = a.first; within = a.within; final = a.final })) (λ t. after-same) in
-      acted-speaking (nothing, taken x) w.bytes [] [] after.0 (subst (λ (s : Sending). Speaks s w.bytes) (sym (others-change_nothing x).1) h.speaks) after.1
+      acted-speaking (heard_nothing, client_taken x) w.bytes [] [] after.0 (subst (λ (s : Sending). Speaks s w.bytes) (sym (others-change_nothing x).1) h.speaks) after.1
       (takes-step heard gone was_reset x) (λ e. absurd (cc)) (λ m le. tt)
 
   -- its timer fires
   timer-acted : ClientActed c out.first heard gone was_reset x (client_timer x)
   timer-acted =
-      let y = after_timer x in
+      let y = client_after_timer x in
       let after = timer-left out x w.bytes h.speaks h.accepts in
       let like = (timer-alike x).0 in
       let s = timer-step heard gone was_reset x in
-      let more = taken-grows heard gone was_reset x (nothing, y) s in
-      acted-speaking (nothing, y) w.bytes [] (ready_of y (timed x)) like after.0 after.2 s (λ e. absurd (cc))
-      (λ m le. ready-may c out.first m gone y (timed x) (like.0 ∙ h.numbered)
+      let more = taken-grows heard gone was_reset x (heard_nothing, y) s in
+      acted-speaking (heard_nothing, y) w.bytes [] (station_ready_of y (client_timed x)) like after.0 after.2 s (λ e. absurd (cc))
+      (λ m le. ready-may c out.first m gone y (client_timed x) (like.0 ∙ h.numbered)
       (λ r e. ((timed-fair x w.bytes h.sound h.wide h.speaks r e).1, says-word out gone m x y r h.accepts (omega arith) (timed-says gone x r e))))
 
   -- it writes, and may
   wrote-acted : (bytes : List ℕ) → is_writing x ≡ true → written_len x bytes ≤ 2 ^ 30
-      → ClientActed c out.first heard gone was_reset x (speaking (rec.Wrote x.c bytes ∷ []) [] (written x bytes))
+      → ClientActed c out.first heard gone was_reset x (speaking (rec.Wrote x.c bytes ∷ []) [] (client_written x bytes))
   wrote-acted bytes writes fits =
       let a = h.accepts in
       let count = h.speaks.part.count in
       let all : x.send.total + length bytes ≤ 2 ^ 30 = subst (λ b. x.send.total + cond b (length bytes) 0 ≤ 2 ^ 30) writes fits in
-      let after : After (written x bytes) =
+      let after : After (client_written x bytes) =
       cond_both (is_writing x) (record x { send = queued_too x.send bytes }) x After
       (λ t. (alike x, record { first = a.first; within = a.within; final = a.final })) (λ t. after-same) in
-      acted-speaking (nothing, written x bytes) (w.bytes ++ bytes) (rec.Wrote x.c bytes ∷ []) [] after.0
+      acted-speaking (heard_nothing, client_written x bytes) (w.bytes ++ bytes) (rec.Wrote x.c bytes ∷ []) [] after.0
       (written-speaks x w.bytes bytes writes (omega arith) h.speaks).0 after.1 (writes-step heard gone was_reset x bytes) (λ e. absurd (cc)) (λ m le. tt)
 
   -- it writes, where it may
   writes-acted : (bytes : List ℕ) → written_len x bytes ≤ 2 ^ 30 → ClientActed c out.first heard gone was_reset x (client_writes x bytes)
   writes-acted bytes fits =
-      cond_both (is_writing x) (speaking (rec.Wrote x.c bytes ∷ []) [] (written x bytes)) (x, silent) (ClientActed c out.first heard gone was_reset x)
+      cond_both (is_writing x) (speaking (rec.Wrote x.c bytes ∷ []) [] (client_written x bytes)) (x, silent) (ClientActed c out.first heard gone was_reset x)
       (λ t. wrote-acted bytes t fits) (λ t. quiet-acted)
 
 -- ---- its rules
@@ -164,19 +164,19 @@ aborts-acts c w out x heard before was_reset most h k =
     let y = aborted x in
     let told : ClientHolds heard true was_reset x = record { acknowledged = k.acknowledged; aborts = λ e. refl; resets = k.resets } in
     let s = aborts-step heard true was_reset x refl in
-    let more = taken-grows heard true was_reset x (nothing, y) s in
-    let numbered : y.c ≡ c = cond_both (is_open x) (record x { phase = phase.Aborted }) x (λ (z : ClientBlock). z.c ≡ c) (λ t. h.numbered) (λ t. h.numbered) in
-    acted c w out x heard true was_reset most h told (nothing, y) (rec.Aborted x.c ∷ []) (ready_of y (abort_ready x)) s (λ e. absurd (cc))
+    let more = taken-grows heard true was_reset x (heard_nothing, y) s in
+    let numbered : y.c ≡ c = cond_both (is_client_open x) (record x { phase = phase.Aborted }) x (λ (z : ClientBlock). z.c ≡ c) (λ t. h.numbered) (λ t. h.numbered) in
+    acted c w out x heard true was_reset most h told (heard_nothing, y) (rec.Aborted x.c ∷ []) (station_ready_of y (abort_ready x)) s (λ e. absurd (cc))
     (ready-may c out.first (taken_by y) true y (abort_ready x) numbered
     (λ r e. ((abort-fair out x r e).1, says-word out true (taken_by y) x y r h.accepts more (abort-says true x r refl e))))
 
 -- A client that shut and is open has its side closed.
-pub shuts-finish : (x : ClientBlock) → is_open (client_shuts x).0 ≡ true → (client_shuts x).0.send.finished ≡ true
+pub shuts-finish : (x : ClientBlock) → is_client_open (client_shuts x).0 ≡ true → (client_shuts x).0.send.finished ≡ true
 shuts-finish x e =
     let y = shut_down x in
     let same = emits-same (unsaid y) y in
-    let P : ClientBlock → Type 0 = λ z. is_open z ≡ true → z.send.finished ≡ true in
-    let shut : P y = cond_both (is_open x) (record x { send = closed x.send }) x P (λ t. λ u. refl) (λ t. λ u. absurd (cc)) in
+    let P : ClientBlock → Type 0 = λ z. is_client_open z ≡ true → z.send.finished ≡ true in
+    let shut : P y = cond_both (is_client_open x) (record x { send = send_closed x.send }) x P (λ t. λ u. refl) (λ t. λ u. absurd (cc)) in
     same.4 ∙ shut (ap is_open_in (sym same.3) ∙ e)
 
 -- ---- a segment comes
@@ -191,7 +191,7 @@ ended-noted d h payload e =
 -- What it acknowledges after a segment is what it took by then, and UNA is at most what the segment tells.
 pub gets-acts : ClientGetsActs
 gets-acts c w out x s heard gone was_reset most number seq_fits ack_fits h t k reply cause =
-    let r = arrived x s in
+    let r = client_arrived x s in
     let y = r.1 in
     let takes = arrived-takes out x s (record { number = number; most = most }) seq_fits h.accepts t in
     let like = arrived-alike x s in
@@ -201,7 +201,7 @@ gets-acts c w out x s heard gone was_reset most number seq_fits ack_fits h t k r
     acks-offset x.send.iss heard s.ack h.speaks.number (acks.0, acks.1 ∙ ap (λ n. seq_add n acks.0) begins, acks.2) in
     let step = arrived-step heard gone was_reset x s told cause in
     let more = taken-grows heard gone was_reset x r step in
-    acted-speaking c w out x heard gone was_reset most h k r w.bytes (accepted_note y.c r.0 s.payload ++ eof_note y.c r.0) (ready_of y r.0.reply)
+    acted-speaking c w out x heard gone was_reset most h k r w.bytes (accepted_note y.c r.0 s.payload ++ eof_note y.c r.0) (station_ready_of y r.0.reply)
     like (arriving-continues x w.bytes s h.speaks).0 takes.0 step (ended-noted y.c r.0 s.payload)
     (λ m le. ready-may c out.first m gone y r.0.reply (like.0 ∙ h.numbered)
     (λ q e. ((reply-fair out x s q ack_fits e).1, says-word out gone m x y q h.accepts (omega arith) (reply-says gone x s q k.aborts e))))
@@ -210,7 +210,7 @@ gets-acts c w out x s heard gone was_reset most number seq_fits ack_fits h t k r
 -- Its SYN has no ACK, and nothing is acknowledged yet.
 pub opens-acts : ClientOpensActs
 opens-acts c isn iss wnd mss n wide some small =
-    let x = opened c isn wnd mss in
+    let x = client_opened c isn wnd mss in
     let out : Stream = record { first = iss; bytes = []; ended = false } in
     let agrees = opened-agrees c isn wnd mss out n wide some small in
     let count = unsaid x in

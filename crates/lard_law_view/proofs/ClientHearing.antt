@@ -3,11 +3,11 @@ use Rattle.std.proofs.Common.{◌≡◌, ◌≤◌, ◌<◌, ◌^◌, ℕ, nat_l
 use Rattle.std.proofs.lemmas.Bool.{cond_both, ltb-false}
 use Rattle.lard_client.specs.declared.heard.Heard.{Heard}
 use Rattle.lard_client.specs.Control.{ClientBlock}
-use Rattle.lard_client.specs.Arriving.{arrived}
+use Rattle.lard_client.specs.Arriving.{client_arrived}
 use Rattle.lard_client.proofs.Accepted.{arrived-order}
 use Rattle.lard_journal.specs.declared.rec.Rec.{Rec}
 use Rattle.lard_journal.specs.declared.rec.Rec.TheVariants as rec
-use Rattle.lard_rules.specs.Client.{accepted_note, eof_note, ready_of, client_gets}
+use Rattle.lard_rules.specs.Client.{accepted_note, eof_note, station_ready_of, client_gets}
 use Rattle.lard_segment.specs.Segment.{Said}
 use Rattle.lard_law_view.specs.Truth.{Stream, IsTrueOf, stream_of}
 use Rattle.lard_law_view.proofs.Accepting.{arrived-takes}
@@ -44,9 +44,9 @@ heard-noted c d h payload n =
 -- ---- its turn
 module _ (c : ℕ) (w out : Stream) (x : ClientBlock) (s : Said) (most : length out.bytes ≤ 2 ^ 30) (number : out.first < 2 ^ 32) (seq_fits : s.seq < 2 ^ 32) (ack_fits : s.ack < 2 ^ 32) (h : ClientAgrees c w out x) (t : IsTrueOf out s) where
   -- what it accepted stands behind what it had accepted before
-  taken-next : take (arrived x s).1.accepted out.bytes ≡ take x.accepted out.bytes ++ take (arrived x s).0.len (drop (arrived x s).0.from s.payload)
+  taken-next : take (client_arrived x s).1.accepted out.bytes ≡ take x.accepted out.bytes ++ take (client_arrived x s).0.len (drop (client_arrived x s).0.from s.payload)
   taken-next =
-      let heard = (arrived x s).0 in
+      let heard = (client_arrived x s).0 in
       let takes = arrived-takes out x s (record { number = number; most = most }) seq_fits h.accepts t in
       let within = (arrived-order x s seq_fits).within in
       let size : length (take heard.len (drop heard.from s.payload)) ≡ heard.len =
@@ -56,16 +56,16 @@ module _ (c : ℕ) (w out : Stream) (x : ClientBlock) (s : Said) (most : length 
 
   pub hears-turned : ClientTurned c w out x (client_gets x (Ok s))
   hears-turned =
-      let heard = (arrived x s).0 in
-      let y = (arrived x s).1 in
+      let heard = (client_arrived x s).0 in
+      let y = (client_arrived x s).1 in
       let v = stream_of y.send w.bytes in
       let takes = arrived-takes out x s (record { number = number; most = most }) seq_fits h.accepts t in
       let like = arrived-alike x s in
       let numbered : y.c ≡ c = like.0 ∙ h.numbered in
       let noted = heard-noted c y.c heard s.payload numbered in
       let notes = accepted_note y.c heard s.payload ++ eof_note y.c heard in
-      turned-speaking c w out x y notes (ready_of y heard.reply)
-      (turned c w out x most h y notes (ready_of y heard.reply) w.bytes like (arriving-continues x w.bytes s h.speaks) takes.0
+      turned-speaking c w out x y notes (station_ready_of y heard.reply)
+      (turned c w out x most h y notes (station_ready_of y heard.reply) w.bytes like (arriving-continues x w.bytes s h.speaks) takes.0
       (sym (append-nil w.bytes) ∙ ap (λ (l : List ℕ). w.bytes ++ l) (sym noted.wrote))
       (taken-next ∙ ap (λ (l : List ℕ). take x.accepted out.bytes ++ l) (sym noted.accepted))
       noted.are

@@ -3,9 +3,9 @@ use Rattle.std.proofs.Common.{◌≡◌, ℕ, Bool, true, false, cond, nat_lt, L
 use Rattle.std.proofs.lemmas.Bool.{cond_both}
 use Rattle.lard_base.specs.declared.place.Place.{Place}
 use Rattle.lard_base.specs.declared.place.Place.TheVariants.{Front}
-use Rattle.lard_client.specs.Arriving.{arrived}
-use Rattle.lard_client.specs.Control.{ClientBlock, aborted, held_on, is_writing, opened, shut_down, taken, written}
-use Rattle.lard_client.specs.Leaving.{abort_ready, after_timer, timed}
+use Rattle.lard_client.specs.Arriving.{client_arrived}
+use Rattle.lard_client.specs.Control.{ClientBlock, aborted, held_on, is_writing, client_opened, shut_down, client_taken, client_written}
+use Rattle.lard_client.specs.Leaving.{abort_ready, client_after_timer, client_timed}
 use Rattle.lard_history.specs.Journal.{Tale, told_on}
 use Rattle.lard_history.proofs.Each.{Each, Each-append}
 use Rattle.lard_journal.specs.declared.rec.Rec.{Rec}
@@ -15,7 +15,7 @@ use Rattle.lard_law_view.proofs.ClientTurns.{GoesOn, aborted-on, arrived-hears, 
 use Rattle.lard_law_view.proofs.EndpointSends.{AllTo}
 use Rattle.lard_law_view.proofs.Telling.{Tells}
 use Rattle.lard_rules.specs.declared.places.Turn.{Turn}
-use Rattle.lard_rules.specs.Client.{client_aborts, client_gets, client_holds, client_injects, client_opens, client_shuts, client_takes, client_timer, client_writes, ready_of, silent, speaking}
+use Rattle.lard_rules.specs.Client.{client_aborts, client_gets, client_holds, client_injects, client_opens, client_shuts, client_takes, client_timer, client_writes, station_ready_of, silent, speaking}
 use Rattle.lard_rules.specs.Speaking.{client_speaks}
 use Rattle.lard_segment.specs.declared.fault.SegFault.{SegFault}
 use Rattle.lard_segment.specs.Segment.{Said}
@@ -63,7 +63,7 @@ module _ (stream c iss : ℕ) (u : Tale) where
   -- ---- rule by rule
 
   pub opens-says : (isn wnd mss : ℕ) → u.numbers ≡ Some (record { isn = isn; iss = iss }) → u.has_closed ≡ false → ClientSays (client_opens c isn wnd mss)
-  opens-says isn wnd mss n w = speaking-says (opened c isn wnd mss) [] [] tt tt (record { number = refl; numbers = n; writes = λ h. w }) tt
+  opens-says isn wnd mss n w = speaking-says (client_opened c isn wnd mss) [] [] tt tt (record { number = refl; numbers = n; writes = λ h. w }) tt
 
   pub shuts-says : (x : ClientBlock) → x.c ≡ c → u.numbers ≡ Some (record { isn = x.send.iss; iss = iss }) → ClientSays (client_shuts x)
   shuts-says x n k =
@@ -74,10 +74,10 @@ module _ (stream c iss : ℕ) (u : Tale) where
 
   module _ (x : ClientBlock) (h : IsClientAt x (client_tale u)) where
     pub writes-says : (bytes : List ℕ) → ClientSays (client_writes x bytes)
-    writes-says bytes = cond_both {A = ClientBlock × Turn} (is_writing x) (speaking (rec.Wrote x.c bytes ∷ []) [] (written x bytes)) (x, silent) ClientSays
+    writes-says bytes = cond_both {A = ClientBlock × Turn} (is_writing x) (speaking (rec.Wrote x.c bytes ∷ []) [] (client_written x bytes)) (x, silent) ClientSays
         (λ t.
         let on = written-on x bytes in
-        speaking-says (written x bytes) (rec.Wrote x.c bytes ∷ []) [] ((h.number, h.writes t), tt) (tt, tt)
+        speaking-says (client_written x bytes) (rec.Wrote x.c bytes ∷ []) [] ((h.number, h.writes t), tt) (tt, tt)
         (record { number = on.number ∙ h.number; numbers = h.numbers ∙ ap (λ n. Some (record { isn = n; iss = iss })) (sym on.first); writes = λ w. h.writes t }) tt)
         (λ t. silent-says x h)
 
@@ -88,10 +88,10 @@ module _ (stream c iss : ℕ) (u : Tale) where
     holds-says = speaking-says (held_on x) [] [] tt tt (goes-at x (held_on x) (client_tale u) (held-on x) h) tt
 
     pub takes-says : ClientSays (client_takes x)
-    takes-says = speaking-says (taken x) [] [] tt tt (goes-at x (taken x) (client_tale u) (taken-on x) h) tt
+    takes-says = speaking-says (client_taken x) [] [] tt tt (goes-at x (client_taken x) (client_tale u) (taken-on x) h) tt
 
     pub timer-says : ClientSays (client_timer x)
-    timer-says = speaking-says (after_timer x) [] (ready_of (after_timer x) (timed x)) tt tt (goes-at x (after_timer x) (client_tale u) (timer-on x) h) (ready-to (after_timer x) (timed x))
+    timer-says = speaking-says (client_after_timer x) [] (station_ready_of (client_after_timer x) (client_timed x)) tt tt (goes-at x (client_after_timer x) (client_tale u) (timer-on x) h) (ready-to (client_after_timer x) (client_timed x))
 
     pub aborts-says : ClientSays (client_aborts x)
     aborts-says =
@@ -128,6 +128,6 @@ module _ (stream c iss : ℕ) (u : Tale) where
     pub gets-says : (r : Result Said SegFault) → ClientSays (client_gets x r)
     gets-says (Err fault) = silent-says x h
     gets-says (Ok s) =
-        let r = arrived x s in
+        let r = client_arrived x s in
         let hears = arrived-hears x s in
-        noted-says (nat_lt 0 r.0.len) (take r.0.len (drop r.0.from s.payload)) r.0.eof r.1 (ready_of r.1 r.0.reply) hears.on hears.ended (ready-to r.1 r.0.reply)
+        noted-says (nat_lt 0 r.0.len) (take r.0.len (drop r.0.from s.payload)) r.0.eof r.1 (station_ready_of r.1 r.0.reply) hears.on hears.ended (ready-to r.1 r.0.reply)

@@ -2,17 +2,17 @@
 use Rattle.std.proofs.Common.{◌≡◌, ℕ, zero, suc, ◌+◌, ◌-◌, ◌≤◌, ◌<◌, ◌^◌, List, [], ◌∷◌, ◌++◌, length, take, drop, true, false, cond, nat_lt, ◌||◌, Option, Some, None, Ok, Err, Result, refl, sym, subst, arith, length-append}
 use Rattle.std.proofs.lemmas.Bool.{cond_both}
 use Rattle.lard_base.specs.declared.place.Place.{Place}
-use Rattle.lard_client.specs.Arriving.{arrived}
-use Rattle.lard_client.specs.Control.{ClientBlock, aborted, held_on, is_established, is_open, is_writing, opened, shut_down, taken, written, written_len}
+use Rattle.lard_client.specs.Arriving.{client_arrived}
+use Rattle.lard_client.specs.Control.{ClientBlock, aborted, held_on, is_established, is_client_open, is_writing, client_opened, shut_down, client_taken, client_written, written_len}
 use Rattle.lard_client.specs.declared.heard.Heard.{Heard}
 use Rattle.lard_client.specs.declared.phase.Phase.TheVariants.{Aborted}
-use Rattle.lard_client.specs.Leaving.{abort_ready, after_emit, after_timer, emitted, filled, owes, timed, unsaid}
+use Rattle.lard_client.specs.Leaving.{abort_ready, client_after_emit, client_after_timer, client_emitted, client_filled, client_owes, client_timed, unsaid}
 use Rattle.lard_history.proofs.Each.{Each, Each-append}
 use Rattle.lard_journal.specs.declared.rec.Rec.{Rec}
 use Rattle.lard_journal.specs.declared.rec.Rec.TheVariants as rec
-use Rattle.lard_journal.specs.Range.{IsInRange, IsNumber, IsPlaceInRange}
+use Rattle.lard_journal.specs.Range.{IsRecordInRange, IsNumber, IsPlaceInRange}
 use Rattle.lard_rules.proofs.Loops.{KeptByTelling, client_keeps}
-use Rattle.lard_rules.specs.Client.{accepted_note, client_aborts, client_gets, client_holds, client_injects, client_opens, client_shuts, client_takes, client_timer, client_writes, eof_note, ready_of, silent, speaking}
+use Rattle.lard_rules.specs.Client.{accepted_note, client_aborts, client_gets, client_holds, client_injects, client_opens, client_shuts, client_takes, client_timer, client_writes, eof_note, station_ready_of, silent, speaking}
 use Rattle.lard_rules.specs.declared.places.Turn.{Turn}
 use Rattle.lard_rules.specs.Speaking.{client_emits, client_speaks, to_front}
 use Rattle.lard_segment.specs.declared.fault.SegFault.{SegFault}
@@ -31,7 +31,7 @@ IsSent s = IsPlaceInRange s.0 × AreBytes s.1
 
 -- A turn's notes and segments are in range, and its segments are few.
 pub record Fits (turn : Turn) : Type 0 where
-  pub notes : Each IsInRange turn.notes
+  pub notes : Each IsRecordInRange turn.notes
   pub sent : Each IsSent turn.segments
   pub few : length turn.segments ≤ 2 ^ 31
 
@@ -54,14 +54,14 @@ pub record ClientFits (given : ClientBlock × Turn) : Type 0 where
 segment-sent : (x : ClientBlock) (r : Ready) → ClientKeeps x → IsSent (to_front x r)
 segment-sent x r h =
     let from : ℕ = r.at - acknowledged_bytes x.send in
-    (tt, bytes-spelled x.c ToCluster (filled x r) (each-take (λ b. b < 256) r.len (drop from x.send.rest) (each-drop (λ b. b < 256) from x.send.rest h.0)))
+    (tt, bytes-spelled x.c ToCluster (client_filled x r) (each-take (λ b. b < 256) r.len (drop from x.send.rest) (each-drop (λ b. b < 256) from x.send.rest h.0)))
 
 -- one segment that is ready, or none
-ready-sent : (x : ClientBlock) (o : Option Ready) → ClientKeeps x → Each IsSent (ready_of x o)
+ready-sent : (x : ClientBlock) (o : Option Ready) → ClientKeeps x → Each IsSent (station_ready_of x o)
 ready-sent x None h = tt
 ready-sent x (Some r) h = (segment-sent x r h, tt)
 
-ready-few : (x : ClientBlock) (o : Option Ready) → length (ready_of x o) ≤ 1
+ready-few : (x : ClientBlock) (o : Option Ready) → length (station_ready_of x o) ≤ 1
 ready-few x None = omega arith
 ready-few x (Some r) = omega arith
 
@@ -70,28 +70,28 @@ telling-keeps : KeptByTelling (λ x ss y. ClientKeeps x → ClientKeeps y × Eac
 telling-keeps = record {
   rests = λ x h. (h, tt);
   says = λ x r ss y e later h.
-      let next : ClientKeeps (after_emit x) = client-emit (IsKept 0) (kept-sending 0) x h in
+      let next : ClientKeeps (client_after_emit x) = client-emit (IsKept 0) (kept-sending 0) x h in
       let rest : ClientKeeps y × Each IsSent ss = later next in
-      (rest.0, (segment-sent (after_emit x) r next, rest.1));
+      (rest.0, (segment-sent (client_after_emit x) r next, rest.1));
 }
 
 -- no more segments than it is allowed calls
 emits-few : (n : ℕ) (x : ClientBlock) → length (client_emits n x).0 ≤ n
 unfolding client_emits
 emits-few zero x = omega arith
-emits-few (suc n) x = go (emitted x) (emits-few n (after_emit x)) where
-  go : (o : Option Ready) → length (client_emits n (after_emit x)).0 ≤ n → length (elim o as (λ p. List (Place × List ℕ) × ClientBlock) [
+emits-few (suc n) x = go (client_emitted x) (emits-few n (client_after_emit x)) where
+  go : (o : Option Ready) → length (client_emits n (client_after_emit x)).0 ≤ n → length (elim o as (λ p. List (Place × List ℕ) × ClientBlock) [
     | None ↦ ([], x)
-    | Some r ↦ (to_front (after_emit x) r ∷ (client_emits n (after_emit x)).0, (client_emits n (after_emit x)).1)
+    | Some r ↦ (to_front (client_after_emit x) r ∷ (client_emits n (client_after_emit x)).0, (client_emits n (client_after_emit x)).1)
   ]).0 ≤ suc n
   go None few = omega arith
   go (Some r) few = omega (arith, few)
 
 -- a client that speaks: the segments before, and what it has left to say
-speaking-fits : (notes : List Rec) (segments : List (Place × List ℕ)) (x : ClientBlock) → Each IsInRange notes → Each IsSent segments → length segments ≤ 1 → ClientKeeps x → ClientFits (speaking notes segments x)
+speaking-fits : (notes : List Rec) (segments : List (Place × List ℕ)) (x : ClientBlock) → Each IsRecordInRange notes → Each IsSent segments → length segments ≤ 1 → ClientKeeps x → ClientFits (speaking notes segments x)
 speaking-fits notes segments x h sent one keeps =
     let few = emits-few (unsaid x) x in
-    let most = left-few x.send (owes x) keeps.2 in
+    let most = left-few x.send (client_owes x) keeps.2 in
     let both = length-append segments (client_speaks x).0 in
     let says : ClientKeeps (client_speaks x).1 × Each IsSent (client_speaks x).0 = client_keeps (λ x ss y. ClientKeeps x → ClientKeeps y × Each IsSent ss) telling-keeps x keeps in
     record { keeps = says.0; turn = record { notes = h; sent = Each-append IsSent segments (client_speaks x).0 sent says.1; few = omega (arith, few, most, both, one) } }
@@ -100,7 +100,7 @@ speaking-fits notes segments x h sent one keeps =
 
 -- a client that opens
 pub opens-fits : (c isn wnd mss : ℕ) → ClientFits (client_opens c isn wnd mss)
-opens-fits c isn wnd mss = speaking-fits [] [] (opened c isn wnd mss) tt tt (omega arith) (tt, omega arith, omega arith)
+opens-fits c isn wnd mss = speaking-fits [] [] (client_opened c isn wnd mss) tt tt (omega arith) (tt, omega arith, omega arith)
 
 module _ (x : ClientBlock) (number : IsNumber x.c) (keeps : ClientKeeps x) where
   quiet-fits : ClientFits (x, silent)
@@ -111,33 +111,33 @@ module _ (x : ClientBlock) (number : IsNumber x.c) (keeps : ClientKeeps x) where
   shuts-fits = speaking-fits [] [] (shut_down x) tt tt (omega arith) (client-shuts (IsKept 0) (kept-sending 0) x keeps)
 
   pub holds-fits : ClientFits (client_holds x)
-  holds-fits = speaking-fits [] [] (held_on x) tt tt (omega arith) (cond_both (is_open x) (record x { holding = true }) x ClientKeeps (λ t. keeps) (λ t. keeps))
+  holds-fits = speaking-fits [] [] (held_on x) tt tt (omega arith) (cond_both (is_client_open x) (record x { holding = true }) x ClientKeeps (λ t. keeps) (λ t. keeps))
 
   pub takes-fits : ClientFits (client_takes x)
-  takes-fits = speaking-fits [] [] (taken x) tt tt (omega arith)
-      (cond_both (is_open x) (record x { holding = false; held = 0; owed = x.owed || is_established x }) x ClientKeeps (λ t. keeps) (λ t. keeps))
+  takes-fits = speaking-fits [] [] (client_taken x) tt tt (omega arith)
+      (cond_both (is_client_open x) (record x { holding = false; held = 0; owed = x.owed || is_established x }) x ClientKeeps (λ t. keeps) (λ t. keeps))
 
   pub fires-fits : ClientFits (client_timer x)
   fires-fits =
-      let after : ClientKeeps (after_timer x) = client-fires (IsKept 0) (kept-sending 0) x keeps in
-      speaking-fits [] (ready_of (after_timer x) (timed x)) (after_timer x) tt (ready-sent (after_timer x) (timed x) after) (ready-few (after_timer x) (timed x)) after
+      let after : ClientKeeps (client_after_timer x) = client-fires (IsKept 0) (kept-sending 0) x keeps in
+      speaking-fits [] (station_ready_of (client_after_timer x) (client_timed x)) (client_after_timer x) tt (ready-sent (client_after_timer x) (client_timed x) after) (ready-few (client_after_timer x) (client_timed x)) after
 
   pub aborts-fits : ClientFits (client_aborts x)
   aborts-fits =
-      let after : ClientKeeps (aborted x) = cond_both (is_open x) (record x { phase = Aborted }) x ClientKeeps (λ t. keeps) (λ t. keeps) in
+      let after : ClientKeeps (aborted x) = cond_both (is_client_open x) (record x { phase = Aborted }) x ClientKeeps (λ t. keeps) (λ t. keeps) in
       let few = ready-few (aborted x) (abort_ready x) in
       record { keeps = after; turn = record { notes = (number, tt); sent = ready-sent (aborted x) (abort_ready x) after; few = omega (arith, few) } }
 
   module _ (bytes : List ℕ) (are : AreBytes bytes) where
     -- what it writes is noted
-    wrote-fits : is_writing x ≡ true → written_len x bytes ≤ 2 ^ 30 → ClientFits (speaking (rec.Wrote x.c bytes ∷ []) [] (written x bytes))
+    wrote-fits : is_writing x ≡ true → written_len x bytes ≤ 2 ^ 30 → ClientFits (speaking (rec.Wrote x.c bytes ∷ []) [] (client_written x bytes))
     wrote-fits writes fits =
         let all : x.send.total + length bytes ≤ 2 ^ 30 = subst (λ b. x.send.total + cond b (length bytes) 0 ≤ 2 ^ 30) writes fits in
-        speaking-fits (rec.Wrote x.c bytes ∷ []) [] (written x bytes) ((number, bytes-index bytes are), tt) tt (omega arith)
+        speaking-fits (rec.Wrote x.c bytes ∷ []) [] (client_written x bytes) ((number, bytes-index bytes are), tt) tt (omega arith)
         (cond_both (is_writing x) (record x { send = queued_too x.send bytes }) x ClientKeeps (λ t. (bytes-append x.send.rest bytes keeps.0 are, omega arith, all)) (λ t. keeps))
 
     pub writes-fits : written_len x bytes ≤ 2 ^ 30 → ClientFits (client_writes x bytes)
-    writes-fits fits = cond_both {A = ClientBlock × Turn} (is_writing x) (speaking (rec.Wrote x.c bytes ∷ []) [] (written x bytes)) (x, silent) ClientFits
+    writes-fits fits = cond_both {A = ClientBlock × Turn} (is_writing x) (speaking (rec.Wrote x.c bytes ∷ []) [] (client_written x bytes)) (x, silent) ClientFits
         (λ t. wrote-fits t fits) (λ t. quiet-fits)
 
     -- a packet that the schedule puts on the way
@@ -147,21 +147,21 @@ module _ (x : ClientBlock) (number : IsNumber x.c) (keeps : ClientKeeps x) where
   -- ---- a segment comes
 
   -- what it accepted is a part of the segment's data
-  accepted-noted : (d : ℕ) (heard : Heard) (payload : List ℕ) → IsNumber d → AreBytes payload → Each IsInRange (accepted_note d heard payload)
-  accepted-noted d heard payload n are = cond_both (nat_lt 0 heard.len) (rec.Accepted d (take heard.len (drop heard.from payload)) ∷ []) [] (Each IsInRange)
+  accepted-noted : (d : ℕ) (heard : Heard) (payload : List ℕ) → IsNumber d → AreBytes payload → Each IsRecordInRange (accepted_note d heard payload)
+  accepted-noted d heard payload n are = cond_both (nat_lt 0 heard.len) (rec.Accepted d (take heard.len (drop heard.from payload)) ∷ []) [] (Each IsRecordInRange)
       (λ t. ((n, bytes-index _ (each-take (λ b. b < 256) heard.len (drop heard.from payload) (each-drop (λ b. b < 256) heard.from payload are))), tt)) (λ t. tt)
 
   -- the end of its stream has its number alone
-  eof-noted : (d : ℕ) (heard : Heard) → IsNumber d → Each IsInRange (eof_note d heard)
-  eof-noted d heard n = cond_both heard.eof (rec.Eof d ∷ []) [] (Each IsInRange) (λ t. (n, tt)) (λ t. tt)
+  eof-noted : (d : ℕ) (heard : Heard) → IsNumber d → Each IsRecordInRange (eof_note d heard)
+  eof-noted d heard n = cond_both heard.eof (rec.Eof d ∷ []) [] (Each IsRecordInRange) (λ t. (n, tt)) (λ t. tt)
 
   -- whatever comes
   pub gets-fits : (r : Result Said SegFault) → ((s : Said) → r ≡ Ok s → AreBytes s.payload) → ClientFits (client_gets x r)
   gets-fits (Err fault) are = quiet-fits
   gets-fits (Ok s) are =
-      let after : Heard × ClientBlock = arrived x s in
+      let after : Heard × ClientBlock = client_arrived x s in
       let n : IsNumber after.1.c = subst IsNumber (sym (arrived-hears x s).on.number) number in
       let still : ClientKeeps after.1 = client-arrived (IsKept 0) (kept-sending 0) x s keeps in
-      speaking-fits (accepted_note after.1.c after.0 s.payload ++ eof_note after.1.c after.0) (ready_of after.1 after.0.reply) after.1
-      (Each-append IsInRange (accepted_note after.1.c after.0 s.payload) (eof_note after.1.c after.0) (accepted-noted after.1.c after.0 s.payload n (are s refl)) (eof-noted after.1.c after.0 n))
+      speaking-fits (accepted_note after.1.c after.0 s.payload ++ eof_note after.1.c after.0) (station_ready_of after.1 after.0.reply) after.1
+      (Each-append IsRecordInRange (accepted_note after.1.c after.0 s.payload) (eof_note after.1.c after.0) (accepted-noted after.1.c after.0 s.payload n (are s refl)) (eof-noted after.1.c after.0 n))
       (ready-sent after.1 after.0.reply still) (ready-few after.1 after.0.reply) still

@@ -4,7 +4,7 @@ use Rattle.lard_base.specs.declared.place.Place.{Place}
 use Rattle.lard_client.specs.Control.{ClientBlock}
 use Rattle.lard_client.specs.Leaving as client
 use Rattle.lard_journal.specs.declared.rec.Rec.{Rec}
-use Rattle.lard_rules.specs.Client.{ready_of, speaking}
+use Rattle.lard_rules.specs.Client.{station_ready_of, speaking}
 use Rattle.lard_rules.specs.Speaking.{to_front, client_emits}
 use Rattle.lard_segment.specs.declared.segment.Dir.TheVariants.{ToCluster}
 use Rattle.lard_segment.specs.declared.segment.Ready.{Ready}
@@ -12,7 +12,7 @@ use Rattle.lard_segment.specs.Segment.{spelled}
 use Rattle.lard_law_view.specs.Truth.{Stream, Speaks, Accepts, stream_of}
 use Rattle.lard_law_view.proofs.Client.{emitted-fair, emit-left}
 use Rattle.lard_law_view.proofs.Pieces.{Fair}
-use Rattle.lard_law_view.specs.Agreement.{AreWords, ClientAgrees}
+use Rattle.lard_law_view.specs.Agreement.{AreClientWords, ClientAgrees}
 use Rattle.lard_law_view.specs.Keeping.{ClientTurned}
 use Rattle.lard_law_view.proofs.ClientAlike.{IsLike, emit-alike}
 
@@ -40,14 +40,14 @@ agrees-after c w v out x y h like bounded is speaks accepts =
 -- ---- its words
 
 -- a segment that is ready is a word
-pub ready-word : (c : ℕ) (w : Stream) (x : ClientBlock) (r : Ready) → x.c ≡ c → Fair w (client.filled x r) → AreWords c w (to_front x r ∷ [])
-ready-word c w x r n fair = (refl, (client.filled x r, ap (λ k. spelled k ToCluster (client.filled x r)) n, record { sendable = fair.1; true_of = fair.0 }), tt)
+pub ready-word : (c : ℕ) (w : Stream) (x : ClientBlock) (r : Ready) → x.c ≡ c → Fair w (client.client_filled x r) → AreClientWords c w (to_front x r ∷ [])
+ready-word c w x r n fair = (refl, (client.client_filled x r, ap (λ k. spelled k ToCluster (client.client_filled x r)) n, record { sendable = fair.1; true_of = fair.0 }), tt)
 
-pub ready-words : (c : ℕ) (w : Stream) (x : ClientBlock) (o : Option Ready) → x.c ≡ c → ((r : Ready) → o ≡ Some r → Fair w (client.filled x r)) → AreWords c w (ready_of x o)
+pub ready-words : (c : ℕ) (w : Stream) (x : ClientBlock) (o : Option Ready) → x.c ≡ c → ((r : Ready) → o ≡ Some r → Fair w (client.client_filled x r)) → AreClientWords c w (station_ready_of x o)
 ready-words c w x None n fair = tt
 ready-words c w x (Some r) n fair = ready-word c w x r n (fair r refl)
 
-words-append : (c : ℕ) (w : Stream) (ps qs : List (Place × List ℕ)) → AreWords c w ps → AreWords c w qs → AreWords c w (ps ++ qs)
+words-append : (c : ℕ) (w : Stream) (ps qs : List (Place × List ℕ)) → AreClientWords c w ps → AreClientWords c w qs → AreClientWords c w (ps ++ qs)
 words-append c w [] qs a b = b
 words-append c w (p ∷ ps) qs a b = (a.0, a.1, words-append c w ps qs a.2 b)
 
@@ -57,33 +57,33 @@ words-append c w (p ∷ ps) qs a b = (a.0, a.1, words-append c w ps qs a.2 b)
 pub record Spoke (c : ℕ) (w out : Stream) (count : ℕ) (given : List (Place × List ℕ) × ClientBlock) : Type 0 where
   pub agrees : ClientAgrees c w out given.1
   pub accepted : given.1.accepted ≡ count
-  pub sent : AreWords c w given.0
+  pub sent : AreClientWords c w given.0
 
 module _ (c : ℕ) (w out : Stream) where
-  emit-agrees : (x : ClientBlock) → ClientAgrees c w out x → ClientAgrees c w out (client.after_emit x)
+  emit-agrees : (x : ClientBlock) → ClientAgrees c w out x → ClientAgrees c w out (client.client_after_emit x)
   emit-agrees x h =
       let left = emit-left out x w.bytes h.speaks h.accepts in
       let like = emit-alike x in
       let count = like.1 in
       let bounded = h.sound.bounded in
-      agrees-after c w w out x (client.after_emit x) h like.0 (omega arith) (h.w_is ∙ sym left.1) left.0 left.2
+      agrees-after c w w out x (client.client_after_emit x) h like.0 (omega arith) (h.w_is ∙ sym left.1) left.0 left.2
 
-  emit-fair : (x : ClientBlock) (r : Ready) → ClientAgrees c w out x → client.emitted x ≡ Some r → Fair w (client.filled (client.after_emit x) r)
+  emit-fair : (x : ClientBlock) (r : Ready) → ClientAgrees c w out x → client.client_emitted x ≡ Some r → Fair w (client.client_filled (client.client_after_emit x) r)
   emit-fair x r h e =
-      subst (λ (v : Stream). Fair v (client.filled (client.after_emit x) r)) (sym h.w_is) (emitted-fair x w.bytes h.sound h.wide h.speaks r e)
+      subst (λ (v : Stream). Fair v (client.client_filled (client.client_after_emit x) r)) (sym h.w_is) (emitted-fair x w.bytes h.sound h.wide h.speaks r e)
 
   pub emits-spoke : (n : ℕ) (x : ClientBlock) → ClientAgrees c w out x → Spoke c w out x.accepted (client_emits n x)
   unfolding client_emits
   emits-spoke zero x h = record { agrees = h; accepted = refl; sent = tt }
-  emits-spoke (suc n) x h = go (emits-spoke n (client.after_emit x) (emit-agrees x h)) (client.emitted x) refl where
-    go : Spoke c w out (client.after_emit x).accepted (client_emits n (client.after_emit x)) → (o : Option Ready) → client.emitted x ≡ o
+  emits-spoke (suc n) x h = go (emits-spoke n (client.client_after_emit x) (emit-agrees x h)) (client.client_emitted x) refl where
+    go : Spoke c w out (client.client_after_emit x).accepted (client_emits n (client.client_after_emit x)) → (o : Option Ready) → client.client_emitted x ≡ o
         → Spoke c w out x.accepted (elim o as (λ _. List (Place × List ℕ) × ClientBlock) [
           | None ↦ ([], x)
-          | Some r ↦ (to_front (client.after_emit x) r ∷ (client_emits n (client.after_emit x)).0, (client_emits n (client.after_emit x)).1)
+          | Some r ↦ (to_front (client.client_after_emit x) r ∷ (client_emits n (client.client_after_emit x)).0, (client_emits n (client.client_after_emit x)).1)
         ])
     go later None e = record { agrees = h; accepted = refl; sent = tt }
     go later (Some r) e =
-        let first = ready-word c w (client.after_emit x) r ((emit-alike x).0.0 ∙ h.numbered) (emit-fair x r h e) in
+        let first = ready-word c w (client.client_after_emit x) r ((emit-alike x).0.0 ∙ h.numbered) (emit-fair x r h e) in
         record { agrees = later.agrees; accepted = later.accepted ∙ (emit-alike x).1; sent = (first.0, first.1, later.sent) }
 
 -- a turn that is kept before it speaks is kept when it has

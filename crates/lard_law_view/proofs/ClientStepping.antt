@@ -6,11 +6,11 @@ use Rattle.lard_arrival.specs.Arrival.{is_acceptable, is_allowed, bare, peer_mss
 use Rattle.lard_client.specs.declared.heard.Heard.{Heard}
 use Rattle.lard_client.specs.declared.phase.Phase.{Phase}
 use Rattle.lard_client.specs.declared.phase.Phase.TheVariants.{Open, Aborted, Reset}
-use Rattle.lard_client.specs.Control.{ClientBlock, is_open, is_open_in, is_aborted_in, is_established, is_writing, rcv_nxt, rcv_wnd, written, shut_down, held_on, taken, aborted}
-use Rattle.lard_client.specs.Leaving.{after_timer}
-use Rattle.lard_client.specs.Arriving.{nothing, owing, reset_by_peer, begins_after, fresh_len, ends, accepting, part_of, on_fresh, on_text, on_ack, on_syn, on_rst, on_unacceptable, on_segment, answers_syn, established, on_greeting, reply_to, heard_in, arrived}
+use Rattle.lard_client.specs.Control.{ClientBlock, is_client_open, is_open_in, is_aborted_in, is_established, is_writing, client_rcv_nxt, client_rcv_wnd, client_written, shut_down, held_on, client_taken, aborted}
+use Rattle.lard_client.specs.Leaving.{client_after_timer}
+use Rattle.lard_client.specs.Arriving.{heard_nothing, client_owing, reset_by_peer, client_begins_after, fresh_len, client_ends, accepting, client_part_of, on_fresh, client_on_text, client_on_ack, client_on_syn, client_on_rst, client_on_unacceptable, client_on_segment, answers_syn, established, on_greeting, reply_to, heard_in, client_arrived}
 use Rattle.lard_segment.specs.Segment.{Said}
-use Rattle.lard_send.specs.Send.{Sending, queued_too, closed, introduced, after_ack}
+use Rattle.lard_send.specs.Send.{Sending, queued_too, send_closed, introduced, after_ack}
 use Rattle.lard_seq.specs.Seq.{one_if, seq_offset}
 use Rattle.lard_law_view.proofs.Acked.{taken_by}
 use Rattle.lard_law_view.proofs.Acknowledging.{Moves, ack-moves}
@@ -24,7 +24,7 @@ Step n aborted reset x r =
     (x.send.una ≤ r.1.send.una) × (x.send.una ≤ n → r.1.send.una ≤ n) × (x.accepted ≤ r.1.accepted) × (x.eof ≡ true → r.1.eof ≡ true)
     × (r.1.eof ≡ true → (x.eof ≡ true) ⊎ (r.0.eof ≡ true)) × (x.send.finished ≡ true → r.1.send.finished ≡ true)
     × ((x.phase ≡ Aborted → aborted ≡ true) → r.1.phase ≡ Aborted → aborted ≡ true) × ((x.phase ≡ Reset → reset ≡ true) → r.1.phase ≡ Reset → reset ≡ true)
-    × (is_open r.1 ≡ true → is_open x ≡ true)
+    × (is_client_open r.1 ≡ true → is_client_open x ≡ true)
 
 -- a FIN that is taken stays taken
 bit-grows : (e f : Bool) → (e ≡ true → f ≡ true) → one_if e ≤ one_if f
@@ -67,7 +67,7 @@ module _ (n : ℕ) (gone reset : Bool) where
       (omega arith, λ e. k.1 (m.1 e), k.2, k.3, k.4, λ e. k.5 (m.2 e), k.6, k.7, k.8)
 
   -- a RST
-  reset-step : (x : ClientBlock) → reset ≡ true → Steps x (nothing, reset_by_peer x)
+  reset-step : (x : ClientBlock) → reset ≡ true → Steps x (heard_nothing, reset_by_peer x)
   reset-step x told = (
     omega arith,
     λ e. e,
@@ -85,68 +85,68 @@ module _ (n : ℕ) (gone reset : Bool) where
   -- a part of it is accepted
   fresh-step : (x : ClientBlock) (s : Said) → Steps x (on_fresh x s)
   fresh-step x s =
-      let after : ClientBlock = accepting x (fresh_len x s) (ends x s) in
-      cond_both (begins_after x s || x.eof) (nothing, x) (part_of x s, after) (Steps x) (λ t. still x nothing)
+      let after : ClientBlock = accepting x (fresh_len x s) (client_ends x s) in
+      cond_both (client_begins_after x s || x.eof) (heard_nothing, x) (client_part_of x s, after) (Steps x) (λ t. still x heard_nothing)
       (λ t.
-      let going : x.eof ≡ false = (or_parts (begins_after x s) x.eof t).1 in
-      cond_both (ends x s) (closed x.send) x.send (λ (q : Sending). Steps x (part_of x s, record after { send = q }))
+      let going : x.eof ≡ false = (or_parts (client_begins_after x s) x.eof t).1 in
+      cond_both (client_ends x s) (send_closed x.send) x.send (λ (q : Sending). Steps x (client_part_of x s, record after { send = q }))
       (λ u. (omega arith, λ e. e, omega arith, λ e. absurd (cc), λ e. inr e, λ e. refl, λ e. e, λ e. e, λ e. e))
       (λ u. (omega arith, λ e. e, omega arith, λ e. absurd (cc), λ e. inr e, λ e. e, λ e. e, λ e. e, λ e. e)))
 
   -- its data, and its FIN
-  text-step : (x : ClientBlock) (s : Said) → Steps x (on_text x s)
+  text-step : (x : ClientBlock) (s : Said) → Steps x (client_on_text x s)
   text-step x s =
-      cond_both ((length s.payload == 0) && not s.flags.fin) (nothing, x) (on_fresh (owing x) s) (Steps x) (λ t. still x nothing) (λ t. fresh-step (owing x) s)
+      cond_both ((length s.payload == 0) && not s.flags.fin) (heard_nothing, x) (on_fresh (client_owing x) s) (Steps x) (λ t. still x heard_nothing) (λ t. fresh-step (client_owing x) s)
 
   -- it acknowledges no more than the front end took
-  ack-step : (x : ClientBlock) (s : Said) → (s.flags.ack ≡ true → seq_offset s.ack x.send.iss ≤ n) → Steps x (on_ack x s)
+  ack-step : (x : ClientBlock) (s : Said) → (s.flags.ack ≡ true → seq_offset s.ack x.send.iss ≤ n) → Steps x (client_on_ack x s)
   ack-step x s told =
       let send = after_ack x.send s.ack s.seq s.wnd in
       let acked : ClientBlock = record x { send = send } in
       let beyond = nat_lt x.send.nxt (seq_offset s.ack x.send.iss) in
-      cond_both (not s.flags.ack) (nothing, x) (cond beyond (nothing, owing x) (on_text acked s)) (Steps x) (λ t. still x nothing)
-      (λ t. cond_both beyond (nothing, owing x) (on_text acked s) (Steps x) (λ u. still x nothing)
-      (λ u. behind x send (on_text acked s) (ack-moves n x.send s.ack s.seq s.wnd (told (not-false s.flags.ack t))) (text-step acked s)))
+      cond_both (not s.flags.ack) (heard_nothing, x) (cond beyond (heard_nothing, client_owing x) (client_on_text acked s)) (Steps x) (λ t. still x heard_nothing)
+      (λ t. cond_both beyond (heard_nothing, client_owing x) (client_on_text acked s) (Steps x) (λ u. still x heard_nothing)
+      (λ u. behind x send (client_on_text acked s) (ack-moves n x.send s.ack s.seq s.wnd (told (not-false s.flags.ack t))) (text-step acked s)))
 
   module _ (x : ClientBlock) (s : Said) (told : s.flags.ack ≡ true → seq_offset s.ack x.send.iss ≤ n) (cause : s.flags.rst ≡ true → reset ≡ true) where
     -- to an established client
-    segment-step : Steps x (on_segment x s)
+    segment-step : Steps x (client_on_segment x s)
     segment-step =
         let P : Heard × ClientBlock → Type 0 = Steps x in
-        let none = still x nothing in
-        let resets : Heard × ClientBlock = cond (s.seq == rcv_nxt x) (nothing, reset_by_peer x) (nothing, owing x) in
-        let dropped : Heard × ClientBlock = cond s.flags.rst (nothing, x) (nothing, owing x) in
-        cond_both (is_acceptable (rcv_nxt x) (rcv_wnd x) s) (on_rst x s) (on_unacceptable x s) P
-        (λ t. cond_both (not s.flags.rst) (on_syn x s) resets P
-        (λ u. cond_both s.flags.syn (nothing, owing x) (on_ack x s) P (λ v. none) (λ v. ack-step x s told))
-        (λ u. cond_both (s.seq == rcv_nxt x) (nothing, reset_by_peer x) (nothing, owing x) P (λ v. reset-step x (cause (not-false s.flags.rst u))) (λ v. none)))
-        (λ t. cond_both (is_allowed (rcv_nxt x) (rcv_wnd x) s) (on_ack (owing x) (bare s)) dropped P
-        (λ u. ack-step (owing x) (bare s) told)
-        (λ u. cond_both s.flags.rst (nothing, x) (nothing, owing x) P (λ v. none) (λ v. none)))
+        let none = still x heard_nothing in
+        let resets : Heard × ClientBlock = cond (s.seq == client_rcv_nxt x) (heard_nothing, reset_by_peer x) (heard_nothing, client_owing x) in
+        let dropped : Heard × ClientBlock = cond s.flags.rst (heard_nothing, x) (heard_nothing, client_owing x) in
+        cond_both (is_acceptable (client_rcv_nxt x) (client_rcv_wnd x) s) (client_on_rst x s) (client_on_unacceptable x s) P
+        (λ t. cond_both (not s.flags.rst) (client_on_syn x s) resets P
+        (λ u. cond_both s.flags.syn (heard_nothing, client_owing x) (client_on_ack x s) P (λ v. none) (λ v. ack-step x s told))
+        (λ u. cond_both (s.seq == client_rcv_nxt x) (heard_nothing, reset_by_peer x) (heard_nothing, client_owing x) P (λ v. reset-step x (cause (not-false s.flags.rst u))) (λ v. none)))
+        (λ t. cond_both (is_allowed (client_rcv_nxt x) (client_rcv_wnd x) s) (client_on_ack (client_owing x) (bare s)) dropped P
+        (λ u. ack-step (client_owing x) (bare s) told)
+        (λ u. cond_both s.flags.rst (heard_nothing, x) (heard_nothing, client_owing x) P (λ v. none) (λ v. none)))
 
     -- the cluster's SYN
     greeting-step : Steps x (on_greeting x s)
     greeting-step =
         let P : Heard × ClientBlock → Type 0 = Steps x in
-        let none = still x nothing in
-        let synced = cond s.flags.syn (nothing, established x s) (nothing, x) in
+        let none = still x heard_nothing in
+        let synced = cond s.flags.syn (heard_nothing, established x s) (heard_nothing, x) in
         let met = introduced x.send s.seq (peer_mss s.mss) in
-        cond_both (not (answers_syn x s)) (nothing, x) (cond s.flags.rst (nothing, reset_by_peer x) synced) P (λ t. none)
-        (λ t. cond_both s.flags.rst (nothing, reset_by_peer x) synced P (λ u. reset-step x (cause u))
-        (λ u. cond_both s.flags.syn (nothing, established x s) (nothing, x) P
+        cond_both (not (answers_syn x s)) (heard_nothing, x) (cond s.flags.rst (heard_nothing, reset_by_peer x) synced) P (λ t. none)
+        (λ t. cond_both s.flags.rst (heard_nothing, reset_by_peer x) synced P (λ u. reset-step x (cause u))
+        (λ u. cond_both s.flags.syn (heard_nothing, established x s) (heard_nothing, x) P
         (λ v.
         let acks : s.flags.ack ≡ true = (and_parts s.flags.ack ((seq_offset s.ack x.send.iss == 1) && nat_lt 0 x.send.nxt) (not-false (answers_syn x s) t)).0 in
-        behind x (after_ack met s.ack s.seq s.wnd) (nothing, established x s) (ack-moves n met s.ack s.seq s.wnd (told acks)) (still (established x s) nothing))
+        behind x (after_ack met s.ack s.seq s.wnd) (heard_nothing, established x s) (ack-moves n met s.ack s.seq s.wnd (told acks)) (still (established x s) heard_nothing))
         (λ v. none)))
 
     -- to any client
     phase-step : (p : Phase) → Steps x (heard_in p x s)
-    phase-step Open = cond_both (x.send.una == 0) (on_greeting x s) (on_segment x s) (Steps x) (λ t. greeting-step) (λ t. segment-step)
+    phase-step Open = cond_both (x.send.una == 0) (on_greeting x s) (client_on_segment x s) (Steps x) (λ t. greeting-step) (λ t. segment-step)
     phase-step Aborted = still x (reply_to x s)
-    phase-step Reset = still x nothing
+    phase-step Reset = still x heard_nothing
 
-    pub arrived-step : Steps x (arrived x s)
-    unfolding arrived
+    pub arrived-step : Steps x (client_arrived x s)
+    unfolding client_arrived
     arrived-step = phase-step x.phase
 
   -- ---- its own calls, and its timer
@@ -170,34 +170,34 @@ module _ (n : ℕ) (gone reset : Bool) where
       )
 
   -- its timer fires
-  pub timer-step : (x : ClientBlock) → Steps x (nothing, after_timer x)
-  timer-step x = same-step x x (after_timer x) nothing (timer-same x) (still x nothing)
+  pub timer-step : (x : ClientBlock) → Steps x (heard_nothing, client_after_timer x)
+  timer-step x = same-step x x (client_after_timer x) heard_nothing (timer-same x) (still x heard_nothing)
 
   -- it closes its side
-  pub shuts-step : (x : ClientBlock) → Steps x (nothing, shut_down x)
+  pub shuts-step : (x : ClientBlock) → Steps x (heard_nothing, shut_down x)
   shuts-step x =
-      cond_both (is_open x) (record x { send = closed x.send }) x (λ (y : ClientBlock). Steps x (nothing, y))
-      (λ t. (omega arith, λ e. e, omega arith, λ e. e, λ e. inl e, λ e. refl, λ e. e, λ e. e, λ e. e)) (λ t. still x nothing)
+      cond_both (is_client_open x) (record x { send = send_closed x.send }) x (λ (y : ClientBlock). Steps x (heard_nothing, y))
+      (λ t. (omega arith, λ e. e, omega arith, λ e. e, λ e. inl e, λ e. refl, λ e. e, λ e. e, λ e. e)) (λ t. still x heard_nothing)
 
   -- it leaves bytes in its window
-  pub holds-step : (x : ClientBlock) → Steps x (nothing, held_on x)
-  holds-step x = cond_both (is_open x) (record x { holding = true }) x (λ (y : ClientBlock). Steps x (nothing, y)) (λ t. still x nothing) (λ t. still x nothing)
+  pub holds-step : (x : ClientBlock) → Steps x (heard_nothing, held_on x)
+  holds-step x = cond_both (is_client_open x) (record x { holding = true }) x (λ (y : ClientBlock). Steps x (heard_nothing, y)) (λ t. still x heard_nothing) (λ t. still x heard_nothing)
 
   -- it reads them
-  pub takes-step : (x : ClientBlock) → Steps x (nothing, taken x)
+  pub takes-step : (x : ClientBlock) → Steps x (heard_nothing, client_taken x)
   takes-step x =
-      cond_both (is_open x) (record x { holding = false; held = 0; owed = x.owed || is_established x }) x (λ (y : ClientBlock). Steps x (nothing, y))
-      (λ t. still x nothing) (λ t. still x nothing)
+      cond_both (is_client_open x) (record x { holding = false; held = 0; owed = x.owed || is_established x }) x (λ (y : ClientBlock). Steps x (heard_nothing, y))
+      (λ t. still x heard_nothing) (λ t. still x heard_nothing)
 
   -- it writes
-  pub writes-step : (x : ClientBlock) (bytes : List ℕ) → Steps x (nothing, written x bytes)
+  pub writes-step : (x : ClientBlock) (bytes : List ℕ) → Steps x (heard_nothing, client_written x bytes)
   writes-step x bytes =
-      cond_both (is_writing x) (record x { send = queued_too x.send bytes }) x (λ (y : ClientBlock). Steps x (nothing, y)) (λ t. still x nothing) (λ t. still x nothing)
+      cond_both (is_writing x) (record x { send = queued_too x.send bytes }) x (λ (y : ClientBlock). Steps x (heard_nothing, y)) (λ t. still x heard_nothing) (λ t. still x heard_nothing)
 
   -- it aborts
-  pub aborts-step : (x : ClientBlock) → gone ≡ true → Steps x (nothing, aborted x)
+  pub aborts-step : (x : ClientBlock) → gone ≡ true → Steps x (heard_nothing, aborted x)
   aborts-step x done =
-      cond_both (is_open x) (record x { phase = Aborted }) x (λ (y : ClientBlock). Steps x (nothing, y))
+      cond_both (is_client_open x) (record x { phase = Aborted }) x (λ (y : ClientBlock). Steps x (heard_nothing, y))
       (λ t. (
         omega arith,
         λ e. e,
@@ -209,4 +209,4 @@ module _ (n : ℕ) (gone reset : Bool) where
         λ e f. absurd (let no : true ≡ false = ap is_aborted_in f in cc),
         λ e. absurd (cc),
       ))
-      (λ t. still x nothing)
+      (λ t. still x heard_nothing)

@@ -3,9 +3,9 @@ use Rattle.std.proofs.Common.{◌≡◌, ℕ, Bool, List, [], refl, ap, ◌++◌
 use Rattle.std.specs.FinMap as table
 use Rattle.lard_base.specs.declared.event.Event.{Event}
 use Rattle.lard_base.specs.declared.place.Place.TheVariants.{Client}
-use Rattle.lard_client.specs.Control.{ClientBlock, is_armed}
+use Rattle.lard_client.specs.Control.{ClientBlock, is_client_armed}
 use Rattle.lard_rules.specs.declared.machine.Machine.{Machine}
-use Rattle.lard_rules.specs.Bounds.{IsNumber}
+use Rattle.lard_rules.specs.Bounds.{IsConnNumber}
 use Rattle.lard_rules.specs.Machine.{client_acted, client_put}
 use Rattle.lard_law_view.specs.View.{Conn, Move, by_client, conn, part_of, station_armed, timer_rows, with_station}
 use Rattle.lard_law_view.proofs.Heads.{Begins}
@@ -43,14 +43,14 @@ client-said c given t = record {
 
 module _ (m : Machine) (P : Conn → Move → Type 0) (Q : Event → Machine → Type 0) (shapes : Shapes m P Q) where
   -- a client acted: its timer was so before
-  pub client-acts : (e : Event) (c iss : ℕ) (was : Bool) (given : ClientBlock × Turn) (heads : List Seen) → IsNumber c → was ≡ station_armed (table.get m.clients c) → IsClientTurn c given → Begins m e (Client c) c heads → HasOwn e (behind e ++ given.1.notes)
+  pub client-acts : (e : Event) (c iss : ℕ) (was : Bool) (given : ClientBlock × Turn) (heads : List Seen) → IsConnNumber c → was ≡ station_armed (table.get m.clients c) → IsClientTurn c given → Begins m e (Client c) c heads → HasOwn e (behind e ++ given.1.notes)
       → P (conn m c) (record { place = Client c; heads = heads; said = by_client given.1; part = with_station (conn m c).part (record { client = given.0; iss = iss }) })
       → Q e (client_acted m e (behind e) c iss was given)
   unfolding conn part_of timer_rows
   client-acts e c iss was given heads number timer turn begins first does =
       let s : Station = record { client = given.0; iss = iss } in
       let said = client-said c given turn in
-      shapes.one (client_put m c s) e (Client c) (out_of (Client c) c was (is_armed given.0) given.1) c heads given.1.notes (with_station (part_of m c) s)
+      shapes.one (client_put m c s) e (Client c) (out_of (Client c) c was (is_client_armed given.0) given.1) c heads given.1.notes (with_station (part_of m c) s)
       (record {
         put = record { config = refl; files = refl; net = refl; journal = refl; events = refl; answered = refl; now = refl; nodes = refl; jobs = λ h. h };
         number = number;
@@ -58,7 +58,7 @@ module _ (m : Machine) (P : Conn → Move → Type 0) (Q : Event → Machine →
         said = said;
         first = first;
         notes = λ net. notes-all (Client c) c net given.1.notes tt said.notes;
-        timers = ap (λ b. timer_change (Client c) c b (is_armed given.0)) timer;
+        timers = ap (λ b. timer_change (Client c) c b (is_client_armed given.0)) timer;
         mine = client-mine m c s;
         others = λ q n. client-others m c q s n;
       }) does

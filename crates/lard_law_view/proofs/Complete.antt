@@ -10,7 +10,7 @@ use Rattle.lard_base.specs.declared.place.Reason.{Reason}
 use Rattle.lard_base.specs.declared.place.Reason.TheVariants as reason
 use Rattle.lard_client.specs.declared.phase.Phase.{Phase}
 use Rattle.lard_client.specs.declared.phase.Phase.TheVariants.{Open, Aborted, Reset}
-use Rattle.lard_client.specs.Control.{ClientBlock, is_armed, is_established, is_open, is_open_in}
+use Rattle.lard_client.specs.Control.{ClientBlock, is_client_armed, is_established, is_client_open, is_open_in}
 use Rattle.lard_endpoint.specs.Control.{ControlBlock}
 use Rattle.lard_endpoint.specs.declared.control.moving.Final.{Final}
 use Rattle.lard_endpoint.specs.Moving.{is_closed}
@@ -21,7 +21,7 @@ use Rattle.lard_law_view.proofs.Acked.{Acks, FrontHolds, heard_by, heard_of, tak
 use Rattle.lard_law_view.proofs.Holding.{ConnHolds}
 use Rattle.lard_law_view.proofs.Story.{Story}
 use Rattle.lard_rules.specs.declared.places.Station.{Station}
-use Rattle.lard_law_view.specs.Seat.{Seat, Nowhere, AtFront, Away, Over, front_armed}
+use Rattle.lard_law_view.specs.Seat.{Seat, Nowhere, AtFront, Away, Over, seat_armed}
 use Rattle.lard_request.specs.declared.verdict.Verdict.{Verdict}
 use Rattle.lard_send.specs.Send.{Sending, is_clear, symbols}
 use Rattle.lard_seq.specs.Seq.{one_if, seq_add}
@@ -157,8 +157,8 @@ module _ (files : FilesAt) (w out : Stream) (vs : List Verdict) (x : ClientBlock
 
 module _ (files : FilesAt) (c : ℕ) (w out : Stream) (vs : List Verdict) (x : Station) (f : Seat) (t : Tale) (y : Story)
     (a : Agrees files c w out vs x f t) (r : ConnHolds x f y) (told : t.was_reset ≡ y.reset) (not_aborted : y.aborted ≡ false) (not_reset : y.reset ≡ false)
-    (client_quiet : is_armed x.client ≡ false) (front_quiet : front_armed f ≡ false) where
-  open_ : is_open x.client ≡ true
+    (client_quiet : is_client_armed x.client ≡ false) (front_quiet : seat_armed f ≡ false) where
+  open_ : is_client_open x.client ≡ true
   open_ = go x.client.phase refl where
     go : (p : Phase) → x.client.phase ≡ p → is_open_in p ≡ true
     go Open e = refl
@@ -166,7 +166,7 @@ module _ (files : FilesAt) (c : ℕ) (w out : Stream) (vs : List Verdict) (x : S
     go Reset e = absurd (both_ways y.reset not_reset (r.client.resets e))
 
   cleared : is_clear x.client.send ≡ true
-  cleared = go (is_open x.client) open_ (is_clear x.client.send) client_quiet where
+  cleared = go (is_client_open x.client) open_ (is_clear x.client.send) client_quiet where
     go : (o : Bool) → o ≡ true → (k : Bool) → (o && not k) ≡ false → k ≡ true
     go true e true n = refl
     go true e false n = absurd (both_ways true n refl)
@@ -192,7 +192,7 @@ module _ (files : FilesAt) (c : ℕ) (w out : Stream) (vs : List Verdict) (x : S
   front_done (AtFront b count) e =
       let h : HoldsIt w out vs b count = subst (FrontAgrees w out vs t.was_reset) e a.front in
       let heard : 1 + length w.bytes + one_if w.ended ≤ heard_by b.recv = subst (λ (o : Seat). 1 + length w.bytes + one_if w.ended ≤ heard_of x.client.send.iss o) e all_heard in
-      let clear : is_clear b.send ≡ true = not_not (is_clear b.send) (sym (ap front_armed e) ∙ front_quiet) in
+      let clear : is_clear b.send ≡ true = not_not (is_clear b.send) (sym (ap seat_armed e) ∙ front_quiet) in
       let una : b.send.una ≡ symbols b.send = clear-una b.send clear in
       let count : length out.bytes ≡ b.send.total = h.speaks.part.count in
       let end : one_if out.ended ≡ one_if b.send.finished = ap (λ (s : Stream). one_if s.ended) h.out_is in

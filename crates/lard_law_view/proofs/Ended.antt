@@ -4,8 +4,8 @@ use Rattle.std.specs.Prelude.{◌⊎◌}
 use Rattle.lard_base.specs.declared.event.Event.{Event}
 use Rattle.lard_base.specs.declared.place.Place.TheVariants.{Front}
 use Rattle.lard_rules.specs.declared.machine.Machine.{Machine}
-use Rattle.lard_rules.specs.Bounds.{IsNumber}
-use Rattle.lard_rules.specs.Machine.{front_gave, front_setting, told}
+use Rattle.lard_rules.specs.Bounds.{IsConnNumber}
+use Rattle.lard_rules.specs.Machine.{front_gave, front_setting, machine_told}
 use Rattle.lard_rules.specs.Outs.{nothing_done}
 use Rattle.lard_rules.specs.declared.places.Out.{Out}
 use Rattle.lard_law_view.specs.View.{Conn, IsViewed, Move, Rules, conn, front_does, part_of, setting_of, timer_rows, with_front}
@@ -20,8 +20,8 @@ use Rattle.lard_law_view.proofs.Turned.{sent-messages}
 use Rattle.lard_endpoint.specs.declared.control.moving.Final.{Final}
 use Rattle.lard_rules.specs.declared.front.FrontState.{FrontState}
 use Rattle.lard_rules.specs.declared.front.FrontTurn.{FrontTurn}
-use Rattle.lard_rules.specs.Front.{Deed, Drops, Says, Does, Did, FrontEnv, FrontPart, ended_by, front_admitted, front_ended}
-use Rattle.lard_rules.specs.FrontPlace.{admits, admits_too, ended_deed, front_env, front_part, front_put, in_order, joined, out_of, put_back, timers_of}
+use Rattle.lard_rules.specs.Front.{FrontDeed, Drops, Says, Does, Did, FrontEnv, FrontPart, front_ended_by, front_admitted, front_ended}
+use Rattle.lard_rules.specs.FrontPlace.{admits, admits_too, ended_deed, front_env, front_part, front_put, in_order, front_joined, front_out_of, put_back, front_timers}
 use Rattle.lard_rules.proofs.FrontParts.{part_other, part_put}
 use Rattle.lard_dispatch.specs.Calls.{ended_answer}
 use Rattle.lard_handoff_front.specs.declared.row.FrontRow.{FrontRow}
@@ -41,12 +41,12 @@ use Rattle.lard_law_view.proofs.OwnRecords.{behind}
 abbrev pub IsLeft : Did → Type 0
 IsLeft x = (env : FrontEnv) (choice : FirstChoice) → front_admitted env x.part choice ≡ None
 
-abbrev pub Leaves : Deed → Type 0
+abbrev pub Leaves : FrontDeed → Type 0
 Leaves Drops = Unit {0}
 Leaves (Says t) = Unit {0}
 Leaves (Does x) = IsLeft x
 
-ended_by-leaves : (env : FrontEnv) (p : FrontPart) (from epoch : ℕ) (last : Final) (o : Option FrontRow) (given : OnEnded) → Leaves (ended_by env p from epoch last o given)
+ended_by-leaves : (env : FrontEnv) (p : FrontPart) (from epoch : ℕ) (last : Final) (o : Option FrontRow) (given : OnEnded) → Leaves (front_ended_by env p from epoch last o given)
 ended_by-leaves env p from epoch last None given = tt
 ended_by-leaves env p from epoch last (Some row) (New next) = λ env choice. refl
 ended_by-leaves env p from epoch last (Some row) Again = tt
@@ -77,7 +77,7 @@ rest-none a = λ i. record {
   answered = plus-none a.answered i;
 }
 
-both-none : (t u : FrontTurn) (rows as_ bs : List Rec) → both_out (out_of t as_) (out_of u bs) nothing_done rows ≡ out_of (joined t u) rows
+both-none : (t u : FrontTurn) (rows as_ bs : List Rec) → both_out (front_out_of t as_) (front_out_of u bs) nothing_done rows ≡ front_out_of (front_joined t u) rows
 both-none t u rows as_ bs = λ i. record {
   notes = append-nil (t.notes ++ u.notes) i;
   segments = append-nil (t.segments ++ u.segments) i;
@@ -90,16 +90,16 @@ both-none t u rows as_ bs = λ i. record {
 -- ---- the step
 
 module _ (m : Machine) (view : IsViewed m) (P : Conn → Move → Type 0) (R : Rules (setting_of m) P) (Q : Event → Machine → Type 0) (shapes : Shapes m P Q)
-    (e : Event) (c : ℕ) (heads : List Seen) (number : IsNumber c) (begins : Begins m e Front c heads) (own : AreOwn e (behind e)) where
+    (e : Event) (c : ℕ) (heads : List Seen) (number : IsConnNumber c) (begins : Begins m e Front c heads) (own : AreOwn e (behind e)) where
   -- connection c is put back so
   module _ (x : Did) (of : IsFrontDeed c (front_part m.front c) (Does x)) (does : P (conn m c) (front_does (conn m c) heads (Does x))) (is_left : IsLeft x) where
     abbrev s : FrontState
     s = put_back m.front c x
 
     abbrev cs : List Rec
-    cs = timers_of c (front_part m.front c) x.part
+    cs = front_timers c (front_part m.front c) x.part
 
-    alone : Q e (front_gave m e (behind e) (s, out_of x.turn cs))
+    alone : Q e (front_gave m e (behind e) (s, front_out_of x.turn cs))
     alone = front-acts m P Q shapes e c heads number begins own (Does x) of does
 
     -- the head is another connection
@@ -110,7 +110,7 @@ module _ (m : Machine) (view : IsViewed m) (P : Conn → Move → Type 0) (R : R
 
     -- the head is admitted as well
     admitted : (d : ℕ) (choice : FirstChoice) (y : FrontPart × FrontTurn) → front_admitted (front_env (front_setting m) s d 0) (front_part s d) choice ≡ Some y
-        → Q e (front_gave m e (behind e) (front_put s d y.0, out_of (joined x.turn y.1) (in_order c d cs (timers_of d (front_part s d) y.0))))
+        → Q e (front_gave m e (behind e) (front_put s d y.0, front_out_of (front_joined x.turn y.1) (in_order c d cs (front_timers d (front_part s d) y.0))))
     unfolding conn part_of timer_rows
     admitted d choice y e_ =
         let env : FrontEnv = front_env (front_setting m) s d 0 in
@@ -118,15 +118,15 @@ module _ (m : Machine) (view : IsViewed m) (P : Conn → Move → Type 0) (R : R
         let before : front_part s d ≡ front_part m.front d = part_other m.front c d x.part n in
         let now : front_admitted env (front_part m.front d) choice ≡ Some y = ap (λ (p : FrontPart). front_admitted env p choice) (sym before) ∙ e_ in
         let row = admitted-row env (front_part m.front d) choice y now in
-        let its : IsNumber d = row-number (conn m d) row.0 (view.sound d) row.1 in
-        let ds : List Rec = timers_of d (front_part s d) y.0 in
+        let its : IsConnNumber d = row-number (conn m d) row.0 (view.sound d) row.1 in
+        let ds : List Rec = front_timers d (front_part s d) y.0 in
         let kept = sent-messages (conn m d) Front (front_part m.front d).kept (view.sound d).between (view.sound d).front in
         let admission : IsAdmission d (front_part m.front d) y = admitted-turn env refl its (front_part m.front d) kept choice y now in
         let rows : List Rec = in_order c d cs ds in
-        let a : Out = out_of x.turn cs in
+        let a : Out = front_out_of x.turn cs in
         let w : Machine = record m { front = front_put s d y.0 } in
-        subst (λ (o : Out). Q e (told w e (behind e) Front o)) (both-none x.turn y.1 rows cs ds)
-        (shapes.two w e a (out_of y.1 ds) nothing_done rows c d heads x.turn.notes (with_front (part_of m c) x.part) (with_front (part_of m d) y.0)
+        subst (λ (o : Out). Q e (machine_told w e (behind e) Front o)) (both-none x.turn y.1 rows cs ds)
+        (shapes.two w e a (front_out_of y.1 ds) nothing_done rows c d heads x.turn.notes (with_front (part_of m c) x.part) (with_front (part_of m d) y.0)
         (record {
           put = front-put m (front_put s d y.0);
           number = number;
@@ -148,7 +148,7 @@ module _ (m : Machine) (view : IsViewed m) (P : Conn → Move → Type 0) (R : R
           notes_too = λ net. notes-all Front d net y.1.notes tt admission.0.notes;
           order = ordered (nat_lt d c) ds;
           timers = refl;
-          timers_too = ap (λ (p : FrontPart). timers_of d p y.0) before;
+          timers_too = ap (λ (p : FrontPart). front_timers d p y.0) before;
           mine = front-mine m (front_put s d y.0) c x.part (part_other s d c y.0 (λ same. n (sym same)) ∙ part_put m.front c x.part);
           mine_too = front-mine m (front_put s d y.0) d y.0 (part_put s d y.0);
           others = λ q not_c not_d. front-others m (front_put s d y.0) q (part_other s d q y.0 not_d ∙ part_other m.front c q x.part not_c);
@@ -173,7 +173,7 @@ module _ (m : Machine) (view : IsViewed m) (P : Conn → Move → Type 0) (R : R
     over = next (ended_answer m.front.dispatch c (front_setting m).now)
 
   -- a rule by which a connection may have ended
-  pub ended-acts : (deed : Deed) → Leaves deed → IsFrontDeed c (front_part m.front c) deed → P (conn m c) (front_does (conn m c) heads deed)
+  pub ended-acts : (deed : FrontDeed) → Leaves deed → IsFrontDeed c (front_part m.front c) deed → P (conn m c) (front_does (conn m c) heads deed)
       → Q e (front_gave m e (behind e) (ended_deed (front_setting m) m.front c deed))
   ended-acts Drops leaves of does = front-acts m P Q shapes e c heads number begins own Drops of does
   ended-acts (Says t) leaves of does = front-acts m P Q shapes e c heads number begins own (Says t) of does

@@ -15,7 +15,7 @@ use Rattle.lard_law_view.proofs.EndpointSaying.{Left, Spoke, awaits-acks, emits-
 use Rattle.lard_rules.specs.declared.places.Ending.{Ending}
 use Rattle.lard_rules.specs.declared.places.Ending.TheVariants as ending
 use Rattle.lard_rules.specs.declared.places.Turn.{Turn}
-use Rattle.lard_rules.specs.Serving.{ServeEnv, Service, cut_off, limit_said, rested, settled, spoken, told}
+use Rattle.lard_rules.specs.Serving.{ServeEnv, Service, cut_off, limit_said, rested, serving_settled, spoken, serving_told}
 use Rattle.lard_rules.specs.Speaking.{speaks, speaks_symbols}
 use Rattle.lard_law_view.specs.Seat.{Over}
 use Rattle.lard_segment.specs.Segment.{IsSendable}
@@ -105,17 +105,17 @@ module _ (env : ServeEnv) (w : Stream) (first most : ℕ) (aborted : Bool) (is :
       let recv : heard_by said.1.recv ≡ heard_by s.block.recv = ap heard_by talk.left.0 in
       let same : heard_at w.first (ending.Over last) ≡ heard_by s.block.recv = ended-heard w out said.1 reason.Limit is talk.between ∙ recv in
       let may = limit-may out said.1 talk.between in
-      let reply : RepliesMay env.c w.first (heard_by said.1.recv) (told env (limit_said last) ∷ []) = ((refl, (limit_said last, refl, may.0, may.1)), tt) in
+      let reply : RepliesMay env.c w.first (heard_by said.1.recv) (serving_told env (limit_said last) ∷ []) = ((refl, (limit_said last, refl, may.0, may.1)), tt) in
       record {
         grows = omega arith;
         holds = (λ e. absurd (cc), λ e. absurd (cc));
-        sent = subst (λ (m : ℕ). RepliesMay env.c w.first m (said.0 ++ told env (limit_said last) ∷ [])) (sym same)
-            (replies_may-append env.c w.first (heard_by s.block.recv) said.0 (told env (limit_said last) ∷ []) talk.sent
-            (subst (λ (m : ℕ). RepliesMay env.c w.first m (told env (limit_said last) ∷ [])) recv reply));
+        sent = subst (λ (m : ℕ). RepliesMay env.c w.first m (said.0 ++ serving_told env (limit_said last) ∷ [])) (sym same)
+            (replies_may-append env.c w.first (heard_by s.block.recv) said.0 (serving_told env (limit_said last) ∷ []) talk.sent
+            (subst (λ (m : ℕ). RepliesMay env.c w.first m (serving_told env (limit_said last) ∷ [])) recv reply));
       }
 
   -- either is the end of a turn
-  pub settled-acts : (n : ℕ) (s : Service) → n ≤ heard_by s.block.recv → Spans w first s.block → Holds most aborted s.block → Turns n (settled env s)
+  pub settled-acts : (n : ℕ) (s : Service) → n ≤ heard_by s.block.recv → Spans w first s.block → Holds most aborted s.block → Turns n (serving_settled env s)
   settled-acts n s grows spans holds = go s.over where
     go : (o : Option ℕ) → Turns n (elim o [ None ↦ spoken env s [] | Some total ↦ cut_off env s ])
     go None = spoken-acts n s [] grows spans holds tt

@@ -10,7 +10,7 @@ use Rattle.lard_endpoint.specs.Control.{ControlBlock, rcv_nxt, rcv_wnd}
 use Rattle.lard_law_view.proofs.EndpointStreams.{segment-takes}
 use Rattle.lard_law_view.proofs.Acknowledging.{ack-moves, acks-offset}
 use Rattle.lard_law_view.proofs.Acked.{WordMay, heard_by}
-use Rattle.lard_recv.specs.Recv.{Received, arrived, awaited, begins_after, ends, fresh, taken}
+use Rattle.lard_recv.specs.Recv.{Received, arrived, awaited, begins_after, ends, fresh_bytes, bytes_taken}
 use Rattle.lard_segment.specs.Segment.{Said}
 use Rattle.lard_send.specs.Send.{after_ack}
 use Rattle.lard_seq.specs.Seq.{one_if, seq_offset}
@@ -69,7 +69,7 @@ arrival-holds first most aborted b s fits e h may =
 arrived-grows : (r : Received) (seq : ℕ) (data_ : List ℕ) (fin : Bool) → heard_by r ≤ heard_by (arrived r seq data_ fin)
 arrived-grows r seq data_ fin =
     let P : Received → Type 0 = λ z. heard_by r ≤ heard_by z in
-    let more : Received = taken r (fresh r seq data_) (ends r seq data_ fin) in
+    let more : Received = bytes_taken r (fresh_bytes r seq data_) (ends r seq data_ fin) in
     cond_both (begins_after seq (awaited r)) r (cond r.fin r more) P (λ _. omega arith)
     (λ _. cond_both r.fin r more P (λ _. omega arith)
     (λ t. let none : one_if r.fin ≡ 0 = ap one_if t in omega arith))

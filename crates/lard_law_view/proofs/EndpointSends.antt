@@ -6,7 +6,7 @@ use Rattle.lard_endpoint.specs.Control.{ControlBlock}
 use Rattle.lard_history.proofs.Each.{Each}
 use Rattle.lard_rules.proofs.Loops.{KeptBySpeaking, speaks_keep, symbols_keep}
 use Rattle.lard_rules.proofs.Totals.{HasAsMany, emit-many}
-use Rattle.lard_rules.specs.Serving.{ServeEnv, ready_of}
+use Rattle.lard_rules.specs.Serving.{ServeEnv, serving_ready_of}
 use Rattle.lard_rules.specs.Speaking.{speaks, speaks_symbols}
 use Rattle.lard_segment.specs.declared.segment.Ready.{Ready}
 
@@ -29,6 +29,6 @@ speaks-to c b = speaks_keep c (λ b ss d. SpeaksTo c b (ss, d)) (says-to c) b
 pub speaks_symbols-to : (c : ℕ) (b : ControlBlock) → SpeaksTo c b (speaks_symbols c b)
 speaks_symbols-to c b = symbols_keep c (λ b ss d. SpeaksTo c b (ss, d)) (says-to c) (λ b r e held. record { to = tt; many = emit-many b }) b
 
-pub ready-to : (env : ServeEnv) (b : ControlBlock) (o : Option Ready) → AllTo (Client env.c) (ready_of env b o)
+pub ready-to : (env : ServeEnv) (b : ControlBlock) (o : Option Ready) → AllTo (Client env.c) (serving_ready_of env b o)
 ready-to env b None = tt
 ready-to env b (Some r) = (refl, tt)

@@ -5,8 +5,8 @@ use Rattle.lard_base.specs.declared.event.Event.TheVariants as event
 use Rattle.lard_base.specs.declared.place.Place.{Place}
 use Rattle.lard_base.specs.declared.place.Place.TheVariants.{Front, Node, Client}
 use Rattle.lard_client.specs.Control.{ClientBlock}
-use Rattle.lard_rules.specs.Bounds.{IsNumber}
-use Rattle.lard_law_view.specs.View.{AreBetween, AreSent, ClientRules, Conn, FrontRules, IsFrontEnv, IsNodeEnv, IsSound, Move, NodeRules, Rules, Said, Setting, client_begins, client_does, brought_said, by_front, contents, epoch_in, event_seen, front_admits, front_does, grown, inject_seen, letter, letters_of, named, node_does, node_put, nothing_said, packet_seen, reads_first, stands, with_front}
+use Rattle.lard_rules.specs.Bounds.{IsConnNumber}
+use Rattle.lard_law_view.specs.View.{AreBetween, AreSent, ClientRules, Conn, FrontRules, IsFrontEnv, IsNodeEnv, IsConnSound, Move, NodeRules, Rules, TurnSaid, Setting, client_begins, client_does, brought_said, by_front, content_said, epoch_in, event_seen, front_admits, front_does, grown, inject_seen, letter, letters_of, named_records, node_does, node_put_back, nothing_said, packet_seen, reads_first, stands, with_front}
 use Rattle.lard_law_view.proofs.Clients.{client-said}
 use Rattle.lard_law_view.proofs.Fronts as fronts
 use Rattle.lard_law_view.proofs.Fronts.{IsAdmission, IsFrontDeed}
@@ -47,12 +47,12 @@ pub record IsItsOwn (x : Conn) (v : Move) : Type 0 where
 
 -- So is it of a sound connection with a number, which stays sound.
 abbrev pub IsFine : Conn → Move → Type 0
-IsFine x v = IsNumber x.c → IsSound x → IsItsOwn x v × IsSound (grown x v)
+IsFine x v = IsConnNumber x.c → IsConnSound x → IsItsOwn x v × IsConnSound (grown x v)
 
 -- what is named of what a node notes is noted, too
-named-noted : (place : Place) (c : ℕ) (rs : List Rec) → Each (NotedAt place c) rs → Each (NotedAt place c) (named rs)
+named-noted : (place : Place) (c : ℕ) (rs : List Rec) → Each (NotedAt place c) rs → Each (NotedAt place c) (named_records rs)
 named-noted place c [] e = tt
-named-noted place c (r ∷ rs) e = cond_both (is_some (whose r)) (r ∷ named rs) (named rs) (Each (NotedAt place c)) (λ t. (e.0, named-noted place c rs e.1)) (λ t. named-noted place c rs e.1)
+named-noted place c (r ∷ rs) e = cond_both (is_some (whose r)) (r ∷ named_records rs) (named_records rs) (Each (NotedAt place c)) (λ t. (e.0, named-noted place c rs e.1)) (λ t. named-noted place c rs e.1)
 
 -- ---- packets
 
@@ -64,7 +64,7 @@ between-sent : (c : ℕ) (place : Place) (ss : List (Place × List ℕ)) → All
 between-sent c place [] e = tt
 between-sent c place (s ∷ ss) e = (e.0, between-sent c place ss e.1)
 
-module _ (x : Conn) (v : Move) (sound : IsSound x) (segments : AllBetween x.c v.place v.said.segments) (messages : AreMessages x.c v.place v.said.messages) where
+module _ (x : Conn) (v : Move) (sound : IsConnSound x) (segments : AllBetween x.c v.place v.said.segments) (messages : AreMessages x.c v.place v.said.messages) where
   between-grown : AreBetween x.c (grown x v).letters
   between-grown = between-append x.c x.letters (letters_of v) sound.between
       (between-append x.c (map (letter v.place) v.said.segments) (map (letter v.place) v.said.messages) (between-sent x.c v.place v.said.segments segments)
@@ -82,13 +82,13 @@ some-same a b e = cc
 its-own : (x : Conn) (v : Move) (answered : ℕ) → IsSaid v.place x.c v.said.notes v.said.segments v.said.gave v.said.messages answered → IsItsOwn x v
 its-own x v answered of = record { notes = of.notes; segments = of.segments; gave = of.gave; messages = of.messages }
 
-module _ (x : Conn) (number : IsNumber x.c) (sound : IsSound x) where
+module _ (x : Conn) (number : IsConnNumber x.c) (sound : IsConnSound x) where
   -- what each rule's move owes
   abbrev Good : Move → Type 0
-  Good v = IsItsOwn x v × IsSound (grown x v)
+  Good v = IsItsOwn x v × IsConnSound (grown x v)
 
   -- nothing that is kept changes
-  stands-fine : (place : Place) (heads : List Seen) (said : Said) → IsItsOwn x (stands x place heads said) → Good (stands x place heads said)
+  stands-fine : (place : Place) (heads : List Seen) (said : TurnSaid) → IsItsOwn x (stands x place heads said) → Good (stands x place heads said)
   stands-fine place heads said own = let v : Move = stands x place heads said in (
     own,
     record {
@@ -136,7 +136,7 @@ module _ (x : Conn) (number : IsNumber x.c) (sound : IsSound x) where
       },
     )
 
-  front-deed-fine : (heads : List Seen) (d : front.Deed) → IsFrontDeed x.c x.part.front d → Good (front_does x heads d)
+  front-deed-fine : (heads : List Seen) (d : front.FrontDeed) → IsFrontDeed x.c x.part.front d → Good (front_does x heads d)
   front-deed-fine heads front.Drops of = stands-fine Front heads nothing_said (record { notes = tt; segments = tt; gave = tt; messages = tt })
   front-deed-fine heads (front.Says t) of = stands-fine Front heads (by_front t) (its-own x (front_does x heads (front.Says t)) t.answered of)
   front-deed-fine heads (front.Does y) of = front-fine heads y.part y.turn (its-own x (front_does x heads (front.Does y)) y.turn.answered of.0) of.1
@@ -147,12 +147,12 @@ module _ (x : Conn) (number : IsNumber x.c) (sound : IsSound x) where
   -- ---- a node's, behind these heads
 
   -- what one node keeps is put back
-  put-all : (P : ℕ → NodePart → Type 0) (n : ℕ) (q : NodePart) → ((k : ℕ) → P k (x.part.nodes k)) → P n q → (k : ℕ) → P k (node_put x.part.nodes n q k)
-  put-all P n q all one k = by_number (P k (node_put x.part.nodes n q k)) k n
+  put-all : (P : ℕ → NodePart → Type 0) (n : ℕ) (q : NodePart) → ((k : ℕ) → P k (x.part.nodes k)) → P n q → (k : ℕ) → P k (node_put_back x.part.nodes n q k)
+  put-all P n q all one k = by_number (P k (node_put_back x.part.nodes n q k)) k n
       (λ same. subst (P k) (sym (ap (λ b. cond b q (x.part.nodes k)) (ap (λ j. nat_eq j n) same ∙ same_number n))) (subst (λ (j : ℕ). P j q) (sym same) one))
       (λ other. subst (P k) (sym (ap (λ b. cond b q (x.part.nodes k)) (other_number k n other))) (all k))
 
-  node-deed-fine : (n : ℕ) (heads : List Seen) (d : node.Deed) → IsNodeDeed n x.c (x.part.nodes n) d → Good (node_does x n heads d)
+  node-deed-fine : (n : ℕ) (heads : List Seen) (d : node.NodeDeed) → IsNodeDeed n x.c (x.part.nodes n) d → Good (node_does x n heads d)
   node-deed-fine n heads node.Drops of = stands-fine (Node n) heads nothing_said (record { notes = tt; segments = tt; gave = tt; messages = tt })
   node-deed-fine n heads (node.Says messages) of = stands-fine (Node n) heads (record nothing_said { messages = messages }) (record { notes = tt; segments = tt; gave = tt; messages = of })
   node-deed-fine n heads (node.Does y) of =
@@ -173,12 +173,12 @@ module _ (x : Conn) (number : IsNumber x.c) (sound : IsSound x) where
       )
 
   -- the record of a job that was read stands before
-  read-fine : (n r : ℕ) (path : List ℕ) (d : node.Deed) → Good (node_does x n [] d) → Good (reads_first (rec.Read n n x.c r path) (node_does x n [] d))
+  read-fine : (n r : ℕ) (path : List ℕ) (d : node.NodeDeed) → Good (node_does x n [] d) → Good (reads_first (rec.Read n n x.c r path) (node_does x n [] d))
   read-fine n r path d h = (
     read_own d h.0,
     record { number = inl number; between = h.1.between; client = h.1.client; front = h.1.front; kept = h.1.kept; fetches = h.1.fetches },
   ) where
-    read_own : (d : node.Deed) → IsItsOwn x (node_does x n [] d) → IsItsOwn x (reads_first (rec.Read n n x.c r path) (node_does x n [] d))
+    read_own : (d : node.NodeDeed) → IsItsOwn x (node_does x n [] d) → IsItsOwn x (reads_first (rec.Read n n x.c r path) (node_does x n [] d))
     read_own node.Drops own = record { notes = ((refl, refl), own.notes); segments = own.segments; gave = own.gave; messages = own.messages }
     read_own (node.Says messages) own = record { notes = ((refl, refl), own.notes); segments = own.segments; gave = own.gave; messages = own.messages }
     read_own (node.Does y) own = record { notes = ((refl, refl), own.notes); segments = own.segments; gave = own.gave; messages = own.messages }
@@ -189,17 +189,17 @@ module _ (x : Conn) (number : IsNumber x.c) (sound : IsSound x) where
   its-turn s given there turn heads = client-fine heads s.iss given (turn (sound.client s there))
 
   module _ (k : Setting) where
-    front-rule : (env : FrontEnv) (is : IsFrontEnv k x.c env) (heads : List Seen) (d : front.Deed)
-        → (env.serve.place ≡ Front → IsNumber env.serve.c → AreMessages env.serve.c Front (map sent_of x.part.front.kept) → IsFrontDeed env.serve.c x.part.front d) → Good (front_does x heads d)
+    front-rule : (env : FrontEnv) (is : IsFrontEnv k x.c env) (heads : List Seen) (d : front.FrontDeed)
+        → (env.serve.place ≡ Front → IsConnNumber env.serve.c → AreMessages env.serve.c Front (map sent_of x.part.front.kept) → IsFrontDeed env.serve.c x.part.front d) → Good (front_does x heads d)
     front-rule env is heads d deed = front-deed-fine heads d (subst (λ (c : ℕ). IsFrontDeed c x.part.front d) is.number
-        (deed is.place (subst IsNumber (sym is.number) number)
+        (deed is.place (subst IsConnNumber (sym is.number) number)
         (subst (λ (c : ℕ). AreMessages c Front (map sent_of x.part.front.kept)) (sym is.number) (sent-messages x Front x.part.front.kept sound.between sound.front))))
 
-    node-rule : (n epoch : ℕ) (env : NodeEnv) (is : IsNodeEnv k x.c n epoch env) (heads : List Seen) (d : node.Deed)
-        → (env.serve.place ≡ Node env.n → IsNumber env.serve.c → IsNodeDeed env.n env.serve.c (x.part.nodes n) d) → Good (node_does x n heads d)
+    node-rule : (n epoch : ℕ) (env : NodeEnv) (is : IsNodeEnv k x.c n epoch env) (heads : List Seen) (d : node.NodeDeed)
+        → (env.serve.place ≡ Node env.n → IsConnNumber env.serve.c → IsNodeDeed env.n env.serve.c (x.part.nodes n) d) → Good (node_does x n heads d)
     node-rule n epoch env is heads d deed = node-deed-fine n heads d
         (subst (λ (c : ℕ). IsNodeDeed n c (x.part.nodes n) d) is.number (subst (λ (j : ℕ). IsNodeDeed j env.serve.c (x.part.nodes n) d) is.node
-        (deed (is.place ∙ ap Node (sym is.node)) (subst IsNumber (sym is.number) number))))
+        (deed (is.place ∙ ap Node (sym is.node)) (subst IsConnNumber (sym is.number) number))))
 
     -- what a node holds goes to other machines
     node-held : (n epoch : ℕ) (env : NodeEnv) → IsNodeEnv k x.c n epoch env → (ks : List Kept) → AreSent x (Node n) ks → AreMessages env.serve.c (Node env.n) (map sent_of ks)
@@ -222,7 +222,7 @@ client-rules k = record {
   hears = λ x s from bytes there was number sound. its-turn x number sound s (client_gets s.client (decoded bytes x.c ToClient)) there (λ own. hears-turn x.c s.client own (decoded bytes x.c ToClient))
       (packet_seen from (Client x.c) bytes);
 } where
-  begins : (x : Conn) → IsNumber x.c → IsSound x → (isn iss wnd mss : ℕ) → IsItsOwn x (client_begins x isn iss wnd mss) × IsSound (grown x (client_begins x isn iss wnd mss))
+  begins : (x : Conn) → IsConnNumber x.c → IsConnSound x → (isn iss wnd mss : ℕ) → IsItsOwn x (client_begins x isn iss wnd mss) × IsConnSound (grown x (client_begins x isn iss wnd mss))
   begins x number sound isn iss wnd mss = client-fine x number sound (client_begins x isn iss wnd mss).heads iss (client_opens x.c isn wnd mss) (opens-turn x.c isn wnd mss)
 
 front-rules : (k : Setting) → FrontRules k IsFine
@@ -240,7 +240,7 @@ front-rules k = record {
       front-rule x number sound k env is (packet_seen (Node n) Front bytes) (front.front_ended env x.part.front n epoch last) (λ own i kept. fronts.ended-deed env own i x.part.front kept n epoch last);
   admitted = λ x env choice given is e number sound. admits-fine x number sound given
       (subst (λ (c : ℕ). IsAdmission c x.part.front given) is.number
-      (fronts.admitted-turn env is.place (subst IsNumber (sym is.number) number) x.part.front
+      (fronts.admitted-turn env is.place (subst IsConnNumber (sym is.number) number) x.part.front
       (subst (λ (c : ℕ). AreMessages c Front (map sent_of x.part.front.kept)) (sym is.number) (sent-messages x Front x.part.front.kept sound.between sound.front)) choice given e));
 }
 
@@ -261,7 +261,7 @@ node-rules k = record {
   fires = λ x s n env there is number sound. node-rule x number sound k n (epoch_in (x.part.nodes n)) env is (event_seen (event.Timer (Node n) x.c)) (node.node_timer env (x.part.nodes n))
       (λ own i. nodes.fires-deed env own i (x.part.nodes n) (node-held x number sound k n (epoch_in (x.part.nodes n)) env is (x.part.nodes n).kept (sound.kept n))
       (node-held x number sound k n (epoch_in (x.part.nodes n)) env is (x.part.nodes n).fetches (sound.fetches n)));
-  answers = λ x n from epoch r path file bytes there spells was number sound. stands-fine x number sound (Node n) (packet_seen (Node from) (Node n) bytes) (contents k n from x.c epoch r path)
+  answers = λ x n from epoch r path file bytes there spells was number sound. stands-fine x number sound (Node n) (packet_seen (Node from) (Node n) bytes) (content_said k n from x.c epoch r path)
       (record { notes = tt; segments = tt; gave = tt; messages = ((tt, spelled x.c epoch (body.Content r _) number), tt) });
   queues = λ x n from epoch r path file bytes there spells was number sound. stands-fine x number sound (Node n) (packet_seen (Node from) (Node n) bytes) (record nothing_said { notes = rec.Queued n from x.c r path ∷ [] })
       (record { notes = ((refl, refl), tt); segments = tt; gave = tt; messages = tt });

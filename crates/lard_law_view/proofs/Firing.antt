@@ -8,7 +8,7 @@ use Rattle.lard_base.specs.declared.event.Event.{Event}
 use Rattle.lard_base.specs.declared.event.Event.TheVariants as event
 use Rattle.lard_base.specs.declared.place.Place.TheVariants.{Front, Node, Client}
 use Rattle.lard_rules.specs.declared.machine.Machine.{Machine}
-use Rattle.lard_rules.specs.Bounds.{IsNumber}
+use Rattle.lard_rules.specs.Bounds.{IsConnNumber}
 use Rattle.lard_rules.specs.Machine.{front_acts, front_setting, is_no_job, node_at, node_gave, node_setting}
 use Rattle.lard_law_view.specs.View.{AreNumbered, Conn, IsNodeEnv, IsViewed, Move, Rules, conn, epoch_in, event_seen, node_does, packet_seen, part_of, reads_first, setting_of}
 use Rattle.lard_law_view.proofs.FrontActs.{front-acts}
@@ -34,8 +34,8 @@ use Rattle.lard_message.specs.declared.message.Body.TheVariants as body
 use Rattle.lard_net.specs.Net.{Packet, packet_at}
 use Rattle.lard_rules.specs.declared.node.BackIn.TheVariants as back
 use Rattle.lard_rules.specs.declared.node.NodeState.{NodeState}
-use Rattle.lard_rules.specs.Node.{NodePart, node_read, node_timer, saying}
-use Rattle.lard_rules.specs.NodePlace.{aside, completed, content_sent, disk_step, epoch_at, node_deed, node_env, node_part, node_step, with_first}
+use Rattle.lard_rules.specs.Node.{NodePart, node_read, node_timer, node_saying}
+use Rattle.lard_rules.specs.NodePlace.{aside, completed, content_sent, disk_step, node_epoch_at, node_deed, node_env, node_part, node_step, with_first}
 use Rattle.lard_rules.specs.Stay.{NodeEnv}
 use Rattle.lard_resend.specs.Pending.{sent_of}
 use Rattle.lard_rules.specs.declared.front.FrontIn.TheVariants as input
@@ -63,22 +63,22 @@ module _ {A : Type 0} (P : A → Type 0) where
   all-got (y ∷ xs) (suc i) x is e = all-got xs i x is e.1
 
 -- a job that is there is of a connection, and so are the others
-job-number : (jobs : List Job) (j : ℕ) (job : Job) → job_at jobs j ≡ Some job → AreNumbered jobs → IsNumber job.c
+job-number : (jobs : List Job) (j : ℕ) (job : Job) → job_at jobs j ≡ Some job → AreNumbered jobs → IsConnNumber job.c
 job-number jobs j job is of = go (j == 0) is where
-  go : (b : Bool) → cond b None (slice_get jobs (j - 1)) ≡ Some job → IsNumber job.c
+  go : (b : Bool) → cond b None (slice_get jobs (j - 1)) ≡ Some job → IsConnNumber job.c
   go true e = let no : None ≡ Some job = e in absurd cc
-  go false e = all-got (λ (job : Job). IsNumber job.c) jobs (j - 1) job e of
+  go false e = all-got (λ (job : Job). IsConnNumber job.c) jobs (j - 1) job e of
 
 others-numbered : (jobs : List Job) (j : ℕ) → AreNumbered jobs → AreNumbered (without_job jobs j)
 others-numbered jobs j of = cond_both (j == 0) jobs (take (j - 1) jobs ++ drop (suc (j - 1)) jobs) AreNumbered (λ t. of)
-    (λ t. all-append (λ (job : Job). IsNumber job.c) (take (j - 1) jobs) (drop (suc (j - 1)) jobs)
-    (all-take (λ (job : Job). IsNumber job.c) (j - 1) jobs of) (all-drop (λ (job : Job). IsNumber job.c) (suc (j - 1)) jobs of))
+    (λ t. all-append (λ (job : Job). IsConnNumber job.c) (take (j - 1) jobs) (drop (suc (j - 1)) jobs)
+    (all-take (λ (job : Job). IsConnNumber job.c) (j - 1) jobs of) (all-drop (λ (job : Job). IsConnNumber job.c) (suc (j - 1)) jobs of))
 
 -- ---- the front end
 
 module _ (m : Machine) (view : IsViewed m) (P : Conn → Move → Type 0) (R : Rules (setting_of m) P) (Q : Event → Machine → Type 0) (shapes : Shapes m P Q) where
   module _ (c : ℕ) (x : Station) (there : table.get m.clients c ≡ Some x) where
-    opened : IsNumber c
+    opened : IsConnNumber c
     unfolding conn part_of
     opened = client-number (conn m c) x (view.sound c) there
 
@@ -114,7 +114,7 @@ module _ (m : Machine) (view : IsViewed m) (P : Conn → Move → Type 0) (R : R
     unfolding conn
     node-fires n s here =
         let e : Event = event.Timer (Node n) c in
-        let env : NodeEnv = node_env (node_setting m n) s c (epoch_at s c) in
+        let env : NodeEnv = node_env (node_setting m n) s c (node_epoch_at s c) in
         let kept-is : (part_of m c).nodes n ≡ node_part s c = node-kept m n s c here in
         let kept : AreMessages c (Node n) (map sent_of (node_part s c).kept) =
         subst (λ (p : NodePart). AreMessages c (Node n) (map sent_of p.kept)) kept-is (sent-messages (conn m c) (Node n) ((part_of m c).nodes n).kept (view.sound c).between ((view.sound c).kept n)) in
@@ -130,7 +130,7 @@ module _ (m : Machine) (view : IsViewed m) (P : Conn → Move → Type 0) (R : R
 
   -- ---- a job of a disk is completed
 
-  module _ (n : ℕ) (s : NodeState) (here : node_at m.nodes n ≡ Some s) (j : ℕ) (job : Job) (number : IsNumber job.c) where
+  module _ (n : ℕ) (s : NodeState) (here : node_at m.nodes n ≡ Some s) (j : ℕ) (job : Job) (number : IsConnNumber job.c) where
     abbrev read_of : ℕ → Rec
     read_of origin = rec.Read n origin job.c job.r job.path
 
@@ -154,18 +154,18 @@ module _ (m : Machine) (view : IsViewed m) (P : Conn → Move → Type 0) (R : R
 
     -- it was for another node
     brings : Q (event.Disk n j) (node_gave m (event.Disk n j) [] n (with_first (read_of job.origin)
-        (aside after (saying (content_sent (node_setting m n) job.origin job.c job.epoch.0 job.r job.path ∷ [])))))
+        (aside after (node_saying (content_sent (node_setting m n) job.origin job.c job.epoch.0 job.r job.path ∷ [])))))
     unfolding conn
     brings =
         aside-acts m P Q shapes (event.Disk n j) job.c [] number n (completes m n j job.c) refl s here (read_of job.origin ∷ []) ((refl, refl), tt) (λ k. refl) (λ rs. refl)
-        after.cache after.disk (others-numbered s.disk j (view.jobs n s here)) (saying (content_sent (node_setting m n) job.origin job.c job.epoch.0 job.r job.path ∷ []))
+        after.cache after.disk (others-numbered s.disk j (view.jobs n s here)) (node_saying (content_sent (node_setting m n) job.origin job.c job.epoch.0 job.r job.path ∷ []))
         (record { notes = tt; segments = tt; gave = tt; messages = ((tt, spelled job.c job.epoch.0 (body.Content job.r _) number), tt); counted = λ n. omega arith }) tt
         (R.untouched.node.brings (conn m job.c) n job.origin job.epoch.0 job.r job.path)
 
     job-completes : Q (event.Disk n j) (node_gave m (event.Disk n j) [] n (disk_step (node_setting m n) s j (Some job)))
     job-completes = cond_both (job.origin == n)
         (node_deed (node_setting m n) after job.c (node_read (node_env (node_setting m n) after job.c job.epoch.0) (node_part after job.c) job.r))
-        (aside after (saying (content_sent (node_setting m n) job.origin job.c job.epoch.0 job.r job.path ∷ [])))
+        (aside after (node_saying (content_sent (node_setting m n) job.origin job.c job.epoch.0 job.r job.path ∷ [])))
         (λ (x : NodeState × Out). Q (event.Disk n j) (node_gave m (event.Disk n j) [] n (with_first (read_of job.origin) x)))
         (λ t. own-read (eqb-true job.origin n t)) (λ t. brings)
 

@@ -3,8 +3,8 @@ use Rattle.std.proofs.Common.{◌≡◌, ◌⊎◌, ℕ, List, [], ◌∷◌, �
 use Rattle.std.proofs.lemmas.Bool.{cond_both}
 use Rattle.std.specs.List.{list_all}
 use Rattle.lard_base.specs.declared.event.Event.{Event}
-use Rattle.lard_client.specs.Arriving.{arrived}
-use Rattle.lard_client.specs.Control.{ClientBlock, is_writing, written}
+use Rattle.lard_client.specs.Arriving.{client_arrived}
+use Rattle.lard_client.specs.Control.{ClientBlock, is_writing, client_written}
 use Rattle.lard_history.specs.Laws.{AreOwn, is_own}
 use Rattle.lard_journal.specs.declared.rec.Rec.{Rec}
 use Rattle.lard_journal.specs.declared.rec.Rec.TheVariants as rec
@@ -34,7 +34,7 @@ heard-others true true c bytes = refl
 -- nor does a client to which a packet comes
 pub gets-others : (x : ClientBlock) (r : Result Said SegFault) → AreOthers (client_gets x r).1.notes
 gets-others x (Err fault) = refl
-gets-others x (Ok s) = let r = arrived x s in heard-others (nat_lt 0 r.0.len) r.0.eof r.1.c (take r.0.len (drop r.0.from s.payload))
+gets-others x (Ok s) = let r = client_arrived x s in heard-others (nat_lt 0 r.0.len) r.0.eof r.1.c (take r.0.len (drop r.0.from s.payload))
 
 -- ---- what stands first
 
@@ -48,7 +48,7 @@ own-alone e rs are = (rs, [], sym (append-nil rs), are, refl)
 
 -- a client writes these bytes or none
 pub writes-own : (x : ClientBlock) (c : ℕ) (bytes : List ℕ) → x.c ≡ c → (((client_writes x bytes).1.notes ≡ rec.Wrote c bytes ∷ []) ⊎ ((client_writes x bytes).1.notes ≡ []))
-writes-own x c bytes is = cond_both {A = ClientBlock × Turn} (is_writing x) (speaking (rec.Wrote x.c bytes ∷ []) [] (written x bytes)) (x, silent)
+writes-own x c bytes is = cond_both {A = ClientBlock × Turn} (is_writing x) (speaking (rec.Wrote x.c bytes ∷ []) [] (client_written x bytes)) (x, silent)
     (λ r. (r.1.notes ≡ rec.Wrote c bytes ∷ []) ⊎ (r.1.notes ≡ []))
     (λ t. inl (ap (λ d. rec.Wrote d bytes ∷ []) is))
     (λ t. inr refl)

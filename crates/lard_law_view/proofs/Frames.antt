@@ -4,8 +4,8 @@ use Rattle.std.proofs.Common.{◌≡◌, ◌≢◌, ℕ, cond, List, [], refl, a
 use Rattle.lard_base.specs.declared.event.Event.TheVariants as event
 use Rattle.lard_base.specs.declared.place.Place.{Place}
 use Rattle.lard_base.specs.declared.place.Place.TheVariants.{Front, Node, Client}
-use Rattle.lard_rules.specs.Bounds.{IsNumber}
-use Rattle.lard_law_view.specs.View.{ClientRules, Conn, FrontRules, IsMachine, IsSound, Move, NodeRules, Part, Setting, UntouchedRules, Was, front_does, node_does, nothing_said, packet_seen, reads_first, stands}
+use Rattle.lard_rules.specs.Bounds.{IsConnNumber}
+use Rattle.lard_law_view.specs.View.{ClientRules, Conn, FrontRules, IsMachine, IsConnSound, Move, NodeRules, Part, Setting, UntouchedRules, Was, front_does, node_does, nothing_said, packet_seen, reads_first, stands}
 use Rattle.lard_law_view.proofs.Fine.{IsFine, IsItsOwn, fine}
 use Rattle.lard_law_view.proofs.Guarded.{client-both, client-weaker, front-both, front-weaker, node-both, node-weaker}
 use Rattle.lard_rules.specs.Front as front
@@ -37,12 +37,12 @@ pub record IsAtMachine (x : Conn) (v : Move) : Type 0 where
 -- ---- deeds
 
 module _ (x : Conn) (heads : List Seen) where
-  front-at : Each (IsHeadAt Front x.c) heads → (d : front.Deed) → IsAtMachine x (front_does x heads d)
+  front-at : Each (IsHeadAt Front x.c) heads → (d : front.FrontDeed) → IsAtMachine x (front_does x heads d)
   front-at seen front.Drops = record { machine = tt; keeps = (refl, refl); heads = seen }
   front-at seen (front.Says t) = record { machine = tt; keeps = (refl, refl); heads = seen }
   front-at seen (front.Does y) = record { machine = tt; keeps = (refl, refl); heads = seen }
 
-  node-at : (n : ℕ) → Each (IsHeadAt (Node n) x.c) heads → (d : node.Deed) → IsAtMachine x (node_does x n heads d)
+  node-at : (n : ℕ) → Each (IsHeadAt (Node n) x.c) heads → (d : node.NodeDeed) → IsAtMachine x (node_does x n heads d)
   node-at n seen node.Drops = record { machine = tt; keeps = (refl, refl, λ k other. refl); heads = seen }
   node-at n seen (node.Says messages) = record { machine = tt; keeps = (refl, refl, λ k other. refl); heads = seen }
   node-at n seen (node.Does y) = record {
@@ -103,7 +103,7 @@ clients-frame k = record {
 
 -- P is so, once the number is one of a connection and the connection is sound
 abbrev pub Owed : (Conn → Move → Type 0) → Conn → Move → Type 0
-Owed P x v = IsNumber x.c → IsSound x → P x v
+Owed P x v = IsConnNumber x.c → IsConnSound x → P x v
 
 module _ (k : Setting) (P : Conn → Move → Type 0) where
   -- what a machine's move owes, where a law looks at clients alone

@@ -3,7 +3,7 @@ use Rattle.std.proofs.Common.{ℕ, List, [], refl, sym, arith}
 use Rattle.lard_base.specs.declared.event.Event.{Event}
 use Rattle.lard_base.specs.declared.place.Place.TheVariants.{Front}
 use Rattle.lard_rules.specs.declared.machine.Machine.{Machine}
-use Rattle.lard_rules.specs.Bounds.{IsNumber}
+use Rattle.lard_rules.specs.Bounds.{IsConnNumber}
 use Rattle.lard_rules.specs.Machine.{front_gave}
 use Rattle.lard_law_view.specs.View.{Conn, Move, conn, front_does, part_of, timer_rows}
 use Rattle.lard_law_view.proofs.Fronts.{IsFrontDeed, IsFrontTurn}
@@ -14,8 +14,8 @@ use Rattle.lard_law_view.proofs.Shapes.{IsPut, Shapes}
 use Rattle.lard_law_view.proofs.Timers.{timer_rows-same}
 use Rattle.lard_rules.specs.declared.front.FrontState.{FrontState}
 use Rattle.lard_rules.specs.declared.front.FrontTurn.{FrontTurn}
-use Rattle.lard_rules.specs.Front.{Deed, Drops, Says, Does}
-use Rattle.lard_rules.specs.FrontPlace.{front_deed, front_part, out_of, put_back, timers_of}
+use Rattle.lard_rules.specs.Front.{FrontDeed, Drops, Says, Does}
+use Rattle.lard_rules.specs.FrontPlace.{front_deed, front_part, front_out_of, put_back, front_timers}
 use Rattle.lard_rules.proofs.FrontParts.{part_other, part_put}
 use Rattle.lard_history.specs.Laws.{AreOwn}
 use Rattle.lard_history.specs.Own.{Seen}
@@ -24,11 +24,11 @@ use Rattle.lard_law_view.proofs.OwnRecords.{behind}
 pub front-put : (m : Machine) (s : FrontState) → IsPut m (record m { front = s })
 front-put m s = record { config = refl; files = refl; net = refl; journal = refl; events = refl; answered = refl; now = refl; nodes = refl; jobs = λ h. h }
 
-module _ (m : Machine) (P : Conn → Move → Type 0) (Q : Event → Machine → Type 0) (shapes : Shapes m P Q) (e : Event) (c : ℕ) (heads : List Seen) (number : IsNumber c) (begins : Begins m e Front c heads)
+module _ (m : Machine) (P : Conn → Move → Type 0) (Q : Event → Machine → Type 0) (shapes : Shapes m P Q) (e : Event) (c : ℕ) (heads : List Seen) (number : IsConnNumber c) (begins : Begins m e Front c heads)
     (own : AreOwn e (behind e)) where
-  says : (t : FrontTurn) → IsFrontTurn c t → P (conn m c) (front_does (conn m c) heads (Says t)) → Q e (front_gave m e (behind e) (m.front, out_of t []))
+  says : (t : FrontTurn) → IsFrontTurn c t → P (conn m c) (front_does (conn m c) heads (Says t)) → Q e (front_gave m e (behind e) (m.front, front_out_of t []))
   unfolding conn
-  says t of does = shapes.one (record m { front = m.front }) e Front (out_of t []) c heads t.notes (part_of m c)
+  says t of does = shapes.one (record m { front = m.front }) e Front (front_out_of t []) c heads t.notes (part_of m c)
       (record {
         put = front-put m m.front;
         number = number;
@@ -42,11 +42,11 @@ module _ (m : Machine) (P : Conn → Move → Type 0) (Q : Event → Machine →
       }) does
 
   -- a rule of connection c
-  pub front-acts : (deed : Deed) → IsFrontDeed c (front_part m.front c) deed → P (conn m c) (front_does (conn m c) heads deed) → Q e (front_gave m e (behind e) (front_deed m.front c deed))
+  pub front-acts : (deed : FrontDeed) → IsFrontDeed c (front_part m.front c) deed → P (conn m c) (front_does (conn m c) heads deed) → Q e (front_gave m e (behind e) (front_deed m.front c deed))
   unfolding conn part_of timer_rows
   front-acts Drops of does = says (record { notes = []; segments = []; gave = []; messages = []; answered = 0 }) (record { notes = tt; segments = tt; gave = tt; messages = tt; counted = λ n. omega arith }) does
   front-acts (Says t) of does = says t of does
-  front-acts (Does x) of does = shapes.one (record m { front = put_back m.front c x }) e Front (out_of x.turn (timers_of c (front_part m.front c) x.part)) c heads x.turn.notes _
+  front-acts (Does x) of does = shapes.one (record m { front = put_back m.front c x }) e Front (front_out_of x.turn (front_timers c (front_part m.front c) x.part)) c heads x.turn.notes _
       (record {
         put = front-put m (put_back m.front c x);
         number = number;

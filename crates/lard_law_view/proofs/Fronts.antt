@@ -12,7 +12,7 @@ use Rattle.lard_base.specs.declared.place.Via.TheVariants.{Own}
 use Rattle.lard_block.specs.declared.block.Found.{Found}
 use Rattle.lard_block.specs.declared.block.Found.TheVariants.{Block, More, TooLong}
 use Rattle.lard_block.specs.Blocks.{cut_of}
-use Rattle.lard_rules.specs.Bounds.{IsNumber}
+use Rattle.lard_rules.specs.Bounds.{IsConnNumber}
 use Rattle.lard_law_view.proofs.Saying.{AreMessages, NotedAt}
 use Rattle.lard_law_view.proofs.Turned.{AreHeld, HeldBy, IsSaid, as-held, front-segments, spelled}
 use Rattle.lard_costs.specs.declared.later.LaterChoice.{LaterChoice}
@@ -27,8 +27,8 @@ use Rattle.lard_endpoint.specs.Leaving as leaving
 use Rattle.lard_endpoint.specs.Moving.{may_freeze}
 use Rattle.lard_rules.specs.declared.front.FrontRest.{FrontRest}
 use Rattle.lard_rules.specs.declared.front.FrontTurn.{FrontTurn}
-use Rattle.lard_rules.specs.Front.{Deed, Drops, Says, Does, FrontEnv, FrontPart, ack_sent, admitted_at, admitted_by, admitted_with, asked_by, assigned_notes, assigns, begun, ended_by, fired, fired_by, fires_at, forwarded, front_admitted, front_asked, front_ended, front_gets, front_hears, front_taken, front_timer, handed_off, heard, hears_at, holds, is_at, met, over_note, placed, rest_of, saying, settled_by, tag_sent, taken_by, turn_here, waits_on}
-use Rattle.lard_rules.specs.FrontReading.{Reading, block_at, left, reads, reads_block, reads_found, targeted, turn}
+use Rattle.lard_rules.specs.Front.{FrontDeed, Drops, Says, Does, FrontEnv, FrontPart, ack_sent, admitted_at, admitted_by, front_admitted_with, asked_by, assigned_notes, assigns, front_begun, front_ended_by, front_fired, front_fired_by, fires_at, forwarded, front_admitted, front_asked, front_ended, front_gets, front_hears, front_taken, front_timer, handed_off, heard, hears_at, holds, is_row_at, met, over_note, placed, front_rest, front_saying, settled_by, tag_sent, taken_by, turn_here, waits_on}
+use Rattle.lard_rules.specs.FrontReading.{Reading, block_at, reading_left, front_reads, reads_block, reads_found, targeted, reading_turn}
 use Rattle.lard_handoff_front.specs.declared.row.FrontConn.{FrontConn}
 use Rattle.lard_handoff_front.specs.declared.row.FrontConn.TheVariants as stage
 use Rattle.lard_handoff_front.specs.declared.row.FrontRow.{FrontRow}
@@ -51,7 +51,7 @@ use Rattle.lard_rules.specs.declared.places.Turn.{Turn}
 use Rattle.lard_rules.specs.Tombstone.{is_plain_syn, last_words, tombstone}
 use Rattle.lard_rules.specs.Loop.{Step}
 use Rattle.lard_rules.specs.Loop as loop
-use Rattle.lard_rules.specs.Serving.{Service, consumed, may_read, ready_of, serving, settled, spoken}
+use Rattle.lard_rules.specs.Serving.{Service, serving_consumed, may_read, serving_ready_of, serving, serving_settled, spoken}
 use Rattle.lard_rules.proofs.Runs.{runs_keep}
 use Rattle.lard_segment.specs.declared.fault.SegFault.{SegFault}
 use Rattle.lard_segment.specs.Segment.{Said}
@@ -64,7 +64,7 @@ abbrev pub IsFrontTurn : ℕ → FrontTurn → Type 0
 IsFrontTurn c t = IsSaid Front c t.notes t.segments t.gave t.messages t.answered
 
 -- A rule's turn is of connection c, and what is held then was held before or is sent in it.
-abbrev pub IsFrontDeed : ℕ → FrontPart → Deed → Type 0
+abbrev pub IsFrontDeed : ℕ → FrontPart → FrontDeed → Type 0
 IsFrontDeed c p Drops = Unit {0}
 IsFrontDeed c p (Says t) = IsFrontTurn c t
 IsFrontDeed c p (Does x) = IsFrontTurn c x.turn × AreHeld x.turn.messages p.kept x.part.kept
@@ -74,7 +74,7 @@ abbrev pub IsAdmission : ℕ → FrontPart → FrontPart × FrontTurn → Type 0
 IsAdmission c p given = IsSaid Front c given.1.notes given.1.segments given.1.gave given.1.messages 0 × AreHeld given.1.messages p.kept given.0.kept
 
 -- The front end acts on connection c, whose number is one, and what it holds of it goes to nodes.
-module _ (env : FrontEnv) (own : env.serve.place ≡ Front) (number : IsNumber env.serve.c) where
+module _ (env : FrontEnv) (own : env.serve.place ≡ Front) (number : IsConnNumber env.serve.c) where
   abbrev N : Rec → Type 0
   N r = NotedAt Front env.serve.c r
 
@@ -93,7 +93,7 @@ module _ (env : FrontEnv) (own : env.serve.place ≡ Front) (number : IsNumber e
   here-turn : (t : Turn) → IsServingTurn N env.serve.c t → IsOfFront (turn_here t)
   here-turn t h = record { notes = h.notes; segments = front-segments env.serve.c t.segments h.to; gave = tt; messages = tt; counted = h.answered }
 
-  said-turn : (messages : List (Place × List ℕ)) → AreMessages env.serve.c Front messages → IsOfFront (saying messages)
+  said-turn : (messages : List (Place × List ℕ)) → AreMessages env.serve.c Front messages → IsOfFront (front_saying messages)
   said-turn messages of = record { notes = tt; segments = tt; gave = tt; messages = of; counted = λ n. omega arith }
 
   -- ---- reading
@@ -106,20 +106,20 @@ module _ (env : FrontEnv) (own : env.serve.place ≡ Front) (number : IsNumber e
   targeted-noted path x h = cond_both (may_freeze x.service.block) (record x { target = Some path }) x (λ y. Noted y.service) (λ t. h) (λ t. h)
 
   block-noted : (x : Reading) (n : ℕ) (v : Verdict) (o : Option (List ℕ)) → Noted x.service → NotedIn (reads_block env.serve x n v o)
-  block-noted x n v None h = turns.answered-noted env.serve N noting Own v (consumed n x.service) h
+  block-noted x n v None h = turns.answered-noted env.serve N noting Own v (serving_consumed n x.service) h
   block-noted x n v (Some path) h = targeted-noted path x h
 
   found-noted : (x : Reading) (f : Found) → Noted x.service → NotedIn (reads_found env.serve x f)
-  found-noted x (More skip) h = turns.ended-noted env.serve N noting (consumed skip x.service) h
+  found-noted x (More skip) h = turns.ended-noted env.serve N noting (serving_consumed skip x.service) h
   found-noted x (Block skip len) h = block-noted x (skip + len) (block_at x skip len) (good_path env.serve.files (block_at x skip len)) h
-  found-noted x (TooLong skip) h = turns.answered-noted env.serve N noting Own (Fault code.FieldsTooLarge) (consumed (length x.service.block.recv.unread) x.service) h
+  found-noted x (TooLong skip) h = turns.answered-noted env.serve N noting Own (Fault code.FieldsTooLarge) (serving_consumed (length x.service.block.recv.unread) x.service) h
 
-  turn-noted : (x : Reading) → Noted x.service → NotedIn (turn env.serve x)
+  turn-noted : (x : Reading) → Noted x.service → NotedIn (reading_turn env.serve x)
   turn-noted x h = cond_both (may_read x.service) (reads_found env.serve x (cut_of x.service.block.recv.unread)) (loop.Done x) NotedIn
       (λ t. found-noted x (cut_of x.service.block.recv.unread) h) (λ t. h)
 
-  reads-noted : (x : Reading) → Noted x.service → Noted (reads env.serve x).service
-  reads-noted x h = runs_keep (turn env.serve) left (λ y. Noted y.service) (record {
+  reads-noted : (x : Reading) → Noted x.service → Noted (front_reads env.serve x).service
+  reads-noted x h = runs_keep (reading_turn env.serve) reading_left (λ y. Noted y.service) (record {
     more = λ y z e p. subst NotedIn e (turn-noted y p);
     done = λ y z e p. subst NotedIn e (turn-noted y p);
   }) x h
@@ -128,14 +128,14 @@ module _ (env : FrontEnv) (own : env.serve.place ≡ Front) (number : IsNumber e
   fresh : (b : ControlBlock) (count : ℕ) → Noted (serving b count [])
   fresh b count = (tt, λ n. omega arith)
 
-  fired-turn : (rest : FrontRest) (b : ControlBlock) → IsServingTurn N env.serve.c (fired env rest b).1
-  fired-turn rest b = turns.spoken-turn env.serve N noting (serving (leaving.after_timer b) rest.count []) (ready_of env.serve (leaving.after_timer b) (leaving.timed b))
+  fired-turn : (rest : FrontRest) (b : ControlBlock) → IsServingTurn N env.serve.c (front_fired env rest b).1
+  fired-turn rest b = turns.spoken-turn env.serve N noting (serving (leaving.after_timer b) rest.count []) (serving_ready_of env.serve (leaving.after_timer b) (leaving.timed b))
       (endpoints.ready-to env.serve (leaving.after_timer b) (leaving.timed b)) (fresh (leaving.after_timer b) rest.count)
 
   -- ---- what each rule comes to
 
   module _ (p : FrontPart) (kept : AreMessages env.serve.c Front (map sent_of p.kept)) where
-    abbrev IsDeed : Deed → Type 0
+    abbrev IsDeed : FrontDeed → Type 0
     IsDeed d = IsFrontDeed env.serve.c p d
 
     as-before : (messages : List (Place × List ℕ)) → AreHeld messages p.kept p.kept
@@ -174,21 +174,21 @@ module _ (env : FrontEnv) (own : env.serve.place ≡ Front) (number : IsNumber e
         )
 
     settled-deed : (row : FrontRow) (rest : FrontRest) (w : Service) (o : Option (List ℕ)) → Noted w → IsDeed (settled_by env p row rest w o)
-    settled-deed row rest w None h = holds-deed row rest (settled env.serve w) (turns.settled-turn env.serve N noting w h)
+    settled-deed row rest w None h = holds-deed row rest (serving_settled env.serve w) (turns.settled-turn env.serve N noting w h)
     settled-deed row rest w (Some path) h = placed-deed row rest w path (env.first path) h
 
     heard-deed : (row : FrontRow) (rest : FrontRest) (b : ControlBlock) → IsDeed (heard env p row rest b)
     heard-deed row rest b =
         let x : Reading = record { service = serving b rest.count []; target = None } in
-        settled-deed row rest (reads env.serve x).service (reads env.serve x).target (reads-noted x (fresh b rest.count))
+        settled-deed row rest (front_reads env.serve x).service (front_reads env.serve x).target (reads-noted x (fresh b rest.count))
 
     -- ---- segments
 
     met-deed : (s : Said) → IsDeed (met env p s)
     met-deed s =
         let w : Service = serving (listening s env.iss) 0 (rec.Took Front env.serve.c (record { 0 = 1 }) ∷ []) in
-        cond_both (is_plain_syn s) (begun env p s) Drops IsDeed
-        (λ t. holds-deed (record { stage = stage.Lent; epoch = record { 0 = 1 }; ended_by = None }) (rest_of None) (spoken env.serve w [])
+        cond_both (is_plain_syn s) (front_begun env p s) Drops IsDeed
+        (λ t. holds-deed (record { stage = stage.Lent; epoch = record { 0 = 1 }; ended_by = None }) (front_rest None) (spoken env.serve w [])
         (turns.spoken-turn env.serve N noting w [] tt ((refl, tt), λ n. omega arith)))
         (λ t. tt)
 
@@ -200,9 +200,9 @@ module _ (env : FrontEnv) (own : env.serve.place ≡ Front) (number : IsNumber e
     tombstone-turn (Some s) = record { notes = tt; to = (refl, tt); answered = λ n. omega arith }
 
     hears_at-deed : (row : FrontRow) (bytes : List ℕ) (s : Said) (x : FrontConn) → IsDeed (hears_at env p row bytes s x)
-    hears_at-deed row bytes s (stage.Held b) = heard-deed row (rest_of p.rest) (on_segment b s).1
-    hears_at-deed row bytes s (stage.Waiting b) = waits-deed row (rest_of p.rest) (spoken env.serve (serving (on_segment b s).1 (rest_of p.rest).count []) [])
-        (turns.spoken-turn env.serve N noting (serving (on_segment b s).1 (rest_of p.rest).count []) [] tt (fresh (on_segment b s).1 (rest_of p.rest).count))
+    hears_at-deed row bytes s (stage.Held b) = heard-deed row (front_rest p.rest) (on_segment b s).1
+    hears_at-deed row bytes s (stage.Waiting b) = waits-deed row (front_rest p.rest) (spoken env.serve (serving (on_segment b s).1 (front_rest p.rest).count []) [])
+        (turns.spoken-turn env.serve N noting (serving (on_segment b s).1 (front_rest p.rest).count []) [] tt (fresh (on_segment b s).1 (front_rest p.rest).count))
     hears_at-deed row bytes s stage.Lent = tt
     hears_at-deed row bytes s (stage.Offering node epoch) = forwarded-deed node epoch bytes
     hears_at-deed row bytes s (stage.Moved node epoch) = forwarded-deed node epoch bytes
@@ -219,12 +219,12 @@ module _ (env : FrontEnv) (own : env.serve.place ≡ Front) (number : IsNumber e
     -- ---- timers
 
     fires_at-deed : (row : FrontRow) (x : FrontConn) → IsDeed (fires_at env p row x)
-    fires_at-deed row (stage.Held b) = holds-deed row (rest_of p.rest) (fired env (rest_of p.rest) b) (fired-turn (rest_of p.rest) b)
-    fires_at-deed row (stage.Waiting b) = waits-deed row (rest_of p.rest) (fired env (rest_of p.rest) b) (fired-turn (rest_of p.rest) b)
+    fires_at-deed row (stage.Held b) = holds-deed row (front_rest p.rest) (front_fired env (front_rest p.rest) b) (fired-turn (front_rest p.rest) b)
+    fires_at-deed row (stage.Waiting b) = waits-deed row (front_rest p.rest) (front_fired env (front_rest p.rest) b) (fired-turn (front_rest p.rest) b)
     fires_at-deed row (stage.Offering node epoch) = said-turn (map sent_of p.kept) kept
     fires_at-deed row _ = tt
 
-    fired-deed : (o : Option FrontRow) → IsDeed (fired_by env p o)
+    fired-deed : (o : Option FrontRow) → IsDeed (front_fired_by env p o)
     fired-deed None = tt
     fired-deed (Some row) = fires_at-deed row row.stage
 
@@ -279,18 +279,18 @@ module _ (env : FrontEnv) (own : env.serve.place ≡ Front) (number : IsNumber e
     asked_by-deed : (from epoch : ℕ) (ask : Ask) (o : Option FrontRest) → IsDeed (asked_by env p from epoch ask o)
     asked_by-deed from epoch ask None = tt
     asked_by-deed from epoch ask (Some rest) =
-        let again : Deed = Says (saying (tag_sent env from epoch rest.asks rest.tag)) in
+        let again : FrontDeed = Says (front_saying (tag_sent env from epoch rest.asks rest.tag)) in
         cond_both (ask.number == rest.asks + 1) (Does (assigns env p rest from epoch ask (env.later ask))) (cond (ask.number == rest.asks && nat_lt 0 rest.asks) again Drops) IsDeed
         (λ t. assigns-deed rest from epoch ask (env.later ask))
         (λ t. cond_both (ask.number == rest.asks && nat_lt 0 rest.asks) again Drops IsDeed (λ u. said-turn _ (tags from epoch rest.asks rest.tag)) (λ u. tt))
 
     pub asked-deed : (from epoch : ℕ) (ask : Ask) → IsDeed (front_asked env p from epoch ask)
-    asked-deed from epoch ask = cond_both (is_at from epoch p.row) (asked_by env p from epoch ask p.rest) Drops IsDeed (λ t. asked_by-deed from epoch ask p.rest) (λ t. tt)
+    asked-deed from epoch ask = cond_both (is_row_at from epoch p.row) (asked_by env p from epoch ask p.rest) Drops IsDeed (λ t. asked_by-deed from epoch ask p.rest) (λ t. tt)
 
     acks : (from epoch : ℕ) → AreMessages env.serve.c Front (ack_sent env from epoch)
     acks from epoch = ((tt, spelled env.serve.c epoch body.EndedAck number), tt)
 
-    ended_by-deed : (from epoch : ℕ) (last : Final) (o : Option FrontRow) (given : OnEnded) → IsDeed (ended_by env p from epoch last o given)
+    ended_by-deed : (from epoch : ℕ) (last : Final) (o : Option FrontRow) (given : OnEnded) → IsDeed (front_ended_by env p from epoch last o given)
     ended_by-deed from epoch last None given = tt
     ended_by-deed from epoch last (Some row) (New next) = (
       record { notes = (refl, (refl, tt)); segments = tt; gave = tt; messages = acks from epoch; counted = λ n. omega arith },
@@ -308,7 +308,7 @@ module _ (env : FrontEnv) (own : env.serve.place ≡ Front) (number : IsNumber e
     Admits given = IsAdmission env.serve.c p given
 
     admitted_with-turn : (row : FrontRow) (rest : FrontRest) (b : ControlBlock) (choice : FirstChoice) (o : Option (List ℕ)) (given : FrontPart × FrontTurn)
-        → admitted_with env row rest b choice o ≡ Some given → Admits given
+        → front_admitted_with env row rest b choice o ≡ Some given → Admits given
     admitted_with-turn row rest b choice None given e = let no : ◌≡◌ {A = Option (FrontPart × FrontTurn)} None (Some given) = e in absurd cc
     admitted_with-turn row rest b choice (Some path) given e =
         let handed : FrontPart × FrontTurn = handed_off env row (serving b rest.count []) path choice in
@@ -316,7 +316,7 @@ module _ (env : FrontEnv) (own : env.serve.place ≡ Front) (number : IsNumber e
         subst Admits same (handed-turn row (serving b rest.count []) path choice (fresh b rest.count))
 
     admitted_at-turn : (choice : FirstChoice) (row : FrontRow) (x : FrontConn) (given : FrontPart × FrontTurn) → admitted_at env p choice row x ≡ Some given → Admits given
-    admitted_at-turn choice row (stage.Waiting b) given e = admitted_with-turn row (rest_of p.rest) b choice (rest_of p.rest).target given e
+    admitted_at-turn choice row (stage.Waiting b) given e = admitted_with-turn row (front_rest p.rest) b choice (front_rest p.rest).target given e
     admitted_at-turn choice row _ given e = let no : ◌≡◌ {A = Option (FrontPart × FrontTurn)} None (Some given) = e in absurd cc
 
     admitted_by-turn : (choice : FirstChoice) (o : Option FrontRow) (given : FrontPart × FrontTurn) → admitted_by env p choice o ≡ Some given → Admits given

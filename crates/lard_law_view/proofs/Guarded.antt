@@ -3,7 +3,7 @@ use Rattle.std.proofs.Common.{◌≡◌, ℕ, List, [], ◌∷◌, ◌++◌, map
 use Rattle.std.proofs.lemmas.List.Sums.{fold-append}
 use Rattle.std.specs.List.{fold}
 use Rattle.lard_base.specs.declared.event.Event.TheVariants as event
-use Rattle.lard_law_view.specs.Carry.{Guarded, IsGuardedLaw, IsLaw, MayMove, Untouched, WhileUntouched, tale_at}
+use Rattle.lard_law_view.specs.Carry.{Guarded, IsGuardedLaw, IsLaw, MayRestOn, Untouched, WhileUntouched, tale_at}
 use Rattle.lard_law_view.specs.Laws.{GuardedIsLaw, UntouchedIsLaw}
 use Rattle.lard_law_view.specs.View.{ClientRules, Conn, FrontRules, Move, NodeRules, Rules, Setting, UntouchedRules, client_does, grown, inject_seen, rows_of, seen_in}
 use Rattle.lard_history.specs.Journal.{Tale, tale_step, untold}
@@ -154,8 +154,8 @@ with_injects k P Q w R injects = record { untouched = untouched-weaker k P Q w R
 pub untouched-law : UntouchedIsLaw
 untouched-law k Given Inv law = record {
   begins = λ c e. law.begins c;
-  moves = with_injects k (λ x v. MayMove Given x → (tale_at x).touched ≡ false → Inv x → Inv (grown x v))
-      (λ x v. MayMove Given x → Untouched Inv x → Untouched Inv (grown x v))
+  moves = with_injects k (λ x v. MayRestOn Given x → (tale_at x).touched ≡ false → Inv x → Inv (grown x v))
+      (λ x v. MayRestOn Given x → Untouched Inv x → Untouched Inv (grown x v))
       (λ x v moves may inv e. let before : (tale_at x).touched ≡ false = untouched-before x v e in moves may before (inv before))
       law.moves
       (λ x s bytes may inv e. let no : true ≡ false = sym (injected-touches x s bytes) ∙ e in absurd cc);
@@ -186,8 +186,8 @@ module _ (k : Setting) (Given Inv : Conn → Type 0) (mine : ℕ → List Seen �
   grows : (x : Conn) (v : Move) → EachRow (WhileUntouched mine x.c) [] x.seen → EachRow (WhileUntouched mine x.c) x.seen (seen_in x v) → EachRow (WhileUntouched mine x.c) [] (grown x v).seen
   grows x v past now = each_row-append (WhileUntouched mine x.c) [] x.seen (seen_in x v) past now
 
-  moved : (x : Conn) (v : Move) → (MayMove Given x → (tale_at x).touched ≡ false → Inv x → Inv (grown x v) × EachRow (mine x.c) x.seen (seen_in x v))
-      → MayMove Given x → Holds x → Holds (grown x v)
+  moved : (x : Conn) (v : Move) → (MayRestOn Given x → (tale_at x).touched ≡ false → Inv x → Inv (grown x v) × EachRow (mine x.c) x.seen (seen_in x v))
+      → MayRestOn Given x → Holds x → Holds (grown x v)
   moved x v moves may h = (
     (λ e. let before : (tale_at x).touched ≡ false = untouched-before x v e in (moves may before (h.0 before)).0),
     grows x v h.1 (by-touch (tale_at x).touched refl),
@@ -196,7 +196,7 @@ module _ (k : Setting) (Given Inv : Conn → Type 0) (mine : ℕ → List Seen �
     by-touch true t = any-stands mine x.c x.seen (seen_in x v) t
     by-touch false t = while-untouched mine x.c x.seen (seen_in x v) (moves may t (h.0 t)).1
 
-  injects-guarded : (x : Conn) (s : Station) (bytes : List ℕ) → MayMove Given x → Holds x → Holds (grown x (client_does x s (inject_seen x.c bytes) (client_injects s.client bytes)))
+  injects-guarded : (x : Conn) (s : Station) (bytes : List ℕ) → MayRestOn Given x → Holds x → Holds (grown x (client_does x s (inject_seen x.c bytes) (client_injects s.client bytes)))
   injects-guarded x s bytes may h =
       let v : Move = client_does x s (inject_seen x.c bytes) (client_injects s.client bytes) in
       let e : Rec = rec.Event 0 (event.Inject x.c bytes) in
@@ -211,8 +211,8 @@ module _ (k : Setting) (Given Inv : Conn → Type 0) (mine : ℕ → List Seen �
   guarded : IsLaw k Given (Guarded Inv mine)
   guarded = record {
     begins = λ c. ((λ e. law.begins c), tt);
-    moves = with_injects k (λ x v. MayMove Given x → (tale_at x).touched ≡ false → Inv x → Inv (grown x v) × EachRow (mine x.c) x.seen (seen_in x v))
-        (λ x v. MayMove Given x → Holds x → Holds (grown x v)) moved law.moves injects-guarded;
+    moves = with_injects k (λ x v. MayRestOn Given x → (tale_at x).touched ≡ false → Inv x → Inv (grown x v) × EachRow (mine x.c) x.seen (seen_in x v))
+        (λ x v. MayRestOn Given x → Holds x → Holds (grown x v)) moved law.moves injects-guarded;
   }
 
 pub guarded-law : GuardedIsLaw

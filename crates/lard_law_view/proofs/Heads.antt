@@ -9,7 +9,7 @@ use Rattle.lard_rules.specs.declared.machine.Machine.{Machine}
 use Rattle.lard_law_view.specs.View.{Was, conn, packet_seen}
 use Rattle.lard_law_view.proofs.Saying.{IsStill}
 use Rattle.lard_history.specs.Journal.{acting_in, answered_step}
-use Rattle.lard_history.specs.Own.{Has, Letter, Seen, Row, Came, came, conn_of, event_conn, letter_of, one_of, plain, seen_on, whose}
+use Rattle.lard_history.specs.Own.{Has, Letter, Seen, Row, Came, came_seen, conn_of, event_conn, letter_of, one_of, plain, seen_on, whose}
 use Rattle.lard_history.proofs.Each.{Each, Each-weaker}
 use Rattle.lard_history.proofs.Seeing.{AreOf, has-letter, of-whose, one-mine, one-other, seen-all, seen-mine, seen-none, seen-other}
 use Rattle.lard_journal.specs.declared.rec.Rec.{Rec}
@@ -86,8 +86,8 @@ module _ (m : Machine) (k c : ℕ) (p : Packet) (at : packet_at m.net k ≡ Some
 
   pub comes : p.lost ≡ false → Begins m (event.Deliver k) to c (packet_seen from to p.bytes)
   comes there = record {
-    mine = λ i. ap (λ o. came c o ++ []) at ∙ ap (λ l. l ++ []) (one-mine c (conn_of p.from p.to p.bytes) (Came (letter_of p)) its) ∙ ap (λ (l : Letter). Came l ∷ []) letter-is;
-    others = λ i q n. ap (λ o. came q o ++ []) at ∙ ap (λ l. l ++ []) (one-other c q (conn_of p.from p.to p.bytes) (Came (letter_of p)) n its);
+    mine = λ i. ap (λ o. came_seen c o ++ []) at ∙ ap (λ l. l ++ []) (one-mine c (conn_of p.from p.to p.bytes) (Came (letter_of p)) its) ∙ ap (λ (l : Letter). Came l ∷ []) letter-is;
+    others = λ i q n. ap (λ o. came_seen q o ++ []) at ∙ ap (λ l. l ++ []) (one-other c q (conn_of p.from p.to p.bytes) (Came (letter_of p)) n its);
     still = ((refl, λ net. refl), tt);
     uncounted = λ n. refl;
     acts = (p, at, there, is-to);
@@ -102,7 +102,7 @@ module _ (m : Machine) (k c : ℕ) (p : Packet) (at : packet_at m.net k ≡ Some
 
 -- a packet that is of no connection
 pub comes-to-none : (m : Machine) (k : ℕ) (p : Packet) → packet_at m.net k ≡ Some p → conn_of p.from p.to p.bytes ≡ None → (i q : ℕ) → seen_on q m.net (rec.Event i (event.Deliver k) ∷ rec.Got k ∷ []) ≡ []
-comes-to-none m k p at none i q = ap (λ o. came q o ++ []) at ∙ ap (λ o. one_of q o (Came (letter_of p)) ++ []) none
+comes-to-none m k p at none i q = ap (λ o. came_seen q o ++ []) at ∙ ap (λ o. one_of q o (Came (letter_of p)) ++ []) none
 
 -- ---- of a job of a disk, which names none
 

@@ -7,9 +7,9 @@ use Rattle.lard_base.specs.declared.event.Event.TheVariants as event
 use Rattle.lard_base.specs.declared.place.Place.{Place}
 use Rattle.lard_base.specs.declared.place.Place.TheVariants.{Front, Node, Client}
 use Rattle.lard_base.specs.declared.event.Event.{Event}
-use Rattle.lard_cache.specs.Recency.{has}
+use Rattle.lard_cache.specs.Recency.{has_path}
 use Rattle.lard_rules.specs.declared.machine.Machine.{Machine}
-use Rattle.lard_rules.specs.Bounds.{IsNumber}
+use Rattle.lard_rules.specs.Bounds.{IsConnNumber}
 use Rattle.lard_rules.specs.Machine.{front_gave, front_setting, node_at, node_gave, node_setting}
 use Rattle.lard_law_view.specs.View.{Conn, IsFrontEnv, IsNodeEnv, IsViewed, Move, Rules, Was, IsForFront, IsForNode, IsUnheard, conn, node_does, packet_seen, part_of, setting_of}
 use Rattle.lard_law_view.proofs.Ended.{ended-acts, ended-leaves}
@@ -43,7 +43,7 @@ use Rattle.lard_message.specs.Reading.{decoded_message}
 use Rattle.lard_net.specs.Net.{Packet, packet_at}
 use Rattle.lard_rules.specs.declared.node.NodeState.{NodeState}
 use Rattle.lard_rules.specs.declared.node.NodeTurn.{NodeTurn}
-use Rattle.lard_rules.specs.Node.{Deed, NodePart, node_acknowledged, node_content, node_forwarded, node_offered, node_tagged, saying}
+use Rattle.lard_rules.specs.Node.{NodeDeed, NodePart, node_acknowledged, node_content, node_forwarded, node_offered, node_tagged, node_saying}
 use Rattle.lard_rules.specs.NodePlace.{aside, content_sent, fetched, fetched_file, node_deed, node_env, node_gets, node_hears, node_part}
 use Rattle.lard_rules.specs.Stay.{NodeEnv}
 use Rattle.lard_resend.specs.Pending.{sent_of}
@@ -94,7 +94,7 @@ module _ (m : Machine) (view : IsViewed m) (P : Conn → Move → Type 0) (R : R
   no-message : (P : Kind → Type 0) (fault : MsgFault) → decoded_message l.bytes ≡ Err fault → (msg : Message) → decoded_message l.bytes ≡ Ok msg → P (kind_of msg.body) → ⊥
   no-message P fault spells msg is for = let no : (let given : Result Message MsgFault = Err fault in given ≡ Ok msg) = sym spells ∙ is in absurd cc
 
-  module _ (from : ℕ) (is-from : l.from ≡ Node from) (is-to : l.to ≡ Front) (c epoch : ℕ) (number : IsNumber c) (of : conn_of (Node from) Front l.bytes ≡ Some c) where
+  module _ (from : ℕ) (is-from : l.from ≡ Node from) (is-to : l.to ≡ Front) (c epoch : ℕ) (number : IsConnNumber c) (of : conn_of (Node from) Front l.bytes ≡ Some c) where
     abbrev heads : List Seen
     heads = packet_seen (Node from) Front l.bytes
 
@@ -146,7 +146,7 @@ module _ (m : Machine) (view : IsViewed m) (P : Conn → Move → Type 0) (R : R
     node-silent : IsUnheardAt m l → Q e (node_gave m e (rec.Got k ∷ []) n (s, nothing_done))
     node-silent unheard = subst (Q e) (sym (node-nothing m e (rec.Got k ∷ []) n s here)) (shapes.nobody k l at (there, (λ c to. let no : Node n ≡ Client c = sym is-to ∙ to in absurd cc), unheard))
 
-    module _ (from : Place) (is-from : l.from ≡ from) (c epoch : ℕ) (number : IsNumber c) (of : conn_of from (Node n) l.bytes ≡ Some c) where
+    module _ (from : Place) (is-from : l.from ≡ from) (c epoch : ℕ) (number : IsConnNumber c) (of : conn_of from (Node n) l.bytes ≡ Some c) where
       abbrev its_heads : List Seen
       its_heads = packet_seen from (Node n) l.bytes
 
@@ -163,13 +163,13 @@ module _ (m : Machine) (view : IsViewed m) (P : Conn → Move → Type 0) (R : R
       is-node-env = record { place = refl; number = refl; files = refl; stream = refl; node = refl; epoch_is = refl }
 
       -- by this rule
-      hears : (rule : NodePart → Deed) → IsNodeDeed n c (node_part s c) (rule (node_part s c)) → P (conn m c) (node_does (conn m c) n its_heads (rule ((conn m c).part.nodes n)))
+      hears : (rule : NodePart → NodeDeed) → IsNodeDeed n c (node_part s c) (rule (node_part s c)) → P (conn m c) (node_does (conn m c) n its_heads (rule ((conn m c).part.nodes n)))
           → Q e (node_gave m e (rec.Got k ∷ []) n (node_deed (node_setting m n) s c (rule (node_part s c))))
       unfolding conn
       hears rule good does = deed-acts m P Q shapes e c its_heads number n its-begins refl s here [] tt (λ j. refl) (λ rs. refl) s.cache s.disk (view.jobs n s here) (node_setting m n) (rule (node_part s c)) refl good
           (subst (λ (p : NodePart). P (conn m c) (node_does (conn m c) n its_heads (rule p))) (node-kept m n s c here) does)
 
-    module _ (c epoch : ℕ) (number : IsNumber c) where
+    module _ (c epoch : ℕ) (number : IsConnNumber c) where
       -- from the front end
       front-hears : (is-from : l.from ≡ Front) (of : conn_of Front (Node n) l.bytes ≡ Some c) (b : Body) → decoded_message l.bytes ≡ Ok (record { c = c; epoch = record { 0 = epoch }; body = b })
           → Q e (node_gave m e (rec.Got k ∷ []) n (node_hears (node_setting m n) s Front c epoch b))
@@ -199,10 +199,10 @@ module _ (m : Machine) (view : IsViewed m) (P : Conn → Move → Type 0) (R : R
         unfolding conn
         file-fetched r path file is spells =
             let sent = its-sent (Node from) is-from c epoch number of in
-            let cached : NodeTurn = record (saying (content_sent (node_setting m n) from c epoch r path ∷ [])) { notes = rec.Hit n path ∷ [] } in
-            let queued : NodeTurn = record (saying []) { notes = rec.Queued n from c r path ∷ []; jobs = record { origin = from; c = c; epoch = record { 0 = epoch }; r = r; path = path } ∷ [] } in
+            let cached : NodeTurn = record (node_saying (content_sent (node_setting m n) from c epoch r path ∷ [])) { notes = rec.Hit n path ∷ [] } in
+            let queued : NodeTurn = record (node_saying []) { notes = rec.Queued n from c r path ∷ []; jobs = record { origin = from; c = c; epoch = record { 0 = epoch }; r = r; path = path } ∷ [] } in
             let acts = aside-acts m P Q shapes e c (its_heads (Node from) is-from c epoch number of) number n (its-begins (Node from) is-from c epoch number of) refl s here [] tt (λ j. refl) (λ rs. refl) s.cache s.disk (view.jobs n s here) in
-            cond_both (has s.cache.entries path) cached queued (λ (u : NodeTurn). Q e (node_gave m e (rec.Got k ∷ []) n (aside s u)))
+            cond_both (has_path s.cache.entries path) cached queued (λ (u : NodeTurn). Q e (node_gave m e (rec.Got k ∷ []) n (aside s u)))
             (λ t. acts cached (record { notes = (refl, tt); segments = tt; gave = tt; messages = ((tt, spelled c epoch (body.Content r _) number), tt); counted = λ n. omega arith }) tt
             (R.untouched.node.answers (conn m c) n from epoch r path file l.bytes is spells sent))
             (λ t. acts queued (record { notes = ((refl, refl), tt); segments = tt; gave = tt; messages = tt; counted = λ n. omega arith }) (number, tt)

@@ -1,6 +1,6 @@
 -- What holds of the two ends of one connection.
 use Rattle.std.proofs.Common.{◌≡◌, ℕ, ◌≤◌, true, sym, ap, ◌∙◌, arith}
-use Rattle.lard_client.specs.Control.{is_open}
+use Rattle.lard_client.specs.Control.{is_client_open}
 use Rattle.lard_law_view.proofs.Acked.{Acks, ClientHolds, FrontHolds, heard_of, taken_by}
 use Rattle.lard_law_view.proofs.Story.{Story}
 use Rattle.lard_rules.specs.declared.places.Station.{Station}
@@ -14,7 +14,7 @@ pub record ConnHolds (x : Station) (f : Seat) (y : Story) : Type 0 where
   pub client : ClientHolds (heard_of x.client.send.iss f) y.aborted y.reset x.client
   pub front : FrontHolds x.iss (taken_by x.client) y.aborted f
   pub ended : x.client.eof ≡ true → y.ended ≡ true
-  pub shut : is_open x.client ≡ true → y.shut ≡ true → x.client.send.finished ≡ true
+  pub shut : is_client_open x.client ≡ true → y.shut ≡ true → x.client.send.finished ≡ true
 
 -- ---- its packets
 

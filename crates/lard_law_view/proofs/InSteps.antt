@@ -4,11 +4,11 @@ use Rattle.std.proofs.Common.{◌≡◌, ℕ, List, [], ◌++◌, Ok, refl, sym,
 use Rattle.lard_base.specs.declared.config.Config.{Config}
 use Rattle.lard_base.specs.declared.event.Event.{Event}
 use Rattle.lard_rules.specs.declared.machine.Machine.{Machine}
-use Rattle.lard_rules.specs.Bounds.{HasRule, IsNumber}
+use Rattle.lard_rules.specs.Bounds.{HasRule, IsConnNumber}
 use Rattle.lard_rules.specs.Machine.{IsReached, machine_step}
-use Rattle.lard_law_view.specs.Carry.{MayMove}
+use Rattle.lard_law_view.specs.Carry.{MayRestOn}
 use Rattle.lard_law_view.specs.Laws.{CarriesRecords, CarriesSteps}
-use Rattle.lard_law_view.specs.View.{Conn, Goes, Move, conn, grown, seen_in}
+use Rattle.lard_law_view.specs.View.{Conn, GoesBy, Move, conn, grown, seen_in}
 use Rattle.lard_law_view.proofs.After.{IsAfter, step-after}
 use Rattle.lard_law_view.proofs.Carried.{IsOn, carried-keep, goes-on, may-move}
 use Rattle.lard_history.specs.Laws.{EachMay}
@@ -22,7 +22,7 @@ use Rattle.lard_journal.specs.declared.rec.Rec.{Rec}
 
 -- what a connection sees of a step is what its move says
 pub seen-step : (P : Conn → Move → Type 0) (Q : List Seen → Type 0) (m n : Machine) (s : List Rec) (q : ℕ) → n.journal ≡ m.journal ++ s → Q []
-    → ((v : Move) → P (conn m q) v → Q (seen_in (conn m q) v)) → Goes P (conn m q) (conn n q) → Q (seen_on q (net_of m.journal) s)
+    → ((v : Move) → P (conn m q) v → Q (seen_in (conn m q) v)) → GoesBy P (conn m q) (conn n q) → Q (seen_on q (net_of m.journal) s)
 unfolding conn
 seen-step P Q m n s q is still moves g = ⊎_elim
     (λ (same : conn n q ≡ conn m q).
@@ -42,9 +42,9 @@ carried-steps config files Given must own_must local law given m r = (carried-ke
   step : (k n : Machine) (e : Event) → IsOn config files k → AreLawful must k.journal → HasRule e → machine_step k e ≡ Ok n → AreLawful must n.journal
   step k n e on h rule is =
       let shape : IsAfter k e n = step-after k on.view e n rule is in
-      let P : Conn → Move → Type 0 = λ x v. MayMove Given x → own_must x.c x.seen (seen_in x v) in
-      let Q : Conn → Move → Type 0 = λ x v. IsNumber x.c × P x v in
-      let goes : (q : ℕ) → Goes Q (conn k q) (conn n q) = goes-on config files P law.moves k n e on rule is in
+      let P : Conn → Move → Type 0 = λ x v. MayRestOn Given x → own_must x.c x.seen (seen_in x v) in
+      let Q : Conn → Move → Type 0 = λ x v. IsConnNumber x.c × P x v in
+      let goes : (q : ℕ) → GoesBy Q (conn k q) (conn n q) = goes-on config files P law.moves k n e on rule is in
       subst (AreLawful must) (sym shape.is)
       (one-more must k.journal shape.step shape.one h
       (local k.journal shape.step (λ q. seen-step Q (own_must q (own q k.journal)) k n shape.step q shape.is (law.still q (own q k.journal))

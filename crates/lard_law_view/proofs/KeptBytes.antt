@@ -5,7 +5,7 @@ use Rattle.lard_endpoint.specs.Arriving.{on_segment}
 use Rattle.lard_endpoint.specs.Control.{ControlBlock}
 use Rattle.lard_endpoint.specs.Leaving.{after_emit, after_timer}
 use Rattle.lard_endpoint.proofs.Windows.{emit-recv, segment-recv, timer-recv}
-use Rattle.lard_recv.specs.Recv.{Received, arrived, awaited, begins_after, ends, fresh, room, taken}
+use Rattle.lard_recv.specs.Recv.{Received, arrived, awaited, begins_after, ends, fresh_bytes, receive_room, bytes_taken}
 use Rattle.lard_segment.specs.Segment.{Said}
 use Rattle.lard_send.specs.Send.{Sending, after_ack, after_next, after_resend, is_newer, may_send, moved_up, next_fin, next_len, symbols, windowed}
 use Rattle.lard_seq.specs.Seq.{one_if, seq_offset}
@@ -59,9 +59,9 @@ left-few s owed most = let f = one-most s.finished in let o = one-most owed in o
 
 arrived-keeps : (r : Received) (seq : ℕ) (data_ : List ℕ) (fin : Bool) → AreBytes r.unread → AreBytes data_ → AreBytes (arrived r seq data_ fin).unread
 arrived-keeps r seq data_ fin h k =
-    let more : List ℕ = fresh r seq data_ in
-    let new : Received = taken r more (ends r seq data_ fin) in
-    let bytes : AreBytes more = each-take (λ b. b < 256) (room r) (drop (seq_offset (awaited r) seq) data_) (each-drop (λ b. b < 256) (seq_offset (awaited r) seq) data_ k) in
+    let more : List ℕ = fresh_bytes r seq data_ in
+    let new : Received = bytes_taken r more (ends r seq data_ fin) in
+    let bytes : AreBytes more = each-take (λ b. b < 256) (receive_room r) (drop (seq_offset (awaited r) seq) data_) (each-drop (λ b. b < 256) (seq_offset (awaited r) seq) data_ k) in
     let Unread : Received → Type 0 = λ q. AreBytes q.unread in
     cond_both (begins_after seq (awaited r)) r (cond r.fin r new) Unread (λ t. h)
     (λ t. cond_both r.fin r new Unread (λ u. h)

@@ -5,8 +5,8 @@ use Rattle.std.specs.List.{fold}
 use Rattle.lard_base.specs.declared.event.Event.{Event}
 use Rattle.lard_base.specs.declared.place.Place.{Place}
 use Rattle.lard_rules.specs.declared.machine.Machine.{Machine}
-use Rattle.lard_rules.specs.Machine.{passed, segments_sent, told, told_rows}
-use Rattle.lard_law_view.specs.View.{Conn, Goes, Move, Part, Said, conn, letter, nothing_said, packet_seen, part_of, sending, stands, timer_rows}
+use Rattle.lard_rules.specs.Machine.{passed, segments_sent, machine_told, told_rows}
+use Rattle.lard_law_view.specs.View.{Conn, GoesBy, Move, Part, TurnSaid, conn, letter, nothing_said, packet_seen, part_of, sending, stands, timer_rows}
 use Rattle.lard_law_view.proofs.Saying.{gaves-mine, gaves-others, letters-mine, letters-others, messages-between, notes-others, sents-mine, sents-others}
 use Rattle.lard_law_view.proofs.Turned.{IsSaid}
 use Rattle.lard_history.specs.Own.{Seen, Row, letters, net_of, net_step, own, seen_on}
@@ -20,7 +20,7 @@ use Rattle.lard_rules.specs.declared.places.Out.{Out}
 -- ---- what a connection sees of an act
 
 -- These notes, segments and messages of an act are those of connection q, and these records of its timers.
-pub record Shows (q : ℕ) (place : Place) (o : Out) (s : Said) (rows : List Rec) : Type 0 where
+pub record Shows (q : ℕ) (place : Place) (o : Out) (s : TurnSaid) (rows : List Rec) : Type 0 where
   pub notes : (net : List Packet) → seen_on q net o.notes ≡ map Row s.notes
   pub segments : (net : List Packet) (k : ℕ) → seen_on q net (sent_records k place o.segments) ≡ map Row (map (sending place) s.segments)
   pub gave : (net : List Packet) → seen_on q net o.gave ≡ map Row s.gave
@@ -82,7 +82,7 @@ module _ (m w : Machine) (e : Event) (own_ : List Rec) (place : Place) (o : Out)
   abbrev A : List Rec
   A = rec.Event (w.events + 1) e ∷ own_
 
-  module _ (q : ℕ) (heads : List Seen) (s : Said) (rows : List Rec) (seen : seen_on q m.net A ≡ heads) (shows : Shows q place o s rows) where
+  module _ (q : ℕ) (heads : List Seen) (s : TurnSaid) (rows : List Rec) (seen : seen_on q m.net A ≡ heads) (shows : Shows q place o s rows) where
     packets : letters q (segments_sent w place o ++ packets_of place o.messages) ≡ letters q m.net ++ (map (letter place) s.segments ++ map (letter place) s.messages)
     packets =
         letters-append q (segments_sent w place o) (packets_of place o.messages)
@@ -101,9 +101,9 @@ module _ (m w : Machine) (e : Event) (own_ : List Rec) (place : Place) (o : Out)
 
   module _ (P : Conn → Move → Type 0) where
     -- the connection that moves
-    pub moved : (q : ℕ) (heads : List Seen) (s : Said) (p : Part) → part_of w q ≡ p → seen_on q m.net A ≡ heads → Shows q place o s (timer_rows place q (part_of m q) p)
-        → P (conn m q) (record { place = place; heads = heads; said = s; part = p }) → Goes P (conn m q) (conn (told w e own_ place o) q)
-    unfolding conn told part_of
+    pub moved : (q : ℕ) (heads : List Seen) (s : TurnSaid) (p : Part) → part_of w q ≡ p → seen_on q m.net A ≡ heads → Shows q place o s (timer_rows place q (part_of m q) p)
+        → P (conn m q) (record { place = place; heads = heads; said = s; part = p }) → GoesBy P (conn m q) (conn (machine_told w e own_ place o) q)
+    unfolding conn machine_told part_of
     moved q heads s p at seen shows does = inr (
       record { place = place; heads = heads; said = s; part = p },
       does,
@@ -111,8 +111,8 @@ module _ (m w : Machine) (e : Event) (own_ : List Rec) (place : Place) (o : Out)
     )
 
     -- any other stays
-    pub stays : (q : ℕ) → part_of w q ≡ part_of m q → seen_on q m.net A ≡ [] → Shows q place o nothing_said [] → Goes P (conn m q) (conn (told w e own_ place o) q)
-    unfolding conn told part_of
+    pub stays : (q : ℕ) → part_of w q ≡ part_of m q → seen_on q m.net A ≡ [] → Shows q place o nothing_said [] → GoesBy P (conn m q) (conn (machine_told w e own_ place o) q)
+    unfolding conn machine_told part_of
     stays q at seen shows = inl (λ i. record {
       c = q;
       part = at i;
@@ -128,13 +128,13 @@ module _ (P : Conn → Move → Type 0) (m w : Machine) (e : Event) (own_ : List
   passed-sees heads seen = own-append q w.journal (rec.Event (w.events + 1) e ∷ own_)
       ∙ (λ j. own q (journal j) ++ seen_on q ((ap net_of journal ∙ known) j) (rec.Event (w.events + 1) e ∷ own_)) ∙ ap (λ l. own q m.journal ++ l) seen
 
-  pub passes : seen_on q m.net (rec.Event (w.events + 1) e ∷ own_) ≡ [] → Goes P (conn m q) (conn (passed w e own_) q)
+  pub passes : seen_on q m.net (rec.Event (w.events + 1) e ∷ own_) ≡ [] → GoesBy P (conn m q) (conn (passed w e own_) q)
   unfolding conn part_of
   passes seen = inl (λ i. record { c = q; part = at i; letters = net i; seen = (passed-sees [] seen ∙ append-nil (own q m.journal)) i })
 
   -- a packet comes, and nothing is done
   pub ignores : (from to : Place) (bytes : List ℕ) → timer_rows to q (part_of m q) (part_of m q) ≡ [] → seen_on q m.net (rec.Event (w.events + 1) e ∷ own_) ≡ packet_seen from to bytes
-      → P (conn m q) (stands (conn m q) to (packet_seen from to bytes) nothing_said) → Goes P (conn m q) (conn (passed w e own_) q)
+      → P (conn m q) (stands (conn m q) to (packet_seen from to bytes) nothing_said) → GoesBy P (conn m q) (conn (passed w e own_) q)
   unfolding conn part_of
   ignores from to bytes still seen does = inr (
     stands (conn m q) to (packet_seen from to bytes) nothing_said,

@@ -4,14 +4,14 @@ use Rattle.std.proofs.lemmas.Bool.{and_parts, not-false}
 use Rattle.std.proofs.lemmas.Nat.{from_be_bytes-to_be_bytes_2}
 use Rattle.std.specs.Int.{w16, w32, to_be_bytes, from_be_bytes}
 use Rattle.lard_base.specs.declared.ids.TheConstants.ConnId.{MAX}
-use Rattle.lard_rules.specs.Bounds.{IsNumber}
+use Rattle.lard_rules.specs.Bounds.{IsConnNumber}
 use Rattle.lard_history.specs.Own.{named_in}
 use Rattle.lard_message.specs.declared.fault.MsgFault.{MsgFault}
 use Rattle.lard_message.specs.declared.fault.MsgFault.TheVariants as fault
 use Rattle.lard_message.specs.declared.kind.Kind.{Kind}
 use Rattle.lard_message.specs.declared.message.Body.{Body}
 use Rattle.lard_message.specs.declared.message.Message.{Message}
-use Rattle.lard_message.specs.Kinds.{is_version, kind_named, number_of, version_of}
+use Rattle.lard_message.specs.Kinds.{is_version, kind_named, kind_number, version_of}
 use Rattle.lard_message.specs.Message.{body_bytes, kind_of, spelled_message}
 use Rattle.lard_message.specs.Reading.{body_at, connection_at, decoded_message, epoch_at, is_of_table, length_at, number_byte, version_at, with_body, with_kind}
 
@@ -22,11 +22,11 @@ two-named version kind (h ∷ l ∷ []) rest e = let same : 256 * h + l ≡ from
 two-named version kind _ rest e = absurd (omega (arith, e))
 
 -- a message names its connection
-pub spelled-named : (m : Message) → IsNumber m.c → named_in (spelled_message m) ≡ Some m.c
+pub spelled-named : (m : Message) → IsConnNumber m.c → named_in (spelled_message m) ≡ Some m.c
 unfolding spelled_message
 spelled-named m h =
     let body : List ℕ = body_bytes m.body in
-    two-named (version_of (kind_of m.body)) (number_of (kind_of m.body)) (to_be_bytes w16 m.c) (to_be_bytes w16 m.epoch.0 ++ to_be_bytes w32 (length body) ++ body) refl
+    two-named (version_of (kind_of m.body)) (kind_number (kind_of m.body)) (to_be_bytes w16 m.c) (to_be_bytes w16 m.epoch.0 ++ to_be_bytes w32 (length body) ++ body) refl
     ∙ ap Some (from_be_bytes-to_be_bytes_2 m.c (omega (arith, h.1)))
 
 -- ---- as it is read
@@ -34,7 +34,7 @@ spelled-named m h =
 -- the bytes are those of a message of this connection, whose number is one
 pub record Names (bytes : List ℕ) (c : ℕ) : Type 0 where
   pub named : named_in bytes ≡ Some c
-  pub number : IsNumber c
+  pub number : IsConnNumber c
 
 long-named : (bytes : List ℕ) → 10 ≤ length bytes → named_in bytes ≡ Some (connection_at bytes)
 long-named (a ∷ b ∷ h ∷ l ∷ rest) long = let same : 256 * h + l ≡ from_be_bytes w16 (h ∷ l ∷ []) = omega arith in ap Some same
@@ -63,7 +63,7 @@ module _ (m : Message) where
       let three = unrefused (not (nat_le 1 c && nat_le c MAX)) fault.Field body two.1 in
       let same : c ≡ m.c = body-names c (epoch_at bytes) (body_at k (drop 10 bytes)) three.1 in
       let range = and_parts (nat_le 1 c) (nat_le c MAX) (not-false (nat_le 1 c && nat_le c MAX) three.0) in
-      record { named = long-named bytes long ∙ ap Some same; number = subst IsNumber same (leb-true 1 c range.0, leb-true c MAX range.1) }
+      record { named = long-named bytes long ∙ ap Some same; number = subst IsConnNumber same (leb-true 1 c range.0, leb-true c MAX range.1) }
 
   -- the bytes of a message name its connection
   pub decoded-names : (bytes : List ℕ) → decoded_message bytes ≡ Ok m → Names bytes m.c

@@ -7,10 +7,10 @@ use Rattle.lard_base.specs.declared.event.Event.{Event}
 use Rattle.lard_base.specs.declared.place.Place.{Place}
 use Rattle.lard_base.specs.declared.place.Place.TheVariants.{Node}
 use Rattle.lard_rules.specs.declared.machine.Machine.{Machine}
-use Rattle.lard_rules.specs.Bounds.{IsNumber}
+use Rattle.lard_rules.specs.Bounds.{IsConnNumber}
 use Rattle.lard_rules.specs.Machine.{node_at, node_gave}
 use Rattle.lard_law_view.specs.View as view
-use Rattle.lard_law_view.specs.View.{AreNumbered, Conn, IsViewed, Move, Part, conn, named, node_does, nothing_said, part_of, stands, timer_rows, with_node}
+use Rattle.lard_law_view.specs.View.{AreNumbered, Conn, IsViewed, Move, Part, conn, named_records, node_does, nothing_said, part_of, stands, timer_rows, with_node}
 use Rattle.lard_law_view.proofs.Heads.{Begins}
 use Rattle.lard_law_view.proofs.Nodes.{IsNodeDeed}
 use Rattle.lard_law_view.proofs.Parts.{length-set, node-as-before, node-elsewhere, node-here, node-kept, node-mine, node-others, node-set}
@@ -29,9 +29,9 @@ use Rattle.lard_history.proofs.Seeing.{by_number, same_number}
 use Rattle.lard_journal.specs.declared.rec.Rec.{Rec}
 use Rattle.lard_rules.specs.declared.node.NodeState.{NodeState}
 use Rattle.lard_rules.specs.declared.node.NodeTurn.{NodeTurn}
-use Rattle.lard_rules.specs.Node.{Deed, Drops, Says, Does, NodePart, saying}
+use Rattle.lard_rules.specs.Node.{NodeDeed, Drops, Says, Does, NodePart, node_saying}
 use Rattle.lard_rules.specs.NodePlace as place
-use Rattle.lard_rules.specs.NodePlace.{NodeSetting, aside, node_deed, node_did, node_out, node_part, timers_of}
+use Rattle.lard_rules.specs.NodePlace.{NodeSetting, aside, node_deed, node_did, node_out, node_part, node_timers}
 use Rattle.lard_rules.specs.declared.places.Out.{Out}
 use Rattle.lard_rules.specs.Outs.{nothing_done}
 use Rattle.lard_law_view.proofs.OwnRecords.{behind}
@@ -60,10 +60,10 @@ module _ (m : Machine) (n : ℕ) (s t : NodeState) (at : node_at m.nodes n ≡ S
   }
 
 -- Node n acts on connection c, in the step of this event.
-module _ (m : Machine) (P : Conn → Move → Type 0) (Q : Event → Machine → Type 0) (shapes : Shapes m P Q) (e : Event) (c : ℕ) (heads : List Seen) (number : IsNumber c) (n : ℕ) (begins : Begins m e (Node n) c heads)
+module _ (m : Machine) (P : Conn → Move → Type 0) (Q : Event → Machine → Type 0) (shapes : Shapes m P Q) (e : Event) (c : ℕ) (heads : List Seen) (number : IsConnNumber c) (n : ℕ) (begins : Begins m e (Node n) c heads)
     (own : AreOwn e (behind e)) (s : NodeState) (at : node_at m.nodes n ≡ Some s) where
   -- what the node keeps of connections is as before
-  stands-acts : (t : NodeState) (o : Out) (ns : List Rec) → named o.notes ≡ ns → AreNumbered t.disk → ((q : ℕ) → node_part t q ≡ node_part s q)
+  stands-acts : (t : NodeState) (o : Out) (ns : List Rec) → named_records o.notes ≡ ns → AreNumbered t.disk → ((q : ℕ) → node_part t q ≡ node_part s q)
       → IsSaid (Node n) c o.notes o.segments o.gave o.messages o.answered → o.timers ≡ [] → P (conn m c) (move_of (Node n) heads ns o (conn m c).part) → Q e (node_gave m e (behind e) n (t, o))
   unfolding conn
   stands-acts t o ns names jobs same of none does = shapes.one (record m { nodes = slice_set m.nodes (n - 1) t }) e (Node n) o c heads ns (part_of m c)
@@ -80,12 +80,12 @@ module _ (m : Machine) (P : Conn → Move → Type 0) (Q : Event → Machine →
       }) does
 
   -- what it keeps of connection c is put back
-  does-acts : (t : NodeState) (p : NodePart) (o : Out) (ns : List Rec) → named o.notes ≡ ns → AreNumbered t.disk → ((q : ℕ) → node_part t q ≡ node_part (place.node_put s c p) q)
-      → IsSaid (Node n) c o.notes o.segments o.gave o.messages o.answered → o.timers ≡ timers_of n c (node_part s c) p
+  does-acts : (t : NodeState) (p : NodePart) (o : Out) (ns : List Rec) → named_records o.notes ≡ ns → AreNumbered t.disk → ((q : ℕ) → node_part t q ≡ node_part (place.node_put s c p) q)
+      → IsSaid (Node n) c o.notes o.segments o.gave o.messages o.answered → o.timers ≡ node_timers n c (node_part s c) p
       → P (conn m c) (move_of (Node n) heads ns o (with_node (conn m c).part n p)) → Q e (node_gave m e (behind e) n (t, o))
   unfolding conn timer_rows
   does-acts t p o ns names jobs same of timers does =
-      let here : view.node_put (part_of m c).nodes n p n ≡ p = ap (λ b. cond b p ((part_of m c).nodes n)) (same_number n) in
+      let here : view.node_put_back (part_of m c).nodes n p n ≡ p = ap (λ b. cond b p ((part_of m c).nodes n)) (same_number n) in
       shapes.one (record m { nodes = slice_set m.nodes (n - 1) t }) e (Node n) o c heads ns (with_node (part_of m c) n p)
       (record {
         put = node-put m n s t at jobs;
@@ -94,14 +94,14 @@ module _ (m : Machine) (P : Conn → Move → Type 0) (Q : Event → Machine →
         said = of;
         first = own-first e (Node n) c o.notes tt own of.notes;
         notes = λ net. notes-mine (Node n) c net o.notes of.notes ∙ ap (map Row) names;
-        timers = timers ∙ (λ i. timers_of n c (sym (node-kept m n s c at) i) (sym here i));
+        timers = timers ∙ (λ i. node_timers n c (sym (node-kept m n s c at) i) (sym here i));
         mine = node-mine m n s t at c p (same c ∙ node-here s c p);
         others = λ q other. node-as-before m n s t at q (same q ∙ node-elsewhere s c q p other);
       }) does
 
   -- ---- a rule of the connection, behind these records, where the cache and the disk are so
 
-  module _ (fs : List Rec) (noted : Each (NotedAt (Node n) c) fs) (counted : (k : ℕ) → fold answered_step k fs ≡ k) (names : (rs : List Rec) → named (fs ++ rs) ≡ fs ++ named rs)
+  module _ (fs : List Rec) (noted : Each (NotedAt (Node n) c) fs) (counted : (k : ℕ) → fold answered_step k fs ≡ k) (names : (rs : List Rec) → named_records (fs ++ rs) ≡ fs ++ named_records rs)
       (cache : Recency) (disk : List Job) (jobs : AreNumbered disk) where
     abbrev t : NodeState
     t = record s { cache = cache; disk = disk }
@@ -123,16 +123,16 @@ module _ (m : Machine) (P : Conn → Move → Type 0) (Q : Event → Machine →
 
     -- nothing that is kept of connections changes
     pub aside-acts : (u : NodeTurn) → IsSaid (Node n) c u.notes [] [] u.messages 0 → AreNumbered u.jobs
-        → P (conn m c) (stands (conn m c) (Node n) heads (record { notes = fs ++ named u.notes; segments = []; gave = []; messages = u.messages })) → Q e (node_gave m e (behind e) n (with_firsts (aside t u)))
-    aside-acts u of more does = stands-acts (place.told t u) (record { notes = fs ++ u.notes; segments = []; gave = []; messages = u.messages; timers = []; answered = 0 }) (fs ++ named u.notes)
-        (names u.notes) (all-append (λ (job : Job). IsNumber job.c) disk u.jobs jobs more) (λ q. refl) (firsts-said u.notes [] [] u.messages 0 of) refl does
+        → P (conn m c) (stands (conn m c) (Node n) heads (record { notes = fs ++ named_records u.notes; segments = []; gave = []; messages = u.messages })) → Q e (node_gave m e (behind e) n (with_firsts (aside t u)))
+    aside-acts u of more does = stands-acts (place.stores_told t u) (record { notes = fs ++ u.notes; segments = []; gave = []; messages = u.messages; timers = []; answered = 0 }) (fs ++ named_records u.notes)
+        (names u.notes) (all-append (λ (job : Job). IsConnNumber job.c) disk u.jobs jobs more) (λ q. refl) (firsts-said u.notes [] [] u.messages 0 of) refl does
 
-    pub deed-acts : (k : NodeSetting) (deed : Deed) → k.n ≡ n → IsNodeDeed n c (node_part s c) deed → P (conn m c) (first_in (node_does (conn m c) n heads deed))
+    pub deed-acts : (k : NodeSetting) (deed : NodeDeed) → k.n ≡ n → IsNodeDeed n c (node_part s c) deed → P (conn m c) (first_in (node_does (conn m c) n heads deed))
         → Q e (node_gave m e (behind e) n (with_firsts (node_deed k t c deed)))
     deed-acts k Drops same of does = stands-acts t (record nothing_done { notes = fs ++ [] }) (fs ++ []) (names []) jobs (λ q. refl)
         (firsts-said [] [] [] [] 0 (record { notes = tt; segments = tt; gave = tt; messages = tt; counted = λ n. omega arith })) refl does
-    deed-acts k (Says messages) same of does = aside-acts (saying messages) (record { notes = tt; segments = tt; gave = tt; messages = of; counted = λ n. omega arith }) tt does
+    deed-acts k (Says messages) same of does = aside-acts (node_saying messages) (record { notes = tt; segments = tt; gave = tt; messages = of; counted = λ n. omega arith }) tt does
     deed-acts k (Does x) same of does =
-        does-acts (place.told (place.node_put t c x.0) x.1) x.0 (record (node_out k.n c (node_part s c) x.0 x.1) { notes = fs ++ x.1.notes }) (fs ++ named x.1.notes)
-        (names x.1.notes) (all-append (λ (job : Job). IsNumber job.c) disk x.1.jobs jobs of.0.1) (λ q. refl) (firsts-said x.1.notes x.1.segments x.1.gave x.1.messages x.1.answered of.0.0)
-        (ap (λ i. timers_of i c (node_part s c) x.0) same) does
+        does-acts (place.stores_told (place.node_put t c x.0) x.1) x.0 (record (node_out k.n c (node_part s c) x.0 x.1) { notes = fs ++ x.1.notes }) (fs ++ named_records x.1.notes)
+        (names x.1.notes) (all-append (λ (job : Job). IsConnNumber job.c) disk x.1.jobs jobs of.0.1) (λ q. refl) (firsts-said x.1.notes x.1.segments x.1.gave x.1.messages x.1.answered of.0.0)
+        (ap (λ i. node_timers i c (node_part s c) x.0) same) does

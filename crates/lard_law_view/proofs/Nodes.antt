@@ -6,7 +6,7 @@ use Rattle.lard_base.specs.declared.parts.EndpointParts.{EndpointParts}
 use Rattle.lard_base.specs.declared.place.Place.{Place}
 use Rattle.lard_base.specs.declared.place.Place.TheVariants.{Node}
 use Rattle.lard_base.specs.declared.place.TimerKind.TheVariants as kind
-use Rattle.lard_rules.specs.Bounds.{IsNumber}
+use Rattle.lard_rules.specs.Bounds.{IsConnNumber}
 use Rattle.lard_law_view.specs.View.{AreNumbered, GoesBetween, IsMachine}
 use Rattle.lard_law_view.proofs.Saying.{AreMessages, GaveAt}
 use Rattle.lard_law_view.proofs.Turned.{AreHeld, HeldBy, IsSaid, all-has, all-weaker, as-held, node-segments, spelled}
@@ -18,7 +18,7 @@ use Rattle.lard_endpoint.specs.Control.{ControlBlock}
 use Rattle.lard_endpoint.specs.Leaving as leaving
 use Rattle.lard_handoff_back.specs.declared.table.Adopt.{Adopt}
 use Rattle.lard_handoff_back.specs.declared.table.Adopt.TheVariants.{New, Again, Stale}
-use Rattle.lard_handoff_back.specs.Back.{awaits_ack, endpoint_of, offer_answer}
+use Rattle.lard_handoff_back.specs.Back.{awaits_ack, back_endpoint, offer_answer}
 use Rattle.lard_history.specs.Own.{Has}
 use Rattle.lard_history.proofs.Each.{Each, Each-append}
 use Rattle.lard_history.proofs.Seeing.{has-before, has-behind}
@@ -28,7 +28,7 @@ use Rattle.lard_rules.specs.declared.node.NodeTurn.{NodeTurn}
 use Rattle.lard_rules.specs.declared.stay.Asked.{Asked}
 use Rattle.lard_rules.specs.declared.stay.Stay.{Stay}
 use Rattle.lard_rules.specs.declared.stay.Want.{Want}
-use Rattle.lard_rules.specs.Node.{Deed, Drops, Says, Does, NodePart, again_sent, all_sent, anew, ask_kept, asked_kept, asked_sent, begins, both_of, come_by, ended_kept, ended_sent, fetch_of, fired_by, gave_by, gone, heard_by, here, is_awaited, kept_after, node_acknowledged, node_content, node_forwarded, node_offered, node_read, node_tagged, node_timer, offered_by, read_by, saying, tagged_by, taken_sent, turn_by, wants_kept, wants_sent, with_work, work_of}
+use Rattle.lard_rules.specs.Node.{NodeDeed, Drops, Says, Does, NodePart, again_sent, all_sent, anew, ask_kept, asked_kept, asked_sent, node_begins, both_of, come_by, ended_kept, ended_sent, fetch_of, node_fired_by, gave_by, gone, node_heard_by, here, is_tag_awaited, kept_after, node_acknowledged, node_content, node_forwarded, node_offered, node_read, node_tagged, node_timer, offered_by, node_read_by, node_saying, tagged_by, taken_sent, turn_by, wants_kept, wants_sent, with_work, work_of}
 use Rattle.lard_rules.specs.Stay.{NodeEnv, Work, came_for, come_progress, goes_on, read_progress, reads_batch, tagged}
 use Rattle.lard_resend.specs.declared.kept.Kept.{Kept}
 use Rattle.lard_resend.specs.Kept.{is_under, without}
@@ -38,7 +38,7 @@ use Rattle.lard_rules.specs.declared.places.Ending.{Ending}
 use Rattle.lard_rules.specs.declared.places.Ending.TheVariants.{Here, Over}
 use Rattle.lard_rules.specs.declared.places.Turn.{Turn}
 use Rattle.lard_rules.specs.Loop.{state_of}
-use Rattle.lard_rules.specs.Serving.{Service, ready_of, serving, settled, spoken}
+use Rattle.lard_rules.specs.Serving.{Service, serving_ready_of, serving, serving_settled, spoken}
 use Rattle.lard_segment.specs.declared.fault.SegFault.{SegFault}
 use Rattle.lard_segment.specs.Segment.{Said}
 use Rattle.lard_law_view.proofs.EndpointSends as endpoints
@@ -54,13 +54,13 @@ abbrev pub IsNodeTurn : ℕ → ℕ → NodeTurn → Type 0
 IsNodeTurn n c t = IsSaid (Node n) c t.notes t.segments t.gave t.messages t.answered × AreNumbered t.jobs
 
 -- A rule's turn is of connection c, and what is held then was held before or is sent in it.
-abbrev pub IsNodeDeed : ℕ → ℕ → NodePart → Deed → Type 0
+abbrev pub IsNodeDeed : ℕ → ℕ → NodePart → NodeDeed → Type 0
 IsNodeDeed n c p Drops = Unit {0}
 IsNodeDeed n c p (Says messages) = AreMessages c (Node n) messages
 IsNodeDeed n c p (Does x) = IsNodeTurn n c x.1 × AreHeld x.1.messages p.kept x.0.kept × AreHeld x.1.messages p.fetches x.0.fetches
 
 -- Node env.n acts on connection c, whose number is one, and what it holds of it goes to other machines of the cluster.
-module _ (env : NodeEnv) (own : env.serve.place ≡ Node env.n) (number : IsNumber env.serve.c) where
+module _ (env : NodeEnv) (own : env.serve.place ≡ Node env.n) (number : IsConnNumber env.serve.c) where
   abbrev AreSaid : List (Place × List ℕ) → Type 0
   AreSaid messages = AreMessages env.serve.c (Node env.n) messages
 
@@ -147,7 +147,7 @@ module _ (env : NodeEnv) (own : env.serve.place ≡ Node env.n) (number : IsNumb
     abbrev IsResult : NodePart × NodeTurn → Type 0
     IsResult x = IsOfNode x.1 × AreHeld x.1.messages p.kept x.0.kept × AreHeld x.1.messages p.fetches x.0.fetches
 
-    abbrev IsDeed : Deed → Type 0
+    abbrev IsDeed : NodeDeed → Type 0
     IsDeed d = IsNodeDeed env.n env.serve.c p d
 
     -- what is held is as before, or less
@@ -167,12 +167,12 @@ module _ (env : NodeEnv) (own : env.serve.place ≡ Node env.n) (number : IsNumb
         )
 
     works-deed : (q : NodePart) (before : List (Place × List ℕ)) (w : Work) → IsLess q → AreSaid before → Works w → IsDeed (with_work env q before w)
-    works-deed q before w less said h = result q before w (settled env.serve w.service) less said h.1 (turns.settled-turn env.serve (N env own number) (noting env own number) w.service h.0)
+    works-deed q before w less said h = result q before w (serving_settled env.serve w.service) less said h.1 (turns.settled-turn env.serve (N env own number) (noting env own number) w.service h.0)
 
     fresh : (b : ControlBlock) (s : Stay) → Works (work_of b s)
     fresh b s = ((tt, λ n. omega arith), tt)
 
-    heard-deed : (given : Result Said SegFault) (x : Option (ControlBlock × Stay)) → IsDeed (heard_by env p given x)
+    heard-deed : (given : Result Said SegFault) (x : Option (ControlBlock × Stay)) → IsDeed (node_heard_by env p given x)
     heard-deed (Err fault) x = tt
     heard-deed (Ok s) None = tt
     heard-deed (Ok s) (Some x) =
@@ -186,7 +186,7 @@ module _ (env : NodeEnv) (own : env.serve.place ≡ Node env.n) (number : IsNumb
     tagged_by-deed n nodes (Some x) =
         let q : NodePart = record p { kept = without kind.Ask 0 p.kept } in
         let w : Work = tagged env nodes (work_of x.0 x.1) in
-        cond_both (is_awaited env n nodes p x.1) (with_work env q [] (goes_on env w)) Drops IsDeed
+        cond_both (is_tag_awaited env n nodes p x.1) (with_work env q [] (goes_on env w)) Drops IsDeed
         (λ t. works-deed q [] (goes_on env w) (drop_all (λ k. Has k p.kept) kind.Ask 0 p.kept same.0, same.1) tt
         (goes-works env Told told w (tagged-works env Told told nodes (work_of x.0 x.1) (fresh x.0 x.1))))
         (λ t. tt)
@@ -207,7 +207,7 @@ module _ (env : NodeEnv) (own : env.serve.place ≡ Node env.n) (number : IsNumb
     pub content-deed : (from r : ℕ) → IsDeed (node_content env p from r)
     content-deed from r = come-deed from r (here env.epoch p)
 
-    read_by-deed : (r : ℕ) (x : Option (ControlBlock × Stay)) → IsDeed (read_by env r p x)
+    read_by-deed : (r : ℕ) (x : Option (ControlBlock × Stay)) → IsDeed (node_read_by env r p x)
     read_by-deed r None = tt
     read_by-deed r (Some x) =
         let w : Work = came_for read_progress r (work_of x.0 x.1) in
@@ -223,9 +223,9 @@ module _ (env : NodeEnv) (own : env.serve.place ≡ Node env.n) (number : IsNumb
 
     offered_by-deed : (parts : EndpointParts) (a : Adopt) → IsDeed (offered_by env parts p a)
     offered_by-deed parts New =
-        let w : Work = state_of (reads_batch env true (begins env parts)) in
+        let w : Work = state_of (reads_batch env true (node_begins env parts)) in
         works-deed p (taken_sent env) (goes_on env w) same takes
-        (goes-works env Told told w (batch-works env Told told true (begins env parts) refl ((((refl, refl), tt), λ n. omega arith), tt)))
+        (goes-works env Told told w (batch-works env Told told true (node_begins env parts) refl ((((refl, refl), tt), λ n. omega arith), tt)))
     offered_by-deed parts Again = takes
     offered_by-deed parts Stale = tt
 
@@ -237,7 +237,7 @@ module _ (env : NodeEnv) (own : env.serve.place ≡ Node env.n) (number : IsNumb
     pub acknowledged-deed : IsDeed (node_acknowledged env p)
     acknowledged-deed =
         let q : NodePart = record p { row = gone p.row; kept = without kind.Ended 0 p.kept } in
-        cond_both (awaits_ack env.epoch p.row) (Does (q, saying [])) Drops IsDeed
+        cond_both (awaits_ack env.epoch p.row) (Does (q, node_saying [])) Drops IsDeed
         (λ t. (
           (record { notes = tt; segments = tt; gave = tt; messages = tt; counted = λ n. omega arith }, tt),
           drop_all (HeldBy [] p.kept) kind.Ended 0 p.kept (as-held [] p.kept),
@@ -252,13 +252,13 @@ module _ (env : NodeEnv) (own : env.serve.place ≡ Node env.n) (number : IsNumb
       again [] ls e f = f
       again (k ∷ ks) ls e f = (e.0, again ks ls e.1 f)
 
-      fired-deed : (x : Option (ControlBlock × Stay)) → IsDeed (fired_by env p x)
+      fired-deed : (x : Option (ControlBlock × Stay)) → IsDeed (node_fired_by env p x)
       fired-deed None = again p.kept p.fetches kept fetches
       fired-deed (Some x) =
           let b : ControlBlock = leaving.after_timer x.0 in
           let w : Service = serving b x.1.served [] in
-          result p (again_sent p) (work_of b x.1) (spoken env.serve w (ready_of env.serve b (leaving.timed x.0))) same (again p.kept p.fetches kept fetches) tt
-          (turns.spoken-turn env.serve (N env own number) (noting env own number) w (ready_of env.serve b (leaving.timed x.0)) (endpoints.ready-to env.serve b (leaving.timed x.0)) (tt, λ n. omega arith))
+          result p (again_sent p) (work_of b x.1) (spoken env.serve w (serving_ready_of env.serve b (leaving.timed x.0))) same (again p.kept p.fetches kept fetches) tt
+          (turns.spoken-turn env.serve (N env own number) (noting env own number) w (serving_ready_of env.serve b (leaving.timed x.0)) (endpoints.ready-to env.serve b (leaving.timed x.0)) (tt, λ n. omega arith))
 
       pub fires-deed : IsDeed (node_timer env p)
-      fires-deed = fired-deed (both_of (endpoint_of p.row) p.stay)
+      fires-deed = fired-deed (both_of (back_endpoint p.row) p.stay)

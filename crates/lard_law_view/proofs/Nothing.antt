@@ -5,7 +5,7 @@ use Rattle.lard_base.specs.declared.event.Event.{Event}
 use Rattle.lard_base.specs.declared.place.Place.{Place}
 use Rattle.lard_base.specs.declared.place.Place.TheVariants.{Node}
 use Rattle.lard_rules.specs.declared.machine.Machine.{Machine}
-use Rattle.lard_rules.specs.Machine.{is_no_node, node_at, node_gave, passed, told}
+use Rattle.lard_rules.specs.Machine.{is_no_node, node_at, node_gave, passed, machine_told}
 use Rattle.lard_journal.specs.declared.rec.Rec.{Rec}
 use Rattle.lard_journal.specs.declared.rec.Rec.TheVariants as rec
 use Rattle.lard_rules.specs.declared.node.NodeState.{NodeState}
@@ -48,8 +48,8 @@ node-there nodes count (suc i) same e = let le : suc i ≤ count = ltb-false cou
 
 -- ---- nothing is done
 
-pub told-nothing : (m : Machine) (e : Event) (own : List Rec) (place : Place) → told m e own place nothing_done ≡ passed m e own
-unfolding told
+pub told-nothing : (m : Machine) (e : Event) (own : List Rec) (place : Place) → machine_told m e own place nothing_done ≡ passed m e own
+unfolding machine_told
 told-nothing m e own place =
     let rows : List Rec = rec.Event (m.events + 1) e ∷ own in
     let same : rows ++ [] ++ [] ++ [] ++ [] ++ [] ≡ rows =
@@ -58,4 +58,4 @@ told-nothing m e own place =
     λ i. record m { net = (append-nil (m.net ++ []) ∙ append-nil m.net) i; answered = none i; events = m.events + 1; journal = m.journal ++ same i }
 
 pub node-nothing : (m : Machine) (e : Event) (own : List Rec) (n : ℕ) (s : NodeState) → node_at m.nodes n ≡ Some s → node_gave m e own n (s, nothing_done) ≡ passed m e own
-node-nothing m e own n s at = ap (λ (nodes : List NodeState). told (record m { nodes = nodes }) e own (Node n) nothing_done) (node-same m.nodes n s at) ∙ told-nothing m e own (Node n)
+node-nothing m e own n s at = ap (λ (nodes : List NodeState). machine_told (record m { nodes = nodes }) e own (Node n) nothing_done) (node-same m.nodes n s at) ∙ told-nothing m e own (Node n)

@@ -1,24 +1,24 @@
 -- A connection on which something happened has the number of one.
 use Rattle.std.proofs.Common.{◌≡◌, Some, None, sym, ap, ◌∙◌, subst, ⊎_elim}
-use Rattle.lard_rules.specs.Bounds.{IsNumber}
-use Rattle.lard_law_view.specs.View.{Conn, IsSound, blank}
+use Rattle.lard_rules.specs.Bounds.{IsConnNumber}
+use Rattle.lard_law_view.specs.View.{Conn, IsConnSound, blank_conn}
 use Rattle.lard_handoff_front.specs.declared.row.FrontRow.{FrontRow}
 use Rattle.lard_history.specs.Own.{Has, Letter}
 use Rattle.lard_rules.specs.declared.places.Station.{Station}
 
 module _ (x : Conn) where
   -- a packet was sent on it
-  pub letter-number : (l : Letter) → IsSound x → Has l x.letters → IsNumber x.c
-  letter-number l h has = ⊎_elim (λ (n : IsNumber x.c). n) (λ (e : x ≡ blank x.c). absurd (subst (λ (y : Conn). Has l y.letters) e has)) h.number
+  pub letter-number : (l : Letter) → IsConnSound x → Has l x.letters → IsConnNumber x.c
+  letter-number l h has = ⊎_elim (λ (n : IsConnNumber x.c). n) (λ (e : x ≡ blank_conn x.c). absurd (subst (λ (y : Conn). Has l y.letters) e has)) h.number
 
   -- its client opened
-  pub client-number : (s : Station) → IsSound x → x.part.station ≡ Some s → IsNumber x.c
-  client-number s h is = ⊎_elim (λ (n : IsNumber x.c). n)
-      (λ (e : x ≡ blank x.c). let no : None ≡ Some s = sym (ap (λ (y : Conn). y.part.station) e) ∙ is in absurd cc)
+  pub client-number : (s : Station) → IsConnSound x → x.part.station ≡ Some s → IsConnNumber x.c
+  client-number s h is = ⊎_elim (λ (n : IsConnNumber x.c). n)
+      (λ (e : x ≡ blank_conn x.c). let no : None ≡ Some s = sym (ap (λ (y : Conn). y.part.station) e) ∙ is in absurd cc)
       h.number
 
   -- the front end took it
-  pub row-number : (row : FrontRow) → IsSound x → x.part.front.row ≡ Some row → IsNumber x.c
-  row-number row h is = ⊎_elim (λ (n : IsNumber x.c). n)
-      (λ (e : x ≡ blank x.c). let no : None ≡ Some row = sym (ap (λ (y : Conn). y.part.front.row) e) ∙ is in absurd cc)
+  pub row-number : (row : FrontRow) → IsConnSound x → x.part.front.row ≡ Some row → IsConnNumber x.c
+  row-number row h is = ⊎_elim (λ (n : IsConnNumber x.c). n)
+      (λ (e : x ≡ blank_conn x.c). let no : None ≡ Some row = sym (ap (λ (y : Conn). y.part.front.row) e) ∙ is in absurd cc)
       h.number

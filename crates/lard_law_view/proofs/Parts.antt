@@ -4,7 +4,7 @@ use Rattle.std.specs.Prelude.{slice_get, slice_set}
 use Rattle.std.specs.FinMap as table
 use Rattle.lard_rules.specs.declared.machine.Machine.{Machine}
 use Rattle.lard_rules.specs.Machine.{client_put, node_at}
-use Rattle.lard_law_view.specs.View.{kept_at, node_put, part_of, with_front, with_node, with_station}
+use Rattle.lard_law_view.specs.View.{kept_at, node_put_back, part_of, with_front, with_node, with_station}
 use Rattle.lard_rules.specs.declared.front.FrontState.{FrontState}
 use Rattle.lard_rules.specs.Front.{FrontPart}
 use Rattle.lard_rules.specs.FrontPlace.{front_part}
@@ -21,11 +21,11 @@ use Rattle.lard_table.proofs.Map.{get_inserted, get_other, get_put_other, get_pu
 -- ---- one node's part is put back among those of all nodes
 
 module _ (nodes : ℕ → NodePart) (n : ℕ) (q : NodePart) where
-  pub put-same : node_put nodes n q n ≡ q
+  pub put-same : node_put_back nodes n q n ≡ q
   put-same = ap (λ b. cond b q (nodes n)) (eq-eqb n n refl)
 
   -- of each node, if it is so of this one and of the others
-  pub put-each : (P : ℕ → NodePart → Type 0) → P n q → ((m : ℕ) → m ≢ n → P m (nodes m)) → (m : ℕ) → P m (node_put nodes n q m)
+  pub put-each : (P : ℕ → NodePart → Type 0) → P n q → ((m : ℕ) → m ≢ n → P m (nodes m)) → (m : ℕ) → P m (node_put_back nodes n q m)
   put-each P here there m = go (m == n) refl where
     go : (b : Bool) → (m == n) ≡ b → P m (cond b q (nodes m))
     go true e = subst (λ (k : ℕ). P k q) (sym (eqb-true m n e)) here
@@ -104,8 +104,8 @@ module _ (m : Machine) where
     pub node-mine : (p : NodePart) → node_part t q ≡ p → part_of (record m { nodes = nodes }) q ≡ with_node (part_of m q) n p
     unfolding part_of
     node-mine p e = λ i. record { station = table.get m.clients q; front = front_part m.front q; nodes = λ k. each k i } where
-      each : (k : ℕ) → kept_at q (node_at nodes k) ≡ node_put (λ j. kept_at q (node_at m.nodes j)) n p k
-      each k = by_number (kept_at q (node_at nodes k) ≡ node_put (λ j. kept_at q (node_at m.nodes j)) n p k) k n
+      each : (k : ℕ) → kept_at q (node_at nodes k) ≡ node_put_back (λ j. kept_at q (node_at m.nodes j)) n p k
+      each k = by_number (kept_at q (node_at nodes k) ≡ node_put_back (λ j. kept_at q (node_at m.nodes j)) n p k) k n
           (λ same. let here : kept_at q (node_at nodes k) ≡ p = ap (λ j. kept_at q (node_at nodes j)) same ∙ ap (kept_at q) (node-set m.nodes n s t at) ∙ e in
           here ∙ sym (ap (λ b. cond b p (kept_at q (node_at m.nodes k))) (ap (λ j. nat_eq j n) same ∙ same_number n)))
           (λ other. ap (kept_at q) (node-others m.nodes n k s t at other) ∙ sym (ap (λ b. cond b p (kept_at q (node_at m.nodes k))) (other_number k n other)))

@@ -6,7 +6,7 @@ use Rattle.lard_arrival.specs.Arrival.{IsPartAt}
 use Rattle.lard_segment.specs.declared.segment.Flags.{Flags}
 use Rattle.lard_segment.specs.Segment.{Said, IsSendable}
 use Rattle.lard_send.specs.declared.piece.Piece.{Piece}
-use Rattle.lard_send.specs.Send.{Sending, IsSending, symbols, acknowledged_bytes, syn_piece, byte_piece, left, unsent_bytes, may_send, next_len, next_fin, next_piece, again_len, again_fin, resent_piece}
+use Rattle.lard_send.specs.Send.{Sending, IsSending, symbols, acknowledged_bytes, syn_piece, byte_piece, send_left, unsent_bytes, may_send, next_len, next_fin, next_piece, again_len, again_fin, resent_piece}
 use Rattle.lard_send.proofs.Unacknowledged.{pieces}
 use Rattle.lard_seq.specs.Seq.{one_if, seq_add}
 use Rattle.lard_law_view.specs.Truth.{Stream, IsTrueOf, Speaks, stream_of}
@@ -45,13 +45,13 @@ next-carried s h =
     (λ t. let zero : s.nxt ≡ 0 = eqb-true s.nxt 0 t in syn-carries s h (omega arith))
     (λ t. cond_both (may_send s) next None P
     (λ m.
-    let may = and_parts (not (s.una == 0)) (nat_lt s.nxt (symbols s) && nat_lt 0 (left s)) m in
-    let some : s.nxt < symbols s = ltb-true s.nxt (symbols s) (and_parts (nat_lt s.nxt (symbols s)) (nat_lt 0 (left s)) may.1).0 in
+    let may = and_parts (not (s.una == 0)) (nat_lt s.nxt (symbols s) && nat_lt 0 (send_left s)) m in
+    let some : s.nxt < symbols s = ltb-true s.nxt (symbols s) (and_parts (nat_lt s.nxt (symbols s)) (nat_lt 0 (send_left s)) may.1).0 in
     let one = one_small s.finished in
     bytes-carry s s.nxt (next_len s) (next_fin s) h sent (omega arith) (omega arith)
     (λ f.
-    let ends = and_parts s.finished ((next_len s == unsent_bytes s) && nat_lt (next_len s) (left s)) f in
-    let all : next_len s ≡ unsent_bytes s = eqb-true (next_len s) (unsent_bytes s) (and_parts (next_len s == unsent_bytes s) (nat_lt (next_len s) (left s)) ends.1).0 in
+    let ends = and_parts s.finished ((next_len s == unsent_bytes s) && nat_lt (next_len s) (send_left s)) f in
+    let all : next_len s ≡ unsent_bytes s = eqb-true (next_len s) (unsent_bytes s) (and_parts (next_len s == unsent_bytes s) (nat_lt (next_len s) (send_left s)) ends.1).0 in
     (omega arith, ends.0)))
     (λ m. tt))
 

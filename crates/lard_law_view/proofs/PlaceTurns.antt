@@ -8,9 +8,9 @@ use Rattle.lard_base.specs.declared.place.Place.{Place}
 use Rattle.lard_base.specs.declared.place.Place.TheVariants.{Front, Client}
 use Rattle.lard_base.specs.declared.place.Reason.TheVariants as reason
 use Rattle.lard_base.specs.declared.place.Via.{Via}
-use Rattle.lard_client.specs.Arriving.{arrived}
-use Rattle.lard_client.specs.Control.{ClientBlock, aborted, held_on, is_writing, opened, shut_down, taken, written}
-use Rattle.lard_client.specs.Leaving.{abort_ready, after_timer, timed}
+use Rattle.lard_client.specs.Arriving.{client_arrived}
+use Rattle.lard_client.specs.Control.{ClientBlock, aborted, held_on, is_writing, client_opened, shut_down, client_taken, client_written}
+use Rattle.lard_client.specs.Leaving.{abort_ready, client_after_timer, client_timed}
 use Rattle.lard_endpoint.specs.Control.{finishing}
 use Rattle.lard_endpoint.specs.Moving.{final_of}
 use Rattle.lard_history.specs.Journal.{answered_step}
@@ -19,8 +19,8 @@ use Rattle.lard_journal.specs.declared.rec.Rec.{Rec}
 use Rattle.lard_journal.specs.declared.rec.Rec.TheVariants as rec
 use Rattle.lard_rules.specs.declared.places.Ending.{Ending}
 use Rattle.lard_rules.specs.declared.places.Turn.{Turn}
-use Rattle.lard_rules.specs.Client.{client_aborts, client_gets, client_holds, client_injects, client_opens, client_shuts, client_takes, client_timer, client_writes, ready_of, silent, speaking}
-use Rattle.lard_rules.specs.Serving.{ServeEnv, Service, answered, cut_off, ended_at_fin, limit_said, passed_over, queued, settled, spoken, told}
+use Rattle.lard_rules.specs.Client.{client_aborts, client_gets, client_holds, client_injects, client_opens, client_shuts, client_takes, client_timer, client_writes, station_ready_of, silent, speaking}
+use Rattle.lard_rules.specs.Serving.{ServeEnv, Service, answered, cut_off, ended_at_fin, limit_said, passed_over, queued, serving_settled, spoken, serving_told}
 use Rattle.lard_rules.specs.Serving as serve
 use Rattle.lard_rules.specs.Speaking.{client_speaks, speaks, speaks_symbols}
 use Rattle.lard_request.specs.declared.verdict.Code.TheVariants as code
@@ -78,12 +78,12 @@ silent-turn : (c : ℕ) (x : ClientBlock) → x.c ≡ c → IsClientTurn c (x, s
 silent-turn c x n = record { number = n; notes = tt; to = tt; answered = λ n. omega arith }
 
 pub opens-turn : (c isn wnd mss : ℕ) → IsClientTurn c (client_opens c isn wnd mss)
-opens-turn c isn wnd mss = speaking-turn c (opened c isn wnd mss) [] [] refl tt tt
+opens-turn c isn wnd mss = speaking-turn c (client_opened c isn wnd mss) [] [] refl tt tt
 
 module _ (c : ℕ) (x : ClientBlock) (n : x.c ≡ c) where
   pub writes-turn : (bytes : List ℕ) → IsClientTurn c (client_writes x bytes)
-  writes-turn bytes = cond_both {A = ClientBlock × Turn} (is_writing x) (speaking (rec.Wrote x.c bytes ∷ []) [] (written x bytes)) (x, silent) (IsClientTurn c)
-      (λ t. speaking-turn c (written x bytes) (rec.Wrote x.c bytes ∷ []) [] ((written-on x bytes).number ∙ n) (n, tt) tt)
+  writes-turn bytes = cond_both {A = ClientBlock × Turn} (is_writing x) (speaking (rec.Wrote x.c bytes ∷ []) [] (client_written x bytes)) (x, silent) (IsClientTurn c)
+      (λ t. speaking-turn c (client_written x bytes) (rec.Wrote x.c bytes ∷ []) [] ((written-on x bytes).number ∙ n) (n, tt) tt)
       (λ t. silent-turn c x n)
 
   pub shuts-turn : IsClientTurn c (client_shuts x)
@@ -93,10 +93,10 @@ module _ (c : ℕ) (x : ClientBlock) (n : x.c ≡ c) where
   holds-turn = speaking-turn c (held_on x) [] [] ((held-on x).number ∙ n) tt tt
 
   pub takes-turn : IsClientTurn c (client_takes x)
-  takes-turn = speaking-turn c (taken x) [] [] ((taken-on x).number ∙ n) tt tt
+  takes-turn = speaking-turn c (client_taken x) [] [] ((taken-on x).number ∙ n) tt tt
 
   pub fires-turn : IsClientTurn c (client_timer x)
-  fires-turn = speaking-turn c (after_timer x) [] (ready_of (after_timer x) (timed x)) ((timer-on x).number ∙ n) tt (ready-to (after_timer x) (timed x))
+  fires-turn = speaking-turn c (client_after_timer x) [] (station_ready_of (client_after_timer x) (client_timed x)) ((timer-on x).number ∙ n) tt (ready-to (client_after_timer x) (client_timed x))
 
   pub aborts-turn : IsClientTurn c (client_aborts x)
   aborts-turn = record { number = (aborted-on x).0.number ∙ n; notes = (n, tt); to = ready-to (aborted x) (abort_ready x); answered = clients-count c (rec.Aborted x.c ∷ []) (n, tt) }
@@ -114,8 +114,8 @@ module _ (c : ℕ) (x : ClientBlock) (n : x.c ≡ c) where
   pub hears-turn : (r : Result Said SegFault) → IsClientTurn c (client_gets x r)
   hears-turn (Err fault) = silent-turn c x n
   hears-turn (Ok s) =
-      let r = arrived x s in
-      noted-turn (nat_lt 0 r.0.len) (take r.0.len (drop r.0.from s.payload)) r.0.eof r.1 (ready_of r.1 r.0.reply) ((arrived-hears x s).on.number ∙ n) (ready-to r.1 r.0.reply)
+      let r = client_arrived x s in
+      noted-turn (nat_lt 0 r.0.len) (take r.0.len (drop r.0.from s.payload)) r.0.eof r.1 (station_ready_of r.1 r.0.reply) ((arrived-hears x s).on.number ∙ n) (ready-to r.1 r.0.reply)
 
 -- ---- a place that serves
 
@@ -161,11 +161,11 @@ module _ (env : ServeEnv) (N : Rec → Type 0) (noting : NotesServing env N) whe
   cut_off-turn w h = record {
     notes = h.0;
     answered = h.1;
-    to = Each-append (λ s. s.0 ≡ Client env.c) (speaks_symbols env.c w.block).0 (told env (limit_said (final_of (speaks_symbols env.c w.block).1 reason.Limit)) ∷ [])
+    to = Each-append (λ s. s.0 ≡ Client env.c) (speaks_symbols env.c w.block).0 (serving_told env (limit_said (final_of (speaks_symbols env.c w.block).1 reason.Limit)) ∷ [])
         (speaks_symbols-to env.c w.block).to (refl, tt);
   }
 
-  pub settled-turn : (w : Service) → AreNoted w → IsServingTurn N env.c (settled env w).1
+  pub settled-turn : (w : Service) → AreNoted w → IsServingTurn N env.c (serving_settled env w).1
   settled-turn w h = go w.over where
     go : (o : Option ℕ) → IsServingTurn N env.c (elim o as (λ p. Ending × Turn) [ None ↦ spoken env w [] | Some total ↦ cut_off env w ]).1
     go None = spoken-turn w [] tt h

@@ -6,7 +6,7 @@ use Rattle.lard_answers.specs.Answers.{IsPrefix, piece_verdict, verdicts_on, unt
 use Rattle.lard_answers.proofs.Following.{verdicts_on-moved, until_close-behind}
 use Rattle.lard_answers.proofs.Growing.{until_close-cons, verdicts-are}
 use Rattle.lard_block.specs.declared.block.Found.TheVariants.{Block, More, TooLong}
-use Rattle.lard_block.specs.Blocks.{cut_of, Piece, Head, moved, blocks, Cuts}
+use Rattle.lard_block.specs.Blocks.{cut_of, Piece, Head, piece_moved, blocks, Cuts}
 use Rattle.lard_block.proofs.Cutting.{more-skips}
 use Rattle.lard_block.proofs.Division.{grows, long-last, cuts-block}
 use Rattle.lard_block.proofs.Skips.{cuts-pairs}
@@ -34,7 +34,7 @@ cuts-more q skip e = subst (λ n. Cuts (take n q) []) (more-skips q skip e) (cut
 -- the verdicts on bytes that are cut, and on those behind them
 cut-verdicts : (y z : List ℕ) (ps : List Piece) → Cuts y ps → verdicts_on (blocks (y ++ z)) ≡ verdicts_on ps ++ verdicts_on (blocks z)
 cut-verdicts y z ps d = ap verdicts_on (d z)
-    ∙ map-append piece_verdict ps (map (moved (length y)) (blocks z))
+    ∙ map-append piece_verdict ps (map (piece_moved (length y)) (blocks z))
     ∙ ap (λ ws. verdicts_on ps ++ ws) (verdicts_on-moved (length y) (blocks z))
 
 pub judged-on : (x y : List ℕ) (vs : List Verdict) (ps : List Piece) → IsJudged x vs → Cuts y ps → IsJudged (x ++ y) (vs ++ verdicts_on ps)

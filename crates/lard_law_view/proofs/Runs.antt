@@ -7,8 +7,8 @@ use Rattle.lard_base.specs.declared.config.Config.{Config}
 use Rattle.lard_base.specs.declared.event.Event.{Event}
 use Rattle.lard_rules.specs.declared.machine.Machine.{Machine}
 use Rattle.lard_rules.specs.Bounds.{HasRule}
-use Rattle.lard_rules.specs.Machine.{Passes, machine_step, node_at, start}
-use Rattle.lard_law_view.specs.View.{blank, conn, kept_at, nothing_kept, part_of}
+use Rattle.lard_rules.specs.Machine.{Passes, machine_step, node_at, machine_start}
+use Rattle.lard_law_view.specs.View.{blank_conn, conn, kept_at, nothing_kept, part_of}
 use Rattle.lard_history.specs.Own.{letters, own}
 use Rattle.lard_rules.specs.declared.node.NodeState.{NodeState}
 use Rattle.lard_rules.specs.NodePlace.{no_stays, node_part}
@@ -47,7 +47,7 @@ of-nodes P count x none some (suc i) = of-replicated x P none some count i
 none-kept : (limit q : ℕ) → node_part (no_stays limit) q ≡ nothing_kept
 none-kept limit q = λ i. record { row = get-empty nat_cmp q i; stay = get-empty nat_cmp q i; kept = list_of (get-empty nat_cmp q i); fetches = list_of (get-empty nat_cmp q i) }
 
-pub start-blank : (config : Config) (files : List (List ℕ × List ℕ)) (q : ℕ) → conn (start config files) q ≡ blank q
+pub start-blank : (config : Config) (files : List (List ℕ × List ℕ)) (q : ℕ) → conn (machine_start config files) q ≡ blank_conn q
 unfolding conn part_of own letters
 start-blank config files q = λ i. record {
   c = q;

@@ -5,7 +5,7 @@ use Rattle.std.specs.List.{list_all}
 use Rattle.lard_base.specs.declared.event.Event.{Event}
 use Rattle.lard_base.specs.declared.place.Place.{Place}
 use Rattle.lard_base.specs.declared.place.Place.TheVariants.{Front, Node, Client}
-use Rattle.lard_law_view.specs.View.{GoesBetween, IsMachine, letter, named, sending}
+use Rattle.lard_law_view.specs.View.{GoesBetween, IsMachine, letter, named_records, sending}
 use Rattle.lard_history.specs.Laws.{AreOwn, is_own}
 use Rattle.lard_history.specs.Own.{Row, conn_of, letter_of, letters, net_step, plain, seen_of, seen_on, whose}
 use Rattle.lard_history.specs.Steps.{is_opening}
@@ -132,20 +132,20 @@ own-first e place c rs m own noted = (behind e, rs, refl, own, notes-other place
 
 -- ---- who sees notes
 
-named-of : (c : ℕ) (r : Rec) (rs : List Rec) → whose r ≡ Some c → named (r ∷ rs) ≡ r ∷ named rs
-named-of c r rs e = ap (λ (o : Option ℕ). cond (is_some o) (r ∷ named rs) (named rs)) e
+named-of : (c : ℕ) (r : Rec) (rs : List Rec) → whose r ≡ Some c → named_records (r ∷ rs) ≡ r ∷ named_records rs
+named-of c r rs e = ap (λ (o : Option ℕ). cond (is_some o) (r ∷ named_records rs) (named_records rs)) e
 
-named-none : (r : Rec) (rs : List Rec) → whose r ≡ None → named (r ∷ rs) ≡ named rs
-named-none r rs e = ap (λ (o : Option ℕ). cond (is_some o) (r ∷ named rs) (named rs)) e
+named-none : (r : Rec) (rs : List Rec) → whose r ≡ None → named_records (r ∷ rs) ≡ named_records rs
+named-none r rs e = ap (λ (o : Option ℕ). cond (is_some o) (r ∷ named_records rs) (named_records rs)) e
 
 -- the connection sees those that name it
-pub notes-mine : (place : Place) (c : ℕ) (net : List Packet) (rs : List Rec) → Each (NotedAt place c) rs → seen_on c net rs ≡ map Row (named rs)
+pub notes-mine : (place : Place) (c : ℕ) (net : List Packet) (rs : List Rec) → Each (NotedAt place c) rs → seen_on c net rs ≡ map Row (named_records rs)
 notes-mine place c net [] e = refl
 notes-mine place c net (r ∷ rs) e =
-    let later : seen_on c (net_step net r) rs ≡ map Row (named rs) = notes-mine place c (net_step net r) rs e.1 in
+    let later : seen_on c (net_step net r) rs ≡ map Row (named_records rs) = notes-mine place c (net_step net r) rs e.1 in
     ⊎_elim
     (λ (h : (whose r ≡ Some c) × (plain r ≡ r)).
-    (λ i. seen-mine c net r h.0 i ++ later i) ∙ ap (λ (k : Rec). Row k ∷ map Row (named rs)) h.1 ∙ ap (map Row) (sym (named-of c r rs h.0)))
+    (λ i. seen-mine c net r h.0 i ++ later i) ∙ ap (λ (k : Rec). Row k ∷ map Row (named_records rs)) h.1 ∙ ap (map Row) (sym (named-of c r rs h.0)))
     (λ (h : (whose r ≡ None) × ((q : ℕ) (net : List Packet) → seen_of q net r ≡ [])).
     (λ i. h.1 c net i ++ later i) ∙ ap (map Row) (sym (named-none r rs h.0)))
     (note-of place c r e.0)

@@ -9,8 +9,8 @@ use Rattle.lard_base.specs.declared.event.Event.TheVariants as event
 use Rattle.lard_base.specs.declared.place.Place.{Place}
 use Rattle.lard_base.specs.declared.place.Place.TheVariants.{Client, Front, Node}
 use Rattle.lard_rules.specs.declared.machine.Machine.{Machine}
-use Rattle.lard_rules.specs.Bounds.{IsNumber}
-use Rattle.lard_rules.specs.Machine.{clocked, node_at, passed, told}
+use Rattle.lard_rules.specs.Bounds.{IsConnNumber}
+use Rattle.lard_rules.specs.Machine.{clocked, node_at, passed, machine_told}
 use Rattle.lard_law_view.specs.View.{AreNumbered, Conn, IsMachine, Move, Part, conn, part_of, timer_rows, IsUnheard}
 use Rattle.lard_law_view.proofs.Heads.{Begins}
 use Rattle.lard_law_view.proofs.Saying.{AreMessages, GaveAt}
@@ -48,7 +48,7 @@ move_of place heads ns o p = record { place = place; heads = heads; said = recor
 -- A place acts on connection c, which is left so.
 pub record ActsOn (m w : Machine) (e : Event) (place : Place) (o : Out) (c : ℕ) (heads : List Seen) (ns : List Rec) (p : Part) : Type 0 where
   pub put : IsPut m w
-  pub number : IsNumber c
+  pub number : IsConnNumber c
   pub begins : Begins m e place c heads
   pub said : IsSaid place c o.notes o.segments o.gave o.messages o.answered
   pub first : HasOwn e (behind e ++ o.notes)
@@ -89,8 +89,8 @@ ReadsOn _ = ⊥
 -- The front end acts on connection c, and on another one, d, in the same step; behind d stands the rest of c.
 pub record ActsOnTwo (m w : Machine) (e : Event) (a b z : Out) (rows : List Rec) (c d : ℕ) (heads : List Seen) (ns : List Rec) (p r : Part) : Type 0 where
   pub put : IsPut m w
-  pub number : IsNumber c
-  pub number_too : IsNumber d
+  pub number : IsConnNumber c
+  pub number_too : IsConnNumber d
   pub apart : d ≢ c
   pub begins : Begins m e Front c heads
   pub first : HasOwn e (behind e ++ (a.notes ++ b.notes ++ z.notes))
@@ -132,7 +132,7 @@ each_out notes xs = record { notes = notes; segments = []; gave = flat_map (λ x
 
 -- What it does is of its connection, which is left so.
 pub record IsMover (m w : Machine) (place : Place) (x : Mover) : Type 0 where
-  pub number : IsNumber x.c
+  pub number : IsConnNumber x.c
   pub gave : Each (GaveAt place x.c) x.gave
   pub messages : AreMessages x.c place x.messages
   pub timers : x.timers ≡ timer_rows place x.c (part_of m x.c) x.part
@@ -165,11 +165,11 @@ IsUnheardAt m l = (d : ℕ) → conn_of l.from l.to l.bytes ≡ Some d → IsUnh
 -- Q is so of each shape that a step from m may have, where P is so of the moves that a place makes.
 pub record Shapes (m : Machine) (P : Conn → Move → Type 0) (Q : Event → Machine → Type 0) : Type 0 where
   pub one : (w : Machine) (e : Event) (place : Place) (o : Out) (c : ℕ) (heads : List Seen) (ns : List Rec) (p : Part) → ActsOn m w e place o c heads ns p
-      → P (conn m c) (move_of place heads ns o p) → Q e (told w e (behind e) place o)
+      → P (conn m c) (move_of place heads ns o p) → Q e (machine_told w e (behind e) place o)
   pub two : (w : Machine) (e : Event) (a b z : Out) (rows : List Rec) (c d : ℕ) (heads : List Seen) (ns : List Rec) (p r : Part) → ActsOnTwo m w e a b z rows c d heads ns p r
-      → P (conn m c) (move_of Front heads ns (with_rest a z) p) → P (conn m d) (move_of Front [] b.notes b r) → Q e (told w e (behind e) Front (both_out a b z rows))
+      → P (conn m c) (move_of Front heads ns (with_rest a z) p) → P (conn m d) (move_of Front [] b.notes b r) → Q e (machine_told w e (behind e) Front (both_out a b z rows))
   pub each : (w : Machine) (e : Event) (place : Place) (notes : List Rec) (xs : List Mover) → ActsOnEach m w e place notes xs
-      → Each (λ x. P (conn m x.c) (mover_move place x)) xs → Q e (told w e (behind e) place (each_out notes xs))
+      → Each (λ x. P (conn m x.c) (mover_move place x)) xs → Q e (machine_told w e (behind e) place (each_out notes xs))
   pub nobody : (k : ℕ) (l : Packet) → packet_at m.net k ≡ Some l → (l.lost ≡ false) × IsNobodyAt m l.to × IsUnheardAt m l → Q (event.Deliver k) (passed m (event.Deliver k) (rec.Got k ∷ []))
   pub loses : (k : ℕ) (l : Packet) → packet_at m.net k ≡ Some l → l.lost ≡ false → Q (event.Lose k) (passed (record m { net = lose_at (k - 1) m.net }) (event.Lose k) (rec.Lost k ∷ []))
   pub clocks : (ms : ℕ) → Q (event.Clock ms) (clocked m ms)

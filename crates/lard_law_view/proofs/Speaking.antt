@@ -2,7 +2,7 @@
 use Rattle.std.proofs.Common.{◌≡◌, ◌≤◌, ◌<◌, ◌+◌, ◌-◌, ◌^◌, ℕ, Bool, true, false, cond, max, nat_lt, ◌==◌, ◌&&◌, ◌||◌, List, [], ◌++◌, length, drop, arith, ap, sym, subst, refl, append-nil}
 use Rattle.std.proofs.lemmas.Bool.{cond_both}
 use Rattle.lard_endpoint.proofs.Sound.{after_ack-sound, after_next-sound, after_resend-sound, queued-sound}
-use Rattle.lard_send.specs.Send.{Sending, IsSending, IsUnacknowledgedPart, begun, introduced, queued_too, closed, symbols, moved_up, is_newer, windowed, after_ack, may_send, next_len, next_fin, after_next, after_resend}
+use Rattle.lard_send.specs.Send.{Sending, IsSending, IsUnacknowledgedPart, send_begun, introduced, queued_too, send_closed, symbols, moved_up, is_newer, windowed, after_ack, may_send, next_len, next_fin, after_next, after_resend}
 use Rattle.lard_send.proofs.Unacknowledged.{kept-queued, kept-ack, kept-next, kept-resend}
 use Rattle.lard_seq.specs.Seq.{one_if, seq_offset}
 use Rattle.lard_law_view.specs.Truth.{Stream, IsStream, GoesOn, Speaks, stream_of}
@@ -43,7 +43,7 @@ pub speaks-stream : (s : Sending) (bytes : List ℕ) → Speaks s bytes → IsSt
 speaks-stream s bytes h = record { number = h.number; most = let count = h.part.count in let most = h.sound.most in omega arith }
 
 -- ---- what befalls it
-pub speaks-begun : (iss irs wnd mss : ℕ) → iss < 2 ^ 32 → 1 ≤ mss → mss ≤ 1460 → Speaks (begun iss irs wnd mss) []
+pub speaks-begun : (iss irs wnd mss : ℕ) → iss < 2 ^ 32 → 1 ≤ mss → mss ≤ 1460 → Speaks (send_begun iss irs wnd mss) []
 speaks-begun iss irs wnd mss n some small = record {
   sound = record { sent = omega arith; queued = omega arith; kept = omega arith; most = omega arith; some_mss = some; small_mss = small };
   number = n;
@@ -95,7 +95,7 @@ pub one_small : (b : Bool) → one_if b ≤ 1
 one_small true = omega arith
 one_small false = omega arith
 
-pub speaks-closed : (s : Sending) (bytes : List ℕ) → Speaks s bytes → Speaks (closed s) bytes × GoesOn (stream_of s bytes) (stream_of (closed s) bytes)
+pub speaks-closed : (s : Sending) (bytes : List ℕ) → Speaks s bytes → Speaks (send_closed s) bytes × GoesOn (stream_of s bytes) (stream_of (send_closed s) bytes)
 speaks-closed s bytes h =
     let sound = h.sound in
     let queued : s.nxt ≤ symbols s = sound.queued in

@@ -5,13 +5,13 @@ use Rattle.lard_base.specs.declared.event.Event.{Event}
 use Rattle.lard_base.specs.declared.event.Event.TheVariants as event
 use Rattle.lard_base.specs.declared.place.Place.{Place}
 use Rattle.lard_base.specs.declared.place.Place.TheVariants.{Front, Node, Client}
-use Rattle.lard_client.specs.Control.{ClientBlock, is_armed, written_len}
+use Rattle.lard_client.specs.Control.{ClientBlock, is_client_armed, written_len}
 use Rattle.lard_rules.specs.declared.fault.StepFault.{StepFault}
 use Rattle.lard_rules.specs.declared.fault.Refusal.TheVariants.{NoJob, NoNode, WasLost}
 use Rattle.lard_rules.specs.declared.fault.StepFault.TheVariants.{Limit, Refused}
 use Rattle.lard_rules.specs.declared.machine.Machine.{Machine}
 use Rattle.lard_rules.specs.Bounds.{HasRule}
-use Rattle.lard_rules.specs.Machine.{client_does, client_goes_on, completes, delivered, disk_at, from_place, happens, is_no_job, is_no_node, limit_reached, lost, machine_step, node_acts, node_at, node_gave, node_setting, opened, passed, timer, to_client, to_front, to_place, unless_limit, wrote}
+use Rattle.lard_rules.specs.Machine.{client_acts, client_goes_on, completes, delivered, disk_at, from_place, happens, is_no_job, is_no_node, limit_reached, lost, machine_step, node_acts, node_at, node_gave, node_setting, machine_opened, passed, timer, machine_to_client, machine_to_front, to_place, unless_limit, machine_wrote}
 use Rattle.lard_law_view.specs.View.{Conn, IsUnheard, IsViewed, Move, Rules, conn, packet_seen, part_of, setting_of, station_armed}
 use Rattle.lard_law_view.specs.View as moves
 use Rattle.lard_law_view.proofs.Clients.{client-acts}
@@ -50,7 +50,7 @@ module _ (m : Machine) (view : IsViewed m) (P : Conn → Move → Type 0) (R : R
       → P (conn m c) (moves.client_does (conn m c) x heads given) → Q e (client_goes_on m e (behind e) c x given)
   unfolding conn part_of
   goes-on e c x given heads is begins turn first does =
-      client-acts m P Q shapes e c x.iss (is_armed x.client) given heads (client-number (conn m c) x (view.sound c) is) (sym (ap station_armed is)) turn begins first does
+      client-acts m P Q shapes e c x.iss (is_client_armed x.client) given heads (client-number (conn m c) x (view.sound c) is) (sym (ap station_armed is)) turn begins first does
 
   -- its client is its own
   own : (c : ℕ) (x : Station) → table.get m.clients c ≡ Some x → x.client.c ≡ c
@@ -62,8 +62,8 @@ module _ (m : Machine) (view : IsViewed m) (P : Conn → Move → Type 0) (R : R
     done : (e : Event) (given : Machine) → Q e given → ◌≡◌ {A = Result Machine StepFault} (Ok given) (Ok n) → Q e n
     done e given q is = let same : given ≡ n = cc in subst (Q e) same q
 
-    opened-is : (c isn iss wnd mss : ℕ) (o : Option Station) → HasRule (event.Open c isn iss wnd mss) → table.get m.clients c ≡ o → opened m c isn iss wnd mss o ≡ Ok n → Q (event.Open c isn iss wnd mss) n
-    unfolding opened conn part_of
+    opened-is : (c isn iss wnd mss : ℕ) (o : Option Station) → HasRule (event.Open c isn iss wnd mss) → table.get m.clients c ≡ o → machine_opened m c isn iss wnd mss o ≡ Ok n → Q (event.Open c isn iss wnd mss) n
+    unfolding machine_opened conn part_of
     opened-is c isn iss wnd mss None h none is =
         let e : Event = event.Open c isn iss wnd mss in
         done e _ (client-acts m P Q shapes e c iss false (client_opens c isn wnd mss) _ h.6 (sym (ap station_armed none)) (opens-turn c isn wnd mss) (names m e (Client c) c refl (λ J. refl) (refl, tt))
@@ -73,8 +73,8 @@ module _ (m : Machine) (view : IsViewed m) (P : Conn → Move → Type 0) (R : R
     -- bytes are written, of an event with nothing behind it
     wrote-is : (e : Event) (c : ℕ) (bytes : List ℕ) (o : Option Station) → table.get m.clients c ≡ o
         → ((x : Station) → o ≡ Some x → nat_lt m.config.stream (written_len x.client bytes) ≡ false → Q e (client_goes_on m e [] c x (client_writes x.client bytes)))
-        → wrote m e c bytes o ≡ Ok n → Q e n
-    unfolding wrote
+        → machine_wrote m e c bytes o ≡ Ok n → Q e n
+    unfolding machine_wrote
     wrote-is e c bytes None at g is = cc
     wrote-is e c bytes (Some x) at g is = go (nat_lt m.config.stream (written_len x.client bytes)) refl is where
       go : (b : Bool) → nat_lt m.config.stream (written_len x.client bytes) ≡ b
@@ -84,8 +84,8 @@ module _ (m : Machine) (view : IsViewed m) (P : Conn → Move → Type 0) (R : R
 
     -- an event of a client that opened
     does-is : (e : Event) (own_ : List Rec) (c : ℕ) (rule : ClientBlock → ClientBlock × Turn) (o : Option Station) → ((x : Station) → o ≡ Some x → Q e (client_goes_on m e own_ c x (rule x.client)))
-        → client_does m e own_ c rule o ≡ Ok n → Q e n
-    unfolding client_does
+        → client_acts m e own_ c rule o ≡ Ok n → Q e n
+    unfolding client_acts
     does-is e own_ c rule None g is = cc
     does-is e own_ c rule (Some x) g is = done e _ (g x refl) is
 
@@ -120,7 +120,7 @@ module _ (m : Machine) (view : IsViewed m) (P : Conn → Move → Type 0) (R : R
       number-same : (c d : ℕ) → Some c ≡ Some d → c ≡ d
       number-same c d e = cc
 
-      front-is : (c : ℕ) (o : Option Station) → p.from ≡ Client c → p.to ≡ Front → table.get m.clients c ≡ o → Q (event.Deliver k) (to_front m k p.bytes c o)
+      front-is : (c : ℕ) (o : Option Station) → p.from ≡ Client c → p.to ≡ Front → table.get m.clients c ≡ o → Q (event.Deliver k) (machine_to_front m k p.bytes c o)
       front-is c None from to is = shapes.nobody k p at (
         there,
         (λ d goal. let no : Front ≡ Client d = sym to ∙ goal in absurd cc),
@@ -145,7 +145,7 @@ module _ (m : Machine) (view : IsViewed m) (P : Conn → Move → Type 0) (R : R
       client-of c (Node i) from to = refl
       client-of c (Client d) from to = absurd (between-has d (record { from = Client d; to = Client c; bytes = p.bytes }) (conn m d).letters (was m k d p at (Client d) (Client c) from to refl) (view.sound d).between)
 
-      client-is : (c : ℕ) (o : Option Station) → p.to ≡ Client c → table.get m.clients c ≡ o → Q (event.Deliver k) (to_client m k p.bytes c o)
+      client-is : (c : ℕ) (o : Option Station) → p.to ≡ Client c → table.get m.clients c ≡ o → Q (event.Deliver k) (machine_to_client m k p.bytes c o)
       unfolding conn part_of
       client-is c None to is =
           shapes.nobody k p at (there, (λ d goal. let same : c ≡ d = one-client c d (sym to ∙ goal) in subst (λ (q : ℕ). table.get m.clients q ≡ None) same is), λ d named. unheard-as d p.from (Client c) refl to (to-client d p.from)) where

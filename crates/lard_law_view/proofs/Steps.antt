@@ -10,9 +10,9 @@ use Rattle.lard_base.specs.declared.event.Event.TheVariants as event
 use Rattle.lard_base.specs.declared.place.Place.{Place}
 use Rattle.lard_base.specs.declared.place.Place.TheVariants.{Front, Node, Client}
 use Rattle.lard_rules.specs.declared.machine.Machine.{Machine}
-use Rattle.lard_rules.specs.Bounds.{HasRule, IsNumber}
-use Rattle.lard_rules.specs.Machine.{clocked, machine_step, passed, told}
-use Rattle.lard_law_view.specs.View.{Conn, Goes, GoesBetween, IsNobody, IsViewed, Move, Part, Rules, Said, conn, letter, named, nothing_said, part_of, sending, setting_of, timer_rows}
+use Rattle.lard_rules.specs.Bounds.{HasRule, IsConnNumber}
+use Rattle.lard_rules.specs.Machine.{clocked, machine_step, passed, machine_told}
+use Rattle.lard_law_view.specs.View.{Conn, GoesBy, GoesBetween, IsNobody, IsViewed, Move, Part, Rules, TurnSaid, conn, letter, named_records, nothing_said, part_of, sending, setting_of, timer_rows}
 use Rattle.lard_law_view.proofs.AnyShape.{none-seen}
 use Rattle.lard_law_view.proofs.Deliveries.{IsDelivered, IsHead}
 use Rattle.lard_law_view.proofs.Heads.{Begins, comes, comes-to-none, was}
@@ -37,7 +37,7 @@ use Rattle.lard_law_view.proofs.OwnRecords.{behind}
 abbrev joined_out : Out → Out → List Rec → Out
 joined_out a b timers = record { notes = a.notes ++ b.notes; segments = a.segments ++ b.segments; gave = a.gave ++ b.gave; messages = a.messages ++ b.messages; timers = timers; answered = a.answered }
 
-abbrev joined_said : Said → Said → Said
+abbrev joined_said : TurnSaid → TurnSaid → TurnSaid
 joined_said s t = record { notes = s.notes ++ t.notes; segments = s.segments ++ t.segments; gave = s.gave ++ t.gave; messages = s.messages ++ t.messages }
 
 -- ---- what is seen of an act on two connections
@@ -65,7 +65,7 @@ sents-append : (k : ℕ) (place : Place) (xs ys : List (Place × List ℕ)) → 
 sents-append k place [] ys = (k, refl)
 sents-append k place (x ∷ xs) ys = let later = sents-append (k + 1) place xs ys in (later.0, ap (λ rs. rec.Sent k place x.0 x.1 ∷ rs) later.1)
 
-module _ (q : ℕ) (place : Place) (a b : Out) (s : Said) (rows xs : List Rec) (timers : (net : List Packet) → seen_on q net rows ≡ map Row xs) where
+module _ (q : ℕ) (place : Place) (a b : Out) (s : TurnSaid) (rows xs : List Rec) (timers : (net : List Packet) → seen_on q net rows ≡ map Row xs) where
   letters-two : (sent more : List (Place × List ℕ)) (x y : List Letter) → letters q (packets_of place sent) ≡ x → letters q (packets_of place more) ≡ y → letters q (packets_of place (sent ++ more)) ≡ x ++ y
   letters-two sent more x y ea eb = ap (letters q) (map-append (packet_of place) sent more) ∙ letters-append q (packets_of place sent) (packets_of place more) ∙ (λ i. ea i ++ eb i)
 
@@ -98,7 +98,7 @@ module _ (q : ℕ) (place : Place) (a b : Out) (s : Said) (rows xs : List Rec) (
   }
 
   -- what the second is seen of stands behind that
-  shows-both : (t : Said) (ys zs : List Rec) → Shows q place a s ys → Shows q place b t zs → Shows q place (joined_out a b rows) (joined_said s t) xs
+  shows-both : (t : TurnSaid) (ys zs : List Rec) → Shows q place a s ys → Shows q place b t zs → Shows q place (joined_out a b rows) (joined_said s t) xs
   shows-both t ys zs f g = record {
     notes = λ net. seen_on-append q net a.notes b.notes ∙ (λ i. f.notes net i ++ g.notes (fold net_step net a.notes) i) ∙ sym (map-append Row s.notes t.notes);
     segments = λ net k. let e = sents-append k place a.segments b.segments in
@@ -121,7 +121,7 @@ module _ (q : ℕ) (place : Place) (a b : Out) (s : Said) (rows xs : List Rec) (
 abbrev piece : Mover → Out
 piece x = record { notes = []; segments = []; gave = x.gave; messages = x.messages; timers = x.timers; answered = 0 }
 
-abbrev mover_said : Mover → Said
+abbrev mover_said : Mover → TurnSaid
 mover_said x = record { notes = []; segments = []; gave = x.gave; messages = x.messages }
 
 module _ (m w : Machine) (place : Place) (q : ℕ) where
@@ -188,7 +188,7 @@ module _ (m w : Machine) (place : Place) (q : ℕ) where
         (λ other. ⊎_elim (λ (f : Found P xs). inl (found-later x xs other h.0 f)) (λ none. inr (other, none)) (find xs h.1 rising.1 made.1))
 
 -- with notes that name nobody
-with-notes : (q : ℕ) (place : Place) (notes : List Rec) (xs : List Mover) (s : Said) (rows : List Rec) → s.notes ≡ [] → ((net : List Packet) → seen_on q net notes ≡ []) → Shows q place (each_out [] xs) s rows
+with-notes : (q : ℕ) (place : Place) (notes : List Rec) (xs : List Mover) (s : TurnSaid) (rows : List Rec) → s.notes ≡ [] → ((net : List Packet) → seen_on q net notes ≡ []) → Shows q place (each_out [] xs) s rows
     → Shows q place (each_out notes xs) s rows
 with-notes q place notes xs s rows none seen h = record {
   notes = λ net. seen net ∙ ap (map Row) (sym none);
@@ -209,7 +209,7 @@ shown m e q = seen_on q m.net (rec.Event 0 e ∷ behind e)
 -- What a move of a step begins with: its number is one of a connection, what it sees first is the event, and what comes with it is what the
 -- event delivers. Where it sees nothing, it is the second at its place, which is no node's, or nobody sees anything of the event.
 pub record IsShown (m : Machine) (e : Event) (x : Conn) (v : Move) : Type 0 where
-  pub number : IsNumber x.c
+  pub number : IsConnNumber x.c
   pub heads : v.heads ≡ shown m e x.c
   pub event : Each (IsHead e) v.heads
   pub came : Each (IsDelivered m.net e) v.heads
@@ -221,7 +221,7 @@ module _ (m : Machine) (view : IsViewed m) (P : Conn → Move → Type 0) (R : R
   Numbered e x v = IsShown m e x v × P x v
 
   -- the first that moves
-  first-shown : (e : Event) (place : Place) (c : ℕ) (heads : List Seen) (ns : List Rec) (o : Out) (p : Part) → IsNumber c → Begins m e place c heads → IsShown m e (conn m c) (move_of place heads ns o p)
+  first-shown : (e : Event) (place : Place) (c : ℕ) (heads : List Seen) (ns : List Rec) (o : Out) (p : Part) → IsConnNumber c → Begins m e place c heads → IsShown m e (conn m c) (move_of place heads ns o p)
   unfolding conn
   first-shown e place c heads ns o p number begins = record {
     number = number;
@@ -232,33 +232,33 @@ module _ (m : Machine) (view : IsViewed m) (P : Conn → Move → Type 0) (R : R
   }
 
   -- and the second
-  second-shown : (e : Event) (c d : ℕ) (heads : List Seen) (ns : List Rec) (o : Out) (r : Part) → IsNumber d → d ≢ c → Begins m e Front c heads → IsShown m e (conn m d) (move_of Front [] ns o r)
+  second-shown : (e : Event) (c d : ℕ) (heads : List Seen) (ns : List Rec) (o : Out) (r : Part) → IsConnNumber d → d ≢ c → Begins m e Front c heads → IsShown m e (conn m d) (move_of Front [] ns o r)
   unfolding conn
   second-shown e c d heads ns o r number apart begins = record { number = number; heads = sym (begins.others 0 d apart); event = tt; came = tt; alone = λ none. inl tt }
 
   -- each connection stays, or moves
   abbrev pub To : Event → Machine → Type 0
-  To e n = (q : ℕ) → Goes (Numbered e) (conn m q) (conn n q)
+  To e n = (q : ℕ) → GoesBy (Numbered e) (conn m q) (conn n q)
 
   timers-of : (place : Place) (c : ℕ) (p q : Part) (rs : List Rec) → rs ≡ timer_rows place c p q → AreOf c rs
   timers-of place c p q rs e = subst (AreOf c) (sym e) (timer_rows-of place c p q)
 
   goes-one : (w : Machine) (e : Event) (place : Place) (o : Out) (c : ℕ) (heads : List Seen) (ns : List Rec) (p : Part) → ActsOn m w e place o c heads ns p
-      → P (conn m c) (move_of place heads ns o p) → To e (told w e (behind e) place o)
+      → P (conn m c) (move_of place heads ns o p) → To e (machine_told w e (behind e) place o)
   unfolding conn
   goes-one w e place o c heads ns p act does q =
-      let n : Machine = told w e (behind e) place o in
+      let n : Machine = machine_told w e (behind e) place o in
       let of : AreOf c o.timers = timers-of place c (part_of m c) p o.timers act.timers in
-      let s : Said = record { notes = ns; segments = o.segments; gave = o.gave; messages = o.messages } in
-      by_number (Goes (Numbered e) (conn m q) (conn n q)) q c
-      (λ same. subst (λ (d : ℕ). Goes (Numbered e) (conn m d) (conn n d)) (sym same)
+      let s : TurnSaid = record { notes = ns; segments = o.segments; gave = o.gave; messages = o.messages } in
+      by_number (GoesBy (Numbered e) (conn m q) (conn n q)) q c
+      (λ same. subst (λ (d : ℕ). GoesBy (Numbered e) (conn m d) (conn n d)) (sym same)
       (moved m w e (behind e) place o view.told act.put.net act.put.journal (Numbered e) c heads s p act.mine (act.begins.mine (w.events + 1))
       (subst (Shows c place o s) act.timers (shows-mine c place o act.said of ns act.notes)) (first-shown e place c heads ns o p act.number act.begins, does)))
       (λ other. stays m w e (behind e) place o view.told act.put.net act.put.journal (Numbered e) q (act.others q other) (act.begins.others (w.events + 1) q other)
       (shows-others c place o act.said of q other))
 
   -- all that is seen of three acts, of the first and the last of which c is
-  module _ (a k z : Out) (rows xs : List Rec) (q : ℕ) (s : Said) where
+  module _ (a k z : Out) (rows xs : List Rec) (q : ℕ) (s : TurnSaid) where
     abbrev zz : Out
     zz = record z { timers = [] }
 
@@ -266,38 +266,38 @@ module _ (m : Machine) (view : IsViewed m) (P : Conn → Move → Type 0) (R : R
     as-both h = record { notes = h.notes; segments = h.segments; gave = h.gave; messages = h.messages; timers = h.timers; first = h.first; second = h.second }
 
   goes-two : (w : Machine) (e : Event) (a b z : Out) (rows : List Rec) (c d : ℕ) (heads : List Seen) (ns : List Rec) (p r : Part) → ActsOnTwo m w e a b z rows c d heads ns p r
-      → P (conn m c) (move_of Front heads ns (with_rest a z) p) → P (conn m d) (move_of Front [] b.notes b r) → To e (told w e (behind e) Front (both_out a b z rows))
+      → P (conn m c) (move_of Front heads ns (with_rest a z) p) → P (conn m d) (move_of Front [] b.notes b r) → To e (machine_told w e (behind e) Front (both_out a b z rows))
   unfolding conn
   goes-two w e a b z rows c d heads ns p r act does too q =
       let o : Out = both_out a b z rows in
-      let n : Machine = told w e (behind e) Front o in
+      let n : Machine = machine_told w e (behind e) Front o in
       let k : Out = record b { answered = 0 } in
       let y : Out = record z { timers = [] } in
       let first : AreOf c a.timers = timers-of Front c (part_of m c) p a.timers act.timers in
       let second : AreOf d b.timers = timers-of Front d (part_of m d) r b.timers act.timers_too in
-      let s : Said = record { notes = named a.notes; segments = a.segments; gave = a.gave; messages = a.messages } in
-      let t : Said = record { notes = b.notes; segments = b.segments; gave = b.gave; messages = b.messages } in
-      let u : Said = record { notes = named z.notes; segments = z.segments; gave = z.gave; messages = z.messages } in
-      let v : Said = record { notes = ns; segments = a.segments ++ z.segments; gave = a.gave ++ z.gave; messages = a.messages ++ z.messages } in
+      let s : TurnSaid = record { notes = named_records a.notes; segments = a.segments; gave = a.gave; messages = a.messages } in
+      let t : TurnSaid = record { notes = b.notes; segments = b.segments; gave = b.gave; messages = b.messages } in
+      let u : TurnSaid = record { notes = named_records z.notes; segments = z.segments; gave = z.gave; messages = z.messages } in
+      let v : TurnSaid = record { notes = ns; segments = a.segments ++ z.segments; gave = a.gave ++ z.gave; messages = a.messages ++ z.messages } in
       let cs : List Rec = timer_rows Front c (part_of m c) p in
       let ds : List Rec = timer_rows Front d (part_of m d) r in
-      let mine : Shows c Front a s a.timers = shows-mine c Front a act.said first (named a.notes) (λ net. notes-mine Front c net a.notes act.said.notes) in
+      let mine : Shows c Front a s a.timers = shows-mine c Front a act.said first (named_records a.notes) (λ net. notes-mine Front c net a.notes act.said.notes) in
       let its : Shows d Front k t b.timers = shows-mine d Front k act.said_too second b.notes act.notes_too in
-      let last : Shows c Front y u [] = shows-mine c Front y act.said_rest tt (named z.notes) (λ net. notes-mine Front c net z.notes act.said_rest.notes) in
-      by_number (Goes (Numbered e) (conn m q) (conn n q)) q c
-      (λ same. subst (λ (x : ℕ). Goes (Numbered e) (conn m x) (conn n x)) (sym same)
+      let last : Shows c Front y u [] = shows-mine c Front y act.said_rest tt (named_records z.notes) (λ net. notes-mine Front c net z.notes act.said_rest.notes) in
+      by_number (GoesBy (Numbered e) (conn m q) (conn n q)) q c
+      (λ same. subst (λ (x : ℕ). GoesBy (Numbered e) (conn m x) (conn n x)) (sym same)
       (let others = shows-others d Front k act.said_too second c (λ e. act.apart (sym e)) in
       let seen : (net : List Packet) → seen_on c net rows ≡ map Row cs =
       λ net. either c net a.timers b.timers rows (map Row a.timers) act.order mine.timers others.timers ∙ ap (map Row) act.timers in
       let two : Shows c Front (joined_out a k rows) s cs = shows-first c Front a k s rows cs seen a.timers [] mine others in
       let all = shows-both c Front (joined_out a k rows) y s rows cs seen u cs [] two last in
       let notes : (net : List Packet) → seen_on c net (a.notes ++ b.notes ++ z.notes) ≡ map Row ns =
-      λ net. all.notes net ∙ map-append Row (named a.notes) (named z.notes) ∙ sym (seen_on-append c net a.notes z.notes ∙ (λ i. mine.notes net i ++ last.notes (fold net_step net a.notes) i)) ∙ act.notes net in
+      λ net. all.notes net ∙ map-append Row (named_records a.notes) (named_records z.notes) ∙ sym (seen_on-append c net a.notes z.notes ∙ (λ i. mine.notes net i ++ last.notes (fold net_step net a.notes) i)) ∙ act.notes net in
       moved m w e (behind e) Front o view.told act.put.net act.put.journal (Numbered e) c heads v p act.mine (act.begins.mine (w.events + 1))
       (record { notes = notes; segments = all.segments; gave = all.gave; messages = all.messages; timers = all.timers; first = all.first; second = all.second })
       (first-shown e Front c heads ns (with_rest a z) p act.number act.begins, does)))
-      (λ not_c. by_number (Goes (Numbered e) (conn m q) (conn n q)) q d
-      (λ same. subst (λ (x : ℕ). Goes (Numbered e) (conn m x) (conn n x)) (sym same)
+      (λ not_c. by_number (GoesBy (Numbered e) (conn m q) (conn n q)) q d
+      (λ same. subst (λ (x : ℕ). GoesBy (Numbered e) (conn m x) (conn n x)) (sym same)
       (let others = shows-others c Front a act.said first d act.apart in
       let after = shows-others c Front y act.said_rest tt d act.apart in
       let seen : (net : List Packet) → seen_on d net rows ≡ map Row ds =
@@ -315,16 +315,16 @@ module _ (m : Machine) (view : IsViewed m) (P : Conn → Move → Type 0) (R : R
 
   -- a place acts on each of many
   goes-each : (w : Machine) (e : Event) (place : Place) (notes : List Rec) (xs : List Mover) → ActsOnEach m w e place notes xs → Each (λ x. P (conn m x.c) (mover_move place x)) xs
-      → To e (told w e (behind e) place (each_out notes xs))
+      → To e (machine_told w e (behind e) place (each_out notes xs))
   unfolding conn
   goes-each w e place notes xs act made q =
       let o : Out = each_out notes xs in
-      let n : Machine = told w e (behind e) place o in
+      let n : Machine = machine_told w e (behind e) place o in
       let none : (net : List Packet) → seen_on q net notes ≡ [] = λ net. none-seen place q net notes act.nobody in
       let unseen : (i : ℕ) → seen_on q m.net (rec.Event i e ∷ behind e) ≡ [] = λ i. (act.begins q).mine i in
       ⊎_elim
       (λ (f : Found m w place q (λ x. P (conn m x.c) (mover_move place x)) xs).
-      subst (λ (c : ℕ). Goes (Numbered e) (conn m c) (conn n c)) (sym f.same)
+      subst (λ (c : ℕ). GoesBy (Numbered e) (conn m c) (conn n c)) (sym f.same)
       (moved m w e (behind e) place o view.told act.put.net act.put.journal (Numbered e) f.x.c [] (mover_said f.x) f.x.part f.mover.mine ((act.begins f.x.c).mine (w.events + 1))
       (subst (λ (c : ℕ). Shows c place o (mover_said f.x) (timer_rows place c (part_of m c) f.x.part)) f.same
       (with-notes q place notes xs (mover_said f.x) _ refl none (subst (Shows q place (each_out [] xs) (mover_said f.x)) (f.mover.timers ∙ ap (λ (c : ℕ). timer_rows place c (part_of m c) f.x.part) (sym f.same)) f.shows))) (
@@ -356,14 +356,14 @@ module _ (m : Machine) (view : IsViewed m) (P : Conn → Move → Type 0) (R : R
     n : Machine
     n = passed m (event.Deliver k) (rec.Got k ∷ [])
 
-    go : (o : Option ℕ) → conn_of p.from p.to p.bytes ≡ o → Goes (Numbered (event.Deliver k)) (conn m q) (conn n q)
+    go : (o : Option ℕ) → conn_of p.from p.to p.bytes ≡ o → GoesBy (Numbered (event.Deliver k)) (conn m q) (conn n q)
     go None e = passes (Numbered (event.Deliver k)) m m (event.Deliver k) (rec.Got k ∷ []) q view.told refl refl refl (comes-to-none m k p at e (m.events + 1) q)
     go (Some d) e =
         let b = comes m k d p at p.from p.to refl refl e there.0 in
         let sent = was m k d p at p.from p.to refl refl e in
         let none : IsNobody (table.get m.clients d) p.to = nobody-there d p.from p.to p.bytes (between-has d (letter_of p) (conn m d).letters sent (view.sound d).between) there.1 in
-        by_number (Goes (Numbered (event.Deliver k)) (conn m q) (conn n q)) q d
-        (λ same. subst (λ (z : ℕ). Goes (Numbered (event.Deliver k)) (conn m z) (conn n z)) (sym same)
+        by_number (GoesBy (Numbered (event.Deliver k)) (conn m q) (conn n q)) q d
+        (λ same. subst (λ (z : ℕ). GoesBy (Numbered (event.Deliver k)) (conn m z) (conn n z)) (sym same)
         (ignores (Numbered (event.Deliver k)) m m (event.Deliver k) (rec.Got k ∷ []) d view.told refl refl refl p.from p.to p.bytes (timer_rows-same p.to d (part_of m d)) (b.mine (m.events + 1)) (
           record {
             number = letter-number (conn m d) (letter_of p) (view.sound d) sent;
@@ -389,5 +389,5 @@ module _ (m : Machine) (view : IsViewed m) (P : Conn → Move → Type 0) (R : R
 
 -- what the step of an event does to each connection
 pub step_comes : (m n : Machine) (e : Event) (P : Conn → Move → Type 0) (view : IsViewed m) (R : Rules (setting_of m) P) → HasRule e → machine_step m e ≡ Ok n
-    → (q : ℕ) → Goes (λ x v. IsShown m e x v × P x v) (conn m q) (conn n q)
+    → (q : ℕ) → GoesBy (λ x v. IsShown m e x v × P x v) (conn m q) (conn n q)
 step_comes m n e P view R rule is = step-has m view P R (To m view P R) (shapes-go m view P R) e n rule is

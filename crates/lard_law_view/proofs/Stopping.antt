@@ -9,7 +9,7 @@ use Rattle.lard_law_view.specs.Agreement.{HasStopped}
 use Rattle.lard_law_view.proofs.EndpointStreams.{segment-takes}
 use Rattle.lard_rules.specs.Serving.{Service, may_read}
 use Rattle.lard_rules.proofs.Reading.{unread}
-use Rattle.lard_recv.specs.Recv.{Received, awaited, begins_after, fresh, ends, taken}
+use Rattle.lard_recv.specs.Recv.{Received, awaited, begins_after, fresh_bytes, ends, bytes_taken}
 use Rattle.lard_segment.specs.Segment.{Said}
 
 -- ---- endpoints that have stopped
@@ -45,7 +45,7 @@ pub stopped-arrived : (b : ControlBlock) (s : Said) → (on_segment b s).1.send.
 stopped-arrived b s same h f =
     let r = b.recv in
     let P : Received → Type 0 = λ z. HasStopped (record b { recv = z }) in
-    let grown : Received = taken r (fresh r s.seq s.payload) (ends r s.seq s.payload s.flags.fin) in
+    let grown : Received = bytes_taken r (fresh_bytes r s.seq s.payload) (ends r s.seq s.payload s.flags.fin) in
     let kept : P (on_segment b s).1.recv = segment-takes P s b h
     (cond_both (begins_after s.seq (awaited r)) r (cond r.fin r grown) P (λ _. h)
     (λ _. cond_both r.fin r grown P (λ _. h) (λ open_. stopped-discarding (record b { recv = grown }) (discards-early b h (sym same ∙ f) open_)))) in

@@ -8,7 +8,7 @@ use Rattle.lard_arrival.specs.Arrival.{IsPartAt}
 use Rattle.lard_endpoint.specs.Laws.{IsTrueData}
 use Rattle.lard_endpoint.proofs.Fresh.{gained-part}
 use Rattle.lard_endpoint.proofs.Sound.{arrived-sound}
-use Rattle.lard_recv.specs.Recv.{Received, IsUnusedPart, restored, awaited, begins_after, fresh, ends, taken, arrived, gained, consumed, discarded}
+use Rattle.lard_recv.specs.Recv.{Received, IsUnusedPart, restored, awaited, begins_after, fresh_bytes, ends, bytes_taken, arrived, gained, consumed, discarded}
 use Rattle.lard_recv.proofs.Unused.{unused-arrived, unused-consumed}
 use Rattle.lard_segment.specs.Segment.{Said}
 use Rattle.lard_seq.specs.Seq.{seq_add}
@@ -38,13 +38,13 @@ fin-last r all k seq data_ fin got t last open_ = grind (arith, common_steps)
 arrived-first : (r : Received) (seq : ℕ) (data_ : List ℕ) (fin : Bool) → (arrived r seq data_ fin).irs ≡ r.irs
 arrived-first r seq data_ fin =
     let P : Received → Type 0 = λ z. z.irs ≡ r.irs in
-    let more : Received = taken r (fresh r seq data_) (ends r seq data_ fin) in
+    let more : Received = bytes_taken r (fresh_bytes r seq data_) (ends r seq data_ fin) in
     cond_both (begins_after seq (awaited r)) r (cond r.fin r more) P (λ b. refl) (λ b. cond_both r.fin r more P (λ f. refl) (λ f. refl))
 
 arrived-after_fin : (r : Received) (seq : ℕ) (data_ : List ℕ) (fin : Bool) → r.fin ≡ true → arrived r seq data_ fin ≡ r
 arrived-after_fin r seq data_ fin e =
     let P : Received → Type 0 = λ z. z ≡ r in
-    let more : Received = taken r (fresh r seq data_) (ends r seq data_ fin) in
+    let more : Received = bytes_taken r (fresh_bytes r seq data_) (ends r seq data_ fin) in
     cond_both (begins_after seq (awaited r)) r (cond r.fin r more) P (λ b. refl) (λ b. cond_both r.fin r more P (λ f. refl) (λ f. absurd (cc)))
 
 pub heard-arrived : (x : Stream) (r : Received) (s : Said) → IsStream x → Hears x r → Stands x s → Hears x (arrived r s.seq s.payload s.flags.fin)

@@ -5,8 +5,8 @@ use Rattle.lard_arrival.specs.Arrival.{IsPartAt}
 use Rattle.lard_base.specs.declared.place.Place.{Place}
 use Rattle.lard_base.specs.declared.place.Place.TheVariants.{Client}
 use Rattle.lard_client.specs.declared.heard.Heard.{Heard}
-use Rattle.lard_client.specs.Arriving.{arrived}
-use Rattle.lard_client.specs.Control.{ClientBlock, is_writing, written}
+use Rattle.lard_client.specs.Arriving.{client_arrived}
+use Rattle.lard_client.specs.Control.{ClientBlock, is_writing, client_written}
 use Rattle.lard_client.proofs.Accepted.{arrived-order}
 use Rattle.lard_history.specs.Journal.{Numbers, Tale, tale_step}
 use Rattle.lard_history.specs.Own.{Letter, Seen, Came}
@@ -78,7 +78,7 @@ module _ (c : ℕ) (st : ClientBlock) (told : Tale) (from_ : Place) (bytes : Lis
 
   module _ (s : Said) (is : decoded bytes c ToClient ≡ Ok s) where
     abbrev heard : Heard
-    heard = (arrived st s).0
+    heard = (client_arrived st s).0
 
     abbrev part : List ℕ
     part = take heard.len (drop heard.from s.payload)
@@ -161,11 +161,11 @@ module _ (c : ℕ) (st : ClientBlock) (told : Tale) (from_ : Place) (bytes : Lis
 
   pub hears : (r : Result Said SegFault) → decoded bytes c ToClient ≡ r → TellsBy (TakesBy packet c) c told (client_gets st r).1.notes
   hears (Err fault) is = tt
-  hears (Ok s) is = subst (λ d. TellsBy (TakesBy packet c) c told (accepted_note d (arrived st s).0 s.payload ++ eof_note d (arrived st s).0))
+  hears (Ok s) is = subst (λ d. TellsBy (TakesBy packet c) c told (accepted_note d (client_arrived st s).0 s.payload ++ eof_note d (client_arrived st s).0))
       (sym ((arrived-alike st s).0 ∙ number)) (heard-takes s is)
 
 -- ---- each rule
 
 pub writes-pass : (x : ClientBlock) (bytes : List ℕ) → Each TakesNothing (client_writes x bytes).1.notes
-writes-pass x bytes = cond_both (is_writing x) (speaking (rec.Wrote x.c bytes ∷ []) [] (written x bytes)) (x, silent) (λ (given : ClientBlock × Turn). Each TakesNothing given.1.notes)
+writes-pass x bytes = cond_both (is_writing x) (speaking (rec.Wrote x.c bytes ∷ []) [] (client_written x bytes)) (x, silent) (λ (given : ClientBlock × Turn). Each TakesNothing given.1.notes)
     (λ t. (tt, tt)) (λ t. tt)

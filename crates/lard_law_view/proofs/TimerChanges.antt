@@ -20,7 +20,7 @@ use Rattle.lard_journal.specs.declared.rec.Rec.{Rec}
 use Rattle.lard_journal.specs.declared.rec.Rec.TheVariants as rec
 use Rattle.lard_law_view.specs.Timers.{ChangesTimers, change_of, is_change, is_change_of}
 use Rattle.lard_rules.specs.Sent.{sent_records}
-use Rattle.lard_rules.specs.Outs.{kind_change, kinds}
+use Rattle.lard_rules.specs.Outs.{kind_change, timer_kinds}
 use Rattle.lard_law_view.proofs.OwnRecords.{behind}
 
 -- ---- records of no timer
@@ -186,7 +186,7 @@ abbrev HasOnce : TimerKind → List TimerKind → Type 0
 HasOnce kind [] = ⊥
 HasOnce kind (k ∷ ks) = ((is_kind k kind ≡ true) × Each (λ j. is_kind j kind ≡ false) ks) ⊎ ((is_kind k kind ≡ false) × HasOnce kind ks)
 
-each-once : (kind : TimerKind) → HasOnce kind kinds
+each-once : (kind : TimerKind) → HasOnce kind timer_kinds
 each-once Tcp = inl (refl, (refl, (refl, (refl, (refl, tt)))))
 each-once Offer = inr (refl, inl (refl, (refl, (refl, (refl, tt)))))
 each-once Ask = inr (refl, inr (refl, inl (refl, (refl, (refl, tt)))))
@@ -209,18 +209,18 @@ module _ (place : Place) (c : ℕ) (was is : TimerKind → Bool) where
       (once-changes kind ks later.1))
       h
 
-  pub kinds-change : (kind : TimerKind) → AreOfChange place c kind (was kind) (is kind) (changes place c was is kinds)
-  kinds-change kind = once-changes kind kinds (each-once kind)
+  pub kinds-change : (kind : TimerKind) → AreOfChange place c kind (was kind) (is kind) (changes place c was is timer_kinds)
+  kinds-change kind = once-changes kind timer_kinds (each-once kind)
 
 -- and none of those of another place, or of another connection
-pub place-others : (p q : Place) (c d : ℕ) (was is : TimerKind → Bool) (kind : TimerKind) → is_place q p ≡ false → AreOthers p d kind (changes q c was is kinds)
-place-others p q c d was is kind n = all-others p d kind q c was is kinds (each-not kinds) where
+pub place-others : (p q : Place) (c d : ℕ) (was is : TimerKind → Bool) (kind : TimerKind) → is_place q p ≡ false → AreOthers p d kind (changes q c was is timer_kinds)
+place-others p q c d was is kind n = all-others p d kind q c was is timer_kinds (each-not timer_kinds) where
   each-not : (ks : List TimerKind) → Each (λ k. (is_place q p && (nat_eq c d && is_kind k kind)) ≡ false) ks
   each-not [] = tt
   each-not (k ∷ ks) = (ap (λ b. b && (nat_eq c d && is_kind k kind)) n, each-not ks)
 
-pub number-others : (p q : Place) (c d : ℕ) (was is : TimerKind → Bool) (kind : TimerKind) → c ≢ d → AreOthers p d kind (changes q c was is kinds)
-number-others p q c d was is kind n = all-others p d kind q c was is kinds (each-not kinds) where
+pub number-others : (p q : Place) (c d : ℕ) (was is : TimerKind → Bool) (kind : TimerKind) → c ≢ d → AreOthers p d kind (changes q c was is timer_kinds)
+number-others p q c d was is kind n = all-others p d kind q c was is timer_kinds (each-not timer_kinds) where
   each-not : (ks : List TimerKind) → Each (λ k. (is_place q p && (nat_eq c d && is_kind k kind)) ≡ false) ks
   each-not [] = tt
   each-not (k ∷ ks) = (not-its (is_place q p) (nat_eq c d) (is_kind k kind) (other_number c d n), each-not ks)
@@ -258,10 +258,10 @@ exactly-none past p c kind = others-exactly p c kind (is_running past p c kind) 
 
 module _ (past : List Rec) where
   -- the records of a place whose timers were told to run as its flags say
-  pub exactly-changes : (place : Place) (c : ℕ) (was is : TimerKind → Bool) → ((kind : TimerKind) → is_running past place c kind ≡ was kind) → Exactly past (changes place c was is kinds)
+  pub exactly-changes : (place : Place) (c : ℕ) (was is : TimerKind → Bool) → ((kind : TimerKind) → is_running past place c kind ≡ was kind) → Exactly past (changes place c was is timer_kinds)
   exactly-changes place c was is kept p d kind = by-place (is_place place p) refl where
     rows : List Rec
-    rows = changes place c was is kinds
+    rows = changes place c was is timer_kinds
 
     told : AreOfChange place c kind (is_running past place c kind) (is kind) rows
     told = subst (λ (b : Bool). AreOfChange place c kind b (is kind) rows) (sym (kept kind)) (kinds-change place c was is kind)

@@ -14,7 +14,7 @@ use Rattle.lard_history.proofs.Seeing.{AreOf}
 use Rattle.lard_journal.specs.declared.rec.Rec.{Rec}
 use Rattle.lard_journal.specs.declared.rec.Rec.TheVariants as rec
 use Rattle.lard_rules.specs.Node.{node_armed}
-use Rattle.lard_rules.specs.Outs.{kind_change, kinds}
+use Rattle.lard_rules.specs.Outs.{kind_change, timer_kinds}
 
 -- a timer of the place for connection c was armed or cleared
 abbrev pub IsTimerAt : Place → ℕ → Rec → Type 0
@@ -50,14 +50,14 @@ none-changes place c was (kind ∷ kinds) = λ i. one-same place c kind (was kin
 pub timer_rows-are : (place : Place) (c : ℕ) (p q : Part) → Each (IsTimerAt place c) (timer_rows place c p q)
 unfolding timer_rows
 timer_rows-are (Client d) c p q = one-is (Client d) c Tcp (station_armed p.station) (station_armed q.station)
-timer_rows-are Front c p q = changes-are Front c (front_armed p.front) (front_armed q.front) kinds
-timer_rows-are (Node n) c p q = changes-are (Node n) c (node_armed (p.nodes n)) (node_armed (q.nodes n)) kinds
+timer_rows-are Front c p q = changes-are Front c (front_armed p.front) (front_armed q.front) timer_kinds
+timer_rows-are (Node n) c p q = changes-are (Node n) c (node_armed (p.nodes n)) (node_armed (q.nodes n)) timer_kinds
 
 pub timer_rows-same : (place : Place) (c : ℕ) (p : Part) → timer_rows place c p p ≡ []
 unfolding timer_rows
 timer_rows-same (Client d) c p = one-same (Client d) c Tcp (station_armed p.station)
-timer_rows-same Front c p = none-changes Front c (front_armed p.front) kinds
-timer_rows-same (Node n) c p = none-changes (Node n) c (node_armed (p.nodes n)) kinds
+timer_rows-same Front c p = none-changes Front c (front_armed p.front) timer_kinds
+timer_rows-same (Node n) c p = none-changes (Node n) c (node_armed (p.nodes n)) timer_kinds
 
 timer-of : (place : Place) (c : ℕ) (r : Rec) → IsTimerAt place c r → (whose r ≡ Some c) × (plain r ≡ r)
 timer-of place c (rec.Armed p d kind) h = (ap Some h.1, refl)

@@ -4,7 +4,7 @@ use Rattle.std.specs.Prelude.{◌⊎◌}
 use Rattle.std.specs.List.{AllByRecursion, fold}
 use Rattle.lard_base.specs.declared.place.Place.{Place}
 use Rattle.lard_base.specs.declared.place.Place.TheVariants.{Front, Node, Client}
-use Rattle.lard_rules.specs.Bounds.{IsNumber}
+use Rattle.lard_rules.specs.Bounds.{IsConnNumber}
 use Rattle.lard_law_view.specs.View.{AreBetween, AreSent, Conn, GoesBetween, IsMachine, Was, letter}
 use Rattle.lard_law_view.proofs.Naming.{spelled-named}
 use Rattle.lard_law_view.proofs.Saying.{AllBetween, AreMessages, GaveAt, NotedAt}
@@ -41,7 +41,7 @@ pub client-segments : (c : ℕ) (ss : List (Place × List ℕ)) → AllTo Front 
 client-segments c ss to = Each-weaker (λ s. s.0 ≡ Front) (λ s. GoesBetween c (Client c) s.0 s.1) (λ s e. subst (λ (q : Place). GoesBetween c (Client c) q s.1) (sym e) refl) ss to
 
 -- a message that is spelled names its connection
-pub spelled : (c epoch : ℕ) (b : Body) → IsNumber c → named_in (spelled_message (record { c = c; epoch = record { 0 = epoch }; body = b })) ≡ Some c
+pub spelled : (c epoch : ℕ) (b : Body) → IsConnNumber c → named_in (spelled_message (record { c = c; epoch = record { 0 = epoch }; body = b })) ≡ Some c
 spelled c epoch b number = spelled-named (record { c = c; epoch = record { 0 = epoch }; body = b }) number
 
 -- ---- what is held

@@ -4,7 +4,7 @@ use Rattle.std.proofs.lemmas.List.Sums.{fold-append}
 use Rattle.std.specs.List.{AllByRecursion, fold}
 use Rattle.lard_base.specs.declared.place.Place.{Place}
 use Rattle.lard_base.specs.declared.place.Place.TheVariants.{Node}
-use Rattle.lard_rules.specs.Bounds.{IsNumber}
+use Rattle.lard_rules.specs.Bounds.{IsConnNumber}
 use Rattle.lard_law_view.specs.View.{AreNumbered}
 use Rattle.lard_law_view.proofs.Saying.{NotedAt}
 use Rattle.lard_disk.specs.declared.disk.Job.{Job}
@@ -23,7 +23,7 @@ all-append P [] ys e f = f
 all-append P (x ∷ xs) ys e f = (e.0, all-append P xs ys e.1 f)
 
 -- Node env.n acts on connection c, whose number is one.
-module _ (env : NodeEnv) (own : env.serve.place ≡ Node env.n) (number : IsNumber env.serve.c) where
+module _ (env : NodeEnv) (own : env.serve.place ≡ Node env.n) (number : IsConnNumber env.serve.c) where
   abbrev pub N : Rec → Type 0
   N r = NotedAt (Node env.n) env.serve.c r
 
@@ -52,7 +52,7 @@ module _ (env : NodeEnv) (own : env.serve.place ≡ Node env.n) (number : IsNumb
   pub by_told : KeptByNotes env AreTold
   by_told = record {
     hits = λ path v s jobs good t h. (one-noted s (rec.Hit env.n path) h.0 refl (λ n. refl), h.1);
-    queues = λ r path v s jobs good f h. (one-noted s (rec.Queued env.n env.n env.serve.c r path) h.0 (refl, refl) (λ n. refl), all-append (λ (job : Job). IsNumber job.c) jobs (own_job env r path ∷ []) h.1 (number, tt));
+    queues = λ r path v s jobs good f h. (one-noted s (rec.Queued env.n env.n env.serve.c r path) h.0 (refl, refl) (λ n. refl), all-append (λ (job : Job). IsConnNumber job.c) jobs (own_job env r path ∷ []) h.1 (number, tt));
     takes = λ used s jobs h. h;
     ends = λ s jobs h. (turns.ended-noted env.serve N noting s h.0, h.1);
     answers = λ way v s jobs may h. (turns.answered-noted env.serve N noting way v s h.0, h.1);

@@ -39,9 +39,9 @@ pub record IsReply (w out : Stream) (was_reset : Bool) (s : Said) : Type 0 where
   pub resets : s.flags.rst ≡ true → was_reset ≡ true
 
 -- what goes out from a client, and from the front end, each with its goal
-abbrev pub AreWords : ℕ → Stream → List (Place × List ℕ) → Type 0
-AreWords c w [] = Unit {0}
-AreWords c w (p ∷ ps) = (p.0 ≡ place.Front) × ((s : Said) × (p.1 ≡ spelled c ToCluster s) × IsWord w s) × AreWords c w ps
+abbrev pub AreClientWords : ℕ → Stream → List (Place × List ℕ) → Type 0
+AreClientWords c w [] = Unit {0}
+AreClientWords c w (p ∷ ps) = (p.0 ≡ place.Front) × ((s : Said) × (p.1 ≡ spelled c ToCluster s) × IsWord w s) × AreClientWords c w ps
 
 abbrev pub AreReplies : ℕ → Stream → Stream → Bool → List (Place × List ℕ) → Type 0
 AreReplies c w out was_reset [] = Unit {0}

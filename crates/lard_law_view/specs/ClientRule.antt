@@ -6,7 +6,7 @@ use Rattle.lard_base.specs.declared.event.Event.{Event}
 use Rattle.lard_base.specs.declared.event.Event.TheVariants as event
 use Rattle.lard_base.specs.declared.place.Place.{Place}
 use Rattle.lard_base.specs.declared.place.Place.TheVariants.{Front, Node, Client}
-use Rattle.lard_client.specs.Control.{ClientBlock, is_armed}
+use Rattle.lard_client.specs.Control.{ClientBlock, is_client_armed}
 use Rattle.lard_history.specs.Journal.{request}
 use Rattle.lard_history.specs.Own.{Letter, Seen, Row, Came, net_of, own, seen_on}
 use Rattle.lard_history.specs.Steps.{EachStep, steps}
@@ -90,11 +90,11 @@ own_rows c _ = []
 
 abbrev pub is_armed_in : Option ClientBlock → Bool
 is_armed_in None = false
-is_armed_in (Some x) = is_armed x
+is_armed_in (Some x) = is_client_armed x
 
 -- what its turn writes: its notes, its segments, and its timer where that changed
 abbrev pub turn_rows : ℕ → Option ClientBlock → ClientBlock × Turn → List Rec
-turn_rows c o given = given.1.notes ++ map (sending (Client c)) given.1.segments ++ timer_change (Client c) c (is_armed_in o) (is_armed given.0)
+turn_rows c o given = given.1.notes ++ map (sending (Client c)) given.1.segments ++ timer_change (Client c) c (is_armed_in o) (is_client_armed given.0)
 
 abbrev pub at_client : Place → Bool
 at_client (Client c) = true

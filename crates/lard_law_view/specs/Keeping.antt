@@ -8,14 +8,14 @@ use Rattle.lard_journal.specs.declared.rec.Rec.TheVariants as rec
 use Rattle.lard_rules.specs.declared.places.Turn.{Turn}
 use Rattle.lard_request.specs.declared.verdict.Verdict.{Verdict}
 use Rattle.lard_law_view.specs.Truth.{Stream, GoesOn}
-use Rattle.lard_law_view.specs.Agreement.{AreWords, ClientAgrees}
+use Rattle.lard_law_view.specs.Agreement.{AreClientWords, ClientAgrees}
 
 -- ---- the front end's turn
 
 -- the record resets its connection at the stream limit
-abbrev pub resets : Rec → Bool
-resets (rec.Reset place c total) = true
-resets _ = false
+abbrev pub is_reset_record : Rec → Bool
+is_reset_record (rec.Reset place c total) = true
+is_reset_record _ = false
 
 -- how many responses these records queue
 abbrev pub served_in : List Rec → ℕ
@@ -24,10 +24,10 @@ served_in (rec.Served place c r code size via ∷ rs) = 1 + served_in rs
 served_in (_ ∷ rs) = served_in rs
 
 -- and how many bytes these have
-abbrev pub size_in : List Rec → ℕ
-size_in [] = 0
-size_in (rec.Served place c r code size via ∷ rs) = size + size_in rs
-size_in (_ ∷ rs) = size_in rs
+abbrev pub bytes_served_in : List Rec → ℕ
+bytes_served_in [] = 0
+bytes_served_in (rec.Served place c r code size via ∷ rs) = size + bytes_served_in rs
+bytes_served_in (_ ∷ rs) = bytes_served_in rs
 
 -- So much is told of a connection: its client wrote w, and was answered vs by the bytes `said`.
 pub record TellsOf (w said : List ℕ) (vs : List Verdict) (t : Tale) : Type 0 where
@@ -67,7 +67,7 @@ pub record ClientTurned (c : ℕ) (w out : Stream) (x : ClientBlock) (given : Cl
   pub agrees : ClientAgrees c w_after out given.0
   pub notes : AreClientNotes c given.1.notes
   pub accepted : take given.0.accepted out.bytes ≡ take x.accepted out.bytes ++ accepted_in given.1.notes
-  pub sent : AreWords c w_after given.1.segments
+  pub sent : AreClientWords c w_after given.1.segments
 
 abbrev pub ClientKeeps : (ClientBlock → ClientBlock × Turn) → Type 0
 ClientKeeps rule = (c : ℕ) (w out : Stream) (x : ClientBlock) → length out.bytes ≤ MAX_STREAM_BYTES → ClientAgrees c w out x → ClientTurned c w out x (rule x)
@@ -81,4 +81,4 @@ pub record ClientOpened (c : ℕ) (w out : Stream) (given : ClientBlock × Turn)
   pub agrees : ClientAgrees c w out given.0
   pub accepted : given.0.accepted ≡ 0
   pub notes : given.1.notes ≡ []
-  pub sent : AreWords c w given.1.segments
+  pub sent : AreClientWords c w given.1.segments

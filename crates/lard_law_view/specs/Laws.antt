@@ -3,10 +3,10 @@ use Rattle.std.specs.Prelude.{◌≡◌, ℕ, Bool, true, List, [], Some, None, 
 use Rattle.lard_base.specs.declared.config.Config.{Config}
 use Rattle.lard_base.specs.declared.event.Event.{Event}
 use Rattle.lard_rules.specs.declared.machine.Machine.{Machine}
-use Rattle.lard_rules.specs.Bounds.{HasRule, IsNumber}
+use Rattle.lard_rules.specs.Bounds.{HasRule, IsConnNumber}
 use Rattle.lard_rules.specs.Machine.{IsReached, machine_step}
 use Rattle.lard_law_view.specs.Carry.{Guarded, IsGuardedLaw, IsLaw, IsStepLaw, IsUntouchedLaw, OfEach, Untouched, setting}
-use Rattle.lard_law_view.specs.View.{Conn, Goes, IsViewed, Move, Rules, Setting, conn, setting_of}
+use Rattle.lard_law_view.specs.View.{Conn, GoesBy, IsViewed, Move, Rules, Setting, conn, setting_of}
 use Rattle.lard_history.specs.Laws.{EachMay}
 use Rattle.lard_history.specs.Own.{EachRow, Seen, net_of, own, plain, seen_on, whose}
 use Rattle.lard_history.specs.Steps.{EachStep, steps}
@@ -15,7 +15,7 @@ use Rattle.lard_journal.specs.declared.rec.Rec.{Rec}
 -- In a step each connection is as before, or grown by a move of which P is so, if P is so of the move of each rule.
 abbrev pub StepsMove : Type 1
 StepsMove = (m n : Machine) (e : Event) (P : Conn → Move → Type 0) → IsViewed m → Rules (setting_of m) P → HasRule e → machine_step m e ≡ Ok n
-    → (q : ℕ) → Goes (λ x v. IsNumber x.c × P x v) (conn m q) (conn n q)
+    → (q : ℕ) → GoesBy (λ x v. IsConnNumber x.c × P x v) (conn m q) (conn n q)
 
 -- What the view rests on holds in every state that events lead to.
 abbrev pub IsViewedAlways : Type 0
@@ -47,25 +47,25 @@ GuardedIsLaw = (k : Setting) (Given Inv : Conn → Type 0) (mine : ℕ → List 
 
 -- ---- the same of tests, since a contract cannot range over facts
 
-abbrev pub Passes : (Conn → Move → Bool) → Conn → Move → Type 0
-Passes test x v = test x v ≡ true
+abbrev pub PassesTest : (Conn → Move → Bool) → Conn → Move → Type 0
+PassesTest test x v = test x v ≡ true
 
-abbrev pub Holds : (Conn → Bool) → Conn → Type 0
-Holds test x = test x ≡ true
+abbrev pub HoldsTest : (Conn → Bool) → Conn → Type 0
+HoldsTest test x = test x ≡ true
 
 -- What passes each rule's move, passes the move of each connection that does not stay as it is.
 abbrev pub ConnectionsGoByRules : Type 0
-ConnectionsGoByRules = (m n : Machine) (e : Event) (test : Conn → Move → Bool) → IsViewed m → Rules (setting_of m) (Passes test) → HasRule e → machine_step m e ≡ Ok n
-    → (q : ℕ) → Goes (λ x v. IsNumber x.c × Passes test x v) (conn m q) (conn n q)
+ConnectionsGoByRules = (m n : Machine) (e : Event) (test : Conn → Move → Bool) → IsViewed m → Rules (setting_of m) (PassesTest test) → HasRule e → machine_step m e ≡ Ok n
+    → (q : ℕ) → GoesBy (λ x v. IsConnNumber x.c × PassesTest test x v) (conn m q) (conn n q)
 
 -- What each rule keeps, holds of each connection in every state.
 abbrev pub LawsAreCarried : Type 0
-LawsAreCarried = (config : Config) (files : List (List ℕ × List ℕ)) (given inv : Conn → Bool) → IsLaw (setting config files) (Holds given) (Holds inv) → OfEach config files (Holds given)
-    → OfEach config files (Holds inv)
+LawsAreCarried = (config : Config) (files : List (List ℕ × List ℕ)) (given inv : Conn → Bool) → IsLaw (setting config files) (HoldsTest given) (HoldsTest inv) → OfEach config files (HoldsTest given)
+    → OfEach config files (HoldsTest inv)
 
 -- What the move of each rule holds, each step of the journal holds.
 abbrev pub StepLawsAreCarried : Type 0
 StepLawsAreCarried = (config : Config) (files : List (List ℕ × List ℕ)) (given : Conn → Bool) (must : List Rec → List Rec → Bool) (own_must : ℕ → List Seen → List Seen → Bool)
     → ((past s : List Rec) → ((c : ℕ) → own_must c (own c past) (seen_on c (net_of past) s) ≡ true) → must past s ≡ true)
-    → IsStepLaw (setting config files) (Holds given) (λ c past s. own_must c past s ≡ true) → OfEach config files (Holds given)
+    → IsStepLaw (setting config files) (HoldsTest given) (λ c past s. own_must c past s ≡ true) → OfEach config files (HoldsTest given)
     → (m : Machine) → IsReached config files m → EachStep (λ past s. must past s ≡ true) [] (steps m.journal)

@@ -3,7 +3,7 @@ use Rattle.std.specs.Prelude.{ℕ, Bool, false}
 use Rattle.lard_endpoint.specs.declared.control.moving.Final.{Final}
 use Rattle.lard_endpoint.specs.Control.{ControlBlock}
 use Rattle.lard_rules.specs.declared.places.Ending.TheVariants as ending
-use Rattle.lard_rules.specs.Serving.{is_armed}
+use Rattle.lard_rules.specs.Serving.{is_serving_armed}
 
 -- ---- the seat
 
@@ -17,8 +17,8 @@ pub data Seat : Type 0 where
 -- ---- timers
 
 -- the front end's timer runs
-abbrev pub front_armed : Seat → Bool
-front_armed Nowhere = false
-front_armed (AtFront b count) = is_armed (ending.Here b count)
-front_armed Away = false
-front_armed (Over last) = is_armed (ending.Over last)
+abbrev pub seat_armed : Seat → Bool
+seat_armed Nowhere = false
+seat_armed (AtFront b count) = is_serving_armed (ending.Here b count)
+seat_armed Away = false
+seat_armed (Over last) = is_serving_armed (ending.Over last)

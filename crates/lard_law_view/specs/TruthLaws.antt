@@ -2,8 +2,8 @@
 use Rattle.std.specs.Prelude.{◌≡◌, ℕ, ◌+◌, ◌^◌, ◌<◌, ◌≤◌, true, false, List, [], ◌++◌, length, take, drop, Some}
 use Rattle.lard_arrival.specs.Arrival.{IsPartAt}
 use Rattle.lard_base.specs.declared.limits.TheConstants.{MAX_STREAM_BYTES}
-use Rattle.lard_client.specs.Control.{ClientBlock, IsClientBlock, opened, written, is_writing, shut_down, held_on, taken, aborted}
-use Rattle.lard_client.specs.Arriving.{arrived}
+use Rattle.lard_client.specs.Control.{ClientBlock, IsClientBlock, client_opened, client_written, is_writing, shut_down, held_on, client_taken, aborted}
+use Rattle.lard_client.specs.Arriving.{client_arrived}
 use Rattle.lard_client.specs.Leaving as client
 use Rattle.lard_endpoint.specs.Arriving.{on_segment}
 use Rattle.lard_endpoint.specs.Control.{ControlBlock, IsControlBlock, listening, queueing, finishing, consuming, discarding_on}
@@ -68,50 +68,50 @@ ReadingHears = (x : Stream) (b : ControlBlock) (n : ℕ) → Hears x b.recv → 
 -- ---- a client
 
 abbrev pub OpeningBegins : Type 0
-OpeningBegins = (x : Stream) (c isn wnd mss : ℕ) → isn < 2 ^ 32 → Accepts x (opened c isn wnd mss) × Speaks (opened c isn wnd mss).send []
+OpeningBegins = (x : Stream) (c isn wnd mss : ℕ) → isn < 2 ^ 32 → Accepts x (client_opened c isn wnd mss) × Speaks (client_opened c isn wnd mss).send []
 
 abbrev pub ClientEmittedIsTrue : Type 0
-ClientEmittedIsTrue = (b : ClientBlock) (bytes : List ℕ) (r : Ready) → IsClientBlock b → b.wnd < 2 ^ 16 → Speaks b.send bytes → client.emitted b ≡ Some r
-    → IsTrueOf (stream_of b.send bytes) (client.filled (client.after_emit b) r) × IsSendable (client.filled (client.after_emit b) r)
+ClientEmittedIsTrue = (b : ClientBlock) (bytes : List ℕ) (r : Ready) → IsClientBlock b → b.wnd < 2 ^ 16 → Speaks b.send bytes → client.client_emitted b ≡ Some r
+    → IsTrueOf (stream_of b.send bytes) (client.client_filled (client.client_after_emit b) r) × IsSendable (client.client_filled (client.client_after_emit b) r)
 
 abbrev pub ClientTimedIsTrue : Type 0
-ClientTimedIsTrue = (b : ClientBlock) (bytes : List ℕ) (r : Ready) → IsClientBlock b → b.wnd < 2 ^ 16 → Speaks b.send bytes → client.timed b ≡ Some r
-    → IsTrueOf (stream_of b.send bytes) (client.filled (client.after_timer b) r) × IsSendable (client.filled (client.after_timer b) r)
+ClientTimedIsTrue = (b : ClientBlock) (bytes : List ℕ) (r : Ready) → IsClientBlock b → b.wnd < 2 ^ 16 → Speaks b.send bytes → client.client_timed b ≡ Some r
+    → IsTrueOf (stream_of b.send bytes) (client.client_filled (client.client_after_timer b) r) × IsSendable (client.client_filled (client.client_after_timer b) r)
 
 -- Its resets carry nothing.
 abbrev pub AbortIsTrue : Type 0
 AbortIsTrue = (b : ClientBlock) (bytes : List ℕ) (r : Ready) → Speaks b.send bytes → client.abort_ready b ≡ Some r
-    → IsTrueOf (stream_of b.send bytes) (client.filled (aborted b) r) × IsSendable (client.filled (aborted b) r)
+    → IsTrueOf (stream_of b.send bytes) (client.client_filled (aborted b) r) × IsSendable (client.client_filled (aborted b) r)
 
 abbrev pub ReplyIsTrue : Type 0
-ReplyIsTrue = (b : ClientBlock) (bytes : List ℕ) (s : Said) (r : Ready) → s.ack < 2 ^ 32 → Speaks b.send bytes → (arrived b s).0.reply ≡ Some r
-    → IsTrueOf (stream_of b.send bytes) (client.filled (arrived b s).1 r) × IsSendable (client.filled (arrived b s).1 r)
+ReplyIsTrue = (b : ClientBlock) (bytes : List ℕ) (s : Said) (r : Ready) → s.ack < 2 ^ 32 → Speaks b.send bytes → (client_arrived b s).0.reply ≡ Some r
+    → IsTrueOf (stream_of b.send bytes) (client.client_filled (client_arrived b s).1 r) × IsSendable (client.client_filled (client_arrived b s).1 r)
 
 -- Sending changes neither its stream nor what it accepted.
 abbrev pub ClientLeavingSpeaks : Type 0
 ClientLeavingSpeaks = (x : Stream) (b : ClientBlock) (bytes : List ℕ) → Speaks b.send bytes → Accepts x b
-    → (Speaks (client.after_emit b).send bytes × (stream_of (client.after_emit b).send bytes ≡ stream_of b.send bytes) × Accepts x (client.after_emit b))
-    × (Speaks (client.after_timer b).send bytes × (stream_of (client.after_timer b).send bytes ≡ stream_of b.send bytes) × Accepts x (client.after_timer b))
+    → (Speaks (client.client_after_emit b).send bytes × (stream_of (client.client_after_emit b).send bytes ≡ stream_of b.send bytes) × Accepts x (client.client_after_emit b))
+    × (Speaks (client.client_after_timer b).send bytes × (stream_of (client.client_after_timer b).send bytes ≡ stream_of b.send bytes) × Accepts x (client.client_after_timer b))
 
 -- Whatever arrives, its stream goes on, at most by the FIN; of a true segment it accepts the next bytes.
 abbrev pub ClientArrivingSpeaks : Type 0
 ClientArrivingSpeaks = (b : ClientBlock) (bytes : List ℕ) (s : Said) → Speaks b.send bytes
-    → Speaks (arrived b s).1.send bytes × GoesOn (stream_of b.send bytes) (stream_of (arrived b s).1.send bytes)
+    → Speaks (client_arrived b s).1.send bytes × GoesOn (stream_of b.send bytes) (stream_of (client_arrived b s).1.send bytes)
 
 abbrev pub ClientArrivingAccepts : Type 0
 ClientArrivingAccepts = (x : Stream) (b : ClientBlock) (s : Said) → IsStream x → s.seq < 2 ^ 32 → Accepts x b → IsTrueOf x s
-    → Accepts x (arrived b s).1
-    × IsPartAt b.accepted (take (arrived b s).0.len (drop (arrived b s).0.from s.payload)) x.bytes
-    × ((arrived b s).1.accepted ≡ b.accepted + (arrived b s).0.len)
+    → Accepts x (client_arrived b s).1
+    × IsPartAt b.accepted (take (client_arrived b s).0.len (drop (client_arrived b s).0.from s.payload)) x.bytes
+    × ((client_arrived b s).1.accepted ≡ b.accepted + (client_arrived b s).0.len)
 
 -- Its owner's calls: bytes follow while it writes, and the other calls leave both streams as they are, but for the FIN.
 abbrev pub WritingSpeaks : Type 0
 WritingSpeaks = (b : ClientBlock) (bytes more : List ℕ) → is_writing b ≡ true → length bytes + length more ≤ MAX_STREAM_BYTES → Speaks b.send bytes
-    → Speaks (written b more).send (bytes ++ more) × GoesOn (stream_of b.send bytes) (stream_of (written b more).send (bytes ++ more))
+    → Speaks (client_written b more).send (bytes ++ more) × GoesOn (stream_of b.send bytes) (stream_of (client_written b more).send (bytes ++ more))
 
 abbrev pub ClosingSpeaks : Type 0
 ClosingSpeaks = (b : ClientBlock) (bytes : List ℕ) → Speaks b.send bytes
     → Speaks (shut_down b).send bytes × GoesOn (stream_of b.send bytes) (stream_of (shut_down b).send bytes)
 
 abbrev pub OtherCallsChangeNothing : Type 0
-OtherCallsChangeNothing = (b : ClientBlock) → ((held_on b).send ≡ b.send) × ((taken b).send ≡ b.send) × ((aborted b).send ≡ b.send)
+OtherCallsChangeNothing = (b : ClientBlock) → ((held_on b).send ≡ b.send) × ((client_taken b).send ≡ b.send) × ((aborted b).send ≡ b.send)

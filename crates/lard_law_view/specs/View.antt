@@ -10,9 +10,9 @@ use Rattle.lard_base.specs.declared.parts.EndpointParts.{EndpointParts}
 use Rattle.lard_base.specs.declared.place.Place.{Place}
 use Rattle.lard_base.specs.declared.place.Place.TheVariants.{Front, Node, Client}
 use Rattle.lard_base.specs.declared.place.Reason.{Reason}
-use Rattle.lard_client.specs.Control.{ClientBlock, is_armed, written_len}
+use Rattle.lard_client.specs.Control.{ClientBlock, is_client_armed, written_len}
 use Rattle.lard_rules.specs.declared.machine.Machine.{Machine}
-use Rattle.lard_rules.specs.Bounds.{HasRule, IsNumber}
+use Rattle.lard_rules.specs.Bounds.{HasRule, IsConnNumber}
 use Rattle.lard_rules.specs.Machine.{is_no_node, node_at}
 use Rattle.lard_disk.specs.declared.disk.Job.{Job}
 use Rattle.lard_files.specs.Files.{file_at}
@@ -37,7 +37,7 @@ use Rattle.lard_rules.specs.declared.node.NodeTurn.{NodeTurn}
 use Rattle.lard_rules.specs.Node as node
 use Rattle.lard_rules.specs.Node.{NodePart, message, node_acknowledged, node_content, node_forwarded, node_offered, node_read, node_tagged, node_timer}
 use Rattle.lard_rules.specs.NodePlace as node_place
-use Rattle.lard_rules.specs.NodePlace.{bytes_of, node_part}
+use Rattle.lard_rules.specs.NodePlace.{content_bytes, node_part}
 use Rattle.lard_rules.specs.Stay.{NodeEnv}
 pub use Rattle.lard_law_view.specs.Sending.{sending}
 use Rattle.lard_policy.specs.declared.first.FirstChoice.{FirstChoice}
@@ -88,13 +88,13 @@ unfoldable pub conn : Machine → ℕ → Conn
 conn m q = record { c = q; part = part_of m q; letters = letters q m.net; seen = own q m.journal }
 
 -- before anything
-abbrev pub blank : ℕ → Conn
-blank c = record { c = c; part = record { station = None; front = record { row = None; rest = None; kept = [] }; nodes = λ n. nothing_kept }; letters = []; seen = [] }
+abbrev pub blank_conn : ℕ → Conn
+blank_conn c = record { c = c; part = record { station = None; front = record { row = None; rest = None; kept = [] }; nodes = λ n. nothing_kept }; letters = []; seen = [] }
 
 -- ---- a move
 
 -- What a place does on a connection in a step, without the timers.
-pub record Said : Type 0 where
+pub record TurnSaid : Type 0 where
   pub notes : List Rec
   pub segments : List (Place × List ℕ)
   pub gave : List Rec
@@ -104,18 +104,18 @@ pub record Said : Type 0 where
 pub record Move : Type 0 where
   pub place : Place
   pub heads : List Seen
-  pub said : Said
+  pub said : TurnSaid
   pub part : Part
 
 abbrev pub station_armed : Option Station → Bool
 station_armed None = false
-station_armed (Some s) = is_armed s.client
+station_armed (Some s) = is_client_armed s.client
 
 -- the records of a place's timers that changed, from the part before and after the step
 unfoldable pub timer_rows : Place → ℕ → Part → Part → List Rec
 timer_rows (Client d) c p q = timer_change (Client d) c (station_armed p.station) (station_armed q.station)
-timer_rows Front c p q = front_place.timers_of c p.front q.front
-timer_rows (Node n) c p q = node_place.timers_of n c (p.nodes n) (q.nodes n)
+timer_rows Front c p q = front_place.front_timers c p.front q.front
+timer_rows (Node n) c p q = node_place.node_timers n c (p.nodes n) (q.nodes n)
 
 abbrev pub letter : Place → Place × List ℕ → Letter
 letter from s = record { from = from; to = s.0; bytes = s.1 }
@@ -136,26 +136,26 @@ abbrev pub grown : Conn → Move → Conn
 grown x v = record { c = x.c; part = v.part; letters = x.letters ++ letters_of v; seen = x.seen ++ seen_in x v }
 
 -- a connection stays as it is, or makes a move of which P is so
-abbrev pub Goes : (Conn → Move → Type 0) → Conn → Conn → Type 0
-Goes P x y = (y ≡ x) ⊎ ((v : Move) × P x v × (y ≡ grown x v))
+abbrev pub GoesBy : (Conn → Move → Type 0) → Conn → Conn → Type 0
+GoesBy P x y = (y ≡ x) ⊎ ((v : Move) × P x v × (y ≡ grown x v))
 
 -- ---- what each place does, as a move
 
-abbrev pub nothing_said : Said
+abbrev pub nothing_said : TurnSaid
 nothing_said = record { notes = []; segments = []; gave = []; messages = [] }
 
-abbrev pub by_client : Turn → Said
+abbrev pub by_client : Turn → TurnSaid
 by_client t = record { notes = t.notes; segments = t.segments; gave = []; messages = [] }
 
-abbrev pub by_front : FrontTurn → Said
+abbrev pub by_front : FrontTurn → TurnSaid
 by_front t = record { notes = t.notes; segments = t.segments; gave = t.gave; messages = t.messages }
 
 -- those of a connection; a path that goes to the front of a cache names none
-abbrev pub named : List Rec → List Rec
-named rs = filter (λ r. is_some (whose r)) rs
+abbrev pub named_records : List Rec → List Rec
+named_records rs = filter (λ r. is_some (whose r)) rs
 
-abbrev pub by_node : NodeTurn → Said
-by_node t = record { notes = named t.notes; segments = t.segments; gave = t.gave; messages = t.messages }
+abbrev pub by_node : NodeTurn → TurnSaid
+by_node t = record { notes = named_records t.notes; segments = t.segments; gave = t.gave; messages = t.messages }
 
 -- this packet was sent
 abbrev pub Was : Conn → Place → Place → List ℕ → Type 0
@@ -202,26 +202,26 @@ abbrev pub with_front : Part → FrontPart → Part
 with_front p f = record p { front = f }
 
 -- nothing but what it sees changes
-abbrev pub stands : Conn → Place → List Seen → Said → Move
+abbrev pub stands : Conn → Place → List Seen → TurnSaid → Move
 stands x place heads said = record { place = place; heads = heads; said = said; part = x.part }
 
 -- a client that opened does what its rule gave
 abbrev pub client_does : Conn → Station → List Seen → ClientBlock × Turn → Move
 client_does x s heads given = record { place = Client x.c; heads = heads; said = by_client given.1; part = with_station x.part (record { client = given.0; iss = s.iss }) }
 
-abbrev pub front_does : Conn → List Seen → front.Deed → Move
+abbrev pub front_does : Conn → List Seen → front.FrontDeed → Move
 front_does x heads front.Drops = stands x Front heads nothing_said
 front_does x heads (front.Says turn) = stands x Front heads (by_front turn)
 front_does x heads (front.Does did) = record { place = Front; heads = heads; said = by_front did.turn; part = with_front x.part did.part }
 
 -- what one node keeps is put back
-abbrev pub node_put : (ℕ → NodePart) → ℕ → NodePart → ℕ → NodePart
-node_put nodes n q k = if k == n then q else nodes k
+abbrev pub node_put_back : (ℕ → NodePart) → ℕ → NodePart → ℕ → NodePart
+node_put_back nodes n q k = if k == n then q else nodes k
 
 abbrev pub with_node : Part → ℕ → NodePart → Part
-with_node p n q = record p { nodes = node_put p.nodes n q }
+with_node p n q = record p { nodes = node_put_back p.nodes n q }
 
-abbrev pub node_does : Conn → ℕ → List Seen → node.Deed → Move
+abbrev pub node_does : Conn → ℕ → List Seen → node.NodeDeed → Move
 node_does x n heads node.Drops = stands x (Node n) heads nothing_said
 node_does x n heads (node.Says messages) = stands x (Node n) heads (record nothing_said { messages = messages })
 node_does x n heads (node.Does given) = record { place = Node n; heads = heads; said = by_node given.1; part = with_node x.part n given.0 }
@@ -248,11 +248,11 @@ abbrev pub reads_first : Rec → Move → Move
 reads_first r v = record v { said = record v.said { notes = r ∷ [] ++ v.said.notes } }
 
 -- the content of a file goes to the node that serves the request
-abbrev pub contents : Setting → ℕ → ℕ → ℕ → ℕ → ℕ → List ℕ → Said
-contents k n to c epoch r path = record nothing_said { messages = (Node to, message c epoch (body.Content r (bytes_of (k.files path)))) ∷ [] }
+abbrev pub content_said : Setting → ℕ → ℕ → ℕ → ℕ → ℕ → List ℕ → TurnSaid
+content_said k n to c epoch r path = record nothing_said { messages = (Node to, message c epoch (body.Content r (content_bytes (k.files path)))) ∷ [] }
 
-abbrev pub brought_said : Setting → ℕ → ℕ → ℕ → ℕ → ℕ → List ℕ → Said
-brought_said k n to c epoch r path = record (contents k n to c epoch r path) { notes = rec.Read n to c r path ∷ [] }
+abbrev pub brought_said : Setting → ℕ → ℕ → ℕ → ℕ → ℕ → List ℕ → TurnSaid
+brought_said k n to c epoch r path = record (content_said k n to c epoch r path) { notes = rec.Read n to c r path ∷ [] }
 
 -- ---- the rules, each of one connection
 
@@ -277,8 +277,8 @@ abbrev pub epoch_in : NodePart → ℕ
 epoch_in p = elim p.row [ None ↦ 0 | Some row ↦ row.epoch.0 ]
 
 -- the bytes are a message of the connection, in this epoch
-abbrev pub Spells : ℕ → ℕ → Body → List ℕ → Type 0
-Spells c epoch b bytes = decoded_message bytes ≡ Ok (record { c = c; epoch = record { 0 = epoch }; body = b })
+abbrev pub SpellsMessage : ℕ → ℕ → Body → List ℕ → Type 0
+SpellsMessage c epoch b bytes = decoded_message bytes ≡ Ok (record { c = c; epoch = record { 0 = epoch }; body = b })
 
 -- P is so of each move of a client's rule
 pub record ClientRules (k : Setting) (P : Conn → Move → Type 0) : Type 0 where
@@ -301,37 +301,37 @@ pub record FrontRules (k : Setting) (P : Conn → Move → Type 0) : Type 0 wher
       → P x (front_does x (packet_seen (Client x.c) Front bytes) (front_gets env x.part.front bytes (decoded bytes x.c ToCluster)))
   pub fires : (x : Conn) (s : Station) (env : FrontEnv) → x.part.station ≡ Some s → IsFrontEnv k x.c env
       → P x (front_does x (event_seen (event.Timer Front x.c)) (front_timer env x.part.front))
-  pub taken : (x : Conn) (env : FrontEnv) (n epoch : ℕ) (bytes : List ℕ) → IsFrontEnv k x.c env → Spells x.c epoch body.Taken bytes → Was x (Node n) Front bytes
+  pub taken : (x : Conn) (env : FrontEnv) (n epoch : ℕ) (bytes : List ℕ) → IsFrontEnv k x.c env → SpellsMessage x.c epoch body.Taken bytes → Was x (Node n) Front bytes
       → P x (front_does x (packet_seen (Node n) Front bytes) (front_taken x.part.front epoch))
   pub asked : (x : Conn) (env : FrontEnv) (n epoch number queue size : ℕ) (paths : List (List ℕ)) (bytes : List ℕ) → IsFrontEnv k x.c env
-      → Spells x.c epoch (body.Ask number queue size paths) bytes → Was x (Node n) Front bytes
+      → SpellsMessage x.c epoch (body.Ask number queue size paths) bytes → Was x (Node n) Front bytes
       → P x (front_does x (packet_seen (Node n) Front bytes) (front_asked env x.part.front n epoch (ask_of x.c n number queue size paths)))
   pub ended : (x : Conn) (env : FrontEnv) (n epoch : ℕ) (reason : Reason) (snd rcv count : ℕ) (bytes : List ℕ) → IsFrontEnv k x.c env
-      → Spells x.c epoch (body.Ended reason snd rcv count) bytes → Was x (Node n) Front bytes
+      → SpellsMessage x.c epoch (body.Ended reason snd rcv count) bytes → Was x (Node n) Front bytes
       → P x (front_does x (packet_seen (Node n) Front bytes) (front_ended env x.part.front n epoch (record { reason = reason; snd = record { 0 = snd }; rcv = record { 0 = rcv } })))
   pub admitted : (x : Conn) (env : FrontEnv) (choice : FirstChoice) (given : FrontPart × FrontTurn) → IsFrontEnv k x.c env → front_admitted env x.part.front choice ≡ Some given
       → P x (front_admits x given)
 
 -- of each move of a rule of a node
 pub record NodeRules (k : Setting) (P : Conn → Move → Type 0) : Type 0 where
-  pub offered : (x : Conn) (n epoch : ℕ) (env : NodeEnv) (parts : EndpointParts) (bytes : List ℕ) → IsNodeEnv k x.c n epoch env → Spells x.c epoch (body.Offer parts) bytes → Was x Front (Node n) bytes
+  pub offered : (x : Conn) (n epoch : ℕ) (env : NodeEnv) (parts : EndpointParts) (bytes : List ℕ) → IsNodeEnv k x.c n epoch env → SpellsMessage x.c epoch (body.Offer parts) bytes → Was x Front (Node n) bytes
       → P x (node_does x n (packet_seen Front (Node n) bytes) (node_offered env (x.part.nodes n) parts))
-  pub forwarded : (x : Conn) (n epoch : ℕ) (env : NodeEnv) (segment bytes : List ℕ) → IsNodeEnv k x.c n epoch env → Spells x.c epoch (body.Forward segment) bytes → Was x Front (Node n) bytes
+  pub forwarded : (x : Conn) (n epoch : ℕ) (env : NodeEnv) (segment bytes : List ℕ) → IsNodeEnv k x.c n epoch env → SpellsMessage x.c epoch (body.Forward segment) bytes → Was x Front (Node n) bytes
       → P x (node_does x n (packet_seen Front (Node n) bytes) (node_forwarded env (x.part.nodes n) (decoded segment x.c ToCluster)))
-  pub tagged : (x : Conn) (n epoch number : ℕ) (nodes : List ℕ) (env : NodeEnv) (bytes : List ℕ) → IsNodeEnv k x.c n epoch env → Spells x.c epoch (body.Tag number nodes) bytes → Was x Front (Node n) bytes
+  pub tagged : (x : Conn) (n epoch number : ℕ) (nodes : List ℕ) (env : NodeEnv) (bytes : List ℕ) → IsNodeEnv k x.c n epoch env → SpellsMessage x.c epoch (body.Tag number nodes) bytes → Was x Front (Node n) bytes
       → P x (node_does x n (packet_seen Front (Node n) bytes) (node_tagged env (x.part.nodes n) number nodes))
-  pub content : (x : Conn) (n from epoch r : ℕ) (env : NodeEnv) (file bytes : List ℕ) → IsNodeEnv k x.c n epoch env → Spells x.c epoch (body.Content r file) bytes → Was x (Node from) (Node n) bytes
+  pub content : (x : Conn) (n from epoch r : ℕ) (env : NodeEnv) (file bytes : List ℕ) → IsNodeEnv k x.c n epoch env → SpellsMessage x.c epoch (body.Content r file) bytes → Was x (Node from) (Node n) bytes
       → P x (node_does x n (packet_seen (Node from) (Node n) bytes) (node_content env (x.part.nodes n) from r))
-  pub acknowledged : (x : Conn) (n epoch : ℕ) (env : NodeEnv) (bytes : List ℕ) → IsNodeEnv k x.c n epoch env → Spells x.c epoch body.EndedAck bytes → Was x Front (Node n) bytes
+  pub acknowledged : (x : Conn) (n epoch : ℕ) (env : NodeEnv) (bytes : List ℕ) → IsNodeEnv k x.c n epoch env → SpellsMessage x.c epoch body.EndedAck bytes → Was x Front (Node n) bytes
       → P x (node_does x n (packet_seen Front (Node n) bytes) (node_acknowledged env (x.part.nodes n)))
   pub read : (x : Conn) (n epoch r : ℕ) (env : NodeEnv) (path : List ℕ) → IsNodeEnv k x.c n epoch env
       → P x (reads_first (rec.Read n n x.c r path) (node_does x n [] (node_read env (x.part.nodes n) r)))
   pub fires : (x : Conn) (s : Station) (n : ℕ) (env : NodeEnv) → x.part.station ≡ Some s → IsNodeEnv k x.c n (epoch_in (x.part.nodes n)) env
       → P x (node_does x n (event_seen (event.Timer (Node n) x.c)) (node_timer env (x.part.nodes n)))
   -- what a node does for another one: it answers a Fetch, or queues a job for it, and sends the content that the job read
-  pub answers : (x : Conn) (n from epoch r : ℕ) (path file bytes : List ℕ) → k.files path ≡ Some file → Spells x.c epoch (body.Fetch r path) bytes → Was x (Node from) (Node n) bytes
-      → P x (stands x (Node n) (packet_seen (Node from) (Node n) bytes) (contents k n from x.c epoch r path))
-  pub queues : (x : Conn) (n from epoch r : ℕ) (path file bytes : List ℕ) → k.files path ≡ Some file → Spells x.c epoch (body.Fetch r path) bytes → Was x (Node from) (Node n) bytes
+  pub answers : (x : Conn) (n from epoch r : ℕ) (path file bytes : List ℕ) → k.files path ≡ Some file → SpellsMessage x.c epoch (body.Fetch r path) bytes → Was x (Node from) (Node n) bytes
+      → P x (stands x (Node n) (packet_seen (Node from) (Node n) bytes) (content_said k n from x.c epoch r path))
+  pub queues : (x : Conn) (n from epoch r : ℕ) (path file bytes : List ℕ) → k.files path ≡ Some file → SpellsMessage x.c epoch (body.Fetch r path) bytes → Was x (Node from) (Node n) bytes
       → P x (stands x (Node n) (packet_seen (Node from) (Node n) bytes) (record nothing_said { notes = rec.Queued n from x.c r path ∷ [] }))
   pub brings : (x : Conn) (n from epoch r : ℕ) (path : List ℕ) → P x (stands x (Node n) [] (brought_said k n from x.c epoch r path))
 
@@ -376,8 +376,8 @@ AreSent x place ks = AllByRecursion (λ k. IsMachine k.to × Was x place k.to k.
 
 -- It has the number of a connection, or nothing happened on it. Its packets are its own, so is its client, and what its places hold
 -- was sent.
-pub record IsSound (x : Conn) : Type 0 where
-  pub number : IsNumber x.c ⊎ (x ≡ blank x.c)
+pub record IsConnSound (x : Conn) : Type 0 where
+  pub number : IsConnNumber x.c ⊎ (x ≡ blank_conn x.c)
   pub between : AreBetween x.c x.letters
   pub client : (s : Station) → x.part.station ≡ Some s → s.client.c ≡ x.c
   pub front : AreSent x Front x.part.front.kept
@@ -386,11 +386,11 @@ pub record IsSound (x : Conn) : Type 0 where
 
 -- each job of a disk is of a connection
 abbrev pub AreNumbered : List Job → Type 0
-AreNumbered jobs = AllByRecursion (λ job. IsNumber job.c) jobs
+AreNumbered jobs = AllByRecursion (λ job. IsConnNumber job.c) jobs
 
 -- Each connection is sound, the journal tells of the packets that there are, and the nodes are as many as there are to be.
 pub record IsViewed (m : Machine) : Type 0 where
-  pub sound : (q : ℕ) → IsSound (conn m q)
+  pub sound : (q : ℕ) → IsConnSound (conn m q)
   pub told : net_of m.journal ≡ m.net
   pub nodes : length m.nodes ≡ m.config.nodes
   pub jobs : (n : ℕ) (s : NodeState) → node_at m.nodes n ≡ Some s → AreNumbered s.disk

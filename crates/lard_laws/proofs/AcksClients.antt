@@ -7,13 +7,13 @@ use Rattle.lard_base.specs.declared.event.Event.{Event}
 use Rattle.lard_base.specs.declared.event.Event.TheVariants as event
 use Rattle.lard_base.specs.declared.place.Place.{Place}
 use Rattle.lard_base.specs.declared.place.Place.TheVariants.{Client, Front, Node}
-use Rattle.lard_client.specs.Control.{ClientBlock, is_open, written_len}
+use Rattle.lard_client.specs.Control.{ClientBlock, is_client_open, written_len}
 use Rattle.lard_laws.specs.Acks.{AcksWhatWasTaken, Bounds, FrontActs, LetterActs, LetterActsOn, OpenActs, ReplyActs, StationActs, bounds_of, story_at}
 use Rattle.lard_laws.proofs.AcksFronts.{past-acts}
 use Rattle.lard_laws.proofs.AcksGrowing.{Widens, back-more, front-more, letters-on, words-act}
 use Rattle.lard_laws.proofs.AcksStory.{behind-notes, move-tells, reset-told}
 use Rattle.lard_laws.proofs.AcksTurns.{client-more}
-use Rattle.lard_law_connections.specs.BytesAgreement.{ConnAgrees, IsFair, IsFairOn, IsInner, IsNode, IsOpen, IsTruthful, IsUnopened}
+use Rattle.lard_law_connections.specs.BytesAgreement.{ConnAgrees, IsFair, IsFairOn, IsInner, IsNodePlace, IsOpen, IsTruthful, IsConnUnopened}
 use Rattle.lard_law_connections.proofs.BytesClientMoves.{has-fair, open-at, was-between}
 use Rattle.lard_law_connections.proofs.LimitsMoves.{Helps}
 use Rattle.lard_law_connections.specs.Places.{Sits, owning}
@@ -57,7 +57,7 @@ module _ (files : FilesAt) (x : Conn) (s : Station) (there : x.part.station ≡ 
   module _ (heads : List Seen) (shuts : Bool) (only : story_seen x.c (story_at x) heads ≡ record (story_at x) { shut = (story_at x).shut || shuts }) (given : ClientBlock × Turn) (k : ClientTurned x.c l.w l.out s.client given) (a : Bool)
       (act : ClientActed x.c l.out.first r.heard a (story_at x).reset s.client given)
       (told : a ≡ true → (story_on x.c (record (story_at x) { shut = (story_at x).shut || shuts }) given.1.notes).aborted ≡ true)
-      (finishes : shuts ≡ true → is_open given.0 ≡ true → given.0.send.finished ≡ true) (help : Helps x (client_does x s heads given)) where
+      (finishes : shuts ≡ true → is_client_open given.0 ≡ true → given.0.send.finished ≡ true) (help : Helps x (client_does x s heads given)) where
     abbrev v : Move
     v = client_does x s heads given
 
@@ -95,7 +95,7 @@ module _ (files : FilesAt) (x : Conn) (s : Station) (there : x.part.station ≡ 
     words = subst (λ (n : ℕ). WordsMay x.c n (taken_by given.0) z.aborted given.1.segments) o.begins
         (words-told x.c l.out.first (taken_by given.0) a z.aborted given.1.segments (λ e. behind.aborted (told e)) act.sent)
 
-    shut_by : is_open given.0 ≡ true → z.shut ≡ true → given.0.send.finished ≡ true
+    shut_by : is_client_open given.0 ≡ true → z.shut ≡ true → given.0.send.finished ≡ true
     shut_by open_ shut = ⊎_elim
         (λ (was : y.shut ≡ true). act.stays_shut (r.shut (act.was_open open_) was))
         (λ (now : shuts ≡ true). finishes now open_)
@@ -128,7 +128,7 @@ module _ (files : FilesAt) (x : Conn) (isn iss wnd mss : ℕ) (rule : HasRule (e
   abbrev station : Station
   station = record { client = begun.0; iss = iss }
 
-  unopened : IsUnopened x
+  unopened : IsConnUnopened x
   unopened = subst (ConnAgrees files x h.talk h.pend) none h.agrees
 
   abbrev opened : Story
@@ -147,7 +147,7 @@ module _ (files : FilesAt) (x : Conn) (isn iss wnd mss : ℕ) (rule : HasRule (e
   inner-act : (ls : List Letter) → Each IsInner ls → Each (LetterActs x.c first_bounds w.part) ls
   inner-act [] e = tt
   inner-act (m ∷ ls) e = (one m.from m.to e.0.0 e.0.1, inner-act ls e.1) where
-    one : (from to : Place) → IsNode from → IsNode to → LetterActsOn x.c first_bounds w.part from to m.bytes
+    one : (from to : Place) → IsNodePlace from → IsNodePlace to → LetterActsOn x.c first_bounds w.part from to m.bytes
     one (Node n) (Node k) f g = tt
     one Front to f g = absurd f
     one (Client d) to f g = absurd f
@@ -195,13 +195,13 @@ module _ (k : Setting) (small : k.stream ≤ 2 ^ 30) where
     -- any turn of a client that tells no abort
     acts-on : (heads : List Seen) (shuts : Bool) → story_seen x.c (story_at x) heads ≡ record (story_at x) { shut = (story_at x).shut || shuts } → (given : ClientBlock × Turn) → ClientTurned x.c l.w l.out s.client given
         → ClientActed x.c l.out.first r.heard (story_at x).aborted (story_at x).reset s.client given
-        → (shuts ≡ true → is_open given.0 ≡ true → given.0.send.finished ≡ true) → Goes heads given
+        → (shuts ≡ true → is_client_open given.0 ≡ true → given.0.send.finished ≡ true) → Goes heads given
     acts-on heads shuts only given turned act finishes help =
         client-keeps k.files x s there l h.pend o r heads shuts only given turned (story_at x).aborted act
         (client-tells x.c (record (story_at x) { shut = (story_at x).shut || shuts }) given.1.notes turned.notes).aborted finishes help
 
     by-rule : (e : Event) (rule : ClientBlock → ClientBlock × Turn) → ClientKeeps rule → ClientActs rule
-        → (event_shuts x.c e ≡ true → is_open (rule s.client).0 ≡ true → (rule s.client).0.send.finished ≡ true) → Goes (event_seen e) (rule s.client)
+        → (event_shuts x.c e ≡ true → is_client_open (rule s.client).0 ≡ true → (rule s.client).0.send.finished ≡ true) → Goes (event_seen e) (rule s.client)
     by-rule e rule keeps acted finishes = acts-on (event_seen e) (event_shuts x.c e) refl (rule s.client)
         (keeps x.c l.w l.out s.client o.says.most o.client)
         (acted x.c l.w l.out s.client r.heard (story_at x).aborted (story_at x).reset o.says.most o.client r.client) finishes

@@ -13,12 +13,12 @@ use Rattle.lard_laws.proofs.AcksGrowing.{replies-act}
 use Rattle.lard_laws.proofs.AcksMessages.{forward-acts, offer-acts, other-front}
 use Rattle.lard_laws.proofs.AcksReading.{reads-serves, stays-heard, stays-holds}
 use Rattle.lard_laws.proofs.AcksTurns.{PlaceActs, idle-acts}
-use Rattle.lard_law_connections.specs.BytesAgreement.{EndedIt, FrontHolds, HoldsIt, IsOpen, SeatAgrees, StageAgrees}
+use Rattle.lard_law_connections.specs.BytesAgreement.{EndedWithNumbers, FrontHolds, HoldsItPending, IsOpen, SeatAgrees, StageAgrees}
 use Rattle.lard_law_connections.specs.Places.{ArePast, HasEnded, IsLeft, IsOffered, IsOver, IsPast, Offers, Owning, Sits, StageSits, owning}
 use Rattle.lard_law_connections.proofs.PlacesFrontRules.{has-each}
 use Rattle.lard_law_connections.proofs.PlacesTurns.{IsPlaced}
 use Rattle.lard_law_view.specs.Carry.{tale_at}
-use Rattle.lard_law_view.specs.View.{AreSent, Conn, IsFrontEnv, IsSound, Move, Part, Setting, front_does, letter}
+use Rattle.lard_law_view.specs.View.{AreSent, Conn, IsFrontEnv, IsConnSound, Move, Part, Setting, front_does, letter}
 use Rattle.lard_dispatch.specs.declared.dispatch.Ask.{Ask}
 use Rattle.lard_dispatch.specs.declared.dispatch.First.{First}
 use Rattle.lard_dispatch.specs.declared.dispatch.First.TheVariants as first
@@ -31,8 +31,8 @@ use Rattle.lard_endpoint.specs.Control.{ControlBlock, listening}
 use Rattle.lard_endpoint.specs.Leaving.{after_timer, filled, timed}
 use Rattle.lard_rules.specs.declared.front.FrontRest.{FrontRest}
 use Rattle.lard_rules.specs.declared.front.FrontTurn.{FrontTurn}
-use Rattle.lard_rules.specs.Front.{Deed, Drops, Says, Does, FrontEnv, FrontPart, ack_sent, admitted_at, admitted_by, admitted_with, asked_by, assigns, begun, ended_by, fired_by, fires_at, front_admitted, front_asked, front_ended, front_gets, front_hears, front_taken, front_timer, handed_off, heard, hears_at, holds, is_at, leaves_by, message, met, placed, rest_of, rests, saying, settled_by, stage_after, tag_sent, taken_by, turn_here}
-use Rattle.lard_rules.specs.FrontReading.{Reading, reads}
+use Rattle.lard_rules.specs.Front.{FrontDeed, Drops, Says, Does, FrontEnv, FrontPart, ack_sent, admitted_at, admitted_by, front_admitted_with, asked_by, assigns, front_begun, front_ended_by, front_fired_by, fires_at, front_admitted, front_asked, front_ended, front_gets, front_hears, front_taken, front_timer, handed_off, heard, hears_at, holds, is_row_at, leaves_by, message, met, placed, front_rest, front_rests, front_saying, settled_by, stage_after, tag_sent, taken_by, turn_here}
+use Rattle.lard_rules.specs.FrontReading.{Reading, front_reads}
 use Rattle.lard_handoff_back.specs.declared.row.BackConn.{BackConn}
 use Rattle.lard_handoff_back.specs.declared.row.BackConn.TheVariants as back
 use Rattle.lard_handoff_back.specs.declared.row.BackRow.{BackRow}
@@ -65,7 +65,7 @@ use Rattle.lard_rules.specs.declared.places.Ending.TheVariants as ending
 use Rattle.lard_rules.specs.declared.places.Station.{Station}
 use Rattle.lard_rules.specs.declared.places.Turn.{Turn}
 use Rattle.lard_rules.specs.Tombstone.{is_plain_syn, is_telling, last_ack, last_words, refusal, tombstone}
-use Rattle.lard_rules.specs.Serving.{Service, ready_of, serving, settled, spoken}
+use Rattle.lard_rules.specs.Serving.{Service, serving_ready_of, serving, serving_settled, spoken}
 use Rattle.lard_segment.specs.declared.segment.Ready.{Ready}
 use Rattle.lard_segment.specs.Segment.{IsSendable, Said as Segment}
 use Rattle.lard_seq.specs.Seq.{seq_offset}
@@ -89,13 +89,13 @@ past-over e d None h over = absurd over
 past-over e d (Some row) h over = omega (arith, h.0, over.0)
 
 -- an endpoint that agrees is between the two streams
-pub between-held : (w out : Stream) (vs pend : List Verdict) (b : ControlBlock) (count : ℕ) → HoldsIt w out vs pend b count → IsBetween w out b
+pub between-held : (w out : Stream) (vs pend : List Verdict) (b : ControlBlock) (count : ℕ) → HoldsItPending w out vs pend b count → IsBetween w out b
 between-held w out vs pend b count h = record { same_irs = h.sound.same_irs; speaks = h.speaks; out_is = h.out_is; hears = h.hears }
 
 -- ---- last words
 
 -- the last words on a connection that ended can be sent, and acknowledge what was taken
-words-may : (w : Stream) (was_reset : Bool) (why : Reason) (last : Final) (s : Segment) → IsStream w → s.ack < 2 ^ 32 → EndedIt w was_reset last
+words-may : (w : Stream) (was_reset : Bool) (why : Reason) (last : Final) (s : Segment) → IsStream w → s.ack < 2 ^ 32 → EndedWithNumbers w was_reset last
     → IfSome (last_words why last s) (λ o. IsSendable o × ReplyMay w.first (heard_at w.first (ending.Over last)) o)
 words-may w was_reset reason.Closed last s is fits h =
     let P : Option Segment → Type 0 = λ o. IfSome o (λ r. IsSendable r × ReplyMay w.first (heard_at w.first (ending.Over last)) r) in
@@ -123,7 +123,7 @@ words-may w was_reset reason.Limit last s is fits h =
 
 -- ---- one connection
 
-module _ (k : Setting) (small : k.stream ≤ 2 ^ 30) (x : Conn) (sound_x : IsSound x) (at_place : IsPlaced x) (s : Station) (l : Talk) (pend : List Verdict) (o : IsOpen k.files x l pend s) (heard_so : ℕ) (aborted : Bool) where
+module _ (k : Setting) (small : k.stream ≤ 2 ^ 30) (x : Conn) (sound_x : IsConnSound x) (at_place : IsPlaced x) (s : Station) (l : Talk) (pend : List Verdict) (o : IsOpen k.files x l pend s) (heard_so : ℕ) (aborted : Bool) where
   -- by the streams, what bounds the connection
   abbrev pub bounds : Bounds
   bounds = record { isn = l.w.first; iss = s.iss; heard = heard_so; taken = Acked.taken_by s.client; aborted = aborted }
@@ -144,15 +144,15 @@ module _ (k : Setting) (small : k.stream ≤ 2 ^ 30) (x : Conn) (sound_x : IsSou
     abbrev own : Owning
     own = owning (tale_at x)
 
-    abbrev Stays : Deed → Type 0
+    abbrev Stays : FrontDeed → Type 0
     Stays d = PlaceActs x (front_does x heads d) bounds
 
     dropped : Stays Drops
     dropped = idle-acts x (front_does x heads Drops) bounds (record { front = h.front; nodes = h.nodes; letters = tt })
 
     -- messages go out
-    says : (ms : List (Place × List ℕ)) → Each (LetterActs x.c bounds x.part) (map (letter Front) ms) → Stays (Says (saying ms))
-    says ms sent = idle-acts x (front_does x heads (Says (saying ms))) bounds (record { front = h.front; nodes = h.nodes; letters = sent })
+    says : (ms : List (Place × List ℕ)) → Each (LetterActs x.c bounds x.part) (map (letter Front) ms) → Stays (Says (front_saying ms))
+    says ms sent = idle-acts x (front_does x heads (Says (front_saying ms))) bounds (record { front = h.front; nodes = h.nodes; letters = sent })
 
     -- ---- an endpoint that is here
 
@@ -167,9 +167,9 @@ module _ (k : Setting) (small : k.stream ≤ 2 ^ 30) (x : Conn) (sound_x : IsSou
     Turns given = ServingActed env.serve.c l.w.first s.iss (Acked.taken_by s.client) aborted heard_so given
 
     ends-act : IsOurs → (row : FrontRow) (rest : FrontRest) (stays : ControlBlock → FrontConn) (given : Ending × Turn) (calls : List Call) → ((d : Bounds) (b : ControlBlock) → EndActs d (ending.Here b 0) → FrontStageActs d (stays b))
-        → Turns given → Stays (Does (record { part = rests p row rest stays given.0; turn = turn_here given.1; calls = calls }))
+        → Turns given → Stays (Does (record { part = front_rests p row rest stays given.0; turn = turn_here given.1; calls = calls }))
     ends-act ours row rest stays given calls stay act =
-        let d : Deed = Does (record { part = rests p row rest stays given.0; turn = turn_here given.1; calls = calls }) in
+        let d : FrontDeed = Does (record { part = front_rests p row rest stays given.0; turn = turn_here given.1; calls = calls }) in
         let v : Move = front_does x heads d in
         let then : ℕ = heard_at l.w.first given.0 in
         record {
@@ -190,7 +190,7 @@ module _ (k : Setting) (small : k.stream ≤ 2 ^ 30) (x : Conn) (sound_x : IsSou
     holds-act ours row rest given act = ends-act ours row rest stage.Held given [] (λ d b a. a) act
 
     waits-act : IsOurs → (row : FrontRow) (rest : FrontRest) (given : Ending × Turn) (calls : List Call) → Turns given
-        → Stays (Does (record { part = rests p row rest stage.Waiting given.0; turn = turn_here given.1; calls = calls }))
+        → Stays (Does (record { part = front_rests p row rest stage.Waiting given.0; turn = turn_here given.1; calls = calls }))
     waits-act ours row rest given calls act = ends-act ours row rest stage.Waiting given calls (λ d b a. a) act
 
     -- an endpoint that goes on from here took no less, and acknowledges no more than was taken
@@ -225,7 +225,7 @@ module _ (k : Setting) (small : k.stream ≤ 2 ^ 30) (x : Conn) (sound_x : IsSou
         waits-act ours row (record rest { target = Some path }) given (call.First env.serve.c path env.now ∷ leaves_by env.serve.c given.0) (says-act t [] goes tt)
 
     settled-act : IsOurs → (row : FrontRow) (rest : FrontRest) (w : Service) (t : Option (List ℕ)) → GoesOver w.block → Stays (settled_by env p row rest w t)
-    settled-act ours row rest w None goes = holds-act ours row rest (settled env.serve w) (settled-acts env.serve l.w s.iss (Acked.taken_by s.client) aborted is_stream heard_so w goes.0 goes.1 goes.2)
+    settled-act ours row rest w None goes = holds-act ours row rest (serving_settled env.serve w) (settled-acts env.serve l.w s.iss (Acked.taken_by s.client) aborted is_stream heard_so w goes.0 goes.1 goes.2)
     settled-act ours row rest w (Some path) goes = placed-act ours row rest w path (env.first path) goes
 
     abbrev within : env.serve.stream ≤ 2 ^ 30
@@ -242,7 +242,7 @@ module _ (k : Setting) (small : k.stream ≤ 2 ^ 30) (x : Conn) (sound_x : IsSou
     heard-act : IsOurs → (row : FrontRow) (rest : FrontRest) (b : ControlBlock) → GoesOver b → Stays (heard env p row rest b)
     heard-act ours row rest b goes =
         let start : Service = serving b rest.count [] in
-        let r : Reading = reads env.serve (record { service = start; target = None }) in
+        let r : Reading = front_reads env.serve (record { service = start; target = None }) in
         let read : Reads l.w s.iss b r.service.block = reads-serves l.w s.iss b env.serve within start ((refl, refl, refl, refl), goes.1) in
         settled-act ours row rest r.service r.target (reads-act b r.service goes read)
 
@@ -299,7 +299,7 @@ module _ (k : Setting) (small : k.stream ≤ 2 ^ 30) (x : Conn) (sound_x : IsSou
           )
 
       met-act : p.row ≡ None → Stays (met env p sd)
-      met-act none = cond_both (is_plain_syn sd) (begun env p sd) Drops Stays
+      met-act none = cond_both (is_plain_syn sd) (front_begun env p sd) Drops Stays
           (λ t.
           let row : FrontRow = record { stage = stage.Lent; epoch = record { 0 = 1 }; ended_by = None } in
           let start : Service = serving (listening sd env.iss) 0 (rec.Took Front env.serve.c (record { 0 = 1 }) ∷ []) in
@@ -315,7 +315,7 @@ module _ (k : Setting) (small : k.stream ≤ 2 ^ 30) (x : Conn) (sound_x : IsSou
             unoffered = λ n d. subst (λ (q : Option FrontRow). IsOffered n d q → ⊥) (sym none) (λ f. f);
             over = λ n d over. absurd (let less : d < 0 = past-over 0 d (nodes n).row (at.1 n) over in omega arith);
           } in
-          holds-act ours row (rest_of None) (spoken env.serve start []) (says-act start [] ((omega arith), (l.out, o.begins, between), (omega arith, λ f. absurd cc)) tt))
+          holds-act ours row (front_rest None) (spoken env.serve start []) (says-act start [] ((omega arith), (l.out, o.begins, between), (omega arith, λ f. absurd cc)) tt))
           (λ t. dropped)
 
       tombstone-act : (last : Final) → EndActs bounds (ending.Over last) → (w : Option Segment) → IfSome w (λ r. IsSendable r × ReplyMay l.w.first (heard_at l.w.first (ending.Over last)) r) → Stays (Says (turn_here (tombstone env.serve w)))
@@ -330,18 +330,18 @@ module _ (k : Setting) (small : k.stream ≤ 2 ^ 30) (x : Conn) (sound_x : IsSou
                 (replies-act x.c bounds x.part Front (tombstone env.serve (Some t)).segments (subst (λ (c : ℕ). RepliesMay c l.w.first heard_so (tombstone env.serve (Some t)).segments) is.number replies)) tt;
           })
 
-      forwards : (n : ℕ) (e : Epoch) → Stays (Says (saying ((Node n, message env.serve.c e.0 (body.Forward bytes)) ∷ [])))
+      forwards : (n : ℕ) (e : Epoch) → Stays (Says (front_saying ((Node n, message env.serve.c e.0 (body.Forward bytes)) ∷ [])))
       forwards n e = says ((Node n, message env.serve.c e.0 (body.Forward bytes)) ∷ []) (forward-acts bounds x.part x.c n env.serve.c e.0 bytes acts, tt)
 
       hears-at : (row : FrontRow) → p.row ≡ Some row → (st : FrontConn) → row.stage ≡ st → Stays (hears_at env p row bytes sd st)
       hears-at row found (stage.Held b) at =
-          heard-act (ours-at row (stage.Held b) found at tt) row (rest_of p.rest) (on_segment b sd).1
-          (goes-heard b (goes-here b (rest_of p.rest).count (acts-row row (stage.Held b) found at) (agrees-row row (stage.Held b) found at)))
+          heard-act (ours-at row (stage.Held b) found at tt) row (front_rest p.rest) (on_segment b sd).1
+          (goes-heard b (goes-here b (front_rest p.rest).count (acts-row row (stage.Held b) found at) (agrees-row row (stage.Held b) found at)))
       hears-at row found (stage.Waiting b) at =
-          let given : Ending × Turn = spoken env.serve (serving (on_segment b sd).1 (rest_of p.rest).count []) [] in
-          waits-act (ours-at row (stage.Waiting b) found at tt) row (rest_of p.rest) given (leaves_by env.serve.c given.0)
-          (says-act (serving (on_segment b sd).1 (rest_of p.rest).count []) []
-          (goes-heard b (goes-here b (rest_of p.rest).count (acts-row row (stage.Waiting b) found at) (agrees-row row (stage.Waiting b) found at).0)) tt)
+          let given : Ending × Turn = spoken env.serve (serving (on_segment b sd).1 (front_rest p.rest).count []) [] in
+          waits-act (ours-at row (stage.Waiting b) found at tt) row (front_rest p.rest) given (leaves_by env.serve.c given.0)
+          (says-act (serving (on_segment b sd).1 (front_rest p.rest).count []) []
+          (goes-heard b (goes-here b (front_rest p.rest).count (acts-row row (stage.Waiting b) found at) (agrees-row row (stage.Waiting b) found at).0)) tt)
       hears-at row found stage.Lent at = dropped
       hears-at row found (stage.Offering n e) at = forwards n e
       hears-at row found (stage.Moved n e) at = forwards n e
@@ -359,18 +359,18 @@ module _ (k : Setting) (small : k.stream ≤ 2 ^ 30) (x : Conn) (sound_x : IsSou
     -- ---- timers
 
     -- behind the segment that its timer sends
-    fired-act : (b : ControlBlock) (count : ℕ) → GoesOver b → Turns (spoken env.serve (serving (after_timer b) count []) (ready_of env.serve (after_timer b) (timed b)))
+    fired-act : (b : ControlBlock) (count : ℕ) → GoesOver b → Turns (spoken env.serve (serving (after_timer b) count []) (serving_ready_of env.serve (after_timer b) (timed b)))
     fired-act b count goes =
         let left = timer-left b in
         let recv : heard_by (after_timer b).recv ≡ heard_by b.recv = ap heard_by left.0 in
-        says-act (serving (after_timer b) count []) (ready_of env.serve (after_timer b) (timed b)) (
+        says-act (serving (after_timer b) count []) (serving_ready_of env.serve (after_timer b) (timed b)) (
           (let le = goes.0 in omega arith),
           (goes.1.0, goes.1.1, between-timed l.w goes.1.0 b goes.1.2),
           ((let same = left.1 in let le = goes.2.0 in omega arith), λ t. goes.2.1 (sym left.2 ∙ t)),
         )
-        (subst (λ (n : ℕ). RepliesMay env.serve.c l.w.first n (ready_of env.serve (after_timer b) (timed b))) (sym recv) (replies (timed b) refl))
+        (subst (λ (n : ℕ). RepliesMay env.serve.c l.w.first n (serving_ready_of env.serve (after_timer b) (timed b))) (sym recv) (replies (timed b) refl))
       where
-        replies : (r : Option Ready) → timed b ≡ r → RepliesMay env.serve.c l.w.first (heard_by b.recv) (ready_of env.serve (after_timer b) r)
+        replies : (r : Option Ready) → timed b ≡ r → RepliesMay env.serve.c l.w.first (heard_by b.recv) (serving_ready_of env.serve (after_timer b) r)
         replies None e = tt
         replies (Some r) e = let may = timed-may l.w goes.1.0 b r goes.1.2 e in ((refl, (filled (after_timer b) r, refl, may.0, may.1)), tt)
 
@@ -380,16 +380,16 @@ module _ (k : Setting) (small : k.stream ≤ 2 ^ 30) (x : Conn) (sound_x : IsSou
 
     fires-at : (row : FrontRow) → p.row ≡ Some row → (st : FrontConn) → row.stage ≡ st → Stays (fires_at env p row st)
     fires-at row found (stage.Held b) at =
-        holds-act (ours-at row (stage.Held b) found at tt) row (rest_of p.rest) _
-        (fired-act b (rest_of p.rest).count (goes-here b (rest_of p.rest).count (acts-row row (stage.Held b) found at) (agrees-row row (stage.Held b) found at)))
+        holds-act (ours-at row (stage.Held b) found at tt) row (front_rest p.rest) _
+        (fired-act b (front_rest p.rest).count (goes-here b (front_rest p.rest).count (acts-row row (stage.Held b) found at) (agrees-row row (stage.Held b) found at)))
     fires-at row found (stage.Waiting b) at =
-        let given : Ending × Turn = spoken env.serve (serving (after_timer b) (rest_of p.rest).count []) (ready_of env.serve (after_timer b) (timed b)) in
-        waits-act (ours-at row (stage.Waiting b) found at tt) row (rest_of p.rest) given (leaves_by env.serve.c given.0)
-        (fired-act b (rest_of p.rest).count (goes-here b (rest_of p.rest).count (acts-row row (stage.Waiting b) found at) (agrees-row row (stage.Waiting b) found at).0))
+        let given : Ending × Turn = spoken env.serve (serving (after_timer b) (front_rest p.rest).count []) (serving_ready_of env.serve (after_timer b) (timed b)) in
+        waits-act (ours-at row (stage.Waiting b) found at tt) row (front_rest p.rest) given (leaves_by env.serve.c given.0)
+        (fired-act b (front_rest p.rest).count (goes-here b (front_rest p.rest).count (acts-row row (stage.Waiting b) found at) (agrees-row row (stage.Waiting b) found at).0))
     fires-at row found (stage.Offering n e) at = says (map sent_of p.kept) (resent-letters p.kept sound_x.front)
     fires-at row found _ at = dropped
 
-    fires : (q : Option FrontRow) → p.row ≡ q → Stays (fired_by env p q)
+    fires : (q : Option FrontRow) → p.row ≡ q → Stays (front_fired_by env p q)
     fires None found = dropped
     fires (Some row) found = fires-at row found row.stage refl
 
@@ -413,14 +413,14 @@ module _ (k : Setting) (small : k.stream ≤ 2 ^ 30) (x : Conn) (sound_x : IsSou
     asked-by n epoch ask None = dropped
     asked-by n epoch ask (Some rest) =
         let w : Later = env.later ask in
-        let d : Deed = Does (assigns env p rest n epoch ask w) in
-        cond_both (ask.number == rest.asks + 1) d (cond (ask.number == rest.asks && nat_lt 0 rest.asks) (Says (saying (tag_sent env n epoch rest.asks rest.tag))) Drops) Stays
+        let d : FrontDeed = Does (assigns env p rest n epoch ask w) in
+        cond_both (ask.number == rest.asks + 1) d (cond (ask.number == rest.asks && nat_lt 0 rest.asks) (Says (front_saying (tag_sent env n epoch rest.asks rest.tag))) Drops) Stays
         (λ t. idle-acts x (front_does x heads d) bounds (record { front = h.front; nodes = h.nodes; letters = tag-letters n epoch ask.number (map (λ y. y.node) w.choices) (front_does x heads d).part }))
-        (λ t. cond_both (ask.number == rest.asks && nat_lt 0 rest.asks) (Says (saying (tag_sent env n epoch rest.asks rest.tag))) Drops Stays
+        (λ t. cond_both (ask.number == rest.asks && nat_lt 0 rest.asks) (Says (front_saying (tag_sent env n epoch rest.asks rest.tag))) Drops Stays
         (λ u. says (tag_sent env n epoch rest.asks rest.tag) (tag-letters n epoch rest.asks rest.tag x.part)) (λ u. dropped))
 
     pub asked-act : (n epoch : ℕ) (ask : Ask) → Stays (front_asked env p n epoch ask)
-    asked-act n epoch ask = cond_both (is_at n epoch p.row) (asked_by env p n epoch ask p.rest) Drops Stays (λ t. asked-by n epoch ask p.rest) (λ t. dropped)
+    asked-act n epoch ask = cond_both (is_row_at n epoch p.row) (asked_by env p n epoch ask p.rest) Drops Stays (λ t. asked-by n epoch ask p.rest) (λ t. dropped)
 
     ack-letters : (n epoch : ℕ) (q : Part) → Each (LetterActs x.c bounds q) (map (letter Front) (ack_sent env n epoch))
     ack-letters n epoch q = (other-front bounds q x.c n env.serve.c epoch body.EndedAck (λ i. cc) (λ i. cc), tt)
@@ -432,19 +432,19 @@ module _ (k : Setting) (small : k.stream ≤ 2 ^ 30) (x : Conn) (sound_x : IsSou
     away-epoch e row_epoch _ sits away = let no : false ≡ true = away in absurd cc
 
     module _ (n epoch : ℕ) (last : Final) (told : HasEnded epoch p.row ⊎ EndActs bounds (ending.Over last)) where
-      ended-new : (row : FrontRow) → p.row ≡ Some row → is_away epoch row.stage ≡ true → Stays (ended_by env p n epoch last (Some row) (New (next_epoch row)))
+      ended-new : (row : FrontRow) → p.row ≡ Some row → is_away epoch row.stage ≡ true → Stays (front_ended_by env p n epoch last (Some row) (New (next_epoch row)))
       ended-new row found away =
-          let v : Move = front_does x heads (ended_by env p n epoch last (Some row) (New (next_epoch row))) in
+          let v : Move = front_does x heads (front_ended_by env p n epoch last (Some row) (New (next_epoch row))) in
           let same : row.epoch.0 ≡ epoch = away-epoch epoch row.epoch.0 row.stage (sits-row row found) away in
           let act : EndActs bounds (ending.Over last) = ⊎_elim
           (λ (e : HasEnded epoch p.row). absurd (let less : epoch < row.epoch.0 = subst (HasEnded epoch) found e in omega (arith, less, same)))
           (λ (a : EndActs bounds (ending.Over last)). a) told in
           idle-acts x v bounds (record { front = act; nodes = h.nodes; letters = ack-letters n epoch v.part })
 
-      ended-row : (q : Option FrontRow) → p.row ≡ q → Stays (ended_by env p n epoch last q (end_answer epoch q))
+      ended-row : (q : Option FrontRow) → p.row ≡ q → Stays (front_ended_by env p n epoch last q (end_answer epoch q))
       ended-row None found = dropped
       ended-row (Some row) found = go (is_away epoch row.stage) refl (ended_with epoch row.ended_by) where
-        go : (a : Bool) → is_away epoch row.stage ≡ a → (b : Bool) → Stays (ended_by env p n epoch last (Some row) (cond a (New (next_epoch row)) (cond b Again Stale)))
+        go : (a : Bool) → is_away epoch row.stage ≡ a → (b : Bool) → Stays (front_ended_by env p n epoch last (Some row) (cond a (New (next_epoch row)) (cond b Again Stale)))
         go true away b = ended-new row found away
         go false away true = says (ack_sent env n epoch) (ack-letters n epoch x.part)
         go false away false = dropped
@@ -458,17 +458,17 @@ module _ (k : Setting) (small : k.stream ≤ 2 ^ 30) (x : Conn) (sound_x : IsSou
     Admitted given = PlaceActs x (front_does x heads (Does (record { part = given.0; turn = given.1; calls = [] }))) bounds
 
     module _ (choice : FirstChoice) (given : FrontPart × FrontTurn) where
-      admitted-with : (row : FrontRow) (b : ControlBlock) (t : Option (List ℕ)) → p.row ≡ Some row → row.stage ≡ stage.Waiting b → admitted_with env row (rest_of p.rest) b choice t ≡ Some given → Admitted given
+      admitted-with : (row : FrontRow) (b : ControlBlock) (t : Option (List ℕ)) → p.row ≡ Some row → row.stage ≡ stage.Waiting b → front_admitted_with env row (front_rest p.rest) b choice t ≡ Some given → Admitted given
       admitted-with row b None found at e = let no : None ≡ Some given = e in absurd cc
       admitted-with row b (Some path) found at e =
-          let w : Service = serving b (rest_of p.rest).count [] in
+          let w : Service = serving b (front_rest p.rest).count [] in
           let handed : FrontPart × FrontTurn = handed_off env row w path choice in
           let same : handed ≡ given = cc in
           subst Admitted same (handed-act (ours-at row (stage.Waiting b) found at tt) row w path choice []
-          (goes-here b (rest_of p.rest).count (acts-row row (stage.Waiting b) found at) (agrees-row row (stage.Waiting b) found at).0))
+          (goes-here b (front_rest p.rest).count (acts-row row (stage.Waiting b) found at) (agrees-row row (stage.Waiting b) found at).0))
 
       admitted-at : (row : FrontRow) (st : FrontConn) → p.row ≡ Some row → row.stage ≡ st → admitted_at env p choice row st ≡ Some given → Admitted given
-      admitted-at row (stage.Waiting b) found at e = admitted-with row b (rest_of p.rest).target found at e
+      admitted-at row (stage.Waiting b) found at e = admitted-with row b (front_rest p.rest).target found at e
       admitted-at row _ found at e = let no : None ≡ Some given = e in absurd cc
 
       admitted-by : (q : Option FrontRow) → p.row ≡ q → admitted_by env p choice q ≡ Some given → Admitted given

@@ -4,7 +4,7 @@ use Rattle.lard_base.specs.declared.parts.EndpointParts.{EndpointParts}
 use Rattle.lard_base.specs.declared.place.Place.{Place}
 use Rattle.lard_base.specs.declared.place.Place.TheVariants.{Client, Front, Node}
 use Rattle.lard_laws.specs.Acks.{BackActs, Bounds, EndActs, FrontActs, FrontBodyActs, LetterActs, LetterActsOn, NodeBodyActs, PartsAct, ReplyActs, WordActs}
-use Rattle.lard_law_connections.specs.Places.{FrontSaid, HasEnded, IsDecided, IsOffered, IsOver, LetterMay, MaySay, NodeSaid, head_of}
+use Rattle.lard_law_connections.specs.Places.{FrontSaid, HasEnded, IsDecided, IsOffered, IsOver, LetterMay, MaySay, NodeSaid, message_head}
 use Rattle.lard_law_connections.proofs.PlacesGrowing.{Grows, decided-grows, ended-grows}
 use Rattle.lard_law_connections.proofs.PlacesHeads.{decoded-head}
 use Rattle.lard_law_view.specs.View.{Part, letter}
@@ -130,7 +130,7 @@ module _ (c : ℕ) (b d : Bounds) (p q : Part) (on : GoesOn b d p q) where
   node-body-on n e (body.Ended reason snd rcv count) said h = end-on n e (ending.Over (record { reason = reason; snd = record { 0 = snd }; rcv = record { 0 = rcv } })) said h
   node-body-on n e _ said h = tt
 
-  letter-on : (from to : Place) (bytes : List ℕ) → MaySay p from to (head_of bytes) → LetterActsOn c b p from to bytes → LetterActsOn c d q from to bytes
+  letter-on : (from to : Place) (bytes : List ℕ) → MaySay p from to (message_head bytes) → LetterActsOn c b p from to bytes → LetterActsOn c d q from to bytes
   letter-on (Client e) Front bytes said h = words-more b d on.widens c bytes h
   letter-on Front (Client e) bytes said h = replies-more b d on.widens c bytes h
   letter-on (Node n) (Client e) bytes said h = replies-more b d on.widens c bytes h

@@ -19,7 +19,7 @@ use Rattle.lard_message.specs.declared.kind.Kind.TheVariants as kind
 use Rattle.lard_message.specs.declared.message.Body.{Body}
 use Rattle.lard_message.specs.declared.message.Body.TheVariants as body
 use Rattle.lard_message.specs.declared.message.Message.{Message}
-use Rattle.lard_message.specs.Message.{counted, flag_byte, kind_of, parts_bytes}
+use Rattle.lard_message.specs.Message.{counted_bytes, flag_byte, kind_of, parts_bytes}
 use Rattle.lard_message.specs.Reading.{counted_at, decoded_message, flag_at, number_at, offer_at, parts_at}
 use Rattle.lard_message.proofs.Fields.{bind_then, flag_again, number_again, some_same, wide32}
 use Rattle.lard_rules.specs.declared.places.Ending.TheVariants as ending
@@ -47,7 +47,7 @@ numbers_in p = (p.got, p.fin, p.una)
 
 module _ (p : EndpointParts) (got_fits : p.got < 2 ^ 32) (una_fits : p.una < 2 ^ 32) where
   abbrev r6 : List ℕ
-  r6 = to_be_bytes w16 p.wnd ++ to_be_bytes w32 p.wl1 ++ to_be_bytes w32 p.wl2 ++ to_be_bytes w16 p.mss ++ to_be_bytes w32 p.served ++ counted p.unread
+  r6 = to_be_bytes w16 p.wnd ++ to_be_bytes w32 p.wl1 ++ to_be_bytes w32 p.wl2 ++ to_be_bytes w16 p.mss ++ to_be_bytes w32 p.served ++ counted_bytes p.unread
 
   abbrev r5 : List ℕ
   r5 = to_be_bytes w32 p.una ++ r6

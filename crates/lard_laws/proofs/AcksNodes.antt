@@ -7,7 +7,7 @@ use Rattle.lard_base.specs.declared.parts.EndpointParts.{EndpointParts}
 use Rattle.lard_base.specs.declared.place.Place.{Place}
 use Rattle.lard_base.specs.declared.place.Place.TheVariants.{Front, Node}
 use Rattle.lard_base.specs.declared.place.TimerKind.TheVariants as timer
-use Rattle.lard_rules.specs.Bounds.{IsNumber}
+use Rattle.lard_rules.specs.Bounds.{IsConnNumber}
 use Rattle.lard_laws.specs.Acks.{ActsWithin, BackActs, BackStageActs, Bounds, EndActs, FrontActs, FrontStageActs, LetterActs, PartsAct}
 use Rattle.lard_laws.proofs.AcksFronts as fronts
 use Rattle.lard_laws.proofs.AcksFronts.{between-held, past-acts, past-over}
@@ -26,7 +26,7 @@ use Rattle.lard_law_connections.proofs.PlacesFrontRules.{has-each}
 use Rattle.lard_law_connections.proofs.PlacesNodeRules.{by-node, past-held}
 use Rattle.lard_law_connections.proofs.PlacesTurns.{IsPlaced}
 use Rattle.lard_law_view.specs.Carry.{tale_at}
-use Rattle.lard_law_view.specs.View.{AreSent, Conn, IsNodeEnv, IsSound, Move, Part, Setting, Spells, Was, epoch_in, letter, node_does, node_put, with_node}
+use Rattle.lard_law_view.specs.View.{AreSent, Conn, IsNodeEnv, IsConnSound, Move, Part, Setting, SpellsMessage, Was, epoch_in, letter, node_does, node_put_back, with_node}
 use Rattle.lard_law_view.proofs.Parts.{put-each, put-same}
 use Rattle.lard_endpoint.specs.Arriving.{on_segment}
 use Rattle.lard_endpoint.specs.Control.{ControlBlock}
@@ -36,8 +36,8 @@ use Rattle.lard_handoff_back.specs.declared.row.BackConn.{BackConn}
 use Rattle.lard_handoff_back.specs.declared.row.BackConn.TheVariants as back
 use Rattle.lard_handoff_back.specs.declared.row.BackRow.{BackRow}
 use Rattle.lard_handoff_back.specs.declared.table.Adopt.TheVariants.{New, Again, Stale}
-use Rattle.lard_handoff_back.specs.Back.{awaits_ack, endpoint_of, offer_answer, staying}
-use Rattle.lard_handoff_back.specs.Row.{held_in, is_gone}
+use Rattle.lard_handoff_back.specs.Back.{awaits_ack, back_endpoint, offer_answer, staying}
+use Rattle.lard_handoff_back.specs.Row.{back_held, is_gone}
 use Rattle.lard_handoff_front.specs.declared.row.FrontConn.{FrontConn}
 use Rattle.lard_handoff_front.specs.declared.row.FrontConn.TheVariants as stage
 use Rattle.lard_handoff_front.specs.declared.row.FrontRow.{FrontRow}
@@ -57,7 +57,7 @@ use Rattle.lard_message.specs.declared.message.Body.TheVariants as body
 use Rattle.lard_rules.specs.declared.stay.Asked.{Asked}
 use Rattle.lard_rules.specs.declared.stay.Stay.{Stay}
 use Rattle.lard_rules.specs.declared.stay.Want.{Want}
-use Rattle.lard_rules.specs.Node.{Deed, Drops, Says, Does, NodePart, again_sent, asked_sent, begins, both_of, come_by, count_of, ended_sent, fired, fired_by, gone, here, is_awaited, kept_after, node_acknowledged, node_content, node_forwarded, node_offered, node_read, node_tagged, node_timer, offered_by, read_by, saying, tagged_by, taken_sent, turn_by, wants_sent, with_work, work_of}
+use Rattle.lard_rules.specs.Node.{NodeDeed, Drops, Says, Does, NodePart, again_sent, asked_sent, node_begins, both_of, come_by, reset_count, ended_sent, node_fired, node_fired_by, gone, here, is_tag_awaited, kept_after, node_acknowledged, node_content, node_forwarded, node_offered, node_read, node_tagged, node_timer, offered_by, node_read_by, node_saying, tagged_by, taken_sent, turn_by, wants_sent, with_work, work_of}
 use Rattle.lard_rules.specs.Node as node_rules
 use Rattle.lard_rules.specs.Stay.{NodeEnv, Work, came_for, come_progress, goes_on, read_progress, reads_batch, tagged}
 use Rattle.lard_request.specs.declared.verdict.Verdict.{Verdict}
@@ -69,7 +69,7 @@ use Rattle.lard_rules.specs.declared.places.Ending.TheVariants as ending
 use Rattle.lard_rules.specs.declared.places.Station.{Station}
 use Rattle.lard_rules.specs.declared.places.Turn.{Turn}
 use Rattle.lard_rules.specs.Loop.{state_of}
-use Rattle.lard_rules.specs.Serving.{ServeEnv, Service, cut_off, ready_of, serving, settled, spoken}
+use Rattle.lard_rules.specs.Serving.{ServeEnv, Service, cut_off, serving_ready_of, serving, serving_settled, spoken}
 use Rattle.lard_rules.specs.Speaking.{speaks}
 use Rattle.lard_segment.specs.declared.segment.Ready.{Ready}
 use Rattle.lard_segment.specs.Segment.{Said as Segment}
@@ -87,7 +87,7 @@ spoken-fits env s before =
     let b : ControlBlock = (speaks env.c s.block).1 in
     cond_both (may_end b) (ending.Over (final_of b (end_reason b))) (ending.Here b s.count) EndFits (λ t. (omega arith, omega arith)) (λ t. tt)
 
-settled-fits : (env : ServeEnv) (s : Service) → EndFits (settled env s).0
+settled-fits : (env : ServeEnv) (s : Service) → EndFits (serving_settled env s).0
 settled-fits env s = go s.over where
   go : (o : Option ℕ) → EndFits (elim o as (λ p. Ending × Turn) [ None ↦ spoken env s [] | Some total ↦ cut_off env s ]).0
   go None = spoken-fits env s []
@@ -95,7 +95,7 @@ settled-fits env s = go s.over where
 
 -- ---- one connection
 
-module _ (k : Setting) (small : k.stream ≤ 2 ^ 30) (x : Conn) (number : IsNumber x.c) (sound_x : IsSound x) (at_place : IsPlaced x) (s : Station) (l : Talk) (pend : List Verdict) (o : IsOpen k.files x l pend s) (heard_so : ℕ) (aborted : Bool) where
+module _ (k : Setting) (small : k.stream ≤ 2 ^ 30) (x : Conn) (number : IsConnNumber x.c) (sound_x : IsConnSound x) (at_place : IsPlaced x) (s : Station) (l : Talk) (pend : List Verdict) (o : IsOpen k.files x l pend s) (heard_so : ℕ) (aborted : Bool) where
   abbrev bounds : Bounds
   bounds = record { isn = l.w.first; iss = s.iss; heard = heard_so; taken = Acked.taken_by s.client; aborted = aborted }
 
@@ -169,7 +169,7 @@ module _ (k : Setting) (small : k.stream ≤ 2 ^ 30) (x : Conn) (number : IsNumb
       here_is : IsHere n e
       goes : GoesOver b
 
-    held-stage : (st : BackConn) (b : ControlBlock) → held_in st ≡ Some b → st ≡ back.Here b
+    held-stage : (st : BackConn) (b : ControlBlock) → back_held st ≡ Some b → st ≡ back.Here b
     held-stage (back.Here c) b e = let same : c ≡ b = cc in ap back.Here same
     held-stage _ b e = let no : None ≡ Some b = e in absurd cc
 
@@ -177,7 +177,7 @@ module _ (k : Setting) (small : k.stream ≤ 2 ^ 30) (x : Conn) (number : IsNumb
     stay-between b None agrees = absurd agrees
     stay-between b (Some t) agrees = between-held l.w l.out l.vs pend b t.served agrees.1
 
-    has-row : (n : ℕ) (row : BackRow) (b : ControlBlock) → (nodes n).row ≡ Some row → held_in row.stage ≡ Some b → HasIt n row.epoch.0 b
+    has-row : (n : ℕ) (row : BackRow) (b : ControlBlock) → (nodes n).row ≡ Some row → back_held row.stage ≡ Some b → HasIt n row.epoch.0 b
     has-row n row b is held =
         let at : row.stage ≡ back.Here b = held-stage row.stage b held in
         let act : BackStageActs bounds (back.Here b) = subst (BackStageActs bounds) at (subst (BackActs bounds) is (h.nodes n)) in
@@ -203,7 +203,7 @@ module _ (k : Setting) (small : k.stream ≤ 2 ^ 30) (x : Conn) (number : IsNumb
       go : (q : Option BackRow) → (nodes n).row ≡ q → staying e q ≡ Some b → HasIt n e b
       go None found held = let no : None ≡ Some b = held in absurd cc
       go (Some row) found held = by_epoch (row.epoch.0 == e) refl held where
-        by_epoch : (t : Bool) → (row.epoch.0 == e) ≡ t → cond t (held_in row.stage) None ≡ Some b → HasIt n e b
+        by_epoch : (t : Bool) → (row.epoch.0 == e) ≡ t → cond t (back_held row.stage) None ≡ Some b → HasIt n e b
         by_epoch true same at = subst (λ (d : ℕ). HasIt n d b) (eqb-true row.epoch.0 e same) (has-row n row b found at)
         by_epoch false same at = let no : None ≡ Some b = at in absurd cc
 
@@ -213,7 +213,7 @@ module _ (k : Setting) (small : k.stream ≤ 2 ^ 30) (x : Conn) (number : IsNumb
       abbrev ours : NodePart
       ours = x.part.nodes n
 
-      abbrev Stays : Deed → Type 0
+      abbrev Stays : NodeDeed → Type 0
       Stays d = PlaceActs x (node_does x n heads d) bounds
 
       abbrev within : env.serve.stream ≤ 2 ^ 30
@@ -263,7 +263,7 @@ module _ (k : Setting) (small : k.stream ≤ 2 ^ 30) (x : Conn) (number : IsNumb
 
       ended-tells : (b : Bounds) (q : Part) (over : Option ℕ) (e : Ending) → EndFits e → EndActs b e → Tells b q (ended_sent env over e)
       ended-tells b q over (ending.Here block count) fits act = tt
-      ended-tells b q over (ending.Over last) fits act = (ended-acts b q x.c n env.serve.c env.epoch (count_of over) last fits.0 fits.1 act, tt)
+      ended-tells b q over (ending.Over last) fits act = (ended-acts b q x.c n env.serve.c env.epoch (reset_count over) last fits.0 fits.1 act, tt)
 
       row-acts : (b : Bounds) (p : NodePart) (w : Work) (e : Ending) → EndActs b e → BackActs b (kept_after env p w e).row
       row-acts b p w (ending.Here block count) act = act
@@ -277,11 +277,11 @@ module _ (k : Setting) (small : k.stream ≤ 2 ^ 30) (x : Conn) (number : IsNumb
       Turns given = ServingActed env.serve.c l.w.first s.iss (Acked.taken_by s.client) aborted heard_so given
 
       -- where the connection is here, each Offer is decided behind its turn
-      all-decided : IsHere n env.epoch → (p : NodePart) (w : Work) (e : Ending) (m d : ℕ) → IsOffered m d x.part.front.row → IsDecided d (node_put nodes n (kept_after env p w e) m).row
+      all-decided : IsHere n env.epoch → (p : NodePart) (w : Work) (e : Ending) (m d : ℕ) → IsOffered m d x.part.front.row → IsDecided d (node_put_back nodes n (kept_after env p w e) m).row
       all-decided it p w e m d offered =
           let q : NodePart = kept_after env p w e in
           let at = it.offered m d offered in
-          subst (λ (j : ℕ). IsDecided d (node_put nodes n q j).row) (sym at.0) (subst (λ (r : NodePart). IsDecided d r.row) (sym (put-same nodes n q)) (row-decided p w e d at.1))
+          subst (λ (j : ℕ). IsDecided d (node_put_back nodes n q j).row) (sym at.0) (subst (λ (r : NodePart). IsDecided d r.row) (sym (put-same nodes n q)) (row-decided p w e d at.1))
 
       -- a turn of the node that has it
       turn-act : IsHere n env.epoch → (part : NodePart) (before : List (Place × List ℕ)) (work : Work) (given : Ending × Turn) → Turns given → EndFits given.0
@@ -308,9 +308,9 @@ module _ (k : Setting) (small : k.stream ≤ 2 ^ 30) (x : Conn) (number : IsNumb
           }
 
       works-act : IsHere n env.epoch → (part : NodePart) (before : List (Place × List ℕ)) (work : Work) → GoesOver work.service.block → ((b : Bounds) (q : Part) → Tells b q before) → Stays (with_work env part before work)
-      works-act it part before work goes first = turn-act it part before work (settled env.serve work.service)
+      works-act it part before work goes first = turn-act it part before work (serving_settled env.serve work.service)
           (settled-acts env.serve l.w s.iss (Acked.taken_by s.client) aborted is_stream heard_so work.service goes.0 goes.1 goes.2) (settled-fits env.serve work.service)
-          (first (record bounds { heard = heard_at l.w.first (settled env.serve work.service).0 }) (with_node x.part n (kept_after env part work (settled env.serve work.service).0)))
+          (first (record bounds { heard = heard_at l.w.first (serving_settled env.serve work.service).0 }) (with_node x.part n (kept_after env part work (serving_settled env.serve work.service).0)))
 
       -- behind the node's reading it goes on so
       reads-act : (b : ControlBlock) (w : Service) → GoesOver b → Reads l.w s.iss b w.block → GoesOver w.block
@@ -335,7 +335,7 @@ module _ (k : Setting) (small : k.stream ≤ 2 ^ 30) (x : Conn) (number : IsNumb
 
       -- ---- a segment that was forwarded
 
-      heard-by : (sd : Segment) → IsWord l.w sd → WordMay s.iss (Acked.taken_by s.client) aborted sd → (q : Option (ControlBlock × Stay)) → here env.epoch ours ≡ q → Stays (node_rules.heard_by env ours (Ok sd) q)
+      heard-by : (sd : Segment) → IsWord l.w sd → WordMay s.iss (Acked.taken_by s.client) aborted sd → (q : Option (ControlBlock × Stay)) → here env.epoch ours ≡ q → Stays (node_rules.node_heard_by env ours (Ok sd) q)
       heard-by sd word may None e = dropped
       heard-by sd word may (Some y) e =
           let it : HasIt n env.epoch y.0 = here-has n env.epoch y.0 y.1 e in
@@ -355,7 +355,7 @@ module _ (k : Setting) (small : k.stream ≤ 2 ^ 30) (x : Conn) (number : IsNumb
 
       tagged-by : (number : ℕ) (tags : List ℕ) (q : Option (ControlBlock × Stay)) → here env.epoch ours ≡ q → Stays (tagged_by env number tags ours q)
       tagged-by number tags None e = dropped
-      tagged-by number tags (Some y) e = cond_both (is_awaited env number tags ours y.1) _ Drops Stays
+      tagged-by number tags (Some y) e = cond_both (is_tag_awaited env number tags ours y.1) _ Drops Stays
           (λ t.
           let it : HasIt n env.epoch y.0 = here-has n env.epoch y.0 y.1 e in
           goes-act it.here_is (record ours { kept = without timer.Ask 0 ours.kept }) y.0 (tagged env tags (work_of y.0 y.1)) it.goes
@@ -377,7 +377,7 @@ module _ (k : Setting) (small : k.stream ≤ 2 ^ 30) (x : Conn) (number : IsNumb
       pub content-act : (from r : ℕ) → Stays (node_content env ours from r)
       content-act from r = come-by from r (here env.epoch ours) refl
 
-      read-by : (r : ℕ) (q : Option (ControlBlock × Stay)) → here env.epoch ours ≡ q → Stays (read_by env r ours q)
+      read-by : (r : ℕ) (q : Option (ControlBlock × Stay)) → here env.epoch ours ≡ q → Stays (node_read_by env r ours q)
       read-by r None e = dropped
       read-by r (Some y) e =
           let it : HasIt n env.epoch y.0 = here-has n env.epoch y.0 y.1 e in
@@ -396,8 +396,8 @@ module _ (k : Setting) (small : k.stream ≤ 2 ^ 30) (x : Conn) (number : IsNumb
       pub acknowledged-act : Stays (node_acknowledged env ours)
       acknowledged-act =
           let q : NodePart = record ours { row = gone ours.row; kept = without timer.Ended 0 ours.kept } in
-          cond_both (awaits_ack env.epoch ours.row) (Does (q, saying [])) Drops Stays
-          (λ t. idle-acts x (node_does x n heads (Does (q, saying []))) bounds (record {
+          cond_both (awaits_ack env.epoch ours.row) (Does (q, node_saying [])) Drops Stays
+          (λ t. idle-acts x (node_does x n heads (Does (q, node_saying []))) bounds (record {
             front = h.front;
             nodes = put-each nodes n q (λ m r. BackActs bounds r.row) (gone-acts ours.row) (λ m other. h.nodes m);
             letters = tt;
@@ -410,12 +410,12 @@ module _ (k : Setting) (small : k.stream ≤ 2 ^ 30) (x : Conn) (number : IsNumb
       again-tells = sent-acts (ours.kept ++ ours.fetches) again-sent
 
       here-fires : (b : ControlBlock) (t : Stay) → HasIt n env.epoch b
-          → (let given : Ending × Turn = spoken env.serve (serving (after_timer b) t.served []) (ready_of env.serve (after_timer b) (timed b)) in Grows x.part (node_does x n heads (Does (fired env ours (b, t) given))).part → Stays (Does (fired env ours (b, t) given)))
+          → (let given : Ending × Turn = spoken env.serve (serving (after_timer b) t.served []) (serving_ready_of env.serve (after_timer b) (timed b)) in Grows x.part (node_does x n heads (Does (node_fired env ours (b, t) given))).part → Stays (Does (node_fired env ours (b, t) given)))
       here-fires b t it grows =
           let goes : GoesOver b = it.goes in
           let left = timer-left b in
           let recv : heard_by (after_timer b).recv ≡ heard_by b.recv = ap heard_by left.0 in
-          let before : List (Place × List ℕ) = ready_of env.serve (after_timer b) (timed b) in
+          let before : List (Place × List ℕ) = serving_ready_of env.serve (after_timer b) (timed b) in
           let given : Ending × Turn = spoken env.serve (serving (after_timer b) t.served []) before in
           let act : Turns given = spoken-acts env.serve l.w s.iss (Acked.taken_by s.client) aborted is_stream heard_so (serving (after_timer b) t.served []) before
           (let le = goes.0 in omega arith) (goes.1.0, goes.1.1, between-timed l.w goes.1.0 b goes.1.2)
@@ -433,28 +433,28 @@ module _ (k : Setting) (small : k.stream ≤ 2 ^ 30) (x : Conn) (number : IsNumb
           })
           (map (letter (Node n)) (again_sent ours)) (sent-may (ours.kept ++ ours.fetches) again-sent) again-tells)
         where
-          replies : (goes : GoesOver b) (r : Option Ready) → timed b ≡ r → RepliesMay env.serve.c l.w.first (heard_by b.recv) (ready_of env.serve (after_timer b) r)
+          replies : (goes : GoesOver b) (r : Option Ready) → timed b ≡ r → RepliesMay env.serve.c l.w.first (heard_by b.recv) (serving_ready_of env.serve (after_timer b) r)
           replies goes None e = tt
           replies goes (Some r) e = let may = timed-may l.w goes.1.0 b r goes.1.2 e in ((refl, (filled (after_timer b) r, refl, may.0, may.1)), tt)
 
-      abbrev Fires : Deed → Type 0
+      abbrev Fires : NodeDeed → Type 0
       Fires d = Grows x.part (node_does x n heads d).part → Stays d
 
-      held-row : (q : Option BackRow) → ours.row ≡ q → env.epoch ≡ elim q [ None ↦ 0 | Some row ↦ row.epoch.0 ] → (b : ControlBlock) → endpoint_of q ≡ Some b → HasIt n env.epoch b
+      held-row : (q : Option BackRow) → ours.row ≡ q → env.epoch ≡ elim q [ None ↦ 0 | Some row ↦ row.epoch.0 ] → (b : ControlBlock) → back_endpoint q ≡ Some b → HasIt n env.epoch b
       held-row None found same b e = let no : None ≡ Some b = e in absurd cc
       held-row (Some row) found same b e = subst (λ (d : ℕ). HasIt n d b) (sym same) (has-row n row b found e)
 
-      fires-by : env.epoch ≡ epoch_in ours → (q : Option ControlBlock) → endpoint_of ours.row ≡ q → (t : Option Stay) → Fires (fired_by env ours (both_of q t))
+      fires-by : env.epoch ≡ epoch_in ours → (q : Option ControlBlock) → back_endpoint ours.row ≡ q → (t : Option Stay) → Fires (node_fired_by env ours (both_of q t))
       fires-by same None e t = λ grows. says (again_sent ours) again-tells
       fires-by same (Some b) e None = λ grows. says (again_sent ours) again-tells
       fires-by same (Some b) e (Some t) = here-fires b t (held-row ours.row refl same b e)
 
       pub fires-act : env.epoch ≡ epoch_in ours → Fires (node_timer env ours)
-      fires-act same = fires-by same (endpoint_of ours.row) refl ours.stay
+      fires-act same = fires-by same (back_endpoint ours.row) refl ours.stay
 
       -- ---- an Offer
 
-      module _ (parts : EndpointParts) (bytes : List ℕ) (spells : Spells x.c epoch (body.Offer parts) bytes) (was : Was x Front (Node n) bytes) where
+      module _ (parts : EndpointParts) (bytes : List ℕ) (spells : SpellsMessage x.c epoch (body.Offer parts) bytes) (was : Was x Front (Node n) bytes) where
         acted : IsDecided epoch ours.row ⊎ PartsAct bounds parts
         acted = (has-each (LetterActs x.c bounds x.part) (record { from = Front; to = Node n; bytes = bytes }) x.letters was h.packets) _ spells
 
@@ -472,8 +472,8 @@ module _ (k : Setting) (small : k.stream ≤ 2 ^ 30) (x : Conn) (number : IsNumb
             let act : PartsAct bounds parts = ⊎_elim (λ f. absurd (not f)) (λ f. f) acted in
             let b : ControlBlock = adopted parts in
             let goes : GoesOver b = ((let same = act.heard in omega arith), (l.out, o.begins, between), (act.acknowledged, λ e. absurd cc)) in
-            let first : Work = state_of (reads_batch env true (begins env parts)) in
-            let from : From b first.service = batch-state env (From b) (keeps b) true (begins env parts) refl ((refl, refl, refl, refl), goes.1) in
+            let first : Work = state_of (reads_batch env true (node_begins env parts)) in
+            let from : From b first.service = batch-state env (From b) (keeps b) true (node_begins env parts) refl ((refl, refl, refl, refl), goes.1) in
             works-act it ours (taken_sent env) (goes_on env first) (reads-act b (goes_on env first).service goes (goes-so env (From b) (keeps b) first from)) taken-tells
 
         -- where the node has not decided

@@ -4,14 +4,14 @@ use Rattle.lard_answers.specs.Answers.{FilesAt}
 use Rattle.lard_base.specs.declared.ids.Epoch.{Epoch}
 use Rattle.lard_base.specs.declared.parts.EndpointParts.{EndpointParts}
 use Rattle.lard_base.specs.declared.place.Place.TheVariants.{Front, Node}
-use Rattle.lard_rules.specs.Bounds.{IsNumber}
+use Rattle.lard_rules.specs.Bounds.{IsConnNumber}
 use Rattle.lard_law_connections.specs.BytesAgreement.{AwayAgrees, FrontHolds, IsFair, IsKept, IsOffering, IsOpen, NodeAgrees, SeatAgrees, StageAgrees}
 use Rattle.lard_law_connections.proofs.BytesClientMoves.{has-fair}
 use Rattle.lard_law_connections.proofs.BytesMessages.{offers-read}
 use Rattle.lard_law_connections.specs.Places.{IsDecided, IsPast, Owning, Sits, StageSits, owning}
 use Rattle.lard_law_connections.proofs.PlacesTurns.{IsPlaced}
 use Rattle.lard_law_view.specs.Carry.{tale_at}
-use Rattle.lard_law_view.specs.View.{Conn, Spells, Was}
+use Rattle.lard_law_view.specs.View.{Conn, SpellsMessage, Was}
 use Rattle.lard_endpoint.specs.Control.{ControlBlock}
 use Rattle.lard_endpoint.specs.Moving.{adopted, may_freeze, parts_of}
 use Rattle.lard_endpoint.proofs.Adoption.{Stands, frozen_stands}
@@ -62,8 +62,8 @@ pub record IsOfferOf (l : Talk) (pend : List Verdict) (parts : EndpointParts) : 
   pub holds : FrontHolds l.w l.out l.vs pend block count
   pub same : parts ≡ parts_of block count
 
-module _ (files : FilesAt) (x : Conn) (number : IsNumber x.c) (at_place : IsPlaced x) (s : Station) (l : Talk) (pend : List Verdict) (o : IsOpen files x l pend s)
-    (n epoch : ℕ) (parts : EndpointParts) (bytes : List ℕ) (spells : Spells x.c epoch (body.Offer parts) bytes) (was : Was x Front (Node n) bytes) where
+module _ (files : FilesAt) (x : Conn) (number : IsConnNumber x.c) (at_place : IsPlaced x) (s : Station) (l : Talk) (pend : List Verdict) (o : IsOpen files x l pend s)
+    (n epoch : ℕ) (parts : EndpointParts) (bytes : List ℕ) (spells : SpellsMessage x.c epoch (body.Offer parts) bytes) (was : Was x Front (Node n) bytes) where
   abbrev own : Owning
   own = owning (tale_at x)
 

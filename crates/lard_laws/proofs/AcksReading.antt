@@ -10,7 +10,7 @@ use Rattle.lard_block.specs.Blocks.{cut_of}
 use Rattle.lard_law_connections.proofs.LimitsWorking.{KeptByServing}
 use Rattle.lard_endpoint.specs.Control.{ControlBlock, finishing}
 use Rattle.lard_endpoint.specs.Moving.{may_freeze}
-use Rattle.lard_rules.specs.FrontReading.{Reading, block_at, left, reads, reads_block, reads_found, turn}
+use Rattle.lard_rules.specs.FrontReading.{Reading, block_at, reading_left, front_reads, reads_block, reads_found, reading_turn}
 use Rattle.lard_law_view.proofs.EndpointStreams.{between-consumed, onward-finished}
 use Rattle.lard_law_view.proofs.Stopping.{unfinished-there}
 use Rattle.lard_law_view.proofs.Acked.{heard_by}
@@ -20,7 +20,7 @@ use Rattle.lard_request.specs.declared.verdict.Code.TheVariants as code
 use Rattle.lard_request.specs.declared.verdict.Verdict.{Verdict}
 use Rattle.lard_request.specs.declared.verdict.Verdict.TheVariants.{Fault}
 use Rattle.lard_rules.specs.Loop.{Step, More, Done, runs_on}
-use Rattle.lard_rules.specs.Serving.{ServeEnv, Service, answered, consumed, ended_at_fin, may_read}
+use Rattle.lard_rules.specs.Serving.{ServeEnv, Service, answered, serving_consumed, ended_at_fin, may_read}
 use Rattle.lard_seq.specs.Seq.{one_if}
 use Rattle.lard_law_view.specs.Truth.{Stream}
 
@@ -36,15 +36,15 @@ module _ (w : Stream) (first : ℕ) (b : ControlBlock) (env : ServeEnv) (most : 
   abbrev pub Serves : Service → Type 0
   Serves s = Reads w first b s.block
 
-  consumed-serves : (n : ℕ) (s : Service) → Serves s → Serves (consumed n s)
+  consumed-serves : (n : ℕ) (s : Service) → Serves s → Serves (serving_consumed n s)
   consumed-serves n s h = (h.0, (h.1.0, h.1.1, between-consumed w h.1.0 s.block h.1.2 n))
 
   ended-here : (s : Service) → Serves s → Serves (ended_at_fin s)
   ended-here s h = cond_both s.block.recv.fin (record s { block = finishing s.block }) s Serves
       (λ t. let on = onward-finished w h.1.0 s.block h.1.2 in (h.0, (on.next, on.longer.first ∙ h.1.1, on.between))) (λ t. h)
 
-  ended-serves : (n : ℕ) (s : Service) → Serves s → Serves (ended_at_fin (consumed n s))
-  ended-serves n s h = ended-here (consumed n s) (consumed-serves n s h)
+  ended-serves : (n : ℕ) (s : Service) → Serves s → Serves (ended_at_fin (serving_consumed n s))
+  ended-serves n s h = ended-here (serving_consumed n s) (consumed-serves n s h)
 
   -- ---- a stay at a node
 
@@ -58,8 +58,8 @@ module _ (w : Stream) (first : ℕ) (b : ControlBlock) (env : ServeEnv) (most : 
 
   -- ---- the front end
 
-  answers-serves : (v : Verdict) (n : ℕ) (s : Service) → may_read s ≡ true → Serves s → Serves (answered env Own v (consumed n s))
-  answers-serves v n s may h = answered-reads w first b env most Own v (consumed n s) (unfinished-there s may) (consumed-serves n s h)
+  answers-serves : (v : Verdict) (n : ℕ) (s : Service) → may_read s ≡ true → Serves s → Serves (answered env Own v (serving_consumed n s))
+  answers-serves v n s may h = answered-reads w first b env most Own v (serving_consumed n s) (unfinished-there s may) (consumed-serves n s h)
 
   abbrev StepServes : Step Reading → Type 0
   StepServes (More y) = Serves y.service
@@ -73,18 +73,18 @@ module _ (w : Stream) (first : ℕ) (b : ControlBlock) (env : ServeEnv) (most : 
     by_path (Some path) = cond_both (may_freeze x.service.block) (record x { target = Some path }) x (λ (y : Reading). Serves y.service) (λ t. h) (λ t. h)
   found-serves x h may (found.TooLong skip) = answers-serves (Fault code.FieldsTooLarge) (length x.service.block.recv.unread) x.service may h
 
-  turn-serves : (x : Reading) → Serves x.service → StepServes (turn env x)
+  turn-serves : (x : Reading) → Serves x.service → StepServes (reading_turn env x)
   turn-serves x h = cond_both (may_read x.service) (reads_found env x (cut_of x.service.block.recv.unread)) (Done x) StepServes
       (λ may. found-serves x h may (cut_of x.service.block.recv.unread)) (λ may. h)
 
   -- so many turns
-  stops-on : (n : ℕ) (x : Reading) → Serves x.service → Serves (runs_on n (turn env) x).service
+  stops-on : (n : ℕ) (x : Reading) → Serves x.service → Serves (runs_on n (reading_turn env) x).service
   unfolding runs_on
   stops-on zero x h = h
-  stops-on (suc n) x h = go (turn env x) (turn-serves x h) (stops-on n) where
-    go : (s : Step Reading) → StepServes s → ((y : Reading) → Serves y.service → Serves (runs_on n (turn env) y).service) → Serves (elim s as (λ s. Reading) [ More y ↦ runs_on n (turn env) y | Done y ↦ y ]).service
+  stops-on (suc n) x h = go (reading_turn env x) (turn-serves x h) (stops-on n) where
+    go : (s : Step Reading) → StepServes s → ((y : Reading) → Serves y.service → Serves (runs_on n (reading_turn env) y).service) → Serves (elim s as (λ s. Reading) [ More y ↦ runs_on n (reading_turn env) y | Done y ↦ y ]).service
     go (More y) k later = later y k
     go (Done y) k later = k
 
-  pub reads-serves : (s : Service) → Serves s → Serves (reads env (record { service = s; target = None })).service
-  reads-serves s h = stops-on (left (record { service = s; target = None }) + 1) (record { service = s; target = None }) h
+  pub reads-serves : (s : Service) → Serves s → Serves (front_reads env (record { service = s; target = None })).service
+  reads-serves s h = stops-on (reading_left (record { service = s; target = None }) + 1) (record { service = s; target = None }) h

@@ -18,8 +18,8 @@ use Rattle.lard_law_connections.proofs.PlacesFrontRules.{has-each}
 use Rattle.lard_law_connections.proofs.PlacesLaw.{owing}
 use Rattle.lard_law_connections.proofs.PlacesRuns.{each-placed}
 use Rattle.lard_law_connections.proofs.PlacesTurns.{IsPlaced, Owes}
-use Rattle.lard_law_view.specs.Carry.{IsUntouchedLaw, MayMove, Untouched, setting, tale_at}
-use Rattle.lard_law_view.specs.View.{Conn, FrontRules, IsFrontEnv, IsNodeEnv, Move, NodeRules, Said as SaidIn, Setting, Spells, UntouchedRules, Was, brought_said, contents, event_seen, front_does, grown, letters_of, node_does, nothing_said, packet_seen, reads_first, stands}
+use Rattle.lard_law_view.specs.Carry.{IsUntouchedLaw, MayRestOn, Untouched, setting, tale_at}
+use Rattle.lard_law_view.specs.View.{Conn, FrontRules, IsFrontEnv, IsNodeEnv, Move, NodeRules, TurnSaid as SaidIn, Setting, SpellsMessage, UntouchedRules, Was, brought_said, content_said, event_seen, front_does, grown, letters_of, node_does, nothing_said, packet_seen, reads_first, stands}
 use Rattle.lard_law_view.proofs.Carried.{carried}
 use Rattle.lard_law_view.proofs.Fine.{IsFine, fine}
 use Rattle.lard_law_view.proofs.Guarded.{untouched-both, untouched-law, untouched-weaker}
@@ -43,22 +43,22 @@ use Rattle.lard_law_view.specs.Truth.{Stream}
 
 -- ---- what a place's move leaves alone
 
-pub front-heads : (x : Conn) (heads : List Seen) (d : front.Deed) → (front_does x heads d).heads ≡ heads
+pub front-heads : (x : Conn) (heads : List Seen) (d : front.FrontDeed) → (front_does x heads d).heads ≡ heads
 front-heads x heads front.Drops = refl
 front-heads x heads (front.Says turn) = refl
 front-heads x heads (front.Does did) = refl
 
-pub front-station : (x : Conn) (heads : List Seen) (d : front.Deed) → (front_does x heads d).part.station ≡ x.part.station
+pub front-station : (x : Conn) (heads : List Seen) (d : front.FrontDeed) → (front_does x heads d).part.station ≡ x.part.station
 front-station x heads front.Drops = refl
 front-station x heads (front.Says turn) = refl
 front-station x heads (front.Does did) = refl
 
-pub node-heads : (x : Conn) (n : ℕ) (heads : List Seen) (d : node.Deed) → (node_does x n heads d).heads ≡ heads
+pub node-heads : (x : Conn) (n : ℕ) (heads : List Seen) (d : node.NodeDeed) → (node_does x n heads d).heads ≡ heads
 node-heads x n heads node.Drops = refl
 node-heads x n heads (node.Says messages) = refl
 node-heads x n heads (node.Does given) = refl
 
-pub node-station : (x : Conn) (n : ℕ) (heads : List Seen) (d : node.Deed) → (node_does x n heads d).part.station ≡ x.part.station
+pub node-station : (x : Conn) (n : ℕ) (heads : List Seen) (d : node.NodeDeed) → (node_does x n heads d).part.station ≡ x.part.station
 node-station x n heads node.Drops = refl
 node-station x n heads (node.Says messages) = refl
 node-station x n heads (node.Does given) = refl
@@ -86,10 +86,10 @@ module _ (k : Setting) (small : k.stream ≤ 2 ^ 30) where
   place-rule : (x : Conn) (v : Move) → story_seen x.c (story_at x) v.heads ≡ story_at x → v.part.station ≡ x.part.station → (Helps x v → Acts x v) → Keeps k small x v
   place-rule x v heads same acts help h r = place-keeps x v help heads same (by-streams x v (acts help) h) r
 
-  front-rule : (x : Conn) (heads : List Seen) (d : front.Deed) → story_seen x.c (story_at x) heads ≡ story_at x → (Helps x (front_does x heads d) → Acts x (front_does x heads d)) → Keeps k small x (front_does x heads d)
+  front-rule : (x : Conn) (heads : List Seen) (d : front.FrontDeed) → story_seen x.c (story_at x) heads ≡ story_at x → (Helps x (front_does x heads d) → Acts x (front_does x heads d)) → Keeps k small x (front_does x heads d)
   front-rule x heads d plain acts = place-rule x (front_does x heads d) (ap (story_seen x.c (story_at x)) (front-heads x heads d) ∙ plain) (front-station x heads d) acts
 
-  node-rule : (x : Conn) (n : ℕ) (heads : List Seen) (d : node.Deed) → story_seen x.c (story_at x) heads ≡ story_at x → (Helps x (node_does x n heads d) → Acts x (node_does x n heads d)) → Keeps k small x (node_does x n heads d)
+  node-rule : (x : Conn) (n : ℕ) (heads : List Seen) (d : node.NodeDeed) → story_seen x.c (story_at x) heads ≡ story_at x → (Helps x (node_does x n heads d) → Acts x (node_does x n heads d)) → Keeps k small x (node_does x n heads d)
   node-rule x n heads d plain acts = place-rule x (node_does x n heads d) (ap (story_seen x.c (story_at x)) (node-heads x n heads d) ∙ plain) (node-station x n heads d) acts
 
   -- ---- the front end
@@ -136,7 +136,7 @@ module _ (k : Setting) (small : k.stream ≤ 2 ^ 30) where
   stands-rule x place heads said plain letters = place-rule x (stands x place heads said) plain refl (λ help t at h o heard within.
       idle-acts x (stands x place heads said) (bounds_by h.talk.w.first x t heard) (record { front = within.front; nodes = within.nodes; letters = letters (bounds_by h.talk.w.first x t heard) }))
 
-  node-hears : (x : Conn) (n epoch : ℕ) (env : NodeEnv) (segment bytes : List ℕ) → IsNodeEnv k x.c n epoch env → Spells x.c epoch (body.Forward segment) bytes → Was x Front (Node n) bytes
+  node-hears : (x : Conn) (n epoch : ℕ) (env : NodeEnv) (segment bytes : List ℕ) → IsNodeEnv k x.c n epoch env → SpellsMessage x.c epoch (body.Forward segment) bytes → Was x Front (Node n) bytes
       → Keeps k small x (node_does x n (packet_seen Front (Node n) bytes) (node_forwarded env (x.part.nodes n) (decoded segment x.c ToCluster)))
   node-hears x n epoch env segment bytes is spells was = node-rule x n (packet_seen Front (Node n) bytes) (node_forwarded env (x.part.nodes n) (decoded segment x.c ToCluster)) refl (λ help t at h o heard within.
       let m : Letter = record { from = Front; to = Node n; bytes = bytes } in
@@ -163,13 +163,13 @@ module _ (k : Setting) (small : k.stream ≤ 2 ^ 30) where
     acknowledged = λ x n epoch env bytes is spells was. node-rule x n (packet_seen Front (Node n) bytes) (node_acknowledged env (x.part.nodes n)) refl (λ help t at h o heard within.
         acknowledged-act k small x help.number help.sound help.placed t h.talk h.pend o heard (story_at x).aborted within n epoch env is (packet_seen Front (Node n) bytes));
     read = λ x n epoch r env path is.
-        let d : node.Deed = node_read env (x.part.nodes n) r in
+        let d : node.NodeDeed = node_read env (x.part.nodes n) r in
         let v : Move = node_does x n [] d in
         place-rule x (reads_first (rec.Read n n x.c r path) v) (ap (story_seen x.c (story_at x)) (node-heads x n [] d)) (node-station x n [] d) (λ help t at h o heard within.
         read-first x n r path v (bounds_by h.talk.w.first x t heard) (read-act k small x help.number help.sound help.placed t h.talk h.pend o heard (story_at x).aborted within n epoch env is [] r));
     fires = λ x s n env there is. node-rule x n (event_seen (event.Timer (Node n) x.c)) (node_timer env (x.part.nodes n)) (timer-plain x (Node n)) (λ help t at h o heard within.
         fires-act k small x help.number help.sound help.placed t h.talk h.pend o heard (story_at x).aborted within n _ env is (event_seen (event.Timer (Node n) x.c)) is.epoch_is help.owes.grows);
-    answers = λ x n from epoch r path file bytes there spells was. stands-rule x (Node n) (packet_seen (Node from) (Node n) bytes) (contents k n from x.c epoch r path) refl (λ b. (tt, tt));
+    answers = λ x n from epoch r path file bytes there spells was. stands-rule x (Node n) (packet_seen (Node from) (Node n) bytes) (content_said k n from x.c epoch r path) refl (λ b. (tt, tt));
     queues = λ x n from epoch r path file bytes there spells was. stands-rule x (Node n) (packet_seen (Node from) (Node n) bytes) (record nothing_said { notes = rec.Queued n from x.c r path ∷ [] }) refl (λ b. tt);
     brings = λ x n from epoch r path. stands-rule x (Node n) [] (brought_said k n from x.c epoch r path) refl (λ b. (tt, tt));
   }
@@ -189,10 +189,10 @@ module _ (k : Setting) (small : k.stream ≤ 2 ^ 30) where
   Given x = IsPlaced x × Untouched (IsTruthful k.files) x
 
   abbrev Owed : Conn → Move → Type 0
-  Owed x v = MayMove Given x → IsPlaced x → Owes x v
+  Owed x v = MayRestOn Given x → IsPlaced x → Owes x v
 
   abbrev Wanted : Conn → Move → Type 0
-  Wanted x v = MayMove Given x → (tale_at x).touched ≡ false → AcksWhatWasTaken x → AcksWhatWasTaken (grown x v)
+  Wanted x v = MayRestOn Given x → (tale_at x).touched ≡ false → AcksWhatWasTaken x → AcksWhatWasTaken (grown x v)
 
   abbrev All : Conn → Move → Type 0
   All x v = (IsFine x v × Owed x v) × Keeps k small x v

@@ -5,21 +5,21 @@ use Rattle.std.proofs.lemmas.List.{length-map}
 use Rattle.std.proofs.lemmas.List.Sums.{fold-append}
 use Rattle.std.specs.List.{fold}
 use Rattle.lard_base.specs.declared.place.Place.TheVariants.{Front, Node}
-use Rattle.lard_laws.specs.AsksAnswers.{EndsWith, assigned_of, dues, tag_for, tags_due}
-use Rattle.lard_laws.specs.Asks.{Answered, Asking, Asks, Assigned, ask_from, ask_in, asks, asks_step, came_done, end_in, is_again, is_its, is_next, is_this, later_in, node_in, row_done, tag_to}
+use Rattle.lard_laws.specs.AsksAnswers.{EndsWith, later_assigned, dues, tag_for, tags_due}
+use Rattle.lard_laws.specs.Asks.{Answered, Asking, AskTale, LaterAssigned, ask_from, ask_in, ask_tale, asks_step, came_done, end_in, is_again, is_its, is_next, is_this, later_in, node_in, row_done, tag_to}
 use Rattle.lard_laws.proofs.AsksFronts.{tagged-is}
 use Rattle.lard_laws.proofs.AsksMoving.{Answers, Fills, IsTold, RowTold, StageTold, Told, by-lists}
 use Rattle.lard_laws.proofs.AsksPicking.{done-grown, way-told}
 use Rattle.lard_law_connections.specs.MotionStory.{Story, picked, story}
 use Rattle.lard_law_connections.proofs.MotionElsewhere.{IsKnown, RowKnown, StageKnown}
 use Rattle.lard_law_connections.proofs.MotionPicking.{pick, pick-append}
-use Rattle.lard_law_view.specs.View.{Conn, IsFrontEnv, Move, Setting, Spells, front_does, grown, packet_seen, rows_of, sending}
+use Rattle.lard_law_view.specs.View.{Conn, IsFrontEnv, Move, Setting, SpellsMessage, front_does, grown, packet_seen, rows_of, sending}
 use Rattle.lard_law_view.proofs.Fine.{IsItsOwn}
 use Rattle.lard_costs.specs.declared.later.LaterChoice.{LaterChoice}
 use Rattle.lard_dispatch.specs.declared.dispatch.Ask.{Ask}
 use Rattle.lard_dispatch.specs.declared.dispatch.Later.{Later}
 use Rattle.lard_rules.specs.declared.front.FrontRest.{FrontRest}
-use Rattle.lard_rules.specs.Front.{Deed, Did, Drops, Says, Does, FrontEnv, FrontPart, ask_of, asked_by, assigned_notes, assigns, front_asked, is_at, is_with, message, over_note, saying, tag_sent}
+use Rattle.lard_rules.specs.Front.{FrontDeed, Did, Drops, Says, Does, FrontEnv, FrontPart, ask_of, asked_by, assigned_notes, assigns, front_asked, is_row_at, is_with, message, over_note, front_saying, tag_sent}
 use Rattle.lard_handoff_front.specs.declared.row.FrontConn.{FrontConn}
 use Rattle.lard_handoff_front.specs.declared.row.FrontConn.TheVariants as stage
 use Rattle.lard_handoff_front.specs.declared.row.FrontRow.{FrontRow}
@@ -52,7 +52,7 @@ module _ (c n epoch number queue size : ℕ) (paths : List (List ℕ)) where
   a = asking_of n epoch number queue size paths
 
   -- as many choices as paths
-  pub notes-assign : (d r : ℕ) (ps : List (List ℕ)) (cs : List LaterChoice) → length cs ≡ length ps → pick later_in (assigned_notes d ask r ps cs) ≡ assigned_of a r ps
+  pub notes-assign : (d r : ℕ) (ps : List (List ℕ)) (cs : List LaterChoice) → length cs ≡ length ps → pick later_in (assigned_notes d ask r ps cs) ≡ later_assigned a r ps
   notes-assign d r [] [] e = refl
   notes-assign d r [] (choice ∷ cs) e = refl
   notes-assign d r (path ∷ ps) [] e = absurd cc
@@ -78,7 +78,7 @@ module _ (c n epoch number queue size : ℕ) (paths : List (List ℕ)) where
 -- ---- it is the connection's
 
 -- the connection is with this node in this epoch, where its story says so
-pub its-is : (s : Story) (row : Option FrontRow) (a : Asking) → RowKnown s row → is_its s a ≡ is_at a.from a.epoch row
+pub its-is : (s : Story) (row : Option FrontRow) (a : Asking) → RowKnown s row → is_its s a ≡ is_row_at a.from a.epoch row
 its-is s None a h = ap (λ b. b && (is_this s.node a.from && is_this s.epoch a.epoch)) h.2.away
 its-is s (Some row) a h = go row.stage h.2 where
   go : (st : FrontConn) → StageKnown s st → is_its s a ≡ is_with a.from a.epoch st
@@ -90,7 +90,7 @@ its-is s (Some row) a h = go row.stage h.2 where
   go (stage.Closed last) k = ap (λ b. b && (is_this s.node a.from && is_this s.epoch a.epoch)) k.away
 
 -- and then the front end keeps what is told of the last Ask
-pub with-told : (d : Answered) (rest : Option FrontRest) (row : Option FrontRow) (n epoch : ℕ) → is_at n epoch row ≡ true → RowTold d rest row → IsTold d rest
+pub with-told : (d : Answered) (rest : Option FrontRest) (row : Option FrontRow) (n epoch : ℕ) → is_row_at n epoch row ≡ true → RowTold d rest row → IsTold d rest
 with-told d rest None n epoch at h = let no : false ≡ true = at in absurd cc
 with-told d rest (Some row) n epoch at h = go row.stage at h where
   go : (st : FrontConn) → is_with n epoch st ≡ true → StageTold d rest st → IsTold d rest
@@ -104,15 +104,15 @@ with-told d rest (Some row) n epoch at h = go row.stage at h where
 -- ---- the rule
 
 module _ (k : Setting) (x : Conn) (told : Told x) (known : IsKnown x) (env : FrontEnv) (is : IsFrontEnv k x.c env) (n epoch number queue size : ℕ) (paths : List (List ℕ)) (bytes : List ℕ)
-    (spells : Spells x.c epoch (body.Ask number queue size paths) bytes) (some : length paths ≡ 0 → ⊥) where
+    (spells : SpellsMessage x.c epoch (body.Ask number queue size paths) bytes) (some : length paths ≡ 0 → ⊥) where
   abbrev heads : List Seen
   heads = packet_seen (Node n) Front bytes
 
   abbrev p : FrontPart
   p = x.part.front
 
-  abbrev t : Asks
-  t = asks x.c x.seen
+  abbrev t : AskTale
+  t = ask_tale x.c x.seen
 
   abbrev its : Ask
   its = ask_of x.c n number queue size paths
@@ -120,7 +120,7 @@ module _ (k : Setting) (x : Conn) (told : Told x) (known : IsKnown x) (env : Fro
   abbrev comes : Asking
   comes = asking_of n epoch number queue size paths
 
-  abbrev Goes : Deed → Type 0
+  abbrev Goes : FrontDeed → Type 0
   Goes d = IsItsOwn x (front_does x heads d) → Fills x (grown x (front_does x heads d)) → Answers x (front_does x heads d)
 
   came : picked ask_in heads ≡ comes ∷ []
@@ -129,12 +129,12 @@ module _ (k : Setting) (x : Conn) (told : Told x) (known : IsKnown x) (env : Fro
   behind : (fold (asks_step x.c) t heads).done ≡ came_done t (Some comes)
   behind = ap (λ r. came_done t (ask_from n r)) spells
 
-  its-at : is_its t.way comes ≡ is_at n epoch p.row
+  its-at : is_its t.way comes ≡ is_row_at n epoch p.row
   its-at = ap (λ (s : Story). is_its s comes) (way-told x.c x.seen) ∙ its-is (story x.c x.seen) p.row comes known.row
 
   -- nothing is due: it is dropped
   none-next : is_next t comes ≡ false → dues t (comes ∷ []) ≡ []
-  none-next e = ap (λ b. cond b (assigned_of comes t.done.assigned paths) [] ++ []) e
+  none-next e = ap (λ b. cond b (later_assigned comes t.done.assigned paths) [] ++ []) e
 
   kept-told : is_next t comes ≡ false → RowTold (fold row_done (fold (asks_step x.c) t heads).done []) p.rest p.row
   kept-told e = subst (λ (d : Answered). RowTold d p.rest p.row) (sym (behind ∙ ap (λ b. cond b (record t.done { last = number; nodes = [] }) t.done) e)) told
@@ -150,9 +150,9 @@ module _ (k : Setting) (x : Conn) (told : Told x) (known : IsKnown x) (env : Fro
   )
 
   -- the last one gets its Tag again
-  again : (rest : FrontRest) → IsTold t.done (Some rest) → number ≡ rest.asks → is_next t comes ≡ false → is_again t comes ≡ true → Goes (Says (saying (tag_sent env n epoch rest.asks rest.tag)))
+  again : (rest : FrontRest) → IsTold t.done (Some rest) → number ≡ rest.asks → is_next t comes ≡ false → is_again t comes ≡ true → Goes (Says (front_saying (tag_sent env n epoch rest.asks rest.tag)))
   again rest same last e f own fills =
-      let v : Move = front_does x heads (Says (saying (tag_sent env n epoch rest.asks rest.tag))) in
+      let v : Move = front_does x heads (Says (front_saying (tag_sent env n epoch rest.asks rest.tag))) in
       let tag : List (ℕ × List ℕ) = (n, message x.c epoch (body.Tag number t.done.nodes)) ∷ [] in
       let sent : pick tag_to (map (sending Front) (tag_sent env n epoch rest.asks rest.tag)) ≡ tag =
       ap (λ o. listed o ++ []) (tagged-is n env.serve.c epoch rest.asks rest.tag) ∙ (λ i. (n, message (is.number i) epoch (body.Tag (sym last i) (same.1 i))) ∷ []) in (
@@ -162,7 +162,7 @@ module _ (k : Setting) (x : Conn) (told : Told x) (known : IsKnown x) (env : Fro
       )
 
   -- the next one is assigned
-  assigned : (rest : FrontRest) → p.rest ≡ Some rest → is_at n epoch p.row ≡ true → IsTold t.done (Some rest) → number ≡ rest.asks + 1 → is_next t comes ≡ true → (l : Later) → Goes (Does (assigns env p rest n epoch its l))
+  assigned : (rest : FrontRest) → p.rest ≡ Some rest → is_row_at n epoch p.row ≡ true → IsTold t.done (Some rest) → number ≡ rest.asks + 1 → is_next t comes ≡ true → (l : Later) → Goes (Does (assigns env p rest n epoch its l))
   assigned rest found at same next e l own fills =
       let did : Did = assigns env p rest n epoch its l in
       let v : Move = front_does x heads (Does did) in
@@ -171,11 +171,11 @@ module _ (k : Setting) (x : Conn) (told : Told x) (known : IsKnown x) (env : Fro
       let over : List Rec = over_note env.serve.c l.over in
       let full : length l.choices ≡ length paths =
       sym (length-map l.choices (λ y. y.node)) ∙ fills n epoch number queue size paths bytes (map Row (rows_of x v)) rest (record rest { asks = number; tag = nodes; assigned = rest.assigned + length l.choices }) refl spells at found next refl in
-      let due : List Assigned = assigned_of comes t.done.assigned paths in
+      let due : List LaterAssigned = later_assigned comes t.done.assigned paths in
       let laters : pick later_in did.turn.notes ≡ due =
       pick-append later_in over more
       ∙ (λ i. over-picks later_in env.serve.c l.over refl i ++ notes-assign x.c n epoch number queue size paths env.serve.c rest.assigned paths l.choices full i)
-      ∙ ap (λ r. assigned_of comes r paths) same.2 in
+      ∙ ap (λ r. later_assigned comes r paths) same.2 in
       let chosen : pick node_in did.turn.notes ≡ nodes =
       pick-append node_in over more ∙ (λ i. over-picks node_in env.serve.c l.over refl i ++ notes-choose x.c n epoch number queue size paths env.serve.c rest.assigned paths l.choices full i) in
       let tag : List (ℕ × List ℕ) = (n, message x.c epoch (body.Tag number nodes)) ∷ [] in
@@ -201,12 +201,12 @@ module _ (k : Setting) (x : Conn) (told : Told x) (known : IsKnown x) (env : Fro
         }),
         subst (λ (d : Answered). RowTold d did.part.rest p.row) (sym (done-grown x v own (tt, tt) ∙ now)) (stays-told p.row at),
       ) where
-        some-due : (due : List Assigned) (ps : List (List ℕ)) → due ≡ assigned_of comes t.done.assigned ps → (length ps ≡ 0 → ⊥) → EndsWith due (pick end_in (assigns env p rest n epoch its l).turn.notes)
+        some-due : (due : List LaterAssigned) (ps : List (List ℕ)) → due ≡ later_assigned comes t.done.assigned ps → (length ps ≡ 0 → ⊥) → EndsWith due (pick end_in (assigns env p rest n epoch its l).turn.notes)
         some-due due [] e none = absurd (none refl)
         some-due [] (path ∷ ps) e none = absurd cc
         some-due (y ∷ due) (path ∷ ps) e none = tt
 
-        stays-told : (o : Option FrontRow) → is_at n epoch o ≡ true
+        stays-told : (o : Option FrontRow) → is_row_at n epoch o ≡ true
             → RowTold (record { last = number; nodes = map (λ y. y.node) l.choices; assigned = rest.assigned + length l.choices }) (assigns env p rest n epoch its l).part.rest o
         stays-told None at = tt
         stays-told (Some row) at = go row.stage where
@@ -219,7 +219,7 @@ module _ (k : Setting) (x : Conn) (told : Told x) (known : IsKnown x) (env : Fro
           go (stage.Closed last) = tt
 
   -- by the tests of the rule
-  asked-by : is_at n epoch p.row ≡ true → (o : Option FrontRest) → p.rest ≡ o → Goes (asked_by env p n epoch its o)
+  asked-by : is_row_at n epoch p.row ≡ true → (o : Option FrontRest) → p.rest ≡ o → Goes (asked_by env p n epoch its o)
   asked-by at None found = absurd (subst (IsTold t.done) found (with-told t.done p.rest p.row n epoch at told))
   asked-by at (Some rest) found = go (number == rest.asks + 1) refl (number == rest.asks && nat_lt 0 rest.asks) refl where
     same : IsTold t.done (Some rest)
@@ -232,13 +232,13 @@ module _ (k : Setting) (x : Conn) (told : Told x) (known : IsKnown x) (env : Fro
     again-is b e = (λ i. (its-at ∙ at) i && (number == sym same.0 i && nat_lt 0 (sym same.0 i))) ∙ e
 
     go : (b : Bool) → (number == rest.asks + 1) ≡ b → (c : Bool) → (number == rest.asks && nat_lt 0 rest.asks) ≡ c
-        → Goes (cond b (Does (assigns env p rest n epoch its (env.later its))) (cond c (Says (saying (tag_sent env n epoch rest.asks rest.tag))) Drops))
+        → Goes (cond b (Does (assigns env p rest n epoch its (env.later its))) (cond c (Says (front_saying (tag_sent env n epoch rest.asks rest.tag))) Drops))
     go true e c f = assigned rest found at same (eqb-true number (rest.asks + 1) e) (next-is true e) (env.later its)
     go false e true f = again rest same (eqb-true number rest.asks ((and_parts (number == rest.asks) (nat_lt 0 rest.asks) f).0)) (next-is false e) (again-is true f)
     go false e false f = drops (next-is false e) (again-is false f)
 
   pub asked-answers : Goes (front_asked env p n epoch its)
-  asked-answers = go (is_at n epoch p.row) refl where
-    go : (b : Bool) → is_at n epoch p.row ≡ b → Goes (cond b (asked_by env p n epoch its p.rest) Drops)
+  asked-answers = go (is_row_at n epoch p.row) refl where
+    go : (b : Bool) → is_row_at n epoch p.row ≡ b → Goes (cond b (asked_by env p n epoch its p.rest) Drops)
     go true at = asked-by at p.rest refl
     go false at = drops (ap (λ b. b && number == t.done.last + 1) (its-at ∙ at)) (ap (λ b. b && (number == t.done.last && nat_lt 0 t.done.last)) (its-at ∙ at))

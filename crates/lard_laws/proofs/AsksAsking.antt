@@ -3,10 +3,10 @@ use Rattle.std.proofs.Common.{◌≡◌, ℕ, List, [], ◌∷◌, ◌++◌, len
 use Rattle.lard_base.specs.declared.config.Config.{Config}
 use Rattle.lard_base.specs.declared.event.Event.{Event}
 use Rattle.lard_rules.specs.declared.machine.Machine.{Machine}
-use Rattle.lard_rules.specs.Bounds.{HasRule, IsNumber}
-use Rattle.lard_rules.specs.Machine.{IsReached, machine_step, start}
+use Rattle.lard_rules.specs.Bounds.{HasRule, IsConnNumber}
+use Rattle.lard_rules.specs.Machine.{IsReached, machine_step, machine_start}
 use Rattle.lard_laws.specs.AsksRuns.{AsksGoOnInSteps}
-use Rattle.lard_laws.specs.AsksSent.{AsksGoOn, IsNext, MustAsk, ask_by, last_ask}
+use Rattle.lard_laws.specs.AsksSent.{AsksGoOn, IsNextAsk, MustAsk, ask_by, last_ask}
 use Rattle.lard_laws.proofs.AsksQueues.{Waits, asks-seen, go-on, last-named}
 use Rattle.lard_laws.proofs.AsksRows.{IsTold, step-first, step-told}
 use Rattle.lard_laws.proofs.AsksSends.{Goes, GoesOn, PartsAsk, Sends, all-send}
@@ -15,7 +15,7 @@ use Rattle.lard_law_connections.proofs.MotionPicking.{pick}
 use Rattle.lard_law_connections.proofs.PlacesRuns.{each-placed}
 use Rattle.lard_law_connections.proofs.PlacesTurns.{IsPlaced}
 use Rattle.lard_counts.specs.Stores.{jobs}
-use Rattle.lard_law_view.specs.Carry.{IsLaw, MayMove, OfEach, setting}
+use Rattle.lard_law_view.specs.Carry.{IsLaw, MayRestOn, OfEach, setting}
 use Rattle.lard_law_view.specs.View.{Conn, Move, Rules, Setting, conn, grown}
 use Rattle.lard_law_view.proofs.After.{IsAfter, step-after}
 use Rattle.lard_law_view.proofs.Carried.{IsOn, carried, carried-keep, goes-on}
@@ -36,13 +36,13 @@ module _ (k : Setting) where
   all : Rules k All
   all = both k IsFine (Goes k) (fine k) (all-send k)
 
-  does : (x : Conn) (v : Move) → All x v → MayMove IsPlaced x → PartsAsk x → Sends x v
+  does : (x : Conn) (v : Move) → All x v → MayRestOn IsPlaced x → PartsAsk x → Sends x v
   does x v h may known = h.1 may.given known (h.0 may.number may.sound).0
 
   asks-law : IsLaw k IsPlaced PartsAsk
   asks-law = record {
     begins = λ c n. record { fresh = λ e less. refl; kept = tt; fetches = tt; stay = tt };
-    moves = weaker k All (λ x v. MayMove IsPlaced x → PartsAsk x → PartsAsk (grown x v)) (λ x v h may known. (does x v h may known).1) all;
+    moves = weaker k All (λ x v. MayRestOn IsPlaced x → PartsAsk x → PartsAsk (grown x v)) (λ x v h may known. (does x v h may known).1) all;
   }
 
 module _ (config : Config) (files : List (List ℕ × List ℕ)) where
@@ -54,12 +54,12 @@ module _ (config : Config) (files : List (List ℕ × List ℕ)) where
     -- the Asks go on, with as many jobs as there may be
     goes : (q : ℕ) → GoesOn q (own q m.journal) (seen_on q (net_of m.journal) after.step)
     unfolding conn
-    goes q = seen-step (λ x v. IsNumber x.c × All (setting config files) x v) (GoesOn q (own q m.journal)) m n after.step q after.is (λ j d. tt)
+    goes q = seen-step (λ x v. IsConnNumber x.c × All (setting config files) x v) (GoesOn q (own q m.journal)) m n after.step q after.is (λ j d. tt)
         (λ v h. (does (setting config files) (conn m q) v h.1 (record { number = h.0; sound = on.view.sound q; given = each-placed config files m on.reached q }) (each-asks m on.reached q)).0)
         (goes-on config files (All (setting config files)) (all (setting config files)) m n e on rule is q)
 
     abbrev reached : IsReached config files n
-    reached = (on.reached.0 ++ e ∷ [], passes-more on.reached.0 (start config files) m n e on.reached.1 rule is)
+    reached = (on.reached.0 ++ e ∷ [], passes-more on.reached.0 (machine_start config files) m n e on.reached.1 rule is)
 
     module _ (q j d : ℕ) where
       abbrev last : Option (List ℕ)
@@ -80,11 +80,11 @@ module _ (config : Config) (files : List (List ℕ × List ℕ)) where
           h.0
 
       -- and with those that the journal counts
-      counted : AsksGoOn (IsNext q d (length (jobs (m.journal ++ after.step) j))) last seen
+      counted : AsksGoOn (IsNextAsk q d (length (jobs (m.journal ++ after.step) j))) last seen
       counted =
           let told : Each (IsTold m.journal n.journal j d) (pick (ask_by j d) after.step) =
           step-told config files m n reached on.view (λ c. each-placed config files m on.reached c) (λ c. each-asks m on.reached c) e after.step after.is rule is j d in
-          subst (λ (J : List Rec). AsksGoOn (IsNext q d (length (jobs J j))) last seen) after.is
+          subst (λ (J : List Rec). AsksGoOn (IsNextAsk q d (length (jobs J j))) last seen) after.is
           (go-on q j d (length (jobs n.journal j)) last seen (goes q j d) (Each-weaker IsMine (Waits q j d (length (jobs n.journal j)) last) waits seen (asks-seen j d q (IsTold m.journal n.journal j d) (net_of m.journal) after.step told)))
 
     pub step-asks : MustAsk m.journal after.step

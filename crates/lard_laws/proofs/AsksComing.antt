@@ -11,7 +11,7 @@ use Rattle.lard_law_connections.specs.MotionStory.{picked}
 use Rattle.lard_law_view.proofs.After.{IsAfter}
 use Rattle.lard_history.specs.Journal.{request}
 use Rattle.lard_history.specs.Laws.{AreOwn, is_own}
-use Rattle.lard_history.specs.Own.{Came, Row, Seen, came, conn_of, letter_of, net_step, one_of, plain, seen_of, seen_on, whose}
+use Rattle.lard_history.specs.Own.{Came, Row, Seen, came_seen, conn_of, letter_of, net_step, one_of, plain, seen_of, seen_on, whose}
 use Rattle.lard_history.proofs.Each.{Each, Each-append}
 use Rattle.lard_journal.specs.declared.rec.Rec.{Rec}
 use Rattle.lard_journal.specs.declared.rec.Rec.TheVariants as rec
@@ -104,7 +104,7 @@ module _ (q : ℕ) (net : List Packet) where
     by-conn p None at of = inl behind
     by-conn p (Some d) at of = by-test p d (nat_eq d q) refl at of
 
-    by-packet : (o : Option Packet) → packet_at net k ≡ o → MayCome q net (event.Deliver k) (came q o ++ rows)
+    by-packet : (o : Option Packet) → packet_at net k ≡ o → MayCome q net (event.Deliver k) (came_seen q o ++ rows)
     by-packet None at = inl behind
     by-packet (Some p) at = by-conn p (conn_of p.from p.to p.bytes) at refl
 

@@ -7,8 +7,8 @@ use Rattle.lard_base.specs.declared.place.Place.{Place}
 use Rattle.lard_base.specs.declared.place.Place.TheVariants.{Client, Front, Node}
 use Rattle.lard_rules.specs.declared.machine.Machine.{Machine}
 use Rattle.lard_rules.specs.Machine.{front_gave, machine_step}
-use Rattle.lard_laws.specs.AsksAnswers.{EndsWith, IsAnswered, assigned_of, dues, ends_due}
-use Rattle.lard_laws.specs.Asks.{Asking, Asks, Assigned, ask_from, ask_in, ask_on, asks, end_in, is_its, is_next, later_in}
+use Rattle.lard_laws.specs.AsksAnswers.{EndsWith, IsAnswered, later_assigned, dues, ends_due}
+use Rattle.lard_laws.specs.Asks.{Asking, AskTale, LaterAssigned, ask_from, ask_in, ask_on, ask_tale, end_in, is_its, is_next, later_in}
 use Rattle.lard_laws.proofs.AsksAsked.{its-is, with-told}
 use Rattle.lard_laws.proofs.AsksComing.{Delivers, IsRow, rows-unasked, step-comes}
 use Rattle.lard_laws.proofs.AsksFilling.{asked-is, did}
@@ -26,9 +26,9 @@ use Rattle.lard_law_view.proofs.Naming.{Names, decoded-names}
 use Rattle.lard_costs.specs.declared.later.LaterChoice.{LaterChoice}
 use Rattle.lard_dispatch.specs.declared.dispatch.Ask.{Ask}
 use Rattle.lard_rules.specs.declared.front.FrontRest.{FrontRest}
-use Rattle.lard_rules.specs.Front.{Did, ask_of, assigned_notes, is_at, over_note}
+use Rattle.lard_rules.specs.Front.{Did, ask_of, assigned_notes, is_row_at, over_note}
 use Rattle.lard_rules.specs.FrontPlace.{front_did, front_part}
-use Rattle.lard_history.specs.Own.{Came, Row, Seen, came, conn_of, letter_of, net_of, net_step, one_of, own, plain, seen_of, seen_on, whose}
+use Rattle.lard_history.specs.Own.{Came, Row, Seen, came_seen, conn_of, letter_of, net_of, net_step, one_of, own, plain, seen_of, seen_on, whose}
 use Rattle.lard_history.proofs.Each.{Each, Each-weaker}
 use Rattle.lard_history.proofs.Seeing.{same_number}
 use Rattle.lard_history.proofs.Stepping.{cancel}
@@ -58,7 +58,7 @@ module _ (q : ℕ) where
     go true = ap (λ o. listed o ++ []) none
     go false = refl
 
-  none-came : (o : Option Packet) → picked (of_row end_in) (came q o) ≡ []
+  none-came : (o : Option Packet) → picked (of_row end_in) (came_seen q o) ≡ []
   none-came None = refl
   none-came (Some p) = none-seen (conn_of p.from p.to p.bytes) (Came (letter_of p)) refl
 
@@ -106,8 +106,8 @@ module _ (q : ℕ) where
 
 module _ (m n : Machine) (e : Event) (after : IsAfter m e n) (is : machine_step m e ≡ Ok n) (told_is : net_of m.journal ≡ m.net) (q : ℕ) (told : Told (conn m q)) (known : IsKnown (conn m q))
     (answered : IsAnswered q (own q m.journal) (seen_on q (net_of m.journal) after.step)) where
-  abbrev t : Asks
-  t = asks q (own q m.journal)
+  abbrev t : AskTale
+  t = ask_tale q (own q m.journal)
 
   abbrev seen : List Seen
   seen = seen_on q (net_of m.journal) after.step
@@ -122,7 +122,7 @@ module _ (m n : Machine) (e : Event) (after : IsAfter m e n) (is : machine_step 
   nothing-ended : dues t (picked ask_in seen) ≡ [] → IsEnded
   nothing-ended none =
       let laters : picked (of_row later_in) seen ≡ [] = answered.assigns ∙ none in
-      subst (λ (ls : List Assigned). EndsWith ls (picked (of_row end_in) seen)) laters answered.ends ∙ ap (ends_due q opens) (sym laters)
+      subst (λ (ls : List LaterAssigned). EndsWith ls (picked (of_row end_in) seen)) laters answered.ends ∙ ap (ends_due q opens) (sym laters)
 
   -- the next Ask is
   module _ (k : ℕ) (p : Packet) (it-is : e ≡ event.Deliver k) (at : packet_at m.net k ≡ Some p) (i : ℕ) (is-from : p.from ≡ Node i) (is-to : p.to ≡ Front) (epoch number queue size : ℕ) (paths : List (List ℕ))
@@ -131,7 +131,7 @@ module _ (m n : Machine) (e : Event) (after : IsAfter m e n) (is : machine_step 
     abbrev a : Asking
     a = record { from = i; epoch = epoch; number = number; queue = queue; size = size; paths = paths }
 
-    next-ended : is_next t a ≡ true → (r : FrontRest) → is_at i epoch (front_part m.front q).row ≡ true → (front_part m.front q).rest ≡ Some r → number ≡ r.asks + 1 → IsEnded
+    next-ended : is_next t a ≡ true → (r : FrontRest) → is_row_at i epoch (front_part m.front q).row ≡ true → (front_part m.front q).rest ≡ Some r → number ≡ r.asks + 1 → IsEnded
     unfolding timer_rows
     next-ended next r there found one =
         let stepped : machine_step m (event.Deliver k) ≡ Ok n = ap (machine_step m) (sym it-is) ∙ is in
@@ -149,8 +149,8 @@ module _ (m n : Machine) (e : Event) (after : IsAfter m e n) (is : machine_step 
         ∙ notes-ends q (ask_of q i number queue size paths) opens r.assigned paths _ in
         let laters : picked (of_row later_in) seen ≡ assigned-of paths = answered.assigns ∙ ap (dues t) comes ∙ ap (λ b. cond b (assigned-of paths) [] ++ []) next ∙ append-nil (assigned-of paths) in
         ends ∙ some-ends paths some ∙ ap (ends_due q opens) (sym laters) where
-          assigned-of : List (List ℕ) → List Assigned
-          assigned-of ps = assigned_of a t.done.assigned ps
+          assigned-of : List (List ℕ) → List LaterAssigned
+          assigned-of ps = later_assigned a t.done.assigned ps
 
           some-ends : (ps : List (List ℕ)) → 1 ≤ length ps → cond opens (q ∷ []) [] ≡ ends_due q opens (assigned-of ps)
           some-ends [] le = absurd (omega (arith, le))
@@ -159,14 +159,14 @@ module _ (m n : Machine) (e : Event) (after : IsAfter m e n) (is : machine_step 
     asked-ended : IsEnded
     unfolding conn part_of
     asked-ended = go (is_next t a) refl where
-      with-rest : is_next t a ≡ true → is_at i epoch (front_part m.front q).row ≡ true → (o : Option FrontRest) → (front_part m.front q).rest ≡ o → IsTold t.done o → IsEnded
+      with-rest : is_next t a ≡ true → is_row_at i epoch (front_part m.front q).row ≡ true → (o : Option FrontRest) → (front_part m.front q).rest ≡ o → IsTold t.done o → IsEnded
       with-rest next there None found h = absurd h
       with-rest next there (Some r) found h = next-ended next r there found (eqb-true number (t.done.last + 1) ((and_parts (is_its t.way a) (number == t.done.last + 1) next).1) ∙ ap (λ x. x + 1) (sym h.0))
 
       go : (b : Bool) → is_next t a ≡ b → IsEnded
-      go false next = nothing-ended (ap (dues t) comes ∙ ap (λ b. cond b (assigned_of a t.done.assigned paths) [] ++ []) next)
+      go false next = nothing-ended (ap (dues t) comes ∙ ap (λ b. cond b (later_assigned a t.done.assigned paths) [] ++ []) next)
       go true next =
-          let there : is_at i epoch (front_part m.front q).row ≡ true =
+          let there : is_row_at i epoch (front_part m.front q).row ≡ true =
           sym (ap (λ (s : Story). is_its s a) (way-told q (own q m.journal)) ∙ its-is (story q (own q m.journal)) (front_part m.front q).row a known.row) ∙ (and_parts (is_its t.way a) (number == t.done.last + 1) next).0 in
           with-rest next there (front_part m.front q).rest refl (with-told t.done (front_part m.front q).rest (front_part m.front q).row i epoch there told)
 

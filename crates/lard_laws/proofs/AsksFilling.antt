@@ -11,7 +11,7 @@ use Rattle.lard_rules.specs.declared.fault.StepFault.{StepFault}
 use Rattle.lard_rules.specs.declared.fault.Refusal.TheVariants.{WasLost}
 use Rattle.lard_rules.specs.declared.fault.StepFault.TheVariants.{Refused}
 use Rattle.lard_rules.specs.declared.machine.Machine.{Machine}
-use Rattle.lard_rules.specs.Machine.{delivered, from_place, front_gave, front_setting, happens, limit_reached, machine_step, to_place, told, unless_limit}
+use Rattle.lard_rules.specs.Machine.{delivered, from_place, front_gave, front_setting, happens, limit_reached, machine_step, to_place, machine_told, unless_limit}
 use Rattle.lard_laws.proofs.AsksComing.{Delivers, IsRow, step-comes}
 use Rattle.lard_laws.proofs.AsksMoving.{Fills}
 use Rattle.lard_law_view.specs.View.{conn, part_of}
@@ -21,7 +21,7 @@ use Rattle.lard_dispatch.specs.declared.dispatch.Later.{Later}
 use Rattle.lard_dispatch.specs.Books.{Books}
 use Rattle.lard_dispatch.specs.Calls.{all_choices, batch_over, shared_with}
 use Rattle.lard_rules.specs.declared.front.FrontRest.{FrontRest}
-use Rattle.lard_rules.specs.Front.{Deed, Did, Drops, Says, Does, FrontEnv, FrontPart, ask_of, asked_by, assigns, front_asked, is_at, saying, tag_sent}
+use Rattle.lard_rules.specs.Front.{FrontDeed, Did, Drops, Says, Does, FrontEnv, FrontPart, ask_of, asked_by, assigns, front_asked, is_row_at, front_saying, tag_sent}
 use Rattle.lard_rules.specs.FrontPlace.{front_deed, front_did, front_env, front_part, message_comes}
 use Rattle.lard_rules.proofs.FrontParts.{part_put}
 use Rattle.lard_history.specs.Own.{Came, Letter, Seen, letter_of, net_of, own, seen_on}
@@ -72,7 +72,7 @@ module _ (m n : Machine) where
       env = front_env (front_setting m) m.front c 0
 
       -- it is the next Ask of the connection's node
-      module _ (r : FrontRest) (there : is_at i epoch (front_part m.front c).row ≡ true) (found : (front_part m.front c).rest ≡ Some r) (next : number ≡ r.asks + 1) where
+      module _ (r : FrontRest) (there : is_row_at i epoch (front_part m.front c).row ≡ true) (found : (front_part m.front c).rest ≡ Some r) (next : number ≡ r.asks + 1) where
         abbrev pub did : Did
         did = assigns env (front_part m.front c) r i epoch its (env.later its)
 
@@ -80,16 +80,16 @@ module _ (m n : Machine) where
         deed-is =
             ap (λ b. cond b (asked_by env (front_part m.front c) i epoch its (front_part m.front c).rest) Drops) there
             ∙ ap (asked_by env (front_part m.front c) i epoch its) found
-            ∙ ap (λ b. cond b (Does did) (cond (number == r.asks && nat_lt 0 r.asks) (Says (saying (tag_sent env i epoch r.asks r.tag))) Drops)) (eq-eqb number (r.asks + 1) next)
+            ∙ ap (λ b. cond b (Does did) (cond (number == r.asks && nat_lt 0 r.asks) (Says (front_saying (tag_sent env i epoch r.asks r.tag))) Drops)) (eq-eqb number (r.asks + 1) next)
 
         pub asked-is : n ≡ front_gave m (event.Deliver k) (rec.Got k ∷ []) (front_did m.front c did)
         asked-is =
             message-is
             ∙ ap (λ (g : Result Message MsgFault). front_gave m (event.Deliver k) (rec.Got k ∷ []) (message_comes (front_setting m) m.front i g)) spells
-            ∙ ap (λ (d : Deed). front_gave m (event.Deliver k) (rec.Got k ∷ []) (front_deed m.front c d)) deed-is
+            ∙ ap (λ (d : FrontDeed). front_gave m (event.Deliver k) (rec.Got k ∷ []) (front_deed m.front c d)) deed-is
 
         part-is : front_part n.front c ≡ did.part
-        unfolding told
+        unfolding machine_told
         part-is = ap (λ (w : Machine). front_part w.front c) asked-is ∙ part_put m.front c did.part
 
         pub filled : (q : FrontRest) → (front_part n.front c).rest ≡ Some q → length q.tag ≡ length paths

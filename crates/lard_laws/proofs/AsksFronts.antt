@@ -6,7 +6,7 @@ use Rattle.std.specs.List.{fold}
 use Rattle.lard_base.specs.declared.ids.Epoch.{Epoch}
 use Rattle.lard_base.specs.declared.place.Place.{Place}
 use Rattle.lard_base.specs.declared.place.Place.TheVariants.{Client, Front, Node}
-use Rattle.lard_laws.specs.Asks.{Answered, Asks, ask_in, asks, is_tag, row_done, tag_to}
+use Rattle.lard_laws.specs.Asks.{Answered, AskTale, ask_in, ask_tale, is_tag, row_done, tag_to}
 use Rattle.lard_laws.proofs.AsksMoving.{Answers, IsCalm, RowTold, StageTold, Told, calm-answers}
 use Rattle.lard_law_connections.specs.MotionStory.{picked}
 use Rattle.lard_law_connections.proofs.MotionAnswers.{IsAnswer, reads-answers}
@@ -27,8 +27,8 @@ use Rattle.lard_endpoint.specs.Control.{ControlBlock, listening}
 use Rattle.lard_endpoint.specs.Leaving.{after_timer, timed}
 use Rattle.lard_rules.specs.declared.front.FrontRest.{FrontRest}
 use Rattle.lard_rules.specs.declared.front.FrontTurn.{FrontTurn}
-use Rattle.lard_rules.specs.Front.{Deed, Drops, Says, Does, FrontEnv, FrontPart, ack_sent, admitted_at, admitted_by, admitted_with, begun, ended_by, ends, fired, fired_by, fires_at, front_admitted, front_ended, front_hears, front_taken, front_timer, handed_off, heard, hears_at, leaves_by, message, met, placed, rest_of, rests, saying, settled_by, stage_after, taken_by, turn_here}
-use Rattle.lard_rules.specs.FrontReading.{Reading, reads}
+use Rattle.lard_rules.specs.Front.{FrontDeed, Drops, Says, Does, FrontEnv, FrontPart, ack_sent, admitted_at, admitted_by, front_admitted_with, front_begun, front_ended_by, front_ends, front_fired, front_fired_by, fires_at, front_admitted, front_ended, front_hears, front_taken, front_timer, handed_off, heard, hears_at, leaves_by, message, met, placed, front_rest, front_rests, front_saying, settled_by, stage_after, taken_by, turn_here}
+use Rattle.lard_rules.specs.FrontReading.{Reading, front_reads}
 use Rattle.lard_handoff_front.specs.declared.row.FrontConn.{FrontConn}
 use Rattle.lard_handoff_front.specs.declared.row.FrontConn.TheVariants as stage
 use Rattle.lard_handoff_front.specs.declared.row.FrontRow.{FrontRow}
@@ -54,7 +54,7 @@ use Rattle.lard_rules.specs.declared.places.Ending.TheVariants as ending
 use Rattle.lard_rules.specs.declared.places.Turn.{Turn}
 use Rattle.lard_rules.specs.Tombstone.{is_plain_syn, last_words, tombstone}
 use Rattle.lard_rules.specs.Speaking.{listed}
-use Rattle.lard_rules.specs.Serving.{Service, ready_of, serving, settled, spoken}
+use Rattle.lard_rules.specs.Serving.{Service, serving_ready_of, serving, serving_settled, spoken}
 use Rattle.lard_segment.specs.Segment.{Said as Segment}
 use Rattle.lard_law_view.proofs.EndpointSends.{AllTo, ready-to}
 
@@ -95,11 +95,11 @@ module _ (k : Setting) (x : Conn) (told : Told x) (known : IsKnown x) (heads : L
   abbrev p : FrontPart
   p = x.part.front
 
-  abbrev t : Asks
-  t = asks x.c x.seen
+  abbrev t : AskTale
+  t = ask_tale x.c x.seen
 
   -- it is given
-  abbrev pub Goes : Deed → Type 0
+  abbrev pub Goes : FrontDeed → Type 0
   Goes d = IsItsOwn x (front_does x heads d) → Answers x (front_does x heads d)
 
   abbrev move : FrontPart → FrontTurn → Move
@@ -111,17 +111,17 @@ module _ (k : Setting) (x : Conn) (told : Told x) (known : IsKnown x) (heads : L
       calm-answers x (move part turn) own first none calm (segments-none tag_to Front x.c (λ i bytes. refl) turn.segments to) messages then
 
   pub drops-answers : Goes Drops
-  drops-answers = turn-answers p (saying []) tt tt refl told
+  drops-answers = turn-answers p (front_saying []) tt tt refl told
 
   pub says-answers : (turn : FrontTurn) → turn.notes ≡ [] → AllTo (Client x.c) turn.segments → pick tag_to (map (sending Front) turn.messages) ≡ [] → Goes (Says turn)
   says-answers turn notes to messages = turn-answers p turn (subst (Each IsCalm) (sym notes) tt) to messages (subst (λ (rs : List Rec). RowTold (fold row_done t.done rs) p.rest p.row) (sym notes) told)
 
   -- an endpoint that stays here, or ends
   ends-answers : (row : FrontRow) (rest : FrontRest) (stays : ControlBlock → FrontConn) → ((d : Answered) (o : Option FrontRest) (b : ControlBlock) → StageTold d o (stays b)) → (given : Ending × Turn) (calls : List Call)
-      → Each IsCalm given.1.notes → AllTo (Client env.serve.c) given.1.segments → Goes (Does (record { part = rests p row rest stays given.0; turn = turn_here given.1; calls = calls }))
+      → Each IsCalm given.1.notes → AllTo (Client env.serve.c) given.1.segments → Goes (Does (record { part = front_rests p row rest stays given.0; turn = turn_here given.1; calls = calls }))
   ends-answers row rest stays here given calls calm to =
-      turn-answers (rests p row rest stays given.0) (turn_here given.1) calm (subst (λ (c : ℕ). AllTo (Client c) given.1.segments) is.number to) refl
-      (go (fold row_done t.done given.1.notes) (rests p row rest stays given.0).rest given.0) where
+      turn-answers (front_rests p row rest stays given.0) (turn_here given.1) calm (subst (λ (c : ℕ). AllTo (Client c) given.1.segments) is.number to) refl
+      (go (fold row_done t.done given.1.notes) (front_rests p row rest stays given.0).rest given.0) where
         go : (d : Answered) (o : Option FrontRest) (e : Ending) → StageTold d o (stage_after stays e)
         go d o (ending.Here b count) = here d o b
         go d o (ending.Over last) = tt
@@ -145,35 +145,35 @@ module _ (k : Setting) (x : Conn) (told : Told x) (known : IsKnown x) (heads : L
   settled-answers : (row : FrontRow) (rest : FrontRest) (s : Service) (o : Option (List ℕ)) → Each IsCalm s.notes → Goes (settled_by env p row rest s o)
   settled-answers row rest s None calm =
       let done = settled-is env.serve s in
-      ends-answers row rest stage.Held (λ d o b. tt) (settled env.serve s) [] (subst (Each IsCalm) (sym done.notes) calm) done.to
+      ends-answers row rest stage.Held (λ d o b. tt) (serving_settled env.serve s) [] (subst (Each IsCalm) (sym done.notes) calm) done.to
   settled-answers row rest s (Some path) calm = placed-answers row rest s path (env.first path) calm
 
   heard-answers : (row : FrontRow) (rest : FrontRest) (b : ControlBlock) → Goes (heard env p row rest b)
   heard-answers row rest b =
-      let r : Reading = reads env.serve (record { service = serving b rest.count []; target = None }) in
+      let r : Reading = front_reads env.serve (record { service = serving b rest.count []; target = None }) in
       settled-answers row rest r.service r.target (answers-calm r.service.notes (reads-answers env.serve (record { service = serving b rest.count []; target = None }) tt))
 
   -- ---- segments
 
   met-answers : (s : Segment) → Goes (met env p s)
-  met-answers s = cond_both (is_plain_syn s) (begun env p s) Drops Goes
+  met-answers s = cond_both (is_plain_syn s) (front_begun env p s) Drops Goes
       (λ e.
       let w : Service = serving (listening s env.iss) 0 (rec.Took Front env.serve.c (record { 0 = 1 }) ∷ []) in
-      ends-answers (record { stage = stage.Lent; epoch = record { 0 = 1 }; ended_by = None }) (rest_of None) stage.Held (λ d o b. tt) (spoken env.serve w []) [] (tt, tt) (spoken-to env.serve w [] tt))
+      ends-answers (record { stage = stage.Lent; epoch = record { 0 = 1 }; ended_by = None }) (front_rest None) stage.Held (λ d o b. tt) (spoken env.serve w []) [] (tt, tt) (spoken-to env.serve w [] tt))
       (λ e. drops-answers)
 
   tombstone-answers : (o : Option Segment) → Goes (Says (turn_here (tombstone env.serve o)))
   tombstone-answers None = says-answers (turn_here (tombstone env.serve None)) refl tt refl
   tombstone-answers (Some s) = says-answers (turn_here (tombstone env.serve (Some s))) refl (ap Client is.number, tt) refl
 
-  forwards-answers : (bytes : List ℕ) (n : ℕ) (d : Epoch) → Goes (Says (saying ((Node n, message env.serve.c d.0 (body.Forward bytes)) ∷ [])))
-  forwards-answers bytes n d = says-answers (saying ((Node n, message env.serve.c d.0 (body.Forward bytes)) ∷ [])) refl tt (ap (λ o. listed o ++ []) (not-tagged n env.serve.c d.0 (body.Forward bytes) (λ i. cc)))
+  forwards-answers : (bytes : List ℕ) (n : ℕ) (d : Epoch) → Goes (Says (front_saying ((Node n, message env.serve.c d.0 (body.Forward bytes)) ∷ [])))
+  forwards-answers bytes n d = says-answers (front_saying ((Node n, message env.serve.c d.0 (body.Forward bytes)) ∷ [])) refl tt (ap (λ o. listed o ++ []) (not-tagged n env.serve.c d.0 (body.Forward bytes) (λ i. cc)))
 
   hears-at : (bytes : List ℕ) (s : Segment) (row : FrontRow) (st : FrontConn) → Goes (hears_at env p row bytes s st)
-  hears-at bytes s row (stage.Held b) = heard-answers row (rest_of p.rest) (on_segment b s).1
+  hears-at bytes s row (stage.Held b) = heard-answers row (front_rest p.rest) (on_segment b s).1
   hears-at bytes s row (stage.Waiting b) =
-      let w : Service = serving (on_segment b s).1 (rest_of p.rest).count [] in
-      ends-answers row (rest_of p.rest) stage.Waiting (λ d o c. tt) (spoken env.serve w []) (leaves_by env.serve.c (spoken env.serve w []).0) tt (spoken-to env.serve w [] tt)
+      let w : Service = serving (on_segment b s).1 (front_rest p.rest).count [] in
+      ends-answers row (front_rest p.rest) stage.Waiting (λ d o c. tt) (spoken env.serve w []) (leaves_by env.serve.c (spoken env.serve w []).0) tt (spoken-to env.serve w [] tt)
   hears-at bytes s row stage.Lent = drops-answers
   hears-at bytes s row (stage.Offering n d) = forwards-answers bytes n d
   hears-at bytes s row (stage.Moved n d) = forwards-answers bytes n d
@@ -187,16 +187,16 @@ module _ (k : Setting) (x : Conn) (told : Told x) (known : IsKnown x) (heads : L
 
   fires-at : (row : FrontRow) (st : FrontConn) → Goes (fires_at env p row st)
   fires-at row (stage.Held b) =
-      let w : Service = serving (after_timer b) (rest_of p.rest).count [] in
-      ends-answers row (rest_of p.rest) stage.Held (λ d o c. tt) (fired env (rest_of p.rest) b) [] tt (spoken-to env.serve w (ready_of env.serve (after_timer b) (timed b)) (ready-to env.serve (after_timer b) (timed b)))
+      let w : Service = serving (after_timer b) (front_rest p.rest).count [] in
+      ends-answers row (front_rest p.rest) stage.Held (λ d o c. tt) (front_fired env (front_rest p.rest) b) [] tt (spoken-to env.serve w (serving_ready_of env.serve (after_timer b) (timed b)) (ready-to env.serve (after_timer b) (timed b)))
   fires-at row (stage.Waiting b) =
-      let w : Service = serving (after_timer b) (rest_of p.rest).count [] in
-      ends-answers row (rest_of p.rest) stage.Waiting (λ d o c. tt) (fired env (rest_of p.rest) b) (leaves_by env.serve.c (fired env (rest_of p.rest) b).0) tt
-      (spoken-to env.serve w (ready_of env.serve (after_timer b) (timed b)) (ready-to env.serve (after_timer b) (timed b)))
-  fires-at row (stage.Offering n d) = says-answers (saying (map sent_of p.kept)) refl tt (resent-none p.kept known.kept)
+      let w : Service = serving (after_timer b) (front_rest p.rest).count [] in
+      ends-answers row (front_rest p.rest) stage.Waiting (λ d o c. tt) (front_fired env (front_rest p.rest) b) (leaves_by env.serve.c (front_fired env (front_rest p.rest) b).0) tt
+      (spoken-to env.serve w (serving_ready_of env.serve (after_timer b) (timed b)) (ready-to env.serve (after_timer b) (timed b)))
+  fires-at row (stage.Offering n d) = says-answers (front_saying (map sent_of p.kept)) refl tt (resent-none p.kept known.kept)
   fires-at row _ = drops-answers
 
-  fires-by : (o : Option FrontRow) → Goes (fired_by env p o)
+  fires-by : (o : Option FrontRow) → Goes (front_fired_by env p o)
   fires-by None = drops-answers
   fires-by (Some row) = fires-at row row.stage
 
@@ -212,7 +212,7 @@ module _ (k : Setting) (x : Conn) (told : Told x) (known : IsKnown x) (heads : L
     there = subst (StageTold t.done p.rest) at (subst (RowTold t.done p.rest) found told)
 
     go : (b : Bool) → Goes (taken_by p epoch (Some row) (cond b (Some n) None))
-    go true = turn-answers _ (saying []) tt tt refl there
+    go true = turn-answers _ (front_saying []) tt tt refl there
     go false = drops-answers
   taken-at epoch row found _ at = drops-answers
 
@@ -227,10 +227,10 @@ module _ (k : Setting) (x : Conn) (told : Told x) (known : IsKnown x) (heads : L
   ack-none : (n epoch : ℕ) → pick tag_to (map (sending Front) (ack_sent env n epoch)) ≡ []
   ack-none n epoch = ap (λ o. listed o ++ []) (not-tagged n env.serve.c epoch body.EndedAck (λ i. cc))
 
-  ended-by : (n epoch : ℕ) (last : Final) (o : Option FrontRow) (given : OnEnded) → Goes (ended_by env p n epoch last o given)
+  ended-by : (n epoch : ℕ) (last : Final) (o : Option FrontRow) (given : OnEnded) → Goes (front_ended_by env p n epoch last o given)
   ended-by n epoch last None given = drops-answers
-  ended-by n epoch last (Some row) (New next) = turn-answers _ (ends env p n epoch last row next).turn (tt, (tt, tt)) tt (ack-none n epoch) tt
-  ended-by n epoch last (Some row) Again = says-answers (saying (ack_sent env n epoch)) refl tt (ack-none n epoch)
+  ended-by n epoch last (Some row) (New next) = turn-answers _ (front_ends env p n epoch last row next).turn (tt, (tt, tt)) tt (ack-none n epoch) tt
+  ended-by n epoch last (Some row) Again = says-answers (front_saying (ack_sent env n epoch)) refl tt (ack-none n epoch)
   ended-by n epoch last (Some row) Stale = drops-answers
 
   pub ended-answers : (n epoch : ℕ) (last : Final) → Goes (front_ended env p n epoch last)
@@ -242,15 +242,15 @@ module _ (k : Setting) (x : Conn) (told : Told x) (known : IsKnown x) (heads : L
     abbrev Admitted : FrontPart × FrontTurn → Type 0
     Admitted g = Goes (Does (record { part = g.0; turn = g.1; calls = [] }))
 
-    admitted-with : (row : FrontRow) (b : ControlBlock) (o : Option (List ℕ)) → admitted_with env row (rest_of p.rest) b choice o ≡ Some given → Admitted given
+    admitted-with : (row : FrontRow) (b : ControlBlock) (o : Option (List ℕ)) → front_admitted_with env row (front_rest p.rest) b choice o ≡ Some given → Admitted given
     admitted-with row b None e = let no : None ≡ Some given = e in absurd cc
     admitted-with row b (Some path) e =
-        let s : Service = serving b (rest_of p.rest).count [] in
+        let s : Service = serving b (front_rest p.rest).count [] in
         let handed : FrontPart × FrontTurn = handed_off env row s path choice in
         let same : handed ≡ given = cc in subst Admitted same (handed-answers row s path choice [] tt)
 
     admitted-at : (row : FrontRow) (st : FrontConn) → admitted_at env p choice row st ≡ Some given → Admitted given
-    admitted-at row (stage.Waiting b) e = admitted-with row b (rest_of p.rest).target e
+    admitted-at row (stage.Waiting b) e = admitted-with row b (front_rest p.rest).target e
     admitted-at row _ e = let no : None ≡ Some given = e in absurd cc
 
     admitted-by : (o : Option FrontRow) → admitted_by env p choice o ≡ Some given → Admitted given

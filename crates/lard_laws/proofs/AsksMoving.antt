@@ -3,15 +3,15 @@ use Rattle.std.proofs.Common.{◌≡◌, ℕ, ◌+◌, true, List, [], ◌∷◌
 use Rattle.std.specs.List.{fold}
 use Rattle.lard_base.specs.declared.place.Place.TheVariants.{Front, Node}
 use Rattle.lard_laws.specs.AsksAnswers.{EndsWith, IsAnswered, dues, tags_due}
-use Rattle.lard_laws.specs.Asks.{Answered, Asking, Asks, Assigned, ask_in, asks, end_in, later_in, node_in, row_done, tag_to}
+use Rattle.lard_laws.specs.Asks.{Answered, Asking, AskTale, LaterAssigned, ask_in, ask_tale, end_in, later_in, node_in, row_done, tag_to}
 use Rattle.lard_laws.proofs.AsksPicking.{done-grown, end-noted, first-done, later-noted, node-noted, seen-asks, seen-noted, seen-tags}
 use Rattle.lard_law_connections.specs.MotionStory.{of_row, picked}
 use Rattle.lard_law_connections.proofs.MotionNodes.{IsFirst}
 use Rattle.lard_law_connections.proofs.MotionPicking.{pick, pick-none}
-use Rattle.lard_law_view.specs.View.{Conn, Move, Spells, grown, seen_in, sending}
+use Rattle.lard_law_view.specs.View.{Conn, Move, SpellsMessage, grown, seen_in, sending}
 use Rattle.lard_law_view.proofs.Fine.{IsItsOwn}
 use Rattle.lard_rules.specs.declared.front.FrontRest.{FrontRest}
-use Rattle.lard_rules.specs.Front.{is_at}
+use Rattle.lard_rules.specs.Front.{is_row_at}
 use Rattle.lard_handoff_front.specs.declared.row.FrontConn.{FrontConn}
 use Rattle.lard_handoff_front.specs.declared.row.FrontConn.TheVariants as stage
 use Rattle.lard_handoff_front.specs.declared.row.FrontRow.{FrontRow}
@@ -39,14 +39,14 @@ RowTold d rest None = Unit {0}
 RowTold d rest (Some row) = StageTold d rest row.stage
 
 abbrev pub Told : Conn → Type 0
-Told x = RowTold (asks x.c x.seen).done x.part.front.rest x.part.front.row
+Told x = RowTold (ask_tale x.c x.seen).done x.part.front.rest x.part.front.row
 
 -- The dispatcher assigns each path: where x becomes y by the next Ask of its node, in its epoch, as many nodes are kept for the Tag
 -- as the Ask has paths. The view does not say so, since it hides what the dispatcher answers.
 abbrev pub Fills : Conn → Conn → Type 0
 Fills x y = (n epoch number queue size : ℕ) (paths : List (List ℕ)) (bytes : List ℕ) (rest : List Seen) (r q : FrontRest)
-    → y.seen ≡ x.seen ++ Came (record { from = Node n; to = Front; bytes = bytes }) ∷ rest → Spells x.c epoch (body.Ask number queue size paths) bytes
-    → is_at n epoch x.part.front.row ≡ true → x.part.front.rest ≡ Some r → number ≡ r.asks + 1 → y.part.front.rest ≡ Some q → length q.tag ≡ length paths
+    → y.seen ≡ x.seen ++ Came (record { from = Node n; to = Front; bytes = bytes }) ∷ rest → SpellsMessage x.c epoch (body.Ask number queue size paths) bytes
+    → is_row_at n epoch x.part.front.row ≡ true → x.part.front.rest ≡ Some r → number ≡ r.asks + 1 → y.part.front.rest ≡ Some q → length q.tag ≡ length paths
 
 -- the move is as it must be, and what is known stays known
 abbrev pub Answers : Conn → Move → Type 0
@@ -73,11 +73,11 @@ calm-end (rec.BatchOver c) h = absurd h
 calm-end _ h = refl
 
 module _ (x : Conn) (v : Move) (own : IsItsOwn x v) (first : Each IsFirst v.heads) where
-  abbrev t : Asks
-  t = asks x.c x.seen
+  abbrev t : AskTale
+  t = ask_tale x.c x.seen
 
   -- these Asks come, and this is written and sent
-  pub record Lists (came : List Asking) (laters : List Assigned) (nodes ends : List ℕ) (tags : List (ℕ × List ℕ)) : Type 0 where
+  pub record Lists (came : List Asking) (laters : List LaterAssigned) (nodes ends : List ℕ) (tags : List (ℕ × List ℕ)) : Type 0 where
     pub asks_are : picked ask_in v.heads ≡ came
     pub laters_are : pick later_in v.said.notes ≡ laters
     pub nodes_are : pick node_in v.said.notes ≡ nodes
@@ -88,7 +88,7 @@ module _ (x : Conn) (v : Move) (own : IsItsOwn x v) (first : Each IsFirst v.head
     pub tagged : tags ≡ tags_due x.c t nodes came
     pub ended : EndsWith laters ends
 
-  pub by-lists : (came : List Asking) (laters : List Assigned) (nodes ends : List ℕ) (tags : List (ℕ × List ℕ)) → Lists came laters nodes ends tags → IsAnswered x.c x.seen (seen_in x v)
+  pub by-lists : (came : List Asking) (laters : List LaterAssigned) (nodes ends : List ℕ) (tags : List (ℕ × List ℕ)) → Lists came laters nodes ends tags → IsAnswered x.c x.seen (seen_in x v)
   by-lists came laters nodes ends tags l =
       let comes : picked ask_in (seen_in x v) ≡ came = seen-asks x v own first ∙ l.asks_are in
       let assigned : picked (of_row later_in) (seen_in x v) ≡ laters = seen-noted x v own first later_in later-noted ∙ l.laters_are in
@@ -97,7 +97,7 @@ module _ (x : Conn) (v : Move) (own : IsItsOwn x v) (first : Each IsFirst v.head
       record {
         assigns = assigned ∙ l.due ∙ ap (dues t) (sym comes);
         tags = seen-tags x v own first l.segments ∙ l.tags_are ∙ l.tagged ∙ (λ i. tags_due x.c t (sym chosen i) (sym comes i));
-        ends = subst (λ (ls : List Assigned). EndsWith ls (picked (of_row end_in) (seen_in x v))) (sym assigned) (subst (EndsWith laters) (sym over) l.ended);
+        ends = subst (λ (ls : List LaterAssigned). EndsWith ls (picked (of_row end_in) (seen_in x v))) (sym assigned) (subst (EndsWith laters) (sym over) l.ended);
       }
 
   -- no Ask comes, and nothing of one is done

@@ -4,7 +4,7 @@ use Rattle.std.proofs.lemmas.List.Sums.{fold-append}
 use Rattle.std.specs.List.{fold}
 use Rattle.lard_base.specs.declared.place.Place.{Place}
 use Rattle.lard_base.specs.declared.place.Place.TheVariants.{Front, Node}
-use Rattle.lard_laws.specs.Asks.{Answered, Asking, Asks, ask_in, ask_on, asks, asks_step, came_done, done_step, end_in, later_in, node_in, row_done, tag_to, unasked}
+use Rattle.lard_laws.specs.Asks.{Answered, Asking, AskTale, ask_in, ask_on, ask_tale, asks_step, came_done, done_step, end_in, later_in, node_in, row_done, tag_to, unasked}
 use Rattle.lard_law_connections.specs.MotionStory.{of_row, picked, story, story_step}
 use Rattle.lard_law_connections.proofs.MotionElsewhere.{IsUnsent, gave-unsent, note-unsent, timer-unsent}
 use Rattle.lard_law_connections.proofs.MotionNodes.{IsFirst}
@@ -83,20 +83,20 @@ outers-done d (r ∷ rs) e = ap (λ (x : Answered). fold row_done x rs) (outer-d
 
 -- ---- what was answered
 
-pub way-is : (c : ℕ) (t : Asks) (ss : List Seen) → (fold (asks_step c) t ss).way ≡ fold (story_step c) t.way ss
+pub way-is : (c : ℕ) (t : AskTale) (ss : List Seen) → (fold (asks_step c) t ss).way ≡ fold (story_step c) t.way ss
 way-is c t [] = refl
 way-is c t (s ∷ ss) = way-is c (asks_step c t s) ss
 
 -- how it moved is the story of its way
-pub way-told : (c : ℕ) (ss : List Seen) → (asks c ss).way ≡ story c ss
+pub way-told : (c : ℕ) (ss : List Seen) → (ask_tale c ss).way ≡ story c ss
 way-told c ss = way-is c unasked ss
 
-done-rows : (c : ℕ) (t : Asks) (rs : List Rec) → (fold (asks_step c) t (map Row rs)).done ≡ fold row_done t.done rs
+done-rows : (c : ℕ) (t : AskTale) (rs : List Rec) → (fold (asks_step c) t (map Row rs)).done ≡ fold row_done t.done rs
 done-rows c t [] = refl
 done-rows c t (r ∷ rs) = done-rows c (asks_step c t (Row r)) rs
 
 -- where no Ask comes first
-pub first-done : (c : ℕ) (t : Asks) (ss : List Seen) → Each IsFirst ss → picked ask_in ss ≡ [] → (fold (asks_step c) t ss).done ≡ t.done
+pub first-done : (c : ℕ) (t : AskTale) (ss : List Seen) → Each IsFirst ss → picked ask_in ss ≡ [] → (fold (asks_step c) t ss).done ≡ t.done
 first-done c t [] e none = refl
 first-done c t (Row (rec.Event i e_) ∷ ss) e none = first-done c (asks_step c t (Row (rec.Event i e_))) ss e.1 none
 first-done c t (Row (rec.Opened d isn iss wnd mss) ∷ ss) e none = first-done c (asks_step c t (Row (rec.Opened d isn iss wnd mss))) ss e.1 none
@@ -161,11 +161,11 @@ module _ (x : Conn) (v : Move) (own : IsItsOwn x v) (first : Each IsFirst v.head
   seen-asks = picked-append ask_in v.heads (map Row (rows_of x v)) ∙ ap (λ l. picked ask_in v.heads ++ l) (came-none ask_in (λ r. refl) (rows_of x v)) ∙ append-nil (picked ask_in v.heads)
 
   -- what is answered then
-  pub done-grown : (asks x.c (x.seen ++ seen_in x v)).done ≡ fold row_done (fold (asks_step x.c) (asks x.c x.seen) v.heads).done v.said.notes
+  pub done-grown : (ask_tale x.c (x.seen ++ seen_in x v)).done ≡ fold row_done (fold (asks_step x.c) (ask_tale x.c x.seen) v.heads).done v.said.notes
   done-grown =
-      let t : Asks = fold (asks_step x.c) (asks x.c x.seen) v.heads in
+      let t : AskTale = fold (asks_step x.c) (ask_tale x.c x.seen) v.heads in
       let d : Answered = fold row_done t.done v.said.notes in
-      ap (λ (u : Asks). u.done) (fold-append (asks_step x.c) unasked x.seen (seen_in x v) ∙ fold-append (asks_step x.c) (asks x.c x.seen) v.heads (map Row (rows_of x v)))
+      ap (λ (u : AskTale). u.done) (fold-append (asks_step x.c) unasked x.seen (seen_in x v) ∙ fold-append (asks_step x.c) (ask_tale x.c x.seen) v.heads (map Row (rows_of x v)))
       ∙ done-rows x.c t (rows_of x v)
       ∙ fold-append row_done t.done (v.said.notes ++ segments ++ v.said.gave ++ messages) timers
       ∙ outers-done (fold row_done t.done (v.said.notes ++ segments ++ v.said.gave ++ messages)) timers (Each-weaker (IsTimerAt v.place x.c) IsOuter (timer-outer v.place x.c) timers (timer_rows-are v.place x.c x.part v.part))

@@ -11,17 +11,17 @@ use Rattle.lard_rules.specs.declared.fault.Refusal.TheVariants.{NoJob, NoNode}
 use Rattle.lard_rules.specs.declared.fault.StepFault.TheVariants.{Refused}
 use Rattle.lard_rules.specs.declared.machine.Machine.{Machine}
 use Rattle.lard_rules.specs.Machine.{completes, disk_at, happens, is_no_job, is_no_node, limit_reached, machine_step, node_acts, node_at, node_gave, node_setting, passed, timer, to_place}
-use Rattle.lard_laws.specs.AsksSent.{AsksGoOn, IsNext, ask_by, is_ask, last_ask}
+use Rattle.lard_laws.specs.AsksSent.{AsksGoOn, IsNextAsk, ask_by, is_ask, last_ask}
 use Rattle.lard_laws.proofs.AsksFilling.{arrived, unlimited}
 use Rattle.lard_laws.proofs.AsksSends.{IsSomeNext, PartsAsk}
 use Rattle.lard_laws.proofs.AsksSteps.{Told, disk-told, message-told, timer-told}
 use Rattle.lard_law_connections.specs.MotionStory.{of_row, picked}
 use Rattle.lard_law_connections.proofs.MotionPicking.{pick, picked-append}
-use Rattle.lard_law_connections.specs.Places.{head_of}
+use Rattle.lard_law_connections.specs.Places.{message_head}
 use Rattle.lard_law_connections.proofs.PlacesTurns.{IsPlaced}
 use Rattle.lard_law_view.specs.View.{IsViewed, conn}
 use Rattle.lard_law_view.proofs.Heads.{ActsAt}
-use Rattle.lard_history.specs.Own.{Came, Row, Seen, came, conn_of, letter_of, named_in, net_step, one_of, own, plain, seen_of, seen_on, whose}
+use Rattle.lard_history.specs.Own.{Came, Row, Seen, came_seen, conn_of, letter_of, named_in, net_step, one_of, own, plain, seen_of, seen_on, whose}
 use Rattle.lard_history.proofs.Each.{Each}
 use Rattle.lard_journal.specs.declared.rec.Rec.{Rec}
 use Rattle.lard_journal.specs.declared.rec.Rec.TheVariants as rec
@@ -114,7 +114,7 @@ module _ (n e q : ℕ) where
     go true = ap (λ o. listed o ++ []) none
     go false = refl
 
-  none-came : (o : Option Packet) → picked (of_row f) (came q o) ≡ []
+  none-came : (o : Option Packet) → picked (of_row f) (came_seen q o) ≡ []
   none-came None = refl
   none-came (Some p) = none-seen (conn_of p.from p.to p.bytes) (Came (letter_of p)) refl
 
@@ -142,7 +142,7 @@ module _ (n e q : ℕ) where
     ask-seen m bytes h = by-name (named_in bytes) refl where
       by-option : (o : Option (List ℕ)) → f (rec.Sent 0 (Node m) Front bytes) ≡ o → (named_in bytes ≡ Some q) → Each P (listed o) → Each Mine (listed o ++ [])
       by-option None is named h = tt
-      by-option (Some b) is named h = ((h.0, ap named_in (bytes-same (nat_eq m n && is_ask e (head_of bytes)) b is) ∙ named), tt) where
+      by-option (Some b) is named h = ((h.0, ap named_in (bytes-same (nat_eq m n && is_ask e (message_head bytes)) b is) ∙ named), tt) where
         bytes-same : (t : Bool) (b : List ℕ) → cond t (Some bytes) None ≡ Some b → b ≡ bytes
         bytes-same true b is = cc
         bytes-same false b is = let no : ◌≡◌ {A = Option (List ℕ)} None (Some b) = is in absurd cc
@@ -167,7 +167,7 @@ module _ (n e q : ℕ) where
 
     one-seen : (net : List Packet) (r : Rec) → Each P (listed (f r)) → Each Mine (picked (of_row f) (seen_of q net r))
     one-seen net (rec.Sent k from to bytes) h = sent-seen k from to bytes h
-    one-seen net (rec.Got k) h = nothing-seen (came q (packet_at net k)) (none-came (packet_at net k))
+    one-seen net (rec.Got k) h = nothing-seen (came_seen q (packet_at net k)) (none-came (packet_at net k))
     one-seen net r h = nothing-seen (one_of q (whose r) (Row (plain r))) (none-seen (whose r) (Row (plain r)) refl)
 
     -- what is so of each Ask of a list of records, is so of each that the connection sees
@@ -208,14 +208,14 @@ module _ (q n d waiting : ℕ) (last : Option (List ℕ)) where
   abbrev pub Waits : List ℕ → Type 0
   Waits bytes = (last ≡ Some bytes) ⊎ ((c e k size : ℕ) × (paths : List (List ℕ)) × (bytes ≡ message c e (body.Ask k waiting size paths)))
 
-  pub go-on : (all : List (List ℕ)) → AsksGoOn (IsSomeNext q d) last all → Each Waits all → AsksGoOn (IsNext q d waiting) last all
+  pub go-on : (all : List (List ℕ)) → AsksGoOn (IsSomeNext q d) last all → Each Waits all → AsksGoOn (IsNextAsk q d waiting) last all
   go-on [] h k = tt
   go-on (bytes ∷ more) h k = ⊎_elim
       (λ (again : (last ≡ Some bytes) × AsksGoOn (IsSomeNext q d) last more). inl (again.0, go-on more again.1 k.1))
       (λ (new : IsSomeNext q d last bytes × (more ≡ [])). ⊎_elim
-      (λ (same : last ≡ Some bytes). inl (same, subst (AsksGoOn (IsNext q d waiting) last) (sym new.1) tt))
+      (λ (same : last ≡ Some bytes). inl (same, subst (AsksGoOn (IsNextAsk q d waiting) last) (sym new.1) tt))
       (λ (says : (c e k size : ℕ) × (paths : List (List ℕ)) × (bytes ≡ message c e (body.Ask k waiting size paths))). inr (next-of new.0 says, new.1))
       k.0)
       h where
-        next-of : IsSomeNext q d last bytes → ((c e k size : ℕ) × (paths : List (List ℕ)) × (bytes ≡ message c e (body.Ask k waiting size paths))) → IsNext q d waiting last bytes
+        next-of : IsSomeNext q d last bytes → ((c e k size : ℕ) × (paths : List (List ℕ)) × (bytes ≡ message c e (body.Ask k waiting size paths))) → IsNextAsk q d waiting last bytes
         next-of a b = (a.1.0, b.3, b.4, a.1.3, a.1.4 ∙ spelled-both q d b.0 b.1 (a.1.0 + 1) b.2 a.0 waiting a.1.1 b.3 a.1.2 b.4 (sym a.1.4 ∙ b.5))

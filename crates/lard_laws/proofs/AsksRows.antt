@@ -9,8 +9,8 @@ use Rattle.lard_base.specs.declared.place.Place.{Place}
 use Rattle.lard_base.specs.declared.place.Place.TheVariants.{Client, Front, Node}
 use Rattle.lard_rules.specs.declared.machine.Machine.{Machine}
 use Rattle.lard_rules.specs.Bounds.{HasRule}
-use Rattle.lard_rules.specs.Machine.{IsReached, machine_step, node_at, node_gave, passed, segments_sent, told}
-use Rattle.lard_laws.specs.AsksSent.{AsksGoOn, IsNext, JobsFirst, NoJobs, ask_by, is_job, last_ask}
+use Rattle.lard_rules.specs.Machine.{IsReached, machine_step, node_at, node_gave, passed, segments_sent, machine_told}
+use Rattle.lard_laws.specs.AsksSent.{AsksGoOn, IsNextAsk, JobsFirst, NoJobs, ask_by, is_job, last_ask}
 use Rattle.lard_laws.proofs.AsksQueues.{Moved, acts-moved}
 use Rattle.lard_laws.proofs.AsksSending.{asks_in}
 use Rattle.lard_laws.proofs.AsksSends.{IsNoNode, PartsAsk, ask-unsent, else-asks, other-asks}
@@ -143,11 +143,11 @@ acts-first before net place notes segments gave messages timers hb hn hg ht =
 abbrev pub IsTold : List Rec → List Rec → ℕ → ℕ → List ℕ → Type 0
 IsTold past then j d bytes = ((c : ℕ) × (last_ask j d (own c past) ≡ Some bytes)) ⊎ ((c e k size : ℕ) × (paths : List (List ℕ)) × (bytes ≡ message c e (body.Ask k (length (jobs then j)) size paths)))
 
-goes-each : (c d waiting : ℕ) (last : Option (List ℕ)) (all : List (List ℕ)) → AsksGoOn (IsNext c d waiting) last all → Each (λ bytes. (last ≡ Some bytes) ⊎ IsNext c d waiting last bytes) all
+goes-each : (c d waiting : ℕ) (last : Option (List ℕ)) (all : List (List ℕ)) → AsksGoOn (IsNextAsk c d waiting) last all → Each (λ bytes. (last ≡ Some bytes) ⊎ IsNextAsk c d waiting last bytes) all
 goes-each c d waiting last [] h = tt
 goes-each c d waiting last (bytes ∷ more) h = ⊎_elim
-    (λ (again : (last ≡ Some bytes) × AsksGoOn (IsNext c d waiting) last more). (inl again.0, goes-each c d waiting last more again.1))
-    (λ (new : IsNext c d waiting last bytes × (more ≡ [])). (inr new.0, subst (Each (λ bytes. (last ≡ Some bytes) ⊎ IsNext c d waiting last bytes)) (sym new.1) tt))
+    (λ (again : (last ≡ Some bytes) × AsksGoOn (IsNextAsk c d waiting) last more). (inl again.0, goes-each c d waiting last more again.1))
+    (λ (new : IsNextAsk c d waiting last bytes × (more ≡ [])). (inr new.0, subst (Each (λ bytes. (last ≡ Some bytes) ⊎ IsNextAsk c d waiting last bytes)) (sym new.1) tt))
     h
 
 module _ (config : Config) (files : List (List ℕ × List ℕ)) (m n : Machine) (reached : IsReached config files n) (view : IsViewed m) (placed : (c : ℕ) → IsPlaced (conn m c)) (known : (c : ℕ) → PartsAsk (conn m c)) (e : Event) (step : List Rec)
@@ -167,7 +167,7 @@ module _ (config : Config) (files : List (List ℕ × List ℕ)) (m n : Machine)
     rows-are = cancel m.journal step (first_rows w e ++ x.1.notes ++ last_rows w (Node i) x.1) (sym adds ∙ ap (λ (y : Machine). y.journal) is ∙ told-journal w e (Node i) x.1)
 
     now-there : node_at n.nodes i ≡ Some x.0
-    unfolding told
+    unfolding machine_told
     now-there = ap (λ (y : Machine). node_at y.nodes i) is ∙ node-set m.nodes i s x.0 there
 
     many : length (jobs n.journal i) ≡ length x.0.disk
@@ -186,10 +186,10 @@ module _ (config : Config) (files : List (List ℕ × List ℕ)) (m n : Machine)
         ∙ (λ l. (pick-append f S x.1.gave ∙ (λ o. (sents-same j d (length w.net + 1) (Node i) x.1.segments ∙ h.segments j d) o ++ unsent-none j d x.1.gave h.gave o)) l
         ++ sents-same j d (length (segments_sent w (Node i) x.1) + 1) (Node i) x.1.messages l)) k)
 
-    next-told : (d : ℕ) (bytes : List ℕ) → (last_ask i d (own h.c m.journal) ≡ Some bytes) ⊎ IsNext h.c d (length x.0.disk) (last_ask i d (own h.c m.journal)) bytes → IsTold m.journal n.journal i d bytes
+    next-told : (d : ℕ) (bytes : List ℕ) → (last_ask i d (own h.c m.journal) ≡ Some bytes) ⊎ IsNextAsk h.c d (length x.0.disk) (last_ask i d (own h.c m.journal)) bytes → IsTold m.journal n.journal i d bytes
     next-told d bytes k = ⊎_elim
         (λ (again : last_ask i d (own h.c m.journal) ≡ Some bytes). inl (h.c, again))
-        (λ (new : IsNext h.c d (length x.0.disk) (last_ask i d (own h.c m.journal)) bytes). inr (h.c, d, new.0 + 1, new.1, new.2, new.4 ∙ ap (λ (waiting : ℕ). message h.c d (body.Ask (new.0 + 1) waiting new.1 new.2)) (sym many)))
+        (λ (new : IsNextAsk h.c d (length x.0.disk) (last_ask i d (own h.c m.journal)) bytes). inr (h.c, d, new.0 + 1, new.1, new.2, new.4 ∙ ap (λ (waiting : ℕ). message h.c d (body.Ask (new.0 + 1) waiting new.1 new.2)) (sym many)))
         k
 
     moved-told : AllTold
@@ -197,7 +197,7 @@ module _ (config : Config) (files : List (List ℕ × List ℕ)) (m n : Machine)
       go : (b : Bool) → (i == j) ≡ b → Each (IsTold m.journal n.journal j d) (pick (ask_by j d) step)
       go true same = subst (λ (k : ℕ). Each (IsTold m.journal n.journal k d) (pick (ask_by k d) step)) (eqb-true i j same)
           (subst (Each (IsTold m.journal n.journal i d)) (sym (sent-are i d))
-          (Each-weaker (λ bytes. (last_ask i d (own h.c m.journal) ≡ Some bytes) ⊎ IsNext h.c d (length x.0.disk) (last_ask i d (own h.c m.journal)) bytes) (IsTold m.journal n.journal i d) (next-told d) (asks_in i d x.1.messages)
+          (Each-weaker (λ bytes. (last_ask i d (own h.c m.journal) ≡ Some bytes) ⊎ IsNextAsk h.c d (length x.0.disk) (last_ask i d (own h.c m.journal)) bytes) (IsTold m.journal n.journal i d) (next-told d) (asks_in i d x.1.messages)
           (goes-each h.c d (length x.0.disk) (last_ask i d (own h.c m.journal)) (asks_in i d x.1.messages) (h.asks d))))
       go false other =
           let apart : i ≢ j = λ same. both_ways (i == j) other (eq-eqb i j same) in

@@ -5,7 +5,7 @@ use Rattle.lard_base.specs.declared.event.Event.TheVariants as event
 use Rattle.lard_base.specs.declared.place.Place.{Place}
 use Rattle.lard_base.specs.declared.place.Place.TheVariants.{Client, Front, Node}
 use Rattle.lard_client.specs.Control.{ClientBlock}
-use Rattle.lard_laws.specs.Asks.{Answered, ask_from, ask_in, ask_on, asks, row_done, tag_to}
+use Rattle.lard_laws.specs.Asks.{Answered, ask_from, ask_in, ask_on, ask_tale, row_done, tag_to}
 use Rattle.lard_laws.proofs.AsksAsked.{asked-answers}
 use Rattle.lard_laws.proofs.AsksFronts as fronts
 use Rattle.lard_laws.proofs.AsksMoving.{Answers, Fills, IsCalm, RowTold, Told, calm-answers}
@@ -14,7 +14,7 @@ use Rattle.lard_law_connections.proofs.MotionElsewhere.{IsElse, IsKnown}
 use Rattle.lard_law_connections.proofs.MotionNodes.{IsFirst}
 use Rattle.lard_law_connections.proofs.MotionPicking.{pick}
 use Rattle.lard_law_connections.proofs.PolicyMessages.{IsTold, message-told}
-use Rattle.lard_law_view.specs.View.{ClientRules, Conn, IsForFront, IsFrontEnv, IsUnheard, Move, Rules, Setting, Spells, client_begins, client_does, contents, event_seen, front_admits, front_does, grown, inject_seen, node_does, nothing_said, packet_seen, reads_first, sending, stands}
+use Rattle.lard_law_view.specs.View.{ClientRules, Conn, IsForFront, IsFrontEnv, IsUnheard, Move, Rules, Setting, SpellsMessage, client_begins, client_does, content_said, event_seen, front_admits, front_does, grown, inject_seen, node_does, nothing_said, packet_seen, reads_first, sending, stands}
 use Rattle.lard_law_view.proofs.Fine.{IsItsOwn}
 use Rattle.lard_law_view.proofs.Saying.{NotedAt}
 use Rattle.lard_rules.specs.declared.front.FrontTurn.{FrontTurn}
@@ -94,8 +94,8 @@ else-answers : (x : Conn) (v : Move) → Each IsFirst v.heads → picked ask_in 
 else-answers x v first none m same told own =
     let unasked : Each IsUnasked v.said.notes = Each-weaker (NotedAt v.place x.c) IsUnasked (λ r. else-note v.place x.c r m) v.said.notes own.notes in
     calm-answers x v own first none (Each-weaker IsUnasked IsCalm unasked-calm v.said.notes unasked) (else-sends v.place v.said.segments m) (else-sends v.place v.said.messages m)
-    (subst (λ (f : FrontPart). RowTold (fold row_done (asks x.c x.seen).done v.said.notes) f.rest f.row) (sym same)
-    (subst (λ (d : Answered). RowTold d x.part.front.rest x.part.front.row) (sym (all-done (asks x.c x.seen).done v.said.notes unasked)) told))
+    (subst (λ (f : FrontPart). RowTold (fold row_done (ask_tale x.c x.seen).done v.said.notes) f.rest f.row) (sym same)
+    (subst (λ (d : Answered). RowTold d x.part.front.rest x.part.front.row) (sym (all-done (ask_tale x.c x.seen).done v.said.notes unasked)) told))
 
 -- ---- a client
 
@@ -127,14 +127,14 @@ module _ (k : Setting) (x : Conn) (env : FrontEnv) (is : IsFrontEnv k x.c env) w
   fires-goes known told own fills = fronts.fires-answers k x told known (event_seen (event.Timer Front x.c)) (tt, tt) refl env is own
 
   -- a message that is no Ask
-  no-ask : (n epoch : ℕ) (b : Body) (bytes : List ℕ) → Spells x.c epoch b bytes → ask_from n (Ok (record { c = x.c; epoch = record { 0 = epoch }; body = b })) ≡ None → picked ask_in (packet_seen (Node n) Front bytes) ≡ []
+  no-ask : (n epoch : ℕ) (b : Body) (bytes : List ℕ) → SpellsMessage x.c epoch b bytes → ask_from n (Ok (record { c = x.c; epoch = record { 0 = epoch }; body = b })) ≡ None → picked ask_in (packet_seen (Node n) Front bytes) ≡ []
   no-ask n epoch b bytes spells none = ap (λ r. listed (ask_from n r) ++ []) spells ∙ ap (λ o. listed o ++ []) none
 
-  taken-goes : (n epoch : ℕ) (bytes : List ℕ) → Spells x.c epoch body.Taken bytes → Goes k x (front_does x (packet_seen (Node n) Front bytes) (front_taken x.part.front epoch))
+  taken-goes : (n epoch : ℕ) (bytes : List ℕ) → SpellsMessage x.c epoch body.Taken bytes → Goes k x (front_does x (packet_seen (Node n) Front bytes) (front_taken x.part.front epoch))
   taken-goes n epoch bytes spells known told own fills =
       fronts.taken-answers k x told known (packet_seen (Node n) Front bytes) (tt, tt) (no-ask n epoch body.Taken bytes spells refl) env is epoch own
 
-  asked-goes : (n epoch number queue size : ℕ) (paths : List (List ℕ)) (bytes : List ℕ) → Spells x.c epoch (body.Ask number queue size paths) bytes
+  asked-goes : (n epoch number queue size : ℕ) (paths : List (List ℕ)) (bytes : List ℕ) → SpellsMessage x.c epoch (body.Ask number queue size paths) bytes
       → Goes k x (front_does x (packet_seen (Node n) Front bytes) (front_asked env x.part.front n epoch (ask_of x.c n number queue size paths)))
   asked-goes n epoch number queue size paths bytes spells known told own fills =
       let table : IsOfTable (body.Ask number queue size paths) = subst IsTold spells (message-told bytes) in
@@ -142,7 +142,7 @@ module _ (k : Setting) (x : Conn) (env : FrontEnv) (is : IsFrontEnv k x.c env) w
         some-path : 1 ≤ length paths → length paths ≡ 0 → ⊥
         some-path some none = omega (arith, some, none)
 
-  ended-goes : (n epoch : ℕ) (reason : _) (snd rcv count : ℕ) (bytes : List ℕ) → Spells x.c epoch (body.Ended reason snd rcv count) bytes
+  ended-goes : (n epoch : ℕ) (reason : _) (snd rcv count : ℕ) (bytes : List ℕ) → SpellsMessage x.c epoch (body.Ended reason snd rcv count) bytes
       → Goes k x (front_does x (packet_seen (Node n) Front bytes) (front_ended env x.part.front n epoch (record { reason = reason; snd = record { 0 = snd }; rcv = record { 0 = rcv } })))
   ended-goes n epoch reason snd rcv count bytes spells known told own fills =
       fronts.ended-answers k x told known (packet_seen (Node n) Front bytes) (tt, tt) (no-ask n epoch (body.Ended reason snd rcv count) bytes spells refl) env is n epoch (record { reason = reason; snd = record { 0 = snd }; rcv = record { 0 = rcv } }) own
@@ -153,13 +153,13 @@ module _ (k : Setting) (x : Conn) (env : FrontEnv) (is : IsFrontEnv k x.c env) w
 -- ---- a node
 
 module _ (k : Setting) (x : Conn) (n : ℕ) where
-  node-goes : (heads : List Seen) → Each IsFirst heads → picked ask_in heads ≡ [] → (d : node.Deed) → Goes k x (node_does x n heads d)
+  node-goes : (heads : List Seen) → Each IsFirst heads → picked ask_in heads ≡ [] → (d : node.NodeDeed) → Goes k x (node_does x n heads d)
   node-goes heads first none node.Drops known told own fills = else-answers x (node_does x n heads node.Drops) first none tt refl told own
   node-goes heads first none (node.Says ms) known told own fills = else-answers x (node_does x n heads (node.Says ms)) first none tt refl told own
   node-goes heads first none (node.Does y) known told own fills = else-answers x (node_does x n heads (node.Does y)) first none tt refl told own
 
   -- behind the record of a job of its own
-  read-goes : (r : Rec) (d : node.Deed) → Goes k x (reads_first r (node_does x n [] d))
+  read-goes : (r : Rec) (d : node.NodeDeed) → Goes k x (reads_first r (node_does x n [] d))
   read-goes r node.Drops known told own fills = else-answers x (reads_first r (node_does x n [] node.Drops)) tt refl tt refl told own
   read-goes r (node.Says ms) known told own fills = else-answers x (reads_first r (node_does x n [] (node.Says ms))) tt refl tt refl told own
   read-goes r (node.Does y) known told own fills = else-answers x (reads_first r (node_does x n [] (node.Does y))) tt refl tt refl told own
@@ -235,9 +235,9 @@ module _ (k : Setting) where
         acknowledged = λ x n epoch env bytes is spells was. node-goes k x n (packet_seen Front (Node n) bytes) (tt, tt) refl (node_acknowledged env (x.part.nodes n));
         read = λ x n epoch r env path is. read-goes k x n (rec.Read n n x.c r path) (node_read env (x.part.nodes n) r);
         fires = λ x s n env there is. node-goes k x n (event_seen (event.Timer (Node n) x.c)) (tt, tt) refl (node_timer env (x.part.nodes n));
-        answers = λ x n from epoch r path file bytes there spells was. stands-goes k x n (packet_seen (Node from) (Node n) bytes) [] (contents k n from x.c epoch r path).messages (tt, tt) refl;
+        answers = λ x n from epoch r path file bytes there spells was. stands-goes k x n (packet_seen (Node from) (Node n) bytes) [] (content_said k n from x.c epoch r path).messages (tt, tt) refl;
         queues = λ x n from epoch r path file bytes there spells was. stands-goes k x n (packet_seen (Node from) (Node n) bytes) (rec.Queued n from x.c r path ∷ []) [] (tt, tt) refl;
-        brings = λ x n from epoch r path. stands-goes k x n [] (rec.Read n from x.c r path ∷ []) (contents k n from x.c epoch r path).messages tt refl;
+        brings = λ x n from epoch r path. stands-goes k x n [] (rec.Read n from x.c r path ∷ []) (content_said k n from x.c epoch r path).messages tt refl;
       };
       ignores = λ x from to bytes was. ignores-goes k x from to bytes was.2;
     };

@@ -3,8 +3,8 @@ use Rattle.std.proofs.Common.{◌≡◌, ℕ, nat_lt, List, [], Ok, refl, sym, s
 use Rattle.lard_base.specs.declared.config.Config.{Config}
 use Rattle.lard_base.specs.declared.event.Event.{Event}
 use Rattle.lard_rules.specs.declared.machine.Machine.{Machine}
-use Rattle.lard_rules.specs.Bounds.{HasRule, IsNumber}
-use Rattle.lard_rules.specs.Machine.{IsReached, machine_step, start}
+use Rattle.lard_rules.specs.Bounds.{HasRule, IsConnNumber}
+use Rattle.lard_rules.specs.Machine.{IsReached, machine_step, machine_start}
 use Rattle.lard_laws.specs.AsksAnswers.{IsAnswered, MustAnswer, MustEnd, ends_due}
 use Rattle.lard_laws.specs.Asks.{end_in, later_in}
 use Rattle.lard_laws.specs.AsksRuns.{AsksAreAnswered, BatchesEndInSteps}
@@ -17,7 +17,7 @@ use Rattle.lard_law_connections.proofs.MotionRuns.{each-way}
 use Rattle.lard_law_connections.proofs.PolicyCounted.{books-are-told}
 use Rattle.lard_loads.specs.Tally.{Tally, open_shares}
 use Rattle.lard_law_view.specs.Carry.{setting}
-use Rattle.lard_law_view.specs.View.{Conn, Move, Rules, blank, conn, grown, seen_in}
+use Rattle.lard_law_view.specs.View.{Conn, Move, Rules, blank_conn, conn, grown, seen_in}
 use Rattle.lard_law_view.specs.View as view
 use Rattle.lard_law_view.proofs.After.{IsAfter, step-after}
 use Rattle.lard_law_view.proofs.Carried.{IsOn, carried-keep, goes-on, gone}
@@ -40,10 +40,10 @@ module _ (config : Config) (files : List (List ℕ × List ℕ)) where
   all = both (setting config files) IsFine (Goes (setting config files)) (fine (setting config files)) (all-go (setting config files))
 
   -- where it goes, the dispatcher assigned what is asked
-  filling : (x y : Conn) → Fills x y → view.Goes (λ x v. IsNumber x.c × All x v) x y → view.Goes (λ x v. (IsNumber x.c × All x v) × Fills x (grown x v)) x y
+  filling : (x y : Conn) → Fills x y → view.GoesBy (λ x v. IsConnNumber x.c × All x v) x y → view.GoesBy (λ x v. (IsConnNumber x.c × All x v) × Fills x (grown x v)) x y
   filling x y fills goes = ⊎_elim
       (λ (same : y ≡ x). inl same)
-      (λ (k : (v : Move) × (IsNumber x.c × All x v) × (y ≡ grown x v)). inr (k.0, (k.1, subst (Fills x) k.2 fills), k.2))
+      (λ (k : (v : Move) × (IsConnNumber x.c × All x v) × (y ≡ grown x v)). inr (k.0, (k.1, subst (Fills x) k.2 fills), k.2))
       goes
 
   -- what is known in each state
@@ -54,20 +54,20 @@ module _ (config : Config) (files : List (List ℕ × List ℕ)) where
     after : IsAfter m e n
     after = step-after m on.view e n rule is
 
-    goes : view.Goes (λ x v. (IsNumber x.c × All x v) × Fills x (grown x v)) (conn m q) (conn n q)
+    goes : view.GoesBy (λ x v. (IsConnNumber x.c × All x v) × Fills x (grown x v)) (conn m q) (conn n q)
     goes = filling (conn m q) (conn n q) (step-fills m n e after is on.view.told q) (goes-on config files All all m n e on rule is q)
 
-    does : (v : Move) → (IsNumber (conn m q).c × All (conn m q) v) × Fills (conn m q) (grown (conn m q) v) → Answers (conn m q) v
+    does : (v : Move) → (IsConnNumber (conn m q).c × All (conn m q) v) × Fills (conn m q) (grown (conn m q) v) → Answers (conn m q) v
     does v h = h.0.1.1 (each-way config files m on.reached q).front (known q) (h.0.1.0 h.0.0 (on.view.sound q)).0 h.1
 
     pub stays-told : Told (conn n q)
-    stays-told = gone Told (λ x v. (IsNumber x.c × All x v) × Fills x (grown x v)) (conn m q) (conn n q) (known q) (λ v h. (does v h).1) goes
+    stays-told = gone Told (λ x v. (IsConnNumber x.c × All x v) × Fills x (grown x v)) (conn m q) (conn n q) (known q) (λ v h. (does v h).1) goes
 
     pub step-answers : (s : IsAfter m e n) → IsAnswered q (own q m.journal) (seen_on q (net_of m.journal) s.step)
     unfolding conn
-    step-answers s = seen-step (λ x v. (IsNumber x.c × All x v) × Fills x (grown x v)) (IsAnswered q (own q m.journal)) m n s.step q s.is (nothing-answered q (own q m.journal)) (λ v h. (does v h).0) goes
+    step-answers s = seen-step (λ x v. (IsConnNumber x.c × All x v) × Fills x (grown x v)) (IsAnswered q (own q m.journal)) m n s.step q s.is (nothing-answered q (own q m.journal)) (λ v h. (does v h).0) goes
 
-  start-told : IsKnownOf (start config files)
+  start-told : IsKnownOf (machine_start config files)
   start-told q = subst Told (sym (start-blank config files q)) tt
 
   pub each-told : (m : Machine) → IsReached config files m → IsKnownOf m

@@ -6,10 +6,10 @@ use Rattle.std.specs.List.{AllByRecursion, fold}
 use Rattle.lard_base.specs.declared.place.Place.{Place}
 use Rattle.lard_base.specs.declared.place.Place.TheVariants.{Client, Front, Node}
 use Rattle.lard_base.specs.declared.place.TimerKind.TheVariants as timer
-use Rattle.lard_laws.specs.AsksSent.{AsksGoOn, IsNext, IsNumbered, ask_by, is_ask}
+use Rattle.lard_laws.specs.AsksSent.{AsksGoOn, IsNextAsk, IsAskNumbered, ask_by, is_ask}
 use Rattle.lard_laws.proofs.AsksWorking.{AskedSo, IsAsking}
 use Rattle.lard_law_connections.proofs.MotionPicking.{pick, pick-append}
-use Rattle.lard_law_connections.specs.Places.{head_of}
+use Rattle.lard_law_connections.specs.Places.{message_head}
 use Rattle.lard_law_connections.proofs.PlacesHeads.{head, spelled-head, spelled-some}
 use Rattle.lard_law_view.specs.View.{epoch_in, sending}
 use Rattle.lard_handoff_back.specs.declared.row.BackConn.{BackConn}
@@ -26,7 +26,7 @@ use Rattle.lard_message.specs.Reading.{epoch_at}
 use Rattle.lard_rules.specs.declared.stay.Asked.{Asked}
 use Rattle.lard_rules.specs.declared.stay.Stay.{Stay}
 use Rattle.lard_rules.specs.declared.stay.Want.{Want}
-use Rattle.lard_rules.specs.Node.{NodePart, all_sent, anew, ask_kept, asked_kept, asked_sent, count_of, ended_kept, ended_sent, fetch_of, kept_after, message, taken_sent, turn_by, wants_kept, wants_sent}
+use Rattle.lard_rules.specs.Node.{NodePart, all_sent, anew, ask_kept, asked_kept, asked_sent, reset_count, ended_kept, ended_sent, fetch_of, kept_after, message, taken_sent, turn_by, wants_kept, wants_sent}
 use Rattle.lard_rules.specs.Stay.{NodeEnv, Work}
 use Rattle.lard_resend.specs.declared.kept.Kept.{Kept}
 use Rattle.lard_resend.specs.Kept.{is_under, without}
@@ -41,19 +41,19 @@ use Rattle.lard_rules.specs.Speaking.{listed}
 
 -- it is no Ask
 abbrev pub IsNoAsk : Kept → Type 0
-IsNoAsk k = (e : ℕ) → is_ask e (head_of k.bytes) ≡ false
+IsNoAsk k = (e : ℕ) → is_ask e (message_head k.bytes) ≡ false
 
 -- an Ask that is kept is the last of its epoch
 abbrev pub IsLast : (ℕ → Option (List ℕ)) → Kept → Type 0
-IsLast last k = (e : ℕ) → is_ask e (head_of k.bytes) ≡ true → (is_under timer.Ask 0 k ≡ true) × (last e ≡ Some k.bytes)
+IsLast last k = (e : ℕ) → is_ask e (message_head k.bytes) ≡ true → (is_under timer.Ask 0 k ≡ true) × (last e ≡ Some k.bytes)
 
 no-last : (last : ℕ → Option (List ℕ)) (k : Kept) → IsNoAsk k → IsLast last k
-no-last last k none e is = absurd (both_ways (is_ask e (head_of k.bytes)) (none e) is)
+no-last last k none e is = absurd (both_ways (is_ask e (message_head k.bytes)) (none e) is)
 
 -- where the connection is here, its Asks are counted
 abbrev pub StageAsks : ℕ → ℕ → Option (List ℕ) → Option Stay → BackConn → Type 0
 StageAsks c e last None (back.Here b) = Unit {0}
-StageAsks c e last (Some s) (back.Here b) = IsNumbered c e last s.asks
+StageAsks c e last (Some s) (back.Here b) = IsAskNumbered c e last s.asks
 StageAsks c e last stay _ = Unit {0}
 
 abbrev pub RowAsks : ℕ → (ℕ → Option (List ℕ)) → Option Stay → Option BackRow → Type 0
@@ -89,13 +89,13 @@ anew-each P k ks p h = all-each P (anew k ks) (put_all P k (without k.kind k.r k
 none-left : (last : ℕ → Option (List ℕ)) (ks : List Kept) → Each (IsLast last) ks → Each IsNoAsk (without timer.Ask 0 ks)
 none-left last [] h = tt
 none-left last (k ∷ ks) h = go (is_under timer.Ask 0 k) refl (none-left last ks h.1) where
-  none : is_under timer.Ask 0 k ≡ false → (e : ℕ) (b : Bool) → is_ask e (head_of k.bytes) ≡ b → is_ask e (head_of k.bytes) ≡ false
+  none : is_under timer.Ask 0 k ≡ false → (e : ℕ) (b : Bool) → is_ask e (message_head k.bytes) ≡ b → is_ask e (message_head k.bytes) ≡ false
   none other e false is = is
   none other e true is = absurd (both_ways (is_under timer.Ask 0 k) other (h.0 e is).0)
 
   go : (b : Bool) → is_under timer.Ask 0 k ≡ b → Each IsNoAsk (without timer.Ask 0 ks) → Each IsNoAsk (cond (not b) (k ∷ without timer.Ask 0 ks) (without timer.Ask 0 ks))
   go true under rest = rest
-  go false other rest = (λ e. none other e (is_ask e (head_of k.bytes)) refl, rest)
+  go false other rest = (λ e. none other e (is_ask e (message_head k.bytes)) refl, rest)
 
 -- ---- messages
 
@@ -110,7 +110,7 @@ is-no-ask : (k : Kind) (e d : ℕ) → (k ≡ kind.Ask → ⊥) → is_ask e (So
 is-no-ask kind.Ask e d other = absurd (other refl)
 is-no-ask _ e d other = refl
 
-other-kind : (e c d : ℕ) (b : Body) → (kind_of b ≡ kind.Ask → ⊥) → is_ask e (head_of (message c d b)) ≡ false
+other-kind : (e c d : ℕ) (b : Body) → (kind_of b ≡ kind.Ask → ⊥) → is_ask e (message_head (message c d b)) ≡ false
 other-kind e c d b other = ap (is_ask e) (spelled-some _) ∙ is-no-ask (kind_of b) e (epoch_at (message c d b)) other
 
 and-false : (b : Bool) → b && false ≡ false
@@ -118,7 +118,7 @@ and-false true = refl
 and-false false = refl
 
 -- a message that is no Ask
-none-sent : (n e : ℕ) (to : Place) (bytes : List ℕ) → is_ask e (head_of bytes) ≡ false → ask_by n e (sending (Node n) (to, bytes)) ≡ None
+none-sent : (n e : ℕ) (to : Place) (bytes : List ℕ) → is_ask e (message_head bytes) ≡ false → ask_by n e (sending (Node n) (to, bytes)) ≡ None
 none-sent n e Front bytes none = ap (λ b. cond (nat_eq n n && b) (Some bytes) None) none ∙ ap (λ b. cond b (Some bytes) None) (and-false (nat_eq n n))
 none-sent n e (Node m) bytes none = refl
 none-sent n e (Client d) bytes none = refl
@@ -136,7 +136,7 @@ module _ (c n : ℕ) (last : ℕ → Option (List ℕ)) where
 
   -- the messages go on as they must, where so many jobs wait then, and what is known stays known
   abbrev pub Outcome : ℕ → List (Place × List ℕ) → NodePart → Type 0
-  Outcome waiting ms q = ((e : ℕ) → AsksGoOn (IsNext c e waiting) (last e) (asks_in n e ms)) × PartAsks c (then_last ms) q
+  Outcome waiting ms q = ((e : ℕ) → AsksGoOn (IsNextAsk c e waiting) (last e) (asks_in n e ms)) × PartAsks c (then_last ms) q
 
   asks-same : (then : ℕ → Option (List ℕ)) (q : NodePart) → ((e : ℕ) → then e ≡ last e) → PartAsks c last q → PartAsks c then q
   asks-same then q same h = subst (λ (l : ℕ → Option (List ℕ)). PartAsks c l q) (λ i e. sym (same e) i) h
@@ -150,8 +150,8 @@ module _ (c n : ℕ) (last : ℕ → Option (List ℕ)) where
   -- the last ones are sent again
   pub again-outcome : (waiting : ℕ) (ms : List (Place × List ℕ)) (q : NodePart) → ((e : ℕ) → Each (λ bytes. last e ≡ Some bytes) (asks_in n e ms)) → PartAsks c last q → Outcome waiting ms q
   again-outcome waiting ms q again h = (
-    λ e. (again-goes (IsNext c e waiting) (last e) (asks_in n e ms) (again e)).0,
-    asks-same (then_last ms) q (λ e. (again-goes (IsNext c e waiting) (last e) (asks_in n e ms) (again e)).1) h,
+    λ e. (again-goes (IsNextAsk c e waiting) (last e) (asks_in n e ms) (again e)).0,
+    asks-same (then_last ms) q (λ e. (again-goes (IsNextAsk c e waiting) (last e) (asks_in n e ms) (again e)).1) h,
   )
 
   pub none-outcome : (waiting : ℕ) (ms : List (Place × List ℕ)) (q : NodePart) → ((e : ℕ) → asks_in n e ms ≡ []) → PartAsks c last q → Outcome waiting ms q
@@ -164,8 +164,8 @@ module _ (c n : ℕ) (last : ℕ → Option (List ℕ)) where
     one : (to : Place) → Each (λ bytes. last e ≡ Some bytes) (listed (ask_by n e (sending (Node n) (to, k.bytes))))
     one (Node m) = tt
     one (Client d) = tt
-    one Front = go (nat_eq n n) (is_ask e (head_of k.bytes)) refl where
-      go : (a b : Bool) → is_ask e (head_of k.bytes) ≡ b → Each (λ bytes. last e ≡ Some bytes) (listed (cond (a && b) (Some k.bytes) None))
+    one Front = go (nat_eq n n) (is_ask e (message_head k.bytes)) refl where
+      go : (a b : Bool) → is_ask e (message_head k.bytes) ≡ b → Each (λ bytes. last e ≡ Some bytes) (listed (cond (a && b) (Some k.bytes) None))
       go true true is = ((h.0 e is).1, tt)
       go true false is = tt
       go false b is = tt
@@ -176,7 +176,7 @@ module _ (c n : ℕ) (last : ℕ → Option (List ℕ)) where
     abbrev asked_bytes : Asked → List ℕ
     asked_bytes a = message env.serve.c env.epoch (body.Ask a.number a.queue a.size a.paths)
 
-    ask-head : env.epoch < 2 ^ 16 → (a : Asked) (e : ℕ) → is_ask e (head_of (asked_bytes a)) ≡ (env.epoch == e)
+    ask-head : env.epoch < 2 ^ 16 → (a : Asked) (e : ℕ) → is_ask e (message_head (asked_bytes a)) ≡ (env.epoch == e)
     ask-head small a e = ap (is_ask e) (spelled-head (record { c = env.serve.c; epoch = record { 0 = env.epoch }; body = body.Ask a.number a.queue a.size a.paths }) small)
 
     fetch-none : (w : Want) → IsNoAsk (fetch_of env w)
@@ -195,7 +195,7 @@ module _ (c n : ℕ) (last : ℕ → Option (List ℕ)) where
 
     ended-unsent : (e : ℕ) (over : Option ℕ) (given : Ending) → asks_in n e (ended_sent env over given) ≡ []
     ended-unsent e over (ending.Here b count) = refl
-    ended-unsent e over (ending.Over final) = ap (λ o. listed o ++ []) (none-sent n e Front (ended_kept env.serve.c env.epoch final (count_of over)).bytes (ended-none final (count_of over) e))
+    ended-unsent e over (ending.Over final) = ap (λ o. listed o ++ []) (none-sent n e Front (ended_kept env.serve.c env.epoch final (reset_count over)).bytes (ended-none final (reset_count over) e))
 
     pub taken-unsent : (e : ℕ) → asks_in n e (taken_sent env) ≡ []
     taken-unsent e = ap (λ o. listed o ++ []) (none-sent n e Front (message env.serve.c env.epoch body.Taken) (other-kind e env.serve.c env.epoch body.Taken (λ i. cc)))
@@ -209,15 +209,15 @@ module _ (c n : ℕ) (last : ℕ → Option (List ℕ)) where
         ∙ append-nil asked
 
     -- a turn that makes no Ask
-    pub unasked-part : (part : NodePart) (w : Work) (given : Ending) (was : ℕ) → w.asked ≡ None → w.asks ≡ was → Each (IsLast last) part.kept → Each IsNoAsk part.fetches → ((e : ℕ) → env.epoch < e → last e ≡ None) → IsNumbered c env.epoch (last env.epoch) was
+    pub unasked-part : (part : NodePart) (w : Work) (given : Ending) (was : ℕ) → w.asked ≡ None → w.asks ≡ was → Each (IsLast last) part.kept → Each IsNoAsk part.fetches → ((e : ℕ) → env.epoch < e → last e ≡ None) → IsAskNumbered c env.epoch (last env.epoch) was
         → PartAsks c last (kept_after env part w given)
     unasked-part part w (ending.Here b count) was none so kept fetches fresh counted = record {
       fresh = fresh;
       kept = subst (λ (o : Option Asked). Each (IsLast last) (asked_kept env o part.kept)) (sym none) kept;
       fetches = wants-none w.wants part.fetches fetches;
-      stay = subst (IsNumbered c env.epoch (last env.epoch)) (sym so) counted;
+      stay = subst (IsAskNumbered c env.epoch (last env.epoch)) (sym so) counted;
     }
-    unasked-part part w (ending.Over final) was none so kept fetches fresh counted = record { fresh = fresh; kept = (no-last last (ended_kept env.serve.c env.epoch final (count_of w.service.over)) (ended-none final (count_of w.service.over)), tt); fetches = tt; stay = tt }
+    unasked-part part w (ending.Over final) was none so kept fetches fresh counted = record { fresh = fresh; kept = (no-last last (ended_kept env.serve.c env.epoch final (reset_count w.service.over)) (ended-none final (reset_count w.service.over)), tt); fetches = tt; stay = tt }
 
     -- and one that makes one
     asked-part : env.epoch < 2 ^ 16 → (part : NodePart) (w : Work) (given : Ending) (then : ℕ → Option (List ℕ)) (a : Asked) (was : ℕ) → w.asked ≡ Some a → a.number ≡ was + 1 → w.asks ≡ was + 1 → Each (IsLast last) part.kept → Each IsNoAsk part.fetches
@@ -228,9 +228,9 @@ module _ (c n : ℕ) (last : ℕ → Option (List ℕ)) where
           (anew-each (IsLast then) (ask_kept env.serve.c env.epoch a) part.kept (λ e is. (refl, ap then (sym (eqb-true env.epoch e (sym (ask-head small a e) ∙ is))) ∙ at))
           (Each-weaker IsNoAsk (IsLast then) (no-last then) (without timer.Ask 0 part.kept) (none-left last part.kept kept)));
       fetches = wants-none w.wants part.fetches fetches;
-      stay = subst (λ (o : Option (List ℕ)). IsNumbered c env.epoch o w.asks) (sym at) (a.queue, a.size, a.paths, λ i. message (number i) env.epoch (body.Ask ((one ∙ sym so) i) a.queue a.size a.paths));
+      stay = subst (λ (o : Option (List ℕ)). IsAskNumbered c env.epoch o w.asks) (sym at) (a.queue, a.size, a.paths, λ i. message (number i) env.epoch (body.Ask ((one ∙ sym so) i) a.queue a.size a.paths));
     }
-    asked-part small part w (ending.Over final) then a was some one so kept fetches fresh at = record { fresh = fresh; kept = (no-last then (ended_kept env.serve.c env.epoch final (count_of w.service.over)) (ended-none final (count_of w.service.over)), tt); fetches = tt; stay = tt }
+    asked-part small part w (ending.Over final) then a was some one so kept fetches fresh at = record { fresh = fresh; kept = (no-last then (ended_kept env.serve.c env.epoch final (reset_count w.service.over)) (ended-none final (reset_count w.service.over)), tt); fetches = tt; stay = tt }
 
     asked-in : env.epoch < 2 ^ 16 → (a : Asked) (e : ℕ) (b : Bool) → (env.epoch == e) ≡ b → asks_in n e (asked_sent env (Some a)) ≡ cond b (asked_bytes a ∷ []) []
     asked-in small a e b is = (λ i. listed (cond (same_number n i && (ask-head small a e ∙ is) i) (Some (asked_bytes a)) None) ++ []) ∙ go b where
@@ -240,7 +240,7 @@ module _ (c n : ℕ) (last : ℕ → Option (List ℕ)) where
 
     -- what a turn comes to
     pub turn-outcome : env.epoch < 2 ^ 16 → (part : NodePart) (before : List (Place × List ℕ)) (w : Work) (given : Ending × Turn) (was : ℕ) → IsAsking env was w → ((e : ℕ) → asks_in n e before ≡ []) → Each (IsLast last) part.kept → Each IsNoAsk part.fetches
-        → ((e : ℕ) → env.epoch < e → last e ≡ None) → IsNumbered c env.epoch (last env.epoch) was → Outcome (env.queue + length w.jobs) (turn_by env before w given).messages (kept_after env part w given.0)
+        → ((e : ℕ) → env.epoch < e → last e ≡ None) → IsAskNumbered c env.epoch (last env.epoch) was → Outcome (env.queue + length w.jobs) (turn_by env before w given).messages (kept_after env part w given.0)
     turn-outcome small part before w given was h none kept fetches fresh counted = go w.asked refl h where
       ms : List (Place × List ℕ)
       ms = (turn_by env before w given).messages
@@ -265,8 +265,8 @@ module _ (c n : ℕ) (last : ℕ → Option (List ℕ)) where
             behind e true f are later = let same : env.epoch ≡ e = eqb-true env.epoch e f in absurd (omega (arith, same, later))
             behind e false f are later = ap (keeping e) are ∙ fresh e later
 
-            goes : (e : ℕ) (b : Bool) → (env.epoch == e) ≡ b → asks_in n e ms ≡ cond b (asked_bytes a ∷ []) [] → a.number ≡ was + 1 → a.queue ≡ env.queue + length w.jobs → AsksGoOn (IsNext c e (env.queue + length w.jobs)) (last e) (asks_in n e ms)
-            goes e false f are one queue = subst (AsksGoOn (IsNext c e (env.queue + length w.jobs)) (last e)) (sym are) tt
-            goes e true f are one queue = subst (AsksGoOn (IsNext c e (env.queue + length w.jobs)) (last e)) (sym are)
-                (subst (λ (d : ℕ). AsksGoOn (IsNext c d (env.queue + length w.jobs)) (last d) (asked_bytes a ∷ [])) (eqb-true env.epoch e f)
+            goes : (e : ℕ) (b : Bool) → (env.epoch == e) ≡ b → asks_in n e ms ≡ cond b (asked_bytes a ∷ []) [] → a.number ≡ was + 1 → a.queue ≡ env.queue + length w.jobs → AsksGoOn (IsNextAsk c e (env.queue + length w.jobs)) (last e) (asks_in n e ms)
+            goes e false f are one queue = subst (AsksGoOn (IsNextAsk c e (env.queue + length w.jobs)) (last e)) (sym are) tt
+            goes e true f are one queue = subst (AsksGoOn (IsNextAsk c e (env.queue + length w.jobs)) (last e)) (sym are)
+                (subst (λ (d : ℕ). AsksGoOn (IsNextAsk c d (env.queue + length w.jobs)) (last d) (asked_bytes a ∷ [])) (eqb-true env.epoch e f)
                 (inr ((was, a.size, a.paths, counted, λ i. message (number i) env.epoch (body.Ask (one i) (queue i) a.size a.paths)), refl)))

@@ -8,19 +8,19 @@ use Rattle.lard_base.specs.declared.parts.EndpointParts.{EndpointParts}
 use Rattle.lard_base.specs.declared.place.Place.{Place}
 use Rattle.lard_base.specs.declared.place.Place.TheVariants.{Client, Front, Node}
 use Rattle.lard_client.specs.Control.{ClientBlock}
-use Rattle.lard_laws.specs.AsksSent.{AsksGoOn, IsNext, ask_by, is_ask, last_ask, newest}
+use Rattle.lard_laws.specs.AsksSent.{AsksGoOn, IsNextAsk, ask_by, is_ask, last_ask, newest}
 use Rattle.lard_laws.proofs.AsksNodeAsks.{DeedAsks, IsNewer, acknowledged-asks, content-asks, forwarded-asks, offered-asks, read-asks, tagged-asks, timer-asks}
 use Rattle.lard_laws.proofs.AsksSending.{Outcome, PartAsks, asks_in}
 use Rattle.lard_law_connections.specs.MotionStory.{of_row, picked}
 use Rattle.lard_law_connections.proofs.MotionElsewhere.{IsUnsent, gave-unsent, note-unsent, timer-unsent}
 use Rattle.lard_law_connections.proofs.MotionNodes.{IsFirst}
 use Rattle.lard_law_connections.proofs.MotionPicking.{pick, pick-none, pick-parts, pick-seen, picked-append, picked-none, segments-none, timers-none}
-use Rattle.lard_law_connections.specs.Places.{head_of, IsDecided, IsOffered, Offers, Owning, Sits, StageSits, owning}
+use Rattle.lard_law_connections.specs.Places.{message_head, IsDecided, IsOffered, Offers, Owning, Sits, StageSits, owning}
 use Rattle.lard_law_connections.proofs.PlacesFrontMessages.{came-says}
 use Rattle.lard_law_connections.proofs.PlacesNodeRules.{here-has}
 use Rattle.lard_law_connections.proofs.PlacesTurns.{IsPlaced}
 use Rattle.lard_law_view.specs.Carry.{tale_at}
-use Rattle.lard_law_view.specs.View.{ClientRules, Conn, IsNodeEnv, Move, Rules, Setting, Spells, Was, client_begins, client_does, epoch_in, event_seen, front_admits, front_does, grown, inject_seen, node_does, node_put, nothing_said, packet_seen, reads_first, rows_of, seen_in, sending, stands, timer_rows}
+use Rattle.lard_law_view.specs.View.{ClientRules, Conn, IsNodeEnv, Move, Rules, Setting, SpellsMessage, Was, client_begins, client_does, epoch_in, event_seen, front_admits, front_does, grown, inject_seen, node_does, node_put_back, nothing_said, packet_seen, reads_first, rows_of, seen_in, sending, stands, timer_rows}
 use Rattle.lard_law_view.proofs.Fine.{IsItsOwn}
 use Rattle.lard_law_view.proofs.Parts.{put-same}
 use Rattle.lard_law_view.proofs.Saying.{GaveAt, NotedAt}
@@ -62,7 +62,7 @@ PartsAsk x = (n : ℕ) → PartAsks x.c (lasts x n) (x.part.nodes n)
 
 -- with as many jobs as there may be
 abbrev pub IsSomeNext : ℕ → ℕ → Option (List ℕ) → List ℕ → Type 0
-IsSomeNext c e last bytes = (waiting : ℕ) × IsNext c e waiting last bytes
+IsSomeNext c e last bytes = (waiting : ℕ) × IsNextAsk c e waiting last bytes
 
 abbrev pub GoesOn : ℕ → List Seen → List Seen → Type 0
 GoesOn c past step = (n e : ℕ) → AsksGoOn (IsSomeNext c e) (last_ask n e past) (picked (of_row (ask_by n e)) step)
@@ -105,7 +105,7 @@ pub other-asks : (n e m : ℕ) (ss : List (Place × List ℕ)) → m ≢ n → p
 other-asks n e m [] other = refl
 other-asks n e m (s ∷ ss) other = (λ i. listed (one s.0 i) ++ other-asks n e m ss other i) where
   one : (to : Place) → ask_by n e (sending (Node m) (to, s.1)) ≡ None
-  one Front = ap (λ b. cond (b && is_ask e (head_of s.1)) (Some s.1) None) (other_number m n other)
+  one Front = ap (λ b. cond (b && is_ask e (message_head s.1)) (Some s.1) None) (other_number m n other)
   one (Node k) = refl
   one (Client d) = refl
 
@@ -163,11 +163,11 @@ module _ (x : Conn) (v : Move) (own : IsItsOwn x v) (first : Each IsFirst v.head
 
   -- ---- a node
 
-  some-next : (e waiting : ℕ) (o : Option (List ℕ)) (all : List (List ℕ)) → AsksGoOn (IsNext x.c e waiting) o all → AsksGoOn (IsSomeNext x.c e) o all
+  some-next : (e waiting : ℕ) (o : Option (List ℕ)) (all : List (List ℕ)) → AsksGoOn (IsNextAsk x.c e waiting) o all → AsksGoOn (IsSomeNext x.c e) o all
   some-next e waiting o [] h = tt
   some-next e waiting o (bytes ∷ more) h = ⊎_elim
-      (λ (again : (o ≡ Some bytes) × AsksGoOn (IsNext x.c e waiting) o more). inl (again.0, some-next e waiting o more again.1))
-      (λ (new : IsNext x.c e waiting o bytes × (more ≡ [])). inr ((waiting, new.0), new.1))
+      (λ (again : (o ≡ Some bytes) × AsksGoOn (IsNextAsk x.c e waiting) o more). inl (again.0, some-next e waiting o more again.1))
+      (λ (new : IsNextAsk x.c e waiting o bytes × (more ≡ [])). inr ((waiting, new.0), new.1))
       h
 
   module _ (m : ℕ) (at : v.place ≡ Node m) (d : ℕ) (to : AllTo (Client d) v.said.segments) where
@@ -207,7 +207,7 @@ module _ (k : Setting) (x : Conn) where
 
   -- ---- the front end
 
-  front-goes : (heads : List Seen) → Each IsFirst heads → (d : front.Deed) → Goes k x (front_does x heads d)
+  front-goes : (heads : List Seen) → Each IsFirst heads → (d : front.FrontDeed) → Goes k x (front_does x heads d)
   front-goes heads first front.Drops placed h own = else-sends x (front_does x heads front.Drops) own first tt refl h
   front-goes heads first (front.Says turn) placed h own = else-sends x (front_does x heads (front.Says turn)) own first tt refl h
   front-goes heads first (front.Does did) placed h own = else-sends x (front_does x heads (front.Does did)) own first tt refl h
@@ -221,13 +221,13 @@ module _ (k : Setting) (x : Conn) (n epoch : ℕ) (env : NodeEnv) (is : IsNodeEn
   abbrev ours : NodePart
   ours = x.part.nodes n
 
-  put-other : (q : NodePart) (m : ℕ) → m ≢ n → node_put x.part.nodes n q m ≡ x.part.nodes m
+  put-other : (q : NodePart) (m : ℕ) → m ≢ n → node_put_back x.part.nodes n q m ≡ x.part.nodes m
   put-other q m other = ap (λ b. cond b q (x.part.nodes m)) (other_number m n other)
 
-  abbrev DeedsAsk : node.Deed → Type 0
+  abbrev DeedsAsk : node.NodeDeed → Type 0
   DeedsAsk d = (h : PartsAsk x) → DeedAsks x.c n (lasts x n) env is.number ours (h n) d
 
-  node-goes : (heads : List Seen) → Each IsFirst heads → (d : node.Deed) → (IsPlaced x → DeedsAsk d) → Goes k x (node_does x n heads d)
+  node-goes : (heads : List Seen) → Each IsFirst heads → (d : node.NodeDeed) → (IsPlaced x → DeedsAsk d) → Goes k x (node_does x n heads d)
   node-goes heads first node.Drops asks placed h own =
       let v : Move = node_does x n heads node.Drops in all-of x v own first (λ m. none-of x v own first m (λ e. refl) (λ e. refl) refl (h m))
   node-goes heads first (node.Says ms) asks placed h own =
@@ -238,7 +238,7 @@ module _ (k : Setting) (x : Conn) (n epoch : ℕ) (env : NodeEnv) (is : IsNodeEn
       node-sends x v own first n refl env.serve.c out.1 (env.queue + length given.1.jobs) given.0 (put-same x.part.nodes n given.0) (put-other given.0) out.0 h
 
   -- behind the record of a job of its own
-  read-goes : (r : Rec) (d : node.Deed) → (IsPlaced x → DeedsAsk d) → Goes k x (reads_first r (node_does x n [] d))
+  read-goes : (r : Rec) (d : node.NodeDeed) → (IsPlaced x → DeedsAsk d) → Goes k x (reads_first r (node_does x n [] d))
   read-goes r node.Drops asks placed h own =
       let v : Move = reads_first r (node_does x n [] node.Drops) in all-of x v own tt (λ m. none-of x v own tt m (λ e. refl) (λ e. refl) refl (h m))
   read-goes r (node.Says ms) asks placed h own =
@@ -291,7 +291,7 @@ module _ (k : Setting) (x : Conn) (n epoch : ℕ) (env : NodeEnv) (is : IsNodeEn
             let at : epoch_in ours ≡ row.epoch.0 = ap (λ (o : Option BackRow). epoch_in (record ours { row = o })) found in record { small = omega (arith, two); above = omega (arith, at, less) }
 
   -- what an Offer that comes says
-  pub offer-said : IsPlaced x → (parts : EndpointParts) (bytes : List ℕ) → Spells x.c epoch (body.Offer parts) bytes → Was x Front (Node n) bytes → IsDecided env.epoch ours.row ⊎ IsOffered n env.epoch x.part.front.row
+  pub offer-said : IsPlaced x → (parts : EndpointParts) (bytes : List ℕ) → SpellsMessage x.c epoch (body.Offer parts) bytes → Was x Front (Node n) bytes → IsDecided env.epoch ours.row ⊎ IsOffered n env.epoch x.part.front.row
   offer-said placed parts bytes spells was =
       subst (λ (e : ℕ). IsDecided e ours.row ⊎ IsOffered n e x.part.front.row) (sym is.epoch_is) (came-says x Front (Node n) epoch (body.Offer parts) bytes placed.letters was spells)
 

@@ -8,18 +8,18 @@ use Rattle.std.specs.List.{list_any}
 use Rattle.lard_base.specs.declared.parts.EndpointParts.{EndpointParts}
 use Rattle.lard_base.specs.declared.place.Place.{Place}
 use Rattle.lard_base.specs.declared.place.Place.TheVariants.{Client, Front, Node}
-use Rattle.lard_cache.specs.Recency.{Recency, has}
+use Rattle.lard_cache.specs.Recency.{Recency, has_path}
 use Rattle.lard_rules.specs.declared.machine.Machine.{Machine}
-use Rattle.lard_rules.specs.Bounds.{IsNumber}
+use Rattle.lard_rules.specs.Bounds.{IsConnNumber}
 use Rattle.lard_rules.specs.Machine.{node_at, node_setting}
-use Rattle.lard_laws.specs.AsksSent.{AsksGoOn, IsNext, ask_by, last_ask}
+use Rattle.lard_laws.specs.AsksSent.{AsksGoOn, IsNextAsk, ask_by, last_ask}
 use Rattle.lard_laws.proofs.AsksNodeAsks.{DeedAsks, IsNewer, acknowledged-asks, content-asks, forwarded-asks, offered-asks, read-asks, tagged-asks, timer-asks}
 use Rattle.lard_laws.proofs.AsksSending.{PartAsks, asks_in}
 use Rattle.lard_laws.proofs.AsksSends.{PartsAsk, lasts, newer, offer-said, small-here}
 use Rattle.lard_law_connections.proofs.MotionElsewhere.{IsUnsent, gave-unsent, note-unsent, timer-unsent}
 use Rattle.lard_law_connections.proofs.MotionPicking.{pick, segments-none}
 use Rattle.lard_law_connections.proofs.PlacesTurns.{IsPlaced}
-use Rattle.lard_law_view.specs.View.{AreNumbered, Conn, IsNodeEnv, IsViewed, Part, Spells, Was, conn, epoch_in, part_of, sending, setting_of, timer_rows}
+use Rattle.lard_law_view.specs.View.{AreNumbered, Conn, IsNodeEnv, IsViewed, Part, SpellsMessage, Was, conn, epoch_in, part_of, sending, setting_of, timer_rows}
 use Rattle.lard_law_view.proofs.Heads.{was}
 use Rattle.lard_law_view.proofs.Naming.{decoded-names}
 use Rattle.lard_law_view.proofs.Nodes as nodes
@@ -46,8 +46,8 @@ use Rattle.lard_net.specs.Net.{Packet, packet_at}
 use Rattle.lard_rules.specs.declared.node.BackIn.TheVariants as back
 use Rattle.lard_rules.specs.declared.node.NodeState.{NodeState}
 use Rattle.lard_rules.specs.declared.node.NodeTurn.{NodeTurn}
-use Rattle.lard_rules.specs.Node.{Deed, Drops, Says, Does, NodePart, here, node_acknowledged, node_content, node_forwarded, node_offered, node_read, node_tagged, node_timer, saying}
-use Rattle.lard_rules.specs.NodePlace.{aside, completed, content_sent, disk_step, epoch_at, fetched, fetched_file, node_deed, node_env, node_gets, node_hears, node_part, node_step, timers_of, with_first}
+use Rattle.lard_rules.specs.Node.{NodeDeed, Drops, Says, Does, NodePart, here, node_acknowledged, node_content, node_forwarded, node_offered, node_read, node_tagged, node_timer, node_saying}
+use Rattle.lard_rules.specs.NodePlace.{aside, completed, content_sent, disk_step, node_epoch_at, fetched, fetched_file, node_deed, node_env, node_gets, node_hears, node_part, node_step, node_timers, with_first}
 use Rattle.lard_rules.specs.Stay.{NodeEnv}
 use Rattle.lard_resend.specs.Pending.{sent_of}
 use Rattle.lard_rules.specs.declared.places.Out.{Out}
@@ -59,7 +59,7 @@ use Rattle.lard_segment.specs.Segment.{decoded}
 -- A node's step from this journal: the Asks of one connection go on, and nothing else is an Ask.
 pub record Told (J : List Rec) (i : ℕ) (x : NodeState × Out) : Type 0 where
   pub c : ℕ
-  pub asks : (d : ℕ) → AsksGoOn (IsNext c d (length x.0.disk)) (last_ask i d (own c J)) (asks_in i d x.1.messages)
+  pub asks : (d : ℕ) → AsksGoOn (IsNextAsk c d (length x.0.disk)) (last_ask i d (own c J)) (asks_in i d x.1.messages)
   pub segments : (j d : ℕ) → pick (ask_by j d) (map (sending (Node i)) x.1.segments) ≡ []
   pub notes : Each IsUnsent x.1.notes
   pub gave : Each IsUnsent x.1.gave
@@ -73,7 +73,7 @@ module _ (m : Machine) (view : IsViewed m) (placed : (c : ℕ) → IsPlaced (con
   none-told : (t : NodeState) (o : Out) → ((d : ℕ) → asks_in i d o.messages ≡ []) → o.segments ≡ [] → Each IsUnsent o.notes → o.gave ≡ [] → o.timers ≡ [] → Tells (t, o)
   none-told t o none segments notes gave timers = record {
     c = 0;
-    asks = λ d. subst (AsksGoOn (IsNext 0 d (length t.disk)) (last_ask i d (own 0 m.journal))) (sym (none d)) tt;
+    asks = λ d. subst (AsksGoOn (IsNextAsk 0 d (length t.disk)) (last_ask i d (own 0 m.journal))) (sym (none d)) tt;
     segments = λ j d. ap (λ ss. pick (ask_by j d) (map (sending (Node i)) ss)) segments;
     notes = notes;
     gave = subst (Each IsUnsent) (sym gave) tt;
@@ -85,7 +85,7 @@ module _ (m : Machine) (view : IsViewed m) (placed : (c : ℕ) → IsPlaced (con
 
   -- ---- a rule of one connection, behind what the disk and the cache were told
 
-  module _ (c epoch : ℕ) (number : IsNumber c) (cache : Recency) (disk : List Job) where
+  module _ (c epoch : ℕ) (number : IsConnNumber c) (cache : Recency) (disk : List Job) where
     abbrev x : Conn
     x = conn m c
 
@@ -101,7 +101,7 @@ module _ (m : Machine) (view : IsViewed m) (placed : (c : ℕ) → IsPlaced (con
     abbrev is-env : IsNodeEnv (setting_of m) c i epoch env
     is-env = record { place = refl; number = refl; files = refl; stream = refl; node = refl; epoch_is = refl }
 
-    timers-unsent : (q : NodePart) → Each IsUnsent (timers_of i c p q)
+    timers-unsent : (q : NodePart) → Each IsUnsent (node_timers i c p q)
     unfolding timer_rows
     timers-unsent q =
         let P : Part = record (part_of m c) { nodes = λ k. p } in
@@ -112,7 +112,7 @@ module _ (m : Machine) (view : IsViewed m) (placed : (c : ℕ) → IsPlaced (con
     unfolding conn
     part-known = subst (PartAsks c (lasts x i)) (node-kept m i s c there) (known c i)
 
-    deed-told : (d : Deed) → DeedAsks c i (lasts x i) env refl p part-known d → IsNodeDeed i c p d → Tells (node_deed (node_setting m i) u c d)
+    deed-told : (d : NodeDeed) → DeedAsks c i (lasts x i) env refl p part-known d → IsNodeDeed i c p d → Tells (node_deed (node_setting m i) u c d)
     unfolding conn
     deed-told Drops asks good = nothing-told u
     deed-told (Says ms) asks good = record { c = c; asks = λ d. (asks (length (disk ++ []))).0 d; segments = λ j d. refl; notes = tt; gave = tt; timers = tt }
@@ -120,7 +120,7 @@ module _ (m : Machine) (view : IsViewed m) (placed : (c : ℕ) → IsPlaced (con
         let many : env.queue + length given.1.jobs ≡ length (disk ++ given.1.jobs) = sym (length-append disk given.1.jobs) in
         record {
           c = c;
-          asks = λ d. subst (λ (waiting : ℕ). AsksGoOn (IsNext c d waiting) (last_ask i d (own c m.journal)) (asks_in i d given.1.messages)) many (asks.0.0 d);
+          asks = λ d. subst (λ (waiting : ℕ). AsksGoOn (IsNextAsk c d waiting) (last_ask i d (own c m.journal)) (asks_in i d given.1.messages)) many (asks.0.0 d);
           segments = λ j d. segments-none (ask_by j d) (Node i) c (λ k bytes. refl) given.1.segments asks.1;
           notes = Each-weaker (NotedAt (Node i) c) IsUnsent (note-unsent (Node i) c) given.1.notes good.0.0.notes;
           gave = Each-weaker (GaveAt (Node i) c) IsUnsent (gave-unsent (Node i) c) given.1.gave good.0.0.gave;
@@ -148,7 +148,7 @@ module _ (m : Machine) (view : IsViewed m) (placed : (c : ℕ) → IsPlaced (con
     acknowledged = deed-told _ (acknowledged-asks c i (lasts x i) env refl p part-known) (nodes.acknowledged-deed env refl number p)
 
     -- an Offer that was sent to it
-    offered : (parts : EndpointParts) (bytes : List ℕ) → Spells c epoch (body.Offer parts) bytes → Was x Front (Node i) bytes → Tells (node_deed (node_setting m i) u c (node_offered env p parts))
+    offered : (parts : EndpointParts) (bytes : List ℕ) → SpellsMessage c epoch (body.Offer parts) bytes → Was x Front (Node i) bytes → Tells (node_deed (node_setting m i) u c (node_offered env p parts))
     unfolding conn
     offered parts bytes spells sent =
         let kept_is = node-kept m i s c there in
@@ -175,13 +175,13 @@ module _ (m : Machine) (view : IsViewed m) (placed : (c : ℕ) → IsPlaced (con
   fetched-told from c epoch r path None = nothing-told s
   fetched-told from c epoch r path (Some bytes) = cond_both (list_any (is_for c epoch r) s.disk) (s, nothing_done) (aside s (fetched_file (node_setting m i) s from c epoch r path)) Tells
       (λ t. nothing-told s)
-      (λ t. cond_both (has s.cache.entries path) _ _ (λ (u : NodeTurn). Tells (aside s u)) (λ t. none-told _ _ (λ d. refl) refl (tt, tt) refl refl) (λ t. none-told _ _ (λ d. refl) refl (tt, tt) refl refl))
+      (λ t. cond_both (has_path s.cache.entries path) _ _ (λ (u : NodeTurn). Tells (aside s u)) (λ t. none-told _ _ (λ d. refl) refl (tt, tt) refl refl) (λ t. none-told _ _ (λ d. refl) refl (tt, tt) refl refl))
 
   -- ---- a message comes
 
   module _ (k : ℕ) (l : Packet) (at : packet_at m.net k ≡ Some l) (is-to : l.to ≡ Node i) where
     module _ (msg : Message) (reads : decoded_message l.bytes ≡ Ok msg) where
-      number : IsNumber msg.c
+      number : IsConnNumber msg.c
       number = (decoded-names msg l.bytes reads).number
 
       front-hears : l.from ≡ Front → (b : Body) → msg.body ≡ b → Tells (node_hears (node_setting m i) s Front msg.c msg.epoch.0 b)
@@ -217,19 +217,19 @@ module _ (m : Machine) (view : IsViewed m) (placed : (c : ℕ) → IsPlaced (con
 
   pub timer-told : (c : ℕ) (y : Station) → table.get m.clients c ≡ Some y → Tells (node_step (node_setting m i) s (back.Timer c))
   unfolding conn part_of
-  timer-told c y opened = fires c (epoch_at s c) (client-number (conn m c) y (view.sound c) opened) s.cache s.disk refl
+  timer-told c y opened = fires c (node_epoch_at s c) (client-number (conn m c) y (view.sound c) opened) s.cache s.disk refl
 
   first-told : (r : Rec) (x : NodeState × Out) → IsUnsent r → Tells x → Tells (with_first r x)
   first-told r x un h = record { c = h.c; asks = h.asks; segments = h.segments; notes = (un, h.notes); gave = h.gave; timers = h.timers }
 
-  all-got : (js : List Job) (k : ℕ) (job : Job) → slice_get js k ≡ Some job → AreNumbered js → IsNumber job.c
+  all-got : (js : List Job) (k : ℕ) (job : Job) → slice_get js k ≡ Some job → AreNumbered js → IsConnNumber job.c
   all-got [] k job is e = let no : None ≡ Some job = is in absurd cc
-  all-got (y ∷ js) zero job is e = let same : y ≡ job = cc in subst (λ (z : Job). IsNumber z.c) same e.0
+  all-got (y ∷ js) zero job is e = let same : y ≡ job = cc in subst (λ (z : Job). IsConnNumber z.c) same e.0
   all-got (y ∷ js) (suc k) job is e = all-got js k job is e.1
 
-  job-number : (j : ℕ) (job : Job) → job_at s.disk j ≡ Some job → IsNumber job.c
+  job-number : (j : ℕ) (job : Job) → job_at s.disk j ≡ Some job → IsConnNumber job.c
   job-number j job is = go (j == 0) is where
-    go : (b : Bool) → cond b None (slice_get s.disk (j - 1)) ≡ Some job → IsNumber job.c
+    go : (b : Bool) → cond b None (slice_get s.disk (j - 1)) ≡ Some job → IsConnNumber job.c
     go true e = let no : None ≡ Some job = e in absurd cc
     go false e = all-got s.disk (j - 1) job e (view.jobs i s there)
 
@@ -238,7 +238,7 @@ module _ (m : Machine) (view : IsViewed m) (placed : (c : ℕ) → IsPlaced (con
   job-told j (Some job) is =
       let u : NodeState = completed (node_setting m i) s j job in
       cond_both (job.origin == i) (node_deed (node_setting m i) u job.c (node_read (node_env (node_setting m i) u job.c job.epoch.0) (node_part u job.c) job.r))
-      (aside u (saying (content_sent (node_setting m i) job.origin job.c job.epoch.0 job.r job.path ∷ []))) (λ (x : NodeState × Out). Tells (with_first (rec.Read i job.origin job.c job.r job.path) x))
+      (aside u (node_saying (content_sent (node_setting m i) job.origin job.c job.epoch.0 job.r job.path ∷ []))) (λ (x : NodeState × Out). Tells (with_first (rec.Read i job.origin job.c job.r job.path) x))
       (λ t. first-told _ _ tt (read job.c job.epoch.0 (job-number j job is) u.cache u.disk job.r))
       (λ t. first-told _ _ tt (none-told _ _ (λ d. refl) refl tt refl refl))
 

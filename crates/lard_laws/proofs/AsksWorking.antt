@@ -11,11 +11,11 @@ use Rattle.lard_rules.specs.declared.stay.Next.{Next}
 use Rattle.lard_rules.specs.declared.stay.Next.TheVariants as next
 use Rattle.lard_rules.specs.declared.stay.Progress.{Progress}
 use Rattle.lard_rules.specs.declared.stay.Progress.TheVariants as progress
-use Rattle.lard_rules.specs.Stay.{NodeEnv, Work, and_path, asks_for, came_for, come_on, entered, enters, enters_first, enters_one, goes_on, left, left_by, named_path, named_paths, next_in, path_in, reads_batch, reads_these, serves_by, serves_first, serves_with, started, started_here, started_there, starts_at, starts_named, starts_one, tagged, turn, turned}
+use Rattle.lard_rules.specs.Stay.{NodeEnv, Work, and_path, asks_for, came_for, come_on, entered, enters, enters_first, enters_one, goes_on, work_left, left_by, named_path, named_paths, next_in, path_in, reads_batch, reads_these, serves_by, serves_first, serves_with, started, started_here, started_there, starts_at, starts_named, starts_one, tagged, stay_turn, turned}
 use Rattle.lard_reader.specs.Batches.{batch_of, bytes_used}
 use Rattle.lard_request.specs.declared.verdict.Verdict.{Verdict}
 use Rattle.lard_rules.specs.Loop.{Step, More, Done, state_of}
-use Rattle.lard_rules.specs.Serving.{Service, consumed, ended_at_fin, may_read, passed_over, queued}
+use Rattle.lard_rules.specs.Serving.{Service, serving_consumed, ended_at_fin, may_read, passed_over, queued}
 use Rattle.lard_rules.proofs.Runs.{runs_keep}
 
 module _ (env : NodeEnv) (was : ℕ) where
@@ -109,9 +109,9 @@ module _ (env : NodeEnv) (was : ℕ) where
   StepAsks (Done w) = IsAsking w
 
   these-ask : (here : Bool) (used : ℕ) (w : Work) (vs : List Verdict) → IsIdle w → StepAsks (reads_these env here used w vs)
-  these-ask here used w [] h = idle-asking (record w { service = ended_at_fin (consumed used w.service) }) h
+  these-ask here used w [] h = idle-asking (record w { service = ended_at_fin (serving_consumed used w.service) }) h
   these-ask here used w (v ∷ vs) h =
-      let rest : Work = record w { service = consumed used w.service } in
+      let rest : Work = record w { service = serving_consumed used w.service } in
       let all : Work = enters env here (w.service.count + 1) (v ∷ vs) rest in asks-so (length (v ∷ vs)) (named_paths files all.batch) all refl (enters-idle here (w.service.count + 1) (v ∷ vs) rest h)
 
   batch-asks : (here : Bool) (w : Work) → IsIdle w → StepAsks (reads_batch env here w)
@@ -167,14 +167,14 @@ module _ (env : NodeEnv) (was : ℕ) where
   turned-so w next.Read e h = batch-asks false w (read-idle w w.asked refl (none-left w.batch e) h)
   turned-so w next.Stop e h = h
 
-  turn-so : (w : Work) → IsAsking w → StepAsks (turn env w)
+  turn-so : (w : Work) → IsAsking w → StepAsks (stay_turn env w)
   turn-so w h = go (may_read w.service) where
     go : (b : Bool) → StepAsks (turned env w (cond b (next_in w.batch) next.Stop))
     go true = turned-so w (next_in w.batch) refl h
     go false = h
 
   pub goes-so : (w : Work) → IsAsking w → IsAsking (goes_on env w)
-  goes-so w h = runs_keep (turn env) left IsAsking (record {
+  goes-so w h = runs_keep (stay_turn env) work_left IsAsking (record {
     more = λ y z e p. subst StepAsks e (turn-so y p);
     done = λ y z e p. subst StepAsks e (turn-so y p);
   }) w h

@@ -5,15 +5,15 @@ use Rattle.std.specs.List.{fold}
 use Rattle.std.proofs.lemmas.Bool.{eqb-true, ltb-false, ltb-true}
 use Rattle.std.proofs.lemmas.List.{length_push}
 use Rattle.std.proofs.lemmas.List.Sums.{fold-append}
-use Rattle.lard_laws.specs.Asks.{Answered, Asking, Asks, ask_on, asks, asks_step, came_done, is_next, row_done, unasked}
+use Rattle.lard_laws.specs.Asks.{Answered, Asking, AskTale, ask_on, ask_tale, asks_step, came_done, is_next, row_done, unasked}
 use Rattle.lard_answers.specs.Answers.{FilesAt}
 use Rattle.lard_laws.specs.BackingState.{MayBack}
 use Rattle.lard_laws.specs.BackingTold.{files_before}
 use Rattle.lard_laws.proofs.BackingMarks.{MayMark, each-at, untouched-before}
-use Rattle.lard_laws.specs.Ways.{marks}
+use Rattle.lard_laws.specs.Ways.{way_marks}
 use Rattle.lard_history.specs.Journal.{assigned, assigned_step, is_touched}
 use Rattle.lard_history.specs.Laws.{EachMay}
-use Rattle.lard_history.specs.Own.{Came, Letter, Row, Seen, came, conn_of, letter_of, net_of, one_of, own, plain, seen_of, whose}
+use Rattle.lard_history.specs.Own.{Came, Letter, Row, Seen, came_seen, conn_of, letter_of, net_of, one_of, own, plain, seen_of, whose}
 use Rattle.lard_history.proofs.Seeing.{own-append}
 use Rattle.lard_journal.specs.declared.rec.Rec.{Rec}
 use Rattle.lard_journal.specs.declared.rec.Rec.TheVariants as rec
@@ -21,7 +21,7 @@ use Rattle.lard_net.specs.Net.{Packet, packet_at}
 
 -- what was answered of Asks
 abbrev pub done : ℕ → List Rec → Answered
-done c J = (asks c (own c J)).done
+done c J = (ask_tale c (own c J)).done
 
 abbrev pub IsFirst : ℕ → Rec → Type 0
 IsFirst c (rec.AssignedFirst d r path n add remove) = d ≡ c
@@ -45,15 +45,15 @@ Grows c J r =
     ⊎ ((length (assigned (J ++ r ∷ []) c) ≡ length (assigned J c)) × IsAnew (done c (J ++ r ∷ [])) (done c J)))
 
 module _ (c : ℕ) (J : List Rec) where
-  abbrev t : Asks
-  t = asks c (own c J)
+  abbrev t : AskTale
+  t = ask_tale c (own c J)
 
   assigned-more : (r : Rec) → assigned (J ++ r ∷ []) c ≡ assigned_step c (assigned J c) r
   assigned-more r = fold-append (assigned_step c) [] J (r ∷ [])
 
-  asks-more : (r : Rec) → asks c (own c (J ++ r ∷ [])) ≡ fold (asks_step c) t (seen_of c (net_of J) r)
+  asks-more : (r : Rec) → ask_tale c (own c (J ++ r ∷ [])) ≡ fold (asks_step c) t (seen_of c (net_of J) r)
   asks-more r =
-      ap (asks c) (own-append c J (r ∷ []) ∙ ap (λ (l : List Seen). own c J ++ l) (append-nil (seen_of c (net_of J) r)))
+      ap (ask_tale c) (own-append c J (r ∷ []) ∙ ap (λ (l : List Seen). own c J ++ l) (append-nil (seen_of c (net_of J) r)))
       ∙ fold-append (asks_step c) unasked (own c J) (seen_of c (net_of J) r)
 
   -- a record that tells nothing of assignments
@@ -89,11 +89,11 @@ module _ (c : ℕ) (J : List Rec) where
     go true e = inl (
       eqb-true d c e,
       ap length (assigned-more x ∙ ap (λ (b : Bool). cond b (assigned J c ++ (path, n) ∷ []) (assigned J c)) e) ∙ length_push (assigned J c) (path, n),
-      ap (λ (u : Asks). u.done.nodes) (asks-more x ∙ ap (λ (b : Bool). fold (asks_step c) t (cond b (Row x ∷ []) [])) e),
+      ap (λ (u : AskTale). u.done.nodes) (asks-more x ∙ ap (λ (b : Bool). fold (asks_step c) t (cond b (Row x ∷ []) [])) e),
     )
     go false e = inr (inr (
       ap length (assigned-more x ∙ ap (λ (b : Bool). cond b (assigned J c ++ (path, n) ∷ []) (assigned J c)) e),
-      inr (ap (λ (u : Asks). u.done) (asks-more x ∙ ap (λ (b : Bool). fold (asks_step c) t (cond b (Row x ∷ []) [])) e)),
+      inr (ap (λ (u : AskTale). u.done) (asks-more x ∙ ap (λ (b : Bool). fold (asks_step c) t (cond b (Row x ∷ []) [])) e)),
     ))
   grows (rec.AssignedLater d i path n add size queue) = go (nat_eq d c) refl where
     x : Rec
@@ -103,18 +103,18 @@ module _ (c : ℕ) (J : List Rec) where
     go true e = inr (inl (
       eqb-true d c e,
       ap length (assigned-more x ∙ ap (λ (b : Bool). cond b (assigned J c ++ (path, n) ∷ []) (assigned J c)) e) ∙ length_push (assigned J c) (path, n),
-      ap (λ (u : Asks). length u.done.nodes) (asks-more x ∙ ap (λ (b : Bool). fold (asks_step c) t (cond b (Row x ∷ []) [])) e) ∙ length_push t.done.nodes n,
-      ap (λ (u : Asks). u.done.last) (asks-more x ∙ ap (λ (b : Bool). fold (asks_step c) t (cond b (Row x ∷ []) [])) e),
+      ap (λ (u : AskTale). length u.done.nodes) (asks-more x ∙ ap (λ (b : Bool). fold (asks_step c) t (cond b (Row x ∷ []) [])) e) ∙ length_push t.done.nodes n,
+      ap (λ (u : AskTale). u.done.last) (asks-more x ∙ ap (λ (b : Bool). fold (asks_step c) t (cond b (Row x ∷ []) [])) e),
     ))
     go false e = inr (inr (
       ap length (assigned-more x ∙ ap (λ (b : Bool). cond b (assigned J c ++ (path, n) ∷ []) (assigned J c)) e),
-      inr (ap (λ (u : Asks). u.done) (asks-more x ∙ ap (λ (b : Bool). fold (asks_step c) t (cond b (Row x ∷ []) [])) e)),
+      inr (ap (λ (u : AskTale). u.done) (asks-more x ∙ ap (λ (b : Bool). fold (asks_step c) t (cond b (Row x ∷ []) [])) e)),
     ))
-  grows (rec.Got k) = inr (inr (ap length (assigned-more (rec.Got k)), subst (λ (u : Asks). IsAnew u.done t.done) (sym (asks-more (rec.Got k))) (go (packet_at (net_of J) k)))) where
-    go : (o : Option Packet) → IsAnew (fold (asks_step c) t (came c o)).done t.done
+  grows (rec.Got k) = inr (inr (ap length (assigned-more (rec.Got k)), subst (λ (u : AskTale). IsAnew u.done t.done) (sym (asks-more (rec.Got k))) (go (packet_at (net_of J) k)))) where
+    go : (o : Option Packet) → IsAnew (fold (asks_step c) t (came_seen c o)).done t.done
     go None = inr refl
     go (Some p) = came-anew (letter_of p) (conn_of p.from p.to p.bytes)
-  grows r = inr (inr (ap length (assigned-more r), inr (ap (λ (u : Asks). u.done) (asks-more r) ∙ row-still (plain r) refl (whose r))))
+  grows r = inr (inr (ap length (assigned-more r), inr (ap (λ (u : AskTale). u.done) (asks-more r) ∙ row-still (plain r) refl (whose r))))
 
 -- ---- the k-th assignment
 
@@ -188,7 +188,7 @@ module _ (c : ℕ) where
 -- the record assigns a request of connection c, for this Ask
 abbrev pub IsMadeFor : List Rec → ℕ → Option ℕ → Rec → Type 0
 IsMadeFor past c ask (rec.AssignedFirst d r path n add remove) = (d ≡ c) × (ask ≡ None)
-IsMadeFor past c ask (rec.AssignedLater d r path n add size queue) = (d ≡ c) × (ask ≡ Some (asks c (own c past)).done.last)
+IsMadeFor past c ask (rec.AssignedLater d r path n add size queue) = (d ≡ c) × (ask ≡ Some (ask_tale c (own c past)).done.last)
 IsMadeFor past c ask _ = ⊥
 
 -- Request r was assigned for this Ask. For which path and to which node is found behind all else, where its response is served.
@@ -215,7 +215,7 @@ module _ (files : FilesAt) (w : List ℕ) (J : List Rec) (c r : ℕ) where
   none-of [] e = refl
   none-of (x ∷ xs) e = absurd (omega (arith, e))
 
-  of-first : (past : List Rec) (x : Rec) → IsFirst c x ⊎ IsLater c x → length (assigned past c) ≡ 0 → (whose x ≡ Some c → MayBack files (marks past c) x) → IsMadeFor past c None x
+  of-first : (past : List Rec) (x : Rec) → IsFirst c x ⊎ IsLater c x → length (assigned past c) ≡ 0 → (whose x ≡ Some c → MayBack files (way_marks past c) x) → IsMadeFor past c None x
   of-first past (rec.AssignedFirst d i path n add remove) h none may = (⊎_elim (λ (e : d ≡ c). e) (λ (no : ⊥). absurd no) h, refl)
   of-first past (rec.AssignedLater d i path n add size queue) h none may = absurd (may (ap Some (⊎_elim (λ (no : ⊥). absurd no) (λ (e : d ≡ c). e) h)) (none-of (assigned past c) none))
   of-first past _ h none may = absurd (⊎_elim (λ (no : ⊥). no) (λ (no : ⊥). no) h)

@@ -9,7 +9,7 @@ use Rattle.lard_base.specs.declared.place.Place.{Place}
 use Rattle.lard_base.specs.declared.place.Place.TheVariants.{Client, Front, Node}
 use Rattle.lard_base.specs.declared.place.Via.{Via}
 use Rattle.lard_base.specs.declared.place.Via.TheVariants as via
-use Rattle.lard_rules.specs.Bounds.{IsNumber}
+use Rattle.lard_rules.specs.Bounds.{IsConnNumber}
 use Rattle.lard_laws.specs.BackingRequests.{HasComeFor, IsBehindTold, IsFor, IsQueuedAndRead, MayBeBacked, StandsFor, WasFor}
 use Rattle.lard_laws.specs.BackingState.{MayBack, SaysFor}
 use Rattle.lard_laws.proofs.BackingFinding.{IsSentIn, Stands, came-sent, each-from, has-stands, job-queued, packet-sent}
@@ -18,11 +18,11 @@ use Rattle.lard_laws.proofs.BackingHitting.{MayHit}
 use Rattle.lard_laws.proofs.BackingMarks.{MayMark, each-at, for-later, untouched-before}
 use Rattle.lard_laws.proofs.BackingMatching.{matched}
 use Rattle.lard_laws.proofs.BackingSpelled.{content-reads}
-use Rattle.lard_law_connections.specs.BytesRecords.{MayServe}
-use Rattle.lard_law_connections.specs.StoresLaws.{Completes, MayStore, MustRead, NoneRead, is_read}
+use Rattle.lard_law_connections.specs.BytesRecords.{MayServeOwned}
+use Rattle.lard_law_connections.specs.StoresLaws.{CompletesJob, MayStore, MustRead, NoneRead, is_read}
 use Rattle.lard_law_view.proofs.Naming.{decoded-names, spelled-named}
-use Rattle.lard_laws.specs.WaysContents.{AnswersFetch, BringsFile, IsContent, MayBring, MustBring}
-use Rattle.lard_laws.specs.Ways.{AnswersNext, MayCome, marks}
+use Rattle.lard_laws.specs.WaysContents.{AnswersFetch, BringsFile, IsContentMessage, MayBring, MustBring}
+use Rattle.lard_laws.specs.Ways.{AnswersNextAt, MayComeThisWay, way_marks}
 use Rattle.lard_history.specs.Journal.{is_touched, served, wrote}
 use Rattle.lard_history.specs.Laws.{EachMay}
 use Rattle.lard_history.specs.Own.{Came, Has, Letter, Seen, letter_of, named_in, net_of, own, seen_on, whose}
@@ -35,7 +35,7 @@ use Rattle.lard_message.specs.declared.message.Body.TheVariants as body
 use Rattle.lard_message.specs.declared.message.Message.{Message}
 use Rattle.lard_message.specs.Reading.{decoded_message}
 use Rattle.lard_rules.specs.Node.{message}
-use Rattle.lard_rules.specs.NodePlace.{bytes_of}
+use Rattle.lard_rules.specs.NodePlace.{content_bytes}
 
 -- ---- a request is for one path
 
@@ -123,7 +123,7 @@ module _ (past : List Rec) (n m c r : ℕ) (path : List ℕ) where
   abbrev queued : Rec
   queued = rec.Queued n m c r path
 
-  completed-queued : (e : Event) (rs : List Rec) → Completes past e rs → Has read rs → Has queued past
+  completed-queued : (e : Event) (rs : List Rec) → CompletesJob past e rs → Has read rs → Has queued past
   completed-queued (event.Disk k j) rs h has =
       ⊎_elim
       (λ (e : rec.Read k h.0.0 h.0.1 h.0.2 h.0.3 ≡ read).
@@ -148,16 +148,16 @@ pub record Known (files : FilesAt) (limit : ℕ) (J : List Rec) : Type 0 where
   pub marks : EachMay (MayMark files) [] J
   pub stores : EachMay (MayStore files limit) [] J
   pub hits : EachMay (MayHit files) [] J
-  pub ways : EachMay (MayCome files) [] J
-  pub service : EachMay (MayServe files) [] J
+  pub ways : EachMay (MayComeThisWay files) [] J
+  pub service : EachMay (MayServeOwned files) [] J
   pub whole : (split J).0 ≡ []
   pub brings : EachStep (MustBring files) [] (steps J)
   pub reads : EachStep MustRead [] (steps J)
-  pub numbers : (n m c r : ℕ) (path : List ℕ) → Has (rec.Queued n m c r path) J → IsNumber c
+  pub numbers : (n m c r : ℕ) (path : List ℕ) → Has (rec.Queued n m c r path) J → IsConnNumber c
 
 module _ (files : FilesAt) (limit : ℕ) (J : List Rec) (known : Known files limit J) where
   -- what is marked of a record that stands before
-  marked-at : (a b rest : List Rec) (x : Rec) (c : ℕ) → J ≡ (a ++ x ∷ b) ++ rest → whose x ≡ Some c → is_touched (a ++ x ∷ b) c ≡ false → MayBack files (marks a c) x
+  marked-at : (a b rest : List Rec) (x : Rec) (c : ℕ) → J ≡ (a ++ x ∷ b) ++ rest → whose x ≡ Some c → is_touched (a ++ x ∷ b) c ≡ false → MayBack files (way_marks a c) x
   marked-at a b rest x c is own u = each-at (MayMark files) J a (b ++ rest) x (is ∙ append_assoc a (x ∷ b) rest) known.marks c own (untouched-before a (x ∷ b) c u)
 
   -- ---- a job
@@ -166,7 +166,7 @@ module _ (files : FilesAt) (limit : ℕ) (J : List Rec) (known : Known files lim
   queued-for : (a rest : List Rec) (n m c r : ℕ) (path : List ℕ) → J ≡ a ++ rest → is_touched a c ≡ false → Has (rec.Queued n m c r path) a → IsFor files (wrote a c) r path × (r < 2 ^ 32)
   queued-for a rest n m c r path is u h =
       let s : Stands (rec.Queued n m c r path) a = has-stands (rec.Queued n m c r path) a h in
-      let may : MayBack files (marks s.before c) (rec.Queued n m c r path) = marked-at s.before s.behind rest (rec.Queued n m c r path) c (is ∙ ap (λ (l : List Rec). l ++ rest) s.split) refl (subst (λ (l : List Rec). is_touched l c ≡ false) s.split u) in
+      let may : MayBack files (way_marks s.before c) (rec.Queued n m c r path) = marked-at s.before s.behind rest (rec.Queued n m c r path) c (is ∙ ap (λ (l : List Rec). l ++ rest) s.split) refl (subst (λ (l : List Rec). is_touched l c ≡ false) s.split u) in
       (subst (λ (l : List Rec). IsFor files (wrote l c) r path) (sym s.split) (for-later files s.before (rec.Queued n m c r path ∷ s.behind) c r path may.0), may.1)
 
   read-for : (a rest : List Rec) (n m c r : ℕ) (path : List ℕ) → J ≡ a ++ rest → is_touched a c ≡ false → Has (rec.Read n m c r path) a → IsFor files (wrote a c) r path
@@ -185,8 +185,8 @@ module _ (files : FilesAt) (limit : ℕ) (J : List Rec) (known : Known files lim
     epoch : ℕ
     r : ℕ
     path : List ℕ
-    is : bytes ≡ message c epoch (body.Content r (bytes_of (files path)))
-    number : IsNumber c
+    is : bytes ≡ message c epoch (body.Content r (content_bytes (files path)))
+    number : IsConnNumber c
     for : is_touched a c ≡ false → IsFor files (wrote a c) r path × (r < 2 ^ 32)
 
   -- what holds at the end of the past holds inside the step
@@ -201,7 +201,7 @@ module _ (files : FilesAt) (limit : ℕ) (J : List Rec) (known : Known files lim
       let x : Rec = rec.Sent sent.0 f.packet.from f.packet.to f.packet.bytes in
       let s : Stands x past = has-stands x past sent.1 in
       let named : whose x ≡ Some c = (λ i. whose (rec.Sent sent.0 (f.from i) (f.to i) f.packet.bytes)) ∙ (decoded-names (record { c = c; epoch = record { 0 = epoch }; body = body.Fetch r path }) f.packet.bytes f.asks).named in
-      let may : MayBack files (marks s.before c) x = marked-at s.before s.behind rest x c (is ∙ ap (λ (l : List Rec). l ++ rest) s.split) named (subst (λ (l : List Rec). is_touched l c ≡ false) s.split u) in
+      let may : MayBack files (way_marks s.before c) x = marked-at s.before s.behind rest x c (is ∙ ap (λ (l : List Rec). l ++ rest) s.split) named (subst (λ (l : List Rec). is_touched l c ≡ false) s.split u) in
       let says : SaysFor files (wrote s.before c) (Node m) (Node n) f.packet.bytes = subst (λ (p : Place). SaysFor files (wrote s.before c) (Node m) p f.packet.bytes) f.to (subst (λ (p : Place). SaysFor files (wrote s.before c) p f.packet.to f.packet.bytes) f.from may) in
       let for = says (record { c = c; epoch = record { 0 = epoch }; body = body.Fetch r path }) f.asks in
       (subst (λ (l : List Rec). IsFor files (wrote l c) r path) (sym s.split) (for-later files s.before (x ∷ s.behind) c r path for.0), for.1)
@@ -216,7 +216,7 @@ module _ (files : FilesAt) (limit : ℕ) (J : List Rec) (known : Known files lim
   rest-of : (a b past inside : List Rec) (x : Rec) → J ≡ a ++ x ∷ b → a ≡ past ++ inside → J ≡ past ++ (inside ++ x ∷ b)
   rest-of a b past inside x is before = is ∙ ap (λ (l : List Rec). l ++ x ∷ b) before ∙ append_assoc past inside (x ∷ b)
 
-  carries : (a b : List Rec) (i n m : ℕ) (bytes : List ℕ) → J ≡ a ++ rec.Sent i (Node n) (Node m) bytes ∷ b → IsContent bytes → Carries a bytes
+  carries : (a b : List Rec) (i n m : ℕ) (bytes : List ℕ) → J ≡ a ++ rec.Sent i (Node n) (Node m) bytes ∷ b → IsContentMessage bytes → Carries a bytes
   carries a b i n m bytes is content =
       let x : Rec = rec.Sent i (Node n) (Node m) bytes in
       let all : joined (steps J) ≡ a ++ x ∷ b = sym (ap (λ (l : List Rec). l ++ joined (steps J)) known.whole) ∙ joined-split J ∙ is in
@@ -249,13 +249,13 @@ module _ (files : FilesAt) (limit : ℕ) (J : List Rec) (known : Known files lim
 
   -- ---- a response
 
-  module _ (past b : List Rec) (n c r : ℕ) (path : List ℕ) (way : Via) (untouched : is_touched past c ≡ false) (for : IsFor files (wrote past c) r path) (number : r ≡ served past c + 1) (next : AnswersNext files (marks past c) (Node n) way) where
+  module _ (past b : List Rec) (n c r : ℕ) (path : List ℕ) (way : Via) (untouched : is_touched past c ≡ false) (for : IsFor files (wrote past c) r path) (number : r ≡ served past c + 1) (next : AnswersNextAt files (way_marks past c) (Node n) way) where
     -- what started is meant for this path
     mine : (other : List ℕ) → IsFor files (wrote past c) r other → other ≡ path
     mine other its = for-one files (wrote past c) r other path its for
 
     -- of a content that came for the request
-    content-for : (m epoch : ℕ) (file bytes : List ℕ) → J ≡ past ++ b → Has (Came (record { from = Node m; to = Node n; bytes = bytes })) (own c past) → decoded_message bytes ≡ Ok (record { c = c; epoch = record { 0 = epoch }; body = body.Content r file }) → file ≡ bytes_of (files path)
+    content-for : (m epoch : ℕ) (file bytes : List ℕ) → J ≡ past ++ b → Has (Came (record { from = Node m; to = Node n; bytes = bytes })) (own c past) → decoded_message bytes ≡ Ok (record { c = c; epoch = record { 0 = epoch }; body = body.Content r file }) → file ≡ content_bytes (files path)
     content-for m epoch file bytes is came reads =
         let l : Letter = record { from = Node m; to = Node n; bytes = bytes } in
         let sent : IsSentIn l past = came-sent l c past came in
@@ -263,16 +263,16 @@ module _ (files : FilesAt) (limit : ℕ) (J : List Rec) (known : Known files lim
         let s : Stands x past = has-stands x past sent.1 in
         let got : Message = record { c = c; epoch = record { 0 = epoch }; body = body.Content r file } in
         let k : Carries s.before bytes = carries s.before (s.behind ++ b) sent.0 m n bytes (is ∙ ap (λ (l : List Rec). l ++ b) s.split ∙ append_assoc s.before (x ∷ s.behind) b) (got, reads, refl) in
-        let said : Message = record { c = k.c; epoch = record { 0 = k.epoch }; body = body.Content k.r (bytes_of (files k.path)) } in
+        let said : Message = record { c = k.c; epoch = record { 0 = k.epoch }; body = body.Content k.r (content_bytes (files k.path)) } in
         let mine_is : k.c ≡ c = some-same k.c c (sym (spelled-named said k.number) ∙ ap named_in (sym k.is) ∙ (decoded-names got bytes reads).named) in
         let before : is_touched s.before k.c ≡ false = subst (λ (q : ℕ). is_touched s.before q ≡ false) (sym mine_is) (untouched-before s.before (x ∷ s.behind) c (subst (λ (l : List Rec). is_touched l c ≡ false) s.split untouched)) in
         let its = k.for before in
-        let read : body.Content r file ≡ body.Content k.r (bytes_of (files k.path)) = content-reads k.c k.epoch k.r (bytes_of (files k.path)) its.1 got (ap decoded_message (sym k.is) ∙ reads) in
+        let read : body.Content r file ≡ body.Content k.r (content_bytes (files k.path)) = content-reads k.c k.epoch k.r (content_bytes (files k.path)) its.1 got (ap decoded_message (sym k.is) ∙ reads) in
         let number : r ≡ k.r = cc in
-        let carried : file ≡ bytes_of (files k.path) = cc in
+        let carried : file ≡ content_bytes (files k.path) = cc in
         let there : IsFor files (wrote past c) k.r k.path = subst (λ (l : List Rec). IsFor files (wrote l c) k.r k.path) (sym s.split) (for-later files s.before (x ∷ s.behind) c k.r k.path (subst (λ (q : ℕ). IsFor files (wrote s.before q) k.r k.path) mine_is its.0)) in
         let same : path ≡ k.path = for-one files (wrote past c) r path k.path for (subst (λ (q : ℕ). IsFor files (wrote past c) q k.path) (sym number) there) in
-        carried ∙ ap (λ (p : List ℕ). bytes_of (files p)) (sym same)
+        carried ∙ ap (λ (p : List ℕ). content_bytes (files p)) (sym same)
 
     -- what started, and stands so, is backed
     backs : (epoch : ℕ) (P : List ℕ → List Rec → List Rec → Type 0) → ((before later : List Rec) → past ≡ before ++ later → P path before later → StandsFor files before later n c epoch r path way) → Started files n c epoch P past r → IsBehindTold files past n c r path way
@@ -303,10 +303,10 @@ module _ (files : FilesAt) (limit : ℕ) (J : List Rec) (known : Known files lim
     node-for m epoch is before later split w =
         let l : Seen = Came (record { from = Node m; to = Node n; bytes = w.bytes }) in
         let seen : Has l (own c past) = subst (λ (k : List Rec). Has l (own c k)) (sym split) (subst (Has l) (sym (own-append c before later)) (has-behind l (own c before) (seen_on c (net_of before) later) w.came)) in
-        let file : w.file ≡ bytes_of (files path) = content-for m epoch w.file w.bytes is seen w.reads in
+        let file : w.file ≡ content_bytes (files path) = content-for m epoch w.file w.bytes is seen w.reads in
         record { bytes = w.bytes; came = w.came; reads = w.reads ∙ (λ i. Ok (record { c = c; epoch = record { 0 = epoch }; body = body.Content r (file i) })) }
 
-  way-for : (past b : List Rec) (n c r code size : ℕ) (path : List ℕ) (way : Via) → is_touched past c ≡ false → IsFor files (wrote past c) r path → r ≡ served past c + 1 → AnswersNext files (marks past c) (Node n) way → J ≡ past ++ b → MayHit files past (rec.Served (Node n) c r code size way) → WasFor files past n c r path way
+  way-for : (past b : List Rec) (n c r code size : ℕ) (path : List ℕ) (way : Via) → is_touched past c ≡ false → IsFor files (wrote past c) r path → r ≡ served past c + 1 → AnswersNextAt files (way_marks past c) (Node n) way → J ≡ past ++ b → MayHit files past (rec.Served (Node n) c r code size way) → WasFor files past n c r path way
   way-for past b n c r code size path via.Own u for number next is h = tt
   way-for past b n c r code size path via.Cache u for number next is h = backs past b n c r path via.Cache u for number next h.0 (IsHit files n c h.0) (λ before later split s. s) h.1
   way-for past b n c r code size path via.Disk u for number next is h = backs past b n c r path via.Disk u for number next h.0 (IsDone files n c h.0 r) (λ before later split s. disk-for past b n c r path via.Disk u for number next is before later split s) h.1
@@ -315,7 +315,7 @@ module _ (files : FilesAt) (limit : ℕ) (J : List Rec) (known : Known files lim
   backed-at : (a b : List Rec) (x : Rec) → J ≡ a ++ x ∷ b → MayBeBacked files a x
   backed-at a b (rec.Served (Node n) c r code size way) is = λ u path for.
       let x : Rec = rec.Served (Node n) c r code size way in
-      way-for a (x ∷ b) n c r code size path way u for (each-at (MayServe files) J a b x is known.service u).1.0 (each-at (MayCome files) J a b x is known.ways u) is (each-at (MayHit files) J a b x is known.hits)
+      way-for a (x ∷ b) n c r code size path way u for (each-at (MayServeOwned files) J a b x is known.service u).1.0 (each-at (MayComeThisWay files) J a b x is known.ways u) is (each-at (MayHit files) J a b x is known.hits)
   backed-at a b (rec.Served Front c r code size way) is = λ u path for. tt
   backed-at a b (rec.Served (Client e) c r code size way) is = λ u path for. tt
   backed-at a b _ is = tt

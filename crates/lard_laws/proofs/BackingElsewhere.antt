@@ -7,7 +7,7 @@ use Rattle.lard_base.specs.declared.place.Place.{Place}
 use Rattle.lard_base.specs.declared.place.Place.TheVariants.{Front, Node, Client}
 use Rattle.lard_rules.specs.declared.machine.Machine.{Machine}
 use Rattle.lard_rules.specs.Bounds.{HasRule}
-use Rattle.lard_rules.specs.Machine.{clocked, machine_step, passed, segments_sent, told}
+use Rattle.lard_rules.specs.Machine.{clocked, machine_step, passed, segments_sent, machine_told}
 use Rattle.lard_laws.proofs.BackingHitting.{IsStill}
 use Rattle.lard_law_connections.proofs.StoresCalm.{NodeActs, first_rows, last_rows, told-journal}
 use Rattle.lard_law_view.specs.View.{IsViewed}
@@ -77,7 +77,7 @@ module _ (m : Machine) where
   pub passed-mild : (e : Event) → IsMild m (passed m e (behind e))
   passed-mild e = (first_rows m e, refl, first-still m e)
 
-  told-mild : (w : Machine) (e : Event) (place : Place) (o : Out) → IsAct m w e place o → NamesAll place → IsMild m (told w e (behind e) place o)
+  told-mild : (w : Machine) (e : Event) (place : Place) (o : Out) → IsAct m w e place o → NamesAll place → IsMild m (machine_told w e (behind e) place o)
   told-mild w e place o act names = (
     first_rows w e ++ o.notes ++ last_rows w place o,
     told-journal w e place o ∙ ap (λ (J : List Rec). J ++ (first_rows w e ++ o.notes ++ last_rows w place o)) act.put.journal,
@@ -90,7 +90,7 @@ module _ (m : Machine) where
   abbrev IsEither : Event → Machine → Type 0
   IsEither e n = NodeActs m e ⊎ IsMild m n
 
-  act-either : (w : Machine) (e : Event) (place : Place) (o : Out) → IsAct m w e place o → IsEither e (told w e (behind e) place o)
+  act-either : (w : Machine) (e : Event) (place : Place) (o : Out) → IsAct m w e place o → IsEither e (machine_told w e (behind e) place o)
   act-either w e (Node i) o act = inl (i, act.acts)
   act-either w e Front o act = inr (told-mild w e Front o act tt)
   act-either w e (Client d) o act = inr (told-mild w e (Client d) o act tt)

@@ -6,7 +6,7 @@ use Rattle.std.proofs.lemmas.Bool.{eqb-true}
 use Rattle.std.proofs.lemmas.List.{map-append}
 use Rattle.lard_counts.specs.Stores.{Queue, Waiting, jobs, jobs_step, no_jobs, waiting_at, without_waiting}
 use Rattle.lard_history.specs.Laws.{EachMay}
-use Rattle.lard_history.specs.Own.{Came, Has, Letter, Row, Seen, came, letter_of, net_of, net_step, one_of, own, plain, seen_of, seen_on, whose}
+use Rattle.lard_history.specs.Own.{Came, Has, Letter, Row, Seen, came_seen, letter_of, net_of, net_step, one_of, own, plain, seen_of, seen_on, whose}
 use Rattle.lard_history.proofs.Seeing.{has-before}
 use Rattle.lard_journal.specs.declared.rec.Rec.{Rec}
 use Rattle.lard_journal.specs.declared.rec.Rec.TheVariants as rec
@@ -120,7 +120,7 @@ came-same k l e = cc
 -- a packet that comes was there
 came-of : (l : Letter) (q : ℕ) (net : List Packet) (r : Rec) → Has (Came l) (seen_of q net r) → Has l (map letter_of net)
 came-of l q net (rec.Got k) h = go (packet_at net k) refl h where
-  go : (o : Option Packet) → packet_at net k ≡ o → Has (Came l) (came q o) → Has l (map letter_of net)
+  go : (o : Option Packet) → packet_at net k ≡ o → Has (Came l) (came_seen q o) → Has l (map letter_of net)
   go None e f = absurd f
   go (Some p) e f = subst (λ (x : Letter). Has x (map letter_of net)) (came-same (letter_of p) l (one-has q _ (Came (letter_of p)) (Came l) f)) (has-packet net k p e)
 came-of l q net r h = absurd (row-came (plain r) l (one-has q (whose r) (Row (plain r)) (Came l) h))

@@ -14,7 +14,7 @@ use Rattle.lard_laws.proofs.BackingNumbers.{assigned-on}
 use Rattle.lard_endpoint.specs.Control.{ControlBlock}
 use Rattle.lard_handoff_back.specs.declared.row.BackRow.{BackRow}
 use Rattle.lard_handoff_back.specs.Back.{staying}
-use Rattle.lard_handoff_back.specs.Row.{held_in}
+use Rattle.lard_handoff_back.specs.Row.{back_held}
 use Rattle.lard_history.specs.Journal.{is_touched, wrote}
 use Rattle.lard_history.specs.Own.{Came, Has, Seen, net_of, net_step, seen_on}
 use Rattle.lard_history.proofs.Seeing.{has-before, has-behind, own-append, seen_on-append}
@@ -244,7 +244,7 @@ epoch_by o = elim o [ None ↦ 0 | Some row ↦ row.epoch.0 ]
 pub staying-at : (epoch : ℕ) (o : Option BackRow) (b : ControlBlock) → staying epoch o ≡ Some b → epoch_by o ≡ epoch
 staying-at epoch None b e = let no : None ≡ Some b = e in absurd (let f : ⊥ = cc in f)
 staying-at epoch (Some row) b e = go (row.epoch.0 == epoch) refl e where
-  go : (t : Bool) → (row.epoch.0 == epoch) ≡ t → cond t (held_in row.stage) None ≡ Some b → row.epoch.0 ≡ epoch
+  go : (t : Bool) → (row.epoch.0 == epoch) ≡ t → cond t (back_held row.stage) None ≡ Some b → row.epoch.0 ≡ epoch
   go true same f = eqb-true row.epoch.0 epoch same
   go false same f = let no : None ≡ Some b = f in absurd (let g : ⊥ = cc in g)
 

@@ -12,9 +12,9 @@ use Rattle.lard_base.specs.declared.parts.EndpointParts.{EndpointParts}
 use Rattle.lard_base.specs.declared.place.Place.{Place}
 use Rattle.lard_base.specs.declared.place.Place.TheVariants.{Front, Node}
 use Rattle.lard_rules.specs.declared.machine.Machine.{Machine}
-use Rattle.lard_rules.specs.Bounds.{IsNumber}
-use Rattle.lard_rules.specs.Machine.{IsReached, node_at, node_gave, node_setting, passed, start, told}
-use Rattle.lard_laws.specs.Asks.{asks}
+use Rattle.lard_rules.specs.Bounds.{IsConnNumber}
+use Rattle.lard_rules.specs.Machine.{IsReached, node_at, node_gave, node_setting, passed, machine_start, machine_told}
+use Rattle.lard_laws.specs.Asks.{ask_tale}
 use Rattle.lard_laws.proofs.AsksRuns.{each-told}
 use Rattle.lard_laws.specs.BackingRequests.{IsFor}
 use Rattle.lard_laws.specs.BackingState.{FetchesFor, LetterFor}
@@ -40,7 +40,7 @@ use Rattle.lard_law_connections.proofs.PlacesRuns.{each-placed}
 use Rattle.lard_law_connections.proofs.PlacesTurns.{IsPlaced}
 use Rattle.lard_law_connections.proofs.StoresCalm.{NodeActs, first_rows, last_rows, told-journal}
 use Rattle.lard_law_view.specs.Carry.{tale_at}
-use Rattle.lard_law_view.specs.View.{Conn, IsNodeEnv, Setting, Spells, Was, conn, setting_of}
+use Rattle.lard_law_view.specs.View.{Conn, IsNodeEnv, Setting, SpellsMessage, Was, conn, setting_of}
 use Rattle.lard_law_view.proofs.Carried.{IsOn, carried-keep, reached-viewed}
 use Rattle.lard_law_view.proofs.Heads.{was}
 use Rattle.lard_law_view.proofs.Naming.{Names, decoded-names}
@@ -56,10 +56,10 @@ use Rattle.lard_files.specs.Files.{file_at}
 use Rattle.lard_handoff_back.specs.declared.row.BackRow.{BackRow}
 use Rattle.lard_handoff_back.specs.declared.table.Adopt.TheVariants.{New}
 use Rattle.lard_handoff_back.specs.Back.{offer_answer, staying}
-use Rattle.lard_handoff_back.specs.Row.{held_in}
+use Rattle.lard_handoff_back.specs.Row.{back_held}
 use Rattle.lard_history.specs.Journal.{Tale, assigned, is_touched, touched_step, wrote, wrote_step}
 use Rattle.lard_history.specs.Laws.{EachMay}
-use Rattle.lard_history.specs.Own.{Came, Has, Letter, Seen, came, conn_of, letter_of, named_in, net_of, own, seen_on}
+use Rattle.lard_history.specs.Own.{Came, Has, Letter, Seen, came_seen, conn_of, letter_of, named_in, net_of, own, seen_on}
 use Rattle.lard_history.proofs.Each.{each_append}
 use Rattle.lard_history.proofs.Lifting.{tale-own}
 use Rattle.lard_history.proofs.Seeing.{by_number, one-mine, own-append}
@@ -75,7 +75,7 @@ use Rattle.lard_rules.specs.declared.node.BackIn.{BackIn}
 use Rattle.lard_rules.specs.declared.node.BackIn.TheVariants as input
 use Rattle.lard_rules.specs.declared.node.NodeState.{NodeState}
 use Rattle.lard_rules.specs.declared.stay.Stay.{Stay}
-use Rattle.lard_rules.specs.Node.{NodePart, both_of, here, is_awaited}
+use Rattle.lard_rules.specs.Node.{NodePart, both_of, here, is_tag_awaited}
 use Rattle.lard_rules.specs.NodePlace.{NodeSetting, no_stays, node_env, node_part, node_step}
 use Rattle.lard_rules.specs.Stay.{NodeEnv}
 use Rattle.lard_reader.specs.Batches.{batch_of}
@@ -88,7 +88,7 @@ use Rattle.lard_law_view.proofs.OwnRecords.{behind}
 row-took : (n c epoch : ℕ) (past : List Seen) (o : Option BackRow) (t : Option Stay) (y : ControlBlock × Stay) → both_of (staying epoch o) t ≡ Some y → RowTook n c past o → TookIn n c past epoch
 row-took n c epoch past None t y is h = let no : None ≡ Some y = is in absurd (let f : ⊥ = cc in f)
 row-took n c epoch past (Some row) t y is h = go (row.epoch.0 == epoch) refl is where
-  go : (b : Bool) → (row.epoch.0 == epoch) ≡ b → both_of (cond b (held_in row.stage) None) t ≡ Some y → TookIn n c past epoch
+  go : (b : Bool) → (row.epoch.0 == epoch) ≡ b → both_of (cond b (back_held row.stage) None) t ≡ Some y → TookIn n c past epoch
   go true e f = subst (TookIn n c past) (eqb-true row.epoch.0 epoch e) h
   go false e f = let no : None ≡ Some y = f in absurd (let g : ⊥ = cc in g)
 
@@ -130,7 +130,7 @@ module _ (m : Machine) (small : m.config.stream ≤ 2 ^ 30) (reached : IsReached
     unfolding conn
     row-there c = subst (λ (p : NodePart). RowTook i c (own c m.journal) p.row) (part-is c) ((each-served m.config m.files m reached c).0 i).row
 
-    module _ (c epoch : ℕ) (number : IsNumber c) (bytes : List ℕ) (sent : Was (conn m c) Front (Node i) bytes) where
+    module _ (c epoch : ℕ) (number : IsConnNumber c) (bytes : List ℕ) (sent : Was (conn m c) Front (Node i) bytes) where
       abbrev x : Conn
       x = conn m c
 
@@ -159,7 +159,7 @@ module _ (m : Machine) (small : m.config.stream ≤ 2 ^ 30) (reached : IsReached
           first-assigned files (wrote m.journal c) m.journal c r (marks-lawful m.config m.files m small reached) u none (assignment-at c m.journal 0 some)
 
       -- an Offer
-      offer-known : (parts : EndpointParts) → Spells c epoch (body.Offer parts) bytes → offer_answer epoch (node_part s c).row ≡ New → is_touched m.journal c ≡ false
+      offer-known : (parts : EndpointParts) → SpellsMessage c epoch (body.Offer parts) bytes → offer_answer epoch (node_part s c).row ≡ New → is_touched m.journal c ≡ false
           → FirstIn files (MeantBy files c m.journal None) (parts.served + 1) (batch_of 8 parts.unread)
       unfolding conn
       offer-known parts spells new u =
@@ -171,7 +171,7 @@ module _ (m : Machine) (small : m.config.stream ≤ 2 ^ 30) (reached : IsReached
           (parts.served + 1) (batch_of 8 parts.unread) alone
 
       -- the last that were assigned were assigned for the last Ask
-      last-known : (number_of r : ℕ) → number_of ≡ (asks x.c x.seen).done.last → length (marks_at x).assigned ≤ files_before files (marks_at x).wrote r + length (asks x.c x.seen).done.nodes → files_before files (marks_at x).wrote r < length (marks_at x).assigned
+      last-known : (number_of r : ℕ) → number_of ≡ (ask_tale x.c x.seen).done.last → length (marks_at x).assigned ≤ files_before files (marks_at x).wrote r + length (ask_tale x.c x.seen).done.nodes → files_before files (marks_at x).wrote r < length (marks_at x).assigned
           → HasAssignment files (wrote m.journal c) m.journal c r (Some number_of)
       unfolding conn
       last-known number_of r last low high =
@@ -180,7 +180,7 @@ module _ (m : Machine) (small : m.config.stream ≤ 2 ^ 30) (reached : IsReached
           last-assigned files (wrote m.journal c) m.journal c r number_of last (omega (arith, low, count, before)) (assignment-at c m.journal (files_before files (wrote m.journal c) r) (omega (arith, high, count, before)))
 
       -- a Tag that counts
-      tag-known : (number_of : ℕ) (nodes : List ℕ) → Spells c epoch (body.Tag number_of nodes) bytes → (y : ControlBlock × Stay) → here epoch (node_part s c) ≡ Some y → is_awaited env number_of nodes (node_part s c) y.1 ≡ true → is_touched m.journal c ≡ false
+      tag-known : (number_of : ℕ) (nodes : List ℕ) → SpellsMessage c epoch (body.Tag number_of nodes) bytes → (y : ControlBlock × Stay) → here epoch (node_part s c) ≡ Some y → is_tag_awaited env number_of nodes (node_part s c) y.1 ≡ true → is_touched m.journal c ≡ false
           → EachNamed files (MeantBy files c m.journal (Some number_of)) (y.1.served + 1) y.1.batch
       unfolding conn
       tag-known number_of nodes spells y held awaited u =
@@ -188,14 +188,14 @@ module _ (m : Machine) (small : m.config.stream ≤ 2 ^ 30) (reached : IsReached
           let o = opened u in
           let there : here env.epoch (x.part.nodes i) ≡ Some y = subst (λ (p : NodePart). here epoch p ≡ Some y) (sym (part-is c)) held in
           let counted = tag-counts k small x o.0 o.1 h.talk h.pend (open-at files x o.0 o.1 h) i epoch env is-env placed (ways u) (each-told m.config m.files m reached c) number_of nodes bytes spells sent y there
-          (subst (λ (p : NodePart). is_awaited env number_of nodes p y.1 ≡ true) (sym (part-is c)) awaited) in
+          (subst (λ (p : NodePart). is_tag_awaited env number_of nodes p y.1 ≡ true) (sym (part-is c)) awaited) in
           named-both files (IsFor files (wrote m.journal c)) (λ r path. HasAssignment files (wrote m.journal c) m.journal c r (Some number_of)) (y.1.served + 1) y.1.batch
           (subst (λ (q : List ℕ). EachNamed files (IsFor files q) (y.1.served + 1) y.1.batch) (wrote-own c)
           (hand-for k small x o.0 o.1 h.talk h.pend (open-at files x o.0 o.1 h) i epoch env is-env placed (ways u) y there))
-          (named-weaker files (IsOfLast files (marks_at x) (length (asks x.c x.seen).done.nodes)) (λ r path. HasAssignment files (wrote m.journal c) m.journal c r (Some number_of)) (λ r path w. last-known number_of r counted.0 w.0 w.1) (y.1.served + 1) y.1.batch counted.1)
+          (named-weaker files (IsOfLast files (marks_at x) (length (ask_tale x.c x.seen).done.nodes)) (λ r path. HasAssignment files (wrote m.journal c) m.journal c r (Some number_of)) (λ r path w. last-known number_of r counted.0 w.0 w.1) (y.1.served + 1) y.1.batch counted.1)
 
     -- a Fetch is of another node
-    other-asks : (c : ℕ) → IsNumber c → (n : ℕ) (bytes : List ℕ) → Was (conn m c) (Node n) (Node i) bytes → (epoch r : ℕ) (path : List ℕ) → Spells c epoch (body.Fetch r path) bytes → is_touched m.journal c ≡ false → n ≡ i → ⊥
+    other-asks : (c : ℕ) → IsConnNumber c → (n : ℕ) (bytes : List ℕ) → Was (conn m c) (Node n) (Node i) bytes → (epoch r : ℕ) (path : List ℕ) → SpellsMessage c epoch (body.Fetch r path) bytes → is_touched m.journal c ≡ false → n ≡ i → ⊥
     other-asks c number n bytes sent epoch r path spells u same =
         let old : FetchesFor files (conn m c) = (each-backed m.config m.files small m reached c).0 (calm c u) in
         let says = (has-fair (LetterFor files (marks_at (conn m c)).wrote) (record { from = Node n; to = Node i; bytes = bytes }) (conn m c).letters sent old) _ spells in
@@ -233,7 +233,7 @@ module _ (m : Machine) (small : m.config.stream ≤ 2 ^ 30) (reached : IsReached
         letter-sent : p.from ≡ Front → Was (conn m msg.c) Front (Node i) p.bytes
         letter-sent from = was m j msg.c p there Front (Node i) from to named.named
 
-        spells : (b : Body) → msg.body ≡ b → Spells msg.c msg.epoch.0 b p.bytes
+        spells : (b : Body) → msg.body ≡ b → SpellsMessage msg.c msg.epoch.0 b p.bytes
         spells b is = reads ∙ (λ i. Ok (record { c = msg.c; epoch = msg.epoch; body = is i }))
 
         -- the connection sees it come
@@ -243,7 +243,7 @@ module _ (m : Machine) (small : m.config.stream ≤ 2 ^ 30) (reached : IsReached
             let same : letter_of p ≡ l = λ z. record { from = is z; to = to z; bytes = p.bytes } in
             let its : conn_of p.from p.to p.bytes ≡ Some msg.c = (λ z. conn_of (is z) (to z) p.bytes) ∙ inner ∙ named.named in
             let at : packet_at (net_of m.journal) j ≡ Some p = ap (λ (net : List Packet). packet_at net j) (reached-viewed m.config m.files m reached).told ∙ there in
-            subst (Has (Came l)) (sym (ap (λ (q : Option Packet). came msg.c q ++ []) at ∙ ap (λ (ss : List Seen). ss ++ []) (one-mine msg.c (conn_of p.from p.to p.bytes) (Came (letter_of p)) its))) (inl (ap (λ (z : Letter). Came z) same))
+            subst (Has (Came l)) (sym (ap (λ (q : Option Packet). came_seen msg.c q ++ []) at ∙ ap (λ (ss : List Seen). ss ++ []) (one-mine msg.c (conn_of p.from p.to p.bytes) (Came (letter_of p)) its))) (inl (ap (λ (z : Letter). Came z) same))
 
         tag-told : (number_of : ℕ) (nodes : List ℕ) → p.from ≡ Front → msg.body ≡ body.Tag number_of nodes → (y : ControlBlock × Stay) → here msg.epoch.0 (node_part s msg.c) ≡ Some y → TagHasCome base i msg.c msg.epoch.0 number_of
         tag-told number_of nodes is of y held = record {
@@ -344,7 +344,7 @@ module _ (m : Machine) (e : Event) (hit : AreHit (file_at m.files) m) (i : ℕ) 
       (stills-may fs (m.journal ++ first ++ o.notes) last (last-still w (Node i) o h.gave h.timers)))
 
   node-hit : AreHit fs (node_gave m e (behind e) i (t, o))
-  unfolding told
+  unfolding machine_told
   node-hit =
       let J : (node_gave m e (behind e) i (t, o)).journal ≡ m.journal ++ rows = told-journal w e (Node i) o in
       record {
@@ -361,7 +361,7 @@ module _ (config : Config) (files : List (List ℕ × List ℕ)) (small : config
   abbrev Hit : Machine → Type 0
   Hit m = AreHit (file_at files) m
 
-  start-hit : Hit (start config files)
+  start-hit : Hit (machine_start config files)
   start-hit = record {
     kept = λ n s at q. of-nodes (λ (o : Option NodeState). o ≡ Some s → StayHits (file_at files) n q [] (node_part s q).row (node_part s q).stay) config.nodes (no_stays config.cache)
         (λ e. let no : None ≡ Some s = e in absurd cc)

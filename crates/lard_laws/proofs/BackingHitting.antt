@@ -24,7 +24,7 @@ use Rattle.lard_endpoint.specs.Control.{ControlBlock, finishing}
 use Rattle.lard_endpoint.specs.Leaving.{after_timer, timed}
 use Rattle.lard_handoff_back.specs.declared.table.Adopt.{Adopt}
 use Rattle.lard_handoff_back.specs.declared.table.Adopt.TheVariants.{Again, New, Stale}
-use Rattle.lard_handoff_back.specs.Back.{awaits_ack, endpoint_of, offer_answer, staying}
+use Rattle.lard_handoff_back.specs.Back.{awaits_ack, back_endpoint, offer_answer, staying}
 use Rattle.lard_history.specs.Journal.{is_touched, wrote}
 use Rattle.lard_history.specs.Laws.{EachMay}
 use Rattle.lard_history.specs.Own.{net_of, seen_on}
@@ -39,8 +39,8 @@ use Rattle.lard_rules.specs.declared.stay.Next.TheVariants as next
 use Rattle.lard_rules.specs.declared.stay.Progress.{Progress}
 use Rattle.lard_rules.specs.declared.stay.Progress.TheVariants as progress
 use Rattle.lard_rules.specs.declared.stay.Stay.{Stay}
-use Rattle.lard_rules.specs.Node.{Deed, Does, Drops, NodePart, Says, again_sent, begins, both_of, come_by, fired_by, gave_by, gone, heard_by, is_awaited, kept_after, node_acknowledged, node_forwarded, node_offered, node_timer, offered_by, read_by, saying, tagged_by, taken_sent, turn_by, with_work, work_of}
-use Rattle.lard_rules.specs.Stay.{NodeEnv, Work, asks_for, came_for, come_on, come_progress, entered, enters, enters_first, goes_on, left, named_path, named_paths, next_of, progress_of, read_entry, read_progress, reads_batch, reads_these, serves_by, serves_first, serves_with, started, started_here, started_there, starts_at, starts_named, starts_one, tagged, turn, turned}
+use Rattle.lard_rules.specs.Node.{NodeDeed, Does, Drops, NodePart, Says, again_sent, node_begins, both_of, come_by, node_fired_by, gave_by, gone, node_heard_by, is_tag_awaited, kept_after, node_acknowledged, node_forwarded, node_offered, node_timer, offered_by, node_read_by, node_saying, tagged_by, taken_sent, turn_by, with_work, work_of}
+use Rattle.lard_rules.specs.Stay.{NodeEnv, Work, asks_for, came_for, come_on, come_progress, entered, enters, enters_first, goes_on, work_left, named_path, named_paths, next_of, progress_of, read_entry, read_progress, reads_batch, reads_these, serves_by, serves_first, serves_with, started, started_here, started_there, starts_at, starts_named, starts_one, tagged, stay_turn, turned}
 use Rattle.lard_reader.specs.Batches.{batch_of, bytes_used}
 use Rattle.lard_request.specs.declared.verdict.Verdict.{Verdict}
 use Rattle.lard_resend.specs.Kept.{is_under, without}
@@ -48,7 +48,7 @@ use Rattle.lard_rules.specs.declared.places.Ending.{Ending}
 use Rattle.lard_rules.specs.declared.places.Ending.TheVariants as ending
 use Rattle.lard_rules.specs.declared.places.Turn.{Turn}
 use Rattle.lard_rules.specs.Loop.{Step, More, Done, state_of}
-use Rattle.lard_rules.specs.Serving.{Service, consumed, passed_over, queued, ready_of, serving, settled, spoken}
+use Rattle.lard_rules.specs.Serving.{Service, serving_consumed, passed_over, queued, serving_ready_of, serving, serving_settled, spoken}
 use Rattle.lard_rules.proofs.Runs.{runs_keep}
 use Rattle.lard_segment.specs.declared.fault.SegFault.{SegFault}
 use Rattle.lard_segment.specs.Segment.{Said}
@@ -103,7 +103,7 @@ module _ (env : NodeEnv) (at_node : env.serve.place ≡ Node env.n) (base : List
   W J = Holds files_at n c env.epoch J
 
   -- what is kept behind a deed, what it notes and gives up, and that its jobs are the node's own
-  abbrev pub DeedHits : Deed → Type 0
+  abbrev pub DeedHits : NodeDeed → Type 0
   DeedHits Drops = Unit {0}
   DeedHits (Says ms) = Unit {0}
   DeedHits (Does given) = StayHits files_at n c (base ++ given.1.notes) given.0.row given.0.stay × EachMay (MayHit files_at) base given.1.notes × Each IsStill given.1.gave × Each IsOwn given.1.notes
@@ -153,10 +153,10 @@ module _ (env : NodeEnv) (at_node : env.serve.place ≡ Node env.n) (base : List
     StepGoes (Done k) = Goes k
 
     these-go : (used : ℕ) (k : Work) (vs : List Verdict) → Goes k → StepGoes (reads_these env false used k vs)
-    these-go used k [] h = cond_both (consumed used k.service).block.recv.fin (record (consumed used k.service) { block = finishing (consumed used k.service).block }) (consumed used k.service) (λ (s : Service). Goes (record k { service = s }))
+    these-go used k [] h = cond_both (serving_consumed used k.service).block.recv.fin (record (serving_consumed used k.service) { block = finishing (serving_consumed used k.service).block }) (serving_consumed used k.service) (λ (s : Service). Goes (record k { service = s }))
         (λ t. record { batch = h.batch; more = h.more; notes = h.notes; each = h.each }) (λ t. record { batch = h.batch; more = h.more; notes = h.notes; each = h.each })
     these-go used k (v ∷ vs) h =
-        let rest : Work = record k { service = consumed used k.service } in
+        let rest : Work = record k { service = serving_consumed used k.service } in
         let all : Work = enters env false (k.service.count + 1) (v ∷ vs) rest in
         asks-go (length (v ∷ vs)) (named_paths files_at all.batch) all (quiet-enters (k.service.count + 1) (v ∷ vs) rest (record { batch = h.batch; more = h.more; notes = h.notes; each = h.each }))
 
@@ -186,7 +186,7 @@ module _ (env : NodeEnv) (at_node : env.serve.place ≡ Node env.n) (base : List
     turned-go k next.Stop h = h
 
     all-go : (k : Work) → Goes k → Goes (goes_on env k)
-    all-go k h = runs_keep (turn env) left Goes (record {
+    all-go k h = runs_keep (stay_turn env) work_left Goes (record {
       more = λ y z e p. subst StepGoes e (turned-go y (next_of y) p);
       done = λ y z e p. subst StepGoes e (turned-go y (next_of y) p);
     }) k h
@@ -228,7 +228,7 @@ module _ (env : NodeEnv) (at_node : env.serve.place ≡ Node env.n) (base : List
           stay (ending.Over last) at = tt
 
     works-hit : (p : NodePart) (before : List (Place × List ℕ)) (k : Work) → Goes k → DeedHits (with_work env p before (goes_on env k))
-    works-hit p before k h = ends-hit p before (goes_on env k) (settled env.serve (goes_on env k).service) (settled-served env.serve (goes_on env k).service) (settled-is env.serve (goes_on env k).service).notes (all-go k h)
+    works-hit p before k h = ends-hit p before (goes_on env k) (serving_settled env.serve (goes_on env k).service) (settled-served env.serve (goes_on env k).service) (settled-is env.serve (goes_on env k).service).notes (all-go k h)
 
   -- ---- requests start
 
@@ -373,10 +373,10 @@ module _ (env : NodeEnv) (at_node : env.serve.place ≡ Node env.n) (base : List
     asks-start size (path ∷ paths) k h = (h.0, record { batch = h.1.batch; silent = h.1.silent; told = h.1.told; next_is = h.1.next_is })
 
     these-start : (used : ℕ) (k : Work) (vs : List Verdict) → FirstFor (k.service.count + 1) vs → Starts k (k.service.count + 1) → HasStarted (state_of (reads_these env true used k vs))
-    these-start used k [] for h = cond_both (consumed used k.service).block.recv.fin (record (consumed used k.service) { block = finishing (consumed used k.service).block }) (consumed used k.service) (λ (s : Service). HasStarted (record k { service = s }))
+    these-start used k [] for h = cond_both (serving_consumed used k.service).block.recv.fin (record (serving_consumed used k.service) { block = finishing (serving_consumed used k.service).block }) (serving_consumed used k.service) (λ (s : Service). HasStarted (record k { service = s }))
         (λ t. (k.service.count + 1, record { batch = h.batch; silent = h.silent; told = h.told; next_is = h.next_is })) (λ t. (k.service.count + 1, record { batch = h.batch; silent = h.silent; told = h.told; next_is = h.next_is }))
     these-start used k (v ∷ vs) for h =
-        let rest : Work = record k { service = consumed used k.service } in
+        let rest : Work = record k { service = serving_consumed used k.service } in
         let all : Work = enters env true (k.service.count + 1) (v ∷ vs) rest in
         asks-start (length (v ∷ vs)) (named_paths files_at all.batch) all (first-starts (k.service.count + 1) (v ∷ vs) rest for (record { batch = h.batch; silent = h.silent; told = h.told; next_is = h.next_is }))
 
@@ -439,8 +439,8 @@ module _ (env : NodeEnv) (at_node : env.serve.place ≡ Node env.n) (base : List
               (λ t. content-come files_at n c env.epoch old first from node r come h) (λ t. still (progress.Awaited node) h)
 
     -- a job was read
-    pub read-hit : (old : List Rec) (r : ℕ) (path : List ℕ) → base ≡ old ++ rec.Read n n c r path ∷ [] → StayHits files_at n c old p.row p.stay → DeedHits (read_by env r p (both_of here_now p.stay))
-    read-hit old r path is held = by-both old (λ y. DeedHits (read_by env r p y)) tt
+    pub read-hit : (old : List Rec) (r : ℕ) (path : List ℕ) → base ≡ old ++ rec.Read n n c r path ∷ [] → StayHits files_at n c old p.row p.stay → DeedHits (node_read_by env r p (both_of here_now p.stay))
+    read-hit old r path is held = by-both old (λ y. DeedHits (node_read_by env r p y)) tt
         (λ b s h. works-hit [] (tt, tt) p [] (came_for read_progress r (work_of b s)) (came-goes old (rec.Read n n c r path ∷ []) is read_progress r keeps b s h)) here_now now-at p.stay held where
           still : (x : Progress) → W old r x → W (old ++ rec.Read n n c r path ∷ []) r x
           still x h = one-more files_at n c env.epoch old (rec.Read n n c r path ∷ []) r x h
@@ -454,24 +454,24 @@ module _ (env : NodeEnv) (at_node : env.serve.place ≡ Node env.n) (base : List
     module _ (held : StayHits files_at n c base p.row p.stay) where
       pub forwarded-hit : (r : Result Said SegFault) → DeedHits (node_forwarded env p r)
       forwarded-hit (Err fault) = tt
-      forwarded-hit (Ok sd) = by-both base (λ y. DeedHits (heard_by env p (Ok sd) y)) tt (λ b s h. works-hit [] (tt, tt) p [] (work_of (on_segment b sd).1 s) (fresh (on_segment b sd).1 s h)) here_now now-at p.stay held
+      forwarded-hit (Ok sd) = by-both base (λ y. DeedHits (node_heard_by env p (Ok sd) y)) tt (λ b s h. works-hit [] (tt, tt) p [] (work_of (on_segment b sd).1 s) (fresh (on_segment b sd).1 s h)) here_now now-at p.stay held
 
       pub fired-hit : epoch_by p.row ≡ env.epoch → DeedHits (node_timer env p)
-      fired-hit same = by-both base (λ y. DeedHits (fired_by env p y)) tt
+      fired-hit same = by-both base (λ y. DeedHits (node_fired_by env p y)) tt
           (λ b s h.
           let v : Service = serving (after_timer b) s.served [] in
-          let before = ready_of env.serve (after_timer b) (timed b) in
-          ends-hit [] (tt, tt) p (again_sent p) (work_of (after_timer b) s) (spoken env.serve v before) (spoken-served env.serve v before) refl (fresh (after_timer b) s h)) (endpoint_of p.row) (λ b e. same) p.stay held
+          let before = serving_ready_of env.serve (after_timer b) (timed b) in
+          ends-hit [] (tt, tt) p (again_sent p) (work_of (after_timer b) s) (spoken env.serve v before) (spoken-served env.serve v before) refl (fresh (after_timer b) s h)) (back_endpoint p.row) (λ b e. same) p.stay held
 
       pub acknowledged-hit : DeedHits (node_acknowledged env p)
-      acknowledged-hit = cond_both (awaits_ack env.epoch p.row) (Does (record p { row = gone p.row; kept = without timer.Ended 0 p.kept }, saying [])) Drops DeedHits
+      acknowledged-hit = cond_both (awaits_ack env.epoch p.row) (Does (record p { row = gone p.row; kept = without timer.Ended 0 p.kept }, node_saying [])) Drops DeedHits
           (λ t. (gone-hits files_at n c (base ++ []) p.row p.stay (stay-more files_at n c base [] p.row p.stay held), tt, tt, tt)) (λ t. tt)
 
-      pub tagged-hit : (number : ℕ) (nodes : List ℕ) → ((y : ControlBlock × Stay) → both_of here_now p.stay ≡ Some y → is_awaited env number nodes p y.1 ≡ true → TagKnown number y) → DeedHits (tagged_by env number nodes p (both_of here_now p.stay))
-      tagged-hit number nodes known = by-both base (λ y. ((z : ControlBlock × Stay) → y ≡ Some z → is_awaited env number nodes p z.1 ≡ true → TagKnown number z) → DeedHits (tagged_by env number nodes p y)) (λ f. tt)
+      pub tagged-hit : (number : ℕ) (nodes : List ℕ) → ((y : ControlBlock × Stay) → both_of here_now p.stay ≡ Some y → is_tag_awaited env number nodes p y.1 ≡ true → TagKnown number y) → DeedHits (tagged_by env number nodes p (both_of here_now p.stay))
+      tagged-hit number nodes known = by-both base (λ y. ((z : ControlBlock × Stay) → y ≡ Some z → is_tag_awaited env number nodes p z.1 ≡ true → TagKnown number z) → DeedHits (tagged_by env number nodes p y)) (λ f. tt)
           (λ b s h f.
           let part : NodePart = record p { kept = without timer.Ask 0 p.kept } in
-          cond_both (is_awaited env number nodes p s) (with_work env part [] (goes_on env (tagged env nodes (work_of b s)))) Drops DeedHits
+          cond_both (is_tag_awaited env number nodes p s) (with_work env part [] (goes_on env (tagged env nodes (work_of b s)))) Drops DeedHits
           (λ t.
           let k : TagKnown number (b, s) = f (b, s) refl t in
           let begins_so : Starts (Some number) (record (work_of b s) { batch = [] }) (s.served + 1) = record { batch = tt; silent = (tt, tt); told = told-more base [] n c env.epoch (Some number) k.told; next_is = omega arith } in
@@ -481,8 +481,8 @@ module _ (env : NodeEnv) (at_node : env.serve.place ≡ Node env.n) (base : List
       pub offered-hit : (parts : EndpointParts) → (offer_answer env.epoch p.row ≡ New → FirstFor None (parts.served + 1) (batch_of 8 parts.unread)) → DeedHits (node_offered env p parts)
       offered-hit parts for = go (offer_answer env.epoch p.row) for where
         go : (a : Adopt) → (a ≡ New → FirstFor None (parts.served + 1) (batch_of 8 parts.unread)) → DeedHits (offered_by env parts p a)
-        go New f = started-hit None p (taken_sent env) (state_of (reads_batch env true (begins env parts)))
-            (these-start None (bytes_used 8 parts.unread) (begins env parts) (batch_of 8 parts.unread) (f refl)
+        go New f = started-hit None p (taken_sent env) (state_of (reads_batch env true (node_begins env parts)))
+            (these-start None (bytes_used 8 parts.unread) (node_begins env parts) (batch_of 8 parts.unread) (f refl)
             (record { batch = tt; silent = ((tt, tt), (tt, tt)); told = has-behind (rec.Took (Node n) c (record { 0 = env.epoch })) base (rec.Took (Node n) c (record { 0 = env.epoch }) ∷ []) (inl refl); next_is = omega arith }))
         go Again f = tt
         go Stale f = tt

@@ -12,7 +12,7 @@ use Rattle.lard_law_view.specs.Carry.{WhileUntouched}
 use Rattle.lard_law_view.specs.View.{conn}
 use Rattle.lard_law_view.proofs.InSteps.{carried-records}
 use Rattle.lard_laws.specs.WaysState.{marks_of}
-use Rattle.lard_laws.specs.Ways.{Marks, marks}
+use Rattle.lard_laws.specs.Ways.{WayMarks, way_marks}
 use Rattle.lard_files.specs.Files.{file_at}
 use Rattle.lard_history.specs.Journal.{Tale, is_touched}
 use Rattle.lard_history.specs.Laws.{EachMay}
@@ -26,11 +26,11 @@ module _ (files : FilesAt) where
   abbrev seen_so : ℕ → List Seen → Rec → Type 0
   seen_so c past r = WhileUntouched (λ c. Mine files c) c past r
 
-  marks-own : (J : List Rec) (c : ℕ) → marks_of (tale_of c (own c J)) ≡ marks J c
+  marks-own : (J : List Rec) (c : ℕ) → marks_of (tale_of c (own c J)) ≡ way_marks J c
   marks-own J c = ap marks_of (sym (tale-own J c)) ∙ (λ i. record { wrote = sym (wrote-tale J c) i; served = sym (served-tale J c) i; assigned = sym (assigned-tale J c) i })
 
   -- the numbers of packets and events say nothing
-  plain-back : (m : Marks) (r : Rec) → MayBack files m (plain r) → MayBack files m r
+  plain-back : (m : WayMarks) (r : Rec) → MayBack files m (plain r) → MayBack files m r
   plain-back m (rec.Event i e) h = tt
   plain-back m (rec.Sent k from to bytes) h = h
   plain-back m _ h = h
@@ -39,7 +39,7 @@ module _ (files : FilesAt) where
   somebody J r c e h d f u =
       let same : c ≡ d = some-number c d (sym e ∙ f) in
       let now : MayBack files (marks_of (tale_of c (own c J))) (plain r) = h (ap (λ (t : Tale). t.touched) (sym (tale-own J c)) ∙ sym (touched-tale J c) ∙ subst (λ (q : ℕ). is_touched J q ≡ false) (sym same) u) in
-      subst (λ (q : ℕ). MayBack files (marks J q) r) same (plain-back (marks J c) r (subst (λ (m : Marks). MayBack files m (plain r)) (marks-own J c) now)) where
+      subst (λ (q : ℕ). MayBack files (way_marks J q) r) same (plain-back (way_marks J c) r (subst (λ (m : WayMarks). MayBack files m (plain r)) (marks-own J c) now)) where
         some-number : (a b : ℕ) → Some a ≡ Some b → a ≡ b
         some-number a b e = cc
 

@@ -10,7 +10,7 @@ use Rattle.lard_laws.specs.BackingRequests.{IsFor, comes_from}
 use Rattle.lard_laws.specs.BackingTold.{AssignsFor, WasAssigned}
 use Rattle.lard_laws.proofs.BackingAssignments.{HasAssignment, IsMadeFor}
 use Rattle.lard_laws.specs.WaysUnder.{Assigned}
-use Rattle.lard_laws.specs.Ways.{AnswersBy, AnswersNext, ComesAsAssigned, ComesFrom, GoesWith, good_paths, marks}
+use Rattle.lard_laws.specs.Ways.{AnswersBy, AnswersNextAt, ComesAsAssigned, ComesFrom, GoesWith, good_paths, way_marks}
 use Rattle.lard_laws.proofs.WaysGoods.{get-behind}
 use Rattle.lard_history.specs.Journal.{assigned, assigned_step, served, wrote}
 use Rattle.lard_history.proofs.Seeing.{same_number}
@@ -77,18 +77,18 @@ from-way home node n via.Cache same h = h ∙ sym same
 from-way home node n via.Disk same h = h ∙ sym same
 from-way home node n (via.Node m) same h = sym h.0
 
-module _ (files : FilesAt) (past : List Rec) (c n r : ℕ) (path : List ℕ) (way : Via) (number : r ≡ served past c + 1) (for : IsFor files (wrote past c) r path) (next : AnswersNext files (marks past c) (Node n) way) where
-  goes-with : GoesWith files (marks past c) path (Node n) way
+module _ (files : FilesAt) (past : List Rec) (c n r : ℕ) (path : List ℕ) (way : Via) (number : r ≡ served past c + 1) (for : IsFor files (wrote past c) r path) (next : AnswersNextAt files (way_marks past c) (Node n) way) where
+  goes-with : GoesWith files (way_marks past c) path (Node n) way
   goes-with =
       let at : for.before ≡ served past c = let a = for.number in omega (arith, a, number) in
       let is : slice_get (verdicts (wrote past c)) (served past c) ≡ Some for.verdict = ap (slice_get (verdicts (wrote past c))) (sym at) ∙ for.is in
-      subst (ComesAsAssigned files (marks past c) (Node n) way) for.good (subst (AnswersBy files (marks past c) (Node n) way) is next)
+      subst (ComesAsAssigned files (way_marks past c) (Node n) way) for.good (subst (AnswersBy files (way_marks past c) (Node n) way) is next)
 
   -- it is for this path, and to the node that the way names
   pub matched : (before later : List Rec) (ask : Option ℕ) → past ≡ before ++ later → HasAssignment files (wrote past c) before c r ask → WasAssigned files (wrote past c) before c r path (comes_from n way) ask
   unfolding goes-with
   matched before later ask split h =
-      let g : GoesWith files (marks past c) path (Node n) way = goes-with in
+      let g : GoesWith files (way_marks past c) path (Node n) way = goes-with in
       let whole : past ≡ h.before ++ h.its ∷ (h.behind ++ later) = split ∙ ap (λ (l : List Rec). l ++ later) h.split ∙ append_assoc h.before (h.its ∷ h.behind) later in
       let first : r - 1 ≡ served past c = omega (arith, number) in
       let place : length (assigned h.before c) ≡ length (good_paths files (take (served past c) (verdicts (wrote past c)))) = h.place ∙ ap (λ (i : ℕ). length (good_paths files (take i (verdicts (wrote past c))))) first in

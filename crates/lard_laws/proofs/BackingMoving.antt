@@ -8,7 +8,7 @@ use Rattle.lard_laws.proofs.BackingRows.{Backs, IsBackedMove, backed-move}
 use Rattle.lard_law_connections.proofs.BytesLaw.{Helps}
 use Rattle.lard_law_connections.proofs.BytesClientMoves.{has-fair}
 use Rattle.lard_law_connections.proofs.PlacesHeads.{kinds-same}
-use Rattle.lard_law_view.specs.View.{AreSent, Conn, Move, letter, named}
+use Rattle.lard_law_view.specs.View.{AreSent, Conn, Move, letter, named_records}
 use Rattle.lard_laws.specs.WaysState.{GoesItsWay, marks_at}
 use Rattle.lard_history.specs.Own.{whose}
 use Rattle.lard_history.proofs.Each.{Each}
@@ -64,10 +64,10 @@ again-for files x n (k ∷ ks) h old = (has-fair (LetterFor files (marks_at x).w
 
 -- ---- a move
 
-pub each-named : (P : Rec → Type 0) (rs : List Rec) → Each P rs → Each P (named rs)
+pub each-named : (P : Rec → Type 0) (rs : List Rec) → Each P rs → Each P (named_records rs)
 each-named P [] h = tt
 each-named P (y ∷ ys) h = go (is_some (whose y)) (each-named P ys h.1) where
-  go : (b : Bool) → Each P (named ys) → Each P (cond b (y ∷ named ys) (named ys))
+  go : (b : Bool) → Each P (named_records ys) → Each P (cond b (y ∷ named_records ys) (named_records ys))
   go true k = (h.0, k)
   go false k = k
 

@@ -3,9 +3,9 @@ use Rattle.std.proofs.Common.{◌≡◌, ◌+◌, ℕ, true, List, [], ◌∷◌
 use Rattle.std.specs.List.{slice_get}
 use Rattle.lard_answers.specs.Answers.{FilesAt, IsPrefix, verdicts}
 use Rattle.lard_laws.specs.BackingRequests.{IsFor}
-use Rattle.lard_law_connections.specs.BytesAgreement.{HoldsIt}
+use Rattle.lard_law_connections.specs.BytesAgreement.{HoldsItPending}
 use Rattle.lard_law_connections.proofs.BytesReading.{batch-read}
-use Rattle.lard_laws.specs.WaysState.{BeginsWith}
+use Rattle.lard_laws.specs.WaysState.{BeginsWithRequest}
 use Rattle.lard_laws.proofs.WaysGoods.{next-get}
 use Rattle.lard_endpoint.specs.Control.{ControlBlock}
 use Rattle.lard_endpoint.specs.Moving.{may_freeze}
@@ -14,7 +14,7 @@ use Rattle.lard_reader.specs.Batches.{batch_of}
 use Rattle.lard_request.specs.declared.verdict.Verdict.{Verdict}
 use Rattle.lard_law_view.specs.Truth.{Stream}
 
-pub next-for : (files : FilesAt) (w out : Stream) (vs : List Verdict) (b : ControlBlock) (count : ℕ) → HoldsIt w out vs [] b count → may_freeze b ≡ true → (path : List ℕ) → BeginsWith files b.recv.unread path → IsFor files w.bytes (count + 1) path
+pub next-for : (files : FilesAt) (w out : Stream) (vs : List Verdict) (b : ControlBlock) (count : ℕ) → HoldsItPending w out vs [] b count → may_freeze b ≡ true → (path : List ℕ) → BeginsWithRequest files b.recv.unread path → IsFor files w.bytes (count + 1) path
 next-for files w out vs b count h frozen path next =
     let stands = frozen_stands b h.sound frozen in
     let read = batch-read w b vs h.hears stands.discarding_is h.has_read 8 in

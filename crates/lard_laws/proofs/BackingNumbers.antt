@@ -10,8 +10,8 @@ use Rattle.lard_laws.specs.BackingRequests.{IsFor}
 use Rattle.lard_laws.specs.BackingTold.{files_before}
 use Rattle.lard_laws.proofs.BackingMarks.{writes-on}
 use Rattle.lard_laws.proofs.BackingTurns.{AreAt, EachNamed, IsHome}
-use Rattle.lard_laws.specs.WaysUnder.{Assigned, Lies, TakesFirst, Under}
-use Rattle.lard_laws.specs.Ways.{Marks, good_paths}
+use Rattle.lard_laws.specs.WaysUnder.{Assigned, Lies, TakesFirstAssigned, Under}
+use Rattle.lard_laws.specs.Ways.{WayMarks, good_paths}
 use Rattle.lard_laws.proofs.WaysGoods.{answered-grow, good-append}
 use Rattle.lard_history.specs.Journal.{wrote}
 use Rattle.lard_journal.specs.declared.rec.Rec.{Rec}
@@ -66,7 +66,7 @@ module _ (files : FilesAt) (wrote_now : List ℕ) where
 
 -- ---- a batch
 
-module _ (env : NodeEnv) (m : Marks) (at_home : IsHome env m) (home lo hi : ℕ) where
+module _ (env : NodeEnv) (m : WayMarks) (at_home : IsHome env m) (home lo hi : ℕ) where
   abbrev files : FilesAt
   files = env.serve.files
 
@@ -91,7 +91,7 @@ module _ (env : NodeEnv) (m : Marks) (at_home : IsHome env m) (home lo hi : ℕ)
         more : (o : Option (List ℕ)) → good_path files e.verdict ≡ o → before (r + 1) ≡ before r + counts (good_path files e.verdict) → before (r + 1) ≡ before r + counts o
         more o is next = next ∙ ap (λ (q : Option (List ℕ)). before r + counts q) is
 
-        taken : (path : List ℕ) (p : Progress) (us : List Assigned) → TakesFirst home path p (λ gs. Under files home es gs) us → lo ≤ before r + length us → (before r + length us) + length (named_paths files es) ≤ hi → before (r + 1) ≡ before r + 1 → GoesOn (r + 1) es
+        taken : (path : List ℕ) (p : Progress) (us : List Assigned) → TakesFirstAssigned home path p (λ gs. Under files home es gs) us → lo ≤ before r + length us → (before r + length us) + length (named_paths files es) ≤ hi → before (r + 1) ≡ before r + 1 → GoesOn (r + 1) es
             → EachNamed files IsWithin (r + 1) es
         taken path p [] h low high same later = absurd h
         taken path p (g ∷ gs) h low high same later = later gs h.2 (omega (arith, low, same)) (omega (arith, high, same))

@@ -6,7 +6,7 @@ use Rattle.lard_answers.specs.Answers.{FilesAt, verdicts}
 use Rattle.lard_base.specs.declared.ids.Epoch.{Epoch}
 use Rattle.lard_base.specs.declared.parts.EndpointParts.{EndpointParts}
 use Rattle.lard_base.specs.declared.place.Place.TheVariants.{Front, Node}
-use Rattle.lard_rules.specs.Bounds.{IsNumber}
+use Rattle.lard_rules.specs.Bounds.{IsConnNumber}
 use Rattle.lard_laws.specs.BackingRequests.{IsFor}
 use Rattle.lard_laws.specs.BackingTold.{files_before}
 use Rattle.lard_laws.proofs.BackingMoving.{Keeps, makes}
@@ -22,14 +22,14 @@ use Rattle.lard_law_connections.specs.Places.{IsDecided, IsOffered, IsPast, Offe
 use Rattle.lard_law_connections.proofs.PlacesFrontMessages.{came-says}
 use Rattle.lard_law_connections.proofs.PlacesTurns.{IsPlaced}
 use Rattle.lard_law_view.specs.Carry.{tale_at}
-use Rattle.lard_law_view.specs.View.{Conn, IsNodeEnv, Setting, Spells, Was, node_does, packet_seen}
-use Rattle.lard_laws.specs.WaysState.{BeginsWith, GoesItsWay, IsAway, IsPlacedOnce, LetterWays, OfferIs, SeatWays, StageWays, marks_at}
+use Rattle.lard_law_view.specs.View.{Conn, IsNodeEnv, Setting, SpellsMessage, Was, node_does, packet_seen}
+use Rattle.lard_laws.specs.WaysState.{BeginsWithRequest, GoesItsWay, IsAway, IsPlacedOnce, LetterWays, OfferIs, SeatWays, StageWays, marks_at}
 use Rattle.lard_laws.specs.WaysUnder.{Assigned}
-use Rattle.lard_laws.specs.Ways.{Marks, good_paths}
+use Rattle.lard_laws.specs.Ways.{WayMarks, good_paths}
 use Rattle.lard_endpoint.specs.Control.{ControlBlock}
 use Rattle.lard_endpoint.specs.Moving.{parts_of}
 use Rattle.lard_rules.specs.declared.front.FrontRest.{FrontRest}
-use Rattle.lard_rules.specs.Front.{rest_of}
+use Rattle.lard_rules.specs.Front.{front_rest}
 use Rattle.lard_handoff_back.specs.declared.row.BackRow.{BackRow}
 use Rattle.lard_handoff_back.specs.declared.table.Adopt.{Adopt}
 use Rattle.lard_handoff_back.specs.declared.table.Adopt.TheVariants.{Again, New, Stale}
@@ -42,7 +42,7 @@ use Rattle.lard_history.specs.Own.{Seen}
 use Rattle.lard_law_view.specs.Truthful.{Talk}
 use Rattle.lard_message.specs.declared.message.Body.TheVariants as body
 use Rattle.lard_message.specs.Reading.{decoded_message}
-use Rattle.lard_rules.specs.Node.{Deed, NodePart, Says, begins, message, node_offered, offered_by, taken_sent}
+use Rattle.lard_rules.specs.Node.{NodeDeed, NodePart, Says, node_begins, message, node_offered, offered_by, taken_sent}
 use Rattle.lard_rules.specs.Stay.{NodeEnv, Work, goes_on, reads_batch, reads_these}
 use Rattle.lard_reader.specs.Batches.{batch_of, bytes_used}
 use Rattle.lard_request.specs.declared.verdict.Verdict.{Verdict}
@@ -58,14 +58,14 @@ first-path a b i j e = ap path_of e where
   path_of (g ∷ gs) = g.0
 
 -- it is for its path, one request was assigned, and none for a file stands before it
-abbrev pub IsAlone : FilesAt → Marks → ℕ → List ℕ → Type 0
+abbrev pub IsAlone : FilesAt → WayMarks → ℕ → List ℕ → Type 0
 IsAlone files m i path = IsFor files m.wrote i path × ((a : Assigned) × (m.assigned ≡ a ∷ [])) × (files_before files m.wrote i ≡ 0)
 
 -- the first batch of an endpoint whose next request is for this path
-takes-back : (env : NodeEnv) (m : Marks) (home : IsHome env m) (p : NodePart) (b : ControlBlock) (count : ℕ) (path : List ℕ) → BeginsWith env.serve.files b.recv.unread path → IsFor env.serve.files m.wrote (count + 1) path
+takes-back : (env : NodeEnv) (m : WayMarks) (home : IsHome env m) (p : NodePart) (b : ControlBlock) (count : ℕ) (path : List ℕ) → BeginsWithRequest env.serve.files b.recv.unread path → IsFor env.serve.files m.wrote (count + 1) path
     → DeedBacks env m home (offered_by env (parts_of b count) p New)
 takes-back env m home p b count path next for =
-    let k : Work = begins env (parts_of b count) in
+    let k : Work = node_begins env (parts_of b count) in
     let used : ℕ = bytes_used 8 b.recv.unread in
     let us : List Verdict = take 7 next.others in
     let is : batch_of 8 b.recv.unread ≡ next.first ∷ us = ap (take 8) next.are in
@@ -76,15 +76,15 @@ takes-back env m home p b count path next for =
 -- ---- an Offer that comes
 
 module _ (k : Setting) (small : k.stream ≤ 2 ^ 30) (x : Conn) (s : Station) (there : x.part.station ≡ Some s) (l : Talk) (pend : List Verdict) (o : IsOpen k.files x l pend s) (n epoch : ℕ) (env : NodeEnv) (is : IsNodeEnv k x.c n epoch env)
-    (parts : EndpointParts) (bytes : List ℕ) (spells : Spells x.c epoch (body.Offer parts) bytes) (was : Was x Front (Node n) bytes) where
+    (parts : EndpointParts) (bytes : List ℕ) (spells : SpellsMessage x.c epoch (body.Offer parts) bytes) (was : Was x Front (Node n) bytes) where
   abbrev all_files : FilesAt
   all_files = env.serve.files
 
-  abbrev m : Marks
+  abbrev m : WayMarks
   m = marks_at x
 
   abbrev r : FrontRest
-  r = rest_of x.part.front.rest
+  r = front_rest x.part.front.rest
 
   abbrev p : NodePart
   p = x.part.nodes n
@@ -92,7 +92,7 @@ module _ (k : Setting) (small : k.stream ≤ 2 ^ 30) (x : Conn) (s : Station) (t
   abbrev heads : List Seen
   heads = packet_seen Front (Node n) bytes
 
-  abbrev Goal : Deed → Type 0
+  abbrev Goal : NodeDeed → Type 0
   Goal d = Keeps all_files x (node_does x n heads d)
 
   told : IsDecided epoch p.row ⊎ IsKept x.part.front.kept bytes
@@ -109,12 +109,12 @@ module _ (k : Setting) (small : k.stream ≤ 2 ^ 30) (x : Conn) (s : Station) (t
     path : List ℕ
     same : parts ≡ parts_of block count
     home : IsHome env m
-    next : BeginsWith all_files block.recv.unread path
+    next : BeginsWithRequest all_files block.recv.unread path
     for : IsFor all_files m.wrote (count + 1) path
     assigned : m.assigned ≡ (path, n) ∷ []
     none : files_before all_files m.wrote (count + 1) ≡ 0
 
-  module _ (placed : IsPlaced x) (number : IsNumber x.c) (g : GoesItsWay all_files x) (not : IsDecided epoch p.row → ⊥) where
+  module _ (placed : IsPlaced x) (number : IsConnNumber x.c) (g : GoesItsWay all_files x) (not : IsDecided epoch p.row → ⊥) where
     -- it is on its way to this node
     new-at : (row : FrontRow) (d : Epoch) → x.part.front.row ≡ Some row → row.stage ≡ stage.Offering n d → d.0 ≡ epoch → Starting
     unfolding first_bytes
@@ -138,7 +138,7 @@ module _ (k : Setting) (small : k.stream ≤ 2 ^ 30) (x : Conn) (s : Station) (t
         let offer : OfferIs all_files m parts = ⊎_elim (λ (a : IsDecided epoch p.row). absurd (not a)) (λ (a : OfferIs all_files m parts). a)
         ((has-fair (LetterWays all_files m x.part) (record { from = Front; to = Node n; bytes = bytes }) x.letters was g.letters) _ spells) in
         let paths : offer.0 ≡ once.path = first-path offer.0 once.path offer.1 n (sym offer.2 ∙ once.assigned) in
-        let next : BeginsWith all_files offering.block.recv.unread once.path = subst (λ (q : EndpointParts). BeginsWith all_files q.unread once.path) same (subst (BeginsWith all_files parts.unread) paths offer.3) in
+        let next : BeginsWithRequest all_files offering.block.recv.unread once.path = subst (λ (q : EndpointParts). BeginsWithRequest all_files q.unread once.path) same (subst (BeginsWithRequest all_files parts.unread) paths offer.3) in
         let home : IsHome env m = record {
           place = is.place ∙ ap Node (sym is.node);
           starts = (once.path, [], once.assigned ∙ ap (λ (i : ℕ). (once.path, i) ∷ []) (sym is.node));
@@ -194,7 +194,7 @@ module _ (k : Setting) (small : k.stream ≤ 2 ^ 30) (x : Conn) (s : Station) (t
   offered-keep = subst (λ (f : FilesAt). Keeps f x (node_does x n heads (node_offered env p parts))) is.files (by-answer (offer_answer env.epoch p.row) refl)
 
   -- so it is of the first of its requests for a file
-  pub offered-for : IsPlaced x → IsNumber x.c → GoesItsWay all_files x → offer_answer env.epoch p.row ≡ New → FirstIn all_files (IsAlone all_files m) (parts.served + 1) (batch_of 8 parts.unread)
+  pub offered-for : IsPlaced x → IsConnNumber x.c → GoesItsWay all_files x → offer_answer env.epoch p.row ≡ New → FirstIn all_files (IsAlone all_files m) (parts.served + 1) (batch_of 8 parts.unread)
   offered-for placed number g e =
       let at : Starting = new-starts placed number g (undecided p.row e) in
       subst (λ (q : EndpointParts). FirstIn all_files (IsAlone all_files m) (q.served + 1) (batch_of 8 q.unread)) (sym at.same)

@@ -5,7 +5,7 @@ use Rattle.std.specs.List.{AllByRecursion}
 use Rattle.lard_base.specs.declared.event.Event.{Event}
 use Rattle.lard_base.specs.declared.place.Place.TheVariants.{Node}
 use Rattle.lard_rules.specs.declared.machine.Machine.{Machine}
-use Rattle.lard_rules.specs.Machine.{node_setting, passed, told}
+use Rattle.lard_rules.specs.Machine.{node_setting, passed, machine_told}
 use Rattle.lard_laws.specs.BackingJobs.{GetsFetch, MayQueue, MustQueue}
 use Rattle.lard_laws.specs.BackingRuns.{JobsAreAsked}
 use Rattle.lard_laws.proofs.BackingComings.{Comes, NodeStep, NodesStay, step-form}
@@ -85,7 +85,7 @@ module _ (m : Machine) (view : IsViewed m) (e : Event) (n : Machine) (step : Nod
   by-may _ h = tt
 
   node-good : StepHits (node_setting m step.i) step.comes (m.journal ++ first) given → Good m n
-  unfolding told
+  unfolding machine_told
   node-good h =
       let P : Rec → Type 0 = MayQueue m.journal rows in (
         rows,

@@ -15,7 +15,7 @@ use Rattle.lard_law_view.proofs.Rows.{move-lawful, tale_before, tale_said}
 use Rattle.lard_law_view.proofs.Saying.{GaveAt, NotedAt}
 use Rattle.lard_law_view.proofs.Timers.{IsTimerAt, timer_rows-are}
 use Rattle.lard_laws.specs.WaysState.{marks_at, marks_of}
-use Rattle.lard_laws.specs.Ways.{Marks}
+use Rattle.lard_laws.specs.Ways.{WayMarks}
 use Rattle.lard_laws.proofs.WaysGoods.{get-front}
 use Rattle.lard_laws.proofs.WaysMarking.{IsOwnMark, IsPlain, mark, marked, marks-after, plain-marked}
 use Rattle.lard_history.specs.Journal.{Tale, tale_step, told_on}
@@ -61,11 +61,11 @@ module _ (files : FilesAt) (q z : List ℕ) where
 abbrev pub WritesOn : List ℕ → List ℕ → Type 0
 WritesOn q r = (z : List ℕ) × (r ≡ q ++ z)
 
-mark-on : (m : Marks) (r : Rec) → WritesOn m.wrote (mark m r).wrote
+mark-on : (m : WayMarks) (r : Rec) → WritesOn m.wrote (mark m r).wrote
 mark-on m (rec.Wrote d bytes) = (bytes, refl)
 mark-on m _ = ([], sym (append-nil m.wrote))
 
-pub marked-on : (m : Marks) (rs : List Rec) → WritesOn m.wrote (marked m rs).wrote
+pub marked-on : (m : WayMarks) (rs : List Rec) → WritesOn m.wrote (marked m rs).wrote
 marked-on m [] = ([], sym (append-nil m.wrote))
 marked-on m (r ∷ rs) =
     let first = mark-on m r in
@@ -77,11 +77,11 @@ letters-on files q r ls on h = subst (λ (s : List ℕ). Each (LetterFor files s
 
 -- ---- records, one after another
 
-abbrev pub Backs : FilesAt → Marks → List Rec → Type 0
+abbrev pub Backs : FilesAt → WayMarks → List Rec → Type 0
 Backs files m [] = Unit {0}
 Backs files m (r ∷ rs) = MayBack files m r × Backs files (mark m r) rs
 
-pub backs-append : (files : FilesAt) (m : Marks) (xs ys : List Rec) → Backs files m xs → Backs files (marked m xs) ys → Backs files m (xs ++ ys)
+pub backs-append : (files : FilesAt) (m : WayMarks) (xs ys : List Rec) → Backs files m xs → Backs files (marked m xs) ys → Backs files m (xs ++ ys)
 backs-append files m [] ys h k = k
 backs-append files m (x ∷ xs) ys h k = (h.0, backs-append files (mark m x) xs ys h.1 k)
 
@@ -129,11 +129,11 @@ module _ (files : FilesAt) (c : ℕ) where
 
   told-marks : (t : Tale) (rs : List Rec) → Each (IsOwnMark c) rs → marks_of (told_on c t rs) ≡ marked (marks_of t) rs
   told-marks t [] own = refl
-  told-marks t (r ∷ rs) own = told-marks (tale_step c t r) rs own.1 ∙ ap (λ (m : Marks). marked m rs) (one-step c t r own.0)
+  told-marks t (r ∷ rs) own = told-marks (tale_step c t r) rs own.1 ∙ ap (λ (m : WayMarks). marked m rs) (one-step c t r own.0)
 
   told-backs : (t : Tale) (rs : List Rec) → Each (IsOwnMark c) rs → Backs files (marks_of t) rs → TellsBy MayTell c t rs
   told-backs t [] own h = tt
-  told-backs t (r ∷ rs) own h = (h.0, told-backs (tale_step c t r) rs own.1 (subst (λ (m : Marks). Backs files m rs) (sym (one-step c t r own.0)) h.1))
+  told-backs t (r ∷ rs) own h = (h.0, told-backs (tale_step c t r) rs own.1 (subst (λ (m : WayMarks). Backs files m rs) (sym (one-step c t r own.0)) h.1))
 
   plain-told : (t : Tale) (rs : List Rec) → Each IsPlain rs → marks_of (told_on c t rs) ≡ marks_of t
   plain-told t rs h = told-marks t rs (Each-weaker IsPlain (IsOwnMark c) (plain-own c) rs h) ∙ plain-marked (marks_of t) rs h
@@ -189,7 +189,7 @@ abbrev pub IsBackedMove : FilesAt → Conn → Move → Type 0
 IsBackedMove files x v = FetchesFor files (grown x v) × EachRow (Mine files x.c) x.seen (seen_in x v)
 
 module _ (files : FilesAt) (x : Conn) (v : Move) (own : IsItsOwn x v) (heads : Each IsHead v.heads) where
-  abbrev m : Marks
+  abbrev m : WayMarks
   m = marks_at x
 
   abbrev before : Tale
@@ -208,22 +208,22 @@ module _ (files : FilesAt) (x : Conn) (v : Move) (own : IsItsOwn x v) (heads : E
   before-same = heads-marks x.c v.heads (tale_at x) heads
 
   noted-same : marks_of noted ≡ marked m v.said.notes
-  noted-same = told-marks files x.c before v.said.notes ours ∙ ap (λ (k : Marks). marked k v.said.notes) before-same
+  noted-same = told-marks files x.c before v.said.notes ours ∙ ap (λ (k : WayMarks). marked k v.said.notes) before-same
 
   said-same : marks_of (tale_said x v before) ≡ marked m v.said.notes
   said-same = plain-told files x.c (told_on x.c noted segments) v.said.gave (Each-weaker (GaveAt v.place x.c) IsPlain (gave-plain v.place x.c) v.said.gave own.gave)
       ∙ plain-told files x.c noted segments (sends-plain v.place v.said.segments) ∙ noted-same
 
   -- what was right before the move is right behind its notes
-  on-notes : (k : Marks) → k ≡ marked m v.said.notes → WritesOn m.wrote k.wrote
-  on-notes k e = let w = marked-on m v.said.notes in (w.0, ap (λ (n : Marks). n.wrote) e ∙ w.1)
+  on-notes : (k : WayMarks) → k ≡ marked m v.said.notes → WritesOn m.wrote k.wrote
+  on-notes k e = let w = marked-on m v.said.notes in (w.0, ap (λ (n : WayMarks). n.wrote) e ∙ w.1)
 
   pub backed-move : Backs files m v.said.notes → Each (LetterFor files m.wrote) (map (letter v.place) v.said.segments) → Each (LetterFor files m.wrote) (map (letter v.place) v.said.messages) → FetchesFor files x → IsBackedMove files x v
   backed-move notes ss ms old = (
     letters-on files m.wrote (marks_at (grown x v)).wrote (x.letters ++ letters_of v) (on-notes (marks_at (grown x v)) (marks-after files x v own heads))
         (Each-append (LetterFor files m.wrote) x.letters (letters_of v) old (Each-append (LetterFor files m.wrote) (map (letter v.place) v.said.segments) (map (letter v.place) v.said.messages) ss ms)),
     move-lawful (MayTell files x.c) x v (heads-mine files x.c x.seen v.heads heads)
-        (told-backs files x.c before v.said.notes ours (subst (λ (k : Marks). Backs files k v.said.notes) (sym before-same) notes))
+        (told-backs files x.c before v.said.notes ours (subst (λ (k : WayMarks). Backs files k v.said.notes) (sym before-same) notes))
         (sends-tell files x.c v.place noted v.said.segments (letters-on files m.wrote noted.wrote (map (letter v.place) v.said.segments) (on-notes (marks_of noted) noted-same) ss))
         (gave-tells files x.c v.place x.c (told_on x.c noted segments) v.said.gave own.gave)
         (sends-tell files x.c v.place (tale_said x v before) v.said.messages (letters-on files m.wrote (tale_said x v before).wrote (map (letter v.place) v.said.messages) (on-notes (marks_of (tale_said x v before)) said-same) ms))

@@ -23,14 +23,14 @@ use Rattle.lard_law_connections.proofs.PlacesLaw.{owing}
 use Rattle.lard_law_connections.proofs.PlacesRuns.{each-placed}
 use Rattle.lard_law_connections.proofs.PlacesTurns.{IsPlaced}
 use Rattle.lard_law_connections.proofs.PlacesTurns as places
-use Rattle.lard_law_view.specs.Carry.{Guarded, IsGuardedLaw, MayMove, OfEach, Untouched, setting, tale_at}
-use Rattle.lard_law_view.specs.View.{ClientRules, Conn, FrontRules, IsFrontEnv, IsNodeEnv, Move, NodeRules, Setting, UntouchedRules, Was, brought_said, client_begins, client_does, contents, event_seen, front_admits, front_does, grown, node_does, nothing_said, packet_seen, reads_first, seen_in, stands}
+use Rattle.lard_law_view.specs.Carry.{Guarded, IsGuardedLaw, MayRestOn, OfEach, Untouched, setting, tale_at}
+use Rattle.lard_law_view.specs.View.{ClientRules, Conn, FrontRules, IsFrontEnv, IsNodeEnv, Move, NodeRules, Setting, UntouchedRules, Was, brought_said, client_begins, client_does, content_said, event_seen, front_admits, front_does, grown, node_does, nothing_said, packet_seen, reads_first, seen_in, stands}
 use Rattle.lard_law_view.proofs.Carried.{carried}
 use Rattle.lard_law_view.proofs.Fine.{IsFine, IsItsOwn, fine}
 use Rattle.lard_law_view.proofs.Guarded.{guarded-law, untouched-both, untouched-weaker}
 use Rattle.lard_law_view.proofs.Saying.{NotedAt}
 use Rattle.lard_laws.specs.WaysState.{GoesItsWay, marks_at}
-use Rattle.lard_laws.specs.Ways.{Marks}
+use Rattle.lard_laws.specs.Ways.{WayMarks}
 use Rattle.lard_laws.proofs.WaysRuns.{each-guarded}
 use Rattle.lard_laws.proofs.WaysMarking.{mark}
 use Rattle.lard_answers.specs.Answers.{FilesAt}
@@ -46,8 +46,8 @@ use Rattle.lard_history.specs.Own.{EachRow, Seen}
 use Rattle.lard_history.proofs.Each.{Each}
 use Rattle.lard_journal.specs.declared.rec.Rec.{Rec}
 use Rattle.lard_journal.specs.declared.rec.Rec.TheVariants as rec
-use Rattle.lard_rules.specs.Node.{Deed, Does, Drops, come_by, gone, node_acknowledged, node_content, node_read, read_by, saying}
-use Rattle.lard_rules.specs.NodePlace.{bytes_of}
+use Rattle.lard_rules.specs.Node.{NodeDeed, Does, Drops, come_by, gone, node_acknowledged, node_content, node_read, node_read_by, node_saying}
+use Rattle.lard_rules.specs.NodePlace.{content_bytes}
 use Rattle.lard_rules.specs.Stay.{NodeEnv}
 use Rattle.lard_policy.specs.declared.first.FirstChoice.{FirstChoice}
 use Rattle.lard_resend.specs.Kept.{without}
@@ -61,7 +61,7 @@ use Rattle.lard_segment.proofs.Again.{again}
 
 -- ---- a client
 
-client-notes : (files : FilesAt) (e c : ℕ) (m : Marks) (rs : List Rec) → Each (NotedAt (Client e) c) rs → Backs files m rs
+client-notes : (files : FilesAt) (e c : ℕ) (m : WayMarks) (rs : List Rec) → Each (NotedAt (Client e) c) rs → Backs files m rs
 client-notes files e c m [] h = tt
 client-notes files e c m (rec.Wrote d bytes ∷ rs) h = (tt, client-notes files e c (mark m (rec.Wrote d bytes)) rs h.1)
 client-notes files e c m (rec.Accepted d bytes ∷ rs) h = (tt, client-notes files e c m rs h.1)
@@ -143,8 +143,8 @@ module _ (k : Setting) (small : k.stream ≤ 2 ^ 30) where
 
   acknowledged-keep : (x : Conn) (n : ℕ) (heads : List Seen) (env : NodeEnv) → Keeps k.files x (node_does x n heads (node_acknowledged env (x.part.nodes n)))
   acknowledged-keep x n heads env = go (awaits_ack env.epoch (x.part.nodes n).row) where
-    go : (b : Bool) → Keeps k.files x (node_does x n heads (cond b (Does (record (x.part.nodes n) { row = gone (x.part.nodes n).row; kept = without timer.Ended 0 (x.part.nodes n).kept }, saying [])) Drops))
-    go true = makes k.files x (node_does x n heads (Does (record (x.part.nodes n) { row = gone (x.part.nodes n).row; kept = without timer.Ended 0 (x.part.nodes n).kept }, saying []))) tt tt tt
+    go : (b : Bool) → Keeps k.files x (node_does x n heads (cond b (Does (record (x.part.nodes n) { row = gone (x.part.nodes n).row; kept = without timer.Ended 0 (x.part.nodes n).kept }, node_saying [])) Drops))
+    go true = makes k.files x (node_does x n heads (Does (record (x.part.nodes n) { row = gone (x.part.nodes n).row; kept = without timer.Ended 0 (x.part.nodes n).kept }, node_saying []))) tt tt tt
     go false = still-makes k.files x n heads
 
   content : (x : Conn) (n from epoch r : ℕ) (env : NodeEnv) (file bytes : List ℕ) → IsNodeEnv k x.c n epoch env → Was x (Node from) (Node n) bytes
@@ -153,13 +153,13 @@ module _ (k : Setting) (small : k.stream ≤ 2 ^ 30) where
       let heads : List Seen = packet_seen (Node from) (Node n) bytes in
       by-station k small x (GoesItsWay k.files x → FetchesFor k.files x → IsBackedMove k.files x (node_does x n heads (node_content env (x.part.nodes n) from r)))
       (λ s there. contents-keep k small x s there h.talk h.pend (open-at k.files x s there h) n epoch env is heads from r help)
-      (λ none. subst (λ (d : Deed). Keeps k.files x (node_does x n heads d)) (sym (ap (come_by env from r (x.part.nodes n)) (nothing-here k.files x none h n env.epoch help.placed.sits))) (still-makes k.files x n heads) help)
+      (λ none. subst (λ (d : NodeDeed). Keeps k.files x (node_does x n heads d)) (sym (ap (come_by env from r (x.part.nodes n)) (nothing-here k.files x none h n env.epoch help.placed.sits))) (still-makes k.files x n heads) help)
 
   read : (x : Conn) (n epoch r : ℕ) (env : NodeEnv) (path : List ℕ) → IsNodeEnv k x.c n epoch env → Owes x (reads_first (rec.Read n n x.c r path) (node_does x n [] (node_read env (x.part.nodes n) r)))
   read x n epoch r env path is h help =
       by-station k small x (GoesItsWay k.files x → FetchesFor k.files x → IsBackedMove k.files x (reads_first (rec.Read n n x.c r path) (node_does x n [] (node_read env (x.part.nodes n) r))))
       (λ s there. read-keeps k small x s there h.talk h.pend (open-at k.files x s there h) n epoch env is r path help)
-      (λ none. subst (λ (d : Deed). Keeps k.files x (reads_first (rec.Read n n x.c r path) (node_does x n [] d))) (sym (ap (read_by env r (x.part.nodes n)) (nothing-here k.files x none h n env.epoch help.placed.sits)))
+      (λ none. subst (λ (d : NodeDeed). Keeps k.files x (reads_first (rec.Read n n x.c r path) (node_does x n [] d))) (sym (ap (node_read_by env r (x.part.nodes n)) (nothing-here k.files x none h n env.epoch help.placed.sits)))
       (makes k.files x (reads_first (rec.Read n n x.c r path) (node_does x n [] Drops)) (tt, tt) tt tt) help)
 
   nodes : NodeRules k Owes
@@ -177,11 +177,11 @@ module _ (k : Setting) (small : k.stream ≤ 2 ^ 30) where
     acknowledged = λ x n epoch env bytes is spells was h. acknowledged-keep x n (packet_seen Front (Node n) bytes) env;
     read = read;
     fires = λ x s n env there is h. fires-keep k small x s there h.talk h.pend (open-at k.files x s there h) n _ env is (event_seen (event.Timer (Node n) x.c)) is.epoch_is;
-    answers = λ x n from epoch r path file bytes there spells was h. makes k.files x (stands x (Node n) (packet_seen (Node from) (Node n) bytes) (contents k n from x.c epoch r path)) tt tt (content-for k.files (marks_at x).wrote n from x.c epoch r (bytes_of (k.files path)), tt);
+    answers = λ x n from epoch r path file bytes there spells was h. makes k.files x (stands x (Node n) (packet_seen (Node from) (Node n) bytes) (content_said k n from x.c epoch r path)) tt tt (content-for k.files (marks_at x).wrote n from x.c epoch r (content_bytes (k.files path)), tt);
     queues = λ x n from epoch r path file bytes there spells was h help g old.
         let asked = (has-fair (LetterFor k.files (marks_at x).wrote) (record { from = Node from; to = Node n; bytes = bytes }) x.letters was old) _ spells in
         makes k.files x (stands x (Node n) (packet_seen (Node from) (Node n) bytes) (record nothing_said { notes = rec.Queued n from x.c r path ∷ [] })) ((asked.0, asked.1), tt) tt tt help g old;
-    brings = λ x n from epoch r path h. makes k.files x (stands x (Node n) [] (brought_said k n from x.c epoch r path)) (tt, tt) tt (content-for k.files (marks_at x).wrote n from x.c epoch r (bytes_of (k.files path)), tt);
+    brings = λ x n from epoch r path h. makes k.files x (stands x (Node n) [] (brought_said k n from x.c epoch r path)) (tt, tt) tt (content-for k.files (marks_at x).wrote n from x.c epoch r (content_bytes (k.files path)), tt);
   }
 
   -- ---- the law
@@ -190,7 +190,7 @@ module _ (k : Setting) (small : k.stream ≤ 2 ^ 30) where
   keeps = record { client = clients; front = fronts; node = nodes; ignores = λ x from to bytes was h. makes k.files x (stands x to (packet_seen from to bytes) nothing_said) tt tt tt }
 
   abbrev Owed : Conn → Move → Type 0
-  Owed x v = MayMove IsPlaced x → IsPlaced x → places.Owes x v
+  Owed x v = MayRestOn IsPlaced x → IsPlaced x → places.Owes x v
 
   abbrev pub Given : Conn → Type 0
   Given x = IsPlaced x × Untouched (IsTruthful k.files) x × Untouched (GoesItsWay k.files) x
@@ -199,14 +199,14 @@ module _ (k : Setting) (small : k.stream ≤ 2 ^ 30) where
   All x v = ((IsFine x v × Owed x v) × Knows x v) × Owes x v
 
   abbrev Wanted : Conn → Move → Type 0
-  Wanted x v = MayMove Given x → (tale_at x).touched ≡ false → FetchesFor k.files x → FetchesFor k.files (grown x v) × EachRow (Mine k.files x.c) x.seen (seen_in x v)
+  Wanted x v = MayRestOn Given x → (tale_at x).touched ≡ false → FetchesFor k.files x → FetchesFor k.files (grown x v) × EachRow (Mine k.files x.c) x.seen (seen_in x v)
 
   all : UntouchedRules k All
   all = untouched-both k (λ x v. (IsFine x v × Owed x v) × Knows x v) Owes (untouched-both k (λ x v. IsFine x v × Owed x v) Knows (untouched-both k IsFine Owed (fine k).untouched (owing k IsPlaced).untouched) (known k)) keeps
 
   wanted : (x : Conn) (v : Move) → All x v → Wanted x v
   wanted x v h may untouched old =
-      let placed : MayMove IsPlaced x = record { number = may.number; sound = may.sound; given = may.given.0 } in
+      let placed : MayRestOn IsPlaced x = record { number = may.number; sound = may.sound; given = may.given.0 } in
       let own : IsItsOwn x v = (h.0.0.0 may.number may.sound).0 in
       let more : Known x v = h.0.1 placed own in
       h.1 (may.given.1 untouched) (record { number = may.number; sound = may.sound; placed = may.given.0; owes = h.0.0.1 placed may.given.0; own = own; heads = more.heads; serves = more.serves }) (may.given.2 untouched) old

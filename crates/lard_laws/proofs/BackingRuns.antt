@@ -4,7 +4,7 @@ use Rattle.std.specs.Prelude.{◌⊎◌}
 use Rattle.lard_answers.specs.Answers.{FilesAt}
 use Rattle.lard_base.specs.declared.config.Config.{Config}
 use Rattle.lard_rules.specs.declared.machine.Machine.{Machine}
-use Rattle.lard_rules.specs.Bounds.{IsNumber}
+use Rattle.lard_rules.specs.Bounds.{IsConnNumber}
 use Rattle.lard_rules.specs.Machine.{IsReached}
 use Rattle.lard_laws.specs.BackingRequests.{MayName}
 use Rattle.lard_laws.specs.BackingRuns.{JobsStartWhenTold, JournalsNameRequests, PlacesAnswer, ResponsesAreBacked}
@@ -17,7 +17,7 @@ use Rattle.lard_laws.proofs.BackingMarked.{marks-lawful}
 use Rattle.lard_laws.proofs.BackingMarks.{MayMark}
 use Rattle.lard_law_connections.proofs.StoresDisks.{disks-read}
 use Rattle.lard_law_connections.proofs.StoresStored.{lawful}
-use Rattle.lard_law_view.specs.View.{Conn, blank, conn}
+use Rattle.lard_law_view.specs.View.{Conn, blank_conn, conn}
 use Rattle.lard_law_connections.proofs.BytesRuns.{journals-serve}
 use Rattle.lard_law_view.proofs.After.{IsAfter, step-after}
 use Rattle.lard_law_view.proofs.Carried.{carried-keep, reached-viewed}
@@ -46,7 +46,7 @@ home-answers config files m small r = places-answer (file_at files) m.journal (m
 -- ---- what was read or came
 
 -- whose records stand in a journal has a number of a connection
-numbered : (config : Config) (files : List (List ℕ × List ℕ)) (m : Machine) → IsReached config files m → (x : Rec) (c : ℕ) → whose x ≡ Some c → Has x m.journal → IsNumber c
+numbered : (config : Config) (files : List (List ℕ × List ℕ)) (m : Machine) → IsReached config files m → (x : Rec) (c : ℕ) → whose x ≡ Some c → Has x m.journal → IsConnNumber c
 unfolding conn
 numbered config files m r x c its h = go ((reached-viewed config files m r).sound c).number where
   s : Stands x m.journal
@@ -57,7 +57,7 @@ numbered config files m r x c its h = go ((reached-viewed config files m r).soun
       (has-behind (Row (plain x)) (own c s.before) (seen_on c (net_of s.before) (x ∷ s.behind))
       (has-before (Row (plain x)) (seen_of c (net_of s.before) x) (seen_on c (net_step (net_of s.before) x) s.behind) (subst (Has (Row (plain x))) (sym (seen-mine c (net_of s.before) x its)) (inl refl)))))
 
-  go : IsNumber c ⊎ (conn m c ≡ blank c) → IsNumber c
+  go : IsConnNumber c ⊎ (conn m c ≡ blank_conn c) → IsConnNumber c
   go (inl k) = k
   go (inr e) = absurd (subst (Has (Row (plain x))) (ap (λ (y : Conn). y.seen) e) sees)
 

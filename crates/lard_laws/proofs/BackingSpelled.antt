@@ -8,7 +8,7 @@ use Rattle.lard_answers.specs.Answers.{FilesAt, good_path, until_close, verdicts
 use Rattle.lard_answers.proofs.Growing.{until_close-cons, until_close-nil, verdicts-are}
 use Rattle.lard_block.specs.declared.block.Found.{Found}
 use Rattle.lard_block.specs.declared.block.Found.TheVariants.{Block, More, TooLong}
-use Rattle.lard_block.specs.Blocks.{Head, Long, Piece, blocks, cut_of, moved, pieces, pieces_from}
+use Rattle.lard_block.specs.Blocks.{Head, Long, Piece, blocks, cut_of, piece_moved, pieces, pieces_from}
 use Rattle.lard_laws.specs.BackingRequests.{IsFor}
 use Rattle.lard_law_connections.proofs.PlacesHeads.{spelled-body}
 use Rattle.lard_laws.specs.Ways.{good_paths}
@@ -20,7 +20,7 @@ use Rattle.lard_message.specs.declared.kind.Kind.{Kind}
 use Rattle.lard_message.specs.declared.message.Body.{Body}
 use Rattle.lard_message.specs.declared.message.Body.TheVariants as body
 use Rattle.lard_message.specs.declared.message.Message.{Message}
-use Rattle.lard_message.specs.Message.{body_bytes, counted, spelled_message}
+use Rattle.lard_message.specs.Message.{body_bytes, counted_bytes, spelled_message}
 use Rattle.lard_message.specs.Kinds.{is_version, kind_named}
 use Rattle.lard_message.specs.Reading.{content_at, counted_at, decoded_message, fetch_at, length_at, number_at, number_byte, taken_at, version_at, with_kind}
 use Rattle.lard_message.proofs.Fields.{bind_then, counted_alone, number_again, some_same, taken_again, wide32}
@@ -34,7 +34,7 @@ use Rattle.lard_request.specs.declared.verdict.Verdict.{Verdict}
 abbrev IsFew : ℕ → List Piece → Type 0
 IsFew n ps = length ps ≤ n
 
-moved-few : (by : ℕ) (ps : List Piece) → length (map (moved by) ps) ≡ length ps
+moved-few : (by : ℕ) (ps : List Piece) → length (map (piece_moved by) ps) ≡ length ps
 moved-few by [] = refl
 moved-few by (p ∷ ps) = ap suc (moved-few by ps)
 
@@ -46,7 +46,7 @@ from-few n q later h (TooLong skip) = omega arith
 pieces-few : (n : ℕ) (q : List ℕ) → IsFew n (pieces n q)
 unfolding pieces
 pieces-few zero q = omega arith
-pieces-few (suc n) q = from-few n q (λ used. map (moved used) (pieces n (drop used q)))
+pieces-few (suc n) q = from-few n q (λ used. map (piece_moved used) (pieces n (drop used q)))
     (λ used. let le = pieces-few n (drop used q) in let same = moved-few used (pieces n (drop used q)) in omega (arith, le, same)) (cut_of q)
 
 blocks-few : (q : List ℕ) → length (blocks q) ≤ length q
@@ -100,9 +100,9 @@ fetched-body : (r : ℕ) (path : List ℕ) → r < 2 ^ 32 → length path < 2 ^ 
 unfolding fetch_at
 fetched-body r path small short b rest e =
     let y : Body × List ℕ = (b, rest) in
-    bind_then (number_at w32 (to_be_bytes w32 r ++ counted path)) _ y e (λ a e1 n1.
+    bind_then (number_at w32 (to_be_bytes w32 r ++ counted_bytes path)) _ y e (λ a e1 n1.
     bind_then (counted_at a.1) _ y n1 (λ t e2 n2.
-    let first : (r, counted path) ≡ a = some_same (r, counted path) a (sym (number_again w32 (2 ^ 32) wide32 r (counted path) small) ∙ e1) in
+    let first : (r, counted_bytes path) ≡ a = some_same (r, counted_bytes path) a (sym (number_again w32 (2 ^ 32) wide32 r (counted_bytes path) small) ∙ e1) in
     let second : (path, []) ≡ t = some_same (path, []) t (sym (counted_alone path short) ∙ ap (λ (p : ℕ × List ℕ). counted_at p.1) first ∙ e2) in
     let whole : (body.Fetch a.0 t.0, t.1) ≡ y = some_same (body.Fetch a.0 t.0, t.1) y n2 in
     ap (λ (p : Body × List ℕ). p.0) (sym whole) ∙ (λ i. body.Fetch (sym first i).0 (sym second i).0)))

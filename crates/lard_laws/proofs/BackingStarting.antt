@@ -2,7 +2,7 @@
 use Rattle.std.proofs.Common.{◌≡◌, ◌-◌, ℕ, zero, suc, false, List, [], ◌∷◌, ◌++◌, length, take, Option, Some, None, refl, sym, ap, ◌∙◌, subst, arith, append_assoc}
 use Rattle.std.specs.Prelude.{slice_get}
 use Rattle.lard_answers.specs.Answers.{FilesAt, good_path, verdicts}
-use Rattle.lard_laws.specs.BackingRequests.{IsFor, IsTold, MayStart}
+use Rattle.lard_laws.specs.BackingRequests.{IsFor, NodeIsTold, MayStart}
 use Rattle.lard_laws.specs.BackingState.{MayBack}
 use Rattle.lard_laws.specs.BackingTold.{AssignsFor, WasTold, files_before}
 use Rattle.lard_laws.proofs.BackingAssignments.{HasAssignment, IsMadeFor}
@@ -13,7 +13,7 @@ use Rattle.lard_laws.proofs.BackingHitting.{MayHit}
 use Rattle.lard_laws.proofs.BackingMarks.{MayMark, each-at, for-later, untouched-before, writes-on}
 use Rattle.lard_law_connections.specs.StoresLaws.{MayStore}
 use Rattle.lard_laws.specs.WaysUnder.{Assigned}
-use Rattle.lard_laws.specs.Ways.{AreAssignedInOrder, IsNextGood, MayBeAssigned, good_paths, marks}
+use Rattle.lard_laws.specs.Ways.{AreAssignedInOrder, IsNextGood, MayBeAssigned, good_paths, way_marks}
 use Rattle.lard_laws.proofs.WaysGoods.{get-front, wanted-grow}
 use Rattle.lard_history.specs.Journal.{assigned, is_touched, wrote}
 use Rattle.lard_history.specs.Laws.{EachMay}
@@ -45,7 +45,7 @@ module _ (files : FilesAt) where
       subst (λ (i : ℕ). slice_get (good_paths files (verdicts w)) (length (good_paths files (take i (verdicts w)))) ≡ Some path) first (good-at (verdicts w) h.before h.verdict path h.is h.good)
 
   -- what is assigned next is found there as the client writes on
-  next-at : (J rs : List Rec) (c : ℕ) (p : List ℕ) → IsNextGood files (marks J c) p → slice_get (good_paths files (verdicts (wrote (J ++ rs) c))) (length (assigned J c)) ≡ Some p
+  next-at : (J rs : List Rec) (c : ℕ) (p : List ℕ) → IsNextGood files (way_marks J c) p → slice_get (good_paths files (verdicts (wrote (J ++ rs) c))) (length (assigned J c)) ≡ Some p
   next-at J rs c p h =
       let w = writes-on J rs c in
       let g = wanted-grow files (wrote J c) w.0 in
@@ -53,16 +53,16 @@ module _ (files : FilesAt) where
       ∙ get-front (good_paths files (verdicts (wrote J c))) g.0 (length (assigned J c)) p h
 
   -- the record that is made for an Ask assigns the next good request
-  its-path : (past : List Rec) (c : ℕ) (ask : Option ℕ) (its : Rec) → IsMadeFor past c ask its → (is_touched past c ≡ false) → MayBeAssigned files past its → (y : Assigned) × IsNextGood files (marks past c) y.0 × AssignsFor past c y.0 y.1 ask its
-  its-path past c ask (rec.AssignedFirst d r path n add remove) h u may = ((path, n), subst (λ (q : ℕ). is_touched past q ≡ false → IsNextGood files (marks past q) path) h.0 may u, (h.0, refl, refl, h.1))
-  its-path past c ask (rec.AssignedLater d r path n add size queue) h u may = ((path, n), subst (λ (q : ℕ). is_touched past q ≡ false → IsNextGood files (marks past q) path) h.0 may u, (h.0, refl, refl, h.1))
+  its-path : (past : List Rec) (c : ℕ) (ask : Option ℕ) (its : Rec) → IsMadeFor past c ask its → (is_touched past c ≡ false) → MayBeAssigned files past its → (y : Assigned) × IsNextGood files (way_marks past c) y.0 × AssignsFor past c y.0 y.1 ask its
+  its-path past c ask (rec.AssignedFirst d r path n add remove) h u may = ((path, n), subst (λ (q : ℕ). is_touched past q ≡ false → IsNextGood files (way_marks past q) path) h.0 may u, (h.0, refl, refl, h.1))
+  its-path past c ask (rec.AssignedLater d r path n add size queue) h u may = ((path, n), subst (λ (q : ℕ). is_touched past q ≡ false → IsNextGood files (way_marks past q) path) h.0 may u, (h.0, refl, refl, h.1))
   its-path past c ask _ h u may = absurd h
 
 -- ---- a lawful journal
 
 module _ (files : FilesAt) (limit : ℕ) (J : List Rec) (known : Known files limit J) (order : AreAssignedInOrder files J) where
   -- where a request started, and is for this path
-  told-of : (a b : List Rec) (n c epoch r : ℕ) (path : List ℕ) → J ≡ a ++ b → is_touched a c ≡ false → IsFor files (wrote a c) r path → Started files n c epoch (Anything files n c epoch) a r → IsTold files a n c r path
+  told-of : (a b : List Rec) (n c epoch r : ℕ) (path : List ℕ) → J ≡ a ++ b → is_touched a c ≡ false → IsFor files (wrote a c) r path → Started files n c epoch (Anything files n c epoch) a r → NodeIsTold files a n c r path
   told-of a b n c epoch r path is u for s =
       let h : HasAssignment files (wrote a c) s.before c r s.ask = (s.for u).1 in
       let start : a ≡ h.before ++ h.its ∷ (h.behind ++ s.later) = s.split ∙ ap (λ (l : List Rec). l ++ s.later) h.split ∙ append_assoc h.before (h.its ∷ h.behind) s.later in
@@ -89,7 +89,7 @@ module _ (files : FilesAt) (limit : ℕ) (J : List Rec) (known : Known files lim
 
   -- for which path a job is
   job-for : (a b : List Rec) (n m c r : ℕ) (path : List ℕ) → J ≡ a ++ rec.Queued n m c r path ∷ b → is_touched a c ≡ false → IsFor files (wrote a c) r path
-  job-for a b n m c r path is u = let may : MayBack files (marks a c) (rec.Queued n m c r path) = each-at (MayMark files) J a b (rec.Queued n m c r path) is known.marks c refl u in may.0
+  job-for a b n m c r path is u = let may : MayBack files (way_marks a c) (rec.Queued n m c r path) = each-at (MayMark files) J a b (rec.Queued n m c r path) is known.marks c refl u in may.0
 
   starts-at : (a b : List Rec) (x : Rec) → J ≡ a ++ x ∷ b → MayStart files a x
   starts-at a b (rec.Queued n m c r path) is = λ u same.

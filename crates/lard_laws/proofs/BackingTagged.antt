@@ -7,7 +7,7 @@ use Rattle.std.proofs.lemmas.List.{length-append, length-map}
 use Rattle.lard_answers.specs.Answers.{FilesAt, verdicts}
 use Rattle.lard_base.specs.declared.place.Place.TheVariants.{Front, Node}
 use Rattle.lard_base.specs.declared.place.TimerKind.TheVariants as timer
-use Rattle.lard_laws.specs.Asks.{Answered, asks}
+use Rattle.lard_laws.specs.Asks.{Answered, ask_tale}
 use Rattle.lard_laws.proofs.AsksAsked.{with-told}
 use Rattle.lard_laws.proofs.AsksMoving.{IsTold, Told}
 use Rattle.lard_laws.specs.BackingTold.{files_before}
@@ -21,20 +21,20 @@ use Rattle.lard_law_connections.proofs.BytesNodeTurns.{here-or}
 use Rattle.lard_law_connections.specs.Places.{Sits, StageSits, owning}
 use Rattle.lard_law_connections.proofs.PlacesTurns.{IsPlaced}
 use Rattle.lard_law_view.specs.Carry.{tale_at}
-use Rattle.lard_law_view.specs.View.{Conn, IsNodeEnv, Setting, Spells, Was}
+use Rattle.lard_law_view.specs.View.{Conn, IsNodeEnv, Setting, SpellsMessage, Was}
 use Rattle.lard_laws.specs.WaysState.{FrontSaysWays, GoesItsWay, IsAsking, LetterWays, StayGoes, StayWays, TagIs, given_to, marks_at}
-use Rattle.lard_laws.specs.Ways.{Marks, good_paths}
+use Rattle.lard_laws.specs.Ways.{WayMarks, good_paths}
 use Rattle.lard_laws.proofs.WaysHomes.{AtHome, at-home}
 use Rattle.lard_endpoint.specs.Control.{ControlBlock}
 use Rattle.lard_rules.specs.declared.front.FrontRest.{FrontRest}
-use Rattle.lard_rules.specs.Front.{is_at, is_with, rest_of}
+use Rattle.lard_rules.specs.Front.{is_row_at, is_with, front_rest}
 use Rattle.lard_handoff_front.specs.declared.row.FrontConn.{FrontConn}
 use Rattle.lard_handoff_front.specs.declared.row.FrontConn.TheVariants as stage
 use Rattle.lard_handoff_front.specs.declared.row.FrontRow.{FrontRow}
 use Rattle.lard_law_view.specs.Truthful.{Talk}
 use Rattle.lard_message.specs.declared.message.Body.TheVariants as body
 use Rattle.lard_rules.specs.declared.stay.Stay.{Stay}
-use Rattle.lard_rules.specs.Node.{NodePart, both_of, here, is_awaited}
+use Rattle.lard_rules.specs.Node.{NodePart, both_of, here, is_tag_awaited}
 use Rattle.lard_rules.specs.Stay.{NodeEnv, named_paths}
 use Rattle.lard_request.specs.declared.verdict.Verdict.{Verdict}
 use Rattle.lard_resend.specs.Kept.{is_under}
@@ -42,7 +42,7 @@ use Rattle.lard_rules.specs.declared.places.Station.{Station}
 
 -- ---- what the front end keeps of the last Ask
 
-told-rest : (d : Answered) (o : Option FrontRest) → IsTold d o → ((rest_of o).asks ≡ d.last) × ((rest_of o).tag ≡ d.nodes)
+told-rest : (d : Answered) (o : Option FrontRest) → IsTold d o → ((front_rest o).asks ≡ d.last) × ((front_rest o).tag ≡ d.nodes)
 told-rest d None h = absurd h
 told-rest d (Some rest) h = (h.0, h.1)
 
@@ -60,39 +60,39 @@ stay-of (Some b) (Some s) y e = let same : (b, s) ≡ y = cc in ap (λ (z : Cont
 -- ---- a Tag that comes
 
 -- its assignment is among the last, so many
-abbrev pub IsOfLast : FilesAt → Marks → ℕ → ℕ → List ℕ → Type 0
+abbrev pub IsOfLast : FilesAt → WayMarks → ℕ → ℕ → List ℕ → Type 0
 IsOfLast files m count i path = (length m.assigned ≤ files_before files m.wrote i + count) × (files_before files m.wrote i < length m.assigned)
 
 module _ (k : Setting) (small : k.stream ≤ 2 ^ 30) (x : Conn) (s : Station) (there : x.part.station ≡ Some s) (l : Talk) (pend : List Verdict) (o : IsOpen k.files x l pend s) (n epoch : ℕ) (env : NodeEnv) (is : IsNodeEnv k x.c n epoch env) where
   abbrev files : FilesAt
   files = env.serve.files
 
-  abbrev m : Marks
+  abbrev m : WayMarks
   m = marks_at x
 
   abbrev p : NodePart
   p = x.part.nodes n
 
   abbrev r : FrontRest
-  r = rest_of x.part.front.rest
+  r = front_rest x.part.front.rest
 
   -- what was answered of Asks
   abbrev d : Answered
-  d = (asks x.c x.seen).done
+  d = (ask_tale x.c x.seen).done
 
   abbrev It : Type 0
   It = IsIt k small x s there l pend o n epoch env is
 
   -- what is so of a Tag that counts
   abbrev pub IsCounted : ℕ → ControlBlock × Stay → Type 0
-  IsCounted number y = (number ≡ (asks x.c x.seen).done.last) × EachNamed env.serve.files (IsOfLast env.serve.files (marks_at x) (length (asks x.c x.seen).done.nodes)) (y.1.served + 1) y.1.batch
+  IsCounted number y = (number ≡ (ask_tale x.c x.seen).done.last) × EachNamed env.serve.files (IsOfLast env.serve.files (marks_at x) (length (ask_tale x.c x.seen).done.nodes)) (y.1.served + 1) y.1.batch
 
   -- the front end knows the connection here, in this epoch
   module _ (it : It) (placed : IsPlaced x) where
-    front-at : is_at n epoch x.part.front.row ≡ true
+    front-at : is_row_at n epoch x.part.front.row ≡ true
     front-at =
         let has : HasIt x l pend o.seat placed n env.epoch = (it placed).0 in
-        subst (λ (q : Option FrontRow). is_at n epoch q ≡ true) (sym has.found) (go has.row.epoch.0 has.row.stage has.at (subst (Sits (owning (tale_at x)) x.part.nodes) has.found placed.sits).0 (has.same ∙ is.epoch_is)) where
+        subst (λ (q : Option FrontRow). is_row_at n epoch q ≡ true) (sym has.found) (go has.row.epoch.0 has.row.stage has.at (subst (Sits (owning (tale_at x)) x.part.nodes) has.found placed.sits).0 (has.same ∙ is.epoch_is)) where
           go : (now : ℕ) (f : FrontConn) → IsAt n f → StageSits now (owning (tale_at x)) x.part.nodes f → now ≡ epoch → is_with n epoch f ≡ true
           go now (stage.Offering i f) at s e = and_from (i == n) (f.0 == epoch) (eq-eqb i n at) (eq-eqb f.0 epoch (s.1 ∙ e))
           go now (stage.Moved i f) at s e = and_from (i == n) (f.0 == epoch) (eq-eqb i n at) (eq-eqb f.0 epoch (s.1 ∙ e))
@@ -101,7 +101,7 @@ module _ (k : Setting) (small : k.stream ≤ 2 ^ 30) (x : Conn) (s : Station) (t
           go now stage.Lent at s e = absurd at
           go now (stage.Closed last) at s e = absurd at
 
-    module _ (g : GoesItsWay files x) (told : Told x) (number : ℕ) (nodes bytes : List ℕ) (spells : Spells x.c epoch (body.Tag number nodes) bytes) (was : Was x Front (Node n) bytes) where
+    module _ (g : GoesItsWay files x) (told : Told x) (number : ℕ) (nodes bytes : List ℕ) (spells : SpellsMessage x.c epoch (body.Tag number nodes) bytes) (was : Was x Front (Node n) bytes) where
       tag-is : TagIs r number nodes
       tag-is =
           let f : FrontSaysWays files m x.part n epoch (body.Tag number nodes) = (has-fair (LetterWays files m x.part) (record { from = Front; to = Node n; bytes = bytes }) x.letters was g.letters) _ spells in
@@ -138,15 +138,15 @@ module _ (k : Setting) (small : k.stream ≤ 2 ^ 30) (x : Conn) (s : Station) (t
             named-weaker files (IsWithin env m h n lo (length m.assigned)) (IsOfLast files m (length d.nodes)) (λ i path w. let low = w.0 in (omega (arith, low, all, nodes_of), w.1)) (y.1.served + 1) y.1.batch within,
           )
 
-      counts-here : (y : ControlBlock × Stay) → here env.epoch p ≡ Some y → is_awaited env number nodes p y.1 ≡ true → IsCounted number y
+      counts-here : (y : ControlBlock × Stay) → here env.epoch p ≡ Some y → is_tag_awaited env number nodes p y.1 ≡ true → IsCounted number y
       counts-here y held e =
           let both = (and_parts (is_some (find (is_under timer.Ask 0) p.kept)) (y.1.asks == number && length nodes == length (named_paths files y.1.batch)) e).1 in
           let parts = and_parts (y.1.asks == number) (length nodes == length (named_paths files y.1.batch)) both in
           let q : StayGoes files n m r y.1 = stays y held in
           by-asking y held q (eqb-true y.1.asks number parts.0) (eqb-true (length nodes) (length (named_paths files y.1.batch)) parts.1) q.asking
 
-  pub tag-counts : IsPlaced x → GoesItsWay files x → Told x → (number : ℕ) (nodes bytes : List ℕ) → Spells x.c epoch (body.Tag number nodes) bytes → Was x Front (Node n) bytes
-      → (y : ControlBlock × Stay) → here env.epoch p ≡ Some y → is_awaited env number nodes p y.1 ≡ true → IsCounted number y
+  pub tag-counts : IsPlaced x → GoesItsWay files x → Told x → (number : ℕ) (nodes bytes : List ℕ) → SpellsMessage x.c epoch (body.Tag number nodes) bytes → Was x Front (Node n) bytes
+      → (y : ControlBlock × Stay) → here env.epoch p ≡ Some y → is_tag_awaited env number nodes p y.1 ≡ true → IsCounted number y
   tag-counts placed g told number nodes bytes spells was y held e = ⊎_elim
       (λ (none : here env.epoch p ≡ None). let no : None ≡ Some y = sym none ∙ held in absurd cc)
       (λ (it : It). counts-here it placed g told number nodes bytes spells was y held e)

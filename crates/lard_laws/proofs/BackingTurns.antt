@@ -11,7 +11,7 @@ use Rattle.lard_laws.specs.BackingState.{BodyFor, MayBack, SaysFor, StartsAt}
 use Rattle.lard_laws.proofs.BackingRows.{Backs}
 use Rattle.lard_laws.proofs.BackingSpelled.{fetch-reads, number-small, path-short}
 use Rattle.lard_law_connections.proofs.PlacesLoops.{settled-is}
-use Rattle.lard_laws.specs.Ways.{Marks}
+use Rattle.lard_laws.specs.Ways.{WayMarks}
 use Rattle.lard_laws.proofs.WaysGoods.{next-get}
 use Rattle.lard_laws.proofs.WaysMarking.{mark}
 use Rattle.lard_endpoint.specs.Control.{finishing}
@@ -26,15 +26,15 @@ use Rattle.lard_rules.specs.declared.stay.Next.TheVariants as next
 use Rattle.lard_rules.specs.declared.stay.Progress.{Progress}
 use Rattle.lard_rules.specs.declared.stay.Progress.TheVariants as progress
 use Rattle.lard_rules.specs.declared.stay.Want.{Want}
-use Rattle.lard_rules.specs.Node.{Deed, Drops, Says, Does, NodePart, all_sent, asked_sent, ended_sent, fetch_of, kept_after, turn_by, wants_sent, with_work}
-use Rattle.lard_rules.specs.Stay.{NodeEnv, Work, asks_for, entered, enters, enters_first, goes_on, left, named_path, named_paths, next_of, path_in, read_entry, reads_these, serves_by, serves_first, serves_with, started, started_here, started_there, starts_at, starts_named, starts_one, tagged, turn, turned}
+use Rattle.lard_rules.specs.Node.{NodeDeed, Drops, Says, Does, NodePart, all_sent, asked_sent, ended_sent, fetch_of, kept_after, turn_by, wants_sent, with_work}
+use Rattle.lard_rules.specs.Stay.{NodeEnv, Work, asks_for, entered, enters, enters_first, goes_on, work_left, named_path, named_paths, next_of, path_in, read_entry, reads_these, serves_by, serves_first, serves_with, started, started_here, started_there, starts_at, starts_named, starts_one, tagged, stay_turn, turned}
 use Rattle.lard_reader.specs.Batches.{batch_of, bytes_used}
 use Rattle.lard_request.specs.declared.verdict.Verdict.{Verdict}
 use Rattle.lard_rules.specs.declared.places.Ending.{Ending}
 use Rattle.lard_rules.specs.declared.places.Ending.TheVariants as ending
 use Rattle.lard_rules.specs.declared.places.Turn.{Turn}
 use Rattle.lard_rules.specs.Loop.{Step, More, Done, state_of}
-use Rattle.lard_rules.specs.Serving.{Service, consumed, passed_over, queued, settled}
+use Rattle.lard_rules.specs.Serving.{Service, serving_consumed, passed_over, queued, serving_settled}
 use Rattle.lard_rules.proofs.Runs.{runs_keep}
 use Rattle.lard_law_view.proofs.EndpointSends.{AllTo}
 
@@ -46,7 +46,7 @@ IsUnmarked (rec.AssignedFirst d r path n add remove) = ⊥
 IsUnmarked (rec.AssignedLater d r path n add size queue) = ⊥
 IsUnmarked _ = Unit {0}
 
-abbrev pub IsSteady : FilesAt → Marks → Rec → Type 0
+abbrev pub IsSteady : FilesAt → WayMarks → Rec → Type 0
 IsSteady files m r = IsUnmarked r × MayBack files m r
 
 -- ---- requests of a batch
@@ -82,13 +82,13 @@ module _ (files : FilesAt) (P Q : ℕ → List ℕ → Type 0) where
     go None h later = later h
     go (Some path) h later = f r path h
 
-module _ (files : FilesAt) (m : Marks) where
+module _ (files : FilesAt) (m : WayMarks) where
   -- what was assigned and written is as in m
-  pub record IsLike (k : Marks) : Type 0 where
+  pub record IsLike (k : WayMarks) : Type 0 where
     pub assigned : k.assigned ≡ m.assigned
     pub wrote : k.wrote ≡ m.wrote
 
-  like-may : (k : Marks) → IsLike k → (r : Rec) → IsSteady files m r → MayBack files k r
+  like-may : (k : WayMarks) → IsLike k → (r : Rec) → IsSteady files m r → MayBack files k r
   like-may k like (rec.Served Front d r code size way) h = like.assigned ∙ h.1
   like-may k like (rec.Served (Node n) d r code size way) h = subst (StartsAt n) (sym like.assigned) h.1
   like-may k like (rec.Served (Client e) d r code size way) h = h.1
@@ -99,14 +99,14 @@ module _ (files : FilesAt) (m : Marks) where
   like-may k like (rec.Sent i from to bytes) h = subst (λ (q : List ℕ). SaysFor files q from to bytes) (sym like.wrote) h.1
   like-may k like _ h = tt
 
-  like-mark : (k : Marks) → IsLike k → (r : Rec) → IsUnmarked r → IsLike (mark k r)
+  like-mark : (k : WayMarks) → IsLike k → (r : Rec) → IsUnmarked r → IsLike (mark k r)
   like-mark k like (rec.Wrote d bytes) h = absurd h
   like-mark k like (rec.AssignedFirst d r path n add remove) h = absurd h
   like-mark k like (rec.AssignedLater d r path n add size queue) h = absurd h
   like-mark k like (rec.Served place d r code size way) h = record { assigned = like.assigned; wrote = like.wrote }
   like-mark k like _ h = like
 
-  like-backs : (k : Marks) → IsLike k → (rs : List Rec) → Each (IsSteady files m) rs → Backs files k rs
+  like-backs : (k : WayMarks) → IsLike k → (rs : List Rec) → Each (IsSteady files m) rs → Backs files k rs
   like-backs k like [] h = tt
   like-backs k like (r ∷ rs) h = (like-may k like r h.0, like-backs (mark k r) (like-mark k like r h.0.0) rs h.1)
 
@@ -116,12 +116,12 @@ module _ (files : FilesAt) (m : Marks) where
 -- ---- what is in hand
 
 -- It acts at the home of a connection whose client wrote so much.
-pub record IsHome (env : NodeEnv) (m : Marks) : Type 0 where
+pub record IsHome (env : NodeEnv) (m : WayMarks) : Type 0 where
   pub place : env.serve.place ≡ Node env.n
   pub starts : StartsAt env.n m.assigned
   pub most : length m.wrote ≤ 2 ^ 30
 
-module _ (env : NodeEnv) (m : Marks) (home : IsHome env m) where
+module _ (env : NodeEnv) (m : WayMarks) (home : IsHome env m) where
   abbrev files : FilesAt
   files = env.serve.files
 
@@ -167,10 +167,10 @@ module _ (env : NodeEnv) (m : Marks) (home : IsHome env m) where
   StepClean (Done k) = Clean k
 
   these-clean : (used : ℕ) (k : Work) (vs : List Verdict) → Clean k → StepClean (reads_these env false used k vs)
-  these-clean used k [] h = cond_both (consumed used k.service).block.recv.fin (record (consumed used k.service) { block = finishing (consumed used k.service).block }) (consumed used k.service) (λ (s : Service). Clean (record k { service = s }))
+  these-clean used k [] h = cond_both (serving_consumed used k.service).block.recv.fin (record (serving_consumed used k.service) { block = finishing (serving_consumed used k.service).block }) (serving_consumed used k.service) (λ (s : Service). Clean (record k { service = s }))
       (λ t. record { notes = h.notes; wants = h.wants }) (λ t. record { notes = h.notes; wants = h.wants })
   these-clean used k (v ∷ vs) h =
-      let start : Work = record k { service = consumed used k.service } in
+      let start : Work = record k { service = serving_consumed used k.service } in
       let all : Work = enters env false (k.service.count + 1) (v ∷ vs) start in
       asks-clean (length (v ∷ vs)) (named_paths files all.batch) all (quiet-clean (k.service.count + 1) (v ∷ vs) start (record { notes = h.notes; wants = h.wants }))
 
@@ -178,7 +178,7 @@ module _ (env : NodeEnv) (m : Marks) (home : IsHome env m) where
   pub first-clean : (used : ℕ) (k : Work) (v : Verdict) (vs : List Verdict) (path : List ℕ) → good_path files v ≡ Some path → For (k.service.count + 1) path → Clean k → Clean (state_of (reads_these env true used k (v ∷ vs)))
   unfolding enters
   first-clean used k v vs path good for h =
-      let start : Work = record k { service = consumed used k.service } in
+      let start : Work = record k { service = serving_consumed used k.service } in
       let n : ℕ = k.service.count + 1 in
       let all : Work = enters env false (n + 1) vs (started_here env n path v start) in
       let clean : Clean all = quiet-clean (n + 1) vs (started_here env n path v start) (here-clean n path v start for (record { notes = h.notes; wants = h.wants })) in
@@ -211,7 +211,7 @@ module _ (env : NodeEnv) (m : Marks) (home : IsHome env m) where
   turned-clean k next.Stop h = h
 
   pub goes-clean : (k : Work) → Clean k → Clean (goes_on env k)
-  goes-clean k h = runs_keep (turn env) left Clean (record {
+  goes-clean k h = runs_keep (stay_turn env) work_left Clean (record {
     more = λ y z e p. subst StepClean e (turned-clean y (next_of y) p);
     done = λ y z e p. subst StepClean e (turned-clean y (next_of y) p);
   }) k h
@@ -277,7 +277,7 @@ module _ (env : NodeEnv) (m : Marks) (home : IsHome env m) where
     pub segments : AllTo (Client env.serve.c) t.segments
     pub messages : Each SaidFor t.messages
 
-  abbrev pub DeedBacks : Deed → Type 0
+  abbrev pub DeedBacks : NodeDeed → Type 0
   DeedBacks Drops = Unit {0}
   DeedBacks (Says ms) = Each SaidFor ms
   DeedBacks (Does given) = TurnBacks given.1
@@ -308,4 +308,4 @@ module _ (env : NodeEnv) (m : Marks) (home : IsHome env m) where
   }
 
   pub works-back : (p : NodePart) (before : List (Place × List ℕ)) (k : Work) → Each SaidFor before → Clean k → DeedBacks (with_work env p before k)
-  works-back p before k said h = let is = settled-is env.serve k.service in ends-back p before k (settled env.serve k.service) said is.notes is.to h
+  works-back p before k said h = let is = settled-is env.serve k.service in ends-back p before k (serving_settled env.serve k.service) said is.notes is.to h

@@ -6,7 +6,7 @@ use Rattle.std.specs.List.{flat_map, list_any}
 use Rattle.lard_base.specs.declared.place.Place.{Place}
 use Rattle.lard_base.specs.declared.place.Place.TheVariants.{Front, Node}
 use Rattle.lard_base.specs.declared.place.TimerKind.{TimerKind}
-use Rattle.lard_cache.specs.Recency.{has}
+use Rattle.lard_cache.specs.Recency.{has_path}
 use Rattle.lard_laws.proofs.BackingHeld.{HasCome, StayHits, stay-more}
 use Rattle.lard_laws.proofs.BackingHitting.{DeedHits, FirstFor, IsOwn, IsQuiet, IsStill, MayHit, TagKnown, acknowledged-hit, come-hit, fired-hit, forwarded-hit, offered-hit, quiet-may, read-hit, tagged-hit}
 use Rattle.lard_law_view.proofs.Parts.{node-elsewhere, node-here}
@@ -32,11 +32,11 @@ use Rattle.lard_rules.specs.declared.node.BackIn.TheVariants as input
 use Rattle.lard_rules.specs.declared.node.NodeState.{NodeState}
 use Rattle.lard_rules.specs.declared.node.NodeTurn.{NodeTurn}
 use Rattle.lard_rules.specs.declared.stay.Stay.{Stay}
-use Rattle.lard_rules.specs.Node.{Deed, Does, Drops, NodePart, Says, here, is_awaited, node_armed, node_read, saying}
-use Rattle.lard_rules.specs.NodePlace.{NodeSetting, aside, brought, completed, content_sent, disk_step, epoch_at, fetched, fetched_file, node_deed, node_env, node_gets, node_hears, node_part, node_put, node_step, with_first}
+use Rattle.lard_rules.specs.Node.{NodeDeed, Does, Drops, NodePart, Says, here, is_tag_awaited, node_armed, node_read, node_saying}
+use Rattle.lard_rules.specs.NodePlace.{NodeSetting, aside, node_brought, completed, content_sent, disk_step, node_epoch_at, fetched, fetched_file, node_deed, node_env, node_gets, node_hears, node_part, node_put, node_step, with_first}
 use Rattle.lard_reader.specs.Batches.{batch_of}
 use Rattle.lard_rules.specs.declared.places.Out.{Out}
-use Rattle.lard_rules.specs.Outs.{kind_change, kinds, nothing_done}
+use Rattle.lard_rules.specs.Outs.{kind_change, timer_kinds, nothing_done}
 use Rattle.lard_segment.specs.declared.segment.Dir.TheVariants.{ToCluster}
 use Rattle.lard_segment.specs.Segment.{decoded}
 
@@ -90,7 +90,7 @@ module _ (k : NodeSetting) where
     abbrev pub BodyKnown : NodeState → Place → ℕ → ℕ → Body → Type 0
     BodyKnown s Front c epoch (body.Offer parts) = offer_answer epoch (node_part s c).row ≡ New → FirstFor (node_env k s c epoch) refl base None (parts.served + 1) (batch_of 8 parts.unread)
     BodyKnown s Front c epoch (body.Tag number nodes) =
-        (y : ControlBlock × Stay) → here epoch (node_part s c) ≡ Some y → is_awaited (node_env k s c epoch) number nodes (node_part s c) y.1 ≡ true → TagKnown (node_env k s c epoch) refl base number y
+        (y : ControlBlock × Stay) → here epoch (node_part s c) ≡ Some y → is_tag_awaited (node_env k s c epoch) number nodes (node_part s c) y.1 ≡ true → TagKnown (node_env k s c epoch) refl base number y
     BodyKnown s (Node m) c epoch (body.Content r bytes) = ContentKnown s m c epoch r
     BodyKnown s (Node m) c epoch (body.Fetch r path) = is_touched base c ≡ false → m ≡ k.n → ⊥
     BodyKnown s _ c epoch _ = Unit {0}
@@ -115,9 +115,9 @@ module _ (k : NodeSetting) (i : BackIn) where
     aside-hits : (s : NodeState) (t : NodeTurn) → EachMay (MayHit k.files) base t.notes → Each (QueuesBy k.n i) t.notes → NodeHits k base s → StepHits base (aside s t)
     aside-hits s t may queued h = record { kept = node-more k base t.notes s h; notes = may; gave = tt; timers = tt; queued = queued }
 
-    deed-hits : (s : NodeState) (c epoch : ℕ) (d : Deed) → NodeHits k base s → DeedHits (node_env k s c epoch) refl base d → StepHits base (node_deed k s c d)
+    deed-hits : (s : NodeState) (c epoch : ℕ) (d : NodeDeed) → NodeHits k base s → DeedHits (node_env k s c epoch) refl base d → StepHits base (node_deed k s c d)
     deed-hits s c epoch Drops h b = stays s h
-    deed-hits s c epoch (Says ms) h b = aside-hits s (saying ms) tt tt h
+    deed-hits s c epoch (Says ms) h b = aside-hits s (node_saying ms) tt tt h
     deed-hits s c epoch (Does given) h b =
         let now : List Rec = base ++ given.1.notes in
         record {
@@ -127,7 +127,7 @@ module _ (k : NodeSetting) (i : BackIn) where
               (λ other. subst (λ (p : NodePart). StayHits k.files k.n q now p.row p.stay) (sym (node-elsewhere s c q given.0 other)) (node-more k base given.1.notes s h q));
           notes = b.1;
           gave = b.2;
-          timers = timers-still (Node k.n) c (node_armed (node_part s c)) (node_armed given.0) kinds;
+          timers = timers-still (Node k.n) c (node_armed (node_part s c)) (node_armed given.0) timer_kinds;
           queued = Each-weaker IsOwn (QueuesBy k.n i) (own-by k.n i) given.1.notes b.3;
         }
 
@@ -136,8 +136,8 @@ module _ (k : NodeSetting) (i : BackIn) where
     fetched-hits : (s : NodeState) (from c epoch r : ℕ) (path : List ℕ) (o : Option (List ℕ)) → (is_touched base c ≡ false → from ≡ k.n → ⊥) → FetchIn i from c r path → NodeHits k base s → StepHits base (fetched k s from c epoch r path o)
     fetched-hits s from c epoch r path None other f h = stays s h
     fetched-hits s from c epoch r path (Some bytes) other f h = cond_both (list_any (is_for c epoch r) s.disk) (s, nothing_done) (aside s (fetched_file k s from c epoch r path)) (StepHits base) (λ t. stays s h)
-        (λ t. aside-hits s (fetched_file k s from c epoch r path) (cond_both (has s.cache.entries path) _ _ (λ (u : NodeTurn). EachMay (MayHit k.files) base u.notes) (λ there. (tt, tt)) (λ none. ((λ u same. absurd (other u same)), tt)))
-        (cond_both (has s.cache.entries path) _ _ (λ (u : NodeTurn). Each (QueuesBy k.n i) u.notes) (λ there. (tt, tt)) (λ none. (inr (refl, f), tt))) h)
+        (λ t. aside-hits s (fetched_file k s from c epoch r path) (cond_both (has_path s.cache.entries path) _ _ (λ (u : NodeTurn). EachMay (MayHit k.files) base u.notes) (λ there. (tt, tt)) (λ none. ((λ u same. absurd (other u same)), tt)))
+        (cond_both (has_path s.cache.entries path) _ _ (λ (u : NodeTurn). Each (QueuesBy k.n i) u.notes) (λ there. (tt, tt)) (λ none. (inr (refl, f), tt))) h)
 
     -- a Fetch is what comes
     abbrev Asked : Place → ℕ → Body → Type 0
@@ -166,14 +166,14 @@ module _ (k : NodeSetting) (i : BackIn) where
   -- ---- the disk
 
   -- behind the record that it is read
-  brought-hits : (base : List Rec) (s : NodeState) (job : Job) → NodeHits k base s → StepHits (base ++ rec.Read k.n job.origin job.c job.r job.path ∷ []) (brought k s job)
+  brought-hits : (base : List Rec) (s : NodeState) (job : Job) → NodeHits k base s → StepHits (base ++ rec.Read k.n job.origin job.c job.r job.path ∷ []) (node_brought k s job)
   brought-hits base s job h =
       let read : Rec = rec.Read k.n job.origin job.c job.r job.path in
       let now : List Rec = base ++ read ∷ [] in
       let more : NodeHits k now s = node-more k base (read ∷ []) s h in
-      cond_both (job.origin == k.n) (node_deed k s job.c (node_read (node_env k s job.c job.epoch.0) (node_part s job.c) job.r)) (aside s (saying (content_sent k job.origin job.c job.epoch.0 job.r job.path ∷ []))) (StepHits now)
+      cond_both (job.origin == k.n) (node_deed k s job.c (node_read (node_env k s job.c job.epoch.0) (node_part s job.c) job.r)) (aside s (node_saying (content_sent k job.origin job.c job.epoch.0 job.r job.path ∷ []))) (StepHits now)
       (λ t. deed-hits now s job.c job.epoch.0 _ more (read-hit (node_env k s job.c job.epoch.0) refl now (node_part s job.c) base job.r job.path (ap (λ (o : ℕ). base ++ rec.Read k.n o job.c job.r job.path ∷ []) (eqb-true job.origin k.n t)) (h job.c)))
-      (λ t. aside-hits now s (saying (content_sent k job.origin job.c job.epoch.0 job.r job.path ∷ [])) tt tt more)
+      (λ t. aside-hits now s (node_saying (content_sent k job.origin job.c job.epoch.0 job.r job.path ∷ [])) tt tt more)
 
   first-hits : (base : List Rec) (r : Rec) (x : NodeState × Out) → IsQuiet r → QueuesBy k.n i r → StepHits (base ++ r ∷ []) x → StepHits base (with_first r x)
   first-hits base r x quiet by h = record {
@@ -188,7 +188,7 @@ module _ (k : NodeSetting) (i : BackIn) where
   disk-hits base s j None h = stays base s h
   disk-hits base s j (Some job) h =
       let done : Rec = rec.Read k.n job.origin job.c job.r job.path in
-      first-hits base done (brought k (completed k s j job) job) tt tt (brought-hits base (completed k s j job) job h)
+      first-hits base done (node_brought k (completed k s j job) job) tt tt (brought-hits base (completed k s j job) job h)
 
 -- ---- a step
 
@@ -199,5 +199,5 @@ module _ (k : NodeSetting) where
 
   pub step-hits : (base : List Rec) (s : NodeState) (i : BackIn) → NodeHits k base s → StepKnown base s i → StepHits k i base (node_step k s i)
   step-hits base s (input.Message from bytes) h known = gets-hits k (input.Message from bytes) base s from bytes refl (decoded_message bytes) refl h known
-  step-hits base s (input.Timer c) h known = deed-hits k (input.Timer c) base s c (epoch_at s c) _ h (fired-hit (node_env k s c (epoch_at s c)) refl base (node_part s c) (h c) refl)
+  step-hits base s (input.Timer c) h known = deed-hits k (input.Timer c) base s c (node_epoch_at s c) _ h (fired-hit (node_env k s c (node_epoch_at s c)) refl base (node_part s c) (h c) refl)
   step-hits base s (input.Disk j) h known = disk-hits k (input.Disk j) base s j (job_at s.disk j) h

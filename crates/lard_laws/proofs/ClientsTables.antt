@@ -7,10 +7,10 @@ use Rattle.lard_base.specs.declared.config.Config.{Config}
 use Rattle.lard_base.specs.declared.event.Event.TheVariants as event
 use Rattle.lard_base.specs.declared.place.Place.{Place}
 use Rattle.lard_base.specs.declared.place.Place.TheVariants.{Front, Node, Client}
-use Rattle.lard_client.specs.Control.{ClientBlock, is_armed}
+use Rattle.lard_client.specs.Control.{ClientBlock, is_client_armed}
 use Rattle.lard_laws.specs.ClientsLaws.{ClientsKeepTheirTables}
 use Rattle.lard_laws.proofs.ClientsAsides.{IsAside, asides-step, asides-still, machine-aside, same-station}
-use Rattle.lard_law_view.specs.Carry.{IsLaw, IsStepLaw, MayMove, OfEach, setting}
+use Rattle.lard_law_view.specs.Carry.{IsLaw, IsStepLaw, MayRestOn, OfEach, setting}
 use Rattle.lard_law_view.specs.View.{Conn, IsNobody, Move, Rules, Setting, client_begins, client_does, grown, nothing_said, packet_seen, rows_of, seen_in, sending, stands, station_armed, timer_rows}
 use Rattle.lard_law_view.proofs.Carried.{carried}
 use Rattle.lard_law_view.proofs.Fine.{IsFine, IsItsOwn, fine}
@@ -98,7 +98,7 @@ client-owes x s h hs given there state step =
     let at : client_at x.part.station ≡ Some s.client = ap client_at there in
     let said : List Rec = given.1.notes ++ map (sending (Client x.c)) given.1.segments in
     let rows : rows_of x v ≡ turn_rows x.c (Some s.client) given =
-    plain-rows said (timer_change (Client x.c) x.c (station_armed x.part.station) (is_armed given.0)) ∙ ap (λ b. said ++ timer_change (Client x.c) x.c b (is_armed given.0)) (ap station_armed there) in
+    plain-rows said (timer_change (Client x.c) x.c (station_armed x.part.station) (is_client_armed given.0)) ∙ ap (λ b. said ++ timer_change (Client x.c) x.c b (is_client_armed given.0)) (ap station_armed there) in
     let later : map Row hs ++ map Row (rows_of x v) ≡ map Row (hs ++ turn_rows x.c (Some s.client) given) = ap (λ rs. map Row hs ++ map Row rs) rows ∙ sym (map-append Row hs (turn_rows x.c (Some s.client) given)) in
     record {
       state = ap (λ o. fold (client_step x.c) o (h ∷ map Row hs)) at ∙ state;
@@ -114,7 +114,7 @@ begins-owes x isn iss wnd mss none =
     let o : Rec = rec.Opened x.c isn iss wnd mss in
     let said : List Rec = given.1.notes ++ map (sending (Client x.c)) given.1.segments in
     let rows : rows_of x v ≡ turn_rows x.c None given =
-    plain-rows said (timer_change (Client x.c) x.c (station_armed x.part.station) (is_armed given.0)) ∙ ap (λ b. said ++ timer_change (Client x.c) x.c b (is_armed given.0)) (ap station_armed none) in
+    plain-rows said (timer_change (Client x.c) x.c (station_armed x.part.station) (is_client_armed given.0)) ∙ ap (λ b. said ++ timer_change (Client x.c) x.c b (is_client_armed given.0)) (ap station_armed none) in
     record {
       state = ap (λ p. fold (client_step x.c) p v.heads) at;
       step = subst (λ (p : Option ClientBlock). IsClientStep x.c p (seen_in x v)) (sym at) (ap (λ rs. Row o ∷ map Row rs) rows);
@@ -182,7 +182,7 @@ Anything x = Unit {0}
 folding : (k : Setting) → IsLaw k Anything IsFolded
 folding k = record {
   begins = λ c. refl;
-  moves = weaker k (λ x v. Owed Owes x v × IsFine x v) (λ x v. MayMove Anything x → IsFolded x → IsFolded (grown x v))
+  moves = weaker k (λ x v. Owed Owes x v × IsFine x v) (λ x v. MayRestOn Anything x → IsFolded x → IsFolded (grown x v))
       (λ x v h may is. folded x v (h.1 may.number may.sound).0 ∙ ap (λ o. fold (client_step x.c) o v.heads) is ∙ (h.0 may.number may.sound).state)
       (both k (Owed Owes) IsFine (owing k) (fine k));
 }
@@ -190,7 +190,7 @@ folding k = record {
 stepping : (k : Setting) → IsStepLaw k IsFolded (λ c past seen. IsClientStep c (client_of c past) seen)
 stepping k = record {
   still = λ c past. tt;
-  moves = weaker k (Owed Owes) (λ x v. MayMove IsFolded x → IsClientStep x.c (client_of x.c x.seen) (seen_in x v))
+  moves = weaker k (Owed Owes) (λ x v. MayRestOn IsFolded x → IsClientStep x.c (client_of x.c x.seen) (seen_in x v))
       (λ x v owes may. subst (λ (o : Option ClientBlock). IsClientStep x.c o (seen_in x v)) (sym may.given) (owes may.number may.sound).step) (owing k);
 }
 

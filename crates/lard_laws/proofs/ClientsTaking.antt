@@ -15,7 +15,7 @@ use Rattle.lard_law_connections.proofs.BytesClientMoves.{has-fair, open-at, was-
 use Rattle.lard_laws.specs.ClientsLaws.{ClientsTakeInOrder}
 use Rattle.lard_laws.proofs.ClientsAsides.{IsOfMachine, note-machine}
 use Rattle.lard_law_view.specs.Carry.{Untouched, setting, tale_at}
-use Rattle.lard_law_view.specs.View.{Conn, GoesBetween, IsMachine, IsSound, IsViewed, Move, Part, Rules, Setting, Was, conn, part_of, timer_rows}
+use Rattle.lard_law_view.specs.View.{Conn, GoesBetween, IsMachine, IsConnSound, IsViewed, Move, Part, Rules, Setting, Was, conn, part_of, timer_rows}
 use Rattle.lard_law_view.proofs.AnyShape.{SomeGift, SomeNote, SomeTimer}
 use Rattle.lard_law_view.proofs.Acts.{ActsAlone, ActsMany, IsPassing, IsStepOf, Moves, said_rows, step_acts}
 use Rattle.lard_law_view.proofs.Carried.{IsOn, carried-keep, on-setting}
@@ -83,7 +83,7 @@ fair-reply k c p (Node n) bytes goes f = f
 fair-reply k c p (Client d) bytes goes f = absurd goes
 
 -- while it is untouched, a connection agrees
-open-knows : (files : FilesAt) (x : Conn) (s : Station) (from : Place) (bytes : List ℕ) → x.part.station ≡ Some s → IsSound x → Was x from (Client x.c) bytes → Untouched (IsTruthful files) x
+open-knows : (files : FilesAt) (x : Conn) (s : Station) (from : Place) (bytes : List ℕ) → x.part.station ≡ Some s → IsConnSound x → Was x from (Client x.c) bytes → Untouched (IsTruthful files) x
     → (tale_at x).touched ≡ false → Knows x.c s.client (tale_at x) bytes
 open-knows files x s from bytes there sound was given u =
     let h : IsTruthful files x = given u in

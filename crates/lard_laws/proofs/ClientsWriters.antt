@@ -14,7 +14,7 @@ use Rattle.lard_rules.specs.declared.machine.Machine.{Machine}
 use Rattle.lard_rules.specs.Machine.{IsReached}
 use Rattle.lard_laws.specs.ClientsLaws.{WritersAreLawful}
 use Rattle.lard_laws.proofs.ClientsAsides.{IsOfMachine, rows-machine, same-station}
-use Rattle.lard_law_view.specs.Carry.{IsLaw, MayMove, TellsBy, setting, tale_at}
+use Rattle.lard_law_view.specs.Carry.{IsLaw, MayRestOn, TellsBy, setting, tale_at}
 use Rattle.lard_law_view.specs.View.{Conn, Move, Rules, Setting, client_begins, client_does, conn, event_seen, grown, inject_seen, nothing_said, packet_seen, part_of, rows_of, seen_in, sending, stands, timer_rows}
 use Rattle.lard_law_view.proofs.Carried.{carried}
 use Rattle.lard_law_view.proofs.Fine.{IsItsOwn}
@@ -246,7 +246,7 @@ Anything x = Unit {0}
 standing : (k : Setting) → IsLaw k Anything StandsOpen
 standing k = record {
   begins = λ c. record { client = record { numbers = refl; wrote = refl; accepted = refl; writes = refl }; lawful = tt };
-  moves = weaker k (Owed Keeps) (λ x v. MayMove Anything x → StandsOpen x → StandsOpen (grown x v)) (λ x v keeps may h. keeps may.number may.sound h) (keeping k);
+  moves = weaker k (Owed Keeps) (λ x v. MayRestOn Anything x → StandsOpen x → StandsOpen (grown x v)) (λ x v keeps may h. keeps may.number may.sound h) (keeping k);
 }
 
 pub writers-are : WritersAreLawful

@@ -5,7 +5,7 @@ use Rattle.lard_base.specs.declared.event.Event.TheVariants as event
 use Rattle.lard_base.specs.declared.place.Place.{Place}
 use Rattle.lard_base.specs.declared.place.Place.TheVariants.{Client, Front, Node}
 use Rattle.lard_client.specs.Control.{ClientBlock, written_len}
-use Rattle.lard_law_connections.specs.BytesAgreement.{ConnAgrees, IsFair, IsFairOn, IsOpen, IsTruthful, IsUnopened}
+use Rattle.lard_law_connections.specs.BytesAgreement.{ConnAgrees, IsFair, IsFairOn, IsOpen, IsTruthful, IsConnUnopened}
 use Rattle.lard_law_connections.proofs.BytesClientMoves.{has-fair, open-at, was-between}
 use Rattle.lard_laws.specs.EndedEnds.{EndsAreTrue, IsTrueEnd, LetterEnds, RowEnds, StationEnds, TellsEnds, written_by}
 use Rattle.lard_laws.proofs.EndedGrowing.{client-letters, ends-on, inner-letters, row-on}
@@ -112,7 +112,7 @@ module _ (k : Setting) (small : k.stream ≤ 2 ^ 30) where
     packets = Each-append (LetterEnds P x.part.front.row) x.letters (letters_of v) (inner-letters P x.part.front.row x.letters unopened.inner)
         (Each-append (LetterEnds P x.part.front.row) (map (letter (Client x.c)) begun.1.segments) [] (client-letters P x.part.front.row x.c begun.1.segments) tt);
   } where
-    unopened : IsUnopened x
+    unopened : IsConnUnopened x
     unopened = subst (ConnAgrees k.files x h.talk h.pend) none h.agrees
 
     v : Move

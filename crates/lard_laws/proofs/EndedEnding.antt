@@ -5,7 +5,7 @@ use Rattle.lard_base.specs.declared.place.Place.{Place}
 use Rattle.lard_base.specs.declared.place.Place.TheVariants.{Client}
 use Rattle.lard_base.specs.declared.place.Reason.{Reason}
 use Rattle.lard_base.specs.declared.place.Reason.TheVariants as reason
-use Rattle.lard_law_connections.specs.BytesAgreement.{HasRead, HoldsIt}
+use Rattle.lard_law_connections.specs.BytesAgreement.{HasReadPending, HoldsItPending}
 use Rattle.lard_law_connections.specs.BytesTurning.{IsReading}
 use Rattle.lard_law_connections.proofs.BytesHolding.{begins-so}
 use Rattle.lard_law_connections.proofs.BytesReading.{read-alone, read-same}
@@ -24,7 +24,7 @@ use Rattle.lard_request.specs.declared.verdict.Verdict.{Verdict}
 use Rattle.lard_rules.specs.declared.places.Ending.{Ending}
 use Rattle.lard_rules.specs.declared.places.Ending.TheVariants as ending
 use Rattle.lard_rules.specs.declared.places.Turn.{Turn}
-use Rattle.lard_rules.specs.Serving.{ServeEnv, Service, cut_off, limit_said, serving, settled, spoken, told}
+use Rattle.lard_rules.specs.Serving.{ServeEnv, Service, cut_off, limit_said, serving, serving_settled, spoken, serving_told}
 use Rattle.lard_rules.specs.Speaking.{speaks, speaks_symbols}
 use Rattle.lard_rules.proofs.Wide.{timer-wide}
 use Rattle.lard_send.specs.Send.{is_clear}
@@ -77,7 +77,7 @@ module _ (env : ServeEnv) (w : Stream) (iss : ℕ) where
 
   module _ (out : Stream) (vs : List Verdict) (begins : out.first ≡ iss) where
     -- one that both sides have closed, once it has said what it may
-    closed-as : (s : Service) (pend : List Verdict) (g : So env w out vs s pend) → HasRead w s.block g.vs_now pend → (s.block.reset ≡ false → ReadsNothing s.block pend) → (b : ControlBlock) → (speaks env.c s.block).1 ≡ b
+    closed-as : (s : Service) (pend : List Verdict) (g : So env w out vs s pend) → HasReadPending w s.block g.vs_now pend → (s.block.reset ≡ false → ReadsNothing s.block pend) → (b : ControlBlock) → (speaks env.c s.block).1 ≡ b
         → b.reset ≡ false → is_closed b ≡ true → WasClosed env.files w iss (final_of b reason.Closed)
     closed-as s pend g read nothing b is calm closed = record {
       out = g.out_now;
@@ -94,7 +94,7 @@ module _ (env : ServeEnv) (w : Stream) (iss : ℕ) where
           speaks = between.speaks;
           out_is = between.out_is;
           hears = between.hears;
-          has_read = read-alone w b g.vs_now (subst (HasRead w b g.vs_now) none (read-same w g.out_now s.block b g.vs_now pend g.between between same.0 read));
+          has_read = read-alone w b g.vs_now (subst (HasReadPending w b g.vs_now) none (read-same w g.out_now s.block b g.vs_now pend g.between between same.0 read));
           stopped = same-stopped s.block b same left.0;
         };
         both = λ e. closed;
@@ -119,7 +119,7 @@ module _ (env : ServeEnv) (w : Stream) (iss : ℕ) where
         go true e = (read.stops e).2
         go false e = left.1 e
 
-    pub spoken-end : (s : Service) (pend : List Verdict) (g : So env w out vs s pend) (before : List (Place × List ℕ)) → HasRead w s.block g.vs_now pend → (s.block.reset ≡ false → ReadsNothing s.block pend) → EndsTruly (spoken env s before).0
+    pub spoken-end : (s : Service) (pend : List Verdict) (g : So env w out vs s pend) (before : List (Place × List ℕ)) → HasReadPending w s.block g.vs_now pend → (s.block.reset ≡ false → ReadsNothing s.block pend) → EndsTruly (spoken env s before).0
     spoken-end s pend g before read nothing =
         let b : ControlBlock = (speaks env.c s.block).1 in
         cond_both (may_end b) (ending.Over (final_of b (end_reason b))) (ending.Here b s.count) EndsTruly
@@ -133,14 +133,14 @@ module _ (env : ServeEnv) (w : Stream) (iss : ℕ) where
         (λ stays. tt)
 
     -- of what is in hand, unless it is to be reset
-    pub settled-end : (s : Service) (pend : List Verdict) (g : So env w out vs s pend) → (s.over ≡ None → s.block.reset ≡ false → ReadsNothing s.block pend) → EndsTruly (settled env s).0
+    pub settled-end : (s : Service) (pend : List Verdict) (g : So env w out vs s pend) → (s.over ≡ None → s.block.reset ≡ false → ReadsNothing s.block pend) → EndsTruly (serving_settled env s).0
     settled-end s pend g nothing = go s.over refl g.reading where
       go : (o : Option ℕ) → s.over ≡ o → IsReading w g.vs_now pend s.block s.notes o → EndsTruly (elim o as (λ p. Ending × Turn) [ None ↦ spoken env s [] | Some total ↦ cut_off env s ]).0
       go None e read = spoken-end s pend g [] read (nothing e)
       go (Some total) e reset = (omega arith, omega arith, λ why. absurd (let no : reason.Limit ≡ reason.Closed = why in cc))
 
     -- its timer fired
-    module _ (says : SaysAnswers env.files w out vs) (pend : List Verdict) (b : ControlBlock) (count : ℕ) (h : HoldsIt w out vs pend b count) where
+    module _ (says : SaysAnswers env.files w out vs) (pend : List Verdict) (b : ControlBlock) (count : ℕ) (h : HoldsItPending w out vs pend b count) where
       before-timer : IsBetween w out b
       before-timer = record { same_irs = h.sound.same_irs; speaks = h.speaks; out_is = h.out_is; hears = h.hears }
 
@@ -157,8 +157,8 @@ module _ (env : ServeEnv) (w : Stream) (iss : ℕ) where
 pub spoken-to : (env : ServeEnv) (s : Service) (before : List (Place × List ℕ)) → AllTo (Client env.c) before → AllTo (Client env.c) (spoken env s before).1.segments
 spoken-to env s before to = Each-append (λ m. m.0 ≡ Client env.c) before (speaks env.c s.block).0 to (speaks-to env.c s.block).to
 
-pub settled-to : (env : ServeEnv) (s : Service) → AllTo (Client env.c) (settled env s).1.segments
+pub settled-to : (env : ServeEnv) (s : Service) → AllTo (Client env.c) (serving_settled env s).1.segments
 settled-to env s = go s.over where
   go : (o : Option ℕ) → AllTo (Client env.c) (elim o as (λ p. Ending × Turn) [ None ↦ spoken env s [] | Some total ↦ cut_off env s ]).1.segments
   go None = spoken-to env s [] tt
-  go (Some total) = Each-append (λ m. m.0 ≡ Client env.c) (speaks_symbols env.c s.block).0 (told env (limit_said (final_of (speaks_symbols env.c s.block).1 reason.Limit)) ∷ []) (speaks_symbols-to env.c s.block).to (refl, tt)
+  go (Some total) = Each-append (λ m. m.0 ≡ Client env.c) (speaks_symbols env.c s.block).0 (serving_told env (limit_said (final_of (speaks_symbols env.c s.block).1 reason.Limit)) ∷ []) (speaks_symbols-to env.c s.block).to (refl, tt)

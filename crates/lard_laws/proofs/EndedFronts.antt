@@ -28,8 +28,8 @@ use Rattle.lard_endpoint.specs.Leaving.{after_timer, timed}
 use Rattle.lard_endpoint.specs.Moving.{may_freeze}
 use Rattle.lard_rules.specs.declared.front.FrontRest.{FrontRest}
 use Rattle.lard_rules.specs.declared.front.FrontTurn.{FrontTurn}
-use Rattle.lard_rules.specs.Front.{Deed, Drops, Says, Does, FrontEnv, FrontPart, admitted_at, admitted_by, admitted_with, asked_by, assigns, begun, ended_by, fired, fired_by, fires_at, front_admitted, front_asked, front_ended, front_gets, front_hears, front_taken, front_timer, handed_off, heard, hears_at, is_at, met, placed, rest_of, saying, settled_by, stage_after, tag_sent, taken_by}
-use Rattle.lard_rules.specs.FrontReading.{MayMove, Reading, reads}
+use Rattle.lard_rules.specs.Front.{FrontDeed, Drops, Says, Does, FrontEnv, FrontPart, admitted_at, admitted_by, front_admitted_with, asked_by, assigns, front_begun, front_ended_by, front_fired, front_fired_by, fires_at, front_admitted, front_asked, front_ended, front_gets, front_hears, front_taken, front_timer, handed_off, heard, hears_at, is_row_at, met, placed, front_rest, front_saying, settled_by, stage_after, tag_sent, taken_by}
+use Rattle.lard_rules.specs.FrontReading.{MayMove, Reading, front_reads}
 use Rattle.lard_rules.proofs.FrontBlocks.{segment-serves}
 use Rattle.lard_rules.proofs.FrontTurns.{reads-stop}
 use Rattle.lard_handoff_front.specs.declared.row.FrontConn.{FrontConn}
@@ -49,7 +49,7 @@ use Rattle.lard_rules.specs.declared.places.Ending.{Ending}
 use Rattle.lard_rules.specs.declared.places.Ending.TheVariants as ending
 use Rattle.lard_rules.specs.declared.places.Station.{Station}
 use Rattle.lard_rules.specs.Tombstone.{is_plain_syn}
-use Rattle.lard_rules.specs.Serving.{Service, ready_of, serving, settled, spoken}
+use Rattle.lard_rules.specs.Serving.{Service, serving_ready_of, serving, serving_settled, spoken}
 use Rattle.lard_segment.specs.Segment.{Said}
 use Rattle.lard_law_view.specs.Truth.{IsStream}
 use Rattle.lard_law_view.proofs.Speaking.{speaks-stream}
@@ -59,14 +59,14 @@ frozen-open : (b : ControlBlock) → may_freeze b ≡ true → b.send.finished �
 frozen-open b e = not-true b.send.finished (and_parts _ (not b.send.finished) (and_parts _ _ e).0).1
 
 -- what a deed leaves of an end
-abbrev pub DeedEnds : (Final → Type 0) → Deed → Type 0
+abbrev pub DeedEnds : (Final → Type 0) → FrontDeed → Type 0
 DeedEnds P Drops = Unit {0}
 DeedEnds P (Says turn) = Unit {0}
 DeedEnds P (Does did) = RowEnds P did.part.row
 
 module _ (P : Final → Type 0) (x : Conn) (h : TellsEnds P x) (heads : List Seen) where
   -- so it is of its move, since the front end tells no end to anybody
-  pub deed-place : (d : Deed) → DeedEnds P d → PlaceEnds x (front_does x heads d) P
+  pub deed-place : (d : FrontDeed) → DeedEnds P d → PlaceEnds x (front_does x heads d) P
   deed-place Drops k = record { front = h.front; letters = tt }
   deed-place (Says turn) k = record {
     front = h.front;
@@ -94,22 +94,22 @@ module _ (P : Final → Type 0) (x : Conn) (h : TellsEnds P x) (heads : List See
     asked-by : (n epoch : ℕ) (ask : Ask) (q : Option FrontRest) → DeedEnds P (asked_by env p n epoch ask q)
     asked-by n epoch ask None = tt
     asked-by n epoch ask (Some rest) =
-        cond_both (ask.number == rest.asks + 1) (Does (assigns env p rest n epoch ask (env.later ask))) (cond (ask.number == rest.asks && nat_lt 0 rest.asks) (Says (saying (tag_sent env n epoch rest.asks rest.tag))) Drops) (DeedEnds P) (λ t. h.front)
-        (λ t. cond_both (ask.number == rest.asks && nat_lt 0 rest.asks) (Says (saying (tag_sent env n epoch rest.asks rest.tag))) Drops (DeedEnds P) (λ u. tt) (λ u. tt))
+        cond_both (ask.number == rest.asks + 1) (Does (assigns env p rest n epoch ask (env.later ask))) (cond (ask.number == rest.asks && nat_lt 0 rest.asks) (Says (front_saying (tag_sent env n epoch rest.asks rest.tag))) Drops) (DeedEnds P) (λ t. h.front)
+        (λ t. cond_both (ask.number == rest.asks && nat_lt 0 rest.asks) (Says (front_saying (tag_sent env n epoch rest.asks rest.tag))) Drops (DeedEnds P) (λ u. tt) (λ u. tt))
 
     pub asked-ends : (n epoch : ℕ) (ask : Ask) → DeedEnds P (front_asked env p n epoch ask)
-    asked-ends n epoch ask = cond_both (is_at n epoch p.row) (asked_by env p n epoch ask p.rest) Drops (DeedEnds P) (λ t. asked-by n epoch ask p.rest) (λ t. tt)
+    asked-ends n epoch ask = cond_both (is_row_at n epoch p.row) (asked_by env p n epoch ask p.rest) Drops (DeedEnds P) (λ t. asked-by n epoch ask p.rest) (λ t. tt)
 
     -- a waiting one is handed off
     module _ (choice : FirstChoice) (given : FrontPart × FrontTurn) where
-      admitted-with : (row : FrontRow) (b : ControlBlock) (t : Option (List ℕ)) → admitted_with env row (rest_of p.rest) b choice t ≡ Some given → RowEnds P given.0.row
+      admitted-with : (row : FrontRow) (b : ControlBlock) (t : Option (List ℕ)) → front_admitted_with env row (front_rest p.rest) b choice t ≡ Some given → RowEnds P given.0.row
       admitted-with row b None e = let no : None ≡ Some given = e in absurd cc
       admitted-with row b (Some path) e =
-          let same : handed_off env row (serving b (rest_of p.rest).count []) path choice ≡ given = cc in
+          let same : handed_off env row (serving b (front_rest p.rest).count []) path choice ≡ given = cc in
           subst (λ (g : FrontPart × FrontTurn). RowEnds P g.0.row) same tt
 
       admitted-at : (row : FrontRow) (st : FrontConn) → admitted_at env p choice row st ≡ Some given → RowEnds P given.0.row
-      admitted-at row (stage.Waiting b) e = admitted-with row b (rest_of p.rest).target e
+      admitted-at row (stage.Waiting b) e = admitted-with row b (front_rest p.rest).target e
       admitted-at row _ e = let no : None ≡ Some given = e in absurd cc
 
       admitted-by : (q : Option FrontRow) → admitted_by env p choice q ≡ Some given → RowEnds P given.0.row
@@ -135,10 +135,10 @@ module _ (P : Final → Type 0) (x : Conn) (h : TellsEnds P x) (heads : List See
           let same : row.epoch.0 ≡ epoch = away-epoch row.epoch.0 row.stage sits.0 away in
           ⊎_elim (λ (e : HasEnded epoch p.row). absurd (let less : epoch < row.epoch.0 = subst (HasEnded epoch) found e in omega (arith, less, same))) (λ (a : P last). a) told
 
-      ended-row : (q : Option FrontRow) → p.row ≡ q → DeedEnds P (ended_by env p n epoch last q (end_answer epoch q))
+      ended-row : (q : Option FrontRow) → p.row ≡ q → DeedEnds P (front_ended_by env p n epoch last q (end_answer epoch q))
       ended-row None found = tt
       ended-row (Some row) found = go (is_away epoch row.stage) refl (ended_with epoch row.ended_by) where
-        go : (a : Bool) → is_away epoch row.stage ≡ a → (b : Bool) → DeedEnds P (ended_by env p n epoch last (Some row) (cond a (New (next_epoch row)) (cond b Again Stale)))
+        go : (a : Bool) → is_away epoch row.stage ≡ a → (b : Bool) → DeedEnds P (front_ended_by env p n epoch last (Some row) (cond a (New (next_epoch row)) (cond b Again Stale)))
         go true away b = new-end row found away
         go false away true = tt
         go false away false = tt
@@ -155,7 +155,7 @@ module _ (env : FrontEnv) (most : env.serve.stream ≤ 2 ^ 30) (x : Conn) (s : S
   abbrev q : FrontPart
   q = x.part.front
 
-  abbrev Goes : Deed → Type 0
+  abbrev Goes : FrontDeed → Type 0
   Goes d = DeedEnds P d
 
   abbrev Truly : Ending → Type 0
@@ -188,7 +188,7 @@ module _ (env : FrontEnv) (most : env.serve.stream ≤ 2 ^ 30) (x : Conn) (s : S
 
   settled-ends : (row : FrontRow) (rest : FrontRest) (w : Service) (t : Option (List ℕ)) → So env.serve l.w l.out l.vs w [] → stops.Rests env.serve (record { service = w; target = t }) → MayMove w.block t → Goes (settled_by env q row rest w t)
   settled-ends row rest w None so rests may =
-      held-stage (settled env.serve w).0 (settled-end env.serve l.w s.iss l.out l.vs o.begins w [] so (λ over calm. reads-nothing w.block (rests refl over calm)))
+      held-stage (serving_settled env.serve w).0 (settled-end env.serve l.w s.iss l.out l.vs o.begins w [] so (λ over calm. reads-nothing w.block (rests refl over calm)))
   settled-ends row rest w (Some path) so rests may = placed-ends row rest w path (env.first path) (frozen-open w.block may)
 
   -- ---- where the connection is
@@ -202,18 +202,18 @@ module _ (env : FrontEnv) (most : env.serve.stream ≤ 2 ^ 30) (x : Conn) (s : S
   -- ---- a segment
 
   module _ (sd : Said) (word : IsWord l.w sd) where
-    heard-ends : (row : FrontRow) (b : ControlBlock) → FrontHolds l.w l.out l.vs pend b (rest_of q.rest).count → HeldStops env.serve.files b → Goes (heard env q row (rest_of q.rest) (on_segment b sd).1)
+    heard-ends : (row : FrontRow) (b : ControlBlock) → FrontHolds l.w l.out l.vs pend b (front_rest q.rest).count → HeldStops env.serve.files b → Goes (heard env q row (front_rest q.rest) (on_segment b sd).1)
     heard-ends row b h held =
-        let count : ℕ = (rest_of q.rest).count in
+        let count : ℕ = (front_rest q.rest).count in
         let start : Service = serving (on_segment b sd).1 count [] in
-        let r : Reading = reads env.serve (record { service = start; target = None }) in
+        let r : Reading = front_reads env.serve (record { service = start; target = None }) in
         let so = reads-so env.serve l.w l.out l.vs most start (heard-so env.serve l.w l.out l.vs o.says [] b count h.holds is_stream sd word) in
         let rests : stops.Rests env.serve r = stops.reads-rest env.serve start (λ over closed. stops.arrived-stops env q stopped b sd held closed) in
         let may = reads-stop env.serve start (segment-serves count b sd h.serves) in
-        settled-ends row (rest_of q.rest) r.service r.target so.0 rests may.1
+        settled-ends row (front_rest q.rest) r.service r.target so.0 rests may.1
 
     met-ends : Goes (met env q sd)
-    met-ends = cond_both (is_plain_syn sd) (begun env q sd) Drops Goes
+    met-ends = cond_both (is_plain_syn sd) (front_begun env q sd) Drops Goes
         (λ t.
         let start : Service = serving (listening sd env.iss) 0 (rec.Took Front env.serve.c (record { 0 = 1 }) ∷ []) in
         held-stage (spoken env.serve start []).0 (open-turn start [] refl))
@@ -222,8 +222,8 @@ module _ (env : FrontEnv) (most : env.serve.stream ≤ 2 ^ 30) (x : Conn) (s : S
     hears-at : (row : FrontRow) → q.row ≡ Some row → (bytes : List ℕ) (st : FrontConn) → row.stage ≡ st → Goes (hears_at env q row bytes sd st)
     hears-at row found bytes (stage.Held b) at = heard-ends row b (agrees-at row (stage.Held b) found at) (stops-at row (stage.Held b) found at)
     hears-at row found bytes (stage.Waiting b) at =
-        let waits : FrontWaits l.w l.out l.vs pend b (rest_of q.rest).count = agrees-at row (stage.Waiting b) found at in
-        let w : Service = serving (on_segment b sd).1 (rest_of q.rest).count [] in
+        let waits : FrontWaits l.w l.out l.vs pend b (front_rest q.rest).count = agrees-at row (stage.Waiting b) found at in
+        let w : Service = serving (on_segment b sd).1 (front_rest q.rest).count [] in
         waiting-stage (spoken env.serve w []).0 (open-turn w [] (segment-closes b sd ∙ frozen-open b waits.1))
     hears-at row found bytes _ at = tt
 
@@ -238,20 +238,20 @@ module _ (env : FrontEnv) (most : env.serve.stream ≤ 2 ^ 30) (x : Conn) (s : S
 
   fires-at : (row : FrontRow) → q.row ≡ Some row → (st : FrontConn) → row.stage ≡ st → Goes (fires_at env q row st)
   fires-at row found (stage.Held b) at =
-      let h : FrontHolds l.w l.out l.vs pend b (rest_of q.rest).count = agrees-at row (stage.Held b) found at in
+      let h : FrontHolds l.w l.out l.vs pend b (front_rest q.rest).count = agrees-at row (stage.Held b) found at in
       let held : HeldStops env.serve.files b = stops-at row (stage.Held b) found at in
       let same : Same b (after_timer b) = timer-same b in
-      held-stage (fired env (rest_of q.rest) b).0
-      (timed-end env.serve l.w s.iss l.out l.vs o.begins o.says [] b (rest_of q.rest).count h.holds (ready_of env.serve (after_timer b) (timed b)) (λ calm. reads-nothing (after_timer b)
+      held-stage (front_fired env (front_rest q.rest) b).0
+      (timed-end env.serve l.w s.iss l.out l.vs o.begins o.says [] b (front_rest q.rest).count h.holds (serving_ready_of env.serve (after_timer b) (timed b)) (λ calm. reads-nothing (after_timer b)
       (⊎_elim (λ (t : HasStopped b). inl (same-stopped b (after_timer b) same t)) (λ (t : IsHeldBack env.serve.files b). inr (same-held env.serve.files b (after_timer b) same t)) held.1)))
   fires-at row found (stage.Waiting b) at =
-      let waits : FrontWaits l.w l.out l.vs pend b (rest_of q.rest).count = agrees-at row (stage.Waiting b) found at in
-      let w : Service = serving (after_timer b) (rest_of q.rest).count [] in
-      let before : List (Place × List ℕ) = ready_of env.serve (after_timer b) (timed b) in
+      let waits : FrontWaits l.w l.out l.vs pend b (front_rest q.rest).count = agrees-at row (stage.Waiting b) found at in
+      let w : Service = serving (after_timer b) (front_rest q.rest).count [] in
+      let before : List (Place × List ℕ) = serving_ready_of env.serve (after_timer b) (timed b) in
       waiting-stage (spoken env.serve w before).0 (open-turn w before ((timer-same b).3 ∙ frozen-open b waits.1))
   fires-at row found _ at = tt
 
-  fires : (r : Option FrontRow) → q.row ≡ r → Goes (fired_by env q r)
+  fires : (r : Option FrontRow) → q.row ≡ r → Goes (front_fired_by env q r)
   fires None found = tt
   fires (Some row) found = fires-at row found row.stage refl
 

@@ -3,7 +3,7 @@ use Rattle.std.proofs.Common.{◌≡◌, ◌<◌, ◌^◌, ℕ, false, List, [],
 use Rattle.lard_answers.specs.Answers.{FilesAt}
 use Rattle.lard_base.specs.declared.place.Place.{Place}
 use Rattle.lard_base.specs.declared.place.Place.TheVariants.{Client, Front, Node}
-use Rattle.lard_law_connections.specs.BytesAgreement.{IsInner, IsNode}
+use Rattle.lard_law_connections.specs.BytesAgreement.{IsInner, IsNodePlace}
 use Rattle.lard_law_connections.proofs.BytesLater.{said-stays}
 use Rattle.lard_laws.proofs.AcksMessages.{ended-same}
 use Rattle.lard_laws.specs.EndedEnds.{BodyEnds, IsTrueEnd, LetterEnds, LetterEndsOn, RowEnds, StageEnds, WasClosed}
@@ -93,7 +93,7 @@ module _ (P : Final → Type 0) (row : Option FrontRow) where
   pub inner-letters : (ls : List Letter) → Each IsInner ls → Each (LetterEnds P row) ls
   inner-letters [] h = tt
   inner-letters (l ∷ ls) h = (one l.from l.to h.0.0 h.0.1, inner-letters ls h.1) where
-    one : (from to : Place) → IsNode from → IsNode to → LetterEndsOn P row from to l.bytes
+    one : (from to : Place) → IsNodePlace from → IsNodePlace to → LetterEndsOn P row from to l.bytes
     one (Node n) (Node m) f t = tt
     one (Node n) Front f t = absurd t
     one (Node n) (Client c) f t = absurd t

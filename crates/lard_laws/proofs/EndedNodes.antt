@@ -6,9 +6,9 @@ use Rattle.lard_base.specs.declared.parts.EndpointParts.{EndpointParts}
 use Rattle.lard_base.specs.declared.place.Place.{Place}
 use Rattle.lard_base.specs.declared.place.Place.TheVariants.{Client, Front, Node}
 use Rattle.lard_base.specs.declared.place.TimerKind.TheVariants as timer
-use Rattle.lard_rules.specs.Bounds.{IsNumber}
+use Rattle.lard_rules.specs.Bounds.{IsConnNumber}
 use Rattle.lard_laws.proofs.AcksOffers.{IsOfferOf, adopted-is, moved, offer-is}
-use Rattle.lard_law_connections.specs.BytesAgreement.{AreOnTheWay, HoldsIt, IsOpen, RowAgrees, StayAgrees, StayComesOn}
+use Rattle.lard_law_connections.specs.BytesAgreement.{AreOnTheWay, HoldsItPending, IsOpen, RowAgrees, StayAgrees, StayComesOn}
 use Rattle.lard_law_connections.proofs.BytesHolding.{begins-so, heard-so, same-so}
 use Rattle.lard_law_connections.proofs.BytesNodeMoves.{has-it}
 use Rattle.lard_law_connections.proofs.BytesServing.{MayGo, So, go-on}
@@ -25,7 +25,7 @@ use Rattle.lard_law_connections.proofs.PlacesTurns.{IsPlaced}
 use Rattle.lard_law_connections.specs.Stops.{BackStageStops, NodeStops, RowStops, StayStops}
 use Rattle.lard_law_connections.proofs.StopsNodes as stops
 use Rattle.lard_law_connections.proofs.StopsSame.{segment-closes, timer-same}
-use Rattle.lard_law_view.specs.View.{AreSent, Conn, IsSound, Spells, Was, letter, node_does}
+use Rattle.lard_law_view.specs.View.{AreSent, Conn, IsConnSound, SpellsMessage, Was, letter, node_does}
 use Rattle.lard_endpoint.specs.Arriving.{on_segment}
 use Rattle.lard_endpoint.specs.Control.{ControlBlock}
 use Rattle.lard_endpoint.specs.Leaving.{after_timer, timed}
@@ -34,8 +34,8 @@ use Rattle.lard_handoff_back.specs.declared.row.BackConn.{BackConn}
 use Rattle.lard_handoff_back.specs.declared.row.BackConn.TheVariants as back
 use Rattle.lard_handoff_back.specs.declared.row.BackRow.{BackRow}
 use Rattle.lard_handoff_back.specs.declared.table.Adopt.TheVariants.{New, Again, Stale}
-use Rattle.lard_handoff_back.specs.Back.{awaits_ack, endpoint_of, offer_answer, staying}
-use Rattle.lard_handoff_back.specs.Row.{held_in, is_gone}
+use Rattle.lard_handoff_back.specs.Back.{awaits_ack, back_endpoint, offer_answer, staying}
+use Rattle.lard_handoff_back.specs.Row.{back_held, is_gone}
 use Rattle.lard_handoff_front.specs.declared.row.FrontConn.{FrontConn}
 use Rattle.lard_handoff_front.specs.declared.row.FrontConn.TheVariants as stage
 use Rattle.lard_handoff_front.specs.declared.row.FrontRow.{FrontRow}
@@ -51,7 +51,7 @@ use Rattle.lard_message.specs.declared.message.Body.TheVariants as body
 use Rattle.lard_rules.specs.declared.stay.Asked.{Asked}
 use Rattle.lard_rules.specs.declared.stay.Stay.{Stay}
 use Rattle.lard_rules.specs.declared.stay.Want.{Want}
-use Rattle.lard_rules.specs.Node.{Deed, Drops, Says, Does, NodePart, again_sent, asked_sent, begins, both_of, come_by, count_of, ended_sent, fired_by, gone, heard_by, here, is_awaited, kept_after, node_acknowledged, node_content, node_forwarded, node_offered, node_read, node_tagged, node_timer, offered_by, read_by, saying, tagged_by, taken_sent, turn_by, wants_sent, with_work, work_of}
+use Rattle.lard_rules.specs.Node.{NodeDeed, Drops, Says, Does, NodePart, again_sent, asked_sent, node_begins, both_of, come_by, reset_count, ended_sent, node_fired_by, gone, node_heard_by, here, is_tag_awaited, kept_after, node_acknowledged, node_content, node_forwarded, node_offered, node_read, node_tagged, node_timer, offered_by, node_read_by, node_saying, tagged_by, taken_sent, turn_by, wants_sent, with_work, work_of}
 use Rattle.lard_rules.specs.Stay.{NodeEnv, Work, came_for, come_progress, goes_on, read_progress, reads_batch, tagged}
 use Rattle.lard_request.specs.declared.verdict.Verdict.{Verdict}
 use Rattle.lard_resend.specs.declared.kept.Kept.{Kept}
@@ -62,7 +62,7 @@ use Rattle.lard_rules.specs.declared.places.Ending.TheVariants as ending
 use Rattle.lard_rules.specs.declared.places.Station.{Station}
 use Rattle.lard_rules.specs.declared.places.Turn.{Turn}
 use Rattle.lard_rules.specs.Loop.{state_of}
-use Rattle.lard_rules.specs.Serving.{Service, ready_of, serving, settled, spoken}
+use Rattle.lard_rules.specs.Serving.{Service, serving_ready_of, serving, serving_settled, spoken}
 use Rattle.lard_segment.specs.Segment.{Said}
 use Rattle.lard_law_view.specs.Truth.{IsStream}
 use Rattle.lard_law_view.proofs.Speaking.{speaks-stream}
@@ -71,7 +71,7 @@ use Rattle.lard_law_view.proofs.EndpointSends.{AllTo, ready-to}
 some-same : {A : Type 0} (a b : A) → Some a ≡ Some b → a ≡ b
 some-same a b e = cc
 
-module _ (env : NodeEnv) (most : env.serve.stream ≤ 2 ^ 30) (x : Conn) (sound_x : IsSound x) (at_place : IsPlaced x) (s : Station) (l : Talk) (pend : List Verdict) (o : IsOpen env.serve.files x l pend s) (n : ℕ) (stopped : NodeStops (x.part.nodes n)) (h : TellsEnds (IsTrueEnd env.serve.files l.w s.iss) x) (heads : List Seen) where
+module _ (env : NodeEnv) (most : env.serve.stream ≤ 2 ^ 30) (x : Conn) (sound_x : IsConnSound x) (at_place : IsPlaced x) (s : Station) (l : Talk) (pend : List Verdict) (o : IsOpen env.serve.files x l pend s) (n : ℕ) (stopped : NodeStops (x.part.nodes n)) (h : TellsEnds (IsTrueEnd env.serve.files l.w s.iss) x) (heads : List Seen) where
   abbrev P : Final → Type 0
   P = IsTrueEnd env.serve.files l.w s.iss
 
@@ -81,7 +81,7 @@ module _ (env : NodeEnv) (most : env.serve.stream ≤ 2 ^ 30) (x : Conn) (sound_
   abbrev ours : NodePart
   ours = x.part.nodes n
 
-  abbrev Goes : Deed → Type 0
+  abbrev Goes : NodeDeed → Type 0
   Goes d = PlaceEnds x (node_does x n heads d) P
 
   abbrev Truly : Ending → Type 0
@@ -112,7 +112,7 @@ module _ (env : NodeEnv) (most : env.serve.stream ≤ 2 ^ 30) (x : Conn) (sound_
 
   ended-tells : (over : Option ℕ) (e : Ending) → Truly e → Tells (ended_sent env over e)
   ended-tells over (ending.Here b count) t = tt
-  ended-tells over (ending.Over last) t = (ended-ends P row n env.serve.c env.epoch (count_of over) last t.0 t.1 t.2, tt)
+  ended-tells over (ending.Over last) t = (ended-ends P row n env.serve.c env.epoch (reset_count over) last t.0 t.1 t.2, tt)
 
   -- what is held of it was sent before
   sent-tells : (ks : List Kept) → AreSent x (Node n) ks → Tells (map sent_of ks)
@@ -158,7 +158,7 @@ module _ (env : NodeEnv) (most : env.serve.stream ≤ 2 ^ 30) (x : Conn) (sound_
       let on : Work = goes_on env k in
       let so : InHand on = goes-so env l.w l.out l.vs most k works right in
       let rests : stops.Rests env on = stops.goes-rest env k may in
-      turn-ends part before on (settled env.serve on.service)
+      turn-ends part before on (serving_settled env.serve on.service)
       (settled-end env.serve l.w s.iss l.out l.vs o.begins on.service (verdicts_of on.batch) so (λ over calm closed. let t = (rests over calm).1 closed in (t.0, λ keeps. ap verdicts_of (t.1 keeps))))
       (settled-to env.serve on.service) first
 
@@ -166,11 +166,11 @@ module _ (env : NodeEnv) (most : env.serve.stream ≤ 2 ^ 30) (x : Conn) (sound_
 
   record IsStay (b : ControlBlock) (t : Stay) : Type 0 where
     pend_is : pend ≡ verdicts_of t.batch
-    holds : HoldsIt l.w l.out l.vs pend b t.served
+    holds : HoldsItPending l.w l.out l.vs pend b t.served
     ways : AreOnTheWay env.serve.files t.batch
     stays : StayStops b t.batch
 
-  stage-stay : (r : BackRow) → ours.row ≡ Some r → (st : BackConn) → r.stage ≡ st → (t : Option Stay) → ours.stay ≡ t → (y : ControlBlock × Stay) → both_of (held_in st) t ≡ Some y → IsStay y.0 y.1
+  stage-stay : (r : BackRow) → ours.row ≡ Some r → (st : BackConn) → r.stage ≡ st → (t : Option Stay) → ours.stay ≡ t → (y : ControlBlock × Stay) → both_of (back_held st) t ≡ Some y → IsStay y.0 y.1
   stage-stay r found (back.Here b) at (Some t) is y e =
       let it = has-it x l pend o.seat at_place n r b found at in
       let back-agrees : BackConn → Type 0 = λ st. RowAgrees l.w l.out l.vs pend l.was_reset x.c ours (Some (record { stage = st; epoch = r.epoch })) in
@@ -181,7 +181,7 @@ module _ (env : NodeEnv) (most : env.serve.stream ≤ 2 ^ 30) (x : Conn) (sound_
   stage-stay r found (back.Here b) at None is y e = let no : ◌≡◌ {A = Option (ControlBlock × Stay)} None (Some y) = e in absurd cc
   stage-stay r found _ at t is y e = let no : ◌≡◌ {A = Option (ControlBlock × Stay)} None (Some y) = e in absurd cc
 
-  row-stay : (r : Option BackRow) → ours.row ≡ r → (y : ControlBlock × Stay) → both_of (endpoint_of r) ours.stay ≡ Some y → IsStay y.0 y.1
+  row-stay : (r : Option BackRow) → ours.row ≡ r → (y : ControlBlock × Stay) → both_of (back_endpoint r) ours.stay ≡ Some y → IsStay y.0 y.1
   row-stay None found y e = let no : ◌≡◌ {A = Option (ControlBlock × Stay)} None (Some y) = e in absurd cc
   row-stay (Some r) found y e = stage-stay r found r.stage refl ours.stay refl y e
 
@@ -190,7 +190,7 @@ module _ (env : NodeEnv) (most : env.serve.stream ≤ 2 ^ 30) (x : Conn) (sound_
     go : (r : Option BackRow) → ours.row ≡ r → both_of (staying env.epoch r) ours.stay ≡ Some y → IsStay y.0 y.1
     go None found e = let no : ◌≡◌ {A = Option (ControlBlock × Stay)} None (Some y) = e in absurd cc
     go (Some r) found e = by_epoch (r.epoch.0 == env.epoch) e where
-      by_epoch : (t : Bool) → both_of (cond t (held_in r.stage) None) ours.stay ≡ Some y → IsStay y.0 y.1
+      by_epoch : (t : Bool) → both_of (cond t (back_held r.stage) None) ours.stay ≡ Some y → IsStay y.0 y.1
       by_epoch true f = stage-stay r found r.stage refl ours.stay refl y f
       by_epoch false f = let no : ◌≡◌ {A = Option (ControlBlock × Stay)} None (Some y) = f in absurd cc
 
@@ -199,7 +199,7 @@ module _ (env : NodeEnv) (most : env.serve.stream ≤ 2 ^ 30) (x : Conn) (sound_
 
   -- ---- a segment that was forwarded
 
-  heard-ends : (sd : Said) → IsWord l.w sd → (q : Option (ControlBlock × Stay)) → here env.epoch ours ≡ q → Goes (heard_by env ours (Ok sd) q)
+  heard-ends : (sd : Said) → IsWord l.w sd → (q : Option (ControlBlock × Stay)) → here env.epoch ours ≡ q → Goes (node_heard_by env ours (Ok sd) q)
   heard-ends sd word None e = dropped
   heard-ends sd word (Some y) e =
       let i : IsStay y.0 y.1 = here-stay y e in
@@ -215,7 +215,7 @@ module _ (env : NodeEnv) (most : env.serve.stream ≤ 2 ^ 30) (x : Conn) (sound_
 
   tagged-by : (number : ℕ) (tags : List ℕ) (q : Option (ControlBlock × Stay)) → here env.epoch ours ≡ q → Goes (tagged_by env number tags ours q)
   tagged-by number tags None e = dropped
-  tagged-by number tags (Some y) e = cond_both (is_awaited env number tags ours y.1) _ Drops Goes
+  tagged-by number tags (Some y) e = cond_both (is_tag_awaited env number tags ours y.1) _ Drops Goes
       (λ t.
       let i : IsStay y.0 y.1 = here-stay y e in
       goes-ends (record ours { kept = without timer.Ask 0 ours.kept }) [] (tagged env tags (work_of y.0 y.1)) (tagged-so env l.w l.out l.vs tags (work_of y.0 y.1) (same-works y i)) (tagged-right env tags (work_of y.0 y.1) i.ways)
@@ -237,7 +237,7 @@ module _ (env : NodeEnv) (most : env.serve.stream ≤ 2 ^ 30) (x : Conn) (sound_
   pub content-ends : (from r : ℕ) → Goes (node_content env ours from r)
   content-ends from r = come-by from r (here env.epoch ours) refl
 
-  read-by : (r : ℕ) (q : Option (ControlBlock × Stay)) → here env.epoch ours ≡ q → Goes (read_by env r ours q)
+  read-by : (r : ℕ) (q : Option (ControlBlock × Stay)) → here env.epoch ours ≡ q → Goes (node_read_by env r ours q)
   read-by r None e = dropped
   read-by r (Some y) e =
       let i : IsStay y.0 y.1 = here-stay y e in
@@ -250,35 +250,35 @@ module _ (env : NodeEnv) (most : env.serve.stream ≤ 2 ^ 30) (x : Conn) (sound_
   -- ---- the end of a stay is acknowledged
 
   pub acknowledged-ends : Goes (node_acknowledged env ours)
-  acknowledged-ends = cond_both (awaits_ack env.epoch ours.row) (Does (record ours { row = gone ours.row; kept = without timer.Ended 0 ours.kept }, saying [])) Drops Goes (λ t. record { front = h.front; letters = tt }) (λ t. dropped)
+  acknowledged-ends = cond_both (awaits_ack env.epoch ours.row) (Does (record ours { row = gone ours.row; kept = without timer.Ended 0 ours.kept }, node_saying [])) Drops Goes (λ t. record { front = h.front; letters = tt }) (λ t. dropped)
 
   -- ---- its timers
 
-  fires-by : (q : Option (ControlBlock × Stay)) → both_of (endpoint_of ours.row) ours.stay ≡ q → Goes (fired_by env ours q)
+  fires-by : (q : Option (ControlBlock × Stay)) → both_of (back_endpoint ours.row) ours.stay ≡ q → Goes (node_fired_by env ours q)
   fires-by None e = says (again_sent ours) again-tells
   fires-by (Some y) e =
       let i : IsStay y.0 y.1 = row-stay ours.row refl y e in
       let w : Service = serving (after_timer y.0) y.1.served [] in
-      let before : List (Place × List ℕ) = ready_of env.serve (after_timer y.0) (timed y.0) in
+      let before : List (Place × List ℕ) = serving_ready_of env.serve (after_timer y.0) (timed y.0) in
       let rests : stops.IsAt (after_timer y.0) y.1.batch = stops.same-at y.0 (after_timer y.0) y.1.batch (timer-same y.0) (i.stays.open_, i.stays.closed) in
       turn-ends ours (again_sent ours) (work_of (after_timer y.0) y.1) (spoken env.serve w before)
       (timed-end env.serve l.w s.iss l.out l.vs o.begins o.says pend y.0 y.1.served i.holds before (λ calm closed. let t = rests.1 closed in (t.0, λ keeps. i.pend_is ∙ ap verdicts_of (t.1 keeps))))
       (spoken-to env.serve w before (ready-to env.serve (after_timer y.0) (timed y.0))) again-tells
 
   pub timer-ends : Goes (node_timer env ours)
-  timer-ends = fires-by (both_of (endpoint_of ours.row) ours.stay) refl
+  timer-ends = fires-by (both_of (back_endpoint ours.row) ours.stay) refl
 
   -- ---- an Offer
 
-  module _ (number : IsNumber x.c) (epoch : ℕ) (epoch_is : env.epoch ≡ epoch) (parts : EndpointParts) (bytes : List ℕ) (spells : Spells x.c epoch (body.Offer parts) bytes) (was : Was x Front (Node n) bytes) where
+  module _ (number : IsConnNumber x.c) (epoch : ℕ) (epoch_is : env.epoch ≡ epoch) (parts : EndpointParts) (bytes : List ℕ) (spells : SpellsMessage x.c epoch (body.Offer parts) bytes) (was : Was x Front (Node n) bytes) where
     said : IsDecided epoch ours.row ⊎ IsOffered n epoch row
     said = came-says x Front (Node n) epoch (body.Offer parts) bytes at_place.letters was spells
 
     -- what is adopted has answered all that it read
-    begins-works : IsOfferOf l pend parts → So env.serve l.w l.out l.vs (begins env parts).service []
+    begins-works : IsOfferOf l pend parts → So env.serve l.w l.out l.vs (node_begins env parts).service []
     begins-works f =
         let held = f.holds.holds in
-        subst (λ (q : EndpointParts). So env.serve l.w l.out l.vs (begins env q).service []) (sym f.same)
+        subst (λ (q : EndpointParts). So env.serve l.w l.out l.vs (node_begins env q).service []) (sym f.same)
         (subst (λ (d : ControlBlock). So env.serve l.w l.out l.vs (serving d f.count (rec.Took (Node env.n) env.serve.c (record { 0 = env.epoch }) ∷ [])) []) (adopted-is f.block f.count (frozen_stands f.block held.sound f.frozen) held.sound.same_irs)
         (begins-so env.serve l.w l.out l.vs o.says [] (moved f.block) f.count (rec.Took (Node env.n) env.serve.c (record { 0 = env.epoch }) ∷ []) held.counted
         (record { same_irs = held.sound.same_irs; speaks = held.speaks; out_is = held.out_is; hears = held.hears })
@@ -288,7 +288,7 @@ module _ (env : NodeEnv) (most : env.serve.stream ≤ 2 ^ 30) (x : Conn) (sound_
 
     took-ends : IsOfferOf l pend parts → Goes (offered_by env parts ours New)
     took-ends f =
-        let first : Work = begins env parts in
+        let first : Work = node_begins env parts in
         let so : So env.serve l.w l.out l.vs first.service [] = begins-works f in
         let may : MayGo l.w so.vs_now [] first.service = go-on env.serve l.w l.out l.vs first.service [] so refl refl refl in
         goes-ends ours (taken_sent env) (state_of (reads_batch env true first)) (first-so env l.w l.out l.vs true first so may refl) (batch-right env true first tt) (stops.batch-at env true first refl refl).1 taken-tells

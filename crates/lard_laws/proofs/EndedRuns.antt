@@ -23,8 +23,8 @@ use Rattle.lard_law_connections.proofs.PlacesRuns.{each-placed}
 use Rattle.lard_law_connections.proofs.PlacesTurns.{IsPlaced, Owes}
 use Rattle.lard_law_connections.specs.Stops.{ReadingStops}
 use Rattle.lard_law_connections.proofs.StopsRuns.{connections-stop}
-use Rattle.lard_law_view.specs.Carry.{IsUntouchedLaw, MayMove, Untouched, setting, tale_at}
-use Rattle.lard_law_view.specs.View.{Conn, FrontRules, IsFrontEnv, IsMachine, IsNodeEnv, Move, NodeRules, Said as SaidIn, Setting, Spells, UntouchedRules, Was, brought_said, contents, event_seen, front_does, grown, letters_of, node_does, nothing_said, packet_seen, reads_first, stands}
+use Rattle.lard_law_view.specs.Carry.{IsUntouchedLaw, MayRestOn, Untouched, setting, tale_at}
+use Rattle.lard_law_view.specs.View.{Conn, FrontRules, IsFrontEnv, IsMachine, IsNodeEnv, Move, NodeRules, TurnSaid as SaidIn, Setting, SpellsMessage, UntouchedRules, Was, brought_said, content_said, event_seen, front_does, grown, letters_of, node_does, nothing_said, packet_seen, reads_first, stands}
 use Rattle.lard_law_view.proofs.Carried.{carried}
 use Rattle.lard_law_view.proofs.Fine.{IsFine, fine}
 use Rattle.lard_law_view.proofs.Guarded.{untouched-both, untouched-law, untouched-weaker}
@@ -51,12 +51,12 @@ use Rattle.lard_law_view.specs.Truth.{Stream}
 
 -- ---- what a place's move leaves alone
 
-front-machine : (x : Conn) (heads : List Seen) (d : front.Deed) → IsMachine (front_does x heads d).place
+front-machine : (x : Conn) (heads : List Seen) (d : front.FrontDeed) → IsMachine (front_does x heads d).place
 front-machine x heads front.Drops = tt
 front-machine x heads (front.Says turn) = tt
 front-machine x heads (front.Does did) = tt
 
-node-machine : (x : Conn) (n : ℕ) (heads : List Seen) (d : node.Deed) → IsMachine (node_does x n heads d).place
+node-machine : (x : Conn) (n : ℕ) (heads : List Seen) (d : node.NodeDeed) → IsMachine (node_does x n heads d).place
 node-machine x n heads node.Drops = tt
 node-machine x n heads (node.Says messages) = tt
 node-machine x n heads (node.Does given) = tt
@@ -85,7 +85,7 @@ module _ (k : Setting) (small : k.stream ≤ 2 ^ 30) where
 
   -- ---- the front end
 
-  front-rule : (x : Conn) (heads : List Seen) (d : front.Deed) → told_by x heads ≡ (tale_at x).wrote → (Helps x (front_does x heads d) → Ends k.files x (front_does x heads d)) → Keeps k small x (front_does x heads d)
+  front-rule : (x : Conn) (heads : List Seen) (d : front.FrontDeed) → told_by x heads ≡ (tale_at x).wrote → (Helps x (front_does x heads d) → Ends k.files x (front_does x heads d)) → Keeps k small x (front_does x heads d)
   front-rule x heads d plain ends = place-rule x (front_does x heads d) (ap (told_by x) (front-heads x heads d) ∙ plain) (front-station x heads d)
       (λ help. notes-unwritten (front_does x heads d).place x.c (front_does x heads d).said.notes (front-machine x heads d) help.own.notes) ends
 
@@ -104,7 +104,7 @@ module _ (k : Setting) (small : k.stream ≤ 2 ^ 30) where
       within : (env : front.FrontEnv) → IsFrontEnv k x.c env → env.serve.stream ≤ 2 ^ 30
       within env is = subst (λ (m : ℕ). m ≤ 2 ^ 30) (sym is.stream) small
 
-  front-deed : (x : Conn) (heads : List Seen) (d : front.Deed) → told_by x heads ≡ (tale_at x).wrote → ((P : Final → Type 0) → TellsEnds P x → DeedEnds P d) → Keeps k small x (front_does x heads d)
+  front-deed : (x : Conn) (heads : List Seen) (d : front.FrontDeed) → told_by x heads ≡ (tale_at x).wrote → ((P : Final → Type 0) → TellsEnds P x → DeedEnds P d) → Keeps k small x (front_does x heads d)
   front-deed x heads d plain ends = front-rule x heads d plain (λ help t at h o stops told. deed-place (IsTrueEnd k.files h.talk.w t.iss) x told heads d (ends (IsTrueEnd k.files h.talk.w t.iss) told))
 
   fronts : FrontRules k (Keeps k small)
@@ -129,7 +129,7 @@ module _ (k : Setting) (small : k.stream ≤ 2 ^ 30) where
 
   -- ---- the nodes
 
-  node-rule : (x : Conn) (n : ℕ) (heads : List Seen) (d : node.Deed) → told_by x heads ≡ (tale_at x).wrote → (Helps x (node_does x n heads d) → Ends k.files x (node_does x n heads d)) → Keeps k small x (node_does x n heads d)
+  node-rule : (x : Conn) (n : ℕ) (heads : List Seen) (d : node.NodeDeed) → told_by x heads ≡ (tale_at x).wrote → (Helps x (node_does x n heads d) → Ends k.files x (node_does x n heads d)) → Keeps k small x (node_does x n heads d)
   node-rule x n heads d plain ends = place-rule x (node_does x n heads d) (ap (told_by x) (node-heads x n heads d) ∙ plain) (node-station x n heads d)
       (λ help. notes-unwritten (node_does x n heads d).place x.c (node_does x n heads d).said.notes (node-machine x n heads d) help.own.notes) ends
 
@@ -141,7 +141,7 @@ module _ (k : Setting) (small : k.stream ≤ 2 ^ 30) where
       → Keeps k small x (stands x place heads said)
   stands-rule x place heads said plain notes letters = place-rule x (stands x place heads said) plain refl (λ help. notes) (λ help t at h o stops told. record { front = told.front; letters = letters (IsTrueEnd k.files h.talk.w t.iss) })
 
-  node-hears : (x : Conn) (n epoch : ℕ) (env : NodeEnv) (segment bytes : List ℕ) → IsNodeEnv k x.c n epoch env → Spells x.c epoch (body.Forward segment) bytes → Was x Front (Node n) bytes
+  node-hears : (x : Conn) (n epoch : ℕ) (env : NodeEnv) (segment bytes : List ℕ) → IsNodeEnv k x.c n epoch env → SpellsMessage x.c epoch (body.Forward segment) bytes → Was x Front (Node n) bytes
       → Keeps k small x (node_does x n (packet_seen Front (Node n) bytes) (node_forwarded env (x.part.nodes n) (decoded segment x.c ToCluster)))
   node-hears x n epoch env segment bytes is spells was =
       let heads : List Seen = packet_seen Front (Node n) bytes in
@@ -172,7 +172,7 @@ module _ (k : Setting) (small : k.stream ≤ 2 ^ 30) where
         node-rule x n heads (node_acknowledged env (x.part.nodes n)) refl (λ help. by-files x (node_does x n heads (node_acknowledged env (x.part.nodes n))) env.serve.files is.files (λ t at h o stops told.
         nodes_of.acknowledged-ends env (node-within x.c n epoch env is) x help.sound help.placed t h.talk h.pend o n (stops.1 n) told heads));
     read = λ x n epoch r env path is.
-        let d : node.Deed = node_read env (x.part.nodes n) r in
+        let d : node.NodeDeed = node_read env (x.part.nodes n) r in
         let v : Move = node_does x n [] d in
         let first : Rec = rec.Read n n x.c r path in
         place-rule x (reads_first first v) (ap (told_by x) (node-heads x n [] d)) (node-station x n [] d) (λ help. notes-unwritten (reads_first first v).place x.c (reads_first first v).said.notes (node-machine x n [] d) help.own.notes)
@@ -182,7 +182,7 @@ module _ (k : Setting) (small : k.stream ≤ 2 ^ 30) where
         let heads : List Seen = event_seen (event.Timer (Node n) x.c) in
         node-rule x n heads (node_timer env (x.part.nodes n)) refl (λ help. by-files x (node_does x n heads (node_timer env (x.part.nodes n))) env.serve.files is.files (λ t at h o stops told.
         nodes_of.timer-ends env (node-within x.c n _ env is) x help.sound help.placed t h.talk h.pend o n (stops.1 n) told heads));
-    answers = λ x n from epoch r path file bytes there spells was. stands-rule x (Node n) (packet_seen (Node from) (Node n) bytes) (contents k n from x.c epoch r path) refl tt (λ P. (tt, tt));
+    answers = λ x n from epoch r path file bytes there spells was. stands-rule x (Node n) (packet_seen (Node from) (Node n) bytes) (content_said k n from x.c epoch r path) refl tt (λ P. (tt, tt));
     queues = λ x n from epoch r path file bytes there spells was. stands-rule x (Node n) (packet_seen (Node from) (Node n) bytes) (record nothing_said { notes = rec.Queued n from x.c r path ∷ [] }) refl (tt, tt) (λ P. tt);
     brings = λ x n from epoch r path. stands-rule x (Node n) [] (brought_said k n from x.c epoch r path) refl (tt, tt) (λ P. (tt, tt));
   } where
@@ -205,10 +205,10 @@ module _ (k : Setting) (small : k.stream ≤ 2 ^ 30) where
   Given x = IsPlaced x × Untouched (IsTruthful k.files) x × ReadingStops k.files x
 
   abbrev Owed : Conn → Move → Type 0
-  Owed x v = MayMove Given x → IsPlaced x → Owes x v
+  Owed x v = MayRestOn Given x → IsPlaced x → Owes x v
 
   abbrev Wanted : Conn → Move → Type 0
-  Wanted x v = MayMove Given x → (tale_at x).touched ≡ false → EndsAreTrue k.files x → EndsAreTrue k.files (grown x v)
+  Wanted x v = MayRestOn Given x → (tale_at x).touched ≡ false → EndsAreTrue k.files x → EndsAreTrue k.files (grown x v)
 
   abbrev All : Conn → Move → Type 0
   All x v = (IsFine x v × Owed x v) × Keeps k small x v

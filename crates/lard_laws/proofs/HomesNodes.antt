@@ -6,7 +6,7 @@ use Rattle.lard_law_connections.proofs.KeptHere.{IsHere, here-is}
 use Rattle.lard_law_connections.proofs.KeptNodes.{DeedGoes, IsOfEpoch}
 use Rattle.lard_handoff_back.specs.declared.row.BackConn.TheVariants as back
 use Rattle.lard_law_connections.specs.Places.{IsOffered, Offers}
-use Rattle.lard_law_view.specs.View.{Conn, grown, node_does, node_put}
+use Rattle.lard_law_view.specs.View.{Conn, grown, node_does, node_put_back}
 use Rattle.lard_law_view.proofs.Parts.{put-each}
 use Rattle.lard_base.specs.declared.ids.Epoch.{Epoch}
 use Rattle.lard_endpoint.specs.Control.{ControlBlock}
@@ -17,7 +17,7 @@ use Rattle.lard_handoff_front.specs.declared.row.FrontRow.{FrontRow}
 use Rattle.lard_history.specs.Own.{Seen}
 use Rattle.std.proofs.Common.{List}
 use Rattle.lard_rules.specs.declared.stay.Stay.{Stay}
-use Rattle.lard_rules.specs.Node.{Deed, Drops, Says, Does, NodePart, gone, here}
+use Rattle.lard_rules.specs.Node.{NodeDeed, Drops, Says, Does, NodePart, gone, here}
 
 -- ---- a row goes on
 
@@ -26,7 +26,7 @@ pub record RowGoes (o q : Option BackRow) : Type 0 where
   pub none : o ≡ None → q ≡ None
   pub knows : (e : ℕ) → KnowsOf e o → KnowsOf e q
 
-abbrev pub DeedGoesOn : Option BackRow → Deed → Type 0
+abbrev pub DeedGoesOn : Option BackRow → NodeDeed → Type 0
 DeedGoesOn o Drops = Unit {0}
 DeedGoesOn o (Says ms) = Unit {0}
 DeedGoesOn o (Does given) = RowGoes o given.0.row
@@ -36,7 +36,7 @@ knows-of d e None of same = tt
 knows-of d e (Some row) of same = of ∙ same
 
 -- a rule of a stay
-pub stay-goes : (files : FilesAt) (d : ℕ) (p : NodePart) (deed : Deed) → DeedGoes files d (here d p) deed → DeedGoesOn p.row deed
+pub stay-goes : (files : FilesAt) (d : ℕ) (p : NodePart) (deed : NodeDeed) → DeedGoes files d (here d p) deed → DeedGoesOn p.row deed
 stay-goes files d p Drops k = tt
 stay-goes files d p (Says ms) k = tt
 stay-goes files d p (Does given) k = go (here d p) refl k where
@@ -58,7 +58,7 @@ gone-goes (Some row) = record { none = λ e. let no : Some row ≡ None = e in a
 
 module _ (nodes : ℕ → NodePart) (n : ℕ) (q : NodePart) where
   abbrev after : ℕ → NodePart
-  after = node_put nodes n q
+  after = node_put_back nodes n q
 
   module _ (goes : RowGoes (nodes n).row q.row) where
     each-goes : (m : ℕ) → RowGoes (nodes m).row (after m).row
@@ -96,7 +96,7 @@ module _ (nodes : ℕ → NodePart) (n : ℕ) (q : NodePart) where
 
 -- ---- its move
 
-pub node-move : (x : Conn) (n : ℕ) (heads : List Seen) (d : Deed) → DeedGoesOn (x.part.nodes n).row d → HasOneHome x → HasOneHome (grown x (node_does x n heads d))
+pub node-move : (x : Conn) (n : ℕ) (heads : List Seen) (d : NodeDeed) → DeedGoesOn (x.part.nodes n).row d → HasOneHome x → HasOneHome (grown x (node_does x n heads d))
 node-move x n heads Drops k h = h
 node-move x n heads (Says ms) k h = h
 node-move x n heads (Does given) k h = row-goes x.part.nodes n given.0 k x.part.front.row h

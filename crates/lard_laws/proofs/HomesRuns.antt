@@ -10,7 +10,7 @@ use Rattle.lard_laws.specs.Homes.{HasOneHome}
 use Rattle.lard_laws.specs.HomesLaws.{ConnectionsHaveOneHome}
 use Rattle.lard_laws.proofs.HomesFronts.{AdmittedHomes, admitted-home, asked-home, ended-home, front-move, gets-home, taken-home, timer-home}
 use Rattle.lard_laws.proofs.HomesNodes.{DeedGoesOn, gone-goes, node-move, offered-home, stay-goes}
-use Rattle.lard_law_connections.specs.Kept.{IsKeptByStage, NodeKeeps}
+use Rattle.lard_law_connections.specs.Kept.{IsKeptByStage, NodeKeepsMessages}
 use Rattle.lard_law_connections.specs.KeptLaws.{AnyNode}
 use Rattle.lard_law_connections.proofs.KeptHere.{here-timer}
 use Rattle.lard_law_connections.proofs.KeptNodes as kept
@@ -21,8 +21,8 @@ use Rattle.lard_law_connections.proofs.PlacesFrontMessages.{came-says}
 use Rattle.lard_law_connections.proofs.PlacesNodeRules.{not-decided}
 use Rattle.lard_law_connections.proofs.PlacesRuns.{each-placed}
 use Rattle.lard_law_connections.proofs.PlacesTurns.{IsPlaced}
-use Rattle.lard_law_view.specs.Carry.{IsLaw, MayMove, setting}
-use Rattle.lard_law_view.specs.View.{ClientRules, Conn, FrontRules, IsNodeEnv, Move, NodeRules, Rules, Setting, Spells, Was, event_seen, grown, node_does, packet_seen}
+use Rattle.lard_law_view.specs.Carry.{IsLaw, MayRestOn, setting}
+use Rattle.lard_law_view.specs.View.{ClientRules, Conn, FrontRules, IsNodeEnv, Move, NodeRules, Rules, Setting, SpellsMessage, Was, event_seen, grown, node_does, packet_seen}
 use Rattle.lard_law_view.proofs.Carried.{carried}
 use Rattle.lard_files.specs.Files.{file_at}
 use Rattle.lard_rules.specs.Front.{ask_of, front_asked, front_ended, front_gets, front_taken, front_timer}
@@ -33,7 +33,7 @@ use Rattle.lard_history.specs.Own.{Seen}
 use Rattle.lard_history.proofs.Each.{Each}
 use Rattle.lard_message.specs.declared.message.Body.TheVariants as body
 use Rattle.lard_rules.specs.Node as node
-use Rattle.lard_rules.specs.Node.{NodePart, here, node_acknowledged, node_content, node_forwarded, node_offered, node_read, node_tagged, node_timer, offered_by, saying}
+use Rattle.lard_rules.specs.Node.{NodePart, here, node_acknowledged, node_content, node_forwarded, node_offered, node_read, node_tagged, node_timer, offered_by, node_saying}
 use Rattle.lard_rules.specs.Stay.{NodeEnv}
 use Rattle.lard_resend.specs.Kept.{without}
 use Rattle.lard_segment.specs.declared.segment.Dir.TheVariants.{ToCluster}
@@ -50,7 +50,7 @@ any (n ∷ ns) = (tt, any ns)
 
 module _ (k : Setting) where
   abbrev Homes : Conn → Move → Type 0
-  Homes x v = MayMove (Known k.files) x → HasOneHome x → HasOneHome (grown x v)
+  Homes x v = MayRestOn (Known k.files) x → HasOneHome x → HasOneHome (grown x v)
 
   clients : ClientRules k Homes
   clients = record {
@@ -78,15 +78,15 @@ module _ (k : Setting) where
   }
 
   -- a rule of a stay
-  by-node : (x : Conn) (n epoch : ℕ) (env : NodeEnv) → IsNodeEnv k x.c n epoch env → Known k.files x → (heads : List Seen) (d : node.Deed)
-      → (NodeKeeps AnyNode env.serve.files env.serve.c env.n (x.part.nodes n) → DeedGoes env.serve.files env.epoch (here env.epoch (x.part.nodes n)) d) → HasOneHome x → HasOneHome (grown x (node_does x n heads d))
+  by-node : (x : Conn) (n epoch : ℕ) (env : NodeEnv) → IsNodeEnv k x.c n epoch env → Known k.files x → (heads : List Seen) (d : node.NodeDeed)
+      → (NodeKeepsMessages AnyNode env.serve.files env.serve.c env.n (x.part.nodes n) → DeedGoes env.serve.files env.epoch (here env.epoch (x.part.nodes n)) d) → HasOneHome x → HasOneHome (grown x (node_does x n heads d))
   by-node x n epoch env is known heads d rule h =
       let all : ◌≡◌ {A = FilesAt × ℕ × ℕ} (k.files, x.c, n) (env.serve.files, env.serve.c, env.n) = λ i. ((sym is.files) i, (sym is.number) i, (sym is.node) i) in
-      let keeps : NodeKeeps AnyNode env.serve.files env.serve.c env.n (x.part.nodes n) = subst (λ (t : FilesAt × ℕ × ℕ). NodeKeeps AnyNode t.0 t.1 t.2 (x.part.nodes n)) all (known.kept.nodes n) in
+      let keeps : NodeKeepsMessages AnyNode env.serve.files env.serve.c env.n (x.part.nodes n) = subst (λ (t : FilesAt × ℕ × ℕ). NodeKeepsMessages AnyNode t.0 t.1 t.2 (x.part.nodes n)) all (known.kept.nodes n) in
       node-move x n heads d (stay-goes env.serve.files env.epoch (x.part.nodes n) d (rule keeps)) h
 
   -- an Offer
-  offered-by : (x : Conn) (n epoch : ℕ) (env : NodeEnv) → IsNodeEnv k x.c n epoch env → IsPlaced x → (heads : List Seen) (parts : EndpointParts) (bytes : List ℕ) → Spells x.c epoch (body.Offer parts) bytes → Was x Front (Node n) bytes
+  offered-by : (x : Conn) (n epoch : ℕ) (env : NodeEnv) → IsNodeEnv k x.c n epoch env → IsPlaced x → (heads : List Seen) (parts : EndpointParts) (bytes : List ℕ) → SpellsMessage x.c epoch (body.Offer parts) bytes → Was x Front (Node n) bytes
       → (a : Adopt) → offer_answer env.epoch (x.part.nodes n).row ≡ a → DeedFollows env.serve.files env.epoch 0 [] (offered_by env parts (x.part.nodes n) a) → HasOneHome x → HasOneHome (grown x (node_does x n heads (offered_by env parts (x.part.nodes n) a)))
   offered-by x n epoch env is placed heads parts bytes spells was Again e follows h = h
   offered-by x n epoch env is placed heads parts bytes spells was Stale e follows h = h
@@ -96,18 +96,18 @@ module _ (k : Setting) where
       let offers : IsOffered n epoch x.part.front.row = ⊎_elim (λ (d : IsDecided epoch (x.part.nodes n).row). absurd (not-decided epoch (x.part.nodes n).row new d)) (λ (o : IsOffered n epoch x.part.front.row). o) said in
       offered-home x.part.nodes n _ env.epoch x.part.front.row (subst (λ (i : ℕ). IsOffered n i x.part.front.row) (sym is.epoch_is) offers) follows.1 h
 
-  offered : (x : Conn) (n epoch : ℕ) (env : NodeEnv) → IsNodeEnv k x.c n epoch env → Known k.files x → (heads : List Seen) (parts : EndpointParts) (bytes : List ℕ) → Spells x.c epoch (body.Offer parts) bytes → Was x Front (Node n) bytes
+  offered : (x : Conn) (n epoch : ℕ) (env : NodeEnv) → IsNodeEnv k x.c n epoch env → Known k.files x → (heads : List Seen) (parts : EndpointParts) (bytes : List ℕ) → SpellsMessage x.c epoch (body.Offer parts) bytes → Was x Front (Node n) bytes
       → HasOneHome x → HasOneHome (grown x (node_does x n heads (node_offered env (x.part.nodes n) parts)))
   offered x n epoch env is known heads parts bytes spells was h =
       let all : ◌≡◌ {A = FilesAt × ℕ × ℕ} (k.files, x.c, n) (env.serve.files, env.serve.c, env.n) = λ i. ((sym is.files) i, (sym is.number) i, (sym is.node) i) in
-      let keeps : NodeKeeps AnyNode env.serve.files env.serve.c env.n (x.part.nodes n) = subst (λ (t : FilesAt × ℕ × ℕ). NodeKeeps AnyNode t.0 t.1 t.2 (x.part.nodes n)) all (known.kept.nodes n) in
+      let keeps : NodeKeepsMessages AnyNode env.serve.files env.serve.c env.n (x.part.nodes n) = subst (λ (t : FilesAt × ℕ × ℕ). NodeKeepsMessages AnyNode t.0 t.1 t.2 (x.part.nodes n)) all (known.kept.nodes n) in
       offered-by x n epoch env is known.placed heads parts bytes spells was (offer_answer env.epoch (x.part.nodes n).row) refl (kept.offered-keeps AnyNode env (x.part.nodes n) keeps parts).1 h
 
   acknowledged : (x : Conn) (n : ℕ) (env : NodeEnv) (heads : List Seen) → HasOneHome x → HasOneHome (grown x (node_does x n heads (node_acknowledged env (x.part.nodes n))))
   acknowledged x n env heads h =
       let p : NodePart = x.part.nodes n in
       let q : NodePart = record p { row = node.gone p.row; kept = without kind.Ended 0 p.kept } in
-      node-move x n heads (node_acknowledged env p) (cond_both (awaits_ack env.epoch p.row) (node.Does (q, saying [])) node.Drops (DeedGoesOn p.row) (λ t. gone-goes p.row) (λ t. tt)) h
+      node-move x n heads (node_acknowledged env p) (cond_both (awaits_ack env.epoch p.row) (node.Does (q, node_saying [])) node.Drops (DeedGoesOn p.row) (λ t. gone-goes p.row) (λ t. tt)) h
 
   nodes : NodeRules k Homes
   nodes = record {

@@ -21,7 +21,7 @@ use Rattle.lard_laws.proofs.RecordsWorks.{JobFits}
 use Rattle.lard_laws.proofs.TagsAgree.{IsStaying, goal-there}
 use Rattle.lard_laws.proofs.TagsGoing.{each-goes}
 use Rattle.lard_law_view.specs.Carry.{tale_at}
-use Rattle.lard_law_view.specs.View.{Spells, Was, conn}
+use Rattle.lard_law_view.specs.View.{SpellsMessage, Was, conn}
 use Rattle.lard_disk.specs.declared.disk.Job.{Job}
 use Rattle.lard_dispatch.specs.Sound.{IsNode}
 use Rattle.lard_endpoint.specs.Control.{ControlBlock}
@@ -38,7 +38,7 @@ use Rattle.lard_message.specs.Message.{IsMessage}
 use Rattle.lard_net.specs.Net.{Packet}
 use Rattle.lard_rules.specs.declared.node.NodeState.{NodeState}
 use Rattle.lard_rules.specs.declared.stay.Stay.{Stay}
-use Rattle.lard_rules.specs.NodePlace.{bytes_of}
+use Rattle.lard_rules.specs.NodePlace.{content_bytes}
 use Rattle.lard_lateral.specs.Lateral.{is_from}
 use Rattle.lard_resend.specs.Kept.{is_under}
 
@@ -62,9 +62,9 @@ abbrev pub content_told : ℕ → ℕ → ℕ → List ℕ → Message
 content_told c e r bytes = record { c = c; epoch = record { 0 = e }; body = body.Content r bytes }
 
 -- what a path names is no longer than a file
-file-short : (files : FilesAt) → AreNamed files → (path : List ℕ) → length (bytes_of (files path)) ≤ MAX_FILE_BYTES
+file-short : (files : FilesAt) → AreNamed files → (path : List ℕ) → length (content_bytes (files path)) ≤ MAX_FILE_BYTES
 file-short files are path = go (files path) (are path) where
-  go : (o : Option (List ℕ)) → IfSome o (λ bytes. IsContent bytes × IsNamed path) → length (bytes_of o) ≤ MAX_FILE_BYTES
+  go : (o : Option (List ℕ)) → IfSome o (λ bytes. IsContent bytes × IsNamed path) → length (content_bytes o) ≤ MAX_FILE_BYTES
   go None h = omega arith
   go (Some bytes) h = h.0.1
 
@@ -79,8 +79,8 @@ job-has m holds i s job at has =
 pub record FetchesAreTold (m : Machine) : Type 0 where
   pub goals : (q h e from r : ℕ) (b : ControlBlock) (s : Stay) → IsStaying (conn m q) h e b s → is_from from e (find (is_under kind.Fetch r) ((conn m q).part.nodes h).fetches) ≡ true → (from ≢ h) × IsNode m.config.nodes from
   pub origins : (i : ℕ) (s : NodeState) (job : Job) → node_at m.nodes i ≡ Some s → Has job s.disk → (h e : ℕ) (b : ControlBlock) → ((conn m job.c).part.nodes h).row ≡ Some (record { stage = back.Here b; epoch = record { 0 = e } }) → job.origin ≡ h
-  pub contents : (q a b e r : ℕ) (path file bytes : List ℕ) → Was (conn m q) (Node a) (Node b) bytes → Spells q e (body.Fetch r path) bytes → file_at m.files path ≡ Some file → IsMessage (content_told q e r file)
-  pub jobs : (i : ℕ) (s : NodeState) (job : Job) → node_at m.nodes i ≡ Some s → Has job s.disk → IsMessage (content_told job.c job.epoch.0 job.r (bytes_of (file_at m.files job.path)))
+  pub contents : (q a b e r : ℕ) (path file bytes : List ℕ) → Was (conn m q) (Node a) (Node b) bytes → SpellsMessage q e (body.Fetch r path) bytes → file_at m.files path ≡ Some file → IsMessage (content_told q e r file)
+  pub jobs : (i : ℕ) (s : NodeState) (job : Job) → node_at m.nodes i ≡ Some s → Has job s.disk → IsMessage (content_told job.c job.epoch.0 job.r (content_bytes (file_at m.files job.path)))
 
 module _ (config : Config) (files : List (List ℕ × List ℕ)) (checked : config_check config ≡ Ok tt) (m : Machine) (reached : IsReached config files m) (holds : Holds m) (named : AreNamed (file_at m.files)) (same : m.config ≡ config) where
   goals : ((q : ℕ) → (tale_at (conn m q)).touched ≡ false) → (q h e from r : ℕ) (b : ControlBlock) (s : Stay) → IsStaying (conn m q) h e b s → is_from from e (find (is_under kind.Fetch r) ((conn m q).part.nodes h).fetches) ≡ true → (from ≢ h) × IsNode m.config.nodes from
@@ -92,14 +92,14 @@ module _ (config : Config) (files : List (List ℕ × List ℕ)) (checked : conf
   origins i s job at has h e b row =
       one-knows (conn m job.c) job.origin h (jobs-from-home config files m reached i s at job has) (subst Knows (sym row) tt) (connections-have-one-home config files m reached job.c)
 
-  contents : (q a b e r : ℕ) (path file bytes : List ℕ) → Was (conn m q) (Node a) (Node b) bytes → Spells q e (body.Fetch r path) bytes → file_at m.files path ≡ Some file → IsMessage (content_told q e r file)
+  contents : (q a b e r : ℕ) (path file bytes : List ℕ) → Was (conn m q) (Node a) (Node b) bytes → SpellsMessage q e (body.Fetch r path) bytes → file_at m.files path ≡ Some file → IsMessage (content_told q e r file)
   contents q a b e r path file bytes was spells is =
       let fetch : Message = record { c = q; epoch = record { 0 = e }; body = body.Fetch r path } in
       let its : IsMessage fetch = is-message bytes fetch (has-each (λ (l : Letter). AreBytes l.bytes) (record { from = Node a; to = Node b; bytes = bytes }) (conn m q).letters was (letters-have-bytes m q holds)) spells in
-      let short : length file ≤ MAX_FILE_BYTES = subst (λ (o : Option (List ℕ)). length (bytes_of o) ≤ MAX_FILE_BYTES) is (file-short (file_at m.files) named path) in
+      let short : length file ≤ MAX_FILE_BYTES = subst (λ (o : Option (List ℕ)). length (content_bytes o) ≤ MAX_FILE_BYTES) is (file-short (file_at m.files) named path) in
       record { some_connection = its.some_connection; connection = its.connection; epoch = its.epoch; table = short; fits = its.fits }
 
-  jobs : (i : ℕ) (s : NodeState) (job : Job) → node_at m.nodes i ≡ Some s → Has job s.disk → IsMessage (content_told job.c job.epoch.0 job.r (bytes_of (file_at m.files job.path)))
+  jobs : (i : ℕ) (s : NodeState) (job : Job) → node_at m.nodes i ≡ Some s → Has job s.disk → IsMessage (content_told job.c job.epoch.0 job.r (content_bytes (file_at m.files job.path)))
   jobs i s job at has =
       let its : JobFits job = job-has m holds i s job at has in
       record { some_connection = its.1.0; connection = its.1.1; epoch = its.2; table = file-short (file_at m.files) named job.path; fits = its.3 }

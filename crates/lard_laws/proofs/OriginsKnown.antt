@@ -9,7 +9,7 @@ use Rattle.lard_laws.proofs.OriginsNotes.{IsOwn}
 use Rattle.lard_law_connections.proofs.PlacesFrontRules.{has-each}
 use Rattle.lard_law_connections.proofs.PlacesGrowing.{BackGrows, Grows}
 use Rattle.lard_law_connections.proofs.PlacesHeads.{kinds-same}
-use Rattle.lard_law_view.specs.View.{AreSent, Conn, Move, Part, grown, letter, letters_of, named, rows_of, seen_in, sending, timer_rows}
+use Rattle.lard_law_view.specs.View.{AreSent, Conn, Move, Part, grown, letter, letters_of, named_records, rows_of, seen_in, sending, timer_rows}
 use Rattle.lard_law_view.proofs.Fine.{IsItsOwn}
 use Rattle.lard_law_view.proofs.Saying.{GaveAt, NotedAt}
 use Rattle.lard_law_view.proofs.Timers.{IsTimerAt, timer_rows-are}
@@ -111,9 +111,9 @@ module _ (p : Part) where
     one (rec.Queued k o d i path) same = subst (λ (m : ℕ). Knows (p.nodes m).row) (sym same) h
     one _ same = tt
 
-  pub named-notes : (rs : List Rec) → Each NoteKnown rs → Each NoteKnown (named rs)
+  pub named-notes : (rs : List Rec) → Each NoteKnown rs → Each NoteKnown (named_records rs)
   named-notes [] h = tt
-  named-notes (r ∷ rs) h = cond_both (is_some (whose r)) (r ∷ named rs) (named rs) (Each NoteKnown) (λ t. (h.0, named-notes rs h.1)) (λ t. named-notes rs h.1)
+  named-notes (r ∷ rs) h = cond_both (is_some (whose r)) (r ∷ named_records rs) (named_records rs) (Each NoteKnown) (λ t. (h.0, named-notes rs h.1)) (λ t. named-notes rs h.1)
 
 -- what is new with a move
 pub record News (x : Conn) (v : Move) : Type 0 where

@@ -18,7 +18,7 @@ use Rattle.lard_journal.specs.declared.rec.Rec.{Rec}
 use Rattle.lard_journal.specs.declared.rec.Rec.TheVariants as rec
 use Rattle.lard_lateral.specs.Lateral.{is_from}
 use Rattle.lard_rules.specs.declared.stay.Stay.{Stay}
-use Rattle.lard_rules.specs.Node.{Deed, Drops, Says, Does, NodePart, begins, come_by, fired_by, heard_by, is_awaited, offered_by, read_by, tagged_by, taken_sent, with_work, work_of}
+use Rattle.lard_rules.specs.Node.{NodeDeed, Drops, Says, Does, NodePart, node_begins, come_by, node_fired_by, node_heard_by, is_tag_awaited, offered_by, node_read_by, tagged_by, taken_sent, with_work, work_of}
 use Rattle.lard_rules.specs.Stay.{NodeEnv, Work, came_for, come_progress, goes_on, read_progress, reads_batch, tagged}
 use Rattle.lard_request.specs.declared.verdict.Verdict.{Verdict}
 use Rattle.lard_resend.specs.Kept.{is_under, without}
@@ -70,7 +70,7 @@ module _ (env : NodeEnv) where
 
   -- ---- the rules
 
-  abbrev pub DeedOwn : Deed → Type 0
+  abbrev pub DeedOwn : NodeDeed → Type 0
   DeedOwn Drops = Unit {0}
   DeedOwn (Says ms) = Unit {0}
   DeedOwn (Does given) = Each (IsOwn env.n) given.1.notes
@@ -79,14 +79,14 @@ module _ (env : NodeEnv) where
   with-own p before w h = subst AreOwn (sym (settled-is env.serve (goes_on env w).service).notes) (goes-works env NotesOwn by_own w h)
 
   module _ (p : NodePart) where
-    pub heard-own : (r : Result Said SegFault) (o : Option (ControlBlock × Stay)) → DeedOwn (heard_by env p r o)
+    pub heard-own : (r : Result Said SegFault) (o : Option (ControlBlock × Stay)) → DeedOwn (node_heard_by env p r o)
     heard-own (Err fault) o = tt
     heard-own (Ok s) None = tt
     heard-own (Ok s) (Some y) = with-own p [] (work_of (on_segment y.0 s).1 y.1) tt
 
     pub tagged-by-own : (number : ℕ) (nodes : List ℕ) (o : Option (ControlBlock × Stay)) → DeedOwn (tagged_by env number nodes p o)
     tagged-by-own number nodes None = tt
-    tagged-by-own number nodes (Some y) = cond_both (is_awaited env number nodes p y.1) (with_work env (record p { kept = without kind.Ask 0 p.kept }) [] (goes_on env (tagged env nodes (work_of y.0 y.1)))) Drops DeedOwn
+    tagged-by-own number nodes (Some y) = cond_both (is_tag_awaited env number nodes p y.1) (with_work env (record p { kept = without kind.Ask 0 p.kept }) [] (goes_on env (tagged env nodes (work_of y.0 y.1)))) Drops DeedOwn
         (λ t. with-own (record p { kept = without kind.Ask 0 p.kept }) [] (tagged env nodes (work_of y.0 y.1)) (tagged-works env NotesOwn by_own nodes (work_of y.0 y.1) tt)) (λ t. tt)
 
     pub come-own : (from r : ℕ) (o : Option (ControlBlock × Stay)) → DeedOwn (come_by env from r p o)
@@ -94,15 +94,15 @@ module _ (env : NodeEnv) where
     come-own from r (Some y) = cond_both (is_from from env.epoch (find (is_under kind.Fetch r) p.fetches)) (with_work env (record p { fetches = without kind.Fetch r p.fetches }) [] (goes_on env (came_for (come_progress from) r (work_of y.0 y.1)))) Drops DeedOwn
         (λ t. with-own (record p { fetches = without kind.Fetch r p.fetches }) [] (came_for (come_progress from) r (work_of y.0 y.1)) (came-works env NotesOwn by_own (come_progress from) r (work_of y.0 y.1) tt)) (λ t. tt)
 
-    pub read-own : (r : ℕ) (o : Option (ControlBlock × Stay)) → DeedOwn (read_by env r p o)
+    pub read-own : (r : ℕ) (o : Option (ControlBlock × Stay)) → DeedOwn (node_read_by env r p o)
     read-own r None = tt
     read-own r (Some y) = with-own p [] (came_for read_progress r (work_of y.0 y.1)) (came-works env NotesOwn by_own read_progress r (work_of y.0 y.1) tt)
 
-    pub fired-own : (o : Option (ControlBlock × Stay)) → DeedOwn (fired_by env p o)
+    pub fired-own : (o : Option (ControlBlock × Stay)) → DeedOwn (node_fired_by env p o)
     fired-own None = tt
     fired-own (Some y) = tt
 
     pub offered-own : (parts : EndpointParts) (a : Adopt) → DeedOwn (offered_by env parts p a)
-    offered-own parts New = with-own p (taken_sent env) (state_of (reads_batch env true (begins env parts))) (batch-works env NotesOwn by_own true (begins env parts) refl (tt, tt))
+    offered-own parts New = with-own p (taken_sent env) (state_of (reads_batch env true (node_begins env parts))) (batch-works env NotesOwn by_own true (node_begins env parts) refl (tt, tt))
     offered-own parts Again = tt
     offered-own parts Stale = tt

@@ -11,7 +11,7 @@ use Rattle.lard_base.specs.declared.place.Place.{Place}
 use Rattle.lard_base.specs.declared.place.Place.TheVariants.{Client, Front, Node}
 use Rattle.lard_base.specs.declared.place.TimerKind.TheVariants as timer
 use Rattle.lard_client.specs.Control.{ClientBlock}
-use Rattle.lard_law_connections.specs.Kept.{IsKeptByStage, NodeKeeps}
+use Rattle.lard_law_connections.specs.Kept.{IsKeptByStage, NodeKeepsMessages}
 use Rattle.lard_law_connections.specs.KeptLaws.{AnyNode}
 use Rattle.lard_law_connections.proofs.KeptNodes as kept
 use Rattle.lard_law_connections.proofs.KeptNodes.{DeedFollows, DeedGoes}
@@ -24,8 +24,8 @@ use Rattle.lard_law_connections.proofs.PlacesGrowing.{Grows}
 use Rattle.lard_law_connections.proofs.PlacesLaw.{owing}
 use Rattle.lard_law_connections.proofs.PlacesRuns.{each-placed}
 use Rattle.lard_law_connections.proofs.PlacesTurns.{IsPlaced, Owes}
-use Rattle.lard_law_view.specs.Carry.{IsLaw, MayMove, OfEach, setting}
-use Rattle.lard_law_view.specs.View.{ClientRules, Conn, FrontRules, IsNodeEnv, Move, NodeRules, Part, Rules, Setting, brought_said, client_begins, client_does, contents, event_seen, front_admits, front_does, grown, inject_seen, letter, node_does, nothing_said, packet_seen, reads_first, stands}
+use Rattle.lard_law_view.specs.Carry.{IsLaw, MayRestOn, OfEach, setting}
+use Rattle.lard_law_view.specs.View.{ClientRules, Conn, FrontRules, IsNodeEnv, Move, NodeRules, Part, Rules, Setting, brought_said, client_begins, client_does, content_said, event_seen, front_admits, front_does, grown, inject_seen, letter, node_does, nothing_said, packet_seen, reads_first, stands}
 use Rattle.lard_law_view.proofs.Carried.{carried}
 use Rattle.lard_law_view.proofs.Fine.{IsFine, IsItsOwn, fine}
 use Rattle.lard_law_view.proofs.Guarded.{both, weaker}
@@ -37,7 +37,7 @@ use Rattle.lard_rules.specs.Front as front
 use Rattle.lard_rules.specs.Front.{FrontPart, ask_of, front_asked, front_ended, front_gets, front_taken, front_timer}
 use Rattle.lard_handoff_back.specs.declared.table.Adopt.{Adopt}
 use Rattle.lard_handoff_back.specs.declared.table.Adopt.TheVariants.{New, Again, Stale}
-use Rattle.lard_handoff_back.specs.Back.{awaits_ack, endpoint_of, offer_answer}
+use Rattle.lard_handoff_back.specs.Back.{awaits_ack, back_endpoint, offer_answer}
 use Rattle.lard_history.specs.Journal.{request}
 use Rattle.lard_history.specs.Own.{Seen, own}
 use Rattle.lard_history.proofs.Each.{Each, Each-append}
@@ -46,8 +46,8 @@ use Rattle.lard_lateral.specs.Lateral.{is_from}
 use Rattle.lard_rules.specs.declared.node.NodeTurn.{NodeTurn}
 use Rattle.lard_rules.specs.declared.stay.Stay.{Stay}
 use Rattle.lard_rules.specs.Node as node
-use Rattle.lard_rules.specs.Node.{NodePart, both_of, come_by, fired_by, heard_by, here, is_awaited, node_acknowledged, node_content, node_forwarded, node_offered, node_read, node_tagged, node_timer, offered_by, read_by, saying, tagged_by, with_work, work_of}
-use Rattle.lard_rules.specs.NodePlace.{bytes_of}
+use Rattle.lard_rules.specs.Node.{NodePart, both_of, come_by, node_fired_by, node_heard_by, here, is_tag_awaited, node_acknowledged, node_content, node_forwarded, node_offered, node_read, node_tagged, node_timer, offered_by, node_read_by, node_saying, tagged_by, with_work, work_of}
+use Rattle.lard_rules.specs.NodePlace.{content_bytes}
 use Rattle.lard_rules.specs.Stay.{NodeEnv, came_for, come_progress, goes_on, tagged}
 use Rattle.lard_resend.specs.Kept.{is_under, without}
 use Rattle.lard_resend.specs.Pending.{sent_of}
@@ -70,12 +70,12 @@ any (n ∷ ns) = (tt, any ns)
 -- ---- what a node does
 
 -- What it says was sent before; or it knows of the connection then, and what it queues is its own; or it says nothing.
-abbrev DeedKnows : Conn → ℕ → node.Deed → Type 0
+abbrev DeedKnows : Conn → ℕ → node.NodeDeed → Type 0
 DeedKnows x n node.Drops = Unit {0}
 DeedKnows x n (node.Says ms) = Each (LetterKnown x.part) (map (letter (Node n)) ms)
-DeedKnows x n (node.Does given) = (Knows given.0.row × Each (IsOwn n) given.1.notes) ⊎ (given.1 ≡ saying [])
+DeedKnows x n (node.Does given) = (Knows given.0.row × Each (IsOwn n) given.1.notes) ⊎ (given.1 ≡ node_saying [])
 
-node-news : (x : Conn) (n : ℕ) (heads : List Seen) (d : node.Deed) → ((p : Part) → Each (SeenKnown p) heads) → DeedKnows x n d → News x (node_does x n heads d)
+node-news : (x : Conn) (n : ℕ) (heads : List Seen) (d : node.NodeDeed) → ((p : Part) → Each (SeenKnown p) heads) → DeedKnows x n d → News x (node_does x n heads d)
 node-news x n heads node.Drops quiet k = record { heads = quiet x.part; notes = tt; segments = tt; messages = tt }
 node-news x n heads (node.Says ms) quiet k = record { heads = quiet x.part; notes = tt; segments = tt; messages = k }
 node-news x n heads (node.Does given) quiet k = ⊎_elim knows silent k where
@@ -91,7 +91,7 @@ node-news x n heads (node.Does given) quiet k = ⊎_elim knows silent k where
         messages = all-by p n given.1.messages its;
       }
 
-  silent : given.1 ≡ saying [] → News x (node_does x n heads (node.Does given))
+  silent : given.1 ≡ node_saying [] → News x (node_does x n heads (node.Does given))
   silent e = subst (λ (t : NodeTurn). News x (node_does x n heads (node.Does (given.0, t)))) (sym e) (record { heads = quiet p; notes = tt; segments = tt; messages = tt })
 
 module _ (x : Conn) (h : AreKnown x) (n : ℕ) (env : NodeEnv) (p : NodePart) where
@@ -99,10 +99,10 @@ module _ (x : Conn) (h : AreKnown x) (n : ℕ) (env : NodeEnv) (p : NodePart) wh
   files = env.serve.files
 
   -- a deed that is done knows of it, where the stay goes on
-  abbrev Goes : Option (ControlBlock × Stay) → node.Deed → Type 0
+  abbrev Goes : Option (ControlBlock × Stay) → node.NodeDeed → Type 0
   Goes o d = DeedGoes files env.epoch o d → DeedOwn env d → DeedKnows x env.n d
 
-  heard : (r : Result Said SegFault) (o : Option (ControlBlock × Stay)) → Goes o (heard_by env p r o)
+  heard : (r : Result Said SegFault) (o : Option (ControlBlock × Stay)) → Goes o (node_heard_by env p r o)
   heard (Err fault) o goes own = tt
   heard (Ok s) None goes own = tt
   heard (Ok s) (Some y) goes own = inl (knows-of env.epoch _ goes.1, own)
@@ -110,21 +110,21 @@ module _ (x : Conn) (h : AreKnown x) (n : ℕ) (env : NodeEnv) (p : NodePart) wh
   tagged-so : (number : ℕ) (nodes : List ℕ) (o : Option (ControlBlock × Stay)) → Goes o (tagged_by env number nodes p o)
   tagged-so number nodes None = λ goes own. tt
   tagged-so number nodes (Some y) =
-      let w : node.Deed = with_work env (record p { kept = without timer.Ask 0 p.kept }) [] (goes_on env (tagged env nodes (work_of y.0 y.1))) in
-      cond_both (is_awaited env number nodes p y.1) w node.Drops (Goes (Some y)) (λ t goes own. inl (knows-of env.epoch _ goes.1, own)) (λ t goes own. tt)
+      let w : node.NodeDeed = with_work env (record p { kept = without timer.Ask 0 p.kept }) [] (goes_on env (tagged env nodes (work_of y.0 y.1))) in
+      cond_both (is_tag_awaited env number nodes p y.1) w node.Drops (Goes (Some y)) (λ t goes own. inl (knows-of env.epoch _ goes.1, own)) (λ t goes own. tt)
 
   come-so : (from r : ℕ) (o : Option (ControlBlock × Stay)) → Goes o (come_by env from r p o)
   come-so from r None = λ goes own. tt
   come-so from r (Some y) =
-      let w : node.Deed = with_work env (record p { fetches = without timer.Fetch r p.fetches }) [] (goes_on env (came_for (come_progress from) r (work_of y.0 y.1))) in
+      let w : node.NodeDeed = with_work env (record p { fetches = without timer.Fetch r p.fetches }) [] (goes_on env (came_for (come_progress from) r (work_of y.0 y.1))) in
       cond_both (is_from from env.epoch (find (is_under timer.Fetch r) p.fetches)) w node.Drops (Goes (Some y)) (λ t goes own. inl (knows-of env.epoch _ goes.1, own)) (λ t goes own. tt)
 
-  read-so : (r : ℕ) (o : Option (ControlBlock × Stay)) → Goes o (read_by env r p o)
+  read-so : (r : ℕ) (o : Option (ControlBlock × Stay)) → Goes o (node_read_by env r p o)
   read-so r None goes own = tt
   read-so r (Some y) goes own = inl (knows-of env.epoch _ goes.1, own)
 
   -- its timer says what was said
-  fired-so : Each (LetterKnown x.part) (map (letter (Node env.n)) (node.again_sent p)) → (o : Option (ControlBlock × Stay)) → Goes o (fired_by env p o)
+  fired-so : Each (LetterKnown x.part) (map (letter (Node env.n)) (node.again_sent p)) → (o : Option (ControlBlock × Stay)) → Goes o (node_fired_by env p o)
   fired-so again None goes own = again
   fired-so again (Some y) goes own = inl (knows-of env.epoch _ goes.1, own)
 
@@ -134,14 +134,14 @@ module _ (x : Conn) (h : AreKnown x) (n : ℕ) (env : NodeEnv) (p : NodePart) wh
   offered-so parts Stale follows own = tt
 
   acknowledged-so : DeedKnows x env.n (node_acknowledged env p)
-  acknowledged-so = cond_both (awaits_ack env.epoch p.row) (node.Does (record p { row = node.gone p.row; kept = without timer.Ended 0 p.kept }, saying [])) node.Drops (DeedKnows x env.n) (λ t. inr refl) (λ t. tt)
+  acknowledged-so = cond_both (awaits_ack env.epoch p.row) (node.Does (record p { row = node.gone p.row; kept = without timer.Ended 0 p.kept }, node_saying [])) node.Drops (DeedKnows x env.n) (λ t. inr refl) (λ t. tt)
 
 -- ---- every rule
 
 module _ (k : Setting) where
   -- what is known of a move beside
   record Helps (x : Conn) (v : Move) : Type 0 where
-    may : MayMove (Beside k.files) x
+    may : MayRestOn (Beside k.files) x
     grows : Grows x.part v.part
     own : IsItsOwn x v
 
@@ -156,7 +156,7 @@ module _ (k : Setting) where
   opens-moves x isn iss wnd mss help h =
       let v : Move = client_begins x isn iss wnd mss in moved x v help.grows help.own (else-new x v help.own tt (tt, (tt, tt))) h
 
-  front-moves : (x : Conn) (heads : List Seen) (d : front.Deed) → ((p : Part) → Each (SeenKnown p) heads) → Moves x (front_does x heads d)
+  front-moves : (x : Conn) (heads : List Seen) (d : front.FrontDeed) → ((p : Part) → Each (SeenKnown p) heads) → Moves x (front_does x heads d)
   front-moves x heads front.Drops quiet help h =
       let v : Move = front_does x heads front.Drops in moved x v help.grows help.own (else-new x v help.own tt (quiet v.part)) h
   front-moves x heads (front.Says t) quiet help h =
@@ -171,12 +171,12 @@ module _ (k : Setting) where
   stands-moves : (x : Conn) (place : Place) (heads : List Seen) (said : _) → News x (stands x place heads said) → Moves x (stands x place heads said)
   stands-moves x place heads said news help h = moved x (stands x place heads said) help.grows help.own news h
 
-  keeps : (x : Conn) (n epoch : ℕ) (env : NodeEnv) → IsNodeEnv k x.c n epoch env → Beside k.files x → NodeKeeps AnyNode env.serve.files env.serve.c env.n (x.part.nodes n)
+  keeps : (x : Conn) (n epoch : ℕ) (env : NodeEnv) → IsNodeEnv k x.c n epoch env → Beside k.files x → NodeKeepsMessages AnyNode env.serve.files env.serve.c env.n (x.part.nodes n)
   keeps x n epoch env is beside =
       let all : ◌≡◌ {A = FilesAt × ℕ × ℕ} (k.files, x.c, n) (env.serve.files, env.serve.c, env.n) = λ i. ((sym is.files) i, (sym is.number) i, (sym is.node) i) in
-      subst (λ (t : FilesAt × ℕ × ℕ). NodeKeeps AnyNode t.0 t.1 t.2 (x.part.nodes n)) all (beside.kept.nodes n)
+      subst (λ (t : FilesAt × ℕ × ℕ). NodeKeepsMessages AnyNode t.0 t.1 t.2 (x.part.nodes n)) all (beside.kept.nodes n)
 
-  node-moves : (x : Conn) (n epoch : ℕ) (env : NodeEnv) → IsNodeEnv k x.c n epoch env → (heads : List Seen) (d : node.Deed) → ((p : Part) → Each (SeenKnown p) heads) → (Beside k.files x → AreKnown x → DeedKnows x env.n d) → Moves x (node_does x n heads d)
+  node-moves : (x : Conn) (n epoch : ℕ) (env : NodeEnv) → IsNodeEnv k x.c n epoch env → (heads : List Seen) (d : node.NodeDeed) → ((p : Part) → Each (SeenKnown p) heads) → (Beside k.files x → AreKnown x → DeedKnows x env.n d) → Moves x (node_does x n heads d)
   node-moves x n epoch env is heads d quiet rule help h =
       moved x (node_does x n heads d) help.grows help.own (node-news x n heads d quiet (subst (λ (i : ℕ). DeedKnows x i d) is.node (rule help.may.given h))) h
 
@@ -217,7 +217,7 @@ module _ (k : Setting) where
         (λ beside h. come-so x h n env (x.part.nodes n) from r (here env.epoch (x.part.nodes n)) (kept.content-keeps AnyNode env (x.part.nodes n) (keeps x n epoch env is beside) from r).1 (come-own env (x.part.nodes n) from r (here env.epoch (x.part.nodes n))));
     acknowledged = λ x n epoch env bytes is spells was. node-moves x n epoch env is (packet_seen Front (Node n) bytes) (node_acknowledged env (x.part.nodes n)) (λ p. (tt, tt)) (λ beside h. acknowledged-so x h n env (x.part.nodes n));
     read = λ x n epoch r env path is help h.
-        let d : node.Deed = node_read env (x.part.nodes n) r in
+        let d : node.NodeDeed = node_read env (x.part.nodes n) r in
         let own : DeedKnows x env.n d = read-so x h n env (x.part.nodes n) r (here env.epoch (x.part.nodes n)) (kept.read-keeps AnyNode env (x.part.nodes n) (keeps x n epoch env is help.may.given) r).1 (read-own env (x.part.nodes n) r (here env.epoch (x.part.nodes n))) in
         let news : News x (node_does x n [] d) = node-news x n [] d (λ p. tt) (subst (λ (i : ℕ). DeedKnows x i d) is.node own) in
         moved x (reads_first (rec.Read n n x.c r path) (node_does x n [] d)) help.grows help.own (record { heads = news.heads; notes = (tt, news.notes); segments = news.segments; messages = news.messages }) h;
@@ -229,15 +229,15 @@ module _ (k : Setting) where
         subst (λ (l : List (Place × List ℕ)). Each (LetterKnown x.part) (map (letter (Node n)) l)) (sym (map-append sent_of p.kept p.fetches))
         (subst (Each (LetterKnown x.part)) (sym (map-append (letter (Node n)) (map sent_of p.kept) (map sent_of p.fetches)))
         (Each-append (LetterKnown x.part) (map (letter (Node n)) (map sent_of p.kept)) (map (letter (Node n)) (map sent_of p.fetches)) (sent-known x h n p.kept (help.may.sound.kept n)) (sent-known x h n p.fetches (help.may.sound.fetches n)))) in
-        fired-so x h n env p (subst (λ (i : ℕ). Each (LetterKnown x.part) (map (letter (Node i)) (node.again_sent p))) (sym is.node) again) (both_of (endpoint_of p.row) p.stay)
-        (kept.timer-keeps AnyNode env p (keeps x n _ env is beside) is.epoch_is).1 (fired-own env p (both_of (endpoint_of p.row) p.stay)))
+        fired-so x h n env p (subst (λ (i : ℕ). Each (LetterKnown x.part) (map (letter (Node i)) (node.again_sent p))) (sym is.node) again) (both_of (back_endpoint p.row) p.stay)
+        (kept.timer-keeps AnyNode env p (keeps x n _ env is beside) is.epoch_is).1 (fired-own env p (both_of (back_endpoint p.row) p.stay)))
         help;
-    answers = λ x n from epoch r path file bytes there spells was. stands-moves x (Node n) (packet_seen (Node from) (Node n) bytes) (contents k n from x.c epoch r path)
-        (record { heads = (tt, tt); notes = tt; segments = tt; messages = (content-known x.part n (Node from) x.c epoch r (bytes_of (k.files path)), tt) });
+    answers = λ x n from epoch r path file bytes there spells was. stands-moves x (Node n) (packet_seen (Node from) (Node n) bytes) (content_said k n from x.c epoch r path)
+        (record { heads = (tt, tt); notes = tt; segments = tt; messages = (content-known x.part n (Node from) x.c epoch r (content_bytes (k.files path)), tt) });
     queues = λ x n from epoch r path file bytes there spells was help h. stands-moves x (Node n) (packet_seen (Node from) (Node n) bytes) (record nothing_said { notes = rec.Queued n from x.c r path ∷ [] })
         (record { heads = (tt, tt); notes = ((has-each (LetterKnown x.part) (record { from = Node from; to = Node n; bytes = bytes }) x.letters was h.letters) _ spells, tt); segments = tt; messages = tt }) help h;
     brings = λ x n from epoch r path. stands-moves x (Node n) [] (brought_said k n from x.c epoch r path)
-        (record { heads = tt; notes = (tt, tt); segments = tt; messages = (content-known x.part n (Node from) x.c epoch r (bytes_of (k.files path)), tt) });
+        (record { heads = tt; notes = (tt, tt); segments = tt; messages = (content-known x.part n (Node from) x.c epoch r (content_bytes (k.files path)), tt) });
   }
 
   rules : Rules k Moves
@@ -247,7 +247,7 @@ module _ (k : Setting) where
   }
 
   abbrev Owed : Conn → Move → Type 0
-  Owed x v = MayMove (Beside k.files) x → IsPlaced x → Owes x v
+  Owed x v = MayRestOn (Beside k.files) x → IsPlaced x → Owes x v
 
   abbrev All : Conn → Move → Type 0
   All x v = (IsFine x v × Owed x v) × Moves x v
@@ -255,7 +255,7 @@ module _ (k : Setting) where
   known-law : IsLaw k (Beside k.files) AreKnown
   known-law = record {
     begins = λ c. record { letters = tt; seen = tt };
-    moves = weaker k All (λ x v. MayMove (Beside k.files) x → AreKnown x → AreKnown (grown x v))
+    moves = weaker k All (λ x v. MayRestOn (Beside k.files) x → AreKnown x → AreKnown (grown x v))
         (λ x v all may h. all.1 (record { may = may; grows = (all.0.1 may may.given.placed).grows; own = (all.0.0 may.number may.sound).0 }) h)
         (both k (λ x v. IsFine x v × Owed x v) Moves (both k IsFine Owed (fine k) (owing k (Beside k.files))) rules);
   }

@@ -11,7 +11,7 @@ use Rattle.lard_base.specs.declared.place.Reason.TheVariants as reason
 use Rattle.lard_client.specs.Control.{is_established}
 use Rattle.lard_laws.specs.Acks.{AcksWhatWasTaken, EndActs, FrontActs, FrontStageActs, OpenActs, StationActs, bounds_of, story_at}
 use Rattle.lard_laws.proofs.AcksStory.{reset-told}
-use Rattle.lard_law_connections.specs.BytesAgreement.{EndedIt, IsOpen, IsTruthful, SeatAgrees, StageAgrees}
+use Rattle.lard_law_connections.specs.BytesAgreement.{EndedWithNumbers, IsOpen, IsTruthful, SeatAgrees, StageAgrees}
 use Rattle.lard_law_connections.proofs.BytesClientMoves.{open-at}
 use Rattle.lard_laws.specs.EndedEnds.{EndsAreTrue, IsTrueEnd, RowEnds, StageEnds, StationEnds, TellsEnds, WasClosed, written_by}
 use Rattle.lard_laws.proofs.EndedClients.{written-is}
@@ -71,7 +71,7 @@ module _ (files : FilesAt) (x : Conn) (truth : IsTruthful files x) (acts : AcksW
   act : EndActs (bounds_of x s r.heard) (ending.Over last)
   act = subst (FrontStageActs (bounds_of x s r.heard)) at (subst (FrontActs (bounds_of x s r.heard)) found r.within.front)
 
-  agrees : EndedIt l.w l.was_reset last
+  agrees : EndedWithNumbers l.w l.was_reset last
   agrees = subst (StageAgrees l.w l.out l.vs truth.pend l.was_reset x.c x.part row.epoch.0) at (subst (SeatAgrees l.w l.out l.vs truth.pend l.was_reset x.c x.part) found o.seat)
 
   -- both sides had closed it

@@ -7,7 +7,7 @@ use Rattle.lard_rules.specs.declared.machine.Machine.{Machine}
 use Rattle.lard_laws.specs.Acks.{AcksWhatWasTaken, BackActs, BackStageActs, EndActs, FrontActs, FrontStageActs, OpenActs, StationActs, bounds_of, story_at}
 use Rattle.lard_laws.proofs.AcksRuns.{connections-ack}
 use Rattle.lard_laws.proofs.AcksStory.{reset-told}
-use Rattle.lard_law_connections.specs.BytesAgreement.{HoldsIt, IsOpen, IsTruthful, RowAgrees, SeatAgrees, StageAgrees, StayAgrees}
+use Rattle.lard_law_connections.specs.BytesAgreement.{HoldsItPending, IsOpen, IsTruthful, RowAgrees, SeatAgrees, StageAgrees, StayAgrees}
 use Rattle.lard_law_connections.proofs.BytesClientMoves.{open-at}
 use Rattle.lard_law_connections.proofs.BytesNodeMoves.{has-it}
 use Rattle.lard_law_connections.proofs.BytesReading.{read-alone}
@@ -15,14 +15,14 @@ use Rattle.lard_law_connections.proofs.BytesRuns.{states-truthful}
 use Rattle.lard_law_connections.proofs.PlacesRuns.{each-placed}
 use Rattle.lard_law_connections.proofs.PlacesTurns.{IsPlaced}
 use Rattle.lard_laws.specs.QuietRests.{ClientRests, HeldRests, RestingIsComplete, RestsSomewhere, StayRests}
-use Rattle.lard_law_connections.specs.Stops.{BackStageStops, FrontStageStops, FrontStops, HeldStops, IsAwaited, IsHeldBack, ReadingStops, RowStops, StayStops}
+use Rattle.lard_law_connections.specs.Stops.{BackStageStops, FrontStageStops, FrontStops, HeldStops, FirstIsAwaited, IsHeldBack, ReadingStops, RowStops, StayStops}
 use Rattle.lard_law_connections.proofs.StopsRuns.{connections-stop}
 use Rattle.lard_law_view.specs.Carry.{tale_at}
 use Rattle.lard_law_view.specs.View.{Conn, conn}
 use Rattle.lard_endpoint.specs.Control.{ControlBlock}
 use Rattle.lard_endpoint.specs.Moving.{may_freeze}
 use Rattle.lard_files.specs.Files.{file_at}
-use Rattle.lard_rules.specs.Front.{rest_of}
+use Rattle.lard_rules.specs.Front.{front_rest}
 use Rattle.lard_handoff_back.specs.declared.row.BackConn.{BackConn}
 use Rattle.lard_handoff_back.specs.declared.row.BackConn.TheVariants as back
 use Rattle.lard_handoff_front.specs.declared.row.FrontConn.TheVariants as stage
@@ -41,12 +41,12 @@ use Rattle.lard_law_view.proofs.Story.{Story, aborted-story, ended-story, reset-
 use Rattle.lard_request.specs.declared.verdict.Verdict.{Verdict}
 use Rattle.lard_rules.specs.declared.places.Ending.TheVariants as ending
 use Rattle.lard_rules.specs.declared.places.Station.{Station}
-use Rattle.lard_law_view.specs.Seat.{Seat, AtFront, Nowhere, front_armed}
+use Rattle.lard_law_view.specs.Seat.{Seat, AtFront, Nowhere, seat_armed}
 use Rattle.lard_send.specs.Send.{is_clear}
 use Rattle.lard_law_view.specs.Truth.{Stream}
 
 -- an endpoint with nothing that was read and is not answered, which has stopped
-stopped-held : (w out : Stream) (vs : List Verdict) (b : ControlBlock) (count : ℕ) → HoldsIt w out vs [] b count → HasStopped b → one.HoldsIt w out vs b count
+stopped-held : (w out : Stream) (vs : List Verdict) (b : ControlBlock) (count : ℕ) → HoldsItPending w out vs [] b count → HasStopped b → one.HoldsIt w out vs b count
 stopped-held w out vs b count h stopped = record {
   counted = h.counted;
   not_reset = h.not_reset;
@@ -84,7 +84,7 @@ module _ (files : FilesAt) (x : Conn) (truth : IsTruthful files x) (acts : AcksW
   r = subst (StationActs x) rests.there acts
 
   -- where it is, as a front end that has it or knows nothing of it would say
-  seat-done : (f : Seat) → one.FrontAgrees l.w l.out l.vs (tale_at x).was_reset f → r.heard ≡ heard_of s.client.send.iss f → FrontHolds s.iss (taken_by s.client) (story_at x).aborted f → front_armed f ≡ false → IsDone files x
+  seat-done : (f : Seat) → one.FrontAgrees l.w l.out l.vs (tale_at x).was_reset f → r.heard ≡ heard_of s.client.send.iss f → FrontHolds s.iss (taken_by s.client) (story_at x).aborted f → seat_armed f ≡ false → IsDone files x
   seat-done f front heard holds_at quiet = record {
     responses = served-all files x.c l.w l.out l.vs s f t y agrees holds told not_aborted not_reset rests.quiet quiet;
     all = accepted-all files x.c l.w l.out l.vs s f t y agrees holds told not_aborted not_reset rests.quiet quiet;
@@ -130,7 +130,7 @@ module _ (files : FilesAt) (x : Conn) (truth : IsTruthful files x) (acts : AcksW
   -- ---- at the front end
 
   held-done : HeldRests x → IsDone files x
-  held-done h = rests-done h.block (rest_of x.part.front.rest).count (stopped-held l.w l.out l.vs h.block (rest_of x.part.front.rest).count agrees.holds stopped) act h.clear where
+  held-done h = rests-done h.block (front_rest x.part.front.rest).count (stopped-held l.w l.out l.vs h.block (front_rest x.part.front.rest).count agrees.holds stopped) act h.clear where
     b : ControlBlock
     b = h.block
 
@@ -181,14 +181,14 @@ module _ (files : FilesAt) (x : Conn) (truth : IsTruthful files x) (acts : AcksW
     stopped-by : (f : Bool) → b.send.finished ≡ f → HasStopped b × (pend ≡ [])
     stopped-by true e = let t = stop.closed e in (t.0, nothing b.recv.discarding refl t.1)
     stopped-by false e = ⊎_elim
-        (λ (a : IsAwaited h.stay.batch). absurd (h.ready a))
+        (λ (a : FirstIsAwaited h.stay.batch). absurd (h.ready a))
         (λ (t : HasStopped b × (h.stay.batch ≡ [])). (t.0, nothing b.recv.discarding refl (λ keeps. t.1))) (stop.open_ e)
 
     stopped : HasStopped b × (pend ≡ [])
     stopped = stopped-by b.send.finished refl
 
-    alone : HoldsIt l.w l.out l.vs [] b h.stay.served
-    alone = subst (λ (us : List Verdict). HoldsIt l.w l.out l.vs us b h.stay.served) stopped.1 agrees.1
+    alone : HoldsItPending l.w l.out l.vs [] b h.stay.served
+    alone = subst (λ (us : List Verdict). HoldsItPending l.w l.out l.vs us b h.stay.served) stopped.1 agrees.1
 
   pub somewhere-done : RestsSomewhere x → IsDone files x
   somewhere-done h = ⊎_elim (λ (a : HeldRests x). held-done a) (λ (a : (n : ℕ) × StayRests x n). stay-done a.0 a.1) h

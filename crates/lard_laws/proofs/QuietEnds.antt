@@ -24,10 +24,10 @@ use Rattle.lard_counts.specs.Stores as stores
 use Rattle.lard_law_view.specs.View.{conn, part_of}
 use Rattle.lard_law_view.proofs.InSteps.{carried-ends}
 use Rattle.lard_dispatch.specs.declared.line.Waiting.{Waiting}
-use Rattle.lard_dispatch.specs.Line.{waits}
+use Rattle.lard_dispatch.specs.Line.{line_waits}
 use Rattle.lard_files.specs.Files.{file_at}
 use Rattle.lard_rules.specs.FrontPlace.{front_part}
-use Rattle.lard_rules.specs.FrontSound.{IsRowSound, IsStageSound, Standing, standing}
+use Rattle.lard_rules.specs.FrontSound.{IsRowSound, IsStageSound, DispatchStanding, dispatch_standing}
 use Rattle.lard_history.specs.Journal.{numbers_of, tale}
 use Rattle.lard_history.specs.Own.{Has}
 use Rattle.lard_history.proofs.Seeing.{same_number}
@@ -38,10 +38,10 @@ use Rattle.lard_rules.specs.declared.places.Station.{Station}
 
 -- ---- a connection that waits is in the line
 
-in-line : (c : ℕ) (line : List Waiting) → waits line c ≡ true → Has c (who line)
+in-line : (c : ℕ) (line : List Waiting) → line_waits line c ≡ true → Has c (who line)
 in-line c [] h = let no : false ≡ true = h in absurd cc
 in-line c (w ∷ ws) h = go (w.c == c) refl h (in-line c ws) where
-  go : (b : Bool) → (w.c == c) ≡ b → (b || waits ws c) ≡ true → (waits ws c ≡ true → Has c (who ws)) → Has c (who (w ∷ ws))
+  go : (b : Bool) → (w.c == c) ≡ b → (b || line_waits ws c) ≡ true → (line_waits ws c ≡ true → Has c (who ws)) → Has c (who (w ∷ ws))
   go true is t later = inl (eqb-true w.c c is)
   go false is t later = inr (later t)
 
@@ -67,11 +67,11 @@ module _ (config : Config) (files : List (List ℕ × List ℕ)) (checked : conf
   waits-for-room : IsWaiting (conn m c) → IsInLine config m.journal c
   unfolding conn part_of
   waits-for-room (row, b, found, at) =
-      let place : Standing = standing m.front.dispatch c in
+      let place : DispatchStanding = dispatch_standing m.front.dispatch c in
       let whole : IsRowSound (front_part m.front c).rest (front_part m.front c).kept place (front_part m.front c).row = (reached-counted config files checked m r).sound.each c in
       let of-row : IsStageSound row.epoch.0 (front_part m.front c).rest (front_part m.front c).kept place row.stage = subst (IsRowSound (front_part m.front c).rest (front_part m.front c).kept place) found whole in
       let sound = subst (IsStageSound row.epoch.0 (front_part m.front c).rest (front_part m.front c).kept place) at of-row in
-      let in_line : Has c (who m.front.dispatch.books.line) = in-line c m.front.dispatch.books.line (ap (λ (s : Standing). s.waits) sound.2) in (
+      let in_line : Has c (who m.front.dispatch.books.line) = in-line c m.front.dispatch.books.line (ap (λ (s : DispatchStanding). s.waits) sound.2) in (
         subst (Has c) (line-is-kept config files m checked r) in_line,
         (books-are-told config files m checked r).3 (some-wait c m.front.dispatch.books.line in_line),
       )

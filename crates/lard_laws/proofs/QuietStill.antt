@@ -6,10 +6,10 @@ use Rattle.lard_answers.specs.Answers.{FilesAt}
 use Rattle.lard_base.specs.declared.place.Place.TheVariants.{Client, Front, Node}
 use Rattle.lard_base.specs.declared.place.TimerKind.{TimerKind}
 use Rattle.lard_base.specs.declared.place.TimerKind.TheVariants as timer
-use Rattle.lard_client.specs.Control.{is_armed}
+use Rattle.lard_client.specs.Control.{is_client_armed}
 use Rattle.lard_laws.specs.Acks.{AcksWhatWasTaken, story_at}
 use Rattle.lard_laws.proofs.AcksRuns.{connections-ack}
-use Rattle.lard_law_connections.specs.Awaits.{AwaitsWhatItAsked, BatchComes, ComesBy, RowComes, StageComes, StayComes}
+use Rattle.lard_law_connections.specs.Awaits.{AwaitsWhatItAsked, BatchComes, IsToCome, RowComes, StageComes, StayComes}
 use Rattle.lard_law_connections.proofs.AwaitsRuns.{connections-await}
 use Rattle.lard_law_connections.specs.BytesAgreement.{BackAgrees, IsOffering, IsOpen, IsTruthful, NodeAgrees, RowAgrees, SeatAgrees, StageAgrees, StayAgrees}
 use Rattle.lard_law_connections.proofs.BytesClientMoves.{open-at}
@@ -24,7 +24,7 @@ use Rattle.lard_laws.specs.QuietStill.{AwaitsADisk, IsWaiting, QuietIsCompleteOr
 use Rattle.lard_laws.proofs.QuietClosed.{closed-done}
 use Rattle.lard_laws.proofs.QuietComplete.{IsDone, aborted-at, calm-at, complete, nowhere-done, reset-at, somewhere-done}
 use Rattle.lard_laws.proofs.StepsTimers.{timers-kept}
-use Rattle.lard_law_connections.specs.Stops.{IsAwaited, ReadingStops}
+use Rattle.lard_law_connections.specs.Stops.{FirstIsAwaited, ReadingStops}
 use Rattle.lard_law_connections.proofs.StopsRuns.{connections-stop}
 use Rattle.lard_law_view.specs.View.{Conn, conn, station_armed}
 use Rattle.lard_endpoint.specs.Control.{ControlBlock}
@@ -33,8 +33,8 @@ use Rattle.lard_rules.specs.Front.{front_armed, row_armed, stage_armed}
 use Rattle.lard_handoff_back.specs.declared.row.BackConn.{BackConn}
 use Rattle.lard_handoff_back.specs.declared.row.BackConn.TheVariants as back
 use Rattle.lard_handoff_back.specs.declared.row.BackRow.{BackRow}
-use Rattle.lard_handoff_back.specs.Back.{endpoint_of}
-use Rattle.lard_handoff_back.specs.Row.{held_in}
+use Rattle.lard_handoff_back.specs.Back.{back_endpoint}
+use Rattle.lard_handoff_back.specs.Row.{back_held}
 use Rattle.lard_handoff_front.specs.declared.row.FrontConn.{FrontConn}
 use Rattle.lard_handoff_front.specs.declared.row.FrontConn.TheVariants as stage
 use Rattle.lard_handoff_front.specs.declared.row.FrontRow.{FrontRow}
@@ -48,7 +48,7 @@ use Rattle.lard_rules.specs.Node.{NodePart, holds_kind, is_unsaid, node_armed}
 use Rattle.lard_rules.specs.Stay.{next_by}
 use Rattle.lard_request.specs.declared.verdict.Verdict.{Verdict}
 use Rattle.lard_resend.specs.declared.kept.Kept.{Kept}
-use Rattle.lard_resend.specs.Kept.{is_under, rank}
+use Rattle.lard_resend.specs.Kept.{is_under, kind_rank}
 use Rattle.lard_send.specs.Send.{is_clear}
 
 -- what is found of a kind is held of it
@@ -63,8 +63,8 @@ found-held a r (x ∷ xs) k e = go (is_under a r x) refl e (found-held a r xs k)
   or-second false q f = f
 
   go : (t : Bool) → is_under a r x ≡ t → cond t (Some x) (find (is_under a r) xs) ≡ Some k → (find (is_under a r) xs ≡ Some k → holds_kind a xs ≡ true) → holds_kind a (x ∷ xs) ≡ true
-  go true f g later = or-first (rank x.kind == rank a) (holds_kind a xs) (and_parts (rank x.kind == rank a) (x.r == r) f).0
-  go false f g later = or-second (rank x.kind == rank a) (holds_kind a xs) (later g)
+  go true f g later = or-first (kind_rank x.kind == kind_rank a) (holds_kind a xs) (and_parts (kind_rank x.kind == kind_rank a) (x.r == r) f).0
+  go false f g later = or-second (kind_rank x.kind == kind_rank a) (holds_kind a xs) (later g)
 
 unarmed : (t : Bool) → not t ≡ false → t ≡ true
 unarmed true e = refl
@@ -92,22 +92,22 @@ module _ (files : FilesAt) (x : Conn) (truth : IsTruthful files x) (acts : AcksW
 
     module _ (row : BackRow) (b : ControlBlock) (t : Stay) (found : p.row ≡ Some row) (at : row.stage ≡ back.Here b) (stays : p.stay ≡ Some t) where
       clear : is_clear b.send ≡ true
-      clear = unarmed (is_clear b.send) (sym (ap (λ (q : Option BackRow). is_unsaid (endpoint_of q)) found ∙ ap (λ (st : BackConn). is_unsaid (held_in st)) at) ∙ nodes n timer.Tcp)
+      clear = unarmed (is_clear b.send) (sym (ap (λ (q : Option BackRow). is_unsaid (back_endpoint q)) found ∙ ap (λ (st : BackConn). is_unsaid (back_held st)) at) ∙ nodes n timer.Tcp)
 
       comes : BatchComes files p.kept p.fetches (t.served + 1) t.batch
       comes = subst (StayComes files p) stays (subst (StageComes files p) at (subst (RowComes files p) found (awaits n)))
 
-      rests : (IsAwaited t.batch → ⊥) → Left
+      rests : (FirstIsAwaited t.batch → ⊥) → Left
       rests ready = inl (somewhere-done files x truth acts stops placed not_aborted not_reset client (inr (n, record { row = row; block = b; stay = t; found = found; at = at; stays = stays; clear = clear; ready = ready })))
 
-      by-first : (e : Entry) (es : List Entry) → t.batch ≡ e ∷ es → (q : Progress) → e.progress ≡ q → ComesBy files p.kept p.fetches (t.served + 1) e.verdict q → Left
-      by-first e es is (progress.Ready way) first by = rests (λ a. let no : next.Serve ≡ next.Stop = sym (ap next_by first) ∙ subst IsAwaited is a in cc)
+      by-first : (e : Entry) (es : List Entry) → t.batch ≡ e ∷ es → (q : Progress) → e.progress ≡ q → IsToCome files p.kept p.fetches (t.served + 1) e.verdict q → Left
+      by-first e es is (progress.Ready way) first by = rests (λ a. let no : next.Serve ≡ next.Stop = sym (ap next_by first) ∙ subst FirstIsAwaited is a in cc)
       by-first e es is progress.Named first by = absurd (both_ways (holds_kind timer.Ask p.kept) (nodes n timer.Ask) (found-held timer.Ask 0 p.kept by.0.0 by.0.1))
       by-first e es is (progress.Awaited node) first by = absurd (both_ways (holds_kind timer.Fetch p.fetches) (nodes n timer.Fetch) (found-held timer.Fetch (t.served + 1) p.fetches by.0 by.1))
       by-first e es is progress.Reading first by = inr (inr (n, row, b, t, e, es, found, at, stays, is, first))
 
       here-left : (es : List Entry) → t.batch ≡ es → Left
-      here-left [] is = rests (λ a. subst IsAwaited is a)
+      here-left [] is = rests (λ a. subst FirstIsAwaited is a)
       here-left (e ∷ es) is = by-first e es is e.progress refl (subst (BatchComes files p.kept p.fetches (t.served + 1)) is comes).0
 
     stay-left : (row : BackRow) (b : ControlBlock) → p.row ≡ Some row → row.stage ≡ back.Here b → (q : Option Stay) → p.stay ≡ q → StayAgrees l.w l.out l.vs pend b q → Left
@@ -134,7 +134,7 @@ module _ (files : FilesAt) (x : Conn) (truth : IsTruthful files x) (acts : AcksW
   front-left row found stage.Lent at agrees = absurd agrees
   front-left row found (stage.Offering n e) at agrees = ⊎_elim
       (λ (a : IsPast row.epoch.0 (x.part.nodes n).row × IsOffering l.w l.out l.vs pend x.c n row.epoch.0 x.part.front.kept).
-      absurd (both_ways (front_armed x.part.front timer.Offer) (front timer.Offer) (ap (list_any (λ (q : Kept). rank q.kind == rank timer.Offer)) a.1.kept_is)))
+      absurd (both_ways (front_armed x.part.front timer.Offer) (front timer.Offer) (ap (list_any (λ (q : Kept). kind_rank q.kind == kind_rank timer.Offer)) a.1.kept_is)))
       (λ (a : IsDecided row.epoch.0 (x.part.nodes n).row × NodeAgrees l.w l.out l.vs pend l.was_reset x.c (x.part.nodes n)). node-left n (x.part.nodes n).row refl a.1) agrees
   front-left row found (stage.Moved n e) at agrees = node-left n (x.part.nodes n).row refl agrees.1
   front-left row found (stage.Closed last) at agrees = inl (closed-done files x truth acts ends not_aborted not_reset client.station client.there row last found at)
@@ -152,7 +152,7 @@ quiet-or-else config files m small r c s there calm not_aborted not_reset quiet 
     let here = calm-at config files m c calm in
     let truth : IsTruthful (file_at files) x = states-truthful config files small m r c here in
     let kept = timers-kept config files m r c in
-    let armed : is_armed s.client ≡ false = ap station_armed (sym there) ∙ sym (kept (Client c) refl timer.Tcp) ∙ quiet (Client c) timer.Tcp in
+    let armed : is_client_armed s.client ≡ false = ap station_armed (sym there) ∙ sym (kept (Client c) refl timer.Tcp) ∙ quiet (Client c) timer.Tcp in
     let client : ClientRests x = record { station = s; there = there; quiet = armed } in
     ⊎_elim (λ (d : IsDone (file_at files) x). inl (complete config files m c d)) (λ rest. inr rest)
     (still-left (file_at files) x truth (connections-ack config files small m r c here) (connections-stop config files m r c) (connections-were-closed config files small m r c here) (connections-await config files m r c) (each-placed config files m r c)

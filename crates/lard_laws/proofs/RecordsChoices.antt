@@ -14,9 +14,9 @@ use Rattle.lard_dispatch.specs.declared.dispatch.Ask.{Ask}
 use Rattle.lard_dispatch.specs.declared.dispatch.First.TheVariants as first
 use Rattle.lard_dispatch.specs.declared.line.Waiting.{Waiting}
 use Rattle.lard_dispatch.specs.Books.{Books, Dispatcher}
-use Rattle.lard_dispatch.specs.Calls.{all_choices, batch_over, choice_at, ended_answer, first_answer, is_full, later_answer, next_answer, released_from, shared_with}
+use Rattle.lard_dispatch.specs.Calls.{all_choices, batch_over, choice_at, ended_answer, first_answer, is_full, later_answer, next_admission, released_from, shared_with}
 use Rattle.lard_dispatch.specs.Sound as sound
-use Rattle.lard_dispatch.specs.Sound.{IsSound}
+use Rattle.lard_dispatch.specs.Sound.{IsDispatcherSound}
 use Rattle.lard_dispatch.proofs.Chosen.{IsChosen, all-filter, all-numbers, choice-within}
 use Rattle.lard_dispatch.proofs.Counted.{cheapest-has}
 use Rattle.lard_dispatch.proofs.Sharing.{add-home}
@@ -63,7 +63,7 @@ as-many cfg ask now (p ∷ ps) b = ap suc (as-many cfg ask now ps (shared_with c
 
 -- ---- a dispatcher
 
-module _ (d : Dispatcher) (is : IsSound d) where
+module _ (d : Dispatcher) (is : IsDispatcherSound d) where
   few : d.config.nodes ≤ 64
   few = (usable d.config is.usable).nodes
 
@@ -78,7 +78,7 @@ module _ (d : Dispatcher) (is : IsSound d) where
   pub later-length : (ask : Ask) (now : Millis) → length (later_answer d ask now).choices ≡ length ask.paths
   later-length ask now = as-many d.config ask now ask.paths (batch_over d.books ask)
 
-  next-fits : (c : ℕ) (now : Millis) (line : List Waiting) → IfSome (next_answer d.config now (released_from d.books c) line) (λ next. IsChosen 64 next.1)
+  next-fits : (c : ℕ) (now : Millis) (line : List Waiting) → IfSome (next_admission d.config now (released_from d.books c) line) (λ next. IsChosen 64 next.1)
   next-fits c now [] = tt
   next-fits c now (w ∷ ws) = wider d.config.nodes (choice_at d.config (released_from d.books c) w.target now) few
       (choice-within (released_from d.books c).loads (set_of d.books.sets w.target).members now (set_of d.books.sets w.target).modified d.config d.config.nodes is.nodes is.open_nodes is.some_open)

@@ -14,12 +14,12 @@ use Rattle.lard_rules.specs.declared.stay.Next.{Next}
 use Rattle.lard_rules.specs.declared.stay.Next.TheVariants.{Stop}
 use Rattle.lard_rules.specs.declared.stay.Progress.{Progress}
 use Rattle.lard_rules.specs.declared.stay.Progress.TheVariants.{Named, Reading, Awaited, Ready}
-use Rattle.lard_rules.specs.Stay.{NodeEnv, Work, asks_for, came_for, come_on, entered, enters, enters_first, enters_one, left_by, named_path, named_paths, next_by, next_in, noted, read_entry, reads_batch, reads_these, serves_by, serves_first, started, started_here, started_there, starts_at, starts_named, starts_one, tagged, turn, turned}
+use Rattle.lard_rules.specs.Stay.{NodeEnv, Work, asks_for, came_for, come_on, entered, enters, enters_first, enters_one, left_by, named_path, named_paths, next_by, next_in, noted, read_entry, reads_batch, reads_these, serves_by, serves_first, started, started_here, started_there, starts_at, starts_named, starts_one, tagged, stay_turn, turned}
 use Rattle.lard_reader.specs.Batches.{batch_of, bytes_used}
 use Rattle.lard_request.specs.declared.verdict.Verdict.{Verdict}
 use Rattle.lard_rules.specs.Loop.{Step, state_of}
 use Rattle.lard_rules.specs.Loop as loop
-use Rattle.lard_rules.specs.Serving.{Service, answered, consumed, may_read, passed_over, queued}
+use Rattle.lard_rules.specs.Serving.{Service, answered, serving_consumed, may_read, passed_over, queued}
 
 -- no more Asks and no more jobs than requests
 pub record IsCounted (w : Work) : Type 0 where
@@ -143,10 +143,10 @@ module _ (env : NodeEnv) where
 
   these-count : (here : Bool) (used : ℕ) (w : Work) (vs : List Verdict) → length w.batch ≤ 0 → IsCounted w → IsCountedIn (reads_these env here used w vs)
   these-count here used w [] none h =
-      let s : Service = consumed used w.service in
+      let s : Service = serving_consumed used w.service in
       cond_both s.block.recv.fin (record s { block = finishing s.block }) s (λ (t : Service). IsCounted (record w { service = t })) (λ t. record { asks = h.asks; jobs = h.jobs }) (λ t. record { asks = h.asks; jobs = h.jobs })
   these-count here used w (v ∷ vs) none h =
-      let x : Work = record w { service = consumed used w.service } in
+      let x : Work = record w { service = serving_consumed used w.service } in
       let y : Work = enters env here (w.service.count + 1) (v ∷ vs) x in
       let all : HasEntered (length (v ∷ vs)) x y = all-entered here (w.service.count + 1) (v ∷ vs) x in
       let batch = all.batch in
@@ -198,5 +198,5 @@ module _ (env : NodeEnv) where
     go (Awaited to) = h
 
   -- a turn of reading and serving
-  pub turn-counts : (w : Work) → IsCounted w → IsCountedIn (turn env w)
+  pub turn-counts : (w : Work) → IsCounted w → IsCountedIn (stay_turn env w)
   turn-counts w h = cond_both (may_read w.service) (next_in w.batch) Stop (λ (n : Next). IsCountedIn (turned env w n)) (λ t. next-counts w w.batch refl h) (λ t. h)

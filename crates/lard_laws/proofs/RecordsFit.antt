@@ -13,7 +13,7 @@ use Rattle.lard_endpoint.proofs.Windows.{emit-recv, segment-recv, timer-recv}
 use Rattle.lard_law_view.proofs.ByteLists.{AreBytes, bytes-decoded, bytes-index}
 use Rattle.lard_law_view.proofs.KeptBytes.{IsKept, emit-keeps, segment-keeps, timer-keeps}
 use Rattle.lard_message.specs.declared.message.Body.TheVariants as body
-use Rattle.lard_message.specs.Message.{Fits, IsOfTable}
+use Rattle.lard_message.specs.Message.{FitsFields, IsOfTable}
 use Rattle.lard_recv.specs.Recv.{Received}
 use Rattle.lard_recv.proofs.Window.{arrived-irs}
 use Rattle.lard_request.specs.declared.verdict.Verdict.{Verdict}
@@ -113,7 +113,7 @@ pub fit-listening : (syn : Said) (iss : ℕ) → IsTold syn → iss < 2 ^ 32 →
 fit-listening syn iss told small = record { block = listening-sound syn iss; irs = told.seq; iss = small; wide = record { wnd = told.wnd; wl1 = told.seq; wl2 = small } }
 
 -- one that goes on from an Offer
-pub fit-adopted : (p : EndpointParts) → IsValidParts p → Fits (body.Offer p) → IsFit (adopted p)
+pub fit-adopted : (p : EndpointParts) → IsValidParts p → FitsFields (body.Offer p) → IsFit (adopted p)
 fit-adopted p valid fits = record { block = adopted-sound p valid; irs = fits.0; iss = fits.1; wide = record { wnd = fits.2; wl1 = fits.3; wl2 = fits.4 } } where
   adopted-sound : (p : EndpointParts) → IsValidParts p → IsControlBlock (adopted p)
   adopted-sound p v =
@@ -149,7 +149,7 @@ fit-closed v b h = record {
 -- ---- it is offered
 
 -- the parts of a frozen one have a message
-pub offer-fits : (b : ControlBlock) (served : ℕ) → may_freeze b ≡ true → served + length b.recv.unread ≤ b.recv.got → IsFit b → IsOfTable (body.Offer (parts_of b served)) × Fits (body.Offer (parts_of b served))
+pub offer-fits : (b : ControlBlock) (served : ℕ) → may_freeze b ≡ true → served + length b.recv.unread ≤ b.recv.got → IsFit b → IsOfTable (body.Offer (parts_of b served)) × FitsFields (body.Offer (parts_of b served))
 offer-fits b served may read h = (parts-valid b served h.block may (omega (arith, read)), (h.irs, h.iss, h.wide.wnd, h.wide.wl1, h.wide.wl2))
 
 -- ---- what is kept of a connection here

@@ -15,13 +15,13 @@ use Rattle.lard_dispatch.specs.Calls.{ended_answer}
 use Rattle.lard_endpoint.specs.declared.control.moving.Final.{Final}
 use Rattle.lard_rules.specs.declared.front.FrontState.{FrontState}
 use Rattle.lard_rules.specs.declared.front.FrontTurn.{FrontTurn}
-use Rattle.lard_rules.specs.Front.{Deed, Drops, Says, Does, Did, FrontEnv, FrontPart, admitted_by, front_admitted, front_armed, front_ended, front_gets, front_taken, front_asked, front_timer, ask_of, rest_of}
-use Rattle.lard_rules.specs.FrontPlace.{FrontSetting, admits, admits_too, ended_deed, front_deed, front_env, front_part, front_step, front_told, message_comes, put_back, timers_of}
+use Rattle.lard_rules.specs.Front.{FrontDeed, Drops, Says, Does, Did, FrontEnv, FrontPart, admitted_by, front_admitted, front_armed, front_ended, front_gets, front_taken, front_asked, front_timer, ask_of, front_rest}
+use Rattle.lard_rules.specs.FrontPlace.{FrontSetting, admits, admits_too, ended_deed, front_deed, front_env, front_part, front_step, front_told, message_comes, put_back, front_timers}
 use Rattle.lard_rules.specs.FrontSound.{IsFrontSound}
 use Rattle.lard_rules.proofs.FrontKeeping.{put-all}
 use Rattle.lard_handoff_front.specs.declared.row.FrontRow.{FrontRow}
 use Rattle.lard_history.proofs.Each.{Each}
-use Rattle.lard_journal.specs.Range.{IsInRange, IsNumber}
+use Rattle.lard_journal.specs.Range.{IsRecordInRange, IsNumber}
 use Rattle.lard_law_view.proofs.ByteLists.{AreBytes}
 use Rattle.lard_message.specs.declared.fault.MsgFault.{MsgFault}
 use Rattle.lard_message.specs.declared.message.Body.{Body}
@@ -39,12 +39,12 @@ use Rattle.lard_segment.specs.Segment.{decoded}
 
 -- what comes to the front end is of a connection or of a node in range, and has bytes; a segment fits a message
 abbrev pub InputFits : FrontIn → Type 0
-InputFits (input.Segment c iss bytes) = cluster.IsNumber c × AreBytes bytes × (iss.0 < 2 ^ 32) × (length bytes ≤ MAX_SEGMENT_BYTES)
+InputFits (input.Segment c iss bytes) = cluster.IsConnNumber c × AreBytes bytes × (iss.0 < 2 ^ 32) × (length bytes ≤ MAX_SEGMENT_BYTES)
 InputFits (input.Message from bytes) = IsNumber from × AreBytes bytes × SaysPaths bytes
-InputFits (input.Timer c) = cluster.IsNumber c
+InputFits (input.Timer c) = cluster.IsConnNumber c
 
 -- the number of a connection of which a message is
-pub message-number : (m : Message) → IsMessage m → cluster.IsNumber m.c
+pub message-number : (m : Message) → IsMessage m → cluster.IsConnNumber m.c
 message-number m h = (h.some_connection, h.connection)
 
 module _ (k : FrontSetting) (small : k.stream ≤ 2 ^ 30) (named : AreNamed k.files) (s : FrontState) (sound : IsFrontSound s) (held : (c : ℕ) → FrontKeeps c (front_part s c)) where
@@ -65,13 +65,13 @@ module _ (k : FrontSetting) (small : k.stream ≤ 2 ^ 30) (named : AreNamed k.fi
   put-keeps : (c : ℕ) (x : Did) → FrontKeeps c x.part → (q : ℕ) → FrontKeeps q (front_part (put_back s c x) q)
   put-keeps c x h q = put-all FrontKeeps s c x.part h (λ q n. held q) q
 
-  changed : (t : FrontState) (c : ℕ) (p : FrontPart) → cluster.IsNumber c → Each IsInRange (timers_of c (front_part t c) p)
+  changed : (t : FrontState) (c : ℕ) (p : FrontPart) → cluster.IsConnNumber c → Each IsRecordInRange (front_timers c (front_part t c) p)
   changed t c p n = timers-range Front c (front_armed (front_part t c)) (front_armed p) tt (conn-number c n)
 
-  did-fits : (c : ℕ) (x : Did) → cluster.IsNumber c → FrontKeeps c x.part → FrontTurnFits x.turn → StepFits (front_deed s c (Does x))
-  did-fits c x n h t = (put-keeps c x h, turn-fits Front x.turn.notes x.turn.segments x.turn.gave x.turn.messages (timers_of c (front_part s c) x.part) x.turn.answered t (changed s c x.part n))
+  did-fits : (c : ℕ) (x : Did) → cluster.IsConnNumber c → FrontKeeps c x.part → FrontTurnFits x.turn → StepFits (front_deed s c (Does x))
+  did-fits c x n h t = (put-keeps c x h, turn-fits Front x.turn.notes x.turn.segments x.turn.gave x.turn.messages (front_timers c (front_part s c) x.part) x.turn.answered t (changed s c x.part n))
 
-  deed-fits : (c : ℕ) (d : Deed) → cluster.IsNumber c → DeedFits c d → StepFits (front_deed s c d)
+  deed-fits : (c : ℕ) (d : FrontDeed) → cluster.IsConnNumber c → DeedFits c d → StepFits (front_deed s c d)
   deed-fits c Drops n h = still
   deed-fits c (Says t) n h = (held, turn-fits Front t.notes t.segments t.gave t.messages [] t.answered h tt)
   deed-fits c (Does x) n h = did-fits c x n h.0 h.1
@@ -79,26 +79,26 @@ module _ (k : FrontSetting) (small : k.stream ≤ 2 ^ 30) (named : AreNamed k.fi
   -- ---- where a connection ended
 
   -- who waits has a number
-  waits-number : (env : FrontEnv) (c : ℕ) (p : FrontPart) (choice : FirstChoice) (y : FrontPart × FrontTurn) → RowKeeps c (rest_of p.rest).count p.row → front_admitted env p choice ≡ Some y → cluster.IsNumber c
+  waits-number : (env : FrontEnv) (c : ℕ) (p : FrontPart) (choice : FirstChoice) (y : FrontPart × FrontTurn) → RowKeeps c (front_rest p.rest).count p.row → front_admitted env p choice ≡ Some y → cluster.IsConnNumber c
   waits-number env c p choice y h e = go p.row h e where
-    go : (o : Option FrontRow) → RowKeeps c (rest_of p.rest).count o → admitted_by env p choice o ≡ Some y → cluster.IsNumber c
+    go : (o : Option FrontRow) → RowKeeps c (front_rest p.rest).count o → admitted_by env p choice o ≡ Some y → cluster.IsConnNumber c
     go None k is = let no : ◌≡◌ {A = Option (FrontPart × FrontTurn)} None (Some y) = is in absurd cc
     go (Some row) k is = k.0
 
-  module _ (c : ℕ) (x : Did) (n : cluster.IsNumber c) (h : FrontKeeps c x.part) (t : FrontTurnFits x.turn) where
+  module _ (c : ℕ) (x : Did) (n : cluster.IsConnNumber c) (h : FrontKeeps c x.part) (t : FrontTurnFits x.turn) where
     abbrev after : FrontState
     after = put_back s c x
 
     admitted-fits : (d : ℕ) (choice : FirstChoice) (y : FrontPart × FrontTurn) → IsChosen 64 choice → front_admitted (front_env k after d 0) (front_part after d) choice ≡ Some y → StepFits (admits_too s after c x d (Some y))
     admitted-fits d choice y chosen e =
         let its : FrontKeeps d (front_part after d) = put-keeps c x h d in
-        let number : cluster.IsNumber d = waits-number (front_env k after d 0) d (front_part after d) choice y its.row e in
+        let number : cluster.IsConnNumber d = waits-number (front_env k after d 0) d (front_part after d) choice y its.row e in
         let all : AdmissionFits d (front_admitted (front_env k after d 0) (front_part after d) choice) =
         front.admitted-fits (front_env k after d 0) refl number small named (front_part after d) its choice chosen in
         let both : FrontKeeps d y.0 × FrontTurnFits y.1 = subst (AdmissionFits d) e all in (
           put-all FrontKeeps after d y.0 both.0 (λ q other. put-keeps c x h q),
           both-fit Front x.turn.notes y.1.notes x.turn.segments y.1.segments x.turn.gave y.1.gave x.turn.messages y.1.messages _ x.turn.answered t both.1
-              (ordered-range c d (timers_of c (front_part s c) x.part) (timers_of d (front_part after d) y.0) (changed s c x.part n) (changed after d y.0 number)),
+              (ordered-range c d (front_timers c (front_part s c) x.part) (front_timers d (front_part after d) y.0) (changed s c x.part n) (changed after d y.0 number)),
         )
 
     too-fits : (d : ℕ) (choice : FirstChoice) (o : Option (FrontPart × FrontTurn)) → IsChosen 64 choice → front_admitted (front_env k after d 0) (front_part after d) choice ≡ o → StepFits (admits_too s after c x d o)
@@ -109,7 +109,7 @@ module _ (k : FrontSetting) (small : k.stream ≤ 2 ^ 30) (named : AreNamed k.fi
     admits-fit None chosen = did-fits c x n h t
     admits-fit (Some next) chosen = too-fits next.0 next.1 (front_admitted (front_env k after next.0 0) (front_part after next.0) next.1) chosen refl
 
-  ended-fits : (c : ℕ) (d : Deed) → cluster.IsNumber c → DeedFits c d → StepFits (ended_deed k s c d)
+  ended-fits : (c : ℕ) (d : FrontDeed) → cluster.IsConnNumber c → DeedFits c d → StepFits (ended_deed k s c d)
   ended-fits c Drops n h = still
   ended-fits c (Says t) n h = deed-fits c (Says t) n h
   ended-fits c (Does x) n h = admits-fit c x n h.0 h.1 (ended_answer s.dispatch c k.now) (choices.ended-fits s.dispatch sound.books c k.now)

@@ -33,8 +33,8 @@ use Rattle.lard_endpoint.specs.Leaving.{after_timer, timed}
 use Rattle.lard_endpoint.specs.Moving.{may_freeze}
 use Rattle.lard_rules.specs.declared.front.FrontRest.{FrontRest}
 use Rattle.lard_rules.specs.declared.front.FrontTurn.{FrontTurn}
-use Rattle.lard_rules.specs.Front.{Deed, Drops, Says, Does, FrontEnv, FrontPart, ack_sent, admitted_at, admitted_by, admitted_with, ask_of, asked_by, assigned_notes, assigns, begun, ended_by, fired, fired_by, fires_at, forwarded, front_admitted, front_asked, front_ended, front_gets, front_hears, front_taken, front_timer, handed_off, heard, hears_at, holds, is_at, is_with, met, offer_kept, over_note, placed, rest_of, rests, saying, settled_by, tag_sent, taken_by, turn_here, waits_on}
-use Rattle.lard_rules.specs.FrontReading.{MayMove, Reading, block_at, left, reads, reads_block, reads_found, targeted, turn}
+use Rattle.lard_rules.specs.Front.{FrontDeed, Drops, Says, Does, FrontEnv, FrontPart, ack_sent, admitted_at, admitted_by, front_admitted_with, ask_of, asked_by, assigned_notes, assigns, front_begun, front_ended_by, front_fired, front_fired_by, fires_at, forwarded, front_admitted, front_asked, front_ended, front_gets, front_hears, front_taken, front_timer, handed_off, heard, hears_at, holds, is_row_at, is_with, met, offer_kept, over_note, placed, front_rest, front_rests, front_saying, settled_by, tag_sent, taken_by, turn_here, waits_on}
+use Rattle.lard_rules.specs.FrontReading.{MayMove, Reading, block_at, reading_left, front_reads, reads_block, reads_found, targeted, reading_turn}
 use Rattle.lard_rules.proofs.FrontBlocks.{EndsIdle, EndsServing, ServesAs, idle-of, segment-idle, segment-serves, settled-serves, spoken-idle, spoken-serves, timer-idle, timer-serves}
 use Rattle.lard_rules.proofs.FrontTurns.{HasStopped, reads-stop}
 use Rattle.lard_handoff_front.specs.declared.row.FrontConn.{FrontConn}
@@ -46,7 +46,7 @@ use Rattle.lard_handoff_front.specs.Front.{asked_node, end_answer, ended_with, n
 use Rattle.lard_handoff_front.specs.Row.{is_away, offered_to}
 use Rattle.lard_history.proofs.Each.{Each, Each-append}
 use Rattle.lard_journal.specs.declared.rec.Rec.TheVariants as rec
-use Rattle.lard_journal.specs.Range.{IsChoiceInRange, IsInRange, IsNumber, IsPlaceInRange, IsUnspaced}
+use Rattle.lard_journal.specs.Range.{IsChoiceInRange, IsRecordInRange, IsNumber, IsPlaceInRange, IsUnspaced}
 use Rattle.lard_law_view.proofs.ByteLists.{AreBytes}
 use Rattle.lard_message.specs.declared.message.Body.TheVariants as body
 use Rattle.lard_message.specs.Message as message
@@ -63,7 +63,7 @@ use Rattle.lard_rules.specs.declared.places.Turn.{Turn}
 use Rattle.lard_rules.specs.Tombstone.{is_plain_syn, is_telling, last_ack, last_words, refusal, tombstone}
 use Rattle.lard_rules.specs.Loop.{Step}
 use Rattle.lard_rules.specs.Loop as loop
-use Rattle.lard_rules.specs.Serving.{Service, consumed, may_read, ready_of, serving, settled, spoken, told}
+use Rattle.lard_rules.specs.Serving.{Service, serving_consumed, may_read, serving_ready_of, serving, serving_settled, spoken, serving_told}
 use Rattle.lard_segment.specs.declared.fault.SegFault.{SegFault}
 use Rattle.lard_segment.specs.Segment.{Said}
 
@@ -88,7 +88,7 @@ StageKeeps e count (stage.Closed last) = Unit {0}
 
 abbrev pub RowKeeps : ℕ → ℕ → Option FrontRow → Type 0
 RowKeeps c count None = Unit {0}
-RowKeeps c count (Some row) = cluster.IsNumber c × StageKeeps row.epoch.0 count row.stage
+RowKeeps c count (Some row) = cluster.IsConnNumber c × StageKeeps row.epoch.0 count row.stage
 
 -- The path with which it waits names a file, and the last Tag has one to eight nodes. Each Ask that was answered assigned at most
 -- eight requests.
@@ -101,13 +101,13 @@ pub record RestKeeps (rest : FrontRest) : Type 0 where
   pub target : IfSome rest.target IsNamed
 
 pub record FrontKeeps (c : ℕ) (p : FrontPart) : Type 0 where
-  pub row : RowKeeps c (rest_of p.rest).count p.row
-  pub rest : RestKeeps (rest_of p.rest)
+  pub row : RowKeeps c (front_rest p.rest).count p.row
+  pub rest : RestKeeps (front_rest p.rest)
   pub kept : AreHeld place.Front p.kept
   pub few : length p.kept ≤ 1
 
 -- nothing is known of what was done
-pub no-rest : RestKeeps (rest_of None)
+pub no-rest : RestKeeps (front_rest None)
 no-rest = record { assigned = omega arith; asks = omega arith; tag = tt; some = λ h. absurd (omega (arith, h)); short = omega arith; target = tt }
 
 -- ---- what the dispatcher answers
@@ -135,7 +135,7 @@ choice-range (Some n) h = node-number n h
 abbrev pub FrontTurnFits : FrontTurn → Type 0
 FrontTurnFits t = IsTurn place.Front t.notes t.segments t.gave t.messages
 
-abbrev pub DeedFits : ℕ → Deed → Type 0
+abbrev pub DeedFits : ℕ → FrontDeed → Type 0
 DeedFits c Drops = Unit {0}
 DeedFits c (Says t) = FrontTurnFits t
 DeedFits c (Does x) = FrontKeeps c x.part × FrontTurnFits x.turn
@@ -151,13 +151,13 @@ here-fits t h = record { notes = h.notes; segments = h.sent; few = h.few; gave =
 
 -- the records by which the requests of an Ask are assigned
 assigned-range : (c : ℕ) (ask : Ask) (r : ℕ) (paths : List (List ℕ)) (choices : List LaterChoice) → IsNumber c → r + length choices ≤ 2 ^ 40 → IsNumber ask.size → IsNumber ask.queue → Each IsUnspaced paths
-    → Each IsLater choices → Each IsInRange (assigned_notes c ask r paths choices)
+    → Each IsLater choices → Each IsRecordInRange (assigned_notes c ask r paths choices)
 assigned-range c ask r [] choices n few size queue ps cs = tt
 assigned-range c ask r (path ∷ paths) [] n few size queue ps cs = tt
 assigned-range c ask r (path ∷ paths) (choice ∷ choices) n few size queue ps cs =
     ((n, omega (arith, few), ps.0, node-number choice.node cs.0.node, choice-range choice.add cs.0.add, size, queue), assigned-range c ask (r + 1) paths choices n (omega (arith, few)) size queue ps.1 cs.1)
 
-over-range : (c : ℕ) (b : Bool) → IsNumber c → Each IsInRange (over_note c b)
+over-range : (c : ℕ) (b : Bool) → IsNumber c → Each IsRecordInRange (over_note c b)
 over-range c true n = (n, tt)
 over-range c false n = tt
 
@@ -193,7 +193,7 @@ may-open w may = not-true w.block.send.finished (and_parts (not w.block.send.fin
 
 -- ---- the rules, in an environment of the front end
 
-module _ (env : FrontEnv) (own : env.serve.place ≡ place.Front) (conn : cluster.IsNumber env.serve.c) (small : env.serve.stream ≤ 2 ^ 30) (named : AreNamed env.serve.files) where
+module _ (env : FrontEnv) (own : env.serve.place ≡ place.Front) (conn : cluster.IsConnNumber env.serve.c) (small : env.serve.stream ≤ 2 ^ 30) (named : AreNamed env.serve.files) where
   abbrev c : ℕ
   c = env.serve.c
 
@@ -230,23 +230,23 @@ module _ (env : FrontEnv) (own : env.serve.place ≡ place.Front) (conn : cluste
   IsOpen x = x.service.block.send.finished ≡ false
 
   block-reads : (x : Reading) (n : ℕ) (v : Verdict) (o : Option (List ℕ)) → IsOpen x → IfSome o IsNamed → IsReading x → IsReadingIn (reads_block env.serve x n v o)
-  block-reads x n v None open_ k h = (answered-serves env.serve number small (contents env.serve.files named) at Own v (consumed n x.service) tt open_ (consumed-serves env.serve number small (contents env.serve.files named) at n x.service h.0), h.1)
+  block-reads x n v None open_ k h = (answered-serves env.serve number small (contents env.serve.files named) at Own v (serving_consumed n x.service) tt open_ (consumed-serves env.serve number small (contents env.serve.files named) at n x.service h.0), h.1)
   block-reads x n v (Some path) open_ k h = targeted-reads path x k h
 
   found-reads : (x : Reading) (f : Found) → IsOpen x → IsReading x → IsReadingIn (reads_found env.serve x f)
-  found-reads x (More skip) open_ h = (ended-serves env.serve number small (contents env.serve.files named) at (consumed skip x.service) (consumed-serves env.serve number small (contents env.serve.files named) at skip x.service h.0), h.1)
+  found-reads x (More skip) open_ h = (ended-serves env.serve number small (contents env.serve.files named) at (serving_consumed skip x.service) (consumed-serves env.serve number small (contents env.serve.files named) at skip x.service h.0), h.1)
   found-reads x (Block skip len) open_ h = block-reads x (skip + len) (block_at x skip len) (good_path env.serve.files (block_at x skip len)) open_ (verdict-named env.serve.files named (block_at x skip len)) h
   found-reads x (TooLong skip) open_ h = (
-    answered-serves env.serve number small (contents env.serve.files named) at Own (Fault code.FieldsTooLarge) (consumed (length x.service.block.recv.unread) x.service) tt open_
+    answered-serves env.serve number small (contents env.serve.files named) at Own (Fault code.FieldsTooLarge) (serving_consumed (length x.service.block.recv.unread) x.service) tt open_
         (consumed-serves env.serve number small (contents env.serve.files named) at (length x.service.block.recv.unread) x.service h.0),
     h.1,
   )
 
-  turn-reads : (x : Reading) → IsReading x → IsReadingIn (turn env.serve x)
+  turn-reads : (x : Reading) → IsReading x → IsReadingIn (reading_turn env.serve x)
   turn-reads x h = cond_both (may_read x.service) (reads_found env.serve x (cut_of x.service.block.recv.unread)) (loop.Done x) IsReadingIn (λ t. found-reads x (cut_of x.service.block.recv.unread) (may-open x.service t) h) (λ t. h)
 
-  reads-read : (x : Reading) → IsReading x → IsReading (reads env.serve x)
-  reads-read x h = runs_keep (turn env.serve) left IsReading (record {
+  reads-read : (x : Reading) → IsReading x → IsReading (front_reads env.serve x)
+  reads-read x h = runs_keep (reading_turn env.serve) reading_left IsReading (record {
     more = λ y z e p. subst IsReadingIn e (turn-reads y p);
     done = λ y z e p. subst IsReadingIn e (turn-reads y p);
   }) x h
@@ -254,7 +254,7 @@ module _ (env : FrontEnv) (own : env.serve.place ≡ place.Front) (conn : cluste
   -- ---- a connection that is here
 
   module _ (p : FrontPart) (held : FrontKeeps c p) where
-    abbrev Fits : Deed → Type 0
+    abbrev Fits : FrontDeed → Type 0
     Fits d = DeedFits c d
 
     -- it stays in a stage
@@ -270,7 +270,7 @@ module _ (env : FrontEnv) (own : env.serve.place ≡ place.Front) (conn : cluste
     stays-waiting e (ending.Here b count) first k serves idle = (first, k, serves, idle)
     stays-waiting e (ending.Over last) first k serves idle = tt
 
-    rests-keep : (row : FrontRow) (rest : FrontRest) (stays : ControlBlock → FrontConn) (e : Ending) → StaysIn row.epoch.0 stays e → RestKeeps rest → FrontKeeps c (rests p row rest stays e)
+    rests-keep : (row : FrontRow) (rest : FrontRest) (stays : ControlBlock → FrontConn) (e : Ending) → StaysIn row.epoch.0 stays e → RestKeeps rest → FrontKeeps c (front_rests p row rest stays e)
     rests-keep row rest stays (ending.Here b count) on r = record {
       row = (conn, on);
       rest = record { assigned = r.assigned; asks = r.asks; tag = r.tag; some = r.some; short = r.short; target = r.target };
@@ -302,7 +302,7 @@ module _ (env : FrontEnv) (own : env.serve.place ≡ place.Front) (conn : cluste
             few = omega arith;
           },
           record {
-            notes = Each-append IsInRange w.notes (rec.Admitted c ∷ rec.AssignedFirst c (w.count + 1) path choice.node choice.add choice.remove ∷ []) h.notes
+            notes = Each-append IsRecordInRange w.notes (rec.Admitted c ∷ rec.AssignedFirst c (w.count + 1) path choice.node choice.add choice.remove ∷ []) h.notes
                 (number, ((number, omega (arith, few), n.0, node-number choice.node chosen.node, choice-range choice.add chosen.add, choice-range choice.remove chosen.remove), tt));
             segments = tt;
             few = omega arith;
@@ -317,7 +317,7 @@ module _ (env : FrontEnv) (own : env.serve.place ≡ place.Front) (conn : cluste
     placed-fits row rest w path (first.Go choice) early r h serves may n chosen = handed-fits row w path choice early h serves may n chosen
     placed-fits row rest w path first.Waits early r h serves may n chosen =
         let v : Service = record w { notes = w.notes ++ rec.Waits c ∷ [] } in
-        let says : EndFits place.Front (spoken env.serve v []) = spoken-front v [] tt (omega arith) (record { notes = Each-append IsInRange w.notes (rec.Waits c ∷ []) h.notes (number, tt); keeps = h.keeps; over = h.over }) in (
+        let says : EndFits place.Front (spoken env.serve v []) = spoken-front v [] tt (omega arith) (record { notes = Each-append IsRecordInRange w.notes (rec.Waits c ∷ []) h.notes (number, tt); keeps = h.keeps; over = h.over }) in (
           rests-keep row (record rest { target = Some path }) stage.Waiting (spoken env.serve v []).0
               (stays-waiting row.epoch.0 (spoken env.serve v []).0 early says.keeps (spoken-serves env.serve v [] serves) (spoken-idle env.serve v [] (idle-of w.block may serves.sent)))
               (record { assigned = r.assigned; asks = r.asks; tag = r.tag; some = r.some; short = r.short; target = n }),
@@ -327,23 +327,23 @@ module _ (env : FrontEnv) (own : env.serve.place ≡ place.Front) (conn : cluste
     settled_by-fits : AnswersFit env → (row : FrontRow) (rest : FrontRest) (w : Service) (o : Option (List ℕ)) → row.epoch.0 ≤ 1 → RestKeeps rest → IsServing w → ServesAs w.count w.block → MayMove w.block o → IfSome o IsNamed
         → Fits (settled_by env p row rest w o)
     settled_by-fits answers row rest w None early r h serves may n =
-        holds-fits row rest (settled env.serve w) early r (subst (λ (q : Place). EndFits q (settled env.serve w)) own (settled-fits env.serve number small (contents env.serve.files named) at w h)) (settled-serves env.serve w serves)
+        holds-fits row rest (serving_settled env.serve w) early r (subst (λ (q : Place). EndFits q (serving_settled env.serve w)) own (settled-fits env.serve number small (contents env.serve.files named) at w h)) (settled-serves env.serve w serves)
     settled_by-fits answers row rest w (Some path) early r h serves may n = placed-fits row rest w path (env.first path) early r h serves may n (answers.first path)
 
     heard-fits : AnswersFit env → (row : FrontRow) (rest : FrontRest) (b : ControlBlock) → row.epoch.0 ≤ 1 → RestKeeps rest → Keeps rest.count b → ServesAs rest.count b → Fits (heard env p row rest b)
     heard-fits answers row rest b early r k serves =
         let x : Reading = record { service = serving b rest.count []; target = None } in
-        let done : IsReading (reads env.serve x) = reads-read x (record { notes = tt; keeps = k; over = tt }, tt) in
-        let stopped : HasStopped (reads env.serve x) = reads-stop env.serve (serving b rest.count []) serves in
-        settled_by-fits answers row rest (reads env.serve x).service (reads env.serve x).target early r done.0 stopped.0 stopped.1 done.1
+        let done : IsReading (front_reads env.serve x) = reads-read x (record { notes = tt; keeps = k; over = tt }, tt) in
+        let stopped : HasStopped (front_reads env.serve x) = reads-stop env.serve (serving b rest.count []) serves in
+        settled_by-fits answers row rest (front_reads env.serve x).service (front_reads env.serve x).target early r done.0 stopped.0 stopped.1 done.1
 
     -- ---- segments
 
     met-fits : (s : Said) → IsTold s → env.iss < 2 ^ 32 → Fits (met env p s)
     met-fits s told first =
         let w : Service = serving (listening s env.iss) 0 (rec.Took place.Front c (record { 0 = 1 }) ∷ []) in
-        cond_both (is_plain_syn s) (begun env p s) Drops Fits
-        (λ t. holds-fits (record { stage = stage.Lent; epoch = record { 0 = 1 }; ended_by = None }) (rest_of None) (spoken env.serve w []) (omega arith) no-rest
+        cond_both (is_plain_syn s) (front_begun env p s) Drops Fits
+        (λ t. holds-fits (record { stage = stage.Lent; epoch = record { 0 = 1 }; ended_by = None }) (front_rest None) (spoken env.serve w []) (omega arith) no-rest
         (spoken-front w [] tt (omega arith) (record { notes = ((tt, number, omega arith), tt); keeps = ((tt, omega arith, omega arith), tt, fit-listening s env.iss told first); over = tt }))
         (spoken-serves env.serve w [] (record { counted = omega arith; asked = omega arith; most = omega arith; sent = omega arith })))
         (λ t. tt)
@@ -353,7 +353,7 @@ module _ (env : FrontEnv) (own : env.serve.place ≡ place.Front) (conn : cluste
 
     -- an ended connection answers by one segment without data, or none
     one-fits : (s : Said) → s.payload ≡ [] → FrontTurnFits (turn_here (tombstone env.serve (Some s)))
-    one-fits s none = record { notes = tt; segments = (subst (λ (q : Place). IsLetter q (told env.serve s)) own (told-sent env.serve number s none), tt); few = omega arith; gave = tt; messages = tt; few_messages = omega arith }
+    one-fits s none = record { notes = tt; segments = (subst (λ (q : Place). IsLetter q (serving_told env.serve s)) own (told-sent env.serve number s none), tt); few = omega arith; gave = tt; messages = tt; few_messages = omega arith }
 
     none-fits : FrontTurnFits (turn_here (tombstone env.serve None))
     none-fits = sends place.Front [] tt (omega arith)
@@ -369,21 +369,21 @@ module _ (env : FrontEnv) (own : env.serve.place ≡ place.Front) (conn : cluste
     fresh : (b : ControlBlock) (count : ℕ) → Keeps count b → IsServing (serving b count [])
     fresh b count k = record { notes = tt; keeps = k; over = tt }
 
-    hears_at-fits : AnswersFit env → (row : FrontRow) (bytes : List ℕ) (s : Said) (x : FrontConn) → AreBytes bytes → IsSegment bytes → IsTold s → StageKeeps row.epoch.0 (rest_of p.rest).count x
+    hears_at-fits : AnswersFit env → (row : FrontRow) (bytes : List ℕ) (s : Said) (x : FrontConn) → AreBytes bytes → IsSegment bytes → IsTold s → StageKeeps row.epoch.0 (front_rest p.rest).count x
         → Fits (hears_at env p row bytes s x)
     hears_at-fits answers row bytes s (stage.Held b) h long d k =
-        heard-fits answers row (rest_of p.rest) (on_segment b s).1 k.0 held.rest (keeping-segment ((rest_of p.rest).count - 2 ^ 30) b s d k.1) (segment-serves (rest_of p.rest).count b s k.2)
+        heard-fits answers row (front_rest p.rest) (on_segment b s).1 k.0 held.rest (keeping-segment ((front_rest p.rest).count - 2 ^ 30) b s d k.1) (segment-serves (front_rest p.rest).count b s k.2)
     hears_at-fits answers row bytes s (stage.Waiting b) h long d k =
-        let w : Service = serving (on_segment b s).1 (rest_of p.rest).count [] in
-        waits-fits row (rest_of p.rest) (spoken env.serve w []) k.0 held.rest
-        (spoken-front w [] tt (omega arith) (fresh (on_segment b s).1 (rest_of p.rest).count (keeping-segment ((rest_of p.rest).count - 2 ^ 30) b s d k.1)))
-        (spoken-serves env.serve w [] (segment-serves (rest_of p.rest).count b s k.2)) (spoken-idle env.serve w [] (segment-idle b s (idle-of b k.3 k.2.sent)))
+        let w : Service = serving (on_segment b s).1 (front_rest p.rest).count [] in
+        waits-fits row (front_rest p.rest) (spoken env.serve w []) k.0 held.rest
+        (spoken-front w [] tt (omega arith) (fresh (on_segment b s).1 (front_rest p.rest).count (keeping-segment ((front_rest p.rest).count - 2 ^ 30) b s d k.1)))
+        (spoken-serves env.serve w [] (segment-serves (front_rest p.rest).count b s k.2)) (spoken-idle env.serve w [] (segment-idle b s (idle-of b k.3 k.2.sent)))
     hears_at-fits answers row bytes s stage.Lent h long d k = tt
     hears_at-fits answers row bytes s (stage.Offering node epoch) h long d k = forwarded-fits node epoch bytes k.1 k.2 h long
     hears_at-fits answers row bytes s (stage.Moved node epoch) h long d k = forwarded-fits node epoch bytes k.1 k.2 h long
     hears_at-fits answers row bytes s (stage.Closed last) h long d k = ended-fits last.reason last s
 
-    hears-fits : AnswersFit env → env.iss < 2 ^ 32 → (bytes : List ℕ) (s : Said) (o : Option FrontRow) → AreBytes bytes → IsSegment bytes → IsTold s → RowKeeps c (rest_of p.rest).count o → Fits (front_hears env p bytes s o)
+    hears-fits : AnswersFit env → env.iss < 2 ^ 32 → (bytes : List ℕ) (s : Said) (o : Option FrontRow) → AreBytes bytes → IsSegment bytes → IsTold s → RowKeeps c (front_rest p.rest).count o → Fits (front_hears env p bytes s o)
     hears-fits answers first bytes s None h long d k = met-fits s d first
     hears-fits answers first bytes s (Some row) h long d k = hears_at-fits answers row bytes s row.stage h long d k.1
 
@@ -394,26 +394,26 @@ module _ (env : FrontEnv) (own : env.serve.place ≡ place.Front) (conn : cluste
 
     -- ---- timers
 
-    fired-fits : (rest : FrontRest) (b : ControlBlock) → Keeps rest.count b → EndFits place.Front (fired env rest b)
+    fired-fits : (rest : FrontRest) (b : ControlBlock) → Keeps rest.count b → EndFits place.Front (front_fired env rest b)
     fired-fits rest b k =
         let after : Keeps rest.count (after_timer b) = keeping-timer (rest.count - 2 ^ 30) b k in
-        spoken-front (serving (after_timer b) rest.count []) (ready_of env.serve (after_timer b) (timed b))
+        spoken-front (serving (after_timer b) rest.count []) (serving_ready_of env.serve (after_timer b) (timed b))
         (ready-sent env.serve number (rest.count - 2 ^ 30) (after_timer b) (timed b) after) (ready-few env.serve number (after_timer b) (timed b)) (fresh (after_timer b) rest.count after)
 
-    fired-serves : (rest : FrontRest) (b : ControlBlock) → ServesAs rest.count b → EndsServing (fired env rest b).0
-    fired-serves rest b h = spoken-serves env.serve (serving (after_timer b) rest.count []) (ready_of env.serve (after_timer b) (timed b)) (timer-serves rest.count b h)
+    fired-serves : (rest : FrontRest) (b : ControlBlock) → ServesAs rest.count b → EndsServing (front_fired env rest b).0
+    fired-serves rest b h = spoken-serves env.serve (serving (after_timer b) rest.count []) (serving_ready_of env.serve (after_timer b) (timed b)) (timer-serves rest.count b h)
 
-    fires_at-fits : (row : FrontRow) (x : FrontConn) → StageKeeps row.epoch.0 (rest_of p.rest).count x → Fits (fires_at env p row x)
-    fires_at-fits row (stage.Held b) k = holds-fits row (rest_of p.rest) (fired env (rest_of p.rest) b) k.0 held.rest (fired-fits (rest_of p.rest) b k.1) (fired-serves (rest_of p.rest) b k.2)
-    fires_at-fits row (stage.Waiting b) k = waits-fits row (rest_of p.rest) (fired env (rest_of p.rest) b) k.0 held.rest (fired-fits (rest_of p.rest) b k.1) (fired-serves (rest_of p.rest) b k.2)
-        (spoken-idle env.serve (serving (after_timer b) (rest_of p.rest).count []) (ready_of env.serve (after_timer b) (timed b)) (timer-idle b (idle-of b k.3 k.2.sent)))
+    fires_at-fits : (row : FrontRow) (x : FrontConn) → StageKeeps row.epoch.0 (front_rest p.rest).count x → Fits (fires_at env p row x)
+    fires_at-fits row (stage.Held b) k = holds-fits row (front_rest p.rest) (front_fired env (front_rest p.rest) b) k.0 held.rest (fired-fits (front_rest p.rest) b k.1) (fired-serves (front_rest p.rest) b k.2)
+    fires_at-fits row (stage.Waiting b) k = waits-fits row (front_rest p.rest) (front_fired env (front_rest p.rest) b) k.0 held.rest (fired-fits (front_rest p.rest) b k.1) (fired-serves (front_rest p.rest) b k.2)
+        (spoken-idle env.serve (serving (after_timer b) (front_rest p.rest).count []) (serving_ready_of env.serve (after_timer b) (timed b)) (timer-idle b (idle-of b k.3 k.2.sent)))
     fires_at-fits row (stage.Offering node epoch) k =
         let few = held.few in
         let as_many = length-held p.kept in
         sends place.Front (map sent_of p.kept) (held-sent place.Front p.kept held.kept) (omega (arith, few, as_many))
     fires_at-fits row _ k = tt
 
-    fired_by-fits : (o : Option FrontRow) → RowKeeps c (rest_of p.rest).count o → Fits (fired_by env p o)
+    fired_by-fits : (o : Option FrontRow) → RowKeeps c (front_rest p.rest).count o → Fits (front_fired_by env p o)
     fired_by-fits None k = tt
     fired_by-fits (Some row) k = fires_at-fits row row.stage k.1
 
@@ -437,11 +437,11 @@ module _ (env : FrontEnv) (own : env.serve.place ≡ place.Front) (conn : cluste
       go false none = let no : None ≡ Some node = none in absurd cc
     offered-node e count epoch _ node k is = let no : None ≡ Some node = is in absurd cc
 
-    taken_by-fits : (epoch : ℕ) → epoch < 2 ^ 16 → (o : Option FrontRow) (asked : Option ℕ) → asked_node epoch o ≡ asked → RowKeeps c (rest_of p.rest).count o → Fits (taken_by p epoch o asked)
+    taken_by-fits : (epoch : ℕ) → epoch < 2 ^ 16 → (o : Option FrontRow) (asked : Option ℕ) → asked_node epoch o ≡ asked → RowKeeps c (front_rest p.rest).count o → Fits (taken_by p epoch o asked)
     taken_by-fits epoch early None asked is k = tt
     taken_by-fits epoch early (Some row) None is k = tt
     taken_by-fits epoch early (Some row) (Some node) is k = (
-      record { row = (conn, (let offered = offered-node row.epoch.0 (rest_of p.rest).count epoch row.stage node k.1 is in (offered.0, offered.1, early))); rest = held.rest; kept = less; few = less-few },
+      record { row = (conn, (let offered = offered-node row.epoch.0 (front_rest p.rest).count epoch row.stage node k.1 is in (offered.0, offered.1, early))); rest = held.rest; kept = less; few = less-few },
       sends place.Front [] tt (omega arith),
     )
 
@@ -456,11 +456,11 @@ module _ (env : FrontEnv) (own : env.serve.place ≡ place.Front) (conn : cluste
     with-fits e count from epoch _ k is = let no : false ≡ true = is in absurd cc
 
     -- the node that asks is one
-    at-fits : (from epoch : ℕ) (o : Option FrontRow) → RowKeeps c (rest_of p.rest).count o → is_at from epoch o ≡ true → IsNode from
+    at-fits : (from epoch : ℕ) (o : Option FrontRow) → RowKeeps c (front_rest p.rest).count o → is_row_at from epoch o ≡ true → IsNode from
     at-fits from epoch None k is = let no : false ≡ true = is in absurd cc
-    at-fits from epoch (Some row) k is = with-fits row.epoch.0 (rest_of p.rest).count from epoch row.stage k.1 is
+    at-fits from epoch (Some row) k is = with-fits row.epoch.0 (front_rest p.rest).count from epoch row.stage k.1 is
 
-    tag-fits : (from epoch n : ℕ) (nodes : List ℕ) → IsNode from → epoch < 2 ^ 16 → n < 2 ^ 32 → AllByRecursion IsNode nodes → 1 ≤ length nodes → length nodes ≤ 8 → FrontTurnFits (saying (tag_sent env from epoch n nodes))
+    tag-fits : (from epoch n : ℕ) (nodes : List ℕ) → IsNode from → epoch < 2 ^ 16 → n < 2 ^ 32 → AllByRecursion IsNode nodes → 1 ≤ length nodes → length nodes ≤ 8 → FrontTurnFits (front_saying (tag_sent env from epoch n nodes))
     tag-fits from epoch n nodes node early low are some few =
         sends place.Front (tag_sent env from epoch n nodes)
         ((node-number from node, bytes-message c epoch (body.Tag n nodes) (omega (arith, few), nodes-bytes nodes are), tt, spells c epoch (body.Tag n nodes) conn early (some, few) (low, are)), tt) (omega arith)
@@ -471,7 +471,7 @@ module _ (env : FrontEnv) (own : env.serve.place ≡ place.Front) (conn : cluste
 
       assigns-fits : (rest : FrontRest) → p.rest ≡ Some rest → z ≡ rest.asks + 1 → (l : Later) → Each IsLater l.choices → length l.choices ≡ length paths → Fits (Does (assigns env p rest from epoch ask l))
       assigns-fits rest there next l chosen few =
-          let same : rest_of p.rest ≡ rest = ap rest_of there in
+          let same : front_rest p.rest ≡ rest = ap front_rest there in
           let r : RestKeeps rest = subst RestKeeps same held.rest in
           let most = r.assigned in
           let asks = r.asks in
@@ -481,7 +481,7 @@ module _ (env : FrontEnv) (own : env.serve.place ≡ place.Front) (conn : cluste
           let queue_small = asked.queue in
           let as_many = nodes-length l.choices in
           let one = asked.some in
-          let tag : FrontTurnFits (saying (tag_sent env from epoch z (map (λ x. x.node) l.choices))) =
+          let tag : FrontTurnFits (front_saying (tag_sent env from epoch z (map (λ x. x.node) l.choices))) =
           tag-fits from epoch z (map (λ x. x.node) l.choices) node early below (nodes-of l.choices chosen) (omega (arith, as_many, few, one)) (omega (arith, as_many, few, eight)) in (
             record {
               row = subst (λ (k : FrontRest). RowKeeps c k.count p.row) same held.row;
@@ -497,7 +497,7 @@ module _ (env : FrontEnv) (own : env.serve.place ≡ place.Front) (conn : cluste
               few = held.few;
             },
             record {
-              notes = Each-append IsInRange (over_note c l.over) (assigned_notes c ask rest.assigned paths l.choices) (over-range c l.over number)
+              notes = Each-append IsRecordInRange (over_note c l.over) (assigned_notes c ask rest.assigned paths l.choices) (over-range c l.over number)
                   (assigned-range c ask rest.assigned paths l.choices number (omega (arith, most, asks, few, eight)) (omega (arith, size_small)) (omega (arith, queue_small)) asked.paths chosen);
               segments = tt;
               few = omega arith;
@@ -510,14 +510,14 @@ module _ (env : FrontEnv) (own : env.serve.place ≡ place.Front) (conn : cluste
       asked_by-fits : AnswersFit env → (o : Option FrontRest) → p.rest ≡ o → Fits (asked_by env p from epoch ask o)
       asked_by-fits answers None there = tt
       asked_by-fits answers (Some rest) there =
-          let again : Deed = Says (saying (tag_sent env from epoch rest.asks rest.tag)) in
-          let r : RestKeeps rest = subst RestKeeps (ap rest_of there) held.rest in
+          let again : FrontDeed = Says (front_saying (tag_sent env from epoch rest.asks rest.tag)) in
+          let r : RestKeeps rest = subst RestKeeps (ap front_rest there) held.rest in
           cond_both (z == rest.asks + 1) (Does (assigns env p rest from epoch ask (env.later ask))) (cond (z == rest.asks && nat_lt 0 rest.asks) again Drops) Fits
           (λ t. assigns-fits rest there (eqb-true z (rest.asks + 1) t) (env.later ask) (answers.later ask node) (answers.as_many ask))
           (λ t. cond_both (z == rest.asks && nat_lt 0 rest.asks) again Drops Fits (λ u. tag-fits from epoch rest.asks rest.tag node early r.asks r.tag (r.some (ltb-true 0 rest.asks (and_parts (z == rest.asks) (nat_lt 0 rest.asks) u).1)) r.short) (λ u. tt))
 
     pub asked-fits : AnswersFit env → (from epoch z queue size : ℕ) (paths : List (List ℕ)) → epoch < 2 ^ 16 → IsAsked z queue size paths → Fits (front_asked env p from epoch (ask_of c from z queue size paths))
-    asked-fits answers from epoch z queue size paths early asked = cond_both (is_at from epoch p.row) (asked_by env p from epoch (ask_of c from z queue size paths) p.rest) Drops Fits
+    asked-fits answers from epoch z queue size paths early asked = cond_both (is_row_at from epoch p.row) (asked_by env p from epoch (ask_of c from z queue size paths) p.rest) Drops Fits
         (λ t. asked_by-fits from epoch z queue size early paths asked (at-fits from epoch p.row held.row t) answers p.rest refl) (λ t. tt)
 
     -- ---- an end
@@ -527,16 +527,16 @@ module _ (env : FrontEnv) (own : env.serve.place ≡ place.Front) (conn : cluste
     away-early e count epoch (stage.Moved n d) k is = k.0
     away-early e count epoch _ k is = let no : false ≡ true = is in absurd cc
 
-    acks : (from epoch : ℕ) → IsNumber from → epoch < 2 ^ 16 → FrontTurnFits (saying (ack_sent env from epoch))
+    acks : (from epoch : ℕ) → IsNumber from → epoch < 2 ^ 16 → FrontTurnFits (front_saying (ack_sent env from epoch))
     acks from epoch n early = sends place.Front (ack_sent env from epoch) ((n, bytes-message c epoch body.EndedAck tt, tt, spells c epoch body.EndedAck conn early tt tt), tt) (omega arith)
 
-    ended_by-fits : (from epoch : ℕ) (last : Final) → IsNumber from → epoch < 2 ^ 16 → (o : Option FrontRow) → RowKeeps c (rest_of p.rest).count o → Fits (ended_by env p from epoch last o (end_answer epoch o))
+    ended_by-fits : (from epoch : ℕ) (last : Final) → IsNumber from → epoch < 2 ^ 16 → (o : Option FrontRow) → RowKeeps c (front_rest p.rest).count o → Fits (front_ended_by env p from epoch last o (end_answer epoch o))
     ended_by-fits from epoch last n two None k = tt
     ended_by-fits from epoch last n two (Some row) k =
-        let Ends : OnEnded → Type 0 = λ given. Fits (ended_by env p from epoch last (Some row) given) in
+        let Ends : OnEnded → Type 0 = λ given. Fits (front_ended_by env p from epoch last (Some row) given) in
         let ack = acks from epoch n two in
         cond_both (is_away epoch row.stage) (New (next_epoch row)) (cond (ended_with epoch row.ended_by) Again Stale) Ends
-        (λ t. let early = away-early row.epoch.0 (rest_of p.rest).count epoch row.stage k.1 t in (
+        (λ t. let early = away-early row.epoch.0 (front_rest p.rest).count epoch row.stage k.1 t in (
           record { row = (conn, tt); rest = no-rest; kept = less; few = less-few },
           record { notes = ((tt, number, omega (arith, early)), (number, tt)); segments = tt; few = omega arith; gave = tt; messages = ack.messages; few_messages = ack.few_messages },
         ))
@@ -548,15 +548,15 @@ module _ (env : FrontEnv) (own : env.serve.place ≡ place.Front) (conn : cluste
     -- ---- the head of the line
 
     module _ (choice : FirstChoice) (chosen : IsChosen 64 choice) where
-      admitted_with-fits : (row : FrontRow) (b : ControlBlock) (o : Option (List ℕ)) → row.epoch.0 ≤ 1 → Keeps (rest_of p.rest).count b → ServesAs (rest_of p.rest).count b → may_freeze b ≡ true → IfSome o IsNamed → AdmissionFits c (admitted_with env row (rest_of p.rest) b choice o)
+      admitted_with-fits : (row : FrontRow) (b : ControlBlock) (o : Option (List ℕ)) → row.epoch.0 ≤ 1 → Keeps (front_rest p.rest).count b → ServesAs (front_rest p.rest).count b → may_freeze b ≡ true → IfSome o IsNamed → AdmissionFits c (front_admitted_with env row (front_rest p.rest) b choice o)
       admitted_with-fits row b None early k serves may n = tt
-      admitted_with-fits row b (Some path) early k serves may n = handed-fits row (serving b (rest_of p.rest).count []) path choice early (fresh b (rest_of p.rest).count k) serves may n chosen
+      admitted_with-fits row b (Some path) early k serves may n = handed-fits row (serving b (front_rest p.rest).count []) path choice early (fresh b (front_rest p.rest).count k) serves may n chosen
 
-      admitted_at-fits : (row : FrontRow) (x : FrontConn) → StageKeeps row.epoch.0 (rest_of p.rest).count x → AdmissionFits c (admitted_at env p choice row x)
-      admitted_at-fits row (stage.Waiting b) k = admitted_with-fits row b (rest_of p.rest).target k.0 k.1 k.2 k.3 held.rest.target
+      admitted_at-fits : (row : FrontRow) (x : FrontConn) → StageKeeps row.epoch.0 (front_rest p.rest).count x → AdmissionFits c (admitted_at env p choice row x)
+      admitted_at-fits row (stage.Waiting b) k = admitted_with-fits row b (front_rest p.rest).target k.0 k.1 k.2 k.3 held.rest.target
       admitted_at-fits row _ k = tt
 
-      admitted_by-fits : (o : Option FrontRow) → RowKeeps c (rest_of p.rest).count o → AdmissionFits c (admitted_by env p choice o)
+      admitted_by-fits : (o : Option FrontRow) → RowKeeps c (front_rest p.rest).count o → AdmissionFits c (admitted_by env p choice o)
       admitted_by-fits None k = tt
       admitted_by-fits (Some row) k = admitted_at-fits row row.stage k.1
 

@@ -8,11 +8,11 @@ use Rattle.lard_base.specs.declared.event.Event.{Event}
 use Rattle.lard_base.specs.declared.place.Place.{Place}
 use Rattle.lard_base.specs.declared.place.Place.TheVariants as place
 use Rattle.lard_base.specs.declared.place.TimerKind.TheVariants.{Tcp}
-use Rattle.lard_client.specs.Control.{ClientBlock, is_armed}
+use Rattle.lard_client.specs.Control.{ClientBlock, is_client_armed}
 use Rattle.lard_rules.specs.declared.machine.Machine.{Machine}
-use Rattle.lard_rules.specs.Machine.{client_acted, front_acts, front_setting, node_at, node_gave, node_setting, passed, segments_sent, told, told_rows}
+use Rattle.lard_rules.specs.Machine.{client_acted, front_acts, front_setting, node_at, node_gave, node_setting, passed, segments_sent, machine_told, told_rows}
 use Rattle.lard_rules.specs.Bounds as cluster
-use Rattle.lard_laws.specs.Records.{IsGiven}
+use Rattle.lard_laws.specs.Records.{IsScheduled}
 use Rattle.lard_laws.proofs.RecordsFrontStep as front
 use Rattle.lard_laws.proofs.RecordsFronts.{FrontKeeps}
 use Rattle.lard_laws.proofs.RecordsLetters.{IsLetter, MayAsk, MaySay, conn-number}
@@ -32,7 +32,7 @@ use Rattle.lard_history.proofs.Each.{Each, Each-append}
 use Rattle.lard_history.proofs.Seeing.{by_number}
 use Rattle.lard_journal.specs.declared.rec.Rec.{Rec}
 use Rattle.lard_journal.specs.declared.rec.Rec.TheVariants as rec
-use Rattle.lard_journal.specs.Range.{IsInRange, IsNumber, IsPlaceInRange}
+use Rattle.lard_journal.specs.Range.{IsRecordInRange, IsNumber, IsPlaceInRange}
 use Rattle.lard_law_view.proofs.ByteLists.{bytes-index}
 use Rattle.lard_law_view.proofs.ClientRange.{ClientFits, ClientKeeps, IsSent}
 use Rattle.lard_rules.specs.Sent.{packets_of, sent_records}
@@ -52,7 +52,7 @@ use Rattle.lard_table.proofs.Map.{get_inserted, get_other}
 -- a client that opened keeps bytes, and has learnt a size; the front end's first number is one
 abbrev pub StationKeeps : ℕ → Option Station → Type 0
 StationKeeps c None = Unit {0}
-StationKeeps c (Some s) = cluster.IsNumber c × ClientKeeps s.client × IsSized s.client × (s.iss < 2 ^ 32)
+StationKeeps c (Some s) = cluster.IsConnNumber c × ClientKeeps s.client × IsSized s.client × (s.iss < 2 ^ 32)
 
 -- node n, where at most so many packets were sent
 abbrev pub NodeHolds : ℕ → ℕ → NodeState → Type 0
@@ -73,7 +73,7 @@ IsPacket p = IsPlaceInRange p.from × IsLetter p.from (p.to, p.bytes)
 -- milliseconds.
 pub record Past (net : List Packet) (journal : List Rec) (passed now : ℕ) : Type 0 where
   pub packets : Each IsPacket net
-  pub records : Each IsInRange journal
+  pub records : Each IsRecordInRange journal
   pub events : passed ≤ length journal
   pub time : now ≤ passed * 2 ^ 32
 
@@ -104,7 +104,7 @@ packets-fit from [] p h = tt
 packets-fit from (s ∷ ss) p h = ((p, h.0), packets-fit from ss p h.1)
 
 -- what went out, with the numbers of the packets
-sents-range : (k : ℕ) (from : Place) (ss : List (Place × List ℕ)) → k + length ss < 2 ^ 64 → IsPlaceInRange from → Each (IsLetter from) ss → Each IsInRange (sent_records k from ss)
+sents-range : (k : ℕ) (from : Place) (ss : List (Place × List ℕ)) → k + length ss < 2 ^ 64 → IsPlaceInRange from → Each (IsLetter from) ss → Each IsRecordInRange (sent_records k from ss)
 sents-range k from [] few p h = tt
 sents-range k from (s ∷ ss) few p h = ((omega (arith, few), p, h.0.0, bytes-index s.1 h.0.1), sents-range (k + 1) from ss (omega (arith, few)) p h.1)
 
@@ -120,13 +120,13 @@ some-rows r own notes S G M T =
 
 -- ---- an act
 
-module _ (w : Machine) (e : Event) (given : IsGiven e) (past : Past w.net w.journal w.events w.now) (room : HasRoom w.net w.journal) where
-  event-range : IsInRange (rec.Event (w.events + 1) e)
+module _ (w : Machine) (e : Event) (given : IsScheduled e) (past : Past w.net w.journal w.events w.now) (room : HasRoom w.net w.journal) where
+  event-range : IsRecordInRange (rec.Event (w.events + 1) e)
   event-range = let counted = past.events in let few = room.records in (omega (arith, counted, few), given.0)
 
   -- a place did this, behind the event's own records
-  pub told-holds : (own : List Rec) (from : Place) (o : Out) → Each IsInRange own → IsPlaceInRange from → OutFits from o → Parts (length w.net + length o.messages) w.clients w.front w.nodes → Holds (told w e own from o)
-  unfolding told
+  pub told-holds : (own : List Rec) (from : Place) (o : Out) → Each IsRecordInRange own → IsPlaceInRange from → OutFits from o → Parts (length w.net + length o.messages) w.clients w.front w.nodes → Holds (machine_told w e own from o)
+  unfolding machine_told
   told-holds own from o mine p fits parts =
       let S : List Rec = sent_records (length w.net + 1) from o.segments in
       let between : List Packet = segments_sent w from o in
@@ -142,12 +142,12 @@ module _ (w : Machine) (e : Event) (given : IsGiven e) (past : Past w.net w.jour
       let longer = length-append w.journal (told_rows w e own from o) in
       let counted = past.events in
       let clock = past.time in
-      let rows : Each IsInRange (told_rows w e own from o) =
-      Each-append IsInRange (A ++ o.notes ++ S ++ o.gave ++ M) o.timers
-      (Each-append IsInRange (A ++ o.notes ++ S ++ o.gave) M
-      (Each-append IsInRange (A ++ o.notes ++ S) o.gave
-      (Each-append IsInRange (A ++ o.notes) S
-      (Each-append IsInRange A o.notes (event-range, mine) fits.notes)
+      let rows : Each IsRecordInRange (told_rows w e own from o) =
+      Each-append IsRecordInRange (A ++ o.notes ++ S ++ o.gave ++ M) o.timers
+      (Each-append IsRecordInRange (A ++ o.notes ++ S ++ o.gave) M
+      (Each-append IsRecordInRange (A ++ o.notes ++ S) o.gave
+      (Each-append IsRecordInRange (A ++ o.notes) S
+      (Each-append IsRecordInRange A o.notes (event-range, mine) fits.notes)
       (sents-range (length w.net + 1) from o.segments (omega (arith, few, some)) p fits.segments))
       fits.gave)
       (sents-range (length between + 1) from o.messages (omega (arith, few, some, more, a, b)) p fits.messages))
@@ -157,14 +157,14 @@ module _ (w : Machine) (e : Event) (given : IsGiven e) (past : Past w.net w.jour
         parts = parts-wider (length w.net + length o.messages) (length (between ++ packets_of from o.messages)) w.clients w.front w.nodes (omega (arith, a, b, c, d)) parts;
         past = record {
           packets = Each-append IsPacket between (packets_of from o.messages) (Each-append IsPacket w.net (packets_of from o.segments) past.packets (packets-fit from o.segments p fits.segments)) (packets-fit from o.messages p fits.messages);
-          records = Each-append IsInRange w.journal (told_rows w e own from o) past.records rows;
+          records = Each-append IsRecordInRange w.journal (told_rows w e own from o) past.records rows;
           events = omega (arith, longer, counted, one);
           time = omega (arith, clock);
         };
       }
 
   -- no place did anything
-  pub passed-holds : (own : List Rec) (net : List Packet) (now : ℕ) → Each IsInRange own → Each IsPacket net → length net ≡ length w.net → now ≤ w.now + 2 ^ 32 → Parts (length w.net) w.clients w.front w.nodes
+  pub passed-holds : (own : List Rec) (net : List Packet) (now : ℕ) → Each IsRecordInRange own → Each IsPacket net → length net ≡ length w.net → now ≤ w.now + 2 ^ 32 → Parts (length w.net) w.clients w.front w.nodes
       → Holds (record (passed (record w { net = net }) e own) { now = now })
   passed-holds own net now mine packets same later parts =
       let counted = past.events in
@@ -174,7 +174,7 @@ module _ (w : Machine) (e : Event) (given : IsGiven e) (past : Past w.net w.jour
         parts = parts-wider (length w.net) (length net) w.clients w.front w.nodes (omega (arith, same)) parts;
         past = record {
           packets = packets;
-          records = Each-append IsInRange w.journal (rec.Event (w.events + 1) e ∷ own) past.records (event-range, mine);
+          records = Each-append IsRecordInRange w.journal (rec.Event (w.events + 1) e ∷ own) past.records (event-range, mine);
           events = omega (arith, longer, counted);
           time = omega (arith, clock, later);
         };
@@ -196,14 +196,14 @@ client-letters c (s ∷ ss) h few = ((h.0.0, h.0.1, asks-none s.0, says-short s.
   asks-none (place.Node n) = tt
   asks-none (place.Client d) = tt
 
-module _ (m : Machine) (small : m.config.stream ≤ 2 ^ 30) (files : AreNamed (file_at m.files)) (holds : Holds m) (room : HasRoom m.net m.journal) (e : Event) (given : IsGiven e) (own : List Rec) (mine : Each IsInRange own) where
+module _ (m : Machine) (small : m.config.stream ≤ 2 ^ 30) (files : AreNamed (file_at m.files)) (holds : Holds m) (room : HasRoom m.net m.journal) (e : Event) (given : IsScheduled e) (own : List Rec) (mine : Each IsRecordInRange own) where
   -- a client did what its rule gave
-  pub client-holds : (c iss : ℕ) (was : Bool) (x : ClientBlock × Turn) → cluster.IsNumber c → iss < 2 ^ 32 → ClientFits x → SizeFits x → Holds (client_acted m e own c iss was x)
+  pub client-holds : (c iss : ℕ) (was : Bool) (x : ClientBlock × Turn) → cluster.IsConnNumber c → iss < 2 ^ 32 → ClientFits x → SizeFits x → Holds (client_acted m e own c iss was x)
   client-holds c iss was x conn first fits sized =
       let n : IsNumber c = conn-number c conn in
       let s : Station = record { client = x.0; iss = iss } in
       let few = fits.turn.few in
-      told-holds (record m { clients = table.insert m.clients c s }) e given holds.past room own (place.Client c) (outs.out_of (place.Client c) c was (is_armed x.0) x.1) mine n
+      told-holds (record m { clients = table.insert m.clients c s }) e given holds.past room own (place.Client c) (outs.out_of (place.Client c) c was (is_client_armed x.0) x.1) mine n
       (record {
         notes = fits.turn.notes;
         segments = client-letters c x.1.segments fits.turn.sent sized.1;
@@ -211,7 +211,7 @@ module _ (m : Machine) (small : m.config.stream ≤ 2 ^ 30) (files : AreNamed (f
         gave = tt;
         messages = tt;
         few_messages = omega arith;
-        timers = change-range (place.Client c) c Tcp was (is_armed x.0) n n;
+        timers = change-range (place.Client c) c Tcp was (is_client_armed x.0) n n;
       })
       (parts-wider (length m.net) (length m.net + 0) (table.insert m.clients c s) m.front m.nodes (omega arith)
       (record {

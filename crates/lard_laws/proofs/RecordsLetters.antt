@@ -22,9 +22,9 @@ use Rattle.lard_message.specs.declared.kind.Kind.TheVariants as kind
 use Rattle.lard_message.specs.declared.message.Body.{Body}
 use Rattle.lard_message.specs.declared.message.Body.TheVariants as body
 use Rattle.lard_message.specs.declared.message.Message.{Message}
-use Rattle.lard_message.specs.Kinds.{number_of, version_of}
-use Rattle.lard_message.specs.Message.{Fits, IsMessage, IsOfTable, body_bytes, counted, flag_byte, header_bytes, kind_of, parts_numbers, reason_byte, spelled_message}
-use Rattle.lard_message.specs.Reading.{ask_at, byte_at, decoded_message, ended_at, number_at, paths_at, reason_at}
+use Rattle.lard_message.specs.Kinds.{kind_number, version_of}
+use Rattle.lard_message.specs.Message.{FitsFields, IsMessage, IsOfTable, body_bytes, counted_bytes, flag_byte, header_bytes, kind_of, parts_numbers, reason_byte, spelled_message}
+use Rattle.lard_message.specs.Reading.{ask_at, byte_at, decoded_message, ended_body_at, number_at, paths_at, reason_at}
 use Rattle.lard_message.proofs.Fields.{bind_then, paths_again, some_same}
 use Rattle.lard_message.proofs.Whole.{spelled_so}
 use Rattle.lard_rules.specs.Node.{message}
@@ -60,7 +60,7 @@ pub record IsSpelled (bytes : List ℕ) : Type 0 where
   pub spelled : spelled_message message ≡ bytes
 
 -- a message of a connection that there can be, in an epoch that fits
-pub spells : (c epoch : ℕ) (b : Body) → cluster.IsNumber c → epoch < 2 ^ 16 → IsOfTable b → Fits b → IsSpelled (message c epoch b)
+pub spells : (c epoch : ℕ) (b : Body) → cluster.IsConnNumber c → epoch < 2 ^ 16 → IsOfTable b → FitsFields b → IsSpelled (message c epoch b)
 spells c epoch b n early table fits = record {
   message = record { c = c; epoch = record { 0 = epoch }; body = b };
   is = record { some_connection = n.0; connection = n.1; epoch = early; table = table; fits = fits };
@@ -86,7 +86,7 @@ abbrev pub IsLetter : Place → Place × List ℕ → Type 0
 IsLetter from s = IsPlaceInRange s.0 × AreBytes s.1 × MayAsk s.0 from s.1 × MaySay s.0 from s.1
 
 -- the number of a connection is one of a record
-pub conn-number : (c : ℕ) → cluster.IsNumber c → IsNumber c
+pub conn-number : (c : ℕ) → cluster.IsConnNumber c → IsNumber c
 conn-number c n = let most = n.1 in omega (arith, most)
 
 -- ---- what was spelled is bytes
@@ -100,7 +100,7 @@ HasBytes (body.Fetch r path) = AreBytes path
 HasBytes (body.Content r bytes) = AreBytes bytes
 HasBytes _ = Unit {0}
 
-kind-byte : (k : Kind) → number_of k < 256
+kind-byte : (k : Kind) → kind_number k < 256
 kind-byte kind.Offer = omega arith
 kind-byte kind.Taken = omega arith
 kind-byte kind.Forward = omega arith
@@ -111,17 +111,17 @@ kind-byte kind.Content = omega arith
 kind-byte kind.Ended = omega arith
 kind-byte kind.EndedAck = omega arith
 
-bytes-header : (k : Kind) (c epoch len : ℕ) → AreBytes (header_bytes (version_of k) (number_of k) c epoch len)
+bytes-header : (k : Kind) (c epoch len : ℕ) → AreBytes (header_bytes (version_of k) (kind_number k) c epoch len)
 bytes-header k c epoch len =
-    bytes-append (1 ∷ number_of k ∷ to_be_bytes w16 c ++ to_be_bytes w16 epoch) (to_be_bytes w32 len)
-    (bytes-append (1 ∷ number_of k ∷ to_be_bytes w16 c) (to_be_bytes w16 epoch) (omega arith, (kind-byte k, bytes-16 c)) (bytes-16 epoch)) (bytes-32 len)
+    bytes-append (1 ∷ kind_number k ∷ to_be_bytes w16 c ++ to_be_bytes w16 epoch) (to_be_bytes w32 len)
+    (bytes-append (1 ∷ kind_number k ∷ to_be_bytes w16 c) (to_be_bytes w16 epoch) (omega arith, (kind-byte k, bytes-16 c)) (bytes-16 epoch)) (bytes-32 len)
 
-bytes-counted : (bytes : List ℕ) → AreBytes bytes → AreBytes (counted bytes)
+bytes-counted : (bytes : List ℕ) → AreBytes bytes → AreBytes (counted_bytes bytes)
 bytes-counted bytes h = bytes-append (to_be_bytes w16 (length bytes)) bytes (bytes-16 (length bytes)) h
 
-bytes-paths : (paths : List (List ℕ)) → Each AreBytes paths → AreBytes (flat_map counted paths)
+bytes-paths : (paths : List (List ℕ)) → Each AreBytes paths → AreBytes (flat_map counted_bytes paths)
 bytes-paths [] h = tt
-bytes-paths (p ∷ ps) h = bytes-append (counted p) (flat_map counted ps) (bytes-counted p h.0) (bytes-paths ps h.1)
+bytes-paths (p ∷ ps) h = bytes-append (counted_bytes p) (flat_map counted_bytes ps) (bytes-counted p h.0) (bytes-paths ps h.1)
 
 flag-small : (b : Bool) → flag_byte b < 256
 flag-small true = omega arith
@@ -144,14 +144,14 @@ reason-small reason.Peer = omega arith
 reason-small reason.Limit = omega arith
 
 bytes-body : (b : Body) → HasBytes b → AreBytes (body_bytes b)
-bytes-body (body.Offer parts) h = bytes-append (parts_numbers parts) (counted parts.unread) (bytes-numbers parts) (bytes-counted parts.unread h)
+bytes-body (body.Offer parts) h = bytes-append (parts_numbers parts) (counted_bytes parts.unread) (bytes-numbers parts) (bytes-counted parts.unread h)
 bytes-body body.Taken h = tt
 bytes-body (body.Forward bytes) h = h
 bytes-body (body.Ask number queue size paths) h =
-    bytes-append (to_be_bytes w32 number ++ to_be_bytes w32 queue) (size ∷ length paths ∷ flat_map counted paths)
+    bytes-append (to_be_bytes w32 number ++ to_be_bytes w32 queue) (size ∷ length paths ∷ flat_map counted_bytes paths)
     (bytes-append (to_be_bytes w32 number) (to_be_bytes w32 queue) (bytes-32 number) (bytes-32 queue)) (h.0, (h.1, bytes-paths paths h.2))
 bytes-body (body.Tag number nodes) h = bytes-append (to_be_bytes w32 number) (length nodes ∷ nodes) (bytes-32 number) (h.0, h.1)
-bytes-body (body.Fetch r path) h = bytes-append (to_be_bytes w32 r) (counted path) (bytes-32 r) (bytes-counted path h)
+bytes-body (body.Fetch r path) h = bytes-append (to_be_bytes w32 r) (counted_bytes path) (bytes-32 r) (bytes-counted path h)
 bytes-body (body.Content r bytes) h = bytes-append (to_be_bytes w32 r ++ to_be_bytes w32 (length bytes)) bytes (bytes-append (to_be_bytes w32 r) (to_be_bytes w32 (length bytes)) (bytes-32 r) (bytes-32 (length bytes))) h
 bytes-body (body.Ended reason snd rcv count) h =
     bytes-append (reason_byte reason ∷ to_be_bytes w32 snd ++ to_be_bytes w32 rcv) (to_be_bytes w32 count)
@@ -161,7 +161,7 @@ bytes-body body.EndedAck h = tt
 pub bytes-message : (c epoch : ℕ) (b : Body) → HasBytes b → AreBytes (message c epoch b)
 unfolding spelled_message
 bytes-message c epoch b h =
-    bytes-append (header_bytes (version_of (kind_of b)) (number_of (kind_of b)) c epoch (length (body_bytes b))) (body_bytes b) (bytes-header (kind_of b) c epoch (length (body_bytes b))) (bytes-body b h)
+    bytes-append (header_bytes (version_of (kind_of b)) (kind_number (kind_of b)) c epoch (length (body_bytes b))) (body_bytes b) (bytes-header (kind_of b) c epoch (length (body_bytes b))) (bytes-body b h)
 
 -- ---- what was decoded of bytes
 
@@ -171,7 +171,7 @@ is-message bytes m h is = (spelled_so bytes m (bytes-index bytes h) is).0
 
 in-body : (m : Message) → AreBytes (spelled_message m) → AreBytes (body_bytes m.body)
 unfolding spelled_message
-in-body m h = each-behind (λ b. b < 256) (header_bytes (version_of (kind_of m.body)) (number_of (kind_of m.body)) m.c m.epoch.0 (length (body_bytes m.body))) (body_bytes m.body) h
+in-body m h = each-behind (λ b. b < 256) (header_bytes (version_of (kind_of m.body)) (kind_number (kind_of m.body)) m.c m.epoch.0 (length (body_bytes m.body))) (body_bytes m.body) h
 
 body-read : (bytes : List ℕ) (m : Message) → AreBytes bytes → decoded_message bytes ≡ Ok m → AreBytes (body_bytes m.body)
 body-read bytes m h is = in-body m (subst AreBytes (sym (spelled_so bytes m (bytes-index bytes h) is).1) h)
@@ -180,7 +180,7 @@ body-read bytes m h is = in-body m (subst AreBytes (sym (spelled_so bytes m (byt
 pub offer-read : (bytes : List ℕ) (c epoch : ℕ) (parts : EndpointParts) → AreBytes bytes → decoded_message bytes ≡ Ok (record { c = c; epoch = record { 0 = epoch }; body = body.Offer parts }) → AreBytes parts.unread
 offer-read bytes c epoch parts h is =
     let all = body-read bytes (record { c = c; epoch = record { 0 = epoch }; body = body.Offer parts }) h is in
-    each-behind (λ b. b < 256) (to_be_bytes w16 (length parts.unread)) parts.unread (each-behind (λ b. b < 256) (parts_numbers parts) (counted parts.unread) all)
+    each-behind (λ b. b < 256) (to_be_bytes w16 (length parts.unread)) parts.unread (each-behind (λ b. b < 256) (parts_numbers parts) (counted_bytes parts.unread) all)
 
 pub forward-read : (bytes : List ℕ) (c epoch : ℕ) (segment : List ℕ) → AreBytes bytes → decoded_message bytes ≡ Ok (record { c = c; epoch = record { 0 = epoch }; body = body.Forward segment }) → AreBytes segment
 forward-read bytes c epoch segment h is = body-read bytes (record { c = c; epoch = record { 0 = epoch }; body = body.Forward segment }) h is
@@ -198,7 +198,7 @@ short-paths (p ∷ ps) h = let most = h.0.2.1 in (omega (arith, most), short-pat
 asked-paths : (number queue size : ℕ) (paths : List (List ℕ)) → Each IsNamed paths → (b : Body) (rest : List ℕ) → ask_at (body_bytes (body.Ask number queue size paths)) ≡ Some (b, rest) → HasPaths b
 unfolding ask_at
 asked-paths number queue size paths h b rest e =
-    let r3 : List ℕ = flat_map counted paths in
+    let r3 : List ℕ = flat_map counted_bytes paths in
     let r2 : List ℕ = size ∷ length paths ∷ r3 in
     let r1 : List ℕ = to_be_bytes w32 queue ++ r2 in
     let y : Body × List ℕ = (b, rest) in
@@ -228,8 +228,8 @@ taken-says c epoch m is =
     let read = spelled-body (record { c = c; epoch = record { 0 = epoch }; body = body.Taken }) m is in
     subst (λ (p : Body × List ℕ). HasPaths p.0) (some_same (body.Taken, []) (m.body, read.0) read.1) tt
 
-ended-none : (bytes : List ℕ) (b : Body) (rest : List ℕ) → ended_at bytes ≡ Some (b, rest) → HasPaths b
-unfolding ended_at
+ended-none : (bytes : List ℕ) (b : Body) (rest : List ℕ) → ended_body_at bytes ≡ Some (b, rest) → HasPaths b
+unfolding ended_body_at
 ended-none bytes b rest e =
     let y : Body × List ℕ = (b, rest) in
     bind_then (reason_at bytes) _ y e (λ why e1 n1. bind_then (number_at w32 why.1) _ y n1 (λ snd e2 n2. bind_then (number_at w32 snd.1) _ y n2 (λ rcv e3 n3.

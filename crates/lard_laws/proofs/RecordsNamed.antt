@@ -5,7 +5,7 @@ use Rattle.std.proofs.lemmas.Slice.Eq.{bytes_eq-Decides}
 use Rattle.std.specs.Map.{lookup}
 use Rattle.std.specs.Str.{bytes_eq}
 use Rattle.lard_answers.specs.Answers.{FilesAt, good_path}
-use Rattle.lard_laws.specs.Records.{IsFile}
+use Rattle.lard_laws.specs.Records.{IsRunFile}
 use Rattle.lard_files.specs.Files.{IsPath, file_at}
 use Rattle.lard_history.proofs.Each.{Each}
 use Rattle.lard_journal.specs.Range.{IsUnspaced}
@@ -24,9 +24,9 @@ IsNamed path = IsUnspaced path × AreBytes path × IsPath path
 abbrev pub AreNamed : FilesAt → Type 0
 AreNamed files = (path : List ℕ) → IfSome (files path) (λ bytes. IsContent bytes × IsNamed path)
 
-pub files-named : (files : List (List ℕ × List ℕ)) → All IsFile files → AreNamed (file_at files)
-files-named files h path = go files (all-each IsFile files h) where
-  go : (fs : List (List ℕ × List ℕ)) → Each IsFile fs → IfSome (lookup (bytes_eq path) fs) (λ bytes. IsContent bytes × IsNamed path)
+pub files-named : (files : List (List ℕ × List ℕ)) → All IsRunFile files → AreNamed (file_at files)
+files-named files h path = go files (all-each IsRunFile files h) where
+  go : (fs : List (List ℕ × List ℕ)) → Each IsRunFile fs → IfSome (lookup (bytes_eq path) fs) (λ bytes. IsContent bytes × IsNamed path)
   go [] k = tt
   go (f ∷ fs) k = cond_both (bytes_eq path f.0) (Some f.1) (lookup (bytes_eq path) fs) (λ (o : Option (List ℕ)). IfSome o (λ bytes. IsContent bytes × IsNamed path))
       (λ t. let same : path ≡ f.0 = (bytes_eq-Decides path f.0).0 t in

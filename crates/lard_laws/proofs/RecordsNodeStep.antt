@@ -6,7 +6,7 @@ use Rattle.std.specs.FinMap as table
 use Rattle.std.specs.List.{AllByRecursion, list_any}
 use Rattle.lard_base.specs.declared.place.Place.{Place}
 use Rattle.lard_base.specs.declared.place.Place.TheVariants as place
-use Rattle.lard_cache.specs.Recency.{has}
+use Rattle.lard_cache.specs.Recency.{has_path}
 use Rattle.lard_rules.specs.Bounds as cluster
 use Rattle.lard_laws.proofs.RecordsFit.{told-decoded}
 use Rattle.lard_laws.proofs.RecordsFrontStep.{message-number}
@@ -25,7 +25,7 @@ use Rattle.lard_history.proofs.Each.{Each, Each-append}
 use Rattle.lard_history.proofs.Seeing.{by_number}
 use Rattle.lard_journal.specs.declared.rec.Rec.{Rec}
 use Rattle.lard_journal.specs.declared.rec.Rec.TheVariants as rec
-use Rattle.lard_journal.specs.Range.{IsInRange, IsNumber, IsPlaceInRange}
+use Rattle.lard_journal.specs.Range.{IsRecordInRange, IsNumber, IsPlaceInRange}
 use Rattle.lard_law_view.proofs.ByteLists.{AreBytes, each-drop, each-take}
 use Rattle.lard_law_view.proofs.ContentRange.{IsContent}
 use Rattle.lard_message.specs.declared.fault.MsgFault.{MsgFault}
@@ -39,8 +39,8 @@ use Rattle.lard_rules.specs.declared.node.BackIn.{BackIn}
 use Rattle.lard_rules.specs.declared.node.BackIn.TheVariants as input
 use Rattle.lard_rules.specs.declared.node.NodeState.{NodeState}
 use Rattle.lard_rules.specs.declared.node.NodeTurn.{NodeTurn}
-use Rattle.lard_rules.specs.Node.{Deed, Drops, Says, Does, node_acknowledged, node_armed, node_content, node_forwarded, node_offered, node_read, node_tagged, node_timer, saying}
-use Rattle.lard_rules.specs.NodePlace.{NodeSetting, aside, brought, bytes_of, completed, content_sent, disk_step, epoch_at, fetched, fetched_file, node_deed, node_env, node_gets, node_hears, node_part, node_put, node_step, timers_of, with_first}
+use Rattle.lard_rules.specs.Node.{NodeDeed, Drops, Says, Does, node_acknowledged, node_armed, node_content, node_forwarded, node_offered, node_read, node_tagged, node_timer, node_saying}
+use Rattle.lard_rules.specs.NodePlace.{NodeSetting, aside, node_brought, content_bytes, completed, content_sent, disk_step, node_epoch_at, fetched, fetched_file, node_deed, node_env, node_gets, node_hears, node_part, node_put, node_step, node_timers, with_first}
 use Rattle.lard_rules.specs.declared.places.Out.{Out}
 use Rattle.lard_rules.specs.Outs.{nothing_done}
 use Rattle.lard_segment.specs.declared.segment.Dir.TheVariants.{ToCluster}
@@ -57,16 +57,16 @@ place-wider n most more s le h = record { each = λ c. keeps-wider n most more (
 -- what comes to a node is of a place in range, and has bytes
 abbrev pub InputFits : BackIn → Type 0
 InputFits (input.Message from bytes) = IsPlaceInRange from × AreBytes bytes
-InputFits (input.Timer c) = cluster.IsNumber c
+InputFits (input.Timer c) = cluster.IsConnNumber c
 InputFits (input.Disk j) = Unit {0}
 
 -- each is a number
-numbers : (ns : List ℕ) → AllByRecursion message.IsNode ns → Each IsNumber ns
+numbers : (ns : List ℕ) → AllByRecursion message.IsNodeNumber ns → Each IsNumber ns
 numbers [] h = tt
 numbers (n ∷ ns) h = let most = h.0.1 in (omega (arith, most), numbers ns h.1)
 
 -- what another node is sent is a content, or nothing
-content-bytes : (o : Option (List ℕ)) → IfSome o IsContent → IsContent (bytes_of o)
+content-bytes : (o : Option (List ℕ)) → IfSome o IsContent → IsContent (content_bytes o)
 content-bytes None h = (tt, omega arith)
 content-bytes (Some bytes) h = h
 
@@ -90,9 +90,9 @@ module _ (k : NodeSetting) (n-is : IsNumber k.n) (small : k.stream ≤ 2 ^ 30) (
   )
 
   -- a rule of connection c
-  deed-fits : (s : NodeState) (c : ℕ) (d : Deed) → PlaceKeeps k.n most s → cluster.IsNumber c → DeedFits k.n most d → StepFits (node_deed k s c d)
+  deed-fits : (s : NodeState) (c : ℕ) (d : NodeDeed) → PlaceKeeps k.n most s → cluster.IsConnNumber c → DeedFits k.n most d → StepFits (node_deed k s c d)
   deed-fits s c Drops h n d = still s h
-  deed-fits s c (Says messages) h n d = aside-fits s (saying messages) h (sends (place.Node k.n) messages d.0 d.1) tt
+  deed-fits s c (Says messages) h n d = aside-fits s (node_saying messages) h (sends (place.Node k.n) messages d.0 d.1) tt
   deed-fits s c (Does x) h n d =
       let more : ℕ = most + length x.1.messages in (
         record {
@@ -101,30 +101,30 @@ module _ (k : NodeSetting) (n-is : IsNumber k.n) (small : k.stream ≤ 2 ^ 30) (
               (λ other. subst (NodeKeeps k.n more) (sym (node-elsewhere s c q x.0 other)) (keeps-wider k.n most more (node_part s q) (omega arith) (h.each q)));
           jobs = Each-append JobFits s.disk x.1.jobs h.jobs d.1.1;
         },
-        turn-fits (place.Node k.n) x.1.notes x.1.segments x.1.gave x.1.messages (timers_of k.n c (node_part s c) x.0) x.1.answered d.1.0
+        turn-fits (place.Node k.n) x.1.notes x.1.segments x.1.gave x.1.messages (node_timers k.n c (node_part s c) x.0) x.1.answered d.1.0
             (timers-range (place.Node k.n) c (node_armed (node_part s c)) (node_armed x.0) n-is (conn-number c n)),
       )
 
   -- a content for another node
-  content-fits : (to c epoch r : ℕ) (path : List ℕ) → IsNumber to → cluster.IsNumber c → epoch < 2 ^ 16 → IsRequest r → IsLetter (place.Node k.n) (content_sent k to c epoch r path)
+  content-fits : (to c epoch r : ℕ) (path : List ℕ) → IsNumber to → cluster.IsConnNumber c → epoch < 2 ^ 16 → IsRequest r → IsLetter (place.Node k.n) (content_sent k to c epoch r path)
   content-fits to c epoch r path n conn early low =
       let fits = content-bytes (k.files path) (contents k.files files path) in
-      (n, bytes-message c epoch (body.Content r (bytes_of (k.files path))) fits.0, tt, spells c epoch (body.Content r (bytes_of (k.files path))) conn early fits.1 low)
+      (n, bytes-message c epoch (body.Content r (content_bytes (k.files path))) fits.0, tt, spells c epoch (body.Content r (content_bytes (k.files path))) conn early fits.1 low)
 
   module _ (s : NodeState) (h : PlaceKeeps k.n most s) (short : length s.disk ≤ 2 ^ 30) where
     -- ---- messages
 
-    module _ (c epoch : ℕ) (n : cluster.IsNumber c) (early : epoch < 2 ^ 16) where
+    module _ (c epoch : ℕ) (n : cluster.IsConnNumber c) (early : epoch < 2 ^ 16) where
       file-fits : (from r : ℕ) (path file : List ℕ) → k.files path ≡ Some file → IsNumber from → r < 2 ^ 32 → StepFits (aside s (fetched_file k s from c epoch r path))
       file-fits from r path file is f low =
           let p : IsNamed path = named k.files files path file is in
           let job : Job = record { origin = from; c = c; epoch = record { 0 = epoch }; r = r; path = path } in
           let sent : List (Place × List ℕ) = content_sent k from c epoch r path ∷ [] in
           let r-is : IsNumber r = omega (arith, low) in
-          cond_both (has s.cache.entries path) (record (saying sent) { notes = rec.Hit k.n path ∷ [] }) (record (saying []) { notes = rec.Queued k.n from c r path ∷ []; jobs = job ∷ [] }) (λ (t : NodeTurn). StepFits (aside s t))
-          (λ t. aside-fits s (record (saying sent) { notes = rec.Hit k.n path ∷ [] }) h
+          cond_both (has_path s.cache.entries path) (record (node_saying sent) { notes = rec.Hit k.n path ∷ [] }) (record (node_saying []) { notes = rec.Queued k.n from c r path ∷ []; jobs = job ∷ [] }) (λ (t : NodeTurn). StepFits (aside s t))
+          (λ t. aside-fits s (record (node_saying sent) { notes = rec.Hit k.n path ∷ [] }) h
           (record { notes = ((n-is, p.0), tt); segments = tt; few = omega arith; gave = tt; messages = (content-fits from c epoch r path f n early low, tt); few_messages = omega arith }) tt)
-          (λ t. aside-fits s (record (saying []) { notes = rec.Queued k.n from c r path ∷ []; jobs = job ∷ [] }) h
+          (λ t. aside-fits s (record (node_saying []) { notes = rec.Queued k.n from c r path ∷ []; jobs = job ∷ [] }) h
           (record { notes = ((n-is, f, conn-number c n, r-is, p.0), tt); segments = tt; few = omega arith; gave = tt; messages = tt; few_messages = omega arith }) ((f, n, early, low, p), tt))
 
       fetched-fits : (from r : ℕ) (path : List ℕ) (o : Option (List ℕ)) → k.files path ≡ o → IsNumber from → r < 2 ^ 32 → StepFits (fetched k s from c epoch r path o)
@@ -196,7 +196,7 @@ module _ (k : NodeSetting) (n-is : IsNumber k.n) (small : k.stream ≤ 2 ^ 30) (
         cond_both (j == 0) s.disk (take i s.disk ++ drop (suc i) s.disk) (λ (js : List Job). length js ≤ 2 ^ 30) (λ t. short) (λ t. omega (arith, all, first, last, short))
 
     -- what a job leads to, behind its record
-    first-fits : (r : Rec) (x : NodeState × Out) → IsInRange r → StepFits x → StepFits (with_first r x)
+    first-fits : (r : Rec) (x : NodeState × Out) → IsRecordInRange r → StepFits x → StepFits (with_first r x)
     first-fits r x n f = (f.0, record { notes = (n, f.1.notes); segments = f.1.segments; few = f.1.few; gave = f.1.gave; messages = f.1.messages; few_messages = f.1.few_messages; timers = f.1.timers })
 
     disk-fits : (j : ℕ) (o : Option Job) → IfSome o JobFits → StepFits (disk_step k s j o)
@@ -207,16 +207,16 @@ module _ (k : NodeSetting) (n-is : IsNumber k.n) (small : k.stream ≤ 2 ^ 30) (
         let env = node_env k after job.c job.epoch.0 in
         let low = f.3 in
         let shorter : length after.disk ≤ 2 ^ 30 = completed-short j in
-        first-fits (rec.Read k.n job.origin job.c job.r job.path) (brought k after job) (n-is, f.0, conn-number job.c f.1, omega (arith, low), f.4.0)
-        (cond_both (job.origin == k.n) (node_deed k after job.c (node_read env (node_part after job.c) job.r)) (aside after (saying (content_sent k job.origin job.c job.epoch.0 job.r job.path ∷ []))) StepFits
+        first-fits (rec.Read k.n job.origin job.c job.r job.path) (node_brought k after job) (n-is, f.0, conn-number job.c f.1, omega (arith, low), f.4.0)
+        (cond_both (job.origin == k.n) (node_deed k after job.c (node_read env (node_part after job.c) job.r)) (aside after (node_saying (content_sent k job.origin job.c job.epoch.0 job.r job.path ∷ []))) StepFits
         (λ t. deed-fits after job.c (node_read env (node_part after job.c) job.r) keeps f.1 (node.read-deed env refl n-is f.1 f.2 small files shorter most packets (node_part after job.c) (keeps.each job.c) job.r))
-        (λ t. aside-fits after (saying (content_sent k job.origin job.c job.epoch.0 job.r job.path ∷ [])) keeps
+        (λ t. aside-fits after (node_saying (content_sent k job.origin job.c job.epoch.0 job.r job.path ∷ [])) keeps
         (sends (place.Node k.n) _ (content-fits job.origin job.c job.epoch.0 job.r job.path f.0 f.1 f.2 f.3, tt) (omega arith)) tt))
 
     -- ---- whatever comes
 
     pub step-fits : (i : BackIn) → InputFits i → StepFits (node_step k s i)
     step-fits (input.Message from bytes) f = gets-fits bytes from (decoded_message bytes) f.0 f.1 refl
-    step-fits (input.Timer c) f = deed-fits s c (node_timer (node_env k s c (epoch_at s c)) (node_part s c)) h f
-        (node.fires-fits (node_env k s c (epoch_at s c)) refl n-is f (early-at (table.get s.conns c) (h.each c).early) small files short most packets (node_part s c) (h.each c))
+    step-fits (input.Timer c) f = deed-fits s c (node_timer (node_env k s c (node_epoch_at s c)) (node_part s c)) h f
+        (node.fires-fits (node_env k s c (node_epoch_at s c)) refl n-is f (early-at (table.get s.conns c) (h.each c).early) small files short most packets (node_part s c) (h.each c))
     step-fits (input.Disk j) f = disk-fits j (job_at s.disk j) (job-fits j)

@@ -23,10 +23,10 @@ use Rattle.lard_endpoint.specs.Leaving.{after_timer, timed}
 use Rattle.lard_handoff_back.specs.declared.row.BackRow.{BackRow}
 use Rattle.lard_handoff_back.specs.declared.table.Adopt.{Adopt}
 use Rattle.lard_handoff_back.specs.declared.table.Adopt.TheVariants.{Again, New, Stale}
-use Rattle.lard_handoff_back.specs.Back.{awaits_ack, endpoint_of, offer_answer, staying}
-use Rattle.lard_handoff_back.specs.Row.{held_in}
+use Rattle.lard_handoff_back.specs.Back.{awaits_ack, back_endpoint, offer_answer, staying}
+use Rattle.lard_handoff_back.specs.Row.{back_held}
 use Rattle.lard_history.proofs.Each.{Each, Each-append, Each-weaker}
-use Rattle.lard_journal.specs.Range.{IsInRange, IsNumber}
+use Rattle.lard_journal.specs.Range.{IsRecordInRange, IsNumber}
 use Rattle.lard_lateral.specs.Lateral.{is_from}
 use Rattle.lard_law_view.proofs.ByteLists.{AreBytes, each-all}
 use Rattle.lard_message.specs.declared.message.Body.TheVariants as body
@@ -37,7 +37,7 @@ use Rattle.lard_rules.specs.declared.stay.Asked.{Asked}
 use Rattle.lard_rules.specs.declared.stay.Progress.{Progress}
 use Rattle.lard_rules.specs.declared.stay.Stay.{Stay}
 use Rattle.lard_rules.specs.declared.stay.Want.{Want}
-use Rattle.lard_rules.specs.Node.{Deed, Drops, Says, Does, NodePart, again_sent, all_sent, anew, ask_kept, asked_kept, asked_sent, begins, both_of, come_by, count_of, ended_kept, ended_sent, fetch_of, fired_by, gave_by, gone, heard_by, here, is_awaited, kept_after, node_acknowledged, node_content, node_forwarded, node_offered, node_read, node_tagged, node_timer, offered_by, read_by, saying, tagged_by, taken_sent, turn_by, wants_kept, wants_sent, with_work, work_of}
+use Rattle.lard_rules.specs.Node.{NodeDeed, Drops, Says, Does, NodePart, again_sent, all_sent, anew, ask_kept, asked_kept, asked_sent, node_begins, both_of, come_by, reset_count, ended_kept, ended_sent, fetch_of, node_fired_by, gave_by, gone, node_heard_by, here, is_tag_awaited, kept_after, node_acknowledged, node_content, node_forwarded, node_offered, node_read, node_tagged, node_timer, offered_by, node_read_by, node_saying, tagged_by, taken_sent, turn_by, wants_kept, wants_sent, with_work, work_of}
 use Rattle.lard_rules.specs.Stay.{NodeEnv, Work, came_for, come_progress, goes_on, read_progress, reads_batch, tagged}
 use Rattle.lard_resend.specs.declared.kept.Kept.{Kept}
 use Rattle.lard_resend.specs.Kept.{is_under, without}
@@ -46,7 +46,7 @@ use Rattle.lard_rules.specs.declared.places.Ending.{Ending}
 use Rattle.lard_rules.specs.declared.places.Ending.TheVariants.{Here, Over}
 use Rattle.lard_rules.specs.declared.places.Turn.{Turn}
 use Rattle.lard_rules.specs.Loop.{state_of}
-use Rattle.lard_rules.specs.Serving.{ready_of, serving, settled, spoken}
+use Rattle.lard_rules.specs.Serving.{serving_ready_of, serving, serving_settled, spoken}
 use Rattle.lard_segment.specs.declared.fault.SegFault.{SegFault}
 use Rattle.lard_segment.specs.Segment.{Said}
 
@@ -69,7 +69,7 @@ IsEarly (Some row) = row.epoch.0 < 2 ^ 16
 -- Of what node n keeps: at most so many messages are held.
 pub record NodeKeeps (n most : ℕ) (p : NodePart) : Type 0 where
   pub early : IsEarly p.row
-  pub here : HereKeeps (endpoint_of p.row) p.stay
+  pub here : HereKeeps (back_endpoint p.row) p.stay
   pub kept : AreHeld (Node n) p.kept
   pub few : length p.kept ≤ most
   pub fetches : AreHeld (Node n) p.fetches
@@ -84,7 +84,7 @@ keeps-wider n most more p le h = let few = h.few in let fetches = h.few_fetches 
 abbrev pub NodeTurnFits : ℕ → NodeTurn → Type 0
 NodeTurnFits n t = IsTurn (Node n) t.notes t.segments t.gave t.messages × Each JobFits t.jobs
 
-abbrev pub DeedFits : ℕ → ℕ → Deed → Type 0
+abbrev pub DeedFits : ℕ → ℕ → NodeDeed → Type 0
 DeedFits n most Drops = Unit {0}
 DeedFits n most (Says messages) = Each (IsLetter (Node n)) messages × (length messages ≤ 2 ^ 30)
 DeedFits n most (Does x) = NodeKeeps n (most + length x.1.messages) x.0 × NodeTurnFits n x.1
@@ -95,21 +95,21 @@ both-keep (Some b) None h = tt
 both-keep (Some b) (Some s) h = h
 
 -- where it is here in the epoch
-staying-keeps : (epoch : ℕ) (row : Option BackRow) (s : Option Stay) → HereKeeps (endpoint_of row) s → IfSome (both_of (staying epoch row) s) (λ x. BothKeep x.0 x.1)
+staying-keeps : (epoch : ℕ) (row : Option BackRow) (s : Option Stay) → HereKeeps (back_endpoint row) s → IfSome (both_of (staying epoch row) s) (λ x. BothKeep x.0 x.1)
 staying-keeps epoch None s h = tt
-staying-keeps epoch (Some row) s h = cond_both (row.epoch.0 == epoch) (held_in row.stage) None (λ (o : Option ControlBlock). IfSome (both_of o s) (λ x. BothKeep x.0 x.1)) (λ t. both-keep (held_in row.stage) s h) (λ t. tt)
+staying-keeps epoch (Some row) s h = cond_both (row.epoch.0 == epoch) (back_held row.stage) None (λ (o : Option ControlBlock). IfSome (both_of o s) (λ x. BothKeep x.0 x.1)) (λ t. both-keep (back_held row.stage) s h) (λ t. tt)
 
 gone-early : (row : Option BackRow) → IsEarly row → IsEarly (gone row)
 gone-early None h = tt
 gone-early (Some row) h = h
 
-gone-keeps : (row : Option BackRow) (s : Option Stay) → HereKeeps (endpoint_of (gone row)) s
+gone-keeps : (row : Option BackRow) (s : Option Stay) → HereKeeps (back_endpoint (gone row)) s
 gone-keeps None s = tt
 gone-keeps (Some row) s = tt
 
 -- ---- the rules, in an environment of a node
 
-module _ (env : NodeEnv) (own : env.serve.place ≡ Node env.n) (node : IsNumber env.n) (conn : cluster.IsNumber env.serve.c) (early : env.epoch < 2 ^ 16) (small : env.serve.stream ≤ 2 ^ 30) (files : AreNamed env.serve.files) (short : env.queue ≤ 2 ^ 30) (most : ℕ) (packets : most ≤ 2 ^ 20) where
+module _ (env : NodeEnv) (own : env.serve.place ≡ Node env.n) (node : IsNumber env.n) (conn : cluster.IsConnNumber env.serve.c) (early : env.epoch < 2 ^ 16) (small : env.serve.stream ≤ 2 ^ 30) (files : AreNamed env.serve.files) (short : env.queue ≤ 2 ^ 30) (most : ℕ) (packets : most ≤ 2 ^ 20) where
   abbrev number : IsNumber env.serve.c
   number = works.number env own node conn early small files short
 
@@ -146,9 +146,9 @@ module _ (env : NodeEnv) (own : env.serve.place ≡ Node env.n) (node : IsNumber
   wants-length [] = refl
   wants-length (w ∷ ws) = ap suc (wants-length ws)
 
-  end-said : (over : Option ℕ) (n : ℕ) (last : Final) → EndTells over n (Over last) → IsSaid (sent_of (ended_kept env.serve.c env.epoch last (count_of over)))
+  end-said : (over : Option ℕ) (n : ℕ) (last : Final) → EndTells over n (Over last) → IsSaid (sent_of (ended_kept env.serve.c env.epoch last (reset_count over)))
   end-said over n last h =
-      let count : ℕ = count_of over in (
+      let count : ℕ = reset_count over in (
         tt,
         bytes-message env.serve.c env.epoch (body.Ended last.reason last.snd.0 last.rcv.0 count) tt,
         ended-says env.serve.c env.epoch last.reason last.snd.0 last.rcv.0 count,
@@ -167,7 +167,7 @@ module _ (env : NodeEnv) (own : env.serve.place ≡ Node env.n) (node : IsNumber
   asks-few None = omega arith
   asks-few (Some a) = omega arith
 
-  gave-range : (e : Ending) → Each IsInRange (gave_by env e)
+  gave-range : (e : Ending) → Each IsRecordInRange (gave_by env e)
   gave-range (Here b count) = tt
   gave-range (Over last) = ((node, number, omega (arith, early)), tt)
 
@@ -246,12 +246,12 @@ module _ (env : NodeEnv) (own : env.serve.place ≡ Node env.n) (node : IsNumber
           ),
         )
 
-  abbrev Fits : Deed → Type 0
+  abbrev Fits : NodeDeed → Type 0
   Fits d = DeedFits env.n most d
 
   work-fits : (p : NodePart) → NodeKeeps env.n most p → (before : List (Place × List ℕ)) → Each IsSaid before → length before ≤ 2 ^ 22 → (w : Work) → Works 8 w × IsCounted w → Fits (with_work env p before w)
-  work-fits p held before said few w works = result p held before said few w works.0 works.1 (settled env.serve w.service)
-      (subst (λ (q : Place). EndFits q (settled env.serve w.service)) own (settled-fits env.serve number small (contents env.serve.files files) (at env own node conn early small files short) w.service works.0.service))
+  work-fits p held before said few w works = result p held before said few w works.0 works.1 (serving_settled env.serve w.service)
+      (subst (λ (q : Place). EndFits q (serving_settled env.serve w.service)) own (settled-fits env.serve number small (contents env.serve.files files) (at env own node conn early small files short) w.service works.0.service))
       (settled-tells env.serve number small (contents env.serve.files files) (at env own node conn early small files short) w.service works.0.service)
 
   wide : (w : Work) → Works 0 w → Works 8 w
@@ -271,7 +271,7 @@ module _ (env : NodeEnv) (own : env.serve.place ≡ Node env.n) (node : IsNumber
     here-has : HasBoth (here env.epoch p)
     here-has = staying-keeps env.epoch p.row p.stay held.here
 
-    heard-fits : (r : Result Said SegFault) (x : Option (ControlBlock × Stay)) → ((s : Said) → r ≡ Ok s → IsTold s) → HasBoth x → Fits (heard_by env p r x)
+    heard-fits : (r : Result Said SegFault) (x : Option (ControlBlock × Stay)) → ((s : Said) → r ≡ Ok s → IsTold s) → HasBoth x → Fits (node_heard_by env p r x)
     heard-fits (Err fault) x d h = tt
     heard-fits (Ok s) None d h = tt
     heard-fits (Ok s) (Some x) d h =
@@ -291,7 +291,7 @@ module _ (env : NodeEnv) (own : env.serve.place ≡ Node env.n) (node : IsNumber
         let few = held.few in
         let fewer = length-less kind.Ask 0 p.kept in
         let less : NodeKeeps env.n most q = record { early = held.early; here = held.here; kept = held-less kind.Ask 0 (Node env.n) p.kept held.kept; few = omega (arith, few, fewer); fetches = held.fetches; few_fetches = held.few_fetches } in
-        cond_both (is_awaited env z nodes p x.1) (with_work env q [] (goes_on env w)) Drops Fits
+        cond_both (is_tag_awaited env z nodes p x.1) (with_work env q [] (goes_on env w)) Drops Fits
         (λ t. work-fits q less [] tt (omega arith) (goes_on env w) (goes-works env own node conn early small files short 8 w (tagged-works env own node conn early small files short nodes (work_of x.0 x.1) ns (fresh x.0 x.1 h))
         (tagged-counts env nodes (work_of x.0 x.1) (omega arith) (fresh-counts x.0 x.1 h)))) (λ t. tt)
 
@@ -318,7 +318,7 @@ module _ (env : NodeEnv) (own : env.serve.place ≡ Node env.n) (node : IsNumber
     pub content-fits : (from r : ℕ) → IsNumber from → Fits (node_content env p from r)
     content-fits from r n = come_by-fits from r (here env.epoch p) n here-has
 
-    read_by-fits : (r : ℕ) (x : Option (ControlBlock × Stay)) → HasBoth x → Fits (read_by env r p x)
+    read_by-fits : (r : ℕ) (x : Option (ControlBlock × Stay)) → HasBoth x → Fits (node_read_by env r p x)
     read_by-fits r None h = tt
     read_by-fits r (Some x) h = work-fits p held [] tt (omega arith) (goes_on env (came_for read_progress r (work_of x.0 x.1))) (came read_progress read-fits r x.0 x.1 h)
 
@@ -330,13 +330,13 @@ module _ (env : NodeEnv) (own : env.serve.place ≡ Node env.n) (node : IsNumber
     takes : Each IsSaid (taken_sent env)
     takes = ((tt, bytes-message env.serve.c env.epoch body.Taken tt, taken-says env.serve.c env.epoch, spells env.serve.c env.epoch body.Taken conn early tt tt), tt)
 
-    offered_by-fits : (parts : EndpointParts) (a : Adopt) → IsValidParts parts → message.Fits (body.Offer parts) → AreBytes parts.unread → Fits (offered_by env parts p a)
+    offered_by-fits : (parts : EndpointParts) (a : Adopt) → IsValidParts parts → message.FitsFields (body.Offer parts) → AreBytes parts.unread → Fits (offered_by env parts p a)
     offered_by-fits parts New valid wide_enough unread =
         let got = valid.received in
         let answered = valid.answered in
         let acked = valid.acknowledged in
-        let w : Work = state_of (reads_batch env true (begins env parts)) in
-        let start : IsAtWork env own node conn early small files short 0 0 (begins env parts) = record {
+        let w : Work = state_of (reads_batch env true (node_begins env parts)) in
+        let start : IsAtWork env own node conn early small files short 0 0 (node_begins env parts) = record {
           service = record { notes = ((node, number, omega (arith, early)), tt); keeps = ((tt, omega (arith, got, answered), omega (arith, acked)), unread, fit-adopted parts valid wide_enough); over = tt };
           batch = tt;
           few = omega arith;
@@ -345,14 +345,14 @@ module _ (env : NodeEnv) (own : env.serve.place ≡ Node env.n) (node : IsNumber
           few_wants = omega arith;
           asked = tt;
         } in
-        let first : IsCounted (begins env parts) = record { asks = omega arith; jobs = omega arith } in
+        let first : IsCounted (node_begins env parts) = record { asks = omega arith; jobs = omega arith } in
         work-fits p held (taken_sent env) takes (omega arith) (goes_on env w)
-        (goes-works env own node conn early small files short 8 w (wide w (batch-works env own node conn early small files short 0 true (begins env parts) start first))
-        (state-counts env (reads_batch env true (begins env parts)) (batch-counts env true (begins env parts) (omega arith) first)))
+        (goes-works env own node conn early small files short 8 w (wide w (batch-works env own node conn early small files short 0 true (node_begins env parts) start first))
+        (state-counts env (reads_batch env true (node_begins env parts)) (batch-counts env true (node_begins env parts) (omega arith) first)))
     offered_by-fits parts Again valid wide_enough unread = (takes, omega arith)
     offered_by-fits parts Stale valid wide_enough unread = tt
 
-    pub offered-fits : (parts : EndpointParts) → IsValidParts parts → message.Fits (body.Offer parts) → AreBytes parts.unread → Fits (node_offered env p parts)
+    pub offered-fits : (parts : EndpointParts) → IsValidParts parts → message.FitsFields (body.Offer parts) → AreBytes parts.unread → Fits (node_offered env p parts)
     offered-fits parts valid wide_enough unread = offered_by-fits parts (offer_answer env.epoch p.row) valid wide_enough unread
 
     -- ---- the end of a stay
@@ -371,7 +371,7 @@ module _ (env : NodeEnv) (own : env.serve.place ≡ Node env.n) (node : IsNumber
           fetches = held.fetches;
           few_fetches = omega (arith, fetches);
         } in
-        cond_both (awaits_ack env.epoch p.row) (Does (q, saying [])) Drops Fits (λ t. (keeps, (sends (Node env.n) [] tt (omega arith), tt))) (λ t. tt)
+        cond_both (awaits_ack env.epoch p.row) (Does (q, node_saying [])) Drops Fits (λ t. (keeps, (sends (Node env.n) [] tt (omega arith), tt))) (λ t. tt)
 
     -- ---- timers
 
@@ -386,18 +386,18 @@ module _ (env : NodeEnv) (own : env.serve.place ≡ Node env.n) (node : IsNumber
     again : Each IsSaid (again_sent p)
     again = held-sent (Node env.n) (p.kept ++ p.fetches) (Each-append (λ k. IsSaid (sent_of k)) p.kept p.fetches held.kept held.fetches)
 
-    fired_by-fits : (x : Option (ControlBlock × Stay)) → HasBoth x → Fits (fired_by env p x)
+    fired_by-fits : (x : Option (ControlBlock × Stay)) → HasBoth x → Fits (node_fired_by env p x)
     fired_by-fits None h = let few = again-few in (again, omega (arith, few))
     fired_by-fits (Some x) h =
         let b : ControlBlock = after_timer x.0 in
         let after : Keeps x.1.served b = keeping-timer (x.1.served - 2 ^ 30) x.0 h.0 in
         let w : Work = work_of b x.1 in
         let both : BothKeep b x.1 = (after, h.1, h.2, h.3) in
-        result p held (again_sent p) again again-few w (wide w (fresh b x.1 both)) (fresh-counts b x.1 both) (spoken env.serve (serving b x.1.served []) (ready_of env.serve b (timed x.0)))
-        (subst (λ (q : Place). EndFits q (spoken env.serve (serving b x.1.served []) (ready_of env.serve b (timed x.0)))) own
-        (spoken-fits env.serve number small (contents env.serve.files files) (at env own node conn early small files short) (serving b x.1.served []) (ready_of env.serve b (timed x.0))
+        result p held (again_sent p) again again-few w (wide w (fresh b x.1 both)) (fresh-counts b x.1 both) (spoken env.serve (serving b x.1.served []) (serving_ready_of env.serve b (timed x.0)))
+        (subst (λ (q : Place). EndFits q (spoken env.serve (serving b x.1.served []) (serving_ready_of env.serve b (timed x.0)))) own
+        (spoken-fits env.serve number small (contents env.serve.files files) (at env own node conn early small files short) (serving b x.1.served []) (serving_ready_of env.serve b (timed x.0))
         (ready-sent env.serve number (x.1.served - 2 ^ 30) b (timed x.0) after) (ready-few env.serve number b (timed x.0)) (record { notes = tt; keeps = after; over = tt })))
-        (spoken-tells env.serve number small (contents env.serve.files files) (at env own node conn early small files short) (serving b x.1.served []) (ready_of env.serve b (timed x.0)))
+        (spoken-tells env.serve number small (contents env.serve.files files) (at env own node conn early small files short) (serving b x.1.served []) (serving_ready_of env.serve b (timed x.0)))
 
     pub fires-fits : Fits (node_timer env p)
-    fires-fits = fired_by-fits (both_of (endpoint_of p.row) p.stay) (both-keep (endpoint_of p.row) p.stay held.here)
+    fires-fits = fired_by-fits (both_of (back_endpoint p.row) p.stay) (both-keep (back_endpoint p.row) p.stay held.here)

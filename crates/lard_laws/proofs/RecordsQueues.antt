@@ -14,14 +14,14 @@ use Rattle.lard_base.specs.declared.place.Place.{Place}
 use Rattle.lard_base.specs.declared.place.Place.TheVariants as place
 use Rattle.lard_base.specs.declared.place.TimerKind.TheVariants as kind
 use Rattle.lard_base.specs.declared.place.Via.TheVariants as via
-use Rattle.lard_cache.specs.Recency.{has}
+use Rattle.lard_cache.specs.Recency.{has_path}
 use Rattle.lard_disk.specs.declared.disk.Job.{Job}
 use Rattle.lard_disk.specs.Jobs.{is_for, job_at, without_job}
 use Rattle.lard_endpoint.specs.Arriving.{on_segment}
 use Rattle.lard_endpoint.specs.Control.{ControlBlock}
 use Rattle.lard_handoff_back.specs.declared.table.Adopt.{Adopt}
 use Rattle.lard_handoff_back.specs.declared.table.Adopt.TheVariants.{Again, New, Stale}
-use Rattle.lard_handoff_back.specs.Back.{awaits_ack, endpoint_of, offer_answer}
+use Rattle.lard_handoff_back.specs.Back.{awaits_ack, back_endpoint, offer_answer}
 use Rattle.lard_journal.specs.declared.rec.Rec.TheVariants as rec
 use Rattle.lard_lateral.specs.Lateral.{is_from}
 use Rattle.lard_message.specs.declared.fault.MsgFault.{MsgFault}
@@ -42,9 +42,9 @@ use Rattle.lard_rules.specs.declared.stay.Next.TheVariants.{Read, Serve, Stop}
 use Rattle.lard_rules.specs.declared.stay.Progress.{Progress}
 use Rattle.lard_rules.specs.declared.stay.Progress.TheVariants.{Awaited, Named, Reading, Ready}
 use Rattle.lard_rules.specs.declared.stay.Stay.{Stay}
-use Rattle.lard_rules.specs.Node.{Deed, Drops, Does, NodePart, Says, begins, both_of, come_by, fired_by, gone, heard_by, here, is_awaited, node_acknowledged, node_content, node_forwarded, node_offered, node_read, node_tagged, node_timer, offered_by, read_by, saying, tagged_by, with_work, work_of}
-use Rattle.lard_rules.specs.NodePlace.{NodeSetting, aside, brought, completed, content_sent, disk_step, epoch_at, fetched, fetched_file, node_deed, node_env, node_gets, node_hears, node_part, node_step}
-use Rattle.lard_rules.specs.Stay.{NodeEnv, Work, asks_for, came_for, come_on, come_progress, entered, enters, enters_first, goes_on, left, named_path, named_paths, noted, read_entry, read_progress, reads_batch, reads_these, serves_by, serves_first, started, started_here, started_there, starts_at, starts_named, starts_one, tagged, turn, turned, next_of}
+use Rattle.lard_rules.specs.Node.{NodeDeed, Drops, Does, NodePart, Says, node_begins, both_of, come_by, node_fired_by, gone, node_heard_by, here, is_tag_awaited, node_acknowledged, node_content, node_forwarded, node_offered, node_read, node_tagged, node_timer, offered_by, node_read_by, node_saying, tagged_by, with_work, work_of}
+use Rattle.lard_rules.specs.NodePlace.{NodeSetting, aside, node_brought, completed, content_sent, disk_step, node_epoch_at, fetched, fetched_file, node_deed, node_env, node_gets, node_hears, node_part, node_step}
+use Rattle.lard_rules.specs.Stay.{NodeEnv, Work, asks_for, came_for, come_on, come_progress, entered, enters, enters_first, goes_on, work_left, named_path, named_paths, noted, read_entry, read_progress, reads_batch, reads_these, serves_by, serves_first, started, started_here, started_there, starts_at, starts_named, starts_one, tagged, stay_turn, turned, next_of}
 use Rattle.lard_reader.specs.Batches.{batch_of, bytes_used}
 use Rattle.lard_request.specs.declared.verdict.Verdict.{Verdict}
 use Rattle.lard_resend.specs.Kept.{is_under, without}
@@ -52,7 +52,7 @@ use Rattle.lard_rules.specs.declared.places.Out.{Out}
 use Rattle.lard_rules.specs.Loop.{Step, state_of}
 use Rattle.lard_rules.proofs.Runs.{KeptByTurns, runs_keep}
 use Rattle.lard_rules.specs.Outs.{nothing_done}
-use Rattle.lard_rules.specs.Serving.{consumed}
+use Rattle.lard_rules.specs.Serving.{serving_consumed}
 use Rattle.lard_segment.specs.declared.fault.SegFault.{SegFault}
 use Rattle.lard_segment.specs.declared.segment.Dir.TheVariants.{ToCluster}
 use Rattle.lard_segment.specs.Segment.{Said, decoded}
@@ -138,14 +138,14 @@ module _ (env : NodeEnv) where
   these-same : (used : ℕ) (w : Work) (vs : List Verdict) → (state_of (reads_these env false used w vs)).jobs ≡ w.jobs
   these-same used w [] = refl
   these-same used w (v ∷ vs) =
-      let x : Work = record w { service = consumed used w.service } in
+      let x : Work = record w { service = serving_consumed used w.service } in
       let y : Work = enters env false (w.service.count + 1) (v ∷ vs) x in
       asked-same (length (v ∷ vs)) (named_paths env.serve.files y.batch) y ∙ unstarted (w.service.count + 1) (v ∷ vs) x
 
   these-one : (used : ℕ) (w : Work) (vs : List Verdict) → length (state_of (reads_these env true used w vs)).jobs ≤ length w.jobs + 1
   these-one used w [] = omega arith
   these-one used w (v ∷ vs) =
-      let x : Work = record w { service = consumed used w.service } in
+      let x : Work = record w { service = serving_consumed used w.service } in
       let y : Work = enters env true (w.service.count + 1) (v ∷ vs) x in
       let same : length (asks_for env (length (v ∷ vs)) (named_paths env.serve.files y.batch) y).jobs ≡ length y.jobs = ap length (asked-same (length (v ∷ vs)) (named_paths env.serve.files y.batch) y) in
       let one = entered-one (w.service.count + 1) (v ∷ vs) x in
@@ -171,14 +171,14 @@ module _ (env : NodeEnv) where
   abbrev HasJobs : List Job → Work → Type 0
   HasJobs jobs w = w.jobs ≡ jobs
 
-  turns-same : (jobs : List Job) → KeptByTurns (turn env) left (HasJobs jobs)
+  turns-same : (jobs : List Job) → KeptByTurns (stay_turn env) work_left (HasJobs jobs)
   turns-same jobs = record {
     more = λ x y is same. ap (λ (s : Step Work). (state_of s).jobs) (sym is) ∙ turned-same x (next_of x) ∙ same;
     done = λ x y is same. ap (λ (s : Step Work). (state_of s).jobs) (sym is) ∙ turned-same x (next_of x) ∙ same;
   }
 
   goes-same : (w : Work) → (goes_on env w).jobs ≡ w.jobs
-  goes-same w = runs_keep (turn env) left (HasJobs w.jobs) (turns-same w.jobs) w refl
+  goes-same w = runs_keep (stay_turn env) work_left (HasJobs w.jobs) (turns-same w.jobs) w refl
 
   -- ---- what a Tag starts
 
@@ -204,13 +204,13 @@ module _ (env : NodeEnv) where
   -- ---- the rules
 
   -- what a rule comes to queues eight jobs at most
-  abbrev QueuesFew : Deed → Type 0
+  abbrev QueuesFew : NodeDeed → Type 0
   QueuesFew Drops = Unit {0}
   QueuesFew (Says messages) = Unit {0}
   QueuesFew (Does x) = length x.1.jobs ≤ 8
 
   -- of two deeds by a test, the other is that nothing is done
-  if-few : (b : Bool) (d : Deed) → QueuesFew d → QueuesFew (cond b d Drops)
+  if-few : (b : Bool) (d : NodeDeed) → QueuesFew d → QueuesFew (cond b d Drops)
   if-few true d h = h
   if-few false d h = tt
 
@@ -224,7 +224,7 @@ module _ (env : NodeEnv) where
   came-few : (f : Progress → Progress) (r : ℕ) (w : Work) → length w.jobs ≤ 8 → length (goes_on env (came_for f r w)).jobs ≤ 8
   came-few f r w few = on-few (came_for f r w) (let same : length (came_for f r w).jobs ≡ length w.jobs = ap length (came-same f r w) in omega (arith, same, few))
 
-  heard-few : (p : NodePart) (given : Result Said SegFault) (x : Option (ControlBlock × Stay)) → QueuesFew (heard_by env p given x)
+  heard-few : (p : NodePart) (given : Result Said SegFault) (x : Option (ControlBlock × Stay)) → QueuesFew (node_heard_by env p given x)
   heard-few p (Err fault) x = tt
   heard-few p (Ok s) None = tt
   heard-few p (Ok s) (Some x) = on-few (work_of (on_segment x.0 s).1 x.1) (omega arith)
@@ -235,7 +235,7 @@ module _ (env : NodeEnv) where
       let w : Work = work_of x.0 x.1 in
       let all = starts-few nodes 0 (w.service.count + 1) w.batch (record w { batch = [] }) in
       let q : NodePart = record p { kept = without kind.Ask 0 p.kept } in
-      if-few (is_awaited env number nodes p x.1) (with_work env q [] (goes_on env (tagged env nodes w))) (on-few (tagged env nodes w) (omega (arith, all, few)))
+      if-few (is_tag_awaited env number nodes p x.1) (with_work env q [] (goes_on env (tagged env nodes w))) (on-few (tagged env nodes w) (omega (arith, all, few)))
 
   come-few : (from r : ℕ) (p : NodePart) (x : Option (ControlBlock × Stay)) → QueuesFew (come_by env from r p x)
   come-few from r p None = tt
@@ -244,22 +244,22 @@ module _ (env : NodeEnv) where
       let q : NodePart = record p { fetches = without kind.Fetch r p.fetches } in
       if-few (is_from from env.epoch (find (is_under kind.Fetch r) p.fetches)) (with_work env q [] (goes_on env w)) (came-few (come_progress from) r (work_of x.0 x.1) (omega arith))
 
-  read-few : (r : ℕ) (p : NodePart) (x : Option (ControlBlock × Stay)) → QueuesFew (read_by env r p x)
+  read-few : (r : ℕ) (p : NodePart) (x : Option (ControlBlock × Stay)) → QueuesFew (node_read_by env r p x)
   read-few r p None = tt
   read-few r p (Some x) = came-few read_progress r (work_of x.0 x.1) (omega arith)
 
   offered-few : (parts : EndpointParts) (p : NodePart) (a : Adopt) → QueuesFew (offered_by env parts p a)
   offered-few parts p New =
-      let w : Work = begins env parts in
+      let w : Work = node_begins env parts in
       let one = these-one (bytes_used 8 w.service.block.recv.unread) w (batch_of 8 w.service.block.recv.unread) in
       on-few (state_of (reads_batch env true w)) (omega (arith, one))
   offered-few parts p Again = tt
   offered-few parts p Stale = tt
 
   acknowledged-few : (p : NodePart) → QueuesFew (node_acknowledged env p)
-  acknowledged-few p = if-few (awaits_ack env.epoch p.row) (Does (record p { row = gone p.row; kept = without kind.Ended 0 p.kept }, saying [])) (omega arith)
+  acknowledged-few p = if-few (awaits_ack env.epoch p.row) (Does (record p { row = gone p.row; kept = without kind.Ended 0 p.kept }, node_saying [])) (omega arith)
 
-  fires-few : (p : NodePart) (x : Option (ControlBlock × Stay)) → QueuesFew (fired_by env p x)
+  fires-few : (p : NodePart) (x : Option (ControlBlock × Stay)) → QueuesFew (node_fired_by env p x)
   fires-few p None = tt
   fires-few p (Some x) = omega arith
 
@@ -273,7 +273,7 @@ module _ (k : NodeSetting) where
   still-gains : (jobs : List Job) → GainsFew jobs jobs
   still-gains jobs = omega arith
 
-  deed-gains : (env : NodeEnv) (s : NodeState) (c : ℕ) (d : Deed) → QueuesFew env d → GainsFew s.disk (node_deed k s c d).0.disk
+  deed-gains : (env : NodeEnv) (s : NodeState) (c : ℕ) (d : NodeDeed) → QueuesFew env d → GainsFew s.disk (node_deed k s c d).0.disk
   deed-gains env s c Drops few = omega arith
   deed-gains env s c (Says messages) few = let more = length-append s.disk [] in omega (arith, more)
   deed-gains env s c (Does x) few = let more = length-append s.disk x.1.jobs in omega (arith, more, few)
@@ -281,11 +281,11 @@ module _ (k : NodeSetting) where
   file-gains : (s : NodeState) (from c epoch r : ℕ) (path : List ℕ) → GainsFew s.disk (aside s (fetched_file k s from c epoch r path)).0.disk
   file-gains s from c epoch r path =
       let job : Job = record { origin = from; c = c; epoch = record { 0 = epoch }; r = r; path = path } in
-      let sent : NodeTurn = record (saying (content_sent k from c epoch r path ∷ [])) { notes = rec.Hit k.n path ∷ [] } in
-      let queued : NodeTurn = record (saying []) { notes = rec.Queued k.n from c r path ∷ []; jobs = job ∷ [] } in
+      let sent : NodeTurn = record (node_saying (content_sent k from c epoch r path ∷ [])) { notes = rec.Hit k.n path ∷ [] } in
+      let queued : NodeTurn = record (node_saying []) { notes = rec.Queued k.n from c r path ∷ []; jobs = job ∷ [] } in
       let none = length-append s.disk [] in
       let one = length-append s.disk (job ∷ []) in
-      cond_both (has s.cache.entries path) sent queued (λ (t : NodeTurn). GainsFew s.disk (aside s t).0.disk) (λ t. omega (arith, none)) (λ t. omega (arith, one))
+      cond_both (has_path s.cache.entries path) sent queued (λ (t : NodeTurn). GainsFew s.disk (aside s t).0.disk) (λ t. omega (arith, none)) (λ t. omega (arith, one))
 
   fetched-gains : (s : NodeState) (from c epoch r : ℕ) (path : List ℕ) (o : Option (List ℕ)) → GainsFew s.disk (fetched k s from c epoch r path o).0.disk
   fetched-gains s from c epoch r path None = omega arith
@@ -314,12 +314,12 @@ module _ (k : NodeSetting) where
       let last = length-drop (suc i) jobs in
       cond_both (j == 0) jobs (take i jobs ++ drop (suc i) jobs) (λ (js : List Job). length js ≤ length jobs) (λ t. omega arith) (λ t. omega (arith, all, first, last))
 
-  brought-gains : (s : NodeState) (job : Job) → GainsFew s.disk (brought k s job).0.disk
+  brought-gains : (s : NodeState) (job : Job) → GainsFew s.disk (node_brought k s job).0.disk
   brought-gains s job =
       let env = node_env k s job.c job.epoch.0 in
       let none = length-append s.disk [] in
       let read : NodeState × Out = node_deed k s job.c (node_read env (node_part s job.c) job.r) in
-      let sent : NodeState × Out = aside s (saying (content_sent k job.origin job.c job.epoch.0 job.r job.path ∷ [])) in
+      let sent : NodeState × Out = aside s (node_saying (content_sent k job.origin job.c job.epoch.0 job.r job.path ∷ [])) in
       cond_both (job.origin == k.n) read sent (λ (x : NodeState × Out). GainsFew s.disk x.0.disk)
       (λ t. deed-gains env s job.c (node_read env (node_part s job.c) job.r) (read-few env job.r (node_part s job.c) (here job.epoch.0 (node_part s job.c))))
       (λ t. omega (arith, none))
@@ -331,6 +331,6 @@ module _ (k : NodeSetting) where
   pub step-gains : (s : NodeState) (i : BackIn) → GainsFew s.disk (node_step k s i).0.disk
   step-gains s (input.Message from bytes) = gets-gains s from (decoded_message bytes) (decoded-few bytes)
   step-gains s (input.Timer c) =
-      let env = node_env k s c (epoch_at s c) in
-      deed-gains env s c (node_timer env (node_part s c)) (fires-few env (node_part s c) (both_of (endpoint_of (node_part s c).row) (node_part s c).stay))
+      let env = node_env k s c (node_epoch_at s c) in
+      deed-gains env s c (node_timer env (node_part s c)) (fires-few env (node_part s c) (both_of (back_endpoint (node_part s c).row) (node_part s c).stay))
   step-gains s (input.Disk j) = disk-gains s j (job_at s.disk j)

@@ -13,14 +13,14 @@ use Rattle.lard_base.specs.declared.event.Event.TheVariants as event
 use Rattle.lard_base.specs.declared.limits.TheConstants.{MAX_SEGMENT_BYTES}
 use Rattle.lard_base.specs.declared.place.Place.{Place}
 use Rattle.lard_base.specs.declared.place.Place.TheVariants as place
-use Rattle.lard_client.specs.Control.{ClientBlock, is_armed, written_len}
+use Rattle.lard_client.specs.Control.{ClientBlock, is_client_armed, written_len}
 use Rattle.lard_rules.specs.Bounds.{HasRule}
 use Rattle.lard_rules.specs.declared.fault.StepFault.{StepFault}
 use Rattle.lard_rules.specs.declared.fault.Refusal.TheVariants.{NoJob, NoNode, WasLost}
 use Rattle.lard_rules.specs.declared.fault.StepFault.TheVariants.{Limit, Refused}
 use Rattle.lard_rules.specs.declared.machine.Machine.{Machine}
-use Rattle.lard_rules.specs.Machine.{IsReached, Passes, client_does, client_goes_on, clocked, completes, delivered, disk_at, from_place, happens, is_no_job, is_no_node, limit_reached, lost, machine_step, node_acts, node_at, node_gave, node_setting, opened, passed, start, timer, timer_at, to_client, to_front, to_place, unless_limit, wrote}
-use Rattle.lard_laws.specs.Records.{IsFile, IsGiven, RecordsAreInRange}
+use Rattle.lard_rules.specs.Machine.{IsReached, Passes, client_acts, client_goes_on, clocked, completes, delivered, disk_at, from_place, happens, is_no_job, is_no_node, limit_reached, lost, machine_step, node_acts, node_at, node_gave, node_setting, machine_opened, passed, machine_start, timer, timer_at, machine_to_client, machine_to_front, to_place, unless_limit, machine_wrote}
+use Rattle.lard_laws.specs.Records.{IsRunFile, IsScheduled, RecordsAreInRange}
 use Rattle.lard_laws.proofs.RecordsDisks.{DisksAreShort, disks-short}
 use Rattle.lard_laws.proofs.RecordsFronts.{FrontKeeps, no-rest}
 use Rattle.lard_laws.proofs.RecordsHolding.{HasRoom, Holds, IsPacket, NodeHolds, StationKeeps, client-holds, front-holds, node-holds, passed-holds}
@@ -41,7 +41,7 @@ use Rattle.lard_history.proofs.Each.{Each}
 use Rattle.lard_history.specs.Journal.{request}
 use Rattle.lard_journal.specs.declared.rec.Rec.{Rec}
 use Rattle.lard_journal.specs.declared.rec.Rec.TheVariants as rec
-use Rattle.lard_journal.specs.Range.{IsInRange, IsNumber, IsPlaceInRange}
+use Rattle.lard_journal.specs.Range.{IsRecordInRange, IsNumber, IsPlaceInRange}
 use Rattle.lard_law_view.proofs.ByteLists.{AreBytes, all-each, bytes-decoded, each-all, index-bytes}
 use Rattle.lard_law_view.proofs.ClientRange.{ClientFits, ClientKeeps, aborts-fits, fires-fits, gets-fits, holds-fits, injects-fits, opens-fits, shuts-fits, takes-fits, writes-fits}
 use Rattle.lard_law_view.proofs.EventRange.{few-before}
@@ -92,7 +92,7 @@ module _ (m : Machine) (view : IsViewed m) (small : m.config.stream ≤ 2 ^ 30) 
   packet-there k p is = subst (λ (o : Option Packet). IfSome o IsPacket) is (cond_both (k == 0) None (slice_get m.net (k - 1)) (λ (o : Option Packet). IfSome o IsPacket) (λ t. tt) (λ t. got IsPacket m.net (k - 1) holds.past.packets))
 
   -- nothing but records
-  passes : (e : Event) (own : List Rec) → IsGiven e → Each IsInRange own → Holds (passed m e own)
+  passes : (e : Event) (own : List Rec) → IsScheduled e → Each IsRecordInRange own → Holds (passed m e own)
   passes e own given mine = passed-holds m e given holds.past room own m.net m.now mine holds.past.packets refl (omega arith) holds.parts
 
   -- ---- clients
@@ -105,57 +105,57 @@ module _ (m : Machine) (view : IsViewed m) (small : m.config.stream ≤ 2 ^ 30) 
     unfolding conn part_of
     number = subst IsNumber (sym ((view.sound c).client x there)) (conn-number c kept.0)
 
-    goes : (e : Event) (own : List Rec) (given : ClientBlock × Turn) → IsGiven e → Each IsInRange own → (IsNumber x.client.c → ClientKeeps x.client → ClientFits given) → (IsSized x.client → SizeFits given) → Holds (client_goes_on m e own c x given)
-    goes e own given g mine rule sized = client-holds m small files holds room e g own mine c x.iss (is_armed x.client) given kept.0 kept.3 (rule number kept.1) (sized kept.2)
+    goes : (e : Event) (own : List Rec) (given : ClientBlock × Turn) → IsScheduled e → Each IsRecordInRange own → (IsNumber x.client.c → ClientKeeps x.client → ClientFits given) → (IsSized x.client → SizeFits given) → Holds (client_goes_on m e own c x given)
+    goes e own given g mine rule sized = client-holds m small files holds room e g own mine c x.iss (is_client_armed x.client) given kept.0 kept.3 (rule number kept.1) (sized kept.2)
 
-  does-good : (e : Event) (own : List Rec) (c : ℕ) (rule : ClientBlock → ClientBlock × Turn) → IsGiven e → Each IsInRange own → ((x : ClientBlock) → IsNumber x.c → ClientKeeps x → ClientFits (rule x))
-      → ((x : ClientBlock) → IsSized x → SizeFits (rule x)) → (o : Option Station) → table.get m.clients c ≡ o → Good (client_does m e own c rule o)
-  unfolding client_does
+  does-good : (e : Event) (own : List Rec) (c : ℕ) (rule : ClientBlock → ClientBlock × Turn) → IsScheduled e → Each IsRecordInRange own → ((x : ClientBlock) → IsNumber x.c → ClientKeeps x → ClientFits (rule x))
+      → ((x : ClientBlock) → IsSized x → SizeFits (rule x)) → (o : Option Station) → table.get m.clients c ≡ o → Good (client_acts m e own c rule o)
+  unfolding client_acts
   does-good e own c rule g mine fits sized None there = tt
   does-good e own c rule g mine fits sized (Some x) there = goes c x there e own (rule x.client) g mine (fits x.client) (sized x.client)
 
-  wrote-good : (e : Event) (c : ℕ) (bytes : List ℕ) → IsGiven e → AreBytes bytes → (o : Option Station) → table.get m.clients c ≡ o → Good (wrote m e c bytes o)
-  unfolding wrote
+  wrote-good : (e : Event) (c : ℕ) (bytes : List ℕ) → IsScheduled e → AreBytes bytes → (o : Option Station) → table.get m.clients c ≡ o → Good (machine_wrote m e c bytes o)
+  unfolding machine_wrote
   wrote-good e c bytes g are None there = tt
   wrote-good e c bytes g are (Some x) there = cond_both (nat_lt m.config.stream (written_len x.client bytes)) (Err (Limit Stream)) (Ok (client_goes_on m e [] c x (client_writes x.client bytes))) Good (λ t. tt)
       (λ t. let most : written_len x.client bytes ≤ m.config.stream = ltb-false m.config.stream (written_len x.client bytes) t in
       goes c x there e [] (client_writes x.client bytes) g tt (λ n keeps. writes-fits x.client n keeps bytes are (omega (arith, most, small))) (λ h. writes-sized x.client h bytes))
 
-  opened-good : (c isn iss wnd mss : ℕ) → IsGiven (event.Open c isn iss wnd mss) → HasRule (event.Open c isn iss wnd mss) → (o : Option Station) → Good (opened m c isn iss wnd mss o)
-  unfolding opened
+  opened-good : (c isn iss wnd mss : ℕ) → IsScheduled (event.Open c isn iss wnd mss) → HasRule (event.Open c isn iss wnd mss) → (o : Option Station) → Good (machine_opened m c isn iss wnd mss o)
+  unfolding machine_opened
   opened-good c isn iss wnd mss g rule None = client-holds m small files holds room (event.Open c isn iss wnd mss) g (rec.Opened c isn iss wnd mss ∷ []) (g.0, tt) c iss false (client_opens c isn wnd mss) rule.6 rule.5 (opens-fits c isn wnd mss) (opens-sized c isn wnd mss)
   opened-good c isn iss wnd mss g rule (Some x) = tt
 
   -- ---- nodes
 
-  node-acts : (e : Event) (own : List Rec) (n : ℕ) (i : BackIn) → IsGiven e → Each IsInRange own → node.InputFits i → (o : Option NodeState) → node_at m.nodes n ≡ o → Holds (node_acts m e own n i o)
+  node-acts : (e : Event) (own : List Rec) (n : ℕ) (i : BackIn) → IsScheduled e → Each IsRecordInRange own → node.InputFits i → (o : Option NodeState) → node_at m.nodes n ≡ o → Holds (node_acts m e own n i o)
   node-acts e own n i g mine fits None here = passes e own g mine
   node-acts e own n i g mine fits (Some s) here = node-holds m small files holds room e g own mine n s here (disks n s here) i fits
 
   -- ---- timers
 
-  timer_at-good : (p : Place) (c : ℕ) (x : Station) → table.get m.clients c ≡ Some x → IsGiven (event.Timer p c) → HasRule (event.Timer p c) → Good (timer_at m p c x)
+  timer_at-good : (p : Place) (c : ℕ) (x : Station) → table.get m.clients c ≡ Some x → IsScheduled (event.Timer p c) → HasRule (event.Timer p c) → Good (timer_at m p c x)
   timer_at-good place.Front c x there g rule = front-holds m small files holds room (event.Timer place.Front c) g [] tt (input.Timer c) (kept c x there).0
   timer_at-good (place.Client d) c x there g rule = goes c x there (event.Timer (place.Client d) c) [] (client_timer x.client) g tt (fires-fits x.client) (fires-sized x.client)
   timer_at-good (place.Node n) c x there g rule =
       cond_both (is_no_node m.config.nodes n) (Err (Refused (NoNode n m.config.nodes))) (Ok (node_acts m (event.Timer (place.Node n) c) [] n (back.Timer c) (node_at m.nodes n))) Good (λ t. tt)
       (λ t. node-acts (event.Timer (place.Node n) c) [] n (back.Timer c) g tt (kept c x there).0 (node_at m.nodes n) refl)
 
-  timer-good : (p : Place) (c : ℕ) → IsGiven (event.Timer p c) → HasRule (event.Timer p c) → (o : Option Station) → table.get m.clients c ≡ o → Good (timer m p c o)
+  timer-good : (p : Place) (c : ℕ) → IsScheduled (event.Timer p c) → HasRule (event.Timer p c) → (o : Option Station) → table.get m.clients c ≡ o → Good (timer m p c o)
   unfolding timer
   timer-good p c g rule None there = tt
   timer-good p c g rule (Some x) there = timer_at-good p c x there g rule
 
   -- ---- packets
 
-  module _ (k : ℕ) (g : IsGiven (event.Deliver k)) where
+  module _ (k : ℕ) (g : IsScheduled (event.Deliver k)) where
     abbrev e : Event
     e = event.Deliver k
 
-    mine : Each IsInRange (rec.Got k ∷ [])
+    mine : Each IsRecordInRange (rec.Got k ∷ [])
     mine = (g.0, tt)
 
-    to-front : (bytes : List ℕ) (c : ℕ) → AreBytes bytes → length bytes ≤ MAX_SEGMENT_BYTES → (o : Option Station) → table.get m.clients c ≡ o → Holds (to_front m k bytes c o)
+    to-front : (bytes : List ℕ) (c : ℕ) → AreBytes bytes → length bytes ≤ MAX_SEGMENT_BYTES → (o : Option Station) → table.get m.clients c ≡ o → Holds (machine_to_front m k bytes c o)
     to-front bytes c h few None there = passes e (rec.Got k ∷ []) g mine
     to-front bytes c h few (Some x) there =
         front-holds m small files holds room e g (rec.Got k ∷ []) mine (input.Segment c (record { 0 = x.iss }) bytes) ((kept c x there).0, h, (kept c x there).3, few)
@@ -165,7 +165,7 @@ module _ (m : Machine) (view : IsViewed m) (small : m.config.stream ≤ 2 ^ 30) 
     from-place bytes place.Front n h asks says = passes e (rec.Got k ∷ []) g mine
     from-place bytes (place.Node n) f h asks says = front-holds m small files holds room e g (rec.Got k ∷ []) mine (input.Message n bytes) (f, h, asks)
 
-    to-client : (bytes : List ℕ) (c : ℕ) → AreBytes bytes → (o : Option Station) → table.get m.clients c ≡ o → Holds (to_client m k bytes c o)
+    to-client : (bytes : List ℕ) (c : ℕ) → AreBytes bytes → (o : Option Station) → table.get m.clients c ≡ o → Holds (machine_to_client m k bytes c o)
     to-client bytes c h None there = passes e (rec.Got k ∷ []) g mine
     to-client bytes c h (Some x) there = goes c x there e (rec.Got k ∷ []) (client_gets x.client (decoded bytes c ToClient)) g mine
         (λ n keeps. gets-fits x.client n keeps (decoded bytes c ToClient) (λ said is. bytes-decoded bytes c ToClient said is h)) (λ sized. gets-sized x.client sized (decoded bytes c ToClient))
@@ -181,7 +181,7 @@ module _ (m : Machine) (view : IsViewed m) (small : m.config.stream ≤ 2 ^ 30) 
     delivered-good (Some p) there = let is : IsPacket p = packet-there k p there in
         cond_both p.lost (Err (Refused (WasLost k))) (Ok (to_place m k p p.to)) Good (λ t. tt) (λ t. to-place p p.to is.0 is.1.1 is.1.2 is.1.3)
 
-  lost-good : (k : ℕ) → IsGiven (event.Lose k) → (o : Option Packet) → Good (lost m k o)
+  lost-good : (k : ℕ) → IsScheduled (event.Lose k) → (o : Option Packet) → Good (lost m k o)
   unfolding lost
   lost-good k g None = tt
   lost-good k g (Some p) =
@@ -190,17 +190,17 @@ module _ (m : Machine) (view : IsViewed m) (small : m.config.stream ≤ 2 ^ 30) 
 
   -- ---- disks, and the clock
 
-  disk_at-good : (n j : ℕ) → IsGiven (event.Disk n j) → (o : Option NodeState) → node_at m.nodes n ≡ o → Good (disk_at m n j o)
+  disk_at-good : (n j : ℕ) → IsScheduled (event.Disk n j) → (o : Option NodeState) → node_at m.nodes n ≡ o → Good (disk_at m n j o)
   disk_at-good n j g None here = tt
   disk_at-good n j g (Some s) here =
       cond_both (is_no_job s j) (Err (Refused (NoJob n j (length s.disk)))) (Ok (node_gave m (event.Disk n j) [] n (node_step (node_setting m n) s (back.Disk j)))) Good (λ t. tt)
       (λ t. node-holds m small files holds room (event.Disk n j) g [] tt n s here (disks n s here) (back.Disk j) tt)
 
-  completes-good : (n j : ℕ) → IsGiven (event.Disk n j) → Good (completes m n j)
+  completes-good : (n j : ℕ) → IsScheduled (event.Disk n j) → Good (completes m n j)
   unfolding completes
   completes-good n j g = cond_both (is_no_node m.config.nodes n) (Err (Refused (NoNode n m.config.nodes))) (disk_at m n j (node_at m.nodes n)) Good (λ t. tt) (λ t. disk_at-good n j g (node_at m.nodes n) refl)
 
-  clocked-good : (ms : ℕ) → IsGiven (event.Clock ms) → Holds (clocked m ms)
+  clocked-good : (ms : ℕ) → IsScheduled (event.Clock ms) → Holds (clocked m ms)
   unfolding clocked
   clocked-good ms g =
       let clock = holds.past.time in
@@ -211,7 +211,7 @@ module _ (m : Machine) (view : IsViewed m) (small : m.config.stream ≤ 2 ^ 30) 
 
   -- ---- whatever happens
 
-  happens-good : (e : Event) → IsGiven e → HasRule e → Good (happens m e)
+  happens-good : (e : Event) → IsScheduled e → HasRule e → Good (happens m e)
   happens-good (event.Open c isn iss wnd mss) g rule = opened-good c isn iss wnd mss g rule (table.get m.clients c)
   happens-good (event.Get c path) g rule = wrote-good (event.Get c path) c (request path) g (request-bytes path (index-bytes path g.1)) (table.get m.clients c) refl
   happens-good (event.Write c bytes) g rule = wrote-good (event.Write c bytes) c bytes g (index-bytes bytes g.0.1) (table.get m.clients c) refl
@@ -239,12 +239,12 @@ module _ (config : Config) (files : List (List ℕ × List ℕ)) (small : config
 
   on-more : (m n : Machine) (e : Event) → IsOn m → HasRule e → machine_step m e ≡ Ok n → IsOn n
   on-more m n e on rule is = let after : IsAfter m e n = step-after m (reached-viewed config files m on.reached) e n rule is in record {
-    reached = (on.reached.0 ++ e ∷ [], passes-more on.reached.0 (start config files) m n e on.reached.1 rule is);
+    reached = (on.reached.0 ++ e ∷ [], passes-more on.reached.0 (machine_start config files) m n e on.reached.1 rule is);
     config_is = after.config ∙ on.config_is;
     files_are = after.files ∙ on.files_are;
   }
 
-  step-holds : (m n : Machine) (e : Event) → IsOn m → Holds m → IsGiven e → HasRule e → machine_step m e ≡ Ok n → Holds n
+  step-holds : (m n : Machine) (e : Event) → IsOn m → Holds m → IsScheduled e → HasRule e → machine_step m e ≡ Ok n → Holds n
   step-holds m n e on h given rule is =
       let first = below m n e is in
       let few = few-before (length m.net) (bytes_in m.net) (length m.journal) m.answered first.0 in
@@ -252,7 +252,7 @@ module _ (config : Config) (files : List (List ℕ × List ℕ)) (small : config
       (record { packets = few.0; records = few.1 }) (disks-short config files m on.reached few.1) e given rule in
       subst Good first.1 good
 
-  passes-hold : (es : List Event) (m n : Machine) → IsOn m → Holds m → Each IsGiven es → Passes m es n → Holds n
+  passes-hold : (es : List Event) (m n : Machine) → IsOn m → Holds m → Each IsScheduled es → Passes m es n → Holds n
   passes-hold [] m n on h given same = subst Holds (sym same) h
   passes-hold (e ∷ es) m n on h given past =
       passes-hold es past.0 n (on-more m past.0 e on past.1 past.2) (step-holds m past.0 e on h given.0 past.1 past.2) given.1 past.3
@@ -274,7 +274,7 @@ module _ (config : Config) (files : List (List ℕ × List ℕ)) (small : config
   blank-node : (n most : ℕ) → NodeKeeps n most nothing_kept
   blank-node n most = record { early = tt; here = tt; kept = tt; few = omega arith; fetches = tt; few_fetches = omega arith }
 
-  start-holds : config.nodes ≤ 64 → config_check config ≡ Ok tt → Holds (start config files)
+  start-holds : config.nodes ≤ 64 → config_check config ≡ Ok tt → Holds (machine_start config files)
   unfolding conn part_of
   start-holds few checked = record {
     parts = record {
@@ -299,11 +299,11 @@ module _ (config : Config) (files : List (List ℕ × List ℕ)) (small : config
       )
 
 -- so all holds behind events of such files
-pub run-holds : (config : Config) (files : List (List ℕ × List ℕ)) (es : List Event) (m : Machine) → config_check config ≡ Ok tt → All IsFile files → All IsGiven es → Passes (start config files) es m → Holds m
+pub run-holds : (config : Config) (files : List (List ℕ × List ℕ)) (es : List Event) (m : Machine) → config_check config ≡ Ok tt → All IsRunFile files → All IsScheduled es → Passes (machine_start config files) es m → Holds m
 run-holds config files es m checked are given past =
     let u = usable config checked in
-    passes-hold config files u.stream (files-named files are) es (start config files) m (record { reached = ([], refl); config_is = refl; files_are = refl })
-    (start-holds config files u.stream (files-named files are) u.nodes checked) (all-each IsGiven es given) past
+    passes-hold config files u.stream (files-named files are) es (machine_start config files) m (record { reached = ([], refl); config_is = refl; files_are = refl })
+    (start-holds config files u.stream (files-named files are) u.nodes checked) (all-each IsScheduled es given) past
 
 pub records-ranges : RecordsAreInRange
-records-ranges config files es m checked are given past = each-all IsInRange m.journal (run-holds config files es m checked are given past).past.records
+records-ranges config files es m checked are given past = each-all IsRecordInRange m.journal (run-holds config files es m checked are given past).past.records

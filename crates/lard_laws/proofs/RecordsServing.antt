@@ -12,21 +12,21 @@ use Rattle.lard_endpoint.specs.Leaving.{after_emit, emits_left, filled, owes}
 use Rattle.lard_endpoint.specs.Moving.{end_reason, final_of, may_end}
 use Rattle.lard_history.proofs.Each.{Each, Each-append}
 use Rattle.lard_journal.specs.declared.rec.Rec.TheVariants as rec
-use Rattle.lard_journal.specs.Range.{IsInRange, IsNumber, IsPlaceInRange, IsViaInRange}
+use Rattle.lard_journal.specs.Range.{IsRecordInRange, IsNumber, IsPlaceInRange, IsViaInRange}
 use Rattle.lard_law_view.proofs.ByteLists.{AreBytes, bytes-append, bytes-spelled, each-drop, each-take}
 use Rattle.lard_law_view.proofs.ContentRange.{AreFiles, answer-fits, code-small}
 use Rattle.lard_law_view.proofs.ServingRange.{emits-few, symbols-few}
 use Rattle.lard_law_view.proofs.KeptBytes.{IsKept, left-few}
 use Rattle.lard_message.specs.declared.message.Body.TheVariants as body
-use Rattle.lard_message.specs.Message.{Fits, IsCount, IsOfTable}
-use Rattle.lard_rules.specs.Node.{count_of}
+use Rattle.lard_message.specs.Message.{FitsFields, IsCount, IsOfTable}
+use Rattle.lard_rules.specs.Node.{reset_count}
 use Rattle.lard_request.specs.declared.verdict.Verdict.{Verdict}
 use Rattle.lard_request.specs.Verdict.{closes}
 use Rattle.lard_rules.proofs.Loops.{KeptBySpeaking, speaks_keep, symbols_keep}
 use Rattle.lard_rules.specs.declared.places.Ending.{Ending}
 use Rattle.lard_rules.specs.declared.places.Ending.TheVariants as ending
 use Rattle.lard_rules.specs.declared.places.Turn.{Turn}
-use Rattle.lard_rules.specs.Serving.{ServeEnv, Service, answered, consumed, cut_off, ended_at_fin, limit_said, passed_over, queued, ready_of, rested, settled, spoken, closed_behind, told}
+use Rattle.lard_rules.specs.Serving.{ServeEnv, Service, answered, serving_consumed, cut_off, ended_at_fin, limit_said, passed_over, queued, serving_ready_of, rested, serving_settled, spoken, closed_behind, serving_told}
 use Rattle.lard_rules.specs.Speaking.{speaks, speaks_symbols, to_client}
 use Rattle.lard_segment.specs.declared.segment.Dir.TheVariants.{ToClient}
 use Rattle.lard_segment.specs.declared.segment.Ready.{Ready}
@@ -46,11 +46,11 @@ count-few count b h = let few = h.0.1 in let most = h.0.2 in omega (arith, few, 
 -- limit ended it, and nothing else.
 abbrev pub EndTells : Option ℕ → ℕ → Ending → Type 0
 EndTells over n (ending.Here b count) = count ≡ n
-EndTells over n (ending.Over last) = IsOfTable (body.Ended last.reason last.snd.0 last.rcv.0 (count_of over)) × Fits (body.Ended last.reason last.snd.0 last.rcv.0 (count_of over))
+EndTells over n (ending.Over last) = IsOfTable (body.Ended last.reason last.snd.0 last.rcv.0 (reset_count over)) × FitsFields (body.Ended last.reason last.snd.0 last.rcv.0 (reset_count over))
 
 -- A turn's notes and segments are in range, and its segments are few.
 pub record TurnFits (from : Place) (turn : Turn) : Type 0 where
-  pub notes : Each IsInRange turn.notes
+  pub notes : Each IsRecordInRange turn.notes
   pub sent : Each (IsLetter from) turn.segments
   pub few : length turn.segments ≤ 2 ^ 31
 
@@ -74,16 +74,16 @@ module _ (env : ServeEnv) (number : IsNumber env.c) where
       (number, bytes-spelled env.c ToClient (filled b r) (each-take (λ b. b < 256) r.len (drop from b.send.rest) (each-drop (λ b. b < 256) from b.send.rest h.0.0)), tt, tt)
 
   -- one segment that is ready, or none
-  pub ready-sent : (least : ℕ) (b : ControlBlock) (o : Option Ready) → Keeping least b → Each (IsLetter env.place) (ready_of env b o)
+  pub ready-sent : (least : ℕ) (b : ControlBlock) (o : Option Ready) → Keeping least b → Each (IsLetter env.place) (serving_ready_of env b o)
   ready-sent least b None h = tt
   ready-sent least b (Some r) h = (segment-sent least b r h, tt)
 
-  pub ready-few : (b : ControlBlock) (o : Option Ready) → length (ready_of env b o) ≤ 1
+  pub ready-few : (b : ControlBlock) (o : Option Ready) → length (serving_ready_of env b o) ≤ 1
   ready-few b None = omega arith
   ready-few b (Some r) = omega arith
 
   -- one without data
-  pub told-sent : (s : Said) → s.payload ≡ [] → IsLetter env.place (told env s)
+  pub told-sent : (s : Said) → s.payload ≡ [] → IsLetter env.place (serving_told env s)
   told-sent s none = (number, bytes-spelled env.c ToClient s (subst AreBytes (sym none) tt), tt, tt)
 
   module _ (least : ℕ) where
@@ -111,7 +111,7 @@ module _ (env : ServeEnv) (number : IsNumber env.c) where
   module _ (small : env.stream ≤ 2 ^ 30) (are : AreFiles env.files) (at : IsPlaceInRange env.place) where
     -- A service between two of its turns: its notes are in range, what it keeps is bytes, and a reset counts few.
     pub record Serves (w : Service) : Type 0 where
-      pub notes : Each IsInRange w.notes
+      pub notes : Each IsRecordInRange w.notes
       pub keeps : Keeps w.count w.block
       pub over : IfSome w.over (λ total. total < 2 ^ 32)
 
@@ -138,21 +138,21 @@ module _ (env : ServeEnv) (number : IsNumber env.c) where
         let low = code-small env.files v in
         cond_both (nat_lt env.stream (total + length bytes)) (passed_over env (total + length bytes) w) (queued env via v bytes w) Serves
         (λ t. record {
-          notes = Each-append IsInRange w.notes (rec.Reset env.place env.c (total + length bytes) ∷ []) h.notes ((at, number, omega (arith, short, most)), tt);
+          notes = Each-append IsRecordInRange w.notes (rec.Reset env.place env.c (total + length bytes) ∷ []) h.notes ((at, number, omega (arith, short, most)), tt);
           keeps = h.keeps;
           over = omega (arith, short, most);
         })
         (λ t.
         let within : total + length bytes ≤ env.stream = ltb-false env.stream (total + length bytes) t in
         record {
-          notes = Each-append IsInRange w.notes (rec.Served env.place env.c (w.count + 1) (answer_code env.files v) (length bytes) via ∷ []) h.notes
+          notes = Each-append IsRecordInRange w.notes (rec.Served env.place env.c (w.count + 1) (answer_code env.files v) (length bytes) via ∷ []) h.notes
               ((at, number, omega (arith, few, most), omega (arith, low), omega (arith, short), way), tt);
           keeps = closed-keeps ((w.count + 1) - 2 ^ 30) v (queueing w.block bytes) ((bytes-append w.block.send.rest bytes h.keeps.0.0 fits.0, omega (arith, few, some), omega (arith, within, small)), h.keeps.1, fit-queueing w.block bytes open_ (omega (arith, within, small)) h.keeps.2);
           over = tt;
         })
 
     -- what is read goes
-    pub consumed-serves : (n : ℕ) (w : Service) → Serves w → Serves (consumed n w)
+    pub consumed-serves : (n : ℕ) (w : Service) → Serves w → Serves (serving_consumed n w)
     consumed-serves n w h = record { notes = h.notes; keeps = (h.keeps.0, each-drop (λ b. b < 256) n w.block.recv.unread h.keeps.1, fit-consuming w.block n h.keeps.2); over = h.over }
 
     -- behind the client's FIN the cluster's follows
@@ -182,18 +182,18 @@ module _ (env : ServeEnv) (number : IsNumber env.c) where
         let few = symbols-few env.c (emits_left w.block) w.block in
         let left = left-few w.block.send (owes w.block) h.keeps.0.2 in
         let last : Said = limit_said (final_of said.1 reason.Limit) in
-        let both = length-append said.0 (told env last ∷ []) in
+        let both = length-append said.0 (serving_told env last ∷ []) in
         record {
           keeps = tt;
           turn = record {
             notes = h.notes;
-            sent = Each-append (IsLetter env.place) said.0 (told env last ∷ []) (symbols-says (w.count - 2 ^ 30) w.block h.keeps).1 (told-sent last refl, tt);
+            sent = Each-append (IsLetter env.place) said.0 (serving_told env last ∷ []) (symbols-says (w.count - 2 ^ 30) w.block h.keeps).1 (told-sent last refl, tt);
             few = omega (arith, few, left, both);
           };
         }
 
     -- either end of a turn
-    pub settled-fits : (w : Service) → Serves w → EndFits env.place (settled env w)
+    pub settled-fits : (w : Service) → Serves w → EndFits env.place (serving_settled env w)
     settled-fits w h = go w.over where
       go : (o : Option ℕ) → EndFits env.place (elim o as (λ p. Ending × Turn) [ None ↦ spoken env w [] | Some total ↦ cut_off env w ])
       go None = spoken-fits w [] tt (omega arith) h
@@ -209,7 +209,7 @@ module _ (env : ServeEnv) (number : IsNumber env.c) where
     pub spoken-tells : (w : Service) (before : List (Place × List ℕ)) → EndTells None w.count (spoken env w before).0
     spoken-tells w before = rested-tells (speaks env.c w.block).1 w.count
 
-    pub settled-tells : (w : Service) → Serves w → EndTells w.over w.count (settled env w).0
+    pub settled-tells : (w : Service) → Serves w → EndTells w.over w.count (serving_settled env w).0
     settled-tells w h = go w.over h.over where
       go : (o : Option ℕ) → IfSome o (λ total. total < 2 ^ 32) → EndTells o w.count (elim o as (λ p. Ending × Turn) [ None ↦ spoken env w [] | Some total ↦ cut_off env w ]).0
       go None few = spoken-tells w []

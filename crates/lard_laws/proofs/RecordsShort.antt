@@ -5,7 +5,7 @@ use Rattle.lard_base.specs.declared.config.Config.{Config}
 use Rattle.lard_base.specs.declared.event.Event.{Event}
 use Rattle.lard_rules.specs.Bounds.{HasRule}
 use Rattle.lard_rules.specs.declared.machine.Machine.{Machine}
-use Rattle.lard_rules.specs.Machine.{machine_step, node_at, node_setting, start, told}
+use Rattle.lard_rules.specs.Machine.{machine_step, node_at, node_setting, machine_start, machine_told}
 use Rattle.lard_laws.proofs.RecordsDisks.{disks-short}
 use Rattle.lard_laws.proofs.RecordsQueues.{step-gains}
 use Rattle.lard_laws.proofs.RecordsReached.{below}
@@ -26,7 +26,7 @@ AreWithin most nodes = (n : ℕ) (s : NodeState) → node_at nodes n ≡ Some s 
 
 -- where one node moved by its step
 moved-within : (m n : Machine) (e : Event) → AreWithin (2 ^ 30) m.nodes → NodeStep m e n → AreWithin (2 ^ 30 + 8) n.nodes
-unfolding told
+unfolding machine_told
 moved-within m n e short move q s at =
     let x : NodeState × Out = node_step (node_setting m move.i) move.s move.comes in
     let nodes : List NodeState = slice_set m.nodes (move.i - 1) x.0 in
@@ -50,8 +50,8 @@ module _ (config : Config) (files : List (List ℕ × List ℕ)) where
       let few = few-before (length m.net) (bytes_in m.net) (length m.journal) m.answered (below m n e is).0 in
       form-within m n e (disks-short config files m on.reached few.1) (step-form m e n is)
 
-  start-short : AreWithin (2 ^ 30 + 8) (start config files).nodes
-  start-short n s at = let few = disks-short config files (start config files) ([], refl) (omega arith) n s at in omega (arith, few)
+  start-short : AreWithin (2 ^ 30 + 8) (machine_start config files).nodes
+  start-short n s at = let few = disks-short config files (machine_start config files) ([], refl) (omega arith) n s at in omega (arith, few)
 
 pub disks-stay : DisksStayShort
 disks-stay config files m r n s at = let few = carried-keep config files (λ k. AreWithin (2 ^ 30 + 8) k.nodes) (start-short config files) (short-step config files) m r n s at in omega (arith, few)

@@ -3,7 +3,7 @@ use Rattle.std.proofs.Common.{ℕ, zero, suc, ◌-◌, List, [], ◌∷◌, ◌+
 use Rattle.std.specs.List.{fold}
 use Rattle.lard_base.specs.declared.place.Place.{Place}
 use Rattle.lard_base.specs.declared.place.Place.TheVariants.{Client, Front, Node}
-use Rattle.lard_law_connections.specs.Places.{head_of}
+use Rattle.lard_law_connections.specs.Places.{message_head}
 use Rattle.lard_law_connections.proofs.PlacesHeads.{spelled-head}
 use Rattle.lard_laws.specs.RecordsMessages.{Decodes, MayTalk, PacketsAreMessages}
 use Rattle.lard_laws.proofs.RecordsHolding.{Holds, IsPacket}
@@ -33,7 +33,7 @@ decodes bytes h =
       is = h.is;
       decoded = ap decoded_message (sym h.spelled) ∙ again m h.is;
       spelled = h.spelled;
-      head = ap head_of (sym h.spelled) ∙ spelled-head m h.is.epoch;
+      head = ap message_head (sym h.spelled) ∙ spelled-head m h.is.epoch;
       connection = ap named_in (sym h.spelled) ∙ spelled-named m (h.is.some_connection, h.is.connection);
     }
 

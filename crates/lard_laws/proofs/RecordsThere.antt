@@ -15,7 +15,7 @@ use Rattle.lard_rules.specs.declared.fault.StepFault.{StepFault}
 use Rattle.lard_rules.specs.declared.fault.Refusal.TheVariants.{NoNode, WasLost}
 use Rattle.lard_rules.specs.declared.fault.StepFault.TheVariants.{Refused}
 use Rattle.lard_rules.specs.declared.machine.Machine.{Machine}
-use Rattle.lard_rules.specs.Machine.{clocked, completes, delivered, disk_at, happens, is_no_node, limit_reached, machine_step, node_acts, node_at, segments_sent, timer, timer_at, to_place, told, told_rows, unless_limit}
+use Rattle.lard_rules.specs.Machine.{clocked, completes, delivered, disk_at, happens, is_no_node, limit_reached, machine_step, node_acts, node_at, segments_sent, timer, timer_at, to_place, machine_told, told_rows, unless_limit}
 use Rattle.lard_laws.specs.RecordsMessages.{MayBeThere, OnlyNodesThatAreThereAct}
 use Rattle.lard_laws.proofs.StepsPlaces.{AreHere, act-here, all-six, behind-here, here-at}
 use Rattle.lard_law_view.proofs.AnyShape.{AnyShape, IsAct, step-any}
@@ -80,8 +80,8 @@ record Adds (m n : Machine) (e : Event) : Type 0 where
   are : Each NamesNone rows ⊎ ((p : Place) × ActsAt m.net e p × Each (IsAt p) rows)
 
 module _ (m : Machine) where
-  told-adds : (w : Machine) (e : Event) (place : Place) (o : Out) → IsAct m w e place o → Adds m (told w e (behind e) place o) e
-  unfolding told
+  told-adds : (w : Machine) (e : Event) (place : Place) (o : Out) → IsAct m w e place o → Adds m (machine_told w e (behind e) place o) e
+  unfolding machine_told
   told-adds w e place o act =
       let here : AreHere place o = act-here m w e place o act in
       let S : List Rec = sent_records (length w.net + 1) place o.segments in

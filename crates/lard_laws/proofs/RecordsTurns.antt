@@ -7,11 +7,11 @@ use Rattle.lard_base.specs.declared.place.TimerKind.{TimerKind}
 use Rattle.lard_laws.proofs.RecordsLetters.{IsLetter}
 use Rattle.lard_history.proofs.Each.{Each, Each-append}
 use Rattle.lard_journal.specs.declared.rec.Rec.{Rec}
-use Rattle.lard_journal.specs.Range.{IsInRange, IsNumber, IsPlaceInRange}
+use Rattle.lard_journal.specs.Range.{IsRecordInRange, IsNumber, IsPlaceInRange}
 use Rattle.lard_law_view.proofs.ByteLists.{each-drop, each-take}
 use Rattle.lard_rules.specs.Node.{anew}
 use Rattle.lard_resend.specs.declared.kept.Kept.{Kept}
-use Rattle.lard_resend.specs.Kept.{is_under, place_of, without}
+use Rattle.lard_resend.specs.Kept.{is_under, kept_place_of, without}
 use Rattle.lard_resend.specs.Pending.{sent_of}
 use Rattle.lard_rules.specs.Outs.{kind_change}
 
@@ -19,10 +19,10 @@ use Rattle.lard_rules.specs.Outs.{kind_change}
 
 -- What is noted, sent and given up is in range, and few segments and messages are sent.
 pub record IsTurn (from : Place) (ns : List Rec) (ss : List (Place × List ℕ)) (gs : List Rec) (ms : List (Place × List ℕ)) : Type 0 where
-  pub notes : Each IsInRange ns
+  pub notes : Each IsRecordInRange ns
   pub segments : Each (IsLetter from) ss
   pub few : length ss ≤ 2 ^ 31
-  pub gave : Each IsInRange gs
+  pub gave : Each IsRecordInRange gs
   pub messages : Each (IsLetter from) ms
   pub few_messages : length ms ≤ 2 ^ 30
 
@@ -31,7 +31,7 @@ pub sends : (from : Place) (messages : List (Place × List ℕ)) → Each (IsLet
 sends from messages h few = record { notes = tt; segments = tt; few = omega arith; gave = tt; messages = h; few_messages = few }
 
 -- the record of a timer that changed
-pub change-range : (p : Place) (c : ℕ) (kind : TimerKind) (was is : Bool) → IsPlaceInRange p → IsNumber c → Each IsInRange (kind_change p c kind was is)
+pub change-range : (p : Place) (c : ℕ) (kind : TimerKind) (was is : Bool) → IsPlaceInRange p → IsNumber c → Each IsRecordInRange (kind_change p c kind was is)
 change-range p c kind false false h n = tt
 change-range p c kind false true h n = ((h, n), tt)
 change-range p c kind true false h n = ((h, n), tt)
@@ -69,13 +69,13 @@ held-more from k ks one h =
     let P : Kept → Type 0 = λ k. IsLetter from (sent_of k) in
     let less : List Kept = without k.kind k.r ks in
     let all : AreHeld from less = held-less k.kind k.r from ks h in
-    let i : ℕ = place_of k.kind k.r less in
+    let i : ℕ = kept_place_of k.kind k.r less in
     Each-append P (take i less) (k ∷ drop i less) (each-take P i less all) (one, each-drop P i less all)
 
 pub length-more : (k : Kept) (ks : List Kept) → length (anew k ks) ≤ length ks + 1
 length-more k ks =
     let less : List Kept = without k.kind k.r ks in
-    let i : ℕ = place_of k.kind k.r less in
+    let i : ℕ = kept_place_of k.kind k.r less in
     let fewer = length-less k.kind k.r ks in
     let parts : length (take i less ++ drop i less) ≡ length less = ap (λ (xs : List Kept). length xs) (take-append-drop i less) in
     let whole = length-append (take i less) (drop i less) in

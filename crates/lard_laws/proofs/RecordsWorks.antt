@@ -17,7 +17,7 @@ use Rattle.lard_disk.specs.declared.disk.Job.{Job}
 use Rattle.lard_history.proofs.Each.{Each, Each-append}
 use Rattle.lard_journal.specs.declared.rec.Rec.{Rec}
 use Rattle.lard_journal.specs.declared.rec.Rec.TheVariants as rec
-use Rattle.lard_journal.specs.Range.{IsInRange, IsNumber, IsPlaceInRange, IsViaInRange}
+use Rattle.lard_journal.specs.Range.{IsRecordInRange, IsNumber, IsPlaceInRange, IsViaInRange}
 use Rattle.lard_rules.specs.declared.stay.Asked.{Asked}
 use Rattle.lard_rules.specs.declared.stay.Entry.{Entry}
 use Rattle.lard_rules.specs.declared.stay.Next.{Next}
@@ -25,13 +25,13 @@ use Rattle.lard_rules.specs.declared.stay.Next.TheVariants.{Stop}
 use Rattle.lard_rules.specs.declared.stay.Progress.{Progress}
 use Rattle.lard_rules.specs.declared.stay.Progress.TheVariants.{Named, Reading, Awaited, Ready}
 use Rattle.lard_rules.specs.declared.stay.Want.{Want}
-use Rattle.lard_rules.specs.Stay.{NodeEnv, Work, asks_for, came_for, come_on, come_progress, entered, enters, enters_first, enters_one, goes_on, left, and_path, left_by, named_path, named_paths, next_by, next_in, noted, path_in, progress_of, read_entry, read_progress, reads_batch, reads_these, serves_by, serves_first, started, started_here, started_there, starts_at, starts_named, starts_one, tagged, turn, turned}
+use Rattle.lard_rules.specs.Stay.{NodeEnv, Work, asks_for, came_for, come_on, come_progress, entered, enters, enters_first, enters_one, goes_on, work_left, and_path, left_by, named_path, named_paths, next_by, next_in, noted, path_in, progress_of, read_entry, read_progress, reads_batch, reads_these, serves_by, serves_first, started, started_here, started_there, starts_at, starts_named, starts_one, tagged, stay_turn, turned}
 use Rattle.lard_reader.specs.Batches.{batch_of, bytes_used}
 use Rattle.lard_request.specs.declared.verdict.Verdict.{Verdict}
 use Rattle.lard_rules.proofs.Runs.{runs_keep}
 use Rattle.lard_rules.specs.Loop.{Step, state_of}
 use Rattle.lard_rules.specs.Loop as loop
-use Rattle.lard_rules.specs.Serving.{Service, answered, consumed, may_read}
+use Rattle.lard_rules.specs.Serving.{Service, answered, serving_consumed, may_read}
 
 -- ---- what is in hand
 
@@ -41,7 +41,7 @@ IsRequest r = r < 2 ^ 32
 
 -- a job of a disk
 abbrev pub JobFits : Job → Type 0
-JobFits job = IsNumber job.origin × cluster.IsNumber job.c × (job.epoch.0 < 2 ^ 16) × IsRequest job.r × IsNamed job.path
+JobFits job = IsNumber job.origin × cluster.IsConnNumber job.c × (job.epoch.0 < 2 ^ 16) × IsRequest job.r × IsNamed job.path
 
 -- the way by which a content came
 abbrev pub ProgressFits : Progress → Type 0
@@ -90,7 +90,7 @@ came-fits from n (Ready way) h = h
 
 -- ---- a node at work
 
-module _ (env : NodeEnv) (own : env.serve.place ≡ Node env.n) (node : IsNumber env.n) (conn : cluster.IsNumber env.serve.c) (early : env.epoch < 2 ^ 16) (small : env.serve.stream ≤ 2 ^ 30) (files : AreNamed env.serve.files) (short : env.queue ≤ 2 ^ 30) where
+module _ (env : NodeEnv) (own : env.serve.place ≡ Node env.n) (node : IsNumber env.n) (conn : cluster.IsConnNumber env.serve.c) (early : env.epoch < 2 ^ 16) (small : env.serve.stream ≤ 2 ^ 30) (files : AreNamed env.serve.files) (short : env.queue ≤ 2 ^ 30) where
   abbrev pub number : IsNumber env.serve.c
   number = conn-number env.serve.c conn
 
@@ -119,8 +119,8 @@ module _ (env : NodeEnv) (own : env.serve.place ≡ Node env.n) (node : IsNumber
   IsAtWorkIn k j (loop.Done y) = IsAtWork k j y
 
   -- one note more
-  noted-serves : (w : Service) (r : Rec) → IsInRange r → IsServing w → IsServing (noted (r ∷ []) w)
-  noted-serves w r n h = record { notes = Each-append IsInRange w.notes (r ∷ []) h.notes (n, tt); keeps = h.keeps; over = h.over }
+  noted-serves : (w : Service) (r : Rec) → IsRecordInRange r → IsServing w → IsServing (noted (r ∷ []) w)
+  noted-serves w r n h = record { notes = Each-append IsRecordInRange w.notes (r ∷ []) h.notes (n, tt); keeps = h.keeps; over = h.over }
 
   -- one request more
   entered-works : (k j : ℕ) (e : Entry) (w : Work) → EntryFits e → IsAtWork k j w → IsAtWork (k + 1) j (entered e w)
@@ -205,7 +205,7 @@ module _ (env : NodeEnv) (own : env.serve.place ≡ Node env.n) (node : IsNumber
 
   these-work : (j : ℕ) (here : Bool) (used : ℕ) (w : Work) (vs : List Verdict) → length vs ≤ 8 → IsAtWork 0 j w → IsCounted w → IsAtWorkIn 8 j (reads_these env here used w vs)
   these-work j here used w [] few h counts = let none = h.few in record {
-    service = ended-serves env.serve number small (contents env.serve.files files) at (consumed used w.service) (consumed-serves env.serve number small (contents env.serve.files files) at used w.service h.service);
+    service = ended-serves env.serve number small (contents env.serve.files files) at (serving_consumed used w.service) (consumed-serves env.serve number small (contents env.serve.files files) at used w.service h.service);
     batch = h.batch;
     few = omega (arith, none);
     jobs = h.jobs;
@@ -214,7 +214,7 @@ module _ (env : NodeEnv) (own : env.serve.place ≡ Node env.n) (node : IsNumber
     asked = h.asked;
   }
   these-work j here used w (v ∷ vs) few h counts =
-      let x : Work = record w { service = consumed used w.service } in
+      let x : Work = record w { service = serving_consumed used w.service } in
       let y : Work = enters env here (w.service.count + 1) (v ∷ vs) x in
       let start : IsAtWork 0 j x = record { service = consumed-serves env.serve number small (contents env.serve.files files) at used w.service h.service; batch = h.batch; few = h.few; jobs = h.jobs; wants = h.wants; few_wants = h.few_wants; asked = h.asked } in
       let counted = count-few w.service.count w.service.block h.service.keeps in
@@ -273,7 +273,7 @@ module _ (env : NodeEnv) (own : env.serve.place ≡ Node env.n) (node : IsNumber
     go Reading = h
     go (Awaited to) = h
 
-  turn-works : (j : ℕ) (w : Work) → IsAtWork 8 j w → IsCounted w → IsAtWorkIn 8 j (turn env w)
+  turn-works : (j : ℕ) (w : Work) → IsAtWork 8 j w → IsCounted w → IsAtWorkIn 8 j (stay_turn env w)
   turn-works j w h counts = cond_both (may_read w.service) (next_in w.batch) Stop (λ (n : Next). IsAtWorkIn 8 j (turned env w n)) (λ t. next-works j w w.batch refl (may-open w.service t) h counts) (λ t. h)
 
   -- what holds between two turns
@@ -284,7 +284,7 @@ module _ (env : NodeEnv) (own : env.serve.place ≡ Node env.n) (node : IsNumber
   HoldsIn j s = IsAtWorkIn 8 j s × IsCountedIn env s
 
   pub goes-works : (j : ℕ) (w : Work) → IsAtWork 8 j w → IsCounted w → IsAtWork 8 j (goes_on env w) × IsCounted (goes_on env w)
-  goes-works j w h counts = runs_keep (turn env) left (Holds j) (record {
+  goes-works j w h counts = runs_keep (stay_turn env) work_left (Holds j) (record {
     more = λ y z e p. subst (HoldsIn j) e (turn-works j y p.0 p.1, turn-counts env y p.1);
     done = λ y z e p. subst (HoldsIn j) e (turn-works j y p.0 p.1, turn-counts env y p.1);
   }) w (h, counts)

@@ -4,7 +4,7 @@ use Rattle.std.proofs.lemmas.Bool.{ltb-false, ltb-true}
 use Rattle.lard_answers.specs.Answers.{FilesAt, verdicts}
 use Rattle.lard_base.specs.declared.place.Place.{Place}
 use Rattle.lard_base.specs.declared.place.Place.TheVariants.{Client, Front, Node}
-use Rattle.lard_law_connections.specs.BytesAgreement.{ConnAgrees, HoldsIt, IsOpen, IsTruthful, IsUnopened, RowAgrees, StayAgrees}
+use Rattle.lard_law_connections.specs.BytesAgreement.{ConnAgrees, HoldsItPending, IsOpen, IsTruthful, IsConnUnopened, RowAgrees, StayAgrees}
 use Rattle.lard_law_connections.proofs.BytesClientMoves.{open-at}
 use Rattle.lard_law_connections.proofs.BytesNodeMoves.{has-it}
 use Rattle.lard_law_connections.proofs.BytesReading.{read-alone}
@@ -12,11 +12,11 @@ use Rattle.lard_law_connections.proofs.LineSpeaking.{IsTold}
 use Rattle.lard_law_connections.proofs.LineStands.{stand_at}
 use Rattle.lard_law_connections.proofs.PlacesNodeRules.{has-at}
 use Rattle.lard_law_connections.proofs.PlacesTurns.{IsPlaced}
-use Rattle.lard_laws.specs.Sizes.{Marks, begins, complete, read_by, read_on}
+use Rattle.lard_laws.specs.Sizes.{SizeMarks, batch_begins, complete, requests_read_by, read_on}
 use Rattle.lard_laws.proofs.SizesMoving.{IsTelling, Reaches, marks_now}
 use Rattle.lard_laws.proofs.SizesReading.{IsReadOn, Reach}
 use Rattle.lard_laws.proofs.SizesTurns.{Reads, RowReach, RowReads, RowTold, StageReach, StageReads, StageTold, StayReach, StayReads, complete-is}
-use Rattle.lard_law_connections.specs.Stops.{BackStageStops, IsAwaited, ReadingStops, RowStops, StayStops}
+use Rattle.lard_law_connections.specs.Stops.{BackStageStops, FirstIsAwaited, ReadingStops, RowStops, StayStops}
 use Rattle.lard_law_view.specs.Carry.{tale_at}
 use Rattle.lard_law_view.specs.View.{Conn}
 use Rattle.lard_endpoint.specs.Control.{ControlBlock}
@@ -55,9 +55,9 @@ module _ (u upto all count : ℕ) (le : count ≤ upto) (done : count ≡ upto �
         omega (arith, begun, is, below, number)
     go false less more = let above = more refl in ends-on (omega (arith, le, above))
 
-read-is : (u : ℕ) (now : Marks) (upto : ℕ) → now.served ≤ upto → (now.served ≡ upto → length (complete now) ≤ now.served) → Reach u now.served upto (length (complete now)) → upto ≡ read_on u now
+read-is : (u : ℕ) (now : SizeMarks) (upto : ℕ) → now.served ≤ upto → (now.served ≡ upto → length (complete now) ≤ now.served) → Reach u now.served upto (length (complete now)) → upto ≡ read_on u now
 read-is u now upto le done h = go (nat_lt now.served u) (ltb-true now.served u) (ltb-false now.served u) where
-  go : (b : Bool) → (b ≡ true → now.served < u) → (b ≡ false → u ≤ now.served) → upto ≡ cond b u (now.served + (min (length (complete now)) (begins u now + 8) - now.served))
+  go : (b : Bool) → (b ≡ true → now.served < u) → (b ≡ false → u ≤ now.served) → upto ≡ cond b u (now.served + (min (length (complete now)) (batch_begins u now + 8) - now.served))
   go true less more = ⊎_elim
       (λ (e : upto ≡ u). e)
       (λ (r : IsReadOn u now.served upto (length (complete now))). absurd (let a = less refl in let b = r.begun in omega (arith, a, b))) h
@@ -68,7 +68,7 @@ read-is u now upto le done h = go (nat_lt now.served u) (ltb-true now.served u) 
 -- ---- one connection
 
 -- an endpoint with nothing that was read and is not answered, which has stopped
-stopped-held : (w out : Stream) (vs : List Verdict) (b : ControlBlock) (count : ℕ) → HoldsIt w out vs [] b count → HasStopped b → one.HoldsIt w out vs b count
+stopped-held : (w out : Stream) (vs : List Verdict) (b : ControlBlock) (count : ℕ) → HoldsItPending w out vs [] b count → HasStopped b → one.HoldsIt w out vs b count
 stopped-held w out vs b count h stopped = record {
   counted = h.counted;
   not_reset = h.not_reset;
@@ -85,7 +85,7 @@ empty-batch [] le = refl
 empty-batch (e ∷ es) le = absurd (omega (arith, le))
 
 module _ (files : FilesAt) (x : Conn) (truth : IsTruthful files x) (placed : IsPlaced x) (stops : ReadingStops files x) (telling : IsTelling x) (u : ℕ) (reach : Reaches u x) where
-  abbrev m : Marks
+  abbrev m : SizeMarks
   m = marks_now x
 
   abbrev l : Talk
@@ -121,13 +121,13 @@ module _ (files : FilesAt) (x : Conn) (truth : IsTruthful files x) (placed : IsP
 
     stopped-by : t.batch ≡ [] → (f : Bool) → b.send.finished ≡ f → HasStopped b
     stopped-by none true e = (stop.closed e).0
-    stopped-by none false e = ⊎_elim (λ (a : IsAwaited t.batch). absurd (subst IsAwaited none a)) (λ (h : HasStopped b × (t.batch ≡ [])). h.0) (stop.open_ e)
+    stopped-by none false e = ⊎_elim (λ (a : FirstIsAwaited t.batch). absurd (subst FirstIsAwaited none a)) (λ (h : HasStopped b × (t.batch ≡ [])). h.0) (stop.open_ e)
 
     -- behind the last batch none is complete
     done : m.served ≡ t.served + length t.batch → length (complete m) ≤ m.served
     done e =
         let none : t.batch ≡ [] = empty-batch t.batch (omega (arith, e, served)) in
-        let alone : HoldsIt l.w l.out l.vs [] b t.served = subst (λ (us : List Verdict). HoldsIt l.w l.out l.vs us b t.served) (agrees.0 ∙ ap (map (λ z. z.verdict)) none) agrees.1 in
+        let alone : HoldsItPending l.w l.out l.vs [] b t.served = subst (λ (us : List Verdict). HoldsItPending l.w l.out l.vs us b t.served) (agrees.0 ∙ ap (map (λ z. z.verdict)) none) agrees.1 in
         let most = came-answered l.w l.out l.vs b t.served files o.says (stopped-held l.w l.out l.vs b t.served alone (stopped-by none b.send.finished refl)) in
         let same : length (complete m) ≡ length (verdicts (take b.recv.got l.w.bytes)) = ap length all in
         let count : m.served ≡ length l.vs = o.tale.served in
@@ -144,7 +144,7 @@ module _ (files : FilesAt) (x : Conn) (truth : IsTruthful files x) (placed : IsP
     is-read = sym (read-is u m (t.served + length t.batch) (omega (arith, served)) done reaches)
 
   abbrev now : ℕ
-  now = read_by (tale_at x).owner u m
+  now = requests_read_by (tale_at x).owner u m
 
   by-stay : (n : ℕ) (row : BackRow) (b : ControlBlock) → (x.part.nodes n).row ≡ Some row → row.stage ≡ back.Here b → (t : Option Stay) → (x.part.nodes n).stay ≡ t → StayReads now t
   by-stay n row b found at None stays = tt
@@ -153,9 +153,9 @@ module _ (files : FilesAt) (x : Conn) (truth : IsTruthful files x) (placed : IsP
     owner = (has-at x placed n row b found at x.part.front.row refl).owner
 
     go : (s : Option Station) → x.part.station ≡ s → now ≡ t.served + length t.batch
-    go (Some s) there = ap (λ (p : Option Place). read_by p u m) owner ∙ is-read s there n row b t found at stays
+    go (Some s) there = ap (λ (p : Option Place). requests_read_by p u m) owner ∙ is-read s there n row b t found at stays
     go None there =
-        let none : IsUnopened x = subst (ConnAgrees files x l pend) there truth.agrees in
+        let none : IsConnUnopened x = subst (ConnAgrees files x l pend) there truth.agrees in
         let no : ◌≡◌ {A = Option Stay} None (Some t) = sym (none.stays n) ∙ stays in absurd cc
 
   by-stage : (n : ℕ) (row : BackRow) → (x.part.nodes n).row ≡ Some row → (d : BackConn) → row.stage ≡ d → StageReads now (x.part.nodes n).stay d
@@ -166,7 +166,7 @@ module _ (files : FilesAt) (x : Conn) (truth : IsTruthful files x) (placed : IsP
   by-row n None found = tt
   by-row n (Some row) found = by-stage n row found row.stage refl
 
-  by-owner : (p : Option Place) → ((n : ℕ) → p ≢ Some (Node n)) → read_by p u m ≡ m.served
+  by-owner : (p : Option Place) → ((n : ℕ) → p ≢ Some (Node n)) → requests_read_by p u m ≡ m.served
   by-owner None h = refl
   by-owner (Some Front) h = refl
   by-owner (Some (Client d)) h = refl

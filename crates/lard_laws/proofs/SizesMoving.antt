@@ -15,7 +15,7 @@ use Rattle.lard_law_connections.specs.Places.{Owning, owning}
 use Rattle.lard_law_connections.proofs.PlacesNodeRules.{has-at}
 use Rattle.lard_law_connections.proofs.PlacesRows.{MayOwnBy, OwnsBy, SendsOwn, after, after_all}
 use Rattle.lard_law_connections.proofs.PlacesTurns.{IsPlaced, Owes}
-use Rattle.lard_laws.specs.Sizes.{BodyIsOfBatch, Marks}
+use Rattle.lard_laws.specs.Sizes.{BodyIsOfBatch, SizeMarks}
 use Rattle.lard_laws.proofs.SizesTurns.{PartReach, Reads, RowTold, SaysFit, StageTold, now_told, reads-reach}
 use Rattle.lard_law_view.specs.Carry.{tale_at}
 use Rattle.lard_law_view.specs.View.{Conn, Move, Part, Was, grown, rows_of, seen_in, sending, timer_rows}
@@ -31,7 +31,7 @@ use Rattle.lard_history.specs.Own.{Came, Row, Seen, tale_of}
 use Rattle.lard_history.proofs.Each.{Each, Each-append, Each-weaker}
 use Rattle.lard_journal.specs.declared.rec.Rec.{Rec}
 use Rattle.lard_journal.specs.declared.rec.Rec.TheVariants as rec
-use Rattle.lard_law_view.specs.Keeping.{resets, served_in, size_in}
+use Rattle.lard_law_view.specs.Keeping.{is_reset_record, served_in, bytes_served_in}
 use Rattle.lard_law_view.proofs.Notes.{Adds}
 use Rattle.lard_message.specs.declared.message.Message.{Message}
 use Rattle.lard_message.specs.Reading.{decoded_message}
@@ -44,10 +44,10 @@ use Rattle.std.specs.List.{list_any}
 -- ---- what is told
 
 -- by what a connection saw
-abbrev pub seen_marks : ℕ → List Seen → Marks
+abbrev pub seen_marks : ℕ → List Seen → SizeMarks
 seen_marks c ss = record { numbers = (tale_of c ss).numbers; wrote = (tale_of c ss).wrote; served = (tale_of c ss).served; told = (fold (stand_step c) unknown ss).told }
 
-abbrev pub marks_now : Conn → Marks
+abbrev pub marks_now : Conn → SizeMarks
 marks_now x = seen_marks x.c x.seen
 
 -- Each packet was seen to go out, and where a node has the endpoint, the client was told all that came.
@@ -291,7 +291,7 @@ module _ (files : FilesAt) (u : ℕ) (x : Conn) (n : ℕ) (heads : List Seen) (n
   abbrev pub acts : Move
   acts = record { place = Node n; heads = heads; said = record { notes = notes; segments = segments; gave = gave; messages = messages }; part = part }
 
-  abbrev now : Marks
+  abbrev now : SizeMarks
   now = now_told files x.c x n u (marks_now x) ((marks_now x).served + served_in notes) segments
 
   module _ (own : IsItsOwn x acts) (owes : Owes x acts) (placed : IsPlaced x) (are : Each IsHead heads) (quiet : bytes_of (tale_before x acts) ≡ bytes_of (tale_at x)) (each : Each (IsNoteOf x.c) notes) (to : AllTo (Client x.c) segments) where
@@ -302,7 +302,7 @@ module _ (files : FilesAt) (u : ℕ) (x : Conn) (n : ℕ) (heads : List Seen) (n
     marks-grown : seen_marks x.c (x.seen ++ seen_in x acts) ≡ now
     marks-grown =
         let before : Tale = tale_before x acts in
-        let adds : Adds before [] [] (served_in notes) (size_in notes) (list_any resets notes) (told_on x.c before notes) = place-notes x.c before notes each in
+        let adds : Adds before [] [] (served_in notes) (bytes_served_in notes) (list_any is_reset_record notes) (told_on x.c before notes) = place-notes x.c before notes each in
         let moved : bytes_of (tale_at (grown x acts)) ≡ bytes_of (told_on x.c before notes) = move-bytes x acts own.messages own.gave in
         λ i. record {
           numbers = (ap (λ (b : Bytes). b.numbers) moved ∙ adds.numbers ∙ ap (λ (b : Bytes). b.numbers) quiet) i;
@@ -319,7 +319,7 @@ module _ (files : FilesAt) (u : ℕ) (x : Conn) (n : ℕ) (heads : List Seen) (n
       go (Node m) f = tt
       go Front f = λ new m d. ⊎_elim
           (λ (was : Was x (Node n) Front s.1). absurd (new (h.seen (record { from = Node n; to = Front; bytes = s.1 }) was)))
-          (λ (g : (m : Message) → decoded_message s.1 ≡ Ok m → BodyIsOfBatch files u now m.body). subst (λ (t : Marks). BodyIsOfBatch files u t m.body) (sym marks-grown) (g m d)) f
+          (λ (g : (m : Message) → decoded_message s.1 ≡ Ok m → BodyIsOfBatch files u now m.body). subst (λ (t : SizeMarks). BodyIsOfBatch files u t m.body) (sym marks-grown) (g m d)) f
 
     messages-fit : IsTelling x → (ss : List (Place × List ℕ)) → Each (SaysFit files x.c x n u (marks_now x) now) ss → Each (RowFits files x.c u x.seen (seen_in x acts)) (map (sending (Node n)) ss)
     messages-fit h [] f = tt
@@ -335,7 +335,7 @@ module _ (files : FilesAt) (u : ℕ) (x : Conn) (n : ℕ) (heads : List Seen) (n
     ) where
       reach_by : (q : ℕ) → (q ≡ n) ⊎ (q ≢ n) → PartReach u (tale_at (grown x acts)).wrote (part.nodes q)
       reach_by q e = ⊎_elim
-          (λ (same : q ≡ n). subst (λ (i : ℕ). PartReach u (tale_at (grown x acts)).wrote (part.nodes i)) (sym same) (subst (λ (l : List ℕ). PartReach u l (part.nodes n)) (sym (ap (λ (m : Marks). m.wrote) marks-grown)) mine_reach))
+          (λ (same : q ≡ n). subst (λ (i : ℕ). PartReach u (tale_at (grown x acts)).wrote (part.nodes i)) (sym same) (subst (λ (l : List ℕ). PartReach u l (part.nodes n)) (sym (ap (λ (m : SizeMarks). m.wrote) marks-grown)) mine_reach))
           (λ (other : q ≢ n). subst (PartReach u (tale_at (grown x acts)).wrote) (sym (others q other)) (reads-reach u (tale_at (grown x acts)).wrote (x.part.nodes q).stay (x.part.nodes q).row (reads.here q))) e
 
       by_node : (q : ℕ) → (q ≡ n) ⊎ (q ≢ n) → RowTold (stand_at (grown x acts)).told (part.nodes q).row

@@ -6,7 +6,7 @@ use Rattle.lard_base.specs.declared.ids.Epoch.{Epoch}
 use Rattle.lard_base.specs.declared.parts.EndpointParts.{EndpointParts}
 use Rattle.lard_base.specs.declared.place.Place.{Place}
 use Rattle.lard_base.specs.declared.place.Place.TheVariants.{Front, Node}
-use Rattle.lard_rules.specs.Bounds.{IsNumber}
+use Rattle.lard_rules.specs.Bounds.{IsConnNumber}
 use Rattle.lard_law_connections.specs.BytesAgreement.{AwayAgrees, FrontHolds, IsFair, IsKept, IsOffering, IsOpen, NodeAgrees, SeatAgrees, StageAgrees}
 use Rattle.lard_law_connections.specs.BytesKeeping.{IsTalk}
 use Rattle.lard_law_connections.proofs.BytesClientMoves.{has-fair}
@@ -19,20 +19,20 @@ use Rattle.lard_law_connections.proofs.BytesWays.{batch-right}
 use Rattle.lard_law_connections.specs.Places.{IsComing, IsDecided, IsOffered, IsPast, IsThere, Offers, Owning, Sits, StageSits, owning}
 use Rattle.lard_law_connections.proofs.PlacesFrontMessages.{came-says}
 use Rattle.lard_law_connections.proofs.PlacesTurns.{IsPlaced}
-use Rattle.lard_laws.specs.Sizes.{Marks}
+use Rattle.lard_laws.specs.Sizes.{SizeMarks}
 use Rattle.lard_laws.proofs.SizesReading.{Fits, first-fits, gone-all}
 use Rattle.lard_laws.proofs.SizesTelling.{IsQuiet, batch-state, wider-quiet}
 use Rattle.lard_laws.proofs.SizesTurns.{DeedFits, Reads, SaysFit, goes-on-fits, other-says}
 use Rattle.lard_law_view.specs.Carry.{tale_at}
-use Rattle.lard_law_view.specs.View.{Conn, IsNodeEnv, Setting, Spells, Was}
-use Rattle.lard_laws.specs.WaysState.{BeginsWith, GoesItsWay, IsAway, IsPlacedOnce, LetterWays, OfferIs, SeatWays, StageWays, marks_at}
+use Rattle.lard_law_view.specs.View.{Conn, IsNodeEnv, Setting, SpellsMessage, Was}
+use Rattle.lard_laws.specs.WaysState.{BeginsWithRequest, GoesItsWay, IsAway, IsPlacedOnce, LetterWays, OfferIs, SeatWays, StageWays, marks_at}
 use Rattle.lard_laws.specs.WaysUnder.{Assigned}
 use Rattle.lard_laws.specs.Ways.{good_paths}
 use Rattle.lard_laws.specs.Ways as ways_specs
 use Rattle.lard_endpoint.specs.Moving.{may_freeze, parts_of}
 use Rattle.lard_endpoint.specs.Control.{ControlBlock}
 use Rattle.lard_rules.specs.declared.front.FrontRest.{FrontRest}
-use Rattle.lard_rules.specs.Front.{rest_of}
+use Rattle.lard_rules.specs.Front.{front_rest}
 use Rattle.lard_handoff_back.specs.declared.row.BackRow.{BackRow}
 use Rattle.lard_handoff_back.specs.declared.table.Adopt.{Adopt}
 use Rattle.lard_handoff_back.specs.declared.table.Adopt.TheVariants.{Again, New, Stale}
@@ -47,7 +47,7 @@ use Rattle.lard_law_view.specs.Truthful.{Talk}
 use Rattle.lard_message.specs.declared.kind.Kind.TheVariants as kind
 use Rattle.lard_message.specs.declared.message.Body.TheVariants as body
 use Rattle.lard_message.specs.Reading.{decoded_message}
-use Rattle.lard_rules.specs.Node.{Deed, NodePart, Says, begins, message, node_offered, offered_by, taken_sent}
+use Rattle.lard_rules.specs.Node.{NodeDeed, NodePart, Says, node_begins, message, node_offered, offered_by, taken_sent}
 use Rattle.lard_rules.specs.Stay.{NodeEnv, Work, reads_batch}
 use Rattle.lard_reader.specs.Batches.{batch_of}
 use Rattle.lard_request.specs.declared.verdict.Verdict.{Verdict}
@@ -65,18 +65,18 @@ first-path a b i j e = ap path_of e where
 
 -- ---- an endpoint that the front end froze is adopted
 
-module _ (env : NodeEnv) (x : Conn) (n u : ℕ) (past : Marks) (w out : Stream) (vs pend : List Verdict) (was_reset : Bool) (talk : IsTalk env w out vs) (num : Numbers) (numbers : past.numbers ≡ Some num) (isn : num.isn ≡ w.first)
+module _ (env : NodeEnv) (x : Conn) (n u : ℕ) (past : SizeMarks) (w out : Stream) (vs pend : List Verdict) (was_reset : Bool) (talk : IsTalk env w out vs) (num : Numbers) (numbers : past.numbers ≡ Some num) (isn : num.isn ≡ w.first)
     (wrote : past.wrote ≡ w.bytes) (counted : past.served ≡ length vs) (p : NodePart) where
   abbrev fs : FilesAt
   fs = env.serve.files
 
-  taken-says : (now : Marks) → Each (SaysFit fs env.serve.c x n u past now) (taken_sent env)
+  taken-says : (now : SizeMarks) → Each (SaysFit fs env.serve.c x n u past now) (taken_sent env)
   taken-says now = (other-says fs x n u past now env.serve.c env.epoch Front body.Taken (λ e. let no : kind.Taken ≡ kind.Ask = e in absurd cc), tt)
 
-  pub takes-fit : (b : ControlBlock) (count : ℕ) → FrontHolds w out vs pend b count → may_freeze b ≡ true → (path : List ℕ) → good_paths fs (take count (verdicts w.bytes)) ≡ [] → BeginsWith fs b.recv.unread path → count ≡ u
+  pub takes-fit : (b : ControlBlock) (count : ℕ) → FrontHolds w out vs pend b count → may_freeze b ≡ true → (path : List ℕ) → good_paths fs (take count (verdicts w.bytes)) ≡ [] → BeginsWithRequest fs b.recv.unread path → count ≡ u
       → DeedFits fs env.serve.c x n u past (offered_by env (parts_of b count) p New)
   takes-fit b count h frozen path answered begins_with upto =
-      let k : Work = begins env (parts_of b count) in
+      let k : Work = node_begins env (parts_of b count) in
       let so : So env.serve w out vs k.service [] = offered-so env w out vs was_reset talk pend p b count h frozen in
       let may : MayGo w so.vs_now [] k.service = go-on env.serve w out vs k.service [] so refl refl refl in
       let v : Work = state_of (reads_batch env true k) in
@@ -99,22 +99,22 @@ there-decided : (n e : ℕ) (w : Owning) (row : Option BackRow) → IsThere n e 
 there-decided n e w None h = absurd h
 there-decided n e w (Some row) h = let same = h.0 in omega (arith, same)
 
-module _ (k : Setting) (small : k.stream ≤ 2 ^ 30) (x : Conn) (number : IsNumber x.c) (s : Station) (there : x.part.station ≡ Some s) (l : Talk) (pend : List Verdict) (o : IsOpen k.files x l pend s) (n epoch : ℕ) (env : NodeEnv) (is : IsNodeEnv k x.c n epoch env)
-    (u : ℕ) (past : Marks) (num : Numbers) (numbers : past.numbers ≡ Some num) (isn : num.isn ≡ l.w.first) (wrote : past.wrote ≡ l.w.bytes) (counted : past.served ≡ length l.vs)
-    (parts : EndpointParts) (bytes : List ℕ) (spells : Spells x.c epoch (body.Offer parts) bytes) (was : Was x Front (Node n) bytes) (placed : IsPlaced x) (g : GoesItsWay env.serve.files x) (reads : Reads u x) where
+module _ (k : Setting) (small : k.stream ≤ 2 ^ 30) (x : Conn) (number : IsConnNumber x.c) (s : Station) (there : x.part.station ≡ Some s) (l : Talk) (pend : List Verdict) (o : IsOpen k.files x l pend s) (n epoch : ℕ) (env : NodeEnv) (is : IsNodeEnv k x.c n epoch env)
+    (u : ℕ) (past : SizeMarks) (num : Numbers) (numbers : past.numbers ≡ Some num) (isn : num.isn ≡ l.w.first) (wrote : past.wrote ≡ l.w.bytes) (counted : past.served ≡ length l.vs)
+    (parts : EndpointParts) (bytes : List ℕ) (spells : SpellsMessage x.c epoch (body.Offer parts) bytes) (was : Was x Front (Node n) bytes) (placed : IsPlaced x) (g : GoesItsWay env.serve.files x) (reads : Reads u x) where
   abbrev files : FilesAt
   files = env.serve.files
 
-  abbrev m : ways_specs.Marks
+  abbrev m : ways_specs.WayMarks
   m = marks_at x
 
   abbrev r : FrontRest
-  r = rest_of x.part.front.rest
+  r = front_rest x.part.front.rest
 
   abbrev p : NodePart
   p = x.part.nodes n
 
-  abbrev Goal : Deed → Type 0
+  abbrev Goal : NodeDeed → Type 0
   Goal d = DeedFits files env.serve.c x n u past d
 
   talk : IsTalk env l.w l.out l.vs
@@ -149,7 +149,7 @@ module _ (k : Setting) (small : k.stream ≤ 2 ^ 30) (x : Conn) (number : IsNumb
       let offer : OfferIs files m parts = ⊎_elim (λ (a : IsDecided epoch p.row). absurd (not a)) (λ (a : OfferIs files m parts). a)
       ((has-fair (LetterWays files m x.part) (record { from = Front; to = Node n; bytes = bytes }) x.letters was g.letters) _ spells) in
       let paths : offer.0 ≡ once.path = first-path offer.0 once.path offer.1 n (sym offer.2 ∙ once.assigned) in
-      let begins_with : BeginsWith files offering.block.recv.unread once.path = subst (λ (q : EndpointParts). BeginsWith files q.unread once.path) same (subst (BeginsWith files parts.unread) paths offer.3) in
+      let begins_with : BeginsWithRequest files offering.block.recv.unread once.path = subst (λ (q : EndpointParts). BeginsWithRequest files q.unread once.path) same (subst (BeginsWithRequest files parts.unread) paths offer.3) in
       let count : m.served ≡ offering.count = o.tale.served ∙ sym offering.holds.holds.counted in
       let answered : good_paths files (take offering.count (verdicts l.w.bytes)) ≡ [] = (λ i. good_paths files (take (sym count i) (verdicts (sym o.tale.wrote i)))) ∙ once.answered in
       let nobody : (tale_at x).owner ≡ None = ⊎_elim (λ (a : IsComing row.epoch.0 (owning (tale_at x)) p.row). a.0)

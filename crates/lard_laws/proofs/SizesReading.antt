@@ -26,12 +26,12 @@ use Rattle.lard_rules.specs.declared.stay.Next.{Next}
 use Rattle.lard_rules.specs.declared.stay.Next.TheVariants as next
 use Rattle.lard_rules.specs.declared.stay.Progress.{Progress}
 use Rattle.lard_rules.specs.declared.stay.Progress.TheVariants as progress
-use Rattle.lard_rules.specs.Stay.{NodeEnv, Work, and_path, asks_for, enters, enters_first, goes_on, left, left_by, named_path, named_paths, next_in, path_in, progress_of, read_entry, reads_batch, reads_these, serves_by, serves_first, serves_with, started_here, turn, turned}
+use Rattle.lard_rules.specs.Stay.{NodeEnv, Work, and_path, asks_for, enters, enters_first, goes_on, work_left, left_by, named_path, named_paths, next_in, path_in, progress_of, read_entry, reads_batch, reads_these, serves_by, serves_first, serves_with, started_here, stay_turn, turned}
 use Rattle.lard_reader.specs.Batches.{batch_of, bytes_used}
 use Rattle.lard_request.specs.declared.verdict.Verdict.{Verdict}
 use Rattle.lard_request.specs.Verdict.{closes}
 use Rattle.lard_rules.specs.Loop.{Step, More, Done, state_of}
-use Rattle.lard_rules.specs.Serving.{Service, closed_behind, consumed, ended_at_fin, may_read, passed_over, queued}
+use Rattle.lard_rules.specs.Serving.{Service, closed_behind, serving_consumed, ended_at_fin, may_read, passed_over, queued}
 use Rattle.lard_rules.proofs.Runs.{runs_keep}
 use Rattle.lard_law_view.specs.Truth.{Stream}
 
@@ -255,7 +255,7 @@ module _ (env : NodeEnv) (w out : Stream) (vs : List Verdict) (u : ℕ) where
   these-fit : (k : Work) → k.batch ≡ [] → may_read k.service ≡ true → Works env w out vs k → Fits k → (us : List Verdict) → batch_of 8 k.service.block.recv.unread ≡ us
       → StepFits (reads_these env false (bytes_used 8 k.service.block.recv.unread) k us)
   these-fit k none may works fits [] is =
-      let s : Service = consumed (bytes_used 8 k.service.block.recv.unread) k.service in
+      let s : Service = serving_consumed (bytes_used 8 k.service.block.recv.unread) k.service in
       let quiet : k.asked ≡ None = none-asked k k.asked refl none fits.asked in
       record {
         good = subst HasGood (ap (λ (c : ℕ). c + length k.batch) (sym (cond_both s.block.recv.fin (record s { block = finishing s.block }) s (λ (t : Service). t.count ≡ k.service.count) (λ t. refl) (λ t. refl)))) fits.good;
@@ -266,7 +266,7 @@ module _ (env : NodeEnv) (w out : Stream) (vs : List Verdict) (u : ℕ) where
   these-fit k none may works fits (v ∷ us) is =
       let h : So env.serve w out vs k.service [] = subst (λ (es : List Entry). So env.serve w out vs k.service (verdicts_of es)) none works in
       let go : MayGo w h.vs_now [] k.service = may-go w h.vs_now [] k.service may h.reading in
-      let start : Work = record k { service = consumed (bytes_used 8 k.service.block.recv.unread) k.service } in
+      let start : Work = record k { service = serving_consumed (bytes_used 8 k.service.block.recv.unread) k.service } in
       let all : Work = enters env false (k.service.count + 1) (v ∷ us) start in
       let e : Enters start all (map (read_entry files) (v ∷ us)) = read-enter env (k.service.count + 1) (v ∷ us) start in
       let batch : all.batch ≡ map (read_entry files) (v ∷ us) = e.batch ∙ ap (λ (es : List Entry). es ++ map (read_entry files) (v ∷ us)) none in
@@ -310,7 +310,7 @@ module _ (env : NodeEnv) (w out : Stream) (vs : List Verdict) (u : ℕ) where
         n = k.service.count + 1
 
         start : Work
-        start = record k { service = consumed (bytes_used 8 k.service.block.recv.unread) k.service }
+        start = record k { service = serving_consumed (bytes_used 8 k.service.block.recv.unread) k.service }
 
         one : Work
         one = started_here env n path v start
@@ -400,7 +400,7 @@ module _ (env : NodeEnv) (w out : Stream) (vs : List Verdict) (u : ℕ) where
   turned-fits k may works fits next.Read e = these-fit k (none-left k.batch e) may works fits (batch_of 8 k.service.block.recv.unread) refl
   turned-fits k may works fits next.Stop e = fits
 
-  turn-fits : (k : Work) → Works env w out vs k → Fits k → StepFits (turn env k)
+  turn-fits : (k : Work) → Works env w out vs k → Fits k → StepFits (stay_turn env k)
   turn-fits k works fits = go (may_read k.service) refl where
     go : (b : Bool) → may_read k.service ≡ b → StepFits (turned env k (cond b (next_in k.batch) next.Stop))
     go true may = turned-fits k may works fits (next_in k.batch) refl
@@ -410,7 +410,7 @@ module _ (env : NodeEnv) (w out : Stream) (vs : List Verdict) (u : ℕ) where
   All k = Works env w out vs k × Right env w out vs k × Fits k
 
   pub goes-fit : env.serve.stream ≤ 2 ^ 30 → (k : Work) → Works env w out vs k → Right env w out vs k → Fits k → Fits (goes_on env k)
-  goes-fit most k works right fits = (runs_keep (turn env) left All (record {
+  goes-fit most k works right fits = (runs_keep (stay_turn env) work_left All (record {
     more = λ y z e p. (subst (StepsSo env w out vs) e (turn-so env w out vs most y p.0 p.1), subst (StepsRight env) e (turn-right env y p.1), subst StepFits e (turn-fits y p.0 p.2));
     done = λ y z e p. (subst (StepsSo env w out vs) e (turn-so env w out vs most y p.0 p.1), subst (StepsRight env) e (turn-right env y p.1), subst StepFits e (turn-fits y p.0 p.2));
   }) k (works, right, fits)).2

@@ -9,8 +9,8 @@ use Rattle.lard_base.specs.declared.event.Event.TheVariants as event
 use Rattle.lard_base.specs.declared.place.Place.{Place}
 use Rattle.lard_base.specs.declared.place.Place.TheVariants.{Client, Front, Node}
 use Rattle.lard_rules.specs.declared.machine.Machine.{Machine}
-use Rattle.lard_rules.specs.Bounds.{HasRule, IsNumber}
-use Rattle.lard_rules.specs.Machine.{IsReached, machine_step, start}
+use Rattle.lard_rules.specs.Bounds.{HasRule, IsConnNumber}
+use Rattle.lard_rules.specs.Machine.{IsReached, machine_step, machine_start}
 use Rattle.lard_law_connections.specs.BytesAgreement.{IsTruthful}
 use Rattle.lard_law_connections.proofs.BytesOwners.{Known, Knows, known}
 use Rattle.lard_law_connections.proofs.BytesRuns.{states-truthful}
@@ -20,14 +20,14 @@ use Rattle.lard_law_connections.proofs.PlacesLaw.{owing}
 use Rattle.lard_law_connections.proofs.PlacesRuns.{each-placed}
 use Rattle.lard_law_connections.proofs.PlacesTurns.{IsPlaced}
 use Rattle.lard_law_connections.proofs.PlacesTurns as places
-use Rattle.lard_laws.specs.Sizes.{AsksTo, BatchesHaveTheirSize, BodyIsOfBatch, Marks, MayAsk, MustSize, marks, read_at, read_before, read_by, reads}
+use Rattle.lard_laws.specs.Sizes.{AsksTo, BatchesHaveTheirSize, BodyIsOfBatch, SizeMarks, MayAsk, MustSize, size_marks, read_at, read_before, requests_read_by, requests_read}
 use Rattle.lard_laws.proofs.SizesDone.{now-reads}
 use Rattle.lard_laws.proofs.SizesMoving.{AllFit, IsNoNode, IsSaid, IsTelling, Reaches, SeenFits, SentFits, all-fit, else-said, else-sends, marks_now, seen_marks}
 use Rattle.lard_laws.proofs.SizesNodes.{Owed, nodes, stands-said}
 use Rattle.lard_laws.proofs.SizesTurns.{Reads, reads-reach}
 use Rattle.lard_law_connections.proofs.StopsRuns.{connections-stop}
-use Rattle.lard_law_view.specs.Carry.{MayMove, OfEach, Untouched, setting, tale_at}
-use Rattle.lard_law_view.specs.View.{Conn, FrontRules, Goes, IsSound, Move, Rules, Setting, UntouchedRules, client_does, conn, front_admits, front_does, grown, inject_seen, nothing_said, packet_seen, rows_of, seen_in, stands}
+use Rattle.lard_law_view.specs.Carry.{MayRestOn, OfEach, Untouched, setting, tale_at}
+use Rattle.lard_law_view.specs.View.{Conn, FrontRules, GoesBy, IsConnSound, Move, Rules, Setting, UntouchedRules, client_does, conn, front_admits, front_does, grown, inject_seen, nothing_said, packet_seen, rows_of, seen_in, stands}
 use Rattle.lard_law_view.proofs.After.{IsAfter, step-after}
 use Rattle.lard_law_view.proofs.Carried.{IsOn, carried-keep, goes-on, gone, may-move}
 use Rattle.lard_law_view.proofs.Fine.{IsFine, IsItsOwn, fine}
@@ -73,12 +73,12 @@ module _ (k : Setting) (small : k.stream ≤ 2 ^ 30) where
   Rest x v = Known x v → IsTruthful k.files x → GoesItsWay k.files x → IsItsOwn x v → places.Owes x v → IsPlaced x → IsTelling x → (u : ℕ) → Reads u x → IsSaid k.files u x v
 
   abbrev Wants : Conn → Move → Type 0
-  Wants x v = IsNumber x.c → IsSound x → Rest x v
+  Wants x v = IsConnNumber x.c → IsConnSound x → Rest x v
 
   client-wants : (x : Conn) (v : Move) → IsAtClient x v → Rest x v
   client-wants x v at more truth g own owes placed h u reads = else-said x v own owes placed more.heads k.files (subst IsNoNode (sym at.client) tt) at.keeps.1 h u reads
 
-  front-wants : (x : Conn) (heads : List Seen) (d : front.Deed) → Wants x (front_does x heads d)
+  front-wants : (x : Conn) (heads : List Seen) (d : front.FrontDeed) → Wants x (front_does x heads d)
   front-wants x heads front.Drops number sound more truth g own owes placed h u reads = else-said x (front_does x heads front.Drops) own owes placed more.heads k.files tt refl h u reads
   front-wants x heads (front.Says turn) number sound more truth g own owes placed h u reads = else-said x (front_does x heads (front.Says turn)) own owes placed more.heads k.files tt refl h u reads
   front-wants x heads (front.Does did) number sound more truth g own owes placed h u reads = else-said x (front_does x heads (front.Does did)) own owes placed more.heads k.files tt refl h u reads
@@ -110,7 +110,7 @@ module _ (k : Setting) (small : k.stream ≤ 2 ^ 30) where
   -- ---- what is so of each move
 
   abbrev Owes : Conn → Move → Type 0
-  Owes x v = MayMove IsPlaced x → IsPlaced x → places.Owes x v
+  Owes x v = MayRestOn IsPlaced x → IsPlaced x → places.Owes x v
 
   abbrev pub Given : Conn → Type 0
   Given x = IsPlaced x × Untouched (IsTruthful k.files) x × Untouched (GoesItsWay k.files) x
@@ -127,11 +127,11 @@ module _ (k : Setting) (small : k.stream ≤ 2 ^ 30) where
 
   -- what its Asks say is so, and it lands, unless the schedule touched the connection
   abbrev pub Says : Conn → Move → Type 0
-  Says x v = MayMove Given x → (tale_at x).touched ≡ false → IsTelling x → (u : ℕ) → Reads u x → AllFit k.files u x v × Untouched (Lands u) (grown x v)
+  Says x v = MayRestOn Given x → (tale_at x).touched ≡ false → IsTelling x → (u : ℕ) → Reads u x → AllFit k.files u x v × Untouched (Lands u) (grown x v)
 
   said : (x : Conn) (v : Move) → All x v → Says x v
   said x v h may untouched telling u reads =
-      let placed : MayMove IsPlaced x = record { number = may.number; sound = may.sound; given = may.given.0 } in
+      let placed : MayRestOn IsPlaced x = record { number = may.number; sound = may.sound; given = may.given.0 } in
       let own : IsItsOwn x v = (h.0.0.0 may.number may.sound).0 in
       let it : IsSaid k.files u x v = h.1 may.number may.sound (h.0.1 placed own) (may.given.1 untouched) (may.given.2 untouched) own (h.0.0.1 placed may.given.0) may.given.0 telling u reads in
       (it.1, λ e. (it.0, it.2))
@@ -149,7 +149,7 @@ module _ (k : Setting) (small : k.stream ≤ 2 ^ 30) where
 
 -- ---- from what connections see to the journal
 
-marks-own : (J : List Rec) (c : ℕ) → seen_marks c (own c J) ≡ marks J c
+marks-own : (J : List Rec) (c : ℕ) → seen_marks c (own c J) ≡ size_marks J c
 marks-own J c =
     let tale_is : tale_of c (own c J) ≡ _ = sym (tale-own J c) in
     λ i. record {
@@ -165,26 +165,26 @@ module _ (files : FilesAt) (past step : List Rec) where
 
   -- what it sees of a record may be
   abbrev Sees : ℕ → Rec → Type 0
-  Sees c r = whose r ≡ Some c → SeenFits files c (reads past c) (own c past) (seen_now c) (Row (plain r))
+  Sees c r = whose r ≡ Some c → SeenFits files c (requests_read past c) (own c past) (seen_now c) (Row (plain r))
 
   each-first : (P : Seen → Type 0) (xs ys : List Seen) → Each P (xs ++ ys) → Each P xs × Each P ys
   each-first P [] ys h = (tt, h)
   each-first P (x ∷ xs) ys h = let rest = each-first P xs ys h.1 in ((h.0, rest.0), rest.1)
 
-  each-sees : (c : ℕ) (net : List Packet) (rs : List Rec) → Each (SeenFits files c (reads past c) (own c past) (seen_now c)) (seen_on c net rs) → Each (Sees c) rs
+  each-sees : (c : ℕ) (net : List Packet) (rs : List Rec) → Each (SeenFits files c (requests_read past c) (own c past) (seen_now c)) (seen_on c net rs) → Each (Sees c) rs
   each-sees c net [] h = tt
   each-sees c net (r ∷ rs) h =
-      let P : Seen → Type 0 = SeenFits files c (reads past c) (own c past) (seen_now c) in
+      let P : Seen → Type 0 = SeenFits files c (requests_read past c) (own c past) (seen_now c) in
       let parts = each-first P (seen_of c net r) (seen_on c (net_step net r) rs) h in
       (λ mine. (subst (Each P) (seen-mine c net r mine) parts.0).0, each-sees c (net_step net r) rs parts.1)
 
   asks-to : (from to : Place) (bytes : List ℕ) → ((c : ℕ) → is_touched past c ≡ false → Sees c (rec.Sent 0 from to bytes)) → AsksTo files past step from to bytes
   asks-to (Node n) Front bytes h = λ m d u new.
       let names : Names bytes m.c = decoded-names m bytes d in
-      let now : seen_marks m.c (own m.c past ++ seen_now m.c) ≡ marks (past ++ step) m.c = ap (seen_marks m.c) (sym (own-append m.c past step)) ∙ marks-own (past ++ step) m.c in
-      let fits : SentFits files m.c (reads past m.c) (own m.c past) (seen_now m.c) (Node n) Front bytes = h m.c u names.named in
+      let now : seen_marks m.c (own m.c past ++ seen_now m.c) ≡ size_marks (past ++ step) m.c = ap (seen_marks m.c) (sym (own-append m.c past step)) ∙ marks-own (past ++ step) m.c in
+      let fits : SentFits files m.c (requests_read past m.c) (own m.c past) (seen_now m.c) (Node n) Front bytes = h m.c u names.named in
       let seen = fits (λ s. new (own-sends (Node n) Front bytes m.c past s)) m d in
-      subst (λ (t : Marks). BodyIsOfBatch files (reads past m.c) t m.body) now seen
+      subst (λ (t : SizeMarks). BodyIsOfBatch files (requests_read past m.c) t m.body) now seen
   asks-to Front to bytes h = tt
   asks-to (Client d) to bytes h = tt
   asks-to (Node n) (Node i) bytes h = tt
@@ -198,7 +198,7 @@ module _ (files : FilesAt) (past step : List Rec) where
   collect [] h = tt
   collect (r ∷ rs) h = (may-ask r (λ c u. (h c u).0), collect rs (λ c u. (h c u).1))
 
-  pub must-size : ((c : ℕ) → (tale_of c (own c past)).touched ≡ false → Each (SeenFits files c (reads past c) (own c past) (seen_now c)) (seen_now c)) → MustSize files past step
+  pub must-size : ((c : ℕ) → (tale_of c (own c past)).touched ≡ false → Each (SeenFits files c (requests_read past c) (own c past) (seen_now c)) (seen_now c)) → MustSize files past step
   must-size h = collect step (λ c u. each-sees c (net_of past) step (h c (ap (λ (t : Tale). t.touched) (sym (tale-own past c)) ∙ sym (touched-tale past c) ∙ u)))
 
 -- ---- how many requests were read, step by step
@@ -214,13 +214,13 @@ module _ (c : ℕ) where
   inside-same u past [] h = refl
   inside-same u past (r ∷ rs) h = ap (λ (b : Bool). read_before c (cond b (read_at c u past) u) (past ++ r ∷ []) rs) h.0 ∙ inside-same u (past ++ r ∷ []) rs h.1
 
-  one-read : (J s : List Rec) → IsOneStep s → read_before c 0 [] (J ++ s) ≡ reads J c
+  one-read : (J s : List Rec) → IsOneStep s → read_before c 0 [] (J ++ s) ≡ requests_read J c
   one-read J [] o = absurd o
   one-read J (r ∷ rs) o =
       let v : ℕ = read_before c 0 [] J in
-      before-append 0 [] J (r ∷ rs) ∙ ap (λ (b : Bool). read_before c (cond b (read_at c v J) v) (J ++ r ∷ []) rs) o.0 ∙ inside-same (reads J c) (J ++ r ∷ []) rs o.1
+      before-append 0 [] J (r ∷ rs) ∙ ap (λ (b : Bool). read_before c (cond b (read_at c v J) v) (J ++ r ∷ []) rs) o.0 ∙ inside-same (requests_read J c) (J ++ r ∷ []) rs o.1
 
-  reads-more : (J s : List Rec) → IsOneStep s → reads (J ++ s) c ≡ read_at c (reads J c) (J ++ s)
+  reads-more : (J s : List Rec) → IsOneStep s → requests_read (J ++ s) c ≡ read_at c (requests_read J c) (J ++ s)
   reads-more J s o = ap (λ (u : ℕ). read_at c u (J ++ s)) (one-read J s o)
 
 -- ---- every run
@@ -237,21 +237,21 @@ module _ (config : Config) (files : List (List ℕ × List ℕ)) (small : config
   IsAsRead u x = IsTelling x × Reads u x
 
   abbrev IsKnownOf : Machine → Type 0
-  IsKnownOf m = (q : ℕ) → Untouched (IsAsRead (reads m.journal q)) (conn m q)
+  IsKnownOf m = (q : ℕ) → Untouched (IsAsRead (requests_read m.journal q)) (conn m q)
 
-  at-conn : (u : ℕ) (n : Machine) (q : ℕ) → read_at q u n.journal ≡ read_by (tale_at (conn n q)).owner u (marks_now (conn n q))
+  at-conn : (u : ℕ) (n : Machine) (q : ℕ) → read_at q u n.journal ≡ requests_read_by (tale_at (conn n q)).owner u (marks_now (conn n q))
   unfolding conn
-  at-conn u n q = λ i. read_by ((owner-tale n.journal q ∙ ap (λ (t : Tale). t.owner) (tale-own n.journal q)) i) u (sym (marks-own n.journal q) i)
+  at-conn u n q = λ i. requests_read_by ((owner-tale n.journal q ∙ ap (λ (t : Tale). t.owner) (tale-own n.journal q)) i) u (sym (marks-own n.journal q) i)
 
   module _ (m n : Machine) (e : Event) (on : IsOn config files m) (known_of : IsKnownOf m) (rule : HasRule e) (is : machine_step m e ≡ Ok n) where
     abbrev Does : Conn → Move → Type 0
-    Does x v = IsNumber x.c × Says k small x v
+    Does x v = IsConnNumber x.c × Says k small x v
 
     module _ (q : ℕ) where
       abbrev u : ℕ
-      u = reads m.journal q
+      u = requests_read m.journal q
 
-      goes : Goes Does (conn m q) (conn n q)
+      goes : GoesBy Does (conn m q) (conn n q)
       goes = goes-on config files (Says k small) (all-say k small) m n e on rule is q
 
       says : (v : Move) → Does (conn m q) v → (tale_at (conn m q)).touched ≡ false → AllFit k.files u (conn m q) v × Untouched (Lands k small u) (grown (conn m q) v)
@@ -262,21 +262,21 @@ module _ (config : Config) (files : List (List ℕ × List ℕ)) (small : config
           (λ t. let h = known_of q t in (h.0, λ i. reads-reach u (tale_at (conn m q)).wrote ((conn m q).part.nodes i).stay ((conn m q).part.nodes i).row (h.1.here i)))
           (λ v does t. (says v does (untouched-before (conn m q) v t)).1 t) goes
 
-      now-known : IsAfter m e n → Untouched (IsAsRead (reads n.journal q)) (conn n q)
+      now-known : IsAfter m e n → Untouched (IsAsRead (requests_read n.journal q)) (conn n q)
       now-known s t =
-          let r : IsReached config files n = (on.reached.0 ++ e ∷ [], passes-more on.reached.0 (start config files) m n e on.reached.1 rule is) in
+          let r : IsReached config files n = (on.reached.0 ++ e ∷ [], passes-more on.reached.0 (machine_start config files) m n e on.reached.1 rule is) in
           let given : Given k small (conn n q) = each-given n r q in
           let land : Lands k small u (conn n q) = lands t in
-          let more : reads n.journal q ≡ read_at q u n.journal = ap (λ (J : List Rec). reads J q) s.is ∙ reads-more q m.journal s.step s.one ∙ ap (read_at q u) (sym s.is) in
-          let now : Reads (read_by (tale_at (conn n q)).owner u (marks_now (conn n q))) (conn n q) = now-reads k.files (conn n q) (given.1 t) given.0 (connections-stop config files n r q) land.0 u land.1 in
+          let more : requests_read n.journal q ≡ read_at q u n.journal = ap (λ (J : List Rec). requests_read J q) s.is ∙ reads-more q m.journal s.step s.one ∙ ap (read_at q u) (sym s.is) in
+          let now : Reads (requests_read_by (tale_at (conn n q)).owner u (marks_now (conn n q))) (conn n q) = now-reads k.files (conn n q) (given.1 t) given.0 (connections-stop config files n r q) land.0 u land.1 in
           (land.0, subst (λ (i : ℕ). Reads i (conn n q)) (sym (more ∙ at-conn u n q)) now)
 
       step-fits : (s : IsAfter m e n) → (tale_of q (own q m.journal)).touched ≡ false → Each (SeenFits k.files q u (own q m.journal) (seen_on q (net_of m.journal) s.step)) (seen_on q (net_of m.journal) s.step)
       unfolding conn
       step-fits s = seen-step Does (λ ss. (tale_of q (own q m.journal)).touched ≡ false → Each (SeenFits k.files q u (own q m.journal) ss) ss) m n s.step q s.is (λ t. tt) (λ v does t. (says v does t).0) goes
 
-  start-known : IsKnownOf (start config files)
-  start-known q = subst (Untouched (IsAsRead (reads [] q))) (sym (start-blank config files q))
+  start-known : IsKnownOf (machine_start config files)
+  start-known q = subst (Untouched (IsAsRead (requests_read [] q))) (sym (start-blank config files q))
       (λ t. (record { seen = λ l has. absurd has; told = λ n. tt }, record { here = λ n. tt; away = λ h. refl }))
 
   -- and each step so far is as it must be

@@ -5,7 +5,7 @@ use Rattle.std.proofs.lemmas.Bool.{cond_both}
 use Rattle.lard_answers.specs.Answers.{FilesAt, IsPrefix, verdicts}
 use Rattle.lard_base.specs.declared.place.TimerKind.TheVariants as timer
 use Rattle.lard_law_connections.proofs.AwaitsNodes.{HasServed, spoken-served}
-use Rattle.lard_law_connections.specs.BytesAgreement.{HoldsIt, NodeAgrees, StayComesOn}
+use Rattle.lard_law_connections.specs.BytesAgreement.{HoldsItPending, NodeAgrees, StayComesOn}
 use Rattle.lard_law_connections.specs.BytesKeeping.{IsTalk}
 use Rattle.lard_law_connections.proofs.BytesHolding.{heard-so}
 use Rattle.lard_law_connections.proofs.BytesServing.{So}
@@ -15,7 +15,7 @@ use Rattle.lard_law_connections.proofs.BytesWays.{came-right, come_progress-on, 
 use Rattle.lard_law_connections.proofs.LineHolding as line
 use Rattle.lard_law_connections.proofs.LineHolding.{EndsHeld}
 use Rattle.lard_law_connections.proofs.LineSpeaking.{IsSound, IsTold, heard_by}
-use Rattle.lard_laws.specs.Sizes.{Marks}
+use Rattle.lard_laws.specs.Sizes.{SizeMarks}
 use Rattle.lard_laws.proofs.SizesEntering.{Grows, came-grows, tagged-grows}
 use Rattle.lard_laws.proofs.SizesReading.{AskSo, Fits, HasGood, none-fewer}
 use Rattle.lard_laws.proofs.SizesTelling.{IsQuiet, fired-held, heard-quiet}
@@ -34,8 +34,8 @@ use Rattle.lard_rules.specs.declared.front.FrontRest.{FrontRest}
 use Rattle.lard_handoff_back.specs.declared.row.BackConn.{BackConn}
 use Rattle.lard_handoff_back.specs.declared.row.BackConn.TheVariants as back
 use Rattle.lard_handoff_back.specs.declared.row.BackRow.{BackRow}
-use Rattle.lard_handoff_back.specs.Back.{endpoint_of, staying}
-use Rattle.lard_handoff_back.specs.Row.{held_in}
+use Rattle.lard_handoff_back.specs.Back.{back_endpoint, staying}
+use Rattle.lard_handoff_back.specs.Row.{back_held}
 use Rattle.lard_history.specs.Journal.{Numbers}
 use Rattle.lard_history.proofs.Each.{Each, Each-append}
 use Rattle.lard_law_view.specs.Agreement.{IsWord}
@@ -44,46 +44,46 @@ use Rattle.lard_lateral.specs.Lateral.{is_from}
 use Rattle.lard_rules.specs.declared.stay.Entry.{Entry}
 use Rattle.lard_rules.specs.declared.stay.Stay.{Stay}
 use Rattle.lard_rules.specs.Node as node
-use Rattle.lard_rules.specs.Node.{Deed, Drops, NodePart, again_sent, both_of, come_by, fired_by, here, is_awaited, kept_after, node_content, node_forwarded, node_read, node_tagged, node_timer, read_by, tagged_by, with_work, work_of}
+use Rattle.lard_rules.specs.Node.{NodeDeed, Drops, NodePart, again_sent, both_of, come_by, node_fired_by, here, is_tag_awaited, kept_after, node_content, node_forwarded, node_read, node_tagged, node_timer, node_read_by, tagged_by, with_work, work_of}
 use Rattle.lard_rules.specs.Stay.{NodeEnv, Work, came_for, come_progress, goes_on, named_paths, read_progress, tagged}
 use Rattle.lard_request.specs.declared.verdict.Verdict.{Verdict}
 use Rattle.lard_resend.specs.Kept.{is_under, without}
 use Rattle.lard_rules.specs.declared.places.Ending.{Ending}
 use Rattle.lard_rules.specs.declared.places.Ending.TheVariants as ending
 use Rattle.lard_rules.specs.declared.places.Turn.{Turn}
-use Rattle.lard_rules.specs.Serving.{ready_of, serving, spoken}
+use Rattle.lard_rules.specs.Serving.{serving_ready_of, serving, spoken}
 use Rattle.lard_segment.specs.Segment.{Said}
 use Rattle.lard_law_view.specs.Truth.{Stream}
 
 -- ---- what is known of what is here
 
-held-told : (o : Option Said) (d : BackConn) → StageTold o d → (b : ControlBlock) → held_in d ≡ Some b → IsTold o b
+held-told : (o : Option Said) (d : BackConn) → StageTold o d → (b : ControlBlock) → back_held d ≡ Some b → IsTold o b
 held-told o (back.Here a) h b e = let same : a ≡ b = cc in subst (IsTold o) same h
 held-told o _ h b e = let no : None ≡ Some b = e in absurd cc
 
-endpoint-told : (o : Option Said) (row : Option BackRow) → RowTold o row → (b : ControlBlock) → endpoint_of row ≡ Some b → IsTold o b
+endpoint-told : (o : Option Said) (row : Option BackRow) → RowTold o row → (b : ControlBlock) → back_endpoint row ≡ Some b → IsTold o b
 endpoint-told o None h b e = let no : None ≡ Some b = e in absurd cc
 endpoint-told o (Some row) h b e = held-told o row.stage h b e
 
 staying-told : (o : Option Said) (epoch : ℕ) (row : Option BackRow) → RowTold o row → (b : ControlBlock) → staying epoch row ≡ Some b → IsTold o b
 staying-told o epoch None h b e = let no : None ≡ Some b = e in absurd cc
 staying-told o epoch (Some row) h b e = go (row.epoch.0 == epoch) e where
-  go : (t : Bool) → cond t (held_in row.stage) None ≡ Some b → IsTold o b
+  go : (t : Bool) → cond t (back_held row.stage) None ≡ Some b → IsTold o b
   go true f = held-told o row.stage h b f
   go false f = let no : None ≡ Some b = f in absurd cc
 
-held-reads : (u : ℕ) (o : Option Stay) (d : BackConn) → StageReads u o d → (b : ControlBlock) → held_in d ≡ Some b → StayReads u o
+held-reads : (u : ℕ) (o : Option Stay) (d : BackConn) → StageReads u o d → (b : ControlBlock) → back_held d ≡ Some b → StayReads u o
 held-reads u o (back.Here a) h b e = h
 held-reads u o _ h b e = let no : None ≡ Some b = e in absurd cc
 
-endpoint-reads : (u : ℕ) (o : Option Stay) (row : Option BackRow) → RowReads u o row → (b : ControlBlock) → endpoint_of row ≡ Some b → StayReads u o
+endpoint-reads : (u : ℕ) (o : Option Stay) (row : Option BackRow) → RowReads u o row → (b : ControlBlock) → back_endpoint row ≡ Some b → StayReads u o
 endpoint-reads u o None h b e = let no : None ≡ Some b = e in absurd cc
 endpoint-reads u o (Some row) h b e = held-reads u o row.stage h b e
 
 staying-reads : (u : ℕ) (o : Option Stay) (epoch : ℕ) (row : Option BackRow) → RowReads u o row → (b : ControlBlock) → staying epoch row ≡ Some b → StayReads u o
 staying-reads u o epoch None h b e = let no : None ≡ Some b = e in absurd cc
 staying-reads u o epoch (Some row) h b e = go (row.epoch.0 == epoch) e where
-  go : (t : Bool) → cond t (held_in row.stage) None ≡ Some b → StayReads u o
+  go : (t : Bool) → cond t (back_held row.stage) None ≡ Some b → StayReads u o
   go true f = held-reads u o row.stage h b f
   go false f = let no : None ≡ Some b = f in absurd cc
 
@@ -103,7 +103,7 @@ append-none : (xs ys : List (List ℕ)) → xs ++ ys ≡ [] → (xs ≡ []) × (
 append-none [] ys e = (refl, e)
 append-none (x ∷ xs) ys e = let no : x ∷ (xs ++ ys) ≡ [] = e in absurd cc
 
-module _ (env : NodeEnv) (u : ℕ) (w out : Stream) (vs pend : List Verdict) (home : ℕ) (m : ways_specs.Marks) (r : FrontRest) (b : ControlBlock) (s : Stay) (held : HoldsIt w out vs pend b s.served) (are : pend ≡ verdicts_of s.batch) (wrote : m.wrote ≡ w.bytes) (counted : m.served ≡ length vs)
+module _ (env : NodeEnv) (u : ℕ) (w out : Stream) (vs pend : List Verdict) (home : ℕ) (m : ways_specs.WayMarks) (r : FrontRest) (b : ControlBlock) (s : Stay) (held : HoldsItPending w out vs pend b s.served) (are : pend ≡ verdicts_of s.batch) (wrote : m.wrote ≡ w.bytes) (counted : m.served ≡ length vs)
     (g : StayGoes env.serve.files home m r s) (path : List ℕ) (node : ℕ) (others : List Assigned) (first : m.assigned ≡ (path, node) ∷ others) where
   abbrev files : FilesAt
   files = env.serve.files
@@ -137,16 +137,16 @@ module _ (env : NodeEnv) (u : ℕ) (w out : Stream) (vs pend : List Verdict) (ho
 
 -- ---- the rules of a stay
 
-module _ (env : NodeEnv) (x : Conn) (n u : ℕ) (past : Marks) (w out : Stream) (vs pend : List Verdict) (was_reset : Bool) (talk : IsTalk env w out vs) (num : Numbers) (numbers : past.numbers ≡ Some num) (isn : num.isn ≡ w.first)
+module _ (env : NodeEnv) (x : Conn) (n u : ℕ) (past : SizeMarks) (w out : Stream) (vs pend : List Verdict) (was_reset : Bool) (talk : IsTalk env w out vs) (num : Numbers) (numbers : past.numbers ≡ Some num) (isn : num.isn ≡ w.first)
     (wrote : past.wrote ≡ w.bytes) (counted : past.served ≡ length vs) (p : NodePart) (agrees : NodeAgrees w out vs pend was_reset env.serve.c p) (ways : StayComesOn env.serve.files p.stay) (told : RowTold past.told p.row)
-    (good : (b : ControlBlock) (s : Stay) → p.stay ≡ Some s → HoldsIt w out vs pend b s.served → pend ≡ verdicts_of s.batch → HasGood env w out vs u (s.served + length s.batch)) (reads : RowReads u p.stay p.row) where
+    (good : (b : ControlBlock) (s : Stay) → p.stay ≡ Some s → HoldsItPending w out vs pend b s.served → pend ≡ verdicts_of s.batch → HasGood env w out vs u (s.served + length s.batch)) (reads : RowReads u p.stay p.row) where
   abbrev fs : FilesAt
   fs = env.serve.files
 
-  abbrev pub Fit : Deed → Type 0
+  abbrev pub Fit : NodeDeed → Type 0
   Fit d = DeedFits fs env.serve.c x n u past d
 
-  none-said : (now : Marks) → Each (SaysFit fs env.serve.c x n u past now) []
+  none-said : (now : SizeMarks) → Each (SaysFit fs env.serve.c x n u past now) []
   none-said now = tt
 
   -- its stay, and how much of it is read
@@ -172,10 +172,10 @@ module _ (env : NodeEnv) (x : Conn) (n u : ℕ) (past : Marks) (w out : Stream) 
   same-grows : (b : ControlBlock) (s : Stay) → Grows (work_of b s) (work_of b s) 0
   same-grows b s = record { block = refl; count = refl; asked = refl; size = omega arith }
 
-  abbrev Rule : (Option (ControlBlock × Stay) → Deed) → Option (ControlBlock × Stay) → Type 0
+  abbrev Rule : (Option (ControlBlock × Stay) → NodeDeed) → Option (ControlBlock × Stay) → Type 0
   Rule rule o = here env.epoch p ≡ o → Fit (rule o)
 
-  by-here : (rule : Option (ControlBlock × Stay) → Deed) → rule None ≡ Drops → ((y : ControlBlock × Stay) → IsHeld env w out vs was_reset pend y → IsStay y → IsTold past.told y.0 → Fit (rule (Some y))) → Fit (rule (here env.epoch p))
+  by-here : (rule : Option (ControlBlock × Stay) → NodeDeed) → rule None ≡ Drops → ((y : ControlBlock × Stay) → IsHeld env w out vs was_reset pend y → IsStay y → IsTold past.told y.0 → Fit (rule (Some y))) → Fit (rule (here env.epoch p))
   by-here rule none some = at-epoch env w out vs was_reset pend (Rule rule) (λ e. subst Fit (sym none) tt)
       (λ y held e. let parts = both-parts (staying env.epoch p.row) p.stay y e in some y held (parts.1, subst (StayReads u) parts.1 (staying-reads u p.stay env.epoch p.row reads y.0 parts.0)) (staying-told past.told env.epoch p.row told y.0 parts.0)) p env.serve.c p.row agrees ways refl
 
@@ -183,7 +183,7 @@ module _ (env : NodeEnv) (x : Conn) (n u : ℕ) (past : Marks) (w out : Stream) 
   quiet-so b t calm = inr t
 
   pub hears-fit : (sd : Said) → IsWord w sd → Fit (node_forwarded env p (Ok sd))
-  hears-fit sd word = by-here (node.heard_by env p (Ok sd)) refl
+  hears-fit sd word = by-here (node.node_heard_by env p (Ok sd)) refl
       (λ y held is t.
       let d : ControlBlock = (on_segment y.0 sd).1 in
       goes-turn y d p (work_of d y.1) is held (same-grows d y.1)
@@ -195,7 +195,7 @@ module _ (env : NodeEnv) (x : Conn) (n u : ℕ) (past : Marks) (w out : Stream) 
       (λ y held is t.
       let k : Work = work_of y.0 y.1 in
       let part : NodePart = record p { kept = without timer.Ask 0 p.kept } in
-      cond_both (is_awaited env number nodes p y.1) (with_work env part [] (goes_on env (tagged env nodes k))) Drops Fit
+      cond_both (is_tag_awaited env number nodes p y.1) (with_work env part [] (goes_on env (tagged env nodes k))) Drops Fit
       (λ b. goes-turn y y.0 part (tagged env nodes k) is held (tagged-grows env nodes k) (tagged-so env w out vs nodes k (same-works env w out vs was_reset pend y talk.says held)) (tagged-right env nodes k held.2) (quiet-so y.0 t))
       (λ b. tt))
 
@@ -210,7 +210,7 @@ module _ (env : NodeEnv) (x : Conn) (n u : ℕ) (past : Marks) (w out : Stream) 
       (λ b. tt))
 
   pub reads-fit : (i : ℕ) → Fit (node_read env p i)
-  reads-fit i = by-here (read_by env i p) refl
+  reads-fit i = by-here (node_read_by env i p) refl
       (λ y held is t.
       let k : Work = work_of y.0 y.1 in
       goes-turn y y.0 p (came_for read_progress i k) is held (came-grows read_progress i k) (came-so env w out vs read_progress i k (same-works env w out vs was_reset pend y talk.says held))
@@ -226,21 +226,21 @@ module _ (env : NodeEnv) (x : Conn) (n u : ℕ) (past : Marks) (w out : Stream) 
   row-reach y d (ending.Here b count) served is = inl (ap (λ (j : ℕ). j + length y.1.batch) served ∙ sym is)
   row-reach y d (ending.Over last) served is = tt
 
-  pub fires-fit : ((now : Marks) → Each (SaysFit fs env.serve.c x n u past now) (again_sent p)) → Fit (node_timer env p)
-  fires-fit again = at-endpoint env w out vs was_reset pend (λ o. both_of (endpoint_of p.row) p.stay ≡ o → Fit (fired_by env p o)) (λ e. again past)
+  pub fires-fit : ((now : SizeMarks) → Each (SaysFit fs env.serve.c x n u past now) (again_sent p)) → Fit (node_timer env p)
+  fires-fit again = at-endpoint env w out vs was_reset pend (λ o. both_of (back_endpoint p.row) p.stay ≡ o → Fit (node_fired_by env p o)) (λ e. again past)
       (λ y held e.
-      let parts = both-parts (endpoint_of p.row) p.stay y e in
+      let parts = both-parts (back_endpoint p.row) p.stay y e in
       let t : IsTold past.told y.0 = endpoint-told past.told p.row told y.0 parts.0 in
       let sound : IsSound y.0 = record { block = held.1.sound; number = held.1.speaks.number } in
-      let given : Ending × Turn = spoken env.serve (serving (after_timer y.0) y.1.served []) (ready_of env.serve (after_timer y.0) (timed y.0)) in
+      let given : Ending × Turn = spoken env.serve (serving (after_timer y.0) y.1.served []) (serving_ready_of env.serve (after_timer y.0) (timed y.0)) in
       let ends : EndsHeld env.serve.c past.told [] given = fired-held env.serve past.told y.0 sound held.1.not_reset t y.1.served in
       let k : Work = work_of (after_timer y.0) y.1 in
-      let now : Marks = now_told fs env.serve.c x n u past (past.served + served_in given.1.notes) given.1.segments in
+      let now : SizeMarks = now_told fs env.serve.c x n u past (past.served + served_in given.1.notes) given.1.segments in
       record {
         each = tt;
         to = ends.to;
         row = row-told (heard_by env.serve.c past.told given.1.segments) k given.0 ends.held;
-        reach = row-reach y (after_timer y.0) given.0 (spoken-served env.serve (serving (after_timer y.0) y.1.served []) (ready_of env.serve (after_timer y.0) (timed y.0))) (subst (StayReads u) parts.1 (endpoint-reads u p.stay p.row reads y.0 parts.0));
+        reach = row-reach y (after_timer y.0) given.0 (spoken-served env.serve (serving (after_timer y.0) y.1.served []) (serving_ready_of env.serve (after_timer y.0) (timed y.0))) (subst (StayReads u) parts.1 (endpoint-reads u p.stay p.row reads y.0 parts.0));
         says = Each-append (SaysFit fs env.serve.c x n u past now) ((again_sent p ++ []) ++ []) _
             (Each-append (SaysFit fs env.serve.c x n u past now) (again_sent p ++ []) [] (Each-append (SaysFit fs env.serve.c x n u past now) (again_sent p) [] (again now) tt) tt)
             (ended-says env x n u past w out vs talk num numbers isn wrote counted now None given.0);

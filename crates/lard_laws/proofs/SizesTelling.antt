@@ -22,16 +22,16 @@ use Rattle.lard_rules.specs.declared.stay.Next.{Next}
 use Rattle.lard_rules.specs.declared.stay.Next.TheVariants as next
 use Rattle.lard_rules.specs.declared.stay.Progress.{Progress}
 use Rattle.lard_rules.specs.declared.stay.Progress.TheVariants as progress
-use Rattle.lard_rules.specs.Stay.{NodeEnv, Work, asks_for, enters, goes_on, left, named_paths, next_of, reads_batch, reads_these, serves_by, serves_first, turn, turned}
+use Rattle.lard_rules.specs.Stay.{NodeEnv, Work, asks_for, enters, goes_on, work_left, named_paths, next_of, reads_batch, reads_these, serves_by, serves_first, stay_turn, turned}
 use Rattle.lard_reader.specs.Batches.{batch_of, bytes_used}
-use Rattle.lard_recv.specs.Recv.{awaited, room}
+use Rattle.lard_recv.specs.Recv.{awaited, receive_room}
 use Rattle.lard_request.specs.declared.verdict.Verdict.{Verdict}
 use Rattle.lard_request.specs.Verdict.{closes}
 use Rattle.lard_rules.specs.declared.places.Ending.{Ending}
 use Rattle.lard_rules.specs.declared.places.Ending.TheVariants as ending
 use Rattle.lard_rules.specs.declared.places.Turn.{Turn}
 use Rattle.lard_rules.specs.Loop.{Step, More, Done, state_of}
-use Rattle.lard_rules.specs.Serving.{ServeEnv, Service, answered, closed_behind, consumed, cut_off, ended_at_fin, limit_said, passed_over, queued, ready_of, serving, settled, spoken, told}
+use Rattle.lard_rules.specs.Serving.{ServeEnv, Service, answered, closed_behind, serving_consumed, cut_off, ended_at_fin, limit_said, passed_over, queued, serving_ready_of, serving, serving_settled, spoken, serving_told}
 use Rattle.lard_rules.specs.Speaking.{speaks, speaks_symbols}
 use Rattle.lard_rules.proofs.Runs.{runs_keep}
 use Rattle.lard_segment.specs.declared.segment.Dir.TheVariants.{ToClient}
@@ -63,7 +63,7 @@ discarding-wider b = record { next = refl; wide = omega arith; last = refl; owed
 
 -- the sending half is no part of it
 sending-wider : (b d : ControlBlock) → d.recv ≡ b.recv → d.last_window ≡ b.last_window → d.owed ≡ b.owed → d.reset ≡ b.reset → IsWider b d
-sending-wider b d e l o r = record { next = ap awaited e; wide = let same : rcv_wnd d ≡ rcv_wnd b = ap room e in omega (arith, same); last = l; owed = o; reset = r }
+sending-wider b d e l o r = record { next = ap awaited e; wide = let same : rcv_wnd d ≡ rcv_wnd b = ap receive_room e in omega (arith, same); last = l; owed = o; reset = r }
 
 closed-wider : (v : Verdict) (b : ControlBlock) → IsWider b (closed_behind v b)
 closed-wider v b = cond_both (closes v) (finishing (discarding_on b)) b (IsWider b)
@@ -122,9 +122,9 @@ module _ (env : NodeEnv) where
   asks-wider size (path ∷ paths) k = wider-same k.service.block
 
   these-wider : (here : Bool) (used : ℕ) (k : Work) (us : List Verdict) → StepWider k (reads_these env here used k us)
-  these-wider here used k [] = wider-then k.service.block (consuming k.service.block used) (ended_at_fin (consumed used k.service)).block (consuming-wider k.service.block used) (fin-wider (consumed used k.service))
+  these-wider here used k [] = wider-then k.service.block (consuming k.service.block used) (ended_at_fin (serving_consumed used k.service)).block (consuming-wider k.service.block used) (fin-wider (serving_consumed used k.service))
   these-wider here used k (v ∷ us) =
-      let start : Work = record k { service = consumed used k.service } in
+      let start : Work = record k { service = serving_consumed used k.service } in
       let all : Work = enters env here (k.service.count + 1) (v ∷ us) start in
       let asked : Work = asks_for env (length (v ∷ us)) (named_paths env.serve.files all.batch) all in
       wider-then k.service.block (consuming k.service.block used) asked.service.block (consuming-wider k.service.block used)
@@ -140,7 +140,7 @@ module _ (env : NodeEnv) where
   pub batch-state : (here : Bool) (k : Work) → Wider k (state_of (reads_batch env here k))
   batch-state here k = state-wider k (reads_batch env here k) (batch-wider here k)
 
-  turn-wider : (k : Work) → StepWider k (turn env k)
+  turn-wider : (k : Work) → StepWider k (stay_turn env k)
   turn-wider k = go (next_of k) where
     go : (n : Next) → StepWider k (turned env k n)
     go next.Serve = first-wider k k.batch
@@ -152,9 +152,9 @@ module _ (env : NodeEnv) where
   step-then k y (Done u) g h = wider-then k.service.block y.service.block u.service.block g h
 
   pub goes-wider : (k : Work) → Wider k (goes_on env k)
-  goes-wider k = runs_keep (turn env) left (Wider k) (record {
-    more = λ y z e p. subst (StepWider k) e (step-then k y (turn env y) p (turn-wider y));
-    done = λ y z e p. subst (StepWider k) e (step-then k y (turn env y) p (turn-wider y));
+  goes-wider k = runs_keep (stay_turn env) work_left (Wider k) (record {
+    more = λ y z e p. subst (StepWider k) e (step-then k y (stay_turn env y) p (turn-wider y));
+    done = λ y z e p. subst (StepWider k) e (step-then k y (stay_turn env y) p (turn-wider y));
   }) k (wider-same k.service.block)
 
 -- ---- the end of a turn
@@ -189,7 +189,7 @@ module _ (env : ServeEnv) (o : Option Said) (w out : Stream) (s : Service) (betw
       let talk : Spoke env.c w out true s.block said = emits_symbols-spoke env.c w out true (emits_left s.block) s.block between in
       record {
         said = limit_said last;
-        is = heard-last env.c o said.0 (told env (limit_said last))
+        is = heard-last env.c o said.0 (serving_told env (limit_said last))
             ∙ ap said_of (again env.c ToClient (limit_said last) (record { seq_fits = omega arith; ack_fits = omega arith; wnd_fits = omega arith; some_mss = tt; small_mss = tt; small_payload = omega arith; no_ack = λ f. absurd cc }));
         ack = ap awaited talk.recv;
       }
@@ -200,7 +200,7 @@ module _ (env : ServeEnv) (o : Option Said) (w out : Stream) (s : Service) (betw
       record { said = spoke.told_is.said; is = spoke.told_is.is; ack = spoke.told_is.ack ∙ ap awaited spoke.left.recv }
 
   -- wherever the turn ends, unless the client reset the connection
-  pub settled-told : s.block.reset ≡ false → Acknowledges (heard_by env.c o (settled env s).1.segments) (rcv_nxt s.block)
+  pub settled-told : s.block.reset ≡ false → Acknowledges (heard_by env.c o (serving_settled env s).1.segments) (rcv_nxt s.block)
   settled-told calm = go s.over where
     go : (p : Option ℕ) → Acknowledges (heard_by env.c o (elim p as (λ p. Ending × Turn) [ None ↦ spoken env s [] | Some total ↦ cut_off env s ]).1.segments) (rcv_nxt s.block)
     go None = spoken-told calm
@@ -213,16 +213,16 @@ module _ (env : ServeEnv) (o : Option Said) (w out : Stream) (s : Service) (betw
       let talk : Spoke env.c w out true s.block said = emits-spoke env.c w out true (emits_left s.block) s.block between in
       cond_both (may_end said.1) (ending.Over (final_of said.1 (end_reason said.1))) (ending.Here said.1 s.count) (SameRecv s.block) (λ t. tt) (λ t. talk.recv)
 
-  pub settled-recv : SameRecv s.block (settled env s).0
+  pub settled-recv : SameRecv s.block (serving_settled env s).0
   settled-recv = go s.over where
     go : (p : Option ℕ) → SameRecv s.block (elim p as (λ p. Ending × Turn) [ None ↦ spoken env s [] | Some total ↦ cut_off env s ]).0
     go None = spoken-recv
     go (Some total) = tt
 
-  pub settled-held : EndsHeld env.c o s.notes (settled env s)
+  pub settled-held : EndsHeld env.c o s.notes (serving_settled env s)
   settled-held = settled-ends env o s ready
 
 -- what the timer sends
 module _ (env : ServeEnv) (o : Option Said) (b : ControlBlock) (sound : IsSound b) (calm : b.reset ≡ false) (t : IsTold o b) (count : ℕ) where
-  pub fired-held : EndsHeld env.c o [] (spoken env (serving (after_timer b) count []) (ready_of env (after_timer b) (timed b)))
-  fired-held = held-ends env.c o (serving (after_timer b) count []) b (ready_of env (after_timer b) (timed b) ++ (speaks env.c (after_timer b)).0, (speaks env.c (after_timer b)).1) calm (timer-spoken env o b sound t)
+  pub fired-held : EndsHeld env.c o [] (spoken env (serving (after_timer b) count []) (serving_ready_of env (after_timer b) (timed b)))
+  fired-held = held-ends env.c o (serving (after_timer b) count []) b (serving_ready_of env (after_timer b) (timed b) ++ (speaks env.c (after_timer b)).0, (speaks env.c (after_timer b)).1) calm (timer-spoken env o b sound t)

@@ -9,7 +9,7 @@ use Rattle.lard_law_connections.specs.BytesTurning.{IsNoteOf}
 use Rattle.lard_law_connections.proofs.BytesWorking.{Right, Works}
 use Rattle.lard_law_connections.proofs.LineHolding.{EndsHeld, IsHeld}
 use Rattle.lard_law_connections.proofs.LineSpeaking.{IsTold, heard_by}
-use Rattle.lard_laws.specs.Sizes.{BodyIsOfBatch, IsOfBatch, Marks, acknowledged, batch_behind, begins, complete, to_assign}
+use Rattle.lard_laws.specs.Sizes.{BodyIsOfBatch, IsOfBatch, SizeMarks, symbols_acknowledged, batch_behind, batch_begins, complete, to_assign}
 use Rattle.lard_law_connections.proofs.AwaitsNodes.{HasServed, settled-served}
 use Rattle.lard_law_connections.proofs.PlacesHeads.{kinds-same}
 use Rattle.lard_laws.proofs.SizesReading.{AskSo, Fits, Reach, goes-fit}
@@ -38,7 +38,7 @@ use Rattle.lard_rules.specs.declared.stay.Asked.{Asked}
 use Rattle.lard_rules.specs.declared.stay.Entry.{Entry}
 use Rattle.lard_rules.specs.declared.stay.Stay.{Stay}
 use Rattle.lard_rules.specs.declared.stay.Want.{Want}
-use Rattle.lard_rules.specs.Node.{Deed, Drops, Says, Does, NodePart, asked_sent, ended_sent, kept_after, message, wants_sent, with_work}
+use Rattle.lard_rules.specs.Node.{NodeDeed, Drops, Says, Does, NodePart, asked_sent, ended_sent, kept_after, message, wants_sent, with_work}
 use Rattle.lard_rules.specs.Node as node
 use Rattle.lard_rules.specs.Stay.{NodeEnv, Work, goes_on, named_paths}
 use Rattle.lard_recv.specs.Recv.{Received, awaited}
@@ -46,7 +46,7 @@ use Rattle.lard_request.specs.declared.verdict.Verdict.{Verdict}
 use Rattle.lard_rules.specs.declared.places.Ending.{Ending}
 use Rattle.lard_rules.specs.declared.places.Ending.TheVariants as ending
 use Rattle.lard_rules.specs.declared.places.Turn.{Turn}
-use Rattle.lard_rules.specs.Serving.{Service, settled}
+use Rattle.lard_rules.specs.Serving.{Service, serving_settled}
 use Rattle.lard_segment.specs.Segment.{Said}
 use Rattle.lard_seq.specs.Seq.{one_if, seq_add, seq_offset}
 use Rattle.lard_law_view.specs.Truth.{Hears, IsStream, Stream}
@@ -115,13 +115,13 @@ pub record Reads (u : ℕ) (x : Conn) : Type 0 where
 
 -- ---- what a turn says
 
-module _ (files : FilesAt) (c : ℕ) (x : Conn) (n : ℕ) (u : ℕ) (past : Marks) where
+module _ (files : FilesAt) (c : ℕ) (x : Conn) (n : ℕ) (u : ℕ) (past : SizeMarks) where
   -- A message was sent before, or it is no Ask, or one of a batch.
-  abbrev pub SaysFit : Marks → Place × List ℕ → Type 0
+  abbrev pub SaysFit : SizeMarks → Place × List ℕ → Type 0
   SaysFit now s = Was x (Node n) s.0 s.1 ⊎ ((m : Message) → decoded_message s.1 ≡ Ok m → BodyIsOfBatch files u now m.body)
 
   -- what is told behind so many responses and these segments
-  abbrev pub now_told : ℕ → List (Place × List ℕ) → Marks
+  abbrev pub now_told : ℕ → List (Place × List ℕ) → SizeMarks
   now_told served segments = record { numbers = past.numbers; wrote = past.wrote; served = served; told = heard_by c past.told segments }
 
   pub record TurnFits (given : NodePart × NodeTurn) : Type 0 where
@@ -131,18 +131,18 @@ module _ (files : FilesAt) (c : ℕ) (x : Conn) (n : ℕ) (u : ℕ) (past : Mark
     pub reach : PartReach u past.wrote given.0
     pub says : Each (SaysFit (now_told (past.served + served_in given.1.notes) given.1.segments)) given.1.messages
 
-  abbrev pub DeedFits : Deed → Type 0
+  abbrev pub DeedFits : NodeDeed → Type 0
   DeedFits Drops = Unit {0}
   DeedFits (Says ms) = Each (SaysFit past) ms
   DeedFits (Does given) = TurnFits given
 
 -- ---- messages of other kinds
 
-pub no-ask : (files : FilesAt) (u : ℕ) (now : Marks) (b : Body) → kind_of b ≢ kind.Ask → BodyIsOfBatch files u now b
+pub no-ask : (files : FilesAt) (u : ℕ) (now : SizeMarks) (b : Body) → kind_of b ≢ kind.Ask → BodyIsOfBatch files u now b
 no-ask files u now (body.Ask number queue size paths) not = absurd (not refl)
 no-ask files u now _ not = tt
 
-pub other-says : (files : FilesAt) (x : Conn) (n u : ℕ) (past now : Marks) (c e : ℕ) (to : Place) (b : Body) → kind_of b ≢ kind.Ask → SaysFit files c x n u past now (to, message c e b)
+pub other-says : (files : FilesAt) (x : Conn) (n u : ℕ) (past now : SizeMarks) (c e : ℕ) (to : Place) (b : Body) → kind_of b ≢ kind.Ask → SaysFit files c x n u past now (to, message c e b)
 other-says files x n u past now c e to b not = inr (λ m d. no-ask files u now m.body (λ ask. not (kinds-same (record { c = c; epoch = record { 0 = e }; body = b }) m d ∙ ask)))
 
 -- ---- paths are short
@@ -195,11 +195,11 @@ offset-is w r is h =
       added : (b i : ℕ) → b < 2 ^ 32 → i < 2 ^ 32 → seq_offset (seq_add b i) b ≡ i
       added b i small fits = omega arith
 
-pub complete-is : (w : Stream) (r : Received) → IsStream w → Hears w r → (now : Marks) (num : Numbers) → now.numbers ≡ Some num → num.isn ≡ w.first → now.wrote ≡ w.bytes → Acknowledges now.told (awaited r) → complete now ≡ verdicts (take r.got w.bytes)
+pub complete-is : (w : Stream) (r : Received) → IsStream w → Hears w r → (now : SizeMarks) (num : Numbers) → now.numbers ≡ Some num → num.isn ≡ w.first → now.wrote ≡ w.bytes → Acknowledges now.told (awaited r) → complete now ≡ verdicts (take r.got w.bytes)
 complete-is w r is h now num numbers first wrote told =
-    let ack : acknowledged now.numbers now.told ≡ 1 + r.got + one_if r.fin =
-    (λ i. acknowledged (numbers i) (told.is i)) ∙ (λ i. seq_offset (told.ack i) (first i)) ∙ offset-is w r is h in
-    let less : acknowledged now.numbers now.told - 1 ≡ r.got + one_if r.fin = omega (arith, ack) in
+    let ack : symbols_acknowledged now.numbers now.told ≡ 1 + r.got + one_if r.fin =
+    (λ i. symbols_acknowledged (numbers i) (told.is i)) ∙ (λ i. seq_offset (told.ack i) (first i)) ∙ offset-is w r is h in
+    let less : symbols_acknowledged now.numbers now.told - 1 ≡ r.got + one_if r.fin = omega (arith, ack) in
     (λ i. verdicts (take (less i) (wrote i))) ∙ ap verdicts (took-all w r h)
 
 -- ---- the end of a turn
@@ -212,7 +212,7 @@ batch-some : (files : FilesAt) (es : List Entry) → named_paths files es ≢ []
 batch-some files [] h = absurd (h refl)
 batch-some files (e ∷ es) h = omega arith
 
-module _ (env : NodeEnv) (x : Conn) (n u : ℕ) (past : Marks) (w out : Stream) (vs : List Verdict) (talk : IsTalk env w out vs) (num : Numbers) (numbers : past.numbers ≡ Some num) (isn : num.isn ≡ w.first) (wrote : past.wrote ≡ w.bytes)
+module _ (env : NodeEnv) (x : Conn) (n u : ℕ) (past : SizeMarks) (w out : Stream) (vs : List Verdict) (talk : IsTalk env w out vs) (num : Numbers) (numbers : past.numbers ≡ Some num) (isn : num.isn ≡ w.first) (wrote : past.wrote ≡ w.bytes)
     (counted : past.served ≡ length vs) where
   abbrev files : FilesAt
   files = env.serve.files
@@ -220,23 +220,23 @@ module _ (env : NodeEnv) (x : Conn) (n u : ℕ) (past : Marks) (w out : Stream) 
   abbrev c : ℕ
   c = env.serve.c
 
-  abbrev Fit : Deed → Type 0
+  abbrev Fit : NodeDeed → Type 0
   Fit d = DeedFits files c x n u past d
 
-  abbrev Say : Marks → Place × List ℕ → Type 0
+  abbrev Say : SizeMarks → Place × List ℕ → Type 0
   Say now s = SaysFit files c x n u past now s
 
-  wants-say : (now : Marks) (ws : List Want) → Each (Say now) (wants_sent env ws)
+  wants-say : (now : SizeMarks) (ws : List Want) → Each (Say now) (wants_sent env ws)
   wants-say now [] = tt
   wants-say now (y ∷ ys) = (other-says files x n u past now c env.epoch (Node y.node) (body.Fetch y.r y.path) (λ e. let no : kind.Fetch ≡ kind.Ask = e in absurd cc), wants-say now ys)
 
-  pub ended-says : (now : Marks) (over : Option ℕ) (e : Ending) → Each (Say now) (ended_sent env over e)
+  pub ended-says : (now : SizeMarks) (over : Option ℕ) (e : Ending) → Each (Say now) (ended_sent env over e)
   ended-says now over (ending.Here b count) = tt
-  ended-says now over (ending.Over last) = (other-says files x n u past now c env.epoch Front (body.Ended last.reason last.snd.0 last.rcv.0 (node.count_of over)) (λ e. let no : kind.Ended ≡ kind.Ask = e in absurd cc), tt)
+  ended-says now over (ending.Over last) = (other-says files x n u past now c env.epoch Front (body.Ended last.reason last.snd.0 last.rcv.0 (node.reset_count over)) (λ e. let no : kind.Ended ≡ kind.Ask = e in absurd cc), tt)
 
   module _ (k : Work) (works : Works env w out vs k) (fits : Fits env w out vs u k) (quiet : IsQuiet past.told k.service.block) where
     -- an Ask is of its batch
-    asked-says : (now : Marks) → now.numbers ≡ past.numbers → now.wrote ≡ past.wrote → now.served ≡ k.service.count → (k.service.block.reset ≡ false → Acknowledges now.told (rcv_nxt k.service.block))
+    asked-says : (now : SizeMarks) → now.numbers ≡ past.numbers → now.wrote ≡ past.wrote → now.served ≡ k.service.count → (k.service.block.reset ≡ false → Acknowledges now.told (rcv_nxt k.service.block))
         → (o : Option Asked) → AskSo env w out vs u k o → Each (Say now) (asked_sent env o)
     asked-says now same_numbers same_wrote served told None h = tt
     asked-says now same_numbers same_wrote served told (Some a) h =
@@ -251,7 +251,7 @@ module _ (env : NodeEnv) (x : Conn) (n u : ℕ) (past : Marks) (w out : Stream) 
         let goes : now.served < h.before + a.size = omega (arith, served, rest, some) in
         let size : a.size ≡ length (batch_behind h.before (verdicts (take got w.bytes))) = h.size_is in
         let most : length (batch_behind h.before (verdicts (take got w.bytes))) ≡ min 8 (length (drop h.before (verdicts (take got w.bytes)))) = length-take 8 (drop h.before (verdicts (take got w.bytes))) in
-        let at : h.before ≡ begins u now = begins-at u h.batches h.before a.size now.served behind answered goes (omega (arith, size, most)) in
+        let at : h.before ≡ batch_begins u now = begins-at u h.batches h.before a.size now.served behind answered goes (omega (arith, size, most)) in
         let it : IsOfBatch files u now a.size a.paths = record {
           answered = omega (arith, behind, answered);
           goes_on = subst (λ (i : ℕ). now.served < i + a.size) at goes;
@@ -276,13 +276,13 @@ module _ (env : NodeEnv) (x : Conn) (n u : ℕ) (past : Marks) (w out : Stream) 
         (subst (λ (l : List ℕ). Reach u k.service.count (k.service.count + length k.batch) (length (verdicts (take k.service.block.recv.got l)))) (sym wrote) fits.reach))
     row-reach part (ending.Over last) served recv = tt
 
-    pub work-fits : (part : NodePart) (before : List (Place × List ℕ)) → ((now : Marks) → Each (Say now) before) → Fit (with_work env part before k)
+    pub work-fits : (part : NodePart) (before : List (Place × List ℕ)) → ((now : SizeMarks) → Each (Say now) before) → Fit (with_work env part before k)
     work-fits part before first =
         let s : Service = k.service in
-        let given : Ending × Turn = settled env.serve s in
+        let given : Ending × Turn = serving_settled env.serve s in
         let held : EndsHeld c past.told s.notes given = settled-held env.serve past.told w works.out_now s works.between quiet in
         let segments : List (Place × List ℕ) = given.1.segments in
-        let now : Marks = now_told files c x n u past (past.served + served_in given.1.notes) segments in
+        let now : SizeMarks = now_told files c x n u past (past.served + served_in given.1.notes) segments in
         let served : now.served ≡ s.count =
         (let a = works.counted in let b = works.noted.served in let d : served_in given.1.notes ≡ served_in s.notes = ap served_in held.noted in omega (arith, a, b, d, counted)) in
         record {
@@ -299,7 +299,7 @@ module _ (env : NodeEnv) (x : Conn) (n u : ℕ) (past : Marks) (w out : Stream) 
         }
 
   -- the stay goes on
-  pub goes-on-fits : (part : NodePart) (before : List (Place × List ℕ)) → ((now : Marks) → Each (Say now) before) → (k : Work) → Works env w out vs k → Right env w out vs k → Fits env w out vs u k → IsQuiet past.told k.service.block → (after : Works env w out vs (goes_on env k))
+  pub goes-on-fits : (part : NodePart) (before : List (Place × List ℕ)) → ((now : SizeMarks) → Each (Say now) before) → (k : Work) → Works env w out vs k → Right env w out vs k → Fits env w out vs u k → IsQuiet past.told k.service.block → (after : Works env w out vs (goes_on env k))
       → Fit (with_work env part before (goes_on env k))
   goes-on-fits part before first k works right fits quiet after =
       work-fits (goes_on env k) after (goes-fit env w out vs u talk.most k works right fits) (wider-quiet past.told k.service.block (goes_on env k).service.block (goes-wider env k) quiet) part before first

@@ -2,7 +2,7 @@
 use Rattle.std.proofs.Common.{◌≡◌, ◌+◌, List, [], ◌∷◌, ◌++◌, refl, sym, ap, ◌∙◌, subst, append_assoc, append-nil}
 use Rattle.lard_base.specs.declared.event.Event.{Event}
 use Rattle.lard_rules.specs.declared.machine.Machine.{Machine}
-use Rattle.lard_rules.specs.Machine.{Passes, start}
+use Rattle.lard_rules.specs.Machine.{Passes, machine_start}
 use Rattle.lard_laws.specs.StepsLaws.{JournalsFollow}
 use Rattle.lard_law_view.specs.View.{IsViewed}
 use Rattle.lard_law_view.proofs.After.{IsAfter, step-after}
@@ -24,5 +24,5 @@ follows-on (e ∷ es) m n view past =
 
 pub follows : JournalsFollow
 follows config files es m past =
-    let all = follows-on es (start config files) m (start-viewed config files) past in
+    let all = follows-on es (machine_start config files) m (start-viewed config files) past in
     subst (Follows 1 es) (sym all.1) all.2

@@ -8,7 +8,7 @@ use Rattle.lard_base.specs.declared.event.Event.TheVariants as event
 use Rattle.lard_base.specs.declared.place.Place.{Place}
 use Rattle.lard_base.specs.declared.place.Place.TheVariants.{Front, Node, Client}
 use Rattle.lard_rules.specs.declared.machine.Machine.{Machine}
-use Rattle.lard_rules.specs.Machine.{IsReached, clocked, segments_sent, start, told}
+use Rattle.lard_rules.specs.Machine.{IsReached, clocked, segments_sent, machine_start, machine_told}
 use Rattle.lard_laws.specs.StepsLaws.{SettingsStay}
 use Rattle.lard_law_view.proofs.After.{IsAfter, step-after}
 use Rattle.lard_law_view.proofs.AnyShape.{AnyShape, IsAct, SomeGift, SomeNote, SomeTimer, step-any}
@@ -111,8 +111,8 @@ module _ (m : Machine) (l : IsLinked m) where
       subst (λ (J : List Rec). Linked J w.net w.answered) (sym put.journal)
       (subst (λ (ps : List Packet). Linked m.journal ps w.answered) (sym put.net) (subst (λ n. Linked m.journal m.net n) (sym put.answered) l))
 
-  told-linked : (w : Machine) (e : Event) (place : Place) (o : Out) → IsAct m w e place o → IsLinked (told w e (behind e) place o)
-  unfolding told
+  told-linked : (w : Machine) (e : Event) (place : Place) (o : Out) → IsAct m w e place o → IsLinked (machine_told w e (behind e) place o)
+  unfolding machine_told
   told-linked w e place o act =
       let put : IsPut m w = act.put in
       let notes : Each IsUncounted o.notes = Each-weaker (SomeNote place) IsUncounted (λ r h. note-uncounted place h.0 r h.2) o.notes act.notes in
@@ -152,7 +152,7 @@ none_at k = go (nat_eq k 0) where
   go true = refl
   go false = refl
 
-start-linked : (config : Config) (files : List (List ℕ × List ℕ)) → IsLinked (start config files)
+start-linked : (config : Config) (files : List (List ℕ × List ℕ)) → IsLinked (machine_start config files)
 start-linked config files = record {
   each = tt;
   is = record { packets = refl; sent = refl; bytes = refl; goals = λ k. ap goal_in (sym (none_at k)); lost = λ k. ap lost_in (sym (none_at k)) };

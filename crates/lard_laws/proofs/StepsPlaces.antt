@@ -8,7 +8,7 @@ use Rattle.lard_base.specs.declared.event.Event.TheVariants as event
 use Rattle.lard_base.specs.declared.place.Place.{Place}
 use Rattle.lard_base.specs.declared.place.Place.TheVariants.{Front, Node, Client}
 use Rattle.lard_rules.specs.declared.machine.Machine.{Machine}
-use Rattle.lard_rules.specs.Machine.{IsReached, clocked, passed, segments_sent, told, told_rows}
+use Rattle.lard_rules.specs.Machine.{IsReached, clocked, passed, segments_sent, machine_told, told_rows}
 use Rattle.lard_laws.proofs.StepsLinking.{IsLinked, reached-linked}
 use Rattle.lard_law_view.proofs.AnyShape.{AnyShape, IsAct, SomeGift, SomeNote, SomeTimer, step-any}
 use Rattle.lard_law_view.proofs.Carried.{carried-keep}
@@ -148,8 +148,8 @@ module _ (m : Machine) (l : IsLinked m) (timed : time_of m.journal ≡ m.now) wh
   acting-of (event.Deliver k) place h = (k, few m.net k h.0 h.1, comes-acting m.journal k place (l.is.goals k ∙ ap goal_in h.1 ∙ ap Some h.3))
   acting-of e place h = (0, omega arith, named-acting m.journal e place h)
 
-  told-adds : (w : Machine) (e : Event) (place : Place) (o : Out) → IsAct m w e place o → Adds m (told w e (behind e) place o)
-  unfolding told
+  told-adds : (w : Machine) (e : Event) (place : Place) (o : Out) → IsAct m w e place o → Adds m (machine_told w e (behind e) place o)
+  unfolding machine_told
   told-adds w e place o act =
       let put : IsPut m w = act.put in
       let here : AreHere place o = act-here m w e place o act in

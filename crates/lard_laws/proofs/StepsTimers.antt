@@ -12,11 +12,11 @@ use Rattle.lard_base.specs.declared.place.Place.TheVariants.{Front, Node, Client
 use Rattle.lard_base.specs.declared.place.TimerKind.{TimerKind}
 use Rattle.lard_base.specs.declared.place.TimerKind.TheVariants.{Tcp, Offer, Ask, Fetch, Ended}
 use Rattle.lard_rules.specs.declared.machine.Machine.{Machine}
-use Rattle.lard_rules.specs.Bounds.{HasRule, HasTimer, IsNumber}
+use Rattle.lard_rules.specs.Bounds.{HasRule, HasTimer, IsConnNumber}
 use Rattle.lard_rules.specs.Machine.{IsReached, machine_step}
 use Rattle.lard_laws.specs.StepsTimers.{RunsAsKept, TimersChangeInSteps, TimersRunAsKept, armed_at, client_armed}
-use Rattle.lard_law_view.specs.Carry.{IsLaw, MayMove, OfEach, setting}
-use Rattle.lard_law_view.specs.View.{Conn, IsMachine, IsViewed, Move, Part, Rules, Setting, blank, conn, grown, part_of, rows_of, sending, timer_rows}
+use Rattle.lard_law_view.specs.Carry.{IsLaw, MayRestOn, OfEach, setting}
+use Rattle.lard_law_view.specs.View.{Conn, IsMachine, IsViewed, Move, Part, Rules, Setting, blank_conn, conn, grown, part_of, rows_of, sending, timer_rows}
 use Rattle.lard_law_view.proofs.Acts.{ActsAlone, ActsMany, AreApart, IsPassing, IsStepOf, Moving, step_acts, timers_in}
 use Rattle.lard_law_view.proofs.AnyShape.{SomeGift, SomeNote}
 use Rattle.lard_law_view.proofs.After.{IsAfter, step-after}
@@ -40,7 +40,7 @@ use Rattle.lard_law_view.specs.Timers.{ChangesTimers, is_change}
 use Rattle.lard_law_view.proofs.TimerChanges.{AreOthers, Exactly, IsStill, Still, all-both, all-change, changes, exactly-both, exactly-changes, exactly-none, kinds-change, number-others, others-both, place-is, place-others, step-changes, still-behind, still-rows, still-seen, still-sents, timer-is-own}
 use Rattle.lard_rules.specs.Sent.{packets_of, sent_records}
 use Rattle.lard_rules.specs.Node.{NodePart, node_armed}
-use Rattle.lard_rules.specs.Outs.{kinds, timer_change}
+use Rattle.lard_rules.specs.Outs.{timer_kinds, timer_change}
 use Rattle.lard_law_view.proofs.OwnRecords.{behind}
 
 -- ---- records of no timer
@@ -74,7 +74,7 @@ still-both xs ys e f = Each-append (λ r. is_change r ≡ false) xs ys e f
 
 -- ---- the records of a place's timers, kind by kind
 
-rows-change : (place : Place) (c : ℕ) (p q : Part) → timer_rows place c p q ≡ changes place c (armed_at place p) (armed_at place q) kinds
+rows-change : (place : Place) (c : ℕ) (p q : Part) → timer_rows place c p q ≡ changes place c (armed_at place p) (armed_at place q) timer_kinds
 unfolding timer_rows
 rows-change (Client d) c p q = sym (append-nil (timer_change (Client d) c (client_armed p.station Tcp) (client_armed q.station Tcp)))
 rows-change Front c p q = refl
@@ -165,10 +165,10 @@ each-kind P t o a f e Fetch = f
 each-kind P t o a f e Ended = e
 
 -- no timer runs at the start
-none-runs : (c : ℕ) (place : Place) (kind : TimerKind) → false ≡ armed_at place (blank c).part kind
-none-runs c (Client d) kind = each-kind (λ k. false ≡ armed_at (Client d) (blank c).part k) refl refl refl refl refl kind
-none-runs c Front kind = each-kind (λ k. false ≡ armed_at Front (blank c).part k) refl refl refl refl refl kind
-none-runs c (Node n) kind = each-kind (λ k. false ≡ armed_at (Node n) (blank c).part k) refl refl refl refl refl kind
+none-runs : (c : ℕ) (place : Place) (kind : TimerKind) → false ≡ armed_at place (blank_conn c).part kind
+none-runs c (Client d) kind = each-kind (λ k. false ≡ armed_at (Client d) (blank_conn c).part k) refl refl refl refl refl kind
+none-runs c Front kind = each-kind (λ k. false ≡ armed_at Front (blank_conn c).part k) refl refl refl refl refl kind
+none-runs c (Node n) kind = each-kind (λ k. false ≡ armed_at (Node n) (blank_conn c).part k) refl refl refl refl refl kind
 
 module _ (x : Conn) (v : Move) (is : IsPlain x v) (own : IsItsOwn x v) where
   -- a move tells its place's timers
@@ -195,7 +195,7 @@ module _ (x : Conn) (v : Move) (is : IsPlain x v) (own : IsItsOwn x v) where
       is.acts
     where
       rows : List Rec
-      rows = changes v.place x.c (armed_at v.place x.part) (armed_at v.place v.part) kinds
+      rows = changes v.place x.c (armed_at v.place x.part) (armed_at v.place v.part) timer_kinds
 
       by-place : HasTimer v.place x.c × KeepsAt v.place x.part v.part → (b : Bool) → is_place v.place q ≡ b → fold (armed_step q x.c kind) (told x q kind) rows ≡ armed_at q v.part kind
       by-place a true e = subst (λ (p : Place). fold (armed_step p x.c kind) (told x p kind) rows ≡ armed_at p v.part kind) (place-is v.place q e)
@@ -211,7 +211,7 @@ Anything x = Unit {0}
 timing : (k : Setting) → IsLaw k Anything IsTimed
 timing k = record {
   begins = λ c place its kind. none-runs c place kind;
-  moves = weaker k Changes (λ x v. MayMove Anything x → IsTimed x → IsTimed (grown x v))
+  moves = weaker k Changes (λ x v. MayRestOn Anything x → IsTimed x → IsTimed (grown x v))
       (λ x v does may h. timed-grown x v (does.0 may.number may.sound) (does.1 may.number may.sound).0 h) (changing k);
 }
 
@@ -238,7 +238,7 @@ module _ (m : Machine) (view : IsViewed m) (kept : (c : ℕ) → RunsAsKept m c)
     rows = timer_rows place c (part_of m c) r
 
     rows-all : list_all is_change rows ≡ true
-    rows-all = subst (λ (rs : List Rec). list_all is_change rs ≡ true) (sym (rows-change place c (part_of m c) r)) (all-change place c (armed_at place (part_of m c)) (armed_at place r) kinds)
+    rows-all = subst (λ (rs : List Rec). list_all is_change rs ≡ true) (sym (rows-change place c (part_of m c) r)) (all-change place c (armed_at place (part_of m c)) (armed_at place r) timer_kinds)
 
     rows-exactly : (HasTimer place c × KeepsAt place (part_of m c) r) ⊎ (r ≡ part_of m c) → Exactly m.journal rows
     rows-exactly acts = ⊎_elim
@@ -281,7 +281,7 @@ module _ (m : Machine) (view : IsViewed m) (kept : (c : ℕ) → RunsAsKept m c)
 
   -- the records of the timers of several, one behind another
   abbrev Owned : Moving → Type 0
-  Owned x = IsNumber x.c × Changes (conn m x.c) x.move
+  Owned x = IsConnNumber x.c × Changes (conn m x.c) x.move
 
   abbrev rows_in : Moving → List Rec
   rows_in x = rows x.move.place x.c x.move.part

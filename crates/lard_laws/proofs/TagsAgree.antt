@@ -6,7 +6,7 @@ use Rattle.std.specs.List.{AllByRecursion, find}
 use Rattle.lard_answers.specs.Answers.{FilesAt}
 use Rattle.lard_base.specs.declared.place.Place.TheVariants.{Front, Node}
 use Rattle.lard_base.specs.declared.place.TimerKind.TheVariants as kind
-use Rattle.lard_law_connections.specs.Kept.{AsksFor, FrontRowKeeps, FrontStageKeeps, HasRest, IsFetch, IsKeptByStage, NodeRowKeeps, StayKeeps, HereKeeps}
+use Rattle.lard_law_connections.specs.Kept.{AsksFor, FrontRowKeeps, FrontStageKeeps, HasRest, IsFetchFromOther, IsKeptByStage, NodeRowKeeps, StayKeeps, HereKeeps}
 use Rattle.lard_law_connections.specs.KeptLaws.{AnyNode}
 use Rattle.lard_law_connections.proofs.KeptHere.{IsHere, here-is}
 use Rattle.lard_law_connections.proofs.KeptRuns.{TagsName}
@@ -14,11 +14,11 @@ use Rattle.lard_law_connections.proofs.PlacesFrontRules.{has-each}
 use Rattle.lard_law_connections.proofs.PlacesWithNode.{IsWithNode, with-node}
 use Rattle.lard_laws.specs.Tags.{NamesNodes}
 use Rattle.lard_laws.proofs.TagsNodes.{Facts, asks-are}
-use Rattle.lard_law_view.specs.View.{Conn, Spells, Was}
+use Rattle.lard_law_view.specs.View.{Conn, SpellsMessage, Was}
 use Rattle.lard_laws.specs.WaysState.{FrontSaysWays, LetterWays, TagIs, marks_at}
 use Rattle.lard_endpoint.specs.Control.{ControlBlock}
 use Rattle.lard_rules.specs.declared.front.FrontRest.{FrontRest}
-use Rattle.lard_rules.specs.Front.{is_at, is_with, rest_of}
+use Rattle.lard_rules.specs.Front.{is_row_at, is_with, front_rest}
 use Rattle.lard_handoff_back.specs.declared.row.BackConn.TheVariants as back
 use Rattle.lard_handoff_front.specs.declared.row.FrontConn.TheVariants as stage
 use Rattle.lard_history.proofs.Each.{Each}
@@ -35,8 +35,8 @@ use Rattle.lard_resend.specs.Kept.{is_under}
 self : (n : ℕ) → (n == n) ≡ true
 self n = eq-eqb n n refl
 
-pub is-at : (x : Conn) (n e : ℕ) → IsWithNode x n e → is_at n e x.part.front.row ≡ true
-is-at x n e h = ap (is_at n e) h.found ∙ ⊎_elim
+pub is-at : (x : Conn) (n e : ℕ) → IsWithNode x n e → is_row_at n e x.part.front.row ≡ true
+is-at x n e h = ap (is_row_at n e) h.found ∙ ⊎_elim
     (λ (s : h.row.stage ≡ stage.Offering n (record { 0 = e })). ap (is_with n e) s ∙ and_from (n == n) (e == e) (self n) (self e))
     (λ (s : h.row.stage ≡ stage.Moved n (record { 0 = e })). ap (is_with n e) s ∙ and_from (n == n) (e == e) (self n) (self e))
     h.stage
@@ -65,7 +65,7 @@ module _ (N : ℕ → Type 0) (files : FilesAt) (x : Conn) (n e : ℕ) (b : Cont
     with_ : IsWithNode x n e
     with_ = with-node x k.facts.placed n e b h.row
 
-    at : is_at n e x.part.front.row ≡ true
+    at : is_row_at n e x.part.front.row ≡ true
     at = is-at x n e with_
 
     -- what the front end knows of it
@@ -112,12 +112,12 @@ module _ (N : ℕ → Type 0) (files : FilesAt) (x : Conn) (n e : ℕ) (b : Cont
           some-number (path ∷ ps) ask = ask.3
 
     -- a Tag that counts names nodes of which N is so
-    tag-names : (number : ℕ) (nodes bytes : List ℕ) → Spells x.c e (body.Tag number nodes) bytes → Was x Front (Node n) bytes → s.asks ≡ number → Each N nodes
+    tag-names : (number : ℕ) (nodes bytes : List ℕ) → SpellsMessage x.c e (body.Tag number nodes) bytes → Was x Front (Node n) bytes → s.asks ≡ number → Each N nodes
     tag-names number nodes bytes spells was same =
         let r : FrontRest = rest-is.0 in
         let found : x.part.front.rest ≡ Some r = rest-is.1 in
         let said : FrontSaysWays files (marks_at x) x.part n e (body.Tag number nodes) = (has-each (LetterWays files (marks_at x) x.part) _ x.letters was k.facts.ways.letters) _ spells in
-        let is : TagIs r number nodes = subst (λ (q : FrontRest). TagIs q number nodes) (ap rest_of found) (said.1 at) in
+        let is : TagIs r number nodes = subst (λ (q : FrontRest). TagIs q number nodes) (ap front_rest found) (said.1 at) in
         let most = is.0 in
         let last : number ≡ r.asks = ⊎_elim
         (λ (one : s.asks ≡ r.asks). sym same ∙ one)
@@ -149,7 +149,7 @@ goal-there N files x n e b s h k from r is = go (find (is_under kind.Fetch r) p.
   go : (o : Option Kept) → find (is_under kind.Fetch r) p.fetches ≡ o → is_from from e o ≡ true → (from ≢ n) × N from
   go None found t = let no : false ≡ true = t in absurd cc
   go (Some k2) found t =
-      let fetch : IsFetch N files x.c e n k2 = found-all (IsFetch N files x.c e n) (is_under kind.Fetch r) p.fetches k2 found (stay-keeps N files x n e b s h N k).fetches in
+      let fetch : IsFetchFromOther N files x.c e n k2 = found-all (IsFetchFromOther N files x.c e n) (is_under kind.Fetch r) p.fetches k2 found (stay-keeps N files x n e b s h N k).fetches in
       let goes : is_node k2.to from ≡ true = (and_parts (is_node k2.to from) (names_epoch k2.bytes e) t).0 in
       let same : fetch.node ≡ from = eqb-true fetch.node from (ap (λ (q : Kept). is_node q.to from) (sym fetch.is) ∙ goes) in
       (subst (λ (i : ℕ). i ≢ n) same fetch.other, subst N same fetch.there)

@@ -8,22 +8,22 @@ use Rattle.lard_base.specs.declared.event.Event.TheVariants as event
 use Rattle.lard_base.specs.declared.ids.Millis.{Millis}
 use Rattle.lard_base.specs.declared.place.Place.TheVariants.{Front, Node}
 use Rattle.lard_rules.specs.declared.machine.Machine.{Machine}
-use Rattle.lard_rules.specs.Machine.{front_setting, machine_step, told}
+use Rattle.lard_rules.specs.Machine.{front_setting, machine_step, machine_told}
 use Rattle.lard_laws.proofs.AsksComing.{Delivers, IsRow, step-comes}
 use Rattle.lard_laws.proofs.AsksFilling.{asked-is, did, seen-is}
-use Rattle.lard_law_view.specs.View.{Conn, Spells, conn, part_of}
+use Rattle.lard_law_view.specs.View.{Conn, SpellsMessage, conn, part_of}
 use Rattle.lard_law_view.proofs.After.{IsAfter}
 use Rattle.lard_dispatch.specs.declared.dispatch.Ask.{Ask}
 use Rattle.lard_dispatch.specs.Books.{Books, Dispatcher}
 use Rattle.lard_dispatch.specs.Calls.{all_choices, batch_over, later_choice_at, shared_with}
-use Rattle.lard_dispatch.specs.Sound.{AreServedByNodes, IsNode, IsSound}
+use Rattle.lard_dispatch.specs.Sound.{AreServedByNodes, IsNode, IsDispatcherSound}
 use Rattle.lard_dispatch.proofs.Counted.{later-has}
 use Rattle.lard_dispatch.proofs.Servers.{served-joined, served-touched}
 use Rattle.lard_dispatch.proofs.Sharing.{add-home}
 use Rattle.lard_rules.specs.declared.front.FrontRest.{FrontRest}
-use Rattle.lard_rules.specs.Front.{Did, FrontPart, ask_of, is_at, is_with}
+use Rattle.lard_rules.specs.Front.{Did, FrontPart, ask_of, is_row_at, is_with}
 use Rattle.lard_rules.specs.FrontPlace.{front_part}
-use Rattle.lard_rules.specs.FrontSound.{IsFrontSound, IsRowSound, IsStageSound, Standing, standing}
+use Rattle.lard_rules.specs.FrontSound.{IsFrontSound, IsRowSound, IsStageSound, DispatchStanding, dispatch_standing}
 use Rattle.lard_rules.proofs.FrontParts.{part_put}
 use Rattle.lard_handoff_front.specs.declared.row.FrontConn.{FrontConn}
 use Rattle.lard_handoff_front.specs.declared.row.FrontConn.TheVariants as stage
@@ -51,26 +51,26 @@ choices-there cfg ask now (p ∷ ps) b served home = (
 -- ---- homes
 
 -- who is admitted is at a node that there is
-home-there : (d : Dispatcher) → IsSound d → (c n : ℕ) → tally.home d.books.loads c ≡ Some n → IsNode d.config.nodes n
+home-there : (d : Dispatcher) → IsDispatcherSound d → (c n : ℕ) → tally.home d.books.loads c ≡ Some n → IsNode d.config.nodes n
 home-there d sound c n is = go (table.get d.books.loads.standings c) (sound.at_nodes c) is where
   go : (o : Option tally.Standing) → IfSome o (λ s. IsNode d.config.nodes s.home) → tally.home_of o ≡ Some n → IsNode d.config.nodes n
   go None h e = let no : None ≡ Some n = e in absurd cc
   go (Some s) h e = let found : Some s.home ≡ Some n = e in let same : s.home ≡ n = cc in subst (IsNode d.config.nodes) same h
 
 -- the node with which a connection is, is its home
-stage-home : (epoch n e : ℕ) (rest : Option FrontRest) (kept : List Kept) (at : Standing) (st : FrontConn) → IsStageSound epoch rest kept at st → is_with n e st ≡ true → at.home ≡ Some n
-stage-home epoch n e rest kept at (stage.Offering node d) h is = ap (λ (a : Standing). a.home) h ∙ ap Some (eqb-true node n (and_parts (node == n) (d.0 == e) is).0)
-stage-home epoch n e rest kept at (stage.Moved node d) h is = ap (λ (a : Standing). a.home) h ∙ ap Some (eqb-true node n (and_parts (node == n) (d.0 == e) is).0)
+stage-home : (epoch n e : ℕ) (rest : Option FrontRest) (kept : List Kept) (at : DispatchStanding) (st : FrontConn) → IsStageSound epoch rest kept at st → is_with n e st ≡ true → at.home ≡ Some n
+stage-home epoch n e rest kept at (stage.Offering node d) h is = ap (λ (a : DispatchStanding). a.home) h ∙ ap Some (eqb-true node n (and_parts (node == n) (d.0 == e) is).0)
+stage-home epoch n e rest kept at (stage.Moved node d) h is = ap (λ (a : DispatchStanding). a.home) h ∙ ap Some (eqb-true node n (and_parts (node == n) (d.0 == e) is).0)
 stage-home epoch n e rest kept at _ h is = let no : false ≡ true = is in absurd cc
 
-row-home : (n e : ℕ) (rest : Option FrontRest) (kept : List Kept) (at : Standing) (o : Option FrontRow) → IsRowSound rest kept at o → is_at n e o ≡ true → at.home ≡ Some n
+row-home : (n e : ℕ) (rest : Option FrontRest) (kept : List Kept) (at : DispatchStanding) (o : Option FrontRow) → IsRowSound rest kept at o → is_row_at n e o ≡ true → at.home ≡ Some n
 row-home n e rest kept at None h is = let no : false ≡ true = is in absurd cc
 row-home n e rest kept at (Some row) h is = stage-home row.epoch.0 n e rest kept at row.stage h is
 
 module _ (m : Machine) (sound : IsFrontSound m.front) where
   -- the node with which the front end has a connection is there
-  pub with-there : (c n e : ℕ) → is_at n e (front_part m.front c).row ≡ true → IsNode m.front.dispatch.config.nodes n
-  with-there c n e is = home-there m.front.dispatch sound.books c n (row-home n e (front_part m.front c).rest (front_part m.front c).kept (standing m.front.dispatch c) (front_part m.front c).row (sound.each c) is)
+  pub with-there : (c n e : ℕ) → is_row_at n e (front_part m.front c).row ≡ true → IsNode m.front.dispatch.config.nodes n
+  with-there c n e is = home-there m.front.dispatch sound.books c n (row-home n e (front_part m.front c).rest (front_part m.front c).kept (dispatch_standing m.front.dispatch c) (front_part m.front c).row (sound.each c) is)
 
 -- ---- the step in which an Ask comes
 
@@ -78,8 +78,8 @@ module _ (m : Machine) (sound : IsFrontSound m.front) where
 -- Tag. The view does not say so, since it hides what the dispatcher answers.
 abbrev pub Names : (ℕ → Type 0) → Conn → Conn → Type 0
 Names N x y = (n epoch number queue size : ℕ) (paths : List (List ℕ)) (bytes : List ℕ) (rest : List Seen) (r q : FrontRest)
-    → y.seen ≡ x.seen ++ Came (record { from = Node n; to = Front; bytes = bytes }) ∷ rest → Spells x.c epoch (body.Ask number queue size paths) bytes
-    → is_at n epoch x.part.front.row ≡ true → x.part.front.rest ≡ Some r → number ≡ r.asks + 1 → y.part.front.rest ≡ Some q → Each N q.tag
+    → y.seen ≡ x.seen ++ Came (record { from = Node n; to = Front; bytes = bytes }) ∷ rest → SpellsMessage x.c epoch (body.Ask number queue size paths) bytes
+    → is_row_at n epoch x.part.front.row ≡ true → x.part.front.rest ≡ Some r → number ≡ r.asks + 1 → y.part.front.rest ≡ Some q → Each N q.tag
 
 first-same : (x y : Letter) (xs ys : List Seen) → Came x ∷ xs ≡ Came y ∷ ys → x ≡ y
 first-same x y xs ys e = cc
@@ -92,9 +92,9 @@ tag_of (Some r) = r.tag
 module _ (m n : Machine) (sound : IsFrontSound m.front) where
   module _ (k : ℕ) (p : Packet) (at : packet_at m.net k ≡ Some p) (i : ℕ) (is-from : p.from ≡ Node i) (is-to : p.to ≡ Front) (is : machine_step m (event.Deliver k) ≡ Ok n)
       (c epoch number queue size : ℕ) (paths : List (List ℕ)) (spells : decoded_message p.bytes ≡ Ok (record { c = c; epoch = record { 0 = epoch }; body = body.Ask number queue size paths })) (r : FrontRest)
-      (there : is_at i epoch (front_part m.front c).row ≡ true) (found : (front_part m.front c).rest ≡ Some r) (next : number ≡ r.asks + 1) where
+      (there : is_row_at i epoch (front_part m.front c).row ≡ true) (found : (front_part m.front c).rest ≡ Some r) (next : number ≡ r.asks + 1) where
     named : (q : FrontRest) → (front_part n.front c).rest ≡ Some q → Each (IsNode m.front.dispatch.config.nodes) q.tag
-    unfolding told
+    unfolding machine_told
     named q is-rest =
         let ask : Ask = ask_of c i number queue size paths in
         let cfg : Config = m.front.dispatch.config in

@@ -10,7 +10,7 @@ use Rattle.lard_laws.specs.Tags.{FitsAt, NamesNodes, TagsAre}
 use Rattle.lard_laws.proofs.TagsChoices.{Names}
 use Rattle.lard_laws.proofs.TagsNodes.{Facts}
 use Rattle.lard_law_view.specs.Carry.{tale_at}
-use Rattle.lard_law_view.specs.View.{Conn, Move, Spells, Was, front_admits, front_does, grown, packet_seen, rows_of}
+use Rattle.lard_law_view.specs.View.{Conn, Move, SpellsMessage, Was, front_admits, front_does, grown, packet_seen, rows_of}
 use Rattle.lard_laws.specs.WaysState.{AskIs, LetterWays, NodeSaysWays, StayAsks, marks_at}
 use Rattle.lard_dispatch.specs.declared.dispatch.Ask.{Ask}
 use Rattle.lard_dispatch.specs.declared.dispatch.First.{First}
@@ -20,8 +20,8 @@ use Rattle.lard_endpoint.specs.Arriving.{on_segment}
 use Rattle.lard_endpoint.specs.Control.{ControlBlock}
 use Rattle.lard_rules.specs.declared.front.FrontRest.{FrontRest}
 use Rattle.lard_rules.specs.declared.front.FrontTurn.{FrontTurn}
-use Rattle.lard_rules.specs.Front.{Deed, Did, Drops, Says, Does, FrontEnv, FrontPart, admitted_at, admitted_by, admitted_with, ask_of, asked_by, assigns, begun, ended_by, ends, fired, fired_by, fires_at, front_admitted, front_asked, front_ended, front_gets, front_hears, front_taken, front_timer, heard, hears_at, is_at, is_with, offering, placed, rest_of, rests, saying, settled_by, tag_sent, taken_by}
-use Rattle.lard_rules.specs.FrontReading.{Reading, reads}
+use Rattle.lard_rules.specs.Front.{FrontDeed, Did, Drops, Says, Does, FrontEnv, FrontPart, admitted_at, admitted_by, front_admitted_with, ask_of, asked_by, assigns, front_begun, front_ended_by, front_ends, front_fired, front_fired_by, fires_at, front_admitted, front_asked, front_ended, front_gets, front_hears, front_taken, front_timer, heard, hears_at, is_row_at, is_with, offering, placed, front_rest, front_rests, front_saying, settled_by, tag_sent, taken_by}
+use Rattle.lard_rules.specs.FrontReading.{Reading, front_reads}
 use Rattle.lard_handoff_front.specs.declared.row.FrontConn.{FrontConn}
 use Rattle.lard_handoff_front.specs.declared.row.FrontConn.TheVariants as stage
 use Rattle.lard_handoff_front.specs.declared.row.FrontRow.{FrontRow}
@@ -36,12 +36,12 @@ use Rattle.lard_policy.specs.declared.first.FirstChoice.{FirstChoice}
 use Rattle.lard_rules.specs.declared.places.Ending.{Ending}
 use Rattle.lard_rules.specs.declared.places.Ending.TheVariants as ending
 use Rattle.lard_rules.specs.Tombstone.{is_plain_syn}
-use Rattle.lard_rules.specs.Serving.{Service, serving, settled, spoken}
+use Rattle.lard_rules.specs.Serving.{Service, serving, serving_settled, spoken}
 use Rattle.lard_segment.specs.declared.fault.SegFault.{SegFault}
 use Rattle.lard_segment.specs.Segment.{Said}
 
 -- the nodes of the Tag of what is kept, if anything is
-tags-of : (N : ℕ → Type 0) (o : Option FrontRest) → ((r : FrontRest) → o ≡ Some r → Each N r.tag) → Each N (rest_of o).tag
+tags-of : (N : ℕ → Type 0) (o : Option FrontRest) → ((r : FrontRest) → o ≡ Some r → Each N r.tag) → Each N (front_rest o).tag
 tags-of N None h = tt
 tags-of N (Some r) h = h r refl
 
@@ -57,13 +57,13 @@ module _ (N : ℕ → Type 0) (files : FilesAt) (x : Conn) (facts : Facts files 
   abbrev pub PartFits : FrontPart → Type 0
   PartFits f = TagsAre N f × ((n : ℕ) → FitsAt files f n (x.part.nodes n))
 
-  abbrev pub DeedFits : Deed → Type 0
+  abbrev pub DeedFits : FrontDeed → Type 0
   DeedFits Drops = Unit {0}
   DeedFits (Says turn) = Unit {0}
   DeedFits (Does did) = PartFits did.part
 
   -- with no node
-  at-none : (f : FrontPart) → ((n e : ℕ) → is_at n e f.row ≡ true → ⊥) → (n : ℕ) → FitsAt files f n (x.part.nodes n)
+  at-none : (f : FrontPart) → ((n e : ℕ) → is_row_at n e f.row ≡ true → ⊥) → (n : ℕ) → FitsAt files f n (x.part.nodes n)
   at-none f none n e b s r at row stay rest answered = absurd (none n e at)
 
   -- no node has it
@@ -73,15 +73,15 @@ module _ (N : ℕ → Type 0) (files : FilesAt) (x : Conn) (facts : Facts files 
   -- ---- the end of a turn
 
   module _ (row : FrontRow) (rest : FrontRest) (tags : Each N rest.tag) where
-    held-rests : (e : Ending) → PartFits (rests p row rest stage.Held e)
-    held-rests (ending.Here b count) = (one-tag N (record rest { count = count }) tags, at-none (rests p row rest stage.Held (ending.Here b count)) (λ n e is. let no : false ≡ true = is in absurd cc))
-    held-rests (ending.Over last) = ((λ r is. let no : None ≡ Some r = is in absurd cc), at-none (rests p row rest stage.Held (ending.Over last)) (λ n e is. let no : false ≡ true = is in absurd cc))
+    held-rests : (e : Ending) → PartFits (front_rests p row rest stage.Held e)
+    held-rests (ending.Here b count) = (one-tag N (record rest { count = count }) tags, at-none (front_rests p row rest stage.Held (ending.Here b count)) (λ n e is. let no : false ≡ true = is in absurd cc))
+    held-rests (ending.Over last) = ((λ r is. let no : None ≡ Some r = is in absurd cc), at-none (front_rests p row rest stage.Held (ending.Over last)) (λ n e is. let no : false ≡ true = is in absurd cc))
 
-    waiting-rests : (e : Ending) → PartFits (rests p row rest stage.Waiting e)
-    waiting-rests (ending.Here b count) = (one-tag N (record rest { count = count }) tags, at-none (rests p row rest stage.Waiting (ending.Here b count)) (λ n e is. let no : false ≡ true = is in absurd cc))
-    waiting-rests (ending.Over last) = ((λ r is. let no : None ≡ Some r = is in absurd cc), at-none (rests p row rest stage.Waiting (ending.Over last)) (λ n e is. let no : false ≡ true = is in absurd cc))
+    waiting-rests : (e : Ending) → PartFits (front_rests p row rest stage.Waiting e)
+    waiting-rests (ending.Here b count) = (one-tag N (record rest { count = count }) tags, at-none (front_rests p row rest stage.Waiting (ending.Here b count)) (λ n e is. let no : false ≡ true = is in absurd cc))
+    waiting-rests (ending.Over last) = ((λ r is. let no : None ≡ Some r = is in absurd cc), at-none (front_rests p row rest stage.Waiting (ending.Over last)) (λ n e is. let no : false ≡ true = is in absurd cc))
 
-  mine : Each N (rest_of p.rest).tag
+  mine : Each N (front_rest p.rest).tag
   mine = tags-of N p.rest h.nodes
 
   offering-fits : (env : FrontEnv) (row : FrontRow) (w : Service) (path : List ℕ) (node d : ℕ) → ArePast d x.part.nodes → PartFits (offering env row w path node)
@@ -94,13 +94,13 @@ module _ (N : ℕ → Type 0) (files : FilesAt) (x : Conn) (facts : Facts files 
     placed-fits rest tags w path (first.Go choice) = offering-fits env row w path choice.node d past
     placed-fits rest tags w path first.Waits = waiting-rests row (record rest { target = Some path }) tags _
 
-    settled-fits : (w : Service) (o : Option (List ℕ)) → DeedFits (settled_by env p row (rest_of p.rest) w o)
-    settled-fits w None = held-rests row (rest_of p.rest) mine (settled env.serve w).0
-    settled-fits w (Some path) = placed-fits (rest_of p.rest) mine w path (env.first path)
+    settled-fits : (w : Service) (o : Option (List ℕ)) → DeedFits (settled_by env p row (front_rest p.rest) w o)
+    settled-fits w None = held-rests row (front_rest p.rest) mine (serving_settled env.serve w).0
+    settled-fits w (Some path) = placed-fits (front_rest p.rest) mine w path (env.first path)
 
-    heard-fits : (b : ControlBlock) → DeedFits (heard env p row (rest_of p.rest) b)
+    heard-fits : (b : ControlBlock) → DeedFits (heard env p row (front_rest p.rest) b)
     heard-fits b =
-        let y : Reading = reads env.serve (record { service = serving b (rest_of p.rest).count []; target = None }) in
+        let y : Reading = front_reads env.serve (record { service = serving b (front_rest p.rest).count []; target = None }) in
         settled-fits y.service y.target
 
   abbrev Sits_in : ℕ → FrontConn → Type 0
@@ -111,11 +111,11 @@ module _ (N : ℕ → Type 0) (files : FilesAt) (x : Conn) (facts : Facts files 
 
   hears-at : (env : FrontEnv) (row : FrontRow) (bytes : List ℕ) (s : Said) (st : FrontConn) → Sits_in row.epoch.0 st → DeedFits (hears_at env p row bytes s st)
   hears-at env row bytes s (stage.Held b) k = heard-fits env row row.epoch.0 k.1.1 (on_segment b s).1
-  hears-at env row bytes s (stage.Waiting b) k = waiting-rests row (rest_of p.rest) mine (spoken env.serve (serving (on_segment b s).1 (rest_of p.rest).count []) []).0
+  hears-at env row bytes s (stage.Waiting b) k = waiting-rests row (front_rest p.rest) mine (spoken env.serve (serving (on_segment b s).1 (front_rest p.rest).count []) []).0
   hears-at env row bytes s _ k = tt
 
   hears-by : (env : FrontEnv) (bytes : List ℕ) (s : Said) (o : Option FrontRow) → p.row ≡ o → DeedFits (front_hears env p bytes s o)
-  hears-by env bytes s None is = cond_both (is_plain_syn s) (begun env p s) Drops DeedFits (λ t. held-rests (record { stage = stage.Lent; epoch = record { 0 = 1 }; ended_by = None }) (rest_of None) tt _) (λ t. tt)
+  hears-by env bytes s None is = cond_both (is_plain_syn s) (front_begun env p s) Drops DeedFits (λ t. held-rests (record { stage = stage.Lent; epoch = record { 0 = 1 }; ended_by = None }) (front_rest None) tt _) (λ t. tt)
   hears-by env bytes s (Some row) is = hears-at env row bytes s row.stage (sits-at row is)
 
   pub gets-fit : (env : FrontEnv) (bytes : List ℕ) (r : Result Said SegFault) → DeedFits (front_gets env p bytes r)
@@ -125,11 +125,11 @@ module _ (N : ℕ → Type 0) (files : FilesAt) (x : Conn) (facts : Facts files 
   -- ---- the timer
 
   fires-at : (env : FrontEnv) (row : FrontRow) (st : FrontConn) → DeedFits (fires_at env p row st)
-  fires-at env row (stage.Held b) = held-rests row (rest_of p.rest) mine (fired env (rest_of p.rest) b).0
-  fires-at env row (stage.Waiting b) = waiting-rests row (rest_of p.rest) mine (fired env (rest_of p.rest) b).0
+  fires-at env row (stage.Held b) = held-rests row (front_rest p.rest) mine (front_fired env (front_rest p.rest) b).0
+  fires-at env row (stage.Waiting b) = waiting-rests row (front_rest p.rest) mine (front_fired env (front_rest p.rest) b).0
   fires-at env row _ = tt
 
-  fires-by : (env : FrontEnv) (o : Option FrontRow) → DeedFits (fired_by env p o)
+  fires-by : (env : FrontEnv) (o : Option FrontRow) → DeedFits (front_fired_by env p o)
   fires-by env None = tt
   fires-by env (Some row) = fires-at env row row.stage
 
@@ -149,7 +149,7 @@ module _ (N : ℕ → Type 0) (files : FilesAt) (x : Conn) (facts : Facts files 
         h.nodes,
         λ n e b s r at.
             let same : d.0 ≡ epoch = eqb-true d.0 epoch t in
-            h.fits n e b s r (ap (is_at n e) is ∙ ap (is_with n e) eq ∙ ap (λ (i : ℕ). node == n && i == e) same ∙ at),
+            h.fits n e b s r (ap (is_row_at n e) is ∙ ap (is_with n e) eq ∙ ap (λ (i : ℕ). node == n && i == e) same ∙ at),
       ))
       (λ t. tt)
 
@@ -160,12 +160,12 @@ module _ (N : ℕ → Type 0) (files : FilesAt) (x : Conn) (facts : Facts files 
   pub taken-fits : (epoch : ℕ) → DeedFits (front_taken p epoch)
   taken-fits epoch = taken-by epoch p.row refl
 
-  ended-by : (env : FrontEnv) (n epoch : ℕ) (last : Final) (o : Option FrontRow) → DeedFits (ended_by env p n epoch last o (end_answer epoch o))
+  ended-by : (env : FrontEnv) (n epoch : ℕ) (last : Final) (o : Option FrontRow) → DeedFits (front_ended_by env p n epoch last o (end_answer epoch o))
   ended-by env n epoch last None = tt
   ended-by env n epoch last (Some row) =
-      cond_both (is_away epoch row.stage) (New (next_epoch row)) (cond (ended_with epoch row.ended_by) Again Stale) (λ (a : OnEnded). DeedFits (ended_by env p n epoch last (Some row) a))
-      (λ away. ((λ r is. let no : None ≡ Some r = is in absurd cc), at-none (ends env p n epoch last row (next_epoch row)).part (λ m e is. let no : false ≡ true = is in absurd cc)))
-      (λ t. cond_both (ended_with epoch row.ended_by) Again Stale (λ (a : OnEnded). DeedFits (ended_by env p n epoch last (Some row) a)) (λ t. tt) (λ t. tt))
+      cond_both (is_away epoch row.stage) (New (next_epoch row)) (cond (ended_with epoch row.ended_by) Again Stale) (λ (a : OnEnded). DeedFits (front_ended_by env p n epoch last (Some row) a))
+      (λ away. ((λ r is. let no : None ≡ Some r = is in absurd cc), at-none (front_ends env p n epoch last row (next_epoch row)).part (λ m e is. let no : false ≡ true = is in absurd cc)))
+      (λ t. cond_both (ended_with epoch row.ended_by) Again Stale (λ (a : OnEnded). DeedFits (front_ended_by env p n epoch last (Some row) a)) (λ t. tt) (λ t. tt))
 
   pub ended-fits : (env : FrontEnv) (n epoch : ℕ) (last : Final) → DeedFits (front_ended env p n epoch last)
   ended-fits env n epoch last = ended-by env n epoch last p.row
@@ -176,12 +176,12 @@ module _ (N : ℕ → Type 0) (files : FilesAt) (x : Conn) (facts : Facts files 
   AdmittedFits None = Unit {0}
   AdmittedFits (Some given) = PartFits given.0
 
-  admitted-path : (env : FrontEnv) (row : FrontRow) (rest : FrontRest) (b : ControlBlock) (choice : FirstChoice) (d : ℕ) → ArePast d x.part.nodes → (o : Option (List ℕ)) → AdmittedFits (admitted_with env row rest b choice o)
+  admitted-path : (env : FrontEnv) (row : FrontRow) (rest : FrontRest) (b : ControlBlock) (choice : FirstChoice) (d : ℕ) → ArePast d x.part.nodes → (o : Option (List ℕ)) → AdmittedFits (front_admitted_with env row rest b choice o)
   admitted-path env row rest b choice d past None = tt
   admitted-path env row rest b choice d past (Some path) = offering-fits env row (serving b rest.count []) path choice.node d past
 
   admitted-stage : (env : FrontEnv) (choice : FirstChoice) (row : FrontRow) (st : FrontConn) → Sits_in row.epoch.0 st → AdmittedFits (admitted_at env p choice row st)
-  admitted-stage env choice row (stage.Waiting b) k = admitted-path env row (rest_of p.rest) b choice row.epoch.0 k.1.1 (rest_of p.rest).target
+  admitted-stage env choice row (stage.Waiting b) k = admitted-path env row (front_rest p.rest) b choice row.epoch.0 k.1.1 (front_rest p.rest).target
   admitted-stage env choice row _ k = tt
 
   admitted-row : (env : FrontEnv) (choice : FirstChoice) (o : Option FrontRow) → p.row ≡ o → AdmittedFits (admitted_by env p choice o)
@@ -194,7 +194,7 @@ module _ (N : ℕ → Type 0) (files : FilesAt) (x : Conn) (facts : Facts files 
   -- ---- an Ask
 
   -- it is with one node, in one epoch
-  one-place : (o : Option FrontRow) (n m e d : ℕ) → is_at n e o ≡ true → is_at m d o ≡ true → (m ≡ n) × (d ≡ e)
+  one-place : (o : Option FrontRow) (n m e d : ℕ) → is_row_at n e o ≡ true → is_row_at m d o ≡ true → (m ≡ n) × (d ≡ e)
   one-place None n m e d a b = let no : false ≡ true = a in absurd cc
   one-place (Some row) n m e d a b = go row.stage a b where
     go : (st : FrontConn) → is_with n e st ≡ true → is_with m d st ≡ true → (m ≡ n) × (d ≡ e)
@@ -209,7 +209,7 @@ module _ (N : ℕ → Type 0) (files : FilesAt) (x : Conn) (facts : Facts files 
         let s = and_parts (node == n) (f.0 == e) a in
         let t = and_parts (node == m) (f.0 == d) b in (sym (eqb-true node m t.0) ∙ eqb-true node n s.0, sym (eqb-true f.0 d t.1) ∙ eqb-true f.0 e s.1)
 
-  module _ (env : FrontEnv) (n epoch number queue size : ℕ) (paths : List (List ℕ)) (bytes : List ℕ) (spells : Spells x.c epoch (body.Ask number queue size paths) bytes) (was : Was x (Node n) Front bytes) where
+  module _ (env : FrontEnv) (n epoch number queue size : ℕ) (paths : List (List ℕ)) (bytes : List ℕ) (spells : SpellsMessage x.c epoch (body.Ask number queue size paths) bytes) (was : Was x (Node n) Front bytes) where
     abbrev heads : List Seen
     heads = packet_seen (Node n) Front bytes
 
@@ -217,14 +217,14 @@ module _ (N : ℕ → Type 0) (files : FilesAt) (x : Conn) (facts : Facts files 
     ask = ask_of x.c n number queue size paths
 
     -- what was answered stays so, and what is answered now gets a node for each path
-    assigned-fits : (r : FrontRest) → p.rest ≡ Some r → is_at n epoch p.row ≡ true → number ≡ r.asks + 1 → let v : Move = front_does x heads (Does (assigns env p r n epoch ask (env.later ask))) in Fills x (grown x v) → Names N x (grown x v) → PartFits (assigns env p r n epoch ask (env.later ask)).part
+    assigned-fits : (r : FrontRest) → p.rest ≡ Some r → is_row_at n epoch p.row ≡ true → number ≡ r.asks + 1 → let v : Move = front_does x heads (Does (assigns env p r n epoch ask (env.later ask))) in Fills x (grown x v) → Names N x (grown x v) → PartFits (assigns env p r n epoch ask (env.later ask)).part
     assigned-fits r found at next fills names =
         let did : Did = assigns env p r n epoch ask (env.later ask) in
         let v : Move = front_does x heads (Does did) in
         let new : FrontRest = record r { asks = number; tag = map (λ y. y.node) (env.later ask).choices; assigned = r.assigned + length (env.later ask).choices } in
         let full : length new.tag ≡ length paths = fills n epoch number queue size paths bytes (map Row (rows_of x v)) r new refl spells at found next refl in
         let said : NodeSaysWays files (marks_at x) x.part n epoch (body.Ask number queue size paths) = (has-each (LetterWays files (marks_at x) x.part) _ x.letters was facts.ways.letters) _ spells in
-        let is : AskIs files (marks_at x) r (x.part.nodes n).stay number paths = subst (λ (q : FrontRest). AskIs files (marks_at x) q (x.part.nodes n).stay number paths) (ap rest_of found) (said.1 at) in (
+        let is : AskIs files (marks_at x) r (x.part.nodes n).stay number paths = subst (λ (q : FrontRest). AskIs files (marks_at x) q (x.part.nodes n).stay number paths) (ap front_rest found) (said.1 at) in (
           one-tag N new (names n epoch number queue size paths bytes (map Row (rows_of x v)) r new refl spells at found next refl),
           λ m e b s q there row stay rest answered.
               let place = one-place p.row n m epoch e at there in
@@ -238,22 +238,22 @@ module _ (N : ℕ → Type 0) (files : FilesAt) (x : Conn) (facts : Facts files 
               is,
         )
 
-    abbrev Fit : Deed → Type 0
+    abbrev Fit : FrontDeed → Type 0
     Fit d = Fills x (grown x (front_does x heads d)) → Names N x (grown x (front_does x heads d)) → DeedFits d
 
-    asked-by : is_at n epoch p.row ≡ true → (o : Option FrontRest) → p.rest ≡ o → Fit (asked_by env p n epoch ask o)
+    asked-by : is_row_at n epoch p.row ≡ true → (o : Option FrontRest) → p.rest ≡ o → Fit (asked_by env p n epoch ask o)
     asked-by at None found = λ fills names. tt
     asked-by at (Some r) found =
-        cond_both (number == r.asks + 1) (Does (assigns env p r n epoch ask (env.later ask))) (cond (number == r.asks && nat_lt 0 r.asks) (Says (saying (tag_sent env n epoch r.asks r.tag))) Drops) Fit
+        cond_both (number == r.asks + 1) (Does (assigns env p r n epoch ask (env.later ask))) (cond (number == r.asks && nat_lt 0 r.asks) (Says (front_saying (tag_sent env n epoch r.asks r.tag))) Drops) Fit
         (λ t fills names. assigned-fits r found at (eqb-true number (r.asks + 1) t) fills names)
-        (λ t. cond_both (number == r.asks && nat_lt 0 r.asks) (Says (saying (tag_sent env n epoch r.asks r.tag))) Drops Fit (λ t fills names. tt) (λ t fills names. tt))
+        (λ t. cond_both (number == r.asks && nat_lt 0 r.asks) (Says (front_saying (tag_sent env n epoch r.asks r.tag))) Drops Fit (λ t fills names. tt) (λ t fills names. tt))
 
     pub asked-fits : Fit (front_asked env p n epoch ask)
-    asked-fits = cond_both (is_at n epoch p.row) (asked_by env p n epoch ask p.rest) Drops Fit (λ at. asked-by at p.rest refl) (λ t fills names. tt)
+    asked-fits = cond_both (is_row_at n epoch p.row) (asked_by env p n epoch ask p.rest) Drops Fit (λ at. asked-by at p.rest refl) (λ t fills names. tt)
 
   -- ---- its move
 
-  pub front-move : (seen : List Seen) (d : Deed) → DeedFits d → NamesNodes N files (grown x (front_does x seen d))
+  pub front-move : (seen : List Seen) (d : FrontDeed) → DeedFits d → NamesNodes N files (grown x (front_does x seen d))
   front-move seen Drops k = record { nodes = h.nodes; fits = h.fits }
   front-move seen (Says turn) k = record { nodes = h.nodes; fits = h.fits }
   front-move seen (Does did) k = record { nodes = k.0; fits = k.1 }

@@ -8,13 +8,13 @@ use Rattle.lard_law_connections.proofs.PolicyCounted.{IsCounted, reached-counted
 use Rattle.lard_laws.proofs.TagsAgree.{Agreed, tags-name}
 use Rattle.lard_laws.proofs.TagsChoices.{with-there}
 use Rattle.lard_laws.proofs.TagsRuns.{connections-name-nodes, known-of}
-use Rattle.lard_law_view.specs.Carry.{IsUntouchedLaw, MayMove, OfEach, Untouched, setting, tale_at}
+use Rattle.lard_law_view.specs.Carry.{IsUntouchedLaw, MayRestOn, OfEach, Untouched, setting, tale_at}
 use Rattle.lard_law_view.specs.View.{Conn, Setting, conn, grown, part_of}
 use Rattle.lard_law_view.proofs.Carried.{carried}
 use Rattle.lard_law_view.proofs.Guarded.{untouched-law, untouched-weaker}
 use Rattle.lard_dispatch.specs.Sound.{IsNode}
 use Rattle.lard_files.specs.Files.{file_at}
-use Rattle.lard_rules.specs.Front.{is_at}
+use Rattle.lard_rules.specs.Front.{is_row_at}
 
 module _ (config : Config) (files : List (List ℕ × List ℕ)) (checked : config_check config ≡ Ok tt) where
   abbrev N : ℕ → Type 0
@@ -46,7 +46,7 @@ module _ (config : Config) (files : List (List ℕ × List ℕ)) (checked : conf
       let k : Setting = setting config files in
       let law = kept-law N Now (tags-name N (file_at files)) k in record {
         begins = law.begins;
-        moves = untouched-weaker k (λ x v. MayMove Now x → Inv x → Inv (grown x v)) (λ x v. MayMove Given x → (tale_at x).touched ≡ false → Inv x → Inv (grown x v))
+        moves = untouched-weaker k (λ x v. MayRestOn Now x → Inv x → Inv (grown x v)) (λ x v. MayRestOn Given x → (tale_at x).touched ≡ false → Inv x → Inv (grown x v))
             (λ x v moves may untouched h. moves (record { number = may.number; sound = may.sound; given = may.given untouched }) h) law.moves.untouched;
       }
 
@@ -57,7 +57,7 @@ module _ (config : Config) (files : List (List ℕ × List ℕ)) (checked : conf
   -- ---- where connections are
 
   -- the front end has a connection with a node that is there
-  pub each-with : OfEach config files (λ x. (n e : ℕ) → is_at n e x.part.front.row ≡ true → N n)
+  pub each-with : OfEach config files (λ x. (n e : ℕ) → is_row_at n e x.part.front.row ≡ true → N n)
   unfolding conn part_of
   each-with m r q n e at =
       let counted : IsCounted config m = reached-counted config files checked m r in

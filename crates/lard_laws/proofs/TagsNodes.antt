@@ -14,7 +14,7 @@ use Rattle.lard_law_view.proofs.Parts.{put-each}
 use Rattle.lard_laws.specs.WaysState.{GoesItsWay, IsAway, SeatWays, StageWays, StayWays, marks_at}
 use Rattle.lard_endpoint.specs.Control.{ControlBlock}
 use Rattle.lard_rules.specs.declared.front.FrontRest.{FrontRest}
-use Rattle.lard_rules.specs.Front.{is_at, is_with, rest_of}
+use Rattle.lard_rules.specs.Front.{is_row_at, is_with, front_rest}
 use Rattle.lard_handoff_back.specs.declared.row.BackConn.TheVariants as back
 use Rattle.lard_handoff_back.specs.declared.row.BackRow.{BackRow}
 use Rattle.lard_handoff_back.specs.declared.table.Adopt.TheVariants.{New}
@@ -24,7 +24,7 @@ use Rattle.lard_handoff_front.specs.declared.row.FrontConn.TheVariants as stage
 use Rattle.lard_handoff_front.specs.declared.row.FrontRow.{FrontRow}
 use Rattle.lard_history.specs.Own.{Seen}
 use Rattle.lard_rules.specs.declared.stay.Stay.{Stay}
-use Rattle.lard_rules.specs.Node.{Deed, Drops, Says, Does, NodePart, here}
+use Rattle.lard_rules.specs.Node.{NodeDeed, Drops, Says, Does, NodePart, here}
 use Rattle.lard_rules.specs.Stay.{named_paths}
 
 -- what is known of a connection beside its Tags
@@ -34,7 +34,7 @@ pub record Facts (files : FilesAt) (x : Conn) : Type 0 where
 
 -- ---- what is known of its Asks
 
-module _ (files : FilesAt) (x : Conn) (facts : Facts files x) (n e : ℕ) (r : FrontRest) (at : is_at n e x.part.front.row ≡ true) (found : x.part.front.rest ≡ Some r) where
+module _ (files : FilesAt) (x : Conn) (facts : Facts files x) (n e : ℕ) (r : FrontRest) (at : is_row_at n e x.part.front.row ≡ true) (found : x.part.front.rest ≡ Some r) where
   abbrev p : NodePart
   p = x.part.nodes n
 
@@ -57,7 +57,7 @@ module _ (files : FilesAt) (x : Conn) (facts : Facts files x) (n e : ℕ) (r : F
         let epoch : row.epoch.0 ≡ e = sym sits.1 ∙ eqb-true d.0 e tests.1 in
         let its : StageWays files (marks_at x) x.part row.epoch.0 (stage.Offering m d) =
         subst (StageWays files (marks_at x) x.part row.epoch.0) eq (subst (SeatWays files (marks_at x) x.part) is facts.ways.seat) in
-        record { away = subst (λ (t : FrontRest × ℕ × ℕ). IsAway files (marks_at x) t.0 t.1 t.2 (x.part.nodes t.1)) (λ i. (ap rest_of found i, node i, epoch i)) its }
+        record { away = subst (λ (t : FrontRest × ℕ × ℕ). IsAway files (marks_at x) t.0 t.1 t.2 (x.part.nodes t.1)) (λ i. (ap front_rest found i, node i, epoch i)) its }
     by-stage row is (stage.Moved m d) eq t =
         let tests = and_parts (m == n) (d.0 == e) t in
         let node : m ≡ n = eqb-true m n tests.0 in
@@ -66,9 +66,9 @@ module _ (files : FilesAt) (x : Conn) (facts : Facts files x) (n e : ℕ) (r : F
         let epoch : row.epoch.0 ≡ e = sym sits.1 ∙ eqb-true d.0 e tests.1 in
         let its : StageWays files (marks_at x) x.part row.epoch.0 (stage.Moved m d) =
         subst (StageWays files (marks_at x) x.part row.epoch.0) eq (subst (SeatWays files (marks_at x) x.part) is facts.ways.seat) in
-        record { away = subst (λ (t : FrontRest × ℕ × ℕ). IsAway files (marks_at x) t.0 t.1 t.2 (x.part.nodes t.1)) (λ i. (ap rest_of found i, node i, epoch i)) its }
+        record { away = subst (λ (t : FrontRest × ℕ × ℕ). IsAway files (marks_at x) t.0 t.1 t.2 (x.part.nodes t.1)) (λ i. (ap front_rest found i, node i, epoch i)) its }
 
-    go : (o : Option FrontRow) → x.part.front.row ≡ o → is_at n e o ≡ true → IsItsAway
+    go : (o : Option FrontRow) → x.part.front.row ≡ o → is_row_at n e o ≡ true → IsItsAway
     go None is t = let no : false ≡ true = t in absurd cc
     go (Some row) is t = by-stage row is row.stage refl t
 
@@ -98,7 +98,7 @@ module _ (N : ℕ → Type 0) (files : FilesAt) (x : Conn) (facts : Facts files 
   goes-on : (d : ℕ) (b0 : ControlBlock) (s0 : Stay) (q : NodePart) → IsHere d ours b0 s0 → MayFollow files s0.asks (named_paths files s0.batch) q.stay → IsOfEpoch d q.row → FitsAt files x.part.front n q
   goes-on d b0 s0 q was follows of e b s r at row stay rest answered =
       let same : e ≡ d = from-row d e b q of row in
-      let then : is_at n d x.part.front.row ≡ true = subst (λ (i : ℕ). is_at n i x.part.front.row ≡ true) same at in
+      let then : is_row_at n d x.part.front.row ≡ true = subst (λ (i : ℕ). is_row_at n i x.part.front.row ≡ true) same at in
       let goes : StayFollows files s0.asks (named_paths files s0.batch) s = subst (MayFollow files s0.asks (named_paths files s0.batch)) stay follows in
       ⊎_elim
       (λ (k : (s.asks ≡ s0.asks) × ((named_paths files s.batch ≡ []) ⊎ (named_paths files s.batch ≡ named_paths files s0.batch))). ⊎_elim
@@ -112,12 +112,12 @@ module _ (N : ℕ → Type 0) (files : FilesAt) (x : Conn) (facts : Facts files 
       (asks-are files x facts n d r then rest b0 s0 was))
       goes
 
-  abbrev pub DeedFits : Deed → Type 0
+  abbrev pub DeedFits : NodeDeed → Type 0
   DeedFits Drops = Unit {0}
   DeedFits (Says ms) = Unit {0}
   DeedFits (Does given) = FitsAt files x.part.front n given.0
 
-  pub goes-fit : (e : ℕ) (d : Deed) → DeedGoes files e (here e ours) d → DeedFits d
+  pub goes-fit : (e : ℕ) (d : NodeDeed) → DeedGoes files e (here e ours) d → DeedFits d
   goes-fit e Drops k = tt
   goes-fit e (Says ms) k = tt
   goes-fit e (Does given) k = go (here e ours) refl k where
@@ -129,7 +129,7 @@ module _ (N : ℕ → Type 0) (files : FilesAt) (x : Conn) (facts : Facts files 
   begins : (d : ℕ) (q : NodePart) → offer_answer d ours.row ≡ New → MayFollow files 0 [] q.stay → IsOfEpoch d q.row → FitsAt files x.part.front n q
   begins d q new follows of e b s r at row stay rest answered =
       let same : e ≡ d = from-row d e b q of row in
-      let then : is_at n d x.part.front.row ≡ true = subst (λ (i : ℕ). is_at n i x.part.front.row ≡ true) same at in
+      let then : is_row_at n d x.part.front.row ≡ true = subst (λ (i : ℕ). is_row_at n i x.part.front.row ≡ true) same at in
       let none : r.asks ≡ 0 = none-answered files x facts n d r then rest new in
       let goes : StayFollows files 0 [] s = subst (MayFollow files 0 []) stay follows in
       ⊎_elim
@@ -137,14 +137,14 @@ module _ (N : ℕ → Type 0) (files : FilesAt) (x : Conn) (facts : Facts files 
       (λ (more : s.asks ≡ 0 + 1). absurd (omega (arith, more, none, answered)))
       goes
 
-  pub begins-fit : (e : ℕ) (d : Deed) → (IsIdle d ⊎ (offer_answer e ours.row ≡ New)) → DeedFollows files e 0 [] d → DeedFits d
+  pub begins-fit : (e : ℕ) (d : NodeDeed) → (IsIdle d ⊎ (offer_answer e ours.row ≡ New)) → DeedFollows files e 0 [] d → DeedFits d
   begins-fit e Drops k f = tt
   begins-fit e (Says ms) k f = tt
   begins-fit e (Does given) k f = ⊎_elim (λ (no : ⊥). absurd no) (λ (new : offer_answer e ours.row ≡ New). begins e given.0 new f.0 f.1) k
 
   -- ---- its move
 
-  pub node-move : (heads : List Seen) (d : Deed) → DeedFits d → NamesNodes N files (grown x (node_does x n heads d))
+  pub node-move : (heads : List Seen) (d : NodeDeed) → DeedFits d → NamesNodes N files (grown x (node_does x n heads d))
   node-move heads Drops k = record { nodes = h.nodes; fits = h.fits }
   node-move heads (Says ms) k = record { nodes = h.nodes; fits = h.fits }
   node-move heads (Does given) k = record { nodes = h.nodes; fits = put-each x.part.nodes n given.0 (λ m p. FitsAt files x.part.front m p) k (λ m other. h.fits m) }

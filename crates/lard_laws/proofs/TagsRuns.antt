@@ -9,12 +9,12 @@ use Rattle.lard_base.specs.declared.event.Event.{Event}
 use Rattle.lard_base.specs.declared.event.Event.TheVariants as event
 use Rattle.lard_base.specs.declared.parts.EndpointParts.{EndpointParts}
 use Rattle.lard_base.specs.declared.place.Place.TheVariants.{Client, Front, Node}
-use Rattle.lard_rules.specs.Bounds.{HasRule, IsNumber}
+use Rattle.lard_rules.specs.Bounds.{HasRule, IsConnNumber}
 use Rattle.lard_rules.specs.declared.machine.Machine.{Machine}
-use Rattle.lard_rules.specs.Machine.{IsReached, machine_step, start}
+use Rattle.lard_rules.specs.Machine.{IsReached, machine_step, machine_start}
 use Rattle.lard_laws.proofs.AsksFilling.{step-fills}
 use Rattle.lard_laws.proofs.AsksMoving.{Fills}
-use Rattle.lard_law_connections.specs.Kept.{IsKeptByStage, NodeKeeps}
+use Rattle.lard_law_connections.specs.Kept.{IsKeptByStage, NodeKeepsMessages}
 use Rattle.lard_law_connections.specs.KeptLaws.{AnyNode}
 use Rattle.lard_law_connections.proofs.KeptHere.{here-timer}
 use Rattle.lard_law_connections.proofs.KeptNodes as kept
@@ -29,7 +29,7 @@ use Rattle.lard_laws.proofs.TagsFronts.{AdmittedFits, admitted-fits, admitted-mo
 use Rattle.lard_laws.proofs.TagsNodes.{DeedFits, Facts, begins-fit, goes-fit, node-move}
 use Rattle.lard_law_view.specs.Carry.{Untouched, setting, tale_at}
 use Rattle.lard_law_view.specs.View as view
-use Rattle.lard_law_view.specs.View.{ClientRules, Conn, FrontRules, IsNodeEnv, Move, NodeRules, Rules, Setting, blank, conn, event_seen, grown, node_does, packet_seen}
+use Rattle.lard_law_view.specs.View.{ClientRules, Conn, FrontRules, IsNodeEnv, Move, NodeRules, Rules, Setting, blank_conn, conn, event_seen, grown, node_does, packet_seen}
 use Rattle.lard_law_view.proofs.After.{IsAfter, step-after}
 use Rattle.lard_law_view.proofs.Carried.{IsOn, carried-keep, goes-on, gone}
 use Rattle.lard_law_view.proofs.Guarded.{untouched-before}
@@ -47,7 +47,7 @@ use Rattle.lard_handoff_back.specs.Row.{is_gone}
 use Rattle.lard_history.specs.Own.{Seen}
 use Rattle.lard_history.proofs.Each.{Each}
 use Rattle.lard_rules.specs.Node as node
-use Rattle.lard_rules.specs.Node.{NodePart, here, node_acknowledged, node_content, node_forwarded, node_offered, node_read, node_tagged, node_timer, offered_by, saying}
+use Rattle.lard_rules.specs.Node.{NodePart, here, node_acknowledged, node_content, node_forwarded, node_offered, node_read, node_tagged, node_timer, offered_by, node_saying}
 use Rattle.lard_rules.specs.Stay.{NodeEnv}
 use Rattle.lard_resend.specs.Kept.{without}
 use Rattle.lard_base.specs.declared.place.TimerKind.TheVariants as kind
@@ -96,14 +96,14 @@ module _ (N : ℕ → Type 0) (k : Setting) where
   }
 
   -- a rule of a node, whose stay goes on
-  goes : (x : Conn) (n epoch : ℕ) (env : NodeEnv) → IsNodeEnv k x.c n epoch env → Known k.files x → (d : node.Deed)
-      → (NodeKeeps AnyNode env.serve.files env.serve.c env.n (x.part.nodes n) → DeedGoes env.serve.files env.epoch (here env.epoch (x.part.nodes n)) d) → DeedGoes k.files env.epoch (here env.epoch (x.part.nodes n)) d
+  goes : (x : Conn) (n epoch : ℕ) (env : NodeEnv) → IsNodeEnv k x.c n epoch env → Known k.files x → (d : node.NodeDeed)
+      → (NodeKeepsMessages AnyNode env.serve.files env.serve.c env.n (x.part.nodes n) → DeedGoes env.serve.files env.epoch (here env.epoch (x.part.nodes n)) d) → DeedGoes k.files env.epoch (here env.epoch (x.part.nodes n)) d
   goes x n epoch env is known d rule =
       let all : ◌≡◌ {A = FilesAt × ℕ × ℕ} (env.serve.files, env.serve.c, env.n) (k.files, x.c, n) = λ i. (is.files i, is.number i, is.node i) in
-      subst (λ (t : FilesAt × ℕ × ℕ). NodeKeeps AnyNode t.0 t.1 t.2 (x.part.nodes n) → DeedGoes t.0 env.epoch (here env.epoch (x.part.nodes n)) d) all rule (known.kept.nodes n)
+      subst (λ (t : FilesAt × ℕ × ℕ). NodeKeepsMessages AnyNode t.0 t.1 t.2 (x.part.nodes n) → DeedGoes t.0 env.epoch (here env.epoch (x.part.nodes n)) d) all rule (known.kept.nodes n)
 
-  by-node : (x : Conn) (n epoch : ℕ) (env : NodeEnv) → IsNodeEnv k x.c n epoch env → (known : Known k.files x) (h : NamesNodes N k.files x) (heads : List Seen) (d : node.Deed)
-      → (NodeKeeps AnyNode env.serve.files env.serve.c env.n (x.part.nodes n) → DeedGoes env.serve.files env.epoch (here env.epoch (x.part.nodes n)) d) → NamesNodes N k.files (grown x (node_does x n heads d))
+  by-node : (x : Conn) (n epoch : ℕ) (env : NodeEnv) → IsNodeEnv k x.c n epoch env → (known : Known k.files x) (h : NamesNodes N k.files x) (heads : List Seen) (d : node.NodeDeed)
+      → (NodeKeepsMessages AnyNode env.serve.files env.serve.c env.n (x.part.nodes n) → DeedGoes env.serve.files env.epoch (here env.epoch (x.part.nodes n)) d) → NamesNodes N k.files (grown x (node_does x n heads d))
   by-node x n epoch env is known h heads d rule = node-move N k.files x known.facts h n heads d (goes-fit N k.files x known.facts h n env.epoch d (goes x n epoch env is known d rule))
 
   -- an Offer
@@ -115,10 +115,10 @@ module _ (N : ℕ → Type 0) (k : Setting) where
   offered : (x : Conn) (n epoch : ℕ) (env : NodeEnv) → IsNodeEnv k x.c n epoch env → (known : Known k.files x) (h : NamesNodes N k.files x) (heads : List Seen) (parts : EndpointParts) → NamesNodes N k.files (grown x (node_does x n heads (node_offered env (x.part.nodes n) parts)))
   offered x n epoch env is known h heads parts =
       let p : NodePart = x.part.nodes n in
-      let d : node.Deed = node_offered env p parts in
+      let d : node.NodeDeed = node_offered env p parts in
       let all : ◌≡◌ {A = FilesAt × ℕ × ℕ} (env.serve.files, env.serve.c, env.n) (k.files, x.c, n) = λ i. (is.files i, is.number i, is.node i) in
       let follows : DeedFollows k.files env.epoch 0 [] d =
-      subst (λ (t : FilesAt × ℕ × ℕ). NodeKeeps AnyNode t.0 t.1 t.2 p → DeedFollows t.0 env.epoch 0 [] d) all (λ g. (kept.offered-keeps AnyNode env p g parts).1) (known.kept.nodes n) in
+      subst (λ (t : FilesAt × ℕ × ℕ). NodeKeepsMessages AnyNode t.0 t.1 t.2 p → DeedFollows t.0 env.epoch 0 [] d) all (λ g. (kept.offered-keeps AnyNode env p g parts).1) (known.kept.nodes n) in
       node-move N k.files x known.facts h n heads d (begins-fit N k.files x known.facts h n env.epoch d (offered-idle env parts p (offer_answer env.epoch p.row) refl) follows)
 
   -- its end is acknowledged: nothing is here
@@ -127,7 +127,7 @@ module _ (N : ℕ → Type 0) (k : Setting) where
       let p : NodePart = x.part.nodes n in
       let q : NodePart = record p { row = node.gone p.row; kept = without kind.Ended 0 p.kept } in
       node-move N k.files x known.facts h n heads (node_acknowledged env p)
-      (cond_both (awaits_ack env.epoch p.row) (node.Does (q, saying [])) node.Drops (DeedFits N k.files x known.facts h n) (λ t e b s r at row stay rest answered. absurd (none p.row e b row)) (λ t. tt)) where
+      (cond_both (awaits_ack env.epoch p.row) (node.Does (q, node_saying [])) node.Drops (DeedFits N k.files x known.facts h n) (λ t e b s r at row stay rest answered. absurd (none p.row e b row)) (λ t. tt)) where
         none : (o : Option BackRow) (e : ℕ) (b : _) → node.gone o ≡ Some (record { stage = back.Here b; epoch = record { 0 = e } }) → ⊥
         none None e b is = cc
         none (Some row) e b is = let no : true ≡ false = ap (λ (o : Option BackRow). elim o [ None ↦ true | Some row ↦ is_gone row.stage ]) is in cc
@@ -168,12 +168,12 @@ module _ (config : Config) (files : List (List ℕ × List ℕ)) (checked : conf
   Inv x = Untouched (NamesNodes N (file_at files)) x
 
   abbrev All : Conn → Move → Type 0
-  All x v = (IsNumber x.c × Moves N (setting config files) x v) × Fills x (grown x v) × Names N x (grown x v)
+  All x v = (IsConnNumber x.c × Moves N (setting config files) x v) × Fills x (grown x v) × Names N x (grown x v)
 
-  filling : (x y : Conn) → Fills x y → Names N x y → view.Goes (λ x v. IsNumber x.c × Moves N (setting config files) x v) x y → view.Goes All x y
+  filling : (x y : Conn) → Fills x y → Names N x y → view.GoesBy (λ x v. IsConnNumber x.c × Moves N (setting config files) x v) x y → view.GoesBy All x y
   filling x y fills names goes = ⊎_elim
       (λ (same : y ≡ x). inl same)
-      (λ (k : (v : Move) × (IsNumber x.c × Moves N (setting config files) x v) × (y ≡ grown x v)). inr (k.0, (k.1, subst (Fills x) k.2 fills, subst (Names N x) k.2 names), k.2))
+      (λ (k : (v : Move) × (IsConnNumber x.c × Moves N (setting config files) x v) × (y ≡ grown x v)). inr (k.0, (k.1, subst (Fills x) k.2 fills, subst (Names N x) k.2 names), k.2))
       goes
 
   pub known-of : (m : Machine) → IsReached config files m → (q : ℕ) → (tale_at (conn m q)).touched ≡ false → Known (file_at files) (conn m q)
@@ -195,14 +195,14 @@ module _ (config : Config) (files : List (List ℕ × List ℕ)) (checked : conf
     names : Names N (conn m q) (conn n q)
     names = subst (λ (c : Config). Names (IsNode c.nodes) (conn m q) (conn n q)) counted.config_is (step-names m n counted.sound e after is on.view.told q)
 
-    goes-so : view.Goes All (conn m q) (conn n q)
+    goes-so : view.GoesBy All (conn m q) (conn n q)
     goes-so = filling (conn m q) (conn n q) (step-fills m n e after is on.view.told q) names (goes-on config files (Moves N (setting config files)) (rules N (setting config files)) m n e on rule is q)
 
     stays : Inv (conn n q)
     stays = gone Inv All (conn m q) (conn n q) (known q)
         (λ v h untouched. let before : (tale_at (conn m q)).touched ≡ false = untouched-before (conn m q) v untouched in h.0.1 (known-of m on.reached q before) h.1 h.2 (known q before)) goes-so
 
-  start-named : IsKnownOf (start config files)
+  start-named : IsKnownOf (machine_start config files)
   start-named q = subst Inv (sym (start-blank config files q)) (λ untouched. record { nodes = λ r is. let no : None ≡ Some r = is in absurd cc; fits = λ n e b s r at. let no : false ≡ true = at in absurd cc })
 
   pub each-named : (m : Machine) → IsReached config files m → (q : ℕ) → Inv (conn m q)

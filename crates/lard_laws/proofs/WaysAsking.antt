@@ -13,7 +13,7 @@ use Rattle.lard_law_view.proofs.Rows.{move-lawful, tale_before, tale_said}
 use Rattle.lard_law_view.proofs.Saying.{GaveAt, NotedAt}
 use Rattle.lard_law_view.proofs.Timers.{IsTimerAt, timer_rows-are}
 use Rattle.lard_laws.specs.WaysState.{marks_at, marks_of}
-use Rattle.lard_laws.specs.Ways.{BodyGoesOn, Marks}
+use Rattle.lard_laws.specs.Ways.{BodyGoesOn, WayMarks}
 use Rattle.lard_laws.proofs.WaysMarking.{marked, noted-marks, said-marks}
 use Rattle.lard_laws.proofs.WaysMoving.{AskTo, AsksBy, LetterAsks}
 use Rattle.lard_history.specs.Journal.{Tale, tale_step, told_on}
@@ -85,7 +85,7 @@ module _ (files : FilesAt) (x : Conn) where
   sent-may (Node n) t (s ∷ ss) h = (h.0, sent-may (Node n) (tale_step x.c t (sending (Node n) s)) ss h.1)
   sent-may (Client d) t (s ∷ ss) h = (tt, sent-may (Client d) (tale_step x.c t (sending (Client d) s)) ss tt)
 
-  both-ask : (m : Marks) (place : Place) (xs ys : List Letter) → AsksBy files m x place (xs ++ ys) → AsksBy files m x place xs × AsksBy files m x place ys
+  both-ask : (m : WayMarks) (place : Place) (xs ys : List Letter) → AsksBy files m x place (xs ++ ys) → AsksBy files m x place xs × AsksBy files m x place ys
   both-ask m Front xs ys h = (tt, tt)
   both-ask m (Client d) xs ys h = (tt, tt)
   both-ask m (Node n) xs ys h = go xs h where
@@ -102,9 +102,9 @@ module _ (files : FilesAt) (x : Conn) where
         let ms : List Letter = map (letter v.place) v.said.messages in
         let parts = both-ask (marked (marks_at x) v.said.notes) v.place ss ms h in
         move-lawful MayRow x v (heads-may x.seen v.heads heads) (notes-may v.place (tale_before x v) v.said.notes own.notes)
-        (sent-may v.place (told_on x.c (tale_before x v) v.said.notes) v.said.segments (subst (λ (m : Marks). AsksBy files m x v.place ss) (sym (noted-marks files x v own heads)) parts.0))
+        (sent-may v.place (told_on x.c (tale_before x v) v.said.notes) v.said.segments (subst (λ (m : WayMarks). AsksBy files m x v.place ss) (sym (noted-marks files x v own heads)) parts.0))
         (gave-may v.place _ v.said.gave own.gave)
-        (sent-may v.place (tale_said x v (tale_before x v)) v.said.messages (subst (λ (m : Marks). AsksBy files m x v.place ms) (sym (said-marks files x v own heads)) parts.1))
+        (sent-may v.place (tale_said x v (tale_before x v)) v.said.messages (subst (λ (m : WayMarks). AsksBy files m x v.place ms) (sym (said-marks files x v own heads)) parts.1))
         (timers-may v.place _ (timer_rows v.place x.c x.part v.part) (timer_rows-are v.place x.c x.part v.part))
 
   -- ---- what was sent before the move was seen

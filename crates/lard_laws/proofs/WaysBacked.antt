@@ -18,8 +18,8 @@ use Rattle.lard_endpoint.specs.Leaving.{after_timer, timed}
 use Rattle.lard_handoff_back.specs.declared.row.BackRow.{BackRow}
 use Rattle.lard_handoff_back.specs.declared.table.Adopt.{Adopt}
 use Rattle.lard_handoff_back.specs.declared.table.Adopt.TheVariants.{New, Again, Stale}
-use Rattle.lard_handoff_back.specs.Back.{awaits_ack, endpoint_of, offer_answer, staying}
-use Rattle.lard_handoff_back.specs.Row.{held_in}
+use Rattle.lard_handoff_back.specs.Back.{awaits_ack, back_endpoint, offer_answer, staying}
+use Rattle.lard_handoff_back.specs.Row.{back_held}
 use Rattle.lard_history.specs.Own.{Came, Has, Row, Seen}
 use Rattle.lard_history.proofs.Each.{Each}
 use Rattle.lard_history.proofs.Seeing.{has-before}
@@ -33,14 +33,14 @@ use Rattle.lard_rules.specs.declared.stay.Entry.{Entry}
 use Rattle.lard_rules.specs.declared.stay.Progress.{Progress}
 use Rattle.lard_rules.specs.declared.stay.Progress.TheVariants as progress
 use Rattle.lard_rules.specs.declared.stay.Stay.{Stay}
-use Rattle.lard_rules.specs.Node.{Deed, Drops, Says, Does, NodePart, again_sent, begins, both_of, come_by, fired_by, gone, heard_by, is_awaited, kept_after, node_acknowledged, node_content, node_forwarded, node_offered, node_read, node_tagged, node_timer, offered_by, read_by, saying, tagged_by, taken_sent, turn_by, with_work, work_of}
+use Rattle.lard_rules.specs.Node.{NodeDeed, Drops, Says, Does, NodePart, again_sent, node_begins, both_of, come_by, node_fired_by, gone, node_heard_by, is_tag_awaited, kept_after, node_acknowledged, node_content, node_forwarded, node_offered, node_read, node_tagged, node_timer, offered_by, node_read_by, node_saying, tagged_by, taken_sent, turn_by, with_work, work_of}
 use Rattle.lard_rules.specs.Stay.{NodeEnv, Work, came_for, come_progress, goes_on, read_progress, reads_batch, tagged}
 use Rattle.lard_resend.specs.Kept.{is_under, without}
 use Rattle.lard_rules.specs.declared.places.Ending.{Ending}
 use Rattle.lard_rules.specs.declared.places.Ending.TheVariants as ending
 use Rattle.lard_rules.specs.declared.places.Turn.{Turn}
 use Rattle.lard_rules.specs.Loop.{state_of}
-use Rattle.lard_rules.specs.Serving.{Service, ready_of, serving, settled, spoken}
+use Rattle.lard_rules.specs.Serving.{Service, serving_ready_of, serving, serving_settled, spoken}
 use Rattle.lard_segment.specs.declared.fault.SegFault.{SegFault}
 use Rattle.lard_segment.specs.Segment.{Said}
 
@@ -114,7 +114,7 @@ module _ (n c : ℕ) where
     pub row : (later : List Seen) → ((e : ℕ) → Has (rec.Took (Node n) c (record { 0 = e })) t.notes → TookIn (past ++ later) e) → RowTook (past ++ later) p.row
     pub notes : Each (IsNoted (WasThere past n c)) t.notes
 
-  abbrev pub DeedThere : List Seen → Deed → Type 0
+  abbrev pub DeedThere : List Seen → NodeDeed → Type 0
   DeedThere past Drops = Unit {0}
   DeedThere past (Says ms) = Unit {0}
   DeedThere past (Does given) = TurnThere past given.0 given.1
@@ -155,7 +155,7 @@ module _ (env : NodeEnv) (past : List Seen) where
 
   works-there : (p : NodePart) (before : List (Place × List ℕ)) (w : Work) → Goes w → TookIn n c past env.epoch → DeedThere n c past (with_work env p before w)
   works-there p before w h took =
-      ends-there p before w (settled env.serve w.service) (settled-served env.serve w.service) (settled-is env.serve w.service).notes h.batch h.notes.0 (took-before (settled env.serve w.service).1.notes took)
+      ends-there p before w (serving_settled env.serve w.service) (settled-served env.serve w.service) (settled-is env.serve w.service).notes h.batch h.notes.0 (took-before (serving_settled env.serve w.service).1.notes took)
 
   fresh : (b : ControlBlock) (s : Stay) → AreBacked B (s.served + 1) s.batch → Goes (work_of b s)
   fresh b s h = record { batch = h; notes = (tt, tt) }
@@ -175,25 +175,25 @@ module _ (env : NodeEnv) (past : List Seen) where
 
       at-epoch : (q : Option BackRow) → RowTook n c past q → P (both_of (staying env.epoch q) p.stay)
       at-epoch None h = none
-      at-epoch (Some row) h = cond_both (row.epoch.0 == env.epoch) (held_in row.stage) None (λ o. P (both_of o p.stay)) (λ t. of-both (held_in row.stage) (subst (TookIn n c past) (eqb-true row.epoch.0 env.epoch t) h)) (λ t. none)
+      at-epoch (Some row) h = cond_both (row.epoch.0 == env.epoch) (back_held row.stage) None (λ o. P (both_of o p.stay)) (λ t. of-both (back_held row.stage) (subst (TookIn n c past) (eqb-true row.epoch.0 env.epoch t) h)) (λ t. none)
 
-      at-endpoint : (q : Option BackRow) → RowTook n c past q → env.epoch ≡ (elim q as (λ o. ℕ) [ None ↦ 0 | Some row ↦ row.epoch.0 ]) → P (both_of (endpoint_of q) p.stay)
+      at-endpoint : (q : Option BackRow) → RowTook n c past q → env.epoch ≡ (elim q as (λ o. ℕ) [ None ↦ 0 | Some row ↦ row.epoch.0 ]) → P (both_of (back_endpoint q) p.stay)
       at-endpoint None h is = none
-      at-endpoint (Some row) h is = of-both (held_in row.stage) (subst (TookIn n c past) (sym is) h)
+      at-endpoint (Some row) h is = of-both (back_held row.stage) (subst (TookIn n c past) (sym is) h)
 
-    abbrev IsThere : Deed → Type 0
+    abbrev IsThere : NodeDeed → Type 0
     IsThere d = DeedThere n c past d
 
     pub forwarded-there : (given : Result Said SegFault) → IsThere (node_forwarded env p given)
     forwarded-there (Err fault) = tt
-    forwarded-there (Ok s) = at-epoch (λ y. IsThere (heard_by env p (Ok s) y)) tt (λ y took h. works-there p [] (goes_on env (work_of (on_segment y.0 s).1 y.1)) (goes (work_of (on_segment y.0 s).1 y.1) (fresh (on_segment y.0 s).1 y.1 h)) took) p.row held.row
+    forwarded-there (Ok s) = at-epoch (λ y. IsThere (node_heard_by env p (Ok s) y)) tt (λ y took h. works-there p [] (goes_on env (work_of (on_segment y.0 s).1 y.1)) (goes (work_of (on_segment y.0 s).1 y.1) (fresh (on_segment y.0 s).1 y.1 h)) took) p.row held.row
 
     pub tagged-there : (number : ℕ) (nodes : List ℕ) → IsThere (node_tagged env p number nodes)
     tagged-there number nodes = at-epoch (λ y. IsThere (tagged_by env number nodes p y)) tt
         (λ y took h.
         let q : NodePart = record p { kept = without timer.Ask 0 p.kept } in
         let w : Work = tagged env nodes (work_of y.0 y.1) in
-        cond_both (is_awaited env number nodes p y.1) (with_work env q [] (goes_on env w)) Drops IsThere
+        cond_both (is_tag_awaited env number nodes p y.1) (with_work env q [] (goes_on env w)) Drops IsThere
         (λ t. works-there q [] (goes_on env w) (goes w (tagged-backed B Quiet (λ ns r h. tt) env (λ r. tt) (λ r. tt) nodes (work_of y.0 y.1) (fresh y.0 y.1 h))) took) (λ t. tt))
         p.row held.row
 
@@ -215,7 +215,7 @@ module _ (env : NodeEnv) (past : List Seen) where
 
     -- a job was read
     pub read-there : (r : ℕ) → (TookIn n c past env.epoch → WasRead past n c r) → IsThere (node_read env p r)
-    read-there r was = at-epoch (λ y. IsThere (read_by env r p y)) tt
+    read-there r was = at-epoch (λ y. IsThere (node_read_by env r p y)) tt
         (λ y took h.
         let w : Work = came_for read_progress r (work_of y.0 y.1) in
         works-there p [] (goes_on env w) (goes w (came-backed B Quiet (λ ns r h. tt) read_progress r (work_of y.0 y.1) (comes (was took)) (fresh y.0 y.1 h))) took)
@@ -236,11 +236,11 @@ module _ (env : NodeEnv) (past : List Seen) where
 
       go : (a : Adopt) → IsThere (offered_by env parts p a)
       go New =
-          let w : Work = state_of (reads_batch env true (begins env parts)) in
-          let all : GoesBacked B Taking more (goes_on env w) = goes-backed B Taking more env (λ r. tt) (λ r. tt) w (read-backed B Taking more env (λ r. tt) (λ r. tt) true (begins env parts) (record { batch = tt; notes = ((tt, tt), inl refl) })) in
+          let w : Work = state_of (reads_batch env true (node_begins env parts)) in
+          let all : GoesBacked B Taking more (goes_on env w) = goes-backed B Taking more env (λ r. tt) (λ r. tt) w (read-backed B Taking more env (λ r. tt) (λ r. tt) true (node_begins env parts) (record { batch = tt; notes = ((tt, tt), inl refl) })) in
           let s : Service = (goes_on env w).service in
           let same = (settled-is env.serve s).notes in
-          ends-there p (taken_sent env) (goes_on env w) (settled env.serve s) (settled-served env.serve s) same all.batch all.notes.0 (λ later k. k env.epoch (subst Taking (sym same) all.notes.1))
+          ends-there p (taken_sent env) (goes_on env w) (serving_settled env.serve s) (settled-served env.serve s) same all.batch all.notes.0 (λ later k. k env.epoch (subst Taking (sym same) all.notes.1))
       go Again = tt
       go Stale = tt
 
@@ -251,12 +251,12 @@ module _ (env : NodeEnv) (past : List Seen) where
     pub acknowledged-there : IsThere (node_acknowledged env p)
     acknowledged-there =
         let q : NodePart = record p { row = gone p.row; kept = without timer.Ended 0 p.kept } in
-        cond_both (awaits_ack env.epoch p.row) (Does (q, saying [])) Drops IsThere (λ t. record { stay = held.stay; row = λ later k. gone-took later p.row held.row; notes = tt }) (λ t. tt)
+        cond_both (awaits_ack env.epoch p.row) (Does (q, node_saying [])) Drops IsThere (λ t. record { stay = held.stay; row = λ later k. gone-took later p.row held.row; notes = tt }) (λ t. tt)
 
     pub fires-there : env.epoch ≡ (elim p.row as (λ o. ℕ) [ None ↦ 0 | Some row ↦ row.epoch.0 ]) → IsThere (node_timer env p)
-    fires-there is = at-endpoint (λ y. IsThere (fired_by env p y)) tt
+    fires-there is = at-endpoint (λ y. IsThere (node_fired_by env p y)) tt
         (λ y took h.
         let v : Service = serving (after_timer y.0) y.1.served [] in
-        let before = ready_of env.serve (after_timer y.0) (timed y.0) in
+        let before = serving_ready_of env.serve (after_timer y.0) (timed y.0) in
         ends-there p (again_sent p) (work_of (after_timer y.0) y.1) (spoken env.serve v before) (spoken-served env.serve v before) refl h tt (took-before [] took))
         p.row held.row is

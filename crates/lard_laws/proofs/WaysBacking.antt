@@ -14,11 +14,11 @@ use Rattle.lard_rules.specs.declared.stay.Next.{Next}
 use Rattle.lard_rules.specs.declared.stay.Next.TheVariants as next
 use Rattle.lard_rules.specs.declared.stay.Progress.{Progress}
 use Rattle.lard_rules.specs.declared.stay.Progress.TheVariants as progress
-use Rattle.lard_rules.specs.Stay.{NodeEnv, Work, asks_for, came_for, come_on, entered, enters, enters_first, enters_one, goes_on, left, named_path, named_paths, next_of, progress_of, read_entry, reads_batch, reads_these, serves_by, serves_first, serves_with, started, started_here, started_there, starts_at, starts_named, starts_one, tagged, turn, turned}
+use Rattle.lard_rules.specs.Stay.{NodeEnv, Work, asks_for, came_for, come_on, entered, enters, enters_first, enters_one, goes_on, work_left, named_path, named_paths, next_of, progress_of, read_entry, reads_batch, reads_these, serves_by, serves_first, serves_with, started, started_here, started_there, starts_at, starts_named, starts_one, tagged, stay_turn, turned}
 use Rattle.lard_reader.specs.Batches.{batch_of, bytes_used}
 use Rattle.lard_request.specs.declared.verdict.Verdict.{Verdict}
 use Rattle.lard_rules.specs.Loop.{Step, More, Done, state_of}
-use Rattle.lard_rules.specs.Serving.{Service, consumed, passed_over, queued}
+use Rattle.lard_rules.specs.Serving.{Service, serving_consumed, passed_over, queued}
 use Rattle.lard_rules.proofs.Runs.{runs_keep}
 
 -- B is so of a request and its way
@@ -119,10 +119,10 @@ module _ (B : ℕ → Via → Type 0) where
       StepBacked (Done w) = GoesBacked w
 
       these-backed : (here : Bool) (used : ℕ) (w : Work) (vs : List Verdict) → GoesBacked w → StepBacked (reads_these env here used w vs)
-      these-backed here used w [] h = cond_both (consumed used w.service).block.recv.fin (record (consumed used w.service) { block = finishing (consumed used w.service).block }) (consumed used w.service) (λ (s : Service). GoesBacked (record w { service = s }))
+      these-backed here used w [] h = cond_both (serving_consumed used w.service).block.recv.fin (record (serving_consumed used w.service) { block = finishing (serving_consumed used w.service).block }) (serving_consumed used w.service) (λ (s : Service). GoesBacked (record w { service = s }))
           (λ t. record { batch = h.batch; notes = h.notes }) (λ t. record { batch = h.batch; notes = h.notes })
       these-backed here used w (v ∷ vs) h =
-          let rest : Work = record w { service = consumed used w.service } in
+          let rest : Work = record w { service = serving_consumed used w.service } in
           let all : Work = enters env here (w.service.count + 1) (v ∷ vs) rest in
           asks-backed (length (v ∷ vs)) (named_paths files all.batch) all (enters-backed here (w.service.count + 1) (v ∷ vs) rest (record { batch = h.batch; notes = h.notes }))
 
@@ -157,7 +157,7 @@ module _ (B : ℕ → Via → Type 0) where
       turned-backed w next.Stop h = h
 
       pub goes-backed : (w : Work) → GoesBacked w → GoesBacked (goes_on env w)
-      goes-backed w h = runs_keep (turn env) left GoesBacked (record {
+      goes-backed w h = runs_keep (stay_turn env) work_left GoesBacked (record {
         more = λ y z e p. subst StepBacked e (turned-backed y (next_of y) p);
         done = λ y z e p. subst StepBacked e (turned-backed y (next_of y) p);
       }) w h

@@ -8,12 +8,12 @@ use Rattle.lard_base.specs.declared.event.Event.{Event}
 use Rattle.lard_base.specs.declared.event.Event.TheVariants as event
 use Rattle.lard_base.specs.declared.place.Place.{Place}
 use Rattle.lard_base.specs.declared.place.Place.TheVariants.{Client, Front, Node}
-use Rattle.lard_cache.specs.Recency.{has}
+use Rattle.lard_cache.specs.Recency.{has_path}
 use Rattle.lard_rules.specs.declared.fault.StepFault.{StepFault}
 use Rattle.lard_rules.specs.declared.fault.Refusal.TheVariants.{WasLost}
 use Rattle.lard_rules.specs.declared.fault.StepFault.TheVariants.{Refused}
 use Rattle.lard_rules.specs.declared.machine.Machine.{Machine}
-use Rattle.lard_rules.specs.Machine.{delivered, happens, limit_reached, machine_step, node_acts, node_at, node_gave, node_setting, passed, segments_sent, to_place, told, unless_limit}
+use Rattle.lard_rules.specs.Machine.{delivered, happens, limit_reached, machine_step, node_acts, node_at, node_gave, node_setting, passed, segments_sent, to_place, machine_told, unless_limit}
 use Rattle.lard_law_connections.proofs.StoresCalm.{first_rows, last_rows, told-journal}
 use Rattle.lard_law_view.specs.View.{IsViewed}
 use Rattle.lard_law_view.proofs.Saying.{GaveAt, NamesAll, NotedAt, note-of}
@@ -159,7 +159,7 @@ module _ (m : Machine) where
 
   -- a place acts
   pub told-good : (w : Machine) (e : Event) (place : Place) (o : Out) → w.journal ≡ m.journal → Each IsPlain o.notes → Each IsPlain (sent_records (length w.net + 1) place o.segments) → Each IsPlain o.gave
-      → Each (may_in (all_rows w e place o)) (sent_records (length (segments_sent w place o) + 1) place o.messages) → Each IsPlain o.timers → Good (told w e (behind e) place o)
+      → Each (may_in (all_rows w e place o)) (sent_records (length (segments_sent w place o) + 1) place o.messages) → Each IsPlain o.timers → Good (machine_told w e (behind e) place o)
   told-good w e place o same notes segments gave messages timers =
       let rows : List Rec = all_rows w e place o in
       let P : Rec → Type 0 = may_in rows in
@@ -193,7 +193,7 @@ module _ (m : Machine) where
 
     -- it answers out of its cache, or queues a job
     answered-good : (s : NodeState) → GoodFor (aside s (fetched_file ks s from c epoch r path))
-    answered-good s = cond_both (has s.cache.entries path) _ _ (λ (t : NodeTurn). GoodFor (aside s t))
+    answered-good s = cond_both (has_path s.cache.entries path) _ _ (λ (t : NodeTurn). GoodFor (aside s t))
         (λ hit. gave-good _ _ (tt, tt) tt tt
         ((
           λ content. record {

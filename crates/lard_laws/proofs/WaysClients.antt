@@ -11,14 +11,14 @@ use Rattle.lard_law_view.specs.View.{ClientRules, Conn, Move, Part, Setting, cli
 use Rattle.lard_law_view.proofs.Saying.{NotedAt}
 use Rattle.lard_laws.specs.WaysState.{IsAway, IsPlacedOnce, LetterWays, SeatWays, StageWays, StayWays, marks_at}
 use Rattle.lard_laws.specs.WaysUnder.{Assigned}
-use Rattle.lard_laws.specs.Ways.{Marks, good_paths, paths_answered}
+use Rattle.lard_laws.specs.Ways.{WayMarks, good_paths, paths_answered}
 use Rattle.lard_laws.proofs.WaysGoods.{answered-grow, wanted-grow}
 use Rattle.lard_laws.proofs.WaysLetters.{IsSame, assigned-same, carries-same}
 use Rattle.lard_laws.proofs.WaysMarking.{Rightly, marked}
 use Rattle.lard_laws.proofs.WaysMoving.{Keeps, makes}
 use Rattle.lard_laws.proofs.WaysNodeRules.{Owes}
 use Rattle.lard_rules.specs.declared.front.FrontRest.{FrontRest}
-use Rattle.lard_rules.specs.Front.{rest_of}
+use Rattle.lard_rules.specs.Front.{front_rest}
 use Rattle.lard_handoff_front.specs.declared.row.FrontConn.{FrontConn}
 use Rattle.lard_handoff_front.specs.declared.row.FrontConn.TheVariants as stage
 use Rattle.lard_handoff_front.specs.declared.row.FrontRow.{FrontRow}
@@ -37,15 +37,15 @@ use Rattle.lard_segment.specs.Segment.{decoded}
 
 -- ---- it writes on
 
-abbrev more_of : Marks → List ℕ → Marks
+abbrev more_of : WayMarks → List ℕ → WayMarks
 more_of m z = record m { wrote = m.wrote ++ z }
 
-record Writes (files : FilesAt) (m : Marks) (rs : List Rec) : Type 0 where
+record Writes (files : FilesAt) (m : WayMarks) (rs : List Rec) : Type 0 where
   more : List ℕ
   told : marked m rs ≡ more_of m more
   notes : Rightly files m rs
 
-client-notes : (files : FilesAt) (e c : ℕ) (m : Marks) (rs : List Rec) → Each (NotedAt (Client e) c) rs → Writes files m rs
+client-notes : (files : FilesAt) (e c : ℕ) (m : WayMarks) (rs : List Rec) → Each (NotedAt (Client e) c) rs → Writes files m rs
 client-notes files e c m [] h = record { more = []; told = ap (λ (l : List ℕ). record m { wrote = l }) (sym (append-nil m.wrote)); notes = tt }
 client-notes files e c m (rec.Wrote d bytes ∷ rs) h =
     let later = client-notes files e c (more_of m bytes) rs h.1 in
@@ -57,9 +57,9 @@ client-notes files e c m (_ ∷ rs) h = absurd h.0
 
 -- ---- what was answered is as it was
 
-module _ (files : FilesAt) (m : Marks) (z : List ℕ) (same : paths_answered files (more_of m z) ≡ paths_answered files m) (p : Part) where
+module _ (files : FilesAt) (m : WayMarks) (z : List ℕ) (same : paths_answered files (more_of m z) ≡ paths_answered files m) (p : Part) where
   abbrev r : FrontRest
-  r = rest_of p.front.rest
+  r = front_rest p.front.rest
 
   stay-more : (home : ℕ) (o : Option Stay) → StayWays files home m r o → StayWays files home (more_of m z) r o
   stay-more home None h = tt
@@ -95,7 +95,7 @@ served-within files x h = go x.part.station h.agrees where
 
 -- ---- a move of the client
 
-client-says : (files : FilesAt) (m : Marks) (p : Part) (c : ℕ) (ss : List (Place × List ℕ)) → Each (LetterWays files m p) (map (letter (Client c)) ss)
+client-says : (files : FilesAt) (m : WayMarks) (p : Part) (c : ℕ) (ss : List (Place × List ℕ)) → Each (LetterWays files m p) (map (letter (Client c)) ss)
 client-says files m p c [] = tt
 client-says files m p c (s ∷ ss) = (tt, client-says files m p c ss)
 
@@ -104,16 +104,16 @@ client_move x heads notes segments s = record { place = Client x.c; heads = head
 
 client-makes : (files : FilesAt) (x : Conn) (heads : List Seen) (notes : List Rec) (segments : List (Place × List ℕ)) (s : Station) → IsTruthful files x → Keeps files x (client_move x heads notes segments s)
 client-makes files x heads notes segments s h help g =
-    let m : Marks = marks_at x in
+    let m : WayMarks = marks_at x in
     let v : Move = client_move x heads notes segments s in
     let w : Writes files m notes = client-notes files x.c x.c m notes help.own.notes in
-    let n : Marks = more_of m w.more in
+    let n : WayMarks = more_of m w.more in
     let same : paths_answered files n ≡ paths_answered files m = ap (good_paths files) (answered-grow m.served m.wrote w.more (served-within files x h)) in
     let is : IsSame files m n = record { assigned = refl; wanted = wanted-grow files m.wrote w.more } in
     makes files x v help g n w.notes w.told (assigned-same files m n is g.paths) (seat-more files m w.more same x.part x.part.front.row g.seat)
     (carries-same files m n is x.part v.part help.owes.grows refl refl (λ i e ps c d a. a))
     (λ old. none-behind n v.part segments (client-says files n v.part x.c segments)) tt where
-      none-behind : (n : Marks) (q : Part) (ss : List (Place × List ℕ)) → Each (LetterWays files n q) (map (letter (Client x.c)) ss) → Each (LetterWays files n q) (map (letter (Client x.c)) ss ++ [])
+      none-behind : (n : WayMarks) (q : Part) (ss : List (Place × List ℕ)) → Each (LetterWays files n q) (map (letter (Client x.c)) ss) → Each (LetterWays files n q) (map (letter (Client x.c)) ss ++ [])
       none-behind n q [] h = tt
       none-behind n q (y ∷ ss) h = (h.0, none-behind n q ss h.1)
 

@@ -6,8 +6,8 @@ use Rattle.lard_base.specs.declared.place.Place.{Place}
 use Rattle.lard_base.specs.declared.place.Place.TheVariants.{Client, Front, Node}
 use Rattle.lard_rules.specs.declared.machine.Machine.{Machine}
 use Rattle.lard_rules.specs.Machine.{IsReached}
-use Rattle.lard_law_view.specs.Carry.{IsLaw, MayMove, OfEach, setting}
-use Rattle.lard_law_view.specs.View.{ClientRules, Conn, FrontRules, IsNodeEnv, Move, NodeRules, Rules, Setting, brought_said, conn, contents, epoch_in, event_seen, front_does, grown, named, node_does, nothing_said, packet_seen, reads_first, rows_of, seen_in, sending, stands, timer_rows}
+use Rattle.lard_law_view.specs.Carry.{IsLaw, MayRestOn, OfEach, setting}
+use Rattle.lard_law_view.specs.View.{ClientRules, Conn, FrontRules, IsNodeEnv, Move, NodeRules, Rules, Setting, brought_said, conn, content_said, epoch_in, event_seen, front_does, grown, named_records, node_does, nothing_said, packet_seen, reads_first, rows_of, seen_in, sending, stands, timer_rows}
 use Rattle.lard_law_view.specs.View as view
 use Rattle.lard_law_view.proofs.Carried.{carried}
 use Rattle.lard_law_view.proofs.Fine.{IsFine, IsItsOwn, fine}
@@ -16,7 +16,7 @@ use Rattle.lard_law_view.proofs.InSteps.{carried-records}
 use Rattle.lard_law_view.proofs.Parts.{put-each}
 use Rattle.lard_law_view.proofs.Saying.{GaveAt, NamesAll, NotedAt}
 use Rattle.lard_law_view.proofs.Timers.{IsTimerAt, timer_rows-are}
-use Rattle.lard_laws.specs.WaysBefore.{ContentsWereThere, MayBeServed, MayFollow, SawBehind, WasAt, WasThere}
+use Rattle.lard_laws.specs.WaysBefore.{ContentsWereThere, MayBeServed, MayFollow, SawBehind, WasAtPlace, WasThere}
 use Rattle.lard_laws.proofs.WaysBacked.{DeedThere, PartThere, TookIn, acknowledged-there, content-there, fires-there, forwarded-there, offered-there, part-more, read-there, stay-more, tagged-there, there-more}
 use Rattle.lard_laws.proofs.WaysBacking.{IsNoted}
 use Rattle.lard_rules.specs.Front as front
@@ -134,28 +134,28 @@ noted-row x v r h =
 -- ---- a node
 
 -- what is noted of a connection is among the records that name one
-has-named : (r : Rec) (c : ℕ) → whose r ≡ Some c → (rs : List Rec) → Has r rs → Has r (named rs)
+has-named : (r : Rec) (c : ℕ) → whose r ≡ Some c → (rs : List Rec) → Has r rs → Has r (named_records rs)
 has-named r c of [] h = absurd h
 has-named r c of (y ∷ ys) h = ⊎_elim
     (λ (e : y ≡ r).
     let some : is_some (whose y) ≡ true = ap (λ (z : Rec). is_some (whose z)) e ∙ ap (λ (o : Option ℕ). is_some o) of in
-    subst (λ (b : Bool). Has r (cond b (y ∷ named ys) (named ys))) (sym some) (inl e))
+    subst (λ (b : Bool). Has r (cond b (y ∷ named_records ys) (named_records ys))) (sym some) (inl e))
     (λ (k : Has r ys). go (is_some (whose y)) (has-named r c of ys k))
     h where
-      go : (b : Bool) → Has r (named ys) → Has r (cond b (y ∷ named ys) (named ys))
+      go : (b : Bool) → Has r (named_records ys) → Has r (cond b (y ∷ named_records ys) (named_records ys))
       go true k = inr k
       go false k = k
 
-each-named : (P : Rec → Type 0) (rs : List Rec) → Each P rs → Each P (named rs)
+each-named : (P : Rec → Type 0) (rs : List Rec) → Each P rs → Each P (named_records rs)
 each-named P [] h = tt
 each-named P (y ∷ ys) h = go (is_some (whose y)) (each-named P ys h.1) where
-  go : (b : Bool) → Each P (named ys) → Each P (cond b (y ∷ named ys) (named ys))
+  go : (b : Bool) → Each P (named_records ys) → Each P (cond b (y ∷ named_records ys) (named_records ys))
   go true k = (h.0, k)
   go false k = k
 
 module _ (x : Conn) (n : ℕ) (heads : List Seen) where
   -- what it does, where so much was seen before
-  node-holds : (d : node.Deed) (past rows step : List Seen) → DeedThere n x.c past d → HoldsThere x → (sees : (r : Rec) → Has r (node_does x n heads d).said.notes → Has (Row r) rows) → x.seen ++ step ≡ past ++ rows
+  node-holds : (d : node.NodeDeed) (past rows step : List Seen) → DeedThere n x.c past d → HoldsThere x → (sees : (r : Rec) → Has r (node_does x n heads d).said.notes → Has (Row r) rows) → x.seen ++ step ≡ past ++ rows
       → (k : ℕ) → PartThere k x.c (x.seen ++ step) ((node_does x n heads d).part.nodes k)
   node-holds node.Drops past rows step q h sees same k = part-more k x.c x.seen step (x.part.nodes k) (h k)
   node-holds (node.Says ms) past rows step q h sees same k = part-more k x.c x.seen step (x.part.nodes k) (h k)
@@ -166,23 +166,23 @@ module _ (x : Conn) (n : ℕ) (heads : List Seen) where
       let mine : PartThere n x.c now given.0 = subst (λ (s : List Seen). PartThere n x.c s given.0) (sym same) (record { row = q.row rows took; stay = stay-more n x.c past rows given.0.stay q.stay }) in
       put-each x.part.nodes n given.0 (λ m p. PartThere m x.c now p) mine (λ m other. part-more m x.c x.seen step (x.part.nodes m) (h m)) k
 
-  node-notes : (d : node.Deed) (past : List Seen) → DeedThere n x.c past d → Each (NotedAt (Node n) x.c) (node_does x n heads d).said.notes → Each (RowAt x.c past) (node_does x n heads d).said.notes
+  node-notes : (d : node.NodeDeed) (past : List Seen) → DeedThere n x.c past d → Each (NotedAt (Node n) x.c) (node_does x n heads d).said.notes → Each (RowAt x.c past) (node_does x n heads d).said.notes
   node-notes node.Drops past q own = tt
   node-notes (node.Says ms) past q own = tt
-  node-notes (node.Does given) past q own = notes-at n x.c past (named given.1.notes) own (each-named (IsNoted (WasThere past n x.c)) given.1.notes q.notes)
+  node-notes (node.Does given) past q own = notes-at n x.c past (named_records given.1.notes) own (each-named (IsNoted (WasThere past n x.c)) given.1.notes q.notes)
 
-  node-place : (d : node.Deed) → (node_does x n heads d).place ≡ Node n
+  node-place : (d : node.NodeDeed) → (node_does x n heads d).place ≡ Node n
   node-place node.Drops = refl
   node-place (node.Says ms) = refl
   node-place (node.Does given) = refl
 
-  node-heads : (d : node.Deed) → (node_does x n heads d).heads ≡ heads
+  node-heads : (d : node.NodeDeed) → (node_does x n heads d).heads ≡ heads
   node-heads node.Drops = refl
   node-heads (node.Says ms) = refl
   node-heads (node.Does given) = refl
 
   -- a rule of it
-  node-owes : (d : node.Deed) → DeedThere n x.c (x.seen ++ heads) d → EachRow (MayFollow x.c) x.seen heads → Owes x (node_does x n heads d)
+  node-owes : (d : node.NodeDeed) → DeedThere n x.c (x.seen ++ heads) d → EachRow (MayFollow x.c) x.seen heads → Owes x (node_does x n heads d)
   node-owes d q seen its h =
       let v : Move = node_does x n heads d in
       let past : List Seen = x.seen ++ heads in
@@ -194,7 +194,7 @@ module _ (x : Conn) (n : ℕ) (heads : List Seen) where
       )
 
   -- with the record of its job in front
-  read-owes : (r : Rec) → ((past : List Seen) → MayFollow x.c past r) → (d : node.Deed) → DeedThere n x.c (x.seen ++ Row r ∷ []) d → heads ≡ [] → Owes x (reads_first r (node_does x n heads d))
+  read-owes : (r : Rec) → ((past : List Seen) → MayFollow x.c past r) → (d : node.NodeDeed) → DeedThere n x.c (x.seen ++ Row r ∷ []) d → heads ≡ [] → Owes x (reads_first r (node_does x n heads d))
   read-owes r plain_row d q none its h =
       let v : Move = node_does x n heads d in
       let past : List Seen = x.seen ++ Row r ∷ [] in
@@ -229,7 +229,7 @@ module _ (k : Setting) where
   others : (x : Conn) (v : Move) → v.part.nodes ≡ x.part.nodes → NamesAll v.place → EachRow (MayFollow x.c) x.seen v.heads → Owes x v
   others x v same names heads its h = (subst (λ (nodes : ℕ → NodePart). (n : ℕ) → PartThere n x.c (x.seen ++ seen_in x v) (nodes n)) (sym same) (more-there x v h), other-rows x v its names heads)
 
-  front-owes : (x : Conn) (heads : List Seen) (d : front.Deed) → EachRow (MayFollow x.c) x.seen heads → Owes x (front_does x heads d)
+  front-owes : (x : Conn) (heads : List Seen) (d : front.FrontDeed) → EachRow (MayFollow x.c) x.seen heads → Owes x (front_does x heads d)
   front-owes x heads front.Drops seen = others x (front_does x heads front.Drops) refl tt seen
   front-owes x heads (front.Says turn) seen = others x (front_does x heads (front.Says turn)) refl tt seen
   front-owes x heads (front.Does did) seen = others x (front_does x heads (front.Does did)) refl tt seen
@@ -258,12 +258,12 @@ module _ (k : Setting) where
   }
 
   -- a rule of a node, whose number and connection are those of the rule
-  by-node : (x : Conn) (n epoch : ℕ) (env : NodeEnv) → IsNodeEnv k x.c n epoch env → (past : List Seen) (d : node.Deed) → (PartThere env.n env.serve.c past (x.part.nodes n) → DeedThere env.n env.serve.c past d) → PartThere n x.c past (x.part.nodes n) → DeedThere n x.c past d
+  by-node : (x : Conn) (n epoch : ℕ) (env : NodeEnv) → IsNodeEnv k x.c n epoch env → (past : List Seen) (d : node.NodeDeed) → (PartThere env.n env.serve.c past (x.part.nodes n) → DeedThere env.n env.serve.c past d) → PartThere n x.c past (x.part.nodes n) → DeedThere n x.c past d
   by-node x n epoch env is past d rule h =
       subst (λ (i : ℕ). DeedThere i x.c past d) is.node (subst (λ (j : ℕ). DeedThere env.n j past d) is.number
       (rule (subst (λ (i : ℕ). PartThere i env.serve.c past (x.part.nodes n)) (sym is.node) (subst (λ (j : ℕ). PartThere n j past (x.part.nodes n)) (sym is.number) h))))
 
-  owes : (x : Conn) (n epoch : ℕ) (env : NodeEnv) → IsNodeEnv k x.c n epoch env → (heads : List Seen) (d : node.Deed) → (PartThere env.n env.serve.c (x.seen ++ heads) (x.part.nodes n) → DeedThere env.n env.serve.c (x.seen ++ heads) d) → EachRow (MayFollow x.c) x.seen heads → Owes x (node_does x n heads d)
+  owes : (x : Conn) (n epoch : ℕ) (env : NodeEnv) → IsNodeEnv k x.c n epoch env → (heads : List Seen) (d : node.NodeDeed) → (PartThere env.n env.serve.c (x.seen ++ heads) (x.part.nodes n) → DeedThere env.n env.serve.c (x.seen ++ heads) d) → EachRow (MayFollow x.c) x.seen heads → Owes x (node_does x n heads d)
   owes x n epoch env is heads d rule seen its h = node-owes x n heads d (by-node x n epoch env is (x.seen ++ heads) d rule (part-more n x.c x.seen heads (x.part.nodes n) (h n))) seen its h
 
   -- a content that came is read so by the rule
@@ -287,7 +287,7 @@ module _ (k : Setting) where
       (last-behind n env.serve.c env.epoch x.seen it (λ e. came-took (record { from = Node from; to = Node n; bytes = bytes }) (rec.Took (Node n) env.serve.c (record { 0 = env.epoch })) e))
 
   -- what a node does for another one, or not at all
-  aside : (x : Conn) (n : ℕ) (heads : List Seen) (said : view.Said) → EachRow (MayFollow x.c) x.seen heads → ((past : List Seen) → Each (RowAt x.c past) said.notes) → Owes x (stands x (Node n) heads said)
+  aside : (x : Conn) (n : ℕ) (heads : List Seen) (said : view.TurnSaid) → EachRow (MayFollow x.c) x.seen heads → ((past : List Seen) → Each (RowAt x.c past) said.notes) → Owes x (stands x (Node n) heads said)
   aside x n heads said seen notes its h = (more-there x (stands x (Node n) heads said) h, move-rows x (stands x (Node n) heads said) its seen (notes (x.seen ++ heads)))
 
   nodes : NodeRules k Owes
@@ -309,7 +309,7 @@ module _ (k : Setting) where
         (part-more n x.c x.seen (Row job ∷ []) (x.part.nodes n) (h n)))
         refl its h;
     fires = λ x s n env there is. owes x n (epoch_in (x.part.nodes n)) env is (event_seen (event.Timer (Node n) x.c)) (node_timer env (x.part.nodes n)) (λ g. fires-there env (x.seen ++ event_seen (event.Timer (Node n) x.c)) (x.part.nodes n) g is.epoch_is) (tt, tt);
-    answers = λ x n from epoch r path file bytes there spells was. aside x n (packet_seen (Node from) (Node n) bytes) (contents k n from x.c epoch r path) tt (λ past. tt);
+    answers = λ x n from epoch r path file bytes there spells was. aside x n (packet_seen (Node from) (Node n) bytes) (content_said k n from x.c epoch r path) tt (λ past. tt);
     queues = λ x n from epoch r path file bytes there spells was. aside x n (packet_seen (Node from) (Node n) bytes) (record nothing_said { notes = rec.Queued n from x.c r path ∷ [] }) tt (λ past. (λ later. tt, tt));
     brings = λ x n from epoch r path. aside x n [] (brought_said k n from x.c epoch r path) tt (λ past. (λ later. tt, tt));
   }
@@ -332,7 +332,7 @@ module _ (k : Setting) where
   IsServedSo x = HoldsThere x × EachRow (MayFollow x.c) [] x.seen
 
   abbrev Moves : Conn → Move → Type 0
-  Moves x v = MayMove Anything x → IsServedSo x → IsServedSo (grown x v)
+  Moves x v = MayRestOn Anything x → IsServedSo x → IsServedSo (grown x v)
 
   moves : (x : Conn) (v : Move) → IsFine x v × Owes x v → Moves x v
   moves x v h may so = let g = h.1 (h.0 may.number may.sound).0 so.0 in (g.0, each_row-append (MayFollow x.c) [] x.seen (seen_in x v) so.1 g.1)
@@ -346,7 +346,7 @@ some-number : (a b : ℕ) → Some a ≡ Some b → a ≡ b
 some-number a b e = cc
 
 somebody : (J : List Rec) (r : Rec) (c : ℕ) → whose r ≡ Some c → MayFollow c (own c J) (plain r) → MayBeServed J r
-somebody J (rec.Served place d r code size way) c e h = let same : d ≡ c = some-number d c e in subst (λ (q : ℕ). WasAt (own q J) place d r way) (sym same) h
+somebody J (rec.Served place d r code size way) c e h = let same : d ≡ c = some-number d c e in subst (λ (q : ℕ). WasAtPlace (own q J) place d r way) (sym same) h
 somebody J _ c e h = tt
 
 nobody : (J : List Rec) (r : Rec) → whose r ≡ None → MayBeServed J r

@@ -5,7 +5,7 @@ use Rattle.std.proofs.lemmas.List.{length-append}
 use Rattle.lard_answers.specs.Answers.{FilesAt, good_path}
 use Rattle.lard_base.specs.declared.place.Via.TheVariants as via
 use Rattle.lard_laws.specs.WaysState.{given_to}
-use Rattle.lard_laws.specs.WaysUnder.{Assigned, IsStarted, Lies, LiesGood, TakesFirst, Under}
+use Rattle.lard_laws.specs.WaysUnder.{Assigned, IsStarted, Lies, LiesGood, TakesFirstAssigned, Under}
 use Rattle.lard_laws.proofs.WaysGoods.{get-behind}
 use Rattle.lard_laws.proofs.WaysLying.{named-append, takes-lies, under-append}
 use Rattle.lard_laws.proofs.WaysMarking.{IsPlain}
@@ -211,7 +211,7 @@ module _ (env : NodeEnv) where
           named-as p at o is = ap (path_in files e) at ∙ is
 
           -- of one that started, its own assignment is the first
-          takes : (path : List ℕ) (p : Progress) → e.progress ≡ p → good_path files e.verdict ≡ Some path → path_in files e p ≡ None → (gs : List Assigned) → us ≡ gs → TakesFirst env.n path p (λ l. Under files env.n es l) gs → Later → Goal
+          takes : (path : List ℕ) (p : Progress) → e.progress ≡ p → good_path files e.verdict ≡ Some path → path_in files e p ≡ None → (gs : List Assigned) → us ≡ gs → TakesFirstAssigned env.n path p (λ l. Under files env.n es l) gs → Later → Goal
           takes path p at good none [] split t later = absurd t
           takes path p at good none (g ∷ gs) split t later =
               stay (named-as p at None none) (g ∷ []) gs split

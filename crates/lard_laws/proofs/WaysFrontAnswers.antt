@@ -14,7 +14,7 @@ use Rattle.lard_law_view.specs.Carry.{tale_at}
 use Rattle.lard_law_view.specs.View.{Conn, Move, Part, by_front, front_does, nothing_said}
 use Rattle.lard_laws.specs.WaysState.{AskIs, FrontSaysWays, GoesItsWay, IsAway, IsBy, IsPlacedOnce, LetterWays, NodeSaysWays, SeatWays, StageWays, StayAsks, StayWays, given_to, marks_at}
 use Rattle.lard_laws.specs.WaysUnder.{Assigned}
-use Rattle.lard_laws.specs.Ways.{Marks, paths_assigned, paths_wanted}
+use Rattle.lard_laws.specs.Ways.{WayMarks, paths_assigned, paths_wanted}
 use Rattle.lard_laws.proofs.WaysFronting.{front-quiet}
 use Rattle.lard_laws.proofs.WaysGoods.{front-of, next-get}
 use Rattle.lard_laws.proofs.WaysLetters.{Counts, carries-none}
@@ -25,7 +25,7 @@ use Rattle.lard_costs.specs.declared.later.LaterChoice.{LaterChoice}
 use Rattle.lard_dispatch.specs.declared.dispatch.Ask.{Ask}
 use Rattle.lard_endpoint.specs.declared.control.moving.Final.{Final}
 use Rattle.lard_rules.specs.declared.front.FrontRest.{FrontRest}
-use Rattle.lard_rules.specs.Front.{Deed, Did, Does, Drops, FrontEnv, FrontPart, Says, ack_sent, asked_by, assigned_notes, assigns, ended_by, front_asked, is_at, is_with, message, over_note, rest_of, saying, tag_sent, taken_by}
+use Rattle.lard_rules.specs.Front.{FrontDeed, Did, Does, Drops, FrontEnv, FrontPart, Says, ack_sent, asked_by, assigned_notes, assigns, front_ended_by, front_asked, is_row_at, is_with, message, over_note, front_rest, front_saying, tag_sent, taken_by}
 use Rattle.lard_handoff_front.specs.declared.row.FrontConn.{FrontConn}
 use Rattle.lard_handoff_front.specs.declared.row.FrontConn.TheVariants as stage
 use Rattle.lard_handoff_front.specs.declared.row.FrontRow.{FrontRow}
@@ -44,7 +44,7 @@ use Rattle.lard_resend.specs.Kept.{without}
 -- ---- what an Ask assigns
 
 module _ (files : FilesAt) (c : ℕ) (ask : Ask) where
-  assigned-marked : (m : Marks) (r : ℕ) (paths : List (List ℕ)) (choices : List LaterChoice) → marked m (assigned_notes c ask r paths choices) ≡ record m { assigned = m.assigned ++ given_to paths (map (λ c. c.node) choices) }
+  assigned-marked : (m : WayMarks) (r : ℕ) (paths : List (List ℕ)) (choices : List LaterChoice) → marked m (assigned_notes c ask r paths choices) ≡ record m { assigned = m.assigned ++ given_to paths (map (λ c. c.node) choices) }
   assigned-marked m r [] choices = ap (λ (l : List Assigned). record m { assigned = l }) (sym (append-nil m.assigned))
   assigned-marked m r (path ∷ paths) [] = ap (λ (l : List Assigned). record m { assigned = l }) (sym (append-nil m.assigned))
   assigned-marked m r (path ∷ paths) (choice ∷ choices) =
@@ -52,11 +52,11 @@ module _ (files : FilesAt) (c : ℕ) (ask : Ask) where
       ∙ ap (λ (l : List Assigned). record m { assigned = l }) (append_assoc m.assigned ((path, choice.node) ∷ []) (given_to paths (map (λ c. c.node) choices)))
 
   -- the paths behind those that were assigned are the next good ones
-  assigned-rightly : (m : Marks) (r : ℕ) (paths : List (List ℕ)) (choices : List LaterChoice) → IsPrefix (paths_assigned m ++ paths) (paths_wanted files m) → Rightly files m (assigned_notes c ask r paths choices)
+  assigned-rightly : (m : WayMarks) (r : ℕ) (paths : List (List ℕ)) (choices : List LaterChoice) → IsPrefix (paths_assigned m ++ paths) (paths_wanted files m) → Rightly files m (assigned_notes c ask r paths choices)
   assigned-rightly m r [] choices h = tt
   assigned-rightly m r (path ∷ paths) [] h = tt
   assigned-rightly m r (path ∷ paths) (choice ∷ choices) h =
-      let next : Marks = record m { assigned = m.assigned ++ (path, choice.node) ∷ [] } in (
+      let next : WayMarks = record m { assigned = m.assigned ++ (path, choice.node) ∷ [] } in (
         ap (slice_get (paths_wanted files m)) (sym (length-map m.assigned)) ∙ next-get (paths_assigned m) paths (paths_wanted files m) path h,
         assigned-rightly next (r + 1) paths choices (subst (λ (l : List (List ℕ)). IsPrefix l (paths_wanted files m)) (sym (append_assoc (paths_assigned m) (path ∷ []) paths) ∙ ap (λ (l : List (List ℕ)). l ++ paths) (sym (map-append (λ a. a.0) m.assigned ((path, choice.node) ∷ [])))) h),
       ) where
@@ -64,11 +64,11 @@ module _ (files : FilesAt) (c : ℕ) (ask : Ask) where
         length-map [] = refl
         length-map (y ∷ xs) = ap suc (length-map xs)
 
-  over-marked : (m : Marks) (b : Bool) (rs : List Rec) → marked m (over_note c b ++ rs) ≡ marked m rs
+  over-marked : (m : WayMarks) (b : Bool) (rs : List Rec) → marked m (over_note c b ++ rs) ≡ marked m rs
   over-marked m true rs = refl
   over-marked m false rs = refl
 
-  over-rightly : (m : Marks) (b : Bool) (rs : List Rec) → Rightly files m rs → Rightly files m (over_note c b ++ rs)
+  over-rightly : (m : WayMarks) (b : Bool) (rs : List Rec) → Rightly files m rs → Rightly files m (over_note c b ++ rs)
   over-rightly m true rs h = (tt, h)
   over-rightly m false rs h = h
 
@@ -82,13 +82,13 @@ module _ (env : FrontEnv) (x : Conn) (heads : List Seen) where
   abbrev files : FilesAt
   files = env.serve.files
 
-  abbrev m : Marks
+  abbrev m : WayMarks
   m = marks_at x
 
   abbrev p : FrontPart
   p = x.part.front
 
-  abbrev Goal : Deed → Type 0
+  abbrev Goal : FrontDeed → Type 0
   Goal d = Keeps files x (front_does x heads d)
 
   drops-makes : Goal Drops
@@ -100,10 +100,10 @@ module _ (env : FrontEnv) (x : Conn) (heads : List Seen) where
   taken-moves row n d epoch found at same help g =
       let q : FrontPart = record p { row = Some (record row { stage = stage.Moved n (record { 0 = epoch }) }); kept = without timer.Offer 0 p.kept } in
       let v : Move = front_does x heads (taken_by p epoch (Some row) (Some n)) in
-      let seat : IsAway files m (rest_of p.rest) n row.epoch.0 (x.part.nodes n) = subst (StageWays files m x.part row.epoch.0) at (subst (SeatWays files m x.part) found g.seat) in
+      let seat : IsAway files m (front_rest p.rest) n row.epoch.0 (x.part.nodes n) = subst (StageWays files m x.part row.epoch.0) at (subst (SeatWays files m x.part) found g.seat) in
       let was : (i e : ℕ) → Counts v.part i e → Counts x.part i e = λ i e c.
       let t = and_parts (n == i) (epoch == e) c in
-      subst (λ (o : Option FrontRow). is_at i e o ≡ true) (sym found) (subst (λ (f : FrontConn). is_with i e f ≡ true) (sym at) (and_from (n == i) (d.0 == e) t.0 (eq-eqb d.0 e (same ∙ eqb-true epoch e t.1)))) in
+      subst (λ (o : Option FrontRow). is_row_at i e o ≡ true) (sym found) (subst (λ (f : FrontConn). is_with i e f ≡ true) (sym at) (and_from (n == i) (d.0 == e) t.0 (eq-eqb d.0 e (same ∙ eqb-true epoch e t.1)))) in
       makes files x v help g m tt refl g.paths seat
       (record {
         grows = help.owes.grows;
@@ -126,13 +126,13 @@ module _ (env : FrontEnv) (x : Conn) (heads : List Seen) where
 
   -- ---- an end
 
-  pub ended-makes : (from epoch : ℕ) (last : Final) (o : Option FrontRow) (given : OnEnded) → Goal (ended_by env p from epoch last o given)
+  pub ended-makes : (from epoch : ℕ) (last : Final) (o : Option FrontRow) (given : OnEnded) → Goal (front_ended_by env p from epoch last o given)
   ended-makes from epoch last None given = drops-makes
   ended-makes from epoch last (Some row) Stale = drops-makes
-  ended-makes from epoch last (Some row) Again = stands-makes files x Front heads (by_front (saying (ack_sent env from epoch))) tt
+  ended-makes from epoch last (Some row) Again = stands-makes files x Front heads (by_front (front_saying (ack_sent env from epoch))) tt
       (λ old. (front-quiet files m x.part from env.serve.c epoch body.EndedAck (λ f. let z : kind.EndedAck ≡ kind.Offer = f in cc) (λ f. let z : kind.EndedAck ≡ kind.Tag = f in cc), tt)) tt
   ended-makes from epoch last (Some row) (New next) = λ help g.
-      let v : Move = front_does x heads (ended_by env p from epoch last (Some row) (New next)) in
+      let v : Move = front_does x heads (front_ended_by env p from epoch last (Some row) (New next)) in
       makes files x v help g m (tt, (tt, tt)) refl g.paths tt
       (carries-none files m m (same-marks files m m.served) x.part v.part help.owes.grows (λ i e c. let z : false ≡ true = c in cc))
       (λ old. (front-quiet files m v.part from env.serve.c epoch body.EndedAck (λ f. let z : kind.EndedAck ≡ kind.Offer = f in cc) (λ f. let z : kind.EndedAck ≡ kind.Tag = f in cc), tt)) tt
@@ -143,12 +143,12 @@ module _ (env : FrontEnv) (x : Conn) (heads : List Seen) where
   pub record IsWith (n epoch : ℕ) : Type 0 where
     pub row : FrontRow
     pub found : p.row ≡ Some row
-    pub away : (fs : FilesAt) (k : Marks) (q : Part) → q.front.row ≡ Some row → (StageWays fs k q row.epoch.0 row.stage → IsAway fs k (rest_of q.front.rest) n row.epoch.0 (q.nodes n)) × (IsAway fs k (rest_of q.front.rest) n row.epoch.0 (q.nodes n) → StageWays fs k q row.epoch.0 row.stage)
+    pub away : (fs : FilesAt) (k : WayMarks) (q : Part) → q.front.row ≡ Some row → (StageWays fs k q row.epoch.0 row.stage → IsAway fs k (front_rest q.front.rest) n row.epoch.0 (q.nodes n)) × (IsAway fs k (front_rest q.front.rest) n row.epoch.0 (q.nodes n) → StageWays fs k q row.epoch.0 row.stage)
     pub same : row.epoch.0 ≡ epoch
     pub second : row.epoch.0 ≡ 2
     pub offers : (i e : ℕ) → Offers i e row.stage → (i ≡ n) × (e ≡ epoch)
 
-  with-of : (n epoch : ℕ) → IsPlaced x → is_at n epoch p.row ≡ true → IsWith n epoch
+  with-of : (n epoch : ℕ) → IsPlaced x → is_row_at n epoch p.row ≡ true → IsWith n epoch
   with-of n epoch placed at = go p.row refl at placed.sits where
     on : (row : FrontRow) → p.row ≡ Some row → (d : FrontConn) → row.stage ≡ d → StageSits row.epoch.0 (owning (tale_at x)) x.part.nodes d → is_with n epoch d ≡ true → IsWith n epoch
     on row found (stage.Offering i f) at sits c =
@@ -159,8 +159,8 @@ module _ (env : FrontEnv) (x : Conn) (heads : List Seen) where
           row = row;
           found = found;
           away = λ fs k q is. (
-            (λ h. subst (λ (j : ℕ). IsAway fs k (rest_of q.front.rest) j row.epoch.0 (q.nodes j)) mine (subst (StageWays fs k q row.epoch.0) at h)),
-            (λ h. subst (StageWays fs k q row.epoch.0) (sym at) (subst (λ (j : ℕ). IsAway fs k (rest_of q.front.rest) j row.epoch.0 (q.nodes j)) (sym mine) h)),
+            (λ h. subst (λ (j : ℕ). IsAway fs k (front_rest q.front.rest) j row.epoch.0 (q.nodes j)) mine (subst (StageWays fs k q row.epoch.0) at h)),
+            (λ h. subst (StageWays fs k q row.epoch.0) (sym at) (subst (λ (j : ℕ). IsAway fs k (front_rest q.front.rest) j row.epoch.0 (q.nodes j)) (sym mine) h)),
           );
           same = sym sits.1 ∙ when;
           second = sits.0;
@@ -174,8 +174,8 @@ module _ (env : FrontEnv) (x : Conn) (heads : List Seen) where
           row = row;
           found = found;
           away = λ fs k q is. (
-            (λ h. subst (λ (j : ℕ). IsAway fs k (rest_of q.front.rest) j row.epoch.0 (q.nodes j)) mine (subst (StageWays fs k q row.epoch.0) at h)),
-            (λ h. subst (StageWays fs k q row.epoch.0) (sym at) (subst (λ (j : ℕ). IsAway fs k (rest_of q.front.rest) j row.epoch.0 (q.nodes j)) (sym mine) h)),
+            (λ h. subst (λ (j : ℕ). IsAway fs k (front_rest q.front.rest) j row.epoch.0 (q.nodes j)) mine (subst (StageWays fs k q row.epoch.0) at h)),
+            (λ h. subst (StageWays fs k q row.epoch.0) (sym at) (subst (λ (j : ℕ). IsAway fs k (front_rest q.front.rest) j row.epoch.0 (q.nodes j)) (sym mine) h)),
           );
           same = sym sits.1 ∙ when;
           second = sits.0;
@@ -186,12 +186,12 @@ module _ (env : FrontEnv) (x : Conn) (heads : List Seen) where
     on row found stage.Lent at sits c = let z : false ≡ true = c in absurd (let f : ⊥ = cc in f)
     on row found (stage.Closed last) at sits c = let z : false ≡ true = c in absurd (let f : ⊥ = cc in f)
 
-    go : (o : Option FrontRow) → p.row ≡ o → is_at n epoch o ≡ true → Sits (owning (tale_at x)) x.part.nodes p.row → IsWith n epoch
+    go : (o : Option FrontRow) → p.row ≡ o → is_row_at n epoch o ≡ true → Sits (owning (tale_at x)) x.part.nodes p.row → IsWith n epoch
     go None found c sits = let z : false ≡ true = c in absurd (let f : ⊥ = cc in f)
     go (Some row) found c sits = on row found row.stage refl (subst (Sits (owning (tale_at x)) x.part.nodes) found sits).0 c
 
   -- a Tag that goes out
-  tag-says : (k : Marks) (q : Part) (n epoch number : ℕ) (nodes : List ℕ) → epoch < 2 ^ 16 → IsBy epoch q.front.row → (rest_of q.front.rest).asks ≡ number → nodes ≡ (rest_of q.front.rest).tag → LetterWays files k q (record { from = Front; to = Node n; bytes = message env.serve.c epoch (body.Tag number nodes) })
+  tag-says : (k : WayMarks) (q : Part) (n epoch number : ℕ) (nodes : List ℕ) → epoch < 2 ^ 16 → IsBy epoch q.front.row → (front_rest q.front.rest).asks ≡ number → nodes ≡ (front_rest q.front.rest).tag → LetterWays files k q (record { from = Front; to = Node n; bytes = message env.serve.c epoch (body.Tag number nodes) })
   tag-says k q n epoch number nodes small by asks tag = λ msg d.
       let read : ReadsTag number nodes msg.body = tag-reads env.serve.c epoch number nodes msg d in
       let same : msg.epoch.0 ≡ epoch = epoch-reads env.serve.c epoch (body.Tag number nodes) small msg d in
@@ -200,7 +200,7 @@ module _ (env : FrontEnv) (x : Conn) (heads : List Seen) where
       (subst (λ (e : ℕ). IsBy e q.front.row) (sym same) by, λ c. (omega (arith, asks, le), λ e. tag))
 
   module _ (n epoch : ℕ) (ask : Ask) (rest : FrontRest) (there : p.rest ≡ Some rest) where
-    now : Marks
+    now : WayMarks
     now = record m { assigned = m.assigned ++ given_to ask.paths (map (λ c. c.node) (env.later ask).choices) }
 
     rest_now : FrontRest
@@ -238,7 +238,7 @@ module _ (env : FrontEnv) (x : Conn) (heads : List Seen) where
           subst (λ (l : List (List ℕ)). IsPrefix l (paths_wanted files m)) (sym (map-append (λ a. a.0) m.assigned given))
           (front-of (paths_assigned m ++ map (λ a. a.0) given) f.0 (paths_wanted files m) (subst (λ (l : List (List ℕ)). IsPrefix l (paths_wanted files m)) all h))
 
-      assigns-makes : is_at n epoch p.row ≡ true → IsDecided epoch (x.part.nodes n).row → AskIs files m rest (x.part.nodes n).stay ask.number ask.paths → Goal (Does (assigns env p rest n epoch ask (env.later ask)))
+      assigns-makes : is_row_at n epoch p.row ≡ true → IsDecided epoch (x.part.nodes n).row → AskIs files m rest (x.part.nodes n).stay ask.number ask.paths → Goal (Does (assigns env p rest n epoch ask (env.later ask)))
       unfolding now rest_now
       assigns-makes at decided is_ask help g =
           let did : Did = assigns env p rest n epoch ask (env.later ask) in
@@ -246,7 +246,7 @@ module _ (env : FrontEnv) (x : Conn) (heads : List Seen) where
           let w = with-of n epoch help.placed at in
           let asks : (ask.number ≡ rest.asks + 1) × IsPrefix (paths_assigned m ++ ask.paths) (paths_wanted files m) × StayAsks files (rest.asks + 1) ask.paths (x.part.nodes n).stay =
           ⊎_elim (λ (a : ask.number ≤ rest.asks). absurd (omega (arith, next, a))) (λ (a : (ask.number ≡ rest.asks + 1) × IsPrefix (paths_assigned m ++ ask.paths) (paths_wanted files m) × StayAsks files (rest.asks + 1) ask.paths (x.part.nodes n).stay). a) is_ask in
-          let r_is : rest_of p.rest ≡ rest = ap rest_of there in
+          let r_is : front_rest p.rest ≡ rest = ap front_rest there in
           let seat : IsAway files m rest n w.row.epoch.0 (x.part.nodes n) = subst (λ (r : FrontRest). IsAway files m r n w.row.epoch.0 (x.part.nodes n)) r_is ((w.away files m x.part w.found).0 (subst (SeatWays files m x.part) w.found g.seat)) in
           let here : IsDecided w.row.epoch.0 (x.part.nodes n).row = subst (λ (e : ℕ). IsDecided e (x.part.nodes n).row) (sym w.same) decided in
           let c_is : (i e : ℕ) → Counts v.part i e → Counts x.part i e = λ i e c. c in
@@ -258,8 +258,8 @@ module _ (env : FrontEnv) (x : Conn) (heads : List Seen) where
           (record {
             grows = help.owes.grows;
             ask = λ i e number ps c decided was. inl (⊎_elim
-                (λ (a : number ≤ (rest_of p.rest).asks). let le : number ≤ rest.asks = subst (λ (r : FrontRest). number ≤ r.asks) r_is a in omega (arith, le, next))
-                (λ (a : (number ≡ (rest_of p.rest).asks + 1) × IsPrefix (paths_assigned m ++ ps) (paths_wanted files m) × StayAsks files ((rest_of p.rest).asks + 1) ps (x.part.nodes i).stay).
+                (λ (a : number ≤ (front_rest p.rest).asks). let le : number ≤ rest.asks = subst (λ (r : FrontRest). number ≤ r.asks) r_is a in omega (arith, le, next))
+                (λ (a : (number ≡ (front_rest p.rest).asks + 1) × IsPrefix (paths_assigned m ++ ps) (paths_wanted files m) × StayAsks files ((front_rest p.rest).asks + 1) ps (x.part.nodes i).stay).
                 let e : number ≡ rest.asks + 1 = subst (λ (r : FrontRest). number ≡ r.asks + 1) r_is a.0 in omega (arith, e, next)) (was (c_is i e c)));
             tag = λ i e number nodes c by was.
                 let le : number ≤ rest.asks = subst (λ (r : FrontRest). number ≤ r.asks) r_is (was (c_is i e c)).0 in
@@ -270,26 +270,26 @@ module _ (env : FrontEnv) (x : Conn) (heads : List Seen) where
           (λ old. (tag-says now v.part n epoch ask.number (map (λ c. c.node) (env.later ask).choices) (let e = w.same in let two = w.second in omega (arith, e, two)) (subst (IsBy epoch) (sym w.found) (let e = w.same in omega (arith, e))) refl refl, tt)) tt
 
     -- the last Ask again
-    again-makes : is_at n epoch p.row ≡ true → Goal (Says (saying (tag_sent env n epoch rest.asks rest.tag)))
+    again-makes : is_row_at n epoch p.row ≡ true → Goal (Says (front_saying (tag_sent env n epoch rest.asks rest.tag)))
     again-makes at help g =
         let w = with-of n epoch help.placed at in
-        let r_is : rest ≡ rest_of p.rest = sym (ap rest_of there) in
-        stands-makes files x Front heads (by_front (saying (tag_sent env n epoch rest.asks rest.tag))) tt
+        let r_is : rest ≡ front_rest p.rest = sym (ap front_rest there) in
+        stands-makes files x Front heads (by_front (front_saying (tag_sent env n epoch rest.asks rest.tag))) tt
         (λ old. (tag-says m x.part n epoch rest.asks rest.tag (let e = w.same in let two = w.second in omega (arith, e, two)) (subst (IsBy epoch) (sym w.found) (let e = w.same in omega (arith, e))) (ap (λ (r : FrontRest). r.asks) (sym r_is)) (ap (λ (r : FrontRest). r.tag) r_is), tt)) tt help g
 
   module _ (n epoch : ℕ) (ask : Ask) (sent : GoesItsWay files x → NodeSaysWays files m x.part n epoch (body.Ask ask.number ask.queue ask.size ask.paths)) where
-    rest-makes : is_at n epoch p.row ≡ true → (rest : Option FrontRest) → p.rest ≡ rest → Goal (asked_by env p n epoch ask rest)
+    rest-makes : is_row_at n epoch p.row ≡ true → (rest : Option FrontRest) → p.rest ≡ rest → Goal (asked_by env p n epoch ask rest)
     rest-makes at None there help g = drops-makes help g
     rest-makes at (Some rest) there help g = go (ask.number == rest.asks + 1) refl (ask.number == rest.asks && nat_lt 0 rest.asks) help g where
-      go : (a : Bool) → (ask.number == rest.asks + 1) ≡ a → (b : Bool) → Goal (cond a (Does (assigns env p rest n epoch ask (env.later ask))) (cond b (Says (saying (tag_sent env n epoch rest.asks rest.tag))) Drops))
+      go : (a : Bool) → (ask.number == rest.asks + 1) ≡ a → (b : Bool) → Goal (cond a (Does (assigns env p rest n epoch ask (env.later ask))) (cond b (Says (front_saying (tag_sent env n epoch rest.asks rest.tag))) Drops))
       go true e b help g =
           let h = sent g in
-          assigns-makes n epoch ask rest there (eqb-true ask.number (rest.asks + 1) e) at h.0 (subst (λ (r : FrontRest). AskIs files m r (x.part.nodes n).stay ask.number ask.paths) (ap rest_of there) (h.1 at)) help g
+          assigns-makes n epoch ask rest there (eqb-true ask.number (rest.asks + 1) e) at h.0 (subst (λ (r : FrontRest). AskIs files m r (x.part.nodes n).stay ask.number ask.paths) (ap front_rest there) (h.1 at)) help g
       go false e true help g = again-makes n epoch ask rest there at help g
       go false e false help g = drops-makes help g
 
     pub asked-makes : Goal (front_asked env p n epoch ask)
-    asked-makes = go (is_at n epoch p.row) refl where
-      go : (b : Bool) → is_at n epoch p.row ≡ b → Goal (cond b (asked_by env p n epoch ask p.rest) Drops)
+    asked-makes = go (is_row_at n epoch p.row) refl where
+      go : (b : Bool) → is_row_at n epoch p.row ≡ b → Goal (cond b (asked_by env p n epoch ask p.rest) Drops)
       go true e = rest-makes e p.rest refl
       go false e = drops-makes

@@ -5,7 +5,7 @@ use Rattle.lard_answers.specs.Answers.{FilesAt, IsPrefix, verdicts}
 use Rattle.lard_base.specs.declared.ids.Epoch.{Epoch}
 use Rattle.lard_base.specs.declared.place.Place.{Place}
 use Rattle.lard_base.specs.declared.place.Place.TheVariants.{Client, Front, Node}
-use Rattle.lard_rules.specs.Bounds.{IsNumber}
+use Rattle.lard_rules.specs.Bounds.{IsConnNumber}
 use Rattle.lard_law_connections.specs.BytesAgreement.{FrontHolds, FrontWaits, IsOpen, SeatAgrees, StageAgrees}
 use Rattle.lard_law_connections.specs.BytesKeeping.{IsFrontTalk}
 use Rattle.lard_law_connections.proofs.BytesFrontMoves.{IsBefore, home-past}
@@ -18,8 +18,8 @@ use Rattle.lard_law_connections.specs.Places.{ArePast, Sits, StageSits, owning}
 use Rattle.lard_law_connections.proofs.PlacesLoops.{settled-is, spoken-to}
 use Rattle.lard_law_view.specs.Carry.{tale_at}
 use Rattle.lard_law_view.specs.View.{Conn, IsFrontEnv, Setting, by_front, front_admits, front_does, nothing_said, with_front}
-use Rattle.lard_laws.specs.WaysState.{BeginsWith, GoesItsWay, IsFree, IsWaiting, SeatWays, StageWays, marks_at}
-use Rattle.lard_laws.specs.Ways.{Marks}
+use Rattle.lard_laws.specs.WaysState.{BeginsWithRequest, GoesItsWay, IsUnassigned, WaitsForNext, SeatWays, StageWays, marks_at}
+use Rattle.lard_laws.specs.Ways.{WayMarks}
 use Rattle.lard_laws.proofs.WaysFronting.{IsFrozen, front-quiet, handed-makes, turned-makes}
 use Rattle.lard_laws.proofs.WaysLooking.{Looks, reads-look, waits-kept}
 use Rattle.lard_laws.proofs.WaysMarking.{Rightly, marked, marked-append, rightly-append}
@@ -34,8 +34,8 @@ use Rattle.lard_endpoint.specs.Moving.{end_reason, final_of, may_end, may_freeze
 use Rattle.lard_endpoint.proofs.Adoption.{frozen_stands}
 use Rattle.lard_rules.specs.declared.front.FrontRest.{FrontRest}
 use Rattle.lard_rules.specs.declared.front.FrontTurn.{FrontTurn}
-use Rattle.lard_rules.specs.Front.{Deed, Does, Drops, FrontEnv, FrontPart, Says, admitted_with, begun, fired, fired_by, fires_at, forwarded, front_hears, handed_off, hears_at, holds, is_at, message, met, placed, rest_of, rests, saying, settled_by, stage_after, turn_here}
-use Rattle.lard_rules.specs.FrontReading.{MayMove, Reading, reads}
+use Rattle.lard_rules.specs.Front.{FrontDeed, Does, Drops, FrontEnv, FrontPart, Says, front_admitted_with, front_begun, front_fired, front_fired_by, fires_at, forwarded, front_hears, handed_off, hears_at, holds, is_row_at, message, met, placed, front_rest, front_rests, front_saying, settled_by, stage_after, turn_here}
+use Rattle.lard_rules.specs.FrontReading.{MayMove, Reading, front_reads}
 use Rattle.lard_rules.proofs.FrontBlocks.{segment-keeps, segment-serves, speaks-keep, timer-keeps}
 use Rattle.lard_rules.proofs.FrontTurns.{reads-stop}
 use Rattle.lard_handoff_front.specs.declared.row.FrontConn.{FrontConn}
@@ -56,7 +56,7 @@ use Rattle.lard_rules.specs.declared.places.Ending.TheVariants as ending
 use Rattle.lard_rules.specs.declared.places.Station.{Station}
 use Rattle.lard_rules.specs.declared.places.Turn.{Turn}
 use Rattle.lard_rules.specs.Tombstone.{is_plain_syn, last_words, tombstone}
-use Rattle.lard_rules.specs.Serving.{ServeEnv, Service, ready_of, serving, settled, spoken}
+use Rattle.lard_rules.specs.Serving.{ServeEnv, Service, serving_ready_of, serving, serving_settled, spoken}
 use Rattle.lard_rules.specs.Speaking.{speaks}
 use Rattle.lard_segment.specs.Segment.{Said}
 use Rattle.lard_law_view.specs.Truth.{IsStream, Stream}
@@ -78,14 +78,14 @@ module _ (k : Setting) (small : k.stream ≤ 2 ^ 30) (x : Conn) (s : Station) (t
   abbrev files : FilesAt
   files = env.serve.files
 
-  abbrev m : Marks
+  abbrev m : WayMarks
   m = marks_at x
 
   abbrev p : FrontPart
   p = x.part.front
 
   abbrev count : ℕ
-  count = (rest_of p.rest).count
+  count = (front_rest p.rest).count
 
   stream-is : IsStream l.w
   stream-is = subst IsStream (sym o.client.w_is) (speaks-stream s.client.send l.w.bytes o.client.speaks)
@@ -94,49 +94,49 @@ module _ (k : Setting) (small : k.stream ≤ 2 ^ 30) (x : Conn) (s : Station) (t
   served-is : (n : ℕ) → n ≡ length l.vs → m ≡ record m { served = n }
   served-is n e = ap (λ (i : ℕ). record m { served = i }) (o.tale.served ∙ sym e)
 
-  free-at : (n : ℕ) → n ≡ length l.vs → IsFree files m → IsFree files (record m { served = n })
-  free-at n e h = subst (IsFree files) (served-is n e) h
+  free-at : (n : ℕ) → n ≡ length l.vs → IsUnassigned files m → IsUnassigned files (record m { served = n })
+  free-at n e h = subst (IsUnassigned files) (served-is n e) h
 
-  start-looks : (b : ControlBlock) (n : ℕ) → n ≡ length l.vs → IsFree files m → Looks env.serve m (serving b n [])
+  start-looks : (b : ControlBlock) (n : ℕ) → n ≡ length l.vs → IsUnassigned files m → Looks env.serve m (serving b n [])
   start-looks b n e h = record { noted_so = tt; told = served-is n e; none = (free-at n e h).1 }
 
   -- ---- it holds the connection, or lets it wait
 
   -- a stage in which nothing counts
-  none-counts : (row : FrontRow) (stays : ControlBlock → FrontConn) → ((b : ControlBlock) (i e : ℕ) → is_at i e (Some (record row { stage = stays b })) ≡ true → ⊥) → (e : Ending) (i f : ℕ) → is_at i f (Some (record row { stage = stage_after stays e })) ≡ true → ⊥
+  none-counts : (row : FrontRow) (stays : ControlBlock → FrontConn) → ((b : ControlBlock) (i e : ℕ) → is_row_at i e (Some (record row { stage = stays b })) ≡ true → ⊥) → (e : Ending) (i f : ℕ) → is_row_at i f (Some (record row { stage = stage_after stays e })) ≡ true → ⊥
   none-counts row stays h (ending.Here b n) i f c = h b i f c
   none-counts row stays h (ending.Over last) i f c = let no : false ≡ true = c in cc
 
   -- goes on to be held, or ends
   holds-makes : (heads : List Seen) (row : FrontRow) (rest : FrontRest) (given : Ending × Turn) (w : Service) → Looks env.serve m w → given.1.notes ≡ w.notes → AllTo (Client env.serve.c) given.1.segments → m.assigned ≡ [] → Keeps files x (front_does x heads (holds p row rest given))
   holds-makes heads row rest given w looks notes to none help g =
-      turned-makes env x heads (record { part = rests p row rest stage.Held given.0; turn = turn_here given.1; calls = [] }) w.count (subst (Rightly files m) (sym notes) looks.noted_so) (ap (marked m) notes ∙ looks.told) g.paths
+      turned-makes env x heads (record { part = front_rests p row rest stage.Held given.0; turn = turn_here given.1; calls = [] }) w.count (subst (Rightly files m) (sym notes) looks.noted_so) (ap (marked m) notes ∙ looks.told) g.paths
       (seat given.0) (none-counts row stage.Held (λ b i e c. let no : false ≡ true = c in cc) given.0) to (λ q. tt) help g where
-        seat : (e : Ending) → StageWays files (record m { served = w.count }) (with_front x.part (rests p row rest stage.Held e)) row.epoch.0 (stage_after stage.Held e)
+        seat : (e : Ending) → StageWays files (record m { served = w.count }) (with_front x.part (front_rests p row rest stage.Held e)) row.epoch.0 (stage_after stage.Held e)
         seat (ending.Here b n) = (none, looks.none)
         seat (ending.Over last) = tt
 
   -- goes on to wait, or ends
   waits-makes : (heads : List Seen) (row : FrontRow) (rest : FrontRest) (given : Ending × Turn) (w : Service) → Looks env.serve m w → given.1.notes ≡ w.notes → AllTo (Client env.serve.c) given.1.segments → m.assigned ≡ []
-      → ((b : ControlBlock) (n : ℕ) → given.0 ≡ ending.Here b n → IsWaiting files b.recv.unread rest.target) → Keeps files x (front_does x heads (Does (record { part = rests p row rest stage.Waiting given.0; turn = turn_here given.1; calls = [] })))
+      → ((b : ControlBlock) (n : ℕ) → given.0 ≡ ending.Here b n → WaitsForNext files b.recv.unread rest.target) → Keeps files x (front_does x heads (Does (record { part = front_rests p row rest stage.Waiting given.0; turn = turn_here given.1; calls = [] })))
   waits-makes heads row rest given w looks notes to none waits help g =
-      turned-makes env x heads (record { part = rests p row rest stage.Waiting given.0; turn = turn_here given.1; calls = [] }) w.count (subst (Rightly files m) (sym notes) looks.noted_so) (ap (marked m) notes ∙ looks.told) g.paths
+      turned-makes env x heads (record { part = front_rests p row rest stage.Waiting given.0; turn = turn_here given.1; calls = [] }) w.count (subst (Rightly files m) (sym notes) looks.noted_so) (ap (marked m) notes ∙ looks.told) g.paths
       (seat given.0 waits) (none-counts row stage.Waiting (λ b i e c. let no : false ≡ true = c in cc) given.0) to (λ q. tt) help g where
-        seat : (e : Ending) → ((b : ControlBlock) (n : ℕ) → e ≡ ending.Here b n → IsWaiting files b.recv.unread rest.target) → StageWays files (record m { served = w.count }) (with_front x.part (rests p row rest stage.Waiting e)) row.epoch.0 (stage_after stage.Waiting e)
+        seat : (e : Ending) → ((b : ControlBlock) (n : ℕ) → e ≡ ending.Here b n → WaitsForNext files b.recv.unread rest.target) → StageWays files (record m { served = w.count }) (with_front x.part (front_rests p row rest stage.Waiting e)) row.epoch.0 (stage_after stage.Waiting e)
         seat (ending.Here b n) h = ((none, looks.none), h b n refl)
         seat (ending.Over last) h = tt
 
   -- what was unread before a turn is so behind it
-  spoken-waits : (v : Service) (before : List (Place × List ℕ)) (t : Option (List ℕ)) → IsWaiting files v.block.recv.unread t → (b : ControlBlock) (n : ℕ) → (spoken env.serve v before).0 ≡ ending.Here b n → IsWaiting files b.recv.unread t
-  spoken-waits v before t h = spoken-either env.serve v before (λ e. (b : ControlBlock) (n : ℕ) → e ≡ ending.Here b n → IsWaiting files b.recv.unread t)
+  spoken-waits : (v : Service) (before : List (Place × List ℕ)) (t : Option (List ℕ)) → WaitsForNext files v.block.recv.unread t → (b : ControlBlock) (n : ℕ) → (spoken env.serve v before).0 ≡ ending.Here b n → WaitsForNext files b.recv.unread t
+  spoken-waits v before t h = spoken-either env.serve v before (λ e. (b : ControlBlock) (n : ℕ) → e ≡ ending.Here b n → WaitsForNext files b.recv.unread t)
       (λ last b n e. absurd (let f : ⊥ = cc in f))
-      (λ b n e. subst (λ (d : ControlBlock). IsWaiting files d.recv.unread t) (ap (block_of (speaks env.serve.c v.block).1) e) (speaks-keep (λ r y. IsWaiting files r.unread t) (waits-kept files t) env.serve.c v.block h)) where
+      (λ b n e. subst (λ (d : ControlBlock). WaitsForNext files d.recv.unread t) (ap (block_of (speaks env.serve.c v.block).1) e) (speaks-keep (λ r y. WaitsForNext files r.unread t) (waits-kept files t) env.serve.c v.block h)) where
         block_of : ControlBlock → Ending → ControlBlock
         block_of d (ending.Here b n) = b
         block_of d (ending.Over last) = d
 
   -- an endpoint with its next request unread
-  frozen-is : (v : Service) (path : List ℕ) (out : Stream) (vs : List Verdict) → FrontHolds l.w out vs [] v.block v.count → may_freeze v.block ≡ true → BeginsWith files v.block.recv.unread path → Looks env.serve m v → IsFrozen env x v path
+  frozen-is : (v : Service) (path : List ℕ) (out : Stream) (vs : List Verdict) → FrontHolds l.w out vs [] v.block v.count → may_freeze v.block ≡ true → BeginsWithRequest files v.block.recv.unread path → Looks env.serve m v → IsFrozen env x v path
   frozen-is v path out vs h frozen next looks =
       let stands = frozen_stands v.block h.holds.sound frozen in
       let read = batch-read l.w v.block vs h.holds.hears stands.discarding_is h.holds.has_read 8 in
@@ -161,7 +161,7 @@ module _ (k : Setting) (small : k.stream ≤ 2 ^ 30) (x : Conn) (s : Station) (t
   -- ---- a segment comes
 
   module _ (heads : List Seen) (row : FrontRow) (found : p.row ≡ Some row) where
-    abbrev Goal : Deed → Type 0
+    abbrev Goal : FrontDeed → Type 0
     Goal d = Keeps files x (front_does x heads d)
 
     seat-at : (d : FrontConn) → row.stage ≡ d → GoesItsWay files x → StageWays files m x.part row.epoch.0 d
@@ -187,30 +187,30 @@ module _ (k : Setting) (small : k.stream ≤ 2 ^ 30) (x : Conn) (s : Station) (t
           past d at before h = home-past k small x s there env is l pend o (owning (tale_at x)) row d at before h
 
     -- what it read is said, or the connection is placed
-    settled-makes : (d : FrontConn) → row.stage ≡ d → IsBefore d → m.assigned ≡ [] → (w : Service) (target : Option (List ℕ)) → Looks env.serve m w → IsWaiting files w.block.recv.unread target
-        → ((path : List ℕ) → target ≡ Some path → IsFrozen env x w path) → Goal (settled_by env p row (rest_of p.rest) w target)
+    settled-makes : (d : FrontConn) → row.stage ≡ d → IsBefore d → m.assigned ≡ [] → (w : Service) (target : Option (List ℕ)) → Looks env.serve m w → WaitsForNext files w.block.recv.unread target
+        → ((path : List ℕ) → target ≡ Some path → IsFrozen env x w path) → Goal (settled_by env p row (front_rest p.rest) w target)
     settled-makes d at before none w None looks waits frozen =
         let done = settled-is env.serve w in
-        holds-makes heads row (rest_of p.rest) (settled env.serve w) w looks done.notes done.to none
+        holds-makes heads row (front_rest p.rest) (serving_settled env.serve w) w looks done.notes done.to none
     settled-makes d at before none w (Some path) looks waits frozen = by-first (env.first path) where
-      by-first : (f : First) → Goal (Does (placed env p row (rest_of p.rest) w path f))
+      by-first : (f : First) → Goal (Does (placed env p row (front_rest p.rest) w path f))
       by-first (first.Go choice) help g =
           let e = first-epoch d at before help.placed.sits in
-          handed-makes env x row w path choice (frozen path refl) heads (subst IsNumber (sym is.number) help.number) e.0 found e.1 none help g
+          handed-makes env x row w path choice (frozen path refl) heads (subst IsConnNumber (sym is.number) help.number) e.0 found e.1 none help g
       by-first first.Waits help g =
           let v : Service = record w { notes = w.notes ++ rec.Waits env.serve.c ∷ [] } in
           let more : Looks env.serve m v = record { noted_so = rightly-append files m w.notes (rec.Waits env.serve.c ∷ []) looks.noted_so (tt, tt); told = marked-append m w.notes (rec.Waits env.serve.c ∷ []) ∙ looks.told; none = looks.none } in
-          waits-makes heads row (record (rest_of p.rest) { target = Some path }) (spoken env.serve v []) v more refl (spoken-to env.serve v [] tt) none (spoken-waits v [] (Some path) waits) help g
+          waits-makes heads row (record (front_rest p.rest) { target = Some path }) (spoken env.serve v []) v more refl (spoken-to env.serve v [] tt) none (spoken-waits v [] (Some path) waits) help g
 
     module _ (talk : IsFrontTalk env l.w l.out l.vs) where
       held-makes : (b : ControlBlock) → row.stage ≡ stage.Held b → (sd : Said) → IsWord l.w sd → Goal (hears_at env p row [] sd (stage.Held b))
       held-makes b at sd word help g =
           let fh : FrontHolds l.w l.out l.vs pend b count = truth-at (stage.Held b) at in
-          let free : IsFree files m = seat-at (stage.Held b) at g in
+          let free : IsUnassigned files m = seat-at (stage.Held b) at g in
           let fh_none : FrontHolds l.w l.out l.vs [] b count = record { none = refl; serves = fh.serves; holds = fh.holds } in
           let start : Service = serving (on_segment b sd).1 count [] in
           let so0 : So env.serve l.w l.out l.vs start [] = heard-so env.serve l.w l.out l.vs talk.says [] b count fh.holds talk.stream sd word in
-          let y : Reading = reads env.serve (record { service = start; target = None }) in
+          let y : Reading = front_reads env.serve (record { service = start; target = None }) in
           let so = reads-so env.serve l.w l.out l.vs talk.most start so0 in
           let stop = reads-stop env.serve start (segment-serves count b sd fh.serves) in
           let looks = reads-look env.serve m l.w l.out l.vs o.tale.wrote talk.most start so0 (start-looks (on_segment b sd).1 count fh.holds.counted free) in
@@ -219,22 +219,22 @@ module _ (k : Setting) (small : k.stream ≤ 2 ^ 30) (x : Conn) (s : Station) (t
           let over : y.service.over ≡ None = subst (λ (t : Option (List ℕ)). GoesOver t y.service) e so.1 in
           let may : may_freeze y.service.block ≡ true = subst (MayMove y.service.block) e stop.1 in
           frozen-is y.service path so.0.out_now so.0.vs_now (record { none = refl; serves = stop.0; holds = frozen-holds env l.w l.out l.vs l.was_reset y.service so.0 over stop.0 may }) may
-          (subst (IsWaiting files y.service.block.recv.unread) e looks.1) looks.0) help g
+          (subst (WaitsForNext files y.service.block.recv.unread) e looks.1) looks.0) help g
 
       waiting-makes : (b : ControlBlock) → row.stage ≡ stage.Waiting b → (sd : Said) → Goal (hears_at env p row [] sd (stage.Waiting b))
       waiting-makes b at sd help g =
           let fh : FrontWaits l.w l.out l.vs pend b count = truth-at (stage.Waiting b) at in
           let seat = seat-at (stage.Waiting b) at g in
           let v : Service = serving (on_segment b sd).1 count [] in
-          waits-makes heads row (rest_of p.rest) (spoken env.serve v []) v (start-looks (on_segment b sd).1 count fh.0.holds.counted seat.0) refl (spoken-to env.serve v [] tt) seat.0.0
-          (spoken-waits v [] (rest_of p.rest).target (segment-keeps (λ r y. IsWaiting files r.unread (rest_of p.rest).target) (waits-kept files (rest_of p.rest).target) b sd seat.1)) help g
+          waits-makes heads row (front_rest p.rest) (spoken env.serve v []) v (start-looks (on_segment b sd).1 count fh.0.holds.counted seat.0) refl (spoken-to env.serve v [] tt) seat.0.0
+          (spoken-waits v [] (front_rest p.rest).target (segment-keeps (λ r y. WaitsForNext files r.unread (front_rest p.rest).target) (waits-kept files (front_rest p.rest).target) b sd seat.1)) help g
 
       tombs-makes : (said : Option Said) → Goal (Says (turn_here (tombstone env.serve said)))
       tombs-makes None = stands-makes files x Front heads (by_front (turn_here (tombstone env.serve None))) tt (λ old. tt) tt
       tombs-makes (Some sd) = stands-makes files x Front heads (by_front (turn_here (tombstone env.serve (Some sd)))) tt (λ old. (tt, tt)) tt
 
       forwards-makes : (n : ℕ) (e : Epoch) (bytes : List ℕ) → Goal (forwarded env n e bytes)
-      forwards-makes n e bytes = stands-makes files x Front heads (by_front (saying ((Node n, message env.serve.c e.0 (body.Forward bytes)) ∷ []))) tt
+      forwards-makes n e bytes = stands-makes files x Front heads (by_front (front_saying ((Node n, message env.serve.c e.0 (body.Forward bytes)) ∷ []))) tt
           (λ old. (front-quiet files m x.part n env.serve.c e.0 (body.Forward bytes) (λ f. let z : kind.Forward ≡ kind.Offer = f in cc) (λ f. let z : kind.Forward ≡ kind.Tag = f in cc), tt)) tt
 
       hears-stage : (bytes : List ℕ) (sd : Said) → IsWord l.w sd → (d : FrontConn) → row.stage ≡ d → Goal (hears_at env p row bytes sd d)
@@ -250,39 +250,39 @@ module _ (k : Setting) (small : k.stream ≤ 2 ^ 30) (x : Conn) (s : Station) (t
       fires-stage : (d : FrontConn) → row.stage ≡ d → Goal (fires_at env p row d)
       fires-stage (stage.Held b) at help g =
           let fh : FrontHolds l.w l.out l.vs pend b count = truth-at (stage.Held b) at in
-          let free : IsFree files m = seat-at (stage.Held b) at g in
+          let free : IsUnassigned files m = seat-at (stage.Held b) at g in
           let v : Service = serving (after_timer b) count [] in
-          let before = ready_of env.serve (after_timer b) (timed b) in
-          holds-makes heads row (rest_of p.rest) (fired env (rest_of p.rest) b) v (start-looks (after_timer b) count fh.holds.counted free) refl (spoken-to env.serve v before (ready-to env.serve (after_timer b) (timed b))) free.0 help g
+          let before = serving_ready_of env.serve (after_timer b) (timed b) in
+          holds-makes heads row (front_rest p.rest) (front_fired env (front_rest p.rest) b) v (start-looks (after_timer b) count fh.holds.counted free) refl (spoken-to env.serve v before (ready-to env.serve (after_timer b) (timed b))) free.0 help g
       fires-stage (stage.Waiting b) at help g =
           let fh : FrontWaits l.w l.out l.vs pend b count = truth-at (stage.Waiting b) at in
           let seat = seat-at (stage.Waiting b) at g in
           let v : Service = serving (after_timer b) count [] in
-          let before = ready_of env.serve (after_timer b) (timed b) in
-          waits-makes heads row (rest_of p.rest) (fired env (rest_of p.rest) b) v (start-looks (after_timer b) count fh.0.holds.counted seat.0) refl (spoken-to env.serve v before (ready-to env.serve (after_timer b) (timed b))) seat.0.0
-          (spoken-waits v before (rest_of p.rest).target (timer-keeps (λ r y. IsWaiting files r.unread (rest_of p.rest).target) (waits-kept files (rest_of p.rest).target) b seat.1)) help g
-      fires-stage (stage.Offering n e) at help g = stands-makes files x Front heads (by_front (saying (map sent_of p.kept))) tt (λ old. sent-say files m x.part x Front p.kept help.sound.front old) tt help g
+          let before = serving_ready_of env.serve (after_timer b) (timed b) in
+          waits-makes heads row (front_rest p.rest) (front_fired env (front_rest p.rest) b) v (start-looks (after_timer b) count fh.0.holds.counted seat.0) refl (spoken-to env.serve v before (ready-to env.serve (after_timer b) (timed b))) seat.0.0
+          (spoken-waits v before (front_rest p.rest).target (timer-keeps (λ r y. WaitsForNext files r.unread (front_rest p.rest).target) (waits-kept files (front_rest p.rest).target) b seat.1)) help g
+      fires-stage (stage.Offering n e) at help g = stands-makes files x Front heads (by_front (front_saying (map sent_of p.kept))) tt (λ old. sent-say files m x.part x Front p.kept help.sound.front old) tt help g
       fires-stage _ at help g = stands-makes files x Front heads nothing_said tt (λ old. tt) tt help g
 
   -- ---- nobody has it yet
 
   begins-makes : (heads : List Seen) (sd : Said) → p.row ≡ None → Keeps files x (front_does x heads (met env p sd))
   begins-makes heads sd found = go (is_plain_syn sd) where
-    go : (b : Bool) → Keeps files x (front_does x heads (cond b (begun env p sd) Drops))
+    go : (b : Bool) → Keeps files x (front_does x heads (cond b (front_begun env p sd) Drops))
     go false help g = stands-makes files x Front heads nothing_said tt (λ old. tt) tt help g
     go true help g =
         let truth : (l.vs ≡ []) × (pend ≡ []) × (l.out.ended ≡ false) = subst (SeatAgrees l.w l.out l.vs pend l.was_reset x.c x.part) found o.seat in
-        let free : IsFree files m = subst (SeatWays files m x.part) found g.seat in
+        let free : IsUnassigned files m = subst (SeatWays files m x.part) found g.seat in
         let row : FrontRow = record { stage = stage.Lent; epoch = record { 0 = 1 }; ended_by = None } in
         let v : Service = serving (listening sd env.iss) 0 (rec.Took Front env.serve.c (record { 0 = 1 }) ∷ []) in
         let zero_is : 0 ≡ length l.vs = sym (ap length truth.0) in
-        holds-makes heads row (rest_of None) (spoken env.serve v []) v (record { noted_so = (tt, tt); told = served-is 0 zero_is; none = (free-at 0 zero_is free).1 }) refl (spoken-to env.serve v [] tt) free.0 help g
+        holds-makes heads row (front_rest None) (spoken env.serve v []) v (record { noted_so = (tt, tt); told = served-is 0 zero_is; none = (free-at 0 zero_is free).1 }) refl (spoken-to env.serve v [] tt) free.0 help g
 
   pub hears-row : (heads : List Seen) (bytes : List ℕ) (sd : Said) → IsWord l.w sd → IsFrontTalk env l.w l.out l.vs → (row : Option FrontRow) → p.row ≡ row → Keeps files x (front_does x heads (front_hears env p bytes sd row))
   hears-row heads bytes sd word talk None found = begins-makes heads sd found
   hears-row heads bytes sd word talk (Some row) found = hears-stage heads row found talk bytes sd word row.stage refl
 
-  pub fires-row : (heads : List Seen) → IsFrontTalk env l.w l.out l.vs → (row : Option FrontRow) → p.row ≡ row → Keeps files x (front_does x heads (fired_by env p row))
+  pub fires-row : (heads : List Seen) → IsFrontTalk env l.w l.out l.vs → (row : Option FrontRow) → p.row ≡ row → Keeps files x (front_does x heads (front_fired_by env p row))
   fires-row heads talk None found = stands-makes files x Front heads nothing_said tt (λ old. tt) tt
   fires-row heads talk (Some row) found = fires-stage heads row found talk row.stage refl
 
@@ -293,18 +293,18 @@ module _ (k : Setting) (small : k.stream ≤ 2 ^ 30) (x : Conn) (s : Station) (t
     waited = serving b count []
 
     -- with the request for which it waited
-    admits-makes : (path : List ℕ) → (rest_of p.rest).target ≡ Some path → Keeps files x (front_admits x (handed_off env row waited path choice))
+    admits-makes : (path : List ℕ) → (front_rest p.rest).target ≡ Some path → Keeps files x (front_admits x (handed_off env row waited path choice))
     admits-makes path is_target help g =
         let fh : FrontWaits l.w l.out l.vs pend b count = truth-at [] row found (stage.Waiting b) at in
         let seat = seat-at [] row found (stage.Waiting b) at g in
         let alone : FrontHolds l.w l.out l.vs [] b count = record { none = refl; serves = fh.0.serves; holds = fh.0.holds } in
         let e = first-epoch [] row found (stage.Waiting b) at tt help.placed.sits in
-        let next : BeginsWith files b.recv.unread path = subst (IsWaiting files b.recv.unread) is_target seat.1 in
-        handed-makes env x row waited path choice (frozen-is waited path l.out l.vs alone fh.1 next (start-looks b count fh.0.holds.counted seat.0)) [] (subst IsNumber (sym is.number) help.number) e.0 found e.1 seat.0.0 help g
+        let next : BeginsWithRequest files b.recv.unread path = subst (WaitsForNext files b.recv.unread) is_target seat.1 in
+        handed-makes env x row waited path choice (frozen-is waited path l.out l.vs alone fh.1 next (start-looks b count fh.0.holds.counted seat.0)) [] (subst IsConnNumber (sym is.number) help.number) e.0 found e.1 seat.0.0 help g
 
-    pub waits-frozen : (given : FrontPart × FrontTurn) → admitted_with env row (rest_of p.rest) b choice (rest_of p.rest).target ≡ Some given → Keeps files x (front_admits x given)
-    waits-frozen given e = by-target (rest_of p.rest).target refl e where
-      by-target : (o : Option (List ℕ)) → (rest_of p.rest).target ≡ o → admitted_with env row (rest_of p.rest) b choice o ≡ Some given → Keeps files x (front_admits x given)
+    pub waits-frozen : (given : FrontPart × FrontTurn) → front_admitted_with env row (front_rest p.rest) b choice (front_rest p.rest).target ≡ Some given → Keeps files x (front_admits x given)
+    waits-frozen given e = by-target (front_rest p.rest).target refl e where
+      by-target : (o : Option (List ℕ)) → (front_rest p.rest).target ≡ o → front_admitted_with env row (front_rest p.rest) b choice o ≡ Some given → Keeps files x (front_admits x given)
       by-target None is_target e = let no : None ≡ Some given = e in absurd (let f : ⊥ = cc in f)
       by-target (Some path) is_target e =
           let same : Some (handed_off env row waited path choice) ≡ Some given = e in

@@ -6,16 +6,16 @@ use Rattle.lard_answers.specs.Answers.{FilesAt, IsPrefix, good_path, verdicts}
 use Rattle.lard_base.specs.declared.parts.EndpointParts.{EndpointParts}
 use Rattle.lard_base.specs.declared.place.Place.{Place}
 use Rattle.lard_base.specs.declared.place.Place.TheVariants.{Client, Front, Node}
-use Rattle.lard_rules.specs.Bounds.{IsNumber}
+use Rattle.lard_rules.specs.Bounds.{IsConnNumber}
 use Rattle.lard_law_connections.specs.BytesAgreement.{FrontHolds}
 use Rattle.lard_law_connections.proofs.BytesMessages.{offers-read}
 use Rattle.lard_law_connections.specs.Places.{ArePast, IsDecided, IsPast}
 use Rattle.lard_law_connections.proofs.PlacesGrowing.{past-later}
 use Rattle.lard_law_connections.proofs.PlacesHeads.{kinds-same}
 use Rattle.lard_law_view.specs.View.{Conn, Move, Part, front_does, letter, with_front}
-use Rattle.lard_laws.specs.WaysState.{BeginsWith, FrontSaysWays, IsBy, LetterWays, SeatWays, marks_at}
+use Rattle.lard_laws.specs.WaysState.{BeginsWithRequest, FrontSaysWays, IsBy, LetterWays, SeatWays, marks_at}
 use Rattle.lard_laws.specs.WaysUnder.{Assigned}
-use Rattle.lard_laws.specs.Ways.{IsNextGood, Marks, good_paths, paths_assigned, paths_wanted}
+use Rattle.lard_laws.specs.Ways.{IsNextGood, WayMarks, good_paths, paths_assigned, paths_wanted}
 use Rattle.lard_laws.proofs.WaysGoods.{good-append, prefix-take}
 use Rattle.lard_laws.proofs.WaysLetters.{carries-none}
 use Rattle.lard_laws.proofs.WaysLooking.{Looks}
@@ -23,7 +23,7 @@ use Rattle.lard_laws.proofs.WaysMarking.{Rightly, marked, marked-append, rightly
 use Rattle.lard_laws.proofs.WaysMoving.{Keeps, clients-say, makes, same-marks}
 use Rattle.lard_endpoint.specs.Moving.{may_freeze, parts_of}
 use Rattle.lard_rules.specs.declared.front.FrontTurn.{FrontTurn}
-use Rattle.lard_rules.specs.Front.{Did, Does, FrontEnv, FrontPart, handed_off, is_at, message}
+use Rattle.lard_rules.specs.Front.{Did, Does, FrontEnv, FrontPart, handed_off, is_row_at, message}
 use Rattle.lard_handoff_front.specs.declared.row.FrontConn.TheVariants as stage
 use Rattle.lard_handoff_front.specs.declared.row.FrontRow.{FrontRow}
 use Rattle.lard_handoff_front.specs.Front.{next_epoch}
@@ -46,12 +46,12 @@ use Rattle.lard_law_view.proofs.EndpointSends.{AllTo}
 
 -- ---- messages that say nothing of ways
 
-quiet-body : (files : FilesAt) (m : Marks) (p : Part) (n e : ℕ) (b : Body) → kind_of b ≢ kind.Offer → kind_of b ≢ kind.Tag → FrontSaysWays files m p n e b
+quiet-body : (files : FilesAt) (m : WayMarks) (p : Part) (n e : ℕ) (b : Body) → kind_of b ≢ kind.Offer → kind_of b ≢ kind.Tag → FrontSaysWays files m p n e b
 quiet-body files m p n e (body.Offer parts) other tagless = absurd (other refl)
 quiet-body files m p n e (body.Tag number nodes) other tagless = absurd (tagless refl)
 quiet-body files m p n e _ other tagless = tt
 
-pub front-quiet : (files : FilesAt) (m : Marks) (p : Part) (n c e : ℕ) (b : Body) → kind_of b ≢ kind.Offer → kind_of b ≢ kind.Tag → LetterWays files m p (record { from = Front; to = Node n; bytes = message c e b })
+pub front-quiet : (files : FilesAt) (m : WayMarks) (p : Part) (n c e : ℕ) (b : Body) → kind_of b ≢ kind.Offer → kind_of b ≢ kind.Tag → LetterWays files m p (record { from = Front; to = Node n; bytes = message c e b })
 front-quiet files m p n c e b other tagless = λ msg d.
     let same = kinds-same (record { c = c; epoch = record { 0 = e }; body = b }) msg d in
     quiet-body files m p n msg.epoch.0 msg.body (λ f. other (same ∙ f)) (λ f. tagless (same ∙ f))
@@ -60,12 +60,12 @@ module _ (env : FrontEnv) (x : Conn) where
   abbrev files : FilesAt
   files = env.serve.files
 
-  abbrev m : Marks
+  abbrev m : WayMarks
   m = marks_at x
 
   -- a turn of a connection that it has, or that ended
   pub turned-makes : (heads : List Seen) (did : Did) (n : ℕ) → Rightly files m did.turn.notes → marked m did.turn.notes ≡ record m { served = n } → IsPrefix (paths_assigned m) (paths_wanted files m) → SeatWays files (record m { served = n }) (with_front x.part did.part) did.part.row
-      → ((i e : ℕ) → is_at i e did.part.row ≡ true → ⊥) → AllTo (Client env.serve.c) did.turn.segments → ((q : Part) → Each (LetterWays files (record m { served = n }) q) (map (letter Front) did.turn.messages)) → Keeps files x (front_does x heads (Does did))
+      → ((i e : ℕ) → is_row_at i e did.part.row ≡ true → ⊥) → AllTo (Client env.serve.c) did.turn.segments → ((q : Part) → Each (LetterWays files (record m { served = n }) q) (map (letter Front) did.turn.messages)) → Keeps files x (front_does x heads (Does did))
   turned-makes heads did n notes told paths seat none to messages help g =
       let v : Move = front_does x heads (Does did) in
       makes files x v help g (record m { served = n }) notes told paths seat
@@ -87,7 +87,7 @@ module _ (env : FrontEnv) (x : Conn) where
     pub wrote : m.wrote ≡ w.bytes
     pub holds : FrontHolds w out vs [] s.block s.count
     pub frozen : may_freeze s.block ≡ true
-    pub next : BeginsWith files s.block.recv.unread path
+    pub next : BeginsWithRequest files s.block.recv.unread path
     pub looks : Looks env.serve m s
     pub before : List Verdict
     pub counted : s.count ≡ length before
@@ -95,7 +95,7 @@ module _ (env : FrontEnv) (x : Conn) where
     pub fronts : IsPrefix (before ++ next.first ∷ others) (verdicts m.wrote)
 
   module _ (row : FrontRow) (s : Service) (path : List ℕ) (choice : FirstChoice) (h : IsFrozen s path) where
-    placed_marks : Marks
+    placed_marks : WayMarks
     placed_marks = record { wrote = m.wrote; served = s.count; assigned = (path, choice.node) ∷ [] }
 
     -- its path is the first of all
@@ -121,19 +121,19 @@ module _ (env : FrontEnv) (x : Conn) where
     abbrev v_of : List Seen → Move
     v_of heads = front_does x heads (Does (record { part = given.0; turn = given.1; calls = [] }))
 
-    pub handed-makes : (heads : List Seen) → IsNumber env.serve.c → row.epoch.0 ≡ 1 → x.part.front.row ≡ Some row → ArePast 1 x.part.nodes → m.assigned ≡ [] → Keeps files x (v_of heads)
+    pub handed-makes : (heads : List Seen) → IsConnNumber env.serve.c → row.epoch.0 ≡ 1 → x.part.front.row ≡ Some row → ArePast 1 x.part.nodes → m.assigned ≡ [] → Keeps files x (v_of heads)
     unfolding placed_marks
     handed-makes heads number one found past none help g =
         let v : Move = v_of heads in
-        let n : Marks = record { wrote = m.wrote; served = s.count; assigned = (path, choice.node) ∷ [] } in
+        let n : WayMarks = record { wrote = m.wrote; served = s.count; assigned = (path, choice.node) ∷ [] } in
         let more : List Rec = rec.Admitted env.serve.c ∷ rec.AssignedFirst env.serve.c (s.count + 1) path choice.node choice.add choice.remove ∷ [] in
         let e : ℕ = (next_epoch row).0 in
         let second : e ≡ 2 = ap (λ (i : ℕ). i + 1) one in
         let w = wanted-first in
-        let next : MayMark_here (marked m s.notes) = subst (λ (q : Marks). IsNextGood files q path) (sym h.looks.told) (next-good none) in
+        let next : MayMark_here (marked m s.notes) = subst (λ (q : WayMarks). IsNextGood files q path) (sym h.looks.told) (next-good none) in
         makes files x v help g n
         (rightly-append files m s.notes more h.looks.noted_so (tt, (next, tt)))
-        (marked-append m s.notes more ∙ ap (λ (q : Marks). record q { assigned = q.assigned ++ (path, choice.node) ∷ [] }) h.looks.told ∙ ap (λ (l : List Assigned). record m { served = s.count; assigned = l ++ (path, choice.node) ∷ [] }) none)
+        (marked-append m s.notes more ∙ ap (λ (q : WayMarks). record q { assigned = q.assigned ++ (path, choice.node) ∷ [] }) h.looks.told ∙ ap (λ (l : List Assigned). record m { served = s.count; assigned = l ++ (path, choice.node) ∷ [] }) none)
         (w.0, w.1)
         (inl (past-later 1 e (x.part.nodes choice.node).row (omega (arith, second)) (past choice.node), record { path = path; assigned = refl; answered = h.looks.none; asks = refl }))
         (record {
@@ -143,10 +143,10 @@ module _ (env : FrontEnv) (x : Conn) where
           offer = λ i f parts said offer. let no : (offer.0, offer.1) ∷ [] ≡ [] = sym offer.2 ∙ none in absurd (let f : ⊥ = cc in f);
         })
         (λ old. (offer-says v.part n refl, tt)) tt where
-          MayMark_here : Marks → Type 0
+          MayMark_here : WayMarks → Type 0
           MayMark_here q = IsNextGood files q path
 
-          counts-epoch : (i f : ℕ) → is_at i f (Some (record { stage = stage.Offering choice.node (next_epoch row); epoch = next_epoch row; ended_by = None })) ≡ true → f ≡ (next_epoch row).0
+          counts-epoch : (i f : ℕ) → is_row_at i f (Some (record { stage = stage.Offering choice.node (next_epoch row); epoch = next_epoch row; ended_by = None })) ≡ true → f ≡ (next_epoch row).0
           counts-epoch i f at = sym (eqb-true (next_epoch row).0 f (and_parts (choice.node == i) ((next_epoch row).0 == f) at).1)
 
           undecided : (i f : ℕ) → 2 ≤ f → IsDecided f (x.part.nodes i).row → ⊥
@@ -155,13 +155,13 @@ module _ (env : FrontEnv) (x : Conn) where
             go None p d = d
             go (Some b) p d = omega (arith, p.0, d, le)
 
-          offer-says : (q : Part) (n : Marks) → n ≡ record { wrote = m.wrote; served = s.count; assigned = (path, choice.node) ∷ [] } → LetterWays files n q (record { from = Front; to = Node choice.node; bytes = message env.serve.c (next_epoch row).0 (body.Offer (parts_of s.block s.count)) })
+          offer-says : (q : Part) (n : WayMarks) → n ≡ record { wrote = m.wrote; served = s.count; assigned = (path, choice.node) ∷ [] } → LetterWays files n q (record { from = Front; to = Node choice.node; bytes = message env.serve.c (next_epoch row).0 (body.Offer (parts_of s.block s.count)) })
           offer-says q n is = λ msg d. by-body q n is msg d msg.body refl (kinds-same (record { c = env.serve.c; epoch = record { 0 = (next_epoch row).0 }; body = body.Offer (parts_of s.block s.count) }) msg d) where
-            by-body : (q : Part) (n : Marks) → n ≡ record { wrote = m.wrote; served = s.count; assigned = (path, choice.node) ∷ [] } → (msg : Message) → decoded_message (message env.serve.c (next_epoch row).0 (body.Offer (parts_of s.block s.count))) ≡ Ok msg → (b : Body) → msg.body ≡ b → kind.Offer ≡ kind_of msg.body
+            by-body : (q : Part) (n : WayMarks) → n ≡ record { wrote = m.wrote; served = s.count; assigned = (path, choice.node) ∷ [] } → (msg : Message) → decoded_message (message env.serve.c (next_epoch row).0 (body.Offer (parts_of s.block s.count))) ≡ Ok msg → (b : Body) → msg.body ≡ b → kind.Offer ≡ kind_of msg.body
                 → FrontSaysWays files n q choice.node msg.epoch.0 b
             by-body q n is msg d (body.Offer parts) at same =
                 let read : parts ≡ parts_of s.block s.count = offers-read env.serve.c (next_epoch row).0 h.w h.out h.vs [] s.block s.count number (omega (arith, one)) h.stream h.holds h.frozen msg parts d at in
-                inr (path, choice.node, ap (λ (q : Marks). q.assigned) is, subst (λ (z : EndpointParts). BeginsWith files z.unread path) (sym read) h.next)
+                inr (path, choice.node, ap (λ (q : WayMarks). q.assigned) is, subst (λ (z : EndpointParts). BeginsWithRequest files z.unread path) (sym read) h.next)
             by-body q n is msg d (body.Tag number nodes) at same = let no : kind.Offer ≡ kind.Tag = same ∙ ap kind_of at in absurd (let f : ⊥ = cc in f)
             by-body q n is msg d body.Taken at same = tt
             by-body q n is msg d (body.Forward bytes) at same = tt

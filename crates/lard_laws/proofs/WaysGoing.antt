@@ -7,7 +7,7 @@ use Rattle.lard_law_connections.proofs.BytesWorking.{Right, StepsSo, Works, turn
 use Rattle.lard_law_connections.proofs.BytesWays.{StepsRight, turn-right}
 use Rattle.lard_laws.specs.WaysState.{StayAsks, StayGoes, given_to}
 use Rattle.lard_laws.specs.WaysUnder.{Assigned, Under}
-use Rattle.lard_laws.specs.Ways.{Marks, good_paths}
+use Rattle.lard_laws.specs.Ways.{WayMarks, good_paths}
 use Rattle.lard_laws.proofs.WaysEntering.{AllStarted, Begun, Enters, all-start, begun-under, enters-both, here-begins, read-enter, read-under}
 use Rattle.lard_laws.proofs.WaysLying.{KeepsStarted, came-named, came-under, under-append}
 use Rattle.lard_laws.proofs.WaysMarking.{Rightly, marked}
@@ -21,11 +21,11 @@ use Rattle.lard_rules.specs.declared.stay.Next.TheVariants as next
 use Rattle.lard_rules.specs.declared.stay.Progress.{Progress}
 use Rattle.lard_rules.specs.declared.stay.Stay.{Stay}
 use Rattle.lard_rules.specs.Node.{work_of}
-use Rattle.lard_rules.specs.Stay.{NodeEnv, Work, asks_for, came_for, come_on, enters, enters_first, goes_on, left, named_paths, next_in, reads_these, read_entry, started_here, tagged, turn, turned}
+use Rattle.lard_rules.specs.Stay.{NodeEnv, Work, asks_for, came_for, come_on, enters, enters_first, goes_on, work_left, named_paths, next_in, reads_these, read_entry, started_here, tagged, stay_turn, turned}
 use Rattle.lard_reader.specs.Batches.{batch_of, bytes_used}
 use Rattle.lard_request.specs.declared.verdict.Verdict.{Verdict}
 use Rattle.lard_rules.specs.Loop.{state_of}
-use Rattle.lard_rules.specs.Serving.{Service, consumed, may_read}
+use Rattle.lard_rules.specs.Serving.{Service, serving_consumed, may_read}
 use Rattle.lard_rules.proofs.Runs.{runs_keep}
 use Rattle.lard_law_view.specs.Truth.{Stream}
 
@@ -39,7 +39,7 @@ may-none s may =
     let limit : Bool = elim s.over [ None ↦ true | Some total ↦ false ] in
     none-over s.over (and_parts (not s.block.send.finished) limit (and_parts (not s.block.reset) (not s.block.send.finished && limit) may).1).1
 
-module _ (env : NodeEnv) (m : Marks) (r : FrontRest) (Before : List (List ℕ) → Type 0) (home : Home env m) (w out : Stream) (vs : List Verdict) (wrote : m.wrote ≡ w.bytes) where
+module _ (env : NodeEnv) (m : WayMarks) (r : FrontRest) (Before : List (List ℕ) → Type 0) (home : Home env m) (w out : Stream) (vs : List Verdict) (wrote : m.wrote ≡ w.bytes) where
   abbrev It : Work → Type 0
   It k = Goes env m r Before k
 
@@ -55,7 +55,7 @@ module _ (env : NodeEnv) (m : Marks) (r : FrontRest) (Before : List (List ℕ) �
       → StepsSo env w out vs (reads_these env here used k us) → StepReads env m r Before (reads_these env here used k us)
   reads-later here used k [] over none h = tt
   reads-later here used k (v ∷ us) over none h =
-      let start : Work = record k { service = consumed used k.service } in
+      let start : Work = record k { service = serving_consumed used k.service } in
       let all : Work = enters env here (k.service.count + 1) (v ∷ us) start in
       works-read env m r Before w out vs wrote (asks_for env (length (v ∷ us)) (named_paths env.serve.files all.batch) all) h
       (ap (λ (s : Service). s.over) (asks-service (length (v ∷ us)) (named_paths env.serve.files all.batch) all) ∙ over (k.service.count + 1) v us start ∙ none)
@@ -68,7 +68,7 @@ module _ (env : NodeEnv) (m : Marks) (r : FrontRest) (Before : List (List ℕ) �
   turn-reads k next.Read none h is = reads-later false (bytes_used 8 k.service.block.recv.unread) k (batch_of 8 k.service.block.recv.unread) plain-over none h
   turn-reads k next.Stop none h is = absurd cc
 
-  turn-goes : env.serve.stream ≤ 2 ^ 30 → (k : Work) → Full k → StepGoes env m r Before (turn env k)
+  turn-goes : env.serve.stream ≤ 2 ^ 30 → (k : Work) → Full k → StepGoes env m r Before (stay_turn env k)
   turn-goes most k h = go (may_read k.service) refl (turn-so env w out vs most k h.0.0 h.0.1) where
     go : (b : Bool) → may_read k.service ≡ b → StepsSo env w out vs (turned env k (cond b (next_in k.batch) next.Stop)) → StepGoes env m r Before (turned env k (cond b (next_in k.batch) next.Stop))
     go true may so =
@@ -78,14 +78,14 @@ module _ (env : NodeEnv) (m : Marks) (r : FrontRest) (Before : List (List ℕ) �
 
   -- the stay goes on
   pub stay-goes : env.serve.stream ≤ 2 ^ 30 → (k : Work) → Works env w out vs k → Right env w out vs k → It k → It (goes_on env k)
-  stay-goes most k works right h = (runs_keep (turn env) left Full (record {
+  stay-goes most k works right h = (runs_keep (stay_turn env) work_left Full (record {
     more = λ y z e p. ((subst (StepsSo env w out vs) e (turn-so env w out vs most y p.0.0 p.0.1), subst (StepsRight env) e (turn-right env y p.0.1)), subst (StepGoes env m r Before) e (turn-goes most y p));
     done = λ y z e p. ((subst (StepsSo env w out vs) e (turn-so env w out vs most y p.0.0 p.0.1), subst (StepsRight env) e (turn-right env y p.0.1)), subst (StepGoes env m r Before) e (turn-goes most y p));
   }) k ((works, right), h)).1
 
 -- ---- where it was
 
-module _ (env : NodeEnv) (m : Marks) (r : FrontRest) where
+module _ (env : NodeEnv) (m : WayMarks) (r : FrontRest) where
   abbrev files : FilesAt
   files = env.serve.files
 
@@ -165,7 +165,7 @@ module _ (env : NodeEnv) (m : Marks) (r : FrontRest) where
 
 -- ---- its first batch
 
-module _ (env : NodeEnv) (m : Marks) (r : FrontRest) (home : Home env m) (alone : home.others ≡ []) (w out : Stream) (vs : List Verdict) (wrote : m.wrote ≡ w.bytes) where
+module _ (env : NodeEnv) (m : WayMarks) (r : FrontRest) (home : Home env m) (alone : home.others ≡ []) (w out : Stream) (vs : List Verdict) (wrote : m.wrote ≡ w.bytes) where
   abbrev Never : List (List ℕ) → Type 0
   Never ps = ⊥
 
@@ -176,7 +176,7 @@ module _ (env : NodeEnv) (m : Marks) (r : FrontRest) (home : Home env m) (alone 
   unfolding enters
   first-goes used k v us good none quiet same over notes told answered so =
       let files : FilesAt = env.serve.files in
-      let start : Work = record k { service = consumed used k.service } in
+      let start : Work = record k { service = serving_consumed used k.service } in
       let n : ℕ = k.service.count + 1 in
       let one : Work = started_here env n home.path v start in
       let all : Work = enters env false (n + 1) us one in

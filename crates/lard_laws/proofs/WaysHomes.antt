@@ -10,18 +10,18 @@ use Rattle.lard_law_connections.proofs.BytesFrontMessages.{past-undecided}
 use Rattle.lard_law_connections.proofs.BytesNodeMoves.{IsAt}
 use Rattle.lard_law_connections.specs.Places.{IsDecided, IsPast}
 use Rattle.lard_law_connections.proofs.PlacesHeads.{kinds-same}
-use Rattle.lard_law_view.specs.View.{AreSent, Conn, Move, Part, letter, named, node_put, stands, nothing_said, with_node}
+use Rattle.lard_law_view.specs.View.{AreSent, Conn, Move, Part, letter, named_records, node_put_back, stands, nothing_said, with_node}
 use Rattle.lard_law_view.proofs.Parts.{put-each, put-same}
 use Rattle.lard_laws.specs.WaysState.{GoesItsWay, IsAway, IsPlacedOnce, LetterWays, NodeSaysWays, SeatWays, StageWays, StayAsks, StayWays, marks_at}
 use Rattle.lard_laws.specs.WaysUnder.{Assigned}
-use Rattle.lard_laws.specs.Ways.{BodyGoesOn, Marks}
+use Rattle.lard_laws.specs.Ways.{BodyGoesOn, WayMarks}
 use Rattle.lard_laws.proofs.WaysLetters.{Counts, carries-same}
 use Rattle.lard_laws.proofs.WaysMarking.{IsPlain, Rightly, mark, marked}
 use Rattle.lard_laws.proofs.WaysMoving.{Keeps, LetterAsks, asks-append, clients-ask, clients-say, makes, same-marks, says-append, sent-ask, sent-say, stands-makes}
 use Rattle.lard_laws.proofs.WaysSpelling.{ReadsAsk, ask-reads, epoch-reads}
 use Rattle.lard_laws.proofs.WaysTurning.{BodyIs, SaysIt, TurnWays}
 use Rattle.lard_rules.specs.declared.front.FrontRest.{FrontRest}
-use Rattle.lard_rules.specs.Front.{rest_of}
+use Rattle.lard_rules.specs.Front.{front_rest}
 use Rattle.lard_handoff_front.specs.declared.row.FrontConn.{FrontConn}
 use Rattle.lard_handoff_front.specs.declared.row.FrontConn.TheVariants as stage
 use Rattle.lard_handoff_front.specs.declared.row.FrontRow.{FrontRow}
@@ -50,7 +50,7 @@ unnamed-plain (rec.AssignedFirst d k path n add remove) e = let no : true ≡ fa
 unnamed-plain (rec.AssignedLater d k path n add size queue) e = let no : true ≡ false = e in absurd cc
 unnamed-plain _ e = tt
 
-plain-same : (m : Marks) (r : Rec) → IsPlain r → mark m r ≡ m
+plain-same : (m : WayMarks) (r : Rec) → IsPlain r → mark m r ≡ m
 plain-same m (rec.Wrote d bytes) h = absurd h
 plain-same m (rec.Served place d r code size way) h = absurd h
 plain-same m (rec.AssignedFirst d r path n add remove) h = absurd h
@@ -58,19 +58,19 @@ plain-same m (rec.AssignedLater d r path n add size queue) h = absurd h
 plain-same m _ h = refl
 
 module _ (files : FilesAt) where
-  pub named-rightly : (m : Marks) (rs : List Rec) → Rightly files m rs → Rightly files m (named rs)
+  pub named-rightly : (m : WayMarks) (rs : List Rec) → Rightly files m rs → Rightly files m (named_records rs)
   named-rightly m [] h = tt
   named-rightly m (r ∷ rs) h = go (is_some (whose r)) refl (named-rightly (mark m r) rs h.1) where
-    go : (b : Bool) → is_some (whose r) ≡ b → Rightly files (mark m r) (named rs) → Rightly files m (cond b (r ∷ named rs) (named rs))
+    go : (b : Bool) → is_some (whose r) ≡ b → Rightly files (mark m r) (named_records rs) → Rightly files m (cond b (r ∷ named_records rs) (named_records rs))
     go true e later = (h.0, later)
-    go false e later = subst (λ (n : Marks). Rightly files n (named rs)) (plain-same m r (unnamed-plain r e)) later
+    go false e later = subst (λ (n : WayMarks). Rightly files n (named_records rs)) (plain-same m r (unnamed-plain r e)) later
 
-  pub named-marked : (m : Marks) (rs : List Rec) → marked m (named rs) ≡ marked m rs
+  pub named-marked : (m : WayMarks) (rs : List Rec) → marked m (named_records rs) ≡ marked m rs
   named-marked m [] = refl
   named-marked m (r ∷ rs) = go (is_some (whose r)) refl (named-marked (mark m r) rs) where
-    go : (b : Bool) → is_some (whose r) ≡ b → marked (mark m r) (named rs) ≡ marked (mark m r) rs → marked m (cond b (r ∷ named rs) (named rs)) ≡ marked (mark m r) rs
+    go : (b : Bool) → is_some (whose r) ≡ b → marked (mark m r) (named_records rs) ≡ marked (mark m r) rs → marked m (cond b (r ∷ named_records rs) (named_records rs)) ≡ marked (mark m r) rs
     go true e later = later
-    go false e later = ap (λ (n : Marks). marked n (named rs)) (sym (plain-same m r (unnamed-plain r e))) ∙ later
+    go false e later = ap (λ (n : WayMarks). marked n (named_records rs)) (sym (plain-same m r (unnamed-plain r e))) ∙ later
 
 -- ---- an Ask that goes out
 
@@ -81,19 +81,19 @@ less-or-same n k le = go (nat_lt k n) refl where
   go false e = inl (ltb-false k n e)
 
 -- a message of another kind says nothing of ways
-quiet-body : (files : FilesAt) (m : Marks) (p : Part) (n e : ℕ) (b : Body) → kind_of b ≢ kind.Ask → NodeSaysWays files m p n e b
+quiet-body : (files : FilesAt) (m : WayMarks) (p : Part) (n e : ℕ) (b : Body) → kind_of b ≢ kind.Ask → NodeSaysWays files m p n e b
 quiet-body files m p n e (body.Ask number queue size paths) not = absurd (not refl)
 quiet-body files m p n e _ not = tt
 
-pub quiet-says : (files : FilesAt) (m : Marks) (p : Part) (n c e : ℕ) (b : Body) → kind_of b ≢ kind.Ask → LetterWays files m p (record { from = Node n; to = Front; bytes = message c e b })
+pub quiet-says : (files : FilesAt) (m : WayMarks) (p : Part) (n c e : ℕ) (b : Body) → kind_of b ≢ kind.Ask → LetterWays files m p (record { from = Node n; to = Front; bytes = message c e b })
 quiet-says files m p n c e b not = λ msg d. quiet-body files m p n msg.epoch.0 msg.body (λ ask. not (kinds-same (record { c = c; epoch = record { 0 = e }; body = b }) msg d ∙ ask))
 
-module _ (env : NodeEnv) (m : Marks) (p : Part) (n : ℕ) (small : env.epoch < 2 ^ 16) (decided : IsDecided env.epoch (p.nodes n).row) where
+module _ (env : NodeEnv) (m : WayMarks) (p : Part) (n : ℕ) (small : env.epoch < 2 ^ 16) (decided : IsDecided env.epoch (p.nodes n).row) where
   abbrev files : FilesAt
   files = env.serve.files
 
   abbrev r : FrontRest
-  r = rest_of p.front.rest
+  r = front_rest p.front.rest
 
   body-says : (b : Body) → BodyIs env m r (p.nodes n).stay b → (msg : Message) → decoded_message (message env.serve.c env.epoch b) ≡ Ok msg → NodeSaysWays files m p n msg.epoch.0 msg.body
   body-says (body.Ask number queue size paths) h msg d =
@@ -126,17 +126,17 @@ module _ (env : NodeEnv) (m : Marks) (p : Part) (n : ℕ) (small : env.epoch < 2
 
 -- ---- its paths go on
 
-asks-nothing : (fs : FilesAt) (m : Marks) (b : Body) → kind_of b ≢ kind.Ask → BodyGoesOn fs m b
+asks-nothing : (fs : FilesAt) (m : WayMarks) (b : Body) → kind_of b ≢ kind.Ask → BodyGoesOn fs m b
 asks-nothing fs m (body.Ask number queue size paths) not = absurd (not refl)
 asks-nothing fs m _ not = tt
 
-other-goes : (fs : FilesAt) (m : Marks) (c e : ℕ) (b : Body) → kind_of b ≢ kind.Ask → (msg : Message) → decoded_message (message c e b) ≡ Ok msg → BodyGoesOn fs m msg.body
+other-goes : (fs : FilesAt) (m : WayMarks) (c e : ℕ) (b : Body) → kind_of b ≢ kind.Ask → (msg : Message) → decoded_message (message c e b) ≡ Ok msg → BodyGoesOn fs m msg.body
 other-goes fs m c e b not msg d = asks-nothing fs m msg.body (λ ask. not (kinds-same (record { c = c; epoch = record { 0 = e }; body = b }) msg d ∙ ask))
 
-pub quiet-asks : (fs : FilesAt) (m : Marks) (x : Conn) (n c e : ℕ) (b : Body) → kind_of b ≢ kind.Ask → LetterAsks fs m x (record { from = Node n; to = Front; bytes = message c e b })
+pub quiet-asks : (fs : FilesAt) (m : WayMarks) (x : Conn) (n c e : ℕ) (b : Body) → kind_of b ≢ kind.Ask → LetterAsks fs m x (record { from = Node n; to = Front; bytes = message c e b })
 quiet-asks fs m x n c e b not = inr (other-goes fs m c e b not)
 
-module _ (env : NodeEnv) (m : Marks) (r : FrontRest) (x : Conn) (n : ℕ) (stay : Option Stay) where
+module _ (env : NodeEnv) (m : WayMarks) (r : FrontRest) (x : Conn) (n : ℕ) (stay : Option Stay) where
   abbrev its_files : FilesAt
   its_files = env.serve.files
 
@@ -168,12 +168,12 @@ module _ (env : NodeEnv) (m : Marks) (r : FrontRest) (x : Conn) (n : ℕ) (stay 
 -- ---- its seat
 
 -- what a node keeps anew agrees, where the connection is at it
-module _ (files : FilesAt) (m : Marks) (p : Part) (n : ℕ) (q : NodePart) where
+module _ (files : FilesAt) (m : WayMarks) (p : Part) (n : ℕ) (q : NodePart) where
   abbrev rest : FrontRest
-  rest = rest_of p.front.rest
+  rest = front_rest p.front.rest
 
-  away-put : (e i : ℕ) → i ≡ n → IsAway files m rest n e q → IsAway files m rest i e (node_put p.nodes n q i)
-  away-put e i same h = subst (λ (j : ℕ). IsAway files m rest j e (node_put p.nodes n q j)) (sym same) (subst (IsAway files m rest n e) (sym (put-same p.nodes n q)) h)
+  away-put : (e i : ℕ) → i ≡ n → IsAway files m rest n e q → IsAway files m rest i e (node_put_back p.nodes n q i)
+  away-put e i same h = subst (λ (j : ℕ). IsAway files m rest j e (node_put_back p.nodes n q j)) (sym same) (subst (IsAway files m rest n e) (sym (put-same p.nodes n q)) h)
 
   stage-put : (e : ℕ) (d : FrontConn) → IsAt n d → IsAway files m rest n e q → StageWays files m (with_node p n q) e d
   stage-put e (stage.Offering i f) at h = away-put e i at h
@@ -184,7 +184,7 @@ module _ (files : FilesAt) (m : Marks) (p : Part) (n : ℕ) (q : NodePart) where
   abbrev pub KeepsStay : Type 0
   KeepsStay = ((e : ℕ) → IsPast e (p.nodes n).row → IsPast e q.row) × ((e : ℕ) → IsDecided e (p.nodes n).row → IsDecided e q.row) × (q.stay ≡ (p.nodes n).stay)
 
-  away-kept : KeepsStay → (e i : ℕ) → IsAway files m rest i e (p.nodes i) → IsAway files m rest i e (node_put p.nodes n q i)
+  away-kept : KeepsStay → (e i : ℕ) → IsAway files m rest i e (p.nodes i) → IsAway files m rest i e (node_put_back p.nodes n q i)
   away-kept keeps e i h = put-each p.nodes n q (λ j (z : NodePart). j ≡ i → IsAway files m rest i e z)
       (λ same. let mine : IsAway files m rest i e (p.nodes n) = subst (λ (j : ℕ). IsAway files m rest i e (p.nodes j)) (sym same) h in
       ⊎_elim (λ (a : IsPast e (p.nodes n).row × IsPlacedOnce files m rest i). inl (keeps.0 e a.0, a.1))
@@ -205,23 +205,23 @@ module _ (files : FilesAt) (m : Marks) (p : Part) (n : ℕ) (q : NodePart) where
   seat-put row found at h = subst (SeatWays files m (with_node p n q)) (sym found) (stage-put row.epoch.0 row.stage at h)
 
 -- where the connection is at this node
-at-away : (fs : FilesAt) (m : Marks) (p : Part) (n e : ℕ) (d : FrontConn) → IsAt n d → StageWays fs m p e d → IsAway fs m (rest_of p.front.rest) n e (p.nodes n)
-at-away fs m p n e (stage.Offering i f) at h = subst (λ (j : ℕ). IsAway fs m (rest_of p.front.rest) j e (p.nodes j)) at h
-at-away fs m p n e (stage.Moved i f) at h = subst (λ (j : ℕ). IsAway fs m (rest_of p.front.rest) j e (p.nodes j)) at h
+at-away : (fs : FilesAt) (m : WayMarks) (p : Part) (n e : ℕ) (d : FrontConn) → IsAt n d → StageWays fs m p e d → IsAway fs m (front_rest p.front.rest) n e (p.nodes n)
+at-away fs m p n e (stage.Offering i f) at h = subst (λ (j : ℕ). IsAway fs m (front_rest p.front.rest) j e (p.nodes j)) at h
+at-away fs m p n e (stage.Moved i f) at h = subst (λ (j : ℕ). IsAway fs m (front_rest p.front.rest) j e (p.nodes j)) at h
 at-away fs m p n e _ at h = absurd at
 
 -- What is known of the stay at its home.
-pub record AtHome (files : FilesAt) (m : Marks) (r : FrontRest) (n : ℕ) (p : NodePart) : Type 0 where
+pub record AtHome (files : FilesAt) (m : WayMarks) (r : FrontRest) (n : ℕ) (p : NodePart) : Type 0 where
   pub path : List ℕ
   pub others : List Assigned
   pub first : m.assigned ≡ (path, n) ∷ others
   pub stay : StayWays files n m r p.stay
 
-pub at-home : (files : FilesAt) (x : Conn) (g : GoesItsWay files x) (n : ℕ) (row : FrontRow) → x.part.front.row ≡ Some row → IsAt n row.stage → IsDecided row.epoch.0 (x.part.nodes n).row → AtHome files (marks_at x) (rest_of x.part.front.rest) n (x.part.nodes n)
+pub at-home : (files : FilesAt) (x : Conn) (g : GoesItsWay files x) (n : ℕ) (row : FrontRow) → x.part.front.row ≡ Some row → IsAt n row.stage → IsDecided row.epoch.0 (x.part.nodes n).row → AtHome files (marks_at x) (front_rest x.part.front.rest) n (x.part.nodes n)
 at-home files x g n row found at decided =
     let seat : StageWays files (marks_at x) x.part row.epoch.0 row.stage = subst (SeatWays files (marks_at x) x.part) found g.seat in
-    ⊎_elim (λ (a : IsPast row.epoch.0 (x.part.nodes n).row × IsPlacedOnce files (marks_at x) (rest_of x.part.front.rest) n). absurd (past-undecided row.epoch.0 (x.part.nodes n).row a.0 decided))
-    (λ (a : IsDecided row.epoch.0 (x.part.nodes n).row × ((path : List ℕ) × (others : List Assigned) × ((marks_at x).assigned ≡ (path, n) ∷ others)) × StayWays files n (marks_at x) (rest_of x.part.front.rest) (x.part.nodes n).stay).
+    ⊎_elim (λ (a : IsPast row.epoch.0 (x.part.nodes n).row × IsPlacedOnce files (marks_at x) (front_rest x.part.front.rest) n). absurd (past-undecided row.epoch.0 (x.part.nodes n).row a.0 decided))
+    (λ (a : IsDecided row.epoch.0 (x.part.nodes n).row × ((path : List ℕ) × (others : List Assigned) × ((marks_at x).assigned ≡ (path, n) ∷ others)) × StayWays files n (marks_at x) (front_rest x.part.front.rest) (x.part.nodes n).stay).
     record { path = a.1.0; others = a.1.1; first = a.1.2; stay = a.2 })
     (at-away files (marks_at x) x.part n row.epoch.0 row.stage at seat)
 
@@ -232,11 +232,11 @@ sent-append x place [] ys h k = k
 sent-append x place (q ∷ xs) ys h k = (h.0, sent-append x place xs ys h.1 k)
 
 module _ (env : NodeEnv) (x : Conn) (n : ℕ) (node : env.n ≡ n) (small : env.epoch < 2 ^ 16) where
-  abbrev m : Marks
+  abbrev m : WayMarks
   m = marks_at x
 
   abbrev kept : FrontRest
-  kept = rest_of x.part.front.rest
+  kept = front_rest x.part.front.rest
 
   abbrev p : NodePart
   p = x.part.nodes n
@@ -245,13 +245,13 @@ module _ (env : NodeEnv) (x : Conn) (n : ℕ) (node : env.n ≡ n) (small : env.
   all_files = env.serve.files
 
   -- what it said before it says again
-  again-say : (k : Marks) (q : Part) (v : Move) → Helps x v → (ms : List (Place × List ℕ)) → (ms ≡ []) ⊎ (ms ≡ again_sent p) → Each (LetterWays all_files k q) x.letters → Each (LetterWays all_files k q) (map (letter (Node n)) ms)
+  again-say : (k : WayMarks) (q : Part) (v : Move) → Helps x v → (ms : List (Place × List ℕ)) → (ms ≡ []) ⊎ (ms ≡ again_sent p) → Each (LetterWays all_files k q) x.letters → Each (LetterWays all_files k q) (map (letter (Node n)) ms)
   again-say k q v help ms h all = ⊎_elim
       (λ (e : ms ≡ []). subst (λ (l : List (Place × List ℕ)). Each (LetterWays all_files k q) (map (letter (Node n)) l)) (sym e) tt)
       (λ (e : ms ≡ again_sent p). subst (λ (l : List (Place × List ℕ)). Each (LetterWays all_files k q) (map (letter (Node n)) l)) (sym e)
       (sent-say all_files k q x (Node n) (p.kept ++ p.fetches) (sent-append x (Node n) p.kept p.fetches (help.sound.kept n) (help.sound.fetches n)) all)) h
 
-  again-ask : (k : Marks) (v : Move) → Helps x v → (ms : List (Place × List ℕ)) → (ms ≡ []) ⊎ (ms ≡ again_sent p) → Each (LetterAsks all_files k x) (map (letter (Node n)) ms)
+  again-ask : (k : WayMarks) (v : Move) → Helps x v → (ms : List (Place × List ℕ)) → (ms ≡ []) ⊎ (ms ≡ again_sent p) → Each (LetterAsks all_files k x) (map (letter (Node n)) ms)
   again-ask k v help ms h = ⊎_elim
       (λ (e : ms ≡ []). subst (λ (l : List (Place × List ℕ)). Each (LetterAsks all_files k x) (map (letter (Node n)) l)) (sym e) tt)
       (λ (e : ms ≡ again_sent p). subst (λ (l : List (Place × List ℕ)). Each (LetterAsks all_files k x) (map (letter (Node n)) l)) (sym e)
@@ -270,11 +270,11 @@ module _ (env : NodeEnv) (x : Conn) (n : ℕ) (node : env.n ≡ n) (small : env.
   does-makes heads notes given Was t was may same row found at epoch first help g =
       let v : Move = does_with heads notes given in
       let q : NodePart = given.0 in
-      let k : Marks = record m { served = t.served } in
-      let put : node_put x.part.nodes n q n ≡ q = put-same x.part.nodes n q in
-      let now : IsDecided env.epoch (node_put x.part.nodes n q n).row = subst (λ (z : NodePart). IsDecided env.epoch z.row) (sym put) t.decided in
+      let k : WayMarks = record m { served = t.served } in
+      let put : node_put_back x.part.nodes n q n ≡ q = put-same x.part.nodes n q in
+      let now : IsDecided env.epoch (node_put_back x.part.nodes n q n).row = subst (λ (z : NodePart). IsDecided env.epoch z.row) (sym put) t.decided in
       let here : IsDecided row.epoch.0 q.row = subst (λ (e : ℕ). IsDecided e q.row) (sym epoch) t.decided in
-      let said : Each (SaysIt env k kept (node_put x.part.nodes n q n).stay) t.more = subst (λ (z : NodePart). Each (SaysIt env k kept z.stay) t.more) (sym put) t.said in
+      let said : Each (SaysIt env k kept (node_put_back x.part.nodes n q n).stay) t.more = subst (λ (z : NodePart). Each (SaysIt env k kept z.stay) t.more) (sym put) t.said in
       makes all_files x v help g k may (same ∙ t.told) g.paths
       (seat-put all_files k x.part n q row found at (inr (here, first, subst (λ (i : ℕ). StayWays all_files i k kept q.stay) node t.stay)))
       (carries-same all_files m k (same-marks all_files m t.served) x.part v.part help.owes.grows refl refl
@@ -288,7 +288,7 @@ module _ (env : NodeEnv) (x : Conn) (n : ℕ) (node : env.n ≡ n) (small : env.
       (clients-ask all_files k x n env.serve.c given.1.segments t.to)
       (subst (λ (ms : List (Place × List ℕ)). Each (LetterAsks all_files k x) (map (letter (Node n)) ms)) (sym t.messages)
       (asks-append all_files k x n t.again t.more (again-ask k v help t.again t.sent) (it-asks env k kept x n given.0.stay t.more t.said)))) where
-        append-letters : (ss ms : List (Place × List ℕ)) (q : Part) (k : Marks) → Each (LetterWays all_files k q) (map (letter (Node n)) ss) → Each (LetterWays all_files k q) (map (letter (Node n)) ms)
+        append-letters : (ss ms : List (Place × List ℕ)) (q : Part) (k : WayMarks) → Each (LetterWays all_files k q) (map (letter (Node n)) ss) → Each (LetterWays all_files k q) (map (letter (Node n)) ms)
             → Each (LetterWays all_files k q) (map (letter (Node n)) ss ++ map (letter (Node n)) ms)
         append-letters [] ms q k h g = g
         append-letters (s ∷ ss) ms q k h g = (h.0, append-letters ss ms q k h.1 g)

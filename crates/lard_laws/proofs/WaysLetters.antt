@@ -11,9 +11,9 @@ use Rattle.lard_law_connections.proofs.PlacesHeads.{decoded-head}
 use Rattle.lard_law_view.specs.View.{Part}
 use Rattle.lard_laws.specs.WaysState.{AskIs, FrontSaysWays, IsBy, LetterWays, NodeSaysWays, OfferIs, SaysWays, StayAsks, TagIs}
 use Rattle.lard_laws.specs.WaysUnder.{Assigned}
-use Rattle.lard_laws.specs.Ways.{Marks, paths_assigned, paths_wanted}
+use Rattle.lard_laws.specs.Ways.{WayMarks, paths_assigned, paths_wanted}
 use Rattle.lard_rules.specs.declared.front.FrontRest.{FrontRest}
-use Rattle.lard_rules.specs.Front.{is_at, rest_of}
+use Rattle.lard_rules.specs.Front.{is_row_at, front_rest}
 use Rattle.lard_handoff_front.specs.declared.row.FrontRow.{FrontRow}
 use Rattle.lard_history.specs.Own.{Letter}
 use Rattle.lard_history.proofs.Each.{Each}
@@ -28,13 +28,13 @@ use Rattle.lard_rules.specs.Node.{NodePart}
 
 -- it is where an Ask counts: at this node, in this epoch
 abbrev pub Counts : Part → ℕ → ℕ → Type 0
-Counts p i e = is_at i e p.front.row ≡ true
+Counts p i e = is_row_at i e p.front.row ≡ true
 
-pub record Carries (files : FilesAt) (m n : Marks) (p q : Part) : Type 0 where
+pub record Carries (files : FilesAt) (m n : WayMarks) (p q : Part) : Type 0 where
   pub grows : Grows p q
-  pub ask : (i e number : ℕ) (ps : List (List ℕ)) → Counts q i e → IsDecided e (p.nodes i).row → (Counts p i e → AskIs files m (rest_of p.front.rest) (p.nodes i).stay number ps)
-      → AskIs files n (rest_of q.front.rest) (q.nodes i).stay number ps
-  pub tag : (i e number : ℕ) (nodes : List ℕ) → Counts q i e → IsBy e p.front.row → (Counts p i e → TagIs (rest_of p.front.rest) number nodes) → TagIs (rest_of q.front.rest) number nodes
+  pub ask : (i e number : ℕ) (ps : List (List ℕ)) → Counts q i e → IsDecided e (p.nodes i).row → (Counts p i e → AskIs files m (front_rest p.front.rest) (p.nodes i).stay number ps)
+      → AskIs files n (front_rest q.front.rest) (q.nodes i).stay number ps
+  pub tag : (i e number : ℕ) (nodes : List ℕ) → Counts q i e → IsBy e p.front.row → (Counts p i e → TagIs (front_rest p.front.rest) number nodes) → TagIs (front_rest q.front.rest) number nodes
   pub offer : (i e : ℕ) (parts : EndpointParts) → FrontSaid p i e kind.Offer → OfferIs files m parts → IsDecided e (q.nodes i).row ⊎ OfferIs files n parts
 
 by-grows : (nodes : ℕ → NodePart) (e : ℕ) (o r : Option FrontRow) → FrontGrows nodes o r → IsBy e o → IsBy e r
@@ -42,7 +42,7 @@ by-grows nodes e None r g h = absurd h
 by-grows nodes e (Some row) None g h = absurd g
 by-grows nodes e (Some row) (Some next) g h = omega (arith, g.0, h)
 
-module _ (files : FilesAt) (m n : Marks) (p q : Part) (c : Carries files m n p q) where
+module _ (files : FilesAt) (m n : WayMarks) (p q : Part) (c : Carries files m n p q) where
   node-on : (i e : ℕ) (b : Body) → NodeSaysWays files m p i e b → NodeSaysWays files n q i e b
   node-on i e (body.Ask number queue size paths) h = (decided-grows e (p.nodes i).row (q.nodes i).row (c.grows.nodes i) h.0, λ at. c.ask i e number paths at h.0 h.1)
   node-on i e _ h = h
@@ -71,11 +71,11 @@ module _ (files : FilesAt) (m n : Marks) (p q : Part) (c : Carries files m n p q
 -- ---- the same Asks and Tags count
 
 -- what was assigned is the same, and the client may have written more
-pub record IsSame (files : FilesAt) (m n : Marks) : Type 0 where
+pub record IsSame (files : FilesAt) (m n : WayMarks) : Type 0 where
   pub assigned : n.assigned ≡ m.assigned
   pub wanted : IsPrefix (paths_wanted files m) (paths_wanted files n)
 
-module _ (files : FilesAt) (m n : Marks) (same : IsSame files m n) where
+module _ (files : FilesAt) (m n : WayMarks) (same : IsSame files m n) where
   pub paths-same : paths_assigned n ≡ paths_assigned m
   paths-same = ap (map (λ (a : Assigned). a.0)) same.assigned
 
@@ -94,14 +94,14 @@ module _ (files : FilesAt) (m n : Marks) (same : IsSame files m n) where
 
   -- the front end keeps what it kept, and each node still awaits what its Ask names
   pub carries-same : (p q : Part) → Grows p q → q.front.row ≡ p.front.row → q.front.rest ≡ p.front.rest
-      → ((i e : ℕ) (ps : List (List ℕ)) → Counts p i e → IsDecided e (p.nodes i).row → StayAsks files ((rest_of p.front.rest).asks + 1) ps (p.nodes i).stay → StayAsks files ((rest_of p.front.rest).asks + 1) ps (q.nodes i).stay)
+      → ((i e : ℕ) (ps : List (List ℕ)) → Counts p i e → IsDecided e (p.nodes i).row → StayAsks files ((front_rest p.front.rest).asks + 1) ps (p.nodes i).stay → StayAsks files ((front_rest p.front.rest).asks + 1) ps (q.nodes i).stay)
       → Carries files m n p q
   carries-same p q grows row rest stays = record {
     grows = grows;
     ask = λ i e number ps at decided h.
-        let was : Counts p i e = sym (ap (is_at i e) row) ∙ at in
-        subst (λ (r : FrontRest). AskIs files n r (q.nodes i).stay number ps) (ap rest_of (sym rest)) (ask-same (rest_of p.front.rest) (p.nodes i).stay (q.nodes i).stay number ps (stays i e ps was decided) (h was));
-    tag = λ i e number nodes at by h. subst (λ (r : FrontRest). TagIs r number nodes) (ap rest_of (sym rest)) (h (sym (ap (is_at i e) row) ∙ at));
+        let was : Counts p i e = sym (ap (is_row_at i e) row) ∙ at in
+        subst (λ (r : FrontRest). AskIs files n r (q.nodes i).stay number ps) (ap front_rest (sym rest)) (ask-same (front_rest p.front.rest) (p.nodes i).stay (q.nodes i).stay number ps (stays i e ps was decided) (h was));
+    tag = λ i e number nodes at by h. subst (λ (r : FrontRest). TagIs r number nodes) (ap front_rest (sym rest)) (h (sym (ap (is_row_at i e) row) ∙ at));
     offer = λ i e parts said o. inr (offer-same parts o);
   }
 

@@ -9,46 +9,46 @@ use Rattle.lard_base.specs.declared.place.Via.TheVariants.{Own}
 use Rattle.lard_block.specs.declared.block.Found.{Found}
 use Rattle.lard_block.specs.declared.block.Found.TheVariants as found
 use Rattle.lard_block.specs.Blocks.{cut_of}
-use Rattle.lard_law_connections.specs.BytesAgreement.{HasRead}
+use Rattle.lard_law_connections.specs.BytesAgreement.{HasReadPending}
 use Rattle.lard_law_connections.proofs.BytesFrontReading.{IsOn, ReadsSo, block-read, long-read, turn-so}
 use Rattle.lard_law_connections.proofs.BytesServing.{MayGo, So, may-go}
-use Rattle.lard_laws.specs.WaysState.{BeginsWith, IsWaiting}
-use Rattle.lard_laws.specs.Ways.{AnswersBy, AnswersNext, ComesAsAssigned, Marks, good_paths}
+use Rattle.lard_laws.specs.WaysState.{BeginsWithRequest, WaitsForNext}
+use Rattle.lard_laws.specs.Ways.{AnswersBy, AnswersNextAt, ComesAsAssigned, WayMarks, good_paths}
 use Rattle.lard_laws.proofs.WaysGoods.{good-append, next-get, prefix-take}
 use Rattle.lard_laws.proofs.WaysMarking.{Rightly, marked, marked-append, rightly-append}
 use Rattle.lard_endpoint.specs.Control.{ControlBlock, consuming}
 use Rattle.lard_endpoint.specs.Moving.{may_freeze}
-use Rattle.lard_rules.specs.FrontReading.{Reading, block_at, left, reads, reads_block, reads_found, turn}
+use Rattle.lard_rules.specs.FrontReading.{Reading, block_at, reading_left, front_reads, reads_block, reads_found, reading_turn}
 use Rattle.lard_rules.proofs.FrontBlocks.{KeptByTurns}
 use Rattle.lard_journal.specs.declared.rec.Rec.TheVariants as rec
 use Rattle.lard_rules.specs.Stay.{and_path}
-use Rattle.lard_recv.specs.Recv.{Received, awaited, begins_after, ends, fresh, taken}
+use Rattle.lard_recv.specs.Recv.{Received, awaited, begins_after, ends, fresh_bytes, bytes_taken}
 use Rattle.lard_request.specs.declared.verdict.Code.TheVariants as code
 use Rattle.lard_request.specs.declared.verdict.Verdict.{Verdict}
 use Rattle.lard_request.specs.declared.verdict.Verdict.TheVariants.{Fault}
 use Rattle.lard_rules.specs.Loop.{Step, More, Done, runs_on}
-use Rattle.lard_rules.specs.Serving.{ServeEnv, Service, answered, consumed, ended_at_fin, may_read, passed_over, queued}
+use Rattle.lard_rules.specs.Serving.{ServeEnv, Service, answered, serving_consumed, ended_at_fin, may_read, passed_over, queued}
 use Rattle.lard_law_view.specs.Truth.{Stream}
 
 -- ---- the first of the unread bytes stays the first
 
-begins-more : (files : FilesAt) (unread z path : List ℕ) → BeginsWith files unread path → BeginsWith files (unread ++ z) path
+begins-more : (files : FilesAt) (unread z path : List ℕ) → BeginsWithRequest files unread path → BeginsWithRequest files (unread ++ z) path
 begins-more files unread z path h =
     let g = verdicts-grow unread z in
     record { first = h.first; others = h.others ++ g.0; are = g.1 ∙ ap (λ (vs : List Verdict). vs ++ g.0) h.are; good = h.good }
 
-pub waits-more : (files : FilesAt) (unread z : List ℕ) (o : Option (List ℕ)) → IsWaiting files unread o → IsWaiting files (unread ++ z) o
+pub waits-more : (files : FilesAt) (unread z : List ℕ) (o : Option (List ℕ)) → WaitsForNext files unread o → WaitsForNext files (unread ++ z) o
 waits-more files unread z None h = tt
 waits-more files unread z (Some path) h = begins-more files unread z path h
 
 -- whatever comes and is sent
-pub waits-kept : (files : FilesAt) (o : Option (List ℕ)) → KeptByTurns (λ r s. IsWaiting files r.unread o)
+pub waits-kept : (files : FilesAt) (o : Option (List ℕ)) → KeptByTurns (λ r s. WaitsForNext files r.unread o)
 waits-kept files o = record {
   comes = λ r s seq bytes fin h.
-      let all : Received = taken r (fresh r seq bytes) (ends r seq bytes fin) in
-      cond_both (begins_after seq (awaited r)) r (cond r.fin r all) (λ (q : Received). IsWaiting files q.unread o) (λ t. h) (λ t.
-      cond_both r.fin r all (λ (q : Received). IsWaiting files q.unread o) (λ u. h) (λ u.
-      cond_both r.discarding r.unread (r.unread ++ fresh r seq bytes) (λ (xs : List ℕ). IsWaiting files xs o) (λ v. h) (λ v. waits-more files r.unread (fresh r seq bytes) o h)));
+      let all : Received = bytes_taken r (fresh_bytes r seq bytes) (ends r seq bytes fin) in
+      cond_both (begins_after seq (awaited r)) r (cond r.fin r all) (λ (q : Received). WaitsForNext files q.unread o) (λ t. h) (λ t.
+      cond_both r.fin r all (λ (q : Received). WaitsForNext files q.unread o) (λ u. h) (λ u.
+      cond_both r.discarding r.unread (r.unread ++ fresh_bytes r seq bytes) (λ (xs : List ℕ). WaitsForNext files xs o) (λ v. h) (λ v. waits-more files r.unread (fresh_bytes r seq bytes) o h)));
   acks = λ r s ack seq wnd h. h;
   nexts = λ r s h. h;
   again = λ r s h. h;
@@ -56,7 +56,7 @@ waits-kept files o = record {
 
 -- ---- what is in hand
 
-module _ (env : ServeEnv) (m : Marks) where
+module _ (env : ServeEnv) (m : WayMarks) where
   abbrev files : FilesAt
   files = env.files
 
@@ -70,7 +70,7 @@ module _ (env : ServeEnv) (m : Marks) where
     pub none : good_paths files (take s.count all_verdicts) ≡ []
 
   abbrev pub LooksAt : Reading → Type 0
-  LooksAt x = Looks x.service × IsWaiting files x.service.block.recv.unread x.target
+  LooksAt x = Looks x.service × WaitsForNext files x.service.block.recv.unread x.target
 
   abbrev StepLooks : Step Reading → Type 0
   StepLooks (More y) = LooksAt y
@@ -84,9 +84,9 @@ module _ (env : ServeEnv) (m : Marks) where
   }
 
   -- the next request is not for a file, and is answered
-  answered-looks : (v : Verdict) → good_path files v ≡ None → (n : ℕ) (s : Service) (before : List Verdict) → s.count ≡ length before → IsPrefix (before ++ v ∷ []) all_verdicts → Looks s → Looks (answered env Own v (consumed n s))
+  answered-looks : (v : Verdict) → good_path files v ≡ None → (n : ℕ) (s : Service) (before : List Verdict) → s.count ≡ length before → IsPrefix (before ++ v ∷ []) all_verdicts → Looks s → Looks (answered env Own v (serving_consumed n s))
   answered-looks v none n s before counted fronts h =
-      let t : Service = consumed n s in
+      let t : Service = serving_consumed n s in
       let bytes : List ℕ = answer files v in
       let total : ℕ = t.block.send.total + length bytes in
       let k : Looks t = same-looks s t refl refl h in
@@ -96,7 +96,7 @@ module _ (env : ServeEnv) (m : Marks) where
       let next_is : take (s.count + 1) all_verdicts ≡ take s.count all_verdicts ++ v ∷ [] =
       ap (λ (n : ℕ). take n all_verdicts) size ∙ prefix-take (before ++ v ∷ []) all_verdicts fronts
       ∙ ap (λ (l : List Verdict). l ++ v ∷ []) (sym (ap (λ (n : ℕ). take n all_verdicts) counted ∙ prefix-take before all_verdicts first)) in
-      let may : AnswersNext files (record m { served = s.count }) env.place Own = subst (AnswersBy files (record m { served = s.count }) env.place Own) (sym got) (as-own (good_path files v) none) in
+      let may : AnswersNextAt files (record m { served = s.count }) env.place Own = subst (AnswersBy files (record m { served = s.count }) env.place Own) (sym got) (as-own (good_path files v) none) in
       cond_both (nat_lt env.stream total) (passed_over env total t) (queued env Own v bytes t) Looks
       (λ e. record {
         noted_so = rightly-append files m s.notes (rec.Reset env.place env.c total ∷ []) h.noted_so (tt, tt);
@@ -104,8 +104,8 @@ module _ (env : ServeEnv) (m : Marks) where
         none = h.none;
       })
       (λ e. record {
-        noted_so = rightly-append files m s.notes (rec.Served env.place env.c (s.count + 1) (answer_code files v) (length bytes) Own ∷ []) h.noted_so (subst (λ (q : Marks). AnswersNext files q env.place Own) (sym h.told) may, tt);
-        told = marked-append m s.notes (rec.Served env.place env.c (s.count + 1) (answer_code files v) (length bytes) Own ∷ []) ∙ ap (λ (q : Marks). record q { served = q.served + 1 }) h.told;
+        noted_so = rightly-append files m s.notes (rec.Served env.place env.c (s.count + 1) (answer_code files v) (length bytes) Own ∷ []) h.noted_so (subst (λ (q : WayMarks). AnswersNextAt files q env.place Own) (sym h.told) may, tt);
+        told = marked-append m s.notes (rec.Served env.place env.c (s.count + 1) (answer_code files v) (length bytes) Own ∷ []) ∙ ap (λ (q : WayMarks). record q { served = q.served + 1 }) h.told;
         none = ap (good_paths files) next_is ∙ good-append files (take s.count all_verdicts) (v ∷ []) ∙ (λ i. h.none i ++ lone (good_path files v) none i);
       }) where
         regroup : (xs : List Verdict) (x : Verdict) (zs : List Verdict) → (xs ++ x ∷ []) ++ zs ≡ xs ++ x ∷ zs
@@ -118,7 +118,7 @@ module _ (env : ServeEnv) (m : Marks) where
         lone : (o : Option (List ℕ)) → o ≡ None → and_path o [] ≡ []
         lone o e = ap (λ (x : Option (List ℕ)). and_path x []) e
 
-module _ (env : ServeEnv) (m : Marks) (w out : Stream) (vs : List Verdict) (wrote : m.wrote ≡ w.bytes) (most : env.stream ≤ 2 ^ 30) where
+module _ (env : ServeEnv) (m : WayMarks) (w out : Stream) (vs : List Verdict) (wrote : m.wrote ≡ w.bytes) (most : env.stream ≤ 2 ^ 30) where
   abbrev its_files : FilesAt
   its_files = env.files
 
@@ -131,11 +131,11 @@ module _ (env : ServeEnv) (m : Marks) (w out : Stream) (vs : List Verdict) (wrot
   abbrev StepIts : Step Reading → Type 0
   StepIts s = StepLooks env m s
 
-  fronts-of : (b : ControlBlock) (before pend : List Verdict) → HasRead w b before pend → IsPrefix (before ++ pend) (all_verdicts env m)
+  fronts-of : (b : ControlBlock) (before pend : List Verdict) → HasReadPending w b before pend → IsPrefix (before ++ pend) (all_verdicts env m)
   fronts-of b before pend read = subst (λ (q : List ℕ). IsPrefix (before ++ pend) (verdicts q)) (append-nil w.bytes ∙ sym wrote) (read.fronts [])
 
-  waits-none : (x : Reading) → x.target ≡ None → (unread : List ℕ) → IsWaiting its_files unread x.target
-  waits-none x none unread = subst (IsWaiting its_files unread) (sym none) tt
+  waits-none : (x : Reading) → x.target ≡ None → (unread : List ℕ) → WaitsForNext its_files unread x.target
+  waits-none x none unread = subst (WaitsForNext its_files unread) (sym none) tt
 
   -- ---- turn by turn
 
@@ -144,7 +144,7 @@ module _ (env : ServeEnv) (m : Marks) (w out : Stream) (vs : List Verdict) (wrot
 
   found-looks : (x : Reading) (h : It x) → MayGo w h.0.vs_now [] x.service → Its x → (f : Found) → cut_of x.service.block.recv.unread ≡ f → StepIts (reads_found env x f)
   found-looks x h may k (found.More skip) e =
-      let t : Service = consumed skip x.service in
+      let t : Service = serving_consumed skip x.service in
       let same = ended-same t in
       (same-looks env m x.service (ended_at_fin t) same.0 same.1 k.0, waits-none x h.1 _)
   found-looks x h may k (found.Block skip len) e = by_path (good_path its_files (block_at x skip len)) refl where
@@ -162,17 +162,17 @@ module _ (env : ServeEnv) (m : Marks) (w out : Stream) (vs : List Verdict) (wrot
       let read = long-read w x.service.block h.0.vs_now h.0.between.hears may.keeps may.read skip all e in
       (answered-looks env m (Fault code.FieldsTooLarge) refl all x.service h.0.vs_now h.0.counted (fronts-of (consuming x.service.block all) h.0.vs_now (Fault code.FieldsTooLarge ∷ []) read) k.0, waits-none x h.1 _)
 
-  turn-looks : (x : Reading) → It x → Its x → StepIts (turn env x)
+  turn-looks : (x : Reading) → It x → Its x → StepIts (reading_turn env x)
   turn-looks x h k = cond_both (may_read x.service) (reads_found env x (cut_of x.service.block.recv.unread)) (Done x) StepIts
       (λ may. found-looks x h (may-go w h.0.vs_now [] x.service may h.0.reading) k (cut_of x.service.block.recv.unread) refl) (λ may. k)
 
-  stops-on : (n : ℕ) (x : Reading) → It x → Its x → Its (runs_on n (turn env) x)
+  stops-on : (n : ℕ) (x : Reading) → It x → Its x → Its (runs_on n (reading_turn env) x)
   unfolding runs_on
   stops-on zero x h k = k
-  stops-on (suc n) x h k = go (turn env x) (turn-so env w out vs most x h) (turn-looks x h k) (stops-on n) where
-    go : (s : Step Reading) → ReadsSo env w out vs most s → StepIts s → ((y : Reading) → It y → Its y → Its (runs_on n (turn env) y)) → Its (elim s as (λ s. Reading) [ More y ↦ runs_on n (turn env) y | Done y ↦ y ])
+  stops-on (suc n) x h k = go (reading_turn env x) (turn-so env w out vs most x h) (turn-looks x h k) (stops-on n) where
+    go : (s : Step Reading) → ReadsSo env w out vs most s → StepIts s → ((y : Reading) → It y → Its y → Its (runs_on n (reading_turn env) y)) → Its (elim s as (λ s. Reading) [ More y ↦ runs_on n (reading_turn env) y | Done y ↦ y ])
     go (More y) h k later = later y h k
     go (Done y) h k later = k
 
-  pub reads-look : (s : Service) → So env w out vs s [] → Looks env m s → Its (reads env (record { service = s; target = None }))
-  reads-look s h k = stops-on (left (record { service = s; target = None }) + 1) (record { service = s; target = None }) (h, refl) (k, tt)
+  pub reads-look : (s : Service) → So env w out vs s [] → Looks env m s → Its (front_reads env (record { service = s; target = None }))
+  reads-look s h k = stops-on (reading_left (record { service = s; target = None }) + 1) (record { service = s; target = None }) (h, refl) (k, tt)

@@ -5,7 +5,7 @@ use Rattle.lard_answers.specs.Answers.{FilesAt, good_path}
 use Rattle.lard_base.specs.declared.place.Via.{Via}
 use Rattle.lard_base.specs.declared.place.Via.TheVariants as via
 use Rattle.lard_law_connections.proofs.BytesWorking.{verdicts_of}
-use Rattle.lard_laws.specs.WaysUnder.{Assigned, IsStarted, Lies, LiesGood, TakesFirst, Under}
+use Rattle.lard_laws.specs.WaysUnder.{Assigned, IsStarted, Lies, LiesGood, TakesFirstAssigned, Under}
 use Rattle.lard_laws.specs.Ways.{good_paths}
 use Rattle.lard_rules.specs.declared.stay.Entry.{Entry}
 use Rattle.lard_rules.specs.declared.stay.Progress.{Progress}
@@ -18,13 +18,13 @@ module _ (home : ℕ) (path : List ℕ) where
   abbrev Later : Type 1
   Later = List Assigned → Type 0
 
-  pub takes-lies : (q : Progress) (later : Later) (us : List Assigned) → TakesFirst home path q later us → LiesGood home path q later us
+  pub takes-lies : (q : Progress) (later : Later) (us : List Assigned) → TakesFirstAssigned home path q later us → LiesGood home path q later us
   takes-lies progress.Named later [] h = absurd h
   takes-lies progress.Named later (g ∷ gs) h = absurd h.1
   takes-lies _ later us h = h
 
   -- what is so of what is behind it, with more assignments
-  takes-more : (p q : Progress) (a b : Later) (us ws : List Assigned) → ((n : ℕ) → IsStarted home n p → IsStarted home n q) → ((gs : List Assigned) → a gs → b (gs ++ ws)) → TakesFirst home path p a us → TakesFirst home path q b (us ++ ws)
+  takes-more : (p q : Progress) (a b : Later) (us ws : List Assigned) → ((n : ℕ) → IsStarted home n p → IsStarted home n q) → ((gs : List Assigned) → a gs → b (gs ++ ws)) → TakesFirstAssigned home path p a us → TakesFirstAssigned home path q b (us ++ ws)
   takes-more p q a b [] ws w f h = absurd h
   takes-more p q a b (g ∷ gs) ws w f h = (h.0, w g.1 h.1, f gs h.2)
 
@@ -86,7 +86,7 @@ module _ (files : FilesAt) (home : ℕ) where
     N : List (List ℕ)
     N = named_paths files es
 
-    takes : (path : List ℕ) (p : Progress) (gs : List Assigned) → path_in files e p ≡ None → TakesFirst home path p (λ l. Under files home es l) gs → Behind → path ∷ G ≡ paths_of gs ++ and_path (path_in files e p) N
+    takes : (path : List ℕ) (p : Progress) (gs : List Assigned) → path_in files e p ≡ None → TakesFirstAssigned home path p (λ l. Under files home es l) gs → Behind → path ∷ G ≡ paths_of gs ++ and_path (path_in files e p) N
     takes path p [] none t behind = absurd t
     takes path p (g ∷ gs) none t behind = (λ i. (sym t.0) i ∷ behind gs t.2 i) ∙ ap (λ (o : Option (List ℕ)). g.0 ∷ (paths_of gs ++ and_path o N)) (sym none)
 
@@ -146,11 +146,11 @@ module _ (files : FilesAt) (home : ℕ) where
     lies-on p later us None l = (ap f l.0 ∙ keeps.ready via.Own, l.1)
     lies-on progress.Named later us (Some path) l = subst (λ (q : Progress). LiesGood home path q later us) (sym keeps.named) l
     lies-on progress.Reading later us (Some path) l = takes-lies home path (f progress.Reading) later us (takes progress.Reading us l) where
-      takes : (p : Progress) (gs : List Assigned) → TakesFirst home path p later gs → TakesFirst home path (f p) later gs
+      takes : (p : Progress) (gs : List Assigned) → TakesFirstAssigned home path p later gs → TakesFirstAssigned home path (f p) later gs
       takes p [] h = absurd h
       takes p (g ∷ gs) h = (h.0, keeps.started g.1 p h.1, h.2)
     lies-on (progress.Awaited from) later us (Some path) l = takes-lies home path (f (progress.Awaited from)) later us (takes (progress.Awaited from) us l) where
-      takes : (p : Progress) (gs : List Assigned) → TakesFirst home path p later gs → TakesFirst home path (f p) later gs
+      takes : (p : Progress) (gs : List Assigned) → TakesFirstAssigned home path p later gs → TakesFirstAssigned home path (f p) later gs
       takes p [] h = absurd h
       takes p (g ∷ gs) h = (h.0, keeps.started g.1 p h.1, h.2)
     lies-on (progress.Ready way) later us (Some path) l = subst (λ (q : Progress). LiesGood home path q later us) (sym (keeps.ready way)) l
@@ -159,7 +159,7 @@ module _ (files : FilesAt) (home : ℕ) where
     came-under i [] us h = h
     came-under zero (e ∷ es) us h = lies-on e.progress (λ gs. Under files home es gs) us (good_path files e.verdict) h
     came-under (suc i) (e ∷ es) us h = lies-later e.progress (good_path files e.verdict) us (λ gs a. came-under i es gs a) h where
-      takes-later : (path : List ℕ) (p : Progress) (a b : List Assigned → Type 0) (gs : List Assigned) → ((l : List Assigned) → a l → b l) → TakesFirst home path p a gs → TakesFirst home path p b gs
+      takes-later : (path : List ℕ) (p : Progress) (a b : List Assigned → Type 0) (gs : List Assigned) → ((l : List Assigned) → a l → b l) → TakesFirstAssigned home path p a gs → TakesFirstAssigned home path p b gs
       takes-later path p a b [] g t = absurd t
       takes-later path p a b (x ∷ gs) g t = (t.0, t.1, g gs t.2)
 

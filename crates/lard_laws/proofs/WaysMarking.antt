@@ -13,7 +13,7 @@ use Rattle.lard_law_view.proofs.Rows.{grown-tale, move-lawful, tale_before, tale
 use Rattle.lard_law_view.proofs.Saying.{GaveAt, NotedAt}
 use Rattle.lard_law_view.proofs.Timers.{IsTimerAt, timer_rows-are}
 use Rattle.lard_laws.specs.WaysState.{marks_at, marks_of}
-use Rattle.lard_laws.specs.Ways.{AnswersNext, IsNextGood, Marks}
+use Rattle.lard_laws.specs.Ways.{AnswersNextAt, IsNextGood, WayMarks}
 use Rattle.lard_history.specs.Journal.{Tale, tale_step, told_on}
 use Rattle.lard_history.specs.Own.{Came, EachRow, Row, Seen, seen_step, tale_of}
 use Rattle.lard_history.proofs.Each.{Each, Each-weaker}
@@ -23,32 +23,32 @@ use Rattle.lard_journal.specs.declared.rec.Rec.TheVariants as rec
 
 -- ---- a record of the connection
 
-abbrev pub mark : Marks → Rec → Marks
+abbrev pub mark : WayMarks → Rec → WayMarks
 mark m (rec.Wrote d bytes) = record m { wrote = m.wrote ++ bytes }
 mark m (rec.Served place d r code size way) = record m { served = m.served + 1 }
 mark m (rec.AssignedFirst d r path n add remove) = record m { assigned = m.assigned ++ (path, n) ∷ [] }
 mark m (rec.AssignedLater d r path n add size queue) = record m { assigned = m.assigned ++ (path, n) ∷ [] }
 mark m _ = m
 
-abbrev pub marked : Marks → List Rec → Marks
+abbrev pub marked : WayMarks → List Rec → WayMarks
 marked m rs = fold mark m rs
 
-abbrev pub MayMark : FilesAt → Marks → Rec → Type 0
-MayMark files m (rec.Served place d r code size way) = AnswersNext files m place way
+abbrev pub MayMark : FilesAt → WayMarks → Rec → Type 0
+MayMark files m (rec.Served place d r code size way) = AnswersNextAt files m place way
 MayMark files m (rec.AssignedFirst d r path n add remove) = IsNextGood files m path
 MayMark files m (rec.AssignedLater d r path n add size queue) = IsNextGood files m path
 MayMark files m _ = Unit {0}
 
 -- records, one after another
-abbrev pub Rightly : FilesAt → Marks → List Rec → Type 0
+abbrev pub Rightly : FilesAt → WayMarks → List Rec → Type 0
 Rightly files m [] = Unit {0}
 Rightly files m (r ∷ rs) = MayMark files m r × Rightly files (mark m r) rs
 
-pub rightly-append : (files : FilesAt) (m : Marks) (xs ys : List Rec) → Rightly files m xs → Rightly files (marked m xs) ys → Rightly files m (xs ++ ys)
+pub rightly-append : (files : FilesAt) (m : WayMarks) (xs ys : List Rec) → Rightly files m xs → Rightly files (marked m xs) ys → Rightly files m (xs ++ ys)
 rightly-append files m [] ys h k = k
 rightly-append files m (x ∷ xs) ys h k = (h.0, rightly-append files (mark m x) xs ys h.1 k)
 
-pub marked-append : (m : Marks) (xs ys : List Rec) → marked m (xs ++ ys) ≡ marked (marked m xs) ys
+pub marked-append : (m : WayMarks) (xs ys : List Rec) → marked m (xs ++ ys) ≡ marked (marked m xs) ys
 marked-append m xs ys = fold-append mark m xs ys
 
 -- it tells nothing of requests
@@ -59,24 +59,24 @@ IsPlain (rec.AssignedFirst d r path n add remove) = ⊥
 IsPlain (rec.AssignedLater d r path n add size queue) = ⊥
 IsPlain _ = Unit {0}
 
-plain-mark : (m : Marks) (r : Rec) → IsPlain r → mark m r ≡ m
+plain-mark : (m : WayMarks) (r : Rec) → IsPlain r → mark m r ≡ m
 plain-mark m (rec.Wrote d bytes) h = absurd h
 plain-mark m (rec.Served place d r code size way) h = absurd h
 plain-mark m (rec.AssignedFirst d r path n add remove) h = absurd h
 plain-mark m (rec.AssignedLater d r path n add size queue) h = absurd h
 plain-mark m _ h = refl
 
-plain-may : (files : FilesAt) (m : Marks) (r : Rec) → IsPlain r → MayMark files m r
+plain-may : (files : FilesAt) (m : WayMarks) (r : Rec) → IsPlain r → MayMark files m r
 plain-may files m (rec.Served place d r code size way) h = absurd h
 plain-may files m (rec.AssignedFirst d r path n add remove) h = absurd h
 plain-may files m (rec.AssignedLater d r path n add size queue) h = absurd h
 plain-may files m _ h = tt
 
-pub plain-marked : (m : Marks) (rs : List Rec) → Each IsPlain rs → marked m rs ≡ m
+pub plain-marked : (m : WayMarks) (rs : List Rec) → Each IsPlain rs → marked m rs ≡ m
 plain-marked m [] h = refl
-plain-marked m (r ∷ rs) h = ap (λ (n : Marks). marked n rs) (plain-mark m r h.0) ∙ plain-marked m rs h.1
+plain-marked m (r ∷ rs) h = ap (λ (n : WayMarks). marked n rs) (plain-mark m r h.0) ∙ plain-marked m rs h.1
 
-pub plain-rightly : (files : FilesAt) (m : Marks) (rs : List Rec) → Each IsPlain rs → Rightly files m rs
+pub plain-rightly : (files : FilesAt) (m : WayMarks) (rs : List Rec) → Each IsPlain rs → Rightly files m rs
 plain-rightly files m [] h = tt
 plain-rightly files m (r ∷ rs) h = (plain-may files m r h.0, plain-rightly files (mark m r) rs h.1)
 
@@ -124,11 +124,11 @@ module _ (files : FilesAt) (c : ℕ) where
 
   told-marks : (t : Tale) (rs : List Rec) → Each (IsOwnMark c) rs → marks_of (told_on c t rs) ≡ marked (marks_of t) rs
   told-marks t [] own = refl
-  told-marks t (r ∷ rs) own = told-marks (tale_step c t r) rs own.1 ∙ ap (λ (m : Marks). marked m rs) (one-step c t r own.0)
+  told-marks t (r ∷ rs) own = told-marks (tale_step c t r) rs own.1 ∙ ap (λ (m : WayMarks). marked m rs) (one-step c t r own.0)
 
   told-rightly : (t : Tale) (rs : List Rec) → Each (IsOwnMark c) rs → Rightly files (marks_of t) rs → TellsBy MayTell c t rs
   told-rightly t [] own h = tt
-  told-rightly t (r ∷ rs) own h = (h.0, told-rightly (tale_step c t r) rs own.1 (subst (λ (m : Marks). Rightly files m rs) (sym (one-step c t r own.0)) h.1))
+  told-rightly t (r ∷ rs) own h = (h.0, told-rightly (tale_step c t r) rs own.1 (subst (λ (m : WayMarks). Rightly files m rs) (sym (one-step c t r own.0)) h.1))
 
   -- what is plain is of nobody
   plain-own : (r : Rec) → IsPlain r → IsOwnMark c r
@@ -209,7 +209,7 @@ module _ (files : FilesAt) (x : Conn) (v : Move) (own : IsItsOwn x v) (heads : E
   -- what is told behind its notes, and behind what it gives up
   pub noted-marks : marks_of (told_on x.c (tale_before x v) v.said.notes) ≡ marked (marks_at x) v.said.notes
   unfolding before
-  noted-marks = told-marks files x.c before v.said.notes ours ∙ ap (λ (m : Marks). marked m v.said.notes) before-same
+  noted-marks = told-marks files x.c before v.said.notes ours ∙ ap (λ (m : WayMarks). marked m v.said.notes) before-same
 
   pub said-marks : marks_of (tale_said x v (tale_before x v)) ≡ marked (marks_at x) v.said.notes
   unfolding before noted segments
@@ -226,13 +226,13 @@ module _ (files : FilesAt) (x : Conn) (v : Move) (own : IsItsOwn x v) (heads : E
       ∙ plain-told files x.c (told_on x.c noted segments) v.said.gave gave
       ∙ plain-told files x.c noted segments (sends-plain v.place v.said.segments)
       ∙ told-marks files x.c before v.said.notes ours
-      ∙ ap (λ (m : Marks). marked m v.said.notes) before-same
+      ∙ ap (λ (m : WayMarks). marked m v.said.notes) before-same
 
   -- and what it tells may stand
   pub rows-mine : Rightly files (marks_at x) v.said.notes → EachRow (Mine files x.c) x.seen (seen_in x v)
   unfolding before noted segments messages timers
   rows-mine h = move-lawful (MayTell files x.c) x v (heads-mine files x.c x.seen v.heads heads)
-      (told-rightly files x.c before v.said.notes ours (subst (λ (m : Marks). Rightly files m v.said.notes) (sym before-same) h))
+      (told-rightly files x.c before v.said.notes ours (subst (λ (m : WayMarks). Rightly files m v.said.notes) (sym before-same) h))
       (plain-tells files x.c noted segments (sends-plain v.place v.said.segments))
       (plain-tells files x.c (told_on x.c noted segments) v.said.gave gave)
       (plain-tells files x.c (tale_said x v before) messages (sends-plain v.place v.said.messages))

@@ -6,9 +6,9 @@ use Rattle.lard_base.specs.declared.place.Place.TheVariants.{Client, Front, Node
 use Rattle.lard_law_connections.proofs.BytesLaw.{Helps}
 use Rattle.lard_law_connections.proofs.BytesClientMoves.{has-fair}
 use Rattle.lard_law_connections.proofs.PlacesGrowing.{grows-still}
-use Rattle.lard_law_view.specs.View.{AreSent, Conn, Move, Part, Said, Was, grown, letter, letters_of, seen_in, stands}
+use Rattle.lard_law_view.specs.View.{AreSent, Conn, Move, Part, TurnSaid, Was, grown, letter, letters_of, seen_in, stands}
 use Rattle.lard_laws.specs.WaysState.{GoesItsWay, LetterWays, SeatWays, marks_at}
-use Rattle.lard_laws.specs.Ways.{BodyGoesOn, Marks, paths_assigned, paths_wanted}
+use Rattle.lard_laws.specs.Ways.{BodyGoesOn, WayMarks, paths_assigned, paths_wanted}
 use Rattle.lard_laws.proofs.WaysLetters.{Carries, IsSame, carries-same, letters-on}
 use Rattle.lard_laws.proofs.WaysMarking.{IsPlain, Mine, Rightly, marked, marks-after, plain-marked, plain-rightly, rows-mine}
 use Rattle.lard_history.specs.Own.{EachRow, Letter, Seen}
@@ -19,15 +19,15 @@ use Rattle.lard_resend.specs.declared.kept.Kept.{Kept}
 use Rattle.lard_resend.specs.Pending.{sent_of}
 
 -- What a node sends was sent before, or the paths of an Ask go on from those that were assigned.
-abbrev pub AskTo : FilesAt → Marks → Conn → Place → Place → List ℕ → Type 0
+abbrev pub AskTo : FilesAt → WayMarks → Conn → Place → Place → List ℕ → Type 0
 AskTo files m x (Node n) Front bytes = Was x (Node n) Front bytes ⊎ ((msg : Message) → decoded_message bytes ≡ Ok msg → BodyGoesOn files m msg.body)
 AskTo files m x _ _ bytes = Unit {0}
 
-abbrev pub LetterAsks : FilesAt → Marks → Conn → Letter → Type 0
+abbrev pub LetterAsks : FilesAt → WayMarks → Conn → Letter → Type 0
 LetterAsks files m x l = AskTo files m x l.from l.to l.bytes
 
 -- so it is of all that a place sends, where that is a node
-abbrev pub AsksBy : FilesAt → Marks → Conn → Place → List Letter → Type 0
+abbrev pub AsksBy : FilesAt → WayMarks → Conn → Place → List Letter → Type 0
 AsksBy files m x (Node n) ls = Each (LetterAsks files m x) ls
 AsksBy files m x _ ls = Unit {0}
 
@@ -41,7 +41,7 @@ Keeps files x v = Helps x v → GoesItsWay files x → IsMade files x v
 
 -- ---- letters
 
-module _ (files : FilesAt) (m : Marks) (p : Part) where
+module _ (files : FilesAt) (m : WayMarks) (p : Part) where
   -- a client is told nothing of ways, nor is a node by another
   pub clients-say : (place : Place) (c : ℕ) (ss : List (Place × List ℕ)) → Each (λ s. s.0 ≡ Client c) ss → Each (LetterWays files m p) (map (letter place) ss)
   clients-say place c [] h = tt
@@ -62,7 +62,7 @@ module _ (files : FilesAt) (m : Marks) (p : Part) where
 
 -- ---- Asks
 
-module _ (files : FilesAt) (m : Marks) (x : Conn) (n : ℕ) where
+module _ (files : FilesAt) (m : WayMarks) (x : Conn) (n : ℕ) where
   -- a client is asked nothing
   pub clients-ask : (c : ℕ) (ss : List (Place × List ℕ)) → Each (λ s. s.0 ≡ Client c) ss → Each (LetterAsks files m x) (map (letter (Node n)) ss)
   clients-ask c [] h = tt
@@ -83,7 +83,7 @@ module _ (files : FilesAt) (m : Marks) (x : Conn) (n : ℕ) where
   sent-ask (k ∷ ks) h = (was-asked k.to k.bytes h.0.1, sent-ask ks h.1)
 
 -- a place that says nothing asks nothing
-pub none-asked : (files : FilesAt) (m : Marks) (x : Conn) (place : Place) → AsksBy files m x place []
+pub none-asked : (files : FilesAt) (m : WayMarks) (x : Conn) (place : Place) → AsksBy files m x place []
 none-asked files m x (Node n) = tt
 none-asked files m x Front = tt
 none-asked files m x (Client d) = tt
@@ -91,30 +91,30 @@ none-asked files m x (Client d) = tt
 -- ---- a move
 
 module _ (files : FilesAt) (x : Conn) (v : Move) (help : Helps x v) (g : GoesItsWay files x) where
-  pub makes : (n : Marks) → Rightly files (marks_at x) v.said.notes → marked (marks_at x) v.said.notes ≡ n → IsPrefix (paths_assigned n) (paths_wanted files n) → SeatWays files n v.part v.part.front.row
+  pub makes : (n : WayMarks) → Rightly files (marks_at x) v.said.notes → marked (marks_at x) v.said.notes ≡ n → IsPrefix (paths_assigned n) (paths_wanted files n) → SeatWays files n v.part v.part.front.row
       → Carries files (marks_at x) n x.part v.part → (Each (LetterWays files n v.part) x.letters → Each (LetterWays files n v.part) (letters_of v)) → AsksBy files n x v.place (letters_of v) → IsMade files x v
   makes n notes told paths seat carries new asks =
       let after : marks_at (grown x v) ≡ n = marks-after files x v help.own help.heads ∙ told in
       let old : Each (LetterWays files n v.part) x.letters = letters-on files (marks_at x) n x.part v.part carries x.letters help.placed.letters g.letters in (
         record {
-          paths = subst (λ (m : Marks). IsPrefix (paths_assigned m) (paths_wanted files m)) (sym after) paths;
-          seat = subst (λ (m : Marks). SeatWays files m v.part v.part.front.row) (sym after) seat;
-          letters = subst (λ (m : Marks). Each (LetterWays files m v.part) (x.letters ++ letters_of v)) (sym after)
+          paths = subst (λ (m : WayMarks). IsPrefix (paths_assigned m) (paths_wanted files m)) (sym after) paths;
+          seat = subst (λ (m : WayMarks). SeatWays files m v.part v.part.front.row) (sym after) seat;
+          letters = subst (λ (m : WayMarks). Each (LetterWays files m v.part) (x.letters ++ letters_of v)) (sym after)
               (Each-append (LetterWays files n v.part) x.letters (letters_of v) old (new old));
         },
         rows-mine files x v help.own help.heads notes,
-        subst (λ (m : Marks). AsksBy files m x v.place (letters_of v)) (sym told) asks,
+        subst (λ (m : WayMarks). AsksBy files m x v.place (letters_of v)) (sym told) asks,
       )
 
 -- what was assigned is the same, and so is what the client wrote
-pub same-marks : (files : FilesAt) (m : Marks) (n : ℕ) → IsSame files m (record m { served = n })
+pub same-marks : (files : FilesAt) (m : WayMarks) (n : ℕ) → IsSame files m (record m { served = n })
 same-marks files m n = record { assigned = refl; wanted = ([], sym (append-nil (paths_wanted files m))) }
 
 -- nothing that is kept changes, and nothing is told
-pub stands-makes : (files : FilesAt) (x : Conn) (place : Place) (heads : List Seen) (said : Said) → Each IsPlain said.notes
+pub stands-makes : (files : FilesAt) (x : Conn) (place : Place) (heads : List Seen) (said : TurnSaid) → Each IsPlain said.notes
     → (Each (LetterWays files (marks_at x) x.part) x.letters → Each (LetterWays files (marks_at x) x.part) (letters_of (stands x place heads said))) → AsksBy files (marks_at x) x place (letters_of (stands x place heads said))
     → Keeps files x (stands x place heads said)
 stands-makes files x place heads said plain new asks help g =
-    let m : Marks = marks_at x in
+    let m : WayMarks = marks_at x in
     makes files x (stands x place heads said) help g m (plain-rightly files m said.notes plain) (plain-marked m said.notes plain) g.paths g.seat
     (carries-same files m m (same-marks files m m.served) x.part x.part (grows-still x.part) refl refl (λ i e ps at decided a. a)) new asks

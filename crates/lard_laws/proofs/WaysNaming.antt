@@ -10,7 +10,7 @@ use Rattle.lard_law_connections.proofs.BytesLaw.{Helps}
 use Rattle.lard_law_connections.proofs.BytesRuns.{states-truthful}
 use Rattle.lard_law_connections.proofs.OffersSent.{AreSeen, grown-seen, own-sends}
 use Rattle.lard_law_connections.proofs.PlacesRuns.{each-placed}
-use Rattle.lard_law_view.specs.Carry.{Guarded, IsGuardedLaw, MayMove, OfEach, Untouched, WhileUntouched, setting, tale_at}
+use Rattle.lard_law_view.specs.Carry.{Guarded, IsGuardedLaw, MayRestOn, OfEach, Untouched, WhileUntouched, setting, tale_at}
 use Rattle.lard_law_view.specs.View.{Conn, Move, Setting, conn, grown, seen_in}
 use Rattle.lard_law_view.proofs.Carried.{carried}
 use Rattle.lard_law_view.proofs.Guarded.{guarded-law, untouched-weaker}
@@ -18,7 +18,7 @@ use Rattle.lard_law_view.proofs.InSteps.{carried-records}
 use Rattle.lard_law_view.proofs.Naming.{decoded-names}
 use Rattle.lard_laws.specs.WaysRuns.{AsksNameTheNext}
 use Rattle.lard_laws.specs.WaysState.{GoesItsWay}
-use Rattle.lard_laws.specs.Ways.{BodyGoesOn, GoesOnTo, Marks, MayGoOn, marks}
+use Rattle.lard_laws.specs.Ways.{BodyGoesOn, GoesOnTo, WayMarks, MayGoOn, way_marks}
 use Rattle.lard_laws.proofs.WaysAsking.{Names, move-may, rows-name}
 use Rattle.lard_laws.proofs.WaysMoving.{IsMade}
 use Rattle.lard_laws.proofs.WaysRuns.{All, all, each-guarded, helped, made, marks-own}
@@ -38,11 +38,11 @@ module _ (k : Setting) (small : k.stream ≤ 2 ^ 30) where
   Given x = ways.Given k small x × Untouched (GoesItsWay k.files) x
 
   abbrev Moves : Conn → Move → Type 0
-  Moves x v = MayMove Given x → (tale_at x).touched ≡ false → AreSeen x → AreSeen (grown x v) × EachRow (Names k.files x.c) x.seen (seen_in x v)
+  Moves x v = MayRestOn Given x → (tale_at x).touched ≡ false → AreSeen x → AreSeen (grown x v) × EachRow (Names k.files x.c) x.seen (seen_in x v)
 
   moves : (x : Conn) (v : Move) → All k small x v → Moves x v
   moves x v h may untouched seen =
-      let given : MayMove (ways.Given k small) x = record { number = may.number; sound = may.sound; given = may.given.0 } in
+      let given : MayRestOn (ways.Given k small) x = record { number = may.number; sound = may.sound; given = may.given.0 } in
       let help : Helps x v = helped k small x v h given in
       let it : IsMade k.files x v = made k small x v h given untouched (may.given.1 untouched) in
       (grown-seen x v seen, rows-name k.files x seen x.seen (seen_in x v) (λ from to bytes s. s) (move-may k.files x v help.own help.heads it.2))
@@ -69,8 +69,8 @@ module _ (files : FilesAt) where
       let same : m.c ≡ c = some-number m.c c (sym (decoded-names m bytes d).named ∙ e) in
       let quiet : (tale_of c (own c J)).touched ≡ false =
       ap (λ (t : Tale). t.touched) (sym (tale-own J c)) ∙ sym (touched-tale J c) ∙ subst (λ (q : ℕ). is_touched J q ≡ false) same u in
-      subst (λ (q : ℕ). BodyGoesOn files (marks J q) m.body) (sym same)
-      (subst (λ (t : Marks). BodyGoesOn files t m.body) (marks-own files J c) (h quiet (λ s. new (own-sends (Node n) Front bytes c J s)) m d))
+      subst (λ (q : ℕ). BodyGoesOn files (way_marks J q) m.body) (sym same)
+      (subst (λ (t : WayMarks). BodyGoesOn files t m.body) (marks-own files J c) (h quiet (λ s. new (own-sends (Node n) Front bytes c J s)) m d))
   goes-to J (Node n) (Node j) bytes c e h = tt
   goes-to J (Node n) (Client d) bytes c e h = tt
   goes-to J Front to bytes c e h = tt

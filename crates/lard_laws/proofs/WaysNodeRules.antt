@@ -10,22 +10,22 @@ use Rattle.lard_law_connections.proofs.BytesClientMoves.{has-fair, open-at}
 use Rattle.lard_law_connections.proofs.BytesFrontMessages.{opened-at}
 use Rattle.lard_law_connections.proofs.BytesNodeRest.{by-station, front-opens, nothing-here}
 use Rattle.lard_law_connections.specs.Places.{IsDecided, IsPast}
-use Rattle.lard_law_view.specs.View.{Conn, IsNodeEnv, Move, NodeRules, Setting, Spells, Was, brought_said, contents, event_seen, node_does, nothing_said, packet_seen, reads_first, stands}
+use Rattle.lard_law_view.specs.View.{Conn, IsNodeEnv, Move, NodeRules, Setting, SpellsMessage, Was, brought_said, content_said, event_seen, node_does, nothing_said, packet_seen, reads_first, stands}
 use Rattle.lard_law_view.proofs.Parts.{put-each}
 use Rattle.lard_laws.specs.WaysState.{GoesItsWay, StayAsks, marks_at}
-use Rattle.lard_laws.specs.Ways.{Marks}
+use Rattle.lard_laws.specs.Ways.{WayMarks}
 use Rattle.lard_laws.proofs.WaysHomes.{seat-kept}
 use Rattle.lard_laws.proofs.WaysLetters.{carries-same}
 use Rattle.lard_laws.proofs.WaysMoving.{IsMade, Keeps, makes, none-asked, same-marks, stands-makes}
 use Rattle.lard_laws.proofs.WaysNodes.{contents-keep, fires-keep, forwards-keep, read-keeps, tags-keep}
 use Rattle.lard_laws.proofs.WaysOffered.{offered-keep}
-use Rattle.lard_rules.specs.Front.{rest_of}
+use Rattle.lard_rules.specs.Front.{front_rest}
 use Rattle.lard_handoff_back.specs.declared.row.BackRow.{BackRow}
 use Rattle.lard_handoff_back.specs.Back.{awaits_ack}
 use Rattle.lard_history.specs.Own.{Seen}
 use Rattle.lard_journal.specs.declared.rec.Rec.TheVariants as rec
 use Rattle.lard_message.specs.declared.message.Body.TheVariants as body
-use Rattle.lard_rules.specs.Node.{Deed, Does, Drops, NodePart, come_by, gone, node_acknowledged, node_content, node_forwarded, node_read, read_by, saying}
+use Rattle.lard_rules.specs.Node.{NodeDeed, Does, Drops, NodePart, come_by, gone, node_acknowledged, node_content, node_forwarded, node_read, node_read_by, node_saying}
 use Rattle.lard_rules.specs.Stay.{NodeEnv}
 use Rattle.lard_resend.specs.Kept.{without}
 use Rattle.lard_segment.specs.declared.fault.SegFault.{SegFault}
@@ -51,19 +51,19 @@ module _ (files : FilesAt) (x : Conn) (n : ℕ) (heads : List Seen) where
   gone-decided e None h = h
   gone-decided e (Some row) h = h
 
-  gone-makes : Keeps files x (node_does x n heads (Does (q, saying [])))
+  gone-makes : Keeps files x (node_does x n heads (Does (q, node_saying [])))
   gone-makes help g =
-      let m : Marks = marks_at x in
-      let v : Move = node_does x n heads (Does (q, saying [])) in
+      let m : WayMarks = marks_at x in
+      let v : Move = node_does x n heads (Does (q, node_saying [])) in
       makes files x v help g m tt refl g.paths
       (seat-kept files m x.part n q ((λ e h. gone-past e p.row h), (λ e h. gone-decided e p.row h), refl) x.part.front.row g.seat)
       (carries-same files m m (same-marks files m m.served) x.part v.part help.owes.grows refl refl
-      (λ i e ps c d a. put-each x.part.nodes n q (λ j (z : NodePart). StayAsks files ((rest_of x.part.front.rest).asks + 1) ps (x.part.nodes j).stay → StayAsks files ((rest_of x.part.front.rest).asks + 1) ps z.stay) (λ b. b) (λ j other b. b) i a))
+      (λ i e ps c d a. put-each x.part.nodes n q (λ j (z : NodePart). StayAsks files ((front_rest x.part.front.rest).asks + 1) ps (x.part.nodes j).stay → StayAsks files ((front_rest x.part.front.rest).asks + 1) ps z.stay) (λ b. b) (λ j other b. b) i a))
       (λ old. tt) tt
 
   acknowledged-keep : (env : NodeEnv) → Keeps files x (node_does x n heads (node_acknowledged env p))
   acknowledged-keep env = go (awaits_ack env.epoch p.row) where
-    go : (b : Bool) → Keeps files x (node_does x n heads (cond b (Does (q, saying [])) Drops))
+    go : (b : Bool) → Keeps files x (node_does x n heads (cond b (Does (q, node_saying [])) Drops))
     go true = gone-makes
     go false = stands-makes files x (Node n) heads nothing_said tt (λ old. tt) tt
 
@@ -74,7 +74,7 @@ module _ (k : Setting) (small : k.stream ≤ 2 ^ 30) where
   abbrev pub Owes : Conn → Move → Type 0
   Owes x v = IsTruthful k.files x → Keeps k.files x v
 
-  forwarded : (x : Conn) (n epoch : ℕ) (env : NodeEnv) (segment bytes : List ℕ) → IsNodeEnv k x.c n epoch env → Spells x.c epoch (body.Forward segment) bytes → Was x Front (Node n) bytes
+  forwarded : (x : Conn) (n epoch : ℕ) (env : NodeEnv) (segment bytes : List ℕ) → IsNodeEnv k x.c n epoch env → SpellsMessage x.c epoch (body.Forward segment) bytes → Was x Front (Node n) bytes
       → Owes x (node_does x n (packet_seen Front (Node n) bytes) (node_forwarded env (x.part.nodes n) (decoded segment x.c ToCluster)))
   forwarded x n epoch env segment bytes is spells was h =
       let opened = opened-at k.files x h (front-opens x n bytes was) in
@@ -91,13 +91,13 @@ module _ (k : Setting) (small : k.stream ≤ 2 ^ 30) where
       let heads : List Seen = packet_seen (Node from) (Node n) bytes in
       by-station k small x (GoesItsWay k.files x → IsMade k.files x (node_does x n heads (node_content env (x.part.nodes n) from r)))
       (λ s there. contents-keep k small x s there h.talk h.pend (open-at k.files x s there h) n epoch env is heads from r help)
-      (λ none. subst (λ (d : Deed). Keeps k.files x (node_does x n heads d)) (sym (ap (come_by env from r (x.part.nodes n)) (nothing-here k.files x none h n env.epoch help.placed.sits))) (stands-makes k.files x (Node n) heads nothing_said tt (λ old. tt) tt) help)
+      (λ none. subst (λ (d : NodeDeed). Keeps k.files x (node_does x n heads d)) (sym (ap (come_by env from r (x.part.nodes n)) (nothing-here k.files x none h n env.epoch help.placed.sits))) (stands-makes k.files x (Node n) heads nothing_said tt (λ old. tt) tt) help)
 
   read : (x : Conn) (n epoch r : ℕ) (env : NodeEnv) (path : List ℕ) → IsNodeEnv k x.c n epoch env → Owes x (reads_first (rec.Read n n x.c r path) (node_does x n [] (node_read env (x.part.nodes n) r)))
   read x n epoch r env path is h help =
       by-station k small x (GoesItsWay k.files x → IsMade k.files x (reads_first (rec.Read n n x.c r path) (node_does x n [] (node_read env (x.part.nodes n) r))))
       (λ s there. read-keeps k small x s there h.talk h.pend (open-at k.files x s there h) n epoch env is r path help)
-      (λ none. subst (λ (d : Deed). Keeps k.files x (reads_first (rec.Read n n x.c r path) (node_does x n [] d))) (sym (ap (read_by env r (x.part.nodes n)) (nothing-here k.files x none h n env.epoch help.placed.sits)))
+      (λ none. subst (λ (d : NodeDeed). Keeps k.files x (reads_first (rec.Read n n x.c r path) (node_does x n [] d))) (sym (ap (node_read_by env r (x.part.nodes n)) (nothing-here k.files x none h n env.epoch help.placed.sits)))
       (stands-makes k.files x (Node n) [] (record nothing_said { notes = rec.Read n n x.c r path ∷ [] }) (tt, tt) (λ old. tt) tt) help)
 
   pub nodes : NodeRules k Owes
@@ -113,7 +113,7 @@ module _ (k : Setting) (small : k.stream ≤ 2 ^ 30) where
     acknowledged = λ x n epoch env bytes is spells was h. acknowledged-keep k.files x n (packet_seen Front (Node n) bytes) env;
     read = read;
     fires = λ x s n env there is h. fires-keep k small x s there h.talk h.pend (open-at k.files x s there h) n _ env is (event_seen (event.Timer (Node n) x.c)) is.epoch_is;
-    answers = λ x n from epoch r path file bytes there spells was h. stands-makes k.files x (Node n) (packet_seen (Node from) (Node n) bytes) (contents k n from x.c epoch r path) tt (λ old. (tt, tt)) (tt, tt);
+    answers = λ x n from epoch r path file bytes there spells was h. stands-makes k.files x (Node n) (packet_seen (Node from) (Node n) bytes) (content_said k n from x.c epoch r path) tt (λ old. (tt, tt)) (tt, tt);
     queues = λ x n from epoch r path file bytes there spells was h. stands-makes k.files x (Node n) (packet_seen (Node from) (Node n) bytes) (record nothing_said { notes = rec.Queued n from x.c r path ∷ [] }) (tt, tt) (λ old. tt) tt;
     brings = λ x n from epoch r path h. stands-makes k.files x (Node n) [] (brought_said k n from x.c epoch r path) (tt, tt) (λ old. (tt, tt)) (tt, tt);
   }

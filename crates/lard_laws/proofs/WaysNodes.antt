@@ -10,17 +10,17 @@ use Rattle.lard_law_connections.proofs.BytesNodeTurns.{It, agrees-by, endpoint-o
 use Rattle.lard_law_connections.specs.Places.{IsDecided, Sits, StageSits, owning}
 use Rattle.lard_law_connections.proofs.PlacesTurns.{IsPlaced}
 use Rattle.lard_law_view.specs.Carry.{tale_at}
-use Rattle.lard_law_view.specs.View.{Conn, IsNodeEnv, Move, Setting, Spells, Was, epoch_in, named, node_does, nothing_said, reads_first}
+use Rattle.lard_law_view.specs.View.{Conn, IsNodeEnv, Move, Setting, SpellsMessage, Was, epoch_in, named_records, node_does, nothing_said, reads_first}
 use Rattle.lard_laws.specs.WaysState.{FrontSaysWays, GoesItsWay, LetterWays, StayWays, TagIs, marks_at}
-use Rattle.lard_laws.specs.Ways.{Marks}
+use Rattle.lard_laws.specs.Ways.{WayMarks}
 use Rattle.lard_laws.proofs.WaysHomes.{AtHome, at-home, does-makes, named-marked, named-rightly, says-makes, sent-append}
 use Rattle.lard_laws.proofs.WaysMoving.{Keeps, sent-ask, sent-say, stands-makes}
 use Rattle.lard_laws.proofs.WaysStaying.{Home}
 use Rattle.lard_laws.proofs.WaysTurning.{Asked_by, DeedWays, TurnWays, comes-ways, fires-ways, hears-ways, reads-ways, tags-ways}
 use Rattle.lard_endpoint.specs.Control.{ControlBlock}
 use Rattle.lard_rules.specs.declared.front.FrontRest.{FrontRest}
-use Rattle.lard_rules.specs.Front.{is_at, is_with, rest_of}
-use Rattle.lard_handoff_back.specs.Back.{endpoint_of}
+use Rattle.lard_rules.specs.Front.{is_row_at, is_with, front_rest}
+use Rattle.lard_handoff_back.specs.Back.{back_endpoint}
 use Rattle.lard_handoff_front.specs.declared.row.FrontConn.{FrontConn}
 use Rattle.lard_handoff_front.specs.declared.row.FrontConn.TheVariants as stage
 use Rattle.lard_handoff_front.specs.declared.row.FrontRow.{FrontRow}
@@ -30,7 +30,7 @@ use Rattle.lard_law_view.specs.Agreement.{IsWord}
 use Rattle.lard_law_view.specs.Truthful.{Talk}
 use Rattle.lard_message.specs.declared.message.Body.TheVariants as body
 use Rattle.lard_rules.specs.declared.stay.Stay.{Stay}
-use Rattle.lard_rules.specs.Node.{Deed, Does, Drops, NodePart, Says, again_sent, both_of, come_by, fired_by, heard_by, here, node_content, node_forwarded, node_read, node_tagged, node_timer, read_by, tagged_by}
+use Rattle.lard_rules.specs.Node.{NodeDeed, Does, Drops, NodePart, Says, again_sent, both_of, come_by, node_fired_by, node_heard_by, here, node_content, node_forwarded, node_read, node_tagged, node_timer, node_read_by, tagged_by}
 use Rattle.lard_rules.specs.Stay.{NodeEnv}
 use Rattle.lard_request.specs.declared.verdict.Verdict.{Verdict}
 use Rattle.lard_rules.specs.declared.places.Station.{Station}
@@ -53,11 +53,11 @@ module _ (k : Setting) (small : k.stream ≤ 2 ^ 30) (x : Conn) (s : Station) (t
   abbrev files : FilesAt
   files = env.serve.files
 
-  abbrev m : Marks
+  abbrev m : WayMarks
   m = marks_at x
 
   abbrev r : FrontRest
-  r = rest_of x.part.front.rest
+  r = front_rest x.part.front.rest
 
   abbrev p : NodePart
   p = x.part.nodes n
@@ -86,7 +86,7 @@ module _ (k : Setting) (small : k.stream ≤ 2 ^ 30) (x : Conn) (s : Station) (t
     home = record { place = is.place ∙ ap Node (sym is.node); path = home-of.path; others = home-of.others; first = home-of.first ∙ ap (λ (i : ℕ). (home-of.path, i) ∷ home-of.others) (sym is.node) }
 
   -- a deed where it is here
-  deed-makes : (heads : List Seen) (d : Deed) → ((it : IsIt) (placed : IsPlaced x) (g : GoesItsWay files x) → DeedWays env m r p (Asked_by env m r p) d) → IsIt → Keeps files x (node_does x n heads d)
+  deed-makes : (heads : List Seen) (d : NodeDeed) → ((it : IsIt) (placed : IsPlaced x) (g : GoesItsWay files x) → DeedWays env m r p (Asked_by env m r p) d) → IsIt → Keeps files x (node_does x n heads d)
   unfolding has
   deed-makes heads Drops d it help g = stands-makes files x (Node n) heads nothing_said tt (λ old. tt) tt help g
   deed-makes heads (Says ms) d it help g =
@@ -96,11 +96,11 @@ module _ (k : Setting) (small : k.stream ≤ 2 ^ 30) (x : Conn) (s : Station) (t
       let h = home-of it help.placed g in
       let t : TurnWays env m r p (Asked_by env m r p) given = d it help.placed g in
       let a = has it help.placed g in
-      does-makes env x n is.node (second it help.placed g) heads (named given.1.notes) given (Asked_by env m r p) t (λ e ps c d b. b) (named-rightly files m given.1.notes t.notes) (named-marked files m given.1.notes)
+      does-makes env x n is.node (second it help.placed g) heads (named_records given.1.notes) given (Asked_by env m r p) t (λ e ps c d b. b) (named-rightly files m given.1.notes t.notes) (named-marked files m given.1.notes)
       a.row a.found a.at a.same (h.path, h.others, h.first) help g
 
   -- behind the record of a job that was completed
-  first-makes : (i : ℕ) (path : List ℕ) (d : Deed) → ((it : IsIt) (placed : IsPlaced x) (g : GoesItsWay files x) → DeedWays env m r p (Asked_by env m r p) d) → IsIt → Keeps files x (reads_first (rec.Read n n x.c i path) (node_does x n [] d))
+  first-makes : (i : ℕ) (path : List ℕ) (d : NodeDeed) → ((it : IsIt) (placed : IsPlaced x) (g : GoesItsWay files x) → DeedWays env m r p (Asked_by env m r p) d) → IsIt → Keeps files x (reads_first (rec.Read n n x.c i path) (node_does x n [] d))
   unfolding has
   first-makes i path Drops d it help g = stands-makes files x (Node n) [] (record nothing_said { notes = rec.Read n n x.c i path ∷ [] }) (tt, tt) (λ old. tt) tt help g
   first-makes i path (Says ms) d it help g =
@@ -110,13 +110,13 @@ module _ (k : Setting) (small : k.stream ≤ 2 ^ 30) (x : Conn) (s : Station) (t
       let h = home-of it help.placed g in
       let t : TurnWays env m r p (Asked_by env m r p) given = d it help.placed g in
       let a = has it help.placed g in
-      does-makes env x n is.node (second it help.placed g) [] (rec.Read n n x.c i path ∷ named given.1.notes) given (Asked_by env m r p) t (λ e ps c d b. b)
+      does-makes env x n is.node (second it help.placed g) [] (rec.Read n n x.c i path ∷ named_records given.1.notes) given (Asked_by env m r p) t (λ e ps c d b. b)
       (tt, named-rightly files m given.1.notes t.notes) (named-marked files m given.1.notes) a.row a.found a.at a.same (h.path, h.others, h.first) help g
 
   -- ---- the rules of a stay
 
   module _ (it : IsIt) (placed : IsPlaced x) (g : GoesItsWay files x) where
-    abbrev Known : Deed → Type 0
+    abbrev Known : NodeDeed → Type 0
     Known d = DeedWays env m r p (Asked_by env m r p) d
 
     wrote : m.wrote ≡ l.w.bytes
@@ -145,24 +145,24 @@ module _ (k : Setting) (small : k.stream ≤ 2 ^ 30) (x : Conn) (s : Station) (t
     knows-fires = fires-ways env m r (home it placed g) l.w l.out l.vs pend l.was_reset wrote counted (talk-of k small x s there l pend o n env epoch is) p (agrees-by k small x s there l pend o n env epoch is it placed)
         (ways-here k small x s there l pend o n env epoch is) (subst (λ (i : ℕ). StayWays files i m r p.stay) (sym is.node) (home-of it placed g).stay)
 
-  by-here : (heads : List Seen) (rule : Option (ControlBlock × Stay) → Deed) → rule None ≡ Drops → ((it : IsIt) (placed : IsPlaced x) (g : GoesItsWay files x) → Known it placed g (rule (here env.epoch p))) → Keeps k.files x (node_does x n heads (rule (here env.epoch p)))
+  by-here : (heads : List Seen) (rule : Option (ControlBlock × Stay) → NodeDeed) → rule None ≡ Drops → ((it : IsIt) (placed : IsPlaced x) (g : GoesItsWay files x) → Known it placed g (rule (here env.epoch p))) → Keeps k.files x (node_does x n heads (rule (here env.epoch p)))
   by-here heads rule none knows = by-files (node_does x n heads (rule (here env.epoch p))) (⊎_elim
-      (λ (e : here env.epoch p ≡ None). subst (λ (d : Deed). Keeps files x (node_does x n heads d)) (sym (ap rule e ∙ none)) (stands-makes files x (Node n) heads nothing_said tt (λ old. tt) tt))
+      (λ (e : here env.epoch p ≡ None). subst (λ (d : NodeDeed). Keeps files x (node_does x n heads d)) (sym (ap rule e ∙ none)) (stands-makes files x (Node n) heads nothing_said tt (λ old. tt) tt))
       (λ (it : IsIt). deed-makes heads (rule (here env.epoch p)) knows it) (here-or k small x s there l pend o n env epoch is))
 
   pub forwards-keep : (heads : List Seen) (sd : spelling.Said) → IsWord l.w sd → Keeps k.files x (node_does x n heads (node_forwarded env p (Ok sd)))
-  forwards-keep heads sd word = by-here heads (heard_by env p (Ok sd)) refl (λ it placed g. knows-hears it placed g sd word)
+  forwards-keep heads sd word = by-here heads (node_heard_by env p (Ok sd)) refl (λ it placed g. knows-hears it placed g sd word)
 
   pub contents-keep : (heads : List Seen) (from i : ℕ) → Keeps k.files x (node_does x n heads (node_content env p from i))
   contents-keep heads from i = by-here heads (come_by env from i p) refl (λ it placed g. knows-comes it placed g from i)
 
   -- a Tag that came was sent by the front end
-  tag-of : (number : ℕ) (nodes bytes : List ℕ) → Spells x.c epoch (body.Tag number nodes) bytes → Was x Front (Node n) bytes → (it : IsIt) (placed : IsPlaced x) (g : GoesItsWay files x) → TagIs r number nodes
+  tag-of : (number : ℕ) (nodes bytes : List ℕ) → SpellsMessage x.c epoch (body.Tag number nodes) bytes → Was x Front (Node n) bytes → (it : IsIt) (placed : IsPlaced x) (g : GoesItsWay files x) → TagIs r number nodes
   unfolding has
   tag-of number nodes bytes spells was it placed g =
       let a = has it placed g in
       let f : FrontSaysWays files m x.part n epoch (body.Tag number nodes) = (has-fair (LetterWays files m x.part) (record { from = Front; to = Node n; bytes = bytes }) x.letters was g.letters) _ spells in
-      f.1 (subst (λ (q : Option FrontRow). is_at n epoch q ≡ true) (sym a.found) (with-counts a.row.epoch.0 a.row.stage a.at (subst (Sits (owning (tale_at x)) x.part.nodes) a.found placed.sits).0 (a.same ∙ is.epoch_is))) where
+      f.1 (subst (λ (q : Option FrontRow). is_row_at n epoch q ≡ true) (sym a.found) (with-counts a.row.epoch.0 a.row.stage a.at (subst (Sits (owning (tale_at x)) x.part.nodes) a.found placed.sits).0 (a.same ∙ is.epoch_is))) where
         with-counts : (now : ℕ) (d : FrontConn) → IsAt n d → StageSits now (owning (tale_at x)) x.part.nodes d → now ≡ epoch → is_with n epoch d ≡ true
         with-counts now (stage.Offering i f) at s e = and_from (i == n) (f.0 == epoch) (eq-eqb i n at) (eq-eqb f.0 epoch (s.1 ∙ e))
         with-counts now (stage.Moved i f) at s e = and_from (i == n) (f.0 == epoch) (eq-eqb i n at) (eq-eqb f.0 epoch (s.1 ∙ e))
@@ -171,18 +171,18 @@ module _ (k : Setting) (small : k.stream ≤ 2 ^ 30) (x : Conn) (s : Station) (t
         with-counts now stage.Lent at s e = absurd at
         with-counts now (stage.Closed last) at s e = absurd at
 
-  pub tags-keep : (heads : List Seen) (number : ℕ) (nodes bytes : List ℕ) → Spells x.c epoch (body.Tag number nodes) bytes → Was x Front (Node n) bytes → Keeps k.files x (node_does x n heads (node_tagged env p number nodes))
+  pub tags-keep : (heads : List Seen) (number : ℕ) (nodes bytes : List ℕ) → SpellsMessage x.c epoch (body.Tag number nodes) bytes → Was x Front (Node n) bytes → Keeps k.files x (node_does x n heads (node_tagged env p number nodes))
   tags-keep heads number nodes bytes spells was = by-here heads (tagged_by env number nodes p) refl (λ it placed g. knows-tags it placed g number nodes (tag-of number nodes bytes spells was it placed g))
 
   pub read-keeps : (i : ℕ) (path : List ℕ) → Keeps k.files x (reads_first (rec.Read n n x.c i path) (node_does x n [] (node_read env p i)))
   read-keeps i path = by-files (reads_first (rec.Read n n x.c i path) (node_does x n [] (node_read env p i))) (⊎_elim
-      (λ (e : here env.epoch p ≡ None). subst (λ (d : Deed). Keeps files x (reads_first (rec.Read n n x.c i path) (node_does x n [] d))) (sym (ap (read_by env i p) e))
+      (λ (e : here env.epoch p ≡ None). subst (λ (d : NodeDeed). Keeps files x (reads_first (rec.Read n n x.c i path) (node_does x n [] d))) (sym (ap (node_read_by env i p) e))
       (stands-makes files x (Node n) [] (record nothing_said { notes = rec.Read n n x.c i path ∷ [] }) (tt, tt) (λ old. tt) tt))
       (λ (it : IsIt). first-makes i path (node_read env p i) (λ it placed g. knows-reads it placed g i) it) (here-or k small x s there l pend o n env epoch is))
 
   pub fires-keep : (heads : List Seen) → env.epoch ≡ epoch_in p → Keeps k.files x (node_does x n heads (node_timer env p))
   fires-keep heads same = by-files (node_does x n heads (node_timer env p)) (⊎_elim
-      (λ (e : both_of (endpoint_of p.row) p.stay ≡ None). subst (λ (d : Deed). Keeps files x (node_does x n heads d)) (sym (ap (fired_by env p) e)) (again-keep heads))
+      (λ (e : both_of (back_endpoint p.row) p.stay ≡ None). subst (λ (d : NodeDeed). Keeps files x (node_does x n heads d)) (sym (ap (node_fired_by env p) e)) (again-keep heads))
       (λ (it : IsIt). deed-makes heads (node_timer env p) (λ it placed g. knows-fires it placed g) it) (endpoint-or k small x s there l pend o n env epoch is p.row refl same)) where
         again-keep : (heads : List Seen) → Keeps files x (node_does x n heads (Says (again_sent p)))
         again-keep heads help g = stands-makes files x (Node n) heads (record nothing_said { messages = again_sent p }) tt

@@ -18,10 +18,10 @@ use Rattle.lard_law_connections.proofs.BytesWays.{batch-right}
 use Rattle.lard_law_connections.specs.Places.{IsDecided, IsOffered, IsPast, Offers, Sits, StageSits, owning}
 use Rattle.lard_law_connections.proofs.PlacesFrontMessages.{came-says}
 use Rattle.lard_law_view.specs.Carry.{tale_at}
-use Rattle.lard_law_view.specs.View.{Conn, IsNodeEnv, Setting, Spells, Was, named, node_does, nothing_said, packet_seen}
-use Rattle.lard_laws.specs.WaysState.{BeginsWith, IsAway, IsPlacedOnce, LetterWays, OfferIs, SeatWays, StageWays, marks_at}
+use Rattle.lard_law_view.specs.View.{Conn, IsNodeEnv, Setting, SpellsMessage, Was, named_records, node_does, nothing_said, packet_seen}
+use Rattle.lard_laws.specs.WaysState.{BeginsWithRequest, IsAway, IsPlacedOnce, LetterWays, OfferIs, SeatWays, StageWays, marks_at}
 use Rattle.lard_laws.specs.WaysUnder.{Assigned}
-use Rattle.lard_laws.specs.Ways.{Marks, good_paths, paths_answered}
+use Rattle.lard_laws.specs.Ways.{WayMarks, good_paths, paths_answered}
 use Rattle.lard_laws.proofs.WaysGoing.{first-goes, stay-goes}
 use Rattle.lard_laws.proofs.WaysHomes.{does-makes, named-marked, named-rightly, quiet-asks, quiet-says}
 use Rattle.lard_laws.proofs.WaysMoving.{Keeps, stands-makes}
@@ -30,7 +30,7 @@ use Rattle.lard_laws.proofs.WaysTurning.{DeedWays, TurnWays, work-ways}
 use Rattle.lard_endpoint.specs.Control.{ControlBlock}
 use Rattle.lard_endpoint.specs.Moving.{may_freeze, parts_of}
 use Rattle.lard_rules.specs.declared.front.FrontRest.{FrontRest}
-use Rattle.lard_rules.specs.Front.{is_at, is_with, rest_of}
+use Rattle.lard_rules.specs.Front.{is_row_at, is_with, front_rest}
 use Rattle.lard_handoff_back.specs.declared.row.BackRow.{BackRow}
 use Rattle.lard_handoff_back.specs.declared.table.Adopt.{Adopt}
 use Rattle.lard_handoff_back.specs.declared.table.Adopt.TheVariants.{Again, New, Stale}
@@ -45,7 +45,7 @@ use Rattle.lard_message.specs.declared.kind.Kind.TheVariants as kind
 use Rattle.lard_message.specs.declared.message.Body.TheVariants as body
 use Rattle.lard_message.specs.Reading.{decoded_message}
 use Rattle.lard_rules.specs.declared.node.NodeTurn.{NodeTurn}
-use Rattle.lard_rules.specs.Node.{Deed, NodePart, Says, begins, message, node_offered, offered_by, rests, taken_sent}
+use Rattle.lard_rules.specs.Node.{NodeDeed, NodePart, Says, node_begins, message, node_offered, offered_by, node_rests, taken_sent}
 use Rattle.lard_rules.specs.Stay.{NodeEnv, Work, goes_on, reads_batch, reads_these}
 use Rattle.lard_reader.specs.Batches.{batch_of, bytes_used}
 use Rattle.lard_request.specs.declared.verdict.Verdict.{Verdict}
@@ -61,7 +61,7 @@ first-path a b i j e = ap path_of e where
   path_of [] = a
   path_of (g ∷ gs) = g.0
 
-module _ (env : NodeEnv) (m : Marks) (r : FrontRest) (w out : Stream) (vs pend : List Verdict) (was_reset : Bool) (talk : IsTalk env w out vs) (wrote : m.wrote ≡ w.bytes) (counted : m.served ≡ length vs) (place : env.serve.place ≡ Node env.n) where
+module _ (env : NodeEnv) (m : WayMarks) (r : FrontRest) (w out : Stream) (vs pend : List Verdict) (was_reset : Bool) (talk : IsTalk env w out vs) (wrote : m.wrote ≡ w.bytes) (counted : m.served ≡ length vs) (place : env.serve.place ≡ Node env.n) where
   abbrev files : FilesAt
   files = env.serve.files
 
@@ -71,12 +71,12 @@ module _ (env : NodeEnv) (m : Marks) (r : FrontRest) (w out : Stream) (vs pend :
 
   -- the front end froze this endpoint, whose next request was assigned to this node
   module _ (p : NodePart) (b : ControlBlock) (count : ℕ) (h : FrontHolds w out vs pend b count) (frozen : may_freeze b ≡ true) (path : List ℕ) (assigned : m.assigned ≡ (path, env.n) ∷ []) (answered : paths_answered files m ≡ []) (asks : r.asks ≡ 0)
-      (next : BeginsWith files b.recv.unread path) where
+      (next : BeginsWithRequest files b.recv.unread path) where
     parts : EndpointParts
     parts = parts_of b count
 
     first : Work
-    first = begins env (parts_of b count)
+    first = node_begins env (parts_of b count)
 
     home : Home env m
     home = record { place = place; path = path; others = []; first = assigned }
@@ -87,7 +87,7 @@ module _ (env : NodeEnv) (m : Marks) (r : FrontRest) (w out : Stream) (vs pend :
     pub takes-ways : DeedWays env m r p Never (offered_by env (parts_of b count) p New)
     unfolding parts first home
     takes-ways =
-        let k : Work = begins env (parts_of b count) in
+        let k : Work = node_begins env (parts_of b count) in
         let so : So env.serve w out vs k.service [] = offered-so env w out vs was_reset talk pend p b count h frozen in
         let may : MayGo w so.vs_now [] k.service = go-on env.serve w out vs k.service [] so refl refl refl in
         let works : Works env w out vs (state_of (reads_batch env true k)) = first-so env w out vs true k so may refl in
@@ -107,15 +107,15 @@ module _ (env : NodeEnv) (m : Marks) (r : FrontRest) (w out : Stream) (vs pend :
 -- ---- an Offer that comes
 
 module _ (k : Setting) (small : k.stream ≤ 2 ^ 30) (x : Conn) (s : Station) (there : x.part.station ≡ Some s) (l : Talk) (pend : List Verdict) (o : IsOpen k.files x l pend s) (n epoch : ℕ) (env : NodeEnv) (is : IsNodeEnv k x.c n epoch env)
-    (parts : EndpointParts) (bytes : List ℕ) (spells : Spells x.c epoch (body.Offer parts) bytes) (was : Was x Front (Node n) bytes) where
+    (parts : EndpointParts) (bytes : List ℕ) (spells : SpellsMessage x.c epoch (body.Offer parts) bytes) (was : Was x Front (Node n) bytes) where
   abbrev all_files : FilesAt
   all_files = env.serve.files
 
-  abbrev m : Marks
+  abbrev m : WayMarks
   m = marks_at x
 
   abbrev r : FrontRest
-  r = rest_of x.part.front.rest
+  r = front_rest x.part.front.rest
 
   abbrev p : NodePart
   p = x.part.nodes n
@@ -123,7 +123,7 @@ module _ (k : Setting) (small : k.stream ≤ 2 ^ 30) (x : Conn) (s : Station) (t
   abbrev heads : List Seen
   heads = packet_seen Front (Node n) bytes
 
-  abbrev Goal : Deed → Type 0
+  abbrev Goal : NodeDeed → Type 0
   Goal d = Keeps all_files x (node_does x n heads d)
 
   told : IsDecided epoch p.row ⊎ IsKept x.part.front.kept bytes
@@ -156,15 +156,15 @@ module _ (k : Setting) (small : k.stream ≤ 2 ^ 30) (x : Conn) (s : Station) (t
       let offer : OfferIs all_files m parts = ⊎_elim (λ (a : IsDecided epoch p.row). absurd (not a)) (λ (a : OfferIs all_files m parts). a)
       ((has-fair (LetterWays all_files m x.part) (record { from = Front; to = Node n; bytes = bytes }) x.letters was g.letters) _ spells) in
       let paths : offer.0 ≡ once.path = first-path offer.0 once.path offer.1 n (sym offer.2 ∙ once.assigned) in
-      let next : BeginsWith all_files offering.block.recv.unread once.path = subst (λ (q : EndpointParts). BeginsWith all_files q.unread once.path) same (subst (BeginsWith all_files parts.unread) paths offer.3) in
+      let next : BeginsWithRequest all_files offering.block.recv.unread once.path = subst (λ (q : EndpointParts). BeginsWithRequest all_files q.unread once.path) same (subst (BeginsWithRequest all_files parts.unread) paths offer.3) in
       let ways : DeedWays env m r p Never_here (offered_by env parts p New) = subst (λ (q : EndpointParts). DeedWays env m r p Never_here (offered_by env q p New)) (sym same)
       (takes-ways env m r l.w l.out l.vs pend l.was_reset talk o.tale.wrote o.tale.served (is.place ∙ ap Node (sym is.node)) p offering.block offering.count offering.holds offering.frozen once.path
       (once.assigned ∙ ap (λ (i : ℕ). (once.path, i) ∷ []) (sym is.node)) once.answered once.asks next) in
       let in_epoch : row.epoch.0 ≡ env.epoch = now ∙ sym is.epoch_is in
-      let given : NodePart × NodeTurn = rests env p (taken_sent env) (goes_on env (state_of (reads_batch env true (begins env parts)))) in
+      let given : NodePart × NodeTurn = node_rests env p (taken_sent env) (goes_on env (state_of (reads_batch env true (node_begins env parts)))) in
       let t : TurnWays env m r p Never_here given = ways in
-      does-makes env x n is.node (omega (arith, in_epoch, sits.0)) heads (named given.1.notes) given Never_here t
-      (λ e ps c decided b. not (subst (λ (f : ℕ). IsDecided f p.row) (counts-epoch e (subst (λ (q : FrontConn). is_with n e q ≡ true) at (subst (λ (q : Option FrontRow). is_at n e q ≡ true) found c))) decided))
+      does-makes env x n is.node (omega (arith, in_epoch, sits.0)) heads (named_records given.1.notes) given Never_here t
+      (λ e ps c decided b. not (subst (λ (f : ℕ). IsDecided f p.row) (counts-epoch e (subst (λ (q : FrontConn). is_with n e q ≡ true) at (subst (λ (q : Option FrontRow). is_row_at n e q ≡ true) found c))) decided))
       (named-rightly all_files m given.1.notes t.notes) (named-marked all_files m given.1.notes) row found (subst (IsAt n) (sym at) refl) in_epoch (once.path, [], once.assigned) help g where
         Never_here : List (List ℕ) → Type 0
         Never_here ps = ⊥

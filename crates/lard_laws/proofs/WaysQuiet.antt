@@ -10,14 +10,14 @@ use Rattle.lard_base.specs.declared.place.TimerKind.TheVariants as timer
 use Rattle.lard_law_connections.proofs.PlacesHeads.{kinds-same}
 use Rattle.lard_law_connections.proofs.PlacesLoops.{settled-is, spoken-to}
 use Rattle.lard_law_view.proofs.Nodes.{anew-all}
-use Rattle.lard_laws.specs.WaysContents.{IsContent}
+use Rattle.lard_laws.specs.WaysContents.{IsContentMessage}
 use Rattle.lard_endpoint.specs.Arriving.{on_segment}
 use Rattle.lard_endpoint.specs.Control.{ControlBlock}
 use Rattle.lard_endpoint.specs.declared.control.moving.Final.{Final}
 use Rattle.lard_endpoint.specs.Leaving.{after_timer, timed}
 use Rattle.lard_handoff_back.specs.declared.table.Adopt.{Adopt}
 use Rattle.lard_handoff_back.specs.declared.table.Adopt.TheVariants.{New, Again, Stale}
-use Rattle.lard_handoff_back.specs.Back.{awaits_ack, endpoint_of, offer_answer}
+use Rattle.lard_handoff_back.specs.Back.{awaits_ack, back_endpoint, offer_answer}
 use Rattle.lard_history.proofs.Each.{Each, Each-append}
 use Rattle.lard_lateral.specs.Lateral.{is_from}
 use Rattle.lard_message.specs.declared.kind.Kind.TheVariants as kind
@@ -28,7 +28,7 @@ use Rattle.lard_rules.specs.declared.node.NodeTurn.{NodeTurn}
 use Rattle.lard_rules.specs.declared.stay.Asked.{Asked}
 use Rattle.lard_rules.specs.declared.stay.Stay.{Stay}
 use Rattle.lard_rules.specs.declared.stay.Want.{Want}
-use Rattle.lard_rules.specs.Node.{Deed, Drops, Says, Does, NodePart, again_sent, all_sent, anew, ask_kept, asked_kept, asked_sent, begins, both_of, come_by, ended_kept, ended_sent, fetch_of, fired_by, gone, heard_by, here, is_awaited, kept_after, message, node_acknowledged, node_content, node_forwarded, node_offered, node_read, node_tagged, node_timer, offered_by, read_by, saying, tagged_by, taken_sent, turn_by, wants_kept, wants_sent, with_work, work_of}
+use Rattle.lard_rules.specs.Node.{NodeDeed, Drops, Says, Does, NodePart, again_sent, all_sent, anew, ask_kept, asked_kept, asked_sent, node_begins, both_of, come_by, ended_kept, ended_sent, fetch_of, node_fired_by, gone, node_heard_by, here, is_tag_awaited, kept_after, message, node_acknowledged, node_content, node_forwarded, node_offered, node_read, node_tagged, node_timer, offered_by, node_read_by, node_saying, tagged_by, taken_sent, turn_by, wants_kept, wants_sent, with_work, work_of}
 use Rattle.lard_rules.specs.Stay.{NodeEnv, Work, came_for, come_progress, goes_on, read_progress, reads_batch, tagged}
 use Rattle.lard_resend.specs.declared.kept.Kept.{Kept}
 use Rattle.lard_resend.specs.Kept.{is_under, without}
@@ -38,13 +38,13 @@ use Rattle.lard_rules.specs.declared.places.Ending.{Ending}
 use Rattle.lard_rules.specs.declared.places.Ending.TheVariants.{Here, Over}
 use Rattle.lard_rules.specs.declared.places.Turn.{Turn}
 use Rattle.lard_rules.specs.Loop.{state_of}
-use Rattle.lard_rules.specs.Serving.{Service, ready_of, serving, settled, spoken}
+use Rattle.lard_rules.specs.Serving.{Service, serving_ready_of, serving, serving_settled, spoken}
 use Rattle.lard_segment.specs.declared.fault.SegFault.{SegFault}
 use Rattle.lard_segment.specs.Segment.{Said}
 use Rattle.lard_law_view.proofs.EndpointSends.{AllTo, ready-to}
 
 abbrev pub IsNone : List ℕ → Type 0
-IsNone bytes = IsContent bytes → ⊥
+IsNone bytes = IsContentMessage bytes → ⊥
 
 -- what is spelled as another kind is read as that
 spelled-none : (c e : ℕ) (b : Body) → (kind_of b ≡ kind.Content → ⊥) → IsNone (message c e b)
@@ -66,7 +66,7 @@ pub record TurnNone (c : ℕ) (p : NodePart) (t : NodeTurn) : Type 0 where
   pub messages : SentNone t.messages
   pub segments : AllTo (Client c) t.segments
 
-abbrev pub DeedNone : ℕ → Deed → Type 0
+abbrev pub DeedNone : ℕ → NodeDeed → Type 0
 DeedNone c Drops = Unit {0}
 DeedNone c (Says ms) = SentNone ms
 DeedNone c (Does given) = TurnNone c given.0 given.1
@@ -83,7 +83,7 @@ less-held : (kind : TimerKind) (r : ℕ) (ks : List Kept) → HeldNone ks → He
 less-held kind r ks h = drop_all (λ k. IsNone k.bytes) kind r ks h
 
 module _ (env : NodeEnv) where
-  abbrev IsQuiet : Deed → Type 0
+  abbrev IsQuiet : NodeDeed → Type 0
   IsQuiet d = DeedNone env.serve.c d
 
   -- ---- what is held and sent
@@ -130,14 +130,14 @@ module _ (env : NodeEnv) where
       ended (Over last) = (end-none last _, tt)
 
     works-none : (before : List (Place × List ℕ)) (w : Work) → SentNone before → IsQuiet (with_work env p before w)
-    works-none before w none = turn-none before w (settled env.serve w.service) none (settled-is env.serve w.service).to
+    works-none before w none = turn-none before w (serving_settled env.serve w.service) none (settled-is env.serve w.service).to
 
   -- ---- the rules
 
   module _ (p : NodePart) (held : PartNone p) where
     pub forwarded-none : (given : Result Said SegFault) → IsQuiet (node_forwarded env p given)
     forwarded-none given = go given (here env.epoch p) where
-      go : (given : Result Said SegFault) (x : Option (ControlBlock × Stay)) → IsQuiet (heard_by env p given x)
+      go : (given : Result Said SegFault) (x : Option (ControlBlock × Stay)) → IsQuiet (node_heard_by env p given x)
       go (Err fault) x = tt
       go (Ok s) None = tt
       go (Ok s) (Some x) = works-none p held [] (goes_on env (work_of (on_segment x.0 s).1 x.1)) tt
@@ -149,7 +149,7 @@ module _ (env : NodeEnv) where
       go (Some x) =
           let q : NodePart = record p { kept = without timer.Ask 0 p.kept } in
           let w : Work = goes_on env (tagged env nodes (work_of x.0 x.1)) in
-          cond_both (is_awaited env number nodes p x.1) (with_work env q [] w) Drops IsQuiet (λ t. works-none q (less-held timer.Ask 0 p.kept held.0, held.1) [] w tt) (λ t. tt)
+          cond_both (is_tag_awaited env number nodes p x.1) (with_work env q [] w) Drops IsQuiet (λ t. works-none q (less-held timer.Ask 0 p.kept held.0, held.1) [] w tt) (λ t. tt)
 
     pub content-none : (from r : ℕ) → IsQuiet (node_content env p from r)
     content-none from r = go (here env.epoch p) where
@@ -162,7 +162,7 @@ module _ (env : NodeEnv) where
 
     pub read-none : (r : ℕ) → IsQuiet (node_read env p r)
     read-none r = go (here env.epoch p) where
-      go : (x : Option (ControlBlock × Stay)) → IsQuiet (read_by env r p x)
+      go : (x : Option (ControlBlock × Stay)) → IsQuiet (node_read_by env r p x)
       go None = tt
       go (Some x) = works-none p held [] (goes_on env (came_for read_progress r (work_of x.0 x.1))) tt
 
@@ -172,23 +172,23 @@ module _ (env : NodeEnv) where
     pub offered-none : (parts : EndpointParts) → IsQuiet (node_offered env p parts)
     offered-none parts = go (offer_answer env.epoch p.row) where
       go : (a : Adopt) → IsQuiet (offered_by env parts p a)
-      go New = works-none p held (taken_sent env) (goes_on env (state_of (reads_batch env true (begins env parts)))) taken-none
+      go New = works-none p held (taken_sent env) (goes_on env (state_of (reads_batch env true (node_begins env parts)))) taken-none
       go Again = taken-none
       go Stale = tt
 
     pub acknowledged-none : IsQuiet (node_acknowledged env p)
     acknowledged-none =
         let q : NodePart = record p { row = gone p.row; kept = without timer.Ended 0 p.kept } in
-        cond_both (awaits_ack env.epoch p.row) (Does (q, saying [])) Drops IsQuiet (λ t. record { part = (less-held timer.Ended 0 p.kept held.0, held.1); messages = tt; segments = tt }) (λ t. tt)
+        cond_both (awaits_ack env.epoch p.row) (Does (q, node_saying [])) Drops IsQuiet (λ t. record { part = (less-held timer.Ended 0 p.kept held.0, held.1); messages = tt; segments = tt }) (λ t. tt)
 
     again-none : SentNone (again_sent p)
     again-none = all-held (p.kept ++ p.fetches) (both-held p.kept p.fetches held.0 held.1)
 
     pub fires-none : IsQuiet (node_timer env p)
-    fires-none = go (both_of (endpoint_of p.row) p.stay) where
-      go : (x : Option (ControlBlock × Stay)) → IsQuiet (fired_by env p x)
+    fires-none = go (both_of (back_endpoint p.row) p.stay) where
+      go : (x : Option (ControlBlock × Stay)) → IsQuiet (node_fired_by env p x)
       go None = again-none
       go (Some x) =
           let v : Service = serving (after_timer x.0) x.1.served [] in
-          let before = ready_of env.serve (after_timer x.0) (timed x.0) in
+          let before = serving_ready_of env.serve (after_timer x.0) (timed x.0) in
           turn-none p held (again_sent p) (work_of (after_timer x.0) x.1) (spoken env.serve v before) again-none (spoken-to env.serve v before (ready-to env.serve (after_timer x.0) (timed x.0)))

@@ -17,7 +17,7 @@ use Rattle.lard_law_connections.proofs.PlacesLaw.{owing}
 use Rattle.lard_law_connections.proofs.PlacesRuns.{each-placed}
 use Rattle.lard_law_connections.proofs.PlacesTurns.{IsPlaced}
 use Rattle.lard_law_connections.proofs.PlacesTurns as places
-use Rattle.lard_law_view.specs.Carry.{Guarded, IsGuardedLaw, MayMove, OfEach, Untouched, WhileUntouched, setting, tale_at}
+use Rattle.lard_law_view.specs.Carry.{Guarded, IsGuardedLaw, MayRestOn, OfEach, Untouched, WhileUntouched, setting, tale_at}
 use Rattle.lard_law_view.specs.View.{Conn, FrontRules, IsFrontEnv, Move, Setting, UntouchedRules, Was, conn, event_seen, front_admits, front_does, grown, packet_seen, seen_in}
 use Rattle.lard_law_view.proofs.Carried.{carried}
 use Rattle.lard_law_view.proofs.Fine.{IsFine, IsItsOwn, fine}
@@ -25,7 +25,7 @@ use Rattle.lard_law_view.proofs.Guarded.{guarded-law, untouched-both, untouched-
 use Rattle.lard_law_view.proofs.InSteps.{carried-records}
 use Rattle.lard_laws.specs.WaysRuns.{ContentsComeAsAssigned, JournalsAssignAPrefix, JournalsAssignInOrder}
 use Rattle.lard_laws.specs.WaysState.{GoesItsWay, LetterWays, marks_at, marks_of}
-use Rattle.lard_laws.specs.Ways.{AnswersNext, IsNextGood, Marks, MayBeAssigned, MayCome, marks, paths_wanted}
+use Rattle.lard_laws.specs.Ways.{AnswersNextAt, IsNextGood, WayMarks, MayBeAssigned, MayComeThisWay, way_marks, paths_wanted}
 use Rattle.lard_laws.proofs.WaysClients.{clients}
 use Rattle.lard_laws.proofs.WaysFrontAnswers.{asked-makes, ended-makes, taken-row}
 use Rattle.lard_laws.proofs.WaysFrontStays.{fires-row, hears-row, waits-frozen}
@@ -111,7 +111,7 @@ module _ (k : Setting) (small : k.stream ≤ 2 ^ 30) where
   keeps = record { client = clients k small; front = fronts; node = nodes k small; ignores = λ x from to bytes was. ignores k small x from to bytes }
 
   abbrev pub Owed : Conn → Move → Type 0
-  Owed x v = MayMove IsPlaced x → IsPlaced x → places.Owes x v
+  Owed x v = MayRestOn IsPlaced x → IsPlaced x → places.Owes x v
 
   abbrev pub Given : Conn → Type 0
   Given x = IsPlaced x × Untouched (IsTruthful k.files) x
@@ -120,20 +120,20 @@ module _ (k : Setting) (small : k.stream ≤ 2 ^ 30) where
   All x v = ((IsFine x v × Owed x v) × Knows x v) × Owes k small x v
 
   abbrev Wanted : Conn → Move → Type 0
-  Wanted x v = MayMove Given x → (tale_at x).touched ≡ false → GoesItsWay k.files x → GoesItsWay k.files (grown x v) × EachRow (Mine k.files x.c) x.seen (seen_in x v)
+  Wanted x v = MayRestOn Given x → (tale_at x).touched ≡ false → GoesItsWay k.files x → GoesItsWay k.files (grown x v) × EachRow (Mine k.files x.c) x.seen (seen_in x v)
 
   pub all : UntouchedRules k All
   all = untouched-both k (λ x v. (IsFine x v × Owed x v) × Knows x v) (Owes k small) (untouched-both k (λ x v. IsFine x v × Owed x v) Knows (untouched-both k IsFine Owed (fine k).untouched (owing k IsPlaced).untouched) (known k)) keeps
 
   -- what helps a rule
-  pub helped : (x : Conn) (v : Move) → All x v → MayMove Given x → Helps x v
+  pub helped : (x : Conn) (v : Move) → All x v → MayRestOn Given x → Helps x v
   helped x v h may =
-      let placed : MayMove IsPlaced x = record { number = may.number; sound = may.sound; given = may.given.0 } in
+      let placed : MayRestOn IsPlaced x = record { number = may.number; sound = may.sound; given = may.given.0 } in
       let own : IsItsOwn x v = (h.0.0.0 may.number may.sound).0 in
       let more : Known x v = h.0.1 placed own in
       record { number = may.number; sound = may.sound; placed = may.given.0; owes = h.0.0.1 placed may.given.0; own = own; heads = more.heads; serves = more.serves }
 
-  pub made : (x : Conn) (v : Move) → All x v → MayMove Given x → (tale_at x).touched ≡ false → GoesItsWay k.files x → IsMade k.files x v
+  pub made : (x : Conn) (v : Move) → All x v → MayRestOn Given x → (tale_at x).touched ≡ false → GoesItsWay k.files x → IsMade k.files x v
   made x v h may untouched way = h.1 (may.given.1 untouched) (helped x v h may) way
 
   wanted : (x : Conn) (v : Move) → All x v → Wanted x v
@@ -153,7 +153,7 @@ module _ (files : FilesAt) where
   abbrev seen_so : ℕ → List Seen → Rec → Type 0
   seen_so c past r = WhileUntouched (λ c. Mine files c) c past r
 
-  pub marks-own : (J : List Rec) (c : ℕ) → marks_of (tale_of c (own c J)) ≡ marks J c
+  pub marks-own : (J : List Rec) (c : ℕ) → marks_of (tale_of c (own c J)) ≡ way_marks J c
   marks-own J c = ap marks_of (sym (tale-own J c)) ∙ (λ i. record { wrote = sym (wrote-tale J c) i; served = sym (served-tale J c) i; assigned = sym (assigned-tale J c) i })
 
   says : (J : List Rec) (r : Rec) (c d : ℕ) → d ≡ c → seen_so c (own c J) r → is_touched J d ≡ false → MayTell files c (tale_of c (own c J)) r
@@ -162,29 +162,29 @@ module _ (files : FilesAt) where
   some-number : (a b : ℕ) → Some a ≡ Some b → a ≡ b
   some-number a b e = cc
 
-  of-it : (P : Marks → Type 0) (J : List Rec) (c d : ℕ) → d ≡ c → P (marks_of (tale_of c (own c J))) → P (marks J d)
-  of-it P J c d same h = subst (λ (q : ℕ). P (marks J q)) (sym same) (subst P (marks-own J c) h)
+  of-it : (P : WayMarks → Type 0) (J : List Rec) (c d : ℕ) → d ≡ c → P (marks_of (tale_of c (own c J))) → P (way_marks J d)
+  of-it P J c d same h = subst (λ (q : ℕ). P (way_marks J q)) (sym same) (subst P (marks-own J c) h)
 
   none-number : (a : ℕ) → Some a ≡ None → ⊥
   none-number a e = cc
 
-  comes-somebody : (J : List Rec) (r : Rec) (c : ℕ) → whose r ≡ Some c → seen_so c (own c J) (plain r) → MayCome files J r
+  comes-somebody : (J : List Rec) (r : Rec) (c : ℕ) → whose r ≡ Some c → seen_so c (own c J) (plain r) → MayComeThisWay files J r
   comes-somebody J (rec.Served place d r code size way) c e h = λ u.
       let same : d ≡ c = some-number d c e in
-      of-it (λ (m : Marks). AnswersNext files m place way) J c d same (says J (rec.Served place d r code size way) c d same h u)
+      of-it (λ (m : WayMarks). AnswersNextAt files m place way) J c d same (says J (rec.Served place d r code size way) c d same h u)
   comes-somebody J _ c e h = tt
 
-  comes-nobody : (J : List Rec) (r : Rec) → whose r ≡ None → MayCome files J r
+  comes-nobody : (J : List Rec) (r : Rec) → whose r ≡ None → MayComeThisWay files J r
   comes-nobody J (rec.Served place d r code size way) e = absurd (none-number d e)
   comes-nobody J _ e = tt
 
   assigned-somebody : (J : List Rec) (r : Rec) (c : ℕ) → whose r ≡ Some c → seen_so c (own c J) (plain r) → MayBeAssigned files J r
   assigned-somebody J (rec.AssignedFirst d r path n add remove) c e h = λ u.
       let same : d ≡ c = some-number d c e in
-      of-it (λ (m : Marks). IsNextGood files m path) J c d same (says J (rec.AssignedFirst d r path n add remove) c d same h u)
+      of-it (λ (m : WayMarks). IsNextGood files m path) J c d same (says J (rec.AssignedFirst d r path n add remove) c d same h u)
   assigned-somebody J (rec.AssignedLater d r path n add size queue) c e h = λ u.
       let same : d ≡ c = some-number d c e in
-      of-it (λ (m : Marks). IsNextGood files m path) J c d same (says J (rec.AssignedLater d r path n add size queue) c d same h u)
+      of-it (λ (m : WayMarks). IsNextGood files m path) J c d same (says J (rec.AssignedLater d r path n add size queue) c d same h u)
   assigned-somebody J _ c e h = tt
 
   assigned-nobody : (J : List Rec) (r : Rec) → whose r ≡ None → MayBeAssigned files J r
@@ -208,7 +208,7 @@ module _ (config : Config) (files : List (List ℕ × List ℕ)) (small : config
   each m r q = (each-guarded m r q).1
 
 pub contents-come : ContentsComeAsAssigned
-contents-come config files m small r = carried-records config files (MayCome (file_at files)) (seen_so (file_at files)) (comes-nobody (file_at files)) (comes-somebody (file_at files)) (each config files small) m r
+contents-come config files m small r = carried-records config files (MayComeThisWay (file_at files)) (seen_so (file_at files)) (comes-nobody (file_at files)) (comes-somebody (file_at files)) (each config files small) m r
 
 pub assign-in-order : JournalsAssignInOrder
 assign-in-order config files m small r = carried-records config files (MayBeAssigned (file_at files)) (seen_so (file_at files)) (assigned-nobody (file_at files)) (assigned-somebody (file_at files)) (each config files small) m r

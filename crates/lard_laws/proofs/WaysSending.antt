@@ -5,8 +5,8 @@ use Rattle.lard_base.specs.declared.config.Config.{Config}
 use Rattle.lard_base.specs.declared.event.Event.TheVariants as event
 use Rattle.lard_base.specs.declared.place.Place.{Place}
 use Rattle.lard_base.specs.declared.place.Place.TheVariants.{Client, Front, Node}
-use Rattle.lard_law_view.specs.Carry.{IsLaw, MayMove, OfEach, setting}
-use Rattle.lard_law_view.specs.View.{ClientRules, Conn, FrontRules, IsNodeEnv, Move, NodeRules, Rules, Setting, Spells, event_seen, front_does, grown, node_does, nothing_said, packet_seen, reads_first, stands}
+use Rattle.lard_law_view.specs.Carry.{IsLaw, MayRestOn, OfEach, setting}
+use Rattle.lard_law_view.specs.View.{ClientRules, Conn, FrontRules, IsNodeEnv, Move, NodeRules, Rules, Setting, SpellsMessage, event_seen, front_does, grown, node_does, nothing_said, packet_seen, reads_first, stands}
 use Rattle.lard_law_view.proofs.Carried.{carried}
 use Rattle.lard_law_view.proofs.Guarded.{weaker}
 use Rattle.lard_law_view.proofs.Parts.{put-each}
@@ -19,7 +19,7 @@ use Rattle.lard_journal.specs.declared.rec.Rec.TheVariants as rec
 use Rattle.lard_message.specs.declared.message.Body.TheVariants as body
 use Rattle.lard_rules.specs.Node as node
 use Rattle.lard_rules.specs.Node.{message, node_acknowledged, node_content, node_forwarded, node_offered, node_read, node_tagged, node_timer}
-use Rattle.lard_rules.specs.NodePlace.{bytes_of}
+use Rattle.lard_rules.specs.NodePlace.{content_bytes}
 use Rattle.lard_rules.specs.Stay.{NodeEnv}
 use Rattle.lard_segment.specs.declared.segment.Dir.TheVariants.{ToCluster}
 use Rattle.lard_segment.specs.Segment.{decoded}
@@ -40,7 +40,7 @@ pub record Fetches (k : Setting) (c n : ℕ) (heads : List Seen) : Type 0 where
   pub file : List ℕ
   pub bytes : List ℕ
   pub known : k.files path ≡ Some file
-  pub spells : Spells c epoch (body.Fetch r path) bytes
+  pub spells : SpellsMessage c epoch (body.Fetch r path) bytes
   pub came : heads ≡ packet_seen (Node from) (Node n) bytes
 
 -- A job was read for another node, which the content goes to.
@@ -50,7 +50,7 @@ pub record Brings (k : Setting) (c n : ℕ) (v : Move) : Type 0 where
   pub r : ℕ
   pub path : List ℕ
   pub notes : v.said.notes ≡ rec.Read n from c r path ∷ []
-  pub messages : v.said.messages ≡ (Node from, message c epoch (body.Content r (bytes_of (k.files path)))) ∷ []
+  pub messages : v.said.messages ≡ (Node from, message c epoch (body.Content r (content_bytes (k.files path)))) ∷ []
 
 -- its segments go to the client
 pub record SaysOfContents (k : Setting) (x : Conn) (n : ℕ) (v : Move) : Type 0 where
@@ -80,7 +80,7 @@ quiet-at k x v (Client d) h = tt
 quiet-owes : (k : Setting) (x : Conn) (v : Move) → IsQuiet x v → HoldsNone (grown x v) × SaysAt k x v v.place
 quiet-owes k x v h = (h.holds, quiet-at k x v v.place h)
 
-deed-quiet : (x : Conn) (n : ℕ) (heads : List Seen) (d : node.Deed) → HoldsNone x → DeedNone x.c d → IsQuiet x (node_does x n heads d)
+deed-quiet : (x : Conn) (n : ℕ) (heads : List Seen) (d : node.NodeDeed) → HoldsNone x → DeedNone x.c d → IsQuiet x (node_does x n heads d)
 deed-quiet x n heads node.Drops h q = record { holds = h; segments = tt; messages = tt }
 deed-quiet x n heads (node.Says ms) h q = record { holds = h; segments = tt; messages = q }
 deed-quiet x n heads (node.Does given) h q = record { holds = put-each x.part.nodes n given.0 (λ m p. PartNone p) q.part (λ m other. h m); segments = q.segments; messages = q.messages }
@@ -91,7 +91,7 @@ read-quiet x r v h = record { holds = h.holds; segments = h.segments; messages =
 
 -- ---- the rules
 
-front-owes : (k : Setting) (x : Conn) (heads : List Seen) (d : front.Deed) → Owes k x (front_does x heads d)
+front-owes : (k : Setting) (x : Conn) (heads : List Seen) (d : front.FrontDeed) → Owes k x (front_does x heads d)
 front-owes k x heads front.Drops h = (h, tt)
 front-owes k x heads (front.Says turn) h = (h, tt)
 front-owes k x heads (front.Does did) h = (h, tt)
@@ -121,10 +121,10 @@ module _ (k : Setting) where
   }
 
   -- a rule of a node, on its own connection
-  by-node : (x : Conn) (n epoch : ℕ) (env : NodeEnv) → IsNodeEnv k x.c n epoch env → (heads : List Seen) (d : node.Deed) → (PartNone (x.part.nodes n) → DeedNone env.serve.c d) → HoldsNone x → IsQuiet x (node_does x n heads d)
+  by-node : (x : Conn) (n epoch : ℕ) (env : NodeEnv) → IsNodeEnv k x.c n epoch env → (heads : List Seen) (d : node.NodeDeed) → (PartNone (x.part.nodes n) → DeedNone env.serve.c d) → HoldsNone x → IsQuiet x (node_does x n heads d)
   by-node x n epoch env is heads d rule h = deed-quiet x n heads d h (subst (λ (c : ℕ). DeedNone c d) is.number (rule (h n)))
 
-  owes : (x : Conn) (n epoch : ℕ) (env : NodeEnv) → IsNodeEnv k x.c n epoch env → (heads : List Seen) (d : node.Deed) → (PartNone (x.part.nodes n) → DeedNone env.serve.c d) → Owes k x (node_does x n heads d)
+  owes : (x : Conn) (n epoch : ℕ) (env : NodeEnv) → IsNodeEnv k x.c n epoch env → (heads : List Seen) (d : node.NodeDeed) → (PartNone (x.part.nodes n) → DeedNone env.serve.c d) → Owes k x (node_does x n heads d)
   owes x n epoch env is heads d rule h = quiet-owes k x (node_does x n heads d) (by-node x n epoch env is heads d rule h)
 
   nodes : NodeRules k (Owes k)
@@ -161,7 +161,7 @@ module _ (k : Setting) where
   Anything x = Unit {0}
 
   holds-law : IsLaw k Anything HoldsNone
-  holds-law = record { begins = λ c n. (tt, tt); moves = weaker k (Owes k) (λ x v. MayMove Anything x → HoldsNone x → HoldsNone (grown x v)) (λ x v h may holds. (h holds).0) rules }
+  holds-law = record { begins = λ c n. (tt, tt); moves = weaker k (Owes k) (λ x v. MayRestOn Anything x → HoldsNone x → HoldsNone (grown x v)) (λ x v h may holds. (h holds).0) rules }
 
 pub each-holds : (config : Config) (files : List (List ℕ × List ℕ)) → OfEach config files HoldsNone
 each-holds config files = carried config files (Anything (setting config files)) HoldsNone (holds-law (setting config files)) (λ m r q. tt)

@@ -11,7 +11,7 @@ use Rattle.lard_answers.proofs.Growing.{until_close-cons, until_close-nil, verdi
 use Rattle.lard_base.specs.declared.limits.TheConstants.{MAX_FIELDS}
 use Rattle.lard_block.specs.declared.block.Found.{Found}
 use Rattle.lard_block.specs.declared.block.Found.TheVariants.{Block, More, TooLong}
-use Rattle.lard_block.specs.Blocks.{Head, IsWithin, Long, Piece, blocks, cut_of, moved, pieces, pieces_from}
+use Rattle.lard_block.specs.Blocks.{Head, IsWithin, Long, Piece, blocks, cut_of, piece_moved, pieces, pieces_from}
 use Rattle.lard_block.proofs.Cutting.{cut-within}
 use Rattle.lard_laws.specs.Ways.{good_paths}
 use Rattle.lard_history.proofs.Each.{Each}
@@ -21,7 +21,7 @@ use Rattle.lard_request.specs.declared.verdict.Verdict.TheVariants.{Fault, Serve
 use Rattle.lard_request.specs.Fields.{has_content, has_good_host, says_close}
 use Rattle.lard_request.specs.Head.{head_of}
 use Rattle.lard_request.specs.Target.{absolute_path, authority_len, is_query, path_behind, path_of, without_query}
-use Rattle.lard_request.specs.Verdict.{asked, closes, has_bare_feed, head_verdict, is_get, is_head, pairs, served, verdict, verdict_of}
+use Rattle.lard_request.specs.Verdict.{asked, closes, has_bare_feed, head_verdict, is_get, is_head, pairs_in, path_verdict, verdict, verdict_of}
 use Rattle.lard_request.proofs.Reading.{head-sound}
 
 le-front : (xs ys : List ℕ) → length xs ≤ length (xs ++ ys)
@@ -75,12 +75,12 @@ abbrev pub IsShort : ℕ → Verdict → Type 0
 IsShort n (Serve path head close) = length path ≤ n + 1
 IsShort n (Fault code) = Unit {0}
 
-served-short : (n : ℕ) (head close : Bool) (o : Option (List ℕ)) → PathBy n o → IsShort n (served head close o)
+served-short : (n : ℕ) (head close : Bool) (o : Option (List ℕ)) → PathBy n o → IsShort n (path_verdict head close o)
 served-short n head close None h = tt
 served-short n head close (Some path) h = h
 
 asked-short : (method target : List ℕ) (close : Bool) → IsShort (length target) (asked method target close)
-asked-short method target close = cond_both (not (is_get method || is_head method)) (Fault _) (served (is_head method) close (path_of target)) (IsShort (length target))
+asked-short method target close = cond_both (not (is_get method || is_head method)) (Fault _) (path_verdict (is_head method) close (path_of target)) (IsShort (length target))
     (λ t. tt) (λ t. served-short (length target) (is_head method) close (path_of target) (path-within target))
 
 short-more : (n m : ℕ) (v : Verdict) → n ≤ m → IsShort n v → IsShort m v
@@ -104,7 +104,7 @@ of-short block (Some h) e =
 verdict-short : (block : List ℕ) → IsShort (length block) (verdict block)
 unfolding verdict
 verdict-short block =
-    cond_both (nat_lt (MAX_FIELDS + 2) (pairs block)) (Fault _) (cond (has_bare_feed false block) (Fault _) (verdict_of (head_of block))) (IsShort (length block)) (λ t. tt)
+    cond_both (nat_lt (MAX_FIELDS + 2) (pairs_in block)) (Fault _) (cond (has_bare_feed false block) (Fault _) (verdict_of (head_of block))) (IsShort (length block)) (λ t. tt)
     (λ t. cond_both (has_bare_feed false block) (Fault _) (verdict_of (head_of block)) (IsShort (length block)) (λ u. tt) (λ u. of-short block (head_of block) refl))
 
 -- ---- all that a client wrote
@@ -113,7 +113,7 @@ abbrev IsSmall : Piece → Type 0
 IsSmall (Head block after) = length block ≤ 8192
 IsSmall Long = Unit {0}
 
-small-moved : (by : ℕ) (ps : List Piece) → Each IsSmall ps → Each IsSmall (map (moved by) ps)
+small-moved : (by : ℕ) (ps : List Piece) → Each IsSmall ps → Each IsSmall (map (piece_moved by) ps)
 small-moved by [] h = tt
 small-moved by (Head block after ∷ ps) h = (h.0, small-moved by ps h.1)
 small-moved by (Long ∷ ps) h = (tt, small-moved by ps h.1)
@@ -126,7 +126,7 @@ small-from q later h (TooLong skip) within = (tt, tt)
 small-pieces : (n : ℕ) (q : List ℕ) → Each IsSmall (pieces n q)
 unfolding pieces
 small-pieces zero q = tt
-small-pieces (suc n) q = small-from q (λ used. map (moved used) (pieces n (drop used q))) (λ used. small-moved used (pieces n (drop used q)) (small-pieces n (drop used q))) (cut_of q) (cut-within q)
+small-pieces (suc n) q = small-from q (λ used. map (piece_moved used) (pieces n (drop used q))) (λ used. small-moved used (pieces n (drop used q)) (small-pieces n (drop used q))) (cut_of q) (cut-within q)
 
 small-blocks : (q : List ℕ) → Each IsSmall (blocks q)
 unfolding blocks

@@ -11,7 +11,7 @@ use Rattle.lard_laws.proofs.WaysShort.{AreShort}
 use Rattle.lard_message.specs.declared.message.Body.{Body}
 use Rattle.lard_message.specs.declared.message.Body.TheVariants as body
 use Rattle.lard_message.specs.declared.message.Message.{Message}
-use Rattle.lard_message.specs.Message.{body_bytes, counted, spelled_message}
+use Rattle.lard_message.specs.Message.{body_bytes, counted_bytes, spelled_message}
 use Rattle.lard_message.specs.Reading.{ask_at, byte_at, decoded_message, nodes_of, number_at, paths_at, tag_at, taken_at}
 use Rattle.lard_message.proofs.Fields.{bind_then, nodes_are, paths_again, some_same, taken_again}
 use Rattle.lard_rules.specs.Node.{message}
@@ -47,7 +47,7 @@ pub record ReadsAsk (number size : ℕ) (paths : List (List ℕ)) (b : Body) : T
 asked-body : (number queue size : ℕ) (paths : List (List ℕ)) → AreShort paths → (b : Body) (rest : List ℕ) → ask_at (body_bytes (body.Ask number queue size paths)) ≡ Some (b, rest) → ReadsAsk number size paths b
 unfolding ask_at
 asked-body number queue size paths h b rest e =
-    let r3 : List ℕ = flat_map counted paths in
+    let r3 : List ℕ = flat_map counted_bytes paths in
     let r2 : List ℕ = size ∷ length paths ∷ r3 in
     let r1 : List ℕ = to_be_bytes w32 queue ++ r2 in
     let y : Body × List ℕ = (b, rest) in

@@ -12,7 +12,7 @@ use Rattle.lard_law_connections.specs.BytesTurning.{IsReading}
 use Rattle.lard_law_connections.proofs.BytesWorking.{Works, verdicts_of}
 use Rattle.lard_laws.specs.WaysState.{IsAsking, given_to}
 use Rattle.lard_laws.specs.WaysUnder.{Assigned, Lies, Under}
-use Rattle.lard_laws.specs.Ways.{AnswersBy, AnswersNext, ComesAsAssigned, Marks, good_paths, paths_assigned, paths_wanted}
+use Rattle.lard_laws.specs.Ways.{AnswersBy, AnswersNextAt, ComesAsAssigned, WayMarks, good_paths, paths_assigned, paths_wanted}
 use Rattle.lard_laws.proofs.WaysEntering.{Enters, read-enter, read-under}
 use Rattle.lard_laws.proofs.WaysGoods.{get-behind, get-front, good-append, good-prefix, next-get, prefix-take}
 use Rattle.lard_laws.proofs.WaysLying.{under-paths}
@@ -28,23 +28,23 @@ use Rattle.lard_rules.specs.declared.stay.Next.TheVariants as next
 use Rattle.lard_rules.specs.declared.stay.Progress.{Progress}
 use Rattle.lard_rules.specs.declared.stay.Progress.TheVariants as progress
 use Rattle.lard_rules.specs.Node.{stay_after}
-use Rattle.lard_rules.specs.Stay.{NodeEnv, Work, and_path, asks_for, enters, left, named_path, named_paths, next_in, path_in, reads_these, read_entry, serves_by, serves_first, serves_with, turned}
+use Rattle.lard_rules.specs.Stay.{NodeEnv, Work, and_path, asks_for, enters, work_left, named_path, named_paths, next_in, path_in, reads_these, read_entry, serves_by, serves_first, serves_with, turned}
 use Rattle.lard_reader.specs.Batches.{batch_of, bytes_used}
 use Rattle.lard_request.specs.declared.verdict.Verdict.{Verdict}
 use Rattle.lard_rules.specs.Loop.{Step, More, Done}
-use Rattle.lard_rules.specs.Serving.{Service, answered, consumed, ended_at_fin, passed_over, queued}
+use Rattle.lard_rules.specs.Serving.{Service, answered, serving_consumed, ended_at_fin, passed_over, queued}
 use Rattle.lard_law_view.specs.Truth.{Stream}
 
 -- a batch is read where none is left
 -- What is known of a connection before the turn of its home: what was marked, what the front end keeps, and that its first assignment
 -- is of this node. `Before` is so of the paths of an Ask that it awaits.
-pub record Home (env : NodeEnv) (m : Marks) : Type 0 where
+pub record Home (env : NodeEnv) (m : WayMarks) : Type 0 where
   pub place : env.serve.place ≡ Node env.n
   pub path : List ℕ
   pub others : List Assigned
   pub first : m.assigned ≡ (path, env.n) ∷ others
 
-module _ (env : NodeEnv) (m : Marks) (r : FrontRest) (Before : List (List ℕ) → Type 0) where
+module _ (env : NodeEnv) (m : WayMarks) (r : FrontRest) (Before : List (List ℕ) → Type 0) where
   abbrev files : FilesAt
   files = env.serve.files
 
@@ -52,7 +52,7 @@ module _ (env : NodeEnv) (m : Marks) (r : FrontRest) (Before : List (List ℕ) �
   all_verdicts = verdicts m.wrote
 
   -- so many were answered
-  abbrev pub served_now : ℕ → Marks
+  abbrev pub served_now : ℕ → WayMarks
   served_now n = record m { served = n }
 
   abbrev pub AsksFor : List (List ℕ) → Work → Type 0
@@ -199,10 +199,10 @@ module _ (env : NodeEnv) (m : Marks) (r : FrontRest) (Before : List (List ℕ) �
 
   these-go : (used : ℕ) (k : Work) (us : List Verdict) → k.batch ≡ [] → Goes k → StepReads (reads_these env false used k us) → StepGoes (reads_these env false used k us)
   these-go used k [] none h reads =
-      let s : Service = consumed used k.service in
+      let s : Service = serving_consumed used k.service in
       same-goes k (ended_at_fin s) (cond_both s.block.recv.fin (record s { block = _ }) s (λ (t : Service). t.notes ≡ k.service.notes) (λ t. refl) (λ t. refl)) (cond_both s.block.recv.fin (record s { block = _ }) s (λ (t : Service). t.count ≡ k.service.count) (λ t. refl) (λ t. refl)) h
   these-go used k (v ∷ us) none h reads =
-      let start : Work = record k { service = consumed used k.service } in
+      let start : Work = record k { service = serving_consumed used k.service } in
       let all : Work = enters env false (k.service.count + 1) (v ∷ us) start in
       let e : Enters start all (map (read_entry files) (v ∷ us)) = read-enter env (k.service.count + 1) (v ∷ us) start in
       let i : IsIdle k h.gone h.under = idle k h none in
@@ -324,12 +324,12 @@ module _ (env : NodeEnv) (m : Marks) (r : FrontRest) (Before : List (List ℕ) �
           ap (λ (n : ℕ). take n all_verdicts) size ∙ prefix-take (reads.before ++ e.verdict ∷ []) all_verdicts one
           ∙ ap (λ (l : List Verdict). l ++ e.verdict ∷ []) (sym (ap (λ (n : ℕ). take n all_verdicts) reads.counted ∙ prefix-take reads.before all_verdicts first)) in
           let v = served in
-          let may : AnswersNext files (served_now k.service.count) env.serve.place way = subst (AnswersBy files (served_now k.service.count) env.serve.place way) (sym got) v.may in
+          let may : AnswersNextAt files (served_now k.service.count) env.serve.place way = subst (AnswersBy files (served_now k.service.count) env.serve.place way) (sym got) v.may in
           let noted_row : Rightly files (marked m k.service.notes) (rec.Served env.serve.place env.serve.c (k.service.count + 1) (answer_code files e.verdict) (length bytes) way ∷ []) =
-          (subst (λ (n : Marks). AnswersNext files n env.serve.place way) (sym h.told) may, tt) in
+          (subst (λ (n : WayMarks). AnswersNextAt files n env.serve.place way) (sym h.told) may, tt) in
           record {
             noted_so = rightly-append files m k.service.notes _ h.noted_so noted_row;
-            told = marked-append m k.service.notes _ ∙ ap (λ (n : Marks). record n { served = n.served + 1 }) h.told;
+            told = marked-append m k.service.notes _ ∙ ap (λ (n : WayMarks). record n { served = n.served + 1 }) h.told;
             gone = v.gone;
             under = v.under;
             walked = v.walked ∙ ap (good_paths files) (sym next_is);

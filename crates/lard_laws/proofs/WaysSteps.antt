@@ -7,7 +7,7 @@ use Rattle.lard_base.specs.declared.place.Place.{Place}
 use Rattle.lard_base.specs.declared.place.Place.TheVariants.{Client, Front, Node}
 use Rattle.lard_rules.specs.declared.machine.Machine.{Machine}
 use Rattle.lard_rules.specs.Bounds.{HasRule}
-use Rattle.lard_rules.specs.Machine.{clocked, machine_step, segments_sent, told}
+use Rattle.lard_rules.specs.Machine.{clocked, machine_step, segments_sent, machine_told}
 use Rattle.lard_law_connections.proofs.StoresCalm.{first_rows, last_rows}
 use Rattle.lard_law_view.specs.View.{IsViewed, Move, Part, conn, packet_seen, setting_of}
 use Rattle.lard_law_view.proofs.After.{IsAfter, step-after}
@@ -59,12 +59,12 @@ module _ (m : Machine) (held : (q : ℕ) → HoldsNone (conn m q)) where
   IsEither e n = IsFetched m e ⊎ Good m n
 
   any-good : (w : Machine) (e : Event) (place : Place) (o : Out) → IsAct m w e place o → Each IsPlain (sent_records (length w.net + 1) place o.segments)
-      → Each (may_in m (all_rows m w e place o)) (sent_records (length (segments_sent w place o) + 1) place o.messages) → Good m (told w e (behind e) place o)
+      → Each (may_in m (all_rows m w e place o)) (sent_records (length (segments_sent w place o) + 1) place o.messages) → Good m (machine_told w e (behind e) place o)
   any-good w e place o act segments messages =
       told-good m w e place o act.put.journal (notes-plain place o.notes act.notes) segments (gifts-plain place o.gave act.gave) messages (timers-plain place o.timers act.timers)
 
   -- a place that is no node's sends no contents
-  others-good : (w : Machine) (e : Event) (place : Place) (o : Out) → NamesAll place → IsAct m w e place o → Good m (told w e (behind e) place o)
+  others-good : (w : Machine) (e : Event) (place : Place) (o : Out) → NamesAll place → IsAct m w e place o → Good m (machine_told w e (behind e) place o)
   others-good w e place o names act =
       any-good w e place o act (others-plain (length w.net + 1) place o.segments names)
       (all-may m (all_rows m w e place o) (sent_records (length (segments_sent w place o) + 1) place o.messages) (others-plain (length (segments_sent w place o) + 1) place o.messages names))
@@ -75,7 +75,7 @@ module _ (m : Machine) (held : (q : ℕ) → HoldsNone (conn m q)) where
     abbrev messages_in : Place → List Rec
     messages_in place = sent_records (length (segments_sent w place o) + 1) place o.messages
 
-    acts-good : (place : Place) → ActsOn m w e place o c heads ns p → Each IsPlain (sent_records (length w.net + 1) place o.segments) → Each (may_in m (all_rows m w e place o)) (messages_in place) → Good m (told w e (behind e) place o)
+    acts-good : (place : Place) → ActsOn m w e place o c heads ns p → Each IsPlain (sent_records (length w.net + 1) place o.segments) → Each (may_in m (all_rows m w e place o)) (messages_in place) → Good m (machine_told w e (behind e) place o)
     acts-good place act segments messages = any-good w e place o (one-act m w e place o c heads ns p act) segments messages
 
     module _ (i : ℕ) (act : ActsOn m w e (Node i) o c heads ns p) where
@@ -101,7 +101,7 @@ module _ (m : Machine) (held : (q : ℕ) → HoldsNone (conn m q)) where
           subst (λ (ms : List (Place × List ℕ)). Each (may_in m (all_rows m w e (Node i) o)) (sent_records N (Node i) ms)) (sym b.messages)
           ((λ content. record { c = (conn m c).c; epoch = b.epoch; r = b.r; path = b.path; is = refl; by = inr (read-there b) }), tt)
 
-      node-good : SaysOfContents (setting_of m) (conn m c) i v → IsEither e (told w e (behind e) (Node i) o)
+      node-good : SaysOfContents (setting_of m) (conn m c) i v → IsEither e (machine_told w e (behind e) (Node i) o)
       node-good says =
           let segments : Each IsPlain (sent_records (length w.net + 1) (Node i) o.segments) = to-client i (conn m c).c (length w.net + 1) o.segments says.segments in
           ⊎_elim
@@ -113,7 +113,7 @@ module _ (m : Machine) (held : (q : ℕ) → HoldsNone (conn m q)) where
           some)
           says.messages
 
-    one-good : (place : Place) → ActsOn m w e place o c heads ns p → SaysAt (setting_of m) (conn m c) (move_of place heads ns o p) place → IsEither e (told w e (behind e) place o)
+    one-good : (place : Place) → ActsOn m w e place o c heads ns p → SaysAt (setting_of m) (conn m c) (move_of place heads ns o p) place → IsEither e (machine_told w e (behind e) place o)
     one-good Front act says = inr (others-good w e Front o tt (one-act m w e Front o c heads ns p act))
     one-good (Client d) act says = inr (others-good w e (Client d) o tt (one-act m w e (Client d) o c heads ns p act))
     one-good (Node i) act says = node-good i act says
@@ -132,7 +132,7 @@ module _ (m : Machine) (held : (q : ℕ) → HoldsNone (conn m q)) where
       says.messages
 
   each-good : (w : Machine) (e : Event) (place : Place) (notes : List Rec) (xs : List Mover) → ActsOnEach m w e place notes xs → Each (λ x. Owes (setting_of m) (conn m x.c) (mover_move place x)) xs
-      → Good m (told w e (behind e) place (each_out notes xs))
+      → Good m (machine_told w e (behind e) place (each_out notes xs))
   each-good w e Front notes xs act owes = others-good w e Front (each_out notes xs) tt (each-act m w e Front notes xs act)
   each-good w e (Client d) notes xs act owes = others-good w e (Client d) (each_out notes xs) tt (each-act m w e (Client d) notes xs act)
   each-good w e (Node i) notes xs act owes =

@@ -19,7 +19,7 @@ use Rattle.lard_law_connections.proofs.BytesWays.{came-right, come_progress-on, 
 use Rattle.lard_law_connections.specs.Places.{IsDecided}
 use Rattle.lard_law_connections.proofs.PlacesLoops.{settled-is, spoken-to}
 use Rattle.lard_laws.specs.WaysState.{StayAsks, StayWays, TagIs}
-use Rattle.lard_laws.specs.Ways.{Marks, paths_assigned, paths_wanted}
+use Rattle.lard_laws.specs.Ways.{WayMarks, paths_assigned, paths_wanted}
 use Rattle.lard_laws.proofs.WaysGoing.{Awaits, came-goes, stay-goes, tagged-goes, work-goes}
 use Rattle.lard_laws.proofs.WaysLying.{come-keeps, read-keeps}
 use Rattle.lard_laws.proofs.WaysMarking.{Rightly, marked}
@@ -29,7 +29,7 @@ use Rattle.lard_endpoint.specs.Arriving.{on_segment}
 use Rattle.lard_endpoint.specs.Control.{ControlBlock}
 use Rattle.lard_endpoint.specs.Leaving.{after_timer, timed}
 use Rattle.lard_rules.specs.declared.front.FrontRest.{FrontRest}
-use Rattle.lard_handoff_back.specs.Back.{endpoint_of, staying}
+use Rattle.lard_handoff_back.specs.Back.{back_endpoint, staying}
 use Rattle.lard_history.proofs.Each.{Each, Each-append}
 use Rattle.lard_law_view.specs.Agreement.{IsWord}
 use Rattle.lard_lateral.specs.Lateral.{is_from}
@@ -39,7 +39,7 @@ use Rattle.lard_rules.specs.declared.node.NodeTurn.{NodeTurn}
 use Rattle.lard_rules.specs.declared.stay.Asked.{Asked}
 use Rattle.lard_rules.specs.declared.stay.Stay.{Stay}
 use Rattle.lard_rules.specs.declared.stay.Want.{Want}
-use Rattle.lard_rules.specs.Node.{Deed, Drops, Says, Does, NodePart, again_sent, asked_sent, both_of, come_by, ended_sent, fired_by, heard_by, here, is_awaited, kept_after, message, node_content, node_forwarded, node_read, node_tagged, node_timer, read_by, tagged_by, turn_by, wants_sent, with_work, work_of}
+use Rattle.lard_rules.specs.Node.{NodeDeed, Drops, Says, Does, NodePart, again_sent, asked_sent, both_of, come_by, ended_sent, node_fired_by, node_heard_by, here, is_tag_awaited, kept_after, message, node_content, node_forwarded, node_read, node_tagged, node_timer, node_read_by, tagged_by, turn_by, wants_sent, with_work, work_of}
 use Rattle.lard_rules.specs.Node as node
 use Rattle.lard_rules.specs.Stay.{NodeEnv, Work, came_for, come_progress, goes_on, named_paths, read_progress, tagged}
 use Rattle.lard_request.specs.declared.verdict.Verdict.{Verdict}
@@ -47,12 +47,12 @@ use Rattle.lard_resend.specs.Kept.{is_under, without}
 use Rattle.lard_rules.specs.declared.places.Ending.{Ending}
 use Rattle.lard_rules.specs.declared.places.Ending.TheVariants as ending
 use Rattle.lard_rules.specs.declared.places.Turn.{Turn}
-use Rattle.lard_rules.specs.Serving.{ready_of, serving, settled, spoken}
+use Rattle.lard_rules.specs.Serving.{serving_ready_of, serving, serving_settled, spoken}
 use Rattle.lard_segment.specs.Segment.{Said}
 use Rattle.lard_law_view.specs.Truth.{Stream}
 use Rattle.lard_law_view.proofs.EndpointSends.{AllTo, ready-to}
 
-module _ (env : NodeEnv) (m : Marks) (r : FrontRest) where
+module _ (env : NodeEnv) (m : WayMarks) (r : FrontRest) where
   abbrev files : FilesAt
   files = env.serve.files
 
@@ -86,7 +86,7 @@ module _ (env : NodeEnv) (m : Marks) (r : FrontRest) where
     pub said : Each (SaysIt given.0.stay) more
 
   -- what it says without a turn was said before, or it is an answer
-  abbrev pub DeedWays : NodePart → (List (List ℕ) → Type 0) → Deed → Type 0
+  abbrev pub DeedWays : NodePart → (List (List ℕ) → Type 0) → NodeDeed → Type 0
   DeedWays before Was Drops = Unit {0}
   DeedWays before Was (Says ms) = (ms ≡ again_sent before) ⊎ Each (SaysIt before.stay) ms
   DeedWays before Was (Does given) = TurnWays before Was given
@@ -118,7 +118,7 @@ module _ (env : NodeEnv) (m : Marks) (r : FrontRest) where
 
     ended-says : (part : NodePart) (e : Ending) → Each (SaysIt (kept_after env part k e).stay) (ended_sent env k.service.over e)
     ended-says part (ending.Here b count) = tt
-    ended-says part (ending.Over last) = (inr (body.Ended last.reason last.snd.0 last.rcv.0 (node.count_of k.service.over), refl, tt), tt)
+    ended-says part (ending.Over last) = (inr (body.Ended last.reason last.snd.0 last.rcv.0 (node.reset_count k.service.over), refl, tt), tt)
 
     rest-says : (part : NodePart) (e : Ending) → Each (SaysIt (kept_after env part k e).stay) ((asked_sent env k.asked ++ wants_sent env k.wants) ++ ended_sent env k.service.over e)
     rest-says part e =
@@ -156,7 +156,7 @@ module _ (env : NodeEnv) (m : Marks) (r : FrontRest) where
 
     pub work-ways : (old part : NodePart) (Was : List (List ℕ) → Type 0) (before : List (Place × List ℕ)) → First old before → ((ps : List (List ℕ)) → Was ps → Before ps) → DeedWays old Was (with_work env part before k)
     work-ways old part Was before first asks =
-        let given : Ending × Turn = settled env.serve k.service in
+        let given : Ending × Turn = serving_settled env.serve k.service in
         let is = settled-is env.serve k.service in
         turn-ways old part Was before given first is.notes (settled-served env.serve k.service) is.to asks
 
@@ -188,15 +188,15 @@ module _ (env : NodeEnv) (m : Marks) (r : FrontRest) where
         let all : Goes env m r (Awaits env m r x.1) (goes_on env k) = stay-goes env m r (Awaits env m r x.1) home w out vs wrote talk.most k works right g in
         work-ways (Awaits env m r x.1) (goes_on env k) all p part (Asked_by p) [] (none-first (Awaits env m r x.1) (goes_on env k) all p) (asks-it x is)
 
-    abbrev Rule : (Option (ControlBlock × Stay) → Deed) → Option (ControlBlock × Stay) → Type 0
+    abbrev Rule : (Option (ControlBlock × Stay) → NodeDeed) → Option (ControlBlock × Stay) → Type 0
     Rule rule o = here env.epoch p ≡ o → DeedWays p (Asked_by p) (rule o)
 
-    by-here : (rule : Option (ControlBlock × Stay) → Deed) → rule None ≡ Drops → ((x : ControlBlock × Stay) → IsHeld env w out vs was_reset pend x → p.stay ≡ Some x.1 → DeedWays p (Asked_by p) (rule (Some x))) → DeedWays p (Asked_by p) (rule (here env.epoch p))
+    by-here : (rule : Option (ControlBlock × Stay) → NodeDeed) → rule None ≡ Drops → ((x : ControlBlock × Stay) → IsHeld env w out vs was_reset pend x → p.stay ≡ Some x.1 → DeedWays p (Asked_by p) (rule (Some x))) → DeedWays p (Asked_by p) (rule (here env.epoch p))
     by-here rule none some = at-epoch env w out vs was_reset pend (Rule rule) (λ e. subst (DeedWays p (Asked_by p)) (sym none) tt)
         (λ x held e. some x held (here-stay (staying env.epoch p.row) p.stay x e)) p env.serve.c p.row agrees ways refl
 
     pub hears-ways : (s : Said) → IsWord w s → DeedWays p (Asked_by p) (node_forwarded env p (Ok s))
-    hears-ways s word = by-here (heard_by env p (Ok s)) refl
+    hears-ways s word = by-here (node_heard_by env p (Ok s)) refl
         (λ x held is. goes-on x is p (work_of (on_segment x.0 s).1 x.1)
         (subst (So env.serve w out vs (serving (on_segment x.0 s).1 x.1.served [])) held.0 (heard-so env.serve w out vs talk.says pend x.0 x.1.served held.1 talk.stream s word)) held.2
         (let g = begun x held is in record { noted_so = g.noted_so; told = g.told; gone = g.gone; under = g.under; walked = g.walked; lies = g.lies; asking = g.asking; asked = g.asked; kept = g.kept }))
@@ -207,7 +207,7 @@ module _ (env : NodeEnv) (m : Marks) (r : FrontRest) where
         let part : NodePart = record p { kept = without timer.Ask 0 p.kept } in
         let k : Work = work_of x.0 x.1 in
         let named : ℕ = length (named_paths files x.1.batch) in
-        cond_both (is_awaited env number nodes p x.1) (with_work env part [] (goes_on env (tagged env nodes k))) Drops (DeedWays p (Asked_by p))
+        cond_both (is_tag_awaited env number nodes p x.1) (with_work env part [] (goes_on env (tagged env nodes k))) Drops (DeedWays p (Asked_by p))
         (λ t.
         let tests = and_parts (x.1.asks == number) (length nodes == named) (and_parts (is_some (find (is_under timer.Ask 0) p.kept)) (x.1.asks == number && length nodes == named) t).1 in
         let same : x.1.asks ≡ number = eqb-true x.1.asks number tests.0 in
@@ -232,7 +232,7 @@ module _ (env : NodeEnv) (m : Marks) (r : FrontRest) where
         (λ t. tt))
 
     pub reads-ways : (i : ℕ) → DeedWays p (Asked_by p) (node_read env p i)
-    reads-ways i = by-here (read_by env i p) refl
+    reads-ways i = by-here (node_read_by env i p) refl
         (λ x held is.
         let k : Work = work_of x.0 x.1 in
         goes-on x is p (came_for read_progress i k) (came-so env w out vs read_progress i k (same-works env w out vs was_reset pend x talk.says held))
@@ -240,13 +240,13 @@ module _ (env : NodeEnv) (m : Marks) (r : FrontRest) where
         (came-goes env m r (Awaits env m r x.1) read_progress (read-keeps files env.n) i k (begun x held is)))
 
     pub fires-ways : DeedWays p (Asked_by p) (node_timer env p)
-    fires-ways = at-endpoint env w out vs was_reset pend (λ o. both_of (endpoint_of p.row) p.stay ≡ o → DeedWays p (Asked_by p) (fired_by env p o)) (λ e. inl refl)
+    fires-ways = at-endpoint env w out vs was_reset pend (λ o. both_of (back_endpoint p.row) p.stay ≡ o → DeedWays p (Asked_by p) (node_fired_by env p o)) (λ e. inl refl)
         (λ x held e.
-        let is : p.stay ≡ Some x.1 = here-stay (endpoint_of p.row) p.stay x e in
+        let is : p.stay ≡ Some x.1 = here-stay (back_endpoint p.row) p.stay x e in
         let k : Work = work_of (after_timer x.0) x.1 in
         let g = begun x held is in
         let h : Goes env m r (Awaits env m r x.1) k = record { noted_so = g.noted_so; told = g.told; gone = g.gone; under = g.under; walked = g.walked; lies = g.lies; asking = g.asking; asked = g.asked; kept = g.kept } in
-        let before = ready_of env.serve (after_timer x.0) (timed x.0) in
+        let before = serving_ready_of env.serve (after_timer x.0) (timed x.0) in
         turn-ways (Awaits env m r x.1) k h p p (Asked_by p) (again_sent p) (spoken env.serve (serving (after_timer x.0) x.1.served []) before)
         (record { again = again_sent p; first = []; is = sym (append-nil (again_sent p)); sent = inr refl; said = λ stay. tt }) refl (spoken-served env.serve k.service before)
         (spoken-to env.serve (serving (after_timer x.0) x.1.served []) before (ready-to env.serve (after_timer x.0) (timed x.0))) (asks-it x is))

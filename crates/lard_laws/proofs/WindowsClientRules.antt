@@ -4,15 +4,15 @@ use Rattle.std.proofs.lemmas.Bool.{cond_both}
 use Rattle.lard_base.specs.declared.event.Event.TheVariants as event
 use Rattle.lard_base.specs.declared.place.Place.{Place}
 use Rattle.lard_base.specs.declared.place.Place.TheVariants.{Client, Front, Node}
-use Rattle.lard_client.specs.Arriving.{arrived}
-use Rattle.lard_client.specs.Control.{ClientBlock, is_writing, held_on, opened, shut_down, taken, written}
-use Rattle.lard_client.specs.Leaving.{after_timer}
-use Rattle.lard_law_connections.specs.BytesAgreement.{ConnAgrees, IsFair, IsFairOn, IsInner, IsNode, IsTruthful, IsUnopened}
+use Rattle.lard_client.specs.Arriving.{client_arrived}
+use Rattle.lard_client.specs.Control.{ClientBlock, is_writing, held_on, client_opened, shut_down, client_taken, client_written}
+use Rattle.lard_client.specs.Leaving.{client_after_timer}
+use Rattle.lard_law_connections.specs.BytesAgreement.{ConnAgrees, IsFair, IsFairOn, IsInner, IsNodePlace, IsTruthful, IsConnUnopened}
 use Rattle.lard_law_connections.proofs.BytesClientMoves.{has-fair, was-between}
 use Rattle.lard_law_connections.proofs.PlacesFrontRules.{has-each}
 use Rattle.lard_law_connections.specs.SilencePlaces.{FrontHas}
 use Rattle.lard_law_view.specs.View.{ClientRules, Conn, GoesBetween, Move, Setting, Was, client_begins, client_does, event_seen, grown, letter, letters_of, packet_seen}
-use Rattle.lard_laws.specs.Windows.{BytesReach, ClientReaches, EndSent, FrontSent, IsReaching, LetterReaches, LetterReachesOn, ReachesOn, StationReaches, WasSent}
+use Rattle.lard_laws.specs.Windows.{BytesReach, ClientReaches, EndSent, FrontSent, IsReaching, LetterReaches, LetterReachesOn, ReachesOn, StationReaches, SymbolsWereSent}
 use Rattle.lard_laws.proofs.WindowsClients.{IsSame, aborted-same, arrived-reaches, arrived-taken, held-same, same-reaches, same-taken, shut-same, speaks-same, taken-same, then-speaks, timer-same, written-same}
 use Rattle.lard_laws.proofs.WindowsLetters.{words-reach}
 use Rattle.lard_laws.proofs.WindowsMoves.{client-moves}
@@ -57,7 +57,7 @@ module _ (k : Setting) (small : k.stream ≤ 2 ^ 30) where
       (reach : (u : ℕ) → Each (LetterReaches x.c s.client.send.iss s.iss u) x.letters → BytesReach x.c s.client.send.iss s.iss u bytes)
       (true_of : IsTrueOf help.talk.out sd) (seq_small : sd.seq < 2 ^ 32) where
     abbrev y : ClientBlock
-    y = (arrived s.client sd).1
+    y = (client_arrived s.client sd).1
 
     abbrev z : ClientBlock
     z = (client_speaks y).1
@@ -68,7 +68,7 @@ module _ (k : Setting) (small : k.stream ≤ 2 ^ 30) where
     begins_is : help.talk.out.first ≡ s.iss
     begins_is = (known.whole k small x s there help).begins
 
-    heard-takes : (u : ℕ) → WasSent x.c s.client s.iss x.letters u → taken_by z ≤ u
+    heard-takes : (u : ℕ) → SymbolsWereSent x.c s.client s.iss x.letters u → taken_by z ≤ u
     heard-takes u was =
         let t = same-taken y z (speaks-same y) in
         let le = arrived-taken s.client s.iss u sd (record {
@@ -134,7 +134,7 @@ module _ (k : Setting) (small : k.stream ≤ 2 ^ 30) where
   -- it opens: nothing was sent to it before
   inner-reach : (c isn iss u : ℕ) (ls : List Letter) → Each IsInner ls → Each (LetterReaches c isn iss u) ls
   inner-reach c isn iss u ls h = Each-weaker IsInner (LetterReaches c isn iss u) (λ l i. go l.from l.to l.bytes i.1) ls h where
-    go : (from to : Place) (bytes : List ℕ) → IsNode to → LetterReachesOn c isn iss u from to bytes
+    go : (from to : Place) (bytes : List ℕ) → IsNodePlace to → LetterReachesOn c isn iss u from to bytes
     go Front (Node n) bytes i = tt
     go (Node m) (Node n) bytes i = tt
     go (Client d) (Node n) bytes i = tt
@@ -143,24 +143,24 @@ module _ (k : Setting) (small : k.stream ≤ 2 ^ 30) where
 
   client-opens-so : (x : Conn) (isn iss wnd mss : ℕ) → x.part.station ≡ None → Keeps x (client_begins x isn iss wnd mss)
   client-opens-so x isn iss wnd mss none help h =
-      let u : IsUnopened x = subst (ConnAgrees k.files x help.truth.talk help.truth.pend) none help.truth.agrees in
+      let u : IsConnUnopened x = subst (ConnAgrees k.files x help.truth.talk help.truth.pend) none help.truth.agrees in
       let z : ClientBlock = (client_opens x.c isn wnd mss).0 in
-      let same : IsSame (opened x.c isn wnd mss) z = speaks-same (opened x.c isn wnd mss) in
+      let same : IsSame (client_opened x.c isn wnd mss) z = speaks-same (client_opened x.c isn wnd mss) in
       let new : List Letter = letters_of (client_begins x isn iss wnd mss) in
       let all : (m : ℕ) → Each (LetterReaches x.c z.send.iss iss m) (x.letters ++ new) = λ m.
       Each-append (LetterReaches x.c z.send.iss iss m) x.letters new (inner-reach x.c z.send.iss iss m x.letters u.inner)
       (Each-append (LetterReaches x.c z.send.iss iss m) (map (letter (Client x.c)) (client_opens x.c isn wnd mss).1.segments) [] (words-reach x.c z.send.iss iss m x.c (client_opens x.c isn wnd mss).1.segments) tt) in
       record {
-        client = same-reaches (opened x.c isn wnd mss) z same (record { wide = λ some. absurd (omega (arith, some)); fresh = λ e. (refl, refl) });
+        client = same-reaches (client_opened x.c isn wnd mss) z same (record { wide = λ some. absurd (omega (arith, some)); fresh = λ e. (refl, refl) });
         most = 0;
         letters = all 0;
-        begins = subst (FrontSent x.c z iss (x.letters ++ new)) (sym u.front) (record { taken = let t = same-taken (opened x.c isn wnd mss) z same in omega (arith, t); all = all 0 });
+        begins = subst (FrontSent x.c z iss (x.letters ++ new)) (sym u.front) (record { taken = let t = same-taken (client_opened x.c isn wnd mss) z same in omega (arith, t); all = all 0 });
         front = subst (FrontHas (EndSent x.c z iss (x.letters ++ new))) (sym u.front) tt;
         nodes = λ n. no-stay (EndSent x.c z iss (x.letters ++ new)) (x.part.nodes n) (u.stays n);
       }
 
   writes-same : (x : ClientBlock) (bytes : List ℕ) → IsSame x (client_writes x bytes).0
-  writes-same x bytes = cond_both (is_writing x) (speaking (rec.Wrote x.c bytes ∷ []) [] (written x bytes)) (x, silent) (λ (g : ClientBlock × Turn). IsSame x g.0) (λ t. then-speaks x (written x bytes) (written-same x bytes)) (λ t. (refl, refl, refl, refl, refl))
+  writes-same x bytes = cond_both (is_writing x) (speaking (rec.Wrote x.c bytes ∷ []) [] (client_written x bytes)) (x, silent) (λ (g : ClientBlock × Turn). IsSame x g.0) (λ t. then-speaks x (client_written x bytes) (written-same x bytes)) (λ t. (refl, refl, refl, refl, refl))
 
   pub client-rules : ClientRules k Keeps
   client-rules = record {
@@ -170,7 +170,7 @@ module _ (k : Setting) (small : k.stream ≤ 2 ^ 30) where
     shuts = λ x s there. simple-client x s (event_seen (event.Shut x.c)) (client_shuts s.client) there (then-speaks s.client (shut_down s.client) (shut-same s.client));
     aborts = λ x s there. simple-client x s (event_seen (event.Abort x.c)) (client_aborts s.client) there (aborted-same s.client);
     holds = λ x s there. simple-client x s (event_seen (event.Hold x.c)) (client_holds s.client) there (then-speaks s.client (held_on s.client) (held-same s.client));
-    takes = λ x s there. simple-client x s (event_seen (event.Take x.c)) (client_takes s.client) there (then-speaks s.client (taken s.client) (taken-same s.client));
-    fires = λ x s there. simple-client x s (event_seen (event.Timer (Client x.c) x.c)) (client_timer s.client) there (then-speaks s.client (after_timer s.client) (timer-same s.client));
+    takes = λ x s there. simple-client x s (event_seen (event.Take x.c)) (client_takes s.client) there (then-speaks s.client (client_taken s.client) (taken-same s.client));
+    fires = λ x s there. simple-client x s (event_seen (event.Timer (Client x.c) x.c)) (client_timer s.client) there (then-speaks s.client (client_after_timer s.client) (timer-same s.client));
     hears = λ x s from bytes there was. client-hears x s from bytes there was;
   }

@@ -5,10 +5,10 @@ use Rattle.lard_arrival.specs.Arrival.{bare, is_acceptable, is_allowed, peer_mss
 use Rattle.lard_client.specs.declared.heard.Heard.{Heard}
 use Rattle.lard_client.specs.declared.phase.Phase.{Phase}
 use Rattle.lard_client.specs.declared.phase.Phase.TheVariants.{Open, Aborted, Reset}
-use Rattle.lard_client.specs.Arriving.{accepting, answers_syn, arrived, begins_after, ends, established, fresh_len, heard_in, nothing, on_ack, on_fresh, on_greeting, on_rst, on_segment, on_syn, on_text, on_unacceptable, owing, part_of, reset_by_peer}
-use Rattle.lard_client.specs.Control.{ClientBlock, aborted, held_on, is_established, is_open, is_writing, rcv_nxt, rcv_wnd, shut_down, taken, written}
+use Rattle.lard_client.specs.Arriving.{accepting, answers_syn, client_arrived, client_begins_after, client_ends, established, fresh_len, heard_in, heard_nothing, client_on_ack, on_fresh, on_greeting, client_on_rst, client_on_segment, client_on_syn, client_on_text, client_on_unacceptable, client_owing, client_part_of, reset_by_peer}
+use Rattle.lard_client.specs.Control.{ClientBlock, aborted, held_on, is_established, is_client_open, is_writing, client_rcv_nxt, client_rcv_wnd, shut_down, client_taken, client_written}
 use Rattle.lard_client.specs.Laws.{IsInOrder}
-use Rattle.lard_client.specs.Leaving.{after_emit, after_owed, after_piece, after_timer, owes, told}
+use Rattle.lard_client.specs.Leaving.{client_after_emit, client_after_owed, client_after_piece, client_after_timer, client_owes, client_told}
 use Rattle.lard_client.proofs.Accepted.{arrived-order}
 use Rattle.lard_client.proofs.Outcomes.{Quiet, Took, greeting-quiet, segment-outcome}
 use Rattle.lard_laws.specs.Windows.{ClientReaches}
@@ -17,7 +17,7 @@ use Rattle.lard_rules.specs.Speaking.{client_speaks}
 use Rattle.lard_rules.proofs.Loops.{client_keeps}
 use Rattle.lard_segment.specs.Segment.{Said}
 use Rattle.lard_send.specs.declared.piece.Piece.{Piece}
-use Rattle.lard_send.specs.Send.{Sending, after_ack, after_next, after_resend, closed, introduced, is_newer, moved_up, next_piece, queued_too, resent_piece, windowed}
+use Rattle.lard_send.specs.Send.{Sending, after_ack, after_next, after_resend, send_closed, introduced, is_newer, moved_up, next_piece, queued_too, resent_piece, windowed}
 use Rattle.lard_seq.specs.Seq.{one_if, seq_add, seq_offset}
 use Rattle.lard_seq.proofs.Laws.{offset-add}
 use Rattle.lard_law_view.proofs.Speaking.{next-moves, resend-moves}
@@ -57,55 +57,55 @@ module _ (x : ClientBlock) where
   Hears r = Up x.send r.1.send
 
   fresh-up : (y : ClientBlock) (s : Said) → Up x.send y.send → Hears (on_fresh y s)
-  fresh-up y s h = cond_both {A = Heard × ClientBlock} (begins_after y s || y.eof) (nothing, y) (part_of y s, accepting y (fresh_len y s) (ends y s)) Hears (λ t. h)
-      (λ t. cond_both (ends y s) (closed y.send) y.send (Up x.send) (λ u. h) (λ u. h))
+  fresh-up y s h = cond_both {A = Heard × ClientBlock} (client_begins_after y s || y.eof) (heard_nothing, y) (client_part_of y s, accepting y (fresh_len y s) (client_ends y s)) Hears (λ t. h)
+      (λ t. cond_both (client_ends y s) (send_closed y.send) y.send (Up x.send) (λ u. h) (λ u. h))
 
-  text-up : (y : ClientBlock) (s : Said) → Up x.send y.send → Hears (on_text y s)
-  text-up y s h = cond_both {A = Heard × ClientBlock} ((length s.payload == 0) && not s.flags.fin) (nothing, y) (on_fresh (owing y) s) Hears (λ t. h) (λ t. fresh-up (owing y) s h)
+  text-up : (y : ClientBlock) (s : Said) → Up x.send y.send → Hears (client_on_text y s)
+  text-up y s h = cond_both {A = Heard × ClientBlock} ((length s.payload == 0) && not s.flags.fin) (heard_nothing, y) (on_fresh (client_owing y) s) Hears (λ t. h) (λ t. fresh-up (client_owing y) s h)
 
-acked-up : (x : ClientBlock) (s : Said) → 16384 ≤ seq_offset s.ack x.send.iss + s.wnd → IsWide x.send → Hears x (on_ack x s)
+acked-up : (x : ClientBlock) (s : Said) → 16384 ≤ seq_offset s.ack x.send.iss + s.wnd → IsWide x.send → Hears x (client_on_ack x s)
 acked-up x s wide h =
     let y : ClientBlock = record x { send = after_ack x.send s.ack s.seq s.wnd } in
     let beyond : Bool = nat_lt x.send.nxt (seq_offset s.ack x.send.iss) in
     let still : Up x.send x.send = (h, omega arith) in
-    cond_both {A = Heard × ClientBlock} (not s.flags.ack) (nothing, x) (cond beyond (nothing, owing x) (on_text y s)) (Hears x) (λ t. still)
-    (λ t. cond_both {A = Heard × ClientBlock} beyond (nothing, owing x) (on_text y s) (Hears x) (λ u. still) (λ u. text-up x y s (ack-up x.send s.ack s.seq s.wnd wide h)))
+    cond_both {A = Heard × ClientBlock} (not s.flags.ack) (heard_nothing, x) (cond beyond (heard_nothing, client_owing x) (client_on_text y s)) (Hears x) (λ t. still)
+    (λ t. cond_both {A = Heard × ClientBlock} beyond (heard_nothing, client_owing x) (client_on_text y s) (Hears x) (λ u. still) (λ u. text-up x y s (ack-up x.send s.ack s.seq s.wnd wide h)))
 
 module _ (x : ClientBlock) (s : Said) (wide : s.flags.rst ≡ false → 16384 ≤ seq_offset s.ack x.send.iss + s.wnd) (h : IsWide x.send) where
   still : Up x.send x.send
   still = (h, omega arith)
 
   -- an allowed segment is no reset
-  allowed-plain : is_allowed (rcv_nxt x) (rcv_wnd x) s ≡ true → s.flags.rst ≡ false
+  allowed-plain : is_allowed (client_rcv_nxt x) (client_rcv_wnd x) s ≡ true → s.flags.rst ≡ false
   allowed-plain t = not-true s.flags.rst (and_parts _ _ (and_parts _ _ t).1).0
 
-  segment-up : Hears x (on_segment x s)
+  segment-up : Hears x (client_on_segment x s)
   segment-up =
-      let owed : Heard × ClientBlock = (nothing, owing x) in
-      let next : Bool = s.seq == rcv_nxt x in
-      cond_both (is_acceptable (rcv_nxt x) (rcv_wnd x) s) (on_rst x s) (on_unacceptable x s) (Hears x)
-      (λ t. cond_both (not s.flags.rst) (on_syn x s) (cond next (nothing, reset_by_peer x) owed) (Hears x)
-      (λ u. cond_both s.flags.syn owed (on_ack x s) (Hears x) (λ v. still) (λ v. acked-up x s (wide (not-true s.flags.rst u)) h))
-      (λ u. cond_both {A = Heard × ClientBlock} next (nothing, reset_by_peer x) owed (Hears x) (λ v. still) (λ v. still)))
-      (λ t. cond_both (is_allowed (rcv_nxt x) (rcv_wnd x) s) (on_ack (owing x) (bare s)) (cond s.flags.rst (nothing, x) owed) (Hears x)
-      (λ u. acked-up (owing x) (bare s) (wide (allowed-plain u)) h)
-      (λ u. cond_both {A = Heard × ClientBlock} s.flags.rst (nothing, x) owed (Hears x) (λ v. still) (λ v. still)))
+      let owed : Heard × ClientBlock = (heard_nothing, client_owing x) in
+      let next : Bool = s.seq == client_rcv_nxt x in
+      cond_both (is_acceptable (client_rcv_nxt x) (client_rcv_wnd x) s) (client_on_rst x s) (client_on_unacceptable x s) (Hears x)
+      (λ t. cond_both (not s.flags.rst) (client_on_syn x s) (cond next (heard_nothing, reset_by_peer x) owed) (Hears x)
+      (λ u. cond_both s.flags.syn owed (client_on_ack x s) (Hears x) (λ v. still) (λ v. acked-up x s (wide (not-true s.flags.rst u)) h))
+      (λ u. cond_both {A = Heard × ClientBlock} next (heard_nothing, reset_by_peer x) owed (Hears x) (λ v. still) (λ v. still)))
+      (λ t. cond_both (is_allowed (client_rcv_nxt x) (client_rcv_wnd x) s) (client_on_ack (client_owing x) (bare s)) (cond s.flags.rst (heard_nothing, x) owed) (Hears x)
+      (λ u. acked-up (client_owing x) (bare s) (wide (allowed-plain u)) h)
+      (λ u. cond_both {A = Heard × ClientBlock} s.flags.rst (heard_nothing, x) owed (Hears x) (λ v. still) (λ v. still)))
 
   greeting-up : Hears x (on_greeting x s)
   greeting-up =
-      let synced : Heard × ClientBlock = cond s.flags.syn (nothing, established x s) (nothing, x) in
-      cond_both {A = Heard × ClientBlock} (not (answers_syn x s)) (nothing, x) (cond s.flags.rst (nothing, reset_by_peer x) synced) (Hears x) (λ t. still)
-      (λ t. cond_both {A = Heard × ClientBlock} s.flags.rst (nothing, reset_by_peer x) synced (Hears x) (λ u. still)
-      (λ u. cond_both {A = Heard × ClientBlock} s.flags.syn (nothing, established x s) (nothing, x) (Hears x)
+      let synced : Heard × ClientBlock = cond s.flags.syn (heard_nothing, established x s) (heard_nothing, x) in
+      cond_both {A = Heard × ClientBlock} (not (answers_syn x s)) (heard_nothing, x) (cond s.flags.rst (heard_nothing, reset_by_peer x) synced) (Hears x) (λ t. still)
+      (λ t. cond_both {A = Heard × ClientBlock} s.flags.rst (heard_nothing, reset_by_peer x) synced (Hears x) (λ u. still)
+      (λ u. cond_both {A = Heard × ClientBlock} s.flags.syn (heard_nothing, established x s) (heard_nothing, x) (Hears x)
       (λ v. ack-up (introduced x.send s.seq (peer_mss s.mss)) s.ack s.seq s.wnd (wide u) h) (λ v. still)))
 
   phase-up : (p : Phase) → Hears x (heard_in p x s)
-  phase-up Open = cond_both (x.send.una == 0) (on_greeting x s) (on_segment x s) (Hears x) (λ t. greeting-up) (λ t. segment-up)
+  phase-up Open = cond_both (x.send.una == 0) (on_greeting x s) (client_on_segment x s) (Hears x) (λ t. greeting-up) (λ t. segment-up)
   phase-up Aborted = still
   phase-up Reset = still
 
-  pub arrived-up : Up x.send (arrived x s).1.send
-  unfolding arrived
+  pub arrived-up : Up x.send (client_arrived x s).1.send
+  unfolding client_arrived
   arrived-up = phase-up x.phase
 
 -- ---- what was taken
@@ -118,16 +118,16 @@ module _ (x : ClientBlock) (s : Said) where
   abbrev Plain : Heard × ClientBlock → Type 0
   Plain r = ((r.1.accepted ≡ x.accepted) × (r.1.eof ≡ x.eof)) ⊎ (s.flags.rst ≡ false)
 
-  segment-plain : Plain (on_segment x s)
+  segment-plain : Plain (client_on_segment x s)
   segment-plain =
-      let owed : Heard × ClientBlock = (nothing, owing x) in
-      let next : Bool = s.seq == rcv_nxt x in
-      cond_both (is_acceptable (rcv_nxt x) (rcv_wnd x) s) (on_rst x s) (on_unacceptable x s) Plain
-      (λ t. cond_both (not s.flags.rst) (on_syn x s) (cond next (nothing, reset_by_peer x) owed) Plain (λ u. inr (not-true s.flags.rst u))
-      (λ u. cond_both {A = Heard × ClientBlock} next (nothing, reset_by_peer x) owed Plain (λ v. inl (refl, refl)) (λ v. inl (refl, refl))))
-      (λ t. cond_both (is_allowed (rcv_nxt x) (rcv_wnd x) s) (on_ack (owing x) (bare s)) (cond s.flags.rst (nothing, x) owed) Plain
+      let owed : Heard × ClientBlock = (heard_nothing, client_owing x) in
+      let next : Bool = s.seq == client_rcv_nxt x in
+      cond_both (is_acceptable (client_rcv_nxt x) (client_rcv_wnd x) s) (client_on_rst x s) (client_on_unacceptable x s) Plain
+      (λ t. cond_both (not s.flags.rst) (client_on_syn x s) (cond next (heard_nothing, reset_by_peer x) owed) Plain (λ u. inr (not-true s.flags.rst u))
+      (λ u. cond_both {A = Heard × ClientBlock} next (heard_nothing, reset_by_peer x) owed Plain (λ v. inl (refl, refl)) (λ v. inl (refl, refl))))
+      (λ t. cond_both (is_allowed (client_rcv_nxt x) (client_rcv_wnd x) s) (client_on_ack (client_owing x) (bare s)) (cond s.flags.rst (heard_nothing, x) owed) Plain
       (λ u. inr (not-true s.flags.rst (and_parts _ _ (and_parts _ _ u).1).0))
-      (λ u. cond_both {A = Heard × ClientBlock} s.flags.rst (nothing, x) owed Plain (λ v. inl (refl, refl)) (λ v. inl (refl, refl))))
+      (λ u. cond_both {A = Heard × ClientBlock} s.flags.rst (heard_nothing, x) owed Plain (λ v. inl (refl, refl)) (λ v. inl (refl, refl))))
 
 -- two numbers that are the same from a first one on
 same-count : (iss a b : ℕ) → iss < 2 ^ 32 → a < 2 ^ 32 → b < 2 ^ 32 → seq_add iss a ≡ seq_add iss b → a ≡ b
@@ -158,56 +158,56 @@ module _ (x : ClientBlock) (iss most : ℕ) (s : Said) (h : IsHearing x iss most
     go false false = omega arith
 
   -- what it takes of a segment was sent
-  took-all : is_established x ≡ true → All x → s.flags.rst ≡ false → IsInOrder x s (on_segment x s).0 (on_segment x s).1 → Took x s (on_segment x s) → All (on_segment x s).1
-  took-all est was plain order took = go (nat_lt 0 (fresh_len x s + one_if (ends x s))) refl where
+  took-all : is_established x ≡ true → All x → s.flags.rst ≡ false → IsInOrder x s (client_on_segment x s).0 (client_on_segment x s).1 → Took x s (client_on_segment x s) → All (client_on_segment x s).1
+  took-all est was plain order took = go (nat_lt 0 (fresh_len x s + one_if (client_ends x s))) refl where
     y : ClientBlock
-    y = (on_segment x s).1
+    y = (client_on_segment x s).1
 
     counted : y.accepted ≡ x.accepted + fresh_len x s
     counted = took.2
 
-    ended : one_if y.eof ≡ one_if (ends x s)
+    ended : one_if y.eof ≡ one_if (client_ends x s)
     ended = ap one_if took.3
 
-    len : (on_segment x s).0.len ≡ fresh_len x s
+    len : (client_on_segment x s).0.len ≡ fresh_len x s
     len = ap (λ (r : Heard). r.len) took.1
 
-    eof : (on_segment x s).0.eof ≡ ends x s
+    eof : (client_on_segment x s).0.eof ≡ client_ends x s
     eof = ap (λ (r : Heard). r.eof) took.1
 
     open_ : one_if x.eof ≡ 0
     open_ = ap one_if took.0
 
-    last : (b : Bool) → ends x s ≡ b → one_if b ≤ one_if s.flags.fin
+    last : (b : Bool) → client_ends x s ≡ b → one_if b ≤ one_if s.flags.fin
     last true e = let f : s.flags.fin ≡ true = order.ended (eof ∙ e) in let one : one_if s.flags.fin ≡ 1 = ap one_if f in omega (arith, one)
     last false e = omega arith
 
-    go : (t : Bool) → nat_lt 0 (fresh_len x s + one_if (ends x s)) ≡ t → All y
+    go : (t : Bool) → nat_lt 0 (fresh_len x s + one_if (client_ends x s)) ≡ t → All y
     go false e =
-        let none = ltb-false 0 (fresh_len x s + one_if (ends x s)) e in
+        let none = ltb-false 0 (fresh_len x s + one_if (client_ends x s)) e in
         omega (arith, none, counted, ended, open_, was)
     go true e =
-        let some = ltb-true 0 (fresh_len x s + one_if (ends x s)) e in
-        let one : one_if (on_segment x s).0.eof ≡ one_if (ends x s) = ap one_if eof in
-        let from = (on_segment x s).0.from in
-        let within : from + (on_segment x s).0.len ≤ length s.payload = order.within in
-        let fin = last (ends x s) refl in
+        let some = ltb-true 0 (fresh_len x s + one_if (client_ends x s)) e in
+        let one : one_if (client_on_segment x s).0.eof ≡ one_if (client_ends x s) = ap one_if eof in
+        let from = (client_on_segment x s).0.from in
+        let within : from + (client_on_segment x s).0.len ≤ length s.payload = order.within in
+        let fin = last (client_ends x s) refl in
         let all = fin-len in
         let end : seq_offset s.seq iss + seg_len s ≤ most = h.ends plain (omega (arith, some, len, within, fin, all)) in
-        let place : seq_add s.seq from ≡ rcv_nxt x = order.place (omega (arith, some, len, one)) in
-        let next : rcv_nxt x ≡ seq_add iss (1 + x.accepted + one_if x.eof) = ap (λ i. seq_add i (1 + x.accepted + one_if x.eof)) (h.irs_is est) in
+        let place : seq_add s.seq from ≡ client_rcv_nxt x = order.place (omega (arith, some, len, one)) in
+        let next : client_rcv_nxt x ≡ seq_add iss (1 + x.accepted + one_if x.eof) = ap (λ i. seq_add i (1 + x.accepted + one_if x.eof)) (h.irs_is est) in
         let bounded = h.bounded in
         let small = h.place_small (omega (arith, some, len, within, fin)) in
         let at : seq_offset s.seq iss + from ≡ 1 + x.accepted + one_if x.eof =
         same-count iss (seq_offset s.seq iss + from) (1 + x.accepted + one_if x.eof) h.iss_small (omega (arith, within, small)) (omega (arith, bounded, open_)) (sym (seq-back s.seq iss from h.seq_small h.iss_small) ∙ place ∙ next) in
         omega (arith, at, open_, counted, ended, within, len, fin, all, end)
 
-  segment-all : is_established x ≡ true → All x → IsInOrder x s (on_segment x s).0 (on_segment x s).1 → All (on_segment x s).1
+  segment-all : is_established x ≡ true → All x → IsInOrder x s (client_on_segment x s).0 (client_on_segment x s).1 → All (client_on_segment x s).1
   segment-all est was order = ⊎_elim
-      (λ (same : ((on_segment x s).1.accepted ≡ x.accepted) × ((on_segment x s).1.eof ≡ x.eof)). let e = ap one_if same.1 in omega (arith, same.0, e, was))
+      (λ (same : ((client_on_segment x s).1.accepted ≡ x.accepted) × ((client_on_segment x s).1.eof ≡ x.eof)). let e = ap one_if same.1 in omega (arith, same.0, e, was))
       (λ (plain : s.flags.rst ≡ false). ⊎_elim
-      (λ (q : Quiet x (on_segment x s)). let e = ap one_if q.2 in omega (arith, q.1, e, was))
-      (λ (t : Took x s (on_segment x s)). took-all est was plain order t)
+      (λ (q : Quiet x (client_on_segment x s)). let e = ap one_if q.2 in omega (arith, q.1, e, was))
+      (λ (t : Took x s (client_on_segment x s)). took-all est was plain order t)
       (segment-outcome x s))
       (segment-plain x s)
 
@@ -216,10 +216,10 @@ module _ (x : ClientBlock) (iss most : ℕ) (s : Said) (h : IsHearing x iss most
   greeting-taken : taken_by x ≤ most → (x.accepted ≡ 0) × (x.eof ≡ false) → taken_by (on_greeting x s).1 ≤ most
   greeting-taken was none =
       let P : Heard × ClientBlock → Type 0 = λ r. taken_by r.1 ≤ most in
-      let synced : Heard × ClientBlock = cond s.flags.syn (nothing, established x s) (nothing, x) in
-      cond_both {A = Heard × ClientBlock} (not (answers_syn x s)) (nothing, x) (cond s.flags.rst (nothing, reset_by_peer x) synced) P (λ t. was)
-      (λ t. cond_both {A = Heard × ClientBlock} s.flags.rst (nothing, reset_by_peer x) synced P (λ u. was)
-      (λ u. cond_both {A = Heard × ClientBlock} s.flags.syn (nothing, established x s) (nothing, x) P
+      let synced : Heard × ClientBlock = cond s.flags.syn (heard_nothing, established x s) (heard_nothing, x) in
+      cond_both {A = Heard × ClientBlock} (not (answers_syn x s)) (heard_nothing, x) (cond s.flags.rst (heard_nothing, reset_by_peer x) synced) P (λ t. was)
+      (λ t. cond_both {A = Heard × ClientBlock} s.flags.rst (heard_nothing, reset_by_peer x) synced P (λ u. was)
+      (λ u. cond_both {A = Heard × ClientBlock} s.flags.syn (heard_nothing, established x s) (heard_nothing, x) P
       (λ v.
       let one : ◌≡◌ {A = ℕ} (cond s.flags.syn 1 0) 1 = cond-true {A = ℕ} s.flags.syn 1 0 v in
       let end : seq_offset s.seq iss + seg_len s ≤ most = h.ends u (omega (arith, one)) in
@@ -230,18 +230,18 @@ module _ (x : ClientBlock) (iss most : ℕ) (s : Said) (h : IsHearing x iss most
 
   taken-in : (p : Phase) → taken_by x ≤ most → (x.send.una ≡ 0 → (x.accepted ≡ 0) × (x.eof ≡ false)) → IsInOrder x s (heard_in p x s).0 (heard_in p x s).1 → taken_by (heard_in p x s).1 ≤ most
   taken-in Open was fresh order = go (x.send.una == 0) refl order where
-    go : (t : Bool) → (x.send.una == 0) ≡ t → IsInOrder x s (cond t (on_greeting x s) (on_segment x s)).0 (cond t (on_greeting x s) (on_segment x s)).1 → taken_by (cond t (on_greeting x s) (on_segment x s)).1 ≤ most
+    go : (t : Bool) → (x.send.una == 0) ≡ t → IsInOrder x s (cond t (on_greeting x s) (client_on_segment x s)).0 (cond t (on_greeting x s) (client_on_segment x s)).1 → taken_by (cond t (on_greeting x s) (client_on_segment x s)).1 ≤ most
     go true e order = greeting-taken was (fresh (eqb-true x.send.una 0 e))
     go false e order =
         let est : is_established x ≡ true = ap not e in
         let all : taken_by x ≡ 1 + x.accepted + one_if x.eof = cond-true (is_established x) (1 + x.accepted + one_if x.eof) 0 est in
-        let k : All (on_segment x s).1 = segment-all est (omega (arith, all, was)) order in
-        omega (arith, k, taken-most (on_segment x s).1)
+        let k : All (client_on_segment x s).1 = segment-all est (omega (arith, all, was)) order in
+        omega (arith, k, taken-most (client_on_segment x s).1)
   taken-in Aborted was fresh order = was
   taken-in Reset was fresh order = was
 
-  pub arrived-taken : taken_by x ≤ most → (x.send.una ≡ 0 → (x.accepted ≡ 0) × (x.eof ≡ false)) → taken_by (arrived x s).1 ≤ most
-  unfolding arrived
+  pub arrived-taken : taken_by x ≤ most → (x.send.una ≡ 0 → (x.accepted ≡ 0) × (x.eof ≡ false)) → taken_by (client_arrived x s).1 ≤ most
+  unfolding client_arrived
   arrived-taken was fresh = taken-in x.phase was fresh (arrived-order x s h.seq_small)
 
 -- ---- one that is not established took nothing
@@ -251,14 +251,14 @@ fresh-in Open x s none was = go (x.send.una == 0) refl where
   Q : Heard × ClientBlock → Type 0
   Q r = (r.1.accepted ≡ 0) × (r.1.eof ≡ false)
 
-  go : (t : Bool) → (x.send.una == 0) ≡ t → ((cond t (on_greeting x s) (on_segment x s)).1.accepted ≡ 0) × ((cond t (on_greeting x s) (on_segment x s)).1.eof ≡ false)
+  go : (t : Bool) → (x.send.una == 0) ≡ t → ((cond t (on_greeting x s) (client_on_segment x s)).1.accepted ≡ 0) × ((cond t (on_greeting x s) (client_on_segment x s)).1.eof ≡ false)
   go true e = greeting-quiet x s (λ (r : Heard × ClientBlock). (r.1.accepted ≡ 0) × (r.1.eof ≡ false)) (λ y a f w. (a ∙ was.0, f ∙ was.1))
   go false e = absurd (eqb-false x.send.una 0 e none)
 fresh-in Aborted x s none was = was
 fresh-in Reset x s none was = was
 
-pub arrived-reaches : (x : ClientBlock) (s : Said) → (s.flags.rst ≡ false → 16384 ≤ seq_offset s.ack x.send.iss + s.wnd) → ClientReaches x → ClientReaches (arrived x s).1
-unfolding arrived
+pub arrived-reaches : (x : ClientBlock) (s : Said) → (s.flags.rst ≡ false → 16384 ≤ seq_offset s.ack x.send.iss + s.wnd) → ClientReaches x → ClientReaches (client_arrived x s).1
+unfolding client_arrived
 arrived-reaches x s wide h =
     let up = arrived-up x s wide h.wide in
     record { wide = up.0; fresh = λ none. let was : x.send.una ≡ 0 = omega (arith, up.1, none) in fresh-in x.phase x s was (h.fresh was) }
@@ -274,44 +274,44 @@ same-self x = (refl, refl, refl, refl, refl)
 same-then : (x y z : ClientBlock) → IsSame x y → IsSame y z → IsSame x z
 same-then x y z h k = (k.0 ∙ h.0, k.1 ∙ h.1, k.2 ∙ h.2, k.3 ∙ h.3, k.4 ∙ h.4)
 
-piece-same : (x y z : ClientBlock) (p : Option Piece) → IsSame x y → IsSame x z → IsSame x (after_piece y p z)
+piece-same : (x y z : ClientBlock) (p : Option Piece) → IsSame x y → IsSame x z → IsSame x (client_after_piece y p z)
 piece-same x y z (Some p) h k = h
 piece-same x y z None h k = k
 
-emit-same : (x : ClientBlock) → IsSame x (after_emit x)
+emit-same : (x : ClientBlock) → IsSame x (client_after_emit x)
 emit-same x =
     let m = next-moves x.send in
     let sent : IsSame x (record x { send = after_next x.send }) = (ap (λ (s : Sending). s.iss) m, ap (λ (s : Sending). s.una) m, ap (λ (s : Sending). s.wnd) m, refl, refl) in
-    cond_both (not (is_open x)) x (after_piece (record x { send = after_next x.send }) (next_piece x.send) (after_owed x)) (IsSame x) (λ t. same-self x)
-    (λ t. piece-same x (record x { send = after_next x.send }) (after_owed x) (next_piece x.send) sent (cond_both (owes x) (told x) x (IsSame x) (λ u. same-self x) (λ u. same-self x)))
+    cond_both (not (is_client_open x)) x (client_after_piece (record x { send = after_next x.send }) (next_piece x.send) (client_after_owed x)) (IsSame x) (λ t. same-self x)
+    (λ t. piece-same x (record x { send = after_next x.send }) (client_after_owed x) (next_piece x.send) sent (cond_both (client_owes x) (client_told x) x (IsSame x) (λ u. same-self x) (λ u. same-self x)))
 
-pub timer-same : (x : ClientBlock) → IsSame x (after_timer x)
+pub timer-same : (x : ClientBlock) → IsSame x (client_after_timer x)
 timer-same x =
     let m = resend-moves x.send in
     let sent : IsSame x (record x { send = after_resend x.send }) = (ap (λ (s : Sending). s.iss) m, ap (λ (s : Sending). s.una) m, ap (λ (s : Sending). s.wnd) m, refl, refl) in
-    cond_both (not (is_open x)) x (after_piece (record x { send = after_resend x.send }) (resent_piece x.send) x) (IsSame x) (λ t. same-self x) (λ t. piece-same x (record x { send = after_resend x.send }) x (resent_piece x.send) sent (same-self x))
+    cond_both (not (is_client_open x)) x (client_after_piece (record x { send = after_resend x.send }) (resent_piece x.send) x) (IsSame x) (λ t. same-self x) (λ t. piece-same x (record x { send = after_resend x.send }) x (resent_piece x.send) sent (same-self x))
 
 pub speaks-same : (x : ClientBlock) → IsSame x (client_speaks x).1
-speaks-same x = client_keeps (λ (x : ClientBlock) ss y. IsSame x y) (record { rests = same-self; says = λ x r ss y e later. same-then x (after_emit x) y (emit-same x) later }) x
+speaks-same x = client_keeps (λ (x : ClientBlock) ss y. IsSame x y) (record { rests = same-self; says = λ x r ss y e later. same-then x (client_after_emit x) y (emit-same x) later }) x
 
 -- it speaks behind that
 pub then-speaks : (x y : ClientBlock) → IsSame x y → IsSame x (client_speaks y).1
 then-speaks x y h = same-then x y (client_speaks y).1 h (speaks-same y)
 
-pub written-same : (x : ClientBlock) (bytes : List ℕ) → IsSame x (written x bytes)
+pub written-same : (x : ClientBlock) (bytes : List ℕ) → IsSame x (client_written x bytes)
 written-same x bytes = cond_both (is_writing x) (record x { send = queued_too x.send bytes }) x (IsSame x) (λ t. same-self x) (λ t. same-self x)
 
 pub shut-same : (x : ClientBlock) → IsSame x (shut_down x)
-shut-same x = cond_both (is_open x) (record x { send = closed x.send }) x (IsSame x) (λ t. same-self x) (λ t. same-self x)
+shut-same x = cond_both (is_client_open x) (record x { send = send_closed x.send }) x (IsSame x) (λ t. same-self x) (λ t. same-self x)
 
 pub aborted-same : (x : ClientBlock) → IsSame x (aborted x)
-aborted-same x = cond_both (is_open x) (record x { phase = Aborted }) x (IsSame x) (λ t. same-self x) (λ t. same-self x)
+aborted-same x = cond_both (is_client_open x) (record x { phase = Aborted }) x (IsSame x) (λ t. same-self x) (λ t. same-self x)
 
 pub held-same : (x : ClientBlock) → IsSame x (held_on x)
-held-same x = cond_both (is_open x) (record x { holding = true }) x (IsSame x) (λ t. same-self x) (λ t. same-self x)
+held-same x = cond_both (is_client_open x) (record x { holding = true }) x (IsSame x) (λ t. same-self x) (λ t. same-self x)
 
-pub taken-same : (x : ClientBlock) → IsSame x (taken x)
-taken-same x = cond_both (is_open x) (record x { holding = false; held = 0; owed = x.owed || is_established x }) x (IsSame x) (λ t. same-self x) (λ t. same-self x)
+pub taken-same : (x : ClientBlock) → IsSame x (client_taken x)
+taken-same x = cond_both (is_client_open x) (record x { holding = false; held = 0; owed = x.owed || is_established x }) x (IsSame x) (λ t. same-self x) (λ t. same-self x)
 
 pub same-taken : (x y : ClientBlock) → IsSame x y → taken_by y ≡ taken_by x
 same-taken x y h = λ i. cond (not (h.1 i == 0)) (1 + h.3 i + one_if (h.4 i)) 0

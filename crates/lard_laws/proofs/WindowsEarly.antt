@@ -16,22 +16,22 @@ use Rattle.lard_endpoint.specs.Control.{ControlBlock, listening, rcv_nxt, rcv_wn
 use Rattle.lard_endpoint.specs.Leaving.{advanced, after_emit, after_owed, after_piece, after_timer, filled, owes, retried, timed, told}
 use Rattle.lard_endpoint.specs.Moving.{may_end}
 use Rattle.lard_endpoint.proofs.Windows.{emit-recv, emitted-tells, timed-tells, timer-recv}
-use Rattle.lard_rules.specs.Front.{Deed, Drops, Says, Does, FrontEnv, FrontPart, begun, fired_by, fires_at, front_hears, heard, hears_at, holds, rest_of, settled_by, stage_after}
+use Rattle.lard_rules.specs.Front.{FrontDeed, Drops, Says, Does, FrontEnv, FrontPart, front_begun, front_fired_by, fires_at, front_hears, heard, hears_at, holds, front_rest, settled_by, stage_after}
 use Rattle.lard_rules.specs.declared.front.FrontRest.{FrontRest}
-use Rattle.lard_rules.specs.FrontReading.{Reading, left, reads, reads_found, turn}
+use Rattle.lard_rules.specs.FrontReading.{Reading, reading_left, front_reads, reads_found, reading_turn}
 use Rattle.lard_handoff_front.specs.declared.row.FrontConn.{FrontConn}
 use Rattle.lard_handoff_front.specs.declared.row.FrontConn.TheVariants as stage
 use Rattle.lard_handoff_front.specs.declared.row.FrontRow.{FrontRow}
 use Rattle.lard_history.proofs.Each.{Each-append}
 use Rattle.lard_journal.specs.declared.rec.Rec.TheVariants as rec
 use Rattle.lard_law_view.proofs.EndpointStreams.{segment-takes}
-use Rattle.lard_recv.specs.Recv.{Received, arrived, awaited, begins_after, ends, fresh, taken}
+use Rattle.lard_recv.specs.Recv.{Received, arrived, awaited, begins_after, ends, fresh_bytes, bytes_taken}
 use Rattle.lard_rules.specs.declared.places.Ending.{Ending}
 use Rattle.lard_rules.specs.declared.places.Ending.TheVariants as ending
 use Rattle.lard_rules.specs.declared.places.Turn.{Turn}
 use Rattle.lard_rules.specs.Tombstone.{is_plain_syn}
 use Rattle.lard_rules.specs.Loop.{Step, More, Done}
-use Rattle.lard_rules.specs.Serving.{Service, consumed, cut_off, may_read, ready_of, rested, serving, spoken}
+use Rattle.lard_rules.specs.Serving.{Service, serving_consumed, cut_off, may_read, serving_ready_of, rested, serving, spoken}
 use Rattle.lard_rules.specs.Speaking.{speaks}
 use Rattle.lard_rules.proofs.Loops.{speaks_keep}
 use Rattle.lard_rules.proofs.Runs.{runs_keep}
@@ -83,9 +83,9 @@ module _ (isn : ℕ) (small : isn < 2 ^ 32) (s : Said) (seq_small : s.seq < 2 ^ 
 
   module _ (r : Received) (h : HalfIsFresh isn r) where
     -- brings no byte
-    none-fresh : fresh r s.seq s.payload ≡ []
+    none-fresh : fresh_bytes r s.seq s.payload ≡ []
     none-fresh = by-length (length s.payload) refl where
-      by-length : (n : ℕ) → length s.payload ≡ n → fresh r s.seq s.payload ≡ []
+      by-length : (n : ℕ) → length s.payload ≡ n → fresh_bytes r s.seq s.payload ≡ []
       by-length zero e = take-none _ _ (ap (drop (seq_offset (awaited r) s.seq)) (no-data s.payload (omega (arith, e))) ∙ drop-nothing (seq_offset (awaited r) s.seq))
       by-length (suc n) e =
           let first : seq_offset s.seq isn ≡ 0 = let l = len-few in omega (arith, within, l, e) in
@@ -102,7 +102,7 @@ module _ (isn : ℕ) (small : isn < 2 ^ 32) (s : Said) (seq_small : s.seq < 2 ^ 
         by false e = e
         by true e = absurd (let z : a ≡ b = eqb-true a b e in omega (arith, z, less))
 
-      go : (f : Bool) → s.flags.fin ≡ f → (f && (seq_offset (awaited r) s.seq + length (fresh r s.seq s.payload) == length s.payload)) ≡ false
+      go : (f : Bool) → s.flags.fin ≡ f → (f && (seq_offset (awaited r) s.seq + length (fresh_bytes r s.seq s.payload) == length s.payload)) ≡ false
       go false e = refl
       go true e =
           let fin : ◌≡◌ {A = ℕ} (cond {A = ℕ} s.flags.fin 1 0) 1 = ap (λ b. cond {A = ℕ} b 1 0) e in
@@ -110,19 +110,19 @@ module _ (isn : ℕ) (small : isn < 2 ^ 32) (s : Said) (seq_small : s.seq < 2 ^ 
           let same : s.seq ≡ isn = omega (arith, first, small, seq_small) in
           let one : seq_offset (awaited r) s.seq ≡ 1 = ap (λ a. seq_offset a s.seq) (awaits-next isn r h) ∙ (let m = same in omega (arith, m, small)) in
           let none : length s.payload ≡ 0 = omega (arith, within, fin) in
-          never (seq_offset (awaited r) s.seq + length (fresh r s.seq s.payload)) (length s.payload) (omega (arith, one, none))
+          never (seq_offset (awaited r) s.seq + length (fresh_bytes r s.seq s.payload)) (length s.payload) (omega (arith, one, none))
 
     arrived-fresh : HalfIsFresh isn (arrived r s.seq s.payload s.flags.fin)
     arrived-fresh = cond_both (begins_after s.seq (awaited r)) r (cond r.fin r more) (HalfIsFresh isn) (λ t. h) (λ t. cond_both r.fin r more (HalfIsFresh isn) (λ u. h) (λ u. so)) where
       more : Received
-      more = taken r (fresh r s.seq s.payload) (ends r s.seq s.payload s.flags.fin)
+      more = bytes_taken r (fresh_bytes r s.seq s.payload) (ends r s.seq s.payload s.flags.fin)
 
-      so : HalfIsFresh isn (taken r (fresh r s.seq s.payload) (ends r s.seq s.payload s.flags.fin))
+      so : HalfIsFresh isn (bytes_taken r (fresh_bytes r s.seq s.payload) (ends r s.seq s.payload s.flags.fin))
       so = (
         h.0,
         (let n = ap length none-fresh in omega (arith, n, h.1)),
         no-fin,
-        cond_both r.discarding r.unread (r.unread ++ fresh r s.seq s.payload) (λ l. l ≡ []) (λ t. h.3) (λ t. ap (λ l. l ++ fresh r s.seq s.payload) h.3 ∙ none-fresh),
+        cond_both r.discarding r.unread (r.unread ++ fresh_bytes r s.seq s.payload) (λ l. l ≡ []) (λ t. h.3) (λ t. ap (λ l. l ++ fresh_bytes r s.seq s.payload) h.3 ∙ none-fresh),
       )
 
   -- ---- the endpoint
@@ -218,7 +218,7 @@ module _ (isn : ℕ) where
 
   -- ---- the front end's deeds
 
-  abbrev pub DeedIsEarly : ℕ → Deed → Type 0
+  abbrev pub DeedIsEarly : ℕ → FrontDeed → Type 0
   DeedIsEarly c Drops = Unit {0}
   DeedIsEarly c (Says turn) = ⊥
   DeedIsEarly c (Does did) = RowIsFresh isn did.part.row × AreTold c (AcksFirst isn) did.turn.segments × (did.turn.messages ≡ [])
@@ -247,22 +247,22 @@ module _ (isn : ℕ) where
     unfolding cut_of skipped head_end
     cut-none = refl
 
-    turn-reads : (x : Reading) → ReadsNothing x → StepReads (turn env.serve x)
+    turn-reads : (x : Reading) → ReadsNothing x → StepReads (reading_turn env.serve x)
     turn-reads x h = cond_both (may_read x.service) (reads_found env.serve x (cut_of x.service.block.recv.unread)) (Done x) StepReads
         (λ may. subst (λ (f : Found). StepReads (reads_found env.serve x f)) (sym (ap cut_of h.0.unread ∙ cut-none))
-        (cond_both x.service.block.recv.fin _ (consumed 0 x.service) (λ (w : Service). IsFresh isn w.block × (w.over ≡ None) × (x.target ≡ None)) (λ t. absurd (both_ways x.service.block.recv.fin h.0.fin t))
+        (cond_both x.service.block.recv.fin _ (serving_consumed 0 x.service) (λ (w : Service). IsFresh isn w.block × (w.over ≡ None) × (x.target ≡ None)) (λ t. absurd (both_ways x.service.block.recv.fin h.0.fin t))
         (λ t. (record { irs_is = h.0.irs_is; got = h.0.got; fin = h.0.fin; unread = h.0.unread; reset = h.0.reset }, h.1, h.2))))
         (λ t. h)
 
-    reads-nothing : (x : Reading) → ReadsNothing x → ReadsNothing (reads env.serve x)
-    reads-nothing x h = runs_keep (turn env.serve) left ReadsNothing (record {
+    reads-nothing : (x : Reading) → ReadsNothing x → ReadsNothing (front_reads env.serve x)
+    reads-nothing x h = runs_keep (reading_turn env.serve) reading_left ReadsNothing (record {
       more = λ y z e q. subst StepReads e (turn-reads y q);
       done = λ y z e q. subst StepReads e (turn-reads y q);
     }) x h
 
     heard-early : (row : FrontRow) (rest : FrontRest) (b : ControlBlock) → IsFresh isn b → DeedIsEarly c (heard env p row rest b)
     heard-early row rest b h =
-        let x : Reading = reads env.serve (record { service = serving b rest.count []; target = None }) in
+        let x : Reading = front_reads env.serve (record { service = serving b rest.count []; target = None }) in
         let n : ReadsNothing x = reads-nothing (record { service = serving b rest.count []; target = None }) (h, refl, refl) in
         subst (λ (t : Option (List ℕ)). DeedIsEarly c (settled_by env p row rest x.service t)) (sym n.2) (go x.service n.0 x.service.over n.1)
       where
@@ -272,25 +272,25 @@ module _ (isn : ℕ) where
 
     module _ (small : isn < 2 ^ 32) (s : Said) (seq_small : s.seq < 2 ^ 32) (within : seq_offset s.seq isn + seg_len s ≤ 1) (plain : s.flags.rst ≡ false) (greets : s.flags.syn ≡ true → s.seq ≡ isn) where
       hears-at-early : (bytes : List ℕ) (row : FrontRow) (st : FrontConn) → StageIsFresh isn st → DeedIsEarly c (hears_at env p row bytes s st)
-      hears-at-early bytes row (stage.Held b) h = heard-early row (rest_of p.rest) (on_segment b s).1 (segment-fresh isn small s seq_small within plain b h)
+      hears-at-early bytes row (stage.Held b) h = heard-early row (front_rest p.rest) (on_segment b s).1 (segment-fresh isn small s seq_small within plain b h)
       hears-at-early bytes row _ h = absurd h
 
       pub hears-early : (bytes : List ℕ) (q : Option FrontRow) → RowIsFresh isn q → DeedIsEarly c (front_hears env p bytes s q)
-      hears-early bytes None h = cond_both (is_plain_syn s) (begun env p s) Drops (DeedIsEarly c)
+      hears-early bytes None h = cond_both (is_plain_syn s) (front_begun env p s) Drops (DeedIsEarly c)
           (λ t.
           let row : FrontRow = record { stage = stage.Lent; epoch = record { 0 = 1 }; ended_by = None } in
           let w : Service = serving (listening s env.iss) 0 (rec.Took Front env.serve.c (record { 0 = 1 }) ∷ []) in
-          holds-early row (rest_of None) w [] (record { irs_is = greets (and_parts s.flags.syn _ t).0; got = refl; fin = refl; unread = refl; reset = refl }) tt)
+          holds-early row (front_rest None) w [] (record { irs_is = greets (and_parts s.flags.syn _ t).0; got = refl; fin = refl; unread = refl; reset = refl }) tt)
           (λ t. tt)
       hears-early bytes (Some row) h = hears-at-early bytes row row.stage h
 
     fires-at-early : (row : FrontRow) (st : FrontConn) → StageIsFresh isn st → DeedIsEarly c (fires_at env p row st)
-    fires-at-early row (stage.Held b) h = holds-early row (rest_of p.rest) (serving (after_timer b) (rest_of p.rest).count []) (ready_of env.serve (after_timer b) (timed b)) (timer-fresh b h) (go (timed b) refl) where
-      go : (o : Option Ready) → timed b ≡ o → AreTold c (AcksFirst isn) (ready_of env.serve (after_timer b) o)
+    fires-at-early row (stage.Held b) h = holds-early row (front_rest p.rest) (serving (after_timer b) (front_rest p.rest).count []) (serving_ready_of env.serve (after_timer b) (timed b)) (timer-fresh b h) (go (timed b) refl) where
+      go : (o : Option Ready) → timed b ≡ o → AreTold c (AcksFirst isn) (serving_ready_of env.serve (after_timer b) o)
       go None e = tt
       go (Some r) e = ((refl, (filled (after_timer b) r, refl, λ a. (timed-tells b r e).ack ∙ next-number b h)), tt)
     fires-at-early row _ h = absurd h
 
-    pub fires-early : (q : Option FrontRow) → RowIsFresh isn q → DeedIsEarly c (fired_by env p q)
+    pub fires-early : (q : Option FrontRow) → RowIsFresh isn q → DeedIsEarly c (front_fired_by env p q)
     fires-early None h = tt
     fires-early (Some row) h = fires-at-early row row.stage h

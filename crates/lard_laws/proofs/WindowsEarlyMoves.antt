@@ -5,19 +5,19 @@ use Rattle.lard_arrival.specs.Arrival.{seg_len}
 use Rattle.lard_base.specs.declared.event.Event.TheVariants as event
 use Rattle.lard_base.specs.declared.place.Place.{Place}
 use Rattle.lard_base.specs.declared.place.Place.TheVariants.{Client, Front, Node}
-use Rattle.lard_client.specs.Control.{ClientBlock, is_open}
+use Rattle.lard_client.specs.Control.{ClientBlock, is_client_open}
 use Rattle.lard_laws.proofs.AcksRuns.{front-station, node-station}
-use Rattle.lard_law_connections.specs.BytesAgreement.{ConnAgrees, IsFair, IsFairOn, IsInner, IsNode, IsOpen, IsTruthful, IsUnopened}
+use Rattle.lard_law_connections.specs.BytesAgreement.{ConnAgrees, IsFair, IsFairOn, IsInner, IsNodePlace, IsOpen, IsTruthful, IsConnUnopened}
 use Rattle.lard_law_connections.proofs.BytesClientMoves.{has-fair, open-at}
 use Rattle.lard_law_connections.specs.Places.{IsPast, Sits, owning}
 use Rattle.lard_law_connections.proofs.PlacesFrontRules.{has-each}
 use Rattle.lard_law_connections.proofs.PlacesTurns.{IsPlaced}
 use Rattle.lard_law_connections.proofs.SilenceTurns.{AreTold}
-use Rattle.lard_law_view.specs.Carry.{IsUntouchedLaw, MayMove, Untouched, tale_at}
-use Rattle.lard_law_view.specs.View.{AreSent, ClientRules, Conn, FrontRules, IsFrontEnv, IsSound, Move, NodeRules, Said as SaidIn, Setting, UntouchedRules, Was, brought_said, client_begins, client_does, contents, event_seen, front_does, grown, letter, letters_of, node_does, nothing_said, packet_seen, reads_first, stands}
+use Rattle.lard_law_view.specs.Carry.{IsUntouchedLaw, MayRestOn, Untouched, tale_at}
+use Rattle.lard_law_view.specs.View.{AreSent, ClientRules, Conn, FrontRules, IsFrontEnv, IsConnSound, Move, NodeRules, TurnSaid as SaidIn, Setting, UntouchedRules, Was, brought_said, client_begins, client_does, content_said, event_seen, front_does, grown, letter, letters_of, node_does, nothing_said, packet_seen, reads_first, stands}
 use Rattle.lard_law_view.proofs.Guarded.{untouched-weaker}
 use Rattle.lard_laws.specs.WindowsEarly.{RowIsFresh, StageIsFresh}
-use Rattle.lard_laws.specs.WindowsWords.{Fits, FitsOn, HasFittingWords, HasStarted, Starts, StartsOn, WordFits}
+use Rattle.lard_laws.specs.WindowsWords.{FitsClient, FitsOn, HasFittingWords, HasStarted, Starts, StartsOn, WordFits}
 use Rattle.lard_laws.proofs.WindowsEarly.{AcksFirst, DeedIsEarly, fires-early, hears-early}
 use Rattle.lard_laws.proofs.WindowsWordRuns.{by-aborts, by-holds, by-shuts, by-takes, by-timer, by-writes, hears-turned}
 use Rattle.lard_laws.proofs.WindowsWords.{IsLater}
@@ -34,9 +34,9 @@ use Rattle.lard_history.proofs.Each.{Each, Each-append, Each-weaker}
 use Rattle.lard_journal.specs.declared.rec.Rec.TheVariants as rec
 use Rattle.lard_law_view.specs.Truthful.{Talk}
 use Rattle.lard_rules.specs.Node as node
-use Rattle.lard_rules.specs.Node.{NodePart, again_sent, both_of, come_by, fired_by, here, node_acknowledged, node_content, node_forwarded, node_offered, node_read, node_tagged, node_timer, read_by}
+use Rattle.lard_rules.specs.Node.{NodePart, again_sent, both_of, come_by, node_fired_by, here, node_acknowledged, node_content, node_forwarded, node_offered, node_read, node_tagged, node_timer, node_read_by}
 use Rattle.lard_rules.specs.Stay.{NodeEnv}
-use Rattle.lard_handoff_back.specs.Back.{endpoint_of, staying}
+use Rattle.lard_handoff_back.specs.Back.{back_endpoint, staying}
 use Rattle.lard_policy.specs.declared.first.FirstChoice.{FirstChoice}
 use Rattle.lard_resend.specs.declared.kept.Kept.{Kept}
 use Rattle.lard_resend.specs.Pending.{sent_of}
@@ -72,7 +72,7 @@ pub record IsEarlySo (x : Conn) (s : Station) : Type 0 where
 
 abbrev pub EarlyAt : Conn → Option Station → Type 0
 EarlyAt x None = Unit {0}
-EarlyAt x (Some s) = is_open s.client ≡ true → s.client.send.una ≡ 0 → IsEarlySo x s
+EarlyAt x (Some s) = is_client_open s.client ≡ true → s.client.send.una ≡ 0 → IsEarlySo x s
 
 abbrev pub IsEarlyIn : Conn → Type 0
 IsEarlyIn x = EarlyAt x x.part.station
@@ -91,7 +91,7 @@ from-client c isn d (p ∷ ps) = (go p.0, from-client c isn d ps) where
 
 inner-are : (c isn : ℕ) (ls : List Letter) → Each IsInner ls → Each (LetterIs c isn) ls
 inner-are c isn ls h = Each-weaker IsInner (LetterIs c isn) (λ l i. go l.from l.to l.bytes i.0 i.1) ls h where
-  go : (from to : Place) (bytes : List ℕ) → IsNode from → IsNode to → SpelledOn c isn from to bytes
+  go : (from to : Place) (bytes : List ℕ) → IsNodePlace from → IsNodePlace to → SpelledOn c isn from to bytes
   go (Node m) (Node n) bytes i j = tt
   go (Node m) Front bytes i j = absurd j
   go (Node m) (Client d) bytes i j = absurd j
@@ -108,15 +108,15 @@ module _ (env : NodeEnv) (p : NodePart) (none : p.row ≡ None) where
   content-none from r = ap (come_by env from r p) here-none
 
   read-none : (r : ℕ) → node_read env p r ≡ node.Drops
-  read-none r = ap (read_by env r p) here-none
+  read-none r = ap (node_read_by env r p) here-none
 
   timer-none : node_timer env p ≡ node.Says (again_sent p)
-  timer-none = ap (fired_by env p) (ap (λ (q : Option BackRow). both_of (endpoint_of q) p.stay) none)
+  timer-none = ap (node_fired_by env p) (ap (λ (q : Option BackRow). both_of (back_endpoint q) p.stay) none)
 
 module _ (k : Setting) (small : k.stream ≤ 2 ^ 30) where
   -- what is known beside it
   pub record Helps (x : Conn) : Type 0 where
-    pub sound : IsSound x
+    pub sound : IsConnSound x
     pub placed : IsPlaced x
     pub truth : IsTruthful k.files x
     pub words : HasFittingWords x
@@ -126,7 +126,7 @@ module _ (k : Setting) (small : k.stream ≤ 2 ^ 30) where
   Keeps x v = Helps x → IsEarlyIn x → IsEarlyIn (grown x v)
 
   -- a place's move, where the client is as it was
-  by-early : (x : Conn) (v : Move) → v.part.station ≡ x.part.station → ((s : Station) → x.part.station ≡ Some s → is_open s.client ≡ true → s.client.send.una ≡ 0 → IsEarlySo x s → IsEarlySo (grown x v) s) → IsEarlyIn x → IsEarlyIn (grown x v)
+  by-early : (x : Conn) (v : Move) → v.part.station ≡ x.part.station → ((s : Station) → x.part.station ≡ Some s → is_client_open s.client ≡ true → s.client.send.una ≡ 0 → IsEarlySo x s → IsEarlySo (grown x v) s) → IsEarlyIn x → IsEarlyIn (grown x v)
   by-early x v same early h = go x.part.station refl h where
     go : (o : Option Station) → x.part.station ≡ o → EarlyAt x o → EarlyAt (grown x v) v.part.station
     go None e r = subst (EarlyAt (grown x v)) (sym (same ∙ e)) tt
@@ -134,7 +134,7 @@ module _ (k : Setting) (small : k.stream ≤ 2 ^ 30) where
 
   -- ---- the front end
 
-  front-moves : (x : Conn) (s : Station) (heads : List Seen) (d : front.Deed) → IsEarlySo x s → DeedIsEarly s.client.send.iss x.c d → IsEarlySo (grown x (front_does x heads d)) s
+  front-moves : (x : Conn) (s : Station) (heads : List Seen) (d : front.FrontDeed) → IsEarlySo x s → DeedIsEarly s.client.send.iss x.c d → IsEarlySo (grown x (front_does x heads d)) s
   front-moves x s heads front.Drops h f = record { front = h.front; nodes = h.nodes; letters = Each-append (LetterIs x.c s.client.send.iss) x.letters [] h.letters tt }
   front-moves x s heads (front.Says turn) h f = absurd f
   front-moves x s heads (front.Does did) h f =
@@ -147,14 +147,14 @@ module _ (k : Setting) (small : k.stream ≤ 2 ^ 30) where
             (subst (λ (ms : List (Place × List ℕ)). Each (LetterIs x.c isn) (map (letter Front) ms)) (sym f.2) tt));
       }
 
-  front-rule : (x : Conn) (heads : List Seen) (d : front.Deed) → (Helps x → (s : Station) → x.part.station ≡ Some s → is_open s.client ≡ true → s.client.send.una ≡ 0 → IsEarlySo x s → DeedIsEarly s.client.send.iss x.c d) → Keeps x (front_does x heads d)
+  front-rule : (x : Conn) (heads : List Seen) (d : front.FrontDeed) → (Helps x → (s : Station) → x.part.station ≡ Some s → is_client_open s.client ≡ true → s.client.send.una ≡ 0 → IsEarlySo x s → DeedIsEarly s.client.send.iss x.c d) → Keeps x (front_does x heads d)
   front-rule x heads d f help h = by-early x (front_does x heads d) (front-station x heads d) (λ s there open_ una e. front-moves x s heads d e (f help s there open_ una e)) h
 
-  own-number : (x : Conn) (isn : ℕ) (env : front.FrontEnv) → IsFrontEnv k x.c env → (d : front.Deed) → DeedIsEarly isn env.serve.c d → DeedIsEarly isn x.c d
+  own-number : (x : Conn) (isn : ℕ) (env : front.FrontEnv) → IsFrontEnv k x.c env → (d : front.FrontDeed) → DeedIsEarly isn env.serve.c d → DeedIsEarly isn x.c d
   own-number x isn env is d f = subst (λ (c : ℕ). DeedIsEarly isn c d) is.number f
 
   -- a segment of the client's
-  module _ (x : Conn) (help : Helps x) (s : Station) (there : x.part.station ≡ Some s) (open_ : is_open s.client ≡ true) (una : s.client.send.una ≡ 0) (h : IsEarlySo x s) (env : front.FrontEnv) (bytes : List ℕ) (was : Was x (Client x.c) Front bytes) where
+  module _ (x : Conn) (help : Helps x) (s : Station) (there : x.part.station ≡ Some s) (open_ : is_client_open s.client ≡ true) (una : s.client.send.una ≡ 0) (h : IsEarlySo x s) (env : front.FrontEnv) (bytes : List ℕ) (was : Was x (Client x.c) Front bytes) where
     abbrev talk : Talk
     talk = help.truth.talk
 
@@ -170,7 +170,7 @@ module _ (k : Setting) (small : k.stream ≤ 2 ^ 30) where
     read : decoded bytes x.c ToCluster ≡ Ok word.0
     read = ap (λ (b : List ℕ). decoded b x.c ToCluster) word.1 ∙ again x.c ToCluster word.0 word.2.sendable
 
-    fits : Fits x.c s.client x.letters word.0
+    fits : FitsClient x.c s.client x.letters word.0
     fits = (has-each (WordFits x.c s.client x.letters) m x.letters was (subst (FitsOn x) there help.words)) word.0 read
 
     starts : Starts s.client
@@ -180,7 +180,7 @@ module _ (k : Setting) (small : k.stream ≤ 2 ^ 30) where
     plain = go word.0.flags.rst refl where
       go : (b : Bool) → word.0.flags.rst ≡ b → word.0.flags.rst ≡ false
       go false e = e
-      go true e = absurd (both_ways (is_open s.client) (fits.closed e) open_)
+      go true e = absurd (both_ways (is_client_open s.client) (fits.closed e) open_)
 
     within : seq_offset word.0.seq s.client.send.iss + seg_len word.0 ≤ 1
     within = let e = fits.sent plain in let few = starts.first una in omega (arith, e, few)
@@ -235,9 +235,9 @@ module _ (k : Setting) (small : k.stream ≤ 2 ^ 30) where
   never-rule : (x : Conn) (n : ℕ) (bytes : List ℕ) (v : Move) → v.part.station ≡ x.part.station → Was x Front (Node n) bytes → Keeps x v
   never-rule x n bytes v same was = node-rule x v same (λ s h. absurd (none-said x s Front (Node n) bytes h was))
 
-  drops-rule : (x : Conn) (n : ℕ) (heads : List Seen) (d : node.Deed) → ((x.part.nodes n).row ≡ None → d ≡ node.Drops) → Keeps x (node_does x n heads d)
+  drops-rule : (x : Conn) (n : ℕ) (heads : List Seen) (d : node.NodeDeed) → ((x.part.nodes n).row ≡ None → d ≡ node.Drops) → Keeps x (node_does x n heads d)
   drops-rule x n heads d none = node-rule x (node_does x n heads d) (node-station x n heads d) (λ s h.
-      subst (λ (e : node.Deed). IsEarlySo (grown x (node_does x n heads e)) s) (sym (none (h.nodes n))) (said-still x s (Node n) heads nothing_said h tt))
+      subst (λ (e : node.NodeDeed). IsEarlySo (grown x (node_does x n heads e)) s) (sym (none (h.nodes n))) (said-still x s (Node n) heads nothing_said h tt))
 
   -- what is kept was sent
   kept-said : (x : Conn) (s : Station) (n : ℕ) → IsEarlySo x s → (ks : List Kept) → AreSent x (Node n) ks → Each (LetterIs x.c s.client.send.iss) (map (letter (Node n)) (map sent_of ks))
@@ -251,10 +251,10 @@ module _ (k : Setting) (small : k.stream ≤ 2 ^ 30) where
   timer-rule : (x : Conn) (n : ℕ) (heads : List Seen) (env : NodeEnv) → Keeps x (node_does x n heads (node_timer env (x.part.nodes n)))
   timer-rule x n heads env help h = node-rule x (node_does x n heads (node_timer env (x.part.nodes n))) (node-station x n heads (node_timer env (x.part.nodes n))) (λ s e.
       let p : NodePart = x.part.nodes n in
-      subst (λ (d : node.Deed). IsEarlySo (grown x (node_does x n heads d)) s) (sym (timer-none env p (e.nodes n)))
+      subst (λ (d : node.NodeDeed). IsEarlySo (grown x (node_does x n heads d)) s) (sym (timer-none env p (e.nodes n)))
       (said-still x s (Node n) heads (record nothing_said { messages = again_sent p }) e (kept-said x s n e (p.kept ++ p.fetches) (sent-append x n p.kept p.fetches (help.sound.kept n) (help.sound.fetches n))))) help h
 
-  read-again : (x : Conn) (s : Station) (n r : ℕ) (path : List ℕ) (d : node.Deed) → IsEarlySo (grown x (node_does x n [] d)) s → IsEarlySo (grown x (reads_first (rec.Read n n x.c r path) (node_does x n [] d))) s
+  read-again : (x : Conn) (s : Station) (n r : ℕ) (path : List ℕ) (d : node.NodeDeed) → IsEarlySo (grown x (node_does x n [] d)) s → IsEarlySo (grown x (reads_first (rec.Read n n x.c r path) (node_does x n [] d))) s
   read-again x s n r path d e = record { front = e.front; nodes = e.nodes; letters = e.letters }
 
   node-rules : NodeRules k Keeps
@@ -266,9 +266,9 @@ module _ (k : Setting) (small : k.stream ≤ 2 ^ 30) where
     content = λ x n from epoch r env file bytes is spells was. drops-rule x n (packet_seen (Node from) (Node n) bytes) (node_content env (x.part.nodes n) from r) (λ none. content-none env (x.part.nodes n) none from r);
     read = λ x n epoch r env path is. node-rule x (reads_first (rec.Read n n x.c r path) (node_does x n [] (node_read env (x.part.nodes n) r))) (node-station x n [] (node_read env (x.part.nodes n) r)) (λ s h.
         read-again x s n r path (node_read env (x.part.nodes n) r)
-        (subst (λ (e : node.Deed). IsEarlySo (grown x (node_does x n [] e)) s) (sym (read-none env (x.part.nodes n) (h.nodes n) r)) (said-still x s (Node n) [] nothing_said h tt)));
+        (subst (λ (e : node.NodeDeed). IsEarlySo (grown x (node_does x n [] e)) s) (sym (read-none env (x.part.nodes n) (h.nodes n) r)) (said-still x s (Node n) [] nothing_said h tt)));
     fires = λ x s n env there is. timer-rule x n (event_seen (event.Timer (Node n) x.c)) env;
-    answers = λ x n from epoch r path file bytes there spells was. stands-rule x (Node n) (packet_seen (Node from) (Node n) bytes) (contents k n from x.c epoch r path) (λ c isn. (tt, tt));
+    answers = λ x n from epoch r path file bytes there spells was. stands-rule x (Node n) (packet_seen (Node from) (Node n) bytes) (content_said k n from x.c epoch r path) (λ c isn. (tt, tt));
     queues = λ x n from epoch r path file bytes there spells was. stands-rule x (Node n) (packet_seen (Node from) (Node n) bytes) (record nothing_said { notes = rec.Queued n from x.c r path ∷ [] }) (λ c isn. tt);
     brings = λ x n from epoch r path. stands-rule x (Node n) [] (brought_said k n from x.c epoch r path) (λ c isn. (tt, tt));
   }
@@ -278,7 +278,7 @@ module _ (k : Setting) (small : k.stream ≤ 2 ^ 30) where
   client-rule : (x : Conn) (s : Station) (heads : List Seen) (given : ClientBlock × Turn) → x.part.station ≡ Some s → (Helps x → Turned x.c s.client x.letters given) → Keeps x (client_does x s heads given)
   client-rule x s heads given there turned help h open_ una =
       let later : IsLater s.client given.0 = (turned help).later in
-      let was_open : is_open s.client ≡ true = go (is_open s.client) refl later.closed in
+      let was_open : is_client_open s.client ≡ true = go (is_client_open s.client) refl later.closed in
       let was_una : s.client.send.una ≡ 0 = (let up = later.since.acked in omega (arith, up, una)) in
       let e : IsEarlySo x s = (subst (EarlyAt x) there h) was_open was_una in
       let same : s.client.send.iss ≡ given.0.send.iss = sym later.since.iss in
@@ -290,13 +290,13 @@ module _ (k : Setting) (small : k.stream ≤ 2 ^ 30) where
             (Each-append (LetterIs x.c isn) (map (letter (Client x.c)) given.1.segments) [] (from-client x.c isn x.c given.1.segments) tt);
       }
     where
-      go : (b : Bool) → is_open s.client ≡ b → (is_open s.client ≡ false → is_open given.0 ≡ false) → is_open s.client ≡ true
+      go : (b : Bool) → is_client_open s.client ≡ b → (is_client_open s.client ≡ false → is_client_open given.0 ≡ false) → is_client_open s.client ≡ true
       go true e f = e
-      go false e f = absurd (both_ways (is_open given.0) (f e) open_)
+      go false e f = absurd (both_ways (is_client_open given.0) (f e) open_)
 
   client-opens-so : (x : Conn) (isn iss wnd mss : ℕ) → x.part.station ≡ None → Keeps x (client_begins x isn iss wnd mss)
   client-opens-so x isn iss wnd mss none help h open_ una =
-      let u : IsUnopened x = subst (ConnAgrees k.files x help.truth.talk help.truth.pend) none help.truth.agrees in
+      let u : IsConnUnopened x = subst (ConnAgrees k.files x help.truth.talk help.truth.pend) none help.truth.agrees in
       let i : ℕ = (client_opens x.c isn wnd mss).0.send.iss in
       let ss : List (Place × List ℕ) = (client_opens x.c isn wnd mss).1.segments in
       record {
@@ -332,7 +332,7 @@ module _ (k : Setting) (small : k.stream ≤ 2 ^ 30) where
   Given x = IsPlaced x × (Untouched (IsTruthful k.files) x × (Untouched HasFittingWords x × Untouched HasStarted x))
 
   abbrev Wanted : Conn → Move → Type 0
-  Wanted x v = MayMove Given x → (tale_at x).touched ≡ false → IsEarlyIn x → IsEarlyIn (grown x v)
+  Wanted x v = MayRestOn Given x → (tale_at x).touched ≡ false → IsEarlyIn x → IsEarlyIn (grown x v)
 
   wanted : (x : Conn) (v : Move) → Keeps x v → Wanted x v
   wanted x v owed may untouched h = owed (record { sound = may.sound; placed = may.given.0; truth = may.given.1.0 untouched; words = may.given.1.1.0 untouched; started = may.given.1.1.1 untouched }) h

@@ -23,7 +23,7 @@ use Rattle.lard_law_view.specs.Truthful.{Talk}
 use Rattle.lard_rules.specs.declared.places.Station.{Station}
 use Rattle.lard_segment.proofs.Again.{again}
 use Rattle.lard_segment.specs.declared.segment.Dir.TheVariants.{ToClient}
-use Rattle.lard_segment.specs.Fields.{number_at}
+use Rattle.lard_segment.specs.Fields.{double_word_at}
 use Rattle.lard_segment.specs.Segment.{Said, decoded, spelled}
 use Rattle.lard_seq.specs.Seq.{seq_add, seq_offset}
 use Rattle.lard_seq.proofs.Laws.{offset-add}
@@ -37,7 +37,7 @@ four n h = omega arith
 -- the number that is acknowledged stands in four bytes
 acks-spelled : (c : ℕ) (s t : Said) → spelled c ToClient s ≡ spelled c ToClient t → s.ack < 2 ^ 32 → t.ack < 2 ^ 32 → s.ack ≡ t.ack
 unfolding spelled
-acks-spelled c s t e small few = sym (four s.ack small) ∙ ap (λ (b : List ℕ). number_at b 8) e ∙ four t.ack few
+acks-spelled c s t e small few = sym (four s.ack small) ∙ ap (λ (b : List ℕ). double_word_at b 8) e ∙ four t.ack few
 
 module _ (files : FilesAt) (x : Conn) (s : Station) (there : x.part.station ≡ Some s) (truth : IsTruthful files x) where
   abbrev l : Talk

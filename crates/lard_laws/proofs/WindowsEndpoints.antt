@@ -10,7 +10,7 @@ use Rattle.lard_law_connections.proofs.LimitsServing.{reads-unfinished}
 use Rattle.lard_law_connections.proofs.LimitsWorking.{KeptByServing}
 use Rattle.lard_law_connections.proofs.SilenceEndpoints.{Anything, window-wide}
 use Rattle.lard_law_connections.proofs.SilenceTurns.{IsKept}
-use Rattle.lard_laws.specs.Windows.{IsEnd, Reaches}
+use Rattle.lard_laws.specs.Windows.{IsEnd, ReachesFar}
 use Rattle.lard_laws.proofs.WindowsPieces.{IsSent, next-is, resend-is}
 use Rattle.lard_endpoint.specs.Arriving.{on_segment}
 use Rattle.lard_endpoint.specs.Control.{ControlBlock, IsControlBlock, consuming, discarding_on, finishing, queueing, rcv_nxt, rcv_wnd}
@@ -160,7 +160,7 @@ module _ (isn iss sent : ℕ) (small : isn < 2 ^ 32) (O Q : Type 0) (known : O �
 
   -- it can be sent, and reaches as far as the endpoint sent then
   abbrev pub Replies : ControlBlock → Said → Type 0
-  Replies d s = IsSendable s × Reaches isn iss d.send.nxt s × Q
+  Replies d s = IsSendable s × ReachesFar isn iss d.send.nxt s × Q
 
   -- its window ends far enough
   wide-end : (b : ControlBlock) (ack wnd : ℕ) → IsEnd isn iss b → ack ≡ rcv_nxt b → wnd ≡ rcv_wnd b → 16384 ≤ seq_offset ack isn + wnd

@@ -11,8 +11,8 @@ use Rattle.lard_law_connections.proofs.SilenceEndpoints.{AnyReply, Anything}
 use Rattle.lard_law_connections.proofs.SilenceFronts as fronts
 use Rattle.lard_law_connections.proofs.SilenceTurns.{AreTold, IsKept, nobody}
 use Rattle.lard_law_connections.specs.SilencePlaces.{FrontHas, FrontStageHas}
-use Rattle.lard_law_view.specs.Carry.{IsLaw, MayMove, setting}
-use Rattle.lard_law_view.specs.View.{AreSent, ClientRules, Conn, FrontRules, IsFrontEnv, Move, NodeRules, Rules, Setting, brought_said, client_begins, client_does, contents, event_seen, front_does, grown, letter, inject_seen, letters_of, node_does, nothing_said, packet_seen, stands}
+use Rattle.lard_law_view.specs.Carry.{IsLaw, MayRestOn, setting}
+use Rattle.lard_law_view.specs.View.{AreSent, ClientRules, Conn, FrontRules, IsFrontEnv, Move, NodeRules, Rules, Setting, brought_said, client_begins, client_does, content_said, event_seen, front_does, grown, letter, inject_seen, letters_of, node_does, nothing_said, packet_seen, stands}
 use Rattle.lard_law_view.proofs.Carried.{carried}
 use Rattle.lard_laws.specs.WindowsLaws.{ForwardsComeFromClients}
 use Rattle.lard_laws.specs.Windows.{AnyBlock}
@@ -26,8 +26,8 @@ use Rattle.lard_endpoint.specs.Control.{ControlBlock}
 use Rattle.lard_rules.specs.declared.front.FrontRest.{FrontRest}
 use Rattle.lard_rules.specs.declared.front.FrontTurn.{FrontTurn}
 use Rattle.lard_rules.specs.Front as front
-use Rattle.lard_rules.specs.Front.{Deed, Drops, Says, Does, FrontEnv, FrontPart, admitted_at, admitted_by, admitted_with, ask_of, asked_by, assigns, begun, ended_by, fired_by, fires_at, front_admitted, front_asked, front_ended, front_gets, front_hears, front_taken, front_timer, handed_off, hears_at, is_at, message, placed, rest_of, saying, settled_by, tag_sent, taken_by}
-use Rattle.lard_rules.specs.FrontReading.{Reading, reads}
+use Rattle.lard_rules.specs.Front.{FrontDeed, Drops, Says, Does, FrontEnv, FrontPart, admitted_at, admitted_by, front_admitted_with, ask_of, asked_by, assigns, front_begun, front_ended_by, front_fired_by, fires_at, front_admitted, front_asked, front_ended, front_gets, front_hears, front_taken, front_timer, handed_off, hears_at, is_row_at, message, placed, front_rest, front_saying, settled_by, tag_sent, taken_by}
+use Rattle.lard_rules.specs.FrontReading.{Reading, front_reads}
 use Rattle.lard_handoff_front.specs.declared.row.FrontConn.{FrontConn}
 use Rattle.lard_handoff_front.specs.declared.row.FrontConn.TheVariants as stage
 use Rattle.lard_handoff_front.specs.declared.row.FrontRow.{FrontRow}
@@ -75,7 +75,7 @@ module _ (c : ℕ) (ls : List Letter) where
   abbrev Sent : List (Place × List ℕ) → Type 0
   Sent ms = Each (λ (p : Place × List ℕ). ForwardWasOn c ls Front p.0 p.1) ms
 
-  abbrev pub DeedWas : Deed → Type 0
+  abbrev pub DeedWas : FrontDeed → Type 0
   DeedWas Drops = Unit {0}
   DeedWas (Says turn) = Sent turn.messages
   DeedWas (Does did) = Sent did.turn.messages
@@ -97,14 +97,14 @@ module _ (c : ℕ) (ls : List Letter) where
     module _ (bytes : List ℕ) (s : Said) (has : Has (record { from = Client c; to = Front; bytes = bytes }) ls) where
       hears-at-was : (row : FrontRow) (st : FrontConn) → DeedWas (hears_at env p row bytes s st)
       hears-at-was row (stage.Held b) =
-          let x : Reading = reads env.serve (record { service = serving (on_segment b s).1 (rest_of p.rest).count []; target = None }) in
-          settled-was row (rest_of p.rest) x.service x.target
+          let x : Reading = front_reads env.serve (record { service = serving (on_segment b s).1 (front_rest p.rest).count []; target = None }) in
+          settled-was row (front_rest p.rest) x.service x.target
       hears-at-was row (stage.Offering n e) = (forward-was env.serve.c e.0 bytes has, tt)
       hears-at-was row (stage.Moved n e) = (forward-was env.serve.c e.0 bytes has, tt)
       hears-at-was row _ = tt
 
       hears-was : (q : Option FrontRow) → DeedWas (front_hears env p bytes s q)
-      hears-was None = cond_both (is_plain_syn s) (begun env p s) Drops DeedWas (λ t. tt) (λ t. tt)
+      hears-was None = cond_both (is_plain_syn s) (front_begun env p s) Drops DeedWas (λ t. tt) (λ t. tt)
       hears-was (Some row) = hears-at-was row row.stage
 
     pub gets-was : (bytes : List ℕ) (r : Result Said SegFault) → Has (record { from = Client c; to = Front; bytes = bytes }) ls → DeedWas (front_gets env p bytes r)
@@ -115,21 +115,21 @@ module _ (c : ℕ) (ls : List Letter) where
     fires-at-was row (stage.Offering n e) h = h
     fires-at-was row _ h = tt
 
-    fires-was : (q : Option FrontRow) → Sent (map sent_of p.kept) → DeedWas (fired_by env p q)
+    fires-was : (q : Option FrontRow) → Sent (map sent_of p.kept) → DeedWas (front_fired_by env p q)
     fires-was None h = tt
     fires-was (Some row) h = fires-at-was row row.stage h
 
     asked-by-was : (n epoch : ℕ) (ask : Ask) (q : Option FrontRest) → DeedWas (asked_by env p n epoch ask q)
     asked-by-was n epoch ask None = tt
     asked-by-was n epoch ask (Some rest) =
-        let e : Deed = Says (saying (tag_sent env n epoch rest.asks rest.tag)) in
+        let e : FrontDeed = Says (front_saying (tag_sent env n epoch rest.asks rest.tag)) in
         cond_both (ask.number == rest.asks + 1) (Does (assigns env p rest n epoch ask (env.later ask))) (cond (ask.number == rest.asks && nat_lt 0 rest.asks) e Drops) DeedWas (λ t. (other-was _ _ _ (λ e. cc), tt))
         (λ t. cond_both (ask.number == rest.asks && nat_lt 0 rest.asks) e Drops DeedWas (λ u. (other-was _ _ _ (λ e. cc), tt)) (λ u. tt))
 
     pub asked-was : (n epoch : ℕ) (ask : Ask) → DeedWas (front_asked env p n epoch ask)
-    asked-was n epoch ask = cond_both (is_at n epoch p.row) (asked_by env p n epoch ask p.rest) Drops DeedWas (λ t. asked-by-was n epoch ask p.rest) (λ t. tt)
+    asked-was n epoch ask = cond_both (is_row_at n epoch p.row) (asked_by env p n epoch ask p.rest) Drops DeedWas (λ t. asked-by-was n epoch ask p.rest) (λ t. tt)
 
-    ended-by-was : (n epoch : ℕ) (last : Final) (q : Option FrontRow) (a : OnEnded) → DeedWas (ended_by env p n epoch last q a)
+    ended-by-was : (n epoch : ℕ) (last : Final) (q : Option FrontRow) (a : OnEnded) → DeedWas (front_ended_by env p n epoch last q a)
     ended-by-was n epoch last None a = tt
     ended-by-was n epoch last (Some row) (New next) = (other-was _ _ _ (λ e. cc), tt)
     ended-by-was n epoch last (Some row) Again = (other-was _ _ _ (λ e. cc), tt)
@@ -147,14 +147,14 @@ module _ (c : ℕ) (ls : List Letter) where
     taken-was epoch = taken-by-was epoch p.row (asked_node epoch p.row)
 
     module _ (choice : FirstChoice) (given : FrontPart × FrontTurn) where
-      admitted-with-was : (row : FrontRow) (b : ControlBlock) (t : Option (List ℕ)) → admitted_with env row (rest_of p.rest) b choice t ≡ Some given → Sent given.1.messages
+      admitted-with-was : (row : FrontRow) (b : ControlBlock) (t : Option (List ℕ)) → front_admitted_with env row (front_rest p.rest) b choice t ≡ Some given → Sent given.1.messages
       admitted-with-was row b None e = let no : None ≡ Some given = e in absurd cc
       admitted-with-was row b (Some path) e =
-          let same : handed_off env row (serving b (rest_of p.rest).count []) path choice ≡ given = cc in
-          subst (λ (g : FrontPart × FrontTurn). Sent g.1.messages) same (offer-was row (serving b (rest_of p.rest).count []) path choice)
+          let same : handed_off env row (serving b (front_rest p.rest).count []) path choice ≡ given = cc in
+          subst (λ (g : FrontPart × FrontTurn). Sent g.1.messages) same (offer-was row (serving b (front_rest p.rest).count []) path choice)
 
       admitted-at-was : (row : FrontRow) (st : FrontConn) → admitted_at env p choice row st ≡ Some given → Sent given.1.messages
-      admitted-at-was row (stage.Waiting b) e = admitted-with-was row b (rest_of p.rest).target e
+      admitted-at-was row (stage.Waiting b) e = admitted-with-was row b (front_rest p.rest).target e
       admitted-at-was row _ e = let no : None ≡ Some given = e in absurd cc
 
       admitted-by-was : (q : Option FrontRow) → admitted_by env p choice q ≡ Some given → Sent given.1.messages
@@ -207,7 +207,7 @@ Nothing x = Unit {0}
 
 module _ (k : Setting) where
   abbrev Keeps : Conn → Move → Type 0
-  Keeps x v = MayMove Nothing x → ForwardsWere x → ForwardsWere (grown x v)
+  Keeps x v = MayRestOn Nothing x → ForwardsWere x → ForwardsWere (grown x v)
 
   -- what goes out was so, with all that was sent before
   grows : (x : Conn) (v : Move) → Each (ForwardWas x.c (x.letters ++ letters_of v)) (letters_of v) → ForwardsWere x → ForwardsWere (grown x v)
@@ -225,7 +225,7 @@ module _ (k : Setting) where
   from-front x ls [] h = tt
   from-front x ls (p ∷ ps) h = (h.0, from-front x ls ps h.1)
 
-  front-rule : (x : Conn) (heads : List Seen) (d : Deed) → (R : ControlBlock → Type 0) → fronts.DeedHas R AnyReply x.c d → ((ls : List Letter) → ((l : Letter) → Has l x.letters → Has l ls) → DeedWas x.c ls d) → Keeps x (front_does x heads d)
+  front-rule : (x : Conn) (heads : List Seen) (d : FrontDeed) → (R : ControlBlock → Type 0) → fronts.DeedHas R AnyReply x.c d → ((ls : List Letter) → ((l : Letter) → Has l x.letters → Has l ls) → DeedWas x.c ls d) → Keeps x (front_does x heads d)
   front-rule x heads Drops R told was may h = grows x (front_does x heads Drops) tt h
   front-rule x heads (Says turn) R told was may h =
       let v : Move = front_does x heads (Says turn) in
@@ -236,7 +236,7 @@ module _ (k : Setting) where
       let ls : List Letter = x.letters ++ letters_of v in
       grows x v (Each-append (ForwardWas x.c ls) (map (letter Front) did.turn.segments) (map (letter Front) did.turn.messages) (told-were x.c ls x.c Anything did.turn.segments told.1.1) (from-front x ls did.turn.messages (was ls (λ l has. has-before l x.letters (letters_of v) has)))) h
 
-  own-number : (x : Conn) (env : FrontEnv) → IsFrontEnv k x.c env → (d : Deed) → fronts.DeedHas AnyBlock AnyReply env.serve.c d → fronts.DeedHas AnyBlock AnyReply x.c d
+  own-number : (x : Conn) (env : FrontEnv) → IsFrontEnv k x.c env → (d : FrontDeed) → fronts.DeedHas AnyBlock AnyReply env.serve.c d → fronts.DeedHas AnyBlock AnyReply x.c d
   own-number x env is d f = subst (λ (c : ℕ). fronts.DeedHas AnyBlock AnyReply c d) is.number f
 
   gets-told : (x : Conn) (env : FrontEnv) (bytes : List ℕ) (r : Result Said SegFault) → fronts.DeedHas AnyBlock AnyReply env.serve.c (front_gets env x.part.front bytes r)
@@ -281,7 +281,7 @@ module _ (k : Setting) where
     go (Node n) to differs = tt
     go (Client d) to differs = tt
 
-  node-rule : (x : Conn) (n : ℕ) (heads : List Seen) (d : node.Deed) → Keeps x (node_does x n heads d)
+  node-rule : (x : Conn) (n : ℕ) (heads : List Seen) (d : node.NodeDeed) → Keeps x (node_does x n heads d)
   node-rule x n heads node.Drops may h = grows x (node_does x n heads node.Drops) tt h
   node-rule x n heads (node.Says ms) may h = grows x (node_does x n heads (node.Says ms)) (other-from x _ (Node n) (λ e. cc) ms) h
   node-rule x n heads (node.Does given) may h =
@@ -305,7 +305,7 @@ module _ (k : Setting) where
     acknowledged = λ x n epoch env bytes is spells was. node-rule x n (packet_seen Front (Node n) bytes) (node_acknowledged env (x.part.nodes n));
     read = λ x n epoch r env path is. node-rule x n [] (node_read env (x.part.nodes n) r);
     fires = λ x s n env there is. node-rule x n (event_seen (event.Timer (Node n) x.c)) (node_timer env (x.part.nodes n));
-    answers = λ x n from epoch r path file bytes there spells was. still-rule x (stands x (Node n) (packet_seen (Node from) (Node n) bytes) (contents k n from x.c epoch r path)) (λ ls. (tt, tt));
+    answers = λ x n from epoch r path file bytes there spells was. still-rule x (stands x (Node n) (packet_seen (Node from) (Node n) bytes) (content_said k n from x.c epoch r path)) (λ ls. (tt, tt));
     queues = λ x n from epoch r path file bytes there spells was. still-rule x (stands x (Node n) (packet_seen (Node from) (Node n) bytes) (record nothing_said { notes = rec.Queued n from x.c r path ∷ [] })) (λ ls. tt);
     brings = λ x n from epoch r path. still-rule x (stands x (Node n) [] (brought_said k n from x.c epoch r path)) (λ ls. (tt, tt));
   }

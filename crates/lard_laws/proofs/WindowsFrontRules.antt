@@ -6,7 +6,7 @@ use Rattle.lard_base.specs.declared.place.Place.TheVariants.{Client, Front, Node
 use Rattle.lard_base.specs.declared.place.Reason.{Reason}
 use Rattle.lard_base.specs.declared.place.Reason.TheVariants as reason
 use Rattle.lard_laws.proofs.AcksRuns.{front-station}
-use Rattle.lard_law_connections.specs.BytesAgreement.{EndedIt, IsFair, IsFairOn, IsTruthful, SeatAgrees, StageAgrees}
+use Rattle.lard_law_connections.specs.BytesAgreement.{EndedWithNumbers, IsFair, IsFairOn, IsTruthful, SeatAgrees, StageAgrees}
 use Rattle.lard_law_connections.proofs.BytesClientMoves.{has-fair}
 use Rattle.lard_law_connections.proofs.PlacesTurns.{IsPlaced}
 use Rattle.lard_law_connections.specs.SilencePlaces.{FrontHas}
@@ -14,7 +14,7 @@ use Rattle.lard_law_connections.proofs.SilenceEndpoints.{Anything}
 use Rattle.lard_law_connections.proofs.SilenceFronts as fronts
 use Rattle.lard_law_connections.proofs.SilenceTurns.{IsKept}
 use Rattle.lard_law_view.specs.View.{Conn, FrontRules, IsFrontEnv, Move, Setting, Was, event_seen, front_does, grown, packet_seen}
-use Rattle.lard_laws.specs.Windows.{EndSent, FrontSent, StationReaches, WasSent}
+use Rattle.lard_laws.specs.Windows.{EndSent, FrontSent, StationReaches, SymbolsWereSent}
 use Rattle.lard_laws.proofs.WindowsEndpoints.{endpoint-law}
 use Rattle.lard_laws.proofs.WindowsMoves.{GoesOn, Home, Known, Says, front-moves, known}
 use Rattle.lard_laws.proofs.WindowsPlaces.{closed-alone, front-at, front-sent, front_sent, home-alone, unborn-alone}
@@ -67,13 +67,13 @@ module _ (k : Setting) (small : k.stream ≤ 2 ^ 30) where
     have = front-at (EndSent x.c s.client s.iss x.letters) F x.part.front.row
         (λ row b found at e.
         let same : sent ≡ b.send.nxt = front-sent x.part.front.row row b found at in
-        (e.0, omega (arith, same), (home-alone x placed row b found at, subst (WasSent x.c s.client s.iss x.letters) (sym same) e.1)))
+        (e.0, omega (arith, same), (home-alone x placed row b found at, subst (SymbolsWereSent x.c s.client s.iss x.letters) (sym same) e.1)))
         h.front
 
-    abbrev Fine : front.Deed → Type 0
+    abbrev Fine : front.FrontDeed → Type 0
     Fine d = fronts.DeedHas F G x.c d
 
-    to-own : (d : front.Deed) → fronts.DeedHas F G env.serve.c d → Fine d
+    to-own : (d : front.FrontDeed) → fronts.DeedHas F G env.serve.c d → Fine d
     to-own d f = subst (λ (c : ℕ). fronts.DeedHas F G c d) is.number f
 
     timer-fine : Fine (front_timer env x.part.front)
@@ -88,10 +88,10 @@ module _ (k : Setting) (small : k.stream ≤ 2 ^ 30) where
       listens none plain =
           let greets : sd.seq ≡ truth.talk.w.first = word.true_of.greets (and_parts sd.flags.syn _ plain).0 in
           let zero : sent ≡ 0 = ap front_sent none in
-          let was : WasSent x.c s.client s.iss x.letters 0 = subst (FrontSent x.c s.client s.iss x.letters) none h.begins in (
+          let was : SymbolsWereSent x.c s.client s.iss x.letters 0 = subst (FrontSent x.c s.client s.iss x.letters) none h.begins in (
             record { sound = listening-sound sd env.iss; irs_is = greets ∙ known.first_is k small x s there truth; iss_is = begins; bytes = []; speaks = (listening-begins truth.talk.w sd env.iss (let n = known.iss_small k small x s there truth in omega (arith, n, begins)) greets).1 },
             omega (arith, zero),
-            (unborn-alone x placed none, subst (WasSent x.c s.client s.iss x.letters) (sym zero) was),
+            (unborn-alone x placed none, subst (SymbolsWereSent x.c s.client s.iss x.letters) (sym zero) was),
           )
 
       words-reach-so : (why : Reason) (last : Final) → last.snd.0 < 2 ^ 32 → last.rcv.0 < 2 ^ 32 → Home x s h sent isn_fits → IfSome (last_words why last sd) (λ (t : Said). (d : ControlBlock) → G d t)
@@ -114,13 +114,13 @@ module _ (k : Setting) (small : k.stream ≤ 2 ^ 30) where
       closes : (row : FrontRow) (last : Final) → x.part.front.row ≡ Some row → row.stage ≡ stage.Closed last → IfSome (last_words last.reason last sd) (λ (t : Said). (d : ControlBlock) → G d t)
       closes row last found at =
           let l = truth.talk in
-          let ended : EndedIt l.w l.was_reset last = subst (StageAgrees l.w l.out l.vs truth.pend l.was_reset x.c x.part row.epoch.0) at (subst (SeatAgrees l.w l.out l.vs truth.pend l.was_reset x.c x.part) found (known.whole k small x s there truth).seat) in
+          let ended : EndedWithNumbers l.w l.was_reset last = subst (StageAgrees l.w l.out l.vs truth.pend l.was_reset x.c x.part row.epoch.0) at (subst (SeatAgrees l.w l.out l.vs truth.pend l.was_reset x.c x.part) found (known.whole k small x s there truth).seat) in
           words-reach-so last.reason last ended.snd_fits ended.rcv_fits (closed-alone x placed row last found at)
 
       gets-fine : Fine (front_gets env x.part.front bytes (Ok sd))
       gets-fine = to-own (front_gets env x.part.front bytes (Ok sd)) (fronts.gets-has env F F Anything G kept x.part.front have sd tt listens closes bytes)
 
-  front-rule : (x : Conn) (heads : List Seen) (d : front.Deed) → (Helps x (front_does x heads d) → (s : Station) → x.part.station ≡ Some s → StationReaches x s → StationReaches (grown x (front_does x heads d)) s) → Keeps x (front_does x heads d)
+  front-rule : (x : Conn) (heads : List Seen) (d : front.FrontDeed) → (Helps x (front_does x heads d) → (s : Station) → x.part.station ≡ Some s → StationReaches x s → StationReaches (grown x (front_does x heads d)) s) → Keeps x (front_does x heads d)
   front-rule x heads d f help h = by-station x (front_does x heads d) (front-station x heads d) (f help) h
 
   front-hears : (x : Conn) (t : Station) (env : front.FrontEnv) (bytes : List ℕ) → x.part.station ≡ Some t → IsFrontEnv k x.c env → env.iss ≡ t.iss → Was x (Client x.c) Front bytes

@@ -5,7 +5,7 @@ use Rattle.lard_base.specs.declared.place.Place.TheVariants.{Client, Front, Node
 use Rattle.lard_law_connections.proofs.SilenceTurns.{AreTold}
 use Rattle.lard_law_view.specs.View.{IsMachine, letter}
 use Rattle.lard_law_view.proofs.Saying.{AreMessages}
-use Rattle.lard_laws.specs.Windows.{BytesReach, LetterReaches, LetterReachesOn, Reaches}
+use Rattle.lard_laws.specs.Windows.{BytesReach, LetterReaches, LetterReachesOn, ReachesFar}
 use Rattle.lard_history.specs.Own.{Letter}
 use Rattle.lard_history.proofs.Each.{Each, Each-weaker}
 use Rattle.lard_segment.proofs.Again.{again}
@@ -15,7 +15,7 @@ use Rattle.lard_segment.specs.Segment.{IsSendable, Said, decoded}
 
 -- ---- as more is sent
 
-reach-more : (isn iss n m : ℕ) → n ≤ m → (s : Said) → Reaches isn iss n s → Reaches isn iss m s
+reach-more : (isn iss n m : ℕ) → n ≤ m → (s : Said) → ReachesFar isn iss n s → ReachesFar isn iss m s
 reach-more isn iss n m le s r = record { wide = r.wide; ends = λ rst some. let e = r.ends rst some in omega (arith, e, le) }
 
 module _ (c isn iss n m : ℕ) (le : n ≤ m) where
@@ -45,7 +45,7 @@ module _ (c isn iss u : ℕ) where
   from-machine (Client d) bytes m r = absurd m
 
   -- segments to the client
-  pub told-reach : (Q : Type 0) (place : Place) → IsMachine place → (ss : List (Place × List ℕ)) → AreTold c (λ (s : Said). IsSendable s × Reaches isn iss u s × Q) ss → Each (LetterReaches c isn iss u) (map (letter place) ss)
+  pub told-reach : (Q : Type 0) (place : Place) → IsMachine place → (ss : List (Place × List ℕ)) → AreTold c (λ (s : Said). IsSendable s × ReachesFar isn iss u s × Q) ss → Each (LetterReaches c isn iss u) (map (letter place) ss)
   told-reach Q place m [] told = tt
   told-reach Q place m (p ∷ ps) told = (subst (λ (to : Place). LetterReachesOn c isn iss u place to p.1) (sym told.0.0) (from-machine place p.1 m reach), told-reach Q place m ps told.1) where
     said : Said
@@ -54,7 +54,7 @@ module _ (c isn iss u : ℕ) where
     reach : BytesReach c isn iss u p.1
     reach s e =
         let same : said ≡ s = same-said said s (sym (again c ToClient said told.0.1.2.0) ∙ ap (λ l. decoded l c ToClient) (sym told.0.1.1) ∙ e) in
-        subst (λ (t : Said). Reaches isn iss u t) same told.0.1.2.1
+        subst (λ (t : Said). ReachesFar isn iss u t) same told.0.1.2.1
 
   -- messages are no segments
   to-machine : (from to : Place) (bytes : List ℕ) → IsMachine to → LetterReachesOn c isn iss u from to bytes

@@ -13,7 +13,7 @@ use Rattle.lard_law_view.specs.View as view
 use Rattle.lard_law_view.proofs.Fine.{IsItsOwn}
 use Rattle.lard_law_view.proofs.Parts.{put-each}
 use Rattle.lard_law_view.proofs.Saying.{AreMessages}
-use Rattle.lard_laws.specs.Windows.{AnyBlock, ClientReaches, EndSent, FrontSent, IsEnd, LetterReaches, StationReaches, WasSent}
+use Rattle.lard_laws.specs.Windows.{AnyBlock, ClientReaches, EndSent, FrontSent, IsEnd, LetterReaches, StationReaches, SymbolsWereSent}
 use Rattle.lard_laws.proofs.WindowsEndpoints.{Goes, Replies}
 use Rattle.lard_laws.proofs.WindowsLetters.{by-told, letters-more, messages-reach, told-reach}
 use Rattle.lard_laws.proofs.WindowsPlaces.{FrontAlone, NodeAlone, RowIsAway, away-has, front-alone, past-has}
@@ -32,14 +32,14 @@ use Rattle.lard_segment.specs.Segment.{Said}
 -- ---- a client's
 
 module _ (x : Conn) (s : Station) (z : ClientBlock) (new : List Letter) (h : StationReaches x s) (iss_is : z.send.iss ≡ s.client.send.iss)
-    (own : (u : ℕ) → Each (LetterReaches x.c z.send.iss s.iss u) new) (takes : (u : ℕ) → WasSent x.c s.client s.iss x.letters u → taken_by z ≤ u) where
+    (own : (u : ℕ) → Each (LetterReaches x.c z.send.iss s.iss u) new) (takes : (u : ℕ) → SymbolsWereSent x.c s.client s.iss x.letters u → taken_by z ≤ u) where
   abbrev all : List Letter
   all = x.letters ++ new
 
   client-letters : (u : ℕ) → Each (LetterReaches x.c s.client.send.iss s.iss u) x.letters → Each (LetterReaches x.c z.send.iss s.iss u) all
   client-letters u old = Each-append (LetterReaches x.c z.send.iss s.iss u) x.letters new (subst (λ (i : ℕ). Each (LetterReaches x.c i s.iss u) x.letters) (sym iss_is) old) (own u)
 
-  client-sent : (u : ℕ) → WasSent x.c s.client s.iss x.letters u → WasSent x.c z s.iss all u
+  client-sent : (u : ℕ) → SymbolsWereSent x.c s.client s.iss x.letters u → SymbolsWereSent x.c z s.iss all u
   client-sent u was = record { taken = takes u was; all = client-letters u was.all }
 
   client-end : (b : ControlBlock) → EndSent x.c s.client s.iss x.letters b → EndSent x.c z s.iss all b
@@ -81,7 +81,7 @@ module _ (x : Conn) (s : Station) (h : StationReaches x s) where
     old-letters : (n m : ℕ) → n ≤ m → Each (LetterReaches x.c isn s.iss n) x.letters → Each (LetterReaches x.c isn s.iss m) new → Each (LetterReaches x.c isn s.iss m) (x.letters ++ new)
     old-letters n m le old more = Each-append (LetterReaches x.c isn s.iss m) x.letters new (letters-more x.c isn s.iss n m le x.letters old) more
 
-    old-sent : (n m : ℕ) → n ≤ m → WasSent x.c s.client s.iss x.letters n → Each (LetterReaches x.c isn s.iss m) new → WasSent x.c s.client s.iss (x.letters ++ new) m
+    old-sent : (n m : ℕ) → n ≤ m → SymbolsWereSent x.c s.client s.iss x.letters n → Each (LetterReaches x.c isn s.iss m) new → SymbolsWereSent x.c s.client s.iss (x.letters ++ new) m
     old-sent n m le was more = record { taken = let t = was.taken in omega (arith, t, le); all = old-letters n m le was.all more }
 
     old-end : ((u : ℕ) → Each (LetterReaches x.c isn s.iss u) new) → (b : ControlBlock) → Old b → New b
@@ -98,7 +98,7 @@ module _ (x : Conn) (s : Station) (h : StationReaches x s) where
     old-node more p f = node-weaker Old New AnyBlock (old-end more) p f
 
   -- nothing goes out but what reaches in any case
-  pub idle-moves : (place : Place) (heads : List Seen) (said : view.Said) → ((u : ℕ) → Each (LetterReaches x.c isn s.iss u) (letters_of (stands x place heads said))) → StationReaches (grown x (stands x place heads said)) s
+  pub idle-moves : (place : Place) (heads : List Seen) (said : view.TurnSaid) → ((u : ℕ) → Each (LetterReaches x.c isn s.iss u) (letters_of (stands x place heads said))) → StationReaches (grown x (stands x place heads said)) s
   idle-moves place heads said more =
       let new : List Letter = letters_of (stands x place heads said) in
       record {
@@ -115,7 +115,7 @@ module _ (x : Conn) (s : Station) (h : StationReaches x s) where
   module _ (sent : ℕ) (small : isn < 2 ^ 32) (A : Type 0) where
     -- what is known while an endpoint is at the place
     abbrev pub Known : Type 0
-    Known = A × WasSent x.c s.client s.iss x.letters sent
+    Known = A × SymbolsWereSent x.c s.client s.iss x.letters sent
 
     abbrev pub known : Known → A
     known k = k.0
@@ -159,7 +159,7 @@ module _ (x : Conn) (s : Station) (h : StationReaches x s) where
     abbrev at_sent : ℕ → ControlBlock
     at_sent u = record nobody { send = record nobody.send { nxt = u } }
 
-    pub front-moves : (heads : List Seen) (d : front.Deed) → fronts.DeedHas (GoesOn sent small Home) (Says sent small Home) x.c d → IsItsOwn x (front_does x heads d) → StationReaches (grown x (front_does x heads d)) s
+    pub front-moves : (heads : List Seen) (d : front.FrontDeed) → fronts.DeedHas (GoesOn sent small Home) (Says sent small Home) x.c d → IsItsOwn x (front_does x heads d) → StationReaches (grown x (front_does x heads d)) s
     front-moves heads front.Drops g own = idle-moves Front heads view.nothing_said (λ u. tt)
     front-moves heads (front.Says turn) g own =
         idle-moves Front heads (view.by_front turn) (λ u. new-reach sent small Home Front tt turn.segments turn.messages own.messages (at_sent u) (g (at_sent u)))
@@ -197,7 +197,7 @@ module _ (x : Conn) (s : Station) (h : StationReaches x s) where
     abbrev pub There : Type 0
     There = NodeAlone n x.part
 
-    pub node-moves : (heads : List Seen) (d : node.Deed) → nodes.DeedHas (GoesOn sent small There) AnyBlock (Says sent small There) x.c d → IsItsOwn x (node_does x n heads d) → StationReaches (grown x (node_does x n heads d)) s
+    pub node-moves : (heads : List Seen) (d : node.NodeDeed) → nodes.DeedHas (GoesOn sent small There) AnyBlock (Says sent small There) x.c d → IsItsOwn x (node_does x n heads d) → StationReaches (grown x (node_does x n heads d)) s
     node-moves heads node.Drops g own = idle-moves (Node n) heads view.nothing_said (λ u. tt)
     node-moves heads (node.Says ms) g own = idle-moves (Node n) heads (record view.nothing_said { messages = ms }) (λ u. messages-reach x.c isn s.iss u (Node n) ms own.messages)
     node-moves heads (node.Does given) g own = record {

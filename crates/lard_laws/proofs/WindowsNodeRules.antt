@@ -4,7 +4,7 @@ use Rattle.lard_base.specs.declared.event.Event.TheVariants as event
 use Rattle.lard_base.specs.declared.parts.EndpointParts.{EndpointParts}
 use Rattle.lard_base.specs.declared.place.Place.{Place}
 use Rattle.lard_base.specs.declared.place.Place.TheVariants.{Front, Node}
-use Rattle.lard_rules.specs.Bounds.{IsNumber}
+use Rattle.lard_rules.specs.Bounds.{IsConnNumber}
 use Rattle.lard_laws.proofs.AcksRuns.{node-station}
 use Rattle.lard_law_connections.specs.BytesAgreement.{IsTruthful}
 use Rattle.lard_law_connections.proofs.PlacesTurns.{IsPlaced}
@@ -12,9 +12,9 @@ use Rattle.lard_law_connections.specs.SilencePlaces.{NodeHas}
 use Rattle.lard_law_connections.proofs.SilenceEndpoints.{Anything}
 use Rattle.lard_law_connections.proofs.SilenceNodes as nodes
 use Rattle.lard_law_connections.proofs.SilenceTurns.{IsKept}
-use Rattle.lard_law_view.specs.View.{Conn, IsNodeEnv, Move, NodeRules, Said as SaidIn, Setting, Spells, Was, brought_said, contents, event_seen, grown, letters_of, node_does, nothing_said, packet_seen, reads_first, stands}
+use Rattle.lard_law_view.specs.View.{Conn, IsNodeEnv, Move, NodeRules, TurnSaid as SaidIn, Setting, SpellsMessage, Was, brought_said, content_said, event_seen, grown, letters_of, node_does, nothing_said, packet_seen, reads_first, stands}
 use Rattle.lard_law_view.proofs.Fine.{IsItsOwn}
-use Rattle.lard_laws.specs.Windows.{AnyBlock, EndSent, LetterReaches, StationReaches, WasSent}
+use Rattle.lard_laws.specs.Windows.{AnyBlock, EndSent, LetterReaches, StationReaches, SymbolsWereSent}
 use Rattle.lard_laws.proofs.WindowsEndpoints.{endpoint-law}
 use Rattle.lard_laws.proofs.WindowsMoves.{GoesOn, Known, Says, There, idle-moves, known, node-moves}
 use Rattle.lard_laws.proofs.WindowsOffers.{Adopts, adopts}
@@ -58,7 +58,7 @@ module _ (k : Setting) (small : k.stream ≤ 2 ^ 30) where
       node-kept epoch env is = endpoint-law s.client.send.iss s.iss u (known.isn_small k small x s there truth) (Known x s h u (known.isn_small k small x s there truth) (There x s h n u (known.isn_small k small x s there truth)))
           (There x s h n u (known.isn_small k small x s there truth)) (known x s h u (known.isn_small k small x s there truth) (There x s h n u (known.isn_small k small x s there truth))) env.serve (subst (λ (m : ℕ). m ≤ 2 ^ 30) (sym is.stream) small)
 
-      node-own : (epoch : ℕ) (env : NodeEnv) → IsNodeEnv k x.c n epoch env → (d : node.Deed) → nodes.DeedHas N AnyBlock M env.serve.c d → nodes.DeedHas N AnyBlock M x.c d
+      node-own : (epoch : ℕ) (env : NodeEnv) → IsNodeEnv k x.c n epoch env → (d : node.NodeDeed) → nodes.DeedHas N AnyBlock M env.serve.c d → nodes.DeedHas N AnyBlock M x.c d
       node-own epoch env is d f = subst (λ (c : ℕ). nodes.DeedHas N AnyBlock M c d) is.number f
 
     abbrev at : ℕ
@@ -68,24 +68,24 @@ module _ (k : Setting) (small : k.stream ≤ 2 ^ 30) where
     node-have = node-at (EndSent x.c s.client s.iss x.letters) (N at) AnyBlock (x.part.nodes n)
         (λ row b found is e.
         let same : at ≡ b.send.nxt = node-sent (x.part.nodes n).row row b found is in
-        (e.0, omega (arith, same), (here-alone x placed n row b found is, subst (WasSent x.c s.client s.iss x.letters) (sym same) e.1)))
+        (e.0, omega (arith, same), (here-alone x placed n row b found is, subst (SymbolsWereSent x.c s.client s.iss x.letters) (sym same) e.1)))
         (h.nodes n)
 
     -- what is adopted from an Offer
-    node-adopts : IsNumber x.c → (epoch : ℕ) (parts : EndpointParts) (bytes : List ℕ) → Spells x.c epoch (body.Offer parts) bytes → Was x Front (Node n) bytes → offer_answer epoch (x.part.nodes n).row ≡ New → N parts.una (adopted parts)
+    node-adopts : IsConnNumber x.c → (epoch : ℕ) (parts : EndpointParts) (bytes : List ℕ) → SpellsMessage x.c epoch (body.Offer parts) bytes → Was x Front (Node n) bytes → offer_answer epoch (x.part.nodes n).row ≡ New → N parts.una (adopted parts)
     node-adopts number epoch parts bytes spells was new =
         let a : Adopts k.files x number placed s truth.talk truth.pend (known.whole k small x s there truth) h n epoch parts bytes spells was new = adopts k.files x number placed s truth.talk truth.pend (known.whole k small x s there truth) h n epoch parts bytes spells was new in
         (a.end, omega arith, (a.alone, a.sent))
 
     -- what it does
-    node-does-it : (u : ℕ) (heads : List Seen) (d : node.Deed) → nodes.DeedHas (N u) AnyBlock (M u) x.c d → IsItsOwn x (node_does x n heads d) → StationReaches (grown x (node_does x n heads d)) s
+    node-does-it : (u : ℕ) (heads : List Seen) (d : node.NodeDeed) → nodes.DeedHas (N u) AnyBlock (M u) x.c d → IsItsOwn x (node_does x n heads d) → StationReaches (grown x (node_does x n heads d)) s
     node-does-it u heads d f own = node-moves x s h n u (known.isn_small k small x s there truth) heads d f own
 
-  node-rule : (x : Conn) (n : ℕ) (heads : List Seen) (d : node.Deed) → (Helps x (node_does x n heads d) → (s : Station) → x.part.station ≡ Some s → StationReaches x s → StationReaches (grown x (node_does x n heads d)) s) → Keeps x (node_does x n heads d)
+  node-rule : (x : Conn) (n : ℕ) (heads : List Seen) (d : node.NodeDeed) → (Helps x (node_does x n heads d) → (s : Station) → x.part.station ≡ Some s → StationReaches x s → StationReaches (grown x (node_does x n heads d)) s) → Keeps x (node_does x n heads d)
   node-rule x n heads d f help h = by-station x (node_does x n heads d) (node-station x n heads d) (f help) h
 
   -- a stay that goes on
-  stay-rule : (x : Conn) (n epoch : ℕ) (env : NodeEnv) (heads : List Seen) (d : node.Deed) → IsNodeEnv k x.c n epoch env
+  stay-rule : (x : Conn) (n epoch : ℕ) (env : NodeEnv) (heads : List Seen) (d : node.NodeDeed) → IsNodeEnv k x.c n epoch env
       → ((P R : ControlBlock → Type 0) (Reply : ControlBlock → Said → Type 0) → IsKept env.serve P R Anything Reply → NodeHas R AnyBlock (x.part.nodes n) → nodes.DeedHas R AnyBlock Reply env.serve.c d) → Keeps x (node_does x n heads d)
   stay-rule x n epoch env heads d is f = node-rule x n heads d (λ help s there h.
       let u = at x s there help.truth help.placed h n in
@@ -118,7 +118,7 @@ module _ (k : Setting) (small : k.stream ≤ 2 ^ 30) where
     read = λ x n epoch r env path is. read-rule x n epoch r env path is;
     fires = λ x s n env there is. stay-rule x n _ env (event_seen (event.Timer (Node n) x.c)) (node_timer env (x.part.nodes n)) is
         (λ P R Reply kept h. nodes.timer-has env P R AnyBlock Anything Reply kept (x.part.nodes n) h);
-    answers = λ x n from epoch r path file bytes there spells was. stands-rule x (Node n) (packet_seen (Node from) (Node n) bytes) (contents k n from x.c epoch r path) (λ c isn iss u. (tt, tt));
+    answers = λ x n from epoch r path file bytes there spells was. stands-rule x (Node n) (packet_seen (Node from) (Node n) bytes) (content_said k n from x.c epoch r path) (λ c isn iss u. (tt, tt));
     queues = λ x n from epoch r path file bytes there spells was. stands-rule x (Node n) (packet_seen (Node from) (Node n) bytes) (record nothing_said { notes = rec.Queued n from x.c r path ∷ [] }) (λ c isn iss u. tt);
     brings = λ x n from epoch r path. stands-rule x (Node n) [] (brought_said k n from x.c epoch r path) (λ c isn iss u. (tt, tt));
   } where
@@ -129,7 +129,7 @@ module _ (k : Setting) (small : k.stream ≤ 2 ^ 30) where
     read-rule : (x : Conn) (n epoch r : ℕ) (env : NodeEnv) (path : List ℕ) → IsNodeEnv k x.c n epoch env → Keeps x (reads_first (rec.Read n n x.c r path) (node_does x n [] (node_read env (x.part.nodes n) r)))
     read-rule x n epoch r env path is help h = by-station x (reads_first (rec.Read n n x.c r path) (node_does x n [] (node_read env (x.part.nodes n) r))) (node-station x n [] (node_read env (x.part.nodes n) r)) (λ s there g.
         let u = at x s there help.truth help.placed g n in
-        let d : node.Deed = node_read env (x.part.nodes n) r in
+        let d : node.NodeDeed = node_read env (x.part.nodes n) r in
         again-read x s n epoch r env path (node-moves x s g n u (known.isn_small k small x s there help.truth) [] d
         (node-own x s there help.truth help.placed g n u epoch env is d
         (nodes.read-has env (N x s there help.truth help.placed g n u) (N x s there help.truth help.placed g n u) AnyBlock Anything (M x s there help.truth help.placed g n u) (node-kept x s there help.truth help.placed g n u epoch env is) (x.part.nodes n)

@@ -6,7 +6,7 @@ use Rattle.lard_arrival.specs.Arrival.{seg_len}
 use Rattle.lard_base.specs.declared.parts.EndpointParts.{EndpointParts}
 use Rattle.lard_base.specs.declared.place.Place.{Place}
 use Rattle.lard_base.specs.declared.place.Place.TheVariants.{Client, Front, Node}
-use Rattle.lard_rules.specs.Bounds.{IsNumber}
+use Rattle.lard_rules.specs.Bounds.{IsConnNumber}
 use Rattle.lard_laws.proofs.AcksOffers.{IsOfferOf, adopted-between, offer-is}
 use Rattle.lard_law_connections.specs.BytesAgreement.{IsFair, IsFairOn, IsOpen}
 use Rattle.lard_law_connections.specs.Places.{IsDecided, IsOffered, Offers}
@@ -14,8 +14,8 @@ use Rattle.lard_law_connections.proofs.PlacesFrontMessages.{came-says}
 use Rattle.lard_law_connections.proofs.PlacesTurns.{IsPlaced}
 use Rattle.lard_law_connections.proofs.SilenceEndpoints.{adopted-turns}
 use Rattle.lard_law_connections.proofs.SilenceRuns.{offer-valid}
-use Rattle.lard_law_view.specs.View.{Conn, Part, Spells, Was}
-use Rattle.lard_laws.specs.Windows.{IsEnd, LetterReaches, LetterReachesOn, StationReaches, WasSent}
+use Rattle.lard_law_view.specs.View.{Conn, Part, SpellsMessage, Was}
+use Rattle.lard_laws.specs.Windows.{IsEnd, LetterReaches, LetterReachesOn, StationReaches, SymbolsWereSent}
 use Rattle.lard_laws.proofs.WindowsClients.{taken-most}
 use Rattle.lard_laws.proofs.WindowsPlaces.{NodeAlone, offered-alone}
 use Rattle.lard_endpoint.specs.Moving.{adopted}
@@ -133,12 +133,12 @@ module _ (k : Talk) (c : ℕ) (p : Part) (isn iss most : ℕ) (going : k.out.end
 
 -- ---- what is adopted
 
-module _ (files : FilesAt) (x : Conn) (number : IsNumber x.c) (at_place : IsPlaced x) (s : Station) (l : Talk) (pend : List Verdict) (o : IsOpen files x l pend s) (h : StationReaches x s)
-    (n epoch : ℕ) (parts : EndpointParts) (bytes : List ℕ) (spells : Spells x.c epoch (body.Offer parts) bytes) (was : Was x Front (Node n) bytes) (new : offer_answer epoch (x.part.nodes n).row ≡ New) where
+module _ (files : FilesAt) (x : Conn) (number : IsConnNumber x.c) (at_place : IsPlaced x) (s : Station) (l : Talk) (pend : List Verdict) (o : IsOpen files x l pend s) (h : StationReaches x s)
+    (n epoch : ℕ) (parts : EndpointParts) (bytes : List ℕ) (spells : SpellsMessage x.c epoch (body.Offer parts) bytes) (was : Was x Front (Node n) bytes) (new : offer_answer epoch (x.part.nodes n).row ≡ New) where
   -- it is an endpoint of the connection, which sent all that there was; and no other place has it
   pub record Adopts : Type 0 where
     pub end : IsEnd s.client.send.iss s.iss (adopted parts)
-    pub sent : WasSent x.c s.client s.iss x.letters parts.una
+    pub sent : SymbolsWereSent x.c s.client s.iss x.letters parts.una
     pub alone : NodeAlone n x.part
 
   isn_is : l.w.first ≡ s.client.send.iss

@@ -1,11 +1,11 @@
 -- What is known of a connection whose client opened, beside how far its windows reach.
 use Rattle.std.proofs.Common.{◌≡◌, ◌≤◌, ◌<◌, ◌^◌, Option, Some, None, refl, sym, ap, ◌∙◌, subst, arith}
-use Rattle.lard_client.specs.Control.{opened}
-use Rattle.lard_rules.specs.Bounds.{IsNumber}
+use Rattle.lard_client.specs.Control.{client_opened}
+use Rattle.lard_rules.specs.Bounds.{IsConnNumber}
 use Rattle.lard_law_connections.specs.BytesAgreement.{IsOpen, IsTruthful}
 use Rattle.lard_law_connections.proofs.BytesClientMoves.{open-at}
 use Rattle.lard_law_connections.proofs.PlacesTurns.{IsPlaced}
-use Rattle.lard_law_view.specs.View.{Conn, IsSound, Move, Setting, grown}
+use Rattle.lard_law_view.specs.View.{Conn, IsConnSound, Move, Setting, grown}
 use Rattle.lard_law_view.proofs.Fine.{IsItsOwn}
 use Rattle.lard_laws.specs.Windows.{IsReaching, ReachesOn, StationReaches}
 use Rattle.lard_rules.specs.declared.places.Station.{Station}
@@ -22,8 +22,8 @@ by-station x v same opened h = go x.part.station refl h where
 module _ (k : Setting) (small : k.stream ≤ 2 ^ 30) where
   -- what is known beside the windows
   pub record Helps (x : Conn) (v : Move) : Type 0 where
-    pub number : IsNumber x.c
-    pub sound : IsSound x
+    pub number : IsConnNumber x.c
+    pub sound : IsConnSound x
     pub placed : IsPlaced x
     pub truth : IsTruthful k.files x
     pub own : IsItsOwn x v

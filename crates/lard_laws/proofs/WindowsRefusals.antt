@@ -5,14 +5,14 @@ use Rattle.lard_arrival.specs.Arrival.{seg_len}
 use Rattle.lard_base.specs.declared.place.Place.{Place}
 use Rattle.lard_base.specs.declared.place.Place.TheVariants.{Client, Front, Node}
 use Rattle.lard_laws.specs.Acks.{LetterActs, OpenActs, bounds_of}
-use Rattle.lard_law_connections.specs.BytesAgreement.{ConnAgrees, IsFair, IsFairOn, IsInner, IsNode, IsOpen, IsTruthful, IsUnopened}
+use Rattle.lard_law_connections.specs.BytesAgreement.{ConnAgrees, IsFair, IsFairOn, IsInner, IsNodePlace, IsOpen, IsTruthful, IsConnUnopened}
 use Rattle.lard_law_connections.proofs.BytesClientMoves.{has-fair, open-at}
 use Rattle.lard_law_connections.proofs.BytesRuns.{states-truthful}
 use Rattle.lard_law_view.specs.Carry.{setting}
 use Rattle.lard_law_view.specs.View.{Conn, Setting}
 use Rattle.lard_law_view.proofs.Carried.{carried}
 use Rattle.lard_laws.specs.WindowsLaws.{RefusalsAnswer}
-use Rattle.lard_laws.specs.WindowsRefusals.{BytesRefuse, IsRefusal, IsTurnedDown, Refuses, RefusesOn, RefusesSegments}
+use Rattle.lard_laws.specs.WindowsRefusals.{BytesRefuse, IsRefusal, IsTurnedDown, RefusesLetter, RefusesOn, RefusesSegments}
 use Rattle.lard_answers.specs.Answers.{FilesAt}
 use Rattle.lard_history.specs.Own.{Has, Letter}
 use Rattle.lard_history.proofs.Each.{Each, Each-weaker}
@@ -24,7 +24,7 @@ use Rattle.lard_rules.specs.Tombstone.{refusal}
 use Rattle.lard_segment.proofs.Again.{again}
 use Rattle.lard_segment.specs.declared.segment.Dir.TheVariants.{ToClient, ToCluster}
 use Rattle.lard_segment.specs.declared.segment.Flags.{Flags}
-use Rattle.lard_segment.specs.Fields.{flag_byte}
+use Rattle.lard_segment.specs.Fields.{flags_byte}
 use Rattle.lard_segment.specs.Segment.{IsSendable, Said, decoded, spelled}
 use Rattle.lard_seq.specs.Seq.{seq_add}
 use Rattle.lard_laws.proofs.WindowsLetters.{same-said}
@@ -33,7 +33,7 @@ use Rattle.lard_laws.proofs.WindowsRefusing.{IsRefused, LetterIs, Nothing, Repli
 -- ---- what is read of it
 
 -- the flags stand in one byte
-pub flags-spelled : (c : ℕ) (s t : Said) → spelled c ToClient s ≡ spelled c ToClient t → flag_byte s.flags ≡ flag_byte t.flags
+pub flags-spelled : (c : ℕ) (s t : Said) → spelled c ToClient s ≡ spelled c ToClient t → flags_byte s.flags ≡ flags_byte t.flags
 unfolding spelled
 flags-spelled c s t e = ap (λ (b : List ℕ). slice_index b 13) e
 
@@ -41,7 +41,7 @@ bit : (b : Bool) (n : ℕ) → cond {A = ℕ} b n 0 ≤ n
 bit true n = omega arith
 bit false n = omega arith
 
-pub ack-same : (f g : Flags) → flag_byte f ≡ flag_byte g → f.ack ≡ true → g.ack ≡ false → ⊥
+pub ack-same : (f g : Flags) → flags_byte f ≡ flags_byte g → f.ack ≡ true → g.ack ≡ false → ⊥
 ack-same f g same set clear =
     let a : ◌≡◌ {A = ℕ} (cond {A = ℕ} f.ack 16 0) 16 = ap (λ b. cond {A = ℕ} b 16 0) set in
     let z : ◌≡◌ {A = ℕ} (cond {A = ℕ} g.ack 16 0) 0 = ap (λ b. cond {A = ℕ} b 16 0) clear in
@@ -92,14 +92,14 @@ module _ (files : FilesAt) (x : Conn) (s : Station) (there : x.part.station ≡ 
   on-place (Node j) Front bytes f r = tt
   on-place (Node j) (Node k) bytes f r = tt
 
-  letters-refuse : (ls : List Letter) → Each (IsFair l x.c x.part) ls → Each (LetterIs x.c x.letters) ls → Each (Refuses x.c x.letters) ls
+  letters-refuse : (ls : List Letter) → Each (IsFair l x.c x.part) ls → Each (LetterIs x.c x.letters) ls → Each (RefusesLetter x.c x.letters) ls
   letters-refuse [] f r = tt
   letters-refuse (m ∷ ms) f r = (on-place m.from m.to m.bytes f.0 r.0, letters-refuse ms f.1 r.1)
 
 -- before its client opened, there are none
-inner-refuse : (c : ℕ) (all ls : List Letter) → Each IsInner ls → Each (Refuses c all) ls
-inner-refuse c all ls h = Each-weaker IsInner (Refuses c all) (λ l i. go l.from l.to l.bytes i.1) ls h where
-  go : (from to : Place) (bytes : List ℕ) → IsNode to → RefusesOn c all from to bytes
+inner-refuse : (c : ℕ) (all ls : List Letter) → Each IsInner ls → Each (RefusesLetter c all) ls
+inner-refuse c all ls h = Each-weaker IsInner (RefusesLetter c all) (λ l i. go l.from l.to l.bytes i.1) ls h where
+  go : (from to : Place) (bytes : List ℕ) → IsNodePlace to → RefusesOn c all from to bytes
   go Front (Node n) bytes i = tt
   go (Node m) (Node n) bytes i = tt
   go (Client d) (Node n) bytes i = tt
@@ -109,7 +109,7 @@ inner-refuse c all ls h = Each-weaker IsInner (Refuses c all) (λ l i. go l.from
 by-truth : (files : FilesAt) (x : Conn) → IsTruthful files x → RepliesAre x → RefusesSegments x
 by-truth files x truth h = go x.part.station refl where
   go : (q : Option Station) → x.part.station ≡ q → RefusesSegments x
-  go None none = let u : IsUnopened x = subst (ConnAgrees files x truth.talk truth.pend) none truth.agrees in inner-refuse x.c x.letters x.letters u.inner
+  go None none = let u : IsConnUnopened x = subst (ConnAgrees files x truth.talk truth.pend) none truth.agrees in inner-refuse x.c x.letters x.letters u.inner
   go (Some s) there = letters-refuse files x s there truth x.letters (open-at files x s there truth).fair h
 
 -- In every state that events lead to.

@@ -11,8 +11,8 @@ use Rattle.lard_law_connections.proofs.SilenceEndpoints.{Anything}
 use Rattle.lard_law_connections.proofs.SilenceFronts as fronts
 use Rattle.lard_law_connections.proofs.SilenceNodes as nodes
 use Rattle.lard_law_connections.proofs.SilenceTurns.{AreTold, IsKept, nobody}
-use Rattle.lard_law_view.specs.Carry.{IsLaw, MayMove}
-use Rattle.lard_law_view.specs.View.{ClientRules, Conn, FrontRules, IsFrontEnv, IsMachine, IsNodeEnv, Move, NodeRules, Rules, Setting, brought_said, client_begins, client_does, contents, event_seen, front_does, grown, inject_seen, letter, letters_of, node_does, nothing_said, packet_seen, reads_first, stands}
+use Rattle.lard_law_view.specs.Carry.{IsLaw, MayRestOn}
+use Rattle.lard_law_view.specs.View.{ClientRules, Conn, FrontRules, IsFrontEnv, IsMachine, IsNodeEnv, Move, NodeRules, Rules, Setting, brought_said, client_begins, client_does, content_said, event_seen, front_does, grown, inject_seen, letter, letters_of, node_does, nothing_said, packet_seen, reads_first, stands}
 use Rattle.lard_law_view.proofs.Fine.{IsFine, IsItsOwn, fine}
 use Rattle.lard_law_view.proofs.Guarded.{both, weaker}
 use Rattle.lard_law_view.proofs.Saying.{AreMessages}
@@ -213,12 +213,12 @@ module _ (k : Setting) where
 
   -- ---- the front end
 
-  front-rule : (x : Conn) (heads : List Seen) (d : front.Deed) → fronts.DeedHas AnyBlock (Says x.c x.letters) x.c d → Keeps x (front_does x heads d)
+  front-rule : (x : Conn) (heads : List Seen) (d : front.FrontDeed) → fronts.DeedHas AnyBlock (Says x.c x.letters) x.c d → Keeps x (front_does x heads d)
   front-rule x heads front.Drops told own h = grows x (front_does x heads front.Drops) tt h
   front-rule x heads (front.Says turn) told own h = grows x (front_does x heads (front.Says turn)) (goes-out x Front tt turn.segments turn.messages (told nobody) own.messages) h
   front-rule x heads (front.Does did) told own h = grows x (front_does x heads (front.Does did)) (goes-out x Front tt did.turn.segments did.turn.messages told.1.1 own.messages) h
 
-  own-number : (x : Conn) (env : front.FrontEnv) → IsFrontEnv k x.c env → (d : front.Deed) → fronts.DeedHas AnyBlock (Says x.c x.letters) env.serve.c d → fronts.DeedHas AnyBlock (Says x.c x.letters) x.c d
+  own-number : (x : Conn) (env : front.FrontEnv) → IsFrontEnv k x.c env → (d : front.FrontDeed) → fronts.DeedHas AnyBlock (Says x.c x.letters) env.serve.c d → fronts.DeedHas AnyBlock (Says x.c x.letters) x.c d
   own-number x env is d f = subst (λ (c : ℕ). fronts.DeedHas AnyBlock (Says x.c x.letters) c d) is.number f
 
   front-rules : FrontRules k Keeps
@@ -237,9 +237,9 @@ module _ (k : Setting) where
 
   -- ---- the nodes
 
-  node-rule : (x : Conn) (n epoch : ℕ) (env : NodeEnv) (heads : List Seen) (d : node.Deed) → IsNodeEnv k x.c n epoch env → nodes.DeedHas AnyBlock AnyBlock (Says x.c x.letters) env.serve.c d → Keeps x (node_does x n heads d)
+  node-rule : (x : Conn) (n epoch : ℕ) (env : NodeEnv) (heads : List Seen) (d : node.NodeDeed) → IsNodeEnv k x.c n epoch env → nodes.DeedHas AnyBlock AnyBlock (Says x.c x.letters) env.serve.c d → Keeps x (node_does x n heads d)
   node-rule x n epoch env heads d is f own h = go d (subst (λ (c : ℕ). nodes.DeedHas AnyBlock AnyBlock (Says x.c x.letters) c d) is.number f) own where
-    go : (d : node.Deed) → nodes.DeedHas AnyBlock AnyBlock (Says x.c x.letters) x.c d → IsItsOwn x (node_does x n heads d) → RepliesAre (grown x (node_does x n heads d))
+    go : (d : node.NodeDeed) → nodes.DeedHas AnyBlock AnyBlock (Says x.c x.letters) x.c d → IsItsOwn x (node_does x n heads d) → RepliesAre (grown x (node_does x n heads d))
     go node.Drops told own = grows x (node_does x n heads node.Drops) tt h
     go (node.Says ms) told own = grows x (node_does x n heads (node.Says ms)) (messages-are x.c x.letters (Node n) ms own.messages) h
     go (node.Does given) told own = grows x (node_does x n heads (node.Does given)) (goes-out x (Node n) tt given.1.segments given.1.messages told.1.1 own.messages) h
@@ -263,7 +263,7 @@ module _ (k : Setting) where
         (nodes.read-has env AnyBlock AnyBlock AnyBlock Anything (Says x.c x.letters) (says-kept x.c x.letters env.serve) (x.part.nodes n) (any-node (x.part.nodes n)) r) (read-own x n r env path own) h;
     fires = λ x s n env there is. node-rule x n _ env (event_seen (event.Timer (Node n) x.c)) (node_timer env (x.part.nodes n)) is
         (nodes.timer-has env AnyBlock AnyBlock AnyBlock Anything (Says x.c x.letters) (says-kept x.c x.letters env.serve) (x.part.nodes n) (any-node (x.part.nodes n)));
-    answers = λ x n from epoch r path file bytes there spells was. still-rule x (stands x (Node n) (packet_seen (Node from) (Node n) bytes) (contents k n from x.c epoch r path)) (λ ls. (tt, tt));
+    answers = λ x n from epoch r path file bytes there spells was. still-rule x (stands x (Node n) (packet_seen (Node from) (Node n) bytes) (content_said k n from x.c epoch r path)) (λ ls. (tt, tt));
     queues = λ x n from epoch r path file bytes there spells was. still-rule x (stands x (Node n) (packet_seen (Node from) (Node n) bytes) (record nothing_said { notes = rec.Queued n from x.c r path ∷ [] })) (λ ls. tt);
     brings = λ x n from epoch r path. still-rule x (stands x (Node n) [] (brought_said k n from x.c epoch r path)) (λ ls. (tt, tt));
   } where
@@ -298,7 +298,7 @@ module _ (k : Setting) where
   Owed x v = IsFine x v × Keeps x v
 
   abbrev Wanted : Conn → Move → Type 0
-  Wanted x v = MayMove Nothing x → RepliesAre x → RepliesAre (grown x v)
+  Wanted x v = MayRestOn Nothing x → RepliesAre x → RepliesAre (grown x v)
 
   wanted : (x : Conn) (v : Move) → Owed x v → Wanted x v
   wanted x v owed may h = owed.1 (owed.0 may.number may.sound).0 h

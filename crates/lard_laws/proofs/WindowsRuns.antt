@@ -4,7 +4,7 @@ use Rattle.lard_law_connections.specs.BytesAgreement.{IsTruthful}
 use Rattle.lard_law_connections.proofs.BytesRuns.{states-truthful}
 use Rattle.lard_law_connections.proofs.PlacesRuns.{each-placed}
 use Rattle.lard_law_connections.proofs.PlacesTurns.{IsPlaced}
-use Rattle.lard_law_view.specs.Carry.{IsUntouchedLaw, MayMove, Untouched, setting, tale_at}
+use Rattle.lard_law_view.specs.Carry.{IsUntouchedLaw, MayRestOn, Untouched, setting, tale_at}
 use Rattle.lard_law_view.specs.View.{Conn, Move, Setting, UntouchedRules, grown, nothing_said, packet_seen}
 use Rattle.lard_law_view.proofs.Carried.{carried}
 use Rattle.lard_law_view.proofs.Fine.{IsFine, fine}
@@ -35,7 +35,7 @@ module _ (k : Setting) (small : k.stream ≤ 2 ^ 30) where
   Given x = IsPlaced x × Untouched (IsTruthful k.files) x
 
   abbrev Wanted : Conn → Move → Type 0
-  Wanted x v = MayMove Given x → (tale_at x).touched ≡ false → IsReaching x → IsReaching (grown x v)
+  Wanted x v = MayRestOn Given x → (tale_at x).touched ≡ false → IsReaching x → IsReaching (grown x v)
 
   abbrev Owed : Conn → Move → Type 0
   Owed x v = IsFine x v × Keeps x v

@@ -4,18 +4,18 @@ use Rattle.lard_base.specs.declared.config.Config.{Config}
 use Rattle.lard_base.specs.declared.event.Event.TheVariants as event
 use Rattle.lard_base.specs.declared.place.Place.{Place}
 use Rattle.lard_base.specs.declared.place.Place.TheVariants.{Client, Front, Node}
-use Rattle.lard_client.specs.Control.{ClientBlock, opened, written_len}
+use Rattle.lard_client.specs.Control.{ClientBlock, client_opened, written_len}
 use Rattle.lard_rules.specs.Bounds.{HasRule}
 use Rattle.lard_laws.proofs.AcksRuns.{front-station, node-station}
 use Rattle.lard_law_connections.specs.BytesAgreement.{IsFair, IsFairOn, IsTruthful}
 use Rattle.lard_law_connections.proofs.BytesClientMoves.{has-fair, open-at, was-between}
 use Rattle.lard_law_connections.proofs.BytesRuns.{states-truthful}
-use Rattle.lard_law_view.specs.Carry.{IsUntouchedLaw, OfEach, MayMove, Untouched, setting, tale_at}
-use Rattle.lard_law_view.specs.View.{ClientRules, Conn, FrontRules, GoesBetween, IsMachine, IsSound, Move, NodeRules, Setting, UntouchedRules, Was, brought_said, client_begins, client_does, contents, event_seen, front_does, grown, letter, letters_of, node_does, nothing_said, packet_seen, reads_first, stands}
+use Rattle.lard_law_view.specs.Carry.{IsUntouchedLaw, OfEach, MayRestOn, Untouched, setting, tale_at}
+use Rattle.lard_law_view.specs.View.{ClientRules, Conn, FrontRules, GoesBetween, IsMachine, IsConnSound, Move, NodeRules, Setting, UntouchedRules, Was, brought_said, client_begins, client_does, content_said, event_seen, front_does, grown, letter, letters_of, node_does, nothing_said, packet_seen, reads_first, stands}
 use Rattle.lard_law_view.proofs.Carried.{carried}
 use Rattle.lard_law_view.proofs.Guarded.{untouched-law, untouched-weaker}
 use Rattle.lard_laws.specs.WindowsLaws.{ClientsStart, WordsFit}
-use Rattle.lard_laws.specs.WindowsWords.{BytesFit, Fits, FitsOn, HasFittingWords, HasStarted, IsNoWord, IsNoWordOn, StartsOn, WordFits, WordFitsOn}
+use Rattle.lard_laws.specs.WindowsWords.{BytesFit, FitsClient, FitsOn, HasFittingWords, HasStarted, IsNoWord, IsNoWordOn, StartsOn, WordFits, WordFitsOn}
 use Rattle.lard_laws.proofs.WindowsWords.{IsLater, fits-later, later-self, starts-later}
 use Rattle.lard_laws.proofs.WindowsWordTurns.{Out, Turned, aborts-turned, gets-turned, holds-turned, opens-turned, shuts-turned, takes-turned, timer-turned, writes-turned}
 use Rattle.lard_rules.specs.Front as front
@@ -85,7 +85,7 @@ module _ (c d : ℕ) (x : ClientBlock) (ls : List Letter) where
     fits : BytesFit c x ls s.1
     fits t e =
         let same : said ≡ t = same-said said t (sym (again c ToCluster said h.0.1.2.0) ∙ ap (λ l. decoded l c ToCluster) (sym h.0.1.1) ∙ e) in
-        subst (λ (u : Said). Fits c x ls u) same h.0.1.2.1
+        subst (λ (u : Said). FitsClient c x ls u) same h.0.1.2.1
 
 -- what no client sent fits any client
 none-fits : (c : ℕ) (x : ClientBlock) (ls all : List Letter) → Each IsNoWord all → Each (WordFits c x ls) all
@@ -104,7 +104,7 @@ All x = HasFittingWords x × HasStarted x
 module _ (k : Setting) (small : k.stream ≤ 2 ^ 30) where
   -- what is known beside the words
   pub record Helps (x : Conn) : Type 0 where
-    pub sound : IsSound x
+    pub sound : IsConnSound x
     pub truth : IsTruthful k.files x
 
   abbrev Keeps : Conn → Move → Type 0
@@ -120,31 +120,31 @@ module _ (k : Setting) (small : k.stream ≤ 2 ^ 30) where
         (Each-append (WordFits x.c s.client (x.letters ++ letters_of v)) x.letters (letters_of v)
         (letters-later x.c s.client s.client x.letters (x.letters ++ letters_of v) (later-self s.client) (λ l has. has-before l x.letters (letters_of v) has) x.letters r) (fit x.c s.client (x.letters ++ letters_of v)))
 
-  front-rule : (x : Conn) (heads : List Seen) (d : front.Deed) → Keeps x (front_does x heads d)
+  front-rule : (x : Conn) (heads : List Seen) (d : front.FrontDeed) → Keeps x (front_does x heads d)
   front-rule x heads d = still-rule x (front_does x heads d) (front-station x heads d) (λ c y ls. fit c y ls d) (none d) where
-    fit : (c : ℕ) (y : ClientBlock) (ls : List Letter) (d : front.Deed) → Each (WordFits c y ls) (letters_of (front_does x heads d))
+    fit : (c : ℕ) (y : ClientBlock) (ls : List Letter) (d : front.FrontDeed) → Each (WordFits c y ls) (letters_of (front_does x heads d))
     fit c y ls front.Drops = tt
     fit c y ls (front.Says turn) = Each-append (WordFits c y ls) (map (letter Front) turn.segments) (map (letter Front) turn.messages) (sent-fit c y ls Front tt turn.segments) (sent-fit c y ls Front tt turn.messages)
     fit c y ls (front.Does did) = Each-append (WordFits c y ls) (map (letter Front) did.turn.segments) (map (letter Front) did.turn.messages) (sent-fit c y ls Front tt did.turn.segments) (sent-fit c y ls Front tt did.turn.messages)
 
-    none : (d : front.Deed) → Each IsNoWord (letters_of (front_does x heads d))
+    none : (d : front.FrontDeed) → Each IsNoWord (letters_of (front_does x heads d))
     none front.Drops = tt
     none (front.Says turn) = Each-append IsNoWord (map (letter Front) turn.segments) (map (letter Front) turn.messages) (sent-none Front tt turn.segments) (sent-none Front tt turn.messages)
     none (front.Does did) = Each-append IsNoWord (map (letter Front) did.turn.segments) (map (letter Front) did.turn.messages) (sent-none Front tt did.turn.segments) (sent-none Front tt did.turn.messages)
 
   -- a node's, with the record of a job before it or not
   module _ (x : Conn) (n : ℕ) where
-    fit : (c : ℕ) (y : ClientBlock) (ls : List Letter) (heads : List Seen) (d : node.Deed) → Each (WordFits c y ls) (letters_of (node_does x n heads d))
+    fit : (c : ℕ) (y : ClientBlock) (ls : List Letter) (heads : List Seen) (d : node.NodeDeed) → Each (WordFits c y ls) (letters_of (node_does x n heads d))
     fit c y ls heads node.Drops = tt
     fit c y ls heads (node.Says ms) = sent-fit c y ls (Node n) tt ms
     fit c y ls heads (node.Does given) = Each-append (WordFits c y ls) (map (letter (Node n)) given.1.segments) (map (letter (Node n)) given.1.messages) (sent-fit c y ls (Node n) tt given.1.segments) (sent-fit c y ls (Node n) tt given.1.messages)
 
-    none : (heads : List Seen) (d : node.Deed) → Each IsNoWord (letters_of (node_does x n heads d))
+    none : (heads : List Seen) (d : node.NodeDeed) → Each IsNoWord (letters_of (node_does x n heads d))
     none heads node.Drops = tt
     none heads (node.Says ms) = sent-none (Node n) tt ms
     none heads (node.Does given) = Each-append IsNoWord (map (letter (Node n)) given.1.segments) (map (letter (Node n)) given.1.messages) (sent-none (Node n) tt given.1.segments) (sent-none (Node n) tt given.1.messages)
 
-  node-rule : (x : Conn) (n : ℕ) (heads : List Seen) (d : node.Deed) → Keeps x (node_does x n heads d)
+  node-rule : (x : Conn) (n : ℕ) (heads : List Seen) (d : node.NodeDeed) → Keeps x (node_does x n heads d)
   node-rule x n heads d = still-rule x (node_does x n heads d) (node-station x n heads d) (λ c y ls. fit x n c y ls heads d) (none x n heads d)
 
   fronts : FrontRules k Keeps
@@ -165,10 +165,10 @@ module _ (k : Setting) (small : k.stream ≤ 2 ^ 30) where
     content = λ x n from epoch r env file bytes is spells was. node-rule x n (packet_seen (Node from) (Node n) bytes) (node_content env (x.part.nodes n) from r);
     acknowledged = λ x n epoch env bytes is spells was. node-rule x n (packet_seen Front (Node n) bytes) (node_acknowledged env (x.part.nodes n));
     read = λ x n epoch r env path is.
-        let d : node.Deed = node_read env (x.part.nodes n) r in
+        let d : node.NodeDeed = node_read env (x.part.nodes n) r in
         still-rule x (reads_first (rec.Read n n x.c r path) (node_does x n [] d)) (node-station x n [] d) (λ c y ls. fit x n c y ls [] d) (none x n [] d);
     fires = λ x s n env there is. node-rule x n (event_seen (event.Timer (Node n) x.c)) (node_timer env (x.part.nodes n));
-    answers = λ x n from epoch r path file bytes there spells was. still-rule x (stands x (Node n) (packet_seen (Node from) (Node n) bytes) (contents k n from x.c epoch r path)) refl (λ c y ls. (tt, tt)) (tt, tt);
+    answers = λ x n from epoch r path file bytes there spells was. still-rule x (stands x (Node n) (packet_seen (Node from) (Node n) bytes) (content_said k n from x.c epoch r path)) refl (λ c y ls. (tt, tt)) (tt, tt);
     queues = λ x n from epoch r path file bytes there spells was. still-rule x (stands x (Node n) (packet_seen (Node from) (Node n) bytes) (record nothing_said { notes = rec.Queued n from x.c r path ∷ [] })) refl (λ c y ls. tt) tt;
     brings = λ x n from epoch r path. still-rule x (stands x (Node n) [] (brought_said k n from x.c epoch r path)) refl (λ c y ls. (tt, tt)) (tt, tt);
   }
@@ -218,7 +218,7 @@ module _ (k : Setting) (small : k.stream ≤ 2 ^ 30) where
     by-gets : (from : Place) (bytes : List ℕ) (t : Said) → Was x from (Client x.c) bytes → decoded bytes x.c ToClient ≡ Ok t → t.ack < 2 ^ 32 → Turned x.c s.client x.letters (client_gets s.client (Ok t))
     by-gets from bytes t was read fits = gets-turned x.c x.letters s.client a.numbered a.sound a.wide h.talk.w.bytes a.speaks from bytes t was read fits
 
-  pub hears-turned : (x : Conn) (s : Station) (from : Place) (bytes : List ℕ) → x.part.station ≡ Some s → Was x from (Client x.c) bytes → IsSound x → IsTruthful k.files x → Turned x.c s.client x.letters (client_gets s.client (decoded bytes x.c ToClient))
+  pub hears-turned : (x : Conn) (s : Station) (from : Place) (bytes : List ℕ) → x.part.station ≡ Some s → Was x from (Client x.c) bytes → IsConnSound x → IsTruthful k.files x → Turned x.c s.client x.letters (client_gets s.client (decoded bytes x.c ToClient))
   hears-turned x s from bytes there was sound h =
       let read : decoded bytes x.c ToClient ≡ Ok fair.0 = ap (λ (b : List ℕ). decoded b x.c ToClient) fair.1 ∙ again x.c ToClient fair.0 fair.2.sendable in
       subst (λ (r : Result Said SegFault). Turned x.c s.client x.letters (client_gets s.client r)) (sym read) (by-gets x s there h from bytes fair.0 was read fair.2.sendable.ack_fits)
@@ -240,11 +240,11 @@ module _ (k : Setting) (small : k.stream ≤ 2 ^ 30) where
       let old : Each IsNoWord x.letters = subst (FitsOn x) none h0.0 in
       let new : List Letter = letters_of (client_begins x isn iss wnd mss) in
       let goes : (l : Letter) → Has l x.letters → Has l (x.letters ++ new) = λ l has. has-before l x.letters new has in
-      let t : Turned x.c (opened x.c isn wnd mss) x.letters (client_opens x.c isn wnd mss) = opens-turned x.c x.letters isn wnd mss rule.4 rule.3 rule.1 rule.2 in
+      let t : Turned x.c (client_opened x.c isn wnd mss) x.letters (client_opens x.c isn wnd mss) = opens-turned x.c x.letters isn wnd mss rule.4 rule.3 rule.1 rule.2 in
       let ss : List (Place × List ℕ) = (client_opens x.c isn wnd mss).1.segments in (
         Each-append (WordFits x.c z (x.letters ++ new)) x.letters new (none-fits x.c z (x.letters ++ new) x.letters old)
             (Each-append (WordFits x.c z (x.letters ++ new)) (map (letter (Client x.c)) ss) [] (letters-later x.c z z x.letters (x.letters ++ new) (later-self z) goes (map (letter (Client x.c)) ss) (out-fit x.c x.c z x.letters ss t.words)) tt),
-        starts-later (opened x.c isn wnd mss) z t.later (record { window = rule.0; first = λ e. omega arith }),
+        starts-later (client_opened x.c isn wnd mss) z t.later (record { window = rule.0; first = λ e. omega arith }),
       )
 
   clients : ClientRules k Keeps
@@ -275,7 +275,7 @@ module _ (k : Setting) (small : k.stream ≤ 2 ^ 30) where
   Given x = Untouched (IsTruthful k.files) x
 
   abbrev Wanted : Conn → Move → Type 0
-  Wanted x v = MayMove Given x → (tale_at x).touched ≡ false → All x → All (grown x v)
+  Wanted x v = MayRestOn Given x → (tale_at x).touched ≡ false → All x → All (grown x v)
 
   wanted : (x : Conn) (v : Move) → Keeps x v → Wanted x v
   wanted x v keeps may untouched h = keeps (record { sound = may.sound; truth = may.given untouched }) h

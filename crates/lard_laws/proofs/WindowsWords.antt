@@ -5,10 +5,10 @@ use Rattle.std.proofs.lemmas.List.{length-take}
 use Rattle.lard_arrival.specs.Arrival.{seg_len}
 use Rattle.lard_base.specs.declared.place.Place.{Place}
 use Rattle.lard_base.specs.declared.place.Place.TheVariants.{Front}
-use Rattle.lard_client.specs.Control.{ClientBlock, IsClientBlock, is_open}
-use Rattle.lard_client.specs.Leaving.{ack_ready, after_emit, after_owed, after_piece, data_ready, emitted, filled, owes, piece_ready, ready_of, syn_ready, told}
+use Rattle.lard_client.specs.Control.{ClientBlock, IsClientBlock, is_client_open}
+use Rattle.lard_client.specs.Leaving.{client_ack_ready, client_after_emit, client_after_owed, client_after_piece, data_ready, client_emitted, client_filled, client_owes, client_piece_ready, client_ready_of, syn_ready, client_told}
 use Rattle.lard_client.proofs.Windows.{emitted-tells}
-use Rattle.lard_laws.specs.WindowsWords.{Fits, Starts}
+use Rattle.lard_laws.specs.WindowsWords.{FitsClient, Starts}
 use Rattle.lard_laws.proofs.WindowsPieces.{IsSent, next-is}
 use Rattle.lard_history.specs.Own.{Has, Letter}
 use Rattle.lard_history.proofs.Each.{Each}
@@ -21,7 +21,7 @@ use Rattle.lard_segment.specs.declared.segment.Dir.TheVariants.{ToCluster}
 use Rattle.lard_segment.specs.declared.segment.Ready.{Ready}
 use Rattle.lard_segment.specs.Segment.{IsSendable, Said, spelled}
 use Rattle.lard_send.specs.declared.piece.Piece.{Piece}
-use Rattle.lard_send.specs.Send.{IsSending, Sending, acknowledged_bytes, after_ack, after_next, after_resend, closed, is_newer, may_send, moved_up, next_fin, next_len, next_piece, symbols, windowed}
+use Rattle.lard_send.specs.Send.{IsSending, Sending, acknowledged_bytes, after_ack, after_next, after_resend, send_closed, is_newer, may_send, moved_up, next_fin, next_len, next_piece, symbols, windowed}
 use Rattle.lard_endpoint.proofs.Sound.{after_next-sound}
 use Rattle.lard_seq.specs.Seq.{one_if, seq_add, seq_offset}
 use Rattle.lard_seq.proofs.Laws.{offset-add}
@@ -104,7 +104,7 @@ resends-since s = let k = resend-side s in let m = moves in side-since s (after_
       (λ t. cond_both (nat_lt s.una s.nxt) s last (SentMoves s) (λ u. still)
       (λ u. cond_both (nat_lt s.nxt (symbols s)) (record s { nxt = s.nxt + 1 }) s (SentMoves s) (λ v. (omega arith, refl, λ f z. absurd (eqb-false s.una 0 t z))) (λ v. still)))
 
-closes-since : (s : Sending) → IsSince s (closed s)
+closes-since : (s : Sending) → IsSince s (send_closed s)
 closes-since s = record { iss = refl; more = go s.finished; sent = omega arith; acked = omega arith; first = λ f. f } where
   go : (b : Bool) → 1 + s.total + one_if b ≤ 1 + s.total + 1
   go true = omega arith
@@ -115,7 +115,7 @@ since-kept s = record {
   acks = λ t ack seq wnd h. since-then s t (after_ack t ack seq wnd) h (acks-since t ack seq wnd);
   nexts = λ t h. since-then s t (after_next t) h (nexts-since t);
   resends = λ t h. since-then s t (after_resend t) h (resends-since t);
-  closes = λ t h. since-then s t (closed t) h (closes-since t);
+  closes = λ t h. since-then s t (send_closed t) h (closes-since t);
   learns = λ t irs mss h. record { iss = h.iss; more = h.more; sent = h.sent; acked = h.acked; first = h.first };
 }
 
@@ -125,7 +125,7 @@ since-kept s = record {
 pub record IsLater (x y : ClientBlock) : Type 0 where
   pub since : IsSince x.send y.send
   pub window : y.wnd ≡ x.wnd
-  pub closed : is_open x ≡ false → is_open y ≡ false
+  pub closed : is_client_open x ≡ false → is_client_open y ≡ false
 
 pub later-self : (x : ClientBlock) → IsLater x x
 later-self x = record { since = since-self x.send; window = refl; closed = λ e. e }
@@ -136,7 +136,7 @@ later-then x y z h k = record { since = since-then x.send y.send z.send h.since 
 pub starts-later : (x y : ClientBlock) → IsLater x y → Starts x → Starts y
 starts-later x y later h = record { window = (let w = h.window in let same = later.window in omega (arith, w, same)); first = later.since.first h.first }
 
-pub fits-later : (c : ℕ) (x y : ClientBlock) (ls ms : List Letter) → IsLater x y → ((l : Letter) → Has l ls → Has l ms) → (s : Said) → Fits c x ls s → Fits c y ms s
+pub fits-later : (c : ℕ) (x y : ClientBlock) (ls ms : List Letter) → IsLater x y → ((l : Letter) → Has l ls → Has l ms) → (s : Said) → FitsClient c x ls s → FitsClient c y ms s
 fits-later c x y ls ms later goes s h = record {
   within = λ rst. let w : seq_offset s.seq y.send.iss + seg_len s ≤ symbols x.send = subst (λ (i : ℕ). seq_offset s.seq i + seg_len s ≤ symbols x.send) (sym later.since.iss) (h.within rst) in let more = later.since.more in omega (arith, w, more);
   sent = λ rst. let w : seq_offset s.seq y.send.iss + seg_len s ≤ x.send.nxt = subst (λ (i : ℕ). seq_offset s.seq i + seg_len s ≤ x.send.nxt) (sym later.since.iss) (h.sent rst) in let more = later.since.sent in omega (arith, w, more);
@@ -148,13 +148,13 @@ fits-later c x y ls ms later goes s h = record {
 -- ---- a piece's segment
 
 pub client-ends : (x : ClientBlock) (p : Piece) (t : Sending) (most : ℕ) (d : ClientBlock) → x.send.iss < 2 ^ 32 → IsSent t p → t.nxt ≤ most → most < 2 ^ 32
-    → seq_offset (filled d (piece_ready x p)).seq x.send.iss + seg_len (filled d (piece_ready x p)) ≤ most
+    → seq_offset (client_filled d (client_piece_ready x p)).seq x.send.iss + seg_len (client_filled d (client_piece_ready x p)) ≤ most
 client-ends x p t most d small h le few = go p.syn refl where
   fin-one : (b : Bool) → cond b 1 0 ≡ one_if b
   fin-one true = refl
   fin-one false = refl
 
-  go : (b : Bool) → p.syn ≡ b → seq_offset (filled d (cond b (syn_ready x) (data_ready x p))).seq x.send.iss + seg_len (filled d (cond b (syn_ready x) (data_ready x p))) ≤ most
+  go : (b : Bool) → p.syn ≡ b → seq_offset (client_filled d (cond b (syn_ready x) (data_ready x p))).seq x.send.iss + seg_len (client_filled d (cond b (syn_ready x) (data_ready x p))) ≤ most
   go true e = let some = h.syn e in omega (arith, some, le)
   go false e =
       let bytes = h.bytes e in
@@ -199,7 +199,7 @@ module _ (c iss : ℕ) where
   abbrev T : ClientBlock → Type 0
   T x = IsTurning c iss x
 
-  emit-turns : (x : ClientBlock) → T x → T (after_emit x)
+  emit-turns : (x : ClientBlock) → T x → T (client_after_emit x)
   emit-turns x h =
       let like = emit-alike x in
       let few = h.sound.bounded in
@@ -208,22 +208,22 @@ module _ (c iss : ℕ) where
       let P : ClientBlock → Type 0 = λ y. Speaks y.send h.bytes × (y.send.iss ≡ iss) in
       let still : P x = (h.speaks, h.first) in
       let sent : P next = ((speaks-next x.send h.bytes h.speaks).0, side.first ∙ h.first) in
-      let all : P (after_emit x) = cond_both (not (is_open x)) x (after_piece next (next_piece x.send) (after_owed x)) P (λ t. still) (λ t.
-      piece next (after_owed x) (next_piece x.send) P sent (cond_both (owes x) (told x) x P (λ u. still) (λ u. still))) in
+      let all : P (client_after_emit x) = cond_both (not (is_client_open x)) x (client_after_piece next (next_piece x.send) (client_after_owed x)) P (λ t. still) (λ t.
+      piece next (client_after_owed x) (next_piece x.send) P sent (cond_both (client_owes x) (client_told x) x P (λ u. still) (λ u. still))) in
       record {
         numbered = like.0.0 ∙ h.numbered;
-        sound = from-like x (after_emit x) like.0 (omega (arith, few, like.1)) h.sound;
+        sound = from-like x (client_after_emit x) like.0 (omega (arith, few, like.1)) h.sound;
         wide = let w = h.wide in omega (arith, w, like.0.1);
         bytes = h.bytes;
         speaks = all.0;
         first = all.1;
       } where
-        piece : (y z : ClientBlock) (p : Option Piece) (P : ClientBlock → Type 0) → P (told y) → P z → P (after_piece y p z)
+        piece : (y z : ClientBlock) (p : Option Piece) (P : ClientBlock → Type 0) → P (client_told y) → P z → P (client_after_piece y p z)
         piece y z (Some p) P h k = h
         piece y z None P h k = k
 
-  emitted-within : (x : ClientBlock) (r : Ready) → T x → emitted x ≡ Some r → seq_offset (filled (after_emit x) r).seq iss + seg_len (filled (after_emit x) r) ≤ (after_emit x).send.nxt
-  emitted-within x r h e = go (not (is_open x)) (next_piece x.send) refl (owes x) e where
+  emitted-within : (x : ClientBlock) (r : Ready) → T x → client_emitted x ≡ Some r → seq_offset (client_filled (client_after_emit x) r).seq iss + seg_len (client_filled (client_after_emit x) r) ≤ (client_after_emit x).send.nxt
+  emitted-within x r h e = go (not (is_client_open x)) (next_piece x.send) refl (client_owes x) e where
     small : x.send.iss < 2 ^ 32
     small = h.speaks.number
 
@@ -238,26 +238,26 @@ module _ (c iss : ℕ) where
         let n = side.total in
         omega (arith, q, f, n, few)
 
-    by-first : (d : ClientBlock) (r : Ready) (most : ℕ) → seq_offset (filled d r).seq x.send.iss + seg_len (filled d r) ≤ most → seq_offset (filled d r).seq iss + seg_len (filled d r) ≤ most
-    by-first d r most le = subst (λ (i : ℕ). seq_offset (filled d r).seq i + seg_len (filled d r) ≤ most) h.first le
+    by-first : (d : ClientBlock) (r : Ready) (most : ℕ) → seq_offset (client_filled d r).seq x.send.iss + seg_len (client_filled d r) ≤ most → seq_offset (client_filled d r).seq iss + seg_len (client_filled d r) ≤ most
+    by-first d r most le = subst (λ (i : ℕ). seq_offset (client_filled d r).seq i + seg_len (client_filled d r) ≤ most) h.first le
 
     go : (t : Bool) (p : Option Piece) → next_piece x.send ≡ p → (o : Bool)
-        → cond {A = Option Ready} t None (ready_of x p (cond {A = Option Ready} o (Some (ack_ready x)) None)) ≡ Some r
-        → seq_offset (filled (cond t x (after_piece (record x { send = after_next x.send }) p (cond o (told x) x))) r).seq iss + seg_len (filled (cond t x (after_piece (record x { send = after_next x.send }) p (cond o (told x) x))) r)
-        ≤ (cond t x (after_piece (record x { send = after_next x.send }) p (cond o (told x) x))).send.nxt
+        → cond {A = Option Ready} t None (client_ready_of x p (cond {A = Option Ready} o (Some (client_ack_ready x)) None)) ≡ Some r
+        → seq_offset (client_filled (cond t x (client_after_piece (record x { send = after_next x.send }) p (cond o (client_told x) x))) r).seq iss + seg_len (client_filled (cond t x (client_after_piece (record x { send = after_next x.send }) p (cond o (client_told x) x))) r)
+        ≤ (cond t x (client_after_piece (record x { send = after_next x.send }) p (cond o (client_told x) x))).send.nxt
     go true p q o k = absurd (let no : None ≡ Some r = k in cc)
     go false (Some p) q o k =
-        let d : ClientBlock = told (record x { send = after_next x.send }) in
-        let same : piece_ready x p ≡ r = cc in
-        subst (λ (r : Ready). seq_offset (filled d r).seq iss + seg_len (filled d r) ≤ (after_next x.send).nxt) same
-        (by-first d (piece_ready x p) (after_next x.send).nxt (client-ends x p (after_next x.send) (after_next x.send).nxt d small (next-is x.send p q) (omega arith) next-few))
+        let d : ClientBlock = client_told (record x { send = after_next x.send }) in
+        let same : client_piece_ready x p ≡ r = cc in
+        subst (λ (r : Ready). seq_offset (client_filled d r).seq iss + seg_len (client_filled d r) ≤ (after_next x.send).nxt) same
+        (by-first d (client_piece_ready x p) (after_next x.send).nxt (client-ends x p (after_next x.send) (after_next x.send).nxt d small (next-is x.send p q) (omega arith) next-few))
     go false None q true k =
-        let same : ack_ready x ≡ r = cc in
-        subst (λ (r : Ready). seq_offset (filled (told x) r).seq iss + seg_len (filled (told x) r) ≤ x.send.nxt) same
-        (by-first (told x) (ack_ready x) x.send.nxt (let q : x.send.nxt ≤ symbols x.send = h.speaks.sound.queued in let at : seq_offset (seq_add x.send.iss x.send.nxt) x.send.iss ≡ x.send.nxt = offset-add x.send.iss x.send.nxt small (omega (arith, q, few)) in omega (arith, at)))
+        let same : client_ack_ready x ≡ r = cc in
+        subst (λ (r : Ready). seq_offset (client_filled (client_told x) r).seq iss + seg_len (client_filled (client_told x) r) ≤ x.send.nxt) same
+        (by-first (client_told x) (client_ack_ready x) x.send.nxt (let q : x.send.nxt ≤ symbols x.send = h.speaks.sound.queued in let at : seq_offset (seq_add x.send.iss x.send.nxt) x.send.iss ≡ x.send.nxt = offset-add x.send.iss x.send.nxt small (omega (arith, q, few)) in omega (arith, at)))
     go false None q false k = absurd (let no : None ≡ Some r = k in cc)
 
-  says-emitted : (x : ClientBlock) (r : Ready) → T x → emitted x ≡ Some r → Says iss (after_emit x).send.nxt (filled (after_emit x) r)
+  says-emitted : (x : ClientBlock) (r : Ready) → T x → client_emitted x ≡ Some r → Says iss (client_after_emit x).send.nxt (client_filled (client_after_emit x) r)
   says-emitted x r h e = record { sendable = (emitted-fair x h.bytes h.sound h.wide h.speaks r e).1; plain = (emitted-tells x r e).no_rst; within = emitted-within x r h e }
 
   -- all that it says in a turn, and how it is then
@@ -270,12 +270,12 @@ module _ (c iss : ℕ) where
   speaks-words x = client_keeps (λ (x : ClientBlock) ss y. T x → Spoke x ss y) (record {
     rests = λ x h. record { turning = h; since = since-self x.send; words = tt };
     says = λ x r ss y e later h.
-        let l : Spoke (after_emit x) ss y = later (emit-turns x h) in
-        let k : T (after_emit x) = emit-turns x h in
-        let t : Said = filled (after_emit x) r in
+        let l : Spoke (client_after_emit x) ss y = later (emit-turns x h) in
+        let k : T (client_after_emit x) = emit-turns x h in
+        let t : Said = client_filled (client_after_emit x) r in
         record {
           turning = l.turning;
-          since = since-then x.send (after_emit x).send y.send (client-emit _ (since-kept x.send) x (since-self x.send)) l.since;
-          words = ((refl, (t, ap (λ n. spelled n ToCluster t) k.numbered, says-more iss (after_emit x).send.nxt y.send.nxt l.since.sent t (says-emitted x r h e))), l.words);
+          since = since-then x.send (client_after_emit x).send y.send (client-emit _ (since-kept x.send) x (since-self x.send)) l.since;
+          words = ((refl, (t, ap (λ n. spelled n ToCluster t) k.numbered, says-more iss (client_after_emit x).send.nxt y.send.nxt l.since.sent t (says-emitted x r h e))), l.words);
         };
   }) x

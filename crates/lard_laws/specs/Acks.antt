@@ -3,7 +3,7 @@ use Rattle.std.specs.Prelude.{◌≡◌, ◌⊎◌, ℕ, ◌+◌, ◌≤◌, Boo
 use Rattle.lard_base.specs.declared.parts.EndpointParts.{EndpointParts}
 use Rattle.lard_base.specs.declared.place.Place.{Place}
 use Rattle.lard_base.specs.declared.place.Place.TheVariants.{Client, Front, Node}
-use Rattle.lard_client.specs.Control.{is_open}
+use Rattle.lard_client.specs.Control.{is_client_open}
 use Rattle.lard_law_connections.specs.Places.{HasEnded, IsDecided}
 use Rattle.lard_law_view.specs.View.{Conn, Part}
 use Rattle.lard_handoff_back.specs.declared.row.BackConn.{BackConn}
@@ -124,7 +124,7 @@ pub record OpenActs (x : Conn) (s : Station) : Type 0 where
   pub client : ClientHolds heard (story_at x).aborted (story_at x).reset s.client
   pub within : ActsWithin x (bounds_of x s heard)
   pub ended : s.client.eof ≡ true → (story_at x).ended ≡ true
-  pub shut : is_open s.client ≡ true → (story_at x).shut ≡ true → s.client.send.finished ≡ true
+  pub shut : is_client_open s.client ≡ true → (story_at x).shut ≡ true → s.client.send.finished ≡ true
 
 -- of one whose client has not opened the schedule closed no side
 abbrev pub StationActs : Conn → Option Station → Type 0

@@ -5,7 +5,7 @@ use Rattle.lard_base.specs.declared.place.Place.{Place}
 use Rattle.lard_base.specs.declared.place.Place.TheVariants.{Front, Node}
 use Rattle.lard_law_connections.specs.MotionStory.{Story, story_step}
 use Rattle.lard_law_connections.specs.MotionStory as motion
-use Rattle.lard_law_connections.specs.Places.{Head, head_of}
+use Rattle.lard_law_connections.specs.Places.{Head, message_head}
 use Rattle.lard_history.specs.Own.{Seen, Row, Came}
 use Rattle.lard_journal.specs.declared.rec.Rec.{Rec}
 use Rattle.lard_journal.specs.declared.rec.Rec.TheVariants as rec
@@ -52,13 +52,13 @@ ask_in (Came l) = ask_on l.from l.to l.bytes
 -- ---- records
 
 -- What a later assignment says beside its node: the request's number and path, and the size and queue of the batch.
-pub record Assigned : Type 0 where
+pub record LaterAssigned : Type 0 where
   pub r : ℕ
   pub path : List ℕ
   pub size : ℕ
   pub queue : ℕ
 
-abbrev pub later_in : Rec → Option Assigned
+abbrev pub later_in : Rec → Option LaterAssigned
 later_in (rec.AssignedLater c r path n add size queue) = Some (record { r = r; path = path; size = size; queue = queue })
 later_in _ = None
 
@@ -88,7 +88,7 @@ is_tag (Some h) = elim h.kind [
 
 -- a Tag that the front end sends, and the node to which it goes
 abbrev pub tag_to : Rec → Option (ℕ × List ℕ)
-tag_to (rec.Sent k Front (Node n) bytes) = if is_tag (head_of bytes) then Some (n, bytes) else None
+tag_to (rec.Sent k Front (Node n) bytes) = if is_tag (message_head bytes) then Some (n, bytes) else None
 tag_to _ = None
 
 -- ---- what was answered so far
@@ -101,7 +101,7 @@ pub record Answered : Type 0 where
   pub assigned : ℕ
 
 -- and how the connection moved
-pub record Asks : Type 0 where
+pub record AskTale : Type 0 where
   pub way : Story
   pub done : Answered
 
@@ -115,10 +115,10 @@ abbrev pub is_its : Story → Asking → Bool
 is_its t a = t.away && (is_this t.node a.from && is_this t.epoch a.epoch)
 
 -- it is the next one, or the last that was answered
-abbrev pub is_next : Asks → Asking → Bool
+abbrev pub is_next : AskTale → Asking → Bool
 is_next t a = is_its t.way a && a.number == t.done.last + 1
 
-abbrev pub is_again : Asks → Asking → Bool
+abbrev pub is_again : AskTale → Asking → Bool
 is_again t a = is_its t.way a && (a.number == t.done.last && nat_lt 0 t.done.last)
 
 abbrev pub row_done : Answered → Rec → Answered
@@ -127,20 +127,20 @@ row_done d (rec.AssignedLater c r path n add size queue) = record d { nodes = d.
 row_done d _ = d
 
 -- the next Ask is answered in the step in which it comes
-abbrev pub came_done : Asks → Option Asking → Answered
+abbrev pub came_done : AskTale → Option Asking → Answered
 came_done t None = t.done
 came_done t (Some a) = if is_next t a then record t.done { last = a.number; nodes = [] } else t.done
 
-abbrev pub done_step : Asks → Seen → Answered
+abbrev pub done_step : AskTale → Seen → Answered
 done_step t (Row r) = row_done t.done r
 done_step t (Came l) = came_done t (ask_on l.from l.to l.bytes)
 
-abbrev pub asks_step : ℕ → Asks → Seen → Asks
+abbrev pub asks_step : ℕ → AskTale → Seen → AskTale
 asks_step c t s = record { way = story_step c t.way s; done = done_step t s }
 
-abbrev pub unasked : Asks
-unasked = record { way = motion.untold; done = record { last = 0; nodes = []; assigned = 0 } }
+abbrev pub unasked : AskTale
+unasked = record { way = motion.untold_story; done = record { last = 0; nodes = []; assigned = 0 } }
 
 -- what is told of a connection
-abbrev pub asks : ℕ → List Seen → Asks
-asks c seen = fold (asks_step c) unasked seen
+abbrev pub ask_tale : ℕ → List Seen → AskTale
+ask_tale c seen = fold (asks_step c) unasked seen

@@ -3,7 +3,7 @@ use Rattle.std.specs.Prelude.{◌≡◌, ◌⊎◌, ℕ, ◌+◌, ◌==◌, nat_
 use Rattle.std.specs.List.{AllByRecursion, fold}
 use Rattle.lard_base.specs.declared.place.Place.TheVariants.{Front, Node}
 use Rattle.lard_law_connections.specs.MotionStory.{of_row, picked}
-use Rattle.lard_law_connections.specs.Places.{Head, head_of}
+use Rattle.lard_law_connections.specs.Places.{Head, message_head}
 use Rattle.lard_counts.specs.Stores.{jobs}
 use Rattle.lard_history.specs.Own.{Seen, net_of, own, seen_on}
 use Rattle.lard_journal.specs.declared.rec.Rec.{Rec}
@@ -30,7 +30,7 @@ is_ask e (Some h) = elim h.kind [
 
 -- an Ask of epoch e that node n sends to the front end
 abbrev pub ask_by : ℕ → ℕ → Rec → Option (List ℕ)
-ask_by n e (rec.Sent k (Node m) Front bytes) = if nat_eq m n && is_ask e (head_of bytes) then Some bytes else None
+ask_by n e (rec.Sent k (Node m) Front bytes) = if nat_eq m n && is_ask e (message_head bytes) then Some bytes else None
 ask_by n e _ = None
 
 -- the last of these, if there is one
@@ -43,13 +43,13 @@ last_ask n e seen = newest (picked (of_row (ask_by n e)) seen)
 -- ---- the next one
 
 -- the last Ask has this number, and where there is none it is 0
-abbrev pub IsNumbered : ℕ → ℕ → Option (List ℕ) → ℕ → Type 0
-IsNumbered c e None k = k ≡ 0
-IsNumbered c e (Some bytes) k = (queue size : ℕ) × (paths : List (List ℕ)) × (bytes ≡ message c e (body.Ask k queue size paths))
+abbrev pub IsAskNumbered : ℕ → ℕ → Option (List ℕ) → ℕ → Type 0
+IsAskNumbered c e None k = k ≡ 0
+IsAskNumbered c e (Some bytes) k = (queue size : ℕ) × (paths : List (List ℕ)) × (bytes ≡ message c e (body.Ask k queue size paths))
 
 -- An Ask whose number is one more than that of the last, and which says that so many jobs wait.
-abbrev pub IsNext : ℕ → ℕ → ℕ → Option (List ℕ) → List ℕ → Type 0
-IsNext c e waiting last bytes = (k size : ℕ) × (paths : List (List ℕ)) × IsNumbered c e last k × (bytes ≡ message c e (body.Ask (k + 1) waiting size paths))
+abbrev pub IsNextAsk : ℕ → ℕ → ℕ → Option (List ℕ) → List ℕ → Type 0
+IsNextAsk c e waiting last bytes = (k size : ℕ) × (paths : List (List ℕ)) × IsAskNumbered c e last k × (bytes ≡ message c e (body.Ask (k + 1) waiting size paths))
 
 -- Each of these is the last one again, or is the next one, and then no other is behind it.
 abbrev pub AsksGoOn : (Option (List ℕ) → List ℕ → Type 0) → Option (List ℕ) → List (List ℕ) → Type 0
@@ -80,4 +80,4 @@ JobsFirst (_ ∷ rs) = JobsFirst rs
 -- this step. So these are the jobs just before the Ask is sent.
 pub record MustAsk (past step : List Rec) : Type 0 where
   pub jobs_first : JobsFirst step
-  pub asks : (c n e : ℕ) → AsksGoOn (IsNext c e (length (jobs (past ++ step) n))) (last_ask n e (own c past)) (picked (of_row (ask_by n e)) (seen_on c (net_of past) step))
+  pub asks : (c n e : ℕ) → AsksGoOn (IsNextAsk c e (length (jobs (past ++ step) n))) (last_ask n e (own c past)) (picked (of_row (ask_by n e)) (seen_on c (net_of past) step))

@@ -15,7 +15,7 @@ use Rattle.lard_journal.specs.declared.rec.Rec.{Rec}
 use Rattle.lard_journal.specs.declared.rec.Rec.TheVariants as rec
 use Rattle.lard_message.specs.declared.message.Body.TheVariants as body
 use Rattle.lard_message.specs.Reading.{decoded_message}
-use Rattle.lard_rules.specs.NodePlace.{bytes_of}
+use Rattle.lard_rules.specs.NodePlace.{content_bytes}
 use Rattle.lard_request.specs.declared.verdict.Verdict.{Verdict}
 
 -- Request r of all that a client wrote is for this path.
@@ -47,9 +47,9 @@ AnswersFrom (path ∷ paths) chosen place = (first : List ℕ × ℕ) × (slice_
 abbrev pub paths_so_far : FilesAt → List Rec → ℕ → List (List ℕ)
 paths_so_far files past c = good_paths files (take (served past c + 1) (verdicts (wrote past c)))
 
-abbrev pub MayAnswer : FilesAt → List Rec → Rec → Type 0
-MayAnswer files past (rec.Served place c r code size way) = is_touched past c ≡ false → AnswersFrom (paths_so_far files past c) (assigned past c) place
-MayAnswer files past _ = Unit {0}
+abbrev pub MayAnswerFrom : FilesAt → List Rec → Rec → Type 0
+MayAnswerFrom files past (rec.Served place c r code size way) = is_touched past c ≡ false → AnswersFrom (paths_so_far files past c) (assigned past c) place
+MayAnswerFrom files past _ = Unit {0}
 
 -- ---- ways
 
@@ -65,7 +65,7 @@ pub record IsQueuedAndRead (rs : List Rec) (n c r : ℕ) (path : List ℕ) : Typ
 pub record HasComeFor (files : FilesAt) (seen : List Seen) (n m c epoch r : ℕ) (path : List ℕ) : Type 0 where
   pub bytes : List ℕ
   pub came : Has (Came (record { from = Node m; to = Node n; bytes = bytes })) seen
-  pub reads : decoded_message bytes ≡ Ok (record { c = c; epoch = record { 0 = epoch }; body = body.Content r (bytes_of (files path)) })
+  pub reads : decoded_message bytes ≡ Ok (record { c = c; epoch = record { 0 = epoch }; body = body.Content r (content_bytes (files path)) })
 
 -- what backs a way stands among the later of these records
 abbrev pub StandsFor : FilesAt → List Rec → List Rec → ℕ → ℕ → ℕ → ℕ → List ℕ → Via → Type 0
@@ -113,7 +113,7 @@ MayBeBacked files past _ = Unit {0}
 -- ---- what starts
 
 -- Request r of connection c was assigned, for this path, and node n was told of it.
-pub record IsTold (files : FilesAt) (past : List Rec) (n c r : ℕ) (path : List ℕ) : Type 0 where
+pub record NodeIsTold (files : FilesAt) (past : List Rec) (n c r : ℕ) (path : List ℕ) : Type 0 where
   pub epoch : ℕ
   pub ask : Option ℕ
   pub node : ℕ
@@ -122,6 +122,6 @@ pub record IsTold (files : FilesAt) (past : List Rec) (n c r : ℕ) (path : List
 
 -- A job of the node itself is queued, and its disk reads it, only behind what told the node where the request is assigned.
 abbrev pub MayStart : FilesAt → List Rec → Rec → Type 0
-MayStart files past (rec.Queued n m c r path) = is_touched past c ≡ false → m ≡ n → IsTold files past n c r path
-MayStart files past (rec.Read n m c r path) = is_touched past c ≡ false → m ≡ n → IsTold files past n c r path
+MayStart files past (rec.Queued n m c r path) = is_touched past c ≡ false → m ≡ n → NodeIsTold files past n c r path
+MayStart files past (rec.Read n m c r path) = is_touched past c ≡ false → m ≡ n → NodeIsTold files past n c r path
 MayStart files past _ = Unit {0}

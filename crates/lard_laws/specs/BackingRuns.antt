@@ -1,29 +1,29 @@
 -- What backs responses, over every run of the cluster's machine.
 use Rattle.std.specs.Prelude.{[]}
 use Rattle.lard_laws.specs.BackingJobs.{MustQueue}
-use Rattle.lard_laws.specs.BackingRequests.{MayAnswer, MayBeBacked, MayName, MayStart}
-use Rattle.lard_law_connections.specs.BytesRuns.{Always}
+use Rattle.lard_laws.specs.BackingRequests.{MayAnswerFrom, MayBeBacked, MayName, MayStart}
+use Rattle.lard_law_connections.specs.BytesRuns.{AlwaysWithinStreams}
 use Rattle.lard_files.specs.Files.{file_at}
 use Rattle.lard_history.specs.Laws.{EachMay}
 use Rattle.lard_history.specs.Steps.{EachStep, steps}
 
 -- The first assignment has the number and the path of the next request, and each job has the path of its request.
 abbrev pub JournalsNameRequests : Type 0
-JournalsNameRequests = Always (λ files m. EachMay (MayName (file_at files)) [] m.journal)
+JournalsNameRequests = AlwaysWithinStreams (λ files m. EachMay (MayName (file_at files)) [] m.journal)
 
 -- The front end answers up to the first request for a file, and the home from there on.
 abbrev pub PlacesAnswer : Type 0
-PlacesAnswer = Always (λ files m. EachMay (MayAnswer (file_at files)) [] m.journal)
+PlacesAnswer = AlwaysWithinStreams (λ files m. EachMay (MayAnswerFrom (file_at files)) [] m.journal)
 
 -- What was hit, was queued and read, or came for a response is of its request's path, and stands behind what told the node where the
 -- request is assigned.
 abbrev pub ResponsesAreBacked : Type 0
-ResponsesAreBacked = Always (λ files m. EachMay (MayBeBacked (file_at files)) [] m.journal)
+ResponsesAreBacked = AlwaysWithinStreams (λ files m. EachMay (MayBeBacked (file_at files)) [] m.journal)
 
 -- No job of a node itself is queued or read before what tells the node where its request is assigned.
 abbrev pub JobsStartWhenTold : Type 0
-JobsStartWhenTold = Always (λ files m. EachMay (MayStart (file_at files)) [] m.journal)
+JobsStartWhenTold = AlwaysWithinStreams (λ files m. EachMay (MayStart (file_at files)) [] m.journal)
 
 -- Each job is the node's own, or that of a Fetch which comes in the step in which it is queued.
 abbrev pub JobsAreAsked : Type 0
-JobsAreAsked = Always (λ files m. EachStep MustQueue [] (steps m.journal))
+JobsAreAsked = AlwaysWithinStreams (λ files m. EachStep MustQueue [] (steps m.journal))

@@ -7,7 +7,7 @@ use Rattle.lard_laws.specs.BackingRequests.{IsFor}
 use Rattle.lard_law_view.specs.View.{Conn}
 use Rattle.lard_laws.specs.WaysState.{marks_at}
 use Rattle.lard_laws.specs.WaysUnder.{Assigned}
-use Rattle.lard_laws.specs.Ways.{Marks}
+use Rattle.lard_laws.specs.Ways.{WayMarks}
 use Rattle.lard_history.specs.Own.{Letter}
 use Rattle.lard_history.proofs.Each.{Each}
 use Rattle.lard_journal.specs.declared.rec.Rec.{Rec}
@@ -46,7 +46,7 @@ StartsAt n chosen = (path : List ℕ) × (others : List Assigned) × (chosen ≡
 -- The front end answers before anything is assigned, and a node behind the first assignment, which is of it. An assignment is the
 -- first where there was none, and of the next request. A job, and a Fetch, are for the path of their request, whose number a message
 -- has room for.
-abbrev pub MayBack : FilesAt → Marks → Rec → Type 0
+abbrev pub MayBack : FilesAt → WayMarks → Rec → Type 0
 MayBack files m (rec.Served Front d r code size way) = m.assigned ≡ []
 MayBack files m (rec.Served (Node n) d r code size way) = StartsAt n m.assigned
 MayBack files m (rec.Served (Client e) d r code size way) = ⊥

@@ -3,7 +3,7 @@
 use Rattle.std.specs.Prelude.{◌≡◌, ℕ, ◌-◌, List, ◌∷◌, ◌++◌, length, take, Option, Some, None, Ok}
 use Rattle.lard_answers.specs.Answers.{FilesAt, verdicts}
 use Rattle.lard_base.specs.declared.place.Place.TheVariants.{Front, Node}
-use Rattle.lard_laws.specs.Asks.{asks}
+use Rattle.lard_laws.specs.Asks.{ask_tale}
 use Rattle.lard_laws.specs.WaysBefore.{SawBehind}
 use Rattle.lard_laws.specs.Ways.{good_paths}
 use Rattle.lard_history.specs.Journal.{assigned}
@@ -19,7 +19,7 @@ use Rattle.lard_message.specs.Reading.{decoded_message}
 -- made with the connection, and a later one for that which the front end answered last, told by its number.
 abbrev pub AssignsFor : List Rec → ℕ → List ℕ → ℕ → Option ℕ → Rec → Type 0
 AssignsFor past c path node ask (rec.AssignedFirst d r p n add remove) = (d ≡ c) × (p ≡ path) × (n ≡ node) × (ask ≡ None)
-AssignsFor past c path node ask (rec.AssignedLater d r p n add size queue) = (d ≡ c) × (p ≡ path) × (n ≡ node) × (ask ≡ Some (asks c (own c past)).done.last)
+AssignsFor past c path node ask (rec.AssignedLater d r p n add size queue) = (d ≡ c) × (p ≡ path) × (n ≡ node) × (ask ≡ Some (ask_tale c (own c past)).done.last)
 AssignsFor past c path node ask _ = ⊥
 
 -- how many requests for files stand before request r of all that a client wrote

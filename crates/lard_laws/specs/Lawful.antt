@@ -8,14 +8,14 @@ use Rattle.lard_rules.specs.Machine.{IsReached}
 use Rattle.lard_laws.specs.AsksAnswers.{MustAnswer, MustEnd}
 use Rattle.lard_laws.specs.AsksSent.{MustAsk}
 use Rattle.lard_laws.specs.BackingJobs.{MustQueue}
-use Rattle.lard_laws.specs.BackingRequests.{MayAnswer, MayBeBacked, MayName, MayStart}
+use Rattle.lard_laws.specs.BackingRequests.{MayAnswerFrom, MayBeBacked, MayName, MayStart}
 use Rattle.lard_law_connections.specs.BytesRecords.{ServesTheAnswers}
 use Rattle.lard_law_connections.specs.LineLaws.{HasFewConnections, IsNearTheThresholds, IsNotBusy, IsWithinTheRoom, LineNeedsAFullRoom, MayPass, MayWait, MustRelease}
 use Rattle.lard_law_connections.specs.Motion.{MustMove}
 use Rattle.lard_law_connections.specs.Offers.{CarryTheEndpoint}
 use Rattle.lard_law_connections.specs.ResetsLaws.{SendsRstBehindResets}
-use Rattle.lard_law_connections.specs.PolicyLaws.{AreLoadsCharged, ArePaired, AreServersTold, MayAdmit, MayAssign, MayRelease, MayShare, Nothing, last_of}
-use Rattle.lard_counts.specs.Ledger.{Ledger, admitted, ledger}
+use Rattle.lard_law_connections.specs.PolicyLaws.{AreLoadsCharged, ArePaired, AreServersTold, MayAdmit, MayAssign, MayRelease, MayShare, Nothing, last_record}
+use Rattle.lard_counts.specs.Ledger.{Ledger, ledger_admitted, ledger}
 use Rattle.lard_laws.specs.Quiet.{CompletesWhenQuiet}
 use Rattle.lard_laws.specs.RecordsMessages.{MayBeThere}
 use Rattle.lard_laws.specs.Sizes.{MustSize}
@@ -73,9 +73,9 @@ pub record IsLawful (config : Config) (files : FilesAt) (J : List Rec) : Type 0 
   -- who waits, who is admitted and who is released; how many are admitted; that each of them gets a node at once, and is released
   -- where the front end takes it again
   pub admission : EachCounted MayAdmit config J
-  pub room : Throughout (λ l past. admitted l ≤ room_of config) config J
+  pub room : Throughout (λ l past. ledger_admitted l ≤ room_of config) config J
   pub nodes : ArePaired Nothing J
-  pub releases : EachMay (λ past r. MayRelease (last_of past) r) [] J
+  pub releases : EachMay (λ past r. MayRelease (last_record past) r) [] J
   pub taken_back : EachStep (MustRelease config) [] (steps J)
   -- the line: who is told to wait joins it, somebody is in it only at a full room, and who is admitted is its first
   pub joins : EachMay (λ past r. MayWait (ledger config past) past r) [] J
@@ -83,7 +83,7 @@ pub record IsLawful (config : Config) (files : FilesAt) (J : List Rec) : Type 0 
   pub passes : EachMay MayPass [] J
   -- each choice of a node is that of the stated policy, at loads and server sets that the journal counts
   pub choices : EachCounted MayAssign config J
-  pub batches : EachMay (λ past r. MayShare (last_of past) (ledger config past) r) [] J
+  pub batches : EachMay (λ past r. MayShare (last_record past) (ledger config past) r) [] J
   pub loads : Throughout (AreLoadsCharged config) config J
   pub servers : Throughout AreServersTold config J
   -- how great a load may be, and how many connections a node may have
@@ -104,7 +104,7 @@ pub record IsLawful (config : Config) (files : FilesAt) (J : List Rec) : Type 0 
   pub names_next : NamesTheNext files J
   pub ways : ComeAsAssigned files J
   -- which place answers each request; for which request the first assignment is, and each job of a disk
-  pub answerers : EachMay (MayAnswer files) [] J
+  pub answerers : EachMay (MayAnswerFrom files) [] J
   pub named : EachMay (MayName files) [] J
   -- what a node saw before a response whose content it did not have at hand, and what it sends as a content
   pub came : EachMay MayBeServed [] J

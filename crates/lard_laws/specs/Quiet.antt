@@ -6,8 +6,8 @@ use Rattle.lard_base.specs.Config.{config_check, room_of}
 use Rattle.lard_base.specs.declared.config.Config.{Config}
 use Rattle.lard_rules.specs.declared.machine.Machine.{Machine}
 use Rattle.lard_rules.specs.Machine.{IsReached}
-use Rattle.lard_law_connections.specs.Line.{line}
-use Rattle.lard_counts.specs.Ledger.{admitted, ledger}
+use Rattle.lard_law_connections.specs.Line.{waiting_line}
+use Rattle.lard_counts.specs.Ledger.{ledger_admitted, ledger}
 use Rattle.lard_counts.specs.Stores.{Waiting, jobs}
 use Rattle.lard_files.specs.Files.{file_at}
 use Rattle.lard_history.specs.Journal.{is_touched, numbers_of, was_reset}
@@ -26,7 +26,7 @@ HasNoJob J c = (n : ℕ) → list_any (reads_for c) (jobs J n) ≡ false
 
 -- connection c is in the line, and as many are admitted as there is room for
 abbrev pub IsInLine : Config → List Rec → ℕ → Type 0
-IsInLine config J c = Has c (line J) × (admitted (ledger config J) ≡ room_of config)
+IsInLine config J c = Has c (waiting_line J) × (ledger_admitted (ledger config J) ≡ room_of config)
 
 -- A connection that opened, of which no timer runs anywhere and for which no job waits, is complete or in the line, unless its
 -- client aborted it, the stream limit reset it, or the schedule touched it.

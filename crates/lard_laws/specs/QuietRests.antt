@@ -2,10 +2,10 @@
 use Rattle.std.specs.Prelude.{◌≡◌, ◌⊎◌, ℕ, ◌≤◌, true, false, List, Some}
 use Rattle.lard_base.specs.declared.config.Config.{Config}
 use Rattle.lard_base.specs.declared.limits.TheConstants.{MAX_STREAM_BYTES}
-use Rattle.lard_client.specs.Control.{is_armed}
+use Rattle.lard_client.specs.Control.{is_client_armed}
 use Rattle.lard_rules.specs.declared.machine.Machine.{Machine}
 use Rattle.lard_rules.specs.Machine.{IsReached}
-use Rattle.lard_law_connections.specs.Stops.{IsAwaited}
+use Rattle.lard_law_connections.specs.Stops.{FirstIsAwaited}
 use Rattle.lard_law_view.specs.View.{Conn, conn}
 use Rattle.lard_endpoint.specs.Control.{ControlBlock}
 use Rattle.lard_files.specs.Files.{file_at}
@@ -23,7 +23,7 @@ use Rattle.lard_send.specs.Send.{is_clear}
 pub record ClientRests (x : Conn) : Type 0 where
   pub station : Station
   pub there : x.part.station ≡ Some station
-  pub quiet : is_armed station.client ≡ false
+  pub quiet : is_client_armed station.client ≡ false
 
 -- the front end holds it, and all that was sent is acknowledged
 pub record HeldRests (x : Conn) : Type 0 where
@@ -42,7 +42,7 @@ pub record StayRests (x : Conn) (n : ℕ) : Type 0 where
   pub at : row.stage ≡ back.Here block
   pub stays : (x.part.nodes n).stay ≡ Some stay
   pub clear : is_clear block.send ≡ true
-  pub ready : IsAwaited stay.batch → ⊥
+  pub ready : FirstIsAwaited stay.batch → ⊥
 
 abbrev pub RestsSomewhere : Conn → Type 0
 RestsSomewhere x = HeldRests x ⊎ ((n : ℕ) × StayRests x n)

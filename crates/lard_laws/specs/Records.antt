@@ -6,13 +6,13 @@ use Rattle.lard_base.specs.declared.config.Config.{Config}
 use Rattle.lard_base.specs.declared.event.Event.{Event}
 use Rattle.lard_base.specs.declared.event.Event.TheVariants as event
 use Rattle.lard_rules.specs.declared.machine.Machine.{Machine}
-use Rattle.lard_rules.specs.Machine.{Passes, start}
+use Rattle.lard_rules.specs.Machine.{Passes, machine_start}
 use Rattle.lard_files.specs.Files as files
-use Rattle.lard_journal.specs.Range.{IsEventInRange, IsInRange, IsUnspaced}
+use Rattle.lard_journal.specs.Range.{IsEventInRange, IsRecordInRange, IsUnspaced}
 
 -- a file of bytes that may be kept, whose path is bytes without a space
-abbrev pub IsFile : List ℕ × List ℕ → Type 0
-IsFile (path, bytes) = files.IsFile (path, bytes) × IsUnspaced path × IsBytes path × IsBytes bytes
+abbrev pub IsRunFile : List ℕ × List ℕ → Type 0
+IsRunFile (path, bytes) = files.IsFile (path, bytes) × IsUnspaced path × IsBytes path × IsBytes bytes
 
 -- the path of a get is made of bytes, and a clock moves on by fewer than 2^32 milliseconds
 abbrev pub IsWritten : Event → Type 0
@@ -21,10 +21,10 @@ IsWritten (event.Clock ms) = ms < 2 ^ 32
 IsWritten _ = Unit {0}
 
 -- an event as a schedule gives it
-abbrev pub IsGiven : Event → Type 0
-IsGiven e = IsEventInRange e × IsWritten e
+abbrev pub IsScheduled : Event → Type 0
+IsScheduled e = IsEventInRange e × IsWritten e
 
 -- In every run of such files and events, with a configuration that may be used.
 abbrev pub RecordsAreInRange : Type 0
-RecordsAreInRange = (config : Config) (files : List (List ℕ × List ℕ)) (es : List Event) (m : Machine) → config_check config ≡ Ok tt → All IsFile files → All IsGiven es
-    → Passes (start config files) es m → All IsInRange m.journal
+RecordsAreInRange = (config : Config) (files : List (List ℕ × List ℕ)) (es : List Event) (m : Machine) → config_check config ≡ Ok tt → All IsRunFile files → All IsScheduled es
+    → Passes (machine_start config files) es m → All IsRecordInRange m.journal

@@ -5,9 +5,9 @@ use Rattle.lard_base.specs.declared.config.Config.{Config}
 use Rattle.lard_base.specs.declared.event.Event.{Event}
 use Rattle.lard_base.specs.declared.place.Place.TheVariants.{Node}
 use Rattle.lard_rules.specs.declared.machine.Machine.{Machine}
-use Rattle.lard_rules.specs.Machine.{IsReached, Passes, start}
-use Rattle.lard_law_connections.specs.Places.{head_of}
-use Rattle.lard_laws.specs.Records.{IsFile, IsGiven}
+use Rattle.lard_rules.specs.Machine.{IsReached, Passes, machine_start}
+use Rattle.lard_law_connections.specs.Places.{message_head}
+use Rattle.lard_laws.specs.Records.{IsRunFile, IsScheduled}
 use Rattle.lard_law_view.specs.View.{IsMachine}
 use Rattle.lard_history.specs.Laws.{EachMay, first_place}
 use Rattle.lard_history.specs.Own.{named_in}
@@ -26,7 +26,7 @@ pub record Decodes (bytes : List ℕ) : Type 0 where
   pub is : IsMessage message
   pub decoded : decoded_message bytes ≡ Ok message
   pub spelled : spelled_message message ≡ bytes
-  pub head : head_of bytes ≡ Some (record { kind = kind_of message.body; epoch = message.epoch.0 })
+  pub head : message_head bytes ≡ Some (record { kind = kind_of message.body; epoch = message.epoch.0 })
   pub connection : named_in bytes ≡ Some message.c
 
 -- a packet that goes between two machines of the cluster is a message
@@ -36,8 +36,8 @@ MayTalk past _ = Unit {0}
 
 -- In every run of such files and events as give records in range, also of connections that the schedule touched.
 abbrev pub PacketsAreMessages : Type 0
-PacketsAreMessages = (config : Config) (files : List (List ℕ × List ℕ)) (es : List Event) (m : Machine) → config_check config ≡ Ok tt → All IsFile files → All IsGiven es
-    → Passes (start config files) es m → EachMay MayTalk [] m.journal
+PacketsAreMessages = (config : Config) (files : List (List ℕ × List ℕ)) (es : List Event) (m : Machine) → config_check config ≡ Ok tt → All IsRunFile files → All IsScheduled es
+    → Passes (machine_start config files) es m → EachMay MayTalk [] m.journal
 
 -- ---- nodes
 

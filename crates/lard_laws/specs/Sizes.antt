@@ -9,7 +9,7 @@ use Rattle.lard_base.specs.declared.place.Place.TheVariants.{Client, Front, Node
 use Rattle.lard_rules.specs.declared.machine.Machine.{Machine}
 use Rattle.lard_rules.specs.Machine.{IsReached}
 use Rattle.lard_law_connections.specs.Line.{line_step, nobody}
-use Rattle.lard_law_connections.specs.Offers.{WasSent}
+use Rattle.lard_law_connections.specs.Offers.{WasSentBetween}
 use Rattle.lard_laws.specs.Ways.{good_paths}
 use Rattle.lard_files.specs.Files.{file_at}
 use Rattle.lard_history.specs.Journal.{Numbers, is_touched, numbers_of, owner, served, wrote}
@@ -28,25 +28,25 @@ use Rattle.lard_seq.specs.Seq.{seq_offset}
 
 -- What is told of a connection: its first numbers, what its client wrote, how many responses were queued, and the last segment that
 -- the cluster sent to the client.
-pub record Marks : Type 0 where
+pub record SizeMarks : Type 0 where
   pub numbers : Option Numbers
   pub wrote : List ℕ
   pub served : ℕ
   pub told : Option Said
 
-abbrev pub marks : List Rec → ℕ → Marks
-marks J c = record { numbers = numbers_of J c; wrote = wrote J c; served = served J c; told = (fold line_step nobody J).told c }
+abbrev pub size_marks : List Rec → ℕ → SizeMarks
+size_marks J c = record { numbers = numbers_of J c; wrote = wrote J c; served = served J c; told = (fold line_step nobody J).told c }
 
 -- How many symbols of the client's that segment acknowledges: its SYN, its bytes, and its FIN behind them.
-abbrev pub acknowledged : Option Numbers → Option Said → ℕ
-acknowledged None told = 0
-acknowledged (Some n) None = 0
-acknowledged (Some n) (Some s) = seq_offset s.ack n.isn
+abbrev pub symbols_acknowledged : Option Numbers → Option Said → ℕ
+symbols_acknowledged None told = 0
+symbols_acknowledged (Some n) None = 0
+symbols_acknowledged (Some n) (Some s) = seq_offset s.ack n.isn
 
 -- The requests that are complete in the bytes that were acknowledged to the client, each by the verdict on it, up to and with the
 -- first that closes the connection.
-abbrev pub complete : Marks → List Verdict
-complete m = verdicts (take (acknowledged m.numbers m.told - 1) m.wrote)
+abbrev pub complete : SizeMarks → List Verdict
+complete m = verdicts (take (symbols_acknowledged m.numbers m.told - 1) m.wrote)
 
 -- ---- batches
 
@@ -56,24 +56,24 @@ batch_behind before all = take 8 (drop before all)
 
 -- A node reads requests in batches, the next once all of the last are answered. Where so many were read before, whole batches of
 -- eight followed as far as they are answered, and behind these the last one begins.
-abbrev pub begins : ℕ → Marks → ℕ
-begins upto now = upto + 8 * ((now.served - upto) / 8)
+abbrev pub batch_begins : ℕ → SizeMarks → ℕ
+batch_begins upto now = upto + 8 * ((now.served - upto) / 8)
 
 -- So many were read before, and this is told now: what was read is not answered yet, or what is answered and the rest of the last
 -- batch were read, as far as requests are complete.
-abbrev pub read_on : ℕ → Marks → ℕ
-read_on upto now = if nat_lt now.served upto then upto else now.served + (min (length (complete now)) (begins upto now + 8) - now.served)
+abbrev pub read_on : ℕ → SizeMarks → ℕ
+read_on upto now = if nat_lt now.served upto then upto else now.served + (min (length (complete now)) (batch_begins upto now + 8) - now.served)
 
 -- wherever a node has not the connection, each request is answered as it is read
-abbrev pub read_by : Option Place → ℕ → Marks → ℕ
-read_by None upto now = now.served
-read_by (Some (Node n)) upto now = read_on upto now
-read_by (Some Front) upto now = now.served
-read_by (Some (Client d)) upto now = now.served
+abbrev pub requests_read_by : Option Place → ℕ → SizeMarks → ℕ
+requests_read_by None upto now = now.served
+requests_read_by (Some (Node n)) upto now = read_on upto now
+requests_read_by (Some Front) upto now = now.served
+requests_read_by (Some (Client d)) upto now = now.served
 
 -- at the end of a step, where so many were read before it
 abbrev pub read_at : ℕ → ℕ → List Rec → ℕ
-read_at c upto J = read_by (owner J c) upto (marks J c)
+read_at c upto J = requests_read_by (owner J c) upto (size_marks J c)
 
 -- step by step: how many of client c were read before the step in which a journal ends
 abbrev pub read_before : ℕ → ℕ → List Rec → List Rec → ℕ
@@ -81,8 +81,8 @@ read_before c upto past [] = upto
 read_before c upto past (r ∷ rs) = read_before c (if is_opening r then read_at c upto past else upto) (past ++ r ∷ []) rs
 
 -- and how many at its end
-abbrev pub reads : List Rec → ℕ → ℕ
-reads J c = read_at c (read_before c 0 [] J) J
+abbrev pub requests_read : List Rec → ℕ → ℕ
+requests_read J c = read_at c (read_before c 0 [] J) J
 
 -- The paths that are to be assigned, where these were before the batch and those are in it: the connection's first request for a file
 -- was assigned with the connection.
@@ -92,15 +92,15 @@ to_assign (first ∷ others) paths = paths
 
 -- So many requests, with these paths to be assigned, are the batch that is read last in a step, with which this is told: all that
 -- were read before the step are answered, and the batch is not answered whole.
-pub record IsOfBatch (files : FilesAt) (upto : ℕ) (now : Marks) (size : ℕ) (paths : List (List ℕ)) : Type 0 where
+pub record IsOfBatch (files : FilesAt) (upto : ℕ) (now : SizeMarks) (size : ℕ) (paths : List (List ℕ)) : Type 0 where
   pub answered : upto ≤ now.served
-  pub goes_on : now.served < begins upto now + size
-  pub size_is : size ≡ length (batch_behind (begins upto now) (complete now))
-  pub paths_are : paths ≡ to_assign (good_paths files (take (begins upto now) (complete now))) (good_paths files (batch_behind (begins upto now) (complete now)))
+  pub goes_on : now.served < batch_begins upto now + size
+  pub size_is : size ≡ length (batch_behind (batch_begins upto now) (complete now))
+  pub paths_are : paths ≡ to_assign (good_paths files (take (batch_begins upto now) (complete now))) (good_paths files (batch_behind (batch_begins upto now) (complete now)))
 
 -- ---- Asks
 
-abbrev pub BodyIsOfBatch : FilesAt → ℕ → Marks → Body → Type 0
+abbrev pub BodyIsOfBatch : FilesAt → ℕ → SizeMarks → Body → Type 0
 BodyIsOfBatch files upto now (body.Ask number queue size paths) = IsOfBatch files upto now size paths
 BodyIsOfBatch files upto now _ = Unit {0}
 
@@ -108,8 +108,8 @@ BodyIsOfBatch files upto now _ = Unit {0}
 -- did not touch.
 abbrev pub AsksTo : FilesAt → List Rec → List Rec → Place → Place → List ℕ → Type 0
 AsksTo files past step (Node n) Front bytes =
-    (m : Message) → decoded_message bytes ≡ Ok m → is_touched past m.c ≡ false → (WasSent (Node n) Front bytes past → ⊥)
-    → BodyIsOfBatch files (reads past m.c) (marks (past ++ step) m.c) m.body
+    (m : Message) → decoded_message bytes ≡ Ok m → is_touched past m.c ≡ false → (WasSentBetween (Node n) Front bytes past → ⊥)
+    → BodyIsOfBatch files (requests_read past m.c) (size_marks (past ++ step) m.c) m.body
 AsksTo files past step _ _ bytes = Unit {0}
 
 abbrev pub MayAsk : FilesAt → List Rec → List Rec → Rec → Type 0

@@ -3,7 +3,7 @@ use Rattle.std.specs.Prelude.{◌≡◌, ℕ, List}
 use Rattle.lard_base.specs.declared.config.Config.{Config}
 use Rattle.lard_base.specs.declared.event.Event.{Event}
 use Rattle.lard_rules.specs.declared.machine.Machine.{Machine}
-use Rattle.lard_rules.specs.Machine.{IsReached, Passes, start}
+use Rattle.lard_rules.specs.Machine.{IsReached, Passes, machine_start}
 use Rattle.lard_history.specs.Journal.{answered_bytes}
 use Rattle.lard_history.specs.Laws.{ActsInPlace, Follows, IsNetwork, KeepsTime}
 use Rattle.lard_law_view.specs.ClientTale.{IsNetOf}
@@ -34,4 +34,4 @@ TimesAreLawful = Always (λ m. KeepsTime m.journal)
 
 -- It is the steps of the events, each with its number.
 abbrev pub JournalsFollow : Type 0
-JournalsFollow = (config : Config) (files : List (List ℕ × List ℕ)) (es : List Event) (m : Machine) → Passes (start config files) es m → Follows 1 es m.journal
+JournalsFollow = (config : Config) (files : List (List ℕ × List ℕ)) (es : List Event) (m : Machine) → Passes (machine_start config files) es m → Follows 1 es m.journal

@@ -4,7 +4,7 @@ use Rattle.lard_answers.specs.Answers.{FilesAt}
 use Rattle.lard_law_view.specs.View.{Conn}
 use Rattle.lard_endpoint.specs.Control.{ControlBlock}
 use Rattle.lard_rules.specs.declared.front.FrontRest.{FrontRest}
-use Rattle.lard_rules.specs.Front.{FrontPart, is_at}
+use Rattle.lard_rules.specs.Front.{FrontPart, is_row_at}
 use Rattle.lard_handoff_back.specs.declared.row.BackConn.TheVariants as back
 use Rattle.lard_history.proofs.Each.{Each}
 use Rattle.lard_rules.specs.declared.stay.Stay.{Stay}
@@ -21,7 +21,7 @@ IsTagged files r s = s.asks ≡ r.asks → (named_paths files s.batch ≡ []) �
 
 -- so it is while the connection is with this node
 abbrev pub FitsAt : FilesAt → FrontPart → ℕ → NodePart → Type 0
-FitsAt files f n p = (e : ℕ) (b : ControlBlock) (s : Stay) (r : FrontRest) → is_at n e f.row ≡ true → p.row ≡ Some (record { stage = back.Here b; epoch = record { 0 = e } }) → p.stay ≡ Some s → f.rest ≡ Some r → IsTagged files r s
+FitsAt files f n p = (e : ℕ) (b : ControlBlock) (s : Stay) (r : FrontRest) → is_row_at n e f.row ≡ true → p.row ≡ Some (record { stage = back.Here b; epoch = record { 0 = e } }) → p.stay ≡ Some s → f.rest ≡ Some r → IsTagged files r s
 
 pub record NamesNodes (N : ℕ → Type 0) (files : FilesAt) (x : Conn) : Type 0 where
   pub nodes : TagsAre N x.part.front

@@ -10,7 +10,7 @@ use Rattle.lard_history.specs.Journal.{assigned, is_touched, served, wrote}
 use Rattle.lard_history.specs.Laws.{EachMay}
 use Rattle.lard_journal.specs.declared.rec.Rec.{Rec}
 use Rattle.lard_journal.specs.declared.rec.Rec.TheVariants as rec
-use Rattle.lard_law_connections.specs.Offers.{WasSent}
+use Rattle.lard_law_connections.specs.Offers.{WasSentBetween}
 use Rattle.lard_message.specs.declared.message.Body.{Body}
 use Rattle.lard_message.specs.declared.message.Body.TheVariants as body
 use Rattle.lard_message.specs.declared.message.Message.{Message}
@@ -21,13 +21,13 @@ use Rattle.lard_request.specs.declared.verdict.Verdict.{Verdict}
 -- ---- what is told of a connection's requests
 
 -- What its client wrote, how many responses were queued, and what was assigned, each by its path and node.
-pub record Marks : Type 0 where
+pub record WayMarks : Type 0 where
   pub wrote : List ℕ
   pub served : ℕ
   pub assigned : List (List ℕ × ℕ)
 
-abbrev pub marks : List Rec → ℕ → Marks
-marks J c = record { wrote = wrote J c; served = served J c; assigned = assigned J c }
+abbrev pub way_marks : List Rec → ℕ → WayMarks
+way_marks J c = record { wrote = wrote J c; served = served J c; assigned = assigned J c }
 
 -- the paths of those that are for files
 abbrev pub good_paths : FilesAt → List Verdict → List (List ℕ)
@@ -35,13 +35,13 @@ good_paths files [] = []
 good_paths files (v ∷ vs) = and_path (good_path files v) (good_paths files vs)
 
 -- of all requests that the client wrote, and of those that were answered
-abbrev pub paths_wanted : FilesAt → Marks → List (List ℕ)
+abbrev pub paths_wanted : FilesAt → WayMarks → List (List ℕ)
 paths_wanted files m = good_paths files (verdicts m.wrote)
 
-abbrev pub paths_answered : FilesAt → Marks → List (List ℕ)
+abbrev pub paths_answered : FilesAt → WayMarks → List (List ℕ)
 paths_answered files m = good_paths files (take m.served (verdicts m.wrote))
 
-abbrev pub paths_assigned : Marks → List (List ℕ)
+abbrev pub paths_assigned : WayMarks → List (List ℕ)
 paths_assigned m = map (λ a. a.0) m.assigned
 
 -- ---- the way of a content
@@ -57,7 +57,7 @@ ComesFrom home node (via.Node from) = (from ≡ node) × (node ≢ home)
 -- The response to a good request goes with the next assignment: the k-th good one with the k-th. It is for the path of that request,
 -- the response is of the connection's home, which is the node of the first assignment, and its content came from where it was
 -- assigned.
-pub record GoesWith (files : FilesAt) (m : Marks) (path : List ℕ) (place : Place) (way : Via) : Type 0 where
+pub record GoesWith (files : FilesAt) (m : WayMarks) (path : List ℕ) (place : Place) (way : Via) : Type 0 where
   pub first : List ℕ × ℕ
   pub first_is : slice_get m.assigned 0 ≡ Some first
   pub its : List ℕ × ℕ
@@ -67,35 +67,35 @@ pub record GoesWith (files : FilesAt) (m : Marks) (path : List ℕ) (place : Pla
   pub comes : ComesFrom first.1 its.1 way
 
 -- the response to a request that is not good has the place's own content
-abbrev pub ComesAsAssigned : FilesAt → Marks → Place → Via → Option (List ℕ) → Type 0
+abbrev pub ComesAsAssigned : FilesAt → WayMarks → Place → Via → Option (List ℕ) → Type 0
 ComesAsAssigned files m place way None = way ≡ via.Own
 ComesAsAssigned files m place way (Some path) = GoesWith files m path place way
 
 -- it answers the next request, which is there
-abbrev pub AnswersBy : FilesAt → Marks → Place → Via → Option Verdict → Type 0
+abbrev pub AnswersBy : FilesAt → WayMarks → Place → Via → Option Verdict → Type 0
 AnswersBy files m place way None = ⊥
 AnswersBy files m place way (Some v) = ComesAsAssigned files m place way (good_path files v)
 
-abbrev pub AnswersNext : FilesAt → Marks → Place → Via → Type 0
-AnswersNext files m place way = AnswersBy files m place way (slice_get (verdicts m.wrote) m.served)
+abbrev pub AnswersNextAt : FilesAt → WayMarks → Place → Via → Type 0
+AnswersNextAt files m place way = AnswersBy files m place way (slice_get (verdicts m.wrote) m.served)
 
 -- so it is of each client whose connection the schedule did not touch
-abbrev pub MayCome : FilesAt → List Rec → Rec → Type 0
-MayCome files past (rec.Served place c r code size way) = is_touched past c ≡ false → AnswersNext files (marks past c) place way
-MayCome files past _ = Unit {0}
+abbrev pub MayComeThisWay : FilesAt → List Rec → Rec → Type 0
+MayComeThisWay files past (rec.Served place c r code size way) = is_touched past c ≡ false → AnswersNextAt files (way_marks past c) place way
+MayComeThisWay files past _ = Unit {0}
 
 abbrev pub ComeAsAssigned : FilesAt → List Rec → Type 0
-ComeAsAssigned files J = EachMay (MayCome files) [] J
+ComeAsAssigned files J = EachMay (MayComeThisWay files) [] J
 
 -- ---- the order of assignments
 
 -- the path is that of the next good request that has no node, the k-th in the k-th assignment
-abbrev pub IsNextGood : FilesAt → Marks → List ℕ → Type 0
+abbrev pub IsNextGood : FilesAt → WayMarks → List ℕ → Type 0
 IsNextGood files m path = slice_get (paths_wanted files m) (length m.assigned) ≡ Some path
 
 abbrev pub MayBeAssigned : FilesAt → List Rec → Rec → Type 0
-MayBeAssigned files past (rec.AssignedFirst c r path n add remove) = is_touched past c ≡ false → IsNextGood files (marks past c) path
-MayBeAssigned files past (rec.AssignedLater c r path n add size queue) = is_touched past c ≡ false → IsNextGood files (marks past c) path
+MayBeAssigned files past (rec.AssignedFirst c r path n add remove) = is_touched past c ≡ false → IsNextGood files (way_marks past c) path
+MayBeAssigned files past (rec.AssignedLater c r path n add size queue) = is_touched past c ≡ false → IsNextGood files (way_marks past c) path
 MayBeAssigned files past _ = Unit {0}
 
 abbrev pub AreAssignedInOrder : FilesAt → List Rec → Type 0
@@ -110,7 +110,7 @@ AssignsAPrefix files J =
 -- ---- the paths of an Ask that goes out
 
 -- They go on from those that were assigned: both, one behind the other, are a prefix of the paths of the good requests.
-abbrev pub BodyGoesOn : FilesAt → Marks → Body → Type 0
+abbrev pub BodyGoesOn : FilesAt → WayMarks → Body → Type 0
 BodyGoesOn files m (body.Ask number queue size paths) = IsPrefix (paths_assigned m ++ paths) (paths_wanted files m)
 BodyGoesOn files m _ = Unit {0}
 
@@ -118,7 +118,7 @@ BodyGoesOn files m _ = Unit {0}
 -- not touch.
 abbrev pub GoesOnTo : FilesAt → List Rec → Place → Place → List ℕ → Type 0
 GoesOnTo files past (Node n) Front bytes =
-    (m : Message) → decoded_message bytes ≡ Ok m → is_touched past m.c ≡ false → (WasSent (Node n) Front bytes past → ⊥) → BodyGoesOn files (marks past m.c) m.body
+    (m : Message) → decoded_message bytes ≡ Ok m → is_touched past m.c ≡ false → (WasSentBetween (Node n) Front bytes past → ⊥) → BodyGoesOn files (way_marks past m.c) m.body
 GoesOnTo files past _ _ bytes = Unit {0}
 
 abbrev pub MayGoOn : FilesAt → List Rec → Rec → Type 0

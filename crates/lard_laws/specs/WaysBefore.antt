@@ -43,18 +43,18 @@ WasThere past n c r via.Cache = Unit {0}
 WasThere past n c r via.Disk = WasRead past n c r
 WasThere past n c r (via.Node m) = HasCome past n m c r
 
-abbrev pub WasAt : List Seen → Place → ℕ → ℕ → Via → Type 0
-WasAt past (Node n) c r way = WasThere past n c r way
-WasAt past Front c r way = Unit {0}
-WasAt past (Client d) c r way = Unit {0}
+abbrev pub WasAtPlace : List Seen → Place → ℕ → ℕ → Via → Type 0
+WasAtPlace past (Node n) c r way = WasThere past n c r way
+WasAtPlace past Front c r way = Unit {0}
+WasAtPlace past (Client d) c r way = Unit {0}
 
 -- of what connection c saw
 abbrev pub MayFollow : ℕ → List Seen → Rec → Type 0
-MayFollow c past (rec.Served place d r code size way) = WasAt past place d r way
+MayFollow c past (rec.Served place d r code size way) = WasAtPlace past place d r way
 MayFollow c past _ = Unit {0}
 
 abbrev pub MayBeServed : List Rec → Rec → Type 0
-MayBeServed past (rec.Served place c r code size way) = WasAt (own c past) place c r way
+MayBeServed past (rec.Served place c r code size way) = WasAtPlace (own c past) place c r way
 MayBeServed past _ = Unit {0}
 
 -- In every run, of each connection: also of one that the schedule touched.

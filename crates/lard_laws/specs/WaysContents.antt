@@ -19,11 +19,11 @@ use Rattle.lard_message.specs.Message.{kind_of}
 use Rattle.lard_message.specs.Reading.{decoded_message}
 use Rattle.lard_net.specs.Net.{Packet, packet_at}
 use Rattle.lard_rules.specs.Node.{message}
-use Rattle.lard_rules.specs.NodePlace.{bytes_of}
+use Rattle.lard_rules.specs.NodePlace.{content_bytes}
 
 -- it is read as a content
-abbrev pub IsContent : List ℕ → Type 0
-IsContent bytes = (msg : Message) × (decoded_message bytes ≡ Ok msg) × (kind_of msg.body ≡ kind.Content)
+abbrev pub IsContentMessage : List ℕ → Type 0
+IsContentMessage bytes = (msg : Message) × (decoded_message bytes ≡ Ok msg) × (kind_of msg.body ≡ kind.Content)
 
 -- In the step node n gets a Fetch from node m, of request r of connection c for this path, which is a hit there.
 pub record AnswersFetch (past step : List Rec) (n m c epoch r : ℕ) (path : List ℕ) : Type 0 where
@@ -42,11 +42,11 @@ pub record BringsFile (files : FilesAt) (past step : List Rec) (n m : ℕ) (byte
   pub epoch : ℕ
   pub r : ℕ
   pub path : List ℕ
-  pub is : bytes ≡ message c epoch (body.Content r (bytes_of (files path)))
+  pub is : bytes ≡ message c epoch (body.Content r (content_bytes (files path)))
   pub by : AnswersFetch past step n m c epoch r path ⊎ Has (rec.Read n m c r path) step
 
 abbrev pub SendsFile : FilesAt → List Rec → List Rec → Place → Place → List ℕ → Type 0
-SendsFile files past step (Node n) (Node m) bytes = IsContent bytes → BringsFile files past step n m bytes
+SendsFile files past step (Node n) (Node m) bytes = IsContentMessage bytes → BringsFile files past step n m bytes
 SendsFile files past step _ _ bytes = Unit {0}
 
 abbrev pub MayBring : FilesAt → List Rec → List Rec → Rec → Type 0

@@ -9,9 +9,9 @@ use Rattle.lard_law_connections.specs.Places.{IsDecided, IsPast}
 use Rattle.lard_law_view.specs.Carry.{tale_at}
 use Rattle.lard_law_view.specs.View.{Conn, Part}
 use Rattle.lard_laws.specs.WaysUnder.{Assigned, Under}
-use Rattle.lard_laws.specs.Ways.{Marks, paths_answered, paths_assigned, paths_wanted}
+use Rattle.lard_laws.specs.Ways.{WayMarks, paths_answered, paths_assigned, paths_wanted}
 use Rattle.lard_rules.specs.declared.front.FrontRest.{FrontRest}
-use Rattle.lard_rules.specs.Front.{is_at, rest_of}
+use Rattle.lard_rules.specs.Front.{is_row_at, front_rest}
 use Rattle.lard_handoff_front.specs.declared.row.FrontConn.{FrontConn}
 use Rattle.lard_handoff_front.specs.declared.row.FrontConn.TheVariants as stage
 use Rattle.lard_handoff_front.specs.declared.row.FrontRow.{FrontRow}
@@ -27,10 +27,10 @@ use Rattle.lard_rules.specs.Node.{NodePart}
 use Rattle.lard_rules.specs.Stay.{named_paths}
 use Rattle.lard_request.specs.declared.verdict.Verdict.{Verdict}
 
-abbrev pub marks_of : Tale → Marks
+abbrev pub marks_of : Tale → WayMarks
 marks_of t = record { wrote = t.wrote; served = t.served; assigned = t.assigned }
 
-abbrev pub marks_at : Conn → Marks
+abbrev pub marks_at : Conn → WayMarks
 marks_at x = marks_of (tale_at x)
 
 -- ---- at its home
@@ -43,12 +43,12 @@ given_to (path ∷ paths) (node ∷ nodes) = (path, node) ∷ given_to paths nod
 
 -- The last Ask was answered: the last assignments are those of the requests that it named, which wait for its Tag; or it was not, and
 -- names some.
-abbrev pub IsAsking : FilesAt → Marks → FrontRest → Stay → List Assigned → List Assigned → Type 0
+abbrev pub IsAsking : FilesAt → WayMarks → FrontRest → Stay → List Assigned → List Assigned → Type 0
 IsAsking files m r s gone under =
     ((s.asks ≡ r.asks) × (m.assigned ≡ (gone ++ under) ++ given_to (named_paths files s.batch) r.tag)) ⊎ ((s.asks ≡ r.asks + 1) × (m.assigned ≡ gone ++ under) × (named_paths files s.batch ≡ [] → ⊥))
 
 -- The first assignments are of the good requests that were answered, the next of those of the batch that started.
-pub record StayGoes (files : FilesAt) (home : ℕ) (m : Marks) (r : FrontRest) (s : Stay) : Type 0 where
+pub record StayGoes (files : FilesAt) (home : ℕ) (m : WayMarks) (r : FrontRest) (s : Stay) : Type 0 where
   pub gone : List Assigned
   pub under : List Assigned
   pub walked : map (λ a. a.0) gone ≡ paths_answered files m
@@ -56,50 +56,50 @@ pub record StayGoes (files : FilesAt) (home : ℕ) (m : Marks) (r : FrontRest) (
   pub asking : IsAsking files m r s gone under
 
 -- so it is as long as its stay lasts
-abbrev pub StayWays : FilesAt → ℕ → Marks → FrontRest → Option Stay → Type 0
+abbrev pub StayWays : FilesAt → ℕ → WayMarks → FrontRest → Option Stay → Type 0
 StayWays files home m r None = Unit {0}
 StayWays files home m r (Some s) = StayGoes files home m r s
 
 -- ---- the seat
 
 -- nothing was assigned, and no good request was answered
-abbrev pub IsFree : FilesAt → Marks → Type 0
-IsFree files m = (m.assigned ≡ []) × (paths_answered files m ≡ [])
+abbrev pub IsUnassigned : FilesAt → WayMarks → Type 0
+IsUnassigned files m = (m.assigned ≡ []) × (paths_answered files m ≡ [])
 
 -- the next request of these bytes is for this path
-pub record BeginsWith (files : FilesAt) (unread : List ℕ) (path : List ℕ) : Type 0 where
+pub record BeginsWithRequest (files : FilesAt) (unread : List ℕ) (path : List ℕ) : Type 0 where
   pub first : Verdict
   pub others : List Verdict
   pub are : verdicts unread ≡ first ∷ others
   pub good : good_path files first ≡ Some path
 
 -- one request was assigned, to this node, and no good one was answered
-pub record IsPlacedOnce (files : FilesAt) (m : Marks) (r : FrontRest) (home : ℕ) : Type 0 where
+pub record IsPlacedOnce (files : FilesAt) (m : WayMarks) (r : FrontRest) (home : ℕ) : Type 0 where
   pub path : List ℕ
   pub assigned : m.assigned ≡ (path, home) ∷ []
   pub answered : paths_answered files m ≡ []
   pub asks : r.asks ≡ 0
 
 -- It is at this node, which has it or had it, or is on its way there.
-abbrev pub IsAway : FilesAt → Marks → FrontRest → ℕ → ℕ → NodePart → Type 0
+abbrev pub IsAway : FilesAt → WayMarks → FrontRest → ℕ → ℕ → NodePart → Type 0
 IsAway files m r home e p =
     (IsPast e p.row × IsPlacedOnce files m r home) ⊎ (IsDecided e p.row × ((path : List ℕ) × (others : List Assigned) × (m.assigned ≡ (path, home) ∷ others)) × StayWays files home m r p.stay)
 
 -- one that waits is to be placed for the next request
-abbrev pub IsWaiting : FilesAt → List ℕ → Option (List ℕ) → Type 0
-IsWaiting files unread None = Unit {0}
-IsWaiting files unread (Some path) = BeginsWith files unread path
+abbrev pub WaitsForNext : FilesAt → List ℕ → Option (List ℕ) → Type 0
+WaitsForNext files unread None = Unit {0}
+WaitsForNext files unread (Some path) = BeginsWithRequest files unread path
 
-abbrev pub StageWays : FilesAt → Marks → Part → ℕ → FrontConn → Type 0
-StageWays files m p e (stage.Held b) = IsFree files m
-StageWays files m p e (stage.Waiting b) = IsFree files m × IsWaiting files b.recv.unread (rest_of p.front.rest).target
+abbrev pub StageWays : FilesAt → WayMarks → Part → ℕ → FrontConn → Type 0
+StageWays files m p e (stage.Held b) = IsUnassigned files m
+StageWays files m p e (stage.Waiting b) = IsUnassigned files m × WaitsForNext files b.recv.unread (front_rest p.front.rest).target
 StageWays files m p e stage.Lent = Unit {0}
-StageWays files m p e (stage.Offering n d) = IsAway files m (rest_of p.front.rest) n e (p.nodes n)
-StageWays files m p e (stage.Moved n d) = IsAway files m (rest_of p.front.rest) n e (p.nodes n)
+StageWays files m p e (stage.Offering n d) = IsAway files m (front_rest p.front.rest) n e (p.nodes n)
+StageWays files m p e (stage.Moved n d) = IsAway files m (front_rest p.front.rest) n e (p.nodes n)
 StageWays files m p e (stage.Closed last) = Unit {0}
 
-abbrev pub SeatWays : FilesAt → Marks → Part → Option FrontRow → Type 0
-SeatWays files m p None = IsFree files m
+abbrev pub SeatWays : FilesAt → WayMarks → Part → Option FrontRow → Type 0
+SeatWays files m p None = IsUnassigned files m
 SeatWays files m p (Some row) = StageWays files m p row.epoch.0 row.stage
 
 -- ---- packets
@@ -110,7 +110,7 @@ StayAsks files number paths None = Unit {0}
 StayAsks files number paths (Some s) = (s.asks ≡ number) × (paths ≡ named_paths files s.batch)
 
 -- An Ask that was answered, or the next: its paths are those of the next good requests.
-abbrev pub AskIs : FilesAt → Marks → FrontRest → Option Stay → ℕ → List (List ℕ) → Type 0
+abbrev pub AskIs : FilesAt → WayMarks → FrontRest → Option Stay → ℕ → List (List ℕ) → Type 0
 AskIs files m r o number paths =
     (number ≤ r.asks) ⊎ ((number ≡ r.asks + 1) × IsPrefix (paths_assigned m ++ paths) (paths_wanted files m) × StayAsks files (r.asks + 1) paths o)
 
@@ -118,30 +118,30 @@ abbrev pub TagIs : FrontRest → ℕ → List ℕ → Type 0
 TagIs r number nodes = (number ≤ r.asks) × (number ≡ r.asks → nodes ≡ r.tag)
 
 -- an Offer has what is to be read first
-abbrev pub OfferIs : FilesAt → Marks → EndpointParts → Type 0
-OfferIs files m parts = (path : List ℕ) × (node : ℕ) × (m.assigned ≡ (path, node) ∷ []) × BeginsWith files parts.unread path
+abbrev pub OfferIs : FilesAt → WayMarks → EndpointParts → Type 0
+OfferIs files m parts = (path : List ℕ) × (node : ℕ) × (m.assigned ≡ (path, node) ∷ []) × BeginsWithRequest files parts.unread path
 
 -- the front end was in this epoch
 abbrev pub IsBy : ℕ → Option FrontRow → Type 0
 IsBy e None = ⊥
 IsBy e (Some row) = e ≤ row.epoch.0
 
-abbrev pub NodeSaysWays : FilesAt → Marks → Part → ℕ → ℕ → Body → Type 0
+abbrev pub NodeSaysWays : FilesAt → WayMarks → Part → ℕ → ℕ → Body → Type 0
 NodeSaysWays files m p n e (body.Ask number queue size paths) =
-    IsDecided e (p.nodes n).row × (is_at n e p.front.row ≡ true → AskIs files m (rest_of p.front.rest) (p.nodes n).stay number paths)
+    IsDecided e (p.nodes n).row × (is_row_at n e p.front.row ≡ true → AskIs files m (front_rest p.front.rest) (p.nodes n).stay number paths)
 NodeSaysWays files m p n e _ = Unit {0}
 
-abbrev pub FrontSaysWays : FilesAt → Marks → Part → ℕ → ℕ → Body → Type 0
+abbrev pub FrontSaysWays : FilesAt → WayMarks → Part → ℕ → ℕ → Body → Type 0
 FrontSaysWays files m p n e (body.Offer parts) = IsDecided e (p.nodes n).row ⊎ OfferIs files m parts
-FrontSaysWays files m p n e (body.Tag number nodes) = IsBy e p.front.row × (is_at n e p.front.row ≡ true → TagIs (rest_of p.front.rest) number nodes)
+FrontSaysWays files m p n e (body.Tag number nodes) = IsBy e p.front.row × (is_row_at n e p.front.row ≡ true → TagIs (front_rest p.front.rest) number nodes)
 FrontSaysWays files m p n e _ = Unit {0}
 
-abbrev pub SaysWays : FilesAt → Marks → Part → Place → Place → List ℕ → Type 0
+abbrev pub SaysWays : FilesAt → WayMarks → Part → Place → Place → List ℕ → Type 0
 SaysWays files m p (Node n) Front bytes = (msg : Message) → decoded_message bytes ≡ Ok msg → NodeSaysWays files m p n msg.epoch.0 msg.body
 SaysWays files m p Front (Node n) bytes = (msg : Message) → decoded_message bytes ≡ Ok msg → FrontSaysWays files m p n msg.epoch.0 msg.body
 SaysWays files m p _ _ bytes = Unit {0}
 
-abbrev pub LetterWays : FilesAt → Marks → Part → Letter → Type 0
+abbrev pub LetterWays : FilesAt → WayMarks → Part → Letter → Type 0
 LetterWays files m p l = SaysWays files m p l.from l.to l.bytes
 
 -- ---- one connection

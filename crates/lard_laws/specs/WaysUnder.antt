@@ -20,16 +20,16 @@ IsStarted home node (progress.Awaited from) = (from ≡ node) × (node ≢ home)
 IsStarted home node (progress.Ready way) = ComesFrom home node way
 
 -- it takes the first of these
-abbrev pub TakesFirst : ℕ → List ℕ → Progress → (List Assigned → Type 0) → List Assigned → Type 0
-TakesFirst home path p later [] = ⊥
-TakesFirst home path p later (g ∷ gs) = (g.0 ≡ path) × IsStarted home g.1 p × later gs
+abbrev pub TakesFirstAssigned : ℕ → List ℕ → Progress → (List Assigned → Type 0) → List Assigned → Type 0
+TakesFirstAssigned home path p later [] = ⊥
+TakesFirstAssigned home path p later (g ∷ gs) = (g.0 ≡ path) × IsStarted home g.1 p × later gs
 
 -- A good request that has no node yet is one of those that an Ask names; none behind it has one.
 abbrev pub LiesGood : ℕ → List ℕ → Progress → (List Assigned → Type 0) → List Assigned → Type 0
 LiesGood home path progress.Named later us = (us ≡ []) × later []
-LiesGood home path progress.Reading later us = TakesFirst home path progress.Reading later us
-LiesGood home path (progress.Awaited from) later us = TakesFirst home path (progress.Awaited from) later us
-LiesGood home path (progress.Ready way) later us = TakesFirst home path (progress.Ready way) later us
+LiesGood home path progress.Reading later us = TakesFirstAssigned home path progress.Reading later us
+LiesGood home path (progress.Awaited from) later us = TakesFirstAssigned home path (progress.Awaited from) later us
+LiesGood home path (progress.Ready way) later us = TakesFirstAssigned home path (progress.Ready way) later us
 
 abbrev pub Lies : ℕ → Progress → (List Assigned → Type 0) → List Assigned → Option (List ℕ) → Type 0
 Lies home p later us None = (p ≡ progress.Ready via.Own) × later us

@@ -22,12 +22,12 @@ use Rattle.lard_law_view.specs.Truth.{Speaks}
 
 -- By the first numbers of the client and of the cluster, where so many symbols were sent: the window ends far enough, and the symbols of
 -- the segment were sent.
-pub record Reaches (isn iss sent : ℕ) (s : Said) : Type 0 where
+pub record ReachesFar (isn iss sent : ℕ) (s : Said) : Type 0 where
   pub wide : s.flags.rst ≡ false → RECEIVE_WINDOW ≤ seq_offset s.ack isn + s.wnd
   pub ends : s.flags.rst ≡ false → 0 < seg_len s → seq_offset s.seq iss + seg_len s ≤ sent
 
 abbrev pub BytesReach : ℕ → ℕ → ℕ → ℕ → List ℕ → Type 0
-BytesReach c isn iss sent bytes = (s : Said) → decoded bytes c ToClient ≡ Ok s → Reaches isn iss sent s
+BytesReach c isn iss sent bytes = (s : Said) → decoded bytes c ToClient ≡ Ok s → ReachesFar isn iss sent s
 
 abbrev pub LetterReachesOn : ℕ → ℕ → ℕ → ℕ → Place → Place → List ℕ → Type 0
 LetterReachesOn c isn iss sent Front (Client d) bytes = BytesReach c isn iss sent bytes
@@ -48,16 +48,16 @@ pub record IsEnd (isn iss : ℕ) (b : ControlBlock) : Type 0 where
   pub speaks : Speaks b.send bytes
 
 -- its client took no more symbols than so many that were sent, and no segment has more
-pub record WasSent (c : ℕ) (x : ClientBlock) (iss : ℕ) (letters : List Letter) (sent : ℕ) : Type 0 where
+pub record SymbolsWereSent (c : ℕ) (x : ClientBlock) (iss : ℕ) (letters : List Letter) (sent : ℕ) : Type 0 where
   pub taken : taken_by x ≤ sent
   pub all : Each (LetterReaches c x.send.iss iss sent) letters
 
 abbrev pub EndSent : ℕ → ClientBlock → ℕ → List Letter → ControlBlock → Type 0
-EndSent c x iss letters b = IsEnd x.send.iss iss b × WasSent c x iss letters b.send.nxt
+EndSent c x iss letters b = IsEnd x.send.iss iss b × SymbolsWereSent c x iss letters b.send.nxt
 
 -- before the front end has it, nothing was sent
 abbrev pub FrontSent : ℕ → ClientBlock → ℕ → List Letter → Option FrontRow → Type 0
-FrontSent c x iss letters None = WasSent c x iss letters 0
+FrontSent c x iss letters None = SymbolsWereSent c x iss letters 0
 FrontSent c x iss letters (Some row) = Unit {0}
 
 -- ---- the client

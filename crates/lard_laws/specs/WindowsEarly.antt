@@ -2,7 +2,7 @@
 use Rattle.std.specs.Prelude.{◌≡◌, ℕ, true, false, List, [], Option, Some, None, Ok}
 use Rattle.lard_base.specs.declared.place.Place.{Place}
 use Rattle.lard_base.specs.declared.place.Place.TheVariants.{Client, Front, Node}
-use Rattle.lard_client.specs.Control.{is_open}
+use Rattle.lard_client.specs.Control.{is_client_open}
 use Rattle.lard_law_view.specs.View.{Conn}
 use Rattle.lard_endpoint.specs.Control.{ControlBlock}
 use Rattle.lard_handoff_front.specs.declared.row.FrontConn.{FrontConn}
@@ -54,7 +54,7 @@ pub record IsEarly (x : Conn) (s : Station) : Type 0 where
 
 abbrev pub StaysEarlyOn : Conn → Option Station → Type 0
 StaysEarlyOn x None = Unit {0}
-StaysEarlyOn x (Some s) = is_open s.client ≡ true → s.client.send.una ≡ 0 → IsEarly x s
+StaysEarlyOn x (Some s) = is_client_open s.client ≡ true → s.client.send.una ≡ 0 → IsEarly x s
 
 abbrev pub StaysEarly : Conn → Type 0
 StaysEarly x = StaysEarlyOn x x.part.station

@@ -32,8 +32,8 @@ RefusesOn c letters Front (Client d) bytes = BytesRefuse c letters bytes
 RefusesOn c letters (Node n) (Client d) bytes = BytesRefuse c letters bytes
 RefusesOn c letters _ _ bytes = Unit {0}
 
-abbrev pub Refuses : ℕ → List Letter → Letter → Type 0
-Refuses c letters l = RefusesOn c letters l.from l.to l.bytes
+abbrev pub RefusesLetter : ℕ → List Letter → Letter → Type 0
+RefusesLetter c letters l = RefusesOn c letters l.from l.to l.bytes
 
 abbrev pub RefusesSegments : Conn → Type 0
-RefusesSegments x = Each (Refuses x.c x.letters) x.letters
+RefusesSegments x = Each (RefusesLetter x.c x.letters) x.letters

@@ -3,7 +3,7 @@ use Rattle.std.specs.Prelude.{◌≡◌, ◌+◌, ◌≤◌, ℕ, true, false, L
 use Rattle.lard_arrival.specs.Arrival.{seg_len}
 use Rattle.lard_base.specs.declared.place.Place.{Place}
 use Rattle.lard_base.specs.declared.place.Place.TheVariants.{Client, Front, Node}
-use Rattle.lard_client.specs.Control.{ClientBlock, is_open}
+use Rattle.lard_client.specs.Control.{ClientBlock, is_client_open}
 use Rattle.lard_law_view.specs.View.{Conn}
 use Rattle.lard_history.specs.Own.{Has, Letter}
 use Rattle.lard_history.proofs.Each.{Each}
@@ -29,15 +29,15 @@ pub record IsRefused (c : ℕ) (letters : List Letter) (number : ℕ) : Type 0 w
 
 -- Of a segment of this client: it has no number beyond the client's symbols, nor beyond those that were sent. A client that resets is open no more; its reset has no
 -- symbol, and one without ACK refuses a segment to it.
-pub record Fits (c : ℕ) (x : ClientBlock) (letters : List Letter) (s : Said) : Type 0 where
+pub record FitsClient (c : ℕ) (x : ClientBlock) (letters : List Letter) (s : Said) : Type 0 where
   pub within : s.flags.rst ≡ false → seq_offset s.seq x.send.iss + seg_len s ≤ symbols x.send
   pub sent : s.flags.rst ≡ false → seq_offset s.seq x.send.iss + seg_len s ≤ x.send.nxt
-  pub closed : s.flags.rst ≡ true → is_open x ≡ false
+  pub closed : s.flags.rst ≡ true → is_client_open x ≡ false
   pub bare : s.flags.rst ≡ true → seg_len s ≡ 0
   pub refuses : s.flags.rst ≡ true → s.flags.ack ≡ false → IsRefused c letters s.seq
 
 abbrev pub BytesFit : ℕ → ClientBlock → List Letter → List ℕ → Type 0
-BytesFit c x letters bytes = (s : Said) → decoded bytes c ToCluster ≡ Ok s → Fits c x letters s
+BytesFit c x letters bytes = (s : Said) → decoded bytes c ToCluster ≡ Ok s → FitsClient c x letters s
 
 abbrev pub WordFitsOn : ℕ → ClientBlock → List Letter → Place → Place → List ℕ → Type 0
 WordFitsOn c x letters (Client d) Front bytes = BytesFit c x letters bytes

@@ -10,8 +10,8 @@ use Rattle.lard_table.specs.Table.{put_or}
 use Rattle.lard_table.proofs.Map.{get_inserted, insert_twice, put_got, put_twice}
 use Rattle.lard_loads.specs.declared.slot.Share.{Share}
 use Rattle.lard_loads.specs.declared.slot.Slot.{Slot}
-use Rattle.lard_loads.specs.Slot.{open_in, standing, standing_of}
-use Rattle.lard_loads.specs.Tally.{Standing, Tally, batch_ended, ending, open_shares, released, shared, shares_of, sharing}
+use Rattle.lard_loads.specs.Slot.{shares_open_in, standing_with, standing_of}
+use Rattle.lard_loads.specs.Tally.{Standing, Tally, batch_ended, batch_ended_with, open_shares, released, shared, shares_of, sharing}
 
 -- an admitted connection has a home
 pub record HasHome (s : Slot) : Type 0 where
@@ -20,7 +20,7 @@ pub record HasHome (s : Slot) : Type 0 where
 
 pub has_home : (s : Slot) → is_some (standing_of s) ≡ true → HasHome s
 has_home s h = go s.home refl h where
-  go : (o : Option ℕ) → s.home ≡ o → is_some (standing o (open_in s)) ≡ true → HasHome s
+  go : (o : Option ℕ) → s.home ≡ o → is_some (standing_with o (shares_open_in s)) ≡ true → HasHome s
   go None e k = absurd (false≢true k)
   go (Some n) e k = record { node = n; is = e }
 
@@ -43,27 +43,27 @@ module _ (t : Tally) (c h : ℕ) (xs : List Share) where
   -- whichever shares are open, the batch's end is one
   pub short-ended : (ys : List Share) → map.get t.standings c ≡ Some (record { home = h; shares = ys }) → batch_ended short c ≡ batch_ended t c
   short-ended ys was =
-      ap (ending short c) found
+      ap (batch_ended_with short c) found
       ∙ ap (λ (m : FinMap nat_cmp Standing). record t { standings = m }) (insert_twice t.standings c (record { home = h; shares = xs }) (record { home = h; shares = [] }))
-      ∙ sym (ap (ending t c) was)
+      ∙ sym (ap (batch_ended_with t c) was)
 
 -- no share is open where the batch is over
 pub ended-admitted : (t : Tally) (c : ℕ) → is_some (map.get t.standings c) ≡ true → is_some (map.get (batch_ended t c).standings c) ≡ true
 ended-admitted t c some = go (map.get t.standings c) refl some where
-  go : (o : Option Standing) → map.get t.standings c ≡ o → is_some o ≡ true → is_some (map.get (ending t c o).standings c) ≡ true
+  go : (o : Option Standing) → map.get t.standings c ≡ o → is_some o ≡ true → is_some (map.get (batch_ended_with t c o).standings c) ≡ true
   go None e k = absurd (false≢true k)
   go (Some s) e k = ap is_some (get_inserted t.standings c (record s { shares = [] }))
 
 pub ended-open : (t : Tally) (c : ℕ) → is_some (map.get t.standings c) ≡ true → open_shares (batch_ended t c) c ≡ 0
 ended-open t c some = go (map.get t.standings c) refl some where
-  go : (o : Option Standing) → map.get t.standings c ≡ o → is_some o ≡ true → open_shares (ending t c o) c ≡ 0
+  go : (o : Option Standing) → map.get t.standings c ≡ o → is_some o ≡ true → open_shares (batch_ended_with t c o) c ≡ 0
   go None e k = absurd (false≢true k)
   go (Some s) e k = ap (λ o. length (shares_of o)) (get_inserted t.standings c (record s { shares = [] }))
 
 -- where no share is open nothing changes
 pub ended-none : (t : Tally) (c : ℕ) → open_shares t c ≡ 0 → batch_ended t c ≡ t
 ended-none t c none = go (map.get t.standings c) refl none where
-  go : (o : Option Standing) → map.get t.standings c ≡ o → length (shares_of o) ≡ 0 → ending t c o ≡ t
+  go : (o : Option Standing) → map.get t.standings c ≡ o → length (shares_of o) ≡ 0 → batch_ended_with t c o ≡ t
   go None e k = refl
   go (Some s) e k =
       let empty : s.shares ≡ [] = nil_from_length s.shares k in
@@ -73,7 +73,7 @@ ended-none t c none = go (map.get t.standings c) refl none where
 -- a release ends the batch too
 pub released-ended : (t : Tally) (c : ℕ) → released (batch_ended t c) c ≡ released t c
 released-ended t c = go (map.get t.standings c) where
-  go : (o : Option Standing) → released (ending t c o) c ≡ released t c
+  go : (o : Option Standing) → released (batch_ended_with t c o) c ≡ released t c
   go None = refl
   go (Some s) = ap (λ (m : FinMap nat_cmp Standing). record t { standings = m }) (put_twice t.standings c (Some (record s { shares = [] })) None)
 

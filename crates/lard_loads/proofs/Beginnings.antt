@@ -13,8 +13,8 @@ use Rattle.lard_table.proofs.Map.{put_got}
 use Rattle.lard_loads.specs.declared.slot.Slot.{Slot}
 use Rattle.lard_loads.specs.Loads.{IsNode, IsShare, IsSlot, IsTallied, tally_of}
 use Rattle.lard_loads.specs.Ranking.{at_node}
-use Rattle.lard_loads.specs.Slot.{open_in, standing_of, standings_from}
-use Rattle.lard_loads.specs.Tally.{Standing, load_of, numbers, start}
+use Rattle.lard_loads.specs.Slot.{shares_open_in, standing_of, standings_from}
+use Rattle.lard_loads.specs.Tally.{Standing, load_of, numbers, tally_start}
 use Rattle.lard_loads.proofs.Firsts.{filter-all, from_range}
 use Rattle.lard_loads.proofs.Sums.{load-empty}
 
@@ -25,7 +25,7 @@ none_admitted s free a (suc n) =
     ∙ ap (put_or map.empty a) (free ∙ sym (get-empty nat_cmp a)) ∙ put_got map.empty a
 
 module _ (loads : List ℕ) (flags : ℕ) (slots : List Slot) (nodes many : ℕ) (s : Slot) (unloaded : loads ≡ replicate nodes 0) (some : 1 ≤ nodes) (few : nodes ≤ 64)
-    (enough : many ≡ 16384) (all_free : slots ≡ replicate many s) (home : s.home ≡ None) (free : standing_of s ≡ None) (shares : open_in s ≡ [])
+    (enough : many ≡ 16384) (all_free : slots ≡ replicate many s) (home : s.home ≡ None) (free : standing_of s ≡ None) (shares : shares_open_in s ≡ [])
     (flagged : (k : ℕ) → 1 ≤ k → k ≤ nodes → has flags k ≡ true) where
   length_is : length loads ≡ nodes
   length_is = ap length unloaded ∙ length-replicate nodes 0
@@ -55,5 +55,5 @@ module _ (loads : List ℕ) (flags : ℕ) (slots : List Slot) (nodes many : ℕ)
     counted = sym (ap map.len standings_are ∙ len-empty nat_cmp Standing);
   }
 
-  pub begun_is : tally_of (length loads) flags slots ≡ start nodes
+  pub begun_is : tally_of (length loads) flags slots ≡ tally_start nodes
   begun_is = ap (λ n. tally_of n flags slots) length_is ∙ (λ i. record { nodes = nodes; open_nodes = all_open i; standings = standings_are i })

@@ -11,9 +11,9 @@ use Rattle.std.specs.List.{filter, list_any, range_with_len}
 use Rattle.std.specs.Ordering.{nat_cmp}
 use Rattle.lard_table.specs.Table.{put_or}
 use Rattle.lard_table.proofs.Map.{get_put_other, get_put_same}
-use Rattle.lard_loads.specs.Charges.{BatchOver, Call, Charge, Connect, MayCall, MayCallAll, Release, Share, after, after_all, charged, charges_from, is_home, is_of, is_share_of, units_at}
+use Rattle.lard_loads.specs.Charges.{BatchOver, LoadCall, Charge, Connect, MayCall, MayCallAll, Release, Share, tally_after, tally_after_all, charged, charges_from, is_home, is_charge_of, is_share_of, units_at}
 use Rattle.lard_loads.specs.declared.slot.Share.{Share as Part}
-use Rattle.lard_loads.specs.Tally.{Standing, Tally, admitted, ending, load, numbers, sharing, start, units_of, units_of_share}
+use Rattle.lard_loads.specs.Tally.{Standing, Tally, admitted, batch_ended_with, load, numbers, sharing, tally_start, units_of, units_of_share}
 use Rattle.lard_loads.proofs.Nodes.{nodes_ended, nodes_shared}
 use Rattle.lard_loads.proofs.Standings.{len-put, one_if}
 use Rattle.lard_loads.proofs.Sums.{load-empty, load-put}
@@ -87,7 +87,7 @@ abbrev pub IsCharge : ℕ → Charge → Type 0
 IsCharge nodes x = (1 ≤ x.node) × (x.node ≤ nodes) × (x.share ≡ false → x.units ≡ 840)
 
 pub record IsCharged (t : Tally) (xs : List Charge) : Type 0 where
-  pub each : (c : ℕ) → filter (is_of c) xs ≡ charges_of c (fin.get t.standings c)
+  pub each : (c : ℕ) → filter (is_charge_of c) xs ≡ charges_of c (fin.get t.standings c)
   pub loads : (n : ℕ) → load t n ≡ sum_by (units_at n) xs
   pub count : admitted t ≡ count_by (λ x. not x.share) xs
   pub in_range : All (IsCharge t.nodes) xs
@@ -99,12 +99,12 @@ module _ (t : Tally) (xs : List Charge) (is : IsCharged t xs) (c : ℕ) (low : 1
   abbrev put : Option Standing → Tally
   put o = record t { standings = put_or t.standings c o }
 
-  changed : (o : Option Standing) (ys : List Charge) → filter (is_of c) ys ≡ charges_of c o → ((q : ℕ) → q ≢ c → filter (is_of q) ys ≡ filter (is_of q) xs)
-      → ((f : Charge → ℕ) → sum_by f ys + sum_by f (filter (is_of c) xs) ≡ sum_by f xs + sum_by f (charges_of c o)) → All (IsCharge t.nodes) ys → IsCharged (put o) ys
+  changed : (o : Option Standing) (ys : List Charge) → filter (is_charge_of c) ys ≡ charges_of c o → ((q : ℕ) → q ≢ c → filter (is_charge_of q) ys ≡ filter (is_charge_of q) xs)
+      → ((f : Charge → ℕ) → sum_by f ys + sum_by f (filter (is_charge_of c) xs) ≡ sum_by f xs + sum_by f (charges_of c o)) → All (IsCharge t.nodes) ys → IsCharged (put o) ys
   changed o ys here there sums range = record { each = each; loads = loads; count = count; in_range = range } where
-    each : (q : ℕ) → filter (is_of q) ys ≡ charges_of q (fin.get (put_or t.standings c o) q)
+    each : (q : ℕ) → filter (is_charge_of q) ys ≡ charges_of q (fin.get (put_or t.standings c o) q)
     each q = ⊎_elim
-        (λ e. subst (λ k. filter (is_of k) ys ≡ charges_of k (fin.get (put_or t.standings c o) k)) (sym e) (here ∙ sym (ap (charges_of c) (get_put_same t.standings c o))))
+        (λ e. subst (λ k. filter (is_charge_of k) ys ≡ charges_of k (fin.get (put_or t.standings c o) k)) (sym e) (here ∙ sym (ap (charges_of c) (get_put_same t.standings c o))))
         (λ f. there q f ∙ is.each q ∙ sym (ap (charges_of q) (get_put_other t.standings c q o f)))
         (cases_eq q c)
 
@@ -113,7 +113,7 @@ module _ (t : Tally) (xs : List Charge) (is : IsCharged t xs) (c : ℕ) (low : 1
         let tally = load-put t.standings n c o low high in
         let list = sums (units_at n) in
         let before = is.loads n in
-        let was : sum_by (units_at n) (filter (is_of c) xs) ≡ units_of old n = ap (sum_by (units_at n)) (is.each c) ∙ of-sum c n old in
+        let was : sum_by (units_at n) (filter (is_charge_of c) xs) ≡ units_of old n = ap (sum_by (units_at n)) (is.each c) ∙ of-sum c n old in
         let now = of-sum c n o in
         omega (arith, tally, list, before, was, now)
 
@@ -122,7 +122,7 @@ module _ (t : Tally) (xs : List Charge) (is : IsCharged t xs) (c : ℕ) (low : 1
         let tally = len-put t.standings c o in
         let list = sums (λ x. cond (not x.share) 1 0) in
         let before = is.count in
-        let was : count_by (λ x. not x.share) (filter (is_of c) xs) ≡ one_if old = ap (count_by (λ (x : Charge). not x.share)) (is.each c) ∙ of-count c old in
+        let was : count_by (λ x. not x.share) (filter (is_charge_of c) xs) ≡ one_if old = ap (count_by (λ (x : Charge). not x.share)) (is.each c) ∙ of-count c old in
         let now = of-count c o in
         omega (arith, tally, list, before, was, now)
 
@@ -132,23 +132,23 @@ module _ (t : Tally) (xs : List Charge) (is : IsCharged t xs) (c : ℕ) (low : 1
     yes : nat_eq x.c c ≡ true
     yes = grind (arith, nat_tests, of_c)
 
-    here : filter (is_of c) (xs ++ x ∷ []) ≡ charges_of c o
-    here = filter-append (is_of c) xs (x ∷ []) ∙ ap (λ ys. filter (is_of c) xs ++ ys) (ap (λ b. cond b (x ∷ []) []) yes) ∙ ap (λ ys. ys ++ x ∷ []) (is.each c) ∙ sym more
+    here : filter (is_charge_of c) (xs ++ x ∷ []) ≡ charges_of c o
+    here = filter-append (is_charge_of c) xs (x ∷ []) ∙ ap (λ ys. filter (is_charge_of c) xs ++ ys) (ap (λ b. cond b (x ∷ []) []) yes) ∙ ap (λ ys. ys ++ x ∷ []) (is.each c) ∙ sym more
 
-    there : (q : ℕ) → q ≢ c → filter (is_of q) (xs ++ x ∷ []) ≡ filter (is_of q) xs
+    there : (q : ℕ) → q ≢ c → filter (is_charge_of q) (xs ++ x ∷ []) ≡ filter (is_charge_of q) xs
     there q f =
         let no : nat_eq x.c q ≡ false = grind (arith, nat_tests, of_c, f) in
-        filter-append (is_of q) xs (x ∷ []) ∙ ap (λ ys. filter (is_of q) xs ++ ys) (ap (λ b. cond b (x ∷ []) []) no) ∙ append-nil (filter (is_of q) xs)
+        filter-append (is_charge_of q) xs (x ∷ []) ∙ ap (λ ys. filter (is_charge_of q) xs ++ ys) (ap (λ b. cond b (x ∷ []) []) no) ∙ append-nil (filter (is_charge_of q) xs)
 
-    sums : (f : Charge → ℕ) → sum_by f (xs ++ x ∷ []) + sum_by f (filter (is_of c) xs) ≡ sum_by f xs + sum_by f (charges_of c o)
+    sums : (f : Charge → ℕ) → sum_by f (xs ++ x ∷ []) + sum_by f (filter (is_charge_of c) xs) ≡ sum_by f xs + sum_by f (charges_of c o)
     sums f =
         let all = sum_by-append f xs (x ∷ []) in
-        let part : sum_by f (filter (is_of c) xs) ≡ sum_by f (charges_of c old) = ap (sum_by f) (is.each c) in
+        let part : sum_by f (filter (is_charge_of c) xs) ≡ sum_by f (charges_of c old) = ap (sum_by f) (is.each c) in
         let both : sum_by f (charges_of c o) ≡ sum_by f (charges_of c old) + sum_by f (x ∷ []) = ap (sum_by f) more ∙ sum_by-append f (charges_of c old) (x ∷ []) in
         omega (arith, all, part, both)
 
   -- some of its charges fewer
-  taken : (o : Option Standing) (p r : Charge → Bool) → ((x : Charge) → p x ≡ (is_of c x && r x)) → charges_of c o ≡ filter (λ x. not (r x)) (charges_of c old) → IsCharged (put o) (filter (λ x. not (p x)) xs)
+  taken : (o : Option Standing) (p r : Charge → Bool) → ((x : Charge) → p x ≡ (is_charge_of c x && r x)) → charges_of c o ≡ filter (λ x. not (r x)) (charges_of c old) → IsCharged (put o) (filter (λ x. not (p x)) xs)
   taken o p r split left = changed o ys here there sums (All-filter (λ x. not (p x)) (IsCharge t.nodes) xs is.in_range) where
     ys : List Charge
     ys = filter (λ x. not (p x)) xs
@@ -159,20 +159,20 @@ module _ (t : Tally) (xs : List Charge) (is : IsCharged t xs) (c : ℕ) (low : 1
     inside false true = refl
     inside false false = refl
 
-    here : filter (is_of c) (filter (λ x. not (p x)) xs) ≡ charges_of c o
+    here : filter (is_charge_of c) (filter (λ x. not (p x)) xs) ≡ charges_of c o
     here =
-        filter-twice (λ x. is_of c x && not (p x)) (is_of c) (λ x. not (p x)) (λ x. refl) xs
-        ∙ sym (filter-twice (λ x. is_of c x && not (p x)) (λ x. not (r x)) (is_of c) (λ x. ap (λ b. is_of c x && not b) (split x) ∙ inside (is_of c x) (r x)) xs)
+        filter-twice (λ x. is_charge_of c x && not (p x)) (is_charge_of c) (λ x. not (p x)) (λ x. refl) xs
+        ∙ sym (filter-twice (λ x. is_charge_of c x && not (p x)) (λ x. not (r x)) (is_charge_of c) (λ x. ap (λ b. is_charge_of c x && not b) (split x) ∙ inside (is_charge_of c x) (r x)) xs)
         ∙ ap (filter (λ x. not (r x))) (is.each c) ∙ sym left
 
-    outside : (q : ℕ) → q ≢ c → (x : Charge) → is_of q x ≡ (is_of q x && not (p x))
-    outside q f x = go (is_of q x) refl where
+    outside : (q : ℕ) → q ≢ c → (x : Charge) → is_charge_of q x ≡ (is_charge_of q x && not (p x))
+    outside q f x = go (is_charge_of q x) refl where
       go : (b : Bool) → nat_eq x.c q ≡ b → b ≡ (b && not (p x))
       go true e = let no : nat_eq x.c c ≡ false = grind (arith, nat_tests, e, f) in sym (ap not (split x ∙ ap (λ b. b && r x) no))
       go false e = refl
 
-    there : (q : ℕ) → q ≢ c → filter (is_of q) (filter (λ x. not (p x)) xs) ≡ filter (is_of q) xs
-    there q f = filter-twice (is_of q) (is_of q) (λ x. not (p x)) (outside q f) xs
+    there : (q : ℕ) → q ≢ c → filter (is_charge_of q) (filter (λ x. not (p x)) xs) ≡ filter (is_charge_of q) xs
+    there q f = filter-twice (is_charge_of q) (is_charge_of q) (λ x. not (p x)) (outside q f) xs
 
     turned : (a b : Bool) → (a && b) ≡ (b && a)
     turned true true = refl
@@ -180,12 +180,12 @@ module _ (t : Tally) (xs : List Charge) (is : IsCharged t xs) (c : ℕ) (low : 1
     turned false true = refl
     turned false false = refl
 
-    sums : (f : Charge → ℕ) → sum_by f (filter (λ x. not (p x)) xs) + sum_by f (filter (is_of c) xs) ≡ sum_by f xs + sum_by f (charges_of c o)
+    sums : (f : Charge → ℕ) → sum_by f (filter (λ x. not (p x)) xs) + sum_by f (filter (is_charge_of c) xs) ≡ sum_by f xs + sum_by f (charges_of c o)
     sums f =
         let all = sum-parts f p xs in
-        let own = sum-parts f r (filter (is_of c) xs) in
-        let gone : sum_by f (filter r (filter (is_of c) xs)) ≡ sum_by f (filter p xs) = ap (sum_by f) (filter-twice p r (is_of c) (λ x. split x ∙ turned (is_of c x) (r x)) xs) in
-        let stay : sum_by f (filter (λ x. not (r x)) (filter (is_of c) xs)) ≡ sum_by f (charges_of c o) = ap (sum_by f) (ap (filter (λ x. not (r x))) (is.each c) ∙ sym left) in
+        let own = sum-parts f r (filter (is_charge_of c) xs) in
+        let gone : sum_by f (filter r (filter (is_charge_of c) xs)) ≡ sum_by f (filter p xs) = ap (sum_by f) (filter-twice p r (is_charge_of c) (λ x. split x ∙ turned (is_charge_of c x) (r x)) xs) in
+        let stay : sum_by f (filter (λ x. not (r x)) (filter (is_charge_of c) xs)) ≡ sum_by f (charges_of c o) = ap (sum_by f) (ap (filter (λ x. not (r x))) (is.each c) ∙ sym left) in
         omega (arith, all, own, gone, stay)
 
 -- ---- each call
@@ -195,11 +195,11 @@ and_true true = refl
 and_true false = refl
 
 -- a charge of a connection that is at its home
-home-found : (xs : List Charge) (c n : ℕ) → list_any (λ x. is_of c x && (not x.share && nat_eq x.node n)) xs ≡ list_any (λ x. not x.share && nat_eq x.node n) (filter (is_of c) xs)
+home-found : (xs : List Charge) (c n : ℕ) → list_any (λ x. is_charge_of c x && (not x.share && nat_eq x.node n)) xs ≡ list_any (λ x. not x.share && nat_eq x.node n) (filter (is_charge_of c) xs)
 home-found [] c n = refl
-home-found (x ∷ xs) c n = go (home-found xs c n) (is_of c x) where
-  go : list_any (λ y. is_of c y && (not y.share && nat_eq y.node n)) xs ≡ list_any (λ y. not y.share && nat_eq y.node n) (filter (is_of c) xs)
-      → (b : Bool) → ((b && (not x.share && nat_eq x.node n)) || list_any (λ y. is_of c y && (not y.share && nat_eq y.node n)) xs) ≡ list_any (λ y. not y.share && nat_eq y.node n) (cond b (x ∷ filter (is_of c) xs) (filter (is_of c) xs))
+home-found (x ∷ xs) c n = go (home-found xs c n) (is_charge_of c x) where
+  go : list_any (λ y. is_charge_of c y && (not y.share && nat_eq y.node n)) xs ≡ list_any (λ y. not y.share && nat_eq y.node n) (filter (is_charge_of c) xs)
+      → (b : Bool) → ((b && (not x.share && nat_eq x.node n)) || list_any (λ y. is_charge_of c y && (not y.share && nat_eq y.node n)) xs) ≡ list_any (λ y. not y.share && nat_eq y.node n) (cond b (x ∷ filter (is_charge_of c) xs) (filter (is_charge_of c) xs))
   go rest true = ap (λ d. (not x.share && nat_eq x.node n) || d) rest
   go rest false = rest
 
@@ -218,16 +218,16 @@ is_home-of t xs c n s is found =
       turned : (a b : ℕ) → nat_eq a b ≡ nat_eq b a
       turned a b = grind (arith, nat_tests)
 
-connecting : (t : Tally) (xs : List Charge) (c n : ℕ) → IsCharged t xs → MayCall t (Connect c n) → IsCharged (after t (Connect c n)) (charged xs (Connect c n))
+connecting : (t : Tally) (xs : List Charge) (c n : ℕ) → IsCharged t xs → MayCall t (Connect c n) → IsCharged (tally_after t (Connect c n)) (charged xs (Connect c n))
 connecting t xs c n is may =
     added t xs is c may.0.0 may.0.1 (Some (record { home = n; shares = [] })) (record { c = c; node = n; units = 840; share = false }) refl
     (ap (λ ys. ys ++ home_charge c n ∷ []) (sym (ap (charges_of c) may.1))) (may.2, may.3, λ e. refl)
 
-releasing : (t : Tally) (xs : List Charge) (c : ℕ) → IsCharged t xs → MayCall t (Release c) → IsCharged (after t (Release c)) (charged xs (Release c))
+releasing : (t : Tally) (xs : List Charge) (c : ℕ) → IsCharged t xs → MayCall t (Release c) → IsCharged (tally_after t (Release c)) (charged xs (Release c))
 releasing t xs c is may =
-    taken t xs is c may.0.0 may.0.1 None (is_of c) (λ x. true) (λ x. and_true (is_of c x)) (sym (filter-none (λ x. false) (λ x. refl) (charges_of c (fin.get t.standings c))))
+    taken t xs is c may.0.0 may.0.1 None (is_charge_of c) (λ x. true) (λ x. and_true (is_charge_of c x)) (sym (filter-none (λ x. false) (λ x. refl) (charges_of c (fin.get t.standings c))))
 
-sharing_charged : (t : Tally) (xs : List Charge) (c n size : ℕ) → IsCharged t xs → MayCall t (Share c n size) → IsCharged (after t (Share c n size)) (charged xs (Share c n size))
+sharing_charged : (t : Tally) (xs : List Charge) (c n size : ℕ) → IsCharged t xs → MayCall t (Share c n size) → IsCharged (tally_after t (Share c n size)) (charged xs (Share c n size))
 sharing_charged t xs c n size is may = go (fin.get t.standings c) refl may.1 where
   x : Charge
   x = record { c = c; node = n; units = 840 / size; share = true }
@@ -240,7 +240,7 @@ sharing_charged t xs c n size is may = go (fin.get t.standings c) refl may.1 whe
       (ap (λ ys. home_charge c s.home ∷ ys) (map_push (share_charge c) s.shares (record { node = n; units = 840 / size })) ∙ ap (λ o. charges_of c o ++ record { c = c; node = n; units = 840 / size; share = true } ∷ []) (sym found))
       (may.2, may.3, λ e. absurd (false≢true (sym e)))
 
-  go : (o : Option Standing) → fin.get t.standings c ≡ o → is_some (fin.get t.standings c) ≡ true → IsCharged (after t (Share c n size)) (charged xs (Share c n size))
+  go : (o : Option Standing) → fin.get t.standings c ≡ o → is_some (fin.get t.standings c) ≡ true → IsCharged (tally_after t (Share c n size)) (charged xs (Share c n size))
   go None e some = absurd (false≢true (sym (ap is_some e) ∙ some))
   go (Some s) e some =
       let home : is_home xs c n ≡ nat_eq n s.home = is_home-of t xs c n s is e in
@@ -248,27 +248,27 @@ sharing_charged t xs c n size is may = go (fin.get t.standings c) refl may.1 whe
       subst R (sym e) (subst (λ b. IsCharged (sharing t c n size (Some s)) (cond b xs (xs ++ record { c = c; node = n; units = 840 / size; share = true } ∷ []))) (sym home)
       (both s e (nat_eq n s.home) home refl))
 
-batch_over : (t : Tally) (xs : List Charge) (c : ℕ) → IsCharged t xs → MayCall t (BatchOver c) → IsCharged (after t (BatchOver c)) (charged xs (BatchOver c))
+batch_over : (t : Tally) (xs : List Charge) (c : ℕ) → IsCharged t xs → MayCall t (BatchOver c) → IsCharged (tally_after t (BatchOver c)) (charged xs (BatchOver c))
 batch_over t xs c is may = go (fin.get t.standings c) refl may.1 where
-  go : (o : Option Standing) → fin.get t.standings c ≡ o → is_some (fin.get t.standings c) ≡ true → IsCharged (after t (BatchOver c)) (charged xs (BatchOver c))
+  go : (o : Option Standing) → fin.get t.standings c ≡ o → is_some (fin.get t.standings c) ≡ true → IsCharged (tally_after t (BatchOver c)) (charged xs (BatchOver c))
   go None e some = absurd (false≢true (sym (ap is_some e) ∙ some))
   go (Some s) e some =
-      let R : Option Standing → Type 0 = λ (o : Option Standing). IsCharged (ending t c o) (charged xs (BatchOver c)) in
+      let R : Option Standing → Type 0 = λ (o : Option Standing). IsCharged (batch_ended_with t c o) (charged xs (BatchOver c)) in
       subst R (sym e) (taken t xs is c may.0.0 may.0.1 (Some (record s { shares = [] })) (is_share_of c) (λ x. x.share) (λ x. refl)
       (sym (ap (filter (λ (x : Charge). not x.share)) (ap (charges_of c) e) ∙ ap (λ ys. home_charge c s.home ∷ ys) (shares-out c s.shares))))
 
-called : (t : Tally) (xs : List Charge) (call : Call) → IsCharged t xs → MayCall t call → IsCharged (after t call) (charged xs call)
+called : (t : Tally) (xs : List Charge) (call : LoadCall) → IsCharged t xs → MayCall t call → IsCharged (tally_after t call) (charged xs call)
 called t xs (Connect c n) is may = connecting t xs c n is may
 called t xs (Release c) is may = releasing t xs c is may
 called t xs (Share c n size) is may = sharing_charged t xs c n size is may
 called t xs (BatchOver c) is may = batch_over t xs c is may
 
-called_all : (t : Tally) (xs : List Charge) (calls : List Call) → IsCharged t xs → MayCallAll t calls → IsCharged (after_all t calls) (charges_from xs calls)
+called_all : (t : Tally) (xs : List Charge) (calls : List LoadCall) → IsCharged t xs → MayCallAll t calls → IsCharged (tally_after_all t calls) (charges_from xs calls)
 called_all t xs [] is may = is
-called_all t xs (call ∷ calls) is may = called_all (after t call) (charged xs call) calls (called t xs call is may.0) may.1
+called_all t xs (call ∷ calls) is may = called_all (tally_after t call) (charged xs call) calls (called t xs call is may.0) may.1
 
-pub all_charged : (nodes : ℕ) (calls : List Call) → MayCallAll (start nodes) calls → IsCharged (after_all (start nodes) calls) (charges_from [] calls)
-all_charged nodes calls may = called_all (start nodes) [] calls (record {
+pub all_charged : (nodes : ℕ) (calls : List LoadCall) → MayCallAll (tally_start nodes) calls → IsCharged (tally_after_all (tally_start nodes) calls) (charges_from [] calls)
+all_charged nodes calls may = called_all (tally_start nodes) [] calls (record {
   each = λ c. sym (ap (charges_of c) (get-empty nat_cmp c));
   loads = λ n. load-empty n;
   count = len-empty nat_cmp Standing;
@@ -277,15 +277,15 @@ all_charged nodes calls may = called_all (start nodes) [] calls (record {
 
 -- ---- the sum of all loads
 
-nodes_stay : (t : Tally) (call : Call) → (after t call).nodes ≡ t.nodes
+nodes_stay : (t : Tally) (call : LoadCall) → (tally_after t call).nodes ≡ t.nodes
 nodes_stay t (Connect c n) = refl
 nodes_stay t (Release c) = refl
 nodes_stay t (Share c n size) = nodes_shared t c n size
 nodes_stay t (BatchOver c) = nodes_ended t c
 
-pub all_nodes_stay : (t : Tally) (calls : List Call) → (after_all t calls).nodes ≡ t.nodes
+pub all_nodes_stay : (t : Tally) (calls : List LoadCall) → (tally_after_all t calls).nodes ≡ t.nodes
 all_nodes_stay t [] = refl
-all_nodes_stay t (call ∷ calls) = all_nodes_stay (after t call) calls ∙ nodes_stay t call
+all_nodes_stay t (call ∷ calls) = all_nodes_stay (tally_after t call) calls ∙ nodes_stay t call
 
 pub zeros : (a k : ℕ) → sum_by (λ (n : ℕ). 0) (range_with_len a k) ≡ 0
 zeros a zero = refl
@@ -350,12 +350,12 @@ wholes_and_shares nodes (x ∷ xs) all =
           let d : cond x.share x.units 0 ≡ 0 = ap (λ b. cond b x.units 0) e in
           let w = (All-head (IsCharge nodes) x xs all).2 e in omega (arith, a, d, w)
 
-pub all_add_up : (nodes : ℕ) (calls : List Call) → MayCallAll (start nodes) calls
-    → sum_by (load (after_all (start nodes) calls)) (numbers nodes) ≡ 840 * admitted (after_all (start nodes) calls) + sum_by (λ x. cond x.share x.units 0) (charges_from [] calls)
+pub all_add_up : (nodes : ℕ) (calls : List LoadCall) → MayCallAll (tally_start nodes) calls
+    → sum_by (load (tally_after_all (tally_start nodes) calls)) (numbers nodes) ≡ 840 * admitted (tally_after_all (tally_start nodes) calls) + sum_by (λ x. cond x.share x.units 0) (charges_from [] calls)
 all_add_up nodes calls may =
-    let is : IsCharged (after_all (start nodes) calls) (charges_from [] calls) = all_charged nodes calls may in
-    let range : All (IsCharge nodes) (charges_from [] calls) = subst (λ k. All (IsCharge k) (charges_from [] calls)) (all_nodes_stay (start nodes) calls) is.in_range in
-    let each = each_sum (load (after_all (start nodes) calls)) (λ n. sum_by (units_at n) (charges_from [] calls)) is.loads (numbers nodes) in
+    let is : IsCharged (tally_after_all (tally_start nodes) calls) (charges_from [] calls) = all_charged nodes calls may in
+    let range : All (IsCharge nodes) (charges_from [] calls) = subst (λ k. All (IsCharge k) (charges_from [] calls)) (all_nodes_stay (tally_start nodes) calls) is.in_range in
+    let each = each_sum (load (tally_after_all (tally_start nodes) calls)) (λ n. sum_by (units_at n) (charges_from [] calls)) is.loads (numbers nodes) in
     let sums = sum-of-sums nodes (charges_from [] calls) range in
     let parts = wholes_and_shares nodes (charges_from [] calls) range in
     let count = is.count in

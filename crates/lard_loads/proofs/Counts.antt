@@ -11,8 +11,8 @@ use Rattle.std.specs.Ordering.{nat_cmp}
 use Rattle.lard_table.specs.Table.{put_or}
 use Rattle.lard_table.proofs.Map.{get_put_other, get_put_same}
 use Rattle.lard_loads.specs.declared.slot.Share.{Share as Part}
-use Rattle.lard_loads.specs.Charges.{BatchOver, Call, Connect, MayCall, MayCallAll, Release, Share, after, after_all}
-use Rattle.lard_loads.specs.Tally.{Standing, Tally, admitted, connections, ending, load_of, most_connections, numbers, sharing, start, units_of, units_of_share}
+use Rattle.lard_loads.specs.Charges.{BatchOver, LoadCall, Connect, MayCall, MayCallAll, Release, Share, tally_after, tally_after_all}
+use Rattle.lard_loads.specs.Tally.{Standing, Tally, admitted, connections, batch_ended_with, load_of, most_connections, numbers, sharing, tally_start, units_of, units_of_share}
 use Rattle.lard_loads.proofs.Charged.{each_sum, none_left, two_sums, zeros}
 use Rattle.lard_loads.proofs.Standings.{len-put, one_if}
 use Rattle.lard_loads.proofs.Sums.{changed_sum, most-is}
@@ -61,7 +61,7 @@ AreAmong t = admitted_among t.standings ≡ admitted t
 pub among-kept : (t : Tally) (c : ℕ) (o : Option Standing) → 1 ≤ c → c ≤ 16384 → AreAmong t → AreAmong (record t { standings = put_or t.standings c o })
 among-kept t c o low high are = let counted = among-put t.standings c o low high in let len = len-put t.standings c o in omega (arith, counted, len, are)
 
-among-called : (t : Tally) (call : Call) → MayCall t call → AreAmong t → AreAmong (after t call)
+among-called : (t : Tally) (call : LoadCall) → MayCall t call → AreAmong t → AreAmong (tally_after t call)
 among-called t (Connect c n) may are = among-kept t c (Some (record { home = n; shares = [] })) may.0.0 may.0.1 are
 among-called t (Release c) may are = among-kept t c None may.0.0 may.0.1 are
 among-called t (Share c n size) may are = go (fin.get t.standings c) where
@@ -69,16 +69,16 @@ among-called t (Share c n size) may are = go (fin.get t.standings c) where
   go None = are
   go (Some s) = cond_both (nat_eq n s.home) t _ AreAmong (λ _. are) (λ _. among-kept t c (Some _) may.0.0 may.0.1 are)
 among-called t (BatchOver c) may are = go (fin.get t.standings c) where
-  go : (o : Option Standing) → AreAmong (ending t c o)
+  go : (o : Option Standing) → AreAmong (batch_ended_with t c o)
   go None = are
   go (Some s) = among-kept t c (Some (record s { shares = [] })) may.0.0 may.0.1 are
 
-pub among-all : (t : Tally) (calls : List Call) → MayCallAll t calls → AreAmong t → AreAmong (after_all t calls)
+pub among-all : (t : Tally) (calls : List LoadCall) → MayCallAll t calls → AreAmong t → AreAmong (tally_after_all t calls)
 among-all t [] may are = are
-among-all t (call ∷ calls) may are = among-all (after t call) calls may.1 (among-called t call may.0 are)
+among-all t (call ∷ calls) may are = among-all (tally_after t call) calls may.1 (among-called t call may.0 are)
 
-pub all_among : (nodes : ℕ) (calls : List Call) → MayCallAll (start nodes) calls → AreAmong (after_all (start nodes) calls)
-all_among nodes calls may = let none = len-empty nat_cmp Standing in among-all (start nodes) calls may (omega (arith, among-empty, none))
+pub all_among : (nodes : ℕ) (calls : List LoadCall) → MayCallAll (tally_start nodes) calls → AreAmong (tally_after_all (tally_start nodes) calls)
+all_among nodes calls may = let none = len-empty nat_cmp Standing in among-all (tally_start nodes) calls may (omega (arith, among-empty, none))
 
 -- ---- sums of bounded terms
 

@@ -1,7 +1,7 @@
 -- No call changes how many nodes there are.
 use Rattle.std.proofs.Common.{◌≡◌, ℕ, Bool, true, false, cond, nat_eq, Option, Some, None, refl}
 use Rattle.std.specs.FinMap as map
-use Rattle.lard_loads.specs.Tally.{Standing, Tally, batch_ended, ending, shared, sharing}
+use Rattle.lard_loads.specs.Tally.{Standing, Tally, batch_ended, batch_ended_with, shared, sharing}
 
 pub nodes_shared : (t : Tally) (c n size : ℕ) → (shared t c n size).nodes ≡ t.nodes
 nodes_shared t c n size = go (map.get t.standings c) where
@@ -15,6 +15,6 @@ nodes_shared t c n size = go (map.get t.standings c) where
 
 pub nodes_ended : (t : Tally) (c : ℕ) → (batch_ended t c).nodes ≡ t.nodes
 nodes_ended t c = go (map.get t.standings c) where
-  go : (o : Option Standing) → (ending t c o).nodes ≡ t.nodes
+  go : (o : Option Standing) → (batch_ended_with t c o).nodes ≡ t.nodes
   go None = refl
   go (Some s) = refl

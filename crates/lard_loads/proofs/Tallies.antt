@@ -16,7 +16,7 @@ use Rattle.lard_loads.specs.declared.slot.Share.{Share}
 use Rattle.lard_loads.specs.declared.slot.Slot.{Slot}
 use Rattle.lard_loads.specs.Loads.{IsShare, IsSlot, IsTallied, tally_of}
 use Rattle.lard_loads.specs.Ranking.{at_node}
-use Rattle.lard_loads.specs.Slot.{open_in, standing, standing_of, standings_from}
+use Rattle.lard_loads.specs.Slot.{shares_open_in, standing_with, standing_of, standings_from}
 use Rattle.lard_loads.specs.Tally.{Standing, Tally, load_of, numbers, units_of, units_of_share}
 use Rattle.lard_loads.proofs.Standings.{get-standings, len-put, one_if, standings-set}
 use Rattle.lard_loads.proofs.Sums.{load-bound, load-put, one-le-load}
@@ -55,7 +55,7 @@ share-most nodes n x is = go (nat_eq x.node n) where
   go true = is.1
   go false = omega arith
 
-standing-most : (nodes n : ℕ) (h : Option ℕ) (xs : List Share) → length xs ≤ 8 → All (IsShare nodes) xs → units_of (standing h xs) n ≤ 7560
+standing-most : (nodes n : ℕ) (h : Option ℕ) (xs : List Share) → length xs ≤ 8 → All (IsShare nodes) xs → units_of (standing_with h xs) n ≤ 7560
 standing-most nodes n None xs few all = omega arith
 standing-most nodes n (Some k) xs few all =
     let shares = sum_by-le (units_of_share n) 840 xs (All-weaker (IsShare nodes) (λ x. units_of_share n x ≤ 840) (share-most nodes n) xs all) in
@@ -65,11 +65,11 @@ standing-most nodes n (Some k) xs few all =
       go true = omega arith
       go false = omega arith
 
-pub few-shares : (s : Slot) → length (open_in s) ≤ 8
+pub few-shares : (s : Slot) → length (shares_open_in s) ≤ 8
 few-shares s = let fits = s.fits in omega (arith, fits, length-take s.count s.shares)
 
 slot-most : (nodes n : ℕ) (s : Slot) → IsSlot nodes s → units_of (standing_of s) n ≤ 7560
-slot-most nodes n s is = standing-most nodes n s.home (open_in s) (few-shares s) is.shares
+slot-most nodes n s is = standing-most nodes n s.home (shares_open_in s) (few-shares s) is.shares
 
 -- what holds of nothing and of each slot holds of what is found
 each-found : (P : Option Standing → Type 0) → P None → (a : ℕ) (ss : List Slot) → All (λ s. P (standing_of s)) ss → (c : ℕ) → P (map.get (standings_from a ss) c)

@@ -6,7 +6,7 @@ use Rattle.lard_base.specs.Members.{has}
 use Rattle.lard_loads.specs.declared.slot.Share.{Share}
 use Rattle.lard_loads.specs.declared.slot.Slot.{Slot}
 use Rattle.lard_loads.specs.Ranking.{at_node}
-use Rattle.lard_loads.specs.Slot.{open_in, standings_from}
+use Rattle.lard_loads.specs.Slot.{shares_open_in, standings_from}
 use Rattle.lard_loads.specs.Tally.{Tally, load_of, numbers}
 
 -- the tally that so many nodes, the flags of the open ones and the slots make
@@ -22,7 +22,7 @@ IsShare nodes x = IsNode nodes x.node × (x.units ≤ 840)
 
 pub record IsSlot (nodes : ℕ) (s : Slot) : Type 0 where
   pub home : IfSome s.home (IsNode nodes)
-  pub shares : All (IsShare nodes) (open_in s)
+  pub shares : All (IsShare nodes) (shares_open_in s)
 
 pub record IsTallied (loads : List ℕ) (flags : ℕ) (slots : List Slot) (admitted : ℕ) : Type 0 where
   pub few : length loads ≤ 64

@@ -9,20 +9,20 @@ use Rattle.lard_loads.specs.declared.slot.Slot.{Slot}
 use Rattle.lard_loads.specs.Tally.{Standing}
 
 -- the shares that are open
-abbrev pub open_in : Slot → List Share
-open_in s = take s.count s.shares
+abbrev pub shares_open_in : Slot → List Share
+shares_open_in s = take s.count s.shares
 
 -- a home that is this node
-abbrev pub is_at : Option ℕ → ℕ → Bool
-is_at None n = false
-is_at (Some h) n = nat_eq n h
+abbrev pub is_home_at : Option ℕ → ℕ → Bool
+is_home_at None n = false
+is_home_at (Some h) n = nat_eq n h
 
-abbrev pub standing : Option ℕ → List Share → Option Standing
-standing None xs = None
-standing (Some h) xs = Some (record { home = h; shares = xs })
+abbrev pub standing_with : Option ℕ → List Share → Option Standing
+standing_with None xs = None
+standing_with (Some h) xs = Some (record { home = h; shares = xs })
 
 abbrev pub standing_of : Slot → Option Standing
-standing_of s = standing s.home (open_in s)
+standing_of s = standing_with s.home (shares_open_in s)
 
 -- connections from a number on, one slot for each
 abbrev pub standings_from : ℕ → List Slot → FinMap nat_cmp Standing

@@ -109,8 +109,8 @@ any_below t units = list_any (λ n. nat_lt (load t n) units) t.open_nodes
 -- ---- what is done to it
 
 -- so many nodes, all open, and no connection
-abbrev pub start : ℕ → Tally
-start nodes = record { nodes = nodes; open_nodes = numbers nodes; standings = map.empty }
+abbrev pub tally_start : ℕ → Tally
+tally_start nodes = record { nodes = nodes; open_nodes = numbers nodes; standings = map.empty }
 
 -- a connection is admitted and assigned to a node
 abbrev pub connected : Tally → ℕ → ℕ → Tally
@@ -129,13 +129,13 @@ abbrev pub shared : Tally → ℕ → ℕ → ℕ → Tally
 shared t c n size = sharing t c n size (map.get t.standings c)
 
 -- a connection's batch is over: none of its shares is open
-abbrev pub ending : Tally → ℕ → Option Standing → Tally
-ending t c None = t
-ending t c (Some s) = record t { standings = map.insert t.standings c (record s { shares = [] }) }
+abbrev pub batch_ended_with : Tally → ℕ → Option Standing → Tally
+batch_ended_with t c None = t
+batch_ended_with t c (Some s) = record t { standings = map.insert t.standings c (record s { shares = [] }) }
 
 abbrev pub batch_ended : Tally → ℕ → Tally
-batch_ended t c = ending t c (map.get t.standings c)
+batch_ended t c = batch_ended_with t c (map.get t.standings c)
 
 -- a node is closed to new assignments
-abbrev pub closed : Tally → ℕ → Tally
-closed t n = record t { open_nodes = filter (λ m. not (nat_eq m n)) t.open_nodes }
+abbrev pub tally_closed : Tally → ℕ → Tally
+tally_closed t n = record t { open_nodes = filter (λ m. not (nat_eq m n)) t.open_nodes }

@@ -3,7 +3,7 @@
 ghost use Rattle.std.specs.Prelude.{◌≡◌, ℕ, ◌+◌, ◌-◌, ◌<◌, ◌≤◌, Some, None, nat_lt, true, is_some, IfOk, IfSome};
 ghost use Rattle.std.specs.FinMap as map;
 ghost use Rattle.lard_base.specs.Members.{has};
-ghost use Rattle.lard_loads.specs.Tally.{admitted as admitted_of, any_below as any_below_of, batch_ended, closed, connected, has_other_open as has_other_open_of, home as home_of, is_open as is_open_of, least as least_node, least_of as least_member, load, most_of as most_member, open_shares as open_shares_of, released, shared, start};
+ghost use Rattle.lard_loads.specs.Tally.{admitted as admitted_of, any_below as any_below_of, batch_ended, tally_closed, connected, has_other_open as has_other_open_of, home as home_of, is_open as is_open_of, least as least_node, least_of as least_member, load, most_of as most_member, open_shares as open_shares_of, released, shared, tally_start};
 
 use crate::ranking::{Ranking, node};
 use crate::slot::{MAX_SHARES, Share, Slot};
@@ -46,7 +46,7 @@ impl Loads {
     pub fn new(alloc: Global, nodes: u8) -> Result<Loads, NoMemory>
         requires some { 1 ≤ nodes }
         requires few { nodes ≤ 64 }
-        ensures { IfOk result (λ loads. loads ≡ start nodes) }
+        ensures { IfOk result (λ loads. loads ≡ tally_start nodes) }
     {
         let ranking = Ranking::new(alloc, nodes)?;
         let slots = vec![in alloc; Slot::FREE; ConnId::MAX as usize]?;
@@ -191,7 +191,7 @@ impl Loads {
     /// Closes a node to new assignments; connections stay there. Another node is open.
     pub fn close(&mut self, n: NodeId)
         requires other { has_other_open_of self.old n ≡ true }
-        ensures { self.new ≡ closed self.old n }
+        ensures { self.new ≡ tally_closed self.old n }
     {
         self.open_nodes = self.open_nodes.without(n);
     }

@@ -29,7 +29,7 @@ pub struct Slot {
 }
 
 impl Slot {
-    ghost use Rattle.lard_loads.specs.Slot.{is_at, open_in};
+    ghost use Rattle.lard_loads.specs.Slot.{is_home_at, shares_open_in};
 
     /// Of no connection.
     pub const FREE: Slot = Slot {
@@ -47,14 +47,14 @@ impl Slot {
 
     /// How many shares are open.
     pub fn open_shares(&self) -> usize
-        ensures { result ≡ length (open_in self.now) }
+        ensures { result ≡ length (shares_open_in self.now) }
     {
         self.count as usize
     }
 
     /// Whether the node is the home of its connection.
     pub fn is_home(&self, n: NodeId) -> bool
-        ensures { result ≡ is_at self.now.home n }
+        ensures { result ≡ is_home_at self.now.home n }
     {
         match self.home {
             Some(home) => n.number() == home.number(),
@@ -65,7 +65,7 @@ impl Slot {
     /// A connection with this home comes, without a share.
     pub fn occupy(&mut self, home: NodeId)
         ensures home { self.new.home ≡ Some home }
-        ensures shares { open_in self.new ≡ [] }
+        ensures shares { shares_open_in self.new ≡ [] }
     {
         self.home = Some(home);
         self.count = 0;
@@ -74,16 +74,16 @@ impl Slot {
     /// The connection goes.
     pub fn vacate(&mut self)
         ensures home { self.new.home ≡ None }
-        ensures shares { open_in self.new ≡ open_in self.old }
+        ensures shares { shares_open_in self.new ≡ shares_open_in self.old }
     {
         self.home = None;
     }
 
     /// Opens a share, behind fewer than eight.
     pub fn push(&mut self, share: Share)
-        requires room { length (open_in self.old) < 8 }
+        requires room { length (shares_open_in self.old) < 8 }
         ensures home { self.new.home ≡ self.old.home }
-        ensures shares { open_in self.new ≡ open_in self.old ++ share ∷ [] }
+        ensures shares { shares_open_in self.new ≡ shares_open_in self.old ++ share ∷ [] }
     {
         self.shares[self.count as usize] = share;
         self.count += 1;
@@ -92,8 +92,8 @@ impl Slot {
     /// Closes the share that was opened last, and answers it. `None` where no share is open.
     pub fn pop(&mut self) -> Option<Share>
         ensures home { self.new.home ≡ self.old.home }
-        ensures last { IfSome result (λ share. open_in self.old ≡ open_in self.new ++ share ∷ []) }
-        ensures none { IfNone result (open_in self.old ≡ []) }
+        ensures last { IfSome result (λ share. shares_open_in self.old ≡ shares_open_in self.new ++ share ∷ []) }
+        ensures none { IfNone result (shares_open_in self.old ≡ []) }
         ensures same { IfNone result (self.new ≡ self.old) }
     {
         if self.count == 0 {

@@ -8,7 +8,7 @@ use Rattle.std.proofs.lemmas.Nat.{be_bytes_2, be_bytes_4, from_be_bytes-to_be_by
 use Rattle.lard_base.specs.declared.place.Reason.{Reason}
 use Rattle.lard_base.specs.declared.place.Reason.TheVariants.{Closed, Peer, Limit}
 use Rattle.lard_message.specs.Laws.{AreBytes}
-use Rattle.lard_message.specs.Message.{IsNode, counted, flag_byte, reason_byte}
+use Rattle.lard_message.specs.Message.{IsNodeNumber, counted_bytes, flag_byte, reason_byte}
 use Rattle.lard_message.specs.Reading.{◌>>=◌, byte_at, number_at, taken_at, flag_of, flag_at, reason_of, reason_at, node_of, counted_at, paths_at, nodes_of}
 
 pub AreBytes-drop : (n : ℕ) (bytes : List ℕ) → AreBytes bytes → AreBytes (drop n bytes)
@@ -115,7 +115,7 @@ taken_again n text rest len =
     let long : ltb (length (text ++ rest)) n ≡ false = le-ltb _ _ (omega (arith, length-append text rest)) in
     rw (long, take_at text rest n len, drop_at text rest n len) refl
 
-pub counted_takes : (bytes : List ℕ) (x : List ℕ × List ℕ) → AreBytes bytes → counted_at bytes ≡ Some x → Takes bytes (counted x.0) x.1
+pub counted_takes : (bytes : List ℕ) (x : List ℕ × List ℕ) → AreBytes bytes → counted_at bytes ≡ Some x → Takes bytes (counted_bytes x.0) x.1
 unfolding counted_at
 counted_takes bytes x fits e =
     let n = bind_some (number_at w16 bytes) _ x e in
@@ -127,13 +127,13 @@ counted_takes bytes x fits e =
       rest_fits = second.0.rest_fits;
     }
 
-pub counted_again : (text rest : List ℕ) → length text < 2 ^ 16 → counted_at (counted text ++ rest) ≡ Some (text, rest)
+pub counted_again : (text rest : List ℕ) → length text < 2 ^ 16 → counted_at (counted_bytes text ++ rest) ≡ Some (text, rest)
 unfolding counted_at
 counted_again text rest lt =
     bind_to _ _ _ _ (number_again w16 (2 ^ 16) wide16 (length text) (text ++ rest) lt) (taken_again (length text) text rest refl)
 
-pub counted_alone : (text : List ℕ) → length text < 2 ^ 16 → counted_at (counted text) ≡ Some (text, [])
-counted_alone text lt = ap counted_at (sym (append-nil (counted text))) ∙ counted_again text [] lt
+pub counted_alone : (text : List ℕ) → length text < 2 ^ 16 → counted_at (counted_bytes text) ≡ Some (text, [])
+counted_alone text lt = ap counted_at (sym (append-nil (counted_bytes text))) ∙ counted_again text [] lt
 
 -- ---- words of one byte
 
@@ -183,49 +183,49 @@ reason_again Limit rest = refl
 
 -- ---- lists
 
-pub paths_take : (n : ℕ) (bytes : List ℕ) (x : List (List ℕ) × List ℕ) → AreBytes bytes → paths_at n bytes ≡ Some x → Takes bytes (flat_map counted x.0) x.1 × (length x.0 ≡ n)
+pub paths_take : (n : ℕ) (bytes : List ℕ) (x : List (List ℕ) × List ℕ) → AreBytes bytes → paths_at n bytes ≡ Some x → Takes bytes (flat_map counted_bytes x.0) x.1 × (length x.0 ≡ n)
 unfolding paths_at
 paths_take zero bytes x fits e =
-    subst (λ (y : List (List ℕ) × List ℕ). Takes bytes (flat_map counted y.0) y.1 × (length y.0 ≡ 0)) (some_same ([], bytes) x e) (record { parts = refl; rest_fits = fits }, refl)
+    subst (λ (y : List (List ℕ) × List ℕ). Takes bytes (flat_map counted_bytes y.0) y.1 × (length y.0 ≡ 0)) (some_same ([], bytes) x e) (record { parts = refl; rest_fits = fits }, refl)
 paths_take (suc n) bytes x fits e =
     let p = bind_some (counted_at bytes) _ x e in
     let ps = bind_some (paths_at n p.0.1) _ x p.2 in
     let first = counted_takes bytes p.0 fits p.1 in
     let others = paths_take n p.0.1 ps.0 first.rest_fits ps.1 in
-    let both : bytes ≡ (counted p.0.0 ++ flat_map counted ps.0.0) ++ ps.0.1 =
-    first.parts ∙ ap (λ (xs : List ℕ). counted p.0.0 ++ xs) others.0.parts ∙ sym (append_assoc (counted p.0.0) (flat_map counted ps.0.0) ps.0.1) in
-    subst (λ (y : List (List ℕ) × List ℕ). Takes bytes (flat_map counted y.0) y.1 × (length y.0 ≡ suc n)) (some_same (p.0.0 ∷ ps.0.0, ps.0.1) x ps.2)
+    let both : bytes ≡ (counted_bytes p.0.0 ++ flat_map counted_bytes ps.0.0) ++ ps.0.1 =
+    first.parts ∙ ap (λ (xs : List ℕ). counted_bytes p.0.0 ++ xs) others.0.parts ∙ sym (append_assoc (counted_bytes p.0.0) (flat_map counted_bytes ps.0.0) ps.0.1) in
+    subst (λ (y : List (List ℕ) × List ℕ). Takes bytes (flat_map counted_bytes y.0) y.1 × (length y.0 ≡ suc n)) (some_same (p.0.0 ∷ ps.0.0, ps.0.1) x ps.2)
     (record { parts = both; rest_fits = others.0.rest_fits }, ap suc others.1)
 
-pub paths_again : (ps : List (List ℕ)) (rest : List ℕ) → AllByRecursion (λ (p : List ℕ). length p < 2 ^ 16) ps → paths_at (length ps) (flat_map counted ps ++ rest) ≡ Some (ps, rest)
+pub paths_again : (ps : List (List ℕ)) (rest : List ℕ) → AllByRecursion (λ (p : List ℕ). length p < 2 ^ 16) ps → paths_at (length ps) (flat_map counted_bytes ps ++ rest) ≡ Some (ps, rest)
 unfolding paths_at
 paths_again [] rest h = refl
 paths_again (p ∷ ps) rest h =
-    let regrouped : (counted p ++ flat_map counted ps) ++ rest ≡ counted p ++ (flat_map counted ps ++ rest) = append_assoc (counted p) (flat_map counted ps) rest in
-    ap (paths_at (suc (length ps))) regrouped ∙ bind_to _ _ _ _ (counted_again p (flat_map counted ps ++ rest) h.0) (bind_to _ _ _ _ (paths_again ps rest h.1) refl)
+    let regrouped : (counted_bytes p ++ flat_map counted_bytes ps) ++ rest ≡ counted_bytes p ++ (flat_map counted_bytes ps ++ rest) = append_assoc (counted_bytes p) (flat_map counted_bytes ps) rest in
+    ap (paths_at (suc (length ps))) regrouped ∙ bind_to _ _ _ _ (counted_again p (flat_map counted_bytes ps ++ rest) h.0) (bind_to _ _ _ _ (paths_again ps rest h.1) refl)
 
-node_is : (b n : ℕ) → node_of b ≡ Some n → (b ≡ n) × IsNode n
+node_is : (b n : ℕ) → node_of b ≡ Some n → (b ≡ n) × IsNodeNumber n
 node_is b n e =
     let g = cond_some (nat_le 1 b && nat_le b 64) b n e in
     let both = and_parts _ _ g.0 in
-    (g.1, subst IsNode g.1 (leb-true _ _ both.0, leb-true _ _ both.1))
+    (g.1, subst IsNodeNumber g.1 (leb-true _ _ both.0, leb-true _ _ both.1))
 
-pub nodes_are : (bytes ns : List ℕ) → nodes_of bytes ≡ Some ns → (bytes ≡ ns) × AllByRecursion IsNode ns
+pub nodes_are : (bytes ns : List ℕ) → nodes_of bytes ≡ Some ns → (bytes ≡ ns) × AllByRecursion IsNodeNumber ns
 unfolding nodes_of
-nodes_are [] ns e = subst (λ (xs : List ℕ). ([] ≡ xs) × AllByRecursion IsNode xs) (some_same [] ns e) (refl, tt)
+nodes_are [] ns e = subst (λ (xs : List ℕ). ([] ≡ xs) × AllByRecursion IsNodeNumber xs) (some_same [] ns e) (refl, tt)
 nodes_are (b ∷ bytes) ns e =
     let n = bind_some (node_of b) _ ns e in
     let others = bind_some (nodes_of bytes) _ ns n.2 in
     let first = node_is b n.0 n.1 in
     let rest = nodes_are bytes others.0 others.1 in
-    subst (λ (xs : List ℕ). (b ∷ bytes ≡ xs) × AllByRecursion IsNode xs) (some_same (n.0 ∷ others.0) ns others.2) (cc (first.0, rest.0), (first.1, rest.1))
+    subst (λ (xs : List ℕ). (b ∷ bytes ≡ xs) × AllByRecursion IsNodeNumber xs) (some_same (n.0 ∷ others.0) ns others.2) (cc (first.0, rest.0), (first.1, rest.1))
 
-node_again : (n : ℕ) → IsNode n → node_of n ≡ Some n
+node_again : (n : ℕ) → IsNodeNumber n → node_of n ≡ Some n
 node_again n h =
     let passes : (nat_le 1 n && nat_le n 64) ≡ true = and_from _ _ (le-leb _ _ h.0) (le-leb _ _ h.1) in
     rw passes refl
 
-pub nodes_again : (ns : List ℕ) → AllByRecursion IsNode ns → nodes_of ns ≡ Some ns
+pub nodes_again : (ns : List ℕ) → AllByRecursion IsNodeNumber ns → nodes_of ns ≡ Some ns
 unfolding nodes_of
 nodes_again [] h = refl
 nodes_again (n ∷ ns) h = bind_to _ _ _ _ (node_again n h.0) (bind_to _ _ _ _ (nodes_again ns h.1) refl)

@@ -11,19 +11,19 @@ use Rattle.lard_message.specs.declared.kind.Kind.TheVariants as kind
 use Rattle.lard_message.specs.declared.message.Body.{Body}
 use Rattle.lard_message.specs.declared.message.Body.TheVariants.{Offer, Taken, Forward, Ask, Tag, Fetch, Content, Ended, EndedAck}
 use Rattle.lard_message.specs.Laws.{AreBytes}
-use Rattle.lard_message.specs.Message.{IsOfTable, IsPath, Fits, kind_of, counted, flag_byte, reason_byte, parts_bytes, body_bytes}
-use Rattle.lard_message.specs.Reading.{◌>>=◌, flag_at, reason_at, byte_at, number_at, taken_at, counted_at, paths_at, nodes_of, parts_at, offer_at, ask_at, tag_at, fetch_at, content_at, ended_at, body_at}
+use Rattle.lard_message.specs.Message.{IsOfTable, IsPath, FitsFields, kind_of, counted_bytes, flag_byte, reason_byte, parts_bytes, body_bytes}
+use Rattle.lard_message.specs.Reading.{◌>>=◌, flag_at, reason_at, byte_at, number_at, taken_at, counted_at, paths_at, nodes_of, parts_at, offer_at, ask_at, tag_at, fetch_at, content_at, ended_body_at, body_at}
 use Rattle.lard_message.proofs.Fields.{bind_some, bind_then, bind_to, some_same, wide16, wide32, number_takes, number_again, byte_takes, taken_takes, taken_again, counted_takes, counted_alone, flag_takes, flag_again, reason_takes, reason_again, paths_take, paths_again, nodes_are, nodes_again}
 
 -- what was read is a body of its kind, written so, whose numbers fit
 pub record IsBodyAt (k : Kind) (bytes : List ℕ) (x : Body × List ℕ) : Type 0 where
   pub kind : kind_of x.0 ≡ k
   pub parts : bytes ≡ body_bytes x.0 ++ x.1
-  pub fits : Fits x.0
+  pub fits : FitsFields x.0
 
 -- ---- what was read
 
-parts_take : (bytes : List ℕ) (x : EndpointParts × List ℕ) → AreBytes bytes → parts_at bytes ≡ Some x → (bytes ≡ parts_bytes x.0 ++ x.1) × Fits (Offer x.0)
+parts_take : (bytes : List ℕ) (x : EndpointParts × List ℕ) → AreBytes bytes → parts_at bytes ≡ Some x → (bytes ≡ parts_bytes x.0 ++ x.1) × FitsFields (Offer x.0)
 unfolding parts_at
 parts_take bytes x fits e =
     bind_then (number_at w32 bytes) _ x e (λ irs e1 n1. bind_then (number_at w32 irs.1) _ x n1 (λ iss e2 n2. bind_then (number_at w32 iss.1) _ x n2 (λ got e3 n3.
@@ -60,7 +60,7 @@ parts_take bytes x fits e =
     t7.0.parts ∙ ap (λ (w : List ℕ). to_be_bytes w32 wl1.0 ++ w) (t8.0.parts ∙ ap (λ (w : List ℕ). to_be_bytes w32 wl2.0 ++ w) (t9.0.parts ∙ ap (λ (w : List ℕ). to_be_bytes w16 mss.0 ++ w) (
     t10.0.parts ∙ ap (λ (w : List ℕ). to_be_bytes w32 served.0 ++ w) t11.parts)))))))))
     in
-    subst (λ (y : EndpointParts × List ℕ). (bytes ≡ parts_bytes y.0 ++ y.1) × Fits (Offer y.0)) (some_same (p, unread.1) x n11) (whole, (t1.1, t2.1, t6.1, t7.1, t8.1)))))))))))))
+    subst (λ (y : EndpointParts × List ℕ). (bytes ≡ parts_bytes y.0 ++ y.1) × FitsFields (Offer y.0)) (some_same (p, unread.1) x n11) (whole, (t1.1, t2.1, t6.1, t7.1, t8.1)))))))))))))
 
 offer_takes : (bytes : List ℕ) (x : Body × List ℕ) → AreBytes bytes → offer_at bytes ≡ Some x → IsBodyAt kind.Offer bytes x
 unfolding offer_at
@@ -84,7 +84,7 @@ ask_takes bytes x fits e =
     let t5 = paths_take count.0.0 count.0.1 paths.0 t4.0.rest_fits paths.1 in
     let whole : bytes ≡ body_bytes (Ask number.0.0 queue.0.0 size.0.0 paths.0.0) ++ paths.0.1 =
     t1.0.parts ∙ ap (λ (w : List ℕ). to_be_bytes w32 number.0.0 ++ w) (t2.0.parts ∙ ap (λ (w : List ℕ). to_be_bytes w32 queue.0.0 ++ w) (t3.0.parts ∙ ap (λ (w : List ℕ). size.0.0 ∷ w) (
-    t4.0.parts ∙ ap (λ (w : List ℕ). count.0.0 ∷ w) t5.0.parts ∙ ap (λ (n : ℕ). n ∷ (flat_map counted paths.0.0 ++ paths.0.1)) (sym t5.1)))) in
+    t4.0.parts ∙ ap (λ (w : List ℕ). count.0.0 ∷ w) t5.0.parts ∙ ap (λ (n : ℕ). n ∷ (flat_map counted_bytes paths.0.0 ++ paths.0.1)) (sym t5.1)))) in
     subst (IsBodyAt kind.Ask bytes) (some_same (Ask number.0.0 queue.0.0 size.0.0 paths.0.0, paths.0.1) x paths.2) (record { kind = refl; parts = whole; fits = (t1.1, t2.1) })
 
 tag_takes : (bytes : List ℕ) (x : Body × List ℕ) → AreBytes bytes → tag_at bytes ≡ Some x → IsBodyAt kind.Tag bytes x
@@ -127,8 +127,8 @@ content_takes bytes x fits e =
     ∙ ap (λ (n : ℕ). to_be_bytes w32 n ++ (taken.0.0 ++ taken.0.1)) (sym t3.1)) in
     subst (IsBodyAt kind.Content bytes) (some_same (Content r.0.0 taken.0.0, taken.0.1) x taken.2) (record { kind = refl; parts = whole; fits = t1.1 })
 
-ended_takes : (bytes : List ℕ) (x : Body × List ℕ) → AreBytes bytes → ended_at bytes ≡ Some x → IsBodyAt kind.Ended bytes x
-unfolding ended_at
+ended_takes : (bytes : List ℕ) (x : Body × List ℕ) → AreBytes bytes → ended_body_at bytes ≡ Some x → IsBodyAt kind.Ended bytes x
+unfolding ended_body_at
 ended_takes bytes x fits e =
     let reason = bind_some (reason_at bytes) _ x e in
     let snd = bind_some (number_at w32 reason.0.1) _ x reason.2 in
@@ -156,10 +156,10 @@ body_takes kind.EndedAck bytes x fits e = subst (IsBodyAt kind.EndedAck bytes) (
 
 -- ---- what was written
 
-parts_again : (p : EndpointParts) → IsValidParts p → Fits (Offer p) → parts_at (parts_bytes p) ≡ Some (p, [])
+parts_again : (p : EndpointParts) → IsValidParts p → FitsFields (Offer p) → parts_at (parts_bytes p) ≡ Some (p, [])
 unfolding parts_at
 parts_again p v f =
-    let r11 : List ℕ = counted p.unread in
+    let r11 : List ℕ = counted_bytes p.unread in
     let r10 : List ℕ = to_be_bytes w32 p.served ++ r11 in
     let r9 : List ℕ = to_be_bytes w16 p.mss ++ r10 in
     let r8 : List ℕ = to_be_bytes w32 p.wl2 ++ r9 in
@@ -183,21 +183,21 @@ paths_fit : (ps : List (List ℕ)) → AllByRecursion IsPath ps → AllByRecursi
 paths_fit [] h = tt
 paths_fit (p ∷ ps) h = (omega (arith, h.0), paths_fit ps h.1)
 
-offer_again : (p : EndpointParts) → IsValidParts p → Fits (Offer p) → offer_at (parts_bytes p) ≡ Some (Offer p, [])
+offer_again : (p : EndpointParts) → IsValidParts p → FitsFields (Offer p) → offer_at (parts_bytes p) ≡ Some (Offer p, [])
 unfolding offer_at
 offer_again p v f = bind_to _ _ _ _ (parts_again p v f) refl
 
-ask_again : (number queue size : ℕ) (paths : List (List ℕ)) → IsOfTable (Ask number queue size paths) → Fits (Ask number queue size paths)
+ask_again : (number queue size : ℕ) (paths : List (List ℕ)) → IsOfTable (Ask number queue size paths) → FitsFields (Ask number queue size paths)
     → ask_at (body_bytes (Ask number queue size paths)) ≡ Some (Ask number queue size paths, [])
 unfolding ask_at
 ask_again number queue size paths t f =
-    let r4 : List ℕ = flat_map counted paths in
+    let r4 : List ℕ = flat_map counted_bytes paths in
     let r2 : List ℕ = size ∷ length paths ∷ r4 in
     let paths_read : paths_at (length paths) r4 ≡ Some (paths, []) =
     ap (paths_at (length paths)) (sym (append-nil r4)) ∙ paths_again paths [] (paths_fit paths (recursion_from_All IsPath paths t.3)) in
     bind_to _ _ _ _ (number_again w32 (2 ^ 32) wide32 number (to_be_bytes w32 queue ++ r2) f.0) (bind_to _ _ _ _ (number_again w32 (2 ^ 32) wide32 queue r2 f.1) (bind_to _ _ _ _ paths_read refl))
 
-tag_again : (number : ℕ) (nodes : List ℕ) → Fits (Tag number nodes) → tag_at (body_bytes (Tag number nodes)) ≡ Some (Tag number nodes, [])
+tag_again : (number : ℕ) (nodes : List ℕ) → FitsFields (Tag number nodes) → tag_at (body_bytes (Tag number nodes)) ≡ Some (Tag number nodes, [])
 unfolding tag_at
 tag_again number nodes f =
     let taken : taken_at (length nodes) nodes ≡ Some (nodes, []) = ap (taken_at (length nodes)) (sym (append-nil nodes)) ∙ taken_again (length nodes) nodes [] refl in
@@ -205,7 +205,7 @@ tag_again number nodes f =
 
 fetch_again : (r : ℕ) (path : List ℕ) → IsPath path → r < 2 ^ 32 → fetch_at (body_bytes (Fetch r path)) ≡ Some (Fetch r path, [])
 unfolding fetch_at
-fetch_again r path t f = bind_to _ _ _ _ (number_again w32 (2 ^ 32) wide32 r (counted path) f) (bind_to _ _ _ _ (counted_alone path (omega (arith, t))) refl)
+fetch_again r path t f = bind_to _ _ _ _ (number_again w32 (2 ^ 32) wide32 r (counted_bytes path) f) (bind_to _ _ _ _ (counted_alone path (omega (arith, t))) refl)
 
 content_again : (r : ℕ) (bytes : List ℕ) → length bytes < 2 ^ 32 → r < 2 ^ 32 → content_at (body_bytes (Content r bytes)) ≡ Some (Content r bytes, [])
 unfolding content_at
@@ -213,8 +213,8 @@ content_again r bytes t f =
     let taken : taken_at (length bytes) bytes ≡ Some (bytes, []) = ap (taken_at (length bytes)) (sym (append-nil bytes)) ∙ taken_again (length bytes) bytes [] refl in
     bind_to _ _ _ _ (number_again w32 (2 ^ 32) wide32 r (to_be_bytes w32 (length bytes) ++ bytes) f) (bind_to _ _ _ _ (number_again w32 (2 ^ 32) wide32 (length bytes) bytes t) (bind_to _ _ _ _ taken refl))
 
-ended_again : (reason : Reason) (snd rcv count : ℕ) → Fits (Ended reason snd rcv count) → ended_at (body_bytes (Ended reason snd rcv count)) ≡ Some (Ended reason snd rcv count, [])
-unfolding ended_at
+ended_again : (reason : Reason) (snd rcv count : ℕ) → FitsFields (Ended reason snd rcv count) → ended_body_at (body_bytes (Ended reason snd rcv count)) ≡ Some (Ended reason snd rcv count, [])
+unfolding ended_body_at
 ended_again reason snd rcv count f =
     let r3 : List ℕ = to_be_bytes w32 count in
     let r2 : List ℕ = to_be_bytes w32 rcv ++ r3 in
@@ -225,7 +225,7 @@ ended_again reason snd rcv count f =
     bind_to (number_at w32 r2) (λ c. number_at w32 c.1 >>= λ d. Some (Ended reason snd c.0 d.0, d.1)) (rcv, r3) _ (number_again w32 (2 ^ 32) wide32 rcv r3 f.1) (
     bind_to (number_at w32 r3) (λ d. Some (Ended reason snd rcv d.0, d.1)) (count, []) _ last refl)))
 
-pub body_again : (b : Body) → IsOfTable b → Fits b → body_at (kind_of b) (body_bytes b) ≡ Some (b, [])
+pub body_again : (b : Body) → IsOfTable b → FitsFields b → body_at (kind_of b) (body_bytes b) ≡ Some (b, [])
 body_again (Offer p) t f = offer_again p t f
 body_again Taken t f = refl
 body_again (Forward bytes) t f = refl

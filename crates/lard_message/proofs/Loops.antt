@@ -3,7 +3,7 @@ use Rattle.std.proofs.Common.{◌≡◌, ℕ, suc, ◌-◌, ◌+◌, ◌≤◌, 
 use Rattle.std.proofs.lemmas.List.{drop_more, drop_all}
 use Rattle.lard_message.specs.declared.fault.MsgFault.{MsgFault}
 use Rattle.lard_message.specs.declared.fault.MsgFault.TheVariants as fault
-use Rattle.lard_message.specs.Reading.{◌>>=◌, Stops, counted_at, paths_at, node_of, nodes_of}
+use Rattle.lard_message.specs.Reading.{◌>>=◌, StopsReading, counted_at, paths_at, node_of, nodes_of}
 
 -- ---- paths
 
@@ -23,8 +23,8 @@ path_more front count i bytes p after total lt h so_far =
     let one : with_front front (paths_at (count - i) bytes) ≡ with_front (front ++ p ∷ []) (paths_at (count - (i + 1)) after) = rw (k, h) (regroup front p (paths_at (count - (i + 1)) after)) in
     sym one ∙ so_far
 
-pub path_stops : (e : MsgFault) (front : List (List ℕ)) (count i : ℕ) (bytes : List ℕ) (total : Option (List (List ℕ) × List ℕ)) → i < count → Stops e (counted_at bytes)
-    → with_front front (paths_at (count - i) bytes) ≡ total → Stops e total
+pub path_stops : (e : MsgFault) (front : List (List ℕ)) (count i : ℕ) (bytes : List ℕ) (total : Option (List (List ℕ) × List ℕ)) → i < count → StopsReading e (counted_at bytes)
+    → with_front front (paths_at (count - i) bytes) ≡ total → StopsReading e total
 unfolding paths_at
 path_stops fault.Field front count i bytes total lt h so_far =
     let k : count - i ≡ suc (count - (i + 1)) = omega arith in
@@ -61,8 +61,8 @@ node_more front bytes i n total lt h so_far =
     let one : with_nodes front (nodes_of (drop i bytes)) ≡ with_nodes (front ++ n ∷ []) (nodes_of (drop (i + 1) bytes)) = rw (cut, h) (regroup_nodes front n (nodes_of (drop (i + 1) bytes))) in
     sym one ∙ so_far
 
-pub node_stops : (e : MsgFault) (front bytes : List ℕ) (i : ℕ) (total : Option (List ℕ)) → i < length bytes → Stops e (node_of (get_or bytes i 0))
-    → with_nodes front (nodes_of (drop i bytes)) ≡ total → Stops e total
+pub node_stops : (e : MsgFault) (front bytes : List ℕ) (i : ℕ) (total : Option (List ℕ)) → i < length bytes → StopsReading e (node_of (get_or bytes i 0))
+    → with_nodes front (nodes_of (drop i bytes)) ≡ total → StopsReading e total
 unfolding nodes_of
 node_stops fault.Field front bytes i total lt h so_far =
     let cut = drop_more bytes i 0 lt in

@@ -8,13 +8,13 @@ use Rattle.lard_message.specs.declared.message.Body.{Body}
 use Rattle.lard_message.specs.declared.message.Body.TheVariants.{Offer, Taken, Forward, Ask, Tag, Fetch, Content, Ended, EndedAck}
 use Rattle.lard_message.specs.declared.message.Message.{Message}
 use Rattle.lard_message.specs.Laws.{AreBytes}
-use Rattle.lard_message.specs.Message.{IsMessage, IsOfTable, IsPath, counted, body_bytes, header_bytes, spelled_message}
+use Rattle.lard_message.specs.Message.{IsMessage, IsOfTable, IsPath, counted_bytes, body_bytes, header_bytes, spelled_message}
 use Rattle.lard_message.proofs.Fields.{AreBytes-take, AreBytes-drop}
 use Rattle.lard_message.specs.Reading.{version_at, number_byte, connection_at, epoch_at, length_at}
 
-length-counted : (ps : List (List ℕ)) → AllByRecursion IsPath ps → length (flat_map counted ps) ≤ 1026 * length ps
+length-counted : (ps : List (List ℕ)) → AllByRecursion IsPath ps → length (flat_map counted_bytes ps) ≤ 1026 * length ps
 length-counted [] h = omega arith
-length-counted (p ∷ ps) h = omega (arith, length-append p (flat_map counted ps), length-counted ps h.1, h.0)
+length-counted (p ∷ ps) h = omega (arith, length-append p (flat_map counted_bytes ps), length-counted ps h.1, h.0)
 
 -- a body is at most a file and its number and length
 pub length-body : (b : Body) → IsOfTable b → length (body_bytes b) ≤ 1048584

@@ -11,19 +11,19 @@ use Rattle.lard_base.specs.Parts.{IsValidParts}
 use Rattle.lard_message.specs.declared.message.Body.{Body}
 use Rattle.lard_message.specs.declared.message.Body.TheVariants.{Offer, Taken, Forward, Ask, Tag, Fetch, Content, Ended, EndedAck}
 use Rattle.lard_message.specs.Message.{IsOfTable, IsPath, IsCount}
-use Rattle.lard_message.specs.Reading.{is_of_table, is_path, is_count, are_parts}
+use Rattle.lard_message.specs.Reading.{is_of_table, is_message_path, is_count, are_parts}
 
-path_passes : (p : List ℕ) → IsPath p → is_path p ≡ true
+path_passes : (p : List ℕ) → IsPath p → is_message_path p ≡ true
 path_passes p h = grind (arith, nat_tests)
 
-path_passed : (p : List ℕ) → is_path p ≡ true → IsPath p
+path_passed : (p : List ℕ) → is_message_path p ≡ true → IsPath p
 path_passed p h = let both = and_parts _ _ h in (leb-true _ _ both.0, leb-true _ _ both.1)
 
-paths_pass : (ps : List (List ℕ)) → AllByRecursion IsPath ps → list_all is_path ps ≡ true
+paths_pass : (ps : List (List ℕ)) → AllByRecursion IsPath ps → list_all is_message_path ps ≡ true
 paths_pass [] h = refl
 paths_pass (p ∷ ps) h = and_from _ _ (path_passes p h.0) (paths_pass ps h.1)
 
-paths_passed : (ps : List (List ℕ)) → list_all is_path ps ≡ true → AllByRecursion IsPath ps
+paths_passed : (ps : List (List ℕ)) → list_all is_message_path ps ≡ true → AllByRecursion IsPath ps
 paths_passed [] h = tt
 paths_passed (p ∷ ps) h = let both = and_parts _ _ h in (path_passed p both.0, paths_passed ps both.1)
 

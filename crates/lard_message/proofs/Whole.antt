@@ -10,10 +10,10 @@ use Rattle.lard_message.specs.declared.kind.Kind.{Kind}
 use Rattle.lard_message.specs.declared.kind.Kind.TheVariants as kind
 use Rattle.lard_message.specs.declared.message.Body.{Body}
 use Rattle.lard_message.specs.declared.message.Message.{Message}
-use Rattle.lard_message.specs.Kinds.{version_of, number_of, is_version, first_kind, kind_named}
+use Rattle.lard_message.specs.Kinds.{version_of, kind_number, is_version, first_kind, kind_named}
 use Rattle.lard_message.specs.Laws.{AreBytes, ReadsAgain, ReadsWhatIsSpelled, NamesTheFirstFault, SpellsOneMessage, NoneBeginsAnother, FitsAPacket}
 use Rattle.lard_message.specs.Message.{IsMessage, kind_of, body_bytes, header_bytes, spelled_message}
-use Rattle.lard_message.specs.Reading.{is_of_table, version_at, number_byte, connection_at, epoch_at, length_at, with_body, with_kind, body_at, decoded_message, Gives}
+use Rattle.lard_message.specs.Reading.{is_of_table, version_at, number_byte, connection_at, epoch_at, length_at, with_body, with_kind, body_at, decoded_message, GivesMessage}
 use Rattle.lard_message.specs.Faults.{Applies, IsFirstFault}
 use Rattle.lard_message.proofs.Fields.{some_same, AreBytes-drop, AreBytes-take, wide16}
 use Rattle.lard_message.proofs.Layouts.{IsBodyAt, body_takes, body_again}
@@ -22,7 +22,7 @@ use Rattle.lard_message.proofs.Tables.{table_passes, table_passed}
 
 -- ---- kinds and their numbers
 
-named_again : (k : Kind) → kind_named (version_of k) (number_of k) ≡ Some k
+named_again : (k : Kind) → kind_named (version_of k) (kind_number k) ≡ Some k
 named_again kind.Offer = refl
 named_again kind.Taken = refl
 named_again kind.Forward = refl
@@ -34,23 +34,23 @@ named_again kind.Ended = refl
 named_again kind.EndedAck = refl
 
 -- one kind of the table, or one behind it
-one_of : (t : Bool) (k : Kind) (others : Option Kind) (x : Kind) (n : ℕ) → (t ≡ true → number_of k ≡ n) → (others ≡ Some x → number_of x ≡ n) → cond t (Some k) others ≡ Some x → number_of x ≡ n
-one_of true k others x n here there e = ap number_of (sym (some_same k x e)) ∙ here refl
+one_of : (t : Bool) (k : Kind) (others : Option Kind) (x : Kind) (n : ℕ) → (t ≡ true → kind_number k ≡ n) → (others ≡ Some x → kind_number x ≡ n) → cond t (Some k) others ≡ Some x → kind_number x ≡ n
+one_of true k others x n here there e = ap kind_number (sym (some_same k x e)) ∙ here refl
 one_of false k others x n here there e = there e
 
-none_of : (x : Kind) (n : ℕ) → None ≡ Some x → number_of x ≡ n
+none_of : (x : Kind) (n : ℕ) → None ≡ Some x → kind_number x ≡ n
 none_of x n e = absurd cc
 
-first_number : (n : ℕ) (x : Kind) → first_kind n ≡ Some x → number_of x ≡ n
+first_number : (n : ℕ) (x : Kind) → first_kind n ≡ Some x → kind_number x ≡ n
 first_number n x e =
     one_of (n == 1) kind.Offer _ x n (λ t. sym (eqb-true n 1 t)) (one_of (n == 2) kind.Taken _ x n (λ t. sym (eqb-true n 2 t)) (one_of (n == 4) kind.Forward _ x n (λ t. sym (eqb-true n 4 t)) (
     one_of (n == 5) kind.Ask _ x n (λ t. sym (eqb-true n 5 t)) (one_of (n == 6) kind.Tag _ x n (λ t. sym (eqb-true n 6 t)) (one_of (n == 7) kind.Fetch _ x n (λ t. sym (eqb-true n 7 t)) (
     one_of (n == 8) kind.Content _ x n (λ t. sym (eqb-true n 8 t)) (one_of (n == 9) kind.Ended _ x n (λ t. sym (eqb-true n 9 t)) (one_of (n == 10) kind.EndedAck _ x n (λ t. sym (eqb-true n 10 t))
     (none_of x n))))))))) e
 
-named_is : (v n : ℕ) (x : Kind) → kind_named v n ≡ Some x → (version_of x ≡ v) × (number_of x ≡ n)
+named_is : (v n : ℕ) (x : Kind) → kind_named v n ≡ Some x → (version_of x ≡ v) × (kind_number x ≡ n)
 named_is v n x e = go (v == 1) refl e where
-  go : (t : Bool) → (v == 1) ≡ t → cond t (first_kind n) None ≡ Some x → (version_of x ≡ v) × (number_of x ≡ n)
+  go : (t : Bool) → (v == 1) ≡ t → cond t (first_kind n) None ≡ Some x → (version_of x ≡ v) × (kind_number x ≡ n)
   go true p h = (sym (eqb-true v 1 p), first_number n x h)
   go false p h = let none : None ≡ Some x = h in absurd cc
 
@@ -60,7 +60,7 @@ pub again : ReadsAgain
 unfolding decoded_message spelled_message
 again m h =
     let body : List ℕ = body_bytes m.body in
-    let bytes : List ℕ = header_bytes (version_of (kind_of m.body)) (number_of (kind_of m.body)) m.c m.epoch.0 (length body) ++ body in
+    let bytes : List ℕ = header_bytes (version_of (kind_of m.body)) (kind_number (kind_of m.body)) m.c m.epoch.0 (length body) ++ body in
     let len : length_at bytes ≡ length body = ap length_at (sym (append-nil bytes)) ∙ length_at-spelled m [] h in
     let c : connection_at bytes ≡ m.c = from_be_bytes-to_be_bytes_2 m.c (omega (arith, h.connection)) in
     let epoch : epoch_at bytes ≡ m.epoch.0 = from_be_bytes-to_be_bytes_2 m.epoch.0 h.epoch in
@@ -94,14 +94,14 @@ epoch_small bytes fits = wide16.below (take 2 (drop 4 bytes)) (AreBytes-take 2 (
 -- the parts of a message that was read are its spelling
 joined : (bytes : List ℕ) (k : Kind) (b : Body) (rest : List ℕ) → AreBytes bytes → 10 ≤ length bytes → length bytes ≡ 10 + length_at bytes → kind_named (version_at bytes) (number_byte bytes) ≡ Some k
     → IsBodyAt k (drop 10 bytes) (b, rest) → rest ≡ []
-    → header_bytes (version_of (kind_of b)) (number_of (kind_of b)) (connection_at bytes) (epoch_at bytes) (length (body_bytes b)) ++ body_bytes b ≡ bytes
+    → header_bytes (version_of (kind_of b)) (kind_number (kind_of b)) (connection_at bytes) (epoch_at bytes) (length (body_bytes b)) ++ body_bytes b ≡ bytes
 joined bytes k b rest fits long whole named at none =
     let is = named_is (version_at bytes) (number_byte bytes) k named in
     let v : version_of (kind_of b) ≡ version_at bytes = ap version_of at.kind ∙ is.0 in
-    let n : number_of (kind_of b) ≡ number_byte bytes = ap number_of at.kind ∙ is.1 in
+    let n : kind_number (kind_of b) ≡ number_byte bytes = ap kind_number at.kind ∙ is.1 in
     let body : drop 10 bytes ≡ body_bytes b = at.parts ∙ ap (λ (r : List ℕ). body_bytes b ++ r) none ∙ append-nil (body_bytes b) in
     let len : length (body_bytes b) ≡ length_at bytes = sym (ap length body) ∙ length-drop 10 bytes ∙ omega (arith, whole) in
-    ap (λ (x : ℕ). header_bytes x (number_of (kind_of b)) (connection_at bytes) (epoch_at bytes) (length (body_bytes b)) ++ body_bytes b) v
+    ap (λ (x : ℕ). header_bytes x (kind_number (kind_of b)) (connection_at bytes) (epoch_at bytes) (length (body_bytes b)) ++ body_bytes b) v
     ∙ ap (λ (x : ℕ). header_bytes (version_at bytes) x (connection_at bytes) (epoch_at bytes) (length (body_bytes b)) ++ body_bytes b) n
     ∙ ap (λ (x : ℕ). header_bytes (version_at bytes) (number_byte bytes) (connection_at bytes) (epoch_at bytes) x ++ body_bytes b) len
     ∙ ap (λ (x : List ℕ). header_bytes (version_at bytes) (number_byte bytes) (connection_at bytes) (epoch_at bytes) (length_at bytes) ++ x) (sym body)
@@ -170,7 +170,7 @@ module _ (bytes : List ℕ) (e : MsgFault) (whole : decoded_message bytes ≡ Er
   kind_fault : (o : Option Kind) → kind_named (version_at bytes) (number_byte bytes) ≡ o → is_version (version_at bytes) ≡ true → with_kind bytes o ≡ Err e → IsFirstFault bytes e
   kind_fault None named v h =
       let known : version_of kind.Taken ≡ version_at bytes = sym (eqb-true (version_at bytes) 1 v) in
-      let none : Applies fault.Kind bytes = λ k p q. let both : Some k ≡ None = sym (named_again k) ∙ ap (λ (x : ℕ). kind_named x (number_of k)) p ∙ ap (kind_named (version_at bytes)) q ∙ named in cc in
+      let none : Applies fault.Kind bytes = λ k p q. let both : Some k ≡ None = sym (named_again k) ∙ ap (λ (x : ℕ). kind_named x (kind_number k)) p ∙ ap (kind_named (version_at bytes)) q ∙ named in cc in
       subst (IsFirstFault bytes) (err_same fault.Kind e h) (none, (not_short, ((λ f. f kind.Taken known), tt)))
   kind_fault (Some k) named v h =
       let is = named_is (version_at bytes) (number_byte bytes) k named in
@@ -211,11 +211,11 @@ within_packet m h = omega (arith, length-spelled m, length-body m.body h.table)
 
 -- ---- what a call answers
 
-pub found_is : (bytes : List ℕ) (r : Result Message MsgFault) → AreBytes bytes → Gives r (decoded_message bytes) → IfOk r (λ m. IsMessage m × (spelled_message m ≡ bytes))
+pub found_is : (bytes : List ℕ) (r : Result Message MsgFault) → AreBytes bytes → GivesMessage r (decoded_message bytes) → IfOk r (λ m. IsMessage m × (spelled_message m ≡ bytes))
 found_is bytes (Ok m) fits given = spelled_so bytes m fits given
 found_is bytes (Err e) fits given = tt
 
-pub fault_is : (bytes : List ℕ) (r : Result Message MsgFault) → Gives r (decoded_message bytes) → IfErr r (IsFirstFault bytes)
+pub fault_is : (bytes : List ℕ) (r : Result Message MsgFault) → GivesMessage r (decoded_message bytes) → IfErr r (IsFirstFault bytes)
 fault_is bytes (Ok m) given = tt
 fault_is bytes (Err fault.Short) given = first_fault bytes fault.Short given
 fault_is bytes (Err fault.Version) given = first_fault bytes fault.Version given

@@ -9,16 +9,16 @@ abbrev pub version_of : Kind → ℕ
 version_of kind = 1
 
 -- 3, 11 and 12 are kept for the second version
-abbrev pub number_of : Kind → ℕ
-number_of Offer = 1
-number_of Taken = 2
-number_of Forward = 4
-number_of Ask = 5
-number_of Tag = 6
-number_of Fetch = 7
-number_of Content = 8
-number_of Ended = 9
-number_of EndedAck = 10
+abbrev pub kind_number : Kind → ℕ
+kind_number Offer = 1
+kind_number Taken = 2
+kind_number Forward = 4
+kind_number Ask = 5
+kind_number Tag = 6
+kind_number Fetch = 7
+kind_number Content = 8
+kind_number Ended = 9
+kind_number EndedAck = 10
 
 -- whether some kind has this version
 abbrev pub is_version : ℕ → Bool

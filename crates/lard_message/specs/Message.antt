@@ -14,7 +14,7 @@ use Rattle.lard_message.specs.declared.kind.Kind.TheVariants as kind
 use Rattle.lard_message.specs.declared.message.Body.{Body}
 use Rattle.lard_message.specs.declared.message.Body.TheVariants.{Offer, Taken, Forward, Ask, Tag, Fetch, Content, Ended, EndedAck}
 use Rattle.lard_message.specs.declared.message.Message.{Message}
-use Rattle.lard_message.specs.Kinds.{number_of, version_of}
+use Rattle.lard_message.specs.Kinds.{kind_number, version_of}
 
 -- ---- what has a spelling
 
@@ -51,20 +51,20 @@ IsOfTable (Ended reason snd rcv count) = IsCount reason count
 IsOfTable EndedAck = Unit {0}
 
 -- A node has a number of its range.
-abbrev pub IsNode : ℕ → Type 0
-IsNode n = (1 ≤ n) × (n ≤ 64)
+abbrev pub IsNodeNumber : ℕ → Type 0
+IsNodeNumber n = (1 ≤ n) × (n ≤ 64)
 
 -- Each number fits its field, which in the code its type says.
-abbrev pub Fits : Body → Type 0
-Fits (Offer parts) = (parts.irs < 2 ^ 32) × (parts.iss < 2 ^ 32) × (parts.wnd < 2 ^ 16) × (parts.wl1 < 2 ^ 32) × (parts.wl2 < 2 ^ 32)
-Fits Taken = Unit {0}
-Fits (Forward bytes) = Unit {0}
-Fits (Ask number queue size paths) = (number < 2 ^ 32) × (queue < 2 ^ 32)
-Fits (Tag number nodes) = (number < 2 ^ 32) × AllByRecursion IsNode nodes
-Fits (Fetch r path) = r < 2 ^ 32
-Fits (Content r bytes) = r < 2 ^ 32
-Fits (Ended reason snd rcv count) = (snd < 2 ^ 32) × (rcv < 2 ^ 32) × (count < 2 ^ 32)
-Fits EndedAck = Unit {0}
+abbrev pub FitsFields : Body → Type 0
+FitsFields (Offer parts) = (parts.irs < 2 ^ 32) × (parts.iss < 2 ^ 32) × (parts.wnd < 2 ^ 16) × (parts.wl1 < 2 ^ 32) × (parts.wl2 < 2 ^ 32)
+FitsFields Taken = Unit {0}
+FitsFields (Forward bytes) = Unit {0}
+FitsFields (Ask number queue size paths) = (number < 2 ^ 32) × (queue < 2 ^ 32)
+FitsFields (Tag number nodes) = (number < 2 ^ 32) × AllByRecursion IsNodeNumber nodes
+FitsFields (Fetch r path) = r < 2 ^ 32
+FitsFields (Content r bytes) = r < 2 ^ 32
+FitsFields (Ended reason snd rcv count) = (snd < 2 ^ 32) × (rcv < 2 ^ 32) × (count < 2 ^ 32)
+FitsFields EndedAck = Unit {0}
 
 -- what has a spelling
 pub record IsMessage (m : Message) : Type 0 where
@@ -72,13 +72,13 @@ pub record IsMessage (m : Message) : Type 0 where
   pub connection : m.c ≤ MAX
   pub epoch : m.epoch.0 < 2 ^ 16
   pub table : IsOfTable m.body
-  pub fits : Fits m.body
+  pub fits : FitsFields m.body
 
 -- ---- the one spelling
 
 -- two bytes of length, and that many bytes
-abbrev pub counted : List ℕ → List ℕ
-counted bytes = to_be_bytes w16 (length bytes) ++ bytes
+abbrev pub counted_bytes : List ℕ → List ℕ
+counted_bytes bytes = to_be_bytes w16 (length bytes) ++ bytes
 
 abbrev pub flag_byte : Bool → ℕ
 flag_byte flag = if flag then 1 else 0
@@ -95,15 +95,15 @@ parts_numbers p =
     ++ to_be_bytes w32 p.wl1 ++ to_be_bytes w32 p.wl2 ++ to_be_bytes w16 p.mss ++ to_be_bytes w32 p.served
 
 abbrev pub parts_bytes : EndpointParts → List ℕ
-parts_bytes p = parts_numbers p ++ counted p.unread
+parts_bytes p = parts_numbers p ++ counted_bytes p.unread
 
 abbrev pub body_bytes : Body → List ℕ
 body_bytes (Offer parts) = parts_bytes parts
 body_bytes Taken = []
 body_bytes (Forward bytes) = bytes
-body_bytes (Ask number queue size paths) = to_be_bytes w32 number ++ to_be_bytes w32 queue ++ size ∷ length paths ∷ flat_map counted paths
+body_bytes (Ask number queue size paths) = to_be_bytes w32 number ++ to_be_bytes w32 queue ++ size ∷ length paths ∷ flat_map counted_bytes paths
 body_bytes (Tag number nodes) = to_be_bytes w32 number ++ length nodes ∷ nodes
-body_bytes (Fetch r path) = to_be_bytes w32 r ++ counted path
+body_bytes (Fetch r path) = to_be_bytes w32 r ++ counted_bytes path
 body_bytes (Content r bytes) = to_be_bytes w32 r ++ to_be_bytes w32 (length bytes) ++ bytes
 body_bytes (Ended reason snd rcv count) = reason_byte reason ∷ to_be_bytes w32 snd ++ to_be_bytes w32 rcv ++ to_be_bytes w32 count
 body_bytes EndedAck = []
@@ -114,4 +114,4 @@ header_bytes version number c epoch len = version ∷ number ∷ to_be_bytes w16
 
 unfoldable pub spelled_message : Message → List ℕ
 spelled_message m =
-    header_bytes (version_of (kind_of m.body)) (number_of (kind_of m.body)) m.c m.epoch.0 (length (body_bytes m.body)) ++ body_bytes m.body
+    header_bytes (version_of (kind_of m.body)) (kind_number (kind_of m.body)) m.c m.epoch.0 (length (body_bytes m.body)) ++ body_bytes m.body

@@ -23,15 +23,15 @@ abbrev pub ◌>>=◌ : {A B : Type 0} → Option A → (A → Option B) → Opti
 None >>= f = None
 
 -- A reading that ends without a value found nothing, unless memory ran out.
-abbrev pub Stops : {Y : Type 0} → MsgFault → Option Y → Type 0
-Stops fault.NoMemory read = Unit {0}
-Stops fault.Field read = read ≡ None
-Stops e read = ⊥
+abbrev pub StopsReading : {Y : Type 0} → MsgFault → Option Y → Type 0
+StopsReading fault.NoMemory read = Unit {0}
+StopsReading fault.Field read = read ≡ None
+StopsReading e read = ⊥
 
 -- What a function read, seen by view, is what reading finds.
 abbrev pub Reads : {X Y : Type 0} → (X → Y) → Result X MsgFault → Option Y → Type 0
 Reads view (Ok x) read = read ≡ Some (view x)
-Reads view (Err e) read = Stops e read
+Reads view (Err e) read = StopsReading e read
 
 -- ---- fields: a value, and the bytes after it
 
@@ -154,8 +154,8 @@ content_at bytes = do
   content ← taken_at len.0 len.1
   Some (Content r.0 content.0, content.1)
 
-unfoldable pub ended_at : List ℕ → Option (Body × List ℕ)
-ended_at bytes = do
+unfoldable pub ended_body_at : List ℕ → Option (Body × List ℕ)
+ended_body_at bytes = do
   reason ← reason_at bytes
   snd ← number_at w32 reason.1
   rcv ← number_at w32 snd.1
@@ -171,13 +171,13 @@ body_at kind.Ask bytes = ask_at bytes
 body_at kind.Tag bytes = tag_at bytes
 body_at kind.Fetch bytes = fetch_at bytes
 body_at kind.Content bytes = content_at bytes
-body_at kind.Ended bytes = ended_at bytes
+body_at kind.Ended bytes = ended_body_at bytes
 body_at kind.EndedAck bytes = Some (EndedAck, bytes)
 
 -- ---- the ranges, as tests
 
-abbrev pub is_path : List ℕ → Bool
-is_path path = nat_le 1 (length path) && nat_le (length path) MAX_PATH_BYTES
+abbrev pub is_message_path : List ℕ → Bool
+is_message_path path = nat_le 1 (length path) && nat_le (length path) MAX_PATH_BYTES
 
 abbrev pub is_count : Reason → ℕ → Bool
 is_count Limit count = true
@@ -193,9 +193,9 @@ abbrev pub is_of_table : Body → Bool
 is_of_table (Offer parts) = are_parts parts
 is_of_table Taken = true
 is_of_table (Forward bytes) = nat_le 20 (length bytes) && nat_le (length bytes) MAX_SEGMENT_BYTES
-is_of_table (Ask number queue size paths) = nat_le size 8 && (nat_le 1 (length paths) && (nat_le (length paths) size && list_all is_path paths))
+is_of_table (Ask number queue size paths) = nat_le size 8 && (nat_le 1 (length paths) && (nat_le (length paths) size && list_all is_message_path paths))
 is_of_table (Tag number nodes) = nat_le 1 (length nodes) && nat_le (length nodes) 8
-is_of_table (Fetch r path) = is_path path
+is_of_table (Fetch r path) = is_message_path path
 is_of_table (Content r bytes) = nat_le (length bytes) MAX_FILE_BYTES
 is_of_table (Ended reason snd rcv count) = is_count reason count
 is_of_table EndedAck = true
@@ -240,7 +240,7 @@ decoded_message bytes =
     else with_kind bytes (kind_named (version_at bytes) (number_byte bytes))
 
 -- An answer is what the bytes say, unless memory ran out.
-abbrev pub Gives : Result Message MsgFault → Result Message MsgFault → Type 0
-Gives (Ok m) given = given ≡ Ok m
-Gives (Err fault.NoMemory) given = Unit {0}
-Gives (Err e) given = given ≡ Err e
+abbrev pub GivesMessage : Result Message MsgFault → Result Message MsgFault → Type 0
+GivesMessage (Ok m) given = given ≡ Ok m
+GivesMessage (Err fault.NoMemory) given = Unit {0}
+GivesMessage (Err e) given = given ≡ Err e

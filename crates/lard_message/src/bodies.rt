@@ -1,7 +1,7 @@
 //! Bodies, each read with the bytes after it, or `Field` where there is none.
 
 ghost use Rattle.std.specs.Prelude.{◌≡◌};
-ghost use Rattle.lard_message.specs.Reading.{Reads, parts_at, offer_at, ask_at, tag_at, fetch_at, content_at, ended_at, body_at};
+ghost use Rattle.lard_message.specs.Reading.{Reads, parts_at, offer_at, ask_at, tag_at, fetch_at, content_at, ended_body_at, body_at};
 
 use crate::fault::MsgFault;
 use crate::kind::Kind;
@@ -120,9 +120,9 @@ fn content(alloc: Global, bytes: &[u8]) -> Result<(Body, &[u8]), MsgFault>
     Ok((Body::Content { r, bytes }, rest))
 }
 
-#[tactic(auto, unfolding(crate::specs::Reading::ended_at))]
+#[tactic(auto, unfolding(crate::specs::Reading::ended_body_at))]
 fn ended(bytes: &[u8]) -> Result<(Body, &[u8]), MsgFault>
-    ensures { Reads (λ x. (x.0, x.1.now)) result (ended_at bytes.now) }
+    ensures { Reads (λ x. (x.0, x.1.now)) result (ended_body_at bytes.now) }
 {
     let (reason, rest) = reason(bytes)?;
     let (snd, rest) = number(rest)?;

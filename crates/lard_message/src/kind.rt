@@ -1,7 +1,7 @@
 //! The kinds of messages, and the numbers that name them.
 
 ghost use Rattle.std.specs.Prelude.{◌≡◌};
-ghost use Rattle.lard_message.specs.Kinds.{is_version, kind_named, number_of, version_of};
+ghost use Rattle.lard_message.specs.Kinds.{is_version, kind_named, kind_number, version_of};
 
 /// What a message is about. Each kind has a version and, in it, a number. A later version is further kinds.
 #[derive(Clone, Copy, Debug, PartialEq, Eq)]
@@ -58,7 +58,7 @@ impl Kind {
 
     /// Its number in its version.
     pub fn number(self) -> u8
-        ensures { result ≡ number_of self }
+        ensures { result ≡ kind_number self }
     {
         match self {
             Kind::Offer => 1,

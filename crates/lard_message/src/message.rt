@@ -3,7 +3,7 @@
 ghost use Rattle.std.specs.Prelude.{◌≡◌, ◌↔◌, IsTrue};
 ghost use Rattle.std.specs.List.{list_all};
 ghost use Rattle.lard_message.specs.Message.{IsOfTable, kind_of};
-ghost use Rattle.lard_message.specs.Reading.{is_of_table, is_path, is_count, are_parts};
+ghost use Rattle.lard_message.specs.Reading.{is_of_table, is_message_path, is_count, are_parts};
 
 use crate::kind::Kind;
 use lard_base::limits::{MAX_FILE_BYTES, MAX_PATH_BYTES, MAX_SEGMENT_BYTES};
@@ -132,14 +132,14 @@ fn are_parts(parts: &EndpointParts) -> bool
 
 /// Whether each of these paths has a length that a message may name.
 fn are_paths(paths: &[Path]) -> bool
-    ensures { result ≡ list_all is_path paths.now }
+    ensures { result ≡ list_all is_message_path paths.now }
 {
     paths.iter().all(|path| is_path(path))
 }
 
 /// Whether the path has a length that a message may name.
 fn is_path(path: &Path) -> bool
-    ensures { result ≡ is_path path.now }
+    ensures { result ≡ is_message_path path.now }
 {
     let len = path.as_slice().len();
     len >= 1 && len <= MAX_PATH_BYTES

@@ -5,7 +5,7 @@ ghost use Rattle.std.specs.Int.{w16, w32};
 ghost use Rattle.lard_message.specs.declared.message.Message as the_message;
 ghost use Rattle.lard_message.specs.Faults.{IsFirstFault};
 ghost use Rattle.lard_message.specs.Message.{IsMessage, spelled_message};
-ghost use Rattle.lard_message.specs.Reading.{Gives, decoded_message, connection_at, epoch_at, length_at, with_kind, with_body};
+ghost use Rattle.lard_message.specs.Reading.{GivesMessage, decoded_message, connection_at, epoch_at, length_at, with_kind, with_body};
 
 use crate::bodies::body;
 use crate::fault::MsgFault;
@@ -23,17 +23,17 @@ pub fn decode(alloc: Global, bytes: &[u8]) -> Result<Message, MsgFault>
     // What is read is spelled so, each byte of it.
     ensures found { IfOk result (λ m. IsMessage m × (spelled_message m ≡ bytes.now)) }
     // What is spelled so is read, unless memory runs out.
-    ensures only { (m : the_message.Message) → IsMessage m → spelled_message m ≡ bytes.now → Gives result (Ok m) }
+    ensures only { (m : the_message.Message) → IsMessage m → spelled_message m ≡ bytes.now → GivesMessage result (Ok m) }
     // A fault is the first that applies.
     ensures fault { IfErr result (IsFirstFault bytes.now) }
-    ensures exact { Gives result (decoded_message bytes.now) }
+    ensures exact { GivesMessage result (decoded_message bytes.now) }
 {
     message(alloc, bytes)
 }
 
 #[tactic(auto, unfolding(crate::specs::Reading::decoded_message))]
 fn message(alloc: Global, bytes: &[u8]) -> Result<Message, MsgFault>
-    ensures { Gives result (decoded_message bytes.now) }
+    ensures { GivesMessage result (decoded_message bytes.now) }
 {
     if bytes.len() < HEADER_BYTES {
         return Err(MsgFault::Short);
@@ -50,7 +50,7 @@ fn message(alloc: Global, bytes: &[u8]) -> Result<Message, MsgFault>
 /// The message of this kind.
 fn after_kind(alloc: Global, kind: Kind, bytes: &[u8]) -> Result<Message, MsgFault>
     requires { 10 ≤ length bytes.now }
-    ensures { Gives result (with_kind bytes.now (Some kind)) }
+    ensures { GivesMessage result (with_kind bytes.now (Some kind)) }
 {
     let (header, rest) = bytes.split_at(HEADER_BYTES);
     let len = u32::from_be_bytes([header[6], header[7], header[8], header[9]]) as usize;

@@ -5,8 +5,8 @@ ghost use Rattle.std.specs.List.{flat_map};
 ghost use Rattle.std.specs.Int.{w16, w32, to_be_bytes};
 ghost use Rattle.lard_base.specs.declared.limits.TheConstants.{MAX_MESSAGE_BYTES};
 ghost use Rattle.lard_base.specs.Parts.{IsValidParts};
-ghost use Rattle.lard_message.specs.Message.{IsOfTable, IsPath, counted, reason_byte, parts_numbers, parts_bytes, body_bytes, header_bytes, spelled_message, kind_of};
-ghost use Rattle.lard_message.specs.Kinds.{number_of, version_of};
+ghost use Rattle.lard_message.specs.Message.{IsOfTable, IsPath, counted_bytes, reason_byte, parts_numbers, parts_bytes, body_bytes, header_bytes, spelled_message, kind_of};
+ghost use Rattle.lard_message.specs.Kinds.{kind_number, version_of};
 
 use crate::message::{Body, Message};
 use crate::reading::HEADER_BYTES;
@@ -55,7 +55,7 @@ fn body_len(body: &Body) -> usize
 fn paths_len(paths: &[Path]) -> usize
     requires few { length paths.now ≤ 8 }
     requires short { All IsPath paths.now }
-    ensures value { result ≡ length (flat_map counted paths.now) }
+    ensures value { result ≡ length (flat_map counted_bytes paths.now) }
     ensures small { result ≤ 8208 }
 {
     let mut total = 0;
@@ -67,7 +67,7 @@ fn paths_len(paths: &[Path]) -> usize
 
 /// The ten bytes before the body, of this length.
 fn put_header(out: &mut Vec<u8>, message: &Message, len: u32) -> Result<(), NoMemory>
-    ensures { OnOk result (out.new.items ≡ out.old.items ++ header_bytes (version_of (kind_of message.now.body)) (number_of (kind_of message.now.body)) message.now.c message.now.epoch.0 len) }
+    ensures { OnOk result (out.new.items ≡ out.old.items ++ header_bytes (version_of (kind_of message.now.body)) (kind_number (kind_of message.now.body)) message.now.c message.now.epoch.0 len) }
 {
     let kind = message.body.kind();
     put_byte(out, kind.version())?;
@@ -155,7 +155,7 @@ fn fill(buf: &mut [u8], parts: &EndpointParts)
 fn put_paths(out: &mut Vec<u8>, paths: &[Path]) -> Result<(), NoMemory>
     requires few { length paths.now ≤ 8 }
     requires short { All IsPath paths.now }
-    ensures { OnOk result (out.new.items ≡ out.old.items ++ length paths.now ∷ flat_map counted paths.now) }
+    ensures { OnOk result (out.new.items ≡ out.old.items ++ length paths.now ∷ flat_map counted_bytes paths.now) }
 {
     put_byte(out, paths.len() as u8)?;
     for path in paths {
@@ -179,7 +179,7 @@ fn put_nodes(out: &mut Vec<u8>, nodes: &[NodeId]) -> Result<(), NoMemory>
 /// Two bytes of length, and the bytes.
 fn put_counted(out: &mut Vec<u8>, bytes: &[u8]) -> Result<(), NoMemory>
     requires { length bytes.now ≤ 65535 }
-    ensures { OnOk result (out.new.items ≡ out.old.items ++ counted bytes.now) }
+    ensures { OnOk result (out.new.items ≡ out.old.items ++ counted_bytes bytes.now) }
 {
     put_short(out, bytes.len() as u16)?;
     put_bytes(out, bytes)

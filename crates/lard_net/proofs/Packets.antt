@@ -4,7 +4,7 @@ use Rattle.std.specs.Prelude.{slice_get}
 use Rattle.lard_base.specs.declared.place.Place.{Place}
 use Rattle.lard_base.specs.declared.place.Place.TheVariants.{Front, Node, Client}
 use Rattle.lard_net.specs.declared.net.Kept.{Kept}
-use Rattle.lard_net.specs.Net.{Packet, AreSized, IsSized, bytes_in, lose_at, most_bytes, packet_of, shown}
+use Rattle.lard_net.specs.Net.{Packet, AreSized, IsSized, bytes_in, lose_at, most_bytes, packet_lent, packets_shown}
 
 pub bytes_pushed : (ps : List Packet) (p : Packet) → bytes_in (ps ++ p ∷ []) ≡ bytes_in ps + length p.bytes
 bytes_pushed [] p = omega arith
@@ -56,13 +56,13 @@ lost_length (suc n) (p ∷ ps) = ap suc (lost_length n ps)
 -- ---- the packets as they are kept
 
 -- the code sets one field in its place
-pub lost_is : (ps : List Kept) (n : ℕ) (q : Kept) → n < length ps → q ≡ slice_index_or ps n q → shown (slice_set ps n (record q { lost = true })) ≡ lose_at n (shown ps)
+pub lost_is : (ps : List Kept) (n : ℕ) (q : Kept) → n < length ps → q ≡ slice_index_or ps n q → packets_shown (slice_set ps n (record q { lost = true })) ≡ lose_at n (packets_shown ps)
 lost_is [] n q within e = absurd (omega arith)
-lost_is (p ∷ ps) zero q within e = ap (λ (r : Kept). packet_of (record r { lost = true }) ∷ shown ps) e
-lost_is (p ∷ ps) (suc n) q within e = ap (λ (rs : List Packet). packet_of p ∷ rs) (lost_is ps n q (omega arith) e)
+lost_is (p ∷ ps) zero q within e = ap (λ (r : Kept). packet_lent (record r { lost = true }) ∷ packets_shown ps) e
+lost_is (p ∷ ps) (suc n) q within e = ap (λ (rs : List Packet). packet_lent p ∷ rs) (lost_is ps n q (omega arith) e)
 
 -- a packet that is found has no more bytes than may go between its places
-pub sized_at : (ps : List Kept) (i : ℕ) (p : Kept) → AreSized (shown ps) → Some p ≡ slice_get ps i → IsSized p.from p.to (length p.bytes)
+pub sized_at : (ps : List Kept) (i : ℕ) (p : Kept) → AreSized (packets_shown ps) → Some p ≡ slice_get ps i → IsSized p.from p.to (length p.bytes)
 sized_at [] i p all is = cc
 sized_at (q ∷ qs) zero p all is = let e : q ≡ p = cc in subst (λ (r : Kept). IsSized r.from r.to (length r.bytes)) e all.0
 sized_at (q ∷ qs) (suc i) p all is = sized_at qs i p all.1 is

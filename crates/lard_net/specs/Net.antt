@@ -44,12 +44,12 @@ lose_at zero (p ∷ ps) = record p { lost = true } ∷ ps
 lose_at (suc n) (p ∷ ps) = p ∷ lose_at n ps
 
 -- a packet as it is kept, and as it is lent
-abbrev pub packet_of : kept.Kept → Packet
-packet_of p = record { from = p.from; to = p.to; bytes = p.bytes; lost = p.lost }
+abbrev pub packet_lent : kept.Kept → Packet
+packet_lent p = record { from = p.from; to = p.to; bytes = p.bytes; lost = p.lost }
 
 abbrev pub lent_packet : lent.Packet → Packet
 lent_packet p = record { from = p.from; to = p.to; bytes = p.bytes.now; lost = p.lost }
 
 -- the packets that are kept, as they are seen
-abbrev pub shown : List kept.Kept → List Packet
-shown ps = map packet_of ps
+abbrev pub packets_shown : List kept.Kept → List Packet
+packets_shown ps = map packet_lent ps

@@ -40,13 +40,13 @@ pub struct Net {
 impl Model for Net {
     ghost use Rattle.std.specs.Prelude.{List, ◌≡◌, ◌<◌, ◌^◌, length};
     ghost use Rattle.lard_net.specs.Net as net;
-    ghost use Rattle.lard_net.specs.Net.{AreSized, bytes_in, shown};
+    ghost use Rattle.lard_net.specs.Net.{AreSized, bytes_in, packets_shown};
 
     ghost Value = { List net.Packet };
 
-    ghost view = { λ n. shown n.packets.items };
+    ghost view = { λ n. packets_shown n.packets.items };
 
-    ghost invariant = { λ n. AreSized (shown n.packets.items) × (n.bytes ≡ bytes_in (shown n.packets.items)) × (length (shown n.packets.items) < 2 ^ 32) };
+    ghost invariant = { λ n. AreSized (packets_shown n.packets.items) × (n.bytes ≡ bytes_in (packets_shown n.packets.items)) × (length (packets_shown n.packets.items) < 2 ^ 32) };
 }
 
 impl Net {

@@ -12,7 +12,7 @@ use Rattle.lard_sets.specs.Sets.{with_member}
 use Rattle.lard_sets.proofs.Flags.{has-with_member, has-without_member}
 use Rattle.lard_policy.specs.declared.first.FirstChoice.{FirstChoice}
 use Rattle.lard_policy.specs.First.{least_node, is_overloaded, relieved, joining, may_shrink, leaving, first_choice}
-use Rattle.lard_policy.specs.Laws.{joined, left, set_after, HasOpenNodes, AreOpen, TheNodeServes}
+use Rattle.lard_policy.specs.Laws.{set_joined, set_left, set_after, HasOpenNodes, AreOpen, TheNodeServes}
 use Rattle.lard_policy.proofs.Choice.{by_least}
 use Rattle.lard_policy.proofs.Order.{by_load, flipped, first_in-none_before, one_node}
 use Rattle.lard_policy.proofs.Relief.{is_least}
@@ -116,9 +116,9 @@ module _ (t : Tally) (set : ℕ) (stands : HasOpenNodes t) (members : AreOpen t 
   most-some m e = (first_passes (λ a b. is_before (load t) b a) (has set) t.nodes m e).0
 
   -- the node serves once it has joined
-  joined-serves : (p : ℕ) → 1 ≤ p → has (joined set (joining set p)) p ≡ true
+  joined-serves : (p : ℕ) → 1 ≤ p → has (set_joined set (joining set p)) p ≡ true
   joined-serves p some = go (has set p) refl where
-    go : (b : Bool) → has set p ≡ b → has (joined set (cond b None (Some p))) p ≡ true
+    go : (b : Bool) → has set p ≡ b → has (set_joined set (cond b None (Some p))) p ≡ true
     go true e = e
     go false e = has-with_member set p p some some ∙ ap (λ b. b || has set p) (eq_same p)
 
@@ -156,13 +156,13 @@ module _ (t : Tally) (set : ℕ) (stands : HasOpenNodes t) (members : AreOpen t 
         absurd (omega (arith, few, many))
     go false f = refl
 
-  left-serves : (p unchanged age : ℕ) → IsFirst p → has (left (joined set (joining set p)) (leaving t set p unchanged age)) p ≡ true
+  left-serves : (p unchanged age : ℕ) → IsFirst p → has (set_left (set_joined set (joining set p)) (leaving t set p unchanged age)) p ≡ true
   left-serves p unchanged age first = go (leaving t set p unchanged age) refl where
-    go : (o : Option ℕ) → leaving t set p unchanged age ≡ o → has (left (joined set (joining set p)) o) p ≡ true
+    go : (o : Option ℕ) → leaving t set p unchanged age ≡ o → has (set_left (set_joined set (joining set p)) o) p ≡ true
     go None e = joined-serves p first.0
     go (Some m) e =
-        has-without_member (joined set (joining set p)) m p (most-some m (leaves p m unchanged age e).1) first.0
-        ∙ ap (λ b. not b && has (joined set (joining set p)) p) (stays p m unchanged age first e)
+        has-without_member (set_joined set (joining set p)) m p (most-some m (leaves p m unchanged age e).1) first.0
+        ∙ ap (λ b. not b && has (set_joined set (joining set p)) p) (stays p m unchanged age first e)
         ∙ joined-serves p first.0
 
 pub serves : TheNodeServes

@@ -10,17 +10,17 @@ use Rattle.lard_policy.specs.declared.first.FirstChoice.{FirstChoice}
 use Rattle.lard_policy.specs.First.{first_choice}
 
 -- a set once a node has joined it, and once one has left it, if any
-abbrev pub joined : ℕ → Option ℕ → ℕ
-joined set None = set
-joined set (Some n) = with_member set n
+abbrev pub set_joined : ℕ → Option ℕ → ℕ
+set_joined set None = set
+set_joined set (Some n) = with_member set n
 
-abbrev pub left : ℕ → Option ℕ → ℕ
-left set None = set
-left set (Some n) = without_member set n
+abbrev pub set_left : ℕ → Option ℕ → ℕ
+set_left set None = set
+set_left set (Some n) = without_member set n
 
 -- a set after a choice: first a node joins, then one leaves
 abbrev pub set_after : ℕ → FirstChoice → ℕ
-set_after set choice = left (joined set choice.add) choice.remove
+set_after set choice = set_left (set_joined set choice.add) choice.remove
 
 -- some node is open, and the open nodes are among the 64 that there can be
 pub record HasOpenNodes (t : Tally) : Type 0 where

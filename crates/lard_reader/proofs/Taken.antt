@@ -8,7 +8,7 @@ use Rattle.std.proofs.lemmas.Bool.Decides.{nat_tests}
 use Rattle.std.proofs.lemmas.List.{take-append-drop, length-take-le, drop-drop}
 use Rattle.lard_block.specs.declared.block.Found.{Found}
 use Rattle.lard_block.specs.declared.block.Found.TheVariants.{Block, More, TooLong}
-use Rattle.lard_block.specs.Blocks.{skipped, head_end, found, found_in, cut_of, Piece, Head, Long, moved, blocks, Cuts}
+use Rattle.lard_block.specs.Blocks.{skipped, head_end, head_found, found_in, cut_of, Piece, Head, Long, piece_moved, blocks, Cuts}
 use Rattle.lard_block.proofs.Cutting.{cut_is, found-more, more-skips}
 use Rattle.lard_block.proofs.Division.{block-first, long-last, cuts-nothing, cuts-block, cuts-join}
 use Rattle.lard_request.specs.Verdict.{closes, verdict}
@@ -21,27 +21,27 @@ use Rattle.lard_reader.proofs.Going.{used-zero, used-suc, used-closed, used-open
 
 -- ---- pieces that stand further on
 
-take-moved : (by n : ℕ) (ps : List Piece) → take n (map (moved by) ps) ≡ map (moved by) (take n ps)
+take-moved : (by n : ℕ) (ps : List Piece) → take n (map (piece_moved by) ps) ≡ map (piece_moved by) (take n ps)
 take-moved by zero ps = refl
 take-moved by (suc n) [] = refl
-take-moved by (suc n) (p ∷ ps) = ap (λ w. moved by p ∷ w) (take-moved by n ps)
+take-moved by (suc n) (p ∷ ps) = ap (λ w. piece_moved by p ∷ w) (take-moved by n ps)
 
-has_long-moved : (by : ℕ) (ps : List Piece) → has_long (map (moved by) ps) ≡ has_long ps
+has_long-moved : (by : ℕ) (ps : List Piece) → has_long (map (piece_moved by) ps) ≡ has_long ps
 has_long-moved by [] = refl
 has_long-moved by (Head block after ∷ ps) = has_long-moved by ps
 has_long-moved by (Long ∷ ps) = refl
 
 -- pieces of the bytes behind a place stand behind the bytes before it; of no bytes there are none
-moved-behind : (q : List ℕ) (k : ℕ) (ps : List Piece) → (drop k q ≡ [] → ps ≡ []) → map (moved (length (take k q))) ps ≡ map (moved k) ps
+moved-behind : (q : List ℕ) (k : ℕ) (ps : List Piece) → (drop k q ≡ [] → ps ≡ []) → map (piece_moved (length (take k q))) ps ≡ map (piece_moved k) ps
 moved-behind q k ps h = go (nat_lt (length q) k) refl where
-  go : (b : Bool) → nat_lt (length q) k ≡ b → map (moved (length (take k q))) ps ≡ map (moved k) ps
+  go : (b : Bool) → nat_lt (length q) k ≡ b → map (piece_moved (length (take k q))) ps ≡ map (piece_moved k) ps
   go true e =
       let l : length q < k = grind (arith, nat_tests, e) in
       let none : ps ≡ [] = h (drop_of_length-le q (omega (arith, l))) in
-      ap (map (moved (length (take k q)))) none ∙ ap (map (moved k)) (sym none)
+      ap (map (piece_moved (length (take k q)))) none ∙ ap (map (piece_moved k)) (sym none)
   go false e =
       let l : k ≤ length q = grind (arith, nat_tests, e) in
-      ap (λ m. map (moved m) ps) (length-take-le k q l)
+      ap (λ m. map (piece_moved m) ps) (length-take-le k q l)
 
 -- ---- the verdicts of a batch are those on its pieces
 
@@ -49,7 +49,7 @@ pieces-closed : (n : ℕ) (q : List ℕ) (s l : ℕ) → cut_of q ≡ Block s l 
 pieces-closed n q s l e c = ap (λ vs. take (length vs) (blocks q)) (batch-closed n q s l e c) ∙ ap (take 1) (block-first q s l e)
 
 pieces-open : (n : ℕ) (q : List ℕ) (s l : ℕ) → cut_of q ≡ Block s l → closes (verdict (take l (drop s q))) ≡ false
-    → batch_pieces (suc n) q ≡ Head (take l (drop s q)) (s + l) ∷ map (moved (s + l)) (batch_pieces n (drop (s + l) q))
+    → batch_pieces (suc n) q ≡ Head (take l (drop s q)) (s + l) ∷ map (piece_moved (s + l)) (batch_pieces n (drop (s + l) q))
 pieces-open n q s l e c = ap (λ vs. take (length vs) (blocks q)) (batch-open n q s l e c)
     ∙ ap (take (suc (length (batch_of n (drop (s + l) q))))) (block-first q s l e)
     ∙ ap (λ w. Head (take l (drop s q)) (s + l) ∷ w) (take-moved (s + l) (length (batch_of n (drop (s + l) q))) (blocks (drop (s + l) q)))
@@ -93,8 +93,8 @@ batch-cut pairs (suc n) q h = go (λ r. batch-cut pairs n r) (cut_of q) refl whe
       (subst (λ ps. Cuts (take (s + l) q) ps) (sym (pieces-closed n q s l e c)) (cuts-block q s l e))
   block s l ih e false c =
       let r : List ℕ = drop (s + l) q in
-      let k : map (moved (length (take (s + l) q))) (batch_pieces n r) ≡ map (moved (s + l)) (batch_pieces n r) = moved-behind q (s + l) (batch_pieces n r) (pieces-nothing n r) in
-      let p : batch_pieces (suc n) q ≡ Head (take l (drop s q)) (s + l) ∷ map (moved (s + l)) (batch_pieces n r) = pieces-open n q s l e c in
+      let k : map (piece_moved (length (take (s + l) q))) (batch_pieces n r) ≡ map (piece_moved (s + l)) (batch_pieces n r) = moved-behind q (s + l) (batch_pieces n r) (pieces-nothing n r) in
+      let p : batch_pieces (suc n) q ≡ Head (take l (drop s q)) (s + l) ∷ map (piece_moved (s + l)) (batch_pieces n r) = pieces-open n q s l e c in
       let f : has_long (batch_pieces n r) ≡ false = sym (has_long-moved (s + l) (batch_pieces n r)) ∙ sym (ap has_long p) ∙ h in
       subst (λ w. Cuts w (batch_pieces (suc n) q)) (sym (ap (λ m. take m q) (used-open n q s l e c) ∙ take-add (s + l) (bytes_used n r) q))
       (subst (λ ps. Cuts (take (s + l) q ++ take (bytes_used n r) r) ps) (sym p)
@@ -167,7 +167,7 @@ more-once q s e =
     ap (λ k. cut_of (drop k q)) (sym a.0)
     ∙ cut_is r
     ∙ ap (λ k. found_in k (drop k r)) (skipped-once q)
-    ∙ ap (found 0 (length r)) a.1
+    ∙ ap (head_found 0 (length r)) a.1
     ∙ ap (λ b. cond {A = Found} b (More 0) (TooLong 0)) t
 
 -- where there were fewer than n and none closes, the bytes behind those used begin with no pair, and with no whole head

@@ -29,39 +29,39 @@ abbrev pub awaited : Received → ℕ
 awaited r = seq_add r.irs (1 + r.got + one_if r.fin)
 
 -- RCV.WND: 16,384 bytes fit, and no more than 2^30 come over one connection (RFC 9293, 3.8.6).
-abbrev pub room : Received → ℕ
-room r = min (RECEIVE_WINDOW - length r.unread) (MAX_STREAM_BYTES - r.got)
+abbrev pub receive_room : Received → ℕ
+receive_room r = min (RECEIVE_WINDOW - length r.unread) (MAX_STREAM_BYTES - r.got)
 
 -- A segment begins after RCV.NXT where its number is less than half the number space after it (RFC 9293, 3.4).
 abbrev pub begins_after : ℕ → ℕ → Bool
 begins_after seq next = nat_lt 0 (seq_offset seq next) && nat_lt (seq_offset seq next) (2 ^ 31)
 
 -- The bytes from RCV.NXT on, as many as fit (RFC 9293, 3.10.7.4, seventh: process the segment text).
-abbrev pub fresh : Received → ℕ → List ℕ → List ℕ
-fresh r seq data_ = take (room r) (drop (seq_offset (awaited r) seq) data_)
+abbrev pub fresh_bytes : Received → ℕ → List ℕ → List ℕ
+fresh_bytes r seq data_ = take (receive_room r) (drop (seq_offset (awaited r) seq) data_)
 
 -- The FIN is in order where all bytes before it are taken (RFC 9293, 3.10.7.4, eighth: check the FIN bit).
 abbrev pub ends : Received → ℕ → List ℕ → Bool → Bool
-ends r seq data_ fin = fin && (seq_offset (awaited r) seq + length (fresh r seq data_) == length data_)
+ends r seq data_ fin = fin && (seq_offset (awaited r) seq + length (fresh_bytes r seq data_) == length data_)
 
 -- Bytes are taken, and perhaps the FIN behind them. While discarding the bytes are dropped, and count all the same.
-abbrev pub taken : Received → List ℕ → Bool → Received
-taken r bytes fin = record r { got = r.got + length bytes; fin = fin; unread = if r.discarding then r.unread else r.unread ++ bytes }
+abbrev pub bytes_taken : Received → List ℕ → Bool → Received
+bytes_taken r bytes fin = record r { got = r.got + length bytes; fin = fin; unread = if r.discarding then r.unread else r.unread ++ bytes }
 
 -- What a segment leaves: nothing of one that begins after RCV.NXT is taken, and nothing after the FIN.
 abbrev pub arrived : Received → ℕ → List ℕ → Bool → Received
 arrived r seq data_ fin =
     if begins_after seq (awaited r) then r else
     if r.fin then r else
-    taken r (fresh r seq data_) (ends r seq data_ fin)
+    bytes_taken r (fresh_bytes r seq data_) (ends r seq data_ fin)
 
 -- What a segment brought.
 abbrev pub brought : Received → ℕ → List ℕ → Bool → Took
 brought r seq data_ fin =
     if begins_after seq (awaited r) then Ahead else
     if r.fin then Old else
-    if (length (fresh r seq data_) == 0) && not (ends r seq data_ fin) then Old else
-    Bytes (length (fresh r seq data_))
+    if (length (fresh_bytes r seq data_) == 0) && not (ends r seq data_ fin) then Old else
+    Bytes (length (fresh_bytes r seq data_))
 
 -- The first n unread bytes are read.
 abbrev pub consumed : Received → ℕ → Received
@@ -81,7 +81,7 @@ abbrev pub gained : Received → ℕ → List ℕ → List ℕ
 gained r seq data_ =
     if begins_after seq (awaited r) then [] else
     if r.fin then [] else
-    fresh r seq data_
+    fresh_bytes r seq data_
 
 -- What is unread stays the unused part when a segment arrives, and when bytes are read.
 abbrev pub ArrivalKeepsThePart : Type 0
@@ -93,7 +93,7 @@ ReadingKeepsThePart = (r : Received) (all : List ℕ) (n : ℕ) → IsUnusedPart
 
 -- Where the window ends, as an offset from the peer's SYN: RCV.NXT and RCV.WND together.
 abbrev pub window_end : Received → ℕ
-window_end r = (1 + r.got + one_if r.fin) + room r
+window_end r = (1 + r.got + one_if r.fin) + receive_room r
 
 -- That end is never taken back, whatever arrives and whatever is read (RFC 9293, 3.8.6: a receiver should not shrink its
 -- window, which would move the right window edge to the left).

@@ -1,7 +1,7 @@
 //! The receiving half: it takes the bytes that are next in order, and lends those that are not read yet.
 
 ghost use Rattle.std.specs.Prelude.{◌≡◌, ◌≤◌, false, [], length, take, drop, IfOk};
-ghost use Rattle.lard_recv.specs.Recv.{IsReceived, restored, awaited, room, begins_after, taken, arrived, brought, consumed, discarded};
+ghost use Rattle.lard_recv.specs.Recv.{IsReceived, restored, awaited, receive_room, begins_after, bytes_taken, arrived, brought, consumed, discarded};
 
 use crate::buffer::Buffer;
 use lard_base::NoMemory;
@@ -105,8 +105,8 @@ impl RecvHalf {
 
     /// Takes bytes that are next in order, and the FIN behind them where `fin` is true.
     fn take(&mut self, bytes: &[u8], fin: bool)
-        requires { length bytes.now ≤ room self.old }
-        ensures { self.new ≡ taken self.old bytes.now fin }
+        requires { length bytes.now ≤ receive_room self.old }
+        ensures { self.new ≡ bytes_taken self.old bytes.now fin }
     {
         self.got += bytes.len() as u32;
         self.fin = fin;
@@ -135,7 +135,7 @@ impl RecvHalf {
     /// How many bytes may come, RCV.WND (RFC 9293, 3.8.6): 16,384 less the unread ones, and no more than are left of
     /// 2^30.
     pub fn window(&self) -> u32
-        ensures { result ≡ room self.now }
+        ensures { result ≡ receive_room self.now }
     {
         let free = RECEIVE_WINDOW as usize - self.unread.as_slice().len();
         (free as u32).min(MAX_STREAM_BYTES - self.got)

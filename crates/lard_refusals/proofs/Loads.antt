@@ -7,7 +7,7 @@ use Rattle.lard_base.specs.declared.ids.Millis.{Millis}
 use Rattle.lard_base.specs.Members.{node_numbers}
 use Rattle.lard_costs.specs.Later.{later_choice}
 use Rattle.lard_loads.specs.Charges.{Connect}
-use Rattle.lard_loads.specs.Tally.{Standing, Tally, connected, home, home_of, load, open_shares, shared, shares_of, sharing, start}
+use Rattle.lard_loads.specs.Tally.{Standing, Tally, connected, home, home_of, load, open_shares, shared, shares_of, sharing, tally_start}
 use Rattle.lard_loads.proofs.Charged.{all_charged}
 use Rattle.lard_policy.specs.declared.first.FirstChoice.{FirstChoice}
 use Rattle.lard_policy.specs.First.{first_choice, least_node}
@@ -16,22 +16,22 @@ use Rattle.lard_table.proofs.Map.{get_inserted, get_other}
 
 -- ---- before anything
 
-pub no-load : (n : ℕ) → load (start 3) n ≡ 0
+pub no-load : (n : ℕ) → load (tally_start 3) n ≡ 0
 no-load n = (all_charged 3 [] tt).loads n
 
-pub least-of-none : least_node (start 3) ≡ 1
+pub least-of-none : least_node (tally_start 3) ≡ 1
 least-of-none = rw (no-load 1, no-load 2, no-load 3, no-load 2) refl
 
 -- a path without a set goes to the lowest number
-pub first-of-none : (now modified : Millis) → first_choice (start 3) 0 now modified three_nodes ≡ record { node = 1; add = Some 1; remove = None }
+pub first-of-none : (now modified : Millis) → first_choice (tally_start 3) 0 now modified three_nodes ≡ record { node = 1; add = Some 1; remove = None }
 unfolding first_choice
 first-of-none now modified = ap joining-least least-of-none where
   joining-least : ℕ → FirstChoice
   joining-least n = record { node = n; add = Some n; remove = None }
 
 -- a share of a connection that is not there changes nothing
-pub none-shares : shared (start 3) 1 2 2 ≡ start 3
-none-shares = ap (sharing (start 3) 1 2 2) (get-empty nat_cmp 1)
+pub none-shares : shared (tally_start 3) 1 2 2 ≡ tally_start 3
+none-shares = ap (sharing (tally_start 3) 1 2 2) (get-empty nat_cmp 1)
 
 -- ---- behind the assignment of connection 1 to node 1
 
@@ -39,7 +39,7 @@ abbrev pub at_home : Standing
 at_home = record { home = 1; shares = [] }
 
 abbrev pub one_at_home : Tally
-one_at_home = connected (start 3) 1 1
+one_at_home = connected (tally_start 3) 1 1
 
 pub is-there : map.get one_at_home.standings 1 ≡ Some at_home
 is-there = get_inserted map.empty 1 at_home

@@ -9,9 +9,9 @@ use Rattle.lard_block.specs.Blocks.{Head, blocks, cut_of, head_end, pieces, skip
 use Rattle.lard_history.specs.Journal.{request}
 use Rattle.lard_request.specs.declared.verdict.Verdict.TheVariants.{Serve}
 use Rattle.lard_request.specs.Fields.{has_content, has_good_host, is_close, says_close, values}
-use Rattle.lard_request.specs.Head.{blank, field, head_of, newline, run, section, version, word}
+use Rattle.lard_request.specs.Head.{blank_lines, field, head_of, newline, run, section, version, word}
 use Rattle.lard_request.specs.Target.{path_of}
-use Rattle.lard_request.specs.Verdict.{has_bare_feed, head_verdict, pairs, verdict}
+use Rattle.lard_request.specs.Verdict.{has_bare_feed, head_verdict, pairs_in, verdict}
 
 pub nothing-asked : verdicts [] ≡ []
 unfolding blocks pieces until_close verdicts
@@ -22,5 +22,5 @@ unfolding blocks cut_of head_end pieces skipped
 request-block = refl
 
 pub request-asks : verdicts (request (codes "/a")) ≡ Serve (codes "/a") false false ∷ []
-unfolding blank blocks chars cut_of encode_utf8 field has_bare_feed has_content has_good_host head_end head_of head_verdict is_close is_token_byte is_utf8 newline pairs path_of pieces run says_close section skipped trim_ows until_close values verdict verdicts version word
+unfolding blank_lines blocks chars cut_of encode_utf8 field has_bare_feed has_content has_good_host head_end head_of head_verdict is_close is_token_byte is_utf8 newline pairs_in path_of pieces run says_close section skipped trim_ows until_close values verdict verdicts version word
 request-asks = refl

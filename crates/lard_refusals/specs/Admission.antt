@@ -5,8 +5,8 @@ use Rattle.lard_base.specs.declared.event.Event.TheVariants as event
 use Rattle.lard_base.specs.declared.place.Place.TheVariants.{Front, Node}
 use Rattle.lard_laws.specs.Lawful.{EachCounted, Throughout}
 use Rattle.lard_law_connections.specs.LineLaws.{LineNeedsAFullRoom, MayPass, MayWait, MustRelease}
-use Rattle.lard_law_connections.specs.PolicyLaws.{ArePaired, MayAdmit, MayRelease, Nothing, last_of}
-use Rattle.lard_counts.specs.Ledger.{admitted, ledger}
+use Rattle.lard_law_connections.specs.PolicyLaws.{ArePaired, MayAdmit, MayRelease, Nothing, last_record}
+use Rattle.lard_counts.specs.Ledger.{ledger_admitted, ledger}
 use Rattle.lard_history.specs.Laws.{EachMay}
 use Rattle.lard_history.specs.Steps.{AtEachEnd, EachStep, steps}
 use Rattle.lard_journal.specs.declared.rec.Rec.{Rec}
@@ -43,7 +43,7 @@ abbrev pub released_once : List Rec
 released_once = rec.Admitted 1 ∷ took Front 1 3 ∷ rec.Released 1 ∷ []
 
 abbrev pub room : Law
-room config files J = Throughout (λ l past. admitted l ≤ room_of config) config J
+room config files J = Throughout (λ l past. ledger_admitted l ≤ room_of config) config J
 
 -- ---- that each gets a node
 
@@ -69,7 +69,7 @@ batch_over_for_nothing = rec.BatchOver 1 ∷ rec.Event 1 (event.Shut 2) ∷ []
 -- ---- releases
 
 abbrev pub releases : Law
-releases config files J = EachMay (λ past r. MayRelease (last_of past) r) [] J
+releases config files J = EachMay (λ past r. MayRelease (last_record past) r) [] J
 
 -- A connection is released that the front end did not take.
 abbrev pub released_where_it_is : List Rec

@@ -3,7 +3,7 @@ use Rattle.std.specs.Prelude.{ℕ, List, [], ◌∷◌, None, Some, codes}
 use Rattle.lard_base.specs.declared.event.Event.TheVariants as event
 use Rattle.lard_laws.specs.Lawful.{EachCounted, Throughout}
 use Rattle.lard_law_connections.specs.LineLaws.{HasFewConnections, IsNearTheThresholds, IsNotBusy, IsWithinTheRoom}
-use Rattle.lard_law_connections.specs.PolicyLaws.{AreLoadsCharged, AreServersTold, MayAssign, MayShare, last_of}
+use Rattle.lard_law_connections.specs.PolicyLaws.{AreLoadsCharged, AreServersTold, MayAssign, MayShare, last_record}
 use Rattle.lard_counts.specs.Ledger.{ledger}
 use Rattle.lard_history.specs.Laws.{EachMay}
 use Rattle.lard_journal.specs.declared.rec.Rec.{Rec}
@@ -78,7 +78,7 @@ abbrev pub later_without_a_node : List Rec
 later_without_a_node = later_at 2 1 ∷ []
 
 abbrev pub batches : Law
-batches config files J = EachMay (λ past r. MayShare (last_of past) (ledger config past) r) [] J
+batches config files J = EachMay (λ past r. MayShare (last_record past) (ledger config past) r) [] J
 
 -- A batch is begun while a share of the one before is open.
 abbrev pub two_batches_open : List Rec

@@ -2,7 +2,7 @@
 use Rattle.std.specs.Prelude.{List, [], ◌∷◌, ◌++◌, None, Some, codes}
 use Rattle.lard_base.specs.declared.place.Place.TheVariants.{Client, Front, Node}
 use Rattle.lard_base.specs.declared.place.Via.TheVariants as via
-use Rattle.lard_laws.specs.BackingRequests.{MayAnswer, MayName}
+use Rattle.lard_laws.specs.BackingRequests.{MayAnswerFrom, MayName}
 use Rattle.lard_law_connections.specs.BytesRecords.{ServesTheAnswers}
 use Rattle.lard_law_connections.specs.ResetsLaws.{SendsRstBehindResets}
 use Rattle.lard_history.specs.Journal.{request}
@@ -144,7 +144,7 @@ touched_client_passes_the_limit = rec.Opened 1 1000 5000 65535 1460 ∷ rec.Inje
 -- ---- who answers what
 
 abbrev pub answerers : Law
-answerers config files J = EachMay (MayAnswer files) [] J
+answerers config files J = EachMay (MayAnswerFrom files) [] J
 
 -- A node answers, and no request for a file was written.
 abbrev pub node_answers_no_file : List Rec

@@ -13,10 +13,10 @@ use Rattle.lard_schedule.proofs.Found.{bind_some, some_same, ended_some, number_
 use Rattle.lard_schedule.proofs.Readings.{event_spelled}
 use Rattle.lard_report.specs.declared.kinds.Kind.{Kind}
 use Rattle.lard_report.specs.declared.kinds.Kind.TheVariants as kind
-use Rattle.lard_report.specs.Kinds.{kind_of}
-use Rattle.lard_report.specs.Parts.{choice_alone, choice_then, client_and_bytes, job_of, node_then, packet_of, place_client_number, place_client_timer, place_then, request_path_then, response_of, two_numbers}
+use Rattle.lard_report.specs.Kinds.{record_kind}
+use Rattle.lard_report.specs.Parts.{choice_alone, choice_then, client_and_bytes, job_of, node_then, packet_words, place_client_number, place_client_timer, place_then, request_path_then, response_of, two_numbers}
 use Rattle.lard_report.specs.Readable.{IsChoice, IsConn, IsEvent, IsReadable}
-use Rattle.lard_report.specs.Records.{assigned_of, clock_of, first_choice, hit_of, later_choice, loosely_of, numbered_of, opened_of, record_after, sent_of, served_of}
+use Rattle.lard_report.specs.Records.{report_assigned, report_clock, first_choice_record, report_hit, later_choice_record, loosely_of, report_numbered, report_opened, record_after, report_sent, report_served}
 use Rattle.lard_report.proofs.Pieces.{choice_alone_fits, choice_then_fits, client_and_bytes_fit, job_fits, node_then_fits, packet_fits, place_client_number_fits, place_client_timer_fits, place_then_fits, request_path_then_fits, response_fits, two_numbers_fit}
 
 -- ---- events
@@ -46,16 +46,16 @@ event_fits words event e = let spelled = event_spelled words event e in (spelled
 made : {A : Type 0} (o : Option A) (make : A → Rec) (r : Rec) → (o >>= λ x. Some (make x)) ≡ Some r → ((x : A) → o ≡ Some x → IsReadable (make x)) → IsReadable r
 made o make r e fits = let x = bind_some o _ r e in subst IsReadable (some_same (make x.0) r x.2) (fits x.0 x.1)
 
-numbered_fits : (words : List (List ℕ)) (r : Rec) → numbered_of words ≡ Some r → IsReadable r
-unfolding numbered_of
+numbered_fits : (words : List (List ℕ)) (r : Rec) → report_numbered words ≡ Some r → IsReadable r
+unfolding report_numbered
 numbered_fits words r e =
     let i = bind_some (number_then (2 ^ 64 - 1) words) _ r e in
     let event = bind_some (event_of i.0.1) _ r i.2 in
     let small = number_then_spelled (2 ^ 64 - 1) words i.0 (omega arith) i.1 in
     subst IsReadable (some_same (rec.Event i.0.0 event.0) r event.2) (omega (arith, small.1), event_fits i.0.1 event.0 event.1)
 
-opened_fits : (words : List (List ℕ)) (r : Rec) → opened_of words ≡ Some r → IsReadable r
-unfolding opened_of
+opened_fits : (words : List (List ℕ)) (r : Rec) → report_opened words ≡ Some r → IsReadable r
+unfolding report_opened
 opened_fits words r e =
     let c = bind_some (client_then words) _ r e in
     let isn = bind_some (number_then (2 ^ 32 - 1) c.0.1) _ r c.2 in
@@ -70,17 +70,17 @@ opened_fits words r e =
     subst IsReadable end.1
     ((count_then_spelled 16384 words c.0 c.1).1, omega (arith, second.1), omega (arith, third.1), omega (arith, fourth.1), omega (arith, fifth.1))
 
-sent_fits : (words : List (List ℕ)) (r : Rec) → sent_of words ≡ Some r → IsReadable r
-unfolding sent_of
+sent_fits : (words : List (List ℕ)) (r : Rec) → report_sent words ≡ Some r → IsReadable r
+unfolding report_sent
 sent_fits words r e =
     let k = bind_some (number_then (2 ^ 32 - 1) words) _ r e in
-    let packet = bind_some (packet_of k.0.1) _ r k.2 in
+    let packet = bind_some (packet_words k.0.1) _ r k.2 in
     let small = number_then_spelled (2 ^ 32 - 1) words k.0 (omega arith) k.1 in
     let fits = packet_fits k.0.1 packet.0 packet.1 in
     subst IsReadable (some_same (rec.Sent k.0.0 packet.0.0 packet.0.1 packet.0.2) r packet.2) (omega (arith, small.1), fits.0, fits.1, fits.2)
 
-assigned_fits : (words : List (List ℕ)) (r : Rec) → assigned_of words ≡ Some r → IsReadable r
-unfolding assigned_of
+assigned_fits : (words : List (List ℕ)) (r : Rec) → report_assigned words ≡ Some r → IsReadable r
+unfolding report_assigned
 assigned_fits words r e =
     let c = bind_some (client_then words) _ r e in
     let number = bind_some (number_then (2 ^ 32 - 1) c.0.1) _ r c.2 in
@@ -97,7 +97,7 @@ assigned_fits words r e =
     (λ choice fits. (client.1, omega (arith, small.1), visible, node.1, added, fits))
     (λ size queue little least. (client.1, omega (arith, small.1), visible, node.1, added, little, omega (arith, least))) where
       go : (c number : ℕ) (path : List ℕ) (n : ℕ) (add : Option ℕ) (rest : List (List ℕ)) (t : Bool)
-          → cond t (first_choice c number path n add rest) (later_choice c number path n add rest) ≡ Some r
+          → cond t (first_choice_record c number path n add rest) (later_choice_record c number path n add rest) ≡ Some r
           → ((choice : Option ℕ) → IsChoice choice → IsReadable (rec.AssignedFirst c number path n add choice))
           → ((size queue : ℕ) → size < 2 ^ 32 → queue ≤ 2 ^ 32 - 1 → IsReadable (rec.AssignedLater c number path n add size queue))
           → IsReadable r
@@ -107,8 +107,8 @@ assigned_fits words r e =
           made (two_numbers (2 ^ 32 - 1) rest) (λ batch. rec.AssignedLater c number path n add batch.0 batch.1) r f (λ batch g.
           let fits = two_numbers_fit (2 ^ 32 - 1) rest batch (omega arith) g in later batch.0 batch.1 fits.0 fits.1)
 
-served_fits : (words : List (List ℕ)) (r : Rec) → served_of words ≡ Some r → IsReadable r
-unfolding served_of
+served_fits : (words : List (List ℕ)) (r : Rec) → report_served words ≡ Some r → IsReadable r
+unfolding report_served
 served_fits words r e =
     let place = bind_some (place_then words) _ r e in
     let c = bind_some (client_then place.0.1) _ r place.2 in
@@ -125,16 +125,16 @@ served_fits words r e =
       fits.2,
     )
 
-hit_fits : (words : List (List ℕ)) (r : Rec) → hit_of words ≡ Some r → IsReadable r
-unfolding hit_of
+hit_fits : (words : List (List ℕ)) (r : Rec) → report_hit words ≡ Some r → IsReadable r
+unfolding report_hit
 hit_fits words r e =
     let n = bind_some (node_then words) _ r e in
     let path = bind_some (request_path_then n.0.1) _ r n.2 in
     let end = ended_some path.0.1 (rec.Hit n.0.0 path.0.0) r path.2 in
     subst IsReadable end.1 (node_then_fits words n.0 n.1, request_path_then_fits n.0.1 path.0 path.1)
 
-clock_fits : (words : List (List ℕ)) (r : Rec) → clock_of words ≡ Some r → IsReadable r
-unfolding clock_of
+clock_fits : (words : List (List ℕ)) (r : Rec) → report_clock words ≡ Some r → IsReadable r
+unfolding report_clock
 clock_fits words r e =
     let time = bind_some (number_then (2 ^ 64 - 1) words) _ r e in
     let end = ended_some time.0.1 (rec.Clock (record { 0 = time.0.0 })) r time.2 in
@@ -193,5 +193,5 @@ pub loosely_fits : (words : List (List ℕ)) (r : Rec) → loosely_of words ≡ 
 unfolding loosely_of
 loosely_fits words r e =
     let first = bind_some (word_then words) _ r e in
-    let k = bind_some (kind_of first.0.0) _ r first.2 in
+    let k = bind_some (record_kind first.0.0) _ r first.2 in
     after_fits k.0 first.0.1 r k.2

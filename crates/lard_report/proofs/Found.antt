@@ -13,16 +13,16 @@ use Rattle.lard_schedule.specs.Words.{◌>>=◌}
 use Rattle.lard_schedule.proofs.Found.{number_then_read, count_then_read, client_alone_read, number_alone_read}
 use Rattle.lard_schedule.proofs.Readings.{event_again}
 use Rattle.lard_report.specs.Readable.{IsReadable}
-use Rattle.lard_report.specs.Records.{assigned_of, clock_of, hit_of, loosely_of, numbered_of, opened_of, sent_of, served_of}
+use Rattle.lard_report.specs.Records.{report_assigned, report_clock, report_hit, loosely_of, report_numbered, report_opened, report_sent, report_served}
 use Rattle.lard_report.proofs.Pieces.{choice_alone_read, choice_then_read, client_and_bytes_read, job_read, node_then_read, packet_read, place_client_number_read, place_client_timer_read, place_then_read, request_path_then_read, response_read, two_numbers_read}
 
-numbered_read : (i : ℕ) (event : Event) → IsReadable (rec.Event i event) → numbered_of (decimal i ∷ event_words event) ≡ Some (rec.Event i event)
-unfolding numbered_of
+numbered_read : (i : ℕ) (event : Event) → IsReadable (rec.Event i event) → report_numbered (decimal i ∷ event_words event) ≡ Some (rec.Event i event)
+unfolding report_numbered
 numbered_read i event h = rw (number_then_read (2 ^ 64 - 1) i (event_words event) (omega arith) (omega (arith, h.0)), event_again event h.1.0 h.1.1) refl
 
 opened_read : (c isn iss wnd mss : ℕ) → IsReadable (rec.Opened c isn iss wnd mss)
-    → opened_of (decimal c ∷ decimal isn ∷ decimal iss ∷ decimal wnd ∷ decimal mss ∷ []) ≡ Some (rec.Opened c isn iss wnd mss)
-unfolding opened_of
+    → report_opened (decimal c ∷ decimal isn ∷ decimal iss ∷ decimal wnd ∷ decimal mss ∷ []) ≡ Some (rec.Opened c isn iss wnd mss)
+unfolding report_opened
 opened_read c isn iss wnd mss h =
     rw (
       count_then_read 16384 c (decimal isn ∷ decimal iss ∷ decimal wnd ∷ decimal mss ∷ []) (omega arith) h.0,
@@ -33,8 +33,8 @@ opened_read c isn iss wnd mss h =
     ) refl
 
 sent_read : (k : ℕ) (from to : Place) (bytes : List ℕ) → IsReadable (rec.Sent k from to bytes)
-    → sent_of (decimal k ∷ place_word from ∷ place_word to ∷ encode_lower bytes ∷ []) ≡ Some (rec.Sent k from to bytes)
-unfolding sent_of
+    → report_sent (decimal k ∷ place_word from ∷ place_word to ∷ encode_lower bytes ∷ []) ≡ Some (rec.Sent k from to bytes)
+unfolding report_sent
 sent_read k from to bytes h =
     rw (
       number_then_read (2 ^ 32 - 1) k (place_word from ∷ place_word to ∷ encode_lower bytes ∷ []) (omega arith) (omega (arith, h.0)),
@@ -42,9 +42,9 @@ sent_read k from to bytes h =
     ) refl
 
 first_read : (c r : ℕ) (path : List ℕ) (n : ℕ) (add remove : Option ℕ) → IsReadable (rec.AssignedFirst c r path n add remove)
-    → assigned_of (decimal c ∷ decimal r ∷ codes "first" ∷ path ∷ decimal n ∷ choice_word add ∷ choice_word remove ∷ [])
+    → report_assigned (decimal c ∷ decimal r ∷ codes "first" ∷ path ∷ decimal n ∷ choice_word add ∷ choice_word remove ∷ [])
     ≡ Some (rec.AssignedFirst c r path n add remove)
-unfolding assigned_of
+unfolding report_assigned
 first_read c r path n add remove h =
     rw (
       count_then_read 16384 c (decimal r ∷ codes "first" ∷ path ∷ decimal n ∷ choice_word add ∷ choice_word remove ∷ []) (omega arith) h.0,
@@ -56,9 +56,9 @@ first_read c r path n add remove h =
     ) refl
 
 later_read : (c r : ℕ) (path : List ℕ) (n : ℕ) (add : Option ℕ) (size queue : ℕ) → IsReadable (rec.AssignedLater c r path n add size queue)
-    → assigned_of (decimal c ∷ decimal r ∷ codes "later" ∷ path ∷ decimal n ∷ choice_word add ∷ decimal size ∷ decimal queue ∷ [])
+    → report_assigned (decimal c ∷ decimal r ∷ codes "later" ∷ path ∷ decimal n ∷ choice_word add ∷ decimal size ∷ decimal queue ∷ [])
     ≡ Some (rec.AssignedLater c r path n add size queue)
-unfolding assigned_of
+unfolding report_assigned
 later_read c r path n add size queue h =
     rw (
       count_then_read 16384 c (decimal r ∷ codes "later" ∷ path ∷ decimal n ∷ choice_word add ∷ decimal size ∷ decimal queue ∷ []) (omega arith) h.0,
@@ -70,8 +70,8 @@ later_read c r path n add size queue h =
     ) refl
 
 served_read : (place : Place) (c r code length : ℕ) (via : Via) → IsReadable (rec.Served place c r code length via)
-    → served_of (place_word place ∷ decimal c ∷ decimal r ∷ decimal code ∷ decimal length ∷ via_word via ∷ []) ≡ Some (rec.Served place c r code length via)
-unfolding served_of
+    → report_served (place_word place ∷ decimal c ∷ decimal r ∷ decimal code ∷ decimal length ∷ via_word via ∷ []) ≡ Some (rec.Served place c r code length via)
+unfolding report_served
 served_read place c r code length via h =
     rw (
       place_then_read place (decimal c ∷ decimal r ∷ decimal code ∷ decimal length ∷ via_word via ∷ []) h.0,
@@ -80,12 +80,12 @@ served_read place c r code length via h =
       response_read code length via h.3 h.4 h.5,
     ) refl
 
-hit_read : (n : ℕ) (path : List ℕ) → IsReadable (rec.Hit n path) → hit_of (node_word n ∷ path ∷ []) ≡ Some (rec.Hit n path)
-unfolding hit_of
+hit_read : (n : ℕ) (path : List ℕ) → IsReadable (rec.Hit n path) → report_hit (node_word n ∷ path ∷ []) ≡ Some (rec.Hit n path)
+unfolding report_hit
 hit_read n path h = rw (node_then_read n (path ∷ []) h.0, request_path_then_read path [] h.1) refl
 
-clock_read : (time : ℕ) → time < 2 ^ 64 → clock_of (decimal time ∷ []) ≡ Some (rec.Clock (record { 0 = time }))
-unfolding clock_of
+clock_read : (time : ℕ) → time < 2 ^ 64 → report_clock (decimal time ∷ []) ≡ Some (rec.Clock (record { 0 = time }))
+unfolding report_clock
 clock_read time h = rw (number_then_read (2 ^ 64 - 1) time [] (omega arith) (omega (arith, h))) refl
 
 pub loosely_read : (r : Rec) → IsReadable r → loosely_of (rec_words r) ≡ Some r

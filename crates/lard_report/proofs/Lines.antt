@@ -12,7 +12,7 @@ use Rattle.lard_schedule.specs.Laws.{AreWords}
 use Rattle.lard_schedule.proofs.Found.{bind_some, cond_some}
 use Rattle.lard_schedule.proofs.Places.{text_is}
 use Rattle.lard_schedule.proofs.Sentences.{sentence_words}
-use Rattle.lard_report.specs.Laws.{IsLineOf}
+use Rattle.lard_report.specs.Laws.{IsLineOfRecord}
 use Rattle.lard_report.specs.Readable.{IsReadable}
 use Rattle.lard_report.specs.Records.{loosely_of, record_of}
 use Rattle.lard_report.proofs.Apart.{cut_apart}
@@ -35,27 +35,27 @@ record_again r fits =
     ∙ ap (λ o. o >>= λ s. cond (bytes_eq (sentence (rec_words s)) (sentence (rec_words r))) (Some s) None) (loosely_read r fits)
     ∙ ap (λ t. cond t (Some r) None) same
 
-pub record_told : (line : List ℕ) (r : Rec) → record_of line ≡ Some r → IsLineOf line r
+pub record_told : (line : List ℕ) (r : Rec) → record_of line ≡ Some r → IsLineOfRecord line r
 unfolding record_of
 record_told line r e =
     let found = bind_some (loosely_of (words_of line)) _ r e in
     let tested = cond_some (bytes_eq (sentence (rec_words found.0)) line) found.0 r found.2 in
     let spelled : sentence (rec_words found.0) ≡ line = text_is (sentence (rec_words found.0)) line tested.0 in
-    subst (IsLineOf line) tested.1 (ap (λ text. text ++ 10 ∷ []) (sym spelled), loosely_fits (words_of line) found.0 found.1)
+    subst (IsLineOfRecord line) tested.1 (ap (λ text. text ++ 10 ∷ []) (sym spelled), loosely_fits (words_of line) found.0 found.1)
 
-pub record_from : (line : List ℕ) (r : Rec) → IsLineOf line r → record_of line ≡ Some r
+pub record_from : (line : List ℕ) (r : Rec) → IsLineOfRecord line r → record_of line ≡ Some r
 record_from line r h = ap record_of (append_cancel_right line (sentence (rec_words r)) (10 ∷ []) h.0) ∙ record_again r h.1
 
 -- ---- a line that stands for nothing
 
-none_told : (line : List ℕ) → record_of line ≡ None → (r : Rec) → ¬ IsLineOf line r
+none_told : (line : List ℕ) → record_of line ≡ None → (r : Rec) → ¬ IsLineOfRecord line r
 none_told line e r h = let read : record_of line ≡ Some r = record_from line r h in cc
 
-none_from : (line : List ℕ) → ((r : Rec) → ¬ IsLineOf line r) → record_of line ≡ None
+none_from : (line : List ℕ) → ((r : Rec) → ¬ IsLineOfRecord line r) → record_of line ≡ None
 none_from line none = go (record_of line) refl where
   go : (o : Option Rec) → record_of line ≡ o → o ≡ None
   go None f = refl
   go (Some r) f = absurd (none r (record_told line r f))
 
-pub none_is : (line : List ℕ) → (record_of line ≡ None) ↔ ((r : Rec) → ¬ IsLineOf line r)
+pub none_is : (line : List ℕ) → (record_of line ≡ None) ↔ ((r : Rec) → ¬ IsLineOfRecord line r)
 none_is line = (none_told line, none_from line)

@@ -11,13 +11,13 @@ use Rattle.lard_base.specs.declared.place.TimerKind.TheVariants as timer
 use Rattle.lard_base.specs.declared.place.Via.{Via}
 use Rattle.lard_base.specs.declared.place.Via.TheVariants as via
 use Rattle.lard_journal.specs.Report.{choice_word, kind_word, node_word, via_word}
-use Rattle.lard_schedule.specs.Words.{◌>>=◌, word_then, number_then, count_of, client_then}
+use Rattle.lard_schedule.specs.Words.{◌>>=◌, word_then, number_then, count_up_to, client_then}
 use Rattle.lard_schedule.specs.Events.{IsPlace, client_and_word, is_path, place_of, some_bytes_of}
 use Rattle.lard_schedule.proofs.Found.{bind_some, some_same, cond_some, ended_some, count_spelled, count_read, number_then_spelled, number_then_read, count_then_spelled, count_then_read, client_and_word_spelled, client_and_word_read}
 use Rattle.lard_schedule.proofs.Places.{text_is, place_spelled, place_read, some_bytes_spelled, some_bytes_read}
 use Rattle.lard_report.specs.declared.parts.DiskJob.{DiskJob}
-use Rattle.lard_report.specs.Parts.{choice_alone, choice_of, choice_then, client_and_bytes, far_via_of, job_of, node_at, node_place_of, node_then, packet_of, place_client_number, place_client_timer, place_then, request_of, request_path_then, response_of, timer_kind_of, two_numbers, via_of}
-use Rattle.lard_report.specs.Readable.{IsChoice, IsConn, IsNode, IsPath, IsSomeBytes, IsVia}
+use Rattle.lard_report.specs.Parts.{choice_alone, choice_of, choice_then, client_and_bytes, far_via_of, job_of, report_node_at, node_place_of, node_then, packet_words, place_client_number, place_client_timer, place_then, request_words, request_path_then, response_of, timer_kind_of, two_numbers, via_of}
+use Rattle.lard_report.specs.Readable.{IsChoice, IsConn, IsReadableNode, IsReadablePath, IsSomeBytes, IsVia}
 
 -- ---- what is found is in range
 
@@ -26,15 +26,15 @@ either_fits : {A : Type 0} (P : A → Type 0) (t : Bool) (x : A) (o : Option A) 
 either_fits P true x o y e fits more = subst P (some_same x y e) fits
 either_fits P false x o y e fits more = more e
 
-node_place : (place : Place) (n : ℕ) → node_at place ≡ Some n → place ≡ Node n
+node_place : (place : Place) (n : ℕ) → report_node_at place ≡ Some n → place ≡ Node n
 node_place Front n e = let none : None ≡ Some n = e in cc
 node_place (Node m) n e = ap Node (some_same m n e)
 node_place (Client c) n e = let none : None ≡ Some n = e in cc
 
 choice_fits : (word : List ℕ) (choice : Option ℕ) → choice_of word ≡ Some choice → IsChoice choice
 choice_fits word choice e =
-    either_fits IsChoice (bytes_eq word (codes "-")) None (count_of 64 word >>= λ n. Some (Some n)) choice e tt (λ f.
-    let n = bind_some (count_of 64 word) _ choice f in
+    either_fits IsChoice (bytes_eq word (codes "-")) None (count_up_to 64 word >>= λ n. Some (Some n)) choice e tt (λ f.
+    let n = bind_some (count_up_to 64 word) _ choice f in
     subst IsChoice (some_same (Some n.0) choice n.2) (count_spelled 64 word n.0 n.1).1)
 
 far_via_fits : (word : List ℕ) (v : Via) → far_via_of word ≡ Some v → IsVia v
@@ -43,7 +43,7 @@ far_via_fits (n ∷ []) v e = let none : None ≡ Some v = e in cc
 far_via_fits (n ∷ o ∷ []) v e = let none : None ≡ Some v = e in cc
 far_via_fits (n ∷ o ∷ d ∷ []) v e = let none : None ≡ Some v = e in cc
 far_via_fits (n ∷ o ∷ d ∷ f ∷ digits) v e =
-    let m = bind_some (count_of 64 digits) _ v e in
+    let m = bind_some (count_up_to 64 digits) _ v e in
     subst IsVia (some_same (via.Node m.0) v m.2) (count_spelled 64 digits m.0 m.1).1
 
 via_fits : (word : List ℕ) (v : Via) → via_of word ≡ Some v → IsVia v
@@ -63,24 +63,24 @@ place_then_fits words found e =
     let place = bind_some (place_of word.0.0) _ found word.2 in
     subst (λ (p : Place × List (List ℕ)). IsPlace p.0) (some_same (place.0, word.0.1) found place.2) (place_spelled word.0.0 place.0 place.1).1
 
-node_place_fits : (word : List ℕ) (n : ℕ) → node_place_of word ≡ Some n → IsNode n
+node_place_fits : (word : List ℕ) (n : ℕ) → node_place_of word ≡ Some n → IsReadableNode n
 node_place_fits word n e =
-    let place = bind_some (place_of word) node_at n e in
+    let place = bind_some (place_of word) report_node_at n e in
     subst IsPlace (node_place place.0 n place.2) (place_spelled word place.0 place.1).1
 
-pub node_then_fits : (words : List (List ℕ)) (found : ℕ × List (List ℕ)) → node_then words ≡ Some found → IsNode found.0
+pub node_then_fits : (words : List (List ℕ)) (found : ℕ × List (List ℕ)) → node_then words ≡ Some found → IsReadableNode found.0
 unfolding node_then
 node_then_fits words found e =
     let word = bind_some (word_then words) _ found e in
     let n = bind_some (node_place_of word.0.0) _ found word.2 in
-    subst (λ (p : ℕ × List (List ℕ)). IsNode p.0) (some_same (n.0, word.0.1) found n.2) (node_place_fits word.0.0 n.0 n.1)
+    subst (λ (p : ℕ × List (List ℕ)). IsReadableNode p.0) (some_same (n.0, word.0.1) found n.2) (node_place_fits word.0.0 n.0 n.1)
 
-pub request_path_then_fits : (words : List (List ℕ)) (found : List ℕ × List (List ℕ)) → request_path_then words ≡ Some found → IsPath found.0
+pub request_path_then_fits : (words : List (List ℕ)) (found : List ℕ × List (List ℕ)) → request_path_then words ≡ Some found → IsReadablePath found.0
 unfolding request_path_then
 request_path_then_fits words found e =
     let path = bind_some (word_then words) _ found e in
     let tested = cond_some (is_path path.0.0) path.0 found path.2 in
-    subst (λ (p : List ℕ × List (List ℕ)). IsPath p.0) tested.1 tested.0
+    subst (λ (p : List ℕ × List (List ℕ)). IsReadablePath p.0) tested.1 tested.0
 
 pub choice_then_fits : (words : List (List ℕ)) (found : Option ℕ × List (List ℕ)) → choice_then words ≡ Some found → IsChoice found.0
 unfolding choice_then
@@ -129,8 +129,8 @@ place_client_timer_fits words found e =
     subst (λ (p : Place × ℕ × TimerKind). IsPlace p.0 × IsConn p.1) end.1
     (place_then_fits words place.0 place.1, (count_then_spelled 16384 place.0.1 c.0 c.1).1)
 
-pub packet_fits : (words : List (List ℕ)) (found : Place × Place × List ℕ) → packet_of words ≡ Some found → IsPlace found.0 × IsPlace found.1 × IsSomeBytes found.2
-unfolding packet_of
+pub packet_fits : (words : List (List ℕ)) (found : Place × Place × List ℕ) → packet_words words ≡ Some found → IsPlace found.0 × IsPlace found.1 × IsSomeBytes found.2
+unfolding packet_words
 packet_fits words found e =
     let from = bind_some (place_then words) _ found e in
     let to = bind_some (place_then from.0.1) _ found from.2 in
@@ -140,27 +140,27 @@ packet_fits words found e =
     subst (λ (p : Place × Place × List ℕ). IsPlace p.0 × IsPlace p.1 × IsSomeBytes p.2) end.1
     (place_then_fits words from.0 from.1, place_then_fits from.0.1 to.0 to.1, bytes_fit word.0.0 bytes.0 bytes.1)
 
-request_fits : (words : List (List ℕ)) (found : ℕ × ℕ × List ℕ) → request_of words ≡ Some found → IsConn found.0 × (found.1 < 2 ^ 32) × IsPath found.2
-unfolding request_of
+request_fits : (words : List (List ℕ)) (found : ℕ × ℕ × List ℕ) → request_words words ≡ Some found → IsConn found.0 × (found.1 < 2 ^ 32) × IsReadablePath found.2
+unfolding request_words
 request_fits words found e =
     let c = bind_some (client_then words) _ found e in
     let r = bind_some (number_then (2 ^ 32 - 1) c.0.1) _ found c.2 in
     let path = bind_some (request_path_then r.0.1) _ found r.2 in
     let end = ended_some path.0.1 (c.0.0, r.0.0, path.0.0) found path.2 in
     let small = number_then_spelled (2 ^ 32 - 1) c.0.1 r.0 (omega arith) r.1 in
-    subst (λ (p : ℕ × ℕ × List ℕ). IsConn p.0 × (p.1 < 2 ^ 32) × IsPath p.2) end.1
+    subst (λ (p : ℕ × ℕ × List ℕ). IsConn p.0 × (p.1 < 2 ^ 32) × IsReadablePath p.2) end.1
     ((count_then_spelled 16384 words c.0 c.1).1, omega (arith, small.1), request_path_then_fits r.0.1 path.0 path.1)
 
 -- the parts of a job are in range
 abbrev pub IsJob : DiskJob → Type 0
-IsJob job = IsNode job.n × IsNode job.m × IsConn job.c × (job.r < 2 ^ 32) × IsPath job.path
+IsJob job = IsReadableNode job.n × IsReadableNode job.m × IsConn job.c × (job.r < 2 ^ 32) × IsReadablePath job.path
 
 pub job_fits : (words : List (List ℕ)) (job : DiskJob) → job_of words ≡ Some job → IsJob job
 unfolding job_of
 job_fits words job e =
     let n = bind_some (node_then words) _ job e in
     let m = bind_some (node_then n.0.1) _ job n.2 in
-    let request = bind_some (request_of m.0.1) _ job m.2 in
+    let request = bind_some (request_words m.0.1) _ job m.2 in
     let fits = request_fits m.0.1 request.0 request.1 in
     subst IsJob (some_same (record { n = n.0.0; m = m.0.0; c = request.0.0; r = request.0.1; path = request.0.2 }) job request.2)
     (node_then_fits words n.0 n.1, node_then_fits n.0.1 m.0 m.1, fits.0, fits.1, fits.2)
@@ -188,15 +188,15 @@ two_numbers_fit most words found wide e =
 
 -- ---- what is in range is found where it is spelled
 
-dash_is_no_count : count_of 64 (codes "-") ≡ None
-unfolding count_of
+dash_is_no_count : count_up_to 64 (codes "-") ≡ None
+unfolding count_up_to
 dash_is_no_count = refl
 
-no_dash : (n : ℕ) → IsNode n → bytes_eq (decimal n) (codes "-") ≡ false
+no_dash : (n : ℕ) → IsReadableNode n → bytes_eq (decimal n) (codes "-") ≡ false
 no_dash n range = go (bytes_eq (decimal n) (codes "-")) refl where
   go : (t : Bool) → bytes_eq (decimal n) (codes "-") ≡ t → t ≡ false
   go false f = refl
-  go true f = let clash : Some n ≡ None = sym (count_read 64 n (omega arith) range) ∙ ap (count_of 64) (text_is _ _ f) ∙ dash_is_no_count in cc
+  go true f = let clash : Some n ≡ None = sym (count_read 64 n (omega arith) range) ∙ ap (count_up_to 64) (text_is _ _ f) ∙ dash_is_no_count in cc
 
 choice_read : (choice : Option ℕ) → IsChoice choice → choice_of (choice_word choice) ≡ Some choice
 choice_read None fits = refl
@@ -224,11 +224,11 @@ pub place_then_read : (place : Place) (words : List (List ℕ)) → IsPlace plac
 unfolding place_then
 place_then_read place words fits = rw (place_read place fits) refl
 
-pub node_then_read : (n : ℕ) (words : List (List ℕ)) → IsNode n → node_then (node_word n ∷ words) ≡ Some (n, words)
+pub node_then_read : (n : ℕ) (words : List (List ℕ)) → IsReadableNode n → node_then (node_word n ∷ words) ≡ Some (n, words)
 unfolding node_then
 node_then_read n words fits = rw (place_read (Node n) fits) refl
 
-pub request_path_then_read : (path : List ℕ) (words : List (List ℕ)) → IsPath path → request_path_then (path ∷ words) ≡ Some (path, words)
+pub request_path_then_read : (path : List ℕ) (words : List (List ℕ)) → IsReadablePath path → request_path_then (path ∷ words) ≡ Some (path, words)
 unfolding request_path_then
 request_path_then_read path words fits = rw fits refl
 
@@ -265,13 +265,13 @@ place_client_timer_read place c kind at range =
     ) refl
 
 pub packet_read : (from to : Place) (bytes : List ℕ) → IsPlace from → IsPlace to → IsSomeBytes bytes
-    → packet_of (place_word from ∷ place_word to ∷ encode_lower bytes ∷ []) ≡ Some (from, to, bytes)
-unfolding packet_of
+    → packet_words (place_word from ∷ place_word to ∷ encode_lower bytes ∷ []) ≡ Some (from, to, bytes)
+unfolding packet_words
 packet_read from to bytes here there fits =
     rw (place_then_read from (place_word to ∷ encode_lower bytes ∷ []) here, place_then_read to (encode_lower bytes ∷ []) there, bytes_read bytes fits) refl
 
-request_read : (c r : ℕ) (path : List ℕ) → IsConn c → r < 2 ^ 32 → IsPath path → request_of (decimal c ∷ decimal r ∷ path ∷ []) ≡ Some (c, r, path)
-unfolding request_of
+request_read : (c r : ℕ) (path : List ℕ) → IsConn c → r < 2 ^ 32 → IsReadablePath path → request_words (decimal c ∷ decimal r ∷ path ∷ []) ≡ Some (c, r, path)
+unfolding request_words
 request_read c r path range small fits =
     rw (
       count_then_read 16384 c (decimal r ∷ path ∷ []) (omega arith) range,

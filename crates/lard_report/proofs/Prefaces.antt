@@ -19,7 +19,7 @@ use Rattle.lard_schedule.proofs.Found.{bind_some, some_same, cond_some, ended_so
 use Rattle.lard_schedule.proofs.Places.{text_is}
 use Rattle.lard_schedule.proofs.Sentences.{sentence_words, text_back}
 use Rattle.lard_report.specs.declared.preface.Heading.{Heading}
-use Rattle.lard_report.specs.Preface.{IsWide, behind_word, config_of, costs_then, file_of, heading_of, heading_with, limits_then, policy_then, setting_then}
+use Rattle.lard_report.specs.Preface.{IsHeadingWide, behind_word, heading_config, costs_then, file_line_of, heading_of, heading_with, limits_then, policy_then, setting_then}
 use Rattle.lard_report.proofs.Apart.{plain_apart}
 use Rattle.lard_report.proofs.Ranges.{path_unspaced}
 
@@ -122,9 +122,9 @@ limits_spelled words found e =
 
 -- the line is the heading with these numbers
 abbrev IsHeadingOf : List ℕ → Heading → Type 0
-IsHeadingOf line h = (line ++ 10 ∷ [] ≡ heading_line (config_of h)) × IsWide h
+IsHeadingOf line h = (line ++ 10 ∷ [] ≡ heading_line (heading_config h)) × IsHeadingWide h
 
-heading_line_is : (line : List ℕ) (h : Heading) → words_of line ≡ heading_words (config_of h) → line ++ 10 ∷ [] ≡ heading_line (config_of h)
+heading_line_is : (line : List ℕ) (h : Heading) → words_of line ≡ heading_words (heading_config h) → line ++ 10 ∷ [] ≡ heading_line (heading_config h)
 unfolding heading_line
 heading_line_is line h e = ap (λ text. text ++ 10 ∷ []) (sym (text_back line) ∙ ap sentence e)
 
@@ -189,10 +189,10 @@ heading_apart c =
     ) refl
     )
 
-heading_words_back : (line : List ℕ) (h : Heading) → line ++ 10 ∷ [] ≡ heading_line (config_of h) → words_of line ≡ heading_words (config_of h)
+heading_words_back : (line : List ℕ) (h : Heading) → line ++ 10 ∷ [] ≡ heading_line (heading_config h) → words_of line ≡ heading_words (heading_config h)
 unfolding heading_line
 heading_words_back line h e =
-    ap words_of (append_cancel_right line (sentence (heading_words (config_of h))) (10 ∷ []) e) ∙ sentence_words (heading_words (config_of h)) (heading_apart (config_of h))
+    ap words_of (append_cancel_right line (sentence (heading_words (heading_config h))) (10 ∷ []) e) ∙ sentence_words (heading_words (heading_config h)) (heading_apart (heading_config h))
 
 pub heading_from : (line : List ℕ) (h : Heading) → IsHeadingOf line h → heading_of line ≡ Some h
 unfolding heading_of
@@ -227,8 +227,8 @@ path_read : (path : List ℕ) (words : List (List ℕ)) → is_file_path path �
 unfolding path_then
 path_read path words fits = rw fits refl
 
-pub file_told : (line path : List ℕ) (size : ℕ) → file_of line ≡ Some (path, size) → IsFileOf line (path, size)
-unfolding file_of
+pub file_told : (line path : List ℕ) (size : ℕ) → file_line_of line ≡ Some (path, size) → IsFileOf line (path, size)
+unfolding file_line_of
 file_told line path size e =
     let file : List ℕ × ℕ = (path, size) in
     let rest = bind_some (behind_word (codes "file") (words_of line)) _ file e in
@@ -242,8 +242,8 @@ file_told line path size e =
     first ∙ ap (λ w. codes "file" ∷ w) (second.0 ∙ ap (λ w. text.0.0 ∷ w) (third.0 ∙ ap (λ w. decimal number.0.0 ∷ w) end.0)) in
     subst (IsFileOf line) end.1 (ap (λ t. t ++ 10 ∷ []) (sym (text_back line) ∙ ap sentence words), second.1, omega (arith, third.1))
 
-pub file_from : (line path : List ℕ) (size : ℕ) → IsFileOf line (path, size) → file_of line ≡ Some (path, size)
-unfolding file_of
+pub file_from : (line path : List ℕ) (size : ℕ) → IsFileOf line (path, size) → file_line_of line ≡ Some (path, size)
+unfolding file_line_of
 file_from line path size spelled =
     let words : List (List ℕ) = codes "file" ∷ path ∷ decimal size ∷ [] in
     let visible = path_unspaced path (and_parts (is_path path) (list_all is_no_question path) spelled.1).0 in

@@ -13,14 +13,14 @@ use Rattle.lard_base.specs.declared.place.Via.{Via}
 use Rattle.lard_base.specs.declared.place.Via.TheVariants as via
 use Rattle.lard_journal.specs.declared.rec.Rec.{Rec}
 use Rattle.lard_journal.specs.declared.rec.Rec.TheVariants as rec
-use Rattle.lard_journal.specs.Range.{IsChoiceInRange, IsEventInRange, IsInRange, IsNumber, IsPlaceInRange, IsUnspaced, IsViaInRange}
+use Rattle.lard_journal.specs.Range.{IsChoiceInRange, IsEventInRange, IsRecordInRange, IsNumber, IsPlaceInRange, IsUnspaced, IsViaInRange}
 use Rattle.lard_schedule.specs.Events.{IsPlace, is_visible}
-use Rattle.lard_report.specs.Readable.{IsChoice, IsConn, IsEvent, IsNode, IsPath, IsReadable, IsVia}
+use Rattle.lard_report.specs.Readable.{IsChoice, IsConn, IsEvent, IsReadableNode, IsReadablePath, IsReadable, IsVia}
 
 conn_wide : (c : ℕ) → IsConn c → IsNumber c
 conn_wide c h = omega (arith, h.1)
 
-node_wide : (n : ℕ) → IsNode n → IsNumber n
+node_wide : (n : ℕ) → IsReadableNode n → IsNumber n
 node_wide n h = omega (arith, h.1)
 
 place_wide : (place : Place) → IsPlace place → IsPlaceInRange place
@@ -49,7 +49,7 @@ visible_unspaced (b ∷ bs) e =
     let first : 32 < b = let visible = parts.0 in grind (arith, nat_tests, visible) in
     All-cons IsAboveSpace b bs first (visible_unspaced bs parts.1)
 
-pub path_unspaced : (path : List ℕ) → IsPath path → IsUnspaced path
+pub path_unspaced : (path : List ℕ) → IsReadablePath path → IsUnspaced path
 path_unspaced [] e = let none : false ≡ true = e in cc
 path_unspaced (b ∷ bs) e =
     let parts = and_parts (nat_eq b 47 && nat_lt (length bs) 1024) (list_all is_visible bs) e in
@@ -74,7 +74,7 @@ event_in_range (event.Clock ms) h = omega (arith, h.0)
 event_in_range (event.Settle rounds) h = omega (arith, h.0.1)
 event_in_range (event.Inject c bytes) h = (conn_wide c h.0.0, h.1)
 
-pub readable_in_range : (r : Rec) → IsReadable r → IsInRange r
+pub readable_in_range : (r : Rec) → IsReadable r → IsRecordInRange r
 readable_in_range (rec.Event i event) h = (h.0, event_in_range event h.1)
 readable_in_range (rec.Inner event) h = event_in_range event h
 readable_in_range (rec.Opened c isn iss wnd mss) h = (conn_wide c h.0, omega (arith, h.1), omega (arith, h.2), omega (arith, h.3), omega (arith, h.4))

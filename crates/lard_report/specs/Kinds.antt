@@ -34,8 +34,8 @@ kind_name Clock = codes "clock"
 kind_name Settled = codes "settled"
 kind_name Unsettled = codes "unsettled"
 
-abbrev pub kinds : List Kind
-kinds =
+abbrev pub record_kinds : List Kind
+record_kinds =
     Event ∷ Inner ∷ Opened ∷ Wrote ∷ Sent ∷ Got ∷ Lost ∷ Accepted ∷ Eof ∷ Took ∷ Gave ∷ Waits ∷ Admitted ∷ Released ∷ Assigned ∷ BatchOver ∷ Served
     ∷ Hit ∷ Queued ∷ Read ∷ Armed ∷ Cleared ∷ Reset ∷ Aborted ∷ Injected ∷ Clock ∷ Settled ∷ Unsettled ∷ []
 
@@ -43,5 +43,5 @@ kinds =
 abbrev pub kind_among : List Kind → List ℕ → Option Kind
 kind_among of_them word = find (λ k. bytes_eq word (kind_name k)) of_them
 
-abbrev pub kind_of : List ℕ → Option Kind
-kind_of word = kind_among kinds word
+abbrev pub record_kind : List ℕ → Option Kind
+record_kind word = kind_among record_kinds word

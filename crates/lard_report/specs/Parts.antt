@@ -6,28 +6,28 @@ use Rattle.lard_base.specs.declared.place.TimerKind.{TimerKind}
 use Rattle.lard_base.specs.declared.place.TimerKind.TheVariants as timer
 use Rattle.lard_base.specs.declared.place.Via.{Via}
 use Rattle.lard_base.specs.declared.place.Via.TheVariants as via
-use Rattle.lard_schedule.specs.Words.{◌>>=◌, word_then, number_then, count_of, client_then, ended}
+use Rattle.lard_schedule.specs.Words.{◌>>=◌, word_then, number_then, count_up_to, client_then, ended}
 use Rattle.lard_schedule.specs.Events.{client_and_word, is_path, place_of, some_bytes_of}
 use Rattle.lard_report.specs.declared.parts.DiskJob.{DiskJob}
 
 -- ---- words by themselves
 
-abbrev pub node_at : Place → Option ℕ
-node_at Front = None
-node_at (Node n) = Some n
-node_at (Client c) = None
+abbrev pub report_node_at : Place → Option ℕ
+report_node_at Front = None
+report_node_at (Node n) = Some n
+report_node_at (Client c) = None
 
 -- a node, written as a place
 abbrev pub node_place_of : List ℕ → Option ℕ
-node_place_of word = place_of word >>= node_at
+node_place_of word = place_of word >>= report_node_at
 
 -- the number of a node, or a dash where there is none
 abbrev pub choice_of : List ℕ → Option (Option ℕ)
-choice_of word = if bytes_eq word (codes "-") then Some None else count_of 64 word >>= λ n. Some (Some n)
+choice_of word = if bytes_eq word (codes "-") then Some None else count_up_to 64 word >>= λ n. Some (Some n)
 
 -- the number of a node behind four letters, which are `node`
 abbrev pub far_via_of : List ℕ → Option Via
-far_via_of (n ∷ o ∷ d ∷ e ∷ digits) = count_of 64 digits >>= λ m. Some (via.Node m)
+far_via_of (n ∷ o ∷ d ∷ e ∷ digits) = count_up_to 64 digits >>= λ m. Some (via.Node m)
 far_via_of _ = None
 
 -- own, cache, disk, node7
@@ -102,8 +102,8 @@ place_client_timer words = do
   ended word.1 (place.0, c.0, kind)
 
 -- the places that a packet goes from and to, and its bytes
-unfoldable pub packet_of : List (List ℕ) → Option (Place × Place × List ℕ)
-packet_of words = do
+unfoldable pub packet_words : List (List ℕ) → Option (Place × Place × List ℕ)
+packet_words words = do
   from ← place_then words
   to ← place_then from.1
   word ← word_then to.1
@@ -111,8 +111,8 @@ packet_of words = do
   ended word.1 (from.0, to.0, bytes)
 
 -- a connection, the number of a request, and its path
-unfoldable pub request_of : List (List ℕ) → Option (ℕ × ℕ × List ℕ)
-request_of words = do
+unfoldable pub request_words : List (List ℕ) → Option (ℕ × ℕ × List ℕ)
+request_words words = do
   c ← client_then words
   r ← number_then (2 ^ 32 - 1) c.1
   path ← request_path_then r.1
@@ -123,7 +123,7 @@ unfoldable pub job_of : List (List ℕ) → Option DiskJob
 job_of words = do
   n ← node_then words
   m ← node_then n.1
-  request ← request_of m.1
+  request ← request_words m.1
   Some (record { n = n.0; m = m.0; c = request.0; r = request.1; path = request.2 })
 
 -- a response: its code, its length, and where its content came from

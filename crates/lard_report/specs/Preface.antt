@@ -59,20 +59,20 @@ heading_of line = do
   ended limits.1 (heading_with policy.0 costs.0 limits.0)
 
 -- the path of a file and its length below 2^64, before any limit of files is asked
-unfoldable pub file_of : List ℕ → Option (List ℕ × ℕ)
-file_of line = do
+unfoldable pub file_line_of : List ℕ → Option (List ℕ × ℕ)
+file_line_of line = do
   rest ← behind_word (codes "file") (words_of line)
   path ← path_then rest
   size ← number_then (2 ^ 64 - 1) path.1
   ended size.1 (path.0, size.0)
 
 -- the configuration with the numbers of a heading
-abbrev pub config_of : Heading → Config
-config_of h =
+abbrev pub heading_config : Heading → Config
+heading_config h =
     record { nodes = h.nodes; low = h.low; high = h.high; age = h.age; idle = h.idle; over = h.over; miss = h.miss; cache = h.cache; stream = h.stream }
 
 -- each number is below 2^64
-abbrev pub IsWide : Heading → Type 0
-IsWide h =
+abbrev pub IsHeadingWide : Heading → Type 0
+IsHeadingWide h =
     (h.nodes < 2 ^ 64) × (h.low < 2 ^ 64) × (h.high < 2 ^ 64) × (h.age < 2 ^ 64) × (h.idle < 2 ^ 64) × (h.over < 2 ^ 64) × (h.miss < 2 ^ 64)
     × (h.cache < 2 ^ 64) × (h.stream < 2 ^ 64)

@@ -7,18 +7,18 @@ use Rattle.lard_base.specs.declared.place.Via.{Via}
 use Rattle.lard_base.specs.declared.place.Via.TheVariants as via
 use Rattle.lard_journal.specs.declared.rec.Rec.{Rec}
 use Rattle.lard_journal.specs.declared.rec.Rec.TheVariants as rec
-use Rattle.lard_schedule.specs.Events.{IsInRange, IsPlace, IsUpTo, is_path}
+use Rattle.lard_schedule.specs.Events.{IsInLineRange, IsPlace, IsUpTo, is_path}
 use Rattle.lard_schedule.specs.Laws.{HasBytes}
 
 -- the number of a connection, 1 to 16,384, and of a node, 1 to 64
 abbrev pub IsConn : ℕ → Type 0
 IsConn c = IsUpTo conn_id.MAX c
 
-abbrev pub IsNode : ℕ → Type 0
-IsNode n = IsUpTo 64 n
+abbrev pub IsReadableNode : ℕ → Type 0
+IsReadableNode n = IsUpTo 64 n
 
-abbrev pub IsPath : List ℕ → Type 0
-IsPath path = is_path path ≡ true
+abbrev pub IsReadablePath : List ℕ → Type 0
+IsReadablePath path = is_path path ≡ true
 
 -- at least one byte
 abbrev pub IsSomeBytes : List ℕ → Type 0
@@ -27,17 +27,17 @@ IsSomeBytes bytes = IsBytes bytes × (1 ≤ length bytes)
 -- a node or none
 abbrev pub IsChoice : Option ℕ → Type 0
 IsChoice None = Unit {0}
-IsChoice (Some n) = IsNode n
+IsChoice (Some n) = IsReadableNode n
 
 abbrev pub IsVia : Via → Type 0
 IsVia via.Own = Unit {0}
 IsVia via.Cache = Unit {0}
 IsVia via.Disk = Unit {0}
-IsVia (via.Node m) = IsNode m
+IsVia (via.Node m) = IsReadableNode m
 
 -- an event that a line of a schedule can stand for
 abbrev pub IsEvent : Event → Type 0
-IsEvent event = IsInRange event × HasBytes event
+IsEvent event = IsInLineRange event × HasBytes event
 
 -- Numbers have the width of their field, connections and nodes their range; an event is one of a schedule, a path is one of a
 -- request, and bytes are at least one.
@@ -56,13 +56,13 @@ IsReadable (rec.Gave place c epoch) = IsPlace place × IsConn c × (epoch.0 < 2 
 IsReadable (rec.Waits c) = IsConn c
 IsReadable (rec.Admitted c) = IsConn c
 IsReadable (rec.Released c) = IsConn c
-IsReadable (rec.AssignedFirst c r path n add remove) = IsConn c × (r < 2 ^ 32) × IsPath path × IsNode n × IsChoice add × IsChoice remove
-IsReadable (rec.AssignedLater c r path n add size queue) = IsConn c × (r < 2 ^ 32) × IsPath path × IsNode n × IsChoice add × (size < 2 ^ 32) × (queue < 2 ^ 32)
+IsReadable (rec.AssignedFirst c r path n add remove) = IsConn c × (r < 2 ^ 32) × IsReadablePath path × IsReadableNode n × IsChoice add × IsChoice remove
+IsReadable (rec.AssignedLater c r path n add size queue) = IsConn c × (r < 2 ^ 32) × IsReadablePath path × IsReadableNode n × IsChoice add × (size < 2 ^ 32) × (queue < 2 ^ 32)
 IsReadable (rec.BatchOver c) = IsConn c
 IsReadable (rec.Served place c r code length via) = IsPlace place × IsConn c × (r < 2 ^ 32) × (code < 2 ^ 16) × (length < 2 ^ 32) × IsVia via
-IsReadable (rec.Hit n path) = IsNode n × IsPath path
-IsReadable (rec.Queued n m c r path) = IsNode n × IsNode m × IsConn c × (r < 2 ^ 32) × IsPath path
-IsReadable (rec.Read n m c r path) = IsNode n × IsNode m × IsConn c × (r < 2 ^ 32) × IsPath path
+IsReadable (rec.Hit n path) = IsReadableNode n × IsReadablePath path
+IsReadable (rec.Queued n m c r path) = IsReadableNode n × IsReadableNode m × IsConn c × (r < 2 ^ 32) × IsReadablePath path
+IsReadable (rec.Read n m c r path) = IsReadableNode n × IsReadableNode m × IsConn c × (r < 2 ^ 32) × IsReadablePath path
 IsReadable (rec.Armed place c kind) = IsPlace place × IsConn c
 IsReadable (rec.Cleared place c kind) = IsPlace place × IsConn c
 IsReadable (rec.Reset place c count) = IsPlace place × IsConn c × (count < 2 ^ 32)

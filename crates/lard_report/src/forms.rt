@@ -3,7 +3,7 @@
 ghost use Rattle.std.specs.Prelude.{◌≡◌};
 ghost use Rattle.lard_schedule.specs.Events.{event_of};
 ghost use Rattle.lard_schedule.specs.Words.{Judges, left_of};
-ghost use Rattle.lard_report.specs.Records.{accepted_of, armed_of, assigned_of, cleared_of, clock_of, gave_of, hit_of, inner_of, numbered_of, opened_of, queued_of, read_of, record_after, reset_of, sent_of, served_of, took_of, unsettled_of, wrote_of};
+ghost use Rattle.lard_report.specs.Records.{report_accepted, report_armed, report_assigned, report_cleared, report_clock, report_gave, report_hit, report_inner, report_numbered, report_opened, report_queued, report_read, record_after, report_reset, report_sent, report_served, report_took, report_unsettled, report_wrote};
 
 use crate::kinds::Kind;
 use crate::parts::{
@@ -56,9 +56,9 @@ pub fn record_after(alloc: Global, kind: Kind, words: Words<'_>) -> Result<Rec, 
 }
 
 /// An event of the schedule, with its number.
-#[tactic(auto, unfolding(crate::specs::Records::numbered_of))]
+#[tactic(auto, unfolding(crate::specs::Records::report_numbered))]
 fn numbered(alloc: Global, words: Words<'_>) -> Result<Rec, LineFault>
-    ensures { Judges result (numbered_of (left_of words.entry)) }
+    ensures { Judges result (report_numbered (left_of words.entry)) }
 {
     let (i, words) = number_to(words, u64::MAX).ok_or(LineFault::Syntax)?;
     let event = event(alloc, words)?;
@@ -67,7 +67,7 @@ fn numbered(alloc: Global, words: Words<'_>) -> Result<Rec, LineFault>
 
 /// An inner step.
 fn inner(alloc: Global, words: Words<'_>) -> Result<Rec, LineFault>
-    ensures { Judges result (inner_of (left_of words.entry)) }
+    ensures { Judges result (report_inner (left_of words.entry)) }
 {
     let event = event(alloc, words)?;
     Ok(Rec::Inner(event))
@@ -85,9 +85,9 @@ fn event(alloc: Global, words: Words<'_>) -> Result<Event, LineFault>
 }
 
 /// What a client opened with.
-#[tactic(auto, unfolding(crate::specs::Records::opened_of))]
+#[tactic(auto, unfolding(crate::specs::Records::report_opened))]
 fn opened(words: Words<'_>) -> Option<Rec>
-    ensures { result ≡ opened_of (left_of words.entry) }
+    ensures { result ≡ report_opened (left_of words.entry) }
 {
     let (c, words) = client(words)?;
     let (isn, words) = number(words)?;
@@ -107,7 +107,7 @@ fn opened(words: Words<'_>) -> Option<Rec>
 
 /// What a client wrote.
 fn wrote(alloc: Global, words: Words<'_>) -> Result<Rec, LineFault>
-    ensures { Judges result (wrote_of (left_of words.entry)) }
+    ensures { Judges result (report_wrote (left_of words.entry)) }
 {
     let (c, bytes) = client_and_bytes(alloc, words)?;
     Ok(Rec::Wrote { c, bytes })
@@ -115,7 +115,7 @@ fn wrote(alloc: Global, words: Words<'_>) -> Result<Rec, LineFault>
 
 /// What a client accepted.
 fn accepted(alloc: Global, words: Words<'_>) -> Result<Rec, LineFault>
-    ensures { Judges result (accepted_of (left_of words.entry)) }
+    ensures { Judges result (report_accepted (left_of words.entry)) }
 {
     let (c, bytes) = client_and_bytes(alloc, words)?;
     let bytes = Shared::from_slice(alloc, bytes.as_slice())?;
@@ -123,9 +123,9 @@ fn accepted(alloc: Global, words: Words<'_>) -> Result<Rec, LineFault>
 }
 
 /// A packet, with the places that it goes from and to.
-#[tactic(auto, unfolding(crate::specs::Records::sent_of))]
+#[tactic(auto, unfolding(crate::specs::Records::report_sent))]
 fn sent(alloc: Global, words: Words<'_>) -> Result<Rec, LineFault>
-    ensures { Judges result (sent_of (left_of words.entry)) }
+    ensures { Judges result (report_sent (left_of words.entry)) }
 {
     let (k, words) = number(words).ok_or(LineFault::Syntax)?;
     let (from, to, bytes) = packet(alloc, words)?;
@@ -134,7 +134,7 @@ fn sent(alloc: Global, words: Words<'_>) -> Result<Rec, LineFault>
 
 /// A place began to own a connection.
 fn took(words: Words<'_>) -> Option<Rec>
-    ensures { result ≡ took_of (left_of words.entry) }
+    ensures { result ≡ report_took (left_of words.entry) }
 {
     let (place, c, epoch) = place_client_number(words, u64::from(u16::MAX))?;
     let epoch = Epoch(epoch as u16);
@@ -143,7 +143,7 @@ fn took(words: Words<'_>) -> Option<Rec>
 
 /// A place ended to own a connection.
 fn gave(words: Words<'_>) -> Option<Rec>
-    ensures { result ≡ gave_of (left_of words.entry) }
+    ensures { result ≡ report_gave (left_of words.entry) }
 {
     let (place, c, epoch) = place_client_number(words, u64::from(u16::MAX))?;
     let epoch = Epoch(epoch as u16);
@@ -151,9 +151,9 @@ fn gave(words: Words<'_>) -> Option<Rec>
 }
 
 /// A choice of a node: a first one is read on as such, every other as a later one.
-#[tactic(auto, unfolding(crate::specs::Records::assigned_of, crate::specs::Parts::choice_then, lard_schedule::specs::Words::count_then))]
+#[tactic(auto, unfolding(crate::specs::Records::report_assigned, crate::specs::Parts::choice_then, lard_schedule::specs::Words::count_then))]
 fn assigned(alloc: Global, words: Words<'_>) -> Result<Rec, LineFault>
-    ensures { Judges result (assigned_of (left_of words.entry)) }
+    ensures { Judges result (report_assigned (left_of words.entry)) }
 {
     let (c, words) = client(words).ok_or(LineFault::Syntax)?;
     let (r, words) = number(words).ok_or(LineFault::Syntax)?;
@@ -189,9 +189,9 @@ fn assigned(alloc: Global, words: Words<'_>) -> Result<Rec, LineFault>
 }
 
 /// A response that was queued.
-#[tactic(auto, unfolding(crate::specs::Records::served_of, crate::specs::Parts::place_then))]
+#[tactic(auto, unfolding(crate::specs::Records::report_served, crate::specs::Parts::place_then))]
 fn served(words: Words<'_>) -> Option<Rec>
-    ensures { result ≡ served_of (left_of words.entry) }
+    ensures { result ≡ report_served (left_of words.entry) }
 {
     let (word, words) = next(words)?;
     let place = place_in(word)?;
@@ -210,9 +210,9 @@ fn served(words: Words<'_>) -> Option<Rec>
 }
 
 /// A path in a node's cache.
-#[tactic(auto, unfolding(crate::specs::Records::hit_of, crate::specs::Parts::node_then))]
+#[tactic(auto, unfolding(crate::specs::Records::report_hit, crate::specs::Parts::node_then))]
 fn hit(alloc: Global, words: Words<'_>) -> Result<Rec, LineFault>
-    ensures { Judges result (hit_of (left_of words.entry)) }
+    ensures { Judges result (report_hit (left_of words.entry)) }
 {
     let (word, words) = next(words).ok_or(LineFault::Syntax)?;
     let n = node_place_in(word).ok_or(LineFault::Syntax)?;
@@ -224,7 +224,7 @@ fn hit(alloc: Global, words: Words<'_>) -> Result<Rec, LineFault>
 
 /// A job that was queued.
 fn queued(alloc: Global, words: Words<'_>) -> Result<Rec, LineFault>
-    ensures { Judges result (queued_of (left_of words.entry)) }
+    ensures { Judges result (report_queued (left_of words.entry)) }
 {
     let DiskJob { n, m, c, r, path } = job(alloc, words)?;
     Ok(Rec::Queued { n, m, c, r, path })
@@ -232,7 +232,7 @@ fn queued(alloc: Global, words: Words<'_>) -> Result<Rec, LineFault>
 
 /// A job that was completed.
 fn read(alloc: Global, words: Words<'_>) -> Result<Rec, LineFault>
-    ensures { Judges result (read_of (left_of words.entry)) }
+    ensures { Judges result (report_read (left_of words.entry)) }
 {
     let DiskJob { n, m, c, r, path } = job(alloc, words)?;
     Ok(Rec::Read { n, m, c, r, path })
@@ -240,7 +240,7 @@ fn read(alloc: Global, words: Words<'_>) -> Result<Rec, LineFault>
 
 /// A timer that was armed.
 fn armed(words: Words<'_>) -> Option<Rec>
-    ensures { result ≡ armed_of (left_of words.entry) }
+    ensures { result ≡ report_armed (left_of words.entry) }
 {
     let (place, c, kind) = place_client_timer(words)?;
     Some(Rec::Armed { place, c, kind })
@@ -248,7 +248,7 @@ fn armed(words: Words<'_>) -> Option<Rec>
 
 /// A timer that was cleared.
 fn cleared(words: Words<'_>) -> Option<Rec>
-    ensures { result ≡ cleared_of (left_of words.entry) }
+    ensures { result ≡ report_cleared (left_of words.entry) }
 {
     let (place, c, kind) = place_client_timer(words)?;
     Some(Rec::Cleared { place, c, kind })
@@ -256,7 +256,7 @@ fn cleared(words: Words<'_>) -> Option<Rec>
 
 /// A reset at the stream limit.
 fn reset(words: Words<'_>) -> Option<Rec>
-    ensures { result ≡ reset_of (left_of words.entry) }
+    ensures { result ≡ report_reset (left_of words.entry) }
 {
     let (place, c, count) = place_client_number(words, u64::from(u32::MAX))?;
     let count = count as u32;
@@ -264,9 +264,9 @@ fn reset(words: Words<'_>) -> Option<Rec>
 }
 
 /// The new time.
-#[tactic(auto, unfolding(crate::specs::Records::clock_of))]
+#[tactic(auto, unfolding(crate::specs::Records::report_clock))]
 fn clock(words: Words<'_>) -> Option<Rec>
-    ensures { result ≡ clock_of (left_of words.entry) }
+    ensures { result ≡ report_clock (left_of words.entry) }
 {
     let (time, words) = number_to(words, u64::MAX)?;
     end(words)?;
@@ -275,7 +275,7 @@ fn clock(words: Words<'_>) -> Option<Rec>
 
 /// The end of a settle with something left.
 fn unsettled(words: Words<'_>) -> Option<Rec>
-    ensures { result ≡ unsettled_of (left_of words.entry) }
+    ensures { result ≡ report_unsettled (left_of words.entry) }
 {
     let (rounds, left) = two_numbers(words, u64::MAX)?;
     Some(Rec::Unsettled { rounds, left })

@@ -1,7 +1,7 @@
 //! The first words of records.
 
 ghost use Rattle.std.specs.Prelude.{◌≡◌};
-ghost use Rattle.lard_report.specs.Kinds.{kind_among, kind_name, kind_of};
+ghost use Rattle.lard_report.specs.Kinds.{kind_among, kind_name, record_kind};
 
 use lard_schedule::words::is;
 
@@ -111,7 +111,7 @@ impl Kind {
 
 /// The kind that this word is.
 pub fn kind_in(word: &[u8]) -> Option<Kind>
-    ensures { result ≡ kind_of word.now }
+    ensures { result ≡ record_kind word.now }
 {
     kind_among(&KINDS, word)
 }

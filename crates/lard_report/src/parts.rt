@@ -2,7 +2,7 @@
 
 ghost use Rattle.std.specs.Prelude.{◌≡◌, ◌≤◌, ◌-◌, IfSome};
 ghost use Rattle.lard_schedule.specs.Words.{Finds, Judges, left_of, seen_word};
-ghost use Rattle.lard_report.specs.Parts.{choice_alone, choice_of, client_and_bytes, far_via_of, job_of, node_at, node_place_of, packet_of, place_client_number, place_client_timer, request_of, request_path_then, response_of, timer_kind_of, two_numbers, via_of};
+ghost use Rattle.lard_report.specs.Parts.{choice_alone, choice_of, client_and_bytes, far_via_of, job_of, report_node_at, node_place_of, packet_words, place_client_number, place_client_timer, request_words, request_path_then, response_of, timer_kind_of, two_numbers, via_of};
 
 use lard_base::{Bytes, ConnId, NodeId, Path, Place, TimerKind, Via};
 use lard_schedule::LineFault;
@@ -24,7 +24,7 @@ pub struct DiskJob {
 
 /// The node of a place.
 fn node_at(place: Place) -> Option<NodeId>
-    ensures { result ≡ node_at place }
+    ensures { result ≡ report_node_at place }
 {
     match place {
         Place::Front => None,
@@ -176,9 +176,9 @@ pub fn place_client_timer(words: Words<'_>) -> Option<(Place, ConnId, TimerKind)
 }
 
 /// The places that a packet goes from and to, and its bytes, and nothing more.
-#[tactic(auto, unfolding(crate::specs::Parts::packet_of, crate::specs::Parts::place_then))]
+#[tactic(auto, unfolding(crate::specs::Parts::packet_words, crate::specs::Parts::place_then))]
 pub fn packet(alloc: Global, words: Words<'_>) -> Result<(Place, Place, Shared), LineFault>
-    ensures { Judges result (packet_of (left_of words.entry)) }
+    ensures { Judges result (packet_words (left_of words.entry)) }
 {
     let (word, words) = next(words).ok_or(LineFault::Syntax)?;
     let from = place_in(word).ok_or(LineFault::Syntax)?;
@@ -192,9 +192,9 @@ pub fn packet(alloc: Global, words: Words<'_>) -> Result<(Place, Place, Shared),
 }
 
 /// A connection, the number of a request, and its path, and nothing more.
-#[tactic(auto, unfolding(crate::specs::Parts::request_of))]
+#[tactic(auto, unfolding(crate::specs::Parts::request_words))]
 fn request(alloc: Global, words: Words<'_>) -> Result<(ConnId, u32, Path), LineFault>
-    ensures { Judges result (request_of (left_of words.entry)) }
+    ensures { Judges result (request_words (left_of words.entry)) }
 {
     let (c, words) = client(words).ok_or(LineFault::Syntax)?;
     let (r, words) = number(words).ok_or(LineFault::Syntax)?;

@@ -1,8 +1,8 @@
 //! The lines of a report that stand before those of the records.
 
 ghost use Rattle.std.specs.Prelude.{◌≡◌};
-ghost use Rattle.lard_schedule.specs.Words.{Finds, Judges, left_of, seen};
-ghost use Rattle.lard_report.specs.Preface.{behind_word, costs_then, file_of, heading_of, limits_then, policy_then, setting_then};
+ghost use Rattle.lard_schedule.specs.Words.{Finds, Judges, left_of, words_seen};
+ghost use Rattle.lard_report.specs.Preface.{behind_word, costs_then, file_line_of, heading_of, limits_then, policy_then, setting_then};
 
 use lard_base::Path;
 use lard_schedule::LineFault;
@@ -53,7 +53,7 @@ pub fn read_heading(line: &[u8]) -> Option<Heading>
 /// The number of nodes, and the thresholds of the policy.
 #[tactic(auto, unfolding(crate::specs::Preface::policy_then))]
 fn policy(words: Words<'_>) -> Option<((u64, u64, u64, u64), Words<'_>)>
-    ensures { Finds seen result (policy_then (left_of words.entry)) }
+    ensures { Finds words_seen result (policy_then (left_of words.entry)) }
 {
     let (nodes, words) = setting(words, "nodes")?;
     let (low, words) = setting(words, "low")?;
@@ -65,7 +65,7 @@ fn policy(words: Words<'_>) -> Option<((u64, u64, u64, u64), Words<'_>)>
 /// The costs of a later request.
 #[tactic(auto, unfolding(crate::specs::Preface::costs_then))]
 fn costs(words: Words<'_>) -> Option<((u64, u64, u64), Words<'_>)>
-    ensures { Finds seen result (costs_then (left_of words.entry)) }
+    ensures { Finds words_seen result (costs_then (left_of words.entry)) }
 {
     let (idle, words) = setting(words, "idle")?;
     let (over, words) = setting(words, "over")?;
@@ -76,7 +76,7 @@ fn costs(words: Words<'_>) -> Option<((u64, u64, u64), Words<'_>)>
 /// The room of a cache, and the stream limit.
 #[tactic(auto, unfolding(crate::specs::Preface::limits_then))]
 fn limits(words: Words<'_>) -> Option<((u64, u64), Words<'_>)>
-    ensures { Finds seen result (limits_then (left_of words.entry)) }
+    ensures { Finds words_seen result (limits_then (left_of words.entry)) }
 {
     let (cache, words) = setting(words, "cache")?;
     let (stream, words) = setting(words, "stream")?;
@@ -85,9 +85,9 @@ fn limits(words: Words<'_>) -> Option<((u64, u64), Words<'_>)>
 
 /// The path and the length in bytes of the file whose line this is, the line given without its line feed; the path has no `?`.
 /// `Syntax` comes exactly where it is no line of a file, `NoMemory` where memory runs out.
-#[tactic(auto, unfolding(crate::specs::Preface::file_of))]
+#[tactic(auto, unfolding(crate::specs::Preface::file_line_of))]
 pub fn read_file(alloc: Global, line: &[u8]) -> Result<(Path, u64), LineFault>
-    ensures { Judges result (file_of line.now) }
+    ensures { Judges result (file_line_of line.now) }
 {
     let words = behind(words_of(line), "file").ok_or(LineFault::Syntax)?;
     let (text, words) = path_next(words).ok_or(LineFault::Syntax)?;
@@ -112,7 +112,7 @@ fn behind<'a>(words: Words<'a>, text: &str) -> Option<Words<'a>>
 /// A key and its number, which is below 2^64.
 #[tactic(auto, unfolding(crate::specs::Preface::setting_then))]
 fn setting<'a>(words: Words<'a>, key: &str) -> Option<(u64, Words<'a>)>
-    ensures { Finds seen result (setting_then key.now (left_of words.entry)) }
+    ensures { Finds words_seen result (setting_then key.now (left_of words.entry)) }
 {
     let rest = behind(words, key)?;
     number_to(rest, u64::MAX)

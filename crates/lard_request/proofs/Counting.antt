@@ -5,7 +5,7 @@ use Rattle.std.proofs.lemmas.Bool.{eqb-true, false≢true}
 use Rattle.httparse.specs.Grammar.{LineEnd, crlf, lf, print_end, print_blank, print_version, Field, print_field, print_section, RequestHead, print_request}
 use Rattle.httparse.proofs.GrammarLemmas.{print_request-append}
 use Rattle.lard_request.specs.Head.{head_of}
-use Rattle.lard_request.specs.Verdict.{pairs, has_bare_feed}
+use Rattle.lard_request.specs.Verdict.{pairs_in, has_bare_feed}
 use Rattle.lard_request.proofs.Feeds.{pair_here, pairs-cons}
 use Rattle.lard_request.proofs.Reading.{head-sound}
 
@@ -65,30 +65,30 @@ feeds-head h =
 
 -- ---- line feeds and pairs
 
-pairs-tail : (b : ℕ) (rest : List ℕ) → pairs rest ≤ pairs (b ∷ rest)
+pairs-tail : (b : ℕ) (rest : List ℕ) → pairs_in rest ≤ pairs_in (b ∷ rest)
 pairs-tail b rest = omega (arith, pairs-cons b rest)
 
 -- behind a CR a first LF is the end of a pair
-feeds-pairs : (bs : List ℕ) → (has_bare_feed false bs ≡ false → feeds bs ≤ pairs bs) × (has_bare_feed true bs ≡ false → feeds bs ≤ pairs (13 ∷ bs))
-unfolding feeds has_bare_feed pairs
+feeds-pairs : (bs : List ℕ) → (has_bare_feed false bs ≡ false → feeds bs ≤ pairs_in bs) × (has_bare_feed true bs ≡ false → feeds bs ≤ pairs_in (13 ∷ bs))
+unfolding feeds has_bare_feed pairs_in
 feeds-pairs [] = ((λ e. omega arith), (λ e. omega arith))
 feeds-pairs (b ∷ rest) = go (feeds-pairs rest) (nat_eq b 13) refl (nat_eq b 10) refl where
-  go : (has_bare_feed false rest ≡ false → feeds rest ≤ pairs rest) × (has_bare_feed true rest ≡ false → feeds rest ≤ pairs (13 ∷ rest))
+  go : (has_bare_feed false rest ≡ false → feeds rest ≤ pairs_in rest) × (has_bare_feed true rest ≡ false → feeds rest ≤ pairs_in (13 ∷ rest))
       → (t : Bool) → nat_eq b 13 ≡ t → (s : Bool) → nat_eq b 10 ≡ s
-      → (((s && not false) || has_bare_feed t rest) ≡ false → cond s 1 0 + feeds rest ≤ pairs (b ∷ rest))
-      × (((s && not true) || has_bare_feed t rest) ≡ false → cond s 1 0 + feeds rest ≤ pairs (13 ∷ b ∷ rest))
+      → (((s && not false) || has_bare_feed t rest) ≡ false → cond s 1 0 + feeds rest ≤ pairs_in (b ∷ rest))
+      × (((s && not true) || has_bare_feed t rest) ≡ false → cond s 1 0 + feeds rest ≤ pairs_in (13 ∷ b ∷ rest))
   go ih true is_return true is_feed = absurd (omega (arith, eqb-true b 13 is_return, eqb-true b 10 is_feed))
   go ih true is_return false e =
-      let same : pairs (13 ∷ rest) ≡ pairs (b ∷ rest) = ap (λ v. pairs (v ∷ rest)) (sym (eqb-true b 13 is_return)) in
+      let same : pairs_in (13 ∷ rest) ≡ pairs_in (b ∷ rest) = ap (λ v. pairs_in (v ∷ rest)) (sym (eqb-true b 13 is_return)) in
       ((λ h. omega (arith, ih.1 h, same)), (λ h. omega (arith, ih.1 h, same, pairs-tail 13 (b ∷ rest))))
   go ih false e true is_feed =
       let hit : pair_here (13 ∷ b ∷ rest) ≡ true = ap (λ v. pair_here (13 ∷ v ∷ rest)) (eqb-true b 10 is_feed) in
-      let count : pairs (13 ∷ b ∷ rest) ≡ 1 + pairs (b ∷ rest) = pairs-cons 13 (b ∷ rest) ∙ ap (λ t. cond t 1 0 + pairs (b ∷ rest)) hit in
+      let count : pairs_in (13 ∷ b ∷ rest) ≡ 1 + pairs_in (b ∷ rest) = pairs-cons 13 (b ∷ rest) ∙ ap (λ t. cond t 1 0 + pairs_in (b ∷ rest)) hit in
       ((λ h. absurd (false≢true (sym h))), (λ h. omega (arith, ih.0 h, count, pairs-tail b rest)))
   go ih false e false f = ((λ h. omega (arith, ih.0 h, pairs-tail b rest)), (λ h. omega (arith, ih.0 h, pairs-tail b rest, pairs-tail 13 (b ∷ rest))))
 
 -- no more fields than pairs
-pub few_fields : (block : List ℕ) (h : RequestHead) → head_of block ≡ Some h → has_bare_feed false block ≡ false → length h.fields ≤ pairs block
+pub few_fields : (block : List ℕ) (h : RequestHead) → head_of block ≡ Some h → has_bare_feed false block ≡ false → length h.fields ≤ pairs_in block
 few_fields block h e fine =
     let same : feeds block ≡ feeds (print_request h ++ []) = ap feeds (head-sound block h e).1 in
     omega (arith, same, feeds-head h, (feeds-pairs block).0 fine)

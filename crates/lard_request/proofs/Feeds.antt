@@ -4,7 +4,7 @@ use Rattle.std.proofs.Math.ListN.{drop_of_length-le}
 use Rattle.std.proofs.lemmas.List.{length-drop}
 use Rattle.std.proofs.lemmas.Bool.{ne_eqb}
 use Rattle.std.specs.List.{starts_with}
-use Rattle.lard_request.specs.Verdict.{pairs, has_bare_feed}
+use Rattle.lard_request.specs.Verdict.{pairs_in, has_bare_feed}
 
 -- bytes begin with a pair
 abbrev pub pair_here : List ℕ → Bool
@@ -19,26 +19,26 @@ from_here bs at inside = let next : suc at ≡ at + 1 = omega arith in drop-cons
 
 -- ---- pairs
 
-pub pairs-cons : (b : ℕ) (rest : List ℕ) → pairs (b ∷ rest) ≡ cond (pair_here (b ∷ rest)) 1 0 + pairs rest
-unfolding pairs
+pub pairs-cons : (b : ℕ) (rest : List ℕ) → pairs_in (b ∷ rest) ≡ cond (pair_here (b ∷ rest)) 1 0 + pairs_in rest
+unfolding pairs_in
 pairs-cons b rest = refl
 
-pub pairs-none : (bs : List ℕ) (at : ℕ) → length bs ≤ at → pairs (drop at bs) ≡ 0
-unfolding pairs
-pairs-none bs at over = ap pairs (drop_of_length-le bs over)
+pub pairs-none : (bs : List ℕ) (at : ℕ) → length bs ≤ at → pairs_in (drop at bs) ≡ 0
+unfolding pairs_in
+pairs-none bs at over = ap pairs_in (drop_of_length-le bs over)
 
-pairs-from : (bs : List ℕ) (at : ℕ) (here : Bool) → at < length bs → here ≡ pair_here (take (length bs - at) (drop at bs)) → pairs (drop at bs) ≡ cond here 1 0 + pairs (drop (at + 1) bs)
+pairs-from : (bs : List ℕ) (at : ℕ) (here : Bool) → at < length bs → here ≡ pair_here (take (length bs - at) (drop at bs)) → pairs_in (drop at bs) ≡ cond here 1 0 + pairs_in (drop (at + 1) bs)
 pairs-from bs at here inside test =
     let same : pair_here (get_or bs at 0 ∷ drop (at + 1) bs) ≡ here = sym (ap pair_here (from_here bs at inside)) ∙ sym (test ∙ ap pair_here (behind bs at)) in
-    ap pairs (from_here bs at inside) ∙ pairs-cons (get_or bs at 0) (drop (at + 1) bs) ∙ ap (λ t. cond t 1 0 + pairs (drop (at + 1) bs)) same
+    ap pairs_in (from_here bs at inside) ∙ pairs-cons (get_or bs at 0) (drop (at + 1) bs) ∙ ap (λ t. cond t 1 0 + pairs_in (drop (at + 1) bs)) same
 
-pub count-hit : (bs : List ℕ) (at count after : ℕ) → at < length bs → (count ≤ at) × (count + pairs (drop at bs) ≡ pairs bs)
-    → true ≡ pair_here (take (length bs - at) (drop at bs)) → after ≡ count + 1 → (after ≤ at + 1) × (after + pairs (drop (at + 1) bs) ≡ pairs bs)
-count-hit bs at count after inside so_far test next = let from : pairs (drop at bs) ≡ 1 + pairs (drop (at + 1) bs) = pairs-from bs at true inside test in (omega arith, omega arith)
+pub count-hit : (bs : List ℕ) (at count after : ℕ) → at < length bs → (count ≤ at) × (count + pairs_in (drop at bs) ≡ pairs_in bs)
+    → true ≡ pair_here (take (length bs - at) (drop at bs)) → after ≡ count + 1 → (after ≤ at + 1) × (after + pairs_in (drop (at + 1) bs) ≡ pairs_in bs)
+count-hit bs at count after inside so_far test next = let from : pairs_in (drop at bs) ≡ 1 + pairs_in (drop (at + 1) bs) = pairs-from bs at true inside test in (omega arith, omega arith)
 
-pub count-miss : (bs : List ℕ) (at count after : ℕ) → at < length bs → (count ≤ at) × (count + pairs (drop at bs) ≡ pairs bs)
-    → false ≡ pair_here (take (length bs - at) (drop at bs)) → after ≡ count → (after ≤ at + 1) × (after + pairs (drop (at + 1) bs) ≡ pairs bs)
-count-miss bs at count after inside so_far test next = let from : pairs (drop at bs) ≡ 0 + pairs (drop (at + 1) bs) = pairs-from bs at false inside test in (omega arith, omega arith)
+pub count-miss : (bs : List ℕ) (at count after : ℕ) → at < length bs → (count ≤ at) × (count + pairs_in (drop at bs) ≡ pairs_in bs)
+    → false ≡ pair_here (take (length bs - at) (drop at bs)) → after ≡ count → (after ≤ at + 1) × (after + pairs_in (drop (at + 1) bs) ≡ pairs_in bs)
+count-miss bs at count after inside so_far test next = let from : pairs_in (drop at bs) ≡ 0 + pairs_in (drop (at + 1) bs) = pairs-from bs at false inside test in (omega arith, omega arith)
 
 -- ---- bare line feeds
 

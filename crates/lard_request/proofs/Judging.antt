@@ -15,8 +15,8 @@ use Rattle.lard_request.specs.declared.verdict.Verdict.{Verdict}
 use Rattle.lard_request.specs.declared.verdict.Verdict.TheVariants.{Fault}
 use Rattle.lard_request.specs.Fields.{values, good_hosts, has_good_host, told_content, has_content, lists_close, says_close}
 use Rattle.lard_request.specs.Head.{head_of}
-use Rattle.lard_request.specs.Kept.{named, Keeps}
-use Rattle.lard_request.specs.Verdict.{pairs, has_bare_feed, asked, head_verdict, verdict_of, verdict}
+use Rattle.lard_request.specs.Kept.{values_named, Keeps}
+use Rattle.lard_request.specs.Verdict.{pairs_in, has_bare_feed, asked, head_verdict, verdict_of, verdict}
 use Rattle.lard_request.proofs.Keeping.{named-values}
 
 -- ---- what the map says is what the fields say
@@ -24,7 +24,7 @@ use Rattle.lard_request.proofs.Keeping.{named-values}
 module _ (m : Entries (List ℕ)) (block : List ℕ) (spans : List HeaderSpan) (parts : RequestSpans) (h : RequestHead)
     (keeps : Keeps m (map (header_bytes block) (take parts.headers spans))) (at : IsRequestAt block spans parts h) where
   kept-values : (name : List ℕ) → IsHeaderName name → get_all m name ≡ values name h.fields
-  kept-values name lower = keeps name lower ∙ ap (named name) at.fields ∙ named-values name h.fields
+  kept-values name lower = keeps name lower ∙ ap (values_named name) at.fields ∙ named-values name h.fields
 
   pub host-told : good_hosts parts.version (get_all m (codes "host")) ≡ has_good_host h.minor h.fields
   unfolding has_good_host
@@ -73,20 +73,20 @@ verdict-asked h good content =
 tested : Bool → Bool → Verdict → Verdict
 tested many bare then_ = cond {A = Verdict} many (Fault code.FieldsTooLarge) (cond {A = Verdict} bare (Fault code.BadRequest) then_)
 
-verdict-is : (b : List ℕ) → verdict b ≡ tested (nat_lt 66 (pairs b)) (has_bare_feed false b) (verdict_of (head_of b))
+verdict-is : (b : List ℕ) → verdict b ≡ tested (nat_lt 66 (pairs_in b)) (has_bare_feed false b) (verdict_of (head_of b))
 unfolding verdict tested
 verdict-is b = refl
 
-pub verdict-many : (b : List ℕ) → nat_lt 66 (pairs b) ≡ true → Fault code.FieldsTooLarge ≡ verdict b
+pub verdict-many : (b : List ℕ) → nat_lt 66 (pairs_in b) ≡ true → Fault code.FieldsTooLarge ≡ verdict b
 unfolding tested
 verdict-many b many = sym (verdict-is b ∙ ap (λ t. tested t (has_bare_feed false b) (verdict_of (head_of b))) many)
 
-pub verdict-bare : (b : List ℕ) → nat_lt 66 (pairs b) ≡ false → has_bare_feed false b ≡ true → Fault code.BadRequest ≡ verdict b
+pub verdict-bare : (b : List ℕ) → nat_lt 66 (pairs_in b) ≡ false → has_bare_feed false b ≡ true → Fault code.BadRequest ≡ verdict b
 unfolding tested
 verdict-bare b few bare = sym (verdict-is b ∙ ap (λ t. tested t (has_bare_feed false b) (verdict_of (head_of b))) few ∙ ap (λ t. tested false t (verdict_of (head_of b))) bare)
 
 -- what the bytes are read as decides
-pub verdict-read : (b : List ℕ) (o : Option RequestHead) → nat_lt 66 (pairs b) ≡ false → has_bare_feed false b ≡ false → head_of b ≡ o → verdict_of o ≡ verdict b
+pub verdict-read : (b : List ℕ) (o : Option RequestHead) → nat_lt 66 (pairs_in b) ≡ false → has_bare_feed false b ≡ false → head_of b ≡ o → verdict_of o ≡ verdict b
 unfolding tested
 verdict-read b o few fine is =
     sym (verdict-is b ∙ ap (λ t. tested t (has_bare_feed false b) (verdict_of (head_of b))) few ∙ ap (λ t. tested false t (verdict_of (head_of b))) fine ∙ ap verdict_of is)

@@ -17,7 +17,7 @@ use Rattle.http_header.specs.HeaderMap.{Entry, Entries, get_all, append, value_c
 use Rattle.http_header.proofs.TokenLemmas.{IsFieldName-from_lowercase}
 use Rattle.http_header.proofs.HeaderMapLemmas.{get_all-append_same, get_all-append_other}
 use Rattle.lard_request.specs.Fields.{is_named, values}
-use Rattle.lard_request.specs.Kept.{named, Keeps, KeepsMore, GrowsByOne}
+use Rattle.lard_request.specs.Kept.{values_named, Keeps, KeepsMore, GrowsByOne}
 
 -- ---- values by name
 
@@ -25,27 +25,27 @@ use Rattle.lard_request.specs.Kept.{named, Keeps, KeepsMore, GrowsByOne}
 test-named : (field name : List ℕ) → IsHeaderName name → str_eq_ignore_ascii_case field name ≡ bytes_eq (lowercase field) name
 test-named field name lower = ap (bytes_eq (lowercase field)) lower.1
 
-named-hit : (name field value : List ℕ) → str_eq_ignore_ascii_case field name ≡ true → named name ((field, value) ∷ []) ≡ value ∷ []
-unfolding named
+named-hit : (name field value : List ℕ) → str_eq_ignore_ascii_case field name ≡ true → values_named name ((field, value) ∷ []) ≡ value ∷ []
+unfolding values_named
 named-hit name field value hit = ap (λ t. map (λ (f : List ℕ × List ℕ). f.1) (cond t ((field, value) ∷ []) [])) hit
 
-named-miss : (name field value : List ℕ) → str_eq_ignore_ascii_case field name ≡ false → named name ((field, value) ∷ []) ≡ []
-unfolding named
+named-miss : (name field value : List ℕ) → str_eq_ignore_ascii_case field name ≡ false → values_named name ((field, value) ∷ []) ≡ []
+unfolding values_named
 named-miss name field value miss = ap (λ t. map (λ (f : List ℕ × List ℕ). f.1) (cond t ((field, value) ∷ []) [])) miss
 
 -- the values of more fields stand behind those of the first
-pub named-append : (name : List ℕ) (first more : List (List ℕ × List ℕ)) → named name (first ++ more) ≡ named name first ++ named name more
-unfolding named
+pub named-append : (name : List ℕ) (first more : List (List ℕ × List ℕ)) → values_named name (first ++ more) ≡ values_named name first ++ values_named name more
+unfolding values_named
 named-append name first more =
     let has_name = λ (f : List ℕ × List ℕ). str_eq_ignore_ascii_case f.0 name in
     ap (map (λ (f : List ℕ × List ℕ). f.1)) (filter-append has_name first more) ∙ map-append (λ (f : List ℕ × List ℕ). f.1) (filter has_name first) (filter has_name more)
 
 -- the fields of a head, as names and values
-pub named-values : (name : List ℕ) (fields : List Field) → named name (map name_and_value fields) ≡ values name fields
-unfolding named values
+pub named-values : (name : List ℕ) (fields : List Field) → values_named name (map name_and_value fields) ≡ values name fields
+unfolding values_named values
 named-values name [] = refl
 named-values name (f ∷ fields) = go (is_named name f) (named-values name fields) where
-  go : (t : Bool) → named name (map name_and_value fields) ≡ values name fields
+  go : (t : Bool) → values_named name (map name_and_value fields) ≡ values name fields
       → map (λ (f : List ℕ × List ℕ). f.1) (cond t ((f.name, field_value f) ∷ filter (λ (f : List ℕ × List ℕ). str_eq_ignore_ascii_case f.0 name) (map name_and_value fields)) (filter (λ (f : List ℕ × List ℕ). str_eq_ignore_ascii_case f.0 name) (map name_and_value fields)))
       ≡ map field_value (cond t (f ∷ filter (is_named name) fields) (filter (is_named name) fields))
   go true ih = ap (λ l. field_value f ∷ l) ih
@@ -57,10 +57,10 @@ named-values name (f ∷ fields) = go (is_named name f) (named-values name field
 pub keeps-appended : (old new : Entries (List ℕ)) (field value : List ℕ) → new ≡ append old (lowercase field) value → KeepsMore old new field value
 keeps-appended old new field value is = λ name lower. ap (λ (m : Entries (List ℕ)). get_all m name) is ∙ go name lower (bytes_eq (lowercase field) name) refl where
   go : (name : List ℕ) → IsHeaderName name → (t : Bool) → bytes_eq (lowercase field) name ≡ t
-      → get_all (append old (lowercase field) value) name ≡ get_all old name ++ named name ((field, value) ∷ [])
+      → get_all (append old (lowercase field) value) name ≡ get_all old name ++ values_named name ((field, value) ∷ [])
   go name lower true e =
       let same : lowercase field ≡ name = (bytes_eq-Decides (lowercase field) name).0 e in
-      subst (λ (n : List ℕ). get_all (append old n value) name ≡ get_all old name ++ named name ((field, value) ∷ [])) (sym same)
+      subst (λ (n : List ℕ). get_all (append old n value) name ≡ get_all old name ++ values_named name ((field, value) ∷ [])) (sym same)
       (get_all-append_same old name value ∙ ap (λ l. get_all old name ++ l) (sym (named-hit name field value (test-named field name lower ∙ e))))
   go name lower false e =
       get_all-append_other old (lowercase field) name value (λ k. false≢true (sym e ∙ (bytes_eq-Decides (lowercase field) name).1 k))
@@ -69,14 +69,14 @@ keeps-appended old new field value is = λ name lower. ap (λ (m : Entries (List
 -- a name that no map takes is none that is asked for
 pub keeps-none : (old : Entries (List ℕ)) (field value : List ℕ) → (IsFieldName field → ⊥) → KeepsMore old old field value
 keeps-none old field value never = λ name lower. go name lower (bytes_eq (lowercase field) name) refl where
-  go : (name : List ℕ) → IsHeaderName name → (t : Bool) → bytes_eq (lowercase field) name ≡ t → get_all old name ≡ get_all old name ++ named name ((field, value) ∷ [])
+  go : (name : List ℕ) → IsHeaderName name → (t : Bool) → bytes_eq (lowercase field) name ≡ t → get_all old name ≡ get_all old name ++ values_named name ((field, value) ∷ [])
   go name lower true e = absurd (never (IsFieldName-from_lowercase field (subst IsFieldName (sym ((bytes_eq-Decides (lowercase field) name).0 e)) lower.0)))
   go name lower false e = sym (append-nil (get_all old name)) ∙ ap (λ l. get_all old name ++ l) (sym (named-miss name field value (test-named field name lower ∙ e)))
 
 -- ---- all fields of a slice
 
 pub keeps-nothing : (m : Entries (List ℕ)) → m ≡ [] → Keeps m []
-unfolding named
+unfolding values_named
 keeps-nothing m empty = λ name lower. ap (λ (m : Entries (List ℕ)). get_all m name) empty
 
 pub keeps-next : (old new : Entries (List ℕ)) (block : List ℕ) (spans : List HeaderSpan) (at : ℕ) (d : HeaderSpan) → at < length spans
@@ -89,10 +89,10 @@ keeps-next old new block spans at d inside so_far field value is_field is_value 
     ap (λ k. map (header_bytes block) (take k spans)) next ∙ ap (map (header_bytes block)) (take-suc spans at d inside)
     ∙ map-append (header_bytes block) (take at spans) (get_or spans at d ∷ []) in
     more name lower
-    ∙ ap (λ (f : List ℕ × List ℕ). get_all old name ++ named name (f ∷ [])) (λ i. (is_field i, is_value i))
-    ∙ ap (λ l. l ++ named name (header_bytes block (get_or spans at d) ∷ [])) (so_far name lower)
+    ∙ ap (λ (f : List ℕ × List ℕ). get_all old name ++ values_named name (f ∷ [])) (λ i. (is_field i, is_value i))
+    ∙ ap (λ l. l ++ values_named name (header_bytes block (get_or spans at d) ∷ [])) (so_far name lower)
     ∙ sym (named-append name (map (header_bytes block) (take at spans)) (header_bytes block (get_or spans at d) ∷ []))
-    ∙ ap (named name) (sym all)
+    ∙ ap (values_named name) (sym all)
 
 -- ---- room
 

@@ -7,35 +7,35 @@ use Rattle.httparse.specs.Grammar.{is_token_byte, is_uri_byte, AllPass, LineEnd,
 use Rattle.httparse.specs.Pieces.{Stops, is_newline, Word, Newline, Version, Section}
 use Rattle.httparse.proofs.PieceLemmas.{space_ends_token, Stops_token}
 use Rattle.httparse.proofs.GrammarLemmas.{print_request-append}
-use Rattle.lard_request.specs.Head.{Read, word, newline, one_more, blank_from, blank, text_only, version, section, head_parts, alone, head_of}
+use Rattle.lard_request.specs.Head.{Read, word, newline, one_more, blank_from, blank_lines, text_only, version, section, head_parts, alone, head_of}
 use Rattle.lard_request.proofs.Words.{bound, bind, same_parts, word-sound, word-complete, newline-sound, newline-complete, newline-none, version-sound, version-complete}
 use Rattle.lard_request.proofs.Sections.{section-sound, section-complete, end_some}
 
 -- ---- the empty lines before the request line
 
-blank-sound : (n : ℕ) (text : List ℕ) → text ≡ print_blank (blank n text).0 ++ (blank n text).1
-unfolding blank
+blank-sound : (n : ℕ) (text : List ℕ) → text ≡ print_blank (blank_lines n text).0 ++ (blank_lines n text).1
+unfolding blank_lines
 blank-sound zero text = refl
 blank-sound (suc n) text = go (blank-sound n) (newline text) refl where
-  go : ((text : List ℕ) → text ≡ print_blank (blank n text).0 ++ (blank n text).1) → (end : Read LineEnd) → newline text ≡ end
-      → text ≡ print_blank (blank_from text (blank n) end).0 ++ (blank_from text (blank n) end).1
+  go : ((text : List ℕ) → text ≡ print_blank (blank_lines n text).0 ++ (blank_lines n text).1) → (end : Read LineEnd) → newline text ≡ end
+      → text ≡ print_blank (blank_from text (blank_lines n) end).0 ++ (blank_from text (blank_lines n) end).1
   go ih None e = refl
   go ih (Some x) e =
       newline-sound text x.0 x.1 e
       ∙ ap (λ v. print_end x.0 ++ v) (ih x.1)
-      ∙ sym (append_assoc (print_end x.0) (print_blank (blank n x.1).0) (blank n x.1).1)
+      ∙ sym (append_assoc (print_end x.0) (print_blank (blank_lines n x.1).0) (blank_lines n x.1).1)
 
 blank-complete : (n : ℕ) (ends : List LineEnd) (text rest : List ℕ) → length text ≤ n → text ≡ print_blank ends ++ rest → Stops is_newline rest
-    → blank n text ≡ (ends, rest)
-unfolding blank
+    → blank_lines n text ≡ (ends, rest)
+unfolding blank_lines
 blank-complete zero [] text rest short e stops = ap (λ (v : List ℕ). ([], v)) e
-blank-complete (suc n) [] text rest short e stops = ap (blank_from text (blank n)) (newline-none text (subst (Stops is_newline) (sym e) stops)) ∙ ap (λ (v : List ℕ). ([], v)) e
+blank-complete (suc n) [] text rest short e stops = ap (blank_from text (blank_lines n)) (newline-none text (subst (Stops is_newline) (sym e) stops)) ∙ ap (λ (v : List ℕ). ([], v)) e
 blank-complete zero (x ∷ ends) text rest short e stops =
     absurd (let l : length text ≡ length (print_end x ++ (print_blank ends ++ rest)) = ap length (e ∙ append_assoc (print_end x) (print_blank ends) rest) in omega (arith, l, end_some x (print_blank ends ++ rest)))
 blank-complete (suc n) (x ∷ ends) text rest short e stops =
     let parts : text ≡ print_end x ++ (print_blank ends ++ rest) = e ∙ append_assoc (print_end x) (print_blank ends) rest in
     let l : length text ≡ length (print_end x ++ (print_blank ends ++ rest)) = ap length parts in
-    ap (blank_from text (blank n)) (newline-complete text x (print_blank ends ++ rest) parts)
+    ap (blank_from text (blank_lines n)) (newline-complete text x (print_blank ends ++ rest) parts)
     ∙ ap (one_more x) (blank-complete n ends (print_blank ends ++ rest) rest (omega (arith, l, end_some x (print_blank ends ++ rest))) refl stops)
 
 -- ---- the target
@@ -122,8 +122,8 @@ alone-is (Some (head, b ∷ rest)) h e = cc
 pub head-sound : (b : List ℕ) (h : RequestHead) → head_of b ≡ Some h → ReadsRequest b h []
 unfolding head_of
 head-sound b h e =
-    let lines = (blank (length b) b).0 in
-    let text = (blank (length b) b).1 in
+    let lines = (blank_lines (length b) b).0 in
+    let text = (blank_lines (length b) b).1 in
     let spells = parts-sound lines text h [] (alone-is (head_parts lines text) h e) in
     let parts = h.method ++ 32 ∷ (h.target ++ 32 ∷ (print_version h.minor ++ (print_end h.line_end ++ (print_section h.fields h.last ++ [])))) in (
       spells.valid,
@@ -135,6 +135,6 @@ pub head-complete : (b : List ℕ) (h : RequestHead) → ReadsRequest b h [] →
 unfolding head_of
 head-complete b h x =
     let text = h.method ++ 32 ∷ (h.target ++ 32 ∷ (print_version h.minor ++ (print_end h.line_end ++ (print_section h.fields h.last ++ [])))) in
-    let lines : blank (length b) b ≡ (h.blank, text) =
+    let lines : blank_lines (length b) b ≡ (h.blank, text) =
     blank-complete (length b) h.blank b text (omega arith) (x.1 ∙ print_request-append h []) (Stops_token h.method _ x.0.method.0 x.0.method.1) in
     ap (λ (v : List LineEnd × List ℕ). alone (head_parts v.0 v.1)) lines ∙ ap alone (parts-complete h text [] x.0 refl)

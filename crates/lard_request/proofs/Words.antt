@@ -8,7 +8,7 @@ use Rattle.std.specs.List.{starts_with}
 use lib.Pointwise.{pointwise}
 use Rattle.httparse.specs.Grammar.{AllPass, LineEnd, crlf, lf, print_end, print_version}
 use Rattle.httparse.specs.Pieces.{Stops, is_newline, Word, Newline, Version}
-use Rattle.lard_request.specs.Head.{Read, and_then, run, stopped, ended, word, newline, version}
+use Rattle.lard_request.specs.Head.{Read, and_then, run, stopped, ended_word, word, newline, version}
 
 -- ---- one reading after another
 
@@ -65,7 +65,7 @@ stopped-at stop f (b ∷ g) w rest e = go (nat_eq b stop) refl e where
       let byte : b ≡ stop = eqb-true b stop s in (same.0, cc)
   go false s h = cc
 
-ended-at : (stop : ℕ) (found : List ℕ × List ℕ) (w rest : List ℕ) → ended stop found ≡ Some (w, rest) → (0 < length found.0) × (found.0 ≡ w) × (found.1 ≡ stop ∷ rest)
+ended-at : (stop : ℕ) (found : List ℕ × List ℕ) (w rest : List ℕ) → ended_word stop found ≡ Some (w, rest) → (0 < length found.0) × (found.0 ≡ w) × (found.1 ≡ stop ∷ rest)
 ended-at stop found w rest e = go (nat_lt 0 (length found.0)) refl e where
   go : (t : Bool) → nat_lt 0 (length found.0) ≡ t → cond {A = Read (List ℕ)} t (stopped stop found.0 found.1) None ≡ Some (w, rest)
       → (0 < length found.0) × (found.0 ≡ w) × (found.1 ≡ stop ∷ rest)
@@ -79,7 +79,7 @@ word-sound test stop text w rest e =
     let parts : AllPass test (run test text).0 × (text ≡ (run test text).0 ++ (run test text).1) = run-parts test text in
     (subst (λ (v : List ℕ). 0 < length v) at.1 at.0, subst (λ (v : List ℕ). AllPass test v) at.1 parts.0, cc)
 
-ended-more : (stop : ℕ) (w rest : List ℕ) → 0 < length w → ended stop (w, stop ∷ rest) ≡ Some (w, rest)
+ended-more : (stop : ℕ) (w rest : List ℕ) → 0 < length w → ended_word stop (w, stop ∷ rest) ≡ Some (w, rest)
 ended-more stop w rest some =
     let t : nat_lt 0 (length w) ≡ true = grind (arith, nat_tests) in
     let s : nat_eq stop stop ≡ true = grind (arith, nat_tests) in
@@ -87,7 +87,7 @@ ended-more stop w rest some =
 
 pub word-complete : (test : ℕ → Bool) (stop : ℕ) (text w rest : List ℕ) → test stop ≡ false → Word test stop w text rest → word test stop text ≡ Some (w, rest)
 unfolding word
-word-complete test stop text w rest fails x = ap (λ v. ended stop (run test v)) x.2 ∙ ap (ended stop) (run-stops test w (stop ∷ rest) x.1 fails) ∙ ended-more stop w rest x.0
+word-complete test stop text w rest fails x = ap (λ v. ended_word stop (run test v)) x.2 ∙ ap (ended_word stop) (run-stops test w (stop ∷ rest) x.1 fails) ∙ ended-more stop w rest x.0
 
 -- ---- line ends
 

@@ -26,11 +26,11 @@ stopped stop word [] = None
 stopped stop word (b ∷ rest) = if nat_eq b stop then Some (word, rest) else None
 
 -- one or more bytes that pass a test, and the byte that ends them
-abbrev pub ended : ℕ → List ℕ × List ℕ → Read (List ℕ)
-ended stop found = if nat_lt 0 (length found.0) then stopped stop found.0 found.1 else None
+abbrev pub ended_word : ℕ → List ℕ × List ℕ → Read (List ℕ)
+ended_word stop found = if nat_lt 0 (length found.0) then stopped stop found.0 found.1 else None
 
 unfoldable pub word : (ℕ → Bool) → ℕ → List ℕ → Read (List ℕ)
-word test stop text = ended stop (run test text)
+word test stop text = ended_word stop (run test text)
 
 -- a line end: CR LF, or LF alone
 unfoldable pub newline : List ℕ → Read LineEnd
@@ -48,9 +48,9 @@ blank_from text later None = ([], text)
 blank_from text later (Some x) = one_more x.0 (later x.1)
 
 -- the empty lines at the front, at most so many
-unfoldable pub blank : ℕ → List ℕ → List LineEnd × List ℕ
-blank zero text = ([], text)
-blank (suc n) text = blank_from text (blank n) (newline text)
+unfoldable pub blank_lines : ℕ → List ℕ → List LineEnd × List ℕ
+blank_lines zero text = ([], text)
+blank_lines (suc n) text = blank_from text (blank_lines n) (newline text)
 
 -- the target is UTF-8
 abbrev pub text_only : List ℕ → List ℕ → Read (List ℕ)
@@ -106,4 +106,4 @@ alone (Some (head, b ∷ rest)) = None
 
 -- the head that these bytes are, from the first to the last
 unfoldable pub head_of : List ℕ → Option RequestHead
-head_of bytes = alone (head_parts (blank (length bytes) bytes).0 (blank (length bytes) bytes).1)
+head_of bytes = alone (head_parts (blank_lines (length bytes) bytes).0 (blank_lines (length bytes) bytes).1)

@@ -12,9 +12,9 @@ use Rattle.lard_request.specs.Head.{head_of}
 use Rattle.lard_request.specs.Target.{path_of}
 
 -- how many pairs CR LF stand in some bytes
-unfoldable pub pairs : List ℕ → ℕ
-pairs [] = 0
-pairs (b ∷ rest) = (if starts_with nat_eq (b ∷ rest) (13 ∷ 10 ∷ []) then 1 else 0) + pairs rest
+unfoldable pub pairs_in : List ℕ → ℕ
+pairs_in [] = 0
+pairs_in (b ∷ rest) = (if starts_with nat_eq (b ∷ rest) (13 ∷ 10 ∷ []) then 1 else 0) + pairs_in rest
 
 -- an LF stands without a CR before it; `after` says that a CR is before these bytes
 unfoldable pub has_bare_feed : Bool → List ℕ → Bool
@@ -29,15 +29,15 @@ abbrev pub is_head : List ℕ → Bool
 is_head method = bytes_eq method (codes "HEAD")
 
 -- a request for a path
-abbrev pub served : Bool → Bool → Option (List ℕ) → Verdict
-served head close None = Fault code.BadRequest
-served head close (Some path) = Serve path head close
+abbrev pub path_verdict : Bool → Bool → Option (List ℕ) → Verdict
+path_verdict head close None = Fault code.BadRequest
+path_verdict head close (Some path) = Serve path head close
 
 -- what a method asks of a target
 abbrev pub asked : List ℕ → List ℕ → Bool → Verdict
 asked method target close =
     if not (is_get method || is_head method) then Fault code.NotImplemented
-    else served (is_head method) close (path_of target)
+    else path_verdict (is_head method) close (path_of target)
 
 -- the verdict on a head, in the order of its judgements: hosts, content, method, target; HTTP/1.0 closes behind its
 -- answer (RFC 9112, 9.3)
@@ -55,7 +55,7 @@ verdict_of (Some h) = head_verdict h
 -- the verdict on a block; the request line and the empty line have a pair CR LF each, and so has each field (RFC 6585, 5)
 unfoldable pub verdict : List ℕ → Verdict
 verdict block =
-    if nat_lt (MAX_FIELDS + 2) (pairs block) then Fault code.FieldsTooLarge
+    if nat_lt (MAX_FIELDS + 2) (pairs_in block) then Fault code.FieldsTooLarge
     else (if has_bare_feed false block then Fault code.BadRequest
     else verdict_of (head_of block))
 

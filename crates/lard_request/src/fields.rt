@@ -5,7 +5,7 @@ ghost use Rattle.std.specs.List.{list_all, list_any};
 ghost use Rattle.http_header.specs.HeaderMap.{get_all};
 ghost use Rattle.httparse.specs.Spans.{IsHeaderWithin, header_bytes};
 ghost use Rattle.lard_request.specs.Fields.{good_hosts, is_zero, told_content, lists_close};
-ghost use Rattle.lard_request.specs.Kept.{HasRoom, GrowsByOne, Keeps, KeepsMore};
+ghost use Rattle.lard_request.specs.Kept.{HasRoomForField, GrowsByOne, Keeps, KeepsMore};
 
 use crate::values::{has_close, names_host};
 use http_header::{HeaderMap, HeaderMapError, HeaderName, HeaderNameError};
@@ -42,7 +42,7 @@ fn keep_field(
     name: &[u8],
     value: &[u8],
 ) -> Result<(), NoMemory>
-    requires { HasRoom fields.old }
+    requires { HasRoomForField fields.old }
     ensures kept { OnOk result (KeepsMore fields.old fields.new name.now value.now) }
     ensures grown { OnOk result (GrowsByOne fields.old fields.new) }
 {

@@ -1,11 +1,11 @@
 //! Line ends: how many there are, and whether one is an LF alone.
 
 ghost use Rattle.std.specs.Prelude.{◌≡◌, false};
-ghost use Rattle.lard_request.specs.Verdict.{pairs, has_bare_feed};
+ghost use Rattle.lard_request.specs.Verdict.{pairs_in, has_bare_feed};
 
 /// How many pairs CR LF stand in the bytes.
 pub(crate) fn count_pairs(bytes: &[u8]) -> usize
-    ensures { result ≡ pairs bytes.now }
+    ensures { result ≡ pairs_in bytes.now }
 {
     let mut count = 0;
     for at in 0..bytes.len() {

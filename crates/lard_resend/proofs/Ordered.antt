@@ -5,8 +5,8 @@ use Rattle.std.proofs.lemmas.Bool.{and_parts, and_from, eqb-true, eq-eqb, cond-t
 use Rattle.std.proofs.lemmas.Bool.Decides.{nat_tests}
 use Rattle.lard_base.specs.declared.place.TimerKind.{TimerKind}
 use Rattle.lard_resend.specs.declared.kept.Kept.{Kept}
-use Rattle.lard_resend.specs.Kept.{rank, is_under, comes_before, place_of, put_in, without, AreInOrder}
-use Rattle.lard_resend.specs.Laws.{HoldsIt, DropsIt, LeavesOthers, KeepsTheOrder}
+use Rattle.lard_resend.specs.Kept.{kind_rank, is_under, comes_before, kept_place_of, put_in, without, AreInOrder}
+use Rattle.lard_resend.specs.Laws.{HeldIsFound, DropsIt, LeavesOthers, KeepsTheOrder}
 
 -- ---- the order
 
@@ -26,7 +26,7 @@ itself a r = grind (arith, nat_tests)
 -- ---- one more
 
 pub put_behind : (k x : Kept) (xs : List Kept) → comes_before k.kind k.r x ≡ true → put_in k (x ∷ xs) ≡ x ∷ put_in k xs
-put_behind k x xs h = ap (λ (n : ℕ). insert (x ∷ xs) n k) (cond-true (comes_before k.kind k.r x) _ _ h ∙ add-one (place_of k.kind k.r xs))
+put_behind k x xs h = ap (λ (n : ℕ). insert (x ∷ xs) n k) (cond-true (comes_before k.kind k.r x) _ _ h ∙ add-one (kept_place_of k.kind k.r xs))
 
 pub put_here : (k x : Kept) (xs : List Kept) → comes_before k.kind k.r x ≡ false → put_in k (x ∷ xs) ≡ k ∷ x ∷ xs
 put_here k x xs h = ap (λ (n : ℕ). insert (x ∷ xs) n k) (cond-false (comes_before k.kind k.r x) _ _ h)
@@ -47,9 +47,9 @@ none_first p x xs h = go (p x) refl h where
   go false e g = (e, g)
 
 under_itself : (k : Kept) → is_under k.kind k.r k ≡ true
-under_itself k = and_from _ _ (eq-eqb (rank k.kind) (rank k.kind) refl) (eq-eqb k.r k.r refl)
+under_itself k = and_from _ _ (eq-eqb (kind_rank k.kind) (kind_rank k.kind) refl) (eq-eqb k.r k.r refl)
 
-pub holds : HoldsIt
+pub holds : HeldIsFound
 holds k [] h = cond-true (is_under k.kind k.r k) _ _ (under_itself k)
 holds k (x ∷ xs) h = go (comes_before k.kind k.r x) refl (none_first (is_under k.kind k.r) x xs h) (λ n. holds k xs n) where
   go : (t : Bool) → comes_before k.kind k.r x ≡ t → (is_under k.kind k.r x ≡ false) × (find (is_under k.kind k.r) xs ≡ None)
@@ -77,9 +77,9 @@ drops kind r (x ∷ xs) = go (is_under kind r x) refl (drops kind r xs) where
 apart : (kind : TimerKind) (r : ℕ) (k x : Kept) → is_under kind r k ≡ false → is_under k.kind k.r x ≡ true → is_under kind r x ≡ false
 apart kind r k x n h =
     let same = and_parts _ _ h in
-    let a : rank x.kind ≡ rank k.kind = eqb-true _ _ same.0 in
+    let a : kind_rank x.kind ≡ kind_rank k.kind = eqb-true _ _ same.0 in
     let b : x.r ≡ k.r = eqb-true _ _ same.1 in
-    ap (λ (i : ℕ). i == rank kind && x.r == r) a ∙ ap (λ (i : ℕ). rank k.kind == rank kind && i == r) b ∙ n
+    ap (λ (i : ℕ). i == kind_rank kind && x.r == r) a ∙ ap (λ (i : ℕ). kind_rank k.kind == kind_rank kind && i == r) b ∙ n
 
 drop_others : (kind : TimerKind) (r : ℕ) (k : Kept) (ks : List Kept) → is_under kind r k ≡ false → find (is_under kind r) (without k.kind k.r ks) ≡ find (is_under kind r) ks
 drop_others kind r k [] n = refl
@@ -112,7 +112,7 @@ drop_keeps kind r (x ∷ xs) h = go (is_under kind r x) (drop_keeps kind r xs h.
 before_all : (k x : Kept) (xs : List Kept) → comes_before x.kind x.r k ≡ true → AllByRecursion (λ later. comes_before later.kind later.r x ≡ true) xs
     → AllByRecursion (λ later. comes_before later.kind later.r k ≡ true) xs
 before_all k x [] h all = tt
-before_all k x (y ∷ ys) h all = (through (rank k.kind) k.r (rank x.kind) x.r (rank y.kind) y.r h all.0, before_all k x ys h all.1)
+before_all k x (y ∷ ys) h all = (through (kind_rank k.kind) k.r (kind_rank x.kind) x.r (kind_rank y.kind) y.r h all.0, before_all k x ys h all.1)
 
 put_keeps : (k : Kept) (ks : List Kept) → AreInOrder ks → find (is_under k.kind k.r) ks ≡ None → AreInOrder (put_in k ks)
 put_keeps k [] h n = (tt, tt)
@@ -122,7 +122,7 @@ put_keeps k (x ∷ xs) h n =
       go : (t : Bool) → comes_before k.kind k.r x ≡ t → is_under k.kind k.r x ≡ false → AreInOrder (put_in k xs) → AreInOrder (put_in k (x ∷ xs))
       go true e m ih = subst AreInOrder (sym (put_behind k x xs e)) (put_all _ k xs e h.0, ih)
       go false e m ih =
-          let before : comes_before x.kind x.r k ≡ true = total (rank x.kind) x.r (rank k.kind) k.r e m in
+          let before : comes_before x.kind x.r k ≡ true = total (kind_rank x.kind) x.r (kind_rank k.kind) k.r e m in
           subst AreInOrder (sym (put_here k x xs e)) ((before, before_all k x xs before h.0), h)
 
 pub keeps : KeepsTheOrder

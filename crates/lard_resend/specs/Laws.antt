@@ -6,8 +6,8 @@ use Rattle.lard_resend.specs.declared.kept.Kept.{Kept}
 use Rattle.lard_resend.specs.Kept.{is_under, put_in, without, AreInOrder}
 
 -- What is held is found under its kind and number.
-abbrev pub HoldsIt : Type 0
-HoldsIt = (k : Kept) (ks : List Kept) → find (is_under k.kind k.r) ks ≡ None → find (is_under k.kind k.r) (put_in k ks) ≡ Some k
+abbrev pub HeldIsFound : Type 0
+HeldIsFound = (k : Kept) (ks : List Kept) → find (is_under k.kind k.r) ks ≡ None → find (is_under k.kind k.r) (put_in k ks) ≡ Some k
 
 -- What is dropped is found no more.
 abbrev pub DropsIt : Type 0

@@ -45,8 +45,8 @@ put_list m c [] = map.remove m c
 put_list m c (k ∷ ks) = insert m c (k ∷ ks)
 
 -- what is held under a kind and a number is dropped
-abbrev pub settled : FinMap nat_cmp (List Kept) → ℕ → TimerKind → ℕ → FinMap nat_cmp (List Kept)
-settled m c kind r = if is_some (under m c kind r) then put_list m c (without kind r (held m c)) else m
+abbrev pub pending_settled : FinMap nat_cmp (List Kept) → ℕ → TimerKind → ℕ → FinMap nat_cmp (List Kept)
+pending_settled m c kind r = if is_some (under m c kind r) then put_list m c (without kind r (held m c)) else m
 
 -- a message, and the place that it goes to
 abbrev pub sent_of : Kept → Place × List ℕ

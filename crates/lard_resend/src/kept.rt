@@ -2,7 +2,7 @@
 
 ghost use Rattle.std.specs.Prelude.{◌≡◌, ◌≤◌, length, option_copied};
 ghost use Rattle.std.specs.List.{find};
-ghost use Rattle.lard_resend.specs.Kept.{rank, is_under, comes_before, place_of};
+ghost use Rattle.lard_resend.specs.Kept.{kind_rank, is_under, comes_before, kept_place_of};
 
 use lard_base::{Bytes, ConnId, Place, TimerKind};
 
@@ -27,7 +27,7 @@ pub struct Kept {
 
 /// The place of a kind in the order of kinds.
 pub fn rank(kind: TimerKind) -> u8
-    ensures { result ≡ rank kind }
+    ensures { result ≡ kind_rank kind }
 {
     match kind {
         TimerKind::Tcp => 0,
@@ -64,7 +64,7 @@ pub fn found<'a>(all: &'a [Kept], kind: TimerKind, r: u32) -> Option<&'a Kept>
 
 /// Where a message of this kind and number belongs in the order, counted from 0.
 pub fn place_of(all: &[Kept], kind: TimerKind, r: u32) -> usize
-    ensures value { result ≡ place_of kind r all.now }
+    ensures value { result ≡ kept_place_of kind r all.now }
     ensures within { result ≤ length all.now }
 {
     for (at, kept) in all.iter().enumerate() {

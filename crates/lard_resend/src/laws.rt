@@ -1,10 +1,10 @@
 //! What holds of messages that are held.
 
-ghost use Rattle.lard_resend.specs.Laws.{HoldsIt, DropsIt, LeavesOthers, KeepsTheOrder};
+ghost use Rattle.lard_resend.specs.Laws.{HeldIsFound, DropsIt, LeavesOthers, KeepsTheOrder};
 
 /// What is held is found under its kind and number.
 pub fn holds_it()
-    ensures { HoldsIt }
+    ensures { HeldIsFound }
 {}
 
 /// What is dropped is found no more.

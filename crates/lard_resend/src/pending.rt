@@ -5,7 +5,7 @@ ghost use Rattle.std.specs.FinMap as map;
 ghost use Rattle.std.specs.List.{find};
 ghost use Rattle.lard_base.specs.declared.limits.TheConstants.{MAX_MESSAGE_BYTES};
 ghost use Rattle.lard_resend.specs.Kept.{is_under, put_in, without, AreInOrder};
-ghost use Rattle.lard_resend.specs.Pending.{AreFit, held, holding, put_list, renewed, sent_of, settled, under};
+ghost use Rattle.lard_resend.specs.Pending.{AreFit, held, holding, put_list, renewed, sent_of, pending_settled, under};
 
 use crate::kept::{Kept, PendingKey, found, is_under, place_of};
 use lard_base::{Bytes, ConnId, Items, NoMemory, Place, TimerKind};
@@ -74,7 +74,7 @@ impl Pending {
     pub fn renew(&mut self, key: PendingKey, to: Place, bytes: Bytes) -> Result<(), NoMemory>
         requires { length bytes ≤ MAX_MESSAGE_BYTES }
         ensures ok { OnOk result (self.new ≡ renewed self.old key.c (record { kind = key.kind; r = key.r; to = to; bytes = bytes })) }
-        ensures err { OnErr result (self.new ≡ settled self.old key.c key.kind key.r) }
+        ensures err { OnErr result (self.new ≡ pending_settled self.old key.c key.kind key.r) }
     {
         let PendingKey { c, kind, r } = key;
         let _ = self.settle(PendingKey { c, kind, r });
@@ -84,7 +84,7 @@ impl Pending {
     /// Drops what is held under the key, and answers whether something was.
     pub fn settle(&mut self, key: PendingKey) -> bool
         ensures value { result ≡ is_some (under self.old key.c key.kind key.r) }
-        ensures after { self.new ≡ settled self.old key.c key.kind key.r }
+        ensures after { self.new ≡ pending_settled self.old key.c key.kind key.r }
     {
         if !self.holds(&key) {
             return false;

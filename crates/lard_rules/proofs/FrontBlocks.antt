@@ -11,17 +11,17 @@ use Rattle.lard_endpoint.specs.Control.{ControlBlock, rcv_nxt, rcv_wnd}
 use Rattle.lard_endpoint.specs.Leaving.{advanced, after_emit, after_owed, after_piece, after_timer, owes, retried, told}
 use Rattle.lard_endpoint.specs.Moving.{end_reason, final_of, is_closed, may_end, may_freeze}
 use Rattle.lard_rules.specs.FrontSound.{Serves}
-use Rattle.lard_recv.specs.Recv.{Received, arrived, awaited, begins_after, ends, fresh, room, taken}
+use Rattle.lard_recv.specs.Recv.{Received, arrived, awaited, begins_after, ends, fresh_bytes, receive_room, bytes_taken}
 use Rattle.lard_rules.proofs.Loops.{speaks_keep}
 use Rattle.lard_rules.proofs.Sides.{ack-side, next-side, resend-side}
 use Rattle.lard_rules.specs.declared.places.Ending.{Ending}
 use Rattle.lard_rules.specs.declared.places.Ending.TheVariants.{Here, Over}
 use Rattle.lard_rules.specs.declared.places.Turn.{Turn}
-use Rattle.lard_rules.specs.Serving.{ServeEnv, Service, cut_off, rested, settled, spoken}
+use Rattle.lard_rules.specs.Serving.{ServeEnv, Service, cut_off, rested, serving_settled, spoken}
 use Rattle.lard_rules.specs.Speaking.{speaks}
 use Rattle.lard_segment.specs.Segment.{Said}
 use Rattle.lard_send.specs.declared.piece.Piece.{Piece}
-use Rattle.lard_send.specs.Send.{Sending, after_ack, after_next, after_resend, is_clear, is_newer, left, may_send, moved_up, next_fin, next_len, next_piece, resent_piece, symbols, unsent_bytes, windowed}
+use Rattle.lard_send.specs.Send.{Sending, after_ack, after_next, after_resend, is_clear, is_newer, send_left, may_send, moved_up, next_fin, next_len, next_piece, resent_piece, symbols, unsent_bytes, windowed}
 use Rattle.lard_seq.specs.Seq.{one_if, seq_offset}
 
 -- ---- what each of its parts keeps, it keeps
@@ -122,9 +122,9 @@ nexts-within s h =
     cond_both (s.nxt == 0) (record s { nxt = 1 }) (cond (may_send s) more s) IsWithin (λ t. omega arith) (λ t.
     cond_both (may_send s) more s IsWithin
     (λ u.
-    let some : s.nxt < symbols s = ltb-true s.nxt (symbols s) (both (nat_lt s.nxt (symbols s)) (nat_lt 0 (left s)) (both (not (s.una == 0)) (nat_lt s.nxt (symbols s) && nat_lt 0 (left s)) u).1).0 in
+    let some : s.nxt < symbols s = ltb-true s.nxt (symbols s) (both (nat_lt s.nxt (symbols s)) (nat_lt 0 (send_left s)) (both (not (s.una == 0)) (nat_lt s.nxt (symbols s) && nat_lt 0 (send_left s)) u).1).0 in
     let first : s.nxt ≡ 0 → ⊥ = eqb-false s.nxt 0 t in
-    let fin : one_if (next_fin s) ≤ one_if s.finished = fin-few s.finished ((next_len s == unsent_bytes s) && nat_lt (next_len s) (left s)) in
+    let fin : one_if (next_fin s) ≤ one_if s.finished = fin-few s.finished ((next_len s == unsent_bytes s) && nat_lt (next_len s) (send_left s)) in
     let len : next_len s ≤ unsent_bytes s = omega arith in
     omega (arith, some, first, fin, len, one-few s.finished))
     (λ u. h))
@@ -147,20 +147,20 @@ acks-within s ack seq wnd h = acks-keep IsWithin (λ t w a b k. k) s ack seq wnd
 abbrev HasRead : ℕ → Received → Type 0
 HasRead n r = n + length r.unread ≤ r.got
 
-taken-read : (n : ℕ) (r : Received) (bytes : List ℕ) (fin : Bool) → HasRead n r → HasRead n (taken r bytes fin)
+taken-read : (n : ℕ) (r : Received) (bytes : List ℕ) (fin : Bool) → HasRead n r → HasRead n (bytes_taken r bytes fin)
 taken-read n r bytes fin h = cond_both r.discarding r.unread (r.unread ++ bytes) (λ xs. n + length xs ≤ r.got + length bytes) (λ t. omega (arith, h)) (λ t. omega (arith, h, length-append r.unread bytes))
 
 arrived-read : (n : ℕ) (r : Received) (seq : ℕ) (bytes : List ℕ) (fin : Bool) → HasRead n r → HasRead n (arrived r seq bytes fin)
 arrived-read n r seq bytes fin h =
-    let all : Received = taken r (fresh r seq bytes) (ends r seq bytes fin) in
+    let all : Received = bytes_taken r (fresh_bytes r seq bytes) (ends r seq bytes fin) in
     cond_both (begins_after seq (awaited r)) r (cond r.fin r all) (HasRead n) (λ t. h) (λ t.
-    cond_both r.fin r all (HasRead n) (λ u. h) (λ u. taken-read n r (fresh r seq bytes) (ends r seq bytes fin) h))
+    cond_both r.fin r all (HasRead n) (λ u. h) (λ u. taken-read n r (fresh_bytes r seq bytes) (ends r seq bytes fin) h))
 
 arrived-most : (r : Received) (seq : ℕ) (bytes : List ℕ) (fin : Bool) → r.got ≤ 2 ^ 30 → (arrived r seq bytes fin).got ≤ 2 ^ 30
 arrived-most r seq bytes fin h =
-    let all : Received = taken r (fresh r seq bytes) (ends r seq bytes fin) in
+    let all : Received = bytes_taken r (fresh_bytes r seq bytes) (ends r seq bytes fin) in
     cond_both (begins_after seq (awaited r)) r (cond r.fin r all) (λ q. q.got ≤ 2 ^ 30) (λ t. h) (λ t.
-    cond_both r.fin r all (λ q. q.got ≤ 2 ^ 30) (λ u. h) (λ u. omega (arith, h, length-take (room r) (drop (seq_offset (awaited r) seq) bytes))))
+    cond_both r.fin r all (λ q. q.got ≤ 2 ^ 30) (λ u. h) (λ u. omega (arith, h, length-take (receive_room r) (drop (seq_offset (awaited r) seq) bytes))))
 
 -- ---- an endpoint that serves
 
@@ -195,7 +195,7 @@ rested-serves b count h = cond_both (may_end b) (Over (final_of b (end_reason b)
 pub spoken-serves : (env : ServeEnv) (w : Service) (before : List (Place × List ℕ)) → ServesAs w.count w.block → EndsServing (spoken env w before).0
 spoken-serves env w before h = rested-serves (speaks env.c w.block).1 w.count (speaks-serve w.count env.c w.block h)
 
-pub settled-serves : (env : ServeEnv) (w : Service) → ServesAs w.count w.block → EndsServing (settled env w).0
+pub settled-serves : (env : ServeEnv) (w : Service) → ServesAs w.count w.block → EndsServing (serving_settled env w).0
 settled-serves env w h = go w.over where
   go : (o : Option ℕ) → EndsServing (elim o as (λ p. Ending × Turn) [ None ↦ spoken env w [] | Some total ↦ cut_off env w ]).0
   go None = spoken-serves env w [] h
@@ -212,7 +212,7 @@ pub record IsIdle (r : Received) (s : Sending) : Type 0 where
 
 arrived-kept : (r : Received) (seq : ℕ) (bytes : List ℕ) (fin : Bool) → r.discarding ≡ false → (arrived r seq bytes fin).discarding ≡ false
 arrived-kept r seq bytes fin h =
-    let all : Received = taken r (fresh r seq bytes) (ends r seq bytes fin) in
+    let all : Received = bytes_taken r (fresh_bytes r seq bytes) (ends r seq bytes fin) in
     cond_both (begins_after seq (awaited r)) r (cond r.fin r all) (λ q. q.discarding ≡ false) (λ t. h) (λ t. cond_both r.fin r all (λ q. q.discarding ≡ false) (λ u. h) (λ u. h))
 
 abbrev IsClear : Sending → Type 0

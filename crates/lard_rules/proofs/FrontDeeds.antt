@@ -19,9 +19,9 @@ use Rattle.lard_endpoint.specs.Control.{ControlBlock, listening}
 use Rattle.lard_endpoint.specs.Leaving.{after_timer, timed}
 use Rattle.lard_endpoint.specs.Moving.{may_freeze}
 use Rattle.lard_rules.specs.declared.front.FrontRest.{FrontRest}
-use Rattle.lard_rules.specs.Front.{Deed, Drops, Says, Does, FrontEnv, FrontPart, asked_by, assigns, begun, fired, front_asked, front_gets, front_hears, front_taken, front_timer, fired_by, fires_at, hears_at, holds, is_at, is_with, leaves_by, placed, rest_of, rests, saying, settled_by, tag_sent, taken_by, turn_here, waits_on}
-use Rattle.lard_rules.specs.FrontReading.{MayMove, Reading, reads}
-use Rattle.lard_rules.specs.FrontSound.{HasTag, HasTarget, IsAsk, IsHereWith, IsPartSound, IsRowSound, IsStageSound, Serves, Standing, nowhere, standing}
+use Rattle.lard_rules.specs.Front.{FrontDeed, Drops, Says, Does, FrontEnv, FrontPart, asked_by, assigns, front_begun, front_fired, front_asked, front_gets, front_hears, front_taken, front_timer, front_fired_by, fires_at, hears_at, holds, is_row_at, is_with, leaves_by, placed, front_rest, front_rests, front_saying, settled_by, tag_sent, taken_by, turn_here, waits_on}
+use Rattle.lard_rules.specs.FrontReading.{MayMove, Reading, front_reads}
+use Rattle.lard_rules.specs.FrontSound.{HasTag, HasTarget, IsAsk, IsHereWith, IsPartSound, IsRowSound, IsStageSound, Serves, DispatchStanding, nowhere, dispatch_standing}
 use Rattle.lard_rules.proofs.FrontBlocks.{EndsIdle, EndsServing, idle-of, segment-idle, segment-serves, settled-serves, spoken-idle, spoken-serves, timer-idle, timer-serves}
 use Rattle.lard_rules.proofs.FrontKeeping.{DeedKeeps, Keeps}
 use Rattle.lard_rules.proofs.FrontStandings.{StandsAt, first-others, first-stands, later-stands, leave-others, leave-stands}
@@ -38,7 +38,7 @@ use Rattle.lard_rules.specs.declared.places.Ending.{Ending}
 use Rattle.lard_rules.specs.declared.places.Ending.TheVariants.{Here, Over}
 use Rattle.lard_rules.specs.declared.places.Turn.{Turn}
 use Rattle.lard_rules.specs.Tombstone.{is_plain_syn}
-use Rattle.lard_rules.specs.Serving.{Service, ready_of, serving, settled, spoken}
+use Rattle.lard_rules.specs.Serving.{Service, serving_ready_of, serving, serving_settled, spoken}
 use Rattle.lard_segment.specs.declared.fault.SegFault.{SegFault}
 use Rattle.lard_segment.specs.Segment.{Said}
 use Rattle.lard_loads.specs.Tally.{home}
@@ -48,26 +48,26 @@ pub record IsOf (env : FrontEnv) (d : Dispatcher) : Type 0 where
   pub first : (path : List ℕ) → env.first path ≡ first_answer d path env.now
   pub later : (ask : Ask) → env.later ask ≡ later_answer d ask env.now
 
-abbrev pub waiting_there : Standing
+abbrev pub waiting_there : DispatchStanding
 waiting_there = record { home = None; waits = true }
 
 -- ---- an endpoint that is here
 
 -- it is held on, or ended
 pub holds-keeps : (d : Dispatcher) (c : ℕ) (now : Millis) (p : FrontPart) (row : FrontRow) (rest : FrontRest) (given : Ending × Turn)
-    → row.epoch.0 ≡ 1 → p.kept ≡ [] → standing d c ≡ nowhere → HasTag (Some rest) → EndsServing given.0 → DeedKeeps d c now (holds p row rest given)
+    → row.epoch.0 ≡ 1 → p.kept ≡ [] → dispatch_standing d c ≡ nowhere → HasTag (Some rest) → EndsServing given.0 → DeedKeeps d c now (holds p row rest given)
 holds-keeps d c now p row rest (Here b count, turn) owner none free tag serves =
     record { part = (record { first_owner = owner; serves = serves }, none, free); tag = tag; others = λ q n. refl; allowed = tt; clock = λ h. h }
 holds-keeps d c now p row rest (Over last, turn) owner none free tag serves = record { part = free; tag = tt; others = λ q n. refl; allowed = tt; clock = λ h. h }
 
 -- it waits on, or leaves the line
 pub waits-keeps : (d : Dispatcher) (env : FrontEnv) (p : FrontPart) (row : FrontRow) (rest : FrontRest) (given : Ending × Turn)
-    → row.epoch.0 ≡ 1 → p.kept ≡ [] → standing d env.serve.c ≡ waiting_there → HasTag (Some rest) → HasTarget (Some rest) → EndsServing given.0 → EndsIdle given.0
+    → row.epoch.0 ≡ 1 → p.kept ≡ [] → dispatch_standing d env.serve.c ≡ waiting_there → HasTag (Some rest) → HasTarget (Some rest) → EndsServing given.0 → EndsIdle given.0
     → DeedKeeps d env.serve.c env.now (waits_on env p row rest given)
 waits-keeps d env p row rest (Here b count, turn) owner none there tag target serves idle =
     record { part = (record { first_owner = owner; serves = serves }, none, there, idle, target); tag = tag; others = λ q n. refl; allowed = tt; clock = λ h. h }
 waits-keeps d env p row rest (Over last, turn) owner none there tag target serves idle = record {
-  part = leave-stands d env.serve.c (ap (λ (x : Standing). x.home) there);
+  part = leave-stands d env.serve.c (ap (λ (x : DispatchStanding). x.home) there);
   tag = tt;
   others = leave-others d env.serve.c;
   allowed = (tt, tt);
@@ -76,12 +76,12 @@ waits-keeps d env p row rest (Over last, turn) owner none there tag target serve
 
 -- ---- it is placed
 
-module _ (d : Dispatcher) (env : FrontEnv) (free : standing d env.serve.c ≡ nowhere) (p : FrontPart) (row : FrontRow) (rest : FrontRest) (w : Service) (path : List ℕ) where
+module _ (d : Dispatcher) (env : FrontEnv) (free : dispatch_standing d env.serve.c ≡ nowhere) (p : FrontPart) (row : FrontRow) (rest : FrontRest) (w : Service) (path : List ℕ) where
   abbrev After : Dispatcher
   After = after_first d env.serve.c path env.now
 
   may-come : (call.IsAllowed d (call.First env.serve.c path env.now))
-  may-come = (ap (λ (x : Standing). x.home) free, ap (λ (x : Standing). x.waits) free)
+  may-come = (ap (λ (x : DispatchStanding). x.home) free, ap (λ (x : DispatchStanding). x.waits) free)
 
   placed-keeps : (f : First) → StandsAt env.serve.c f After → row.epoch.0 ≡ 1 → p.kept ≡ [] → HasTag (Some rest) → Serves w.count w.block.recv w.block.send → may_freeze w.block ≡ true
       → Keeps d env.serve.c env.now (placed env p row rest w path f)
@@ -96,7 +96,7 @@ module _ (d : Dispatcher) (env : FrontEnv) (free : standing d env.serve.c ≡ no
       let v : Service = record w { notes = w.notes ++ rec.Waits env.serve.c ∷ [] } in
       wait (spoken env.serve v []) (spoken-serves env.serve v [] serves) (spoken-idle env.serve v [] (idle-of w.block may serves.sent)) where
         wait : (given : Ending × Turn) → EndsServing given.0 → EndsIdle given.0 → Keeps d env.serve.c env.now (record {
-          part = rests p row (record rest { target = Some path }) stage.Waiting given.0;
+          part = front_rests p row (record rest { target = Some path }) stage.Waiting given.0;
           turn = turn_here given.1;
           calls = call.First env.serve.c path env.now ∷ leaves_by env.serve.c given.0;
         })
@@ -108,7 +108,7 @@ module _ (d : Dispatcher) (env : FrontEnv) (free : standing d env.serve.c ≡ no
           clock = before-first d env.serve.c path env.now;
         }
         wait (Over last, turn) on idle = record {
-          part = leave-stands After env.serve.c (ap (λ (x : Standing). x.home) at);
+          part = leave-stands After env.serve.c (ap (λ (x : DispatchStanding). x.home) at);
           tag = tt;
           others = λ q n. leave-others After env.serve.c q n ∙ first-others d env.serve.c path env.now q n;
           allowed = (may-come, (tt, tt));
@@ -116,85 +116,85 @@ module _ (d : Dispatcher) (env : FrontEnv) (free : standing d env.serve.c ≡ no
         }
 
 -- what was read is said, or it is placed
-read-keeps : (d : Dispatcher) (env : FrontEnv) (p : FrontPart) (row : FrontRow) (rest : FrontRest) (w : Service) (target : Option (List ℕ)) → IsOf env d → standing d env.serve.c ≡ nowhere
+read-keeps : (d : Dispatcher) (env : FrontEnv) (p : FrontPart) (row : FrontRow) (rest : FrontRest) (w : Service) (target : Option (List ℕ)) → IsOf env d → dispatch_standing d env.serve.c ≡ nowhere
     → row.epoch.0 ≡ 1 → p.kept ≡ [] → HasTag (Some rest) → Serves w.count w.block.recv w.block.send → MayMove w.block target → DeedKeeps d env.serve.c env.now (settled_by env p row rest w target)
-read-keeps d env p row rest w None of free owner none tag serves may = holds-keeps d env.serve.c env.now p row rest (settled env.serve w) owner none free tag (settled-serves env.serve w serves)
+read-keeps d env p row rest w None of free owner none tag serves may = holds-keeps d env.serve.c env.now p row rest (serving_settled env.serve w) owner none free tag (settled-serves env.serve w serves)
 read-keeps d env p row rest w (Some path) of free owner none tag serves may =
     placed-keeps d env free p row rest w path (env.first path) (subst (λ f. StandsAt env.serve.c f (after_first d env.serve.c path env.now)) (sym (of.first path)) (first-stands d env.serve.c path env.now free)) owner none tag serves may
 
 -- ---- a segment
 
 -- what is known of a part whose endpoint is here
-here-rest : (epoch : ℕ) (b : ControlBlock) (rest : Option FrontRest) → IsHereWith epoch b rest → (epoch ≡ 1) × Serves (rest_of rest).count b.recv b.send
+here-rest : (epoch : ℕ) (b : ControlBlock) (rest : Option FrontRest) → IsHereWith epoch b rest → (epoch ≡ 1) × Serves (front_rest rest).count b.recv b.send
 here-rest epoch b None h = absurd h
 here-rest epoch b (Some rest) h = (h.first_owner, h.serves)
 
-tag-rest : (rest : Option FrontRest) → HasTag rest → HasTag (Some (rest_of rest))
+tag-rest : (rest : Option FrontRest) → HasTag rest → HasTag (Some (front_rest rest))
 tag-rest None h = λ some. absurd (omega (arith, some))
 tag-rest (Some rest) h = h
 
-target-rest : (rest : Option FrontRest) → HasTarget rest → HasTarget (Some (rest_of rest))
+target-rest : (rest : Option FrontRest) → HasTarget rest → HasTarget (Some (front_rest rest))
 target-rest None h = absurd h
 target-rest (Some rest) h = h
 
 module _ (d : Dispatcher) (env : FrontEnv) (of : IsOf env d) (p : FrontPart) (tag : HasTag p.rest) where
-  begins-keeps : (s : Said) → p.kept ≡ [] → standing d env.serve.c ≡ nowhere → DeedKeeps d env.serve.c env.now (begun env p s)
+  begins-keeps : (s : Said) → p.kept ≡ [] → dispatch_standing d env.serve.c ≡ nowhere → DeedKeeps d env.serve.c env.now (front_begun env p s)
   begins-keeps s none free =
       let w : Service = serving (listening s env.iss) 0 (rec.Took place.Front env.serve.c (record { 0 = 1 }) ∷ []) in
-      holds-keeps d env.serve.c env.now p (record { stage = stage.Lent; epoch = record { 0 = 1 }; ended_by = None }) (rest_of None) (spoken env.serve w []) refl none free (λ some. absurd (omega (arith, some)))
+      holds-keeps d env.serve.c env.now p (record { stage = stage.Lent; epoch = record { 0 = 1 }; ended_by = None }) (front_rest None) (spoken env.serve w []) refl none free (λ some. absurd (omega (arith, some)))
       (spoken-serves env.serve w [] (record { counted = omega arith; asked = omega arith; most = omega arith; sent = omega arith }))
 
-  hears-keeps : (row : FrontRow) (bytes : List ℕ) (s : Said) (at : FrontConn) → IsStageSound row.epoch.0 p.rest p.kept (standing d env.serve.c) at → DeedKeeps d env.serve.c env.now (hears_at env p row bytes s at)
+  hears-keeps : (row : FrontRow) (bytes : List ℕ) (s : Said) (at : FrontConn) → IsStageSound row.epoch.0 p.rest p.kept (dispatch_standing d env.serve.c) at → DeedKeeps d env.serve.c env.now (hears_at env p row bytes s at)
   hears-keeps row bytes s (stage.Held b) sound =
       let here = here-rest row.epoch.0 b p.rest sound.0 in
-      let first : Reading = record { service = serving (on_segment b s).1 (rest_of p.rest).count []; target = None } in
-      let stopped : HasStopped (reads env.serve first) = reads-stop env.serve first.service (segment-serves (rest_of p.rest).count b s here.1) in
-      read-keeps d env p row (rest_of p.rest) (reads env.serve first).service (reads env.serve first).target of sound.2 here.0 sound.1 (tag-rest p.rest tag) stopped.0 stopped.1
+      let first : Reading = record { service = serving (on_segment b s).1 (front_rest p.rest).count []; target = None } in
+      let stopped : HasStopped (front_reads env.serve first) = reads-stop env.serve first.service (segment-serves (front_rest p.rest).count b s here.1) in
+      read-keeps d env p row (front_rest p.rest) (front_reads env.serve first).service (front_reads env.serve first).target of sound.2 here.0 sound.1 (tag-rest p.rest tag) stopped.0 stopped.1
   hears-keeps row bytes s (stage.Waiting b) sound =
       let here = here-rest row.epoch.0 b p.rest sound.0 in
-      let w : Service = serving (on_segment b s).1 (rest_of p.rest).count [] in
-      waits-keeps d env p row (rest_of p.rest) (spoken env.serve w []) here.0 sound.1 sound.2 (tag-rest p.rest tag) (target-rest p.rest sound.4)
-      (spoken-serves env.serve w [] (segment-serves (rest_of p.rest).count b s here.1)) (spoken-idle env.serve w [] (segment-idle b s (idle-of b sound.3 here.1.sent)))
+      let w : Service = serving (on_segment b s).1 (front_rest p.rest).count [] in
+      waits-keeps d env p row (front_rest p.rest) (spoken env.serve w []) here.0 sound.1 sound.2 (tag-rest p.rest tag) (target-rest p.rest sound.4)
+      (spoken-serves env.serve w [] (segment-serves (front_rest p.rest).count b s here.1)) (spoken-idle env.serve w [] (segment-idle b s (idle-of b sound.3 here.1.sent)))
   hears-keeps row bytes s stage.Lent sound = tt
   hears-keeps row bytes s (stage.Offering node epoch) sound = tt
   hears-keeps row bytes s (stage.Moved node epoch) sound = tt
   hears-keeps row bytes s (stage.Closed last) sound = tt
 
-  row-hears : (bytes : List ℕ) (s : Said) (o : Option FrontRow) → IsRowSound p.rest p.kept (standing d env.serve.c) o → DeedKeeps d env.serve.c env.now (front_hears env p bytes s o)
-  row-hears bytes s None sound = cond_both (is_plain_syn s) (begun env p s) Drops (DeedKeeps d env.serve.c env.now) (λ t. begins-keeps s sound.0 sound.1) (λ t. tt)
+  row-hears : (bytes : List ℕ) (s : Said) (o : Option FrontRow) → IsRowSound p.rest p.kept (dispatch_standing d env.serve.c) o → DeedKeeps d env.serve.c env.now (front_hears env p bytes s o)
+  row-hears bytes s None sound = cond_both (is_plain_syn s) (front_begun env p s) Drops (DeedKeeps d env.serve.c env.now) (λ t. begins-keeps s sound.0 sound.1) (λ t. tt)
   row-hears bytes s (Some row) sound = hears-keeps row bytes s row.stage sound
 
-  pub gets-keeps : (bytes : List ℕ) (r : Result Said SegFault) → IsPartSound p (standing d env.serve.c) → DeedKeeps d env.serve.c env.now (front_gets env p bytes r)
+  pub gets-keeps : (bytes : List ℕ) (r : Result Said SegFault) → IsPartSound p (dispatch_standing d env.serve.c) → DeedKeeps d env.serve.c env.now (front_gets env p bytes r)
   gets-keeps bytes (Err fault) sound = tt
   gets-keeps bytes (Ok s) sound = row-hears bytes s p.row sound
 
   -- ---- timers
 
-  fired-serves : (rest : FrontRest) (b : ControlBlock) → Serves rest.count b.recv b.send → EndsServing (fired env rest b).0
-  fired-serves rest b h = spoken-serves env.serve (serving (after_timer b) rest.count []) (ready_of env.serve (after_timer b) (timed b)) (timer-serves rest.count b h)
+  fired-serves : (rest : FrontRest) (b : ControlBlock) → Serves rest.count b.recv b.send → EndsServing (front_fired env rest b).0
+  fired-serves rest b h = spoken-serves env.serve (serving (after_timer b) rest.count []) (serving_ready_of env.serve (after_timer b) (timed b)) (timer-serves rest.count b h)
 
-  fires-keeps : (row : FrontRow) (at : FrontConn) → IsStageSound row.epoch.0 p.rest p.kept (standing d env.serve.c) at → DeedKeeps d env.serve.c env.now (fires_at env p row at)
+  fires-keeps : (row : FrontRow) (at : FrontConn) → IsStageSound row.epoch.0 p.rest p.kept (dispatch_standing d env.serve.c) at → DeedKeeps d env.serve.c env.now (fires_at env p row at)
   fires-keeps row (stage.Held b) sound =
       let here = here-rest row.epoch.0 b p.rest sound.0 in
-      holds-keeps d env.serve.c env.now p row (rest_of p.rest) (fired env (rest_of p.rest) b) here.0 sound.1 sound.2 (tag-rest p.rest tag) (fired-serves (rest_of p.rest) b here.1)
+      holds-keeps d env.serve.c env.now p row (front_rest p.rest) (front_fired env (front_rest p.rest) b) here.0 sound.1 sound.2 (tag-rest p.rest tag) (fired-serves (front_rest p.rest) b here.1)
   fires-keeps row (stage.Waiting b) sound =
       let here = here-rest row.epoch.0 b p.rest sound.0 in
-      waits-keeps d env p row (rest_of p.rest) (fired env (rest_of p.rest) b) here.0 sound.1 sound.2 (tag-rest p.rest tag) (target-rest p.rest sound.4) (fired-serves (rest_of p.rest) b here.1)
-      (spoken-idle env.serve (serving (after_timer b) (rest_of p.rest).count []) (ready_of env.serve (after_timer b) (timed b)) (timer-idle b (idle-of b sound.3 here.1.sent)))
+      waits-keeps d env p row (front_rest p.rest) (front_fired env (front_rest p.rest) b) here.0 sound.1 sound.2 (tag-rest p.rest tag) (target-rest p.rest sound.4) (fired-serves (front_rest p.rest) b here.1)
+      (spoken-idle env.serve (serving (after_timer b) (front_rest p.rest).count []) (serving_ready_of env.serve (after_timer b) (timed b)) (timer-idle b (idle-of b sound.3 here.1.sent)))
   fires-keeps row stage.Lent sound = tt
   fires-keeps row (stage.Offering node epoch) sound = tt
   fires-keeps row (stage.Moved node epoch) sound = tt
   fires-keeps row (stage.Closed last) sound = tt
 
-  pub timer-keeps : IsPartSound p (standing d env.serve.c) → DeedKeeps d env.serve.c env.now (front_timer env p)
+  pub timer-keeps : IsPartSound p (dispatch_standing d env.serve.c) → DeedKeeps d env.serve.c env.now (front_timer env p)
   timer-keeps sound = go p.row sound where
-    go : (o : Option FrontRow) → IsRowSound p.rest p.kept (standing d env.serve.c) o → DeedKeeps d env.serve.c env.now (fired_by env p o)
+    go : (o : Option FrontRow) → IsRowSound p.rest p.kept (dispatch_standing d env.serve.c) o → DeedKeeps d env.serve.c env.now (front_fired_by env p o)
     go None h = tt
     go (Some row) h = fires-keeps row row.stage h
 
 -- ---- a Taken
 
-offered-keeps : (epoch : ℕ) (at : FrontConn) (node : ℕ) (rest : Option FrontRest) (kept : List Kept) (stands : Standing) (e : ℕ) → offered_to epoch at ≡ Some node → IsStageSound e rest kept stands at
+offered-keeps : (epoch : ℕ) (at : FrontConn) (node : ℕ) (rest : Option FrontRest) (kept : List Kept) (stands : DispatchStanding) (e : ℕ) → offered_to epoch at ≡ Some node → IsStageSound e rest kept stands at
     → stands ≡ record { home = Some node; waits = false }
 offered-keeps epoch (stage.Offering n by) node rest kept stands e asked sound = go (by.0 == epoch) asked where
   go : (b : Bool) → cond b (Some n) None ≡ Some node → stands ≡ record { home = Some node; waits = false }
@@ -206,13 +206,13 @@ offered-keeps epoch stage.Lent node rest kept stands e asked sound = absurd soun
 offered-keeps epoch (stage.Moved n by) node rest kept stands e asked sound = let no : None ≡ Some node = asked in absurd cc
 offered-keeps epoch (stage.Closed last) node rest kept stands e asked sound = let no : None ≡ Some node = asked in absurd cc
 
-pub taken-keeps : (d : Dispatcher) (c : ℕ) (now : Millis) (p : FrontPart) (epoch : ℕ) → HasTag p.rest → IsPartSound p (standing d c) → DeedKeeps d c now (front_taken p epoch)
+pub taken-keeps : (d : Dispatcher) (c : ℕ) (now : Millis) (p : FrontPart) (epoch : ℕ) → HasTag p.rest → IsPartSound p (dispatch_standing d c) → DeedKeeps d c now (front_taken p epoch)
 taken-keeps d c now p epoch tag sound = go p.row (asked_node epoch p.row) refl sound where
-  go : (o : Option FrontRow) (a : Option ℕ) → asked_node epoch o ≡ a → IsRowSound p.rest p.kept (standing d c) o → DeedKeeps d c now (taken_by p epoch o a)
+  go : (o : Option FrontRow) (a : Option ℕ) → asked_node epoch o ≡ a → IsRowSound p.rest p.kept (dispatch_standing d c) o → DeedKeeps d c now (taken_by p epoch o a)
   go None a is h = tt
   go (Some row) None is h = tt
   go (Some row) (Some node) is h = record {
-    part = offered-keeps epoch row.stage node p.rest p.kept (standing d c) row.epoch.0 is h;
+    part = offered-keeps epoch row.stage node p.rest p.kept (dispatch_standing d c) row.epoch.0 is h;
     tag = tag;
     others = λ q n. refl;
     allowed = tt;
@@ -222,7 +222,7 @@ taken-keeps d c now p epoch tag sound = go p.row (asked_node epoch p.row) refl s
 -- ---- an Ask
 
 -- the connection is admitted at the node that asks
-pub away-stands : (from epoch : ℕ) (at : FrontConn) (rest : Option FrontRest) (kept : List Kept) (stands : Standing) (e : ℕ) → is_with from epoch at ≡ true → IsStageSound e rest kept stands at
+pub away-stands : (from epoch : ℕ) (at : FrontConn) (rest : Option FrontRest) (kept : List Kept) (stands : DispatchStanding) (e : ℕ) → is_with from epoch at ≡ true → IsStageSound e rest kept stands at
     → stands ≡ record { home = Some from; waits = false }
 away-stands from epoch (stage.Offering n by) rest kept stands e there sound = go (n == from) refl there where
   go : (b : Bool) → (n == from) ≡ b → (b && by.0 == epoch) ≡ true → stands ≡ record { home = Some from; waits = false }
@@ -238,7 +238,7 @@ away-stands from epoch stage.Lent rest kept stands e there sound = absurd sound
 away-stands from epoch (stage.Closed last) rest kept stands e there sound = let no : false ≡ true = there in absurd cc
 
 -- one that is away stands the same whatever was asked for it
-away-row : (from epoch : ℕ) (at : FrontConn) (rest new : Option FrontRest) (kept : List Kept) (stands : Standing) (e : ℕ) → is_with from epoch at ≡ true → IsStageSound e rest kept stands at → IsStageSound e new kept stands at
+away-row : (from epoch : ℕ) (at : FrontConn) (rest new : Option FrontRest) (kept : List Kept) (stands : DispatchStanding) (e : ℕ) → is_with from epoch at ≡ true → IsStageSound e rest kept stands at → IsStageSound e new kept stands at
 away-row from epoch (stage.Offering n by) rest new kept stands e there sound = sound
 away-row from epoch (stage.Moved n by) rest new kept stands e there sound = sound
 away-row from epoch (stage.Held b) rest new kept stands e there sound = let no : false ≡ true = there in absurd cc
@@ -257,37 +257,37 @@ many-choices d ask now = choices-many d.config ask now ask.paths (batch_over d.b
 pub many-nodes : (d : Dispatcher) (ask : Ask) (now : Millis) → length (map (λ (x : LaterChoice). x.node) (later_answer d ask now).choices) ≡ length ask.paths
 many-nodes d ask now = length-map (later_answer d ask now).choices (λ (x : LaterChoice). x.node) ∙ many-choices d ask now
 
-pub asked-keeps : (d : Dispatcher) (env : FrontEnv) (of : IsOf env d) (p : FrontPart) (epoch : ℕ) (ask : Ask) → ask.c ≡ env.serve.c → IsAsk ask → HasTag p.rest → IsPartSound p (standing d env.serve.c)
+pub asked-keeps : (d : Dispatcher) (env : FrontEnv) (of : IsOf env d) (p : FrontPart) (epoch : ℕ) (ask : Ask) → ask.c ≡ env.serve.c → IsAsk ask → HasTag p.rest → IsPartSound p (dispatch_standing d env.serve.c)
     → DeedKeeps d env.serve.c env.now (front_asked env p ask.home epoch ask)
 asked-keeps d env of p epoch ask same asks tag sound =
-    cond_both (is_at ask.home epoch p.row) (asked_by env p ask.home epoch ask p.rest) Drops (DeedKeeps d env.serve.c env.now) (λ there. by p.rest there) (λ t. tt) where
-      stands : (o : Option FrontRow) → is_at ask.home epoch o ≡ true → IsRowSound p.rest p.kept (standing d env.serve.c) o → standing d env.serve.c ≡ record { home = Some ask.home; waits = false }
+    cond_both (is_row_at ask.home epoch p.row) (asked_by env p ask.home epoch ask p.rest) Drops (DeedKeeps d env.serve.c env.now) (λ there. by p.rest there) (λ t. tt) where
+      stands : (o : Option FrontRow) → is_row_at ask.home epoch o ≡ true → IsRowSound p.rest p.kept (dispatch_standing d env.serve.c) o → dispatch_standing d env.serve.c ≡ record { home = Some ask.home; waits = false }
       stands None there h = let no : false ≡ true = there in absurd cc
-      stands (Some row) there h = away-stands ask.home epoch row.stage p.rest p.kept (standing d env.serve.c) row.epoch.0 there h
+      stands (Some row) there h = away-stands ask.home epoch row.stage p.rest p.kept (dispatch_standing d env.serve.c) row.epoch.0 there h
 
-      row-stands : (new : Option FrontRest) (o : Option FrontRow) → is_at ask.home epoch o ≡ true → IsRowSound p.rest p.kept (standing d env.serve.c) o → IsRowSound new p.kept (standing d env.serve.c) o
+      row-stands : (new : Option FrontRest) (o : Option FrontRow) → is_row_at ask.home epoch o ≡ true → IsRowSound p.rest p.kept (dispatch_standing d env.serve.c) o → IsRowSound new p.kept (dispatch_standing d env.serve.c) o
       row-stands new None there h = let no : false ≡ true = there in absurd cc
-      row-stands new (Some row) there h = away-row ask.home epoch row.stage p.rest new p.kept (standing d env.serve.c) row.epoch.0 there h
+      row-stands new (Some row) there h = away-row ask.home epoch row.stage p.rest new p.kept (dispatch_standing d env.serve.c) row.epoch.0 there h
 
       tagged : (l : Later) → l ≡ later_answer d ask env.now → (1 ≤ length (map (λ (x : LaterChoice). x.node) l.choices)) × (length (map (λ (x : LaterChoice). x.node) l.choices) ≤ 8)
       tagged l is =
           let many : length (map (λ (x : LaterChoice). x.node) l.choices) ≡ length ask.paths = ap (λ (y : Later). length (map (λ (x : LaterChoice). x.node) y.choices)) is ∙ many-nodes d ask env.now in
           (omega (arith, many, asks.some), omega (arith, many, asks.within, asks.few))
 
-      new : (rest : FrontRest) → is_at ask.home epoch p.row ≡ true → Keeps d env.serve.c env.now (assigns env p rest ask.home epoch ask (env.later ask))
+      new : (rest : FrontRest) → is_row_at ask.home epoch p.row ≡ true → Keeps d env.serve.c env.now (assigns env p rest ask.home epoch ask (env.later ask))
       new rest there =
           let part : FrontPart = (assigns env p rest ask.home epoch ask (env.later ask)).part in
           record {
             part = subst (λ at. IsRowSound part.rest p.kept at p.row) (sym (later-stands d ask env.now env.serve.c)) (row-stands part.rest p.row there sound);
             tag = λ some. tagged (env.later ask) (of.later ask);
             others = λ q n. later-stands d ask env.now q;
-            allowed = (ap (λ (n : ℕ). home d.books.loads n) same ∙ ap (λ (x : Standing). x.home) (stands p.row there sound), tt);
+            allowed = (ap (λ (n : ℕ). home d.books.loads n) same ∙ ap (λ (x : DispatchStanding). x.home) (stands p.row there sound), tt);
             clock = before-later d ask env.now;
           }
 
-      by : (o : Option FrontRest) → is_at ask.home epoch p.row ≡ true → DeedKeeps d env.serve.c env.now (asked_by env p ask.home epoch ask o)
+      by : (o : Option FrontRest) → is_row_at ask.home epoch p.row ≡ true → DeedKeeps d env.serve.c env.now (asked_by env p ask.home epoch ask o)
       by None there = tt
       by (Some rest) there =
-          let again : Deed = Says (saying (tag_sent env ask.home epoch rest.asks rest.tag)) in
+          let again : FrontDeed = Says (front_saying (tag_sent env ask.home epoch rest.asks rest.tag)) in
           cond_both (ask.number == rest.asks + 1) (Does (assigns env p rest ask.home epoch ask (env.later ask))) (cond (ask.number == rest.asks && nat_lt 0 rest.asks) again Drops) (DeedKeeps d env.serve.c env.now)
           (λ t. new rest there) (λ t. cond_both (ask.number == rest.asks && nat_lt 0 rest.asks) again Drops (DeedKeeps d env.serve.c env.now) (λ u. tt) (λ u. tt))

@@ -8,22 +8,22 @@ use Rattle.lard_dispatch.specs.Laws.{AreAllowed, after_calls}
 use Rattle.lard_dispatch.specs.Sound.{AreBefore}
 use Rattle.lard_dispatch.proofs.AllCalls.{calls-kept}
 use Rattle.lard_rules.specs.declared.front.FrontState.{FrontState}
-use Rattle.lard_rules.specs.Front.{Deed, Drops, Says, Does, Did, FrontPart}
+use Rattle.lard_rules.specs.Front.{FrontDeed, Drops, Says, Does, Did, FrontPart}
 use Rattle.lard_rules.specs.FrontPlace.{front_deed, front_part, front_put, put_back}
-use Rattle.lard_rules.specs.FrontSound.{HasTag, IsFrontSound, IsPartSound, standing}
+use Rattle.lard_rules.specs.FrontSound.{HasTag, IsFrontSound, IsPartSound, dispatch_standing}
 use Rattle.lard_rules.proofs.FrontParts.{part_other, part_put}
 use Rattle.lard_resend.proofs.Lists.{found_other, some_put}
 
 -- What is done to connection c is sound: what is put back stands with what the dispatcher has of it, it has each other
 -- connection where it was, and it may be called so.
 pub record Keeps (d : Dispatcher) (c : ℕ) (now : Millis) (x : Did) : Type 0 where
-  pub part : IsPartSound x.part (standing (after_calls d x.calls) c)
+  pub part : IsPartSound x.part (dispatch_standing (after_calls d x.calls) c)
   pub tag : HasTag x.part.rest
-  pub others : (q : ℕ) → (q ≡ c → ⊥) → standing (after_calls d x.calls) q ≡ standing d q
+  pub others : (q : ℕ) → (q ≡ c → ⊥) → dispatch_standing (after_calls d x.calls) q ≡ dispatch_standing d q
   pub allowed : AreAllowed d x.calls
   pub clock : AreBefore now.0 d.books.sets → AreBefore now.0 (after_calls d x.calls).books.sets
 
-abbrev pub DeedKeeps : Dispatcher → ℕ → Millis → Deed → Type 0
+abbrev pub DeedKeeps : Dispatcher → ℕ → Millis → FrontDeed → Type 0
 DeedKeeps d c now Drops = Unit {0}
 DeedKeeps d c now (Says turn) = Unit {0}
 DeedKeeps d c now (Does x) = Keeps d c now x
@@ -53,7 +53,7 @@ put-stays s c now x sound keeps =
     let d : Dispatcher = after_calls s.dispatch x.calls in
     record {
       sound = record {
-        each = put-all (λ q p. IsPartSound p (standing d q)) s c x.part keeps.part (λ q n. subst (IsPartSound (front_part s q)) (sym (keeps.others q n)) (sound.each q));
+        each = put-all (λ q p. IsPartSound p (dispatch_standing d q)) s c x.part keeps.part (λ q n. subst (IsPartSound (front_part s q)) (sym (keeps.others q n)) (sound.each q));
         tags = put-all (λ q p. HasTag p.rest) s c x.part keeps.tag (λ q n. sound.tags q);
         some = put-some s c x.part sound.some;
         books = calls-kept s.dispatch x.calls sound.books keeps.allowed;
@@ -64,7 +64,7 @@ put-stays s c now x sound keeps =
 pub still-stays : (s : FrontState) (now : Millis) → IsFrontSound s → Stays now s s
 still-stays s now sound = record { sound = sound; clock = λ h. h }
 
-pub deed-stays : (s : FrontState) (c : ℕ) (now : Millis) (deed : Deed) → IsFrontSound s → DeedKeeps s.dispatch c now deed → Stays now s (front_deed s c deed).0
+pub deed-stays : (s : FrontState) (c : ℕ) (now : Millis) (deed : FrontDeed) → IsFrontSound s → DeedKeeps s.dispatch c now deed → Stays now s (front_deed s c deed).0
 deed-stays s c now Drops sound keeps = still-stays s now sound
 deed-stays s c now (Says turn) sound keeps = still-stays s now sound
 deed-stays s c now (Does x) sound keeps = put-stays s c now x sound keeps

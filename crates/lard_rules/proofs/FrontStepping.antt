@@ -12,7 +12,7 @@ use Rattle.lard_dispatch.proofs.Soundness.{begun-sound}
 use Rattle.lard_rules.specs.declared.front.FrontState.{FrontState}
 use Rattle.lard_rules.specs.Front.{FrontEnv, ask_of, front_asked, front_gets, front_taken, front_timer}
 use Rattle.lard_rules.specs.FrontPlace.{FrontSetting, front_env, front_part, front_step, front_told, message_comes, no_connections}
-use Rattle.lard_rules.specs.FrontSound.{HasTag, IsFrontSound, IsRowSound, standing}
+use Rattle.lard_rules.specs.FrontSound.{HasTag, IsFrontSound, IsRowSound, dispatch_standing}
 use Rattle.lard_rules.proofs.FrontDeeds.{IsOf, asked-keeps, gets-keeps, taken-keeps, timer-keeps}
 use Rattle.lard_rules.proofs.FrontEnded.{ended-stays}
 use Rattle.lard_rules.proofs.FrontKeeping.{Stays, deed-stays, still-stays}
@@ -103,7 +103,7 @@ step-stays k s (input.Timer c) sound =
 
 pub start-sound : (cfg : Config) → config_check cfg ≡ Ok tt → IsFrontSound (no_connections cfg)
 start-sound cfg usable = record {
-  each = λ c. subst (IsRowSound (table.get (no_connections cfg).rests c) (front_part (no_connections cfg) c).kept (standing (books.begun cfg) c)) (sym (get-empty nat_cmp c))
+  each = λ c. subst (IsRowSound (table.get (no_connections cfg).rests c) (front_part (no_connections cfg) c).kept (dispatch_standing (books.dispatch_begun cfg) c)) (sym (get-empty nat_cmp c))
       (ap list_of (get-empty nat_cmp c), λ i. record { home = ap home_of (get-empty nat_cmp c) i; waits = false });
   tags = λ c. subst HasTag (sym (get-empty nat_cmp c)) tt;
   some = λ c h. let no : None ≡ Some [] = sym (get-empty nat_cmp c) ∙ h in absurd cc;

@@ -20,49 +20,49 @@ use Rattle.lard_rules.proofs.Serving.{answer-some}
 use Rattle.lard_rules.proofs.Runs.{Falls, goes_done, goes_more}
 use Rattle.lard_rules.specs.Loop.{Step, runs_on}
 use Rattle.lard_rules.specs.Loop as loop
-use Rattle.lard_rules.specs.Serving.{ServeEnv, Service, answered, closed_behind, consumed, ended_at_fin, may_read, passed_over, queued}
-use Rattle.lard_rules.specs.FrontReading.{MayMove, Reading, block_at, left, reads, reads_block, reads_found, targeted, turn, with_service}
+use Rattle.lard_rules.specs.Serving.{ServeEnv, Service, answered, closed_behind, serving_consumed, ended_at_fin, may_read, passed_over, queued}
+use Rattle.lard_rules.specs.FrontReading.{MayMove, Reading, block_at, reading_left, front_reads, reads_block, reads_found, targeted, reading_turn, with_service}
 
 -- ---- each turn but the last takes unread bytes
 
 abbrev FallsFrom : ℕ → Step Reading → Type 0
-FallsFrom n (loop.More y) = left y < n
+FallsFrom n (loop.More y) = reading_left y < n
 FallsFrom n (loop.Done y) = Unit {0}
 
-block-falls : (env : ServeEnv) (x : Reading) (n : ℕ) (v : Verdict) (o : Option (List ℕ)) → 1 ≤ n → n ≤ left x → FallsFrom (left x) (reads_block env x n v o)
-block-falls env x n v None some within = omega (arith, answered-unread env Own v (consumed n x.service), length-drop n x.service.block.recv.unread, some, within)
+block-falls : (env : ServeEnv) (x : Reading) (n : ℕ) (v : Verdict) (o : Option (List ℕ)) → 1 ≤ n → n ≤ reading_left x → FallsFrom (reading_left x) (reads_block env x n v o)
+block-falls env x n v None some within = omega (arith, answered-unread env Own v (serving_consumed n x.service), length-drop n x.service.block.recv.unread, some, within)
 block-falls env x n v (Some path) some within = tt
 
-found-falls : (env : ServeEnv) (x : Reading) (f : Found) → IsWithin f (left x) → FallsFrom (left x) (reads_found env x f)
+found-falls : (env : ServeEnv) (x : Reading) (f : Found) → IsWithin f (reading_left x) → FallsFrom (reading_left x) (reads_found env x f)
 found-falls env x (More skip) h = tt
 found-falls env x (Block skip len) h = block-falls env x (skip + len) (block_at x skip len) (good_path env.files (block_at x skip len)) (omega (arith, h.0)) h.2
 found-falls env x (TooLong skip) h =
-    omega (arith, answered-unread env Own (Fault code.FieldsTooLarge) (consumed (left x) x.service), length-drop (left x) x.service.block.recv.unread, h)
+    omega (arith, answered-unread env Own (Fault code.FieldsTooLarge) (serving_consumed (reading_left x) x.service), length-drop (reading_left x) x.service.block.recv.unread, h)
 
-pub falls : (env : ServeEnv) → Falls (turn env) left
-falls env x y e = subst (FallsFrom (left x)) e (cond_both (may_read x.service) (reads_found env x (cut_of x.service.block.recv.unread)) (loop.Done x) (FallsFrom (left x))
+pub falls : (env : ServeEnv) → Falls (reading_turn env) reading_left
+falls env x y e = subst (FallsFrom (reading_left x)) e (cond_both (may_read x.service) (reads_found env x (cut_of x.service.block.recv.unread)) (loop.Done x) (FallsFrom (reading_left x))
     (λ t. found-falls env x (cut_of x.service.block.recv.unread) (cut-within x.service.block.recv.unread)) (λ t. tt))
 
 -- ---- as the code takes turns
 
-turn-reads : (env : ServeEnv) (x : Reading) → may_read x.service ≡ true → turn env x ≡ reads_found env x (cut_of x.service.block.recv.unread)
+turn-reads : (env : ServeEnv) (x : Reading) → may_read x.service ≡ true → reading_turn env x ≡ reads_found env x (cut_of x.service.block.recv.unread)
 turn-reads env x may = ap (λ b. cond {A = Step Reading} b (reads_found env x (cut_of x.service.block.recv.unread)) (loop.Done x)) may
 
 -- a turn after which it goes on
-pub reads-on : (env : ServeEnv) (x y : Reading) → may_read x.service ≡ true → loop.More y ≡ reads_found env x (cut_of x.service.block.recv.unread) → reads env y ≡ reads env x
-reads-on env x y may e = sym (goes_more (turn env) left (falls env) x y (turn-reads env x may ∙ sym e))
+pub reads-on : (env : ServeEnv) (x y : Reading) → may_read x.service ≡ true → loop.More y ≡ reads_found env x (cut_of x.service.block.recv.unread) → front_reads env y ≡ front_reads env x
+reads-on env x y may e = sym (goes_more (reading_turn env) reading_left (falls env) x y (turn-reads env x may ∙ sym e))
 
 -- the turn after which it stops
-pub reads-last : (env : ServeEnv) (x y : Reading) → may_read x.service ≡ true → loop.Done y ≡ reads_found env x (cut_of x.service.block.recv.unread) → y ≡ reads env x
-reads-last env x y may e = sym (goes_done (turn env) left x y (turn-reads env x may ∙ sym e))
+pub reads-last : (env : ServeEnv) (x y : Reading) → may_read x.service ≡ true → loop.Done y ≡ reads_found env x (cut_of x.service.block.recv.unread) → y ≡ front_reads env x
+reads-last env x y may e = sym (goes_done (reading_turn env) reading_left x y (turn-reads env x may ∙ sym e))
 
 -- no more may be read
-pub reads-none : (env : ServeEnv) (x : Reading) → may_read x.service ≡ false → x ≡ reads env x
-reads-none env x may = sym (goes_done (turn env) left x x (ap (λ b. cond {A = Step Reading} b (reads_found env x (cut_of x.service.block.recv.unread)) (loop.Done x)) may))
+pub reads-none : (env : ServeEnv) (x : Reading) → may_read x.service ≡ false → x ≡ front_reads env x
+reads-none env x may = sym (goes_done (reading_turn env) reading_left x x (ap (λ b. cond {A = Step Reading} b (reads_found env x (cut_of x.service.block.recv.unread)) (loop.Done x)) may))
 
 -- what falls, where it goes on
-pub less-left : (env : ServeEnv) (x y : Reading) → loop.More y ≡ reads_found env x (cut_of x.service.block.recv.unread) → left y < left x
-less-left env x y e = subst (FallsFrom (left x)) (sym e) (found-falls env x (cut_of x.service.block.recv.unread) (cut-within x.service.block.recv.unread))
+pub less-left : (env : ServeEnv) (x y : Reading) → loop.More y ≡ reads_found env x (cut_of x.service.block.recv.unread) → reading_left y < reading_left x
+less-left env x y e = subst (FallsFrom (reading_left x)) (sym e) (found-falls env x (cut_of x.service.block.recv.unread) (cut-within x.service.block.recv.unread))
 
 -- ---- what a turn leaves serves on, and what is to be placed may move
 
@@ -73,7 +73,7 @@ closed-serves v n b h = cond_both (closes v) (finishing (discarding_on b)) b (Se
 abbrev pub IsServed : Service → Type 0
 IsServed w = ServesAs w.count w.block
 
-consumed-serves : (n : ℕ) (w : Service) → IsServed w → IsServed (consumed n w)
+consumed-serves : (n : ℕ) (w : Service) → IsServed w → IsServed (serving_consumed n w)
 consumed-serves n w h = record { counted = h.counted; asked = omega (arith, h.asked, length-drop n w.block.recv.unread); most = h.most; sent = h.sent }
 
 -- an answer is of a request that was read, and has a byte
@@ -104,29 +104,29 @@ still x w h none = (h, subst (MayMove w.block) (sym none) tt)
 targeted-stops : (path : List ℕ) (x : Reading) → IsReading x → HasStopped (targeted path x)
 targeted-stops path x h = cond_both (may_freeze x.service.block) (record x { target = Some path }) x HasStopped (λ t. (h.0, t)) (λ t. still x x.service h.0 h.1)
 
-block-reads : (env : ServeEnv) (x : Reading) (n : ℕ) (v : Verdict) (o : Option (List ℕ)) → 1 ≤ n → n ≤ left x → IsReading x → ReadOn (reads_block env x n v o)
+block-reads : (env : ServeEnv) (x : Reading) (n : ℕ) (v : Verdict) (o : Option (List ℕ)) → 1 ≤ n → n ≤ reading_left x → IsReading x → ReadOn (reads_block env x n v o)
 block-reads env x n v None some within h =
-    (answered-serves env Own v (consumed n x.service) (omega (arith, h.0.asked, length-drop n x.service.block.recv.unread, some, within)) (consumed-serves n x.service h.0), h.1)
+    (answered-serves env Own v (serving_consumed n x.service) (omega (arith, h.0.asked, length-drop n x.service.block.recv.unread, some, within)) (consumed-serves n x.service h.0), h.1)
 block-reads env x n v (Some path) some within h = targeted-stops path x h
 
-found-reads : (env : ServeEnv) (x : Reading) (f : Found) → IsWithin f (left x) → IsReading x → ReadOn (reads_found env x f)
-found-reads env x (More skip) w h = still x (ended_at_fin (consumed skip x.service)) (ended-serves (consumed skip x.service) (consumed-serves skip x.service h.0)) h.1
+found-reads : (env : ServeEnv) (x : Reading) (f : Found) → IsWithin f (reading_left x) → IsReading x → ReadOn (reads_found env x f)
+found-reads env x (More skip) w h = still x (ended_at_fin (serving_consumed skip x.service)) (ended-serves (serving_consumed skip x.service) (consumed-serves skip x.service h.0)) h.1
 found-reads env x (Block skip len) w h = block-reads env x (skip + len) (block_at x skip len) (good_path env.files (block_at x skip len)) (omega (arith, w.0)) w.2 h
 found-reads env x (TooLong skip) w h =
-    (answered-serves env Own (Fault code.FieldsTooLarge) (consumed (left x) x.service) (omega (arith, h.0.asked, length-drop (left x) x.service.block.recv.unread, w)) (consumed-serves (left x) x.service h.0), h.1)
+    (answered-serves env Own (Fault code.FieldsTooLarge) (serving_consumed (reading_left x) x.service) (omega (arith, h.0.asked, length-drop (reading_left x) x.service.block.recv.unread, w)) (consumed-serves (reading_left x) x.service h.0), h.1)
 
-turn-reads-on : (env : ServeEnv) (x : Reading) → IsReading x → ReadOn (turn env x)
+turn-reads-on : (env : ServeEnv) (x : Reading) → IsReading x → ReadOn (reading_turn env x)
 turn-reads-on env x h = cond_both (may_read x.service) (reads_found env x (cut_of x.service.block.recv.unread)) (loop.Done x) ReadOn
     (λ t. found-reads env x (cut_of x.service.block.recv.unread) (cut-within x.service.block.recv.unread) h) (λ t. still x x.service h.0 h.1)
 
 -- so many turns
-stops-on : (env : ServeEnv) (n : ℕ) (x : Reading) → IsReading x → HasStopped (runs_on n (turn env) x)
+stops-on : (env : ServeEnv) (n : ℕ) (x : Reading) → IsReading x → HasStopped (runs_on n (reading_turn env) x)
 unfolding runs_on
 stops-on env zero x h = still x x.service h.0 h.1
-stops-on env (suc n) x h = go (turn env x) (turn-reads-on env x h) (stops-on env n) where
-  go : (s : Step Reading) → ReadOn s → ((y : Reading) → IsReading y → HasStopped (runs_on n (turn env) y)) → HasStopped (elim s as (λ s. Reading) [ loop.More y ↦ runs_on n (turn env) y | loop.Done y ↦ y ])
+stops-on env (suc n) x h = go (reading_turn env x) (turn-reads-on env x h) (stops-on env n) where
+  go : (s : Step Reading) → ReadOn s → ((y : Reading) → IsReading y → HasStopped (runs_on n (reading_turn env) y)) → HasStopped (elim s as (λ s. Reading) [ loop.More y ↦ runs_on n (reading_turn env) y | loop.Done y ↦ y ])
   go (loop.More y) k later = later y k
   go (loop.Done y) k later = k
 
-pub reads-stop : (env : ServeEnv) (w : Service) → IsServed w → HasStopped (reads env (record { service = w; target = None }))
-reads-stop env w h = stops-on env (left (record { service = w; target = None }) + 1) (record { service = w; target = None }) (h, refl)
+pub reads-stop : (env : ServeEnv) (w : Service) → IsServed w → HasStopped (front_reads env (record { service = w; target = None }))
+reads-stop env w h = stops-on env (reading_left (record { service = w; target = None }) + 1) (record { service = w; target = None }) (h, refl)

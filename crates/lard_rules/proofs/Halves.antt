@@ -3,9 +3,9 @@ use Rattle.std.proofs.Common.{ℕ, Bool, true, cond, nat_lt, ◌==◌, not, ◌&
 use Rattle.std.proofs.lemmas.Bool.{cond_both}
 use Rattle.lard_arrival.specs.Arrival.{bare, is_acceptable, is_allowed, peer_mss}
 use Rattle.lard_client.specs.Arriving as arriving
-use Rattle.lard_client.specs.Arriving.{accepting, answers_syn, arrived, begins_after, ends, established, fresh_len, heard_in, nothing, on_fresh, on_greeting, part_of, reset_by_peer}
+use Rattle.lard_client.specs.Arriving.{accepting, answers_syn, client_arrived, client_begins_after, client_ends, established, fresh_len, heard_in, heard_nothing, on_fresh, on_greeting, client_part_of, reset_by_peer}
 use Rattle.lard_client.specs.Control as control
-use Rattle.lard_client.specs.Control.{ClientBlock, is_open, shut_down}
+use Rattle.lard_client.specs.Control.{ClientBlock, is_client_open, shut_down}
 use Rattle.lard_client.specs.Leaving as leaving
 use Rattle.lard_client.specs.declared.heard.Heard.{Heard}
 use Rattle.lard_client.specs.declared.phase.Phase.{Phase}
@@ -18,7 +18,7 @@ use Rattle.lard_endpoint.specs.Leaving.{advanced, after_emit, after_owed, after_
 use Rattle.lard_recv.specs.Recv as recv
 use Rattle.lard_segment.specs.Segment.{Said}
 use Rattle.lard_send.specs.declared.piece.Piece.{Piece}
-use Rattle.lard_send.specs.Send.{Sending, after_ack, after_next, after_resend, closed, introduced, next_piece, resent_piece}
+use Rattle.lard_send.specs.Send.{Sending, after_ack, after_next, after_resend, send_closed, introduced, next_piece, resent_piece}
 use Rattle.lard_seq.specs.Seq.{seq_offset}
 
 -- P is kept by each operation that a segment or a timer brings about
@@ -26,7 +26,7 @@ pub record KeptBySending (P : Sending → Type 0) : Type 0 where
   pub acks : (s : Sending) (ack seq wnd : ℕ) → P s → P (after_ack s ack seq wnd)
   pub nexts : (s : Sending) → P s → P (after_next s)
   pub resends : (s : Sending) → P s → P (after_resend s)
-  pub closes : (s : Sending) → P s → P (closed s)
+  pub closes : (s : Sending) → P s → P (send_closed s)
   pub learns : (s : Sending) (irs mss : ℕ) → P s → P (introduced s irs mss)
 
 module _ (P : Sending → Type 0) (kept : KeptBySending P) where
@@ -38,65 +38,65 @@ module _ (P : Sending → Type 0) (kept : KeptBySending P) where
   abbrev Hears : Heard × ClientBlock → Type 0
   Hears r = P r.1.send
 
-  client-piece : (x y : ClientBlock) (p : Option Piece) → Client x → Client y → Client (leaving.after_piece x p y)
+  client-piece : (x y : ClientBlock) (p : Option Piece) → Client x → Client y → Client (leaving.client_after_piece x p y)
   client-piece x y None h k = k
   client-piece x y (Some p) h k = h
 
-  pub client-emit : (x : ClientBlock) → Client x → Client (leaving.after_emit x)
+  pub client-emit : (x : ClientBlock) → Client x → Client (leaving.client_after_emit x)
   client-emit x h =
       let next : ClientBlock = record x { send = after_next x.send } in
-      cond_both (not (is_open x)) x (leaving.after_piece next (next_piece x.send) (leaving.after_owed x)) Client (λ t. h)
-      (λ t. client-piece next (leaving.after_owed x) (next_piece x.send) (kept.nexts x.send h) (cond_both (leaving.owes x) (leaving.told x) x Client (λ u. h) (λ u. h)))
+      cond_both (not (is_client_open x)) x (leaving.client_after_piece next (next_piece x.send) (leaving.client_after_owed x)) Client (λ t. h)
+      (λ t. client-piece next (leaving.client_after_owed x) (next_piece x.send) (kept.nexts x.send h) (cond_both (leaving.client_owes x) (leaving.client_told x) x Client (λ u. h) (λ u. h)))
 
-  pub client-fires : (x : ClientBlock) → Client x → Client (leaving.after_timer x)
+  pub client-fires : (x : ClientBlock) → Client x → Client (leaving.client_after_timer x)
   client-fires x h =
       let next : ClientBlock = record x { send = after_resend x.send } in
-      cond_both (not (is_open x)) x (leaving.after_piece next (resent_piece x.send) x) Client (λ t. h) (λ t. client-piece next x (resent_piece x.send) (kept.resends x.send h) h)
+      cond_both (not (is_client_open x)) x (leaving.client_after_piece next (resent_piece x.send) x) Client (λ t. h) (λ t. client-piece next x (resent_piece x.send) (kept.resends x.send h) h)
 
   pub client-shuts : (x : ClientBlock) → Client x → Client (shut_down x)
-  client-shuts x h = cond_both (is_open x) (record x { send = closed x.send }) x Client (λ t. kept.closes x.send h) (λ t. h)
+  client-shuts x h = cond_both (is_client_open x) (record x { send = send_closed x.send }) x Client (λ t. kept.closes x.send h) (λ t. h)
 
   client-fresh : (x : ClientBlock) (s : Said) → Client x → Hears (on_fresh x s)
-  client-fresh x s h = cond_both {A = Heard × ClientBlock} (begins_after x s || x.eof) (nothing, x) (part_of x s, accepting x (fresh_len x s) (ends x s)) Hears (λ t. h)
-      (λ t. cond_both (ends x s) (closed x.send) x.send P (λ u. kept.closes x.send h) (λ u. h))
+  client-fresh x s h = cond_both {A = Heard × ClientBlock} (client_begins_after x s || x.eof) (heard_nothing, x) (client_part_of x s, accepting x (fresh_len x s) (client_ends x s)) Hears (λ t. h)
+      (λ t. cond_both (client_ends x s) (send_closed x.send) x.send P (λ u. kept.closes x.send h) (λ u. h))
 
-  client-text : (x : ClientBlock) (s : Said) → Client x → Hears (arriving.on_text x s)
-  client-text x s h = cond_both {A = Heard × ClientBlock} ((length s.payload == 0) && not s.flags.fin) (nothing, x) (on_fresh (arriving.owing x) s) Hears (λ t. h) (λ t. client-fresh (arriving.owing x) s h)
+  client-text : (x : ClientBlock) (s : Said) → Client x → Hears (arriving.client_on_text x s)
+  client-text x s h = cond_both {A = Heard × ClientBlock} ((length s.payload == 0) && not s.flags.fin) (heard_nothing, x) (on_fresh (arriving.client_owing x) s) Hears (λ t. h) (λ t. client-fresh (arriving.client_owing x) s h)
 
-  client-ack : (x : ClientBlock) (s : Said) → Client x → Hears (arriving.on_ack x s)
+  client-ack : (x : ClientBlock) (s : Said) → Client x → Hears (arriving.client_on_ack x s)
   client-ack x s h =
       let y : ClientBlock = record x { send = after_ack x.send s.ack s.seq s.wnd } in
       let beyond : Bool = nat_lt x.send.nxt (seq_offset s.ack x.send.iss) in
-      cond_both {A = Heard × ClientBlock} (not s.flags.ack) (nothing, x) (cond beyond (nothing, arriving.owing x) (arriving.on_text y s)) Hears (λ t. h)
-      (λ t. cond_both {A = Heard × ClientBlock} beyond (nothing, arriving.owing x) (arriving.on_text y s) Hears (λ u. h) (λ u. client-text y s (kept.acks x.send s.ack s.seq s.wnd h)))
+      cond_both {A = Heard × ClientBlock} (not s.flags.ack) (heard_nothing, x) (cond beyond (heard_nothing, arriving.client_owing x) (arriving.client_on_text y s)) Hears (λ t. h)
+      (λ t. cond_both {A = Heard × ClientBlock} beyond (heard_nothing, arriving.client_owing x) (arriving.client_on_text y s) Hears (λ u. h) (λ u. client-text y s (kept.acks x.send s.ack s.seq s.wnd h)))
 
-  client-segment : (x : ClientBlock) (s : Said) → Client x → Hears (arriving.on_segment x s)
+  client-segment : (x : ClientBlock) (s : Said) → Client x → Hears (arriving.client_on_segment x s)
   client-segment x s h =
-      let owed : Heard × ClientBlock = (nothing, arriving.owing x) in
-      let next : Bool = s.seq == control.rcv_nxt x in
-      cond_both (is_acceptable (control.rcv_nxt x) (control.rcv_wnd x) s) (arriving.on_rst x s) (arriving.on_unacceptable x s) Hears
-      (λ t. cond_both (not s.flags.rst) (arriving.on_syn x s) (cond next (nothing, reset_by_peer x) owed) Hears
-      (λ u. cond_both s.flags.syn owed (arriving.on_ack x s) Hears (λ v. h) (λ v. client-ack x s h))
-      (λ u. cond_both {A = Heard × ClientBlock} next (nothing, reset_by_peer x) owed Hears (λ v. h) (λ v. h)))
-      (λ t. cond_both (is_allowed (control.rcv_nxt x) (control.rcv_wnd x) s) (arriving.on_ack (arriving.owing x) (bare s)) (cond s.flags.rst (nothing, x) owed) Hears
-      (λ u. client-ack (arriving.owing x) (bare s) h)
-      (λ u. cond_both {A = Heard × ClientBlock} s.flags.rst (nothing, x) owed Hears (λ v. h) (λ v. h)))
+      let owed : Heard × ClientBlock = (heard_nothing, arriving.client_owing x) in
+      let next : Bool = s.seq == control.client_rcv_nxt x in
+      cond_both (is_acceptable (control.client_rcv_nxt x) (control.client_rcv_wnd x) s) (arriving.client_on_rst x s) (arriving.client_on_unacceptable x s) Hears
+      (λ t. cond_both (not s.flags.rst) (arriving.client_on_syn x s) (cond next (heard_nothing, reset_by_peer x) owed) Hears
+      (λ u. cond_both s.flags.syn owed (arriving.client_on_ack x s) Hears (λ v. h) (λ v. client-ack x s h))
+      (λ u. cond_both {A = Heard × ClientBlock} next (heard_nothing, reset_by_peer x) owed Hears (λ v. h) (λ v. h)))
+      (λ t. cond_both (is_allowed (control.client_rcv_nxt x) (control.client_rcv_wnd x) s) (arriving.client_on_ack (arriving.client_owing x) (bare s)) (cond s.flags.rst (heard_nothing, x) owed) Hears
+      (λ u. client-ack (arriving.client_owing x) (bare s) h)
+      (λ u. cond_both {A = Heard × ClientBlock} s.flags.rst (heard_nothing, x) owed Hears (λ v. h) (λ v. h)))
 
   client-greeting : (x : ClientBlock) (s : Said) → Client x → Hears (on_greeting x s)
   client-greeting x s h =
-      let synced : Heard × ClientBlock = cond s.flags.syn (nothing, established x s) (nothing, x) in
-      cond_both {A = Heard × ClientBlock} (not (answers_syn x s)) (nothing, x) (cond s.flags.rst (nothing, reset_by_peer x) synced) Hears (λ t. h)
-      (λ t. cond_both {A = Heard × ClientBlock} s.flags.rst (nothing, reset_by_peer x) synced Hears (λ u. h)
-      (λ u. cond_both {A = Heard × ClientBlock} s.flags.syn (nothing, established x s) (nothing, x) Hears
+      let synced : Heard × ClientBlock = cond s.flags.syn (heard_nothing, established x s) (heard_nothing, x) in
+      cond_both {A = Heard × ClientBlock} (not (answers_syn x s)) (heard_nothing, x) (cond s.flags.rst (heard_nothing, reset_by_peer x) synced) Hears (λ t. h)
+      (λ t. cond_both {A = Heard × ClientBlock} s.flags.rst (heard_nothing, reset_by_peer x) synced Hears (λ u. h)
+      (λ u. cond_both {A = Heard × ClientBlock} s.flags.syn (heard_nothing, established x s) (heard_nothing, x) Hears
       (λ v. kept.acks (introduced x.send s.seq (peer_mss s.mss)) s.ack s.seq s.wnd (kept.learns x.send s.seq (peer_mss s.mss) h)) (λ v. h)))
 
   client-phase : (p : Phase) (x : ClientBlock) (s : Said) → Client x → Hears (heard_in p x s)
-  client-phase Open x s h = cond_both (x.send.una == 0) (on_greeting x s) (arriving.on_segment x s) Hears (λ t. client-greeting x s h) (λ t. client-segment x s h)
+  client-phase Open x s h = cond_both (x.send.una == 0) (on_greeting x s) (arriving.client_on_segment x s) Hears (λ t. client-greeting x s h) (λ t. client-segment x s h)
   client-phase Aborted x s h = h
   client-phase Reset x s h = h
 
-  pub client-arrived : (x : ClientBlock) (s : Said) → Client x → Hears (arrived x s)
-  unfolding arrived
+  pub client-arrived : (x : ClientBlock) (s : Said) → Client x → Hears (client_arrived x s)
+  unfolding client_arrived
   client-arrived x s h = client-phase x.phase x s h
 
   -- ---- an endpoint

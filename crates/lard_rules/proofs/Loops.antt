@@ -60,8 +60,8 @@ module _ (c : ℕ) (Q : ControlBlock → List (Place × List ℕ) → ControlBlo
 -- a client's segments the same
 pub record KeptByTelling (Q : ClientBlock → List (Place × List ℕ) → ClientBlock → Type 0) : Type 0 where
   pub rests : (x : ClientBlock) → Q x [] x
-  pub says : (x : ClientBlock) (r : Ready) (ss : List (Place × List ℕ)) (y : ClientBlock) → client.emitted x ≡ Some r → Q (client.after_emit x) ss y
-      → Q x (to_front (client.after_emit x) r ∷ ss) y
+  pub says : (x : ClientBlock) (r : Ready) (ss : List (Place × List ℕ)) (y : ClientBlock) → client.client_emitted x ≡ Some r → Q (client.client_after_emit x) ss y
+      → Q x (to_front (client.client_after_emit x) r ∷ ss) y
 
 module _ (Q : ClientBlock → List (Place × List ℕ) → ClientBlock → Type 0) (kept : KeptByTelling Q) where
   abbrev Told : ClientBlock → List (Place × List ℕ) × ClientBlock → Type 0
@@ -70,14 +70,14 @@ module _ (Q : ClientBlock → List (Place × List ℕ) → ClientBlock → Type 
   client-keeps : (n : ℕ) (x : ClientBlock) → Told x (client_emits n x)
   unfolding client_emits
   client-keeps zero x = kept.rests x
-  client-keeps (suc n) x = go (client.emitted x) refl (client-keeps n (client.after_emit x)) where
-    go : (o : Option Ready) → client.emitted x ≡ o → Told (client.after_emit x) (client_emits n (client.after_emit x))
+  client-keeps (suc n) x = go (client.client_emitted x) refl (client-keeps n (client.client_after_emit x)) where
+    go : (o : Option Ready) → client.client_emitted x ≡ o → Told (client.client_after_emit x) (client_emits n (client.client_after_emit x))
         → Told x (elim o [
           | None ↦ ([], x)
-          | Some r ↦ (to_front (client.after_emit x) r ∷ (client_emits n (client.after_emit x)).0, (client_emits n (client.after_emit x)).1)
+          | Some r ↦ (to_front (client.client_after_emit x) r ∷ (client_emits n (client.client_after_emit x)).0, (client_emits n (client.client_after_emit x)).1)
         ])
     go None e later = kept.rests x
-    go (Some r) e later = kept.says x r (client_emits n (client.after_emit x)).0 (client_emits n (client.after_emit x)).1 e later
+    go (Some r) e later = kept.says x r (client_emits n (client.client_after_emit x)).0 (client_emits n (client.client_after_emit x)).1 e later
 
   pub client_keeps : (x : ClientBlock) → Told x (client_speaks x)
   client_keeps x = client-keeps (client.unsaid x) x

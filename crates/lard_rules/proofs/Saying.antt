@@ -1,7 +1,7 @@
 -- What an endpoint and a client say, segment by segment.
 use Rattle.std.proofs.Common.{◌≡◌, ℕ, ◌==◌, ◌≤◌, ◌<◌, [], ◌∷◌, Bool, true, false, cond, not, refl, ap, subst, arith}
 use Rattle.std.specs.Prelude.{Option, Some, None, OnSome, if◌then◌else◌}
-use Rattle.lard_client.specs.Control.{ClientBlock, is_open}
+use Rattle.lard_client.specs.Control.{ClientBlock, is_client_open}
 use Rattle.lard_client.specs.Leaving as client
 use Rattle.lard_client.proofs.Emitting.{told_falls, owed_falls}
 use Rattle.lard_endpoint.specs.Control.{ControlBlock, IsControlBlock}
@@ -63,31 +63,31 @@ emit-rests b e = go b.reset (next_piece b.send) refl (owes (advanced b)) e where
 
 -- ---- a client
 
-client-falls : (x : ClientBlock) (r : Ready) → IsSending x.send → client.emitted x ≡ Some r → client.unsaid (client.after_emit x) < client.unsaid x
-client-falls x r h e = go (not (is_open x)) (next_piece x.send) refl (client.owes x) refl e where
-  go : (t : Bool) (p : Option Piece) → next_piece x.send ≡ p → (o : Bool) → client.owes x ≡ o
-      → cond {A = Option Ready} t None (client.ready_of x p (cond {A = Option Ready} o (Some (client.ack_ready x)) None)) ≡ Some r
-      → client.unsaid (cond t x (client.after_piece (record x { send = after_next x.send }) p (cond o (client.told x) x))) < client.unsaid x
+client-falls : (x : ClientBlock) (r : Ready) → IsSending x.send → client.client_emitted x ≡ Some r → client.unsaid (client.client_after_emit x) < client.unsaid x
+client-falls x r h e = go (not (is_client_open x)) (next_piece x.send) refl (client.client_owes x) refl e where
+  go : (t : Bool) (p : Option Piece) → next_piece x.send ≡ p → (o : Bool) → client.client_owes x ≡ o
+      → cond {A = Option Ready} t None (client.client_ready_of x p (cond {A = Option Ready} o (Some (client.client_ack_ready x)) None)) ≡ Some r
+      → client.unsaid (cond t x (client.client_after_piece (record x { send = after_next x.send }) p (cond o (client.client_told x) x))) < client.unsaid x
   go true p q o w k = cc
   go false (Some p) q o w k = told_falls x p h q
   go false None q true w k = owed_falls x w
   go false None q false w k = cc
 
-client-keeps : (x : ClientBlock) → IsSending x.send → IsSending (client.after_emit x).send
-client-keeps x h = go (not (is_open x)) (next_piece x.send) (client.owes x) where
-  go : (t : Bool) (p : Option Piece) (o : Bool) → IsSending (cond t x (client.after_piece (record x { send = after_next x.send }) p (cond o (client.told x) x))).send
+client-keeps : (x : ClientBlock) → IsSending x.send → IsSending (client.client_after_emit x).send
+client-keeps x h = go (not (is_client_open x)) (next_piece x.send) (client.client_owes x) where
+  go : (t : Bool) (p : Option Piece) (o : Bool) → IsSending (cond t x (client.client_after_piece (record x { send = after_next x.send }) p (cond o (client.client_told x) x))).send
   go true p o = h
   go false (Some p) o = after_next-sound x.send h
   go false None true = h
   go false None false = h
 
-client-drains : Drains client.emitted client.after_emit to_front always client.unsaid (λ x. IsSending x.send) client_emits
+client-drains : Drains client.client_emitted client.client_after_emit to_front always client.unsaid (λ x. IsSending x.send) client_emits
 unfolding client_emits
 client-drains = record { at_zero = λ s. refl; at_suc = λ n s. refl; falls = client-falls; keeps = client-keeps }
 
-pub client-more : (x : ClientBlock) (r : Ready) → IsSending x.send → client.emitted x ≡ Some r
-    → client_speaks x ≡ (to_front (client.after_emit x) r ∷ (client_speaks (client.after_emit x)).0, (client_speaks (client.after_emit x)).1)
-client-more x r h e = one_more client.emitted client.after_emit to_front always client.unsaid (λ y. IsSending y.send) client_emits client-drains x r h e
+pub client-more : (x : ClientBlock) (r : Ready) → IsSending x.send → client.client_emitted x ≡ Some r
+    → client_speaks x ≡ (to_front (client.client_after_emit x) r ∷ (client_speaks (client.client_after_emit x)).0, (client_speaks (client.client_after_emit x)).1)
+client-more x r h e = one_more client.client_emitted client.client_after_emit to_front always client.unsaid (λ y. IsSending y.send) client_emits client-drains x r h e
 
-pub client-done : (x : ClientBlock) → client.emitted x ≡ None → client_speaks x ≡ ([], x)
-client-done x e = nothing_more client.emitted client.after_emit to_front always client.unsaid (λ y. IsSending y.send) client_emits client-drains (client.unsaid x) x e
+pub client-done : (x : ClientBlock) → client.client_emitted x ≡ None → client_speaks x ≡ ([], x)
+client-done x e = nothing_more client.client_emitted client.client_after_emit to_front always client.unsaid (λ y. IsSending y.send) client_emits client-drains (client.unsaid x) x e

@@ -12,13 +12,13 @@ use Rattle.lard_rules.specs.declared.stay.Next.{Next}
 use Rattle.lard_rules.specs.declared.stay.Next.TheVariants.{Serve, Read, Stop}
 use Rattle.lard_rules.specs.declared.stay.Progress.{Progress}
 use Rattle.lard_rules.specs.declared.stay.Progress.TheVariants.{Named, Reading, Awaited, Ready}
-use Rattle.lard_rules.specs.Stay.{NodeEnv, Work, asking, asks_for, entered, enters, left, left_over, named_paths, next_by, next_in, next_of, read_entry, reads_batch, reads_these, serves, serves_by, serves_first, serves_with, turn, turned}
+use Rattle.lard_rules.specs.Stay.{NodeEnv, Work, asking, asks_for, entered, enters, work_left, left_over, named_paths, next_by, next_in, next_of, read_entry, reads_batch, reads_these, stay_serves, serves_by, serves_first, serves_with, stay_turn, turned}
 use Rattle.lard_reader.specs.Batches.{batch_of, bytes_used}
 use Rattle.lard_reader.proofs.Used.{batch-used}
 use Rattle.lard_request.specs.declared.verdict.Verdict.{Verdict}
 use Rattle.lard_request.specs.Verdict.{closes}
 use Rattle.lard_rules.specs.Loop.{More, Done, state_of}
-use Rattle.lard_rules.specs.Serving.{answered, closed_behind, consumed, passed_over, queued}
+use Rattle.lard_rules.specs.Serving.{answered, closed_behind, serving_consumed, passed_over, queued}
 
 -- ---- what a turn finds
 
@@ -36,7 +36,7 @@ unread-behind : (v : Verdict) (b : ControlBlock) → length (closed_behind v b).
 unread-behind v b = cond_both (closes v) (finishing (discarding_on b)) b (λ d. length d.recv.unread ≤ length b.recv.unread) (λ t. omega arith) (λ t. omega arith)
 
 ready_falls : (env : NodeEnv) (w : Work) (via : Via) (e : Entry) (es : List Entry) → w.batch ≡ e ∷ es → w.service.over ≡ None
-    → left (serves_with (answered env.serve via e.verdict w.service) e es w) < left w
+    → work_left (serves_with (answered env.serve via e.verdict w.service) e es w) < work_left w
 ready_falls env w via e es is none = go (nat_lt env.serve.stream total) where
   bytes : List ℕ
   bytes = answer env.serve.files e.verdict
@@ -44,32 +44,32 @@ ready_falls env w via e es is none = go (nat_lt env.serve.stream total) where
   total : ℕ
   total = w.service.block.send.total + length bytes
 
-  go : (t : Bool) → left (serves_with (cond t (passed_over env.serve total w.service) (queued env.serve via e.verdict bytes w.service)) e es w) < left w
+  go : (t : Bool) → work_left (serves_with (cond t (passed_over env.serve total w.service) (queued env.serve via e.verdict bytes w.service)) e es w) < work_left w
   go true = omega (arith, ap length is, ap left_over none)
   go false = omega (arith, ap length is, ap left_over none, unread-behind e.verdict (record w.service.block { send = record w.service.block.send { rest = w.service.block.send.rest ++ bytes; total = total } }))
 
-pub serve_falls : (env : NodeEnv) (w : Work) → next_of w ≡ Serve → left (serves env w) < left w
+pub serve_falls : (env : NodeEnv) (w : Work) → next_of w ≡ Serve → work_left (stay_serves env w) < work_left w
 serve_falls env w e = let f = found w Serve (λ h. cc) e in go w.batch refl f.0 f.1 where
-  by : (e : Entry) (es : List Entry) (p : Progress) → w.batch ≡ e ∷ es → next_by p ≡ Serve → w.service.over ≡ None → left (serves_by env e es w p) < left w
+  by : (e : Entry) (es : List Entry) (p : Progress) → w.batch ≡ e ∷ es → next_by p ≡ Serve → w.service.over ≡ None → work_left (serves_by env e es w p) < work_left w
   by e es (Ready via) is h none = ready_falls env w via e es is none
   by e es Named is h none = absurd (let f : Stop ≡ Serve = h in cc)
   by e es Reading is h none = absurd (let f : Stop ≡ Serve = h in cc)
   by e es (Awaited node) is h none = absurd (let f : Stop ≡ Serve = h in cc)
 
-  go : (es : List Entry) → w.batch ≡ es → next_in es ≡ Serve → w.service.over ≡ None → left (serves_first env w es) < left w
+  go : (es : List Entry) → w.batch ≡ es → next_in es ≡ Serve → w.service.over ≡ None → work_left (serves_first env w es) < work_left w
   go [] is h none = absurd (let f : Read ≡ Serve = h in cc)
   go (e ∷ es) is h none = by e es e.progress is h none
 
 -- ---- reading
 
-enters-left : (env : NodeEnv) (r : ℕ) (vs : List Verdict) (w : Work) → left (enters env false r vs w) ≡ left w + length vs
+enters-left : (env : NodeEnv) (r : ℕ) (vs : List Verdict) (w : Work) → work_left (enters env false r vs w) ≡ work_left w + length vs
 unfolding enters
 enters-left env r [] w = omega arith
 enters-left env r (v ∷ vs) w =
     let e : Entry = read_entry env.serve.files v in
     omega (arith, enters-left env (r + 1) vs (entered e w), length_push w.batch e)
 
-asks-left : (env : NodeEnv) (size : ℕ) (paths : List (List ℕ)) (w : Work) → left (asks_for env size paths w) ≡ left w
+asks-left : (env : NodeEnv) (size : ℕ) (paths : List (List ℕ)) (w : Work) → work_left (asks_for env size paths w) ≡ work_left w
 asks-left env size [] w = refl
 asks-left env size (path ∷ paths) w = refl
 
@@ -83,7 +83,7 @@ none-left (e ∷ es) h = absurd (go e.progress h) where
   go Reading h = cc
   go (Awaited node) h = cc
 
-pub read_falls : (env : NodeEnv) (w u : Work) → next_of w ≡ Read → reads_batch env false w ≡ More u → left u < left w
+pub read_falls : (env : NodeEnv) (w u : Work) → next_of w ≡ Read → reads_batch env false w ≡ More u → work_left u < work_left w
 read_falls env w u e h = go (batch_of 8 unread) refl h where
   unread : List ℕ
   unread = w.service.block.recv.unread
@@ -94,15 +94,15 @@ read_falls env w u e h = go (batch_of 8 unread) refl h where
   none : length w.batch ≡ 0
   none = ap (λ (es : List Entry). length es) (none-left w.batch (found w Read (λ h. cc) e).0)
 
-  go : (vs : List Verdict) → batch_of 8 unread ≡ vs → reads_these env false used w vs ≡ More u → left u < left w
+  go : (vs : List Verdict) → batch_of 8 unread ≡ vs → reads_these env false used w vs ≡ More u → work_left u < work_left w
   go [] is h = absurd (let f : Done (state_of (reads_these env false used w [])) ≡ More u = h in cc)
   go (v ∷ vs) is h =
-      let rest : Work = record w { service = consumed used w.service } in
+      let rest : Work = record w { service = serving_consumed used w.service } in
       let all : Work = enters env false (w.service.count + 1) (v ∷ vs) rest in
       let same : asking env (length (v ∷ vs)) all ≡ u = cc in
       omega (
         arith,
-        ap left same,
+        ap work_left same,
         asks-left env (length (v ∷ vs)) (named_paths env.serve.files all.batch) all,
         enters-left env (w.service.count + 1) (v ∷ vs) rest,
         none,
@@ -114,10 +114,10 @@ read_falls env w u e h = go (batch_of 8 unread) refl h where
 
 -- ---- turns
 
-turn_falls : (env : NodeEnv) (w u : Work) (n : Next) → next_of w ≡ n → turned env w n ≡ More u → left u < left w
-turn_falls env w u Serve e h = let s : serves env w ≡ u = cc in omega (arith, serve_falls env w e, ap left s)
+turn_falls : (env : NodeEnv) (w u : Work) (n : Next) → next_of w ≡ n → turned env w n ≡ More u → work_left u < work_left w
+turn_falls env w u Serve e h = let s : stay_serves env w ≡ u = cc in omega (arith, serve_falls env w e, ap work_left s)
 turn_falls env w u Read e h = read_falls env w u e h
 turn_falls env w u Stop e h = absurd (let f : Done w ≡ More u = h in cc)
 
-pub falls : (env : NodeEnv) (w u : Work) → turn env w ≡ More u → left u < left w
+pub falls : (env : NodeEnv) (w u : Work) → stay_turn env w ≡ More u → work_left u < work_left w
 falls env w u h = turn_falls env w u (next_of w) refl h

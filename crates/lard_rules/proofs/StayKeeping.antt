@@ -16,8 +16,8 @@ use Rattle.lard_rules.specs.declared.stay.Next.TheVariants as next
 use Rattle.lard_rules.specs.declared.stay.Progress.{Progress}
 use Rattle.lard_rules.specs.declared.stay.Progress.TheVariants as progress
 use Rattle.lard_rules.specs.Loop.{Step, More, Done, state_of}
-use Rattle.lard_rules.specs.Serving.{Service, answered, consumed, ended_at_fin, may_read}
-use Rattle.lard_rules.specs.Stay.{NodeEnv, Work, asks_for, came_for, come_on, entered, enters, enters_first, enters_one, goes_on, hit_here, left, named_path, named_paths, next_in, noted, own_job, path_in, queued_here, read_entry, reads_batch, reads_these, serves_by, serves_first, serves_with, started, started_here, started_there, starts_at, starts_named, starts_one, tagged, turn, turned}
+use Rattle.lard_rules.specs.Serving.{Service, answered, serving_consumed, ended_at_fin, may_read}
+use Rattle.lard_rules.specs.Stay.{NodeEnv, Work, asks_for, came_for, come_on, entered, enters, enters_first, enters_one, goes_on, hit_here, work_left, named_path, named_paths, next_in, noted, own_job, path_in, queued_here, read_entry, reads_batch, reads_these, serves_by, serves_first, serves_with, started, started_here, started_there, starts_at, starts_named, starts_one, tagged, stay_turn, turned}
 use Rattle.lard_rules.proofs.Runs.{runs_keep}
 use Rattle.lard_rules.proofs.StayFalling.{none-left}
 
@@ -33,7 +33,7 @@ pub record KeptByStay (env : NodeEnv) (P : Work → Type 0) : Type 0 where
   pub wants : (node r : ℕ) (path : List ℕ) (v : Verdict) (w : Work) → good_path env.serve.files v ≡ Some path → r ≡ next_number w → (node == env.n) ≡ false → P w → P (started_there node r path v w)
   pub enters : (v : Verdict) (w : Work) → P w → P (entered (read_entry env.serve.files v) w)
   pub asks : (size : ℕ) (path : List ℕ) (paths : List (List ℕ)) (w : Work) → named_paths env.serve.files w.batch ≡ path ∷ paths → P w → P (asks_for env size (path ∷ paths) w)
-  pub takes : (used : ℕ) (w : Work) → w.batch ≡ [] → P w → P (record w { service = consumed used w.service })
+  pub takes : (used : ℕ) (w : Work) → w.batch ≡ [] → P w → P (record w { service = serving_consumed used w.service })
   pub ends : (w : Work) → w.batch ≡ [] → P w → P (record w { service = ended_at_fin w.service })
   pub serves : (way : Via) (e : Entry) (rest : List Entry) (w : Work) → may_read w.service ≡ true → w.batch ≡ e ∷ rest → e.progress ≡ progress.Ready way → P w
       → P (serves_with (answered env.serve way e.verdict w.service) e rest w)
@@ -98,9 +98,9 @@ module _ (env : NodeEnv) (P : Work → Type 0) (kept : KeptByStay env P) where
   state-keeps (Done w) h = h
 
   these-keep : (here : Bool) (used : ℕ) (w : Work) (vs : List Verdict) → w.batch ≡ [] → P w → KeepsIn (reads_these env here used w vs)
-  these-keep here used w [] none h = kept.ends (record w { service = consumed used w.service }) none (kept.takes used w none h)
+  these-keep here used w [] none h = kept.ends (record w { service = serving_consumed used w.service }) none (kept.takes used w none h)
   these-keep here used w (v ∷ vs) none h =
-      let rest : Work = record w { service = consumed used w.service } in
+      let rest : Work = record w { service = serving_consumed used w.service } in
       let all : Work = enters env here (w.service.count + 1) (v ∷ vs) rest in
       asks-keep (length (v ∷ vs)) (named_paths env.serve.files all.batch) all refl
       (all-enter here (w.service.count + 1) (v ∷ vs) rest (kept.takes used w none h, omega (arith, ap (λ (es : List Entry). length es) none)))
@@ -127,7 +127,7 @@ module _ (env : NodeEnv) (P : Work → Type 0) (kept : KeptByStay env P) where
   turned-keeps w next.Read is may h = batch-in false w (none-left w.batch is) h
   turned-keeps w next.Stop is may h = h
 
-  turn-keeps : (w : Work) → P w → KeepsIn (turn env w)
+  turn-keeps : (w : Work) → P w → KeepsIn (stay_turn env w)
   turn-keeps w h = go (may_read w.service) refl where
     go : (b : Bool) → may_read w.service ≡ b → KeepsIn (turned env w (cond b (next_in w.batch) next.Stop))
     go true may = turned-keeps w (next_in w.batch) refl may h
@@ -135,7 +135,7 @@ module _ (env : NodeEnv) (P : Work → Type 0) (kept : KeptByStay env P) where
 
   -- the stay goes on
   pub goes-keep : (w : Work) → P w → P (goes_on env w)
-  goes-keep w h = runs_keep (turn env) left P (record {
+  goes-keep w h = runs_keep (stay_turn env) work_left P (record {
     more = λ y z e p. subst KeepsIn e (turn-keeps y p);
     done = λ y z e p. subst KeepsIn e (turn-keeps y p);
   }) w h
@@ -177,7 +177,7 @@ pub record KeptByNotes (env : NodeEnv) (P : Service → List Job → Type 0) : T
   pub hits : (path : List ℕ) (v : Verdict) (s : Service) (jobs : List Job) → good_path env.serve.files v ≡ Some path → env.cached path ≡ true → P s jobs → P (noted (rec.Hit env.n path ∷ []) s) jobs
   pub queues : (r : ℕ) (path : List ℕ) (v : Verdict) (s : Service) (jobs : List Job) → good_path env.serve.files v ≡ Some path → env.cached path ≡ false → P s jobs
       → P (noted (rec.Queued env.n env.n env.serve.c r path ∷ []) s) (jobs ++ own_job env r path ∷ [])
-  pub takes : (used : ℕ) (s : Service) (jobs : List Job) → P s jobs → P (consumed used s) jobs
+  pub takes : (used : ℕ) (s : Service) (jobs : List Job) → P s jobs → P (serving_consumed used s) jobs
   pub ends : (s : Service) (jobs : List Job) → P s jobs → P (ended_at_fin s) jobs
   pub answers : (way : Via) (v : Verdict) (s : Service) (jobs : List Job) → may_read s ≡ true → P s jobs → P (answered env.serve way v s) jobs
 

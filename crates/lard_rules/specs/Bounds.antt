@@ -13,12 +13,12 @@ HasTimer (Client d) c = d ≡ c
 HasTimer _ c = Unit {0}
 
 -- it may be the number of a connection, so it fits the two bytes in which a message names its connection
-abbrev pub IsNumber : ℕ → Type 0
-IsNumber c = (1 ≤ c) × (c ≤ MAX)
+abbrev pub IsConnNumber : ℕ → Type 0
+IsConnNumber c = (1 ≤ c) × (c ≤ MAX)
 
 -- the event has a rule, and its numbers are ones that the rule can take
 abbrev pub HasRule : Event → Type 0
-HasRule (Open c isn iss wnd mss) = (1 ≤ wnd) × (1 ≤ mss) × (mss ≤ MAX_SEGMENT_DATA) × (wnd < 2 ^ 16) × (isn < 2 ^ 32) × (iss < 2 ^ 32) × IsNumber c
+HasRule (Open c isn iss wnd mss) = (1 ≤ wnd) × (1 ≤ mss) × (mss ≤ MAX_SEGMENT_DATA) × (wnd < 2 ^ 16) × (isn < 2 ^ 32) × (iss < 2 ^ 32) × IsConnNumber c
 HasRule (Timer p c) = HasTimer p c
 HasRule (Settle rounds) = ⊥
 HasRule (Inject c bytes) = (1 ≤ length bytes) × (length bytes ≤ MAX_SEGMENT_BYTES)

@@ -4,9 +4,9 @@ use Rattle.std.specs.Prelude.{ℕ, nat_lt, List, [], ◌∷◌, ◌++◌, take, 
 use Rattle.lard_base.specs.declared.place.Place.{Place}
 use Rattle.lard_base.specs.declared.place.Place.TheVariants.{Front}
 use Rattle.lard_client.specs.declared.heard.Heard.{Heard}
-use Rattle.lard_client.specs.Control.{ClientBlock, opened, written, is_writing, shut_down, held_on, taken, aborted}
-use Rattle.lard_client.specs.Arriving.{arrived}
-use Rattle.lard_client.specs.Leaving.{timed, after_timer, abort_ready}
+use Rattle.lard_client.specs.Control.{ClientBlock, client_opened, client_written, is_writing, shut_down, held_on, client_taken, aborted}
+use Rattle.lard_client.specs.Arriving.{client_arrived}
+use Rattle.lard_client.specs.Leaving.{client_timed, client_after_timer, abort_ready}
 use Rattle.lard_journal.specs.declared.rec.Rec.{Rec}
 use Rattle.lard_journal.specs.declared.rec.Rec.TheVariants as rec
 use Rattle.lard_rules.specs.declared.places.Turn.{Turn}
@@ -24,17 +24,17 @@ abbrev pub speaking : List Rec → List (Place × List ℕ) → ClientBlock → 
 speaking notes segments x = ((client_speaks x).1, record { notes = notes; segments = segments ++ (client_speaks x).0; answered = 0 })
 
 -- the segment that is ready, where there is one
-abbrev pub ready_of : ClientBlock → Option Ready → List (Place × List ℕ)
-ready_of x None = []
-ready_of x (Some r) = to_front x r ∷ []
+abbrev pub station_ready_of : ClientBlock → Option Ready → List (Place × List ℕ)
+station_ready_of x None = []
+station_ready_of x (Some r) = to_front x r ∷ []
 
 -- It opens (RFC 9293, 3.10.1): its SYN goes out.
 abbrev pub client_opens : ℕ → ℕ → ℕ → ℕ → ClientBlock × Turn
-client_opens c isn wnd mss = speaking [] [] (opened c isn wnd mss)
+client_opens c isn wnd mss = speaking [] [] (client_opened c isn wnd mss)
 
 -- It writes (RFC 9293, 3.10.2), unless it writes no longer.
 abbrev pub client_writes : ClientBlock → List ℕ → ClientBlock × Turn
-client_writes x bytes = if is_writing x then speaking (rec.Wrote x.c bytes ∷ []) [] (written x bytes) else (x, silent)
+client_writes x bytes = if is_writing x then speaking (rec.Wrote x.c bytes ∷ []) [] (client_written x bytes) else (x, silent)
 
 -- It closes its side (RFC 9293, 3.10.4).
 abbrev pub client_shuts : ClientBlock → ClientBlock × Turn
@@ -46,15 +46,15 @@ client_holds x = speaking [] [] (held_on x)
 
 -- It reads all that lies in its window (RFC 9293, 3.10.3).
 abbrev pub client_takes : ClientBlock → ClientBlock × Turn
-client_takes x = speaking [] [] (taken x)
+client_takes x = speaking [] [] (client_taken x)
 
 -- It resets its connection (RFC 9293, 3.10.5), by a RST where there is one to send.
 abbrev pub client_aborts : ClientBlock → ClientBlock × Turn
-client_aborts x = (aborted x, record { notes = rec.Aborted x.c ∷ []; segments = ready_of (aborted x) (abort_ready x); answered = 0 })
+client_aborts x = (aborted x, record { notes = rec.Aborted x.c ∷ []; segments = station_ready_of (aborted x) (abort_ready x); answered = 0 })
 
 -- Its timer fires (RFC 9293, 3.10.8).
 abbrev pub client_timer : ClientBlock → ClientBlock × Turn
-client_timer x = speaking [] (ready_of (after_timer x) (timed x)) (after_timer x)
+client_timer x = speaking [] (station_ready_of (client_after_timer x) (client_timed x)) (client_after_timer x)
 
 -- the records of what it accepted of a segment's data, and of the end of its stream
 abbrev pub accepted_note : ℕ → Heard → List ℕ → List Rec
@@ -65,12 +65,12 @@ eof_note c h = if h.eof then rec.Eof c ∷ [] else []
 
 -- It heard this of a segment, and is as it is after that.
 abbrev pub client_heard : List ℕ → Heard × ClientBlock → ClientBlock × Turn
-client_heard payload heard = speaking (accepted_note heard.1.c heard.0 payload ++ eof_note heard.1.c heard.0) (ready_of heard.1 heard.0.reply) heard.1
+client_heard payload heard = speaking (accepted_note heard.1.c heard.0 payload ++ eof_note heard.1.c heard.0) (station_ready_of heard.1 heard.0.reply) heard.1
 
 -- A segment comes (RFC 9293, 3.10.7). What does not decode is dropped.
 abbrev pub client_gets : ClientBlock → Result Said SegFault → ClientBlock × Turn
 client_gets x (Err fault) = (x, silent)
-client_gets x (Ok s) = client_heard s.payload (arrived x s)
+client_gets x (Ok s) = client_heard s.payload (client_arrived x s)
 
 -- The schedule puts a packet with these bytes on the way from it; the client itself does nothing.
 abbrev pub client_injects : ClientBlock → List ℕ → ClientBlock × Turn

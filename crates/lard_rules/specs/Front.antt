@@ -21,7 +21,7 @@ use Rattle.lard_endpoint.specs.Leaving.{timed, after_timer}
 use Rattle.lard_endpoint.specs.Moving.{parts_of}
 use Rattle.lard_rules.specs.declared.front.FrontRest.{FrontRest}
 use Rattle.lard_rules.specs.declared.front.FrontTurn.{FrontTurn}
-use Rattle.lard_rules.specs.FrontReading.{Reading, reads}
+use Rattle.lard_rules.specs.FrontReading.{Reading, front_reads}
 use Rattle.lard_handoff_front.specs.declared.row.FrontConn.{FrontConn}
 use Rattle.lard_handoff_front.specs.declared.row.FrontConn.TheVariants as stage
 use Rattle.lard_handoff_front.specs.declared.row.FrontRow.{FrontRow}
@@ -35,13 +35,13 @@ use Rattle.lard_message.specs.declared.message.Body.TheVariants as body
 use Rattle.lard_message.specs.Message.{spelled_message}
 use Rattle.lard_policy.specs.declared.first.FirstChoice.{FirstChoice}
 use Rattle.lard_resend.specs.declared.kept.Kept.{Kept}
-use Rattle.lard_resend.specs.Kept.{rank, without}
+use Rattle.lard_resend.specs.Kept.{kind_rank, without}
 use Rattle.lard_resend.specs.Pending.{sent_of}
 use Rattle.lard_rules.specs.declared.places.Ending.{Ending}
 use Rattle.lard_rules.specs.declared.places.Ending.TheVariants.{Here, Over}
 use Rattle.lard_rules.specs.declared.places.Turn.{Turn}
 use Rattle.lard_rules.specs.Tombstone.{is_plain_syn, last_words, tombstone}
-use Rattle.lard_rules.specs.Serving.{ServeEnv, Service, ready_of, serving, settled, spoken}
+use Rattle.lard_rules.specs.Serving.{ServeEnv, Service, serving_ready_of, serving, serving_settled, spoken}
 use Rattle.lard_segment.specs.declared.fault.SegFault.{SegFault}
 use Rattle.lard_segment.specs.Segment.{Said}
 use Rattle.lard_send.specs.Send.{is_clear}
@@ -68,10 +68,10 @@ pub record Did : Type 0 where
   pub calls : List Call
 
 -- What a rule comes to: it drops what came, or does this and keeps what it kept, or does and keeps this.
-pub data Deed : Type 0 where
-  Drops : Deed
-  Says : FrontTurn → Deed
-  Does : Did → Deed
+pub data FrontDeed : Type 0 where
+  Drops : FrontDeed
+  Says : FrontTurn → FrontDeed
+  Does : Did → FrontDeed
 
 -- ---- turns
 
@@ -80,8 +80,8 @@ abbrev pub turn_here : Turn → FrontTurn
 turn_here t = record { notes = t.notes; segments = t.segments; gave = []; messages = []; answered = t.answered }
 
 -- messages go out, and nothing else is done
-abbrev pub saying : List (Place × List ℕ) → FrontTurn
-saying messages = record { notes = []; segments = []; gave = []; messages = messages; answered = 0 }
+abbrev pub front_saying : List (Place × List ℕ) → FrontTurn
+front_saying messages = record { notes = []; segments = []; gave = []; messages = messages; answered = 0 }
 
 abbrev pub message : ℕ → ℕ → Body → List ℕ
 message c epoch b = spelled_message (record { c = c; epoch = record { 0 = epoch }; body = b })
@@ -89,9 +89,9 @@ message c epoch b = spelled_message (record { c = c; epoch = record { 0 = epoch 
 -- ---- an endpoint that is here
 
 -- nothing is known of what was done before a connection began
-abbrev pub rest_of : Option FrontRest → FrontRest
-rest_of None = record { count = 0; asks = 0; tag = []; assigned = 0; target = None }
-rest_of (Some rest) = rest
+abbrev pub front_rest : Option FrontRest → FrontRest
+front_rest None = record { count = 0; asks = 0; tag = []; assigned = 0; target = None }
+front_rest (Some rest) = rest
 
 -- it stays in this stage, or it ended
 abbrev pub stage_after : (ControlBlock → FrontConn) → Ending → FrontConn
@@ -102,20 +102,20 @@ abbrev pub rest_after : FrontRest → Ending → Option FrontRest
 rest_after rest (Here b count) = Some (record rest { count = count })
 rest_after rest (Over last) = None
 
-abbrev pub rests : FrontPart → FrontRow → FrontRest → (ControlBlock → FrontConn) → Ending → FrontPart
-rests p row rest stays e = record p { row = Some (record row { stage = stage_after stays e }); rest = rest_after rest e }
+abbrev pub front_rests : FrontPart → FrontRow → FrontRest → (ControlBlock → FrontConn) → Ending → FrontPart
+front_rests p row rest stays e = record p { row = Some (record row { stage = stage_after stays e }); rest = rest_after rest e }
 
 -- A held connection goes on, or ends; the dispatcher knows nothing of it.
-abbrev pub holds : FrontPart → FrontRow → FrontRest → Ending × Turn → Deed
-holds p row rest given = Does (record { part = rests p row rest stage.Held given.0; turn = turn_here given.1; calls = [] })
+abbrev pub holds : FrontPart → FrontRow → FrontRest → Ending × Turn → FrontDeed
+holds p row rest given = Does (record { part = front_rests p row rest stage.Held given.0; turn = turn_here given.1; calls = [] })
 
 -- A waiting one goes on to wait, or ends, and leaves the line then.
 abbrev pub leaves_by : ℕ → Ending → List Call
 leaves_by c (Here b count) = []
 leaves_by c (Over last) = call.Leave c ∷ []
 
-abbrev pub waits_on : FrontEnv → FrontPart → FrontRow → FrontRest → Ending × Turn → Deed
-waits_on env p row rest given = Does (record { part = rests p row rest stage.Waiting given.0; turn = turn_here given.1; calls = leaves_by env.serve.c given.0 })
+abbrev pub waits_on : FrontEnv → FrontPart → FrontRow → FrontRest → Ending × Turn → FrontDeed
+waits_on env p row rest given = Does (record { part = front_rests p row rest stage.Waiting given.0; turn = turn_here given.1; calls = leaves_by env.serve.c given.0 })
 
 -- ---- the hand-off
 
@@ -151,7 +151,7 @@ placed env p row rest w path (first.Go choice) =
 placed env p row rest w path first.Waits =
     let given = spoken env.serve (record w { notes = w.notes ++ rec.Waits env.serve.c ∷ [] }) [] in
     record {
-      part = rests p row (record rest { target = Some path }) stage.Waiting given.0;
+      part = front_rests p row (record rest { target = Some path }) stage.Waiting given.0;
       turn = turn_here given.1;
       calls = call.First env.serve.c path env.now ∷ leaves_by env.serve.c given.0;
     }
@@ -159,56 +159,56 @@ placed env p row rest w path first.Waits =
 -- ---- segments
 
 -- what was read is said, or the connection is placed
-abbrev pub settled_by : FrontEnv → FrontPart → FrontRow → FrontRest → Service → Option (List ℕ) → Deed
-settled_by env p row rest w None = holds p row rest (settled env.serve w)
+abbrev pub settled_by : FrontEnv → FrontPart → FrontRow → FrontRest → Service → Option (List ℕ) → FrontDeed
+settled_by env p row rest w None = holds p row rest (serving_settled env.serve w)
 settled_by env p row rest w (Some path) = Does (placed env p row rest w path (env.first path))
 
-abbrev pub read_by : FrontEnv → FrontPart → FrontRow → FrontRest → Reading → Deed
-read_by env p row rest x = settled_by env p row rest x.service x.target
+abbrev pub front_read_by : FrontEnv → FrontPart → FrontRow → FrontRest → Reading → FrontDeed
+front_read_by env p row rest x = settled_by env p row rest x.service x.target
 
 -- The endpoint takes a segment, and the front end reads what it may.
-abbrev pub heard : FrontEnv → FrontPart → FrontRow → FrontRest → ControlBlock → Deed
-heard env p row rest b = read_by env p row rest (reads env.serve (record { service = serving b rest.count []; target = None }))
+abbrev pub heard : FrontEnv → FrontPart → FrontRow → FrontRest → ControlBlock → FrontDeed
+heard env p row rest b = front_read_by env p row rest (front_reads env.serve (record { service = serving b rest.count []; target = None }))
 
 -- The front end listens to every client (RFC 9293, 3.10.7.2), and is the first owner of the connection.
-abbrev pub begun : FrontEnv → FrontPart → Said → Deed
-begun env p s = holds p (record { stage = stage.Lent; epoch = record { 0 = 1 }; ended_by = None }) (rest_of None)
+abbrev pub front_begun : FrontEnv → FrontPart → Said → FrontDeed
+front_begun env p s = holds p (record { stage = stage.Lent; epoch = record { 0 = 1 }; ended_by = None }) (front_rest None)
     (spoken env.serve (serving (listening s env.iss) 0 (rec.Took place.Front env.serve.c (record { 0 = 1 }) ∷ [])) [])
 
-abbrev pub met : FrontEnv → FrontPart → Said → Deed
-met env p s = if is_plain_syn s then begun env p s else Drops
+abbrev pub met : FrontEnv → FrontPart → Said → FrontDeed
+met env p s = if is_plain_syn s then front_begun env p s else Drops
 
 -- A segment of a connection that is away goes to its node, as it came.
-abbrev pub forwarded : FrontEnv → ℕ → Epoch → List ℕ → Deed
-forwarded env node epoch bytes = Says (saying ((place.Node node, message env.serve.c epoch.0 (body.Forward bytes)) ∷ []))
+abbrev pub forwarded : FrontEnv → ℕ → Epoch → List ℕ → FrontDeed
+forwarded env node epoch bytes = Says (front_saying ((place.Node node, message env.serve.c epoch.0 (body.Forward bytes)) ∷ []))
 
-abbrev pub hears_at : FrontEnv → FrontPart → FrontRow → List ℕ → Said → FrontConn → Deed
-hears_at env p row bytes s (stage.Held b) = heard env p row (rest_of p.rest) (on_segment b s).1
-hears_at env p row bytes s (stage.Waiting b) = waits_on env p row (rest_of p.rest) (spoken env.serve (serving (on_segment b s).1 (rest_of p.rest).count []) [])
+abbrev pub hears_at : FrontEnv → FrontPart → FrontRow → List ℕ → Said → FrontConn → FrontDeed
+hears_at env p row bytes s (stage.Held b) = heard env p row (front_rest p.rest) (on_segment b s).1
+hears_at env p row bytes s (stage.Waiting b) = waits_on env p row (front_rest p.rest) (spoken env.serve (serving (on_segment b s).1 (front_rest p.rest).count []) [])
 hears_at env p row bytes s stage.Lent = Drops
 hears_at env p row bytes s (stage.Offering node epoch) = forwarded env node epoch bytes
 hears_at env p row bytes s (stage.Moved node epoch) = forwarded env node epoch bytes
 hears_at env p row bytes s (stage.Closed last) = Says (turn_here (tombstone env.serve (last_words last.reason last s)))
 
-abbrev pub front_hears : FrontEnv → FrontPart → List ℕ → Said → Option FrontRow → Deed
+abbrev pub front_hears : FrontEnv → FrontPart → List ℕ → Said → Option FrontRow → FrontDeed
 front_hears env p bytes s None = met env p s
 front_hears env p bytes s (Some row) = hears_at env p row bytes s row.stage
 
 -- What does not decode is dropped.
-abbrev pub front_gets : FrontEnv → FrontPart → List ℕ → Result Said SegFault → Deed
+abbrev pub front_gets : FrontEnv → FrontPart → List ℕ → Result Said SegFault → FrontDeed
 front_gets env p bytes (Err fault) = Drops
 front_gets env p bytes (Ok s) = front_hears env p bytes s p.row
 
 -- ---- messages of nodes
 
 -- A node took the connection: the Offer is not told again.
-abbrev pub taken_by : FrontPart → ℕ → Option FrontRow → Option ℕ → Deed
+abbrev pub taken_by : FrontPart → ℕ → Option FrontRow → Option ℕ → FrontDeed
 taken_by p epoch None asked = Drops
 taken_by p epoch (Some row) None = Drops
 taken_by p epoch (Some row) (Some node) =
-    Does (record { part = record p { row = Some (record row { stage = stage.Moved node (record { 0 = epoch }) }); kept = without kind.Offer 0 p.kept }; turn = saying []; calls = [] })
+    Does (record { part = record p { row = Some (record row { stage = stage.Moved node (record { 0 = epoch }) }); kept = without kind.Offer 0 p.kept }; turn = front_saying []; calls = [] })
 
-abbrev pub front_taken : FrontPart → ℕ → Deed
+abbrev pub front_taken : FrontPart → ℕ → FrontDeed
 front_taken p epoch = taken_by p epoch p.row (asked_node epoch p.row)
 
 -- the connection is with this node, in this epoch
@@ -220,9 +220,9 @@ is_with from epoch (stage.Waiting b) = false
 is_with from epoch stage.Lent = false
 is_with from epoch (stage.Closed last) = false
 
-abbrev pub is_at : ℕ → ℕ → Option FrontRow → Bool
-is_at from epoch None = false
-is_at from epoch (Some row) = is_with from epoch row.stage
+abbrev pub is_row_at : ℕ → ℕ → Option FrontRow → Bool
+is_row_at from epoch None = false
+is_row_at from epoch (Some row) = is_with from epoch row.stage
 
 abbrev pub tag_sent : FrontEnv → ℕ → ℕ → ℕ → List ℕ → List (Place × List ℕ)
 tag_sent env from epoch number nodes = (place.Node from, message env.serve.c epoch (body.Tag number nodes)) ∷ []
@@ -242,55 +242,55 @@ over_note c false = []
 abbrev pub assigns : FrontEnv → FrontPart → FrontRest → ℕ → ℕ → Ask → Later → Did
 assigns env p rest from epoch ask l = record {
   part = record p { rest = Some (record rest { asks = ask.number; tag = map (λ x. x.node) l.choices; assigned = rest.assigned + length l.choices }) };
-  turn = record (saying (tag_sent env from epoch ask.number (map (λ x. x.node) l.choices))) { notes = over_note env.serve.c l.over ++ assigned_notes env.serve.c ask rest.assigned ask.paths l.choices };
+  turn = record (front_saying (tag_sent env from epoch ask.number (map (λ x. x.node) l.choices))) { notes = over_note env.serve.c l.over ++ assigned_notes env.serve.c ask rest.assigned ask.paths l.choices };
   calls = call.Later ask env.now ∷ [];
 }
 
 -- An Ask of the connection's node in its epoch: the last that was answered gets the same Tag again, the next one is new, and any
 -- other is dropped.
-abbrev pub asked_by : FrontEnv → FrontPart → ℕ → ℕ → Ask → Option FrontRest → Deed
+abbrev pub asked_by : FrontEnv → FrontPart → ℕ → ℕ → Ask → Option FrontRest → FrontDeed
 asked_by env p from epoch ask None = Drops
 asked_by env p from epoch ask (Some rest) =
     if ask.number == rest.asks + 1 then Does (assigns env p rest from epoch ask (env.later ask)) else
-    if ask.number == rest.asks && nat_lt 0 rest.asks then Says (saying (tag_sent env from epoch rest.asks rest.tag)) else
+    if ask.number == rest.asks && nat_lt 0 rest.asks then Says (front_saying (tag_sent env from epoch rest.asks rest.tag)) else
     Drops
 
 abbrev pub ask_of : ℕ → ℕ → ℕ → ℕ → ℕ → List (List ℕ) → Ask
 ask_of c home number queue size paths = record { c = c; home = home; number = number; queue = queue; size = size; paths = paths }
 
-abbrev pub front_asked : FrontEnv → FrontPart → ℕ → ℕ → Ask → Deed
-front_asked env p from epoch ask = if is_at from epoch p.row then asked_by env p from epoch ask p.rest else Drops
+abbrev pub front_asked : FrontEnv → FrontPart → ℕ → ℕ → Ask → FrontDeed
+front_asked env p from epoch ask = if is_row_at from epoch p.row then asked_by env p from epoch ask p.rest else Drops
 
 -- The connection ended at its node: the front end takes it in the next epoch, keeps its last numbers, and releases it. The first
 -- of the line is admitted in the same step. Told again, it acknowledges again.
 abbrev pub ack_sent : FrontEnv → ℕ → ℕ → List (Place × List ℕ)
 ack_sent env from epoch = (place.Node from, message env.serve.c epoch body.EndedAck) ∷ []
 
-abbrev pub ends : FrontEnv → FrontPart → ℕ → ℕ → Final → FrontRow → Epoch → Did
-ends env p from epoch last row next = record {
+abbrev pub front_ends : FrontEnv → FrontPart → ℕ → ℕ → Final → FrontRow → Epoch → Did
+front_ends env p from epoch last row next = record {
   part = record { row = Some (ended_row (record { 0 = epoch }) last row); rest = None; kept = without kind.Offer 0 p.kept };
-  turn = record (saying (ack_sent env from epoch)) { notes = rec.Took place.Front env.serve.c next ∷ rec.Released env.serve.c ∷ [] };
+  turn = record (front_saying (ack_sent env from epoch)) { notes = rec.Took place.Front env.serve.c next ∷ rec.Released env.serve.c ∷ [] };
   calls = call.Ended env.serve.c env.now ∷ [];
 }
 
-abbrev pub ended_by : FrontEnv → FrontPart → ℕ → ℕ → Final → Option FrontRow → OnEnded → Deed
-ended_by env p from epoch last None given = Drops
-ended_by env p from epoch last (Some row) (New next) = Does (ends env p from epoch last row next)
-ended_by env p from epoch last (Some row) Again = Says (saying (ack_sent env from epoch))
-ended_by env p from epoch last (Some row) Stale = Drops
+abbrev pub front_ended_by : FrontEnv → FrontPart → ℕ → ℕ → Final → Option FrontRow → OnEnded → FrontDeed
+front_ended_by env p from epoch last None given = Drops
+front_ended_by env p from epoch last (Some row) (New next) = Does (front_ends env p from epoch last row next)
+front_ended_by env p from epoch last (Some row) Again = Says (front_saying (ack_sent env from epoch))
+front_ended_by env p from epoch last (Some row) Stale = Drops
 
-abbrev pub front_ended : FrontEnv → FrontPart → ℕ → ℕ → Final → Deed
-front_ended env p from epoch last = ended_by env p from epoch last p.row (end_answer epoch p.row)
+abbrev pub front_ended : FrontEnv → FrontPart → ℕ → ℕ → Final → FrontDeed
+front_ended env p from epoch last = front_ended_by env p from epoch last p.row (end_answer epoch p.row)
 
 -- ---- the head of the line
 
 -- A waiting connection is handed off as the dispatcher says, in the step in which another one ended.
-abbrev pub admitted_with : FrontEnv → FrontRow → FrontRest → ControlBlock → FirstChoice → Option (List ℕ) → Option (FrontPart × FrontTurn)
-admitted_with env row rest b choice None = None
-admitted_with env row rest b choice (Some path) = Some (handed_off env row (serving b rest.count []) path choice)
+abbrev pub front_admitted_with : FrontEnv → FrontRow → FrontRest → ControlBlock → FirstChoice → Option (List ℕ) → Option (FrontPart × FrontTurn)
+front_admitted_with env row rest b choice None = None
+front_admitted_with env row rest b choice (Some path) = Some (handed_off env row (serving b rest.count []) path choice)
 
 abbrev pub admitted_at : FrontEnv → FrontPart → FirstChoice → FrontRow → FrontConn → Option (FrontPart × FrontTurn)
-admitted_at env p choice row (stage.Waiting b) = admitted_with env row (rest_of p.rest) b choice (rest_of p.rest).target
+admitted_at env p choice row (stage.Waiting b) = front_admitted_with env row (front_rest p.rest) b choice (front_rest p.rest).target
 admitted_at env p choice row (stage.Held b) = None
 admitted_at env p choice row stage.Lent = None
 admitted_at env p choice row (stage.Offering node epoch) = None
@@ -307,23 +307,23 @@ front_admitted env p choice = admitted_by env p choice p.row
 -- ---- timers
 
 -- The endpoint's timer fires (RFC 9293, 3.10.8), or the Offer that awaits an answer is sent again.
-abbrev pub fired : FrontEnv → FrontRest → ControlBlock → Ending × Turn
-fired env rest b = spoken env.serve (serving (after_timer b) rest.count []) (ready_of env.serve (after_timer b) (timed b))
+abbrev pub front_fired : FrontEnv → FrontRest → ControlBlock → Ending × Turn
+front_fired env rest b = spoken env.serve (serving (after_timer b) rest.count []) (serving_ready_of env.serve (after_timer b) (timed b))
 
-abbrev pub fires_at : FrontEnv → FrontPart → FrontRow → FrontConn → Deed
-fires_at env p row (stage.Held b) = holds p row (rest_of p.rest) (fired env (rest_of p.rest) b)
-fires_at env p row (stage.Waiting b) = waits_on env p row (rest_of p.rest) (fired env (rest_of p.rest) b)
+abbrev pub fires_at : FrontEnv → FrontPart → FrontRow → FrontConn → FrontDeed
+fires_at env p row (stage.Held b) = holds p row (front_rest p.rest) (front_fired env (front_rest p.rest) b)
+fires_at env p row (stage.Waiting b) = waits_on env p row (front_rest p.rest) (front_fired env (front_rest p.rest) b)
 fires_at env p row stage.Lent = Drops
-fires_at env p row (stage.Offering node epoch) = Says (saying (map sent_of p.kept))
+fires_at env p row (stage.Offering node epoch) = Says (front_saying (map sent_of p.kept))
 fires_at env p row (stage.Moved node epoch) = Drops
 fires_at env p row (stage.Closed last) = Drops
 
-abbrev pub fired_by : FrontEnv → FrontPart → Option FrontRow → Deed
-fired_by env p None = Drops
-fired_by env p (Some row) = fires_at env p row row.stage
+abbrev pub front_fired_by : FrontEnv → FrontPart → Option FrontRow → FrontDeed
+front_fired_by env p None = Drops
+front_fired_by env p (Some row) = fires_at env p row row.stage
 
-abbrev pub front_timer : FrontEnv → FrontPart → Deed
-front_timer env p = fired_by env p p.row
+abbrev pub front_timer : FrontEnv → FrontPart → FrontDeed
+front_timer env p = front_fired_by env p p.row
 
 -- what is armed at the front end for the connection
 abbrev pub stage_armed : FrontConn → Bool
@@ -340,7 +340,7 @@ row_armed (Some row) = stage_armed row.stage
 
 abbrev pub front_armed : FrontPart → TimerKind → Bool
 front_armed p kind.Tcp = row_armed p.row
-front_armed p kind.Offer = list_any (λ x. rank x.kind == rank kind.Offer) p.kept
+front_armed p kind.Offer = list_any (λ x. kind_rank x.kind == kind_rank kind.Offer) p.kept
 front_armed p kind.Ask = false
 front_armed p kind.Fetch = false
 front_armed p kind.Ended = false

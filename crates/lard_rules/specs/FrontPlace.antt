@@ -13,7 +13,7 @@ use Rattle.lard_dispatch.specs.Calls.{ended_answer, first_answer, later_answer}
 use Rattle.lard_dispatch.specs.Laws.{after_calls}
 use Rattle.lard_rules.specs.declared.front.FrontState.{FrontState}
 use Rattle.lard_rules.specs.declared.front.FrontTurn.{FrontTurn}
-use Rattle.lard_rules.specs.Front.{Deed, Drops, Says, Does, Did, FrontEnv, FrontPart, ask_of, front_admitted, front_armed, front_asked, front_ended, front_gets, front_taken, front_timer}
+use Rattle.lard_rules.specs.Front.{FrontDeed, Drops, Says, Does, Did, FrontEnv, FrontPart, ask_of, front_admitted, front_armed, front_asked, front_ended, front_gets, front_taken, front_timer}
 use Rattle.lard_journal.specs.declared.rec.Rec.{Rec}
 use Rattle.lard_message.specs.declared.fault.MsgFault.{MsgFault}
 use Rattle.lard_message.specs.declared.message.Body.{Body}
@@ -25,7 +25,7 @@ use Rattle.lard_resend.specs.Pending.{held, put_list}
 use Rattle.lard_rules.specs.declared.front.FrontIn.{FrontIn}
 use Rattle.lard_rules.specs.declared.front.FrontIn.TheVariants as input
 use Rattle.lard_rules.specs.declared.places.Out.{Out}
-use Rattle.lard_rules.specs.Outs.{kind_change, kinds, nothing_done}
+use Rattle.lard_rules.specs.Outs.{kind_change, timer_kinds, nothing_done}
 use Rattle.lard_segment.specs.declared.segment.Dir.TheVariants.{ToCluster}
 use Rattle.lard_segment.specs.Segment.{decoded}
 use Rattle.lard_table.specs.Table.{put_or}
@@ -46,7 +46,7 @@ front_put s c p = record s { conns = put_or s.conns c p.row; rests = put_or s.re
 
 -- no connection was taken, and nobody waits
 abbrev pub no_connections : Config → FrontState
-no_connections cfg = record { conns = table.empty; rests = table.empty; kept = table.empty; dispatch = books.begun cfg }
+no_connections cfg = record { conns = table.empty; rests = table.empty; kept = table.empty; dispatch = books.dispatch_begun cfg }
 
 abbrev pub front_env : FrontSetting → FrontState → ℕ → ℕ → FrontEnv
 front_env k s c iss = record {
@@ -60,28 +60,28 @@ front_env k s c iss = record {
 -- ---- what a turn comes to in a step
 
 -- the records of the timers that changed, from what was kept before the step and after it
-abbrev pub timers_of : ℕ → FrontPart → FrontPart → List Rec
-timers_of c p q = flat_map (λ kind. kind_change place.Front c kind (front_armed p kind) (front_armed q kind)) kinds
+abbrev pub front_timers : ℕ → FrontPart → FrontPart → List Rec
+front_timers c p q = flat_map (λ kind. kind_change place.Front c kind (front_armed p kind) (front_armed q kind)) timer_kinds
 
-abbrev pub out_of : FrontTurn → List Rec → Out
-out_of t timers = record { notes = t.notes; segments = t.segments; gave = t.gave; messages = t.messages; timers = timers; answered = t.answered }
+abbrev pub front_out_of : FrontTurn → List Rec → Out
+front_out_of t timers = record { notes = t.notes; segments = t.segments; gave = t.gave; messages = t.messages; timers = timers; answered = t.answered }
 
 -- connection c is put back, and the dispatcher was called so
 abbrev pub put_back : FrontState → ℕ → Did → FrontState
 put_back s c x = record (front_put s c x.part) { dispatch = after_calls s.dispatch x.calls }
 
 abbrev pub front_did : FrontState → ℕ → Did → FrontState × Out
-front_did s c x = (put_back s c x, out_of x.turn (timers_of c (front_part s c) x.part))
+front_did s c x = (put_back s c x, front_out_of x.turn (front_timers c (front_part s c) x.part))
 
-abbrev pub front_deed : FrontState → ℕ → Deed → FrontState × Out
+abbrev pub front_deed : FrontState → ℕ → FrontDeed → FrontState × Out
 front_deed s c Drops = (s, nothing_done)
-front_deed s c (Says turn) = (s, out_of turn [])
+front_deed s c (Says turn) = (s, front_out_of turn [])
 front_deed s c (Does x) = front_did s c x
 
 -- ---- where a connection ended, the first of the line is admitted
 
-abbrev pub joined : FrontTurn → FrontTurn → FrontTurn
-joined t u = record { notes = t.notes ++ u.notes; segments = t.segments ++ u.segments; gave = t.gave ++ u.gave; messages = t.messages ++ u.messages; answered = t.answered }
+abbrev pub front_joined : FrontTurn → FrontTurn → FrontTurn
+front_joined t u = record { notes = t.notes ++ u.notes; segments = t.segments ++ u.segments; gave = t.gave ++ u.gave; messages = t.messages ++ u.messages; answered = t.answered }
 
 -- timers stand in the order of the connections' numbers
 abbrev pub in_order : ℕ → ℕ → List Rec → List Rec → List Rec
@@ -89,18 +89,18 @@ in_order c d cs ds = if nat_lt d c then ds ++ cs else cs ++ ds
 
 -- the head d is handed off as well
 abbrev pub admits_too : FrontState → FrontState → ℕ → Did → ℕ → Option (FrontPart × FrontTurn) → FrontState × Out
-admits_too old s c x d None = (s, out_of x.turn (timers_of c (front_part old c) x.part))
+admits_too old s c x d None = (s, front_out_of x.turn (front_timers c (front_part old c) x.part))
 admits_too old s c x d (Some y) =
-    (front_put s d y.0, out_of (joined x.turn y.1) (in_order c d (timers_of c (front_part old c) x.part) (timers_of d (front_part s d) y.0)))
+    (front_put s d y.0, front_out_of (front_joined x.turn y.1) (in_order c d (front_timers c (front_part old c) x.part) (front_timers d (front_part s d) y.0)))
 
 abbrev pub admits : FrontSetting → FrontState → FrontState → ℕ → Did → Option (ℕ × FirstChoice) → FrontState × Out
-admits k old s c x None = (s, out_of x.turn (timers_of c (front_part old c) x.part))
+admits k old s c x None = (s, front_out_of x.turn (front_timers c (front_part old c) x.part))
 admits k old s c x (Some next) = admits_too old s c x next.0 (front_admitted (front_env k s next.0 0) (front_part s next.0) next.1)
 
 -- what an end comes to: its connection is put back and released, and the head is admitted by the books after that
-abbrev pub ended_deed : FrontSetting → FrontState → ℕ → Deed → FrontState × Out
+abbrev pub ended_deed : FrontSetting → FrontState → ℕ → FrontDeed → FrontState × Out
 ended_deed k s c Drops = (s, nothing_done)
-ended_deed k s c (Says turn) = (s, out_of turn [])
+ended_deed k s c (Says turn) = (s, front_out_of turn [])
 ended_deed k s c (Does x) = admits k s (put_back s c x) c x (ended_answer s.dispatch c k.now)
 
 -- ---- messages

@@ -4,8 +4,8 @@ use Rattle.std.specs.FinMap as table
 use Rattle.lard_base.specs.declared.limits.TheConstants.{MAX_STREAM_BYTES}
 use Rattle.lard_dispatch.specs.declared.dispatch.Ask.{Ask}
 use Rattle.lard_dispatch.specs.Books.{Dispatcher}
-use Rattle.lard_dispatch.specs.Line.{waits}
-use Rattle.lard_dispatch.specs.Sound.{IsSound}
+use Rattle.lard_dispatch.specs.Line.{line_waits}
+use Rattle.lard_dispatch.specs.Sound.{IsDispatcherSound}
 use Rattle.lard_endpoint.specs.Control.{ControlBlock}
 use Rattle.lard_endpoint.specs.Moving.{may_freeze}
 use Rattle.lard_rules.specs.declared.front.FrontRest.{FrontRest}
@@ -21,15 +21,15 @@ use Rattle.lard_resend.specs.declared.kept.Kept.{Kept}
 use Rattle.lard_send.specs.Send.{Sending, symbols}
 
 -- Where the dispatcher has a connection: the node that it is admitted at, and whether it waits in the line.
-pub record Standing : Type 0 where
+pub record DispatchStanding : Type 0 where
   pub home : Option ℕ
   pub waits : Bool
 
-abbrev pub standing : Dispatcher → ℕ → Standing
-standing d c = record { home = home d.books.loads c; waits = waits d.books.line c }
+abbrev pub dispatch_standing : Dispatcher → ℕ → DispatchStanding
+dispatch_standing d c = record { home = home d.books.loads c; waits = line_waits d.books.line c }
 
 -- neither admitted nor in the line
-abbrev pub nowhere : Standing
+abbrev pub nowhere : DispatchStanding
 nowhere = record { home = None; waits = false }
 
 -- Each response that was queued has a byte, and was asked for by one that was read, of which there are at most 2^30; and no symbol
@@ -55,7 +55,7 @@ HasTarget None = ⊥
 HasTarget (Some rest) = elim rest.target [ None ↦ ⊥ | Some path ↦ Unit {0} ]
 
 -- A connection is in the line while it waits, and admitted at the node where it is or to which it goes.
-abbrev pub IsStageSound : ℕ → Option FrontRest → List Kept → Standing → FrontConn → Type 0
+abbrev pub IsStageSound : ℕ → Option FrontRest → List Kept → DispatchStanding → FrontConn → Type 0
 IsStageSound epoch rest kept at (stage.Held b) = IsHereWith epoch b rest × (kept ≡ []) × (at ≡ nowhere)
 IsStageSound epoch rest kept at (stage.Waiting b) =
     IsHereWith epoch b rest × (kept ≡ []) × (at ≡ record { home = None; waits = true }) × (may_freeze b ≡ true) × HasTarget rest
@@ -64,11 +64,11 @@ IsStageSound epoch rest kept at (stage.Offering node e) = at ≡ record { home =
 IsStageSound epoch rest kept at (stage.Moved node e) = at ≡ record { home = Some node; waits = false }
 IsStageSound epoch rest kept at (stage.Closed last) = at ≡ nowhere
 
-abbrev pub IsRowSound : Option FrontRest → List Kept → Standing → Option FrontRow → Type 0
+abbrev pub IsRowSound : Option FrontRest → List Kept → DispatchStanding → Option FrontRow → Type 0
 IsRowSound rest kept at None = (kept ≡ []) × (at ≡ nowhere)
 IsRowSound rest kept at (Some row) = IsStageSound row.epoch.0 rest kept at row.stage
 
-abbrev pub IsPartSound : FrontPart → Standing → Type 0
+abbrev pub IsPartSound : FrontPart → DispatchStanding → Type 0
 IsPartSound p at = IsRowSound p.rest p.kept at p.row
 
 -- A connection that waits, with all that is kept of it.
@@ -98,7 +98,7 @@ HasTag (Some rest) = 0 < rest.asks → (1 ≤ length rest.tag) × (length rest.t
 
 -- This holds of each connection, an empty list is not kept, and the books add up.
 pub record IsFrontSound (s : FrontState) : Type 0 where
-  pub each : (c : ℕ) → IsPartSound (front_part s c) (standing s.dispatch c)
+  pub each : (c : ℕ) → IsPartSound (front_part s c) (dispatch_standing s.dispatch c)
   pub tags : (c : ℕ) → HasTag (table.get s.rests c)
   pub some : (c : ℕ) → table.get s.kept c ≡ Some [] → ⊥
-  pub books : IsSound s.dispatch
+  pub books : IsDispatcherSound s.dispatch

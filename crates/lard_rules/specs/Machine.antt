@@ -7,7 +7,7 @@ use Rattle.lard_base.specs.declared.event.Event.{Event}
 use Rattle.lard_base.specs.declared.event.Event.TheVariants as event
 use Rattle.lard_base.specs.declared.place.Place.{Place}
 use Rattle.lard_base.specs.declared.place.Place.TheVariants as place
-use Rattle.lard_client.specs.Control.{ClientBlock, written_len, is_armed}
+use Rattle.lard_client.specs.Control.{ClientBlock, written_len, is_client_armed}
 use Rattle.lard_rules.specs.declared.fault.StepFault.{StepFault}
 use Rattle.lard_rules.specs.declared.fault.Refusal.TheVariants.{NoClient, Used, NoNode, NotSent, WasLost, NoJob}
 use Rattle.lard_rules.specs.declared.fault.StepFault.TheVariants.{Limit, NoMemory, Refused}
@@ -39,8 +39,8 @@ use Rattle.lard_segment.specs.declared.segment.Dir.TheVariants.{ToClient}
 use Rattle.lard_segment.specs.Segment.{decoded}
 
 -- nobody has opened, and nothing was sent
-abbrev pub start : Config → List (List ℕ × List ℕ) → Machine
-start config files = record {
+abbrev pub machine_start : Config → List (List ℕ × List ℕ) → Machine
+machine_start config files = record {
   config = config;
   files = files;
   clients = table.empty;
@@ -66,8 +66,8 @@ told_rows m e own p out =
     ++ out.gave ++ sent_records (length (segments_sent m p out) + 1) p out.messages ++ out.timers
 
 -- the machine after a step in which a place acted
-unfoldable pub told : Machine → Event → List Rec → Place → Out → Machine
-told m e own p out = record m {
+unfoldable pub machine_told : Machine → Event → List Rec → Place → Out → Machine
+machine_told m e own p out = record m {
   net = segments_sent m p out ++ packets_of p out.messages;
   answered = m.answered + out.answered;
   events = m.events + 1;
@@ -86,29 +86,29 @@ client_put m c x = record m { clients = table.insert m.clients c x }
 -- a client acted: its rule gave this, and its timer was so
 abbrev pub client_acted : Machine → Event → List Rec → ℕ → ℕ → Bool → ClientBlock × Turn → Machine
 client_acted m e own c iss was given =
-    told (client_put m c (record { client = given.0; iss = iss })) e own (place.Client c) (out_of (place.Client c) c was (is_armed given.0) given.1)
+    machine_told (client_put m c (record { client = given.0; iss = iss })) e own (place.Client c) (out_of (place.Client c) c was (is_client_armed given.0) given.1)
 
 -- one that opened before acts again
 abbrev pub client_goes_on : Machine → Event → List Rec → ℕ → Station → ClientBlock × Turn → Machine
-client_goes_on m e own c x given = client_acted m e own c x.iss (is_armed x.client) given
+client_goes_on m e own c x given = client_acted m e own c x.iss (is_client_armed x.client) given
 
-unfoldable pub opened : Machine → ℕ → ℕ → ℕ → ℕ → ℕ → Option Station → Result Machine StepFault
-opened m c isn iss wnd mss None =
+unfoldable pub machine_opened : Machine → ℕ → ℕ → ℕ → ℕ → ℕ → Option Station → Result Machine StepFault
+machine_opened m c isn iss wnd mss None =
     Ok (client_acted m (event.Open c isn iss wnd mss) (rec.Opened c isn iss wnd mss ∷ []) c iss false (client_opens c isn wnd mss))
-opened m c isn iss wnd mss (Some x) = Err (Refused (Used c))
+machine_opened m c isn iss wnd mss (Some x) = Err (Refused (Used c))
 
 -- bytes are written unless they pass the stream limit
-unfoldable pub wrote : Machine → Event → ℕ → List ℕ → Option Station → Result Machine StepFault
-wrote m e c bytes None = Err (Refused (NoClient c))
-wrote m e c bytes (Some x) =
+unfoldable pub machine_wrote : Machine → Event → ℕ → List ℕ → Option Station → Result Machine StepFault
+machine_wrote m e c bytes None = Err (Refused (NoClient c))
+machine_wrote m e c bytes (Some x) =
     if nat_lt m.config.stream (written_len x.client bytes)
     then Err (Limit Stream)
     else Ok (client_goes_on m e [] c x (client_writes x.client bytes))
 
 -- one that opened does what its rule gives
-unfoldable pub client_does : Machine → Event → List Rec → ℕ → (ClientBlock → ClientBlock × Turn) → Option Station → Result Machine StepFault
-client_does m e own c rule None = Err (Refused (NoClient c))
-client_does m e own c rule (Some x) = Ok (client_goes_on m e own c x (rule x.client))
+unfoldable pub client_acts : Machine → Event → List Rec → ℕ → (ClientBlock → ClientBlock × Turn) → Option Station → Result Machine StepFault
+client_acts m e own c rule None = Err (Refused (NoClient c))
+client_acts m e own c rule (Some x) = Ok (client_goes_on m e own c x (rule x.client))
 
 -- ---- the front end
 
@@ -116,7 +116,7 @@ abbrev pub front_setting : Machine → FrontSetting
 front_setting m = record { files = file_at m.files; stream = m.config.stream; now = record { 0 = m.now } }
 
 abbrev pub front_gave : Machine → Event → List Rec → FrontState × Out → Machine
-front_gave m e own given = told (record m { front = given.0 }) e own place.Front given.1
+front_gave m e own given = machine_told (record m { front = given.0 }) e own place.Front given.1
 
 abbrev pub front_acts : Machine → Event → List Rec → FrontIn → Machine
 front_acts m e own i = front_gave m e own (front_step (front_setting m) m.front i)
@@ -132,7 +132,7 @@ abbrev pub node_setting : Machine → ℕ → NodeSetting
 node_setting m n = record { n = n; files = file_at m.files; stream = m.config.stream }
 
 abbrev pub node_gave : Machine → Event → List Rec → ℕ → NodeState × Out → Machine
-node_gave m e own n given = told (record m { nodes = slice_set m.nodes (n - 1) given.0 }) e own (place.Node n) given.1
+node_gave m e own n given = machine_told (record m { nodes = slice_set m.nodes (n - 1) given.0 }) e own (place.Node n) given.1
 
 abbrev pub node_acts : Machine → Event → List Rec → ℕ → BackIn → Option NodeState → Machine
 node_acts m e own n i None = passed m e own
@@ -156,24 +156,24 @@ timer m p c (Some x) = timer_at m p c x
 -- ---- packets
 
 -- a packet of client c comes to the front end
-abbrev pub to_front : Machine → ℕ → List ℕ → ℕ → Option Station → Machine
-to_front m k bytes c None = passed m (event.Deliver k) (rec.Got k ∷ [])
-to_front m k bytes c (Some x) = front_acts m (event.Deliver k) (rec.Got k ∷ []) (input.Segment c (record { 0 = x.iss }) bytes)
+abbrev pub machine_to_front : Machine → ℕ → List ℕ → ℕ → Option Station → Machine
+machine_to_front m k bytes c None = passed m (event.Deliver k) (rec.Got k ∷ [])
+machine_to_front m k bytes c (Some x) = front_acts m (event.Deliver k) (rec.Got k ∷ []) (input.Segment c (record { 0 = x.iss }) bytes)
 
 -- a packet comes to client c
-abbrev pub to_client : Machine → ℕ → List ℕ → ℕ → Option Station → Machine
-to_client m k bytes c None = passed m (event.Deliver k) (rec.Got k ∷ [])
-to_client m k bytes c (Some x) = client_goes_on m (event.Deliver k) (rec.Got k ∷ []) c x (client_gets x.client (decoded bytes c ToClient))
+abbrev pub machine_to_client : Machine → ℕ → List ℕ → ℕ → Option Station → Machine
+machine_to_client m k bytes c None = passed m (event.Deliver k) (rec.Got k ∷ [])
+machine_to_client m k bytes c (Some x) = client_goes_on m (event.Deliver k) (rec.Got k ∷ []) c x (client_gets x.client (decoded bytes c ToClient))
 
 -- a packet comes to the front end from a place
 abbrev pub from_place : Machine → ℕ → List ℕ → Place → Machine
-from_place m k bytes (place.Client c) = to_front m k bytes c (table.get m.clients c)
+from_place m k bytes (place.Client c) = machine_to_front m k bytes c (table.get m.clients c)
 from_place m k bytes place.Front = passed m (event.Deliver k) (rec.Got k ∷ [])
 from_place m k bytes (place.Node n) = front_acts m (event.Deliver k) (rec.Got k ∷ []) (input.Message n bytes)
 
 abbrev pub to_place : Machine → ℕ → Packet → Place → Machine
 to_place m k p place.Front = from_place m k p.bytes p.from
-to_place m k p (place.Client c) = to_client m k p.bytes c (table.get m.clients c)
+to_place m k p (place.Client c) = machine_to_client m k p.bytes c (table.get m.clients c)
 to_place m k p (place.Node n) = node_acts m (event.Deliver k) (rec.Got k ∷ []) n (back.Message p.from p.bytes) (node_at m.nodes n)
 
 unfoldable pub delivered : Machine → ℕ → Option Packet → Result Machine StepFault
@@ -209,14 +209,14 @@ limit_reached m = limit_of (length m.net) (bytes_in m.net) (length m.journal) m.
 
 -- the step of an event; that of settling has no rule yet
 abbrev pub happens : Machine → Event → Result Machine StepFault
-happens m (event.Open c isn iss wnd mss) = opened m c isn iss wnd mss (table.get m.clients c)
-happens m (event.Get c path) = wrote m (event.Get c path) c (request path) (table.get m.clients c)
-happens m (event.Write c bytes) = wrote m (event.Write c bytes) c bytes (table.get m.clients c)
-happens m (event.Shut c) = client_does m (event.Shut c) [] c client_shuts (table.get m.clients c)
-happens m (event.Abort c) = client_does m (event.Abort c) [] c client_aborts (table.get m.clients c)
-happens m (event.Hold c) = client_does m (event.Hold c) [] c client_holds (table.get m.clients c)
-happens m (event.Take c) = client_does m (event.Take c) [] c client_takes (table.get m.clients c)
-happens m (event.Inject c bytes) = client_does m (event.Inject c bytes) (rec.Injected c ∷ []) c (λ x. client_injects x bytes) (table.get m.clients c)
+happens m (event.Open c isn iss wnd mss) = machine_opened m c isn iss wnd mss (table.get m.clients c)
+happens m (event.Get c path) = machine_wrote m (event.Get c path) c (request path) (table.get m.clients c)
+happens m (event.Write c bytes) = machine_wrote m (event.Write c bytes) c bytes (table.get m.clients c)
+happens m (event.Shut c) = client_acts m (event.Shut c) [] c client_shuts (table.get m.clients c)
+happens m (event.Abort c) = client_acts m (event.Abort c) [] c client_aborts (table.get m.clients c)
+happens m (event.Hold c) = client_acts m (event.Hold c) [] c client_holds (table.get m.clients c)
+happens m (event.Take c) = client_acts m (event.Take c) [] c client_takes (table.get m.clients c)
+happens m (event.Inject c bytes) = client_acts m (event.Inject c bytes) (rec.Injected c ∷ []) c (λ x. client_injects x bytes) (table.get m.clients c)
 happens m (event.Deliver k) = delivered m k (packet_at m.net k)
 happens m (event.Lose k) = lost m k (packet_at m.net k)
 happens m (event.Timer p c) = timer m p c (table.get m.clients c)
@@ -240,7 +240,7 @@ Passes m (e ∷ es) n = (k : Machine) × HasRule e × (machine_step m e ≡ Ok k
 
 -- a state that some events lead to
 abbrev pub IsReached : Config → List (List ℕ × List ℕ) → Machine → Type 0
-IsReached config files m = (es : List Event) × Passes (start config files) es m
+IsReached config files m = (es : List Event) × Passes (machine_start config files) es m
 
 -- ---- what a call does
 

@@ -15,7 +15,7 @@ use Rattle.lard_handoff_back.specs.declared.row.BackConn.TheVariants as stage
 use Rattle.lard_handoff_back.specs.declared.row.BackRow.{BackRow}
 use Rattle.lard_handoff_back.specs.declared.table.Adopt.{Adopt}
 use Rattle.lard_handoff_back.specs.declared.table.Adopt.TheVariants.{New, Again, Stale}
-use Rattle.lard_handoff_back.specs.Back.{awaits_ack, endpoint_of, offer_answer, staying}
+use Rattle.lard_handoff_back.specs.Back.{awaits_ack, back_endpoint, offer_answer, staying}
 use Rattle.lard_journal.specs.declared.rec.Rec.{Rec}
 use Rattle.lard_journal.specs.declared.rec.Rec.TheVariants as rec
 use Rattle.lard_lateral.specs.Lateral.{fetch_kept, is_from}
@@ -30,12 +30,12 @@ use Rattle.lard_rules.specs.Loop.{state_of}
 use Rattle.lard_rules.specs.Stay.{NodeEnv, Work, came_for, come_progress, goes_on, named_paths, read_progress, reads_batch, tagged}
 use Rattle.lard_resend.specs.declared.kept.Kept.{Kept}
 pub use Rattle.lard_resend.specs.Kept.{anew}
-use Rattle.lard_resend.specs.Kept.{is_under, rank, without}
+use Rattle.lard_resend.specs.Kept.{is_under, kind_rank, without}
 use Rattle.lard_resend.specs.Pending.{sent_of}
 use Rattle.lard_rules.specs.declared.places.Ending.{Ending}
 use Rattle.lard_rules.specs.declared.places.Ending.TheVariants.{Here, Over}
 use Rattle.lard_rules.specs.declared.places.Turn.{Turn}
-use Rattle.lard_rules.specs.Serving.{ready_of, serving, settled, spoken}
+use Rattle.lard_rules.specs.Serving.{serving_ready_of, serving, serving_settled, spoken}
 use Rattle.lard_segment.specs.declared.fault.SegFault.{SegFault}
 use Rattle.lard_segment.specs.Segment.{Said}
 use Rattle.lard_send.specs.Send.{is_clear}
@@ -49,10 +49,10 @@ pub record NodePart : Type 0 where
   pub fetches : List Kept  -- those whose contents are awaited, by the numbers of their requests
 
 -- What a rule comes to: it drops what came, or answers it and keeps what it kept, or the node does this and keeps that.
-pub data Deed : Type 0 where
-  Drops : Deed
-  Says : List (Place × List ℕ) → Deed
-  Does : NodePart × NodeTurn → Deed
+pub data NodeDeed : Type 0 where
+  Drops : NodeDeed
+  Says : List (Place × List ℕ) → NodeDeed
+  Does : NodePart × NodeTurn → NodeDeed
 
 -- ---- messages
 
@@ -60,9 +60,9 @@ abbrev pub ask_kept : ℕ → ℕ → Asked → Kept
 ask_kept c epoch a = record { kind = kind.Ask; r = 0; to = place.Front; bytes = message c epoch (body.Ask a.number a.queue a.size a.paths) }
 
 -- how many bytes a reset counted; an end of another kind carries 0
-abbrev pub count_of : Option ℕ → ℕ
-count_of None = 0
-count_of (Some total) = total
+abbrev pub reset_count : Option ℕ → ℕ
+reset_count None = 0
+reset_count (Some total) = total
 
 abbrev pub ended_kept : ℕ → ℕ → Final → ℕ → Kept
 ended_kept c epoch last count = record { kind = kind.Ended; r = 0; to = place.Front; bytes = message c epoch (body.Ended last.reason last.snd.0 last.rcv.0 count) }
@@ -117,7 +117,7 @@ kept_after env p w (Here b count) = record {
 kept_after env p w (Over last) = record {
   row = Some (row_of env (Over last));
   stay = None;
-  kept = ended_kept env.serve.c env.epoch last (count_of w.service.over) ∷ [];
+  kept = ended_kept env.serve.c env.epoch last (reset_count w.service.over) ∷ [];
   fetches = [];
 }
 
@@ -127,7 +127,7 @@ gave_by env (Over last) = rec.Gave (place.Node env.n) env.serve.c (record { 0 = 
 
 abbrev pub ended_sent : NodeEnv → Option ℕ → Ending → List (Place × List ℕ)
 ended_sent env over (Here b count) = []
-ended_sent env over (Over last) = sent_of (ended_kept env.serve.c env.epoch last (count_of over)) ∷ []
+ended_sent env over (Over last) = sent_of (ended_kept env.serve.c env.epoch last (reset_count over)) ∷ []
 
 abbrev pub turn_by : NodeEnv → List (Place × List ℕ) → Work → Ending × Turn → NodeTurn
 turn_by env before w given = record {
@@ -140,8 +140,8 @@ turn_by env before w given = record {
 }
 
 -- these messages go out, then what the turn asks for; the endpoint says what it may, and the stay ends where it may or has to
-abbrev pub rests : NodeEnv → NodePart → List (Place × List ℕ) → Work → NodePart × NodeTurn
-rests env p before w = (kept_after env p w (settled env.serve w.service).0, turn_by env before w (settled env.serve w.service))
+abbrev pub node_rests : NodeEnv → NodePart → List (Place × List ℕ) → Work → NodePart × NodeTurn
+node_rests env p before w = (kept_after env p w (serving_settled env.serve w.service).0, turn_by env before w (serving_settled env.serve w.service))
 
 -- ---- the rules of a stay
 
@@ -155,51 +155,51 @@ both_of (Some b) (Some s) = Some (b, s)
 abbrev pub here : ℕ → NodePart → Option (ControlBlock × Stay)
 here epoch p = both_of (staying epoch p.row) p.stay
 
-abbrev pub with_work : NodeEnv → NodePart → List (Place × List ℕ) → Work → Deed
-with_work env p before w = Does (rests env p before w)
+abbrev pub with_work : NodeEnv → NodePart → List (Place × List ℕ) → Work → NodeDeed
+with_work env p before w = Does (node_rests env p before w)
 
 -- A segment that the front end forwarded comes to the endpoint. What does not decode is dropped.
-abbrev pub heard_by : NodeEnv → NodePart → Result Said SegFault → Option (ControlBlock × Stay) → Deed
-heard_by env p (Err fault) x = Drops
-heard_by env p (Ok s) None = Drops
-heard_by env p (Ok s) (Some x) = with_work env p [] (goes_on env (work_of (on_segment x.0 s).1 x.1))
+abbrev pub node_heard_by : NodeEnv → NodePart → Result Said SegFault → Option (ControlBlock × Stay) → NodeDeed
+node_heard_by env p (Err fault) x = Drops
+node_heard_by env p (Ok s) None = Drops
+node_heard_by env p (Ok s) (Some x) = with_work env p [] (goes_on env (work_of (on_segment x.0 s).1 x.1))
 
-abbrev pub node_forwarded : NodeEnv → NodePart → Result Said SegFault → Deed
-node_forwarded env p given = heard_by env p given (here env.epoch p)
+abbrev pub node_forwarded : NodeEnv → NodePart → Result Said SegFault → NodeDeed
+node_forwarded env p given = node_heard_by env p given (here env.epoch p)
 
 -- A Tag comes. It counts where an Ask is awaited, has that number, and has a node for each of its paths.
-abbrev pub is_awaited : NodeEnv → ℕ → List ℕ → NodePart → Stay → Bool
-is_awaited env number nodes p s = is_some (find (is_under kind.Ask 0) p.kept) && (s.asks == number && length nodes == length (named_paths env.serve.files s.batch))
+abbrev pub is_tag_awaited : NodeEnv → ℕ → List ℕ → NodePart → Stay → Bool
+is_tag_awaited env number nodes p s = is_some (find (is_under kind.Ask 0) p.kept) && (s.asks == number && length nodes == length (named_paths env.serve.files s.batch))
 
-abbrev pub tagged_by : NodeEnv → ℕ → List ℕ → NodePart → Option (ControlBlock × Stay) → Deed
+abbrev pub tagged_by : NodeEnv → ℕ → List ℕ → NodePart → Option (ControlBlock × Stay) → NodeDeed
 tagged_by env number nodes p None = Drops
 tagged_by env number nodes p (Some x) =
-    if is_awaited env number nodes p x.1
+    if is_tag_awaited env number nodes p x.1
     then with_work env (record p { kept = without kind.Ask 0 p.kept }) [] (goes_on env (tagged env nodes (work_of x.0 x.1)))
     else Drops
 
-abbrev pub node_tagged : NodeEnv → NodePart → ℕ → List ℕ → Deed
+abbrev pub node_tagged : NodeEnv → NodePart → ℕ → List ℕ → NodeDeed
 node_tagged env p number nodes = tagged_by env number nodes p (here env.epoch p)
 
 -- A content comes. It counts where it is awaited from this node, once; the files are the same everywhere, so its bytes are those
 -- that the request is answered with.
-abbrev pub come_by : NodeEnv → ℕ → ℕ → NodePart → Option (ControlBlock × Stay) → Deed
+abbrev pub come_by : NodeEnv → ℕ → ℕ → NodePart → Option (ControlBlock × Stay) → NodeDeed
 come_by env from r p None = Drops
 come_by env from r p (Some x) =
     if is_from from env.epoch (find (is_under kind.Fetch r) p.fetches)
     then with_work env (record p { fetches = without kind.Fetch r p.fetches }) [] (goes_on env (came_for (come_progress from) r (work_of x.0 x.1)))
     else Drops
 
-abbrev pub node_content : NodeEnv → NodePart → ℕ → ℕ → Deed
+abbrev pub node_content : NodeEnv → NodePart → ℕ → ℕ → NodeDeed
 node_content env p from r = come_by env from r p (here env.epoch p)
 
 -- A job of this node's disk was completed for a request.
-abbrev pub read_by : NodeEnv → ℕ → NodePart → Option (ControlBlock × Stay) → Deed
-read_by env r p None = Drops
-read_by env r p (Some x) = with_work env p [] (goes_on env (came_for read_progress r (work_of x.0 x.1)))
+abbrev pub node_read_by : NodeEnv → ℕ → NodePart → Option (ControlBlock × Stay) → NodeDeed
+node_read_by env r p None = Drops
+node_read_by env r p (Some x) = with_work env p [] (goes_on env (came_for read_progress r (work_of x.0 x.1)))
 
-abbrev pub node_read : NodeEnv → NodePart → ℕ → Deed
-node_read env p r = read_by env r p (here env.epoch p)
+abbrev pub node_read : NodeEnv → NodePart → ℕ → NodeDeed
+node_read env p r = node_read_by env r p (here env.epoch p)
 
 -- ---- an Offer
 
@@ -208,8 +208,8 @@ taken_sent env = (place.Front, message env.serve.c env.epoch body.Taken) ∷ []
 
 -- The node takes a connection that is new to it, and goes on where the front end stopped: it reads the first batch, whose first
 -- request for a file was assigned to it with the connection.
-abbrev pub begins : NodeEnv → EndpointParts → Work
-begins env parts = record {
+abbrev pub node_begins : NodeEnv → EndpointParts → Work
+node_begins env parts = record {
   service = serving (adopted parts) parts.served (rec.Took (place.Node env.n) env.serve.c (record { 0 = env.epoch }) ∷ []);
   batch = [];
   asks = 0;
@@ -219,16 +219,16 @@ begins env parts = record {
 }
 
 -- a message goes out, and nothing else is done
-abbrev pub saying : List (Place × List ℕ) → NodeTurn
-saying messages = record { notes = []; segments = []; gave = []; messages = messages; jobs = []; answered = 0 }
+abbrev pub node_saying : List (Place × List ℕ) → NodeTurn
+node_saying messages = record { notes = []; segments = []; gave = []; messages = messages; jobs = []; answered = 0 }
 
 -- an Offer that was decided is answered again, an old one is dropped
-abbrev pub offered_by : NodeEnv → EndpointParts → NodePart → Adopt → Deed
-offered_by env parts p New = with_work env p (taken_sent env) (goes_on env (state_of (reads_batch env true (begins env parts))))
+abbrev pub offered_by : NodeEnv → EndpointParts → NodePart → Adopt → NodeDeed
+offered_by env parts p New = with_work env p (taken_sent env) (goes_on env (state_of (reads_batch env true (node_begins env parts))))
 offered_by env parts p Again = Says (taken_sent env)
 offered_by env parts p Stale = Drops
 
-abbrev pub node_offered : NodeEnv → NodePart → EndpointParts → Deed
+abbrev pub node_offered : NodeEnv → NodePart → EndpointParts → NodeDeed
 node_offered env p parts = offered_by env parts p (offer_answer env.epoch p.row)
 
 -- ---- the end of a stay
@@ -238,8 +238,8 @@ gone None = None
 gone (Some row) = Some (record row { stage = stage.Gone })
 
 -- The front end acknowledges the end: it is not told again.
-abbrev pub node_acknowledged : NodeEnv → NodePart → Deed
-node_acknowledged env p = if awaits_ack env.epoch p.row then Does (record p { row = gone p.row; kept = without kind.Ended 0 p.kept }, saying []) else Drops
+abbrev pub node_acknowledged : NodeEnv → NodePart → NodeDeed
+node_acknowledged env p = if awaits_ack env.epoch p.row then Does (record p { row = gone p.row; kept = without kind.Ended 0 p.kept }, node_saying []) else Drops
 
 -- ---- timers
 
@@ -248,20 +248,20 @@ abbrev pub again_sent : NodePart → List (Place × List ℕ)
 again_sent p = map sent_of (p.kept ++ p.fetches)
 
 -- The endpoint's timer fires (RFC 9293, 3.10.8), and what awaits an answer is sent again.
-abbrev pub fired : NodeEnv → NodePart → ControlBlock × Stay → Ending × Turn → NodePart × NodeTurn
-fired env p x given = (kept_after env p (work_of (after_timer x.0) x.1) given.0, turn_by env (again_sent p) (work_of (after_timer x.0) x.1) given)
+abbrev pub node_fired : NodeEnv → NodePart → ControlBlock × Stay → Ending × Turn → NodePart × NodeTurn
+node_fired env p x given = (kept_after env p (work_of (after_timer x.0) x.1) given.0, turn_by env (again_sent p) (work_of (after_timer x.0) x.1) given)
 
-abbrev pub fired_by : NodeEnv → NodePart → Option (ControlBlock × Stay) → Deed
-fired_by env p None = Says (again_sent p)
-fired_by env p (Some x) = Does (fired env p x (spoken env.serve (serving (after_timer x.0) x.1.served []) (ready_of env.serve (after_timer x.0) (timed x.0))))
+abbrev pub node_fired_by : NodeEnv → NodePart → Option (ControlBlock × Stay) → NodeDeed
+node_fired_by env p None = Says (again_sent p)
+node_fired_by env p (Some x) = Does (node_fired env p x (spoken env.serve (serving (after_timer x.0) x.1.served []) (serving_ready_of env.serve (after_timer x.0) (timed x.0))))
 
-abbrev pub node_timer : NodeEnv → NodePart → Deed
-node_timer env p = fired_by env p (both_of (endpoint_of p.row) p.stay)
+abbrev pub node_timer : NodeEnv → NodePart → NodeDeed
+node_timer env p = node_fired_by env p (both_of (back_endpoint p.row) p.stay)
 
 -- ---- timers that run
 
 abbrev pub holds_kind : TimerKind → List Kept → Bool
-holds_kind k ks = list_any (λ x. rank x.kind == rank k) ks
+holds_kind k ks = list_any (λ x. kind_rank x.kind == kind_rank k) ks
 
 abbrev pub is_unsaid : Option ControlBlock → Bool
 is_unsaid None = false
@@ -269,7 +269,7 @@ is_unsaid (Some b) = not (is_clear b.send)
 
 -- what is armed at the node for the connection; an Offer never is
 abbrev pub node_armed : NodePart → TimerKind → Bool
-node_armed p kind.Tcp = is_unsaid (endpoint_of p.row)
+node_armed p kind.Tcp = is_unsaid (back_endpoint p.row)
 node_armed p kind.Offer = false
 node_armed p kind.Ask = holds_kind kind.Ask p.kept
 node_armed p kind.Fetch = holds_kind kind.Fetch p.fetches

@@ -6,7 +6,7 @@ use Rattle.std.specs.List.{flat_map, fold, list_any}
 use Rattle.lard_answers.specs.Answers.{FilesAt}
 use Rattle.lard_base.specs.declared.place.Place.{Place}
 use Rattle.lard_base.specs.declared.place.Place.TheVariants as place
-use Rattle.lard_cache.specs.Recency.{Recency, after_hit, after_put, has}
+use Rattle.lard_cache.specs.Recency.{Recency, after_hit, after_put, has_path}
 use Rattle.lard_disk.specs.declared.disk.Job.{Job}
 use Rattle.lard_disk.specs.Jobs.{is_for, job_at, without_job}
 use Rattle.lard_journal.specs.declared.rec.Rec.{Rec}
@@ -20,11 +20,11 @@ use Rattle.lard_rules.specs.declared.node.BackIn.{BackIn}
 use Rattle.lard_rules.specs.declared.node.BackIn.TheVariants as input
 use Rattle.lard_rules.specs.declared.node.NodeState.{NodeState}
 use Rattle.lard_rules.specs.declared.node.NodeTurn.{NodeTurn}
-use Rattle.lard_rules.specs.Node.{Deed, Drops, Says, Does, NodePart, message, node_acknowledged, node_armed, node_content, node_forwarded, node_offered, node_read, node_tagged, node_timer, saying}
+use Rattle.lard_rules.specs.Node.{NodeDeed, Drops, Says, Does, NodePart, message, node_acknowledged, node_armed, node_content, node_forwarded, node_offered, node_read, node_tagged, node_timer, node_saying}
 use Rattle.lard_rules.specs.Stay.{NodeEnv}
 use Rattle.lard_resend.specs.Pending.{held, put_list}
 use Rattle.lard_rules.specs.declared.places.Out.{Out}
-use Rattle.lard_rules.specs.Outs.{kind_change, kinds, nothing_done}
+use Rattle.lard_rules.specs.Outs.{kind_change, timer_kinds, nothing_done}
 use Rattle.lard_segment.specs.declared.segment.Dir.TheVariants.{ToCluster}
 use Rattle.lard_segment.specs.Segment.{decoded}
 use Rattle.lard_table.specs.Table.{put_or}
@@ -52,7 +52,7 @@ node_env k s c epoch = record {
   serve = record { place = place.Node k.n; c = c; files = k.files; stream = k.stream };
   n = k.n;
   epoch = epoch;
-  cached = has s.cache.entries;
+  cached = has_path s.cache.entries;
   queue = length s.disk;
 }
 
@@ -67,46 +67,46 @@ abbrev pub hits : List Rec → Recency → Recency
 hits notes cache = record cache { entries = fold hit_step cache.entries notes }
 
 -- the cache is told the hits, and the disk is given the jobs
-abbrev pub told : NodeState → NodeTurn → NodeState
-told s t = record s { cache = hits t.notes s.cache; disk = s.disk ++ t.jobs }
+abbrev pub stores_told : NodeState → NodeTurn → NodeState
+stores_told s t = record s { cache = hits t.notes s.cache; disk = s.disk ++ t.jobs }
 
 -- the records of the timers that changed, from what was kept before the step and after it
-abbrev pub timers_of : ℕ → ℕ → NodePart → NodePart → List Rec
-timers_of n c p q = flat_map (λ kind. kind_change (place.Node n) c kind (node_armed p kind) (node_armed q kind)) kinds
+abbrev pub node_timers : ℕ → ℕ → NodePart → NodePart → List Rec
+node_timers n c p q = flat_map (λ kind. kind_change (place.Node n) c kind (node_armed p kind) (node_armed q kind)) timer_kinds
 
 abbrev pub node_out : ℕ → ℕ → NodePart → NodePart → NodeTurn → Out
-node_out n c p q t = record { notes = t.notes; segments = t.segments; gave = t.gave; messages = t.messages; timers = timers_of n c p q; answered = t.answered }
+node_out n c p q t = record { notes = t.notes; segments = t.segments; gave = t.gave; messages = t.messages; timers = node_timers n c p q; answered = t.answered }
 
 -- a rule of connection c gave this
 abbrev pub node_did : NodeSetting → NodeState → ℕ → NodePart × NodeTurn → NodeState × Out
-node_did k s c given = (told (node_put s c given.0) given.1, node_out k.n c (node_part s c) given.0 given.1)
+node_did k s c given = (stores_told (node_put s c given.0) given.1, node_out k.n c (node_part s c) given.0 given.1)
 
 -- nothing that is kept of a connection changes
 abbrev pub aside : NodeState → NodeTurn → NodeState × Out
-aside s t = (told s t, record { notes = t.notes; segments = []; gave = []; messages = t.messages; timers = []; answered = 0 })
+aside s t = (stores_told s t, record { notes = t.notes; segments = []; gave = []; messages = t.messages; timers = []; answered = 0 })
 
-abbrev pub node_deed : NodeSetting → NodeState → ℕ → Deed → NodeState × Out
+abbrev pub node_deed : NodeSetting → NodeState → ℕ → NodeDeed → NodeState × Out
 node_deed k s c Drops = (s, nothing_done)
-node_deed k s c (Says messages) = aside s (saying messages)
+node_deed k s c (Says messages) = aside s (node_saying messages)
 node_deed k s c (Does given) = node_did k s c given
 
 -- ---- what other nodes ask for
 
-abbrev pub bytes_of : Option (List ℕ) → List ℕ
-bytes_of None = []
-bytes_of (Some bytes) = bytes
+abbrev pub content_bytes : Option (List ℕ) → List ℕ
+content_bytes None = []
+content_bytes (Some bytes) = bytes
 
 -- the content of a file goes to the node that serves the request
 abbrev pub content_sent : NodeSetting → ℕ → ℕ → ℕ → ℕ → List ℕ → Place × List ℕ
-content_sent k to c epoch r path = (place.Node to, message c epoch (body.Content r (bytes_of (k.files path))))
+content_sent k to c epoch r path = (place.Node to, message c epoch (body.Content r (content_bytes (k.files path))))
 
 -- a Fetch is answered at once where the cache has its path; else a job of the disk reads it. One whose job is queued already is
 -- dropped, and so is one for no file.
 abbrev pub fetched_file : NodeSetting → NodeState → ℕ → ℕ → ℕ → ℕ → List ℕ → NodeTurn
 fetched_file k s from c epoch r path =
-    if has s.cache.entries path
-    then record (saying (content_sent k from c epoch r path ∷ [])) { notes = rec.Hit k.n path ∷ [] }
-    else record (saying []) { notes = rec.Queued k.n from c r path ∷ []; jobs = record { origin = from; c = c; epoch = record { 0 = epoch }; r = r; path = path } ∷ [] }
+    if has_path s.cache.entries path
+    then record (node_saying (content_sent k from c epoch r path ∷ [])) { notes = rec.Hit k.n path ∷ [] }
+    else record (node_saying []) { notes = rec.Queued k.n from c r path ∷ []; jobs = record { origin = from; c = c; epoch = record { 0 = epoch }; r = r; path = path } ∷ [] }
 
 abbrev pub fetched : NodeSetting → NodeState → ℕ → ℕ → ℕ → ℕ → List ℕ → Option (List ℕ) → NodeState × Out
 fetched k s from c epoch r path None = (s, nothing_done)
@@ -133,30 +133,30 @@ node_gets k s from (Ok m) = node_hears k s from m.c m.epoch.0 m.body
 
 -- the job is taken out, and its path goes to the front of the cache
 abbrev pub completed : NodeSetting → NodeState → ℕ → Job → NodeState
-completed k s j job = record s { cache = after_put s.cache job.path (length (bytes_of (k.files job.path))); disk = without_job s.disk j }
+completed k s j job = record s { cache = after_put s.cache job.path (length (content_bytes (k.files job.path))); disk = without_job s.disk j }
 
 -- the record of the job stands before all that it leads to
 abbrev pub with_first : Rec → NodeState × Out → NodeState × Out
 with_first r x = (x.0, record x.1 { notes = r ∷ [] ++ x.1.notes })
 
 -- a job of this node makes its request ready, one for another node sends the content there
-abbrev pub brought : NodeSetting → NodeState → Job → NodeState × Out
-brought k s job =
+abbrev pub node_brought : NodeSetting → NodeState → Job → NodeState × Out
+node_brought k s job =
     if job.origin == k.n
     then node_deed k s job.c (node_read (node_env k s job.c job.epoch.0) (node_part s job.c) job.r)
-    else aside s (saying (content_sent k job.origin job.c job.epoch.0 job.r job.path ∷ []))
+    else aside s (node_saying (content_sent k job.origin job.c job.epoch.0 job.r job.path ∷ []))
 
 abbrev pub disk_step : NodeSetting → NodeState → ℕ → Option Job → NodeState × Out
 disk_step k s j None = (s, nothing_done)
-disk_step k s j (Some job) = with_first (rec.Read k.n job.origin job.c job.r job.path) (brought k (completed k s j job) job)
+disk_step k s j (Some job) = with_first (rec.Read k.n job.origin job.c job.r job.path) (node_brought k (completed k s j job) job)
 
 -- ---- one step
 
 -- the epoch of the connection's stay, if it is here or its end is not acknowledged
-abbrev pub epoch_at : NodeState → ℕ → ℕ
-epoch_at s c = elim (table.get s.conns c) [ None ↦ 0 | Some row ↦ row.epoch.0 ]
+abbrev pub node_epoch_at : NodeState → ℕ → ℕ
+node_epoch_at s c = elim (table.get s.conns c) [ None ↦ 0 | Some row ↦ row.epoch.0 ]
 
 abbrev pub node_step : NodeSetting → NodeState → BackIn → NodeState × Out
 node_step k s (input.Message from bytes) = node_gets k s from (decoded_message bytes)
-node_step k s (input.Timer c) = node_deed k s c (node_timer (node_env k s c (epoch_at s c)) (node_part s c))
+node_step k s (input.Timer c) = node_deed k s c (node_timer (node_env k s c (node_epoch_at s c)) (node_part s c))
 node_step k s (input.Disk j) = disk_step k s j (job_at s.disk j)

@@ -16,8 +16,8 @@ kind_change p c kind true false = rec.Cleared p c kind ∷ []
 kind_change p c kind true true = []
 
 -- the kinds, in the order in which their records stand
-abbrev pub kinds : List TimerKind
-kinds = Tcp ∷ Offer ∷ Ask ∷ Fetch ∷ Ended ∷ []
+abbrev pub timer_kinds : List TimerKind
+timer_kinds = Tcp ∷ Offer ∷ Ask ∷ Fetch ∷ Ended ∷ []
 
 -- that of an endpoint or a client
 abbrev pub timer_change : Place → ℕ → Bool → Bool → List Rec

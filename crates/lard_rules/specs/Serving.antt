@@ -74,8 +74,8 @@ answered env via v w = replied env via v (answer env.files v) w
 
 -- ---- reading
 
-abbrev pub consumed : ℕ → Service → Service
-consumed n w = record w { block = consuming w.block n }
+abbrev pub serving_consumed : ℕ → Service → Service
+serving_consumed n w = record w { block = consuming w.block n }
 
 -- no whole block is left: behind the client's FIN the cluster's follows
 abbrev pub ended_at_fin : Service → Service
@@ -110,27 +110,27 @@ limit_said last = record {
   payload = [];
 }
 
-abbrev pub told : ServeEnv → Said → Place × List ℕ
-told env s = (place.Client env.c, spelled env.c ToClient s)
+abbrev pub serving_told : ServeEnv → Said → Place × List ℕ
+serving_told env s = (place.Client env.c, spelled env.c ToClient s)
 
 -- at the stream limit what has a symbol is still sent, then the RST ends the connection
 abbrev pub cut_off : ServeEnv → Service → Ending × Turn
 cut_off env w =
     let said = speaks_symbols env.c w.block in
     let last = final_of said.1 Limit in
-    (Over last, turn_of w (said.0 ++ told env (limit_said last) ∷ []))
+    (Over last, turn_of w (said.0 ++ serving_told env (limit_said last) ∷ []))
 
-abbrev pub settled : ServeEnv → Service → Ending × Turn
-settled env w = elim w.over [ None ↦ spoken env w [] | Some total ↦ cut_off env w ]
+abbrev pub serving_settled : ServeEnv → Service → Ending × Turn
+serving_settled env w = elim w.over [ None ↦ spoken env w [] | Some total ↦ cut_off env w ]
 
 -- the segment that is ready, where there is one
-abbrev pub ready_of : ServeEnv → ControlBlock → Option Ready → List (Place × List ℕ)
-ready_of env b None = []
-ready_of env b (Some r) = to_client env.c b r ∷ []
+abbrev pub serving_ready_of : ServeEnv → ControlBlock → Option Ready → List (Place × List ℕ)
+serving_ready_of env b None = []
+serving_ready_of env b (Some r) = to_client env.c b r ∷ []
 
 -- ---- timers
 
 -- the place's timer runs: some symbol of the endpoint is not acknowledged
-abbrev pub is_armed : Ending → Bool
-is_armed (Here b count) = not (is_clear b.send)
-is_armed (Over last) = false
+abbrev pub is_serving_armed : Ending → Bool
+is_serving_armed (Here b count) = not (is_clear b.send)
+is_serving_armed (Over last) = false

@@ -21,7 +21,7 @@ abbrev pub to_client : ℕ → ControlBlock → Ready → Place × List ℕ
 to_client c b r = (place.Client c, spelled c ToClient (endpoint.filled b r))
 
 abbrev pub to_front : ClientBlock → Ready → Place × List ℕ
-to_front x r = (place.Front, spelled x.c ToCluster (client.filled x r))
+to_front x r = (place.Front, spelled x.c ToCluster (client.client_filled x r))
 
 -- what an endpoint emits, at most so many segments, and the endpoint after it
 unfoldable pub emits : ℕ → ℕ → ControlBlock → List (Place × List ℕ) × ControlBlock
@@ -55,9 +55,9 @@ speaks_symbols c b = emits_symbols c (endpoint.emits_left b) b
 -- what a client emits, at most so many segments, and the client after it
 unfoldable pub client_emits : ℕ → ClientBlock → List (Place × List ℕ) × ClientBlock
 client_emits zero x = ([], x)
-client_emits (suc n) x = elim (client.emitted x) [
+client_emits (suc n) x = elim (client.client_emitted x) [
   | None ↦ ([], x)
-  | Some r ↦ (to_front (client.after_emit x) r ∷ (client_emits n (client.after_emit x)).0, (client_emits n (client.after_emit x)).1)
+  | Some r ↦ (to_front (client.client_after_emit x) r ∷ (client_emits n (client.client_after_emit x)).0, (client_emits n (client.client_after_emit x)).1)
 ]
 
 abbrev pub client_speaks : ClientBlock → List (Place × List ℕ) × ClientBlock

@@ -16,7 +16,7 @@ use Rattle.lard_rules.specs.declared.stay.Want.{Want}
 use Rattle.lard_rules.specs.Loop.{Step, More, Done, runs}
 use Rattle.lard_reader.specs.Batches.{batch_of, bytes_used}
 use Rattle.lard_request.specs.declared.verdict.Verdict.{Verdict}
-use Rattle.lard_rules.specs.Serving.{ServeEnv, Service, answered, consumed, ended_at_fin, may_read}
+use Rattle.lard_rules.specs.Serving.{ServeEnv, Service, answered, serving_consumed, ended_at_fin, may_read}
 
 -- What the rules rest on beside the connection's state.
 pub record NodeEnv : Type 0 where
@@ -123,9 +123,9 @@ asking env size w = asks_for env size (named_paths env.serve.files w.batch) w
 -- These verdicts are the next batch, and these bytes are used for it. Where there are none, the cluster's FIN follows the
 -- client's, and reading stops.
 abbrev pub reads_these : NodeEnv → Bool → ℕ → Work → List Verdict → Step Work
-reads_these env here used w [] = Done (record w { service = ended_at_fin (consumed used w.service) })
+reads_these env here used w [] = Done (record w { service = ended_at_fin (serving_consumed used w.service) })
 reads_these env here used w (v ∷ vs) =
-    More (asking env (length (v ∷ vs)) (enters env here (w.service.count + 1) (v ∷ vs) (record w { service = consumed used w.service })))
+    More (asking env (length (v ∷ vs)) (enters env here (w.service.count + 1) (v ∷ vs) (record w { service = serving_consumed used w.service })))
 
 -- the next batch of at most eight requests; `here`: the first one for a file was assigned to this node with the connection
 abbrev pub reads_batch : NodeEnv → Bool → Work → Step Work
@@ -151,8 +151,8 @@ abbrev pub serves_first : NodeEnv → Work → List Entry → Work
 serves_first env w [] = w
 serves_first env w (e ∷ rest) = serves_by env e rest w e.progress
 
-abbrev pub serves : NodeEnv → Work → Work
-serves env w = serves_first env w w.batch
+abbrev pub stay_serves : NodeEnv → Work → Work
+stay_serves env w = serves_first env w w.batch
 
 -- ---- turn by turn
 
@@ -171,23 +171,23 @@ abbrev pub next_of : Work → Next
 next_of w = if may_read w.service then next_in w.batch else Stop
 
 abbrev pub turned : NodeEnv → Work → Next → Step Work
-turned env w Serve = More (serves env w)
+turned env w Serve = More (stay_serves env w)
 turned env w Read = reads_batch env false w
 turned env w Stop = Done w
 
-abbrev pub turn : NodeEnv → Work → Step Work
-turn env w = turned env w (next_of w)
+abbrev pub stay_turn : NodeEnv → Work → Step Work
+stay_turn env w = turned env w (next_of w)
 
 -- what falls with each turn: a request that is read uses a byte at least, and a response that would pass the stream limit is the last
 abbrev pub left_over : Option ℕ → ℕ
 left_over None = 1
 left_over (Some total) = 0
 
-abbrev pub left : Work → ℕ
-left w = 2 * length w.service.block.recv.unread + length w.batch + left_over w.service.over
+abbrev pub work_left : Work → ℕ
+work_left w = 2 * length w.service.block.recv.unread + length w.batch + left_over w.service.over
 
 abbrev pub goes_on : NodeEnv → Work → Work
-goes_on env w = runs (turn env) left w
+goes_on env w = runs (stay_turn env) work_left w
 
 -- ---- what came for requests of the batch
 

@@ -6,7 +6,7 @@ use Rattle.lard_base.specs.declared.place.Reason.TheVariants as reason
 use Rattle.lard_endpoint.specs.declared.control.moving.Final.{Final}
 use Rattle.lard_rules.specs.declared.places.Turn.{Turn}
 use Rattle.lard_rules.specs.Client.{silent}
-use Rattle.lard_rules.specs.Serving.{ServeEnv, told}
+use Rattle.lard_rules.specs.Serving.{ServeEnv, serving_told}
 use Rattle.lard_segment.specs.Segment.{Said}
 
 -- a plain SYN: it has no other control bit that counts
@@ -46,4 +46,4 @@ last_words reason.Limit last s = if s.flags.ack && not s.flags.rst then Some (re
 
 abbrev pub tombstone : ServeEnv → Option Said → Turn
 tombstone env None = silent
-tombstone env (Some s) = record { notes = []; segments = told env s ∷ []; answered = 0 }
+tombstone env (Some s) = record { notes = []; segments = serving_told env s ∷ []; answered = 0 }

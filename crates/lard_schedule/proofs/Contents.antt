@@ -10,7 +10,7 @@ use Rattle.lard_schedule.specs.declared.item.Item.{Item}
 use Rattle.lard_schedule.specs.declared.item.Item.TheVariants.{File, Go}
 use Rattle.lard_schedule.specs.Words.{◌>>=◌, word_then, number_then, ended}
 use Rattle.lard_schedule.specs.Events.{some_bytes_of}
-use Rattle.lard_schedule.specs.Files.{byte_of, content_of, file_item, file_of, fill_of, first_byte, is_file_path, path_and_word, path_then, run_of}
+use Rattle.lard_schedule.specs.Files.{byte_of, word_content, file_item, file_item_of, fill_of, first_byte, is_file_path, path_and_word, path_then, byte_run}
 use Rattle.lard_schedule.specs.Laws.{SpellsFile, SpellsItem, IsBefore, MayStand}
 use Rattle.lard_schedule.specs.declared.reader.Reader.{Reader}
 use Rattle.lard_schedule.specs.Reader.{HasRange}
@@ -81,18 +81,18 @@ byte_read word byte e = byte_even word (decode_of-ok word (byte ∷ []) e).2 ∙
 abbrev IsContent : List ℕ → List ℕ → Type 0
 IsContent word bytes = ((word ≡ codes "-") × (bytes ≡ [])) ⊎ ((decode_of word ≡ Ok bytes) × (1 ≤ length bytes))
 
-content_spelled : (word bytes : List ℕ) → content_of word ≡ Some bytes → IsContent word bytes
+content_spelled : (word bytes : List ℕ) → word_content word ≡ Some bytes → IsContent word bytes
 content_spelled word bytes e = go (bytes_eq word (codes "-")) refl e where
   go : (t : Bool) → bytes_eq word (codes "-") ≡ t → cond t (Some []) (some_bytes_of word) ≡ Some bytes → IsContent word bytes
   go true f g = inl (text_is _ _ f, sym (some_same [] bytes g))
   go false f g = inr (some_bytes_spelled word bytes g)
 
-file_spelled : (reader : Reader) (words : List (List ℕ)) (what : Item) → IsBefore reader.stage → file_of words ≡ Some what
+file_spelled : (reader : Reader) (words : List (List ℕ)) (what : Item) → IsBefore reader.stage → file_item_of words ≡ Some what
     → Stands reader (codes "file" ∷ words) what
-unfolding file_of
+unfolding file_item_of
 file_spelled reader words what before e =
     let file = bind_some (path_and_word words) _ what e in
-    let bytes = bind_some (content_of file.0.1) _ what file.2 in
+    let bytes = bind_some (word_content file.0.1) _ what file.2 in
     let spelled = path_and_word_spelled words file.0 file.1 in
     let first : codes "file" ∷ words ≡ codes "file" ∷ file.0.0 ∷ file.0.1 ∷ [] = ap (λ w. codes "file" ∷ w) spelled.0 in
     subst (Stands reader (codes "file" ∷ words)) (some_same (File file.0.0 bytes.0) what bytes.2)
@@ -103,9 +103,9 @@ file_spelled reader words what before e =
     go path word bytes f (inr read) = inl (word, f, read.0, read.1)
 
 -- a repeated byte, and how often
-run_spelled : (words : List (List ℕ)) (run : ℕ × ℕ) → run_of words ≡ Some run
+run_spelled : (words : List (List ℕ)) (run : ℕ × ℕ) → byte_run words ≡ Some run
     → (digits : List ℕ) × (words ≡ decimal run.0 ∷ digits ∷ []) × (run.0 ≤ 2 ^ 26) × (decode_of digits ≡ Ok (run.1 ∷ []))
-unfolding run_of
+unfolding byte_run
 run_spelled words run e =
     let n = bind_some (number_then (2 ^ 26) words) _ run e in
     let word = bind_some (word_then n.0.1) _ run n.2 in
@@ -123,7 +123,7 @@ fill_spelled : (reader : Reader) (words : List (List ℕ)) (what : Item) → IsB
 unfolding fill_of
 fill_spelled reader words what before e =
     let path = bind_some (path_then words) _ what e in
-    let run = bind_some (run_of path.0.1) _ what path.2 in
+    let run = bind_some (byte_run path.0.1) _ what path.2 in
     let first = path_spelled words path.0 path.1 in
     let second = run_spelled path.0.1 run.0 run.1 in
     let all : codes "fill" ∷ words ≡ codes "fill" ∷ path.0.0 ∷ decimal run.0.0 ∷ second.0 ∷ [] =
@@ -151,28 +151,28 @@ file_item_spelled reader (word ∷ words) what before e = of_file (bytes_eq word
   of_fill true f g = named (codes "fill") f (fill_spelled reader words what before g)
 
   of_file : (t : Bool) → bytes_eq word (codes "file") ≡ t
-      → cond t (file_of words) (cond (bytes_eq word (codes "fill")) (fill_of words) (cond (bytes_eq word (codes "go")) (ended words Go) None)) ≡ Some what
+      → cond t (file_item_of words) (cond (bytes_eq word (codes "fill")) (fill_of words) (cond (bytes_eq word (codes "go")) (ended words Go) None)) ≡ Some what
       → Stands reader (word ∷ words) what
   of_file false f g = of_fill (bytes_eq word (codes "fill")) refl g
   of_file true f g = named (codes "file") f (file_spelled reader words what before g)
 
 -- ---- and each file is read
 
-content_read : (word bytes : List ℕ) → decode_of word ≡ Ok bytes → 1 ≤ length bytes → content_of word ≡ Some bytes
+content_read : (word bytes : List ℕ) → decode_of word ≡ Ok bytes → 1 ≤ length bytes → word_content word ≡ Some bytes
 content_read word bytes e some = go (bytes_eq word (codes "-")) refl where
   go : (t : Bool) → bytes_eq word (codes "-") ≡ t → cond t (Some []) (some_bytes_of word) ≡ Some bytes
   go false f = some_bytes_read word bytes e some
   go true f = let odd : Err OddLength ≡ Ok bytes = ap decode_of (sym (text_is _ _ f)) ∙ e in cc
 
-run_read : (n byte : ℕ) (digits : List ℕ) → n ≤ 2 ^ 26 → decode_of digits ≡ Ok (byte ∷ []) → run_of (decimal n ∷ digits ∷ []) ≡ Some (n, byte)
-unfolding run_of
+run_read : (n byte : ℕ) (digits : List ℕ) → n ≤ 2 ^ 26 → decode_of digits ≡ Ok (byte ∷ []) → byte_run (decimal n ∷ digits ∷ []) ≡ Some (n, byte)
+unfolding byte_run
 run_read n byte digits small e = rw (number_then_read (2 ^ 26) n (digits ∷ []) (omega arith) small, byte_read digits byte e) refl
 
 pub file_read : (words : List (List ℕ)) (path bytes : List ℕ) → SpellsFile words path bytes → is_file_path path ≡ true → file_item words ≡ Some (File path bytes)
-unfolding file_item file_of fill_of
+unfolding file_item file_item_of fill_of
 file_read words path bytes (inl s) e = ap file_item s.1 ∙ rw (path_and_word_read path s.0 e, content_read s.0 bytes s.2 s.3) refl
 file_read words path bytes (inr (inl s)) e =
-    ap file_item s.0 ∙ ap (λ o. o >>= λ file. content_of file.1 >>= λ b. Some (File file.0 b)) (path_and_word_read path (codes "-") e) ∙ ap (λ b. Some (File path b)) (sym s.1)
+    ap file_item s.0 ∙ ap (λ o. o >>= λ file. word_content file.1 >>= λ b. Some (File file.0 b)) (path_and_word_read path (codes "-") e) ∙ ap (λ b. Some (File path b)) (sym s.1)
 file_read words path bytes (inr (inr s)) e =
     ap file_item s.3 ∙ rw (path_read path (decimal s.0 ∷ s.2 ∷ []) e, run_read s.0 s.1 s.2 s.4 s.5) refl ∙ ap (λ b. Some (File path b)) (sym s.6)
 

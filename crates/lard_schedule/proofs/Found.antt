@@ -2,7 +2,7 @@
 use Rattle.std.proofs.Common.{◌≡◌, ℕ, ◌-◌, ◌≤◌, ◌<◌, ◌^◌, List, [], ◌∷◌, Bool, true, false, cond, ◌&&◌, Option, Some, None, refl, ap, ◌∙◌, subst, arith}
 use Rattle.std.specs.Prelude.{nat_le, decimal}
 use Rattle.std.proofs.lemmas.Bool.Decides.{nat_tests}
-use Rattle.lard_schedule.specs.Words.{◌>>=◌, number_of, word_then, number_then, count_of, count_then, client_then, ended}
+use Rattle.lard_schedule.specs.Words.{◌>>=◌, number_of, word_then, number_then, count_up_to, count_then, client_then, ended}
 use Rattle.lard_schedule.specs.Events.{IsUpTo, client_alone, number_alone, client_and_word}
 use Rattle.lard_schedule.proofs.Decimals.{number_spelled, number_read}
 
@@ -49,8 +49,8 @@ number_then_spelled most words found wide e =
     let spelled = number_spelled most next.0 found.0 wide next.2 in
     (next.1 ∙ ap (λ w. w ∷ found.1) spelled.0, spelled.1)
 
-pub count_spelled : (most : ℕ) (word : List ℕ) (n : ℕ) → count_of most word ≡ Some n → (word ≡ decimal n) × IsUpTo most n
-unfolding count_of
+pub count_spelled : (most : ℕ) (word : List ℕ) (n : ℕ) → count_up_to most word ≡ Some n → (word ≡ decimal n) × IsUpTo most n
+unfolding count_up_to
 count_spelled most word n e =
     let number = bind_some (number_of (2 ^ 32 - 1) word) _ n e in
     let tested = cond_some (nat_le 1 number.0 && nat_le number.0 most) number.0 n number.2 in
@@ -61,7 +61,7 @@ pub count_then_spelled : (most : ℕ) (words : List (List ℕ)) (found : ℕ × 
     → (words ≡ decimal found.0 ∷ found.1) × IsUpTo most found.0
 unfolding count_then
 count_then_spelled most words found e =
-    let next = next_spelled (count_of most) words found e in
+    let next = next_spelled (count_up_to most) words found e in
     let spelled = count_spelled most next.0 found.0 next.2 in
     (next.1 ∙ ap (λ w. w ∷ found.1) spelled.0, spelled.1)
 
@@ -69,8 +69,8 @@ pub number_then_read : (most n : ℕ) (words : List (List ℕ)) → most < 2 ^ 6
 unfolding number_then
 number_then_read most n words wide small = ap (λ o. o >>= λ k. Some (k, words)) (number_read most n wide small)
 
-pub count_read : (most n : ℕ) → most < 2 ^ 32 → IsUpTo most n → count_of most (decimal n) ≡ Some n
-unfolding count_of
+pub count_read : (most n : ℕ) → most < 2 ^ 32 → IsUpTo most n → count_up_to most (decimal n) ≡ Some n
+unfolding count_up_to
 count_read most n small range =
     let passed : nat_le 1 n && nat_le n most ≡ true = grind (arith, nat_tests, range.0, range.1) in
     rw (number_read (2 ^ 32 - 1) n (omega arith) (omega (arith, range.1)), passed) refl

@@ -3,9 +3,9 @@ use Rattle.std.proofs.Common.{◌≡◌, ◌≢◌, true, refl}
 use Rattle.lard_base.specs.declared.config.Key.{Key}
 use Rattle.lard_base.specs.declared.config.Key.TheVariants.{Nodes, Low, High, Age, Idle, Over, Miss, Cache, Stream}
 use Rattle.lard_schedule.specs.declared.keys.Keys.{Keys}
-use Rattle.lard_schedule.specs.Reader.{has, with_key}
+use Rattle.lard_schedule.specs.Reader.{has_key, with_key}
 
-pub has_set : (keys : Keys) (key : Key) → has (with_key keys key) key ≡ true
+pub has_set : (keys : Keys) (key : Key) → has_key (with_key keys key) key ≡ true
 has_set keys Nodes = refl
 has_set keys Low = refl
 has_set keys High = refl
@@ -16,7 +16,7 @@ has_set keys Miss = refl
 has_set keys Cache = refl
 has_set keys Stream = refl
 
-pub has_other : (keys : Keys) (key other : Key) → other ≢ key → has (with_key keys key) other ≡ has keys other
+pub has_other : (keys : Keys) (key other : Key) → other ≢ key → has_key (with_key keys key) other ≡ has_key keys other
 has_other keys Nodes Nodes ne = absurd (ne refl)
 has_other keys Nodes other ne = refl
 has_other keys Low Low ne = absurd (ne refl)

@@ -10,8 +10,8 @@ use Rattle.hex.specs.declared.error.FromHexError.{FromHexError}
 use Rattle.lard_base.specs.Spelling.{place_word}
 use Rattle.lard_base.specs.declared.place.Place.{Place}
 use Rattle.lard_base.specs.declared.place.Place.TheVariants.{Front, Node, Client}
-use Rattle.lard_schedule.specs.Words.{◌>>=◌, count_of}
-use Rattle.lard_schedule.specs.Events.{IsPlace, bytes_of, some_bytes_of, numbered_place, place_of}
+use Rattle.lard_schedule.specs.Words.{◌>>=◌, count_up_to}
+use Rattle.lard_schedule.specs.Events.{IsPlace, hex_bytes_of, some_bytes_of, numbered_place, place_of}
 use Rattle.lard_schedule.proofs.Found.{bind_some, some_same, cond_some, count_spelled, count_read}
 
 -- a word that passes the test of a text is the text
@@ -25,18 +25,18 @@ IsSpelled word place = (word ≡ place_word place) × IsPlace place
 
 numbered_spelled : (b : ℕ) (bs : List ℕ) (place : Place) → numbered_place b bs ≡ Some place → IsSpelled (b ∷ bs) place
 numbered_spelled b bs place e = of_node (nat_eq b 110) refl e where
-  of_client : (t : Bool) → nat_eq b 99 ≡ t → cond t (count_of 16384 bs >>= (λ c. Some (Client c))) None ≡ Some place → IsSpelled (b ∷ bs) place
+  of_client : (t : Bool) → nat_eq b 99 ≡ t → cond t (count_up_to 16384 bs >>= (λ c. Some (Client c))) None ≡ Some place → IsSpelled (b ∷ bs) place
   of_client false f g = let none : None ≡ Some place = g in cc
   of_client true f g =
-      let c = bind_some (count_of 16384 bs) _ place g in
+      let c = bind_some (count_up_to 16384 bs) _ place g in
       let spelled = count_spelled 16384 bs c.0 c.1 in
       subst (IsSpelled (b ∷ bs)) (some_same (Client c.0) place c.2) (ap (λ k. k ∷ bs) (eqb-true b 99 f) ∙ ap (λ ds. 99 ∷ ds) spelled.0, spelled.1)
 
   of_node : (t : Bool) → nat_eq b 110 ≡ t
-      → cond t (count_of 64 bs >>= (λ n. Some (Node n))) (cond (nat_eq b 99) (count_of 16384 bs >>= (λ c. Some (Client c))) None) ≡ Some place → IsSpelled (b ∷ bs) place
+      → cond t (count_up_to 64 bs >>= (λ n. Some (Node n))) (cond (nat_eq b 99) (count_up_to 16384 bs >>= (λ c. Some (Client c))) None) ≡ Some place → IsSpelled (b ∷ bs) place
   of_node false f g = of_client (nat_eq b 99) refl g
   of_node true f g =
-      let n = bind_some (count_of 64 bs) _ place g in
+      let n = bind_some (count_up_to 64 bs) _ place g in
       let spelled = count_spelled 64 bs n.0 n.1 in
       subst (IsSpelled (b ∷ bs)) (some_same (Node n.0) place n.2) (ap (λ k. k ∷ bs) (eqb-true b 110 f) ∙ ap (λ ds. 110 ∷ ds) spelled.0, spelled.1)
 
@@ -56,7 +56,7 @@ place_read (Client c) range = ap (λ o. o >>= λ k. Some (Client k)) (count_read
 
 -- ---- bytes
 
-pub bytes_spelled : (word bytes : List ℕ) → bytes_of word ≡ Some bytes → decode_of word ≡ Ok bytes
+pub bytes_spelled : (word bytes : List ℕ) → hex_bytes_of word ≡ Some bytes → decode_of word ≡ Ok bytes
 bytes_spelled word bytes e = go (decode_of word) refl e where
   go : (r : Result (List ℕ) FromHexError) → decode_of word ≡ r → result_ok r ≡ Some bytes → r ≡ Ok bytes
   go (Ok x) f g = ap Ok (some_same x bytes g)
@@ -65,7 +65,7 @@ bytes_spelled word bytes e = go (decode_of word) refl e where
 pub some_bytes_spelled : (word bytes : List ℕ) → some_bytes_of word ≡ Some bytes → (decode_of word ≡ Ok bytes) × (1 ≤ length bytes)
 unfolding some_bytes_of
 some_bytes_spelled word bytes e =
-    let read = bind_some (bytes_of word) _ bytes e in
+    let read = bind_some (hex_bytes_of word) _ bytes e in
     let tested = cond_some (nat_le 1 (length read.0)) read.0 bytes read.2 in
     let some : 1 ≤ length read.0 = let passed = tested.0 in grind (arith, nat_tests, passed) in
     subst (λ b. (decode_of word ≡ Ok b) × (1 ≤ length b)) tested.1 (bytes_spelled word read.0 read.1, some)

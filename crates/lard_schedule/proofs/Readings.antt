@@ -12,14 +12,14 @@ use Rattle.lard_base.specs.declared.event.Event.TheVariants.{Open, Get, Write, S
 use Rattle.lard_schedule.specs.declared.verbs.Verb.{Verb}
 use Rattle.lard_schedule.specs.declared.verbs.Verb.TheVariants as verb
 use Rattle.lard_schedule.specs.Words.{◌>>=◌, word_then, number_then, count_then, client_then}
-use Rattle.lard_schedule.specs.Events.{IsInRange, IsUpTo, client_alone, number_alone, client_and_word, disk_of, event_after, event_of, get_of, inject_of, is_path, may_keep, open_of, place_of, settle_of, some_bytes_of, timer_of, verb_of, verb_word, verbs, write_of}
+use Rattle.lard_schedule.specs.Events.{IsInLineRange, IsUpTo, client_alone, number_alone, client_and_word, disk_of, event_after, event_of, get_of, inject_of, is_path, may_keep, open_of, place_of, settle_of, some_bytes_of, timer_of, verb_of, verb_word, verbs, write_of}
 use Rattle.lard_schedule.specs.Laws.{HasBytes, Spells}
 use Rattle.lard_schedule.proofs.Found.{bind_some, some_same, cond_some, ended_some, word_spelled, number_then_spelled, count_then_spelled, number_then_read, count_then_read, client_alone_spelled, number_alone_spelled, client_and_word_spelled, client_alone_read, number_alone_read, client_and_word_read}
 use Rattle.lard_schedule.proofs.Places.{text_is, place_spelled, place_read, some_bytes_spelled, some_bytes_read}
 
 -- the words spell the event, and it is in range
 abbrev pub IsSpelled : List (List ℕ) → Event → Type 0
-IsSpelled words event = Spells words event × IsInRange event
+IsSpelled words event = Spells words event × IsInLineRange event
 
 -- ---- a verb
 
@@ -167,7 +167,7 @@ event_spelled words event e =
 
 -- ---- and each event is read
 
-open_read : (c isn iss wnd mss : ℕ) → IsInRange (Open c isn iss wnd mss)
+open_read : (c isn iss wnd mss : ℕ) → IsInLineRange (Open c isn iss wnd mss)
     → open_of (decimal c ∷ decimal isn ∷ decimal iss ∷ decimal wnd ∷ decimal mss ∷ []) ≡ Some (Open c isn iss wnd mss)
 unfolding open_of
 open_read c isn iss wnd mss range =
@@ -179,33 +179,33 @@ open_read c isn iss wnd mss range =
       count_then_read 1460 mss [] (omega arith) range.4,
     ) refl
 
-get_read : (c : ℕ) (path : List ℕ) → IsInRange (Get c path) → get_of (decimal c ∷ path ∷ []) ≡ Some (Get c path)
+get_read : (c : ℕ) (path : List ℕ) → IsInLineRange (Get c path) → get_of (decimal c ∷ path ∷ []) ≡ Some (Get c path)
 unfolding get_of
 get_read c path range = rw (client_and_word_read c path range.0, range.1) refl
 
-write_read : (c : ℕ) (bytes digits : List ℕ) → decode_of digits ≡ Ok bytes → IsInRange (Write c bytes) → write_of (decimal c ∷ digits ∷ []) ≡ Some (Write c bytes)
+write_read : (c : ℕ) (bytes digits : List ℕ) → decode_of digits ≡ Ok bytes → IsInLineRange (Write c bytes) → write_of (decimal c ∷ digits ∷ []) ≡ Some (Write c bytes)
 unfolding write_of
 write_read c bytes digits e range = rw (client_and_word_read c digits range.0, some_bytes_read digits bytes e range.1) refl
 
-inject_read : (c : ℕ) (bytes digits : List ℕ) → decode_of digits ≡ Ok bytes → IsInRange (Inject c bytes) → inject_of (decimal c ∷ digits ∷ []) ≡ Some (Inject c bytes)
+inject_read : (c : ℕ) (bytes digits : List ℕ) → decode_of digits ≡ Ok bytes → IsInLineRange (Inject c bytes) → inject_of (decimal c ∷ digits ∷ []) ≡ Some (Inject c bytes)
 unfolding inject_of
 inject_read c bytes digits e range =
     let passed : nat_le (length bytes) 1520 ≡ true = grind (arith, nat_tests, range.1.1) in
     rw (client_and_word_read c digits range.0, some_bytes_read digits bytes e range.1.0, passed) refl
 
-timer_read : (place : Place) (c : ℕ) → IsInRange (Timer place c) → timer_of (place_word place ∷ decimal c ∷ []) ≡ Some (Timer place c)
+timer_read : (place : Place) (c : ℕ) → IsInLineRange (Timer place c) → timer_of (place_word place ∷ decimal c ∷ []) ≡ Some (Timer place c)
 unfolding timer_of
 timer_read place c range = rw (place_read place range.0, client_alone_read c range.1, range.2) refl
 
-disk_read : (n j : ℕ) → IsInRange (Disk n j) → disk_of (decimal n ∷ decimal j ∷ []) ≡ Some (Disk n j)
+disk_read : (n j : ℕ) → IsInLineRange (Disk n j) → disk_of (decimal n ∷ decimal j ∷ []) ≡ Some (Disk n j)
 unfolding disk_of
 disk_read n j range = rw (number_then_read (2 ^ 32 - 1) n (decimal j ∷ []) (omega arith) (omega (arith, range.0)), number_alone_read j range.1) refl
 
-settle_read : (rounds : ℕ) → IsInRange (Settle rounds) → settle_of (decimal rounds ∷ []) ≡ Some (Settle rounds)
+settle_read : (rounds : ℕ) → IsInLineRange (Settle rounds) → settle_of (decimal rounds ∷ []) ≡ Some (Settle rounds)
 unfolding settle_of
 settle_read rounds range = rw (count_then_read (2 ^ 32 - 1) rounds [] (omega arith) (range.0, omega (arith, range.1))) refl
 
-pub event_read : (words : List (List ℕ)) (event : Event) → Spells words event → IsInRange event → event_of words ≡ Some event
+pub event_read : (words : List (List ℕ)) (event : Event) → Spells words event → IsInLineRange event → event_of words ≡ Some event
 unfolding event_of
 event_read words (Open c isn iss wnd mss) e range = ap event_of e ∙ open_read c isn iss wnd mss range
 event_read words (Get c path) e range = ap event_of e ∙ get_read c path range
@@ -229,5 +229,5 @@ spells_itself (Write c bytes) h = (encode_lower bytes, refl, decode_of-encode_lo
 spells_itself (Inject c bytes) h = (encode_lower bytes, refl, decode_of-encode_lower bytes h)
 spells_itself event h = refl
 
-pub event_again : (event : Event) → IsInRange event → HasBytes event → event_of (event_words event) ≡ Some event
+pub event_again : (event : Event) → IsInLineRange event → HasBytes event → event_of (event_words event) ≡ Some event
 event_again event range bytes = event_read (event_words event) event (spells_itself event bytes) range

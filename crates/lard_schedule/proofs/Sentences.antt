@@ -19,7 +19,7 @@ use Rattle.lard_base.specs.declared.event.Event.TheVariants.{Open, Get, Write, S
 use Rattle.lard_schedule.specs.declared.item.Item.{Item}
 use Rattle.lard_schedule.specs.declared.item.Item.TheVariants as item
 use Rattle.lard_schedule.specs.Words.{words_of, is_space}
-use Rattle.lard_schedule.specs.Events.{IsInRange, IsPlace, is_path, is_visible}
+use Rattle.lard_schedule.specs.Events.{IsInLineRange, IsPlace, is_path, is_visible}
 use Rattle.lard_schedule.specs.Files.{is_file_path, is_no_question}
 use Rattle.lard_schedule.specs.Laws.{AreWords, HasNoSpace, HaveNoSpace, Spells, SpellsFile, SpellsItem}
 use Rattle.lard_schedule.specs.Reader.{HasRange}
@@ -100,7 +100,7 @@ verb_bytes : (verb : List ℕ) (c : ℕ) (digits bytes : List ℕ) → list_all 
     → AreWords (verb ∷ decimal c ∷ digits ∷ [])
 verb_bytes verb c digits bytes visible small e = (no_space_visible verb visible, (no_space_number c (omega arith), (no_space_hex digits bytes e, tt)))
 
-event_words_apart : (words : List (List ℕ)) (event : Event) → Spells words event → IsInRange event → AreWords words
+event_words_apart : (words : List (List ℕ)) (event : Event) → Spells words event → IsInLineRange event → AreWords words
 event_words_apart words (Open c isn iss wnd mss) e range =
     let numbers : HaveNoSpace (decimal c ∷ decimal isn ∷ decimal iss ∷ decimal wnd ∷ decimal mss ∷ []) = (
       no_space_number c (omega (arith, range.0.1)),

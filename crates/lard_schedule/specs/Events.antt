@@ -11,7 +11,7 @@ use Rattle.lard_base.specs.declared.event.Event.TheVariants.{Open, Get, Write, S
 use Rattle.lard_base.specs.declared.limits.TheConstants.{MAX_PATH_BYTES, MAX_SEGMENT_BYTES, MAX_SEGMENT_DATA}
 use Rattle.lard_schedule.specs.declared.verbs.Verb.{Verb}
 use Rattle.lard_schedule.specs.declared.verbs.Verb.TheVariants as verb
-use Rattle.lard_schedule.specs.Words.{◌>>=◌, word_then, number_then, count_of, count_then, client_then, ended}
+use Rattle.lard_schedule.specs.Words.{◌>>=◌, word_then, number_then, count_up_to, count_then, client_then, ended}
 
 -- ---- verbs
 
@@ -55,20 +55,20 @@ is_path [] = false
 is_path (b ∷ bs) = nat_eq b 47 && nat_lt (length bs) MAX_PATH_BYTES && list_all is_visible bs
 
 -- the bytes of hexadecimal digits, in both cases: two digits a byte
-abbrev pub bytes_of : List ℕ → Option (List ℕ)
-bytes_of word = result_ok (decode_of word)
+abbrev pub hex_bytes_of : List ℕ → Option (List ℕ)
+hex_bytes_of word = result_ok (decode_of word)
 
 -- at least one byte
 unfoldable pub some_bytes_of : List ℕ → Option (List ℕ)
 some_bytes_of word = do
-  bytes ← bytes_of word
+  bytes ← hex_bytes_of word
   if nat_le 1 (length bytes) then Some bytes else None
 
 -- the letter of a node is n, that of a client c
 abbrev pub numbered_place : ℕ → List ℕ → Option Place
 numbered_place b word =
-    if nat_eq b 110 then count_of 64 word >>= (λ n. Some (Node n))
-    else (if nat_eq b 99 then count_of conn_id.MAX word >>= (λ c. Some (Client c)) else None)
+    if nat_eq b 110 then count_up_to 64 word >>= (λ n. Some (Node n))
+    else (if nat_eq b 99 then count_up_to conn_id.MAX word >>= (λ c. Some (Client c)) else None)
 
 -- a place: front, n1 to n64, c1 to c16384
 unfoldable pub place_of : List ℕ → Option Place
@@ -183,18 +183,18 @@ IsPlace (Node n) = IsUpTo 64 n
 IsPlace (Client c) = IsUpTo conn_id.MAX c
 
 -- the numbers, the path, the place and the bytes of an event are ones that a line can have
-abbrev pub IsInRange : Event → Type 0
-IsInRange (Open c isn iss wnd mss) = IsUpTo conn_id.MAX c × (isn < 2 ^ 32) × (iss < 2 ^ 32) × IsUpTo 65535 wnd × IsUpTo MAX_SEGMENT_DATA mss
-IsInRange (Get c path) = IsUpTo conn_id.MAX c × (is_path path ≡ true)
-IsInRange (Write c bytes) = IsUpTo conn_id.MAX c × (1 ≤ length bytes)
-IsInRange (Shut c) = IsUpTo conn_id.MAX c
-IsInRange (Abort c) = IsUpTo conn_id.MAX c
-IsInRange (Hold c) = IsUpTo conn_id.MAX c
-IsInRange (Take c) = IsUpTo conn_id.MAX c
-IsInRange (Deliver k) = k < 2 ^ 32
-IsInRange (Lose k) = k < 2 ^ 32
-IsInRange (Timer place c) = IsPlace place × IsUpTo conn_id.MAX c × (may_keep place c ≡ true)
-IsInRange (Disk n j) = (n < 2 ^ 32) × (j < 2 ^ 32)
-IsInRange (Clock ms) = ms < 2 ^ 32
-IsInRange (Settle rounds) = (1 ≤ rounds) × (rounds < 2 ^ 32)
-IsInRange (Inject c bytes) = IsUpTo conn_id.MAX c × IsUpTo MAX_SEGMENT_BYTES (length bytes)
+abbrev pub IsInLineRange : Event → Type 0
+IsInLineRange (Open c isn iss wnd mss) = IsUpTo conn_id.MAX c × (isn < 2 ^ 32) × (iss < 2 ^ 32) × IsUpTo 65535 wnd × IsUpTo MAX_SEGMENT_DATA mss
+IsInLineRange (Get c path) = IsUpTo conn_id.MAX c × (is_path path ≡ true)
+IsInLineRange (Write c bytes) = IsUpTo conn_id.MAX c × (1 ≤ length bytes)
+IsInLineRange (Shut c) = IsUpTo conn_id.MAX c
+IsInLineRange (Abort c) = IsUpTo conn_id.MAX c
+IsInLineRange (Hold c) = IsUpTo conn_id.MAX c
+IsInLineRange (Take c) = IsUpTo conn_id.MAX c
+IsInLineRange (Deliver k) = k < 2 ^ 32
+IsInLineRange (Lose k) = k < 2 ^ 32
+IsInLineRange (Timer place c) = IsPlace place × IsUpTo conn_id.MAX c × (may_keep place c ≡ true)
+IsInLineRange (Disk n j) = (n < 2 ^ 32) × (j < 2 ^ 32)
+IsInLineRange (Clock ms) = ms < 2 ^ 32
+IsInLineRange (Settle rounds) = (1 ≤ rounds) × (rounds < 2 ^ 32)
+IsInLineRange (Inject c bytes) = IsUpTo conn_id.MAX c × IsUpTo MAX_SEGMENT_BYTES (length bytes)

@@ -22,8 +22,8 @@ path_then words = do
   if is_file_path path.0 then Some path else None
 
 -- a file's bytes in hexadecimal, or a dash where it has none
-abbrev pub content_of : List ℕ → Option (List ℕ)
-content_of word = if bytes_eq word (codes "-") then Some [] else some_bytes_of word
+abbrev pub word_content : List ℕ → Option (List ℕ)
+word_content word = if bytes_eq word (codes "-") then Some [] else some_bytes_of word
 
 -- a path and one word
 unfoldable pub path_and_word : List (List ℕ) → Option (List ℕ × List ℕ)
@@ -33,10 +33,10 @@ path_and_word words = do
   ended word.1 (path.0, word.0)
 
 -- what comes after the word `file`
-unfoldable pub file_of : List (List ℕ) → Option Item
-file_of words = do
+unfoldable pub file_item_of : List (List ℕ) → Option Item
+file_item_of words = do
   file ← path_and_word words
-  bytes ← content_of file.1
+  bytes ← word_content file.1
   Some (File file.0 bytes)
 
 abbrev pub first_byte : Result (List ℕ) FromHexError → Option ℕ
@@ -48,8 +48,8 @@ abbrev pub byte_of : List ℕ → Option ℕ
 byte_of word = first_byte (decode_sized word 1)
 
 -- how often a byte is repeated, and the byte
-unfoldable pub run_of : List (List ℕ) → Option (ℕ × ℕ)
-run_of words = do
+unfoldable pub byte_run : List (List ℕ) → Option (ℕ × ℕ)
+byte_run words = do
   n ← number_then MAX_ALL_FILES_BYTES words
   word ← word_then n.1
   byte ← byte_of word.0
@@ -59,13 +59,13 @@ run_of words = do
 unfoldable pub fill_of : List (List ℕ) → Option Item
 fill_of words = do
   path ← path_then words
-  run ← run_of path.1
+  run ← byte_run path.1
   Some (File path.0 (replicate run.0 run.1))
 
 -- a file, or the end of the files
 unfoldable pub file_item : List (List ℕ) → Option Item
 file_item [] = None
 file_item (word ∷ words) =
-    if bytes_eq word (codes "file") then file_of words
+    if bytes_eq word (codes "file") then file_item_of words
     else (if bytes_eq word (codes "fill") then fill_of words
     else (if bytes_eq word (codes "go") then ended words Go else None))

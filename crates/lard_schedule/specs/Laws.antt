@@ -10,7 +10,7 @@ use Rattle.lard_schedule.specs.declared.item.Item.TheVariants as item
 use Rattle.lard_schedule.specs.declared.reader.Reader.{Reader}
 use Rattle.lard_schedule.specs.declared.reader.Stage.{Stage}
 use Rattle.lard_schedule.specs.declared.reader.Stage.TheVariants.{Start, Settings, Files, Running}
-use Rattle.lard_schedule.specs.Reader.{has}
+use Rattle.lard_schedule.specs.Reader.{has_key}
 use Rattle.lard_schedule.specs.Words.{is_space}
 
 -- the words are a verb, a client, and bytes in hexadecimal digits of both cases
@@ -58,7 +58,7 @@ IsBefore Running = ⊥
 -- a line may stand here: `lard 1` first; then each key once; then files; then `go`; then events
 abbrev pub MayStand : Reader → Item → Type 0
 MayStand reader item.Header = reader.stage ≡ Start
-MayStand reader (item.Set key value) = (reader.stage ≡ Settings) × (has reader.keys key ≡ false)
+MayStand reader (item.Set key value) = (reader.stage ≡ Settings) × (has_key reader.keys key ≡ false)
 MayStand reader (item.File path bytes) = IsBefore reader.stage
 MayStand reader item.Go = IsBefore reader.stage
 MayStand reader (item.Event event) = reader.stage ≡ Running

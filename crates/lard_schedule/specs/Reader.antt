@@ -12,7 +12,7 @@ use Rattle.lard_schedule.specs.declared.reader.Stage.TheVariants.{Start, Setting
 use Rattle.lard_schedule.specs.declared.item.Item.{Item}
 use Rattle.lard_schedule.specs.declared.item.Item.TheVariants.{Header, Set, File, Go, Event}
 use Rattle.lard_schedule.specs.Words.{◌>>=◌, words_of, number_then, ended}
-use Rattle.lard_schedule.specs.Events.{event_of, IsInRange}
+use Rattle.lard_schedule.specs.Events.{event_of, IsInLineRange}
 use Rattle.lard_schedule.specs.Files.{file_item, is_file_path}
 
 -- ---- keys
@@ -21,16 +21,16 @@ abbrev pub no_keys : Keys
 no_keys =
     record { nodes = false; low = false; high = false; age = false; idle = false; over = false; miss = false; cache = false; stream = false }
 
-abbrev pub has : Keys → Key → Bool
-has keys Nodes = keys.nodes
-has keys Low = keys.low
-has keys High = keys.high
-has keys Age = keys.age
-has keys Idle = keys.idle
-has keys Over = keys.over
-has keys Miss = keys.miss
-has keys Cache = keys.cache
-has keys Stream = keys.stream
+abbrev pub has_key : Keys → Key → Bool
+has_key keys Nodes = keys.nodes
+has_key keys Low = keys.low
+has_key keys High = keys.high
+has_key keys Age = keys.age
+has_key keys Idle = keys.idle
+has_key keys Over = keys.over
+has_key keys Miss = keys.miss
+has_key keys Cache = keys.cache
+has_key keys Stream = keys.stream
 
 abbrev pub with_key : Keys → Key → Keys
 with_key keys Nodes = record keys { nodes = true }
@@ -53,30 +53,30 @@ key_of word = key_among all_keys word
 -- ---- lines
 
 -- what comes after a key that was not set: a number below 2^64
-unfoldable pub value_of : Key → List (List ℕ) → Option Item
-value_of key words = do
+unfoldable pub value_item : Key → List (List ℕ) → Option Item
+value_item key words = do
   value ← number_then (2 ^ 64 - 1) words
   ended value.1 (Set key value.0)
 
 -- a key that was set is not set again
-abbrev pub set_of : Keys → Key → List (List ℕ) → Option Item
-set_of keys key words = if has keys key then None else value_of key words
+abbrev pub set_once : Keys → Key → List (List ℕ) → Option Item
+set_once keys key words = if has_key keys key then None else value_item key words
 
 -- before the first file: a number of the configuration, else what may stand behind a file
 abbrev pub setting_or : Keys → Option Key → List (List ℕ) → List (List ℕ) → Option Item
-setting_or keys (Some key) rest words = set_of keys key rest
+setting_or keys (Some key) rest words = set_once keys key rest
 setting_or keys None rest words = file_item words
 
-unfoldable pub setting_of : Keys → List (List ℕ) → Option Item
-setting_of keys [] = None
-setting_of keys (word ∷ words) = setting_or keys (key_of word) words (word ∷ words)
+unfoldable pub setting_item : Keys → List (List ℕ) → Option Item
+setting_item keys [] = None
+setting_item keys (word ∷ words) = setting_or keys (key_of word) words (word ∷ words)
 
 abbrev pub header_of : List ℕ → Option Item
 header_of line = if bytes_eq line (codes "lard 1") then Some Header else None
 
 abbrev pub item_at : Stage → Keys → List ℕ → Option Item
 item_at Start keys line = header_of line
-item_at Settings keys line = setting_of keys (words_of line)
+item_at Settings keys line = setting_item keys (words_of line)
 item_at Files keys line = file_item (words_of line)
 item_at Running keys line = event_of (words_of line) >>= λ e. Some (Event e)
 
@@ -86,16 +86,16 @@ item_of reader line = item_at reader.stage reader.keys line
 
 -- ---- readers
 
-abbrev pub start : Reader
-start = record { stage = Start; keys = no_keys }
+abbrev pub reader_start : Reader
+reader_start = record { stage = Start; keys = no_keys }
 
 -- the reader after a line that stood for an item
-abbrev pub after : Reader → Item → Reader
-after reader Header = record reader { stage = Settings }
-after reader (Set key value) = record reader { keys = with_key reader.keys key }
-after reader (File path bytes) = record reader { stage = Files }
-after reader Go = record reader { stage = Running }
-after reader (Event e) = reader
+abbrev pub reader_after : Reader → Item → Reader
+reader_after reader Header = record reader { stage = Settings }
+reader_after reader (Set key value) = record reader { keys = with_key reader.keys key }
+reader_after reader (File path bytes) = record reader { stage = Files }
+reader_after reader Go = record reader { stage = Running }
+reader_after reader (Event e) = reader
 
 -- what a line can have: of a file's path and of an event
 abbrev pub HasRange : Item → Type 0
@@ -103,4 +103,4 @@ HasRange Header = Unit {0}
 HasRange (Set key value) = value < 2 ^ 64
 HasRange (File path bytes) = is_file_path path ≡ true
 HasRange Go = Unit {0}
-HasRange (Event e) = IsInRange e
+HasRange (Event e) = IsInLineRange e

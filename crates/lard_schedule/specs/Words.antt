@@ -34,12 +34,12 @@ is_space b = nat_eq b 32
 abbrev pub words_of : List ℕ → List (List ℕ)
 words_of text = slice_split is_space text
 
-abbrev pub first_of : List (List ℕ) → List ℕ
-first_of [] = []
-first_of (word ∷ words) = word
+abbrev pub first_word_of : List (List ℕ) → List ℕ
+first_word_of [] = []
+first_word_of (word ∷ words) = word
 
 abbrev pub first_word : List ℕ → List ℕ
-first_word line = first_of (words_of line)
+first_word line = first_word_of (words_of line)
 
 -- the words that are still to be read
 abbrev pub words_left : Option (Bor (List ℕ)) → List (List ℕ)
@@ -63,8 +63,8 @@ ended (word ∷ words) x = None
 abbrev pub seen_word : Bor (List ℕ) × Words → List ℕ × List (List ℕ)
 seen_word found = (found.0.now, left_of found.1)
 
-abbrev pub seen : {X : Type 0} → X × Words → X × List (List ℕ)
-seen found = (found.0, left_of found.1)
+abbrev pub words_seen : {X : Type 0} → X × Words → X × List (List ℕ)
+words_seen found = (found.0, left_of found.1)
 
 abbrev pub seen_texts : Bor (List ℕ) × Bor (List ℕ) → List ℕ × List ℕ
 seen_texts found = (found.0.now, found.1.now)
@@ -92,8 +92,8 @@ number_of most [] = None
 number_of most (b ∷ bs) = if nat_eq b 48 && not (is_nil bs) then None else digits_on most 0 (b ∷ bs)
 
 -- a number from 1 to `most`, which is below 2^32
-unfoldable pub count_of : ℕ → List ℕ → Option ℕ
-count_of most word = do
+unfoldable pub count_up_to : ℕ → List ℕ → Option ℕ
+count_up_to most word = do
   n ← number_of (2 ^ 32 - 1) word
   if nat_le 1 n && nat_le n most then Some n else None
 
@@ -106,7 +106,7 @@ number_then most words = do
 unfoldable pub count_then : ℕ → List (List ℕ) → Option (ℕ × List (List ℕ))
 count_then most words = do
   word ← word_then words
-  n ← count_of most word.0
+  n ← count_up_to most word.0
   Some (n, word.1)
 
 -- a client's number, from 1 to 16,384

@@ -2,7 +2,7 @@
 
 ghost use Rattle.std.specs.Prelude.{◌≡◌, ◌≤◌, IfSome};
 ghost use Rattle.std.specs.List.{list_all};
-ghost use Rattle.lard_schedule.specs.Events.{bytes_of, client_alone, client_and_word, disk_of, event_after, event_of, get_of, inject_of, is_path, is_visible, may_keep, number_alone, open_of, place_of, settle_of, some_bytes_of, timer_of, write_of};
+ghost use Rattle.lard_schedule.specs.Events.{hex_bytes_of, client_alone, client_and_word, disk_of, event_after, event_of, get_of, inject_of, is_path, is_visible, may_keep, number_alone, open_of, place_of, settle_of, some_bytes_of, timer_of, write_of};
 ghost use Rattle.lard_schedule.specs.Words.{Finds, Judges, left_of, seen_pair, words_of};
 
 use crate::item::LineFault;
@@ -190,7 +190,7 @@ pub fn some_bytes(alloc: Global, word: &[u8]) -> Result<Bytes, LineFault>
 
 /// The bytes of hexadecimal digits in both cases: two digits a byte.
 fn bytes_in(alloc: Global, word: &[u8]) -> Result<Bytes, LineFault>
-    ensures { Judges result (bytes_of word.now) }
+    ensures { Judges result (hex_bytes_of word.now) }
 {
     match hex::decode(alloc, word) {
         Ok(bytes) => return Ok(Bytes::from_vec(bytes)),

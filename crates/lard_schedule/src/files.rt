@@ -2,7 +2,7 @@
 
 ghost use Rattle.std.specs.Prelude.{◌≡◌, replicate, IfOk};
 ghost use Rattle.std.specs.List.{list_all};
-ghost use Rattle.lard_schedule.specs.Files.{byte_of, content_of, file_item, file_of, fill_of, is_file_path, is_no_question, path_and_word, path_then, run_of};
+ghost use Rattle.lard_schedule.specs.Files.{byte_of, word_content, file_item, file_item_of, fill_of, is_file_path, is_no_question, path_and_word, path_then, byte_run};
 ghost use Rattle.lard_schedule.specs.Words.{Finds, Judges, ended, left_of, seen_texts, seen_word};
 
 use crate::events::{is_path, some_bytes};
@@ -39,9 +39,9 @@ fn go(words: Words<'_>) -> Result<Item, LineFault>
 }
 
 /// What comes after the word `file`: a path, and the content in hexadecimal, or `-` where there is none.
-#[tactic(auto, unfolding(crate::specs::Files::file_of))]
+#[tactic(auto, unfolding(crate::specs::Files::file_item_of))]
 fn file(alloc: Global, words: Words<'_>) -> Result<Item, LineFault>
-    ensures { Judges result (file_of (left_of words.entry)) }
+    ensures { Judges result (file_item_of (left_of words.entry)) }
 {
     let (path, word) = path_and_word(words).ok_or(LineFault::Syntax)?;
     let bytes = content(alloc, word)?;
@@ -73,9 +73,9 @@ fn path_and_word(words: Words<'_>) -> Option<(&[u8], &[u8])>
 }
 
 /// How often a byte is repeated, at most as often as all files together may have bytes, and the byte.
-#[tactic(auto, unfolding(crate::specs::Files::run_of))]
+#[tactic(auto, unfolding(crate::specs::Files::byte_run))]
 fn run(words: Words<'_>) -> Option<(u64, u8)>
-    ensures { result ≡ run_of (left_of words.entry) }
+    ensures { result ≡ byte_run (left_of words.entry) }
 {
     let (n, words) = number_to(words, MAX_ALL_FILES_BYTES as u64)?;
     let (word, words) = next(words)?;
@@ -98,7 +98,7 @@ pub fn path_next(words: Words<'_>) -> Option<(&[u8], Words<'_>)>
 
 /// A file's bytes: hexadecimal digits, or `-`.
 fn content(alloc: Global, word: &[u8]) -> Result<Bytes, LineFault>
-    ensures { Judges result (content_of word.now) }
+    ensures { Judges result (word_content word.now) }
 {
     if is(word, "-") {
         return Ok(Bytes::from_vec(Vec::new(alloc)));

@@ -2,7 +2,7 @@
 
 ghost use Rattle.std.specs.Prelude.{◌≡◌};
 ghost use Rattle.lard_base.specs.Spelling.{key_word};
-ghost use Rattle.lard_schedule.specs.Reader.{has, key_among, key_of, no_keys, with_key};
+ghost use Rattle.lard_schedule.specs.Reader.{has_key, key_among, key_of, no_keys, with_key};
 
 use crate::words::is;
 use lard_base::Key;
@@ -41,7 +41,7 @@ impl Keys {
 
     /// Whether the key was set.
     pub fn has(&self, key: Key) -> bool
-        ensures { result ≡ has self.now key }
+        ensures { result ≡ has_key self.now key }
     {
         match key {
             Key::Nodes => self.nodes,

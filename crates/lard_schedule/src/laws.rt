@@ -8,8 +8,8 @@ ghost use Rattle.lard_schedule.specs.declared.item.Item.{Item};
 ghost use Rattle.lard_schedule.specs.declared.keys.Keys.{Keys};
 ghost use Rattle.lard_schedule.specs.declared.reader.Reader.{Reader};
 ghost use Rattle.lard_schedule.specs.Words.{number_of, words_of};
-ghost use Rattle.lard_schedule.specs.Events.{IsInRange, event_of};
-ghost use Rattle.lard_schedule.specs.Reader.{HasRange, has, item_of, with_key};
+ghost use Rattle.lard_schedule.specs.Events.{IsInLineRange, event_of};
+ghost use Rattle.lard_schedule.specs.Reader.{HasRange, has_key, item_of, with_key};
 ghost use Rattle.lard_schedule.specs.Laws.{AreWords, HasBytes, IsLineOf, MayStand, Spells};
 
 /// A word is read as a number exactly where it is that number in decimal, at most as great as is asked for: no sign, no
@@ -27,8 +27,8 @@ pub fn words()
 /// Words are read as an event exactly where they spell it, with digits of both cases for bytes, and it is in range. So
 /// an event that is in range is read again from the words by which a report tells it.
 pub fn events()
-    ensures event { (words : List (List ℕ)) (event : Event) → (event_of words ≡ Some event) ↔ (Spells words event × IsInRange event) }
-    ensures again { (event : Event) → IsInRange event → HasBytes event → event_of (event_words event) ≡ Some event }
+    ensures event { (words : List (List ℕ)) (event : Event) → (event_of words ≡ Some event) ↔ (Spells words event × IsInLineRange event) }
+    ensures again { (event : Event) → IsInLineRange event → HasBytes event → event_of (event_words event) ≡ Some event }
 {}
 
 /// A line stands for an item exactly where it is the sentence of words that spell the item, the item may stand where the
@@ -42,6 +42,6 @@ pub fn lines()
 
 /// A key that is set is set from then on, and the others are as they were.
 pub fn keys()
-    ensures set { (keys : Keys) (key : Key) → has (with_key keys key) key ≡ true }
-    ensures others { (keys : Keys) (key other : Key) → other ≢ key → has (with_key keys key) other ≡ has keys other }
+    ensures set { (keys : Keys) (key : Key) → has_key (with_key keys key) key ≡ true }
+    ensures others { (keys : Keys) (key other : Key) → other ≢ key → has_key (with_key keys key) other ≡ has_key keys other }
 {}

@@ -1,7 +1,7 @@
 //! Numbers in decimal, and what they count.
 
 ghost use Rattle.std.specs.Prelude.{◌≡◌, ◌≤◌, ◌-◌, ◌^◌, IfSome};
-ghost use Rattle.lard_schedule.specs.Words.{Finds, client_then, count_of, count_then, digit_on, digits_on, left_of, number_of, number_then, seen};
+ghost use Rattle.lard_schedule.specs.Words.{Finds, client_then, count_up_to, count_then, digit_on, digits_on, left_of, number_of, number_then, words_seen};
 
 use crate::words::{Words, next};
 use lard_base::{ConnId, NodeId};
@@ -44,9 +44,9 @@ fn more(number: u64, digit: u8, most: u64) -> Option<u64>
 }
 
 /// A number from 1 to `most`.
-#[tactic(auto, unfolding(crate::specs::Words::count_of))]
+#[tactic(auto, unfolding(crate::specs::Words::count_up_to))]
 pub fn count_in(word: &[u8], most: u32) -> Option<u32>
-    ensures read { result ≡ count_of most word.now }
+    ensures read { result ≡ count_up_to most word.now }
     ensures within { IfSome result (λ n. (1 ≤ n) × (n ≤ most)) }
 {
     let n = number_in(word, u64::from(u32::MAX))?;
@@ -58,14 +58,14 @@ pub fn count_in(word: &[u8], most: u32) -> Option<u32>
 
 /// A client's number: 1 to 16,384.
 pub fn client_in(word: &[u8]) -> Option<ConnId>
-    ensures { result ≡ count_of ConnId.MAX word.now }
+    ensures { result ≡ count_up_to ConnId.MAX word.now }
 {
     ConnId::new(count_in(word, ConnId::MAX)?)
 }
 
 /// A node's number: 1 to 64.
 pub fn node_in(word: &[u8]) -> Option<NodeId>
-    ensures { result ≡ count_of 64 word.now }
+    ensures { result ≡ count_up_to 64 word.now }
 {
     NodeId::new(count_in(word, NodeId::MAX)?)
 }
@@ -73,7 +73,7 @@ pub fn node_in(word: &[u8]) -> Option<NodeId>
 /// A number to `most`, as the next word.
 #[tactic(auto, unfolding(crate::specs::Words::number_then))]
 pub fn number_to(words: Words<'_>, most: u64) -> Option<(u64, Words<'_>)>
-    ensures found { Finds seen result (number_then most (left_of words.entry)) }
+    ensures found { Finds words_seen result (number_then most (left_of words.entry)) }
     ensures within { IfSome result (λ found. found.0 ≤ most) }
 {
     let (word, rest) = next(words)?;
@@ -83,7 +83,7 @@ pub fn number_to(words: Words<'_>, most: u64) -> Option<(u64, Words<'_>)>
 
 /// A number below 2^32, as the next word.
 pub fn number(words: Words<'_>) -> Option<(u32, Words<'_>)>
-    ensures { Finds seen result (number_then (2 ^ 32 - 1) (left_of words.entry)) }
+    ensures { Finds words_seen result (number_then (2 ^ 32 - 1) (left_of words.entry)) }
 {
     let (n, rest) = number_to(words, u64::from(u32::MAX))?;
     Some((n as u32, rest))
@@ -92,7 +92,7 @@ pub fn number(words: Words<'_>) -> Option<(u32, Words<'_>)>
 /// A number from 1 to `most`, as the next word.
 #[tactic(auto, unfolding(crate::specs::Words::count_then))]
 pub fn count(words: Words<'_>, most: u32) -> Option<(u32, Words<'_>)>
-    ensures found { Finds seen result (count_then most (left_of words.entry)) }
+    ensures found { Finds words_seen result (count_then most (left_of words.entry)) }
     ensures within { IfSome result (λ found. (1 ≤ found.0) × (found.0 ≤ most)) }
 {
     let (word, rest) = next(words)?;
@@ -102,7 +102,7 @@ pub fn count(words: Words<'_>, most: u32) -> Option<(u32, Words<'_>)>
 
 /// A client's number, 1 to 16,384, as the next word.
 pub fn client(words: Words<'_>) -> Option<(u32, Words<'_>)>
-    ensures found { Finds seen result (client_then (left_of words.entry)) }
+    ensures found { Finds words_seen result (client_then (left_of words.entry)) }
     ensures within { IfSome result (λ found. (1 ≤ found.0) × (found.0 ≤ ConnId.MAX)) }
 {
     count(words, ConnId::MAX)

@@ -1,7 +1,7 @@
 //! The reader of a schedule, line by line.
 
 ghost use Rattle.std.specs.Prelude.{◌≡◌, ◌↔◌, IsTrue, IfOk, OnErr};
-ghost use Rattle.lard_schedule.specs.Reader.{HasRange, after, header_of, item_of, set_of, setting_of, start, value_of};
+ghost use Rattle.lard_schedule.specs.Reader.{HasRange, reader_after, header_of, item_of, set_once, setting_item, reader_start, value_item};
 ghost use Rattle.lard_schedule.specs.Words.{Judges, left_of};
 
 use crate::events::event;
@@ -36,7 +36,7 @@ pub struct Reader {
 impl Reader {
     /// A reader that has read nothing.
     pub fn new() -> Reader
-        ensures { result ≡ start }
+        ensures { result ≡ reader_start }
     {
         Reader {
             stage: Stage::Start,
@@ -61,7 +61,7 @@ impl Reader {
     pub fn feed_line(&mut self, alloc: Global, line: &[u8]) -> Result<Item, LineFault>
         ensures judged { Judges result (item_of self.old line.now) }
         ensures range { IfOk result HasRange }
-        ensures ok { IfOk result (λ item. self.new ≡ after self.old item) }
+        ensures ok { IfOk result (λ item. self.new ≡ reader_after self.old item) }
         ensures err { OnErr result (self.new ≡ self.old) }
     {
         let item = self.item(alloc, line)?;
@@ -82,9 +82,9 @@ impl Reader {
     }
 
     /// A number of the configuration, a file, or `go`.
-    #[tactic(auto, unfolding(crate::specs::Reader::setting_of))]
+    #[tactic(auto, unfolding(crate::specs::Reader::setting_item))]
     fn setting(&self, alloc: Global, words: Words<'_>) -> Result<Item, LineFault>
-        ensures { Judges result (setting_of self.now.keys (left_of words.entry)) }
+        ensures { Judges result (setting_item self.now.keys (left_of words.entry)) }
     {
         let (word, rest) = next(words).ok_or(LineFault::Syntax)?;
         match key_in(word) {
@@ -95,7 +95,7 @@ impl Reader {
 
     /// What comes after the word of a key, which may be set once.
     fn set(&self, key: Key, words: Words<'_>) -> Option<Item>
-        ensures { result ≡ set_of self.now.keys key (left_of words.entry) }
+        ensures { result ≡ set_once self.now.keys key (left_of words.entry) }
     {
         if self.keys.has(key) {
             return None;
@@ -105,7 +105,7 @@ impl Reader {
 
     /// Goes on behind a line that stood for the item.
     fn pass(&mut self, item: &Item)
-        ensures { self.new ≡ after self.old item.now }
+        ensures { self.new ≡ reader_after self.old item.now }
     {
         match item {
             Item::Header => self.stage = Stage::Settings,
@@ -118,9 +118,9 @@ impl Reader {
 }
 
 /// A number below 2^64 for a key.
-#[tactic(auto, unfolding(crate::specs::Reader::value_of))]
+#[tactic(auto, unfolding(crate::specs::Reader::value_item))]
 fn value(key: Key, words: Words<'_>) -> Option<Item>
-    ensures { result ≡ value_of key (left_of words.entry) }
+    ensures { result ≡ value_item key (left_of words.entry) }
 {
     let (number, words) = number_to(words, u64::MAX)?;
     end(words)?;

@@ -5,9 +5,9 @@ use Rattle.lard_segment.specs.declared.segment.Dir.{Dir}
 use Rattle.lard_segment.specs.declared.segment.Dir.TheVariants.{ToCluster, ToClient}
 use Rattle.lard_segment.specs.declared.segment.Flags.{Flags}
 use Rattle.lard_segment.specs.Checksum.{checksum_of}
-use Rattle.lard_segment.specs.Fields.{word_at, flags_of, flag_byte}
+use Rattle.lard_segment.specs.Fields.{word_at, flags_of, flags_byte}
 use Rattle.lard_segment.specs.Options.{clamped}
-use Rattle.lard_segment.specs.Segment.{Said, decoded, spelled, with_checksum, are_ports, IsSendable, ReadsAgain}
+use Rattle.lard_segment.specs.Segment.{Said, decoded, spelled, with_checksum, are_ports, IsSendable, SegmentReadsAgain}
 use Rattle.lard_segment.proofs.InOrder.{in_order, at_places}
 
 -- two bytes of a number make it again
@@ -19,9 +19,9 @@ four : (n : ℕ) → n < 2 ^ 32 → (n / 16777216 % 256 * 256 + n / 65536 % 256)
 four n h = omega arith
 
 -- the bits of their byte are the flags
-flags_of-flag_byte : (f : Flags) → flags_of (flag_byte f) ≡ f
+flags_of-flag_byte : (f : Flags) → flags_of (flags_byte f) ≡ f
 flags_of-flag_byte f = each f.syn f.ack f.fin f.rst f.psh where
-  each : (syn ack fin rst psh : Bool) → flags_of (flag_byte (record { syn = syn; ack = ack; fin = fin; rst = rst; psh = psh })) ≡ record { syn = syn; ack = ack; fin = fin; rst = rst; psh = psh }
+  each : (syn ack fin rst psh : Bool) → flags_of (flags_byte (record { syn = syn; ack = ack; fin = fin; rst = rst; psh = psh })) ≡ record { syn = syn; ack = ack; fin = fin; rst = rst; psh = psh }
   each true true true true true = refl
   each true true true true false = refl
   each true true true false true = refl
@@ -86,5 +86,5 @@ again_at c dir q a f w (Some m) P v =
     (are_ports-again dir s sum) (grind (arith, nat_tests)) (ap (λ n. Ok (Some n)) size) ∙ at_places bytes 24 s (sym (four q v.seq_fits)) (sym (four a v.ack_fits)) (sym (flags_of-flag_byte f)) (sym (two w v.wnd_fits)) refl
 
 -- what is written is read again
-pub again : ReadsAgain
+pub again : SegmentReadsAgain
 again c dir s v = again_at c dir s.seq s.ack s.flags s.wnd s.mss s.payload v

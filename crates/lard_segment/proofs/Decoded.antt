@@ -5,7 +5,7 @@ use Rattle.std.proofs.lemmas.Bool.Decides.{nat_tests}
 use Rattle.lard_segment.specs.declared.segment.Dir.{Dir}
 use Rattle.lard_segment.specs.declared.fault.SegFault.{SegFault}
 use Rattle.lard_segment.specs.declared.fault.SegFault.TheVariants as fault
-use Rattle.lard_segment.specs.Fields.{word_at, number_at, flags_of}
+use Rattle.lard_segment.specs.Fields.{word_at, double_word_at, flags_of}
 use Rattle.lard_segment.specs.Checksum.{checksum_of}
 use Rattle.lard_segment.specs.Options.{option_len, clamped, mss_after, mss_among, mss_in}
 use Rattle.lard_segment.specs.Segment.{Said, decoded, are_ports, begins_at, offset_of, with_data, with_mss}
@@ -42,8 +42,8 @@ pub record IsRead (bytes : List ℕ) (s : Said) : Type 0 where
   pub begins : ℕ
   pub behind_fixed : 20 ≤ begins
   pub within : begins ≤ length bytes
-  pub sequence : s.seq ≡ number_at bytes 4
-  pub acknowledgement : s.ack ≡ number_at bytes 8
+  pub sequence : s.seq ≡ double_word_at bytes 4
+  pub acknowledgement : s.ack ≡ double_word_at bytes 8
   pub control : s.flags ≡ flags_of (slice_index bytes 13)
   pub window : s.wnd ≡ word_at bytes 14
   pub options : mss_in (take (begins - 20) (drop 20 bytes)) ≡ Ok s.mss
@@ -55,7 +55,7 @@ decoded-read bytes c dir s h = by_place (begins_at bytes) refl (with_data-decode
   by_size : (n : ℕ) (given : Result (Option ℕ) SegFault) → begins_at bytes ≡ Some n → mss_in (take (n - 20) (drop 20 bytes)) ≡ given → with_mss bytes n given ≡ Ok s → IsRead bytes s
   by_size n (Err e) at size h = absurd (cc)
   by_size n (Ok mss) at size h =
-      let same : record { seq = number_at bytes 4; ack = number_at bytes 8; flags = flags_of (slice_index bytes 13); wnd = word_at bytes 14; mss = mss; payload = drop n bytes } ≡ s = cc in
+      let same : record { seq = double_word_at bytes 4; ack = double_word_at bytes 8; flags = flags_of (slice_index bytes 13); wnd = word_at bytes 14; mss = mss; payload = drop n bytes } ≡ s = cc in
       record {
         begins = n;
         behind_fixed = (begins_at-range bytes n at).0;

@@ -2,7 +2,7 @@
 use Rattle.std.proofs.Common.{◌≡◌, ℕ, ◌-◌, List, length, true, false, Option, Some, Result, Ok, refl, sym, slice_index, take, drop, nat_eq, nat_lt}
 use Rattle.lard_segment.specs.declared.segment.Dir.{Dir}
 use Rattle.lard_segment.specs.declared.fault.SegFault.{SegFault}
-use Rattle.lard_segment.specs.Fields.{word_at, number_at, flags_of}
+use Rattle.lard_segment.specs.Fields.{word_at, double_word_at, flags_of}
 use Rattle.lard_segment.specs.Checksum.{checksum_of}
 use Rattle.lard_segment.specs.Options.{mss_in}
 use Rattle.lard_segment.specs.Segment.{Said, decoded, are_ports, begins_at, with_mss}
@@ -14,6 +14,6 @@ unfolding decoded
 in_order bytes c dir begins given l a p b o = rw (l, a, p, b, o) refl
 
 -- each part at its place
-pub at_places : (bytes : List ℕ) (begins : ℕ) (s : Said) → s.seq ≡ number_at bytes 4 → s.ack ≡ number_at bytes 8 → s.flags ≡ flags_of (slice_index bytes 13) → s.wnd ≡ word_at bytes 14
+pub at_places : (bytes : List ℕ) (begins : ℕ) (s : Said) → s.seq ≡ double_word_at bytes 4 → s.ack ≡ double_word_at bytes 8 → s.flags ≡ flags_of (slice_index bytes 13) → s.wnd ≡ word_at bytes 14
     → s.payload ≡ drop begins bytes → with_mss bytes begins (Ok s.mss) ≡ Ok s
 at_places bytes begins s q a f w p = sym (λ i. Ok (record { seq = q i; ack = a i; flags = f i; wnd = w i; mss = s.mss; payload = p i }))

@@ -8,7 +8,7 @@ use Rattle.lard_segment.specs.declared.segment.Segment.{Segment}
 use Rattle.lard_segment.specs.declared.fault.SegFault.{SegFault}
 use Rattle.lard_segment.specs.declared.fault.SegFault.TheVariants as fault
 use Rattle.lard_segment.specs.Checksum.{checksum_of}
-use Rattle.lard_segment.specs.Fields.{word_at, number_at, flags_of, flag_byte, source_port, target_port}
+use Rattle.lard_segment.specs.Fields.{word_at, double_word_at, flags_of, flags_byte, source_port, target_port}
 use Rattle.lard_segment.specs.Options.{mss_in, option_bytes}
 
 -- a segment, without where its data lies
@@ -29,7 +29,7 @@ said s = record { seq = s.seq.0; ack = s.ack.0; flags = s.flags; wnd = s.wnd; ms
 abbrev pub fixed_bytes : Dir → Said → ℕ → ℕ → List ℕ
 fixed_bytes dir s begins checksum =
     to_be_bytes w16 (source_port dir) ++ to_be_bytes w16 (target_port dir) ++ to_be_bytes w32 s.seq ++ to_be_bytes w32 s.ack
-    ++ begins / 4 * 16 ∷ flag_byte s.flags ∷ to_be_bytes w16 s.wnd ++ to_be_bytes w16 checksum ++ to_be_bytes w16 0
+    ++ begins / 4 * 16 ∷ flags_byte s.flags ∷ to_be_bytes w16 s.wnd ++ to_be_bytes w16 checksum ++ to_be_bytes w16 0
 
 -- the whole segment with this checksum
 abbrev pub with_checksum : Dir → Said → ℕ → List ℕ
@@ -67,8 +67,8 @@ begins_at bytes = if nat_lt (offset_of bytes) 20 || nat_lt (length bytes) (offse
 abbrev pub with_mss : List ℕ → ℕ → Result (Option ℕ) SegFault → Result Said SegFault
 with_mss bytes begins (Err e) = Err e
 with_mss bytes begins (Ok mss) = Ok (record {
-  seq = number_at bytes 4;
-  ack = number_at bytes 8;
+  seq = double_word_at bytes 4;
+  ack = double_word_at bytes 8;
   flags = flags_of (slice_index bytes 13);
   wnd = word_at bytes 14;
   mss = mss;
@@ -89,10 +89,10 @@ decoded bytes c dir =
     else with_data bytes (begins_at bytes)))
 
 -- an answer, seen as what is said
-abbrev pub Gives : Result Segment SegFault → Result Said SegFault → Type 0
-Gives (Ok s) given = given ≡ Ok (said s)
-Gives (Err e) given = given ≡ Err e
+abbrev pub GivesSegment : Result Segment SegFault → Result Said SegFault → Type 0
+GivesSegment (Ok s) given = given ≡ Ok (said s)
+GivesSegment (Err e) given = given ≡ Err e
 
 -- what was written is read again
-abbrev pub ReadsAgain : Type 0
-ReadsAgain = (c : ℕ) (dir : Dir) (s : Said) → IsSendable s → decoded (spelled c dir s) c dir ≡ Ok s
+abbrev pub SegmentReadsAgain : Type 0
+SegmentReadsAgain = (c : ℕ) (dir : Dir) (s : Said) → IsSendable s → decoded (spelled c dir s) c dir ≡ Ok s

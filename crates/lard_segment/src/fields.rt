@@ -1,7 +1,7 @@
 //! Where the parts of a segment stand in its bytes (RFC 9293, 3.1).
 
 ghost use Rattle.std.specs.Prelude.{◌≡◌, ◌+◌, ◌≤◌, length};
-ghost use Rattle.lard_segment.specs.Fields.{word_at, number_at, flags_of, flag_byte, source_port, target_port};
+ghost use Rattle.lard_segment.specs.Fields.{word_at, double_word_at, flags_of, flags_byte, source_port, target_port};
 
 use crate::segment::{Dir, Flags};
 
@@ -49,7 +49,7 @@ pub fn word(bytes: &[u8], at: usize) -> u16
 /// The number of 32 bits at this place, counted in bytes from 0, its high byte first. Its bytes are there.
 pub fn number(bytes: &[u8], at: usize) -> u32
     requires { at + 4 ≤ length bytes.now }
-    ensures { result ≡ number_at bytes.now at }
+    ensures { result ≡ double_word_at bytes.now at }
 {
     u32::from_be_bytes([bytes[at], bytes[at + 1], bytes[at + 2], bytes[at + 3]])
 }
@@ -69,7 +69,7 @@ pub fn flags(byte: u8) -> Flags
 
 /// The byte of these control bits (RFC 9293, 3.1).
 pub fn byte(flags: Flags) -> u8
-    ensures { result ≡ flag_byte flags }
+    ensures { result ≡ flags_byte flags }
 {
     u8::from(flags.fin) * FIN
         + u8::from(flags.syn) * SYN

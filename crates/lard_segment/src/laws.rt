@@ -1,8 +1,8 @@
 //! What holds of writing and reading together.
 
-ghost use Rattle.lard_segment.specs.Segment.{ReadsAgain};
+ghost use Rattle.lard_segment.specs.Segment.{SegmentReadsAgain};
 
 /// What was written is read again.
 pub fn reads_again()
-    ensures { ReadsAgain }
+    ensures { SegmentReadsAgain }
 {}

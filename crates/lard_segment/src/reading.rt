@@ -1,7 +1,7 @@
 //! Reading a segment from its bytes.
 
 ghost use Rattle.std.specs.Prelude.{◌≡◌, ◌+◌, ◌≤◌, length, IfSome, IfOk};
-ghost use Rattle.lard_segment.specs.Segment.{are_ports, begins_at, decoded, Gives};
+ghost use Rattle.lard_segment.specs.Segment.{are_ports, begins_at, decoded, GivesSegment};
 
 use crate::checksum::checksum;
 use crate::fault::SegFault;
@@ -21,7 +21,7 @@ use lard_seq::Seq;
 #[tactic(auto, unfolding(crate::specs::Segment::decoded))]
 pub fn decode(bytes: &[u8], c: ConnId, dir: Dir) -> Result<Segment<'_>, SegFault>
     requires { length bytes.now ≤ 65535 }
-    ensures given { Gives result (decoded bytes.now c dir) }
+    ensures given { GivesSegment result (decoded bytes.now c dir) }
     ensures size { IfOk result (λ s. IfSome s.mss (λ m. (1 ≤ m) × (m ≤ MAX_SEGMENT_DATA))) }
     ensures within { IfOk result (λ s. 20 + length s.payload.now ≤ length bytes.now) }
 {

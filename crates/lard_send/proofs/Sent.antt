@@ -4,7 +4,7 @@ use Rattle.std.specs.Prelude.{if◌then◌else◌, Option, Some, None, OnSome, i
 use Rattle.std.proofs.lemmas.Bool.{cond_both, and_parts, eqb-true, eqb-false, ltb-true, not-true, and_from, lt-ltb, eq-eqb, false≢true, cases_lt}
 use Rattle.std.proofs.lemmas.Bool.Decides.{nat_tests}
 use Rattle.lard_send.specs.declared.piece.Piece.{Piece}
-use Rattle.lard_send.specs.Send.{Sending, IsSending, symbols, is_clear, moved_up, is_newer, windowed, after_ack, left, unsent_bytes, syn_piece, byte_piece, may_send, next_len, next_fin, next_piece, after_next, again_len, again_fin, resent_piece}
+use Rattle.lard_send.specs.Send.{Sending, IsSending, symbols, is_clear, moved_up, is_newer, windowed, after_ack, send_left, unsent_bytes, syn_piece, byte_piece, may_send, next_len, next_fin, next_piece, after_next, again_len, again_fin, resent_piece}
 use Rattle.lard_seq.specs.Seq.{one_if, seq_offset}
 
 set_bit : (b : Bool) → 0 < one_if b → b ≡ true
@@ -15,11 +15,11 @@ set_bit false h = absurd (omega arith)
 pub some_sent : (s : Sending) (b : Bool) → IsSending s → may_send s ≡ true → next_fin s ≡ b → 0 < next_len s + one_if b
 some_sent s true h m e = omega arith
 some_sent s false h m e =
-    let may = and_parts (not (s.una == 0)) (nat_lt s.nxt (symbols s) && nat_lt 0 (left s)) m in
-    let room = and_parts (nat_lt s.nxt (symbols s)) (nat_lt 0 (left s)) may.1 in
+    let may = and_parts (not (s.una == 0)) (nat_lt s.nxt (symbols s) && nat_lt 0 (send_left s)) m in
+    let room = and_parts (nat_lt s.nxt (symbols s)) (nat_lt 0 (send_left s)) may.1 in
     let unsent : s.nxt < symbols s = ltb-true s.nxt (symbols s) room.0 in
     let begun : s.una ≡ 0 → ⊥ = eqb-false s.una 0 (not-true (s.una == 0) may.0) in
-    let open_ : 0 < left s = ltb-true 0 (left s) room.1 in
+    let open_ : 0 < send_left s = ltb-true 0 (send_left s) room.1 in
     let mss = h.some_mss in
     let sent = h.sent in
     ⊎_elim
@@ -27,9 +27,9 @@ some_sent s false h m e =
     (λ (none : next_len s ≤ 0).
     let same : next_len s ≡ unsent_bytes s = omega arith in
     let fin : s.finished ≡ true = set_bit s.finished (omega arith) in
-    let fits : nat_lt (next_len s) (left s) ≡ true = lt-ltb (next_len s) (left s) (omega arith) in
-    absurd (false≢true (sym e ∙ and_from s.finished ((next_len s == unsent_bytes s) && nat_lt (next_len s) (left s)) fin
-    (and_from (next_len s == unsent_bytes s) (nat_lt (next_len s) (left s)) (eq-eqb (next_len s) (unsent_bytes s) same) fits))))
+    let fits : nat_lt (next_len s) (send_left s) ≡ true = lt-ltb (next_len s) (send_left s) (omega arith) in
+    absurd (false≢true (sym e ∙ and_from s.finished ((next_len s == unsent_bytes s) && nat_lt (next_len s) (send_left s)) fin
+    (and_from (next_len s == unsent_bytes s) (nat_lt (next_len s) (send_left s)) (eq-eqb (next_len s) (unsent_bytes s) same) fits))))
     (cases_lt 0 (next_len s))
 
 -- how many symbols are not sent
@@ -43,8 +43,8 @@ next-falls : (s : Sending) (first may : Bool) → IsSending s → (s.nxt == 0) �
 next-falls s true may h e f = let zero : s.nxt ≡ 0 = eqb-true s.nxt 0 e in omega arith
 next-falls s false true h e f =
     let some : 0 < next_len s + one_if (next_fin s) = some_sent s (next_fin s) h f refl in
-    let may = and_parts (not (s.una == 0)) (nat_lt s.nxt (symbols s) && nat_lt 0 (left s)) f in
-    let room : s.nxt < symbols s = ltb-true s.nxt (symbols s) (and_parts (nat_lt s.nxt (symbols s)) (nat_lt 0 (left s)) may.1).0 in
+    let may = and_parts (not (s.una == 0)) (nat_lt s.nxt (symbols s) && nat_lt 0 (send_left s)) f in
+    let room : s.nxt < symbols s = ltb-true s.nxt (symbols s) (and_parts (nat_lt s.nxt (symbols s)) (nat_lt 0 (send_left s)) may.1).0 in
     omega arith
 next-falls s false false h e f = tt
 

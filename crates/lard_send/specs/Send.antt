@@ -40,8 +40,8 @@ pub record IsSending (s : Sending) : Type 0 where
   pub small_mss : s.mss ≤ MAX_SEGMENT_DATA
 
 -- A half whose SYN is not sent. The window came with the peer's SYN (RFC 9293, 3.10.7.2).
-abbrev pub begun : ℕ → ℕ → ℕ → ℕ → Sending
-begun iss irs wnd mss = record { iss = iss; irs = irs; una = 0; nxt = 0; rest = []; total = 0; finished = false; wnd = wnd; wl1 = irs; wl2 = iss; mss = mss }
+abbrev pub send_begun : ℕ → ℕ → ℕ → ℕ → Sending
+send_begun iss irs wnd mss = record { iss = iss; irs = irs; una = 0; nxt = 0; rest = []; total = 0; finished = false; wnd = wnd; wl1 = irs; wl2 = iss; mss = mss }
 
 -- A half that goes on from parts: all that was queued is acknowledged.
 abbrev pub resumed : EndpointParts → Sending
@@ -56,8 +56,8 @@ abbrev pub queued_too : Sending → List ℕ → Sending
 queued_too s bytes = record s { rest = s.rest ++ bytes; total = s.total + length bytes }
 
 -- The FIN is to follow the bytes.
-abbrev pub closed : Sending → Sending
-closed s = record s { finished = true }
+abbrev pub send_closed : Sending → Sending
+send_closed s = record s { finished = true }
 
 abbrev pub is_clear : Sending → Bool
 is_clear s = s.una == symbols s
@@ -108,23 +108,23 @@ unfoldable pub peer_room : Sending → ℕ
 peer_room s = s.wnd
 
 -- How many symbols that room leaves.
-abbrev pub left : Sending → ℕ
-left s = (s.una + peer_room s) - s.nxt
+abbrev pub send_left : Sending → ℕ
+send_left s = (s.una + peer_room s) - s.nxt
 
 abbrev pub unsent_bytes : Sending → ℕ
 unsent_bytes s = s.total - (s.nxt - 1)
 
 -- Symbols are sent once the SYN is acknowledged, while there are some and the window leaves room.
 abbrev pub may_send : Sending → Bool
-may_send s = not (s.una == 0) && (nat_lt s.nxt (symbols s) && nat_lt 0 (left s))
+may_send s = not (s.una == 0) && (nat_lt s.nxt (symbols s) && nat_lt 0 (send_left s))
 
 -- At most a segment, and at most what the window leaves.
 abbrev pub next_len : Sending → ℕ
-next_len s = min (min (unsent_bytes s) s.mss) (left s)
+next_len s = min (min (unsent_bytes s) s.mss) (send_left s)
 
 -- The FIN goes with the last bytes where the window leaves room for it.
 abbrev pub next_fin : Sending → Bool
-next_fin s = s.finished && ((next_len s == unsent_bytes s) && nat_lt (next_len s) (left s))
+next_fin s = s.finished && ((next_len s == unsent_bytes s) && nat_lt (next_len s) (send_left s))
 
 -- The symbols that are sent next: first the SYN.
 abbrev pub next_piece : Sending → Option Piece
@@ -187,10 +187,10 @@ PiecesAreParts = (s : Sending) (all : List ℕ) (at len : ℕ) → acknowledged_
 
 -- What may be sent for the first time, when it is not the SYN: symbols from NXT on, below UNA plus the peer's window, with
 -- no more bytes than a segment of the peer has (RFC 9293, 3.4: SND.UNA =< number < SND.UNA + SND.WND, and 3.7.1).
-pub record IsAllowed (s : Sending) (p : Piece) : Type 0 where
+pub record IsPieceAllowed (s : Sending) (p : Piece) : Type 0 where
   pub first : p.syn ≡ false → 1 + p.at ≡ s.nxt
   pub below : p.syn ≡ false → s.nxt + p.len + one_if p.fin ≤ s.una + s.wnd
   pub small : p.len ≤ s.mss
 
 abbrev pub FirstsAreAllowed : Type 0
-FirstsAreAllowed = (s : Sending) (p : Piece) → next_piece s ≡ Some p → IsAllowed s p
+FirstsAreAllowed = (s : Sending) (p : Piece) → next_piece s ≡ Some p → IsPieceAllowed s p

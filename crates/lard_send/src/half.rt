@@ -3,7 +3,7 @@
 ghost use Rattle.std.specs.Prelude.{◌≡◌, ◌+◌, ◌-◌, ◌≤◌, false, not, ◌++◌, length, take, drop, OnOk, OnErr, IfSome};
 ghost use Rattle.lard_base.specs.Parts.{IsValidParts};
 ghost use Rattle.lard_seq.specs.Seq.{seq_offset};
-ghost use Rattle.lard_send.specs.Send.{IsSending, IsQueued, acknowledged_bytes, symbols, begun, resumed, introduced, queued_too, closed, is_clear, moved_up, is_newer, windowed, after_ack, ack_answer, byte_piece, peer_room, left, unsent_bytes, may_send, next_len, next_fin, next_piece, after_next, again_len, again_fin, resent_piece, after_resend};
+ghost use Rattle.lard_send.specs.Send.{IsSending, IsQueued, acknowledged_bytes, symbols, send_begun, resumed, introduced, queued_too, send_closed, is_clear, moved_up, is_newer, windowed, after_ack, ack_answer, byte_piece, peer_room, send_left, unsent_bytes, may_send, next_len, next_fin, next_piece, after_next, again_len, again_fin, resent_piece, after_resend};
 
 use crate::piece::Piece;
 use crate::rest::Rest;
@@ -92,7 +92,7 @@ impl SendHalf {
     pub fn make(alloc: Global, iss: Seq, irs: Seq, wnd: u16, mss: u16) -> SendHalf
         requires some_mss { 1 ≤ mss }
         requires small_mss { mss ≤ MAX_SEGMENT_DATA }
-        ensures { result ≡ begun iss.0 irs.0 wnd mss }
+        ensures { result ≡ send_begun iss.0 irs.0 wnd mss }
     {
         SendHalf {
             iss,
@@ -342,7 +342,7 @@ impl SendHalf {
 
     /// How many symbols may be sent before more are acknowledged.
     fn left(&self) -> u32
-        ensures { result ≡ left self.now }
+        ensures { result ≡ send_left self.now }
     {
         (self.una + self.peer_room()).saturating_sub(self.nxt)
     }
@@ -375,7 +375,7 @@ impl SendHalf {
 
     /// Lets the FIN follow the queued bytes (RFC 9293, 3.10.4). No more are queued then.
     pub fn finish(&mut self)
-        ensures { self.new ≡ closed self.old }
+        ensures { self.new ≡ send_closed self.old }
     {
         self.finished = true;
     }

@@ -3,7 +3,7 @@
 
 ghost use Rattle.std.specs.Prelude.{◌≡◌, ◌+◌, ◌^◌, ◌≤◌, false, [], ◌∷◌, ◌++◌, length, None, IfOk};
 ghost use Rattle.lard_base.specs.declared.limits.TheConstants.{MAX_SEGMENT_BYTES, MAX_SEGMENT_DATA, MAX_STREAM_BYTES};
-ghost use Rattle.lard_rules.specs.Serving.{cut_off, is_armed, limit_said, rested, settled, spoken, told};
+ghost use Rattle.lard_rules.specs.Serving.{cut_off, is_serving_armed, limit_said, rested, serving_settled, spoken, serving_told};
 ghost use Rattle.lard_rules.specs.Speaking.{AreShort};
 ghost use Rattle.lard_segment.specs.Segment.{said};
 ghost use Rattle.lard_serving.specs.Serving.{IsCounted, env_seen, service_of};
@@ -22,7 +22,7 @@ pub type Ends = (Ending, Result<Turn, NoMemory>);
 
 /// Whether some symbol of the endpoint is not acknowledged.
 pub fn is_armed(ending: &Ending) -> bool
-    ensures { result ≡ is_armed ending.now }
+    ensures { result ≡ is_serving_armed ending.now }
 {
     match ending {
         Ending::Here { endpoint, .. } => !endpoint.clear(),
@@ -102,7 +102,7 @@ fn limit_turn(
     requires short { AreShort sends }
     requires few { length sends ≤ MAX_STREAM_BYTES + 3 }
     requires counted { service.answered ≤ MAX_STREAM_BYTES }
-    ensures turn { IfOk result (λ turn. turn ≡ record { notes = service.notes; segments = sends ++ told (env_seen env.now) (limit_said last) ∷ []; answered = service.answered }) }
+    ensures turn { IfOk result (λ turn. turn ≡ record { notes = service.notes; segments = sends ++ serving_told (env_seen env.now) (limit_said last) ∷ []; answered = service.answered }) }
     ensures fits { IfOk result IsTurn }
 {
     let mut segments = sends;
@@ -119,7 +119,7 @@ pub fn told(alloc: Global, env: &Env<'_>, segment: &Segment<'_>) -> Result<(Plac
     requires plain { segment.now.mss ≡ None }
     requires small { length segment.now.payload.now ≤ MAX_SEGMENT_DATA }
     requires no_ack { segment.now.flags.ack ≡ false → segment.now.ack.0 ≡ 0 }
-    ensures packet { IfOk result (λ packet. packet ≡ told (env_seen env.now) (said segment.now)) }
+    ensures packet { IfOk result (λ packet. packet ≡ serving_told (env_seen env.now) (said segment.now)) }
     ensures short { IfOk result (λ packet. length packet.1 ≤ MAX_SEGMENT_BYTES) }
 {
     let bytes = packet(alloc, segment, env.c, Dir::ToClient)?;
@@ -137,7 +137,7 @@ fn limit_segment(last: Final) -> Segment<'static>
 /// else it goes on. `NoMemory` in the place of the turn where memory runs out.
 pub fn settled(alloc: Global, env: &Env<'_>, endpoint: Endpoint, service: Service) -> Ends
     requires counted { IsCounted endpoint service }
-    ensures turn { IfOk result.1 (λ turn. (result.0, turn) ≡ settled (env_seen env.now) (service_of endpoint service)) }
+    ensures turn { IfOk result.1 (λ turn. (result.0, turn) ≡ serving_settled (env_seen env.now) (service_of endpoint service)) }
     ensures fits { IfOk result.1 IsTurn }
 {
     match service.over {

@@ -3,7 +3,7 @@
 ghost use Rattle.std.specs.Prelude.{◌≡◌, ◌+◌, ◌^◌, ◌≤◌, false, ◌++◌, length, IfOk, IfSome, OnOk};
 ghost use Rattle.lard_base.specs.declared.limits.TheConstants.{MAX_STREAM_BYTES};
 ghost use Rattle.lard_endpoint.specs.Leaving.{IsReady};
-ghost use Rattle.lard_rules.specs.Serving.{ready_of};
+ghost use Rattle.lard_rules.specs.Serving.{serving_ready_of};
 ghost use Rattle.lard_rules.specs.Speaking.{AreShort, has_symbol, speaks, speaks_symbols, to_client};
 ghost use Rattle.lard_segment.specs.Segment.{said, spelled};
 ghost use Rattle.lard_serving.specs.Serving.{env_seen};
@@ -57,7 +57,7 @@ pub fn ready_of(
     ready: Option<Ready>,
 ) -> Result<Sends, NoMemory>
     requires { IfSome ready (λ ready. IsReady endpoint.now ready) }
-    ensures packets { IfOk result (λ sends. sends ≡ ready_of (env_seen env.now) endpoint.now ready) }
+    ensures packets { IfOk result (λ sends. sends ≡ serving_ready_of (env_seen env.now) endpoint.now ready) }
     ensures short { IfOk result AreShort }
     ensures few { IfOk result (λ sends. length sends ≤ 1) }
 {

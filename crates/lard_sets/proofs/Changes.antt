@@ -6,9 +6,9 @@ use Rattle.std.proofs.lemmas.Nat.Bits.{bit_at-zero}
 use Rattle.lard_base.specs.declared.ids.Millis.{Millis}
 use Rattle.lard_base.specs.Members.{has}
 use Rattle.lard_sets.specs.declared.sets.ServerSet.{ServerSet}
-use Rattle.lard_sets.specs.Sets.{no_servers, place, has_place, set_of, put, touched, added, removed, closed, with_member, without_member}
-use Rattle.lard_sets.specs.Laws.{Call, after_calls, NameNodes, serves_after, serves, LastCallDecides, changed, RemoveKept, TellsTheLastChange}
-use Rattle.lard_sets.specs.Laws.Call.{Touch, Add, Remove, Close}
+use Rattle.lard_sets.specs.Sets.{no_servers, place, has_place, set_of, put, touched, added, removed, sets_closed, with_member, without_member}
+use Rattle.lard_sets.specs.Laws.{SetCall, sets_after_calls, NameNodes, serves_after, serves_after_all, LastCallDecides, changed, RemoveKept, TellsTheLastChange}
+use Rattle.lard_sets.specs.Laws.SetCall.{Touch, Add, Remove, Close}
 use Rattle.lard_sets.proofs.Flags.{has-with_member, has-without_member}
 
 -- a target is compared alike with equal targets
@@ -34,11 +34,11 @@ place-put (e ∷ es) u t s = go (place-put es u t s) (bytes_eq u e.0) refl (byte
 
 -- a node that is taken out of every set is taken out of the one that is found
 pub place-closed : (sets : List (List ℕ × ServerSet)) (n : ℕ) (t : List ℕ)
-    → place (closed sets n) t ≡ option_map (λ (s : ServerSet). record s { members = without_member s.members n }) (place sets t)
+    → place (sets_closed sets n) t ≡ option_map (λ (s : ServerSet). record s { members = without_member s.members n }) (place sets t)
 place-closed [] n t = refl
 place-closed (e ∷ es) n t = go (place-closed es n t) (bytes_eq t e.0) where
-  go : place (closed es n) t ≡ option_map (λ (s : ServerSet). record s { members = without_member s.members n }) (place es t)
-      → (b : Bool) → cond {A = Option ServerSet} b (Some (record e.1 { members = without_member e.1.members n })) (place (closed es n) t)
+  go : place (sets_closed es n) t ≡ option_map (λ (s : ServerSet). record s { members = without_member s.members n }) (place es t)
+      → (b : Bool) → cond {A = Option ServerSet} b (Some (record e.1 { members = without_member e.1.members n })) (place (sets_closed es n) t)
       ≡ option_map (λ (s : ServerSet). record s { members = without_member s.members n }) (cond b (Some e.1) (place es t))
   go more true = refl
   go more false = more
@@ -106,7 +106,7 @@ module _ (sets : List (List ℕ × ServerSet)) (t : List ℕ) (k : ℕ) (h : 1 �
     kept (Some s) e = ap (λ s. has s.members k) (set_of-put sets u t new) ∙ go (bytes_eq t u) refl
     kept None e = nobody (bytes_eq t u) refl e
 
-  serves-closed : (n : ℕ) → 1 ≤ n → has (set_of (closed sets n) t).members k ≡ serves_after t k (has (set_of sets t).members k) (Close n)
+  serves-closed : (n : ℕ) → 1 ≤ n → has (set_of (sets_closed sets n) t).members k ≡ serves_after t k (has (set_of sets t).members k) (Close n)
   serves-closed n some = ap (λ o. has (unwrap_or o no_servers).members k) (place-closed sets n t) ∙ go (place sets t) where
     by : (b c : Bool) → (not b && c) ≡ cond b false c
     by true c = refl
@@ -122,16 +122,16 @@ module _ (sets : List (List ℕ × ServerSet)) (t : List ℕ) (k : ℕ) (h : 1 �
     go None = none (nat_eq k n)
 
 -- the last call decides, whatever the sets were
-decides : (calls : List Call) (sets : List (List ℕ × ServerSet)) (t : List ℕ) (k : ℕ) → 1 ≤ k → NameNodes calls
-    → has (set_of (after_calls sets calls) t).members k ≡ serves t k (has (set_of sets t).members k) calls
+decides : (calls : List SetCall) (sets : List (List ℕ × ServerSet)) (t : List ℕ) (k : ℕ) → 1 ≤ k → NameNodes calls
+    → has (set_of (sets_after_calls sets calls) t).members k ≡ serves_after_all t k (has (set_of sets t).members k) calls
 decides [] sets t k h all = refl
-decides (Touch u ∷ calls) sets t k h all = decides calls (touched sets u) t k h all ∙ ap (λ (s : ServerSet). serves t k (has s.members k) calls) (set_of-touched sets u t)
-decides (Add u n now ∷ calls) sets t k h all = decides calls (added sets u n now) t k h all.1 ∙ ap (λ b. serves t k b calls) (serves-added sets t k h u n now all.0)
-decides (Remove u n now ∷ calls) sets t k h all = decides calls (removed sets u n now) t k h all.1 ∙ ap (λ b. serves t k b calls) (serves-removed sets t k h u n now all.0)
-decides (Close n ∷ calls) sets t k h all = decides calls (closed sets n) t k h all.1 ∙ ap (λ b. serves t k b calls) (serves-closed sets t k h n all.0)
+decides (Touch u ∷ calls) sets t k h all = decides calls (touched sets u) t k h all ∙ ap (λ (s : ServerSet). serves_after_all t k (has s.members k) calls) (set_of-touched sets u t)
+decides (Add u n now ∷ calls) sets t k h all = decides calls (added sets u n now) t k h all.1 ∙ ap (λ b. serves_after_all t k b calls) (serves-added sets t k h u n now all.0)
+decides (Remove u n now ∷ calls) sets t k h all = decides calls (removed sets u n now) t k h all.1 ∙ ap (λ b. serves_after_all t k b calls) (serves-removed sets t k h u n now all.0)
+decides (Close n ∷ calls) sets t k h all = decides calls (sets_closed sets n) t k h all.1 ∙ ap (λ b. serves_after_all t k b calls) (serves-closed sets t k h n all.0)
 
 pub last_decides : LastCallDecides
-last_decides calls t k h all = decides calls [] t k h all ∙ ap (λ b. serves t k b calls) (has-none k)
+last_decides calls t k h all = decides calls [] t k h all ∙ ap (λ b. serves_after_all t k b calls) (has-none k)
 
 -- when a target's set was changed, after one of the calls
 module _ (sets : List (List ℕ × ServerSet)) (t : List ℕ) where
@@ -146,21 +146,21 @@ module _ (sets : List (List ℕ × ServerSet)) (t : List ℕ) where
     new : ServerSet
     new = record { members = without_member (set_of sets u).members n; modified = now }
 
-  time-closed : (n : ℕ) → (set_of (closed sets n) t).modified ≡ (set_of sets t).modified
+  time-closed : (n : ℕ) → (set_of (sets_closed sets n) t).modified ≡ (set_of sets t).modified
   time-closed n = ap (λ o. (unwrap_or o no_servers).modified) (place-closed sets n t) ∙ go (place sets t) where
     go : (o : Option ServerSet) → (unwrap_or (option_map (λ (s : ServerSet). record s { members = without_member s.members n }) o) no_servers).modified ≡ (unwrap_or o no_servers).modified
     go (Some s) = refl
     go None = refl
 
 -- the last change is told, whatever the sets were
-tells : (calls : List Call) (sets : List (List ℕ × ServerSet)) (t : List ℕ) → RemoveKept sets calls
-    → (set_of (after_calls sets calls) t).modified ≡ changed t (set_of sets t).modified calls
+tells : (calls : List SetCall) (sets : List (List ℕ × ServerSet)) (t : List ℕ) → RemoveKept sets calls
+    → (set_of (sets_after_calls sets calls) t).modified ≡ changed t (set_of sets t).modified calls
 tells [] sets t all = refl
 tells (Touch u ∷ calls) sets t all = tells calls (touched sets u) t all ∙ ap (λ (s : ServerSet). changed t s.modified calls) (set_of-touched sets u t)
 tells (Add u n now ∷ calls) sets t all =
     tells calls (added sets u n now) t all ∙ ap (λ m. changed t m calls) (time-put sets t u (record { members = with_member (set_of sets u).members n; modified = now }))
 tells (Remove u n now ∷ calls) sets t all = tells calls (removed sets u n now) t all.1 ∙ ap (λ m. changed t m calls) (time-removed sets t u n now all.0)
-tells (Close n ∷ calls) sets t all = tells calls (closed sets n) t all ∙ ap (λ m. changed t m calls) (time-closed sets t n)
+tells (Close n ∷ calls) sets t all = tells calls (sets_closed sets n) t all ∙ ap (λ m. changed t m calls) (time-closed sets t n)
 
 pub last_change : TellsTheLastChange
 last_change calls t all = tells calls [] t all

@@ -8,8 +8,8 @@ use Rattle.lard_base.specs.declared.ids.Millis.{Millis}
 use Rattle.lard_sets.specs.declared.sets.ServerSet.{ServerSet}
 
 -- the pairs that the entries of a map of vectors are seen as
-abbrev pub shown : List (Vec ℕ Global × ServerSet) → List (List ℕ × ServerSet)
-shown entries = map (λ e. (e.0.items, e.1)) entries
+abbrev pub sets_shown : List (Vec ℕ Global × ServerSet) → List (List ℕ × ServerSet)
+sets_shown entries = map (λ e. (e.0.items, e.1)) entries
 
 -- members with a node among them, and without it
 abbrev pub with_member : ℕ → ℕ → ℕ
@@ -53,5 +53,5 @@ removed sets target n now =
     else sets
 
 -- a node serves no target any longer, which is no modification
-abbrev pub closed : List (List ℕ × ServerSet) → ℕ → List (List ℕ × ServerSet)
-closed sets n = map (λ e. (e.0, record e.1 { members = without_member e.1.members n })) sets
+abbrev pub sets_closed : List (List ℕ × ServerSet) → ℕ → List (List ℕ × ServerSet)
+sets_closed sets n = map (λ e. (e.0, record e.1 { members = without_member e.1.members n })) sets

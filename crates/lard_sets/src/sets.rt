@@ -1,7 +1,7 @@
 //! The map from targets to their server sets.
 
 ghost use Rattle.std.specs.Prelude.{◌≡◌, true, [], IsOk, OnOk, OnErr, length, take};
-ghost use Rattle.lard_sets.specs.Sets.{with_member, without_member, set_of, has_place, put, touched, added, removed, closed};
+ghost use Rattle.lard_sets.specs.Sets.{with_member, without_member, set_of, has_place, put, touched, added, removed, sets_closed};
 
 use indexmap::IndexMap;
 use lard_base::{Members, Millis, NoMemory, NodeId};
@@ -24,12 +24,12 @@ pub struct Sets {
 
 impl Model for Sets {
     ghost use Rattle.std.specs.Prelude.{ℕ, List};
-    ghost use Rattle.lard_sets.specs.Sets.{shown};
+    ghost use Rattle.lard_sets.specs.Sets.{sets_shown};
     ghost use Rattle.lard_sets.specs.declared.sets.ServerSet.{ServerSet};
 
     ghost Value = { List (List ℕ × ServerSet) };
 
-    ghost view = { λ s. shown s.sets.entries };
+    ghost view = { λ s. sets_shown s.sets.entries };
 }
 
 impl Sets {
@@ -125,7 +125,7 @@ impl Sets {
 
     /// Takes the node out of every set, as it gets no more assignments. The times of the last changes stay.
     pub fn close(&mut self, n: NodeId)
-        ensures { self.new ≡ closed self.old n }
+        ensures { self.new ≡ sets_closed self.old n }
     {
         self.sets.retain(|_, set| {
             set.members = without_member(set.members, n);

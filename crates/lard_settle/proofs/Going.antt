@@ -11,7 +11,7 @@ use Rattle.lard_rules.specs.Machine.{Steps}
 use Rattle.lard_world.proofs.Runs.{inner-goes-on}
 use Rattle.lard_journal.specs.declared.rec.Rec.{Rec}
 use Rattle.lard_settling.specs.declared.settled.Settled.{Settled}
-use Rattle.lard_settling.specs.Settling.{Does, DoesRounds, IsFrontOf, Settles, Stop, all_inner, closed_by, come, completed_since, completions, counted, deliveries, is_quiet, nodes_complete, outcome, round, rounds_from, settled, settled_from}
+use Rattle.lard_settling.specs.Settling.{DoesSettle, DoesRounds, IsFrontOf, Settles, Stop, all_inner, closed_by, come, completed_since, completions, rounds_journal, deliveries, is_quiet, nodes_complete, outcome, round, rounds_from, settled, settled_from}
 use Rattle.lard_settle.proofs.Growth.{Grows, all-grow, begun-grows, closed-grows, completed-grows, front-over, front-same, nodes-grow, rounds-grow, settle-grows}
 use Rattle.lard_settling.specs.Steps.{inner_step, settle_begun}
 
@@ -39,7 +39,7 @@ module _ (m : Machine) (e : Event) (es : List Event) where
       ap (λ (x : Result Machine StepFault). elim x as (λ r. Result Machine Stop) [ Err fault ↦ Err (m, fault) | Ok k ↦ all_inner k es ]) h.1
       ∙ ap (λ (q : Machine). Err (q, fault)) (sym h.0)
 
-  pub inner-stops : (new : Machine) (fault : StepFault) → Steps (inner_step m e) m new (Err fault) → Does (all_inner m (e ∷ es)) new (Err fault)
+  pub inner-stops : (new : Machine) (fault : StepFault) → Steps (inner_step m e) m new (Err fault) → DoesSettle (all_inner m (e ∷ es)) new (Err fault)
   inner-stops new NoMemory h = subst (λ (J : List Rec). IsFrontOf J (come (all_inner m (e ∷ es)))) (sym h) (all-grow (e ∷ es) m)
   inner-stops new (Refused reason) h = inner-fault new (Refused reason) h
   inner-stops new (Limit what) h = inner-fault new (Limit what) h
@@ -57,7 +57,7 @@ undone-front given m new NoMemory h = subst (IsFrontOf m.journal) (sym h) (front
 undone-front given m new _ h = subst (λ (n : Machine). IsFrontOf m.journal n.journal) (sym h.0) (front-same m.journal)
 
 -- without memory for the list of events none of them is done
-pub none-done : (m : Machine) (es : List Event) → Does (all_inner m es) m (Err NoMemory)
+pub none-done : (m : Machine) (es : List Event) → DoesSettle (all_inner m es) m (Err NoMemory)
 none-done m es = all-grow es m
 
 -- ---- steps behind steps
@@ -67,29 +67,29 @@ module _ (x : Result Machine Stop) (f : Machine → Result Machine Stop) where
   then = elim x as (λ r. Result Machine Stop) [ Err stop ↦ Err stop | Ok n ↦ f n ]
 
 module _ (f : Machine → Result Machine Stop) where
-  pub goes : (x : Result Machine Stop) (n new : Machine) (result : Result (Unit {0}) StepFault) → x ≡ Ok n → Does (f n) new result → Does (then x f) new result
-  goes x n new result is h = subst (λ (y : Result Machine Stop). Does (then y f) new result) (sym is) h
+  pub goes : (x : Result Machine Stop) (n new : Machine) (result : Result (Unit {0}) StepFault) → x ≡ Ok n → DoesSettle (f n) new result → DoesSettle (then x f) new result
+  goes x n new result is h = subst (λ (y : Result Machine Stop). DoesSettle (then y f) new result) (sym is) h
 
   module _ (grows : (n : Machine) → Grows n.journal (f n)) where
     come-then : (x : Result Machine Stop) → IsFrontOf (come x) (come (then x f))
     come-then (Err stop) = front-same stop.0.journal
     come-then (Ok n) = grows n
 
-    pub stops : (x : Result Machine Stop) (new : Machine) (fault : StepFault) → Does x new (Err fault) → Does (then x f) new (Err fault)
+    pub stops : (x : Result Machine Stop) (new : Machine) (fault : StepFault) → DoesSettle x new (Err fault) → DoesSettle (then x f) new (Err fault)
     stops x new NoMemory h = front-over new.journal (come x) (come (then x f)) h (come-then x)
     stops x new _ h = ap (λ (y : Result Machine Stop). then y f) h
 
 -- ---- a round
 
 module _ (m : Machine) where
-  pub round-stops : (new : Machine) (fault : StepFault) → Does (all_inner m (deliveries m)) new (Err fault) → Does (round m) new (Err fault)
+  pub round-stops : (new : Machine) (fault : StepFault) → DoesSettle (all_inner m (deliveries m)) new (Err fault) → DoesSettle (round m) new (Err fault)
   unfolding round
   round-stops new fault h = stops (completed_since (length m.journal)) (completed-grows (length m.journal)) (all_inner m (deliveries m)) new fault h
 
-  pub round-goes : (n new : Machine) (result : Result (Unit {0}) StepFault) (records : ℕ) → records ≡ length m.journal → all_inner m (deliveries m) ≡ Ok n → Does (completed_since records n) new result → Does (round m) new result
+  pub round-goes : (n new : Machine) (result : Result (Unit {0}) StepFault) (records : ℕ) → records ≡ length m.journal → all_inner m (deliveries m) ≡ Ok n → DoesSettle (completed_since records n) new result → DoesSettle (round m) new result
   unfolding round
   round-goes n new result records are is h =
-      goes (completed_since (length m.journal)) (all_inner m (deliveries m)) n new result is (subst (λ (i : ℕ). Does (completed_since i n) new result) are h)
+      goes (completed_since (length m.journal)) (all_inner m (deliveries m)) n new result is (subst (λ (i : ℕ). DoesSettle (completed_since i n) new result) are h)
 
 -- ---- nodes
 
@@ -102,9 +102,9 @@ module _ (m : Machine) (n more k : ℕ) (is : more ≡ suc k) where
   unfolding nodes_complete
   node-on q done = ap (nodes_complete m n) is ∙ ap (λ (x : Result Machine Stop). then x (λ p. nodes_complete p (n + 1) k)) done
 
-  pub node-stops : (new : Machine) (fault : StepFault) → Does (all_inner m (completions m n)) new (Err fault) → Does (nodes_complete m n more) new (Err fault)
+  pub node-stops : (new : Machine) (fault : StepFault) → DoesSettle (all_inner m (completions m n)) new (Err fault) → DoesSettle (nodes_complete m n more) new (Err fault)
   unfolding nodes_complete
-  node-stops new fault h = subst (λ (i : ℕ). Does (nodes_complete m n i) new (Err fault)) (sym is)
+  node-stops new fault h = subst (λ (i : ℕ). DoesSettle (nodes_complete m n i) new (Err fault)) (sym is)
       (stops (λ p. nodes_complete p (n + 1) k) (λ p. nodes-grow k (n + 1) p) (all_inner m (completions m n)) new fault h)
 
 -- ---- rounds
@@ -117,12 +117,12 @@ abbrev rounds_then : Result Machine Stop → ℕ → ℕ → Result (Machine × 
 rounds_then x more done = elim x as (λ r. Result (Machine × ℕ) Stop) [ Err stop ↦ Err stop | Ok n ↦ rounds_from more done n ]
 
 module _ (more done : ℕ) where
-  come-rounds : (x : Result Machine Stop) → IsFrontOf (come x) (counted (rounds_then x more done))
+  come-rounds : (x : Result Machine Stop) → IsFrontOf (come x) (rounds_journal (rounds_then x more done))
   come-rounds (Err stop) = front-same stop.0.journal
   come-rounds (Ok n) = rounds-grow more done n
 
-  rounds-behind : (x : Result Machine Stop) (new : Machine) (fault : StepFault) → Does x new (Err fault) → DoesRounds (rounds_then x more done) new (Err fault)
-  rounds-behind x new NoMemory h = front-over new.journal (come x) (counted (rounds_then x more done)) h (come-rounds x)
+  rounds-behind : (x : Result Machine Stop) (new : Machine) (fault : StepFault) → DoesSettle x new (Err fault) → DoesRounds (rounds_then x more done) new (Err fault)
+  rounds-behind x new NoMemory h = front-over new.journal (come x) (rounds_journal (rounds_then x more done)) h (come-rounds x)
   rounds-behind x new _ h = ap (λ (y : Result Machine Stop). rounds_then y more done) h
 
 module _ (more k done : ℕ) (m : Machine) (is : more ≡ suc k) where
@@ -139,7 +139,7 @@ module _ (more k done : ℕ) (m : Machine) (is : more ≡ suc k) where
   pub rounds-on : (n : Machine) → is_quiet m ≡ false → round m ≡ Ok n → rounds_from more done m ≡ rounds_from k (done + 1) n
   rounds-on n told is = rounds-by false told ∙ ap (λ (y : Result Machine Stop). rounds_then y k (done + 1)) is
 
-  pub rounds-stop : (new : Machine) (fault : StepFault) → is_quiet m ≡ false → Does (round m) new (Err fault) → DoesRounds (rounds_from more done m) new (Err fault)
+  pub rounds-stop : (new : Machine) (fault : StepFault) → is_quiet m ≡ false → DoesSettle (round m) new (Err fault) → DoesRounds (rounds_from more done m) new (Err fault)
   rounds-stop new fault told h = subst (λ (x : Result (Machine × ℕ) Stop). DoesRounds x new (Err fault)) (sym (rounds-by false told))
       (rounds-behind k (done + 1) (round m) new fault h)
 
@@ -157,7 +157,7 @@ module _ (rounds : ℕ) where
   come-settled (Err stop) = front-same stop.0.journal
   come-settled (Ok n) = closed-grows n.journal (rounds_from rounds 0 n) (rounds-grow rounds 0 n)
 
-  pub takes-stop : (x : Result Machine Stop) (new : Machine) (fault : StepFault) → Does x new (Err fault) → Settles (settled_then x rounds) new (Err fault)
+  pub takes-stop : (x : Result Machine Stop) (new : Machine) (fault : StepFault) → DoesSettle x new (Err fault) → Settles (settled_then x rounds) new (Err fault)
   takes-stop x new NoMemory h = front-over new.journal (come x) (outcome (settled_then x rounds)) h (come-settled x)
   takes-stop x new _ h = ap (λ (y : Result Machine Stop). settled_then y rounds) h
 

@@ -10,7 +10,7 @@ use Rattle.lard_journal.specs.declared.rec.Rec.{Rec}
 use Rattle.lard_journal.specs.declared.rec.Rec.TheVariants as rec
 use Rattle.lard_rules.specs.declared.fault.What.{What}
 use Rattle.lard_settling.specs.declared.settled.Settled.{Settled}
-use Rattle.lard_settling.specs.Settling.{BeginsByMark, IsFrontOf, Stop, all_inner, closed_by, come, completed_since, completions, counted, deliveries, fired_since, firings, is_mark, is_quiet, left, nodes_complete, outcome, round, rounds_from, settled, settled_from, takes}
+use Rattle.lard_settling.specs.Settling.{BeginsByMark, IsFrontOf, Stop, all_inner, closed_by, come, completed_since, completions, rounds_journal, deliveries, fired_since, firings, is_mark, is_quiet, settle_left, nodes_complete, outcome, round, rounds_from, settled, settled_from, takes}
 use Rattle.lard_settling.specs.Steps.{closing, inner_step, settle_begun, settle_closed}
 
 -- ---- fronts
@@ -78,7 +78,7 @@ round-grows m = then-grows m.journal (all_inner m (deliveries m)) (completed_sin
 -- ---- rounds, and the whole
 
 abbrev pub RoundsGrow : List Rec → Result (Machine × ℕ) Stop → Type 0
-RoundsGrow J x = IsFrontOf J (counted x)
+RoundsGrow J x = IsFrontOf J (rounds_journal x)
 
 rounds-over : (J K : List Rec) (y : Result (Machine × ℕ) Stop) → IsFrontOf J K → RoundsGrow K y → RoundsGrow J y
 rounds-over J K (Ok (k, done)) h g = front-over J K k.journal h g
@@ -105,7 +105,7 @@ closed-front m done count = (closing done count ∷ [], refl, closes done count)
 
 pub closed-grows : (J : List Rec) (x : Result (Machine × ℕ) Stop) → RoundsGrow J x → IsFrontOf J (outcome (closed_by x))
 closed-grows J (Err stop) h = h
-closed-grows J (Ok (n, done)) h = front-over J n.journal (n.journal ++ closing done (left n) ∷ []) h (closed-front n done (left n))
+closed-grows J (Ok (n, done)) h = front-over J n.journal (n.journal ++ closing done (settle_left n) ∷ []) h (closed-front n done (settle_left n))
 
 pub settled-from-grows : (m : Machine) (rounds : ℕ) → IsFrontOf m.journal (outcome (settled_from m rounds))
 settled-from-grows m rounds = go (all_inner m (takes m)) (all-grow (takes m) m) where

@@ -7,7 +7,7 @@ use Rattle.lard_base.specs.declared.place.Place.{Place}
 use Rattle.lard_base.specs.declared.place.Place.TheVariants as place
 use Rattle.lard_rules.specs.Bounds.{HasRule}
 use Rattle.lard_rules.specs.declared.machine.Machine.{Machine}
-use Rattle.lard_settling.specs.Settling.{is_own, is_own_at}
+use Rattle.lard_settling.specs.Settling.{is_own_seat, is_own_at}
 use Rattle.lard_settling.specs.Left.{jobs_at, jobs_from}
 
 abbrev pub AreRuled : List Event → Type 0
@@ -30,10 +30,10 @@ own-ruled (place.Client d) c own = search (rules, own)
 abbrev pub timers : List (Place × ℕ) → List Event
 timers seats = map (λ (seat : Place × ℕ). event.Timer seat.0 seat.1) seats
 
-pub firings-ruled : (seats : List (Place × ℕ)) → AreRuled (timers (filter is_own seats))
+pub firings-ruled : (seats : List (Place × ℕ)) → AreRuled (timers (filter is_own_seat seats))
 firings-ruled [] = tt
-firings-ruled (seat ∷ seats) = go (firings-ruled seats) (is_own seat) refl where
-  go : AreRuled (timers (filter is_own seats)) → (b : Bool) → is_own seat ≡ b → AreRuled (timers (cond b (seat ∷ filter is_own seats) (filter is_own seats)))
+firings-ruled (seat ∷ seats) = go (firings-ruled seats) (is_own_seat seat) refl where
+  go : AreRuled (timers (filter is_own_seat seats)) → (b : Bool) → is_own_seat seat ≡ b → AreRuled (timers (cond b (seat ∷ filter is_own_seat seats) (filter is_own_seat seats)))
   go later true own = (own-ruled seat.0 seat.1 own, later)
   go later false own = later
 

@@ -2,7 +2,7 @@
 
 ghost use Rattle.std.specs.Prelude.{◌≡◌, ◌≤◌, ◌<◌, ◌^◌, false, IfOk};
 ghost use Rattle.lard_agenda.specs.Agenda.{IsAgendaOf};
-ghost use Rattle.lard_settling.specs.Settling.{is_quiet, jobs_left, left};
+ghost use Rattle.lard_settling.specs.Settling.{is_quiet, jobs_left, settle_left};
 ghost use Rattle.lard_settling.specs.Left.{jobs_at};
 
 use lard_agenda::Agenda;
@@ -26,7 +26,7 @@ pub fn is_quiet(world: &World, agenda: &mut Agenda) -> Result<bool, NoMemory>
 pub fn left(world: &World, agenda: &mut Agenda) -> Result<u64, NoMemory>
     requires usable { world.now.spoiled ≡ false }
     requires agenda { IsAgendaOf agenda.old world.now.machine.journal }
-    ensures left { IfOk result (λ count. count ≡ left world.now.machine) }
+    ensures left { IfOk result (λ count. count ≡ settle_left world.now.machine) }
     ensures agenda { IsAgendaOf agenda.new world.now.machine.journal }
 {
     agenda.follow(world.journal().as_slice())?;

@@ -5,7 +5,7 @@ ghost use Rattle.std.specs.List.{AllByRecursion};
 ghost use Rattle.lard_agenda.specs.Agenda.{IsAgendaOf, due, holders, on_way};
 ghost use Rattle.lard_base.specs.declared.event.Event.TheVariants as event;
 ghost use Rattle.lard_rules.specs.Bounds.{HasRule};
-ghost use Rattle.lard_settling.specs.Settling.{completions, deliveries, firings, is_own, is_own_at, takes};
+ghost use Rattle.lard_settling.specs.Settling.{completions, deliveries, firings, is_own_seat, is_own_at, takes};
 ghost use Rattle.lard_settling.specs.Left.{is_holder};
 
 use crate::left::jobs;
@@ -99,7 +99,7 @@ pub fn firings(world: &World, agenda: &mut Agenda, alloc: Global) -> Result<Even
 
 /// The timers of these places and connections fire.
 fn firings_of(seats: Items<(Place, ConnId)>, alloc: Global) -> Result<Events, NoMemory>
-    ensures { IfOk result (λ events. events ≡ map (λ seat. event.Timer seat.0 seat.1) (filter is_own seats)) }
+    ensures { IfOk result (λ events. events ≡ map (λ seat. event.Timer seat.0 seat.1) (filter is_own_seat seats)) }
 {
     let mut events = Events::new(alloc);
     for (place, c) in seats.into_vec() {

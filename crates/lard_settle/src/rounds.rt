@@ -2,7 +2,7 @@
 
 ghost use Rattle.std.specs.Prelude.{◌≡◌, ◌≤◌, false, OnOk};
 ghost use Rattle.lard_agenda.specs.Agenda.{IsAgendaOf};
-ghost use Rattle.lard_settling.specs.Settling.{Does, DoesRounds, IsFrontOf, all_inner, completed_since, completions, deliveries, fired_since, firings, nodes_complete, round, rounds_from};
+ghost use Rattle.lard_settling.specs.Settling.{DoesSettle, DoesRounds, IsFrontOf, all_inner, completed_since, completions, deliveries, fired_since, firings, nodes_complete, round, rounds_from};
 
 use crate::left::is_quiet;
 use crate::lists::{completions, deliveries, firings};
@@ -40,7 +40,7 @@ pub fn do_rounds(
 fn round(world: &mut World, agenda: &mut Agenda, alloc: Global) -> Result<(), StepFault>
     requires usable { world.old.spoiled ≡ false }
     requires agenda { IsAgendaOf agenda.old world.old.machine.journal }
-    ensures does { Does (round world.old.machine) world.new.machine result }
+    ensures does { DoesSettle (round world.old.machine) world.new.machine result }
     ensures usable { OnOk result (world.new.spoiled ≡ false) }
     ensures grows { IsFrontOf world.old.machine.journal world.new.machine.journal }
     ensures agenda { IsAgendaOf agenda.new world.new.machine.journal }
@@ -54,7 +54,7 @@ fn round(world: &mut World, agenda: &mut Agenda, alloc: Global) -> Result<(), St
 fn deliver_all(world: &mut World, agenda: &mut Agenda, alloc: Global) -> Result<(), StepFault>
     requires usable { world.old.spoiled ≡ false }
     requires agenda { IsAgendaOf agenda.old world.old.machine.journal }
-    ensures does { Does (all_inner world.old.machine (deliveries world.old.machine)) world.new.machine result }
+    ensures does { DoesSettle (all_inner world.old.machine (deliveries world.old.machine)) world.new.machine result }
     ensures usable { OnOk result (world.new.spoiled ≡ false) }
     ensures grows { IsFrontOf world.old.machine.journal world.new.machine.journal }
     ensures agenda { IsAgendaOf agenda.new world.new.machine.journal }
@@ -72,7 +72,7 @@ fn complete_since(
 ) -> Result<(), StepFault>
     requires usable { world.old.spoiled ≡ false }
     requires agenda { IsAgendaOf agenda.old world.old.machine.journal }
-    ensures does { Does (completed_since records world.old.machine) world.new.machine result }
+    ensures does { DoesSettle (completed_since records world.old.machine) world.new.machine result }
     ensures usable { OnOk result (world.new.spoiled ≡ false) }
     ensures grows { IsFrontOf world.old.machine.journal world.new.machine.journal }
     ensures agenda { IsAgendaOf agenda.new world.new.machine.journal }
@@ -84,7 +84,7 @@ fn complete_since(
 /// Each node, by number, completes the jobs that it has when its turn comes.
 fn nodes_complete(world: &mut World, alloc: Global) -> Result<(), StepFault>
     requires { world.old.spoiled ≡ false }
-    ensures does { Does (nodes_complete world.old.machine 1 world.old.machine.config.nodes) world.new.machine result }
+    ensures does { DoesSettle (nodes_complete world.old.machine 1 world.old.machine.config.nodes) world.new.machine result }
     ensures usable { OnOk result (world.new.spoiled ≡ false) }
     ensures grows { IsFrontOf world.old.machine.journal world.new.machine.journal }
 {
@@ -98,7 +98,7 @@ fn nodes_complete(world: &mut World, alloc: Global) -> Result<(), StepFault>
 fn node_completes(world: &mut World, alloc: Global, n: u8) -> Result<(), StepFault>
     requires usable { world.old.spoiled ≡ false }
     requires there { (1 ≤ n) × (n ≤ world.old.machine.config.nodes) }
-    ensures does { Does (all_inner world.old.machine (completions world.old.machine n)) world.new.machine result }
+    ensures does { DoesSettle (all_inner world.old.machine (completions world.old.machine n)) world.new.machine result }
     ensures usable { OnOk result (world.new.spoiled ≡ false) }
     ensures grows { IsFrontOf world.old.machine.journal world.new.machine.journal }
     ensures config { OnOk result (world.new.machine.config ≡ world.old.machine.config) }
@@ -116,7 +116,7 @@ fn fire_since(
 ) -> Result<(), StepFault>
     requires usable { world.old.spoiled ≡ false }
     requires agenda { IsAgendaOf agenda.old world.old.machine.journal }
-    ensures does { Does (fired_since records world.old.machine) world.new.machine result }
+    ensures does { DoesSettle (fired_since records world.old.machine) world.new.machine result }
     ensures usable { OnOk result (world.new.spoiled ≡ false) }
     ensures grows { IsFrontOf world.old.machine.journal world.new.machine.journal }
     ensures agenda { IsAgendaOf agenda.new world.new.machine.journal }
@@ -131,7 +131,7 @@ fn fire_since(
 fn fire_all(world: &mut World, agenda: &mut Agenda, alloc: Global) -> Result<(), StepFault>
     requires usable { world.old.spoiled ≡ false }
     requires agenda { IsAgendaOf agenda.old world.old.machine.journal }
-    ensures does { Does (all_inner world.old.machine (firings world.old.machine)) world.new.machine result }
+    ensures does { DoesSettle (all_inner world.old.machine (firings world.old.machine)) world.new.machine result }
     ensures usable { OnOk result (world.new.spoiled ≡ false) }
     ensures grows { IsFrontOf world.old.machine.journal world.new.machine.journal }
     ensures agenda { IsAgendaOf agenda.new world.new.machine.journal }

@@ -3,7 +3,7 @@
 ghost use Rattle.std.specs.Prelude.{◌≡◌, false, Ok, IfOk, OnOk};
 ghost use Rattle.lard_agenda.specs.Agenda.{IsAgendaOf};
 ghost use Rattle.lard_world.specs.Enough.{EndsWithEnough, RestsWithEnough};
-ghost use Rattle.lard_settling.specs.Settling.{Does, IsFrontOf, Settles, all_inner, answer, closed_by, rounds_from, settled, settled_from, takes};
+ghost use Rattle.lard_settling.specs.Settling.{DoesSettle, IsFrontOf, Settles, all_inner, settle_answer, closed_by, rounds_from, settled, settled_from, takes};
 
 use crate::left::left;
 use crate::lists::takes;
@@ -62,7 +62,7 @@ fn settle_from(
 fn take_all(world: &mut World, agenda: &mut Agenda, alloc: Global) -> Result<(), StepFault>
     requires usable { world.old.spoiled ≡ false }
     requires agenda { IsAgendaOf agenda.old world.old.machine.journal }
-    ensures does { Does (all_inner world.old.machine (takes world.old.machine)) world.new.machine result }
+    ensures does { DoesSettle (all_inner world.old.machine (takes world.old.machine)) world.new.machine result }
     ensures grows { IsFrontOf world.old.machine.journal world.new.machine.journal }
     ensures usable { OnOk result (world.new.spoiled ≡ false) }
     ensures agenda { IsAgendaOf agenda.new world.new.machine.journal }
@@ -112,7 +112,7 @@ fn close(
 
 /// So many rounds were done, and this was left.
 fn answer(rounds: u32, left: u64) -> Settled
-    ensures { result ≡ answer rounds left }
+    ensures { result ≡ settle_answer rounds left }
 {
     if left == 0 {
         return Settled::Quiet(rounds);

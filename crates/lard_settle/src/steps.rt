@@ -3,7 +3,7 @@
 ghost use Rattle.std.specs.Prelude.{◌≡◌, false, OnOk};
 ghost use Rattle.std.specs.List.{AllByRecursion};
 ghost use Rattle.lard_rules.specs.Bounds.{HasRule};
-ghost use Rattle.lard_settling.specs.Settling.{Does, IsFrontOf, all_inner};
+ghost use Rattle.lard_settling.specs.Settling.{DoesSettle, IsFrontOf, all_inner};
 
 use lard_base::Events;
 use lard_rules::StepFault;
@@ -15,7 +15,7 @@ use std::alloc::Global;
 pub fn do_all(world: &mut World, alloc: Global, events: Events) -> Result<(), StepFault>
     requires usable { world.old.spoiled ≡ false }
     requires ruled { AllByRecursion HasRule events }
-    ensures does { Does (all_inner world.old.machine events) world.new.machine result }
+    ensures does { DoesSettle (all_inner world.old.machine events) world.new.machine result }
     ensures usable { OnOk result (world.new.spoiled ≡ false) }
     ensures grows { IsFrontOf world.old.machine.journal world.new.machine.journal }
     ensures config { OnOk result (world.new.machine.config ≡ world.old.machine.config) }

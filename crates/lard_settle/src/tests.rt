@@ -1,7 +1,7 @@
 //! One request, settled: the lines of its report, and what a settle of few rounds leaves.
 
 ghost use Rattle.std.specs.Prelude.{◌≡◌, false, IfOk};
-ghost use Rattle.lard_agenda.specs.Agenda.{nothing};
+ghost use Rattle.lard_agenda.specs.Agenda.{nothing_noted};
 ghost use Rattle.lard_rules.specs.Bounds.{HasRule};
 
 use super::*;
@@ -81,7 +81,7 @@ fn run(
     rounds: u32,
 ) -> Result<Settled, StepFault>
     requires usable { world.old.spoiled ≡ false }
-    requires agenda { agenda.old ≡ nothing }
+    requires agenda { agenda.old ≡ nothing_noted }
 {
     world.step(alloc, opening(c))?;
     let event = asking(alloc, c)?;

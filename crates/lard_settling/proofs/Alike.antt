@@ -7,11 +7,11 @@ use Rattle.lard_base.specs.declared.event.Event.{Event}
 use Rattle.lard_base.specs.declared.event.Event.TheVariants as event
 use Rattle.lard_base.specs.declared.place.Place.{Place}
 use Rattle.lard_base.specs.declared.place.Place.TheVariants as place
-use Rattle.lard_client.specs.Control.{ClientBlock, is_armed, written_len}
+use Rattle.lard_client.specs.Control.{ClientBlock, is_client_armed, written_len}
 use Rattle.lard_rules.specs.Bounds.{HasRule}
 use Rattle.lard_rules.specs.declared.fault.StepFault.{StepFault}
 use Rattle.lard_rules.specs.declared.machine.Machine.{Machine}
-use Rattle.lard_rules.specs.Machine.{client_acted, client_does, client_goes_on, client_put, clocked, completes, delivered, disk_at, from_place, front_acts, front_gave, front_setting, happens, is_no_job, is_no_node, lost, node_acts, node_at, node_gave, node_setting, opened, passed, segments_sent, timer, to_client, to_front, to_place, told, wrote}
+use Rattle.lard_rules.specs.Machine.{client_acted, client_acts, client_goes_on, client_put, clocked, completes, delivered, disk_at, from_place, front_acts, front_gave, front_setting, happens, is_no_job, is_no_node, lost, node_acts, node_at, node_gave, node_setting, machine_opened, passed, segments_sent, timer, machine_to_client, machine_to_front, to_place, machine_told, machine_wrote}
 use Rattle.lard_rules.specs.declared.front.FrontState.{FrontState}
 use Rattle.lard_rules.specs.FrontPlace.{front_step}
 use Rattle.lard_history.specs.Journal.{request}
@@ -67,8 +67,8 @@ module _ (J K : List Rec) (i k : ℕ) (b : Machine) where
   abbrev r : Machine
   r = told_as b K k
 
-  told-alike : (w : Machine) (e : Event) (own : List Rec) (p : Place) (o : Out) → AreAlike J K i k e (told (told_as w J i) e own p o) (told (told_as w K k) e own p o)
-  unfolding told
+  told-alike : (w : Machine) (e : Event) (own : List Rec) (p : Place) (o : Out) → AreAlike J K i k e (machine_told (told_as w J i) e own p o) (machine_told (told_as w K k) e own p o)
+  unfolding machine_told
   told-alike w e own p o = record {
     base = record w { net = segments_sent w p o ++ packets_of p o.messages; answered = w.answered + o.answered };
     rows = own ++ o.notes ++ sent_records (length w.net + 1) p o.segments ++ o.gave ++ sent_records (length (segments_sent w p o) + 1) p o.messages ++ o.timers;
@@ -80,10 +80,10 @@ module _ (J K : List Rec) (i k : ℕ) (b : Machine) where
   passed-alike w e own = record { base = w; rows = own; left = refl; right = refl }
 
   client-alike : (e : Event) (own : List Rec) (c iss : ℕ) (was : Bool) (given : ClientBlock × Turn) → AreAlike J K i k e (client_acted l e own c iss was given) (client_acted r e own c iss was given)
-  client-alike e own c iss was given = told-alike (client_put b c (record { client = given.0; iss = iss })) e own (place.Client c) (out_of (place.Client c) c was (is_armed given.0) given.1)
+  client-alike e own c iss was given = told-alike (client_put b c (record { client = given.0; iss = iss })) e own (place.Client c) (out_of (place.Client c) c was (is_client_armed given.0) given.1)
 
   goes-alike : (e : Event) (own : List Rec) (c : ℕ) (x : Station) (given : ClientBlock × Turn) → AreAlike J K i k e (client_goes_on l e own c x given) (client_goes_on r e own c x given)
-  goes-alike e own c x given = client-alike e own c x.iss (is_armed x.client) given
+  goes-alike e own c x given = client-alike e own c x.iss (is_client_armed x.client) given
 
   given-alike : (e : Event) (own : List Rec) (given : FrontState × Out) → AreAlike J K i k e (front_gave l e own given) (front_gave r e own given)
   given-alike e own given = told-alike (record b { front = given.0 }) e own place.Front given.1
@@ -103,18 +103,18 @@ module _ (J K : List Rec) (i k : ℕ) (b : Machine) where
   either e true x y u v h g = h
   either e false x y u v h g = g
 
-  opened-alike : (c isn iss wnd mss : ℕ) (o : Option Station) → Alike (event.Open c isn iss wnd mss) (opened l c isn iss wnd mss o) (opened r c isn iss wnd mss o)
-  unfolding opened
+  opened-alike : (c isn iss wnd mss : ℕ) (o : Option Station) → Alike (event.Open c isn iss wnd mss) (machine_opened l c isn iss wnd mss o) (machine_opened r c isn iss wnd mss o)
+  unfolding machine_opened
   opened-alike c isn iss wnd mss None = client-alike (event.Open c isn iss wnd mss) (rec.Opened c isn iss wnd mss ∷ []) c iss false (client_opens c isn wnd mss)
   opened-alike c isn iss wnd mss (Some x) = refl
 
-  wrote-alike : (e : Event) (c : ℕ) (bytes : List ℕ) (o : Option Station) → Alike e (wrote l e c bytes o) (wrote r e c bytes o)
-  unfolding wrote
+  wrote-alike : (e : Event) (c : ℕ) (bytes : List ℕ) (o : Option Station) → Alike e (machine_wrote l e c bytes o) (machine_wrote r e c bytes o)
+  unfolding machine_wrote
   wrote-alike e c bytes None = refl
   wrote-alike e c bytes (Some x) = either e (nat_lt b.config.stream (written_len x.client bytes)) _ _ _ _ refl (goes-alike e [] c x (client_writes x.client bytes))
 
-  does-alike : (e : Event) (own : List Rec) (c : ℕ) (rule : ClientBlock → ClientBlock × Turn) (o : Option Station) → Alike e (client_does l e own c rule o) (client_does r e own c rule o)
-  unfolding client_does
+  does-alike : (e : Event) (own : List Rec) (c : ℕ) (rule : ClientBlock → ClientBlock × Turn) (o : Option Station) → Alike e (client_acts l e own c rule o) (client_acts r e own c rule o)
+  unfolding client_acts
   does-alike e own c rule None = refl
   does-alike e own c rule (Some x) = goes-alike e own c x (rule x.client)
 
@@ -125,11 +125,11 @@ module _ (J K : List Rec) (i k : ℕ) (b : Machine) where
   timer-alike (place.Client d) c (Some x) = goes-alike (event.Timer (place.Client d) c) [] c x (client_timer x.client)
   timer-alike (place.Node n) c (Some x) = either (event.Timer (place.Node n) c) (is_no_node b.config.nodes n) _ _ _ _ refl (node-alike (event.Timer (place.Node n) c) [] n (back.Timer c) (node_at b.nodes n))
 
-  front-gets-alike : (q : ℕ) (bytes : List ℕ) (c : ℕ) (o : Option Station) → AreAlike J K i k (event.Deliver q) (to_front l q bytes c o) (to_front r q bytes c o)
+  front-gets-alike : (q : ℕ) (bytes : List ℕ) (c : ℕ) (o : Option Station) → AreAlike J K i k (event.Deliver q) (machine_to_front l q bytes c o) (machine_to_front r q bytes c o)
   front-gets-alike q bytes c None = passed-alike b (event.Deliver q) (rec.Got q ∷ [])
   front-gets-alike q bytes c (Some x) = front-alike (event.Deliver q) (rec.Got q ∷ []) (input.Segment c (record { 0 = x.iss }) bytes)
 
-  client-gets-alike : (q : ℕ) (bytes : List ℕ) (c : ℕ) (o : Option Station) → AreAlike J K i k (event.Deliver q) (to_client l q bytes c o) (to_client r q bytes c o)
+  client-gets-alike : (q : ℕ) (bytes : List ℕ) (c : ℕ) (o : Option Station) → AreAlike J K i k (event.Deliver q) (machine_to_client l q bytes c o) (machine_to_client r q bytes c o)
   client-gets-alike q bytes c None = passed-alike b (event.Deliver q) (rec.Got q ∷ [])
   client-gets-alike q bytes c (Some x) = goes-alike (event.Deliver q) (rec.Got q ∷ []) c x (client_gets x.client (decoded bytes c ToClient))
 

@@ -6,7 +6,7 @@ use Rattle.lard_base.specs.declared.place.Place.{Place}
 use Rattle.lard_base.specs.declared.place.Place.TheVariants.{Front, Node, Client}
 use Rattle.lard_rules.specs.declared.machine.Machine.{Machine}
 use Rattle.lard_rules.specs.Bounds.{HasRule}
-use Rattle.lard_rules.specs.Machine.{clocked, machine_step, segments_sent, told, told_rows}
+use Rattle.lard_rules.specs.Machine.{clocked, machine_step, segments_sent, machine_told, told_rows}
 use Rattle.lard_law_view.specs.View.{IsViewed}
 use Rattle.lard_law_view.proofs.AnyShape.{AnyShape, IsAct, SomeGift, SomeNote, SomeTimer, step-any}
 use Rattle.lard_law_view.proofs.Saying.{GaveAt, NotedAt}
@@ -83,8 +83,8 @@ pub record HasPlainRows (m : Machine) (e : Event) (n : Machine) : Type 0 where
   pub unmarked : AreUnmarked rows
 
 module _ (m : Machine) where
-  told-plain : (w : Machine) (e : Event) (place : Place) (o : Out) → IsAct m w e place o → HasPlainRows m e (told w e (behind e) place o)
-  unfolding told
+  told-plain : (w : Machine) (e : Event) (place : Place) (o : Out) → IsAct m w e place o → HasPlainRows m e (machine_told w e (behind e) place o)
+  unfolding machine_told
   told-plain w e place o act =
       let S : List Rec = sent_records (length w.net + 1) place o.segments in
       let M : List Rec = sent_records (length (segments_sent w place o) + 1) place o.messages in

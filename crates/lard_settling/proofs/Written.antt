@@ -11,7 +11,7 @@ use Rattle.lard_base.specs.declared.limits.TheConstants.{MAX_PACKETS, MAX_PACKET
 use Rattle.lard_rules.specs.Bounds.{HasRule}
 use Rattle.lard_rules.specs.declared.fault.StepFault.{StepFault}
 use Rattle.lard_rules.specs.declared.machine.Machine.{Machine}
-use Rattle.lard_rules.specs.Machine.{happens, limit_reached, machine_step, passed, start, unless_limit}
+use Rattle.lard_rules.specs.Machine.{happens, limit_reached, machine_step, passed, machine_start, unless_limit}
 use Rattle.lard_law_view.proofs.Carried.{reached-viewed}
 use Rattle.lard_law_view.proofs.Runs.{passes-more}
 use Rattle.lard_journal.specs.Inner.{turned_at}
@@ -147,7 +147,7 @@ module _ (config : Config) (files : List (List ℕ × List ℕ)) where
             let all = written-step m.journal e h a.rows begins unmarked in
             record {
               plain = l;
-              reached = (w.reached.0 ++ e ∷ [], passes-more w.reached.0 (start config files) p l e w.reached.1 rule steps);
+              reached = (w.reached.0 ++ e ∷ [], passes-more w.reached.0 (machine_start config files) p l e w.reached.1 rule steps);
               same = ap (λ (k : Machine). told_as k (m.journal ++ h ∷ a.rows) events) (a.right ∙ sym (ap (λ (k : Machine). told_as k (m.journal ++ rec.Event (m.events + 1) e ∷ a.rows) (m.events + 1)) a.left));
               journal = ap (λ (k : Machine). k.journal) a.left ∙ ap (λ (J : List Rec). J ++ rec.Event (p.events + 1) e ∷ a.rows) w.journal ∙ ap (λ i. written_out m.journal ++ rec.Event (i + 1) e ∷ a.rows) w.events ∙ sym all.0;
               events = ap (λ (k : Machine). k.events) a.left ∙ ap (λ i. i + 1) w.events ∙ sym all.1;
@@ -195,7 +195,7 @@ module _ (config : Config) (files : List (List ℕ × List ℕ)) where
 
   pub written : AreWrittenOut config files
   written = record {
-    begins = record { plain = start config files; reached = ([], refl); same = refl; journal = refl; events = refl };
+    begins = record { plain = machine_start config files; reached = ([], refl); same = refl; journal = refl; events = refl };
     steps = steps;
     inner_steps = inner_steps;
     settle = settle;

@@ -30,9 +30,9 @@ MayCome (event.Settle rounds) = Unit {0}
 MayCome e = HasRule e
 
 -- each event was done, one after another, from a state to a state
-abbrev pub Goes : Machine → List Event → Machine → Type 0
-Goes m [] n = n ≡ m
-Goes m (e ∷ es) n = (k : Machine) × MayCome e × (event_step m e ≡ Ok k) × Goes k es n
+abbrev pub GoesThrough : Machine → List Event → Machine → Type 0
+GoesThrough m [] n = n ≡ m
+GoesThrough m (e ∷ es) n = (k : Machine) × MayCome e × (event_step m e ≡ Ok k) × GoesThrough k es n
 
 -- The last event is a settle in which the run ended, once it had begun, behind others that were done.
 pub record EndsInside (m : Machine) (es : List Event) (n : Machine) : Type 0 where
@@ -40,11 +40,11 @@ pub record EndsInside (m : Machine) (es : List Event) (n : Machine) : Type 0 whe
   pub rounds : ℕ
   pub are : es ≡ before ++ event.Settle rounds ∷ []
   pub behind : Machine
-  pub goes : Goes m before behind
+  pub goes : GoesThrough m before behind
   pub fault : StepFault
   pub stops : event_step behind (event.Settle rounds) ≡ Err (n, fault)
   pub begun : length behind.journal < length n.journal
 
 -- what events lead to: each was done, or the last is a settle in which the run ended
 abbrev pub LeadsTo : Machine → List Event → Machine → Type 0
-LeadsTo m es n = Goes m es n ⊎ EndsInside m es n
+LeadsTo m es n = GoesThrough m es n ⊎ EndsInside m es n

@@ -36,11 +36,11 @@ phase_step p (rec.Unsettled done left) = Nothing
 phase_step p _ = p
 
 -- for how many rounds the settle is that is open, where one is
-abbrev pub open_in : Phase → Option ℕ
-open_in Nothing = None
-open_in Outside = None
-open_in (Begun rounds) = Some rounds
-open_in (Inside rounds) = Some rounds
+abbrev pub open_settle : Phase → Option ℕ
+open_settle Nothing = None
+open_settle Outside = None
+open_settle (Begun rounds) = Some rounds
+open_settle (Inside rounds) = Some rounds
 
 -- ---- what may stand there
 
@@ -61,17 +61,17 @@ IsInStep (Inside rounds) = Unit {0}
 
 -- An event of the schedule stands where no settle is open, and an inner step where one is. A settle that is open is closed: nothing was
 -- left after at most as many rounds as its event names, or something after exactly so many.
-abbrev pub MayStand : Phase → Rec → Type 0
-MayStand p (rec.Event i e) = open_in p ≡ None
-MayStand p (rec.Inner e) = IsSome (open_in p) × MayBeInner e
-MayStand p (rec.Settled done) = (rounds : ℕ) × (open_in p ≡ Some rounds) × (done ≤ rounds)
-MayStand p (rec.Unsettled done left) = (open_in p ≡ Some done) × (1 ≤ left)
-MayStand p _ = IsInStep p
+abbrev pub MayStandInPhase : Phase → Rec → Type 0
+MayStandInPhase p (rec.Event i e) = open_settle p ≡ None
+MayStandInPhase p (rec.Inner e) = IsSome (open_settle p) × MayBeInner e
+MayStandInPhase p (rec.Settled done) = (rounds : ℕ) × (open_settle p ≡ Some rounds) × (done ≤ rounds)
+MayStandInPhase p (rec.Unsettled done left) = (open_settle p ≡ Some done) × (1 ≤ left)
+MayStandInPhase p _ = IsInStep p
 
 -- each record may stand where it does, from a phase on
 abbrev pub AllStand : Phase → List Rec → Type 0
 AllStand p [] = Unit {0}
-AllStand p (r ∷ rs) = MayStand p r × AllStand (phase_step p r) rs
+AllStand p (r ∷ rs) = MayStandInPhase p r × AllStand (phase_step p r) rs
 
 -- Settles stand in order: between the event of a settle and the one record that closes it stand its inner steps, with what was told in
 -- them, and no other event of the schedule. Outside of settles stands no inner step and no closing record. The last settle may be open.

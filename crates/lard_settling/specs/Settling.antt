@@ -37,8 +37,8 @@ abbrev pub is_quiet : Machine → Bool
 is_quiet m = rests m.front.dispatch (agenda_of m.journal) && jobs_left m == 0
 
 -- how many timers run that are not stalled, and how many jobs wait
-abbrev pub left : Machine → ℕ
-left m = timers_left m.front.dispatch (agenda_of m.journal) + jobs_left m
+abbrev pub settle_left : Machine → ℕ
+settle_left m = timers_left m.front.dispatch (agenda_of m.journal) + jobs_left m
 
 -- ---- a round
 
@@ -61,12 +61,12 @@ is_own_at (Client d) c = nat_eq d c
 is_own_at Front c = true
 is_own_at (Node n) c = true
 
-abbrev pub is_own : Place × ℕ → Bool
-is_own seat = is_own_at seat.0 seat.1
+abbrev pub is_own_seat : Place × ℕ → Bool
+is_own_seat seat = is_own_at seat.0 seat.1
 
 -- each timer fires that runs and is not stalled, once for each place and connection: the front end's, the nodes', the clients'
 abbrev pub firings : Machine → List Event
-firings m = map (λ seat. event.Timer seat.0 seat.1) (filter is_own (due m.front.dispatch (agenda_of m.journal)))
+firings m = map (λ seat. event.Timer seat.0 seat.1) (filter is_own_seat (due m.front.dispatch (agenda_of m.journal)))
 
 -- where the journal has no more than so many records, so that no packet was delivered and no job completed, the timers fire
 abbrev pub fired_since : ℕ → Machine → Result Machine Stop
@@ -86,9 +86,9 @@ rounds_from (suc more) done m = if is_quiet m then Ok (m, done) else elim (round
 -- ---- a settle
 
 -- so many rounds were done, and this was left
-abbrev pub answer : ℕ → ℕ → Settled
-answer rounds zero = Quiet rounds
-answer rounds (suc left) = Open rounds (suc left)
+abbrev pub settle_answer : ℕ → ℕ → Settled
+settle_answer rounds zero = Quiet rounds
+settle_answer rounds (suc left) = Open rounds (suc left)
 
 -- first each client that holds takes, by number
 abbrev pub takes : Machine → List Event
@@ -96,7 +96,7 @@ takes m = map event.Take (filter (is_holder m) (holders (agenda_of m.journal)))
 
 abbrev pub closed_by : Result (Machine × ℕ) Stop → Result (Machine × Settled) Stop
 closed_by (Err stop) = Err stop
-closed_by (Ok (m, done)) = Ok (settle_closed m done (left m), answer done (left m))
+closed_by (Ok (m, done)) = Ok (settle_closed m done (settle_left m), settle_answer done (settle_left m))
 
 abbrev pub settled_from : Machine → ℕ → Result (Machine × Settled) Stop
 settled_from m rounds = elim (all_inner m (takes m)) [ Err stop ↦ Err stop | Ok n ↦ closed_by (rounds_from rounds 0 n) ]
@@ -130,20 +130,20 @@ come (Ok n) = n.journal
 come (Err stop) = stop.0.journal
 
 -- The steps were done, or came to one that is not done; where memory ran out, the journal is a front of what it would have been, at a step's end.
-abbrev pub Does : Result Machine Stop → Machine → Result (Unit {0}) StepFault → Type 0
-Does given new (Ok _) = given ≡ Ok new
-Does given new (Err NoMemory) = IsFrontOf new.journal (come given)
-Does given new (Err fault) = given ≡ Err (new, fault)
+abbrev pub DoesSettle : Result Machine Stop → Machine → Result (Unit {0}) StepFault → Type 0
+DoesSettle given new (Ok _) = given ≡ Ok new
+DoesSettle given new (Err NoMemory) = IsFrontOf new.journal (come given)
+DoesSettle given new (Err fault) = given ≡ Err (new, fault)
 
 -- the journal that rounds come to
-abbrev pub counted : Result (Machine × ℕ) Stop → List Rec
-counted (Ok (n, done)) = n.journal
-counted (Err stop) = stop.0.journal
+abbrev pub rounds_journal : Result (Machine × ℕ) Stop → List Rec
+rounds_journal (Ok (n, done)) = n.journal
+rounds_journal (Err stop) = stop.0.journal
 
 -- The same of rounds, and how many were done.
 abbrev pub DoesRounds : Result (Machine × ℕ) Stop → Machine → Result ℕ StepFault → Type 0
 DoesRounds given new (Ok done) = given ≡ Ok (new, done)
-DoesRounds given new (Err NoMemory) = IsFrontOf new.journal (counted given)
+DoesRounds given new (Err NoMemory) = IsFrontOf new.journal (rounds_journal given)
 DoesRounds given new (Err fault) = given ≡ Err (new, fault)
 
 -- the journal that a settle comes to, to its end or not

@@ -6,7 +6,7 @@ use Rattle.lard_base.specs.declared.event.Event.{Event}
 use Rattle.lard_base.specs.declared.event.Event.TheVariants as event
 use Rattle.lard_rules.specs.declared.machine.Machine.{Machine}
 use Rattle.lard_rules.specs.Bounds.{HasRule}
-use Rattle.lard_rules.specs.Machine.{IsReached, machine_step, start}
+use Rattle.lard_rules.specs.Machine.{IsReached, machine_step, machine_start}
 use Rattle.lard_journal.specs.declared.rec.Rec.{Rec}
 use Rattle.lard_journal.specs.declared.rec.Rec.TheVariants as rec
 use Rattle.lard_settling.specs.Steps.{inner_step, settle_begun, settle_closed}
@@ -61,7 +61,7 @@ pub record IsWrittenOut (config : Config) (files : List (List ℕ × List ℕ)) 
 
 -- Of a run with these numbers and files: it begins so, and goes on so by each step, by each inner one, and by both ends of a settle.
 pub record AreWrittenOut (config : Config) (files : List (List ℕ × List ℕ)) : Type 0 where
-  pub begins : IsWrittenOut config files (start config files)
+  pub begins : IsWrittenOut config files (machine_start config files)
   pub steps : (m n : Machine) (e : Event) → IsWrittenOut config files m → HasRule e → machine_step m e ≡ Ok n → IsWrittenOut config files n
   pub inner_steps : (m n : Machine) (e : Event) → IsWrittenOut config files m → HasRule e → inner_step m e ≡ Ok n → IsWrittenOut config files n
   pub settle : (m n : Machine) (rounds : ℕ) → IsWrittenOut config files m → settle_begun m rounds ≡ Ok n → IsWrittenOut config files n

@@ -5,7 +5,7 @@ ghost use Rattle.lard_base.specs.declared.limits.TheConstants.{MAX_SEGMENT_BYTES
 ghost use Rattle.lard_client.specs.Control.{written_len};
 ghost use Rattle.lard_client.specs.Leaving.{IsHeld, IsWritable};
 ghost use Rattle.lard_history.specs.Journal.{request};
-ghost use Rattle.lard_rules.specs.Client.{accepted_note, client_aborts, client_gets, client_heard, client_holds, client_injects, client_shuts, client_takes, client_timer, client_writes, eof_note, ready_of, speaking};
+ghost use Rattle.lard_rules.specs.Client.{accepted_note, client_aborts, client_gets, client_heard, client_holds, client_injects, client_shuts, client_takes, client_timer, client_writes, eof_note, station_ready_of, speaking};
 ghost use Rattle.lard_rules.specs.Speaking.{AreShort};
 ghost use Rattle.lard_segment.specs.Segment.{decoded};
 ghost use Rattle.lard_serving.specs.Bounds.{IsTurn};
@@ -45,7 +45,7 @@ pub fn speaking(
 fn packets_of(alloc: Global, client: &Client, ready: Option<Ready>) -> Result<Sends, NoMemory>
     requires held { IfSome ready (λ ready. IsHeld client.now ready) }
     requires writable { IfSome ready IsWritable }
-    ensures packets { IfOk result (λ sends. sends ≡ ready_of client.now ready) }
+    ensures packets { IfOk result (λ sends. sends ≡ station_ready_of client.now ready) }
     ensures short { IfOk result AreShort }
     ensures few { IfOk result (λ sends. length sends ≤ 1) }
 {

@@ -6,7 +6,7 @@ use Rattle.lard_rules.specs.declared.stay.Entry.{Entry}
 use Rattle.lard_rules.specs.declared.stay.Progress.{Progress}
 use Rattle.lard_rules.specs.Stay.{come_on}
 use Rattle.lard_stay.specs.declared.work.Work.{Work}
-use Rattle.lard_stay.specs.Work.{IsSound}
+use Rattle.lard_stay.specs.Work.{IsInHandSound}
 
 module _ (f : Progress → Progress) where
   pub come-set : (es : List Entry) (at : ℕ) (d : Entry) → at < length es → set es at (record (get_or es at d) { progress = f (get_or es at d).progress }) ≡ come_on f at es
@@ -25,7 +25,7 @@ module _ (f : Progress → Progress) where
   come-length (e ∷ es) (suc at) = ap suc (come-length es at)
 
 -- what is in hand stays sound where the batch has as many requests as before
-pub sound_came : (b : ControlBlock) (w : Work) (es : List Entry) → length es ≡ length w.batch → IsSound b w → IsSound b (record w { batch = es })
+pub sound_came : (b : ControlBlock) (w : Work) (es : List Entry) → length es ≡ length w.batch → IsInHandSound b w → IsInHandSound b (record w { batch = es })
 sound_came b w es e s = record {
   counted = s.counted;
   within = omega (arith, s.within, e);

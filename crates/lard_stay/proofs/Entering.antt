@@ -10,7 +10,7 @@ use Rattle.lard_rules.specs.Stay.{NodeEnv, Work as Ruled, enters, enters_one, st
 use Rattle.lard_request.specs.declared.verdict.Verdict.{Verdict}
 use Rattle.lard_seq.specs.Seq.{one_if}
 use Rattle.lard_stay.specs.declared.work.Work.{Work}
-use Rattle.lard_stay.specs.Work.{HasEntered, IsAsk, IsSound, StartsOne}
+use Rattle.lard_stay.specs.Work.{HasEntered, IsAskOfStay, IsInHandSound, StartsOne}
 
 -- ---- one by one
 
@@ -74,12 +74,12 @@ started-there env node r path v w h =
 -- ---- soundness
 
 -- all requests were taken out of the batch, and entered again
-pub sound_tagged : (b : ControlBlock) (w v : Work) (n : ℕ) (es : List Entry) → length es ≡ 0 → n ≡ length w.batch → HasEntered n (record w { batch = es }) v → IsSound b w → IsSound b v
+pub sound_tagged : (b : ControlBlock) (w v : Work) (n : ℕ) (es : List Entry) → length es ≡ 0 → n ≡ length w.batch → HasEntered n (record w { batch = es }) v → IsInHandSound b w → IsInHandSound b v
 sound_tagged b w v n es z e h s = record {
   counted = record { responses = omega (arith, h.count, s.counted.responses); bytes = omega (arith, h.answered, s.counted.bytes) };
   within = omega (arith, h.count, h.batch, z, e, s.within);
   few = omega (arith, h.batch, z, e, s.few);
   asks = omega (arith, h.count, h.batch, h.asks, z, e, s.asks);
-  asked = subst (λ o. IfSome o IsAsk) (sym h.asked) s.asked;
+  asked = subst (λ o. IfSome o IsAskOfStay) (sym h.asked) s.asked;
   wants = h.short s.wants;
 }

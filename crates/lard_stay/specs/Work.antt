@@ -1,7 +1,7 @@
 -- What the code has in hand of a stay, as the rules have it, and what holds of it between two calls.
 use Rattle.std.specs.Prelude.{◌≡◌, ℕ, ◌+◌, ◌≤◌, All, Bool, true, false, length, IfSome, List}
 use Rattle.lard_base.specs.declared.limits.TheConstants.{MAX_PATH_BYTES}
-use Rattle.lard_cache.specs.Recency.{has}
+use Rattle.lard_cache.specs.Recency.{has_path}
 use Rattle.lard_disk.specs.declared.disk.Job.{Job}
 use Rattle.lard_endpoint.specs.Control.{ControlBlock}
 use Rattle.lard_rules.specs.declared.stay.Asked.{Asked}
@@ -17,12 +17,12 @@ use Rattle.lard_stay.specs.declared.work.Env.{Env}
 use Rattle.lard_stay.specs.declared.work.Work.{Work}
 
 -- what a stay rests on
-abbrev pub env_seen : Env → NodeEnv
-env_seen env = record {
+abbrev pub stay_env_seen : Env → NodeEnv
+stay_env_seen env = record {
   serve = serving.env_seen env.serve;
   n = env.node;
   epoch = env.epoch.0;
-  cached = has env.cache.now.entries;
+  cached = has_path env.cache.now.entries;
   queue = env.queue;
 }
 
@@ -49,7 +49,7 @@ abbrev pub IsPath : List ℕ → Type 0
 IsPath path = (1 ≤ length path) × (length path ≤ MAX_PATH_BYTES)
 
 -- an Ask names one path at least, of a batch of at most eight requests
-pub record IsAsk (a : Asked) : Type 0 where
+pub record IsAskOfStay (a : Asked) : Type 0 where
   pub some : 1 ≤ length a.paths
   pub within : length a.paths ≤ a.size
   pub few : a.size ≤ 8
@@ -69,12 +69,12 @@ pub record IsStaySound (b : ControlBlock) (s : Stay) : Type 0 where
 -- ---- between two calls
 
 -- the same of what is in hand, whose bytes of responses are counted and whose messages can be written
-pub record IsSound (b : ControlBlock) (w : Work) : Type 0 where
+pub record IsInHandSound (b : ControlBlock) (w : Work) : Type 0 where
   pub counted : serving.IsCounted b w.service
   pub within : w.service.count + length w.batch + length b.recv.unread ≤ b.recv.got
   pub few : length w.batch ≤ 8
   pub asks : w.asks ≤ w.service.count + length w.batch
-  pub asked : IfSome w.asked IsAsk
+  pub asked : IfSome w.asked IsAskOfStay
   pub wants : All IsWant w.wants
 
 -- So many requests were entered into the batch: nothing was served or asked for, and each brought one job or one content to
@@ -103,4 +103,4 @@ pub record HasAsked (w w' : Work) : Type 0 where
   pub jobs : w'.jobs ≡ w.jobs
   pub wants : w'.wants ≡ w.wants
   pub asks : w'.asks ≤ w.asks + 1
-  pub asked : IfSome w.asked IsAsk → IfSome w'.asked IsAsk
+  pub asked : IfSome w.asked IsAskOfStay → IfSome w'.asked IsAskOfStay

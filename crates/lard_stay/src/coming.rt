@@ -4,7 +4,7 @@ ghost use Rattle.std.specs.Prelude.{◌≡◌, ◌+◌, ◌≤◌, ◌<◌, ◌^
 ghost use Rattle.std.specs.List.{slice_get};
 ghost use Rattle.lard_endpoint.specs.Control.{ControlBlock};
 ghost use Rattle.lard_rules.specs.Stay.{came_for, come_on, come_progress, read_progress, tagged};
-ghost use Rattle.lard_stay.specs.Work.{IsSound, env_seen, progress_by, work_seen};
+ghost use Rattle.lard_stay.specs.Work.{IsInHandSound, stay_env_seen, progress_by, work_seen};
 
 use crate::starting::start_named;
 use crate::work::{Env, Work};
@@ -34,9 +34,9 @@ pub fn tag(
     work: &mut Work,
     nodes: &[NodeId],
 ) -> Result<(), NoMemory>
-    requires { IsSound endpoint.now work.old }
-    ensures tagged { OnOk result (work_seen endpoint.now work.new ≡ tagged (env_seen env.now) nodes.now (work_seen endpoint.now work.old)) }
-    ensures sound { OnOk result (IsSound endpoint.now work.new) }
+    requires { IsInHandSound endpoint.now work.old }
+    ensures tagged { OnOk result (work_seen endpoint.now work.new ≡ tagged (stay_env_seen env.now) nodes.now (work_seen endpoint.now work.old)) }
+    ensures sound { OnOk result (IsInHandSound endpoint.now work.new) }
     ensures jobs { OnOk result (length work.new.jobs ≤ length work.old.jobs + 8) }
     ensures wants { OnOk result (length work.new.wants ≤ length work.old.wants + 8) }
 {
@@ -64,7 +64,7 @@ fn node_at(nodes: &[NodeId], at: usize) -> Option<NodeId>
 /// A content came from a node for request `r`: where the batch has that request and it awaits this, it can be served.
 pub fn come(alloc: Global, work: &mut Work, from: NodeId, r: u32)
     ensures came { (b : ControlBlock) → work_seen b work.new ≡ came_for (come_progress from) r (work_seen b work.old) }
-    ensures sound { (b : ControlBlock) → IsSound b work.old → IsSound b work.new }
+    ensures sound { (b : ControlBlock) → IsInHandSound b work.old → IsInHandSound b work.new }
     ensures jobs { work.new.jobs ≡ work.old.jobs }
     ensures wants { work.new.wants ≡ work.old.wants }
 {
@@ -75,7 +75,7 @@ pub fn come(alloc: Global, work: &mut Work, from: NodeId, r: u32)
 /// served.
 pub fn complete(alloc: Global, work: &mut Work, r: u32)
     ensures came { (b : ControlBlock) → work_seen b work.new ≡ came_for read_progress r (work_seen b work.old) }
-    ensures sound { (b : ControlBlock) → IsSound b work.old → IsSound b work.new }
+    ensures sound { (b : ControlBlock) → IsInHandSound b work.old → IsInHandSound b work.new }
     ensures jobs { work.new.jobs ≡ work.old.jobs }
     ensures wants { work.new.wants ≡ work.old.wants }
 {
@@ -125,7 +125,7 @@ fn come_progress(from: NodeId, progress: Progress) -> Progress
 /// The request of this number comes on, if it is in the batch.
 fn come_on(alloc: Global, work: &mut Work, coming: Coming, r: u32)
     ensures came { (b : ControlBlock) → work_seen b work.new ≡ came_for (progress_by coming) r (work_seen b work.old) }
-    ensures sound { (b : ControlBlock) → IsSound b work.old → IsSound b work.new }
+    ensures sound { (b : ControlBlock) → IsInHandSound b work.old → IsInHandSound b work.new }
     ensures jobs { work.new.jobs ≡ work.old.jobs }
     ensures wants { work.new.wants ≡ work.old.wants }
 {

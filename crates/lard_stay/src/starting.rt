@@ -4,7 +4,7 @@ ghost use Rattle.std.specs.Prelude.{◌≡◌, IfOk, OnOk};
 ghost use Rattle.lard_endpoint.specs.Control.{ControlBlock};
 ghost use Rattle.lard_files.specs.Files.{file_at};
 ghost use Rattle.lard_rules.specs.Stay.{enters_one, read_entry, started, started_here, started_there, starts_one};
-ghost use Rattle.lard_stay.specs.Work.{HasEntered, IsPath, StartsOne, env_seen, work_seen};
+ghost use Rattle.lard_stay.specs.Work.{HasEntered, IsPath, StartsOne, stay_env_seen, work_seen};
 
 use crate::paths::{good_path, named_path};
 use crate::work::{Env, Work};
@@ -36,7 +36,7 @@ fn start_here(
     verdict: Verdict,
     work: &mut Work,
 ) -> Result<(), NoMemory>
-    ensures started { OnOk result ((b : ControlBlock) → work_seen b work.new ≡ started_here (env_seen env.now) r path verdict (work_seen b work.old)) }
+    ensures started { OnOk result ((b : ControlBlock) → work_seen b work.new ≡ started_here (stay_env_seen env.now) r path verdict (work_seen b work.old)) }
     ensures entered { OnOk result (HasEntered 1 work.old work.new) }
     ensures wants { OnOk result (work.new.wants ≡ work.old.wants) }
 {
@@ -95,7 +95,7 @@ fn start(
     work: &mut Work,
 ) -> Result<(), NoMemory>
     requires { IsPath path }
-    ensures started { OnOk result ((b : ControlBlock) → work_seen b work.new ≡ started (env_seen env.now) node r path verdict (work_seen b work.old)) }
+    ensures started { OnOk result ((b : ControlBlock) → work_seen b work.new ≡ started (stay_env_seen env.now) node r path verdict (work_seen b work.old)) }
     ensures entered { OnOk result (HasEntered 1 work.old work.new) }
 {
     if node.number() == env.node.number() {
@@ -115,7 +115,7 @@ pub fn enter(
     verdict: Verdict,
     work: &mut Work,
 ) -> Result<bool, NoMemory>
-    ensures entered { IfOk result (λ more. (b : ControlBlock) → (more, work_seen b work.new) ≡ enters_one (env_seen env.now) here r verdict (work_seen b work.old)) }
+    ensures entered { IfOk result (λ more. (b : ControlBlock) → (more, work_seen b work.new) ≡ enters_one (stay_env_seen env.now) here r verdict (work_seen b work.old)) }
     ensures one { OnOk result (HasEntered 1 work.old work.new) }
     ensures jobs { IfOk result (λ more. StartsOne here more work.old.jobs work.new.jobs) }
     ensures wants { OnOk result (work.new.wants ≡ work.old.wants) }
@@ -141,7 +141,7 @@ pub fn start_named(
     entry: Entry,
     work: &mut Work,
 ) -> Result<bool, NoMemory>
-    ensures started { IfOk result (λ done. (b : ControlBlock) → (done, work_seen b work.new) ≡ starts_one (env_seen env.now) node r entry (work_seen b work.old)) }
+    ensures started { IfOk result (λ done. (b : ControlBlock) → (done, work_seen b work.new) ≡ starts_one (stay_env_seen env.now) node r entry (work_seen b work.old)) }
     ensures one { OnOk result (HasEntered 1 work.old work.new) }
 {
     if let Some(node) = node {

@@ -3,10 +3,10 @@
 ghost use Rattle.std.specs.Prelude.{◌≡◌, ◌+◌, ◌≤◌, ◌<◌, ◌^◌, [], false, true, None, length, drop, IfOk, OnOk, ◌≢◌};
 ghost use Rattle.lard_base.specs.declared.limits.TheConstants.{MAX_STREAM_BYTES};
 ghost use Rattle.lard_endpoint.specs.Control.{ControlBlock};
-ghost use Rattle.lard_rules.specs.Stay.{asking, enters, goes_on, next_by, next_of, reads_batch, serves};
+ghost use Rattle.lard_rules.specs.Stay.{asking, enters, goes_on, next_by, next_of, reads_batch, stay_serves};
 ghost use Rattle.lard_rules.specs.Loop.{state_of, step_of};
 ghost use Rattle.lard_seq.specs.Seq.{one_if};
-ghost use Rattle.lard_stay.specs.Work.{HasAsked, HasEntered, IsSound, env_seen, work_seen};
+ghost use Rattle.lard_stay.specs.Work.{HasAsked, HasEntered, IsInHandSound, stay_env_seen, work_seen};
 
 use crate::paths::named_paths;
 use crate::starting::enter;
@@ -31,11 +31,11 @@ pub fn begin(
     work: &mut Work,
 ) -> Result<(), NoMemory>
     requires stream { env.now.serve.stream ≤ MAX_STREAM_BYTES }
-    requires sound { IsSound endpoint.old work.old }
+    requires sound { IsInHandSound endpoint.old work.old }
     requires none { work.old.batch ≡ [] }
     requires queue { env.now.queue + length work.old.jobs + 1 < 2 ^ 32 }
-    ensures turns { OnOk result (work_seen endpoint.new work.new ≡ goes_on (env_seen env.now) (state_of (reads_batch (env_seen env.now) true (work_seen endpoint.old work.old)))) }
-    ensures sound { OnOk result (IsSound endpoint.new work.new) }
+    ensures turns { OnOk result (work_seen endpoint.new work.new ≡ goes_on (stay_env_seen env.now) (state_of (reads_batch (stay_env_seen env.now) true (work_seen endpoint.old work.old)))) }
+    ensures sound { OnOk result (IsInHandSound endpoint.new work.new) }
     ensures jobs { OnOk result (length work.new.jobs ≤ length work.old.jobs + 1) }
     ensures wants { OnOk result (work.new.wants ≡ work.old.wants) }
 {
@@ -52,10 +52,10 @@ pub fn go_on(
     work: &mut Work,
 ) -> Result<(), NoMemory>
     requires stream { env.now.serve.stream ≤ MAX_STREAM_BYTES }
-    requires sound { IsSound endpoint.old work.old }
+    requires sound { IsInHandSound endpoint.old work.old }
     requires queue { env.now.queue + length work.old.jobs < 2 ^ 32 }
-    ensures turns { OnOk result (work_seen endpoint.new work.new ≡ goes_on (env_seen env.now) (work_seen endpoint.old work.old)) }
-    ensures sound { OnOk result (IsSound endpoint.new work.new) }
+    ensures turns { OnOk result (work_seen endpoint.new work.new ≡ goes_on (stay_env_seen env.now) (work_seen endpoint.old work.old)) }
+    ensures sound { OnOk result (IsInHandSound endpoint.new work.new) }
     ensures jobs { OnOk result (work.new.jobs ≡ work.old.jobs) }
     ensures wants { OnOk result (work.new.wants ≡ work.old.wants) }
 {
@@ -111,11 +111,11 @@ fn serve(
     work: &mut Work,
 ) -> Result<(), NoMemory>
     requires stream { env.now.serve.stream ≤ MAX_STREAM_BYTES }
-    requires sound { IsSound endpoint.old work.old }
+    requires sound { IsInHandSound endpoint.old work.old }
     requires open { endpoint.old.send.finished ≡ false }
     requires within { work.old.service.over ≡ None }
-    ensures served { OnOk result (work_seen endpoint.new work.new ≡ serves (env_seen env.now) (work_seen endpoint.old work.old)) }
-    ensures sound { OnOk result (IsSound endpoint.new work.new) }
+    ensures served { OnOk result (work_seen endpoint.new work.new ≡ stay_serves (stay_env_seen env.now) (work_seen endpoint.old work.old)) }
+    ensures sound { OnOk result (IsInHandSound endpoint.new work.new) }
     ensures jobs { OnOk result (work.new.jobs ≡ work.old.jobs) }
     ensures wants { OnOk result (work.new.wants ≡ work.old.wants) }
 {
@@ -158,11 +158,11 @@ fn read(
     endpoint: &mut Endpoint,
     work: &mut Work,
 ) -> Result<bool, NoMemory>
-    requires sound { IsSound endpoint.old work.old }
+    requires sound { IsInHandSound endpoint.old work.old }
     requires none { work.old.batch ≡ [] }
     requires queue { env.now.queue + length work.old.jobs + one_if here < 2 ^ 32 }
-    ensures turn { IfOk result (λ more. step_of more (work_seen endpoint.new work.new) ≡ reads_batch (env_seen env.now) here (work_seen endpoint.old work.old)) }
-    ensures sound { OnOk result (IsSound endpoint.new work.new) }
+    ensures turn { IfOk result (λ more. step_of more (work_seen endpoint.new work.new) ≡ reads_batch (stay_env_seen env.now) here (work_seen endpoint.old work.old)) }
+    ensures sound { OnOk result (IsInHandSound endpoint.new work.new) }
     ensures jobs { OnOk result (length work.new.jobs ≤ length work.old.jobs + one_if here) }
     ensures same { OnOk result (here ≡ false → work.new.jobs ≡ work.old.jobs) }
     ensures wants { OnOk result (work.new.wants ≡ work.old.wants) }
@@ -191,7 +191,7 @@ fn enter_all(
     work: &mut Work,
 ) -> Result<(), NoMemory>
     requires { work.old.service.count + length verdicts < 2 ^ 31 }
-    ensures entered { OnOk result ((b : ControlBlock) → work_seen b work.new ≡ enters (env_seen env.now) here (work.old.service.count + 1) verdicts (work_seen b work.old)) }
+    ensures entered { OnOk result ((b : ControlBlock) → work_seen b work.new ≡ enters (stay_env_seen env.now) here (work.old.service.count + 1) verdicts (work_seen b work.old)) }
     ensures all { OnOk result (HasEntered (length verdicts) work.old work.new) }
     ensures jobs { OnOk result (length work.new.jobs ≤ length work.old.jobs + one_if here) }
     ensures same { OnOk result (here ≡ false → work.new.jobs ≡ work.old.jobs) }
@@ -211,7 +211,7 @@ fn ask(alloc: Global, env: &Env<'_>, size: u8, work: &mut Work) -> Result<(), No
     requires all { length work.old.batch ≤ size }
     requires asks { work.old.asks < 2 ^ 31 }
     requires queue { env.now.queue + length work.old.jobs < 2 ^ 32 }
-    ensures asked { OnOk result ((b : ControlBlock) → work_seen b work.new ≡ asking (env_seen env.now) size (work_seen b work.old)) }
+    ensures asked { OnOk result ((b : ControlBlock) → work_seen b work.new ≡ asking (stay_env_seen env.now) size (work_seen b work.old)) }
     ensures one { OnOk result (HasAsked work.old work.new) }
 {
     let paths = named_paths(alloc, env.serve.files, work.batch.as_slice())?;

@@ -3,7 +3,7 @@
 ghost use Rattle.std.specs.Prelude.{◌≡◌, []};
 ghost use Rattle.lard_endpoint.specs.Control.{ControlBlock};
 ghost use Rattle.lard_rules.specs.Node.{work_of};
-ghost use Rattle.lard_stay.specs.Work.{IsSound, IsStaySound, work_seen};
+ghost use Rattle.lard_stay.specs.Work.{IsInHandSound, IsStaySound, work_seen};
 
 use lard_base::{Epoch, Items, NodeId};
 use lard_cache::Cache;
@@ -46,7 +46,7 @@ impl Work {
     /// What is in hand of a stay; nothing was done in the turn yet.
     pub fn new(alloc: Global, stay: Stay) -> Work
         ensures seen { (b : ControlBlock) → work_seen b result ≡ work_of b stay }
-        ensures sound { (b : ControlBlock) → IsStaySound b stay → IsSound b result }
+        ensures sound { (b : ControlBlock) → IsStaySound b stay → IsInHandSound b result }
         ensures batch { result.batch ≡ stay.batch }
         ensures none { (result.jobs ≡ []) × (result.wants ≡ []) }
     {

@@ -5,7 +5,7 @@ use Rattle.lard_base.specs.declared.event.Event.{Event}
 use Rattle.lard_base.specs.declared.event.Event.TheVariants as event
 use Rattle.lard_base.specs.declared.errors.NoMemory.{NoMemory}
 use Rattle.lard_base.specs.declared.place.Place.TheVariants as place
-use Rattle.lard_rules.specs.Machine.{completes, disk_at, is_no_job, is_no_node, node_acts, node_at, node_gave, node_setting, told}
+use Rattle.lard_rules.specs.Machine.{completes, disk_at, is_no_job, is_no_node, node_acts, node_at, node_gave, node_setting, machine_told}
 use Rattle.lard_rules.specs.declared.fault.StepFault.{StepFault}
 use Rattle.lard_rules.specs.declared.fault.Refusal.TheVariants.{NoNode, NoJob}
 use Rattle.lard_rules.specs.declared.fault.StepFault.TheVariants.{Refused}
@@ -29,10 +29,10 @@ node_there m e own n at i s le is h = ap (node_acts m e own n i) (there m.nodes 
 -- and what it did is told
 pub node_told : (result : Result (Unit {0}) NoMemory) (m new : Machine) (e : Event) (own : List Rec) (n k : ℕ) (i : BackIn) (old after : NodeState) (out : Out)
     → k ≡ n → 1 ≤ k → slice_get m.nodes (k - 1) ≡ Some old → (after, out) ≡ node_step (node_setting m n) old i
-    → OnOk result (new ≡ told (record m { nodes = slice_set m.nodes (k - 1) after }) e own (place.Node n) out) → OnOk result (new ≡ node_acts m e own n i (node_at m.nodes n))
+    → OnOk result (new ≡ machine_told (record m { nodes = slice_set m.nodes (k - 1) after }) e own (place.Node n) out) → OnOk result (new ≡ node_acts m e own n i (node_at m.nodes n))
 node_told (Err fault) m new e own n k i old after out same le at is h = tt
 node_told (Ok done) m new e own n k i old after out same le at is h =
-    h ∙ ap (λ (j : ℕ). told (record m { nodes = slice_set m.nodes (j - 1) after }) e own (place.Node n) out) same
+    h ∙ ap (λ (j : ℕ). machine_told (record m { nodes = slice_set m.nodes (j - 1) after }) e own (place.Node n) out) same
     ∙ ap (node_gave m e own n) is
     ∙ sym (node_there m e own n (k - 1) i old (omega (arith, le, same)) (ap (λ j. j - 1) same) at)
 

@@ -7,9 +7,9 @@ use Rattle.std.proofs.lemmas.List.{length-set}
 use Rattle.lard_back.specs.Sound.{IsNodeSound}
 use Rattle.lard_base.specs.declared.event.Event.{Event}
 use Rattle.lard_base.specs.declared.place.Place.{Place}
-use Rattle.lard_rules.specs.Machine.{passed, told, told_rows}
+use Rattle.lard_rules.specs.Machine.{passed, machine_told, told_rows}
 use Rattle.lard_rules.specs.declared.machine.Machine.{Machine}
-use Rattle.lard_stepping.specs.Sound.{IsNodeFit, IsSound, IsSoundTo}
+use Rattle.lard_stepping.specs.Sound.{IsNodeFit, IsMachineSound, IsSoundTo}
 use Rattle.lard_dispatch.specs.Sound.{AreBefore}
 use Rattle.lard_rules.specs.declared.front.FrontState.{FrontState}
 use Rattle.lard_rules.specs.FrontSound.{IsFrontSound}
@@ -47,8 +47,8 @@ sound_more m a b s le = record { front = s.front; clock = s.clock; count = s.cou
 rows-many : (m : Machine) (e : Event) (own : List Rec) (p : Place) (out : Out) → suc (length out.notes) ≤ length (told_rows m e own p out)
 rows-many m e own p out = grind (arith, length-append)
 
-pub told_sound : (m : Machine) (e : Event) (own : List Rec) (p : Place) (out : Out) → IsSoundTo (length m.journal + length out.notes) m → IsSound (told m e own p out)
-unfolding told
+pub told_sound : (m : Machine) (e : Event) (own : List Rec) (p : Place) (out : Out) → IsSoundTo (length m.journal + length out.notes) m → IsMachineSound (machine_told m e own p out)
+unfolding machine_told
 told_sound m e own p out s =
     let many = rows-many m e own p out in
     let grown : length (m.journal ++ told_rows m e own p out) ≡ length m.journal + length (told_rows m e own p out) = length-append m.journal (told_rows m e own p out) in
@@ -62,8 +62,8 @@ told_sound m e own p out s =
     }
 
 -- where no place acts, and the time is this
-pub passed_at : (m : Machine) (e : Event) (own : List Rec) (now : ℕ) → IsSound m → AreBefore now m.front.dispatch.books.sets → now ≤ (length m.journal + 1) * 2 ^ 32
-    → IsSound (passed (record m { now = now }) e own)
+pub passed_at : (m : Machine) (e : Event) (own : List Rec) (now : ℕ) → IsMachineSound m → AreBefore now m.front.dispatch.books.sets → now ≤ (length m.journal + 1) * 2 ^ 32
+    → IsMachineSound (passed (record m { now = now }) e own)
 passed_at m e own now s before time =
     let grown : length (m.journal ++ rec.Event (m.events + 1) e ∷ own) ≡ length m.journal + length (rec.Event (m.events + 1) e ∷ own) = length-append m.journal (rec.Event (m.events + 1) e ∷ own) in
     record {
@@ -75,7 +75,7 @@ passed_at m e own now s before time =
       time = omega (arith, grown, time);
     }
 
-pub passed_sound : (m : Machine) (e : Event) (own : List Rec) → IsSound m → IsSound (passed m e own)
+pub passed_sound : (m : Machine) (e : Event) (own : List Rec) → IsMachineSound m → IsMachineSound (passed m e own)
 passed_sound m e own s = passed_at m e own m.now s s.clock (omega (arith, s.time))
 
 -- ---- a settle
@@ -86,7 +86,7 @@ turned-length zero (r ∷ J) = refl
 turned-length (suc i) (r ∷ J) = ap suc (turned-length i J)
 
 -- an inner step
-pub inner_sound : (m n : Machine) → IsSound n → m.events ≤ length m.journal → length m.journal ≤ length n.journal → IsSound (as_inner m n)
+pub inner_sound : (m n : Machine) → IsMachineSound n → m.events ≤ length m.journal → length m.journal ≤ length n.journal → IsMachineSound (as_inner m n)
 inner_sound m n s events more =
     let same : length (turned_at (length m.journal) n.journal) ≡ length n.journal = turned-length (length m.journal) n.journal in
     record {
@@ -99,7 +99,7 @@ inner_sound m n s events more =
     }
 
 -- the closing record
-pub closed_sound : (m : Machine) (rounds left : ℕ) → IsSound m → IsSound (settle_closed m rounds left)
+pub closed_sound : (m : Machine) (rounds left : ℕ) → IsMachineSound m → IsMachineSound (settle_closed m rounds left)
 closed_sound m rounds left s =
     let grown : length (m.journal ++ closing rounds left ∷ []) ≡ length m.journal + 1 = length-append m.journal (closing rounds left ∷ []) in
     record {
@@ -114,11 +114,11 @@ closed_sound m rounds left s =
 -- ---- what of the machine a step changes beside
 
 -- a client
-pub clients_sound : (m : Machine) (t : FinMap nat_cmp Station) → IsSound m → IsSound (record m { clients = t })
+pub clients_sound : (m : Machine) (t : FinMap nat_cmp Station) → IsMachineSound m → IsMachineSound (record m { clients = t })
 clients_sound m t s = record { front = s.front; clock = s.clock; count = s.count; nodes = s.nodes; events = s.events; time = s.time }
 
 -- a packet that is lost
-pub net_sound : (m : Machine) (net : List Packet) → IsSound m → IsSound (record m { net = net })
+pub net_sound : (m : Machine) (net : List Packet) → IsMachineSound m → IsMachineSound (record m { net = net })
 net_sound m net s = record { front = s.front; clock = s.clock; count = s.count; nodes = s.nodes; events = s.events; time = s.time }
 
 -- the front end
@@ -126,7 +126,7 @@ pub front_sound : (most : ℕ) (m : Machine) (f : FrontState) → IsSoundTo most
 front_sound most m f s h k = record { front = h; clock = k; count = s.count; nodes = s.nodes; events = s.events; time = s.time }
 
 -- a node's disk has no more jobs than there are records
-pub node_jobs : (m : Machine) (i : ℕ) (s : NodeState) → IsSound m → slice_get m.nodes i ≡ Some s → length s.disk ≤ length m.journal
+pub node_jobs : (m : Machine) (i : ℕ) (s : NodeState) → IsMachineSound m → slice_get m.nodes i ≡ Some s → length s.disk ≤ length m.journal
 node_jobs m i s h at = (all-at (IsNodeFit (length m.journal)) m.nodes i s h.nodes at).jobs
 
 -- a node

@@ -4,6 +4,6 @@ use Rattle.lard_rules.specs.declared.places.Out.{Out}
 use Rattle.lard_rules.specs.Speaking.{AreShort}
 
 -- its segments fit packets between it and a client, and can be numbered
-pub record IsSendable (o : Out) : Type 0 where
+pub record IsOutSendable (o : Out) : Type 0 where
   pub short : AreShort o.segments
   pub few : length o.segments ≤ 2 ^ 31

@@ -38,5 +38,5 @@ pub record IsSoundTo (most : ℕ) (m : Machine) : Type 0 where
   pub time : m.now ≤ length m.journal * 2 ^ 32
 
 -- each job of a disk has a record, too
-abbrev pub IsSound : Machine → Type 0
-IsSound m = IsSoundTo (length m.journal) m
+abbrev pub IsMachineSound : Machine → Type 0
+IsMachineSound m = IsSoundTo (length m.journal) m

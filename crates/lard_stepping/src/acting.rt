@@ -2,9 +2,9 @@
 
 ghost use Rattle.std.specs.Prelude.{◌≡◌, ◌+◌, ◌^◌, ◌≤◌, ◌<◌, ◌-◌, true, [], ◌∷◌, ◌++◌, length, IfOk, OnOk, OnErr};
 ghost use Rattle.lard_base.specs.declared.limits.TheConstants.{MAX_SEGMENT_BYTES};
-ghost use Rattle.lard_rules.specs.Machine.{passed, told};
-ghost use Rattle.lard_stepping.specs.Acting.{IsSendable};
-ghost use Rattle.lard_stepping.specs.Sound.{HasRoom, IsSound, IsSoundTo};
+ghost use Rattle.lard_rules.specs.Machine.{passed, machine_told};
+ghost use Rattle.lard_stepping.specs.Acting.{IsOutSendable};
+ghost use Rattle.lard_stepping.specs.Sound.{HasRoom, IsMachineSound, IsSoundTo};
 ghost use Rattle.lard_rules.specs.Sent.{packets_of, sent_records};
 ghost use Rattle.lard_net.specs.Net.{IsSized, most_bytes};
 ghost use Rattle.lard_rules.specs.Outs.{out_of};
@@ -37,10 +37,10 @@ pub fn conclude(
     act: Act,
 ) -> Result<(), NoMemory>
     requires room { HasRoom machine.old }
-    requires sound { IsSound machine.old }
+    requires sound { IsMachineSound machine.old }
     requires turn { IsTurn act.turn }
-    ensures ok { OnOk result (machine.new ≡ told machine.old event (listed own) (Place.Client act.c) (out_of (Place.Client act.c) act.c act.was_armed act.is_armed act.turn)) }
-    ensures sound { OnOk result (IsSound machine.new) }
+    ensures ok { OnOk result (machine.new ≡ machine_told machine.old event (listed own) (Place.Client act.c) (out_of (Place.Client act.c) act.c act.was_armed act.is_armed act.turn)) }
+    ensures sound { OnOk result (IsMachineSound machine.new) }
     ensures err { OnErr result (machine.new.journal ≡ machine.old.journal) }
 {
     let Act {
@@ -54,7 +54,7 @@ pub fn conclude(
 }
 
 /// Tells all that a place does in a step, kind by kind. Without memory the journal is as it was.
-#[tactic(auto, using(crate::proofs::Sound::told_sound), unfolding(lard_rules::specs::Machine::told))]
+#[tactic(auto, using(crate::proofs::Sound::told_sound), unfolding(lard_rules::specs::Machine::machine_told))]
 pub fn tell(
     machine: &mut Machine,
     alloc: Global,
@@ -65,9 +65,9 @@ pub fn tell(
 ) -> Result<(), NoMemory>
     requires room { HasRoom machine.old }
     requires sound { IsSoundTo (length machine.old.journal + length out.notes) machine.old }
-    requires out { IsSendable out }
-    ensures ok { OnOk result (machine.new ≡ told machine.old event (listed own) place out) }
-    ensures sound { OnOk result (IsSound machine.new) }
+    requires out { IsOutSendable out }
+    ensures ok { OnOk result (machine.new ≡ machine_told machine.old event (listed own) place out) }
+    ensures sound { OnOk result (IsMachineSound machine.new) }
     ensures err { OnErr result (machine.new.journal ≡ machine.old.journal) }
 {
     let Out {
@@ -97,9 +97,9 @@ pub fn tell(
 #[tactic(auto, using(crate::proofs::Sound::passed_sound))]
 pub fn pass(machine: &mut Machine, alloc: Global, event: Event, own: Rec) -> Result<(), NoMemory>
     requires room { HasRoom machine.old }
-    requires sound { IsSound machine.old }
+    requires sound { IsMachineSound machine.old }
     ensures ok { OnOk result (machine.new ≡ passed machine.old event (own ∷ [])) }
-    ensures sound { OnOk result (IsSound machine.new) }
+    ensures sound { OnOk result (IsMachineSound machine.new) }
     ensures err { OnErr result (machine.new.journal ≡ machine.old.journal) }
 {
     note(machine, alloc, event, own)

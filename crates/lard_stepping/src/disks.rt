@@ -2,7 +2,7 @@
 
 ghost use Rattle.std.specs.Prelude.{◌≡◌, ◌≤◌, true, false, Ok, IfSome, IfNone, OnOk};
 ghost use Rattle.lard_rules.specs.Machine.{Steps, clocked, completes, is_no_node};
-ghost use Rattle.lard_stepping.specs.Sound.{HasRoom, IsSet, IsSound};
+ghost use Rattle.lard_stepping.specs.Sound.{HasRoom, IsSet, IsMachineSound};
 
 use crate::acting::note;
 use crate::places::node_acts;
@@ -16,10 +16,10 @@ use std::alloc::Global;
 #[tactic(auto, unfolding(lard_rules::specs::Machine::completes))]
 pub fn complete(machine: &mut Machine, alloc: Global, n: u32, j: u32) -> Result<(), StepFault>
     requires room { HasRoom machine.old }
-    requires sound { IsSound machine.old }
+    requires sound { IsMachineSound machine.old }
     requires set { IsSet machine.old.config }
     ensures step { Steps (completes machine.old n j) machine.old machine.new result }
-    ensures sound { OnOk result (IsSound machine.new) }
+    ensures sound { OnOk result (IsMachineSound machine.new) }
 {
     let nodes = machine.config.nodes;
     let Some(node) = node_of(n, nodes) else {
@@ -51,9 +51,9 @@ pub fn node_of(n: u32, nodes: u8) -> Option<NodeId>
 #[tactic(auto, using(crate::proofs::Sound::passed_at), unfolding(lard_rules::specs::Machine::clocked))]
 pub fn tick(machine: &mut Machine, alloc: Global, ms: u32) -> Result<(), StepFault>
     requires room { HasRoom machine.old }
-    requires sound { IsSound machine.old }
+    requires sound { IsMachineSound machine.old }
     ensures step { Steps (Ok (clocked machine.old ms)) machine.old machine.new result }
-    ensures sound { OnOk result (IsSound machine.new) }
+    ensures sound { OnOk result (IsMachineSound machine.new) }
 {
     machine.now += u64::from(ms);
     let now = Millis(machine.now);

@@ -4,8 +4,8 @@ ghost use Rattle.std.specs.Prelude.{◌≡◌, ◌≤◌, ◌∷◌, [], length,
 ghost use Rattle.std.specs.FinMap as table;
 ghost use Rattle.lard_base.specs.declared.limits.TheConstants.{MAX_SEGMENT_BYTES};
 ghost use Rattle.lard_rules.specs.Bounds.{HasTimer};
-ghost use Rattle.lard_rules.specs.Machine.{Steps, delivered, from_place, front_acts, lost, timer, to_client, to_front, to_place};
-ghost use Rattle.lard_stepping.specs.Sound.{HasRoom, IsSet, IsSound};
+ghost use Rattle.lard_rules.specs.Machine.{Steps, delivered, from_place, front_acts, lost, timer, machine_to_client, machine_to_front, to_place};
+ghost use Rattle.lard_stepping.specs.Sound.{HasRoom, IsSet, IsMachineSound};
 ghost use Rattle.lard_net.specs.Net.{IsSized, packet_at};
 
 use crate::acting::pass;
@@ -24,10 +24,10 @@ use std::alloc::Global;
 #[tactic(auto, unfolding(lard_rules::specs::Machine::delivered))]
 pub fn deliver(machine: &mut Machine, alloc: Global, k: u32) -> Result<(), StepFault>
     requires room { HasRoom machine.old }
-    requires sound { IsSound machine.old }
+    requires sound { IsMachineSound machine.old }
     requires set { IsSet machine.old.config }
     ensures step { Steps (delivered machine.old k (packet_at machine.old.net k)) machine.old machine.new result }
-    ensures sound { OnOk result (IsSound machine.new) }
+    ensures sound { OnOk result (IsMachineSound machine.new) }
 {
     let Some(packet) = machine.net.get(k) else {
         let sent = machine.net.sent();
@@ -54,10 +54,10 @@ fn bring(
 ) -> Result<(), NoMemory>
     requires sized { IsSized from to (length bytes.now) }
     requires room { HasRoom machine.old }
-    requires sound { IsSound machine.old }
+    requires sound { IsMachineSound machine.old }
     requires set { IsSet machine.old.config }
     ensures ok { OnOk result (machine.new ≡ to_place machine.old k (record { from = from; to = to; bytes = bytes.now; lost = false }) to) }
-    ensures sound { OnOk result (IsSound machine.new) }
+    ensures sound { OnOk result (IsMachineSound machine.new) }
     ensures err { OnErr result (machine.new.journal ≡ machine.old.journal) }
 {
     match to {
@@ -84,10 +84,10 @@ fn to_front(
 ) -> Result<(), NoMemory>
     requires sized { IsSized from Place.Front (length bytes) }
     requires room { HasRoom machine.old }
-    requires sound { IsSound machine.old }
+    requires sound { IsMachineSound machine.old }
     requires set { IsSet machine.old.config }
     ensures ok { OnOk result (machine.new ≡ from_place machine.old k bytes from) }
-    ensures sound { OnOk result (IsSound machine.new) }
+    ensures sound { OnOk result (IsMachineSound machine.new) }
     ensures err { OnErr result (machine.new.journal ≡ machine.old.journal) }
 {
     match from {
@@ -107,10 +107,10 @@ fn segment_comes(
 ) -> Result<(), NoMemory>
     requires short { length bytes ≤ MAX_SEGMENT_BYTES }
     requires room { HasRoom machine.old }
-    requires sound { IsSound machine.old }
+    requires sound { IsMachineSound machine.old }
     requires set { IsSet machine.old.config }
-    ensures ok { OnOk result (machine.new ≡ to_front machine.old k bytes c (table.get machine.old.clients c)) }
-    ensures sound { OnOk result (IsSound machine.new) }
+    ensures ok { OnOk result (machine.new ≡ machine_to_front machine.old k bytes c (table.get machine.old.clients c)) }
+    ensures sound { OnOk result (IsMachineSound machine.new) }
     ensures err { OnErr result (machine.new.journal ≡ machine.old.journal) }
 {
     let Some(station) = machine.clients.get(c.number()) else {
@@ -130,10 +130,10 @@ fn message_comes(
     bytes: Bytes,
 ) -> Result<(), NoMemory>
     requires room { HasRoom machine.old }
-    requires sound { IsSound machine.old }
+    requires sound { IsMachineSound machine.old }
     requires set { IsSet machine.old.config }
     ensures ok { OnOk result (machine.new ≡ front_acts machine.old (Event.Deliver k) (Rec.Got k ∷ []) (FrontIn.Message from bytes)) }
-    ensures sound { OnOk result (IsSound machine.new) }
+    ensures sound { OnOk result (IsMachineSound machine.new) }
     ensures err { OnErr result (machine.new.journal ≡ machine.old.journal) }
 {
     let input = FrontIn::Message { from, bytes };
@@ -150,9 +150,9 @@ fn to_client(
 ) -> Result<(), NoMemory>
     requires short { length bytes.now ≤ MAX_SEGMENT_BYTES }
     requires room { HasRoom machine.old }
-    requires sound { IsSound machine.old }
-    ensures ok { OnOk result (machine.new ≡ to_client machine.old k bytes.now c (table.get machine.old.clients c)) }
-    ensures sound { OnOk result (IsSound machine.new) }
+    requires sound { IsMachineSound machine.old }
+    ensures ok { OnOk result (machine.new ≡ machine_to_client machine.old k bytes.now c (table.get machine.old.clients c)) }
+    ensures sound { OnOk result (IsMachineSound machine.new) }
     ensures err { OnErr result (machine.new.journal ≡ machine.old.journal) }
 {
     let Some(mut acting) = take_out(machine, alloc, c) else {
@@ -175,9 +175,9 @@ fn to_client(
 #[tactic(auto, using(crate::proofs::Lent::lost_len, crate::proofs::Sound::net_sound), unfolding(lard_rules::specs::Machine::lost))]
 pub fn lose(machine: &mut Machine, alloc: Global, k: u32) -> Result<(), StepFault>
     requires room { HasRoom machine.old }
-    requires sound { IsSound machine.old }
+    requires sound { IsMachineSound machine.old }
     ensures step { Steps (lost machine.old k (packet_at machine.old.net k)) machine.old machine.new result }
-    ensures sound { OnOk result (IsSound machine.new) }
+    ensures sound { OnOk result (IsMachineSound machine.new) }
 {
     let Some(packet) = machine.net.get(k) else {
         let sent = machine.net.sent();
@@ -195,11 +195,11 @@ pub fn lose(machine: &mut Machine, alloc: Global, k: u32) -> Result<(), StepFaul
 /// there is no such node, everything is as it was. Without memory the journal is as it was.
 pub fn fire(machine: &mut Machine, alloc: Global, place: Place, c: ConnId) -> Result<(), StepFault>
     requires room { HasRoom machine.old }
-    requires sound { IsSound machine.old }
+    requires sound { IsMachineSound machine.old }
     requires set { IsSet machine.old.config }
     requires timers { HasTimer place c }
     ensures step { Steps (timer machine.old place c (table.get machine.old.clients c)) machine.old machine.new result }
-    ensures sound { OnOk result (IsSound machine.new) }
+    ensures sound { OnOk result (IsMachineSound machine.new) }
 {
     match place {
         Place::Front => return fire_front(machine, alloc, c),
@@ -212,10 +212,10 @@ pub fn fire(machine: &mut Machine, alloc: Global, place: Place, c: ConnId) -> Re
 #[tactic(auto, unfolding(lard_rules::specs::Machine::timer))]
 fn fire_front(machine: &mut Machine, alloc: Global, c: ConnId) -> Result<(), StepFault>
     requires room { HasRoom machine.old }
-    requires sound { IsSound machine.old }
+    requires sound { IsMachineSound machine.old }
     requires set { IsSet machine.old.config }
     ensures step { Steps (timer machine.old Place.Front c (table.get machine.old.clients c)) machine.old machine.new result }
-    ensures sound { OnOk result (IsSound machine.new) }
+    ensures sound { OnOk result (IsMachineSound machine.new) }
 {
     if machine.clients.get(c.number()).is_none() {
         return Err(StepFault::Refused(Refusal::NoClient(c.number())));
@@ -230,10 +230,10 @@ fn fire_front(machine: &mut Machine, alloc: Global, c: ConnId) -> Result<(), Ste
 #[tactic(auto, unfolding(lard_rules::specs::Machine::timer))]
 fn fire_node(machine: &mut Machine, alloc: Global, n: NodeId, c: ConnId) -> Result<(), StepFault>
     requires room { HasRoom machine.old }
-    requires sound { IsSound machine.old }
+    requires sound { IsMachineSound machine.old }
     requires set { IsSet machine.old.config }
     ensures step { Steps (timer machine.old (Place.Node n) c (table.get machine.old.clients c)) machine.old machine.new result }
-    ensures sound { OnOk result (IsSound machine.new) }
+    ensures sound { OnOk result (IsMachineSound machine.new) }
 {
     if machine.clients.get(c.number()).is_none() {
         return Err(StepFault::Refused(Refusal::NoClient(c.number())));
@@ -253,9 +253,9 @@ fn fire_node(machine: &mut Machine, alloc: Global, n: NodeId, c: ConnId) -> Resu
 #[tactic(auto, unfolding(lard_rules::specs::Machine::timer))]
 fn fire_client(machine: &mut Machine, alloc: Global, c: ConnId) -> Result<(), StepFault>
     requires room { HasRoom machine.old }
-    requires sound { IsSound machine.old }
+    requires sound { IsMachineSound machine.old }
     ensures step { Steps (timer machine.old (Place.Client c) c (table.get machine.old.clients c)) machine.old machine.new result }
-    ensures sound { OnOk result (IsSound machine.new) }
+    ensures sound { OnOk result (IsMachineSound machine.new) }
 {
     let Some(mut acting) = take_out(machine, alloc, c) else {
         return Err(StepFault::Refused(Refusal::NoClient(c.number())));

@@ -3,7 +3,7 @@
 ghost use Rattle.std.specs.Prelude.{◌≡◌, ◌≤◌, ◌∷◌, [], length, OnOk, OnErr};
 ghost use Rattle.lard_rules.specs.Machine.{front_acts, node_acts, node_at};
 ghost use Rattle.lard_front.specs.Bounds.{IsShort};
-ghost use Rattle.lard_stepping.specs.Sound.{HasRoom, IsSet, IsSound};
+ghost use Rattle.lard_stepping.specs.Sound.{HasRoom, IsSet, IsMachineSound};
 ghost use Rattle.lard_rules.specs.Speaking.{listed};
 
 use crate::acting::{pass, tell};
@@ -21,11 +21,11 @@ pub fn front_acts(
     input: FrontIn,
 ) -> Result<(), NoMemory>
     requires room { HasRoom machine.old }
-    requires sound { IsSound machine.old }
+    requires sound { IsMachineSound machine.old }
     requires set { IsSet machine.old.config }
     requires short { IsShort input }
     ensures ok { OnOk result (machine.new ≡ front_acts machine.old event (listed own) input) }
-    ensures sound { OnOk result (IsSound machine.new) }
+    ensures sound { OnOk result (IsMachineSound machine.new) }
     ensures err { OnErr result (machine.new.journal ≡ machine.old.journal) }
 {
     let setting = lard_front::step::Setting {
@@ -47,11 +47,11 @@ pub fn node_acts(
     input: BackIn,
 ) -> Result<(), NoMemory>
     requires room { HasRoom machine.old }
-    requires sound { IsSound machine.old }
+    requires sound { IsMachineSound machine.old }
     requires set { IsSet machine.old.config }
     requires there { n ≤ length machine.old.nodes }
     ensures ok { OnOk result (machine.new ≡ node_acts machine.old event (listed own) n input (node_at machine.old.nodes n)) }
-    ensures sound { OnOk result (IsSound machine.new) }
+    ensures sound { OnOk result (IsMachineSound machine.new) }
     ensures err { OnErr result (machine.new.journal ≡ machine.old.journal) }
 {
     let setting = lard_back::Setting {
@@ -74,10 +74,10 @@ pub fn to_node(
     input: BackIn,
 ) -> Result<(), NoMemory>
     requires room { HasRoom machine.old }
-    requires sound { IsSound machine.old }
+    requires sound { IsMachineSound machine.old }
     requires set { IsSet machine.old.config }
     ensures ok { OnOk result (machine.new ≡ node_acts machine.old (Event.Deliver k) (Rec.Got k ∷ []) n input (node_at machine.old.nodes n)) }
-    ensures sound { OnOk result (IsSound machine.new) }
+    ensures sound { OnOk result (IsMachineSound machine.new) }
     ensures err { OnErr result (machine.new.journal ≡ machine.old.journal) }
 {
     if machine.nodes.len() < n.number() as usize {

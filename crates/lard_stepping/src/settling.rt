@@ -3,11 +3,11 @@
 ghost use Rattle.std.specs.Prelude.{◌≡◌, OnOk, OnErr};
 ghost use Rattle.lard_rules.specs.Bounds.{HasRule};
 ghost use Rattle.lard_rules.specs.Machine.{Steps};
-ghost use Rattle.lard_stepping.specs.Sound.{IsSet, IsSound};
+ghost use Rattle.lard_stepping.specs.Sound.{IsSet, IsMachineSound};
 ghost use Rattle.lard_settling.specs.Steps.{closing, inner_step, settle_begun, settle_closed};
 
 use crate::acting::{append, mark};
-use crate::steps::{limit_reached, step};
+use crate::steps::{limit_reached, machine_step};
 use lard_base::{Event, NoMemory};
 use lard_journal::Rec;
 use lard_rules::{Machine, StepFault};
@@ -17,9 +17,9 @@ use std::alloc::Global;
 /// as it was; if memory ran out, only the journal is.
 #[tactic(auto, unfolding(lard_settling::specs::Steps::settle_begun))]
 pub fn begin(machine: &mut Machine, alloc: Global, rounds: u32) -> Result<(), StepFault>
-    requires sound { IsSound machine.old }
+    requires sound { IsMachineSound machine.old }
     ensures step { Steps (settle_begun machine.old rounds) machine.old machine.new result }
-    ensures sound { OnOk result (IsSound machine.new) }
+    ensures sound { OnOk result (IsMachineSound machine.new) }
 {
     if let Some(what) = limit_reached(machine) {
         return Err(StepFault::Limit(what));
@@ -32,13 +32,13 @@ pub fn begin(machine: &mut Machine, alloc: Global, rounds: u32) -> Result<(), St
 #[tactic(auto, unfolding(lard_settling::specs::Steps::inner_step))]
 pub fn step_inside(machine: &mut Machine, alloc: Global, event: Event) -> Result<(), StepFault>
     requires ruled { HasRule event }
-    requires sound { IsSound machine.old }
+    requires sound { IsMachineSound machine.old }
     requires set { IsSet machine.old.config }
     ensures step { Steps (inner_step machine.old event) machine.old machine.new result }
-    ensures sound { OnOk result (IsSound machine.new) }
+    ensures sound { OnOk result (IsMachineSound machine.new) }
 {
     let (at, events) = (machine.journal.len(), machine.events);
-    step(machine, alloc, event)?;
+    machine_step(machine, alloc, event)?;
     machine.journal.turn_inner(at);
     machine.events = events;
     Ok(())
@@ -46,9 +46,9 @@ pub fn step_inside(machine: &mut Machine, alloc: Global, event: Event) -> Result
 
 /// Ends a settle: so many rounds were done, and so much is left. Without memory the journal is as it was.
 pub fn close(machine: &mut Machine, alloc: Global, rounds: u32, left: u64) -> Result<(), NoMemory>
-    requires sound { IsSound machine.old }
+    requires sound { IsMachineSound machine.old }
     ensures ok { OnOk result (machine.new ≡ settle_closed machine.old rounds left) }
-    ensures sound { OnOk result (IsSound machine.new) }
+    ensures sound { OnOk result (IsMachineSound machine.new) }
     ensures err { OnErr result (machine.new.journal ≡ machine.old.journal) }
 {
     append(&mut machine.journal, alloc, closing(rounds, left))

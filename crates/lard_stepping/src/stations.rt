@@ -3,12 +3,12 @@
 ghost use Rattle.std.specs.Prelude.{◌≡◌, ◌≤◌, [], ◌∷◌, ◌<◌, false, length, None, Some, IfNone, IfSome, IsSome, OnOk, OnErr};
 ghost use Rattle.std.specs.FinMap as table;
 ghost use Rattle.lard_base.specs.declared.limits.TheConstants.{MAX_SEGMENT_BYTES, MAX_SEGMENT_DATA};
-ghost use Rattle.lard_client.specs.Control.{is_armed};
+ghost use Rattle.lard_client.specs.Control.{is_client_armed};
 ghost use Rattle.lard_history.specs.Journal.{request};
 ghost use Rattle.lard_rules.specs.Client.{client_aborts, client_holds, client_injects, client_shuts, client_takes, speaking};
-ghost use Rattle.lard_rules.specs.Machine.{Steps, client_acted, client_does, opened, wrote};
+ghost use Rattle.lard_rules.specs.Machine.{Steps, client_acted, client_acts, machine_opened, machine_wrote};
 ghost use Rattle.lard_stepping.specs.Lent.{without_client};
-ghost use Rattle.lard_stepping.specs.Sound.{HasRoom, IsSet, IsSound};
+ghost use Rattle.lard_stepping.specs.Sound.{HasRoom, IsSet, IsMachineSound};
 ghost use Rattle.lard_rules.specs.Speaking.{listed};
 ghost use Rattle.lard_serving.specs.Bounds.{IsTurn};
 
@@ -33,14 +33,14 @@ pub struct Acting {
 /// Takes the client's station out, where there is one, else `None`. Another stands in for it until it is put back.
 #[tactic(auto, using(crate::proofs::Sound::clients_sound))]
 pub fn take_out(machine: &mut Machine, alloc: Global, c: ConnId) -> Option<Acting>
-    requires sound { IsSound machine.old }
+    requires sound { IsMachineSound machine.old }
     ensures none { IfNone result ((table.get machine.old.clients c ≡ None) × (machine.new ≡ machine.old)) }
     ensures found { IfSome result (λ acting. table.get machine.old.clients c ≡ Some acting.station) }
     ensures same { IfSome result (λ acting. acting.c ≡ c) }
-    ensures armed { IfSome result (λ acting. acting.was_armed ≡ is_armed acting.station.client) }
+    ensures armed { IfSome result (λ acting. acting.was_armed ≡ is_client_armed acting.station.client) }
     ensures after { IfSome result (λ _. machine.new ≡ without_client machine.old c) }
     ensures there { IfSome result (λ _. IsSome (table.get machine.new.clients c)) }
-    ensures sound { IsSound machine.new }
+    ensures sound { IsMachineSound machine.new }
 {
     if machine.clients.get(c.number()).is_none() {
         return None;
@@ -68,11 +68,11 @@ pub fn put_back(
     turn: Turn,
 ) -> Result<(), NoMemory>
     requires room { HasRoom machine.old }
-    requires sound { IsSound machine.old }
+    requires sound { IsMachineSound machine.old }
     requires there { IsSome (table.get machine.old.clients acting.c) }
     requires turn { IsTurn turn }
     ensures ok { OnOk result (machine.new ≡ client_acted machine.old event (listed own) acting.c acting.station.iss acting.was_armed (acting.station.client, turn)) }
-    ensures sound { OnOk result (IsSound machine.new) }
+    ensures sound { OnOk result (IsMachineSound machine.new) }
     ensures err { OnErr result (machine.new.journal ≡ machine.old.journal) }
 {
     let Acting {
@@ -95,7 +95,7 @@ pub fn put_back(
 
 /// The client opens (RFC 9293, 3.10.1) with a window of at least 1 byte, and a maximum segment size of 1 to 1,460.
 /// After `Used`, where it opened before, everything is as it was. Without memory the journal is as it was.
-#[tactic(auto, unfolding(lard_rules::specs::Machine::opened))]
+#[tactic(auto, unfolding(lard_rules::specs::Machine::machine_opened))]
 pub fn open(
     machine: &mut Machine,
     alloc: Global,
@@ -106,10 +106,10 @@ pub fn open(
     mss: u16,
 ) -> Result<(), StepFault>
     requires room { HasRoom machine.old }
-    requires sound { IsSound machine.old }
+    requires sound { IsMachineSound machine.old }
     requires range { (1 ≤ wnd) × (1 ≤ mss) × (mss ≤ MAX_SEGMENT_DATA) }
-    ensures step { Steps (opened machine.old c isn iss wnd mss (table.get machine.old.clients c)) machine.old machine.new result }
-    ensures sound { OnOk result (IsSound machine.new) }
+    ensures step { Steps (machine_opened machine.old c isn iss wnd mss (table.get machine.old.clients c)) machine.old machine.new result }
+    ensures sound { OnOk result (IsMachineSound machine.new) }
 {
     if machine.clients.get(c.number()).is_some() {
         return Err(StepFault::Refused(Refusal::Used(c.number())));
@@ -144,9 +144,9 @@ fn begin(
     mut station: Station,
 ) -> Result<(), NoMemory>
     requires room { HasRoom machine.old }
-    requires sound { IsSound machine.old }
+    requires sound { IsMachineSound machine.old }
     ensures ok { OnOk result (machine.new ≡ client_acted machine.old event (own ∷ []) c station.iss false (speaking [] [] station.client)) }
-    ensures sound { OnOk result (IsSound machine.new) }
+    ensures sound { OnOk result (IsMachineSound machine.new) }
     ensures err { OnErr result (machine.new.journal ≡ machine.old.journal) }
 {
     let turn = lard_station::open(alloc, &mut station.client)?;
@@ -171,10 +171,10 @@ pub fn write_request(
     path: Path,
 ) -> Result<(), StepFault>
     requires room { HasRoom machine.old }
-    requires sound { IsSound machine.old }
+    requires sound { IsMachineSound machine.old }
     requires set { IsSet machine.old.config }
-    ensures step { Steps (wrote machine.old (Event.Get c path) c (request path) (table.get machine.old.clients c)) machine.old machine.new result }
-    ensures sound { OnOk result (IsSound machine.new) }
+    ensures step { Steps (machine_wrote machine.old (Event.Get c path) c (request path) (table.get machine.old.clients c)) machine.old machine.new result }
+    ensures sound { OnOk result (IsMachineSound machine.new) }
 {
     let bytes = lard_station::request(alloc, &path)?;
     write(machine, alloc, Event::Get { c, path }, c, bytes)
@@ -190,17 +190,17 @@ pub fn write_bytes(
     bytes: Bytes,
 ) -> Result<(), StepFault>
     requires room { HasRoom machine.old }
-    requires sound { IsSound machine.old }
+    requires sound { IsMachineSound machine.old }
     requires set { IsSet machine.old.config }
-    ensures step { Steps (wrote machine.old (Event.Write c bytes) c bytes (table.get machine.old.clients c)) machine.old machine.new result }
-    ensures sound { OnOk result (IsSound machine.new) }
+    ensures step { Steps (machine_wrote machine.old (Event.Write c bytes) c bytes (table.get machine.old.clients c)) machine.old machine.new result }
+    ensures sound { OnOk result (IsMachineSound machine.new) }
 {
     let copy = bytes.copy(alloc)?;
     write(machine, alloc, Event::Write { c, bytes }, c, copy)
 }
 
 /// The client writes bytes, unless they pass the stream limit.
-#[tactic(auto, unfolding(lard_rules::specs::Machine::wrote))]
+#[tactic(auto, unfolding(lard_rules::specs::Machine::machine_wrote))]
 fn write(
     machine: &mut Machine,
     alloc: Global,
@@ -209,10 +209,10 @@ fn write(
     bytes: Bytes,
 ) -> Result<(), StepFault>
     requires room { HasRoom machine.old }
-    requires sound { IsSound machine.old }
+    requires sound { IsMachineSound machine.old }
     requires set { IsSet machine.old.config }
-    ensures step { Steps (wrote machine.old event c bytes (table.get machine.old.clients c)) machine.old machine.new result }
-    ensures sound { OnOk result (IsSound machine.new) }
+    ensures step { Steps (machine_wrote machine.old event c bytes (table.get machine.old.clients c)) machine.old machine.new result }
+    ensures sound { OnOk result (IsMachineSound machine.new) }
 {
     let Some(station) = machine.clients.get(c.number()) else {
         return Err(StepFault::Refused(Refusal::NoClient(c.number())));
@@ -232,12 +232,12 @@ fn write(
 
 /// The client closes its side (RFC 9293, 3.10.4). After `NoClient`, where it has not opened, everything is as it was.
 /// Without memory the journal is as it was.
-#[tactic(auto, unfolding(lard_rules::specs::Machine::client_does))]
+#[tactic(auto, unfolding(lard_rules::specs::Machine::client_acts))]
 pub fn shut(machine: &mut Machine, alloc: Global, c: ConnId) -> Result<(), StepFault>
     requires room { HasRoom machine.old }
-    requires sound { IsSound machine.old }
-    ensures step { Steps (client_does machine.old (Event.Shut c) [] c client_shuts (table.get machine.old.clients c)) machine.old machine.new result }
-    ensures sound { OnOk result (IsSound machine.new) }
+    requires sound { IsMachineSound machine.old }
+    ensures step { Steps (client_acts machine.old (Event.Shut c) [] c client_shuts (table.get machine.old.clients c)) machine.old machine.new result }
+    ensures sound { OnOk result (IsMachineSound machine.new) }
 {
     let Some(mut acting) = take_out(machine, alloc, c) else {
         return Err(StepFault::Refused(Refusal::NoClient(c.number())));
@@ -249,12 +249,12 @@ pub fn shut(machine: &mut Machine, alloc: Global, c: ConnId) -> Result<(), StepF
 
 /// The client resets its connection (RFC 9293, 3.10.5). After `NoClient`, where it has not opened, everything is as it
 /// was. Without memory the journal is as it was.
-#[tactic(auto, unfolding(lard_rules::specs::Machine::client_does))]
+#[tactic(auto, unfolding(lard_rules::specs::Machine::client_acts))]
 pub fn abort(machine: &mut Machine, alloc: Global, c: ConnId) -> Result<(), StepFault>
     requires room { HasRoom machine.old }
-    requires sound { IsSound machine.old }
-    ensures step { Steps (client_does machine.old (Event.Abort c) [] c client_aborts (table.get machine.old.clients c)) machine.old machine.new result }
-    ensures sound { OnOk result (IsSound machine.new) }
+    requires sound { IsMachineSound machine.old }
+    ensures step { Steps (client_acts machine.old (Event.Abort c) [] c client_aborts (table.get machine.old.clients c)) machine.old machine.new result }
+    ensures sound { OnOk result (IsMachineSound machine.new) }
 {
     let Some(mut acting) = take_out(machine, alloc, c) else {
         return Err(StepFault::Refused(Refusal::NoClient(c.number())));
@@ -266,7 +266,7 @@ pub fn abort(machine: &mut Machine, alloc: Global, c: ConnId) -> Result<(), Step
 
 /// The schedule puts a packet with these bytes, at most 1,520, on the way from the client to the front end. After
 /// `NoClient`, where it has not opened, everything is as it was. Without memory the journal is as it was.
-#[tactic(auto, unfolding(lard_rules::specs::Machine::client_does))]
+#[tactic(auto, unfolding(lard_rules::specs::Machine::client_acts))]
 pub fn inject(
     machine: &mut Machine,
     alloc: Global,
@@ -274,10 +274,10 @@ pub fn inject(
     bytes: Bytes,
 ) -> Result<(), StepFault>
     requires room { HasRoom machine.old }
-    requires sound { IsSound machine.old }
+    requires sound { IsMachineSound machine.old }
     requires short { length bytes ≤ MAX_SEGMENT_BYTES }
-    ensures step { Steps (client_does machine.old (Event.Inject c bytes) (Rec.Injected c ∷ []) c (λ x. client_injects x bytes) (table.get machine.old.clients c)) machine.old machine.new result }
-    ensures sound { OnOk result (IsSound machine.new) }
+    ensures step { Steps (client_acts machine.old (Event.Inject c bytes) (Rec.Injected c ∷ []) c (λ x. client_injects x bytes) (table.get machine.old.clients c)) machine.old machine.new result }
+    ensures sound { OnOk result (IsMachineSound machine.new) }
 {
     let Some(acting) = take_out(machine, alloc, c) else {
         return Err(StepFault::Refused(Refusal::NoClient(c.number())));
@@ -291,12 +291,12 @@ pub fn inject(
 
 /// The client leaves accepted bytes in its window from now on. After `NoClient`, where it has not opened, everything is
 /// as it was. Without memory the journal is as it was.
-#[tactic(auto, unfolding(lard_rules::specs::Machine::client_does))]
+#[tactic(auto, unfolding(lard_rules::specs::Machine::client_acts))]
 pub fn hold(machine: &mut Machine, alloc: Global, c: ConnId) -> Result<(), StepFault>
     requires room { HasRoom machine.old }
-    requires sound { IsSound machine.old }
-    ensures step { Steps (client_does machine.old (Event.Hold c) [] c client_holds (table.get machine.old.clients c)) machine.old machine.new result }
-    ensures sound { OnOk result (IsSound machine.new) }
+    requires sound { IsMachineSound machine.old }
+    ensures step { Steps (client_acts machine.old (Event.Hold c) [] c client_holds (table.get machine.old.clients c)) machine.old machine.new result }
+    ensures sound { OnOk result (IsMachineSound machine.new) }
 {
     let Some(mut acting) = take_out(machine, alloc, c) else {
         return Err(StepFault::Refused(Refusal::NoClient(c.number())));
@@ -308,12 +308,12 @@ pub fn hold(machine: &mut Machine, alloc: Global, c: ConnId) -> Result<(), StepF
 
 /// The client reads all that lies in its window (RFC 9293, 3.10.3). After `NoClient`, where it has not opened,
 /// everything is as it was. Without memory the journal is as it was.
-#[tactic(auto, unfolding(lard_rules::specs::Machine::client_does))]
+#[tactic(auto, unfolding(lard_rules::specs::Machine::client_acts))]
 pub fn take(machine: &mut Machine, alloc: Global, c: ConnId) -> Result<(), StepFault>
     requires room { HasRoom machine.old }
-    requires sound { IsSound machine.old }
-    ensures step { Steps (client_does machine.old (Event.Take c) [] c client_takes (table.get machine.old.clients c)) machine.old machine.new result }
-    ensures sound { OnOk result (IsSound machine.new) }
+    requires sound { IsMachineSound machine.old }
+    ensures step { Steps (client_acts machine.old (Event.Take c) [] c client_takes (table.get machine.old.clients c)) machine.old machine.new result }
+    ensures sound { OnOk result (IsMachineSound machine.new) }
 {
     let Some(mut acting) = take_out(machine, alloc, c) else {
         return Err(StepFault::Refused(Refusal::NoClient(c.number())));

@@ -3,7 +3,7 @@
 ghost use Rattle.std.specs.Prelude.{◌≡◌, OnOk};
 ghost use Rattle.lard_rules.specs.Bounds.{HasRule};
 ghost use Rattle.lard_rules.specs.Machine.{Steps, happens, limit_reached, machine_step};
-ghost use Rattle.lard_stepping.specs.Sound.{HasRoom, IsSet, IsSound};
+ghost use Rattle.lard_stepping.specs.Sound.{HasRoom, IsSet, IsMachineSound};
 
 use crate::{disks, packets, stations};
 use lard_base::Event;
@@ -13,12 +13,12 @@ use std::alloc::Global;
 /// Does the step of an event, unless a limit was reached before it. After a fault everything is as it was; if memory
 /// ran out, only the journal is.
 #[tactic(auto, unfolding(lard_rules::specs::Machine::machine_step))]
-pub fn step(machine: &mut Machine, alloc: Global, event: Event) -> Result<(), StepFault>
+pub fn machine_step(machine: &mut Machine, alloc: Global, event: Event) -> Result<(), StepFault>
     requires ruled { HasRule event }
-    requires sound { IsSound machine.old }
+    requires sound { IsMachineSound machine.old }
     requires set { IsSet machine.old.config }
     ensures step { Steps (machine_step machine.old event) machine.old machine.new result }
-    ensures sound { OnOk result (IsSound machine.new) }
+    ensures sound { OnOk result (IsMachineSound machine.new) }
 {
     if let Some(what) = limit_reached(machine) {
         return Err(StepFault::Limit(what));
@@ -42,10 +42,10 @@ pub fn limit_reached(machine: &Machine) -> Option<What>
 fn happen(machine: &mut Machine, alloc: Global, event: Event) -> Result<(), StepFault>
     requires ruled { HasRule event }
     requires room { HasRoom machine.old }
-    requires sound { IsSound machine.old }
+    requires sound { IsMachineSound machine.old }
     requires set { IsSet machine.old.config }
     ensures step { Steps (happens machine.old event) machine.old machine.new result }
-    ensures sound { OnOk result (IsSound machine.new) }
+    ensures sound { OnOk result (IsMachineSound machine.new) }
 {
     match event {
         Event::Open {

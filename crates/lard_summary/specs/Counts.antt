@@ -11,21 +11,21 @@ request_step n (rec.Served place c r code size via) = n + 1
 request_step n _ = n
 
 -- how many requests were answered: the responses that were queued
-abbrev pub requests : List Rec → ℕ
-requests J = fold request_step 0 J
+abbrev pub requests_answered : List Rec → ℕ
+requests_answered J = fold request_step 0 J
 
-abbrev pub accepted_step : ℕ → Rec → ℕ
-accepted_step n (rec.Accepted c bytes) = n + length bytes
-accepted_step n _ = n
+abbrev pub accepted_bytes_step : ℕ → Rec → ℕ
+accepted_bytes_step n (rec.Accepted c bytes) = n + length bytes
+accepted_bytes_step n _ = n
 
 -- how many bytes the clients accepted
-abbrev pub accepted : List Rec → ℕ
-accepted J = fold accepted_step 0 J
+abbrev pub accepted_bytes : List Rec → ℕ
+accepted_bytes J = fold accepted_bytes_step 0 J
 
 -- both, with how many packets were sent, and how many records there are
 abbrev pub counts_of : List Rec → Counts
-counts_of J = record { requests = requests J; accepted = accepted J; packets = sent_count J; records = length J }
+counts_of J = record { requests = requests_answered J; accepted = accepted_bytes J; packets = sent_count J; records = length J }
 
 -- the same with one record more
-abbrev pub counted : Counts → Rec → Counts
-counted c r = record { requests = request_step c.requests r; accepted = accepted_step c.accepted r; packets = sent_step c.packets r; records = c.records + 1 }
+abbrev pub summary_counted : Counts → Rec → Counts
+summary_counted c r = record { requests = request_step c.requests r; accepted = accepted_bytes_step c.accepted r; packets = sent_step c.packets r; records = c.records + 1 }

@@ -4,7 +4,7 @@ use Rattle.std.specs.List.{slice_get}
 use Rattle.lard_history.specs.Journal.{sent_count}
 use Rattle.lard_journal.specs.declared.rec.Rec.{Rec}
 use Rattle.lard_journal.specs.declared.rec.Rec.TheVariants as rec
-use Rattle.lard_summary.specs.Counts.{accepted, requests}
+use Rattle.lard_summary.specs.Counts.{accepted_bytes, requests_answered}
 
 abbrev pub word_of : Option Rec → List ℕ
 word_of (Some (rec.Settled rounds)) = codes "settled"
@@ -18,6 +18,6 @@ end_word J = word_of (slice_get J (length J - 1))
 unfoldable pub summary : ℕ → ℕ → List Rec → List ℕ
 summary seed clients J =
     codes "seed " ++ decimal seed ++ codes " clients " ++ decimal clients ++ codes "\n"
-    ++ codes "requests " ++ decimal (requests J) ++ codes "\n"
-    ++ codes "accepted " ++ decimal (accepted J) ++ codes " packets " ++ decimal (sent_count J) ++ codes " records " ++ decimal (length J) ++ codes "\n"
+    ++ codes "requests " ++ decimal (requests_answered J) ++ codes "\n"
+    ++ codes "accepted " ++ decimal (accepted_bytes J) ++ codes " packets " ++ decimal (sent_count J) ++ codes " records " ++ decimal (length J) ++ codes "\n"
     ++ end_word J ++ codes "\n"

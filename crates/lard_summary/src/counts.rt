@@ -1,7 +1,7 @@
 //! What is counted of a journal.
 
 ghost use Rattle.std.specs.Prelude.{◌≡◌, ◌+◌, ◌*◌, ◌<◌, ◌≤◌, ◌^◌};
-ghost use Rattle.lard_summary.specs.Counts.{counted, counts_of};
+ghost use Rattle.lard_summary.specs.Counts.{summary_counted, counts_of};
 
 use lard_journal::Rec;
 
@@ -40,7 +40,7 @@ fn counted(counts: Counts, rec: &Rec) -> Counts
     requires requests { counts.requests ≤ counts.records }
     requires packets { counts.packets ≤ counts.records }
     requires accepted { counts.accepted ≤ counts.records * 2 ^ 64 }
-    ensures counted { result ≡ counted counts rec.now }
+    ensures counted { result ≡ summary_counted counts rec.now }
     ensures requests { result.requests ≤ result.records }
     ensures packets { result.packets ≤ result.records }
     ensures accepted { result.accepted ≤ result.records * 2 ^ 64 }

@@ -3,7 +3,7 @@
 ghost use Rattle.std.specs.Prelude.{◌≡◌, ◌<◌, ◌≤◌, [], length};
 ghost use Rattle.lard_base.specs.declared.limits.TheConstants.{MAX_STREAM_BYTES};
 ghost use Rattle.lard_endpoint.specs.Control.{ControlBlock};
-ghost use Rattle.lard_stay.specs.Work.{IsSound};
+ghost use Rattle.lard_stay.specs.Work.{IsInHandSound};
 
 use lard_base::{Bytes, ConnId, EndpointParts, Epoch, Items, NoMemory, NodeId, Path, Place, Via};
 use lard_cache::Cache;
@@ -97,7 +97,7 @@ fn asks(work: &Work, number: u32, queue: u32, size: u8) -> bool {
 
 /// What is in hand of a stay that begins.
 fn begun(alloc: Global) -> Work
-    ensures sound { (b : ControlBlock) → length b.recv.unread ≤ b.recv.got → IsSound b result }
+    ensures sound { (b : ControlBlock) → length b.recv.unread ≤ b.recv.got → IsInHandSound b result }
     ensures none { (result.batch ≡ []) × (result.jobs ≡ []) }
 {
     Work::new(

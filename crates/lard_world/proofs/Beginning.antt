@@ -12,7 +12,7 @@ use Rattle.lard_base.specs.declared.config.Config.{Config}
 use Rattle.lard_base.specs.declared.config.ConfigFault.{ConfigFault}
 use Rattle.lard_base.specs.declared.config.ConfigFault.TheVariants.{Range}
 use Rattle.lard_base.specs.declared.config.Key.{Key}
-use Rattle.lard_rules.specs.Machine.{start}
+use Rattle.lard_rules.specs.Machine.{machine_start}
 use Rattle.lard_rules.specs.declared.machine.Machine.{Machine}
 use Rattle.lard_world.specs.Runs.{IsRun}
 use Rattle.lard_stepping.specs.Sound.{IsNodeFit, IsSet}
@@ -58,7 +58,7 @@ set-small c usable =
 
 -- ---- the whole
 
-pub begins : (config : Config) (files : List (List ℕ × List ℕ)) (m : Machine) → m ≡ start config files → config_check config ≡ Ok tt
+pub begins : (config : Config) (files : List (List ℕ × List ℕ)) (m : Machine) → m ≡ machine_start config files → config_check config ≡ Ok tt
     → IsFrontSound (no_connections config) → AreBefore 0 (no_connections config).dispatch.books.sets → IsRun m
 begins config files m is usable front clock = subst IsRun (sym is) (record {
   reached = (written config files).begins;

@@ -8,16 +8,16 @@ use Rattle.lard_base.specs.declared.event.Event.{Event}
 use Rattle.lard_base.specs.declared.event.Event.TheVariants as event
 use Rattle.lard_base.specs.declared.place.Place.{Place}
 use Rattle.lard_base.specs.declared.place.Place.TheVariants as place
-use Rattle.lard_client.specs.Control.{ClientBlock, is_armed, written_len}
+use Rattle.lard_client.specs.Control.{ClientBlock, is_client_armed, written_len}
 use Rattle.lard_rules.specs.Bounds.{HasRule}
-use Rattle.lard_rules.specs.Machine.{Steps, client_acted, client_does, client_goes_on, client_put, clocked, completes, delivered, disk_at, from_place, front_acts, front_gave, front_setting, happens, is_no_job, is_no_node, limit_reached, lost, machine_step, node_acts, node_at, node_gave, node_setting, opened, timer, passed, to_client, to_front, to_place, told, told_rows, unless_limit, wrote}
+use Rattle.lard_rules.specs.Machine.{Steps, client_acted, client_acts, client_goes_on, client_put, clocked, completes, delivered, disk_at, from_place, front_acts, front_gave, front_setting, happens, is_no_job, is_no_node, limit_reached, lost, machine_step, node_acts, node_at, node_gave, node_setting, machine_opened, timer, passed, machine_to_client, machine_to_front, to_place, machine_told, told_rows, unless_limit, machine_wrote}
 use Rattle.lard_rules.specs.declared.fault.StepFault.{StepFault}
 use Rattle.lard_rules.specs.declared.fault.StepFault.TheVariants.{Refused, Limit, NoMemory}
 use Rattle.lard_rules.specs.declared.machine.Machine.{Machine}
 use Rattle.lard_laws.specs.Lawful.{IsLawful}
 use Rattle.lard_laws.proofs.Lawful.{journals-lawful}
 use Rattle.lard_world.specs.Runs.{IsRun}
-use Rattle.lard_stepping.specs.Sound.{IsSet, IsSound}
+use Rattle.lard_stepping.specs.Sound.{IsSet, IsMachineSound}
 use Rattle.lard_world.specs.World.{is_short}
 use Rattle.lard_stepping.proofs.Sound.{closed_sound}
 use Rattle.lard_files.specs.Files.{file_at}
@@ -64,8 +64,8 @@ Goes m (Err fault) = Unit {0}
 
 module _ (m : Machine) where
   -- a place acted in w, which is m with what it keeps put back
-  told-goes : (w : Machine) (e : Event) (own : List Rec) (p : Place) (o : Out) → w.config ≡ m.config → w.files ≡ m.files → w.journal ≡ m.journal → GoesOn m (told w e own p o)
-  unfolding told
+  told-goes : (w : Machine) (e : Event) (own : List Rec) (p : Place) (o : Out) → w.config ≡ m.config → w.files ≡ m.files → w.journal ≡ m.journal → GoesOn m (machine_told w e own p o)
+  unfolding machine_told
   told-goes w e own p o config files journal = record {
     config = config;
     files = files;
@@ -85,10 +85,10 @@ module _ (m : Machine) where
   }
 
   client-goes : (e : Event) (own : List Rec) (c iss : ℕ) (was : Bool) (given : ClientBlock × Turn) → GoesOn m (client_acted m e own c iss was given)
-  client-goes e own c iss was given = told-goes (client_put m c (record { client = given.0; iss = iss })) e own (place.Client c) (out_of (place.Client c) c was (is_armed given.0) given.1) refl refl refl
+  client-goes e own c iss was given = told-goes (client_put m c (record { client = given.0; iss = iss })) e own (place.Client c) (out_of (place.Client c) c was (is_client_armed given.0) given.1) refl refl refl
 
   goes-goes : (e : Event) (own : List Rec) (c : ℕ) (x : Station) (given : ClientBlock × Turn) → GoesOn m (client_goes_on m e own c x given)
-  goes-goes e own c x given = client-goes e own c x.iss (is_armed x.client) given
+  goes-goes e own c x given = client-goes e own c x.iss (is_client_armed x.client) given
 
   given-goes : (e : Event) (own : List Rec) (given : FrontState × Out) → GoesOn m (front_gave m e own given)
   given-goes e own given = told-goes (record m { front = given.0 }) e own place.Front given.1 refl refl refl
@@ -108,19 +108,19 @@ module _ (m : Machine) where
   either true x y h k = h
   either false x y h k = k
 
-  opened-goes : (c isn iss wnd mss : ℕ) (o : Option Station) → Goes m (opened m c isn iss wnd mss o)
-  unfolding opened
+  opened-goes : (c isn iss wnd mss : ℕ) (o : Option Station) → Goes m (machine_opened m c isn iss wnd mss o)
+  unfolding machine_opened
   opened-goes c isn iss wnd mss None =
       client-goes (event.Open c isn iss wnd mss) (rec.Opened c isn iss wnd mss ∷ []) c iss false (client_opens c isn wnd mss)
   opened-goes c isn iss wnd mss (Some x) = tt
 
-  wrote-goes : (e : Event) (c : ℕ) (bytes : List ℕ) (o : Option Station) → Goes m (wrote m e c bytes o)
-  unfolding wrote
+  wrote-goes : (e : Event) (c : ℕ) (bytes : List ℕ) (o : Option Station) → Goes m (machine_wrote m e c bytes o)
+  unfolding machine_wrote
   wrote-goes e c bytes None = tt
   wrote-goes e c bytes (Some x) = either (nat_lt m.config.stream (written_len x.client bytes)) _ _ tt (goes-goes e [] c x (client_writes x.client bytes))
 
-  does-goes : (e : Event) (own : List Rec) (c : ℕ) (rule : ClientBlock → ClientBlock × Turn) (o : Option Station) → Goes m (client_does m e own c rule o)
-  unfolding client_does
+  does-goes : (e : Event) (own : List Rec) (c : ℕ) (rule : ClientBlock → ClientBlock × Turn) (o : Option Station) → Goes m (client_acts m e own c rule o)
+  unfolding client_acts
   does-goes e own c rule None = tt
   does-goes e own c rule (Some x) = goes-goes e own c x (rule x.client)
 
@@ -131,11 +131,11 @@ module _ (m : Machine) where
   timer-goes (place.Client d) c (Some x) = goes-goes (event.Timer (place.Client d) c) [] c x (client_timer x.client)
   timer-goes (place.Node n) c (Some x) = either (is_no_node m.config.nodes n) _ _ tt (node-goes (event.Timer (place.Node n) c) [] n (back.Timer c) (node_at m.nodes n))
 
-  front-gets-goes : (k : ℕ) (bytes : List ℕ) (c : ℕ) (o : Option Station) → GoesOn m (to_front m k bytes c o)
+  front-gets-goes : (k : ℕ) (bytes : List ℕ) (c : ℕ) (o : Option Station) → GoesOn m (machine_to_front m k bytes c o)
   front-gets-goes k bytes c None = passed-goes m (event.Deliver k) (rec.Got k ∷ []) refl refl refl
   front-gets-goes k bytes c (Some x) = front-goes (event.Deliver k) (rec.Got k ∷ []) (input.Segment c (record { 0 = x.iss }) bytes)
 
-  client-gets-goes : (k : ℕ) (bytes : List ℕ) (c : ℕ) (o : Option Station) → GoesOn m (to_client m k bytes c o)
+  client-gets-goes : (k : ℕ) (bytes : List ℕ) (c : ℕ) (o : Option Station) → GoesOn m (machine_to_client m k bytes c o)
   client-gets-goes k bytes c None = passed-goes m (event.Deliver k) (rec.Got k ∷ []) refl refl refl
   client-gets-goes k bytes c (Some x) = goes-goes (event.Deliver k) (rec.Got k ∷ []) c x (client_gets x.client (decoded bytes c ToClient))
 
@@ -206,7 +206,7 @@ module _ (m n : Machine) (same : GoesOn m n) where
   own-written : IsWrittenOut m.config m.files n → IsWrittenOut n.config n.files n
   own-written w = subst (λ (config : Config). IsWrittenOut config n.files n) (sym same.config) (subst (λ (files : List (List ℕ × List ℕ)). IsWrittenOut m.config files n) (sym same.files) w)
 
-  pub on-run : IsRun m → IsWrittenOut m.config m.files n → IsSound n → IsRun n
+  pub on-run : IsRun m → IsWrittenOut m.config m.files n → IsMachineSound n → IsRun n
   on-run r w sound = record { reached = own-written w; set = subst IsSet (sym same.config) r.set; sound = sound }
 
 step-written : (m n : Machine) (e : Event) → IsRun m → HasRule e → machine_step m e ≡ Ok n → IsWrittenOut m.config m.files n
@@ -266,7 +266,7 @@ module _ (old new : Machine) (run : IsRun old) where
     still-lawful (Err (Limit what)) steps = subst Lawful (sym steps.0) (run-lawful old run)
 
     -- a world whose memory sufficed has run
-    pub runs-on : (result : Result (Unit {0}) StepFault) → Steps given old new result → OnOk result (IsSound new) → is_short result ≡ false → IsRun new
+    pub runs-on : (result : Result (Unit {0}) StepFault) → Steps given old new result → OnOk result (IsMachineSound new) → is_short result ≡ false → IsRun new
     runs-on (Ok done) steps sound some = on-run old new (leads steps).0 run (leads steps).1 sound
     runs-on (Err NoMemory) steps sound some = absurd (both_ways true some refl)
     runs-on (Err (Refused reason)) steps sound some = subst IsRun (sym steps.0) run

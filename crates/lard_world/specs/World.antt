@@ -12,9 +12,9 @@ is_short (Ok done) = false
 is_short (Err NoMemory) = true
 is_short (Err _) = false
 
-pub record Standing : Type 0 where
+pub record WorldStanding : Type 0 where
   pub machine : Machine
   pub spoiled : Bool  -- memory ran out in a step: no further step is possible
 
-abbrev pub coded_standing : Coded Standing
-coded_standing = code_by _ (coded× machine.the_row.coded coded_bool) (λ s. (s.machine, s.spoiled)) (λ p. record { machine = p.0; spoiled = p.1 }) (λ _. refl)
+abbrev pub coded_world_standing : Coded WorldStanding
+coded_world_standing = code_by _ (coded× machine.the_row.coded coded_bool) (λ s. (s.machine, s.spoiled)) (λ p. record { machine = p.0; spoiled = p.1 }) (λ _. refl)

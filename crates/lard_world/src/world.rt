@@ -3,7 +3,7 @@
 ghost use Rattle.std.specs.Prelude.{◌≡◌, ◌∷◌, ◌++◌, ◌≤◌, [], true, false, replicate, Ok, IfOk, OnOk, OnErr};
 ghost use Rattle.lard_base.specs.Config.{config_check};
 ghost use Rattle.lard_rules.specs.Bounds.{HasRule};
-ghost use Rattle.lard_rules.specs.Machine.{Steps, machine_step, start};
+ghost use Rattle.lard_rules.specs.Machine.{Steps, machine_step, machine_start};
 ghost use Rattle.lard_laws.specs.Lawful.{IsLawful};
 ghost use Rattle.lard_world.specs.World.{is_short};
 ghost use Rattle.lard_files.specs.Files.{file_at};
@@ -34,11 +34,11 @@ pub struct World {
 impl Model for World {
     ghost use Rattle.std.specs.Prelude.{◌≡◌, false};
     ghost use Rattle.lard_world.specs.Runs.{IsRun};
-    ghost use Rattle.lard_world.specs.World.{Standing, coded_standing};
+    ghost use Rattle.lard_world.specs.World.{WorldStanding, coded_world_standing};
 
-    ghost Value = { Standing };
+    ghost Value = { WorldStanding };
 
-    ghost coded = { coded_standing };
+    ghost coded = { coded_world_standing };
 
     ghost view = { λ w. record { machine = w.machine; spoiled = w.spoiled } };
 
@@ -50,7 +50,7 @@ impl World {
     /// Nobody has opened, and nothing was sent. The configuration passes its check. `NoMemory` where memory runs out.
     pub fn new(alloc: Global, config: Config, files: Files) -> Result<World, NoMemory>
         requires usable { config_check config ≡ Ok tt }
-        ensures machine { IfOk result (λ world. world.machine ≡ start config files) }
+        ensures machine { IfOk result (λ world. world.machine ≡ machine_start config files) }
         ensures usable { IfOk result (λ world. world.spoiled ≡ false) }
     {
         let front = lard_front::place::begin(alloc, config)?;
@@ -89,7 +89,7 @@ impl World {
         // Done or not, what happened obeys the laws, with each settle written out as the steps that it did.
         ensures lawful { IsLawful self.old.machine.config (file_at self.old.machine.files) (written_out self.new.machine.journal) }
     {
-        let done = steps::step(&mut self.machine, alloc, event);
+        let done = steps::machine_step(&mut self.machine, alloc, event);
         self.spoiled = is_short(done);
         done
     }
@@ -130,7 +130,7 @@ impl World {
     /// wrote fewer than 16,383 bytes.
     pub fn end_settle(&mut self, alloc: Global, rounds: u32, left: u64) -> Result<(), NoMemory>
         requires usable { self.old.spoiled ≡ false }
-        requires true_count { left ≡ settling_of.left self.old.machine }
+        requires true_count { left ≡ settling_of.settle_left self.old.machine }
         ensures ok { OnOk result (self.new.machine ≡ settle_closed self.old.machine rounds left) }
         ensures usable { OnOk result (self.new.spoiled ≡ false) }
         ensures lawful { IsLawful self.old.machine.config (file_at self.old.machine.files) (written_out self.new.machine.journal) }

@@ -1,7 +1,7 @@
 //! What a client makes of a segment, step by step.
 
 ghost use Rattle.std.specs.Prelude.{◌≡◌, ◌+◌, ◌≤◌, length, IfSome};
-ghost use Rattle.lard_client.specs.Arriving.{begins_after, known, room, fresh_len, ends, accepting, part_of, on_fresh, on_text, on_ack, on_syn, on_rst, on_unacceptable, on_segment, answers_syn, established, on_greeting, heard_open, reply_to, arrived};
+ghost use Rattle.lard_client.specs.Arriving.{client_begins_after, known, client_room, fresh_len, client_ends, accepting, client_part_of, on_fresh, client_on_text, client_on_ack, client_on_syn, client_on_rst, client_on_unacceptable, client_on_segment, answers_syn, established, on_greeting, heard_open, reply_to, client_arrived};
 ghost use Rattle.lard_client.specs.Leaving.{IsHeld, IsWritable};
 ghost use Rattle.lard_segment.specs.Segment.{said};
 
@@ -17,9 +17,9 @@ impl Client {
     /// Takes a segment, and says which part of its data was accepted (RFC 9293, 3.10.7.3 and 3.10.7.4). The reply,
     /// which `emit` never gives, is to be sent where there is one: the client was aborted, and the segment has ACK and
     /// no RST.
-    #[tactic(auto, unfolding(crate::specs::Arriving::arrived))]
+    #[tactic(auto, unfolding(crate::specs::Arriving::client_arrived))]
     pub fn arrive(&mut self, segment: &Segment<'_>) -> Heard
-        ensures rule { (result, self.new) ≡ arrived self.old (said segment.now) }
+        ensures rule { (result, self.new) ≡ client_arrived self.old (said segment.now) }
         ensures part { result.from + result.len ≤ length segment.now.payload.now }
         ensures held { IfSome result.reply (λ ready. IsHeld self.new ready) }
         ensures writable { IfSome result.reply (λ ready. IsWritable ready) }
@@ -91,7 +91,7 @@ impl Client {
 
     /// RFC 9293, 3.10.7.4, first: check sequence number.
     fn on_segment(&mut self, segment: &Segment<'_>) -> Heard
-        ensures { (result, self.new) ≡ on_segment self.old (said segment.now) }
+        ensures { (result, self.new) ≡ client_on_segment self.old (said segment.now) }
     {
         if is_acceptable(segment, self.rcv_nxt(), self.rcv_wnd() as u32) {
             return self.on_rst(segment);
@@ -102,7 +102,7 @@ impl Client {
     /// RFC 9293, 3.10.7.4, first, for a segment that is not acceptable: an ACK is owed, unless it is a reset. At a window
     /// of 0 a valid ACK of one is taken.
     fn on_unacceptable(&mut self, segment: &Segment<'_>) -> Heard
-        ensures { (result, self.new) ≡ on_unacceptable self.old (said segment.now) }
+        ensures { (result, self.new) ≡ client_on_unacceptable self.old (said segment.now) }
     {
         if is_allowed(segment, self.rcv_nxt(), self.rcv_wnd() as u32) {
             self.owed = true;
@@ -116,7 +116,7 @@ impl Client {
 
     /// RFC 9293, 3.10.7.4, second: check the RST bit. The third, on security, has nothing to check here.
     fn on_rst(&mut self, segment: &Segment<'_>) -> Heard
-        ensures { (result, self.new) ≡ on_rst self.old (said segment.now) }
+        ensures { (result, self.new) ≡ client_on_rst self.old (said segment.now) }
     {
         if !segment.flags.rst {
             return self.on_syn(segment);
@@ -131,7 +131,7 @@ impl Client {
 
     /// RFC 9293, 3.10.7.4, fourth: check the SYN bit.
     fn on_syn(&mut self, segment: &Segment<'_>) -> Heard
-        ensures { (result, self.new) ≡ on_syn self.old (said segment.now) }
+        ensures { (result, self.new) ≡ client_on_syn self.old (said segment.now) }
     {
         if segment.flags.syn {
             self.owed = true;
@@ -142,7 +142,7 @@ impl Client {
 
     /// RFC 9293, 3.10.7.4, fifth: check the ACK field. The sixth, on urgent data, is left out: no pointer is read.
     fn on_ack(&mut self, segment: &Segment<'_>) -> Heard
-        ensures { (result, self.new) ≡ on_ack self.old (said segment.now) }
+        ensures { (result, self.new) ≡ client_on_ack self.old (said segment.now) }
     {
         if !segment.flags.ack {
             return Heard::nothing();
@@ -158,7 +158,7 @@ impl Client {
 
     /// RFC 9293, 3.10.7.4, seventh: process the segment text, and eighth: check the FIN bit.
     fn on_text(&mut self, segment: &Segment<'_>) -> Heard
-        ensures { (result, self.new) ≡ on_text self.old (said segment.now) }
+        ensures { (result, self.new) ≡ client_on_text self.old (said segment.now) }
     {
         if segment.payload.is_empty() && !segment.flags.fin {
             return Heard::nothing();
@@ -181,7 +181,7 @@ impl Client {
 
     /// Whether an acceptable segment begins after RCV.NXT.
     fn begins_after(&self, segment: &Segment<'_>) -> bool
-        ensures { result ≡ begins_after self.now (said segment.now) }
+        ensures { result ≡ client_begins_after self.now (said segment.now) }
     {
         segment.seq.in_window(self.rcv_nxt(), self.rcv_wnd() as u32)
             && segment.seq != self.rcv_nxt()
@@ -189,7 +189,7 @@ impl Client {
 
     /// The part of a segment from RCV.NXT on that there is room for.
     fn part_of(&self, segment: &Segment<'_>) -> Heard
-        ensures { result ≡ part_of self.now (said segment.now) }
+        ensures { result ≡ client_part_of self.now (said segment.now) }
     {
         let known = self.rcv_nxt().offset_from(segment.seq);
         let size = segment.payload.len();
@@ -206,14 +206,14 @@ impl Client {
 
     /// How many bytes may be accepted: what the window leaves, and no more than are left of 2^30.
     fn room(&self) -> u32
-        ensures { result ≡ room self.now }
+        ensures { result ≡ client_room self.now }
     {
         (self.rcv_wnd() as u32).min(MAX_STREAM_BYTES - self.accepted)
     }
 
     /// Accepts so many bytes, and the FIN behind them where `fin` is true, which finishes the client's own side.
     fn accept(&mut self, n: u32, fin: bool)
-        requires { n ≤ room self.old }
+        requires { n ≤ client_room self.old }
         ensures { self.new ≡ accepting self.old n fin }
     {
         self.accepted += n;

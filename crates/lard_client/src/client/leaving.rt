@@ -1,8 +1,8 @@
 //! What a client sends.
 
 ghost use Rattle.std.specs.Prelude.{◌≡◌, ◌≤◌, ◌<◌, length, IfSome, IfNone, is_some};
-ghost use Rattle.lard_client.specs.Control.{is_armed, is_established};
-ghost use Rattle.lard_client.specs.Leaving.{IsHeld, IsWritable, syn_ready, piece_ready, ack_ready, reset_ready, refusal, told, owes, owed_ready, data_ready, after_owed, emitted, after_emit, unsaid, timed, after_timer, filled};
+ghost use Rattle.lard_client.specs.Control.{is_client_armed, is_established};
+ghost use Rattle.lard_client.specs.Leaving.{IsHeld, IsWritable, syn_ready, client_piece_ready, client_ack_ready, reset_ready, client_refusal, client_told, client_owes, client_owed_ready, data_ready, client_after_owed, client_emitted, client_after_emit, unsaid, client_timed, client_after_timer, client_filled};
 ghost use Rattle.lard_segment.specs.Segment.{said};
 
 use super::Client;
@@ -17,8 +17,8 @@ impl Client {
     /// then.
     #[tactic(auto, using(crate::proofs::Writable::writable_piece, crate::proofs::Emitting::told_falls))]
     pub fn emit(&mut self) -> Option<Ready>
-        ensures ready { result ≡ emitted self.old }
-        ensures after { self.new ≡ after_emit self.old }
+        ensures ready { result ≡ client_emitted self.old }
+        ensures after { self.new ≡ client_after_emit self.old }
         ensures none { IfNone result (self.new ≡ self.old) }
         ensures falls { IfSome result (λ _. unsaid self.new < unsaid self.old) }
         ensures held { IfSome result (λ ready. IsHeld self.new ready) }
@@ -39,10 +39,10 @@ impl Client {
     /// window, which then counts as sent. `None` exactly where the timer does not run; nothing changes then.
     #[tactic(auto, using(crate::proofs::Writable::writable_piece, lard_send::proofs::Sent::resent_some))]
     pub fn timer(&mut self) -> Option<Ready>
-        ensures ready { result ≡ timed self.old }
-        ensures after { self.new ≡ after_timer self.old }
+        ensures ready { result ≡ client_timed self.old }
+        ensures after { self.new ≡ client_after_timer self.old }
         ensures none { IfNone result (self.new ≡ self.old) }
-        ensures armed { is_some result ≡ is_armed self.old }
+        ensures armed { is_some result ≡ is_client_armed self.old }
         ensures held { IfSome result (λ ready. IsHeld self.new ready) }
         ensures writable { IfSome result (λ ready. IsWritable ready) }
     {
@@ -61,7 +61,7 @@ impl Client {
     pub fn segment<'a>(&self, ready: Ready, buf: &'a mut [u8]) -> Segment<'a>
         requires held { IsHeld self.now ready }
         requires room { ready.len ≤ length buf.old }
-        ensures { said result ≡ filled self.now ready }
+        ensures { said result ≡ client_filled self.now ready }
     {
         self.send.fill(ready.at, ready.len, buf);
         Segment {
@@ -76,8 +76,8 @@ impl Client {
 
     /// Tells a piece and the window.
     fn tell(&mut self, piece: Piece) -> Ready
-        ensures ready { result ≡ piece_ready self.old piece }
-        ensures after { self.new ≡ told self.old }
+        ensures ready { result ≡ client_piece_ready self.old piece }
+        ensures after { self.new ≡ client_told self.old }
     {
         let ready = if piece.syn {
             self.syn()
@@ -91,8 +91,8 @@ impl Client {
     /// Tells an ACK and the window, where an ACK is owed.
     #[tactic(auto, using(crate::proofs::Emitting::owed_falls))]
     fn tell_owed(&mut self) -> Option<Ready>
-        ensures ready { result ≡ owed_ready self.old }
-        ensures after { self.new ≡ after_owed self.old }
+        ensures ready { result ≡ client_owed_ready self.old }
+        ensures after { self.new ≡ client_after_owed self.old }
         ensures none { IfNone result (self.new ≡ self.old) }
         ensures falls { IfSome result (λ _. unsaid self.new < unsaid self.old) }
     {
@@ -106,7 +106,7 @@ impl Client {
 
     /// A segment was told, with the window.
     fn end_owed(&mut self)
-        ensures { self.new ≡ told self.old }
+        ensures { self.new ≡ client_told self.old }
     {
         self.owed = false;
         self.last_window = self.rcv_wnd();
@@ -114,7 +114,7 @@ impl Client {
 
     /// Whether it owes an ACK, also because its window opened since it was told as 0.
     fn owes(&self) -> bool
-        ensures { result ≡ owes self.now }
+        ensures { result ≡ client_owes self.now }
     {
         self.is_established() && (self.owed || (self.last_window == 0 && 0 < self.rcv_wnd()))
     }
@@ -158,7 +158,7 @@ impl Client {
 
     /// A plain ACK.
     fn ack(&self) -> Ready
-        ensures { result ≡ ack_ready self.now }
+        ensures { result ≡ client_ack_ready self.now }
     {
         let at = self.send.total();
         Ready::control(
@@ -180,7 +180,7 @@ impl Client {
 
     /// The RST that answers an acknowledgement number.
     pub(super) fn refusal(&self, ack: Seq) -> Ready
-        ensures { result ≡ refusal self.now ack.0 }
+        ensures { result ≡ client_refusal self.now ack.0 }
     {
         Ready::control(ack, Seq(0), Flags::RST, 0, self.send.total())
     }

@@ -1,7 +1,7 @@
 -- By the shapes of a step.
-use Rattle.lard_law_view.specs.Laws.{Passes}
+use Rattle.lard_law_view.specs.Laws.{PassesTest}
 use Rattle.lard_law_view.proofs.Carried.{step_moves}
 use Rattle.lard_law_view.proofs.connections_go_by_rules.Goals as goal
 
 pub returns : goal.returns
-returns c = λ m n e test view R rule is q. step_moves m n e (Passes test) view R rule is q
+returns c = λ m n e test view R rule is q. step_moves m n e (PassesTest test) view R rule is q

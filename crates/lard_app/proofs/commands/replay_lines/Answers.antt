@@ -1,8 +1,8 @@
 use Rattle.std.proofs.Common.{◌≡◌, ◌⊎◌, ℕ, ◌+◌, ◌-◌, ◌<◌, ◌≤◌, List, take, Ok, Err, refl, sym, ap, ◌∙◌, subst, arith}
 use Rattle.std.specs.Io.KnownBytes.{Appends, IsAtEnd}
 use Rattle.lard_base.specs.declared.limits.TheConstants.{MAX_INPUT_BYTES}
-use Rattle.lard_app.specs.Replay.{Passes, ending, gain, passed}
-use Rattle.lard_app.specs.Seen.{seen}
+use Rattle.lard_app.specs.Replay.{PassesLine, ending, gain, line_passed}
+use Rattle.lard_app.specs.Seen.{replay_seen}
 use Rattle.lard_app.proofs.Passing.{passed-read}
 use Rattle.lard_app.proofs.Reading.{Reading, reading_end, reading_failed, reading_first, reading_more, reading_on, reading_starved, reading_stop}
 use Rattle.lard_app.proofs.commands.replay_lines.Goals as goal
@@ -19,39 +19,39 @@ loop-len-init g c = record {
 pub loop-len-smaller : goal.loop-len-smaller
 loop-len-smaller g c = less where
   less : MAX_INPUT_BYTES + 1 - c.pass.new.self.read < MAX_INPUT_BYTES + 1 - c.loop-len.replay.read
-  less = let counted = (passed-read (seen c.loop-len.replay) (seen c.pass.new.self) _ c.in-Ok.ensures.passed.0).1 in omega (arith, counted, c.loop-len.invariant.reading.going.keeps.read)
+  less = let counted = (passed-read (replay_seen c.loop-len.replay) (replay_seen c.pass.new.self) _ c.in-Ok.ensures.passed.0).1 in omega (arith, counted, c.loop-len.invariant.reading.going.keeps.read)
 
 pub loop-len-preserved : goal.loop-len-preserved
 loop-len-preserved g c = record {
-  reading = reading_on _ _ _ _ c.find_line.new.self (seen c.loop-len.replay) more c.in-Ok-Some.len c.pass-in-Ok.new.self (seen c.pass.new.self) _ (sym c.in-Ok-Some.ensures.found ∙ c.in-Ok-Some.field-0-is) c.pass-in-Ok.ensures
-      (subst (λ (rest : List ℕ). (passed (seen c.loop-len.replay) (take c.in-Ok-Some.len rest) ≡ Ok (seen c.pass.new.self)) × Appends (g.K.Sink.written c.loop-len.sink) (g.K.Sink.written c.pass.new.sink) (gain (seen c.loop-len.replay) (take c.in-Ok-Some.len rest)))
+  reading = reading_on _ _ _ _ c.find_line.new.self (replay_seen c.loop-len.replay) more c.in-Ok-Some.len c.pass-in-Ok.new.self (replay_seen c.pass.new.self) _ (sym c.in-Ok-Some.ensures.found ∙ c.in-Ok-Some.field-0-is) c.pass-in-Ok.ensures
+      (subst (λ (rest : List ℕ). (line_passed (replay_seen c.loop-len.replay) (take c.in-Ok-Some.len rest) ≡ Ok (replay_seen c.pass.new.self)) × Appends (g.K.Sink.written c.loop-len.sink) (g.K.Sink.written c.pass.new.sink) (gain (replay_seen c.loop-len.replay) (take c.in-Ok-Some.len rest)))
       c.rest.ensures.value c.in-Ok.ensures.passed);
   usable = c.in-Ok.ensures.usable;
   agenda = c.in-Ok.ensures.agenda;
   read_faults = c.find_line.ensures.same (λ e. cc) ∙ c.loop-len.invariant.read_faults;
   faults = c.in-Ok.ensures.faults ∙ c.loop-len.invariant.faults;
 } where
-  more : Reading (g.S.Source.left c.args.source.now) (g.S.Source.left c.find_line.new.source) c.find_line.new.self (seen c.loop-len.replay) (g.K.Sink.written c.args.sink.now) (g.K.Sink.written c.loop-len.sink)
+  more : Reading (g.S.Source.left c.args.source.now) (g.S.Source.left c.find_line.new.source) c.find_line.new.self (replay_seen c.loop-len.replay) (g.K.Sink.written c.args.sink.now) (g.K.Sink.written c.loop-len.sink)
   more = reading_more _ _ _ _ _ _ _ _ c.loop-len.invariant.reading c.find_line.ensures.taken c.find_line.ensures.count c.find_line.ensures.bound c.find_line.ensures.most
 
 pub returns-in-Err-clause-reads : goal.returns-in-Err-clause-reads
-returns-in-Err-clause-reads g c = reading_stop _ _ _ _ c.find_line.new.self (seen c.loop-len.replay) more c.in-Ok-Some.len c.in-Err.status (seen c.pass.new.self) _ (sym c.in-Ok-Some.ensures.found ∙ c.in-Ok-Some.field-0-is)
-    (subst (λ (rest : List ℕ). Passes (passed (seen c.loop-len.replay) (take c.in-Ok-Some.len rest)) (gain (seen c.loop-len.replay) (take c.in-Ok-Some.len rest)) (g.K.Sink.written c.loop-len.sink) (g.K.Sink.written c.pass.new.sink) (seen c.pass.new.self) (Err c.in-Err.status))
+returns-in-Err-clause-reads g c = reading_stop _ _ _ _ c.find_line.new.self (replay_seen c.loop-len.replay) more c.in-Ok-Some.len c.in-Err.status (replay_seen c.pass.new.self) _ (sym c.in-Ok-Some.ensures.found ∙ c.in-Ok-Some.field-0-is)
+    (subst (λ (rest : List ℕ). PassesLine (line_passed (replay_seen c.loop-len.replay) (take c.in-Ok-Some.len rest)) (gain (replay_seen c.loop-len.replay) (take c.in-Ok-Some.len rest)) (g.K.Sink.written c.loop-len.sink) (g.K.Sink.written c.pass.new.sink) (replay_seen c.pass.new.self) (Err c.in-Err.status))
     c.rest.ensures.value c.in-Err.ensures.passed) where
-      more : Reading (g.S.Source.left c.args.source.now) (g.S.Source.left c.find_line.new.source) c.find_line.new.self (seen c.loop-len.replay) (g.K.Sink.written c.args.sink.now) (g.K.Sink.written c.loop-len.sink)
+      more : Reading (g.S.Source.left c.args.source.now) (g.S.Source.left c.find_line.new.source) c.find_line.new.self (replay_seen c.loop-len.replay) (g.K.Sink.written c.args.sink.now) (g.K.Sink.written c.loop-len.sink)
       more = reading_more _ _ _ _ _ _ _ _ c.loop-len.invariant.reading c.find_line.ensures.taken c.find_line.ensures.count c.find_line.ensures.bound c.find_line.ensures.most
 
 pub returns-in-Ok-None-clause-reads : goal.returns-in-Ok-None-clause-reads
-returns-in-Ok-None-clause-reads g c = reading_end _ _ _ _ c.find_line.new.self (seen c.loop-len.replay) more (sym c.in-Ok-None.ensures.found ∙ c.in-Ok-None.field-0-is) c.end.result (subst (λ n. IsAtEnd (g.S.Source.left c.find_line.new.source) ⊎ (c.find_line.new.self.read ≡ n + 1)) (sym c.find_line.ensures.most) (c.in-Ok-None.ensures.ended c.in-Ok-None.field-0-is)) (c.end.ensures ∙ ap (ending (seen c.loop-len.replay)) c.rest-in-Ok-None.ensures.value) where
-  more : Reading (g.S.Source.left c.args.source.now) (g.S.Source.left c.find_line.new.source) c.find_line.new.self (seen c.loop-len.replay) (g.K.Sink.written c.args.sink.now) (g.K.Sink.written c.loop-len.sink)
+returns-in-Ok-None-clause-reads g c = reading_end _ _ _ _ c.find_line.new.self (replay_seen c.loop-len.replay) more (sym c.in-Ok-None.ensures.found ∙ c.in-Ok-None.field-0-is) c.end.result (subst (λ n. IsAtEnd (g.S.Source.left c.find_line.new.source) ⊎ (c.find_line.new.self.read ≡ n + 1)) (sym c.find_line.ensures.most) (c.in-Ok-None.ensures.ended c.in-Ok-None.field-0-is)) (c.end.ensures ∙ ap (ending (replay_seen c.loop-len.replay)) c.rest-in-Ok-None.ensures.value) where
+  more : Reading (g.S.Source.left c.args.source.now) (g.S.Source.left c.find_line.new.source) c.find_line.new.self (replay_seen c.loop-len.replay) (g.K.Sink.written c.args.sink.now) (g.K.Sink.written c.loop-len.sink)
   more = reading_more _ _ _ _ _ _ _ _ c.loop-len.invariant.reading c.find_line.ensures.taken c.find_line.ensures.count c.find_line.ensures.bound c.find_line.ensures.most
 
 pub returns-in-Err-Failed-clause-reads : goal.returns-in-Err-Failed-clause-reads
-returns-in-Err-Failed-clause-reads g c = reading_failed _ _ _ _ c.find_line.new.self (seen c.loop-len.replay) more c.in-Err-Failed.ensures.err (subst (λ n. c.find_line.new.self.read ≤ n) (sym c.find_line.ensures.most) c.in-Err-Failed.ensures.within) where
-  more : Reading (g.S.Source.left c.args.source.now) (g.S.Source.left c.find_line.new.source) c.find_line.new.self (seen c.loop-len.replay) (g.K.Sink.written c.args.sink.now) (g.K.Sink.written c.loop-len.sink)
+returns-in-Err-Failed-clause-reads g c = reading_failed _ _ _ _ c.find_line.new.self (replay_seen c.loop-len.replay) more c.in-Err-Failed.ensures.err (subst (λ n. c.find_line.new.self.read ≤ n) (sym c.find_line.ensures.most) c.in-Err-Failed.ensures.within) where
+  more : Reading (g.S.Source.left c.args.source.now) (g.S.Source.left c.find_line.new.source) c.find_line.new.self (replay_seen c.loop-len.replay) (g.K.Sink.written c.args.sink.now) (g.K.Sink.written c.loop-len.sink)
   more = reading_more _ _ _ _ _ _ _ _ c.loop-len.invariant.reading c.find_line.ensures.taken c.find_line.ensures.count c.find_line.ensures.bound c.find_line.ensures.most
 
 pub returns-in-Err-NoMemory-clause-reads : goal.returns-in-Err-NoMemory-clause-reads
-returns-in-Err-NoMemory-clause-reads g c = reading_starved _ _ _ _ c.find_line.new.self (seen c.loop-len.replay) more where
-  more : Reading (g.S.Source.left c.args.source.now) (g.S.Source.left c.find_line.new.source) c.find_line.new.self (seen c.loop-len.replay) (g.K.Sink.written c.args.sink.now) (g.K.Sink.written c.loop-len.sink)
+returns-in-Err-NoMemory-clause-reads g c = reading_starved _ _ _ _ c.find_line.new.self (replay_seen c.loop-len.replay) more where
+  more : Reading (g.S.Source.left c.args.source.now) (g.S.Source.left c.find_line.new.source) c.find_line.new.self (replay_seen c.loop-len.replay) (g.K.Sink.written c.args.sink.now) (g.K.Sink.written c.loop-len.sink)
   more = reading_more _ _ _ _ _ _ _ _ c.loop-len.invariant.reading c.find_line.ensures.taken c.find_line.ensures.count c.find_line.ensures.bound c.find_line.ensures.most

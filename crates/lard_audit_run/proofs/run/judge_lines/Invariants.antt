@@ -2,14 +2,14 @@
 use Rattle.std.proofs.Common.{◌≡◌, ◌+◌, ◌-◌}
 use Rattle.lard_audit_run.specs.declared.auditor.TheConstants.{MAX_REPORT_BYTES}
 use Rattle.lard_audit_run.specs.Audited.{Course}
-use Rattle.lard_audit_run.specs.Seen.{IsAt, IsCounted}
+use Rattle.lard_audit_run.specs.Seen.{IsAt, IsAuditCounted}
 use Rattle.lard_audit_run.proofs.Reading.{Reading}
 use Rattle.lard_audit_run.proofs.run.judge_lines.Given as goal
 
 abbrev pub invariant-loop-len : goal.invariant-loop-len
 invariant-loop-len g l = record {
   course : (s : Course) × IsAt l.auditor s × Reading (g.S.Source.left l.fn.source) (g.S.Source.left l.source) l.lines s;
-  counted : IsCounted l.auditor;
+  counted : IsAuditCounted l.auditor;
   read_faults : g.S.Source.faults l.source ≡ g.S.Source.faults l.fn.source;
 }
 

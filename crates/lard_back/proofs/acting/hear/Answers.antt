@@ -1,7 +1,7 @@
 -- The endpoint takes the segment, and its stay goes on.
 use Rattle.std.proofs.Common.{ap, sym, ◌∙◌}
 use Rattle.lard_back.proofs.Acted.{acted-by, heard-sound, stay-sound}
-use Rattle.lard_back.specs.Place.{env_of, setting_seen}
+use Rattle.lard_back.specs.Place.{node_env_of, node_setting_seen}
 use Rattle.lard_endpoint.specs.Control.{ControlBlock}
 use Rattle.lard_rules.specs.Node.{work_of}
 use Rattle.lard_rules.specs.Stay.{goes_on}
@@ -18,9 +18,9 @@ go-requires-clause-sound c =
 
 pub returns-clause-acted : goal.returns-clause-acted
 returns-clause-acted c =
-    let k = setting_seen c.args.setting.now in
+    let k = node_setting_seen c.args.setting.now in
     let t = c.take_out.new.state in
     acted-by k c.args.state.now t c.args.at.now c.args.was (λ env x. goes_on env (work_of (on_segment x.0 (said c.args.segment.now)).1 x.1)) (c.in-Some.endpoint, c.in-Some.stay)
-    (goes_on (env_of k t c.args.at.now) (work_seen c.arrive-arrival.new.self c.new-work.result)) c.go.new.state c.go.result c.in-Some.ensures.found c.in-Some.ensures.after
-    (ap (goes_on (env_of k t c.args.at.now)) (c.new-work.ensures.seen c.arrive-arrival.new.self ∙ ap (λ (x : Arrival × ControlBlock). work_of x.1 c.in-Some.stay) c.arrive-arrival.ensures))
+    (goes_on (node_env_of k t c.args.at.now) (work_seen c.arrive-arrival.new.self c.new-work.result)) c.go.new.state c.go.result c.in-Some.ensures.found c.in-Some.ensures.after
+    (ap (goes_on (node_env_of k t c.args.at.now)) (c.new-work.ensures.seen c.arrive-arrival.new.self ∙ ap (λ (x : Arrival × ControlBlock). work_of x.1 c.in-Some.stay) c.arrive-arrival.ensures))
     c.requires.sound c.go.ensures.gone

@@ -1,6 +1,6 @@
 -- The endpoint said what it may.
 use Rattle.std.proofs.Common.{◌≡◌, ap, ◌∙◌}
-use Rattle.lard_back.specs.Hand.{rest_of}
+use Rattle.lard_back.specs.Hand.{work_rest}
 use Rattle.lard_back.proofs.Fired.{spoken-is}
 use Rattle.lard_back.proofs.Turning.{of_ok}
 use Rattle.lard_rules.specs.Stay.{Work}
@@ -18,7 +18,7 @@ returns-in-Ok c =
     let before = c.args.segments in
     record {
       done = spoken-is env b c.args.stay before c.spoken-ending.result.0 c.in-Ok.turn c.apart-service.result.1 c.requires.sound
-          (c.apart-service.ensures.rest b ∙ ap rest_of (c.new.ensures.seen b))
+          (c.apart-service.ensures.rest b ∙ ap work_rest (c.new.ensures.seen b))
           (of_ok (λ (turn : Turn). (c.spoken-ending.result.0, turn) ≡ spoken env (service_of b c.apart-service.result.0) before) _ c.in-Ok.turn c.in-Ok.is c.spoken-ending.ensures.turn
           ∙ ap (λ (v : Served). spoken env (service_of b v) before) c.apart-service.ensures.service
           ∙ ap (λ (w : Work). spoken env w.service before) (c.new.ensures.seen b))

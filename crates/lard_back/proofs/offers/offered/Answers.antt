@@ -1,6 +1,6 @@
 -- A connection that is new is adopted, and its stay begins.
 use Rattle.std.proofs.Common.{◌≡◌, Some, None, sym, ◌∙◌}
-use Rattle.lard_back.specs.Place.{setting_seen}
+use Rattle.lard_back.specs.Place.{node_setting_seen}
 use Rattle.lard_back.proofs.Adopted.{found-new, lent-new, new-by, new-sound}
 use Rattle.lard_endpoint.specs.Moving.{adopted}
 use Rattle.lard_back.proofs.offers.offered.Goals as goal
@@ -22,7 +22,7 @@ adopt-requires-clause-adopted c =
 pub returns-in-New-clause-ok : goal.returns-in-New-clause-ok
 returns-in-New-clause-ok c =
     let s = c.args.state.now in
-    let k = setting_seen c.args.setting.now in
+    let k = node_setting_seen c.args.setting.now in
     let at = c.args.at.now in
     let new = sym c.in-New.is ∙ c.in_ok-on_offer.ensures.answer in
     let t = record s { conns = c.take.new.self } in
@@ -32,7 +32,7 @@ returns-in-New-clause-ok c =
 pub returns-in-New-clause-sound : goal.returns-in-New-clause-sound
 returns-in-New-clause-sound c =
     let s = c.args.state.now in
-    let k = setting_seen c.args.setting.now in
+    let k = node_setting_seen c.args.setting.now in
     let at = c.args.at.now in
     let new = sym c.in-New.is ∙ c.in_ok-on_offer.ensures.answer in
     let t = record s { conns = c.take.new.self } in

@@ -5,7 +5,7 @@ use Rattle.lard_rules.specs.declared.stay.Stay.{Stay}
 use Rattle.lard_rules.specs.Node.{work_of}
 use Rattle.lard_rules.specs.Stay.{Work, goes_on, reads_batch}
 use Rattle.lard_rules.specs.Loop.{state_of}
-use Rattle.lard_stay.specs.Work.{env_seen}
+use Rattle.lard_stay.specs.Work.{stay_env_seen}
 use Rattle.lard_back.proofs.offers.start.Goals as goal
 
 pub begin-requires-clause-sound : goal.begin-requires-clause-sound
@@ -18,7 +18,7 @@ begin-requires-clause-sound c =
 
 pub returns-clause-work : goal.returns-clause-work
 returns-clause-work c =
-    let env = env_seen c.args.env.now in
+    let env = stay_env_seen c.args.env.now in
     let b = c.args.endpoint.now in
     let served = c.args.parts.now.served in
     let seen = c.new-work.ensures.seen b ∙ (λ i. work_of b (record { served = served; batch = c.new.ensures i; asks = 0 })) in

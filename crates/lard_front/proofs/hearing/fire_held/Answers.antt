@@ -2,11 +2,11 @@
 use Rattle.std.proofs.Common.{◌≡◌, false, [], IfOk, ap, ◌∙◌, subst}
 use Rattle.lard_endpoint.specs.Leaving.{after_timer, timed}
 use Rattle.lard_rules.specs.declared.front.FrontState.{FrontState}
-use Rattle.lard_front.specs.Hand.{rested_in}
+use Rattle.lard_front.specs.Hand.{front_rested_in}
 use Rattle.lard_front.proofs.Heard.{fires_held_is}
 use Rattle.lard_front.proofs.Lent.{held_on, same_endpoint}
 use Rattle.lard_rules.specs.declared.places.Turn.{Turn}
-use Rattle.lard_rules.specs.Serving.{ready_of, serving, spoken}
+use Rattle.lard_rules.specs.Serving.{serving_ready_of, serving, spoken}
 use Rattle.lard_serving.specs.Serving.{env_seen}
 use Rattle.lard_front.proofs.hearing.fire_held.Goals as goal
 
@@ -20,8 +20,8 @@ returns-clause-turn c =
     let here = same_endpoint s n false h b c.take_out-endpoint.ensures.endpoint in
     let e = c.fired-ending.result.0 in
     let turn = c.in_ok-turn.field-0 in
-    let told = subst (λ r. IfOk r (λ (t : Turn). (e, t) ≡ spoken env (serving (after_timer b) c.count_of-count.result []) (ready_of env (after_timer b) (timed b)))) c.in_ok-turn.was c.fired-ending.ensures.turn in
-    let ruled = told ∙ (λ i. spoken env (serving (after_timer (here i)) (c.count_of-count.ensures i) []) (ready_of env (after_timer (here i)) (timed (here i)))) in
+    let told = subst (λ r. IfOk r (λ (t : Turn). (e, t) ≡ spoken env (serving (after_timer b) c.count_of-count.result []) (serving_ready_of env (after_timer b) (timed b)))) c.in_ok-turn.was c.fired-ending.ensures.turn in
+    let ruled = told ∙ (λ i. spoken env (serving (after_timer (here i)) (c.count_of-count.ensures i) []) (serving_ready_of env (after_timer (here i)) (timed (here i)))) in
     held_on s c.put_back.new.state n h e turn c.turn_here.result
-    (c.put_back.ensures ∙ ap (λ (t : FrontState). rested_in t n false e) c.take_out-endpoint.ensures.after) c.turn_here.ensures.turn
+    (c.put_back.ensures ∙ ap (λ (t : FrontState). front_rested_in t n false e) c.take_out-endpoint.ensures.after) c.turn_here.ensures.turn
     ∙ fires_held_is c.args.around.now s false h (e, turn) ruled

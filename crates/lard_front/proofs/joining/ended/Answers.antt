@@ -1,47 +1,47 @@
 -- The connection that ended is put back, and the head admitted behind it.
 use Rattle.std.proofs.Common.{sym, ap, ◌∙◌}
 use Rattle.lard_rules.specs.Front.{front_ended}
-use Rattle.lard_rules.specs.FrontPlace.{front_env, front_part, out_of}
+use Rattle.lard_rules.specs.FrontPlace.{front_env, front_part, front_out_of}
 use Rattle.lard_front.specs.Hand.{changes}
-use Rattle.lard_rules.specs.FrontSound.{standing}
+use Rattle.lard_rules.specs.FrontSound.{dispatch_standing}
 use Rattle.lard_rules.proofs.FrontEnded.{end-comes}
 use Rattle.lard_front.proofs.Joined.{alone_is, head_waits, headed_is}
 use Rattle.lard_front.proofs.Seated.{then_is}
 use Rattle.lard_front.proofs.Steps.{deed_is}
-use Rattle.lard_front.specs.Place.{setting_seen}
+use Rattle.lard_front.specs.Place.{front_setting_seen}
 use Rattle.lard_front.proofs.joining.ended.Goals as goal
 
 pub returns-in-None-clause-out : goal.returns-in-None-clause-out
 returns-in-None-clause-out c =
-    let k = setting_seen c.args.setting.now in
+    let k = front_setting_seen c.args.setting.now in
     let s = c.args.state.now in
     let n = c.args.c in
     let deed = front_ended (front_env k s n 0) (front_part s n) c.args.from c.args.epoch.0 c.args.last in
     let timed = c.in_ok-timers.ensures ∙ (λ i. changes n (c.armed_at-was.ensures i) (c.armed_at.ensures i)) in
-    deed_is s c.end.new.state n deed c.in_ok-turn.field-0.turn c.out_of.result c.in_ok-turn.ensures.turn (c.out_of.ensures.out ∙ ap (out_of c.in_ok-turn.field-0.turn) timed)
+    deed_is s c.end.new.state n deed c.in_ok-turn.field-0.turn c.out_of.result c.in_ok-turn.ensures.turn (c.out_of.ensures.out ∙ ap (front_out_of c.in_ok-turn.field-0.turn) timed)
     ∙ alone_is k s n deed (sym c.in_ok-turn.ensures.next ∙ c.in-None.is)
 
 pub admits_too-requires-clause-head : goal.admits_too-requires-clause-head
 admits_too-requires-clause-head c =
-    let k = setting_seen c.args.setting.now in
+    let k = front_setting_seen c.args.setting.now in
     let s = c.args.state.now in
     let n = c.args.c in
     let deed = front_ended (front_env k s n 0) (front_part s n) c.args.from c.args.epoch.0 c.args.last in
     (head_waits k s n c.args.from c.args.epoch.0 c.args.last deed c.end.new.state c.in_ok-turn.field-0.turn c.in-Some.next c.requires.sound
-    (end-comes (front_env k s n 0) (front_part s n) c.args.from c.args.epoch.0 c.args.last (standing s.dispatch n) (c.requires.sound.each n)) c.in_ok-turn.ensures.turn (sym c.in-Some.is ∙ c.in_ok-turn.ensures.next)).0
+    (end-comes (front_env k s n 0) (front_part s n) c.args.from c.args.epoch.0 c.args.last (dispatch_standing s.dispatch n) (c.requires.sound.each n)) c.in_ok-turn.ensures.turn (sym c.in-Some.is ∙ c.in_ok-turn.ensures.next)).0
 
 pub admits_too-requires-clause-some : goal.admits_too-requires-clause-some
 admits_too-requires-clause-some c =
-    let k = setting_seen c.args.setting.now in
+    let k = front_setting_seen c.args.setting.now in
     let s = c.args.state.now in
     let n = c.args.c in
     let deed = front_ended (front_env k s n 0) (front_part s n) c.args.from c.args.epoch.0 c.args.last in
     (head_waits k s n c.args.from c.args.epoch.0 c.args.last deed c.end.new.state c.in_ok-turn.field-0.turn c.in-Some.next c.requires.sound
-    (end-comes (front_env k s n 0) (front_part s n) c.args.from c.args.epoch.0 c.args.last (standing s.dispatch n) (c.requires.sound.each n)) c.in_ok-turn.ensures.turn (sym c.in-Some.is ∙ c.in_ok-turn.ensures.next)).1
+    (end-comes (front_env k s n 0) (front_part s n) c.args.from c.args.epoch.0 c.args.last (dispatch_standing s.dispatch n) (c.requires.sound.each n)) c.in_ok-turn.ensures.turn (sym c.in-Some.is ∙ c.in_ok-turn.ensures.next)).1
 
 pub returns-in-Some-clause-out : goal.returns-in-Some-clause-out
 returns-in-Some-clause-out c =
-    let k = setting_seen c.args.setting.now in
+    let k = front_setting_seen c.args.setting.now in
     let s = c.args.state.now in
     let n = c.args.c in
     let deed = front_ended (front_env k s n 0) (front_part s n) c.args.from c.args.epoch.0 c.args.last in

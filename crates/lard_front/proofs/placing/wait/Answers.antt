@@ -2,9 +2,9 @@
 use Rattle.std.proofs.Common.{◌≡◌, [], ◌∷◌, ◌++◌, Some, IfOk, sym, ap, ◌∙◌, subst}
 use Rattle.std.specs.FinMap as table
 use Rattle.lard_rules.specs.declared.front.FrontState.{FrontState}
-use Rattle.lard_rules.specs.Front.{rest_of, rests, turn_here}
+use Rattle.lard_rules.specs.Front.{front_rest, front_rests, turn_here}
 use Rattle.lard_rules.specs.FrontPlace.{front_part, front_put}
-use Rattle.lard_front.specs.Hand.{env_of, waits_at, waits_with}
+use Rattle.lard_front.specs.Hand.{front_env_of, waits_at, waits_with}
 use Rattle.lard_front.proofs.Seated.{did_it, there_after, waited_is}
 use Rattle.lard_handoff_front.specs.declared.row.FrontConn.TheVariants as stage
 use Rattle.lard_journal.specs.declared.rec.Rec.TheVariants as rec
@@ -24,7 +24,7 @@ pub returns-clause-turn : goal.returns-clause-turn
 returns-clause-turn c =
     let s : FrontState = c.args.state.now in
     let n = c.args.around.now.serve.c in
-    let env = env_of c.args.around.now s in
+    let env = front_env_of c.args.around.now s in
     let w = service_of c.args.endpoint c.args.service in
     let turn = c.in_ok-turn.field-0 in
     let e = c.spoken-ending.result.0 in
@@ -34,6 +34,6 @@ returns-clause-turn c =
     told ∙ (λ i. spoken (env_seen c.args.around.now.serve) (service_of c.args.endpoint (record c.args.service { notes = notes i })) (c.new.ensures i)) in
     (λ i. (c.put_back-2.ensures i, c.turn_here.ensures.turn i))
     ∙ ap (λ (t : FrontState). (t, turn_here turn)) (waited_is s n c.requires.lends c.args.path c.set_target.new.rests c.leave_by.new.dispatch c.set_target.ensures c.requires.lends.row c.requires.lends.found e)
-    ∙ ap (λ d. (record (front_put s n (rests (front_part s n) c.requires.lends.row (record (rest_of (table.get s.rests n)) { target = Some c.args.path }) stage.Waiting e)) { dispatch = d }, turn_here turn)) c.leave_by.ensures
+    ∙ ap (λ d. (record (front_put s n (front_rests (front_part s n) c.requires.lends.row (record (front_rest (table.get s.rests n)) { target = Some c.args.path }) stage.Waiting e)) { dispatch = d }, turn_here turn)) c.leave_by.ensures
     ∙ ap (λ (x : Ending × Turn). waits_with env s w c.args.path c.requires.lends.row x) ruled
     ∙ sym (ap (waits_at env s w c.args.path) c.requires.lends.found)

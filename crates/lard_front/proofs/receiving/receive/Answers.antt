@@ -1,7 +1,7 @@
 -- The turn comes to what is done in the step.
 use Rattle.lard_rules.specs.Front.{front_gets}
 use Rattle.lard_rules.specs.FrontPlace.{front_part}
-use Rattle.lard_front.specs.Hand.{env_of}
+use Rattle.lard_front.specs.Hand.{front_env_of}
 use Rattle.lard_front.proofs.Steps.{out_is}
 use Rattle.lard_segment.specs.declared.segment.Dir.TheVariants.{ToCluster}
 use Rattle.lard_segment.specs.Segment.{decoded}
@@ -11,5 +11,5 @@ pub returns-clause-out : goal.returns-clause-out
 returns-clause-out c =
     let s = c.args.state.now in
     let n = c.args.around.now.serve.c in
-    out_is s c.get.new.state n (front_gets (env_of c.args.around.now s) (front_part s n) c.args.bytes.now (decoded c.args.bytes.now n ToCluster)) c.in_ok-turn.turn c.armed_at-was.result
+    out_is s c.get.new.state n (front_gets (front_env_of c.args.around.now s) (front_part s n) c.args.bytes.now (decoded c.args.bytes.now n ToCluster)) c.in_ok-turn.turn c.armed_at-was.result
     c.in_ok-turn.ensures.turn c.armed_at-was.ensures c.out_by.result c.out_by.ensures.out

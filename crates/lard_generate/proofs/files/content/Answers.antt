@@ -1,6 +1,6 @@
 -- Each turn adds one byte.
 use Rattle.std.proofs.Common.{◌+◌, ◌%◌, ◌∷◌, [], ◌++◌, length, sym, ap, ◌∙◌, arith}
-use Rattle.lard_generate.specs.Files.{content_of}
+use Rattle.lard_generate.specs.Files.{generated_content}
 use Rattle.lard_generate.proofs.Listing.{listed_none, listed_more, length-listed}
 use Rattle.lard_generate.proofs.files.content.Goals as goal
 
@@ -11,7 +11,7 @@ pub loop-j-preserved : goal.loop-j-preserved
 loop-j-preserved c =
     c.in_ok-push.ensures.items
     ∙ ap (λ bytes. bytes ++ c.byte.result ∷ []) c.loop-j.invariant
-    ∙ ap (λ byte. content_of c.args.i c.loop-j.j ++ byte ∷ []) c.byte.ensures
+    ∙ ap (λ byte. generated_content c.args.i c.loop-j.j ++ byte ∷ []) c.byte.ensures
     ∙ sym (listed_more (λ j. (c.args.i + j) % 256) c.loop-j.j)
 
 pub returns-clause-size : goal.returns-clause-size

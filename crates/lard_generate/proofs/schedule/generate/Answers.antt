@@ -1,8 +1,8 @@
 -- The parts are as the definition has them, and small enough.
 use Rattle.std.proofs.Common.{◌≡◌, [], ◌∷◌, ◌++◌, length, map, All, sym, ap, ◌∙◌, subst, arith}
 use Rattle.lard_base.specs.declared.event.Event.TheVariants.{Settle}
-use Rattle.lard_generate.specs.Clients.{event_of, rounds}
-use Rattle.lard_generate.specs.Files.{files_of}
+use Rattle.lard_generate.specs.Clients.{action_event, rounds}
+use Rattle.lard_generate.specs.Files.{generated_files}
 use Rattle.lard_generate.specs.Rounds.{AsksForFile}
 use Rattle.lard_generate.proofs.Assembling.{assembled, events_of, parts_are}
 use Rattle.lard_generate.proofs.Ranges.{IsSmall, count_is, small_is, actions_are_below, rounds_are_fit}
@@ -35,14 +35,14 @@ returns c =
     let opens = c.in_ok-all.all in
     let actions = c.in_ok-actions.actions in
     let fates = c.in_ok-fates.field-0 in
-    let files : c.in_ok-files.files ≡ files_of sizes = c.in_ok-files.ensures ∙ ap files_of c.as_slice.ensures in
-    let moves : c.in_ok-events.field-0 ≡ map event_of actions = c.in_ok-events.ensures ∙ ap (map event_of) c.as_slice-2.ensures in
+    let files : c.in_ok-files.files ≡ generated_files sizes = c.in_ok-files.ensures ∙ ap generated_files c.as_slice.ensures in
+    let moves : c.in_ok-events.field-0 ≡ map action_event actions = c.in_ok-events.ensures ∙ ap (map action_event) c.as_slice-2.ensures in
     let last : c.rounds-rounds.result ≡ rounds clients sizes actions =
     c.rounds-rounds.ensures ∙ ap (λ xs. rounds clients xs c.as_slice-4.result.now) c.as_slice-3.ensures ∙ ap (rounds clients sizes) c.as_slice-4.ensures in
     let events : c.push.new.self ≡ events_of clients sizes opens actions fates =
     c.in_ok-push.ensures.ok
     ∙ ap (λ all. all ++ Settle c.rounds-rounds.result ∷ []) (c.in_ok-append-2.ensures.ok ∙ ap (λ all. all ++ fates) (c.in_ok-append.ensures.ok ∙ ap (λ more. opens ++ more) moves))
-    ∙ ap (λ n. opens ++ map event_of actions ++ fates ++ Settle n ∷ []) last in
+    ∙ ap (λ n. opens ++ map action_event actions ++ fates ++ Settle n ∷ []) last in
     parts_are clients sizes opens actions fates c.in_ok-files.files c.push.new.self files events
     ∙ assembled c.args.seed clients c.new-draws.result c.sizes.new.draws c.opens.new.draws c.actions.new.draws c.fates.new.draws sizes opens fates actions
     c.new-draws.ensures c.in_ok-sizes.ensures c.in_ok-all.ensures c.in_ok-actions.ensures c.in_ok-fates.ensures

@@ -1,6 +1,6 @@
 use Rattle.std.proofs.Common.{◌≤◌, [], refl, arith, List}
 use Rattle.lard_base.specs.Config.{room_of}
-use Rattle.lard_counts.specs.Ledger.{admitted, ledger}
+use Rattle.lard_counts.specs.Ledger.{ledger_admitted, ledger}
 use Rattle.lard_journal.specs.declared.rec.Rec.{Rec}
 use Rattle.lard_refusals.specs.Admission.{one_too_many, third_waits}
 use Rattle.lard_refusals.specs.Refusals.{three_nodes}
@@ -13,4 +13,4 @@ returns-clause-one_too_many c h = let many : 3 ≤ 2 = h one_too_many [] refl in
 -- none, one, two and two are admitted
 pub returns-clause-third_waits : goal.returns-clause-third_waits
 returns-clause-third_waits c past later cut =
-    at-every-moment (λ (past : List Rec). admitted (ledger three_nodes past) ≤ room_of three_nodes) third_waits (omega arith, (omega arith, (omega arith, omega arith))) past later cut
+    at-every-moment (λ (past : List Rec). ledger_admitted (ledger three_nodes past) ≤ room_of three_nodes) third_waits (omega arith, (omega arith, (omega arith, omega arith))) past later cut

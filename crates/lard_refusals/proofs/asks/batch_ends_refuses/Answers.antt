@@ -3,11 +3,11 @@ use Rattle.std.specs.FinMap.{get-empty}
 use Rattle.std.specs.Ordering.{nat_cmp}
 use Rattle.std.specs.Prelude.{codes, length, nat_lt}
 use Rattle.lard_laws.specs.AsksAnswers.{ends_due}
-use Rattle.lard_laws.specs.Asks.{Assigned}
+use Rattle.lard_laws.specs.Asks.{LaterAssigned}
 use Rattle.lard_loads.specs.Tally.{Standing, shares_of}
 use Rattle.lard_refusals.proofs.asks.batch_ends_refuses.Goals as goal
 
-abbrev later : Assigned
+abbrev later : LaterAssigned
 later = record { r = 2; path = codes "/a"; size = 1; queue = 0 }
 
 pub returns-clause-batch_over_by_itself : goal.returns-clause-batch_over_by_itself

@@ -2,7 +2,7 @@ use Rattle.std.proofs.Common.{◌≡◌, ℕ, List, [], ◌∷◌, ◌++◌, Ok,
 use Rattle.std.specs.Prelude.{codes}
 use Rattle.lard_history.specs.Journal.{request}
 use Rattle.lard_journal.specs.declared.rec.Rec.TheVariants as rec
-use Rattle.lard_laws.specs.Ways.{BodyGoesOn, marks}
+use Rattle.lard_laws.specs.Ways.{BodyGoesOn, way_marks}
 use Rattle.lard_message.specs.declared.fault.MsgFault.{MsgFault}
 use Rattle.lard_message.specs.declared.message.Body.TheVariants as body
 use Rattle.lard_message.specs.declared.message.Message.{Message}
@@ -34,7 +34,7 @@ returns-clause-asks_for_what_is_next c = (
     (λ m d untouched new.
         let both : ◌≡◌ {A = Result Message MsgFault} (Ok asking) (Ok m) = sym first-ask-says ∙ d in
         let same : asking ≡ m = cc in
-        subst (λ (it : Message). BodyGoesOn two_files (marks (rec.Wrote 1 (request (codes "/a")) ∷ []) it.c) it.body) same ([], its-paths)),
+        subst (λ (it : Message). BodyGoesOn two_files (way_marks (rec.Wrote 1 (request (codes "/a")) ∷ []) it.c) it.body) same ([], its-paths)),
     tt,
   ),
 )

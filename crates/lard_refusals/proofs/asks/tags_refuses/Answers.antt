@@ -1,12 +1,12 @@
 use Rattle.std.proofs.Common.{◌≡◌, ℕ, List, [], ◌∷◌}
 use Rattle.std.specs.Prelude.{codes}
-use Rattle.lard_laws.specs.Asks.{Assigned}
+use Rattle.lard_laws.specs.Asks.{LaterAssigned}
 use Rattle.lard_history.specs.Own.{own}
 use Rattle.lard_message.specs.Reading.{ask_at, counted_at, decoded_message, paths_at}
 use Rattle.lard_refusals.specs.Packets.{tag}
 use Rattle.lard_refusals.proofs.asks.tags_refuses.Goals as goal
 
-abbrev later : ℕ → Assigned
+abbrev later : ℕ → LaterAssigned
 later r = record { r = r; path = codes "/a"; size = 1; queue = 0 }
 
 pub returns-clause-assigned_without_an_ask : goal.returns-clause-assigned_without_an_ask

@@ -2,7 +2,7 @@ use Rattle.std.proofs.Common.{◌≡◌, ℕ, List, [], ◌∷◌, None, Some, r
 use Rattle.std.specs.Prelude.{codes, slice_get}
 use Rattle.lard_base.specs.declared.place.Place.TheVariants.{Front, Node}
 use Rattle.lard_base.specs.declared.place.Via.TheVariants as via
-use Rattle.lard_laws.specs.Ways.{AnswersBy, Marks}
+use Rattle.lard_laws.specs.Ways.{AnswersBy, WayMarks}
 use Rattle.lard_history.specs.Journal.{request}
 use Rattle.lard_refusals.specs.Refusals.{two_files}
 use Rattle.lard_refusals.proofs.Requests.{nothing-asked, request-asks}
@@ -10,10 +10,10 @@ use Rattle.lard_refusals.proofs.asks.ways_refuses.Goals as goal
 use Rattle.lard_request.specs.declared.verdict.Verdict.{Verdict}
 
 -- what is told once the client wrote the request, with these assignments
-abbrev asked : List (List ℕ × ℕ) → Marks
+abbrev asked : List (List ℕ × ℕ) → WayMarks
 asked assigned = record { wrote = request (codes "/a"); served = 0; assigned = assigned }
 
-abbrev blank : Marks
+abbrev blank : WayMarks
 blank = record { wrote = []; served = 0; assigned = [] }
 
 pub returns-clause-answered_and_not_asked : goal.returns-clause-answered_and_not_asked

@@ -3,7 +3,7 @@ use Rattle.std.specs.FinMap.{get-empty}
 use Rattle.std.specs.Ordering.{nat_cmp}
 use Rattle.lard_costs.specs.declared.later.LaterChoice.{LaterChoice}
 use Rattle.lard_costs.specs.Later.{later_choice}
-use Rattle.lard_loads.specs.Tally.{home, home_of, start}
+use Rattle.lard_loads.specs.Tally.{home, home_of, tally_start}
 use Rattle.lard_policy.specs.declared.first.FirstChoice.{FirstChoice}
 use Rattle.lard_policy.specs.First.{first_choice}
 use Rattle.lard_refusals.specs.Refusals.{three_nodes}
@@ -11,7 +11,7 @@ use Rattle.lard_refusals.proofs.Loads.{eight-shares-are-open, first-of-none, its
 use Rattle.lard_refusals.proofs.placing.choices_refuses.Goals as goal
 
 -- the first connection goes to node 1
-first-goes : (home (start 3) 1 ≡ None) × (◌≡◌ {A = FirstChoice} (record { node = 1; add = Some 1; remove = None }) (first_choice (start 3) 0 (record { 0 = 0 }) (record { 0 = 0 }) three_nodes))
+first-goes : (home (tally_start 3) 1 ≡ None) × (◌≡◌ {A = FirstChoice} (record { node = 1; add = Some 1; remove = None }) (first_choice (tally_start 3) 0 (record { 0 = 0 }) (record { 0 = 0 }) three_nodes))
 first-goes = (ap home_of (get-empty nat_cmp 1), sym (first-of-none _ _))
 
 pub returns-clause-tie_to_the_highest : goal.returns-clause-tie_to_the_highest

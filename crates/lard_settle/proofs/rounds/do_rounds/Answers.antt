@@ -2,7 +2,7 @@
 use Rattle.std.proofs.Common.{◌-◌, ◌+◌, ◌∙◌, ℕ, Result, Err, arith, sym, subst}
 use Rattle.std.proofs.lemmas.Result.{err_from_is_err_and}
 use Rattle.lard_rules.specs.declared.machine.Machine.{Machine}
-use Rattle.lard_settling.specs.Settling.{DoesRounds, IsFrontOf, Stop, counted}
+use Rattle.lard_settling.specs.Settling.{DoesRounds, IsFrontOf, Stop, rounds_journal}
 use Rattle.lard_settle.proofs.Going.{rounds-none, rounds-on, rounds-quiet, rounds-stop}
 use Rattle.lard_settle.proofs.Growth.{front-over, rounds-grow}
 use Rattle.lard_settle.proofs.rounds.do_rounds.Goals as goal
@@ -12,7 +12,7 @@ returns-in_err-is_quiet-clause-does c =
     let now = c.loop-done.world.machine in
     let done : ℕ = c.loop-done.done in
     let p = err_from_is_err_and c.from_residual.result c.from_residual.ensures.1 in
-    rw (p.1, p.2) (subst (λ (x : Result (Machine × ℕ) Stop). IsFrontOf now.journal (counted x)) (sym c.loop-done.invariant.does) (rounds-grow (c.args.rounds - done) done now))
+    rw (p.1, p.2) (subst (λ (x : Result (Machine × ℕ) Stop). IsFrontOf now.journal (rounds_journal x)) (sym c.loop-done.invariant.does) (rounds-grow (c.args.rounds - done) done now))
 
 pub returns-then-branch-clause-does : goal.returns-then-branch-clause-does
 returns-then-branch-clause-does c =

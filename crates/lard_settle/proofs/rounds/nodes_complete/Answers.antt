@@ -3,7 +3,7 @@ use Rattle.std.proofs.Common.{◌<◌, ◌≤◌, ◌-◌, ◌+◌, ◌∙◌, �
 use Rattle.std.proofs.lemmas.Result.{err_from_is_err_and}
 use Rattle.lard_base.specs.declared.config.Config.{Config}
 use Rattle.lard_rules.specs.declared.machine.Machine.{Machine}
-use Rattle.lard_settling.specs.Settling.{Does, Stop}
+use Rattle.lard_settling.specs.Settling.{DoesSettle, Stop}
 use Rattle.lard_settle.proofs.Going.{node-on, node-stops, nodes-none}
 use Rattle.lard_settle.proofs.Growth.{front-over}
 use Rattle.lard_settle.proofs.rounds.nodes_complete.Goals as goal
@@ -17,7 +17,7 @@ returns-in_err-node_completes-clause-does c =
     let nodes : ℕ = c.args.world.now.machine.config.nodes in
     let less : at < nodes = subst (λ (q : Config). at < q.nodes) c.config.ensures c.loop-at-test.true in
     let p = err_from_is_err_and c.from_residual.result c.from_residual.ensures.1 in
-    rw (p.1, p.2) (subst (λ (x : Result Machine Stop). Does x new (Err fault)) (sym c.loop-at.invariant.does)
+    rw (p.1, p.2) (subst (λ (x : Result Machine Stop). DoesSettle x new (Err fault)) (sym c.loop-at.invariant.does)
     (node-stops now (at + 1) (nodes - at) (nodes - (at + 1)) (omega (arith, less)) new fault c.in_err-node_completes.ensures.does))
 
 pub loop-at-preserved : goal.loop-at-preserved

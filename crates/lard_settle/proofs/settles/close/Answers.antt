@@ -3,7 +3,7 @@ use Rattle.std.proofs.Common.{List, sym, subst}
 use Rattle.std.proofs.lemmas.Result.{err_from_is_err_and}
 use Rattle.lard_journal.specs.declared.rec.Rec.{Rec}
 use Rattle.lard_rules.specs.declared.machine.Machine.{Machine}
-use Rattle.lard_settling.specs.Settling.{IsFrontOf, left}
+use Rattle.lard_settling.specs.Settling.{IsFrontOf, settle_left}
 use Rattle.lard_settling.specs.Steps.{settle_closed}
 use Rattle.lard_settle.proofs.Growth.{closed-front, front-same}
 use Rattle.lard_settle.proofs.settles.close.Goals as goal
@@ -12,13 +12,13 @@ pub returns-in_err-count-clause-settled : goal.returns-in_err-count-clause-settl
 returns-in_err-count-clause-settled c =
     let m = c.args.world.now.machine in
     let p = err_from_is_err_and c.from_residual.result c.from_residual.ensures.1 in
-    rw (p.1, p.2) (closed-front m c.args.done (left m))
+    rw (p.1, p.2) (closed-front m c.args.done (settle_left m))
 
 pub returns-in_err-end_settle-clause-settled : goal.returns-in_err-end_settle-clause-settled
 returns-in_err-end_settle-clause-settled c =
     let m = c.args.world.now.machine in
     let p = err_from_is_err_and c.from_residual-in_err-end_settle.result c.from_residual-in_err-end_settle.ensures.1 in
-    rw (p.1, p.2) (subst (λ (J : List Rec). IsFrontOf J (settle_closed m c.args.done (left m)).journal) (sym c.in_err-end_settle.ensures.err) (closed-front m c.args.done (left m)))
+    rw (p.1, p.2) (subst (λ (J : List Rec). IsFrontOf J (settle_closed m c.args.done (settle_left m)).journal) (sym c.in_err-end_settle.ensures.err) (closed-front m c.args.done (settle_left m)))
 
 pub returns-in_err-end_settle-clause-grows : goal.returns-in_err-end_settle-clause-grows
 returns-in_err-end_settle-clause-grows c =

@@ -3,7 +3,7 @@ use Rattle.std.proofs.Common.{◌∙◌, rules, Result, Err, sym, ap, subst}
 use Rattle.std.proofs.lemmas.Result.{err_from_is_err_and}
 use Rattle.std.specs.Vec.Iter.{into_iter_items}
 use Rattle.lard_rules.specs.declared.machine.Machine.{Machine}
-use Rattle.lard_settling.specs.Settling.{Does, Stop, all_inner}
+use Rattle.lard_settling.specs.Settling.{DoesSettle, Stop, all_inner}
 use Rattle.lard_settling.specs.Steps.{inner_step}
 use Rattle.lard_settle.proofs.Going.{inner-config, inner-front, inner-none, inner-on, inner-stops, undone-front}
 use Rattle.lard_settle.proofs.Growth.{front-over}
@@ -34,7 +34,7 @@ returns-in_err-inner-clause-does c =
     let fault = c.in_err-inner.field-0.0 in
     let left = c.in-Some.ensures.steps.0 in
     let p = err_from_is_err_and c.from_residual.result c.from_residual.ensures.1 in
-    rw (p.1, p.2) (subst (λ (x : Result Machine Stop). Does x new (Err fault)) (sym (c.loop-event.invariant.does ∙ ap (all_inner now) left))
+    rw (p.1, p.2) (subst (λ (x : Result Machine Stop). DoesSettle x new (Err fault)) (sym (c.loop-event.invariant.does ∙ ap (all_inner now) left))
     (inner-stops now c.in-Some.event later new fault c.in_err-inner.ensures.step))
 
 pub returns-in_err-inner-clause-grows : goal.returns-in_err-inner-clause-grows

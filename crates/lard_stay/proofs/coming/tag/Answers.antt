@@ -2,7 +2,7 @@
 use Rattle.std.proofs.Common.{◌≡◌, ◌+◌, ◌≤◌, length, sym, ap, ◌∙◌, arith}
 use Rattle.std.proofs.lemmas.List.{length_push}
 use Rattle.lard_rules.specs.Stay.{starts_at, starts_one}
-use Rattle.lard_stay.specs.Work.{env_seen, work_seen}
+use Rattle.lard_stay.specs.Work.{stay_env_seen, work_seen}
 use Rattle.lard_stay.proofs.Entering.{entered_more, next_at, sound_tagged, starts-more}
 use Rattle.lard_stay.proofs.coming.tag.Goals as goal
 use Rattle.lard_stay.proofs.coming.tag.Goals.{then-branch, else-branch}
@@ -10,7 +10,7 @@ use Rattle.lard_stay.proofs.coming.tag.Goals.{then-branch, else-branch}
 pub loop-entry-preserved : goal.loop-entry-preserved
 loop-entry-preserved c =
     let now = c.loop-entry in
-    let env = env_seen c.args.env.now in
+    let env = stay_env_seen c.args.env.now in
     let b = c.args.endpoint.now in
     let nodes = c.args.nodes.now in
     let done = c.in_ok-start_named.field-0 in

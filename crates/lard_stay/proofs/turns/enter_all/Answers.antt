@@ -2,14 +2,14 @@
 use Rattle.std.proofs.Common.{length, sym, ap, ◌∙◌, arith}
 use Rattle.std.proofs.lemmas.List.{length_push}
 use Rattle.lard_rules.specs.Stay.{enters}
-use Rattle.lard_stay.specs.Work.{env_seen, work_seen}
+use Rattle.lard_stay.specs.Work.{stay_env_seen, work_seen}
 use Rattle.lard_stay.proofs.Entering.{entered_more, enters-more, starts_few, starts_more, starts_same}
 use Rattle.lard_stay.proofs.turns.enter_all.Goals as goal
 
 pub loop-verdict-preserved : goal.loop-verdict-preserved
 loop-verdict-preserved c =
     let now = c.loop-verdict in
-    let env = env_seen c.args.env.now in
+    let env = stay_env_seen c.args.env.now in
     let later = c.next.new.self.rest.items in
     let here = c.in_ok-here.here in
     let left = c.in-Some.ensures.steps.0 in

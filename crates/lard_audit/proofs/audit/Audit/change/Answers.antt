@@ -4,7 +4,7 @@ use Rattle.std.proofs.lemmas.Bool.{and_parts}
 use Rattle.lard_journal.specs.declared.rec.Rec.TheVariants as rec
 use Rattle.lard_loads.specs.Tally.{home}
 use Rattle.lard_audit.specs.Books.{is_inside}
-use Rattle.lard_audit.specs.Sound.{first_at, keeps_later}
+use Rattle.lard_audit.specs.Sound.{audit_first_at, keeps_later}
 use Rattle.lard_audit.specs.State.{broken_at}
 use Rattle.lard_audit.proofs.Auditing.{Keeps, first-changed, first-due, keeps-all, none-due, room-kept}
 use Rattle.lard_audit.proofs.Keeping.{at-most, same-first}
@@ -36,7 +36,7 @@ assign_first-requires-clause-due c =
 
 pub assign_first-requires-clause-choice : goal.assign_first-requires-clause-choice
 assign_first-requires-clause-choice c =
-    same-first (first_at c.args.self.now.books.config c.args.self.now.books.time c.args.self.now.books.loads c.args.self.now.books.sets c.in-AssignedFirst.path) c.in-AssignedFirst.n c.in-AssignedFirst.add c.in-AssignedFirst.remove
+    same-first (audit_first_at c.args.self.now.books.config c.args.self.now.books.time c.args.self.now.books.loads c.args.self.now.books.sets c.in-AssignedFirst.path) c.in-AssignedFirst.n c.in-AssignedFirst.add c.in-AssignedFirst.remove
     (keeps-all c.args.self.now (rec.AssignedFirst c.in-AssignedFirst.c c.in-AssignedFirst.r c.in-AssignedFirst.path c.in-AssignedFirst.n c.in-AssignedFirst.add c.in-AssignedFirst.remove) (ap (broken_at c.args.self.now) (sym c.in-AssignedFirst.is) ∙ c.requires)).chosen
 
 pub assign_later-requires : goal.assign_later-requires

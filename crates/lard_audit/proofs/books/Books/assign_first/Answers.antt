@@ -6,16 +6,16 @@ use Rattle.lard_loads.specs.Tally.{Tally}
 use Rattle.lard_policy.specs.declared.first.FirstChoice.{FirstChoice}
 use Rattle.lard_sets.specs.Sets.{has_place, removed, touched}
 use Rattle.lard_sets.specs.declared.sets.ServerSet.{ServerSet}
-use Rattle.lard_audit.specs.Books.{AreSound, Books}
-use Rattle.lard_audit.specs.Sound.{first_at}
+use Rattle.lard_audit.specs.Books.{AreSound, AuditBooks}
+use Rattle.lard_audit.specs.Sound.{audit_first_at}
 use Rattle.lard_audit.proofs.Keeping.{first_books, first-node, first-sound}
 use Rattle.lard_audit.proofs.books.Books.assign_first.Goals as goal
 
 pub connect-requires-clause-node : goal.connect-requires-clause-node
 connect-requires-clause-node c =
-    let old : Books = record { config = c.self.inside.config; time = c.self.inside.time; loads = c.self.inside.loads; sets = c.self.inside.sets; due = c.self.inside.due } in
-    let chosen : first_at old.config old.time old.loads old.sets c.args.path.now ≡ record { node = c.args.n; add = c.args.add; remove = c.args.remove } =
-    subst (λ (b : Books). first_at b.config b.time b.loads b.sets c.args.path.now ≡ record { node = c.args.n; add = c.args.add; remove = c.args.remove }) (sym c.self.view_is) c.requires.choice in
+    let old : AuditBooks = record { config = c.self.inside.config; time = c.self.inside.time; loads = c.self.inside.loads; sets = c.self.inside.sets; due = c.self.inside.due } in
+    let chosen : audit_first_at old.config old.time old.loads old.sets c.args.path.now ≡ record { node = c.args.n; add = c.args.add; remove = c.args.remove } =
+    subst (λ (b : AuditBooks). audit_first_at b.config b.time b.loads b.sets c.args.path.now ≡ record { node = c.args.n; add = c.args.add; remove = c.args.remove }) (sym c.self.view_is) c.requires.choice in
     first-node old c.args.path.now c.args.n c.args.add c.args.remove c.self.invariant.1 chosen
 
 pub join-requires : goal.join-requires
@@ -25,10 +25,10 @@ join-requires c =
 
 pub invariant_of-self-in-Some : goal.invariant_of-self-in-Some
 invariant_of-self-in-Some c =
-    let old : Books = record { config = c.self.inside.config; time = c.self.inside.time; loads = c.self.inside.loads; sets = c.self.inside.sets; due = c.self.inside.due } in
-    let chosen : first_at old.config old.time old.loads old.sets c.args.path.now ≡ record { node = c.args.n; add = c.args.add; remove = c.args.remove } =
-    subst (λ (b : Books). first_at b.config b.time b.loads b.sets c.args.path.now ≡ record { node = c.args.n; add = c.args.add; remove = c.args.remove }) (sym c.self.view_is) c.requires.choice in
-    let due : c.self.inside.due ≡ Some c.args.c = subst (λ (b : Books). b.due ≡ Some c.args.c) (sym c.self.view_is) c.requires.due in
+    let old : AuditBooks = record { config = c.self.inside.config; time = c.self.inside.time; loads = c.self.inside.loads; sets = c.self.inside.sets; due = c.self.inside.due } in
+    let chosen : audit_first_at old.config old.time old.loads old.sets c.args.path.now ≡ record { node = c.args.n; add = c.args.add; remove = c.args.remove } =
+    subst (λ (b : AuditBooks). audit_first_at b.config b.time b.loads b.sets c.args.path.now ≡ record { node = c.args.n; add = c.args.add; remove = c.args.remove }) (sym c.self.view_is) c.requires.choice in
+    let due : c.self.inside.due ≡ Some c.args.c = subst (λ (b : AuditBooks). b.due ≡ Some c.args.c) (sym c.self.view_is) c.requires.due in
     let choice : FirstChoice = record { node = c.args.n; add = c.args.add; remove = c.args.remove } in
     let touch : c.touch.new.self ≡ touched c.self.inside.sets c.args.path.now = c.in_ok-touch.ensures.ok ∙ ap (touched c.self.inside.sets) c.as_slice.ensures in
     let join : c.join.new.sets ≡ joined (touched c.self.inside.sets c.args.path.now) c.args.path.now c.args.add c.self.inside.time =
@@ -46,10 +46,10 @@ invariant_of-self-in-Some c =
 
 pub invariant_of-self-in_default : goal.invariant_of-self-in_default
 invariant_of-self-in_default c =
-    let old : Books = record { config = c.self.inside.config; time = c.self.inside.time; loads = c.self.inside.loads; sets = c.self.inside.sets; due = c.self.inside.due } in
-    let chosen : first_at old.config old.time old.loads old.sets c.args.path.now ≡ record { node = c.args.n; add = c.args.add; remove = c.args.remove } =
-    subst (λ (b : Books). first_at b.config b.time b.loads b.sets c.args.path.now ≡ record { node = c.args.n; add = c.args.add; remove = c.args.remove }) (sym c.self.view_is) c.requires.choice in
-    let due : c.self.inside.due ≡ Some c.args.c = subst (λ (b : Books). b.due ≡ Some c.args.c) (sym c.self.view_is) c.requires.due in
+    let old : AuditBooks = record { config = c.self.inside.config; time = c.self.inside.time; loads = c.self.inside.loads; sets = c.self.inside.sets; due = c.self.inside.due } in
+    let chosen : audit_first_at old.config old.time old.loads old.sets c.args.path.now ≡ record { node = c.args.n; add = c.args.add; remove = c.args.remove } =
+    subst (λ (b : AuditBooks). audit_first_at b.config b.time b.loads b.sets c.args.path.now ≡ record { node = c.args.n; add = c.args.add; remove = c.args.remove }) (sym c.self.view_is) c.requires.choice in
+    let due : c.self.inside.due ≡ Some c.args.c = subst (λ (b : AuditBooks). b.due ≡ Some c.args.c) (sym c.self.view_is) c.requires.due in
     let choice : FirstChoice = record { node = c.args.n; add = c.args.add; remove = c.args.remove } in
     let touch : c.touch.new.self ≡ touched c.self.inside.sets c.args.path.now = c.in_ok-touch.ensures.ok ∙ ap (touched c.self.inside.sets) c.as_slice.ensures in
     let join : c.join.new.sets ≡ joined (touched c.self.inside.sets c.args.path.now) c.args.path.now c.args.add c.self.inside.time =

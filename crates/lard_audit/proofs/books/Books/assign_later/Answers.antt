@@ -5,17 +5,17 @@ use Rattle.lard_dispatch.proofs.Places.{place-own}
 use Rattle.lard_loads.specs.Tally.{Tally, home}
 use Rattle.lard_sets.specs.Sets.{has_place, touched}
 use Rattle.lard_sets.specs.declared.sets.ServerSet.{ServerSet}
-use Rattle.lard_audit.specs.Books.{AreSound, Books}
+use Rattle.lard_audit.specs.Books.{AreSound, AuditBooks}
 use Rattle.lard_audit.specs.Sound.{keeps_later}
 use Rattle.lard_audit.proofs.Keeping.{IsLater, is-later, later_books, later-node, later-sound}
 use Rattle.lard_audit.proofs.books.Books.assign_later.Goals as goal
 
 pub share-requires-clause-node : goal.share-requires-clause-node
 share-requires-clause-node c =
-    let old : Books = record { config = c.self.inside.config; time = c.self.inside.time; loads = c.self.inside.loads; sets = c.self.inside.sets; due = c.self.inside.due } in
+    let old : AuditBooks = record { config = c.self.inside.config; time = c.self.inside.time; loads = c.self.inside.loads; sets = c.self.inside.sets; due = c.self.inside.due } in
     let later : IsLater old c.args.c c.args.path.now c.args.n c.args.add c.args.size c.args.queue =
     is-later old c.args.c c.args.path.now c.args.n c.args.add c.args.size c.args.queue
-    (subst (λ (b : Books). keeps_later b.config b.loads b.sets (home b.loads c.args.c) c.args.c c.args.path.now c.args.n c.args.add c.args.size c.args.queue ≡ true) (sym c.self.view_is) c.requires) in
+    (subst (λ (b : AuditBooks). keeps_later b.config b.loads b.sets (home b.loads c.args.c) c.args.c c.args.path.now c.args.n c.args.add c.args.size c.args.queue ≡ true) (sym c.self.view_is) c.requires) in
     later-node old c.args.c c.args.path.now c.args.n c.args.add c.args.size c.args.queue c.self.invariant.1 later
 
 pub join-requires : goal.join-requires
@@ -25,10 +25,10 @@ join-requires c =
 
 pub invariant_of-self-2 : goal.invariant_of-self-2
 invariant_of-self-2 c =
-    let old : Books = record { config = c.self.inside.config; time = c.self.inside.time; loads = c.self.inside.loads; sets = c.self.inside.sets; due = c.self.inside.due } in
+    let old : AuditBooks = record { config = c.self.inside.config; time = c.self.inside.time; loads = c.self.inside.loads; sets = c.self.inside.sets; due = c.self.inside.due } in
     let later : IsLater old c.args.c c.args.path.now c.args.n c.args.add c.args.size c.args.queue =
     is-later old c.args.c c.args.path.now c.args.n c.args.add c.args.size c.args.queue
-    (subst (λ (b : Books). keeps_later b.config b.loads b.sets (home b.loads c.args.c) c.args.c c.args.path.now c.args.n c.args.add c.args.size c.args.queue ≡ true) (sym c.self.view_is) c.requires) in
+    (subst (λ (b : AuditBooks). keeps_later b.config b.loads b.sets (home b.loads c.args.c) c.args.c c.args.path.now c.args.n c.args.add c.args.size c.args.queue ≡ true) (sym c.self.view_is) c.requires) in
     let touch : c.touch.new.self ≡ touched c.self.inside.sets c.args.path.now = c.in_ok-touch.ensures.ok ∙ ap (touched c.self.inside.sets) c.as_slice.ensures in
     let join : c.join.new.sets ≡ joined (touched c.self.inside.sets c.args.path.now) c.args.path.now c.args.add c.self.inside.time =
     c.join.ensures ∙ ap (λ (s : List (List ℕ × ServerSet)). joined s c.as_slice-2.result.now c.args.add c.self.inside.time) touch

@@ -1,9 +1,9 @@
 -- What holds between two calls is kept.
 use Rattle.std.proofs.Common.{◌≡◌, ℕ, true, List, ap, sym, subst, ◌∙◌, arith}
-use Rattle.lard_loads.specs.Tally.{Tally, closed, has_other_open}
+use Rattle.lard_loads.specs.Tally.{Tally, tally_closed, has_other_open}
 use Rattle.lard_sets.specs.declared.sets.ServerSet.{ServerSet}
 use Rattle.lard_dispatch.specs.Books.{Dispatcher}
-use Rattle.lard_dispatch.specs.Sound.{IsNode, IsSound}
+use Rattle.lard_dispatch.specs.Sound.{IsNode, IsDispatcherSound}
 use Rattle.lard_dispatch.proofs.Soundness.{closing-kept}
 use Rattle.lard_dispatch.proofs.dispatch.Dispatch.close.Goals as goal
 
@@ -14,6 +14,6 @@ invariant_of-self c =
     let other : has_other_open c.self.inside.loads c.args.n ≡ true = ap (λ (d : Dispatcher). has_other_open d.books.loads c.args.n) c.self.view_is ∙ c.requires.other in
     let node : IsNode c.self.inside.config.nodes c.args.n = (omega (arith, c.number-number.ensures.value, c.number-number.ensures.range), omega (arith, nodes, c.requires.node)) in (
       c.self.invariant.0,
-      subst (λ (t : Tally). IsSound (record old { books = record old.books { loads = t; sets = c.close-2.new.self } })) (sym c.close.ensures)
-          (subst (λ (all : List (List ℕ × ServerSet)). IsSound (record old { books = record old.books { loads = closed c.self.inside.loads c.args.n; sets = all } })) (sym c.close-2.ensures) (closing-kept old c.args.n c.self.invariant.1 node other)),
+      subst (λ (t : Tally). IsDispatcherSound (record old { books = record old.books { loads = t; sets = c.close-2.new.self } })) (sym c.close.ensures)
+          (subst (λ (all : List (List ℕ × ServerSet)). IsDispatcherSound (record old { books = record old.books { loads = tally_closed c.self.inside.loads c.args.n; sets = all } })) (sym c.close-2.ensures) (closing-kept old c.args.n c.self.invariant.1 node other)),
     )

@@ -9,8 +9,8 @@ use Rattle.lard_sets.specs.Sets.{has_place, set_of, touched}
 use Rattle.lard_policy.specs.declared.first.FirstChoice.{FirstChoice}
 use Rattle.lard_dispatch.specs.declared.line.Waiting.{Waiting}
 use Rattle.lard_dispatch.specs.Books.{Books, Dispatcher}
-use Rattle.lard_dispatch.specs.Calls.{admitted_with, after_ended, choice_at, ended_answer, next_admitted, next_answer, released_from}
-use Rattle.lard_dispatch.specs.Sound.{AreApart, AreBefore, IsSound}
+use Rattle.lard_dispatch.specs.Calls.{admitted_with, after_ended, choice_at, ended_answer, next_admitted, next_admission, released_from}
+use Rattle.lard_dispatch.specs.Sound.{AreApart, AreBefore, IsDispatcherSound}
 use Rattle.lard_dispatch.proofs.Places.{place-own, placed, placed-books}
 use Rattle.lard_dispatch.proofs.Servers.{Sets, set_of-touched}
 use Rattle.lard_dispatch.proofs.Soundness.{admission, before-ended, empty-line, free-first, is-in, released-room, rested, same-first}
@@ -24,7 +24,7 @@ invariant_of-self c =
     let in_ : is_some (map.get c.self.inside.loads.standings c.args.c) ≡ true = is-in c.self.inside.loads c.args.c (ap (λ (d : Dispatcher). is_some (home d.books.loads c.args.c)) c.self.view_is ∙ c.requires.admitted) in
     let none : c.self.inside.line ≡ [] = empty-line c.self.inside.line (sym (ap option_copied c.in_default.is) ∙ c.first.ensures) in (
       c.self.invariant.0,
-      subst (λ (t : Tally). IsSound (record { config = c.self.inside.config; books = record { loads = t; sets = c.self.inside.sets; line = c.self.inside.line } })) (sym c.release.ensures)
+      subst (λ (t : Tally). IsDispatcherSound (record { config = c.self.inside.config; books = record { loads = t; sets = c.self.inside.sets; line = c.self.inside.line } })) (sym c.release.ensures)
           (rested c.self.inside.config (released_from old.books c.args.c) (released-room old c.args.c c.self.inside.line c.self.invariant.1 in_ c.self.invariant.1.apart c.self.invariant.1.full) none),
     )
 
@@ -84,7 +84,7 @@ invariant_of-self-2 c =
     let apart : AreApart c.self.inside.loads.standings (c.in-Some-pop.next ∷ c.pop.new.self) = subst (AreApart c.self.inside.loads.standings) c.in-Some-pop.ensures.some c.self.invariant.1.apart in
     let full : admitted c.self.inside.loads ≡ room_of c.self.inside.config = c.self.invariant.1.full (subst (λ (ws : List Waiting). 0 < length ws) (sym c.in-Some-pop.ensures.some) (omega arith)) in (
       c.self.invariant.0,
-      subst (λ (b : Books). IsSound (record { config = c.self.inside.config; books = b })) (sym (now_books c))
+      subst (λ (b : Books). IsDispatcherSound (record { config = c.self.inside.config; books = b })) (sym (now_books c))
           (admission c.self.inside.config (books_with c (released c.self.inside.loads c.args.c)) c.in-Some-pop.next.c c.as_slice-2.result.now c.args.now
           (released-room old c.args.c c.pop.new.self c.self.invariant.1 in_ apart.2 (λ _. full)) (free-first c.self.inside.loads.standings c.args.c c.in-Some-pop.next c.pop.new.self in_ apart) apart.1),
     )
@@ -98,7 +98,7 @@ returns-clause-answer c =
     ∙ ap (λ (t : Tally). choice_at c.self.inside.config (record { loads = t; sets = c.self.inside.sets; line = c.self.inside.line }) c.as_slice-2.result.now c.args.now) c.release-2.ensures
     ∙ ap (λ (p : List ℕ). choice_at c.self.inside.config (released_from old.books c.args.c) p c.args.now) c.as_slice-2.ensures in
     ap (λ (x : FirstChoice). Some (c.in-Some-pop.next.c, x)) choice
-    ∙ sym (ap (next_answer c.self.inside.config c.args.now (released_from old.books c.args.c)) c.in-Some-pop.ensures.some)
+    ∙ sym (ap (next_admission c.self.inside.config c.args.now (released_from old.books c.args.c)) c.in-Some-pop.ensures.some)
     ∙ ap (λ (d : Dispatcher). ended_answer d c.args.c c.args.now) c.self.view_is
 
 after : (c : goal.After-drop-next) → record { config = c.self.inside.config; books = record { loads = c.admit-choice.new.loads; sets = c.admit-choice.new.sets; line = c.pop.new.self } } ≡ after_ended c.args.self.now c.args.c c.args.now

@@ -10,8 +10,8 @@ use Rattle.lard_dispatch.specs.declared.dispatch.First.TheVariants.{Go, Waits}
 use Rattle.lard_dispatch.specs.declared.line.Waiting.{Waiting}
 use Rattle.lard_dispatch.specs.Books.{Books, Dispatcher}
 use Rattle.lard_dispatch.specs.Calls.{admitted_with, after_first, choice_at, first_answer, is_full}
-use Rattle.lard_dispatch.specs.Line.{waits}
-use Rattle.lard_dispatch.specs.Sound.{AreBefore, IsSound}
+use Rattle.lard_dispatch.specs.Line.{line_waits}
+use Rattle.lard_dispatch.specs.Sound.{AreBefore, IsDispatcherSound}
 use Rattle.lard_dispatch.proofs.Places.{place-own, placed, placed-books}
 use Rattle.lard_dispatch.proofs.Servers.{Sets, set_of-touched}
 use Rattle.lard_dispatch.proofs.Soundness.{admission, before-first, not-in, room-left, waiting-kept}
@@ -22,9 +22,9 @@ invariant_of-self-then-admitted-self c =
     let old : Dispatcher = record { config = c.self.inside.config; books = record { loads = c.self.inside.loads; sets = c.self.inside.sets; line = c.self.inside.line } } in
     let full : admitted c.self.inside.loads ≡ room_of c.self.inside.config = omega (arith, c.admitted.ensures.value, c.if-admitted-self.true, c.self.invariant.0) in
     let free : map.get c.self.inside.loads.standings c.args.c ≡ None = not-in c.self.inside.loads c.args.c (ap (λ (d : Dispatcher). home d.books.loads c.args.c) c.self.view_is ∙ c.requires.free) in
-    let away : waits c.self.inside.line c.args.c ≡ false = ap (λ (d : Dispatcher). waits d.books.line c.args.c) c.self.view_is ∙ c.requires.away in (
+    let away : line_waits c.self.inside.line c.args.c ≡ false = ap (λ (d : Dispatcher). line_waits d.books.line c.args.c) c.self.view_is ∙ c.requires.away in (
       c.self.invariant.0,
-      subst (λ (line : List Waiting). IsSound (record old { books = record old.books { line = line } })) (sym c.in_ok-push.ensures.ok)
+      subst (λ (line : List Waiting). IsDispatcherSound (record old { books = record old.books { line = line } })) (sym c.in_ok-push.ensures.ok)
           (waiting-kept old c.args.c c.in_ok-target.target c.self.invariant.1 full free away),
     )
 
@@ -65,9 +65,9 @@ pub invariant_of-self-2 : goal.invariant_of-self-2
 invariant_of-self-2 c =
     let old : Dispatcher = record { config = c.self.inside.config; books = books c } in
     let free : map.get c.self.inside.loads.standings c.args.c ≡ None = not-in c.self.inside.loads c.args.c (ap (λ (d : Dispatcher). home d.books.loads c.args.c) c.self.view_is ∙ c.requires.free) in
-    let away : waits c.self.inside.line c.args.c ≡ false = ap (λ (d : Dispatcher). waits d.books.line c.args.c) c.self.view_is ∙ c.requires.away in (
+    let away : line_waits c.self.inside.line c.args.c ≡ false = ap (λ (d : Dispatcher). line_waits d.books.line c.args.c) c.self.view_is ∙ c.requires.away in (
       c.self.invariant.0,
-      subst (λ (b : Books). IsSound (record { config = c.self.inside.config; books = b })) (sym (now_books c))
+      subst (λ (b : Books). IsDispatcherSound (record { config = c.self.inside.config; books = b })) (sym (now_books c))
           (admission c.self.inside.config (books c) c.args.c c.as_slice-2.result.now c.args.now (room-left old c.self.invariant.1 (less c)) free away),
     )
 

@@ -6,7 +6,7 @@ use Rattle.lard_sets.specs.Sets.{has_place}
 use Rattle.lard_costs.specs.declared.later.LaterChoice.{LaterChoice}
 use Rattle.lard_dispatch.specs.Books.{Books, Dispatcher}
 use Rattle.lard_dispatch.specs.Calls.{after_later, all_choices, all_touched, batch_over, later_answer, unlined}
-use Rattle.lard_dispatch.specs.Sound.{AreBefore, AreServedByNodes, IsNode, IsSound}
+use Rattle.lard_dispatch.specs.Sound.{AreBefore, AreServedByNodes, IsNode, IsDispatcherSound}
 use Rattle.lard_dispatch.proofs.Places.{all-there, later-books, later-choices, served-places}
 use Rattle.lard_dispatch.proofs.Servers.{Sets}
 use Rattle.lard_dispatch.proofs.Sharing.{home-ended, nodes-ended, shares-ended}
@@ -57,7 +57,7 @@ pub invariant_of-self-2 : goal.invariant_of-self-2
 invariant_of-self-2 c =
     let old : Dispatcher = record { config = c.self.inside.config; books = record { loads = c.self.inside.loads; sets = c.self.inside.sets; line = c.self.inside.line } } in (
       c.self.invariant.0,
-      subst (λ (b : Books). IsSound (record { config = c.self.inside.config; books = b })) (sym (books c))
+      subst (λ (b : Books). IsDispatcherSound (record { config = c.self.inside.config; books = b })) (sym (books c))
           (later-kept old c.args.ask.now c.args.now c.self.invariant.1 (ap (λ (d : Dispatcher). home d.books.loads c.args.ask.now.c) c.self.view_is ∙ c.requires.home)),
     )
 

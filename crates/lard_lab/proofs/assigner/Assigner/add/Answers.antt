@@ -3,16 +3,16 @@ use Rattle.std.proofs.Common.{◌≡◌, ℕ, ◌++◌, ◌∷◌, [], List, Res
 use Rattle.lard_files.specs.declared.fault.FileFault.{FileFault}
 use Rattle.lard_lab.specs.declared.targets.Target.{Target}
 use Rattle.lard_lab.specs.Desk.{Desk}
-use Rattle.lard_lab.specs.Sound.{IsSound}
-use Rattle.lard_lab.specs.Targets.{fresh}
+use Rattle.lard_lab.specs.Sound.{IsDeskSound}
+use Rattle.lard_lab.specs.Targets.{fresh_target}
 use Rattle.lard_lab.proofs.Soundness.{added-sound}
 use Rattle.lard_lab.proofs.assigner.Assigner.add.Goals as goal
 
 -- both ways a sum goes
-both : (d : Desk) (path : List ℕ) (size : ℕ) (new : List (List ℕ × Target)) (r : Result (Unit {0}) FileFault) → IsSound d
-    → OnOk r (new ≡ d.targets ++ (path, fresh size) ∷ []) → OnErr r (new ≡ d.targets) → IsSound (record d { targets = new })
-both d path size new (Ok _) s ok err = subst (λ (t : List (List ℕ × Target)). IsSound (record d { targets = t })) (sym ok) (added-sound d path size s)
-both d path size new (Err _) s ok err = subst (λ (t : List (List ℕ × Target)). IsSound (record d { targets = t })) (sym err) s
+both : (d : Desk) (path : List ℕ) (size : ℕ) (new : List (List ℕ × Target)) (r : Result (Unit {0}) FileFault) → IsDeskSound d
+    → OnOk r (new ≡ d.targets ++ (path, fresh_target size) ∷ []) → OnErr r (new ≡ d.targets) → IsDeskSound (record d { targets = new })
+both d path size new (Ok _) s ok err = subst (λ (t : List (List ℕ × Target)). IsDeskSound (record d { targets = t })) (sym ok) (added-sound d path size s)
+both d path size new (Err _) s ok err = subst (λ (t : List (List ℕ × Target)). IsDeskSound (record d { targets = t })) (sym err) s
 
 pub invariant_of-self : goal.invariant_of-self
 invariant_of-self c =

@@ -2,8 +2,8 @@
 use Rattle.std.proofs.Common.{◌≡◌, ◌+◌, ◌<◌, ◌≤◌, ℕ, List, Some, ◌∙◌, ap, sym, subst, arith}
 use Rattle.lard_loads.specs.Tally.{Tally, connected}
 use Rattle.lard_lab.specs.declared.targets.Target.{Target}
-use Rattle.lard_lab.specs.Desk.{Desk, assigned, chosen_for}
-use Rattle.lard_lab.specs.Sound.{IsSound}
+use Rattle.lard_lab.specs.Desk.{Desk, desk_assigned, chosen_for}
+use Rattle.lard_lab.specs.Sound.{IsDeskSound}
 use Rattle.lard_lab.specs.Targets.{target_at, with_target}
 use Rattle.lard_lab.proofs.Soundness.{assigned-sound}
 use Rattle.lard_lab.proofs.assigner.Assigner.assign.Goals as goal
@@ -18,8 +18,8 @@ invariant_of-self c =
     let few : c.self.inside.made < 16384 = subst (λ (d : Desk). d.made < 16384) (sym c.self.view_is) c.requires.few in
     let there : target_at c.self.inside.targets c.args.path.now ≡ Some c.args.target.now = subst (λ (d : Desk). target_at d.targets c.args.path.now ≡ Some c.args.target.now) (sym c.self.view_is) c.requires.target in
     let node : c.args.choice.node ≤ c.self.inside.config.nodes = subst (λ (d : Desk). c.args.choice.node ≤ d.config.nodes) (sym c.self.view_is) c.requires.node in
-    let sound : IsSound (assigned old c.args.path.now c.args.target.now c.args.choice) = assigned-sound old c.args.path.now c.args.target.now c.args.choice few there node c.self.invariant.1 in (
+    let sound : IsDeskSound (desk_assigned old c.args.path.now c.args.target.now c.args.choice) = assigned-sound old c.args.path.now c.args.target.now c.args.choice few there node c.self.invariant.1 in (
       c.self.invariant.0,
-      subst (λ (l : Tally). IsSound (record (assigned old c.args.path.now c.args.target.now c.args.choice) { loads = l; targets = c.set.new.self })) (sym loads)
-          (subst (λ (t : List (List ℕ × Target)). IsSound (record (assigned old c.args.path.now c.args.target.now c.args.choice) { targets = t })) (sym targets) sound),
+      subst (λ (l : Tally). IsDeskSound (record (desk_assigned old c.args.path.now c.args.target.now c.args.choice) { loads = l; targets = c.set.new.self })) (sym loads)
+          (subst (λ (t : List (List ℕ × Target)). IsDeskSound (record (desk_assigned old c.args.path.now c.args.target.now c.args.choice) { targets = t })) (sym targets) sound),
     )

@@ -1,7 +1,7 @@
 -- The look-up, the count and the sum of the entries are those of the pairs.
 use Rattle.std.proofs.Common.{◌∙◌, sym, ap, is_some, length}
 use Rattle.lard_files.specs.Files.{first_fault}
-use Rattle.lard_lab.specs.Targets.{target_at, total}
+use Rattle.lard_lab.specs.Targets.{target_at, targets_total}
 use Rattle.lard_lab.proofs.Entries.{lookup-shown, length-shown}
 use Rattle.lard_lab.proofs.targets.Targets.check.Goals as goal
 
@@ -9,7 +9,7 @@ pub returns : goal.returns
 returns c =
     let there = c.contains_key.ensures ∙ ap is_some (lookup-shown c.self.inside.targets.entries c.args.path.now ∙ ap (λ m. target_at m c.args.path.now) c.self.view_is) in
     let count = c.len.ensures.len ∙ sym (length-shown c.self.inside.targets.entries) ∙ ap length c.self.view_is in
-    let sum = c.self.invariant.0 ∙ ap total c.self.view_is in
+    let sum = c.self.invariant.0 ∙ ap targets_total c.self.view_is in
     c.first_fault.ensures
     ∙ ap (λ b. first_fault b c.len.result c.self.inside.bytes c.args.size) there
     ∙ ap (λ n. first_fault (is_some (target_at c.args.self.now c.args.path.now)) n c.self.inside.bytes c.args.size) count

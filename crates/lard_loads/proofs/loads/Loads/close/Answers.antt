@@ -3,7 +3,7 @@ use Rattle.std.proofs.Common.{◌≡◌, ◌<◌, ℕ, List, true, not, nat_eq, 
 use Rattle.std.specs.List.{filter}
 use Rattle.lard_base.specs.Members.{has}
 use Rattle.lard_loads.specs.Loads.{tally_of}
-use Rattle.lard_loads.specs.Tally.{Tally, closed, has_other_open, numbers}
+use Rattle.lard_loads.specs.Tally.{Tally, tally_closed, has_other_open, numbers}
 use Rattle.lard_loads.proofs.Choices.{open-without}
 use Rattle.lard_loads.proofs.Firsts.{any-length}
 use Rattle.lard_loads.proofs.loads.Loads.close.Goals as goal
@@ -26,4 +26,4 @@ pub returns : goal.returns
 returns c =
     ap (λ (ns : List ℕ). record (tally_of (length c.self.inside.ranking) c.self.inside.open_nodes c.self.inside.slots.items) { open_nodes = ns })
     (open-without c.self.inside.open_nodes c.without-self-inside.result c.args.n (length c.self.inside.ranking) c.without-self-inside.ensures)
-    ∙ ap (λ (t : Tally). closed t c.args.n) c.self.view_is
+    ∙ ap (λ (t : Tally). tally_closed t c.args.n) c.self.view_is

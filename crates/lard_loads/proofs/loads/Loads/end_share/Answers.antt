@@ -4,7 +4,7 @@ use Rattle.std.proofs.lemmas.List.{length-set}
 use Rattle.lard_loads.specs.declared.slot.Slot.{Slot}
 use Rattle.lard_loads.specs.Loads.{IsTallied, tally_of}
 use Rattle.lard_loads.specs.Ranking.{at_node}
-use Rattle.lard_loads.specs.Slot.{open_in}
+use Rattle.lard_loads.specs.Slot.{shares_open_in}
 use Rattle.lard_loads.proofs.Batches.{EndsShare, HasHome, ends_none, ends_share}
 use Rattle.lard_loads.proofs.Calls.{home_known, last_in_range, now_short, share_there, standing-is, unsharing}
 use Rattle.lard_loads.proofs.Tallies.{found_in, kept, seen_as}
@@ -54,7 +54,7 @@ invariant_of-self-2 c =
 fewer : (c : goal.After-lower) → EndsShare c.args.self.now (tally_of (length c.lower.new.self) c.self.inside.open_nodes (set c.self.inside.slots.items c.at.result c.pop.new.self)) c.args.c true
 fewer c =
     let home : HasHome c.index_mut.result.now = home_known c.self.invariant c.at.ensures.within c.index_mut.ensures.value c.self.view_is c.at.ensures.value c.requires.admitted in
-    ends_share c.args.self.now _ c.args.c home.node (open_in c.pop.new.self) c.in-Some.share
+    ends_share c.args.self.now _ c.args.c home.node (shares_open_in c.pop.new.self) c.in-Some.share
     (found_in c.self.invariant c.at.ensures.within c.index_mut.ensures.value c.self.view_is c.at.ensures.value ∙ standing-is c.index_mut.result.now _ _ home.is c.in-Some.ensures.last)
     (seen_as c.self.invariant c.at.ensures.within c.index_mut.ensures.value c.pop.new.self c.lower.new.self
     (ap length c.lower.ensures ∙ length-set c.self.inside.ranking (c.in-Some.share.node - 1) (at_node c.self.inside.ranking c.in-Some.share.node - c.in-Some.share.units))

@@ -3,7 +3,7 @@ use Rattle.std.proofs.Common.{◌≡◌, ◌+◌, ◌-◌, ◌/◌, ◌∷◌, �
 use Rattle.std.proofs.Math.Nat.{div-le_self}
 use Rattle.std.proofs.lemmas.List.{length-set}
 use Rattle.lard_loads.specs.Ranking.{at_node}
-use Rattle.lard_loads.specs.Slot.{is_at, open_in}
+use Rattle.lard_loads.specs.Slot.{is_home_at, shares_open_in}
 use Rattle.lard_loads.specs.Tally.{Tally}
 use Rattle.lard_loads.proofs.Batches.{HasHome, shared-away, shared-home}
 use Rattle.lard_loads.proofs.Calls.{found_with, home_known, same_home, shares_known, sharing, standing-is}
@@ -13,8 +13,8 @@ use Rattle.lard_loads.proofs.loads.Loads.share.Goals as goal
 pub returns-then-is_home : goal.returns-then-is_home
 returns-then-is_home c =
     let home : HasHome c.index.result.now = home_known c.self.invariant c.at.ensures.within c.index.ensures c.self.view_is c.at.ensures.value c.requires.admitted in
-    let at_home : nat_eq c.args.n home.node ≡ true = ap (λ (h : Option ℕ). is_at h c.args.n) (sym home.is) ∙ sym c.if-is_home.ensures in
-    sym (shared-home c.args.self.now c.args.c c.args.n c.args.size home.node (open_in c.index.result.now)
+    let at_home : nat_eq c.args.n home.node ≡ true = ap (λ (h : Option ℕ). is_home_at h c.args.n) (sym home.is) ∙ sym c.if-is_home.ensures in
+    sym (shared-home c.args.self.now c.args.c c.args.n c.args.size home.node (shares_open_in c.index.result.now)
     (found_with c.self.invariant c.at.ensures.within c.index.ensures c.self.view_is c.at.ensures.value home.is) at_home)
 
 pub push-requires : goal.push-requires
@@ -51,11 +51,11 @@ returns c =
     let first : c.index.result.now.home ≡ Some home.node =
     same_home c.self.invariant c.at.ensures.within c.index.ensures c.self.view_is c.at.ensures.value
     ∙ sym (same_home c.self.invariant c.at-2.ensures.within c.index_mut.ensures.value c.self.view_is c.at-2.ensures.value) ∙ home.is in
-    let away : nat_eq c.args.n home.node ≡ false = ap (λ (h : Option ℕ). is_at h c.args.n) (sym first) ∙ sym c.if-is_home.ensures in
-    let shares : open_in c.push.new.self ≡ open_in c.index_mut.result.now ++ record { node = c.args.n; units = 840 / c.args.size } ∷ [] =
-    c.push.ensures.shares ∙ ap (λ (k : ℕ). open_in c.index_mut.result.now ++ record { node = k; units = 840 / c.args.size } ∷ []) c.number-number.ensures.value in
+    let away : nat_eq c.args.n home.node ≡ false = ap (λ (h : Option ℕ). is_home_at h c.args.n) (sym first) ∙ sym c.if-is_home.ensures in
+    let shares : shares_open_in c.push.new.self ≡ shares_open_in c.index_mut.result.now ++ record { node = c.args.n; units = 840 / c.args.size } ∷ [] =
+    c.push.ensures.shares ∙ ap (λ (k : ℕ). shares_open_in c.index_mut.result.now ++ record { node = k; units = 840 / c.args.size } ∷ []) c.number-number.ensures.value in
     seen_as c.self.invariant c.at-2.ensures.within c.index_mut.ensures.value c.push.new.self c.raise.new.self
     (ap length c.raise.ensures ∙ length-set c.self.inside.ranking (c.number-number.result - 1) (at_node c.self.inside.ranking c.number-number.result + 840 / c.args.size))
     c.self.view_is c.at-2.ensures.value (standing-is c.push.new.self (Some home.node) _ (c.push.ensures.home ∙ home.is) shares)
-    ∙ sym (shared-away c.args.self.now c.args.c c.args.n c.args.size home.node (open_in c.index_mut.result.now)
+    ∙ sym (shared-away c.args.self.now c.args.c c.args.n c.args.size home.node (shares_open_in c.index_mut.result.now)
     (found_with c.self.invariant c.at-2.ensures.within c.index_mut.ensures.value c.self.view_is c.at-2.ensures.value home.is) away)

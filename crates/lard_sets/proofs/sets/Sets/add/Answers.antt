@@ -2,7 +2,7 @@
 use Rattle.std.proofs.Common.{◌≡◌, ◌∙◌, sym, ap, true, Some, None, is_some, unwrap_or, false}
 use Rattle.std.proofs.lemmas.Result.{on_ok_weaker}
 use Rattle.lard_sets.specs.declared.sets.ServerSet.{ServerSet}
-use Rattle.lard_sets.specs.Sets.{no_servers, shown, put, with_member}
+use Rattle.lard_sets.specs.Sets.{no_servers, sets_shown, put, with_member}
 use Rattle.lard_sets.proofs.Flags.{no_flags}
 use Rattle.lard_sets.proofs.Entries.{found, written, none_there}
 use Rattle.lard_sets.proofs.sets.Sets.add.Goals as goal
@@ -18,7 +18,7 @@ returns-in-Some-clause-ok c =
 
 pub returns-clause-ok : goal.returns-clause-ok
 returns-clause-ok c =
-    let same = ap (λ m. shown m.entries) c.get_mut.follows.holds-at-none ∙ c.self.view_is in
+    let same = ap (λ m. sets_shown m.entries) c.get_mut.follows.holds-at-none ∙ c.self.view_is in
     let none = none_there c.args.self.now c.args.target.now (found c.self.inside.sets.entries c.args.self.now c.args.target.now None c.self.view_is c.in_default.ensures.value) in
     let members = c.with_member.ensures ∙ ap (λ m. with_member m c.args.n) (no_flags c.none.result c.none.ensures ∙ ap (λ (s : ServerSet). s.members) (sym none)) in
     on_ok_weaker c.insert.result

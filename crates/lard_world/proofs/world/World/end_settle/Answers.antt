@@ -3,7 +3,7 @@ use Rattle.std.proofs.Common.{◌≡◌, ◌∙◌, ap, sym, subst}
 use Rattle.lard_rules.specs.declared.machine.Machine.{Machine}
 use Rattle.lard_laws.specs.Lawful.{IsLawful}
 use Rattle.lard_world.specs.Runs.{IsRun}
-use Rattle.lard_world.specs.World.{Standing}
+use Rattle.lard_world.specs.World.{WorldStanding}
 use Rattle.lard_files.specs.Files.{file_at}
 use Rattle.lard_settling.specs.Steps.{settle_closed}
 use Rattle.lard_settling.specs.Written.{written_out}
@@ -29,5 +29,5 @@ returns-clause-lawful c =
     let old : Machine = c.self.inside.machine in
     let new : Machine = c.close-done.new.machine in
     let run = c.self.invariant (ap (λ w. w.spoiled) c.self.view_is ∙ c.requires.usable) in
-    subst (λ (w : Standing). IsLawful w.machine.config (file_at w.machine.files) (written_out new.journal)) c.self.view_is
+    subst (λ (w : WorldStanding). IsLawful w.machine.config (file_at w.machine.files) (written_out new.journal)) c.self.view_is
     (closed-lawful old new c.args.rounds c.args.left c.close-done.result run c.close-done.ensures.ok c.close-done.ensures.err)

@@ -1,7 +1,7 @@
 -- The world stands as long as memory suffices, and its journal obeys the laws.
 use Rattle.std.proofs.Common.{◌∙◌, ap, sym, subst}
 use Rattle.lard_laws.specs.Lawful.{IsLawful}
-use Rattle.lard_world.specs.World.{Standing}
+use Rattle.lard_world.specs.World.{WorldStanding}
 use Rattle.lard_world.proofs.Runs.{inner-leads, runs-on, still-lawful}
 use Rattle.lard_files.specs.Files.{file_at}
 use Rattle.lard_settling.specs.Steps.{inner_step}
@@ -27,5 +27,5 @@ returns-clause-lawful c =
     let old = c.self.inside.machine in
     let new = c.step_inside-done.new.machine in
     let run = c.self.invariant (ap (λ w. w.spoiled) c.self.view_is ∙ c.requires.usable) in
-    subst (λ (w : Standing). IsLawful w.machine.config (file_at w.machine.files) (written_out new.journal)) c.self.view_is
+    subst (λ (w : WorldStanding). IsLawful w.machine.config (file_at w.machine.files) (written_out new.journal)) c.self.view_is
     (still-lawful old new run (inner_step old c.args.event) (inner-leads old new run c.args.event c.requires.ruled) c.step_inside-done.result c.step_inside-done.ensures.step)
