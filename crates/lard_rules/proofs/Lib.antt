@@ -11,6 +11,7 @@ pub mod Sides
 pub mod Totals
 pub mod Wide
 pub mod FrontTurns
+pub mod FrontCases
 pub mod FrontParts
 pub mod FrontBlocks
 pub mod FrontStandings
