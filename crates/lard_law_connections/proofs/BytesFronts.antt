@@ -14,14 +14,12 @@ use Rattle.lard_law_connections.proofs.BytesFrontReading.{GoesOver, reads-so}
 use Rattle.lard_law_connections.proofs.BytesHolding.{begins-so, fired-ends, heard-so, same-so}
 use Rattle.lard_law_connections.proofs.BytesServing.{So, counts-mute, noted-serves}
 use Rattle.lard_endpoint.specs.declared.control.moving.Final.{Final}
-use Rattle.lard_endpoint.specs.Arriving.{on_segment}
 use Rattle.lard_endpoint.specs.Control.{ControlBlock, listening}
-use Rattle.lard_endpoint.specs.Leaving.{after_timer, timed}
 use Rattle.lard_endpoint.specs.Moving.{may_freeze, parts_of}
 use Rattle.lard_endpoint.proofs.Adoption.{frozen_stands}
 use Rattle.lard_rules.specs.declared.front.FrontRest.{FrontRest}
 use Rattle.lard_rules.specs.declared.front.FrontTurn.{FrontTurn}
-use Rattle.lard_rules.specs.Front.{FrontDeed, Drops, Says, FrontEnv, FrontPart, admitted_at, admitted_by, front_admitted_with, front_begun, front_ended_by, front_fired, front_fired_by, fires_at, front_hears, handed_off, hears_at, heard, holds, placed, front_rest, front_rests, settled_by, turn_here, waits_on}
+use Rattle.lard_rules.specs.Front.{FrontDeed, Says, FrontEnv, FrontPart, front_begun, front_fired, front_hears, handed_off, holds, front_rest, front_rests, turn_here, waits_on, front_admitted, front_ended, front_timer}
 use Rattle.lard_rules.specs.FrontReading.{MayMove, Reading, front_reads}
 use Rattle.lard_rules.specs.FrontSound.{Serves}
 use Rattle.lard_rules.proofs.FrontBlocks.{EndsIdle, EndsServing, idle-of, segment-idle, segment-serves, settled-serves, spoken-idle, spoken-serves, timer-idle, timer-serves}
@@ -29,16 +27,13 @@ use Rattle.lard_rules.proofs.FrontTurns.{reads-stop}
 use Rattle.lard_handoff_front.specs.declared.row.FrontConn.{FrontConn}
 use Rattle.lard_handoff_front.specs.declared.row.FrontConn.TheVariants as stage
 use Rattle.lard_handoff_front.specs.declared.row.FrontRow.{FrontRow}
-use Rattle.lard_handoff_front.specs.declared.table.OnEnded.{OnEnded}
-use Rattle.lard_handoff_front.specs.declared.table.OnEnded.TheVariants.{New, Again, Stale}
-use Rattle.lard_handoff_front.specs.Front.{end_answer, next_epoch}
+use Rattle.lard_handoff_front.specs.Front.{next_epoch}
 use Rattle.lard_journal.specs.declared.rec.Rec.{Rec}
 use Rattle.lard_journal.specs.declared.rec.Rec.TheVariants as rec
 use Rattle.lard_law_view.specs.Agreement.{IsReply, IsWord}
 use Rattle.lard_law_view.specs.Keeping.{is_reset_record}
 use Rattle.lard_law_view.proofs.EndpointStreams.{IsBetween, between-begun, between-sound}
 use Rattle.lard_law_view.proofs.Notes.{or-false}
-use Rattle.lard_dispatch.specs.declared.dispatch.First.{First}
 use Rattle.lard_dispatch.specs.declared.dispatch.First.TheVariants as first
 use Rattle.lard_policy.specs.declared.first.FirstChoice.{FirstChoice}
 use Rattle.lard_message.specs.declared.message.Body.TheVariants as body
@@ -46,12 +41,14 @@ use Rattle.lard_request.specs.declared.verdict.Verdict.{Verdict}
 use Rattle.lard_rules.specs.declared.places.Ending.{Ending}
 use Rattle.lard_rules.specs.declared.places.Ending.TheVariants as ending
 use Rattle.lard_rules.specs.declared.places.Turn.{Turn}
-use Rattle.lard_rules.specs.Tombstone.{is_plain_syn, is_telling, last_ack, last_words, refusal, tombstone}
-use Rattle.lard_rules.specs.Serving.{Service, serving_ready_of, serving, serving_settled, spoken}
+use Rattle.lard_rules.specs.Tombstone.{is_telling, last_ack, last_words, refusal, tombstone}
+use Rattle.lard_rules.specs.Serving.{Service, serving, serving_settled, spoken}
 use Rattle.lard_segment.specs.Segment.{Said}
 use Rattle.lard_law_view.specs.Truth.{Stream}
 use Rattle.lard_law_view.proofs.Growth.{goes_on-same}
 use Rattle.lard_law_view.proofs.Pieces.{bare-true}
+use Rattle.lard_rules.proofs.FrontCases.{KeptBySegment, IsInStage, of-stage, fired_before, fired_service, heard_reading, heard_service, segment-keeps, ended-keeps, admitted-keeps}
+use Rattle.lard_rules.proofs.FrontCases as cases
 
 module _ (env : FrontEnv) (w out : Stream) (vs : List Verdict) (was_reset : Bool) where
   abbrev Keeps : FrontDeed → Type 0
@@ -127,31 +124,20 @@ module _ (env : FrontEnv) (w out : Stream) (vs : List Verdict) (was_reset : Bool
         waits-turn p row (record rest { target = Some path }) (spoken env.serve v []) (spoken-ends env.serve w out vs was_reset v [] more [] (subst (λ (o : Option ℕ). IsReading w more.vs_now [] v.block v.notes o) none more.reading) tt)
         (spoken-serves env.serve v [] serves) (spoken-idle env.serve v [] (idle-of s.block may serves.sent))
 
-    placed-keep : (p : FrontPart) (row : FrontRow) (rest : FrontRest) (path : List ℕ) (f : First)
-        → Turns (placed env p row rest s path f).part (placed env p row rest s path f).turn
-    placed-keep p row rest path (first.Go choice) = handed-turn row path choice
-    placed-keep p row rest path first.Waits = waiting-turn p row rest path
-
   -- ---- segments
 
-  settled-keep : (p : FrontPart) (row : FrontRow) (rest : FrontRest) (s : Service) (target : Option (List ℕ)) → So env.serve w out vs s [] → GoesOver target s → Serves s.count s.block.recv s.block.send → MayMove s.block target
-      → Keeps (settled_by env p row rest s target)
-  settled-keep p row rest s None so over serves may = holds-keep p row rest (serving_settled env.serve s) (settled-ends env.serve w out vs was_reset s [] so) (settled-serves env.serve s serves)
-  settled-keep p row rest s (Some path) so over serves may = placed-keep s so over serves may p row rest path (env.first path)
-
   module _ (talk : IsFrontTalk env w out vs) (p : FrontPart) where
-    heard-keep : (row : FrontRow) (b : ControlBlock) (s : Said) → IsWord w s → FrontHolds w out vs [] b (front_rest p.rest).count → Keeps (heard env p row (front_rest p.rest) (on_segment b s).1)
-    heard-keep row b s word h =
-        let start : Service = serving (on_segment b s).1 (front_rest p.rest).count [] in
-        let x : Reading = front_reads env.serve (record { service = start; target = None }) in
-        let so = reads-so env.serve w out vs talk.most start (heard-so env.serve w out vs talk.says [] b (front_rest p.rest).count h.holds talk.stream s word) in
-        let stop = reads-stop env.serve start (segment-serves (front_rest p.rest).count b s h.serves) in
-        settled-keep p row (front_rest p.rest) x.service x.target so.0 so.1 stop.0 stop.1
+    heard-came : (row : FrontRow) (b : ControlBlock) (s : Said) → IsWord w s → FrontHolds w out vs [] b (front_rest p.rest).count → let x : Reading = front_reads env.serve (heard_reading p b s) in
+        So env.serve w out vs x.service [] × GoesOver x.target x.service × Serves x.service.count x.service.block.recv x.service.block.send × MayMove x.service.block x.target
+    heard-came row b s word h =
+        let so = reads-so env.serve w out vs talk.most (heard_service p b s) (heard-so env.serve w out vs talk.says [] b (front_rest p.rest).count h.holds talk.stream s word) in
+        let stop = reads-stop env.serve (heard_service p b s) (segment-serves (front_rest p.rest).count b s h.serves) in
+        (so.0, so.1, stop.0, stop.1)
 
     waited-keep : (row : FrontRow) (b : ControlBlock) (s : Said) → IsWord w s → FrontWaits w out vs [] b (front_rest p.rest).count
-        → Keeps (waits_on env p row (front_rest p.rest) (spoken env.serve (serving (on_segment b s).1 (front_rest p.rest).count []) []))
+        → Keeps (waits_on env p row (front_rest p.rest) (spoken env.serve (heard_service p b s) []))
     waited-keep row b s word h =
-        let v : Service = serving (on_segment b s).1 (front_rest p.rest).count [] in
+        let v : Service = heard_service p b s in
         let so = heard-so env.serve w out vs talk.says [] b (front_rest p.rest).count h.0.holds talk.stream s word in
         waits-turn p row (front_rest p.rest) (spoken env.serve v []) (spoken-ends env.serve w out vs was_reset v [] so [] so.reading tt)
         (spoken-serves env.serve v [] (segment-serves (front_rest p.rest).count b s h.0.serves)) (spoken-idle env.serve v [] (segment-idle b s (idle-of b h.1 h.0.serves.sent)))
@@ -206,40 +192,54 @@ module _ (env : FrontEnv) (w out : Stream) (vs : List Verdict) (was_reset : Bool
 
     -- ---- where it is
 
-    hears-keep : (row : FrontRow) (bytes : List ℕ) (s : Said) → IsWord w s → (at : FrontConn) → FrontStageAgrees w out vs was_reset env.serve.c row.epoch.0 p at → Keeps (hears_at env p row bytes s at)
-    hears-keep row bytes s word (stage.Held b) h = heard-keep row b s word h
-    hears-keep row bytes s word (stage.Waiting b) h = waited-keep row b s word h
-    hears-keep row bytes s word stage.Lent h = tt
-    hears-keep row bytes s word (stage.Offering node epoch) h = (refl, tt)
-    hears-keep row bytes s word (stage.Moved node epoch) h = (refl, tt)
-    hears-keep row bytes s word (stage.Closed last) h = tombstone-keeps (last_words last.reason last s) (words-reply last.reason last s word.sendable.ack_fits refl h)
+    module _ (h : FrontPartAgrees w out vs was_reset env.serve.c p) where
+      agrees-at : (row : FrontRow) (st : FrontConn) → IsInStage p row st → FrontStageAgrees w out vs was_reset env.serve.c row.epoch.0 p st
+      agrees-at row st at = of-stage (FrontRowAgrees w out vs was_reset env.serve.c p) p row st at h
 
-    gets-keep : (bytes : List ℕ) (s : Said) → IsWord w s → (o : Option FrontRow) → FrontRowAgrees w out vs was_reset env.serve.c p o → Keeps (front_hears env p bytes s o)
-    gets-keep bytes s word None h = cond_both (is_plain_syn s) (front_begun env p s) Drops Keeps (λ syn. begun-keep s word h.0 h.1 (word.true_of.greets (and_parts s.flags.syn _ syn).0)) (λ t. tt)
-    gets-keep bytes s word (Some row) h = hears-keep row bytes s word row.stage h
+      -- what was read agrees, and what is to be placed may move
+      abbrev Came : Service → Option (List ℕ) → Type 0
+      Came v target = So env.serve w out vs v [] × GoesOver target v × Serves v.count v.block.recv v.block.send × MayMove v.block target
 
-    fires-keep : (row : FrontRow) (at : FrontConn) → FrontStageAgrees w out vs was_reset env.serve.c row.epoch.0 p at → Keeps (fires_at env p row at)
-    fires-keep row (stage.Held b) h =
-        let rest = front_rest p.rest in
-        let v : Service = serving (after_timer b) rest.count [] in
-        holds-keep p row rest (front_fired env rest b) (fired-ends env.serve w out vs talk.says [] b rest.count h.holds was_reset)
-        (spoken-serves env.serve v (serving_ready_of env.serve (after_timer b) (timed b)) (timer-serves rest.count b h.serves))
-    fires-keep row (stage.Waiting b) h =
-        let rest = front_rest p.rest in
-        let v : Service = serving (after_timer b) rest.count [] in
-        waits-turn p row rest (front_fired env rest b) (fired-ends env.serve w out vs talk.says [] b rest.count h.0.holds was_reset)
-        (spoken-serves env.serve v (serving_ready_of env.serve (after_timer b) (timed b)) (timer-serves rest.count b h.0.serves))
-        (spoken-idle env.serve v (serving_ready_of env.serve (after_timer b) (timed b)) (timer-idle b (idle-of b h.1 h.0.serves.sent)))
-    fires-keep row (stage.Offering node epoch) h = (refl, tt)
-    fires-keep row _ h = tt
+      by-segment : (bytes : List ℕ) (s : Said) → IsWord w s → KeptBySegment env p bytes s Came Keeps
+      by-segment bytes s word = record {
+        drops = tt;
+        begins = λ none syn.
+            let at : FrontRowAgrees w out vs was_reset env.serve.c p None = subst (FrontRowAgrees w out vs was_reset env.serve.c p) none h in
+            begun-keep s word at.0 at.1 (word.true_of.greets (and_parts s.flags.syn _ syn).0);
+        reads = λ row b at. heard-came row b s word (agrees-at row (stage.Held b) at);
+        holds = λ row b v at came. holds-keep p row (front_rest p.rest) (serving_settled env.serve v) (settled-ends env.serve w out vs was_reset v [] came.0) (settled-serves env.serve v came.2);
+        hands = λ row b v path choice at came is. handed-turn v came.0 came.1 came.2 came.3 row path choice;
+        waits = λ row b v path at came is. waiting-turn v came.0 came.1 came.2 came.3 p row (front_rest p.rest) path;
+        stays = λ row b at. waited-keep row b s word (agrees-at row (stage.Waiting b) at);
+        forwards = λ row n e at. (refl, tt);
+        words = λ row last at. tombstone-keeps (last_words last.reason last s) (words-reply last.reason last s word.sendable.ack_fits refl (agrees-at row (stage.Closed last) at));
+      }
 
-    timer-keep : (o : Option FrontRow) → FrontRowAgrees w out vs was_reset env.serve.c p o → Keeps (front_fired_by env p o)
-    timer-keep None h = tt
-    timer-keep (Some row) h = fires-keep row row.stage h
+      hears-keep : (bytes : List ℕ) (s : Said) → IsWord w s → Keeps (front_hears env p bytes s p.row)
+      hears-keep bytes s word = segment-keeps env p bytes s Came Keeps (by-segment bytes s word)
 
-    ends-keep : (from epoch : ℕ) (last : Final) → EndedWithNumbers w was_reset last → (o : Option FrontRow) (given : OnEnded) → Keeps (front_ended_by env p from epoch last o given)
-    ends-keep from epoch last h None given = tt
-    ends-keep from epoch last h (Some row) (New next) = record {
+      timer-keep : Keeps (front_timer env p)
+      timer-keep = cases.timer-keeps env p Keeps (record {
+        drops = tt;
+        holds = λ row b at.
+            let k = agrees-at row (stage.Held b) at in
+            holds-keep p row (front_rest p.rest) (front_fired env (front_rest p.rest) b) (fired-ends env.serve w out vs talk.says [] b (front_rest p.rest).count k.holds was_reset)
+            (spoken-serves env.serve (fired_service p b) (fired_before env b) (timer-serves (front_rest p.rest).count b k.serves));
+        stays = λ row b at.
+            let k = agrees-at row (stage.Waiting b) at in
+            waits-turn p row (front_rest p.rest) (front_fired env (front_rest p.rest) b) (fired-ends env.serve w out vs talk.says [] b (front_rest p.rest).count k.0.holds was_reset)
+            (spoken-serves env.serve (fired_service p b) (fired_before env b) (timer-serves (front_rest p.rest).count b k.0.serves))
+            (spoken-idle env.serve (fired_service p b) (fired_before env b) (timer-idle b (idle-of b k.1 k.0.serves.sent)));
+        resends = λ row n e at. (refl, tt);
+      })
+
+      admits-keep : (choice : FirstChoice) (given : FrontPart × FrontTurn) → front_admitted env p choice ≡ Some given → Turns given.0 given.1
+      admits-keep choice = admitted-keeps env p choice (λ (g : FrontPart × FrontTurn). Turns g.0 g.1) (λ row b path at target.
+          let k = agrees-at row (stage.Waiting b) at in
+          handed-turn (serving b (front_rest p.rest).count []) (same-so env.serve w out vs talk.says [] b (front_rest p.rest).count k.0.holds) refl k.0.serves k.1 row path choice)
+
+    ends-keep : (from epoch : ℕ) (last : Final) → EndedWithNumbers w was_reset last → Keeps (front_ended env p from epoch last)
+    ends-keep from epoch last h = ended-keeps p Keeps tt env from epoch last (λ row found away again. (refl, tt)) (λ row found away. record {
       out_after = out;
       vs_after = vs;
       longer = goes_on-same out;
@@ -248,35 +248,21 @@ module _ (env : FrontEnv) (w out : Stream) (vs : List Verdict) (was_reset : Bool
       noted = record { each = (tt, (tt, tt)); served = omega arith; size = omega arith; unless_ended = inr refl; serve = λ t told. ((λ J e. tt), ((λ J e. tt), tt)) };
       sent = tt;
       said = ((from, epoch, body.EndedAck, refl, tt), tt);
-    }
-    ends-keep from epoch last h (Some row) Again = (refl, tt)
-    ends-keep from epoch last h (Some row) Stale = tt
-
-    with-keep : (row : FrontRow) (b : ControlBlock) (choice : FirstChoice) → FrontWaits w out vs [] b (front_rest p.rest).count → (target : Option (List ℕ))
-        → AdmittedKeeps env.serve.files env.serve.c w out vs was_reset (front_admitted_with env row (front_rest p.rest) b choice target)
-    with-keep row b choice h None = tt
-    with-keep row b choice h (Some path) =
-        let count = (front_rest p.rest).count in
-        handed-turn (serving b count []) (same-so env.serve w out vs talk.says [] b count h.0.holds) refl h.0.serves h.1 row path choice
-
-    admits-keep : (choice : FirstChoice) (row : FrontRow) (at : FrontConn) → FrontStageAgrees w out vs was_reset env.serve.c row.epoch.0 p at → AdmittedKeeps env.serve.files env.serve.c w out vs was_reset (admitted_at env p choice row at)
-    admits-keep choice row (stage.Waiting b) h = with-keep row b choice h (front_rest p.rest).target
-    admits-keep choice row _ h = tt
-
-    head-keeps : (choice : FirstChoice) (o : Option FrontRow) → FrontRowAgrees w out vs was_reset env.serve.c p o → AdmittedKeeps env.serve.files env.serve.c w out vs was_reset (admitted_by env p choice o)
-    head-keeps choice None h = tt
-    head-keeps choice (Some row) h = admits-keep choice row row.stage h
+    })
 
 -- ---- what is kept
 
 pub front-hears : FrontHearsTruth
-front-hears env w out vs was_reset p bytes s talk h word = gets-keep env w out vs was_reset talk p bytes s word p.row h
+front-hears env w out vs was_reset p bytes s talk h word = hears-keep env w out vs was_reset talk p h bytes s word
 
 pub timer-keeps : FrontTimerKeeps
-timer-keeps env w out vs was_reset p talk h = timer-keep env w out vs was_reset talk p p.row h
+timer-keeps env w out vs was_reset p talk h = timer-keep env w out vs was_reset talk p h
 
 pub ends-kept : EndsKeep
-ends-kept env w out vs was_reset p from epoch last talk h = ends-keep env w out vs was_reset talk p from epoch last h p.row (end_answer epoch p.row)
+ends-kept env w out vs was_reset p from epoch last talk h = ends-keep env w out vs was_reset talk p from epoch last h
 
 pub admissions-keep : AdmissionsKeep
-admissions-keep env w out vs was_reset p choice talk h = head-keeps env w out vs was_reset talk p choice p.row h
+admissions-keep env w out vs was_reset p choice talk h = go (front_admitted env p choice) refl where
+  go : (o : Option (FrontPart × FrontTurn)) → front_admitted env p choice ≡ o → AdmittedKeeps env.serve.files env.serve.c w out vs was_reset o
+  go None e = tt
+  go (Some given) e = admits-keep env w out vs was_reset talk p h choice given e
