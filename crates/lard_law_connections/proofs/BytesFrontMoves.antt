@@ -1,5 +1,5 @@
 -- What the front end does leaves its connection in agreement.
-use Rattle.std.proofs.Common.{◌≡◌, ◌≤◌, ◌||◌, ◌^◌, ℕ, Bool, false, true, cond, List, [], ◌∷◌, map, Option, Some, None, Ok, Result, arith, refl, ap, ◌∙◌, sym, subst, inl, inr}
+use Rattle.std.proofs.Common.{◌≡◌, ◌≤◌, ◌||◌, ◌^◌, ℕ, Bool, List, [], ◌∷◌, map, Option, Some, None, Ok, Result, arith, refl, ap, ◌∙◌, sym, subst, inl, inr}
 use Rattle.std.specs.List.{list_any}
 use Rattle.lard_answers.specs.Answers.{FilesAt}
 use Rattle.lard_base.specs.declared.event.Event.TheVariants as event
@@ -21,11 +21,7 @@ use Rattle.lard_law_view.specs.Carry.{tale_at}
 use Rattle.lard_law_view.specs.View.{AreSent, Conn, IsFrontEnv, Move, Part, Setting, Was, event_seen, front_does, letter, packet_seen}
 use Rattle.lard_law_view.proofs.Rows.{tale_before}
 use Rattle.lard_rules.specs.declared.front.FrontTurn.{FrontTurn}
-use Rattle.lard_rules.specs.Front.{FrontDeed, Did, Does, Drops, FrontEnv, FrontPart, Says, front_begun, front_fired_by, fires_at, forwarded, front_gets, front_hears, front_timer, hears_at, message, met, front_rest, front_saying, settled_by, turn_here}
-use Rattle.lard_rules.specs.declared.front.FrontRest.{FrontRest}
-use Rattle.lard_rules.specs.FrontReading.{Reading, front_reads}
-use Rattle.lard_endpoint.specs.Arriving.{on_segment}
-use Rattle.lard_rules.specs.Serving.{Service, serving}
+use Rattle.lard_rules.specs.Front.{FrontDeed, Did, Does, Drops, FrontEnv, FrontPart, Says, front_begun, fires_at, forwarded, front_gets, front_hears, front_timer, hears_at, message, front_rest, front_saying, turn_here, holds, placed}
 use Rattle.lard_handoff_front.specs.declared.row.FrontConn.{FrontConn}
 use Rattle.lard_handoff_front.specs.declared.row.FrontConn.TheVariants as stage
 use Rattle.lard_handoff_front.specs.declared.row.FrontRow.{FrontRow}
@@ -43,13 +39,18 @@ use Rattle.lard_request.specs.declared.verdict.Verdict.{Verdict}
 use Rattle.lard_resend.specs.declared.kept.Kept.{Kept}
 use Rattle.lard_resend.specs.Pending.{sent_of}
 use Rattle.lard_rules.specs.declared.places.Station.{Station}
-use Rattle.lard_rules.specs.Tombstone.{is_plain_syn, last_words, tombstone}
+use Rattle.lard_rules.specs.Tombstone.{last_words, tombstone}
 use Rattle.lard_segment.specs.declared.fault.SegFault.{SegFault}
 use Rattle.lard_segment.specs.declared.segment.Dir.TheVariants.{ToCluster}
 use Rattle.lard_segment.specs.Segment.{Said, decoded, spelled}
 use Rattle.lard_segment.proofs.Again.{again}
 use Rattle.lard_law_view.specs.Truth.{IsStream, Stream}
 use Rattle.lard_law_view.proofs.Speaking.{speaks-stream}
+use Rattle.lard_rules.proofs.FrontCases.{KeptBySegment, IsInStage, segment-keeps}
+use Rattle.lard_rules.proofs.FrontCases as cases
+use Rattle.lard_endpoint.specs.declared.control.moving.Final.{Final}
+use Rattle.lard_rules.specs.Serving.{serving_settled}
+use Rattle.lard_dispatch.specs.declared.dispatch.First.TheVariants as first
 
 -- ---- messages of the front end
 
@@ -230,95 +231,68 @@ module _ (k : Setting) (small : k.stream ≤ 2 ^ 30) (x : Conn) (s : Station) (t
   home-past own row (stage.Waiting b) at before sits = let h : StageSits row.epoch.0 own x.part.nodes (stage.Waiting b) = subst (StageSits row.epoch.0 own x.part.nodes) at sits.0 in subst (λ (e : ℕ). ArePast e x.part.nodes) h.0 h.1.1
   home-past own row _ at before sits = absurd before
 
-  module _ (bytes : List ℕ) (sd : Said) (is_spelled : bytes ≡ spelled x.c ToCluster sd) (word : IsWord l.w sd) (talk : IsFrontTalk env l.w l.out l.vs) (heads : List Seen) (quiet : IsQuiet k small x s there l pend o heads) where
+  module _ (talk : IsFrontTalk env l.w l.out l.vs) (heads : List Seen) (quiet : IsQuiet k small x s there l pend o heads) where
     abbrev p : FrontPart
     p = x.part.front
 
+    -- where the connection is the front end's, what it does agrees
     abbrev Goes : FrontDeed → Type 0
-    Goes d = Helps x (front_does x heads d) → IsTrueMove k.files x (front_does x heads d)
+    Goes d = (RowIsOurs p.row → FrontDeedKeeps k.files x.c l.w l.out l.vs l.was_reset d) → Helps x (front_does x heads d) → IsTrueMove k.files x (front_does x heads d)
 
-    placed-fair : (row : FrontRow) (rest : FrontRest) (w : Service) (target : Option (List ℕ)) → MessagesFair k small x s there l pend o (settled_by env p row rest w target)
-    placed-fair row rest w None = tt
-    placed-fair row rest w (Some path) = tt
+    drops : Goes Drops
+    drops keeps help = drops-goes k small x s there l pend o heads (quiet Drops) help
 
-    -- what front-hears says, where the connection is in this stage
-    stage-keeps : (row : FrontRow) (d : FrontConn) → p.row ≡ Some row → row.stage ≡ d → IsOurs d → FrontDeedKeeps k.files x.c l.w l.out l.vs l.was_reset (hears_at env p row bytes sd d)
-    stage-keeps row d found at ours =
-        let mine : RowIsOurs p.row = subst RowIsOurs (sym found) (subst IsOurs (sym at) ours) in
-        let all = front-hears env l.w l.out l.vs l.was_reset p bytes sd talk (own-agrees mine) word in
-        own-keeps (hears_at env p row bytes sd d)
-        (subst (λ (e : FrontConn). FrontDeedKeeps env.serve.files env.serve.c l.w l.out l.vs l.was_reset (hears_at env p row bytes sd e)) at
-        (subst (λ (r : Option FrontRow). FrontDeedKeeps env.serve.files env.serve.c l.w l.out l.vs l.was_reset (front_hears env p bytes sd r)) found all))
+    ours : (row : FrontRow) (d : FrontConn) → IsInStage p row d → IsOurs d → RowIsOurs p.row
+    ours row d at mine = subst RowIsOurs (sym at.0) (subst IsOurs (sym at.1) mine)
 
-    unoffered : (row : FrontRow) (d : FrontConn) → p.row ≡ Some row → row.stage ≡ d → IsOurs d → (n e : ℕ) → IsOffered n e p.row → ⊥
-    unoffered row d found at ours = ours-unoffered p.row (subst RowIsOurs (sym found) (subst IsOurs (sym at) ours))
-
-    at-home : (row : FrontRow) (d : FrontConn) → p.row ≡ Some row → row.stage ≡ d → IsBefore d → IsOurs d → MessagesFair k small x s there l pend o (hears_at env p row bytes sd d) → Goes (hears_at env p row bytes sd d)
-    at-home row d found at before ours fair help =
-        deed-goes k small x s there l pend o heads (hears_at env p row bytes sd d) quiet (unoffered row d found at ours)
-        (home-past (owning (tale_at x)) row d at before (subst (Sits (owning (tale_at x)) x.part.nodes) found help.placed.sits)) fair (stage-keeps row d found at ours) help
-
-    no-words : (w : Option Said) → Each (IsFair l x.c x.part) (map (letter Front) (turn_here (tombstone env.serve w)).messages)
-    no-words w = tt
-
-    forwards : (n : ℕ) (d : Epoch) → Goes (forwarded env n d bytes)
-    forwards n d help = says-goes k small x s there l pend o heads (front_saying ((Node n, message env.serve.c d.0 (body.Forward bytes)) ∷ [])) (quiet (forwarded env n d bytes)) refl tt
-        (subst (λ (c : ℕ). IsFair l x.c x.part (letter Front (Node n, message c d.0 (body.Forward bytes)))) (sym is.number) (forward-fair l x.c x.part n d.0 bytes sd is_spelled word), tt) help
-
-    hears-stage : (row : FrontRow) (d : FrontConn) → p.row ≡ Some row → row.stage ≡ d → Goes (hears_at env p row bytes sd d)
-    hears-stage row (stage.Held b) found at help = let y : Reading = front_reads env.serve (record { service = serving (on_segment b sd).1 (front_rest p.rest).count []; target = None }) in at-home row (stage.Held b) found at tt tt (placed-fair row (front_rest p.rest) y.service y.target) help
-    hears-stage row (stage.Waiting b) found at help = at-home row (stage.Waiting b) found at tt tt tt help
-    hears-stage row stage.Lent found at help = drops-goes k small x s there l pend o heads (quiet Drops) help
-    hears-stage row (stage.Offering n d) found at help = forwards n d help
-    hears-stage row (stage.Moved n d) found at help = forwards n d help
-    hears-stage row (stage.Closed last) found at help =
-        let t = stage-keeps row (stage.Closed last) found at tt in
-        says-goes k small x s there l pend o heads (turn_here (tombstone env.serve (last_words last.reason last sd))) (quiet (hears_at env p row bytes sd (stage.Closed last))) t.0 t.1 (no-words (last_words last.reason last sd)) help
+    at-home : (row : FrontRow) (st : FrontConn) → IsInStage p row st → IsBefore st → IsOurs st → (d : FrontDeed) → MessagesFair k small x s there l pend o d → Goes d
+    at-home row st at before mine d fair keeps help =
+        deed-goes k small x s there l pend o heads d quiet (ours-unoffered p.row (ours row st at mine))
+        (home-past (owning (tale_at x)) row st at.1 before (subst (Sits (owning (tale_at x)) x.part.nodes) at.0 help.placed.sits)) fair (keeps (ours row st at mine)) help
 
     -- nobody has it yet
-    begins-here : p.row ≡ None → Goes (met env p sd)
-    begins-here found help =
-        let mine : RowIsOurs p.row = subst RowIsOurs (sym found) tt in
-        let all = front-hears env l.w l.out l.vs l.was_reset p bytes sd talk (own-agrees mine) word in
-        let sits : Sits (owning (tale_at x)) x.part.nodes None = subst (Sits (owning (tale_at x)) x.part.nodes) found help.placed.sits in
-        deed-goes k small x s there l pend o heads (met env p sd) quiet (ours-unoffered p.row mine) (λ n. past-later 0 1 (x.part.nodes n).row (omega arith) (sits.1 n)) (met-fair (is_plain_syn sd) refl)
-        (own-keeps (met env p sd) (subst (λ (r : Option FrontRow). FrontDeedKeeps env.serve.files env.serve.c l.w l.out l.vs l.was_reset (front_hears env p bytes sd r)) found all)) help where
-          met-fair : (b : Bool) → is_plain_syn sd ≡ b → MessagesFair k small x s there l pend o (cond b (front_begun env p sd) Drops)
-          met-fair true e = tt
-          met-fair false e = tt
+    begins-here : (sd : Said) → p.row ≡ None → Goes (front_begun env p sd)
+    begins-here sd none keeps help =
+        let mine : RowIsOurs p.row = subst RowIsOurs (sym none) tt in
+        let sits : Sits (owning (tale_at x)) x.part.nodes None = subst (Sits (owning (tale_at x)) x.part.nodes) none help.placed.sits in
+        deed-goes k small x s there l pend o heads (front_begun env p sd) quiet (ours-unoffered p.row mine) (λ n. past-later 0 1 (x.part.nodes n).row (omega arith) (sits.1 n)) tt (keeps mine) help
 
-    hears-row : (row : Option FrontRow) → p.row ≡ row → Goes (front_hears env p bytes sd row)
-    hears-row None found help = begins-here found help
-    hears-row (Some row) found help = hears-stage row row.stage found refl help
+    module _ (bytes : List ℕ) (sd : Said) (is_spelled : bytes ≡ spelled x.c ToCluster sd) (word : IsWord l.w sd) where
+      forwards : (n : ℕ) (d : Epoch) → Goes (forwarded env n d bytes)
+      forwards n d keeps help = says-goes k small x s there l pend o heads (front_saying ((Node n, message env.serve.c d.0 (body.Forward bytes)) ∷ [])) (quiet (forwarded env n d bytes)) refl tt
+          (subst (λ (c : ℕ). IsFair l x.c x.part (letter Front (Node n, message c d.0 (body.Forward bytes)))) (sym is.number) (forward-fair l x.c x.part n d.0 bytes sd is_spelled word), tt) help
 
-  -- its timers fire
-  module _ (talk : IsFrontTalk env l.w l.out l.vs) (heads : List Seen) (quiet : IsQuiet k small x s there l pend o heads) where
-    abbrev q : FrontPart
-    q = x.part.front
+      words : (row : FrontRow) (last : Final) → IsInStage p row (stage.Closed last) → Goes (Says (turn_here (tombstone env.serve (last_words last.reason last sd))))
+      words row last at keeps help =
+          let t = keeps (ours row (stage.Closed last) at tt) in
+          let turn : FrontTurn = turn_here (tombstone env.serve (last_words last.reason last sd)) in
+          says-goes k small x s there l pend o heads turn (quiet (Says turn)) t.0 t.1 tt help
 
-    abbrev Fires : FrontDeed → Type 0
-    Fires d = Helps x (front_does x heads d) → IsTrueMove k.files x (front_does x heads d)
+      by-segment : KeptBySegment env p bytes sd (λ w o. Unit {0}) Goes
+      by-segment = record {
+        drops = drops;
+        begins = λ none plain. begins-here sd none;
+        reads = λ row b at. tt;
+        holds = λ row b w at r. at-home row (stage.Held b) at tt tt (holds p row (front_rest p.rest) (serving_settled env.serve w)) tt;
+        hands = λ row b w path choice at r is. at-home row (stage.Held b) at tt tt (Does (placed env p row (front_rest p.rest) w path (first.Go choice))) tt;
+        waits = λ row b w path at r is. at-home row (stage.Held b) at tt tt (Does (placed env p row (front_rest p.rest) w path first.Waits)) tt;
+        stays = λ row b at. at-home row (stage.Waiting b) at tt tt (hears_at env p row bytes sd (stage.Waiting b)) tt;
+        forwards = λ row n d at. forwards n d;
+        words = words;
+      }
 
-    fires-home : (row : FrontRow) (d : FrontConn) → q.row ≡ Some row → row.stage ≡ d → IsBefore d → IsOurs d → MessagesFair k small x s there l pend o (fires_at env q row d) → Fires (fires_at env q row d)
-    fires-home row d found at before ours fair help =
-        let mine : RowIsOurs q.row = subst RowIsOurs (sym found) (subst IsOurs (sym at) ours) in
-        let all = timer-keeps env l.w l.out l.vs l.was_reset q talk (own-agrees mine) in
-        deed-goes k small x s there l pend o heads (fires_at env q row d) quiet (ours-unoffered q.row mine)
-        (home-past (owning (tale_at x)) row d at before (subst (Sits (owning (tale_at x)) x.part.nodes) found help.placed.sits)) fair
-        (own-keeps (fires_at env q row d)
-        (subst (λ (e : FrontConn). FrontDeedKeeps env.serve.files env.serve.c l.w l.out l.vs l.was_reset (fires_at env q row e)) at
-        (subst (λ (r : Option FrontRow). FrontDeedKeeps env.serve.files env.serve.c l.w l.out l.vs l.was_reset (front_fired_by env q r)) found all))) help
+      hears-goes : Helps x (front_does x heads (front_hears env p bytes sd p.row)) → IsTrueMove k.files x (front_does x heads (front_hears env p bytes sd p.row))
+      hears-goes = segment-keeps env p bytes sd (λ w o. Unit {0}) Goes by-segment (λ mine. own-keeps (front_hears env p bytes sd p.row) (front-hears env l.w l.out l.vs l.was_reset p bytes sd talk (own-agrees mine) word))
 
-    fires-stage : (row : FrontRow) (d : FrontConn) → q.row ≡ Some row → row.stage ≡ d → Fires (fires_at env q row d)
-    fires-stage row (stage.Held b) found at help = fires-home row (stage.Held b) found at tt tt tt help
-    fires-stage row (stage.Waiting b) found at help = fires-home row (stage.Waiting b) found at tt tt tt help
-    fires-stage row (stage.Offering n d) found at help =
-        says-goes k small x s there l pend o heads (front_saying (map sent_of q.kept)) (quiet (Says (front_saying (map sent_of q.kept)))) refl tt (again-fair q.kept help.sound.front) help
-    fires-stage row _ found at help = drops-goes k small x s there l pend o heads (quiet Drops) help
-
-    fires-row : (row : Option FrontRow) → q.row ≡ row → Fires (front_fired_by env q row)
-    fires-row None found help = drops-goes k small x s there l pend o heads (quiet Drops) help
-    fires-row (Some row) found help = fires-stage row row.stage found refl help
+    -- its timers fire
+    fires-goes : Helps x (front_does x heads (front_timer env p)) → IsTrueMove k.files x (front_does x heads (front_timer env p))
+    fires-goes = cases.timer-keeps env p Goes (record {
+      drops = drops;
+      holds = λ row b at. at-home row (stage.Held b) at tt tt (fires_at env p row (stage.Held b)) tt;
+      stays = λ row b at. at-home row (stage.Waiting b) at tt tt (fires_at env p row (stage.Waiting b)) tt;
+      resends = λ row n d at keeps help.
+          says-goes k small x s there l pend o heads (front_saying (map sent_of p.kept)) (quiet (Says (front_saying (map sent_of p.kept)))) refl tt (again-fair p.kept help.sound.front) help;
+    }) (λ mine. own-keeps (front_timer env p) (timer-keeps env l.w l.out l.vs l.was_reset p talk (own-agrees mine)))
 
 -- ---- two rules
 
@@ -328,7 +302,7 @@ module _ (k : Setting) (small : k.stream ≤ 2 ^ 30) where
       let o = open-at k.files x s there h in
       let same : FrontEnv = record env { iss = s.iss } in
       let mine : IsFrontEnv k x.c same = record { place = is.place; number = is.number; files = is.files; stream = is.stream } in
-      fires-row k small x s there same mine h.talk h.pend o (talk-of k small x same mine s h.talk h.pend o refl) (event_seen (event.Timer Front x.c)) (λ d. quiet-at d) x.part.front.row refl help where
+      fires-goes k small x s there same mine h.talk h.pend o (talk-of k small x same mine s h.talk h.pend o refl) (event_seen (event.Timer Front x.c)) (λ d. quiet-at d) help where
         quiet-at : (d : FrontDeed) → bytes_of (tale_before x (front_does x (event_seen (event.Timer Front x.c)) d)) ≡ bytes_of (tale_at x)
         quiet-at Drops = refl
         quiet-at (Says turn) = refl
@@ -342,7 +316,7 @@ module _ (k : Setting) (small : k.stream ≤ 2 ^ 30) where
       let heads : List Seen = packet_seen (Client x.c) Front bytes in
       let same : decoded bytes x.c ToCluster ≡ Ok f.0 = ap (λ (b : List ℕ). decoded b x.c ToCluster) f.1 ∙ again x.c ToCluster f.0 f.2.sendable in
       subst (λ (r : Result Said SegFault). Helps x (front_does x heads (front_gets env x.part.front bytes r)) → IsTrueMove k.files x (front_does x heads (front_gets env x.part.front bytes r))) (sym same)
-      (hears-row k small x s there env is h.talk h.pend o bytes f.0 f.1 f.2 (talk-of k small x env is s h.talk h.pend o iss) heads (λ d. quiet-at d) x.part.front.row refl) help where
+      (hears-goes k small x s there env is h.talk h.pend o (talk-of k small x env is s h.talk h.pend o iss) heads (λ d. quiet-at d) bytes f.0 f.1 f.2) help where
         quiet-at : (d : FrontDeed) → bytes_of (tale_before x (front_does x (packet_seen (Client x.c) Front bytes) d)) ≡ bytes_of (tale_at x)
         quiet-at Drops = refl
         quiet-at (Says turn) = refl
