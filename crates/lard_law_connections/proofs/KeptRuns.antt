@@ -7,7 +7,7 @@ use Rattle.lard_base.specs.declared.place.Place.TheVariants.{Client, Front, Node
 use Rattle.lard_law_connections.specs.Kept.{IsKeptByStage}
 use Rattle.lard_law_connections.specs.KeptLaws.{AnyNode, ConnectionsAreKept}
 use Rattle.lard_law_connections.proofs.KeptFronts as front_keeps
-use Rattle.lard_law_connections.proofs.KeptFronts.{AdmittedKeeps, admitted-keeps, asked-keeps, ended-keeps, front-move, gets-keep, taken-keeps}
+use Rattle.lard_law_connections.proofs.KeptFronts.{admitted-keep, asked-keep, ended-keep, front-move, gets-keep, taken-keep, timer-keep}
 use Rattle.lard_law_connections.proofs.KeptNodes as node_keeps
 use Rattle.lard_law_connections.proofs.KeptNodes.{acknowledged-keeps, content-keeps, forwarded-keeps, node-move, offered-keeps, read-keeps, tagged-keeps}
 use Rattle.lard_law_connections.specs.Kept.{FrontKeeps, NodeKeepsMessages}
@@ -16,14 +16,14 @@ use Rattle.lard_law_view.specs.View.{ClientRules, Conn, FrontRules, IsFrontEnv, 
 use Rattle.lard_law_view.proofs.Carried.{carried}
 use Rattle.lard_files.specs.Files.{file_at}
 use Rattle.lard_rules.specs.Front as front
-use Rattle.lard_rules.specs.Front.{FrontEnv, ask_of, front_admitted, front_asked, front_ended, front_gets, front_taken, front_timer}
+use Rattle.lard_rules.specs.Front.{FrontEnv, ask_of, front_asked, front_ended, front_gets, front_taken, front_timer}
 use Rattle.lard_history.specs.Own.{Seen}
 use Rattle.lard_history.proofs.Each.{Each}
 use Rattle.lard_message.specs.declared.message.Body.TheVariants as body
 use Rattle.lard_rules.specs.Node as node
 use Rattle.lard_endpoint.specs.Control.{ControlBlock}
 use Rattle.lard_rules.specs.declared.stay.Stay.{Stay}
-use Rattle.lard_rules.specs.Node.{here, NodePart, node_acknowledged, node_content, node_forwarded, node_offered, node_read, node_tagged, node_timer}
+use Rattle.lard_rules.specs.Node.{here, node_acknowledged, node_content, node_forwarded, node_offered, node_read, node_tagged, node_timer}
 use Rattle.lard_rules.specs.Stay.{NodeEnv}
 use Rattle.lard_segment.specs.declared.segment.Dir.TheVariants.{ToCluster}
 use Rattle.lard_segment.specs.Segment.{decoded}
@@ -59,14 +59,14 @@ module _ (N : ℕ → Type 0) (Given : Conn → Type 0) (names : (x : Conn) → 
   fronts : FrontRules k Keeps
   fronts = record {
     hears = λ x s env bytes there is iss was may h. by-front x env is (packet_seen (Client x.c) Front bytes) (front_gets env x.part.front bytes (decoded bytes x.c ToCluster)) (λ g. gets-keep env x.part.front g bytes (decoded bytes x.c ToCluster)) h;
-    fires = λ x s env there is may h. by-front x env is (event_seen (event.Timer Front x.c)) (front_timer env x.part.front) (λ g. front_keeps.timer-keeps env x.part.front g) h;
-    taken = λ x env n epoch bytes is spells was may h. by-front x env is (packet_seen (Node n) Front bytes) (front_taken x.part.front epoch) (λ g. taken-keeps env x.part.front g epoch) h;
+    fires = λ x s env there is may h. by-front x env is (event_seen (event.Timer Front x.c)) (front_timer env x.part.front) (λ g. timer-keep env x.part.front g) h;
+    taken = λ x env n epoch bytes is spells was may h. by-front x env is (packet_seen (Node n) Front bytes) (front_taken x.part.front epoch) (λ g. taken-keep env x.part.front g epoch) h;
     asked = λ x env n epoch number queue size paths bytes is spells was may h. by-front x env is (packet_seen (Node n) Front bytes) (front_asked env x.part.front n epoch (ask_of x.c n number queue size paths))
-        (λ g. asked-keeps env x.part.front g n epoch (ask_of x.c n number queue size paths)) h;
+        (λ g. asked-keep env x.part.front g n epoch (ask_of x.c n number queue size paths)) h;
     ended = λ x env n epoch reason snd rcv count bytes is spells was may h. by-front x env is (packet_seen (Node n) Front bytes)
         (front_ended env x.part.front n epoch (record { reason = reason; snd = record { 0 = snd }; rcv = record { 0 = rcv } }))
-        (λ g. ended-keeps env x.part.front g n epoch (record { reason = reason; snd = record { 0 = snd }; rcv = record { 0 = rcv } })) h;
-    admitted = λ x env choice given is e may h. by-front x env is [] (front.Does (record { part = given.0; turn = given.1; calls = [] })) (λ g. subst (AdmittedKeeps env.serve.c) e (admitted-keeps env x.part.front choice)) h;
+        (λ g. ended-keep env x.part.front g n epoch (record { reason = reason; snd = record { 0 = snd }; rcv = record { 0 = rcv } })) h;
+    admitted = λ x env choice given is e may h. by-front x env is [] (front.Does (record { part = given.0; turn = given.1; calls = [] })) (λ g. admitted-keep env x.part.front choice given e) h;
   }
 
   -- a rule of a node
