@@ -8,7 +8,7 @@ use Rattle.lard_base.specs.declared.place.Place.TheVariants.{Client, Front, Node
 use Rattle.lard_base.specs.declared.place.TimerKind.TheVariants as kind
 use Rattle.lard_laws.specs.Homes.{HasOneHome}
 use Rattle.lard_laws.specs.HomesLaws.{ConnectionsHaveOneHome}
-use Rattle.lard_laws.proofs.HomesFronts.{AdmittedHomes, admitted-home, asked-home, ended-home, front-move, gets-home, taken-home, timer-home}
+use Rattle.lard_laws.proofs.HomesFronts.{admitted-home, asked-home, ended-home, front-move, gets-home, taken-home, timer-home}
 use Rattle.lard_laws.proofs.HomesNodes.{DeedGoesOn, gone-goes, node-move, offered-home, stay-goes}
 use Rattle.lard_law_connections.specs.Kept.{IsKeptByStage, NodeKeepsMessages}
 use Rattle.lard_law_connections.specs.KeptLaws.{AnyNode}
@@ -74,7 +74,7 @@ module _ (k : Setting) where
         (asked-home x.part.nodes x.part.front h env n epoch (ask_of x.c n number queue size paths)) h;
     ended = λ x env n epoch reason snd rcv count bytes is spells was may h. front-move x (packet_seen (Node n) Front bytes) (front_ended env x.part.front n epoch (record { reason = reason; snd = record { 0 = snd }; rcv = record { 0 = rcv } }))
         (ended-home x.part.nodes x.part.front h env n epoch (record { reason = reason; snd = record { 0 = snd }; rcv = record { 0 = rcv } })) h;
-    admitted = λ x env choice given is e may h. subst (AdmittedHomes x.part.nodes x.part.front) e (admitted-home x.part.nodes x.part.front h env choice);
+    admitted = λ x env choice given is e may h. admitted-home x.part.nodes x.part.front h env choice given e;
   }
 
   -- a rule of a stay
