@@ -1,10 +1,10 @@
 -- What the front end does leaves the last Tag with nodes that are there, and with as many as requests wait for one.
-use Rattle.std.proofs.Common.{◌≡◌, ◌≤◌, ◌+◌, ◌==◌, ◌&&◌, nat_lt, ℕ, true, false, cond, List, [], length, map, Option, Some, None, Result, Ok, Err, refl, sym, ap, ◌∙◌, subst, arith, eqb-true, inr, ⊎_elim}
-use Rattle.std.proofs.lemmas.Bool.{and_parts, cond_both}
+use Rattle.std.proofs.Common.{◌≡◌, ◌≤◌, ◌+◌, ◌==◌, ◌&&◌, ℕ, true, false, List, [], length, map, Option, Some, None, Result, Ok, Err, refl, sym, ap, ◌∙◌, subst, arith, eqb-true, inr, ⊎_elim}
+use Rattle.std.proofs.lemmas.Bool.{and_parts}
 use Rattle.lard_answers.specs.Answers.{FilesAt}
 use Rattle.lard_base.specs.declared.place.Place.TheVariants.{Front, Node}
 use Rattle.lard_laws.proofs.AsksMoving.{Fills}
-use Rattle.lard_law_connections.specs.Places.{ArePast, IsPast, Sits, StageSits, owning}
+use Rattle.lard_law_connections.specs.Places.{ArePast, IsPast, Sits, owning}
 use Rattle.lard_law_connections.proofs.PlacesFrontRules.{has-each}
 use Rattle.lard_laws.specs.Tags.{FitsAt, NamesNodes, TagsAre}
 use Rattle.lard_laws.proofs.TagsChoices.{Names}
@@ -13,32 +13,25 @@ use Rattle.lard_law_view.specs.Carry.{tale_at}
 use Rattle.lard_law_view.specs.View.{Conn, Move, SpellsMessage, Was, front_admits, front_does, grown, packet_seen, rows_of}
 use Rattle.lard_laws.specs.WaysState.{AskIs, LetterWays, NodeSaysWays, StayAsks, marks_at}
 use Rattle.lard_dispatch.specs.declared.dispatch.Ask.{Ask}
-use Rattle.lard_dispatch.specs.declared.dispatch.First.{First}
-use Rattle.lard_dispatch.specs.declared.dispatch.First.TheVariants as first
 use Rattle.lard_endpoint.specs.declared.control.moving.Final.{Final}
-use Rattle.lard_endpoint.specs.Arriving.{on_segment}
 use Rattle.lard_endpoint.specs.Control.{ControlBlock}
 use Rattle.lard_rules.specs.declared.front.FrontRest.{FrontRest}
 use Rattle.lard_rules.specs.declared.front.FrontTurn.{FrontTurn}
-use Rattle.lard_rules.specs.Front.{FrontDeed, Did, Drops, Says, Does, FrontEnv, FrontPart, admitted_at, admitted_by, front_admitted_with, ask_of, asked_by, assigns, front_begun, front_ended_by, front_ends, front_fired, front_fired_by, fires_at, front_admitted, front_asked, front_ended, front_gets, front_hears, front_taken, front_timer, heard, hears_at, is_row_at, is_with, offering, placed, front_rest, front_rests, front_saying, settled_by, tag_sent, taken_by}
-use Rattle.lard_rules.specs.FrontReading.{Reading, front_reads}
+use Rattle.lard_rules.specs.Front.{FrontDeed, Did, Drops, Says, Does, FrontEnv, FrontPart, ask_of, assigns, front_ends, front_fired, front_admitted, front_asked, front_ended, front_gets, front_taken, front_timer, is_row_at, is_with, offering, placed, front_rest, front_rests}
 use Rattle.lard_handoff_front.specs.declared.row.FrontConn.{FrontConn}
 use Rattle.lard_handoff_front.specs.declared.row.FrontConn.TheVariants as stage
 use Rattle.lard_handoff_front.specs.declared.row.FrontRow.{FrontRow}
-use Rattle.lard_handoff_front.specs.declared.table.OnEnded.{OnEnded}
-use Rattle.lard_handoff_front.specs.declared.table.OnEnded.TheVariants.{New, Again, Stale}
-use Rattle.lard_handoff_front.specs.Front.{asked_node, end_answer, ended_with, next_epoch}
-use Rattle.lard_handoff_front.specs.Row.{is_away, offered_to}
+use Rattle.lard_handoff_front.specs.Front.{next_epoch}
 use Rattle.lard_history.specs.Own.{Row, Seen}
 use Rattle.lard_history.proofs.Each.{Each}
 use Rattle.lard_message.specs.declared.message.Body.TheVariants as body
 use Rattle.lard_policy.specs.declared.first.FirstChoice.{FirstChoice}
 use Rattle.lard_rules.specs.declared.places.Ending.{Ending}
 use Rattle.lard_rules.specs.declared.places.Ending.TheVariants as ending
-use Rattle.lard_rules.specs.Tombstone.{is_plain_syn}
 use Rattle.lard_rules.specs.Serving.{Service, serving, serving_settled, spoken}
 use Rattle.lard_segment.specs.declared.fault.SegFault.{SegFault}
 use Rattle.lard_segment.specs.Segment.{Said}
+use Rattle.lard_rules.proofs.FrontCases.{KeptBySegment, IsInStage, of-stage, begun_row, begun_service, heard_service, waiting_service, segment-keeps, timer-keeps, taken-keeps, asked-keeps, ended-keeps, admitted-keeps}
 
 -- the nodes of the Tag of what is kept, if anything is
 tags-of : (N : ℕ → Type 0) (o : Option FrontRest) → ((r : FrontRest) → o ≡ Some r → Each N r.tag) → Each N (front_rest o).tag
@@ -87,110 +80,55 @@ module _ (N : ℕ → Type 0) (files : FilesAt) (x : Conn) (facts : Facts files 
   offering-fits : (env : FrontEnv) (row : FrontRow) (w : Service) (path : List ℕ) (node d : ℕ) → ArePast d x.part.nodes → PartFits (offering env row w path node)
   offering-fits env row w path node d past = (one-tag N (record { count = w.count; asks = 0; tag = []; assigned = w.count + 1; target = None }) tt, past-none (offering env row w path node) d past)
 
-  -- ---- segments
+  -- no node has one that is held or waits
+  past-held : (row : FrontRow) (b : ControlBlock) → IsInStage p row (stage.Held b) → ArePast row.epoch.0 x.part.nodes
+  past-held row b at = (of-stage (Sits (owning (tale_at x)) x.part.nodes) p row (stage.Held b) at facts.placed.sits).0.1.1
 
-  module _ (env : FrontEnv) (row : FrontRow) (d : ℕ) (past : ArePast d x.part.nodes) where
-    placed-fits : (rest : FrontRest) → Each N rest.tag → (w : Service) (path : List ℕ) (f : First) → PartFits (placed env p row rest w path f).part
-    placed-fits rest tags w path (first.Go choice) = offering-fits env row w path choice.node d past
-    placed-fits rest tags w path first.Waits = waiting-rests row (record rest { target = Some path }) tags _
+  past-waiting : (row : FrontRow) (b : ControlBlock) → IsInStage p row (stage.Waiting b) → ArePast row.epoch.0 x.part.nodes
+  past-waiting row b at = (of-stage (Sits (owning (tale_at x)) x.part.nodes) p row (stage.Waiting b) at facts.placed.sits).0.1.1
 
-    settled-fits : (w : Service) (o : Option (List ℕ)) → DeedFits (settled_by env p row (front_rest p.rest) w o)
-    settled-fits w None = held-rests row (front_rest p.rest) mine (serving_settled env.serve w).0
-    settled-fits w (Some path) = placed-fits (front_rest p.rest) mine w path (env.first path)
+  -- ---- segments and the timer
 
-    heard-fits : (b : ControlBlock) → DeedFits (heard env p row (front_rest p.rest) b)
-    heard-fits b =
-        let y : Reading = front_reads env.serve (record { service = serving b (front_rest p.rest).count []; target = None }) in
-        settled-fits y.service y.target
-
-  abbrev Sits_in : ℕ → FrontConn → Type 0
-  Sits_in e st = StageSits e (owning (tale_at x)) x.part.nodes st
-
-  sits-at : (row : FrontRow) → p.row ≡ Some row → Sits_in row.epoch.0 row.stage
-  sits-at row is = (subst (Sits (owning (tale_at x)) x.part.nodes) is facts.placed.sits).0
-
-  hears-at : (env : FrontEnv) (row : FrontRow) (bytes : List ℕ) (s : Said) (st : FrontConn) → Sits_in row.epoch.0 st → DeedFits (hears_at env p row bytes s st)
-  hears-at env row bytes s (stage.Held b) k = heard-fits env row row.epoch.0 k.1.1 (on_segment b s).1
-  hears-at env row bytes s (stage.Waiting b) k = waiting-rests row (front_rest p.rest) mine (spoken env.serve (serving (on_segment b s).1 (front_rest p.rest).count []) []).0
-  hears-at env row bytes s _ k = tt
-
-  hears-by : (env : FrontEnv) (bytes : List ℕ) (s : Said) (o : Option FrontRow) → p.row ≡ o → DeedFits (front_hears env p bytes s o)
-  hears-by env bytes s None is = cond_both (is_plain_syn s) (front_begun env p s) Drops DeedFits (λ t. held-rests (record { stage = stage.Lent; epoch = record { 0 = 1 }; ended_by = None }) (front_rest None) tt _) (λ t. tt)
-  hears-by env bytes s (Some row) is = hears-at env row bytes s row.stage (sits-at row is)
+  by-segment : (env : FrontEnv) (bytes : List ℕ) (s : Said) → KeptBySegment env p bytes s (λ w o. Unit {0}) DeedFits
+  by-segment env bytes s = record {
+    drops = tt;
+    begins = λ none plain. held-rests begun_row (front_rest None) tt (spoken env.serve (begun_service env s) []).0;
+    reads = λ row b at. tt;
+    holds = λ row b w at r. held-rests row (front_rest p.rest) mine (serving_settled env.serve w).0;
+    hands = λ row b w path choice at r is. offering-fits env row w path choice.node row.epoch.0 (past-held row b at);
+    waits = λ row b w path at r is. waiting-rests row (record (front_rest p.rest) { target = Some path }) mine (spoken env.serve (waiting_service env w) []).0;
+    stays = λ row b at. waiting-rests row (front_rest p.rest) mine (spoken env.serve (heard_service p b s) []).0;
+    forwards = λ row n e at. tt;
+    words = λ row last at. tt;
+  }
 
   pub gets-fit : (env : FrontEnv) (bytes : List ℕ) (r : Result Said SegFault) → DeedFits (front_gets env p bytes r)
   gets-fit env bytes (Err fault) = tt
-  gets-fit env bytes (Ok s) = hears-by env bytes s p.row refl
-
-  -- ---- the timer
-
-  fires-at : (env : FrontEnv) (row : FrontRow) (st : FrontConn) → DeedFits (fires_at env p row st)
-  fires-at env row (stage.Held b) = held-rests row (front_rest p.rest) mine (front_fired env (front_rest p.rest) b).0
-  fires-at env row (stage.Waiting b) = waiting-rests row (front_rest p.rest) mine (front_fired env (front_rest p.rest) b).0
-  fires-at env row _ = tt
-
-  fires-by : (env : FrontEnv) (o : Option FrontRow) → DeedFits (front_fired_by env p o)
-  fires-by env None = tt
-  fires-by env (Some row) = fires-at env row row.stage
+  gets-fit env bytes (Ok s) = segment-keeps env p bytes s (λ w o. Unit {0}) DeedFits (by-segment env bytes s)
 
   pub timer-fits : (env : FrontEnv) → DeedFits (front_timer env p)
-  timer-fits env = fires-by env p.row
+  timer-fits env = timer-keeps env p DeedFits (record {
+    drops = tt;
+    holds = λ row b at. held-rests row (front_rest p.rest) mine (front_fired env (front_rest p.rest) b).0;
+    stays = λ row b at. waiting-rests row (front_rest p.rest) mine (front_fired env (front_rest p.rest) b).0;
+    resends = λ row n e at. tt;
+  })
 
   -- ---- messages of nodes
 
-  taken-at : (epoch : ℕ) (row : FrontRow) → p.row ≡ Some row → (st : FrontConn) → row.stage ≡ st → DeedFits (taken_by p epoch (Some row) (offered_to epoch st))
-  taken-at epoch row is (stage.Held b) eq = tt
-  taken-at epoch row is (stage.Waiting b) eq = tt
-  taken-at epoch row is stage.Lent eq = tt
-  taken-at epoch row is (stage.Moved node e) eq = tt
-  taken-at epoch row is (stage.Closed last) eq = tt
-  taken-at epoch row is (stage.Offering node d) eq = cond_both (d.0 == epoch) (Some node) None (λ o. DeedFits (taken_by p epoch (Some row) o))
-      (λ t. (
-        h.nodes,
-        λ n e b s r at.
-            let same : d.0 ≡ epoch = eqb-true d.0 epoch t in
-            h.fits n e b s r (ap (is_row_at n e) is ∙ ap (is_with n e) eq ∙ ap (λ (i : ℕ). node == n && i == e) same ∙ at),
-      ))
-      (λ t. tt)
-
-  taken-by : (epoch : ℕ) (o : Option FrontRow) → p.row ≡ o → DeedFits (taken_by p epoch o (asked_node epoch o))
-  taken-by epoch None is = tt
-  taken-by epoch (Some row) is = taken-at epoch row is row.stage refl
-
   pub taken-fits : (epoch : ℕ) → DeedFits (front_taken p epoch)
-  taken-fits epoch = taken-by epoch p.row refl
-
-  ended-by : (env : FrontEnv) (n epoch : ℕ) (last : Final) (o : Option FrontRow) → DeedFits (front_ended_by env p n epoch last o (end_answer epoch o))
-  ended-by env n epoch last None = tt
-  ended-by env n epoch last (Some row) =
-      cond_both (is_away epoch row.stage) (New (next_epoch row)) (cond (ended_with epoch row.ended_by) Again Stale) (λ (a : OnEnded). DeedFits (front_ended_by env p n epoch last (Some row) a))
-      (λ away. ((λ r is. let no : None ≡ Some r = is in absurd cc), at-none (front_ends env p n epoch last row (next_epoch row)).part (λ m e is. let no : false ≡ true = is in absurd cc)))
-      (λ t. cond_both (ended_with epoch row.ended_by) Again Stale (λ (a : OnEnded). DeedFits (front_ended_by env p n epoch last (Some row) a)) (λ t. tt) (λ t. tt))
+  taken-fits epoch = taken-keeps p DeedFits tt epoch (λ row node d at same.
+      (h.nodes, λ n e b s r there. h.fits n e b s r (ap (is_row_at n e) at.0 ∙ ap (is_with n e) at.1 ∙ ap (λ (i : ℕ). node == n && i == e) same ∙ there)))
 
   pub ended-fits : (env : FrontEnv) (n epoch : ℕ) (last : Final) → DeedFits (front_ended env p n epoch last)
-  ended-fits env n epoch last = ended-by env n epoch last p.row
+  ended-fits env n epoch last = ended-keeps p DeedFits tt env n epoch last (λ row found away again. tt) (λ row found away.
+      ((λ r is. let no : None ≡ Some r = is in absurd cc), at-none (front_ends env p n epoch last row (next_epoch row)).part (λ m e is. let no : false ≡ true = is in absurd cc)))
 
   -- ---- the head of the line
 
-  abbrev pub AdmittedFits : Option (FrontPart × FrontTurn) → Type 0
-  AdmittedFits None = Unit {0}
-  AdmittedFits (Some given) = PartFits given.0
-
-  admitted-path : (env : FrontEnv) (row : FrontRow) (rest : FrontRest) (b : ControlBlock) (choice : FirstChoice) (d : ℕ) → ArePast d x.part.nodes → (o : Option (List ℕ)) → AdmittedFits (front_admitted_with env row rest b choice o)
-  admitted-path env row rest b choice d past None = tt
-  admitted-path env row rest b choice d past (Some path) = offering-fits env row (serving b rest.count []) path choice.node d past
-
-  admitted-stage : (env : FrontEnv) (choice : FirstChoice) (row : FrontRow) (st : FrontConn) → Sits_in row.epoch.0 st → AdmittedFits (admitted_at env p choice row st)
-  admitted-stage env choice row (stage.Waiting b) k = admitted-path env row (front_rest p.rest) b choice row.epoch.0 k.1.1 (front_rest p.rest).target
-  admitted-stage env choice row _ k = tt
-
-  admitted-row : (env : FrontEnv) (choice : FirstChoice) (o : Option FrontRow) → p.row ≡ o → AdmittedFits (admitted_by env p choice o)
-  admitted-row env choice None is = tt
-  admitted-row env choice (Some row) is = admitted-stage env choice row row.stage (sits-at row is)
-
-  pub admitted-fits : (env : FrontEnv) (choice : FirstChoice) → AdmittedFits (front_admitted env p choice)
-  admitted-fits env choice = admitted-row env choice p.row refl
-
+  pub admitted-fits : (env : FrontEnv) (choice : FirstChoice) (given : FrontPart × FrontTurn) → front_admitted env p choice ≡ Some given → PartFits given.0
+  admitted-fits env choice = admitted-keeps env p choice (λ given. PartFits given.0)
+      (λ row b path at target. offering-fits env row (serving b (front_rest p.rest).count []) path choice.node row.epoch.0 (past-waiting row b at))
   -- ---- an Ask
 
   -- it is with one node, in one epoch
@@ -241,16 +179,8 @@ module _ (N : ℕ → Type 0) (files : FilesAt) (x : Conn) (facts : Facts files 
     abbrev Fit : FrontDeed → Type 0
     Fit d = Fills x (grown x (front_does x heads d)) → Names N x (grown x (front_does x heads d)) → DeedFits d
 
-    asked-by : is_row_at n epoch p.row ≡ true → (o : Option FrontRest) → p.rest ≡ o → Fit (asked_by env p n epoch ask o)
-    asked-by at None found = λ fills names. tt
-    asked-by at (Some r) found =
-        cond_both (number == r.asks + 1) (Does (assigns env p r n epoch ask (env.later ask))) (cond (number == r.asks && nat_lt 0 r.asks) (Says (front_saying (tag_sent env n epoch r.asks r.tag))) Drops) Fit
-        (λ t fills names. assigned-fits r found at (eqb-true number (r.asks + 1) t) fills names)
-        (λ t. cond_both (number == r.asks && nat_lt 0 r.asks) (Says (front_saying (tag_sent env n epoch r.asks r.tag))) Drops Fit (λ t fills names. tt) (λ t fills names. tt))
-
     pub asked-fits : Fit (front_asked env p n epoch ask)
-    asked-fits = cond_both (is_row_at n epoch p.row) (asked_by env p n epoch ask p.rest) Drops Fit (λ at. asked-by at p.rest refl) (λ t fills names. tt)
-
+    asked-fits = asked-keeps p Fit (λ fills names. tt) env n epoch ask (λ rest found there same some fills names. tt) (λ rest found there next fills names. assigned-fits rest found there next fills names)
   -- ---- its move
 
   pub front-move : (seen : List Seen) (d : FrontDeed) → DeedFits d → NamesNodes N files (grown x (front_does x seen d))

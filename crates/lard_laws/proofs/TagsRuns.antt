@@ -25,11 +25,11 @@ use Rattle.lard_law_connections.proofs.PolicyCounted.{IsCounted, reached-counted
 use Rattle.lard_laws.specs.TagsLaws.{ConnectionsNameNodes}
 use Rattle.lard_laws.specs.Tags.{NamesNodes}
 use Rattle.lard_laws.proofs.TagsChoices.{Names, step-names}
-use Rattle.lard_laws.proofs.TagsFronts.{AdmittedFits, admitted-fits, admitted-move, asked-fits, ended-fits, front-move, gets-fit, taken-fits, timer-fits}
+use Rattle.lard_laws.proofs.TagsFronts.{admitted-fits, admitted-move, asked-fits, ended-fits, front-move, gets-fit, taken-fits, timer-fits}
 use Rattle.lard_laws.proofs.TagsNodes.{DeedFits, Facts, begins-fit, goes-fit, node-move}
 use Rattle.lard_law_view.specs.Carry.{Untouched, setting, tale_at}
 use Rattle.lard_law_view.specs.View as view
-use Rattle.lard_law_view.specs.View.{ClientRules, Conn, FrontRules, IsNodeEnv, Move, NodeRules, Rules, Setting, blank_conn, conn, event_seen, grown, node_does, packet_seen}
+use Rattle.lard_law_view.specs.View.{ClientRules, Conn, FrontRules, IsNodeEnv, Move, NodeRules, Rules, Setting, conn, event_seen, grown, node_does, packet_seen}
 use Rattle.lard_law_view.proofs.After.{IsAfter, step-after}
 use Rattle.lard_law_view.proofs.Carried.{IsOn, carried-keep, goes-on, gone}
 use Rattle.lard_law_view.proofs.Guarded.{untouched-before}
@@ -92,7 +92,7 @@ module _ (N : ℕ → Type 0) (k : Setting) where
     ended = λ x env n epoch reason snd rcv count bytes is spells was known fills names h.
         front-move N k.files x known.facts h (packet_seen (Node n) Front bytes) (front_ended env x.part.front n epoch (record { reason = reason; snd = record { 0 = snd }; rcv = record { 0 = rcv } }))
         (ended-fits N k.files x known.facts h env n epoch (record { reason = reason; snd = record { 0 = snd }; rcv = record { 0 = rcv } }));
-    admitted = λ x env choice given is e known fills names h. admitted-move N k.files x known.facts h given (subst (AdmittedFits N k.files x known.facts h) e (admitted-fits N k.files x known.facts h env choice));
+    admitted = λ x env choice given is e known fills names h. admitted-move N k.files x known.facts h given (admitted-fits N k.files x known.facts h env choice given e);
   }
 
   -- a rule of a node, whose stay goes on
