@@ -121,7 +121,7 @@ module _ (k : Setting) (x : Conn) (env : FrontEnv) (is : IsFrontEnv k x.c env) w
 
     go : (r : Result Segment SegFault) → IsItsOwn x (front_does x heads (front_gets env x.part.front bytes r)) → Answers x (front_does x heads (front_gets env x.part.front bytes r))
     go (Err fault) own = fronts.drops-answers k x told known heads (tt, tt) refl env is own
-    go (Ok s) own = fronts.hears-answers k x told known heads (tt, tt) refl env is bytes s x.part.front.row own
+    go (Ok s) own = fronts.hears-answers k x told known heads (tt, tt) refl env is bytes s own
 
   fires-goes : Goes k x (front_does x (event_seen (event.Timer Front x.c)) (front_timer env x.part.front))
   fires-goes known told own fills = fronts.fires-answers k x told known (event_seen (event.Timer Front x.c)) (tt, tt) refl env is own
