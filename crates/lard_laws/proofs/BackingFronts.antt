@@ -1,5 +1,5 @@
 -- The rules of the front end: it answers before anything is assigned, and assigns the next request.
-use Rattle.std.proofs.Common.{◌≡◌, ◌≤◌, ◌+◌, ◌^◌, ◌==◌, ◌&&◌, nat_lt, ℕ, Bool, true, false, cond, List, [], ◌∷◌, ◌++◌, Option, Some, None, ⊎_elim, refl, sym, ap, ◌∙◌, subst}
+use Rattle.std.proofs.Common.{◌≡◌, ◌≤◌, ◌+◌, ◌^◌, ℕ, Bool, true, false, List, [], ◌∷◌, ◌++◌, Option, Some, None, ⊎_elim, refl, sym, ap, ◌∙◌, subst}
 use Rattle.lard_answers.specs.Answers.{FilesAt}
 use Rattle.lard_base.specs.declared.place.Place.TheVariants.{Front, Node}
 use Rattle.lard_laws.specs.BackingRequests.{IsFor}
@@ -25,24 +25,19 @@ use Rattle.lard_laws.proofs.WaysLooking.{Looks, reads-look}
 use Rattle.lard_laws.proofs.WaysMarking.{mark, marked}
 use Rattle.lard_costs.specs.declared.later.LaterChoice.{LaterChoice}
 use Rattle.lard_dispatch.specs.declared.dispatch.Ask.{Ask}
-use Rattle.lard_dispatch.specs.declared.dispatch.First.{First}
 use Rattle.lard_dispatch.specs.declared.dispatch.First.TheVariants as first
-use Rattle.lard_endpoint.specs.Arriving.{on_segment}
 use Rattle.lard_endpoint.specs.Control.{ControlBlock}
 use Rattle.lard_endpoint.specs.declared.control.moving.Final.{Final}
 use Rattle.lard_endpoint.specs.Moving.{may_freeze}
 use Rattle.lard_rules.specs.declared.front.FrontRest.{FrontRest}
-use Rattle.lard_rules.specs.declared.front.FrontTurn.{FrontTurn}
-use Rattle.lard_rules.specs.Front.{FrontDeed, Does, Drops, FrontEnv, FrontPart, Says, front_admitted_with, asked_by, assigned_notes, assigns, front_begun, front_ended_by, front_fired_by, fires_at, front_asked, front_ended, front_hears, front_taken, handed_off, hears_at, is_row_at, is_with, met, over_note, placed, front_rest, front_saying, settled_by, tag_sent, taken_by, turn_here}
+use Rattle.lard_rules.specs.Front.{FrontDeed, Does, Drops, FrontEnv, FrontPart, Says, assigned_notes, assigns, front_begun, fires_at, front_asked, front_ended, front_hears, front_taken, handed_off, hears_at, is_row_at, is_with, over_note, placed, front_rest, front_saying, tag_sent, taken_by, turn_here, front_ends, forwarded, ack_sent, front_timer, holds}
 use Rattle.lard_rules.specs.FrontReading.{MayMove, Reading, front_reads}
 use Rattle.lard_rules.proofs.FrontBlocks.{segment-serves}
 use Rattle.lard_rules.proofs.FrontTurns.{reads-stop}
 use Rattle.lard_handoff_front.specs.declared.row.FrontConn.{FrontConn}
 use Rattle.lard_handoff_front.specs.declared.row.FrontConn.TheVariants as stage
 use Rattle.lard_handoff_front.specs.declared.row.FrontRow.{FrontRow}
-use Rattle.lard_handoff_front.specs.declared.table.OnEnded.{OnEnded}
-use Rattle.lard_handoff_front.specs.declared.table.OnEnded.TheVariants.{New, Again, Stale}
-use Rattle.lard_handoff_front.specs.Front.{asked_node, end_answer}
+use Rattle.lard_handoff_front.specs.Front.{next_epoch}
 use Rattle.lard_history.specs.Own.{Seen}
 use Rattle.lard_history.proofs.Each.{Each}
 use Rattle.lard_journal.specs.declared.rec.Rec.{Rec}
@@ -53,12 +48,10 @@ use Rattle.lard_rules.specs.Node.{NodePart}
 use Rattle.lard_policy.specs.declared.first.FirstChoice.{FirstChoice}
 use Rattle.lard_request.specs.declared.verdict.Verdict.{Verdict}
 use Rattle.lard_rules.specs.declared.places.Station.{Station}
-use Rattle.lard_rules.specs.Tombstone.{is_plain_syn, last_words, tombstone}
+use Rattle.lard_rules.specs.Tombstone.{last_words, tombstone}
 use Rattle.lard_rules.specs.Serving.{Service, serving, serving_settled}
 use Rattle.lard_segment.specs.Segment.{Said}
-
-some-same : {A : Type 0} (a b : A) → Some a ≡ Some b → a ≡ b
-some-same a b e = cc
+use Rattle.lard_rules.proofs.FrontCases.{KeptBySegment, IsInStage, of-stage, heard_reading, heard_service, segment-keeps, timer-keeps, taken-keeps, asked-keeps, ended-keeps}
 
 -- ---- notes
 
@@ -128,110 +121,113 @@ module _ (k : Setting) (small : k.stream ≤ 2 ^ 30) (x : Conn) (s : Station) (t
   written-for : (r : ℕ) (path : List ℕ) → IsFor files l.w.bytes r path → IsFor files m.wrote r path
   written-for r path h = subst (λ (q : List ℕ). IsFor files q r path) (sym o.tale.wrote) h
 
-  module _ (heads : List Seen) (row : FrontRow) (found : p.row ≡ Some row) where
+  seat-at : (row : FrontRow) (d : FrontConn) → IsInStage p row d → GoesItsWay files x → StageWays files m x.part row.epoch.0 d
+  seat-at row d at g = of-stage (SeatWays files m x.part) p row d at g.seat
+
+  truth-at : (row : FrontRow) (d : FrontConn) → IsInStage p row d → StageAgrees l.w l.out l.vs pend l.was_reset x.c x.part row.epoch.0 d
+  truth-at row d at = of-stage (SeatAgrees l.w l.out l.vs pend l.was_reset x.c x.part) p row d at o.seat
+
+  module _ (heads : List Seen) where
     abbrev Goal : FrontDeed → Type 0
     Goal d = Keeps files x (front_does x heads d)
 
     still : Goal Drops
     still = front-makes files x (front_does x heads Drops) refl tt
 
-    seat-at : (d : FrontConn) → row.stage ≡ d → GoesItsWay files x → StageWays files m x.part row.epoch.0 d
-    seat-at d at g = subst (StageWays files m x.part row.epoch.0) at (subst (SeatWays files m x.part) found g.seat)
+    -- what was read, where nothing was assigned: what it notes is told, and the next request is for the path that is to be placed
+    record Looked (w : Service) (target : Option (List ℕ)) : Type 0 where
+      none : m.assigned ≡ []
+      aside : Each IsAside w.notes
+      told : marked m w.notes ≡ record m { served = w.count }
+      for : (path : List ℕ) → target ≡ Some path → IsFor files m.wrote (w.count + 1) path
 
-    truth-at : (d : FrontConn) → row.stage ≡ d → StageAgrees l.w l.out l.vs pend l.was_reset x.c x.part row.epoch.0 d
-    truth-at d at = subst (StageAgrees l.w l.out l.vs pend l.was_reset x.c x.part row.epoch.0) at (subst (SeatAgrees l.w l.out l.vs pend l.was_reset x.c x.part) found o.seat)
+    abbrev Came : Service → Option (List ℕ) → Type 0
+    Came w target = GoesItsWay files x → Looked w target
 
     -- what it read is said, or the connection is placed
-    settled-makes : m.assigned ≡ [] → (w : Service) (target : Option (List ℕ)) → Each IsAside w.notes → marked m w.notes ≡ record m { served = w.count } → ((path : List ℕ) → target ≡ Some path → IsFor files m.wrote (w.count + 1) path)
-        → Goal (settled_by env p row (front_rest p.rest) w target)
-    settled-makes none w None aside told for = λ help g old.
+    holds-makes : (row : FrontRow) (w : Service) → Came w None → Goal (holds p row (front_rest p.rest) (serving_settled env.serve w))
+    holds-makes row w came help g old =
         let same : (serving_settled env.serve w).1.notes ≡ w.notes = (settled-is env.serve w).notes in
-        front-makes files x (front_does x heads (settled_by env p row (front_rest p.rest) w None)) refl
-        (subst (Backs files m) (sym same) (asides-back files m x.c none w.notes (subst (Each (NotedAt Front x.c)) same help.own.notes) aside)) help g old
-    settled-makes none w (Some path) aside told for = by-first (env.first path) where
-      by-first : (f : First) → Goal (Does (placed env p row (front_rest p.rest) w path f))
-      by-first (first.Go choice) help g old =
-          let more : List Rec = rec.Admitted env.serve.c ∷ rec.AssignedFirst env.serve.c (w.count + 1) path choice.node choice.add choice.remove ∷ [] in
-          front-makes files x (front_does x heads (Does (placed env p row (front_rest p.rest) w path (first.Go choice)))) refl
-          (backs-append files m w.notes more (asides-back files m x.c none w.notes (each-front (NotedAt Front x.c) w.notes more help.own.notes) aside)
-          (subst (λ (q : WayMarks). Backs files q more) (sym told) (tt, ((none, refl, for path refl), tt)))) help g old
-      by-first first.Waits help g old =
-          let more : List Rec = rec.Waits env.serve.c ∷ [] in
-          front-makes files x (front_does x heads (Does (placed env p row (front_rest p.rest) w path first.Waits))) refl
-          (backs-append files m w.notes more (asides-back files m x.c none w.notes (each-front (NotedAt Front x.c) w.notes more help.own.notes) aside) (tt, tt)) help g old
+        front-makes files x (front_does x heads (holds p row (front_rest p.rest) (serving_settled env.serve w))) refl
+        (subst (Backs files m) (sym same) (asides-back files m x.c (came g).none w.notes (subst (Each (NotedAt Front x.c)) same help.own.notes) (came g).aside)) help g old
 
-    module _ (talk : IsFrontTalk env l.w l.out l.vs) where
-      held-makes : (b : ControlBlock) → row.stage ≡ stage.Held b → (sd : Said) → IsWord l.w sd → Goal (hears_at env p row [] sd (stage.Held b))
-      held-makes b at sd word help g old =
-          let fh : FrontHolds l.w l.out l.vs pend b count = truth-at (stage.Held b) at in
-          let free : IsUnassigned files m = seat-at (stage.Held b) at g in
-          let start : Service = serving (on_segment b sd).1 count [] in
+    hands-makes : (row : FrontRow) (w : Service) (path : List ℕ) (choice : FirstChoice) → Came w (Some path) → Goal (Does (placed env p row (front_rest p.rest) w path (first.Go choice)))
+    hands-makes row w path choice came help g old =
+        let looked : Looked w (Some path) = came g in
+        let more : List Rec = rec.Admitted env.serve.c ∷ rec.AssignedFirst env.serve.c (w.count + 1) path choice.node choice.add choice.remove ∷ [] in
+        front-makes files x (front_does x heads (Does (placed env p row (front_rest p.rest) w path (first.Go choice)))) refl
+        (backs-append files m w.notes more (asides-back files m x.c looked.none w.notes (each-front (NotedAt Front x.c) w.notes more help.own.notes) looked.aside)
+        (subst (λ (q : WayMarks). Backs files q more) (sym looked.told) (tt, ((looked.none, refl, looked.for path refl), tt)))) help g old
+
+    waits-makes : (row : FrontRow) (w : Service) (path : List ℕ) → Came w (Some path) → Goal (Does (placed env p row (front_rest p.rest) w path first.Waits))
+    waits-makes row w path came help g old =
+        let more : List Rec = rec.Waits env.serve.c ∷ [] in
+        front-makes files x (front_does x heads (Does (placed env p row (front_rest p.rest) w path first.Waits))) refl
+        (backs-append files m w.notes more (asides-back files m x.c (came g).none w.notes (each-front (NotedAt Front x.c) w.notes more help.own.notes) (came g).aside) (tt, tt)) help g old
+
+    module _ (talk : IsFrontTalk env l.w l.out l.vs) (sd : Said) (word : IsWord l.w sd) where
+      row-looks : (row : FrontRow) (b : ControlBlock) → IsInStage p row (stage.Held b) → Came (front_reads env.serve (heard_reading p b sd)).service (front_reads env.serve (heard_reading p b sd)).target
+      row-looks row b at g =
+          let fh : FrontHolds l.w l.out l.vs pend b count = truth-at row (stage.Held b) at in
+          let free : IsUnassigned files m = seat-at row (stage.Held b) at g in
+          let start : Service = heard_service p b sd in
           let so0 : So env.serve l.w l.out l.vs start [] = heard-so env.serve l.w l.out l.vs talk.says [] b count fh.holds talk.stream sd word in
-          let y : Reading = front_reads env.serve (record { service = start; target = None }) in
+          let y : Reading = front_reads env.serve (heard_reading p b sd) in
           let so = reads-so env.serve l.w l.out l.vs talk.most start so0 in
           let stop = reads-stop env.serve start (segment-serves count b sd fh.serves) in
           let served : m ≡ record m { served = count } = ap (λ (i : ℕ). record m { served = i }) (o.tale.served ∙ sym fh.holds.counted) in
           let begin : Looks env.serve m start = record { noted_so = tt; told = served; none = (subst (IsUnassigned files) served free).1 } in
           let looks = reads-look env.serve m l.w l.out l.vs o.tale.wrote talk.most start so0 begin in
-          settled-makes free.0 y.service y.target (reads-notes env.serve (record { service = start; target = None }) tt) looks.0.told
-          (λ path e.
-          let over : y.service.over ≡ None = subst (λ (t : Option (List ℕ)). GoesOver t y.service) e so.1 in
-          let may : may_freeze y.service.block ≡ true = subst (MayMove y.service.block) e stop.1 in
-          written-for (y.service.count + 1) path (next-for files l.w so.0.out_now so.0.vs_now y.service.block y.service.count (frozen-holds env l.w l.out l.vs l.was_reset y.service so.0 over stop.0 may) may path
-          (subst (WaitsForNext files y.service.block.recv.unread) e looks.1))) help g old
+          record {
+            none = free.0;
+            aside = reads-notes env.serve (heard_reading p b sd) tt;
+            told = looks.0.told;
+            for = λ path e.
+                let over : y.service.over ≡ None = subst (λ (t : Option (List ℕ)). GoesOver t y.service) e so.1 in
+                let may : may_freeze y.service.block ≡ true = subst (MayMove y.service.block) e stop.1 in
+                written-for (y.service.count + 1) path (next-for files l.w so.0.out_now so.0.vs_now y.service.block y.service.count (frozen-holds env l.w l.out l.vs l.was_reset y.service so.0 over stop.0 may) may path
+                (subst (WaitsForNext files y.service.block.recv.unread) e looks.1));
+          }
 
       tombs : (said : Option Said) → Goal (Says (turn_here (tombstone env.serve said)))
       tombs None = front-makes files x (front_does x heads (Says (turn_here (tombstone env.serve None)))) refl tt
       tombs (Some sd) = front-makes files x (front_does x heads (Says (turn_here (tombstone env.serve (Some sd))))) refl tt
 
-      hears-stage : (bytes : List ℕ) (sd : Said) → IsWord l.w sd → (d : FrontConn) → row.stage ≡ d → Goal (hears_at env p row bytes sd d)
-      hears-stage bytes sd word (stage.Held b) at = held-makes b at sd word
-      hears-stage bytes sd word (stage.Waiting b) at = front-makes files x (front_does x heads (hears_at env p row bytes sd (stage.Waiting b))) refl tt
-      hears-stage bytes sd word stage.Lent at = still
-      hears-stage bytes sd word (stage.Offering n e) at = front-makes files x (front_does x heads (hears_at env p row bytes sd (stage.Offering n e))) refl tt
-      hears-stage bytes sd word (stage.Moved n e) at = front-makes files x (front_does x heads (hears_at env p row bytes sd (stage.Moved n e))) refl tt
-      hears-stage bytes sd word (stage.Closed last) at = tombs (last_words last.reason last sd)
+      by-segment : (bytes : List ℕ) → KeptBySegment env p bytes sd Came Goal
+      by-segment bytes = record {
+        drops = still;
+        begins = λ none plain. front-makes files x (front_does x heads (front_begun env p sd)) refl (tt, tt);
+        reads = row-looks;
+        holds = λ row b w at came. holds-makes row w came;
+        hands = λ row b w path choice at came is. hands-makes row w path choice came;
+        waits = λ row b w path at came is. waits-makes row w path came;
+        stays = λ row b at. front-makes files x (front_does x heads (hears_at env p row bytes sd (stage.Waiting b))) refl tt;
+        forwards = λ row n e at. front-makes files x (front_does x heads (forwarded env n e bytes)) refl tt;
+        words = λ row last at. tombs (last_words last.reason last sd);
+      }
 
-    fires-stage : (d : FrontConn) → Goal (fires_at env p row d)
-    fires-stage (stage.Held b) = front-makes files x (front_does x heads (fires_at env p row (stage.Held b))) refl tt
-    fires-stage (stage.Waiting b) = front-makes files x (front_does x heads (fires_at env p row (stage.Waiting b))) refl tt
-    fires-stage (stage.Offering n e) = front-makes files x (front_does x heads (fires_at env p row (stage.Offering n e))) refl tt
-    fires-stage _ = still
+      pub hears-makes : (bytes : List ℕ) → Goal (front_hears env p bytes sd p.row)
+      hears-makes bytes = segment-keeps env p bytes sd Came Goal (by-segment bytes)
 
-  begins-makes : (heads : List Seen) (sd : Said) → Keeps files x (front_does x heads (met env p sd))
-  begins-makes heads sd = go (is_plain_syn sd) where
-    go : (b : Bool) → Keeps files x (front_does x heads (cond b (front_begun env p sd) Drops))
-    go false = front-makes files x (front_does x heads Drops) refl tt
-    go true = front-makes files x (front_does x heads (front_begun env p sd)) refl (tt, tt)
-
-  pub hears-row : (heads : List Seen) (bytes : List ℕ) (sd : Said) → IsWord l.w sd → IsFrontTalk env l.w l.out l.vs → (row : Option FrontRow) → p.row ≡ row → Keeps files x (front_does x heads (front_hears env p bytes sd row))
-  hears-row heads bytes sd word talk None found = begins-makes heads sd
-  hears-row heads bytes sd word talk (Some row) found = hears-stage heads row found talk bytes sd word row.stage refl
-
-  pub fires-row : (heads : List Seen) → (row : Option FrontRow) → p.row ≡ row → Keeps files x (front_does x heads (front_fired_by env p row))
-  fires-row heads None found = front-makes files x (front_does x heads Drops) refl tt
-  fires-row heads (Some row) found = fires-stage heads row found row.stage
+    pub fires-makes : Goal (front_timer env p)
+    fires-makes = timer-keeps env p Goal (record {
+      drops = still;
+      holds = λ row b at. front-makes files x (front_does x heads (fires_at env p row (stage.Held b))) refl tt;
+      stays = λ row b at. front-makes files x (front_does x heads (fires_at env p row (stage.Waiting b))) refl tt;
+      resends = λ row n e at. front-makes files x (front_does x heads (fires_at env p row (stage.Offering n e))) refl tt;
+    })
 
   -- ---- it is admitted, from the head of the line
 
-  module _ (row : FrontRow) (found : p.row ≡ Some row) (b : ControlBlock) (at : row.stage ≡ stage.Waiting b) (choice : FirstChoice) where
-    admits-makes : (path : List ℕ) → (front_rest p.rest).target ≡ Some path → Keeps files x (front_admits x (handed_off env row (serving b count []) path choice))
-    admits-makes path is_target help g old =
-        let fh : FrontWaits l.w l.out l.vs pend b count = truth-at [] row found (stage.Waiting b) at in
-        let seat = seat-at [] row found (stage.Waiting b) at g in
-        let next : BeginsWithRequest files b.recv.unread path = subst (WaitsForNext files b.recv.unread) is_target seat.1 in
-        let for : IsFor files m.wrote (count + 1) path = written-for (count + 1) path (next-for files l.w l.out l.vs b count fh.0.holds fh.1 path next) in
-        let served : count + 1 ≡ m.served + 1 = ap (λ (i : ℕ). i + 1) (fh.0.holds.counted ∙ sym o.tale.served) in
-        front-makes files x (front_admits x (handed_off env row (serving b count []) path choice)) refl (tt, ((seat.0.0, served, for), tt)) help g old
-
-    pub waits-frozen : (given : FrontPart × FrontTurn) → front_admitted_with env row (front_rest p.rest) b choice (front_rest p.rest).target ≡ Some given → Keeps files x (front_admits x given)
-    waits-frozen given e = by-target (front_rest p.rest).target refl e where
-      by-target : (o : Option (List ℕ)) → (front_rest p.rest).target ≡ o → front_admitted_with env row (front_rest p.rest) b choice o ≡ Some given → Keeps files x (front_admits x given)
-      by-target None is_target e = let no : None ≡ Some given = e in absurd (let f : ⊥ = cc in f)
-      by-target (Some path) is_target e =
-          let same : Some (handed_off env row (serving b count []) path choice) ≡ Some given = e in
-          let one : handed_off env row (serving b count []) path choice ≡ given = some-same (handed_off env row (serving b count []) path choice) given same in
-          subst (λ (y : FrontPart × FrontTurn). Keeps files x (front_admits x y)) one (admits-makes path is_target)
+  pub admits-makes : (row : FrontRow) (b : ControlBlock) (path : List ℕ) → IsInStage p row (stage.Waiting b) → (front_rest p.rest).target ≡ Some path → (choice : FirstChoice)
+      → Keeps files x (front_admits x (handed_off env row (serving b count []) path choice))
+  admits-makes row b path at is_target choice help g old =
+      let fh : FrontWaits l.w l.out l.vs pend b count = truth-at row (stage.Waiting b) at in
+      let seat = seat-at row (stage.Waiting b) at g in
+      let next : BeginsWithRequest files b.recv.unread path = subst (WaitsForNext files b.recv.unread) is_target seat.1 in
+      let for : IsFor files m.wrote (count + 1) path = written-for (count + 1) path (next-for files l.w l.out l.vs b count fh.0.holds fh.1 path next) in
+      let served : count + 1 ≡ m.served + 1 = ap (λ (i : ℕ). i + 1) (fh.0.holds.counted ∙ sym o.tale.served) in
+      front-makes files x (front_admits x (handed_off env row (serving b count []) path choice)) refl (tt, ((seat.0.0, served, for), tt)) help g old
 
 -- ---- messages of nodes
 
@@ -249,20 +245,11 @@ module _ (env : FrontEnv) (x : Conn) (heads : List Seen) where
   drops = front-makes all_files x (front_does x heads Drops) refl tt
 
   pub taken-row : (epoch : ℕ) → Reached (front_taken its epoch)
-  taken-row epoch = by its.row (asked_node epoch its.row) where
-    by : (row : Option FrontRow) (asked : Option ℕ) → Reached (taken_by its epoch row asked)
-    by None asked = drops
-    by (Some row) None = drops
-    by (Some row) (Some node) = front-makes all_files x (front_does x heads (taken_by its epoch (Some row) (Some node))) refl tt
+  taken-row epoch = taken-keeps its Reached drops epoch (λ row n e at same. front-makes all_files x (front_does x heads (taken_by its epoch (Some row) (Some n))) refl tt)
 
   pub ended-row : (from epoch : ℕ) (last : Final) → Reached (front_ended env its from epoch last)
-  ended-row from epoch last = by its.row (end_answer epoch its.row) where
-    by : (row : Option FrontRow) (answer : OnEnded) → Reached (front_ended_by env its from epoch last row answer)
-    by None answer = drops
-    by (Some row) (New next) = front-makes all_files x (front_does x heads (front_ended_by env its from epoch last (Some row) (New next))) refl (tt, (tt, tt))
-    by (Some row) Again = front-makes all_files x (front_does x heads (front_ended_by env its from epoch last (Some row) Again)) refl tt
-    by (Some row) Stale = drops
-
+  ended-row from epoch last = ended-keeps its Reached drops env from epoch last (λ row found away again. front-makes all_files x (front_does x heads (Says (front_saying (ack_sent env from epoch)))) refl tt)
+      (λ row found away. front-makes all_files x (front_does x heads (Does (front_ends env its from epoch last row (next_epoch row)))) refl (tt, (tt, tt)))
   -- where it is with a node, one request was assigned
   away-some : (n e : ℕ) (q : NodePart) (r : FrontRest) → IsAway all_files (marks_at x) r n e q → (marks_at x).assigned ≡ [] → ⊥
   away-some n e q r h none = ⊎_elim
@@ -278,17 +265,7 @@ module _ (env : FrontEnv) (x : Conn) (heads : List Seen) where
   row-some n epoch None at h = let no : false ≡ true = at in absurd (let f : ⊥ = cc in f)
   row-some n epoch (Some row) at h = stage-some n epoch row.epoch.0 row.stage at h
 
-  rest-makes : (n epoch : ℕ) (ask : Ask) → is_row_at n epoch its.row ≡ true → (rest : Option FrontRest) → Reached (asked_by env its n epoch ask rest)
-  rest-makes n epoch ask at None = drops
-  rest-makes n epoch ask at (Some rest) = go (ask.number == rest.asks + 1) (ask.number == rest.asks && nat_lt 0 rest.asks) where
-    go : (a b : Bool) → Reached (cond a (Does (assigns env its rest n epoch ask (env.later ask))) (cond b (Says (front_saying (tag_sent env n epoch rest.asks rest.tag))) Drops))
-    go true b = λ help g old. front-makes all_files x (front_does x heads (Does (assigns env its rest n epoch ask (env.later ask)))) refl
-        (over-backs all_files env.serve.c (marks_at x) (env.later ask).over _ (later-backs all_files env.serve.c ask (marks_at x) (row-some n epoch its.row at g.seat) rest.assigned ask.paths (env.later ask).choices)) help g old
-    go false true = front-makes all_files x (front_does x heads (Says (front_saying (tag_sent env n epoch rest.asks rest.tag)))) refl tt
-    go false false = drops
-
   pub asked-row : (n epoch : ℕ) (ask : Ask) → Reached (front_asked env its n epoch ask)
-  asked-row n epoch ask = go (is_row_at n epoch its.row) refl where
-    go : (b : Bool) → is_row_at n epoch its.row ≡ b → Reached (cond b (asked_by env its n epoch ask its.rest) Drops)
-    go true e = rest-makes n epoch ask e its.rest
-    go false e = drops
+  asked-row n epoch ask = asked-keeps its Reached drops env n epoch ask (λ rest found there same some. front-makes all_files x (front_does x heads (Says (front_saying (tag_sent env n epoch rest.asks rest.tag)))) refl tt)
+      (λ rest found there next help g old. front-makes all_files x (front_does x heads (Does (assigns env its rest n epoch ask (env.later ask)))) refl
+      (over-backs all_files env.serve.c (marks_at x) (env.later ask).over _ (later-backs all_files env.serve.c ask (marks_at x) (row-some n epoch its.row there g.seat) rest.assigned ask.paths (env.later ask).choices)) help g old)

@@ -1,5 +1,5 @@
 -- Each rule leaves what is said of a connection's requests right, so it is in every run.
-use Rattle.std.proofs.Common.{◌≡◌, ◌≤◌, ◌^◌, ℕ, true, false, cond, Bool, List, [], ◌∷◌, Option, Some, None, Result, Ok, refl, sym, ap, ◌∙◌, subst}
+use Rattle.std.proofs.Common.{◌≡◌, ◌≤◌, ◌^◌, ℕ, true, false, cond, Bool, List, [], ◌∷◌, Some, None, Result, Ok, refl, sym, ap, ◌∙◌, subst}
 use Rattle.lard_base.specs.declared.config.Config.{Config}
 use Rattle.lard_base.specs.declared.event.Event.TheVariants as event
 use Rattle.lard_base.specs.declared.place.Place.{Place}
@@ -7,7 +7,7 @@ use Rattle.lard_base.specs.declared.place.Place.TheVariants.{Client, Front, Node
 use Rattle.lard_base.specs.declared.place.TimerKind.TheVariants as timer
 use Rattle.lard_client.specs.Control.{ClientBlock}
 use Rattle.lard_laws.specs.BackingState.{FetchesFor, LetterFor}
-use Rattle.lard_laws.proofs.BackingFronts.{asked-row, ended-row, fires-row, hears-row, taken-row, waits-frozen}
+use Rattle.lard_laws.proofs.BackingFronts.{admits-makes, hears-makes, fires-makes, asked-row, ended-row, taken-row}
 use Rattle.lard_laws.proofs.BackingMoving.{Keeps, content-for, makes, others-for}
 use Rattle.lard_laws.proofs.BackingNodes.{contents-keep, fires-keep, forwards-keep, read-keeps, still-makes, tags-keep}
 use Rattle.lard_laws.proofs.BackingOffered.{offered-keep}
@@ -35,12 +35,9 @@ use Rattle.lard_laws.proofs.WaysRuns.{each-guarded}
 use Rattle.lard_laws.proofs.WaysMarking.{mark}
 use Rattle.lard_answers.specs.Answers.{FilesAt}
 use Rattle.lard_files.specs.Files.{file_at}
-use Rattle.lard_rules.specs.Front.{FrontEnv, FrontPart, admitted_at, admitted_by, ask_of, front_gets}
+use Rattle.lard_rules.specs.Front.{FrontEnv, FrontPart, ask_of, front_admitted, front_gets}
 use Rattle.lard_rules.specs.declared.front.FrontTurn.{FrontTurn}
 use Rattle.lard_handoff_back.specs.Back.{awaits_ack}
-use Rattle.lard_handoff_front.specs.declared.row.FrontConn.{FrontConn}
-use Rattle.lard_handoff_front.specs.declared.row.FrontConn.TheVariants as stage
-use Rattle.lard_handoff_front.specs.declared.row.FrontRow.{FrontRow}
 use Rattle.lard_history.specs.Journal.{request}
 use Rattle.lard_history.specs.Own.{EachRow, Seen}
 use Rattle.lard_history.proofs.Each.{Each}
@@ -58,6 +55,7 @@ use Rattle.lard_segment.specs.declared.fault.SegFault.{SegFault}
 use Rattle.lard_segment.specs.declared.segment.Dir.TheVariants.{ToClient, ToCluster}
 use Rattle.lard_segment.specs.Segment.{Said, decoded}
 use Rattle.lard_segment.proofs.Again.{again}
+use Rattle.lard_rules.proofs.FrontCases.{admitted-keeps}
 
 -- ---- a client
 
@@ -111,32 +109,27 @@ module _ (k : Setting) (small : k.stream ≤ 2 ^ 30) where
       let heads : List Seen = packet_seen (Client x.c) Front bytes in
       let same : decoded bytes x.c ToCluster ≡ Ok f.0 = ap (λ (b : List ℕ). decoded b x.c ToCluster) f.1 ∙ again x.c ToCluster f.0 f.2.sendable in
       subst (λ (r : Result Said SegFault). Keeps k.files x (front_does x heads (front_gets env x.part.front bytes r))) (sym same)
-      (by-files x env is _ (hears-row k small x s there env is h.talk h.pend o heads bytes f.0 f.2 (talk-of k small x env is s h.talk h.pend o iss) x.part.front.row refl))
+      (by-files x env is _ (hears-makes k small x s there env is h.talk h.pend o heads (talk-of k small x env is s h.talk h.pend o iss) f.0 f.2 bytes))
 
   -- the head of the line
   module _ (x : Conn) (env : FrontEnv) (choice : FirstChoice) (given : FrontPart × FrontTurn) (is : IsFrontEnv k x.c env) (h : IsTruthful k.files x) where
     abbrev Admits : Type 0
     Admits = Keeps k.files x (front_admits x given)
 
-    by-stage : (row : FrontRow) → x.part.front.row ≡ Some row → (d : FrontConn) → row.stage ≡ d → admitted_at env x.part.front choice row d ≡ Some given → Admits
-    by-stage row found (stage.Waiting b) at e =
-        let opened = opened-at k.files x h (λ u. let no : Some row ≡ None = sym found ∙ u.front in absurd cc) in
+    admits : front_admitted env x.part.front choice ≡ Some given → Admits
+    admits = admitted-keeps env x.part.front choice (λ (y : FrontPart × FrontTurn). Keeps k.files x (front_admits x y)) (λ row b path at is_target.
+        let opened = opened-at k.files x h (λ u. let no : Some row ≡ None = sym at.0 ∙ u.front in absurd cc) in
         let o = open-at k.files x opened.0 opened.1 h in
-        by-files x env is (front_admits x given) (waits-frozen k small x opened.0 opened.1 env is h.talk h.pend o row found b at choice given e)
-    by-stage row found _ at e = let no : None ≡ Some given = e in absurd cc
-
-    by-row : (o : Option FrontRow) → x.part.front.row ≡ o → admitted_by env x.part.front choice o ≡ Some given → Admits
-    by-row None found e = let no : None ≡ Some given = e in absurd cc
-    by-row (Some row) found e = by-stage row found row.stage refl e
+        by-files x env is _ (admits-makes k small x opened.0 opened.1 env is h.talk h.pend o row b path at is_target choice)) given
 
   fronts : FrontRules k Owes
   fronts = record {
     hears = front-hears;
-    fires = λ x s env there is h. let o = open-at k.files x s there h in by-files x env is _ (fires-row k small x s there env is h.talk h.pend o (event_seen (event.Timer Front x.c)) x.part.front.row refl);
+    fires = λ x s env there is h. let o = open-at k.files x s there h in by-files x env is _ (fires-makes k small x s there env is h.talk h.pend o (event_seen (event.Timer Front x.c)));
     taken = λ x env n epoch bytes is spells was h. by-files x env is _ (taken-row env x (packet_seen (Node n) Front bytes) epoch);
     asked = λ x env n epoch number queue size paths bytes is spells was h. by-files x env is _ (asked-row env x (packet_seen (Node n) Front bytes) n epoch (ask_of x.c n number queue size paths));
     ended = λ x env n epoch reason snd rcv count bytes is spells was h. by-files x env is _ (ended-row env x (packet_seen (Node n) Front bytes) n epoch (record { reason = reason; snd = record { 0 = snd }; rcv = record { 0 = rcv } }));
-    admitted = λ x env choice given is e h. by-row x env choice given is h x.part.front.row refl e;
+    admitted = λ x env choice given is e h. admits x env choice given is h e;
   }
 
   -- ---- a node
