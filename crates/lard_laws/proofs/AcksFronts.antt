@@ -1,5 +1,5 @@
 -- What the front end does acknowledges what was taken.
-use Rattle.std.proofs.Common.{◌≡◌, ◌⊎◌, ◌≤◌, ◌<◌, ◌+◌, ◌==◌, ◌&&◌, not, nat_lt, ◌^◌, ℕ, Bool, true, false, cond, List, [], ◌∷◌, ◌++◌, map, Option, Some, None, Ok, IfSome, inr, ⊎_elim, refl, sym, ap, ◌∙◌, subst, arith, eqb-true}
+use Rattle.std.proofs.Common.{◌≡◌, ◌⊎◌, ◌≤◌, ◌<◌, ◌&&◌, not, ◌^◌, ℕ, Bool, true, false, List, [], ◌∷◌, map, Option, Some, None, Ok, IfSome, inr, ⊎_elim, refl, sym, ap, ◌∙◌, subst, arith, eqb-true}
 use Rattle.std.specs.List.{concat}
 use Rattle.std.proofs.lemmas.Bool.{and_parts, cond_both}
 use Rattle.lard_answers.specs.Answers.{answer}
@@ -22,7 +22,6 @@ use Rattle.lard_law_view.specs.View.{AreSent, Conn, IsFrontEnv, IsConnSound, Mov
 use Rattle.lard_dispatch.specs.declared.dispatch.Ask.{Ask}
 use Rattle.lard_dispatch.specs.declared.dispatch.First.{First}
 use Rattle.lard_dispatch.specs.declared.dispatch.First.TheVariants as first
-use Rattle.lard_dispatch.specs.declared.dispatch.Later.{Later}
 use Rattle.lard_dispatch.specs.Laws.{Call}
 use Rattle.lard_dispatch.specs.Laws as call
 use Rattle.lard_endpoint.specs.declared.control.moving.Final.{Final}
@@ -31,20 +30,18 @@ use Rattle.lard_endpoint.specs.Control.{ControlBlock, listening}
 use Rattle.lard_endpoint.specs.Leaving.{after_timer, filled, timed}
 use Rattle.lard_rules.specs.declared.front.FrontRest.{FrontRest}
 use Rattle.lard_rules.specs.declared.front.FrontTurn.{FrontTurn}
-use Rattle.lard_rules.specs.Front.{FrontDeed, Drops, Says, Does, FrontEnv, FrontPart, ack_sent, admitted_at, admitted_by, front_admitted_with, asked_by, assigns, front_begun, front_ended_by, front_fired_by, fires_at, front_admitted, front_asked, front_ended, front_gets, front_hears, front_taken, front_timer, handed_off, heard, hears_at, holds, is_row_at, leaves_by, message, met, placed, front_rest, front_rests, front_saying, settled_by, stage_after, tag_sent, taken_by, turn_here}
-use Rattle.lard_rules.specs.FrontReading.{Reading, front_reads}
+use Rattle.lard_rules.specs.Front.{FrontDeed, Drops, Says, Does, FrontEnv, FrontPart, ack_sent, assigns, front_begun, front_admitted, front_asked, front_ended, front_gets, front_taken, front_timer, heard, holds, leaves_by, message, front_rest, front_saying, stage_after, tag_sent, taken_by, turn_here, front_ends, front_fired}
+use Rattle.lard_rules.specs.FrontReading.{front_reads}
 use Rattle.lard_handoff_back.specs.declared.row.BackConn.{BackConn}
 use Rattle.lard_handoff_back.specs.declared.row.BackConn.TheVariants as back
 use Rattle.lard_handoff_back.specs.declared.row.BackRow.{BackRow}
 use Rattle.lard_handoff_front.specs.declared.row.FrontConn.{FrontConn}
 use Rattle.lard_handoff_front.specs.declared.row.FrontConn.TheVariants as stage
 use Rattle.lard_handoff_front.specs.declared.row.FrontRow.{FrontRow}
-use Rattle.lard_handoff_front.specs.declared.table.OnEnded.TheVariants.{New, Again, Stale}
-use Rattle.lard_handoff_front.specs.Front.{asked_node, end_answer, ended_with, next_epoch}
+use Rattle.lard_handoff_front.specs.Front.{next_epoch}
 use Rattle.lard_handoff_front.specs.Row.{is_away}
 use Rattle.lard_history.specs.Own.{Seen}
 use Rattle.lard_history.proofs.Each.{Each, Each-append}
-use Rattle.lard_journal.specs.declared.rec.Rec.TheVariants as rec
 use Rattle.lard_law_view.specs.Agreement.{IsWord}
 use Rattle.lard_law_view.specs.Truthful.{Talk}
 use Rattle.lard_law_view.proofs.EndpointStreams.{IsBetween, between-arrived, between-begun, between-sound, between-timed}
@@ -72,6 +69,7 @@ use Rattle.lard_seq.specs.Seq.{seq_offset}
 use Rattle.lard_seq.proofs.Laws.{offset-add}
 use Rattle.lard_law_view.specs.Truth.{IsStream, Stream}
 use Rattle.lard_law_view.proofs.Speaking.{speaks-stream}
+use Rattle.lard_rules.proofs.FrontCases.{KeptBySegment, IsInStage, of-stage, begun_row, begun_service, heard_reading, heard_service, hands_off, rests_in, waiting_service, segment-keeps, timer-keeps, taken-keeps, asked-keeps, ended-keeps, admitted-keeps}
 
 -- ---- nodes that have nothing
 
@@ -167,10 +165,9 @@ module _ (k : Setting) (small : k.stream ≤ 2 ^ 30) (x : Conn) (sound_x : IsCon
     Turns given = ServingActed env.serve.c l.w.first s.iss (Acked.taken_by s.client) aborted heard_so given
 
     ends-act : IsOurs → (row : FrontRow) (rest : FrontRest) (stays : ControlBlock → FrontConn) (given : Ending × Turn) (calls : List Call) → ((d : Bounds) (b : ControlBlock) → EndActs d (ending.Here b 0) → FrontStageActs d (stays b))
-        → Turns given → Stays (Does (record { part = front_rests p row rest stays given.0; turn = turn_here given.1; calls = calls }))
+        → Turns given → Stays (rests_in p row rest stays given calls)
     ends-act ours row rest stays given calls stay act =
-        let d : FrontDeed = Does (record { part = front_rests p row rest stays given.0; turn = turn_here given.1; calls = calls }) in
-        let v : Move = front_does x heads d in
+        let v : Move = front_does x heads (rests_in p row rest stays given calls) in
         let then : ℕ = heard_at l.w.first given.0 in
         record {
           then = then;
@@ -190,7 +187,7 @@ module _ (k : Setting) (small : k.stream ≤ 2 ^ 30) (x : Conn) (sound_x : IsCon
     holds-act ours row rest given act = ends-act ours row rest stage.Held given [] (λ d b a. a) act
 
     waits-act : IsOurs → (row : FrontRow) (rest : FrontRest) (given : Ending × Turn) (calls : List Call) → Turns given
-        → Stays (Does (record { part = front_rests p row rest stage.Waiting given.0; turn = turn_here given.1; calls = calls }))
+        → Stays (rests_in p row rest stage.Waiting given calls)
     waits-act ours row rest given calls act = ends-act ours row rest stage.Waiting given calls (λ d b a. a) act
 
     -- an endpoint that goes on from here took no less, and acknowledges no more than was taken
@@ -199,10 +196,9 @@ module _ (k : Setting) (small : k.stream ≤ 2 ^ 30) (x : Conn) (sound_x : IsCon
 
     -- it is handed off: its Offer has all that was taken
     handed-act : IsOurs → (row : FrontRow) (w : Service) (path : List ℕ) (choice : FirstChoice) (calls : List Call) → GoesOver w.block
-        → Stays (Does (record { part = (handed_off env row w path choice).0; turn = (handed_off env row w path choice).1; calls = calls }))
+        → Stays (hands_off env row w path choice calls)
     handed-act ours row w path choice calls goes =
-        let given : FrontPart × FrontTurn = handed_off env row w path choice in
-        let v : Move = front_does x heads (Does (record { part = given.0; turn = given.1; calls = calls })) in
+        let v : Move = front_does x heads (hands_off env row w path choice calls) in
         let then : Bounds = record bounds { heard = heard_by w.block.recv } in
         record {
           then = heard_by w.block.recv;
@@ -217,17 +213,6 @@ module _ (k : Setting) (small : k.stream ≤ 2 ^ 30) (x : Conn) (sound_x : IsCon
     says-act : (w : Service) (before : List (Place × List ℕ)) → GoesOver w.block → RepliesMay env.serve.c l.w.first (heard_by w.block.recv) before → Turns (spoken env.serve w before)
     says-act w before goes sent = spoken-acts env.serve l.w s.iss (Acked.taken_by s.client) aborted is_stream heard_so w before goes.0 goes.1 goes.2 sent
 
-    placed-act : IsOurs → (row : FrontRow) (rest : FrontRest) (w : Service) (path : List ℕ) (f : First) → GoesOver w.block → Stays (Does (placed env p row rest w path f))
-    placed-act ours row rest w path (first.Go choice) goes = handed-act ours row w path choice (call.First env.serve.c path env.now ∷ []) goes
-    placed-act ours row rest w path first.Waits goes =
-        let t : Service = record w { notes = w.notes ++ rec.Waits env.serve.c ∷ [] } in
-        let given : Ending × Turn = spoken env.serve t [] in
-        waits-act ours row (record rest { target = Some path }) given (call.First env.serve.c path env.now ∷ leaves_by env.serve.c given.0) (says-act t [] goes tt)
-
-    settled-act : IsOurs → (row : FrontRow) (rest : FrontRest) (w : Service) (t : Option (List ℕ)) → GoesOver w.block → Stays (settled_by env p row rest w t)
-    settled-act ours row rest w None goes = holds-act ours row rest (serving_settled env.serve w) (settled-acts env.serve l.w s.iss (Acked.taken_by s.client) aborted is_stream heard_so w goes.0 goes.1 goes.2)
-    settled-act ours row rest w (Some path) goes = placed-act ours row rest w path (env.first path) goes
-
     abbrev within : env.serve.stream ≤ 2 ^ 30
     within = subst (λ (n : ℕ). n ≤ 2 ^ 30) (sym is.stream) small
 
@@ -239,13 +224,6 @@ module _ (k : Setting) (small : k.stream ≤ 2 ^ 30) (x : Conn) (sound_x : IsCon
       stays-holds b w.block (Acked.taken_by s.client) aborted read.0 goes.2,
     )
 
-    heard-act : IsOurs → (row : FrontRow) (rest : FrontRest) (b : ControlBlock) → GoesOver b → Stays (heard env p row rest b)
-    heard-act ours row rest b goes =
-        let start : Service = serving b rest.count [] in
-        let r : Reading = front_reads env.serve (record { service = start; target = None }) in
-        let read : Reads l.w s.iss b r.service.block = reads-serves l.w s.iss b env.serve within start ((refl, refl, refl, refl), goes.1) in
-        settled-act ours row rest r.service r.target (reads-act b r.service goes read)
-
     -- ---- where the connection is
 
     abbrev HasIt : FrontConn → Type 0
@@ -253,14 +231,11 @@ module _ (k : Setting) (small : k.stream ≤ 2 ^ 30) (x : Conn) (sound_x : IsCon
     HasIt (stage.Waiting b) = Unit {0}
     HasIt _ = ⊥
 
-    sits-row : (row : FrontRow) → p.row ≡ Some row → StageSits row.epoch.0 own nodes row.stage
-    sits-row row found = let at : Sits own nodes (Some row) = subst (Sits own nodes) found at_place.sits in at.0
+    acts-row : (row : FrontRow) (st : FrontConn) → IsInStage p row st → FrontStageActs bounds st
+    acts-row row st at = of-stage (FrontActs bounds) p row st at h.front
 
-    acts-row : (row : FrontRow) (st : FrontConn) → p.row ≡ Some row → row.stage ≡ st → FrontStageActs bounds st
-    acts-row row st found at = subst (FrontStageActs bounds) at (subst (FrontActs bounds) found h.front)
-
-    agrees-row : (row : FrontRow) (st : FrontConn) → p.row ≡ Some row → row.stage ≡ st → StageAgrees l.w l.out l.vs pend l.was_reset x.c x.part row.epoch.0 st
-    agrees-row row st found at = subst (StageAgrees l.w l.out l.vs pend l.was_reset x.c x.part row.epoch.0) at (subst (SeatAgrees l.w l.out l.vs pend l.was_reset x.c x.part) found o.seat)
+    agrees-row : (row : FrontRow) (st : FrontConn) → IsInStage p row st → StageAgrees l.w l.out l.vs pend l.was_reset x.c x.part row.epoch.0 st
+    agrees-row row st at = of-stage (SeatAgrees l.w l.out l.vs pend l.was_reset x.c x.part) p row st at o.seat
 
     none-offered : (st : FrontConn) → HasIt st → (n d : ℕ) → Offers n d st → ⊥
     none-offered (stage.Held b) has n d f = f
@@ -272,19 +247,25 @@ module _ (k : Setting) (small : k.stream ≤ 2 ^ 30) (x : Conn) (sound_x : IsCon
     all-past e (stage.Waiting b) has sits = sits.1.1
     all-past e _ has sits = absurd has
 
-    ours-at : (row : FrontRow) (st : FrontConn) → p.row ≡ Some row → row.stage ≡ st → HasIt st → IsOurs
-    ours-at row st found at has =
-        let past : ArePast row.epoch.0 nodes = all-past row.epoch.0 st has (subst (StageSits row.epoch.0 own nodes) at (sits-row row found)) in
+    ours-at : (row : FrontRow) (st : FrontConn) → IsInStage p row st → HasIt st → IsOurs
+    ours-at row st at has =
+        let past : ArePast row.epoch.0 nodes = all-past row.epoch.0 st has (of-stage (Sits own nodes) p row st at at_place.sits).0 in
         record {
           e = row.epoch.0;
           past = past;
-          unoffered = λ n d. subst (λ (q : Option FrontRow). IsOffered n d q → ⊥) (sym found) (subst (λ (q : FrontConn). Offers n d q → ⊥) (sym at) (none-offered st has n d));
-          over = λ n d over. subst (HasEnded d) (sym found) (past-over row.epoch.0 d (nodes n).row (past n) over);
+          unoffered = λ n d. subst (λ (q : Option FrontRow). IsOffered n d q → ⊥) (sym at.0) (subst (λ (q : FrontConn). Offers n d q → ⊥) (sym at.1) (none-offered st has n d));
+          over = λ n d over. subst (HasEnded d) (sym at.0) (past-over row.epoch.0 d (nodes n).row (past n) over);
         }
 
     -- the endpoint as it is
     goes-here : (b : ControlBlock) (count : ℕ) → EndActs bounds (ending.Here b 0) → FrontHolds l.w l.out l.vs pend b count → GoesOver b
     goes-here b count act agrees = ((let same = act.0 in omega arith), (l.out, o.begins, between-held l.w l.out l.vs [] b count agrees.holds), act.1)
+
+    goes-held : (row : FrontRow) (b : ControlBlock) → IsInStage p row (stage.Held b) → GoesOver b
+    goes-held row b at = goes-here b (front_rest p.rest).count (acts-row row (stage.Held b) at) (agrees-row row (stage.Held b) at)
+
+    goes-waiting : (row : FrontRow) (b : ControlBlock) → IsInStage p row (stage.Waiting b) → GoesOver b
+    goes-waiting row b at = goes-here b (front_rest p.rest).count (acts-row row (stage.Waiting b) at) (agrees-row row (stage.Waiting b) at).0
 
     -- ---- a segment
 
@@ -298,11 +279,9 @@ module _ (k : Setting) (small : k.stream ≤ 2 ^ 30) (x : Conn) (sound_x : IsCon
             arrival-holds s.iss (Acked.taken_by s.client) aborted b sd iss_fits iss goes.2 may,
           )
 
-      met-act : p.row ≡ None → Stays (met env p sd)
-      met-act none = cond_both (is_plain_syn sd) (front_begun env p sd) Drops Stays
-          (λ t.
-          let row : FrontRow = record { stage = stage.Lent; epoch = record { 0 = 1 }; ended_by = None } in
-          let start : Service = serving (listening sd env.iss) 0 (rec.Took Front env.serve.c (record { 0 = 1 }) ∷ []) in
+      begins-act : p.row ≡ None → is_plain_syn sd ≡ true → Stays (front_begun env p sd)
+      begins-act none t =
+          let start : Service = begun_service env sd in
           let at : Sits own nodes None = subst (Sits own nodes) none at_place.sits in
           let agrees : SeatAgrees l.w l.out l.vs pend l.was_reset x.c x.part None = subst (SeatAgrees l.w l.out l.vs pend l.was_reset x.c x.part) none o.seat in
           let zero_so : heard_so ≡ 0 = subst (FrontActs bounds) none h.front in
@@ -315,8 +294,7 @@ module _ (k : Setting) (small : k.stream ≤ 2 ^ 30) (x : Conn) (sound_x : IsCon
             unoffered = λ n d. subst (λ (q : Option FrontRow). IsOffered n d q → ⊥) (sym none) (λ f. f);
             over = λ n d over. absurd (let less : d < 0 = past-over 0 d (nodes n).row (at.1 n) over in omega arith);
           } in
-          holds-act ours row (front_rest None) (spoken env.serve start []) (says-act start [] ((omega arith), (l.out, o.begins, between), (omega arith, λ f. absurd cc)) tt))
-          (λ t. dropped)
+          holds-act ours begun_row (front_rest None) (spoken env.serve start []) (says-act start [] ((omega arith), (l.out, o.begins, between), (omega arith, λ f. absurd cc)) tt)
 
       tombstone-act : (last : Final) → EndActs bounds (ending.Over last) → (w : Option Segment) → IfSome w (λ r. IsSendable r × ReplyMay l.w.first (heard_at l.w.first (ending.Over last)) r) → Stays (Says (turn_here (tombstone env.serve w)))
       tombstone-act last act None words = idle-acts x (front_does x heads (Says (turn_here (tombstone env.serve None)))) bounds (record { front = h.front; nodes = h.nodes; letters = tt })
@@ -333,28 +311,35 @@ module _ (k : Setting) (small : k.stream ≤ 2 ^ 30) (x : Conn) (sound_x : IsCon
       forwards : (n : ℕ) (e : Epoch) → Stays (Says (front_saying ((Node n, message env.serve.c e.0 (body.Forward bytes)) ∷ [])))
       forwards n e = says ((Node n, message env.serve.c e.0 (body.Forward bytes)) ∷ []) (forward-acts bounds x.part x.c n env.serve.c e.0 bytes acts, tt)
 
-      hears-at : (row : FrontRow) → p.row ≡ Some row → (st : FrontConn) → row.stage ≡ st → Stays (hears_at env p row bytes sd st)
-      hears-at row found (stage.Held b) at =
-          heard-act (ours-at row (stage.Held b) found at tt) row (front_rest p.rest) (on_segment b sd).1
-          (goes-heard b (goes-here b (front_rest p.rest).count (acts-row row (stage.Held b) found at) (agrees-row row (stage.Held b) found at)))
-      hears-at row found (stage.Waiting b) at =
-          let given : Ending × Turn = spoken env.serve (serving (on_segment b sd).1 (front_rest p.rest).count []) [] in
-          waits-act (ours-at row (stage.Waiting b) found at tt) row (front_rest p.rest) given (leaves_by env.serve.c given.0)
-          (says-act (serving (on_segment b sd).1 (front_rest p.rest).count []) []
-          (goes-heard b (goes-here b (front_rest p.rest).count (acts-row row (stage.Waiting b) found at) (agrees-row row (stage.Waiting b) found at).0)) tt)
-      hears-at row found stage.Lent at = dropped
-      hears-at row found (stage.Offering n e) at = forwards n e
-      hears-at row found (stage.Moved n e) at = forwards n e
-      hears-at row found (stage.Closed last) at =
-          tombstone-act last (acts-row row (stage.Closed last) found at) (last_words last.reason last sd)
-          (words-may l.w l.was_reset last.reason last sd is_stream word.sendable.ack_fits (agrees-row row (stage.Closed last) found at))
+      reads-on : (row : FrontRow) (b : ControlBlock) → IsInStage p row (stage.Held b) → GoesOver (front_reads env.serve (heard_reading p b sd)).service.block
+      reads-on row b at =
+          let d : ControlBlock = (on_segment b sd).1 in
+          let goes : GoesOver d = goes-heard b (goes-held row b at) in
+          let w : Service = (front_reads env.serve (heard_reading p b sd)).service in
+          let read : Reads l.w s.iss d w.block = reads-serves l.w s.iss d env.serve within (heard_service p b sd) ((refl, refl, refl, refl), goes.1) in
+          reads-act d w goes read
 
-      hears : (q : Option FrontRow) → p.row ≡ q → Stays (front_hears env p bytes sd q)
-      hears None found = met-act found
-      hears (Some row) found = hears-at row found row.stage refl
+      by-segment : KeptBySegment env p bytes sd (λ w t. GoesOver w.block) Stays
+      by-segment = record {
+        drops = dropped;
+        begins = begins-act;
+        reads = reads-on;
+        holds = λ row b w at goes. holds-act (ours-at row (stage.Held b) at tt) row (front_rest p.rest) (serving_settled env.serve w)
+            (settled-acts env.serve l.w s.iss (Acked.taken_by s.client) aborted is_stream heard_so w goes.0 goes.1 goes.2);
+        hands = λ row b w path choice at goes is. handed-act (ours-at row (stage.Held b) at tt) row w path choice (call.First env.serve.c path env.now ∷ []) goes;
+        waits = λ row b w path at goes is.
+            let given : Ending × Turn = spoken env.serve (waiting_service env w) [] in
+            waits-act (ours-at row (stage.Held b) at tt) row (record (front_rest p.rest) { target = Some path }) given (call.First env.serve.c path env.now ∷ leaves_by env.serve.c given.0) (says-act (waiting_service env w) [] goes tt);
+        stays = λ row b at.
+            let given : Ending × Turn = spoken env.serve (heard_service p b sd) [] in
+            waits-act (ours-at row (stage.Waiting b) at tt) row (front_rest p.rest) given (leaves_by env.serve.c given.0) (says-act (heard_service p b sd) [] (goes-heard b (goes-waiting row b at)) tt);
+        forwards = λ row n e at. forwards n e;
+        words = λ row last at. tombstone-act last (acts-row row (stage.Closed last) at) (last_words last.reason last sd)
+            (words-may l.w l.was_reset last.reason last sd is_stream word.sendable.ack_fits (agrees-row row (stage.Closed last) at));
+      }
 
       pub gets-act : Stays (front_gets env p bytes (Ok sd))
-      gets-act = hears p.row refl
+      gets-act = segment-keeps env p bytes sd (λ w t. GoesOver w.block) Stays by-segment
 
     -- ---- timers
 
@@ -378,49 +363,28 @@ module _ (k : Setting) (small : k.stream ≤ 2 ^ 30) (x : Conn) (sound_x : IsCon
     resent-letters [] sent = tt
     resent-letters (q ∷ ks) sent = (has-each (LetterActs x.c bounds x.part) (record { from = Front; to = q.to; bytes = q.bytes }) x.letters sent.0.1 h.packets, resent-letters ks sent.1)
 
-    fires-at : (row : FrontRow) → p.row ≡ Some row → (st : FrontConn) → row.stage ≡ st → Stays (fires_at env p row st)
-    fires-at row found (stage.Held b) at =
-        holds-act (ours-at row (stage.Held b) found at tt) row (front_rest p.rest) _
-        (fired-act b (front_rest p.rest).count (goes-here b (front_rest p.rest).count (acts-row row (stage.Held b) found at) (agrees-row row (stage.Held b) found at)))
-    fires-at row found (stage.Waiting b) at =
-        let given : Ending × Turn = spoken env.serve (serving (after_timer b) (front_rest p.rest).count []) (serving_ready_of env.serve (after_timer b) (timed b)) in
-        waits-act (ours-at row (stage.Waiting b) found at tt) row (front_rest p.rest) given (leaves_by env.serve.c given.0)
-        (fired-act b (front_rest p.rest).count (goes-here b (front_rest p.rest).count (acts-row row (stage.Waiting b) found at) (agrees-row row (stage.Waiting b) found at).0))
-    fires-at row found (stage.Offering n e) at = says (map sent_of p.kept) (resent-letters p.kept sound_x.front)
-    fires-at row found _ at = dropped
-
-    fires : (q : Option FrontRow) → p.row ≡ q → Stays (front_fired_by env p q)
-    fires None found = dropped
-    fires (Some row) found = fires-at row found row.stage refl
-
     pub timer-act : Stays (front_timer env p)
-    timer-act = fires p.row refl
+    timer-act = timer-keeps env p Stays (record {
+      drops = dropped;
+      holds = λ row b at. holds-act (ours-at row (stage.Held b) at tt) row (front_rest p.rest) (front_fired env (front_rest p.rest) b) (fired-act b (front_rest p.rest).count (goes-held row b at));
+      stays = λ row b at.
+          let given : Ending × Turn = front_fired env (front_rest p.rest) b in
+          waits-act (ours-at row (stage.Waiting b) at tt) row (front_rest p.rest) given (leaves_by env.serve.c given.0) (fired-act b (front_rest p.rest).count (goes-waiting row b at));
+      resends = λ row n e at. says (map sent_of p.kept) (resent-letters p.kept sound_x.front);
+    })
 
     -- ---- what nodes say
 
-    taken-by : (epoch : ℕ) (q : Option FrontRow) (a : Option ℕ) → Stays (taken_by p epoch q a)
-    taken-by epoch None a = dropped
-    taken-by epoch (Some row) None = dropped
-    taken-by epoch (Some row) (Some n) = idle-acts x (front_does x heads (taken_by p epoch (Some row) (Some n))) bounds (record { front = tt; nodes = h.nodes; letters = tt })
-
     pub taken-act : (epoch : ℕ) → Stays (front_taken p epoch)
-    taken-act epoch = taken-by epoch p.row (asked_node epoch p.row)
+    taken-act epoch = taken-keeps p Stays dropped epoch (λ row n e at same. idle-acts x (front_does x heads (taken_by p epoch (Some row) (Some n))) bounds (record { front = tt; nodes = h.nodes; letters = tt }))
 
     tag-letters : (n epoch number : ℕ) (tags : List ℕ) (q : Part) → Each (LetterActs x.c bounds q) (map (letter Front) (tag_sent env n epoch number tags))
     tag-letters n epoch number tags q = (other-front bounds q x.c n env.serve.c epoch (body.Tag number tags) (λ i. cc) (λ i. cc), tt)
 
-    asked-by : (n epoch : ℕ) (ask : Ask) (q : Option FrontRest) → Stays (asked_by env p n epoch ask q)
-    asked-by n epoch ask None = dropped
-    asked-by n epoch ask (Some rest) =
-        let w : Later = env.later ask in
-        let d : FrontDeed = Does (assigns env p rest n epoch ask w) in
-        cond_both (ask.number == rest.asks + 1) d (cond (ask.number == rest.asks && nat_lt 0 rest.asks) (Says (front_saying (tag_sent env n epoch rest.asks rest.tag))) Drops) Stays
-        (λ t. idle-acts x (front_does x heads d) bounds (record { front = h.front; nodes = h.nodes; letters = tag-letters n epoch ask.number (map (λ y. y.node) w.choices) (front_does x heads d).part }))
-        (λ t. cond_both (ask.number == rest.asks && nat_lt 0 rest.asks) (Says (front_saying (tag_sent env n epoch rest.asks rest.tag))) Drops Stays
-        (λ u. says (tag_sent env n epoch rest.asks rest.tag) (tag-letters n epoch rest.asks rest.tag x.part)) (λ u. dropped))
-
     pub asked-act : (n epoch : ℕ) (ask : Ask) → Stays (front_asked env p n epoch ask)
-    asked-act n epoch ask = cond_both (is_row_at n epoch p.row) (asked_by env p n epoch ask p.rest) Drops Stays (λ t. asked-by n epoch ask p.rest) (λ t. dropped)
+    asked-act n epoch ask = asked-keeps p Stays dropped env n epoch ask (λ rest found there same some. says (tag_sent env n epoch rest.asks rest.tag) (tag-letters n epoch rest.asks rest.tag x.part)) (λ rest found there next.
+        let v : Move = front_does x heads (Does (assigns env p rest n epoch ask (env.later ask))) in
+        idle-acts x v bounds (record { front = h.front; nodes = h.nodes; letters = tag-letters n epoch ask.number (map (λ y. y.node) (env.later ask).choices) v.part }))
 
     ack-letters : (n epoch : ℕ) (q : Part) → Each (LetterActs x.c bounds q) (map (letter Front) (ack_sent env n epoch))
     ack-letters n epoch q = (other-front bounds q x.c n env.serve.c epoch body.EndedAck (λ i. cc) (λ i. cc), tt)
@@ -432,48 +396,23 @@ module _ (k : Setting) (small : k.stream ≤ 2 ^ 30) (x : Conn) (sound_x : IsCon
     away-epoch e row_epoch _ sits away = let no : false ≡ true = away in absurd cc
 
     module _ (n epoch : ℕ) (last : Final) (told : HasEnded epoch p.row ⊎ EndActs bounds (ending.Over last)) where
-      ended-new : (row : FrontRow) → p.row ≡ Some row → is_away epoch row.stage ≡ true → Stays (front_ended_by env p n epoch last (Some row) (New (next_epoch row)))
+      ended-new : (row : FrontRow) → p.row ≡ Some row → is_away epoch row.stage ≡ true → Stays (Does (front_ends env p n epoch last row (next_epoch row)))
       ended-new row found away =
-          let v : Move = front_does x heads (front_ended_by env p n epoch last (Some row) (New (next_epoch row))) in
-          let same : row.epoch.0 ≡ epoch = away-epoch epoch row.epoch.0 row.stage (sits-row row found) away in
+          let v : Move = front_does x heads (Does (front_ends env p n epoch last row (next_epoch row))) in
+          let same : row.epoch.0 ≡ epoch = away-epoch epoch row.epoch.0 row.stage (of-stage (Sits own nodes) p row row.stage (found, refl) at_place.sits).0 away in
           let act : EndActs bounds (ending.Over last) = ⊎_elim
           (λ (e : HasEnded epoch p.row). absurd (let less : epoch < row.epoch.0 = subst (HasEnded epoch) found e in omega (arith, less, same)))
           (λ (a : EndActs bounds (ending.Over last)). a) told in
           idle-acts x v bounds (record { front = act; nodes = h.nodes; letters = ack-letters n epoch v.part })
 
-      ended-row : (q : Option FrontRow) → p.row ≡ q → Stays (front_ended_by env p n epoch last q (end_answer epoch q))
-      ended-row None found = dropped
-      ended-row (Some row) found = go (is_away epoch row.stage) refl (ended_with epoch row.ended_by) where
-        go : (a : Bool) → is_away epoch row.stage ≡ a → (b : Bool) → Stays (front_ended_by env p n epoch last (Some row) (cond a (New (next_epoch row)) (cond b Again Stale)))
-        go true away b = ended-new row found away
-        go false away true = says (ack_sent env n epoch) (ack-letters n epoch x.part)
-        go false away false = dropped
-
       pub ended-act : Stays (front_ended env p n epoch last)
-      ended-act = ended-row p.row refl
+      ended-act = ended-keeps p Stays dropped env n epoch last (λ row found away again. says (ack_sent env n epoch) (ack-letters n epoch x.part)) ended-new
 
     -- ---- the head of the line
 
     abbrev Admitted : FrontPart × FrontTurn → Type 0
     Admitted given = PlaceActs x (front_does x heads (Does (record { part = given.0; turn = given.1; calls = [] }))) bounds
 
-    module _ (choice : FirstChoice) (given : FrontPart × FrontTurn) where
-      admitted-with : (row : FrontRow) (b : ControlBlock) (t : Option (List ℕ)) → p.row ≡ Some row → row.stage ≡ stage.Waiting b → front_admitted_with env row (front_rest p.rest) b choice t ≡ Some given → Admitted given
-      admitted-with row b None found at e = let no : None ≡ Some given = e in absurd cc
-      admitted-with row b (Some path) found at e =
-          let w : Service = serving b (front_rest p.rest).count [] in
-          let handed : FrontPart × FrontTurn = handed_off env row w path choice in
-          let same : handed ≡ given = cc in
-          subst Admitted same (handed-act (ours-at row (stage.Waiting b) found at tt) row w path choice []
-          (goes-here b (front_rest p.rest).count (acts-row row (stage.Waiting b) found at) (agrees-row row (stage.Waiting b) found at).0))
-
-      admitted-at : (row : FrontRow) (st : FrontConn) → p.row ≡ Some row → row.stage ≡ st → admitted_at env p choice row st ≡ Some given → Admitted given
-      admitted-at row (stage.Waiting b) found at e = admitted-with row b (front_rest p.rest).target found at e
-      admitted-at row _ found at e = let no : None ≡ Some given = e in absurd cc
-
-      admitted-by : (q : Option FrontRow) → p.row ≡ q → admitted_by env p choice q ≡ Some given → Admitted given
-      admitted-by None found e = let no : None ≡ Some given = e in absurd cc
-      admitted-by (Some row) found e = admitted-at row row.stage found refl e
-
-      pub admitted-act : front_admitted env p choice ≡ Some given → Admitted given
-      admitted-act e = admitted-by p.row refl e
+    pub admitted-act : (choice : FirstChoice) (given : FrontPart × FrontTurn) → front_admitted env p choice ≡ Some given → Admitted given
+    admitted-act choice = admitted-keeps env p choice Admitted
+        (λ row b path at target. handed-act (ours-at row (stage.Waiting b) at tt) row (serving b (front_rest p.rest).count []) path choice [] (goes-waiting row b at))
