@@ -1,12 +1,11 @@
 -- What the front end answers to nodes, and whom it admits, leaves a connection on its way.
-use Rattle.std.proofs.Common.{◌≡◌, ◌≤◌, ◌<◌, ◌+◌, ◌^◌, ◌==◌, ◌&&◌, nat_lt, ℕ, suc, Bool, true, false, cond, List, [], ◌∷◌, ◌++◌, map, length, Option, Some, None, inl, inr, ⊎_elim, refl, sym, ap, ◌∙◌, subst, arith, append-nil, append_assoc, eqb-true, eq-eqb}
+use Rattle.std.proofs.Common.{◌≡◌, ◌≤◌, ◌<◌, ◌+◌, ◌^◌, ◌==◌, ℕ, suc, Bool, true, false, List, [], ◌∷◌, ◌++◌, map, length, Option, Some, None, inl, inr, ⊎_elim, refl, sym, ap, ◌∙◌, subst, arith, append-nil, append_assoc, eqb-true, eq-eqb}
 use Rattle.std.specs.List.{slice_get}
 use Rattle.std.proofs.lemmas.Bool.{and_from, and_parts}
 use Rattle.std.proofs.lemmas.List.{map-append}
 use Rattle.lard_answers.specs.Answers.{FilesAt, IsPrefix}
 use Rattle.lard_base.specs.declared.ids.Epoch.{Epoch}
 use Rattle.lard_base.specs.declared.place.Place.TheVariants.{Front, Node}
-use Rattle.lard_base.specs.declared.place.TimerKind.TheVariants as timer
 use Rattle.lard_law_connections.proofs.BytesFrontMessages.{past-undecided}
 use Rattle.lard_law_connections.specs.Places.{IsDecided, IsOffered, IsPast, Offers, Sits, StageSits, owning}
 use Rattle.lard_law_connections.proofs.PlacesTurns.{IsPlaced}
@@ -25,13 +24,10 @@ use Rattle.lard_costs.specs.declared.later.LaterChoice.{LaterChoice}
 use Rattle.lard_dispatch.specs.declared.dispatch.Ask.{Ask}
 use Rattle.lard_endpoint.specs.declared.control.moving.Final.{Final}
 use Rattle.lard_rules.specs.declared.front.FrontRest.{FrontRest}
-use Rattle.lard_rules.specs.Front.{FrontDeed, Did, Does, Drops, FrontEnv, FrontPart, Says, ack_sent, asked_by, assigned_notes, assigns, front_ended_by, front_asked, is_row_at, is_with, message, over_note, front_rest, front_saying, tag_sent, taken_by}
+use Rattle.lard_rules.specs.Front.{FrontDeed, Did, Does, Drops, FrontEnv, FrontPart, Says, ack_sent, assigned_notes, assigns, front_asked, is_row_at, is_with, message, over_note, front_rest, front_saying, tag_sent, taken_by, front_ended, front_ends, front_taken}
 use Rattle.lard_handoff_front.specs.declared.row.FrontConn.{FrontConn}
 use Rattle.lard_handoff_front.specs.declared.row.FrontConn.TheVariants as stage
 use Rattle.lard_handoff_front.specs.declared.row.FrontRow.{FrontRow}
-use Rattle.lard_handoff_front.specs.declared.table.OnEnded.{OnEnded}
-use Rattle.lard_handoff_front.specs.declared.table.OnEnded.TheVariants.{Again, New, Stale}
-use Rattle.lard_handoff_front.specs.Row.{offered_to}
 use Rattle.lard_history.specs.Own.{Seen}
 use Rattle.lard_journal.specs.declared.rec.Rec.{Rec}
 use Rattle.lard_message.specs.declared.kind.Kind.TheVariants as kind
@@ -39,7 +35,8 @@ use Rattle.lard_message.specs.declared.message.Body.TheVariants as body
 use Rattle.lard_rules.specs.declared.stay.Stay.{Stay}
 use Rattle.lard_rules.specs.Node.{NodePart}
 use Rattle.lard_rules.specs.Stay.{named_paths}
-use Rattle.lard_resend.specs.Kept.{without}
+use Rattle.lard_rules.proofs.FrontCases.{IsInStage, of-stage, taken-keeps, asked-keeps, ended-keeps}
+use Rattle.lard_handoff_front.specs.Front.{next_epoch}
 
 -- ---- what an Ask assigns
 
@@ -96,14 +93,13 @@ module _ (env : FrontEnv) (x : Conn) (heads : List Seen) where
 
   -- ---- a Taken
 
-  taken-moves : (row : FrontRow) (n : ℕ) (d : Epoch) (epoch : ℕ) → p.row ≡ Some row → row.stage ≡ stage.Offering n d → d.0 ≡ epoch → Goal (taken_by p epoch (Some row) (Some n))
-  taken-moves row n d epoch found at same help g =
-      let q : FrontPart = record p { row = Some (record row { stage = stage.Moved n (record { 0 = epoch }) }); kept = without timer.Offer 0 p.kept } in
+  taken-moves : (row : FrontRow) (n : ℕ) (d : Epoch) (epoch : ℕ) → IsInStage p row (stage.Offering n d) → d.0 ≡ epoch → Goal (taken_by p epoch (Some row) (Some n))
+  taken-moves row n d epoch at same help g =
       let v : Move = front_does x heads (taken_by p epoch (Some row) (Some n)) in
-      let seat : IsAway files m (front_rest p.rest) n row.epoch.0 (x.part.nodes n) = subst (StageWays files m x.part row.epoch.0) at (subst (SeatWays files m x.part) found g.seat) in
+      let seat : IsAway files m (front_rest p.rest) n row.epoch.0 (x.part.nodes n) = of-stage (SeatWays files m x.part) p row (stage.Offering n d) at g.seat in
       let was : (i e : ℕ) → Counts v.part i e → Counts x.part i e = λ i e c.
       let t = and_parts (n == i) (epoch == e) c in
-      subst (λ (o : Option FrontRow). is_row_at i e o ≡ true) (sym found) (subst (λ (f : FrontConn). is_with i e f ≡ true) (sym at) (and_from (n == i) (d.0 == e) t.0 (eq-eqb d.0 e (same ∙ eqb-true epoch e t.1)))) in
+      subst (λ (o : Option FrontRow). is_row_at i e o ≡ true) (sym at.0) (subst (λ (f : FrontConn). is_with i e f ≡ true) (sym at.1) (and_from (n == i) (d.0 == e) t.0 (eq-eqb d.0 e (same ∙ eqb-true epoch e t.1)))) in
       makes files x v help g m tt refl g.paths seat
       (record {
         grows = help.owes.grows;
@@ -113,29 +109,23 @@ module _ (env : FrontEnv) (x : Conn) (heads : List Seen) where
       })
       (λ old. tt) tt
 
-  taken-at : (row : FrontRow) (epoch : ℕ) → p.row ≡ Some row → (d : FrontConn) → row.stage ≡ d → Goal (taken_by p epoch (Some row) (offered_to epoch d))
-  taken-at row epoch found (stage.Offering n d) at = go (d.0 == epoch) refl where
-    go : (b : Bool) → (d.0 == epoch) ≡ b → Goal (taken_by p epoch (Some row) (cond b (Some n) None))
-    go true e = taken-moves row n d epoch found at (eqb-true d.0 epoch e)
-    go false e = drops-makes
-  taken-at row epoch found _ at = drops-makes
-
-  pub taken-row : (epoch : ℕ) (row : Option FrontRow) → p.row ≡ row → Goal (taken_by p epoch row (elim row [ None ↦ None | Some r ↦ offered_to epoch r.stage ]))
-  taken-row epoch None found = drops-makes
-  taken-row epoch (Some row) found = taken-at row epoch found row.stage refl
+  pub taken-makes : (epoch : ℕ) → Goal (front_taken p epoch)
+  taken-makes epoch = taken-keeps p Goal drops-makes epoch (λ row n e at same. taken-moves row n e epoch at same)
 
   -- ---- an end
 
-  pub ended-makes : (from epoch : ℕ) (last : Final) (o : Option FrontRow) (given : OnEnded) → Goal (front_ended_by env p from epoch last o given)
-  ended-makes from epoch last None given = drops-makes
-  ended-makes from epoch last (Some row) Stale = drops-makes
-  ended-makes from epoch last (Some row) Again = stands-makes files x Front heads (by_front (front_saying (ack_sent env from epoch))) tt
-      (λ old. (front-quiet files m x.part from env.serve.c epoch body.EndedAck (λ f. let z : kind.EndedAck ≡ kind.Offer = f in cc) (λ f. let z : kind.EndedAck ≡ kind.Tag = f in cc), tt)) tt
-  ended-makes from epoch last (Some row) (New next) = λ help g.
-      let v : Move = front_does x heads (front_ended_by env p from epoch last (Some row) (New next)) in
+  ends-makes : (from epoch : ℕ) (last : Final) (row : FrontRow) → Goal (Does (front_ends env p from epoch last row (next_epoch row)))
+  ends-makes from epoch last row help g =
+      let v : Move = front_does x heads (Does (front_ends env p from epoch last row (next_epoch row))) in
       makes files x v help g m (tt, (tt, tt)) refl g.paths tt
       (carries-none files m m (same-marks files m m.served) x.part v.part help.owes.grows (λ i e c. let z : false ≡ true = c in cc))
       (λ old. (front-quiet files m v.part from env.serve.c epoch body.EndedAck (λ f. let z : kind.EndedAck ≡ kind.Offer = f in cc) (λ f. let z : kind.EndedAck ≡ kind.Tag = f in cc), tt)) tt
+
+  pub ended-makes : (from epoch : ℕ) (last : Final) → Goal (front_ended env p from epoch last)
+  ended-makes from epoch last = ended-keeps p Goal drops-makes env from epoch last
+      (λ row found away again. stands-makes files x Front heads (by_front (front_saying (ack_sent env from epoch))) tt
+      (λ old. (front-quiet files m x.part from env.serve.c epoch body.EndedAck (λ f. let z : kind.EndedAck ≡ kind.Offer = f in cc) (λ f. let z : kind.EndedAck ≡ kind.Tag = f in cc), tt)) tt)
+      (λ row found away. ends-makes from epoch last row)
 
   -- ---- an Ask
 
@@ -278,18 +268,7 @@ module _ (env : FrontEnv) (x : Conn) (heads : List Seen) where
         (λ old. (tag-says m x.part n epoch rest.asks rest.tag (let e = w.same in let two = w.second in omega (arith, e, two)) (subst (IsBy epoch) (sym w.found) (let e = w.same in omega (arith, e))) (ap (λ (r : FrontRest). r.asks) (sym r_is)) (ap (λ (r : FrontRest). r.tag) r_is), tt)) tt help g
 
   module _ (n epoch : ℕ) (ask : Ask) (sent : GoesItsWay files x → NodeSaysWays files m x.part n epoch (body.Ask ask.number ask.queue ask.size ask.paths)) where
-    rest-makes : is_row_at n epoch p.row ≡ true → (rest : Option FrontRest) → p.rest ≡ rest → Goal (asked_by env p n epoch ask rest)
-    rest-makes at None there help g = drops-makes help g
-    rest-makes at (Some rest) there help g = go (ask.number == rest.asks + 1) refl (ask.number == rest.asks && nat_lt 0 rest.asks) help g where
-      go : (a : Bool) → (ask.number == rest.asks + 1) ≡ a → (b : Bool) → Goal (cond a (Does (assigns env p rest n epoch ask (env.later ask))) (cond b (Says (front_saying (tag_sent env n epoch rest.asks rest.tag))) Drops))
-      go true e b help g =
-          let h = sent g in
-          assigns-makes n epoch ask rest there (eqb-true ask.number (rest.asks + 1) e) at h.0 (subst (λ (r : FrontRest). AskIs files m r (x.part.nodes n).stay ask.number ask.paths) (ap front_rest there) (h.1 at)) help g
-      go false e true help g = again-makes n epoch ask rest there at help g
-      go false e false help g = drops-makes help g
-
     pub asked-makes : Goal (front_asked env p n epoch ask)
-    asked-makes = go (is_row_at n epoch p.row) refl where
-      go : (b : Bool) → is_row_at n epoch p.row ≡ b → Goal (cond b (asked_by env p n epoch ask p.rest) Drops)
-      go true e = rest-makes e p.rest refl
-      go false e = drops-makes
+    asked-makes = asked-keeps p Goal drops-makes env n epoch ask (λ rest there at same some. again-makes n epoch ask rest there at) (λ rest there at next help g.
+        let h = sent g in
+        assigns-makes n epoch ask rest there next at h.0 (subst (λ (r : FrontRest). AskIs files m r (x.part.nodes n).stay ask.number ask.paths) (ap front_rest there) (h.1 at)) help g)

@@ -27,7 +27,7 @@ use Rattle.lard_laws.specs.WaysRuns.{ContentsComeAsAssigned, JournalsAssignAPref
 use Rattle.lard_laws.specs.WaysState.{GoesItsWay, LetterWays, marks_at, marks_of}
 use Rattle.lard_laws.specs.Ways.{AnswersNextAt, IsNextGood, WayMarks, MayBeAssigned, MayComeThisWay, way_marks, paths_wanted}
 use Rattle.lard_laws.proofs.WaysClients.{clients}
-use Rattle.lard_laws.proofs.WaysFrontAnswers.{asked-makes, ended-makes, taken-row}
+use Rattle.lard_laws.proofs.WaysFrontAnswers.{asked-makes, ended-makes, taken-makes}
 use Rattle.lard_laws.proofs.WaysFrontStays.{fires-row, hears-row, waits-frozen}
 use Rattle.lard_laws.proofs.WaysMarking.{MayTell, Mine}
 use Rattle.lard_laws.proofs.WaysMoments.{assigns-a-prefix}
@@ -39,7 +39,6 @@ use Rattle.lard_rules.specs.declared.front.FrontTurn.{FrontTurn}
 use Rattle.lard_handoff_front.specs.declared.row.FrontConn.{FrontConn}
 use Rattle.lard_handoff_front.specs.declared.row.FrontConn.TheVariants as stage
 use Rattle.lard_handoff_front.specs.declared.row.FrontRow.{FrontRow}
-use Rattle.lard_handoff_front.specs.Front.{end_answer}
 use Rattle.lard_history.specs.Journal.{Tale, is_touched}
 use Rattle.lard_history.specs.Own.{EachRow, Seen, own, plain, tale_of, whose}
 use Rattle.lard_history.proofs.Lifting.{tale-own}
@@ -97,11 +96,11 @@ module _ (k : Setting) (small : k.stream ≤ 2 ^ 30) where
   fronts = record {
     hears = front-hears;
     fires = front-fires;
-    taken = λ x env n epoch bytes is spells was h. by-files x env is _ (taken-row env x (packet_seen (Node n) Front bytes) epoch x.part.front.row refl);
+    taken = λ x env n epoch bytes is spells was h. by-files x env is _ (taken-makes env x (packet_seen (Node n) Front bytes) epoch);
     asked = λ x env n epoch number queue size paths bytes is spells was h. by-files x env is _
         (asked-makes env x (packet_seen (Node n) Front bytes) n epoch (ask_of x.c n number queue size paths) (λ g. (has-fair (LetterWays env.serve.files (marks_at x) x.part) (record { from = Node n; to = Front; bytes = bytes }) x.letters was g.letters) _ spells));
     ended = λ x env n epoch reason snd rcv count bytes is spells was h. by-files x env is _
-        (ended-makes env x (packet_seen (Node n) Front bytes) n epoch (record { reason = reason; snd = record { 0 = snd }; rcv = record { 0 = rcv } }) x.part.front.row (end_answer epoch x.part.front.row));
+        (ended-makes env x (packet_seen (Node n) Front bytes) n epoch (record { reason = reason; snd = record { 0 = snd }; rcv = record { 0 = rcv } }));
     admitted = λ x env choice given is e h. by-row x env choice given is h x.part.front.row refl e;
   }
 
