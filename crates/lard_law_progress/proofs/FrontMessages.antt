@@ -1,6 +1,5 @@
 -- The front end hears a message of a node: nothing that is left to do comes back.
-use Rattle.std.proofs.Common.{◌≡◌, ◌+◌, ◌==◌, ◌&&◌, nat_lt, ℕ, Bool, true, false, cond, Option, Some, None, refl, sym, ap, ◌∙◌}
-use Rattle.std.proofs.lemmas.Bool.{cond_both, eqb-true}
+use Rattle.std.proofs.Common.{◌≡◌, ◌==◌, ℕ, Bool, true, false, cond, Option, Some, None, refl, sym, ap, ◌∙◌}
 use Rattle.lard_answers.specs.Answers.{FilesAt}
 use Rattle.lard_base.specs.declared.ids.Epoch.{Epoch}
 use Rattle.lard_base.specs.declared.place.TimerKind.TheVariants as kind
@@ -11,17 +10,14 @@ use Rattle.lard_dispatch.specs.declared.dispatch.Ask.{Ask}
 use Rattle.lard_endpoint.specs.declared.control.moving.Final.{Final}
 use Rattle.lard_rules.specs.declared.front.FrontRest.{FrontRest}
 use Rattle.lard_rules.specs.Front as front
-use Rattle.lard_rules.specs.Front.{Does, Drops, FrontEnv, FrontPart, Says, asked_by, assigns, front_ended_by, front_ends, front_asked, front_ended, front_taken, is_row_at, front_rest, front_saying, tag_sent, taken_by}
+use Rattle.lard_rules.specs.Front.{FrontEnv, FrontPart, assigns, front_ends, front_asked, front_ended, front_taken, front_rest, taken_by}
 use Rattle.lard_handoff_back.specs.declared.row.BackConn.{BackConn}
 use Rattle.lard_handoff_back.specs.declared.row.BackConn.TheVariants as back
 use Rattle.lard_handoff_back.specs.declared.row.BackRow.{BackRow}
-use Rattle.lard_handoff_front.specs.declared.row.FrontConn.{FrontConn}
 use Rattle.lard_handoff_front.specs.declared.row.FrontConn.TheVariants as stage
 use Rattle.lard_handoff_front.specs.declared.row.FrontRow.{FrontRow}
-use Rattle.lard_handoff_front.specs.declared.table.OnEnded.{OnEnded}
-use Rattle.lard_handoff_front.specs.declared.table.OnEnded.TheVariants.{Again, New, Stale}
-use Rattle.lard_handoff_front.specs.Front.{asked_node, end_answer, ended_row, ended_with, next_epoch}
-use Rattle.lard_handoff_front.specs.Row.{is_away, offered_to}
+use Rattle.lard_handoff_front.specs.Front.{ended_row, next_epoch}
+use Rattle.lard_handoff_front.specs.Row.{is_away}
 use Rattle.lard_rules.specs.Node.{NodePart}
 use Rattle.lard_law_progress.proofs.Given.{IsGone}
 use Rattle.lard_law_progress.proofs.Handing.{ended-over, taken-gone, taken-here}
@@ -29,6 +25,7 @@ use Rattle.lard_law_progress.proofs.Less.{Lasting}
 use Rattle.lard_law_progress.proofs.Seating.{FrontLasts, front-stays, seat-at, seat-counts}
 use Rattle.lard_resend.specs.Kept.{without}
 use Rattle.lard_rules.specs.declared.places.Station.{Station}
+use Rattle.lard_rules.proofs.FrontCases.{taken-keeps, asked-keeps, ended-keeps}
 
 module _ (w : Whole) (K : ℕ) (files : FilesAt) (p : Part) (st : Station) where
   abbrev Owes : front.FrontDeed → Type 0
@@ -63,41 +60,20 @@ module _ (w : Whole) (K : ℕ) (files : FilesAt) (p : Part) (st : Station) where
       let now : seat_of (with_front p f) ≡ seat_away true n epoch count (p.nodes n) = seat-at (with_front p f) r (stage.Moved n (record { 0 = epoch })) refl refl in
       flips f n epoch count (p.nodes n) (p.nodes n).row was now
 
-  taken-by : (epoch : ℕ) (row : FrontRow) → p.front.row ≡ Some row → (s : FrontConn) → row.stage ≡ s → Owes (taken_by p.front epoch (Some row) (offered_to epoch s))
-  taken-by epoch row at (stage.Offering n d) is =
-      cond_both (d.0 == epoch) (Some n) None (λ (o : Option ℕ). Owes (taken_by p.front epoch (Some row) o)) (λ t. taken-at row n d epoch at is (eqb-true d.0 epoch t)) (λ t. tt)
-  taken-by epoch row at _ is = tt
-
   pub taken-lasts : (epoch : ℕ) → Owes (front_taken p.front epoch)
-  taken-lasts epoch = go p.front.row refl where
-    go : (o : Option FrontRow) → p.front.row ≡ o → Owes (taken_by p.front epoch o (asked_node epoch o))
-    go None at = tt
-    go (Some row) at = taken-by epoch row at row.stage refl
+  taken-lasts epoch = taken-keeps p.front Owes tt epoch (λ row n d at same. taken-at row n d epoch at.0 at.1 same)
 
   -- ---- its node asks: the answer is kept, and it is where it was
 
-  asks-by : (env : FrontEnv) (from epoch : ℕ) (ask : Ask) (o : Option FrontRest) → p.front.rest ≡ o → Owes (asked_by env p.front from epoch ask o)
-  asks-by env from epoch ask None at = tt
-  asks-by env from epoch ask (Some rest) at =
-      let again = cond (ask.number == rest.asks && nat_lt 0 rest.asks) (Says (front_saying (tag_sent env from epoch rest.asks rest.tag))) Drops in
-      cond_both (ask.number == rest.asks + 1) (Does (assigns env p.front rest from epoch ask (env.later ask))) again Owes
-      (λ t known. let f = (assigns env p.front rest from epoch ask (env.later ask)).part in
-      front-stays w K files p st f (seat-counts w K files p st f (sym (ap (λ (o : Option FrontRest). (front_rest o).count) at)) refl))
-      (λ t. cond_both (ask.number == rest.asks && nat_lt 0 rest.asks) (Says (front_saying (tag_sent env from epoch rest.asks rest.tag))) Drops Owes (λ t. tt) (λ t. tt))
-
   pub asked-lasts : (env : FrontEnv) (from epoch : ℕ) (ask : Ask) → Owes (front_asked env p.front from epoch ask)
-  asked-lasts env from epoch ask = cond_both (is_row_at from epoch p.front.row) (asked_by env p.front from epoch ask p.front.rest) Drops Owes (λ t. asks-by env from epoch ask p.front.rest refl) (λ t. tt)
+  asked-lasts env from epoch ask = asked-keeps p.front Owes tt env from epoch ask (λ rest found there same some. tt) (λ rest found there next known.
+      let f = (assigns env p.front rest from epoch ask (env.later ask)).part in
+      front-stays w K files p st f (seat-counts w K files p st f (sym (ap (λ (o : Option FrontRest). (front_rest o).count) found)) refl))
 
   -- ---- it ended at its node
 
   pub ended-lasts : (env : FrontEnv) (from epoch : ℕ) (last : Final) → ((row : FrontRow) → p.front.row ≡ Some row → is_away epoch row.stage ≡ true → IsGone (seat_of p)) → Owes (front_ended env p.front from epoch last)
-  ended-lasts env from epoch last gone = go p.front.row refl where
-    go : (o : Option FrontRow) → p.front.row ≡ o → Owes (front_ended_by env p.front from epoch last o (end_answer epoch o))
-    go None at = tt
-    go (Some row) at =
-        let P : OnEnded → Type 0 = λ g. Owes (front_ended_by env p.front from epoch last (Some row) g) in
-        cond_both (is_away epoch row.stage) (New (next_epoch row)) (cond (ended_with epoch row.ended_by) Again Stale) P
-        (λ t known. let g = gone row at t in
-        let f = (front_ends env p.front from epoch last row (next_epoch row)).part in
-        ended-over w K files p st f g.told g.n g.e last g.is (seat-at (with_front p f) (ended_row (record { 0 = epoch }) last row) (stage.Closed last) refl refl))
-        (λ t. cond_both (ended_with epoch row.ended_by) Again Stale P (λ t. tt) (λ t. tt))
+  ended-lasts env from epoch last gone = ended-keeps p.front Owes tt env from epoch last (λ row found away again. tt) (λ row found away known.
+      let g = gone row found away in
+      let f = (front_ends env p.front from epoch last row (next_epoch row)).part in
+      ended-over w K files p st f g.told g.n g.e last g.is (seat-at (with_front p f) (ended_row (record { 0 = epoch }) last row) (stage.Closed last) refl refl))

@@ -1,5 +1,5 @@
 -- A connection in the line hears, says again what it said, and is admitted: nothing that is left to do comes back.
-use Rattle.std.proofs.Common.{◌≡◌, ◌≤◌, ◌+◌, ℕ, true, List, [], Option, Some, None, refl, ◌∙◌, subst, arith}
+use Rattle.std.proofs.Common.{◌≡◌, ◌≤◌, ◌+◌, ℕ, true, List, [], Some, ◌∙◌, subst, arith}
 use Rattle.lard_answers.specs.Answers.{FilesAt}
 use Rattle.lard_bound.specs.Seats.{Waiting, seat_of}
 use Rattle.lard_bound.specs.Units.{Whole}
@@ -8,8 +8,7 @@ use Rattle.lard_endpoint.specs.Arriving.{on_segment}
 use Rattle.lard_endpoint.specs.Control.{ControlBlock}
 use Rattle.lard_endpoint.specs.Leaving.{after_timer}
 use Rattle.lard_rules.specs.declared.front.FrontTurn.{FrontTurn}
-use Rattle.lard_rules.specs.Front.{FrontEnv, FrontPart, admitted_at, admitted_by, front_admitted_with, fires_at, front_admitted, handed_off, hears_at, offering, front_rest, front_rests}
-use Rattle.lard_handoff_front.specs.declared.row.FrontConn.{FrontConn}
+use Rattle.lard_rules.specs.Front.{FrontEnv, FrontPart, fires_at, front_admitted, handed_off, hears_at, offering, front_rest, front_rests}
 use Rattle.lard_handoff_front.specs.declared.row.FrontConn.TheVariants as stage
 use Rattle.lard_handoff_front.specs.declared.row.FrontRow.{FrontRow}
 use Rattle.lard_policy.specs.declared.first.FirstChoice.{FirstChoice}
@@ -25,6 +24,7 @@ use Rattle.lard_rules.specs.declared.places.Station.{Station}
 use Rattle.lard_rules.specs.Serving.{rested, serving}
 use Rattle.lard_rules.specs.Speaking.{speaks}
 use Rattle.lard_segment.specs.Segment.{Said}
+use Rattle.lard_rules.proofs.FrontCases.{admitted-keeps}
 
 module _ (w : Whole) (K : ℕ) (files : FilesAt) (p : Part) (st : Station) where
   abbrev To : FrontPart → Type 0
@@ -64,20 +64,6 @@ module _ (w : Whole) (K : ℕ) (files : FilesAt) (p : Part) (st : Station) where
         let f = offering env row (serving b count []) path choice.node in
         admitted-less w K files p st f b count choice.node (row.epoch.0 + 1) waits (seat-offering p env row (serving b count []) path choice.node (fresh choice.node)) knows.0 knows.2
 
-    pub admits-with : (env : FrontEnv) (choice : FirstChoice) (given : FrontPart × FrontTurn) → IsFresh p.nodes (Some row) → (target : Option (List ℕ))
-        → front_admitted_with env row (front_rest p.front.rest) b choice target ≡ Some given → To given.0
-    admits-with env choice given fresh None e = absurd (let bad : ◌≡◌ {A = Option (FrontPart × FrontTurn)} None (Some given) = e in cc)
-    admits-with env choice given fresh (Some path) e =
-        let same : handed_off env row (serving b count []) path choice ≡ given = cc in
-        subst (λ (g : FrontPart × FrontTurn). To g.0) same (admits env choice path fresh)
-
-  admits-at : (env : FrontEnv) (choice : FirstChoice) (given : FrontPart × FrontTurn) (row : FrontRow) → p.front.row ≡ Some row → SeatKnown w st.client (seat_of p) → IsFresh p.nodes (Some row)
-      → (s : FrontConn) → row.stage ≡ s → admitted_at env p.front choice row s ≡ Some given → To given.0
-  admits-at env choice given row at known fresh (stage.Waiting b) is e = admits-with row b at is known env choice given fresh (front_rest p.front.rest).target e
-  admits-at env choice given row at known fresh _ is e = absurd (let bad : ◌≡◌ {A = Option (FrontPart × FrontTurn)} None (Some given) = e in cc)
-
   pub admitted-lasts : (env : FrontEnv) (choice : FirstChoice) (given : FrontPart × FrontTurn) → SeatKnown w st.client (seat_of p) → IsFresh p.nodes p.front.row → front_admitted env p.front choice ≡ Some given → To given.0
-  admitted-lasts env choice given known fresh = go p.front.row refl fresh where
-    go : (o : Option FrontRow) → p.front.row ≡ o → IsFresh p.nodes o → admitted_by env p.front choice o ≡ Some given → To given.0
-    go None at fresh e = absurd (let bad : ◌≡◌ {A = Option (FrontPart × FrontTurn)} None (Some given) = e in cc)
-    go (Some row) at fresh e = admits-at env choice given row at known fresh row.stage refl e
+  admitted-lasts env choice given known fresh = admitted-keeps env p.front choice (λ (g : FrontPart × FrontTurn). To g.0)
+      (λ row b path at target. admits row b at.0 at.1 known env choice path (subst (IsFresh p.nodes) at.0 fresh)) given
