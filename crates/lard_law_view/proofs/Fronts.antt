@@ -1,5 +1,5 @@
 -- What each rule of the front end says is of its connection.
-use Rattle.std.proofs.Common.{◌≡◌, ℕ, ◌+◌, nat_lt, ◌==◌, ◌&&◌, Bool, true, false, cond, List, [], ◌∷◌, ◌++◌, length, map, Option, Some, None, Result, Ok, Err, refl, sym, ap, ◌∙◌, subst, arith, inl}
+use Rattle.std.proofs.Common.{◌≡◌, ℕ, ◌+◌, Bool, true, false, List, [], ◌∷◌, length, map, Option, Some, None, Result, Ok, Err, refl, sym, ap, ◌∙◌, subst, arith, inl}
 use Rattle.std.proofs.lemmas.Bool.{cond_both}
 use Rattle.std.proofs.lemmas.List.Sums.{fold-append}
 use Rattle.std.specs.List.{fold}
@@ -17,24 +17,18 @@ use Rattle.lard_law_view.proofs.Saying.{AreMessages, NotedAt}
 use Rattle.lard_law_view.proofs.Turned.{AreHeld, HeldBy, IsSaid, as-held, front-segments, spelled}
 use Rattle.lard_costs.specs.declared.later.LaterChoice.{LaterChoice}
 use Rattle.lard_dispatch.specs.declared.dispatch.Ask.{Ask}
-use Rattle.lard_dispatch.specs.declared.dispatch.First.{First}
 use Rattle.lard_dispatch.specs.declared.dispatch.First.TheVariants as first
 use Rattle.lard_dispatch.specs.declared.dispatch.Later.{Later}
 use Rattle.lard_endpoint.specs.declared.control.moving.Final.{Final}
 use Rattle.lard_endpoint.specs.Arriving.{on_segment}
-use Rattle.lard_endpoint.specs.Control.{ControlBlock, listening}
+use Rattle.lard_endpoint.specs.Control.{ControlBlock}
 use Rattle.lard_endpoint.specs.Leaving as leaving
 use Rattle.lard_endpoint.specs.Moving.{may_freeze}
 use Rattle.lard_rules.specs.declared.front.FrontRest.{FrontRest}
 use Rattle.lard_rules.specs.declared.front.FrontTurn.{FrontTurn}
-use Rattle.lard_rules.specs.Front.{FrontDeed, Drops, Says, Does, FrontEnv, FrontPart, ack_sent, admitted_at, admitted_by, front_admitted_with, asked_by, assigned_notes, assigns, front_begun, front_ended_by, front_fired, front_fired_by, fires_at, forwarded, front_admitted, front_asked, front_ended, front_gets, front_hears, front_taken, front_timer, handed_off, heard, hears_at, holds, is_row_at, met, over_note, placed, front_rest, front_saying, settled_by, tag_sent, taken_by, turn_here, waits_on}
+use Rattle.lard_rules.specs.Front.{FrontDeed, Drops, Says, Does, FrontEnv, FrontPart, ack_sent, assigned_notes, assigns, front_fired, forwarded, front_admitted, front_asked, front_ended, front_gets, front_taken, front_timer, handed_off, holds, over_note, placed, front_rest, front_saying, tag_sent, turn_here, waits_on}
 use Rattle.lard_rules.specs.FrontReading.{Reading, block_at, reading_left, front_reads, reads_block, reads_found, targeted, reading_turn}
-use Rattle.lard_handoff_front.specs.declared.row.FrontConn.{FrontConn}
-use Rattle.lard_handoff_front.specs.declared.row.FrontConn.TheVariants as stage
 use Rattle.lard_handoff_front.specs.declared.row.FrontRow.{FrontRow}
-use Rattle.lard_handoff_front.specs.declared.table.OnEnded.{OnEnded}
-use Rattle.lard_handoff_front.specs.declared.table.OnEnded.TheVariants.{New, Again, Stale}
-use Rattle.lard_handoff_front.specs.Front.{asked_node, end_answer}
 use Rattle.lard_history.specs.Journal.{answered_step}
 use Rattle.lard_history.proofs.Each.{Each, Each-append}
 use Rattle.lard_journal.specs.declared.rec.Rec.{Rec}
@@ -48,7 +42,7 @@ use Rattle.lard_resend.specs.Pending.{sent_of}
 use Rattle.lard_resend.proofs.Ordered.{drop_all}
 use Rattle.lard_rules.specs.declared.places.Ending.{Ending}
 use Rattle.lard_rules.specs.declared.places.Turn.{Turn}
-use Rattle.lard_rules.specs.Tombstone.{is_plain_syn, last_words, tombstone}
+use Rattle.lard_rules.specs.Tombstone.{last_words, tombstone}
 use Rattle.lard_rules.specs.Loop.{Step}
 use Rattle.lard_rules.specs.Loop as loop
 use Rattle.lard_rules.specs.Serving.{Service, serving_consumed, may_read, serving_ready_of, serving, serving_settled, spoken}
@@ -58,6 +52,7 @@ use Rattle.lard_segment.specs.Segment.{Said}
 use Rattle.lard_law_view.proofs.EndpointSends as endpoints
 use Rattle.lard_law_view.proofs.PlaceTurns as turns
 use Rattle.lard_law_view.proofs.PlaceTurns.{AreNoted, IsServingTurn, NotesServing}
+use Rattle.lard_rules.proofs.FrontCases.{KeptBySegment, begun_row, begun_service, heard_reading, heard_service, waiting_service, segment-keeps, timer-keeps, taken-keeps, asked-keeps, ended-keeps, admitted-keeps}
 
 -- A turn is of connection c.
 abbrev pub IsFrontTurn : ℕ → FrontTurn → Type 0
@@ -160,11 +155,9 @@ module _ (env : FrontEnv) (own : env.serve.place ≡ Front) (number : IsConnNumb
       (inl (inl refl), tt),
     )
 
-    placed-deed : (row : FrontRow) (rest : FrontRest) (w : Service) (path : List ℕ) (f : First) → Noted w → IsDeed (Does (placed env p row rest w path f))
-    placed-deed row rest w path (first.Go choice) h = handed-turn row w path choice h
-    placed-deed row rest w path first.Waits h =
-        let v : Service = record w { notes = w.notes ++ rec.Waits env.serve.c ∷ [] } in
-        let given : Ending × Turn = spoken env.serve v [] in (
+    waiting-deed : (row : FrontRow) (w : Service) (path : List ℕ) → Noted w → IsDeed (Does (placed env p row (front_rest p.rest) w path first.Waits))
+    waiting-deed row w path h =
+        let given : Ending × Turn = spoken env.serve (waiting_service env w) [] in (
           here-turn given.1 (record {
             notes = Each-append N w.notes (rec.Waits env.serve.c ∷ []) h.0 (refl, tt);
             to = (turns.spoken-turn env.serve N noting w [] tt h).to;
@@ -173,24 +166,7 @@ module _ (env : FrontEnv) (own : env.serve.place ≡ Front) (number : IsConnNumb
           as-before [],
         )
 
-    settled-deed : (row : FrontRow) (rest : FrontRest) (w : Service) (o : Option (List ℕ)) → Noted w → IsDeed (settled_by env p row rest w o)
-    settled-deed row rest w None h = holds-deed row rest (serving_settled env.serve w) (turns.settled-turn env.serve N noting w h)
-    settled-deed row rest w (Some path) h = placed-deed row rest w path (env.first path) h
-
-    heard-deed : (row : FrontRow) (rest : FrontRest) (b : ControlBlock) → IsDeed (heard env p row rest b)
-    heard-deed row rest b =
-        let x : Reading = record { service = serving b rest.count []; target = None } in
-        settled-deed row rest (front_reads env.serve x).service (front_reads env.serve x).target (reads-noted x (fresh b rest.count))
-
     -- ---- segments
-
-    met-deed : (s : Said) → IsDeed (met env p s)
-    met-deed s =
-        let w : Service = serving (listening s env.iss) 0 (rec.Took Front env.serve.c (record { 0 = 1 }) ∷ []) in
-        cond_both (is_plain_syn s) (front_begun env p s) Drops IsDeed
-        (λ t. holds-deed (record { stage = stage.Lent; epoch = record { 0 = 1 }; ended_by = None }) (front_rest None) (spoken env.serve w [])
-        (turns.spoken-turn env.serve N noting w [] tt ((refl, tt), λ n. omega arith)))
-        (λ t. tt)
 
     forwarded-deed : (node : ℕ) (epoch : Epoch) (bytes : List ℕ) → IsDeed (forwarded env node epoch bytes)
     forwarded-deed node epoch bytes = said-turn _ ((tt, spelled env.serve.c epoch.0 (body.Forward bytes) number), tt)
@@ -199,47 +175,37 @@ module _ (env : FrontEnv) (own : env.serve.place ≡ Front) (number : IsConnNumb
     tombstone-turn None = record { notes = tt; to = tt; answered = λ n. omega arith }
     tombstone-turn (Some s) = record { notes = tt; to = (refl, tt); answered = λ n. omega arith }
 
-    hears_at-deed : (row : FrontRow) (bytes : List ℕ) (s : Said) (x : FrontConn) → IsDeed (hears_at env p row bytes s x)
-    hears_at-deed row bytes s (stage.Held b) = heard-deed row (front_rest p.rest) (on_segment b s).1
-    hears_at-deed row bytes s (stage.Waiting b) = waits-deed row (front_rest p.rest) (spoken env.serve (serving (on_segment b s).1 (front_rest p.rest).count []) [])
-        (turns.spoken-turn env.serve N noting (serving (on_segment b s).1 (front_rest p.rest).count []) [] tt (fresh (on_segment b s).1 (front_rest p.rest).count))
-    hears_at-deed row bytes s stage.Lent = tt
-    hears_at-deed row bytes s (stage.Offering node epoch) = forwarded-deed node epoch bytes
-    hears_at-deed row bytes s (stage.Moved node epoch) = forwarded-deed node epoch bytes
-    hears_at-deed row bytes s (stage.Closed last) = here-turn _ (tombstone-turn (last_words last.reason last s))
-
-    hears-deed : (bytes : List ℕ) (s : Said) (o : Option FrontRow) → IsDeed (front_hears env p bytes s o)
-    hears-deed bytes s None = met-deed s
-    hears-deed bytes s (Some row) = hears_at-deed row bytes s row.stage
+    by-segment : (bytes : List ℕ) (s : Said) → KeptBySegment env p bytes s (λ w o. Noted w) IsDeed
+    by-segment bytes s = record {
+      drops = tt;
+      begins = λ none plain. holds-deed begun_row (front_rest None) (spoken env.serve (begun_service env s) []) (turns.spoken-turn env.serve N noting (begun_service env s) [] tt ((refl, tt), λ n. omega arith));
+      reads = λ row b at. reads-noted (heard_reading p b s) (fresh (on_segment b s).1 (front_rest p.rest).count);
+      holds = λ row b w at h. holds-deed row (front_rest p.rest) (serving_settled env.serve w) (turns.settled-turn env.serve N noting w h);
+      hands = λ row b w path choice at h is. handed-turn row w path choice h;
+      waits = λ row b w path at h is. waiting-deed row w path h;
+      stays = λ row b at. waits-deed row (front_rest p.rest) (spoken env.serve (heard_service p b s) []) (turns.spoken-turn env.serve N noting (heard_service p b s) [] tt (fresh (on_segment b s).1 (front_rest p.rest).count));
+      forwards = λ row n e at. forwarded-deed n e bytes;
+      words = λ row last at. here-turn _ (tombstone-turn (last_words last.reason last s));
+    }
 
     pub gets-deed : (bytes : List ℕ) (r : Result Said SegFault) → IsDeed (front_gets env p bytes r)
     gets-deed bytes (Err fault) = tt
-    gets-deed bytes (Ok s) = hears-deed bytes s p.row
+    gets-deed bytes (Ok s) = segment-keeps env p bytes s (λ w o. Noted w) IsDeed (by-segment bytes s)
 
     -- ---- timers
 
-    fires_at-deed : (row : FrontRow) (x : FrontConn) → IsDeed (fires_at env p row x)
-    fires_at-deed row (stage.Held b) = holds-deed row (front_rest p.rest) (front_fired env (front_rest p.rest) b) (fired-turn (front_rest p.rest) b)
-    fires_at-deed row (stage.Waiting b) = waits-deed row (front_rest p.rest) (front_fired env (front_rest p.rest) b) (fired-turn (front_rest p.rest) b)
-    fires_at-deed row (stage.Offering node epoch) = said-turn (map sent_of p.kept) kept
-    fires_at-deed row _ = tt
-
-    fired-deed : (o : Option FrontRow) → IsDeed (front_fired_by env p o)
-    fired-deed None = tt
-    fired-deed (Some row) = fires_at-deed row row.stage
-
     pub fires-deed : IsDeed (front_timer env p)
-    fires-deed = fired-deed p.row
+    fires-deed = timer-keeps env p IsDeed (record {
+      drops = tt;
+      holds = λ row b at. holds-deed row (front_rest p.rest) (front_fired env (front_rest p.rest) b) (fired-turn (front_rest p.rest) b);
+      stays = λ row b at. waits-deed row (front_rest p.rest) (front_fired env (front_rest p.rest) b) (fired-turn (front_rest p.rest) b);
+      resends = λ row n e at. said-turn (map sent_of p.kept) kept;
+    })
 
     -- ---- messages of nodes
 
-    taken_by-deed : (epoch : ℕ) (o : Option FrontRow) (asked : Option ℕ) → IsDeed (taken_by p epoch o asked)
-    taken_by-deed epoch None asked = tt
-    taken_by-deed epoch (Some row) None = tt
-    taken_by-deed epoch (Some row) (Some node) = (said-turn [] tt, drop_all (HeldBy [] p.kept) kind.Offer 0 p.kept (as-before []))
-
     pub taken-deed : (epoch : ℕ) → IsDeed (front_taken p epoch)
-    taken-deed epoch = taken_by-deed epoch p.row (asked_node epoch p.row)
+    taken-deed epoch = taken-keeps p IsDeed tt epoch (λ row n e at same. (said-turn [] tt, drop_all (HeldBy [] p.kept) kind.Offer 0 p.kept (as-before [])))
 
     tags : (from epoch n : ℕ) (nodes : List ℕ) → AreMessages env.serve.c Front (tag_sent env from epoch n nodes)
     tags from epoch n nodes = ((tt, spelled env.serve.c epoch (body.Tag n nodes) number), tt)
@@ -276,52 +242,22 @@ module _ (env : FrontEnv) (own : env.serve.place ≡ Front) (number : IsConnNumb
           as-before (tag_sent env from epoch ask.number (map (λ x. x.node) l.choices)),
         )
 
-    asked_by-deed : (from epoch : ℕ) (ask : Ask) (o : Option FrontRest) → IsDeed (asked_by env p from epoch ask o)
-    asked_by-deed from epoch ask None = tt
-    asked_by-deed from epoch ask (Some rest) =
-        let again : FrontDeed = Says (front_saying (tag_sent env from epoch rest.asks rest.tag)) in
-        cond_both (ask.number == rest.asks + 1) (Does (assigns env p rest from epoch ask (env.later ask))) (cond (ask.number == rest.asks && nat_lt 0 rest.asks) again Drops) IsDeed
-        (λ t. assigns-deed rest from epoch ask (env.later ask))
-        (λ t. cond_both (ask.number == rest.asks && nat_lt 0 rest.asks) again Drops IsDeed (λ u. said-turn _ (tags from epoch rest.asks rest.tag)) (λ u. tt))
-
     pub asked-deed : (from epoch : ℕ) (ask : Ask) → IsDeed (front_asked env p from epoch ask)
-    asked-deed from epoch ask = cond_both (is_row_at from epoch p.row) (asked_by env p from epoch ask p.rest) Drops IsDeed (λ t. asked_by-deed from epoch ask p.rest) (λ t. tt)
+    asked-deed from epoch ask = asked-keeps p IsDeed tt env from epoch ask (λ rest found there same some. said-turn _ (tags from epoch rest.asks rest.tag)) (λ rest found there next. assigns-deed rest from epoch ask (env.later ask))
 
     acks : (from epoch : ℕ) → AreMessages env.serve.c Front (ack_sent env from epoch)
     acks from epoch = ((tt, spelled env.serve.c epoch body.EndedAck number), tt)
 
-    ended_by-deed : (from epoch : ℕ) (last : Final) (o : Option FrontRow) (given : OnEnded) → IsDeed (front_ended_by env p from epoch last o given)
-    ended_by-deed from epoch last None given = tt
-    ended_by-deed from epoch last (Some row) (New next) = (
+    pub ended-deed : (from epoch : ℕ) (last : Final) → IsDeed (front_ended env p from epoch last)
+    ended-deed from epoch last = ended-keeps p IsDeed tt env from epoch last (λ row found away again. said-turn _ (acks from epoch)) (λ row found away. (
       record { notes = (refl, (refl, tt)); segments = tt; gave = tt; messages = acks from epoch; counted = λ n. omega arith },
       drop_all (HeldBy (ack_sent env from epoch) p.kept) kind.Offer 0 p.kept (as-before (ack_sent env from epoch)),
-    )
-    ended_by-deed from epoch last (Some row) Again = said-turn _ (acks from epoch)
-    ended_by-deed from epoch last (Some row) Stale = tt
-
-    pub ended-deed : (from epoch : ℕ) (last : Final) → IsDeed (front_ended env p from epoch last)
-    ended-deed from epoch last = ended_by-deed from epoch last p.row (end_answer epoch p.row)
+    ))
 
     -- ---- the head of the line
 
     abbrev Admits : FrontPart × FrontTurn → Type 0
     Admits given = IsAdmission env.serve.c p given
 
-    admitted_with-turn : (row : FrontRow) (rest : FrontRest) (b : ControlBlock) (choice : FirstChoice) (o : Option (List ℕ)) (given : FrontPart × FrontTurn)
-        → front_admitted_with env row rest b choice o ≡ Some given → Admits given
-    admitted_with-turn row rest b choice None given e = let no : ◌≡◌ {A = Option (FrontPart × FrontTurn)} None (Some given) = e in absurd cc
-    admitted_with-turn row rest b choice (Some path) given e =
-        let handed : FrontPart × FrontTurn = handed_off env row (serving b rest.count []) path choice in
-        let same : handed ≡ given = cc in
-        subst Admits same (handed-turn row (serving b rest.count []) path choice (fresh b rest.count))
-
-    admitted_at-turn : (choice : FirstChoice) (row : FrontRow) (x : FrontConn) (given : FrontPart × FrontTurn) → admitted_at env p choice row x ≡ Some given → Admits given
-    admitted_at-turn choice row (stage.Waiting b) given e = admitted_with-turn row (front_rest p.rest) b choice (front_rest p.rest).target given e
-    admitted_at-turn choice row _ given e = let no : ◌≡◌ {A = Option (FrontPart × FrontTurn)} None (Some given) = e in absurd cc
-
-    admitted_by-turn : (choice : FirstChoice) (o : Option FrontRow) (given : FrontPart × FrontTurn) → admitted_by env p choice o ≡ Some given → Admits given
-    admitted_by-turn choice None given e = let no : ◌≡◌ {A = Option (FrontPart × FrontTurn)} None (Some given) = e in absurd cc
-    admitted_by-turn choice (Some row) given e = admitted_at-turn choice row row.stage given e
-
     pub admitted-turn : (choice : FirstChoice) (given : FrontPart × FrontTurn) → front_admitted env p choice ≡ Some given → Admits given
-    admitted-turn choice given e = admitted_by-turn choice p.row given e
+    admitted-turn choice = admitted-keeps env p choice Admits (λ row b path at target. handed-turn row (serving b (front_rest p.rest).count []) path choice (fresh b (front_rest p.rest).count))
