@@ -1,9 +1,8 @@
 -- What the front end notes of a connection is what its dispatcher does.
-use Rattle.std.proofs.Common.{◌≡◌, ℕ, ◌+◌, ◌≤◌, ◌<◌, ◌==◌, ◌&&◌, nat_lt, Bool, true, false, cond, List, [], ◌∷◌, ◌++◌, Option, Some, None, Result, Ok, Err, refl, sym, ap, subst, ◌∙◌, arith, length}
-use Rattle.std.proofs.lemmas.Bool.{cond_both, eq-eqb, eqb-false, eqb-true, ne_eqb}
+use Rattle.std.proofs.Common.{◌≡◌, ℕ, ◌+◌, ◌≤◌, ◌<◌, ◌==◌, Bool, true, false, cond, List, [], ◌∷◌, ◌++◌, Option, Some, None, Result, Ok, Err, refl, sym, ap, subst, ◌∙◌, arith, length}
+use Rattle.std.proofs.lemmas.Bool.{eq-eqb, eqb-false, eqb-true, ne_eqb}
 use Rattle.lard_base.specs.Config.{room_of}
 use Rattle.lard_base.specs.declared.ids.Millis.{Millis}
-use Rattle.lard_base.specs.declared.place.Place.TheVariants as place
 use Rattle.lard_law_connections.proofs.PolicyAsides.{IsAside}
 use Rattle.lard_law_connections.proofs.PolicyIns.{AreIn}
 use Rattle.lard_law_connections.proofs.PolicyLeading.{Leads, admit-leads, aside-leads, behind-asides, later-leads, line-shared, wait-leads}
@@ -23,18 +22,13 @@ use Rattle.lard_dispatch.specs.Laws as call
 use Rattle.lard_dispatch.specs.Line.{line_waits, line_without}
 use Rattle.lard_dispatch.specs.Sound.{IsDispatcherSound}
 use Rattle.lard_dispatch.proofs.Soundness.{not-in}
-use Rattle.lard_endpoint.specs.Arriving.{on_segment}
-use Rattle.lard_endpoint.specs.Control.{listening}
 use Rattle.lard_rules.specs.declared.front.FrontRest.{FrontRest}
 use Rattle.lard_rules.specs.declared.front.FrontTurn.{FrontTurn}
-use Rattle.lard_rules.specs.Front.{FrontDeed, Drops, Says, Does, Did, FrontEnv, FrontPart, ask_of, asked_by, assigned_notes, assigns, front_begun, front_fired, front_fired_by, fires_at, front_asked, front_gets, front_hears, front_taken, front_timer, hears_at, holds, is_row_at, leaves_by, over_note, placed, front_rest, front_rests, front_saying, settled_by, tag_sent, taken_by, turn_here, waits_on}
-use Rattle.lard_rules.specs.FrontReading.{Reading, front_reads}
-use Rattle.lard_rules.specs.FrontSound.{IsPartSound, IsRowSound, IsStageSound, DispatchStanding, nowhere, dispatch_standing}
+use Rattle.lard_rules.specs.Front.{FrontDeed, Drops, Says, Does, Did, FrontEnv, FrontPart, ask_of, assigned_notes, assigns, front_fired, front_asked, front_gets, front_hears, front_taken, front_timer, holds, is_row_at, leaves_by, over_note, placed, front_rest, front_rests, turn_here, waits_on}
+use Rattle.lard_rules.specs.FrontSound.{IsPartSound, IsRowSound, DispatchStanding, nowhere, dispatch_standing}
 use Rattle.lard_rules.proofs.FrontDeeds.{IsOf, away-stands}
-use Rattle.lard_handoff_front.specs.declared.row.FrontConn.{FrontConn}
 use Rattle.lard_handoff_front.specs.declared.row.FrontConn.TheVariants as stage
 use Rattle.lard_handoff_front.specs.declared.row.FrontRow.{FrontRow}
-use Rattle.lard_handoff_front.specs.Front.{asked_node}
 use Rattle.lard_history.proofs.Each.{Each, Each-append, Each-weaker}
 use Rattle.lard_history.proofs.Seeing.{by_number}
 use Rattle.lard_journal.specs.declared.rec.Rec.{Rec}
@@ -44,10 +38,12 @@ use Rattle.lard_policy.specs.declared.first.FirstChoice.{FirstChoice}
 use Rattle.lard_rules.specs.declared.places.Ending.{Ending}
 use Rattle.lard_rules.specs.declared.places.Ending.TheVariants.{Here, Over}
 use Rattle.lard_rules.specs.declared.places.Turn.{Turn}
-use Rattle.lard_rules.specs.Tombstone.{is_plain_syn, last_words, tombstone}
-use Rattle.lard_rules.specs.Serving.{Service, serving, serving_settled, spoken}
+use Rattle.lard_rules.specs.Tombstone.{last_words, tombstone}
+use Rattle.lard_rules.specs.Serving.{Service, serving_settled, spoken}
 use Rattle.lard_segment.specs.declared.fault.SegFault.{SegFault}
 use Rattle.lard_segment.specs.Segment.{Said}
+use Rattle.lard_rules.proofs.FrontCases.{KeptBySegment, IsInStage, of-stage, begun_row, begun_service, heard_reading, heard_service, segment-keeps, timer-keeps, taken-keeps, asked-keeps}
+use Rattle.lard_endpoint.specs.Control.{ControlBlock}
 
 -- What is noted of connection c is what the dispatcher does, and who is in the line waits as it is told.
 pub record Tells (d : Dispatcher) (c : ℕ) (now : Millis) (ins : List ℕ) (p : FrontPart) (x : Did) : Type 0 where
@@ -225,57 +221,60 @@ module _ (d : Dispatcher) (ins : List ℕ) (in_ : AreIn ins d.books.loads.standi
     }
     placed-tells first.Waits h = wait heard.0 h
 
-  -- what was read is said, or it is placed
-  read-tells : (sound : IsDispatcherSound d) (env : FrontEnv) → IsOf env d → dispatch_standing d env.serve.c ≡ nowhere → (p : FrontPart) (row : FrontRow) (rest : FrontRest) (w : Service) (target : Option (List ℕ)) → Each IsAside w.notes
-      → DeedTells d env.serve.c env.now ins p (settled_by env p row rest w target)
-  read-tells sound env of free p row rest w None asides =
-      holds-tells env.serve.c env.now p row rest (serving_settled env.serve w) (ap (λ (x : DispatchStanding). x.waits) free) (subst (Each IsAside) (sym (settled-notes env.serve w)) asides)
-  read-tells sound env of free p row rest w (Some path) asides = placed-tells sound env free p row rest w path asides (env.first path)
-      (subst (λ f. Answers sound env free p row rest w path asides f (after_first d env.serve.c path env.now)) (sym (of.first path)) (answers sound env free p row rest w path asides))
-
   -- ---- what comes of a client
 
   module _ (sound : IsDispatcherSound d) (env : FrontEnv) (of : IsOf env d) (p : FrontPart) where
     abbrev TellsOf : FrontDeed → Type 0
     TellsOf deed = DeedTells d env.serve.c env.now ins p deed
 
-    hears-tells : (row : FrontRow) (bytes : List ℕ) (s : Said) (at : FrontConn) → IsStageSound row.epoch.0 p.rest p.kept (dispatch_standing d env.serve.c) at → TellsOf (hears_at env p row bytes s at)
-    hears-tells row bytes s (stage.Held b) h =
-        let x : Reading = record { service = serving (on_segment b s).1 (front_rest p.rest).count []; target = None } in
-        read-tells sound env of h.2 p row (front_rest p.rest) (front_reads env.serve x).service (front_reads env.serve x).target (reads-notes env.serve x tt)
-    hears-tells row bytes s (stage.Waiting b) h = waits-tells env p row (spoken env.serve (serving (on_segment b s).1 (front_rest p.rest).count []) []) tt
-    hears-tells row bytes s stage.Lent h = tt
-    hears-tells row bytes s (stage.Offering node epoch) h = record { notes = refl; gave = refl }
-    hears-tells row bytes s (stage.Moved node epoch) h = record { notes = refl; gave = refl }
-    hears-tells row bytes s (stage.Closed last) h = words (last_words last.reason last s) where
-      words : (o : Option Said) → IsMute (turn_here (tombstone env.serve o))
-      words None = record { notes = refl; gave = refl }
-      words (Some said) = record { notes = refl; gave = refl }
+    abbrev standing : DispatchStanding
+    standing = dispatch_standing d env.serve.c
 
-    row-tells : (bytes : List ℕ) (s : Said) (o : Option FrontRow) → IsRowSound p.rest p.kept (dispatch_standing d env.serve.c) o → TellsOf (front_hears env p bytes s o)
-    row-tells bytes s None h = cond_both (is_plain_syn s) (front_begun env p s) Drops TellsOf
-        (λ t. holds-tells env.serve.c env.now p (record { stage = stage.Lent; epoch = record { 0 = 1 }; ended_by = None }) (front_rest None)
-        (spoken env.serve (serving (listening s env.iss) 0 (rec.Took place.Front env.serve.c (record { 0 = 1 }) ∷ [])) []) (ap (λ (x : DispatchStanding). x.waits) h.1) (tt, tt))
-        (λ t. tt)
-    row-tells bytes s (Some row) h = hears-tells row bytes s row.stage h
+    words-tell : (o : Option Said) → IsMute (turn_here (tombstone env.serve o))
+    words-tell None = record { notes = refl; gave = refl }
+    words-tell (Some said) = record { notes = refl; gave = refl }
 
-    pub gets-tells : (bytes : List ℕ) (r : Result Said SegFault) → IsPartSound p (dispatch_standing d env.serve.c) → TellsOf (front_gets env p bytes r)
+    module _ (h : IsPartSound p standing) where
+      -- one that is held stands nowhere
+      free : (row : FrontRow) (b : ControlBlock) → IsInStage p row (stage.Held b) → standing ≡ nowhere
+      free row b at = (of-stage (IsRowSound p.rest p.kept standing) p row (stage.Held b) at h).2
+
+      by-place : (row : FrontRow) (b : ControlBlock) (w : Service) (path : List ℕ) → IsInStage p row (stage.Held b) → Each IsAside w.notes → (f : First) → env.first path ≡ f → TellsOf (Does (placed env p row (front_rest p.rest) w path f))
+      by-place row b w path at asides f is = placed-tells sound env (free row b at) p row (front_rest p.rest) w path asides f
+          (subst (λ f. Answers sound env (free row b at) p row (front_rest p.rest) w path asides f (after_first d env.serve.c path env.now)) (sym (of.first path) ∙ is) (answers sound env (free row b at) p row (front_rest p.rest) w path asides))
+
+      by-segment : (bytes : List ℕ) (s : Said) → KeptBySegment env p bytes s (λ w o. Each IsAside w.notes) TellsOf
+      by-segment bytes s = record {
+        drops = tt;
+        begins = λ none plain.
+            let at : IsRowSound p.rest p.kept standing None = subst (IsRowSound p.rest p.kept standing) none h in
+            holds-tells env.serve.c env.now p begun_row (front_rest None) (spoken env.serve (begun_service env s) []) (ap (λ (x : DispatchStanding). x.waits) at.1) (tt, tt);
+        reads = λ row b at. reads-notes env.serve (heard_reading p b s) tt;
+        holds = λ row b w at asides.
+            holds-tells env.serve.c env.now p row (front_rest p.rest) (serving_settled env.serve w) (ap (λ (x : DispatchStanding). x.waits) (free row b at)) (subst (Each IsAside) (sym (settled-notes env.serve w)) asides);
+        hands = λ row b w path choice at asides is. by-place row b w path at asides (first.Go choice) is;
+        waits = λ row b w path at asides is. by-place row b w path at asides first.Waits is;
+        stays = λ row b at. waits-tells env p row (spoken env.serve (heard_service p b s) []) tt;
+        forwards = λ row n e at. record { notes = refl; gave = refl };
+        words = λ row last at. words-tell (last_words last.reason last s);
+      }
+
+      hears-tells : (bytes : List ℕ) (s : Said) → TellsOf (front_hears env p bytes s p.row)
+      hears-tells bytes s = segment-keeps env p bytes s (λ w o. Each IsAside w.notes) TellsOf (by-segment bytes s)
+
+    pub gets-tells : (bytes : List ℕ) (r : Result Said SegFault) → IsPartSound p standing → TellsOf (front_gets env p bytes r)
     gets-tells bytes (Err fault) h = tt
-    gets-tells bytes (Ok s) h = row-tells bytes s p.row h
+    gets-tells bytes (Ok s) h = hears-tells h bytes s
 
     -- ---- timers
 
-    fires-tells : (row : FrontRow) (at : FrontConn) → IsStageSound row.epoch.0 p.rest p.kept (dispatch_standing d env.serve.c) at → TellsOf (fires_at env p row at)
-    fires-tells row (stage.Held b) h = holds-tells env.serve.c env.now p row (front_rest p.rest) (front_fired env (front_rest p.rest) b) (ap (λ (x : DispatchStanding). x.waits) h.2) tt
-    fires-tells row (stage.Waiting b) h = waits-tells env p row (front_fired env (front_rest p.rest) b) tt
-    fires-tells row (stage.Offering node epoch) h = record { notes = refl; gave = refl }
-    fires-tells row _ h = tt
-
-    pub timer-tells : IsPartSound p (dispatch_standing d env.serve.c) → TellsOf (front_timer env p)
-    timer-tells h = go p.row h where
-      go : (o : Option FrontRow) → IsRowSound p.rest p.kept (dispatch_standing d env.serve.c) o → TellsOf (front_fired_by env p o)
-      go None h = tt
-      go (Some row) h = fires-tells row row.stage h
+    pub timer-tells : IsPartSound p standing → TellsOf (front_timer env p)
+    timer-tells h = timer-keeps env p TellsOf (record {
+      drops = tt;
+      holds = λ row b at. holds-tells env.serve.c env.now p row (front_rest p.rest) (front_fired env (front_rest p.rest) b) (ap (λ (x : DispatchStanding). x.waits) (free h row b at)) tt;
+      stays = λ row b at. waits-tells env p row (front_fired env (front_rest p.rest) b) tt;
+      resends = λ row n e at. record { notes = refl; gave = refl };
+    })
 
     -- ---- an Ask
 
@@ -307,28 +306,16 @@ module _ (d : Dispatcher) (ins : List ℕ) (in_ : AreIn ins d.books.loads.standi
         lines = λ t u others was now_is lined. asked-lines t u (same-all env.serve.c t u rest.target others (was ∙ ap target_of found) now_is) lined;
       }
 
-      asked-by : (o : Option FrontRest) → p.rest ≡ o → dispatch_standing d env.serve.c ≡ record { home = Some from; waits = false } → TellsOf (asked_by env p from epoch ask o)
-      asked-by None found home = tt
-      asked-by (Some rest) found home =
-          let again : FrontDeed = Says (front_saying (tag_sent env from epoch rest.asks rest.tag)) in
-          cond_both (ask.number == rest.asks + 1) (Does (assigns env p rest from epoch ask (env.later ask))) (cond (ask.number == rest.asks && nat_lt 0 rest.asks) again Drops) TellsOf
-          (λ t. new-tells rest found home (env.later ask) (of.later ask))
-          (λ t. cond_both (ask.number == rest.asks && nat_lt 0 rest.asks) again Drops TellsOf (λ u. record { notes = refl; gave = refl }) (λ u. tt))
-
       pub asked-tells : IsPartSound p (dispatch_standing d env.serve.c) → TellsOf (front_asked env p from epoch ask)
-      asked-tells h = cond_both (is_row_at from epoch p.row) (asked_by env p from epoch ask p.rest) Drops TellsOf (λ there. asked-by p.rest refl (at-home p.row there h)) (λ t. tt)
+      asked-tells h = asked-keeps p TellsOf tt env from epoch ask (λ rest found there same more. record { notes = refl; gave = refl }) (λ rest found there next. new-tells rest found (at-home p.row there h) (env.later ask) (of.later ask))
 
   -- ---- a Taken
 
   pub taken-tells : (c : ℕ) (now : Millis) (p : FrontPart) (epoch : ℕ) → DeedTells d c now ins p (front_taken p epoch)
-  taken-tells c now p epoch = go p.row (asked_node epoch p.row) where
-    go : (o : Option FrontRow) (a : Option ℕ) → DeedTells d c now ins p (taken_by p epoch o a)
-    go None a = tt
-    go (Some row) None = tt
-    go (Some row) (Some node) = record {
-      leads = aside-leads d.config now ins d.books in_ [] tt;
-      gave = tt;
-      ordered = asides-ordered d.books.line [] tt;
-      waits = asides-leave d.books.line [] tt;
-      lines = λ t u others was is lined. lined-same t u (same-all c t u (target_of p.rest) others was is) d.books.line lined;
-    }
+  taken-tells c now p epoch = taken-keeps p (λ deed. DeedTells d c now ins p deed) tt epoch (λ row n e at same. record {
+    leads = aside-leads d.config now ins d.books in_ [] tt;
+    gave = tt;
+    ordered = asides-ordered d.books.line [] tt;
+    waits = asides-leave d.books.line [] tt;
+    lines = λ t u others was is lined. lined-same t u (same-all c t u (target_of p.rest) others was is) d.books.line lined;
+  })
