@@ -1,35 +1,27 @@
 -- The calls of the dispatcher that a step of the front end makes: they may be made, close no node, and name connections where its notes
 -- do.
-use Rattle.std.proofs.Common.{◌≡◌, ℕ, ◌+◌, ◌≤◌, ◌==◌, ◌&&◌, nat_lt, Bool, true, false, cond, List, [], ◌∷◌, ◌++◌, length, Option, Some, None, Result, Ok, Err, arith, refl, sym, ap, ◌∙◌, subst}
-use Rattle.std.proofs.lemmas.Bool.{cond_both}
+use Rattle.std.proofs.Common.{◌≡◌, ℕ, ◌+◌, ◌≤◌, Bool, true, false, List, [], ◌∷◌, ◌++◌, length, Option, Some, None, Result, Ok, Err, arith, refl, sym, ap, ◌∙◌, subst}
 use Rattle.std.specs.List.{AllByRecursion}
 use Rattle.lard_law_connections.proofs.PolicyNumbers.{IsNumbered}
 use Rattle.lard_costs.specs.declared.later.LaterChoice.{LaterChoice}
 use Rattle.lard_dispatch.specs.declared.dispatch.Ask.{Ask}
-use Rattle.lard_dispatch.specs.declared.dispatch.First.{First}
 use Rattle.lard_dispatch.specs.declared.dispatch.First.TheVariants as first
 use Rattle.lard_dispatch.specs.declared.dispatch.Later.{Later}
 use Rattle.lard_dispatch.specs.Books.{Dispatcher}
 use Rattle.lard_dispatch.specs.Calls.{ended_answer}
 use Rattle.lard_dispatch.specs.Laws.{AreAllowed, Call, after_calls}
-use Rattle.lard_dispatch.specs.Laws as call
 use Rattle.lard_dispatch.specs.Loads.{ClosesNone, IsCallInRange}
 use Rattle.lard_endpoint.specs.declared.control.moving.Final.{Final}
-use Rattle.lard_endpoint.specs.Arriving.{on_segment}
 use Rattle.lard_rules.specs.declared.front.FrontRest.{FrontRest}
 use Rattle.lard_rules.specs.declared.front.FrontState.{FrontState}
 use Rattle.lard_rules.specs.declared.front.FrontTurn.{FrontTurn}
-use Rattle.lard_rules.specs.Front.{FrontDeed, Drops, Says, Does, Did, FrontEnv, FrontPart, ask_of, asked_by, assigned_notes, assigns, front_begun, front_ends, front_fired, front_fired_by, fires_at, front_admitted, front_asked, front_ended, front_gets, front_hears, front_taken, front_timer, hears_at, is_row_at, leaves_by, over_note, placed, front_rest, front_saying, settled_by, tag_sent, taken_by, waits_on}
+use Rattle.lard_rules.specs.Front.{FrontDeed, Drops, Says, Does, Did, FrontEnv, FrontPart, ask_of, assigned_notes, assigns, front_ends, front_fired, front_admitted, front_asked, front_ended, front_gets, front_taken, front_timer, leaves_by, over_note, front_rest}
 use Rattle.lard_rules.specs.FrontPlace.{FrontSetting, admits, admits_too, ended_deed, front_deed, front_env, front_part, front_step, front_told, message_comes, put_back}
-use Rattle.lard_rules.specs.FrontReading.{Reading, front_reads}
 use Rattle.lard_rules.specs.FrontSound.{IsFrontSound, dispatch_standing}
 use Rattle.lard_rules.proofs.FrontDeeds.{IsOf, asked-keeps, gets-keeps, many-choices, taken-keeps, timer-keeps}
 use Rattle.lard_rules.proofs.FrontEnded.{Comes, end-comes, may-end}
 use Rattle.lard_rules.proofs.FrontKeeping.{DeedKeeps}
-use Rattle.lard_handoff_front.specs.declared.row.FrontConn.{FrontConn}
-use Rattle.lard_handoff_front.specs.declared.row.FrontConn.TheVariants as stage
-use Rattle.lard_handoff_front.specs.declared.row.FrontRow.{FrontRow}
-use Rattle.lard_handoff_front.specs.Front.{asked_node, next_epoch}
+use Rattle.lard_handoff_front.specs.Front.{next_epoch}
 use Rattle.lard_history.proofs.Each.{Each}
 use Rattle.lard_journal.specs.declared.rec.Rec.{Rec}
 use Rattle.lard_journal.specs.declared.rec.Rec.TheVariants as rec
@@ -47,11 +39,12 @@ use Rattle.lard_rules.specs.declared.places.Out.{Out}
 use Rattle.lard_rules.specs.declared.places.Ending.{Ending}
 use Rattle.lard_rules.specs.declared.places.Ending.TheVariants as ending
 use Rattle.lard_rules.specs.declared.places.Turn.{Turn}
-use Rattle.lard_rules.specs.Tombstone.{is_plain_syn}
-use Rattle.lard_rules.specs.Serving.{Service, serving, spoken}
+use Rattle.lard_rules.specs.Serving.{spoken, serving_settled}
 use Rattle.lard_segment.specs.declared.fault.SegFault.{SegFault}
 use Rattle.lard_segment.specs.declared.segment.Dir.TheVariants.{ToCluster}
 use Rattle.lard_segment.specs.Segment.{Said, decoded}
+use Rattle.lard_rules.proofs.FrontCases.{KeptBySegment, begun_service, heard_service, waiting_service, segment-keeps}
+use Rattle.lard_rules.proofs.FrontCases as cases
 
 -- ---- a deed
 
@@ -81,53 +74,34 @@ module _ (env : FrontEnv) (p : FrontPart) where
   abbrev c : ℕ
   c = env.serve.c
 
-  waits-fit : (row : FrontRow) (rest : FrontRest) (given : Ending × Turn) → DeedFits (waits_on env p row rest given)
-  waits-fit row rest given = leaves-fit c given.1.notes given.0
-
-  placed-fits : (row : FrontRow) (rest : FrontRest) (w : Service) (path : List ℕ) (f : First) → DeedFits (Does (placed env p row rest w path f))
-  placed-fits row rest w path (first.Go choice) = record { closes = (tt, tt); in_range = λ e. (last-numbered w.notes (rec.Admitted c) _ e, tt) }
-  placed-fits row rest w path first.Waits = go _ where
-    go : (x : Ending) → AreFit (w.notes ++ rec.Waits c ∷ []) (call.First c path env.now ∷ leaves_by c x)
-    go x = let l = leaves-fit c (w.notes ++ rec.Waits c ∷ []) x in record { closes = (tt, l.closes); in_range = λ e. (last-numbered w.notes (rec.Waits c) [] e, l.in_range e) }
-
-  settled-fits : (row : FrontRow) (rest : FrontRest) (w : Service) (target : Option (List ℕ)) → DeedFits (settled_by env p row rest w target)
-  settled-fits row rest w None = no-calls _
-  settled-fits row rest w (Some path) = placed-fits row rest w path (env.first path)
-
-  hears-fit : (row : FrontRow) (bytes : List ℕ) (said : Said) (at : FrontConn) → DeedFits (hears_at env p row bytes said at)
-  hears-fit row bytes said (stage.Held b) =
-      let x : Reading = front_reads env.serve (record { service = serving (on_segment b said).1 (front_rest p.rest).count []; target = None }) in
-      settled-fits row (front_rest p.rest) x.service x.target
-  hears-fit row bytes said (stage.Waiting b) = waits-fit row (front_rest p.rest) (spoken env.serve (serving (on_segment b said).1 (front_rest p.rest).count []) [])
-  hears-fit row bytes said _ = tt
+  by-segment : (bytes : List ℕ) (said : Said) → KeptBySegment env p bytes said (λ w o. Unit {0}) DeedFits
+  by-segment bytes said = record {
+    drops = tt;
+    begins = λ none plain. no-calls (spoken env.serve (begun_service env said) []).1.notes;
+    reads = λ row b at. tt;
+    holds = λ row b w at r. no-calls (serving_settled env.serve w).1.notes;
+    hands = λ row b w path choice at r is. record { closes = (tt, tt); in_range = λ e. (last-numbered w.notes (rec.Admitted c) _ e, tt) };
+    waits = λ row b w path at r is.
+        let l = leaves-fit c (w.notes ++ rec.Waits c ∷ []) (spoken env.serve (waiting_service env w) []).0 in record { closes = (tt, l.closes); in_range = λ e. (last-numbered w.notes (rec.Waits c) [] e, l.in_range e) };
+    stays = λ row b at. let given : Ending × Turn = spoken env.serve (heard_service p b said) [] in leaves-fit c given.1.notes given.0;
+    forwards = λ row n e at. tt;
+    words = λ row last at. tt;
+  }
 
   gets-fit : (bytes : List ℕ) (r : Result Said SegFault) → DeedFits (front_gets env p bytes r)
   gets-fit bytes (Err fault) = tt
-  gets-fit bytes (Ok said) = go p.row where
-    go : (o : Option FrontRow) → DeedFits (front_hears env p bytes said o)
-    go None = cond_both (is_plain_syn said) (front_begun env p said) Drops DeedFits (λ t. no-calls _) (λ t. tt)
-    go (Some row) = hears-fit row bytes said row.stage
+  gets-fit bytes (Ok said) = segment-keeps env p bytes said (λ w o. Unit {0}) DeedFits (by-segment bytes said)
 
   timer-fits : DeedFits (front_timer env p)
-  timer-fits = go p.row where
-    at : (row : FrontRow) (conn : FrontConn) → DeedFits (fires_at env p row conn)
-    at row (stage.Held b) = no-calls []
-    at row (stage.Waiting b) = waits-fit row (front_rest p.rest) (front_fired env (front_rest p.rest) b)
-    at row stage.Lent = tt
-    at row (stage.Offering node epoch) = tt
-    at row (stage.Moved node epoch) = tt
-    at row (stage.Closed last) = tt
-
-    go : (o : Option FrontRow) → DeedFits (front_fired_by env p o)
-    go None = tt
-    go (Some row) = at row row.stage
+  timer-fits = cases.timer-keeps env p DeedFits (record {
+    drops = tt;
+    holds = λ row b at. no-calls [];
+    stays = λ row b at. let given : Ending × Turn = front_fired env (front_rest p.rest) b in leaves-fit c given.1.notes given.0;
+    resends = λ row n e at. tt;
+  })
 
   taken-fits : (epoch : ℕ) → DeedFits (front_taken p epoch)
-  taken-fits epoch = go p.row (asked_node epoch p.row) where
-    go : (o : Option FrontRow) (a : Option ℕ) → DeedFits (taken_by p epoch o a)
-    go None a = tt
-    go (Some row) None = tt
-    go (Some row) (Some node) = no-calls _
+  taken-fits epoch = cases.taken-keeps p DeedFits tt epoch (λ row n e at same. no-calls [])
 
   -- an Ask has a request, and its assignment names the connection
   assigns-numbered : (ask : Ask) (r : ℕ) (paths : List (List ℕ)) (choices : List LaterChoice) (over : Bool) → 1 ≤ length paths → length choices ≡ length paths
@@ -138,7 +112,7 @@ module _ (env : FrontEnv) (p : FrontPart) where
   assigns-numbered ask r (path ∷ paths) (choice ∷ choices) false some same e = e.0
 
   asked-fits : (d : Dispatcher) → IsOf env d → (from epoch number queue size : ℕ) (paths : List (List ℕ)) → 1 ≤ length paths → length paths ≤ size → DeedFits (front_asked env p from epoch (ask_of c from number queue size paths))
-  asked-fits d of from epoch number queue size paths some within = cond_both (is_row_at from epoch p.row) (asked_by env p from epoch ask p.rest) Drops DeedFits (λ t. by p.rest) (λ t. tt) where
+  asked-fits d of from epoch number queue size paths some within = cases.asked-keeps p DeedFits tt env from epoch (ask_of c from number queue size paths) (λ rest found there same more. tt) (λ rest found there next. new rest) where
     ask : Ask
     ask = ask_of c from number queue size paths
 
@@ -147,13 +121,6 @@ module _ (env : FrontEnv) (p : FrontPart) where
 
     new : (rest : FrontRest) → DeedFits (Does (assigns env p rest from epoch ask (env.later ask)))
     new rest = record { closes = (tt, tt); in_range = λ e. ((assigns-numbered ask rest.assigned paths (env.later ask).choices (env.later ask).over some many e, within), tt) }
-
-    by : (o : Option FrontRest) → DeedFits (asked_by env p from epoch ask o)
-    by None = tt
-    by (Some rest) =
-        let again : FrontDeed = Says (front_saying (tag_sent env from epoch rest.asks rest.tag)) in
-        cond_both (ask.number == rest.asks + 1) (Does (assigns env p rest from epoch ask (env.later ask))) (cond (ask.number == rest.asks && nat_lt 0 rest.asks) again Drops) DeedFits
-        (λ t. new rest) (λ t. cond_both (ask.number == rest.asks && nat_lt 0 rest.asks) again Drops DeedFits (λ u. tt) (λ u. tt))
 
 -- ---- a step
 
