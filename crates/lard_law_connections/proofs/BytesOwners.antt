@@ -1,5 +1,5 @@
 -- Who serves a connection owns it; and what is seen before the notes of a move. So it is of each rule, by where the connection is.
-use Rattle.std.proofs.Common.{◌≡◌, ℕ, ◌+◌, ◌==◌, ◌&&◌, nat_lt, Bool, true, false, cond, List, [], ◌∷◌, ◌++◌, Option, Some, None, Result, Ok, Err, refl, sym, ap, ◌∙◌, subst}
+use Rattle.std.proofs.Common.{◌≡◌, ℕ, ◌+◌, Bool, true, false, cond, List, [], ◌∷◌, ◌++◌, Option, Some, None, Result, Ok, Err, refl, sym, ap, ◌∙◌, subst}
 use Rattle.std.proofs.lemmas.Bool.{cond_both}
 use Rattle.std.specs.List.{find}
 use Rattle.lard_base.specs.declared.event.Event.TheVariants as event
@@ -21,25 +21,20 @@ use Rattle.lard_law_view.proofs.Saying.{NotedAt}
 use Rattle.lard_client.specs.Control.{ClientBlock}
 use Rattle.lard_costs.specs.declared.later.LaterChoice.{LaterChoice}
 use Rattle.lard_dispatch.specs.declared.dispatch.Ask.{Ask}
-use Rattle.lard_dispatch.specs.declared.dispatch.First.{First}
 use Rattle.lard_dispatch.specs.declared.dispatch.First.TheVariants as first
 use Rattle.lard_endpoint.specs.declared.control.moving.Final.{Final}
 use Rattle.lard_endpoint.specs.Arriving.{on_segment}
 use Rattle.lard_endpoint.specs.Control.{ControlBlock}
-use Rattle.lard_rules.specs.declared.front.FrontRest.{FrontRest}
 use Rattle.lard_rules.specs.declared.front.FrontTurn.{FrontTurn}
 use Rattle.lard_rules.specs.Front as front
-use Rattle.lard_rules.specs.Front.{FrontEnv, FrontPart, admitted_at, admitted_by, front_admitted_with, ask_of, asked_by, assigned_notes, assigns, front_begun, front_ended_by, front_fired_by, fires_at, front_admitted, front_asked, front_ended, front_gets, front_hears, front_taken, front_timer, handed_off, heard, hears_at, is_row_at, over_note, placed, front_rest, settled_by, tag_sent, taken_by}
-use Rattle.lard_rules.specs.FrontReading.{Reading, front_reads}
+use Rattle.lard_rules.specs.Front.{FrontEnv, FrontPart, ask_of, assigned_notes, front_begun, front_admitted, front_asked, front_ended, front_gets, front_taken, front_timer, hears_at, over_note, placed, front_rest}
 use Rattle.lard_handoff_back.specs.Back.{awaits_ack, back_endpoint, offer_answer}
 use Rattle.lard_handoff_back.specs.declared.table.Adopt.{Adopt}
 use Rattle.lard_handoff_back.specs.declared.table.Adopt.TheVariants.{Again, New, Stale}
 use Rattle.lard_handoff_front.specs.declared.row.FrontConn.{FrontConn}
 use Rattle.lard_handoff_front.specs.declared.row.FrontConn.TheVariants as stage
 use Rattle.lard_handoff_front.specs.declared.row.FrontRow.{FrontRow}
-use Rattle.lard_handoff_front.specs.declared.table.OnEnded.{OnEnded}
 use Rattle.lard_handoff_front.specs.declared.table.OnEnded.TheVariants as ended
-use Rattle.lard_handoff_front.specs.Front.{asked_node, end_answer}
 use Rattle.lard_history.specs.Journal.{owner_step, request}
 use Rattle.lard_history.specs.Own.{Seen}
 use Rattle.lard_history.proofs.Each.{Each, Each-append}
@@ -49,19 +44,20 @@ use Rattle.lard_lateral.specs.Lateral.{is_from}
 use Rattle.lard_law_view.proofs.Notes.{same-number}
 use Rattle.lard_rules.specs.declared.stay.Stay.{Stay}
 use Rattle.lard_rules.specs.Node as node
-use Rattle.lard_rules.specs.Node.{NodePart, node_begins, both_of, come_by, node_heard_by, here, is_tag_awaited, node_acknowledged, node_content, node_forwarded, node_offered, node_read, node_tagged, node_timer, offered_by, node_read_by, tagged_by, taken_sent, with_work, work_of}
+use Rattle.lard_rules.specs.Node.{NodePart, node_begins, both_of, come_by, node_heard_by, here, is_tag_awaited, node_acknowledged, offered_by, node_read_by, tagged_by, with_work, work_of}
 use Rattle.lard_rules.specs.Stay.{NodeEnv, Work, came_for, come_progress, goes_on, read_progress, reads_batch, tagged}
 use Rattle.lard_policy.specs.declared.first.FirstChoice.{FirstChoice}
 use Rattle.lard_resend.specs.Kept.{is_under, without}
 use Rattle.lard_rules.specs.declared.places.Station.{Station}
 use Rattle.lard_rules.specs.declared.places.Turn.{Turn}
 use Rattle.lard_rules.specs.Client.{client_aborts, client_gets, client_holds, client_shuts, client_takes, client_timer, client_writes}
-use Rattle.lard_rules.specs.Tombstone.{is_plain_syn, last_words, tombstone}
+use Rattle.lard_rules.specs.Tombstone.{last_words, tombstone}
 use Rattle.lard_rules.specs.Loop.{state_of}
-use Rattle.lard_rules.specs.Serving.{Service, serving, serving_settled}
+use Rattle.lard_rules.specs.Serving.{serving_settled}
 use Rattle.lard_segment.specs.declared.fault.SegFault.{SegFault}
 use Rattle.lard_segment.specs.declared.segment.Dir.TheVariants.{ToClient}
 use Rattle.lard_segment.specs.Segment.{Said, decoded}
+use Rattle.lard_rules.proofs.FrontCases.{KeptBySegment, IsInStage, heard_reading, segment-keeps, timer-keeps, taken-keeps, asked-keeps, ended-keeps, admitted-keeps}
 
 -- ---- notes
 
@@ -160,20 +156,6 @@ module _ (x : Conn) (heads : List Seen) (quiet : Each IsHead heads) where
     by-stage _ at before sits = absurd before
 
   -- what is read and placed notes plain records
-  module _ (env : FrontEnv) (p : FrontPart) where
-    placed-plain : (row : FrontRow) (rest : FrontRest) (w : Service) (path : List ℕ) → Each IsPlain w.notes → (f : First) → Each IsPlain (placed env p row rest w path f).turn.notes
-    placed-plain row rest w path plain (first.Go choice) = plain-more w.notes (rec.Admitted env.serve.c ∷ rec.AssignedFirst env.serve.c (w.count + 1) path choice.node choice.add choice.remove ∷ []) (tt, (tt, tt)) plain
-    placed-plain row rest w path plain first.Waits = plain-more w.notes (rec.Waits env.serve.c ∷ []) (tt, tt) plain
-
-    settled-plain : (row : FrontRow) (rest : FrontRest) (w : Service) → Each IsPlain w.notes → (target : Option (List ℕ)) → Each IsPlain (notes_of (settled_by env p row rest w target))
-    settled-plain row rest w plain None = subst (Each IsPlain) (sym (settled-is env.serve w).notes) plain
-    settled-plain row rest w plain (Some path) = placed-plain row rest w path plain (env.first path)
-
-    heard-plain : (row : FrontRow) (rest : FrontRest) (b : ControlBlock) → Each IsPlain (notes_of (heard env p row rest b))
-    heard-plain row rest b =
-        let y : Reading = front_reads env.serve (record { service = serving b rest.count []; target = None }) in
-        settled-plain row rest y.service (reads-notes (Each IsPlain) plain-more env.serve (record { service = serving b rest.count []; target = None }) tt) y.target
-
   module _ (env : FrontEnv) where
     abbrev p : FrontPart
     p = x.part.front
@@ -184,46 +166,41 @@ module _ (x : Conn) (heads : List Seen) (quiet : Each IsHead heads) where
     nothing : (d : front.FrontDeed) → notes_of d ≡ [] → KnowsIt d
     nothing d none sits own = front-known d (subst (OwnerServes x.c owner_now) (sym none) tt)
 
-    hears-stage : (bytes : List ℕ) (s : Said) (row : FrontRow) (d : FrontConn) → p.row ≡ Some row → row.stage ≡ d → KnowsIt (hears_at env p row bytes s d)
-    hears-stage bytes s row (stage.Held b) found at =
-        λ sits own. front-plain (hears_at env p row bytes s (stage.Held b)) own (heard-plain env p row (front_rest p.rest) (on_segment b s).1) (home-owner sits row (stage.Held b) found at tt)
-    hears-stage bytes s row (stage.Waiting b) found at = nothing (hears_at env p row bytes s (stage.Waiting b)) refl
-    hears-stage bytes s row stage.Lent found at = nothing front.Drops refl
-    hears-stage bytes s row (stage.Offering n e) found at = nothing (hears_at env p row bytes s (stage.Offering n e)) refl
-    hears-stage bytes s row (stage.Moved n e) found at = nothing (hears_at env p row bytes s (stage.Moved n e)) refl
-    hears-stage bytes s row (stage.Closed last) found at = by-words (last_words last.reason last s) where
-      by-words : (o : Option Said) → KnowsIt (front.Says (front.turn_here (tombstone env.serve o)))
-      by-words None = nothing (front.Says (front.turn_here (tombstone env.serve None))) refl
-      by-words (Some q) = nothing (front.Says (front.turn_here (tombstone env.serve (Some q)))) refl
+    -- it is here, and notes what is plain
+    plain-known : (row : FrontRow) (b : ControlBlock) → IsInStage p row (stage.Held b) → (d : front.FrontDeed) → Each IsPlain (notes_of d) → KnowsIt d
+    plain-known row b at d plain sits own = front-plain d own plain (home-owner sits row (stage.Held b) at.0 at.1 tt)
 
-    hears-row : (bytes : List ℕ) (s : Said) (row : Option FrontRow) → p.row ≡ row → KnowsIt (front_hears env p bytes s row)
-    hears-row bytes s None found = go (is_plain_syn s) where
-      go : (b : Bool) → KnowsIt (cond b (front_begun env p s) front.Drops)
-      go true = λ sits own. front-known (front_begun env p s) (tt, tt)
-      go false = nothing front.Drops refl
-    hears-row bytes s (Some row) found = hears-stage bytes s row row.stage found refl
+    by-words : (o : Option Said) → KnowsIt (front.Says (front.turn_here (tombstone env.serve o)))
+    by-words None = nothing (front.Says (front.turn_here (tombstone env.serve None))) refl
+    by-words (Some q) = nothing (front.Says (front.turn_here (tombstone env.serve (Some q)))) refl
+
+    by-segment : (bytes : List ℕ) (s : Said) → KeptBySegment env p bytes s (λ w o. Each IsPlain w.notes) KnowsIt
+    by-segment bytes s = record {
+      drops = nothing front.Drops refl;
+      begins = λ none plain sits own. front-known (front_begun env p s) (tt, tt);
+      reads = λ row b at. reads-notes (Each IsPlain) plain-more env.serve (heard_reading p b s) tt;
+      holds = λ row b w at plain. plain-known row b at (front.holds p row (front_rest p.rest) (serving_settled env.serve w)) (subst (Each IsPlain) (sym (settled-is env.serve w).notes) plain);
+      hands = λ row b w path choice at plain is. plain-known row b at (front.Does (placed env p row (front_rest p.rest) w path (first.Go choice)))
+          (plain-more w.notes (rec.Admitted env.serve.c ∷ rec.AssignedFirst env.serve.c (w.count + 1) path choice.node choice.add choice.remove ∷ []) (tt, (tt, tt)) plain);
+      waits = λ row b w path at plain is. plain-known row b at (front.Does (placed env p row (front_rest p.rest) w path first.Waits)) (plain-more w.notes (rec.Waits env.serve.c ∷ []) (tt, tt) plain);
+      stays = λ row b at. nothing (hears_at env p row bytes s (stage.Waiting b)) refl;
+      forwards = λ row n e at. nothing (front.forwarded env n e bytes) refl;
+      words = λ row last at. by-words (last_words last.reason last s);
+    }
 
     gets-known : (bytes : List ℕ) (r : Result Said SegFault) → KnowsIt (front_gets env p bytes r)
     gets-known bytes (Err fault) = nothing front.Drops refl
-    gets-known bytes (Ok s) = hears-row bytes s p.row refl
+    gets-known bytes (Ok s) = segment-keeps env p bytes s (λ w o. Each IsPlain w.notes) KnowsIt (by-segment bytes s)
 
     -- its timers, and what nodes say, serve nothing
-    fires-none : (row : FrontRow) (d : FrontConn) → notes_of (fires_at env p row d) ≡ []
-    fires-none row (stage.Held b) = refl
-    fires-none row (stage.Waiting b) = refl
-    fires-none row stage.Lent = refl
-    fires-none row (stage.Offering n e) = refl
-    fires-none row (stage.Moved n e) = refl
-    fires-none row (stage.Closed last) = refl
+    abbrev NotesNothing : front.FrontDeed → Type 0
+    NotesNothing d = notes_of d ≡ []
 
-    timer-none : (row : Option FrontRow) → notes_of (front_fired_by env p row) ≡ []
-    timer-none None = refl
-    timer-none (Some row) = fires-none row row.stage
+    timer-none : notes_of (front_timer env p) ≡ []
+    timer-none = timer-keeps env p NotesNothing (record { drops = refl; holds = λ row b at. refl; stays = λ row b at. refl; resends = λ row n e at. refl })
 
-    taken-none : (epoch : ℕ) (row : Option FrontRow) (asked : Option ℕ) → notes_of (taken_by p epoch row asked) ≡ []
-    taken-none epoch None asked = refl
-    taken-none epoch (Some row) None = refl
-    taken-none epoch (Some row) (Some n) = refl
+    taken-none : (epoch : ℕ) → notes_of (front_taken p epoch) ≡ []
+    taken-none epoch = taken-keeps p NotesNothing refl epoch (λ row n e at same. refl)
 
     abbrev Silent : front.FrontDeed → Type 0
     Silent d = Each IsSilent (notes_of d)
@@ -237,41 +214,19 @@ module _ (x : Conn) (heads : List Seen) (quiet : Each IsHead heads) where
     over-silent c true rs h = (tt, h)
     over-silent c false rs h = h
 
-    asked-silent : (n epoch : ℕ) (ask : Ask) (rest : Option FrontRest) → Silent (asked_by env p n epoch ask rest)
-    asked-silent n epoch ask None = tt
-    asked-silent n epoch ask (Some rest) = cond_both (ask.number == rest.asks + 1) (front.Does (assigns env p rest n epoch ask (env.later ask))) (cond (ask.number == rest.asks && nat_lt 0 rest.asks) (front.Says (front.front_saying (tag_sent env n epoch rest.asks rest.tag))) front.Drops) Silent
-        (λ t. over-silent env.serve.c (env.later ask).over (assigned_notes env.serve.c ask rest.assigned ask.paths (env.later ask).choices) (assigned-silent env.serve.c ask rest.assigned ask.paths (env.later ask).choices))
-        (λ t. cond_both (ask.number == rest.asks && nat_lt 0 rest.asks) (front.Says (front.front_saying (tag_sent env n epoch rest.asks rest.tag))) front.Drops Silent (λ u. tt) (λ u. tt))
-
     asks-silent : (n epoch : ℕ) (ask : Ask) → Silent (front_asked env p n epoch ask)
-    asks-silent n epoch ask = cond_both (is_row_at n epoch p.row) (asked_by env p n epoch ask p.rest) front.Drops Silent (λ t. asked-silent n epoch ask p.rest) (λ t. tt)
+    asks-silent n epoch ask = asked-keeps p Silent tt env n epoch ask (λ rest found there same some. tt) (λ rest found there next.
+        over-silent env.serve.c (env.later ask).over (assigned_notes env.serve.c ask rest.assigned ask.paths (env.later ask).choices) (assigned-silent env.serve.c ask rest.assigned ask.paths (env.later ask).choices))
 
-    ends-silent : (n epoch : ℕ) (last : Final) (row : Option FrontRow) (given : OnEnded) → Silent (front_ended_by env p n epoch last row given)
-    ends-silent n epoch last None given = tt
-    ends-silent n epoch last (Some row) (ended.New next) = (tt, (tt, tt))
-    ends-silent n epoch last (Some row) ended.Again = tt
-    ends-silent n epoch last (Some row) ended.Stale = tt
+    ends-silent : (n epoch : ℕ) (last : Final) → Silent (front_ended env p n epoch last)
+    ends-silent n epoch last = ended-keeps p Silent tt env n epoch last (λ row found away again. tt) (λ row found away. (tt, (tt, tt)))
 
     silent-known : (d : front.FrontDeed) → Silent d → Known x (front_does x heads d)
     silent-known d h = front-known d (silent-serve x.c owner_now (notes_of d) h)
 
 -- who is admitted is served nothing yet
-module _ (env : FrontEnv) (p : FrontPart) where
-  abbrev GivenSilent : Option (FrontPart × FrontTurn) → Type 0
-  GivenSilent None = Unit {0}
-  GivenSilent (Some given) = Each IsSilent given.1.notes
-
-  with-silent : (row : FrontRow) (rest : FrontRest) (b : ControlBlock) (choice : FirstChoice) (target : Option (List ℕ)) → GivenSilent (front_admitted_with env row rest b choice target)
-  with-silent row rest b choice None = tt
-  with-silent row rest b choice (Some path) = (tt, (tt, tt))
-
-  at-silent : (choice : FirstChoice) (row : FrontRow) (d : FrontConn) → GivenSilent (admitted_at env p choice row d)
-  at-silent choice row (stage.Waiting b) = with-silent row (front_rest p.rest) b choice (front_rest p.rest).target
-  at-silent choice row _ = tt
-
-  admitted-silent : (choice : FirstChoice) (o : Option FrontRow) → GivenSilent (admitted_by env p choice o)
-  admitted-silent choice None = tt
-  admitted-silent choice (Some row) = at-silent choice row row.stage
+admitted-silent : (env : FrontEnv) (p : FrontPart) (choice : FirstChoice) (given : FrontPart × FrontTurn) → front_admitted env p choice ≡ Some given → Each IsSilent given.1.notes
+admitted-silent env p choice = admitted-keeps env p choice (λ given. Each IsSilent given.1.notes) (λ row b path at target. (tt, (tt, tt)))
 
 -- ---- a node
 
@@ -392,18 +347,18 @@ module _ (k : Setting) where
   fronts : FrontRules k Knows
   fronts = record {
     hears = λ x s env bytes there is iss was may own. gets-known x (packet_seen (Client x.c) Front bytes) (tt, tt) env bytes _ may.given own;
-    fires = λ x s env there is may own. nothing x (event_seen (event.Timer Front x.c)) (tt, tt) env (front_timer env x.part.front) (timer-none x (event_seen (event.Timer Front x.c)) (tt, tt) env x.part.front.row) may.given own;
+    fires = λ x s env there is may own. nothing x (event_seen (event.Timer Front x.c)) (tt, tt) env (front_timer env x.part.front) (timer-none x (event_seen (event.Timer Front x.c)) (tt, tt) env) may.given own;
     taken = λ x env n epoch bytes is spells was may own. nothing x (packet_seen (Node n) Front bytes) (tt, tt) env (front_taken x.part.front epoch)
-        (taken-none x (packet_seen (Node n) Front bytes) (tt, tt) env epoch x.part.front.row (asked_node epoch x.part.front.row)) may.given own;
+        (taken-none x (packet_seen (Node n) Front bytes) (tt, tt) env epoch) may.given own;
     asked = λ x env n epoch number queue size paths bytes is spells was may own. silent-known x (packet_seen (Node n) Front bytes) (tt, tt) env (front_asked env x.part.front n epoch (ask_of x.c n number queue size paths))
         (asks-silent x (packet_seen (Node n) Front bytes) (tt, tt) env n epoch (ask_of x.c n number queue size paths));
     ended = λ x env n epoch why snd rcv count bytes is spells was may own.
         let last : Final = record { reason = why; snd = record { 0 = snd }; rcv = record { 0 = rcv } } in
         silent-known x (packet_seen (Node n) Front bytes) (tt, tt) env (front_ended env x.part.front n epoch last)
-        (ends-silent x (packet_seen (Node n) Front bytes) (tt, tt) env n epoch last x.part.front.row (end_answer epoch x.part.front.row));
+        (ends-silent x (packet_seen (Node n) Front bytes) (tt, tt) env n epoch last);
     admitted = λ x env choice given is e may own. record {
       heads = tt;
-      serves = silent-serve x.c (tale_at x).owner given.1.notes (subst (GivenSilent env x.part.front) e (admitted-silent env x.part.front choice x.part.front.row));
+      serves = silent-serve x.c (tale_at x).owner given.1.notes (admitted-silent env x.part.front choice given e);
     };
   }
 
