@@ -1,5 +1,5 @@
 -- An Ask and the end of a connection at its node leave it in agreement.
-use Rattle.std.proofs.Common.{◌≡◌, ◌≤◌, ◌+◌, ◌==◌, ◌&&◌, nat_lt, ◌^◌, ℕ, Bool, false, true, cond, List, [], ◌∷◌, ◌++◌, map, Option, Some, None, Ok, arith, refl, ap, ◌∙◌, sym, subst, inl, ⊎_elim, eqb-true, eq-eqb}
+use Rattle.std.proofs.Common.{◌≡◌, ◌≤◌, ◌+◌, ◌==◌, ◌^◌, ℕ, Bool, false, true, List, [], ◌∷◌, ◌++◌, map, Option, Some, None, Ok, arith, refl, ap, ◌∙◌, sym, subst, inl, ⊎_elim, eqb-true, eq-eqb}
 use Rattle.std.specs.List.{list_any}
 use Rattle.lard_base.specs.declared.place.Place.TheVariants.{Front, Node}
 use Rattle.lard_base.specs.declared.place.Reason.{Reason}
@@ -23,15 +23,15 @@ use Rattle.lard_costs.specs.declared.later.LaterChoice.{LaterChoice}
 use Rattle.lard_dispatch.specs.declared.dispatch.Ask.{Ask}
 use Rattle.lard_endpoint.specs.declared.control.moving.Final.{Final}
 use Rattle.lard_rules.specs.declared.front.FrontRest.{FrontRest}
-use Rattle.lard_rules.specs.Front.{FrontDeed, Does, Drops, Says, FrontEnv, FrontPart, ack_sent, ask_of, asked_by, assigned_notes, assigns, front_ended_by, front_asked, front_ended, is_row_at, is_with, message, over_note, front_saying, tag_sent}
+use Rattle.lard_rules.specs.Front.{FrontDeed, Does, Drops, Says, FrontEnv, FrontPart, ack_sent, ask_of, assigned_notes, assigns, front_ended_by, front_asked, front_ended, is_row_at, is_with, message, over_note, front_saying, tag_sent}
 use Rattle.lard_handoff_back.specs.declared.row.BackConn.{BackConn}
 use Rattle.lard_handoff_back.specs.declared.row.BackConn.TheVariants as back
 use Rattle.lard_handoff_back.specs.declared.row.BackRow.{BackRow}
 use Rattle.lard_handoff_front.specs.declared.row.FrontConn.{FrontConn}
 use Rattle.lard_handoff_front.specs.declared.row.FrontConn.TheVariants as stage
 use Rattle.lard_handoff_front.specs.declared.row.FrontRow.{FrontRow}
-use Rattle.lard_handoff_front.specs.declared.table.OnEnded.TheVariants.{New, Again, Stale}
-use Rattle.lard_handoff_front.specs.Front.{end_answer, ended_with, next_epoch}
+use Rattle.lard_handoff_front.specs.declared.table.OnEnded.TheVariants.{New}
+use Rattle.lard_handoff_front.specs.Front.{next_epoch}
 use Rattle.lard_handoff_front.specs.Row.{is_away}
 use Rattle.lard_history.specs.Own.{Seen}
 use Rattle.lard_history.proofs.Each.{Each}
@@ -46,6 +46,7 @@ use Rattle.lard_request.specs.declared.verdict.Verdict.{Verdict}
 use Rattle.lard_resend.specs.declared.kept.Kept.{Kept}
 use Rattle.lard_rules.specs.declared.places.Station.{Station}
 use Rattle.lard_law_view.specs.Truth.{Stream}
+use Rattle.lard_rules.proofs.FrontCases.{asked-keeps, ended-keeps}
 
 -- ---- notes that tell nothing of bytes
 
@@ -148,20 +149,11 @@ module _ (k : Setting) (small : k.stream ≤ 2 ^ 30) (x : Conn) (s : Station) (t
         letters = all-say l x.c (front_does x heads d).part (assigns env p rest n epoch ask (env.later ask)).turn.messages (tag-says (front_does x heads d).part.front n epoch ask.number (map (λ y. y.node) (env.later ask).choices));
       }))
 
-  asks-rest : (n epoch : ℕ) (ask : Ask) → is_row_at n epoch p.row ≡ true → (rest : Option FrontRest) → Goes (asked_by env p n epoch ask rest)
-  asks-rest n epoch ask at None = drops-goes k small x s there l pend o heads (quiet Drops)
-  asks-rest n epoch ask at (Some rest) = go (ask.number == rest.asks + 1) (ask.number == rest.asks && nat_lt 0 rest.asks) where
-    go : (a b : Bool) → Goes (cond a (Does (assigns env p rest n epoch ask (env.later ask))) (cond b (Says (front_saying (tag_sent env n epoch rest.asks rest.tag))) Drops))
-    go true b = assigns-moves rest n epoch ask at
-    go false true = λ help. says-goes k small x s there l pend o heads (front_saying (tag_sent env n epoch rest.asks rest.tag)) (quiet (Says (front_saying (tag_sent env n epoch rest.asks rest.tag)))) refl tt
-        (all-say l x.c x.part (tag_sent env n epoch rest.asks rest.tag) (tag-says p n epoch rest.asks rest.tag)) help
-    go false false = drops-goes k small x s there l pend o heads (quiet Drops)
-
   asks-goes : (n epoch : ℕ) (ask : Ask) → Goes (front_asked env p n epoch ask)
-  asks-goes n epoch ask = go (is_row_at n epoch p.row) refl where
-    go : (b : Bool) → is_row_at n epoch p.row ≡ b → Goes (cond b (asked_by env p n epoch ask p.rest) Drops)
-    go true e = asks-rest n epoch ask e p.rest
-    go false e = drops-goes k small x s there l pend o heads (quiet Drops)
+  asks-goes n epoch ask = asked-keeps p Goes (drops-goes k small x s there l pend o heads (quiet Drops)) env n epoch ask
+      (λ rest found at same some help. says-goes k small x s there l pend o heads (front_saying (tag_sent env n epoch rest.asks rest.tag)) (quiet (Says (front_saying (tag_sent env n epoch rest.asks rest.tag)))) refl tt
+      (all-say l x.c x.part (tag_sent env n epoch rest.asks rest.tag) (tag-says p n epoch rest.asks rest.tag)) help)
+      (λ rest found at next. assigns-moves rest n epoch ask at)
 
   -- ---- an Ended
 
@@ -214,13 +206,10 @@ module _ (k : Setting) (small : k.stream ≤ 2 ^ 30) (x : Conn) (s : Station) (t
         end-at row n found same sits.2 sits.3 over seat.1
     end-stage row _ found at away over help = let no : false ≡ true = away in absurd cc
 
-    end-row : (over : IsOver epoch here.row) (row : Option FrontRow) → p.row ≡ row → Goes (front_ended_by env p m epoch last row (end_answer epoch row))
-    end-row over None found = drops-goes k small x s there l pend o heads (quiet Drops)
-    end-row over (Some row) found = go (is_away epoch row.stage) refl (ended_with epoch row.ended_by) where
-      go : (a : Bool) → is_away epoch row.stage ≡ a → (b : Bool) → Goes (front_ended_by env p m epoch last (Some row) (cond a (New (next_epoch row)) (cond b Again Stale)))
-      go true e b = λ help. ends-moves row m epoch last (end-stage row row.stage found refl e over help) help
-      go false e true = λ help. says-goes k small x s there l pend o heads (front_saying (ack_sent env m epoch)) (quiet (Says (front_saying (ack_sent env m epoch)))) refl tt (all-say l x.c x.part (ack_sent env m epoch) (ack-says p m epoch)) help
-      go false e false = drops-goes k small x s there l pend o heads (quiet Drops)
+    end-goes : IsOver epoch here.row → Goes (front_ended env p m epoch last)
+    end-goes over = ended-keeps p Goes (drops-goes k small x s there l pend o heads (quiet Drops)) env m epoch last
+        (λ row found away again help. says-goes k small x s there l pend o heads (front_saying (ack_sent env m epoch)) (quiet (Says (front_saying (ack_sent env m epoch)))) refl tt (all-say l x.c x.part (ack_sent env m epoch) (ack-says p m epoch)) help)
+        (λ row found away help. ends-moves row m epoch last (end-stage row row.stage found refl away over help) help)
 
 -- ---- two rules
 
@@ -240,5 +229,5 @@ module _ (k : Setting) (small : k.stream ≤ 2 ^ 30) where
       → StaysTruthful k x (front_does x (packet_seen (Node n) Front bytes) (front_ended env x.part.front n epoch (record { reason = why; snd = record { 0 = snd }; rcv = record { 0 = rcv } })))
   ended-stays x env n epoch why snd rcv count bytes is spells was help h =
       let opened = opened-at k.files x h (node-opens x n bytes was) in
-      end-row k small x opened.0 opened.1 h.talk h.pend (open-at k.files x opened.0 opened.1 h) (packet_seen (Node n) Front bytes) (packet-quiet x n bytes) env is n epoch why snd rcv count bytes spells was
-      (came-says x (Node n) Front epoch (body.Ended why snd rcv count) bytes help.placed.letters was spells) x.part.front.row refl help
+      end-goes k small x opened.0 opened.1 h.talk h.pend (open-at k.files x opened.0 opened.1 h) (packet_seen (Node n) Front bytes) (packet-quiet x n bytes) env is n epoch why snd rcv count bytes spells was
+      (came-says x (Node n) Front epoch (body.Ended why snd rcv count) bytes help.placed.letters was spells) help

@@ -1,5 +1,5 @@
 -- What comes to the front end from nodes, and who is admitted, leaves a connection in agreement.
-use Rattle.std.proofs.Common.{◌≡◌, ◌≤◌, ◌==◌, ◌||◌, ◌^◌, ℕ, Bool, false, true, cond, List, [], map, Option, Some, None, arith, refl, ◌∙◌, sym, subst, inl, ⊎_elim, eqb-true}
+use Rattle.std.proofs.Common.{◌≡◌, ◌≤◌, ◌||◌, ◌^◌, ℕ, Bool, List, [], map, Option, Some, None, arith, refl, ◌∙◌, sym, subst, inl, ⊎_elim}
 use Rattle.std.specs.List.{list_any}
 use Rattle.lard_answers.specs.Answers.{FilesAt}
 use Rattle.lard_base.specs.declared.ids.Epoch.{Epoch}
@@ -20,12 +20,10 @@ use Rattle.lard_law_view.specs.View.{Conn, IsFrontEnv, Move, Setting, SpellsMess
 use Rattle.lard_law_view.proofs.Rows.{tale_before}
 use Rattle.lard_endpoint.specs.Control.{ControlBlock}
 use Rattle.lard_rules.specs.declared.front.FrontTurn.{FrontTurn}
-use Rattle.lard_rules.specs.Front.{FrontDeed, Does, Drops, Says, FrontEnv, FrontPart, admitted_at, admitted_by, front_admitted, front_taken, taken_by}
+use Rattle.lard_rules.specs.Front.{FrontDeed, Does, Drops, Says, FrontEnv, FrontPart, front_admitted, front_taken, taken_by}
 use Rattle.lard_handoff_back.specs.declared.row.BackRow.{BackRow}
-use Rattle.lard_handoff_front.specs.declared.row.FrontConn.{FrontConn}
 use Rattle.lard_handoff_front.specs.declared.row.FrontConn.TheVariants as stage
 use Rattle.lard_handoff_front.specs.declared.row.FrontRow.{FrontRow}
-use Rattle.lard_handoff_front.specs.Row.{offered_to}
 use Rattle.lard_history.specs.Own.{Seen}
 use Rattle.lard_history.proofs.Each.{Each-append}
 use Rattle.lard_law_view.specs.Keeping.{is_reset_record}
@@ -34,6 +32,7 @@ use Rattle.lard_message.specs.declared.message.Body.TheVariants as body
 use Rattle.lard_policy.specs.declared.first.FirstChoice.{FirstChoice}
 use Rattle.lard_request.specs.declared.verdict.Verdict.{Verdict}
 use Rattle.lard_rules.specs.declared.places.Station.{Station}
+use Rattle.lard_rules.proofs.FrontCases.{taken-keeps, admitted-keeps}
 
 -- ---- its client opened
 
@@ -77,16 +76,8 @@ module _ (k : Setting) (small : k.stream ≤ 2 ^ 30) (x : Conn) (s : Station) (t
         (record { heads = quiet (taken_by p epoch (Some row) (Some n)); station = refl; offers = λ i e a b. absurd b; ends = λ i e over. inl refl })
         (idle-goes k.files x s there l pend o v (record { each = tt; served = refl; size = refl; reset = refl; seat = (here, node); ways = o.ways; sent = tt; letters = tt }))
 
-    taken-at : (row : FrontRow) (epoch m : ℕ) → p.row ≡ Some row → IsDecided epoch (x.part.nodes m).row → (d : FrontConn) → row.stage ≡ d → Goes (taken_by p epoch (Some row) (offered_to epoch d))
-    taken-at row epoch m found decided (stage.Offering n d) at = go (d.0 == epoch) refl where
-      go : (b : Bool) → (d.0 == epoch) ≡ b → Goes (taken_by p epoch (Some row) (cond b (Some n) None))
-      go true e = taken-moves row n d epoch m found at (eqb-true d.0 epoch e) decided
-      go false e = drops-goes k small x s there l pend o heads (quiet Drops)
-    taken-at row epoch m found decided _ at = drops-goes k small x s there l pend o heads (quiet Drops)
-
-    taken-row : (epoch m : ℕ) → IsDecided epoch (x.part.nodes m).row → (row : Option FrontRow) → p.row ≡ row → Goes (taken_by p epoch row (elim row [ None ↦ None | Some r ↦ offered_to epoch r.stage ]))
-    taken-row epoch m decided None found = drops-goes k small x s there l pend o heads (quiet Drops)
-    taken-row epoch m decided (Some row) found = taken-at row epoch m found decided row.stage refl
+    taken-goes : (epoch m : ℕ) → IsDecided epoch (x.part.nodes m).row → Goes (front_taken p epoch)
+    taken-goes epoch m decided = taken-keeps p Goes (drops-goes k small x s there l pend o heads (quiet Drops)) epoch (λ row n e at same. taken-moves row n e epoch m at.0 at.1 same decided)
 
 -- ---- the rules
 
@@ -96,8 +87,8 @@ module _ (k : Setting) (small : k.stream ≤ 2 ^ 30) where
   taken-stays x env n epoch bytes is spells was help h =
       let opened = opened-at k.files x h (node-opens x n bytes was) in
       let o = open-at k.files x opened.0 opened.1 h in
-      taken-row k small x opened.0 opened.1 h.talk h.pend o (packet_seen (Node n) Front bytes) (λ d. quiet-at d) epoch n
-      (came-says x (Node n) Front epoch body.Taken bytes help.placed.letters was spells) x.part.front.row refl help where
+      taken-goes k small x opened.0 opened.1 h.talk h.pend o (packet_seen (Node n) Front bytes) (λ d. quiet-at d) epoch n
+      (came-says x (Node n) Front epoch body.Taken bytes help.placed.letters was spells) help where
         quiet-at : (d : FrontDeed) → bytes_of (tale_before x (front_does x (packet_seen (Node n) Front bytes) d)) ≡ bytes_of (tale_at x)
         quiet-at Drops = refl
         quiet-at (Says turn) = refl
@@ -144,22 +135,7 @@ module _ (k : Setting) (small : k.stream ≤ 2 ^ 30) where
             (replies-fair after x.c v.part Front (inl refl) given.1.segments t.sent) (all-say after x.c v.part given.1.messages t.said);
       })
 
-  module _ (x : Conn) (env : FrontEnv) (choice : FirstChoice) (given : FrontPart × FrontTurn) (is : IsFrontEnv k x.c env) (admitted : front_admitted env x.part.front choice ≡ Some given) (help : Helps x (front_admits x given)) (h : IsTruthful k.files x) where
-    abbrev Admits : Type 0
-    Admits = IsTrueMove k.files x (front_admits x given)
-
-    by-stage : (row : FrontRow) → x.part.front.row ≡ Some row → (d : FrontConn) → row.stage ≡ d → admitted_at env x.part.front choice row d ≡ Some given → Admits
-    by-stage row found (stage.Waiting b) at e =
-        let opened = opened-at k.files x h (λ u. let no : Some row ≡ None = sym found ∙ u.front in absurd cc) in
-        admits-row x env choice given opened.0 opened.1 is admitted h.talk h.pend (open-at k.files x opened.0 opened.1 h) row b found at help
-    by-stage row found _ at e = let no : None ≡ Some given = e in absurd cc
-
-    by-row : (o : Option FrontRow) → x.part.front.row ≡ o → admitted_by env x.part.front choice o ≡ Some given → Admits
-    by-row None found e = let no : None ≡ Some given = e in absurd cc
-    by-row (Some row) found e = by-stage row found row.stage refl e
-
-    admits-goes : Admits
-    admits-goes = by-row x.part.front.row refl admitted
-
   pub admitted-stays : (x : Conn) (env : FrontEnv) (choice : FirstChoice) (given : FrontPart × FrontTurn) → IsFrontEnv k x.c env → front_admitted env x.part.front choice ≡ Some given → StaysTruthful k x (front_admits x given)
-  admitted-stays x env choice given is admitted help h = admits-goes x env choice given is admitted help h
+  admitted-stays x env choice given is admitted = admitted-keeps env x.part.front choice (λ (g : FrontPart × FrontTurn). front_admitted env x.part.front choice ≡ Some g → StaysTruthful k x (front_admits x g)) (λ row b path at target whole help h.
+      let opened = opened-at k.files x h (λ u. let no : Some row ≡ None = sym at.0 ∙ u.front in absurd cc) in
+      admits-row x env choice _ opened.0 opened.1 is whole h.talk h.pend (open-at k.files x opened.0 opened.1 h) row b at.0 at.1 help) given admitted admitted
