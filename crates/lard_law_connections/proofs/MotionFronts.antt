@@ -1,5 +1,5 @@
 -- What each rule of the front end makes of a connection's way.
-use Rattle.std.proofs.Common.{◌≡◌, ◌<◌, ◌+◌, ◌^◌, ◌==◌, ◌||◌, ◌&&◌, not, nat_lt, ℕ, Bool, true, false, cond, List, [], ◌∷◌, ◌++◌, map, Option, Some, None, inl, refl, sym, ap, ◌∙◌, subst, arith, append-nil, eqb-true, eq-eqb}
+use Rattle.std.proofs.Common.{◌≡◌, ◌<◌, ◌+◌, ◌^◌, ◌==◌, ◌||◌, ◌&&◌, not, ℕ, Bool, true, false, cond, List, [], ◌∷◌, ◌++◌, map, Option, Some, None, inl, refl, sym, ap, ◌∙◌, subst, arith, append-nil, eqb-true, eq-eqb}
 use Rattle.std.proofs.lemmas.Bool.{both_ways, cond_both}
 use Rattle.std.proofs.lemmas.List.Folds.{list_any-append}
 use Rattle.std.proofs.lemmas.List.Sums.{fold-append}
@@ -31,15 +31,15 @@ use Rattle.lard_endpoint.specs.Control.{ControlBlock, listening}
 use Rattle.lard_endpoint.specs.Leaving.{after_timer, timed}
 use Rattle.lard_rules.specs.declared.front.FrontRest.{FrontRest}
 use Rattle.lard_rules.specs.declared.front.FrontTurn.{FrontTurn}
-use Rattle.lard_rules.specs.Front.{FrontDeed, Did, Drops, Says, Does, FrontEnv, FrontPart, ack_sent, admitted_at, admitted_by, front_admitted_with, asked_by, assigned_notes, assigns, front_begun, front_ended_by, front_ends, front_fired, front_fired_by, fires_at, front_admitted, front_asked, front_ended, front_hears, front_taken, front_timer, handed_off, heard, hears_at, is_row_at, leaves_by, message, met, over_note, placed, front_rest, front_rests, front_saying, settled_by, stage_after, tag_sent, taken_by, turn_here}
+use Rattle.lard_rules.specs.Front.{FrontDeed, Did, Drops, Says, Does, FrontEnv, FrontPart, ack_sent, assigned_notes, assigns, front_begun, front_ended_by, front_ends, front_fired, front_admitted, front_asked, front_ended, front_hears, front_taken, front_timer, handed_off, heard, hears_at, leaves_by, message, met, over_note, placed, front_rest, front_rests, front_saying, settled_by, stage_after, tag_sent, taken_by, turn_here}
 use Rattle.lard_rules.specs.FrontReading.{Reading, front_reads}
 use Rattle.lard_handoff_back.specs.declared.row.BackRow.{BackRow}
 use Rattle.lard_handoff_front.specs.declared.row.FrontConn.{FrontConn}
 use Rattle.lard_handoff_front.specs.declared.row.FrontConn.TheVariants as stage
 use Rattle.lard_handoff_front.specs.declared.row.FrontRow.{FrontRow}
 use Rattle.lard_handoff_front.specs.declared.table.OnEnded.TheVariants.{New, Again, Stale}
-use Rattle.lard_handoff_front.specs.Front.{asked_node, end_answer, ended_with, next_epoch}
-use Rattle.lard_handoff_front.specs.Row.{is_away, offered_to}
+use Rattle.lard_handoff_front.specs.Front.{end_answer, ended_with, next_epoch}
+use Rattle.lard_handoff_front.specs.Row.{is_away}
 use Rattle.lard_history.specs.Own.{Seen}
 use Rattle.lard_history.proofs.Each.{Each, Each-append}
 use Rattle.lard_journal.specs.declared.rec.Rec.{Rec}
@@ -54,10 +54,11 @@ use Rattle.lard_rules.specs.declared.places.Ending.TheVariants as ending
 use Rattle.lard_rules.specs.declared.places.Turn.{Turn}
 use Rattle.lard_rules.specs.Tombstone.{is_plain_syn, last_words, tombstone}
 use Rattle.lard_rules.specs.Speaking.{listed}
-use Rattle.lard_rules.specs.Serving.{Service, serving_ready_of, serving, serving_settled, spoken}
+use Rattle.lard_rules.specs.Serving.{Service, serving, serving_settled, spoken}
 use Rattle.lard_segment.specs.Segment.{Said as Segment}
 use Rattle.lard_law_view.proofs.EndpointSends.{AllTo, ready-to}
 use Rattle.lard_law_connections.proofs.MotionComings.{assigned-still, over-still, Heads, answers-still, behind_heads, forwarded-is, not-forwarded, resent-none, row-behind, without-kept}
+use Rattle.lard_rules.proofs.FrontCases.{IsInStage, of-stage, fired_before, fired_service, timer-keeps, taken-keeps, asked-keeps, admitted-keeps}
 
 -- ---- one connection
 
@@ -370,25 +371,21 @@ module _ (k : Setting) (x : Conn) (at_place : IsPlaced x) (known : IsKnown x) (h
 
     module _ (no_segments : segments ≡ []) (no_syn : syn ≡ false) where
       -- timers
-      fires-at : (row : FrontRow) → p.row ≡ Some row → (st : FrontConn) → row.stage ≡ st → Goes (fires_at env p row st)
-      fires-at row found (stage.Held b) at =
-          let h : IsHeld t = subst (StageKnown t) at (row-of row found).2 in
-          let given : Ending × Turn = front_fired env (front_rest p.rest) b in
-          ends-move row found h (front_rest p.rest) stage.Held (λ c. held-behind h) given [] tt (spoken-to env.serve (serving (after_timer b) (front_rest p.rest).count []) (serving_ready_of env.serve (after_timer b) (timed b)) (ready-to env.serve (after_timer b) (timed b)))
-      fires-at row found (stage.Waiting b) at =
-          let h : IsHeld t = subst (StageKnown t) at (row-of row found).2 in
-          let given : Ending × Turn = front_fired env (front_rest p.rest) b in
-          ends-move row found h (front_rest p.rest) stage.Waiting (λ c. held-behind h) given (leaves_by env.serve.c given.0) tt
-          (spoken-to env.serve (serving (after_timer b) (front_rest p.rest).count []) (serving_ready_of env.serve (after_timer b) (timed b)) (ready-to env.serve (after_timer b) (timed b)))
-      fires-at row found (stage.Offering n d) at = nothing-says no_segments no_syn (map sent_of p.kept) (resent-none p.kept known.kept)
-      fires-at row found _ at = nothing-drops no_segments no_syn
-
-      fires : (o : Option FrontRow) → p.row ≡ o → Goes (front_fired_by env p o)
-      fires None found = nothing-drops no_segments no_syn
-      fires (Some row) found = fires-at row found row.stage refl
+      held-in : (row : FrontRow) (st : FrontConn) → IsInStage p row st → StageKnown t st
+      held-in row st at = subst (StageKnown t) at.1 (row-of row at.0).2
 
       pub fires-move : Goes (front_timer env p)
-      fires-move = fires p.row refl
+      fires-move = timer-keeps env p Goes (record {
+        drops = nothing-drops no_segments no_syn;
+        holds = λ row b at.
+            let h : IsHeld t = held-in row (stage.Held b) at in
+            ends-move row at.0 h (front_rest p.rest) stage.Held (λ c. held-behind h) (front_fired env (front_rest p.rest) b) [] tt (spoken-to env.serve (fired_service p b) (fired_before env b) (ready-to env.serve (after_timer b) (timed b)));
+        stays = λ row b at.
+            let h : IsHeld t = held-in row (stage.Waiting b) at in
+            let given : Ending × Turn = front_fired env (front_rest p.rest) b in
+            ends-move row at.0 h (front_rest p.rest) stage.Waiting (λ c. held-behind h) given (leaves_by env.serve.c given.0) tt (spoken-to env.serve (fired_service p b) (fired_before env b) (ready-to env.serve (after_timer b) (timed b)));
+        resends = λ row n d at. nothing-says no_segments no_syn (map sent_of p.kept) (resent-none p.kept known.kept);
+      })
 
       -- a Taken: it is where it was offered
       taken-row : (row : FrontRow) (n : ℕ) (d : Epoch) (epoch : ℕ) → p.row ≡ Some row → row.stage ≡ stage.Offering n d → d.0 ≡ epoch → Goes (taken_by p epoch (Some row) (Some n))
@@ -399,38 +396,23 @@ module _ (k : Setting) (x : Conn) (at_place : IsPlaced x) (known : IsKnown x) (h
           let away : IsAway u n d.0 = record { away = h.away; epoch = h.epoch; node = h.node; ended = still-away n d.0 h } in
           calm-move part (front_saying []) [] (nothing-calm no_segments no_syn) tt refl refl tt (r.0, ap (λ b. b || syn) r.1, subst (IsAway u n) same away) (without-kept p.kept known.kept)
 
-      taken-at : (epoch : ℕ) (row : FrontRow) → p.row ≡ Some row → (st : FrontConn) → row.stage ≡ st → Goes (taken_by p epoch (Some row) (offered_to epoch st))
-      taken-at epoch row found (stage.Offering n d) at = go (d.0 == epoch) refl where
-        go : (b : Bool) → (d.0 == epoch) ≡ b → Goes (taken_by p epoch (Some row) (cond b (Some n) None))
-        go true e = taken-row row n d epoch found at (eqb-true d.0 epoch e)
-        go false e = nothing-drops no_segments no_syn
-      taken-at epoch row found _ at = nothing-drops no_segments no_syn
-
-      taken-by : (epoch : ℕ) (o : Option FrontRow) → p.row ≡ o → Goes (taken_by p epoch o (asked_node epoch o))
-      taken-by epoch None found = nothing-drops no_segments no_syn
-      taken-by epoch (Some row) found = taken-at epoch row found row.stage refl
-
       pub taken-move : (epoch : ℕ) → Goes (front_taken p epoch)
-      taken-move epoch = taken-by epoch p.row refl
+      taken-move epoch = taken-keeps p Goes (nothing-drops no_segments no_syn) epoch (λ row n d at same. taken-row row n d epoch at.0 at.1 same)
 
       -- an Ask
       tag-none : (n epoch number : ℕ) (tags : List ℕ) → pick forward_to (map (sending Front) (tag_sent env n epoch number tags)) ≡ []
       tag-none n epoch number tags = ap (λ o. listed o ++ []) (not-forwarded n env.serve.c epoch (body.Tag number tags) (λ i. cc))
 
-      asked-by : (n epoch : ℕ) (ask : Ask) (o : Option FrontRest) → Goes (asked_by env p n epoch ask o)
-      asked-by n epoch ask None = nothing-drops no_segments no_syn
-      asked-by n epoch ask (Some rest) =
-          let l : Later = env.later ask in
+      assigns-move : (rest : FrontRest) (n epoch : ℕ) (ask : Ask) (l : Later) → Goes (Does (assigns env p rest n epoch ask l))
+      assigns-move rest n epoch ask l =
           let did : Did = assigns env p rest n epoch ask l in
-          cond_both (ask.number == rest.asks + 1) (Does did) (cond (ask.number == rest.asks && nat_lt 0 rest.asks) (Says (front_saying (tag_sent env n epoch rest.asks rest.tag))) Drops) Goes
-          (λ e. calm-move did.part did.turn [] (nothing-calm no_segments no_syn)
+          calm-move did.part did.turn [] (nothing-calm no_segments no_syn)
           (Each-append IsStill (over_note env.serve.c l.over) (assigned_notes env.serve.c ask rest.assigned ask.paths l.choices) (over-still env.serve.c l.over) (assigned-still env.serve.c ask rest.assigned ask.paths l.choices))
-          refl (tag-none n epoch ask.number _) tt (row-stays (λ e. no_syn)) known.kept)
-          (λ e. cond_both (ask.number == rest.asks && nat_lt 0 rest.asks) (Says (front_saying (tag_sent env n epoch rest.asks rest.tag))) Drops Goes
-          (λ f. nothing-says no_segments no_syn (tag_sent env n epoch rest.asks rest.tag) (tag-none n epoch rest.asks rest.tag)) (λ f. nothing-drops no_segments no_syn))
+          refl (tag-none n epoch ask.number _) tt (row-stays (λ e. no_syn)) known.kept
 
       pub asked-move : (n epoch : ℕ) (ask : Ask) → Goes (front_asked env p n epoch ask)
-      asked-move n epoch ask = cond_both (is_row_at n epoch p.row) (asked_by env p n epoch ask p.rest) Drops Goes (λ e. asked-by n epoch ask p.rest) (λ e. nothing-drops no_segments no_syn)
+      asked-move n epoch ask = asked-keeps p Goes (nothing-drops no_segments no_syn) env n epoch ask
+          (λ rest found there same some. nothing-says no_segments no_syn (tag_sent env n epoch rest.asks rest.tag) (tag-none n epoch rest.asks rest.tag)) (λ rest found there next. assigns-move rest n epoch ask (env.later ask))
 
   -- ---- an Ended comes
 
@@ -565,22 +547,7 @@ module _ (k : Setting) (x : Conn) (at_place : IsPlaced x) (known : IsKnown x) (h
     abbrev Admitted : FrontPart × FrontTurn → Type 0
     Admitted g = Goes (Does (record { part = g.0; turn = g.1; calls = [] }))
 
-    admitted-with : (row : FrontRow) (b : ControlBlock) (o : Option (List ℕ)) → p.row ≡ Some row → row.stage ≡ stage.Waiting b → front_admitted_with env row (front_rest p.rest) b choice o ≡ Some given → Admitted given
-    admitted-with row b None found at e = let no : None ≡ Some given = e in absurd cc
-    admitted-with row b (Some path) found at e =
-        let s : Service = serving b (front_rest p.rest).count [] in
-        let handed : FrontPart × FrontTurn = handed_off env row s path choice in
-        let same : handed ≡ given = cc in
-        let sits : StageSits row.epoch.0 own nodes (stage.Waiting b) = subst (StageSits row.epoch.0 own nodes) at (let q : Sits own nodes (Some row) = subst (Sits own nodes) found at_place.sits in q.0) in
-        subst Admitted same (handed-move row found (subst (StageKnown t) at (row-of row found).2) sits.0 (subst (λ (e : ℕ). ArePast e nodes) sits.0 sits.1.1) none_ended s path choice [] tt)
-
-    admitted-at : (row : FrontRow) (st : FrontConn) → p.row ≡ Some row → row.stage ≡ st → admitted_at env p choice row st ≡ Some given → Admitted given
-    admitted-at row (stage.Waiting b) found at e = admitted-with row b (front_rest p.rest).target found at e
-    admitted-at row _ found at e = let no : None ≡ Some given = e in absurd cc
-
-    admitted-by : (o : Option FrontRow) → p.row ≡ o → admitted_by env p choice o ≡ Some given → Admitted given
-    admitted-by None found e = let no : None ≡ Some given = e in absurd cc
-    admitted-by (Some row) found e = admitted-at row row.stage found refl e
-
     pub admitted-move : front_admitted env p choice ≡ Some given → Admitted given
-    admitted-move e = admitted-by p.row refl e
+    admitted-move = admitted-keeps env p choice Admitted (λ row b path at target.
+        let sits : StageSits row.epoch.0 own nodes (stage.Waiting b) = (of-stage (Sits own nodes) p row (stage.Waiting b) at at_place.sits).0 in
+        handed-move row at.0 (subst (StageKnown t) at.1 (row-of row at.0).2) sits.0 (subst (λ (e : ℕ). ArePast e nodes) sits.0 sits.1.1) none_ended (serving b (front_rest p.rest).count []) path choice [] tt) given
