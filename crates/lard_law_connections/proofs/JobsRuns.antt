@@ -77,18 +77,19 @@ told-has job [] h = absurd h
 told-has job (x ∷ xs) h = ⊎_elim (λ (e : x ≡ job). inl (ap job_told e)) (λ (k : Has job xs). inr (told-has job xs k)) h
 
 module _ (n c : ℕ) (J : List Waiting) (disk : List Job) (told : J ≡ map job_told disk) where
-  abbrev Queued : Type 0
-  Queued = (r : ℕ) × (path : List ℕ) × Has (n, c, r, path) J
+  abbrev Queued : ℕ → Type 0
+  Queued r = (path : List ℕ) × Has (n, c, r, path) J
 
-  job-queued : (e r : ℕ) → HasJob n c disk e r → Queued
+  job-queued : (e r : ℕ) → HasJob n c disk e r → Queued r
   job-queued e r h =
       let parts = and_parts (h.0.c == c && h.0.epoch.0 == e) (h.0.r == r) h.3 in
       let mine : h.0.c ≡ c = eqb-true h.0.c c (and_parts (h.0.c == c) (h.0.epoch.0 == e) parts.0).0 in
       let has : Has (job_told h.0) J = subst (Has (job_told h.0)) (sym told) (told-has h.0 disk h.1) in
-      (h.0.r, h.0.path, subst (λ (d : ℕ). Has (n, d, h.0.r, h.0.path) J) mine (subst (λ (o : ℕ). Has (o, h.0.c, h.0.r, h.0.path) J) h.2 has))
+      let one : Has (n, c, h.0.r, h.0.path) J = subst (λ (d : ℕ). Has (n, d, h.0.r, h.0.path) J) mine (subst (λ (o : ℕ). Has (o, h.0.c, h.0.r, h.0.path) J) h.2 has) in
+      (h.0.path, subst (λ (i : ℕ). Has (n, c, i, h.0.path) J) (eqb-true h.0.r r parts.1) one)
 
   part-queued : (p : NodePart) (row : BackRow) (b : ControlBlock) (s : Stay) (e : Entry) (es : List Entry) → p.row ≡ Some row → row.stage ≡ back.Here b → p.stay ≡ Some s → s.batch ≡ e ∷ es → e.progress ≡ progress.Reading
-      → PartReads n c disk p → Queued
+      → PartReads n c disk p → Queued (s.served + 1)
   part-queued p row b s e es found at stays batch first h =
       let Q : ℕ → Type 0 = HasJob n c disk row.epoch.0 in
       let of-row : StageReads Q p.stay row.stage = subst (RowReads (HasJob n c disk) p.stay) found h in

@@ -74,7 +74,7 @@ DeedGoes files e None d = IsIdle d
 DeedGoes files e (Some y) d = DeedFollows files e y.1.asks (named_paths files y.1.batch) d
 
 -- without the Ask, none is kept
-asks-left : (c e number : ℕ) (paths : List (List ℕ)) (ks : List Kept) → AsksFor c e number paths ks → without kind.Ask 0 ks ≡ []
+pub asks-left : (c e number : ℕ) (paths : List (List ℕ)) (ks : List Kept) → AsksFor c e number paths ks → without kind.Ask 0 ks ≡ []
 asks-left c e number [] ks h = ap (without kind.Ask 0) h
 asks-left c e number (path ∷ paths) ks h = ap (without kind.Ask 0) h.2
 
@@ -238,7 +238,7 @@ module _ (N : ℕ → Type 0) (env : NodeEnv) where
     is-none e back.Gone is k = k
 
     -- where it is new, nothing is kept
-    new-none : (o : Option BackRow) → RowKeeps o → offer_answer env.epoch o ≡ New → (p.kept ≡ []) × (p.fetches ≡ [])
+    pub new-none : (o : Option BackRow) → RowKeeps o → offer_answer env.epoch o ≡ New → (p.kept ≡ []) × (p.fetches ≡ [])
     new-none None k is = k
     new-none (Some row) k is = go (row.epoch.0 == env.epoch) is where
       later : (b : Bool) → (nat_lt row.epoch.0 env.epoch && is_gone row.stage) ≡ b → cond b New Stale ≡ New → (p.kept ≡ []) × (p.fetches ≡ [])

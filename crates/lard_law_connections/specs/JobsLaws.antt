@@ -1,5 +1,5 @@
 -- What is read is a job, over every run of the cluster.
-use Rattle.std.specs.Prelude.{◌≡◌, ℕ, List, Some, ◌∷◌}
+use Rattle.std.specs.Prelude.{◌≡◌, ℕ, ◌+◌, List, Some, ◌∷◌}
 use Rattle.lard_base.specs.declared.config.Config.{Config}
 use Rattle.lard_rules.specs.declared.machine.Machine.{Machine}
 use Rattle.lard_rules.specs.Machine.{IsReached}
@@ -20,12 +20,12 @@ use Rattle.lard_rules.specs.declared.stay.Stay.{Stay}
 abbrev pub ReadsAreJobs : Type 0
 ReadsAreJobs = OfEachNode (λ config files J n s. NodeReads n s)
 
--- By the journal a job for connection c, which node n serves, waits at the disk of that node.
-abbrev pub HasQueued : List Rec → ℕ → ℕ → Type 0
-HasQueued J n c = (r : ℕ) × (path : List ℕ) × Has (n, c, r, path) (jobs J n)
+-- By the journal a job for request r of connection c, which node n serves, waits at the disk of that node.
+abbrev pub HasQueued : List Rec → ℕ → ℕ → ℕ → Type 0
+HasQueued J n c r = (path : List ℕ) × Has (n, c, r, path) (jobs J n)
 
 -- Where a node has a connection, and reads the file of the first request of its batch, the journal tells a job for it.
 abbrev pub ReadsAreQueued : Type 0
 ReadsAreQueued = (config : Config) (files : List (List ℕ × List ℕ)) (m : Machine) → IsReached config files m
     → (c n : ℕ) (row : BackRow) (b : ControlBlock) (s : Stay) (e : Entry) (es : List Entry) → ((conn m c).part.nodes n).row ≡ Some row → row.stage ≡ back.Here b
-    → ((conn m c).part.nodes n).stay ≡ Some s → s.batch ≡ e ∷ es → e.progress ≡ progress.Reading → HasQueued m.journal n c
+    → ((conn m c).part.nodes n).stay ≡ Some s → s.batch ≡ e ∷ es → e.progress ≡ progress.Reading → HasQueued m.journal n c (s.served + 1)

@@ -11,7 +11,7 @@ use Rattle.lard_cache.specs.Recency.{has_path}
 use Rattle.lard_rules.specs.declared.machine.Machine.{Machine}
 use Rattle.lard_rules.specs.Bounds.{IsConnNumber}
 use Rattle.lard_rules.specs.Machine.{front_gave, front_setting, node_at, node_gave, node_setting}
-use Rattle.lard_law_view.specs.View.{Conn, IsFrontEnv, IsNodeEnv, IsViewed, Move, Rules, Was, IsForFront, IsForNode, IsUnheard, conn, node_does, packet_seen, part_of, setting_of}
+use Rattle.lard_law_view.specs.View.{Conn, IsFrontEnv, IsNodeEnv, IsViewed, Move, Rules, Was, IsForFront, IsForNode, IsForOtherNode, IsUnheard, conn, node_does, packet_seen, part_of, setting_of}
 use Rattle.lard_law_view.proofs.Ended.{ended-acts, ended-leaves}
 use Rattle.lard_law_view.proofs.FrontActs.{front-acts}
 use Rattle.lard_law_view.proofs.Fronts as fronts
@@ -77,15 +77,16 @@ module _ (m : Machine) (view : IsViewed m) (P : Conn → Move → Type 0) (R : R
       subst (λ (f : Place). IsUnheard m.config.nodes (table.get m.clients d) f l.to l.bytes) (sym is-from)
       (subst (λ (t : Place). IsUnheard m.config.nodes (table.get m.clients d) Front t l.bytes) (sym is-to) (λ msg is for. absurd (other msg is for)))
 
-  -- what another place sends to a node is of no such kind
-  else-unheard : (from : Place) (n : ℕ) → l.from ≡ from → l.to ≡ Node n → (from ≡ Front → ⊥) → IsUnheardAt m l
-  else-unheard from n is-from is-to other d named =
+  other-unheard : (i n : ℕ) → l.from ≡ Node i → l.to ≡ Node n → ((msg : Message) → decoded_message l.bytes ≡ Ok msg → IsForOtherNode (kind_of msg.body) → ⊥) → IsUnheardAt m l
+  other-unheard i n is-from is-to other d named =
       subst (λ (f : Place). IsUnheard m.config.nodes (table.get m.clients d) f l.to l.bytes) (sym is-from)
-      (subst (λ (t : Place). IsUnheard m.config.nodes (table.get m.clients d) from t l.bytes) (sym is-to) (one from other)) where
-        one : (from : Place) → (from ≡ Front → ⊥) → IsUnheard m.config.nodes (table.get m.clients d) from (Node n) l.bytes
-        one Front other = absurd (other refl)
-        one (Node i) other = tt
-        one (Client c) other = tt
+      (subst (λ (t : Place). IsUnheard m.config.nodes (table.get m.clients d) (Node i) t l.bytes) (sym is-to) (λ msg is for. absurd (other msg is for)))
+
+  -- a client sends none to a node
+  client-unheard : (c n : ℕ) → l.from ≡ Client c → l.to ≡ Node n → IsUnheardAt m l
+  client-unheard c n is-from is-to d named =
+      subst (λ (f : Place). IsUnheard m.config.nodes (table.get m.clients d) f l.to l.bytes) (sym is-from)
+      (subst (λ (t : Place). IsUnheard m.config.nodes (table.get m.clients d) (Client c) t l.bytes) (sym is-to) tt)
 
   -- one message is read alone
   of-kind : (P : Kind → Type 0) (x : Message) → decoded_message l.bytes ≡ Ok x → (P (kind_of x.body) → ⊥) → (msg : Message) → decoded_message l.bytes ≡ Ok msg → P (kind_of msg.body) → ⊥
@@ -210,10 +211,10 @@ module _ (m : Machine) (view : IsViewed m) (P : Conn → Move → Type 0) (R : R
 
         path-fetched : (r : ℕ) (path : List ℕ) (o : Option (List ℕ)) → file_at m.files path ≡ o → decoded_message l.bytes ≡ Ok (record { c = c; epoch = record { 0 = epoch }; body = body.Fetch r path })
             → Q e (node_gave m e (rec.Got k ∷ []) n (fetched (node_setting m n) s from c epoch r path o))
-        path-fetched r path None is spells = node-silent (else-unheard (Node from) n is-from is-to (λ same. cc))
+        path-fetched r path None is spells = node-silent (other-unheard from n is-from is-to (of-kind IsForOtherNode _ spells (λ for. for)))
         path-fetched r path (Some file) is spells =
             cond_both (list_any (is_for c epoch r) s.disk) (s, nothing_done) (aside s (fetched_file (node_setting m n) s from c epoch r path)) (λ (x : NodeState × Out). Q e (node_gave m e (rec.Got k ∷ []) n x))
-            (λ t. (node-silent (else-unheard (Node from) n is-from is-to (λ same. cc)))) (λ t. file-fetched r path file is spells)
+            (λ t. node-silent (other-unheard from n is-from is-to (of-kind IsForOtherNode _ spells (λ for. for)))) (λ t. file-fetched r path file is spells)
 
         -- from another node
         other-hears : (b : Body) → decoded_message l.bytes ≡ Ok (record { c = c; epoch = record { 0 = epoch }; body = b })
@@ -224,11 +225,11 @@ module _ (m : Machine) (view : IsViewed m) (P : Conn → Move → Type 0) (R : R
             let env : NodeEnv = its_env (Node from) is-from c epoch number of in
             hears (Node from) is-from c epoch number of (λ p. node_content env p from r) (nodes.content-deed env refl number (node_part s c) from r)
             (R.untouched.node.content (conn m c) n from epoch r env bytes l.bytes (is-node-env (Node from) is-from c epoch number of) spells (its-sent (Node from) is-from c epoch number of))
-        other-hears _ spells = node-silent (else-unheard (Node from) n is-from is-to (λ same. cc))
+        other-hears _ spells = node-silent (other-unheard from n is-from is-to (of-kind IsForOtherNode _ spells (λ for. for)))
 
       -- from a client, which sends none
       client-hears : (d : ℕ) → l.from ≡ Client d → (b : Body) → Q e (node_gave m e (rec.Got k ∷ []) n (node_hears (node_setting m n) s (Client d) c epoch b))
-      client-hears d is-from _ = node-silent (else-unheard (Client d) n is-from is-to (λ same. cc))
+      client-hears d is-from _ = node-silent (client-unheard d n is-from is-to)
 
     message-from : (from : Place) → l.from ≡ from → (msg : Message) → decoded_message l.bytes ≡ Ok msg
         → Q e (node_gave m e (rec.Got k ∷ []) n (node_hears (node_setting m n) s from msg.c msg.epoch.0 msg.body))
@@ -241,6 +242,6 @@ module _ (m : Machine) (view : IsViewed m) (P : Conn → Move → Type 0) (R : R
     node-message (Err fault) is = node-silent (none-said l.from refl) where
       none-said : (from : Place) → l.from ≡ from → IsUnheardAt m l
       none-said Front is-from = front-unheard n is-from is-to (no-message IsForNode fault is)
-      none-said (Node i) is-from = else-unheard (Node i) n is-from is-to (λ same. cc)
-      none-said (Client c) is-from = else-unheard (Client c) n is-from is-to (λ same. cc)
+      none-said (Node i) is-from = other-unheard i n is-from is-to (no-message IsForOtherNode fault is)
+      none-said (Client c) is-from = client-unheard c n is-from is-to
     node-message (Ok msg) is = message-from l.from refl msg is

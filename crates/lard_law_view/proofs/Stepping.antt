@@ -169,7 +169,7 @@ module _ (m : Machine) (view : IsViewed m) (P : Conn → Move → Type 0) (R : R
 
         to-none : (d : ℕ) (from : Place) → IsUnheard m.config.nodes (table.get m.clients d) from (Node i) p.bytes
         to-none d Front = λ msg is for. none
-        to-none d (Node j) = tt
+        to-none d (Node j) = λ msg is for. none
         to-none d (Client q) = tt
       node-is i (Some s) here to = node-message m view P R Q shapes k p at there i s here to (decoded_message p.bytes) refl
 

@@ -180,11 +180,17 @@ IsForFront kind.Ask = Unit {0}
 IsForFront kind.Ended = Unit {0}
 IsForFront _ = ⊥
 
+-- and a node of another one, each time: a Fetch it may pass over
+abbrev pub IsForOtherNode : Kind → Type 0
+IsForOtherNode kind.Content = Unit {0}
+IsForOtherNode _ = ⊥
+
 -- A packet that no rule hears: of a client that has not opened, to a node that is not there, or no message of a kind that is heard.
 abbrev pub IsUnheard : ℕ → Option Station → Place → Place → List ℕ → Type 0
 IsUnheard nodes station (Client d) Front bytes = station ≡ None
 IsUnheard nodes station Front (Node n) bytes = (m : Message) → decoded_message bytes ≡ Ok m → IsForNode (kind_of m.body) → is_no_node nodes n ≡ true
 IsUnheard nodes station (Node n) Front bytes = (m : Message) → decoded_message bytes ≡ Ok m → IsForFront (kind_of m.body) → ⊥
+IsUnheard nodes station (Node i) (Node n) bytes = (m : Message) → decoded_message bytes ≡ Ok m → IsForOtherNode (kind_of m.body) → is_no_node nodes n ≡ true
 IsUnheard nodes station _ _ bytes = Unit {0}
 
 -- an event is seen, and nothing else before the notes

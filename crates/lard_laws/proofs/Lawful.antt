@@ -19,6 +19,7 @@ use Rattle.lard_law_connections.proofs.OffersRuns.{offers-carry}
 use Rattle.lard_law_connections.proofs.PlacesRuns.{owners-are, senders-are}
 use Rattle.lard_law_connections.proofs.PolicyCounted.{admits-by-room, admits-to-a-node, assigns-as-stated, loads-are-charges, releases-what-it-took, servers-are-told, shares-one-batch, stays-within}
 use Rattle.lard_law_connections.proofs.ResetsRuns.{rst-follows}
+use Rattle.lard_laws.proofs.DueRuns.{journals-answer}
 use Rattle.lard_laws.proofs.QuietEnds.{journals-complete}
 use Rattle.lard_laws.proofs.RecordsThere.{only-nodes}
 use Rattle.lard_laws.proofs.SizesRuns.{batches-sized}
@@ -88,4 +89,5 @@ journals-lawful config files m checked r =
       queues = jobs-are-asked config files m small r;
       offers = offers-carry config files m small r;
       quiet = journals-complete config files m checked r;
+      due = journals-answer config files m checked r;
     }

@@ -169,4 +169,10 @@ pub mod QuietClosed
 pub mod QuietComplete
 pub mod QuietEnds
 pub mod QuietStill
+pub mod DueAnswersMoves
+pub mod DueAnswersNodes
+pub mod DueAnswersRuns
+pub mod DueReading
+pub mod DueRuns
+pub mod DueSeats
 pub mod Lawful

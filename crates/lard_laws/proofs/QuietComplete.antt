@@ -46,7 +46,7 @@ use Rattle.lard_send.specs.Send.{is_clear}
 use Rattle.lard_law_view.specs.Truth.{Stream}
 
 -- an endpoint with nothing that was read and is not answered, which has stopped
-stopped-held : (w out : Stream) (vs : List Verdict) (b : ControlBlock) (count : ℕ) → HoldsItPending w out vs [] b count → HasStopped b → one.HoldsIt w out vs b count
+pub stopped-held : (w out : Stream) (vs : List Verdict) (b : ControlBlock) (count : ℕ) → HoldsItPending w out vs [] b count → HasStopped b → one.HoldsIt w out vs b count
 stopped-held w out vs b count h stopped = record {
   counted = h.counted;
   not_reset = h.not_reset;

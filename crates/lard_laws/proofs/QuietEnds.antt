@@ -1,5 +1,5 @@
 -- At the end of each step a connection that is quiet, by the journal, is complete or in the line.
-use Rattle.std.proofs.Common.{◌≡◌, ◌⊎◌, ◌<◌, ◌≤◌, ◌==◌, ◌||◌, ℕ, Bool, true, false, List, [], ◌∷◌, length, Option, Some, None, Ok, inl, inr, ⊎_elim, refl, ap, ◌∙◌, subst, arith, eqb-true}
+use Rattle.std.proofs.Common.{◌≡◌, ◌⊎◌, ◌<◌, ◌≤◌, ◌+◌, ◌==◌, ◌||◌, ℕ, Bool, true, false, List, [], ◌∷◌, length, Option, Some, None, Ok, inl, inr, ⊎_elim, refl, ap, ◌∙◌, subst, arith, eqb-true}
 use Rattle.std.proofs.lemmas.Bool.{both_ways}
 use Rattle.std.specs.FinMap as table
 use Rattle.std.specs.List.{list_any}
@@ -64,7 +64,7 @@ has-job n c r path (x ∷ xs) h = ⊎_elim
 
 module _ (config : Config) (files : List (List ℕ × List ℕ)) (checked : config_check config ≡ Ok tt) (m : Machine) (r : IsReached config files m) (c : ℕ) where
   -- where it waits at the front end
-  waits-for-room : IsWaiting (conn m c) → IsInLine config m.journal c
+  pub waits-for-room : IsWaiting (conn m c) → IsInLine config m.journal c
   unfolding conn part_of
   waits-for-room (row, b, found, at) =
       let place : DispatchStanding = dispatch_standing m.front.dispatch c in
@@ -79,14 +79,14 @@ module _ (config : Config) (files : List (List ℕ × List ℕ)) (checked : conf
   -- where its next request awaits a disk
   disk-has : AwaitsADisk (conn m c) → HasNoJob m.journal c → ⊥
   disk-has (n, row, b, s, e, es, found, at, stays, batch, first) none =
-      let queued : HasQueued m.journal n c = reads-are-queued config files m r c n row b s e es found at stays batch first in
-      both_ways (list_any (reads_for c) (jobs m.journal n)) (none n) (has-job n c queued.0 queued.1 (jobs m.journal n) queued.2)
+      let queued : HasQueued m.journal n c (s.served + 1) = reads-are-queued config files m r c n row b s e es found at stays batch first in
+      both_ways (list_any (reads_for c) (jobs m.journal n)) (none n) (has-job n c (s.served + 1) queued.0 (jobs m.journal n) queued.1)
 
-  opened : (o : Option Station) → table.get m.clients c ≡ o → IsSome (numbers_of m.journal c) → ClientStands c o (client_tale (tale m.journal c)) → (s : Station) × (table.get m.clients c ≡ Some s)
+  pub opened : (o : Option Station) → table.get m.clients c ≡ o → IsSome (numbers_of m.journal c) → ClientStands c o (client_tale (tale m.journal c)) → (s : Station) × (table.get m.clients c ≡ Some s)
   opened None is some stands = absurd (both_ways false refl (subst IsSome (numbers-tale m.journal c ∙ stands.numbers) some))
   opened (Some s) is some stands = (s, is)
 
-  small : config.stream ≤ MAX_STREAM_BYTES
+  pub small : config.stream ≤ MAX_STREAM_BYTES
   small = (usable config checked).stream
 
 pub quiet-complete : (config : Config) (files : List (List ℕ × List ℕ)) → config_check config ≡ Ok tt → (m : Machine) → IsReached config files m → QuietIsCompleteOrInLine config (file_at files) m.journal

@@ -16,6 +16,7 @@ use Rattle.lard_law_connections.specs.Offers.{CarryTheEndpoint}
 use Rattle.lard_law_connections.specs.ResetsLaws.{SendsRstBehindResets}
 use Rattle.lard_law_connections.specs.PolicyLaws.{AreLoadsCharged, ArePaired, AreServersTold, MayAdmit, MayAssign, MayRelease, MayShare, Nothing, last_record}
 use Rattle.lard_counts.specs.Ledger.{Ledger, ledger_admitted, ledger}
+use Rattle.lard_laws.specs.Due.{AnswersWhatIsDue}
 use Rattle.lard_laws.specs.Quiet.{CompletesWhenQuiet}
 use Rattle.lard_laws.specs.RecordsMessages.{MayBeThere}
 use Rattle.lard_laws.specs.Sizes.{MustSize}
@@ -120,6 +121,8 @@ pub record IsLawful (config : Config) (files : FilesAt) (J : List Rec) : Type 0 
   pub offers : CarryTheEndpoint files J
   -- a connection on which nothing more is to come is complete, or in the line
   pub quiet : CompletesWhenQuiet config files J
+  -- at the end of each step the next response to what was acknowledged is not due, so none that would pass the stream limit is
+  pub due : AnswersWhatIsDue config files J
 
 -- in every state that events lead to, with a configuration that may be used
 abbrev pub JournalsAreLawful : Type 0

@@ -38,4 +38,6 @@ pub mod WindowsWords
 pub mod Quiet
 pub mod QuietRests
 pub mod QuietStill
+pub mod Due
+pub mod DueAnswers
 pub mod Lawful

@@ -10,6 +10,8 @@ ghost use Rattle.lard_laws.specs.AcksLaws.{ConnectionsAckWhatWasTaken};
 ghost use Rattle.lard_laws.specs.AsksRuns.{AsksAreAnswered, AsksGoOnInSteps, BatchesEndInSteps};
 ghost use Rattle.lard_laws.specs.BackingRuns.{JobsAreAsked, JobsStartWhenTold, JournalsNameRequests, PlacesAnswer, ResponsesAreBacked};
 ghost use Rattle.lard_laws.specs.ClientsLaws.{ClientsKeepTheirTables, ClientsTakeInOrder, WritersAreLawful};
+ghost use Rattle.lard_laws.specs.Due.{JournalsAnswerWhatIsDue};
+ghost use Rattle.lard_laws.specs.DueAnswers.{ConnectionsAwaitAnswers};
 ghost use Rattle.lard_laws.specs.EndedLaws.{ConnectionsWereClosed};
 ghost use Rattle.lard_laws.specs.HomesLaws.{ConnectionsHaveOneHome};
 ghost use Rattle.lard_laws.specs.Lawful.{JournalsAreLawful};
@@ -301,6 +303,24 @@ pub fn quiet_connections_are_complete_or_are_held_up()
 /// as many are admitted as there is room for. The same are left out.
 pub fn quiet_connections_are_complete_or_in_line()
     ensures { JournalsComplete }
+{}
+
+/// In every state that events lead to, and also of a connection that the schedule touched: what a node asked for and has not got was
+/// sent, and no answer came behind that. Where requests of a batch have no node yet, the last Ask of the stay names them, and no Tag
+/// with its number and a node for each of its paths came to the node behind it; and for each Fetch that it keeps no Content came there
+/// from the node that it asked.
+pub fn what_is_awaited_has_not_come()
+    ensures { ConnectionsAwaitAnswers }
+{}
+
+/// In every run of the cluster's machine whose configuration may be used, at the end of each step and by the journal alone: where the
+/// cluster acknowledged more requests of a client than it answered, the next response is not due, however long it is. Where a place
+/// has the connection, that request is for a file. At the front end something that was sent is not acknowledged yet, or the connection
+/// is in the line; at a node an Ask awaits its Tag, a job waits at the disk, or a Fetch awaits its Content. While nobody has it, its
+/// Offer or its Ended is told on. Left out is a connection that its client aborted, the stream limit reset, or the schedule touched:
+/// so a reset stands wherever it has to (RFC 9112, 9.3.2).
+pub fn no_response_is_due_at_the_end_of_a_step()
+    ensures { JournalsAnswerWhatIsDue }
 {}
 
 /// In every run of the cluster's machine, whatever is lost, repeated or comes out of order, and wherever connections move, the
