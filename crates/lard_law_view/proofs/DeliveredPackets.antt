@@ -1,15 +1,15 @@
 -- From the move of one connection to the records of its step: the packet that came is the one that was delivered last.
-use Rattle.std.proofs.Common.{◌≡◌, ◌⊎◌, ⊎_elim, ℕ, ◌+◌, List, [], ◌∷◌, ◌++◌, length, false, Option, Some, None, refl, sym, ap, ◌∙◌, subst}
+use Rattle.std.proofs.Common.{◌≡◌, ◌⊎◌, ⊎_elim, ℕ, ◌+◌, List, [], ◌∷◌, ◌++◌, length, Option, Some, None, refl, sym, ap, ◌∙◌, subst}
 use Rattle.std.proofs.lemmas.List.Sums.{fold-append}
 use Rattle.lard_base.specs.declared.event.Event.{Event}
 use Rattle.lard_base.specs.declared.event.Event.TheVariants as event
 use Rattle.lard_base.specs.declared.place.Place.{Place}
-use Rattle.lard_history.specs.Journal.{Tale, accepted, accepted_step, is_touched, numbers_of, numbers_step, tale_step, touched_step}
+use Rattle.lard_history.specs.Journal.{Tale, accepted, accepted_step, numbers_of, numbers_step, tale_step}
 use Rattle.lard_history.specs.Laws.{EachMay}
 use Rattle.lard_history.specs.Own.{Letter, Seen, Came, letter_of, net_of, net_step, own, tale_of}
 use Rattle.lard_history.proofs.Each.{Each}
 use Rattle.lard_history.proofs.Lifting.{tale-own}
-use Rattle.lard_history.proofs.Tales.{accepted-tale, numbers-tale, touched-tale}
+use Rattle.lard_history.proofs.Tales.{accepted-tale, numbers-tale}
 use Rattle.lard_journal.specs.declared.rec.Rec.{Rec}
 use Rattle.lard_journal.specs.declared.rec.Rec.TheVariants as rec
 use Rattle.lard_law_view.specs.Taking.{Gets, MayTake, got_step, last_got}
@@ -52,7 +52,6 @@ module _ (c k : ℕ) (net : List Packet) (p : Packet) (at : packet_at net k ≡ 
     packets : net_of J ≡ net
     numbers : numbers_of J c ≡ t.numbers
     taken : accepted J c ≡ t.accepted
-    touched : is_touched J c ≡ t.touched
 
   more : (J : List Rec) (t : Tale) (r : Rec) → ((last : Option ℕ) → got_step last r ≡ last) → ((ps : List Packet) → net_step ps r ≡ ps) → Stage J t → Stage (J ++ r ∷ []) (tale_step c t r)
   more J t r still keeps s = record {
@@ -60,7 +59,6 @@ module _ (c k : ℕ) (net : List Packet) (p : Packet) (at : packet_at net k ≡ 
     packets = fold-append net_step [] J (r ∷ []) ∙ keeps (net_of J) ∙ s.packets;
     numbers = fold-append (numbers_step c) None J (r ∷ []) ∙ ap (λ n. numbers_step c n r) s.numbers;
     taken = fold-append (accepted_step c) [] J (r ∷ []) ∙ ap (λ l. accepted_step c l r) s.taken;
-    touched = fold-append (touched_step c) false J (r ∷ []) ∙ ap (λ b. touched_step c b r) s.touched;
   }
 
   abbrev gets : (J : List Rec) (t : Tale) → Stage J t → GetsBy (letter_of p) c t → Gets J c
@@ -83,12 +81,12 @@ module _ (c k : ℕ) (net : List Packet) (p : Packet) (at : packet_at net k ≡ 
   takes-all J t [] s m = tt
   takes-all J t (rec.Accepted d bytes ∷ rs) s m = (
     subst (λ (q : ℕ). MayTake J (rec.Accepted q bytes)) (sym m.0.0)
-        (λ u. let y = m.0.1 (sym s.touched ∙ u) in (gets J t s y.0, y.1, next J t s y.0.numbers.iss (seq_add y.0.said.seq y.1) y.2, y.3, y.4)),
+        (let y = m.0.1 in (gets J t s y.0, y.1, next J t s y.0.numbers.iss (seq_add y.0.said.seq y.1) y.2, y.3, y.4)),
     takes-all (J ++ rec.Accepted d bytes ∷ []) (tale_step c t (rec.Accepted d bytes)) rs (more J t (rec.Accepted d bytes) (λ last. refl) (λ ps. refl) s) m.1,
   )
   takes-all J t (rec.Eof d ∷ rs) s m = (
     subst (λ (q : ℕ). MayTake J (rec.Eof q)) (sym m.0.0)
-        (λ u. let y = m.0.1 (sym s.touched ∙ u) in (gets J t s y.0, y.1, next J t s y.0.numbers.iss (seq_add y.0.said.seq (length y.0.said.payload)) y.2)),
+        (let y = m.0.1 in (gets J t s y.0, y.1, next J t s y.0.numbers.iss (seq_add y.0.said.seq (length y.0.said.payload)) y.2)),
     takes-all (J ++ rec.Eof d ∷ []) (tale_step c t (rec.Eof d)) rs (more J t (rec.Eof d) (λ last. refl) (λ ps. refl) s) m.1,
   )
   takes-all J t (_ ∷ rs) s m = absurd m.0
@@ -106,7 +104,6 @@ module _ (J : List Rec) (net : List Packet) (told : net_of J ≡ net) (i : ℕ) 
         packets = fold-append net_step [] J rs ∙ told;
         numbers = fold-append (numbers_step c) None J rs ∙ numbers-tale J c ∙ ap (λ (t : Tale). t.numbers) (tale-own J c);
         taken = fold-append (accepted_step c) [] J rs ∙ accepted-tale J c ∙ ap (λ (t : Tale). t.accepted) (tale-own J c);
-        touched = fold-append (touched_step c) false J rs ∙ touched-tale J c ∙ ap (λ (t : Tale). t.touched) (tale-own J c);
       }
 
   -- the notes of a connection that moves

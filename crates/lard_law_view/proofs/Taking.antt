@@ -1,30 +1,29 @@
 -- What a connection takes in a move: of the packet that came in it.
-use Rattle.std.proofs.Common.{◌≡◌, ℕ, ◌+◌, ◌<◌, ◌≤◌, ◌^◌, List, [], ◌∷◌, ◌++◌, length, take, drop, Bool, true, false, cond, nat_lt, Some, ◌⊎◌, Result, Ok, Err, refl, sym, ap, ◌∙◌, subst, arith, length-append, length-take, length-drop}
+use Rattle.std.proofs.Common.{◌≡◌, ℕ, ◌+◌, ◌<◌, ◌≤◌, ◌^◌, List, [], ◌∷◌, ◌++◌, length, take, drop, true, false, cond, nat_lt, Some, ◌⊎◌, Result, Ok, Err, refl, sym, ap, ◌∙◌, subst, arith, length-append, length-take, length-drop}
 use Rattle.std.proofs.lemmas.Bool.{cond_both, ltb-false, ltb-true}
 use Rattle.lard_arrival.specs.Arrival.{IsPartAt}
 use Rattle.lard_base.specs.declared.place.Place.{Place}
 use Rattle.lard_base.specs.declared.place.Place.TheVariants.{Client}
 use Rattle.lard_client.specs.declared.heard.Heard.{Heard}
 use Rattle.lard_client.specs.Arriving.{client_arrived}
-use Rattle.lard_client.specs.Control.{ClientBlock, is_writing, client_written}
+use Rattle.lard_client.specs.Control.{ClientBlock, is_established, is_writing, client_written}
 use Rattle.lard_client.proofs.Accepted.{arrived-order}
-use Rattle.lard_history.specs.Journal.{Numbers, Tale, tale_step}
+use Rattle.lard_history.specs.Journal.{Numbers, Tale, tale_step, told_on}
 use Rattle.lard_history.specs.Own.{Letter, Seen, Came}
 use Rattle.lard_history.proofs.Each.{Each}
 use Rattle.lard_history.proofs.Seeing.{same_number}
 use Rattle.lard_journal.specs.declared.rec.Rec.{Rec}
 use Rattle.lard_journal.specs.declared.rec.Rec.TheVariants as rec
-use Rattle.lard_law_view.specs.Agreement.{ClientAgrees, IsReply}
-use Rattle.lard_law_view.proofs.ClientAlike.{arrived-alike}
+use Rattle.lard_law_view.proofs.ClientAlike.{arrived-alike, emit-alike}
 use Rattle.lard_law_view.proofs.ClientHears.{Takes, end-number, next-number, takes-established}
 use Rattle.lard_rules.specs.declared.places.Turn.{Turn}
 use Rattle.lard_rules.specs.Client.{accepted_note, client_gets, client_writes, eof_note, silent, speaking}
-use Rattle.lard_segment.proofs.Again.{again}
+use Rattle.lard_rules.specs.Speaking.{client_speaks}
+use Rattle.lard_rules.proofs.Loops.{client_keeps}
 use Rattle.lard_segment.specs.declared.fault.SegFault.{SegFault}
 use Rattle.lard_segment.specs.declared.segment.Dir.TheVariants.{ToClient}
-use Rattle.lard_segment.specs.Segment.{Said, decoded, spelled}
+use Rattle.lard_segment.specs.Segment.{Said, decoded}
 use Rattle.lard_seq.specs.Seq.{one_if, seq_add}
-use Rattle.lard_law_view.specs.Truth.{Stream}
 use Rattle.lard_law_view.specs.WhileUntouched.{TellsBy}
 
 -- The segment that client c got, where this packet came and this is told of c.
@@ -38,9 +37,9 @@ pub record GetsBy (l : Letter) (c : ℕ) (t : Tale) : Type 0 where
 -- A record of client c takes of it what comes next.
 abbrev pub TakesBy : Letter → ℕ → Tale → Rec → Type 0
 TakesBy l c t (rec.Accepted d bytes) = (d ≡ c)
-    × (t.touched ≡ false → (g : GetsBy l c t) × (from : ℕ) × (seq_add g.said.seq from ≡ seq_add g.numbers.iss (1 + length t.accepted)) × IsPartAt from bytes g.said.payload × (0 < length bytes))
+    × ((g : GetsBy l c t) × (from : ℕ) × (seq_add g.said.seq from ≡ seq_add g.numbers.iss (1 + length t.accepted)) × IsPartAt from bytes g.said.payload × (0 < length bytes))
 TakesBy l c t (rec.Eof d) = (d ≡ c)
-    × (t.touched ≡ false → (g : GetsBy l c t) × (g.said.flags.fin ≡ true) × (seq_add g.said.seq (length g.said.payload) ≡ seq_add g.numbers.iss (1 + length t.accepted)))
+    × ((g : GetsBy l c t) × (g.said.flags.fin ≡ true) × (seq_add g.said.seq (length g.said.payload) ≡ seq_add g.numbers.iss (1 + length t.accepted)))
 TakesBy l c t _ = ⊥
 
 abbrev pub TakesNothing : Rec → Type 0
@@ -52,19 +51,22 @@ TakesNothing _ = Unit {0}
 abbrev pub TakesOf : ℕ → Tale → List Seen → List Rec → Type 0
 TakesOf c t heads notes = Each TakesNothing notes ⊎ ((l : Letter) × (heads ≡ Came l ∷ []) × TellsBy (TakesBy l c) c t notes)
 
--- ---- what is known of an untouched connection
+-- ---- what is known where a packet comes
 
--- Its client and the journal agree, and what came is true.
+-- The client counts what it is told to have accepted, from the first number with which the cluster's side was opened; and the
+-- packet's segment has a number of 32 bits.
 pub record Knows (c : ℕ) (x : ClientBlock) (t : Tale) (bytes : List ℕ) : Type 0 where
-  pub w : Stream
-  pub out : Stream
-  pub was_reset : Bool
-  pub client : ClientAgrees c w out x
-  pub numbers : t.numbers ≡ Some (record { isn = w.first; iss = out.first })
-  pub accepted : t.accepted ≡ take x.accepted out.bytes
-  pub true_of : (s : Said) × (bytes ≡ spelled c ToClient s) × IsReply w out was_reset s
+  pub numbers : Numbers
+  pub opened : t.numbers ≡ Some numbers
+  pub irs : is_established x ≡ true → x.send.irs ≡ numbers.iss
+  pub counted : length t.accepted ≡ x.accepted
+  pub fits : (s : Said) → decoded bytes c ToClient ≡ Ok s → s.seq < 2 ^ 32
 
 -- ---- what a client hears
+
+-- it accepts nothing while it speaks
+pub speaks-counts : (x : ClientBlock) → (client_speaks x).1.accepted ≡ x.accepted
+speaks-counts x = client_keeps (λ x ss y. y.accepted ≡ x.accepted) (record { rests = λ x. refl; says = λ x r ss y e later. later ∙ (emit-alike x).1 }) x
 
 -- where a part is cut from
 part-at : (from n : ℕ) (all : List ℕ) → from + n ≤ length all → IsPartAt from (take n (drop from all)) all
@@ -72,7 +74,7 @@ part-at from n all fits =
     let size : length (take n (drop from all)) ≡ n = omega (arith, length-take n (drop from all), length-drop from all) in
     record { within = omega (arith, size, fits); same = ap (λ k. take k (drop from all)) size }
 
-module _ (c : ℕ) (st : ClientBlock) (told : Tale) (from_ : Place) (bytes : List ℕ) (given : told.touched ≡ false → Knows c st told bytes) (number : st.c ≡ c) where
+module _ (c : ℕ) (st : ClientBlock) (told : Tale) (from_ : Place) (bytes : List ℕ) (h : Knows c st told bytes) (number : st.c ≡ c) where
   abbrev packet : Letter
   packet = record { from = from_; to = Client c; bytes = bytes }
 
@@ -83,52 +85,35 @@ module _ (c : ℕ) (st : ClientBlock) (told : Tale) (from_ : Place) (bytes : Lis
     abbrev part : List ℕ
     part = take heard.len (drop heard.from s.payload)
 
-    -- its number is one, since it is true
-    fits : told.touched ≡ false → s.seq < 2 ^ 32
-    fits u =
-        let f = (given u).true_of in
-        let both : ◌≡◌ {A = Result Said SegFault} (Ok f.0) (Ok s) = sym (ap (λ (l : List ℕ). decoded l c ToClient) f.1 ∙ again c ToClient f.0 f.2.sendable) ∙ is in
-        let same : f.0 ≡ s = cc in
-        subst (λ (z : Said). z.seq < 2 ^ 32) same f.2.sendable.seq_fits
+    fits : s.seq < 2 ^ 32
+    fits = h.fits s is
 
     -- the segment
-    abbrev got : (t : Tale) → Knows c st told bytes → t.numbers ≡ told.numbers → GetsBy packet c t
-    got t h same = record {
-      goal = refl;
-      said = s;
-      decodes = is;
-      numbers = record { isn = h.w.first; iss = h.out.first };
-      opened = same ∙ h.numbers;
-    }
+    abbrev got : (t : Tale) → t.numbers ≡ told.numbers → GetsBy packet c t
+    got t same = record { goal = refl; said = s; decodes = is; numbers = h.numbers; opened = same ∙ h.opened }
 
     -- a number counted from the cluster's SYN, as the client counts it, is the next one
-    next : (h : Knows c st told bytes) (t : Tale) (count seq : ℕ) → length t.accepted ≡ count → Takes heard → seq ≡ seq_add st.send.irs (1 + count) → seq ≡ seq_add h.out.first (1 + length t.accepted)
-    next h t count seq counted some same =
-        same ∙ ap (λ (n : ℕ). seq_add n (1 + count)) (h.client.accepts.first (takes-established st s some)) ∙ ap (λ (n : ℕ). seq_add h.out.first (1 + n)) (sym counted)
+    next : (t : Tale) (count seq : ℕ) → length t.accepted ≡ count → Takes heard → seq ≡ seq_add st.send.irs (1 + count) → seq ≡ seq_add h.numbers.iss (1 + length t.accepted)
+    next t count seq counted some same =
+        same ∙ ap (λ (n : ℕ). seq_add n (1 + count)) (h.irs (takes-established st s some)) ∙ ap (λ (n : ℕ). seq_add h.numbers.iss (1 + n)) (sym counted)
 
-    first : Knows c st told bytes → length told.accepted ≡ st.accepted
-    first h = let within = h.client.accepts.within in ap (λ (l : List ℕ). length l) h.accepted ∙ omega (arith, length-take st.accepted h.out.bytes, within)
-
-    size : told.touched ≡ false → length part ≡ heard.len
-    size u =
-        let within = (arrived-order st s (fits u)).within in
+    size : length part ≡ heard.len
+    size =
+        let within = (arrived-order st s fits).within in
         omega (arith, length-take heard.len (drop heard.from s.payload), length-drop heard.from s.payload, within)
 
-    ends : (t : Tale) → t.touched ≡ told.touched → t.numbers ≡ told.numbers → (told.touched ≡ false → length t.accepted ≡ st.accepted + heard.len)
-        → TellsBy (TakesBy packet c) c t (eof_note c heard)
-    ends t same numbers count = cond_both heard.eof (rec.Eof c ∷ []) [] (TellsBy (TakesBy packet c) c t)
-        (λ e. (
-          (
-            refl,
-            λ v.
-                let u : told.touched ≡ false = sym same ∙ v in
-                let h : Knows c st told bytes = given u in
-                let some : Takes heard = subst (λ b. 0 < heard.len + one_if b) (sym e) (omega arith) in (
-                  got t h numbers,
-                  (arrived-order st s (fits u)).ended e,
-                  next h t (st.accepted + heard.len) (seq_add s.seq (length s.payload)) (count u) some (end-number st s (fits u) some e),
-                ),
-          ),
+    -- behind what it accepted
+    abbrev accepted_on : Tale
+    accepted_on = tale_step c told (rec.Accepted c part)
+
+    more : length accepted_on.accepted ≡ st.accepted + heard.len
+    more = ap (λ b. length (cond b (told.accepted ++ part) told.accepted)) (same_number c) ∙ length-append told.accepted part ∙ (λ i. h.counted i + size i)
+
+    ends : (t : Tale) → t.numbers ≡ told.numbers → length t.accepted ≡ st.accepted + heard.len → TellsBy (TakesBy packet c) c t (eof_note c heard)
+    ends t numbers count = cond_both heard.eof (rec.Eof c ∷ []) [] (TellsBy (TakesBy packet c) c t)
+        (λ e.
+        let some : Takes heard = subst (λ b. 0 < heard.len + one_if b) (sym e) (omega arith) in (
+          (refl, (got t numbers, (arrived-order st s fits).ended e, next t (st.accepted + heard.len) (seq_add s.seq (length s.payload)) count some (end-number st s fits some e))),
           tt,
         ))
         (λ e. tt)
@@ -138,31 +123,45 @@ module _ (c : ℕ) (st : ClientBlock) (told : Tale) (from_ : Place) (bytes : Lis
       some-bytes : nat_lt 0 heard.len ≡ true → TellsBy (TakesBy packet c) c told (rec.Accepted c part ∷ eof_note c heard)
       some-bytes e =
           let less : 0 < heard.len = ltb-true 0 heard.len e in
-          let some : Takes heard = omega (arith, less) in
-          let t : Tale = tale_step c told (rec.Accepted c part) in
-          let more : length t.accepted ≡ length told.accepted + length part =
-          ap (λ b. length (cond b (told.accepted ++ part) told.accepted)) (same_number c) ∙ length-append told.accepted part in (
+          let some : Takes heard = omega (arith, less) in (
             (
               refl,
-              λ u.
-                  let h : Knows c st told bytes = given u in (
-                    got told h refl,
-                    heard.from,
-                    next h told st.accepted (seq_add s.seq heard.from) (first h) some (next-number st s (fits u) some),
-                    part-at heard.from heard.len s.payload (arrived-order st s (fits u)).within,
-                    subst (λ n. 0 < n) (sym (size u)) less,
-                  ),
+              (
+                got told refl,
+                heard.from,
+                next told st.accepted (seq_add s.seq heard.from) h.counted some (next-number st s fits some),
+                part-at heard.from heard.len s.payload (arrived-order st s fits).within,
+                subst (λ n. 0 < n) (sym size) less,
+              ),
             ),
-            ends t refl refl (λ u. more ∙ (λ i. first (given u) i + size u i)),
+            ends accepted_on refl more,
           )
 
       no-bytes : nat_lt 0 heard.len ≡ false → TellsBy (TakesBy packet c) c told (eof_note c heard)
-      no-bytes e = let none : heard.len ≡ 0 = omega (arith, ltb-false 0 heard.len e) in ends told refl refl (λ u. first (given u) ∙ omega (arith, none))
+      no-bytes e = let none : heard.len ≡ 0 = omega (arith, ltb-false 0 heard.len e) in ends told refl (h.counted ∙ omega (arith, none))
+
+    -- and so it counts on
+    heard-counts : length (told_on c told (accepted_note c heard s.payload ++ eof_note c heard)).accepted ≡ st.accepted + heard.len
+    heard-counts = cond_both (nat_lt 0 heard.len) (rec.Accepted c part ∷ []) [] (λ (rs : List Rec). length (told_on c told (rs ++ eof_note c heard)).accepted ≡ st.accepted + heard.len)
+        (λ e. still accepted_on ∙ more)
+        (λ e. let none : heard.len ≡ 0 = omega (arith, ltb-false 0 heard.len e) in still told ∙ h.counted ∙ omega (arith, none))
+      where
+        still : (t : Tale) → length (told_on c t (eof_note c heard)).accepted ≡ length t.accepted
+        still t = cond_both heard.eof (rec.Eof c ∷ []) [] (λ (rs : List Rec). length (told_on c t rs).accepted ≡ length t.accepted) (λ e. refl) (λ e. refl)
+
+  same-client : (s : Said) → (client_arrived st s).1.c ≡ c
+  same-client s = (arrived-alike st s).0 ∙ number
 
   pub hears : (r : Result Said SegFault) → decoded bytes c ToClient ≡ r → TellsBy (TakesBy packet c) c told (client_gets st r).1.notes
   hears (Err fault) is = tt
-  hears (Ok s) is = subst (λ d. TellsBy (TakesBy packet c) c told (accepted_note d (client_arrived st s).0 s.payload ++ eof_note d (client_arrived st s).0))
-      (sym ((arrived-alike st s).0 ∙ number)) (heard-takes s is)
+  hears (Ok s) is = subst (λ d. TellsBy (TakesBy packet c) c told (accepted_note d (client_arrived st s).0 s.payload ++ eof_note d (client_arrived st s).0)) (sym (same-client s)) (heard-takes s is)
+
+  -- what it is told to have accepted then, it counts
+  pub hears-counts : (r : Result Said SegFault) → decoded bytes c ToClient ≡ r → length (told_on c told (client_gets st r).1.notes).accepted ≡ (client_gets st r).0.accepted
+  hears-counts (Err fault) is = h.counted
+  hears-counts (Ok s) is =
+      subst (λ d. length (told_on c told (accepted_note d (client_arrived st s).0 s.payload ++ eof_note d (client_arrived st s).0)).accepted ≡ st.accepted + (client_arrived st s).0.len) (sym (same-client s)) (heard-counts s is)
+      ∙ sym (speaks-counts (client_arrived st s).1 ∙ (arrived-order st s (fits s is)).counted)
 
 -- ---- each rule
 

@@ -1,9 +1,9 @@
 -- What a client takes, in words of the journal.
-use Rattle.std.specs.Prelude.{◌≡◌, ℕ, ◌+◌, ◌<◌, false, true, List, [], length, Option, Some, None, Ok}
+use Rattle.std.specs.Prelude.{◌≡◌, ℕ, ◌+◌, ◌<◌, true, List, [], length, Option, Some, None, Ok}
 use Rattle.std.specs.List.{fold}
 use Rattle.lard_arrival.specs.Arrival.{IsPartAt}
 use Rattle.lard_base.specs.declared.place.Place.TheVariants.{Client}
-use Rattle.lard_history.specs.Journal.{Numbers, accepted, is_touched, numbers_of}
+use Rattle.lard_history.specs.Journal.{Numbers, accepted, numbers_of}
 use Rattle.lard_history.specs.Laws.{EachMay}
 use Rattle.lard_history.specs.Own.{net_of}
 use Rattle.lard_journal.specs.declared.rec.Rec.{Rec}
@@ -40,13 +40,10 @@ abbrev pub IsNext : List Rec → ℕ → Numbers → ℕ → Type 0
 IsNext past c numbers seq = seq ≡ seq_add numbers.iss (1 + length (accepted past c))
 
 -- A client accepts bytes of the segment that it got, at least one, and those that follow directly behind all that it
--- accepted before. It takes the end of its stream from a segment with FIN, where all data of the segment is accepted. So
--- it is as long as the schedule did not touch its connection.
+-- accepted before. It takes the end of its stream from a segment with FIN, where all data of the segment is accepted.
 abbrev pub MayTake : List Rec → Rec → Type 0
-MayTake past (rec.Accepted c bytes) =
-    is_touched past c ≡ false → (g : Gets past c) × (from : ℕ) × IsNext past c g.numbers (seq_add g.said.seq from) × IsPartAt from bytes g.said.payload × (0 < length bytes)
-MayTake past (rec.Eof c) =
-    is_touched past c ≡ false → (g : Gets past c) × (g.said.flags.fin ≡ true) × IsNext past c g.numbers (seq_add g.said.seq (length g.said.payload))
+MayTake past (rec.Accepted c bytes) = (g : Gets past c) × (from : ℕ) × IsNext past c g.numbers (seq_add g.said.seq from) × IsPartAt from bytes g.said.payload × (0 < length bytes)
+MayTake past (rec.Eof c) = (g : Gets past c) × (g.said.flags.fin ≡ true) × IsNext past c g.numbers (seq_add g.said.seq (length g.said.payload))
 MayTake past _ = Unit {0}
 
 abbrev pub TakesInOrder : List Rec → Type 0

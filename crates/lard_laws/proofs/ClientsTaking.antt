@@ -1,46 +1,43 @@
 -- What clients take in a step: of the packet that came in it, wherever it was sent.
-use Rattle.std.proofs.Common.{◌≡◌, ℕ, ◌+◌, List, [], ◌∷◌, ◌++◌, map, length, false, Some, Ok, inl, inr, ⊎_elim, refl, sym, ap, ◌∙◌, subst}
+use Rattle.std.proofs.Common.{◌≡◌, ℕ, ◌+◌, List, [], ◌∷◌, ◌++◌, map, length, Ok, inl, inr, ⊎_elim, refl, sym, ap, ◌∙◌, subst}
 use Rattle.std.specs.Prelude.{◌⊎◌}
-use Rattle.lard_answers.specs.Answers.{FilesAt}
 use Rattle.lard_base.specs.declared.event.Event.{Event}
 use Rattle.lard_base.specs.declared.event.Event.TheVariants as event
 use Rattle.lard_base.specs.declared.place.Place.{Place}
 use Rattle.lard_base.specs.declared.place.Place.TheVariants.{Front, Node, Client}
 use Rattle.lard_rules.specs.declared.machine.Machine.{Machine}
 use Rattle.lard_rules.specs.Bounds.{HasRule}
-use Rattle.lard_rules.specs.Machine.{machine_step}
-use Rattle.lard_law_connections.specs.BytesAgreement.{IsFair, IsFairOn, IsOpen, IsTruthful}
-use Rattle.lard_law_connections.specs.BytesRuns.{StatesAreTruthful}
-use Rattle.lard_law_connections.proofs.BytesClientMoves.{has-fair, open-at, was-between}
+use Rattle.lard_rules.specs.Machine.{IsReached, machine_step}
+use Rattle.lard_law_connections.proofs.BytesClientMoves.{was-between}
+use Rattle.lard_laws.specs.ClientsFirsts.{CountsTaken, HasOneFirst, StandsAsTold}
 use Rattle.lard_laws.specs.ClientsLaws.{ClientsTakeInOrder}
 use Rattle.lard_laws.proofs.ClientsAsides.{IsOfMachine, note-machine}
-use Rattle.lard_law_view.specs.Carry.{Untouched, setting, tale_at}
-use Rattle.lard_law_view.specs.View.{Conn, GoesBetween, IsMachine, IsConnSound, IsViewed, Move, Part, Rules, Setting, Was, conn, part_of, timer_rows}
+use Rattle.lard_laws.proofs.ClientsBegins.{one-first}
+use Rattle.lard_laws.proofs.ClientsCounts.{counts-taken, packet-known}
+use Rattle.lard_laws.proofs.ClientsWriters.{stand-as-told}
+use Rattle.lard_law_view.specs.Carry.{tale_at}
+use Rattle.lard_law_view.specs.View.{Conn, GoesBetween, IsMachine, IsViewed, Move, Part, Rules, Setting, conn, part_of, setting_of, timer_rows}
 use Rattle.lard_law_view.proofs.AnyShape.{SomeGift, SomeNote, SomeTimer}
 use Rattle.lard_law_view.proofs.Acts.{ActsAlone, ActsMany, IsPassing, IsStepOf, Moves, said_rows, step_acts}
-use Rattle.lard_law_view.proofs.Carried.{IsOn, carried-keep, on-setting}
+use Rattle.lard_law_view.proofs.Carried.{IsOn, carried-keep}
 use Rattle.lard_law_view.proofs.Fine.{IsFine, fine}
 use Rattle.lard_law_view.proofs.Guarded.{both}
 use Rattle.lard_law_view.proofs.Frames.{Owed, fronts-leave, nodes-leave}
 use Rattle.lard_law_view.proofs.Saying.{GaveAt, NamesAll, NotedAt, notes-all}
 use Rattle.lard_law_view.proofs.Timers.{IsTimerAt, timer_rows-are}
-use Rattle.lard_files.specs.Files.{file_at}
 use Rattle.lard_history.specs.Journal.{request}
 use Rattle.lard_history.specs.Laws.{EachMay}
-use Rattle.lard_history.specs.Own.{Letter, Row}
+use Rattle.lard_history.specs.Own.{Row}
 use Rattle.lard_history.proofs.Each.{Each, Each-weaker, each_append}
 use Rattle.lard_journal.specs.declared.rec.Rec.{Rec}
 use Rattle.lard_journal.specs.declared.rec.Rec.TheVariants as rec
-use Rattle.lard_law_view.specs.Agreement.{IsReply}
-use Rattle.lard_law_view.specs.Truthful.{Talk}
 use Rattle.lard_law_view.specs.Taking.{MayTake, TakesInOrder}
 use Rattle.lard_law_view.proofs.DeliveredPackets.{all-may, behind-nothing, notes-may, sents-nothing}
-use Rattle.lard_law_view.proofs.Taking.{Knows, TakesNothing, TakesOf, hears, writes-pass}
+use Rattle.lard_law_view.proofs.Taking.{TakesNothing, TakesOf, hears, writes-pass}
 use Rattle.lard_rules.specs.Sent.{packets_of, sent_records}
 use Rattle.lard_rules.specs.declared.places.Out.{Out}
-use Rattle.lard_rules.specs.declared.places.Station.{Station}
 use Rattle.lard_segment.specs.declared.segment.Dir.TheVariants.{ToClient}
-use Rattle.lard_segment.specs.Segment.{Said, decoded, spelled}
+use Rattle.lard_segment.specs.Segment.{decoded}
 use Rattle.lard_law_view.proofs.OwnRecords.{behind}
 
 -- ---- records that take nothing
@@ -71,33 +68,15 @@ timers-nothing place c p q = Each-weaker (IsTimerAt place c) TakesNothing (timer
 
 -- ---- what a rule owes
 
+-- what is known of a connection
+record IsKnown (x : Conn) : Type 0 where
+  first : HasOneFirst x
+  told : StandsAsTold x
+  counts : CountsTaken x
+
 -- A machine acts, or the connection's client, whose notes take of the packet that came.
-abbrev Takes : FilesAt → Conn → Move → Type 0
-Takes files x v = Untouched (IsTruthful files) x → IsMachine v.place ⊎ ((v.place ≡ Client x.c) × TakesOf x.c (tale_at x) v.heads v.said.notes)
-
--- a packet of the cluster to the client is true
-fair-reply : (k : Talk) (c : ℕ) (p : Part) (from : Place) (bytes : List ℕ) → GoesBetween c from (Client c) bytes → IsFairOn k c p from (Client c) bytes
-    → (s : Said) × (bytes ≡ spelled c ToClient s) × IsReply k.w k.out k.was_reset s
-fair-reply k c p Front bytes goes f = f
-fair-reply k c p (Node n) bytes goes f = f
-fair-reply k c p (Client d) bytes goes f = absurd goes
-
--- while it is untouched, a connection agrees
-open-knows : (files : FilesAt) (x : Conn) (s : Station) (from : Place) (bytes : List ℕ) → x.part.station ≡ Some s → IsConnSound x → Was x from (Client x.c) bytes → Untouched (IsTruthful files) x
-    → (tale_at x).touched ≡ false → Knows x.c s.client (tale_at x) bytes
-open-knows files x s from bytes there sound was given u =
-    let h : IsTruthful files x = given u in
-    let o : IsOpen files x h.talk h.pend s = open-at files x s there h in
-    let l : Letter = record { from = from; to = Client x.c; bytes = bytes } in
-    record {
-      w = h.talk.w;
-      out = h.talk.out;
-      was_reset = h.talk.was_reset;
-      client = o.client;
-      numbers = o.tale.numbers;
-      accepted = o.tale.accepted_is;
-      true_of = fair-reply h.talk x.c x.part from bytes (was-between x from (Client x.c) bytes sound was) (has-fair (IsFair h.talk x.c x.part) l x.letters was o.fair);
-    }
+abbrev Takes : Conn → Move → Type 0
+Takes x v = IsKnown x → IsMachine v.place ⊎ ((v.place ≡ Client x.c) × TakesOf x.c (tale_at x) v.heads v.said.notes)
 
 ignores-takes : (c : ℕ) (from to : Place) (bytes : List ℕ) → GoesBetween c from to bytes → IsMachine to ⊎ (to ≡ Client c)
 ignores-takes c from Front bytes h = inl tt
@@ -106,7 +85,7 @@ ignores-takes c Front (Client d) bytes h = inr (ap Client h)
 ignores-takes c (Node n) (Client d) bytes h = inr (ap Client h)
 ignores-takes c (Client e) (Client d) bytes h = absurd h
 
-owing : (k : Setting) → Rules k (Owed (Takes k.files))
+owing : (k : Setting) → Rules k (Owed Takes)
 owing k = record {
   untouched = record {
     client = record {
@@ -123,12 +102,12 @@ owing k = record {
         inr (
           record { from = from; to = Client x.c; bytes = bytes },
           refl,
-          hears x.c s.client (tale_at x) from bytes (open-knows k.files x s from bytes there sound was given) (sound.client s there) (decoded bytes x.c ToClient) refl,
+          hears x.c s.client (tale_at x) from bytes (packet-known x s from bytes there sound was given.first given.told given.counts) (sound.client s there) (decoded bytes x.c ToClient) refl,
         ),
       );
     };
-    front = fronts-leave k (Takes k.files) (λ x v at own number sound given. inl at.machine);
-    node = nodes-leave k (Takes k.files) (λ x v at own number sound given. inl at.machine);
+    front = fronts-leave k Takes (λ x v at own number sound given. inl at.machine);
+    node = nodes-leave k Takes (λ x v at own number sound given. inl at.machine);
     ignores = λ x from to bytes was number sound given. ⊎_elim (λ (m : IsMachine to). inl m) (λ (e : to ≡ Client x.c). inr (e, inl tt)) (ignores-takes x.c from to bytes (was-between x from to bytes sound was.0));
   };
   injects = λ x s bytes there rule number sound given. inr (refl, inl tt);
@@ -146,9 +125,9 @@ rows-same (x ∷ xs) (y ∷ ys) e =
     let later : map Row xs ≡ map Row ys = cc in
     λ i. first i ∷ rows-same xs ys later i
 
-module _ (files : FilesAt) (m : Machine) (view : IsViewed m) (truthful : (q : ℕ) → Untouched (IsTruthful files) (conn m q)) (e : Event) (adds : List Rec) where
+module _ (m : Machine) (view : IsViewed m) (known : (q : ℕ) → IsKnown (conn m q)) (e : Event) (adds : List Rec) where
   abbrev P : Conn → Move → Type 0
-  P x v = Owed (Takes files) x v × IsFine x v
+  P x v = Owed Takes x v × IsFine x v
 
   abbrev begun : List Rec
   begun = rec.Event (m.events + 1) e ∷ behind e
@@ -164,7 +143,7 @@ module _ (files : FilesAt) (m : Machine) (view : IsViewed m) (truthful : (q : �
       let names : NamesAll move.place = subst NamesAll (sym t.0) tt in
       let same : noted ≡ move.said.notes = rows-same noted move.said.notes (sym (notes-all move.place c [] noted names a.notes) ∙ a.seen []) in
       subst (EachMay MayTake (m.journal ++ begun)) (sym same) (notes-may m.journal m.net view.told (m.events + 1) e c move.heads move.said.notes a.came t.1))
-      (a.does.0 a.number (view.sound c) (truthful c))
+      (a.does.0 a.number (view.sound c) (known c))
 
   -- what a move gives up
   gave-take : (c : ℕ) (move : Move) (noted : List Rec) → Moves P m e c move noted → Each TakesNothing move.said.gave
@@ -214,14 +193,16 @@ module _ (files : FilesAt) (m : Machine) (view : IsViewed m) (truthful : (q : �
 
 -- ---- every run
 
-taking : (k : Setting) → Rules k (λ x v. Owed (Takes k.files) x v × IsFine x v)
-taking k = both k (Owed (Takes k.files)) IsFine (owing k) (fine k)
+taking : (k : Setting) → Rules k (λ x v. Owed Takes x v × IsFine x v)
+taking k = both k (Owed Takes) IsFine (owing k) (fine k)
 
-pub clients-take : StatesAreTruthful → ClientsTakeInOrder
-clients-take truthful config files m small r = carried-keep config files (λ k. TakesInOrder k.journal) tt step m r where
+pub clients-take : ClientsTakeInOrder
+clients-take config files m r = carried-keep config files (λ k. TakesInOrder k.journal) tt step m r where
+  known : (k : Machine) → IsReached config files k → (q : ℕ) → IsKnown (conn k q)
+  known k r q = record { first = one-first config files k r q; told = stand-as-told config files k r q; counts = counts-taken config files k r q }
+
   step : (k n : Machine) (e : Event) → IsOn config files k → TakesInOrder k.journal → HasRule e → machine_step k e ≡ Ok n → TakesInOrder n.journal
   step k n e on h rule is =
-      let Q : Conn → Move → Type 0 = λ x v. Owed (Takes (file_at files)) x v × IsFine x v in
-      let s : IsStepOf Q k n e = step_acts k n e Q on.view (subst (λ (w : Setting). Rules w Q) (on-setting config files k on) (taking (setting config files))) rule is in
-      subst TakesInOrder (sym s.journal)
-      (each_append MayTake [] k.journal (rec.Event (k.events + 1) e ∷ s.adds) h (step-takes (file_at files) k on.view (λ q. truthful config files small k on.reached q) e s.adds s.acts))
+      let Q : Conn → Move → Type 0 = λ x v. Owed Takes x v × IsFine x v in
+      let s : IsStepOf Q k n e = step_acts k n e Q on.view (taking (setting_of k)) rule is in
+      subst TakesInOrder (sym s.journal) (each_append MayTake [] k.journal (rec.Event (k.events + 1) e ∷ s.adds) h (step-takes k on.view (known k on.reached) e s.adds s.acts))

@@ -12,9 +12,10 @@ use Rattle.lard_base.specs.declared.place.Place.TheVariants.{Client}
 use Rattle.lard_client.specs.Control.{ClientBlock}
 use Rattle.lard_rules.specs.declared.machine.Machine.{Machine}
 use Rattle.lard_rules.specs.Machine.{IsReached}
+use Rattle.lard_laws.specs.ClientsFirsts.{StandsAsTold}
 use Rattle.lard_laws.specs.ClientsLaws.{WritersAreLawful}
 use Rattle.lard_laws.proofs.ClientsAsides.{IsOfMachine, rows-machine, same-station}
-use Rattle.lard_law_view.specs.Carry.{IsLaw, MayRestOn, TellsBy, setting, tale_at}
+use Rattle.lard_law_view.specs.Carry.{IsLaw, MayRestOn, OfEach, TellsBy, setting, tale_at}
 use Rattle.lard_law_view.specs.View.{Conn, Move, Rules, Setting, client_begins, client_does, conn, event_seen, grown, inject_seen, nothing_said, packet_seen, part_of, rows_of, seen_in, sending, stands, timer_rows}
 use Rattle.lard_law_view.proofs.Carried.{carried}
 use Rattle.lard_law_view.proofs.Fine.{IsItsOwn}
@@ -146,18 +147,33 @@ quiet-may c past [] e = tt
 quiet-may c past (Row r ∷ ss) e = (not-wrote c (tale_of c past) r e.0.1, quiet-may c (past ++ Row r ∷ []) ss e.1)
 quiet-may c past (Came l ∷ ss) e = quiet-may c (past ++ Came l ∷ []) ss e.1
 
+-- so it is of a move
+quiet-told : (x : Conn) (v : Move) → Each (IsQuiet x.c) (seen_in x v) → client_tale (tale_at (grown x v)) ≡ client_tale (tale_at x)
+quiet-told x v quiet = ap client_tale (fold-append (seen_step (tale_step x.c)) untold x.seen (seen_in x v)) ∙ quiet-tale x.c (tale_at x) (seen_in x v) quiet
+
 quiet-keeps : (x : Conn) (v : Move) → v.part.station ≡ x.part.station → Each (IsQuiet x.c) (seen_in x v) → Keeps x v
-quiet-keeps x v same quiet h =
-    let told : client_tale (tale_at (grown x v)) ≡ client_tale (tale_at x) = ap client_tale (fold-append (seen_step (tale_step x.c)) untold x.seen (seen_in x v)) ∙ quiet-tale x.c (tale_at x) (seen_in x v) quiet in
-    record {
-      client = subst (λ (t : ClientTale). ClientStands x.c v.part.station t) (sym told) (subst (λ (o : Option Station). ClientStands x.c o (client_tale (tale_at x))) (sym same) h.client);
-      lawful = each_row-append (May x.c) [] x.seen (seen_in x v) h.lawful (quiet-may x.c x.seen (seen_in x v) quiet);
-    }
+quiet-keeps x v same quiet h = record {
+  client = subst (λ (t : ClientTale). ClientStands x.c v.part.station t) (sym (quiet-told x v quiet)) (subst (λ (o : Option Station). ClientStands x.c o (client_tale (tale_at x))) (sym same) h.client);
+  lawful = each_row-append (May x.c) [] x.seen (seen_in x v) h.lawful (quiet-may x.c x.seen (seen_in x v) quiet);
+}
+
+machine-quiet-all : (x : Conn) (v : Move) → IsAtMachine x v → IsItsOwn x v → Each (IsQuiet x.c) (seen_in x v)
+machine-quiet-all x v at own = Each-append (IsQuiet x.c) v.heads (map Row (rows_of x v)) (Each-weaker (IsHeadAt v.place x.c) (IsQuiet x.c) (head-quiet v.place x.c) v.heads at.heads)
+    (rows-quiet x.c (rows_of x v) (rows-machine x v at.machine own))
+
+-- where nothing is done
+nothing-quiet : (x : Conn) (from to : Place) (bytes : List ℕ) → Each (IsQuiet x.c) (seen_in x (stands x to (packet_seen from to bytes) nothing_said))
+nothing-quiet x from to bytes = (tt, subst (λ (rs : List Rec). Each (IsQuiet x.c) (map Row rs)) (sym (timer_rows-same to x.c x.part)) tt)
 
 machine-keeps : (x : Conn) (v : Move) → IsAtMachine x v → IsItsOwn x v → Keeps x v
-machine-keeps x v at own = quiet-keeps x v (same-station v.place x.part v.part at.machine at.keeps)
-    (Each-append (IsQuiet x.c) v.heads (map Row (rows_of x v)) (Each-weaker (IsHeadAt v.place x.c) (IsQuiet x.c) (head-quiet v.place x.c) v.heads at.heads)
-    (rows-quiet x.c (rows_of x v) (rows-machine x v at.machine own)))
+machine-keeps x v at own = quiet-keeps x v (same-station v.place x.part v.part at.machine at.keeps) (machine-quiet-all x v at own)
+
+-- a machine's move tells nothing of the client, and nor does a packet that nobody hears
+pub machine-told : (x : Conn) (v : Move) → IsAtMachine x v → IsItsOwn x v → client_tale (tale_at (grown x v)) ≡ client_tale (tale_at x)
+machine-told x v at own = quiet-told x v (machine-quiet-all x v at own)
+
+pub nothing-told : (x : Conn) (from to : Place) (bytes : List ℕ) → client_tale (tale_at (grown x (stands x to (packet_seen from to bytes) nothing_said))) ≡ client_tale (tale_at x)
+nothing-told x from to bytes = quiet-told x (stands x to (packet_seen from to bytes) nothing_said) (nothing-quiet x from to bytes)
 
 -- ---- a client acts
 
@@ -233,8 +249,7 @@ keeping k = record {
     };
     front = fronts-leave k Keeps (λ x v at own number sound h. machine-keeps x v at own h);
     node = nodes-leave k Keeps (λ x v at own number sound h. machine-keeps x v at own h);
-    ignores = λ x from to bytes was number sound h. quiet-keeps x (stands x to (packet_seen from to bytes) nothing_said) refl
-        (tt, subst (λ (rs : List Rec). Each (IsQuiet x.c) (map Row rs)) (sym (timer_rows-same to x.c x.part)) tt) h;
+    ignores = λ x from to bytes was number sound h. quiet-keeps x (stands x to (packet_seen from to bytes) nothing_said) refl (nothing-quiet x from to bytes) h;
   };
   injects = λ x s bytes there rule number sound h. injects-keeps k x h s there bytes;
 }
@@ -254,8 +269,11 @@ unfolding conn
 writers-are config files m r = carried-records config files MayWrite May wrote-nobody wrote-somebody
     (λ n s q. (carried config files Anything StandsOpen (standing (setting config files)) (λ m r q. tt) n s q).lawful) m r
 
+-- each client stands as its tale tells
+pub stand-as-told : (config : Config) (files : List (List ℕ × List ℕ)) → OfEach config files StandsAsTold
+stand-as-told config files m r q = (carried config files Anything StandsOpen (standing (setting config files)) (λ n s p. tt) m r q).client
+
 -- what is kept of each client fits what is told of it
 pub clients-stand : (config : Config) (files : List (List ℕ × List ℕ)) (m : Machine) → IsReached config files m → (c : ℕ) → ClientStands c (table.get m.clients c) (client_tale (tale m.journal c))
 unfolding conn part_of
-clients-stand config files m r c = subst (λ (t : Tale). ClientStands c (table.get m.clients c) (client_tale t)) (sym (tale-own m.journal c))
-    (carried config files Anything StandsOpen (standing (setting config files)) (λ n s q. tt) m r c).client
+clients-stand config files m r c = subst (λ (t : Tale). ClientStands c (table.get m.clients c) (client_tale t)) (sym (tale-own m.journal c)) (stand-as-told config files m r c)

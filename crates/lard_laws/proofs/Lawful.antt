@@ -6,7 +6,7 @@ use Rattle.lard_laws.proofs.AsksAsking.{asks-go-on}
 use Rattle.lard_laws.proofs.AsksRuns.{asks-answered, batches-end}
 use Rattle.lard_laws.proofs.BackingQueuing.{jobs-are-asked}
 use Rattle.lard_laws.proofs.BackingRuns.{home-answers, jobs-start, requests-named, responses-backed}
-use Rattle.lard_law_connections.proofs.BytesRuns.{clients-accept, journals-serve, journals-tell, states-truthful}
+use Rattle.lard_law_connections.proofs.BytesRuns.{clients-accept, journals-serve, journals-tell}
 use Rattle.lard_laws.proofs.ClientsTables.{clients-keep}
 use Rattle.lard_laws.proofs.ClientsTaking.{clients-take}
 use Rattle.lard_laws.proofs.ClientsWriters.{writers-are}
@@ -46,7 +46,7 @@ journals-lawful config files m checked r =
       sole_sender = senders-are config files m r;
       motion = connections-move config files m r;
       writers = writers-are config files m r;
-      takers = clients-take states-truthful config files m small r;
+      takers = clients-take config files m r;
       tables = clients-keep config files m r;
       timers = timers-change config files m r;
       tells = journals-tell config files m small r;

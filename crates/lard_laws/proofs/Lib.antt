@@ -22,6 +22,10 @@ pub mod StepsTimers
 pub mod ClientsAsides
 pub mod ClientsTables
 pub mod ClientsWriters
+pub mod ClientsTelling
+pub mod ClientsFirsts
+pub mod ClientsBegins
+pub mod ClientsCounts
 pub mod ClientsTaking
 pub mod RecordsNamed
 pub mod RecordsLetters

@@ -13,15 +13,15 @@ use Rattle.lard_law_connections.specs.SilencePlaces.{FrontHas, FrontStageHas}
 use Rattle.lard_law_view.specs.Carry.{IsLaw, MayRestOn, setting}
 use Rattle.lard_law_view.specs.View.{AreSent, ClientRules, Conn, FrontRules, IsFrontEnv, Move, NodeRules, Rules, Setting, brought_said, client_begins, client_does, content_said, event_seen, front_does, grown, letter, inject_seen, letters_of, node_does, nothing_said, packet_seen, stands}
 use Rattle.lard_law_view.proofs.Carried.{carried}
+use Rattle.lard_laws.proofs.ClientsTelling as telling
+use Rattle.lard_laws.proofs.ClientsTelling.{DeedTells}
 use Rattle.lard_laws.specs.WindowsLaws.{ForwardsComeFromClients}
 use Rattle.lard_laws.specs.Windows.{AnyBlock}
 use Rattle.lard_laws.specs.WindowsWords.{ForwardWas, ForwardWasOn, ForwardsWere}
-use Rattle.lard_dispatch.specs.declared.dispatch.Ask.{Ask}
-use Rattle.lard_endpoint.specs.declared.control.moving.Final.{Final}
 use Rattle.lard_endpoint.specs.Control.{ControlBlock}
-use Rattle.lard_rules.specs.declared.front.FrontTurn.{FrontTurn}
+use Rattle.lard_endpoint.specs.Moving.{parts_of}
 use Rattle.lard_rules.specs.Front as front
-use Rattle.lard_rules.specs.Front.{FrontDeed, Drops, Says, Does, FrontEnv, FrontPart, ask_of, front_admitted, front_asked, front_ended, front_gets, front_taken, front_timer, handed_off, message, front_rest}
+use Rattle.lard_rules.specs.Front.{FrontDeed, Drops, Says, Does, FrontEnv, ask_of, front_asked, front_ended, front_gets, front_taken, front_timer, message}
 use Rattle.lard_handoff_front.specs.declared.row.FrontConn.{FrontConn}
 use Rattle.lard_handoff_front.specs.declared.row.FrontConn.TheVariants as stage
 use Rattle.lard_handoff_front.specs.declared.row.FrontRow.{FrontRow}
@@ -38,15 +38,13 @@ use Rattle.lard_message.specs.Message.{kind_of}
 use Rattle.lard_message.specs.Reading.{decoded_message}
 use Rattle.lard_rules.specs.Node as node
 use Rattle.lard_rules.specs.Node.{node_acknowledged, node_content, node_forwarded, node_offered, node_read, node_tagged, node_timer}
-use Rattle.lard_policy.specs.declared.first.FirstChoice.{FirstChoice}
 use Rattle.lard_resend.specs.declared.kept.Kept.{Kept}
 use Rattle.lard_resend.specs.Pending.{sent_of}
 use Rattle.lard_rules.specs.Client.{client_aborts, client_gets, client_holds, client_injects, client_opens, client_shuts, client_takes, client_timer, client_writes}
-use Rattle.lard_rules.specs.Serving.{Service, ServeEnv, serving}
+use Rattle.lard_rules.specs.Serving.{ServeEnv}
 use Rattle.lard_segment.specs.declared.fault.SegFault.{SegFault}
 use Rattle.lard_segment.specs.declared.segment.Dir.TheVariants.{ToClient, ToCluster}
 use Rattle.lard_segment.specs.Segment.{Said, decoded}
-use Rattle.lard_rules.proofs.FrontCases.{KeptBySegment, segment-keeps, timer-keeps, taken-keeps, asked-keeps, ended-keeps, admitted-keeps}
 
 -- ---- letters
 
@@ -63,51 +61,13 @@ module _ (c : ℕ) (ls : List Letter) where
   forward-was : (c' e : ℕ) (bytes : List ℕ) → Has (record { from = Client c; to = Front; bytes = bytes }) ls → MessageWas (message c' e (body.Forward bytes))
   forward-was c' e bytes has m segment d is = subst (λ (b : List ℕ). Has (record { from = Client c; to = Front; bytes = b }) ls) (sym (forwards-read c' e bytes segment m d is)) has
 
-  abbrev Sent : List (Place × List ℕ) → Type 0
-  Sent ms = Each (λ (p : Place × List ℕ). ForwardWasOn c ls Front p.0 p.1) ms
-
-  abbrev pub DeedWas : FrontDeed → Type 0
-  DeedWas Drops = Unit {0}
-  DeedWas (Says turn) = Sent turn.messages
-  DeedWas (Does did) = Sent did.turn.messages
-
-  -- ---- the front end's deeds
-
-  module _ (env : FrontEnv) (p : FrontPart) where
-    offer-was : (row : FrontRow) (w : Service) (path : List ℕ) (choice : FirstChoice) → Sent (handed_off env row w path choice).1.messages
-    offer-was row w path choice = (other-was _ _ _ (λ e. cc), tt)
-
-    by-segment : (bytes : List ℕ) (s : Said) → Has (record { from = Client c; to = Front; bytes = bytes }) ls → KeptBySegment env p bytes s (λ w o. Unit {0}) DeedWas
-    by-segment bytes s has = record {
-      drops = tt;
-      begins = λ none plain. tt;
-      reads = λ row b at. tt;
-      holds = λ row b w at r. tt;
-      hands = λ row b w path choice at r is. offer-was row w path choice;
-      waits = λ row b w path at r is. tt;
-      stays = λ row b at. tt;
-      forwards = λ row n e at. (forward-was env.serve.c e.0 bytes has, tt);
-      words = λ row last at. tt;
-    }
-
-    pub gets-was : (bytes : List ℕ) (r : Result Said SegFault) → Has (record { from = Client c; to = Front; bytes = bytes }) ls → DeedWas (front_gets env p bytes r)
-    gets-was bytes (Err fault) has = tt
-    gets-was bytes (Ok s) has = segment-keeps env p bytes s (λ w o. Unit {0}) DeedWas (by-segment bytes s has)
-
-    pub fires-was : Sent (map sent_of p.kept) → DeedWas (front_timer env p)
-    fires-was h = timer-keeps env p DeedWas (record { drops = tt; holds = λ row b at. tt; stays = λ row b at. tt; resends = λ row n e at. h })
-
-    pub asked-was : (n epoch : ℕ) (ask : Ask) → DeedWas (front_asked env p n epoch ask)
-    asked-was n epoch ask = asked-keeps p DeedWas tt env n epoch ask (λ rest found there same some. (other-was _ _ _ (λ e. cc), tt)) (λ rest found there next. (other-was _ _ _ (λ e. cc), tt))
-
-    pub ended-was : (n epoch : ℕ) (last : Final) → DeedWas (front_ended env p n epoch last)
-    ended-was n epoch last = ended-keeps p DeedWas tt env n epoch last (λ row found away again. (other-was _ _ _ (λ e. cc), tt)) (λ row found away. (other-was _ _ _ (λ e. cc), tt))
-
-    pub taken-was : (epoch : ℕ) → DeedWas (front_taken p epoch)
-    taken-was epoch = taken-keeps p DeedWas tt epoch (λ row n e at same. tt)
-
-    pub admitted-was : (choice : FirstChoice) (given : FrontPart × FrontTurn) → front_admitted env p choice ≡ Some given → Sent given.1.messages
-    admitted-was choice = admitted-keeps env p choice (λ g. Sent g.1.messages) (λ row b path at target. offer-was row (serving b (front_rest p.rest).count []) path choice)
+  -- of each message that the front end makes
+  forwards-tell : (d : ℕ) → telling.TellsEach (λ to bytes. ForwardWasOn c ls Front to bytes) d AnyBlock
+  forwards-tell d = record {
+    offers = λ n e count b h. other-was d e (body.Offer (parts_of b count)) (λ f. let no : kind.Offer ≡ kind.Forward = f in cc);
+    tags = λ n e number nodes. other-was d e (body.Tag number nodes) (λ f. let no : kind.Tag ≡ kind.Forward = f in cc);
+    acks = λ n e. other-was d e body.EndedAck (λ f. let no : kind.EndedAck ≡ kind.Forward = f in cc);
+  }
 
 -- ---- segments go to the client
 
@@ -170,7 +130,7 @@ module _ (k : Setting) where
   from-front x ls [] h = tt
   from-front x ls (p ∷ ps) h = (h.0, from-front x ls ps h.1)
 
-  front-rule : (x : Conn) (heads : List Seen) (d : FrontDeed) → (R : ControlBlock → Type 0) → fronts.DeedHas R AnyReply x.c d → ((ls : List Letter) → ((l : Letter) → Has l x.letters → Has l ls) → DeedWas x.c ls d) → Keeps x (front_does x heads d)
+  front-rule : (x : Conn) (heads : List Seen) (d : FrontDeed) → (R : ControlBlock → Type 0) → fronts.DeedHas R AnyReply x.c d → ((ls : List Letter) → ((l : Letter) → Has l x.letters → Has l ls) → DeedTells (λ to bytes. ForwardWasOn x.c ls Front to bytes) d) → Keeps x (front_does x heads d)
   front-rule x heads Drops R told was may h = grows x (front_does x heads Drops) tt h
   front-rule x heads (Says turn) R told was may h =
       let v : Move = front_does x heads (Says turn) in
@@ -201,19 +161,22 @@ module _ (k : Setting) where
   front-rules = record {
     hears = λ x s env bytes there is iss was. front-rule x (packet_seen (Client x.c) Front bytes) (front_gets env x.part.front bytes (decoded bytes x.c ToCluster)) AnyBlock
         (own-number x env is (front_gets env x.part.front bytes (decoded bytes x.c ToCluster)) (gets-told x env bytes (decoded bytes x.c ToCluster)))
-        (λ ls goes. gets-was x.c ls env x.part.front bytes (decoded bytes x.c ToCluster) (goes (record { from = Client x.c; to = Front; bytes = bytes }) was));
+        (λ ls goes. telling.gets-tells (λ to bytes. ForwardWasOn x.c ls Front to bytes) env AnyBlock (forwards-tell x.c ls env.serve.c) x.part.front (any-front x.part.front.row) AnyReply (any-kept env.serve) bytes
+        (λ n e. forward-was x.c ls env.serve.c e bytes (goes (record { from = Client x.c; to = Front; bytes = bytes }) was)) (decoded bytes x.c ToCluster));
     fires = λ x s env there is may h. front-rule x (event_seen (event.Timer Front x.c)) (front_timer env x.part.front) AnyBlock
         (own-number x env is (front_timer env x.part.front) (fronts.timer-has env AnyBlock AnyBlock Anything AnyReply (any-kept env.serve) x.part.front (any-front x.part.front.row)))
-        (λ ls goes. fires-was x.c ls env x.part.front (kept-were x ls goes h x.part.front.kept may.sound.front)) may h;
+        (λ ls goes. telling.timer-tells (λ to bytes. ForwardWasOn x.c ls Front to bytes) env AnyBlock (forwards-tell x.c ls env.serve.c) x.part.front (kept-were x ls goes h x.part.front.kept may.sound.front)) may h;
     taken = λ x env n epoch bytes is spells was. front-rule x (packet_seen (Node n) Front bytes) (front_taken x.part.front epoch) AnyBlock
-        (fronts.taken-has AnyBlock AnyReply x.c x.part.front epoch) (λ ls goes. taken-was x.c ls env x.part.front epoch);
+        (fronts.taken-has AnyBlock AnyReply x.c x.part.front epoch) (λ ls goes. telling.taken-tells (λ to bytes. ForwardWasOn x.c ls Front to bytes) env AnyBlock (forwards-tell x.c ls env.serve.c) x.part.front epoch);
     asked = λ x env n epoch number queue size paths bytes is spells was. front-rule x (packet_seen (Node n) Front bytes) (front_asked env x.part.front n epoch (ask_of x.c n number queue size paths)) AnyBlock
-        (fronts.asked-has AnyBlock AnyReply x.c x.part.front (any-front x.part.front.row) env n epoch (ask_of x.c n number queue size paths)) (λ ls goes. asked-was x.c ls env x.part.front n epoch (ask_of x.c n number queue size paths));
+        (fronts.asked-has AnyBlock AnyReply x.c x.part.front (any-front x.part.front.row) env n epoch (ask_of x.c n number queue size paths))
+        (λ ls goes. telling.asked-tells (λ to bytes. ForwardWasOn x.c ls Front to bytes) env AnyBlock (forwards-tell x.c ls env.serve.c) x.part.front n epoch (ask_of x.c n number queue size paths));
     ended = λ x env n epoch reason snd rcv count bytes is spells was. front-rule x (packet_seen (Node n) Front bytes) (front_ended env x.part.front n epoch (record { reason = reason; snd = record { 0 = snd }; rcv = record { 0 = rcv } })) AnyBlock
         (fronts.ended-has AnyBlock AnyReply x.c x.part.front env n epoch (record { reason = reason; snd = record { 0 = snd }; rcv = record { 0 = rcv } }))
-        (λ ls goes. ended-was x.c ls env x.part.front n epoch (record { reason = reason; snd = record { 0 = snd }; rcv = record { 0 = rcv } }));
+        (λ ls goes. telling.ended-tells (λ to bytes. ForwardWasOn x.c ls Front to bytes) env AnyBlock (forwards-tell x.c ls env.serve.c) x.part.front n epoch (record { reason = reason; snd = record { 0 = snd }; rcv = record { 0 = rcv } }));
     admitted = λ x env choice given is e. front-rule x [] (front.Does (record { part = given.0; turn = given.1; calls = [] })) AnyBlock
-        (fronts.admitted-has AnyBlock AnyReply x.c x.part.front env choice given e) (λ ls goes. admitted-was x.c ls env x.part.front choice given e);
+        (fronts.admitted-has AnyBlock AnyReply x.c x.part.front env choice given e)
+        (λ ls goes. telling.admitted-tells (λ to bytes. ForwardWasOn x.c ls Front to bytes) env AnyBlock (forwards-tell x.c ls env.serve.c) x.part.front (any-front x.part.front.row) choice given e);
   }
 
   -- ---- no other place forwards

@@ -1,7 +1,6 @@
 -- What clients do in every run of the cluster's machine.
-use Rattle.std.specs.Prelude.{ℕ, ◌≤◌, List}
+use Rattle.std.specs.Prelude.{ℕ, List}
 use Rattle.lard_base.specs.declared.config.Config.{Config}
-use Rattle.lard_base.specs.declared.limits.TheConstants.{MAX_STREAM_BYTES}
 use Rattle.lard_rules.specs.declared.machine.Machine.{Machine}
 use Rattle.lard_rules.specs.Machine.{IsReached}
 use Rattle.lard_history.specs.Laws.{WritesWhileOpen}
@@ -19,4 +18,4 @@ WritersAreLawful = (config : Config) (files : List (List ℕ × List ℕ)) (m : 
 
 -- A client accepts what follows directly behind all that it accepted before, of the segment that it got.
 abbrev pub ClientsTakeInOrder : Type 0
-ClientsTakeInOrder = (config : Config) (files : List (List ℕ × List ℕ)) (m : Machine) → config.stream ≤ MAX_STREAM_BYTES → IsReached config files m → TakesInOrder m.journal
+ClientsTakeInOrder = (config : Config) (files : List (List ℕ × List ℕ)) (m : Machine) → IsReached config files m → TakesInOrder m.journal

@@ -5,6 +5,7 @@ pub mod AsksRuns
 pub mod StepsLaws
 pub mod StepsTimers
 pub mod ClientsLaws
+pub mod ClientsFirsts
 pub mod Records
 pub mod RecordsMessages
 pub mod RecordsDisks

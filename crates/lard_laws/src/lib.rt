@@ -31,8 +31,6 @@ ghost use Rattle.lard_laws.specs.WaysContents.{ContentsAreFiles};
 ghost use Rattle.lard_laws.specs.WaysRuns.{AsksNameTheNext, ContentsComeAsAssigned, JournalsAssignAPrefix, JournalsAssignInOrder};
 ghost use Rattle.lard_laws.specs.WindowsLaws.{ClientsStart, ForwardsComeFromClients, OpenClientsSentTheirSyn, RefusalsAnswer, WindowsReach, WordsFit};
 
-use lard_law_connections::every_run_is_true;
-
 /// In every run of the cluster's machine, and also of a connection that the schedule touched, whatever is lost, repeated or
 /// comes out of order. While the front end has given a connection up, an Ask that comes from the connection's node with its
 /// epoch is the next one where its number is one more than that of the last that was answered, or 1 where none was. In the step
@@ -88,13 +86,12 @@ pub fn clients_write_while_open()
     ensures { WritersAreLawful }
 {}
 
-/// In every run, a client whose connection the schedule did not touch accepts bytes exactly of the segment that it got, in
-/// order, and nothing twice, wherever its connection is.
+/// In every run, and also of a connection that the schedule touched, a client accepts bytes exactly of the segment that it got, in
+/// order, and nothing twice, wherever its connection is: they follow directly behind the cluster's SYN and all that it accepted, by
+/// the first number with which the cluster's side was opened (RFC 9293, 3.4). It takes the FIN behind all data of its segment.
 pub fn clients_take_what_comes_next()
     ensures { ClientsTakeInOrder }
-{
-    every_run_is_true();
-}
+{}
 
 /// In every run whose configuration may be used, and whose events and files are in range, every record is, so that a report
 /// tells its journal.

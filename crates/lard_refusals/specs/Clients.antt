@@ -50,6 +50,18 @@ accepts_twice = rec.Opened 1 1000 5000 65535 1460 ∷ rec.Sent 1 Front (Client 1
 abbrev pub accepts_what_came : List Rec
 accepts_what_came = rec.Opened 1 1000 5000 65535 1460 ∷ rec.Sent 1 Front (Client 1) two_bytes ∷ rec.Got 1 ∷ rec.Accepted 1 (codes "HT") ∷ []
 
+-- The same where the schedule put a packet on the way in its name.
+abbrev pub accepts_what_came_when_touched : List Rec
+accepts_what_came_when_touched = rec.Opened 1 1000 5000 65535 1460 ∷ rec.Injected 1 ∷ rec.Sent 1 Front (Client 1) two_bytes ∷ rec.Got 1 ∷ rec.Accepted 1 (codes "HT") ∷ []
+
+-- There one accepts the same bytes again.
+abbrev pub accepts_twice_when_touched : List Rec
+accepts_twice_when_touched = rec.Opened 1 1000 5000 65535 1460 ∷ rec.Injected 1 ∷ rec.Sent 1 Front (Client 1) two_bytes ∷ rec.Got 1 ∷ rec.Accepted 1 (codes "HT") ∷ rec.Got 1 ∷ rec.Accepted 1 (codes "HT") ∷ []
+
+-- And there one begins a byte too late.
+abbrev pub skips_a_byte_when_touched : List Rec
+skips_a_byte_when_touched = rec.Opened 1 1000 5000 65535 1460 ∷ rec.Injected 1 ∷ rec.Sent 1 Front (Client 1) two_bytes ∷ rec.Got 1 ∷ rec.Accepted 1 (codes "T") ∷ []
+
 -- One takes the end of its stream by a segment without FIN.
 abbrev pub ends_without_a_fin : List Rec
 ends_without_a_fin = rec.Opened 1 1000 5000 65535 1460 ∷ rec.Sent 1 Front (Client 1) acknowledgement ∷ rec.Got 1 ∷ rec.Eof 1 ∷ []

@@ -11,7 +11,7 @@ pub fn writers_refuses()
     ensures writes_and_shuts { Allows the.writers the.writes_and_shuts }
 {}
 
-/// A client takes what it got, in order.
+/// A client takes what it got, in order, and so it does where the schedule touched its connection.
 pub fn takers_refuses()
     ensures law { IsLawOfAll the.takers }
     ensures accepts_out_of_nothing { Refuses the.takers the.accepts_out_of_nothing }
@@ -19,6 +19,9 @@ pub fn takers_refuses()
     ensures accepts_twice { Refuses the.takers the.accepts_twice }
     ensures ends_without_a_fin { Refuses the.takers the.ends_without_a_fin }
     ensures accepts_what_came { Allows the.takers the.accepts_what_came }
+    ensures accepts_what_came_when_touched { Allows the.takers the.accepts_what_came_when_touched }
+    ensures accepts_twice_when_touched { Refuses the.takers the.accepts_twice_when_touched }
+    ensures skips_a_byte_when_touched { Refuses the.takers the.skips_a_byte_when_touched }
 {}
 
 /// A client does what its table says, and no more.

@@ -3,4 +3,4 @@ use Rattle.lard_laws.proofs.ClientsTaking.{clients-take}
 use Rattle.lard_laws.proofs.clients_take_what_comes_next.Goals as goal
 
 pub returns : goal.returns
-returns c = clients-take c.every_run_is_true.ensures.states
+returns c = clients-take
