@@ -42,7 +42,7 @@ module _ (s : FrontState) (c : ℕ) (b : ControlBlock) (m : Fronts) (r : FinMap 
     found = found;
     stage = refl;
     found_rest = found_rest;
-    here = record { first_owner = refl; serves = serves };
+    here = record { early = omega arith; serves = serves };
     none_kept = none;
     some_kept = some;
   }

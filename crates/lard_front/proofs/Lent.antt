@@ -64,7 +64,7 @@ lends s c waiting h = record {
   found = lent_found s c h.row h.found;
   stage = refl;
   found_rest = h.found_rest;
-  first_owner = h.here.first_owner;
+  early = h.here.early;
   none_kept = h.none_kept;
   some_kept = h.some_kept;
 }

@@ -17,7 +17,7 @@ use Rattle.lard_rules.specs.declared.front.FrontTurn.{FrontTurn}
 use Rattle.lard_rules.specs.Front.{FrontDeed, Drops, Says, Does, FrontEnv, FrontPart, front_fired, front_armed, handed_off, heard, holds, leaves_by, front_rest, front_rests, front_saying, settled_by, turn_here, waits_on}
 use Rattle.lard_rules.specs.FrontPlace.{front_part, front_put, front_out_of, put_back}
 use Rattle.lard_rules.specs.FrontReading.{MayMove, Reading}
-use Rattle.lard_rules.specs.FrontSound.{IsHere}
+use Rattle.lard_rules.specs.FrontSound.{IsEarlyHere, IsHere}
 use Rattle.lard_front.specs.declared.reading.Going.{Going}
 use Rattle.lard_front.specs.declared.reading.Going.TheVariants.{On, Last}
 use Rattle.lard_front.specs.declared.turns.Armed.{Armed}
@@ -111,7 +111,7 @@ front_rested_in s c waiting (Over last) = record s { conns = with_stage s.conns 
 
 -- ---- a connection whose endpoint is here
 
--- Its endpoint waits or not; it has been the front end's alone, and nothing was offered of it.
+-- Its endpoint waits or not, it is the front end's, and nothing that is kept offers it.
 pub record Holds (s : FrontState) (c : ℕ) (waiting : Bool) : Type 0 where
   pub row : FrontRow
   pub block : ControlBlock
@@ -130,7 +130,7 @@ pub record Lends (s : FrontState) (c : ℕ) : Type 0 where
   pub found : table.get s.conns c ≡ Some row
   pub stage : row.stage ≡ stage.Lent
   pub found_rest : table.get s.rests c ≡ Some rest
-  pub first_owner : row.epoch.0 ≡ 1
+  pub early : IsEarlyHere row.epoch.0
   pub none_kept : held s.kept c ≡ []
   pub some_kept : table.get s.kept c ≡ Some [] → ⊥
 

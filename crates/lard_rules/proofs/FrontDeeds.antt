@@ -21,7 +21,7 @@ use Rattle.lard_endpoint.specs.Moving.{may_freeze}
 use Rattle.lard_rules.specs.declared.front.FrontRest.{FrontRest}
 use Rattle.lard_rules.specs.Front.{FrontDeed, Drops, Says, Does, FrontEnv, FrontPart, asked_by, assigns, front_begun, front_fired, front_asked, front_gets, front_hears, front_taken, front_timer, front_fired_by, fires_at, hears_at, holds, is_row_at, is_with, leaves_by, placed, front_rest, front_rests, front_saying, settled_by, tag_sent, taken_by, turn_here, waits_on}
 use Rattle.lard_rules.specs.FrontReading.{MayMove, Reading, front_reads}
-use Rattle.lard_rules.specs.FrontSound.{HasTag, HasTarget, IsAsk, IsHereWith, IsPartSound, IsRowSound, IsStageSound, Serves, DispatchStanding, nowhere, dispatch_standing}
+use Rattle.lard_rules.specs.FrontSound.{HasTag, HasTarget, IsAsk, IsEarlyHere, IsHereWith, IsPartSound, IsRowSound, IsStageSound, Serves, DispatchStanding, nowhere, dispatch_standing}
 use Rattle.lard_rules.proofs.FrontBlocks.{EndsIdle, EndsServing, idle-of, segment-idle, segment-serves, settled-serves, spoken-idle, spoken-serves, timer-idle, timer-serves}
 use Rattle.lard_rules.proofs.FrontKeeping.{DeedKeeps, Keeps}
 use Rattle.lard_rules.proofs.FrontStandings.{StandsAt, first-others, first-stands, later-stands, leave-others, leave-stands}
@@ -55,18 +55,18 @@ waiting_there = record { home = None; waits = true }
 
 -- it is held on, or ended
 pub holds-keeps : (d : Dispatcher) (c : ℕ) (now : Millis) (p : FrontPart) (row : FrontRow) (rest : FrontRest) (given : Ending × Turn)
-    → row.epoch.0 ≡ 1 → p.kept ≡ [] → dispatch_standing d c ≡ nowhere → HasTag (Some rest) → EndsServing given.0 → DeedKeeps d c now (holds p row rest given)
-holds-keeps d c now p row rest (Here b count, turn) owner none free tag serves =
-    record { part = (record { first_owner = owner; serves = serves }, none, free); tag = tag; others = λ q n. refl; allowed = tt; clock = λ h. h }
-holds-keeps d c now p row rest (Over last, turn) owner none free tag serves = record { part = free; tag = tt; others = λ q n. refl; allowed = tt; clock = λ h. h }
+    → IsEarlyHere row.epoch.0 → p.kept ≡ [] → dispatch_standing d c ≡ nowhere → HasTag (Some rest) → EndsServing given.0 → DeedKeeps d c now (holds p row rest given)
+holds-keeps d c now p row rest (Here b count, turn) early none free tag serves =
+    record { part = (record { early = early; serves = serves }, none, free); tag = tag; others = λ q n. refl; allowed = tt; clock = λ h. h }
+holds-keeps d c now p row rest (Over last, turn) early none free tag serves = record { part = free; tag = tt; others = λ q n. refl; allowed = tt; clock = λ h. h }
 
 -- it waits on, or leaves the line
 pub waits-keeps : (d : Dispatcher) (env : FrontEnv) (p : FrontPart) (row : FrontRow) (rest : FrontRest) (given : Ending × Turn)
-    → row.epoch.0 ≡ 1 → p.kept ≡ [] → dispatch_standing d env.serve.c ≡ waiting_there → HasTag (Some rest) → HasTarget (Some rest) → EndsServing given.0 → EndsIdle given.0
+    → IsEarlyHere row.epoch.0 → p.kept ≡ [] → dispatch_standing d env.serve.c ≡ waiting_there → HasTag (Some rest) → HasTarget (Some rest) → EndsServing given.0 → EndsIdle given.0
     → DeedKeeps d env.serve.c env.now (waits_on env p row rest given)
-waits-keeps d env p row rest (Here b count, turn) owner none there tag target serves idle =
-    record { part = (record { first_owner = owner; serves = serves }, none, there, idle, target); tag = tag; others = λ q n. refl; allowed = tt; clock = λ h. h }
-waits-keeps d env p row rest (Over last, turn) owner none there tag target serves idle = record {
+waits-keeps d env p row rest (Here b count, turn) early none there tag target serves idle =
+    record { part = (record { early = early; serves = serves }, none, there, idle, target); tag = tag; others = λ q n. refl; allowed = tt; clock = λ h. h }
+waits-keeps d env p row rest (Over last, turn) early none there tag target serves idle = record {
   part = leave-stands d env.serve.c (ap (λ (x : DispatchStanding). x.home) there);
   tag = tt;
   others = leave-others d env.serve.c;
@@ -83,16 +83,16 @@ module _ (d : Dispatcher) (env : FrontEnv) (free : dispatch_standing d env.serve
   may-come : (call.IsAllowed d (call.First env.serve.c path env.now))
   may-come = (ap (λ (x : DispatchStanding). x.home) free, ap (λ (x : DispatchStanding). x.waits) free)
 
-  placed-keeps : (f : First) → StandsAt env.serve.c f After → row.epoch.0 ≡ 1 → p.kept ≡ [] → HasTag (Some rest) → Serves w.count w.block.recv w.block.send → may_freeze w.block ≡ true
+  placed-keeps : (f : First) → StandsAt env.serve.c f After → IsEarlyHere row.epoch.0 → p.kept ≡ [] → HasTag (Some rest) → Serves w.count w.block.recv w.block.send → may_freeze w.block ≡ true
       → Keeps d env.serve.c env.now (placed env p row rest w path f)
-  placed-keeps (first.Go choice) at owner none tag serves may = record {
+  placed-keeps (first.Go choice) at early none tag serves may = record {
     part = at;
     tag = λ some. absurd (omega (arith, some));
     others = first-others d env.serve.c path env.now;
     allowed = (may-come, tt);
     clock = before-first d env.serve.c path env.now;
   }
-  placed-keeps first.Waits at owner none tag serves may =
+  placed-keeps first.Waits at early none tag serves may =
       let v : Service = record w { notes = w.notes ++ rec.Waits env.serve.c ∷ [] } in
       wait (spoken env.serve v []) (spoken-serves env.serve v [] serves) (spoken-idle env.serve v [] (idle-of w.block may serves.sent)) where
         wait : (given : Ending × Turn) → EndsServing given.0 → EndsIdle given.0 → Keeps d env.serve.c env.now (record {
@@ -101,7 +101,7 @@ module _ (d : Dispatcher) (env : FrontEnv) (free : dispatch_standing d env.serve
           calls = call.First env.serve.c path env.now ∷ leaves_by env.serve.c given.0;
         })
         wait (Here b count, turn) on idle = record {
-          part = (record { first_owner = owner; serves = on }, none, at, idle, tt);
+          part = (record { early = early; serves = on }, none, at, idle, tt);
           tag = tag;
           others = first-others d env.serve.c path env.now;
           allowed = (may-come, tt);
@@ -117,17 +117,17 @@ module _ (d : Dispatcher) (env : FrontEnv) (free : dispatch_standing d env.serve
 
 -- what was read is said, or it is placed
 read-keeps : (d : Dispatcher) (env : FrontEnv) (p : FrontPart) (row : FrontRow) (rest : FrontRest) (w : Service) (target : Option (List ℕ)) → IsOf env d → dispatch_standing d env.serve.c ≡ nowhere
-    → row.epoch.0 ≡ 1 → p.kept ≡ [] → HasTag (Some rest) → Serves w.count w.block.recv w.block.send → MayMove w.block target → DeedKeeps d env.serve.c env.now (settled_by env p row rest w target)
-read-keeps d env p row rest w None of free owner none tag serves may = holds-keeps d env.serve.c env.now p row rest (serving_settled env.serve w) owner none free tag (settled-serves env.serve w serves)
-read-keeps d env p row rest w (Some path) of free owner none tag serves may =
-    placed-keeps d env free p row rest w path (env.first path) (subst (λ f. StandsAt env.serve.c f (after_first d env.serve.c path env.now)) (sym (of.first path)) (first-stands d env.serve.c path env.now free)) owner none tag serves may
+    → IsEarlyHere row.epoch.0 → p.kept ≡ [] → HasTag (Some rest) → Serves w.count w.block.recv w.block.send → MayMove w.block target → DeedKeeps d env.serve.c env.now (settled_by env p row rest w target)
+read-keeps d env p row rest w None of free early none tag serves may = holds-keeps d env.serve.c env.now p row rest (serving_settled env.serve w) early none free tag (settled-serves env.serve w serves)
+read-keeps d env p row rest w (Some path) of free early none tag serves may =
+    placed-keeps d env free p row rest w path (env.first path) (subst (λ f. StandsAt env.serve.c f (after_first d env.serve.c path env.now)) (sym (of.first path)) (first-stands d env.serve.c path env.now free)) early none tag serves may
 
 -- ---- a segment
 
 -- what is known of a part whose endpoint is here
-here-rest : (epoch : ℕ) (b : ControlBlock) (rest : Option FrontRest) → IsHereWith epoch b rest → (epoch ≡ 1) × Serves (front_rest rest).count b.recv b.send
+here-rest : (epoch : ℕ) (b : ControlBlock) (rest : Option FrontRest) → IsHereWith epoch b rest → IsEarlyHere epoch × Serves (front_rest rest).count b.recv b.send
 here-rest epoch b None h = absurd h
-here-rest epoch b (Some rest) h = (h.first_owner, h.serves)
+here-rest epoch b (Some rest) h = (h.early, h.serves)
 
 tag-rest : (rest : Option FrontRest) → HasTag rest → HasTag (Some (front_rest rest))
 tag-rest None h = λ some. absurd (omega (arith, some))
@@ -141,7 +141,7 @@ module _ (d : Dispatcher) (env : FrontEnv) (of : IsOf env d) (p : FrontPart) (ta
   begins-keeps : (s : Said) → p.kept ≡ [] → dispatch_standing d env.serve.c ≡ nowhere → DeedKeeps d env.serve.c env.now (front_begun env p s)
   begins-keeps s none free =
       let w : Service = serving (listening s env.iss) 0 (rec.Took place.Front env.serve.c (record { 0 = 1 }) ∷ []) in
-      holds-keeps d env.serve.c env.now p (record { stage = stage.Lent; epoch = record { 0 = 1 }; ended_by = None }) (front_rest None) (spoken env.serve w []) refl none free (λ some. absurd (omega (arith, some)))
+      holds-keeps d env.serve.c env.now p (record { stage = stage.Lent; epoch = record { 0 = 1 }; ended_by = None }) (front_rest None) (spoken env.serve w []) (omega arith) none free (λ some. absurd (omega (arith, some)))
       (spoken-serves env.serve w [] (record { counted = omega arith; asked = omega arith; most = omega arith; sent = omega arith }))
 
   hears-keeps : (row : FrontRow) (bytes : List ℕ) (s : Said) (at : FrontConn) → IsStageSound row.epoch.0 p.rest p.kept (dispatch_standing d env.serve.c) at → DeedKeeps d env.serve.c env.now (hears_at env p row bytes s at)

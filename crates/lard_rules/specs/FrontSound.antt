@@ -40,9 +40,20 @@ pub record Serves (count : ℕ) (r : Received) (s : Sending) : Type 0 where
   pub most : r.got ≤ MAX_STREAM_BYTES
   pub sent : s.nxt ≤ symbols s
 
--- An endpoint that is here has its first owner.
+-- How late an epoch is at most of a connection that leaves the front end once: the first while it is here, one later while it is away, and
+-- one later again once it is over.
+abbrev pub IsEarlyHere : ℕ → Type 0
+IsEarlyHere e = e ≤ 1
+
+abbrev pub IsEarlyAway : ℕ → Type 0
+IsEarlyAway e = e ≤ 2
+
+abbrev pub IsEarlyOver : ℕ → Type 0
+IsEarlyOver e = e ≤ 3
+
+-- An endpoint that is here is so in an early epoch, and serves what was asked for.
 pub record IsHere (epoch : ℕ) (b : ControlBlock) (rest : FrontRest) : Type 0 where
-  pub first_owner : epoch ≡ 1
+  pub early : IsEarlyHere epoch
   pub serves : Serves rest.count b.recv b.send
 
 abbrev pub IsHereWith : ℕ → ControlBlock → Option FrontRest → Type 0

@@ -6,10 +6,10 @@ use Rattle.lard_front.proofs.placing.place.Goals as goal
 
 pub hand_off-requires-clause-may : goal.hand_off-requires-clause-may
 hand_off-requires-clause-may c =
-    let own = c.requires.lends.first_owner in
+    let early = c.requires.lends.early in
     subst (λ o. MayBeOffered o c.args.service.count)
     (sym (back_found c.args.around.now c.args.state.now c.args.endpoint c.args.service c.args.path c.in-Ok-Go.choice c.requires.lends.row c.requires.lends.found c.put.new.self c.put.ensures))
-    (c.requires.may, c.requires.asked, omega (arith, own))
+    (c.requires.may, c.requires.asked, omega (arith, early))
 
 pub returns-in-Ok-Go-clause-turn : goal.returns-in-Ok-Go-clause-turn
 returns-in-Ok-Go-clause-turn c =
