@@ -1,0 +1,5 @@
+mod Numbers
+mod Satisfied
+mod Specs
+mod Spelling
+mod Trimming

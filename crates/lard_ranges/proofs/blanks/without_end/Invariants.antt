@@ -1,0 +1,10 @@
+-- What is left has the same bytes before its spaces and tabs.
+use Rattle.std.proofs.Common.{◌≡◌, length, reverse}
+use Rattle.httparse.specs.Grammar.{skip_ows}
+use Rattle.lard_ranges.proofs.blanks.without_end.Given as goal
+
+abbrev pub invariant-loop-last : goal.invariant-loop-last
+invariant-loop-last l = skip_ows (reverse l.rest) ≡ skip_ows (reverse l.bytes)
+
+abbrev pub decreases-loop-last : goal.decreases-loop-last
+decreases-loop-last l = length l.rest
