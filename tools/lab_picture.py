@@ -72,9 +72,9 @@ def misses_axes(counts):
 
 
 def misses(table, policies, counts):
-    """The line of each policy, and where it ends its name and last share."""
+    """The line of each policy, the widest at the bottom, and where it ends its name and last share."""
     ends = []
-    for policy in policies:
+    for policy in sorted(policies, key=lambda policy: -LINES[policy][1]):
         points = [(x_of(nodes, counts), y_of(table[nodes, policy].share_of_misses())) for nodes in counts]
         last = f"{policy} {percent(table[counts[-1], policy].share_of_misses())}"
         path = "M" + "L".join(f"{x},{y}" for x, y in points)

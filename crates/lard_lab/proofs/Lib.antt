@@ -4,6 +4,7 @@ mod Entries
 mod Following
 mod Kept
 mod Choosing
+mod Lines
 mod Loads
 pub mod Reported
 mod Rooms

@@ -29,6 +29,10 @@ outcome_text (Some outcome) = codes " n" ++ decimal outcome.0 ++ outcome_word ou
 unfoldable pub request_line : ℕ → List ℕ → Option (ℕ × Bool) → List ℕ
 request_line number path outcome = decimal number ++ codes " " ++ path ++ outcome_text outcome
 
+-- the line of a request that goes to a node, up to its outcome: I PATH nK
+unfoldable pub line_front : ℕ → List ℕ → ℕ → List ℕ
+line_front number path n = decimal number ++ codes " " ++ path ++ (codes " n" ++ decimal n)
+
 -- requests R hits H full F
 unfoldable pub totals_line : ℕ → ℕ → ℕ → List ℕ
 totals_line requests hits full = (codes "requests " ++ decimal requests) ++ (codes " hits " ++ decimal hits) ++ (codes " full " ++ decimal full) ++ codes "\n"

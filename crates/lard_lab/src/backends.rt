@@ -103,19 +103,12 @@ impl Backends {
         })
     }
 
-    /// Whether a path is in the cache of a node.
-    pub fn keeps(&self, n: NodeId, path: &[u8]) -> bool
-        requires { n ≤ length self.now.nodes }
-        ensures { result ≡ is_hit self.now n path.now }
-    {
-        self.nodes[n.number() as usize - 1].cache.has(path)
-    }
-
-    /// A node serves a request for a path whose file has so many bytes, with which so many are open there. Without memory
-    /// nothing changes.
-    pub fn serve(&mut self, n: NodeId, path: &Path, size: u32, load: u32) -> Result<(), NoMemory>
+    /// A node serves a request for a path whose file has so many bytes, with which so many are open there, and it is
+    /// answered whether the path was in its cache. Without memory nothing changes.
+    pub fn serve(&mut self, n: NodeId, path: &Path, size: u32, load: u32) -> Result<bool, NoMemory>
         requires node { n ≤ length self.old.nodes }
         requires few { self.old.requests < 16384 }
+        ensures hit { IfOk result (λ hit. hit ≡ is_hit self.old n path.now) }
         ensures ok { OnOk result (self.new ≡ stores_served self.old n path.now size load) }
         ensures err { OnErr result (self.new ≡ self.old) }
     {
@@ -123,7 +116,7 @@ impl Backends {
         let hit = serve_at(&mut self.nodes, at, path, size, load)?;
         self.requests += 1;
         self.hits += u32::from(hit);
-        Ok(())
+        Ok(hit)
     }
 
     /// What is counted of all: the requests that were assigned, and those whose path was in the cache of their node.

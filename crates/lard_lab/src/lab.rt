@@ -13,7 +13,7 @@ use crate::backends::Backends;
 use crate::event::{LabEvent, LabFault};
 use crate::policy::Policy;
 use crate::targets::{Target, Targets};
-use crate::text::{request_line, totals};
+use crate::text::{full_line, line_front, totals, with_outcome};
 use lard_base::{Bytes, Config, NoMemory, NodeId, Path};
 use lard_files::FileFault;
 use lard_policy::FirstChoice;
@@ -160,6 +160,7 @@ impl Lab {
     }
 
     /// A request goes where the choice says.
+    #[tactic(auto, using(crate::proofs::Lines::line_ended))]
     fn serve(
         &mut self,
         path: &Path,
@@ -175,12 +176,10 @@ impl Lab {
     {
         let number = self.assigner.made() + 1;
         let load = self.assigner.load(choice.node) + 1;
-        let hit = self.backends.keeps(choice.node, path.as_slice());
-        let outcome = Some((choice.node, hit));
-        let line = request_line(self.alloc, number, path.as_slice(), outcome)?;
-        self.backends.serve(choice.node, path, target.size, load)?;
+        let text = line_front(self.alloc, number, path.as_slice(), choice.node)?;
+        let hit = self.backends.serve(choice.node, path, target.size, load)?;
         self.assigner.assign(path.as_slice(), target, choice);
-        Ok(line)
+        Ok(with_outcome(text, hit))
     }
 
     /// A request is full.
@@ -191,7 +190,7 @@ impl Lab {
         ensures err { OnErr result (self.new ≡ self.old) }
     {
         let number = self.assigner.made() + 1;
-        let line = request_line(self.alloc, number, path.as_slice(), None)?;
+        let line = full_line(self.alloc, number, path.as_slice())?;
         self.assigner.pass_over();
         Ok(line)
     }

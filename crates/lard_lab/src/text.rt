@@ -1,13 +1,19 @@
 //! The lines of a report.
 
-ghost use Rattle.std.specs.Prelude.{◌≡◌, ◌+◌, ◌++◌, IfOk, OnOk, codes, decimal};
-ghost use Rattle.lard_lab.specs.Text.{lab_heading_line, node_line, node_lines, numbers_text, outcome_word, request_line, thresholds_text, totals_line};
+ghost use Rattle.std.specs.Prelude.{◌≡◌, ◌+◌, ◌≤◌, ◌++◌, None, length, vec_capacity, IfOk, OnOk, codes, decimal};
+ghost use Rattle.lard_lab.specs.Text.{lab_heading_line, line_front, node_line, node_lines, numbers_text, outcome_word, request_line, thresholds_text, totals_line};
 
 use crate::backends::Backend;
 use crate::policy::Policy;
 use itoa::Buffer;
 use lard_base::{Bytes, Config, NoMemory, NodeId};
 use std::alloc::Global;
+
+/// The most bytes of an outcome.
+const OUTCOME: usize = 6;
+
+/// As many bytes as a request's number, its node and its outcome have at most.
+const NUMBERS: usize = 32;
 
 /// The first line of a report: the policy, and the numbers of the configuration that count.
 #[tactic(auto, unfolding(crate::specs::Text::lab_heading_line))]
@@ -44,28 +50,47 @@ fn push_thresholds(text: &mut Vec<u8>, config: &Config) -> Result<(), NoMemory>
     Ok(())
 }
 
-/// The line of a request: where it went, and whether its path was in the cache there, or that it was full.
-#[tactic(auto, unfolding(crate::specs::Text::request_line))]
-pub fn request_line(
-    alloc: Global,
-    number: u32,
-    path: &[u8],
-    outcome: Option<(NodeId, bool)>,
-) -> Result<Bytes, NoMemory>
-    ensures { IfOk result (λ text. text ≡ request_line number path.now outcome) }
+/// The line of a request that goes to a node, up to its outcome, with room for that.
+#[tactic(auto, unfolding(crate::specs::Text::line_front))]
+pub fn line_front(alloc: Global, number: u32, path: &[u8], n: NodeId) -> Result<Vec<u8>, NoMemory>
+    ensures front { IfOk result (λ text. text.items ≡ line_front number path.now n) }
+    ensures room { IfOk result (λ text. length text.items + 6 ≤ vec_capacity text) }
 {
-    let mut text = Vec::new(alloc);
+    let mut text = numbered(alloc, number, path)?;
+    push_count(&mut text, " n", u64::from(n.number()))?;
+    text.reserve(OUTCOME)?;
+    Ok(text)
+}
+
+/// The line of a request, by what stands before its outcome: whether its path was in the cache.
+pub fn with_outcome(mut text: Vec<u8>, hit: bool) -> Bytes
+    requires { length text.items + 6 ≤ vec_capacity text }
+    ensures { result ≡ text.items ++ outcome_word hit }
+{
+    text.extend_from_slice(outcome_word(hit).as_bytes())
+        .unwrap();
+    Bytes::from_vec(text)
+}
+
+/// The line of a request that is full.
+#[tactic(auto, unfolding(crate::specs::Text::request_line))]
+pub fn full_line(alloc: Global, number: u32, path: &[u8]) -> Result<Bytes, NoMemory>
+    ensures { IfOk result (λ text. text ≡ request_line number path.now None) }
+{
+    let mut text = numbered(alloc, number, path)?;
+    push_text(&mut text, " full\n")?;
+    Ok(Bytes::from_vec(text))
+}
+
+/// The front of the line of a request: its number and its path. All of the line fits into the memory that is taken.
+fn numbered(alloc: Global, number: u32, path: &[u8]) -> Result<Vec<u8>, NoMemory>
+    ensures { IfOk result (λ text. text.items ≡ decimal number ++ codes " " ++ path.now) }
+{
+    let mut text = Vec::with_capacity(alloc, path.len() + NUMBERS)?;
     push_count(&mut text, "", u64::from(number))?;
     push_text(&mut text, " ")?;
     text.extend_from_slice(path)?;
-    match outcome {
-        Some((n, hit)) => {
-            push_count(&mut text, " n", u64::from(n.number()))?;
-            push_text(&mut text, outcome_word(hit))?;
-        }
-        None => push_text(&mut text, " full\n")?,
-    }
-    Ok(Bytes::from_vec(text))
+    Ok(text)
 }
 
 /// How a line ends whose path was in the cache, or was not.

@@ -12,7 +12,7 @@ use Rattle.lard_table.specs.Table.{put_or}
 use Rattle.lard_table.proofs.Map.{put_got}
 use Rattle.lard_loads.specs.declared.slot.Slot.{Slot}
 use Rattle.lard_loads.specs.Loads.{IsNode, IsShare, IsSlot, IsTallied, tally_of}
-use Rattle.lard_loads.specs.Ranking.{at_node}
+use Rattle.lard_loads.specs.Running.{at_node}
 use Rattle.lard_loads.specs.Slot.{shares_open_in, standing_of, standings_from}
 use Rattle.lard_loads.specs.Tally.{Standing, load_of, numbers, tally_start}
 use Rattle.lard_loads.proofs.Firsts.{filter-all, from_range}

@@ -8,7 +8,7 @@ use Rattle.lard_loads.specs.declared.slot.Share.{Share}
 use Rattle.lard_loads.specs.declared.slot.Slot.{Slot}
 use Rattle.std.specs.FinMap as map
 use Rattle.lard_loads.specs.Loads.{IsNode, IsShare, IsSlot, IsTallied, tally_of}
-use Rattle.lard_loads.specs.Ranking.{at_node}
+use Rattle.lard_loads.specs.Running.{at_node}
 use Rattle.lard_loads.specs.Slot.{shares_open_in, standing_with, standing_of}
 use Rattle.lard_loads.specs.Tally.{Tally, home, home_of, open_shares, shares_of, units_of, units_of_share}
 use Rattle.lard_loads.proofs.Batches.{HasHome, has_home}

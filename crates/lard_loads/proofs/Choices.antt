@@ -5,7 +5,7 @@ use Rattle.lard_base.specs.Members.{has}
 use Rattle.lard_loads.specs.declared.slot.Slot.{Slot}
 use Rattle.lard_loads.specs.Loads.{IsTallied}
 use Rattle.lard_loads.specs.Order.{first_in, is_before, least_in, most_in}
-use Rattle.lard_loads.specs.Ranking.{at_node}
+use Rattle.lard_loads.specs.Running.{at_node}
 use Rattle.lard_loads.specs.Slot.{standings_from}
 use Rattle.lard_loads.specs.Tally.{load_of, numbers}
 use Rattle.lard_loads.proofs.Firsts.{IsIn, any-filter, filter-both, first-agree, first_passes, from_filter, from_range, in_range, none-filter}

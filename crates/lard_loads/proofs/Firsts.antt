@@ -1,8 +1,8 @@
--- The first node that passes a test, where the nodes stand in an order, is the first of all that pass it.
-use Rattle.std.proofs.Common.{◌≡◌, ◌≢◌, ℕ, zero, suc, ◌+◌, ◌<◌, ◌≤◌, Bool, true, false, cond, ◌&&◌, ◌||◌, nat_lt, nat_eq, List, [], ◌∷◌, length, get_or, Option, Some, None, is_some, refl, sym, ap, subst, ◌∙◌, ◌⊎◌, inl, inr, ⊎_elim, arith}
-use Rattle.std.proofs.lemmas.Bool.{cases_eq, cases_order, false≢true}
+-- The first of the nodes that pass a test.
+use Rattle.std.proofs.Common.{◌≡◌, ℕ, zero, suc, ◌+◌, ◌<◌, ◌≤◌, Bool, true, false, cond, ◌&&◌, ◌||◌, nat_lt, nat_eq, List, [], ◌∷◌, length, Option, Some, None, is_some, refl, sym, ap, subst, ◌∙◌, ◌⊎◌, inl, inr, ⊎_elim, arith}
+use Rattle.std.proofs.lemmas.Bool.{cases_eq, false≢true}
 use Rattle.std.proofs.lemmas.Bool.Decides.{nat_tests}
-use Rattle.std.specs.List.{filter, find, list_any, range_with_len}
+use Rattle.std.specs.List.{filter, list_any, range_with_len}
 use Rattle.lard_loads.specs.Order.{earlier, first_in, is_before}
 use Rattle.lard_loads.specs.Tally.{numbers}
 
@@ -36,10 +36,6 @@ from_range a (suc k) n h = ⊎_elim (λ e. (omega (arith, e), omega (arith, e)))
 
 -- ---- the first of a list
 
-either : (b : Bool) (y z w : ℕ) → y ≡ w → z ≡ w → cond b y z ≡ w
-either true y z w p q = p
-either false y z w p q = q
-
 module _ (before : ℕ → ℕ → Bool) where
   pub first-is_in : (xs : List ℕ) (m : ℕ) → first_in before xs ≡ Some m → IsIn m xs
   first-is_in [] m e = absurd cc
@@ -51,115 +47,6 @@ module _ (before : ℕ → ℕ → Bool) where
     go : (first_in before xs ≡ Some m → IsIn m xs) → (o : Option ℕ) → first_in before xs ≡ o → Some (earlier before x o) ≡ Some m → IsIn m (x ∷ xs)
     go more None f h = inl (let k : x ≡ m = cc in k)
     go more (Some y) f h = pick more y f (before y x) h
-
-  -- a node that comes before all others of a list is its first
-  pub first_is : ((a b : ℕ) → before a b ≡ true → before b a ≡ false) → (xs : List ℕ) (n : ℕ) → IsIn n xs → ((m : ℕ) → IsIn m xs → m ≢ n → before n m ≡ true) → first_in before xs ≡ Some n
-  first_is apart [] n h all = absurd h
-  first_is apart (x ∷ xs) n h all = ⊎_elim here (there (λ i k. first_is apart xs n i k)) (cases_eq x n) where
-    here : x ≡ n → first_in before (x ∷ xs) ≡ Some n
-    here e = go (first_in before xs) refl where
-      go : (o : Option ℕ) → first_in before xs ≡ o → Some (earlier before x o) ≡ Some n
-      go None f = ap (λ y. Some y) e
-      go (Some m) f = ⊎_elim
-          (λ g. ap (λ y. Some y) (either (before m x) m x n g e))
-          (λ g. let less : before x m ≡ true = subst (λ y. before y m ≡ true) (sym e) (all m (inr (first-is_in xs m f)) g) in
-          ap (λ b. Some (cond b m x)) (apart x m less) ∙ ap (λ y. Some y) e)
-          (cases_eq m n)
-
-    there : (IsIn n xs → ((m : ℕ) → IsIn m xs → m ≢ n → before n m ≡ true) → first_in before xs ≡ Some n) → (x ≡ n → ⊥) → first_in before (x ∷ xs) ≡ Some n
-    there more f =
-        let in_rest : IsIn n xs = ⊎_elim (λ e. absurd (f e)) (λ k. k) h in
-        let rest : first_in before xs ≡ Some n = more in_rest (λ m k. all m (inr k)) in
-        ap (λ o. Some (earlier before x o)) rest ∙ ap (λ b. Some (cond b n x)) (all x (inl refl) f)
-
--- ---- the first that is found
-
-pub record Found (test : ℕ → Bool) (xs : List ℕ) (n : ℕ) : Type 0 where
-  pub at : ℕ
-  pub inside : at < length xs
-  pub is : get_or xs at 0 ≡ n
-  pub passes : test n ≡ true
-  pub earlier_fail : (i : ℕ) → i < at → test (get_or xs i 0) ≡ false
-
-pub found : (test : ℕ → Bool) (xs : List ℕ) (n : ℕ) → find test xs ≡ Some n → Found test xs n
-found test [] n e = absurd cc
-found test (x ∷ xs) n e = go (found test xs n) (test x) refl e where
-  fails : test x ≡ false → (r : Found test xs n) (i : ℕ) → i < suc r.at → test (get_or (x ∷ xs) i 0) ≡ false
-  fails t r zero h = t
-  fails t r (suc i) h = r.earlier_fail i (omega (arith, h))
-
-  go : (find test xs ≡ Some n → Found test xs n) → (b : Bool) → test x ≡ b → cond b (Some x) (find test xs) ≡ Some n → Found test (x ∷ xs) n
-  go more true t k = let l : x ≡ n = cc in record { at = 0; inside = omega arith; is = l; passes = sym (ap test l) ∙ t; earlier_fail = λ i h. absurd (omega (arith, h)) }
-  go more false t k =
-      let r = more k in
-      let in_it = r.inside in
-      record { at = suc r.at; inside = omega (arith, in_it); is = r.is; passes = r.passes; earlier_fail = fails t r }
-
-pub none_found : (test : ℕ → Bool) (xs : List ℕ) → find test xs ≡ None → (n : ℕ) → IsIn n xs → test n ≡ false
-none_found test [] e n h = absurd h
-none_found test (x ∷ xs) e n h = go (λ k. none_found test xs k n) (test x) refl e h where
-  go : (find test xs ≡ None → IsIn n xs → test n ≡ false) → (b : Bool) → test x ≡ b → cond b (Some x) (find test xs) ≡ None → IsIn n (x ∷ xs) → test n ≡ false
-  go more true t k l = absurd cc
-  go more false t k l = ⊎_elim (λ f. sym (ap test f) ∙ t) (more k) l
-
-pub in_place : (xs : List ℕ) (i : ℕ) → i < length xs → IsIn (get_or xs i 0) xs
-in_place [] i h = absurd (omega (arith, h))
-in_place (x ∷ xs) zero h = inl refl
-in_place (x ∷ xs) (suc i) h = inr (in_place xs i (omega (arith, h)))
-
-pub nothing_in : (xs : List ℕ) → ((n : ℕ) → IsIn n xs → ⊥) → xs ≡ []
-nothing_in [] none = refl
-nothing_in (x ∷ xs) none = absurd (none x (inl refl))
-
--- ---- nodes that stand in an order
-
--- each number to a bound stands once in a list, and what stands earlier comes before
-pub record IsLineOf (before : ℕ → ℕ → Bool) (nodes : ℕ) (xs : List ℕ) : Type 0 where
-  pub apart : (a b : ℕ) → before a b ≡ true → before b a ≡ false
-  pub ordered : (i j : ℕ) → i < j → j < length xs → before (get_or xs i 0) (get_or xs j 0) ≡ true
-  pub some : (i : ℕ) → i < length xs → 1 ≤ get_or xs i 0
-  pub most : (i : ℕ) → i < length xs → get_or xs i 0 ≤ nodes
-  pub place : ℕ → ℕ
-  pub inside : (n : ℕ) → 1 ≤ n → n ≤ nodes → place n < length xs
-  pub is : (n : ℕ) → 1 ≤ n → n ≤ nodes → get_or xs (place n) 0 ≡ n
-
-pub first_of_line : (before : ℕ → ℕ → Bool) (nodes : ℕ) (xs : List ℕ) (test : ℕ → Bool) → IsLineOf before nodes xs → find test xs ≡ first_in before (filter test (numbers nodes))
-first_of_line before nodes xs test line = go (find test xs) refl where
-  go : (o : Option ℕ) → find test xs ≡ o → o ≡ first_in before (filter test (numbers nodes))
-  go None e = sym (ap (first_in before) (nothing_in (filter test (numbers nodes)) none)) where
-    none : (n : ℕ) → IsIn n (filter test (numbers nodes)) → ⊥
-    none n h =
-        let passes = from_filter test n (numbers nodes) h in
-        let range = from_range 1 nodes n passes.1 in
-        let some : 1 ≤ n = range.0 in
-        let most : n ≤ nodes = let k = range.1 in omega (arith, k) in
-        let there : IsIn n xs = subst (λ m. IsIn m xs) (line.is n some most) (in_place xs (line.place n) (line.inside n some most)) in
-        false≢true (sym (none_found test xs e n there) ∙ passes.0)
-  go (Some n) e = sym (first_is before line.apart (filter test (numbers nodes)) n member all) where
-    it : Found test xs n
-    it = found test xs n e
-
-    member : IsIn n (filter test (numbers nodes))
-    member =
-        let some : 1 ≤ n = subst (λ m. 1 ≤ m) it.is (line.some it.at it.inside) in
-        let most : n ≤ nodes = subst (λ m. m ≤ nodes) it.is (line.most it.at it.inside) in
-        in_filter test n (numbers nodes) it.passes (in_range 1 nodes n some (omega (arith, most)))
-
-    all : (m : ℕ) → IsIn m (filter test (numbers nodes)) → m ≢ n → before n m ≡ true
-    all m h f =
-        let passes = from_filter test m (numbers nodes) h in
-        let range = from_range 1 nodes m passes.1 in
-        let some : 1 ≤ m = range.0 in
-        let most : m ≤ nodes = let k = range.1 in omega (arith, k) in
-        let at : ℕ = line.place m in
-        let node : get_or xs at 0 ≡ m = line.is m some most in
-        ⊎_elim
-        (λ k. absurd (f (sym node ∙ ap (λ i. get_or xs i 0) k ∙ it.is)))
-        (λ k. ⊎_elim
-        (λ less. absurd (false≢true (sym (it.earlier_fail at less) ∙ ap test node ∙ passes.0)))
-        (λ more. subst (λ x. before x m ≡ true) it.is (subst (λ x. before (get_or xs it.at 0) x ≡ true) node (line.ordered it.at at more (line.inside m some most))))
-        k)
-        (cases_order at it.at)
 
 -- ---- what a first node is
 

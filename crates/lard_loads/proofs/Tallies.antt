@@ -15,7 +15,7 @@ use Rattle.lard_table.proofs.Map.{get_put_other, get_put_same}
 use Rattle.lard_loads.specs.declared.slot.Share.{Share}
 use Rattle.lard_loads.specs.declared.slot.Slot.{Slot}
 use Rattle.lard_loads.specs.Loads.{IsShare, IsSlot, IsTallied, tally_of}
-use Rattle.lard_loads.specs.Ranking.{at_node}
+use Rattle.lard_loads.specs.Running.{at_node}
 use Rattle.lard_loads.specs.Slot.{shares_open_in, standing_with, standing_of, standings_from}
 use Rattle.lard_loads.specs.Tally.{Standing, Tally, load_of, numbers, units_of, units_of_share}
 use Rattle.lard_loads.proofs.Standings.{get-standings, len-put, one_if, standings-set}

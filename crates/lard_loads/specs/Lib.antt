@@ -1,6 +1,6 @@
 pub mod Charges
 pub mod Loads
 pub mod Order
-pub mod Ranking
+pub mod Running
 pub mod Slot
 pub mod Tally

@@ -5,7 +5,7 @@ use Rattle.std.specs.List.{filter}
 use Rattle.lard_base.specs.Members.{has}
 use Rattle.lard_loads.specs.declared.slot.Share.{Share}
 use Rattle.lard_loads.specs.declared.slot.Slot.{Slot}
-use Rattle.lard_loads.specs.Ranking.{at_node}
+use Rattle.lard_loads.specs.Running.{at_node}
 use Rattle.lard_loads.specs.Slot.{shares_open_in, standings_from}
 use Rattle.lard_loads.specs.Tally.{Tally, load_of, numbers}
 

@@ -6,7 +6,7 @@
 
 pub mod laws;
 pub mod loads;
-pub mod ranking;
+pub mod running;
 pub mod slot;
 
 pub use loads::Loads;

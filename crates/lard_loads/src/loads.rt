@@ -5,7 +5,7 @@ ghost use Rattle.std.specs.FinMap as map;
 ghost use Rattle.lard_base.specs.Members.{has};
 ghost use Rattle.lard_loads.specs.Tally.{admitted as admitted_of, any_below as any_below_of, batch_ended, tally_closed, connected, has_other_open as has_other_open_of, home as home_of, is_open as is_open_of, least as least_node, least_of as least_member, load, most_of as most_member, open_shares as open_shares_of, released, shared, tally_start};
 
-use crate::ranking::{Ranking, node};
+use crate::running::{Running, node};
 use crate::slot::{MAX_SHARES, Share, Slot};
 use lard_base::{ConnId, Members, NoMemory, NodeId};
 use std::alloc::Global;
@@ -19,7 +19,7 @@ pub const WHOLE: u32 = 840;
 #[derive(Drop)]
 pub struct Loads {
     /// The running loads.
-    ranking: Ranking,
+    running: Running,
     open_nodes: Members,
     /// One for each connection, by its number.
     slots: Vec<Slot>,
@@ -35,9 +35,9 @@ impl Model for Loads {
 
     ghost coded = { coded_tally };
 
-    ghost view = { λ l. tally_of (length l.ranking) l.open_nodes l.slots.items };
+    ghost view = { λ l. tally_of (length l.running) l.open_nodes l.slots.items };
 
-    ghost invariant = { λ l. IsTallied l.ranking l.open_nodes l.slots.items l.admitted };
+    ghost invariant = { λ l. IsTallied l.running l.open_nodes l.slots.items l.admitted };
 }
 
 impl Loads {
@@ -48,10 +48,10 @@ impl Loads {
         requires few { nodes ≤ 64 }
         ensures { IfOk result (λ loads. loads ≡ tally_start nodes) }
     {
-        let ranking = Ranking::new(alloc, nodes)?;
+        let running = Running::new(alloc, nodes)?;
         let slots = vec![in alloc; Slot::FREE; ConnId::MAX as usize]?;
         Ok(Loads {
-            ranking,
+            running,
             open_nodes: first_nodes(nodes),
             slots,
             admitted: 0,
@@ -65,7 +65,7 @@ impl Loads {
         ensures { self.new ≡ connected self.old c n }
     {
         self.slots[at(c)].occupy(n);
-        self.ranking.raise(n.number() as usize, WHOLE);
+        self.running.raise(n.number() as usize, WHOLE);
         self.admitted += 1;
     }
 
@@ -97,7 +97,7 @@ impl Loads {
             node: number as u8,
             units: units as u16,
         });
-        self.ranking.raise(number as usize, units);
+        self.running.raise(number as usize, units);
     }
 
     /// Ends the batch of an admitted connection, and answers whether shares of it were open.
@@ -119,7 +119,7 @@ impl Loads {
         ensures load { result ≡ load self.now n }
         ensures most { result ≤ 123863040 }
     {
-        self.ranking.load(n.number() as usize)
+        self.running.load(n.number() as usize)
     }
 
     /// How many connections are admitted, to 16,384.
@@ -153,7 +153,7 @@ impl Loads {
         ensures node { least_node self.now ≡ Some result }
         ensures within { result ≤ self.now.nodes }
     {
-        self.ranking.least_of(self.open_nodes).unwrap()
+        self.running.least_of(self.open_nodes).unwrap()
     }
 
     /// The least loaded member, the lowest number at a tie. `None` exactly for an empty set.
@@ -162,7 +162,7 @@ impl Loads {
         ensures within { IfSome result (λ n. n ≤ self.now.nodes) }
         ensures member { IfSome result (λ n. has members n ≡ true) }
     {
-        self.ranking.least_of(members)
+        self.running.least_of(members)
     }
 
     /// The most loaded member, the highest number at a tie. `None` exactly for an empty set.
@@ -171,7 +171,7 @@ impl Loads {
         ensures within { IfSome result (λ n. n ≤ self.now.nodes) }
         ensures member { IfSome result (λ n. has members n ≡ true) }
     {
-        self.ranking.most_of(members)
+        self.running.most_of(members)
     }
 
     /// Whether an open node's load is below so many 840ths.
@@ -185,7 +185,7 @@ impl Loads {
     pub fn has_other_open(&self, n: NodeId) -> bool
         ensures { result ≡ has_other_open_of self.now n }
     {
-        self.ranking.least_of(self.open_nodes.without(n)).is_some()
+        self.running.least_of(self.open_nodes.without(n)).is_some()
     }
 
     /// Closes a node to new assignments; connections stay there. Another node is open.
@@ -200,7 +200,7 @@ impl Loads {
     pub fn is_open(&self, n: NodeId) -> bool
         ensures { result ≡ is_open_of self.now n }
     {
-        n.number() as usize <= self.ranking.nodes() && self.open_nodes.has(n)
+        n.number() as usize <= self.running.nodes() && self.open_nodes.has(n)
     }
 
     /// Ends the share of an admitted connection that was opened last, and answers whether there was one.
@@ -214,7 +214,7 @@ impl Loads {
         let Some(share) = self.slots[at(c)].pop() else {
             return false;
         };
-        self.ranking.lower(share.node as usize, share.units as u32);
+        self.running.lower(share.node as usize, share.units as u32);
         true
     }
 
@@ -227,7 +227,7 @@ impl Loads {
         let slot = &mut self.slots[at(c)];
         let home = slot.home().unwrap();
         slot.vacate();
-        self.ranking.lower(home.number() as usize, WHOLE);
+        self.running.lower(home.number() as usize, WHOLE);
         self.admitted -= 1;
     }
 }

@@ -1,7 +1,7 @@
 -- The slot is free, and the home has a whole less.
 use Rattle.std.proofs.Common.{◌≡◌, ◌-◌, length, Some, refl, ap, ◌∙◌}
 use Rattle.std.proofs.lemmas.List.{length-set}
-use Rattle.lard_loads.specs.Ranking.{at_node}
+use Rattle.lard_loads.specs.Running.{at_node}
 use Rattle.lard_loads.proofs.Batches.{HasHome}
 use Rattle.lard_loads.proofs.Calls.{freeing, home_known, home_read, none_known, now_gone, someone, whole_there}
 use Rattle.lard_loads.proofs.Tallies.{seen_as}
@@ -35,5 +35,5 @@ returns c =
     let home : c.index_mut-slot.result.now.home ≡ Some c.number.result = home_read c.home.ensures c.unwrap-home.ensures c.number.ensures.value in
     let none = none_known c.self.invariant c.at.ensures.within c.index_mut-slot.ensures.value c.self.view_is c.at.ensures.value home c.requires.no_shares in
     seen_as c.self.invariant c.at.ensures.within c.index_mut-slot.ensures.value c.vacate.new.self c.lower.new.self
-    (ap length c.lower.ensures ∙ length-set c.self.inside.ranking (c.number.result - 1) (at_node c.self.inside.ranking c.number.result - 840))
+    (ap length c.lower.ensures ∙ length-set c.self.inside.running (c.number.result - 1) (at_node c.self.inside.running c.number.result - 840))
     c.self.view_is c.at.ensures.value (now_gone c.self.invariant c.at.ensures.within c.index_mut-slot.ensures.value c.vacate.new.self home none c.vacate.ensures.home)

@@ -11,7 +11,7 @@ returns-then-number-nodes c =
     let value = c.number.ensures.value in
     let within = c.if-number-nodes.true in
     let nodes = c.nodes.ensures.value in
-    c.has.ensures ∙ open-is c.self.inside.open_nodes c.args.n (length c.self.inside.ranking) (omega (arith, some, value)) (omega (arith, within, value, nodes)) ∙ ap (λ (t : Tally). is_open t c.args.n) c.self.view_is
+    c.has.ensures ∙ open-is c.self.inside.open_nodes c.args.n (length c.self.inside.running) (omega (arith, some, value)) (omega (arith, within, value, nodes)) ∙ ap (λ (t : Tally). is_open t c.args.n) c.self.view_is
 
 pub returns-else-number-nodes : goal.returns-else-number-nodes
 returns-else-number-nodes c =
@@ -19,4 +19,4 @@ returns-else-number-nodes c =
     let beyond = c.if-number-nodes.false in
     let nodes = c.nodes.ensures.value in
     let test : nat_le c.number.result c.nodes.result ≡ false = grind (arith, nat_tests, beyond) in
-    test ∙ none-open c.self.inside.open_nodes c.args.n (length c.self.inside.ranking) (omega (arith, value, beyond, nodes)) ∙ ap (λ (t : Tally). is_open t c.args.n) c.self.view_is
+    test ∙ none-open c.self.inside.open_nodes c.args.n (length c.self.inside.running) (omega (arith, value, beyond, nodes)) ∙ ap (λ (t : Tally). is_open t c.args.n) c.self.view_is

@@ -6,7 +6,7 @@ use Rattle.lard_loads.proofs.loads.Loads.of.Goals as goal
 
 pub returns-clause-most : goal.returns-clause-most
 returns-clause-most c =
-    let nodes : length c.self.inside.ranking ≡ c.args.self.now.nodes = ap (λ (t : Tally). t.nodes) c.self.view_is in
+    let nodes : length c.self.inside.running ≡ c.args.self.now.nodes = ap (λ (t : Tally). t.nodes) c.self.view_is in
     let value = c.number.ensures.value in
     let some = c.number.ensures.range.0 in
     let node = c.requires.node in

@@ -2,7 +2,7 @@
 use Rattle.std.proofs.Common.{◌≡◌, ◌+◌, ◌-◌, ◌/◌, ◌∷◌, ◌++◌, [], ℕ, Some, Option, true, false, nat_eq, length, arith, sym, ap, ◌∙◌}
 use Rattle.std.proofs.Math.Nat.{div-le_self}
 use Rattle.std.proofs.lemmas.List.{length-set}
-use Rattle.lard_loads.specs.Ranking.{at_node}
+use Rattle.lard_loads.specs.Running.{at_node}
 use Rattle.lard_loads.specs.Slot.{is_home_at, shares_open_in}
 use Rattle.lard_loads.specs.Tally.{Tally}
 use Rattle.lard_loads.proofs.Batches.{HasHome, shared-away, shared-home}
@@ -26,7 +26,7 @@ push-requires c =
 
 pub raise-requires-clause-fits : goal.raise-requires-clause-fits
 raise-requires-clause-fits c =
-    let nodes : length c.self.inside.ranking ≡ c.args.self.now.nodes = ap (λ (t : Tally). t.nodes) c.self.view_is in
+    let nodes : length c.self.inside.running ≡ c.args.self.now.nodes = ap (λ (t : Tally). t.nodes) c.self.view_is in
     let value = c.number-number.ensures.value in
     let some = c.number-number.ensures.range.0 in
     let node = c.requires.node in
@@ -38,7 +38,7 @@ raise-requires-clause-fits c =
 pub invariant_of-self : goal.invariant_of-self
 invariant_of-self c =
     let home : HasHome c.index_mut.result.now = home_known c.self.invariant c.at-2.ensures.within c.index_mut.ensures.value c.self.view_is c.at-2.ensures.value c.requires.admitted in
-    let nodes : length c.self.inside.ranking ≡ c.args.self.now.nodes = ap (λ (t : Tally). t.nodes) c.self.view_is in
+    let nodes : length c.self.inside.running ≡ c.args.self.now.nodes = ap (λ (t : Tally). t.nodes) c.self.view_is in
     let value = c.number-number.ensures.value in
     let some = c.number-number.ensures.range.0 in
     let node = c.requires.node in
@@ -55,7 +55,7 @@ returns c =
     let shares : shares_open_in c.push.new.self ≡ shares_open_in c.index_mut.result.now ++ record { node = c.args.n; units = 840 / c.args.size } ∷ [] =
     c.push.ensures.shares ∙ ap (λ (k : ℕ). shares_open_in c.index_mut.result.now ++ record { node = k; units = 840 / c.args.size } ∷ []) c.number-number.ensures.value in
     seen_as c.self.invariant c.at-2.ensures.within c.index_mut.ensures.value c.push.new.self c.raise.new.self
-    (ap length c.raise.ensures ∙ length-set c.self.inside.ranking (c.number-number.result - 1) (at_node c.self.inside.ranking c.number-number.result + 840 / c.args.size))
+    (ap length c.raise.ensures ∙ length-set c.self.inside.running (c.number-number.result - 1) (at_node c.self.inside.running c.number-number.result + 840 / c.args.size))
     c.self.view_is c.at-2.ensures.value (standing-is c.push.new.self (Some home.node) _ (c.push.ensures.home ∙ home.is) shares)
     ∙ sym (shared-away c.args.self.now c.args.c c.args.n c.args.size home.node (shares_open_in c.index_mut.result.now)
     (found_with c.self.invariant c.at-2.ensures.within c.index_mut.ensures.value c.self.view_is c.at-2.ensures.value home.is) away)
