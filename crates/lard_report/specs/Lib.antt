@@ -1,3 +1,4 @@
+pub mod Formed
 pub mod Kinds
 pub mod Laws
 pub mod Parts

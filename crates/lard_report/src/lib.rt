@@ -12,6 +12,8 @@ mod preface;
 mod records;
 #[cfg(test)]
 mod tests;
+mod widths;
 
 pub use preface::{Heading, read_file, read_heading};
 pub use records::read_record;
+pub use widths::have_widths;
