@@ -21,4 +21,5 @@ pub mod FrontWaiting
 pub mod FrontEnded
 pub mod FrontStepping
 pub mod StayFalling
+pub mod StayWalking
 pub mod StayKeeping
