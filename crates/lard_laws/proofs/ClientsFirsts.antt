@@ -126,7 +126,7 @@ module _ (iss : ℕ) where
 -- ---- segments
 
 -- the number of a segment stands in four bytes
-four : (n : ℕ) → n < 2 ^ 32 → (n / 16777216 % 256 * 256 + n / 65536 % 256) * 65536 + (n / 256 % 256 * 256 + n % 256) ≡ n
+pub four : (n : ℕ) → n < 2 ^ 32 → (n / 16777216 % 256 * 256 + n / 65536 % 256) * 65536 + (n / 256 % 256 * 256 + n % 256) ≡ n
 four n h = omega arith
 
 number-spelled : (c : ℕ) (s t : Said) → decoded (spelled c ToClient s) c ToClient ≡ Ok t

@@ -1,5 +1,5 @@
 -- Of an open client which is not established nothing is known but its SYN, in every run.
-use Rattle.std.proofs.Common.{◌≡◌, ◌<◌, ◌+◌, ◌*◌, ◌/◌, ◌%◌, ◌^◌, ℕ, Bool, true, false, List, [], ◌∷◌, Option, Some, None, refl, sym, ap, ◌∙◌, arith}
+use Rattle.std.proofs.Common.{◌≡◌, ◌<◌, ◌^◌, ℕ, Bool, true, false, List, [], ◌∷◌, Option, Some, None, refl, sym, ap, ◌∙◌, arith}
 use Rattle.lard_base.specs.declared.place.Place.{Place}
 use Rattle.lard_base.specs.declared.place.Place.TheVariants.{Client, Front, Node}
 use Rattle.lard_law_connections.specs.BytesAgreement.{IsFair, IsFairOn, IsOpen, IsTruthful}
@@ -12,6 +12,7 @@ use Rattle.lard_law_view.proofs.Carried.{carried}
 use Rattle.lard_law_view.proofs.Guarded.{untouched-law}
 use Rattle.lard_laws.specs.WindowsEarly.{AcksSyn, EarlyOn, IsEarly, LetterIsEarly, StaysEarly, StaysEarlyOn}
 use Rattle.lard_laws.specs.WindowsLaws.{OpenClientsSentTheirSyn}
+use Rattle.lard_laws.proofs.ClientsFirsts.{four}
 use Rattle.lard_laws.proofs.WindowsRefusals.{ack-same, flags-spelled}
 use Rattle.lard_laws.proofs.WindowsLetters.{same-said}
 use Rattle.lard_laws.proofs.WindowsWordRuns.{clients-start, words-fit}
@@ -30,9 +31,6 @@ use Rattle.lard_seq.proofs.Laws.{offset-add}
 use Rattle.lard_laws.proofs.WindowsEarlyMoves.{EarlyAt, Given, IsEarlyIn, IsEarlySo, LetterIs, Spelled, SpelledOn, early-law}
 
 -- ---- what is read of it
-
-four : (n : ℕ) → n < 2 ^ 32 → (n / 16777216 % 256 * 256 + n / 65536 % 256) * 65536 + (n / 256 % 256 * 256 + n % 256) ≡ n
-four n h = omega arith
 
 -- the number that is acknowledged stands in four bytes
 acks-spelled : (c : ℕ) (s t : Said) → spelled c ToClient s ≡ spelled c ToClient t → s.ack < 2 ^ 32 → t.ack < 2 ^ 32 → s.ack ≡ t.ack
