@@ -8,7 +8,7 @@ use Rattle.lard_law_connections.specs.BytesAgreement.{AwayAgrees, ConnAgrees, Is
 use Rattle.lard_law_connections.specs.BytesKeeping.{AdmittedKeeps, FrontPartAgrees, FrontTurned}
 use Rattle.lard_law_connections.proofs.BytesLaw.{Helps, IsTrueMove, StaysTruthful}
 use Rattle.lard_law_connections.proofs.BytesClientMoves.{has-fair, open-at}
-use Rattle.lard_law_connections.proofs.BytesFrontMoves.{IsOurs, RowIsOurs, all-say, drops-goes, front-seat, home-past, ours-unoffered, seat-front, talk-of}
+use Rattle.lard_law_connections.proofs.BytesFrontMoves.{IsOurs, RowIsOurs, all-say, drops-goes, front-seat, home-past, ours-unoffered, past-found, seat-front, talk-of}
 use Rattle.lard_law_connections.proofs.BytesFronts.{admissions-keep}
 use Rattle.lard_law_connections.proofs.BytesMoves.{idle-goes, move-goes, replies-fair, talk_after}
 use Rattle.lard_law_connections.proofs.BytesTold.{bytes_of}
@@ -33,6 +33,7 @@ use Rattle.lard_policy.specs.declared.first.FirstChoice.{FirstChoice}
 use Rattle.lard_request.specs.declared.verdict.Verdict.{Verdict}
 use Rattle.lard_rules.specs.declared.places.Station.{Station}
 use Rattle.lard_rules.proofs.FrontCases.{taken-keeps, admitted-keeps}
+use Rattle.lard_law_connections.proofs.PlacesGrowing.{front_epoch, grows-from}
 
 -- ---- its client opened
 
@@ -113,7 +114,7 @@ module _ (k : Setting) (small : k.stream ≤ 2 ^ 30) where
       (subst (AdmittedKeeps env.serve.files env.serve.c l.w l.out l.vs l.was_reset) admitted kept)) in
       let r : Bool = l.was_reset || list_any is_reset_record given.1.notes in
       let after : Talk = talk_after k.files x s there l pend o v t.out_after t.vs_after in
-      let past = home-past k small x s there same mine l pend o (owning (tale_at x)) row (stage.Waiting b) at tt (subst (Sits (owning (tale_at x)) x.part.nodes) found help.placed.sits) in
+      let past = past-found k small x s there same mine l pend o (Some row) found (home-past k small x s there same mine l pend o (owning (tale_at x)) row (stage.Waiting b) at tt (subst (Sits (owning (tale_at x)) x.part.nodes) found help.placed.sits)) in
       move-goes k.files x s there l pend o v help
       (record {
         heads = refl;
@@ -127,7 +128,7 @@ module _ (k : Setting) (small : k.stream ≤ 2 ^ 30) where
         pend_after = [];
         longer = t.longer;
         says = t.says;
-        seat = front-seat l.w t.out_after t.vs_after [] r x.c v.part given.0.row _ help.owes.sits past t.agrees;
+        seat = front-seat l.w t.out_after t.vs_after [] r x.c v.part (front_epoch x.part.front.row) given.0.row (grows-from v.part.nodes x.part.front.row given.0.row help.owes.grows.front) past t.agrees;
         ways = o.ways;
         noted = t.noted;
         sent = t.sent;

@@ -15,7 +15,7 @@ use Rattle.lard_law_connections.proofs.BytesMessages.{forwards-read}
 use Rattle.lard_law_connections.proofs.BytesMoves.{idle-goes, move-goes, replies-fair, talk_after}
 use Rattle.lard_law_connections.proofs.BytesTold.{bytes_of}
 use Rattle.lard_law_connections.specs.Places.{ArePast, IsOffered, Offers, Owning, Sits, StageSits, owning}
-use Rattle.lard_law_connections.proofs.PlacesGrowing.{past-later}
+use Rattle.lard_law_connections.proofs.PlacesGrowing.{IsFrom, past-later, front_epoch, grows-from}
 use Rattle.lard_law_connections.proofs.PlacesHeads.{kinds-same}
 use Rattle.lard_law_view.specs.Carry.{tale_at}
 use Rattle.lard_law_view.specs.View.{AreSent, Conn, IsFrontEnv, Move, Part, Setting, Was, event_seen, front_does, letter, packet_seen}
@@ -129,15 +129,15 @@ module _ (w out : Stream) (vs pend : List Verdict) (r : Bool) (c : ℕ) (p : Par
   seat-front None ours h = (h.0, h.2)
   seat-front (Some row) ours h = stage-front row.epoch.0 row.stage ours h
 
-  -- and back, where no node has it
-  front-stage : (e : ℕ) (d : FrontConn) (own : Owning) → StageSits e own p.nodes d → ArePast 1 p.nodes → FrontStageAgrees w out vs r c e p.front d → StageAgrees w out vs [] r c p e d
-  front-stage e (stage.Offering n d) own sits past h = inl (past-later 1 e (p.nodes n).row (omega (arith, sits.0)) (past n), h)
-  front-stage e (stage.Moved n d) own sits past h = absurd h
-  front-stage e _ own sits past h = h
+  -- and back, where no node has it since an epoch that is no later
+  front-stage : (i e : ℕ) (d : FrontConn) → i ≤ e → ArePast i p.nodes → FrontStageAgrees w out vs r c e p.front d → StageAgrees w out vs [] r c p e d
+  front-stage i e (stage.Offering n d) le past h = inl (past-later i e (p.nodes n).row le (past n), h)
+  front-stage i e (stage.Moved n d) le past h = absurd h
+  front-stage i e _ le past h = h
 
-  pub front-seat : (o : Option FrontRow) (own : Owning) → Sits own p.nodes o → ArePast 1 p.nodes → FrontRowAgrees w out vs r c p.front o → SeatAgrees w out vs [] r c p o
-  front-seat None own sits past h = (h.0, refl, h.1)
-  front-seat (Some row) own sits past h = front-stage row.epoch.0 row.stage own sits.0 past h
+  pub front-seat : (i : ℕ) (o : Option FrontRow) → IsFrom i o → ArePast i p.nodes → FrontRowAgrees w out vs r c p.front o → SeatAgrees w out vs [] r c p o
+  front-seat i None le past h = (h.0, refl, h.1)
+  front-seat i (Some row) le past h = front-stage i row.epoch.0 row.stage le past h
 
 -- ---- what it does
 
@@ -168,7 +168,7 @@ module _ (k : Setting) (small : k.stream ≤ 2 ^ 30) (x : Conn) (s : Station) (t
         letters = Each-append (IsFair l x.c x.part) (map (letter Front) turn.segments) (map (letter Front) turn.messages) (replies-fair l x.c x.part Front (inl refl) turn.segments replies) fair;
       }))
 
-  does-goes : (heads : List Seen) (did : Did) → bytes_of (tale_before x (front_does x heads (Does did))) ≡ bytes_of (tale_at x) → ((n e : ℕ) → IsOffered n e x.part.front.row → ⊥) → ArePast 1 x.part.nodes
+  does-goes : (heads : List Seen) (did : Did) → bytes_of (tale_before x (front_does x heads (Does did))) ≡ bytes_of (tale_at x) → ((n e : ℕ) → IsOffered n e x.part.front.row → ⊥) → ArePast (front_epoch x.part.front.row) x.part.nodes
       → FrontTurned k.files x.c l.w l.out l.vs l.was_reset did.part did.turn → Helps x (front_does x heads (Does did)) → IsTrueMove k.files x (front_does x heads (Does did))
   does-goes heads did quiet unoffered past t help =
       let v : Move = front_does x heads (Does did) in
@@ -182,7 +182,7 @@ module _ (k : Setting) (small : k.stream ≤ 2 ^ 30) (x : Conn) (s : Station) (t
         pend_after = [];
         longer = t.longer;
         says = t.says;
-        seat = front-seat l.w t.out_after t.vs_after [] r x.c v.part did.part.row _ help.owes.sits past t.agrees;
+        seat = front-seat l.w t.out_after t.vs_after [] r x.c v.part (front_epoch x.part.front.row) did.part.row (grows-from v.part.nodes x.part.front.row did.part.row help.owes.grows.front) past t.agrees;
         ways = o.ways;
         noted = t.noted;
         sent = t.sent;
@@ -195,7 +195,7 @@ module _ (k : Setting) (small : k.stream ≤ 2 ^ 30) (x : Conn) (s : Station) (t
       (record { heads = quiet; station = refl; offers = λ n e a b. refl; ends = λ n e over. inl refl })
       (idle-goes k.files x s there l pend o (front_does x heads Drops) (record { each = tt; served = refl; size = refl; reset = refl; seat = o.seat; ways = o.ways; sent = tt; letters = tt }))
 
-  deed-goes : (heads : List Seen) (d : FrontDeed) → IsQuiet heads → ((n e : ℕ) → IsOffered n e x.part.front.row → ⊥) → ArePast 1 x.part.nodes → MessagesFair d
+  deed-goes : (heads : List Seen) (d : FrontDeed) → IsQuiet heads → ((n e : ℕ) → IsOffered n e x.part.front.row → ⊥) → ArePast (front_epoch x.part.front.row) x.part.nodes → MessagesFair d
       → FrontDeedKeeps k.files x.c l.w l.out l.vs l.was_reset d → Helps x (front_does x heads d) → IsTrueMove k.files x (front_does x heads d)
   deed-goes heads Drops quiet unoffered past fair t help = drops-goes heads (quiet Drops) help
   deed-goes heads (Says turn) quiet unoffered past fair t help = says-goes heads turn (quiet (Says turn)) t.0 t.1 fair help
@@ -225,11 +225,14 @@ module _ (k : Setting) (small : k.stream ≤ 2 ^ 30) (x : Conn) (s : Station) (t
   again-fair [] h = tt
   again-fair (q ∷ ks) h = (has-fair (IsFair l x.c x.part) (record { from = Front; to = q.to; bytes = q.bytes }) x.letters h.0.1 o.fair, again-fair ks h.1)
 
-  -- where it is held, or waits, or nobody has it, no node has more than a stay that is over
-  pub home-past : (own : Owning) (row : FrontRow) (d : FrontConn) → row.stage ≡ d → IsBefore d → Sits own x.part.nodes (Some row) → ArePast 1 x.part.nodes
-  home-past own row (stage.Held b) at before sits = let h : StageSits row.epoch.0 own x.part.nodes (stage.Held b) = subst (StageSits row.epoch.0 own x.part.nodes) at sits.0 in subst (λ (e : ℕ). ArePast e x.part.nodes) h.0 h.1.1
-  home-past own row (stage.Waiting b) at before sits = let h : StageSits row.epoch.0 own x.part.nodes (stage.Waiting b) = subst (StageSits row.epoch.0 own x.part.nodes) at sits.0 in subst (λ (e : ℕ). ArePast e x.part.nodes) h.0 h.1.1
+  -- where it is held, or waits, no node has more than a stay that is over
+  pub home-past : (own : Owning) (row : FrontRow) (d : FrontConn) → row.stage ≡ d → IsBefore d → Sits own x.part.nodes (Some row) → ArePast row.epoch.0 x.part.nodes
+  home-past own row (stage.Held b) at before sits = let h : StageSits row.epoch.0 own x.part.nodes (stage.Held b) = subst (StageSits row.epoch.0 own x.part.nodes) at sits.0 in h.1.1
+  home-past own row (stage.Waiting b) at before sits = let h : StageSits row.epoch.0 own x.part.nodes (stage.Waiting b) = subst (StageSits row.epoch.0 own x.part.nodes) at sits.0 in h.1.1
   home-past own row _ at before sits = absurd before
+
+  past-found : (o : Option FrontRow) → x.part.front.row ≡ o → ArePast (front_epoch o) x.part.nodes → ArePast (front_epoch x.part.front.row) x.part.nodes
+  past-found o found past = subst (λ (q : Option FrontRow). ArePast (front_epoch q) x.part.nodes) (sym found) past
 
   module _ (talk : IsFrontTalk env l.w l.out l.vs) (heads : List Seen) (quiet : IsQuiet k small x s there l pend o heads) where
     abbrev p : FrontPart
@@ -248,14 +251,14 @@ module _ (k : Setting) (small : k.stream ≤ 2 ^ 30) (x : Conn) (s : Station) (t
     at-home : (row : FrontRow) (st : FrontConn) → IsInStage p row st → IsBefore st → IsOurs st → (d : FrontDeed) → MessagesFair k small x s there l pend o d → Goes d
     at-home row st at before mine d fair keeps help =
         deed-goes k small x s there l pend o heads d quiet (ours-unoffered p.row (ours row st at mine))
-        (home-past (owning (tale_at x)) row st at.1 before (subst (Sits (owning (tale_at x)) x.part.nodes) at.0 help.placed.sits)) fair (keeps (ours row st at mine)) help
+        (past-found (Some row) at.0 (home-past (owning (tale_at x)) row st at.1 before (subst (Sits (owning (tale_at x)) x.part.nodes) at.0 help.placed.sits))) fair (keeps (ours row st at mine)) help
 
     -- nobody has it yet
     begins-here : (sd : Said) → p.row ≡ None → Goes (front_begun env p sd)
     begins-here sd none keeps help =
         let mine : RowIsOurs p.row = subst RowIsOurs (sym none) tt in
         let sits : Sits (owning (tale_at x)) x.part.nodes None = subst (Sits (owning (tale_at x)) x.part.nodes) none help.placed.sits in
-        deed-goes k small x s there l pend o heads (front_begun env p sd) quiet (ours-unoffered p.row mine) (λ n. past-later 0 1 (x.part.nodes n).row (omega arith) (sits.1 n)) tt (keeps mine) help
+        deed-goes k small x s there l pend o heads (front_begun env p sd) quiet (ours-unoffered p.row mine) (past-found None none sits.1) tt (keeps mine) help
 
     module _ (bytes : List ℕ) (sd : Said) (is_spelled : bytes ≡ spelled x.c ToCluster sd) (word : IsWord l.w sd) where
       forwards : (n : ℕ) (d : Epoch) → Goes (forwarded env n d bytes)

@@ -28,7 +28,7 @@ use Rattle.lard_law_connections.proofs.BytesNodeMoves.{HasIt, IsAt, Noted, again
 use Rattle.lard_law_connections.proofs.BytesStays.{contents-keep, node-hears, offers-keep, reads-keep, tags-keep, timer-keeps}
 use Rattle.lard_law_connections.proofs.BytesTold.{bytes_of, named-each, named-resets, named-served, named-size}
 use Rattle.lard_law_connections.specs.Places.{HasEnded, IsDecided, IsOffered, IsOver, IsPast, Offers, Sits, StageSits, owning}
-use Rattle.lard_law_connections.proofs.PlacesTurns.{IsPlaced}
+use Rattle.lard_law_connections.proofs.PlacesTurns.{IsPlaced, early-at}
 use Rattle.lard_law_view.specs.Carry.{tale_at}
 use Rattle.lard_law_view.specs.View.{Conn, IsNodeEnv, Setting, SpellsMessage, Was, epoch_in, letter, named_records, node_does, reads_first}
 use Rattle.lard_law_view.proofs.Rows.{tale_before}
@@ -201,7 +201,8 @@ module _ (k : Setting) (small : k.stream ≤ 2 ^ 30) (x : Conn) (s : Station) (t
         (λ (a : IsDecided row.epoch.0 (x.part.nodes m).row × NodeAgrees l.w l.out l.vs pend l.was_reset x.c (x.part.nodes m)).
         absurd (not (subst (λ (e : ℕ). IsDecided e p.row) now (subst (λ (i : ℕ). IsDecided row.epoch.0 (x.part.nodes i).row) mine a.0)))) away in
         let spelled : message x.c row.epoch.0 (body.Offer (parts_of offering.block offering.count)) ≡ bytes = ap first_bytes (sym offering.kept_is ∙ kept.1) ∙ kept.2 in
-        let same : parts ≡ parts_of offering.block offering.count = offers-read x.c row.epoch.0 l.w l.out l.vs pend offering.block offering.count help.number (omega (arith, sits.0)) talk-of.stream offering.holds offering.frozen _ parts
+        let early = early-at x help.placed row found (stage.Offering m d) at in
+        let same : parts ≡ parts_of offering.block offering.count = offers-read x.c row.epoch.0 l.w l.out l.vs pend offering.block offering.count help.number (omega (arith, early)) talk-of.stream offering.holds offering.frozen _ parts
         (ap decoded_message spelled ∙ spells) refl in
         let all = subst (λ (q : EndpointParts). DeedKeeps env.serve.files env.serve.c env.epoch p l.w l.out l.vs l.was_reset (node_offered env p q)) (sym same) (offers-keep env l.w l.out l.vs pend l.was_reset p offering.block offering.count talk-of offering.holds offering.frozen) in
         deed-with heads quiet (node_offered env p parts) (own-keeps (node_offered env p parts) all) row found (subst (IsAt n) (sym at) mine) (now ∙ sym is.epoch_is)

@@ -17,6 +17,7 @@ pub mod PolicyStanding
 pub mod PolicySteps
 pub mod PolicyWaiting
 pub mod PlacesClients
+pub mod PlacesEarly
 pub mod PlacesFront
 pub mod PlacesFrontMessages
 pub mod PlacesFrontRules

@@ -16,7 +16,7 @@ use Rattle.lard_law_connections.proofs.MotionPicking.{IsStill, pick, pick-append
 use Rattle.lard_law_connections.specs.Places.{ArePast, IsDecided, IsPast, Owning, Sits, StageSits, owning}
 use Rattle.lard_law_connections.proofs.PlacesHeads.{spelled-head}
 use Rattle.lard_law_connections.proofs.PlacesLoops.{settled-is, spoken-to}
-use Rattle.lard_law_connections.proofs.PlacesTurns.{IsPlaced}
+use Rattle.lard_law_connections.proofs.PlacesTurns.{IsPlaced, early-at}
 use Rattle.lard_law_view.specs.Carry.{tale_at}
 use Rattle.lard_law_view.specs.View.{Conn, IsFrontEnv, Move, Setting, by_front, front_does, letter, letters_of, seen_in, sending, with_front}
 use Rattle.lard_dispatch.specs.declared.dispatch.Ask.{Ask}
@@ -59,6 +59,7 @@ use Rattle.lard_segment.specs.Segment.{Said as Segment}
 use Rattle.lard_law_view.proofs.EndpointSends.{AllTo, ready-to}
 use Rattle.lard_law_connections.proofs.MotionComings.{assigned-still, over-still, Heads, answers-still, behind_heads, forwarded-is, not-forwarded, resent-none, row-behind, without-kept}
 use Rattle.lard_rules.proofs.FrontCases.{IsInStage, of-stage, fired_before, fired_service, timer-keeps, taken-keeps, asked-keeps, admitted-keeps}
+use Rattle.lard_rules.specs.FrontSound.{IsEarlyHere}
 
 -- ---- one connection
 
@@ -192,15 +193,14 @@ module _ (k : Setting) (x : Conn) (at_place : IsPlaced x) (known : IsKnown x) (h
         go (ending.Over last) = record { away = h.away; ended = λ e some. let no : None ≡ Some e = sym h.epoch ∙ some in absurd cc }
 
   -- it is handed off
-  handed-move : (row : FrontRow) → p.row ≡ Some row → IsHeld t → row.epoch.0 ≡ 1 → ArePast 1 nodes → es ≡ [] → (s : Service) (path : List ℕ) (choice : FirstChoice) (calls : List Call) → Each IsStill s.notes
+  handed-move : (row : FrontRow) → p.row ≡ Some row → IsHeld t → IsEarlyHere row.epoch.0 → ArePast row.epoch.0 nodes → es ≡ [] → (s : Service) (path : List ℕ) (choice : FirstChoice) (calls : List Call) → Each IsStill s.notes
       → Goes (Does (record { part = (handed_off env row s path choice).0; turn = (handed_off env row s path choice).1; calls = calls }))
-  handed-move row found h one past none s path choice calls notes =
+  handed-move row found h early past none s path choice calls notes =
       let given : FrontPart × FrontTurn = handed_off env row s path choice in
       let e : ℕ = row.epoch.0 in
       let more : List Rec = rec.Admitted env.serve.c ∷ rec.AssignedFirst env.serve.c (s.count + 1) path choice.node choice.add choice.remove ∷ [] in
       let then : Story = record u { node = Some choice.node; away = true; epoch = Some (e + 1) } in
-      let small : e + 1 < 2 ^ 16 = omega (arith, one) in
-      let two : e + 1 ≡ 2 = omega (arith, one) in
+      let small : e + 1 < 2 ^ 16 = omega (arith, early) in
       let r : RowKnown t (Some row) = row-of row found in
       let calm = held-calm row found h in
       turns-move given.0 given.1 [] (e ∷ []) (choice.node ∷ []) [] then (record {
@@ -214,39 +214,39 @@ module _ (k : Setting) (x : Conn) (at_place : IsPlaced x) (known : IsKnown x) (h
         off = inl (refl, spelled-head _ small);
         back = (no-takes t).1 ∙ calm.back;
         forth = calm.forth;
-        row = (r.0, ap (λ b. b || syn) r.1, record { away = refl; epoch = refl; node = refl; ended = undone (e + 1) two });
+        row = (r.0, ap (λ b. b || syn) r.1, record { away = refl; epoch = refl; node = refl; ended = undone });
         ended = refl;
         kept = ((e + 1, spelled-head _ small), tt);
       }) where
-        undecided : (o : Option BackRow) → IsPast 1 o → IsDecided 2 o → ⊥
+        undecided : (o : Option BackRow) → IsPast row.epoch.0 o → IsDecided (row.epoch.0 + 1) o → ⊥
         undecided None q d = d
         undecided (Some b) q d = omega (arith, q.0, d)
 
         -- no node told that it ended in the next epoch
-        undone : (d : ℕ) → d ≡ 2 → is_among d (t.ended ++ es) ≡ false
-        undone d two = go (is_among d (t.ended ++ es)) refl where
-          go : (b : Bool) → is_among d (t.ended ++ es) ≡ b → b ≡ false
+        undone : is_among (row.epoch.0 + 1) (t.ended ++ es) ≡ false
+        undone = go (is_among (row.epoch.0 + 1) (t.ended ++ es)) refl where
+          go : (b : Bool) → is_among (row.epoch.0 + 1) (t.ended ++ es) ≡ b → b ≡ false
           go false f = refl
-          go true f = let some : SomeDecided d nodes = some_ended d f in absurd (undecided (nodes some.0).row (past some.0) (subst (λ (n : ℕ). IsDecided n (nodes some.0).row) two some.1))
+          go true f = let some : SomeDecided (row.epoch.0 + 1) nodes = some_ended (row.epoch.0 + 1) f in absurd (undecided (nodes some.0).row (past some.0) some.1)
 
-  placed-move : (row : FrontRow) → p.row ≡ Some row → IsHeld t → row.epoch.0 ≡ 1 → ArePast 1 nodes → es ≡ [] → (rest : FrontRest) (s : Service) (path : List ℕ) (f : First) → Each IsStill s.notes
+  placed-move : (row : FrontRow) → p.row ≡ Some row → IsHeld t → IsEarlyHere row.epoch.0 → ArePast row.epoch.0 nodes → es ≡ [] → (rest : FrontRest) (s : Service) (path : List ℕ) (f : First) → Each IsStill s.notes
       → Goes (Does (placed env p row rest s path f))
-  placed-move row found h one past none rest s path (first.Go choice) notes = handed-move row found h one past none s path choice (call.First env.serve.c path env.now ∷ []) notes
-  placed-move row found h one past none rest s path first.Waits notes =
+  placed-move row found h early past none rest s path (first.Go choice) notes = handed-move row found h early past none s path choice (call.First env.serve.c path env.now ∷ []) notes
+  placed-move row found h early past none rest s path first.Waits notes =
       let w : Service = record s { notes = s.notes ++ rec.Waits env.serve.c ∷ [] } in
       ends-move row found h (record rest { target = Some path }) stage.Waiting (λ b. held-behind h) (spoken env.serve w []) (call.First env.serve.c path env.now ∷ leaves_by env.serve.c (spoken env.serve w []).0)
       (Each-append IsStill s.notes (rec.Waits env.serve.c ∷ []) notes (tt, tt)) (spoken-to env.serve w [] tt)
 
-  settled-move : (row : FrontRow) → p.row ≡ Some row → IsHeld t → row.epoch.0 ≡ 1 → ArePast 1 nodes → es ≡ [] → (rest : FrontRest) (s : Service) (o : Option (List ℕ)) → Each IsStill s.notes → Goes (settled_by env p row rest s o)
-  settled-move row found h one past none rest s None notes =
+  settled-move : (row : FrontRow) → p.row ≡ Some row → IsHeld t → IsEarlyHere row.epoch.0 → ArePast row.epoch.0 nodes → es ≡ [] → (rest : FrontRest) (s : Service) (o : Option (List ℕ)) → Each IsStill s.notes → Goes (settled_by env p row rest s o)
+  settled-move row found h early past none rest s None notes =
       let done = settled-is env.serve s in
       ends-move row found h rest stage.Held (λ b. held-behind h) (serving_settled env.serve s) [] (subst (Each IsStill) (sym done.notes) notes) done.to
-  settled-move row found h one past none rest s (Some path) notes = placed-move row found h one past none rest s path (env.first path) notes
+  settled-move row found h early past none rest s (Some path) notes = placed-move row found h early past none rest s path (env.first path) notes
 
-  heard-move : (row : FrontRow) → p.row ≡ Some row → IsHeld t → row.epoch.0 ≡ 1 → ArePast 1 nodes → es ≡ [] → (rest : FrontRest) (b : ControlBlock) → Goes (heard env p row rest b)
-  heard-move row found h one past none rest b =
+  heard-move : (row : FrontRow) → p.row ≡ Some row → IsHeld t → IsEarlyHere row.epoch.0 → ArePast row.epoch.0 nodes → es ≡ [] → (rest : FrontRest) (b : ControlBlock) → Goes (heard env p row rest b)
+  heard-move row found h early past none rest b =
       let r : Reading = front_reads env.serve (record { service = serving b rest.count []; target = None }) in
-      settled-move row found h one past none rest r.service r.target (answers-still r.service.notes (reads-answers env.serve (record { service = serving b rest.count []; target = None }) tt))
+      settled-move row found h early past none rest r.service r.target (answers-still r.service.notes (reads-answers env.serve (record { service = serving b rest.count []; target = None }) tt))
 
   -- ---- what is kept is as it was
 
@@ -353,7 +353,7 @@ module _ (k : Setting) (x : Conn) (at_place : IsPlaced x) (known : IsKnown x) (h
       hears-at : (s : Segment) (row : FrontRow) → p.row ≡ Some row → (st : FrontConn) → row.stage ≡ st → Goes (hears_at env p row bytes s st)
       hears-at s row found (stage.Held b) at =
           let sits : StageSits row.epoch.0 own nodes (stage.Held b) = subst (StageSits row.epoch.0 own nodes) at (sits-row row found) in
-          heard-move row found (subst (StageKnown t) at (row-of row found).2) sits.0 (subst (λ (e : ℕ). ArePast e nodes) sits.0 sits.1.1) none_ended (front_rest p.rest) (on_segment b s).1
+          heard-move row found (subst (StageKnown t) at (row-of row found).2) (early-at x at_place row found (stage.Held b) at) sits.1.1 none_ended (front_rest p.rest) (on_segment b s).1
       hears-at s row found (stage.Waiting b) at =
           let w : Service = serving (on_segment b s).1 (front_rest p.rest).count [] in
           let h : IsHeld t = subst (StageKnown t) at (row-of row found).2 in
@@ -550,4 +550,4 @@ module _ (k : Setting) (x : Conn) (at_place : IsPlaced x) (known : IsKnown x) (h
     pub admitted-move : front_admitted env p choice ≡ Some given → Admitted given
     admitted-move = admitted-keeps env p choice Admitted (λ row b path at target.
         let sits : StageSits row.epoch.0 own nodes (stage.Waiting b) = (of-stage (Sits own nodes) p row (stage.Waiting b) at at_place.sits).0 in
-        handed-move row at.0 (subst (StageKnown t) at.1 (row-of row at.0).2) sits.0 (subst (λ (e : ℕ). ArePast e nodes) sits.0 sits.1.1) none_ended (serving b (front_rest p.rest).count []) path choice [] tt) given
+        handed-move row at.0 (subst (StageKnown t) at.1 (row-of row at.0).2) (early-at x at_place row at.0 (stage.Waiting b) at.1) sits.1.1 none_ended (serving b (front_rest p.rest).count []) path choice [] tt) given

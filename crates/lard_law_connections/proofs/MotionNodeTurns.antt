@@ -12,7 +12,7 @@ use Rattle.lard_law_connections.specs.Motion.{EachIsTold, NodeEnds, Says as Says
 use Rattle.lard_law_connections.specs.MotionStory.{from_node, highest, node_gave_epoch, node_took, of_row, epoch_offered, picked}
 use Rattle.lard_law_connections.proofs.MotionElsewhere.{Helps}
 use Rattle.lard_law_connections.proofs.MotionPicking.{pick, pick-append, pick-none, pick-parts, pick-seen}
-use Rattle.lard_law_connections.specs.Places.{Head, IsDecided, IsOffered, Offers, Owning, Sits, StageSits, owning}
+use Rattle.lard_law_connections.specs.Places.{Head, IsDecided, IsEven, IsOffered, Owning, owning}
 use Rattle.lard_law_connections.proofs.PlacesHeads.{spelled-head}
 use Rattle.lard_law_connections.proofs.PlacesLoops.{batch-state, came-notes, goes-notes, settled-is, tagged-notes}
 use Rattle.lard_law_connections.proofs.PlacesNodeRules.{Begins, has-at, here-has}
@@ -31,9 +31,6 @@ use Rattle.lard_handoff_back.specs.declared.row.BackRow.{BackRow}
 use Rattle.lard_handoff_back.specs.declared.table.Adopt.TheVariants.{New, Again, Stale}
 use Rattle.lard_handoff_back.specs.Back.{awaits_ack, back_endpoint, offer_answer, staying}
 use Rattle.lard_handoff_back.specs.Row.{back_held, is_gone}
-use Rattle.lard_handoff_front.specs.declared.row.FrontConn.{FrontConn}
-use Rattle.lard_handoff_front.specs.declared.row.FrontConn.TheVariants as stage
-use Rattle.lard_handoff_front.specs.declared.row.FrontRow.{FrontRow}
 use Rattle.lard_history.specs.Own.{Seen}
 use Rattle.lard_history.proofs.Each.{Each, Each-append, Each-weaker}
 use Rattle.lard_history.proofs.Seeing.{other_number, same_number}
@@ -56,7 +53,9 @@ use Rattle.lard_rules.specs.Serving.{serving_ready_of, serving, serving_settled,
 use Rattle.lard_rules.specs.Speaking.{listed}
 use Rattle.lard_segment.specs.declared.fault.SegFault.{SegFault}
 use Rattle.lard_segment.specs.Segment.{Said as Segment}
-use Rattle.lard_law_connections.proofs.MotionNodes.{At, IsFirst, IsOther, IsLate, NodesGo, NodesKnown, max-none, nodes-go, other-at, quiet-at, seen-gave, seen-offers, seen-took}
+use Rattle.lard_law_connections.proofs.MotionNodes.{At, IsFirst, IsOther, IsOfNodes, NodesGo, NodesKnown, max-none, nodes-go, other-at, quiet-at, seen-gave, seen-offers, seen-took}
+use Rattle.lard_rules.specs.FrontSound.{IsEarlyAway}
+use Rattle.lard_law_connections.proofs.PlacesWithNode.{offered-away}
 
 -- ---- plain notes take nothing
 
@@ -109,15 +108,15 @@ module _ (k : Setting) (x : Conn) (at_place : IsPlaced x) (known : NodesKnown x)
   put-other : (q : NodePart) (m : ℕ) → m ≢ n → node_put_back nodes n q m ≡ nodes m
   put-other q m other = ap (λ b. cond b q (nodes m)) (other_number m n other)
 
-  late-as : (o : Option BackRow) → ours.row ≡ o → IsLate o
-  late-as o e = subst IsLate e (known.late n)
+  late-as : (o : Option BackRow) → ours.row ≡ o → IsOfNodes o
+  late-as o e = subst IsOfNodes e (known.late n)
 
   -- ---- where no Offer comes to it
 
   module _ (none : picked (epoch_offered n) heads ≡ []) where
     stays-at : (v : Move) → IsItsOwn x v → v.heads ≡ heads → v.part.nodes n ≡ ours → pick (node_took n) v.said.notes ≡ [] → pick (node_gave_epoch n) v.said.gave ≡ [] → At k.nodes x v n
     stays-at v mine seen same took gave =
-        quiet-at k.nodes n x v mine known (subst (Each IsFirst) (sym seen) first) (subst (λ (hs : List Seen). picked (epoch_offered n) hs ≡ []) (sym seen) none) took gave (ap epoch_in same) (subst (λ (p : NodePart). IsLate p.row) (sym same) (known.late n))
+        quiet-at k.nodes n x v mine known (subst (Each IsFirst) (sym seen) first) (subst (λ (hs : List Seen). picked (epoch_offered n) hs ≡ []) (sym seen) none) took gave (ap epoch_in same) (subst (λ (p : NodePart). IsOfNodes p.row) (sym same) (known.late n))
 
     pub dropped : Goes Drops
     dropped help = by-own (node_does x n heads Drops) help.own refl refl (λ m other. refl) (stays-at (node_does x n heads Drops) help.own refl refl refl refl)
@@ -131,17 +130,17 @@ module _ (k : Setting) (x : Conn) (at_place : IsPlaced x) (known : NodesKnown x)
   kept-epoch part work (ending.Here b count) = refl
   kept-epoch part work (ending.Over last) = refl
 
-  kept-late : (part : NodePart) (work : Work) (e : Ending) → env.epoch ≡ 2 → IsLate (kept_after env part work e).row
-  kept-late part work (ending.Here b count) two = omega (arith, two)
-  kept-late part work (ending.Over last) two = omega (arith, two)
+  kept-late : (part : NodePart) (work : Work) (e : Ending) → IsEven env.epoch → IsOfNodes (kept_after env part work e).row
+  kept-late part work (ending.Here b count) even = even
+  kept-late part work (ending.Over last) even = even
 
   -- what it gives up is told
-  gave-told : (part : NodePart) (before_sent : List (Place × List ℕ)) (work : Work) (given : Ending × Turn) → env.epoch ≡ 2
+  gave-told : (part : NodePart) (before_sent : List (Place × List ℕ)) (work : Work) (given : Ending × Turn) → IsEarlyAway env.epoch
       → (let v : Move = node_does x n heads (Does (kept_after env part work given.0, turn_by env before_sent work given)) in IsItsOwn x v → NodeEnds n (seen_in x v))
-  gave-told part before_sent work (ending.Here b count, turn) two mine =
+  gave-told part before_sent work (ending.Here b count, turn) early mine =
       let v : Move = node_does x n heads (Does (kept_after env part work (ending.Here b count), turn_by env before_sent work (ending.Here b count, turn))) in
       subst (λ (l : List ℕ). EachIsTold l (picked (of_row (from_node n)) (seen_in x v))) (sym (seen-gave n x v mine first [] refl)) tt
-  gave-told part before_sent work (ending.Over last, turn) two mine =
+  gave-told part before_sent work (ending.Over last, turn) early mine =
       let v : Move = node_does x n heads (Does (kept_after env part work (ending.Over last), turn_by env before_sent work (ending.Over last, turn))) in
       let msgs : List (Place × List ℕ) = all_sent env before_sent work in
       let end : List (Place × List ℕ) = ended_sent env work.service.over (ending.Over last) in
@@ -150,7 +149,7 @@ module _ (k : Setting) (x : Conn) (at_place : IsPlaced x) (known : NodesKnown x)
       let m : Message = record { c = env.serve.c; epoch = record { 0 = env.epoch }; body = body.Ended last.reason last.snd.0 last.rcv.0 (reset_count work.service.over) } in
       let bytes : List ℕ = spelled_message m in
       let one : pick (from_node n) (map (sending (Node n)) end) ≡ bytes ∷ [] = ap (λ b. listed (cond b (Some bytes) None) ++ []) (same_number n) in
-      let small : env.epoch < 2 ^ 16 = omega (arith, two) in
+      let small : env.epoch < 2 ^ 16 = omega (arith, early) in
       let ends : SaysIt h (pick (from_node n) (map (sending (Node n)) end)) = subst (SaysIt h) (sym one) (inl (spelled-head m small)) in
       let told : SaysIt h (pick (from_node n) (map (sending (Node n)) (msgs ++ end))) =
       subst (λ (l : List Rec). SaysIt h (pick (from_node n) l)) (sym (map-append (sending (Node n)) msgs end))
@@ -161,25 +160,26 @@ module _ (k : Setting) (x : Conn) (at_place : IsPlaced x) (known : NodesKnown x)
       let all : SaysIt h (picked (of_row (from_node n)) (seen_in x v)) = subst (SaysIt h) (sym (pick-seen (from_node n) x v)) (says-before h (picked (of_row (from_node n)) heads) (pick (from_node n) (rows_of x v)) rows) in
       subst (λ (l : List ℕ). EachIsTold l (picked (of_row (from_node n)) (seen_in x v))) (sym (seen-gave n x v mine first (env.epoch ∷ []) gave)) (all, tt)
 
-  turn-go : (part : NodePart) (before_sent : List (Place × List ℕ)) (work : Work) (given : Ending × Turn) (takes : List ℕ) → env.epoch ≡ 2 → pick (node_took n) (named_records given.1.notes) ≡ takes
+  turn-go : (part : NodePart) (before_sent : List (Place × List ℕ)) (work : Work) (given : Ending × Turn) (takes : List ℕ) → IsEven env.epoch → IsEarlyAway env.epoch → pick (node_took n) (named_records given.1.notes) ≡ takes
       → (is_no_node k.nodes n ≡ false → takes ≡ above before (picked (epoch_offered n) heads)) → max before (highest takes) ≡ env.epoch → Goes (Does (kept_after env part work given.0, turn_by env before_sent work given))
-  turn-go part before_sent work given takes two took due then help =
+  turn-go part before_sent work given takes even early took due then help =
       let q : NodePart = kept_after env part work given.0 in
       let v : Move = node_does x n heads (Does (q, turn_by env before_sent work given)) in
       by-own v help.own refl refl (put-other q) (record {
         takes = takes;
         takes_are = seen-took n x v help.own first takes took;
         due = λ there. due there ∙ ap (above before) (sym (seen-offers n x v help.own first (picked (epoch_offered n) heads) refl));
-        ends = gave-told part before_sent work given two help.own;
+        ends = gave-told part before_sent work given early help.own;
         then = then ∙ sym (ap epoch_in (put-same nodes n q) ∙ kept-epoch part work given.0);
-        late = subst (λ (p : NodePart). IsLate p.row) (sym (put-same nodes n q)) (kept-late part work given.0 two);
+        late = subst (λ (p : NodePart). IsOfNodes p.row) (sym (put-same nodes n q)) (kept-late part work given.0 even);
       })
 
   -- ---- of one that is here
 
   -- its stay is of this epoch
   record IsHere : Type 0 where
-    two : env.epoch ≡ 2
+    even : IsEven env.epoch
+    early : IsEarlyAway env.epoch
     now : epoch_in ours ≡ env.epoch
 
   staying-epoch : (o : Option BackRow) (b : ControlBlock) → staying env.epoch o ≡ Some b → (elim o as (λ q. ℕ) [ None ↦ 0 | Some row ↦ row.epoch.0 ]) ≡ env.epoch
@@ -199,14 +199,15 @@ module _ (k : Setting) (x : Conn) (at_place : IsPlaced x) (known : NodesKnown x)
 
   is-here : (b : ControlBlock) (s : Stay) → here env.epoch ours ≡ Some (b, s) → IsHere
   is-here b s e = record {
-    two = (here-has x at_place n env.epoch b s e).can.two;
+    even = (here-has x at_place n env.epoch b s e).can.even;
+    early = (here-has x at_place n env.epoch b s e).can.early;
     now = staying-epoch ours.row b (both-of b s (staying env.epoch ours.row) ours.stay e);
   }
 
   -- no Offer comes, and nothing is taken
   module _ (none : picked (epoch_offered n) heads ≡ []) where
     plain-go : IsHere → (part : NodePart) (before_sent : List (Place × List ℕ)) (work : Work) (given : Ending × Turn) → Each IsPlain given.1.notes → Goes (Does (kept_after env part work given.0, turn_by env before_sent work given))
-    plain-go it part before_sent work given plain = turn-go part before_sent work given [] it.two (plains-took n (named_records given.1.notes) (plain-named given.1.notes plain))
+    plain-go it part before_sent work given plain = turn-go part before_sent work given [] it.even it.early (plains-took n (named_records given.1.notes) (plain-named given.1.notes plain))
         (λ there. ap (above before) (sym none)) (max-none before ∙ known.highest_is n ∙ it.now)
 
     works-go : IsHere → (part : NodePart) (work : Work) → Each IsPlain work.service.notes → Goes (with_work env part [] (goes_on env work))
@@ -258,7 +259,7 @@ module _ (k : Setting) (x : Conn) (at_place : IsPlaced x) (known : NodesKnown x)
     gone-epoch None = refl
     gone-epoch (Some row) = refl
 
-    gone-late : (o : Option BackRow) → IsLate o → IsLate (gone o)
+    gone-late : (o : Option BackRow) → IsOfNodes o → IsOfNodes (gone o)
     gone-late None h = tt
     gone-late (Some row) h = h
 
@@ -270,7 +271,7 @@ module _ (k : Setting) (x : Conn) (at_place : IsPlaced x) (known : NodesKnown x)
         let v : Move = node_does x n heads (Does (q, node_saying [])) in
         by-own v help.own refl refl (put-other q)
         (quiet-at k.nodes n x v help.own known first none refl refl (ap epoch_in (put-same nodes n q) ∙ gone-epoch ours.row)
-        (subst (λ (p : NodePart). IsLate p.row) (sym (put-same nodes n q)) (gone-late ours.row (known.late n)))))
+        (subst (λ (p : NodePart). IsOfNodes p.row) (sym (put-same nodes n q)) (gone-late ours.row (known.late n)))))
         (λ t. dropped none)
 
   -- ---- an Offer comes to it
@@ -287,7 +288,7 @@ module _ (k : Setting) (x : Conn) (at_place : IsPlaced x) (known : NodesKnown x)
           due = λ there. sym (ap (above before) offers ∙ ap (λ (b : Bool). cond b (env.epoch ∷ []) []) (ap (λ (h : ℕ). nat_lt h env.epoch) (known.highest_is n) ∙ old));
           ends = subst (λ (l : List ℕ). EachIsTold l (picked (of_row (from_node n)) (seen_in x v))) (sym (seen-gave n x v mine firsts [] gave)) tt;
           then = max-none before ∙ known.highest_is n ∙ sym (ap epoch_in same);
-          late = subst (λ (p : NodePart). IsLate p.row) (sym same) (known.late n);
+          late = subst (λ (p : NodePart). IsOfNodes p.row) (sym same) (known.late n);
         }
 
     old-drops : nat_lt (epoch_in ours) env.epoch ≡ false → Goes Drops
@@ -296,23 +297,12 @@ module _ (k : Setting) (x : Conn) (at_place : IsPlaced x) (known : NodesKnown x)
     old-says : nat_lt (epoch_in ours) env.epoch ≡ false → (ms : List (Place × List ℕ)) → Goes (Says ms)
     old-says old ms help = by-own (node_does x n heads (Says ms)) help.own refl refl (λ m other. refl) (stale-at (node_does x n heads (Says ms)) help.own refl refl refl refl old)
 
-    -- it is offered in epoch 2
-    offered-two : (o : Option FrontRow) → x.part.front.row ≡ o → IsOffered n env.epoch o → env.epoch ≡ 2
-    offered-two None found offered = absurd offered
-    offered-two (Some f) found offered = go f.stage refl offered where
-      go : (st : FrontConn) → f.stage ≡ st → Offers n env.epoch st → env.epoch ≡ 2
-      go (stage.Offering m d) at offers =
-          let s : Sits own nodes (Some f) = subst (Sits own nodes) found at_place.sits in
-          let sits : StageSits f.epoch.0 own nodes (stage.Offering m d) = subst (StageSits f.epoch.0 own nodes) at s.0 in
-          sym offers.1 ∙ sits.1 ∙ sits.0
-      go (stage.Held b) at offers = absurd offers
-      go (stage.Waiting b) at offers = absurd offers
-      go stage.Lent at offers = absurd offers
-      go (stage.Moved m d) at offers = absurd offers
-      go (stage.Closed last) at offers = absurd offers
+    -- where it is new it is offered, in an early epoch of nodes
+    abbrev IsAwayNow : Type 0
+    IsAwayNow = IsEven env.epoch × IsEarlyAway env.epoch
 
-    undecided-two : (IsDecided env.epoch ours.row → ⊥) → env.epoch ≡ 2
-    undecided-two other = offered-two x.part.front.row refl (⊎_elim (λ (d : IsDecided env.epoch ours.row). absurd (other d)) (λ (o : IsOffered n env.epoch x.part.front.row). o) said)
+    undecided-away : (IsDecided env.epoch ours.row → ⊥) → IsAwayNow
+    undecided-away other = offered-away x at_place n env.epoch (⊎_elim (λ (d : IsDecided env.epoch ours.row). absurd (other d)) (λ (o : IsOffered n env.epoch x.part.front.row). o) said)
 
     begins-more : (r : Rec) (ns rs : List Rec) → Each IsPlain rs → Begins r ns → Begins r (ns ++ rs)
     begins-more r ns rs plain b = (b.0 ++ rs, ap (λ (l : List Rec). l ++ rs) b.1, Each-append IsPlain b.0 rs b.2 plain)
@@ -320,7 +310,7 @@ module _ (k : Setting) (x : Conn) (at_place : IsPlaced x) (known : NodesKnown x)
     -- the node takes it
     new-go : (IsDecided env.epoch ours.row → ⊥) → nat_lt (epoch_in ours) env.epoch ≡ true → Goes (offered_by env parts ours New)
     new-go undecided above_it =
-        let two : env.epoch ≡ 2 = undecided-two undecided in
+        let away : IsAwayNow = undecided-away undecided in
         let took : Rec = rec.Took (Node env.n) env.serve.c (record { 0 = env.epoch }) in
         let start : Work = node_begins env parts in
         let work : Work = goes_on env (state_of (reads_batch env true start)) in
@@ -333,27 +323,27 @@ module _ (k : Setting) (x : Conn) (at_place : IsPlaced x) (known : NodesKnown x)
         ∙ ap (λ b. listed (cond b (Some env.epoch) None) ++ pick (node_took n) (named_records all.0)) (ap (λ (m : ℕ). nat_eq m n) is.node ∙ same_number n)
         ∙ ap (λ (l : List ℕ). env.epoch ∷ l) (plains-took n (named_records all.0) (plain-named all.0 all.2)) in
         let over : before < env.epoch = omega (arith, known.highest_is n, ltb-true (epoch_in ours) env.epoch above_it) in
-        turn-go ours (taken_sent env) work given (env.epoch ∷ []) two takes
+        turn-go ours (taken_sent env) work given (env.epoch ∷ []) away.0 away.1 takes
         (λ there. sym (ap (above before) comes ∙ ap (λ (b : Bool). cond b (env.epoch ∷ []) []) (lt-ltb before env.epoch over))) (omega (arith, over))
 
     offered-row : (o : Option BackRow) → ours.row ≡ o → Goes (offered_by env parts ours (offer_answer env.epoch o))
     offered-row None found =
         let none : epoch_in ours ≡ 0 = ap (λ (o : Option BackRow). epoch_in (record ours { row = o })) found in
         let undecided : IsDecided env.epoch ours.row → ⊥ = λ d. subst (IsDecided env.epoch) found d in
-        let two : env.epoch ≡ 2 = undecided-two undecided in
-        new-go undecided (lt-ltb (epoch_in ours) env.epoch (omega (arith, none, two)))
+        let away : IsAwayNow = undecided-away undecided in
+        new-go undecided (lt-ltb (epoch_in ours) env.epoch (let some : 0 < env.epoch = away.0.1 in omega (arith, none, some)))
     offered-row (Some row) found = go (row.epoch.0 == env.epoch) refl where
       at : epoch_in ours ≡ row.epoch.0
       at = ap (λ (o : Option BackRow). epoch_in (record ours { row = o })) found
 
       -- a stay of an earlier epoch is not there
-      late : 2 ≤ row.epoch.0
+      late : IsEven row.epoch.0
       late = late-as (Some row) found
 
       not-less : row.epoch.0 < env.epoch → ⊥
       not-less less =
-          let two : env.epoch ≡ 2 = undecided-two (λ d. let le : env.epoch ≤ row.epoch.0 = subst (IsDecided env.epoch) found d in omega (arith, le, less)) in
-          omega (arith, two, late, less)
+          let away : IsAwayNow = undecided-away (λ d. let le : env.epoch ≤ row.epoch.0 = subst (IsDecided env.epoch) found d in omega (arith, le, less)) in
+          omega (arith, away.1, late.0, late.1, less)
 
       old : nat_lt (epoch_in ours) env.epoch ≡ false
       old = go_on (nat_lt (epoch_in ours) env.epoch) refl where
@@ -381,22 +371,25 @@ module _ (k : Setting) (x : Conn) (at_place : IsPlaced x) (known : NodesKnown x)
   abbrev Fires : NodeDeed → Type 0
   Fires d = Goes k x at_place known n (epoch_in mine) env is heads first (λ m other. none m) d
 
-  two-at : (row : BackRow) (b : ControlBlock) → mine.row ≡ Some row → back_held row.stage ≡ Some b → row.epoch.0 ≡ 2
-  two-at row b found held = (has-at x at_place n row b found (in-stage row.stage held) x.part.front.row refl).can.two where
+  away-at : (row : BackRow) (b : ControlBlock) → mine.row ≡ Some row → back_held row.stage ≡ Some b → IsEven row.epoch.0 × IsEarlyAway row.epoch.0
+  away-at row b found held = let can = (has-at x at_place n row b found (in-stage row.stage held) x.part.front.row refl).can in (can.even, can.early) where
     in-stage : (st : BackConn) → back_held st ≡ Some b → st ≡ back.Here b
     in-stage (back.Here c) h = let same : c ≡ b = cc in ap back.Here same
     in-stage back.Out h = let no : None ≡ Some b = h in absurd cc
     in-stage back.Ended h = let no : None ≡ Some b = h in absurd cc
     in-stage back.Gone h = let no : None ≡ Some b = h in absurd cc
 
-  here-at : (o : Option BackRow) → mine.row ≡ o → (b : ControlBlock) → back_endpoint o ≡ Some b → env.epoch ≡ 2
+  here-at : (o : Option BackRow) → mine.row ≡ o → (b : ControlBlock) → back_endpoint o ≡ Some b → IsEven env.epoch × IsEarlyAway env.epoch
   here-at None found b e = let no : None ≡ Some b = e in absurd cc
-  here-at (Some row) found b e = is.epoch_is ∙ ap (λ (o : Option BackRow). epoch_in (record mine { row = o })) found ∙ two-at row b found e
+  here-at (Some row) found b e =
+      let same : row.epoch.0 ≡ env.epoch = sym (is.epoch_is ∙ ap (λ (o : Option BackRow). epoch_in (record mine { row = o })) found) in
+      let away = away-at row b found e in
+      (subst IsEven same away.0, subst IsEarlyAway same away.1)
 
   fires-by : (o : Option ControlBlock) → back_endpoint mine.row ≡ o → (y : Option Stay) → Fires (node_fired_by env mine (both_of o y))
   fires-by None e y = says-go k x at_place known n (epoch_in mine) env is heads first (λ m other. none m) (none n) (again_sent mine)
   fires-by (Some b) e None = says-go k x at_place known n (epoch_in mine) env is heads first (λ m other. none m) (none n) (again_sent mine)
-  fires-by (Some b) e (Some s) = plain-go k x at_place known n (epoch_in mine) env is heads first (λ m other. none m) (none n) (record { two = here-at mine.row refl b e; now = sym is.epoch_is }) mine (again_sent mine)
+  fires-by (Some b) e (Some s) = plain-go k x at_place known n (epoch_in mine) env is heads first (λ m other. none m) (none n) (let away = here-at mine.row refl b e in record { even = away.0; early = away.1; now = sym is.epoch_is }) mine (again_sent mine)
       (work_of (after_timer b) s) (spoken env.serve (serving (after_timer b) s.served []) (serving_ready_of env.serve (after_timer b) (timed b))) tt
 
   pub fires-go : Fires (node_timer env mine)

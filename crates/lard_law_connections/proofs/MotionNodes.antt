@@ -1,5 +1,5 @@
 -- What each rule makes of a connection's way at the nodes.
-use Rattle.std.proofs.Common.{◌≡◌, ◌≢◌, ◌≤◌, max, ℕ, false, cond, List, [], ◌∷◌, ◌++◌, map, Option, Some, None, refl, sym, ap, ◌∙◌, subst, arith, append-nil}
+use Rattle.std.proofs.Common.{◌≡◌, ◌≢◌, max, ℕ, false, cond, List, [], ◌∷◌, ◌++◌, map, Option, Some, None, refl, sym, ap, ◌∙◌, subst, arith, append-nil}
 use Rattle.lard_base.specs.declared.place.Place.{Place}
 use Rattle.lard_base.specs.declared.place.Place.TheVariants.{Client, Front, Node}
 use Rattle.lard_rules.specs.Machine.{is_no_node}
@@ -17,17 +17,18 @@ use Rattle.lard_history.proofs.Seeing.{other_number}
 use Rattle.lard_journal.specs.declared.rec.Rec.{Rec}
 use Rattle.lard_journal.specs.declared.rec.Rec.TheVariants as rec
 use Rattle.lard_rules.specs.Node.{NodePart}
+use Rattle.lard_law_connections.specs.Places.{IsEven}
 
 -- ---- what is known of the way at the nodes
 
--- a stay at a node is of epoch 2, or of a later one
-abbrev pub IsLate : Option BackRow → Type 0
-IsLate None = Unit {0}
-IsLate (Some row) = 2 ≤ row.epoch.0
+-- a stay at a node is of an epoch of nodes
+abbrev pub IsOfNodes : Option BackRow → Type 0
+IsOfNodes None = Unit {0}
+IsOfNodes (Some row) = IsEven row.epoch.0
 
 pub record NodesKnown (x : Conn) : Type 0 where
   pub highest_is : (n : ℕ) → highest (picked (of_row (node_took n)) x.seen) ≡ epoch_in (x.part.nodes n)
-  pub late : (n : ℕ) → IsLate (x.part.nodes n).row
+  pub late : (n : ℕ) → IsOfNodes (x.part.nodes n).row
 
 -- ---- what a step must be
 
@@ -47,7 +48,7 @@ pub record At (nodes : ℕ) (x : Conn) (v : Move) (n : ℕ) : Type 0 where
   pub due : is_no_node nodes n ≡ false → takes ≡ above (highest (picked (of_row (node_took n)) x.seen)) (picked (epoch_offered n) (seen_in x v))
   pub ends : NodeEnds n (seen_in x v)
   pub then : max (highest (picked (of_row (node_took n)) x.seen)) (highest takes) ≡ epoch_in (v.part.nodes n)
-  pub late : IsLate (v.part.nodes n).row
+  pub late : IsOfNodes (v.part.nodes n).row
 
 highest-append : (xs ys : List ℕ) → highest (xs ++ ys) ≡ max (highest xs) (highest ys)
 highest-append [] ys = omega arith
@@ -155,7 +156,7 @@ pub max-none : (h : ℕ) → max h 0 ≡ h
 max-none h = omega arith
 
 pub quiet-at : (nodes n : ℕ) (x : Conn) (v : Move) → IsItsOwn x v → NodesKnown x → Each IsFirst v.heads → picked (epoch_offered n) v.heads ≡ [] → pick (node_took n) v.said.notes ≡ [] → pick (node_gave_epoch n) v.said.gave ≡ []
-    → epoch_in (v.part.nodes n) ≡ epoch_in (x.part.nodes n) → IsLate (v.part.nodes n).row → At nodes x v n
+    → epoch_in (v.part.nodes n) ≡ epoch_in (x.part.nodes n) → IsOfNodes (v.part.nodes n).row → At nodes x v n
 quiet-at nodes n x v own known first offers took gave same late = record {
   takes = [];
   takes_are = seen-took n x v own first [] took;
@@ -196,4 +197,4 @@ pub other-at : (nodes n : ℕ) (x : Conn) (v : Move) → IsItsOwn x v → NodesK
 other-at nodes n x v own known first offers other same = quiet-at nodes n x v own known first offers
     (pick-none (node_took n) v.said.notes (Each-weaker (NotedAt v.place x.c) (λ r. node_took n r ≡ None) (λ r. other-took n v.place x.c r other) v.said.notes own.notes))
     (pick-none (node_gave_epoch n) v.said.gave (Each-weaker (GaveAt v.place x.c) (λ r. node_gave_epoch n r ≡ None) (λ r. other-gave n v.place x.c r other) v.said.gave own.gave))
-    (ap epoch_in same) (subst (λ (p : NodePart). IsLate p.row) (sym same) (known.late n))
+    (ap epoch_in same) (subst (λ (p : NodePart). IsOfNodes p.row) (sym same) (known.late n))

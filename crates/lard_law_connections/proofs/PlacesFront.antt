@@ -1,9 +1,9 @@
 -- What each rule of the front end owes.
-use Rattle.std.proofs.Common.{◌≡◌, ℕ, ◌+◌, ◌≤◌, List, [], ◌∷◌, ◌++◌, map, Option, Some, None, inl, inr, ⊎_elim, refl, sym, ap, ◌∙◌, subst, arith}
+use Rattle.std.proofs.Common.{◌≡◌, ℕ, ◌+◌, List, [], ◌∷◌, ◌++◌, map, Option, Some, None, inl, inr, ⊎_elim, refl, sym, ap, ◌∙◌, subst, arith}
 use Rattle.std.specs.List.{fold}
 use Rattle.lard_base.specs.declared.place.Place.{Place}
 use Rattle.lard_base.specs.declared.place.Place.TheVariants.{Client, Front, Node}
-use Rattle.lard_law_connections.specs.Places.{EndedBefore, IsHome, IsPast, LetterMay, MaySay, Offers, Owning, Sits, StageSits, message_head, owning}
+use Rattle.lard_law_connections.specs.Places.{EndedBefore, IsEven, IsHome, IsOdd, IsPast, LetterMay, MaySay, Offers, Owning, Sits, StageSits, message_head, owning}
 use Rattle.lard_law_connections.proofs.PlacesGrowing.{FrontGrows, back-still, front-still, past-later}
 use Rattle.lard_law_connections.proofs.PlacesHeads.{spelled-head}
 use Rattle.lard_law_connections.proofs.PlacesLoops.{reads-notes, settled-is, spoken-to}
@@ -32,6 +32,7 @@ use Rattle.lard_rules.specs.declared.places.Turn.{Turn}
 use Rattle.lard_rules.specs.Serving.{Service, serving, serving_settled, spoken}
 use Rattle.lard_law_view.proofs.EndpointSends.{AllTo}
 use Rattle.lard_law_view.proofs.RowLists.{MayBeSeen}
+use Rattle.lard_rules.specs.FrontSound.{IsEarlyHere}
 
 -- ---- what is seen before the notes
 
@@ -107,19 +108,19 @@ module _ (x : Conn) (heads : List Seen) (quiet : IsQuiet x heads) where
   -- It stays in a stage of its own, or ended; the front end owns it then.
   pub ends-owe : (row : FrontRow) (rest : FrontRest) (stays : ControlBlock → FrontConn) (given : Ending × Turn) (calls : List Call) (v : Owning)
       → ((b : ControlBlock) → IsHome row.epoch.0 v x.part.nodes → StageSits row.epoch.0 v x.part.nodes (stays b))
-      → row.epoch.0 ≤ 3 → EndedBefore row.epoch.0 row.ended_by → IsHome row.epoch.0 v x.part.nodes
+      → IsOdd row.epoch.0 → EndedBefore row.epoch.0 row.ended_by → IsHome row.epoch.0 v x.part.nodes
       → ((st : FrontConn) → FrontGrows x.part.nodes x.part.front.row (Some (record row { stage = st })))
       → OwnsBy x.c w given.1.notes → after_all w given.1.notes ≡ v → AllTo (Client x.c) given.1.segments
       → Owes x (front_does x heads (Does (record { part = front_rests x.part.front row rest stays given.0; turn = turn_here given.1; calls = calls })))
-  ends-owe row rest stays given calls v stay small ended home grows notes then to = front-owes (by_front (turn_here given.1)) (front_rests x.part.front row rest stays given.0) v
+  ends-owe row rest stays given calls v stay odd ended home grows notes then to = front-owes (by_front (turn_here given.1)) (front_rests x.part.front row rest stays given.0) v
       (record { notes = notes; segments = inl (to, ap (λ (u : Owning). u.owner) (then ∙ home.0), tt); gave = tt; messages = tt; then = then })
       (go given.0, ended) (grows (stage_after stays given.0)) tt where
         go : (e : Ending) → StageSits row.epoch.0 v x.part.nodes (stage_after stays e)
         go (ending.Here b count) = stay b home
-        go (ending.Over last) = (small, home)
+        go (ending.Over last) = (odd, home)
 
   -- an endpoint that is here goes on, with plain notes
-  module _ (env : FrontEnv) (mine : env.serve.c ≡ x.c) (row : FrontRow) (found : x.part.front.row ≡ Some row) (one : row.epoch.0 ≡ 1) (home : IsHome row.epoch.0 w x.part.nodes)
+  module _ (env : FrontEnv) (mine : env.serve.c ≡ x.c) (row : FrontRow) (found : x.part.front.row ≡ Some row) (odd : IsOdd row.epoch.0) (early : IsEarlyHere row.epoch.0) (home : IsHome row.epoch.0 w x.part.nodes)
       (ended : EndedBefore row.epoch.0 row.ended_by) (none : (n e : ℕ) → Offers n e row.stage → ⊥) where
     to-mine : (ss : List (Place × List ℕ)) → AllTo (Client env.serve.c) ss → AllTo (Client x.c) ss
     to-mine ss to = subst (λ (c : ℕ). AllTo (Client c) ss) mine to
@@ -131,7 +132,7 @@ module _ (x : Conn) (heads : List Seen) (quiet : IsQuiet x heads) where
         → ((b : ControlBlock) → IsHome row.epoch.0 w x.part.nodes → StageSits row.epoch.0 w x.part.nodes (stays b))
         → Each IsPlain given.1.notes → AllTo (Client env.serve.c) given.1.segments
         → Owes x (front_does x heads (Does (record { part = front_rests x.part.front row rest stays given.0; turn = turn_here given.1; calls = calls })))
-    goes-owe rest stays given calls stay plain to = ends-owe row rest stays given calls w stay (omega (arith, one)) ended home here-grows
+    goes-owe rest stays given calls stay plain to = ends-owe row rest stays given calls w stay odd ended home here-grows
         (plain-owns x.c w given.1.notes plain) (plain-after w given.1.notes plain) (to-mine given.1.segments to)
 
     -- it is handed off
@@ -142,7 +143,7 @@ module _ (x : Conn) (heads : List Seen) (quiet : IsQuiet x heads) where
         let v : Owning = record { owner = None; epoch = row.epoch.0 } in
         let notes : Each IsPlain did.turn.notes = Each-append IsPlain s.notes (rec.Admitted env.serve.c ∷ rec.AssignedFirst env.serve.c (s.count + 1) path choice.node choice.add choice.remove ∷ []) plain (tt, (tt, tt)) in
         let now : after_all w did.turn.notes ≡ w = plain-after w did.turn.notes notes in
-        let two : row.epoch.0 + 1 ≡ 2 = omega (arith, one) in
+        let even : IsEven (row.epoch.0 + 1) = (omega (arith, odd), omega arith) in
         let past : (n : ℕ) → IsPast (row.epoch.0 + 1) (x.part.nodes n).row = λ n. past-later row.epoch.0 (row.epoch.0 + 1) (x.part.nodes n).row (omega arith) (home.1 n) in
         front-owes (by_front did.turn) did.part v
         (record {
@@ -152,18 +153,18 @@ module _ (x : Conn) (heads : List Seen) (quiet : IsQuiet x heads) where
           messages = (tt, tt);
           then = ap (λ (u : Owning). after_all u did.turn.gave) (now ∙ home.0);
         })
-        ((two, refl, (λ m other. past m), inl (refl, omega arith, past choice.node)), tt)
+        ((even, refl, (λ m other. past m), inl (refl, refl, past choice.node)), tt)
         (subst (λ (o : Option FrontRow). FrontGrows x.part.nodes o did.part.row) (sym found) (omega arith, λ n e offers. absurd (none n e offers)))
-        (subst (λ h. MaySay q Front (Node choice.node) h) (sym (spelled-head _ (omega (arith, two)))) (inr (refl, refl)), tt)
+        (subst (λ h. MaySay q Front (Node choice.node) h) (sym (spelled-head _ (omega (arith, early)))) (inr (refl, refl)), tt)
     placed-owes rest s path first.Waits plain =
         let s' : Service = record s { notes = s.notes ++ rec.Waits env.serve.c ∷ [] } in
-        goes-owe (record rest { target = Some path }) stage.Waiting (spoken env.serve s' []) (call.First env.serve.c path env.now ∷ leaves_by env.serve.c (spoken env.serve s' []).0) (λ b home. (one, home))
+        goes-owe (record rest { target = Some path }) stage.Waiting (spoken env.serve s' []) (call.First env.serve.c path env.now ∷ leaves_by env.serve.c (spoken env.serve s' []).0) (λ b home. (odd, home))
         (Each-append IsPlain s.notes (rec.Waits env.serve.c ∷ []) plain (tt, tt)) (spoken-to env.serve s' [] tt)
 
     settled-owes : (rest : FrontRest) (s : Service) (o : Option (List ℕ)) → Each IsPlain s.notes → Owes x (front_does x heads (settled_by env x.part.front row rest s o))
     settled-owes rest s None plain =
         let is = settled-is env.serve s in
-        goes-owe rest stage.Held (serving_settled env.serve s) [] (λ b home. (one, home)) (subst (Each IsPlain) (sym is.notes) plain) is.to
+        goes-owe rest stage.Held (serving_settled env.serve s) [] (λ b home. (odd, home)) (subst (Each IsPlain) (sym is.notes) plain) is.to
     settled-owes rest s (Some path) plain = placed-owes rest s path (env.first path) plain
 
     pub heard-owes : (rest : FrontRest) (b : ControlBlock) → Owes x (front_does x heads (heard env x.part.front row rest b))

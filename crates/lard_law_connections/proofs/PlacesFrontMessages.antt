@@ -1,16 +1,16 @@
 -- The front end's rules for what nodes say, and the head of the line.
-use Rattle.std.proofs.Common.{◌≡◌, ◌⊎◌, ℕ, ◌+◌, ◌<◌, ◌≤◌, ◌==◌, ◌&&◌, nat_lt, Bool, true, false, cond, List, [], ◌∷◌, Option, Some, None, inr, refl, sym, ◌∙◌, subst, arith, eqb-true, eq-eqb}
+use Rattle.std.proofs.Common.{◌≡◌, ◌⊎◌, ℕ, ◌+◌, ◌<◌, ◌==◌, ◌&&◌, nat_lt, Bool, true, false, cond, List, [], ◌∷◌, Option, Some, None, inr, refl, sym, ◌∙◌, subst, arith, eqb-true, eq-eqb}
 use Rattle.std.proofs.lemmas.Bool.{cond_both}
 use Rattle.lard_base.specs.declared.ids.Epoch.{Epoch}
 use Rattle.lard_base.specs.declared.place.Place.{Place}
 use Rattle.lard_base.specs.declared.place.Place.TheVariants.{Front, Node}
-use Rattle.lard_law_connections.specs.Places.{EndedBefore, HasEnded, IsComing, IsDecided, IsLeft, IsOver, IsPast, IsThere, LetterMay, MaySay, Offers, OthersArePast, Owning, Owns, StageSits, owning}
+use Rattle.lard_law_connections.specs.Places.{EndedBefore, HasEnded, IsComing, IsDecided, IsEven, IsLeft, IsOver, IsPast, IsThere, LetterMay, MaySay, Offers, OthersArePast, Owning, Owns, StageSits, owning}
 use Rattle.lard_law_connections.proofs.PlacesFront.{IsQuiet, Tells, drops-owes, front-owes, messages-owe, placed-owes}
-use Rattle.lard_law_connections.proofs.PlacesFrontRules.{decided-there, has-each, sits-row, small, there-decided}
+use Rattle.lard_law_connections.proofs.PlacesFrontRules.{decided-there, has-each, sits-row, there-decided}
 use Rattle.lard_law_connections.proofs.PlacesGrowing.{FrontGrows, front-still, past-later}
 use Rattle.lard_law_connections.proofs.PlacesHeads.{decoded-head, head, spelled-head, spelled-some}
 use Rattle.lard_law_connections.proofs.PlacesRows.{IsPlain, plain-after, plain-owns}
-use Rattle.lard_law_connections.proofs.PlacesTurns.{IsPlaced, Owes}
+use Rattle.lard_law_connections.proofs.PlacesTurns.{IsPlaced, Owes, early-at, small-early}
 use Rattle.lard_law_view.specs.Carry.{tale_at}
 use Rattle.lard_law_view.specs.View.{Conn, IsFrontEnv, Part, Setting, SpellsMessage, Was, by_front, front_admits, front_does, with_front}
 use Rattle.lard_costs.specs.declared.later.LaterChoice.{LaterChoice}
@@ -41,6 +41,7 @@ use Rattle.lard_message.specs.Message.{kind_of}
 use Rattle.lard_rules.specs.Node.{NodePart}
 use Rattle.lard_policy.specs.declared.first.FirstChoice.{FirstChoice}
 use Rattle.lard_rules.specs.Serving.{serving}
+use Rattle.lard_rules.specs.FrontSound.{IsEarlyAway, IsEarlyOver}
 
 -- what a packet that came says, where it is a message of this connection
 pub came-says : (x : Conn) (from to : Place) (epoch : ℕ) (b : Body) (bytes : List ℕ) → Each (LetterMay x.part) x.letters → Was x from to bytes → SpellsMessage x.c epoch b bytes
@@ -50,9 +51,10 @@ came-says x from to epoch b bytes letters was spells =
 
 -- ---- where it is while it is away
 
--- It was offered to node n in epoch e and is there.
+-- It was offered to node n, and is there or on its way.
 pub record IsWith (x : Conn) (row : FrontRow) (n : ℕ) : Type 0 where
-  pub two : row.epoch.0 ≡ 2
+  pub even : IsEven row.epoch.0
+  pub early : IsEarlyAway row.epoch.0
   pub others : OthersArePast n row.epoch.0 x.part.nodes
   pub at : IsComing row.epoch.0 (owning (tale_at x)) (x.part.nodes n).row ⊎ IsThere n row.epoch.0 (owning (tale_at x)) (x.part.nodes n).row
 
@@ -192,13 +194,13 @@ module _ (k : Setting) (x : Conn) (heads : List Seen) (quiet : IsQuiet x heads) 
         messages = (tt, tt);
         then = refl;
       })
-      ((omega (arith, away.two), (refl, all-past row n away there over_n)), omega (arith, now))
+      ((omega (arith, away.even.0), (refl, all-past row n away there over_n)), omega (arith, now))
       (subst (λ (o : Option FrontRow). FrontGrows nodes o did.part.row) (sym found) (
         omega arith,
         λ i f offers. inr (subst (λ (j : ℕ). IsDecided f (nodes j).row) (sym (offered i f offers).0)
             (subst (λ (g : ℕ). IsDecided g (nodes n).row) (sym (offered i f offers).1) (there-decided n e w nodes away.others (nodes n).row there))),
       ))
-      (subst (λ h. MaySay q Front (Node m) h) (sym (spelled-head _ (omega (arith, now, away.two)))) (omega (arith, now)), tt) where
+      (subst (λ h. MaySay q Front (Node m) h) (sym (spelled-head _ (omega (arith, now, away.early)))) (omega (arith, now)), tt) where
         only : (row : FrontRow) (m n : ℕ) → IsWith x row n → IsDecided row.epoch.0 (nodes m).row → m ≡ n
         only row m n away decided = go (m == n) refl where
           go : (b : Bool) → (m == n) ≡ b → m ≡ n
@@ -219,11 +221,11 @@ module _ (k : Setting) (x : Conn) (heads : List Seen) (quiet : IsQuiet x heads) 
       → ((n : ℕ) → IsWith x row n → row.epoch.0 ≡ epoch → ((i e : ℕ) → Offers i e row.stage → (i ≡ n) × (e ≡ row.epoch.0)) → P) → P
   with-node row found epoch (stage.Offering n d) at away P then =
       let sits : StageSits row.epoch.0 w nodes (stage.Offering n d) = subst (StageSits row.epoch.0 w nodes) at (find-row row found).0 in
-      then n (record { two = sits.0; others = sits.2; at = sits.3 }) (sym sits.1 ∙ eqb-true d.0 epoch away)
+      then n (record { even = sits.0; early = early-at x held row found (stage.Offering n d) at; others = sits.2; at = sits.3 }) (sym sits.1 ∙ eqb-true d.0 epoch away)
       (λ i e offers. let o : Offers i e (stage.Offering n d) = subst (Offers i e) at offers in (sym o.0, sym o.1 ∙ sits.1))
   with-node row found epoch (stage.Moved n d) at away P then =
       let sits : StageSits row.epoch.0 w nodes (stage.Moved n d) = subst (StageSits row.epoch.0 w nodes) at (find-row row found).0 in
-      then n (record { two = sits.0; others = sits.2; at = inr sits.3 }) (sym sits.1 ∙ eqb-true d.0 epoch away)
+      then n (record { even = sits.0; early = early-at x held row found (stage.Moved n d) at; others = sits.2; at = inr sits.3 }) (sym sits.1 ∙ eqb-true d.0 epoch away)
       (λ i e offers. absurd (subst (Offers i e) at offers))
   with-node row found epoch _ at away P then = let no : false ≡ true = away in absurd cc
 
@@ -232,7 +234,7 @@ module _ (k : Setting) (x : Conn) (heads : List Seen) (quiet : IsQuiet x heads) 
   again-owes row m epoch found again =
       let h = find-row row found in
       let before : epoch < row.epoch.0 = earlier row.ended_by again h.1 in
-      let le : row.epoch.0 ≤ 3 = small row.epoch.0 w nodes row.stage h.0 in
+      let le : IsEarlyOver row.epoch.0 = small-early row.epoch.0 row.stage (early-at x held row found row.stage refl) in
       let ended : HasEnded epoch p.row = subst (HasEnded epoch) (sym found) before in
       messages-owe x heads quiet held (ack_sent env m epoch) (tt, tt)
       (subst (λ h. MaySay x.part Front (Node m) h) (sym (spelled-head _ (omega (arith, before, le)))) ended, tt) where
@@ -274,7 +276,7 @@ module _ (k : Setting) (x : Conn) (held : IsPlaced x) (env : FrontEnv) (is : IsF
       let h = sits-row k x [] nothing_seen held env is row found in
       let sits : StageSits row.epoch.0 (owning (tale_at x)) x.part.nodes (stage.Waiting b) = subst (StageSits row.epoch.0 (owning (tale_at x)) x.part.nodes) at h.0 in
       subst (λ (g : FrontPart × FrontTurn). Owes x (front_admits x g)) same
-      (placed-owes x [] nothing_seen env is.number row found sits.0 sits.1 h.1 (λ n e. subst (λ (q : FrontConn). Offers n e q → ⊥) (sym at) (λ o. o)) rest (serving b rest.count []) path (first.Go choice) tt)
+      (placed-owes x [] nothing_seen env is.number row found sits.0 (early-at x held row found (stage.Waiting b) at) sits.1 h.1 (λ n e. subst (λ (q : FrontConn). Offers n e q → ⊥) (sym at) (λ o. o)) rest (serving b rest.count []) path (first.Go choice) tt)
 
   admitted-at : (row : FrontRow) (given : FrontPart × FrontTurn) (st : FrontConn) → x.part.front.row ≡ Some row → row.stage ≡ st → admitted_at env x.part.front choice row st ≡ Some given
       → Owes x (front_admits x given)

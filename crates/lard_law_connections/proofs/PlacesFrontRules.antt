@@ -1,5 +1,5 @@
 -- The rules of the front end, one by one.
-use Rattle.std.proofs.Common.{◌≡◌, ◌⊎◌, ℕ, ◌≤◌, ◌==◌, Bool, true, false, List, [], ◌∷◌, map, Option, Some, None, Result, Ok, Err, inl, inr, ⊎_elim, refl, sym, ap, ◌∙◌, subst, arith, eqb-true, eq-eqb}
+use Rattle.std.proofs.Common.{◌≡◌, ◌⊎◌, ℕ, ◌==◌, Bool, true, false, List, [], ◌∷◌, map, Option, Some, None, Result, Ok, Err, inl, inr, ⊎_elim, refl, sym, ap, ◌∙◌, subst, arith, eqb-true, eq-eqb}
 use Rattle.std.proofs.lemmas.Bool.{cond_both}
 use Rattle.lard_base.specs.declared.place.Place.{Place}
 use Rattle.lard_base.specs.declared.place.Place.TheVariants.{Client, Front, Node}
@@ -8,7 +8,7 @@ use Rattle.lard_law_connections.proofs.PlacesFront.{IsQuiet, Tells, drops-owes, 
 use Rattle.lard_law_connections.proofs.PlacesGrowing.{FrontGrows, front-still, past-later}
 use Rattle.lard_law_connections.proofs.PlacesHeads.{spelled-some}
 use Rattle.lard_law_connections.proofs.PlacesLoops.{spoken-to}
-use Rattle.lard_law_connections.proofs.PlacesTurns.{IsPlaced, Owes}
+use Rattle.lard_law_connections.proofs.PlacesTurns.{IsPlaced, Owes, early-at}
 use Rattle.lard_law_view.specs.Carry.{tale_at}
 use Rattle.lard_law_view.specs.View.{AreSent, Conn, IsFrontEnv, IsMachine, IsConnSound, Setting, by_front, front_does}
 use Rattle.lard_endpoint.specs.declared.control.moving.Final.{Final}
@@ -73,15 +73,6 @@ module _ (n e : ℕ) (w : Owning) (nodes : ℕ → NodePart) (others : OthersAre
   there-decided None h = h
   there-decided (Some row) h = omega (arith, h.0)
 
--- in every stage the epoch is small
-pub small : (e : ℕ) (w : Owning) (nodes : ℕ → NodePart) (st : FrontConn) → StageSits e w nodes st → e ≤ 3
-small e w nodes (stage.Held b) h = omega (arith, h.0)
-small e w nodes (stage.Waiting b) h = omega (arith, h.0)
-small e w nodes stage.Lent h = absurd h
-small e w nodes (stage.Offering n d) h = omega (arith, h.0)
-small e w nodes (stage.Moved n d) h = omega (arith, h.0)
-small e w nodes (stage.Closed last) h = h.0
-
 -- ---- one connection
 
 module _ (k : Setting) (x : Conn) (heads : List Seen) (quiet : IsQuiet x heads) (placed : IsPlaced x) (env : FrontEnv) (is : IsFrontEnv k x.c env) where
@@ -121,7 +112,7 @@ module _ (k : Setting) (x : Conn) (heads : List Seen) (quiet : IsQuiet x heads) 
       let fresh : w.epoch ≡ 0 = ap (λ (u : Owning). u.epoch) at.0 in
       let free : w.owner ≡ None = ap (λ (u : Owning). u.owner) at.0 in
       cond_both (is_plain_syn s) (front_begun env p s) Drops Owed
-      (λ t. ends-owe x heads quiet row (front_rest None) stage.Held given [] v (λ b home. (refl, home)) (omega arith) tt home
+      (λ t. ends-owe x heads quiet row (front_rest None) stage.Held given [] v (λ b home. (refl, home)) refl tt home
       (λ st. subst (λ (o : Option FrontRow). FrontGrows nodes o (Some (record row { stage = st }))) (sym none) tt)
       ((is.number, omega (arith, fresh), free), tt) refl
       (subst (λ (c : ℕ). AllTo (Client c) given.1.segments) is.number (spoken-to env.serve (serving (listening s env.iss) 0 (rec.Took Front env.serve.c (record { 0 = 1 }) ∷ [])) [] tt)))
@@ -143,11 +134,11 @@ module _ (k : Setting) (x : Conn) (heads : List Seen) (quiet : IsQuiet x heads) 
   hears-at bytes s row found (stage.Held b) at =
       let h = sits-row row found in
       let sits : StageSits row.epoch.0 w nodes (stage.Held b) = subst (StageSits row.epoch.0 w nodes) at h.0 in
-      heard-owes x heads quiet env is.number row found sits.0 sits.1 h.1 (λ n e. subst (λ (q : FrontConn). Offers n e q → ⊥) (sym at) (λ o. o)) (front_rest p.rest) (on_segment b s).1
+      heard-owes x heads quiet env is.number row found sits.0 (early-at x placed row found (stage.Held b) at) sits.1 h.1 (λ n e. subst (λ (q : FrontConn). Offers n e q → ⊥) (sym at) (λ o. o)) (front_rest p.rest) (on_segment b s).1
   hears-at bytes s row found (stage.Waiting b) at =
       let h = sits-row row found in
       let sits : StageSits row.epoch.0 w nodes (stage.Waiting b) = subst (StageSits row.epoch.0 w nodes) at h.0 in
-      says-owe x heads quiet env is.number row found sits.0 sits.1 h.1 (λ n e. subst (λ (q : FrontConn). Offers n e q → ⊥) (sym at) (λ o. o)) (front_rest p.rest) stage.Waiting
+      says-owe x heads quiet env is.number row found sits.0 (early-at x placed row found (stage.Waiting b) at) sits.1 h.1 (λ n e. subst (λ (q : FrontConn). Offers n e q → ⊥) (sym at) (λ o. o)) (front_rest p.rest) stage.Waiting
       (serving (on_segment b s).1 (front_rest p.rest).count []) [] (leaves_by env.serve.c (spoken env.serve (serving (on_segment b s).1 (front_rest p.rest).count []) []).0) (λ b home. (sits.0, home)) tt tt
   hears-at bytes s row found stage.Lent at = dropped
   hears-at bytes s row found (stage.Offering n e) at = forwards n e.0 bytes
@@ -171,12 +162,12 @@ module _ (k : Setting) (x : Conn) (heads : List Seen) (quiet : IsQuiet x heads) 
     fires-at row found (stage.Held b) at =
         let h = sits-row row found in
         let sits : StageSits row.epoch.0 w nodes (stage.Held b) = subst (StageSits row.epoch.0 w nodes) at h.0 in
-        says-owe x heads quiet env is.number row found sits.0 sits.1 h.1 (λ n e. subst (λ (q : FrontConn). Offers n e q → ⊥) (sym at) (λ o. o)) (front_rest p.rest) stage.Held
+        says-owe x heads quiet env is.number row found sits.0 (early-at x placed row found (stage.Held b) at) sits.1 h.1 (λ n e. subst (λ (q : FrontConn). Offers n e q → ⊥) (sym at) (λ o. o)) (front_rest p.rest) stage.Held
         (serving (after_timer b) (front_rest p.rest).count []) (serving_ready_of env.serve (after_timer b) (timed b)) [] (λ b home. (sits.0, home)) tt (ready-to env.serve (after_timer b) (timed b))
     fires-at row found (stage.Waiting b) at =
         let h = sits-row row found in
         let sits : StageSits row.epoch.0 w nodes (stage.Waiting b) = subst (StageSits row.epoch.0 w nodes) at h.0 in
-        says-owe x heads quiet env is.number row found sits.0 sits.1 h.1 (λ n e. subst (λ (q : FrontConn). Offers n e q → ⊥) (sym at) (λ o. o)) (front_rest p.rest) stage.Waiting
+        says-owe x heads quiet env is.number row found sits.0 (early-at x placed row found (stage.Waiting b) at) sits.1 h.1 (λ n e. subst (λ (q : FrontConn). Offers n e q → ⊥) (sym at) (λ o. o)) (front_rest p.rest) stage.Waiting
         (serving (after_timer b) (front_rest p.rest).count []) (serving_ready_of env.serve (after_timer b) (timed b)) (leaves_by env.serve.c (front_fired env (front_rest p.rest) b).0) (λ b home. (sits.0, home)) tt (ready-to env.serve (after_timer b) (timed b))
     fires-at row found (stage.Offering n e) at =
         messages-owe x heads quiet placed (map sent_of p.kept) (resent-machines x Front p.kept sound.front) (resent-tells x Front p.kept placed.letters sound.front)

@@ -95,3 +95,18 @@ letters-grow p q g ls h = Each-weaker (LetterMay p) (LetterMay q) (λ l. may_say
 pub past-later : (e d : ℕ) (o : Option BackRow) → e ≤ d → IsPast e o → IsPast d o
 past-later e d None le h = tt
 past-later e d (Some row) le h = (omega (arith, le, h.0), h.1)
+
+-- the epoch of what the front end has of it, or 0 where nobody took it
+abbrev pub front_epoch : Option FrontRow → ℕ
+front_epoch None = 0
+front_epoch (Some row) = row.epoch.0
+
+-- what it has is of this epoch, or of a later one
+abbrev pub IsFrom : ℕ → Option FrontRow → Type 0
+IsFrom e None = Unit {0}
+IsFrom e (Some row) = e ≤ row.epoch.0
+
+pub grows-from : (nodes : ℕ → NodePart) (o r : Option FrontRow) → FrontGrows nodes o r → IsFrom (front_epoch o) r
+grows-from nodes o None g = tt
+grows-from nodes None (Some next) g = omega arith
+grows-from nodes (Some row) (Some next) g = g.0

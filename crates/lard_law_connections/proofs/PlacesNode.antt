@@ -2,7 +2,7 @@
 use Rattle.std.proofs.Common.{◌≡◌, ℕ, List, [], ◌∷◌, ◌++◌, Option, Some, None, inl, inr, refl, sym, ap, ◌∙◌, subst, arith}
 use Rattle.lard_base.specs.declared.place.Place.{Place}
 use Rattle.lard_base.specs.declared.place.Place.TheVariants.{Client, Front, Node}
-use Rattle.lard_law_connections.specs.Places.{IsOver, MaySay, Owning, Owns, Sits, owning}
+use Rattle.lard_law_connections.specs.Places.{IsEven, IsOver, MaySay, Owning, Owns, Sits, owning}
 use Rattle.lard_law_connections.proofs.PlacesFront.{IsQuiet, Tells, turn-letters}
 use Rattle.lard_law_connections.proofs.PlacesGrowing.{BackGrows, back-still, front-still, grows-still}
 use Rattle.lard_law_connections.proofs.PlacesHeads.{spelled-head, spelled-some}
@@ -25,6 +25,7 @@ use Rattle.lard_rules.specs.declared.places.Ending.{Ending}
 use Rattle.lard_rules.specs.declared.places.Ending.TheVariants as ending
 use Rattle.lard_rules.specs.declared.places.Turn.{Turn}
 use Rattle.lard_law_view.proofs.EndpointSends.{AllTo}
+use Rattle.lard_rules.specs.FrontSound.{IsEarlyAway}
 
 module _ (x : Conn) (heads : List Seen) (quiet : IsQuiet x heads) where
   abbrev w : Owning
@@ -78,7 +79,8 @@ module _ (x : Conn) (heads : List Seen) (quiet : IsQuiet x heads) where
 
 -- it sits at node n in whatever stage of this epoch
 pub record CanSit (x : Conn) (n e : ℕ) : Type 0 where
-  pub two : e ≡ 2
+  pub even : IsEven e
+  pub early : IsEarlyAway e
   pub sits : (v : Owning) (q : NodePart) (st : BackConn) → q.row ≡ Some (record { stage = st; epoch = record { 0 = e } }) → Owns n st v.owner → v.epoch ≡ e → Sits v (node_put_back x.part.nodes n q) x.part.front.row
   pub grows : (st : BackConn) → BackGrows (x.part.nodes n).row (Some (record { stage = st; epoch = record { 0 = e } }))
 
@@ -148,7 +150,7 @@ module _ (x : Conn) (heads : List Seen) (quiet : IsQuiet x heads) (n : ℕ) (env
       })
       (can.sits v q back.Ended refl refl epoch) (can.grows back.Ended)
       (Each-append (Tells p (Node n)) msgs end (all-tells p before k (tells q back.Ended refl)) (
-        subst (λ h. MaySay p (Node n) Front h) (sym (spelled-head _ (omega (arith, can.two))))
+        subst (λ h. MaySay p (Node n) Front h) (sym (spelled-head _ (omega (arith, can.early))))
             (subst (λ (r : NodePart). IsOver env.epoch r.row) (sym (put-same x.part.nodes n q)) (omega arith, λ same. tt)),
         tt,
       ))

@@ -1,5 +1,5 @@
 -- The rules of a node, one by one.
-use Rattle.std.proofs.Common.{◌≡◌, ◌≢◌, ◌⊎◌, ℕ, ◌<◌, ◌≤◌, ◌==◌, ◌&&◌, nat_lt, Bool, true, false, cond, List, [], ◌∷◌, ◌++◌, option_map, Option, Some, None, Result, Ok, Err, inr, ⊎_elim, refl, sym, ap, ◌∙◌, subst, arith, eqb-true, eq-eqb}
+use Rattle.std.proofs.Common.{◌≡◌, ◌≢◌, ◌⊎◌, ℕ, ◌<◌, ◌==◌, ◌&&◌, nat_lt, Bool, true, false, cond, List, [], ◌∷◌, ◌++◌, option_map, Option, Some, None, Result, Ok, Err, inr, ⊎_elim, refl, sym, ap, ◌∙◌, subst, arith, eqb-true, eq-eqb}
 use Rattle.std.proofs.lemmas.Bool.{and_parts, cond_both, ltb-true}
 use Rattle.std.specs.List.{find}
 use Rattle.lard_base.specs.declared.ids.Epoch.{Epoch}
@@ -7,16 +7,15 @@ use Rattle.lard_base.specs.declared.parts.EndpointParts.{EndpointParts}
 use Rattle.lard_base.specs.declared.place.Place.{Place}
 use Rattle.lard_base.specs.declared.place.Place.TheVariants.{Client, Front, Node}
 use Rattle.lard_base.specs.declared.place.TimerKind.TheVariants as kind
-use Rattle.lard_law_connections.specs.Places.{IsComing, IsDecided, IsLeft, IsOffered, IsPast, IsThere, MaySay, Offers, OthersArePast, Owning, Owns, Sits, StageSits, owning}
+use Rattle.lard_law_connections.specs.Places.{IsComing, IsDecided, IsEven, IsLeft, IsOffered, IsPast, IsRowEarly, IsThere, MaySay, Offers, OthersArePast, Owning, Owns, Sits, StageSits, owning}
 use Rattle.lard_law_connections.proofs.PlacesFront.{IsQuiet, Tells}
 use Rattle.lard_law_connections.proofs.PlacesFrontMessages.{came-says}
-use Rattle.lard_law_connections.proofs.PlacesFrontRules.{small}
 use Rattle.lard_law_connections.proofs.PlacesGrowing.{BackGrows}
 use Rattle.lard_law_connections.proofs.PlacesHeads.{spelled-head}
 use Rattle.lard_law_connections.proofs.PlacesLoops.{batch-state, came-notes, goes-notes, settled-is, tagged-notes}
 use Rattle.lard_law_connections.proofs.PlacesNode.{CanSit, node-drops, node-says, rests-owe}
 use Rattle.lard_law_connections.proofs.PlacesRows.{IsPlain, OwnsBy, after_all, plain-after, plain-named, plain-owns}
-use Rattle.lard_law_connections.proofs.PlacesTurns.{IsPlaced, Owes}
+use Rattle.lard_law_connections.proofs.PlacesTurns.{IsPlaced, Owes, early-at, small-early}
 use Rattle.lard_law_view.specs.Carry.{tale_at}
 use Rattle.lard_law_view.specs.View.{Conn, IsMachine, IsNodeEnv, Setting, SpellsMessage, Was, named_records, node_does, node_put_back, with_node}
 use Rattle.lard_law_view.proofs.Parts.{put-each, put-same}
@@ -48,14 +47,15 @@ use Rattle.lard_rules.specs.Serving.{serving_settled}
 use Rattle.lard_segment.specs.declared.fault.SegFault.{SegFault}
 use Rattle.lard_segment.specs.Segment.{Said as Segment}
 use Rattle.lard_law_view.proofs.EndpointSends.{AllTo}
+use Rattle.lard_rules.specs.FrontSound.{IsEarlyAway, IsEarlyOver}
 
 -- ---- where a node's row stands
 
 -- every row of a node is of a small epoch
-past-small : (e : ℕ) (o : Option BackRow) (row : BackRow) → e ≤ 3 → o ≡ Some row → IsPast e o → row.epoch.0 ≤ 3
+past-small : (e : ℕ) (o : Option BackRow) (row : BackRow) → IsEarlyOver e → o ≡ Some row → IsPast e o → IsEarlyOver row.epoch.0
 past-small e o row le is h = let past : IsPast e (Some row) = subst (IsPast e) is h in omega (arith, past.0, le)
 
-there-small : (n e : ℕ) (w : Owning) (o : Option BackRow) (row : BackRow) → e ≤ 3 → o ≡ Some row → IsThere n e w o → row.epoch.0 ≤ 3
+there-small : (n e : ℕ) (w : Owning) (o : Option BackRow) (row : BackRow) → IsEarlyOver e → o ≡ Some row → IsThere n e w o → IsEarlyOver row.epoch.0
 there-small n e w o row le is h = let there : IsThere n e w (Some row) = subst (IsThere n e w) is h in omega (arith, there.0, le)
 
 -- of the node to which it was offered, or of another one
@@ -79,22 +79,25 @@ module _ (x : Conn) (held : IsPlaced x) where
 
   -- ---- small epochs
 
-  row-small : (n : ℕ) (row : BackRow) → (nodes n).row ≡ Some row → (o : Option FrontRow) → Sits w nodes o → row.epoch.0 ≤ 3
-  row-small n row is None h = past-small 0 (nodes n).row row (omega arith) is (h.1 n)
-  row-small n row is (Some f) h = go f.stage h.0 where
-    go : (st : FrontConn) → StageSits f.epoch.0 w nodes st → row.epoch.0 ≤ 3
-    go (stage.Held b) s = past-small f.epoch.0 (nodes n).row row (small f.epoch.0 w nodes (stage.Held b) s) is (s.1.1 n)
-    go (stage.Waiting b) s = past-small f.epoch.0 (nodes n).row row (small f.epoch.0 w nodes (stage.Waiting b) s) is (s.1.1 n)
+  row-small : (n : ℕ) (row : BackRow) → (nodes n).row ≡ Some row → (o : Option FrontRow) → Sits w nodes o → IsRowEarly o → IsEarlyOver row.epoch.0
+  row-small n row is None h early = past-small 0 (nodes n).row row (omega arith) is (h.1 n)
+  row-small n row is (Some f) h early = go f.stage h.0 where
+    le : IsEarlyOver f.epoch.0
+    le = small-early f.epoch.0 f.stage early
+
+    go : (st : FrontConn) → StageSits f.epoch.0 w nodes st → IsEarlyOver row.epoch.0
+    go (stage.Held b) s = past-small f.epoch.0 (nodes n).row row le is (s.1.1 n)
+    go (stage.Waiting b) s = past-small f.epoch.0 (nodes n).row row le is (s.1.1 n)
     go stage.Lent s = absurd s
-    go (stage.Offering m d) s = by-node m n (row.epoch.0 ≤ 3)
+    go (stage.Offering m d) s = by-node m n (IsEarlyOver row.epoch.0)
         (λ same. ⊎_elim
-        (λ (coming : IsComing f.epoch.0 w (nodes m).row). past-small f.epoch.0 (nodes m).row row (omega (arith, s.0)) (subst (λ (j : ℕ). (nodes j).row ≡ Some row) same is) coming.2)
-        (λ (there : IsThere m f.epoch.0 w (nodes m).row). there-small m f.epoch.0 w (nodes m).row row (omega (arith, s.0)) (subst (λ (j : ℕ). (nodes j).row ≡ Some row) same is) there) s.3)
-        (λ other. past-small f.epoch.0 (nodes n).row row (omega (arith, s.0)) is (s.2 n other))
-    go (stage.Moved m d) s = by-node m n (row.epoch.0 ≤ 3)
-        (λ same. there-small m f.epoch.0 w (nodes m).row row (omega (arith, s.0)) (subst (λ (j : ℕ). (nodes j).row ≡ Some row) same is) s.3)
-        (λ other. past-small f.epoch.0 (nodes n).row row (omega (arith, s.0)) is (s.2 n other))
-    go (stage.Closed last) s = past-small f.epoch.0 (nodes n).row row s.0 is (s.1.1 n)
+        (λ (coming : IsComing f.epoch.0 w (nodes m).row). past-small f.epoch.0 (nodes m).row row le (subst (λ (j : ℕ). (nodes j).row ≡ Some row) same is) coming.2)
+        (λ (there : IsThere m f.epoch.0 w (nodes m).row). there-small m f.epoch.0 w (nodes m).row row le (subst (λ (j : ℕ). (nodes j).row ≡ Some row) same is) there) s.3)
+        (λ other. past-small f.epoch.0 (nodes n).row row le is (s.2 n other))
+    go (stage.Moved m d) s = by-node m n (IsEarlyOver row.epoch.0)
+        (λ same. there-small m f.epoch.0 w (nodes m).row row le (subst (λ (j : ℕ). (nodes j).row ≡ Some row) same is) s.3)
+        (λ other. past-small f.epoch.0 (nodes n).row row le is (s.2 n other))
+    go (stage.Closed last) s = past-small f.epoch.0 (nodes n).row row le is (s.1.1 n)
 
   -- ---- a node that has the connection
 
@@ -124,15 +127,16 @@ module _ (x : Conn) (held : IsPlaced x) where
       )
 
   has-there : (f : FrontRow) (n : ℕ) (row : BackRow) (b : ControlBlock) → x.part.front.row ≡ Some f → (nodes n).row ≡ Some row → row.stage ≡ back.Here b → (st : FrontConn) → f.stage ≡ st
-      → StageSits f.epoch.0 w nodes st → f.epoch.0 ≡ 2 → OthersArePast n f.epoch.0 nodes → IsThere n f.epoch.0 w (nodes n).row
+      → StageSits f.epoch.0 w nodes st → IsEven f.epoch.0 → IsEarlyAway f.epoch.0 → OthersArePast n f.epoch.0 nodes → IsThere n f.epoch.0 w (nodes n).row
       → ((v : Owning) (ps : ℕ → NodePart) → OthersArePast n f.epoch.0 ps → IsThere n f.epoch.0 v (ps n).row → StageSits f.epoch.0 v ps st) → HasIt n row.epoch.0
-  has-there f n row b found is at st stage_is s two others there make =
+  has-there f n row b found is at st stage_is s even early others there make =
       let t : IsThere n f.epoch.0 w (Some row) = subst (IsThere n f.epoch.0 w) is there in
       let owns : w.owner ≡ Some (Node n) = subst (λ (c : BackConn). Owns n c w.owner) at t.2 in
       let past : OthersArePast n row.epoch.0 nodes = subst (λ (d : ℕ). OthersArePast n d nodes) (sym t.0) others in
       record {
         can = record {
-          two = t.0 ∙ two;
+          even = subst IsEven (sym t.0) even;
+          early = subst IsEarlyAway (sym t.0) early;
           sits = offering-sits f n row.epoch.0 found st stage_is s (sym t.0) past make;
           grows = λ c. subst (λ (o : Option BackRow). BackGrows o (Some (record { stage = c; epoch = record { 0 = row.epoch.0 } }))) (sym is)
               (omega arith, λ same left. absurd (subst IsLeft at left));
@@ -155,12 +159,12 @@ module _ (x : Conn) (held : IsPlaced x) where
     go (stage.Offering m d) e s = by-node m n (HasIt n row.epoch.0)
         (λ same. ⊎_elim
         (λ (coming : IsComing f.epoch.0 w (nodes m).row). absurd (no f.epoch.0 (subst (λ (j : ℕ). IsPast f.epoch.0 (nodes j).row) (sym same) coming.2)))
-        (λ (there : IsThere m f.epoch.0 w (nodes m).row). has-there f n row b found is at (stage.Offering m d) e s s.0 (subst (λ (j : ℕ). OthersArePast j f.epoch.0 nodes) (sym same) s.2)
+        (λ (there : IsThere m f.epoch.0 w (nodes m).row). has-there f n row b found is at (stage.Offering m d) e s s.0 (early-at x held f found (stage.Offering m d) e) (subst (λ (j : ℕ). OthersArePast j f.epoch.0 nodes) (sym same) s.2)
         (subst (λ (j : ℕ). IsThere j f.epoch.0 w (nodes j).row) (sym same) there)
         (λ v ps others at_n. (s.0, s.1, subst (λ (j : ℕ). OthersArePast j f.epoch.0 ps) same others, inr (subst (λ (j : ℕ). IsThere j f.epoch.0 v (ps j).row) same at_n)))) s.3)
         (λ other. absurd (no f.epoch.0 (s.2 n other)))
     go (stage.Moved m d) e s = by-node m n (HasIt n row.epoch.0)
-        (λ same. has-there f n row b found is at (stage.Moved m d) e s s.0 (subst (λ (j : ℕ). OthersArePast j f.epoch.0 nodes) (sym same) s.2)
+        (λ same. has-there f n row b found is at (stage.Moved m d) e s s.0 (early-at x held f found (stage.Moved m d) e) (subst (λ (j : ℕ). OthersArePast j f.epoch.0 nodes) (sym same) s.2)
         (subst (λ (j : ℕ). IsThere j f.epoch.0 w (nodes j).row) (sym same) s.3)
         (λ v ps others at_n. (s.0, s.1, subst (λ (j : ℕ). OthersArePast j f.epoch.0 ps) same others, subst (λ (j : ℕ). IsThere j f.epoch.0 v (ps j).row) same at_n)))
         (λ other. absurd (no f.epoch.0 (s.2 n other)))
@@ -285,7 +289,7 @@ module _ (k : Setting) (x : Conn) (heads : List Seen) (quiet : IsQuiet x heads) 
       (subst (λ (l : List Rec). after_all owned (named_records l) ≡ u) (sym notes) (plain-after u (named_records all.0) plain))
       done.to (tt, tt)
       (λ q st row. (
-        subst (λ h. MaySay (with_node x.part n q) (Node n) Front h) (sym (spelled-head _ (omega (arith, can.two))))
+        subst (λ h. MaySay (with_node x.part n q) (Node n) Front h) (sym (spelled-head _ (omega (arith, can.early))))
             (subst (λ (r : NodePart). IsDecided env.epoch r.row) (sym (put-same x.part.nodes n q)) (subst (IsDecided env.epoch) (sym row) (omega arith))),
         tt,
       ))
@@ -300,7 +304,8 @@ module _ (k : Setting) (x : Conn) (heads : List Seen) (quiet : IsQuiet x heads) 
       let others : OthersArePast n env.epoch x.part.nodes = subst (λ (e : ℕ). OthersArePast n e x.part.nodes) now s.2 in
       took-owes parts
       (record {
-        two = sym now ∙ s.0;
+        even = subst IsEven now s.0;
+        early = subst IsEarlyAway now (early-at x held f found (stage.Offering n d) at);
         sits = offering-sits x held f n env.epoch found (stage.Offering n d) at s now others (λ v ps past there. (s.0, s.1, past, inr there));
         grows = λ st. fresh ours.row st (subst (λ (e : ℕ). IsPast e ours.row) now coming.2);
       })
@@ -330,7 +335,7 @@ module _ (k : Setting) (x : Conn) (heads : List Seen) (quiet : IsQuiet x heads) 
   -- told again: the node has decided
   again-owes : (row : BackRow) → ours.row ≡ Some row → row.epoch.0 ≡ env.epoch → Owed (Says (taken_sent env))
   again-owes row found same =
-      let le : row.epoch.0 ≤ 3 = row-small x held n row found x.part.front.row held.sits in
+      let le : IsEarlyOver row.epoch.0 = row-small x held n row found x.part.front.row held.sits held.early in
       node-says x heads quiet held n (taken_sent env) taken-machines
       (subst (λ h. MaySay x.part (Node n) Front h) (sym (spelled-head _ (omega (arith, same, le)))) (subst (IsDecided env.epoch) (sym found) (omega (arith, same))), tt)
 

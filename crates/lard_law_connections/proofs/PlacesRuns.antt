@@ -11,31 +11,32 @@ use Rattle.lard_law_connections.proofs.PlacesTurns.{IsPlaced, Owes, owes-placed}
 use Rattle.lard_law_view.specs.Carry.{IsLaw, MayRestOn, OfEach, setting}
 use Rattle.lard_law_view.specs.View.{Conn, Setting, blank_conn, conn, grown}
 use Rattle.lard_law_view.proofs.Carried.{carried}
-use Rattle.lard_law_view.proofs.Guarded.{weaker}
+use Rattle.lard_law_view.proofs.Guarded.{weaker, both}
 use Rattle.lard_law_view.proofs.InSteps.{carried-records}
 use Rattle.lard_history.specs.Laws.{EachMay, MayOwn, MaySend}
 use Rattle.lard_history.proofs.Each.{each_weaker}
 use Rattle.lard_law_view.proofs.RowLists.{MayBeSeen}
+use Rattle.lard_law_connections.proofs.PlacesEarly.{StaysEarly, stay-early}
 
 -- nothing more is given
 abbrev Anything : Conn → Type 0
 Anything x = Unit {0}
 
 blank-placed : (c : ℕ) → IsPlaced (blank_conn c)
-blank-placed c = record { sits = (refl, λ n. tt); letters = tt; lawful = tt }
+blank-placed c = record { sits = (refl, λ n. tt); early = tt; letters = tt; lawful = tt }
 
 places-law : (k : Setting) → IsLaw k Anything IsPlaced
 places-law k = record {
   begins = blank-placed;
-  moves = weaker k (λ x v. MayRestOn Anything x → IsPlaced x → Owes x v) (λ x v. MayRestOn Anything x → IsPlaced x → IsPlaced (grown x v))
-      (λ x v owes may placed. owes-placed x v (owes may placed) placed) (owing k Anything);
+  moves = weaker k (λ x v. StaysEarly x v × (MayRestOn Anything x → IsPlaced x → Owes x v)) (λ x v. MayRestOn Anything x → IsPlaced x → IsPlaced (grown x v))
+      (λ x v h may placed. owes-placed x v (h.1 may placed) placed (h.0 placed.early)) (both k StaysEarly (λ x v. MayRestOn Anything x → IsPlaced x → Owes x v) (stay-early k) (owing k Anything));
 }
 
 pub each-placed : (config : Config) (files : List (List ℕ × List ℕ)) → OfEach config files IsPlaced
 each-placed config files = carried config files Anything IsPlaced (places-law (setting config files)) (λ m r q. tt)
 
 pub each-sits : EachConnectionSits
-each-sits config files m r q = (each-placed config files m r q).sits
+each-sits config files m r q = let placed = each-placed config files m r q in (placed.sits, placed.early)
 
 -- Each record of a connection may stand among its own, so each may stand in the journal.
 lawful : (config : Config) (files : List (List ℕ × List ℕ)) (m : Machine) → IsReached config files m → EachMay IsLawful [] m.journal

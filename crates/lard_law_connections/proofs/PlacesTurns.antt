@@ -1,17 +1,21 @@
 -- What a move owes: its records may stand, and behind them the connection sits where they say.
-use Rattle.std.proofs.Common.{◌≡◌, ◌⊎◌, ℕ, List, [], ◌∷◌, ◌++◌, map, flat_map, Some, None, ⊎_elim, sym, ap, ◌∙◌, subst}
+use Rattle.std.proofs.Common.{◌≡◌, ◌⊎◌, ℕ, List, [], ◌∷◌, ◌++◌, map, flat_map, Some, None, ⊎_elim, sym, ap, ◌∙◌, subst, arith}
 use Rattle.std.proofs.lemmas.List.Sums.{fold-append}
 use Rattle.std.specs.List.{fold}
 use Rattle.lard_base.specs.declared.place.Place.{Place}
 use Rattle.lard_base.specs.declared.place.Place.TheVariants.{Client, Front, Node}
 use Rattle.lard_base.specs.declared.place.TimerKind.{TimerKind}
 use Rattle.lard_base.specs.declared.place.TimerKind.TheVariants as kind
-use Rattle.lard_law_connections.specs.Places.{LetterMay, Owning, Sits, SitsAt, owning}
+use Rattle.lard_law_connections.specs.Places.{HasEarlyEpoch, IsRowEarly, IsStageEarly, LetterMay, Owning, Sits, SitsAt, owning}
 use Rattle.lard_law_connections.proofs.PlacesGrowing.{Grows, letters-grow}
 use Rattle.lard_law_connections.proofs.PlacesRows.{IsPlain, MayStand, OwnsBy, after_all, change-owns, machines-own, owner-owns, owns-append, owns-told, plain-after, plain-owns, sends-after}
 use Rattle.lard_law_view.specs.Carry.{tale_at}
 use Rattle.lard_law_view.specs.View.{Conn, IsMachine, Move, Part, TurnSaid, grown, letters_of, rows_of, seen_in, sending, station_armed, timer_rows}
+use Rattle.lard_handoff_front.specs.declared.row.FrontConn.{FrontConn}
+use Rattle.lard_handoff_front.specs.declared.row.FrontConn.TheVariants as stage
+use Rattle.lard_handoff_front.specs.declared.row.FrontRow.{FrontRow}
 use Rattle.lard_rules.specs.Front.{front_armed}
+use Rattle.lard_rules.specs.FrontSound.{IsEarlyOver}
 use Rattle.lard_history.specs.Journal.{Tale, tale_step, told_on, untold}
 use Rattle.lard_history.specs.Own.{EachRow, Row, seen_step}
 use Rattle.lard_history.proofs.Each.{Each, Each-append}
@@ -89,11 +93,25 @@ module _ (c : ℕ) (place : Place) (w v : Owning) (s : TurnSaid) (timers : List 
 
 -- ---- one connection
 
--- of each connection: it sits where its places say, what its packets say is so, and each of its records may stand
+-- Of each connection: it sits where its places say, in an early epoch, what its packets say is so, and each of its records may stand.
 pub record IsPlaced (x : Conn) : Type 0 where
   pub sits : SitsAt x
+  pub early : HasEarlyEpoch x
   pub letters : Each (LetterMay x.part) x.letters
   pub lawful : EachRow (MayBeSeen (MayStand x.c) x.c) [] x.seen
+
+-- how late it is, once its row was found
+pub early-at : (x : Conn) → IsPlaced x → (row : FrontRow) → x.part.front.row ≡ Some row → (st : FrontConn) → row.stage ≡ st → IsStageEarly row.epoch.0 st
+early-at x placed row found st at = subst (IsStageEarly row.epoch.0) at (subst IsRowEarly found placed.early)
+
+-- in every stage the epoch is small
+pub small-early : (e : ℕ) (st : FrontConn) → IsStageEarly e st → IsEarlyOver e
+small-early e (stage.Held b) h = omega (arith, h)
+small-early e (stage.Waiting b) h = omega (arith, h)
+small-early e stage.Lent h = omega (arith, h)
+small-early e (stage.Offering n d) h = omega (arith, h)
+small-early e (stage.Moved n d) h = omega (arith, h)
+small-early e (stage.Closed last) h = h
 
 -- what is told before the notes
 abbrev pub tale_before : Conn → Move → Tale
@@ -117,9 +135,10 @@ module _ (x : Conn) (v : Move) (o : Owes x v) (h : IsPlaced x) where
       ∙ seen-rows (tale_step x.c) (tale_before x v) (rows_of x v))
       ∙ told.1 ∙ ap (λ (w : Owning). after_all w (rows_of x v)) o.same
 
-  pub owes-placed : IsPlaced (grown x v)
-  owes-placed = record {
+  pub owes-placed : HasEarlyEpoch (grown x v) → IsPlaced (grown x v)
+  owes-placed early = record {
     sits = subst (λ (w : Owning). Sits w v.part.nodes v.part.front.row) (sym grown-owning) o.sits;
+    early = early;
     letters = Each-append (LetterMay v.part) x.letters (letters_of v) (letters-grow x.part v.part o.grows x.letters h.letters) o.letters;
     lawful = each_row-append (MayBeSeen (MayStand x.c) x.c) [] x.seen (seen_in x v) h.lawful
         (each_row-append (MayBeSeen (MayStand x.c) x.c) x.seen v.heads (map Row (rows_of x v)) o.heads

@@ -1,7 +1,7 @@
 -- With whom the front end has a connection that is at a node.
 use Rattle.std.proofs.Common.{◌≡◌, ◌⊎◌, ◌==◌, ℕ, Bool, true, false, Option, Some, None, refl, sym, ◌∙◌, subst, eqb-true, eq-eqb, inl, inr, ⊎_elim}
-use Rattle.lard_law_connections.specs.Places.{IsComing, IsPast, IsThere, Owning, Sits, StageSits, owning}
-use Rattle.lard_law_connections.proofs.PlacesTurns.{IsPlaced}
+use Rattle.lard_law_connections.specs.Places.{IsComing, IsEven, IsOffered, IsPast, IsThere, Offers, Owning, Sits, StageSits, owning}
+use Rattle.lard_law_connections.proofs.PlacesTurns.{IsPlaced, early-at}
 use Rattle.lard_law_view.specs.Carry.{tale_at}
 use Rattle.lard_law_view.specs.View.{Conn}
 use Rattle.lard_endpoint.specs.Control.{ControlBlock}
@@ -9,6 +9,7 @@ use Rattle.lard_handoff_back.specs.declared.row.BackConn.TheVariants as back
 use Rattle.lard_handoff_front.specs.declared.row.FrontConn.{FrontConn}
 use Rattle.lard_handoff_front.specs.declared.row.FrontConn.TheVariants as stage
 use Rattle.lard_handoff_front.specs.declared.row.FrontRow.{FrontRow}
+use Rattle.lard_rules.specs.FrontSound.{IsEarlyAway}
 
 -- the front end has it with this node, in this epoch
 pub record IsWithNode (x : Conn) (n e : ℕ) : Type 0 where
@@ -54,3 +55,18 @@ with-node x placed n e b row = go x.part.front.row refl placed.sits where
   go : (o : Option FrontRow) → x.part.front.row ≡ o → Sits w x.part.nodes o → IsWithNode x n e
   go None found h = absurd (past 0 (h.1 n))
   go (Some fr) found h = at-stage fr found fr.stage refl h.0
+
+-- what is offered is so in an epoch of nodes, and early
+pub offered-away : (x : Conn) → IsPlaced x → (n e : ℕ) → IsOffered n e x.part.front.row → IsEven e × IsEarlyAway e
+offered-away x placed n e offered = go x.part.front.row refl offered where
+  at-stage : (row : FrontRow) → x.part.front.row ≡ Some row → (st : FrontConn) → row.stage ≡ st → Offers n e st → IsEven e × IsEarlyAway e
+  at-stage row found (stage.Offering m d) at offers =
+      let w : Owning = owning (tale_at x) in
+      let sits : StageSits row.epoch.0 w x.part.nodes (stage.Offering m d) = subst (StageSits row.epoch.0 w x.part.nodes) at (subst (Sits w x.part.nodes) found placed.sits).0 in
+      let same : row.epoch.0 ≡ e = sym sits.1 ∙ offers.1 in
+      (subst IsEven same sits.0, subst IsEarlyAway same (early-at x placed row found (stage.Offering m d) at))
+  at-stage row found _ at offers = absurd offers
+
+  go : (o : Option FrontRow) → x.part.front.row ≡ o → IsOffered n e o → IsEven e × IsEarlyAway e
+  go None found offers = absurd offers
+  go (Some row) found offers = at-stage row found row.stage refl offers

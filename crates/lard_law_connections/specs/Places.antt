@@ -1,5 +1,5 @@
 -- Where the sending side of a connection is, by what the front end and the nodes keep of it, and what its messages say of that.
-use Rattle.std.specs.Prelude.{◌≡◌, ◌≢◌, ◌⊎◌, ℕ, ◌<◌, ◌≤◌, List, option_map, Option, Some, None}
+use Rattle.std.specs.Prelude.{◌≡◌, ◌≢◌, ◌⊎◌, ℕ, ◌+◌, ◌%◌, ◌<◌, ◌≤◌, List, option_map, Option, Some, None}
 use Rattle.lard_base.specs.declared.ids.Epoch.{Epoch}
 use Rattle.lard_base.specs.declared.place.Place.{Place}
 use Rattle.lard_base.specs.declared.place.Place.TheVariants.{Front, Node}
@@ -17,6 +17,7 @@ use Rattle.lard_message.specs.declared.kind.Kind.{Kind}
 use Rattle.lard_message.specs.declared.kind.Kind.TheVariants as kind
 use Rattle.lard_message.specs.Kinds.{kind_named}
 use Rattle.lard_message.specs.Reading.{epoch_at, number_byte, version_at}
+use Rattle.lard_rules.specs.FrontSound.{IsEarlyAway, IsEarlyHere, IsEarlyOver}
 use Rattle.lard_rules.specs.Node.{NodePart}
 
 -- who owns the sending side of a connection, and the epoch in which it was taken last
@@ -26,6 +27,16 @@ pub record Owning : Type 0 where
 
 abbrev pub owning : Tale → Owning
 owning t = record { owner = t.owner; epoch = t.epoch }
+
+-- ---- epochs
+
+-- The first owner is the front end, in epoch 1, and each that takes the connection behind it does so in the next one: so the front end's
+-- epochs are odd, and those of nodes even.
+abbrev pub IsOdd : ℕ → Type 0
+IsOdd e = e % 2 ≡ 1
+
+abbrev pub IsEven : ℕ → Type 0
+IsEven e = (e % 2 ≡ 0) × (0 < e)
 
 -- ---- at a node
 
@@ -56,9 +67,9 @@ abbrev pub IsThere : ℕ → ℕ → Owning → Option BackRow → Type 0
 IsThere n e w None = ⊥
 IsThere n e w (Some row) = (row.epoch.0 ≡ e) × (w.epoch ≡ e) × Owns n row.stage w.owner
 
--- its Offer has not come yet
+-- its Offer has not come yet, and is of the epoch behind that of who had it last
 abbrev pub IsComing : ℕ → Owning → Option BackRow → Type 0
-IsComing e w row = (w.owner ≡ None) × (w.epoch < e) × IsPast e row
+IsComing e w row = (w.owner ≡ None) × (w.epoch + 1 ≡ e) × IsPast e row
 
 abbrev pub OthersArePast : ℕ → ℕ → (ℕ → NodePart) → Type 0
 OthersArePast n e nodes = (m : ℕ) → m ≢ n → IsPast e (nodes m).row
@@ -69,15 +80,27 @@ OthersArePast n e nodes = (m : ℕ) → m ≢ n → IsPast e (nodes m).row
 abbrev pub IsHome : ℕ → Owning → (ℕ → NodePart) → Type 0
 IsHome e w nodes = (w ≡ record { owner = Some Front; epoch = e }) × ArePast e nodes
 
--- Where it is, by its stage at the front end. The first owner is the front end in epoch 1, a node has it in epoch 2, and in epoch 3
--- the front end has it again.
+-- Where it is, by its stage at the front end: here in an odd epoch, and away in an even one.
 abbrev pub StageSits : ℕ → Owning → (ℕ → NodePart) → FrontConn → Type 0
-StageSits e w nodes (Held b) = (e ≡ 1) × IsHome e w nodes
-StageSits e w nodes (Waiting b) = (e ≡ 1) × IsHome e w nodes
+StageSits e w nodes (Held b) = IsOdd e × IsHome e w nodes
+StageSits e w nodes (Waiting b) = IsOdd e × IsHome e w nodes
 StageSits e w nodes Lent = ⊥
-StageSits e w nodes (Offering n d) = (e ≡ 2) × (d.0 ≡ e) × OthersArePast n e nodes × (IsComing e w (nodes n).row ⊎ IsThere n e w (nodes n).row)
-StageSits e w nodes (Moved n d) = (e ≡ 2) × (d.0 ≡ e) × OthersArePast n e nodes × IsThere n e w (nodes n).row
-StageSits e w nodes (Closed last) = (e ≤ 3) × IsHome e w nodes
+StageSits e w nodes (Offering n d) = IsEven e × (d.0 ≡ e) × OthersArePast n e nodes × (IsComing e w (nodes n).row ⊎ IsThere n e w (nodes n).row)
+StageSits e w nodes (Moved n d) = IsEven e × (d.0 ≡ e) × OthersArePast n e nodes × IsThere n e w (nodes n).row
+StageSits e w nodes (Closed last) = IsOdd e × IsHome e w nodes
+
+-- how late an epoch is at most, by the stage, while a connection leaves the front end once
+abbrev pub IsStageEarly : ℕ → FrontConn → Type 0
+IsStageEarly e (Held b) = IsEarlyHere e
+IsStageEarly e (Waiting b) = IsEarlyHere e
+IsStageEarly e Lent = IsEarlyHere e
+IsStageEarly e (Offering n d) = IsEarlyAway e
+IsStageEarly e (Moved n d) = IsEarlyAway e
+IsStageEarly e (Closed last) = IsEarlyOver e
+
+abbrev pub IsRowEarly : Option FrontRow → Type 0
+IsRowEarly None = Unit {0}
+IsRowEarly (Some row) = IsStageEarly row.epoch.0 row.stage
 
 -- the stay whose end the front end knows was of an earlier epoch
 abbrev pub EndedBefore : ℕ → Option Epoch → Type 0
@@ -151,3 +174,6 @@ LetterMay p l = MaySay p l.from l.to (message_head l.bytes)
 
 abbrev pub SitsAt : Conn → Type 0
 SitsAt x = Sits (owning (tale_at x)) x.part.nodes x.part.front.row
+
+abbrev pub HasEarlyEpoch : Conn → Type 0
+HasEarlyEpoch x = IsRowEarly x.part.front.row

@@ -3,7 +3,7 @@ use Rattle.std.specs.Prelude.{ℕ, List}
 use Rattle.lard_base.specs.declared.config.Config.{Config}
 use Rattle.lard_rules.specs.declared.machine.Machine.{Machine}
 use Rattle.lard_rules.specs.Machine.{IsReached}
-use Rattle.lard_law_connections.specs.Places.{SitsAt}
+use Rattle.lard_law_connections.specs.Places.{HasEarlyEpoch, SitsAt}
 use Rattle.lard_law_view.specs.Carry.{OfEach}
 use Rattle.lard_history.specs.Laws.{IsOwnership, IsSoleSender}
 
@@ -11,9 +11,9 @@ use Rattle.lard_history.specs.Laws.{IsOwnership, IsSoleSender}
 abbrev pub Always : (Machine → Type 0) → Type 0
 Always P = (config : Config) (files : List (List ℕ × List ℕ)) (m : Machine) → IsReached config files m → P m
 
--- Each connection is where its tale says: at most one place has its sending side.
+-- Each connection is where its tale says, in an early epoch: at most one place has its sending side.
 abbrev pub EachConnectionSits : Type 0
-EachConnectionSits = (config : Config) (files : List (List ℕ × List ℕ)) → OfEach config files SitsAt
+EachConnectionSits = (config : Config) (files : List (List ℕ × List ℕ)) → OfEach config files (λ x. SitsAt x × HasEarlyEpoch x)
 
 -- The epochs in which a connection is taken rise, and a place gives up what it owns, in its epoch.
 abbrev pub OwnersAreLawful : Type 0

@@ -54,9 +54,9 @@ pub fn books_are_told()
 {}
 
 /// In every run of the cluster's machine, whatever is lost, repeated or comes out of order, and also of a connection that the
-/// schedule touched: each connection is at one place, or on its way to one that will take it in the next epoch. The epochs in
-/// which it is taken rise, it is taken where nobody owns it, a place gives up only what it owns, and only its owner sends to
-/// its client.
+/// schedule touched: each connection is at one place, or on its way to one that will take it in the next epoch. The front end has
+/// it in an odd epoch and a node in an even one: 1 or 3, and 2, since it leaves the front end once. The epochs in which it is taken
+/// rise, it is taken where nobody owns it, a place gives up only what it owns, and only its owner sends to its client.
 pub fn every_move_keeps_one_owner()
     ensures connections { EachConnectionSits }
     ensures owners { OwnersAreLawful }

@@ -17,7 +17,7 @@ use Rattle.lard_laws.proofs.HomesRuns.{connections-have-one-home}
 use Rattle.lard_law_connections.specs.Kept.{AsksFor, FrontRowKeeps, FrontStageKeeps, HereKeeps, IsFetchFromOther, NodeRowKeeps, NodeStageKeeps}
 use Rattle.lard_law_connections.specs.KeptLaws.{AnyNode}
 use Rattle.lard_law_connections.proofs.KeptRuns.{connections-are-kept}
-use Rattle.lard_law_connections.specs.Places.{IsThere, Owning, Owns, Sits, StageSits, owning}
+use Rattle.lard_law_connections.specs.Places.{IsRowEarly, IsStageEarly, IsThere, Owning, Owns, Sits, StageSits, owning}
 use Rattle.lard_law_connections.proofs.PlacesRuns.{each-placed}
 use Rattle.lard_law_connections.proofs.PlacesTurns.{IsPlaced}
 use Rattle.lard_law_connections.proofs.PlacesWithNode.{with-node}
@@ -128,21 +128,21 @@ module _ (c : ℕ) (number : IsConnNumber c) where
       let may = offer-may c e number early parts its.0.3 in
       (may.0, is ∙ (λ i. record { kind = kind.Offer; r = 0; to = Node n; bytes = may.1 i } ∷ []), may.2)
 
-  front-by : (p : FrontPart) (d : ℕ) (w : Owning) (nodes : ℕ → NodePart) → AreHeld Front p.kept → (st : FrontConn) → StageSits d w nodes st → FrontStageKeeps c p st → OfferKept c p.kept st
-  front-by p d w nodes held (stage.Held b) sits h = h.1
-  front-by p d w nodes held (stage.Waiting b) sits h = h.1
-  front-by p d w nodes held stage.Lent sits h = absurd h
-  front-by p d w nodes held (stage.Offering n e) sits h =
-      let one = sits.0 in let two = sits.1 in
-      offered n e.0 p.kept (omega (arith, one, two)) held h.1.0 h.1.1
-  front-by p d w nodes held (stage.Moved n e) sits h = h.1
-  front-by p d w nodes held (stage.Closed last) sits h = h
+  front-by : (p : FrontPart) (d : ℕ) (w : Owning) (nodes : ℕ → NodePart) → AreHeld Front p.kept → (st : FrontConn) → StageSits d w nodes st → IsStageEarly d st → FrontStageKeeps c p st → OfferKept c p.kept st
+  front-by p d w nodes held (stage.Held b) sits early h = h.1
+  front-by p d w nodes held (stage.Waiting b) sits early h = h.1
+  front-by p d w nodes held stage.Lent sits early h = absurd h
+  front-by p d w nodes held (stage.Offering n e) sits early h =
+      let same = sits.1 in
+      offered n e.0 p.kept (omega (arith, early, same)) held h.1.0 h.1.1
+  front-by p d w nodes held (stage.Moved n e) sits early h = h.1
+  front-by p d w nodes held (stage.Closed last) sits early h = h
 
-  front-in : (p : FrontPart) (w : Owning) (nodes : ℕ → NodePart) → AreHeld Front p.kept → (o : Option FrontRow) → Sits w nodes o → FrontRowKeeps c p o → RowKept c p.kept o
-  front-in p w nodes held None sits h = h
-  front-in p w nodes held (Some row) sits h = front-by p row.epoch.0 w nodes held row.stage sits.0 h
+  front-in : (p : FrontPart) (w : Owning) (nodes : ℕ → NodePart) → AreHeld Front p.kept → (o : Option FrontRow) → Sits w nodes o → IsRowEarly o → FrontRowKeeps c p o → RowKept c p.kept o
+  front-in p w nodes held None sits early h = h
+  front-in p w nodes held (Some row) sits early h = front-by p row.epoch.0 w nodes held row.stage sits.0 early h
 
-  pub front-kept : (p : FrontPart) (w : Owning) (nodes : ℕ → NodePart) → AreHeld Front p.kept → Sits w nodes p.row → FrontRowKeeps c p p.row → RowKept c p.kept p.row
+  pub front-kept : (p : FrontPart) (w : Owning) (nodes : ℕ → NodePart) → AreHeld Front p.kept → Sits w nodes p.row → IsRowEarly p.row → FrontRowKeeps c p p.row → RowKept c p.kept p.row
   front-kept p w nodes held = front-in p w nodes held p.row
 
   -- ---- what a node keeps
@@ -213,7 +213,7 @@ module _ (c : ℕ) (number : IsConnNumber c) where
 module _ (config : Config) (files : List (List ℕ × List ℕ)) (m : Machine) (reached : IsReached config files m) (holds : Holds m) (named : AreNamed (file_at files)) (q : ℕ) (number : IsConnNumber q) where
   front-is : RowKept q (conn m q).part.front.kept (conn m q).part.front.row
   unfolding conn part_of
-  front-is = front-kept q number (conn m q).part.front (owning (tale_at (conn m q))) (conn m q).part.nodes (holds.parts.front q).kept (each-placed config files m reached q).sits (connections-are-kept config files m reached q).front
+  front-is = front-kept q number (conn m q).part.front (owning (tale_at (conn m q))) (conn m q).part.nodes (holds.parts.front q).kept (each-placed config files m reached q).sits (each-placed config files m reached q).early (connections-are-kept config files m reached q).front
 
   node-in : (n : ℕ) (o : Option NodeState) → IfSome o (NodeHolds (length m.net) n) → NodeComes (file_at files) (kept_at q o) → NodeRowKeeps AnyNode (file_at files) q n (kept_at q o) (kept_at q o).row → BackKept (file_at files) q (kept_at q o) (kept_at q o).row
   node-in n None h comes kept = kept

@@ -1,5 +1,5 @@
 -- What the front end's answers rest on: of its stages, epochs, last numbers and Tags, from the laws of every run.
-use Rattle.std.proofs.Common.{◌≡◌, ◌≤◌, ◌<◌, ◌^◌, ℕ, Bool, true, false, List, Option, Some, None, Ok, refl, sym, subst, arith}
+use Rattle.std.proofs.Common.{◌≡◌, ◌<◌, ◌^◌, ℕ, Bool, true, false, List, Option, Some, None, Ok, refl, sym, subst, arith}
 use Rattle.lard_answers.specs.Answers.{FilesAt}
 use Rattle.lard_base.specs.declared.ids.Epoch.{Epoch}
 use Rattle.lard_base.specs.declared.place.Place.TheVariants.{Client, Front}
@@ -9,7 +9,7 @@ use Rattle.lard_laws.specs.Acks.{AcksWhatWasTaken}
 use Rattle.lard_law_connections.specs.BytesAgreement.{ConnAgrees, IsTruthful}
 use Rattle.lard_laws.specs.EndedEnds.{EndsAreTrue}
 use Rattle.lard_laws.specs.Homes.{HasOneHome}
-use Rattle.lard_law_connections.specs.Places.{EndedBefore, Owning, Sits, SitsAt, StageSits, owning}
+use Rattle.lard_law_connections.specs.Places.{EndedBefore, HasEarlyEpoch, IsRowEarly, IsStageEarly, Owning, Sits, SitsAt, StageSits, owning}
 use Rattle.lard_laws.proofs.RecordsFronts.{RestKeeps}
 use Rattle.lard_laws.proofs.TagsAgree.{Agreed}
 use Rattle.lard_law_view.specs.Carry.{tale_at}
@@ -28,6 +28,7 @@ use Rattle.lard_law_progress.proofs.AnswersFrontSpots.{away-cases, seat-row}
 use Rattle.lard_rules.specs.declared.places.Station.{Station}
 use Rattle.lard_segment.specs.declared.segment.Dir.TheVariants.{ToCluster}
 use Rattle.lard_segment.specs.Segment.{Said, decoded}
+use Rattle.lard_law_connections.proofs.PlacesTurns.{small-early}
 
 -- What other laws give of it: of an endpoint that the front end has, and of what its client says.
 pub record IsKnownElsewhere (w : Whole) (x : Conn) : Type 0 where
@@ -37,18 +38,21 @@ pub record IsKnownElsewhere (w : Whole) (x : Conn) : Type 0 where
 
 -- ---- where it sits
 
-stage-sits : (e : ℕ) (o : Owning) (nodes : ℕ → NodePart) (c : FrontConn) → StageSits e o nodes c → IsStage c × (e ≤ 3)
-stage-sits e o nodes (stage.Held b) h = let one : e ≡ 1 = h.0 in (tt, omega (arith, one))
-stage-sits e o nodes (stage.Waiting b) h = let one : e ≡ 1 = h.0 in (tt, omega (arith, one))
-stage-sits e o nodes stage.Lent h = absurd h
-stage-sits e o nodes (stage.Offering n d) h = let two : e ≡ 2 = h.0 in let same : d.0 ≡ e = h.1 in (omega (arith, two, same), omega (arith, two))
-stage-sits e o nodes (stage.Moved n d) h = let two : e ≡ 2 = h.0 in let same : d.0 ≡ e = h.1 in (omega (arith, two, same), omega (arith, two))
-stage-sits e o nodes (stage.Closed last) h = (tt, h.0)
+stage-sits : (e : ℕ) (o : Owning) (nodes : ℕ → NodePart) (c : FrontConn) → StageSits e o nodes c → IsStageEarly e c → IsStage c
+stage-sits e o nodes (stage.Held b) h early = tt
+stage-sits e o nodes (stage.Waiting b) h early = tt
+stage-sits e o nodes stage.Lent h early = absurd h
+stage-sits e o nodes (stage.Offering n d) h early = let same : d.0 ≡ e = h.1 in omega (arith, early, same)
+stage-sits e o nodes (stage.Moved n d) h early = let same : d.0 ≡ e = h.1 in omega (arith, early, same)
+stage-sits e o nodes (stage.Closed last) h early = tt
 
-module _ (N : ℕ → Type 0) (files : FilesAt) (w : Whole) (x : Conn) (sits : SitsAt x) (truth : IsTruthful files x) (acts : AcksWhatWasTaken x) (told : EndsAreTrue files x) (keeps : RestKeeps (front_rest x.part.front.rest))
+module _ (N : ℕ → Type 0) (files : FilesAt) (w : Whole) (x : Conn) (sits : SitsAt x) (early : HasEarlyEpoch x) (truth : IsTruthful files x) (acts : AcksWhatWasTaken x) (told : EndsAreTrue files x) (keeps : RestKeeps (front_rest x.part.front.rest))
     (homes : HasOneHome x) (agreed : Agreed N files x) (known : IsKnownElsewhere w x) where
   row-sits : (row : FrontRow) → x.part.front.row ≡ Some row → StageSits row.epoch.0 (owning (tale_at x)) x.part.nodes row.stage × EndedBefore row.epoch.0 row.ended_by
   row-sits row is = subst (Sits (owning (tale_at x)) x.part.nodes) is sits
+
+  row-early : (row : FrontRow) → x.part.front.row ≡ Some row → IsStageEarly row.epoch.0 row.stage
+  row-early row is = subst IsRowEarly is early
 
   unopened : x.part.station ≡ None → x.part.front.row ≡ None
   unopened none = (subst (ConnAgrees files x truth.talk truth.pend) none truth.agrees).front
@@ -57,7 +61,7 @@ module _ (N : ℕ → Type 0) (files : FilesAt) (w : Whole) (x : Conn) (sits : S
   ended-small row e is by =
       let h = row-sits row is in
       let before : e.0 < row.epoch.0 = subst (EndedBefore row.epoch.0) by h.1 in
-      let most = (stage-sits row.epoch.0 (owning (tale_at x)) x.part.nodes row.stage h.0).1 in
+      let most = small-early row.epoch.0 row.stage (row-early row is) in
       omega (arith, before, most)
 
   tag-fits : (rest : FrontRest) → x.part.front.rest ≡ Some rest → 0 < rest.asks → HasTag rest
@@ -85,7 +89,7 @@ module _ (N : ℕ → Type 0) (files : FilesAt) (w : Whole) (x : Conn) (sits : S
   pub front-given : FrontGiven files w x
   front-given = record {
     unopened = unopened;
-    stages = λ row is. (stage-sits row.epoch.0 (owning (tale_at x)) x.part.nodes row.stage (row-sits row is).0).0;
+    stages = λ row is. stage-sits row.epoch.0 (owning (tale_at x)) x.part.nodes row.stage (row-sits row is).0 (row-early row is);
     epochs = ended-small;
     ended = ended-given x homes;
     tags = tag-fits;

@@ -72,6 +72,6 @@ module _ (config : Config) (files : List (List ℕ × List ℕ)) (checked : conf
   pub each-front : Holds m → (w : Whole) → ((st : Station) (b : ControlBlock) (count : ℕ) → x.part.station ≡ Some st → seat_of x.part ≡ Held b count → AtSeat w st (Held b count))
       → ((st : Station) (b : ControlBlock) (count : ℕ) → x.part.station ≡ Some st → seat_of x.part ≡ Waiting b count → AtSeat w st (Waiting b count)) → FrontGiven (file_at files) w x
   each-front holds w held waiting =
-      front-given (IsNode config.nodes) (file_at files) w x (each-sits config files m reached q) truth (connections-ack config files (usable config checked).stream m reached q free)
+      front-given (IsNode config.nodes) (file_at files) w x (each-sits config files m reached q).0 (each-sits config files m reached q).1 truth (connections-ack config files (usable config checked).stream m reached q free)
       (connections-were-closed config files (usable config checked).stream m reached q free) (rest-keeps m q holds) (connections-have-one-home config files m reached q) (each-agrees config files checked m reached q free)
       (record { held = held; waiting = waiting; words = λ st bytes s there was read. each-word st there bytes s was read })

@@ -16,7 +16,7 @@ use Rattle.lard_law_connections.specs.LimitsCounts.{CountsWhatWasServed}
 use Rattle.lard_law_connections.specs.Places.{IsDecided, IsPast, Sits, StageSits, owning}
 use Rattle.lard_law_connections.proofs.PlacesFrontMessages.{came-says}
 use Rattle.lard_law_connections.proofs.PlacesFrontRules.{has-each}
-use Rattle.lard_law_connections.proofs.PlacesTurns.{IsPlaced}
+use Rattle.lard_law_connections.proofs.PlacesTurns.{IsPlaced, early-at}
 use Rattle.lard_law_view.specs.Carry.{tale_at}
 use Rattle.lard_law_view.specs.View.{Conn, SpellsMessage, Was}
 use Rattle.lard_endpoint.specs.Moving.{parts_of}
@@ -102,7 +102,7 @@ module _ (files : FilesAt) (x : Conn) (st : Station) (k : Talk) (pend : List Ver
 
     read : parts ≡ parts_of offering.block offering.count
     read =
-        let small : at.row.epoch.0 < 2 ^ 16 = let two = sits.0 in omega (arith, two) in
+        let small : at.row.epoch.0 < 2 ^ 16 = let early = early-at x placed at.row at.front (stage.Offering n (record { 0 = e })) at.with_ in omega (arith, early) in
         offers-read x.c at.row.epoch.0 k.w k.out k.vs pend offering.block offering.count number small is-stream offering.holds offering.frozen
         (record { c = x.c; epoch = record { 0 = e }; body = body.Offer parts }) parts
         (subst (λ (bs : List ℕ). decoded_message bs ≡ Ok (record { c = x.c; epoch = record { 0 = e }; body = body.Offer parts })) its-bytes spells) refl

@@ -9,7 +9,7 @@ use Rattle.lard_law_connections.specs.BytesAgreement.{AwayAgrees, FrontHolds, Is
 use Rattle.lard_law_connections.proofs.BytesClientMoves.{has-fair}
 use Rattle.lard_law_connections.proofs.BytesMessages.{offers-read}
 use Rattle.lard_law_connections.specs.Places.{IsDecided, IsPast, Owning, Sits, StageSits, owning}
-use Rattle.lard_law_connections.proofs.PlacesTurns.{IsPlaced}
+use Rattle.lard_law_connections.proofs.PlacesTurns.{IsPlaced, early-at}
 use Rattle.lard_law_view.specs.Carry.{tale_at}
 use Rattle.lard_law_view.specs.View.{Conn, SpellsMessage, Was}
 use Rattle.lard_endpoint.specs.Control.{ControlBlock}
@@ -99,5 +99,5 @@ module _ (files : FilesAt) (x : Conn) (number : IsConnNumber x.c) (at_place : Is
         count = offering.count;
         frozen = offering.frozen;
         holds = offering.holds;
-        same = offers-read x.c row.epoch.0 l.w l.out l.vs pend offering.block offering.count number (omega (arith, sits.0)) is_stream offering.holds offering.frozen _ parts (ap decoded_message spelled ∙ spells) refl;
+        same = offers-read x.c row.epoch.0 l.w l.out l.vs pend offering.block offering.count number (let early = early-at x at_place row found (stage.Offering m d) at in omega (arith, early)) is_stream offering.holds offering.frozen _ parts (ap decoded_message spelled ∙ spells) refl;
       }

@@ -15,7 +15,7 @@ use Rattle.lard_law_connections.specs.MotionStory.{of_row, picked}
 use Rattle.lard_law_connections.proofs.MotionElsewhere.{IsUnsent, gave-unsent, note-unsent, timer-unsent}
 use Rattle.lard_law_connections.proofs.MotionNodes.{IsFirst}
 use Rattle.lard_law_connections.proofs.MotionPicking.{pick, pick-none, pick-parts, pick-seen, picked-append, picked-none, segments-none, timers-none}
-use Rattle.lard_law_connections.specs.Places.{message_head, IsDecided, IsOffered, Offers, Owning, Sits, StageSits, owning}
+use Rattle.lard_law_connections.specs.Places.{IsDecided, IsEven, IsOffered, Owning, message_head, owning}
 use Rattle.lard_law_connections.proofs.PlacesFrontMessages.{came-says}
 use Rattle.lard_law_connections.proofs.PlacesNodeRules.{here-has}
 use Rattle.lard_law_connections.proofs.PlacesTurns.{IsPlaced}
@@ -31,9 +31,6 @@ use Rattle.lard_handoff_back.specs.declared.row.BackRow.{BackRow}
 use Rattle.lard_handoff_back.specs.declared.table.Adopt.TheVariants.{New, Again, Stale}
 use Rattle.lard_handoff_back.specs.Back.{offer_answer}
 use Rattle.lard_handoff_back.specs.Row.{is_gone}
-use Rattle.lard_handoff_front.specs.declared.row.FrontConn.{FrontConn}
-use Rattle.lard_handoff_front.specs.declared.row.FrontConn.TheVariants as stage
-use Rattle.lard_handoff_front.specs.declared.row.FrontRow.{FrontRow}
 use Rattle.lard_history.specs.Journal.{request}
 use Rattle.lard_history.specs.Own.{Came, Row, Seen}
 use Rattle.lard_history.proofs.Each.{Each, Each-weaker}
@@ -51,6 +48,8 @@ use Rattle.lard_rules.specs.Client.{client_aborts, client_gets, client_holds, cl
 use Rattle.lard_segment.specs.declared.segment.Dir.TheVariants.{ToClient, ToCluster}
 use Rattle.lard_segment.specs.Segment.{decoded}
 use Rattle.lard_law_view.proofs.EndpointSends.{AllTo}
+use Rattle.lard_rules.specs.FrontSound.{IsEarlyAway}
+use Rattle.lard_law_connections.proofs.PlacesWithNode.{offered-away}
 
 -- the last Asks that node n sent of the connection
 abbrev pub lasts : Conn → ℕ → ℕ → Option (List ℕ)
@@ -255,40 +254,26 @@ module _ (k : Setting) (x : Conn) (n epoch : ℕ) (env : NodeEnv) (is : IsNodeEn
     owns = owning (tale_at x)
 
     pub small-here : (y : _) → here env.epoch ours ≡ Some y → env.epoch < 2 ^ 16
-    small-here y e = let two : env.epoch ≡ 2 = (here-has x placed n env.epoch y.0 y.1 e).can.two in omega (arith, two)
+    small-here y e = let early = (here-has x placed n env.epoch y.0 y.1 e).can.early in omega (arith, early)
 
-    offered-two : (o : Option FrontRow) → x.part.front.row ≡ o → IsOffered n env.epoch o → env.epoch ≡ 2
-    offered-two None found offered = absurd offered
-    offered-two (Some f) found offered = go f.stage refl offered where
-      go : (st : FrontConn) → f.stage ≡ st → Offers n env.epoch st → env.epoch ≡ 2
-      go (stage.Offering m d) at offers =
-          let s : Sits owns x.part.nodes (Some f) = subst (Sits owns x.part.nodes) found placed.sits in
-          let sits : StageSits f.epoch.0 owns x.part.nodes (stage.Offering m d) = subst (StageSits f.epoch.0 owns x.part.nodes) at s.0 in
-          sym offers.1 ∙ sits.1 ∙ sits.0
-      go (stage.Held b) at offers = absurd offers
-      go (stage.Waiting b) at offers = absurd offers
-      go stage.Lent at offers = absurd offers
-      go (stage.Moved m d) at offers = absurd offers
-      go (stage.Closed last) at offers = absurd offers
-
-    undecided-two : IsDecided env.epoch ours.row ⊎ IsOffered n env.epoch x.part.front.row → (IsDecided env.epoch ours.row → ⊥) → env.epoch ≡ 2
-    undecided-two said other = offered-two x.part.front.row refl (⊎_elim (λ (d : IsDecided env.epoch ours.row). absurd (other d)) (λ (o : IsOffered n env.epoch x.part.front.row). o) said)
+    undecided-away : IsDecided env.epoch ours.row ⊎ IsOffered n env.epoch x.part.front.row → (IsDecided env.epoch ours.row → ⊥) → IsEven env.epoch × IsEarlyAway env.epoch
+    undecided-away said other = offered-away x placed n env.epoch (⊎_elim (λ (d : IsDecided env.epoch ours.row). absurd (other d)) (λ (o : IsOffered n env.epoch x.part.front.row). o) said)
 
     -- one that is new
     pub newer : (h : PartsAsk x) → IsDecided env.epoch ours.row ⊎ IsOffered n env.epoch x.part.front.row → offer_answer env.epoch ours.row ≡ New → IsNewer x.c n (lasts x n) env is.number ours (h n)
     newer h said = go ours.row refl where
       go : (o : Option BackRow) → ours.row ≡ o → offer_answer env.epoch o ≡ New → IsNewer x.c n (lasts x n) env is.number ours (h n)
       go None found e =
-          let two : env.epoch ≡ 2 = undecided-two said (λ d. subst (IsDecided env.epoch) found d) in
-          let none : epoch_in ours ≡ 0 = ap (λ (o : Option BackRow). epoch_in (record ours { row = o })) found in record { small = omega (arith, two); above = omega (arith, two, none) }
+          let away = undecided-away said (λ d. subst (IsDecided env.epoch) found d) in
+          let none : epoch_in ours ≡ 0 = ap (λ (o : Option BackRow). epoch_in (record ours { row = o })) found in record { small = omega (arith, away.1); above = omega (arith, away.0.1, none) }
       go (Some row) found e = by (row.epoch.0 == env.epoch) (nat_lt row.epoch.0 env.epoch && is_gone row.stage) refl e where
         by : (a b : Bool) → (nat_lt row.epoch.0 env.epoch && is_gone row.stage) ≡ b → cond a Again (cond b New Stale) ≡ New → IsNewer x.c n (lasts x n) env is.number ours (h n)
         by true b f e = absurd cc
         by false false f e = absurd cc
         by false true f e =
             let less : row.epoch.0 < env.epoch = ltb-true row.epoch.0 env.epoch (and_parts (nat_lt row.epoch.0 env.epoch) (is_gone row.stage) f).0 in
-            let two : env.epoch ≡ 2 = undecided-two said (λ d. let le : env.epoch ≤ row.epoch.0 = subst (IsDecided env.epoch) found d in omega (arith, le, less)) in
-            let at : epoch_in ours ≡ row.epoch.0 = ap (λ (o : Option BackRow). epoch_in (record ours { row = o })) found in record { small = omega (arith, two); above = omega (arith, at, less) }
+            let away = undecided-away said (λ d. let le : env.epoch ≤ row.epoch.0 = subst (IsDecided env.epoch) found d in omega (arith, le, less)) in
+            let at : epoch_in ours ≡ row.epoch.0 = ap (λ (o : Option BackRow). epoch_in (record ours { row = o })) found in record { small = omega (arith, away.1); above = omega (arith, at, less) }
 
   -- what an Offer that comes says
   pub offer-said : IsPlaced x → (parts : EndpointParts) (bytes : List ℕ) → SpellsMessage x.c epoch (body.Offer parts) bytes → Was x Front (Node n) bytes → IsDecided env.epoch ours.row ⊎ IsOffered n env.epoch x.part.front.row

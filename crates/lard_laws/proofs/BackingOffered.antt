@@ -20,7 +20,7 @@ use Rattle.lard_law_connections.proofs.BytesMessages.{offers-read}
 use Rattle.lard_law_connections.proofs.BytesNodeTurns.{talk-of}
 use Rattle.lard_law_connections.specs.Places.{IsDecided, IsOffered, IsPast, Offers, Sits, StageSits, owning}
 use Rattle.lard_law_connections.proofs.PlacesFrontMessages.{came-says}
-use Rattle.lard_law_connections.proofs.PlacesTurns.{IsPlaced}
+use Rattle.lard_law_connections.proofs.PlacesTurns.{IsPlaced, early-at}
 use Rattle.lard_law_view.specs.Carry.{tale_at}
 use Rattle.lard_law_view.specs.View.{Conn, IsNodeEnv, Setting, SpellsMessage, Was, node_does, packet_seen}
 use Rattle.lard_laws.specs.WaysState.{BeginsWithRequest, GoesItsWay, IsAway, IsPlacedOnce, LetterWays, OfferIs, SeatWays, StageWays, marks_at}
@@ -130,7 +130,8 @@ module _ (k : Setting) (small : k.stream ≤ 2 ^ 30) (x : Conn) (s : Station) (t
         (λ (a : IsDecided row.epoch.0 p.row × NodeAgrees l.w l.out l.vs pend l.was_reset x.c p). absurd (undecided a.0)) away in
         let talk : IsTalk env l.w l.out l.vs = talk-of k small x s there l pend o n env epoch is in
         let spelled : message x.c row.epoch.0 (body.Offer (parts_of offering.block offering.count)) ≡ bytes = ap first_bytes (sym offering.kept_is ∙ kept.1) ∙ kept.2 in
-        let same : parts ≡ parts_of offering.block offering.count = offers-read x.c row.epoch.0 l.w l.out l.vs pend offering.block offering.count number (omega (arith, sits.0)) talk.stream offering.holds offering.frozen _ parts
+        let early = early-at x placed row found (stage.Offering n d) at in
+        let same : parts ≡ parts_of offering.block offering.count = offers-read x.c row.epoch.0 l.w l.out l.vs pend offering.block offering.count number (omega (arith, early)) talk.stream offering.holds offering.frozen _ parts
         (ap decoded_message spelled ∙ spells) refl in
         let mine : IsAway all_files m r n row.epoch.0 p = subst (StageWays all_files m x.part row.epoch.0) at (subst (SeatWays all_files m x.part) found g.seat) in
         let once : IsPlacedOnce all_files m r n = ⊎_elim (λ (a : IsPast row.epoch.0 p.row × IsPlacedOnce all_files m r n). a.1)

@@ -66,6 +66,7 @@ use Rattle.lard_rules.specs.Loop as loop
 use Rattle.lard_rules.specs.Serving.{Service, serving_consumed, may_read, serving_ready_of, serving, serving_settled, spoken, serving_told}
 use Rattle.lard_segment.specs.declared.fault.SegFault.{SegFault}
 use Rattle.lard_segment.specs.Segment.{Said}
+use Rattle.lard_rules.specs.FrontSound.{IsEarlyAway, IsEarlyHere}
 
 -- ---- what is kept
 
@@ -76,14 +77,14 @@ IsNode n = dispatch.IsNode 64 n
 pub node-number : (n : ℕ) → IsNode n → IsNumber n
 node-number n h = let most = h.1 in omega (arith, most)
 
--- The front end has it in its first epoch, a node in the second at most, and a message has that epoch; what is here is bytes, serves
+-- The front end has it in an early epoch, and a node too, and a message has that epoch; what is here is bytes, serves
 -- what was asked for, and may move where it waits.
 abbrev pub StageKeeps : ℕ → ℕ → FrontConn → Type 0
-StageKeeps e count (stage.Held b) = (e ≤ 1) × Keeps count b × ServesAs count b
-StageKeeps e count (stage.Waiting b) = (e ≤ 1) × Keeps count b × ServesAs count b × (may_freeze b ≡ true)
-StageKeeps e count stage.Lent = e ≤ 1
-StageKeeps e count (stage.Offering node d) = (e ≤ 2) × IsNode node × (d.0 < 2 ^ 16)
-StageKeeps e count (stage.Moved node d) = (e ≤ 2) × IsNode node × (d.0 < 2 ^ 16)
+StageKeeps e count (stage.Held b) = IsEarlyHere e × Keeps count b × ServesAs count b
+StageKeeps e count (stage.Waiting b) = IsEarlyHere e × Keeps count b × ServesAs count b × (may_freeze b ≡ true)
+StageKeeps e count stage.Lent = IsEarlyHere e
+StageKeeps e count (stage.Offering node d) = IsEarlyAway e × IsNode node × (d.0 < 2 ^ 16)
+StageKeeps e count (stage.Moved node d) = IsEarlyAway e × IsNode node × (d.0 < 2 ^ 16)
 StageKeeps e count (stage.Closed last) = Unit {0}
 
 abbrev pub RowKeeps : ℕ → ℕ → Option FrontRow → Type 0
@@ -262,11 +263,11 @@ module _ (env : FrontEnv) (own : env.serve.place ≡ place.Front) (conn : cluste
     StaysIn e stays (ending.Here b count) = StageKeeps e count (stays b)
     StaysIn e stays (ending.Over last) = Unit {0}
 
-    stays-held : (e : ℕ) (x : Ending) → e ≤ 1 → EndKeeps x → EndsServing x → StaysIn e stage.Held x
+    stays-held : (e : ℕ) (x : Ending) → IsEarlyHere e → EndKeeps x → EndsServing x → StaysIn e stage.Held x
     stays-held e (ending.Here b count) first k serves = (first, k, serves)
     stays-held e (ending.Over last) first k serves = tt
 
-    stays-waiting : (e : ℕ) (x : Ending) → e ≤ 1 → EndKeeps x → EndsServing x → EndsIdle x → StaysIn e stage.Waiting x
+    stays-waiting : (e : ℕ) (x : Ending) → IsEarlyHere e → EndKeeps x → EndsServing x → EndsIdle x → StaysIn e stage.Waiting x
     stays-waiting e (ending.Here b count) first k serves idle = (first, k, serves, idle)
     stays-waiting e (ending.Over last) first k serves idle = tt
 
@@ -279,16 +280,16 @@ module _ (env : FrontEnv) (own : env.serve.place ≡ place.Front) (conn : cluste
     }
     rests-keep row rest stays (ending.Over last) on r = record { row = (conn, tt); rest = no-rest; kept = held.kept; few = held.few }
 
-    holds-fits : (row : FrontRow) (rest : FrontRest) (given : Ending × Turn) → row.epoch.0 ≤ 1 → RestKeeps rest → EndFits place.Front given → EndsServing given.0 → Fits (holds p row rest given)
+    holds-fits : (row : FrontRow) (rest : FrontRest) (given : Ending × Turn) → IsEarlyHere row.epoch.0 → RestKeeps rest → EndFits place.Front given → EndsServing given.0 → Fits (holds p row rest given)
     holds-fits row rest given first r h serves = (rests-keep row rest stage.Held given.0 (stays-held row.epoch.0 given.0 first h.keeps serves) r, here-fits given.1 h.turn)
 
-    waits-fits : (row : FrontRow) (rest : FrontRest) (given : Ending × Turn) → row.epoch.0 ≤ 1 → RestKeeps rest → EndFits place.Front given → EndsServing given.0 → EndsIdle given.0
+    waits-fits : (row : FrontRow) (rest : FrontRest) (given : Ending × Turn) → IsEarlyHere row.epoch.0 → RestKeeps rest → EndFits place.Front given → EndsServing given.0 → EndsIdle given.0
         → Fits (waits_on env p row rest given)
     waits-fits row rest given first r h serves idle = (rests-keep row rest stage.Waiting given.0 (stays-waiting row.epoch.0 given.0 first h.keeps serves idle) r, here-fits given.1 h.turn)
 
     -- ---- the hand-off
 
-    handed-fits : (row : FrontRow) (w : Service) (path : List ℕ) (choice : FirstChoice) → row.epoch.0 ≤ 1 → IsServing w → ServesAs w.count w.block → may_freeze w.block ≡ true → IsNamed path → IsChosen 64 choice
+    handed-fits : (row : FrontRow) (w : Service) (path : List ℕ) (choice : FirstChoice) → IsEarlyHere row.epoch.0 → IsServing w → ServesAs w.count w.block → may_freeze w.block ≡ true → IsNamed path → IsChosen 64 choice
         → FrontKeeps c (handed_off env row w path choice).0 × FrontTurnFits (handed_off env row w path choice).1
     handed-fits row w path choice early h serves may n chosen =
         let few = count-few w.count w.block h.keeps in
@@ -312,7 +313,7 @@ module _ (env : FrontEnv) (own : env.serve.place ≡ place.Front) (conn : cluste
           },
         )
 
-    placed-fits : (row : FrontRow) (rest : FrontRest) (w : Service) (path : List ℕ) (f : First) → row.epoch.0 ≤ 1 → RestKeeps rest → IsServing w → ServesAs w.count w.block → may_freeze w.block ≡ true → IsNamed path → FirstFits f
+    placed-fits : (row : FrontRow) (rest : FrontRest) (w : Service) (path : List ℕ) (f : First) → IsEarlyHere row.epoch.0 → RestKeeps rest → IsServing w → ServesAs w.count w.block → may_freeze w.block ≡ true → IsNamed path → FirstFits f
         → Fits (Does (placed env p row rest w path f))
     placed-fits row rest w path (first.Go choice) early r h serves may n chosen = handed-fits row w path choice early h serves may n chosen
     placed-fits row rest w path first.Waits early r h serves may n chosen =
@@ -324,13 +325,13 @@ module _ (env : FrontEnv) (own : env.serve.place ≡ place.Front) (conn : cluste
           here-fits (spoken env.serve v []).1 says.turn,
         )
 
-    settled_by-fits : AnswersFit env → (row : FrontRow) (rest : FrontRest) (w : Service) (o : Option (List ℕ)) → row.epoch.0 ≤ 1 → RestKeeps rest → IsServing w → ServesAs w.count w.block → MayMove w.block o → IfSome o IsNamed
+    settled_by-fits : AnswersFit env → (row : FrontRow) (rest : FrontRest) (w : Service) (o : Option (List ℕ)) → IsEarlyHere row.epoch.0 → RestKeeps rest → IsServing w → ServesAs w.count w.block → MayMove w.block o → IfSome o IsNamed
         → Fits (settled_by env p row rest w o)
     settled_by-fits answers row rest w None early r h serves may n =
         holds-fits row rest (serving_settled env.serve w) early r (subst (λ (q : Place). EndFits q (serving_settled env.serve w)) own (settled-fits env.serve number small (contents env.serve.files named) at w h)) (settled-serves env.serve w serves)
     settled_by-fits answers row rest w (Some path) early r h serves may n = placed-fits row rest w path (env.first path) early r h serves may n (answers.first path)
 
-    heard-fits : AnswersFit env → (row : FrontRow) (rest : FrontRest) (b : ControlBlock) → row.epoch.0 ≤ 1 → RestKeeps rest → Keeps rest.count b → ServesAs rest.count b → Fits (heard env p row rest b)
+    heard-fits : AnswersFit env → (row : FrontRow) (rest : FrontRest) (b : ControlBlock) → IsEarlyHere row.epoch.0 → RestKeeps rest → Keeps rest.count b → ServesAs rest.count b → Fits (heard env p row rest b)
     heard-fits answers row rest b early r k serves =
         let x : Reading = record { service = serving b rest.count []; target = None } in
         let done : IsReading (front_reads env.serve x) = reads-read x (record { notes = tt; keeps = k; over = tt }, tt) in
@@ -430,9 +431,9 @@ module _ (env : FrontEnv) (own : env.serve.place ≡ place.Front) (conn : cluste
     less-few = let few = held.few in let fewer = length-less kind.Offer 0 p.kept in omega (arith, few, fewer)
 
     -- the node to which it is offered
-    offered-node : (e count epoch : ℕ) (x : FrontConn) (node : ℕ) → StageKeeps e count x → offered_to epoch x ≡ Some node → (e ≤ 2) × IsNode node
+    offered-node : (e count epoch : ℕ) (x : FrontConn) (node : ℕ) → StageKeeps e count x → offered_to epoch x ≡ Some node → IsEarlyAway e × IsNode node
     offered-node e count epoch (stage.Offering n d) node k is = go (d.0 == epoch) is where
-      go : (b : Bool) → cond b (Some n) None ≡ Some node → (e ≤ 2) × IsNode node
+      go : (b : Bool) → cond b (Some n) None ≡ Some node → IsEarlyAway e × IsNode node
       go true same = let one : n ≡ node = cc in (k.0, subst IsNode one k.1)
       go false none = let no : None ≡ Some node = none in absurd cc
     offered-node e count epoch _ node k is = let no : None ≡ Some node = is in absurd cc
@@ -522,7 +523,7 @@ module _ (env : FrontEnv) (own : env.serve.place ≡ place.Front) (conn : cluste
 
     -- ---- an end
 
-    away-early : (e count epoch : ℕ) (x : FrontConn) → StageKeeps e count x → is_away epoch x ≡ true → e ≤ 2
+    away-early : (e count epoch : ℕ) (x : FrontConn) → StageKeeps e count x → is_away epoch x ≡ true → IsEarlyAway e
     away-early e count epoch (stage.Offering n d) k is = k.0
     away-early e count epoch (stage.Moved n d) k is = k.0
     away-early e count epoch _ k is = let no : false ≡ true = is in absurd cc
@@ -548,7 +549,7 @@ module _ (env : FrontEnv) (own : env.serve.place ≡ place.Front) (conn : cluste
     -- ---- the head of the line
 
     module _ (choice : FirstChoice) (chosen : IsChosen 64 choice) where
-      admitted_with-fits : (row : FrontRow) (b : ControlBlock) (o : Option (List ℕ)) → row.epoch.0 ≤ 1 → Keeps (front_rest p.rest).count b → ServesAs (front_rest p.rest).count b → may_freeze b ≡ true → IfSome o IsNamed → AdmissionFits c (front_admitted_with env row (front_rest p.rest) b choice o)
+      admitted_with-fits : (row : FrontRow) (b : ControlBlock) (o : Option (List ℕ)) → IsEarlyHere row.epoch.0 → Keeps (front_rest p.rest).count b → ServesAs (front_rest p.rest).count b → may_freeze b ≡ true → IfSome o IsNamed → AdmissionFits c (front_admitted_with env row (front_rest p.rest) b choice o)
       admitted_with-fits row b None early k serves may n = tt
       admitted_with-fits row b (Some path) early k serves may n = handed-fits row (serving b (front_rest p.rest).count []) path choice early (fresh b (front_rest p.rest).count k) serves may n chosen
 

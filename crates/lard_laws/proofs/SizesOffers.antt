@@ -18,7 +18,7 @@ use Rattle.lard_law_connections.proofs.BytesWorking.{Right, Works, first-so, goe
 use Rattle.lard_law_connections.proofs.BytesWays.{batch-right}
 use Rattle.lard_law_connections.specs.Places.{IsComing, IsDecided, IsOffered, IsPast, IsThere, Offers, Owning, Sits, StageSits, owning}
 use Rattle.lard_law_connections.proofs.PlacesFrontMessages.{came-says}
-use Rattle.lard_law_connections.proofs.PlacesTurns.{IsPlaced}
+use Rattle.lard_law_connections.proofs.PlacesTurns.{IsPlaced, early-at}
 use Rattle.lard_laws.specs.Sizes.{SizeMarks}
 use Rattle.lard_laws.proofs.SizesReading.{Fits, first-fits, gone-all}
 use Rattle.lard_laws.proofs.SizesTelling.{IsQuiet, batch-state, wider-quiet}
@@ -141,7 +141,8 @@ module _ (k : Setting) (small : k.stream ≤ 2 ^ 30) (x : Conn) (number : IsConn
       (λ (a : IsPast row.epoch.0 p.row × IsOffering l.w l.out l.vs pend x.c n row.epoch.0 x.part.front.kept). a.1)
       (λ (a : IsDecided row.epoch.0 p.row × NodeAgrees l.w l.out l.vs pend l.was_reset x.c p). absurd (undecided a.0)) away in
       let spelled : message x.c row.epoch.0 (body.Offer (parts_of offering.block offering.count)) ≡ bytes = ap first_bytes (sym offering.kept_is ∙ kept.1) ∙ kept.2 in
-      let same : parts ≡ parts_of offering.block offering.count = offers-read x.c row.epoch.0 l.w l.out l.vs pend offering.block offering.count number (omega (arith, sits.0)) talk.stream offering.holds offering.frozen _ parts
+      let early = early-at x placed row found (stage.Offering n d) at in
+      let same : parts ≡ parts_of offering.block offering.count = offers-read x.c row.epoch.0 l.w l.out l.vs pend offering.block offering.count number (omega (arith, early)) talk.stream offering.holds offering.frozen _ parts
       (ap decoded_message spelled ∙ spells) refl in
       let mine : IsAway files m r n row.epoch.0 p = subst (StageWays files m x.part row.epoch.0) at (subst (SeatWays files m x.part) found g.seat) in
       let once : IsPlacedOnce files m r n = ⊎_elim (λ (a : IsPast row.epoch.0 p.row × IsPlacedOnce files m r n). a.1)

@@ -8,7 +8,7 @@ use Rattle.lard_base.specs.declared.ids.Epoch.{Epoch}
 use Rattle.lard_base.specs.declared.place.Place.TheVariants.{Front, Node}
 use Rattle.lard_law_connections.proofs.BytesFrontMessages.{past-undecided}
 use Rattle.lard_law_connections.specs.Places.{IsDecided, IsOffered, IsPast, Offers, Sits, StageSits, owning}
-use Rattle.lard_law_connections.proofs.PlacesTurns.{IsPlaced}
+use Rattle.lard_law_connections.proofs.PlacesTurns.{IsPlaced, early-at}
 use Rattle.lard_law_view.specs.Carry.{tale_at}
 use Rattle.lard_law_view.specs.View.{Conn, Move, Part, by_front, front_does, nothing_said}
 use Rattle.lard_laws.specs.WaysState.{AskIs, FrontSaysWays, GoesItsWay, IsAway, IsBy, IsPlacedOnce, LetterWays, NodeSaysWays, SeatWays, StageWays, StayAsks, StayWays, given_to, marks_at}
@@ -37,6 +37,8 @@ use Rattle.lard_rules.specs.Node.{NodePart}
 use Rattle.lard_rules.specs.Stay.{named_paths}
 use Rattle.lard_rules.proofs.FrontCases.{IsInStage, of-stage, taken-keeps, asked-keeps, ended-keeps}
 use Rattle.lard_handoff_front.specs.Front.{next_epoch}
+use Rattle.lard_resend.specs.Kept.{without}
+use Rattle.lard_rules.specs.FrontSound.{IsEarlyAway}
 
 -- ---- what an Ask assigns
 
@@ -135,7 +137,7 @@ module _ (env : FrontEnv) (x : Conn) (heads : List Seen) where
     pub found : p.row ≡ Some row
     pub away : (fs : FilesAt) (k : WayMarks) (q : Part) → q.front.row ≡ Some row → (StageWays fs k q row.epoch.0 row.stage → IsAway fs k (front_rest q.front.rest) n row.epoch.0 (q.nodes n)) × (IsAway fs k (front_rest q.front.rest) n row.epoch.0 (q.nodes n) → StageWays fs k q row.epoch.0 row.stage)
     pub same : row.epoch.0 ≡ epoch
-    pub second : row.epoch.0 ≡ 2
+    pub early : IsEarlyAway row.epoch.0
     pub offers : (i e : ℕ) → Offers i e row.stage → (i ≡ n) × (e ≡ epoch)
 
   with-of : (n epoch : ℕ) → IsPlaced x → is_row_at n epoch p.row ≡ true → IsWith n epoch
@@ -153,7 +155,7 @@ module _ (env : FrontEnv) (x : Conn) (heads : List Seen) where
             (λ h. subst (StageWays fs k q row.epoch.0) (sym at) (subst (λ (j : ℕ). IsAway fs k (front_rest q.front.rest) j row.epoch.0 (q.nodes j)) (sym mine) h)),
           );
           same = sym sits.1 ∙ when;
-          second = sits.0;
+          early = early-at x placed row found (stage.Offering i f) at;
           offers = λ j e o. let h : Offers j e (stage.Offering i f) = subst (Offers j e) at o in (sym h.0 ∙ mine, sym h.1 ∙ when);
         }
     on row found (stage.Moved i f) at sits c =
@@ -168,7 +170,7 @@ module _ (env : FrontEnv) (x : Conn) (heads : List Seen) where
             (λ h. subst (StageWays fs k q row.epoch.0) (sym at) (subst (λ (j : ℕ). IsAway fs k (front_rest q.front.rest) j row.epoch.0 (q.nodes j)) (sym mine) h)),
           );
           same = sym sits.1 ∙ when;
-          second = sits.0;
+          early = early-at x placed row found (stage.Moved i f) at;
           offers = λ j e o. absurd (subst (Offers j e) at o);
         }
     on row found (stage.Held b) at sits c = let z : false ≡ true = c in absurd (let f : ⊥ = cc in f)
@@ -257,7 +259,7 @@ module _ (env : FrontEnv) (x : Conn) (heads : List Seen) where
             offer = λ i e parts said f. inl (⊎_elim (λ (a : IsDecided e (x.part.nodes i).row). a)
                 (λ (a : IsOffered i e p.row). let o = w.offers i e (subst (IsOffered i e) w.found a) in subst (λ (f : ℕ). IsDecided f (x.part.nodes i).row) (sym o.1) (subst (λ (j : ℕ). IsDecided epoch (x.part.nodes j).row) (sym o.0) decided)) said);
           })
-          (λ old. (tag-says now v.part n epoch ask.number (map (λ c. c.node) (env.later ask).choices) (let e = w.same in let two = w.second in omega (arith, e, two)) (subst (IsBy epoch) (sym w.found) (let e = w.same in omega (arith, e))) refl refl, tt)) tt
+          (λ old. (tag-says now v.part n epoch ask.number (map (λ c. c.node) (env.later ask).choices) (let e = w.same in let early = w.early in omega (arith, e, early)) (subst (IsBy epoch) (sym w.found) (let e = w.same in omega (arith, e))) refl refl, tt)) tt
 
     -- the last Ask again
     again-makes : is_row_at n epoch p.row ≡ true → Goal (Says (front_saying (tag_sent env n epoch rest.asks rest.tag)))
@@ -265,7 +267,7 @@ module _ (env : FrontEnv) (x : Conn) (heads : List Seen) where
         let w = with-of n epoch help.placed at in
         let r_is : rest ≡ front_rest p.rest = sym (ap front_rest there) in
         stands-makes files x Front heads (by_front (front_saying (tag_sent env n epoch rest.asks rest.tag))) tt
-        (λ old. (tag-says m x.part n epoch rest.asks rest.tag (let e = w.same in let two = w.second in omega (arith, e, two)) (subst (IsBy epoch) (sym w.found) (let e = w.same in omega (arith, e))) (ap (λ (r : FrontRest). r.asks) (sym r_is)) (ap (λ (r : FrontRest). r.tag) r_is), tt)) tt help g
+        (λ old. (tag-says m x.part n epoch rest.asks rest.tag (let e = w.same in let early = w.early in omega (arith, e, early)) (subst (IsBy epoch) (sym w.found) (let e = w.same in omega (arith, e))) (ap (λ (r : FrontRest). r.asks) (sym r_is)) (ap (λ (r : FrontRest). r.tag) r_is), tt)) tt help g
 
   module _ (n epoch : ℕ) (ask : Ask) (sent : GoesItsWay files x → NodeSaysWays files m x.part n epoch (body.Ask ask.number ask.queue ask.size ask.paths)) where
     pub asked-makes : Goal (front_asked env p n epoch ask)

@@ -14,7 +14,7 @@ use Rattle.lard_law_connections.proofs.BytesFronts.{frozen-holds}
 use Rattle.lard_law_connections.proofs.BytesHolding.{heard-so}
 use Rattle.lard_law_connections.proofs.BytesReading.{batch-read}
 use Rattle.lard_law_connections.proofs.BytesServing.{So}
-use Rattle.lard_law_connections.specs.Places.{ArePast, Sits, StageSits, owning}
+use Rattle.lard_law_connections.specs.Places.{ArePast, IsStageEarly, Sits, owning}
 use Rattle.lard_law_connections.proofs.PlacesLoops.{settled-is, spoken-to}
 use Rattle.lard_law_view.specs.Carry.{tale_at}
 use Rattle.lard_law_view.specs.View.{Conn, IsFrontEnv, Setting, by_front, front_admits, front_does, nothing_said, with_front}
@@ -62,6 +62,8 @@ use Rattle.lard_segment.specs.Segment.{Said}
 use Rattle.lard_law_view.specs.Truth.{IsStream, Stream}
 use Rattle.lard_law_view.proofs.Speaking.{speaks-stream}
 use Rattle.lard_law_view.proofs.EndpointSends.{AllTo, ready-to}
+use Rattle.lard_rules.specs.FrontSound.{IsEarlyHere}
+use Rattle.lard_law_connections.proofs.PlacesTurns.{early-at}
 
 some-same : {A : Type 0} (a b : A) → Some a ≡ Some b → a ≡ b
 some-same a b e = cc
@@ -170,21 +172,14 @@ module _ (k : Setting) (small : k.stream ≤ 2 ^ 30) (x : Conn) (s : Station) (t
     truth-at : (d : FrontConn) → row.stage ≡ d → StageAgrees l.w l.out l.vs pend l.was_reset x.c x.part row.epoch.0 d
     truth-at d at = subst (StageAgrees l.w l.out l.vs pend l.was_reset x.c x.part row.epoch.0) at (subst (SeatAgrees l.w l.out l.vs pend l.was_reset x.c x.part) found o.seat)
 
-    -- where it is here, in the first epoch, and no node has it
-    first-epoch : (d : FrontConn) → row.stage ≡ d → IsBefore d → Sits (owning (tale_at x)) x.part.nodes x.part.front.row → (row.epoch.0 ≡ 1) × ArePast 1 x.part.nodes
-    first-epoch d at before sits =
-        let h : Sits (owning (tale_at x)) x.part.nodes (Some row) = subst (Sits (owning (tale_at x)) x.part.nodes) found sits in
-        (one d before (subst (StageSits row.epoch.0 (owning (tale_at x)) x.part.nodes) at h.0), past d at before h) where
-          one : (d : FrontConn) → IsBefore d → StageSits row.epoch.0 (owning (tale_at x)) x.part.nodes d → row.epoch.0 ≡ 1
-          one (stage.Held b) before s = s.0
-          one (stage.Waiting b) before s = s.0
-          one stage.Lent before s = absurd before
-          one (stage.Offering n e) before s = absurd before
-          one (stage.Moved n e) before s = absurd before
-          one (stage.Closed last) before s = absurd before
+    -- where it is here it is so in an early epoch, and no node has it
+    early-here : (d : FrontConn) → IsBefore d → IsStageEarly row.epoch.0 d → IsEarlyHere row.epoch.0
+    early-here (stage.Held b) before early = early
+    early-here (stage.Waiting b) before early = early
+    early-here _ before early = absurd before
 
-          past : (d : FrontConn) → row.stage ≡ d → IsBefore d → Sits (owning (tale_at x)) x.part.nodes (Some row) → ArePast 1 x.part.nodes
-          past d at before h = home-past k small x s there env is l pend o (owning (tale_at x)) row d at before h
+    none-has : (d : FrontConn) → row.stage ≡ d → IsBefore d → Sits (owning (tale_at x)) x.part.nodes x.part.front.row → ArePast row.epoch.0 x.part.nodes
+    none-has d at before sits = home-past k small x s there env is l pend o (owning (tale_at x)) row d at before (subst (Sits (owning (tale_at x)) x.part.nodes) found sits)
 
     -- what it read is said, or the connection is placed
     settled-makes : (d : FrontConn) → row.stage ≡ d → IsBefore d → m.assigned ≡ [] → (w : Service) (target : Option (List ℕ)) → Looks env.serve m w → WaitsForNext files w.block.recv.unread target
@@ -195,8 +190,7 @@ module _ (k : Setting) (small : k.stream ≤ 2 ^ 30) (x : Conn) (s : Station) (t
     settled-makes d at before none w (Some path) looks waits frozen = by-first (env.first path) where
       by-first : (f : First) → Goal (Does (placed env p row (front_rest p.rest) w path f))
       by-first (first.Go choice) help g =
-          let e = first-epoch d at before help.placed.sits in
-          handed-makes env x row w path choice (frozen path refl) heads (subst IsConnNumber (sym is.number) help.number) e.0 found e.1 none help g
+          handed-makes env x row w path choice (frozen path refl) heads (subst IsConnNumber (sym is.number) help.number) (early-here d before (early-at x help.placed row found d at)) found (none-has d at before help.placed.sits) none help g
       by-first first.Waits help g =
           let v : Service = record w { notes = w.notes ++ rec.Waits env.serve.c ∷ [] } in
           let more : Looks env.serve m v = record { noted_so = rightly-append files m w.notes (rec.Waits env.serve.c ∷ []) looks.noted_so (tt, tt); told = marked-append m w.notes (rec.Waits env.serve.c ∷ []) ∙ looks.told; none = looks.none } in
@@ -298,9 +292,9 @@ module _ (k : Setting) (small : k.stream ≤ 2 ^ 30) (x : Conn) (s : Station) (t
         let fh : FrontWaits l.w l.out l.vs pend b count = truth-at [] row found (stage.Waiting b) at in
         let seat = seat-at [] row found (stage.Waiting b) at g in
         let alone : FrontHolds l.w l.out l.vs [] b count = record { none = refl; serves = fh.0.serves; holds = fh.0.holds } in
-        let e = first-epoch [] row found (stage.Waiting b) at tt help.placed.sits in
+        let past = none-has [] row found (stage.Waiting b) at tt help.placed.sits in
         let next : BeginsWithRequest files b.recv.unread path = subst (WaitsForNext files b.recv.unread) is_target seat.1 in
-        handed-makes env x row waited path choice (frozen-is waited path l.out l.vs alone fh.1 next (start-looks b count fh.0.holds.counted seat.0)) [] (subst IsConnNumber (sym is.number) help.number) e.0 found e.1 seat.0.0 help g
+        handed-makes env x row waited path choice (frozen-is waited path l.out l.vs alone fh.1 next (start-looks b count fh.0.holds.counted seat.0)) [] (subst IsConnNumber (sym is.number) help.number) (early-at x help.placed row found (stage.Waiting b) at) found past seat.0.0 help g
 
     pub waits-frozen : (given : FrontPart × FrontTurn) → front_admitted_with env row (front_rest p.rest) b choice (front_rest p.rest).target ≡ Some given → Keeps files x (front_admits x given)
     waits-frozen given e = by-target (front_rest p.rest).target refl e where

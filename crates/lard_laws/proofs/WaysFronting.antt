@@ -1,5 +1,5 @@
 -- What the front end does leaves a connection on its way.
-use Rattle.std.proofs.Common.{◌≡◌, ◌≢◌, ◌≤◌, ◌+◌, ◌==◌, ℕ, true, List, [], ◌∷◌, ◌++◌, map, length, take, Option, Some, None, Ok, inl, inr, refl, sym, ap, ◌∙◌, subst, arith, append_assoc, eqb-true}
+use Rattle.std.proofs.Common.{◌≡◌, ◌<◌, ◌≢◌, ◌≤◌, ◌+◌, ◌==◌, ℕ, true, List, [], ◌∷◌, ◌++◌, map, length, take, Option, Some, None, Ok, inl, inr, refl, sym, ap, ◌∙◌, subst, arith, append_assoc, eqb-true}
 use Rattle.std.specs.List.{slice_get}
 use Rattle.std.proofs.lemmas.Bool.{and_parts}
 use Rattle.lard_answers.specs.Answers.{FilesAt, IsPrefix, good_path, verdicts}
@@ -43,6 +43,7 @@ use Rattle.lard_request.specs.declared.verdict.Verdict.{Verdict}
 use Rattle.lard_rules.specs.Serving.{Service}
 use Rattle.lard_law_view.specs.Truth.{IsStream, Stream}
 use Rattle.lard_law_view.proofs.EndpointSends.{AllTo}
+use Rattle.lard_rules.specs.FrontSound.{IsEarlyHere}
 
 -- ---- messages that say nothing of ways
 
@@ -121,25 +122,23 @@ module _ (env : FrontEnv) (x : Conn) where
     abbrev v_of : List Seen → Move
     v_of heads = front_does x heads (Does (record { part = given.0; turn = given.1; calls = [] }))
 
-    pub handed-makes : (heads : List Seen) → IsConnNumber env.serve.c → row.epoch.0 ≡ 1 → x.part.front.row ≡ Some row → ArePast 1 x.part.nodes → m.assigned ≡ [] → Keeps files x (v_of heads)
+    pub handed-makes : (heads : List Seen) → IsConnNumber env.serve.c → IsEarlyHere row.epoch.0 → x.part.front.row ≡ Some row → ArePast row.epoch.0 x.part.nodes → m.assigned ≡ [] → Keeps files x (v_of heads)
     unfolding placed_marks
-    handed-makes heads number one found past none help g =
+    handed-makes heads number early found past none help g =
         let v : Move = v_of heads in
         let n : WayMarks = record { wrote = m.wrote; served = s.count; assigned = (path, choice.node) ∷ [] } in
         let more : List Rec = rec.Admitted env.serve.c ∷ rec.AssignedFirst env.serve.c (s.count + 1) path choice.node choice.add choice.remove ∷ [] in
-        let e : ℕ = (next_epoch row).0 in
-        let second : e ≡ 2 = ap (λ (i : ℕ). i + 1) one in
         let w = wanted-first in
         let next : MayMark_here (marked m s.notes) = subst (λ (q : WayMarks). IsNextGood files q path) (sym h.looks.told) (next-good none) in
         makes files x v help g n
         (rightly-append files m s.notes more h.looks.noted_so (tt, (next, tt)))
         (marked-append m s.notes more ∙ ap (λ (q : WayMarks). record q { assigned = q.assigned ++ (path, choice.node) ∷ [] }) h.looks.told ∙ ap (λ (l : List Assigned). record m { served = s.count; assigned = l ++ (path, choice.node) ∷ [] }) none)
         (w.0, w.1)
-        (inl (past-later 1 e (x.part.nodes choice.node).row (omega (arith, second)) (past choice.node), record { path = path; assigned = refl; answered = h.looks.none; asks = refl }))
+        (inl (past-later row.epoch.0 (row.epoch.0 + 1) (x.part.nodes choice.node).row (omega arith) (past choice.node), record { path = path; assigned = refl; answered = h.looks.none; asks = refl }))
         (record {
           grows = help.owes.grows;
-          ask = λ i f number ps at decided was. let is : f ≡ e = counts-epoch i f at in absurd (undecided i f (omega (arith, is, second)) decided);
-          tag = λ i f number nodes at by was. let is : f ≡ e = counts-epoch i f at in let le : f ≤ row.epoch.0 = subst (IsBy f) found by in absurd (omega (arith, is, second, le, one));
+          ask = λ i f number ps at decided was. let is : f ≡ row.epoch.0 + 1 = counts-epoch i f at in absurd (undecided i f (omega (arith, is)) decided);
+          tag = λ i f number nodes at by was. let is : f ≡ row.epoch.0 + 1 = counts-epoch i f at in let le : f ≤ row.epoch.0 = subst (IsBy f) found by in absurd (omega (arith, is, le));
           offer = λ i f parts said offer. let no : (offer.0, offer.1) ∷ [] ≡ [] = sym offer.2 ∙ none in absurd (let f : ⊥ = cc in f);
         })
         (λ old. (offer-says v.part n refl, tt)) tt where
@@ -149,9 +148,9 @@ module _ (env : FrontEnv) (x : Conn) where
           counts-epoch : (i f : ℕ) → is_row_at i f (Some (record { stage = stage.Offering choice.node (next_epoch row); epoch = next_epoch row; ended_by = None })) ≡ true → f ≡ (next_epoch row).0
           counts-epoch i f at = sym (eqb-true (next_epoch row).0 f (and_parts (choice.node == i) ((next_epoch row).0 == f) at).1)
 
-          undecided : (i f : ℕ) → 2 ≤ f → IsDecided f (x.part.nodes i).row → ⊥
+          undecided : (i f : ℕ) → row.epoch.0 < f → IsDecided f (x.part.nodes i).row → ⊥
           undecided i f le decided = go (x.part.nodes i).row (past i) decided where
-            go : (o : _) → IsPast 1 o → IsDecided f o → ⊥
+            go : (o : _) → IsPast row.epoch.0 o → IsDecided f o → ⊥
             go None p d = d
             go (Some b) p d = omega (arith, p.0, d, le)
 
@@ -160,7 +159,7 @@ module _ (env : FrontEnv) (x : Conn) where
             by-body : (q : Part) (n : WayMarks) → n ≡ record { wrote = m.wrote; served = s.count; assigned = (path, choice.node) ∷ [] } → (msg : Message) → decoded_message (message env.serve.c (next_epoch row).0 (body.Offer (parts_of s.block s.count))) ≡ Ok msg → (b : Body) → msg.body ≡ b → kind.Offer ≡ kind_of msg.body
                 → FrontSaysWays files n q choice.node msg.epoch.0 b
             by-body q n is msg d (body.Offer parts) at same =
-                let read : parts ≡ parts_of s.block s.count = offers-read env.serve.c (next_epoch row).0 h.w h.out h.vs [] s.block s.count number (omega (arith, one)) h.stream h.holds h.frozen msg parts d at in
+                let read : parts ≡ parts_of s.block s.count = offers-read env.serve.c (next_epoch row).0 h.w h.out h.vs [] s.block s.count number (omega (arith, early)) h.stream h.holds h.frozen msg parts d at in
                 inr (path, choice.node, ap (λ (q : WayMarks). q.assigned) is, subst (λ (z : EndpointParts). BeginsWithRequest files z.unread path) (sym read) h.next)
             by-body q n is msg d (body.Tag number nodes) at same = let no : kind.Offer ≡ kind.Tag = same ∙ ap kind_of at in absurd (let f : ⊥ = cc in f)
             by-body q n is msg d body.Taken at same = tt

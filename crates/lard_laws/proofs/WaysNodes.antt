@@ -8,7 +8,7 @@ use Rattle.lard_law_connections.proofs.BytesClientMoves.{has-fair}
 use Rattle.lard_law_connections.proofs.BytesNodeMoves.{HasIt, IsAt}
 use Rattle.lard_law_connections.proofs.BytesNodeTurns.{It, agrees-by, endpoint-or, here-or, talk-of, ways-here}
 use Rattle.lard_law_connections.specs.Places.{IsDecided, Sits, StageSits, owning}
-use Rattle.lard_law_connections.proofs.PlacesTurns.{IsPlaced}
+use Rattle.lard_law_connections.proofs.PlacesTurns.{IsPlaced, early-at, small-early}
 use Rattle.lard_law_view.specs.Carry.{tale_at}
 use Rattle.lard_law_view.specs.View.{Conn, IsNodeEnv, Move, Setting, SpellsMessage, Was, epoch_in, named_records, node_does, nothing_said, reads_first}
 use Rattle.lard_laws.specs.WaysState.{FrontSaysWays, GoesItsWay, LetterWays, StayWays, TagIs, marks_at}
@@ -35,17 +35,6 @@ use Rattle.lard_rules.specs.Stay.{NodeEnv}
 use Rattle.lard_request.specs.declared.verdict.Verdict.{Verdict}
 use Rattle.lard_rules.specs.declared.places.Station.{Station}
 use Rattle.lard_segment.specs.Segment as spelling
-
--- where it is at a node it is in the second epoch
-at-second : (x : Conn) (placed : IsPlaced x) (row : FrontRow) (n : ℕ) → x.part.front.row ≡ Some row → IsAt n row.stage → row.epoch.0 ≡ 2
-at-second x placed row n found at = go row.stage at (subst (Sits (owning (tale_at x)) x.part.nodes) found placed.sits).0 where
-  go : (d : FrontConn) → IsAt n d → StageSits row.epoch.0 (owning (tale_at x)) x.part.nodes d → row.epoch.0 ≡ 2
-  go (stage.Offering i f) at s = s.0
-  go (stage.Moved i f) at s = s.0
-  go (stage.Held b) at s = absurd at
-  go (stage.Waiting b) at s = absurd at
-  go stage.Lent at s = absurd at
-  go (stage.Closed last) at s = absurd at
 
 -- ---- of one whose client opened
 
@@ -77,9 +66,9 @@ module _ (k : Setting) (small : k.stream ≤ 2 ^ 30) (x : Conn) (s : Station) (t
     unfolding has
     home-of = at-home files x g n has.row has.found has.at has.decided
 
-    second : env.epoch < 2 ^ 16
+    early : env.epoch < 2 ^ 16
     unfolding has
-    second = let two = at-second x placed has.row n has.found has.at in let same = has.same in omega (arith, two, same)
+    early = let most = small-early has.row.epoch.0 has.row.stage (early-at x placed has.row has.found has.row.stage refl) in let same = has.same in omega (arith, most, same)
 
     home : Home env m
     unfolding home-of
@@ -90,13 +79,13 @@ module _ (k : Setting) (small : k.stream ≤ 2 ^ 30) (x : Conn) (s : Station) (t
   unfolding has
   deed-makes heads Drops d it help g = stands-makes files x (Node n) heads nothing_said tt (λ old. tt) tt help g
   deed-makes heads (Says ms) d it help g =
-      let small = second it help.placed g in
+      let small = early it help.placed g in
       says-makes env x n is.node small heads [] ms tt (d it help.placed g) (inl (subst (λ (e : ℕ). IsDecided e p.row) (has it help.placed g).same (has it help.placed g).decided)) help g
   deed-makes heads (Does given) d it help g =
       let h = home-of it help.placed g in
       let t : TurnWays env m r p (Asked_by env m r p) given = d it help.placed g in
       let a = has it help.placed g in
-      does-makes env x n is.node (second it help.placed g) heads (named_records given.1.notes) given (Asked_by env m r p) t (λ e ps c d b. b) (named-rightly files m given.1.notes t.notes) (named-marked files m given.1.notes)
+      does-makes env x n is.node (early it help.placed g) heads (named_records given.1.notes) given (Asked_by env m r p) t (λ e ps c d b. b) (named-rightly files m given.1.notes t.notes) (named-marked files m given.1.notes)
       a.row a.found a.at a.same (h.path, h.others, h.first) help g
 
   -- behind the record of a job that was completed
@@ -104,13 +93,13 @@ module _ (k : Setting) (small : k.stream ≤ 2 ^ 30) (x : Conn) (s : Station) (t
   unfolding has
   first-makes i path Drops d it help g = stands-makes files x (Node n) [] (record nothing_said { notes = rec.Read n n x.c i path ∷ [] }) (tt, tt) (λ old. tt) tt help g
   first-makes i path (Says ms) d it help g =
-      let small = second it help.placed g in
+      let small = early it help.placed g in
       says-makes env x n is.node small [] (rec.Read n n x.c i path ∷ []) ms (tt, tt) (d it help.placed g) (inl (subst (λ (e : ℕ). IsDecided e p.row) (has it help.placed g).same (has it help.placed g).decided)) help g
   first-makes i path (Does given) d it help g =
       let h = home-of it help.placed g in
       let t : TurnWays env m r p (Asked_by env m r p) given = d it help.placed g in
       let a = has it help.placed g in
-      does-makes env x n is.node (second it help.placed g) [] (rec.Read n n x.c i path ∷ named_records given.1.notes) given (Asked_by env m r p) t (λ e ps c d b. b)
+      does-makes env x n is.node (early it help.placed g) [] (rec.Read n n x.c i path ∷ named_records given.1.notes) given (Asked_by env m r p) t (λ e ps c d b. b)
       (tt, named-rightly files m given.1.notes t.notes) (named-marked files m given.1.notes) a.row a.found a.at a.same (h.path, h.others, h.first) help g
 
   -- ---- the rules of a stay

@@ -53,6 +53,7 @@ use Rattle.lard_resend.specs.declared.kept.Kept.{Kept}
 use Rattle.lard_rules.specs.declared.places.Station.{Station}
 use Rattle.lard_rules.specs.Loop.{state_of}
 use Rattle.lard_law_view.specs.Truth.{Stream}
+use Rattle.lard_law_connections.proofs.PlacesTurns.{early-at}
 
 -- one assignment is one path
 first-path : (a b : List ℕ) (i j : ℕ) → ◌≡◌ {A = List Assigned} ((a, i) ∷ []) ((b, j) ∷ []) → a ≡ b
@@ -148,7 +149,8 @@ module _ (k : Setting) (small : k.stream ≤ 2 ^ 30) (x : Conn) (s : Station) (t
       (λ (a : IsDecided row.epoch.0 p.row × NodeAgrees l.w l.out l.vs pend l.was_reset x.c p). absurd (undecided a.0)) away in
       let talk : IsTalk env l.w l.out l.vs = talk-of k small x s there l pend o n env epoch is in
       let spelled : message x.c row.epoch.0 (body.Offer (parts_of offering.block offering.count)) ≡ bytes = ap first_bytes (sym offering.kept_is ∙ kept.1) ∙ kept.2 in
-      let same : parts ≡ parts_of offering.block offering.count = offers-read x.c row.epoch.0 l.w l.out l.vs pend offering.block offering.count help.number (omega (arith, sits.0)) talk.stream offering.holds offering.frozen _ parts
+      let early = early-at x help.placed row found (stage.Offering n d) at in
+      let same : parts ≡ parts_of offering.block offering.count = offers-read x.c row.epoch.0 l.w l.out l.vs pend offering.block offering.count help.number (omega (arith, early)) talk.stream offering.holds offering.frozen _ parts
       (ap decoded_message spelled ∙ spells) refl in
       let mine : IsAway all_files m r n row.epoch.0 p = subst (StageWays all_files m x.part row.epoch.0) at (subst (SeatWays all_files m x.part) found g.seat) in
       let once : IsPlacedOnce all_files m r n = ⊎_elim (λ (a : IsPast row.epoch.0 p.row × IsPlacedOnce all_files m r n). a.1)
@@ -163,7 +165,7 @@ module _ (k : Setting) (small : k.stream ≤ 2 ^ 30) (x : Conn) (s : Station) (t
       let in_epoch : row.epoch.0 ≡ env.epoch = now ∙ sym is.epoch_is in
       let given : NodePart × NodeTurn = node_rests env p (taken_sent env) (goes_on env (state_of (reads_batch env true (node_begins env parts)))) in
       let t : TurnWays env m r p Never_here given = ways in
-      does-makes env x n is.node (omega (arith, in_epoch, sits.0)) heads (named_records given.1.notes) given Never_here t
+      does-makes env x n is.node (omega (arith, in_epoch, early)) heads (named_records given.1.notes) given Never_here t
       (λ e ps c decided b. not (subst (λ (f : ℕ). IsDecided f p.row) (counts-epoch e (subst (λ (q : FrontConn). is_with n e q ≡ true) at (subst (λ (q : Option FrontRow). is_row_at n e q ≡ true) found c))) decided))
       (named-rightly all_files m given.1.notes t.notes) (named-marked all_files m given.1.notes) row found (subst (IsAt n) (sym at) refl) in_epoch (once.path, [], once.assigned) help g where
         Never_here : List (List ℕ) → Type 0
