@@ -125,6 +125,7 @@ module _ (env : FrontEnv) (p : FrontPart) (h : FrontKeeps env.serve.c p) where
 
 pub admitted-keep : (env : FrontEnv) (p : FrontPart) (choice : FirstChoice) (given : FrontPart × FrontTurn) → front_admitted env p choice ≡ Some given → FrontKeeps env.serve.c given.0
 admitted-keep env p choice = admitted-keeps env p choice (λ given. FrontKeeps env.serve.c given.0) (λ row b path at target. (tt, (parts_of b (front_rest p.rest).count, refl, refl)))
+
 -- ---- its move
 
 pub front-move : (N : ℕ → Type 0) (files : FilesAt) (x : Conn) (heads : List Seen) (d : FrontDeed) → DeedKeeps x.c d → IsKeptByStage N files x → IsKeptByStage N files (grown x (front_does x heads d))

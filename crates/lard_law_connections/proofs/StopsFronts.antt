@@ -193,6 +193,7 @@ module _ (env : FrontEnv) (p : FrontPart) (h : FrontStops env.serve.files p.row)
 -- a node took it
 pub taken-stops : (files : FilesAt) (p : FrontPart) (epoch : ℕ) → DeedStops files (front_taken p epoch)
 taken-stops files p epoch = taken-keeps p (DeedStops files) tt epoch (λ row n e at same. tt)
+
 -- ---- its move
 
 pub front-move : (files : FilesAt) (x : Conn) (heads : List Seen) (d : FrontDeed) → DeedStops files d → ReadingStops files x → ReadingStops files (grown x (front_does x heads d))

@@ -1,5 +1,5 @@
 -- Of a connection that the front end offers to a node, it counts no more responses than a message has room for.
-use Rattle.std.proofs.Common.{◌≡◌, ◌≤◌, ◌<◌, ◌+◌, ◌^◌, ◌==◌, ◌&&◌, nat_lt, ℕ, zero, suc, false, cond, List, [], length, Option, Some, None, Result, Ok, Err, refl, sym, ◌∙◌, subst, arith}
+use Rattle.std.proofs.Common.{◌≡◌, ◌≤◌, ◌<◌, ◌+◌, ◌^◌, nat_lt, ℕ, zero, suc, false, List, [], length, Option, Some, None, Result, Ok, Err, sym, ◌∙◌, subst, arith}
 use Rattle.std.proofs.lemmas.Bool.{cond_both}
 use Rattle.lard_answers.specs.Answers.{FilesAt, answer, good_path}
 use Rattle.lard_base.specs.declared.config.Config.{Config}
@@ -17,23 +17,18 @@ use Rattle.lard_law_view.specs.View.{ClientRules, Conn, FrontRules, Move, NodeRu
 use Rattle.lard_law_view.proofs.Carried.{carried}
 use Rattle.lard_law_view.proofs.Guarded.{untouched-law}
 use Rattle.lard_dispatch.specs.declared.dispatch.Ask.{Ask}
-use Rattle.lard_dispatch.specs.declared.dispatch.First.{First}
-use Rattle.lard_dispatch.specs.declared.dispatch.First.TheVariants as first
 use Rattle.lard_endpoint.specs.Arriving.{on_segment}
-use Rattle.lard_endpoint.specs.Control.{ControlBlock, IsControlBlock, finishing, listening}
+use Rattle.lard_endpoint.specs.Control.{ControlBlock, IsControlBlock, finishing}
 use Rattle.lard_endpoint.proofs.Sound.{on_segment-sound}
 use Rattle.lard_endpoint.specs.Moving.{may_freeze}
 use Rattle.lard_endpoint.specs.declared.control.moving.Final.{Final}
 use Rattle.lard_rules.specs.declared.front.FrontRest.{FrontRest}
 use Rattle.lard_rules.specs.declared.front.FrontTurn.{FrontTurn}
-use Rattle.lard_rules.specs.Front.{FrontDeed, Does, Drops, FrontEnv, FrontPart, Says, admitted_at, admitted_by, front_admitted_with, ask_of, asked_by, assigns, front_begun, front_ended_by, front_fired_by, fires_at, front_admitted, front_asked, front_ended, front_gets, front_hears, front_taken, front_timer, handed_off, hears_at, is_row_at, met, placed, front_rest, front_rests, front_saying, settled_by, tag_sent, taken_by}
+use Rattle.lard_rules.specs.Front.{FrontDeed, Does, Drops, FrontEnv, FrontPart, Says, ask_of, front_admitted, front_asked, front_ended, front_gets, front_taken, front_timer, front_rest, front_rests, front_fired}
 use Rattle.lard_rules.specs.FrontReading.{Reading, block_at, front_reads, reads_block, reads_found, reading_turn}
-use Rattle.lard_handoff_front.specs.Front.{asked_node, end_answer}
 use Rattle.lard_handoff_front.specs.declared.row.FrontConn.{FrontConn}
 use Rattle.lard_handoff_front.specs.declared.row.FrontConn.TheVariants as stage
 use Rattle.lard_handoff_front.specs.declared.row.FrontRow.{FrontRow}
-use Rattle.lard_handoff_front.specs.declared.table.OnEnded.{OnEnded}
-use Rattle.lard_handoff_front.specs.declared.table.OnEnded.TheVariants.{Again, New, Stale}
 use Rattle.lard_history.specs.Own.{Seen}
 use Rattle.lard_law_view.specs.Truthful.{Talk}
 use Rattle.lard_rules.specs.Node as node
@@ -45,13 +40,13 @@ use Rattle.lard_request.specs.declared.verdict.Verdict.TheVariants.{Fault}
 use Rattle.lard_rules.specs.declared.places.Ending.{Ending}
 use Rattle.lard_rules.specs.declared.places.Ending.TheVariants as ending
 use Rattle.lard_rules.specs.declared.places.Station.{Station}
-use Rattle.lard_rules.specs.Tombstone.{is_plain_syn}
 use Rattle.lard_rules.specs.Loop.{Step, runs_on}
 use Rattle.lard_rules.specs.Loop as loop
-use Rattle.lard_rules.specs.Serving.{ServeEnv, Service, answered, serving_consumed, ended_at_fin, may_read, passed_over, queued, serving, serving_settled, spoken}
+use Rattle.lard_rules.specs.Serving.{ServeEnv, Service, answered, serving_consumed, ended_at_fin, may_read, passed_over, queued, serving_settled, spoken}
 use Rattle.lard_segment.specs.declared.fault.SegFault.{SegFault}
 use Rattle.lard_segment.specs.declared.segment.Dir.TheVariants.{ToCluster}
 use Rattle.lard_segment.specs.Segment.{Said, decoded}
+use Rattle.lard_rules.proofs.FrontCases.{KeptBySegment, IsInStage, begun_row, begun_service, heard_reading, heard_service, waiting_service, segment-keeps, timer-keeps, taken-keeps, asked-keeps, ended-keeps, admitted-keeps}
 
 -- ---- reading answers one request in a turn at the most
 
@@ -134,107 +129,65 @@ waits-small f row rest (ending.Over last) = tt
 module _ (p : FrontPart) (few : (row : FrontRow) → p.row ≡ Some row → StageFew (front_rest p.rest).count row.stage) where
   -- ---- a segment, and the timer
 
-  placed-small : (env : FrontEnv) (row : FrontRow) (rest : FrontRest) (w : Service) (path : List ℕ) → w.count < 2 ^ 32 → (g : First) → DeedSmall (Does (placed env p row rest w path g))
-  placed-small env row rest w path small (first.Go choice) = small
-  placed-small env row rest w path small first.Waits = waits-small p row (record rest { target = Some path }) (spoken env.serve w []).0
+  -- few were counted where what was read is to be placed
+  abbrev Came : Service → Option (List ℕ) → Type 0
+  Came w target = w.count < 2 ^ 32
 
-  settled-small : (env : FrontEnv) (row : FrontRow) (rest : FrontRest) (w : Service) → w.count < 2 ^ 32 → (o : Option (List ℕ)) → DeedSmall (settled_by env p row rest w o)
-  settled-small env row rest w small None = held-small p row rest (serving_settled env.serve w).0
-  settled-small env row rest w small (Some path) = placed-small env row rest w path small (env.first path)
+  few-at : (row : FrontRow) (z : FrontConn) → IsInStage p row z → StageFew (front_rest p.rest).count z
+  few-at row z at = subst (StageFew (front_rest p.rest).count) at.1 (few row at.0)
 
-  heard-small : (env : FrontEnv) (bytes : List ℕ) (s : Said) (row : FrontRow) (b : ControlBlock) → (front_rest p.rest).count ≤ 2 ^ 30 → IsControlBlock b → DeedSmall (hears_at env p row bytes s (stage.Held b))
-  heard-small env bytes s row b count sound =
+  reads-small : (env : FrontEnv) (s : Said) (row : FrontRow) (b : ControlBlock) → IsInStage p row (stage.Held b) → (front_reads env.serve (heard_reading p b s)).service.count < 2 ^ 32
+  reads-small env s row b at =
+      let h = few-at row (stage.Held b) at in
+      let count : (front_rest p.rest).count ≤ 2 ^ 30 = h.0 in
       let d = (on_segment b s).1 in
-      let r = front_reads env.serve (record { service = serving d (front_rest p.rest).count []; target = None }) in
-      let most = reads-most env.serve (serving d (front_rest p.rest).count []) in
-      let kept = (on_segment-sound b s sound).received in
+      let most = reads-most env.serve (heard_service p b s) in
+      let kept = (on_segment-sound b s h.1).received in
       let got : d.recv.got ≤ 2 ^ 30 = kept.received in
       let within : length d.recv.unread ≤ d.recv.got = kept.within in
-      settled-small env row (front_rest p.rest) r.service (omega (arith, most, count, got, within)) r.target
+      omega (arith, most, count, got, within)
 
-  hears-small : (env : FrontEnv) (bytes : List ℕ) (s : Said) (row : FrontRow) (z : FrontConn) → StageFew (front_rest p.rest).count z → DeedSmall (hears_at env p row bytes s z)
-  hears-small env bytes s row (stage.Held b) h = heard-small env bytes s row b h.0 h.1
-  hears-small env bytes s row (stage.Waiting b) h = waits-small p row (front_rest p.rest) (spoken env.serve (serving (on_segment b s).1 (front_rest p.rest).count []) []).0
-  hears-small env bytes s row _ h = tt
-
-  meets-small : (env : FrontEnv) (s : Said) → DeedSmall (met env p s)
-  meets-small env s = cond_both (is_plain_syn s) (front_begun env p s) Drops DeedSmall (λ t. held-small p (record { stage = stage.Lent; epoch = record { 0 = 1 }; ended_by = None }) (front_rest None) (spoken env.serve (serving (listening s env.iss) 0 []) []).0) (λ t. tt)
+  by-segment : (env : FrontEnv) (bytes : List ℕ) (s : Said) → KeptBySegment env p bytes s Came DeedSmall
+  by-segment env bytes s = record {
+    drops = tt;
+    begins = λ none plain. held-small p begun_row (front_rest None) (spoken env.serve (begun_service env s) []).0;
+    reads = reads-small env s;
+    holds = λ row b w at small. held-small p row (front_rest p.rest) (serving_settled env.serve w).0;
+    hands = λ row b w path choice at small is. small;
+    waits = λ row b w path at small is. waits-small p row (record (front_rest p.rest) { target = Some path }) (spoken env.serve (waiting_service env w) []).0;
+    stays = λ row b at. waits-small p row (front_rest p.rest) (spoken env.serve (heard_service p b s) []).0;
+    forwards = λ row n e at. tt;
+    words = λ row last at. tt;
+  }
 
   gets-small : (env : FrontEnv) (bytes : List ℕ) (r : Result Said SegFault) → DeedSmall (front_gets env p bytes r)
   gets-small env bytes (Err fault) = tt
-  gets-small env bytes (Ok s) = go p.row refl where
-    go : (o : Option FrontRow) → p.row ≡ o → DeedSmall (front_hears env p bytes s o)
-    go None at = meets-small env s
-    go (Some row) at = hears-small env bytes s row row.stage (few row at)
+  gets-small env bytes (Ok s) = segment-keeps env p bytes s Came DeedSmall (by-segment env bytes s)
 
   fires-small : (env : FrontEnv) → DeedSmall (front_timer env p)
-  fires-small env = go p.row where
-    by-stage : (row : FrontRow) (z : FrontConn) → DeedSmall (fires_at env p row z)
-    by-stage row (stage.Held b) = held-small p row (front_rest p.rest) _
-    by-stage row (stage.Waiting b) = waits-small p row (front_rest p.rest) _
-    by-stage row stage.Lent = tt
-    by-stage row (stage.Offering n e) = tt
-    by-stage row (stage.Moved n e) = tt
-    by-stage row (stage.Closed last) = tt
-
-    go : (o : Option FrontRow) → DeedSmall (front_fired_by env p o)
-    go None = tt
-    go (Some row) = by-stage row row.stage
+  fires-small env = timer-keeps env p DeedSmall (record {
+    drops = tt;
+    holds = λ row b at. held-small p row (front_rest p.rest) (front_fired env (front_rest p.rest) b).0;
+    stays = λ row b at. waits-small p row (front_rest p.rest) (front_fired env (front_rest p.rest) b).0;
+    resends = λ row n e at. tt;
+  })
 
   -- ---- messages
 
   taken-small : (epoch : ℕ) → DeedSmall (front_taken p epoch)
-  taken-small epoch = go p.row (asked_node epoch p.row) where
-    go : (o : Option FrontRow) (asked : Option ℕ) → DeedSmall (taken_by p epoch o asked)
-    go None asked = tt
-    go (Some row) None = tt
-    go (Some row) (Some node) = tt
+  taken-small epoch = taken-keeps p DeedSmall tt epoch (λ row n e at same. tt)
 
   asked-small : (env : FrontEnv) (from epoch : ℕ) (ask : Ask) → IsSmall p → DeedSmall (front_asked env p from epoch ask)
-  asked-small env from epoch ask small = cond_both (is_row_at from epoch p.row) (asked_by env p from epoch ask p.rest) Drops DeedSmall (λ t. go p.rest refl) (λ t. tt) where
-    go : (o : Option FrontRest) → p.rest ≡ o → DeedSmall (asked_by env p from epoch ask o)
-    go None at = tt
-    go (Some rest) at = cond_both (ask.number == rest.asks + 1) (Does (assigns env p rest from epoch ask (env.later ask)))
-        (cond (ask.number == rest.asks && nat_lt 0 rest.asks) (Says (front_saying (tag_sent env from epoch rest.asks rest.tag))) Drops) DeedSmall
-        (λ t. subst (λ (o : Option FrontRest). RowSmall (front_rest o).count p.row) at small)
-        (λ t. cond_both (ask.number == rest.asks && nat_lt 0 rest.asks) (Says (front_saying (tag_sent env from epoch rest.asks rest.tag))) Drops DeedSmall (λ t. tt) (λ t. tt))
+  asked-small env from epoch ask small = asked-keeps p DeedSmall tt env from epoch ask (λ rest found there same some. tt) (λ rest found there next. subst (λ (o : Option FrontRest). RowSmall (front_rest o).count p.row) found small)
 
   ended-small : (env : FrontEnv) (from epoch : ℕ) (last : Final) → DeedSmall (front_ended env p from epoch last)
-  ended-small env from epoch last = go p.row (end_answer epoch p.row) where
-    go : (o : Option FrontRow) (g : OnEnded) → DeedSmall (front_ended_by env p from epoch last o g)
-    go None g = tt
-    go (Some row) (New next) = tt
-    go (Some row) Again = tt
-    go (Some row) Stale = tt
+  ended-small env from epoch last = ended-keeps p DeedSmall tt env from epoch last (λ row found away again. tt) (λ row found away. tt)
 
   -- ---- the head of the line
 
   admitted-small : (env : FrontEnv) (choice : FirstChoice) (given : FrontPart × FrontTurn) → front_admitted env p choice ≡ Some given → IsSmall given.0
-  admitted-small env choice given e = go p.row refl e where
-    None_ : Type 0
-    None_ = ◌≡◌ {A = Option (FrontPart × FrontTurn)} None (Some given)
-
-    never : None_ → IsSmall given.0
-    never bad = absurd cc
-
-    with_ : (row : FrontRow) (b : ControlBlock) → (front_rest p.rest).count ≤ 2 ^ 30 → (target : Option (List ℕ)) → front_admitted_with env row (front_rest p.rest) b choice target ≡ Some given → IsSmall given.0
-    with_ row b few None e = never e
-    with_ row b few (Some path) e =
-        let same : handed_off env row (serving b (front_rest p.rest).count []) path choice ≡ given = cc in
-        let small : (front_rest p.rest).count < 2 ^ 32 = omega (arith, few) in
-        subst (λ (g : FrontPart × FrontTurn). IsSmall g.0) same small
-
-    at : (row : FrontRow) (z : FrontConn) → StageFew (front_rest p.rest).count z → admitted_at env p choice row z ≡ Some given → IsSmall given.0
-    at row (stage.Waiting b) h e = with_ row b h (front_rest p.rest).target e
-    at row (stage.Held b) h e = never e
-    at row stage.Lent h e = never e
-    at row (stage.Offering n d) h e = never e
-    at row (stage.Moved n d) h e = never e
-    at row (stage.Closed last) h e = never e
-
-    go : (o : Option FrontRow) → p.row ≡ o → admitted_by env p choice o ≡ Some given → IsSmall given.0
-    go None eq e = never e
-    go (Some row) eq e = at row row.stage (few row eq) e
+  admitted-small env choice = admitted-keeps env p choice (λ given. IsSmall given.0)
+      (λ row b path at target. let few-here : (front_rest p.rest).count ≤ 2 ^ 30 = few-at row (stage.Waiting b) at in omega (arith, few-here))
 
 -- ---- what the law of bytes says of what the front end has
 

@@ -250,6 +250,7 @@ module _ (env : FrontEnv) (x : Conn) (heads : List Seen) where
   pub ended-row : (from epoch : ℕ) (last : Final) → Reached (front_ended env its from epoch last)
   ended-row from epoch last = ended-keeps its Reached drops env from epoch last (λ row found away again. front-makes all_files x (front_does x heads (Says (front_saying (ack_sent env from epoch)))) refl tt)
       (λ row found away. front-makes all_files x (front_does x heads (Does (front_ends env its from epoch last row (next_epoch row)))) refl (tt, (tt, tt)))
+
   -- where it is with a node, one request was assigned
   away-some : (n e : ℕ) (q : NodePart) (r : FrontRest) → IsAway all_files (marks_at x) r n e q → (marks_at x).assigned ≡ [] → ⊥
   away-some n e q r h none = ⊎_elim

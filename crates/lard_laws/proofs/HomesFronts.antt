@@ -96,6 +96,7 @@ module _ (nodes : ℕ → NodePart) (p : FrontPart) where
 
     pub admitted-home : (env : FrontEnv) (choice : FirstChoice) (given : FrontPart × FrontTurn) → front_admitted env p choice ≡ Some given → RowHomes nodes given.0.row
     admitted-home env choice = admitted-keeps env p choice (λ given. RowHomes nodes given.0.row) (λ row b path at target. goes-out row (at-stage row (stage.Waiting b) at) choice.node (next_epoch row) None)
+
 -- ---- its move
 
 pub front-move : (x : Conn) (heads : List Seen) (d : FrontDeed) → DeedHomes x.part.nodes x.part.front d → HasOneHome x → HasOneHome (grown x (front_does x heads d))

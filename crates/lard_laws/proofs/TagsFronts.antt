@@ -129,6 +129,7 @@ module _ (N : ℕ → Type 0) (files : FilesAt) (x : Conn) (facts : Facts files 
   pub admitted-fits : (env : FrontEnv) (choice : FirstChoice) (given : FrontPart × FrontTurn) → front_admitted env p choice ≡ Some given → PartFits given.0
   admitted-fits env choice = admitted-keeps env p choice (λ given. PartFits given.0)
       (λ row b path at target. offering-fits env row (serving b (front_rest p.rest).count []) path choice.node row.epoch.0 (past-waiting row b at))
+
   -- ---- an Ask
 
   -- it is with one node, in one epoch
@@ -181,6 +182,7 @@ module _ (N : ℕ → Type 0) (files : FilesAt) (x : Conn) (facts : Facts files 
 
     pub asked-fits : Fit (front_asked env p n epoch ask)
     asked-fits = asked-keeps p Fit (λ fills names. tt) env n epoch ask (λ rest found there same some fills names. tt) (λ rest found there next fills names. assigned-fits rest found there next fills names)
+
   -- ---- its move
 
   pub front-move : (seen : List Seen) (d : FrontDeed) → DeedFits d → NamesNodes N files (grown x (front_does x seen d))
