@@ -2,7 +2,7 @@
 use Rattle.std.proofs.Common.{◌≡◌, true, false, [], ◌∷◌, Some, None, Result, Ok, Err, refl}
 use Rattle.std.specs.Prelude.{codes}
 use Rattle.lard_history.specs.Journal.{Numbers}
-use Rattle.lard_refusals.specs.Packets.{acknowledgement, acknowledges_three_bytes, final_segment, reset_segment, two_bytes, two_bytes_from_the_end, two_bytes_from_zero, two_other_bytes}
+use Rattle.lard_refusals.specs.Packets.{acknowledgement, acknowledges_the_request, acknowledges_three_bytes, final_segment, reset_segment, two_bytes, two_bytes_from_the_end, two_bytes_from_zero, two_other_bytes}
 use Rattle.lard_segment.specs.declared.fault.SegFault.{SegFault}
 use Rattle.lard_segment.specs.declared.fault.SegFault.TheVariants as fault
 use Rattle.lard_segment.specs.declared.segment.Dir.TheVariants.{ToClient}
@@ -29,6 +29,9 @@ acknowledgement_says = record { seq = 5001; ack = 1001; flags = ack_flags; wnd =
 abbrev pub three_bytes_say : Said
 three_bytes_say = record acknowledgement_says { ack = 1004 }
 
+abbrev pub request_say : Said
+request_say = record acknowledgement_says { ack = 1032 }
+
 abbrev pub two_bytes_say : Said
 two_bytes_say = record acknowledgement_says { flags = record ack_flags { psh = true }; payload = codes "HT" }
 
@@ -42,6 +45,10 @@ acknowledgement-decodes = refl
 pub three-bytes-decode : decoded acknowledges_three_bytes 1 ToClient ≡ Ok three_bytes_say
 unfolding decoded
 three-bytes-decode = refl
+
+pub request-decodes : decoded acknowledges_the_request 1 ToClient ≡ Ok request_say
+unfolding decoded
+request-decodes = refl
 
 pub two-bytes-decode : decoded two_bytes 1 ToClient ≡ Ok two_bytes_say
 unfolding decoded

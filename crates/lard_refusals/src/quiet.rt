@@ -1,11 +1,18 @@
-//! What the law of quiet connections refuses.
+//! What the laws of quiet connections and of responses that are due refuse.
 
 ghost use Rattle.lard_refusals.specs.Quiet as the;
-ghost use Rattle.lard_refusals.specs.Refusals.{IsLawOfAll, Refuses};
+ghost use Rattle.lard_refusals.specs.Refusals.{Allows, IsLawOfAll, Refuses};
 
 /// A connection of which nothing is under way is complete.
 pub fn quiet_refuses()
     ensures law { IsLawOfAll the.quiet }
     ensures shut_and_forgotten { Refuses the.quiet the.shut_and_forgotten }
     ensures asked_and_forgotten { Refuses the.quiet the.asked_and_forgotten }
+{}
+
+/// What is due is served, or reset, in the step in which it is.
+pub fn due_refuses()
+    ensures law { IsLawOfAll the.due }
+    ensures reset_comes_late { Refuses the.due the.reset_comes_late }
+    ensures reset_comes_at_once { Allows the.due the.reset_comes_at_once }
 {}
