@@ -20,4 +20,5 @@ pub mod FrontWaiting
 pub mod FrontEnded
 pub mod FrontStepping
 pub mod StayFalling
+pub mod StayWalking
 pub mod StayKeeping
