@@ -110,7 +110,7 @@ module _ (env : NodeEnv) where
         let count : length nodes ≡ named = eqb-true (length nodes) named (and_parts (y.1.asks == number) (length nodes == named) (and_parts (is_some (find (is_under timer.Ask 0) p.kept)) (y.1.asks == number && length nodes == named) t).1).1 in
         goes-come part [] (tagged env nodes k)
         (all-started env part.kept part.fetches (tagged env nodes k)
-        (starts-come env p.kept p.fetches nodes 0 (k.service.count + 1) k.batch (record k { batch = [] }) (record { comes = tt; next_is = omega arith; below = tt }) comes (omega (arith, count)))))
+        (starts-come env p.kept p.fetches nodes k refl count comes)))
         (λ t. tt))
         p.row h
 

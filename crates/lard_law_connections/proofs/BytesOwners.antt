@@ -305,7 +305,7 @@ module _ (k : Setting) (x : Conn) (heads : List Seen) (quiet : Each IsHead heads
       let took : Rec = rec.Took (Node env.n) env.serve.c (record { 0 = env.epoch }) in
       let work : Work = goes_on env (state_of (reads_batch env true (node_begins env parts))) in
       let all : Begins took work.service.notes =
-      goes-notes (Begins took) (begins-more took) env (state_of (reads_batch env true (node_begins env parts))) (batch-state (Begins took) (begins-more took) env true (node_begins env parts) ([], refl, tt)) in
+      goes-notes (Begins took) (begins-more took) env (state_of (reads_batch env true (node_begins env parts))) (batch-state (Begins took) (begins-more took) env true (node_begins env parts) refl ([], refl, tt)) in
       let same : (serving_settled env.serve work.service).1.notes ≡ took ∷ all.0 = (settled-is env.serve work.service).notes ∙ all.1 in
       let mine : Each (NotedAt (Node n) x.c) (named_records (took ∷ all.0)) = subst (λ (l : List Rec). Each (NotedAt (Node n) x.c) (named_records l)) same noted in
       subst (λ (l : List Rec). OwnerServes x.c now (named_records l)) (sym same) (takes-serves (named_records all.0) (plain-named all.0 all.2) mine.1)

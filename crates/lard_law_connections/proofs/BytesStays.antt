@@ -246,7 +246,7 @@ module _ (env : NodeEnv) (w out : Stream) (vs : List Verdict) (was_reset : Bool)
         let first : Work = node_begins env parts in
         let may : MayGo w offered-so.vs_now [] first.service = go-on env.serve w out vs first.service [] offered-so refl refl refl in
         let works = first-so env w out vs true first offered-so may refl in
-        let right = batch-right env true first tt in
+        let right = batch-right env true first refl tt in
         work-turns p p (taken_sent env) (goes_on env (state_of (reads_batch env true first))) (λ q. record { again = []; first = taken_sent env; is = refl; told = inl refl; said = (inr (env.epoch, body.Taken, refl, tt), tt) }) (goes-so env w out vs talk.most (state_of (reads_batch env true first)) works right) (goes-right env (state_of (reads_batch env true first)) right)
     offers-turn Again = inr (inr (env.epoch, body.Taken, refl, tt), tt)
     offers-turn Stale = tt

@@ -165,7 +165,7 @@ module _ (N : ℕ → Type 0) (env : NodeEnv) where
         let left : without kind.Ask 0 p.kept ≡ [] = asks-left env.serve.c env.epoch y.1.asks (named_paths files y.1.batch) p.kept k.asks in
         let first : Starts N env part.kept p.fetches y.1.asks (named_of y.1) (contents_awaited y.1.batch) (record w { batch = [] }) = (refl, record { each = k.fetches; order = k.order }, refl, refl, let few = k.few in omega (arith, few)) in
         goes-keep y.1.asks (named_of y.1) part [] (tagged env nodes w)
-        (started-await N env part.kept p.fetches y.1.asks (named_of y.1) (tagged env nodes w) left (starts-all N env part.kept p.fetches y.1.asks (named_of y.1) nodes (all y is same) 0 (w.service.count + 1) w.batch (record w { batch = [] }) first (omega (arith, count)))))
+        (started-await N env part.kept p.fetches y.1.asks (named_of y.1) (tagged env nodes w) left (starts-all N env part.kept p.fetches y.1.asks (named_of y.1) nodes (all y is same) w count first)))
         (λ t. (tt, tt)))
         p.row h refl
 

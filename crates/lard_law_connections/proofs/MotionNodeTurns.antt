@@ -316,7 +316,7 @@ module _ (k : Setting) (x : Conn) (at_place : IsPlaced x) (known : NodesKnown x)
         let work : Work = goes_on env (state_of (reads_batch env true start)) in
         let given : Ending × Turn = serving_settled env.serve work.service in
         let done = settled-is env.serve work.service in
-        let all : Begins took work.service.notes = goes-notes (Begins took) (begins-more took) env (state_of (reads_batch env true start)) (batch-state (Begins took) (begins-more took) env true start ([], refl, tt)) in
+        let all : Begins took work.service.notes = goes-notes (Begins took) (begins-more took) env (state_of (reads_batch env true start)) (batch-state (Begins took) (begins-more took) env true start refl ([], refl, tt)) in
         let notes : given.1.notes ≡ took ∷ all.0 = done.notes ∙ all.1 in
         let takes : pick (node_took n) (named_records given.1.notes) ≡ env.epoch ∷ [] =
         ap (λ (l : List Rec). pick (node_took n) (named_records l)) notes

@@ -280,7 +280,7 @@ module _ (k : Setting) (x : Conn) (heads : List Seen) (quiet : IsQuiet x heads) 
       let work : Work = goes_on env (state_of (reads_batch env true first)) in
       let given : Ending × Turn = serving_settled env.serve work.service in
       let done = settled-is env.serve work.service in
-      let all : Begins took work.service.notes = goes-notes (Begins took) (begins-more took) env (state_of (reads_batch env true first)) (batch-state (Begins took) (begins-more took) env true first ([], refl, tt)) in
+      let all : Begins took work.service.notes = goes-notes (Begins took) (begins-more took) env (state_of (reads_batch env true first)) (batch-state (Begins took) (begins-more took) env true first refl ([], refl, tt)) in
       let notes : given.1.notes ≡ took ∷ all.0 = done.notes ∙ all.1 in
       let plain : Each IsPlain (named_records all.0) = plain-named all.0 all.2 in
       let u : Owning = record { owner = Some (Node env.n); epoch = env.epoch } in

@@ -1,8 +1,8 @@
 -- A node reads and serves until the first request is not ready, or no request is left.
-use Rattle.std.proofs.Common.{◌≡◌, ◌⊎◌, ◌-◌, ◌+◌, ◌<◌, ◌==◌, nat_lt, ℕ, zero, suc, Bool, true, false, cond, List, [], ◌∷◌, ◌++◌, length, take, drop, slice_get, Option, Some, None, Result, Ok, Err, inl, inr, ⊎_elim, refl, sym, ap, ◌∙◌, subst, arith}
+use Rattle.std.proofs.Common.{◌≡◌, ◌⊎◌, ◌-◌, ◌+◌, ◌==◌, nat_lt, ℕ, Bool, true, false, cond, List, [], ◌∷◌, ◌++◌, length, take, drop, Option, Some, None, Result, Ok, Err, inl, inr, ⊎_elim, refl, sym, ap, ◌∙◌, subst, append-nil}
 use Rattle.std.proofs.lemmas.Bool.{both_ways, cond_both}
 use Rattle.std.specs.List.{find}
-use Rattle.lard_answers.specs.Answers.{FilesAt, good_path}
+use Rattle.lard_answers.specs.Answers.{FilesAt}
 use Rattle.lard_base.specs.declared.parts.EndpointParts.{EndpointParts}
 use Rattle.lard_base.specs.declared.place.Place.{Place}
 use Rattle.lard_base.specs.declared.place.TimerKind.TheVariants as timer
@@ -11,7 +11,6 @@ use Rattle.lard_block.specs.declared.block.Found.{Found}
 use Rattle.lard_block.specs.declared.block.Found.TheVariants as found
 use Rattle.lard_block.specs.Blocks.{blocks, cut_of}
 use Rattle.lard_law_connections.specs.Stops.{BackStageStops, HereStops, FirstIsAwaited, NodeStops, ReadingStops, RowStops, StayStops}
-use Rattle.lard_rules.proofs.StayFalling.{falls, none-left}
 use Rattle.lard_law_connections.proofs.StopsSame.{Same, Stays, answered-closes, closed-there, ended-stopped, none-behind, rested-stays, same-stopped, segment-closes, speaks-same, timer-same}
 use Rattle.lard_law_view.specs.View.{Conn, node_does, grown}
 use Rattle.lard_law_view.proofs.Parts.{put-each}
@@ -26,19 +25,17 @@ use Rattle.lard_handoff_back.specs.declared.table.Adopt.TheVariants.{New, Again,
 use Rattle.lard_handoff_back.specs.Back.{awaits_ack, back_endpoint, offer_answer, staying}
 use Rattle.lard_handoff_back.specs.Row.{back_held}
 use Rattle.lard_history.specs.Own.{Seen}
-use Rattle.lard_journal.specs.declared.rec.Rec.TheVariants as rec
 use Rattle.lard_lateral.specs.Lateral.{is_from}
 use Rattle.lard_law_view.specs.Agreement.{HasStopped}
 use Rattle.lard_law_view.proofs.EndpointStreams.{segment-takes}
 use Rattle.lard_law_view.proofs.Stopping.{stopped-arrived, stopped-discarding, unfinished-there}
 use Rattle.lard_rules.specs.declared.stay.Entry.{Entry}
-use Rattle.lard_rules.specs.declared.stay.Next.{Next}
 use Rattle.lard_rules.specs.declared.stay.Next.TheVariants as next
 use Rattle.lard_rules.specs.declared.stay.Progress.{Progress}
 use Rattle.lard_rules.specs.declared.stay.Progress.TheVariants as progress
 use Rattle.lard_rules.specs.declared.stay.Stay.{Stay}
 use Rattle.lard_rules.specs.Node.{NodeDeed, Drops, Says, Does, NodePart, node_begins, both_of, come_by, node_fired_by, gone, node_heard_by, here, is_tag_awaited, kept_after, node_acknowledged, node_content, node_forwarded, node_offered, node_read, node_tagged, node_timer, offered_by, node_read_by, node_saying, tagged_by, taken_sent, with_work, work_of}
-use Rattle.lard_rules.specs.Stay.{NodeEnv, Work, asking, asks_for, came_for, come_on, come_progress, entered, enters, enters_first, enters_one, goes_on, work_left, named_path, named_paths, next_in, read_progress, reads_batch, reads_these, serves_by, serves_first, started, started_here, started_there, starts_at, starts_named, starts_one, tagged, stay_turn, turned}
+use Rattle.lard_rules.specs.Stay.{NodeEnv, Work, came_for, come_on, come_progress, goes_on, next_in, read_progress, reads_batch, tagged, serves_with}
 use Rattle.lard_reader.specs.Batches.{batch_of, bytes_used}
 use Rattle.lard_reader.proofs.Going.{batch-closed, batch-long, batch-open, used-suc}
 use Rattle.lard_recv.specs.Recv.{Received, awaited, begins_after, ends, fresh_bytes, bytes_taken}
@@ -50,11 +47,13 @@ use Rattle.lard_resend.specs.Kept.{is_under, without}
 use Rattle.lard_rules.specs.declared.places.Ending.{Ending}
 use Rattle.lard_rules.specs.declared.places.Ending.TheVariants as ending
 use Rattle.lard_rules.specs.declared.places.Turn.{Turn}
-use Rattle.lard_rules.specs.Loop.{Step, More, Done, runs_on, state_of}
+use Rattle.lard_rules.specs.Loop.{More, state_of}
 use Rattle.lard_rules.specs.Serving.{Service, answered, serving_consumed, cut_off, ended_at_fin, may_read, serving_ready_of, serving, serving_settled, spoken}
 use Rattle.lard_rules.specs.Speaking.{speaks}
 use Rattle.lard_segment.specs.declared.fault.SegFault.{SegFault}
 use Rattle.lard_segment.specs.Segment.{Said}
+use Rattle.lard_rules.proofs.StayWalking.{KeptByStarts, KeptByReads, StepIn, goes-in, state-in, tagged-in, these-in}
+use Rattle.lard_base.specs.declared.place.Via.{Via}
 
 -- ---- an empty batch
 
@@ -110,68 +109,6 @@ same-at b d batch same h = (
 )
 
 module _ (env : NodeEnv) where
-  -- ---- what is entered leaves the endpoint as it was
-
-  here-block : (r : ℕ) (path : List ℕ) (v : Verdict) (k : Work) → (started_here env r path v k).service.block ≡ k.service.block
-  here-block r path v k = go (env.cached path) where
-    hit_here : Work
-    hit_here = entered (record { verdict = v; progress = progress.Ready via.Cache }) (record k { service = record k.service { notes = k.service.notes ++ rec.Hit env.n path ∷ [] } })
-
-    queued_here : Work
-    queued_here = entered (record { verdict = v; progress = progress.Reading })
-        (record k { service = record k.service { notes = k.service.notes ++ rec.Queued env.n env.n env.serve.c r path ∷ [] }; jobs = k.jobs ++ record { origin = env.n; c = env.serve.c; epoch = record { 0 = env.epoch }; r = r; path = path } ∷ [] })
-
-    go : (t : Bool) → (cond t hit_here queued_here).service.block ≡ k.service.block
-    go true = refl
-    go false = refl
-
-  started-block : (node r : ℕ) (path : List ℕ) (v : Verdict) (k : Work) → (started env node r path v k).service.block ≡ k.service.block
-  started-block node r path v k = cond_both (node == env.n) (started_here env r path v k) (started_there node r path v k) (λ (w : Work). w.service.block ≡ k.service.block) (λ t. here-block r path v k) (λ t. refl)
-
-  first-block : (r : ℕ) (v : Verdict) (k : Work) (o : Option (List ℕ)) → (enters_first env r v k o).1.service.block ≡ k.service.block
-  first-block r v k None = refl
-  first-block r v k (Some path) = here-block r path v k
-
-  one-block : (here : Bool) (r : ℕ) (v : Verdict) (k : Work) → (enters_one env here r v k).1.service.block ≡ k.service.block
-  one-block false r v k = refl
-  one-block true r v k = first-block r v k (good_path env.serve.files v)
-
-  enters-block : (here : Bool) (r : ℕ) (vs : List Verdict) (k : Work) → (enters env here r vs k).service.block ≡ k.service.block
-  unfolding enters
-  enters-block here r [] k = refl
-  enters-block here r (v ∷ vs) k = enters-block (enters_one env here r v k).0 (r + 1) vs (enters_one env here r v k).1 ∙ one-block here r v k
-
-  asks-block : (size : ℕ) (paths : List (List ℕ)) (k : Work) → (asks_for env size paths k).service.block ≡ k.service.block
-  asks-block size [] k = refl
-  asks-block size (path ∷ paths) k = refl
-
-  named-block : (node r : ℕ) (e : Entry) (k : Work) (o : Option (List ℕ)) → (starts_named env node r e k o).1.service.block ≡ k.service.block
-  named-block node r e k None = refl
-  named-block node r e k (Some path) = started-block node r path e.verdict k
-
-  starts-one : (o : Option ℕ) (r : ℕ) (e : Entry) (k : Work) → (starts_one env o r e k).1.service.block ≡ k.service.block
-  starts-one None r e k = refl
-  starts-one (Some node) r e k = named-block node r e k (named_path env.serve.files e)
-
-  starts-block : (nodes : List ℕ) (at r : ℕ) (es : List Entry) (k : Work) → (starts_at env nodes at r es k).service.block ≡ k.service.block
-  unfolding starts_at
-  starts-block nodes at r [] k = refl
-  starts-block nodes at r (e ∷ es) k =
-      let one : Bool × Work = starts_one env (slice_get nodes at) r e k in
-      let same = starts-one (slice_get nodes at) r e k in
-      go one.0 (starts-block nodes (at + 1) (r + 1) es one.1 ∙ same) (starts-block nodes at (r + 1) es one.1 ∙ same) where
-        go : (b : Bool) → (starts_at env nodes (at + 1) (r + 1) es (starts_one env (slice_get nodes at) r e k).1).service.block ≡ k.service.block → (starts_at env nodes at (r + 1) es (starts_one env (slice_get nodes at) r e k).1).service.block ≡ k.service.block
-            → (elim b as (λ t. Work) [
-              | true ↦ starts_at env nodes (at + 1) (r + 1) es (starts_one env (slice_get nodes at) r e k).1
-              | false ↦ starts_at env nodes at (r + 1) es (starts_one env (slice_get nodes at) r e k).1
-            ]).service.block ≡ k.service.block
-        go true x y = x
-        go false x y = y
-
-  starts-none : (nodes : List ℕ) (at r : ℕ) (k : Work) → (starts_at env nodes at r [] k).batch ≡ k.batch
-  unfolding starts_at
-  starts-none nodes at r k = refl
-
   -- ---- turn by turn
 
   abbrev pub MayRest : Work → Type 0
@@ -180,61 +117,75 @@ module _ (env : NodeEnv) where
   abbrev pub Rests : Work → Type 0
   Rests k = k.service.over ≡ None → k.service.block.reset ≡ false → IsAt k.service.block k.batch
 
-  abbrev pub StepRests : Step Work → Type 0
-  StepRests (More k) = MayRest k
-  StepRests (Done k) = Rests k
+  -- what is entered leaves the endpoint as it was
+  abbrev IsOpen : Work → Type 0
+  IsOpen k = k.service.block.send.finished ≡ false
+
+  by_reads : (size : ℕ) → KeptByReads env size (λ here vs. IsOpen) MayRest
+  by_reads size = record {
+    hits = λ r path v vs k good is t h. h;
+    queues = λ r path v vs k good is f h. h;
+    enters = λ here v vs k only h. h;
+    plain = λ here k none h. open-closes k.service.block k.batch h;
+    asks = λ here path paths k e h. open-closes k.service.block k.batch h;
+  }
 
   -- a batch is read
-  these-at : (here : Bool) (k : Work) → k.service.block.send.finished ≡ false → k.batch ≡ [] → (vs : List Verdict) → batch_of 8 k.service.block.recv.unread ≡ vs
-      → StepRests (reads_these env here (bytes_used 8 k.service.block.recv.unread) k vs) × MayRest (state_of (reads_these env here (bytes_used 8 k.service.block.recv.unread) k vs))
-  these-at here k open_ none [] e =
-      let used = bytes_used 8 k.service.block.recv.unread in
-      let st : HasStopped (ended_at_fin (serving_consumed used k.service)).block = ended-stopped (serving_consumed used k.service) open_ (none-read k.service.block.recv.unread e) in
-      ((λ over calm. ((λ o. inr (st, none)), (λ closed. (st, λ d. none)))), (λ closed. (st, λ d. none)))
-  these-at here k open_ none (v ∷ vs) e =
-      let used = bytes_used 8 k.service.block.recv.unread in
-      let rest : Work = record k { service = serving_consumed used k.service } in
-      let all : Work = enters env here (k.service.count + 1) (v ∷ vs) rest in
-      let size = length (v ∷ vs) in
-      let same : (asking env size all).service.block ≡ rest.service.block = asks-block size (named_paths env.serve.files all.batch) all ∙ enters-block here (k.service.count + 1) (v ∷ vs) rest in
-      let may : MayRest (asking env size all) = open-closes (asking env size all).service.block (asking env size all).batch (ap (λ (b : ControlBlock). b.send.finished) same ∙ open_) in
-      (may, may)
+  module _ (here : Bool) (k : Work) (open_ : IsOpen k) (none : k.batch ≡ []) where
+    abbrev used : ℕ
+    used = bytes_used 8 k.service.block.recv.unread
 
-  pub batch-at : (here : Bool) (k : Work) → k.service.block.send.finished ≡ false → k.batch ≡ [] → StepRests (reads_batch env here k) × MayRest (state_of (reads_batch env here k))
-  batch-at here k open_ none = these-at here k open_ none (batch_of 8 k.service.block.recv.unread) refl
+    fin-stops : batch_of 8 k.service.block.recv.unread ≡ [] → HasStopped (ended_at_fin (serving_consumed used k.service)).block
+    fin-stops e = ended-stopped (serving_consumed used k.service) open_ (none-read k.service.block.recv.unread e)
+
+    batch-in : (D : Work → Type 0) → (batch_of 8 k.service.block.recv.unread ≡ [] → D (record k { service = ended_at_fin (serving_consumed used k.service) })) → StepIn MayRest D (reads_batch env here k)
+    batch-in D end = these-in env (λ here vs. IsOpen) MayRest D here used k (batch_of 8 k.service.block.recv.unread) (by_reads (length (batch_of 8 k.service.block.recv.unread))) none end (λ v us e. open_)
+
+    pub batch-at : StepIn MayRest Rests (reads_batch env here k) × MayRest (state_of (reads_batch env here k))
+    batch-at = (
+      batch-in Rests (λ e over calm. ((λ o. inr (fin-stops e, none)), (λ closed. (fin-stops e, λ d. none)))),
+      state-in MayRest (reads_batch env here k) (batch-in MayRest (λ e closed. (fin-stops e, λ d. none))),
+    )
 
   -- the first is served
-  serves-by : (e : Entry) (rest : List Entry) (k : Work) (p : Progress) → may_read k.service ≡ true → MayRest k → MayRest (serves_by env e rest k p)
-  serves-by e rest k (progress.Ready way) may h = λ closed.
+  serves-at : (way : Via) (e : Entry) (rest : List Entry) (k : Work) → may_read k.service ≡ true → MayRest (serves_with (answered env.serve way e.verdict k.service) e rest k)
+  serves-at way e rest k may closed =
       let d = answered-closes env.serve way e.verdict k.service (unfinished-there k.service may) closed in
       (stopped-discarding (answered env.serve way e.verdict k.service).block d, λ keeps. absurd (both_ways (answered env.serve way e.verdict k.service).block.recv.discarding keeps d))
-  serves-by e rest k _ may h = h
 
-  serves-at : (k : Work) (es : List Entry) → may_read k.service ≡ true → MayRest k → MayRest (serves_first env k es)
-  serves-at k [] may h = h
-  serves-at k (e ∷ rest) may h = serves-by e rest k e.progress may h
-
-  turned-at : (k : Work) (n : Next) → next_in k.batch ≡ n → may_read k.service ≡ true → MayRest k → StepRests (turned env k n)
-  turned-at k next.Serve e may h = serves-at k k.batch may h
-  turned-at k next.Read e may h = (batch-at false k (unfinished-there k.service may) (none-left k.batch e)).0
-  turned-at k next.Stop e may h = λ over calm. ((λ open_. inl (awaited-batch k.batch e)), h)
-
-  turn-at : (k : Work) → MayRest k → StepRests (stay_turn env k)
-  turn-at k h = go (may_read k.service) refl where
-    go : (b : Bool) → may_read k.service ≡ b → StepRests (turned env k (cond b (next_in k.batch) next.Stop))
-    go true may = turned-at k (next_in k.batch) refl may h
-    go false may = λ over calm. ((λ open_. absurd (both_ways k.service.block.send.finished open_ (closed-there k.service over calm may))), h)
-
-  goes-on : (n : ℕ) (k : Work) → work_left k < n → MayRest k → Rests (runs_on n (stay_turn env) k)
-  unfolding runs_on
-  goes-on zero k less h = absurd (omega (arith, less))
-  goes-on (suc n) k less h = go (stay_turn env k) refl (turn-at k h) (goes-on n) where
-    go : (s : Step Work) → stay_turn env k ≡ s → StepRests s → ((y : Work) → work_left y < n → MayRest y → Rests (runs_on n (stay_turn env) y)) → Rests (elim s as (λ s. Work) [ More y ↦ runs_on n (stay_turn env) y | Done y ↦ y ])
-    go (More y) e g later = let fall = falls env k y e in later y (omega (arith, fall, less)) g
-    go (Done y) e g later = g
+  stops-at : (k : Work) → (may_read k.service ≡ true → next_in k.batch ≡ next.Stop) → MayRest k → Rests k
+  stops-at k stop h over calm = go (may_read k.service) refl where
+    go : (b : Bool) → may_read k.service ≡ b → IsAt k.service.block k.batch
+    go true may = ((λ open_. inl (awaited-batch k.batch (stop may))), h)
+    go false may = ((λ open_. absurd (both_ways k.service.block.send.finished open_ (closed-there k.service over calm may))), h)
 
   pub goes-rest : (k : Work) → MayRest k → Rests (goes_on env k)
-  goes-rest k h = goes-on (work_left k + 1) k (omega arith) h
+  goes-rest k h = goes-in env MayRest Rests (record {
+    reads = λ w none may g. (batch-at false w (unfinished-there w.service may) none).0;
+    serves = λ way e rest w may first is g. serves-at way e rest w may;
+    stops = λ w may g. stops-at w may g;
+  }) k h
+
+  -- ---- a Tag comes: those that are left stand behind those that started
+
+  abbrev Left : ℕ → List Entry → Work → Type 0
+  Left at es k = Closes k.service.block (k.batch ++ es)
+
+  never-none : (xs ys : List Entry) (e : Entry) → xs ++ e ∷ ys ≡ [] → ⊥
+  never-none [] ys e h = cc
+  never-none (x ∷ xs) ys e h = cc
+
+  left-on : (e x : Entry) (es : List Entry) (k : Work) → Left 0 (e ∷ es) k → Closes k.service.block ((k.batch ++ x ∷ []) ++ es)
+  left-on e x es k h closed = let t = h closed in (t.0, λ keeps. absurd (never-none k.batch es e (t.1 keeps)))
+
+  by_starts : (nodes : List ℕ) → KeptByStarts env nodes Left
+  by_starts nodes = record {
+    stays = λ at r e es k is named h. left-on e e es k h;
+    short = λ at r path e es k is named none h. left-on e e es k h;
+    hits = λ at node r path e es k is named there t c h. left-on e (record { verdict = e.verdict; progress = progress.Ready via.Cache }) es k h;
+    queues = λ at node r path e es k is named there t c h. left-on e (record { verdict = e.verdict; progress = progress.Reading }) es k h;
+    wants = λ at node r path e es k is named there f h. left-on e (record { verdict = e.verdict; progress = progress.Awaited node }) es k h;
+  }
 
   -- ---- the end of a turn
 
@@ -304,10 +255,8 @@ module _ (env : NodeEnv) where
 
     pub tagged-closes : (nodes : List ℕ) (y : ControlBlock × Stay) → StayStops y.0 y.1.batch → MayRest (tagged env nodes (work_of y.0 y.1))
     tagged-closes nodes y stops =
-        let k : Work = work_of y.0 y.1 in
-        let same : (tagged env nodes k).service.block ≡ y.0 = starts-block nodes 0 (k.service.count + 1) k.batch (record k { batch = [] }) in
-        subst (λ (b : ControlBlock). Closes b (tagged env nodes k).batch) (sym same) (λ closed. let c = stops.closed closed in
-        (c.0, λ keeps. ap (λ es. (starts_at env nodes 0 (k.service.count + 1) es (record k { batch = [] })).batch) (c.1 keeps) ∙ starts-none nodes 0 (k.service.count + 1) (record k { batch = [] })))
+        let all = tagged-in env nodes Left (by_starts nodes) (work_of y.0 y.1) stops.closed in
+        subst (Closes (tagged env nodes (work_of y.0 y.1)).service.block) (append-nil (tagged env nodes (work_of y.0 y.1)).batch) all.1
 
     pub tagged-stops : (number : ℕ) (nodes : List ℕ) → DeedStops (node_tagged env p number nodes)
     tagged-stops number nodes = at-epoch (λ y. DeedStops (tagged_by env number nodes p y)) tt

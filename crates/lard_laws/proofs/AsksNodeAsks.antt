@@ -189,7 +189,7 @@ module _ (c n : ℕ) (last : ℕ → Option (List ℕ)) (env : NodeEnv) (number 
       let newer : IsNewer = new refl in
       let none : last env.epoch ≡ None = h.fresh env.epoch newer.above in
       let w : Work = state_of (reads_batch env true (node_begins env parts)) in (
-        turn-outcome c n last env number newer.small p (taken_sent env) (goes_on env w) (serving_settled env.serve (goes_on env w).service) 0 (goes-so env 0 w (batch-state env 0 true (node_begins env parts) (refl, refl)))
+        turn-outcome c n last env number newer.small p (taken_sent env) (goes_on env w) (serving_settled env.serve (goes_on env w).service) 0 (goes-so env 0 w (batch-state env 0 true (node_begins env parts) refl (refl, refl)))
             (taken-unsent c n last env number) h.kept h.fetches (λ e less. h.fresh e (omega (arith, less, newer.above))) (subst (λ (o : Option (List ℕ)). IsAskNumbered c env.epoch o 0) (sym none) refl),
         (settled-is env.serve (goes_on env w).service).to,
       )

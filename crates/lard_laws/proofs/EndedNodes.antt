@@ -291,7 +291,7 @@ module _ (env : NodeEnv) (most : env.serve.stream ≤ 2 ^ 30) (x : Conn) (sound_
         let first : Work = node_begins env parts in
         let so : So env.serve l.w l.out l.vs first.service [] = begins-works f in
         let may : MayGo l.w so.vs_now [] first.service = go-on env.serve l.w l.out l.vs first.service [] so refl refl refl in
-        goes-ends ours (taken_sent env) (state_of (reads_batch env true first)) (first-so env l.w l.out l.vs true first so may refl) (batch-right env true first tt) (stops.batch-at env true first refl refl).1 taken-tells
+        goes-ends ours (taken_sent env) (state_of (reads_batch env true first)) (first-so env l.w l.out l.vs true first so may refl) (batch-right env true first refl tt) (stops.batch-at env true first refl refl).1 taken-tells
 
     -- where the node has not decided
     offered-stage : (f : FrontRow) → row ≡ Some f → (st : FrontConn) → f.stage ≡ st → Offers n epoch st → (IsDecided epoch ours.row → ⊥) → Goes (offered_by env parts ours New)

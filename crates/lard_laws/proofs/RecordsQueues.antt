@@ -1,19 +1,16 @@
 -- A step gives the disk of a node eight jobs at most: one for the first request of a batch that an Offer brings, and one for each node
 -- of a Tag.
-use Rattle.std.proofs.Common.{◌≡◌, ℕ, suc, ◌+◌, ◌-◌, ◌≤◌, ◌<◌, ◌==◌, ◌&&◌, nat_le, nat_lt, List, [], ◌∷◌, ◌++◌, length, take, drop, Bool, true, false, cond, not, Option, Some, None, Result, Ok, Err, refl, sym, ap, ◌∙◌, arith, length-append, length-drop}
+use Rattle.std.proofs.Common.{◌≡◌, ℕ, suc, ◌+◌, ◌-◌, ◌≤◌, ◌==◌, ◌&&◌, nat_le, nat_lt, List, [], ◌∷◌, ◌++◌, length, take, drop, Bool, true, false, cond, not, Option, Some, None, Result, Ok, Err, refl, ap, arith, length-append, length-drop}
 use Rattle.std.proofs.lemmas.Bool.{and_parts, cond_both}
 use Rattle.std.proofs.lemmas.Bool.Decides.{nat_tests}
 use Rattle.std.proofs.lemmas.List.{length-take}
 use Rattle.std.proofs.lemmas.Option.{slice_get_within}
 use Rattle.std.specs.List.{find, list_any}
-use Rattle.std.specs.Prelude.{slice_get}
-use Rattle.lard_answers.specs.Answers.{good_path}
 use Rattle.lard_base.specs.declared.ids.TheConstants.ConnId.{MAX}
 use Rattle.lard_base.specs.declared.parts.EndpointParts.{EndpointParts}
 use Rattle.lard_base.specs.declared.place.Place.{Place}
 use Rattle.lard_base.specs.declared.place.Place.TheVariants as place
 use Rattle.lard_base.specs.declared.place.TimerKind.TheVariants as kind
-use Rattle.lard_base.specs.declared.place.Via.TheVariants as via
 use Rattle.lard_cache.specs.Recency.{has_path}
 use Rattle.lard_disk.specs.declared.disk.Job.{Job}
 use Rattle.lard_disk.specs.Jobs.{is_for, job_at, without_job}
@@ -36,26 +33,22 @@ use Rattle.lard_rules.specs.declared.node.BackIn.{BackIn}
 use Rattle.lard_rules.specs.declared.node.BackIn.TheVariants as input
 use Rattle.lard_rules.specs.declared.node.NodeState.{NodeState}
 use Rattle.lard_rules.specs.declared.node.NodeTurn.{NodeTurn}
-use Rattle.lard_rules.specs.declared.stay.Entry.{Entry}
-use Rattle.lard_rules.specs.declared.stay.Next.{Next}
-use Rattle.lard_rules.specs.declared.stay.Next.TheVariants.{Read, Serve, Stop}
 use Rattle.lard_rules.specs.declared.stay.Progress.{Progress}
-use Rattle.lard_rules.specs.declared.stay.Progress.TheVariants.{Awaited, Named, Reading, Ready}
 use Rattle.lard_rules.specs.declared.stay.Stay.{Stay}
 use Rattle.lard_rules.specs.Node.{NodeDeed, Drops, Does, NodePart, Says, node_begins, both_of, come_by, node_fired_by, gone, node_heard_by, here, is_tag_awaited, node_acknowledged, node_content, node_forwarded, node_offered, node_read, node_tagged, node_timer, offered_by, node_read_by, node_saying, tagged_by, with_work, work_of}
 use Rattle.lard_rules.specs.NodePlace.{NodeSetting, aside, node_brought, completed, content_sent, disk_step, node_epoch_at, fetched, fetched_file, node_deed, node_env, node_gets, node_hears, node_part, node_step}
-use Rattle.lard_rules.specs.Stay.{NodeEnv, Work, asks_for, came_for, come_on, come_progress, entered, enters, enters_first, goes_on, work_left, named_path, named_paths, noted, read_entry, read_progress, reads_batch, reads_these, serves_by, serves_first, started, started_here, started_there, starts_at, starts_named, starts_one, tagged, stay_turn, turned, next_of}
+use Rattle.lard_rules.specs.Stay.{NodeEnv, Work, came_for, come_on, come_progress, goes_on, read_progress, reads_batch, tagged, own_job}
 use Rattle.lard_reader.specs.Batches.{batch_of, bytes_used}
 use Rattle.lard_request.specs.declared.verdict.Verdict.{Verdict}
 use Rattle.lard_resend.specs.Kept.{is_under, without}
 use Rattle.lard_rules.specs.declared.places.Out.{Out}
-use Rattle.lard_rules.specs.Loop.{Step, state_of}
-use Rattle.lard_rules.proofs.Runs.{KeptByTurns, runs_keep}
+use Rattle.lard_rules.specs.Loop.{state_of}
 use Rattle.lard_rules.specs.Outs.{nothing_done}
-use Rattle.lard_rules.specs.Serving.{serving_consumed}
 use Rattle.lard_segment.specs.declared.fault.SegFault.{SegFault}
 use Rattle.lard_segment.specs.declared.segment.Dir.TheVariants.{ToCluster}
 use Rattle.lard_segment.specs.Segment.{Said, decoded}
+use Rattle.lard_rules.proofs.StayWalking.{KeptByReads, KeptByStarts, state-in, tagged-in, these-in}
+use Rattle.lard_rules.proofs.StayKeeping.{turning-keeps}
 
 -- ---- a Tag is for eight requests at most
 
@@ -101,105 +94,50 @@ decoded-few bytes =
 -- ---- what is in hand
 
 module _ (env : NodeEnv) where
-  -- requests that are entered and not started have no job
-  unstarted : (r : ℕ) (vs : List Verdict) (w : Work) → (enters env false r vs w).jobs ≡ w.jobs
-  unfolding enters
-  unstarted r [] w = refl
-  unstarted r (v ∷ vs) w = unstarted (r + 1) vs (entered (read_entry env.serve.files v) w)
+  -- so many jobs at most, and one less where a request is to start
+  abbrev Room : ℕ → Bool → List Job → Type 0
+  Room n true jobs = length jobs + 1 ≤ n
+  Room n false jobs = length jobs ≤ n
 
-  here-one : (r : ℕ) (path : List ℕ) (v : Verdict) (w : Work) → length (started_here env r path v w).jobs ≤ length w.jobs + 1
-  here-one r path v w =
-      let job : Job = record { origin = env.n; c = env.serve.c; epoch = record { 0 = env.epoch }; r = r; path = path } in
-      let hit : Work = record w { service = noted (rec.Hit env.n path ∷ []) w.service } in
-      let queued : Work = record w { service = noted (rec.Queued env.n env.n env.serve.c r path ∷ []) w.service; jobs = w.jobs ++ job ∷ [] } in
-      let more = length-append w.jobs (job ∷ []) in
-      cond_both (env.cached path) (entered (record { verdict = v; progress = Ready via.Cache }) hit) (entered (record { verdict = v; progress = Reading }) queued) (λ (y : Work). length y.jobs ≤ length w.jobs + 1) (λ t. omega arith) (λ t. omega (arith, more))
+  room-few : (n : ℕ) (here : Bool) (jobs : List Job) → Room n here jobs → length jobs ≤ n
+  room-few n true jobs h = omega (arith, h)
+  room-few n false jobs h = h
 
-  started-one : (to r : ℕ) (path : List ℕ) (v : Verdict) (w : Work) → length (started env to r path v w).jobs ≤ length w.jobs + 1
-  started-one to r path v w = cond_both (to == env.n) (started_here env r path v w) (started_there to r path v w) (λ (y : Work). length y.jobs ≤ length w.jobs + 1) (λ t. here-one r path v w) (λ t. omega arith)
+  abbrev Few : ℕ → Work → Type 0
+  Few n w = length w.jobs ≤ n
 
   -- of the requests of a batch one is started at most
-  entered-one : (r : ℕ) (vs : List Verdict) (w : Work) → length (enters env true r vs w).jobs ≤ length w.jobs + 1
-  unfolding enters
-  entered-one r [] w = omega arith
-  entered-one r (v ∷ vs) w = go (good_path env.serve.files v) (entered-one (r + 1) vs (entered (read_entry env.serve.files v) w)) where
-    go : (o : Option (List ℕ)) → length (enters env true (r + 1) vs (entered (read_entry env.serve.files v) w)).jobs ≤ length w.jobs + 1
-        → length (enters env (enters_first env r v w o).0 (r + 1) vs (enters_first env r v w o).1).jobs ≤ length w.jobs + 1
-    go None more = more
-    go (Some path) more =
-        let same : length (enters env false (r + 1) vs (started_here env r path v w)).jobs ≡ length (started_here env r path v w).jobs = ap length (unstarted (r + 1) vs (started_here env r path v w)) in
-        let one = here-one r path v w in
-        omega (arith, same, one)
-
-  asked-same : (size : ℕ) (paths : List (List ℕ)) (w : Work) → (asks_for env size paths w).jobs ≡ w.jobs
-  asked-same size [] w = refl
-  asked-same size (path ∷ paths) w = refl
-
-  these-same : (used : ℕ) (w : Work) (vs : List Verdict) → (state_of (reads_these env false used w vs)).jobs ≡ w.jobs
-  these-same used w [] = refl
-  these-same used w (v ∷ vs) =
-      let x : Work = record w { service = serving_consumed used w.service } in
-      let y : Work = enters env false (w.service.count + 1) (v ∷ vs) x in
-      asked-same (length (v ∷ vs)) (named_paths env.serve.files y.batch) y ∙ unstarted (w.service.count + 1) (v ∷ vs) x
-
-  these-one : (used : ℕ) (w : Work) (vs : List Verdict) → length (state_of (reads_these env true used w vs)).jobs ≤ length w.jobs + 1
-  these-one used w [] = omega arith
-  these-one used w (v ∷ vs) =
-      let x : Work = record w { service = serving_consumed used w.service } in
-      let y : Work = enters env true (w.service.count + 1) (v ∷ vs) x in
-      let same : length (asks_for env (length (v ∷ vs)) (named_paths env.serve.files y.batch) y).jobs ≡ length y.jobs = ap length (asked-same (length (v ∷ vs)) (named_paths env.serve.files y.batch) y) in
-      let one = entered-one (w.service.count + 1) (v ∷ vs) x in
-      omega (arith, same, one)
-
-  -- ---- turn by turn no job is queued
-
-  served-same : (e : Entry) (rest : List Entry) (w : Work) (p : Progress) → (serves_by env e rest w p).jobs ≡ w.jobs
-  served-same e rest w (Ready way) = refl
-  served-same e rest w Named = refl
-  served-same e rest w Reading = refl
-  served-same e rest w (Awaited node) = refl
-
-  first-same : (w : Work) (es : List Entry) → (serves_first env w es).jobs ≡ w.jobs
-  first-same w [] = refl
-  first-same w (e ∷ rest) = served-same e rest w e.progress
-
-  turned-same : (w : Work) (next : Next) → (state_of (turned env w next)).jobs ≡ w.jobs
-  turned-same w Serve = first-same w w.batch
-  turned-same w Read = these-same (bytes_used 8 w.service.block.recv.unread) w (batch_of 8 w.service.block.recv.unread)
-  turned-same w Stop = refl
-
-  abbrev HasJobs : List Job → Work → Type 0
-  HasJobs jobs w = w.jobs ≡ jobs
-
-  turns-same : (jobs : List Job) → KeptByTurns (stay_turn env) work_left (HasJobs jobs)
-  turns-same jobs = record {
-    more = λ x y is same. ap (λ (s : Step Work). (state_of s).jobs) (sym is) ∙ turned-same x (next_of x) ∙ same;
-    done = λ x y is same. ap (λ (s : Step Work). (state_of s).jobs) (sym is) ∙ turned-same x (next_of x) ∙ same;
+  by_reads : (n size : ℕ) → KeptByReads env size (λ here vs w. Room n here w.jobs) (Few n)
+  by_reads n size = record {
+    hits = λ r path v vs w good is t h. omega (arith, h);
+    queues = λ r path v vs w good is f h. let more = length-append w.jobs (own_job env r path ∷ []) in omega (arith, h, more);
+    enters = λ here v vs w only h. h;
+    plain = λ here w none h. room-few n here w.jobs h;
+    asks = λ here path paths w e h. room-few n here w.jobs h;
   }
 
-  goes-same : (w : Work) → (goes_on env w).jobs ≡ w.jobs
-  goes-same w = runs_keep (stay_turn env) work_left (HasJobs w.jobs) (turns-same w.jobs) w refl
+  first-few : (n : ℕ) (w : Work) → w.batch ≡ [] → length w.jobs + 1 ≤ n → Few n (state_of (reads_batch env true w))
+  first-few n w none h =
+      let vs : List Verdict = batch_of 8 w.service.block.recv.unread in
+      state-in (Few n) (reads_batch env true w)
+      (these-in env (λ here vs w. Room n here w.jobs) (Few n) (Few n) true (bytes_used 8 w.service.block.recv.unread) w vs (by_reads n (length vs)) none (λ e. omega (arith, h)) (λ v us e. h))
 
-  -- ---- what a Tag starts
+  -- turn by turn no job is queued
+  goes-few : (n : ℕ) (w : Work) → Few n w → Few n (goes_on env w)
+  goes-few n w few = turning-keeps env (Few n) (record { enters = λ v w h. h; asks = λ size path paths w e h. h; takes = λ used w none h. h; ends = λ w none h. h; serves = λ way e rest w may first is h. h }) w few
 
-  -- how it goes on behind a request, started or not
-  abbrev started_on : List ℕ → ℕ → ℕ → List Entry → Bool × Work → Work
-  started_on nodes at r es x = elim x.0 as (λ b. Work) [ true ↦ starts_at env nodes (at + 1) (r + 1) es x.1 | false ↦ starts_at env nodes at (r + 1) es x.1 ]
+  -- of a Tag each that starts takes one of the nodes that are left
+  by_starts : (n : ℕ) (nodes : List ℕ) → KeptByStarts env nodes (λ at es w. length w.jobs + (length nodes - at) ≤ n)
+  by_starts n nodes = record {
+    stays = λ at r e es w is named h. h;
+    short = λ at r path e es w is named none h. h;
+    hits = λ at node r path e es w is named there t c h. omega (arith, h);
+    queues = λ at node r path e es w is named there t c h. let within = slice_get_within nodes at node there in let more = length-append w.jobs (own_job env r path ∷ []) in omega (arith, h, more, within);
+    wants = λ at node r path e es w is named there f h. omega (arith, h);
+  }
 
-  -- each takes one of the nodes that are left
-  starts-few : (nodes : List ℕ) (at r : ℕ) (es : List Entry) (w : Work) → length (starts_at env nodes at r es w).jobs ≤ length w.jobs + (length nodes - at)
-  unfolding starts_at
-  starts-few nodes at r [] w = omega arith
-  starts-few nodes at r (e ∷ es) w = go (slice_get nodes at) refl (λ y. starts-few nodes (at + 1) (r + 1) es y) (λ y. starts-few nodes at (r + 1) es y) where
-    named : (to : ℕ) → at < length nodes → (o : Option (List ℕ)) → ((y : Work) → length (starts_at env nodes (at + 1) (r + 1) es y).jobs ≤ length y.jobs + (length nodes - (at + 1)))
-        → ((y : Work) → length (starts_at env nodes at (r + 1) es y).jobs ≤ length y.jobs + (length nodes - at)) → length (started_on nodes at r es (starts_named env to r e w o)).jobs ≤ length w.jobs + (length nodes - at)
-    named to within None later same = same (entered e w)
-    named to within (Some path) later same = let one = started-one to r path e.verdict w in let more = later (started env to r path e.verdict w) in omega (arith, one, more, within)
-
-    go : (o : Option ℕ) → slice_get nodes at ≡ o → ((y : Work) → length (starts_at env nodes (at + 1) (r + 1) es y).jobs ≤ length y.jobs + (length nodes - (at + 1)))
-        → ((y : Work) → length (starts_at env nodes at (r + 1) es y).jobs ≤ length y.jobs + (length nodes - at)) → length (started_on nodes at r es (starts_one env o r e w)).jobs ≤ length w.jobs + (length nodes - at)
-    go None is later same = same (entered e w)
-    go (Some to) is later same = named to (slice_get_within nodes at to is) (named_path env.serve.files e) later same
+  starts-few : (n : ℕ) (nodes : List ℕ) (w : Work) → length w.jobs + length nodes ≤ n → Few n (tagged env nodes w)
+  starts-few n nodes w few = let all = (tagged-in env nodes (λ at es w. length w.jobs + (length nodes - at) ≤ n) (by_starts n nodes) w (omega (arith, few))).1 in omega (arith, all)
 
   -- ---- the rules
 
@@ -216,7 +154,7 @@ module _ (env : NodeEnv) where
 
   -- what is in hand goes on, with so few jobs
   on-few : (w : Work) → length w.jobs ≤ 8 → length (goes_on env w).jobs ≤ 8
-  on-few w few = let same : length (goes_on env w).jobs ≡ length w.jobs = ap length (goes-same w) in omega (arith, same, few)
+  on-few w few = goes-few 8 w few
 
   came-same : (f : Progress → Progress) (r : ℕ) (w : Work) → (came_for f r w).jobs ≡ w.jobs
   came-same f r w = cond_both (nat_lt w.service.count r) (record w { batch = come_on f (r - (w.service.count + 1)) w.batch }) w (λ (y : Work). y.jobs ≡ w.jobs) (λ t. refl) (λ t. refl)
@@ -233,9 +171,8 @@ module _ (env : NodeEnv) where
   tagged-few number nodes p None few = tt
   tagged-few number nodes p (Some x) few =
       let w : Work = work_of x.0 x.1 in
-      let all = starts-few nodes 0 (w.service.count + 1) w.batch (record w { batch = [] }) in
       let q : NodePart = record p { kept = without kind.Ask 0 p.kept } in
-      if-few (is_tag_awaited env number nodes p x.1) (with_work env q [] (goes_on env (tagged env nodes w))) (on-few (tagged env nodes w) (omega (arith, all, few)))
+      if-few (is_tag_awaited env number nodes p x.1) (with_work env q [] (goes_on env (tagged env nodes w))) (on-few (tagged env nodes w) (starts-few 8 nodes w (omega (arith, few))))
 
   come-few : (from r : ℕ) (p : NodePart) (x : Option (ControlBlock × Stay)) → QueuesFew (come_by env from r p x)
   come-few from r p None = tt
@@ -249,10 +186,7 @@ module _ (env : NodeEnv) where
   read-few r p (Some x) = came-few read_progress r (work_of x.0 x.1) (omega arith)
 
   offered-few : (parts : EndpointParts) (p : NodePart) (a : Adopt) → QueuesFew (offered_by env parts p a)
-  offered-few parts p New =
-      let w : Work = node_begins env parts in
-      let one = these-one (bytes_used 8 w.service.block.recv.unread) w (batch_of 8 w.service.block.recv.unread) in
-      on-few (state_of (reads_batch env true w)) (omega (arith, one))
+  offered-few parts p New = on-few (state_of (reads_batch env true (node_begins env parts))) (first-few 8 (node_begins env parts) refl (omega arith))
   offered-few parts p Again = tt
   offered-few parts p Stale = tt
 

@@ -81,12 +81,12 @@ module _ (env : NodeEnv) (x : Conn) (n u : ℕ) (past : SizeMarks) (w out : Stre
       let may : MayGo w so.vs_now [] k.service = go-on env.serve w out vs k.service [] so refl refl refl in
       let v : Work = state_of (reads_batch env true k) in
       let works : Works env w out vs v = first-so env w out vs true k so may refl in
-      let right : Right env w out vs v = batch-right env true k tt in
+      let right : Right env w out vs v = batch-right env true k refl tt in
       let us : List Verdict = take 7 begins_with.others in
       let is : batch_of 8 b.recv.unread ≡ begins_with.first ∷ us = ap (take 8) begins_with.are in
       let before : good_paths fs so.vs_now ≡ [] = ap (good_paths fs) (sym (gone-all env w out vs u k so may (begins_with.first ∷ us) is)) ∙ answered in
       let fits : Fits env w out vs u v = first-fits env w out vs u k so may refl refl refl begins_with.first us path is begins_with.good before upto in
-      let quiet : IsQuiet past.told v.service.block = wider-quiet past.told k.service.block v.service.block (batch-state env true k) (λ calm. inl refl) in
+      let quiet : IsQuiet past.told v.service.block = wider-quiet past.told k.service.block v.service.block (batch-state env true k refl) (λ calm. inl refl) in
       goes-on-fits env x n u past w out vs talk num numbers isn wrote counted p (taken_sent env) taken-says v works right fits quiet (goes-so env w out vs talk.most v works right)
 
   pub again-fit : DeedFits fs env.serve.c x n u past (Says (taken_sent env))

@@ -1,5 +1,5 @@
 -- What an Ask says of its batch, while the turns of a stay go on.
-use Rattle.std.proofs.Common.{◌≡◌, ◌≢◌, ◌⊎◌, ◌≤◌, ◌<◌, ◌+◌, ◌-◌, ◌^◌, ℕ, zero, suc, Bool, true, false, cond, nat_lt, List, [], ◌∷◌, ◌++◌, map, length, min, take, drop, ◌*◌, Option, Some, None, inl, inr, ⊎_elim, refl, sym, ap, ◌∙◌, subst, arith, append_assoc, append-nil}
+use Rattle.std.proofs.Common.{◌≡◌, ◌≢◌, ◌⊎◌, ◌≤◌, ◌<◌, ◌+◌, ◌-◌, ◌^◌, ℕ, zero, suc, true, false, nat_lt, List, [], ◌∷◌, ◌++◌, map, length, min, take, drop, ◌*◌, Option, Some, None, inl, inr, ⊎_elim, refl, sym, ap, ◌∙◌, subst, arith, append_assoc, append-nil}
 use Rattle.std.proofs.Math.Seq.{drop-append_seam, take-append_seam}
 use Rattle.std.proofs.lemmas.Bool.{and_parts, cond_both, not-true}
 use Rattle.std.proofs.lemmas.List.{length-append, length-take}
@@ -10,30 +10,26 @@ use Rattle.lard_base.specs.declared.place.Via.{Via}
 use Rattle.lard_block.specs.Blocks.{blocks}
 use Rattle.lard_law_connections.proofs.BytesReading.{batch-read, read-alone}
 use Rattle.lard_law_connections.proofs.BytesServing.{MayGo, So, may-go}
-use Rattle.lard_law_connections.proofs.BytesWorking.{Right, StepsSo, Works, turn-so, verdicts_of}
-use Rattle.lard_law_connections.proofs.BytesWays.{StepsRight, turn-right}
+use Rattle.lard_law_connections.proofs.BytesWorking.{Right, Works, verdicts_of, going_so}
 use Rattle.lard_laws.specs.Sizes.{batch_behind, to_assign}
 use Rattle.lard_laws.specs.Ways.{good_paths}
 use Rattle.lard_laws.proofs.WaysEntering.{Begun, Enters, begun-none, enters-both, here-begins, read-enter}
 use Rattle.lard_laws.proofs.WaysGoods.{good-append, prefix-take}
 use Rattle.lard_laws.proofs.WaysLying.{named-append}
-use Rattle.lard_rules.proofs.StayFalling.{none-left}
 use Rattle.lard_endpoint.specs.Control.{ControlBlock, discarding_on, finishing, queueing}
 use Rattle.lard_law_view.proofs.ReadingBytes.{IsJudged, place, read-came}
 use Rattle.lard_rules.specs.declared.stay.Asked.{Asked}
 use Rattle.lard_rules.specs.declared.stay.Entry.{Entry}
-use Rattle.lard_rules.specs.declared.stay.Next.{Next}
-use Rattle.lard_rules.specs.declared.stay.Next.TheVariants as next
 use Rattle.lard_rules.specs.declared.stay.Progress.{Progress}
 use Rattle.lard_rules.specs.declared.stay.Progress.TheVariants as progress
-use Rattle.lard_rules.specs.Stay.{NodeEnv, Work, and_path, asks_for, enters, enters_first, goes_on, work_left, left_by, named_path, named_paths, next_in, path_in, progress_of, read_entry, reads_batch, reads_these, serves_by, serves_first, serves_with, started_here, stay_turn, turned}
+use Rattle.lard_rules.specs.Stay.{NodeEnv, Work, and_path, asks_for, enters, enters_first, goes_on, left_by, named_path, named_paths, path_in, progress_of, read_entry, reads_batch, reads_these, serves_with, started_here}
 use Rattle.lard_reader.specs.Batches.{batch_of, bytes_used}
 use Rattle.lard_request.specs.declared.verdict.Verdict.{Verdict}
 use Rattle.lard_request.specs.Verdict.{closes}
-use Rattle.lard_rules.specs.Loop.{Step, More, Done, state_of}
-use Rattle.lard_rules.specs.Serving.{Service, closed_behind, serving_consumed, ended_at_fin, may_read, passed_over, queued}
-use Rattle.lard_rules.proofs.Runs.{runs_keep}
+use Rattle.lard_rules.specs.Loop.{state_of}
+use Rattle.lard_rules.specs.Serving.{Service, closed_behind, serving_consumed, ended_at_fin, may_read, passed_over, queued, answered}
 use Rattle.lard_law_view.specs.Truth.{Stream}
+use Rattle.lard_rules.proofs.StayWalking.{StepIn, both-going, goes-in}
 
 -- ---- paths of good requests
 
@@ -140,10 +136,6 @@ module _ (env : NodeEnv) (w out : Stream) (vs : List Verdict) (u : ℕ) where
     pub good : HasGood (k.service.count + length k.batch)
     pub reach : Reach u k.service.count (k.service.count + length k.batch) (length (whole k.service.block.recv.got))
     pub asked : AskSo k k.asked
-
-  abbrev StepFits : Step Work → Type 0
-  StepFits (More k) = Fits k
-  StepFits (Done k) = Fits k
 
   good-more : (n m : ℕ) → n ≤ m → HasGood n → HasGood m
   good-more n m le h e = h (none-fewer files n m (verdicts w.bytes) le e)
@@ -253,7 +245,7 @@ module _ (env : NodeEnv) (w out : Stream) (vs : List Verdict) (u : ℕ) where
   may-calm s may = not-true s.block.reset (and_parts _ _ may).0
 
   these-fit : (k : Work) → k.batch ≡ [] → may_read k.service ≡ true → Works env w out vs k → Fits k → (us : List Verdict) → batch_of 8 k.service.block.recv.unread ≡ us
-      → StepFits (reads_these env false (bytes_used 8 k.service.block.recv.unread) k us)
+      → StepIn Fits Fits (reads_these env false (bytes_used 8 k.service.block.recv.unread) k us)
   these-fit k none may works fits [] is =
       let s : Service = serving_consumed (bytes_used 8 k.service.block.recv.unread) k.service in
       let quiet : k.asked ≡ None = none-asked k k.asked refl none fits.asked in
@@ -380,37 +372,22 @@ module _ (env : NodeEnv) (w out : Stream) (vs : List Verdict) (u : ℕ) where
         (λ (a : (Some total ≡ None) × (s.count ≡ k.service.count + 1)). absurd (let no : Some total ≡ None = a.0 in cc))
         (λ (a : (Some total ≢ None) × (s.count ≡ k.service.count)). let same = a.1 in fit (e ∷ rest) (λ i. same i + length (sym is i)) (omega (arith, same)) (ap (named_paths files) (sym is))) c
 
-  serves-fit : (k : Work) (e : Entry) (rest : List Entry) (p : Progress) → k.batch ≡ e ∷ rest → e.progress ≡ p → Fits k → Fits (serves_by env e rest k p)
-  serves-fit k e rest (progress.Ready way) is at fits =
+  serves-fit : (way : Via) (e : Entry) (rest : List Entry) (k : Work) → k.batch ≡ e ∷ rest → e.progress ≡ progress.Ready way → Fits k → Fits (serves_with (answered env.serve way e.verdict k.service) e rest k)
+  serves-fit way e rest k is at fits =
       let bytes : List ℕ = answer files e.verdict in
       let total : ℕ = k.service.block.send.total + length bytes in
       cond_both (nat_lt env.serve.stream total) (passed_over env.serve total k.service) (queued env.serve way e.verdict bytes k.service) (λ (s : Service). Fits (serves_with s e rest k))
       (λ t. served-fits k (passed_over env.serve total k.service) e rest way is at refl refl (inr ((λ f. let no : Some total ≡ None = f in absurd cc), refl)) fits)
       (λ t. served-fits k (queued env.serve way e.verdict bytes k.service) e rest way is at (got-closed e.verdict (queueing k.service.block bytes)) (reset-closed e.verdict (queueing k.service.block bytes)) (inl (refl, refl)) fits)
-  serves-fit k e rest _ is at fits = fits
-
-  first-served : (k : Work) (es : List Entry) → k.batch ≡ es → Fits k → Fits (serves_first env k es)
-  first-served k [] is fits = fits
-  first-served k (e ∷ rest) is fits = serves-fit k e rest e.progress is refl fits
 
   -- ---- turn by turn
 
-  turned-fits : (k : Work) → may_read k.service ≡ true → Works env w out vs k → Fits k → (n : Next) → next_in k.batch ≡ n → StepFits (turned env k n)
-  turned-fits k may works fits next.Serve e = first-served k k.batch refl fits
-  turned-fits k may works fits next.Read e = these-fit k (none-left k.batch e) may works fits (batch_of 8 k.service.block.recv.unread) refl
-  turned-fits k may works fits next.Stop e = fits
-
-  turn-fits : (k : Work) → Works env w out vs k → Fits k → StepFits (stay_turn env k)
-  turn-fits k works fits = go (may_read k.service) refl where
-    go : (b : Bool) → may_read k.service ≡ b → StepFits (turned env k (cond b (next_in k.batch) next.Stop))
-    go true may = turned-fits k may works fits (next_in k.batch) refl
-    go false may = fits
-
-  abbrev All : Work → Type 0
-  All k = Works env w out vs k × Right env w out vs k × Fits k
+  -- it agrees, and each request of the batch is answered as it may be
+  abbrev Agrees : Work → Type 0
+  Agrees k = Right env w out vs k × Works env w out vs k
 
   pub goes-fit : env.serve.stream ≤ 2 ^ 30 → (k : Work) → Works env w out vs k → Right env w out vs k → Fits k → Fits (goes_on env k)
-  goes-fit most k works right fits = (runs_keep (stay_turn env) work_left All (record {
-    more = λ y z e p. (subst (StepsSo env w out vs) e (turn-so env w out vs most y p.0 p.1), subst (StepsRight env) e (turn-right env y p.1), subst StepFits e (turn-fits y p.0 p.2));
-    done = λ y z e p. (subst (StepsSo env w out vs) e (turn-so env w out vs most y p.0 p.1), subst (StepsRight env) e (turn-right env y p.1), subst StepFits e (turn-fits y p.0 p.2));
-  }) k (works, right, fits)).2
+  goes-fit most k works right fits = (goes-in env (λ k. Agrees k × Fits k) (λ k. Agrees k × Fits k) (both-going env Agrees Fits (going_so env w out vs most) (record {
+    reads = λ k none may agrees fits steps. these-fit k none may agrees.1 fits (batch_of 8 k.service.block.recv.unread) refl;
+    serves = λ way e rest k may first is agrees fits. serves-fit way e rest k first is fits;
+  })) k ((right, works), fits)).1

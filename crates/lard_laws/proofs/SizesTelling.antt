@@ -1,5 +1,5 @@
 -- What the client of a connection is told in a turn of its node: the last segment acknowledges all that came.
-use Rattle.std.proofs.Common.{◌≡◌, ◌⊎◌, ◌≤◌, ◌+◌, ℕ, Bool, true, false, nat_lt, List, [], ◌∷◌, ◌++◌, length, Option, Some, None, inl, inr, ⊎_elim, refl, sym, ap, ◌∙◌, subst, arith}
+use Rattle.std.proofs.Common.{◌≡◌, ◌⊎◌, ◌≤◌, ◌+◌, ℕ, Bool, true, false, nat_lt, List, [], ◌∷◌, ◌++◌, length, Option, Some, None, inl, inr, ⊎_elim, refl, sym, ap, ◌∙◌, arith}
 use Rattle.std.proofs.lemmas.Bool.{cond_both}
 use Rattle.std.proofs.lemmas.List.{length-drop}
 use Rattle.lard_answers.specs.Answers.{answer}
@@ -10,34 +10,27 @@ use Rattle.lard_law_connections.specs.Line.{said_of}
 use Rattle.lard_law_connections.proofs.LineHearing.{Hears, is_reset, segment-hears}
 use Rattle.lard_law_connections.proofs.LineHolding.{EndsHeld, IsReady, held-ends, ready-quiet, settled-ends}
 use Rattle.lard_law_connections.proofs.LineSpeaking.{HasSpoken, IsSound, IsTold, heard_by, speaks-spoken, timer-spoken, told-on}
-use Rattle.lard_laws.proofs.SizesEntering.{enters-grow}
 use Rattle.lard_endpoint.specs.Arriving.{on_segment}
 use Rattle.lard_endpoint.specs.Control.{ControlBlock, consuming, discarding_on, finishing, queueing, rcv_nxt, rcv_wnd}
 use Rattle.lard_endpoint.specs.Leaving.{after_timer, emits_left, timed}
 use Rattle.lard_endpoint.specs.Moving.{end_reason, final_of, may_end}
 use Rattle.lard_law_view.proofs.EndpointStreams.{IsBetween, between-sound}
 use Rattle.lard_law_view.proofs.EndpointSpeaking.{Spoke, emits-spoke, emits_symbols-spoke}
-use Rattle.lard_rules.specs.declared.stay.Entry.{Entry}
-use Rattle.lard_rules.specs.declared.stay.Next.{Next}
-use Rattle.lard_rules.specs.declared.stay.Next.TheVariants as next
-use Rattle.lard_rules.specs.declared.stay.Progress.{Progress}
-use Rattle.lard_rules.specs.declared.stay.Progress.TheVariants as progress
-use Rattle.lard_rules.specs.Stay.{NodeEnv, Work, asks_for, enters, goes_on, work_left, named_paths, next_of, reads_batch, reads_these, serves_by, serves_first, stay_turn, turned}
-use Rattle.lard_reader.specs.Batches.{batch_of, bytes_used}
+use Rattle.lard_rules.specs.Stay.{NodeEnv, Work, goes_on, reads_batch}
 use Rattle.lard_recv.specs.Recv.{awaited, receive_room}
 use Rattle.lard_request.specs.declared.verdict.Verdict.{Verdict}
 use Rattle.lard_request.specs.Verdict.{closes}
 use Rattle.lard_rules.specs.declared.places.Ending.{Ending}
 use Rattle.lard_rules.specs.declared.places.Ending.TheVariants as ending
 use Rattle.lard_rules.specs.declared.places.Turn.{Turn}
-use Rattle.lard_rules.specs.Loop.{Step, More, Done, state_of}
-use Rattle.lard_rules.specs.Serving.{ServeEnv, Service, answered, closed_behind, serving_consumed, cut_off, ended_at_fin, limit_said, passed_over, queued, serving_ready_of, serving, serving_settled, spoken, serving_told}
+use Rattle.lard_rules.specs.Loop.{state_of}
+use Rattle.lard_rules.specs.Serving.{ServeEnv, Service, answered, closed_behind, cut_off, ended_at_fin, limit_said, passed_over, queued, serving_ready_of, serving, serving_settled, spoken, serving_told}
 use Rattle.lard_rules.specs.Speaking.{speaks, speaks_symbols}
-use Rattle.lard_rules.proofs.Runs.{runs_keep}
 use Rattle.lard_segment.specs.declared.segment.Dir.TheVariants.{ToClient}
 use Rattle.lard_segment.specs.Segment.{Said, decoded}
 use Rattle.lard_segment.proofs.Again.{again}
 use Rattle.lard_law_view.specs.Truth.{Stream}
+use Rattle.lard_rules.proofs.StayKeeping.{KeptByStay, batch-keeps, goes-keep}
 
 -- ---- what answering leaves of an endpoint
 
@@ -91,13 +84,6 @@ module _ (env : NodeEnv) where
   abbrev Wider : Work → Work → Type 0
   Wider k u = IsWider k.service.block u.service.block
 
-  same-wider : (k u : Work) → u.service.block ≡ k.service.block → Wider k u
-  same-wider k u e = subst (IsWider k.service.block) (sym e) (wider-same k.service.block)
-
-  abbrev StepWider : Work → Step Work → Type 0
-  StepWider k (More u) = Wider k u
-  StepWider k (Done u) = Wider k u
-
   answered-wider : (s : ServeEnv) (way : Via) (v : Verdict) (w : Service) → IsWider w.block (answered s way v w).block
   answered-wider s way v w =
       let bytes : List ℕ = answer s.files v in
@@ -106,56 +92,30 @@ module _ (env : NodeEnv) where
       (λ t. wider-same w.block)
       (λ t. wider-then w.block (queueing w.block bytes) (closed_behind v (queueing w.block bytes)) (sending-wider w.block (queueing w.block bytes) refl refl refl refl) (closed-wider v (queueing w.block bytes)))
 
-  serves-wider : (k : Work) (e : Entry) (rest : List Entry) (p : Progress) → Wider k (serves_by env e rest k p)
-  serves-wider k e rest (progress.Ready way) = answered-wider env.serve way e.verdict k.service
-  serves-wider k e rest _ = wider-same k.service.block
-
-  first-wider : (k : Work) (es : List Entry) → Wider k (serves_first env k es)
-  first-wider k [] = wider-same k.service.block
-  first-wider k (e ∷ rest) = serves-wider k e rest e.progress
-
   fin-wider : (w : Service) → IsWider w.block (ended_at_fin w).block
   fin-wider w = cond_both w.block.recv.fin (record w { block = finishing w.block }) w (λ (t : Service). IsWider w.block t.block) (λ t. sending-wider w.block (finishing w.block) refl refl refl refl) (λ t. wider-same w.block)
 
-  asks-wider : (size : ℕ) (paths : List (List ℕ)) (k : Work) → Wider k (asks_for env size paths k)
-  asks-wider size [] k = wider-same k.service.block
-  asks-wider size (path ∷ paths) k = wider-same k.service.block
+  -- more behind that
+  on-wider : (k y : Work) (d : ControlBlock) → Wider k y → IsWider y.service.block d → IsWider k.service.block d
+  on-wider k y d g h = wider-then k.service.block y.service.block d g h
 
-  these-wider : (here : Bool) (used : ℕ) (k : Work) (us : List Verdict) → StepWider k (reads_these env here used k us)
-  these-wider here used k [] = wider-then k.service.block (consuming k.service.block used) (ended_at_fin (serving_consumed used k.service)).block (consuming-wider k.service.block used) (fin-wider (serving_consumed used k.service))
-  these-wider here used k (v ∷ us) =
-      let start : Work = record k { service = serving_consumed used k.service } in
-      let all : Work = enters env here (k.service.count + 1) (v ∷ us) start in
-      let asked : Work = asks_for env (length (v ∷ us)) (named_paths env.serve.files all.batch) all in
-      wider-then k.service.block (consuming k.service.block used) asked.service.block (consuming-wider k.service.block used)
-      (wider-then (consuming k.service.block used) all.service.block asked.service.block (same-wider start all (enters-grow env here (k.service.count + 1) (v ∷ us) start).block) (asks-wider (length (v ∷ us)) (named_paths env.serve.files all.batch) all))
+  by_wider : (k : Work) → KeptByStay env (Wider k)
+  by_wider k = record {
+    hits = λ r path v w good is t h. h;
+    queues = λ r path v w good is f h. h;
+    wants = λ node r path v w good is f h. h;
+    enters = λ v w h. h;
+    asks = λ size path paths w e h. h;
+    takes = λ used w none h. on-wider k w (consuming w.service.block used) h (consuming-wider w.service.block used);
+    ends = λ w none h. on-wider k w (ended_at_fin w.service).block h (fin-wider w.service);
+    serves = λ way e rest w may first is h. on-wider k w (answered env.serve way e.verdict w.service).block h (answered-wider env.serve way e.verdict w.service);
+  }
 
-  batch-wider : (here : Bool) (k : Work) → StepWider k (reads_batch env here k)
-  batch-wider here k = these-wider here (bytes_used 8 k.service.block.recv.unread) k (batch_of 8 k.service.block.recv.unread)
-
-  state-wider : (k : Work) (s : Step Work) → StepWider k s → Wider k (state_of s)
-  state-wider k (More u) h = h
-  state-wider k (Done u) h = h
-
-  pub batch-state : (here : Bool) (k : Work) → Wider k (state_of (reads_batch env here k))
-  batch-state here k = state-wider k (reads_batch env here k) (batch-wider here k)
-
-  turn-wider : (k : Work) → StepWider k (stay_turn env k)
-  turn-wider k = go (next_of k) where
-    go : (n : Next) → StepWider k (turned env k n)
-    go next.Serve = first-wider k k.batch
-    go next.Read = batch-wider false k
-    go next.Stop = wider-same k.service.block
-
-  step-then : (k y : Work) (s : Step Work) → Wider k y → StepWider y s → StepWider k s
-  step-then k y (More u) g h = wider-then k.service.block y.service.block u.service.block g h
-  step-then k y (Done u) g h = wider-then k.service.block y.service.block u.service.block g h
+  pub batch-state : (here : Bool) (k : Work) → k.batch ≡ [] → Wider k (state_of (reads_batch env here k))
+  batch-state here k none = batch-keeps env (Wider k) (by_wider k) here k none (wider-same k.service.block)
 
   pub goes-wider : (k : Work) → Wider k (goes_on env k)
-  goes-wider k = runs_keep (stay_turn env) work_left (Wider k) (record {
-    more = λ y z e p. subst (StepWider k) e (step-then k y (stay_turn env y) p (turn-wider y));
-    done = λ y z e p. subst (StepWider k) e (step-then k y (stay_turn env y) p (turn-wider y));
-  }) k (wider-same k.service.block)
+  goes-wider k = goes-keep env (Wider k) (by_wider k) k (wider-same k.service.block)
 
 -- ---- the end of a turn
 

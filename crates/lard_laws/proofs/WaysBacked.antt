@@ -237,7 +237,7 @@ module _ (env : NodeEnv) (past : List Seen) where
       go : (a : Adopt) → IsThere (offered_by env parts p a)
       go New =
           let w : Work = state_of (reads_batch env true (node_begins env parts)) in
-          let all : GoesBacked B Taking more (goes_on env w) = goes-backed B Taking more env (λ r. tt) (λ r. tt) w (read-backed B Taking more env (λ r. tt) (λ r. tt) true (node_begins env parts) (record { batch = tt; notes = ((tt, tt), inl refl) })) in
+          let all : GoesBacked B Taking more (goes_on env w) = goes-backed B Taking more env (λ r. tt) (λ r. tt) w (read-backed B Taking more env (λ r. tt) (λ r. tt) true (node_begins env parts) refl (record { batch = tt; notes = ((tt, tt), inl refl) })) in
           let s : Service = (goes_on env w).service in
           let same = (settled-is env.serve s).notes in
           ends-there p (taken_sent env) (goes_on env w) (serving_settled env.serve s) (settled-served env.serve s) same all.batch all.notes.0 (λ later k. k env.epoch (subst Taking (sym same) all.notes.1))

@@ -1,7 +1,6 @@
 -- While a stay goes on, each request of its batch that is ready has what its way needs, and so has each that is served.
-use Rattle.std.proofs.Common.{◌≡◌, ◌<◌, ◌+◌, ◌-◌, ◌==◌, nat_lt, ℕ, zero, suc, Bool, true, false, List, [], ◌∷◌, ◌++◌, length, slice_get, Option, Some, None, refl, sym, subst, arith}
+use Rattle.std.proofs.Common.{◌≡◌, ◌<◌, ◌+◌, ◌-◌, nat_lt, ℕ, zero, suc, Bool, List, [], ◌∷◌, ◌++◌, length, Option, Some, None, refl, sym, subst, arith}
 use Rattle.std.proofs.lemmas.Bool.{cond_both, ltb-true}
-use Rattle.std.proofs.lemmas.List.{length_push}
 use Rattle.lard_answers.specs.Answers.{FilesAt, answer, good_path}
 use Rattle.lard_base.specs.declared.place.Via.{Via}
 use Rattle.lard_base.specs.declared.place.Via.TheVariants as via
@@ -10,16 +9,13 @@ use Rattle.lard_history.proofs.Each.{Each, Each-append}
 use Rattle.lard_journal.specs.declared.rec.Rec.{Rec}
 use Rattle.lard_journal.specs.declared.rec.Rec.TheVariants as rec
 use Rattle.lard_rules.specs.declared.stay.Entry.{Entry}
-use Rattle.lard_rules.specs.declared.stay.Next.{Next}
-use Rattle.lard_rules.specs.declared.stay.Next.TheVariants as next
 use Rattle.lard_rules.specs.declared.stay.Progress.{Progress}
 use Rattle.lard_rules.specs.declared.stay.Progress.TheVariants as progress
-use Rattle.lard_rules.specs.Stay.{NodeEnv, Work, asks_for, came_for, come_on, entered, enters, enters_first, enters_one, goes_on, work_left, named_path, named_paths, next_of, progress_of, read_entry, reads_batch, reads_these, serves_by, serves_first, serves_with, started, started_here, started_there, starts_at, starts_named, starts_one, tagged, stay_turn, turned}
-use Rattle.lard_reader.specs.Batches.{batch_of, bytes_used}
+use Rattle.lard_rules.specs.Stay.{NodeEnv, Work, came_for, come_on, entered, goes_on, progress_of, read_entry, reads_batch, serves_with, tagged}
 use Rattle.lard_request.specs.declared.verdict.Verdict.{Verdict}
-use Rattle.lard_rules.specs.Loop.{Step, More, Done, state_of}
-use Rattle.lard_rules.specs.Serving.{Service, serving_consumed, passed_over, queued}
-use Rattle.lard_rules.proofs.Runs.{runs_keep}
+use Rattle.lard_rules.specs.Loop.{state_of}
+use Rattle.lard_rules.specs.Serving.{Service, passed_over, queued, answered, ended_at_fin}
+use Rattle.lard_rules.proofs.StayKeeping.{KeptByStay, batch-keeps, goes-keep, tagged-keeps, EachFrom}
 
 -- B is so of a request and its way
 module _ (B : ℕ → Via → Type 0) where
@@ -88,127 +84,44 @@ module _ (B : ℕ → Via → Type 0) where
         go None = owned i
         go (Some path) = tt
 
-      here-backed : (r : ℕ) (path : List ℕ) (v : Verdict) (w : Work) → GoesBacked w → GoesBacked (started_here env r path v w)
-      here-backed r path v w h = cond_both (env.cached path) _ _ GoesBacked
-          (λ t. record { batch = pushed-any (w.service.count + 1) w.batch (record { verdict = v; progress = progress.Ready via.Cache }) h.batch cached; notes = noted-more w.service.notes (rec.Hit env.n path) h.notes tt })
-          (λ t. record { batch = pushed-any (w.service.count + 1) w.batch (record { verdict = v; progress = progress.Reading }) h.batch (λ i. tt); notes = noted-more w.service.notes (rec.Queued env.n env.n env.serve.c r path) h.notes tt })
-
-      started-backed : (node r : ℕ) (path : List ℕ) (v : Verdict) (w : Work) → GoesBacked w → GoesBacked (started env node r path v w)
-      started-backed node r path v w h = cond_both (node == env.n) (started_here env r path v w) (started_there node r path v w) GoesBacked (λ t. here-backed r path v w h)
-          (λ t. record { batch = pushed-any (w.service.count + 1) w.batch (record { verdict = v; progress = progress.Awaited node }) h.batch (λ i. tt); notes = h.notes })
-
-      first-backed : (r : ℕ) (v : Verdict) (w : Work) (o : Option (List ℕ)) → GoesBacked w → GoesBacked (enters_first env r v w o).1
-      first-backed r v w None h = enter (read_entry files v) w h (read-by v)
-      first-backed r v w (Some path) h = here-backed r path v w h
-
-      one-backed : (here : Bool) (r : ℕ) (v : Verdict) (w : Work) → GoesBacked w → GoesBacked (enters_one env here r v w).1
-      one-backed false r v w h = enter (read_entry files v) w h (read-by v)
-      one-backed true r v w h = first-backed r v w (good_path files v) h
-
-      enters-backed : (here : Bool) (r : ℕ) (vs : List Verdict) (w : Work) → GoesBacked w → GoesBacked (enters env here r vs w)
-      unfolding enters
-      enters-backed here r [] w h = h
-      enters-backed here r (v ∷ vs) w h = enters-backed (enters_one env here r v w).0 (r + 1) vs (enters_one env here r v w).1 (one-backed here r v w h)
-
-      asks-backed : (size : ℕ) (paths : List (List ℕ)) (w : Work) → GoesBacked w → GoesBacked (asks_for env size paths w)
-      asks-backed size [] w h = h
-      asks-backed size (path ∷ paths) w h = record { batch = h.batch; notes = h.notes }
-
-      abbrev StepBacked : Step Work → Type 0
-      StepBacked (More w) = GoesBacked w
-      StepBacked (Done w) = GoesBacked w
-
-      these-backed : (here : Bool) (used : ℕ) (w : Work) (vs : List Verdict) → GoesBacked w → StepBacked (reads_these env here used w vs)
-      these-backed here used w [] h = cond_both (serving_consumed used w.service).block.recv.fin (record (serving_consumed used w.service) { block = finishing (serving_consumed used w.service).block }) (serving_consumed used w.service) (λ (s : Service). GoesBacked (record w { service = s }))
-          (λ t. record { batch = h.batch; notes = h.notes }) (λ t. record { batch = h.batch; notes = h.notes })
-      these-backed here used w (v ∷ vs) h =
-          let rest : Work = record w { service = serving_consumed used w.service } in
-          let all : Work = enters env here (w.service.count + 1) (v ∷ vs) rest in
-          asks-backed (length (v ∷ vs)) (named_paths files all.batch) all (enters-backed here (w.service.count + 1) (v ∷ vs) rest (record { batch = h.batch; notes = h.notes }))
-
-      batch-backed : (here : Bool) (w : Work) → GoesBacked w → StepBacked (reads_batch env here w)
-      batch-backed here w h = these-backed here (bytes_used 8 w.service.block.recv.unread) w (batch_of 8 w.service.block.recv.unread) h
-
-      state-backed : (s : Step Work) → StepBacked s → GoesBacked (state_of s)
-      state-backed (More w) h = h
-      state-backed (Done w) h = h
-
-      pub read-backed : (here : Bool) (w : Work) → GoesBacked w → GoesBacked (state_of (reads_batch env here w))
-      read-backed here w h = state-backed (reads_batch env here w) (batch-backed here w h)
-
-      -- ---- turn by turn
-
-      serves-by : (e : Entry) (rest : List Entry) (w : Work) (p : Progress) → e.progress ≡ p → GoesBacked w → AreBacked (w.service.count + 1) (e ∷ rest) → GoesBacked (serves_by env e rest w p)
-      serves-by e rest w (progress.Ready way) at same h =
+      served-backed : (way : Via) (e : Entry) (rest : List Entry) (w : Work) → AreNoted w.service.notes → AreBacked (w.service.count + 1) (e ∷ rest) → B (w.service.count + 1) way → GoesBacked (serves_with (answered env.serve way e.verdict w.service) e rest w)
+      served-backed way e rest w noted h by =
           let bytes = answer files e.verdict in
           let total = w.service.block.send.total + length bytes in
           cond_both (nat_lt env.serve.stream total) (passed_over env.serve total w.service) (queued env.serve way e.verdict bytes w.service) (λ (s : Service). GoesBacked (serves_with s e rest w))
-          (λ t. record { batch = h; notes = noted-more w.service.notes (rec.Reset env.serve.place env.serve.c total) same.notes tt })
-          (λ t. record { batch = h.1; notes = noted-more w.service.notes (rec.Served env.serve.place env.serve.c (w.service.count + 1) _ (length bytes) way) same.notes (subst (IsBacked (w.service.count + 1)) at h.0) })
-      serves-by e rest w _ at same h = same
+          (λ t. record { batch = h; notes = noted-more w.service.notes (rec.Reset env.serve.place env.serve.c total) noted tt })
+          (λ t. record { batch = h.1; notes = noted-more w.service.notes (rec.Served env.serve.place env.serve.c (w.service.count + 1) _ (length bytes) way) noted by })
 
-      serves-backed : (w : Work) (es : List Entry) → GoesBacked w → AreBacked (w.service.count + 1) es → GoesBacked (serves_first env w es)
-      serves-backed w [] same h = same
-      serves-backed w (e ∷ rest) same h = serves-by e rest w e.progress refl same h
+      ended-backed : (w : Work) → GoesBacked w → GoesBacked (record w { service = ended_at_fin w.service })
+      ended-backed w h = cond_both w.service.block.recv.fin (record w.service { block = finishing w.service.block }) w.service (λ (s : Service). GoesBacked (record w { service = s }))
+          (λ t. record { batch = h.batch; notes = h.notes }) (λ t. record { batch = h.batch; notes = h.notes })
 
-      turned-backed : (w : Work) (n : Next) → GoesBacked w → StepBacked (turned env w n)
-      turned-backed w next.Serve h = serves-backed w w.batch h h.batch
-      turned-backed w next.Read h = batch-backed false w h
-      turned-backed w next.Stop h = h
+      by_ways : KeptByStay env GoesBacked
+      by_ways = record {
+        hits = λ r path v w good is t h. record { batch = pushed-any (w.service.count + 1) w.batch (record { verdict = v; progress = progress.Ready via.Cache }) h.batch cached; notes = noted-more w.service.notes (rec.Hit env.n path) h.notes tt };
+        queues = λ r path v w good is f h. record { batch = pushed-any (w.service.count + 1) w.batch (record { verdict = v; progress = progress.Reading }) h.batch (λ i. tt); notes = noted-more w.service.notes (rec.Queued env.n env.n env.serve.c r path) h.notes tt };
+        wants = λ node r path v w good is f h. record { batch = pushed-any (w.service.count + 1) w.batch (record { verdict = v; progress = progress.Awaited node }) h.batch (λ i. tt); notes = h.notes };
+        enters = λ v w h. enter (read_entry files v) w h (read-by v);
+        asks = λ size path paths w e h. record { batch = h.batch; notes = h.notes };
+        takes = λ used w none h. record { batch = h.batch; notes = h.notes };
+        ends = λ w none h. ended-backed w h;
+        serves = λ way e rest w may first is h. let all : AreBacked (w.service.count + 1) (e ∷ rest) = subst (AreBacked (w.service.count + 1)) first h.batch in
+            served-backed way e rest w h.notes all (subst (IsBacked (w.service.count + 1)) is all.0);
+      }
+
+      pub read-backed : (here : Bool) (w : Work) → w.batch ≡ [] → GoesBacked w → GoesBacked (state_of (reads_batch env here w))
+      read-backed here w none h = batch-keeps env GoesBacked by_ways here w none h
 
       pub goes-backed : (w : Work) → GoesBacked w → GoesBacked (goes_on env w)
-      goes-backed w h = runs_keep (stay_turn env) work_left GoesBacked (record {
-        more = λ y z e p. subst StepBacked e (turned-backed y (next_of y) p);
-        done = λ y z e p. subst StepBacked e (turned-backed y (next_of y) p);
-      }) w h
+      goes-backed w h = goes-keep env GoesBacked by_ways w h
 
       -- ---- a Tag comes
 
-      -- behind these, r is the number of the last
-      abbrev IsNext : ℕ → Work → Type 0
-      IsNext r w = r + 1 ≡ (w.service.count + 1) + length w.batch
-
-      -- the next has number r
-      record Starts (w : Work) (r : ℕ) : Type 0 where
-        goes : GoesBacked w
-        next_is : r ≡ (w.service.count + 1) + length w.batch
-
-      stay-starts : (r : ℕ) (e : Entry) (w : Work) → Starts w r → IsBacked r e.progress → Starts (entered e w) (r + 1)
-      stay-starts r e w h by = record {
-        goes = record { batch = pushed (w.service.count + 1) r w.batch e h.next_is h.goes.batch by; notes = h.goes.notes };
-        next_is = omega (arith, h.next_is, length_push w.batch e);
-      }
-
-      started-starts : (node r : ℕ) (path : List ℕ) (v : Verdict) (w : Work) → Starts w r → Starts (started env node r path v w) (r + 1)
-      started-starts node r path v w h = record { goes = started-backed node r path v w h.goes; next_is = counted } where
-        longer : (p : Progress) → r + 1 ≡ (w.service.count + 1) + length (w.batch ++ record { verdict = v; progress = p } ∷ [])
-        longer p = let more = length_push w.batch (record { verdict = v; progress = p }) in let is = h.next_is in omega (arith, is, more)
-
-        here : IsNext r (started_here env r path v w)
-        here = cond_both (env.cached path) _ _ (IsNext r) (λ t. longer (progress.Ready via.Cache)) (λ t. longer progress.Reading)
-
-        counted : IsNext r (started env node r path v w)
-        counted = cond_both (node == env.n) (started_here env r path v w) (started_there node r path v w) (IsNext r) (λ t. here) (λ t. longer (progress.Awaited node))
-
-      named-starts : (node r : ℕ) (e : Entry) (w : Work) (o : Option (List ℕ)) → Starts w r → IsBacked r e.progress → Starts (starts_named env node r e w o).1 (r + 1)
-      named-starts node r e w None h by = stay-starts r e w h by
-      named-starts node r e w (Some path) h by = started-starts node r path e.verdict w h
-
-      one-starts : (o : Option ℕ) (r : ℕ) (e : Entry) (w : Work) → Starts w r → IsBacked r e.progress → Starts (starts_one env o r e w).1 (r + 1)
-      one-starts None r e w h by = stay-starts r e w h by
-      one-starts (Some node) r e w h by = named-starts node r e w (named_path files e) h by
-
-      at-starts : (nodes : List ℕ) (at r : ℕ) (es : List Entry) (w : Work) → Starts w r → AreBacked r es → GoesBacked (starts_at env nodes at r es w)
-      unfolding starts_at
-      at-starts nodes at r [] w h batch = h.goes
-      at-starts nodes at r (e ∷ es) w h batch = go (starts_one env (slice_get nodes at) r e w).0 (λ k. at-starts nodes k (r + 1) es x (one-starts (slice_get nodes at) r e w h batch.0) batch.1) where
-        x : Work
-        x = (starts_one env (slice_get nodes at) r e w).1
-
-        go : (b : Bool) → ((k : ℕ) → GoesBacked (starts_at env nodes k (r + 1) es x))
-            → GoesBacked (elim b as (λ b. Work) [ true ↦ starts_at env nodes (at + 1) (r + 1) es x | false ↦ starts_at env nodes at (r + 1) es x ])
-        go true later = later (at + 1)
-        go false later = later at
+      each-backed : (r : ℕ) (es : List Entry) → AreBacked r es → EachFrom (λ r e. IsBacked r e.progress) r es
+      each-backed r [] h = tt
+      each-backed r (e ∷ es) h = (h.0, each-backed (r + 1) es h.1)
 
       pub tagged-backed : (nodes : List ℕ) (w : Work) → GoesBacked w → GoesBacked (tagged env nodes w)
-      tagged-backed nodes w h = at-starts nodes 0 (w.service.count + 1) w.batch (record w { batch = [] }) (record { goes = record { batch = tt; notes = h.notes }; next_is = omega arith }) h.batch
+      tagged-backed nodes w h = tagged-keeps env GoesBacked by_ways (λ r e. IsBacked r e.progress)
+          (λ r e x is by goes. record { batch = pushed (x.service.count + 1) r x.batch e is goes.batch by; notes = goes.notes })
+          nodes w (each-backed (w.service.count + 1) w.batch h.batch) (record { batch = tt; notes = h.notes })

@@ -1,33 +1,30 @@
 -- A stay goes on turn by turn, from where it was, from what came for one of its requests, from a Tag, or from its first batch.
-use Rattle.std.proofs.Common.{◌≡◌, ◌≤◌, ◌^◌, ◌+◌, ◌-◌, nat_lt, ℕ, Bool, true, false, cond, List, [], ◌∷◌, ◌++◌, map, length, take, Option, Some, None, inl, inr, ⊎_elim, refl, sym, ap, ◌∙◌, subst, arith, append_assoc, append-nil}
+use Rattle.std.proofs.Common.{◌≡◌, ◌≤◌, ◌^◌, ◌+◌, ◌-◌, nat_lt, ℕ, Bool, true, false, List, [], ◌∷◌, ◌++◌, map, length, take, Option, Some, None, inl, inr, ⊎_elim, refl, sym, ap, ◌∙◌, subst, arith, append_assoc, append-nil}
 use Rattle.std.proofs.lemmas.Bool.{and_parts, cond_both}
 use Rattle.std.specs.Prelude.{not, ◌&&◌}
 use Rattle.lard_answers.specs.Answers.{FilesAt, good_path, verdicts}
-use Rattle.lard_law_connections.proofs.BytesWorking.{Right, StepsSo, Works, turn-so}
-use Rattle.lard_law_connections.proofs.BytesWays.{StepsRight, turn-right}
+use Rattle.lard_law_connections.proofs.BytesWorking.{Right, Works, going_so}
 use Rattle.lard_laws.specs.WaysState.{StayAsks, StayGoes, given_to}
 use Rattle.lard_laws.specs.WaysUnder.{Assigned, Under}
 use Rattle.lard_laws.specs.Ways.{WayMarks, good_paths}
 use Rattle.lard_laws.proofs.WaysEntering.{AllStarted, Begun, Enters, all-start, begun-under, enters-both, here-begins, read-enter, read-under}
 use Rattle.lard_laws.proofs.WaysLying.{KeepsStarted, came-named, came-under, under-append}
 use Rattle.lard_laws.proofs.WaysMarking.{Rightly, marked}
-use Rattle.lard_laws.proofs.WaysStaying.{AskIn, Goes, Home, StepGoes, StepReads, asks-go, entered-notes, entered-told, entered-walked, turned-goes, unasked, works-read}
+use Rattle.lard_laws.proofs.WaysStaying.{AskIn, Goes, Home, StepReads, answered-goes, these-go, asks-go, entered-notes, entered-told, entered-walked, unasked, works-read}
 use Rattle.lard_endpoint.specs.Control.{ControlBlock}
 use Rattle.lard_rules.specs.declared.front.FrontRest.{FrontRest}
 use Rattle.lard_rules.specs.declared.stay.Asked.{Asked}
 use Rattle.lard_rules.specs.declared.stay.Entry.{Entry}
-use Rattle.lard_rules.specs.declared.stay.Next.{Next}
-use Rattle.lard_rules.specs.declared.stay.Next.TheVariants as next
 use Rattle.lard_rules.specs.declared.stay.Progress.{Progress}
 use Rattle.lard_rules.specs.declared.stay.Stay.{Stay}
 use Rattle.lard_rules.specs.Node.{work_of}
-use Rattle.lard_rules.specs.Stay.{NodeEnv, Work, asks_for, came_for, come_on, enters, enters_first, goes_on, work_left, named_paths, next_in, reads_these, read_entry, started_here, tagged, stay_turn, turned}
+use Rattle.lard_rules.specs.Stay.{NodeEnv, Work, asks_for, came_for, come_on, enters, enters_first, goes_on, named_paths, reads_these, read_entry, started_here, tagged}
 use Rattle.lard_reader.specs.Batches.{batch_of, bytes_used}
 use Rattle.lard_request.specs.declared.verdict.Verdict.{Verdict}
 use Rattle.lard_rules.specs.Loop.{state_of}
 use Rattle.lard_rules.specs.Serving.{Service, serving_consumed, may_read}
-use Rattle.lard_rules.proofs.Runs.{runs_keep}
 use Rattle.lard_law_view.specs.Truth.{Stream}
+use Rattle.lard_rules.proofs.StayWalking.{StepIn, both-going, goes-in}
 
 none-over : (o : Option ℕ) → elim o [ None ↦ true | Some total ↦ false ] ≡ true → o ≡ None
 none-over None e = refl
@@ -43,8 +40,9 @@ module _ (env : NodeEnv) (m : WayMarks) (r : FrontRest) (Before : List (List ℕ
   abbrev It : Work → Type 0
   It k = Goes env m r Before k
 
-  abbrev Full : Work → Type 0
-  Full k = (Works env w out vs k × Right env w out vs k) × It k
+  -- it agrees, and each request of the batch is answered as it may be
+  abbrev Agrees : Work → Type 0
+  Agrees k = Right env w out vs k × Works env w out vs k
 
   asks-service : (size : ℕ) (paths : List (List ℕ)) (k : Work) → (asks_for env size paths k).service ≡ k.service
   asks-service size [] k = refl
@@ -52,36 +50,26 @@ module _ (env : NodeEnv) (m : WayMarks) (r : FrontRest) (Before : List (List ℕ
 
   -- behind a batch that was read nothing is to be reset
   reads-later : (here : Bool) (used : ℕ) (k : Work) (us : List Verdict) → ((r : ℕ) (v : Verdict) (us : List Verdict) (start : Work) → (enters env here r (v ∷ us) start).service.over ≡ start.service.over) → k.service.over ≡ None
-      → StepsSo env w out vs (reads_these env here used k us) → StepReads env m r Before (reads_these env here used k us)
+      → StepIn Agrees Agrees (reads_these env here used k us) → StepReads env m r Before (reads_these env here used k us)
   reads-later here used k [] over none h = tt
   reads-later here used k (v ∷ us) over none h =
       let start : Work = record k { service = serving_consumed used k.service } in
       let all : Work = enters env here (k.service.count + 1) (v ∷ us) start in
-      works-read env m r Before w out vs wrote (asks_for env (length (v ∷ us)) (named_paths env.serve.files all.batch) all) h
+      works-read env m r Before w out vs wrote (asks_for env (length (v ∷ us)) (named_paths env.serve.files all.batch) all) h.1
       (ap (λ (s : Service). s.over) (asks-service (length (v ∷ us)) (named_paths env.serve.files all.batch) all) ∙ over (k.service.count + 1) v us start ∙ none)
 
   plain-over : (n : ℕ) (v : Verdict) (us : List Verdict) (start : Work) → (enters env false n (v ∷ us) start).service.over ≡ start.service.over
   plain-over n v us start = ap (λ (s : Service). s.over) (read-enter env n (v ∷ us) start).service
 
-  turn-reads : (k : Work) (n : Next) → k.service.over ≡ None → StepsSo env w out vs (turned env k n) → n ≡ next.Read → StepReads env m r Before (turned env k n)
-  turn-reads k next.Serve none h is = absurd cc
-  turn-reads k next.Read none h is = reads-later false (bytes_used 8 k.service.block.recv.unread) k (batch_of 8 k.service.block.recv.unread) plain-over none h
-  turn-reads k next.Stop none h is = absurd cc
-
-  turn-goes : env.serve.stream ≤ 2 ^ 30 → (k : Work) → Full k → StepGoes env m r Before (stay_turn env k)
-  turn-goes most k h = go (may_read k.service) refl (turn-so env w out vs most k h.0.0 h.0.1) where
-    go : (b : Bool) → may_read k.service ≡ b → StepsSo env w out vs (turned env k (cond b (next_in k.batch) next.Stop)) → StepGoes env m r Before (turned env k (cond b (next_in k.batch) next.Stop))
-    go true may so =
-        let none : k.service.over ≡ None = may-none k.service may in
-        turned-goes env m r Before home k (next_in k.batch) refl h.1 (works-read env m r Before w out vs wrote k h.0.0 none) (turn-reads k (next_in k.batch) none so)
-    go false may so = h.1
-
   -- the stay goes on
   pub stay-goes : env.serve.stream ≤ 2 ^ 30 → (k : Work) → Works env w out vs k → Right env w out vs k → It k → It (goes_on env k)
-  stay-goes most k works right h = (runs_keep (stay_turn env) work_left Full (record {
-    more = λ y z e p. ((subst (StepsSo env w out vs) e (turn-so env w out vs most y p.0.0 p.0.1), subst (StepsRight env) e (turn-right env y p.0.1)), subst (StepGoes env m r Before) e (turn-goes most y p));
-    done = λ y z e p. ((subst (StepsSo env w out vs) e (turn-so env w out vs most y p.0.0 p.0.1), subst (StepsRight env) e (turn-right env y p.0.1)), subst (StepGoes env m r Before) e (turn-goes most y p));
-  }) k ((works, right), h)).1
+  stay-goes most k works right h = (goes-in env (λ k. Agrees k × It k) (λ k. Agrees k × It k) (both-going env Agrees It (going_so env w out vs most) (record {
+    reads = λ k none may agrees it steps.
+        let us : List Verdict = batch_of 8 k.service.block.recv.unread in
+        let used : ℕ = bytes_used 8 k.service.block.recv.unread in
+        these-go env m r Before used k us none it (reads-later false used k us plain-over (may-none k.service may) steps);
+    serves = λ way e rest k may first is agrees it. answered-goes env m r Before home k e rest first way is it (works-read env m r Before w out vs wrote k agrees.1 (may-none k.service may));
+  })) k ((right, works), h)).1
 
 -- ---- where it was
 
@@ -172,7 +160,7 @@ module _ (env : NodeEnv) (m : WayMarks) (r : FrontRest) (home : Home env m) (alo
   -- the first of these requests is the one that was assigned
   pub first-goes : (used : ℕ) (k : Work) (v : Verdict) (us : List Verdict) → good_path env.serve.files v ≡ Some home.path → k.batch ≡ [] → k.asked ≡ None → k.asks ≡ r.asks → k.service.over ≡ None
       → Rightly env.serve.files m k.service.notes → marked m k.service.notes ≡ record m { served = k.service.count } → good_paths env.serve.files (take k.service.count (verdicts m.wrote)) ≡ []
-      → StepsSo env w out vs (reads_these env true used k (v ∷ us)) → Goes env m r Never (state_of (reads_these env true used k (v ∷ us)))
+      → Works env w out vs (state_of (reads_these env true used k (v ∷ us))) → Goes env m r Never (state_of (reads_these env true used k (v ∷ us)))
   unfolding enters
   first-goes used k v us good none quiet same over notes told answered so =
       let files : FilesAt = env.serve.files in

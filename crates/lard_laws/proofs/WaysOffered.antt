@@ -13,7 +13,7 @@ use Rattle.lard_law_connections.proofs.BytesNodeMoves.{IsAt}
 use Rattle.lard_law_connections.proofs.BytesNodeTurns.{talk-of}
 use Rattle.lard_law_connections.proofs.BytesServing.{So, MayGo, go-on}
 use Rattle.lard_law_connections.proofs.BytesStays.{offered-so}
-use Rattle.lard_law_connections.proofs.BytesWorking.{StepsSo, Works, first-so}
+use Rattle.lard_law_connections.proofs.BytesWorking.{Works, first-so}
 use Rattle.lard_law_connections.proofs.BytesWays.{batch-right}
 use Rattle.lard_law_connections.specs.Places.{IsDecided, IsOffered, IsPast, Offers, Sits, StageSits, owning}
 use Rattle.lard_law_connections.proofs.PlacesFrontMessages.{came-says}
@@ -92,11 +92,11 @@ module _ (env : NodeEnv) (m : WayMarks) (r : FrontRest) (w out : Stream) (vs pen
         let so : So env.serve w out vs k.service [] = offered-so env w out vs was_reset talk pend p b count h frozen in
         let may : MayGo w so.vs_now [] k.service = go-on env.serve w out vs k.service [] so refl refl refl in
         let works : Works env w out vs (state_of (reads_batch env true k)) = first-so env w out vs true k so may refl in
-        let right = batch-right env true k tt in
+        let right = batch-right env true k refl tt in
         let used : ℕ = bytes_used 8 b.recv.unread in
         let us : List Verdict = take 7 next.others in
         let is : batch_of 8 b.recv.unread ≡ next.first ∷ us = ap (take 8) next.are in
-        let steps : StepsSo env w out vs (reads_these env true used k (next.first ∷ us)) = subst (λ (vs_next : List Verdict). Works env w out vs (state_of (reads_these env true used k vs_next))) is works in
+        let steps : Works env w out vs (state_of (reads_these env true used k (next.first ∷ us))) = subst (λ (vs_next : List Verdict). Works env w out vs (state_of (reads_these env true used k vs_next))) is works in
         let goes : Goes env m r Never (state_of (reads_these env true used k (next.first ∷ us))) =
         first-goes env m r home refl w out vs wrote used k next.first us next.good refl refl (sym asks) refl (tt, tt) (ap (λ (n : ℕ). record m { served = n }) same-count)
         (sym (ap (λ (n : ℕ). good_paths files (take n (verdicts m.wrote))) same-count) ∙ answered) steps in

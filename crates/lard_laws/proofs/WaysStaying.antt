@@ -1,5 +1,4 @@
 -- While a stay goes on, its batch and its connection's assignments agree, and each response goes with its own.
-use Rattle.lard_rules.proofs.StayFalling.{none-left}
 use Rattle.std.proofs.Common.{◌≡◌, ◌+◌, nat_lt, ℕ, suc, false, List, [], ◌∷◌, ◌++◌, map, length, take, Option, Some, None, inl, inr, ⊎_elim, refl, sym, ap, ◌∙◌, subst, arith, append_assoc, append-nil}
 use Rattle.std.specs.List.{slice_get}
 use Rattle.std.proofs.lemmas.Bool.{cond_both}
@@ -23,17 +22,15 @@ use Rattle.lard_journal.specs.declared.rec.Rec.{Rec}
 use Rattle.lard_journal.specs.declared.rec.Rec.TheVariants as rec
 use Rattle.lard_rules.specs.declared.stay.Asked.{Asked}
 use Rattle.lard_rules.specs.declared.stay.Entry.{Entry}
-use Rattle.lard_rules.specs.declared.stay.Next.{Next}
-use Rattle.lard_rules.specs.declared.stay.Next.TheVariants as next
 use Rattle.lard_rules.specs.declared.stay.Progress.{Progress}
 use Rattle.lard_rules.specs.declared.stay.Progress.TheVariants as progress
 use Rattle.lard_rules.specs.Node.{stay_after}
-use Rattle.lard_rules.specs.Stay.{NodeEnv, Work, and_path, asks_for, enters, work_left, named_path, named_paths, next_in, path_in, reads_these, read_entry, serves_by, serves_first, serves_with, turned}
-use Rattle.lard_reader.specs.Batches.{batch_of, bytes_used}
+use Rattle.lard_rules.specs.Stay.{NodeEnv, Work, and_path, asks_for, enters, named_path, named_paths, path_in, reads_these, read_entry, serves_with}
 use Rattle.lard_request.specs.declared.verdict.Verdict.{Verdict}
 use Rattle.lard_rules.specs.Loop.{Step, More, Done}
 use Rattle.lard_rules.specs.Serving.{Service, answered, serving_consumed, ended_at_fin, passed_over, queued}
 use Rattle.lard_law_view.specs.Truth.{Stream}
+use Rattle.lard_rules.proofs.StayWalking.{StepIn}
 
 -- a batch is read where none is left
 -- What is known of a connection before the turn of its home: what was marked, what the front end keeps, and that its first assignment
@@ -184,10 +181,6 @@ module _ (env : NodeEnv) (m : WayMarks) (r : FrontRest) (Before : List (List ℕ
   pub entered-walked : (k u : Work) (es : List Entry) (gone : List Assigned) → Enters k u es → map (λ a. a.0) gone ≡ good_paths files (take k.service.count all_verdicts) → map (λ a. a.0) gone ≡ good_paths files (take u.service.count all_verdicts)
   entered-walked k u es gone e h = h ∙ ap (λ (s : Service). good_paths files (take s.count all_verdicts)) (sym e.service)
 
-  abbrev pub StepGoes : Step Work → Type 0
-  StepGoes (More k) = Goes k
-  StepGoes (Done k) = Goes k
-
   abbrev pub StepReads : Step Work → Type 0
   StepReads (More k) = Reads k
   StepReads (Done k) = Unit {0}
@@ -197,7 +190,7 @@ module _ (env : NodeEnv) (m : WayMarks) (r : FrontRest) (Before : List (List ℕ
   unasked size [] k h = h
   unasked size (path ∷ paths) k h = record { before = h.before; counted = h.counted; fronts = h.fronts }
 
-  these-go : (used : ℕ) (k : Work) (us : List Verdict) → k.batch ≡ [] → Goes k → StepReads (reads_these env false used k us) → StepGoes (reads_these env false used k us)
+  pub these-go : (used : ℕ) (k : Work) (us : List Verdict) → k.batch ≡ [] → Goes k → StepReads (reads_these env false used k us) → StepIn Goes Goes (reads_these env false used k us)
   these-go used k [] none h reads =
       let s : Service = serving_consumed used k.service in
       same-goes k (ended_at_fin s) (cond_both s.block.recv.fin (record s { block = _ }) s (λ (t : Service). t.notes ≡ k.service.notes) (λ t. refl) (λ t. refl)) (cond_both s.block.recv.fin (record s { block = _ }) s (λ (t : Service). t.count ≡ k.service.count) (λ t. refl) (λ t. refl)) h
@@ -342,23 +335,8 @@ module _ (env : NodeEnv) (m : WayMarks) (r : FrontRest) (Before : List (List ℕ
             regroup [] x ys zs = refl
             regroup (y ∷ xs) x ys zs = ap (λ (l : List Verdict). y ∷ l) (regroup xs x ys zs)
 
-      answered-goes : Reads k → Goes (serves_with (answered env.serve way e.verdict k.service) e rest k)
+      pub answered-goes : Reads k → Goes (serves_with (answered env.serve way e.verdict k.service) e rest k)
       answered-goes reads =
           let total : ℕ = k.service.block.send.total + length bytes in
           cond_both (nat_lt env.serve.stream total) (passed_over env.serve total k.service) (queued env.serve way e.verdict bytes k.service) (λ (s : Service). Goes (serves_with s e rest k))
           (λ t. passed-goes total) (λ t. queued-goes reads)
-
-    serves-go : (k : Work) (e : Entry) (rest : List Entry) → k.batch ≡ e ∷ rest → Goes k → Reads k → (p : Progress) → e.progress ≡ p → Goes (serves_by env e rest k p)
-    serves-go k e rest is h reads (progress.Ready way) at = answered-goes k e rest is way at h reads
-    serves-go k e rest is h reads _ at = h
-
-    first-goes : (k : Work) (es : List Entry) → k.batch ≡ es → Goes k → Reads k → Goes (serves_first env k es)
-    first-goes k [] is h reads = h
-    first-goes k (e ∷ rest) is h reads = serves-go k e rest is h reads e.progress refl
-
-    -- ---- turn by turn
-
-    pub turned-goes : (k : Work) (n : Next) → next_in k.batch ≡ n → Goes k → Reads k → (n ≡ next.Read → StepReads (turned env k n)) → StepGoes (turned env k n)
-    turned-goes k next.Serve e h reads later = first-goes k k.batch refl h reads
-    turned-goes k next.Read e h reads later = these-go (bytes_used 8 k.service.block.recv.unread) k (batch_of 8 k.service.block.recv.unread) (none-left k.batch e) h (later refl)
-    turned-goes k next.Stop e h reads later = h
