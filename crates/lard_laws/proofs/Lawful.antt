@@ -89,5 +89,5 @@ journals-lawful config files m checked r =
       queues = jobs-are-asked config files m small r;
       offers = offers-carry config files m small r;
       quiet = journals-complete config files m checked r;
-      due = journals-answer config files m checked r;
+      nothing_due = journals-answer config files m checked r;
     }

@@ -122,7 +122,7 @@ pub record IsLawful (config : Config) (files : FilesAt) (J : List Rec) : Type 0 
   -- a connection on which nothing more is to come is complete, or in the line
   pub quiet : CompletesWhenQuiet config files J
   -- at the end of each step the next response to what was acknowledged is not due, so none that would pass the stream limit is
-  pub due : AnswersWhatIsDue config files J
+  pub nothing_due : AnswersWhatIsDue config files J
 
 -- in every state that events lead to, with a configuration that may be used
 abbrev pub JournalsAreLawful : Type 0

@@ -23,8 +23,8 @@ asked_and_forgotten = rec.Opened 1 1000 5000 65535 1460 ∷ rec.Wrote 1 (request
 
 -- ---- responses that are due
 
-abbrev pub due : Law
-due config files J = AnswersWhatIsDue config files J
+abbrev pub nothing_due : Law
+nothing_due config files J = AnswersWhatIsDue config files J
 
 -- A node has the file that a client asked for, and acknowledges the request. The response would pass the limit, and the reset in its place
 -- comes a step late.

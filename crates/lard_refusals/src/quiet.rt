@@ -11,8 +11,8 @@ pub fn quiet_refuses()
 {}
 
 /// What is due is served, or reset, in the step in which it is.
-pub fn due_refuses()
-    ensures law { IsLawOfAll the.due }
-    ensures reset_comes_late { Refuses the.due the.reset_comes_late }
-    ensures reset_comes_at_once { Allows the.due the.reset_comes_at_once }
+pub fn nothing_due_refuses()
+    ensures law { IsLawOfAll the.nothing_due }
+    ensures reset_comes_late { Refuses the.nothing_due the.reset_comes_late }
+    ensures reset_comes_at_once { Allows the.nothing_due the.reset_comes_at_once }
 {}

@@ -14,7 +14,7 @@ use Rattle.lard_refusals.specs.Packets.{acknowledges_the_request}
 use Rattle.lard_refusals.specs.Refusals.{three_nodes, took, two_files}
 use Rattle.lard_refusals.proofs.Requests.{request-asks}
 use Rattle.lard_refusals.proofs.Segments.{request-decodes, request_say}
-use Rattle.lard_refusals.proofs.quiet.due_refuses.Goals as goal
+use Rattle.lard_refusals.proofs.quiet.nothing_due_refuses.Goals as goal
 use Rattle.lard_request.specs.declared.verdict.Verdict.{Verdict}
 
 -- ---- the reset comes late
