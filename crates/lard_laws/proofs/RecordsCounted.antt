@@ -8,7 +8,7 @@ use Rattle.lard_base.specs.declared.place.Via.TheVariants as via
 use Rattle.lard_rules.specs.declared.stay.Entry.{Entry}
 use Rattle.lard_rules.specs.declared.stay.Progress.{Progress}
 use Rattle.lard_rules.specs.declared.stay.Progress.TheVariants.{Reading, Awaited, Ready}
-use Rattle.lard_rules.specs.Stay.{NodeEnv, Work, came_for, come_on, entered, left_by, tagged, hit_here, queued_here, own_job, serves_with}
+use Rattle.lard_rules.specs.Stay.{NodeEnv, Work, came_for, come_on, entered, left_by, tagged, queued_here, own_job}
 use Rattle.lard_request.specs.declared.verdict.Verdict.{Verdict}
 use Rattle.lard_rules.specs.Serving.{Service, answered, passed_over, queued}
 use Rattle.lard_rules.proofs.StayWalking.{KeptByStarts, tagged-in}
