@@ -1,22 +1,21 @@
 -- What comes for the requests of a batch: the nodes of a Tag, a job that was done, a content.
-use Rattle.std.proofs.Common.{◌≡◌, ◌≤◌, ◌+◌, ◌-◌, ◌==◌, nat_lt, ℕ, zero, suc, Bool, true, false, not, cond, List, [], ◌∷◌, ◌++◌, length, slice_get, is_some, Option, Some, None, refl, sym, ap, ◌∙◌, subst, arith}
+use Rattle.std.proofs.Common.{◌≡◌, ◌≤◌, ◌+◌, ◌-◌, ◌==◌, nat_lt, ℕ, zero, suc, Bool, true, false, not, cond, List, [], ◌∷◌, ◌++◌, length, is_some, Some, None, refl, ap, ◌∙◌, arith}
 use Rattle.std.specs.List.{find}
 use Rattle.std.proofs.lemmas.Bool.{cond_both}
 use Rattle.std.proofs.lemmas.List.{length_push}
 use Rattle.lard_base.specs.declared.place.TimerKind.{TimerKind}
 use Rattle.lard_base.specs.declared.place.Via.TheVariants as via
 use Rattle.lard_bound.specs.Units.{batch_left, progress_left}
-use Rattle.lard_journal.specs.declared.rec.Rec.TheVariants as rec
 use Rattle.lard_rules.specs.declared.stay.Entry.{Entry}
 use Rattle.lard_rules.specs.declared.stay.Progress.{Progress}
 use Rattle.lard_rules.specs.declared.stay.Progress.TheVariants as progress
 use Rattle.lard_rules.specs.declared.stay.Want.{Want}
 use Rattle.lard_rules.specs.Node.{anew, fetch_of, wants_kept}
-use Rattle.lard_rules.specs.Stay.{NodeEnv, Work, came_for, come_on, come_progress, entered, named_path, path_in, read_progress, started, started_here, started_there, starts_at, starts_named, starts_one, tagged}
+use Rattle.lard_rules.specs.Stay.{NodeEnv, Work, came_for, come_on, come_progress, entered, path_in, read_progress, started_there, tagged, hit_here, queued_here}
 use Rattle.lard_resend.proofs.Lengths.{anew-more, without-less}
-use Rattle.lard_request.specs.declared.verdict.Verdict.{Verdict}
 use Rattle.lard_resend.specs.declared.kept.Kept.{Kept}
 use Rattle.lard_resend.specs.Kept.{is_under, without}
+use Rattle.lard_rules.proofs.StayWalking.{KeptByStarts, tagged-in}
 
 left-push : (es : List Entry) (e : Entry) → batch_left (es ++ e ∷ []) ≡ batch_left es + progress_left e.progress
 left-push [] e = omega arith
@@ -32,44 +31,31 @@ module _ (env : NodeEnv) (fetches : List Kept) where
 
   -- ---- a Tag: each request that it names starts
 
-  -- so many requests, that cost so much before, are behind the others, with what they want
-  pub record Started (n most : ℕ) (a b : Work) : Type 0 where
-    pub longer : length b.batch ≡ length a.batch + n
-    pub costs : batch_left b.batch + wanted b ≤ (batch_left a.batch + wanted a) + most
-    pub block : b.service.block ≡ a.service.block
-    pub count : b.service.count ≡ a.service.count
-    pub over : b.service.over ≡ a.service.over
-    pub asks : b.asks ≡ a.asks
-    pub asked : b.asked ≡ a.asked
+  -- with those that are left the batch is as long, and costs no more
+  record Left (w : Work) (at : ℕ) (es : List Entry) (b : Work) : Type 0 where
+    longer : length b.batch + length es ≡ length w.batch
+    costs : (batch_left b.batch + wanted b) + batch_left es ≤ batch_left w.batch + wanted w
+    block : b.service.block ≡ w.service.block
+    count : b.service.count ≡ w.service.count
+    over : b.service.over ≡ w.service.over
+    asks : b.asks ≡ w.asks
+    asked : b.asked ≡ w.asked
 
-  one-on : (e : Entry) (w : Work) (most : ℕ) → progress_left e.progress ≤ most → Started 1 most w (entered e w)
-  one-on e w most few = record { longer = length_push w.batch e; costs = let l = left-push w.batch e in omega arith; block = refl; count = refl; over = refl; asks = refl; asked = refl }
-
-  here-on : (r : ℕ) (path : List ℕ) (v : Verdict) (w : Work) → Started 1 2 w (started_here env r path v w)
-  here-on r path v w = cond_both (env.cached path)
-      (entered (record { verdict = v; progress = progress.Ready via.Cache }) (record w { service = record w.service { notes = w.service.notes ++ rec.Hit env.n path ∷ [] } }))
-      (entered (record { verdict = v; progress = progress.Reading })
-      (record w { service = record w.service { notes = w.service.notes ++ rec.Queued env.n env.n env.serve.c r path ∷ [] }; jobs = w.jobs ++ record { origin = env.n; c = env.serve.c; epoch = record { 0 = env.epoch }; r = r; path = path } ∷ [] }))
-      (Started 1 2 w)
-      (λ t. let h = one-on (record { verdict = v; progress = progress.Ready via.Cache }) w 2 (omega arith) in record { longer = h.longer; costs = h.costs; block = refl; count = refl; over = refl; asks = refl; asked = refl })
-      (λ t. let h = one-on (record { verdict = v; progress = progress.Reading }) w 2 (omega arith) in record { longer = h.longer; costs = h.costs; block = refl; count = refl; over = refl; asks = refl; asked = refl })
-
-  there-on : (node r : ℕ) (path : List ℕ) (v : Verdict) (w : Work) → Started 1 2 w (started_there node r path v w)
-  there-on node r path v w =
-      let want : Want = record { r = r; node = node; path = path } in
-      let e : Entry = record { verdict = v; progress = progress.Awaited node } in
+  -- one more stands in the batch, which costs no more than before with what it wants
+  left-on : (w : Work) (at i : ℕ) (e x : Entry) (es : List Entry) (b u : Work) → u.batch ≡ b.batch ++ x ∷ [] → u.service.block ≡ b.service.block → u.service.count ≡ b.service.count → u.service.over ≡ b.service.over → u.asks ≡ b.asks → u.asked ≡ b.asked
+      → progress_left x.progress + wanted u ≤ progress_left e.progress + wanted b → Left w at (e ∷ es) b → Left w i es u
+  left-on w at i e x es b u batch block count over asks asked few h =
+      let long : length u.batch ≡ length b.batch + 1 = ap (λ (es : List Entry). length es) batch ∙ length_push b.batch x in
+      let cost : batch_left u.batch ≡ batch_left b.batch + progress_left x.progress = ap batch_left batch ∙ left-push b.batch x in
       record {
-        longer = length_push w.batch e;
-        costs = let l = left-push w.batch e in let p = wants-push env w.wants want fetches in omega arith;
-        block = refl;
-        count = refl;
-        over = refl;
-        asks = refl;
-        asked = refl;
+        longer = let all = h.longer in omega (arith, all, long);
+        costs = let c = h.costs in omega (arith, c, cost, few);
+        block = block ∙ h.block;
+        count = count ∙ h.count;
+        over = over ∙ h.over;
+        asks = asks ∙ h.asks;
+        asked = asked ∙ h.asked;
       }
-
-  started-on : (node r : ℕ) (path : List ℕ) (v : Verdict) (w : Work) → Started 1 2 w (started env node r path v w)
-  started-on node r path v w = cond_both (node == env.n) (started_here env r path v w) (started_there node r path v w) (Started 1 2 w) (λ t. here-on r path v w) (λ t. there-on node r path v w)
 
   named-two : (e : Entry) (p : Progress) (path : List ℕ) → path_in env.serve.files e p ≡ Some path → progress_left p ≡ 2
   named-two e progress.Named path is = refl
@@ -77,49 +63,26 @@ module _ (env : NodeEnv) (fetches : List Kept) where
   named-two e (progress.Awaited node) path is = absurd (let bad : None ≡ Some path = is in cc)
   named-two e (progress.Ready way) path is = absurd (let bad : None ≡ Some path = is in cc)
 
-  by-path : (node r : ℕ) (e : Entry) (w : Work) (o : Option (List ℕ)) → named_path env.serve.files e ≡ o → Started 1 (progress_left e.progress) w (starts_named env node r e w o).1
-  by-path node r e w None is = one-on e w (progress_left e.progress) (omega arith)
-  by-path node r e w (Some path) is =
-      let two : progress_left e.progress ≡ 2 = named-two e e.progress path is in
-      let S : ℕ → Type 0 = λ n. Started 1 n w (started env node r path e.verdict w) in
-      subst S (sym two) (started-on node r path e.verdict w)
-
-  one-starts : (o : Option ℕ) (r : ℕ) (e : Entry) (w : Work) → Started 1 (progress_left e.progress) w (starts_one env o r e w).1
-  one-starts None r e w = one-on e w (progress_left e.progress) (omega arith)
-  one-starts (Some node) r e w = by-path node r e w (named_path env.serve.files e) refl
-
-  then-on : (n m x y : ℕ) (a b c : Work) → Started n x a b → Started m y b c → Started (n + m) (x + y) a c
-  then-on n m x y a b c h k = record {
-    longer = let u = h.longer in let v = k.longer in omega arith;
-    costs = let u = h.costs in let v = k.costs in omega arith;
-    block = k.block ∙ h.block;
-    count = k.count ∙ h.count;
-    over = k.over ∙ h.over;
-    asks = k.asks ∙ h.asks;
-    asked = k.asked ∙ h.asked;
+  by_starts : (w : Work) (nodes : List ℕ) → KeptByStarts env nodes (Left w)
+  by_starts w nodes = record {
+    stays = λ at r e es b is named h. left-on w at at e e es b (entered e b) refl refl refl refl refl refl (omega arith) h;
+    short = λ at r path e es b is named none h. left-on w at at e e es b (entered e b) refl refl refl refl refl refl (omega arith) h;
+    hits = λ at node r path e es b is named there t c h. let two = named-two e e.progress path named in
+        left-on w at (at + 1) e (record { verdict = e.verdict; progress = progress.Ready via.Cache }) es b (hit_here env path e.verdict b) refl refl refl refl refl refl (omega (arith, two)) h;
+    queues = λ at node r path e es b is named there t c h. let two = named-two e e.progress path named in
+        left-on w at (at + 1) e (record { verdict = e.verdict; progress = progress.Reading }) es b (queued_here env r path e.verdict b) refl refl refl refl refl refl (omega (arith, two)) h;
+    wants = λ at node r path e es b is named there f h. let two = named-two e e.progress path named in let more = wants-push env b.wants (record { r = r; node = node; path = path }) fetches in
+        left-on w at (at + 1) e (record { verdict = e.verdict; progress = progress.Awaited node }) es b (started_there node r path e.verdict b) refl refl refl refl refl refl (omega (arith, two, more)) h;
   }
-
-  starts-all : (nodes : List ℕ) (at r : ℕ) (es : List Entry) (w : Work) → Started (length es) (batch_left es) w (starts_at env nodes at r es w)
-  unfolding starts_at
-  starts-all nodes at r [] w = record { longer = omega arith; costs = omega arith; block = refl; count = refl; over = refl; asks = refl; asked = refl }
-  starts-all nodes at r (e ∷ es) w = go (λ at u. starts-all nodes at (r + 1) es u) (starts_one env (slice_get nodes at) r e w).0 (starts_one env (slice_get nodes at) r e w).1 (one-starts (slice_get nodes at) r e w) where
-    one-more : (at : ℕ) (u : Work) → Started 1 (progress_left e.progress) w u → Started (length es) (batch_left es) u (starts_at env nodes at (r + 1) es u) → Started (suc (length es)) (progress_left e.progress + batch_left es) w (starts_at env nodes at (r + 1) es u)
-    one-more at u h k =
-        let n : 1 + length es ≡ suc (length es) = omega arith in
-        let S : ℕ → Type 0 = λ n. Started n (progress_left e.progress + batch_left es) w (starts_at env nodes at (r + 1) es u) in
-        subst S n (then-on 1 (length es) (progress_left e.progress) (batch_left es) w u (starts_at env nodes at (r + 1) es u) h k)
-
-    go : ((at : ℕ) (u : Work) → Started (length es) (batch_left es) u (starts_at env nodes at (r + 1) es u)) → (b : Bool) (u : Work) → Started 1 (progress_left e.progress) w u → Started (suc (length es)) (progress_left e.progress + batch_left es) w (elim b as (λ t. Work) [
-      | true ↦ starts_at env nodes (at + 1) (r + 1) es u
-      | false ↦ starts_at env nodes at (r + 1) es u
-    ])
-    go on true u h = one-more (at + 1) u h (on (at + 1) u)
-    go on false u h = one-more at u h (on at u)
 
   pub tagged-on : (nodes : List ℕ) (w : Work) → let b = tagged env nodes w in
       (length b.batch ≡ length w.batch) × (batch_left b.batch + wanted b ≤ batch_left w.batch + wanted w) × (b.service.block ≡ w.service.block) × (b.service.count ≡ w.service.count)
       × (b.service.over ≡ w.service.over) × (b.asked ≡ w.asked) × (b.asks ≡ w.asks)
-  tagged-on nodes w = let h = starts-all nodes 0 (w.service.count + 1) w.batch (record w { batch = [] }) in let l = h.longer in let k = h.costs in (omega (arith, l), omega (arith, k), h.block, h.count, h.over, h.asked, h.asks)
+  tagged-on nodes w =
+      let h = (tagged-in env nodes (Left w) (by_starts w nodes) w (record { longer = omega arith; costs = omega arith; block = refl; count = refl; over = refl; asks = refl; asked = refl })).1 in
+      let l = h.longer in
+      let k = h.costs in
+      (omega (arith, l), omega (arith, k), h.block, h.count, h.over, h.asked, h.asks)
 
 -- ---- what comes for one request
 

@@ -1,23 +1,20 @@
 -- A stay goes on: requests are read or served, the cluster's side is closed or the stream limit reached, or nothing changes but what
 -- is unread.
-use Rattle.std.proofs.Common.{◌≡◌, ◌⊎◌, ◌<◌, ◌≤◌, ◌+◌, ◌-◌, ◌*◌, nat_lt, ℕ, suc, Bool, true, false, not, ◌&&◌, cond, List, [], ◌∷◌, ◌++◌, length, drop, min, is_some, Option, Some, None, inl, inr, ⊎_elim, refl, sym, ap, ◌∙◌, subst, arith}
+use Rattle.std.proofs.Common.{◌≡◌, ◌⊎◌, ◌<◌, ◌≤◌, ◌+◌, ◌-◌, ◌*◌, nat_lt, ℕ, suc, Bool, true, false, not, ◌&&◌, List, [], ◌∷◌, ◌++◌, length, drop, min, is_some, Option, Some, None, inl, inr, ⊎_elim, refl, sym, ap, ◌∙◌, subst, arith}
 use Rattle.std.proofs.lemmas.Bool.{cond_both}
 use Rattle.std.proofs.lemmas.List.{length_push, length-drop}
-use Rattle.lard_answers.specs.Answers.{answer, good_path}
+use Rattle.lard_answers.specs.Answers.{answer}
 use Rattle.lard_base.specs.declared.limits.TheConstants.{MAX_STREAM_BYTES, RECEIVE_WINDOW}
 use Rattle.lard_base.specs.declared.place.Via.TheVariants as via
 use Rattle.lard_bound.specs.Units.{batch_left, progress_left}
 use Rattle.lard_endpoint.specs.Control.{ControlBlock, discarding_on, finishing, queueing}
-use Rattle.lard_journal.specs.declared.rec.Rec.TheVariants as rec
 use Rattle.lard_rules.specs.declared.stay.Asked.{Asked}
 use Rattle.lard_rules.specs.declared.stay.Entry.{Entry}
-use Rattle.lard_rules.specs.declared.stay.Next.{Next}
-use Rattle.lard_rules.specs.declared.stay.Next.TheVariants as next
 use Rattle.lard_rules.specs.declared.stay.Progress.{Progress}
 use Rattle.lard_rules.specs.declared.stay.Progress.TheVariants as progress
 use Rattle.lard_rules.specs.declared.stay.Want.{Want}
 use Rattle.lard_rules.specs.Node.{ask_kept, asked_kept, wants_kept}
-use Rattle.lard_rules.specs.Stay.{NodeEnv, Work, asks_for, asking, entered, enters, enters_first, enters_one, goes_on, work_left, named_paths, next_in, read_entry, reads_batch, reads_these, serves_by, serves_first, serves_with, started_here, stay_turn, turned}
+use Rattle.lard_rules.specs.Stay.{NodeEnv, Work, asks_for, entered, goes_on, read_entry, reads_batch, reads_these, serves_with, hit_here, queued_here}
 use Rattle.lard_resend.proofs.Lengths.{anew-more, length-anew}
 use Rattle.lard_reader.specs.Batches.{batch_of, bytes_used}
 use Rattle.lard_recv.specs.Recv.{Received, awaited, receive_room}
@@ -25,10 +22,10 @@ use Rattle.lard_request.specs.declared.verdict.Verdict.{Verdict}
 use Rattle.lard_request.specs.Verdict.{closes}
 use Rattle.lard_resend.specs.declared.kept.Kept.{Kept}
 use Rattle.lard_rules.specs.Loop.{Step, More, Done, state_of}
-use Rattle.lard_rules.specs.Serving.{Service, closed_behind, serving_consumed, ended_at_fin, may_read, passed_over, queued}
-use Rattle.lard_rules.proofs.Runs.{runs_keep}
-use Rattle.lard_rules.proofs.StayFalling.{none-left}
+use Rattle.lard_rules.specs.Serving.{Service, closed_behind, serving_consumed, ended_at_fin, passed_over, queued, answered}
 use Rattle.lard_send.specs.Send.{Sending}
+use Rattle.lard_rules.proofs.StayWalking.{KeptByReads, StepIn, goes-in, state-in, these-in}
+use Rattle.lard_base.specs.declared.place.Via.{Via}
 
 -- how many requests were read, served or not
 abbrev pub read_of : Work → ℕ
@@ -138,11 +135,8 @@ module _ (env : NodeEnv) (kept fetches : List Kept) where
   behind v b = cond_both (closes v) (finishing (discarding_on b)) b (λ (d : ControlBlock). (d.send.una ≡ b.send.una) × (d.send.wnd ≡ b.send.wnd) × (b.send.finished ≡ true → d.send.finished ≡ true))
       (λ t. (refl, refl, λ e. refl)) (λ t. (refl, refl, λ e. e))
 
-  serves-by : (e : Entry) (rest : List Entry) (w : Work) (p : Progress) → w.service.over ≡ None → w.batch ≡ e ∷ rest → e.progress ≡ p → Onward w (serves_by env e rest w p)
-  serves-by e rest w progress.Named none is ready = onward-self w
-  serves-by e rest w progress.Reading none is ready = onward-self w
-  serves-by e rest w (progress.Awaited node) none is ready = onward-self w
-  serves-by e rest w (progress.Ready way) none is ready =
+  serves-on : (way : Via) (e : Entry) (rest : List Entry) (w : Work) → w.service.over ≡ None → w.batch ≡ e ∷ rest → e.progress ≡ progress.Ready way → Onward w (serves_with (answered env.serve way e.verdict w.service) e rest w)
+  serves-on way e rest w none is ready =
       let bytes = answer env.serve.files e.verdict in
       let total = w.service.block.send.total + length bytes in
       cond_both (nat_lt env.serve.stream total) (passed_over env.serve total w.service) (queued env.serve way e.verdict bytes w.service) (λ (s : Service). Onward w (serves_with s e rest w))
@@ -169,21 +163,17 @@ module _ (env : NodeEnv) (kept fetches : List Kept) where
         way = inl (omega arith);
       })
 
-  serves-first : (w : Work) (es : List Entry) → w.service.over ≡ None → w.batch ≡ es → Onward w (serves_first env w es)
-  serves-first w [] none is = onward-self w
-  serves-first w (e ∷ rest) none is = serves-by e rest w e.progress none is refl
-
   -- ---- a batch is read
 
-  -- so many were entered, which cost at most two each, and nothing else was done
-  record Entered (n : ℕ) (a b : Work) : Type 0 where
-    longer : length b.batch ≡ length a.batch + n
-    costs : batch_left b.batch ≤ batch_left a.batch + 2 * n
-    block : b.service.block ≡ a.service.block
-    count : b.service.count ≡ a.service.count
-    over : b.service.over ≡ a.service.over
-    wants : b.wants ≡ a.wants
-    asked : b.asked ≡ a.asked
+  -- So many requests are in it with those that are still to be entered, which cost two each at most, and nothing else was done.
+  record Entering (w : Work) (size : ℕ) (vs : List Verdict) (b : Work) : Type 0 where
+    longer : length b.batch + length vs ≡ size
+    costs : batch_left b.batch + 2 * length vs ≤ 2 * size
+    send : b.service.block.send ≡ w.service.block.send
+    count : b.service.count ≡ w.service.count
+    over : b.service.over ≡ w.service.over
+    wants : b.wants ≡ w.wants
+    asked : b.asked ≡ w.asked
 
   left-push : (es : List Entry) (e : Entry) → batch_left (es ++ e ∷ []) ≡ batch_left es + progress_left e.progress
   left-push [] e = omega arith
@@ -195,53 +185,29 @@ module _ (env : NodeEnv) (kept fetches : List Kept) where
   two-at-most (progress.Awaited node) = omega arith
   two-at-most (progress.Ready way) = omega arith
 
-  one-entered : (e : Entry) (w : Work) → Entered 1 w (entered e w)
-  one-entered e w = record {
-    longer = length_push w.batch e;
-    costs = let l = left-push w.batch e in let t = two-at-most e.progress in omega arith;
-    block = refl;
-    count = refl;
-    over = refl;
-    wants = refl;
-    asked = refl;
+  one-entered : (w : Work) (size : ℕ) (v : Verdict) (vs : List Verdict) (e : Entry) (b : Work) → Entering w size (v ∷ vs) b → Entering w size vs (entered e b)
+  one-entered w size v vs e b h = record {
+    longer = let all = h.longer in let more = length_push b.batch e in omega (arith, all, more);
+    costs = let l = left-push b.batch e in let t = two-at-most e.progress in let c = h.costs in omega arith;
+    send = h.send;
+    count = h.count;
+    over = h.over;
+    wants = h.wants;
+    asked = h.asked;
   }
 
-  entered-then : (n m : ℕ) (a b c : Work) → Entered n a b → Entered m b c → Entered (n + m) a c
-  entered-then n m a b c h k = record {
-    longer = let x = h.longer in let y = k.longer in omega arith;
-    costs = let x = h.costs in let y = k.costs in omega arith;
-    block = k.block ∙ h.block;
-    count = k.count ∙ h.count;
-    over = k.over ∙ h.over;
-    wants = k.wants ∙ h.wants;
-    asked = k.asked ∙ h.asked;
+  -- with another note, and a job
+  like-entered : (w : Work) (size : ℕ) (vs : List Verdict) (a b : Work) → b.batch ≡ a.batch → b.service.block ≡ a.service.block → b.service.count ≡ a.service.count → b.service.over ≡ a.service.over → b.wants ≡ a.wants → b.asked ≡ a.asked → Entering w size vs a
+      → Entering w size vs b
+  like-entered w size vs a b batch block count over wants asked h = record {
+    longer = ap (λ (es : List Entry). length es + length vs) batch ∙ h.longer;
+    costs = subst (λ (es : List Entry). batch_left es + 2 * length vs ≤ 2 * size) (sym batch) h.costs;
+    send = ap (λ (x : ControlBlock). x.send) block ∙ h.send;
+    count = count ∙ h.count;
+    over = over ∙ h.over;
+    wants = wants ∙ h.wants;
+    asked = asked ∙ h.asked;
   }
-
-  here-entered : (r : ℕ) (path : List ℕ) (v : Verdict) (w : Work) → Entered 1 w (started_here env r path v w)
-  here-entered r path v w = cond_both (env.cached path)
-      (entered (record { verdict = v; progress = progress.Ready via.Cache }) (record w { service = record w.service { notes = w.service.notes ++ rec.Hit env.n path ∷ [] } }))
-      (entered (record { verdict = v; progress = progress.Reading })
-      (record w { service = record w.service { notes = w.service.notes ++ rec.Queued env.n env.n env.serve.c r path ∷ [] }; jobs = w.jobs ++ record { origin = env.n; c = env.serve.c; epoch = record { 0 = env.epoch }; r = r; path = path } ∷ [] }))
-      (Entered 1 w)
-      (λ t. let h = one-entered (record { verdict = v; progress = progress.Ready via.Cache }) w in record { longer = h.longer; costs = h.costs; block = refl; count = refl; over = refl; wants = refl; asked = refl })
-      (λ t. let h = one-entered (record { verdict = v; progress = progress.Reading }) w in record { longer = h.longer; costs = h.costs; block = refl; count = refl; over = refl; wants = refl; asked = refl })
-
-  first-entered : (r : ℕ) (v : Verdict) (w : Work) (o : Option (List ℕ)) → Entered 1 w (enters_first env r v w o).1
-  first-entered r v w None = one-entered (read_entry env.serve.files v) w
-  first-entered r v w (Some path) = here-entered r path v w
-
-  enters-one : (here : Bool) (r : ℕ) (v : Verdict) (w : Work) → Entered 1 w (enters_one env here r v w).1
-  enters-one false r v w = one-entered (read_entry env.serve.files v) w
-  enters-one true r v w = first-entered r v w (good_path env.serve.files v)
-
-  enters-all : (here : Bool) (r : ℕ) (vs : List Verdict) (w : Work) → Entered (length vs) w (enters env here r vs w)
-  unfolding enters
-  enters-all here r [] w = record { longer = omega arith; costs = omega arith; block = refl; count = refl; over = refl; wants = refl; asked = refl }
-  enters-all here r (v ∷ vs) w =
-      let one = enters_one env here r v w in
-      let E : ℕ → Type 0 = λ n. Entered n w (enters env one.0 (r + 1) vs one.1) in
-      let n : 1 + length vs ≡ suc (length vs) = omega arith in
-      subst E n (entered-then 1 (length vs) w one.1 (enters env one.0 (r + 1) vs one.1) (enters-one here r v w) (enters-all one.0 (r + 1) vs one.1))
 
   -- an Ask is one more, and takes the place of the one before
   asked-more : (a : Asked) (o : Option Asked) → length (asked_kept env (Some a) kept) ≤ length (asked_kept env o kept) + 1
@@ -250,14 +216,38 @@ module _ (env : NodeEnv) (kept fetches : List Kept) where
       let x = length-anew (ask_kept env.serve.c env.epoch a) kept in
       let y = length-anew (ask_kept env.serve.c env.epoch b) kept in omega (arith, x, y)
 
-  asks-all : (size : ℕ) (paths : List (List ℕ)) (w : Work) → let b = asks_for env size paths w in
-      (b.service ≡ w.service) × (b.batch ≡ w.batch) × (b.wants ≡ w.wants) × (length (asked_kept env b.asked kept) ≤ length (asked_kept env w.asked kept) + 1)
-  asks-all size [] w = (refl, refl, refl, omega arith)
-  asks-all size (path ∷ paths) w = (refl, refl, refl, asked-more (record { number = w.asks + 1; queue = env.queue + length w.jobs; size = size; paths = path ∷ paths }) w.asked)
+  -- all were entered, and an Ask was made, or none
+  all-read : (w b c : Work) (size : ℕ) → 1 ≤ size → w.batch ≡ [] → Entering w size [] b → c.service ≡ b.service → c.batch ≡ b.batch → c.wants ≡ b.wants → length (asked_kept env c.asked kept) ≤ length (asked_kept env b.asked kept) + 1 → Onward w c
+  all-read w b c size some none h service batch wants_same asked =
+      let send : c.service.block.send ≡ w.service.block.send = ap (λ (x : Service). x.block.send) service ∙ h.send in
+      let over : c.service.over ≡ w.service.over = ap (λ (x : Service). x.over) service ∙ h.over in
+      let count : c.service.count ≡ w.service.count = ap (λ (x : Service). x.count) service ∙ h.count in
+      let l0 : length w.batch ≡ 0 = ap (λ (es : List Entry). length es) none in
+      let b0 : batch_left w.batch ≡ 0 = ap batch_left none in
+      let l1 : length c.batch ≡ length b.batch = ap (λ (es : List Entry). length es) batch in
+      let b1 : batch_left c.batch ≡ batch_left b.batch = ap batch_left batch in
+      let l2 : length b.batch + 0 ≡ size = h.longer in
+      let b2 : batch_left b.batch + 2 * 0 ≤ 2 * size = h.costs in
+      let same : length (asked_kept env b.asked kept) ≡ length (asked_kept env w.asked kept) = ap (λ (o : Option Asked). length (asked_kept env o kept)) h.asked in
+      let wants : length (wants_kept env c.wants fetches) ≡ length (wants_kept env w.wants fetches) = ap (λ (ws : List Want). length (wants_kept env ws fetches)) (wants_same ∙ h.wants) in record {
+        una = ap (λ (x : Sending). x.una) send;
+        wnd = ap (λ (x : Sending). x.wnd) send;
+        shut = λ e. ap (λ (x : Sending). x.finished) send ∙ e;
+        limit = λ e. ap (λ (o : Option ℕ). is_some o) over ∙ e;
+        more = omega arith;
+        cheap = omega arith;
+        way = inl (omega arith);
+      }
 
-  abbrev StepOn : Work → Step Work → Type 0
-  StepOn w (More b) = Onward w b
-  StepOn w (Done b) = Onward w b
+  by_reads : (w : Work) (size : ℕ) → 1 ≤ size → w.batch ≡ [] → KeptByReads env size (λ here. Entering w size) (Onward w)
+  by_reads w size some none = record {
+    hits = λ r path v vs b good is t h. let e : Entry = record { verdict = v; progress = progress.Ready via.Cache } in like-entered w size vs (entered e b) (hit_here env path v b) refl refl refl refl refl refl (one-entered w size v vs e b h);
+    queues = λ r path v vs b good is f h. let e : Entry = record { verdict = v; progress = progress.Reading } in like-entered w size vs (entered e b) (queued_here env r path v b) refl refl refl refl refl refl (one-entered w size v vs e b h);
+    enters = λ here v vs b only h. one-entered w size v vs (read_entry env.serve.files v) b h;
+    plain = λ here b named h. all-read w b b size some none h refl refl refl (omega arith);
+    asks = λ here path paths b named h. all-read w b (asks_for env size (path ∷ paths) b) size some none h refl refl refl
+        (asked-more (record { number = b.asks + 1; queue = env.queue + length b.jobs; size = size; paths = path ∷ paths }) b.asked);
+  }
 
   wider : (n : ℕ) (r : Received) → receive_room r ≤ receive_room (record r { unread = drop n r.unread })
   wider n r = let l = length-drop n r.unread in less (length r.unread) (length (drop n r.unread)) r.got (omega (arith, l)) where
@@ -288,41 +278,27 @@ module _ (env : NodeEnv) (kept fetches : List Kept) where
         })));
       })
 
-  reads-these : (here : Bool) (used : ℕ) (w : Work) (vs : List Verdict) → w.batch ≡ [] → w.service.block.send.finished ≡ false → StepOn w (reads_these env here used w vs)
-  reads-these here used w [] none open_ = ends used w open_
-  reads-these here used w (v ∷ vs) none open_ =
-      let a : Work = record w { service = serving_consumed used w.service } in
-      let b = enters env here (w.service.count + 1) (v ∷ vs) a in
-      let c = asking env (length (v ∷ vs)) b in
-      let h = enters-all here (w.service.count + 1) (v ∷ vs) a in
-      let k = asks-all (length (v ∷ vs)) (named_paths env.serve.files b.batch) b in
-      let send : c.service.block.send ≡ w.service.block.send = ap (λ (x : Service). x.block.send) k.0 ∙ ap (λ (x : ControlBlock). x.send) h.block in
-      let over : c.service.over ≡ w.service.over = ap (λ (x : Service). x.over) k.0 ∙ h.over in
-      let count : c.service.count ≡ w.service.count = ap (λ (x : Service). x.count) k.0 ∙ h.count in
-      let l0 : length w.batch ≡ 0 = ap (λ (es : List Entry). length es) none in
-      let b0 : batch_left w.batch ≡ 0 = ap batch_left none in
-      let l1 : length c.batch ≡ length b.batch = ap (λ (es : List Entry). length es) k.1 in
-      let b1 : batch_left c.batch ≡ batch_left b.batch = ap batch_left k.1 in
-      let l2 : length b.batch ≡ length w.batch + suc (length vs) = h.longer in
-      let b2 : batch_left b.batch ≤ batch_left w.batch + 2 * suc (length vs) = h.costs in
-      let asked : length (asked_kept env c.asked kept) ≤ length (asked_kept env b.asked kept) + 1 = k.3 in
-      let same : length (asked_kept env b.asked kept) ≡ length (asked_kept env w.asked kept) = ap (λ (o : Option Asked). length (asked_kept env o kept)) h.asked in
-      let wants : length (wants_kept env c.wants fetches) ≡ length (wants_kept env w.wants fetches) = ap (λ (ws : List Want). length (wants_kept env ws fetches)) (k.2 ∙ h.wants) in record {
-        una = ap (λ (x : Sending). x.una) send;
-        wnd = ap (λ (x : Sending). x.wnd) send;
-        shut = λ e. ap (λ (x : Sending). x.finished) send ∙ e;
-        limit = λ e. ap (λ (o : Option ℕ). is_some o) over ∙ e;
-        more = omega arith;
-        cheap = omega arith;
-        way = inl (omega arith);
-      }
+  reads-on : (here : Bool) (w : Work) → w.batch ≡ [] → w.service.block.send.finished ≡ false → StepIn (Onward w) (Onward w) (reads_batch env here w)
+  reads-on here w none open_ = go (batch_of 8 w.service.block.recv.unread) where
+    used : ℕ
+    used = bytes_used 8 w.service.block.recv.unread
+
+    go : (vs : List Verdict) → StepIn (Onward w) (Onward w) (reads_these env here used w vs)
+    go [] = ends used w open_
+    go (v ∷ vs) =
+        let size : ℕ = length (v ∷ vs) in
+        these-in env (λ here. Entering w size) (Onward w) (Onward w) here used w (v ∷ vs) (by_reads w size (omega arith) none) none (λ e. let no : v ∷ vs ≡ [] = e in absurd (let f : ⊥ = cc in f))
+        (λ x us e. record {
+          longer = let l0 : length w.batch ≡ 0 = ap (λ (es : List Entry). length es) none in omega (arith, l0);
+          costs = let b0 : batch_left w.batch ≡ 0 = ap batch_left none in omega (arith, b0);
+          send = refl;
+          count = refl;
+          over = refl;
+          wants = refl;
+          asked = refl;
+        })
 
   -- ---- turn by turn
-
-  turned-on : (w : Work) (n : Next) → next_in w.batch ≡ n → w.service.over ≡ None → w.service.block.send.finished ≡ false → StepOn w (turned env w n)
-  turned-on w next.Serve e none open_ = serves-first w w.batch none refl
-  turned-on w next.Read e none open_ = reads-these false (bytes_used 8 w.service.block.recv.unread) w (batch_of 8 w.service.block.recv.unread) (none-left w.batch e) open_
-  turned-on w next.Stop e none open_ = onward-self w
 
   -- what may be read is open, and not over
   may-parts : (reset shut : Bool) (o : Option ℕ) → (not reset && (not shut && (elim o [ None ↦ true | Some total ↦ false ]))) ≡ true → (shut ≡ false) × (o ≡ None)
@@ -331,21 +307,18 @@ module _ (env : NodeEnv) (kept fetches : List Kept) where
   may-parts false false None e = (refl, refl)
   may-parts false false (Some total) e = absurd (let bad : false ≡ true = e in cc)
 
-  turn-on : (w : Work) → StepOn w (stay_turn env w)
-  turn-on w = go (may_read w.service) refl where
-    go : (b : Bool) → may_read w.service ≡ b → StepOn w (turned env w (cond b (next_in w.batch) next.Stop))
-    go true e = let p = may-parts w.service.block.reset w.service.block.send.finished w.service.over e in turned-on w (next_in w.batch) refl p.1 p.0
-    go false e = onward-self w
+  step-then : (a w : Work) (s : Step Work) → Onward a w → StepIn (Onward w) (Onward w) s → StepIn (Onward a) (Onward a) s
+  step-then a w (More u) g h = onward-then a w u g h
+  step-then a w (Done u) g h = onward-then a w u g h
 
   pub goes-onward : (a : Work) → Onward a (goes_on env a)
-  goes-onward a = runs_keep (stay_turn env) work_left (Onward a) (record {
-    more = λ y z e p. onward-then a y z p (subst (StepOn y) e (turn-on y));
-    done = λ y z e p. onward-then a y z p (subst (StepOn y) e (turn-on y));
+  goes-onward a = goes-in env (Onward a) (Onward a) (record {
+    reads = λ w none may p. step-then a w (reads_batch env false w) p (reads-on false w none (may-parts w.service.block.reset w.service.block.send.finished w.service.over may).0);
+    serves = λ way e rest w may first is p. onward-then a w (serves_with (answered env.serve way e.verdict w.service) e rest w) p
+        (serves-on way e rest w (may-parts w.service.block.reset w.service.block.send.finished w.service.over may).1 first is);
+    stops = λ w may p. p;
   }) a (onward-self a)
 
   -- a stay that begins reads its first batch
   pub first-batch : (w : Work) → w.batch ≡ [] → w.service.block.send.finished ≡ false → Onward w (state_of (reads_batch env true w))
-  first-batch w none open_ = go (reads_batch env true w) (reads-these true (bytes_used 8 w.service.block.recv.unread) w (batch_of 8 w.service.block.recv.unread) none open_) where
-    go : (s : Step Work) → StepOn w s → Onward w (state_of s)
-    go (More b) h = h
-    go (Done b) h = h
+  first-batch w none open_ = state-in (Onward w) (reads_batch env true w) (reads-on true w none open_)

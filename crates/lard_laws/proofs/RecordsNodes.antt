@@ -8,7 +8,7 @@ use Rattle.lard_base.specs.declared.place.Place.TheVariants.{Node}
 use Rattle.lard_base.specs.declared.place.TimerKind.TheVariants as kind
 use Rattle.lard_base.specs.Parts.{IsValidParts}
 use Rattle.lard_rules.specs.Bounds as cluster
-use Rattle.lard_laws.proofs.RecordsCounted.{IsCounted, batch-counts, came-counts, state-counts, tagged-counts}
+use Rattle.lard_laws.proofs.RecordsCounted.{IsCounted, came-counts, tagged-counts}
 use Rattle.lard_laws.proofs.RecordsFit.{IsTold, fit-adopted, keeping-segment, keeping-timer}
 use Rattle.lard_laws.proofs.RecordsLetters.{IsLetter, ask-says, bytes-message, ended-says, spells, taken-says}
 use Rattle.lard_laws.proofs.RecordsNamed.{AreNamed, IsNamed, contents}
@@ -336,7 +336,7 @@ module _ (env : NodeEnv) (own : env.serve.place ≡ Node env.n) (node : IsNumber
         let answered = valid.answered in
         let acked = valid.acknowledged in
         let w : Work = state_of (reads_batch env true (node_begins env parts)) in
-        let start : IsAtWork env own node conn early small files short 0 0 (node_begins env parts) = record {
+        let start : IsAtWork env own node conn early small files short 8 0 (node_begins env parts) = record {
           service = record { notes = ((node, number, omega (arith, early)), tt); keeps = ((tt, omega (arith, got, answered), omega (arith, acked)), unread, fit-adopted parts valid wide_enough); over = tt };
           batch = tt;
           few = omega arith;
@@ -346,9 +346,9 @@ module _ (env : NodeEnv) (own : env.serve.place ≡ Node env.n) (node : IsNumber
           asked = tt;
         } in
         let first : IsCounted (node_begins env parts) = record { asks = omega arith; jobs = omega arith } in
+        let begun = batch-works env own node conn early small files short 0 true (node_begins env parts) refl start first in
         work-fits p held (taken_sent env) takes (omega arith) (goes_on env w)
-        (goes-works env own node conn early small files short 8 w (wide w (batch-works env own node conn early small files short 0 true (node_begins env parts) start first))
-        (state-counts env (reads_batch env true (node_begins env parts)) (batch-counts env true (node_begins env parts) (omega arith) first)))
+        (goes-works env own node conn early small files short 8 w (wide w begun.0) begun.1)
     offered_by-fits parts Again valid wide_enough unread = (takes, omega arith)
     offered_by-fits parts Stale valid wide_enough unread = tt
 

@@ -1,14 +1,14 @@
 -- What a node has in hand of a connection, turn by turn: what it notes is in range, and so are the jobs and the contents that it
 -- wants; a batch has at most eight requests.
-use Rattle.std.proofs.Common.{◌≡◌, ℕ, zero, suc, ◌+◌, ◌-◌, ◌≤◌, ◌<◌, ◌^◌, ◌==◌, nat_lt, List, [], ◌∷◌, ◌++◌, length, take, Bool, true, false, Option, Some, None, IfSome, refl, sym, ap, subst, arith, length-append}
+use Rattle.std.proofs.Common.{◌≡◌, ◌∙◌, ℕ, zero, suc, ◌+◌, ◌-◌, ◌≤◌, ◌<◌, ◌^◌, ◌==◌, nat_lt, List, [], ◌∷◌, ◌++◌, length, take, Bool, false, Option, Some, None, IfSome, refl, sym, ap, subst, arith, length-append}
 use Rattle.std.proofs.lemmas.Bool.{cond_both}
-use Rattle.std.proofs.lemmas.List.{length-take}
+use Rattle.std.proofs.lemmas.List.{length-take, length_push}
 use Rattle.std.specs.Prelude.{slice_get}
 use Rattle.lard_answers.specs.Answers.{good_path, verdicts}
 use Rattle.lard_base.specs.declared.place.Place.TheVariants.{Node}
 use Rattle.lard_base.specs.declared.place.Via.TheVariants as via
 use Rattle.lard_rules.specs.Bounds as cluster
-use Rattle.lard_laws.proofs.RecordsCounted.{HasEntered, IsCounted, IsCountedIn, all-entered, come-length, turn-counts}
+use Rattle.lard_laws.proofs.RecordsCounted.{IsCounted, come-length, entered-counts, queued-counts, served-counts}
 use Rattle.lard_laws.proofs.RecordsFronts.{may-open}
 use Rattle.lard_laws.proofs.RecordsLetters.{conn-number}
 use Rattle.lard_laws.proofs.RecordsNamed.{AreNamed, IsNamed, contents, verdict-named}
@@ -20,18 +20,16 @@ use Rattle.lard_journal.specs.declared.rec.Rec.TheVariants as rec
 use Rattle.lard_journal.specs.Range.{IsRecordInRange, IsNumber, IsPlaceInRange, IsViaInRange}
 use Rattle.lard_rules.specs.declared.stay.Asked.{Asked}
 use Rattle.lard_rules.specs.declared.stay.Entry.{Entry}
-use Rattle.lard_rules.specs.declared.stay.Next.{Next}
-use Rattle.lard_rules.specs.declared.stay.Next.TheVariants.{Stop}
 use Rattle.lard_rules.specs.declared.stay.Progress.{Progress}
 use Rattle.lard_rules.specs.declared.stay.Progress.TheVariants.{Named, Reading, Awaited, Ready}
 use Rattle.lard_rules.specs.declared.stay.Want.{Want}
-use Rattle.lard_rules.specs.Stay.{NodeEnv, Work, asks_for, came_for, come_on, come_progress, entered, enters, enters_first, enters_one, goes_on, work_left, and_path, left_by, named_path, named_paths, next_by, next_in, noted, path_in, progress_of, read_entry, read_progress, reads_batch, reads_these, serves_by, serves_first, started, started_here, started_there, starts_at, starts_named, starts_one, tagged, stay_turn, turned}
+use Rattle.lard_rules.specs.Stay.{NodeEnv, Work, asks_for, came_for, come_on, come_progress, entered, goes_on, and_path, left_by, named_path, named_paths, noted, path_in, progress_of, read_entry, read_progress, reads_batch, started_there, tagged, hit_here, queued_here, own_job}
 use Rattle.lard_reader.specs.Batches.{batch_of, bytes_used}
 use Rattle.lard_request.specs.declared.verdict.Verdict.{Verdict}
-use Rattle.lard_rules.proofs.Runs.{runs_keep}
-use Rattle.lard_rules.specs.Loop.{Step, state_of}
-use Rattle.lard_rules.specs.Loop as loop
-use Rattle.lard_rules.specs.Serving.{Service, answered, serving_consumed, may_read}
+use Rattle.lard_rules.specs.Loop.{state_of}
+use Rattle.lard_rules.specs.Serving.{Service, answered, serving_consumed}
+use Rattle.lard_rules.proofs.StayWalking.{KeptByReads, KeptByStarts, StepIn, goes-in, next_number, state-in, tagged-in, these-in}
+use Rattle.lard_endpoint.specs.Control.{finishing}
 
 -- ---- what is in hand
 
@@ -114,10 +112,6 @@ module _ (env : NodeEnv) (own : env.serve.place ≡ Node env.n) (node : IsNumber
   work-wider k j l i w a b h = let few = h.few in let few_wants = h.few_wants in
       record { service = h.service; batch = h.batch; few = omega (arith, few, a); jobs = h.jobs; wants = h.wants; few_wants = omega (arith, few_wants, b); asked = h.asked }
 
-  abbrev IsAtWorkIn : ℕ → ℕ → Step Work → Type 0
-  IsAtWorkIn k j (loop.More y) = IsAtWork k j y
-  IsAtWorkIn k j (loop.Done y) = IsAtWork k j y
-
   -- one note more
   noted-serves : (w : Service) (r : Rec) → IsRecordInRange r → IsServing w → IsServing (noted (r ∷ []) w)
   noted-serves w r n h = record { notes = Each-append IsRecordInRange w.notes (r ∷ []) h.notes (n, tt); keeps = h.keeps; over = h.over }
@@ -129,15 +123,14 @@ module _ (env : NodeEnv) (own : env.serve.place ≡ Node env.n) (node : IsNumber
 
   -- ---- starting
 
-  here-works : (k j r : ℕ) (path : List ℕ) (v : Verdict) (w : Work) → IsRequest r → IsNamed path → IsAtWork k j w → IsAtWork (k + 1) j (started_here env r path v w)
-  here-works k j r path v w n p h =
-      let hit : Work = record w { service = noted (rec.Hit env.n path ∷ []) w.service } in
-      let job : Job = record { origin = env.n; c = env.serve.c; epoch = record { 0 = env.epoch }; r = r; path = path } in
-      let queued : Work = record w { service = noted (rec.Queued env.n env.n env.serve.c r path ∷ []) w.service; jobs = w.jobs ++ job ∷ [] } in
-      cond_both (env.cached path) (entered (record { verdict = v; progress = Ready via.Cache }) hit) (entered (record { verdict = v; progress = Reading }) queued) (IsAtWork (k + 1) j)
-      (λ t. entered-works k j (record { verdict = v; progress = Ready via.Cache }) hit tt
-      (record { service = noted-serves w.service (rec.Hit env.n path) (node, p.0) h.service; batch = h.batch; few = h.few; jobs = h.jobs; wants = h.wants; few_wants = h.few_wants; asked = h.asked }))
-      (λ t. entered-works k j (record { verdict = v; progress = Reading }) queued tt
+  hit-works : (k j : ℕ) (path : List ℕ) (v : Verdict) (w : Work) → IsNamed path → IsAtWork k j w → IsAtWork (k + 1) j (hit_here env path v w)
+  hit-works k j path v w p h = entered-works k j (record { verdict = v; progress = Ready via.Cache }) (record w { service = noted (rec.Hit env.n path ∷ []) w.service }) tt
+      (record { service = noted-serves w.service (rec.Hit env.n path) (node, p.0) h.service; batch = h.batch; few = h.few; jobs = h.jobs; wants = h.wants; few_wants = h.few_wants; asked = h.asked })
+
+  queued-works : (k j r : ℕ) (path : List ℕ) (v : Verdict) (w : Work) → IsRequest r → IsNamed path → IsAtWork k j w → IsAtWork (k + 1) j (queued_here env r path v w)
+  queued-works k j r path v w n p h =
+      let job : Job = own_job env r path in
+      entered-works k j (record { verdict = v; progress = Reading }) (record w { service = noted (rec.Queued env.n env.n env.serve.c r path ∷ []) w.service; jobs = w.jobs ++ job ∷ [] }) tt
       (record {
         service = noted-serves w.service (rec.Queued env.n env.n env.serve.c r path) (node, node, number, omega (arith, n), p.0) h.service;
         batch = h.batch;
@@ -146,7 +139,7 @@ module _ (env : NodeEnv) (own : env.serve.place ≡ Node env.n) (node : IsNumber
         wants = h.wants;
         few_wants = h.few_wants;
         asked = h.asked;
-      }))
+      })
 
   there-works : (k j to r : ℕ) (path : List ℕ) (v : Verdict) (w : Work) → IsNumber to → IsRequest r → IsNamed path → IsAtWork k j w → IsAtWork (k + 1) (j + 1) (started_there to r path v w)
   there-works k j to r path v w n low p h =
@@ -156,34 +149,11 @@ module _ (env : NodeEnv) (own : env.serve.place ≡ Node env.n) (node : IsNumber
       entered-works k (j + 1) (record { verdict = v; progress = Awaited to }) (record w { wants = w.wants ++ want ∷ [] }) tt
       (record { service = h.service; batch = h.batch; few = h.few; jobs = h.jobs; wants = Each-append WantFits w.wants (want ∷ []) h.wants ((n, p, low), tt); few_wants = omega (arith, few, more); asked = h.asked })
 
-  started-works : (k j to r : ℕ) (path : List ℕ) (v : Verdict) (w : Work) → IsNumber to → IsRequest r → IsNamed path → IsAtWork k j w → IsAtWork (k + 1) (j + 1) (started env to r path v w)
-  started-works k j to r path v w t n p h = cond_both (to == env.n) (started_here env r path v w) (started_there to r path v w) (IsAtWork (k + 1) (j + 1))
-      (λ e. work-wider (k + 1) j (k + 1) (j + 1) (started_here env r path v w) (omega arith) (omega arith) (here-works k j r path v w n p h)) (λ e. there-works k j to r path v w t n p h)
-
   -- ---- a batch is read
 
   own-way : (o : Option (List ℕ)) → ProgressFits (progress_of o)
   own-way None = tt
   own-way (Some path) = tt
-
-  read-works : (k j : ℕ) (v : Verdict) (w : Work) → IsAtWork k j w → IsAtWork (k + 1) j (entered (read_entry env.serve.files v) w)
-  read-works k j v w h = entered-works k j (read_entry env.serve.files v) w (own-way (good_path env.serve.files v)) h
-
-  first-works : (k j r : ℕ) (v : Verdict) (w : Work) (o : Option (List ℕ)) → IsRequest r → IfSome o IsNamed → IsAtWork k j w → IsAtWork (k + 1) j (enters_first env r v w o).1
-  first-works k j r v w None n p h = read-works k j v w h
-  first-works k j r v w (Some path) n p h = here-works k j r path v w n p h
-
-  one-works : (k j : ℕ) (here : Bool) (r : ℕ) (v : Verdict) (w : Work) → IsRequest r → IsAtWork k j w → IsAtWork (k + 1) j (enters_one env here r v w).1
-  one-works k j false r v w n h = read-works k j v w h
-  one-works k j true r v w n h = first-works k j r v w (good_path env.serve.files v) n (verdict-named env.serve.files files v) h
-
-  enters-works : (k j : ℕ) (here : Bool) (r : ℕ) (vs : List Verdict) (w : Work) → r + length vs < 2 ^ 32 → IsAtWork k j w → IsAtWork (k + length vs) j (enters env here r vs w)
-  unfolding enters
-  enters-works k j here r [] w n h = work-wider k j (k + 0) j w (omega arith) (omega arith) h
-  enters-works k j here r (v ∷ vs) w n h =
-      let one : IsAtWork (k + 1) j (enters_one env here r v w).1 = one-works k j here r v w (omega (arith, n)) h in
-      let rest = enters-works (k + 1) j (enters_one env here r v w).0 (r + 1) vs (enters_one env here r v w).1 (omega (arith, n)) one in
-      work-wider (k + 1 + length vs) j (k + length (v ∷ vs)) j (enters env (enters_one env here r v w).0 (r + 1) vs (enters_one env here r v w).1) (omega arith) (omega arith) rest
 
   -- the paths that an Ask names
   in-named : (e : Entry) (x : Progress) → IfSome (path_in env.serve.files e x) IsNamed
@@ -198,51 +168,89 @@ module _ (env : NodeEnv) (own : env.serve.place ≡ Node env.n) (node : IsNumber
     go None n h = let few = h.1 in (h.0, omega (arith, few))
     go (Some path) n h = let few = h.1 in ((n, h.0), omega (arith, few))
 
-  asks-works : (k j size : ℕ) (paths : List (List ℕ)) (w : Work) → size ≤ 8 → length paths ≤ size → Each IsNamed paths → w.asks + 1 < 2 ^ 32 → env.queue + length w.jobs < 2 ^ 32 → IsAtWork k j w
-      → IsAtWork k j (asks_for env size paths w)
-  asks-works k j size [] w s few p a q h = h
-  asks-works k j size (path ∷ paths) w s few p a q h = record { service = h.service; batch = h.batch; few = h.few; jobs = h.jobs; wants = h.wants; few_wants = h.few_wants; asked = (s, few, p, omega arith, a, q) }
+  -- the batch has so many requests with those that are still to be entered, and one Ask more than was made is of one of them
+  record Entering (size j : ℕ) (vs : List Verdict) (w : Work) : Type 0 where
+    works : IsAtWork (length w.batch) j w
+    counts : IsCounted w
+    all : length w.batch + length vs ≡ size
+    asks : w.asks + 1 ≤ w.service.count + size
 
-  these-work : (j : ℕ) (here : Bool) (used : ℕ) (w : Work) (vs : List Verdict) → length vs ≤ 8 → IsAtWork 0 j w → IsCounted w → IsAtWorkIn 8 j (reads_these env here used w vs)
-  these-work j here used w [] few h counts = let none = h.few in record {
-    service = ended-serves env.serve number small (contents env.serve.files files) at (serving_consumed used w.service) (consumed-serves env.serve number small (contents env.serve.files files) at used w.service h.service);
-    batch = h.batch;
-    few = omega (arith, none);
-    jobs = h.jobs;
-    wants = h.wants;
-    few_wants = h.few_wants;
-    asked = h.asked;
-  }
-  these-work j here used w (v ∷ vs) few h counts =
-      let x : Work = record w { service = serving_consumed used w.service } in
-      let y : Work = enters env here (w.service.count + 1) (v ∷ vs) x in
-      let start : IsAtWork 0 j x = record { service = consumed-serves env.serve number small (contents env.serve.files files) at used w.service h.service; batch = h.batch; few = h.few; jobs = h.jobs; wants = h.wants; few_wants = h.few_wants; asked = h.asked } in
-      let counted = count-few w.service.count w.service.block h.service.keeps in
-      let all : IsAtWork (0 + length (v ∷ vs)) j y = enters-works 0 j here (w.service.count + 1) (v ∷ vs) x (omega (arith, counted, few)) start in
-      let paths = paths-named y.batch in
-      let batch_few = all.few in
-      let paths_few = paths.1 in
-      let came : HasEntered (length (v ∷ vs)) x y = all-entered env here (w.service.count + 1) (v ∷ vs) x in
-      let none = h.few in
-      let asks = counts.asks in
-      let as_many = came.asks in
-      let given = counts.jobs in
-      let jobs = came.jobs in
-      asks-works 8 j (length (v ∷ vs)) (named_paths env.serve.files y.batch) y few (omega (arith, batch_few, paths_few)) paths.0
-      (omega (arith, asks, as_many, counted, none)) (omega (arith, given, jobs, counted, none, few, short))
-      (work-wider (0 + length (v ∷ vs)) j 8 j y (omega (arith, few)) (omega arith) all)
+  -- the number of the next request fits
+  next-fits : (k j : ℕ) (w : Work) → length w.batch ≤ 8 → IsAtWork k j w → IsRequest (next_number w)
+  next-fits k j w few h = let counted = count-few w.service.count w.service.block h.service.keeps in omega (arith, counted, few)
 
-  reads-work : (j : ℕ) (here : Bool) (w : Work) → IsAtWork 0 j w → IsCounted w → IsAtWorkIn 8 j (reads_batch env here w)
-  reads-work j here w h counts = these-work j here (bytes_used 8 w.service.block.recv.unread) w (batch_of 8 w.service.block.recv.unread) (taken-few (verdicts w.service.block.recv.unread)) h counts
+  entering-on : (size j : ℕ) (e : Entry) (v : Verdict) (vs : List Verdict) (w u : Work) → u.batch ≡ w.batch ++ e ∷ [] → u.asks ≡ w.asks → u.service.count ≡ w.service.count → IsAtWork (length w.batch + 1) j u → IsCounted u → Entering size j (v ∷ vs) w
+      → Entering size j vs u
+  entering-on size j e v vs w u batch asks count works counts h =
+      let more : length u.batch ≡ length w.batch + 1 = ap (λ (es : List Entry). length es) batch ∙ length_push w.batch e in
+      let all = h.all in
+      let before = h.asks in
+      record { works = work-wider (length w.batch + 1) j (length u.batch) j u (omega (arith, more)) (omega arith) works; counts = counts; all = omega (arith, more, all); asks = omega (arith, asks, count, before) }
 
-  in-state : (k j : ℕ) (s : Step Work) → IsAtWorkIn k j s → IsAtWork k j (state_of s)
-  in-state k j (loop.More y) h = h
-  in-state k j (loop.Done y) h = h
+  by_reads : (size j : ℕ) → size ≤ 8 → KeptByReads env size (λ here. Entering size j) (λ w. IsAtWork 8 j w × IsCounted w)
+  by_reads size j eight = record {
+    hits = λ r path v vs w good is t h. entering-on size j (record { verdict = v; progress = Ready via.Cache }) v vs w (hit_here env path v w) refl refl refl
+        (hit-works (length w.batch) j path v w (good-fits v path good) h.works) (let g = entered-counts env (record { verdict = v; progress = Ready via.Cache }) w h.counts in record { asks = g.asks; jobs = g.jobs }) h;
+    queues = λ r path v vs w good is f h. entering-on size j (record { verdict = v; progress = Reading }) v vs w (queued_here env r path v w) refl refl refl
+        (queued-works (length w.batch) j r path v w (let low = next-fits (length w.batch) j w (let all = h.all in omega (arith, all, eight)) h.works in omega (arith, is, low)) (good-fits v path good) h.works) (queued-counts env r path v w h.counts) h;
+    enters = λ here v vs w only h. entering-on size j (read_entry env.serve.files v) v vs w (entered (read_entry env.serve.files v) w) refl refl refl
+        (entered-works (length w.batch) j (read_entry env.serve.files v) w (own-way (good_path env.serve.files v)) h.works) (entered-counts env (read_entry env.serve.files v) w h.counts) h;
+    plain = λ here w none h. (work-wider (length w.batch) j 8 j w (let all = h.all in omega (arith, all, eight)) (omega arith) h.works, h.counts);
+    asks = λ here path paths w named h. asks-works here path paths w named h;
+  } where
+    good-fits : (v : Verdict) (path : List ℕ) → good_path env.serve.files v ≡ Some path → IsNamed path
+    good-fits v path good = subst (λ (o : Option (List ℕ)). IfSome o IsNamed) good (verdict-named env.serve.files files v)
 
-  pub batch-works : (j : ℕ) (here : Bool) (w : Work) → IsAtWork 0 j w → IsCounted w → IsAtWork 8 j (state_of (reads_batch env here w))
-  batch-works j here w h counts = in-state 8 j (reads_batch env here w) (reads-work j here w h counts)
+    asks-works : (here : Bool) (path : List ℕ) (paths : List (List ℕ)) (w : Work) → named_paths env.serve.files w.batch ≡ path ∷ paths → Entering size j [] w → IsAtWork 8 j (asks_for env size (path ∷ paths) w) × IsCounted (asks_for env size (path ∷ paths) w)
+    asks-works here path paths w named h =
+        let works = h.works in
+        let counted = count-few w.service.count w.service.block works.service.keeps in
+        let all = h.all in
+        let asks = h.asks in
+        let jobs = h.counts.jobs in
+        let each = (paths-named w.batch).0 in
+        let few = (paths-named w.batch).1 in
+        let same : length (named_paths env.serve.files w.batch) ≡ length (path ∷ paths) = ap (λ (ps : List (List ℕ)). length ps) named in
+        let some : 1 ≤ length w.batch = omega (arith, few, same) in (
+          record {
+            service = works.service;
+            batch = works.batch;
+            few = omega (arith, all, eight);
+            jobs = works.jobs;
+            wants = works.wants;
+            few_wants = works.few_wants;
+            asked = (eight, omega (arith, few, same, all), subst (Each IsNamed) named each, omega arith, omega (arith, asks, counted, eight), omega (arith, jobs, counted, all, eight, short));
+          },
+          record { asks = omega (arith, asks, all); jobs = h.counts.jobs },
+        )
 
-  -- ---- serving
+  abbrev Holds : ℕ → Work → Type 0
+  Holds j w = IsAtWork 8 j w × IsCounted w
+
+  batch-in : (j : ℕ) (here : Bool) (w : Work) → w.batch ≡ [] → Holds j w → StepIn (Holds j) (Holds j) (reads_batch env here w)
+  batch-in j here w none h =
+      let used : ℕ = bytes_used 8 w.service.block.recv.unread in
+      let vs : List Verdict = batch_of 8 w.service.block.recv.unread in
+      let s : Service = serving_consumed used w.service in
+      let works = h.0 in
+      let empty : length w.batch ≡ 0 = ap (λ (es : List Entry). length es) none in
+      let taken : IsServing s = consumed-serves env.serve number small (contents env.serve.files files) at used w.service works.service in
+      these-in env (λ here. Entering (length vs) j) (Holds j) (Holds j) here used w vs (by_reads (length vs) j (taken-few (verdicts w.service.block.recv.unread))) none
+      (λ e. (
+        record { service = ended-serves env.serve number small (contents env.serve.files files) at s taken; batch = works.batch; few = works.few; jobs = works.jobs; wants = works.wants; few_wants = works.few_wants; asked = works.asked },
+        cond_both s.block.recv.fin (record s { block = finishing s.block }) s (λ (t : Service). IsCounted (record w { service = t })) (λ t. record { asks = h.1.asks; jobs = h.1.jobs }) (λ t. record { asks = h.1.asks; jobs = h.1.jobs }),
+      ))
+      (λ v us e. let some : length vs ≡ suc (length us) = ap (λ (l : List Verdict). length l) e in let asks = h.1.asks in record {
+        works = record { service = taken; batch = works.batch; few = omega arith; jobs = works.jobs; wants = works.wants; few_wants = works.few_wants; asked = works.asked };
+        counts = record { asks = h.1.asks; jobs = h.1.jobs };
+        all = omega (arith, empty);
+        asks = omega (arith, asks, empty, some);
+      })
+
+  pub batch-works : (j : ℕ) (here : Bool) (w : Work) → w.batch ≡ [] → IsAtWork 8 j w → IsCounted w → IsAtWork 8 j (state_of (reads_batch env here w)) × IsCounted (state_of (reads_batch env here w))
+  batch-works j here w none h counts = state-in (Holds j) (reads_batch env here w) (batch-in j here w none (h, counts))
+
+  -- ---- turn by turn
 
   served-works : (j : ℕ) (s : Service) (e : Entry) (rest : List Entry) (w : Work) → w.batch ≡ e ∷ rest → IsServing s → IsAtWork 8 j w → IsAtWork 8 j (record w { service = s; batch = left_by s.over e rest })
   served-works j s e rest w is served h =
@@ -253,73 +261,66 @@ module _ (env : NodeEnv) (own : env.serve.place ≡ Node env.n) (node : IsNumber
         go None all few = record { service = served; batch = all.1; few = omega (arith, few); jobs = h.jobs; wants = h.wants; few_wants = h.few_wants; asked = h.asked }
         go (Some total) all few = record { service = served; batch = all; few = few; jobs = h.jobs; wants = h.wants; few_wants = h.few_wants; asked = h.asked }
 
-  serves_by-works : (j : ℕ) (e : Entry) (rest : List Entry) (w : Work) (x : Progress) → w.batch ≡ e ∷ rest → w.service.block.send.finished ≡ false → ProgressFits x → IsAtWork 8 j w → IsAtWork 8 j (serves_by env e rest w x)
-  serves_by-works j e rest w (Ready way) is open_ n h =
-      served-works j (answered env.serve way e.verdict w.service) e rest w is (answered-serves env.serve number small (contents env.serve.files files) at way e.verdict w.service n open_ h.service) h
-  serves_by-works j e rest w _ is open_ n h = h
-
-  serves-works : (j : ℕ) (w : Work) (es : List Entry) → w.batch ≡ es → w.service.block.send.finished ≡ false → IsAtWork 8 j w → IsAtWork 8 j (serves_first env w es)
-  serves-works j w [] is open_ h = h
-  serves-works j w (e ∷ rest) is open_ h = serves_by-works j e rest w e.progress is open_ (subst (Each EntryFits) is h.batch).0 h
-
-  next-works : (j : ℕ) (w : Work) (es : List Entry) → w.batch ≡ es → w.service.block.send.finished ≡ false → IsAtWork 8 j w → IsCounted w → IsAtWorkIn 8 j (turned env w (next_in es))
-  next-works j w [] is open_ h counts =
-      let none : length w.batch ≡ 0 = ap (λ (es : List Entry). length es) is in
-      reads-work j false w (record { service = h.service; batch = h.batch; few = omega (arith, none); jobs = h.jobs; wants = h.wants; few_wants = h.few_wants; asked = h.asked }) counts
-  next-works j w (e ∷ rest) is open_ h counts = go e.progress where
-    go : (x : Progress) → IsAtWorkIn 8 j (turned env w (next_by x))
-    go (Ready way) = serves-works j w w.batch refl open_ h
-    go Named = h
-    go Reading = h
-    go (Awaited to) = h
-
-  turn-works : (j : ℕ) (w : Work) → IsAtWork 8 j w → IsCounted w → IsAtWorkIn 8 j (stay_turn env w)
-  turn-works j w h counts = cond_both (may_read w.service) (next_in w.batch) Stop (λ (n : Next). IsAtWorkIn 8 j (turned env w n)) (λ t. next-works j w w.batch refl (may-open w.service t) h counts) (λ t. h)
-
-  -- what holds between two turns
-  abbrev Holds : ℕ → Work → Type 0
-  Holds j w = IsAtWork 8 j w × IsCounted w
-
-  abbrev HoldsIn : ℕ → Step Work → Type 0
-  HoldsIn j s = IsAtWorkIn 8 j s × IsCountedIn env s
-
   pub goes-works : (j : ℕ) (w : Work) → IsAtWork 8 j w → IsCounted w → IsAtWork 8 j (goes_on env w) × IsCounted (goes_on env w)
-  goes-works j w h counts = runs_keep (stay_turn env) work_left (Holds j) (record {
-    more = λ y z e p. subst (HoldsIn j) e (turn-works j y p.0 p.1, turn-counts env y p.1);
-    done = λ y z e p. subst (HoldsIn j) e (turn-works j y p.0 p.1, turn-counts env y p.1);
+  goes-works j w h counts = goes-in env (Holds j) (Holds j) (record {
+    reads = λ k none may a. batch-in j false k none a;
+    serves = λ way e rest k may first is a. (
+      served-works j (answered env.serve way e.verdict k.service) e rest k first
+          (answered-serves env.serve number small (contents env.serve.files files) at way e.verdict k.service (subst ProgressFits is (subst (Each EntryFits) first a.0.batch).0) (may-open k.service may) a.0.service) a.0,
+      served-counts env way e rest k first a.1,
+    );
+    stops = λ k may a. a;
   }) w (h, counts)
 
   -- ---- what came
 
-  named-works : (k j to r : ℕ) (e : Entry) (w : Work) (o : Option (List ℕ)) → IsNumber to → IsRequest r → IfSome o IsNamed → EntryFits e → IsAtWork k j w → IsAtWork (k + 1) (j + 1) (starts_named env to r e w o).1
-  named-works k j to r e w None t n p f h = work-wider (k + 1) j (k + 1) (j + 1) (entered e w) (omega arith) (omega arith) (entered-works k j e w f h)
-  named-works k j to r e w (Some path) t n p f h = started-works k j to r path e.verdict w t n p h
+  -- those that are left fit, and no more contents are wanted than requests have started
+  record Starting (es : List Entry) (w : Work) : Type 0 where
+    works : IsAtWork (length w.batch) (length w.batch) w
+    all : length w.batch + length es ≤ 8
+    left : Each EntryFits es
 
-  one-starts : (k j : ℕ) (o : Option ℕ) (r : ℕ) (e : Entry) (w : Work) → IfSome o IsNumber → IsRequest r → EntryFits e → IsAtWork k j w → IsAtWork (k + 1) (j + 1) (starts_one env o r e w).1
-  one-starts k j None r e w t n f h = work-wider (k + 1) j (k + 1) (j + 1) (entered e w) (omega arith) (omega arith) (entered-works k j e w f h)
-  one-starts k j (Some to) r e w t n f h = named-works k j to r e w (named_path env.serve.files e) t n (in-named e e.progress) f h
+  starting-on : (x e : Entry) (es : List Entry) (w u : Work) → u.batch ≡ w.batch ++ x ∷ [] → IsAtWork (length w.batch + 1) (length w.batch + 1) u → Starting (e ∷ es) w → Starting es u
+  starting-on x e es w u batch works h =
+      let more : length u.batch ≡ length w.batch + 1 = ap (λ (es : List Entry). length es) batch ∙ length_push w.batch x in
+      let all = h.all in
+      record { works = work-wider (length w.batch + 1) (length w.batch + 1) (length u.batch) (length u.batch) u (omega (arith, more)) (omega (arith, more)) works; all = omega (arith, more, all); left = h.left.1 }
 
-  starts-work : (nodes : List ℕ) → Each IsNumber nodes → (k j i r : ℕ) (es : List Entry) (w : Work) → r + length es < 2 ^ 32 → Each EntryFits es → IsAtWork k j w → IsAtWork (k + length es) (j + length es) (starts_at env nodes i r es w)
-  unfolding starts_at
-  starts-work nodes ns k j i r [] w n f h = work-wider k j (k + 0) (j + 0) w (omega arith) (omega arith) h
-  starts-work nodes ns k j i r (e ∷ es) w n f h =
-      let one : IsAtWork (k + 1) (j + 1) (starts_one env (slice_get nodes i) r e w).1 = one-starts k j (slice_get nodes i) r e w (got IsNumber nodes i ns) (omega (arith, n)) f.0 h in
-      let y : Work = (starts_one env (slice_get nodes i) r e w).1 in
-      go (starts_one env (slice_get nodes i) r e w).0 y one
-      (λ i2. starts-work nodes ns (k + 1) (j + 1) i2 (r + 1) es y (omega (arith, n)) f.1 one) where
-        go : (b : Bool) (y : Work) → IsAtWork (k + 1) (j + 1) y → ((i2 : ℕ) → IsAtWork (k + 1 + length es) (j + 1 + length es) (starts_at env nodes i2 (r + 1) es y))
-            → IsAtWork (k + length (e ∷ es)) (j + length (e ∷ es)) (elim b as (λ p. Work) [ true ↦ starts_at env nodes (i + 1) (r + 1) es y | false ↦ starts_at env nodes i (r + 1) es y ])
-        go true y one rest = work-wider (k + 1 + length es) (j + 1 + length es) (k + length (e ∷ es)) (j + length (e ∷ es)) (starts_at env nodes (i + 1) (r + 1) es y) (omega arith) (omega arith) (rest (i + 1))
-        go false y one rest = work-wider (k + 1 + length es) (j + 1 + length es) (k + length (e ∷ es)) (j + length (e ∷ es)) (starts_at env nodes i (r + 1) es y) (omega arith) (omega arith) (rest i)
+  module _ (nodes : List ℕ) (ns : Each IsNumber nodes) where
+    wider : (w u : Work) → IsAtWork (length w.batch + 1) (length w.batch) u → IsAtWork (length w.batch + 1) (length w.batch + 1) u
+    wider w u h = work-wider (length w.batch + 1) (length w.batch) (length w.batch + 1) (length w.batch + 1) u (omega arith) (omega arith) h
+
+    stays : (e : Entry) (es : List Entry) (w : Work) → Starting (e ∷ es) w → Starting es (entered e w)
+    stays e es w h = starting-on e e es w (entered e w) refl (wider w (entered e w) (entered-works (length w.batch) (length w.batch) e w h.left.0 h.works)) h
+
+    low : (r : ℕ) (e : Entry) (es : List Entry) (w : Work) → r ≡ next_number w → Starting (e ∷ es) w → IsRequest r
+    low r e es w is h = let all = h.all in let next = next-fits (length w.batch) (length w.batch) w (omega (arith, all)) h.works in omega (arith, is, next)
+
+    path-fits : (e : Entry) (path : List ℕ) → named_path env.serve.files e ≡ Some path → IsNamed path
+    path-fits e path named = subst (λ (o : Option (List ℕ)). IfSome o IsNamed) named (in-named e e.progress)
+
+    by_starts : KeptByStarts env nodes (λ at. Starting)
+    by_starts = record {
+      stays = λ i r e es w is named h. stays e es w h;
+      short = λ i r path e es w is named none h. stays e es w h;
+      hits = λ i to r path e es w is named there t c h. let u : Work = hit_here env path e.verdict w in
+          starting-on (record { verdict = e.verdict; progress = Ready via.Cache }) e es w u refl (wider w u (hit-works (length w.batch) (length w.batch) path e.verdict w (path-fits e path named) h.works)) h;
+      queues = λ i to r path e es w is named there t c h. let u : Work = queued_here env r path e.verdict w in
+          starting-on (record { verdict = e.verdict; progress = Reading }) e es w u refl (wider w u (queued-works (length w.batch) (length w.batch) r path e.verdict w (low r e es w is h) (path-fits e path named) h.works)) h;
+      wants = λ i to r path e es w is named there f h. starting-on (record { verdict = e.verdict; progress = Awaited to }) e es w (started_there to r path e.verdict w) refl
+          (there-works (length w.batch) (length w.batch) to r path e.verdict w (subst (λ (o : Option ℕ). IfSome o IsNumber) there (got IsNumber nodes i ns)) (low r e es w is h) (path-fits e path named) h.works) h;
+    }
 
   pub tagged-works : (nodes : List ℕ) (w : Work) → Each IsNumber nodes → IsAtWork 8 0 w → IsAtWork 8 8 (tagged env nodes w)
   tagged-works nodes w ns h =
       let few = h.few in
-      let counted = count-few w.service.count w.service.block h.service.keeps in
-      let all : IsAtWork (0 + length w.batch) (0 + length w.batch) (tagged env nodes w) =
-      starts-work nodes ns 0 0 0 (w.service.count + 1) w.batch (record w { batch = [] }) (omega (arith, few, counted)) h.batch
-      (record { service = h.service; batch = tt; few = omega arith; jobs = h.jobs; wants = h.wants; few_wants = h.few_wants; asked = h.asked }) in
-      work-wider (0 + length w.batch) (0 + length w.batch) 8 8 (tagged env nodes w) (omega (arith, few)) (omega (arith, few)) all
+      let all = (tagged-in env nodes (λ at. Starting) (by_starts nodes ns) w (record {
+        works = record { service = h.service; batch = tt; few = omega arith; jobs = h.jobs; wants = h.wants; few_wants = h.few_wants; asked = h.asked };
+        all = omega (arith, few);
+        left = h.batch;
+      })).1 in
+      let most = all.all in
+      work-wider (length (tagged env nodes w).batch) (length (tagged env nodes w).batch) 8 8 (tagged env nodes w) (omega (arith, most)) (omega (arith, most)) all.works
 
   pub came-works : (f : Progress → Progress) → ((x : Progress) → ProgressFits x → ProgressFits (f x)) → (r : ℕ) (w : Work) → IsAtWork 8 0 w → IsAtWork 8 0 (came_for f r w)
   came-works f on r w h =
