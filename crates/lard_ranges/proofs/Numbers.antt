@@ -41,7 +41,9 @@ digits-take (suc n) [] a = tt
 digits-take (suc n) (d ∷ ds) a = (a.0, digits-take n ds a.1)
 
 pub one-more : (ds : List ℕ) (i : ℕ) → length ds ≤ 18 → list_all is_ascii_digit ds ≡ true → i < length ds
-    → (48 ≤ get_or ds i 0) × (get_or ds i 0 ≤ 57) × (digits_value 10 (take (i + 1) ds) ≡ digits_value 10 (take i ds) * 10 + (get_or ds i 0 - 48)) × (digits_value 10 (take (i + 1) ds) < 10 ^ 18)
+    → (48 ≤ get_or ds i 0) × (get_or ds i 0 ≤ 57)
+    × (digits_value 10 (take (i + 1) ds) ≡ digits_value 10 (take i ds) * 10 + (get_or ds i 0 - 48))
+    × (digits_value 10 (take (i + 1) ds) < 10 ^ 18)
 one-more ds i few tested inside =
     let all : AllDigits 10 ds = digits-from_test ds tested in
     let r : (48 ≤ get_or ds i 0) × (get_or ds i 0 ≤ 57) = digit_at ds i all inside in
@@ -49,7 +51,8 @@ one-more ds i few tested inside =
       r.0,
       r.1,
       omega (arith, digits_value_more 10 ds i inside, v),
-      digits_value_short (numerals_by_value (AllDigits 10) tells_digits) (take (i + 1) ds) 18 (digits-take (i + 1) ds all) (omega (arith, few, length-take (i + 1) ds)),
+      digits_value_short (numerals_by_value (AllDigits 10) tells_digits) (take (i + 1) ds) 18 (digits-take (i + 1) ds all)
+          (omega (arith, few, length-take (i + 1) ds)),
     )
 
 -- ---- a number is told exactly where it is spelled

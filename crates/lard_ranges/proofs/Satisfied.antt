@@ -22,7 +22,9 @@ satisfied-within : (range : Range) (n first last : ℕ) → 0 < n → IsForward 
 satisfied-within (From from None) n first last some forward e = go (nat_le n from) refl e where
   go : (t : Bool) → nat_le n from ≡ t → cond {A = Part} t Unsatisfiable (Slice from (n - 1)) ≡ Slice first last → (first ≤ last) × (last < n)
   go true f g = cc
-  go false f g = let x : from ≡ first = cc in let y : n - 1 ≡ last = cc in let z : from < n = grind (arith, nat_tests, f) in (omega (arith, x, y, z, some), omega (arith, y, some))
+  go false f g =
+      let x : from ≡ first = cc in let y : n - 1 ≡ last = cc in let z : from < n = grind (arith, nat_tests, f) in
+      (omega (arith, x, y, z, some), omega (arith, y, some))
 satisfied-within (From from (Some to)) n first last some forward e = go (nat_le n from) refl e where
   go : (t : Bool) → nat_le n from ≡ t → cond {A = Part} t Unsatisfiable (Slice from (min to (n - 1))) ≡ Slice first last → (first ≤ last) × (last < n)
   go true f g = cc
@@ -32,7 +34,9 @@ satisfied-within (From from (Some to)) n first last some forward e = go (nat_le 
 satisfied-within (Suffix len) n first last some forward e = go (nat_eq len 0) refl e where
   go : (t : Bool) → nat_eq len 0 ≡ t → cond {A = Part} t Unsatisfiable (Slice (n - len) (n - 1)) ≡ Slice first last → (first ≤ last) × (last < n)
   go true f g = cc
-  go false f g = let x : n - len ≡ first = cc in let y : n - 1 ≡ last = cc in let z : 0 < len = grind (arith, nat_tests, f) in (omega (arith, x, y, z, some), omega (arith, y, some))
+  go false f g =
+      let x : n - len ≡ first = cc in let y : n - 1 ≡ last = cc in let z : 0 < len = grind (arith, nat_tests, f) in
+      (omega (arith, x, y, z, some), omega (arith, y, some))
 
 pub within : (range : Range) (n first last : ℕ) → IsForward range → applied range n ≡ Slice first last → (first ≤ last) × (last < n)
 within range n first last forward e = go (nat_eq n 0) refl where
@@ -58,7 +62,8 @@ satisfied-bytes (Suffix len) n place inside = go (nat_eq len 0) refl where
 
 pub bytes : (range : Range) (n place : ℕ) → place < n → HasByte (applied range n) place ↔ AsksForByte range n place
 bytes range n place inside =
-    subst (λ (p : Part). HasByte p place ↔ AsksForByte range n place) (sym (applied-some range n (omega (arith, inside)))) (satisfied-bytes range n place inside)
+    let is : satisfied range n ≡ applied range n = sym (applied-some range n (omega (arith, inside))) in
+    subst (λ (p : Part). HasByte p place ↔ AsksForByte range n place) is (satisfied-bytes range n place inside)
 
 -- ---- and is none where it asks for none
 

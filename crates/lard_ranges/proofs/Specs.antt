@@ -51,7 +51,8 @@ suffix-sound behind None range told e = cc
 suffix-sound behind (Some len) range told e =
     let same : Suffix len ≡ range = cc in subst (SpellsSpec (45 ∷ behind)) same (behind, number-sound behind len told, refl)
 
-last-sound : (a b : List ℕ) (first : ℕ) (o : Option ℕ) (range : Range) → SpellsNumber a first → number_told b ≡ o → up_to first o ≡ Some range → SpellsSpec (a ++ 45 ∷ b) range
+last-sound : (a b : List ℕ) (first : ℕ) (o : Option ℕ) (range : Range) → SpellsNumber a first → number_told b ≡ o → up_to first o ≡ Some range
+    → SpellsSpec (a ++ 45 ∷ b) range
 last-sound a b first None range n told e = cc
 last-sound a b first (Some last) range n told e = go (nat_lt last first) refl e where
   go : (t : Bool) → nat_lt last first ≡ t → cond {A = Option Range} t None (Some (From first (Some last))) ≡ Some range → SpellsSpec (a ++ 45 ∷ b) range

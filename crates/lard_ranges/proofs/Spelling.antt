@@ -79,7 +79,8 @@ set-complete set range x =
     let back : drop 6 set ≡ x.spec = ap (λ n. drop n set) six ∙ ap (drop (length x.unit + 1)) x.spelled ∙ drop-append-add x.unit (61 ∷ x.spec) 1 in
     let low : map to_ascii_lowercase (take 6 set) ≡ codes "bytes=" =
     ap (map to_ascii_lowercase) front ∙ map-append to_ascii_lowercase x.unit (61 ∷ []) ∙ ap (λ u. u ++ 61 ∷ []) x.bytes in
-    let t : str_eq_ignore_ascii_case (codes "bytes=") (take 6 set) ≡ true = (bytes_eq-Decides (codes "bytes=") (map to_ascii_lowercase (take 6 set))).1 (sym low) in
+    let t : str_eq_ignore_ascii_case (codes "bytes=") (take 6 set) ≡ true =
+    (bytes_eq-Decides (codes "bytes=") (map to_ascii_lowercase (take 6 set))).1 (sym low) in
     ap (λ b. cond {A = Option Range} b (spec_at (drop 6 set) (position is_dash (drop 6 set))) None) t
     ∙ ap (λ s. spec_at s (position is_dash s)) back
     ∙ spec-complete x.spec range x.asks

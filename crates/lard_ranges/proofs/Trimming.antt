@@ -42,7 +42,8 @@ pub record HasVisibleEnds (text : List ℕ) : Type 0 where
   pub last_shows : is_ows last ≡ false
 
 -- and so the text comes back from between blanks
-pub trim-complete : (before text behind : List ℕ) → AllPass is_ows before → AllPass is_ows behind → HasVisibleEnds text → trim_ows (before ++ (text ++ behind)) ≡ text
+pub trim-complete : (before text behind : List ℕ) → AllPass is_ows before → AllPass is_ows behind → HasVisibleEnds text
+    → trim_ows (before ++ (text ++ behind)) ≡ text
 unfolding trim_ows
 trim-complete before text behind a b v =
     let front : skip_ows (before ++ (text ++ behind)) ≡ text ++ behind =
