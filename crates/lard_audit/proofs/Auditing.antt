@@ -23,7 +23,7 @@ use Rattle.lard_audit.specs.Books.{AreSound, AuditBooks, blank_books, books_step
 use Rattle.lard_audit.specs.Network.{audit_epoch_in, is_audit_on_way, owner_in}
 use Rattle.lard_audit.specs.Nodes.{IsAtNode, entries_at, idle, audit_jobs_at, nodes_step, audit_number_at}
 use Rattle.lard_audit.specs.Sound.{broken, audit_due_behind, audit_files_of, first_broken, is_first_of, audit_job_at, job_behind, keeps_admission, keeps_cache, keeps_choice, keeps_clock, keeps_network, keeps_owner, keeps_room, keeps_sender, audit_last_of, size_in}
-use Rattle.lard_audit.specs.State.{audit_add_check, broken_at, audit_changed_by, audit_noted, sizes_of}
+use Rattle.lard_audit.specs.State.{audit_add_check, broken_at, audit_noted, sizes_of}
 use Rattle.lard_audit.proofs.Following.{admission-same, books-begin, books-more, choice-same, clock-same, due-more}
 use Rattle.lard_audit.proofs.Holding.{owner-same, owners-begin, owners-more, sender-same}
 use Rattle.lard_audit.proofs.Keeping.{first_books}
@@ -144,8 +144,8 @@ first-due b c r path n add remove keeps = go b.due refl keeps where
 
 -- the audit once a first assignment was made
 pub first-changed : {E : Type 0} (a : Audit) (given : Rec) (c r : ℕ) (path : List ℕ) (n : ℕ) (add remove : Option ℕ) (result : Result (Unit {0}) E) (new : AuditBooks) → given ≡ rec.AssignedFirst c r path n add remove
-    → OnOk result (new ≡ first_books a.books c path (record { node = n; add = add; remove = remove })) → OnOk result (record a { books = new } ≡ audit_changed_by a given)
-first-changed a given c r path n add remove (Ok done) new is ok = ap (λ (b : AuditBooks). record a { books = b }) ok ∙ ap (audit_changed_by a) (sym is)
+    → OnOk result (new ≡ first_books a.books c path (record { node = n; add = add; remove = remove })) → OnOk result (record a { books = new } ≡ record a { books = books_step a.books given })
+first-changed a given c r path n add remove (Ok done) new is ok = ap (λ (b : AuditBooks). record a { books = b }) (ok ∙ ap (books_step a.books) (sym is))
 first-changed a given c r path n add remove (Err fault) new is ok = tt
 
 -- ---- the begin

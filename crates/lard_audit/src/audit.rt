@@ -7,7 +7,7 @@ ghost use Rattle.lard_files.specs.Files.{AnswersAddition};
 ghost use Rattle.lard_journal.specs.declared.rec.Rec.{Rec};
 ghost use Rattle.lard_audit.specs.Audit.{IsAuditOf, IsFaultOf};
 ghost use Rattle.lard_audit.specs.Sound.{broken, audit_job_at, keeps_cache, size_in};
-ghost use Rattle.lard_audit.specs.Books.{AreSound};
+ghost use Rattle.lard_audit.specs.Books.{AreSound, books_step};
 ghost use Rattle.lard_audit.specs.Nodes.{IsAtNode, audit_changed, entries_at, audit_jobs_at, named_by, named_by_event, audit_number_at, number_or_0, queued_by, read_by, size_or_0};
 ghost use Rattle.lard_audit.specs.State.{audit_add_check, broken_at, audit_changed_by, audit_noted, sizes_of};
 
@@ -176,69 +176,60 @@ impl Audit {
         ensures err { OnErr result (self.new ≡ self.old) }
     {
         match rec {
-            Rec::Sent {
-                k,
-                from: _,
-                to: _,
-                bytes: _,
-            } => {
+            Rec::Sent { k, .. } => {
                 self.packets.send(*k);
                 Ok(())
             }
             Rec::Lost(k) => self.packets.lose(*k),
             Rec::Took { place, c, epoch } => self.owners.take(place, *c, *epoch),
-            Rec::Gave {
-                place: _,
-                c,
-                epoch: _,
-            } => self.owners.give(*c),
-            Rec::Admitted(c) => {
-                self.books.admit(*c);
-                Ok(())
-            }
-            Rec::Released(c) => {
-                self.books.release(*c);
-                Ok(())
-            }
-            Rec::AssignedFirst {
-                c,
-                r: _,
-                path,
-                n,
-                add,
-                remove,
-            } => self.books.assign_first(*c, path, *n, *add, *remove),
-            Rec::AssignedLater {
-                c,
-                r: _,
-                path,
-                n,
-                add,
-                size,
-                queue,
-            } => self.books.assign_later(*c, path, *n, *add, *size, *queue),
-            Rec::BatchOver(c) => {
-                self.books.end_batch(*c);
-                Ok(())
-            }
+            Rec::Gave { c, .. } => self.owners.give(*c),
+            Rec::Admitted(_) => self.change_books(rec),
+            Rec::Released(_) => self.change_books(rec),
+            Rec::AssignedFirst { .. } => self.change_books(rec),
+            Rec::AssignedLater { .. } => self.change_books(rec),
+            Rec::BatchOver(_) => self.change_books(rec),
             Rec::Hit { n, path } => {
                 self.nodes.hit(*n, path.as_slice());
                 Ok(())
             }
             Rec::Queued { n, m, c, r, path } => self.queue(*n, *m, *c, *r, path),
-            Rec::Read {
-                n,
-                m: _,
-                c: _,
-                r: _,
-                path,
-            } => self.read(*n, path),
-            Rec::Clock(time) => {
-                self.books.advance(*time);
-                Ok(())
-            }
+            Rec::Read { n, path, .. } => self.read(*n, path),
+            Rec::Clock(_) => self.change_books(rec),
             _ => Ok(()),
         }
+    }
+
+    /// What such a record changes of the books. Without memory nothing changes.
+    fn change_books(&mut self, rec: &Rec) -> Result<(), NoMemory>
+        requires { broken_at self.old rec.now ≡ None }
+        ensures ok { OnOk result (self.new ≡ record self.old { books = books_step self.old.books rec.now }) }
+        ensures err { OnErr result (self.new ≡ self.old) }
+    {
+        match rec {
+            Rec::Admitted(c) => self.books.admit(*c),
+            Rec::Released(c) => self.books.release(*c),
+            Rec::AssignedFirst {
+                c,
+                path,
+                n,
+                add,
+                remove,
+                ..
+            } => return self.books.assign_first(*c, path, *n, *add, *remove),
+            Rec::AssignedLater {
+                c,
+                path,
+                n,
+                add,
+                size,
+                queue,
+                ..
+            } => return self.books.assign_later(*c, path, *n, *add, *size, *queue),
+            Rec::BatchOver(c) => self.books.end_batch(*c),
+            Rec::Clock(time) => self.books.advance(*time),
+            _ => {}
+        }
+        Ok(())
     }
 
     /// A job is queued at a node. Without memory nothing changes.
