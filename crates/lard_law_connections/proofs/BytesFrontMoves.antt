@@ -231,7 +231,7 @@ module _ (k : Setting) (small : k.stream ≤ 2 ^ 30) (x : Conn) (s : Station) (t
   home-past own row (stage.Waiting b) at before sits = let h : StageSits row.epoch.0 own x.part.nodes (stage.Waiting b) = subst (StageSits row.epoch.0 own x.part.nodes) at sits.0 in h.1.1
   home-past own row _ at before sits = absurd before
 
-  past-found : (o : Option FrontRow) → x.part.front.row ≡ o → ArePast (front_epoch o) x.part.nodes → ArePast (front_epoch x.part.front.row) x.part.nodes
+  pub past-found : (o : Option FrontRow) → x.part.front.row ≡ o → ArePast (front_epoch o) x.part.nodes → ArePast (front_epoch x.part.front.row) x.part.nodes
   past-found o found past = subst (λ (q : Option FrontRow). ArePast (front_epoch q) x.part.nodes) (sym found) past
 
   module _ (talk : IsFrontTalk env l.w l.out l.vs) (heads : List Seen) (quiet : IsQuiet k small x s there l pend o heads) where
