@@ -20,11 +20,11 @@ use Rattle.lard_history.proofs.Seeing.{by_number}
 use Rattle.lard_journal.specs.declared.rec.Rec.TheVariants as rec
 use Rattle.lard_law_connections.specs.Kept.{IsKeptByStage, NodeKeepsMessages}
 use Rattle.lard_law_connections.specs.KeptLaws.{AnyNode}
-use Rattle.lard_law_connections.specs.Places.{IsComing, IsPast, IsThere, OthersArePast, Owning, Sits, StageSits, owning}
+use Rattle.lard_law_connections.specs.Places.{IsComing, IsPast, IsRowEarly, IsThere, OthersArePast, Owning, Sits, StageSits, owning}
 use Rattle.lard_law_connections.proofs.KeptHere.{here-is}
 use Rattle.lard_law_connections.proofs.KeptRuns.{connections-are-kept}
 use Rattle.lard_law_connections.proofs.PlacesRuns.{each-placed}
-use Rattle.lard_law_connections.proofs.PlacesTurns.{IsPlaced}
+use Rattle.lard_law_connections.proofs.PlacesTurns.{IsPlaced, small-early}
 use Rattle.lard_law_view.specs.Carry.{IsLaw, MayRestOn, setting, tale_at}
 use Rattle.lard_law_view.specs.View.{ClientRules, Conn, FrontRules, IsNodeEnv, IsUnheard, Move, NodeRules, Rules, Setting, SpellsMessage, brought_said, client_begins, client_does, conn, content_said, epoch_in, event_seen, front_admits, front_does, grown, inject_seen, kept_at, node_does, nothing_kept, nothing_said, packet_seen, part_of, reads_first, seen_in, stands}
 use Rattle.lard_law_view.proofs.Carried.{carried, reached-viewed}
@@ -105,28 +105,28 @@ module _ (nodes : ℕ → NodePart) (w : Owning) (n : ℕ) (row : BackRow) (foun
   low-at : (e : ℕ) → e ≤ 3 → IsPast e (nodes n).row → row.epoch.0 ≤ 3
   low-at e le past = past-low e row le (subst (IsPast e) found past)
 
-  there-low : (k e : ℕ) → n ≡ k → e ≡ 2 → IsThere k e w (nodes k).row → row.epoch.0 ≤ 3
-  there-low k e same two there =
+  there-low : (k e : ℕ) → n ≡ k → e ≤ 3 → IsThere k e w (nodes k).row → row.epoch.0 ≤ 3
+  there-low k e same le there =
       let mine : IsThere k e w (Some row) = subst (IsThere k e w) (ap (λ (i : ℕ). (nodes i).row) (sym same) ∙ found) there in
       let is = mine.0 in
-      omega (arith, is, two)
+      omega (arith, is, le)
 
-  away-low : (k e : ℕ) → e ≡ 2 → OthersArePast k e nodes → IsComing e w (nodes k).row ⊎ IsThere k e w (nodes k).row → row.epoch.0 ≤ 3
-  away-low k e two past sit = by_number (row.epoch.0 ≤ 3) n k
-      (λ same. ⊎_elim (λ (a : IsComing e w (nodes k).row). low-at e (omega (arith, two)) (subst (λ (i : ℕ). IsPast e (nodes i).row) (sym same) a.2)) (λ (a : IsThere k e w (nodes k).row). there-low k e same two a) sit)
-      (λ other. low-at e (omega (arith, two)) (past n other))
+  away-low : (k e : ℕ) → e ≤ 3 → OthersArePast k e nodes → IsComing e w (nodes k).row ⊎ IsThere k e w (nodes k).row → row.epoch.0 ≤ 3
+  away-low k e le past sit = by_number (row.epoch.0 ≤ 3) n k
+      (λ same. ⊎_elim (λ (a : IsComing e w (nodes k).row). low-at e le (subst (λ (i : ℕ). IsPast e (nodes i).row) (sym same) a.2)) (λ (a : IsThere k e w (nodes k).row). there-low k e same le a) sit)
+      (λ other. low-at e le (past n other))
 
-  stage-low : (e : ℕ) (d : FrontConn) → StageSits e w nodes d → row.epoch.0 ≤ 3
-  stage-low e (stage.Held b) sit = let one = sit.0 in low-at e (omega (arith, one)) (sit.1.1 n)
-  stage-low e (stage.Waiting b) sit = let one = sit.0 in low-at e (omega (arith, one)) (sit.1.1 n)
-  stage-low e stage.Lent sit = absurd sit
-  stage-low e (stage.Offering k d) sit = away-low k e sit.0 sit.2 sit.3
-  stage-low e (stage.Moved k d) sit = away-low k e sit.0 sit.2 (inr sit.3)
-  stage-low e (stage.Closed last) sit = low-at e sit.0 (sit.1.1 n)
+  stage-low : (e : ℕ) (d : FrontConn) → e ≤ 3 → StageSits e w nodes d → row.epoch.0 ≤ 3
+  stage-low e (stage.Held b) le sit = low-at e le (sit.1.1 n)
+  stage-low e (stage.Waiting b) le sit = low-at e le (sit.1.1 n)
+  stage-low e stage.Lent le sit = absurd sit
+  stage-low e (stage.Offering k d) le sit = away-low k e le sit.2 sit.3
+  stage-low e (stage.Moved k d) le sit = away-low k e le sit.2 (inr sit.3)
+  stage-low e (stage.Closed last) le sit = low-at e le (sit.1.1 n)
 
-  row-low : (q : Option FrontRow) → Sits w nodes q → row.epoch.0 ≤ 3
-  row-low None sit = low-at 0 (omega arith) (sit.1 n)
-  row-low (Some front) sit = stage-low front.epoch.0 front.stage sit.0
+  row-low : (q : Option FrontRow) → IsRowEarly q → Sits w nodes q → row.epoch.0 ≤ 3
+  row-low None early sit = low-at 0 (omega arith) (sit.1 n)
+  row-low (Some front) early sit = let le = small-early front.epoch.0 front.stage early in stage-low front.epoch.0 front.stage (omega (arith, le)) sit.0
 
 -- what is here is of a low epoch
 here-low : (x : Conn) → IsPlaced x → (n e : ℕ) → (e < 2 ^ 16) ⊎ (here e (x.part.nodes n) ≡ None)
@@ -135,7 +135,7 @@ here-low x placed n e = go (here e (x.part.nodes n)) refl where
   go None is = inr is
   go (Some y) is =
       let it = here-is e (x.part.nodes n) y.0 y.1 is in
-      let low = row-low x.part.nodes (owning (tale_at x)) n _ it.row x.part.front.row placed.sits in
+      let low = row-low x.part.nodes (owning (tale_at x)) n _ it.row x.part.front.row placed.early placed.sits in
       inl (omega (arith, low))
 
 -- ---- a move
