@@ -77,7 +77,8 @@ class Talk:
     heard, said: a Stream each. acknowledged: the place before which the client has all. served: the responses, in order.
     wrote: what the schedule's client wrote. injected: how many packets were put on the way in its name. notes: what no report
     of the program has. ends: what ended the connection early. news: of each `got` that brought bytes or a FIN, by its line, how
-    many bytes were heard of it, how many were heard before, and whether the FIN was heard of it."""
+    many bytes were heard of it (`new`), how many were heard before (`before`), how many places before it were not (`ahead`),
+    whether the FIN was heard of it (`end`), and whether all of it was heard before (`is_old`)."""
 
     def __init__(self, report):
         self.report = report
@@ -153,9 +154,15 @@ class Talk:
         if not is_plain or not (part.data or "FIN" in part.flags):
             return
         piece = SimpleNamespace(part=part, line=record.line, place=self.heard.place_of(part.seq))
-        at = self.inside(piece)
-        self.news[record.line] = SimpleNamespace(new=0, before=min(at, len(part.data)) if at < HALF else 0, end=False)
+        self.news[record.line] = self.news_of(piece)
         self.pieces.append(piece)
+
+    def news_of(self, piece):
+        """What is to be told of a piece before anything is heard of it."""
+        at, size = self.inside(piece), len(piece.part.data)
+        before, ahead = (min(max(0, at - self.heard.ended), size), 0) if at < HALF else (0, NUMBERS - at)
+        is_old = at < HALF and not self.has_next(piece) and before == size
+        return SimpleNamespace(new=0, before=before, ahead=ahead, end=False, is_old=is_old)
 
     def is_acceptable(self, part):
         """Table 6, by the window that was told last; at a window of 0 the next number is, for its ACK."""
@@ -188,7 +195,7 @@ class Talk:
                 raise Fault(self.unheard(place))
             at, data, news = self.inside(piece), piece.part.data, self.news[piece.line]
             more = data[at:at + place - self.heard.next]
-            ended = "FIN" in piece.part.flags and at + len(more) == len(data) and place > self.heard.next + len(more)
+            ended = "FIN" in piece.part.flags and place > self.heard.next + len(more)  # then these are its last bytes
             self.heard.add(more, ended, step)
             self.acknowledge(piece.part, step)  # so it was acceptable
             news.new, news.end = news.new + len(more), ended
@@ -230,15 +237,39 @@ class Talk:
         if not part.data and not is_end:
             return
         at = said.place_of(begin) - 1 if said.first is not None else -1
+        old, end = said.bytes[at:at + len(part.data)] if at >= 0 else b"", at + len(part.data)
+        if said.ended and end > len(said.bytes) or is_end and end < len(said.bytes):
+            raise Fault("the cluster says more than its FIN")
         if not 0 <= at <= len(said.bytes):
             raise Fault(f"the cluster says place {at + 1:,}, and all that it said is before place {said.next:,}")
-        old, end = said.bytes[at:at + len(part.data)], at + len(part.data)
         alike = agreeing(old, part.data)
         if alike < len(old):
             self.notes.append(f"line {record.line}: byte {at + alike + 1:,} of the cluster is said again, and otherwise")
-        if said.ended and end > len(said.bytes) or is_end and end < len(said.bytes):
-            raise Fault("the cluster says more than its FIN")
         said.add(part.data[len(old):], said.ended or is_end, step)
+
+
+class Talks:
+    """All connections of a report, by its steps so far. Of one whose stream cannot be no more is told from there on."""
+
+    def __init__(self, report):
+        self.report, self.talks, self.broken = report, {}, set()
+
+    def take(self, step):
+        """One step more, with all its records."""
+        for record in step.records:
+            c = record.connection
+            if c is None or c in self.broken:
+                continue
+            try:
+                self.talks.setdefault(c, Talk(self.report)).take(step, record)
+            except ReportError:
+                self.broken.add(c)
+
+    def news_of(self, record):
+        """What was heard of the segment that a `got` brought, by its step's end; None of one that has nothing to be heard, or
+        came to no place that has the connection."""
+        talk = self.talks.get(record.connection)
+        return talk.news.get(record.line) if talk and record.connection not in self.broken else None
 
 
 def talk_of(report, connection):
