@@ -246,23 +246,23 @@ def answered():
 
 def counts_for_nothing(case):
     """What comes then acknowledges no byte, and ends the connection where this is told."""
-    name, report, ends = case
+    name, report, reset = case
     told = report.told()
-    if (told["acknowledged"]["bytes"], told["said"]["bytes"], told["heard"]["bytes"], told["ends"]) != (8, 19, 18, ends):
+    if (told["acknowledged"]["bytes"], told["said"]["bytes"], told["heard"]["bytes"], told["reset"]) != (8, 19, 18, reset):
         yield f"tools/stream, {name}: {told}"
 
 
 NOTHING = [
-    ("a part is acknowledged", answered(), []),
-    ("an ACK of what was not said", answered().comes(19, ack=30), []),
-    ("an ACK outside of the window", answered().comes(119, ack=20), []),
-    ("an ACK of a SYN", answered().comes(19, flags="SYN ACK", ack=20), []),
-    ("a number without its flag", answered().comes(19, flags="PSH", ack=20), []),
-    ("a RST that is not next", answered().comes(20, flags="RST"), []),
-    ("behind a RST", answered().comes(19, flags="RST").comes(19, ack=20), ["reset by its client in step 9"]),
-    ("behind a reset", answered().line("reset front 1 99").comes(19, ack=20), ["reset at the stream limit in step 7"]),
-    ("while nobody has it", answered().line("gave front 1 1").comes(19, ack=20), []),
-    ("once the front end has it back", answered().line("gave front 1 1").line("took front 1 3").comes(19, ack=20), []),
+    ("a part is acknowledged", answered(), None),
+    ("an ACK of what was not said", answered().comes(19, ack=30), None),
+    ("an ACK outside of the window", answered().comes(119, ack=20), None),
+    ("an ACK of a SYN", answered().comes(19, flags="SYN ACK", ack=20), None),
+    ("a number without its flag", answered().comes(19, flags="PSH", ack=20), None),
+    ("a RST that is not next", answered().comes(20, flags="RST"), None),
+    ("behind a RST", answered().comes(19, flags="RST").comes(19, ack=20), {"by": "the client", "step": "9"}),
+    ("behind a reset", answered().line("reset front 1 99").comes(19, ack=20), {"by": "the stream limit", "step": "7"}),
+    ("while nobody has it", answered().line("gave front 1 1").comes(19, ack=20), None),
+    ("once the front end has it back", answered().line("gave front 1 1").line("took front 1 3").comes(19, ack=20), None),
 ]
 
 
@@ -323,6 +323,7 @@ def cannot_be():
         (ended.says(1, ack=3), 17, "this acknowledges more than the FIN of the client"),
         (Made().says(1), 4, "this acknowledges a client of whom no SYN came"),
         (Made().begun().says(1, b"ab").says(4, b"d"), 12, "the cluster says place 4, and all that it said is before place 3"),
+        (Made().begun().says(-3, b"abc"), 11, "the cluster says place -3, and all that it said is before place 1"),
         (Made().begun().says(1, flags="ACK FIN").says(2, b"a"), 12, "the cluster says more than its FIN"),
         (Made().begun().says(9, flags="SYN ACK"), 11, "the cluster's SYN has the number 5009, and had 5000"),
     ]
@@ -332,8 +333,8 @@ def cannot_be():
 
 HEARS = [", and hears none of it, since 10 bytes before it did not come.", ", and hears 10 bytes of it.", ", which it heard before.",
          ", and hears 10 bytes of it; 5 bytes it heard before.", ", and hears the end.", ", and hears none of it."]
-ENDS = [("limit-at-a-node", 2, ["reset at the stream limit in step 14"]), ("abort-before-it-is-established", 1, ["reset by its client in step 6"]),
-        ("injected-behind-the-end", 1, []), ("injected-reset", 1, ["reset by its client in step 10"])]
+RESETS = [("limit-at-a-node", 2, {"by": "the stream limit", "step": "14"}), ("abort-before-it-is-established", 1, {"by": "the client", "step": "6"}),
+        ("injected-behind-the-end", 1, None), ("injected-reset", 1, {"by": "the client", "step": "10"})]
 LONGEST = b"a" * 8188 + b"\r\n\r\n"
 HEADS = [(b"\r\na\r\n\r\n\r\nb", [(2, 7)], 1), (LONGEST + b"b\r\n\r\n", [(0, 8192), (8192, 8197)], 0), (b"a" * 8191, [], 8191),
          (b"a" + LONGEST + b"b\r\n\r\n", [(0, 8192)], 0), (b"\r\n" + b"a" * 8192, [(2, 8194)], 0), (b"a\r\n\r\n\r", [(0, 5)], 1)]
@@ -349,9 +350,11 @@ def sentences(wanted):
 
 def early(case):
     name, connection, wanted = case
-    ends = json.loads(raw(f"rows/{name}.report", str(connection), "--json"))["ends"]
-    if ends != wanted:
-        yield f"tools/stream: {name}: {ends}"
+    path = f"rows/{name}.report"
+    reset = json.loads(raw(path, str(connection), "--json"))["reset"]
+    line = f"reset by {wanted['by']} in step {wanted['step']}\n" if wanted else ""
+    if reset != wanted or line not in fine(["tools/stream", path, str(connection)]):
+        yield f"tools/stream: {name}: {reset}"
 
 
 def cut(case):
@@ -361,10 +364,20 @@ def cut(case):
         yield f"tools/streams.py: heads of {data[:20]}, {len(data)} bytes: {heads(data)}"
 
 
+def documented(page):
+    """The page names each part of the JSON."""
+    told = json.loads(raw("rows/limit-at-a-node.report", "2", "--json"))
+    parts = [told, told["requests"][0], *(part for part in told.values() if isinstance(part, dict))]
+    missing = {name for part in parts for name in part if f"`{name}`" not in content(page)}
+    if missing:
+        yield f"{page}: {sorted(missing)} of tools/stream are not named"
+
+
 def tests(paths):
     """Each test with what it is given."""
     yield sentences, HEARS
-    yield from ((early, it) for it in ENDS)
+    yield documented, "docs/REPORTS-FOR-PROGRAMS.md"
+    yield from ((early, it) for it in RESETS)
     yield from ((cut, it) for it in HEADS)
     yield from ((streamed, path) for path in paths)
     yield from ((made, it) for it in by_hand())

@@ -76,15 +76,15 @@ class Talk:
 
     heard, said: a Stream each. acknowledged: the place before which the client has all. served: the responses, in order.
     wrote: what the schedule's client wrote. injected: how many packets were put on the way in its name. notes: what no report
-    of the program has. ends: what ended the connection early. news: of each `got` that brought bytes or a FIN, by its line, how
-    many bytes were heard of it (`new`), how many were heard before (`before`), how many places before it were not (`ahead`),
-    whether the FIN was heard of it (`end`), and whether all of it was heard before (`is_old`)."""
+    of the program has. reset: by whom and in which step it was, or None. news: of each `got` that brought bytes or a FIN, by
+    its line, how many bytes were heard of it (`new`), how many were heard before (`before`), how many places before it were
+    not (`ahead`), whether the FIN was heard of it (`end`), and whether all of it was heard before (`is_old`)."""
 
     def __init__(self, report):
         self.report = report
         self.heard, self.said, self.acknowledged = Stream(), Stream(), Growth()
         self.served, self.wrote, self.injected = [], bytearray(), 0
-        self.notes, self.ends, self.news = [], [], {}
+        self.notes, self.reset, self.news = [], None, {}
         self.owner, self.window, self.is_over = None, 0, False
         self.pieces = []  # the segments that came and may have the next place, each with its `got` and its place
 
@@ -116,8 +116,11 @@ class Talk:
         self.injected += 1
 
     def on_reset(self, step, _):
+        self.ends_early(step, "the stream limit")
+
+    def ends_early(self, step, who):
         self.is_over = True
-        self.ends.append(f"reset at the stream limit in step {step.name}")
+        self.reset = self.reset or {"by": who, "step": step.name}
 
     # ---- what comes
 
@@ -149,8 +152,7 @@ class Talk:
             if is_plain:
                 self.acknowledge(part, step)
             elif "RST" in part.flags and self.heard.place_of(part.seq) == self.heard.next:
-                self.is_over = True
-                self.ends.append(f"reset by its client in step {step.name}")
+                self.ends_early(step, "the client")
         if not is_plain or not (part.data or "FIN" in part.flags):
             return
         piece = SimpleNamespace(part=part, line=record.line, place=self.heard.place_of(part.seq))
@@ -241,7 +243,7 @@ class Talk:
         if said.ended and end > len(said.bytes) or is_end and end < len(said.bytes):
             raise Fault("the cluster says more than its FIN")
         if not 0 <= at <= len(said.bytes):
-            raise Fault(f"the cluster says place {at + 1:,}, and all that it said is before place {said.next:,}")
+            raise Fault(f"the cluster says place {at + 1 if at < HALF else at + 1 - NUMBERS:,}, and all that it said is before place {said.next:,}")
         alike = agreeing(old, part.data)
         if alike < len(old):
             self.notes.append(f"line {record.line}: byte {at + alike + 1:,} of the cluster is said again, and otherwise")
@@ -302,21 +304,24 @@ def heads(data):
     return found, len(data) - at
 
 
+TOLD = "line bytes heard code length place via said acknowledged".split()
+
+
 def requests(talk):
-    """A dict for each request that was heard, and for each response that no such request has."""
+    """A dict for each request that was heard, and for each response that no such request has; what there is not is None."""
     found, _ = heads(bytes(talk.heard.bytes))
-    told = {number: head_of(talk, number, *place) for number, place in enumerate(found, 1)}
+    told = {number: head_of(talk, *place) for number, place in enumerate(found, 1)}
     begin = 1  # the place of a response's first byte
     for record in talk.served:
-        told.setdefault(record.request, dict.fromkeys(["line", "bytes", "heard"])).update(
+        told.setdefault(record.request, {}).update(
             code=record.code, length=record.length, place=record.place, via=record.via,
             said=talk.said.steps.step_of(begin + 1), acknowledged=talk.acknowledged.step_of(begin + record.length))
         begin += record.length
-    blank = dict.fromkeys(["code", "length", "place", "via", "said", "acknowledged"])
-    return [{"request": number, **blank, **told[number]} for number in sorted(told)]
+    return [{"request": number, **{name: told[number].get(name) for name in TOLD}} for number in sorted(told)]
 
 
-def head_of(talk, number, begin, end):
+def head_of(talk, begin, end):
+    """What is told of a head: it is heard once the place behind it is the next one."""
     line = bytes(talk.heard.bytes[begin:end]).split(b"\r\n")[0].decode("latin-1")
     return {"line": line, "bytes": end - begin, "heard": talk.heard.steps.step_of(1 + end)}
 
