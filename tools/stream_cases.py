@@ -55,6 +55,7 @@ def number_at(data, at):
 
 
 def raw(*words):
+    """The bytes that tools/stream prints, which has nothing to complain of."""
     status, out, errors = call_raw(["tools/stream", *words])
     if status or errors:
         raise AssertionError(f"{words}: status {status}: {errors}")
@@ -75,6 +76,7 @@ def streamed(path):
 
 
 def counts(told, heard, said):
+    """The JSON counts the bytes that are printed, and no head overlaps another."""
     if (told["heard"]["bytes"], told["said"]["bytes"]) != (len(heard), len(said)):
         yield "the bytes are not as many as it counts"
     if told["heard"]["bytes"] - told["heard"]["left"] < sum(it["bytes"] or 0 for it in told["requests"]):
@@ -82,6 +84,7 @@ def counts(told, heard, said):
 
 
 def by_the_lines(lines, told, heard, said, first):
+    """What is told of a connection of a run is what its lines say, found without the ways of the tool."""
     if not lines.is_touched and not lines.wrote.startswith(heard):
         yield "heard is what an untouched client did not write"
     if lines.heard() != len(heard) + (told["heard"]["end"] is not None):
@@ -349,6 +352,7 @@ def sentences(wanted):
 
 
 def early(case):
+    """Who reset a connection of rows/, and when; a RST behind the end of both sides resets nothing."""
     name, connection, wanted = case
     path = f"rows/{name}.report"
     reset = json.loads(raw(path, str(connection), "--json"))["reset"]

@@ -51,6 +51,7 @@ class Stream:
 
     @property
     def next(self):
+        """The place that comes next: the SYN, the bytes and the FIN have one each (RFC 9293, 3.4)."""
         return 0 if self.first is None else 1 + len(self.bytes) + self.ended
 
     @property
@@ -59,6 +60,7 @@ class Stream:
         return self.steps.step_of(self.next) if self.ended else None
 
     def place_of(self, number):
+        """The place of a sequence number, whose count begins again at 2^32."""
         return (number - self.first) % NUMBERS
 
     def begin(self, number, step):
@@ -119,12 +121,14 @@ class Talk:
         self.ends_early(step, "the stream limit")
 
     def ends_early(self, step, who):
+        """From here on nothing that comes counts. The first who ended it is told."""
         self.is_over = True
         self.reset = self.reset or {"by": who, "step": step.name}
 
     # ---- what comes
 
     def on_got(self, step, record):
+        """A client's segment comes to the front end, or in a Forward to a node. It counts where that place has the connection."""
         packet = self.report.packets[record.packet - 1]
         part = packet.segment
         if packet.message and packet.message.kind == "Forward":
@@ -186,6 +190,7 @@ class Talk:
         return (self.heard.next - piece.place) % NUMBERS
 
     def has_next(self, piece):
+        """Whether a byte or the FIN of this piece is at the next place."""
         return self.inside(piece) < len(piece.part.data) + ("FIN" in piece.part.flags)
 
     def hear(self, step, place):
@@ -204,6 +209,7 @@ class Talk:
             self.pieces = [it for it in self.pieces if self.has_next(it) or self.inside(it) >= HALF]
 
     def unheard(self, place):
+        """Why the cluster cannot have all before this place."""
         if self.heard.first is None:
             return "this acknowledges a client of whom no SYN came"
         if self.heard.ended:
@@ -213,6 +219,8 @@ class Talk:
     # ---- what is said
 
     def on_sent(self, step, record):
+        """What the cluster sends tells how far it has heard: each segment with ACK does, and an Offer, behind which no segment
+        of that place goes out."""
         if record.source[0] == "c":
             return
         if record.message and record.message.kind == "Offer":
