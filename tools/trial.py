@@ -18,9 +18,9 @@ FOLDER = tempfile.TemporaryDirectory()  # of the files that a check makes
 FAULTS = AssertionError, subprocess.CalledProcessError, ExpatError
 
 
-def call(command):
-    """A tool, run in this process: its status, and what it printed."""
-    out, errors = io.StringIO(), io.StringIO()
+def call_raw(command):
+    """A tool, run in this process: its status, the bytes that it printed, and its complaints."""
+    out, errors = io.TextIOWrapper(io.BytesIO(), encoding="utf-8"), io.StringIO()
     words = command.split() if isinstance(command, str) else command
     sys.argv, status = words, 0
     with redirect_stdout(out), redirect_stderr(errors):
@@ -28,7 +28,14 @@ def call(command):
             runpy.run_path(words[0], run_name="__main__")
         except SystemExit as end:
             status = end.code or 0
-    return int(status), out.getvalue(), errors.getvalue()
+    out.flush()
+    return int(status), out.buffer.getvalue(), errors.getvalue()
+
+
+def call(command):
+    """The same with what it printed as text."""
+    status, out, errors = call_raw(command)
+    return status, out.decode(), errors
 
 
 def fine(command):
