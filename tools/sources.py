@@ -112,7 +112,7 @@ def definitions(crate):
                 comment.append(line.lstrip("- ").rstrip())
                 at += 1
                 continue
-            if head and not line.startswith("pub use") and not line.startswith("pub mod"):
+            if head and not line.startswith(("pub use", "unfoldable pub use", "pub mod")):
                 end = at + 1
                 while end < len(lines) and not HEAD.match(lines[end]) and not lines[end].startswith("--"):
                     end += 1

@@ -1,14 +1,8 @@
 -- Why an event is not done, or not to its end: what a fault of it says of the journal before, and the other way round.
 use Rattle.std.proofs.Common.{◌≡◌, ◌⊎◌, ℕ, false, Option, Some, Result, Ok, Err, refl, sym, ap, ◌∙◌, subst, inl, inr}
-use Rattle.lard_base.specs.Config.{config_check}
-use Rattle.lard_base.specs.declared.event.Event.{Event}
+use Rattle.lard_law_view.specs.Prelude.{Event, Machine, Refusal, StepFault, What, config_check, machine_step}
 use Rattle.lard_base.specs.declared.event.Event.TheVariants as event
-use Rattle.lard_rules.specs.declared.fault.Refusal.{Refusal}
-use Rattle.lard_rules.specs.declared.fault.StepFault.{StepFault}
 use Rattle.lard_rules.specs.declared.fault.StepFault.TheVariants as fault
-use Rattle.lard_rules.specs.declared.machine.Machine.{Machine}
-use Rattle.lard_rules.specs.Machine.{machine_step}
-use Rattle.lard_rules.specs.declared.fault.What.{What}
 use Rattle.lard_rules.specs.declared.fault.What.TheVariants as what
 use Rattle.lard_settling.specs.Events.{event_step, settled_to, stepped_from}
 use Rattle.lard_settling.specs.Settling.{Stop, settled}

@@ -1,17 +1,12 @@
 -- What comes of an event, a step or a settle: numbers, files and records stay; and what it leaves that ended inside.
 use Rattle.std.proofs.Common.{◌≡◌, ◌⊎◌, inl, inr, ℕ, ◌+◌, ◌<◌, false, List, [], ◌∷◌, ◌++◌, length, Option, Some, None, Result, Ok, Err, refl, sym, ap, ◌∙◌, subst, append-nil, arith, length-append}
-use Rattle.lard_base.specs.declared.event.Event.{Event}
+use Rattle.lard_law_view.specs.Prelude.{Event, Machine, Rec, StepFault, What, limit_reached, machine_step, passed, unless_limit}
 use Rattle.lard_base.specs.declared.event.Event.TheVariants as event
-use Rattle.lard_rules.specs.declared.fault.StepFault.{StepFault}
 use Rattle.lard_rules.specs.declared.fault.StepFault.TheVariants as fault
-use Rattle.lard_rules.specs.declared.machine.Machine.{Machine}
-use Rattle.lard_rules.specs.Machine.{limit_reached, machine_step, passed, unless_limit}
 use Rattle.lard_settle.proofs.Growth.{closed-front, front-over}
 use Rattle.lard_settle.proofs.Runs.{GoesOn, inner-goes-on, step-goes-on}
 use Rattle.lard_history.proofs.Each.{Each}
-use Rattle.lard_journal.specs.declared.rec.Rec.{Rec}
 use Rattle.lard_journal.specs.declared.rec.Rec.TheVariants as rec
-use Rattle.lard_rules.specs.declared.fault.What.{What}
 use Rattle.lard_settling.specs.Events.{event_step, stepped_from}
 use Rattle.lard_settling.specs.Settling.{Stop, completions, deliveries, firings, settle_left, takes}
 use Rattle.lard_settling.specs.Steps.{settle_begun, settle_closed}

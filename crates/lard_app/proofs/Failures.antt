@@ -4,30 +4,14 @@ use Rattle.std.proofs.lemmas.Bool.Decides.{nat_tests}
 use Rattle.std.proofs.lemmas.Option.{slice_get_past, slice_get_within}
 use Rattle.std.specs.Prelude.{nat_lt, slice_get}
 use Rattle.std.specs.FinMap as table
-use Rattle.lard_base.specs.declared.event.Event.{Event}
+use Rattle.lard_law_view.specs.Prelude.{Client, ClientBlock, Event, Front, Machine, Node, NodeState, Packet, Place, Rec, Station, StepFault, Turn, What, answered_bytes, bytes_in, client_aborts, client_acts, client_goes_on, client_holds, client_injects, client_shuts, client_takes, client_writes, completes, delivered, disk_at, happens, is_no_job, is_no_node, limit_of, limit_reached, lose_at, lost, machine_opened, machine_step, machine_wrote, node_acts, node_at, node_gave, node_setting, node_step, numbers_of, packet_at, packet_bytes, passed, request, timer, to_place, unless_limit, written_len}
 use Rattle.lard_base.specs.declared.event.Event.TheVariants as event
-use Rattle.lard_base.specs.declared.place.Place.{Place}
-use Rattle.lard_base.specs.declared.place.Place.TheVariants.{Front, Node, Client}
-use Rattle.lard_client.specs.Control.{ClientBlock, written_len}
 use Rattle.lard_laws.proofs.ClientsTables.{client_at}
-use Rattle.lard_rules.specs.Machine.{client_acts, client_goes_on, completes, delivered, disk_at, happens, is_no_job, is_no_node, limit_reached, lost, machine_step, node_acts, node_at, node_gave, node_setting, machine_opened, passed, timer, to_place, unless_limit, machine_wrote}
 use Rattle.lard_rules.specs.declared.fault.Refusal.TheVariants as refusal
-use Rattle.lard_rules.specs.declared.fault.StepFault.{StepFault}
 use Rattle.lard_rules.specs.declared.fault.StepFault.TheVariants as fault
-use Rattle.lard_rules.specs.declared.machine.Machine.{Machine}
-use Rattle.lard_history.specs.Journal.{answered_bytes, numbers_of, packet_bytes, request}
-use Rattle.lard_journal.specs.declared.rec.Rec.{Rec}
 use Rattle.lard_journal.specs.declared.rec.Rec.TheVariants as rec
-use Rattle.lard_rules.specs.Client.{client_aborts, client_holds, client_injects, client_shuts, client_takes, client_writes}
-use Rattle.lard_rules.specs.declared.fault.What.{What}
 use Rattle.lard_rules.specs.declared.fault.What.TheVariants.{Stream}
-use Rattle.lard_rules.specs.Limits.{limit_of}
 use Rattle.lard_rules.specs.declared.node.BackIn.TheVariants as back
-use Rattle.lard_rules.specs.declared.node.NodeState.{NodeState}
-use Rattle.lard_rules.specs.NodePlace.{node_step}
-use Rattle.lard_rules.specs.declared.places.Station.{Station}
-use Rattle.lard_rules.specs.declared.places.Turn.{Turn}
-use Rattle.lard_net.specs.Net.{Packet, bytes_in, lose_at, packet_at}
 use Rattle.lard_app.specs.Causes.{HasReached, IsOfClient, IsOfDisk, IsOfNode, IsOfPacket, IsUntimely, IsWithinLimits, Opens, WouldPass, WritesTooMuch}
 use Rattle.lard_app.proofs.Numbers.{found_limit, limit-reached, none-reached, reached-limit, within-none}
 use Rattle.lard_app.proofs.Reached.{Told}

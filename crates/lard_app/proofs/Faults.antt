@@ -1,6 +1,6 @@
 -- A run that ends otherwise than by a write fault leaves the sink's count of faults as it was.
 use Rattle.std.proofs.Common.{◌≡◌, ℕ, refl, subst}
-use Rattle.lard_base.specs.Causes.{Rose}
+use Rattle.lard_law_view.specs.Prelude.{Rose}
 use Rattle.lard_app.specs.declared.status.Status.{Status}
 use Rattle.lard_app.specs.declared.status.Status.TheVariants.{Done, Usage, Refused, ReadFault, WriteFault, NoMemory, Limit}
 use Rattle.lard_app.specs.Replay.{EndsCount}

@@ -1,9 +1,6 @@
 -- What holds of each machine to which events led.
 use Rattle.std.proofs.Common.{◌≡◌, ℕ, List, Result, Ok, sym, subst}
-use Rattle.lard_base.specs.Config.{config_check}
-use Rattle.lard_base.specs.declared.config.Config.{Config}
-use Rattle.lard_base.specs.declared.event.Event.{Event}
-use Rattle.lard_rules.specs.declared.machine.Machine.{Machine}
+use Rattle.lard_law_view.specs.Prelude.{Config, Event, Machine, config_check}
 use Rattle.lard_settle.proofs.Runs.{GoesOn}
 use Rattle.lard_settling.specs.Events.{MayCome, event_step}
 use Rattle.lard_settling.specs.Settling.{Stop}

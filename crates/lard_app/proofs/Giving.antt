@@ -1,9 +1,8 @@
 -- What a call gives of a generated run, made of what another did.
 use Rattle.std.proofs.Common.{◌≡◌, ℕ, List, Ok, Err, sym, ap, ◌∙◌}
-use Rattle.lard_rules.specs.declared.machine.Machine.{Machine}
+use Rattle.lard_law_view.specs.Prelude.{Machine, Rec}
 use Rattle.lard_generate.specs.Generated.{generated}
 use Rattle.lard_generate.specs.declared.schedule.Schedule.{Schedule}
-use Rattle.lard_journal.specs.declared.rec.Rec.{Rec}
 use Rattle.lard_app.specs.declared.status.Status.{Status}
 use Rattle.lard_app.specs.declared.status.Status.TheVariants.{Done, Usage, Refused, ReadFault, WriteFault, NoMemory, Limit}
 use Rattle.lard_app.specs.Generate.{GivesRun, Plays, run_begins, first_line, played, run_of}

@@ -7,9 +7,7 @@ use Rattle.std.proofs.lemmas.List.{drop-append-le, length-take-le, take-append-d
 use Rattle.std.proofs.lemmas.List.Quantifiers.{position-Some}
 use Rattle.std.specs.List.{position}
 use Rattle.std.specs.Prelude.{nat_lt}
-use Rattle.lard_base.specs.declared.limits.TheConstants.{MAX_INPUT_BYTES}
-use Rattle.lard_base.specs.Outside.{WrotePrefix}
-use Rattle.lard_base.specs.declared.event.Event.{Event}
+use Rattle.lard_law_view.specs.Prelude.{Event, MAX_INPUT_BYTES, WrotePrefix}
 use Rattle.lard_lines.proofs.Feeds.{found_before, none_until}
 use Rattle.lard_lines.specs.Lines.{is_feed, lines_of}
 use Rattle.lard_rules.specs.declared.fault.What.TheVariants.{Input}

@@ -1,16 +1,9 @@
 -- The lines that a replay passes are a schedule, which stands for its configuration, its files and its events.
 use Rattle.std.proofs.Common.{◌≡◌, ◌≢◌, inl, inr, ℕ, ◌+◌, List, [], ◌∷◌, ◌++◌, length, Bool, true, false, cond, Some, Result, Ok, Err, refl, sym, ap, ◌∙◌, subst, append_assoc, append-nil}
 use Rattle.std.specs.Prelude.{nat_lt}
-use Rattle.lard_base.specs.Config.{config_check, range_check, set_key}
-use Rattle.lard_base.specs.declared.config.ConfigFault.{ConfigFault}
-use Rattle.lard_base.specs.declared.config.Key.{Key}
-use Rattle.lard_base.specs.declared.event.Event.{Event}
+use Rattle.lard_law_view.specs.Prelude.{ConfigFault, Event, FileFault, Key, MAX_INPUT_BYTES, Machine, add_check, config_check, range_check, set_key}
 use Rattle.lard_base.specs.declared.event.Event.TheVariants as event
-use Rattle.lard_base.specs.declared.limits.TheConstants.{MAX_INPUT_BYTES}
-use Rattle.lard_rules.specs.declared.machine.Machine.{Machine}
 use Rattle.lard_settle.proofs.Runs.{GoesOn}
-use Rattle.lard_files.specs.Files.{add_check}
-use Rattle.lard_files.specs.declared.fault.FileFault.{FileFault}
 use Rattle.lard_grammar.proofs.Parts.{reads_on}
 use Rattle.lard_grammar.proofs.Texts.{cut_again, front_joined, joined}
 use Rattle.lard_grammar.proofs.Wholes.{found_is}

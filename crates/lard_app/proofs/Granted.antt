@@ -9,23 +9,13 @@ use Rattle.std.specs.Cmp.{nat_cmp_total}
 use Rattle.std.specs.Prelude.{All}
 use Rattle.lard_agenda.specs.Agenda.{agenda_of, held_by, holders, on_way, held_step, noted_by, nothing_noted, way_step}
 use Rattle.lard_agenda.specs.declared.agenda.Agenda.{Agenda}
-use Rattle.lard_base.specs.Config.{config_check}
-use Rattle.lard_base.specs.declared.config.Config.{Config}
-use Rattle.lard_base.specs.declared.event.Event.{Event}
+use Rattle.lard_law_view.specs.Prelude.{Config, Event, HasRule, IsEventInRange, IsNumber, IsPlaceInRange, IsRecordInRange, MAX_RECORDS, Machine, NodeState, Rec, StepFault, config_check, machine_start, machine_step, node_at}
 use Rattle.lard_base.specs.declared.event.Event.TheVariants as event
-use Rattle.lard_base.specs.declared.limits.TheConstants.{MAX_RECORDS}
-use Rattle.lard_rules.specs.Bounds.{HasRule}
-use Rattle.lard_rules.specs.declared.fault.StepFault.{StepFault}
-use Rattle.lard_rules.specs.declared.machine.Machine.{Machine}
-use Rattle.lard_rules.specs.Machine.{machine_step, node_at, machine_start}
 use Rattle.lard_laws.specs.Records.{IsRunFile, IsScheduled}
 use Rattle.lard_laws.proofs.RecordsReached.{records-ranges}
 use Rattle.lard_history.proofs.Each.{Each, Each-append, Each-weaker}
-use Rattle.lard_journal.specs.Range.{IsEventInRange, IsRecordInRange, IsNumber, IsPlaceInRange}
-use Rattle.lard_journal.specs.declared.rec.Rec.{Rec}
 use Rattle.lard_journal.specs.declared.rec.Rec.TheVariants as rec
 use Rattle.lard_law_view.proofs.ByteLists.{all-each, each-all}
-use Rattle.lard_rules.specs.declared.node.NodeState.{NodeState}
 use Rattle.lard_settling.specs.Events.{EndsInside, GoesThrough, LeadsTo, MayCome, event_step, stepped_from}
 use Rattle.lard_settling.specs.Settling.{Stop, completions, deliveries, firings, settle_left, takes}
 use Rattle.lard_settling.specs.Left.{is_holder, jobs_of}
@@ -37,12 +27,11 @@ use Rattle.lard_app.specs.Replay.{came_to}
 use Rattle.lard_app.specs.Happened.{step_of, step_told, steps_told}
 use Rattle.lard_law_settles.proofs.Events.{begun-is, either-kind, plain-rule, plain-step}
 use Rattle.lard_law_settles.proofs.Few.{config-is, few-left}
-use Rattle.lard_law_settles.proofs.Firing.{IsInner, OfTimer, each-filter, each-map, each-parts, entries-each, firings-each, firings-inner}
+use Rattle.lard_law_settles.proofs.Firing.{IsInner, OfTimer, each-filter, each-map, each-parts, entries-each, firings-each, firings-inner, inner-rule}
 use Rattle.lard_law_settles.proofs.Given.{begun-few, InnerRows, StepRows, inner-rows, step-rows}
 use Rattle.lard_law_settles.proofs.Inside.{KeptInside, SettleLands, settle-lands}
 use Rattle.lard_app.proofs.Reached.{Told, written-told}
 use Rattle.lard_app.proofs.Telling.{plain-events}
-use Rattle.lard_law_settles.proofs.Firing.{inner-rule}
 
 -- ---- what a record of a step or a settle was given
 

@@ -1,16 +1,8 @@
 -- The report of a replay grows by what each line adds.
 use Rattle.std.proofs.Common.{◌≡◌, ℕ, List, [], ◌++◌, length, drop, Bool, true, false, cond, Option, Some, None, Result, Ok, Err, refl, sym, ap, ◌∙◌, subst, append-nil}
 use Rattle.std.specs.List.{flat_map}
-use Rattle.lard_base.specs.Config.{config_check, range_check}
-use Rattle.lard_base.specs.declared.config.ConfigFault.{ConfigFault}
-use Rattle.lard_base.specs.declared.config.Key.{Key}
-use Rattle.lard_base.specs.declared.event.Event.{Event}
-use Rattle.lard_rules.specs.Machine.{machine_start}
-use Rattle.lard_rules.specs.declared.machine.Machine.{Machine}
+use Rattle.lard_law_view.specs.Prelude.{ConfigFault, Event, FileFault, Key, Machine, add_check, config_check, file_text, heading_line, machine_start, range_check, report}
 use Rattle.lard_settle.proofs.Runs.{GoesOn}
-use Rattle.lard_files.specs.Files.{add_check}
-use Rattle.lard_files.specs.declared.fault.FileFault.{FileFault}
-use Rattle.lard_journal.specs.Report.{file_text, report, heading_line}
 use Rattle.lard_journal.proofs.Growth.{report-append}
 use Rattle.lard_schedule.specs.declared.item.Item.{Item}
 use Rattle.lard_schedule.specs.declared.item.Item.TheVariants as item

@@ -1,20 +1,13 @@
 -- A journal to which events lead is that of the machine, and obeys its laws.
 use Rattle.std.proofs.Common.{◌≡◌, ℕ, Ok, List, [], refl, subst}
-use Rattle.lard_base.specs.Config.{config_check}
-use Rattle.lard_base.specs.declared.config.Config.{Config}
-use Rattle.lard_base.specs.declared.event.Event.{Event}
-use Rattle.lard_rules.specs.Machine.{machine_start}
-use Rattle.lard_rules.specs.declared.machine.Machine.{Machine}
+use Rattle.lard_law_view.specs.Prelude.{Config, EachMay, Event, Follows, IsNumber, Machine, config_check, file_at, machine_start}
 use Rattle.lard_settle.specs.Lawful.{IsLawful}
 use Rattle.lard_settle.proofs.Lawful.{journals-lawful}
 use Rattle.lard_laws.specs.RecordsMessages.{MayTalk}
 use Rattle.lard_laws.specs.Records.{IsRunFile, IsScheduled}
 use Rattle.lard_laws.proofs.RecordsTalking.{packets-decode}
 use Rattle.lard_laws.proofs.StepsFollowing.{follows}
-use Rattle.lard_files.specs.Files.{file_at}
-use Rattle.lard_history.specs.Laws.{EachMay, Follows}
 use Rattle.lard_history.proofs.Each.{Each}
-use Rattle.lard_journal.specs.Range.{IsNumber}
 use Rattle.lard_law_view.proofs.ByteLists.{each-all}
 use Rattle.lard_settling.specs.Events.{LeadsTo}
 use Rattle.lard_law_settles.proofs.Order.{in-order}

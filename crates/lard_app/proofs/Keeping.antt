@@ -3,24 +3,13 @@ use Rattle.std.proofs.Common.{◌≡◌, inl, inr, ℕ, ◌+◌, ◌≤◌, List
 use Rattle.std.proofs.lemmas.Bool.Decides.{nat_tests}
 use Rattle.std.specs.List.{flat_map}
 use Rattle.std.specs.Prelude.{nat_lt}
-use Rattle.lard_base.specs.declared.limits.TheConstants.{MAX_INPUT_BYTES}
-use Rattle.lard_base.specs.Config.{AreKeysInRange as IsConfigRanged, config_check, is_in_range, range_check, set_key, standard}
-use Rattle.lard_base.specs.declared.config.Config.{Config}
-use Rattle.lard_base.specs.declared.config.ConfigFault.{ConfigFault}
+use Rattle.lard_law_view.specs.Prelude.{AreKeysInRange as IsConfigRanged, Config, ConfigFault, Event, FileFault, IsConfigInRange, Key, MAX_INPUT_BYTES, Machine, add_check, config_check, file_text, is_in_range, machine_start, range_check, set_key, standard}
 use Rattle.lard_base.specs.declared.config.ConfigFault.TheVariants.{Range}
-use Rattle.lard_base.specs.declared.config.Key.{Key}
 use Rattle.lard_base.specs.declared.config.Key.TheVariants.{Nodes, Low, High, Age, Idle, Over, Miss, Cache, Stream}
-use Rattle.lard_base.specs.declared.event.Event.{Event}
 use Rattle.lard_base.specs.declared.event.Event.TheVariants as event
-use Rattle.lard_rules.specs.Machine.{machine_start}
-use Rattle.lard_rules.specs.declared.machine.Machine.{Machine}
 use Rattle.lard_laws.specs.Records.{IsRunFile, IsScheduled}
 use Rattle.lard_settle.proofs.Runs.{GoesOn}
-use Rattle.lard_files.specs.Files.{add_check}
-use Rattle.lard_files.specs.declared.fault.FileFault.{FileFault}
 use Rattle.lard_history.proofs.Each.{Each, Each-append}
-use Rattle.lard_journal.specs.Range.{IsConfigInRange}
-use Rattle.lard_journal.specs.Report.{file_text}
 use Rattle.lard_lines.specs.Lines.{lines_of}
 use Rattle.lard_schedule.proofs.Lines.{line_spelled}
 use Rattle.lard_schedule.specs.declared.item.Item.{Item}

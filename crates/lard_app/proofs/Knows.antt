@@ -1,6 +1,6 @@
 -- What is known of a replay after lines that passed: how many, of how many bytes, and what it keeps.
 use Rattle.std.proofs.Common.{◌≡◌, ℕ, ◌+◌, List, [], ◌++◌, length, Ok, refl, ap, ◌∙◌, arith}
-use Rattle.lard_base.specs.declared.event.Event.{Event}
+use Rattle.lard_law_view.specs.Prelude.{Event}
 use Rattle.lard_app.specs.Replay.{Progress, begin, event_listed, judged, line_passed}
 use Rattle.lard_app.proofs.Keeping.{Keeps, begin-keeps, passed-keeps}
 use Rattle.lard_app.proofs.Passing.{passed-read}

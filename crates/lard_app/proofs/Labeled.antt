@@ -1,11 +1,9 @@
 -- A lab's ends are statuses of their own.
 use Rattle.std.proofs.Common.{◌≡◌, inl, inr, ℕ, List, Option, Some, None, refl, sym, ap, ◌∙◌, subst}
-use Rattle.lard_base.specs.Causes.{Rose}
 use Rattle.lard_lab.specs.declared.policy.Policy.{Policy}
 use Rattle.lard_lab_run.specs.declared.end.LabEnd.{LabEnd}
 use Rattle.lard_lab_run.specs.declared.end.LabEnd.TheVariants as end
 use Rattle.lard_lab_run.specs.Run.{IsSettledLab}
-use Rattle.lard_lab_run.specs.Trial.{lab_whole}
 use Rattle.lard_lab_run.specs.Trial as trial
 use Rattle.lard_app.specs.declared.status.Status.{Status}
 use Rattle.lard_app.specs.declared.status.Status.TheVariants.{Usage, ReadFault, NoMemory}

@@ -1,12 +1,7 @@
 -- What happened in the replay of a text, and that its report tells it.
 use Rattle.std.proofs.Common.{◌≡◌, ◌≢◌, ℕ, Option, List, [], ◌++◌, length, refl, sym, ap, ◌∙◌, subst, arith, length-append}
 use Rattle.std.specs.List.{flat_map}
-use Rattle.lard_base.specs.declared.config.Config.{Config}
-use Rattle.lard_rules.specs.declared.machine.Machine.{Machine}
-use Rattle.lard_rules.specs.Machine.{machine_start}
-use Rattle.lard_journal.specs.declared.rec.Rec.{Rec}
-use Rattle.lard_journal.specs.Range.{IsFileInRange, IsRecordInRange, IsReportInRange}
-use Rattle.lard_journal.specs.Report.{file_text, heading_line, rec_line, report}
+use Rattle.lard_law_view.specs.Prelude.{Config, IsFileInRange, IsRecordInRange, IsReportInRange, Machine, Rec, file_text, heading_line, machine_start, rec_line, report}
 use Rattle.lard_law_view.proofs.ByteLists.{each-all}
 use Rattle.lard_app.proofs.Granted.{granted-ranged, leads-granted}
 use Rattle.lard_app.proofs.Happened.{happened}

@@ -1,11 +1,7 @@
 -- A journal has a record of each event of the schedule, by number.
 use Rattle.std.proofs.Common.{◌≡◌, ◌⊎◌, inl, inr, ◌<◌, ℕ, zero, suc, ◌+◌, false, List, [], ◌∷◌, ◌++◌, length, Result, Ok, Err, refl, sym, ap, ◌∙◌, subst, append_assoc, append-nil, arith}
-use Rattle.lard_base.specs.declared.config.Config.{Config}
-use Rattle.lard_base.specs.declared.event.Event.{Event}
+use Rattle.lard_law_view.specs.Prelude.{Config, Event, Machine, Rec, machine_start, passed}
 use Rattle.lard_base.specs.declared.event.Event.TheVariants as event
-use Rattle.lard_rules.specs.declared.machine.Machine.{Machine}
-use Rattle.lard_rules.specs.Machine.{passed, machine_start}
-use Rattle.lard_journal.specs.declared.rec.Rec.{Rec}
 use Rattle.lard_journal.specs.declared.rec.Rec.TheVariants as rec
 use Rattle.lard_settling.specs.Events.{EndsInside, GoesThrough, LeadsTo, MayCome, event_step}
 use Rattle.lard_settling.specs.Settling.{Stop, settle_left}
@@ -16,10 +12,9 @@ use Rattle.lard_settling.proofs.Written.{written}
 use Rattle.lard_app.specs.Replay.{came_to}
 use Rattle.lard_app.specs.Happened.{event_told, events_told, numbered_from}
 use Rattle.lard_law_settles.proofs.Events.{begun-is, either-kind, plain-done, plain-rule}
-use Rattle.lard_law_settles.proofs.Firing.{IsInner}
+use Rattle.lard_law_settles.proofs.Firing.{IsInner, inner-rule}
 use Rattle.lard_law_settles.proofs.Given.{InnerRows, StepRows, inner-rows, step-rows}
 use Rattle.lard_law_settles.proofs.Inside.{KeptInside, SettleLands, settle-lands}
-use Rattle.lard_law_settles.proofs.Firing.{inner-rule}
 use Rattle.lard_app.proofs.Written.{event-written, kept-inside}
 
 -- ---- journals

@@ -2,19 +2,10 @@
 use Rattle.std.proofs.Common.{◌≡◌, ℕ, ◌+◌, ◌-◌, ◌*◌, ◌^◌, ◌≤◌, ◌<◌, List, [], ◌∷◌, length, Bool, true, false, cond, Option, Some, None, Result, Ok, Err, refl, sym, ap, ◌∙◌, subst, arith, nat_eq, nat_le, nat_lt}
 use Rattle.std.proofs.lemmas.Bool.Decides.{nat_tests}
 use Rattle.std.specs.Prelude.{is_some}
-use Rattle.lard_base.specs.Config.{AreKeysInRange, checked_from, config_check, is_in_range, range_check, room_of, value_of}
-use Rattle.lard_base.specs.declared.config.Config.{Config}
-use Rattle.lard_base.specs.declared.config.ConfigFault.{ConfigFault}
+use Rattle.lard_law_view.specs.Prelude.{AreKeysInRange, Config, ConfigFault, FileFault, Key, Rec, What, answered_bytes, checked_from, config_check, first_fault, is_in_range, limit_of, packet_bytes, range_check, room_of, sent_count, value_of}
 use Rattle.lard_base.specs.declared.config.ConfigFault.TheVariants.{Range, LowHigh, NoRoom}
-use Rattle.lard_base.specs.declared.config.Key.{Key}
 use Rattle.lard_base.specs.declared.config.Key.TheVariants.{Nodes, Low, High, Age, Idle, Over, Miss, Cache, Stream}
-use Rattle.lard_files.specs.Files.{first_fault}
-use Rattle.lard_files.specs.declared.fault.FileFault.{FileFault}
 use Rattle.lard_files.specs.declared.fault.FileFault.TheVariants.{Repeated, TooLong, TooMany, TooMuch, NoMemory}
-use Rattle.lard_history.specs.Journal.{answered_bytes, packet_bytes, sent_count}
-use Rattle.lard_journal.specs.declared.rec.Rec.{Rec}
-use Rattle.lard_rules.specs.Limits.{limit_of}
-use Rattle.lard_rules.specs.declared.fault.What.{What}
 use Rattle.lard_rules.specs.declared.fault.What.TheVariants.{Input, Packets, PacketBytes, Records, Answers, Requests, Stream}
 use Rattle.lard_app.specs.Causes.{DisagreesBy, HasReached, IsFit, IsWithinLimits, MayNotAdd}
 

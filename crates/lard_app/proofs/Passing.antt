@@ -1,11 +1,6 @@
 -- What a line that passes was: it stood for an item, which was taken.
 use Rattle.std.proofs.Common.{◌≡◌, ℕ, ◌+◌, List, [], length, Bool, true, false, cond, Option, Some, None, Result, Ok, Err, refl, sym, ap, ◌∙◌, subst}
-use Rattle.lard_base.specs.Config.{config_check, range_check}
-use Rattle.lard_base.specs.declared.config.ConfigFault.{ConfigFault}
-use Rattle.lard_base.specs.declared.config.Key.{Key}
-use Rattle.lard_files.specs.Files.{add_check}
-use Rattle.lard_files.specs.declared.fault.FileFault.{FileFault}
-use Rattle.lard_rules.specs.declared.machine.Machine.{Machine}
+use Rattle.lard_law_view.specs.Prelude.{ConfigFault, FileFault, Key, Machine, add_check, config_check, range_check}
 use Rattle.lard_rules.specs.declared.fault.What.TheVariants.{Input}
 use Rattle.lard_schedule.specs.declared.item.Item.{Item}
 use Rattle.lard_schedule.specs.declared.item.Item.TheVariants as item

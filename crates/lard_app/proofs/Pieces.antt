@@ -6,8 +6,7 @@ use Rattle.std.proofs.lemmas.Grind.{flat_map-append}
 use Rattle.std.proofs.lemmas.List.{take-append-drop, take_all}
 use Rattle.std.specs.Io.KnownBytes.{Appends}
 use Rattle.std.specs.List.{flat_map}
-use Rattle.lard_journal.specs.Report.{rec_line}
-use Rattle.lard_journal.specs.declared.rec.Rec.{Rec}
+use Rattle.lard_law_view.specs.Prelude.{Rec, rec_line}
 use Rattle.lard_app.specs.declared.status.Status.{Status}
 use Rattle.lard_app.specs.declared.status.Status.TheVariants.{Done, Usage, Refused, ReadFault, WriteFault, NoMemory, Limit}
 use Rattle.lard_app.specs.Replay.{Writes}

@@ -1,10 +1,8 @@
 -- Events one after another: what of them happened, and why they end.
 use Rattle.std.proofs.Common.{◌≡◌, ◌⊎◌, ◌↔◌, inl, inr, ℕ, suc, ◌+◌, ◌<◌, List, [], ◌∷◌, ◌++◌, length, Result, Ok, Err, refl, sym, ap, ◌∙◌, subst, add-zero, arith}
-use Rattle.lard_base.specs.declared.event.Event.{Event}
+use Rattle.lard_law_view.specs.Prelude.{Event, Machine, StepFault}
 use Rattle.lard_base.specs.declared.event.Event.TheVariants as event
-use Rattle.lard_rules.specs.declared.fault.StepFault.{StepFault}
 use Rattle.lard_rules.specs.declared.fault.StepFault.TheVariants as fault
-use Rattle.lard_rules.specs.declared.machine.Machine.{Machine}
 use Rattle.lard_history.proofs.Each.{Each}
 use Rattle.lard_settling.specs.Events.{GoesThrough, LeadsTo, MayCome, event_step}
 use Rattle.lard_settling.specs.Settling.{Stop}

@@ -1,9 +1,7 @@
 -- A generated run that is done ended its settle with nothing left to do.
 use Rattle.std.proofs.Common.{◌≡◌, ℕ, zero, suc, List, [], ◌∷◌, ◌++◌, Result, Ok, Err, refl, sym, ap, ◌∙◌, subst}
-use Rattle.lard_base.specs.declared.event.Event.{Event}
+use Rattle.lard_law_view.specs.Prelude.{Event, Machine, StepFault}
 use Rattle.lard_base.specs.declared.event.Event.TheVariants as event
-use Rattle.lard_rules.specs.declared.fault.StepFault.{StepFault}
-use Rattle.lard_rules.specs.declared.machine.Machine.{Machine}
 use Rattle.lard_laws.specs.Records.{IsRunFile, IsScheduled}
 use Rattle.lard_generate.specs.Generated.{generated}
 use Rattle.lard_generate_bound.specs.Laws.{before_settle, generated_rounds}

@@ -5,22 +5,14 @@ use Rattle.std.proofs.lemmas.Bool.Decides.{nat_tests}
 use Rattle.std.specs.List.{list_all}
 use Rattle.hex.proofs.HexLemmas.{decode_of-ok}
 use Rattle.hex.specs.Hex.{IsBytes}
-use Rattle.lard_base.specs.Config.{checked_from, config_check, is_in_range, value_of}
-use Rattle.lard_base.specs.declared.config.Config.{Config}
+use Rattle.lard_law_view.specs.Prelude.{Config, Event, FileFault, IsConfigInRange, IsFileInRange, IsNumber, IsPlaceInRange, IsUnspaced, Key, Machine, Place, add_check, checked_from, config_check, first_fault, is_in_range, value_of}
 use Rattle.lard_base.specs.declared.config.ConfigFault.TheVariants.{Range}
-use Rattle.lard_base.specs.declared.config.Key.{Key}
 use Rattle.lard_base.specs.declared.config.Key.TheVariants.{Nodes, Low, High, Age, Idle, Over, Miss, Cache, Stream}
-use Rattle.lard_base.specs.declared.event.Event.{Event}
 use Rattle.lard_base.specs.declared.event.Event.TheVariants as event
-use Rattle.lard_base.specs.declared.place.Place.{Place}
 use Rattle.lard_base.specs.declared.place.Place.TheVariants as place
-use Rattle.lard_rules.specs.declared.machine.Machine.{Machine}
 use Rattle.lard_laws.specs.Records.{IsRunFile, IsScheduled}
-use Rattle.lard_files.specs.Files.{add_check, first_fault}
-use Rattle.lard_files.specs.declared.fault.FileFault.{FileFault}
 use Rattle.lard_files.specs.declared.fault.FileFault.TheVariants as file_fault
 use Rattle.lard_history.proofs.Each.{Each, Each-weaker}
-use Rattle.lard_journal.specs.Range.{IsConfigInRange, IsFileInRange, IsNumber, IsPlaceInRange, IsUnspaced}
 use Rattle.lard_law_view.proofs.ByteLists.{AreBytes, bytes-index, each-all}
 use Rattle.lard_schedule.specs.Events.{IsInLineRange, IsPlace, IsUpTo, is_path, is_visible}
 use Rattle.lard_schedule.specs.Files.{is_file_path}

@@ -2,25 +2,14 @@
 use Rattle.std.proofs.Common.{◌≡◌, ℕ, false, List, length, Option, Some, None, IsSome, refl, sym, ap, ◌∙◌, subst}
 use Rattle.std.specs.FinMap as table
 use Rattle.std.specs.List.{fold}
-use Rattle.lard_base.specs.declared.config.Config.{Config}
-use Rattle.lard_rules.specs.Machine.{node_at}
-use Rattle.lard_rules.specs.declared.machine.Machine.{Machine}
+use Rattle.lard_law_view.specs.Prelude.{ClientStands, Config, Machine, NodeState, Packet, Rec, Station, answered_bytes, answered_step, bytes_in, bytes_step, client_of, client_tale, conn, is_lost, lost_in, lost_step, node_at, numbers_of, numbers_step, own, packet_at, packet_bytes, part_of, sent_count, sent_step, tale}
 use Rattle.lard_laws.proofs.ClientsTables.{client_at, clients-folded}
 use Rattle.lard_laws.proofs.ClientsWriters.{clients-stand}
 use Rattle.lard_laws.proofs.StepsLinking.{IsLinked, reached-linked}
 use Rattle.lard_law_connections.proofs.StoresStored.{jobs-told}
 use Rattle.lard_counts.specs.Stores.{jobs, jobs_step, no_jobs}
 use Rattle.lard_law_view.proofs.Carried.{reached-viewed}
-use Rattle.lard_law_view.specs.View.{conn, part_of}
-use Rattle.lard_history.specs.Journal.{answered_bytes, answered_step, bytes_step, is_lost, lost_step, numbers_of, numbers_step, packet_bytes, sent_count, sent_step, tale}
 use Rattle.lard_history.proofs.Tales.{numbers-tale}
-use Rattle.lard_history.specs.Own.{own}
-use Rattle.lard_law_view.specs.ClientTale.{ClientStands, client_tale, lost_in}
-use Rattle.lard_law_view.specs.ClientRule.{client_of}
-use Rattle.lard_net.specs.Net.{Packet, bytes_in, packet_at}
-use Rattle.lard_journal.specs.declared.rec.Rec.{Rec}
-use Rattle.lard_rules.specs.declared.node.NodeState.{NodeState}
-use Rattle.lard_rules.specs.declared.places.Station.{Station}
 use Rattle.lard_settling.specs.Written.{IsWrittenOut, written_out}
 use Rattle.lard_settling.proofs.Folds.{TakesSteps, fold-written}
 

@@ -3,8 +3,7 @@ use Rattle.std.proofs.Common.{◌≡◌, ◌⊎◌, inl, inr, ℕ, ◌+◌, ◌�
 use Rattle.std.proofs.KnownBytes.{Appends-nil, Consumes-nil, Consumes-trans}
 use Rattle.std.specs.Io.KnownBytes.{Appends, Consumes, IsAtEnd}
 use Rattle.std.specs.List.{position}
-use Rattle.lard_base.specs.declared.limits.TheConstants.{MAX_INPUT_BYTES}
-use Rattle.lard_base.specs.Outside.{TakesIn, WrotePrefix}
+use Rattle.lard_law_view.specs.Prelude.{MAX_INPUT_BYTES, TakesIn, WrotePrefix}
 use Rattle.lard_lines.specs.Lines.{Held, is_feed}
 use Rattle.lard_app.specs.declared.status.Status.{Status}
 use Rattle.lard_app.specs.declared.status.Status.TheVariants.{ReadFault, NoMemory}

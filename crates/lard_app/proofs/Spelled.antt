@@ -1,9 +1,7 @@
 -- A generated schedule is one that a text could give, and so is all that it gives to a run.
 use Rattle.std.proofs.Common.{All, ◌≡◌, ◌+◌, ◌≤◌, ℕ, List, [], ◌∷◌, ◌++◌, length, Option, Some, None, Ok, Err, refl, subst, arith}
 use Rattle.std.specs.Io.KnownBytes.{Appends, Keeps}
-use Rattle.lard_base.specs.Outside.{WrotePrefix}
-use Rattle.lard_rules.specs.declared.machine.Machine.{Machine}
-use Rattle.lard_base.specs.declared.event.Event.{Event}
+use Rattle.lard_law_view.specs.Prelude.{Event, Machine, WrotePrefix}
 use Rattle.lard_laws.specs.Records.{IsRunFile, IsScheduled}
 use Rattle.lard_generate.specs.Generated.{generated}
 use Rattle.lard_generate.specs.Laws.{IsSpelled, IsSpelledFile}

@@ -2,14 +2,10 @@
 use Rattle.std.proofs.Common.{◌≡◌, ◌+◌, ◌≤◌, List, ◌++◌, length, drop, None, Ok, refl, sym, ap, ◌∙◌, arith, length-append}
 use Rattle.std.proofs.lemmas.Bool.Decides.{nat_tests}
 use Rattle.std.proofs.Math.Seq.{drop-append_seam}
-use Rattle.lard_base.specs.declared.event.Event.{Event}
+use Rattle.lard_law_view.specs.Prelude.{Event, HasRule, Machine, Rec, machine_step}
 use Rattle.lard_base.specs.declared.event.Event.TheVariants as event
 use Rattle.lard_base.specs.declared.place.Place.TheVariants as place
-use Rattle.lard_rules.specs.Bounds.{HasRule}
-use Rattle.lard_rules.specs.Machine.{machine_step}
-use Rattle.lard_rules.specs.declared.machine.Machine.{Machine}
 use Rattle.lard_settle.proofs.Runs.{GoesOn, step-goes-on}
-use Rattle.lard_journal.specs.declared.rec.Rec.{Rec}
 use Rattle.lard_schedule.specs.Events.{IsInLineRange}
 use Rattle.lard_settling.specs.Events.{MayCome, event_step}
 use Rattle.lard_app.specs.Replay.{came_to}

@@ -5,14 +5,9 @@ use Rattle.std.specs.List.{flat_map}
 use Rattle.lard_agenda.specs.Agenda.{IsAgendaOf}
 use Rattle.lard_agenda.specs.Laws.{AgendasGoOn}
 use Rattle.lard_agenda.specs.declared.agenda.Agenda.{Agenda}
-use Rattle.lard_base.specs.Outside.{WrotePrefix}
-use Rattle.lard_base.specs.declared.event.Event.{Event}
+use Rattle.lard_law_view.specs.Prelude.{Event, Machine, StepFault, Steps, WrotePrefix, machine_step, rec_line}
 use Rattle.lard_base.specs.declared.event.Event.TheVariants as event
-use Rattle.lard_rules.specs.declared.fault.StepFault.{StepFault}
 use Rattle.lard_rules.specs.declared.fault.StepFault.TheVariants as fault
-use Rattle.lard_rules.specs.declared.machine.Machine.{Machine}
-use Rattle.lard_rules.specs.Machine.{Steps, machine_step}
-use Rattle.lard_journal.specs.Report.{rec_line}
 use Rattle.lard_settling.specs.Events.{event_step, settled_to}
 use Rattle.lard_settling.specs.Settling.{Stop, settled}
 use Rattle.lard_app.specs.declared.status.Status.{Status}

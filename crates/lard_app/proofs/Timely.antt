@@ -6,37 +6,17 @@ use Rattle.std.specs.FinMap as table
 use Rattle.std.specs.Ordering.{nat_cmp}
 use Rattle.std.specs.Prelude.{nat_eq, nat_lt, slice_get, if◌then◌else◌}
 use Rattle.rand_pcg.specs.Lcg.{Lcg}
-use Rattle.lard_base.specs.declared.event.Event.{Event}
+use Rattle.lard_law_view.specs.Prelude.{BackIn, ClientBlock, Event, FrontIn, Machine, NodeState, Out, Packet, Place, Rec, Refusal, Station, StepFault, Turn, What, client_acted, client_acts, client_emits, client_goes_on, client_opens, client_put, client_shuts, client_writes, delivered, from_place, front_acts, happens, is_client_armed, is_lost, limit_reached, lose_at, lost, machine_opened, machine_start, machine_step, machine_to_client, machine_to_front, machine_told, machine_wrote, node_acts, node_at, numbers_of, out_of, packet_at, packets_of, passed, sent_count, to_place, unless_limit, written_len}
 use Rattle.lard_base.specs.declared.event.Event.TheVariants as event
-use Rattle.lard_base.specs.declared.place.Place.{Place}
 use Rattle.lard_base.specs.declared.place.Place.TheVariants as place
-use Rattle.lard_rules.specs.declared.fault.Refusal.{Refusal}
 use Rattle.lard_rules.specs.declared.fault.Refusal.TheVariants as refusal
-use Rattle.lard_rules.specs.declared.fault.StepFault.{StepFault}
 use Rattle.lard_rules.specs.declared.fault.StepFault.TheVariants as fault
-use Rattle.lard_rules.specs.declared.machine.Machine.{Machine}
-use Rattle.lard_rules.specs.Machine.{client_acted, client_acts, client_goes_on, client_put, delivered, from_place, front_acts, happens, limit_reached, lost, machine_step, node_acts, node_at, machine_opened, passed, machine_start, machine_to_client, machine_to_front, to_place, machine_told, unless_limit, machine_wrote}
-use Rattle.lard_rules.specs.Sent.{packets_of}
-use Rattle.lard_rules.specs.declared.front.FrontIn.{FrontIn}
 use Rattle.lard_rules.specs.declared.front.FrontIn.TheVariants as input
-use Rattle.lard_client.specs.Control.{ClientBlock, is_client_armed, written_len}
 use Rattle.lard_history.proofs.Each.{Each, Each-append}
-use Rattle.lard_history.specs.Journal.{is_lost, numbers_of, sent_count}
-use Rattle.lard_journal.specs.declared.rec.Rec.{Rec}
 use Rattle.lard_journal.specs.declared.rec.Rec.TheVariants as rec
-use Rattle.lard_rules.specs.declared.fault.What.{What}
 use Rattle.lard_rules.specs.declared.fault.What.TheVariants as what
-use Rattle.lard_net.specs.Net.{Packet, lose_at, packet_at}
 use Rattle.lard_net.proofs.Packets.{lost_length}
-use Rattle.lard_rules.specs.declared.node.BackIn.{BackIn}
 use Rattle.lard_rules.specs.declared.node.BackIn.TheVariants as back
-use Rattle.lard_rules.specs.declared.node.NodeState.{NodeState}
-use Rattle.lard_rules.specs.declared.places.Out.{Out}
-use Rattle.lard_rules.specs.declared.places.Station.{Station}
-use Rattle.lard_rules.specs.declared.places.Turn.{Turn}
-use Rattle.lard_rules.specs.Client.{client_opens, client_shuts, client_writes}
-use Rattle.lard_rules.specs.Outs.{out_of}
-use Rattle.lard_rules.specs.Speaking.{client_emits}
 use Rattle.lard_table.proofs.Map.{get_inserted, get_other}
 use Rattle.lard_settling.specs.Events.{GoesThrough, MayCome, event_step}
 use Rattle.lard_settling.specs.Written.{is_settle}

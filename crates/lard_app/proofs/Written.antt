@@ -1,12 +1,7 @@
 -- What events lead to can be written out, settles and all, and where a settle ended inside: which step was not done.
 use Rattle.std.proofs.Common.{◌≡◌, ◌⊎◌, inl, inr, ℕ, false, List, [], ◌∷◌, ◌++◌, Result, Ok, Err, refl, sym, ap, ◌∙◌, subst, arith}
-use Rattle.lard_base.specs.declared.config.Config.{Config}
-use Rattle.lard_base.specs.declared.event.Event.{Event}
+use Rattle.lard_law_view.specs.Prelude.{Config, Event, HasRule, Machine, StepFault, machine_step}
 use Rattle.lard_base.specs.declared.event.Event.TheVariants as event
-use Rattle.lard_rules.specs.declared.fault.StepFault.{StepFault}
-use Rattle.lard_rules.specs.declared.machine.Machine.{Machine}
-use Rattle.lard_rules.specs.Bounds.{HasRule}
-use Rattle.lard_rules.specs.Machine.{machine_step}
 use Rattle.lard_settling.specs.Events.{GoesThrough, MayCome, event_step, stepped_from}
 use Rattle.lard_settling.specs.Settling.{Stop, settle_left}
 use Rattle.lard_settling.specs.Steps.{inner_given, inner_step, settle_begun}

@@ -1,20 +1,12 @@
 -- What `generate` does: it replays the generated schedule of a seed and of so many clients, and prints what is counted of the journal.
 use Rattle.std.specs.Prelude.{◌≡◌, ◌↔◌, ℕ, ◌+◌, List, [], ◌∷◌, ◌++◌, length, Option, Result, Ok, Err}
 use Rattle.std.specs.Io.KnownBytes.{Appends, Keeps}
-use Rattle.lard_base.specs.Config.{set_key, standard}
-use Rattle.lard_base.specs.Outside.{WrotePrefix}
-use Rattle.lard_base.specs.declared.config.Config.{Config}
+use Rattle.lard_law_view.specs.Prelude.{Config, Event, Machine, Rec, StepFault, WrotePrefix, file_at, machine_start, set_key, standard}
 use Rattle.lard_base.specs.declared.config.Key.TheVariants.{Nodes}
-use Rattle.lard_base.specs.declared.event.Event.{Event}
-use Rattle.lard_rules.specs.Machine.{machine_start}
-use Rattle.lard_rules.specs.declared.fault.StepFault.{StepFault}
 use Rattle.lard_rules.specs.declared.fault.StepFault.TheVariants as fault
-use Rattle.lard_rules.specs.declared.machine.Machine.{Machine}
-use Rattle.lard_files.specs.Files.{file_at}
 use Rattle.lard_generate.specs.Generated.{generated}
 use Rattle.lard_generate.specs.declared.schedule.Schedule.{Schedule}
 use Rattle.lard_generate_answers.specs.Counted.{CountsAllAnswers}
-use Rattle.lard_journal.specs.declared.rec.Rec.{Rec}
 use Rattle.lard_journal.specs.declared.rec.Rec.TheVariants as rec
 use Rattle.lard_settling.specs.Events.{GoesThrough, event_step}
 use Rattle.lard_settling.specs.Settling.{Stop}

@@ -2,15 +2,9 @@
 -- generated run.
 use Rattle.std.specs.Prelude.{◌≡◌, ℕ, ◌+◌, if◌then◌else◌, List, [], ◌∷◌}
 use Rattle.std.specs.List.{flat_map}
-use Rattle.lard_base.specs.declared.config.Config.{Config}
-use Rattle.lard_base.specs.declared.event.Event.{Event}
-use Rattle.lard_rules.specs.Machine.{machine_start}
-use Rattle.lard_rules.specs.declared.machine.Machine.{Machine}
+use Rattle.lard_law_view.specs.Prelude.{Config, EachMay, Event, Follows, Machine, Rec, file_at, machine_start}
 use Rattle.lard_settle.specs.Lawful.{IsLawful}
 use Rattle.lard_laws.specs.RecordsMessages.{MayTalk}
-use Rattle.lard_files.specs.Files.{file_at}
-use Rattle.lard_history.specs.Laws.{EachMay, Follows}
-use Rattle.lard_journal.specs.declared.rec.Rec.{Rec}
 use Rattle.lard_journal.specs.declared.rec.Rec.TheVariants as rec
 use Rattle.lard_settle.specs.Enough.{MayLeaveUnsettled}
 use Rattle.lard_law_settles.specs.Done.{MaySettle}

@@ -9,7 +9,7 @@ use Rattle.lard_lab_run.specs.declared.end.LabWhy.{LabWhy}
 use Rattle.lard_lab_run.specs.declared.end.LabWhy.TheVariants as reason
 use Rattle.lard_lab_run.specs.Told.{LabRan}
 use Rattle.lard_lab_run.specs.Trial.{lab_whole}
-use Rattle.lard_rules.specs.declared.fault.What.{What}
+use Rattle.lard_law_view.specs.Prelude.{What}
 use Rattle.lard_rules.specs.declared.fault.What.TheVariants as what
 use Rattle.lard_app.specs.declared.status.Status.{Status}
 use Rattle.lard_app.specs.declared.status.Status.TheVariants.{Done, Refused, ReadFault, WriteFault, NoMemory, Limit}

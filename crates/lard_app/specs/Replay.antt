@@ -2,23 +2,10 @@
 use Rattle.std.specs.Prelude.{◌≡◌, ℕ, ◌+◌, ◌≤◌, Bool, List, [], ◌∷◌, ◌++◌, length, map, drop, Option, Some, None, Result, Ok, Err, nat_lt, if◌then◌else◌}
 use Rattle.std.specs.List.{flat_map}
 use Rattle.std.specs.Io.KnownBytes.{Appends}
-use Rattle.lard_base.specs.Causes.{Rose}
-use Rattle.lard_base.specs.Config.{config_check, range_check, set_key, standard}
-use Rattle.lard_base.specs.declared.config.Config.{Config}
-use Rattle.lard_base.specs.declared.config.ConfigFault.{ConfigFault}
-use Rattle.lard_base.specs.declared.config.Key.{Key}
-use Rattle.lard_base.specs.Outside.{WrotePrefix}
-use Rattle.lard_base.specs.declared.event.Event.{Event}
-use Rattle.lard_base.specs.declared.limits.TheConstants.{MAX_INPUT_BYTES}
+use Rattle.lard_law_view.specs.Prelude.{Config, ConfigFault, Event, FileFault, Key, MAX_INPUT_BYTES, Machine, Rec, Rose, StepFault, WrotePrefix, add_check, config_check, file_text, heading_line, range_check, rec_line, report, set_key, standard}
 use Rattle.lard_rules.specs.Machine as machine
-use Rattle.lard_rules.specs.declared.fault.StepFault.{StepFault}
 use Rattle.lard_rules.specs.declared.fault.StepFault.TheVariants as fault
-use Rattle.lard_rules.specs.declared.machine.Machine.{Machine}
-use Rattle.lard_files.specs.Files.{add_check}
-use Rattle.lard_files.specs.declared.fault.FileFault.{FileFault}
 use Rattle.lard_files.specs.declared.fault.FileFault.TheVariants as file_fault
-use Rattle.lard_journal.specs.declared.rec.Rec.{Rec}
-use Rattle.lard_journal.specs.Report.{file_text, heading_line, rec_line, report}
 use Rattle.lard_lines.specs.Lines.{lines_of}
 use Rattle.lard_rules.specs.declared.fault.What.TheVariants.{Input}
 use Rattle.lard_schedule.specs.declared.item.Item.{Item}

@@ -1,12 +1,8 @@
 -- What an answer of `run` says: of the bytes that were read and written, of what they stand for, and of its journal.
 use Rattle.std.specs.Prelude.{◌≡◌, ◌↔◌, ℕ, ◌+◌, ◌≤◌, ◌⊎◌, List, [], ◌∷◌, ◌++◌, length, Option, Some, None, Err}
 use Rattle.std.specs.Io.KnownBytes.{Appends, Consumes, IsAtEnd}
-use Rattle.lard_base.specs.declared.config.Config.{Config}
-use Rattle.lard_base.specs.declared.event.Event.{Event}
-use Rattle.lard_base.specs.declared.limits.TheConstants.{MAX_INPUT_BYTES}
-use Rattle.lard_base.specs.Outside.{WrotePrefix}
+use Rattle.lard_law_view.specs.Prelude.{Config, Event, MAX_INPUT_BYTES, Rec, WrotePrefix}
 use Rattle.lard_grammar.specs.Schedule.{IsSchedule, text_of}
-use Rattle.lard_journal.specs.declared.rec.Rec.{Rec}
 use Rattle.lard_lines.specs.Lines.{lines_of}
 use Rattle.lard_schedule.specs.declared.reader.Stage.TheVariants.{Running}
 use Rattle.lard_app.specs.Causes.{EndsRun, Leads}

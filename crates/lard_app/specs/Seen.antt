@@ -1,10 +1,8 @@
 -- What the code of a replay has in hand, as the rules see it.
 use Rattle.std.specs.Prelude.{◌≡◌, ℕ, List, Option, Some, None, Result, Ok, Err}
-use Rattle.lard_base.specs.declared.event.Event.{Event}
+use Rattle.lard_law_view.specs.Prelude.{Event, Machine, StepFault}
 use Rattle.lard_base.specs.declared.event.Event.TheVariants as event
-use Rattle.lard_rules.specs.declared.fault.StepFault.{StepFault}
 use Rattle.lard_rules.specs.declared.fault.StepFault.TheVariants as fault
-use Rattle.lard_rules.specs.declared.machine.Machine.{Machine}
 use Rattle.lard_settling.specs.Settling.{Stop}
 use Rattle.lard_app.specs.declared.replay.Replay.{Replay}
 use Rattle.lard_app.specs.declared.status.Status.{Status}

@@ -2,14 +2,10 @@
 use Rattle.std.specs.Prelude.{ℕ, List, [], ◌++◌, codes, decimal}
 use Rattle.lard_audit.specs.declared.rule.Rule.{Rule}
 use Rattle.lard_audit.specs.declared.rule.Rule.TheVariants.{Network, Owner, Sender, Admission, Choice, Cache, Clock}
-use Rattle.lard_base.specs.Spelling.{key_word}
-use Rattle.lard_base.specs.declared.config.ConfigFault.{ConfigFault}
+use Rattle.lard_law_view.specs.Prelude.{ConfigFault, FileFault, Refusal, What, key_word}
 use Rattle.lard_base.specs.declared.config.ConfigFault.TheVariants.{Range, LowHigh, NoRoom}
-use Rattle.lard_files.specs.declared.fault.FileFault.{FileFault}
 use Rattle.lard_files.specs.declared.fault.FileFault.TheVariants as file_fault
-use Rattle.lard_rules.specs.declared.fault.Refusal.{Refusal}
 use Rattle.lard_rules.specs.declared.fault.Refusal.TheVariants.{NotSent, WasLost, NoClient, Used, NoNode, NoJob}
-use Rattle.lard_rules.specs.declared.fault.What.{What}
 use Rattle.lard_rules.specs.declared.fault.What.TheVariants.{Input, Packets, PacketBytes, Records, Answers, Requests, Stream}
 use Rattle.lard_app.specs.declared.status.Why.{Why}
 use Rattle.lard_app.specs.declared.status.Why.TheVariants.{Syntax, Config, File, Untimely, NoFile, NotOpen, Broken}

@@ -143,13 +143,14 @@ module _ (k : NodeSetting) (s : NodeState) (at : At) (parts : EndpointParts) whe
   none-stays new sound = ap (put_or s.stays at.c) (sym (new-rest at.epoch.0 (get s.conns at.c) (get s.stays at.c) new (sound.stays at.c))) ∙ put_got s.stays at.c
 
   -- what is in hand was taken out of this state
-  pub lent-new : (t : NodeState) (m : Backs) → m ≡ after_offer s.conns at.c at.epoch parts (offer_answer at.epoch.0 (get s.conns at.c)) → t ≡ record s { conns = back_taken m at.c (get m at.c) (staying at.epoch.0 (get m at.c)) } → Answers New → IsNodeSound s
-      → t ≡ node_lent (adopting s at parts) at.c
-  lent-new t m after lends new sound =
-      let is : m ≡ insert s.conns at.c (stay_row at.epoch parts) = is-new s.conns at.c at.epoch parts m after new in
+  pub lent-new : {t : NodeState} {m : Backs} → m ≡ after_offer s.conns at.c at.epoch parts (offer_answer at.epoch.0 (get s.conns at.c))
+      → t ≡ record s { conns = back_taken m at.c (get m at.c) (staying at.epoch.0 (get m at.c)) } → Answers New → IsNodeSound s → t ≡ node_lent (adopting s at parts) at.c
+  lent-new {m = m} after lends new sound =
+      let now : Backs = insert s.conns at.c (stay_row at.epoch parts) in
+      let is : m ≡ now = is-new s.conns at.c at.epoch parts m after new in
       lends
       ∙ (λ i. record s { conns = back_taken (is i) at.c (get (is i) at.c) (staying at.epoch.0 (get (is i) at.c)) })
-      ∙ (λ i. record s { conns = back_taken (insert s.conns at.c (stay_row at.epoch parts)) at.c (get (insert s.conns at.c (stay_row at.epoch parts)) at.c) (stays-new s.conns at.c at.epoch parts i) })
+      ∙ (λ i. record s { conns = back_taken now at.c (get now at.c) (stays-new s.conns at.c at.epoch parts i) })
       ∙ (λ i. record (node_lent (adopting s at parts) at.c) { stays = sym (none-stays new sound) i })
 
   abbrev At_end : At → Flags → NodeState × Out
@@ -163,7 +164,7 @@ module _ (k : NodeSetting) (s : NodeState) (at : At) (parts : EndpointParts) whe
       ∙ ends-did k s (record { n = k.n; c = at.c; epoch = at.epoch }) (timer_flags (node_part s at.c)) (taken_sent ruled) w (serving_settled ruled.serve w.service) refl refl
       ∙ ap (λ (a : Adopt). node_deed k s at.c (offered_by ruled parts (node_part s at.c) a)) new
 
-  module _ (t n : NodeState) (was : Flags) (lends : t ≡ node_lent (adopting s at parts) at.c) (new : Answers New) (sound : IsNodeSound s) where
+  module _ (n : NodeState) (was : Flags) {t : NodeState} (lends : t ≡ node_lent (adopting s at parts) at.c) (new : Answers New) (sound : IsNodeSound s) where
     abbrev Ends : NodeState → Out → Type 0
     Ends u out = let e = node_env_of k u at in let w = Begun e parts in IsGone u at was (taken_sent e) w (serving_settled e.serve w.service) n out
 
@@ -174,7 +175,9 @@ module _ (k : NodeSetting) (s : NodeState) (at : At) (parts : EndpointParts) whe
         let given : Ending × Turn = serving_settled e.serve w.service in
         let g : Ends (node_lent (adopting s at parts) at.c) out = subst (λ (u : NodeState). Ends u out) lends gone in
         let is : (n, out) ≡ At_end at was =
-        g.closes ∙ closes-is k (adopting s at parts) at was (taken_sent e) (adopted parts) w given (stays-new s.conns at.c at.epoch parts) (sound.kept at.c) (sound.fetches at.c) ∙ ends-adopted was (taken_sent e) w given in
+        g.closes
+        ∙ closes-is k (adopting s at parts) at was (taken_sent e) (adopted parts) w given (stays-new s.conns at.c at.epoch parts) (sound.kept at.c) (sound.fetches at.c)
+        ∙ ends-adopted was (taken_sent e) w given in
         let q : NodePart = kept_after e (node_part s at.c) w given.0 in
         let kept : IsNodeSound (stores_told (node_put s at.c q) (turn_by e (taken_sent e) w given)) =
         told-sound (node_put s at.c q) (turn_by e (taken_sent e) w given) (put-sound s at.c q (ends-rest e (node_part s at.c) w given.0 g.sound) sound) in

@@ -1,6 +1,7 @@
 -- What was done to a connection is the deed of its rule.
-use Rattle.std.proofs.Common.{◌≡◌, ℕ, true, List, [], ◌++◌, append_assoc, append-nil, Option, Some, None, is_some, Result, Ok, Err, IfOk, refl, sym, ap, subst, ◌∙◌}
+use Rattle.std.proofs.Common.{◌≡◌, ℕ, true, List, [], ◌++◌, append_assoc, append-nil, Option, Some, None, is_some, Result, Ok, IfOk, refl, sym, ap, subst, ◌∙◌}
 use Rattle.std.proofs.lemmas.Bool.{cond-true}
+use Rattle.std.proofs.lemmas.Result.{IfOk-weaker}
 use Rattle.lard_back.specs.declared.hand.At.{At}
 use Rattle.lard_back.specs.declared.timers.Flags.{Flags}
 use Rattle.lard_back.specs.Place.{IsActed, acted, ends_with, node_env_of, out_at, told_at}
@@ -21,6 +22,7 @@ use Rattle.lard_journal.specs.declared.rec.Rec.{Rec}
 use Rattle.lard_lateral.specs.Lateral.{after_content}
 use Rattle.lard_lateral.specs.Lateral as lateral
 use Rattle.lard_rules.specs.declared.node.NodeState.{NodeState}
+use Rattle.lard_rules.specs.declared.stay.Progress.{Progress}
 use Rattle.lard_rules.specs.declared.stay.Stay.{Stay}
 use Rattle.lard_rules.specs.declared.node.NodeTurn.{NodeTurn}
 use Rattle.lard_rules.specs.Node.{Does, Drops, NodePart, come_by, node_heard_by, here, is_tag_awaited, kept_after, node_armed, node_content, node_forwarded, node_read, node_tagged, node_read_by, node_rests, tagged_by, turn_by, work_of}
@@ -61,11 +63,21 @@ did-is k s at before w =
     let given = node_rests (node_env k s at.c at.epoch.0) (node_part s at.c) before w in
     λ i. (stores_told (node_put s at.c given.0) given.1, record (node_out k.n at.c (node_part s at.c) given.0 given.1) { timers = changes-are k.n at.c (node_part s at.c) given.0 i })
 
+-- what each of the rules does with the endpoint and its stay
+abbrev hears : Said → NodeEnv → ControlBlock × Stay → Work
+hears m env x = goes_on env (work_of (on_segment x.0 m).1 x.1)
+
+abbrev tags : List ℕ → NodeEnv → ControlBlock × Stay → Work
+tags nodes env x = goes_on env (tagged env nodes (work_of x.0 x.1))
+
+abbrev comes : (Progress → Progress) → ℕ → NodeEnv → ControlBlock × Stay → Work
+comes f r env x = goes_on env (came_for f r (work_of x.0 x.1))
+
 heard-here : (k : NodeSetting) (s : NodeState) (at : At) (m : Said) (o : Option (ControlBlock × Stay))
-    → acted k s (here_at k at) (timer_flags (node_part s at.c)) (λ env x. goes_on env (work_of (on_segment x.0 m).1 x.1)) o
+    → acted k s (here_at k at) (timer_flags (node_part s at.c)) (hears m) o
     ≡ node_deed k s at.c (node_heard_by (node_env k s at.c at.epoch.0) (node_part s at.c) (Ok m) o)
 heard-here k s at m None = refl
-heard-here k s at m (Some x) = did-is k s at [] (goes_on (node_env k s at.c at.epoch.0) (work_of (on_segment x.0 m).1 x.1))
+heard-here k s at m (Some x) = did-is k s at [] (hears m (node_env k s at.c at.epoch.0) x)
 
 pub at-node : (k : NodeSetting) (at : At) → at.n ≡ k.n → at ≡ here_at k at
 at-node k at e = λ i. record at { n = e i }
@@ -89,23 +101,21 @@ ends-did k s at was before w given flags node =
     (λ i. ends_with k s (at-node k at node i) (flags i) before w given)
     ∙ (λ i. (stores_told (node_put s at.c q) turn, record (node_out k.n at.c (node_part s at.c) q turn) { timers = changes-are k.n at.c (node_part s at.c) q i }))
 
--- a segment that decodes comes to the connection
-pub forwarded : (k : NodeSetting) (s : NodeState) (at : At) (m : Said) → at.n ≡ k.n
-    → acted k s at (timer_flags (node_part s at.c)) (λ env x. goes_on env (work_of (on_segment x.0 m).1 x.1)) (here at.epoch.0 (node_part s at.c))
-    ≡ node_deed k s at.c (node_forwarded (node_env k s at.c at.epoch.0) (node_part s at.c) (Ok m))
-forwarded k s at m e =
-    ap (λ (a : At). acted k s a (timer_flags (node_part s at.c)) (λ env x. goes_on env (work_of (on_segment x.0 m).1 x.1)) (here at.epoch.0 (node_part s at.c))) (at-node k at e)
-    ∙ heard-here k s at m (here at.epoch.0 (node_part s at.c))
+-- what was done to a connection, once what awaited an answer was dropped
+acted-by : (k : NodeSetting) (s : NodeState) (at : At) (f : NodeEnv → ControlBlock × Stay → Work) (u n : NodeState) {t : NodeState} {was : Flags} {y : NodeState × Out}
+    (r : Result Out NoMemory) → IfOk r (λ out. IsActed k t at was f n out) → t ≡ u → was ≡ timer_flags (node_part s at.c) → at.n ≡ k.n
+    → acted k u (here_at k at) (timer_flags (node_part s at.c)) f (here at.epoch.0 (node_part u at.c)) ≡ y → IfOk r (λ out. (n, out) ≡ y)
+acted-by k s at f u n {t = t} {was = was} {y = y} r done dropped flags node is =
+    IfOk-weaker r (λ out. IsActed k t at was f n out) (λ out. (n, out) ≡ y)
+    (λ out a. a.does ∙ (λ i. acted k (dropped i) (at-node k at node i) (flags i) f (here at.epoch.0 (node_part (dropped i) at.c))) ∙ is) done
 
-pub forward-by : (k : NodeSetting) (s n : NodeState) (at : At) (was : Flags) (m : Said) (d : Result Said SegFault) (r : Result Out NoMemory)
-    → IfOk r (λ out. IsActed k s at was (λ env x. goes_on env (work_of (on_segment x.0 m).1 x.1)) n out) → was ≡ timer_flags (node_part s at.c) → at.n ≡ k.n → d ≡ Ok m
+-- a segment that decodes comes to the connection
+pub forward-by : (k : NodeSetting) (s : NodeState) (at : At) (m : Said) (n : NodeState) {was : Flags} {d : Result Said SegFault} (r : Result Out NoMemory)
+    → IfOk r (λ out. IsActed k s at was (hears m) n out) → was ≡ timer_flags (node_part s at.c) → at.n ≡ k.n → d ≡ Ok m
     → IfOk r (λ out. (n, out) ≡ node_deed k s at.c (node_forwarded (node_env k s at.c at.epoch.0) (node_part s at.c) d))
-forward-by k s n at was m d (Ok out) done flags node is =
-    done.does
-    ∙ ap (λ (w : Flags). acted k s at w (λ env x. goes_on env (work_of (on_segment x.0 m).1 x.1)) (here at.epoch.0 (node_part s at.c))) flags
-    ∙ forwarded k s at m node
-    ∙ ap (λ (e : Result Said SegFault). node_deed k s at.c (node_forwarded (node_env k s at.c at.epoch.0) (node_part s at.c) e)) (sym is)
-forward-by k s n at was m d (Err e) done flags node is = tt
+forward-by k s at m n r done flags node is =
+    acted-by k s at (hears m) s n r done refl flags node (heard-here k s at m (here at.epoch.0 (node_part s at.c))
+    ∙ ap (λ (e : Result Said SegFault). node_deed k s at.c (node_forwarded (node_env k s at.c at.epoch.0) (node_part s at.c) e)) (sym is))
 
 -- ---- a message that awaited its answer is dropped before the rule
 
@@ -153,25 +163,21 @@ unasked-did k s at before w sound =
     ∙ (λ i. (stores_told (over i) turn, record (node_out k.n c (node_part s c) q turn) { timers = changes-are k.n c (node_part s c) q i }))
 
 tagged-here : (k : NodeSetting) (s : NodeState) (at : At) (number : ℕ) (nodes : List ℕ) (o : Option (ControlBlock × Stay)) → IsNodeSound s → awaits k s at number nodes o ≡ true
-    → acted k (unasked s at.c) (here_at k at) (timer_flags (node_part s at.c)) (λ env x. goes_on env (tagged env nodes (work_of x.0 x.1))) o
+    → acted k (unasked s at.c) (here_at k at) (timer_flags (node_part s at.c)) (tags nodes) o
     ≡ node_deed k s at.c (tagged_by (node_env k s at.c at.epoch.0) number nodes (node_part s at.c) o)
 tagged-here k s at number nodes None sound h = absurd cc
 tagged-here k s at number nodes (Some x) sound h =
     let env : NodeEnv = node_env k s at.c at.epoch.0 in
-    let w : Work = goes_on env (tagged env nodes (work_of x.0 x.1)) in
+    let w : Work = tags nodes env x in
     unasked-did k s at [] w sound
     ∙ ap (node_deed k s at.c) (sym (cond-true (is_tag_awaited env number nodes (node_part s at.c) x.1) (Does (node_rests env (unasked-part (node_part s at.c)) [] w)) Drops h))
 
-pub tag-by : (k : NodeSetting) (s t n : NodeState) (at : At) (was : Flags) (number : ℕ) (nodes : List ℕ) (r : Result Out NoMemory)
-    → IfOk r (λ out. IsActed k t at was (λ env x. goes_on env (tagged env nodes (work_of x.0 x.1))) n out) → t ≡ unasked s at.c → was ≡ timer_flags (node_part s at.c) → at.n ≡ k.n → IsNodeSound s
+pub tag-by : (k : NodeSetting) (s : NodeState) (at : At) (number : ℕ) (nodes : List ℕ) (n : NodeState) {t : NodeState} {was : Flags} (r : Result Out NoMemory)
+    → IfOk r (λ out. IsActed k t at was (tags nodes) n out) → t ≡ unasked s at.c → was ≡ timer_flags (node_part s at.c) → at.n ≡ k.n → IsNodeSound s
     → awaits k s at number nodes (here at.epoch.0 (node_part s at.c)) ≡ true
     → IfOk r (λ out. (n, out) ≡ node_deed k s at.c (node_tagged (node_env k s at.c at.epoch.0) (node_part s at.c) number nodes))
-tag-by k s t n at was number nodes (Ok out) done dropped flags node sound h =
-    let f : NodeEnv → ControlBlock × Stay → Work = λ env x. goes_on env (tagged env nodes (work_of x.0 x.1)) in
-    done.does
-    ∙ (λ i. acted k (dropped i) (at-node k at node i) (flags i) f (here at.epoch.0 (node_part (dropped i) at.c)))
-    ∙ tagged-here k s at number nodes (here at.epoch.0 (node_part s at.c)) sound h
-tag-by k s t n at was number nodes (Err e) done dropped flags node sound h = tt
+tag-by k s at number nodes n r done dropped flags node sound h =
+    acted-by k s at (tags nodes) (unasked s at.c) n r done dropped flags node (tagged-here k s at number nodes (here at.epoch.0 (node_part s at.c)) sound h)
 
 -- ---- a content comes
 
@@ -207,45 +213,43 @@ unfetched-did k s at r before w sound =
     ∙ (λ i. (stores_told (over i) turn, record (node_out k.n c (node_part s c) q turn) { timers = changes-are k.n c (node_part s c) q i }))
 
 come-here : (k : NodeSetting) (s : NodeState) (at : At) (from r : ℕ) (o : Option (ControlBlock × Stay)) → IsNodeSound s → is_some o ≡ true → lateral.is_awaited s.fetches from at.c at.epoch.0 r ≡ true
-    → acted k (unfetched s at.c r) (here_at k at) (timer_flags (node_part s at.c)) (λ env x. goes_on env (came_for (come_progress from) r (work_of x.0 x.1))) o
+    → acted k (unfetched s at.c r) (here_at k at) (timer_flags (node_part s at.c)) (comes (come_progress from) r) o
     ≡ node_deed k s at.c (come_by (node_env k s at.c at.epoch.0) from r (node_part s at.c) o)
 come-here k s at from r None sound there h = absurd cc
 come-here k s at from r (Some x) sound there h =
     let env : NodeEnv = node_env k s at.c at.epoch.0 in
-    let w : Work = goes_on env (came_for (come_progress from) r (work_of x.0 x.1)) in
+    let w : Work = comes (come_progress from) r env x in
     unfetched-did k s at r [] w sound
     ∙ ap (node_deed k s at.c) (sym (cond-true (lateral.is_awaited s.fetches from at.c at.epoch.0 r) (Does (node_rests env (unfetched-part r (node_part s at.c)) [] w)) Drops h))
 
-pub come-by : (k : NodeSetting) (s t n : NodeState) (at : At) (was : Flags) (from r : ℕ) (done : Result Out NoMemory)
-    → IfOk done (λ out. IsActed k t at was (λ env x. goes_on env (came_for (come_progress from) r (work_of x.0 x.1))) n out) → t ≡ record s { fetches = after_content s.fetches from at.c at.epoch.0 r } → was ≡ timer_flags (node_part s at.c)
-    → at.n ≡ k.n → IsNodeSound s → is_some (here at.epoch.0 (node_part s at.c)) ≡ true → lateral.is_awaited s.fetches from at.c at.epoch.0 r ≡ true
-    → IfOk done (λ out. (n, out) ≡ node_deed k s at.c (node_content (node_env k s at.c at.epoch.0) (node_part s at.c) from r))
-come-by k s t n at was from r (Ok out) done dropped flags node sound there h =
-    let f : NodeEnv → ControlBlock × Stay → Work = λ env x. goes_on env (came_for (come_progress from) r (work_of x.0 x.1)) in
-    let gone : t ≡ unfetched s at.c r = dropped ∙ ap (λ (m : HeldMessages). record s { fetches = m }) (cond-true (lateral.is_awaited s.fetches from at.c at.epoch.0 r) (pending_settled s.fetches at.c Fetch r) s.fetches h) in
-    done.does
-    ∙ (λ i. acted k (gone i) (at-node k at node i) (flags i) f (here at.epoch.0 (node_part (gone i) at.c)))
-    ∙ come-here k s at from r (here at.epoch.0 (node_part s at.c)) sound there h
-come-by k s t n at was from r (Err e) done dropped flags node sound there h = tt
+-- the Fetch that awaited it is dropped
+fetch-gone : (s : NodeState) (c from epoch r : ℕ) {t : NodeState} → t ≡ record s { fetches = after_content s.fetches from c epoch r } → lateral.is_awaited s.fetches from c epoch r ≡ true
+    → t ≡ unfetched s c r
+fetch-gone s c from epoch r is h =
+    is ∙ ap (λ (m : HeldMessages). record s { fetches = m }) (cond-true (lateral.is_awaited s.fetches from c epoch r) (pending_settled s.fetches c Fetch r) s.fetches h)
 
-pub come-sound : (s t : NodeState) (c from epoch r : ℕ) → t ≡ record s { fetches = after_content s.fetches from c epoch r } → lateral.is_awaited s.fetches from c epoch r ≡ true → IsNodeSound s → IsNodeSound t
-come-sound s t c from epoch r is h sound =
-    subst IsNodeSound (sym (is ∙ ap (λ (m : HeldMessages). record s { fetches = m }) (cond-true (lateral.is_awaited s.fetches from c epoch r) (pending_settled s.fetches c Fetch r) s.fetches h))) (unfetched-sound s c r sound)
+pub come-by : (k : NodeSetting) (s : NodeState) (at : At) (from r : ℕ) (n : NodeState) {t : NodeState} {was : Flags} (done : Result Out NoMemory)
+    → IfOk done (λ out. IsActed k t at was (comes (come_progress from) r) n out) → t ≡ record s { fetches = after_content s.fetches from at.c at.epoch.0 r }
+    → was ≡ timer_flags (node_part s at.c) → at.n ≡ k.n → IsNodeSound s → is_some (here at.epoch.0 (node_part s at.c)) ≡ true → lateral.is_awaited s.fetches from at.c at.epoch.0 r ≡ true
+    → IfOk done (λ out. (n, out) ≡ node_deed k s at.c (node_content (node_env k s at.c at.epoch.0) (node_part s at.c) from r))
+come-by k s at from r n done acts dropped flags node sound there h =
+    acted-by k s at (comes (come_progress from) r) (unfetched s at.c r) n done acts (fetch-gone s at.c from at.epoch.0 r dropped h) flags node
+    (come-here k s at from r (here at.epoch.0 (node_part s at.c)) sound there h)
+
+pub come-sound : (s : NodeState) (c from epoch r : ℕ) {t : NodeState} → t ≡ record s { fetches = after_content s.fetches from c epoch r }
+    → lateral.is_awaited s.fetches from c epoch r ≡ true → IsNodeSound s → IsNodeSound t
+come-sound s c from epoch r is h sound = subst IsNodeSound (sym (fetch-gone s c from epoch r is h)) (unfetched-sound s c r sound)
 
 -- ---- a job of this node's disk was completed
 
 read-here : (k : NodeSetting) (s : NodeState) (at : At) (r : ℕ) (o : Option (ControlBlock × Stay))
-    → acted k s (here_at k at) (timer_flags (node_part s at.c)) (λ env x. goes_on env (came_for read_progress r (work_of x.0 x.1))) o
+    → acted k s (here_at k at) (timer_flags (node_part s at.c)) (comes read_progress r) o
     ≡ node_deed k s at.c (node_read_by (node_env k s at.c at.epoch.0) r (node_part s at.c) o)
 read-here k s at r None = refl
-read-here k s at r (Some x) = did-is k s at [] (goes_on (node_env k s at.c at.epoch.0) (came_for read_progress r (work_of x.0 x.1)))
+read-here k s at r (Some x) = did-is k s at [] (comes read_progress r (node_env k s at.c at.epoch.0) x)
 
-pub read-done : (k : NodeSetting) (s n : NodeState) (at : At) (was : Flags) (r : ℕ) (done : Result Out NoMemory)
-    → IfOk done (λ out. IsActed k s at was (λ env x. goes_on env (came_for read_progress r (work_of x.0 x.1))) n out) → was ≡ timer_flags (node_part s at.c) → at.n ≡ k.n
+pub read-done : (k : NodeSetting) (s : NodeState) (at : At) (r : ℕ) (n : NodeState) {was : Flags} (done : Result Out NoMemory)
+    → IfOk done (λ out. IsActed k s at was (comes read_progress r) n out) → was ≡ timer_flags (node_part s at.c) → at.n ≡ k.n
     → IfOk done (λ out. (n, out) ≡ node_deed k s at.c (node_read (node_env k s at.c at.epoch.0) (node_part s at.c) r))
-read-done k s n at was r (Ok out) done flags node =
-    let f : NodeEnv → ControlBlock × Stay → Work = λ env x. goes_on env (came_for read_progress r (work_of x.0 x.1)) in
-    done.does
-    ∙ (λ i. acted k s (at-node k at node i) (flags i) f (here at.epoch.0 (node_part s at.c)))
-    ∙ read-here k s at r (here at.epoch.0 (node_part s at.c))
-read-done k s n at was r (Err e) done flags node = tt
+read-done k s at r n done acts flags node =
+    acted-by k s at (comes read_progress r) s n done acts refl flags node (read-here k s at r (here at.epoch.0 (node_part s at.c)))

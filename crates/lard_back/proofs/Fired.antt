@@ -60,6 +60,10 @@ here-at s c = ap (λ (o : Option ControlBlock). both_of o (get s.stays c)) (go (
   go None = refl
   go (Some row) = cond-true (row.epoch.0 == row.epoch.0) (back_held row.stage) None (eq-eqb row.epoch.0 row.epoch.0 refl)
 
+-- what the timer of an endpoint comes to
+abbrev fired_turn : ServeEnv → ControlBlock → Stay → Ending × Turn
+fired_turn e b v = spoken e (work_of (after_timer b) v).service (serving_ready_of e (after_timer b) (timed b))
+
 module _ (k : NodeSetting) (s : NodeState) (at : At) (of_row : at.epoch.0 ≡ node_epoch_at s at.c) where
   abbrev Timed : NodeState → Out → Type 0
   Timed n out = (n, out) ≡ node_deed k s at.c (node_timer (node_env k s at.c (node_epoch_at s at.c)) (node_part s at.c))
@@ -67,27 +71,27 @@ module _ (k : NodeSetting) (s : NodeState) (at : At) (of_row : at.epoch.0 ≡ no
   found-at : (o : Option (ControlBlock × Stay)) → o ≡ here at.epoch.0 (node_part s at.c) → both_of (back_endpoint (get s.conns at.c)) (get s.stays at.c) ≡ o
   found-at o h = sym (h ∙ ap (λ e. here e (node_part s at.c)) of_row ∙ here-at s at.c)
 
-  -- its endpoint speaks
-  abbrev Told : ControlBlock → Stay → Ending × Turn
-  Told b v = spoken (node_env_of k s at).serve (work_of (after_timer b) v).service (serving_ready_of (node_env_of k s at).serve (after_timer b) (timed b))
+  -- its endpoint speaks, and all is put back
+  abbrev At_end : At → Flags → ControlBlock → Stay → NodeState × Out
+  At_end a was b v = ends_with k s a was (again_sent (node_part s at.c)) (work_of (after_timer b) v) (fired_turn (node_env_of k s a).serve b v)
 
   fired-does : (n : NodeState) (was : Flags) (b : ControlBlock) (v : Stay) (out : Out) → Some (b, v) ≡ here at.epoch.0 (node_part s at.c)
-      → was ≡ timer_flags (node_part s at.c) → at.n ≡ k.n → (n, out) ≡ ends_with k s at was (again_sent (node_part s at.c)) (work_of (after_timer b) v) (Told b v) → Timed n out
+      → was ≡ timer_flags (node_part s at.c) → at.n ≡ k.n → (n, out) ≡ At_end at was b v → Timed n out
   fired-does n was b v out h flags node is =
-      is
-      ∙ (λ i. ends_with k s (at-node k at node i) (flags i) (again_sent (node_part s at.c)) (work_of (after_timer b) v) (spoken (node_env_of k s (at-node k at node i)).serve (work_of (after_timer b) v).service (serving_ready_of (node_env_of k s (at-node k at node i)).serve (after_timer b) (timed b))))
+      is ∙ (λ i. At_end (at-node k at node i) (flags i) b v)
       ∙ ends-did k s (record { n = k.n; c = at.c; epoch = at.epoch }) (timer_flags (node_part s at.c)) (again_sent (node_part s at.c)) (work_of (after_timer b) v)
-      (spoken (node_env k s at.c at.epoch.0).serve (work_of (after_timer b) v).service (serving_ready_of (node_env k s at.c at.epoch.0).serve (after_timer b) (timed b))) refl refl
+      (fired_turn (node_env k s at.c at.epoch.0).serve b v) refl refl
       ∙ ap (λ (o : Option (ControlBlock × Stay)). node_deed k s at.c (node_fired_by (node_env k s at.c at.epoch.0) (node_part s at.c) o)) (sym (found-at (Some (b, v)) h))
       ∙ ap (λ e. node_deed k s at.c (node_timer (node_env k s at.c e) (node_part s at.c))) of_row
 
-  module _ (t n : NodeState) (was : Flags) (b : ControlBlock) (v : Stay) (found : Some (b, v) ≡ here at.epoch.0 (node_part s at.c)) (lends : t ≡ node_lent s at.c) (sound : IsNodeSound s) where
+  module _ (n : NodeState) (was : Flags) {t : NodeState} {b : ControlBlock} {v : Stay} (found : Some (b, v) ≡ here at.epoch.0 (node_part s at.c)) (lends : t ≡ node_lent s at.c) (sound : IsNodeSound s) where
     abbrev Ends : NodeState → Out → Type 0
-    Ends u out = let e = (node_env_of k u at).serve in IsGone u at was (again_sent (node_part u at.c)) (work_of (after_timer b) v) (spoken e (work_of (after_timer b) v).service (serving_ready_of e (after_timer b) (timed b))) n out
+    Ends u out = IsGone u at was (again_sent (node_part u at.c)) (work_of (after_timer b) v) (fired_turn (node_env_of k u at).serve b v) n out
 
-    both : (out : Out) → Ends t out → ((n, out) ≡ ends_with k s at was (again_sent (node_part s at.c)) (work_of (after_timer b) v) (Told b v)) × IsNodeSound n
+    both : (out : Out) → Ends t out → ((n, out) ≡ At_end at was b v) × IsNodeSound n
     both out gone =
-        gone-ends k s at was (again_sent (node_part s at.c)) b (work_of (after_timer b) v) (Told b v) n out (here-parts s at (b, v) (sym found)).0 sound (subst (λ (u : NodeState). Ends u out) lends gone)
+        gone-ends k s at was (again_sent (node_part s at.c)) b (work_of (after_timer b) v) (fired_turn (node_env_of k s at).serve b v) n out
+        (here-parts s at (b, v) (sym found)).0 sound (subst (λ (u : NodeState). Ends u out) lends gone)
 
     pub fired-by : (r : Result Out NoMemory) → was ≡ timer_flags (node_part s at.c) → at.n ≡ k.n → IfOk r (Ends t) → IfOk r (λ out. Timed n out)
     fired-by (Ok out) flags node gone = fired-does n was b v out found flags node (both out gone).0

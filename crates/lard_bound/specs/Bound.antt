@@ -1,10 +1,7 @@
 -- How many rounds surely settle a journal: by what its clients wrote, and what that is answered with.
 use Rattle.std.specs.Prelude.{◌≡◌, ℕ, ◌+◌, ◌*◌, ◌<◌, ◌≤◌, false, List, [], ◌∷◌, ◌++◌, length}
 use Rattle.std.specs.List.{fold}
-use Rattle.lard_answers.specs.Answers.{FilesAt, answer_bytes}
-use Rattle.lard_block.specs.Blocks.{blocks}
-use Rattle.lard_history.specs.Journal.{is_touched, wrote}
-use Rattle.lard_journal.specs.declared.rec.Rec.{Rec}
+use Rattle.lard_law_view.specs.Prelude.{FilesAt, Rec, answer_bytes, blocks, is_touched, wrote}
 use Rattle.lard_journal.specs.declared.rec.Rec.TheVariants as rec
 
 abbrev pub opener_step : List ℕ → Rec → List ℕ

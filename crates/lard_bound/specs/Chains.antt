@@ -1,19 +1,9 @@
 -- How many packets can come of one, one after the other, as long as no unit goes: a packet that is answered causes one whose chain is
 -- shorter.
 use Rattle.std.specs.Prelude.{ℕ, ◌+◌, ◌==◌, ◌&&◌, ◌||◌, not, Bool, if◌then◌else◌, length, Result, Ok, Err}
-use Rattle.lard_base.specs.declared.place.Place.{Place}
-use Rattle.lard_base.specs.declared.place.Place.TheVariants.{Front, Node, Client}
+use Rattle.lard_law_view.specs.Prelude.{Body, Client, Front, Letter, Message, MsgFault, Node, Place, Said, SegFault, ToClient, ToCluster, decoded, decoded_message, seq_offset}
 use Rattle.lard_bound.specs.Spots.{Spot}
-use Rattle.lard_history.specs.Own.{Letter}
-use Rattle.lard_message.specs.declared.fault.MsgFault.{MsgFault}
-use Rattle.lard_message.specs.declared.message.Body.{Body}
 use Rattle.lard_message.specs.declared.message.Body.TheVariants as body
-use Rattle.lard_message.specs.declared.message.Message.{Message}
-use Rattle.lard_message.specs.Reading.{decoded_message}
-use Rattle.lard_segment.specs.declared.fault.SegFault.{SegFault}
-use Rattle.lard_segment.specs.declared.segment.Dir.TheVariants.{ToClient, ToCluster}
-use Rattle.lard_segment.specs.Segment.{Said, decoded}
-use Rattle.lard_seq.specs.Seq.{seq_offset}
 
 -- an acknowledgement and nothing else
 abbrev pub is_plain : Said → Bool

@@ -1,31 +1,13 @@
 -- Which packets surely lead to a unit, and within how many rounds, as long as none goes before.
 use Rattle.std.specs.Prelude.{ℕ, zero, suc, ◌+◌, ◌==◌, ◌<◌, ◌≤◌, ◌≡◌, ◌⊎◌, ◌≢◌, Bool, true, false, length, Some, Result, Ok, Err, is_some}
 use Rattle.std.specs.List.{find}
-use Rattle.lard_answers.specs.Answers.{FilesAt}
-use Rattle.lard_arrival.specs.Arrival.{seg_len}
-use Rattle.lard_base.specs.declared.place.Place.{Place}
-use Rattle.lard_base.specs.declared.place.Place.TheVariants.{Front, Node, Client}
-use Rattle.lard_base.specs.declared.place.Reason.{Reason}
+use Rattle.lard_law_view.specs.Prelude.{Body, Client, FilesAt, Front, Job, Letter, Message, MsgFault, Node, Phase, Place, Reason, Said, SegFault, ToClient, ToCluster, decoded, decoded_message, is_from, is_plain_syn, is_under, seg_len, seq_offset}
 use Rattle.lard_base.specs.declared.place.Reason.TheVariants as reason
 use Rattle.lard_base.specs.declared.place.TimerKind.TheVariants as kind
 use Rattle.lard_bound.specs.Chains.{is_current, is_plain}
 use Rattle.lard_bound.specs.Spots.{AtFront, AtNode, Awaits, Ended, EndpointSymbols, InLine, Left, Nowhere, OnOffer, Post, Spot}
-use Rattle.lard_client.specs.declared.phase.Phase.{Phase}
 use Rattle.lard_client.specs.declared.phase.Phase.TheVariants as phase
-use Rattle.lard_disk.specs.declared.disk.Job.{Job}
-use Rattle.lard_history.specs.Own.{Letter}
-use Rattle.lard_lateral.specs.Lateral.{is_from}
-use Rattle.lard_message.specs.declared.fault.MsgFault.{MsgFault}
-use Rattle.lard_message.specs.declared.message.Body.{Body}
 use Rattle.lard_message.specs.declared.message.Body.TheVariants as body
-use Rattle.lard_message.specs.declared.message.Message.{Message}
-use Rattle.lard_message.specs.Reading.{decoded_message}
-use Rattle.lard_resend.specs.Kept.{is_under}
-use Rattle.lard_rules.specs.Tombstone.{is_plain_syn}
-use Rattle.lard_segment.specs.declared.fault.SegFault.{SegFault}
-use Rattle.lard_segment.specs.declared.segment.Dir.TheVariants.{ToClient, ToCluster}
-use Rattle.lard_segment.specs.Segment.{Said, decoded}
-use Rattle.lard_seq.specs.Seq.{seq_offset}
 
 -- ---- a client's segments
 

@@ -1,26 +1,12 @@
 -- What a move owes, so that a settle comes to its end: no unit comes back, and where none goes, what comes of a packet is nearer.
 use Rattle.std.specs.Prelude.{ℕ, suc, ◌<◌, ◌≤◌, ◌≡◌, ◌⊎◌, true, List, [], ◌∷◌, Option, Some, None, Result, Ok, Err}
-use Rattle.lard_answers.specs.Answers.{FilesAt}
-use Rattle.lard_base.specs.declared.place.Place.{Place}
-use Rattle.lard_base.specs.declared.place.Place.TheVariants.{Front, Node, Client}
+use Rattle.lard_law_view.specs.Prelude.{Body, Came, Client, ClientBlock, Conn, FilesAt, Front, Letter, Message, Move, MsgFault, Node, Phase, Place, Row, Said, Seen, SegFault, Setting, Station, ToCluster, decoded, decoded_message, grown, letters_of}
 use Rattle.lard_bound.specs.Chains.{chain}
 use Rattle.lard_bound.specs.Nears.{Near}
 use Rattle.lard_bound.specs.Spots.{Spot, spot_of}
 use Rattle.lard_bound.specs.Units.{Whole, units}
-use Rattle.lard_client.specs.Control.{ClientBlock}
-use Rattle.lard_client.specs.declared.phase.Phase.{Phase}
 use Rattle.lard_client.specs.declared.phase.Phase.TheVariants.{Open, Aborted, Reset}
-use Rattle.lard_law_view.specs.View.{Conn, Move, Setting, grown, letters_of}
-use Rattle.lard_history.specs.Own.{Came, Letter, Row, Seen}
-use Rattle.lard_message.specs.declared.fault.MsgFault.{MsgFault}
-use Rattle.lard_message.specs.declared.message.Body.{Body}
 use Rattle.lard_message.specs.declared.message.Body.TheVariants as body
-use Rattle.lard_message.specs.declared.message.Message.{Message}
-use Rattle.lard_message.specs.Reading.{decoded_message}
-use Rattle.lard_rules.specs.declared.places.Station.{Station}
-use Rattle.lard_segment.specs.declared.fault.SegFault.{SegFault}
-use Rattle.lard_segment.specs.declared.segment.Dir.TheVariants.{ToCluster}
-use Rattle.lard_segment.specs.Segment.{Said, decoded}
 
 -- ---- of a connection
 

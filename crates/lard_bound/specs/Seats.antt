@@ -1,18 +1,8 @@
 -- Where a connection is, by what the front end and the nodes keep of it, as far as settling asks.
 use Rattle.std.specs.Prelude.{ℕ, ◌==◌, Bool, true, false, if◌then◌else◌, List, [], Option, Some, None}
-use Rattle.lard_law_view.specs.View.{Part}
-use Rattle.lard_endpoint.specs.Control.{ControlBlock}
-use Rattle.lard_endpoint.specs.declared.control.moving.Final.{Final}
-use Rattle.lard_rules.specs.Front.{FrontPart, front_rest}
-use Rattle.lard_handoff_back.specs.declared.row.BackConn.{BackConn}
+use Rattle.lard_law_view.specs.Prelude.{BackConn, BackRow, ControlBlock, Final, FrontConn, FrontPart, FrontRow, Kept, NodePart, Part, Stay, front_rest}
 use Rattle.lard_handoff_back.specs.declared.row.BackConn.TheVariants as back
-use Rattle.lard_handoff_back.specs.declared.row.BackRow.{BackRow}
-use Rattle.lard_handoff_front.specs.declared.row.FrontConn.{FrontConn}
 use Rattle.lard_handoff_front.specs.declared.row.FrontConn.TheVariants as stage
-use Rattle.lard_handoff_front.specs.declared.row.FrontRow.{FrontRow}
-use Rattle.lard_rules.specs.declared.stay.Stay.{Stay}
-use Rattle.lard_rules.specs.Node.{NodePart}
-use Rattle.lard_resend.specs.declared.kept.Kept.{Kept}
 
 -- what a node has of a connection that is here: what was read of it, the Ask that awaits its answer, and the Fetches whose contents
 -- are awaited

@@ -1,18 +1,9 @@
 -- What of a connection decides how much comes of a packet: it changes only where a unit goes.
 use Rattle.std.specs.Prelude.{ℕ, Bool, List, length, Option}
-use Rattle.lard_answers.specs.Answers.{FilesAt}
+use Rattle.lard_law_view.specs.Prelude.{ClientBlock, ControlBlock, FilesAt, Final, Kept, Part, Phase, Station, named_paths, rcv_nxt, symbols}
 use Rattle.lard_bound.specs.Seats.{Gone, Held, Here, Offered, Over, SeatNow, Staying, Unborn, Waiting, seat_of, tells_end}
 use Rattle.lard_bound.specs.Units.{symbols_taken}
-use Rattle.lard_client.specs.declared.phase.Phase.{Phase}
 use Rattle.lard_client.specs.declared.phase.Phase.TheVariants as phase
-use Rattle.lard_client.specs.Control.{ClientBlock}
-use Rattle.lard_law_view.specs.View.{Part}
-use Rattle.lard_endpoint.specs.Control.{ControlBlock, rcv_nxt}
-use Rattle.lard_endpoint.specs.declared.control.moving.Final.{Final}
-use Rattle.lard_rules.specs.Stay.{named_paths}
-use Rattle.lard_resend.specs.declared.kept.Kept.{Kept}
-use Rattle.lard_rules.specs.declared.places.Station.{Station}
-use Rattle.lard_send.specs.Send.{symbols}
 
 -- Of an endpoint: how many of its symbols are acknowledged, how many it has, and, where its client was aborted, the number that it
 -- awaits.

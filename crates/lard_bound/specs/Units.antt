@@ -1,18 +1,9 @@
 -- How much is left to do on a connection, in units: an upper bound, which no step makes greater.
 use Rattle.std.specs.Prelude.{ℕ, zero, suc, ◌+◌, ◌-◌, ◌*◌, ◌==◌, Bool, true, false, if◌then◌else◌, List, [], ◌∷◌, length, Option, Some, None, is_some}
-use Rattle.lard_answers.specs.Answers.{FilesAt, answer_bytes, verdicts}
+use Rattle.lard_law_view.specs.Prelude.{ClientBlock, Conn, ControlBlock, Entry, FilesAt, Machine, NodePart, Part, Phase, Progress, Station, answer_bytes, conn, verdicts}
 use Rattle.lard_base.specs.declared.ids.TheConstants.ConnId.{MAX}
-use Rattle.lard_client.specs.declared.phase.Phase.{Phase}
 use Rattle.lard_client.specs.declared.phase.Phase.TheVariants.{Open, Aborted, Reset}
-use Rattle.lard_client.specs.Control.{ClientBlock}
-use Rattle.lard_rules.specs.declared.machine.Machine.{Machine}
-use Rattle.lard_law_view.specs.View.{Conn, Part, conn}
-use Rattle.lard_endpoint.specs.Control.{ControlBlock}
-use Rattle.lard_rules.specs.declared.stay.Entry.{Entry}
-use Rattle.lard_rules.specs.declared.stay.Progress.{Progress}
 use Rattle.lard_rules.specs.declared.stay.Progress.TheVariants.{Named, Reading, Awaited, Ready}
-use Rattle.lard_rules.specs.Node.{NodePart}
-use Rattle.lard_rules.specs.declared.places.Station.{Station}
 use Rattle.lard_bound.specs.Seats.{Gone, Held, Here, Offered, Over, SeatNow, Staying, Unborn, Waiting, seat_of, tells_end}
 
 -- ---- all that there is to do

@@ -4,10 +4,10 @@ use Rattle.std.specs.FinMap as table
 use Rattle.lard_dispatch.specs.Sound.{AreBefore}
 use Rattle.lard_rules.specs.declared.front.FrontState.{FrontState}
 use Rattle.lard_rules.specs.declared.front.FrontTurn.{FrontTurn}
-use Rattle.lard_rules.specs.Front.{FrontDeed, Drops, Says, Does, Did, FrontPart, front_admitted}
+use Rattle.lard_rules.specs.Front.{FrontDeed, Drops, Says, Does, Did, FrontPart, front_admitted, front_ended}
 use Rattle.lard_rules.specs.FrontPlace.{FrontSetting, admits, admits_too, ended_deed, front_deed, front_env, front_part, front_put, front_step, in_order, front_joined, front_out_of, put_back, front_timers}
 use Rattle.lard_rules.specs.FrontSound.{IsFrontSound, Waits, dispatch_standing}
-use Rattle.lard_rules.proofs.FrontEnded.{Comes, next-waits}
+use Rattle.lard_rules.proofs.FrontEnded.{Comes, end-comes, next-waits}
 use Rattle.lard_rules.proofs.FrontKeeping.{put-some}
 use Rattle.lard_rules.proofs.FrontParts.{part_put}
 use Rattle.lard_rules.proofs.FrontStepping.{step-stays}
@@ -24,11 +24,11 @@ use Rattle.lard_endpoint.specs.declared.control.moving.Final.{Final}
 -- ---- a connection that waits is handed off
 
 -- what was given to the code is what the rules give
-pub too_is : (s n : FrontState) (turn t : FrontTurn) (timers : List Rec) (c d : ℕ) (o : Option (FrontPart × FrontTurn)) (all : FrontTurn) (others both : List Rec) (was is : Armed)
-    → option_map (gives s d) o ≡ Some (n, t) → all ≡ front_joined turn t → was ≡ armed_of (front_part s d) → is ≡ armed_of (front_part n d) → others ≡ changes d was is → both ≡ in_order c d timers others
-    → (n, front_out_of all both) ≡ head_too s turn timers c d o
-too_is s n turn t timers c d None all others both was is given joins before after changed order = let no : ◌≡◌ {A = Option (FrontState × FrontTurn)} None (Some (n, t)) = given in absurd cc
-too_is s n turn t timers c d (Some y) all others both was is given joins before after changed order =
+pub too_is : (s : FrontState) (turn : FrontTurn) (timers : List Rec) (c d : ℕ) (o : Option (FrontPart × FrontTurn)) {n : FrontState} {t all : FrontTurn} {was is : Armed} {others both : List Rec}
+    → option_map (gives s d) o ≡ Some (n, t) → all ≡ front_joined turn t → was ≡ armed_of (front_part s d) → is ≡ armed_of (front_part n d) → others ≡ changes d was is
+    → both ≡ in_order c d timers others → (n, front_out_of all both) ≡ head_too s turn timers c d o
+too_is s turn timers c d None {n = n} {t = t} given joins before after changed order = let no : ◌≡◌ {A = Option (FrontState × FrontTurn)} None (Some (n, t)) = given in absurd cc
+too_is s turn timers c d (Some y) {n = n} {t = t} {others = others} given joins before after changed order =
     let same : (n, t) ≡ gives s d y = some_is (n, t) (gives s d y) given in
     let state : n ≡ front_put s d y.0 = ap (λ (x : FrontState × FrontTurn). x.0) same in
     let told : t ≡ y.1 = ap (λ (x : FrontState × FrontTurn). x.1) same in
@@ -55,11 +55,12 @@ module _ (k : FrontSetting) (s : FrontState) (c : ℕ) where
   too_same t x d (Some y) = refl
 
   -- the head is
-  pub headed_is : (deed : FrontDeed) (t : FrontState) (turn : FrontTurn) (timers : List Rec) (was is : Armed) (next : ℕ × FirstChoice) → (t, turn) ≡ deed_turn s c deed → Some next ≡ next_admitted_by s.dispatch c k.now deed
-      → was ≡ armed_of (front_part s c) → is ≡ armed_of (front_part t c) → timers ≡ changes c was is → After t turn timers next ≡ ended_deed k s c deed
-  headed_is Drops t turn timers was is next did some before after changed = let no : Some next ≡ None = some in absurd cc
-  headed_is (Says said) t turn timers was is next did some before after changed = let no : Some next ≡ None = some in absurd cc
-  headed_is (Does x) t turn timers was is next did some before after changed =
+  pub headed_is : (deed : FrontDeed) {t : FrontState} {turn : FrontTurn} {timers : List Rec} {was is : Armed} {next : ℕ × FirstChoice} → (t, turn) ≡ deed_turn s c deed
+      → Some next ≡ next_admitted_by s.dispatch c k.now deed → was ≡ armed_of (front_part s c) → is ≡ armed_of (front_part t c) → timers ≡ changes c was is
+      → After t turn timers next ≡ ended_deed k s c deed
+  headed_is Drops {next = next} did some before after changed = let no : Some next ≡ None = some in absurd cc
+  headed_is (Says said) {next = next} did some before after changed = let no : Some next ≡ None = some in absurd cc
+  headed_is (Does x) {t = t} {turn = turn} {timers = timers} {next = next} did some before after changed =
       let state : t ≡ put_back s c x = ap (λ (y : FrontState × FrontTurn). y.0) did in
       let told : turn ≡ x.turn = ap (λ (y : FrontState × FrontTurn). y.1) did in
       let timed : timers ≡ front_timers c (front_part s c) x.part =
@@ -69,15 +70,23 @@ module _ (k : FrontSetting) (s : FrontState) (c : ℕ) where
       ∙ ap (admits k s (put_back s c x) c x) some
 
   -- the head waits, and an empty list is not kept of it
-  pub head_waits : (from epoch : ℕ) (last : Final) (deed : FrontDeed) (t : FrontState) (turn : FrontTurn) (next : ℕ × FirstChoice) → IsFrontSound s → Comes (front_env k s c 0) (front_part s c) from epoch last (dispatch_standing s.dispatch c) deed
-      → (t, turn) ≡ deed_turn s c deed → Some next ≡ next_admitted_by s.dispatch c k.now deed → Waits (front_part t next.0) × (table.get t.kept next.0 ≡ Some [] → ⊥)
-  head_waits from epoch last Drops t turn next sound comes did some = let no : Some next ≡ None = some in absurd cc
-  head_waits from epoch last (Says said) t turn next sound comes did some = let no : Some next ≡ None = some in absurd cc
-  head_waits from epoch last (Does x) t turn next sound comes did some =
-      let state : put_back s c x ≡ t = sym (ap (λ (y : FrontState × FrontTurn). y.0) did) in (
-        subst (λ u. Waits (front_part u next.0)) state (next-waits k s c from epoch last x next sound comes (sym some)),
-        subst (λ u. table.get u.kept next.0 ≡ Some [] → ⊥) state (put-some s c x.part sound.some next.0),
-      )
+  module _ (from epoch : ℕ) (last : Final) (sound : IsFrontSound s) where
+    abbrev ended : FrontDeed
+    ended = front_ended (front_env k s c 0) (front_part s c) from epoch last
+
+    head_waits : {t : FrontState} {turn : FrontTurn} {next : ℕ × FirstChoice} (deed : FrontDeed) → Comes (front_env k s c 0) (front_part s c) from epoch last (dispatch_standing s.dispatch c) deed
+        → (t, turn) ≡ deed_turn s c deed → Some next ≡ next_admitted_by s.dispatch c k.now deed → Waits (front_part t next.0) × (table.get t.kept next.0 ≡ Some [] → ⊥)
+    head_waits {next = next} Drops comes did some = let no : Some next ≡ None = some in absurd cc
+    head_waits {next = next} (Says said) comes did some = let no : Some next ≡ None = some in absurd cc
+    head_waits {t = t} {next = next} (Does x) comes did some =
+        let state : put_back s c x ≡ t = sym (ap (λ (y : FrontState × FrontTurn). y.0) did) in (
+          subst (λ u. Waits (front_part u next.0)) state (next-waits k s c from epoch last x next sound comes (sym some)),
+          subst (λ u. table.get u.kept next.0 ≡ Some [] → ⊥) state (put-some s c x.part sound.some next.0),
+        )
+
+    pub ended_waits : {t : FrontState} {turn : FrontTurn} {next : ℕ × FirstChoice} → (t, turn) ≡ deed_turn s c ended → Some next ≡ next_admitted_by s.dispatch c k.now ended
+        → Waits (front_part t next.0) × (table.get t.kept next.0 ≡ Some [] → ⊥)
+    ended_waits did some = head_waits ended (end-comes (front_env k s c 0) (front_part s c) from epoch last (dispatch_standing s.dispatch c) (sound.each c)) did some
 
 -- ---- a step
 
@@ -85,7 +94,7 @@ pub step_sound : {E : Type 0} (k : FrontSetting) (s n : FrontState) (in_ : Front
 step_sound k s n in_ (Ok out) sound is = subst IsFrontSound (sym (ap (λ (x : FrontState × Out). x.0) is)) (step-stays k s in_ sound).sound
 step_sound k s n in_ (Err e) sound is = tt
 
-pub step_before : {E : Type 0} (k : FrontSetting) (s n : FrontState) (in_ : FrontIn) (r : Result Out E) → IsFrontSound s → AreBefore k.now.0 s.dispatch.books.sets → IfOk r (λ out. (n, out) ≡ front_step k s in_)
-    → OnOk r (AreBefore k.now.0 n.dispatch.books.sets)
+pub step_before : {E : Type 0} (k : FrontSetting) (s n : FrontState) (in_ : FrontIn) (r : Result Out E) → IsFrontSound s → AreBefore k.now.0 s.dispatch.books.sets
+    → IfOk r (λ out. (n, out) ≡ front_step k s in_) → OnOk r (AreBefore k.now.0 n.dispatch.books.sets)
 step_before k s n in_ (Ok out) sound clock is = subst (λ (u : FrontState). AreBefore k.now.0 u.dispatch.books.sets) (sym (ap (λ (x : FrontState × Out). x.0) is)) ((step-stays k s in_ sound).clock clock)
 step_before k s n in_ (Err e) sound clock is = tt

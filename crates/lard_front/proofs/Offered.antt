@@ -43,11 +43,11 @@ module _ (around : Around) (s : FrontState) (b : ControlBlock) (w : Served) (pat
   pub back_found : (m : Fronts) → m ≡ with_stage s.conns k (in_stage false b) (table.get s.conns k) → table.get m k ≡ Some back
   back_found m put = ap (λ u. table.get u k) (back_is m put) ∙ get_inserted s.conns k back
 
-  pub placed_is : (m : Fronts) (d : Dispatcher) (new : FrontState) (t : FrontTurn) → m ≡ with_stage s.conns k (in_stage false b) (table.get s.conns k) → d ≡ after_first s.dispatch k path around.time
-      → first.Go choice ≡ first_answer s.dispatch path around.time
+  pub placed_is : {m : Fronts} {d : Dispatcher} {new : FrontState} {t : FrontTurn} → m ≡ with_stage s.conns k (in_stage false b) (table.get s.conns k)
+      → d ≡ after_first s.dispatch k path around.time → first.Go choice ≡ first_answer s.dispatch path around.time
       → handed_at (front_env_of around (record s { conns = m; dispatch = d })) (record s { conns = m; dispatch = d }) w path choice (table.get m k) ≡ Some (new, t)
       → (new, t) ≡ deed_turn s k (read_deed (front_env_of around s) (front_part s k) (service_of b w) (Some path) (table.get s.conns k))
-  placed_is m d new t put after answer handed =
+  placed_is {m = m} {d = d} put after answer handed =
       let part = offering (front_env_of around s) row (service_of b w) path choice.node in
       let there = sym handed ∙ ap (handed_at (front_env_of around (record s { conns = m; dispatch = d })) (record s { conns = m; dispatch = d }) w path choice) (back_found m put) in
       some_is _ _ there

@@ -1,5 +1,5 @@
 -- A connection that was in hand and is put back, as the rules have it.
-use Rattle.std.proofs.Common.{◌≡◌, ℕ, Bool, true, false, List, [], Some, IsSome, IfOk, OnOk, Result, Ok, Err, is_err, sym, ap, ◌∙◌, rules}
+use Rattle.std.proofs.Common.{◌≡◌, ℕ, Bool, true, false, List, [], Some, IsSome, IfOk, OnOk, Result, Ok, Err, is_err, sym, ap, ◌∙◌, rules, subst}
 use Rattle.std.specs.FinMap as table
 use Rattle.std.specs.FinMap.{FinMap}
 use Rattle.std.specs.Ordering.{nat_cmp}
@@ -16,6 +16,7 @@ use Rattle.lard_resend.proofs.Lists.{list_got}
 use Rattle.lard_resend.specs.Pending.{held, put_list}
 use Rattle.lard_rules.specs.declared.places.Ending.{Ending}
 use Rattle.lard_rules.specs.declared.places.Ending.TheVariants.{Here, Over}
+use Rattle.lard_rules.specs.declared.places.Turn.{Turn}
 use Rattle.lard_table.proofs.Map.{get_inserted, put_twice}
 use Rattle.lard_table.specs.Table.{put_or}
 
@@ -49,16 +50,22 @@ abbrev with_target : FrontState → ℕ → List ℕ → FrontRest
 with_target s c path = record (front_rest (table.get s.rests c)) { target = Some path }
 
 -- put back to wait with a path
-pub waited_is : (s : FrontState) (c : ℕ) → Lends s c → (path : List ℕ) (m : FinMap nat_cmp FrontRest) (d : Dispatcher) → m ≡ table.insert s.rests c (with_target s c path) → (row : FrontRow) → table.get s.conns c ≡ Some row → (e : Ending)
-    → front_rested_in (record s { rests = m; dispatch = d }) c true e ≡ record (front_put s c (front_rests (front_part s c) row (with_target s c path) stage.Waiting e)) { dispatch = d }
-waited_is s c lends path m d set row found e =
-    rested_is (record s { rests = m; dispatch = d }) c row (with_target s c path) found (ap (λ u. table.get u c) set ∙ get_inserted s.rests c (with_target s c path)) lends.some_kept true e
+pub waited_is : (s : FrontState) (c : ℕ) (l : Lends s c) (path : List ℕ) {m : FinMap nat_cmp FrontRest} (d : Dispatcher) → m ≡ table.insert s.rests c (with_target s c path) → (e : Ending)
+    → front_rested_in (record s { rests = m; dispatch = d }) c true e
+    ≡ record (front_put s c (front_rests (front_part s c) l.row (with_target s c path) stage.Waiting e)) { dispatch = d }
+waited_is s c l path {m = m} d set e =
+    rested_is (record s { rests = m; dispatch = d }) c l.row (with_target s c path) l.found (ap (λ u. table.get u c) set ∙ get_inserted s.rests c (with_target s c path)) l.some_kept true e
     ∙ (λ i. record s {
-      conns = put_or s.conns c (front_rests (front_part s c) row (with_target s c path) stage.Waiting e).row;
-      rests = (ap (λ u. put_or u c (rest_after (with_target s c path) e)) set ∙ put_twice s.rests c (Some (with_target s c path)) (rest_after (with_target s c path) e)) i;
+      conns = put_or s.conns c (front_rests (front_part s c) l.row (with_target s c path) stage.Waiting e).row;
+      rests = (ap (λ u. put_or u c (rest_after (with_target s c path) e)) set
+          ∙ put_twice s.rests c (Some (with_target s c path)) (rest_after (with_target s c path) e)) i;
       kept = put_list s.kept c (held s.kept c);
       dispatch = d;
     })
+
+-- what was said of the turn of a call that did not fail
+pub given_is : {E : Type 0} {r : Result Turn E} {t : Turn} (e : Ending) (x : Ending × Turn) → r ≡ Ok t → IfOk r (λ (u : Turn). (e, u) ≡ x) → (e, t) ≡ x
+given_is e x was told = subst (λ r. IfOk r (λ (u : Turn). (e, u) ≡ x)) was told
 
 -- a turn that was given is that of what it comes to
 pub then_is : {S T E : Type 0} (new : S) (x y : S × T) → x ≡ y → (r : Result T E) → IfOk r (λ t. (new, t) ≡ x) → IfOk r (λ t. (new, t) ≡ y)

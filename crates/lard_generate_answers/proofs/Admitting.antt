@@ -2,14 +2,11 @@
 use Rattle.std.proofs.Common.{◌≡◌, ◌≤◌, ◌⊎◌, inl, inr, ℕ, ◌+◌, ◌||◌, Bool, true, false, cond, nat_eq, List, [], ◌∷◌, ◌++◌, length, refl, sym, ap, ◌∙◌, subst, append_assoc, append-nil, length-append, arith}
 use Rattle.std.proofs.lemmas.List.Sums.{fold-append}
 use Rattle.std.specs.List.{fold, list_any}
-use Rattle.lard_base.specs.declared.config.Config.{Config}
+use Rattle.lard_law_view.specs.Prelude.{Config, EachMay, Rec, assigned, assigned_step}
 use Rattle.lard_law_connections.specs.PolicyLaws.{ArePaired, AssignmentDue, First, Later, MayAdmit, Nothing}
 use Rattle.lard_counts.specs.Ledger.{Ledger, ledger_admitted, blank_ledger, ledger, ledger_step}
 use Rattle.lard_law_connections.proofs.PolicyIns.{count, count-append, none-left, others, others-left}
 use Rattle.lard_history.proofs.Seeing.{by_number, other_number, same_number}
-use Rattle.lard_history.specs.Journal.{assigned, assigned_step}
-use Rattle.lard_history.specs.Laws.{EachMay}
-use Rattle.lard_journal.specs.declared.rec.Rec.{Rec}
 use Rattle.lard_journal.specs.declared.rec.Rec.TheVariants as rec
 use Rattle.lard_generate_answers.proofs.Sums.{IsTo, by-number, share, sum-few, sum-same, weigh}
 

@@ -1,12 +1,9 @@
 -- A client that writes goes on to write: speaking changes nothing of that, nor does what it writes.
 use Rattle.std.proofs.Common.{◌≡◌, ◌&&◌, not, ℕ, List, Option, Some, None, refl, ap, ◌∙◌}
 use Rattle.std.proofs.lemmas.Bool.{cond_both}
-use Rattle.lard_client.specs.Control.{ClientBlock, is_client_open, is_open_in, is_writing, client_written}
-use Rattle.lard_client.specs.Leaving.{client_after_emit, client_after_owed, client_after_piece, client_owes, client_told}
-use Rattle.lard_rules.specs.Speaking.{client_speaks}
+use Rattle.lard_law_view.specs.Prelude.{ClientBlock, Sending, after_next, client_after_emit, client_after_owed, client_after_piece, client_owes, client_speaks, client_told, client_written, is_client_open, is_open_in, is_writing, next_piece, queued_too}
 use Rattle.lard_rules.proofs.Loops.{client_keeps}
 use Rattle.lard_send.specs.declared.piece.Piece.{Piece}
-use Rattle.lard_send.specs.Send.{Sending, after_next, next_piece, queued_too}
 use Rattle.lard_law_view.proofs.Speaking.{next-moves}
 
 -- it is of the same connection, and writes if the other did

@@ -1,8 +1,7 @@
 -- What is counted of a journal is what it says of its connections together.
 use Rattle.std.proofs.Common.{◌≡◌, ◌⊎◌, inl, inr, ℕ, ◌+◌, Bool, true, false, cond, nat_eq, List, [], ◌∷◌, ◌++◌, length, refl, sym, ◌∙◌, length-append, arith}
 use Rattle.std.specs.List.{fold}
-use Rattle.lard_history.specs.Journal.{accepted, accepted_step, served, served_step}
-use Rattle.lard_journal.specs.declared.rec.Rec.{Rec}
+use Rattle.lard_law_view.specs.Prelude.{Rec, accepted, accepted_step, served, served_step}
 use Rattle.lard_journal.specs.declared.rec.Rec.TheVariants as rec
 use Rattle.lard_summary.specs.Counts as counted
 use Rattle.lard_generate_answers.specs.Counted.{sum_to}

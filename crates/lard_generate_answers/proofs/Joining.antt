@@ -5,22 +5,15 @@ use Rattle.std.proofs.lemmas.List.{length-map}
 use Rattle.std.proofs.lemmas.List.Sums.{fold-append}
 use Rattle.std.specs.List.{concat, fold}
 use Rattle.std.specs.Prelude.{nat_le}
-use Rattle.lard_answers.specs.Answers.{FilesAt, IsPrefix, answer_bytes, answers, goods, goods_from}
+use Rattle.lard_law_view.specs.Prelude.{Config, EachMay, Event, FilesAt, IsComplete, IsPrefix, Rec, aborted_step, accepted, accepted_step, answer_bytes, answers, assigned, goods, goods_from, has_aborted, is_touched, reset_step, room_of, served, served_step, touched_step, was_reset, wrote, wrote_step}
 use Rattle.lard_answers.proofs.Growing.{answers-nothing, verdicts-nothing}
-use Rattle.lard_base.specs.Config.{room_of}
-use Rattle.lard_base.specs.declared.config.Config.{Config}
-use Rattle.lard_base.specs.declared.event.Event.{Event}
 use Rattle.lard_bound.specs.Bound.{openers, opener_step}
 use Rattle.lard_laws.proofs.BackingMarks.{each-at}
 use Rattle.lard_laws.specs.Lawful.{IsLawful}
 use Rattle.lard_counts.specs.Ledger.{Ledger, ledger_admitted, blank_ledger, ledger, ledger_step}
 use Rattle.lard_laws.specs.Quiet.{IsInLine}
 use Rattle.lard_generate_bound.specs.Shares.{numbers_to}
-use Rattle.lard_history.specs.Journal.{accepted, accepted_step, assigned, is_touched, reset_step, served, served_step, touched_step, was_reset, wrote, wrote_step}
-use Rattle.lard_history.specs.Laws.{EachMay}
-use Rattle.lard_journal.specs.declared.rec.Rec.{Rec}
 use Rattle.lard_journal.specs.declared.rec.Rec.TheVariants as rec
-use Rattle.lard_law_view.specs.Quiet.{IsComplete, aborted_step, has_aborted}
 use Rattle.lard_law_settles.specs.Done.{IsDoneWith, MaySettle}
 use Rattle.lard_law_settles.specs.DoneSame.{TellsTheSame}
 use Rattle.lard_generate_answers.specs.Counted.{CountsAllAnswers, writes}

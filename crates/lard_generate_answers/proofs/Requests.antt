@@ -5,26 +5,17 @@ use Rattle.std.proofs.lemmas.List.{append_cancel_left}
 use Rattle.std.proofs.lemmas.List.Sums.{fold-append}
 use Rattle.std.specs.FinMap as table
 use Rattle.std.specs.List.{fold, list_all}
-use Rattle.lard_base.specs.declared.event.Event.{Event}
+use Rattle.lard_law_view.specs.Prelude.{ClientBlock, Event, Machine, Rec, Station, StepFault, client_acts, client_goes_on, client_opens, client_shuts, client_writes, client_written, happens, is_own, is_writing, machine_opened, machine_told, machine_wrote, silent, speaking, written_len, wrote_step}
 use Rattle.lard_base.specs.declared.event.Event.TheVariants as event
-use Rattle.lard_client.specs.Control.{ClientBlock, is_writing, client_written, written_len}
 use Rattle.lard_client.specs.Control as client
-use Rattle.lard_rules.specs.declared.fault.StepFault.{StepFault}
 use Rattle.lard_rules.specs.declared.fault.StepFault.TheVariants as fault
-use Rattle.lard_rules.specs.declared.machine.Machine.{Machine}
-use Rattle.lard_rules.specs.Machine.{client_acts, client_goes_on, happens, limit_reached, machine_step, machine_opened, machine_told, unless_limit, machine_wrote}
+use Rattle.lard_law_connections.proofs.Happened.{ok-same}
 use Rattle.lard_law_view.proofs.After.{IsAfter}
 use Rattle.lard_generate_bound.proofs.Leaving.{IsUnwritten, unwritten, wrote-still}
 use Rattle.lard_generate_bound.proofs.Walking.{one-folds}
 use Rattle.lard_history.specs.Journal as journal
-use Rattle.lard_history.specs.Journal.{wrote_step}
-use Rattle.lard_history.specs.Laws.{is_own}
-use Rattle.lard_journal.specs.declared.rec.Rec.{Rec}
 use Rattle.lard_journal.specs.declared.rec.Rec.TheVariants as rec
-use Rattle.lard_rules.specs.declared.fault.What.{What}
 use Rattle.lard_rules.specs.declared.fault.What.TheVariants as what
-use Rattle.lard_rules.specs.declared.places.Station.{Station}
-use Rattle.lard_rules.specs.Client.{client_opens, client_shuts, client_writes, silent, speaking}
 use Rattle.lard_table.proofs.Map.{get_inserted, get_other}
 use Rattle.lard_generate_answers.proofs.Clients.{like-speaks, like-written}
 
@@ -49,9 +40,6 @@ others-can m n c d p apart h = record {
   number = h.number;
   writing = h.writing;
 }
-
-ok-same : (m n : Machine) → ◌≡◌ {A = Result Machine StepFault} (Ok m) (Ok n) → m ≡ n
-ok-same m n e = cc
 
 -- ---- it opens
 
@@ -107,14 +95,6 @@ pub shut-puts : (m n : Machine) (c : ℕ) (o : Option Station) → client_acts m
 unfolding client_acts machine_told
 shut-puts m n c None is = cc
 shut-puts m n c (Some x) is = record { station = record { client = (client_shuts x.client).0; iss = x.iss }; clients = ap (λ (k : Machine). k.clients) (sym (ok-same _ n is)) }
-
--- what a step that is done gives
-pub done-happens : (m n : Machine) (e : Event) → machine_step m e ≡ Ok n → happens m e ≡ Ok n
-unfolding machine_step
-done-happens m n e is = go (limit_reached m) is where
-  go : (o : Option What) → unless_limit o (happens m e) ≡ Ok n → happens m e ≡ Ok n
-  go None h = h
-  go (Some limit) h = cc
 
 -- ---- what the journal says
 

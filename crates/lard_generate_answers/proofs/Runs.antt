@@ -1,15 +1,10 @@
 -- Of a generated run that is done clients 1 to n are all, and what its journal counts is all that they are answered.
 use Rattle.std.proofs.Common.{◌≡◌, ◌≤◌, ◌<◌, ◌^◌, inl, inr, ℕ, Bool, true, false, not, List, [], ◌∷◌, ◌++◌, All, length, Ok, append-nil, refl, sym, ap, ◌∙◌, subst, arith}
 use Rattle.std.proofs.lemmas.List.Elements.{All-head, All-tail}
-use Rattle.lard_answers.specs.Answers.{answer_bytes}
-use Rattle.lard_base.specs.declared.config.Config.{Config}
-use Rattle.lard_base.specs.declared.event.Event.{Event}
+use Rattle.lard_law_view.specs.Prelude.{Config, Event, Follows, Has, Machine, Rec, aborted_step, answer_bytes, file_at, is_own, machine_start, touched_step, wrote, wrote_step}
 use Rattle.lard_base.specs.declared.event.Event.TheVariants as event
 use Rattle.lard_bound.specs.Bound.{bytes_both_ways, opener_step, openers, total_of}
-use Rattle.lard_rules.specs.declared.machine.Machine.{Machine}
-use Rattle.lard_rules.specs.Machine.{machine_start}
 use Rattle.lard_laws.proofs.Lawful.{journals-lawful}
-use Rattle.lard_files.specs.Files.{file_at}
 use Rattle.lard_generate.specs.Clients.{drawn_actions, drawn_open}
 use Rattle.lard_generate.specs.Draws.{each, seeded}
 use Rattle.lard_generate.specs.Files.{drawn_size}
@@ -19,12 +14,7 @@ use Rattle.lard_generate.proofs.Spelled.{events_spelled}
 use Rattle.lard_generate_bound.specs.Laws.{before_settle, generated_rounds}
 use Rattle.lard_generate_bound.specs.Shares.{numbers_to}
 use Rattle.lard_generate_bound.proofs.Reaching.{before-follows, before-plain, openers-are, reach-the-bound, settles-last}
-use Rattle.lard_history.specs.Journal.{touched_step, wrote, wrote_step}
-use Rattle.lard_history.specs.Laws.{Follows, is_own}
-use Rattle.lard_history.specs.Own.{Has}
-use Rattle.lard_journal.specs.declared.rec.Rec.{Rec}
 use Rattle.lard_journal.specs.declared.rec.Rec.TheVariants as rec
-use Rattle.lard_law_view.specs.Quiet.{aborted_step}
 use Rattle.lard_law_settles.proofs.EnoughTelling.{PassesOver, openers-over, touched-over, wrote-over}
 use Rattle.lard_law_settles.proofs.EnoughWithin.{opener-steps, touched-steps, wrote-steps}
 use Rattle.lard_law_settles.proofs.DoneRuns.{runs-are-done}

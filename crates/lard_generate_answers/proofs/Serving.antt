@@ -5,11 +5,8 @@ use Rattle.std.proofs.lemmas.Bool.{eqb-true}
 use Rattle.std.proofs.lemmas.List.Sums.{fold-append}
 use Rattle.std.specs.List.{concat, slice_get}
 use Rattle.std.specs.Option.{option_map}
-use Rattle.lard_answers.specs.Answers.{FilesAt, IsPrefix, answer_bytes, answers}
+use Rattle.lard_law_view.specs.Prelude.{EachMay, FilesAt, IsPrefix, MayReset, Rec, answer_bytes, answers, is_touched, reset_step, served, served_bytes, served_bytes_step, served_step, was_reset, wrote, wrote_step}
 use Rattle.lard_answers.proofs.Growing.{answer_bytes-grow, answers-grow}
-use Rattle.lard_history.specs.Journal.{is_touched, reset_step, served, served_bytes, served_bytes_step, served_step, was_reset, wrote, wrote_step}
-use Rattle.lard_history.specs.Laws.{EachMay, MayReset}
-use Rattle.lard_journal.specs.declared.rec.Rec.{Rec}
 use Rattle.lard_journal.specs.declared.rec.Rec.TheVariants as rec
 use Rattle.lard_laws.proofs.BackingMarks.{untouched-before, writes-on}
 use Rattle.lard_law_connections.specs.BytesRecords.{MayServeOwned}

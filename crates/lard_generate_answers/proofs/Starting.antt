@@ -3,7 +3,7 @@ use Rattle.std.proofs.Common.{◌≡◌, ◌≢◌, ◌⊎◌, inl, inr, ℕ, ze
 use Rattle.std.proofs.lemmas.List.Elements.{All-append, All-cons, All-head, All-nil, All-tail}
 use Rattle.std.specs.List.{fold}
 use Rattle.rand_pcg.specs.Lcg.{Lcg}
-use Rattle.lard_base.specs.declared.event.Event.{Event}
+use Rattle.lard_law_view.specs.Prelude.{Event, Follows, Has, Numbers, Rec, aborted_step, has_aborted, is_own, numbers_of, numbers_step, wrote, wrote_step}
 use Rattle.lard_base.specs.declared.event.Event.TheVariants as event
 use Rattle.lard_bound.specs.Bound.{opener_step, openers}
 use Rattle.lard_generate.specs.declared.action.Action.{Action}
@@ -16,12 +16,7 @@ use Rattle.lard_generate_bound.specs.Shares.{actor, numbers_to}
 use Rattle.lard_generate_bound.proofs.Leaving.{IsPlain, fates-are, opens-are, unwritten, wrote-still}
 use Rattle.lard_generate_bound.proofs.Walking.{Leaves, all-leave}
 use Rattle.lard_history.proofs.Seeing.{by_number, has-before, has-behind, other_number, same_number}
-use Rattle.lard_history.specs.Journal.{Numbers, numbers_of, numbers_step, wrote, wrote_step}
-use Rattle.lard_history.specs.Laws.{Follows, is_own}
-use Rattle.lard_history.specs.Own.{Has}
-use Rattle.lard_journal.specs.declared.rec.Rec.{Rec}
 use Rattle.lard_journal.specs.declared.rec.Rec.TheVariants as rec
-use Rattle.lard_law_view.specs.Quiet.{aborted_step, has_aborted}
 use Rattle.lard_generate_answers.proofs.Sums.{IsTo}
 
 -- ---- who opened

@@ -2,12 +2,8 @@
 use Rattle.std.proofs.Common.{◌≡◌, ◌≢◌, ◌≤◌, ◌<◌, ℕ, zero, suc, ◌+◌, Bool, true, false, cond, nat_eq, List, [], ◌∷◌, ◌++◌, map, Ok, refl, sym, ap, ◌∙◌, subst, append_assoc, append-nil, arith}
 use Rattle.std.proofs.lemmas.List.{map-append}
 use Rattle.rand_pcg.specs.Lcg.{Lcg}
-use Rattle.lard_base.specs.declared.config.Config.{Config}
-use Rattle.lard_base.specs.declared.event.Event.{Event}
+use Rattle.lard_law_view.specs.Prelude.{Config, Event, HasRule, IsReached, Machine, Passes, machine_start, machine_step, request, wrote}
 use Rattle.lard_base.specs.declared.event.Event.TheVariants as event
-use Rattle.lard_rules.specs.declared.machine.Machine.{Machine}
-use Rattle.lard_rules.specs.Bounds.{HasRule}
-use Rattle.lard_rules.specs.Machine.{IsReached, Passes, machine_step, machine_start}
 use Rattle.lard_law_view.proofs.After.{IsAfter, step-after}
 use Rattle.lard_law_view.proofs.Carried.{reached-viewed}
 use Rattle.lard_generate.specs.declared.action.Action.TheVariants.{Ask, Shut}
@@ -16,11 +12,11 @@ use Rattle.lard_generate.specs.Draws.{behind, draw, each}
 use Rattle.lard_generate_bound.proofs.Leaving.{IsPlain, IsUnwritten}
 use Rattle.lard_generate_bound.proofs.Reaching.{plain-rule, plain-step}
 use Rattle.lard_history.proofs.Seeing.{by_number}
-use Rattle.lard_history.specs.Journal.{request, wrote}
 use Rattle.lard_settling.specs.Events.{GoesThrough, MayCome, event_step}
 use Rattle.std.specs.FinMap as table
 use Rattle.lard_generate_answers.specs.Counted.{writes}
-use Rattle.lard_generate_answers.proofs.Requests.{CanWrite, done-happens, opened-can, others-can, same-says, shut-puts, write-says, written-of}
+use Rattle.lard_law_connections.proofs.Happened.{done-happens}
+use Rattle.lard_generate_answers.proofs.Requests.{CanWrite, opened-can, others-can, same-says, shut-puts, write-says, written-of}
 use Rattle.lard_generate_answers.proofs.Sums.{IsTo}
 
 -- events one behind another
@@ -119,7 +115,7 @@ module _ (config : Config) (files : List (List ℕ × List ℕ)) where
 
   keeps-open : (k isn iss wnd mss : ℕ) → Keeps (IsTo k) (IsTo (k + 1)) (event.Open (k + 1) isn iss wnd mss ∷ [])
   keeps-open k isn iss wnd mss = keeps-one (IsTo k) (IsTo (k + 1)) (event.Open (k + 1) isn iss wnd mss) tt (λ m n may done a.
-      let can = opened-can m (k + 1) isn iss wnd mss n (table.get m.clients (k + 1)) (done-happens m n (event.Open (k + 1) isn iss wnd mss) done) in (
+      let can = opened-can m (k + 1) isn iss wnd mss n (table.get m.clients (k + 1)) (done-happens m n (event.Open (k + 1) isn iss wnd mss) done).1 in (
         λ c to. by_number (CanWrite n c) c (k + 1) (λ same. subst (CanWrite n) (sym same) can.1) (λ other. others-can m n (k + 1) c can.0 other (may c (up-to c k to other))),
         λ q. says-nothing m n (event.Open (k + 1) isn iss wnd mss) q tt refl a,
       ))
@@ -130,14 +126,14 @@ module _ (config : Config) (files : List (List ℕ × List ℕ)) where
 
   keeps-ask : (n k file : ℕ) → k < n → Keeps (IsBehind n k) (IsBehind n k) (map action_event (Ask (k + 1) file ∷ []))
   keeps-ask n k file less = keeps-one (IsBehind n k) (IsBehind n k) (action_event (Ask (k + 1) file)) tt (λ m j may done a.
-      let w = written-of m j (k + 1) _ (may (k + 1) (omega arith, omega (arith, less))) (done-happens m j (action_event (Ask (k + 1) file)) done) in (
+      let w = written-of m j (k + 1) _ (may (k + 1) (omega arith, omega (arith, less))) (done-happens m j (action_event (Ask (k + 1) file)) done).1 in (
         λ c is. by_number (CanWrite j c) c (k + 1) (λ same. subst (CanWrite j) (sym same) w.can) (λ other. others-can m j (k + 1) c w.puts other (may c is)),
         λ q. write-says m j (k + 1) _ q w a ∙ ap (λ (l : List ℕ). wrote m.journal q ++ l) (sym (append-nil _)),
       ))
 
   keeps-shut : (n k : ℕ) → Keeps (IsBehind n k) (IsBehind n (k + 1)) (map action_event (Shut (k + 1) ∷ []))
   keeps-shut n k = keeps-one (IsBehind n k) (IsBehind n (k + 1)) (event.Shut (k + 1)) tt (λ m j may done a.
-      let p = shut-puts m j (k + 1) (table.get m.clients (k + 1)) (done-happens m j (event.Shut (k + 1)) done) in (
+      let p = shut-puts m j (k + 1) (table.get m.clients (k + 1)) (done-happens m j (event.Shut (k + 1)) done).1 in (
         λ c is. others-can m j (k + 1) c p (λ same. omega (arith, is.0, same)) (may c (omega (arith, is.0), is.1)),
         λ q. says-nothing m j (event.Shut (k + 1)) q tt refl a,
       ))

@@ -1,10 +1,7 @@
 -- All that the clients of a schedule are answered: how many responses there are to what they write, and how many bytes these have.
 use Rattle.std.specs.Prelude.{◌≡◌, ℕ, zero, suc, ◌+◌, nat_eq, if◌then◌else◌, List, [], ◌∷◌, ◌++◌, length}
-use Rattle.lard_answers.specs.Answers.{FilesAt, answer_bytes, answers}
-use Rattle.lard_base.specs.declared.event.Event.{Event}
+use Rattle.lard_law_view.specs.Prelude.{Event, FilesAt, Rec, answer_bytes, answers, request}
 use Rattle.lard_base.specs.declared.event.Event.TheVariants as event
-use Rattle.lard_history.specs.Journal.{request}
-use Rattle.lard_journal.specs.declared.rec.Rec.{Rec}
 use Rattle.lard_summary.specs.Counts.{accepted_bytes, requests_answered}
 
 -- f 1 + f 2 + .. + f n

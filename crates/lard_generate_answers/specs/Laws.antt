@@ -1,12 +1,7 @@
 -- A generated schedule that is done counts all answers.
 use Rattle.std.specs.Prelude.{◌≡◌, ℕ, ◌≤◌, ◌<◌, ◌^◌, List, [], ◌∷◌, ◌++◌, Ok}
-use Rattle.lard_base.specs.Config.{config_check, room_of}
-use Rattle.lard_base.specs.declared.config.Config.{Config}
-use Rattle.lard_rules.specs.declared.machine.Machine.{Machine}
-use Rattle.lard_rules.specs.Machine.{machine_start}
-use Rattle.lard_files.specs.Files.{file_at}
+use Rattle.lard_law_view.specs.Prelude.{Config, Machine, Rec, config_check, file_at, machine_start, room_of}
 use Rattle.lard_generate.specs.Generated.{generated}
-use Rattle.lard_journal.specs.declared.rec.Rec.{Rec}
 use Rattle.lard_journal.specs.declared.rec.Rec.TheVariants as rec
 use Rattle.lard_settling.specs.Events.{GoesThrough}
 use Rattle.lard_generate_answers.specs.Counted.{CountsAllAnswers}

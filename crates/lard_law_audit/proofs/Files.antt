@@ -7,10 +7,8 @@ use Rattle.std.specs.Option.{option_map}
 use Rattle.std.specs.Prelude.{replicate}
 use Rattle.std.specs.Str.{bytes_eq}
 use Rattle.lard_audit.specs.Sound.{audit_files_of, size_in}
-use Rattle.lard_cache.specs.Recency.{Recency, after_put}
+use Rattle.lard_law_view.specs.Prelude.{Rec, Recency, after_put, file_at}
 use Rattle.lard_counts.specs.Stores.{bytes_of_file, cache_step, cached, size_of}
-use Rattle.lard_files.specs.Files.{file_at}
-use Rattle.lard_journal.specs.declared.rec.Rec.{Rec}
 use Rattle.lard_journal.specs.declared.rec.Rec.TheVariants as rec
 use Rattle.lard_law_audit.specs.Laws.{file_lengths}
 

@@ -2,10 +2,8 @@
 use Rattle.std.proofs.Common.{◌≡◌, ℕ, Bool, true, false, cond, is_some, List, [], ◌∷◌, ◌++◌, Option, Some, None, refl, sym, ap, ◌∙◌, subst, nat_eq, eqb-true}
 use Rattle.std.proofs.lemmas.List.Sums.{fold-append}
 use Rattle.lard_audit.specs.Sound.{audit_due_behind, due_by, audit_last_of}
-use Rattle.lard_history.specs.Journal.{home_told, home_step, in_step, is_in}
-use Rattle.lard_history.specs.Laws.{EachMay}
+use Rattle.lard_law_view.specs.Prelude.{EachMay, Rec, home_step, home_told, in_step, is_in}
 use Rattle.lard_history.proofs.Seeing.{same_number}
-use Rattle.lard_journal.specs.declared.rec.Rec.{Rec}
 use Rattle.lard_journal.specs.declared.rec.Rec.TheVariants as rec
 use Rattle.lard_law_audit.proofs.Behind.{MayPair, PairsAt, last-behind}
 

@@ -4,30 +4,17 @@ use Rattle.std.specs.Prelude.{is_none}
 use Rattle.std.proofs.lemmas.Bool.{and_from, le-leb, lt-ltb}
 use Rattle.std.proofs.lemmas.Slice.Eq.{bytes_eq-Decides}
 use Rattle.lard_audit.specs.Sound.{audit_files_of, audit_first_at, is_first_choice, is_audit_job, is_later_choice, is_owner, is_same, audit_job_at, job_behind, job_by, keeps_admission, keeps_cache, keeps_choice, keeps_clock, keeps_later, keeps_network, keeps_owner, keeps_room, keeps_sender, audit_last_of, may_arrive, may_audit_send}
-use Rattle.lard_base.specs.Config.{room_of}
-use Rattle.lard_base.specs.declared.config.Config.{Config}
-use Rattle.lard_base.specs.declared.event.Event.{Event}
+use Rattle.lard_law_view.specs.Prelude.{Client, Config, Event, FirstChoice, Front, LaterChoice, MayInNetwork, MayOwn, MaySend, MayTime, Node, OwnerSends, Place, Rec, file_at, goal_of, has_path, home, is_lost, is_place, last_epoch, later_choice, open_shares, owner, room_of, sent_count, time_of}
 use Rattle.lard_base.specs.declared.event.Event.TheVariants as event
-use Rattle.lard_base.specs.declared.place.Place.{Place}
-use Rattle.lard_base.specs.declared.place.Place.TheVariants.{Client, Front, Node}
-use Rattle.lard_cache.specs.Recency.{has_path}
-use Rattle.lard_costs.specs.declared.later.LaterChoice.{LaterChoice}
-use Rattle.lard_costs.specs.Later.{later_choice}
 use Rattle.lard_counts.specs.Ledger.{Ledger, ledger_admitted, is_in_ledger, server_set}
 use Rattle.lard_counts.specs.Stores.{Waiting, cached, jobs}
-use Rattle.lard_files.specs.Files.{file_at}
-use Rattle.lard_history.specs.Journal.{goal_of, is_lost, is_place, last_epoch, owner, sent_count, time_of}
-use Rattle.lard_history.specs.Laws.{MayInNetwork, MayOwn, MaySend, MayTime, OwnerSends}
 use Rattle.lard_history.proofs.Seeing.{same_number}
-use Rattle.lard_journal.specs.declared.rec.Rec.{Rec}
 use Rattle.lard_journal.specs.declared.rec.Rec.TheVariants as rec
 use Rattle.lard_law_audit.specs.Laws.{file_lengths}
 use Rattle.lard_law_audit.proofs.Behind.{MayPair, ReadsBehind, event-last, event_in}
 use Rattle.lard_law_audit.proofs.Files.{cached-same, size-there}
 use Rattle.lard_law_connections.specs.PolicyLaws.{MayAdmit, MayAssign}
 use Rattle.lard_law_connections.specs.StoresLaws.{MayStore}
-use Rattle.lard_loads.specs.Tally.{home, open_shares}
-use Rattle.lard_policy.specs.declared.first.FirstChoice.{FirstChoice}
 
 -- ---- the network
 

@@ -3,10 +3,8 @@ use Rattle.std.proofs.Common.{◌≡◌, ◌+◌, ℕ, true, false, cond, List, 
 use Rattle.std.proofs.lemmas.List.Sums.{fold-append}
 use Rattle.std.specs.List.{fold}
 use Rattle.lard_audit.specs.Sound.{audit_due_behind, audit_last_of}
-use Rattle.lard_base.specs.declared.event.Event.{Event}
+use Rattle.lard_law_view.specs.Prelude.{EachMay, Event, Rec}
 use Rattle.lard_base.specs.declared.event.Event.TheVariants as event
-use Rattle.lard_history.specs.Laws.{EachMay}
-use Rattle.lard_journal.specs.declared.rec.Rec.{Rec}
 use Rattle.lard_journal.specs.declared.rec.Rec.TheVariants as rec
 use Rattle.lard_law_audit.proofs.Behind.{MayPair, PairsAt, due_next, due_of, event_in, last-behind, next-is, pairs-one}
 use Rattle.lard_law_connections.specs.PolicyLaws.{ArePaired, AssignmentDue}

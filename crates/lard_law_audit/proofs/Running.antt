@@ -1,9 +1,7 @@
 -- The journal of a run with settles is sound: its settles stand in order, and with them written out it is that of a run without any.
 use Rattle.std.proofs.Common.{◌≡◌, ◌⊎◌, inl, inr, ℕ, false, List, [], ◌∷◌, Ok, Err, sym, ap, ◌∙◌, subst}
-use Rattle.lard_base.specs.declared.config.Config.{Config}
-use Rattle.lard_base.specs.declared.event.Event.{Event}
+use Rattle.lard_law_view.specs.Prelude.{Config, Event, Machine, StepFault, file_at, machine_start}
 use Rattle.lard_base.specs.declared.event.Event.TheVariants as event
-use Rattle.lard_files.specs.Files.{file_at}
 use Rattle.lard_law_audit.specs.Laws.{SettledRunsAreSound}
 use Rattle.lard_law_audit.proofs.Settled.{settled-sound}
 use Rattle.lard_law_settles.proofs.SettlesEvents.{either-kind, plain-done, plain-rule}
@@ -12,9 +10,6 @@ use Rattle.lard_law_settles.proofs.SettlesInside.{InnerKept, IsClosed, SettleEnd
 use Rattle.lard_law_settles.proofs.SettlesOrder.{in-order}
 use Rattle.lard_laws.proofs.Lawful.{journals-lawful}
 use Rattle.lard_laws.specs.Lawful.{IsLawful}
-use Rattle.lard_rules.specs.declared.fault.StepFault.{StepFault}
-use Rattle.lard_rules.specs.declared.machine.Machine.{Machine}
-use Rattle.lard_rules.specs.Machine.{machine_start}
 use Rattle.lard_settling.proofs.Written.{written}
 use Rattle.lard_settling.specs.Events.{GoesThrough, LeadsTo, MayCome, event_step}
 use Rattle.lard_settling.specs.Settling.{settle_left}

@@ -2,15 +2,9 @@
 -- of both, and what stands directly before.
 use Rattle.std.proofs.Common.{◌≡◌, ℕ, Bool, true, false, not, ◌&&◌, is_some, List, [], ◌∷◌, ◌++◌, Option, None, refl, sym, ap, ◌∙◌, subst}
 use Rattle.lard_audit.specs.Sound.{broken, audit_due_behind, audit_files_of, first_broken, is_audit_job, audit_job_at, job_behind, keeps_admission, keeps_cache, keeps_choice, keeps_clock, keeps_network, keeps_owner, keeps_sender, audit_last_of, may_arrive}
-use Rattle.lard_base.specs.Config.{room_of}
-use Rattle.lard_base.specs.declared.config.Config.{Config}
-use Rattle.lard_base.specs.declared.event.Event.{Event}
+use Rattle.lard_law_view.specs.Prelude.{Config, EachMay, Event, Rec, Recency, epoch_step, goal_step, last_epoch, lost_step, owner, owner_step, room_of, sent_count, sent_step}
 use Rattle.lard_counts.specs.Ledger.{Ledger, ledger_admitted, blank_ledger, is_in_ledger, ledger, ledger_step}
 use Rattle.lard_counts.specs.Stores.{Queue, Waiting, cache_step, cached, jobs, jobs_step, no_jobs}
-use Rattle.lard_cache.specs.Recency.{Recency}
-use Rattle.lard_history.specs.Journal.{epoch_step, goal_step, last_epoch, lost_step, owner, owner_step, sent_count, sent_step}
-use Rattle.lard_history.specs.Laws.{EachMay}
-use Rattle.lard_journal.specs.declared.rec.Rec.{Rec}
 use Rattle.lard_journal.specs.declared.rec.Rec.TheVariants as rec
 use Rattle.lard_law_audit.specs.Laws.{SettledIsSound, file_lengths}
 use Rattle.lard_law_audit.proofs.Behind.{PairsAt, event_in}

@@ -1,15 +1,10 @@
 -- A lawful journal is sound, record by record.
 use Rattle.std.proofs.Common.{◌≡◌, ℕ, true, is_some, List, [], ◌∷◌, ◌++◌, None, refl, sym, ap, ◌∙◌, append_assoc}
 use Rattle.lard_audit.specs.Sound.{IsSound, broken, audit_due_behind, audit_files_of, first_broken, audit_job_at, job_behind, keeps_admission, keeps_cache, keeps_choice, keeps_clock, keeps_network, keeps_owner, keeps_sender, audit_last_of, may_arrive}
-use Rattle.lard_base.specs.Config.{room_of}
-use Rattle.lard_base.specs.declared.config.Config.{Config}
+use Rattle.lard_law_view.specs.Prelude.{Config, EachMay, MayInNetwork, MayOwn, MaySend, MayTime, Rec, file_at, home, last_epoch, owner, room_of, sent_count, time_of}
 use Rattle.lard_counts.specs.Ledger.{Ledger, ledger_admitted, is_in_ledger, ledger}
 use Rattle.lard_counts.specs.Stores.{cached, jobs}
-use Rattle.lard_files.specs.Files.{file_at}
-use Rattle.lard_history.specs.Journal.{last_epoch, owner, sent_count, time_of}
-use Rattle.lard_history.specs.Laws.{EachMay, MayInNetwork, MayOwn, MaySend, MayTime}
 use Rattle.lard_history.proofs.Each.{each_weaker}
-use Rattle.lard_journal.specs.declared.rec.Rec.{Rec}
 use Rattle.lard_law_audit.specs.Laws.{LawfulIsSound, RunsAreSound, file_lengths}
 use Rattle.lard_law_audit.proofs.Behind.{PairsAt, ReadsAt, pairs-each, reads-behind}
 use Rattle.lard_law_audit.proofs.Homes.{HomesIn, homes-in}
@@ -20,7 +15,6 @@ use Rattle.lard_law_connections.specs.PolicyLaws.AssignmentDue.{Nothing}
 use Rattle.lard_law_connections.specs.StoresLaws.{MayStore}
 use Rattle.lard_laws.proofs.Lawful.{journals-lawful}
 use Rattle.lard_laws.specs.Lawful.{IsLawful}
-use Rattle.lard_loads.specs.Tally.{home}
 
 module _ (config : Config) (files : List (List ℕ × List ℕ)) where
   -- What the laws say of a record that stands behind these.

@@ -1,14 +1,8 @@
 -- That journals are sound.
 use Rattle.std.specs.Prelude.{◌≡◌, ℕ, List, length, map, Ok}
 use Rattle.lard_audit.specs.Sound.{IsSound}
-use Rattle.lard_base.specs.Config.{config_check}
-use Rattle.lard_base.specs.declared.config.Config.{Config}
-use Rattle.lard_base.specs.declared.event.Event.{Event}
-use Rattle.lard_files.specs.Files.{file_at}
-use Rattle.lard_journal.specs.declared.rec.Rec.{Rec}
+use Rattle.lard_law_view.specs.Prelude.{Config, Event, IsReached, Machine, Rec, config_check, file_at, machine_start}
 use Rattle.lard_laws.specs.Lawful.{IsLawful}
-use Rattle.lard_rules.specs.declared.machine.Machine.{Machine}
-use Rattle.lard_rules.specs.Machine.{IsReached, machine_start}
 use Rattle.lard_settling.specs.Events.{LeadsTo}
 use Rattle.lard_settling.specs.Order.{SettlesInOrder}
 use Rattle.lard_settling.specs.Written.{written_out}

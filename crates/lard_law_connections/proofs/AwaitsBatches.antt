@@ -2,24 +2,12 @@
 use Rattle.std.proofs.Common.{◌≡◌, ◌≤◌, ◌<◌, ◌+◌, ◌==◌, ℕ, zero, suc, Bool, true, false, List, [], ◌∷◌, ◌++◌, length, Option, Some, None, refl, sym, ap, ◌∙◌, subst, arith, eqb-true}
 use Rattle.std.proofs.lemmas.Bool.{and_parts, cond-true}
 use Rattle.std.specs.List.{find}
-use Rattle.lard_answers.specs.Answers.{FilesAt, good_path}
-use Rattle.lard_base.specs.declared.place.Place.{Place}
-use Rattle.lard_base.specs.declared.place.Place.TheVariants.{Front}
-use Rattle.lard_base.specs.declared.place.TimerKind.{TimerKind}
+use Rattle.lard_law_view.specs.Prelude.{Entry, FilesAt, Front, Kept, NodeEnv, Place, Progress, TimerKind, Verdict, Want, and_path, anew, come_on, come_progress, fetch_of, good_path, is_from, is_node, is_under, named_path, named_paths, names_epoch, path_in, read_progress, wants_kept, without}
 use Rattle.lard_base.specs.declared.place.TimerKind.TheVariants as kind
 use Rattle.lard_base.specs.declared.place.Via.TheVariants as via
 use Rattle.lard_law_connections.specs.Awaits.{AskKept, BatchComes, IsToCome, FetchKept}
 use Rattle.lard_history.proofs.Each.{Each}
-use Rattle.lard_lateral.specs.Lateral.{is_from, is_node, names_epoch}
-use Rattle.lard_rules.specs.declared.stay.Entry.{Entry}
-use Rattle.lard_rules.specs.declared.stay.Progress.{Progress}
 use Rattle.lard_rules.specs.declared.stay.Progress.TheVariants as progress
-use Rattle.lard_rules.specs.declared.stay.Want.{Want}
-use Rattle.lard_rules.specs.Node.{anew, fetch_of, wants_kept}
-use Rattle.lard_rules.specs.Stay.{NodeEnv, and_path, come_on, come_progress, named_path, named_paths, path_in, read_progress}
-use Rattle.lard_request.specs.declared.verdict.Verdict.{Verdict}
-use Rattle.lard_resend.specs.declared.kept.Kept.{Kept}
-use Rattle.lard_resend.specs.Kept.{is_under, without}
 use Rattle.lard_resend.proofs.Ordered.{drops, holds, leaves}
 
 -- ---- what is kept

@@ -1,25 +1,14 @@
 -- While a stay goes on, what its batch awaits was asked for.
-use Rattle.std.proofs.Common.{◌≡◌, ◌<◌, ◌+◌, nat_lt, ℕ, Bool, false, List, [], ◌∷◌, ◌++◌, length, Option, Some, None, refl, sym, ◌∙◌, subst, arith}
-use Rattle.std.proofs.lemmas.Bool.{cond_both}
+use Rattle.std.proofs.Common.{◌≡◌, ◌<◌, ◌+◌, ℕ, Bool, false, List, [], ◌∷◌, ◌++◌, length, Option, Some, None, refl, sym, ◌∙◌, subst, arith}
 use Rattle.std.proofs.lemmas.List.{length_push}
-use Rattle.lard_answers.specs.Answers.{FilesAt, answer, good_path}
+use Rattle.lard_law_view.specs.Prelude.{Entry, FilesAt, Kept, NodeEnv, Progress, Service, Verdict, Via, Want, Work, anew, answered, ask_kept, asked_kept, asks_for, batch_of, bytes_used, ended_at_fin, entered, fetch_of, goes_on, good_path, named_path, named_paths, path_in, progress_of, read_entry, reads_batch, serves_with, serving_consumed, started_there, state_of, tagged, wants_kept}
 use Rattle.lard_base.specs.declared.place.Via.TheVariants as via
 use Rattle.lard_law_connections.specs.Awaits.{BatchComes, IsToCome, FetchKept}
 use Rattle.lard_law_connections.proofs.AwaitsBatches.{AreEarly, IsEarly, anew-found, batch-on, batch-push, early-asked, early-none, fetch-on, wants-on, wants-push}
 use Rattle.lard_history.proofs.Each.{Each, Each-append, Each-weaker}
-use Rattle.lard_rules.specs.declared.stay.Entry.{Entry}
-use Rattle.lard_rules.specs.declared.stay.Progress.{Progress}
 use Rattle.lard_rules.specs.declared.stay.Progress.TheVariants as progress
-use Rattle.lard_rules.specs.declared.stay.Want.{Want}
-use Rattle.lard_rules.specs.Node.{anew, ask_kept, asked_kept, fetch_of, wants_kept}
-use Rattle.lard_rules.specs.Stay.{NodeEnv, Work, asks_for, entered, goes_on, named_path, named_paths, path_in, progress_of, read_entry, reads_batch, serves_with, started_there, tagged}
-use Rattle.lard_reader.specs.Batches.{batch_of, bytes_used}
-use Rattle.lard_request.specs.declared.verdict.Verdict.{Verdict}
-use Rattle.lard_resend.specs.declared.kept.Kept.{Kept}
-use Rattle.lard_rules.specs.Loop.{state_of}
-use Rattle.lard_rules.specs.Serving.{Service, serving_consumed, ended_at_fin, passed_over, queued, answered}
-use Rattle.lard_base.specs.declared.place.Via.{Via}
 use Rattle.lard_rules.proofs.StayWalking.{KeptByNodes, KeptByReads, StepIn, goes-in, next_number, state-in, tagged-all, these-in}
+use Rattle.lard_rules.proofs.Endings.{answered-keeps}
 
 module _ (env : NodeEnv) (kept0 fetches0 : List Kept) where
   abbrev files : FilesAt
@@ -77,9 +66,7 @@ module _ (env : NodeEnv) (kept0 fetches0 : List Kept) where
 
   served-comes : (way : Via) (e : Entry) (rest : List Entry) (k : Work) → BatchComes files (kept_then k) (fetches_then k) (k.service.count + 1) (e ∷ rest) → Comes (serves_with (answered env.serve way e.verdict k.service) e rest k)
   served-comes way e rest k h =
-      let bytes = answer files e.verdict in
-      let total = k.service.block.send.total + length bytes in
-      cond_both (nat_lt env.serve.stream total) (passed_over env.serve total k.service) (queued env.serve way e.verdict bytes k.service) (λ (s : Service). Comes (serves_with s e rest k)) (λ t. h) (λ t. h.1)
+      answered-keeps (λ (s : Service). Comes (serves_with s e rest k)) env.serve way e.verdict k.service (λ t. h) (λ t. h.1)
 
   pub goes-comes : (k : Work) → Comes k → Comes (goes_on env k)
   goes-comes k h = goes-in env Comes Comes (record {

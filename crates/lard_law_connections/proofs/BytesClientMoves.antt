@@ -2,12 +2,8 @@
 use Rattle.std.proofs.Common.{◌≡◌, ◌≤◌, ◌+◌, ◌^◌, ℕ, nat_lt, Bool, false, true, cond, List, [], ◌∷◌, ◌++◌, map, take, drop, append-nil, Some, None, Result, arith, refl, ap, ◌∙◌, sym, subst, inl, ⊎_elim, ltb-false}
 use Rattle.std.proofs.lemmas.Bool.{both_ways}
 use Rattle.std.proofs.lemmas.List.{take-append-drop}
-use Rattle.lard_answers.specs.Answers.{FilesAt, IsPrefix, verdicts}
+use Rattle.lard_law_view.specs.Prelude.{AreBetween, AreClientWords, Client, ClientBlock, ClientKeeps, ClientOpened, ClientRules, ClientTurned, Conn, EachRow, FilesAt, Front, GoesBetween, Has, HasRule, IsConnSound, IsPrefix, IsReply, Letter, Move, Node, Place, Rec, Said, Seen, SegFault, Setting, Station, Stream, Tale, Talk, ToClient, Turn, Verdict, Was, accepted_in, client_aborts, client_begins, client_does, client_gets, client_holds, client_opens, client_shuts, client_takes, client_timer, client_writes, decoded, event_seen, grown, letter, letters_of, packet_seen, request, seen_in, spelled, tale_at, timer_rows, told_on, unwritten, verdicts, written_in, written_len}
 use Rattle.lard_base.specs.declared.event.Event.TheVariants as event
-use Rattle.lard_base.specs.declared.place.Place.{Place}
-use Rattle.lard_base.specs.declared.place.Place.TheVariants.{Client, Front, Node}
-use Rattle.lard_client.specs.Control.{ClientBlock, written_len}
-use Rattle.lard_rules.specs.Bounds.{HasRule}
 use Rattle.lard_law_connections.specs.BytesAgreement.{ConnAgrees, IsFair, IsFairOn, IsInner, IsNodePlace, IsOpen, IsTruthful, IsConnUnopened, SeatAgrees, StayComesOn, TaleAgreesWithTalk}
 use Rattle.lard_law_connections.proofs.BytesLaw.{Helps, IsSeenTrue, IsTrueMove, StaysTruthful}
 use Rattle.lard_law_connections.specs.BytesRecords.{IsOwnedTrueAfter}
@@ -15,31 +11,15 @@ use Rattle.lard_law_connections.proofs.BytesFair.{GoesOnFairly, all-on}
 use Rattle.lard_law_connections.proofs.BytesLater.{said-stays, seat-stays}
 use Rattle.lard_law_connections.proofs.BytesTelling.{Tells, client-tells, heads-true, timers-true, words-true}
 use Rattle.lard_law_connections.proofs.BytesTold.{Bytes, bytes_of, heads-fin, move-bytes, tale-agrees}
-use Rattle.lard_law_view.specs.Carry.{tale_at}
-use Rattle.lard_law_view.specs.View.{AreBetween, ClientRules, Conn, GoesBetween, IsConnSound, Move, Setting, Was, client_begins, client_does, event_seen, grown, letter, letters_of, packet_seen, seen_in, timer_rows}
 use Rattle.lard_law_view.proofs.Rows.{grown-tale, move-lawful, tale_before}
 use Rattle.lard_law_view.proofs.Timers.{timer_rows-are}
-use Rattle.lard_history.specs.Journal.{Tale, request, told_on}
-use Rattle.lard_history.specs.Own.{EachRow, Has, Letter, Seen}
 use Rattle.lard_history.proofs.Each.{Each, Each-append}
-use Rattle.lard_journal.specs.declared.rec.Rec.{Rec}
-use Rattle.lard_law_view.specs.Agreement.{AreClientWords, IsReply}
-use Rattle.lard_law_view.specs.Keeping.{ClientKeeps, ClientOpened, ClientTurned, accepted_in, unwritten, written_in}
-use Rattle.lard_law_view.specs.Truthful.{Talk}
 use Rattle.lard_law_view.proofs.ClientHearing.{hears-turned}
 use Rattle.lard_law_view.proofs.ClientAgreement.{aborts-turned, holds-turned, opens-agreeing, shuts-turned, takes-turned, timer-turned, writes-turned}
 use Rattle.lard_law_view.proofs.Moments.{client-true}
 use Rattle.lard_law_view.proofs.Notes.{Adds, client-notes, or-false, same-number}
 use Rattle.lard_law_view.proofs.Prefix.{said-front}
-use Rattle.lard_request.specs.declared.verdict.Verdict.{Verdict}
-use Rattle.lard_rules.specs.declared.places.Station.{Station}
-use Rattle.lard_rules.specs.declared.places.Turn.{Turn}
-use Rattle.lard_rules.specs.Client.{client_aborts, client_gets, client_holds, client_opens, client_shuts, client_takes, client_timer, client_writes}
-use Rattle.lard_segment.specs.declared.fault.SegFault.{SegFault}
-use Rattle.lard_segment.specs.declared.segment.Dir.TheVariants.{ToClient}
-use Rattle.lard_segment.specs.Segment.{Said, decoded, spelled}
 use Rattle.lard_segment.proofs.Again.{again}
-use Rattle.lard_law_view.specs.Truth.{Stream}
 use Rattle.lard_law_view.proofs.Growth.{goes_on-same}
 use Rattle.lard_law_view.proofs.RowLists.{client-sends-tale}
 

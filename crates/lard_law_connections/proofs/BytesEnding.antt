@@ -1,30 +1,18 @@
 -- The end of a turn: what an endpoint may say goes out, and it stays or ends.
-use Rattle.std.proofs.Common.{◌≡◌, ℕ, Bool, true, false, ◌||◌, List, [], ◌∷◌, ◌++◌, Option, Some, None, arith, refl}
+use Rattle.std.proofs.Common.{Bool, List, None, Option, Some, [], arith, false, refl, subst, true, ℕ, ◌++◌, ◌||◌, ◌∷◌, ◌≡◌}
 use Rattle.std.specs.List.{list_any}
 use Rattle.std.proofs.lemmas.Bool.{cond_both, or_parts}
-use Rattle.lard_base.specs.declared.place.Place.{Place}
-use Rattle.lard_base.specs.declared.place.Reason.{Reason}
+use Rattle.lard_law_view.specs.Prelude.{AreReplies, ControlBlock, Ending, IsReply, Place, Reason, ServeEnv, Service, Stream, Turn, Verdict, cut_off, emits_left, end_reason, final_of, is_closed, is_reset_record, limit_said, serving_settled, serving_told, speaks, speaks_symbols, spoken}
 use Rattle.lard_base.specs.declared.place.Reason.TheVariants as reason
 use Rattle.lard_law_connections.specs.BytesAgreement.{EndAgreesPending, EndedWithNumbers, HasReadPending, HoldsItPending, IsWide}
 use Rattle.lard_law_connections.specs.BytesTurning.{EndTurned, IsReading, TurnServes}
 use Rattle.lard_law_connections.proofs.BytesReading.{read-same}
 use Rattle.lard_law_connections.proofs.BytesWide.{half-wide, wide-half}
-use Rattle.lard_endpoint.specs.Control.{ControlBlock}
-use Rattle.lard_endpoint.specs.Leaving.{emits_left}
-use Rattle.lard_endpoint.specs.Moving.{end_reason, final_of, is_closed, may_end}
-use Rattle.lard_law_view.specs.Agreement.{AreReplies, IsReply}
-use Rattle.lard_law_view.specs.Keeping.{is_reset_record}
 use Rattle.lard_law_view.proofs.EndpointStreams.{IsBetween, between-sound}
 use Rattle.lard_law_view.proofs.EndpointSpeaking.{Spoke, awaits-within, emits-spoke, emits_symbols-spoke}
-use Rattle.lard_request.specs.declared.verdict.Verdict.{Verdict}
-use Rattle.lard_rules.specs.declared.places.Ending.{Ending}
-use Rattle.lard_rules.specs.declared.places.Ending.TheVariants as ending
-use Rattle.lard_rules.specs.declared.places.Turn.{Turn}
-use Rattle.lard_rules.specs.Serving.{ServeEnv, Service, cut_off, limit_said, serving_settled, spoken, serving_told}
-use Rattle.lard_rules.specs.Speaking.{speaks, speaks_symbols}
 use Rattle.lard_rules.proofs.Wide.{speaks-wide}
-use Rattle.lard_law_view.specs.Truth.{Stream}
 use Rattle.lard_law_view.proofs.Pieces.{bare-true}
+use Rattle.lard_rules.proofs.Endings.{rested-keeps, settled-keeps}
 
 pub replies-append : (c : ℕ) (w out : Stream) (r : Bool) (ps qs : List (Place × List ℕ)) → AreReplies c w out r ps → AreReplies c w out r qs → AreReplies c w out r (ps ++ qs)
 replies-append c w out r [] qs h k = k
@@ -75,7 +63,7 @@ module _ (env : ServeEnv) (w out : Stream) (vs : List Verdict) (was_reset : Bool
         vs_after = g.vs_now;
         longer = g.longer;
         says = g.says;
-        agrees = cond_both (may_end said.1) (ending.Over (final_of said.1 (end_reason said.1))) (ending.Here said.1 s.count) P
+        agrees = rested-keeps P said.1 s.count
             (λ may. ended-it g.out_now said.1 (end_reason said.1) r talk.between (λ e. absurd (not_limit said.1 e)))
             (λ e. still-holds s pend g r said talk read wide (or_parts said.1.reset (is_closed said.1) e).0);
         noted = g.noted;
@@ -110,7 +98,6 @@ module _ (env : ServeEnv) (w out : Stream) (vs : List Verdict) (was_reset : Bool
 
   -- of what is in hand, whatever that came to
   pub settled-ends : (s : Service) (pend : List Verdict) → TurnServes env.files env.c w out vs s pend → Ends pend (serving_settled env s)
-  settled-ends s pend g = go s.over g.reading where
-    go : (o : Option ℕ) → IsReading w g.vs_now pend s.block s.notes o → Ends pend (elim o [ None ↦ spoken env s [] | Some total ↦ cut_off env s ])
-    go None read = spoken-ends s pend g [] read tt
-    go (Some total) reset = cut_off-ends s pend pend g reset
+  settled-ends s pend g =
+      let read : (o : Option ℕ) → s.over ≡ o → IsReading w g.vs_now pend s.block s.notes o = λ o e. subst (IsReading w g.vs_now pend s.block s.notes) e g.reading in
+      settled-keeps (Ends pend) env s (λ e. spoken-ends s pend g [] (read None e) tt) (λ total e. cut_off-ends s pend pend g (read (Some total) e))

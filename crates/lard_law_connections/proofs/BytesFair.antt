@@ -1,21 +1,13 @@
 -- What a packet says stays so while the client, the front end and the nodes go on.
 use Rattle.std.proofs.Common.{◌≡◌, ◌⊎◌, ℕ, List, [], ◌∷◌, Ok, inl, inr, ⊎_elim, ◌∙◌, subst}
-use Rattle.lard_base.specs.declared.place.Place.{Place}
-use Rattle.lard_base.specs.declared.place.Place.TheVariants.{Client, Front, Node}
+use Rattle.lard_law_view.specs.Prelude.{Body, Client, Front, Letter, Message, Node, Part, Place, Talk, decoded_message, kind_of}
 use Rattle.lard_law_connections.specs.BytesAgreement.{FrontTells, IsFair, IsFairOn, IsKept, NodeTells}
 use Rattle.lard_law_connections.specs.Places.{FrontSaid, HasEnded, IsDecided, IsOffered, IsOver, LetterMay, MaySay, NodeSaid, message_head}
 use Rattle.lard_law_connections.proofs.PlacesGrowing.{Grows, decided-grows, ended-grows, offered-grows}
 use Rattle.lard_law_connections.proofs.PlacesHeads.{decoded-head}
-use Rattle.lard_law_view.specs.View.{Part}
-use Rattle.lard_history.specs.Own.{Letter}
 use Rattle.lard_history.proofs.Each.{Each}
-use Rattle.lard_law_view.specs.Truthful.{Talk}
 use Rattle.lard_law_view.proofs.Later.{TalksOn, reply-later, word-later}
-use Rattle.lard_message.specs.declared.message.Body.{Body}
 use Rattle.lard_message.specs.declared.message.Body.TheVariants as body
-use Rattle.lard_message.specs.declared.message.Message.{Message}
-use Rattle.lard_message.specs.Message.{kind_of}
-use Rattle.lard_message.specs.Reading.{decoded_message}
 
 -- How a step leaves what packets speak of: an Offer that is told on is the same, and so is the end that a node tells, until the
 -- front end knows it.

@@ -1,8 +1,7 @@
 -- An Ask and the end of a connection at its node leave it in agreement.
 use Rattle.std.proofs.Common.{◌≡◌, ◌≤◌, ◌+◌, ◌==◌, ◌^◌, ℕ, Bool, false, true, List, [], ◌∷◌, ◌++◌, map, Option, Some, None, Ok, arith, refl, ap, ◌∙◌, sym, subst, inl, ⊎_elim, eqb-true, eq-eqb}
 use Rattle.std.specs.List.{list_any}
-use Rattle.lard_base.specs.declared.place.Place.TheVariants.{Front, Node}
-use Rattle.lard_base.specs.declared.place.Reason.{Reason}
+use Rattle.lard_law_view.specs.Prelude.{Ask, BackConn, BackRow, Conn, Final, Front, FrontConn, FrontDeed, FrontEnv, FrontPart, FrontRest, FrontRow, IsFrontEnv, Kept, LaterChoice, Message, Node, NodePart, Reason, Rec, Seen, Setting, SpellsMessage, Station, Stream, Talk, Verdict, Was, ack_sent, ask_of, assigned_notes, assigns, bytes_served_in, decoded_message, ended_kept, front_asked, front_does, front_ended, front_ended_by, front_saying, is_away, is_reset_record, is_row_at, is_with, next_epoch, over_note, packet_seen, served_in, tag_sent, tale_at, with_front}
 use Rattle.lard_law_connections.specs.BytesAgreement.{AwayAgrees, BackAgrees, EndedWithNumbers, IsEnding, IsFair, IsKept, IsOpen, NodeAgrees, NodeTells, RowAgrees, SeatAgrees, StageAgrees}
 use Rattle.lard_law_connections.specs.BytesKeeping.{FrontSays}
 use Rattle.lard_law_connections.proofs.BytesLaw.{Helps, IsTrueMove, StaysTruthful}
@@ -16,36 +15,13 @@ use Rattle.lard_law_connections.proofs.BytesTold.{bytes_of}
 use Rattle.lard_law_connections.specs.Places.{HasEnded, IsDecided, IsLeft, Owning, IsOver, IsPast, IsThere, OthersArePast, Sits, StageSits, owning}
 use Rattle.lard_law_connections.proofs.PlacesFrontMessages.{came-says}
 use Rattle.lard_law_connections.proofs.PlacesFrontRules.{decided-there, there-decided}
-use Rattle.lard_law_view.specs.Carry.{tale_at}
-use Rattle.lard_law_view.specs.View.{Conn, IsFrontEnv, Setting, SpellsMessage, Was, front_does, packet_seen, with_front}
 use Rattle.lard_law_view.proofs.Rows.{tale_before}
-use Rattle.lard_costs.specs.declared.later.LaterChoice.{LaterChoice}
-use Rattle.lard_dispatch.specs.declared.dispatch.Ask.{Ask}
-use Rattle.lard_endpoint.specs.declared.control.moving.Final.{Final}
-use Rattle.lard_rules.specs.declared.front.FrontRest.{FrontRest}
-use Rattle.lard_rules.specs.Front.{FrontDeed, Does, Drops, Says, FrontEnv, FrontPart, ack_sent, ask_of, assigned_notes, assigns, front_ended_by, front_asked, front_ended, is_row_at, is_with, message, over_note, front_saying, tag_sent}
-use Rattle.lard_handoff_back.specs.declared.row.BackConn.{BackConn}
+use Rattle.lard_rules.specs.Front.{Does, Drops, Says, message}
 use Rattle.lard_handoff_back.specs.declared.row.BackConn.TheVariants as back
-use Rattle.lard_handoff_back.specs.declared.row.BackRow.{BackRow}
-use Rattle.lard_handoff_front.specs.declared.row.FrontConn.{FrontConn}
 use Rattle.lard_handoff_front.specs.declared.row.FrontConn.TheVariants as stage
-use Rattle.lard_handoff_front.specs.declared.row.FrontRow.{FrontRow}
 use Rattle.lard_handoff_front.specs.declared.table.OnEnded.TheVariants.{New}
-use Rattle.lard_handoff_front.specs.Front.{next_epoch}
-use Rattle.lard_handoff_front.specs.Row.{is_away}
-use Rattle.lard_history.specs.Own.{Seen}
 use Rattle.lard_history.proofs.Each.{Each}
-use Rattle.lard_journal.specs.declared.rec.Rec.{Rec}
-use Rattle.lard_law_view.specs.Keeping.{is_reset_record, served_in, bytes_served_in}
-use Rattle.lard_law_view.specs.Truthful.{Talk}
 use Rattle.lard_message.specs.declared.message.Body.TheVariants as body
-use Rattle.lard_message.specs.declared.message.Message.{Message}
-use Rattle.lard_message.specs.Reading.{decoded_message}
-use Rattle.lard_rules.specs.Node.{NodePart, ended_kept}
-use Rattle.lard_request.specs.declared.verdict.Verdict.{Verdict}
-use Rattle.lard_resend.specs.declared.kept.Kept.{Kept}
-use Rattle.lard_rules.specs.declared.places.Station.{Station}
-use Rattle.lard_law_view.specs.Truth.{Stream}
 use Rattle.lard_rules.proofs.FrontCases.{asked-keeps, ended-keeps}
 
 -- ---- notes that tell nothing of bytes

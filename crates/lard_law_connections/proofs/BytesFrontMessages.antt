@@ -1,9 +1,7 @@
 -- What comes to the front end from nodes, and who is admitted, leaves a connection in agreement.
 use Rattle.std.proofs.Common.{◌≡◌, ◌≤◌, ◌||◌, ◌^◌, ℕ, Bool, List, [], map, Option, Some, None, arith, refl, ◌∙◌, sym, subst, inl, ⊎_elim}
 use Rattle.std.specs.List.{list_any}
-use Rattle.lard_answers.specs.Answers.{FilesAt}
-use Rattle.lard_base.specs.declared.ids.Epoch.{Epoch}
-use Rattle.lard_base.specs.declared.place.Place.TheVariants.{Front, Node}
+use Rattle.lard_law_view.specs.Prelude.{BackRow, Conn, ControlBlock, Epoch, FilesAt, FirstChoice, Front, FrontDeed, FrontEnv, FrontPart, FrontRow, FrontTurn, IsFrontEnv, Move, Node, Seen, Setting, SpellsMessage, Station, Talk, Verdict, Was, front_admits, front_admitted, front_does, front_taken, is_reset_record, letter, packet_seen, taken_by, tale_at}
 use Rattle.lard_law_connections.specs.BytesAgreement.{AwayAgrees, ConnAgrees, IsFair, IsInner, IsOpen, IsTruthful, IsConnUnopened, NodeAgrees, SeatAgrees, StageAgrees}
 use Rattle.lard_law_connections.specs.BytesKeeping.{AdmittedKeeps, FrontPartAgrees, FrontTurned}
 use Rattle.lard_law_connections.proofs.BytesLaw.{Helps, IsTrueMove, StaysTruthful}
@@ -15,23 +13,11 @@ use Rattle.lard_law_connections.proofs.BytesTold.{bytes_of}
 use Rattle.lard_law_connections.specs.Places.{IsDecided, IsPast, IsThere, Sits, StageSits, owning}
 use Rattle.lard_law_connections.proofs.PlacesFrontMessages.{came-says}
 use Rattle.lard_law_connections.proofs.PlacesFrontRules.{decided-there, there-decided}
-use Rattle.lard_law_view.specs.Carry.{tale_at}
-use Rattle.lard_law_view.specs.View.{Conn, IsFrontEnv, Move, Setting, SpellsMessage, Was, front_admits, front_does, letter, packet_seen}
 use Rattle.lard_law_view.proofs.Rows.{tale_before}
-use Rattle.lard_endpoint.specs.Control.{ControlBlock}
-use Rattle.lard_rules.specs.declared.front.FrontTurn.{FrontTurn}
-use Rattle.lard_rules.specs.Front.{FrontDeed, Does, Drops, Says, FrontEnv, FrontPart, front_admitted, front_taken, taken_by}
-use Rattle.lard_handoff_back.specs.declared.row.BackRow.{BackRow}
+use Rattle.lard_rules.specs.Front.{Does, Drops, Says}
 use Rattle.lard_handoff_front.specs.declared.row.FrontConn.TheVariants as stage
-use Rattle.lard_handoff_front.specs.declared.row.FrontRow.{FrontRow}
-use Rattle.lard_history.specs.Own.{Seen}
 use Rattle.lard_history.proofs.Each.{Each-append}
-use Rattle.lard_law_view.specs.Keeping.{is_reset_record}
-use Rattle.lard_law_view.specs.Truthful.{Talk}
 use Rattle.lard_message.specs.declared.message.Body.TheVariants as body
-use Rattle.lard_policy.specs.declared.first.FirstChoice.{FirstChoice}
-use Rattle.lard_request.specs.declared.verdict.Verdict.{Verdict}
-use Rattle.lard_rules.specs.declared.places.Station.{Station}
 use Rattle.lard_rules.proofs.FrontCases.{taken-keeps, admitted-keeps}
 use Rattle.lard_law_connections.proofs.PlacesGrowing.{front_epoch, grows-from}
 

@@ -1,11 +1,8 @@
 -- What the front end does leaves its connection in agreement.
-use Rattle.std.proofs.Common.{◌≡◌, ◌≤◌, ◌||◌, ◌^◌, ℕ, Bool, List, [], ◌∷◌, map, Option, Some, None, Ok, Result, arith, refl, ap, ◌∙◌, sym, subst, inl, inr}
+use Rattle.std.proofs.Common.{◌≡◌, ◌≤◌, ◌||◌, ◌^◌, ℕ, Bool, List, [], ◌∷◌, map, Option, Some, None, Ok, Result, refl, ap, ◌∙◌, sym, subst, inl, inr}
 use Rattle.std.specs.List.{list_any}
-use Rattle.lard_answers.specs.Answers.{FilesAt}
+use Rattle.lard_law_view.specs.Prelude.{AreReplies, AreSent, Body, Client, Conn, Did, Epoch, FilesAt, Final, Front, FrontConn, FrontDeed, FrontEnv, FrontPart, FrontRow, FrontTurn, IsFrontEnv, IsStream, IsWord, Kept, Message, Move, Node, Part, Place, Said, SaysAnswers, Seen, SegFault, Setting, Station, Stream, Talk, ToCluster, Verdict, Was, bytes_served_in, decoded, event_seen, fires_at, forwarded, front_begun, front_does, front_gets, front_hears, front_rest, front_saying, front_timer, hears_at, holds, is_reset_record, kind_of, last_words, letter, packet_seen, placed, sent_of, served_in, serving_settled, spelled, spelled_message, tale_at, tombstone, turn_here}
 use Rattle.lard_base.specs.declared.event.Event.TheVariants as event
-use Rattle.lard_base.specs.declared.ids.Epoch.{Epoch}
-use Rattle.lard_base.specs.declared.place.Place.{Place}
-use Rattle.lard_base.specs.declared.place.Place.TheVariants.{Client, Front, Node}
 use Rattle.lard_law_connections.specs.BytesAgreement.{FrontHolds, FrontTells, IsFair, IsFairOn, IsOpen, SeatAgrees, StageAgrees}
 use Rattle.lard_law_connections.specs.BytesKeeping.{FrontPartAgrees, FrontDeedKeeps, FrontRowAgrees, FrontSays, FrontStageAgrees, FrontTurned, IsFrontTalk, SaysOfKind}
 use Rattle.lard_law_connections.proofs.BytesLaw.{Helps, IsTrueMove, StaysTruthful}
@@ -17,39 +14,16 @@ use Rattle.lard_law_connections.proofs.BytesTold.{bytes_of}
 use Rattle.lard_law_connections.specs.Places.{ArePast, IsOffered, Offers, Owning, Sits, StageSits, owning}
 use Rattle.lard_law_connections.proofs.PlacesGrowing.{IsFrom, past-later, front_epoch, grows-from}
 use Rattle.lard_law_connections.proofs.PlacesHeads.{kinds-same}
-use Rattle.lard_law_view.specs.Carry.{tale_at}
-use Rattle.lard_law_view.specs.View.{AreSent, Conn, IsFrontEnv, Move, Part, Setting, Was, event_seen, front_does, letter, packet_seen}
 use Rattle.lard_law_view.proofs.Rows.{tale_before}
-use Rattle.lard_rules.specs.declared.front.FrontTurn.{FrontTurn}
-use Rattle.lard_rules.specs.Front.{FrontDeed, Did, Does, Drops, FrontEnv, FrontPart, Says, front_begun, fires_at, forwarded, front_gets, front_hears, front_timer, hears_at, message, front_rest, front_saying, turn_here, holds, placed}
-use Rattle.lard_handoff_front.specs.declared.row.FrontConn.{FrontConn}
+use Rattle.lard_rules.specs.Front.{Does, Drops, Says, message}
 use Rattle.lard_handoff_front.specs.declared.row.FrontConn.TheVariants as stage
-use Rattle.lard_handoff_front.specs.declared.row.FrontRow.{FrontRow}
-use Rattle.lard_history.specs.Own.{Seen}
 use Rattle.lard_history.proofs.Each.{Each, Each-append}
-use Rattle.lard_law_view.specs.Agreement.{AreReplies, IsWord, SaysAnswers}
-use Rattle.lard_law_view.specs.Keeping.{is_reset_record, served_in, bytes_served_in}
-use Rattle.lard_law_view.specs.Truthful.{Talk}
 use Rattle.lard_message.specs.declared.kind.Kind.TheVariants as kind
-use Rattle.lard_message.specs.declared.message.Body.{Body}
 use Rattle.lard_message.specs.declared.message.Body.TheVariants as body
-use Rattle.lard_message.specs.declared.message.Message.{Message}
-use Rattle.lard_message.specs.Message.{kind_of, spelled_message}
-use Rattle.lard_request.specs.declared.verdict.Verdict.{Verdict}
-use Rattle.lard_resend.specs.declared.kept.Kept.{Kept}
-use Rattle.lard_resend.specs.Pending.{sent_of}
-use Rattle.lard_rules.specs.declared.places.Station.{Station}
-use Rattle.lard_rules.specs.Tombstone.{last_words, tombstone}
-use Rattle.lard_segment.specs.declared.fault.SegFault.{SegFault}
-use Rattle.lard_segment.specs.declared.segment.Dir.TheVariants.{ToCluster}
-use Rattle.lard_segment.specs.Segment.{Said, decoded, spelled}
 use Rattle.lard_segment.proofs.Again.{again}
-use Rattle.lard_law_view.specs.Truth.{IsStream, Stream}
 use Rattle.lard_law_view.proofs.Speaking.{speaks-stream}
 use Rattle.lard_rules.proofs.FrontCases.{KeptBySegment, IsInStage, segment-keeps}
 use Rattle.lard_rules.proofs.FrontCases as cases
-use Rattle.lard_endpoint.specs.declared.control.moving.Final.{Final}
-use Rattle.lard_rules.specs.Serving.{serving_settled}
 use Rattle.lard_dispatch.specs.declared.dispatch.First.TheVariants as first
 
 -- ---- messages of the front end

@@ -1,28 +1,18 @@
 -- The front end reads until a request is good: what it answers is the first to what the client wrote, and nothing waits.
 use Rattle.std.proofs.Common.{◌≡◌, ◌≤◌, ◌+◌, ◌^◌, ℕ, zero, suc, false, List, [], ◌∷◌, length, take, drop, Option, Some, None, refl, sym, subst}
 use Rattle.std.proofs.lemmas.Bool.{both_ways, cond_both}
-use Rattle.lard_answers.specs.Answers.{good_path}
+use Rattle.lard_law_view.specs.Prelude.{ControlBlock, Done, Found, Head, Hears, More, Reading, ServeEnv, Service, Step, Stream, Verdict, answered, block_at, consuming, cut_of, ended_at_fin, front_reads, good_path, may_freeze, may_read, reading_left, reading_turn, reads_block, reads_found, runs_on, serving_consumed, targeted, verdict, with_service}
 use Rattle.lard_base.specs.declared.place.Via.TheVariants.{Own}
-use Rattle.lard_block.specs.declared.block.Found.{Found}
 use Rattle.lard_block.specs.declared.block.Found.TheVariants as found
-use Rattle.lard_block.specs.Blocks.{Head, cut_of}
 use Rattle.lard_block.proofs.Division.{cuts-block}
 use Rattle.lard_law_connections.specs.BytesAgreement.{HasReadPending}
 use Rattle.lard_law_connections.specs.BytesTurning.{IsReading}
 use Rattle.lard_law_connections.proofs.BytesReading.{read-alone}
 use Rattle.lard_law_connections.proofs.BytesServing.{MayGo, So, answered-serves, consumed-serves, ended-serves, go-on, left_of, may-go}
 use Rattle.lard_law_connections.proofs.BytesWays.{own-way}
-use Rattle.lard_endpoint.specs.Control.{ControlBlock, consuming}
-use Rattle.lard_endpoint.specs.Moving.{may_freeze}
-use Rattle.lard_rules.specs.FrontReading.{Reading, block_at, reading_left, front_reads, reads_block, reads_found, targeted, reading_turn, with_service}
 use Rattle.lard_law_view.proofs.ReadingBytes.{IsJudged, begins-block, begins-long, cuts-more, next-verdict, place, read-judged}
 use Rattle.lard_request.specs.declared.verdict.Code.TheVariants as code
-use Rattle.lard_request.specs.declared.verdict.Verdict.{Verdict}
 use Rattle.lard_request.specs.declared.verdict.Verdict.TheVariants.{Fault}
-use Rattle.lard_request.specs.Verdict.{verdict}
-use Rattle.lard_rules.specs.Loop.{Step, More, Done, runs_on}
-use Rattle.lard_rules.specs.Serving.{ServeEnv, Service, answered, serving_consumed, ended_at_fin, may_read}
-use Rattle.lard_law_view.specs.Truth.{Hears, Stream}
 
 module _ (w : Stream) (b : ControlBlock) (vs : List Verdict) (heard : Hears w b.recv) (keeps : b.recv.discarding ≡ false) (read : HasReadPending w b vs []) where
   judged : IsJudged (take (place b.recv) w.bytes) vs

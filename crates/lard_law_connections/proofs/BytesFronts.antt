@@ -2,9 +2,8 @@
 use Rattle.std.proofs.Common.{◌≡◌, ◌<◌, ◌+◌, ◌^◌, ◌||◌, ◌&&◌, ℕ, Bool, true, false, not, List, [], ◌∷◌, ◌++◌, map, length, Option, Some, None, IfSome, arith, refl, ap, ◌∙◌, sym, subst, inr}
 use Rattle.std.specs.List.{concat, list_any}
 use Rattle.std.proofs.lemmas.Bool.{and_parts, cond_both}
-use Rattle.lard_answers.specs.Answers.{answer}
+use Rattle.lard_law_view.specs.Prelude.{ControlBlock, Ending, Final, FirstChoice, FrontConn, FrontDeed, FrontEnv, FrontPart, FrontRest, FrontRow, FrontTurn, IsReply, IsWord, MayMove, Reading, Reason, Rec, Said, Serves, Service, Stream, Turn, Verdict, answer, front_admitted, front_begun, front_ended, front_fired, front_hears, front_reads, front_rest, front_rests, front_timer, handed_off, holds, is_reset_record, is_telling, last_ack, last_words, listening, may_freeze, next_epoch, parts_of, refusal, serving, serving_settled, spoken, tombstone, turn_here, waits_on}
 use Rattle.lard_base.specs.declared.place.Place.TheVariants as place
-use Rattle.lard_base.specs.declared.place.Reason.{Reason}
 use Rattle.lard_base.specs.declared.place.Reason.TheVariants as reason
 use Rattle.lard_law_connections.specs.BytesAgreement.{EndAgreesPending, EndedWithNumbers, FrontHolds, FrontWaits, HasReadPending, HoldsItPending}
 use Rattle.lard_law_connections.specs.BytesKeeping.{AdmissionsKeep, AdmittedKeeps, EndsKeep, FrontPartAgrees, FrontDeedKeeps, FrontHearsTruth, FrontRowAgrees, FrontStageAgrees, FrontTimerKeeps, FrontTurned, IsFrontTalk}
@@ -13,38 +12,16 @@ use Rattle.lard_law_connections.proofs.BytesEnding.{settled-ends, spoken-ends}
 use Rattle.lard_law_connections.proofs.BytesFrontReading.{GoesOver, reads-so}
 use Rattle.lard_law_connections.proofs.BytesHolding.{begins-so, fired-ends, heard-so, same-so}
 use Rattle.lard_law_connections.proofs.BytesServing.{So, counts-mute, noted-serves}
-use Rattle.lard_endpoint.specs.declared.control.moving.Final.{Final}
-use Rattle.lard_endpoint.specs.Control.{ControlBlock, listening}
-use Rattle.lard_endpoint.specs.Moving.{may_freeze, parts_of}
 use Rattle.lard_endpoint.proofs.Adoption.{frozen_stands}
-use Rattle.lard_rules.specs.declared.front.FrontRest.{FrontRest}
-use Rattle.lard_rules.specs.declared.front.FrontTurn.{FrontTurn}
-use Rattle.lard_rules.specs.Front.{FrontDeed, Says, FrontEnv, FrontPart, front_begun, front_fired, front_hears, handed_off, holds, front_rest, front_rests, turn_here, waits_on, front_admitted, front_ended, front_timer}
-use Rattle.lard_rules.specs.FrontReading.{MayMove, Reading, front_reads}
-use Rattle.lard_rules.specs.FrontSound.{Serves}
+use Rattle.lard_rules.specs.Front.{Says}
 use Rattle.lard_rules.proofs.FrontBlocks.{EndsIdle, EndsServing, idle-of, segment-idle, segment-serves, settled-serves, spoken-idle, spoken-serves, timer-idle, timer-serves}
 use Rattle.lard_rules.proofs.FrontTurns.{reads-stop}
-use Rattle.lard_handoff_front.specs.declared.row.FrontConn.{FrontConn}
 use Rattle.lard_handoff_front.specs.declared.row.FrontConn.TheVariants as stage
-use Rattle.lard_handoff_front.specs.declared.row.FrontRow.{FrontRow}
-use Rattle.lard_handoff_front.specs.Front.{next_epoch}
-use Rattle.lard_journal.specs.declared.rec.Rec.{Rec}
 use Rattle.lard_journal.specs.declared.rec.Rec.TheVariants as rec
-use Rattle.lard_law_view.specs.Agreement.{IsReply, IsWord}
-use Rattle.lard_law_view.specs.Keeping.{is_reset_record}
 use Rattle.lard_law_view.proofs.EndpointStreams.{IsBetween, between-begun, between-sound}
 use Rattle.lard_law_view.proofs.Notes.{or-false}
-use Rattle.lard_dispatch.specs.declared.dispatch.First.TheVariants as first
-use Rattle.lard_policy.specs.declared.first.FirstChoice.{FirstChoice}
 use Rattle.lard_message.specs.declared.message.Body.TheVariants as body
-use Rattle.lard_request.specs.declared.verdict.Verdict.{Verdict}
-use Rattle.lard_rules.specs.declared.places.Ending.{Ending}
 use Rattle.lard_rules.specs.declared.places.Ending.TheVariants as ending
-use Rattle.lard_rules.specs.declared.places.Turn.{Turn}
-use Rattle.lard_rules.specs.Tombstone.{is_telling, last_ack, last_words, refusal, tombstone}
-use Rattle.lard_rules.specs.Serving.{Service, serving, serving_settled, spoken}
-use Rattle.lard_segment.specs.Segment.{Said}
-use Rattle.lard_law_view.specs.Truth.{Stream}
 use Rattle.lard_law_view.proofs.Growth.{goes_on-same}
 use Rattle.lard_law_view.proofs.Pieces.{bare-true}
 use Rattle.lard_rules.proofs.FrontCases.{KeptBySegment, IsInStage, of-stage, fired_before, fired_service, heard_reading, heard_service, segment-keeps, ended-keeps, admitted-keeps}

@@ -6,19 +6,10 @@ use Rattle.lard_law_connections.proofs.BytesEnding.{spoken-ends}
 use Rattle.lard_law_connections.proofs.BytesReading.{read-arrived, read-same}
 use Rattle.lard_law_connections.proofs.BytesServing.{So, counts-nothing}
 use Rattle.lard_law_connections.proofs.BytesWide.{half-wide, wide-half}
-use Rattle.lard_endpoint.specs.Arriving.{on_segment}
-use Rattle.lard_endpoint.specs.Control.{ControlBlock}
-use Rattle.lard_endpoint.specs.Leaving.{after_timer, filled, timed}
-use Rattle.lard_journal.specs.declared.rec.Rec.{Rec}
-use Rattle.lard_law_view.specs.Agreement.{AreReplies, IsWord, SaysAnswers}
+use Rattle.lard_law_view.specs.Prelude.{AreReplies, ControlBlock, IsStream, IsWord, Ready, Rec, Said, SaysAnswers, ServeEnv, Stream, Verdict, after_timer, filled, on_segment, serving, serving_ready_of, spoken, timed}
 use Rattle.lard_law_view.proofs.EndpointStreams.{IsBetween, between-arrived, between-timed}
 use Rattle.lard_law_view.proofs.EndpointSpeaking.{timed-reply}
-use Rattle.lard_request.specs.declared.verdict.Verdict.{Verdict}
-use Rattle.lard_rules.specs.Serving.{ServeEnv, serving_ready_of, serving, spoken}
 use Rattle.lard_rules.proofs.Wide.{segment-wide, timer-wide}
-use Rattle.lard_segment.specs.declared.segment.Ready.{Ready}
-use Rattle.lard_segment.specs.Segment.{Said}
-use Rattle.lard_law_view.specs.Truth.{IsStream, Stream}
 use Rattle.lard_law_view.proofs.Endpoint.{timer-left}
 use Rattle.lard_law_view.proofs.Growth.{goes_on-same}
 

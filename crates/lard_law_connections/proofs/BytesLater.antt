@@ -1,24 +1,10 @@
 -- What a place keeps stays in agreement where the client writes on.
 use Rattle.std.proofs.Common.{◌≡◌, ◌≤◌, ◌-◌, ℕ, Bool, List, [], ◌++◌, length, take, Option, Some, None, arith, ap, ◌∙◌, sym, subst, append_assoc, inl, inr, ⊎_elim}
-use Rattle.lard_answers.specs.Answers.{IsPrefix, verdicts, verdicts_on}
-use Rattle.lard_block.specs.Blocks.{blocks}
+use Rattle.lard_law_view.specs.Prelude.{BackConn, BackRow, ControlBlock, Final, FrontConn, FrontRow, GoesOn, Hears, IsPrefix, Kept, NodePart, Part, Stay, Stream, Verdict, blocks, seq_add, verdicts, verdicts_on}
 use Rattle.lard_law_connections.specs.BytesAgreement.{AwayAgrees, BackAgrees, EndedWithNumbers, FrontHolds, HasReadPending, HoldsItPending, IsEnding, IsOffering, NodeAgrees, RowAgrees, SeatAgrees, StageAgrees, StayAgrees}
 use Rattle.lard_law_connections.specs.BytesKeeping.{SaidStays, SeatStays}
-use Rattle.lard_law_view.specs.View.{Part}
-use Rattle.lard_endpoint.specs.Control.{ControlBlock}
-use Rattle.lard_endpoint.specs.declared.control.moving.Final.{Final}
-use Rattle.lard_handoff_back.specs.declared.row.BackConn.{BackConn}
 use Rattle.lard_handoff_back.specs.declared.row.BackConn.TheVariants as back
-use Rattle.lard_handoff_back.specs.declared.row.BackRow.{BackRow}
-use Rattle.lard_handoff_front.specs.declared.row.FrontConn.{FrontConn}
 use Rattle.lard_handoff_front.specs.declared.row.FrontConn.TheVariants as stage
-use Rattle.lard_handoff_front.specs.declared.row.FrontRow.{FrontRow}
-use Rattle.lard_rules.specs.declared.stay.Stay.{Stay}
-use Rattle.lard_rules.specs.Node.{NodePart}
-use Rattle.lard_request.specs.declared.verdict.Verdict.{Verdict}
-use Rattle.lard_resend.specs.declared.kept.Kept.{Kept}
-use Rattle.lard_seq.specs.Seq.{seq_add}
-use Rattle.lard_law_view.specs.Truth.{GoesOn, Hears, Stream}
 use Rattle.lard_law_view.proofs.Growth.{front-length, front-take, heard-grown}
 
 module _ (w v : Stream) (g : GoesOn w v) where

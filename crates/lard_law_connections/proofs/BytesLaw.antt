@@ -1,18 +1,11 @@
 -- What a move owes that leaves its connection in agreement, and whose records are true.
-use Rattle.std.specs.Prelude.{◌≡◌, ℕ, List, [], ◌∷◌, Option, Some}
-use Rattle.lard_answers.specs.Answers.{FilesAt}
-use Rattle.lard_base.specs.declared.place.Place.{Place}
-use Rattle.lard_rules.specs.Bounds.{IsConnNumber}
+use Rattle.std.specs.Prelude.{◌≡◌, ℕ, List, [], ◌∷◌, ◌++◌, Option, Some}
+use Rattle.lard_law_view.specs.Prelude.{Came, Conn, EachRow, Event, FilesAt, IsConnNumber, IsConnSound, Move, Place, Rec, Row, Seen, Setting, grown, owner_step, seen_in, tale_at, tale_of}
 use Rattle.lard_law_connections.specs.BytesAgreement.{IsTruthful}
 use Rattle.lard_law_connections.specs.BytesRecords.{IsOwnedTrueAfter}
 use Rattle.lard_law_connections.proofs.PlacesTurns.{IsPlaced, Owes}
-use Rattle.lard_law_view.specs.Carry.{tale_at}
-use Rattle.lard_law_view.specs.View.{Conn, IsConnSound, Move, Setting, grown, seen_in}
 use Rattle.lard_law_view.proofs.Fine.{IsItsOwn}
-use Rattle.lard_history.specs.Journal.{owner_step}
-use Rattle.lard_history.specs.Own.{Came, EachRow, Row, Seen, tale_of}
 use Rattle.lard_history.proofs.Each.{Each}
-use Rattle.lard_journal.specs.declared.rec.Rec.{Rec}
 use Rattle.lard_journal.specs.declared.rec.Rec.TheVariants as rec
 
 -- what is seen before the notes of a move: an event, an opening, a packet as it comes
@@ -21,6 +14,16 @@ IsHead (Came l) = Unit {0}
 IsHead (Row (rec.Event i e)) = Unit {0}
 IsHead (Row (rec.Opened c isn iss wnd mss)) = Unit {0}
 IsHead (Row _) = ⊥
+
+-- so each row among them may stand, where any event and any opening may
+pub heads-stand : (mine : List Seen → Rec → Type 0) → ((past : List Seen) (i : ℕ) (e : Event) → mine past (rec.Event i e))
+    → ((past : List Seen) (c isn iss wnd mss : ℕ) → mine past (rec.Opened c isn iss wnd mss)) → (past heads : List Seen) → Each IsHead heads → EachRow mine past heads
+heads-stand mine event opens past [] h = tt
+heads-stand mine event opens past (Came l ∷ ss) h = heads-stand mine event opens (past ++ Came l ∷ []) ss h.1
+heads-stand mine event opens past (Row (rec.Event i e) ∷ ss) h = (event past i e, heads-stand mine event opens (past ++ Row (rec.Event i e) ∷ []) ss h.1)
+heads-stand mine event opens past (Row (rec.Opened c isn iss wnd mss) ∷ ss) h =
+    (opens past c isn iss wnd mss, heads-stand mine event opens (past ++ Row (rec.Opened c isn iss wnd mss) ∷ []) ss h.1)
+heads-stand mine event opens past (Row _ ∷ ss) h = absurd h.0
 
 -- ---- who serves
 

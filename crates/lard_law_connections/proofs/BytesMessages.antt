@@ -1,19 +1,12 @@
 -- What is read of a message between places is what was said: of an Offer, a Forward and an Ended.
 use Rattle.std.proofs.Common.{◌≡◌, ◌≤◌, ◌<◌, ◌-◌, ◌^◌, ℕ, List, [], ◌∷◌, ◌++◌, length, Some, Result, Ok, arith, ap, ◌∙◌, sym, subst}
 use Rattle.std.specs.Int.{to_be_bytes, w32}
-use Rattle.lard_base.specs.declared.parts.EndpointParts.{EndpointParts}
-use Rattle.lard_base.specs.declared.place.Reason.{Reason}
+use Rattle.lard_law_view.specs.Prelude.{Body, EndpointParts, IsMessage, Message, MsgFault, Reason, body_bytes, ended_body_at, number_at, parts_of, reason_at, reason_byte}
 use Rattle.lard_law_connections.specs.BytesAgreement.{EndedWithNumbers}
 use Rattle.lard_law_connections.specs.BytesKeeping.{EndsAreRead, ForwardsAreRead, OffersAreRead}
 use Rattle.lard_law_connections.proofs.PlacesHeads.{spelled-body}
-use Rattle.lard_endpoint.specs.Moving.{parts_of}
 use Rattle.lard_endpoint.proofs.Adoption.{parts-valid}
-use Rattle.lard_message.specs.declared.fault.MsgFault.{MsgFault}
-use Rattle.lard_message.specs.declared.message.Body.{Body}
 use Rattle.lard_message.specs.declared.message.Body.TheVariants as body
-use Rattle.lard_message.specs.declared.message.Message.{Message}
-use Rattle.lard_message.specs.Message.{IsMessage, body_bytes, reason_byte}
-use Rattle.lard_message.specs.Reading.{ended_body_at, number_at, reason_at}
 use Rattle.lard_message.proofs.Fields.{bind_then, number_again, reason_again, some_same, wide32}
 use Rattle.lard_message.proofs.Whole.{again}
 

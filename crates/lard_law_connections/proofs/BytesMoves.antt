@@ -1,9 +1,7 @@
 -- A move of a place that serves leaves its connection in agreement, where the place's turn does.
 use Rattle.std.proofs.Common.{◌≡◌, ◌⊎◌, ◌||◌, ℕ, Bool, true, false, List, [], ◌∷◌, map, Option, Some, arith, refl, ap, ◌∙◌, sym, subst, inl, inr}
 use Rattle.std.specs.List.{list_any}
-use Rattle.lard_answers.specs.Answers.{FilesAt}
-use Rattle.lard_base.specs.declared.place.Place.{Place}
-use Rattle.lard_base.specs.declared.place.Place.TheVariants.{Front, Node}
+use Rattle.lard_law_view.specs.Prelude.{AreReplies, Conn, EachRow, FilesAt, Front, GoesOn, Move, Node, Part, Place, SaysAnswers, Station, Stream, Tale, Talk, Verdict, bytes_served_in, grown, is_reset_record, letter, letters_of, seen_in, served_in, tale_at, timer_rows, told_on}
 use Rattle.lard_law_connections.specs.BytesAgreement.{ConnAgrees, IsFair, IsOpen, IsTruthful, SeatAgrees, StayComesOn, TaleAgreesWithTalk}
 use Rattle.lard_law_connections.proofs.BytesLaw.{Helps, IsSeenTrue, IsTrueMove, OwnerServes}
 use Rattle.lard_law_connections.specs.BytesRecords.{IsOwnedTrueAfter}
@@ -13,21 +11,12 @@ use Rattle.lard_law_connections.proofs.BytesNext.{mute-answers}
 use Rattle.lard_law_connections.proofs.BytesTelling.{gave-true, heads-true, messages-true, notes-true, replies-moment, replies-true, timers-true}
 use Rattle.lard_law_connections.proofs.BytesTold.{bytes_of, gave-fin, heads-fin, move-bytes, place-notes, served-tale, tale-agrees}
 use Rattle.lard_law_connections.specs.Places.{HasEnded, IsOffered, IsOver, Owning}
-use Rattle.lard_law_view.specs.Carry.{tale_at}
-use Rattle.lard_law_view.specs.View.{Conn, Move, Part, grown, letter, letters_of, seen_in, sending, timer_rows}
+use Rattle.lard_law_view.specs.View.{sending}
 use Rattle.lard_law_view.proofs.Rows.{grown-tale, move-lawful, tale_before, tale_said}
 use Rattle.lard_law_view.proofs.Timers.{timer_rows-are}
-use Rattle.lard_history.specs.Journal.{Tale, told_on}
-use Rattle.lard_history.specs.Own.{EachRow}
 use Rattle.lard_history.proofs.Each.{Each, Each-append}
-use Rattle.lard_law_view.specs.Agreement.{AreReplies, SaysAnswers}
-use Rattle.lard_law_view.specs.Keeping.{is_reset_record, served_in, bytes_served_in}
-use Rattle.lard_law_view.specs.Truthful.{Talk}
 use Rattle.lard_law_view.proofs.Notes.{or-false}
 use Rattle.lard_law_view.proofs.Segments.{Moment}
-use Rattle.lard_request.specs.declared.verdict.Verdict.{Verdict}
-use Rattle.lard_rules.specs.declared.places.Station.{Station}
-use Rattle.lard_law_view.specs.Truth.{GoesOn, Stream}
 use Rattle.lard_law_view.proofs.Growth.{accepted-grown, front-take, goes_on-same}
 
 -- ---- packets that go out

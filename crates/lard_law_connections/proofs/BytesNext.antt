@@ -2,22 +2,16 @@
 use Rattle.std.proofs.Common.{◌≡◌, ℕ, ◌+◌, List, [], ◌∷◌, ◌++◌, length, true, false, Some, arith, sym, ap, ◌∙◌, subst, append-nil}
 use Rattle.std.specs.List.{list_any}
 use Rattle.std.specs.Option.{option_map}
-use Rattle.lard_answers.specs.Answers.{FilesAt, IsPrefix, answer, answer_code, verdicts}
-use Rattle.lard_base.specs.declared.place.Via.{Via}
+use Rattle.lard_law_view.specs.Prelude.{FilesAt, IsPrefix, Rec, Tale, TellsOf, Verdict, Via, answer, answer_code, bytes_served_in, is_reset_record, named_records, served_bytes, served_in, tale, tale_step, told_on, verdicts}
 use Rattle.lard_law_connections.specs.BytesRecords.{AnswersNext, ComesBy, IsWay, ResetsNext}
 use Rattle.lard_law_connections.specs.BytesTurning.{AnswersAfter, IsNoteOf}
 use Rattle.lard_law_connections.proofs.BytesTold.{place-notes}
 use Rattle.lard_law_view.specs.Carry.{TellsBy}
-use Rattle.lard_law_view.specs.View.{named_records}
-use Rattle.lard_history.specs.Journal.{Tale, served_bytes, tale, tale_step, told_on}
 use Rattle.lard_history.proofs.Each.{Each}
 use Rattle.lard_history.proofs.Tales.{served-tale, served_bytes-tale}
-use Rattle.lard_journal.specs.declared.rec.Rec.{Rec}
 use Rattle.lard_journal.specs.declared.rec.Rec.TheVariants as rec
-use Rattle.lard_law_view.specs.Keeping.{TellsOf, is_reset_record, served_in, bytes_served_in}
 use Rattle.lard_law_view.proofs.Notes.{Adds}
 use Rattle.lard_law_view.proofs.Serving.{answer-is, verdict-is}
-use Rattle.lard_request.specs.declared.verdict.Verdict.{Verdict}
 
 -- ---- the next request
 

@@ -1,10 +1,8 @@
 -- What a node does leaves its connection in agreement.
 use Rattle.std.proofs.Common.{◌≡◌, ◌⊎◌, ◌≤◌, ◌<◌, ◌+◌, ◌==◌, ◌||◌, ◌^◌, ℕ, Bool, false, true, cond, List, [], ◌∷◌, ◌++◌, map, length, Option, Some, None, arith, refl, ap, ◌∙◌, sym, subst, inl, inr, ⊎_elim, eqb-true, eq-eqb, nat_lt, ltb-true, ltb-false}
 use Rattle.std.specs.List.{list_any}
-use Rattle.lard_answers.specs.Answers.{FilesAt}
+use Rattle.lard_law_view.specs.Prelude.{AreReplies, AreSent, BackRow, Body, Conn, ControlBlock, FilesAt, Front, FrontConn, FrontRow, Kept, Message, Move, Node, NodePart, NodeTurn, Part, Place, Rec, Seen, Setting, Station, Stream, Tale, Talk, Verdict, again_sent, bytes_served_in, is_reset_record, kind_of, letter, node_put_back, nothing_said, sent_of, served_in, spelled_message, stands, tale_at, with_node}
 use Rattle.std.proofs.lemmas.List.{map-append}
-use Rattle.lard_base.specs.declared.place.Place.{Place}
-use Rattle.lard_base.specs.declared.place.Place.TheVariants.{Front, Node}
 use Rattle.lard_law_connections.specs.BytesAgreement.{IsFair, IsOffering, IsOpen, NodeAgrees, NodeTells, SeatAgrees, StageAgrees, StayComesOn}
 use Rattle.lard_law_connections.specs.BytesKeeping.{EndsOfKind, NodeSays, NodeTurned}
 use Rattle.lard_law_connections.proofs.BytesLaw.{Helps, IsTrueMove}
@@ -17,35 +15,14 @@ use Rattle.lard_law_connections.specs.Places.{HasEnded, IsComing, IsDecided, IsL
 use Rattle.lard_law_connections.proofs.PlacesFrontRules.{has-each}
 use Rattle.lard_law_connections.proofs.PlacesHeads.{kinds-same}
 use Rattle.lard_law_connections.proofs.PlacesTurns.{IsPlaced}
-use Rattle.lard_law_view.specs.Carry.{TellsBy, tale_at}
-use Rattle.lard_law_view.specs.View.{AreSent, Conn, Move, Part, Setting, letter, node_put_back, nothing_said, stands, with_node}
+use Rattle.lard_law_view.specs.Carry.{TellsBy}
 use Rattle.lard_law_view.proofs.Parts.{put-same}
 use Rattle.lard_law_view.proofs.Rows.{tale_before}
-use Rattle.lard_endpoint.specs.Control.{ControlBlock}
 use Rattle.lard_rules.specs.Front.{message}
 use Rattle.lard_handoff_back.specs.declared.row.BackConn.TheVariants as back
-use Rattle.lard_handoff_back.specs.declared.row.BackRow.{BackRow}
-use Rattle.lard_handoff_front.specs.declared.row.FrontConn.{FrontConn}
 use Rattle.lard_handoff_front.specs.declared.row.FrontConn.TheVariants as stage
-use Rattle.lard_handoff_front.specs.declared.row.FrontRow.{FrontRow}
-use Rattle.lard_history.specs.Journal.{Tale}
-use Rattle.lard_history.specs.Own.{Seen}
 use Rattle.lard_history.proofs.Each.{Each, Each-append}
-use Rattle.lard_journal.specs.declared.rec.Rec.{Rec}
-use Rattle.lard_law_view.specs.Agreement.{AreReplies}
-use Rattle.lard_law_view.specs.Keeping.{is_reset_record, served_in, bytes_served_in}
-use Rattle.lard_law_view.specs.Truthful.{Talk}
-use Rattle.lard_message.specs.declared.message.Body.{Body}
 use Rattle.lard_message.specs.declared.message.Body.TheVariants as body
-use Rattle.lard_message.specs.declared.message.Message.{Message}
-use Rattle.lard_message.specs.Message.{kind_of, spelled_message}
-use Rattle.lard_rules.specs.declared.node.NodeTurn.{NodeTurn}
-use Rattle.lard_rules.specs.Node.{NodePart, again_sent}
-use Rattle.lard_request.specs.declared.verdict.Verdict.{Verdict}
-use Rattle.lard_resend.specs.declared.kept.Kept.{Kept}
-use Rattle.lard_resend.specs.Pending.{sent_of}
-use Rattle.lard_rules.specs.declared.places.Station.{Station}
-use Rattle.lard_law_view.specs.Truth.{Stream}
 use Rattle.lard_law_view.proofs.Growth.{goes_on-same}
 
 -- ---- messages of a node

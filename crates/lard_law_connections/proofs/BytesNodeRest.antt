@@ -1,15 +1,10 @@
 -- The acknowledgement of an end, what a node does for others, and what changes nothing, leave a connection in agreement.
 use Rattle.lard_segment.specs.Segment as spelling
-use Rattle.lard_law_view.specs.Keeping.{is_reset_record, served_in, bytes_served_in}
+use Rattle.lard_law_view.specs.Prelude.{Acknowledged, BackRow, Completed, Conn, Content, EachRow, FilesAt, Fires, Forwarded, Front, FrontConn, FrontRow, IsNodeEnv, Move, Node, NodeDeed, NodeEnv, NodeGets, NodePart, NodeRules, Offered, Place, Rec, Seen, SegFault, Setting, Station, Stream, Tagged, Tale, Talk, ToCluster, TurnSaid, Verdict, Was, awaits_ack, both_of, bytes_served_in, come_by, content_said, decoded, gone, grown, is_ended, is_reset_record, letter, letters_of, node_acknowledged, node_does, node_forwarded, node_put_back, node_read_by, node_rule, node_saying, nothing_said, packet_seen, seen_in, seen_step, served_in, stands, staying, tale_at, tale_step, timer_rows, told_on, with_node, without}
 use Rattle.lard_law_connections.specs.BytesTurning.{IsNoteOf}
 use Rattle.std.proofs.Common.{Bool, List, None, Option, Result, Some, [], ap, arith, cond, eqb-true, false, inl, inr, map, refl, subst, sym, true, ℕ, ⊎_elim, ◌&&◌, ◌<◌, ◌==◌, ◌^◌, ◌∙◌, ◌∷◌, ◌≡◌, ◌≤◌}
-use Rattle.std.specs.List.{list_any}
+use Rattle.std.specs.List.{fold, list_any}
 use Rattle.std.proofs.lemmas.Bool.{and_parts}
-use Rattle.lard_answers.specs.Answers.{FilesAt}
-use Rattle.lard_base.specs.declared.event.Event.TheVariants as event
-use Rattle.lard_base.specs.declared.parts.EndpointParts.{EndpointParts}
-use Rattle.lard_base.specs.declared.place.Place.{Place}
-use Rattle.lard_base.specs.declared.place.Place.TheVariants.{Front, Node}
 use Rattle.lard_base.specs.declared.place.TimerKind.TheVariants as timer
 use Rattle.lard_law_connections.specs.BytesAgreement.{ConnAgrees, IsFair, IsInner, IsOffering, IsOpen, IsTruthful, IsConnUnopened, NodeAgrees, SeatAgrees, StageAgrees}
 use Rattle.lard_law_connections.proofs.BytesLaw.{Helps, IsSeenTrue, IsTrueMove, OwnerServes, StaysTruthful}
@@ -17,41 +12,24 @@ use Rattle.lard_law_connections.specs.BytesRecords.{IsOwnedTrueAfter}
 use Rattle.lard_law_connections.proofs.BytesNext.{mute-answers}
 use Rattle.lard_law_connections.proofs.BytesTelling.{Tells, gave-true, heads-true, messages-true, notes-true, timers-true}
 use Rattle.lard_law_connections.proofs.BytesClientMoves.{has-fair, open-at}
-use Rattle.lard_law_connections.proofs.BytesFrontMessages.{opened-at}
 use Rattle.lard_law_connections.proofs.BytesMoves.{idle-goes, move-goes}
 use Rattle.lard_law_connections.proofs.BytesNodeMoves.{ends-put, stands-goes, ways-put}
 use Rattle.lard_law_connections.proofs.BytesNodeTurns.{contents-goes, fires-goes, forwards-goes, offers-goes, read-goes, tags-goes}
 use Rattle.lard_law_connections.proofs.BytesTold.{Bytes, bytes_of, gave-fin, heads-fin, move-bytes, place-notes}
+use Rattle.lard_law_view.proofs.NodeHeads.{of-heads}
 use Rattle.lard_law_connections.specs.Places.{HasEnded, IsDecided, IsOver, IsPast, Owning, Sits, owning}
 use Rattle.lard_law_connections.proofs.PlacesFrontMessages.{came-says}
-use Rattle.lard_law_view.specs.Carry.{tale_at}
-use Rattle.lard_law_view.specs.View.{Conn, IsNodeEnv, Move, NodeRules, TurnSaid, Setting, SpellsMessage, Was, content_said, epoch_in, event_seen, grown, letter, letters_of, node_does, node_put_back, nothing_said, packet_seen, reads_first, seen_in, sending, stands, timer_rows, with_node}
+use Rattle.lard_law_view.specs.View.{sending}
+use Rattle.lard_law_view.proofs.EachNode.{Answers, Aside, Brings, NodeComes, Queues, aside_said, aside_seen, each-node, job_notes, node_goes, told_first}
 use Rattle.lard_law_view.proofs.Rows.{grown-tale, move-lawful, tale_before, tale_said}
 use Rattle.lard_law_view.proofs.Timers.{timer_rows-are}
 use Rattle.lard_handoff_back.specs.declared.row.BackConn.TheVariants as back
-use Rattle.lard_handoff_back.specs.declared.row.BackRow.{BackRow}
-use Rattle.lard_handoff_back.specs.Back.{awaits_ack, staying}
-use Rattle.lard_handoff_back.specs.Row.{is_ended}
-use Rattle.lard_handoff_front.specs.declared.row.FrontConn.{FrontConn}
 use Rattle.lard_handoff_front.specs.declared.row.FrontConn.TheVariants as stage
-use Rattle.lard_handoff_front.specs.declared.row.FrontRow.{FrontRow}
-use Rattle.lard_history.specs.Journal.{Tale, told_on}
-use Rattle.lard_history.specs.Own.{EachRow, Seen}
 use Rattle.lard_history.proofs.Each.{Each, Each-append}
-use Rattle.lard_journal.specs.declared.rec.Rec.{Rec}
 use Rattle.lard_journal.specs.declared.rec.Rec.TheVariants as rec
-use Rattle.lard_law_view.specs.Truthful.{Talk}
 use Rattle.lard_message.specs.declared.message.Body.TheVariants as body
-use Rattle.lard_rules.specs.Node.{NodeDeed, Does, Drops, NodePart, Says, both_of, come_by, gone, node_acknowledged, node_content, node_forwarded, node_offered, node_read, node_tagged, node_timer, node_read_by, node_saying}
-use Rattle.lard_rules.specs.Stay.{NodeEnv}
-use Rattle.lard_request.specs.declared.verdict.Verdict.{Verdict}
-use Rattle.lard_resend.specs.Kept.{without}
-use Rattle.lard_rules.specs.declared.places.Station.{Station}
-use Rattle.lard_segment.specs.declared.fault.SegFault.{SegFault}
-use Rattle.lard_segment.specs.declared.segment.Dir.TheVariants.{ToCluster}
-use Rattle.lard_segment.specs.Segment.{decoded}
+use Rattle.lard_rules.specs.Node.{Does, Drops, Says}
 use Rattle.lard_segment.proofs.Again.{again}
-use Rattle.lard_law_view.specs.Truth.{Stream}
 
 -- ---- the acknowledgement of an end
 
@@ -190,15 +168,14 @@ module _ (files : FilesAt) (x : Conn) (none : x.part.station ≡ None) (h : IsTr
 pub front-opens : (x : Conn) (n : ℕ) (bytes : List ℕ) → Was x Front (Node n) bytes → IsConnUnopened x → ⊥
 front-opens x n bytes was u = (has-fair IsInner (record { from = Front; to = Node n; bytes = bytes }) x.letters was u.inner).0
 
-node-quiet : (x : Conn) (from : Place) (n : ℕ) (bytes : List ℕ) (d : NodeDeed) → bytes_of (tale_before x (node_does x n (packet_seen from (Node n) bytes) d)) ≡ bytes_of (tale_at x)
-node-quiet x from n bytes Drops = refl
-node-quiet x from n bytes (Says messages) = refl
-node-quiet x from n bytes (Does given) = refl
+-- what is seen first is of no stream
+abbrev IsQuiet : Conn → List Seen → Type 0
+IsQuiet x heads = bytes_of (fold (seen_step (tale_step x.c)) (tale_at x) heads) ≡ bytes_of (tale_at x)
 
-event-quiet : (x : Conn) (n : ℕ) (d : NodeDeed) → bytes_of (tale_before x (node_does x n (event_seen (event.Timer (Node n) x.c)) d)) ≡ bytes_of (tale_at x)
-event-quiet x n Drops = refl
-event-quiet x n (Says messages) = refl
-event-quiet x n (Does given) = refl
+node-quiet : (x : Conn) (n : ℕ) (heads : List Seen) → IsQuiet x heads → (d : NodeDeed) → bytes_of (tale_before x (node_does x n heads d)) ≡ bytes_of (tale_at x)
+node-quiet x n heads quiet Drops = quiet
+node-quiet x n heads quiet (Says messages) = quiet
+node-quiet x n heads quiet (Does given) = quiet
 
 module _ (k : Setting) (small : k.stream ≤ 2 ^ 30) where
   -- by whether its client opened
@@ -208,57 +185,56 @@ module _ (k : Setting) (small : k.stream ≤ 2 ^ 30) where
     go None e = none e
     go (Some s) e = opened s e
 
-  offered-stays : (x : Conn) (n epoch : ℕ) (env : NodeEnv) (parts : EndpointParts) (bytes : List ℕ) → IsNodeEnv k x.c n epoch env → SpellsMessage x.c epoch (body.Offer parts) bytes → Was x Front (Node n) bytes
-      → StaysTruthful k x (node_does x n (packet_seen Front (Node n) bytes) (node_offered env (x.part.nodes n) parts))
-  offered-stays x n epoch env parts bytes is spells was help h =
-      let opened = opened-at k.files x h (front-opens x n bytes was) in
-      offers-goes k small x opened.0 opened.1 h.talk h.pend (open-at k.files x opened.0 opened.1 h) n env epoch is (packet_seen Front (Node n) bytes) (node-quiet x Front n bytes) parts bytes spells was help
+  module _ (x : Conn) (h : IsTruthful k.files x) (n epoch : ℕ) (env : NodeEnv) (is : IsNodeEnv k x.c n epoch env) (heads : List Seen)
+      (quiet : (d : NodeDeed) → bytes_of (tale_before x (node_does x n heads d)) ≡ bytes_of (tale_at x)) where
+    abbrev ours : NodePart
+    ours = x.part.nodes n
 
-  forwarded-stays : (x : Conn) (n epoch : ℕ) (env : NodeEnv) (segment bytes : List ℕ) → IsNodeEnv k x.c n epoch env → SpellsMessage x.c epoch (body.Forward segment) bytes → Was x Front (Node n) bytes
-      → StaysTruthful k x (node_does x n (packet_seen Front (Node n) bytes) (node_forwarded env (x.part.nodes n) (decoded segment x.c ToCluster)))
-  forwarded-stays x n epoch env segment bytes is spells was help h =
-      let opened = opened-at k.files x h (front-opens x n bytes was) in
-      let o = open-at k.files x opened.0 opened.1 h in
-      let f = (has-fair (IsFair h.talk x.c x.part) (record { from = Front; to = Node n; bytes = bytes }) x.letters was o.fair) _ spells in
-      let heads : List Seen = packet_seen Front (Node n) bytes in
-      subst (λ (r : Result spelling.Said SegFault). Helps x (node_does x n heads (node_forwarded env (x.part.nodes n) r)) → IsTrueMove k.files x (node_does x n heads (node_forwarded env (x.part.nodes n) r)))
-      (sym (ap (λ (b : List ℕ). decoded b x.c ToCluster) f.1 ∙ again x.c ToCluster f.0 f.2.sendable))
-      (forwards-goes k small x opened.0 opened.1 h.talk h.pend o n env epoch is heads (node-quiet x Front n bytes) f.0 f.2) help
+    abbrev Leaves : NodeGets → NodeDeed → Type 0
+    Leaves g d = Helps x (told_first (job_notes x.c n g) (node_does x n heads d))
+        → IsTrueMove k.files x (told_first (job_notes x.c n g) (node_does x n heads d))
 
-  tagged-stays : (x : Conn) (n epoch number : ℕ) (nodes : List ℕ) (env : NodeEnv) (bytes : List ℕ) → IsNodeEnv k x.c n epoch env → SpellsMessage x.c epoch (body.Tag number nodes) bytes → Was x Front (Node n) bytes
-      → StaysTruthful k x (node_does x n (packet_seen Front (Node n) bytes) (node_tagged env (x.part.nodes n) number nodes))
-  tagged-stays x n epoch number nodes env bytes is spells was help h =
-      let opened = opened-at k.files x h (front-opens x n bytes was) in
-      tags-goes k small x opened.0 opened.1 h.talk h.pend (open-at k.files x opened.0 opened.1 h) n env epoch is (packet_seen Front (Node n) bytes) (node-quiet x Front n bytes) number nodes help
+    module _ (s : Station) (there : x.part.station ≡ Some s) where
+      open_now : IsOpen k.files x h.talk h.pend s
+      open_now = open-at k.files x s there h
 
-  acknowledged-stays : (x : Conn) (n epoch : ℕ) (env : NodeEnv) (bytes : List ℕ) → IsNodeEnv k x.c n epoch env → SpellsMessage x.c epoch body.EndedAck bytes → Was x Front (Node n) bytes
-      → StaysTruthful k x (node_does x n (packet_seen Front (Node n) bytes) (node_acknowledged env (x.part.nodes n)))
-  acknowledged-stays x n epoch env bytes is spells was help h =
-      let opened = opened-at k.files x h (front-opens x n bytes was) in
-      acknowledged-goes k small x opened.0 opened.1 h.talk h.pend (open-at k.files x opened.0 opened.1 h) n (packet_seen Front (Node n) bytes) (node-quiet x Front n bytes) env
-      (subst (λ (e : ℕ). HasEnded e x.part.front.row) (sym is.epoch_is) (came-says x Front (Node n) epoch body.EndedAck bytes help.placed.letters was spells)) help
+      opened-stays : (g : NodeGets) → NodeComes x n epoch heads g → Leaves g (node_rule env ours g)
+      opened-stays (Offered parts) comes =
+          offers-goes k small x s there h.talk h.pend open_now n env epoch is heads quiet parts comes.bytes comes.spells comes.was
+      opened-stays (Forwarded given) comes =
+          let f = (has-fair (IsFair h.talk x.c x.part)
+          (record { from = Front; to = Node n; bytes = comes.came.bytes }) x.letters comes.came.was open_now.fair) _ comes.came.spells in
+          subst (λ (r : Result spelling.Said SegFault). Leaves (Forwarded r) (node_forwarded env ours r))
+          (sym (comes.read ∙ ap (λ (b : List ℕ). decoded b x.c ToCluster) f.1 ∙ again x.c ToCluster f.0 f.2.sendable))
+          (forwards-goes k small x s there h.talk h.pend open_now n env epoch is heads quiet f.0 f.2)
+      opened-stays (Tagged number nodes) comes = tags-goes k small x s there h.talk h.pend open_now n env epoch is heads quiet number nodes
+      opened-stays (Content from r) comes = contents-goes k small x s there h.talk h.pend open_now n env epoch is heads quiet from r
+      opened-stays Acknowledged comes = λ help. acknowledged-goes k small x s there h.talk h.pend open_now n heads quiet env
+          (subst (λ (e : ℕ). HasEnded e x.part.front.row) (sym is.epoch_is)
+          (came-says x Front (Node n) epoch body.EndedAck comes.bytes help.placed.letters comes.was comes.spells)) help
+      opened-stays (Completed r path) comes = subst
+          (λ (hs : List Seen). Helps x (node_goes x n env hs (Completed r path)) → IsTrueMove k.files x (node_goes x n env hs (Completed r path))) (sym comes)
+          (read-goes k small x s there h.talk h.pend open_now n env epoch is r path)
+      opened-stays Fires comes = fires-goes k small x s there h.talk h.pend open_now n env epoch is heads quiet (is.epoch_is ∙ comes.epoch_is)
 
-  content-stays : (x : Conn) (n from epoch r : ℕ) (env : NodeEnv) (file bytes : List ℕ) → IsNodeEnv k x.c n epoch env → SpellsMessage x.c epoch (body.Content r file) bytes → Was x (Node from) (Node n) bytes
-      → StaysTruthful k x (node_does x n (packet_seen (Node from) (Node n) bytes) (node_content env (x.part.nodes n) from r))
-  content-stays x n from epoch r env file bytes is spells was help h =
-      let heads : List Seen = packet_seen (Node from) (Node n) bytes in
-      let Goes : NodeDeed → Type 0 = λ d. Helps x (node_does x n heads d) → IsTrueMove k.files x (node_does x n heads d) in
-      by-station x (IsTrueMove k.files x (node_does x n heads (node_content env (x.part.nodes n) from r)))
-      (λ s there. contents-goes k small x s there h.talk h.pend (open-at k.files x s there h) n env epoch is heads (node-quiet x (Node from) n bytes) from r help)
-      (λ none. subst Goes (sym (ap (come_by env from r (x.part.nodes n)) (nothing-here k.files x none h n env.epoch help.placed.sits))) (λ o. unopened-goes k.files x none h (Node n) heads nothing_said tt refl refl refl o refl tt) help)
+    module _ (none : x.part.station ≡ None) where
+      unopened : IsConnUnopened x
+      unopened = never k.files x none h
 
-  read-stays : (x : Conn) (n epoch r : ℕ) (env : NodeEnv) (path : List ℕ) → IsNodeEnv k x.c n epoch env → StaysTruthful k x (reads_first (rec.Read n n x.c r path) (node_does x n [] (node_read env (x.part.nodes n) r)))
-  read-stays x n epoch r env path is help h =
-      let Goes : NodeDeed → Type 0 = λ d. Helps x (reads_first (rec.Read n n x.c r path) (node_does x n [] d)) → IsTrueMove k.files x (reads_first (rec.Read n n x.c r path) (node_does x n [] d)) in
-      by-station x (IsTrueMove k.files x (reads_first (rec.Read n n x.c r path) (node_does x n [] (node_read env (x.part.nodes n) r))))
-      (λ s there. read-goes k small x s there h.talk h.pend (open-at k.files x s there h) n env epoch is r path help)
-      (λ none. subst Goes (sym (ap (node_read_by env r (x.part.nodes n)) (nothing-here k.files x none h n env.epoch help.placed.sits)))
-      (λ o. unopened-goes k.files x none h (Node n) [] (record nothing_said { notes = rec.Read n n x.c r path ∷ [] }) (tt, tt) refl refl refl o refl tt) help)
-
-  fires-stays : (x : Conn) (s : Station) (n : ℕ) (env : NodeEnv) → x.part.station ≡ Some s → IsNodeEnv k x.c n (epoch_in (x.part.nodes n)) env
-      → StaysTruthful k x (node_does x n (event_seen (event.Timer (Node n) x.c)) (node_timer env (x.part.nodes n)))
-  fires-stays x s n env there is help h =
-      fires-goes k small x s there h.talk h.pend (open-at k.files x s there h) n env (epoch_in (x.part.nodes n)) is (event_seen (event.Timer (Node n) x.c)) (event-quiet x n) is.epoch_is help
+      -- no node has it
+      unopened-stays : (g : NodeGets) → NodeComes x n epoch heads g → Leaves g (node_rule env ours g)
+      unopened-stays (Offered parts) comes = absurd (front-opens x n comes.bytes comes.was unopened)
+      unopened-stays (Forwarded given) comes = absurd (front-opens x n comes.came.bytes comes.came.was unopened)
+      unopened-stays (Tagged number nodes) comes = absurd (front-opens x n comes.bytes comes.was unopened)
+      unopened-stays (Content from r) comes = λ help. subst (Leaves (Content from r))
+          (sym (ap (come_by env from r ours) (nothing-here k.files x none h n env.epoch help.placed.sits)))
+          (λ o. unopened-goes k.files x none h (Node n) heads nothing_said tt refl refl refl o (quiet Drops) tt) help
+      unopened-stays Acknowledged comes = absurd (front-opens x n comes.bytes comes.was unopened)
+      unopened-stays (Completed r path) comes = λ help. subst (Leaves (Completed r path))
+          (sym (ap (node_read_by env r ours) (nothing-here k.files x none h n env.epoch help.placed.sits)))
+          (λ o. unopened-goes k.files x none h (Node n) heads (record nothing_said { notes = rec.Read n n x.c r path ∷ [] }) (tt, tt) refl refl refl o
+          (quiet Drops) tt) help
+      unopened-stays Fires comes = let no : Some comes.station ≡ None = sym comes.there ∙ none in absurd cc
 
   -- what it does for another node
   for-others : (x : Conn) (n : ℕ) (heads : List Seen) (notes : List Rec) (messages : List (Place × List ℕ)) → Each (IsNoteOf x.c) notes → served_in notes ≡ 0 → bytes_served_in notes ≡ 0 → list_any is_reset_record notes ≡ false
@@ -269,19 +245,24 @@ module _ (k : Setting) (small : k.stream ≤ 2 ^ 30) where
       (λ s there. stands-goes k small x s there h.talk h.pend (open-at k.files x s there h) n heads notes messages each served size reset quiet (fair h.talk) help)
       (λ none. unopened-goes k.files x none h (Node n) heads (record nothing_said { notes = notes; messages = messages }) each served reset refl help (mute _ ∙ quiet) inner)
 
+  aside-stays : (x : Conn) (n : ℕ) (a : Aside) → StaysTruthful k x (stands x (Node n) (aside_seen n a) (aside_said k n x.c a))
+  aside-stays x n (Answers from epoch r path file bytes) = for-others x n (packet_seen (Node from) (Node n) bytes) []
+      (content_said k n from x.c epoch r path).messages tt refl refl refl (λ t. refl) refl ((tt, tt), tt) (λ l. (tt, tt))
+  aside-stays x n (Queues from epoch r path file bytes) = for-others x n (packet_seen (Node from) (Node n) bytes) (rec.Queued n from x.c r path ∷ []) []
+      (tt, tt) refl refl refl (λ t. refl) refl tt (λ l. tt)
+  aside-stays x n (Brings from epoch r path) = for-others x n [] (rec.Read n from x.c r path ∷ []) (content_said k n from x.c epoch r path).messages
+      (tt, tt) refl refl refl (λ t. refl) refl ((tt, tt), tt) (λ l. (tt, tt))
+
+  does-stays : (x : Conn) (n epoch : ℕ) (env : NodeEnv) (heads : List Seen) (g : NodeGets) → IsNodeEnv k x.c n epoch env → NodeComes x n epoch heads g
+      → StaysTruthful k x (node_goes x n env heads g)
+  does-stays x n epoch env heads g is comes help h =
+      let quiet = node-quiet x n heads (of-heads x n (IsQuiet x) (λ from bytes. refl) refl refl epoch heads g comes) in
+      by-station x (IsTrueMove k.files x (node_goes x n env heads g)) (λ s there. opened-stays x h n epoch env is heads quiet s there g comes help)
+      (λ none. unopened-stays x h n epoch env is heads quiet none g comes help)
+
   pub nodes : NodeRules k (StaysTruthful k)
-  nodes = record {
-    offered = offered-stays;
-    forwarded = forwarded-stays;
-    tagged = tagged-stays;
-    content = content-stays;
-    acknowledged = acknowledged-stays;
-    read = read-stays;
-    fires = fires-stays;
-    answers = λ x n from epoch r path file bytes there spells was. for-others x n (packet_seen (Node from) (Node n) bytes) [] (content_said k n from x.c epoch r path).messages tt refl refl refl (λ t. refl) refl ((tt, tt), tt) (λ l. (tt, tt));
-    queues = λ x n from epoch r path file bytes there spells was. for-others x n (packet_seen (Node from) (Node n) bytes) (rec.Queued n from x.c r path ∷ []) [] (tt, tt) refl refl refl (λ t. refl) refl tt (λ l. tt);
-    brings = λ x n from epoch r path. for-others x n [] (rec.Read n from x.c r path ∷ []) (content_said k n from x.c epoch r path).messages (tt, tt) refl refl refl (λ t. refl) refl ((tt, tt), tt) (λ l. (tt, tt));
-  }
+  nodes = each-node k (StaysTruthful k)
+      (record { does = λ x n epoch env heads g is at comes. does-stays x n epoch env heads g is comes; aside = λ x n a may. aside-stays x n a })
 
   -- a packet comes, and nothing is done
   pub ignores-stays : (x : Conn) (from to : Place) (bytes : List ℕ) → Was x from to bytes → StaysTruthful k x (stands x to (packet_seen from to bytes) nothing_said)

@@ -2,23 +2,13 @@
 use Rattle.lard_handoff_front.specs.declared.row.FrontConn.TheVariants as stage
 use Rattle.lard_law_connections.proofs.PlacesFrontMessages.{came-says}
 use Rattle.lard_law_connections.proofs.BytesMessages.{offers-read}
-use Rattle.lard_message.specs.Reading.{decoded_message}
+use Rattle.lard_law_view.specs.Prelude.{Adopt, BackRow, Conn, ControlBlock, EndpointParts, Epoch, FilesAt, Front, FrontConn, FrontRow, IsNodeEnv, IsStream, IsWord, Kept, Node, NodeDeed, NodeEnv, NodePart, Place, Rec, Said, SaysAnswers, Seen, Setting, SpellsMessage, Station, Stay, Talk, Verdict, Was, again_sent, back_endpoint, both_of, come_by, decoded_message, epoch_in, here, letter, named_records, node_content, node_does, node_fired_by, node_forwarded, node_heard_by, node_offered, node_read, node_read_by, node_tagged, node_timer, offer_answer, offered_by, parts_of, reads_first, tagged_by, taken_sent, tale_at}
 use Rattle.lard_rules.specs.Front.{message}
-use Rattle.lard_endpoint.specs.Moving.{parts_of}
-use Rattle.lard_base.specs.declared.parts.EndpointParts.{EndpointParts}
-use Rattle.lard_base.specs.declared.ids.Epoch.{Epoch}
-use Rattle.lard_resend.specs.declared.kept.Kept.{Kept}
-use Rattle.lard_handoff_front.specs.declared.row.FrontRow.{FrontRow}
-use Rattle.lard_handoff_front.specs.declared.row.FrontConn.{FrontConn}
 use Rattle.lard_handoff_back.specs.declared.table.Adopt.TheVariants.{Again, New, Stale}
-use Rattle.lard_handoff_back.specs.declared.table.Adopt.{Adopt}
 use Rattle.lard_message.specs.declared.message.Body.TheVariants as body
 use Rattle.lard_journal.specs.declared.rec.Rec.TheVariants as rec
 use Rattle.lard_law_connections.proofs.BytesClientMoves.{has-fair}
-use Rattle.std.proofs.Common.{Bool, List, None, Ok, Option, Some, [], ap, arith, cond, eqb-true, false, inl, inr, ltb-true, map, nat_lt, refl, subst, sym, true, ℕ, ⊎_elim, ◌&&◌, ◌<◌, ◌==◌, ◌^◌, ◌∙◌, ◌∷◌, ◌≡◌, ◌≤◌, ◌⊎◌}
-use Rattle.lard_answers.specs.Answers.{FilesAt}
-use Rattle.lard_base.specs.declared.place.Place.{Place}
-use Rattle.lard_base.specs.declared.place.Place.TheVariants.{Front, Node}
+use Rattle.std.proofs.Common.{List, None, Ok, Option, Some, [], ap, arith, inl, inr, map, refl, subst, sym, ℕ, ⊎_elim, ◌<◌, ◌^◌, ◌∙◌, ◌∷◌, ◌≡◌, ◌≤◌, ◌⊎◌}
 use Rattle.lard_law_connections.specs.BytesAgreement.{AwayAgrees, IsFair, IsKept, IsOffering, IsOpen, NodeAgrees, SeatAgrees, StageAgrees, StayComesOn}
 use Rattle.lard_law_connections.specs.BytesKeeping.{DeedKeeps, IsTalk}
 use Rattle.lard_law_connections.proofs.BytesLaw.{Helps, IsTrueMove}
@@ -28,28 +18,12 @@ use Rattle.lard_law_connections.proofs.BytesNodeMoves.{HasIt, IsAt, Noted, again
 use Rattle.lard_law_connections.proofs.BytesStays.{contents-keep, node-hears, offers-keep, reads-keep, tags-keep, timer-keeps}
 use Rattle.lard_law_connections.proofs.BytesTold.{bytes_of, named-each, named-resets, named-served, named-size}
 use Rattle.lard_law_connections.specs.Places.{HasEnded, IsDecided, IsOffered, IsOver, IsPast, Offers, Sits, StageSits, owning}
+use Rattle.lard_law_connections.proofs.PlacesNodeRules.{new-below, not-decided}
 use Rattle.lard_law_connections.proofs.PlacesTurns.{IsPlaced, early-at}
-use Rattle.lard_law_view.specs.Carry.{tale_at}
-use Rattle.lard_law_view.specs.View.{Conn, IsNodeEnv, Setting, SpellsMessage, Was, epoch_in, letter, named_records, node_does, reads_first}
 use Rattle.lard_law_view.proofs.Rows.{tale_before}
-use Rattle.lard_endpoint.specs.Control.{ControlBlock}
-use Rattle.lard_handoff_back.specs.declared.row.BackConn.{BackConn}
-use Rattle.lard_handoff_back.specs.declared.row.BackConn.TheVariants as back
-use Rattle.lard_handoff_back.specs.declared.row.BackRow.{BackRow}
-use Rattle.lard_handoff_back.specs.Back.{back_endpoint, offer_answer, staying}
-use Rattle.lard_handoff_back.specs.Row.{back_held, is_gone}
-use Rattle.lard_history.specs.Own.{Seen}
 use Rattle.lard_history.proofs.Each.{Each}
-use Rattle.lard_journal.specs.declared.rec.Rec.{Rec}
-use Rattle.lard_law_view.specs.Agreement.{IsWord, SaysAnswers}
-use Rattle.lard_law_view.specs.Truthful.{Talk}
-use Rattle.lard_rules.specs.Node.{NodeDeed, Does, Drops, NodePart, Says, again_sent, both_of, come_by, node_fired_by, node_heard_by, here, node_content, node_forwarded, node_offered, node_read, node_tagged, node_timer, offered_by, node_read_by, tagged_by, taken_sent}
-use Rattle.lard_rules.specs.declared.stay.Stay.{Stay}
-use Rattle.lard_rules.specs.Stay.{NodeEnv}
-use Rattle.lard_request.specs.declared.verdict.Verdict.{Verdict}
-use Rattle.lard_rules.specs.declared.places.Station.{Station}
-use Rattle.lard_segment.specs.Segment.{Said}
-use Rattle.lard_law_view.specs.Truth.{IsStream}
+use Rattle.lard_rules.proofs.NodeCases.{IsHereWith, where-held, where-here}
+use Rattle.lard_rules.specs.Node.{Does, Drops, Says}
 use Rattle.lard_law_view.proofs.Speaking.{speaks-stream}
 
 -- a node's notes that name a connection are counted as its notes
@@ -103,23 +77,12 @@ module _ (k : Setting) (small : k.stream ≤ 2 ^ 30) (x : Conn) (s : Station) (t
   deed-goes heads quiet d keeps it help = let has = it help.placed in deed-with heads quiet d keeps has.0.row has.0.found has.0.at has.0.same has.1 help
 
   -- where its endpoint is here
-  row-has : (row : BackRow) → p.row ≡ Some row → (d : BackConn) → row.stage ≡ d → (b : ControlBlock) → back_held d ≡ Some b → It row.epoch.0
-  row-has row found (back.Here c) at b e = λ placed. (has-it x l pend o.seat placed n row c found at, known x l pend o.seat placed n row c found at)
-  row-has row found _ at b e = let no : None ≡ Some b = e in absurd cc
-
-  stage-or : (row : BackRow) → p.row ≡ Some row → (h : Option ControlBlock) → back_held row.stage ≡ h → row.epoch.0 ≡ env.epoch → (both_of h p.stay ≡ None) ⊎ It env.epoch
-  stage-or row found None e same = inl refl
-  stage-or row found (Some b) e same = inr (subst It same (row-has row found row.stage refl b e))
-
-  here-row : (r : Option BackRow) → p.row ≡ r → (both_of (staying env.epoch r) p.stay ≡ None) ⊎ It env.epoch
-  here-row None found = inl refl
-  here-row (Some row) found = go (row.epoch.0 == env.epoch) refl where
-    go : (b : Bool) → (row.epoch.0 == env.epoch) ≡ b → (both_of (cond b (back_held row.stage) None) p.stay ≡ None) ⊎ It env.epoch
-    go true e = stage-or row found (back_held row.stage) refl (eqb-true row.epoch.0 env.epoch e)
-    go false e = inl refl
+  it-here : (b : ControlBlock) (y : Stay) → IsHereWith env.epoch p b y → It env.epoch
+  it-here b y at = subst It at.epoch_is
+      (λ placed. (has-it x l pend o.seat placed n at.row b at.found at.staged, known x l pend o.seat placed n at.row b at.found at.staged))
 
   pub here-or : (here env.epoch p ≡ None) ⊎ It env.epoch
-  here-or = here-row p.row refl
+  here-or = where-here env.epoch p (λ h. (h ≡ None) ⊎ It env.epoch) (inl refl) (λ b y at. inr (it-here b y at))
 
   -- a rule over what is here
   by-here : (heads : List Seen) → IsQuiet heads → (rule : Option (ControlBlock × Stay) → NodeDeed) → rule None ≡ Drops → ((it : It env.epoch) (placed : IsPlaced x) → DeedKeeps k.files x.c env.epoch p l.w l.out l.vs l.was_reset (rule (here env.epoch p)))
@@ -146,8 +109,9 @@ module _ (k : Setting) (small : k.stream ≤ 2 ^ 30) (x : Conn) (s : Station) (t
   -- ---- its timers
 
   pub endpoint-or : (r : Option BackRow) → p.row ≡ r → env.epoch ≡ elim r [ None ↦ 0 | Some row ↦ row.epoch.0 ] → (both_of (back_endpoint r) p.stay ≡ None) ⊎ It env.epoch
-  endpoint-or None found same = inl refl
-  endpoint-or (Some row) found same = stage-or row found (back_held row.stage) refl (sym same)
+  endpoint-or r found same = subst (λ (q : Option BackRow). (both_of (back_endpoint q) p.stay ≡ None) ⊎ It env.epoch) found
+      (where-held env.epoch p (λ h. (h ≡ None) ⊎ It env.epoch) (inl refl) (λ b y at. inr (it-here b y at))
+      (λ row is_row. sym (same ∙ ap (λ (q : Option BackRow). elim q [ None ↦ 0 | Some back_row ↦ back_row.epoch.0 ]) (sym found ∙ is_row))))
 
   pub fires-goes : (heads : List Seen) → IsQuiet heads → env.epoch ≡ epoch_in p → Goes heads (node_timer env p)
   fires-goes heads quiet same help = ⊎_elim
@@ -228,19 +192,15 @@ module _ (k : Setting) (small : k.stream ≤ 2 ^ 30) (x : Conn) (s : Station) (t
     answer-goes help = stands-goes k small x s there l pend o n heads [] (taken_sent env) tt refl refl refl (quiet (Says (taken_sent env)))
         (says-fair heads (taken_sent env) (own-keeps (Says (taken_sent env)) (inr (inr (env.epoch, body.Taken, refl, tt), tt))) help) help
 
-    offer-back : (row : Option BackRow) → p.row ≡ row → (a : Adopt) → offer_answer env.epoch row ≡ a → offer_answer env.epoch p.row ≡ a → Goes heads (node_offered env p parts)
-    offer-back row found Again e f = subst (λ (a : Adopt). Goes heads (offered_by env parts p a)) (sym f) answer-goes
-    offer-back row found Stale e f = subst (λ (a : Adopt). Goes heads (offered_by env parts p a)) (sym f) (drops-goes heads quiet)
-    offer-back None found New e f = offer-new (λ h. subst (IsDecided epoch) found h) (λ i over. absurd (subst (IsOver i) found over))
-    offer-back (Some row) found New e f =
-        let below : row.epoch.0 < env.epoch = new-below row e in
-        offer-new (λ h. let g : epoch ≤ row.epoch.0 = subst (IsDecided epoch) found h in omega (arith, g, below, is.epoch_is)) (λ i over. let g : IsOver i (Some row) = subst (IsOver i) found over in omega (arith, g.0, below)) where
-          new-below : (row : BackRow) → offer_answer env.epoch (Some row) ≡ New → row.epoch.0 < env.epoch
-          new-below row = go (row.epoch.0 == env.epoch) (nat_lt row.epoch.0 env.epoch) (is_gone row.stage) (ltb-true row.epoch.0 env.epoch) where
-            go : (a b c : Bool) → (b ≡ true → row.epoch.0 < env.epoch) → cond a Again (cond (b && c) New Stale) ≡ New → row.epoch.0 < env.epoch
-            go true b c h e = let no : Again ≡ New = e in absurd cc
-            go false true c h e = h refl
-            go false false c h e = let no : Stale ≡ New = e in absurd cc
+    over-below : (row : Option BackRow) (f : ℕ) → offer_answer env.epoch row ≡ New → IsOver f row → f < env.epoch
+    over-below None f new over = absurd over
+    over-below (Some row) f new over = let less : row.epoch.0 < env.epoch = new-below env.epoch row new in omega (arith, over.0, less)
+
+    offer-back : (a : Adopt) → offer_answer env.epoch p.row ≡ a → Goes heads (node_offered env p parts)
+    offer-back Again f = subst (λ (a : Adopt). Goes heads (offered_by env parts p a)) (sym f) answer-goes
+    offer-back Stale f = subst (λ (a : Adopt). Goes heads (offered_by env parts p a)) (sym f) (drops-goes heads quiet)
+    offer-back New f = offer-new (λ h. not-decided env.epoch p.row f (subst (λ (e : ℕ). IsDecided e p.row) (sym is.epoch_is) h))
+        (λ i over. over-below p.row i f over)
 
     pub offers-goes : Goes heads (node_offered env p parts)
-    offers-goes = offer-back p.row refl (offer_answer env.epoch p.row) refl refl
+    offers-goes = offer-back (offer_answer env.epoch p.row) refl

@@ -1,62 +1,28 @@
 -- Who serves a connection owns it; and what is seen before the notes of a move. So it is of each rule, by where the connection is.
 use Rattle.std.proofs.Common.{◌≡◌, ℕ, ◌+◌, Bool, true, false, cond, List, [], ◌∷◌, ◌++◌, Option, Some, None, Result, Ok, Err, refl, sym, ap, ◌∙◌, subst}
-use Rattle.std.proofs.lemmas.Bool.{cond_both}
-use Rattle.std.specs.List.{find}
 use Rattle.lard_base.specs.declared.event.Event.TheVariants as event
-use Rattle.lard_base.specs.declared.parts.EndpointParts.{EndpointParts}
-use Rattle.lard_base.specs.declared.place.Place.{Place}
-use Rattle.lard_base.specs.declared.place.Place.TheVariants.{Client, Front, Node}
+use Rattle.lard_law_view.specs.Prelude.{Ask, Client, ClientBlock, ClientRules, Completed, Conn, ControlBlock, EndpointParts, Final, FirstChoice, Front, FrontConn, FrontEnv, FrontPart, FrontRow, FrontRules, FrontTurn, IsNodeEnv, LaterChoice, MayRestOn, Move, Node, NodeEnv, NodeGets, NodePart, NodeRules, Place, Rec, Said, Seen, SegFault, Setting, Station, Stay, Turn, UntouchedRules, Work, ask_of, assigned_notes, came_for, client_begins, client_does, client_rule, come_progress, event_seen, front_admitted, front_asked, front_begun, front_does, front_ended, front_gets, front_rest, front_taken, front_timer, goes_on, hears_at, last_words, named_records, node_does, node_read, node_rule, on_segment, over_note, owner_step, packet_seen, placed, read_progress, reads_first, serving_settled, stands, tagged, taken_sent, tale_at, tombstone, with_work, without, work_of}
+use Rattle.lard_law_view.proofs.EachClient.{client_seen, each-client, of-client}
 use Rattle.lard_base.specs.declared.place.TimerKind.TheVariants as kind
 use Rattle.lard_law_connections.proofs.BytesLaw.{IsHead, OwnerServes, ServesOwn}
 use Rattle.lard_law_connections.proofs.BytesFrontMoves.{IsBefore}
+use Rattle.lard_law_view.proofs.NodeHeads.{heads-of}
 use Rattle.lard_law_connections.specs.Places.{Owning, Sits, StageSits, owning}
-use Rattle.lard_law_connections.proofs.PlacesLoops.{batch-state, came-notes, goes-notes, reads-notes, settled-is, tagged-notes}
-use Rattle.lard_law_connections.proofs.PlacesNodeRules.{Begins, here-has}
+use Rattle.lard_law_connections.proofs.PlacesLoops.{came-notes, goes-notes, reads-notes, settled-is, tagged-notes}
+use Rattle.lard_law_connections.proofs.PlacesNodeRules.{Begins, begun-notes, begun_work, has-here, plain-more, took_by}
 use Rattle.lard_law_connections.proofs.PlacesRows.{IsPlain, plain-named}
 use Rattle.lard_law_connections.proofs.PlacesTurns.{IsPlaced}
-use Rattle.lard_law_view.specs.Carry.{MayRestOn, tale_at}
-use Rattle.lard_law_view.specs.View.{ClientRules, Conn, FrontRules, IsNodeEnv, Move, NodeRules, Setting, UntouchedRules, client_begins, client_does, front_does, named_records, node_does, packet_seen, event_seen, reads_first}
+use Rattle.lard_law_view.proofs.EachNode.{Answers, Aside, Brings, Queues, aside_said, aside_seen, each-node, node_goes}
 use Rattle.lard_law_view.proofs.Fine.{IsItsOwn}
 use Rattle.lard_law_view.proofs.Saying.{NotedAt}
-use Rattle.lard_client.specs.Control.{ClientBlock}
-use Rattle.lard_costs.specs.declared.later.LaterChoice.{LaterChoice}
-use Rattle.lard_dispatch.specs.declared.dispatch.Ask.{Ask}
 use Rattle.lard_dispatch.specs.declared.dispatch.First.TheVariants as first
-use Rattle.lard_endpoint.specs.declared.control.moving.Final.{Final}
-use Rattle.lard_endpoint.specs.Arriving.{on_segment}
-use Rattle.lard_endpoint.specs.Control.{ControlBlock}
-use Rattle.lard_rules.specs.declared.front.FrontTurn.{FrontTurn}
 use Rattle.lard_rules.specs.Front as front
-use Rattle.lard_rules.specs.Front.{FrontEnv, FrontPart, ask_of, assigned_notes, front_begun, front_admitted, front_asked, front_ended, front_gets, front_taken, front_timer, hears_at, over_note, placed, front_rest}
-use Rattle.lard_handoff_back.specs.Back.{awaits_ack, back_endpoint, offer_answer}
-use Rattle.lard_handoff_back.specs.declared.table.Adopt.{Adopt}
-use Rattle.lard_handoff_back.specs.declared.table.Adopt.TheVariants.{Again, New, Stale}
-use Rattle.lard_handoff_front.specs.declared.row.FrontConn.{FrontConn}
 use Rattle.lard_handoff_front.specs.declared.row.FrontConn.TheVariants as stage
-use Rattle.lard_handoff_front.specs.declared.row.FrontRow.{FrontRow}
-use Rattle.lard_handoff_front.specs.declared.table.OnEnded.TheVariants as ended
-use Rattle.lard_history.specs.Journal.{owner_step, request}
-use Rattle.lard_history.specs.Own.{Seen}
-use Rattle.lard_history.proofs.Each.{Each, Each-append}
-use Rattle.lard_journal.specs.declared.rec.Rec.{Rec}
+use Rattle.lard_history.proofs.Each.{Each}
 use Rattle.lard_journal.specs.declared.rec.Rec.TheVariants as rec
-use Rattle.lard_lateral.specs.Lateral.{is_from}
 use Rattle.lard_law_view.proofs.Notes.{same-number}
-use Rattle.lard_rules.specs.declared.stay.Stay.{Stay}
 use Rattle.lard_rules.specs.Node as node
-use Rattle.lard_rules.specs.Node.{NodePart, node_begins, both_of, come_by, node_heard_by, here, is_tag_awaited, node_acknowledged, offered_by, node_read_by, tagged_by, with_work, work_of}
-use Rattle.lard_rules.specs.Stay.{NodeEnv, Work, came_for, come_progress, goes_on, read_progress, reads_batch, tagged}
-use Rattle.lard_policy.specs.declared.first.FirstChoice.{FirstChoice}
-use Rattle.lard_resend.specs.Kept.{is_under, without}
-use Rattle.lard_rules.specs.declared.places.Station.{Station}
-use Rattle.lard_rules.specs.declared.places.Turn.{Turn}
-use Rattle.lard_rules.specs.Client.{client_aborts, client_gets, client_holds, client_shuts, client_takes, client_timer, client_writes}
-use Rattle.lard_rules.specs.Tombstone.{last_words, tombstone}
-use Rattle.lard_rules.specs.Loop.{state_of}
-use Rattle.lard_rules.specs.Serving.{serving_settled}
-use Rattle.lard_segment.specs.declared.fault.SegFault.{SegFault}
-use Rattle.lard_segment.specs.declared.segment.Dir.TheVariants.{ToClient}
-use Rattle.lard_segment.specs.Segment.{Said, decoded}
+use Rattle.lard_rules.proofs.NodeCases.{IsHereWith, IsInItsEpoch, KeptByNode, node-keeps}
 use Rattle.lard_rules.proofs.FrontCases.{KeptBySegment, IsInStage, heard_reading, segment-keeps, timer-keeps, taken-keeps, asked-keeps, ended-keeps, admitted-keeps}
 
 -- ---- notes
@@ -94,12 +60,6 @@ serves-own _ c o _ h e = tt
 plain-serve : (place : Place) (c : ℕ) (o : Option Place) (rs : List Rec) → Each (NotedAt place c) rs → Each IsPlain rs → o ≡ Some place → OwnerServes c o rs
 plain-serve place c o [] n p e = tt
 plain-serve place c o (r ∷ rs) n p e = (serves-own place c o r n.0 e, subst (λ (q : Option Place). OwnerServes c q rs) (sym (own-step c o r p.0)) (plain-serve place c o rs n.1 p.1 e))
-
-plain-more : (ns rs : List Rec) → Each IsPlain rs → Each IsPlain ns → Each IsPlain (ns ++ rs)
-plain-more ns rs plain h = Each-append IsPlain ns rs h plain
-
-begins-more : (r : Rec) (ns rs : List Rec) → Each IsPlain rs → Begins r ns → Begins r (ns ++ rs)
-begins-more r ns rs plain b = (b.0 ++ rs, ap (λ (l : List Rec). l ++ rs) b.1, Each-append IsPlain b.0 rs b.2 plain)
 
 -- ---- what a move owes
 
@@ -263,61 +223,43 @@ module _ (k : Setting) (x : Conn) (heads : List Seen) (quiet : Each IsHead heads
   goes-serves : (p : NodePart) (w : Work) → now ≡ Some (Node n) → Each IsPlain w.service.notes → Serves (with_work env p [] (goes_on env w))
   goes-serves p w e plain = work-serves p [] (goes_on env w) e (goes-notes (Each IsPlain) plain-more env w plain)
 
-  module _ (placed : IsPlaced x) where
-    abbrev Here : Option (ControlBlock × Stay) → Type 0
-    Here o = here env.epoch ours ≡ o
-
-    owns : (y : ControlBlock × Stay) → Here (Some y) → now ≡ Some (Node n)
-    owns y e = (here-has x placed n env.epoch y.0 y.1 e).owner
-
-    hears-serves : (r : Result Said SegFault) (o : Option (ControlBlock × Stay)) → Here o → Serves (node_heard_by env ours r o)
-    hears-serves (Err fault) o e = λ noted. tt
-    hears-serves (Ok s) None e = λ noted. tt
-    hears-serves (Ok s) (Some y) e = goes-serves ours (work_of (on_segment y.0 s).1 y.1) (owns y e) tt
-
-    tags-serves : (number : ℕ) (tags : List ℕ) (o : Option (ControlBlock × Stay)) → Here o → Serves (tagged_by env number tags ours o)
-    tags-serves number tags None e = λ noted. tt
-    tags-serves number tags (Some y) e = cond_both (is_tag_awaited env number tags ours y.1) (with_work env (record ours { kept = without kind.Ask 0 ours.kept }) [] (goes_on env (tagged env tags (work_of y.0 y.1)))) node.Drops Serves
-        (λ t. goes-serves (record ours { kept = without kind.Ask 0 ours.kept }) (tagged env tags (work_of y.0 y.1)) (owns y e) (tagged-notes (Each IsPlain) plain-more env tags (work_of y.0 y.1) tt))
-        (λ t noted. tt)
-
-    comes-serves : (from r : ℕ) (o : Option (ControlBlock × Stay)) → Here o → Serves (come_by env from r ours o)
-    comes-serves from r None e = λ noted. tt
-    comes-serves from r (Some y) e = cond_both (is_from from env.epoch (find (is_under kind.Fetch r) ours.fetches))
-        (with_work env (record ours { fetches = without kind.Fetch r ours.fetches }) [] (goes_on env (came_for (come_progress from) r (work_of y.0 y.1)))) node.Drops Serves
-        (λ t. goes-serves (record ours { fetches = without kind.Fetch r ours.fetches }) (came_for (come_progress from) r (work_of y.0 y.1)) (owns y e) (came-notes (Each IsPlain) plain-more (come_progress from) r (work_of y.0 y.1) tt))
-        (λ t noted. tt)
-
-    reads-serves : (r : ℕ) (o : Option (ControlBlock × Stay)) → Here o → Serves (node_read_by env r ours o)
-    reads-serves r None e = λ noted. tt
-    reads-serves r (Some y) e = goes-serves ours (came_for read_progress r (work_of y.0 y.1)) (owns y e) (came-notes (Each IsPlain) plain-more read_progress r (work_of y.0 y.1) tt)
-
   -- it takes a connection first, and then it serves
-  takes-serves : (rest : List Rec) → Each IsPlain rest → Each (NotedAt (Node n) x.c) rest → OwnerServes x.c now (rec.Took (Node env.n) env.serve.c (record { 0 = env.epoch }) ∷ rest)
+  takes-serves : (rest : List Rec) → Each IsPlain rest → Each (NotedAt (Node n) x.c) rest → OwnerServes x.c now (took_by env ∷ rest)
   takes-serves rest plain noted = (
     tt,
     subst (λ (b : Bool). OwnerServes x.c (cond b (Some (Node env.n)) now) rest) (sym (same-number env.serve.c x.c is.number))
         (plain-serve (Node n) x.c (Some (Node env.n)) rest noted plain (ap (λ (m : ℕ). Some (Node m)) is.node)),
   )
 
-  offers-serves : (parts : EndpointParts) (a : Adopt) → Serves (offered_by env parts ours a)
-  offers-serves parts New noted =
-      let took : Rec = rec.Took (Node env.n) env.serve.c (record { 0 = env.epoch }) in
-      let work : Work = goes_on env (state_of (reads_batch env true (node_begins env parts))) in
-      let all : Begins took work.service.notes =
-      goes-notes (Begins took) (begins-more took) env (state_of (reads_batch env true (node_begins env parts))) (batch-state (Begins took) (begins-more took) env true (node_begins env parts) refl ([], refl, tt)) in
-      let same : (serving_settled env.serve work.service).1.notes ≡ took ∷ all.0 = (settled-is env.serve work.service).notes ∙ all.1 in
-      let mine : Each (NotedAt (Node n) x.c) (named_records (took ∷ all.0)) = subst (λ (l : List Rec). Each (NotedAt (Node n) x.c) (named_records l)) same noted in
-      subst (λ (l : List Rec). OwnerServes x.c now (named_records l)) (sym same) (takes-serves (named_records all.0) (plain-named all.0 all.2) mine.1)
-  offers-serves parts Again noted = tt
-  offers-serves parts Stale noted = tt
+  begins-serves : (parts : EndpointParts) → Serves (with_work env ours (taken_sent env) (begun_work env parts))
+  begins-serves parts noted =
+      let all : Begins (took_by env) (serving_settled env.serve (begun_work env parts).service).1.notes = begun-notes env parts in
+      let mine : Each (NotedAt (Node n) x.c) (named_records (took_by env ∷ all.0)) = subst (λ (l : List Rec). Each (NotedAt (Node n) x.c) (named_records l)) all.1 noted in
+      subst (λ (l : List Rec). OwnerServes x.c now (named_records l)) (sym all.1) (takes-serves (named_records all.0) (plain-named all.0 all.2) mine.1)
 
-  acknowledged-serves : Serves (node_acknowledged env ours)
-  acknowledged-serves = cond_both (awaits_ack env.epoch ours.row) (node.Does (record ours { row = node.gone ours.row; kept = without kind.Ended 0 ours.kept }, node.node_saying [])) node.Drops Serves (λ t noted. tt) (λ t noted. tt)
+  module _ (placed : IsPlaced x) where
+    owns : (b : ControlBlock) (s : Stay) → IsHereWith env.epoch ours b s → now ≡ Some (Node n)
+    owns b s at = (has-here x placed n env.epoch b s at).owner
 
-  fires-serves : (o : Option (ControlBlock × Stay)) → Serves (node.node_fired_by env ours o)
-  fires-serves None noted = tt
-  fires-serves (Some y) noted = tt
+    rules_serve : KeptByNode env ours (λ g. Unit {0}) Serves
+    rules_serve = record {
+      drops = λ noted. tt;
+      hears = λ said b s m at. goes-serves ours (work_of (on_segment b said).1 s) (owns b s at) tt;
+      tags = λ number tags b s m at asked same count. goes-serves (record ours { kept = without kind.Ask 0 ours.kept }) (tagged env tags (work_of b s))
+          (owns b s at) (tagged-notes (Each IsPlain) plain-more env tags (work_of b s) tt);
+      comes = λ from r b s m at wanted. goes-serves (record ours { fetches = without kind.Fetch r ours.fetches })
+          (came_for (come_progress from) r (work_of b s)) (owns b s at) (came-notes (Each IsPlain) plain-more (come_progress from) r (work_of b s) tt);
+      reads = λ r path b s m at. goes-serves ours (came_for read_progress r (work_of b s)) (owns b s at)
+          (came-notes (Each IsPlain) plain-more read_progress r (work_of b s) tt);
+      begins = λ parts m new. begins-serves parts;
+      takes_again = λ parts m again noted. tt;
+      fires = λ b s m at noted. tt;
+      resends = λ m none noted. tt;
+      ends = λ m told noted. tt;
+    }
+
+    rule-serves : (g : NodeGets) → IsInItsEpoch env ours g → Serves (node_rule env ours g)
+    rule-serves g at = node-keeps env ours (λ g. Unit {0}) Serves rules_serve g at tt
 
   by-node : (d : node.NodeDeed) → Serves d → IsItsOwn x (node_does x n heads d) → Known x (node_does x n heads d)
   by-node d serves own = node-known d (serves (node-noted d own))
@@ -332,17 +274,13 @@ module _ (k : Setting) (x : Conn) (heads : List Seen) (quiet : Each IsHead heads
 
 module _ (k : Setting) where
   clients : ClientRules k Knows
-  clients = record {
-    opens = λ x isn iss wnd mss rule none may own. record { heads = (tt, (tt, tt)); serves = silent-serve x.c (tale_at x).owner (client_begins x isn iss wnd mss).said.notes (client-silent x.c x.c (client_begins x isn iss wnd mss).said.notes own.notes) };
-    gets = λ x s path there fits. client-knows x s (event_seen (event.Get x.c path)) (client_writes s.client (request path)) (tt, tt);
-    writes = λ x s bytes there fits. client-knows x s (event_seen (event.Write x.c bytes)) (client_writes s.client bytes) (tt, tt);
-    shuts = λ x s there. client-knows x s (event_seen (event.Shut x.c)) (client_shuts s.client) (tt, tt);
-    aborts = λ x s there. client-knows x s (event_seen (event.Abort x.c)) (client_aborts s.client) (tt, tt);
-    holds = λ x s there. client-knows x s (event_seen (event.Hold x.c)) (client_holds s.client) (tt, tt);
-    takes = λ x s there. client-knows x s (event_seen (event.Take x.c)) (client_takes s.client) (tt, tt);
-    fires = λ x s there. client-knows x s (event_seen (event.Timer (Client x.c) x.c)) (client_timer s.client) (tt, tt);
-    hears = λ x s from bytes there was. client-knows x s (packet_seen from (Client x.c) bytes) (client_gets s.client (decoded bytes x.c ToClient)) (tt, tt);
-  }
+  clients = each-client k Knows (record {
+    opens = λ x isn iss wnd mss rule none may own.
+        let notes = (client_begins x isn iss wnd mss).said.notes in
+        record { heads = (tt, (tt, tt)); serves = silent-serve x.c (tale_at x).owner notes (client-silent x.c x.c notes own.notes) };
+    does = λ x s g there comes. client-knows x s (client_seen x.c g) (client_rule x.c s.client g)
+        (of-client x.c (Each IsHead) (λ from bytes. (tt, tt)) (λ e. (tt, tt)) g);
+  })
 
   fronts : FrontRules k Knows
   fronts = record {
@@ -362,23 +300,24 @@ module _ (k : Setting) where
     };
   }
 
+  does-known : (x : Conn) (n epoch : ℕ) (env : NodeEnv) (heads : List Seen) (g : NodeGets) → IsNodeEnv k x.c n epoch env → IsInItsEpoch env (x.part.nodes n) g
+      → Each IsHead heads → Knows x (node_goes x n env heads g)
+  does-known x n epoch env heads (Completed r path) is at first may own =
+      by-job k x heads first n epoch env is r path (node_read env (x.part.nodes n) r)
+      (rule-serves k x heads first n epoch env is may.given (Completed r path) at) own
+  does-known x n epoch env heads g is at first may own = by-node k x heads first n epoch env is (node_rule env (x.part.nodes n) g)
+      (rule-serves k x heads first n epoch env is may.given g at) own
+
+  aside-known : (x : Conn) (n : ℕ) (a : Aside) → Known x (stands x (Node n) (aside_seen n a) (aside_said k n x.c a))
+  aside-known x n (Answers from epoch r path file bytes) = record { heads = (tt, tt); serves = tt }
+  aside-known x n (Queues from epoch r path file bytes) = record { heads = (tt, tt); serves = (tt, tt) }
+  aside-known x n (Brings from epoch r path) = record { heads = tt; serves = (tt, tt) }
+
   nodes : NodeRules k Knows
-  nodes = record {
-    offered = λ x n epoch env parts bytes is spells was may own. by-node k x (packet_seen Front (Node n) bytes) (tt, tt) n epoch env is _ (offers-serves k x (packet_seen Front (Node n) bytes) (tt, tt) n epoch env is parts (offer_answer env.epoch (x.part.nodes n).row)) own;
-    forwarded = λ x n epoch env segment bytes is spells was may own. by-node k x (packet_seen Front (Node n) bytes) (tt, tt) n epoch env is _
-        (hears-serves k x (packet_seen Front (Node n) bytes) (tt, tt) n epoch env is may.given _ (here env.epoch (x.part.nodes n)) refl) own;
-    tagged = λ x n epoch number tags env bytes is spells was may own. by-node k x (packet_seen Front (Node n) bytes) (tt, tt) n epoch env is _
-        (tags-serves k x (packet_seen Front (Node n) bytes) (tt, tt) n epoch env is may.given number tags (here env.epoch (x.part.nodes n)) refl) own;
-    content = λ x n from epoch r env file bytes is spells was may own. by-node k x (packet_seen (Node from) (Node n) bytes) (tt, tt) n epoch env is _
-        (comes-serves k x (packet_seen (Node from) (Node n) bytes) (tt, tt) n epoch env is may.given from r (here env.epoch (x.part.nodes n)) refl) own;
-    acknowledged = λ x n epoch env bytes is spells was may own. by-node k x (packet_seen Front (Node n) bytes) (tt, tt) n epoch env is _ (acknowledged-serves k x (packet_seen Front (Node n) bytes) (tt, tt) n epoch env is) own;
-    read = λ x n epoch r env path is may own. by-job k x [] tt n epoch env is r path _ (reads-serves k x [] tt n epoch env is may.given r (here env.epoch (x.part.nodes n)) refl) own;
-    fires = λ x s n env there is may own. by-node k x (event_seen (event.Timer (Node n) x.c)) (tt, tt) n _ env is _
-        (fires-serves k x (event_seen (event.Timer (Node n) x.c)) (tt, tt) n _ env is (both_of (back_endpoint (x.part.nodes n).row) (x.part.nodes n).stay)) own;
-    answers = λ x n from epoch r path file bytes there spells was may own. record { heads = (tt, tt); serves = tt };
-    queues = λ x n from epoch r path file bytes there spells was may own. record { heads = (tt, tt); serves = (tt, tt) };
-    brings = λ x n from epoch r path may own. record { heads = tt; serves = (tt, tt) };
-  }
+  nodes = each-node k Knows (record {
+    does = λ x n epoch env heads g is at comes. does-known x n epoch env heads g is at (heads-of IsHead (λ l. tt) (λ m c. tt) x n epoch heads g comes);
+    aside = λ x n a rest may own. aside-known x n a;
+  })
 
   pub known : UntouchedRules k Knows
   known = record { client = clients; front = fronts; node = nodes; ignores = λ x from to bytes was may own. record { heads = (tt, tt); serves = tt } }

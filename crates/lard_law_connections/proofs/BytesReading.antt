@@ -3,25 +3,15 @@ use Rattle.std.proofs.Common.{◌≡◌, ℕ, Bool, true, false, cond, ◌||◌,
 use Rattle.std.proofs.lemmas.Bool.{both_ways, cond_both, cond-false}
 use Rattle.std.proofs.lemmas.List.{take-append-drop}
 use Rattle.std.proofs.lemmas.List.Folds.{list_any-append}
-use Rattle.lard_answers.specs.Answers.{IsPrefix, closes_any, until_close, verdicts, verdicts_on}
+use Rattle.lard_law_view.specs.Prelude.{ControlBlock, Hears, IsPrefix, Received, Said, Stream, Verdict, awaited, batch_of, batch_pieces, begins_after, blocks, bytes_taken, bytes_used, closed_behind, closes, closes_any, consuming, discarding_on, ends, finishing, fresh_bytes, on_segment, until_close, verdicts, verdicts_on}
 use Rattle.lard_answers.proofs.Following.{until_close-behind}
 use Rattle.lard_answers.proofs.Growing.{IsPrefix-trans, until_close-cons, until_close-nil, verdicts-are, verdicts-grow}
-use Rattle.lard_block.specs.Blocks.{blocks}
 use Rattle.lard_block.proofs.Skips.{cuts-pairs}
 use Rattle.lard_law_connections.specs.BytesAgreement.{HasReadPending}
-use Rattle.lard_endpoint.specs.Arriving.{on_segment}
-use Rattle.lard_endpoint.specs.Control.{ControlBlock, consuming, discarding_on, finishing}
 use Rattle.lard_law_view.specs.Agreement as one
 use Rattle.lard_law_view.proofs.EndpointStreams.{IsBetween, same-finished, segment-takes}
 use Rattle.lard_law_view.proofs.ReadingBytes.{IsJudged, place, read-judged, read-split}
-use Rattle.lard_reader.specs.Batches.{batch_of, batch_pieces, bytes_used}
 use Rattle.lard_reader.proofs.Taken.{batch-open_cut, batch-verdicts}
-use Rattle.lard_recv.specs.Recv.{Received, awaited, begins_after, ends, fresh_bytes, bytes_taken}
-use Rattle.lard_request.specs.declared.verdict.Verdict.{Verdict}
-use Rattle.lard_request.specs.Verdict.{closes}
-use Rattle.lard_rules.specs.Serving.{closed_behind}
-use Rattle.lard_segment.specs.Segment.{Said}
-use Rattle.lard_law_view.specs.Truth.{Hears, Stream}
 
 -- ---- where nothing waits, it is as where a place answers at once
 

@@ -1,11 +1,6 @@
 -- The law of bytes in every run: of each state, and of each record.
 use Rattle.std.proofs.Common.{◌≡◌, ◌≤◌, ◌^◌, ℕ, false, List, [], Some, None, refl, ap, ◌∙◌, sym, subst}
-use Rattle.lard_answers.specs.Answers.{FilesAt}
-use Rattle.lard_base.specs.declared.config.Config.{Config}
-use Rattle.lard_base.specs.declared.place.Place.{Place}
-use Rattle.lard_base.specs.declared.place.Place.TheVariants.{Client, Front, Node}
-use Rattle.lard_rules.specs.declared.machine.Machine.{Machine}
-use Rattle.lard_rules.specs.Machine.{IsReached}
+use Rattle.lard_law_view.specs.Prelude.{Client, Config, Conn, EachMay, EachRow, FilesAt, Front, Guarded, IsGuardedLaw, IsReached, Machine, MayAccept, MayRestOn, MayTell, Move, Node, OfEach, Place, Rec, Seen, Setting, Stream, Tale, Talk, ToldTo, UntouchedRules, WhileUntouched, conn, conn_of, file_at, is_touched, own, plain, setting, tale_at, whose}
 use Rattle.lard_law_connections.specs.BytesAgreement.{IsTruthful}
 use Rattle.lard_law_connections.proofs.BytesLaw.{IsSeenTrue, IsTrueMove, StaysTruthful}
 use Rattle.lard_law_connections.specs.BytesRecords.{MayServeOwned}
@@ -19,24 +14,15 @@ use Rattle.lard_law_connections.proofs.BytesOwners.{Known, Knows, known}
 use Rattle.lard_law_connections.proofs.PlacesLaw.{owing}
 use Rattle.lard_law_connections.proofs.PlacesRuns.{each-placed}
 use Rattle.lard_law_connections.proofs.PlacesTurns.{IsPlaced, Owes}
-use Rattle.lard_law_view.specs.Carry.{Guarded, IsGuardedLaw, MayRestOn, OfEach, WhileUntouched, setting, tale_at}
-use Rattle.lard_law_view.specs.View.{Conn, Move, Setting, UntouchedRules, conn}
 use Rattle.lard_law_view.proofs.Carried.{carried}
 use Rattle.lard_law_view.proofs.Fine.{IsFine, IsItsOwn, fine}
 use Rattle.lard_law_view.proofs.Guarded.{guarded-law, untouched-both, untouched-weaker}
 use Rattle.lard_law_view.proofs.InSteps.{carried-records}
-use Rattle.lard_files.specs.Files.{file_at}
-use Rattle.lard_history.specs.Journal.{Tale, is_touched}
-use Rattle.lard_history.specs.Laws.{EachMay, MayTell, ToldTo}
-use Rattle.lard_history.specs.Own.{EachRow, Seen, conn_of, own, plain, whose}
 use Rattle.lard_history.proofs.Lifting.{tale-own}
 use Rattle.lard_history.proofs.Tales.{touched-tale}
-use Rattle.lard_journal.specs.declared.rec.Rec.{Rec}
 use Rattle.lard_journal.specs.declared.rec.Rec.TheVariants as rec
-use Rattle.lard_law_view.specs.Truthful.{MayAccept, Talk}
 use Rattle.lard_law_view.proofs.Moments.{at_every_moment}
 use Rattle.lard_law_view.proofs.RecordBytes.{accepts-nobody, tells-nobody}
-use Rattle.lard_law_view.specs.Truth.{Stream}
 
 -- ---- each rule keeps it
 

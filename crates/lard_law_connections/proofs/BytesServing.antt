@@ -4,8 +4,7 @@ use Rattle.std.specs.List.{concat, list_any}
 use Rattle.std.proofs.lemmas.Bool.{and_parts, both_ways, cond_both, ltb-false, not-true}
 use Rattle.std.proofs.lemmas.List.{map-append}
 use Rattle.std.proofs.lemmas.List.Folds.{concat-append, list_any-append}
-use Rattle.lard_answers.specs.Answers.{FilesAt, IsPrefix, answer, answer_code, verdicts}
-use Rattle.lard_base.specs.declared.place.Via.{Via}
+use Rattle.lard_law_view.specs.Prelude.{ControlBlock, FilesAt, GoesOn, IsPrefix, Rec, SaysAnswers, ServeEnv, Service, Stream, Tale, TellsOf, Verdict, Via, answer, answer_code, answered, bytes_served_in, closed_behind, closes, consuming, discarding_on, ended_at_fin, finishing, is_reset_record, may_read, passed_over, queued, queueing, served_in, serving_consumed, told_on, verdicts}
 use Rattle.lard_law_connections.specs.BytesAgreement.{HasReadPending}
 use Rattle.lard_law_connections.specs.BytesRecords.{IsWay}
 use Rattle.lard_law_connections.specs.BytesTurning.{AnswersAfter, CountsResponses, IsNoteOf, IsReading, TurnServes}
@@ -13,19 +12,10 @@ use Rattle.lard_law_connections.proofs.BytesNext.{answers-next, mute-answers, re
 use Rattle.lard_law_connections.proofs.BytesReading.{IsFirst, first-fronts, first-read}
 use Rattle.lard_law_connections.proofs.BytesWide.{wide-half}
 use Rattle.lard_law_view.specs.Carry.{TellsBy}
-use Rattle.lard_endpoint.specs.Control.{ControlBlock, consuming, discarding_on, finishing, queueing}
-use Rattle.lard_history.specs.Journal.{Tale, told_on}
 use Rattle.lard_history.proofs.Each.{Each, Each-append}
-use Rattle.lard_journal.specs.declared.rec.Rec.{Rec}
 use Rattle.lard_journal.specs.declared.rec.Rec.TheVariants as rec
-use Rattle.lard_law_view.specs.Agreement.{SaysAnswers}
-use Rattle.lard_law_view.specs.Keeping.{TellsOf, is_reset_record, served_in, bytes_served_in}
 use Rattle.lard_law_view.proofs.EndpointStreams.{IsBetween, Onward, between-consumed, between-discarded, onward-finished, onward-queued}
-use Rattle.lard_request.specs.declared.verdict.Verdict.{Verdict}
-use Rattle.lard_request.specs.Verdict.{closes}
-use Rattle.lard_rules.specs.Serving.{ServeEnv, Service, answered, closed_behind, serving_consumed, ended_at_fin, may_read, passed_over, queued}
 use Rattle.lard_rules.proofs.Wide.{closed-wide}
-use Rattle.lard_law_view.specs.Truth.{GoesOn, Stream}
 use Rattle.lard_law_view.proofs.RowLists.{TellsBy-append}
 use Rattle.lard_law_view.proofs.Growth.{goes_on-same}
 

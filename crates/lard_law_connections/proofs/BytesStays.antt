@@ -2,9 +2,7 @@
 use Rattle.std.proofs.Common.{Bool, List, None, Ok, Option, Some, [], ap, append-nil, append_assoc, arith, false, inl, inr, refl, subst, sym, true, ℕ, ◌++◌, ◌-◌, ◌==◌, ◌||◌, ◌∙◌, ◌∷◌, ◌≡◌, ◌⊎◌}
 use Rattle.std.specs.List.{find, list_any}
 use Rattle.std.proofs.lemmas.Bool.{cond_both}
-use Rattle.lard_base.specs.declared.limits.TheConstants.{RECEIVE_WINDOW}
-use Rattle.lard_base.specs.declared.parts.EndpointParts.{EndpointParts}
-use Rattle.lard_base.specs.declared.place.Place.{Place}
+use Rattle.lard_law_view.specs.Prelude.{Adopt, Asked, BackConn, BackRow, ControlBlock, Ending, EndpointParts, IsWord, NodeDeed, NodeEnv, NodePart, NodeTurn, Place, RECEIVE_WINDOW, Said, SaysAnswers, Stay, Stream, Turn, Verdict, Want, Work, adopted, after_timer, again_sent, asked_sent, back_endpoint, back_held, both_of, came_for, come_by, come_progress, ended_sent, goes_on, here, is_from, is_reset_record, is_tag_awaited, is_under, kept_after, may_freeze, node_begins, node_fired, node_fired_by, node_heard_by, node_read_by, offer_answer, offered_by, on_segment, parts_of, read_progress, reads_batch, restored, resumed, serving, serving_ready_of, serving_settled, spoken, state_of, staying, tagged, tagged_by, taken_sent, timed, turn_by, wants_sent, with_work, without, work_of}
 use Rattle.lard_base.specs.declared.place.Place.TheVariants as place
 use Rattle.lard_base.specs.declared.place.TimerKind.TheVariants as kind
 use Rattle.lard_law_connections.specs.BytesAgreement.{AreOnTheWay, BackAgrees, EndAgreesPending, FrontHolds, HoldsItPending, NodeAgrees, RowAgrees, StayAgrees, StayComesOn}
@@ -15,43 +13,16 @@ use Rattle.lard_law_connections.proofs.BytesHolding.{begins-so, fired-ends, hear
 use Rattle.lard_law_connections.proofs.BytesServing.{MayGo, So, go-on}
 use Rattle.lard_law_connections.proofs.BytesWorking.{Right, Works, came-so, first-so, goes-so, tagged-so, verdicts_of}
 use Rattle.lard_law_connections.proofs.BytesWays.{batch-right, came-right, come_progress-on, goes-right, read_progress-on, tagged-right}
-use Rattle.lard_endpoint.specs.Arriving.{on_segment}
-use Rattle.lard_endpoint.specs.Control.{ControlBlock}
-use Rattle.lard_endpoint.specs.Leaving.{after_timer, timed}
-use Rattle.lard_endpoint.specs.Moving.{adopted, may_freeze, parts_of}
 use Rattle.lard_endpoint.proofs.Adoption.{Stands, frozen_stands}
-use Rattle.lard_handoff_back.specs.declared.row.BackConn.{BackConn}
 use Rattle.lard_handoff_back.specs.declared.row.BackConn.TheVariants as back
-use Rattle.lard_handoff_back.specs.declared.row.BackRow.{BackRow}
-use Rattle.lard_handoff_back.specs.declared.table.Adopt.{Adopt}
 use Rattle.lard_handoff_back.specs.declared.table.Adopt.TheVariants.{New, Again, Stale}
-use Rattle.lard_handoff_back.specs.Back.{back_endpoint, offer_answer, staying}
-use Rattle.lard_handoff_back.specs.Row.{back_held}
 use Rattle.lard_journal.specs.declared.rec.Rec.TheVariants as rec
-use Rattle.lard_lateral.specs.Lateral.{is_from}
-use Rattle.lard_law_view.specs.Agreement.{IsWord, SaysAnswers}
-use Rattle.lard_law_view.specs.Keeping.{is_reset_record}
-use Rattle.lard_rules.specs.declared.node.NodeTurn.{NodeTurn}
-use Rattle.lard_rules.specs.declared.stay.Asked.{Asked}
-use Rattle.lard_rules.specs.declared.stay.Stay.{Stay}
-use Rattle.lard_rules.specs.declared.stay.Want.{Want}
 use Rattle.lard_message.specs.declared.message.Body.TheVariants as body
 use Rattle.lard_history.proofs.Each.{Each, Each-append}
 use Rattle.lard_law_connections.specs.Places.{IsDecided}
-use Rattle.lard_rules.specs.Node.{NodeDeed, Drops, NodePart, again_sent, asked_sent, node_begins, both_of, come_by, ended_sent, node_fired, node_fired_by, node_heard_by, here, is_tag_awaited, kept_after, node_offered, offered_by, node_read_by, node_rests, tagged_by, taken_sent, turn_by, wants_sent, with_work, work_of}
+use Rattle.lard_rules.specs.Node.{Drops}
 use Rattle.lard_rules.specs.Node as node
-use Rattle.lard_rules.specs.Stay.{NodeEnv, Work, came_for, come_progress, goes_on, read_progress, reads_batch, tagged}
-use Rattle.lard_recv.specs.Recv.{restored}
-use Rattle.lard_request.specs.declared.verdict.Verdict.{Verdict}
-use Rattle.lard_resend.specs.Kept.{is_under, without}
-use Rattle.lard_rules.specs.declared.places.Ending.{Ending}
 use Rattle.lard_rules.specs.declared.places.Ending.TheVariants as ending
-use Rattle.lard_rules.specs.declared.places.Turn.{Turn}
-use Rattle.lard_rules.specs.Loop.{state_of}
-use Rattle.lard_rules.specs.Serving.{serving_ready_of, serving, serving_settled, spoken}
-use Rattle.lard_segment.specs.Segment.{Said}
-use Rattle.lard_send.specs.Send.{resumed}
-use Rattle.lard_law_view.specs.Truth.{Stream}
 
 module _ (env : NodeEnv) (w out : Stream) (vs : List Verdict) (was_reset : Bool) where
   abbrev Turns : NodePart → NodePart × NodeTurn → Type 0

@@ -1,29 +1,20 @@
 -- What a move tells of its connection, list by list, is true.
 use Rattle.std.proofs.Common.{◌≡◌, ◌⊎◌, ℕ, Bool, true, false, List, [], ◌∷◌, ◌++◌, map, Some, inl, inr, sym, ap, ◌∙◌, subst, arith}
-use Rattle.lard_answers.specs.Answers.{FilesAt}
-use Rattle.lard_base.specs.declared.place.Place.{Place}
-use Rattle.lard_base.specs.declared.place.Place.TheVariants.{Client, Front, Node}
-use Rattle.lard_law_connections.proofs.BytesLaw.{IsHead, IsSeenTrue, OwnerServes}
+use Rattle.lard_law_view.specs.Prelude.{AreClientNotes, AreReplies, Client, EachRow, FilesAt, Front, GoesBetween, IsMachine, MayTell, Node, Place, Rec, SaysAnswers, Seen, Stream, Tale, Verdict, fin_sent, owner, served_in, tale, tale_step, told_on}
+use Rattle.lard_law_connections.proofs.BytesLaw.{IsHead, IsSeenTrue, OwnerServes, heads-stand}
 use Rattle.lard_law_connections.specs.BytesRecords.{IsOwnedTrueAfter, MayServeOwned}
 use Rattle.lard_law_connections.specs.BytesTurning.{AnswersAfter, IsNoteOf}
 use Rattle.lard_law_view.specs.Carry.{TellsBy}
-use Rattle.lard_law_view.specs.View.{GoesBetween, IsMachine, sending}
+use Rattle.lard_law_view.specs.View.{sending}
 use Rattle.lard_law_view.proofs.Saying.{AllBetween, AreMessages, GaveAt}
 use Rattle.lard_law_view.proofs.Timers.{IsTimerAt}
-use Rattle.lard_history.specs.Journal.{Tale, fin_sent, owner, tale, tale_step, told_on}
-use Rattle.lard_history.specs.Laws.{MayTell}
-use Rattle.lard_history.specs.Own.{Came, EachRow, Row, Seen}
 use Rattle.lard_history.proofs.Each.{Each}
 use Rattle.lard_history.proofs.Tales.{owner-tale}
-use Rattle.lard_journal.specs.declared.rec.Rec.{Rec}
 use Rattle.lard_journal.specs.declared.rec.Rec.TheVariants as rec
-use Rattle.lard_law_view.specs.Agreement.{AreReplies, SaysAnswers}
-use Rattle.lard_law_view.specs.Keeping.{AreClientNotes, served_in}
 use Rattle.lard_law_view.specs.Truthful as old
 use Rattle.lard_law_view.proofs.Segments.{Moment, moment-on, told-one}
 use Rattle.lard_law_view.proofs.Agreeing.{not-ended}
-use Rattle.lard_request.specs.declared.verdict.Verdict.{Verdict}
-use Rattle.lard_law_view.specs.Truth.{Stream}
+use Rattle.lard_law_view.proofs.OfKinds.{each-tells, of-gift, of-timer}
 
 module _ (files : FilesAt) (c : ℕ) where
   abbrev pub Tells : Tale → List Rec → Type 0
@@ -32,28 +23,14 @@ module _ (files : FilesAt) (c : ℕ) where
   -- ---- heads, timers, what is given up, messages
 
   pub heads-true : (past heads : List Seen) → Each IsHead heads → EachRow (IsSeenTrue files c) past heads
-  heads-true past [] h = tt
-  heads-true past (Came l ∷ ss) h = heads-true (past ++ Came l ∷ []) ss h.1
-  heads-true past (Row (rec.Event i e) ∷ ss) h = ((λ J is. (tt, tt, tt)), heads-true (past ++ Row (rec.Event i e) ∷ []) ss h.1)
-  heads-true past (Row (rec.Opened d isn iss wnd mss) ∷ ss) h = ((λ J is. (tt, tt, tt)), heads-true (past ++ Row (rec.Opened d isn iss wnd mss) ∷ []) ss h.1)
-  heads-true past (Row _ ∷ ss) h = absurd h.0
+  heads-true = heads-stand (IsSeenTrue files c) (λ past i e J is. (tt, tt, tt)) (λ past d isn iss wnd mss J is. (tt, tt, tt))
 
   pub timers-true : (place : Place) (d : ℕ) (t : Tale) (rs : List Rec) → Each (IsTimerAt place d) rs → Tells t rs
-  timers-true place d t [] h = tt
-  timers-true place d t (rec.Armed p e kind ∷ rs) h = ((λ J is. (tt, tt, tt)), timers-true place d (tale_step c t (rec.Armed p e kind)) rs h.1)
-  timers-true place d t (rec.Cleared p e kind ∷ rs) h = ((λ J is. (tt, tt, tt)), timers-true place d (tale_step c t (rec.Cleared p e kind)) rs h.1)
-  timers-true place d t (_ ∷ rs) h = absurd h.0
-
-  gave-may : (place : Place) (d : ℕ) (t : Tale) (r : Rec) → GaveAt place d r → IsOwnedTrueAfter files c t r
-  gave-may Front d t (rec.Gave p e epoch) h = λ J is. (tt, tt, tt)
-  gave-may (Node n) d t (rec.Gave p e epoch) h = λ J is. (tt, tt, tt)
-  gave-may (Client k) d t r h = absurd h
-  gave-may Front d t _ h = absurd h
-  gave-may (Node n) d t _ h = absurd h
+  timers-true place d = each-tells (IsTimerAt place d) (IsOwnedTrueAfter files c)
+      (λ t. of-timer (IsOwnedTrueAfter files c t) (λ p e kind. ((λ J is. (tt, tt, tt)), (λ J is. (tt, tt, tt)))) place d) c
 
   pub gave-true : (place : Place) (d : ℕ) (t : Tale) (rs : List Rec) → Each (GaveAt place d) rs → Tells t rs
-  gave-true place d t [] h = tt
-  gave-true place d t (r ∷ rs) h = (gave-may place d t r h.0, gave-true place d (tale_step c t r) rs h.1)
+  gave-true place d = each-tells (GaveAt place d) (IsOwnedTrueAfter files c) (λ t. of-gift (IsOwnedTrueAfter files c t) (λ p e epoch J is. (tt, tt, tt)) place d) c
 
   -- a message to another machine tells a client nothing
   message-may : (t : Tale) (from to : Place) (bytes : List ℕ) → IsMachine to → IsOwnedTrueAfter files c t (rec.Sent 0 from to bytes)

@@ -1,24 +1,18 @@
 -- What a move tells of the bytes of its connection.
 use Rattle.std.proofs.Common.{◌≡◌, ◌+◌, ◌||◌, ℕ, Bool, true, false, cond, List, [], ◌∷◌, map, length, take, Option, Some, arith, refl, ap, ◌∙◌, sym, append-nil}
 use Rattle.std.specs.List.{fold, list_any}
-use Rattle.lard_base.specs.declared.place.Place.{Place}
-use Rattle.lard_base.specs.declared.place.Place.TheVariants.{Client, Front, Node}
+use Rattle.lard_law_view.specs.Prelude.{Came, Conn, Move, Numbers, Place, Rec, Row, Seen, Stream, Tale, Talk, bytes_served_in, grown, is_reset_record, named_records, seen_step, served_in, tale_at, tale_step, told_on}
 use Rattle.lard_law_connections.specs.BytesAgreement.{TaleAgreesWithTalk}
 use Rattle.lard_law_connections.proofs.BytesLaw.{IsHead}
 use Rattle.lard_law_connections.specs.BytesTurning.{IsNoteOf}
-use Rattle.lard_law_view.specs.Carry.{tale_at}
-use Rattle.lard_law_view.specs.View.{Conn, Move, grown, named_records, sending}
+use Rattle.lard_law_view.specs.View.{sending}
 use Rattle.lard_law_view.proofs.Saying.{AreMessages, GaveAt}
 use Rattle.lard_law_view.proofs.Rows.{grown-tale, tale_before}
-use Rattle.lard_history.specs.Journal.{Numbers, Tale, tale_step, told_on}
-use Rattle.lard_history.specs.Own.{Came, Row, Seen, seen_step}
 use Rattle.lard_history.proofs.Each.{Each}
-use Rattle.lard_journal.specs.declared.rec.Rec.{Rec}
 use Rattle.lard_journal.specs.declared.rec.Rec.TheVariants as rec
-use Rattle.lard_law_view.specs.Keeping.{is_reset_record, served_in, bytes_served_in}
-use Rattle.lard_law_view.specs.Truthful.{Talk}
 use Rattle.lard_law_view.proofs.Notes.{Adds, adds-both, adds-none, or-false, same-number}
-use Rattle.lard_law_view.specs.Truth.{Stream}
+use Rattle.lard_law_view.proofs.OfKinds.{of-gift}
+use Rattle.lard_law_connections.proofs.PlacesRows.{each-named}
 
 -- ---- what is told of bytes
 
@@ -50,27 +44,14 @@ pub sends-bytes : (c : ℕ) (place : Place) (ss : List (Place × List ℕ)) (t :
 sends-bytes c place [] t = refl
 sends-bytes c place (s ∷ ss) t = sends-bytes c place ss (tale_step c t (sending place s))
 
-gave-step : (c d : ℕ) (place : Place) (r : Rec) (t : Tale) → GaveAt place d r → bytes_of (tale_step c t r) ≡ bytes_of t
-gave-step c d Front (rec.Gave p e epoch) t h = refl
-gave-step c d (Node n) (rec.Gave p e epoch) t h = refl
-gave-step c d (Client k) r t h = absurd h
-gave-step c d Front _ t h = absurd h
-gave-step c d (Node n) _ t h = absurd h
-
 gave-bytes : (c d : ℕ) (place : Place) (rs : List Rec) (t : Tale) → Each (GaveAt place d) rs → bytes_of (told_on c t rs) ≡ bytes_of t
 gave-bytes c d place [] t h = refl
-gave-bytes c d place (r ∷ rs) t h = gave-bytes c d place rs (tale_step c t r) h.1 ∙ gave-step c d place r t h.0
+gave-bytes c d place (r ∷ rs) t h = gave-bytes c d place rs (tale_step c t r) h.1 ∙ of-gift (λ q. bytes_of (tale_step c t q) ≡ bytes_of t) (λ p e epoch. refl) place d r h.0
 
 -- and no FIN
 pub gave-fin : (c d : ℕ) (place : Place) (rs : List Rec) (t : Tale) → Each (GaveAt place d) rs → (told_on c t rs).fin_sent ≡ t.fin_sent
 gave-fin c d place [] t h = refl
-gave-fin c d place (r ∷ rs) t h = gave-fin c d place rs (tale_step c t r) h.1 ∙ one place r h.0 where
-  one : (p : Place) (q : Rec) → GaveAt p d q → (tale_step c t q).fin_sent ≡ t.fin_sent
-  one Front (rec.Gave y e epoch) k = refl
-  one (Node n) (rec.Gave y e epoch) k = refl
-  one (Client n) q k = absurd k
-  one Front _ k = absurd k
-  one (Node n) _ k = absurd k
+gave-fin c d place (r ∷ rs) t h = gave-fin c d place rs (tale_step c t r) h.1 ∙ of-gift (λ q. (tale_step c t q).fin_sent ≡ t.fin_sent) (λ p e epoch. refl) place d r h.0
 
 -- nor does what is seen before the notes
 pub heads-fin : (c : ℕ) (heads : List Seen) (t : Tale) → Each IsHead heads → (fold (seen_step (tale_step c)) t heads).fin_sent ≡ t.fin_sent
@@ -121,37 +102,16 @@ place-notes c t (rec.Reset place d total ∷ rs) h =
       or-last : (b : Bool) → true ≡ (b || true)
       or-last true = refl
       or-last false = refl
-place-notes c t (rec.Took place d epoch ∷ rs) h = quiet t _ _ _ _ _ (adds-none t (tale_step c t (rec.Took place d epoch)) refl refl refl refl refl refl refl) (place-notes c (tale_step c t (rec.Took place d epoch)) rs h.1)
-place-notes c t (rec.Hit n path ∷ rs) h = quiet t _ _ _ _ _ (adds-none t (tale_step c t (rec.Hit n path)) refl refl refl refl refl refl refl) (place-notes c (tale_step c t (rec.Hit n path)) rs h.1)
-place-notes c t (rec.Queued n m d r path ∷ rs) h = quiet t _ _ _ _ _ (adds-none t (tale_step c t (rec.Queued n m d r path)) refl refl refl refl refl refl refl) (place-notes c (tale_step c t (rec.Queued n m d r path)) rs h.1)
-place-notes c t (rec.Read n m d r path ∷ rs) h = quiet t _ _ _ _ _ (adds-none t (tale_step c t (rec.Read n m d r path)) refl refl refl refl refl refl refl) (place-notes c (tale_step c t (rec.Read n m d r path)) rs h.1)
-place-notes c t (rec.Waits d ∷ rs) h = quiet t _ _ _ _ _ (adds-none t (tale_step c t (rec.Waits d)) refl refl refl refl refl refl refl) (place-notes c (tale_step c t (rec.Waits d)) rs h.1)
-place-notes c t (rec.Admitted d ∷ rs) h = quiet t _ _ _ _ _ (adds-none t (tale_step c t (rec.Admitted d)) refl refl refl refl refl refl refl) (place-notes c (tale_step c t (rec.Admitted d)) rs h.1)
-place-notes c t (rec.Released d ∷ rs) h = quiet t _ _ _ _ _ (adds-none t (tale_step c t (rec.Released d)) refl refl refl refl refl refl refl) (place-notes c (tale_step c t (rec.Released d)) rs h.1)
-place-notes c t (rec.AssignedFirst d r path n add remove ∷ rs) h =
-    quiet t _ _ _ _ _ (adds-none t (tale_step c t (rec.AssignedFirst d r path n add remove)) refl refl refl refl refl refl refl) (place-notes c (tale_step c t (rec.AssignedFirst d r path n add remove)) rs h.1)
-place-notes c t (rec.AssignedLater d r path n add size queue ∷ rs) h =
-    quiet t _ _ _ _ _ (adds-none t (tale_step c t (rec.AssignedLater d r path n add size queue)) refl refl refl refl refl refl refl) (place-notes c (tale_step c t (rec.AssignedLater d r path n add size queue)) rs h.1)
-place-notes c t (rec.BatchOver d ∷ rs) h = quiet t _ _ _ _ _ (adds-none t (tale_step c t (rec.BatchOver d)) refl refl refl refl refl refl refl) (place-notes c (tale_step c t (rec.BatchOver d)) rs h.1)
-place-notes c t (_ ∷ rs) h = absurd h.0
+place-notes c t (rec.Opened d isn iss wnd mss ∷ rs) h = absurd h.0
+place-notes c t (rec.Wrote d bytes ∷ rs) h = absurd h.0
+place-notes c t (rec.Accepted d bytes ∷ rs) h = absurd h.0
+place-notes c t (rec.Sent k from to bytes ∷ rs) h = absurd h.0
+place-notes c t (r ∷ rs) h = quiet t _ _ _ _ _ (adds-none t (tale_step c t r) refl refl refl refl refl refl refl) (place-notes c (tale_step c t r) rs h.1)
 
 -- ---- of a node's notes those count that name a connection
 
 pub named-each : (c : ℕ) (rs : List Rec) → Each (IsNoteOf c) rs → Each (IsNoteOf c) (named_records rs)
-named-each c [] h = tt
-named-each c (rec.Served place d r code size via ∷ rs) h = (h.0, named-each c rs h.1)
-named-each c (rec.Reset place d total ∷ rs) h = (h.0, named-each c rs h.1)
-named-each c (rec.Took place d epoch ∷ rs) h = (tt, named-each c rs h.1)
-named-each c (rec.Hit n path ∷ rs) h = named-each c rs h.1
-named-each c (rec.Queued n m d r path ∷ rs) h = (tt, named-each c rs h.1)
-named-each c (rec.Read n m d r path ∷ rs) h = (tt, named-each c rs h.1)
-named-each c (rec.Waits d ∷ rs) h = (tt, named-each c rs h.1)
-named-each c (rec.Admitted d ∷ rs) h = (tt, named-each c rs h.1)
-named-each c (rec.Released d ∷ rs) h = (tt, named-each c rs h.1)
-named-each c (rec.AssignedFirst d r path n add remove ∷ rs) h = (tt, named-each c rs h.1)
-named-each c (rec.AssignedLater d r path n add size queue ∷ rs) h = (tt, named-each c rs h.1)
-named-each c (rec.BatchOver d ∷ rs) h = (tt, named-each c rs h.1)
-named-each c (_ ∷ rs) h = absurd h.0
+named-each c rs h = each-named (IsNoteOf c) rs h
 
 -- what counts a record that names a connection, or nothing, counts the same of the named ones
 module _ {A : Type 0} (f : List Rec → A) (g : Rec → A → A) (more : (r : Rec) (rs : List Rec) → f (r ∷ rs) ≡ g r (f rs)) (none : (n : ℕ) (path : List ℕ) (a : A) → g (rec.Hit n path) a ≡ a) where

@@ -2,19 +2,12 @@
 -- content came.
 use Rattle.std.proofs.Common.{◌≡◌, ◌≢◌, ℕ, zero, suc, ◌+◌, ◌-◌, ◌==◌, Bool, nat_lt, List, [], ◌∷◌, Option, Some, None, refl, sym, ◌∙◌, subst}
 use Rattle.std.proofs.lemmas.Bool.{cond_both}
-use Rattle.lard_answers.specs.Answers.{FilesAt, good_path}
-use Rattle.lard_base.specs.declared.place.Via.{Via}
+use Rattle.lard_law_view.specs.Prelude.{Entry, FilesAt, NodeEnv, Progress, Verdict, Via, Work, answered, came_for, come_on, come_progress, entered, goes_on, good_path, left_by, progress_of, read_entry, read_progress, reads_batch, state_of, tagged}
 use Rattle.lard_base.specs.declared.place.Via.TheVariants as via
 use Rattle.lard_law_connections.specs.BytesAgreement.{AreOnTheWay, ComesOn}
 use Rattle.lard_law_connections.specs.BytesRecords.{IsWay}
 use Rattle.lard_history.proofs.Each.{Each-append}
-use Rattle.lard_rules.specs.declared.stay.Entry.{Entry}
-use Rattle.lard_rules.specs.declared.stay.Progress.{Progress}
 use Rattle.lard_rules.specs.declared.stay.Progress.TheVariants as progress
-use Rattle.lard_rules.specs.Stay.{NodeEnv, Work, came_for, come_on, come_progress, entered, goes_on, left_by, progress_of, reads_batch, read_entry, read_progress, tagged}
-use Rattle.lard_request.specs.declared.verdict.Verdict.{Verdict}
-use Rattle.lard_rules.specs.Loop.{state_of}
-use Rattle.lard_rules.specs.Serving.{answered}
 use Rattle.lard_rules.proofs.StayWalking.{KeptByGoing}
 use Rattle.lard_rules.proofs.StayKeeping.{KeptByStay, batch-keeps, goes-keep, EachFrom, tagged-keeps, by_going}
 

@@ -1,6 +1,6 @@
 -- An endpoint whose window fits a message, and its sending half.
 use Rattle.lard_law_connections.specs.BytesAgreement.{IsWide}
-use Rattle.lard_endpoint.specs.Control.{ControlBlock}
+use Rattle.lard_law_view.specs.Prelude.{ControlBlock}
 use Rattle.lard_rules.proofs.Wide.{IsWideHalf}
 
 pub half-wide : (b : ControlBlock) → IsWide b → IsWideHalf b.send

@@ -8,22 +8,11 @@ use Rattle.lard_law_connections.specs.BytesAgreement.{AreOnTheWay, ComesOn, HasR
 use Rattle.lard_law_connections.specs.BytesTurning.{IsNoteOf}
 use Rattle.lard_law_connections.proofs.BytesReading.{batch-read}
 use Rattle.lard_law_connections.proofs.BytesServing.{MayGo, So, answered-serves, consumed-serves, ended-serves, go-on, left_of, may-go, noted-serves}
-use Rattle.lard_endpoint.specs.Control.{consuming}
+use Rattle.lard_law_view.specs.Prelude.{Entry, NodeEnv, Progress, Rec, Service, Stream, Verdict, Via, Work, answered, batch_of, bytes_served_in, bytes_used, came_for, come_on, consuming, ended_at_fin, entered, goes_on, is_reset_record, left_by, may_read, noted, read_entry, reads_batch, served_in, serves_with, serving_consumed, state_of, tagged}
 use Rattle.lard_history.proofs.Each.{Each}
-use Rattle.lard_journal.specs.declared.rec.Rec.{Rec}
 use Rattle.lard_journal.specs.declared.rec.Rec.TheVariants as rec
-use Rattle.lard_law_view.specs.Keeping.{is_reset_record, served_in, bytes_served_in}
-use Rattle.lard_rules.specs.declared.stay.Entry.{Entry}
-use Rattle.lard_rules.specs.declared.stay.Progress.{Progress}
 use Rattle.lard_rules.specs.declared.stay.Progress.TheVariants as progress
-use Rattle.lard_rules.specs.Stay.{NodeEnv, Work, came_for, come_on, entered, goes_on, left_by, noted, reads_batch, read_entry, tagged, serves_with}
-use Rattle.lard_reader.specs.Batches.{batch_of, bytes_used}
-use Rattle.lard_request.specs.declared.verdict.Verdict.{Verdict}
-use Rattle.lard_rules.specs.Loop.{state_of}
-use Rattle.lard_rules.specs.Serving.{Service, answered, serving_consumed, ended_at_fin, may_read}
-use Rattle.lard_law_view.specs.Truth.{Stream}
 use Rattle.lard_rules.proofs.StayWalking.{KeptByGoing, KeptByReads, KeptByStarts, StepIn, both-going, goes-in, state-in, tagged-in, these-in}
-use Rattle.lard_base.specs.declared.place.Via.{Via}
 use Rattle.lard_law_connections.proofs.BytesWays.{going_right}
 
 abbrev pub verdicts_of : List Entry → List Verdict

@@ -4,18 +4,10 @@ use Rattle.std.proofs.lemmas.Bool.{cond_both}
 use Rattle.std.specs.Prelude.{slice_get}
 use Rattle.lard_base.specs.declared.place.Via.TheVariants as via
 use Rattle.lard_law_connections.specs.Jobs.{BatchReads, HasJob, ReadsBy, RowReads, StageReads, StayReads}
-use Rattle.lard_disk.specs.declared.disk.Job.{Job}
-use Rattle.lard_disk.specs.Jobs.{job_at, without_job}
-use Rattle.lard_handoff_back.specs.declared.row.BackConn.{BackConn}
+use Rattle.lard_law_view.specs.Prelude.{BackConn, BackRow, Entry, Has, Job, Progress, Stay, come_on, come_progress, job_at, read_progress, without_job}
 use Rattle.lard_handoff_back.specs.declared.row.BackConn.TheVariants as back
-use Rattle.lard_handoff_back.specs.declared.row.BackRow.{BackRow}
-use Rattle.lard_history.specs.Own.{Has}
 use Rattle.lard_history.proofs.Seeing.{has-before}
-use Rattle.lard_rules.specs.declared.stay.Entry.{Entry}
-use Rattle.lard_rules.specs.declared.stay.Progress.{Progress}
 use Rattle.lard_rules.specs.declared.stay.Progress.TheVariants as progress
-use Rattle.lard_rules.specs.declared.stay.Stay.{Stay}
-use Rattle.lard_rules.specs.Stay.{come_on, come_progress, read_progress}
 
 -- ---- of other numbers
 

@@ -4,32 +4,20 @@ use Rattle.std.proofs.lemmas.Bool.{and_parts}
 use Rattle.std.specs.FinMap.{get-empty}
 use Rattle.std.specs.Ordering.{nat_cmp}
 use Rattle.std.specs.Prelude.{slice_set}
-use Rattle.lard_base.specs.declared.event.Event.{Event}
-use Rattle.lard_rules.specs.declared.machine.Machine.{Machine}
-use Rattle.lard_rules.specs.Machine.{machine_step, node_at, node_setting, machine_told}
+use Rattle.lard_law_view.specs.Prelude.{BackRow, ControlBlock, Entry, Event, Has, Job, Machine, NodePart, NodeState, Stay, conn, kept_at, machine_step, machine_told, no_stays, node_at, node_part, node_setting, node_step, part_of}
 use Rattle.lard_law_connections.specs.Jobs.{BatchReads, HasJob, NodeReads, PartReads, ReadsBy, RowReads, StageReads, StayReads}
 use Rattle.lard_law_connections.specs.JobsLaws.{ReadsAreJobs, ReadsAreQueued}
 use Rattle.lard_law_connections.proofs.JobsNodes.{step-reads}
 use Rattle.lard_law_connections.specs.StoresLaws.{job_told}
 use Rattle.lard_counts.specs.Stores.{Waiting, jobs}
-use Rattle.lard_law_connections.proofs.StoresForms.{NodeStep, NodesStay, step-form}
+use Rattle.lard_law_connections.proofs.Forms.{NodeStep, NodesStay, node-form}
 use Rattle.lard_law_connections.proofs.StoresStored.{jobs-told}
-use Rattle.lard_law_view.specs.View.{conn, kept_at, part_of}
 use Rattle.lard_law_view.proofs.Carried.{carried-keep}
 use Rattle.lard_law_view.proofs.Parts.{node-others, node-set}
 use Rattle.lard_law_view.proofs.Runs.{of-nodes}
-use Rattle.lard_disk.specs.declared.disk.Job.{Job}
-use Rattle.lard_endpoint.specs.Control.{ControlBlock}
 use Rattle.lard_handoff_back.specs.declared.row.BackConn.TheVariants as back
-use Rattle.lard_handoff_back.specs.declared.row.BackRow.{BackRow}
-use Rattle.lard_history.specs.Own.{Has}
 use Rattle.lard_history.proofs.Seeing.{by_number}
-use Rattle.lard_rules.specs.declared.node.NodeState.{NodeState}
-use Rattle.lard_rules.specs.declared.stay.Entry.{Entry}
 use Rattle.lard_rules.specs.declared.stay.Progress.TheVariants as progress
-use Rattle.lard_rules.specs.declared.stay.Stay.{Stay}
-use Rattle.lard_rules.specs.Node.{NodePart}
-use Rattle.lard_rules.specs.NodePlace.{no_stays, node_part, node_step}
 
 abbrev AllRead : Machine → Type 0
 AllRead m = (n : ℕ) (s : NodeState) → node_at m.nodes n ≡ Some s → NodeReads n s
@@ -54,7 +42,7 @@ module _ (m : Machine) (e : Event) (read : AllRead m) where
   step-read n is = ⊎_elim
       (λ (stay : NodesStay m e n). λ i s at. read i s (ap (λ (nodes : List NodeState). node_at nodes i) (sym stay.0) ∙ at))
       (λ (step : NodeStep m e n). node-reads n step)
-      (step-form m e n is)
+      (node-form m n e is)
 
 -- ---- every state
 

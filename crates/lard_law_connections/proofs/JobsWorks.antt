@@ -1,20 +1,14 @@
 -- While a stay goes on, what is read of its batch is a job of the disk or one that the turn gives it.
-use Rattle.std.proofs.Common.{◌≡◌, ℕ, ◌+◌, nat_lt, Bool, true, false, List, [], ◌∷◌, ◌++◌, length, Option, Some, None, inl, refl, sym, subst, append_assoc, append-nil}
-use Rattle.std.proofs.lemmas.Bool.{cond_both}
-use Rattle.lard_answers.specs.Answers.{answer, good_path}
-use Rattle.lard_base.specs.declared.place.Via.{Via}
+use Rattle.std.proofs.Common.{◌≡◌, ℕ, ◌+◌, Bool, List, [], ◌∷◌, ◌++◌, Option, Some, None, inl, refl, sym, subst, append_assoc, append-nil}
+use Rattle.lard_law_view.specs.Prelude.{Entry, Job, NodeEnv, Service, Via, Work, answered, ended_at_fin, entered, goes_on, good_path, noted, own_job, progress_of, read_entry, reads_batch, serves_with, serving_consumed, state_of, tagged}
 use Rattle.lard_base.specs.declared.place.Via.TheVariants as via
 use Rattle.lard_law_connections.specs.Jobs.{BatchReads, HasJob, ReadsBy}
 use Rattle.lard_law_connections.proofs.JobsBatches.{by-more, job-before, reads-more, reads-push}
-use Rattle.lard_disk.specs.declared.disk.Job.{Job}
 use Rattle.lard_history.proofs.Seeing.{has-behind, same_number}
 use Rattle.lard_journal.specs.declared.rec.Rec.TheVariants as rec
-use Rattle.lard_rules.specs.declared.stay.Entry.{Entry}
 use Rattle.lard_rules.specs.declared.stay.Progress.TheVariants as progress
-use Rattle.lard_rules.specs.Stay.{NodeEnv, Work, entered, goes_on, noted, own_job, progress_of, read_entry, reads_batch, serves_with, tagged}
-use Rattle.lard_rules.specs.Loop.{state_of}
-use Rattle.lard_rules.specs.Serving.{Service, answered, serving_consumed, ended_at_fin, passed_over, queued}
 use Rattle.lard_rules.proofs.StayKeeping.{EachFrom, KeptByStay, batch-keeps, goes-keep, next_number, tagged-keeps}
+use Rattle.lard_rules.proofs.Endings.{answered-keeps}
 
 module _ (env : NodeEnv) (disk : List Job) where
   -- the disk has it, or is given it in this turn
@@ -46,9 +40,7 @@ module _ (env : NodeEnv) (disk : List Job) where
 
   answered-count : (way : Via) (e : Entry) (rest : List Entry) (w : Work) → BatchReads (Job_for w.jobs) (w.service.count + 1) (e ∷ rest) → Reads (serves_with (answered env.serve way e.verdict w.service) e rest w)
   answered-count way e rest w h =
-      let bytes = answer env.serve.files e.verdict in
-      let total = w.service.block.send.total + length bytes in
-      cond_both (nat_lt env.serve.stream total) (passed_over env.serve total w.service) (queued env.serve way e.verdict bytes w.service) (λ (s : Service). Reads (serves_with s e rest w)) (λ t. h) (λ t. h.1)
+      answered-keeps (λ (s : Service). Reads (serves_with s e rest w)) env.serve way e.verdict w.service (λ t. h) (λ t. h.1)
 
   none-read : (w : Work) → w.batch ≡ [] → Reads w
   none-read w none = subst (BatchReads (Job_for w.jobs) (w.service.count + 1)) (sym none) tt

@@ -2,21 +2,12 @@
 use Rattle.std.proofs.Common.{◌≡◌, ◌≤◌, ◌+◌, ◌==◌, ℕ, zero, suc, Bool, true, false, cond, not, List, [], ◌∷◌, ◌++◌, length, is_some, Option, Some, None, refl, ap, subst, arith}
 use Rattle.std.proofs.lemmas.Bool.{cond_both}
 use Rattle.std.specs.List.{AllByRecursion, find}
-use Rattle.lard_answers.specs.Answers.{FilesAt, good_path}
-use Rattle.lard_base.specs.declared.place.TimerKind.{TimerKind}
+use Rattle.lard_law_view.specs.Prelude.{AreInOrder, Entry, FilesAt, Kept, Progress, TimerKind, Verdict, and_path, anew, come_on, come_progress, good_path, is_from, is_under, named_path, named_paths, path_in, read_progress, without}
 use Rattle.lard_base.specs.declared.place.TimerKind.TheVariants as kind
-use Rattle.lard_lateral.specs.Lateral.{is_from}
 use Rattle.lard_base.specs.declared.place.Via.TheVariants as via
 use Rattle.lard_law_connections.specs.Kept.{IsFetchFromOther, contents_awaited, awaits_content}
-use Rattle.lard_rules.specs.declared.stay.Entry.{Entry}
-use Rattle.lard_rules.specs.declared.stay.Progress.{Progress}
 use Rattle.lard_rules.specs.declared.stay.Progress.TheVariants as progress
-use Rattle.lard_rules.specs.Node.{anew}
-use Rattle.lard_rules.specs.Stay.{and_path, come_on, come_progress, named_path, named_paths, path_in, read_progress}
-use Rattle.lard_request.specs.declared.verdict.Verdict.{Verdict}
 use Rattle.lard_request.specs.declared.verdict.Verdict.TheVariants as verdict
-use Rattle.lard_resend.specs.declared.kept.Kept.{Kept}
-use Rattle.lard_resend.specs.Kept.{AreInOrder, is_under, without}
 use Rattle.lard_resend.proofs.Lengths.{without-less}
 use Rattle.lard_resend.proofs.Ordered.{drop_all, drop_keeps, drops, keeps, put_all}
 

@@ -1,30 +1,12 @@
 -- What the front end does leaves of a connection what its stage awaits.
-use Rattle.std.proofs.Common.{subst, ◌≡◌, ◌+◌, ℕ, true, false, List, [], length, map, Option, Some, None, Result, Ok, Err, refl, ap, ◌∙◌}
-use Rattle.lard_answers.specs.Answers.{FilesAt}
+use Rattle.std.proofs.Common.{subst, ◌≡◌, ◌+◌, ℕ, true, false, List, [], length, map, Option, Some, None, refl, ap, ◌∙◌}
+use Rattle.lard_law_view.specs.Prelude.{Conn, ControlBlock, Ending, FilesAt, FrontConn, FrontDeed, FrontEnv, FrontGets, FrontPart, FrontRest, FrontRow, HasTarget, Said, Seen, front_does, front_fired, front_rest, front_rests, front_rule, grown, is_away, is_row_at, is_with, parts_of, serving_settled, spoken, without}
 use Rattle.lard_base.specs.declared.place.TimerKind.TheVariants as kind
 use Rattle.lard_law_connections.specs.Kept.{FrontKeeps, FrontRowKeeps, FrontStageKeeps, IsKeptByStage}
-use Rattle.lard_law_view.specs.View.{Conn, front_does, grown}
-use Rattle.lard_dispatch.specs.declared.dispatch.Ask.{Ask}
-use Rattle.lard_endpoint.specs.declared.control.moving.Final.{Final}
-use Rattle.lard_endpoint.specs.Control.{ControlBlock}
-use Rattle.lard_endpoint.specs.Moving.{parts_of}
-use Rattle.lard_rules.specs.declared.front.FrontRest.{FrontRest}
-use Rattle.lard_rules.specs.declared.front.FrontTurn.{FrontTurn}
-use Rattle.lard_rules.specs.Front.{FrontDeed, Drops, Says, Does, FrontEnv, FrontPart, front_fired, front_admitted, front_asked, front_ended, front_gets, front_taken, front_timer, is_row_at, is_with, front_rest, front_rests}
-use Rattle.lard_rules.specs.FrontSound.{HasTarget}
-use Rattle.lard_handoff_front.specs.declared.row.FrontConn.{FrontConn}
+use Rattle.lard_rules.specs.Front.{Drops, Says, Does}
 use Rattle.lard_handoff_front.specs.declared.row.FrontConn.TheVariants as stage
-use Rattle.lard_handoff_front.specs.declared.row.FrontRow.{FrontRow}
-use Rattle.lard_handoff_front.specs.Row.{is_away}
-use Rattle.lard_history.specs.Own.{Seen}
-use Rattle.lard_policy.specs.declared.first.FirstChoice.{FirstChoice}
-use Rattle.lard_resend.specs.Kept.{without}
-use Rattle.lard_rules.specs.declared.places.Ending.{Ending}
 use Rattle.lard_rules.specs.declared.places.Ending.TheVariants as ending
-use Rattle.lard_rules.specs.Serving.{serving_settled, spoken}
-use Rattle.lard_segment.specs.declared.fault.SegFault.{SegFault}
-use Rattle.lard_segment.specs.Segment.{Said}
-use Rattle.lard_rules.proofs.FrontCases.{KeptBySegment, IsInStage, of-stage, begun_row, begun_service, heard_service, waiting_service, segment-keeps, timer-keeps, taken-keeps, asked-keeps, ended-keeps, admitted-keeps}
+use Rattle.lard_rules.proofs.FrontCases.{IsAsGiven, IsInStage, KeptByFront, KeptBySegment, begun_row, begun_service, front-keeps, heard_service, of-stage, waiting_service}
 
 abbrev pub DeedKeeps : ℕ → FrontDeed → Type 0
 DeedKeeps c Drops = Unit {0}
@@ -76,25 +58,6 @@ module _ (env : FrontEnv) (p : FrontPart) (h : FrontKeeps env.serve.c p) where
     words = λ row last at. tt;
   }
 
-  pub gets-keep : (bytes : List ℕ) (r : Result Said SegFault) → Keeps (front_gets env p bytes r)
-  gets-keep bytes (Err fault) = tt
-  gets-keep bytes (Ok s) = segment-keeps env p bytes s (λ w o. Unit {0}) Keeps (by-segment bytes s)
-
-  -- ---- the timer
-
-  pub timer-keep : Keeps (front_timer env p)
-  timer-keep = timer-keeps env p Keeps (record {
-    drops = tt;
-    holds = λ row b at. held-rests env.serve.c p row (front_rest p.rest) (none-held row b at) (front_fired env (front_rest p.rest) b).0;
-    stays = λ row b at. waits-keeps row b at (front_fired env (front_rest p.rest) b).0;
-    resends = λ row n e at. tt;
-  })
-
-  -- ---- messages of nodes
-
-  pub taken-keep : (epoch : ℕ) → Keeps (front_taken p epoch)
-  taken-keep epoch = taken-keeps p Keeps tt epoch (λ row n e at same. let k = at-stage row (stage.Offering n e) at in (k.0, ap (without kind.Offer 0) k.1.1))
-
   -- what was done is known still
   rest-stage : (n epoch : ℕ) (rest : FrontRest) → (front_rest p.rest).count ≡ rest.count → (st : FrontConn) → is_with n epoch st ≡ true → FrontStageKeeps env.serve.c p st → FrontStageKeeps env.serve.c (record p { rest = Some rest }) st
   rest-stage n epoch rest same (stage.Held b) at k = (tt, k.1)
@@ -108,23 +71,34 @@ module _ (env : FrontEnv) (p : FrontPart) (h : FrontKeeps env.serve.c p) where
   rest-row n epoch rest same None at k = k
   rest-row n epoch rest same (Some row) at k = rest-stage n epoch rest same row.stage at k
 
-  pub asked-keep : (n epoch : ℕ) (ask : Ask) → Keeps (front_asked env p n epoch ask)
-  asked-keep n epoch ask = asked-keeps p Keeps tt env n epoch ask (λ rest found there same some. tt) (λ rest found there next.
-      rest-row n epoch (record rest { asks = ask.number; tag = map (λ x. x.node) (env.later ask).choices; assigned = rest.assigned + length (env.later ask).choices }) (ap (λ (o : Option FrontRest). (front_rest o).count) found) p.row there h)
-
   -- no Offer is kept of one that ended
   none-left : (epoch : ℕ) (st : FrontConn) → is_away epoch st ≡ true → FrontStageKeeps env.serve.c p st → without kind.Offer 0 p.kept ≡ []
   none-left epoch (stage.Offering node e) away k = ap (without kind.Offer 0) k.1.1
   none-left epoch (stage.Moved node e) away k = ap (without kind.Offer 0) k.1
   none-left epoch _ away k = let no : false ≡ true = away in absurd cc
 
-  pub ended-keep : (n epoch : ℕ) (last : Final) → Keeps (front_ended env p n epoch last)
-  ended-keep n epoch last = ended-keeps p Keeps tt env n epoch last (λ row found away again. tt) (λ row found away. none-left epoch row.stage away (at-stage row row.stage (found, refl)))
+  by-rules : KeptByFront env p (λ g. Unit {0}) (λ w o. Unit {0}) Keeps
+  by-rules = record {
+    drops = tt;
+    hears = λ bytes s m. by-segment bytes s;
+    fires = λ m. record {
+      drops = tt;
+      holds = λ row b at. held-rests env.serve.c p row (front_rest p.rest) (none-held row b at) (front_fired env (front_rest p.rest) b).0;
+      stays = λ row b at. waits-keeps row b at (front_fired env (front_rest p.rest) b).0;
+      resends = λ row n e at. tt;
+    };
+    takes = λ n epoch m row node e at same. let k = at-stage row (stage.Offering node e) at in (k.0, ap (without kind.Offer 0) k.1.1);
+    tags_again = λ n epoch ask m rest found there same some. tt;
+    assigns_next = λ n epoch ask m rest found there next.
+        rest-row n epoch (record rest { asks = ask.number; tag = map (λ x. x.node) (env.later ask).choices; assigned = rest.assigned + length (env.later ask).choices }) (ap (λ (o : Option FrontRest). (front_rest o).count) found) p.row there h;
+    ends_again = λ n epoch last m row found away again. tt;
+    ends = λ n epoch last m row found away. none-left epoch row.stage away (at-stage row row.stage (found, refl));
+    admits = λ choice row b path at target. (tt, (parts_of b (front_rest p.rest).count, refl, refl));
+  }
 
--- ---- the head of the line
-
-pub admitted-keep : (env : FrontEnv) (p : FrontPart) (choice : FirstChoice) (given : FrontPart × FrontTurn) → front_admitted env p choice ≡ Some given → FrontKeeps env.serve.c given.0
-admitted-keep env p choice = admitted-keeps env p choice (λ given. FrontKeeps env.serve.c given.0) (λ row b path at target. (tt, (parts_of b (front_rest p.rest).count, refl, refl)))
+  -- whatever comes
+  pub rule-keep : (g : FrontGets) → IsAsGiven env p g → Keeps (front_rule env p g)
+  rule-keep g is = front-keeps env p (λ g. Unit {0}) (λ w o. Unit {0}) Keeps by-rules g is tt
 
 -- ---- its move
 

@@ -1,14 +1,7 @@
 -- What a node has of a connection that is here in an epoch.
 use Rattle.std.proofs.Common.{◌≡◌, ◌==◌, ℕ, Bool, true, false, cond, Option, Some, None, refl, sym, ap, ◌∙◌, eqb-true, eq-eqb}
-use Rattle.lard_law_view.specs.View.{epoch_in}
-use Rattle.lard_endpoint.specs.Control.{ControlBlock}
-use Rattle.lard_handoff_back.specs.declared.row.BackConn.{BackConn}
+use Rattle.lard_law_view.specs.Prelude.{BackConn, BackRow, ControlBlock, NodePart, Stay, back_endpoint, back_held, both_of, epoch_in, here, staying}
 use Rattle.lard_handoff_back.specs.declared.row.BackConn.TheVariants as back
-use Rattle.lard_handoff_back.specs.declared.row.BackRow.{BackRow}
-use Rattle.lard_handoff_back.specs.Back.{back_endpoint, staying}
-use Rattle.lard_handoff_back.specs.Row.{back_held}
-use Rattle.lard_rules.specs.declared.stay.Stay.{Stay}
-use Rattle.lard_rules.specs.Node.{NodePart, both_of, here}
 
 -- where something is here in an epoch, this is kept of it
 pub record IsHere (e : ℕ) (p : NodePart) (b : ControlBlock) (s : Stay) : Type 0 where

@@ -2,41 +2,18 @@
 use Rattle.std.proofs.Common.{◌≡◌, ◌⊎◌, ◌-◌, ◌+◌, ◌==◌, ◌&&◌, nat_lt, ◌≤◌, ℕ, Bool, true, false, cond, List, [], ◌∷◌, length, is_some, Option, Some, None, Result, Ok, Err, refl, sym, ap, ◌∙◌, subst, arith, eqb-true, inl, inr}
 use Rattle.std.proofs.lemmas.Bool.{and_parts, cond_both}
 use Rattle.std.specs.List.{find}
-use Rattle.lard_answers.specs.Answers.{FilesAt}
-use Rattle.lard_base.specs.declared.parts.EndpointParts.{EndpointParts}
-use Rattle.lard_base.specs.declared.place.Place.{Place}
+use Rattle.lard_law_view.specs.Prelude.{Adopt, Asked, BackConn, BackRow, Conn, ControlBlock, Ending, EndpointParts, FilesAt, Kept, NodeDeed, NodeEnv, NodePart, Place, Progress, Said, Seen, SegFault, Stay, Work, after_timer, awaits_ack, back_endpoint, both_of, came_for, come_by, come_on, come_progress, epoch_in, goes_on, gone, grown, here, is_ended, is_from, is_gone, is_tag_awaited, is_under, kept_after, named_paths, node_acknowledged, node_begins, node_content, node_does, node_fired_by, node_forwarded, node_heard_by, node_offered, node_read, node_read_by, node_saying, node_tagged, node_timer, offer_answer, offered_by, on_segment, read_progress, reads_batch, reset_count, serving, serving_ready_of, serving_settled, spoken, state_of, tagged, tagged_by, taken_sent, timed, with_work, without, work_of}
 use Rattle.lard_base.specs.declared.place.TimerKind.TheVariants as kind
-use Rattle.lard_law_connections.specs.Kept.{AsksFor, contents_awaited, HereKeeps, IsKeptByStage, NodeKeepsMessages, NodeRowKeeps, NodeStageKeeps, StayKeeps}
+use Rattle.lard_law_connections.specs.Kept.{AsksFor, contents_awaited, IsKeptByStage, NodeKeepsMessages, NodeRowKeeps, NodeStageKeeps, StayKeeps}
 use Rattle.lard_law_connections.proofs.KeptBatches.{AreFetches, IsCalm, Loses, awaited-come, come-calm, come-loses, found-less, named-come, read-calm, read-loses, without-fetches}
 use Rattle.lard_law_connections.proofs.KeptStays.{Awaits, Follows, Starts, batch-state, goes-await, started-await, starts-all}
-use Rattle.lard_law_view.specs.View.{Conn, epoch_in, grown, node_does}
 use Rattle.lard_law_view.proofs.Parts.{put-each}
-use Rattle.lard_endpoint.specs.Arriving.{on_segment}
-use Rattle.lard_endpoint.specs.Control.{ControlBlock}
-use Rattle.lard_endpoint.specs.Leaving.{after_timer, timed}
-use Rattle.lard_handoff_back.specs.declared.row.BackConn.{BackConn}
 use Rattle.lard_handoff_back.specs.declared.row.BackConn.TheVariants as back
-use Rattle.lard_handoff_back.specs.declared.row.BackRow.{BackRow}
-use Rattle.lard_handoff_back.specs.declared.table.Adopt.{Adopt}
 use Rattle.lard_handoff_back.specs.declared.table.Adopt.TheVariants.{New, Again, Stale}
-use Rattle.lard_handoff_back.specs.Back.{awaits_ack, back_endpoint, offer_answer, staying}
-use Rattle.lard_handoff_back.specs.Row.{back_held, is_ended, is_gone}
-use Rattle.lard_history.specs.Own.{Seen}
 use Rattle.lard_history.proofs.Each.{Each}
-use Rattle.lard_lateral.specs.Lateral.{is_from}
-use Rattle.lard_rules.specs.declared.stay.Asked.{Asked}
-use Rattle.lard_rules.specs.declared.stay.Stay.{Stay}
-use Rattle.lard_rules.specs.Node.{NodeDeed, Drops, Says, Does, NodePart, node_begins, both_of, come_by, reset_count, node_fired_by, gone, node_heard_by, here, is_tag_awaited, kept_after, node_acknowledged, node_content, node_forwarded, node_offered, node_read, node_tagged, node_timer, offered_by, node_read_by, node_saying, tagged_by, taken_sent, with_work, work_of}
-use Rattle.lard_rules.specs.Stay.{NodeEnv, Work, came_for, come_on, come_progress, goes_on, named_paths, read_progress, reads_batch, tagged}
-use Rattle.lard_rules.specs.declared.stay.Progress.{Progress}
-use Rattle.lard_resend.specs.declared.kept.Kept.{Kept}
-use Rattle.lard_resend.specs.Kept.{is_under, without}
-use Rattle.lard_rules.specs.declared.places.Ending.{Ending}
+use Rattle.lard_rules.proofs.NodeCases.{IsHereWith, of-here, where-held, where-here}
+use Rattle.lard_rules.specs.Node.{Drops, Says, Does}
 use Rattle.lard_rules.specs.declared.places.Ending.TheVariants as ending
-use Rattle.lard_rules.specs.Loop.{state_of}
-use Rattle.lard_rules.specs.Serving.{serving_ready_of, serving, serving_settled, spoken}
-use Rattle.lard_segment.specs.declared.fault.SegFault.{SegFault}
-use Rattle.lard_segment.specs.Segment.{Said}
 
 -- what node n does for connection c leaves what its stage awaits
 abbrev pub DeedKeeps : (ℕ → Type 0) → FilesAt → ℕ → ℕ → NodeDeed → Type 0
@@ -115,23 +92,21 @@ module _ (N : ℕ → Type 0) (env : NodeEnv) where
     abbrev IsHere : ControlBlock × Stay → Type 0
     IsHere y = StayKeeps N env.serve.files env.serve.c env.epoch env.n p y.1
 
+    -- so it is of the stay that is here
+    stays : (b : ControlBlock) (s : Stay) → IsHereWith env.epoch p b s → IsHere (b, s)
+    stays b s at =
+        let k : StayKeeps N env.serve.files env.serve.c at.row.epoch.0 env.n (record p { stay = Some s }) s =
+        of-here (λ q o. NodeRowKeeps N env.serve.files env.serve.c env.n (record p { stay = o }) q) env.epoch p b s at h in
+        subst (λ (e : ℕ). StayKeeps N env.serve.files env.serve.c e env.n p s) at.epoch_is
+        (record { asks = k.asks; fetches = k.fetches; order = k.order; few = k.few })
+
     module _ (P : Option (ControlBlock × Stay) → Type 0) (none : P None) (some : (y : ControlBlock × Stay) → IsHere y → P (Some y)) where
-      of-stay : (e : ℕ) (b : ControlBlock) (o : Option Stay) → e ≡ env.epoch → HereKeeps N env.serve.files env.serve.c e env.n p o → P (both_of (Some b) o)
-      of-stay e b None same k = absurd k
-      of-stay e b (Some s) same k = some (b, s) (subst (λ (d : ℕ). StayKeeps N env.serve.files env.serve.c d env.n p s) same k)
+      at-epoch : P (here env.epoch p)
+      at-epoch = where-here env.epoch p P none (λ b s at. some (b, s) (stays b s at))
 
-      of-stage : (e : ℕ) (d : BackConn) → e ≡ env.epoch → StageKeeps e d → P (both_of (back_held d) p.stay)
-      of-stage e (back.Here b) same k = of-stay e b p.stay same k
-      of-stage e _ same k = none
-
-      at-epoch : (q : Option BackRow) → RowKeeps q → P (both_of (staying env.epoch q) p.stay)
-      at-epoch None k = none
-      at-epoch (Some row) k = cond_both (row.epoch.0 == env.epoch) (back_held row.stage) None (λ o. P (both_of o p.stay)) (λ t. of-stage row.epoch.0 row.stage (eqb-true row.epoch.0 env.epoch t) k) (λ t. none)
-
-      at-endpoint : env.epoch ≡ epoch_in p → (q : Option BackRow) → p.row ≡ q → RowKeeps q → P (both_of (back_endpoint q) p.stay)
-      at-endpoint at None found k = none
-      at-endpoint at (Some row) found k =
-          of-stage row.epoch.0 row.stage (sym (at ∙ ap (λ (o : Option BackRow). epoch_in (record p { row = o })) found)) k
+      at-endpoint : env.epoch ≡ epoch_in p → P (both_of (back_endpoint p.row) p.stay)
+      at-endpoint now = where-held env.epoch p P none (λ b s at. some (b, s) (stays b s at))
+          (λ row found. sym (now ∙ ap (λ (o : Option BackRow). epoch_in (record p { row = o })) found))
 
     -- what is so of what a rule does, where this was here
     abbrev pub Goes : Option (ControlBlock × Stay) → NodeDeed → Type 0
@@ -150,7 +125,8 @@ module _ (N : ℕ → Type 0) (env : NodeEnv) where
 
     pub forwarded-keeps : (r : Result Said SegFault) → Goes (here env.epoch p) (node_forwarded env p r)
     forwarded-keeps (Err fault) = (tt, dropped (here env.epoch p))
-    forwarded-keeps (Ok s) = at-epoch (λ o. Goes o (node_heard_by env p (Ok s) o)) (tt, tt) (λ y k. goes-keep y.1.asks (named_of y.1) p [] (work_of (on_segment y.0 s).1 y.1) (begun (on_segment y.0 s).1 y.1 k)) p.row h
+    forwarded-keeps (Ok s) = at-epoch (λ o. Goes o (node_heard_by env p (Ok s) o)) (tt, tt)
+        (λ y k. goes-keep y.1.asks (named_of y.1) p [] (work_of (on_segment y.0 s).1 y.1) (begun (on_segment y.0 s).1 y.1 k))
 
     pub tagged-keeps : (number : ℕ) (nodes : List ℕ) → ((y : ControlBlock × Stay) → here env.epoch p ≡ Some y → y.1.asks ≡ number → Each N nodes) → Goes (here env.epoch p) (node_tagged env p number nodes)
     tagged-keeps number nodes all = at-epoch (λ o. (here env.epoch p ≡ o → Goes o (tagged_by env number nodes p o))) (λ e. (tt, tt))
@@ -160,14 +136,16 @@ module _ (N : ℕ → Type 0) (env : NodeEnv) where
         let named : ℕ = length (named_paths files y.1.batch) in
         cond_both (is_tag_awaited env number nodes p y.1) (with_work env part [] (goes_on env (tagged env nodes w))) Drops (Goes (Some y))
         (λ t.
-        let same : y.1.asks ≡ number = eqb-true y.1.asks number (and_parts (y.1.asks == number) (length nodes == named) (and_parts (is_some (find (is_under kind.Ask 0) p.kept)) (y.1.asks == number && length nodes == named) t).1).0 in
-        let count : length nodes ≡ named = eqb-true (length nodes) named (and_parts (y.1.asks == number) (length nodes == named) (and_parts (is_some (find (is_under kind.Ask 0) p.kept)) (y.1.asks == number && length nodes == named) t).1).1 in
+        let its = and_parts (y.1.asks == number) (length nodes == named)
+        (and_parts (is_some (find (is_under kind.Ask 0) p.kept)) (y.1.asks == number && length nodes == named) t).1 in
+        let same : y.1.asks ≡ number = eqb-true y.1.asks number its.0 in
+        let count : length nodes ≡ named = eqb-true (length nodes) named its.1 in
         let left : without kind.Ask 0 p.kept ≡ [] = asks-left env.serve.c env.epoch y.1.asks (named_paths files y.1.batch) p.kept k.asks in
         let first : Starts N env part.kept p.fetches y.1.asks (named_of y.1) (contents_awaited y.1.batch) (record w { batch = [] }) = (refl, record { each = k.fetches; order = k.order }, refl, refl, let few = k.few in omega (arith, few)) in
         goes-keep y.1.asks (named_of y.1) part [] (tagged env nodes w)
         (started-await N env part.kept p.fetches y.1.asks (named_of y.1) (tagged env nodes w) left (starts-all N env part.kept p.fetches y.1.asks (named_of y.1) nodes (all y is same) w count first)))
         (λ t. (tt, tt)))
-        p.row h refl
+        refl
 
     -- a content or a job comes
     come-awaits : (fetches : List Kept) (n : ℕ) (f : Progress → Progress) → IsCalm files f → Loses n f → (r : ℕ) (b : ControlBlock) (s : Stay) → StayKeeps N env.serve.files env.serve.c env.epoch env.n p s
@@ -197,20 +175,18 @@ module _ (N : ℕ → Type 0) (env : NodeEnv) where
         (come-awaits part.fetches 1 (come_progress from) (come-calm files from) (come-loses from) r y.0 y.1 k
         (without-fetches N env.serve.files env.serve.c env.epoch env.n r p.fetches (record { each = k.fetches; order = k.order })) (found-less kind.Fetch r from env.epoch p.fetches t)))
         (λ t. (tt, tt)))
-        p.row h
 
     pub read-keeps : (r : ℕ) → Goes (here env.epoch p) (node_read env p r)
     read-keeps r = at-epoch (λ o. Goes o (node_read_by env r p o)) (tt, tt)
         (λ y k. goes-keep y.1.asks (named_of y.1) p [] (came_for read_progress r (work_of y.0 y.1))
         (come-awaits p.fetches 0 read_progress (read-calm files) read-loses r y.0 y.1 k (record { each = k.fetches; order = k.order }) (omega arith)))
-        p.row h
 
     pub timer-keeps : env.epoch ≡ epoch_in p → Goes (both_of (back_endpoint p.row) p.stay) (node_timer env p)
     timer-keeps at = at-endpoint (λ o. Goes o (node_fired_by env p o)) (tt, tt)
         (λ y k.
         let all = after-keeps y.1.asks (named_of y.1) p (work_of (after_timer y.0) y.1) (spoken env.serve (serving (after_timer y.0) y.1.served []) (serving_ready_of env.serve (after_timer y.0) (timed y.0))).0 (begun (after_timer y.0) y.1 k) in
         (all.0, (all.1, all.2)))
-        at p.row refl h
+        at
 
     -- ---- its end is acknowledged
 

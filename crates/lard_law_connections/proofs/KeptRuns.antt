@@ -1,32 +1,20 @@
 -- Each rule leaves what is kept as it must be, so it is in every run.
 use Rattle.std.proofs.Common.{◌≡◌, ℕ, List, [], ◌∷◌, Some, refl, subst}
-use Rattle.lard_answers.specs.Answers.{FilesAt}
-use Rattle.lard_base.specs.declared.config.Config.{Config}
+use Rattle.lard_law_view.specs.Prelude.{ClientRules, Config, Conn, ControlBlock, FilesAt, Front, FrontEnv, FrontRules, IsFrontEnv, IsLaw, IsNodeEnv, MayRestOn, Move, Node, NodeEnv, NodeRules, OfEach, Rules, Seen, Setting, SpellsMessage, Stay, ToCluster, Was, decoded, event_seen, file_at, front_does, front_rule, grown, here, node_acknowledged, node_content, node_does, node_forwarded, node_offered, node_read, node_tagged, node_timer, packet_seen, setting}
+use Rattle.lard_law_view.proofs.EachFront.{admission, each-front}
+use Rattle.lard_law_view.proofs.EachClient.{each-client}
 use Rattle.lard_base.specs.declared.event.Event.TheVariants as event
-use Rattle.lard_base.specs.declared.place.Place.TheVariants.{Client, Front, Node}
-use Rattle.lard_law_connections.specs.Kept.{IsKeptByStage}
+use Rattle.lard_law_connections.specs.Kept.{IsKeptByStage, FrontKeeps, NodeKeepsMessages}
 use Rattle.lard_law_connections.specs.KeptLaws.{AnyNode, ConnectionsAreKept}
 use Rattle.lard_law_connections.proofs.KeptFronts as front_keeps
-use Rattle.lard_law_connections.proofs.KeptFronts.{admitted-keep, asked-keep, ended-keep, front-move, gets-keep, taken-keep, timer-keep}
+use Rattle.lard_law_connections.proofs.KeptFronts.{front-move, rule-keep}
 use Rattle.lard_law_connections.proofs.KeptNodes as node_keeps
 use Rattle.lard_law_connections.proofs.KeptNodes.{acknowledged-keeps, content-keeps, forwarded-keeps, node-move, offered-keeps, read-keeps, tagged-keeps}
-use Rattle.lard_law_connections.specs.Kept.{FrontKeeps, NodeKeepsMessages}
-use Rattle.lard_law_view.specs.Carry.{IsLaw, MayRestOn, OfEach, setting}
-use Rattle.lard_law_view.specs.View.{ClientRules, Conn, FrontRules, IsFrontEnv, IsNodeEnv, Move, NodeRules, Rules, Setting, SpellsMessage, Was, event_seen, front_does, grown, node_does, packet_seen}
 use Rattle.lard_law_view.proofs.Carried.{carried}
-use Rattle.lard_files.specs.Files.{file_at}
 use Rattle.lard_rules.specs.Front as front
-use Rattle.lard_rules.specs.Front.{FrontEnv, ask_of, front_asked, front_ended, front_gets, front_taken, front_timer}
-use Rattle.lard_history.specs.Own.{Seen}
 use Rattle.lard_history.proofs.Each.{Each}
 use Rattle.lard_message.specs.declared.message.Body.TheVariants as body
 use Rattle.lard_rules.specs.Node as node
-use Rattle.lard_endpoint.specs.Control.{ControlBlock}
-use Rattle.lard_rules.specs.declared.stay.Stay.{Stay}
-use Rattle.lard_rules.specs.Node.{here, node_acknowledged, node_content, node_forwarded, node_offered, node_read, node_tagged, node_timer}
-use Rattle.lard_rules.specs.Stay.{NodeEnv}
-use Rattle.lard_segment.specs.declared.segment.Dir.TheVariants.{ToCluster}
-use Rattle.lard_segment.specs.Segment.{decoded}
 
 -- a Tag that was sent, and has the number of the last Ask of its stay, names nodes of which N is so
 abbrev pub TagsName : (ℕ → Type 0) → Conn → Type 0
@@ -37,18 +25,12 @@ module _ (N : ℕ → Type 0) (Given : Conn → Type 0) (names : (x : Conn) → 
   abbrev Keeps : Conn → Move → Type 0
   Keeps x v = MayRestOn Given x → IsKeptByStage N k.files x → IsKeptByStage N k.files (grown x v)
 
+  -- a client changes nothing that the others keep
   clients : ClientRules k Keeps
-  clients = record {
+  clients = each-client k Keeps (record {
     opens = λ x isn iss wnd mss rule none may h. record { front = h.front; nodes = h.nodes };
-    gets = λ x s path there fits may h. record { front = h.front; nodes = h.nodes };
-    writes = λ x s bytes there fits may h. record { front = h.front; nodes = h.nodes };
-    shuts = λ x s there may h. record { front = h.front; nodes = h.nodes };
-    aborts = λ x s there may h. record { front = h.front; nodes = h.nodes };
-    holds = λ x s there may h. record { front = h.front; nodes = h.nodes };
-    takes = λ x s there may h. record { front = h.front; nodes = h.nodes };
-    fires = λ x s there may h. record { front = h.front; nodes = h.nodes };
-    hears = λ x s from bytes there was may h. record { front = h.front; nodes = h.nodes };
-  }
+    does = λ x s g there comes may h. record { front = h.front; nodes = h.nodes };
+  })
 
   -- a rule of the front end
   by-front : (x : Conn) (env : FrontEnv) → IsFrontEnv k x.c env → (heads : List Seen) (d : front.FrontDeed) → (FrontKeeps env.serve.c x.part.front → front_keeps.DeedKeeps env.serve.c d)
@@ -57,17 +39,8 @@ module _ (N : ℕ → Type 0) (Given : Conn → Type 0) (names : (x : Conn) → 
       front-move N k.files x heads d (subst (λ (c : ℕ). FrontKeeps c x.part.front → front_keeps.DeedKeeps c d) is.number rule h.front) h
 
   fronts : FrontRules k Keeps
-  fronts = record {
-    hears = λ x s env bytes there is iss was may h. by-front x env is (packet_seen (Client x.c) Front bytes) (front_gets env x.part.front bytes (decoded bytes x.c ToCluster)) (λ g. gets-keep env x.part.front g bytes (decoded bytes x.c ToCluster)) h;
-    fires = λ x s env there is may h. by-front x env is (event_seen (event.Timer Front x.c)) (front_timer env x.part.front) (λ g. timer-keep env x.part.front g) h;
-    taken = λ x env n epoch bytes is spells was may h. by-front x env is (packet_seen (Node n) Front bytes) (front_taken x.part.front epoch) (λ g. taken-keep env x.part.front g epoch) h;
-    asked = λ x env n epoch number queue size paths bytes is spells was may h. by-front x env is (packet_seen (Node n) Front bytes) (front_asked env x.part.front n epoch (ask_of x.c n number queue size paths))
-        (λ g. asked-keep env x.part.front g n epoch (ask_of x.c n number queue size paths)) h;
-    ended = λ x env n epoch reason snd rcv count bytes is spells was may h. by-front x env is (packet_seen (Node n) Front bytes)
-        (front_ended env x.part.front n epoch (record { reason = reason; snd = record { 0 = snd }; rcv = record { 0 = rcv } }))
-        (λ g. ended-keep env x.part.front g n epoch (record { reason = reason; snd = record { 0 = snd }; rcv = record { 0 = rcv } })) h;
-    admitted = λ x env choice given is e may h. by-front x env is [] (front.Does (record { part = given.0; turn = given.1; calls = [] })) (λ g. admitted-keep env x.part.front choice given e) h;
-  }
+  fronts = each-front k Keeps (λ x env heads g is comes may h. by-front x env is heads (front_rule env x.part.front g)
+      (λ s. rule-keep env x.part.front s g (admission x env heads g comes)) h)
 
   -- a rule of a node
   by-node : (x : Conn) (n epoch : ℕ) (env : NodeEnv) → IsNodeEnv k x.c n epoch env → (heads : List Seen) (d : node.NodeDeed)

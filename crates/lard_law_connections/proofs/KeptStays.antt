@@ -1,29 +1,16 @@
 -- While a stay goes on, what is kept of it is what it awaits.
 use Rattle.std.proofs.Common.{◌≡◌, ◌≢◌, ◌⊎◌, ◌≤◌, ◌+◌, ◌==◌, ℕ, zero, suc, Bool, true, false, List, [], ◌∷◌, ◌++◌, length, slice_get, is_some, Option, Some, None, refl, sym, ap, ◌∙◌, subst, arith, eq-eqb, inl}
 use Rattle.std.proofs.lemmas.Bool.{both_ways}
-use Rattle.lard_answers.specs.Answers.{FilesAt}
+use Rattle.lard_law_view.specs.Prelude.{Asked, Entry, FilesAt, Kept, NodeEnv, Progress, Service, Verdict, Via, Want, Work, and_path, anew, answered, ask_kept, asked_kept, asks_for, batch_of, bytes_used, entered, fetch_of, goes_on, left_by, named_path, named_paths, path_in, reads_batch, serves_with, started_there, state_of, tagged, wants_kept, without}
 use Rattle.lard_base.specs.declared.place.TimerKind.TheVariants as kind
-use Rattle.lard_base.specs.declared.place.Via.{Via}
 use Rattle.lard_base.specs.declared.place.Via.TheVariants as via
 use Rattle.lard_law_connections.proofs.AwaitsBatches.{wants-push}
 use Rattle.lard_law_connections.specs.Kept.{AsksFor, IsFetchFromOther, contents_awaited, awaits_content}
 use Rattle.lard_law_connections.proofs.KeptBatches.{AreFetches, anew-fetches, awaited-push, named-awaits, named-file, named-push}
 use Rattle.lard_resend.proofs.Lengths.{anew-more}
 use Rattle.lard_history.proofs.Each.{Each}
-use Rattle.lard_rules.specs.declared.stay.Asked.{Asked}
-use Rattle.lard_rules.specs.declared.stay.Entry.{Entry}
-use Rattle.lard_rules.specs.declared.stay.Progress.{Progress}
 use Rattle.lard_rules.specs.declared.stay.Progress.TheVariants as progress
-use Rattle.lard_rules.specs.declared.stay.Want.{Want}
-use Rattle.lard_rules.specs.Node.{anew, ask_kept, asked_kept, fetch_of, wants_kept}
-use Rattle.lard_rules.specs.Stay.{NodeEnv, Work, and_path, asks_for, entered, goes_on, left_by, named_path, named_paths, path_in, reads_batch, started_there, tagged, serves_with}
-use Rattle.lard_reader.specs.Batches.{batch_of, bytes_used}
-use Rattle.lard_request.specs.declared.verdict.Verdict.{Verdict}
-use Rattle.lard_resend.specs.declared.kept.Kept.{Kept}
-use Rattle.lard_resend.specs.Kept.{without}
 use Rattle.lard_resend.proofs.Held.{put_some}
-use Rattle.lard_rules.specs.Loop.{state_of}
-use Rattle.lard_rules.specs.Serving.{Service, answered}
 use Rattle.lard_rules.proofs.StayWalking.{KeptByNodes, KeptByReads, StepIn, goes-in, state-in, tagged-all, these-in}
 
 -- ---- a turn

@@ -1,7 +1,8 @@
+pub mod Calm
+pub mod Forms
+pub mod Happened
 pub mod PolicyAsides
-pub mod PolicyCalm
 pub mod PolicyCounted
-pub mod PolicyForms
 pub mod PolicyFronts
 pub mod PolicyHomes
 pub mod PolicyIns
@@ -97,9 +98,7 @@ pub mod KeptNodes
 pub mod KeptRuns
 pub mod KeptStays
 mod StoresAsides
-pub mod StoresCalm
 pub mod StoresDisks
-pub mod StoresForms
 mod StoresHits
 mod StoresLeading
 mod StoresNodes

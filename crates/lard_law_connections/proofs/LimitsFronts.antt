@@ -1,8 +1,7 @@
 -- What the front end does leaves a connection counted.
-use Rattle.std.proofs.Common.{◌≡◌, ◌≤◌, ◌+◌, ◌^◌, ℕ, Bool, true, false, List, [], ◌∷◌, ◌++◌, map, Option, Some, None, Result, Ok, Err, inr, refl, sym, ◌∙◌, subst}
+use Rattle.std.proofs.Common.{◌≡◌, ◌≤◌, ◌+◌, ◌^◌, ℕ, Bool, true, false, List, [], ◌∷◌, ◌++◌, map, Option, Some, None, inr, refl, sym, ◌∙◌, subst}
 use Rattle.std.proofs.lemmas.List.Sums.{fold-append}
-use Rattle.lard_base.specs.declared.place.Place.{Place}
-use Rattle.lard_base.specs.declared.place.Place.TheVariants.{Client, Front, Node}
+use Rattle.lard_law_view.specs.Prelude.{AreSent, Ask, BackConn, BackRow, Call, Client, Conn, ControlBlock, Ending, First, FirstChoice, Front, FrontConn, FrontDeed, FrontEnv, FrontGets, FrontPart, FrontRest, FrontRow, IsConnSound, IsControlBlock, IsFrontEnv, Kept, Later, LaterChoice, Move, Node, NodePart, Part, Place, Rec, Said as Segment, Seen, Service, Setting, Turn, ack_sent, after_timer, assigned_notes, assigns, front_begun, front_does, front_ends, front_reads, front_rest, front_rule, front_saying, holds, last_words, leaves_by, letter, may_freeze, next_epoch, on_segment, over_note, sent_of, serving, serving_settled, spoken, stage_after, tag_sent, taken_by, tale_at, timed, tombstone, turn_here, waits_on}
 use Rattle.lard_law_connections.specs.LimitsCounts.{BackCounts, IsWithinStream, EndpointCounts, FrontCounts, FrontStageCounts, LetterCounts, Served, served_by_tale}
 use Rattle.lard_law_connections.proofs.LimitsMoves.{IsLimited, MoveCounts, client-letters, idle-counts, other-letter}
 use Rattle.lard_law_connections.proofs.LimitsOffers.{offer-counts}
@@ -12,52 +11,20 @@ use Rattle.lard_law_connections.proofs.LimitsServing.{EndCounts, EndSound, IsSer
 use Rattle.lard_law_connections.specs.Places.{ArePast, IsLeft, IsOffered, IsPast, Offers, Owning, Sits, StageSits, owning}
 use Rattle.lard_law_connections.proofs.PlacesFrontRules.{has-each}
 use Rattle.lard_law_connections.proofs.PlacesTurns.{IsPlaced}
-use Rattle.lard_law_view.specs.Carry.{tale_at}
-use Rattle.lard_law_view.specs.View.{AreSent, Conn, IsFrontEnv, IsConnSound, Move, Part, Setting, front_does, letter}
-use Rattle.lard_costs.specs.declared.later.LaterChoice.{LaterChoice}
-use Rattle.lard_dispatch.specs.declared.dispatch.Ask.{Ask}
-use Rattle.lard_dispatch.specs.declared.dispatch.First.{First}
-use Rattle.lard_dispatch.specs.declared.dispatch.Later.{Later}
-use Rattle.lard_dispatch.specs.Laws.{Call}
 use Rattle.lard_dispatch.specs.Laws as call
-use Rattle.lard_endpoint.specs.declared.control.moving.Final.{Final}
-use Rattle.lard_endpoint.specs.Arriving.{on_segment}
-use Rattle.lard_endpoint.specs.Control.{ControlBlock, IsControlBlock}
-use Rattle.lard_endpoint.specs.Leaving.{after_timer, timed}
-use Rattle.lard_endpoint.specs.Moving.{may_freeze}
 use Rattle.lard_endpoint.proofs.Sound.{after_timer-sound, on_segment-sound}
-use Rattle.lard_rules.specs.declared.front.FrontRest.{FrontRest}
-use Rattle.lard_rules.specs.declared.front.FrontTurn.{FrontTurn}
-use Rattle.lard_rules.specs.Front.{FrontDeed, Drops, Says, Does, FrontEnv, FrontPart, ack_sent, assigned_notes, assigns, front_begun, front_admitted, front_asked, front_ended, front_gets, front_taken, front_timer, holds, leaves_by, message, over_note, front_rest, front_saying, stage_after, tag_sent, taken_by, turn_here, waits_on, front_ends}
-use Rattle.lard_rules.specs.FrontReading.{front_reads}
+use Rattle.lard_rules.specs.Front.{Drops, Says, Does, message}
 use Rattle.lard_rules.proofs.FrontBlocks.{EndsIdle, idle-of, segment-idle, spoken-idle, timer-idle}
-use Rattle.lard_handoff_back.specs.declared.row.BackConn.{BackConn}
 use Rattle.lard_handoff_back.specs.declared.row.BackConn.TheVariants as back
-use Rattle.lard_handoff_back.specs.declared.row.BackRow.{BackRow}
-use Rattle.lard_handoff_front.specs.declared.row.FrontConn.{FrontConn}
 use Rattle.lard_handoff_front.specs.declared.row.FrontConn.TheVariants as stage
-use Rattle.lard_handoff_front.specs.declared.row.FrontRow.{FrontRow}
-use Rattle.lard_handoff_front.specs.Front.{next_epoch}
-use Rattle.lard_history.specs.Own.{Seen}
 use Rattle.lard_history.proofs.Each.{Each, Each-append}
-use Rattle.lard_journal.specs.declared.rec.Rec.{Rec}
 use Rattle.lard_journal.specs.declared.rec.Rec.TheVariants as rec
 use Rattle.lard_message.specs.declared.message.Body.TheVariants as body
-use Rattle.lard_rules.specs.Node.{NodePart}
-use Rattle.lard_policy.specs.declared.first.FirstChoice.{FirstChoice}
-use Rattle.lard_resend.specs.declared.kept.Kept.{Kept}
-use Rattle.lard_resend.specs.Pending.{sent_of}
-use Rattle.lard_rules.specs.declared.places.Ending.{Ending}
 use Rattle.lard_rules.specs.declared.places.Ending.TheVariants as ending
-use Rattle.lard_rules.specs.declared.places.Turn.{Turn}
-use Rattle.lard_rules.specs.Tombstone.{last_words, tombstone}
-use Rattle.lard_rules.specs.Serving.{Service, serving, serving_settled, spoken}
 use Rattle.lard_rules.proofs.Endpoints.{listening-sound}
 use Rattle.lard_rules.proofs.Totals.{segment-many, timer-many}
-use Rattle.lard_segment.specs.declared.fault.SegFault.{SegFault}
-use Rattle.lard_segment.specs.Segment.{Said as Segment}
 use Rattle.lard_law_view.proofs.EndpointSends.{AllTo, ready-to}
-use Rattle.lard_rules.proofs.FrontCases.{KeptBySegment, IsInStage, of-stage, begun_row, begun_service, fired_before, fired_service, heard_reading, heard_service, hands_off, rests_in, waiting_service, segment-keeps, timer-keeps, taken-keeps, asked-keeps, ended-keeps, admitted-keeps}
+use Rattle.lard_rules.proofs.FrontCases.{IsAsGiven, IsInStage, KeptByFront, KeptBySegment, begun_row, begun_service, fired_before, fired_service, front-keeps, hands_off, heard_reading, heard_service, of-stage, rests_in, waiting_service}
 
 -- ---- nodes that have nothing count nothing
 
@@ -263,32 +230,13 @@ module _ (k : Setting) (most : k.stream ≤ 2 ^ 30) (x : Conn) (sound_x : IsConn
     words = λ row last at. tombstone-limited (last_words last.reason last s);
   }
 
-  pub gets-limited : (bytes : List ℕ) (r : Result Segment SegFault) → Stays (front_gets env p bytes r)
-  gets-limited bytes (Err fault) = dropped
-  gets-limited bytes (Ok s) = segment-keeps env p bytes s Came Stays (by-segment bytes s)
-
   -- ---- timers
 
   resent-letters : (ks : List Kept) → AreSent x Front ks → Each (LetterCounts k.stream w x.part) (map (letter Front) (map sent_of ks))
   resent-letters [] sent = tt
   resent-letters (q ∷ ks) sent = (has-each (LetterCounts k.stream w x.part) (record { from = Front; to = q.to; bytes = q.bytes }) x.letters sent.0.1 h.counted.letters, resent-letters ks sent.1)
 
-  pub timer-limited : Stays (front_timer env p)
-  timer-limited = timer-keeps env p Stays (record {
-    drops = dropped;
-    holds = λ row b at. says-held row b (after_timer b) (fired_before env b) at (timer-many b) (after_timer-sound b (counts-row row (stage.Held b) at).sound) (ready-to env.serve (after_timer b) (timed b));
-    stays = λ row b at.
-        let c : FrontStageCounts k.stream w (stage.Waiting b) = counts-row row (stage.Waiting b) at in
-        says-waiting row b (after_timer b) (fired_before env b) at (timer-many b) (after_timer-sound b c.0.sound)
-        (spoken-idle env.serve (fired_service p b) (fired_before env b) (timer-idle b (idle-of b c.1 c.0.sound.sending.queued))) (ready-to env.serve (after_timer b) (timed b));
-    resends = λ row n e at. says (map sent_of p.kept) (resent-letters p.kept sound_x.front);
-  })
-
   -- ---- what nodes say
-
-  pub taken-limited : (epoch : ℕ) → Stays (front_taken p epoch)
-  taken-limited epoch = taken-keeps p Stays dropped epoch (λ row n e at same. idle-counts k.stream x (front_does x heads (taken_by p epoch (Some row) (Some n)))
-      (record { heads = seen; notes = tt; front = tt; nodes = h.counted.nodes; letters = tt }))
 
   over-mute : (c : ℕ) (b : Bool) → Each IsMute (over_note c b)
   over-mute c true = (tt, tt)
@@ -314,24 +262,37 @@ module _ (k : Setting) (most : k.stream ≤ 2 ^ 30) (x : Conn) (sound_x : IsConn
         letters = tag-letters n epoch ask.number (map (λ y. y.node) l.choices) v.part;
       })
 
-  pub asked-limited : (n epoch : ℕ) (ask : Ask) → Stays (front_asked env p n epoch ask)
-  asked-limited n epoch ask = asked-keeps p Stays dropped env n epoch ask
-      (λ rest found there same some. says (tag_sent env n epoch rest.asks rest.tag) (tag-letters n epoch rest.asks rest.tag x.part)) (λ rest found there next. assigns-limited n epoch ask rest)
-
   ack-letters : (n epoch : ℕ) (q : Part) → Each (LetterCounts k.stream w q) (map (letter Front) (ack_sent env n epoch))
   ack-letters n epoch q = (other-letter k.stream w q n env.serve.c epoch body.EndedAck (λ i. cc), tt)
 
-  pub ended-limited : (n epoch : ℕ) (last : Final) → Stays (front_ended env p n epoch last)
-  ended-limited n epoch last = ended-keeps p Stays dropped env n epoch last (λ row found away again. says (ack_sent env n epoch) (ack-letters n epoch x.part)) (λ row found away.
-      let v : Move = front_does x heads (Does (front_ends env p n epoch last row (next_epoch row))) in
-      idle-counts k.stream x v (record { heads = seen; notes = (tt, (tt, tt)); front = tt; nodes = h.counted.nodes; letters = ack-letters n epoch v.part }))
+  -- ---- whatever comes
 
-  -- ---- the head of the line
+  by-rules : KeptByFront env p (λ g. Unit {0}) Came Stays
+  by-rules = record {
+    drops = dropped;
+    hears = λ bytes s m. by-segment bytes s;
+    fires = λ m. record {
+      drops = dropped;
+      holds = λ row b at. says-held row b (after_timer b) (fired_before env b) at (timer-many b) (after_timer-sound b (counts-row row (stage.Held b) at).sound)
+          (ready-to env.serve (after_timer b) (timed b));
+      stays = λ row b at.
+          let c : FrontStageCounts k.stream w (stage.Waiting b) = counts-row row (stage.Waiting b) at in
+          says-waiting row b (after_timer b) (fired_before env b) at (timer-many b) (after_timer-sound b c.0.sound)
+          (spoken-idle env.serve (fired_service p b) (fired_before env b) (timer-idle b (idle-of b c.1 c.0.sound.sending.queued))) (ready-to env.serve (after_timer b) (timed b));
+      resends = λ row n e at. says (map sent_of p.kept) (resent-letters p.kept sound_x.front);
+    };
+    takes = λ n epoch m row node e at same. idle-counts k.stream x (front_does x heads (taken_by p epoch (Some row) (Some node)))
+        (record { heads = seen; notes = tt; front = tt; nodes = h.counted.nodes; letters = tt });
+    tags_again = λ n epoch ask m rest found there same some. says (tag_sent env n epoch rest.asks rest.tag) (tag-letters n epoch rest.asks rest.tag x.part);
+    assigns_next = λ n epoch ask m rest found there next. assigns-limited n epoch ask rest;
+    ends_again = λ n epoch last m row found away again. says (ack_sent env n epoch) (ack-letters n epoch x.part);
+    ends = λ n epoch last m row found away.
+        let v : Move = front_does x heads (Does (front_ends env p n epoch last row (next_epoch row))) in
+        idle-counts k.stream x v (record { heads = seen; notes = (tt, (tt, tt)); front = tt; nodes = h.counted.nodes; letters = ack-letters n epoch v.part });
+    admits = λ choice row b path at target.
+        let c : FrontStageCounts k.stream w (stage.Waiting b) = counts-row row (stage.Waiting b) at in
+        handed-limited (ours-at row (stage.Waiting b) at tt) row (serving b (front_rest p.rest).count []) path choice [] (here-serving b b (front_rest p.rest).count refl c.0) c.0.sound c.1 refl;
+  }
 
-  abbrev Admitted : FrontPart × FrontTurn → Type 0
-  Admitted given = MoveCounts k.stream x (front_does x heads (Does (record { part = given.0; turn = given.1; calls = [] })))
-
-  pub admitted-limited : (choice : FirstChoice) (given : FrontPart × FrontTurn) → front_admitted env p choice ≡ Some given → Admitted given
-  admitted-limited choice = admitted-keeps env p choice Admitted (λ row b path at target.
-      let c : FrontStageCounts k.stream w (stage.Waiting b) = counts-row row (stage.Waiting b) at in
-      handed-limited (ours-at row (stage.Waiting b) at tt) row (serving b (front_rest p.rest).count []) path choice [] (here-serving b b (front_rest p.rest).count refl c.0) c.0.sound c.1 refl)
+  pub front-limited : (g : FrontGets) → IsAsGiven env p g → Stays (front_rule env p g)
+  front-limited g is = front-keeps env p (λ g. Unit {0}) Came Stays by-rules g is tt

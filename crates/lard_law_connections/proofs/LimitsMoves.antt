@@ -1,39 +1,26 @@
 -- A move leaves its connection counted, where its notes may stand and its place counts on.
-use Rattle.std.proofs.Common.{◌≡◌, ◌⊎◌, ◌-◌, ℕ, append_assoc, List, [], ◌∷◌, ◌++◌, map, Option, Some, None, inl, inr, ⊎_elim, refl, sym, ap, ◌∙◌, subst}
+use Rattle.std.proofs.Common.{◌≡◌, ◌⊎◌, ◌-◌, ℕ, List, [], ◌∷◌, ◌++◌, map, Option, Some, None, inl, inr, ⊎_elim, refl, sym, ap, ◌∙◌, subst}
 use Rattle.std.proofs.lemmas.List.Sums.{fold-append}
 use Rattle.std.specs.List.{fold}
-use Rattle.lard_base.specs.declared.place.Place.{Place}
-use Rattle.lard_base.specs.declared.place.Place.TheVariants.{Client, Front, Node}
-use Rattle.lard_rules.specs.Bounds.{IsConnNumber}
+use Rattle.lard_law_view.specs.Prelude.{Body, Came, Client, ClientBlock, Conn, EachRow, Front, IsConnNumber, IsConnSound, Kind, Letter, Message, Move, Node, Part, Place, Rec, Row, Seen, Station, Tale, Turn, TurnSaid, by_client, grown, kind_of, letter, letters_of, rows_of, seen_in, seen_step, spelled_message, stands, tale_at, tale_of, tale_step, told_on, untold, with_station}
 use Rattle.lard_law_connections.specs.LimitsCounts.{BackCounts, BodyCounts, IsWithinStream, FrontCounts, CountsWhatWasServed, LetterCounts, LetterCountsOn, Served, served_by_tale}
-use Rattle.lard_law_connections.proofs.LimitsRows.{CountsBy, IsMute, IsMuteSeen, MayStand, after, after_all, clients-mute, counts-append, counts-told, gaves-mute, mute-after, mute-counts, sends-mute, timers-mute}
+use Rattle.lard_law_connections.proofs.LimitsRows.{CountsBy, IsMute, IsMuteSeen, MayStand, after, after_all, clients-mute, counts-append, counts-told, mute-after, mute-counts, outer-mute}
 use Rattle.lard_law_connections.specs.Places.{Head, IsDecided, IsOffered, LetterMay, MaySay, message_head}
 use Rattle.lard_law_connections.proofs.PlacesGrowing.{Grows, decided-grows}
 use Rattle.lard_law_connections.proofs.PlacesHeads.{decoded-head, head, spelled-some}
 use Rattle.lard_law_connections.proofs.PlacesTurns.{IsPlaced, Owes}
-use Rattle.lard_law_view.specs.Carry.{tale_at}
-use Rattle.lard_law_view.specs.View.{Conn, Move, Part, grown, letter, letters_of, rows_of, seen_in, sending, timer_rows, by_client, with_station, IsConnSound, TurnSaid, stands}
 use Rattle.lard_law_view.proofs.Fine.{IsItsOwn}
 use Rattle.lard_law_view.proofs.Saying.{NotedAt}
 use Rattle.lard_law_view.proofs.Rows.{grown-told, tale_before}
-use Rattle.lard_client.specs.Control.{ClientBlock}
-use Rattle.lard_history.specs.Journal.{Tale, tale_step, told_on, untold}
-use Rattle.lard_history.specs.Own.{EachRow, Letter, Row, Came, Seen, seen_step, tale_of}
 use Rattle.lard_history.proofs.Each.{Each, Each-append}
 use Rattle.lard_history.proofs.Lifting.{each_row-append}
-use Rattle.lard_journal.specs.declared.rec.Rec.{Rec}
-use Rattle.lard_message.specs.declared.kind.Kind.{Kind}
 use Rattle.lard_message.specs.declared.kind.Kind.TheVariants as kind
-use Rattle.lard_message.specs.declared.message.Body.{Body}
 use Rattle.lard_message.specs.declared.message.Body.TheVariants as body
-use Rattle.lard_message.specs.declared.message.Message.{Message}
-use Rattle.lard_message.specs.Message.{kind_of, spelled_message}
 use Rattle.lard_rules.specs.Node.{message}
-use Rattle.lard_rules.specs.declared.places.Station.{Station}
-use Rattle.lard_rules.specs.declared.places.Turn.{Turn}
 use Rattle.lard_law_view.specs.WhileUntouched.{TellsBy}
 use Rattle.lard_law_view.proofs.EndpointSends.{AllTo}
 use Rattle.lard_law_view.proofs.RowLists.{MayBeSeen, each_row-told}
+use Rattle.lard_law_view.proofs.OfKinds.{rest_of, rest-outer, rows-are}
 
 -- What is known of a connection and of its move beside what was served: the view has it of each rule, and the law of places.
 pub record Helps (x : Conn) (v : Move) : Type 0 where
@@ -174,38 +161,19 @@ module _ (stream : ℕ) (x : Conn) (v : Move) where
       }
 
   module _ (m : MoveCounts) (help : Helps x v) (h : IsLimited stream x) where
-    abbrev sent : List Rec
-    sent = map (sending v.place) v.said.segments
-
-    abbrev told : List Rec
-    told = map (sending v.place) v.said.messages
-
-    abbrev timers : List Rec
-    timers = timer_rows v.place x.c x.part v.part
-
     before : served_by_tale (tale_before x v) ≡ w
     before = mute-tale x.c (tale_at x) v.heads m.heads
 
     -- the records behind the notes say nothing of it
-    rest-mute : Each IsMute (sent ++ v.said.gave ++ told ++ timers)
-    rest-mute = Each-append IsMute (sent ++ v.said.gave ++ told) timers
-        (Each-append IsMute (sent ++ v.said.gave) told
-        (Each-append IsMute sent v.said.gave (sends-mute v.place v.said.segments) (gaves-mute v.place x.c v.said.gave help.own.gave))
-        (sends-mute v.place v.said.messages))
-        (timers-mute v.place x.c x.part v.part)
-
-    rows-are : rows_of x v ≡ v.said.notes ++ (sent ++ v.said.gave ++ told ++ timers)
-    rows-are =
-        ap (λ (l : List Rec). l ++ told ++ timers) (append_assoc v.said.notes sent v.said.gave)
-        ∙ ap (λ (l : List Rec). l ++ timers) (append_assoc v.said.notes (sent ++ v.said.gave) told)
-        ∙ append_assoc v.said.notes (sent ++ v.said.gave ++ told) timers
+    rest-mute : Each IsMute (rest_of x v)
+    rest-mute = rest-outer x v IsMute outer-mute help.own
 
     rows-count : CountsBy stream x.c w (rows_of x v)
-    rows-count = subst (CountsBy stream x.c w) (sym rows-are)
-        (counts-append stream x.c w v.said.notes (sent ++ v.said.gave ++ told ++ timers) m.notes (mute-counts stream x.c served_then (sent ++ v.said.gave ++ told ++ timers) rest-mute))
+    rows-count = subst (CountsBy stream x.c w) (sym (rows-are x v))
+        (counts-append stream x.c w v.said.notes (rest_of x v) m.notes (mute-counts stream x.c served_then (rest_of x v) rest-mute))
 
     rows-after : after_all w (rows_of x v) ≡ served_then
-    rows-after = ap (after_all w) rows-are ∙ fold-append after w v.said.notes (sent ++ v.said.gave ++ told ++ timers) ∙ mute-after served_then (sent ++ v.said.gave ++ told ++ timers) rest-mute
+    rows-after = ap (after_all w) (rows-are x v) ∙ fold-append after w v.said.notes (rest_of x v) ∙ mute-after served_then (rest_of x v) rest-mute
 
     all-told : TellsBy (MayStand stream x.c) x.c (tale_before x v) (rows_of x v) × (served_by_tale (told_on x.c (tale_before x v) (rows_of x v)) ≡ after_all (served_by_tale (tale_before x v)) (rows_of x v))
     all-told = counts-told stream x.c (tale_before x v) (rows_of x v) (subst (λ (u : Served). CountsBy stream x.c u (rows_of x v)) (sym before) rows-count)

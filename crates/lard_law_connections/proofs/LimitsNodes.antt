@@ -1,12 +1,8 @@
 -- What a node does leaves a connection counted.
-use Rattle.std.proofs.Common.{◌≡◌, ◌≢◌, ◌⊎◌, ◌≤◌, ◌-◌, ◌==◌, ◌&&◌, nat_lt, ℕ, Bool, true, false, cond, List, [], map, Option, Some, None, Result, Ok, Err, inr, ⊎_elim, refl, sym, ap, ◌∙◌, subst, arith, eqb-true}
-use Rattle.std.proofs.lemmas.Bool.{and_parts, cond_both, ltb-true}
-use Rattle.std.specs.List.{find}
-use Rattle.lard_base.specs.declared.parts.EndpointParts.{EndpointParts}
-use Rattle.lard_base.specs.declared.place.Place.{Place}
-use Rattle.lard_base.specs.declared.place.Place.TheVariants.{Front, Node}
+use Rattle.std.proofs.Common.{◌≡◌, ◌≢◌, ◌⊎◌, ◌≤◌, ◌-◌, ℕ, true, List, [], map, Option, Some, None, inr, ⊎_elim, refl, sym, ◌∙◌, subst, arith}
+use Rattle.lard_law_view.specs.Prelude.{BackRow, Conn, ControlBlock, Ending, EndpointParts, Front, FrontConn, FrontRow, IsNodeEnv, Move, Node, NodeDeed, NodeEnv, NodeGets, NodePart, Offered, Place, Progress, Rec, Seen, ServeEnv, Setting, Stay, Turn, Work, after_timer, again_sent, came_for, come_progress, consuming, goes_on, gone, kept_after, letter, named_records, node_begins, node_does, node_put_back, node_rule, node_saying, offer_answer, on_segment, read_progress, reads_batch, serving, serving_ready_of, serving_settled, spoken, state_of, tagged, taken_sent, tale_at, timed, turn_by, with_work, without, work_of}
 use Rattle.lard_base.specs.declared.place.TimerKind.TheVariants as timer
-use Rattle.lard_law_connections.specs.LimitsCounts.{BackCounts, BackStageCounts, IsWithinStream, FrontCounts, FrontStageCounts, LetterCounts, Served, served_by_tale}
+use Rattle.lard_law_connections.specs.LimitsCounts.{BackCounts, IsWithinStream, FrontCounts, FrontStageCounts, LetterCounts, Served, served_by_tale}
 use Rattle.lard_law_connections.proofs.LimitsFronts.{past-counts}
 use Rattle.lard_law_connections.proofs.LimitsMoves.{IsLimited, MoveCounts, idle-counts, node-letters}
 use Rattle.lard_law_connections.proofs.LimitsRows.{IsMute, IsMuteSeen, after_all, named-counts}
@@ -15,42 +11,21 @@ use Rattle.lard_law_connections.proofs.LimitsWorking.{IsStart, KeptByServing, ba
 use Rattle.lard_law_connections.specs.Places.{IsComing, IsDecided, IsOffered, IsPast, IsThere, Offers, OthersArePast, Owning, Sits, StageSits, owning}
 use Rattle.lard_law_connections.proofs.PlacesFrontMessages.{came-says}
 use Rattle.lard_law_connections.proofs.PlacesFrontRules.{has-each}
-use Rattle.lard_law_connections.proofs.PlacesNodeRules.{by-node, past-held}
+use Rattle.lard_law_connections.proofs.PlacesNodeRules.{by-node, not-decided, past-held}
 use Rattle.lard_law_connections.proofs.PlacesTurns.{IsPlaced}
-use Rattle.lard_law_view.specs.Carry.{tale_at}
-use Rattle.lard_law_view.specs.View.{Conn, IsNodeEnv, Move, Setting, SpellsMessage, Was, epoch_in, letter, named_records, node_does, node_put_back}
-use Rattle.lard_law_view.proofs.Parts.{put-each, put-same}
-use Rattle.lard_endpoint.specs.Arriving.{on_segment}
-use Rattle.lard_endpoint.specs.Control.{ControlBlock, consuming}
-use Rattle.lard_endpoint.specs.Leaving.{after_timer, timed}
-use Rattle.lard_handoff_back.specs.declared.row.BackConn.{BackConn}
-use Rattle.lard_handoff_back.specs.declared.row.BackConn.TheVariants as back
-use Rattle.lard_handoff_back.specs.declared.row.BackRow.{BackRow}
-use Rattle.lard_handoff_back.specs.declared.table.Adopt.TheVariants.{New, Again, Stale}
-use Rattle.lard_handoff_back.specs.Back.{awaits_ack, back_endpoint, offer_answer, staying}
-use Rattle.lard_handoff_back.specs.Row.{back_held, is_gone}
-use Rattle.lard_handoff_front.specs.declared.row.FrontConn.{FrontConn}
-use Rattle.lard_handoff_front.specs.declared.row.FrontConn.TheVariants as stage
-use Rattle.lard_handoff_front.specs.declared.row.FrontRow.{FrontRow}
-use Rattle.lard_history.specs.Own.{Seen}
-use Rattle.lard_history.proofs.Each.{Each, Each-append, Each-weaker}
-use Rattle.lard_journal.specs.declared.rec.Rec.{Rec}
-use Rattle.lard_journal.specs.declared.rec.Rec.TheVariants as rec
-use Rattle.lard_lateral.specs.Lateral.{is_from}
-use Rattle.lard_message.specs.declared.message.Body.TheVariants as body
-use Rattle.lard_rules.specs.declared.stay.Stay.{Stay}
-use Rattle.lard_rules.specs.Node.{NodeDeed, Drops, Says, Does, NodePart, again_sent, node_begins, both_of, come_by, node_fired, node_fired_by, gone, node_heard_by, here, is_tag_awaited, kept_after, node_acknowledged, node_content, node_forwarded, node_offered, node_read, node_tagged, node_timer, offered_by, node_read_by, node_saying, tagged_by, taken_sent, turn_by, with_work, work_of}
-use Rattle.lard_rules.specs.Stay.{NodeEnv, Work, came_for, come_progress, goes_on, read_progress, reads_batch, tagged}
-use Rattle.lard_resend.specs.Kept.{is_under, without}
-use Rattle.lard_rules.specs.declared.places.Ending.{Ending}
-use Rattle.lard_rules.specs.declared.places.Ending.TheVariants as ending
-use Rattle.lard_rules.specs.declared.places.Turn.{Turn}
-use Rattle.lard_rules.specs.Loop.{state_of}
-use Rattle.lard_rules.specs.Serving.{ServeEnv, serving_ready_of, serving, serving_settled, spoken}
-use Rattle.lard_rules.proofs.Totals.{segment-many, timer-many}
-use Rattle.lard_segment.specs.declared.fault.SegFault.{SegFault}
-use Rattle.lard_segment.specs.Segment.{Said as Segment}
+use Rattle.lard_law_view.proofs.EachNode.{NodeComes}
 use Rattle.lard_law_view.proofs.EndpointSends.{ready-to}
+use Rattle.lard_law_view.proofs.Parts.{put-each, put-same}
+use Rattle.lard_handoff_back.specs.declared.row.BackConn.TheVariants as back
+use Rattle.lard_handoff_back.specs.declared.table.Adopt.TheVariants.{New}
+use Rattle.lard_handoff_front.specs.declared.row.FrontConn.TheVariants as stage
+use Rattle.lard_history.proofs.Each.{Each, Each-append, Each-weaker}
+use Rattle.lard_journal.specs.declared.rec.Rec.TheVariants as rec
+use Rattle.lard_message.specs.declared.message.Body.TheVariants as body
+use Rattle.lard_rules.proofs.NodeCases.{IsHereWith, IsInItsEpoch, KeptByNode, node-keeps, of-here}
+use Rattle.lard_rules.proofs.Totals.{segment-many, timer-many}
+use Rattle.lard_rules.specs.Node.{Drops, Says, Does}
+use Rattle.lard_rules.specs.declared.places.Ending.TheVariants as ending
 
 -- ---- a stay counts on
 
@@ -120,39 +95,12 @@ module _ (k : Setting) (x : Conn) (at_place : IsPlaced x) (h : IsLimited k.strea
         (λ other. absurd (no f.epoch.0 (s.2 n other)))
     go (stage.Closed last) e s = absurd (no f.epoch.0 (s.1.1 n))
 
-  -- the endpoint that is here, and what it counts
-  record HasIt (n e : ℕ) (b : ControlBlock) : Type 0 where
-    here_is : IsHere n e
-    counts : IsWithinStream k.stream w b.send.total
-
-  held-stage : (st : BackConn) (b : ControlBlock) → back_held st ≡ Some b → st ≡ back.Here b
-  held-stage (back.Here c) b e = let same : c ≡ b = cc in ap back.Here same
-  held-stage _ b e = let no : None ≡ Some b = e in absurd cc
-
-  has-row : (n : ℕ) (row : BackRow) (b : ControlBlock) → (nodes n).row ≡ Some row → back_held row.stage ≡ Some b → HasIt n row.epoch.0 b
-  has-row n row b is held =
-      let at : row.stage ≡ back.Here b = held-stage row.stage b held in
-      record {
-        here_is = has-here n row b is at x.part.front.row refl;
-        counts = subst (BackStageCounts k.stream w) at (subst (BackCounts k.stream w) is (h.counted.nodes n));
-      }
-
-  both-of : (b : ControlBlock) (s : Stay) (o : Option ControlBlock) (t : Option Stay) → both_of o t ≡ Some (b, s) → o ≡ Some b
-  both-of b s None t e = let no : ◌≡◌ {A = Option (ControlBlock × Stay)} None (Some (b, s)) = e in absurd cc
-  both-of b s (Some c) None e = let no : ◌≡◌ {A = Option (ControlBlock × Stay)} None (Some (b, s)) = e in absurd cc
-  both-of b s (Some c) (Some r) e = ap first e where
-    first : Option (ControlBlock × Stay) → Option ControlBlock
-    first None = None
-    first (Some p) = Some p.0
-
-  here-has : (n e : ℕ) (b : ControlBlock) (s : Stay) → here e (nodes n) ≡ Some (b, s) → HasIt n e b
-  here-has n e b s is = go (nodes n).row refl (both-of b s (staying e (nodes n).row) (nodes n).stay is) where
-    go : (o : Option BackRow) → (nodes n).row ≡ o → staying e o ≡ Some b → HasIt n e b
-    go None found held = let no : None ≡ Some b = held in absurd cc
-    go (Some row) found held = by_epoch (row.epoch.0 == e) refl held where
-      by_epoch : (t : Bool) → (row.epoch.0 == e) ≡ t → cond t (back_held row.stage) None ≡ Some b → HasIt n e b
-      by_epoch true same at = subst (λ (d : ℕ). HasIt n d b) (eqb-true row.epoch.0 e same) (has-row n row b found at)
-      by_epoch false same at = let no : None ≡ Some b = at in absurd cc
+  -- so it is of the endpoint that is here, which counts what was served
+  has-it : (n e : ℕ) (b : ControlBlock) (s : Stay) → IsHereWith e (nodes n) b s → IsHere n e × IsWithinStream k.stream w b.send.total
+  has-it n e b s at = (
+    subst (IsHere n) at.epoch_is (has-here n at.row b at.found at.staged x.part.front.row refl),
+    of-here (λ q o. BackCounts k.stream w q) e (nodes n) b s at (h.counted.nodes n),
+  )
 
   -- ---- what a node does
 
@@ -163,10 +111,10 @@ module _ (k : Setting) (x : Conn) (at_place : IsPlaced x) (h : IsLimited k.strea
     abbrev Stays : NodeDeed → Type 0
     Stays d = MoveCounts k.stream x (node_does x n heads d)
 
-    pub dropped : Stays Drops
+    dropped : Stays Drops
     dropped = idle-counts k.stream x (node_does x n heads Drops) (record { heads = seen; notes = tt; front = h.counted.front; nodes = h.counted.nodes; letters = tt })
 
-    pub says : (ms : List (Place × List ℕ)) → Stays (Says ms)
+    says : (ms : List (Place × List ℕ)) → Stays (Says ms)
     says ms = idle-counts k.stream x (node_does x n heads (Says ms))
         (record { heads = seen; notes = tt; front = h.counted.front; nodes = h.counted.nodes; letters = node-letters k.stream w x.part n ms })
 
@@ -203,68 +151,18 @@ module _ (k : Setting) (x : Conn) (at_place : IsPlaced x) (h : IsLimited k.strea
               (node-letters k.stream then v.part n given.1.segments) (node-letters k.stream then v.part n (turn_by env before work given).messages);
         }
 
-    works-limited : IsHere n env.epoch → (part : NodePart) (before : List (Place × List ℕ)) (work : Work) → IsServing env.serve w work.service → Stays (with_work env part before work)
-    works-limited it part before work serving = turn-limited it part before work (serving_settled env.serve work.service) (settled-counts env.serve w work.service serving)
-
-    goes-limited : IsHere n env.epoch → (part : NodePart) (work : Work) → IsServing env.serve w work.service → Stays (with_work env part [] (goes_on env work))
-    goes-limited it part work serving = works-limited it part [] (goes_on env work) (goes-so env (IsServing env.serve w) (stay-counts env.serve w) work serving)
+    goes-limited : IsHere n env.epoch → (part : NodePart) (before : List (Place × List ℕ)) (work : Work) → IsServing env.serve w work.service
+        → Stays (with_work env part before (goes_on env work))
+    goes-limited it part before work serving =
+        let done : Work = goes_on env work in
+        turn-limited it part before done (serving_settled env.serve done.service)
+        (settled-counts env.serve w done.service (goes-so env (IsServing env.serve w) (stay-counts env.serve w) work serving))
 
     -- with the endpoint that it has
     begins-here : (b d : ControlBlock) (count : ℕ) → d.send.total ≡ b.send.total → IsWithinStream k.stream w b.send.total → IsServing env.serve w (serving d count [])
     begins-here b d count same c = begins-serving env.serve w b d count same (subst (λ (m : ℕ). IsWithinStream m w b.send.total) (sym is.stream) c)
 
-    heard-by : (r : Result Segment SegFault) (o : Option (ControlBlock × Stay)) → here env.epoch ours ≡ o → Stays (node_heard_by env ours r o)
-    heard-by (Err fault) o e = dropped
-    heard-by (Ok s) None e = dropped
-    heard-by (Ok s) (Some y) e =
-        let it : HasIt n env.epoch y.0 = here-has n env.epoch y.0 y.1 e in
-        goes-limited it.here_is ours (work_of (on_segment y.0 s).1 y.1) (begins-here y.0 (on_segment y.0 s).1 y.1.served (segment-many y.0 s) it.counts)
-
-    pub forwarded-limited : (r : Result Segment SegFault) → Stays (node_forwarded env ours r)
-    forwarded-limited r = heard-by r (here env.epoch ours) refl
-
-    tagged-by : (number : ℕ) (tags : List ℕ) (o : Option (ControlBlock × Stay)) → here env.epoch ours ≡ o → Stays (tagged_by env number tags ours o)
-    tagged-by number tags None e = dropped
-    tagged-by number tags (Some y) e = cond_both (is_tag_awaited env number tags ours y.1) _ Drops Stays
-        (λ t.
-        let it : HasIt n env.epoch y.0 = here-has n env.epoch y.0 y.1 e in
-        goes-limited it.here_is (record ours { kept = without timer.Ask 0 ours.kept }) (tagged env tags (work_of y.0 y.1))
-        (tagged-so env (IsServing env.serve w) (stay-counts env.serve w) tags (work_of y.0 y.1) (begins-here y.0 y.0 y.1.served refl it.counts)))
-        (λ t. dropped)
-
-    pub tagged-limited : (number : ℕ) (tags : List ℕ) → Stays (node_tagged env ours number tags)
-    tagged-limited number tags = tagged-by number tags (here env.epoch ours) refl
-
-    come-by : (from r : ℕ) (o : Option (ControlBlock × Stay)) → here env.epoch ours ≡ o → Stays (come_by env from r ours o)
-    come-by from r None e = dropped
-    come-by from r (Some y) e = cond_both (is_from from env.epoch (find (is_under timer.Fetch r) ours.fetches)) _ Drops Stays
-        (λ t.
-        let it : HasIt n env.epoch y.0 = here-has n env.epoch y.0 y.1 e in
-        goes-limited it.here_is (record ours { fetches = without timer.Fetch r ours.fetches }) (came_for (come_progress from) r (work_of y.0 y.1))
-        (came-so env (IsServing env.serve w) (stay-counts env.serve w) (come_progress from) r (work_of y.0 y.1) (begins-here y.0 y.0 y.1.served refl it.counts)))
-        (λ t. dropped)
-
-    pub content-limited : (from r : ℕ) → Stays (node_content env ours from r)
-    content-limited from r = come-by from r (here env.epoch ours) refl
-
-    read-by : (r : ℕ) (o : Option (ControlBlock × Stay)) → here env.epoch ours ≡ o → Stays (node_read_by env r ours o)
-    read-by r None e = dropped
-    read-by r (Some y) e =
-        let it : HasIt n env.epoch y.0 = here-has n env.epoch y.0 y.1 e in
-        goes-limited it.here_is ours (came_for read_progress r (work_of y.0 y.1))
-        (came-so env (IsServing env.serve w) (stay-counts env.serve w) read_progress r (work_of y.0 y.1) (begins-here y.0 y.0 y.1.served refl it.counts))
-
-    pub read-limited : (r : ℕ) → Stays (node_read env ours r)
-    read-limited r = read-by r (here env.epoch ours) refl
-
     -- ---- an Offer
-
-    took-limited : (parts : EndpointParts) → IsHere n env.epoch → IsWithinStream k.stream w (parts.una - 1) → Stays (with_work env ours (taken_sent env) (goes_on env (state_of (reads_batch env true (node_begins env parts)))))
-    took-limited parts it counts =
-        let start : IsServing env.serve w (node_begins env parts).service = record { told = (tt, tt); counts = subst (λ (m : ℕ). IsWithinStream m w (parts.una - 1)) (sym is.stream) counts } in
-        let first : Work = state_of (reads_batch env true (node_begins env parts)) in
-        let kept : KeptByServing env.serve (IsServing env.serve w) = stay-counts env.serve w in
-        works-limited it ours (taken_sent env) (goes_on env first) (goes-so env (IsServing env.serve w) kept first (batch-state env (IsServing env.serve w) kept true (node_begins env parts) refl start))
 
     offered-here : (o : Option FrontRow) → x.part.front.row ≡ o → IsOffered n env.epoch o → IsHere n env.epoch
     offered-here None found offered = absurd offered
@@ -281,77 +179,80 @@ module _ (k : Setting) (x : Conn) (at_place : IsPlaced x) (h : IsLimited k.strea
       go (stage.Moved m d) at offers = absurd offers
       go (stage.Closed last) at offers = absurd offers
 
-    module _ (parts : EndpointParts) (said : IsDecided env.epoch ours.row ⊎ IsOffered n env.epoch x.part.front.row) (counted : IsDecided env.epoch ours.row ⊎ IsWithinStream k.stream w (parts.una - 1)) where
-      -- where the node has not decided
-      new-limited : (IsDecided env.epoch ours.row → ⊥) → Stays (offered_by env parts ours New)
-      new-limited undecided =
-          let offered : IsOffered n env.epoch x.part.front.row = ⊎_elim (λ (d : IsDecided env.epoch ours.row). absurd (undecided d)) (λ (o : IsOffered n env.epoch x.part.front.row). o) said in
-          let counts : IsWithinStream k.stream w (parts.una - 1) = ⊎_elim (λ (d : IsDecided env.epoch ours.row). absurd (undecided d)) (λ (c : IsWithinStream k.stream w (parts.una - 1)). c) counted in
-          took-limited parts (offered-here x.part.front.row refl offered) counts
+    -- that the node has not decided: it was offered to it, and counts what was served
+    abbrev Counted : NodeGets → Type 0
+    Counted (Offered parts) =
+        (IsDecided env.epoch ours.row ⊎ IsOffered n env.epoch x.part.front.row) × (IsDecided env.epoch ours.row ⊎ IsWithinStream k.stream w (parts.una - 1))
+    Counted _ = Unit {0}
 
-      offered-row : (o : Option BackRow) → ours.row ≡ o → Stays (offered_by env parts ours (offer_answer env.epoch o))
-      offered-row None found = new-limited (λ d. subst (IsDecided env.epoch) found d)
-      offered-row (Some row) found = go (row.epoch.0 == env.epoch) where
-        or_stale : (t : Bool) → (nat_lt row.epoch.0 env.epoch && is_gone row.stage) ≡ t → Stays (offered_by env parts ours (cond t New Stale))
-        or_stale true e = new-limited (λ d. let le : env.epoch ≤ row.epoch.0 = subst (IsDecided env.epoch) found d in omega (arith, le, ltb-true row.epoch.0 env.epoch (and_parts _ _ e).0))
-        or_stale false e = dropped
+    counted-of : (g : NodeGets) → NodeComes x n epoch heads g → Counted g
+    counted-of (Offered parts) c = (
+      subst (λ (e : ℕ). IsDecided e ours.row ⊎ IsOffered n e x.part.front.row) (sym is.epoch_is)
+          (came-says x Front (Node n) epoch (body.Offer parts) c.bytes at_place.letters c.was c.spells),
+      subst (λ (e : ℕ). IsDecided e ours.row ⊎ IsWithinStream k.stream w (parts.una - 1)) (sym is.epoch_is)
+          ((has-each (LetterCounts k.stream w x.part) (record { from = Front; to = Node n; bytes = c.bytes }) x.letters c.was h.counted.letters) _ c.spells),
+    )
+    counted-of _ c = tt
 
-        go : (t : Bool) → Stays (offered_by env parts ours (cond t Again (cond (nat_lt row.epoch.0 env.epoch && is_gone row.stage) New Stale)))
-        go true = says (taken_sent env)
-        go false = or_stale (nat_lt row.epoch.0 env.epoch && is_gone row.stage) refl
+    begins-limited : (parts : EndpointParts) → Counted (Offered parts) → offer_answer env.epoch ours.row ≡ New
+        → Stays (with_work env ours (taken_sent env) (goes_on env (state_of (reads_batch env true (node_begins env parts)))))
+    begins-limited parts m new =
+        let no : IsDecided env.epoch ours.row → ⊥ = not-decided env.epoch ours.row new in
+        let offered : IsOffered n env.epoch x.part.front.row = ⊎_elim (λ (d : IsDecided env.epoch ours.row). absurd (no d))
+        (λ (o : IsOffered n env.epoch x.part.front.row). o) m.0 in
+        let counts : IsWithinStream k.stream w (parts.una - 1) = ⊎_elim (λ (d : IsDecided env.epoch ours.row). absurd (no d))
+        (λ (c : IsWithinStream k.stream w (parts.una - 1)). c) m.1 in
+        let start : IsServing env.serve w (node_begins env parts).service =
+        record { told = (tt, tt); counts = subst (λ (m : ℕ). IsWithinStream m w (parts.una - 1)) (sym is.stream) counts } in
+        goes-limited (offered-here x.part.front.row refl offered) ours (taken_sent env) (state_of (reads_batch env true (node_begins env parts)))
+        (batch-state env (IsServing env.serve w) (stay-counts env.serve w) true (node_begins env parts) refl start)
 
-    pub offered-limited : (parts : EndpointParts) (bytes : List ℕ) → SpellsMessage x.c epoch (body.Offer parts) bytes → Was x Front (Node n) bytes → Stays (node_offered env ours parts)
-    offered-limited parts bytes spells was = offered-row parts
-        (subst (λ (e : ℕ). IsDecided e ours.row ⊎ IsOffered n e x.part.front.row) (sym is.epoch_is) (came-says x Front (Node n) epoch (body.Offer parts) bytes at_place.letters was spells))
-        (subst (λ (e : ℕ). IsDecided e ours.row ⊎ IsWithinStream k.stream w (parts.una - 1)) (sym is.epoch_is)
-        ((has-each (LetterCounts k.stream w x.part) (record { from = Front; to = Node n; bytes = bytes }) x.letters was h.counted.letters) _ spells))
-        ours.row refl
-
-    -- ---- the end of a stay
+    -- ---- the rules
 
     gone-counts : (o : Option BackRow) → BackCounts k.stream w (gone o)
     gone-counts None = tt
     gone-counts (Some row) = tt
 
-    pub acknowledged-limited : Stays (node_acknowledged env ours)
-    acknowledged-limited =
-        let q : NodePart = record ours { row = gone ours.row; kept = without timer.Ended 0 ours.kept } in
-        cond_both (awaits_ack env.epoch ours.row) (Does (q, node_saying [])) Drops Stays
-        (λ t. idle-counts k.stream x (node_does x n heads (Does (q, node_saying []))) (record {
-          heads = seen;
-          notes = tt;
-          front = h.counted.front;
-          nodes = put-each nodes n q (λ m r. BackCounts k.stream w r.row) (gone-counts ours.row) (λ m other. h.counted.nodes m);
-          letters = tt;
-        }))
-        (λ t. dropped)
+    came-serving : (f : Progress → Progress) (r : ℕ) (b : ControlBlock) (s : Stay) → IsWithinStream k.stream w b.send.total
+        → IsServing env.serve w (came_for f r (work_of b s)).service
+    came-serving f r b s c = came-so env (IsServing env.serve w) (stay-counts env.serve w) f r (work_of b s) (begins-here b b s.served refl c)
 
--- ---- its timer fires
+    rules_limited : KeptByNode env ours Counted Stays
+    rules_limited = record {
+      drops = dropped;
+      hears = λ said b s m at.
+          let it = has-it n env.epoch b s at in
+          goes-limited it.0 ours [] (work_of (on_segment b said).1 s)
+          (begins-here b (on_segment b said).1 s.served (segment-many b said) it.1);
+      tags = λ number tags b s m at asked same count.
+          let it = has-it n env.epoch b s at in
+          goes-limited it.0 (record ours { kept = without timer.Ask 0 ours.kept }) [] (tagged env tags (work_of b s))
+          (tagged-so env (IsServing env.serve w) (stay-counts env.serve w) tags (work_of b s) (begins-here b b s.served refl it.1));
+      comes = λ from r b s m at wanted.
+          let it = has-it n env.epoch b s at in
+          goes-limited it.0 (record ours { fetches = without timer.Fetch r ours.fetches }) [] (came_for (come_progress from) r (work_of b s))
+          (came-serving (come_progress from) r b s it.1);
+      reads = λ r path b s m at.
+          let it = has-it n env.epoch b s at in goes-limited it.0 ours [] (came_for read_progress r (work_of b s)) (came-serving read_progress r b s it.1);
+      begins = begins-limited;
+      takes_again = λ parts m again. says (taken_sent env);
+      fires = λ b s m at.
+          let it = has-it n env.epoch b s at in
+          let before : List (Place × List ℕ) = serving_ready_of env.serve (after_timer b) (timed b) in
+          turn-limited it.0 ours (again_sent ours) (work_of (after_timer b) s) (spoken env.serve (serving (after_timer b) s.served []) before)
+          (spoken-counts env.serve w (serving (after_timer b) s.served []) before refl (ready-to env.serve (after_timer b) (timed b))
+          (begins-here b (after_timer b) s.served (timer-many b) it.1));
+      resends = λ m none. says (again_sent ours);
+      ends = λ m told.
+          let q : NodePart = record ours { row = gone ours.row; kept = without timer.Ended 0 ours.kept } in
+          idle-counts k.stream x (node_does x n heads (Does (q, node_saying []))) (record {
+            heads = seen;
+            notes = tt;
+            front = h.counted.front;
+            nodes = put-each nodes n q (λ m r. BackCounts k.stream w r.row) (gone-counts ours.row) (λ m other. h.counted.nodes m);
+            letters = tt;
+          });
+    }
 
-module _ (k : Setting) (x : Conn) (at_place : IsPlaced x) (h : IsLimited k.stream x) (n : ℕ) (env : NodeEnv) (is : IsNodeEnv k x.c n (epoch_in (x.part.nodes n)) env) (heads : List Seen) (seen : Each IsMuteSeen heads) where
-  abbrev mine : NodePart
-  mine = x.part.nodes n
-
-  abbrev Fires : NodeDeed → Type 0
-  Fires d = MoveCounts k.stream x (node_does x n heads d)
-
-  here-fires : (b : ControlBlock) (s : Stay) → HasIt k x at_place h n env.epoch b
-      → Fires (Does (node_fired env mine (b, s) (spoken env.serve (serving (after_timer b) s.served []) (serving_ready_of env.serve (after_timer b) (timed b)))))
-  here-fires b s it =
-      let before : List (Place × List ℕ) = serving_ready_of env.serve (after_timer b) (timed b) in
-      turn-limited k x at_place h n (epoch_in mine) env is heads seen it.here_is mine (again_sent mine) (work_of (after_timer b) s) (spoken env.serve (serving (after_timer b) s.served []) before)
-      (spoken-counts env.serve (served_by_tale (tale_at x)) (serving (after_timer b) s.served []) before refl (ready-to env.serve (after_timer b) (timed b))
-      (begins-here k x at_place h n (epoch_in mine) env is heads seen b (after_timer b) s.served (timer-many b) it.counts))
-
-  held-row : (o : Option BackRow) → mine.row ≡ o → (b : ControlBlock) → back_endpoint o ≡ Some b → HasIt k x at_place h n env.epoch b
-  held-row None found b e = let no : None ≡ Some b = e in absurd cc
-  held-row (Some row) found b e =
-      subst (λ (d : ℕ). HasIt k x at_place h n d b) (sym (is.epoch_is ∙ ap (λ (o : Option BackRow). epoch_in (record mine { row = o })) found)) (has-row k x at_place h n row b found e)
-
-  fires-by : (o : Option ControlBlock) → back_endpoint mine.row ≡ o → (t : Option Stay) → Fires (node_fired_by env mine (both_of o t))
-  fires-by None e t = says k x at_place h n (epoch_in mine) env is heads seen (again_sent mine)
-  fires-by (Some b) e None = says k x at_place h n (epoch_in mine) env is heads seen (again_sent mine)
-  fires-by (Some b) e (Some s) = here-fires b s (held-row mine.row refl b e)
-
-  pub fires-limited : Fires (node_timer env mine)
-  fires-limited = fires-by (back_endpoint mine.row) refl mine.stay
+    pub rule-limited : (g : NodeGets) → IsInItsEpoch env ours g → NodeComes x n epoch heads g → Stays (node_rule env ours g)
+    rule-limited g at comes = node-keeps env ours Counted Stays rules_limited g at (counted-of g comes)

@@ -1,21 +1,13 @@
 -- The front end reads until a request is to be placed, and counts what it answers.
 use Rattle.std.proofs.Common.{◌≡◌, ◌≤◌, ◌+◌, ◌^◌, ℕ, zero, suc, true, List, length, Option, Some, None, refl, sym, subst}
 use Rattle.std.proofs.lemmas.Bool.{cond_both}
-use Rattle.lard_answers.specs.Answers.{good_path}
+use Rattle.lard_law_view.specs.Prelude.{Done, Found, IsControlBlock, More, Reading, ServeEnv, Service, Step, Verdict, answered, block_at, consuming, cut_of, ended_at_fin, front_reads, good_path, may_freeze, may_read, reading_left, reading_turn, reads_block, reads_found, runs_on, serving_consumed, targeted, with_service}
 use Rattle.lard_base.specs.declared.place.Via.TheVariants.{Own}
-use Rattle.lard_block.specs.declared.block.Found.{Found}
 use Rattle.lard_block.specs.declared.block.Found.TheVariants as found
-use Rattle.lard_block.specs.Blocks.{cut_of}
 use Rattle.lard_law_connections.specs.LimitsCounts.{Served}
 use Rattle.lard_law_connections.proofs.LimitsServing.{IsServing, answered-serving, answered-sound, ended-serving, ended-sound, reads-unfinished, reads-within, reblocked}
-use Rattle.lard_endpoint.specs.Control.{IsControlBlock, consuming}
-use Rattle.lard_endpoint.specs.Moving.{may_freeze}
-use Rattle.lard_rules.specs.FrontReading.{Reading, block_at, reading_left, front_reads, reads_block, reads_found, targeted, reading_turn, with_service}
 use Rattle.lard_request.specs.declared.verdict.Code.TheVariants as code
-use Rattle.lard_request.specs.declared.verdict.Verdict.{Verdict}
 use Rattle.lard_request.specs.declared.verdict.Verdict.TheVariants.{Fault}
-use Rattle.lard_rules.specs.Loop.{Step, More, Done, runs_on}
-use Rattle.lard_rules.specs.Serving.{ServeEnv, Service, answered, serving_consumed, ended_at_fin, may_read}
 use Rattle.lard_rules.proofs.Endpoints.{consuming-sound}
 
 -- what is to be placed may move, and nothing is to be reset

@@ -1,23 +1,17 @@
 -- What the records of a turn do to what was served: the reset law, of one connection's own records.
-use Rattle.std.proofs.Common.{◌≡◌, ◌≤◌, ◌<◌, ◌+◌, ℕ, List, [], ◌∷◌, ◌++◌, map, true, false, cond, Some, None, is_some, Option, refl, sym, ap, ◌∙◌, subst, nat_eq}
+use Rattle.std.proofs.Common.{◌≡◌, ◌≤◌, ◌<◌, ◌+◌, ℕ, List, [], ◌∷◌, ◌++◌, true, false, cond, Some, None, is_some, Option, refl, sym, ap, ◌∙◌, subst, nat_eq}
 use Rattle.std.specs.List.{fold}
-use Rattle.lard_base.specs.declared.place.Place.{Place}
-use Rattle.lard_base.specs.declared.place.Place.TheVariants.{Client, Front, Node}
+use Rattle.lard_law_view.specs.Prelude.{Came, Client, MayReset, Rec, Row, Seen, Tale, named_records, plain, served_bytes, tale, tale_step, told_on, was_reset, whose}
 use Rattle.lard_law_connections.specs.LimitsCounts.{Served, served_by_tale}
-use Rattle.lard_law_view.specs.View.{Part, named_records, sending, timer_rows}
-use Rattle.lard_law_view.proofs.Saying.{GaveAt, NotedAt}
-use Rattle.lard_law_view.proofs.Timers.{IsTimerAt, timer_rows-are}
-use Rattle.lard_history.specs.Journal.{Tale, served_bytes, tale, tale_step, told_on, was_reset}
-use Rattle.lard_history.specs.Laws.{MayReset}
-use Rattle.lard_history.specs.Own.{Seen, Row, Came, plain, whose}
+use Rattle.lard_law_view.proofs.Saying.{NotedAt, note-kind}
 use Rattle.lard_history.proofs.Each.{Each, Each-weaker}
 use Rattle.lard_history.proofs.Lifting.{IsLocal, tale-own}
 use Rattle.lard_history.proofs.Seeing.{same_number}
 use Rattle.lard_history.proofs.Tales.{reset-tale, served_bytes-tale}
-use Rattle.lard_journal.specs.declared.rec.Rec.{Rec}
 use Rattle.lard_journal.specs.declared.rec.Rec.TheVariants as rec
 use Rattle.lard_law_view.specs.WhileUntouched.{TellsBy}
 use Rattle.lard_law_view.proofs.RowLists.{MayBeSeen}
+use Rattle.lard_law_view.proofs.RecordKinds.{IsOuter, IsOfPlace, kind_of}
 
 -- ---- a record of the connection
 
@@ -92,37 +86,17 @@ pub mute-counts : (stream c : ℕ) (w : Served) (rs : List Rec) → Each IsMute 
 mute-counts stream c w [] h = tt
 mute-counts stream c w (r ∷ rs) h = (mute-may stream c w r h.0, mute-counts stream c (after w r) rs h.1)
 
-pub sends-mute : (place : Place) (ss : List (Place × List ℕ)) → Each IsMute (map (sending place) ss)
-sends-mute place [] = tt
-sends-mute place (s ∷ ss) = (tt, sends-mute place ss)
-
-gave-mute : (place : Place) (c : ℕ) (r : Rec) → GaveAt place c r → IsMute r
-gave-mute Front c (rec.Gave p d epoch) h = tt
-gave-mute (Node n) c (rec.Gave p d epoch) h = tt
-gave-mute (Client e) c r h = absurd h
-gave-mute Front c _ h = absurd h
-gave-mute (Node n) c _ h = absurd h
-
-pub gaves-mute : (place : Place) (c : ℕ) (rs : List Rec) → Each (GaveAt place c) rs → Each IsMute rs
-gaves-mute place c rs h = Each-weaker (GaveAt place c) IsMute (gave-mute place c) rs h
-
-timer-mute : (place : Place) (d : ℕ) (r : Rec) → IsTimerAt place d r → IsMute r
-timer-mute place d (rec.Armed p k kind) h = tt
-timer-mute place d (rec.Cleared p k kind) h = tt
-timer-mute place d _ h = absurd h
-
-pub timers-mute : (place : Place) (c : ℕ) (p q : Part) → Each IsMute (timer_rows place c p q)
-timers-mute place c p q = Each-weaker (IsTimerAt place c) IsMute (timer-mute place c) (timer_rows place c p q) (timer_rows-are place c p q)
-
-client-mute : (e c : ℕ) (r : Rec) → NotedAt (Client e) c r → IsMute r
-client-mute e c (rec.Wrote d bytes) h = tt
-client-mute e c (rec.Accepted d bytes) h = tt
-client-mute e c (rec.Eof d) h = tt
-client-mute e c (rec.Aborted d) h = tt
-client-mute e c _ h = absurd h
+pub outer-mute : (r : Rec) → IsOuter r → IsMute r
+outer-mute (rec.Served place d r code size via) h = absurd h
+outer-mute (rec.Reset place d total) h = absurd h
+outer-mute _ h = tt
 
 pub clients-mute : (e c : ℕ) (rs : List Rec) → Each (NotedAt (Client e) c) rs → Each IsMute rs
-clients-mute e c rs h = Each-weaker (NotedAt (Client e) c) IsMute (client-mute e c) rs h
+clients-mute e c rs h = Each-weaker (NotedAt (Client e) c) IsMute (λ r k. one r (note-kind (Client e) c r k)) rs h where
+  one : (r : Rec) → IsOfPlace (Client e) (kind_of r) → IsMute r
+  one (rec.Served place d r code size via) h = absurd h
+  one (rec.Reset place d total) h = absurd h
+  one _ h = tt
 
 -- ---- what a node names of its notes
 

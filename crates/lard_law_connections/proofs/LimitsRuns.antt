@@ -1,31 +1,25 @@
 -- The reset law in every run.
-use Rattle.std.proofs.Common.{◌≤◌, ◌^◌, ℕ, List, [], ◌∷◌, refl, arith}
-use Rattle.lard_base.specs.declared.config.Config.{Config}
-use Rattle.lard_base.specs.declared.event.Event.TheVariants as event
-use Rattle.lard_base.specs.declared.place.Place.TheVariants.{Client, Front, Node}
+use Rattle.std.proofs.Common.{◌≤◌, ◌^◌, ℕ, List, refl, arith}
+use Rattle.lard_law_view.specs.Prelude.{ClientRules, Completed, Config, Conn, FrontRules, IsLaw, MayReset, MayRestOn, Move, Node, NodeGets, NodeRules, OfEach, Rules, Setting, client_begins, client_injects, client_opens, client_rule, conn, grown, inject_seen, nothing_said, packet_seen, setting, stands}
+use Rattle.lard_law_view.proofs.EachFront.{admission, each-front, of-front}
+use Rattle.lard_history.proofs.Each.{Each}
+use Rattle.lard_law_view.proofs.EachClient.{client_seen, each-client, of-client}
 use Rattle.lard_law_connections.specs.LimitsLaws.{ConnectionsAreCounted, ResetsAreLawful}
-use Rattle.lard_law_connections.proofs.LimitsFronts.{admitted-limited, asked-limited, ended-limited, gets-limited, taken-limited, timer-limited}
+use Rattle.lard_law_connections.proofs.LimitsFronts.{front-limited}
 use Rattle.lard_law_connections.proofs.LimitsMoves.{IsLimited, MoveCounts, client-counts, move-limited, stands-counts}
-use Rattle.lard_law_connections.proofs.LimitsNodes.{acknowledged-limited, content-limited, fires-limited, forwarded-limited, offered-limited, read-limited, tagged-limited}
-use Rattle.lard_law_connections.proofs.LimitsRows.{MayStand, lawful-local}
+use Rattle.lard_law_connections.proofs.LimitsNodes.{rule-limited}
+use Rattle.lard_law_connections.proofs.LimitsRows.{IsMuteSeen, MayStand, lawful-local}
+use Rattle.lard_law_view.proofs.NodeHeads.{heads-of}
 use Rattle.lard_law_connections.proofs.PlacesLaw.{owing}
 use Rattle.lard_law_connections.proofs.PlacesRuns.{each-placed}
 use Rattle.lard_law_connections.proofs.PlacesTurns.{IsPlaced, Owes}
-use Rattle.lard_law_view.specs.Carry.{IsLaw, MayRestOn, OfEach, setting}
-use Rattle.lard_law_view.specs.View.{ClientRules, Conn, client_begins, event_seen, inject_seen, FrontRules, Move, NodeRules, Rules, Setting, brought_said, conn, content_said, grown, nothing_said, packet_seen, reads_first}
 use Rattle.lard_law_view.proofs.Carried.{carried}
+use Rattle.lard_law_view.proofs.EachNode.{Answers, Aside, Brings, Queues, aside_said, aside_seen, each-node, job_notes, told_first}
 use Rattle.lard_law_view.proofs.Fine.{IsFine, fine}
 use Rattle.lard_law_view.proofs.Guarded.{both, weaker}
 use Rattle.lard_law_view.proofs.InSteps.{carried-records}
-use Rattle.lard_rules.specs.Front.{ask_of}
-use Rattle.lard_history.specs.Journal.{request}
-use Rattle.lard_history.specs.Laws.{MayReset}
-use Rattle.lard_journal.specs.declared.rec.Rec.TheVariants as rec
-use Rattle.lard_rules.specs.Client.{client_aborts, client_gets, client_holds, client_injects, client_opens, client_shuts, client_takes, client_timer, client_writes}
-use Rattle.lard_segment.specs.declared.segment.Dir.TheVariants.{ToClient, ToCluster}
-use Rattle.lard_segment.specs.Segment.{decoded}
 use Rattle.lard_law_view.proofs.RowLists.{MayBeSeen}
-use Rattle.lard_law_view.proofs.PlaceTurns.{aborts-turn, fires-turn, hears-turn, holds-turn, injects-turn, opens-turn, shuts-turn, takes-turn, writes-turn}
+use Rattle.lard_law_view.proofs.PlaceTurns.{injects-turn, opens-turn, rule-turn}
 
 module _ (k : Setting) (most : k.stream ≤ 2 ^ 30) where
   -- what the move of each rule owes
@@ -33,45 +27,33 @@ module _ (k : Setting) (most : k.stream ≤ 2 ^ 30) where
   Counting x v = MayRestOn IsPlaced x → IsLimited k.stream x → MoveCounts k.stream x v
 
   clients : ClientRules k Counting
-  clients = record {
-    opens = λ x isn iss wnd mss rule none m h. client-counts k.stream x (client_begins x isn iss wnd mss).heads _ (client_opens x.c isn wnd mss) h (tt, (tt, tt)) (opens-turn x.c isn wnd mss).notes;
-    gets = λ x s path there le m h. client-counts k.stream x (event_seen (event.Get x.c path)) _ (client_writes s.client (request path)) h (tt, tt) (writes-turn x.c s.client (m.sound.client s there) (request path)).notes;
-    writes = λ x s bytes there le m h. client-counts k.stream x (event_seen (event.Write x.c bytes)) _ (client_writes s.client bytes) h (tt, tt) (writes-turn x.c s.client (m.sound.client s there) bytes).notes;
-    shuts = λ x s there m h. client-counts k.stream x (event_seen (event.Shut x.c)) _ (client_shuts s.client) h (tt, tt) (shuts-turn x.c s.client (m.sound.client s there)).notes;
-    aborts = λ x s there m h. client-counts k.stream x (event_seen (event.Abort x.c)) _ (client_aborts s.client) h (tt, tt) (aborts-turn x.c s.client (m.sound.client s there)).notes;
-    holds = λ x s there m h. client-counts k.stream x (event_seen (event.Hold x.c)) _ (client_holds s.client) h (tt, tt) (holds-turn x.c s.client (m.sound.client s there)).notes;
-    takes = λ x s there m h. client-counts k.stream x (event_seen (event.Take x.c)) _ (client_takes s.client) h (tt, tt) (takes-turn x.c s.client (m.sound.client s there)).notes;
-    fires = λ x s there m h. client-counts k.stream x (event_seen (event.Timer (Client x.c) x.c)) _ (client_timer s.client) h (tt, tt) (fires-turn x.c s.client (m.sound.client s there)).notes;
-    hears = λ x s from bytes there was m h. client-counts k.stream x (packet_seen from (Client x.c) bytes) _ (client_gets s.client (decoded bytes x.c ToClient)) h (tt, tt) (hears-turn x.c s.client (m.sound.client s there) (decoded bytes x.c ToClient)).notes;
-  }
+  clients = each-client k Counting (record {
+    opens = λ x isn iss wnd mss rule none m h. client-counts k.stream x (client_begins x isn iss wnd mss).heads _ (client_opens x.c isn wnd mss) h (tt, (tt, tt))
+        (opens-turn x.c isn wnd mss).notes;
+    does = λ x s g there comes m h. client-counts k.stream x (client_seen x.c g) _ (client_rule x.c s.client g) h
+        (of-client x.c (Each IsMuteSeen) (λ from bytes. (tt, tt)) (λ e. (tt, tt)) g) (rule-turn x.c s.client (m.sound.client s there) g).notes;
+  })
 
   fronts : FrontRules k Counting
-  fronts = record {
-    hears = λ x s env bytes there is iss was m h. gets-limited k most x m.sound m.given h (packet_seen (Client x.c) Front bytes) (tt, tt) env is bytes (decoded bytes x.c ToCluster);
-    fires = λ x s env there is m h. timer-limited k most x m.sound m.given h (event_seen (event.Timer Front x.c)) (tt, tt) env is;
-    taken = λ x env n epoch bytes is spells was m h. taken-limited k most x m.sound m.given h (packet_seen (Node n) Front bytes) (tt, tt) env is epoch;
-    asked = λ x env n epoch number queue size paths bytes is spells was m h. asked-limited k most x m.sound m.given h (packet_seen (Node n) Front bytes) (tt, tt) env is n epoch (ask_of x.c n number queue size paths);
-    ended = λ x env n epoch reason snd rcv count bytes is spells was m h. ended-limited k most x m.sound m.given h (packet_seen (Node n) Front bytes) (tt, tt) env is n epoch (record { reason = reason; snd = record { 0 = snd }; rcv = record { 0 = rcv } });
-    admitted = λ x env choice given is e m h. admitted-limited k most x m.sound m.given h [] tt env is choice given e;
-  }
+  fronts = each-front k Counting (λ x env heads g is comes m h. front-limited k most x m.sound m.given h heads
+      (of-front x (Each IsMuteSeen) (λ from bytes. (tt, tt)) tt (tt, tt) env heads g comes) env is g (admission x env heads g comes))
 
   -- the record of a job that was read says nothing of it
-  read-first : (x : Conn) (n r : ℕ) (path : List ℕ) (v : Move) → MoveCounts k.stream x v → MoveCounts k.stream x (reads_first (rec.Read n n x.c r path) v)
-  read-first x n r path v m = record { heads = m.heads; notes = (tt, m.notes); front = m.front; nodes = m.nodes; old = m.old; letters = m.letters }
+  read-first : (x : Conn) (n : ℕ) (g : NodeGets) (v : Move) → MoveCounts k.stream x v → MoveCounts k.stream x (told_first (job_notes x.c n g) v)
+  read-first x n (Completed r path) v m = record { heads = m.heads; notes = (tt, m.notes); front = m.front; nodes = m.nodes; old = m.old; letters = m.letters }
+  read-first x n _ v m = m
+
+  by-aside : (x : Conn) (n : ℕ) (a : Aside) → IsLimited k.stream x → MoveCounts k.stream x (stands x (Node n) (aside_seen n a) (aside_said k n x.c a))
+  by-aside x n (Answers from epoch r path file bytes) h = stands-counts k.stream x (Node n) _ _ h (tt, tt) tt refl (tt, tt)
+  by-aside x n (Queues from epoch r path file bytes) h = stands-counts k.stream x (Node n) _ _ h (tt, tt) (tt, tt) refl tt
+  by-aside x n (Brings from epoch r path) h = stands-counts k.stream x (Node n) _ _ h tt (tt, tt) refl (tt, tt)
 
   nodes : NodeRules k Counting
-  nodes = record {
-    offered = λ x n epoch env parts bytes is spells was m h. offered-limited k x m.given h n epoch env is (packet_seen Front (Node n) bytes) (tt, tt) parts bytes spells was;
-    forwarded = λ x n epoch env segment bytes is spells was m h. forwarded-limited k x m.given h n epoch env is (packet_seen Front (Node n) bytes) (tt, tt) (decoded segment x.c ToCluster);
-    tagged = λ x n epoch number tags env bytes is spells was m h. tagged-limited k x m.given h n epoch env is (packet_seen Front (Node n) bytes) (tt, tt) number tags;
-    content = λ x n from epoch r env file bytes is spells was m h. content-limited k x m.given h n epoch env is (packet_seen (Node from) (Node n) bytes) (tt, tt) from r;
-    acknowledged = λ x n epoch env bytes is spells was m h. acknowledged-limited k x m.given h n epoch env is (packet_seen Front (Node n) bytes) (tt, tt);
-    read = λ x n epoch r env path is m h. read-first x n r path _ (read-limited k x m.given h n epoch env is [] tt r);
-    fires = λ x s n env there is m h. fires-limited k x m.given h n env is (event_seen (event.Timer (Node n) x.c)) (tt, tt);
-    answers = λ x n from epoch r path file bytes there spells was m h. stands-counts k.stream x (Node n) (packet_seen (Node from) (Node n) bytes) (content_said k n from x.c epoch r path) h (tt, tt) tt refl (tt, tt);
-    queues = λ x n from epoch r path file bytes there spells was m h. stands-counts k.stream x (Node n) (packet_seen (Node from) (Node n) bytes) (record nothing_said { notes = rec.Queued n from x.c r path ∷ [] }) h (tt, tt) (tt, tt) refl tt;
-    brings = λ x n from epoch r path m h. stands-counts k.stream x (Node n) [] (brought_said k n from x.c epoch r path) h tt (tt, tt) refl (tt, tt);
-  }
+  nodes = each-node k Counting (record {
+    does = λ x n epoch env heads g is at comes m h. read-first x n g _
+        (rule-limited k x m.given h n epoch env is heads (heads-of IsMuteSeen (λ l. tt) (λ i c. tt) x n epoch heads g comes) g at comes);
+    aside = λ x n a may m h. by-aside x n a h;
+  })
 
   counting : Rules k Counting
   counting = record {

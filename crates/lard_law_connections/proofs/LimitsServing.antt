@@ -1,30 +1,19 @@
 -- What a place that serves a connection counts, whichever place it is.
-use Rattle.std.proofs.Common.{◌≡◌, ◌≤◌, ◌+◌, ◌^◌, ℕ, true, false, nat_lt, List, [], ◌∷◌, ◌++◌, length, Option, Some, None, arith, refl, ◌∙◌, sym, subst}
+use Rattle.std.proofs.Common.{◌≡◌, ◌≤◌, ◌+◌, ◌^◌, ℕ, true, false, List, [], ◌∷◌, ◌++◌, length, Option, Some, None, arith, refl, ◌∙◌, sym, subst}
 use Rattle.std.proofs.lemmas.Bool.{and_parts, cond_both, ltb-false, ltb-true, not-true}
 use Rattle.std.proofs.lemmas.List.Sums.{fold-append}
-use Rattle.lard_answers.specs.Answers.{answer, answer_code}
-use Rattle.lard_base.specs.declared.place.Place.{Place}
-use Rattle.lard_base.specs.declared.place.Place.TheVariants.{Client}
+use Rattle.lard_law_view.specs.Prelude.{Client, ControlBlock, Ending, IsControlBlock, Place, Rec, ServeEnv, Service, Turn, Verdict, Via, answer, answer_code, answered, closed_behind, closes, cut_off, discarding_on, ended_at_fin, final_of, finishing, limit_said, may_read, queueing, rested, serving_settled, serving_told, speaks, speaks_symbols, spoken}
 use Rattle.lard_base.specs.declared.place.Reason.TheVariants.{Limit}
-use Rattle.lard_base.specs.declared.place.Via.{Via}
 use Rattle.lard_law_connections.specs.LimitsCounts.{IsWithinStream, Served}
 use Rattle.lard_law_connections.proofs.LimitsRows.{CountsBy, IsMute, after, after_all, counts-append, mute-after, mute-counts}
-use Rattle.lard_endpoint.specs.Control.{ControlBlock, IsControlBlock, discarding_on, finishing, queueing}
-use Rattle.lard_endpoint.specs.Moving.{end_reason, final_of, may_end}
 use Rattle.lard_endpoint.proofs.Sound.{after_emit-sound, queueing-sound}
 use Rattle.lard_history.proofs.Each.{Each, Each-append}
-use Rattle.lard_journal.specs.declared.rec.Rec.{Rec}
 use Rattle.lard_journal.specs.declared.rec.Rec.TheVariants as rec
-use Rattle.lard_request.specs.declared.verdict.Verdict.{Verdict}
-use Rattle.lard_request.specs.Verdict.{closes}
-use Rattle.lard_rules.specs.declared.places.Ending.{Ending}
 use Rattle.lard_rules.specs.declared.places.Ending.TheVariants as ending
-use Rattle.lard_rules.specs.declared.places.Turn.{Turn}
-use Rattle.lard_rules.specs.Serving.{ServeEnv, Service, answered, closed_behind, cut_off, ended_at_fin, limit_said, may_read, passed_over, queued, rested, serving_settled, spoken, serving_told}
-use Rattle.lard_rules.specs.Speaking.{speaks, speaks_symbols}
 use Rattle.lard_rules.proofs.Endpoints.{closed-sound, finishing-sound}
 use Rattle.lard_rules.proofs.Loops.{speaks_keep}
 use Rattle.lard_law_view.proofs.EndpointSends.{AllTo, speaks-to, speaks_symbols-to}
+use Rattle.lard_rules.proofs.Endings.{StaysWith, answered-keeps, at-fin-keeps, rested-keeps, settled-keeps, settled-stays, spoken-stays}
 
 -- ---- what may be read on
 
@@ -88,7 +77,7 @@ module _ (env : ServeEnv) (u : Served) where
       let c : IsWithinStream env.stream w total = subst (λ (o : Option ℕ). UnlessOver o total w) none h.counts in
       let reset : Rec = rec.Reset env.place env.c (total + length bytes) in
       let served : Rec = rec.Served env.place env.c (s.count + 1) (answer_code env.files v) (length bytes) via in
-      cond_both (nat_lt env.stream (total + length bytes)) (passed_over env (total + length bytes) s) (queued env via v bytes s) IsServing
+      answered-keeps IsServing env via v s
       (λ over. record {
         told = counts-append env.stream env.c u s.notes (reset ∷ []) h.told ((refl, ltb-true env.stream (total + length bytes) over, c.not_reset), tt);
         counts = tt;
@@ -104,12 +93,12 @@ module _ (env : ServeEnv) (u : Served) where
       })
 
   pub ended-serving : (s : Service) → IsServing s → IsServing (ended_at_fin s)
-  ended-serving s h = cond_both s.block.recv.fin (record s { block = finishing s.block }) s IsServing (λ t. reblocked s (finishing s.block) refl h) (λ t. h)
+  ended-serving s h = at-fin-keeps IsServing s (λ t. reblocked s (finishing s.block) refl h) (λ t. h)
 
   -- ---- the end of a turn
 
   rested-counts : (v : Served) (b : ControlBlock) (count : ℕ) → IsWithinStream env.stream v b.send.total → EndCounts env.stream v (rested b count)
-  rested-counts v b count h = cond_both (may_end b) (ending.Over (final_of b (end_reason b))) (ending.Here b count) (EndCounts env.stream v) (λ t. tt) (λ t. h)
+  rested-counts v b count h = rested-keeps (EndCounts env.stream v) b count (λ t. tt) (λ t. h)
 
   pub spoken-counts : (s : Service) (before : List (Place × List ℕ)) → s.over ≡ None → AllTo (Client env.c) before → IsServing s → TurnCounts env.stream env.c u (spoken env s before)
   spoken-counts s before none to h =
@@ -132,10 +121,7 @@ module _ (env : ServeEnv) (u : Served) where
       }
 
   pub settled-counts : (s : Service) → IsServing s → TurnCounts env.stream env.c u (serving_settled env s)
-  settled-counts s h = go s.over refl where
-    go : (o : Option ℕ) → s.over ≡ o → TurnCounts env.stream env.c u (elim o as (λ p. Ending × Turn) [ None ↦ spoken env s [] | Some total ↦ cut_off env s ])
-    go None e = spoken-counts s [] e tt h
-    go (Some total) e = cut_off-counts s h
+  settled-counts s h = settled-keeps (TurnCounts env.stream env.c u) env s (λ e. spoken-counts s [] e tt h) (λ total e. cut_off-counts s h)
 
   -- an endpoint that is here, as it begins a turn
   pub begins-serving : (b d : ControlBlock) (count : ℕ) → d.send.total ≡ b.send.total → IsWithinStream env.stream u b.send.total → IsServing (record { block = d; count = count; notes = []; answered = 0; over = None })
@@ -147,28 +133,22 @@ pub answered-sound : (env : ServeEnv) (via : Via) (v : Verdict) (s : Service) �
 answered-sound env via v s most unfinished h =
     let bytes : List ℕ = answer env.files v in
     let total : ℕ = s.block.send.total in
-    cond_both (nat_lt env.stream (total + length bytes)) (passed_over env (total + length bytes) s) (queued env via v bytes s) (λ (t : Service). IsControlBlock t.block)
+    answered-keeps (λ (t : Service). IsControlBlock t.block) env via v s
     (λ t. h)
     (λ t. let le : total + length bytes ≤ env.stream = ltb-false env.stream (total + length bytes) t in closed-sound v (queueing s.block bytes) (queueing-sound s.block bytes unfinished (omega (arith, le, most)) h))
 
 pub ended-sound : (s : Service) → IsControlBlock s.block → IsControlBlock (ended_at_fin s).block
-ended-sound s h = cond_both s.block.recv.fin (record s { block = finishing s.block }) s (λ (t : Service). IsControlBlock t.block) (λ t. finishing-sound s.block h) (λ t. h)
+ended-sound s h = at-fin-keeps (λ (t : Service). IsControlBlock t.block) s (λ t. finishing-sound s.block h) (λ t. h)
 
 speaks-sound : (c : ℕ) (b : ControlBlock) → IsControlBlock b → IsControlBlock (speaks c b).1
 speaks-sound c b = speaks_keep c (λ b ss d. IsControlBlock b → IsControlBlock d) (record { rests = λ b h. h; says = λ b r ss d e later h. later (after_emit-sound b h) }) b
 
 -- where the connection stays
 abbrev pub EndSound : Ending → Type 0
-EndSound (ending.Here b count) = IsControlBlock b
-EndSound (ending.Over last) = Unit {0}
+EndSound = StaysWith (λ b count. IsControlBlock b)
 
 pub spoken-sound : (env : ServeEnv) (s : Service) (before : List (Place × List ℕ)) → IsControlBlock s.block → EndSound (spoken env s before).0
-spoken-sound env s before h =
-    let b : ControlBlock = (speaks env.c s.block).1 in
-    cond_both (may_end b) (ending.Over (final_of b (end_reason b))) (ending.Here b s.count) EndSound (λ t. tt) (λ t. speaks-sound env.c s.block h)
+spoken-sound env s before h = spoken-stays (λ b count. IsControlBlock b) env s before (λ stays. speaks-sound env.c s.block h)
 
 pub settled-sound : (env : ServeEnv) (s : Service) → IsControlBlock s.block → EndSound (serving_settled env s).0
-settled-sound env s h = go s.over where
-  go : (o : Option ℕ) → EndSound (elim o as (λ p. Ending × Turn) [ None ↦ spoken env s [] | Some total ↦ cut_off env s ]).0
-  go None = spoken-sound env s [] h
-  go (Some total) = tt
+settled-sound env s h = settled-stays (λ b count. IsControlBlock b) env s (λ none stays. speaks-sound env.c s.block h)

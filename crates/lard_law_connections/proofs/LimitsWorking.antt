@@ -1,15 +1,8 @@
 -- What each turn of a stay keeps of the node's service alone, the stay keeps: while batches are read, requests start, come on and are served.
 use Rattle.std.proofs.Common.{◌≡◌, ℕ, Bool, true, List, [], ◌∷◌}
-use Rattle.lard_base.specs.declared.place.Via.{Via}
-use Rattle.lard_disk.specs.declared.disk.Job.{Job}
+use Rattle.lard_law_view.specs.Prelude.{Job, NodeEnv, Progress, Rec, ServeEnv, Service, Verdict, Via, Work, answered, came_for, ended_at_fin, goes_on, may_read, noted, reads_batch, serving_consumed, state_of, tagged}
 use Rattle.lard_history.proofs.Each.{Each}
-use Rattle.lard_journal.specs.declared.rec.Rec.{Rec}
 use Rattle.lard_journal.specs.declared.rec.Rec.TheVariants as rec
-use Rattle.lard_request.specs.declared.verdict.Verdict.{Verdict}
-use Rattle.lard_rules.specs.declared.stay.Progress.{Progress}
-use Rattle.lard_rules.specs.Loop.{state_of}
-use Rattle.lard_rules.specs.Serving.{ServeEnv, Service, answered, serving_consumed, ended_at_fin, may_read}
-use Rattle.lard_rules.specs.Stay.{NodeEnv, Work, came_for, goes_on, noted, reads_batch, tagged}
 use Rattle.lard_rules.proofs.StayKeeping.{KeptByNotes, batch-works, came-works, goes-works, tagged-works}
 
 -- a path that was hit or queued

@@ -3,40 +3,25 @@ use Rattle.std.proofs.Common.{◌≡◌, ℕ, ◌+◌, ◌*◌, ◌≤◌, List,
 use Rattle.std.proofs.lemmas.Bool.Decides.{nat_tests}
 use Rattle.std.proofs.lemmas.List.Sums.{fold-append, sum_by-le-sum_by}
 use Rattle.std.specs.List.{AllByRecursion, fold}
-use Rattle.lard_base.specs.Config.{config_check, room_of}
-use Rattle.lard_base.specs.declared.config.Config.{Config}
-use Rattle.lard_base.specs.declared.event.Event.{Event}
-use Rattle.lard_base.specs.declared.place.Place.TheVariants.{Front}
-use Rattle.lard_rules.specs.declared.machine.Machine.{Machine}
-use Rattle.lard_rules.specs.Bounds.{HasRule}
-use Rattle.lard_rules.specs.Machine.{IsReached, clocked, front_gave, front_setting, machine_step, machine_start, machine_told}
+use Rattle.lard_law_view.specs.Prelude.{AreAllowed, Call, ClosesNone, Config, Dispatcher, EachMay, Event, Front, FrontState, HasRule, IsCallInRange, IsReached, Machine, MayBeMade, Out, Rec, Tally, after_call, after_calls, clocked, config_check, connections_at, dispatch_begun, front_gave, front_setting, front_step, is_home_of_node, loads_after, machine_start, machine_step, machine_told, room_of}
 use Rattle.lard_law_connections.proofs.LineCalls.{StepCalls, step-calls}
 use Rattle.lard_law_connections.proofs.LineCharging.{IsBelow, below-same, falls-below, rises-below}
 use Rattle.lard_law_connections.proofs.LineRuns.{step-ordered-so}
 use Rattle.lard_law_connections.specs.LineLaws.{ConnectionsStayFew, HasFewConnections, IsNearTheThresholds, IsNotBusy, IsWithinTheRoom, LoadsStayNearTheThresholds, LoadsStayWithinTheRoom, NeverAllBusy, connections_told, greatest_threshold}
 use Rattle.lard_law_connections.proofs.PolicyAsides.{EachFrom, May, from-append, from-may, may-from}
-use Rattle.lard_law_connections.proofs.PolicyCalm.{first_rows, last_rows, told-journal}
+use Rattle.lard_law_connections.proofs.Calm.{first_rows, last_rows, told-journal}
 use Rattle.lard_law_connections.proofs.PolicyCounted.{books-are-told, loads-are-charges, reached-counted, standings-are-told}
-use Rattle.lard_law_connections.proofs.PolicyForms.{Clocks, FrontStays, FrontStep, step-form}
+use Rattle.lard_law_connections.proofs.Forms.{Clocks, FrontStays, FrontStep, front-form}
 use Rattle.lard_law_connections.proofs.PolicyNumbers.{IsNumbered, reached-numbered}
 use Rattle.lard_counts.specs.Ledger.{Ledger, blank_ledger, ledger, ledger_step}
 use Rattle.lard_law_connections.specs.PolicyLoads.{load_told}
 use Rattle.lard_law_view.proofs.Carried.{IsOn, carried-keep}
 use Rattle.lard_law_view.proofs.Runs.{passes-more}
-use Rattle.lard_dispatch.specs.Books.{Dispatcher, dispatch_begun}
-use Rattle.lard_dispatch.specs.Laws.{AreAllowed, Call, after_call, after_calls}
-use Rattle.lard_dispatch.specs.Loads.{ClosesNone, IsCallInRange, MayBeMade, connections_at, is_home_of_node, loads_after}
 use Rattle.lard_dispatch.proofs.Homes.{few-are-high}
 use Rattle.lard_dispatch.proofs.Shares.{within-the-room}
 use Rattle.lard_dispatch.proofs.Thresholds.{few-at-homes, near-the-thresholds}
-use Rattle.lard_rules.specs.declared.front.FrontState.{FrontState}
-use Rattle.lard_rules.specs.FrontPlace.{front_step}
-use Rattle.lard_history.specs.Laws.{EachMay}
 use Rattle.lard_history.proofs.Each.{Each, each_append}
-use Rattle.lard_journal.specs.declared.rec.Rec.{Rec}
 use Rattle.lard_loads.specs.Tally as tally
-use Rattle.lard_loads.specs.Tally.{Tally}
-use Rattle.lard_rules.specs.declared.places.Out.{Out}
 use Rattle.lard_law_view.proofs.OwnRecords.{behind}
 
 -- ---- calls behind calls
@@ -123,8 +108,8 @@ module _ (config : Config) (files : List (List ℕ × List ℕ)) (checked : conf
       subst (HasCalls config) (sym s.is)
       (moved-calls k e given.0 given.1 (step-calls (front_setting k) k.front (reached-counted config files checked k on.reached).sound s.comes)
       (notes-numbered k e given.0 given.1 (subst (λ (x : Machine). Each IsNumbered x.journal) s.is numbered)) h))
-      (λ (c : Clocks k e n). same-calls k n (ap (λ (x : Machine). x.front) c.1 ∙ clocked-front k c.0) h))
-      (step-form k e n is))
+      (λ (c : Clocks k e n). same-calls k n (ap (λ (x : Machine). x.front) c.is ∙ clocked-front k c.ms) h))
+      (front-form k n e is))
 
   -- ---- at every moment no node has more than in some state
 

@@ -3,46 +3,17 @@
 use Rattle.std.proofs.Common.{◌≡◌, ℕ, ◌+◌, ◌≤◌, Bool, true, false, List, [], ◌∷◌, ◌++◌, length, Option, Some, None, Result, Ok, Err, arith, refl, sym, ap, ◌∙◌, subst}
 use Rattle.std.specs.List.{AllByRecursion}
 use Rattle.lard_law_connections.proofs.PolicyNumbers.{IsNumbered}
-use Rattle.lard_costs.specs.declared.later.LaterChoice.{LaterChoice}
-use Rattle.lard_dispatch.specs.declared.dispatch.Ask.{Ask}
-use Rattle.lard_dispatch.specs.declared.dispatch.First.TheVariants as first
-use Rattle.lard_dispatch.specs.declared.dispatch.Later.{Later}
-use Rattle.lard_dispatch.specs.Books.{Dispatcher}
-use Rattle.lard_dispatch.specs.Calls.{ended_answer}
-use Rattle.lard_dispatch.specs.Laws.{AreAllowed, Call, after_calls}
-use Rattle.lard_dispatch.specs.Loads.{ClosesNone, IsCallInRange}
-use Rattle.lard_endpoint.specs.declared.control.moving.Final.{Final}
-use Rattle.lard_rules.specs.declared.front.FrontRest.{FrontRest}
-use Rattle.lard_rules.specs.declared.front.FrontState.{FrontState}
-use Rattle.lard_rules.specs.declared.front.FrontTurn.{FrontTurn}
-use Rattle.lard_rules.specs.Front.{FrontDeed, Drops, Says, Does, Did, FrontEnv, FrontPart, ask_of, assigned_notes, assigns, front_ends, front_fired, front_admitted, front_asked, front_ended, front_gets, front_taken, front_timer, leaves_by, over_note, front_rest}
-use Rattle.lard_rules.specs.FrontPlace.{FrontSetting, admits, admits_too, ended_deed, front_deed, front_env, front_part, front_step, front_told, message_comes, put_back}
-use Rattle.lard_rules.specs.FrontSound.{IsFrontSound, dispatch_standing}
+use Rattle.lard_law_view.specs.Prelude.{AreAllowed, Ask, Body, Call, ClosesNone, Did, Dispatcher, Ending, Final, FirstChoice, FrontDeed, FrontEnv, FrontIn, FrontPart, FrontRest, FrontSetting, FrontState, FrontTurn, IsCallInRange, IsFrontSound, IsOfTable, Later, LaterChoice, Message, MsgFault, Out, Rec, Said, SegFault, ToCluster, Turn, admits, admits_too, after_calls, ask_of, assigned_notes, assigns, decoded, decoded_message, dispatch_standing, ended_answer, ended_deed, front_admitted, front_asked, front_deed, front_ended, front_ends, front_env, front_fired, front_gets, front_part, front_rest, front_step, front_taken, front_timer, front_told, leaves_by, message_comes, next_epoch, over_note, put_back, serving_settled, spoken}
+use Rattle.lard_rules.specs.Front.{Drops, Says, Does}
 use Rattle.lard_rules.proofs.FrontDeeds.{IsOf, asked-keeps, gets-keeps, many-choices, taken-keeps, timer-keeps}
 use Rattle.lard_rules.proofs.FrontEnded.{Comes, end-comes, may-end}
 use Rattle.lard_rules.proofs.FrontKeeping.{DeedKeeps}
-use Rattle.lard_handoff_front.specs.Front.{next_epoch}
 use Rattle.lard_history.proofs.Each.{Each}
-use Rattle.lard_journal.specs.declared.rec.Rec.{Rec}
 use Rattle.lard_journal.specs.declared.rec.Rec.TheVariants as rec
-use Rattle.lard_message.specs.declared.fault.MsgFault.{MsgFault}
-use Rattle.lard_message.specs.declared.message.Body.{Body}
 use Rattle.lard_message.specs.declared.message.Body.TheVariants as body
-use Rattle.lard_message.specs.declared.message.Message.{Message}
-use Rattle.lard_message.specs.Message.{IsOfTable}
-use Rattle.lard_message.specs.Reading.{decoded_message}
-use Rattle.lard_policy.specs.declared.first.FirstChoice.{FirstChoice}
 use Rattle.lard_law_connections.proofs.PolicyMessages.{IsTold, message-told}
-use Rattle.lard_rules.specs.declared.front.FrontIn.{FrontIn}
 use Rattle.lard_rules.specs.declared.front.FrontIn.TheVariants as input
-use Rattle.lard_rules.specs.declared.places.Out.{Out}
-use Rattle.lard_rules.specs.declared.places.Ending.{Ending}
 use Rattle.lard_rules.specs.declared.places.Ending.TheVariants as ending
-use Rattle.lard_rules.specs.declared.places.Turn.{Turn}
-use Rattle.lard_rules.specs.Serving.{spoken, serving_settled}
-use Rattle.lard_segment.specs.declared.fault.SegFault.{SegFault}
-use Rattle.lard_segment.specs.declared.segment.Dir.TheVariants.{ToCluster}
-use Rattle.lard_segment.specs.Segment.{Said, decoded}
 use Rattle.lard_rules.proofs.FrontCases.{KeptBySegment, begun_service, heard_service, waiting_service, segment-keeps}
 use Rattle.lard_rules.proofs.FrontCases as cases
 

@@ -5,23 +5,18 @@ use Rattle.std.proofs.lemmas.Bool.{cond_both}
 use Rattle.std.proofs.lemmas.List.Sums.{sum_by_push}
 use Rattle.std.specs.FinMap as map
 use Rattle.std.specs.List.{fold}
-use Rattle.lard_base.specs.declared.config.Config.{Config}
+use Rattle.lard_law_view.specs.Prelude.{Config, IsConnection, Rec, Standing, Tally, batch_ended, batch_ended_with, connected, connections_at, load, put_or, released, shared, sharing, units_of, units_of_share}
 use Rattle.lard_law_connections.proofs.LineSteps.{IsFalling, IsRising}
 use Rattle.lard_law_connections.proofs.PolicyAsides.{EachFrom, May}
 use Rattle.lard_law_connections.proofs.PolicyNumbers.{IsNumbered}
 use Rattle.lard_counts.specs.Ledger.{Ledger, ledger_step}
-use Rattle.lard_dispatch.specs.Loads.{connections_at}
 use Rattle.lard_dispatch.proofs.Homes.{home_at}
 use Rattle.lard_dispatch.proofs.Soundness.{not-in}
 use Rattle.lard_history.proofs.Each.{Each}
-use Rattle.lard_journal.specs.declared.rec.Rec.{Rec}
 use Rattle.lard_journal.specs.declared.rec.Rec.TheVariants as rec
 use Rattle.lard_loads.specs.declared.slot.Share.{Share}
-use Rattle.lard_loads.specs.Charges.{IsConnection}
-use Rattle.lard_loads.specs.Tally.{Standing, Tally, batch_ended, connected, batch_ended_with, load, released, shared, sharing, units_of, units_of_share}
 use Rattle.lard_loads.proofs.Counts.{sum-put}
 use Rattle.lard_loads.proofs.Sums.{load-put}
-use Rattle.lard_table.specs.Table.{put_or}
 
 -- ---- less is loaded
 

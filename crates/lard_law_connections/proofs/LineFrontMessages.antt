@@ -3,19 +3,10 @@ use Rattle.std.proofs.Common.{◌≡◌, ℕ, ◌+◌, Bool, true, false, List, 
 use Rattle.lard_base.specs.declared.place.Place.TheVariants as place
 use Rattle.lard_law_connections.proofs.LineFronts.{Counts, DeedStands, RowStands, StageStands}
 use Rattle.lard_law_connections.proofs.LineStands.{IsSame, Stand, all-same, stand_behind}
-use Rattle.lard_costs.specs.declared.later.LaterChoice.{LaterChoice}
-use Rattle.lard_dispatch.specs.declared.dispatch.Ask.{Ask}
-use Rattle.lard_dispatch.specs.declared.dispatch.Later.{Later}
-use Rattle.lard_endpoint.specs.declared.control.moving.Final.{Final}
-use Rattle.lard_rules.specs.declared.front.FrontRest.{FrontRest}
-use Rattle.lard_rules.specs.declared.front.FrontTurn.{FrontTurn}
-use Rattle.lard_rules.specs.Front.{Does, FrontEnv, FrontPart, assigned_notes, assigns, front_admitted, front_asked, front_ended, front_taken, over_note}
-use Rattle.lard_handoff_front.specs.declared.row.FrontConn.{FrontConn}
+use Rattle.lard_law_view.specs.Prelude.{Ask, Final, FirstChoice, FrontConn, FrontEnv, FrontPart, FrontRest, FrontTurn, Later, LaterChoice, Rec, assigned_notes, assigns, front_admitted, front_asked, front_ended, front_taken, is_away, over_note}
+use Rattle.lard_rules.specs.Front.{Does}
 use Rattle.lard_handoff_front.specs.declared.row.FrontConn.TheVariants as stage
-use Rattle.lard_handoff_front.specs.Row.{is_away}
 use Rattle.lard_history.proofs.Each.{Each, Each-append}
-use Rattle.lard_journal.specs.declared.rec.Rec.{Rec}
-use Rattle.lard_policy.specs.declared.first.FirstChoice.{FirstChoice}
 use Rattle.lard_rules.proofs.FrontCases.{of-stage, taken-keeps, asked-keeps, ended-keeps, admitted-keeps}
 
 -- ---- a Taken

@@ -9,34 +9,16 @@ use Rattle.lard_law_connections.proofs.LineHolding.{EndsHeld, EndsWaiting, HasRe
 use Rattle.lard_law_connections.proofs.LineSpeaking.{IsSound, IsTold, heard_by, speaks-spoken, timer-spoken, told-on}
 use Rattle.lard_law_connections.proofs.LineStands.{IsAlike, IsSame, Stand, all-same, front-behind, row_step, sends-alike, stand_behind}
 use Rattle.lard_law_connections.specs.Line.{leaves}
-use Rattle.lard_dispatch.specs.declared.dispatch.First.{First}
+use Rattle.lard_law_view.specs.Prelude.{ControlBlock, Ending, Final, First, FrontConn, FrontDeed, FrontEnv, FrontPart, FrontRest, FrontRow, MayMove, Reading, Rec, Said, SegFault, Service, Turn, after_timer, emitted, fires_at, front_begun, front_fired, front_fired_by, front_gets, front_hears, front_reads, front_rest, front_timer, hears_at, holds, is_plain_syn, last_words, listening, may_freeze, next_piece, on_segment, placed, serving, serving_settled, settled_by, speaks, spoken, stage_after, timed, tombstone, waits_on}
 use Rattle.lard_dispatch.specs.declared.dispatch.First.TheVariants as first
-use Rattle.lard_endpoint.specs.declared.control.moving.Final.{Final}
-use Rattle.lard_endpoint.specs.Arriving.{on_segment}
-use Rattle.lard_endpoint.specs.Control.{ControlBlock, listening}
-use Rattle.lard_endpoint.specs.Leaving.{after_timer, emitted, timed}
-use Rattle.lard_endpoint.specs.Moving.{may_freeze}
 use Rattle.lard_endpoint.proofs.Silence.{emit-none}
 use Rattle.lard_endpoint.proofs.Sound.{on_segment-sound}
-use Rattle.lard_rules.specs.declared.front.FrontRest.{FrontRest}
-use Rattle.lard_rules.specs.Front.{FrontDeed, Drops, Says, Does, FrontEnv, FrontPart, front_begun, front_ends, front_fired, front_fired_by, fires_at, front_gets, front_hears, front_timer, hears_at, holds, placed, front_rest, settled_by, stage_after, waits_on}
-use Rattle.lard_rules.specs.FrontReading.{MayMove, Reading, front_reads}
-use Rattle.lard_handoff_front.specs.declared.row.FrontConn.{FrontConn}
+use Rattle.lard_rules.specs.Front.{Drops, Says, Does}
 use Rattle.lard_handoff_front.specs.declared.row.FrontConn.TheVariants as stage
-use Rattle.lard_handoff_front.specs.declared.row.FrontRow.{FrontRow}
 use Rattle.lard_history.proofs.Each.{Each}
-use Rattle.lard_journal.specs.declared.rec.Rec.{Rec}
 use Rattle.lard_journal.specs.declared.rec.Rec.TheVariants as rec
-use Rattle.lard_rules.specs.declared.places.Ending.{Ending}
 use Rattle.lard_rules.specs.declared.places.Ending.TheVariants as ending
-use Rattle.lard_rules.specs.declared.places.Turn.{Turn}
-use Rattle.lard_rules.specs.Tombstone.{is_plain_syn, last_words, tombstone}
-use Rattle.lard_rules.specs.Serving.{Service, serving, serving_settled, spoken}
 use Rattle.lard_rules.specs.Serving as serve
-use Rattle.lard_rules.specs.Speaking.{speaks}
-use Rattle.lard_segment.specs.declared.fault.SegFault.{SegFault}
-use Rattle.lard_segment.specs.Segment.{Said}
-use Rattle.lard_send.specs.Send.{next_piece}
 
 -- ---- how a connection stands, by its stage
 

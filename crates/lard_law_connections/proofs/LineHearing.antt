@@ -3,16 +3,8 @@ use Rattle.std.proofs.Common.{◌≡◌, ℕ, ◌+◌, ◌-◌, ◌<◌, ◌≤�
 use Rattle.std.specs.Prelude.{if◌then◌else◌}
 use Rattle.std.proofs.lemmas.Bool.{cond_both, and_parts, and_from, eqb-true, eq-eqb, ltb-true}
 use Rattle.std.proofs.lemmas.Bool.Decides.{nat_tests}
-use Rattle.lard_arrival.specs.Arrival.{is_acceptable, is_allowed, is_in_window, last_number, bare, seg_len}
-use Rattle.lard_endpoint.specs.declared.control.arriving.Arrival.{Arrival}
+use Rattle.lard_law_view.specs.Prelude.{Arrival, ControlBlock, IsControlBlock, Received, Said, Sending, after_ack, arrived, awaited, bare, begins_after, bytes_taken, ends, fresh_bytes, is_acceptable, is_allowed, is_clear, is_in_window, is_newer, last_number, may_freeze, moved_up, on_ack, on_acked, on_segment, on_syn, on_text, on_unacceptable, one_if, owing, rcv_nxt, rcv_wnd, seg_len, seq_offset, symbols, windowed}
 use Rattle.lard_endpoint.specs.declared.control.arriving.Arrival.TheVariants.{Fine, AckOwed, Reset}
-use Rattle.lard_endpoint.specs.Arriving.{owing, on_text, on_acked, on_ack, on_syn, on_unacceptable, on_segment}
-use Rattle.lard_endpoint.specs.Control.{ControlBlock, IsControlBlock, rcv_nxt, rcv_wnd}
-use Rattle.lard_endpoint.specs.Moving.{may_freeze}
-use Rattle.lard_recv.specs.Recv.{Received, begins_after, awaited, fresh_bytes, ends, bytes_taken, arrived}
-use Rattle.lard_segment.specs.Segment.{Said}
-use Rattle.lard_send.specs.Send.{Sending, is_newer, moved_up, windowed, after_ack, symbols, is_clear}
-use Rattle.lard_seq.specs.Seq.{one_if, seq_offset}
 
 -- ---- the sending half: what is acknowledged grows, and what is queued stays
 pub record GoesOn (s t : Sending) : Type 0 where

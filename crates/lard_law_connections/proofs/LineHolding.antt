@@ -3,45 +3,24 @@ use Rattle.std.proofs.Common.{◌≡◌, ◌⊎◌, ℕ, zero, suc, ◌+◌, ◌
 use Rattle.std.proofs.lemmas.Bool.{and_parts, cond_both, ltb-false}
 use Rattle.std.proofs.lemmas.Bool.Decides.{nat_tests}
 use Rattle.std.proofs.lemmas.List.{length-drop}
-use Rattle.lard_answers.specs.Answers.{answer, answer_code, good_path}
-use Rattle.lard_arrival.specs.Arrival.{seg_len}
-use Rattle.lard_base.specs.declared.place.Place.{Place}
-use Rattle.lard_base.specs.declared.place.Place.TheVariants.{Client}
+use Rattle.lard_law_view.specs.Prelude.{Client, ControlBlock, Ending, Found, MayMove, Place, Reading, Ready, Rec, Received, Said, ServeEnv, Service, Step, Turn, Verdict, advanced, answer, answer_code, answered, block_at, closed_behind, closes, consuming, cut_of, discarding_on, emitted, end_reason, ended_at_fin, final_of, finishing, front_reads, good_path, is_clear, is_closed, limit_said, may_end, may_freeze, may_read, next_piece, one_if, owed_ready, owes, queued, queueing, rcv_nxt, rcv_wnd, reading_left, reading_turn, reads_block, reads_found, ready_of, rested, runs_on, seg_len, serving_consumed, serving_settled, serving_told, speaks, speaks_symbols, spoken, symbols, targeted, with_service}
 use Rattle.lard_base.specs.declared.place.Reason.TheVariants.{Limit}
 use Rattle.lard_base.specs.declared.place.Via.TheVariants.{Own}
-use Rattle.lard_block.specs.declared.block.Found.{Found}
 use Rattle.lard_block.specs.declared.block.Found.TheVariants as found
-use Rattle.lard_block.specs.Blocks.{cut_of}
 use Rattle.lard_law_connections.proofs.LineHearing.{freezes-still, is_reset, is_reset-is}
 use Rattle.lard_law_connections.proofs.LineSpeaking.{HasSpoken, IsSound, IsTold, heard_by, speaks-spoken}
 use Rattle.lard_law_connections.specs.Line.{leaves}
-use Rattle.lard_endpoint.specs.Control.{ControlBlock, consuming, discarding_on, finishing, queueing, rcv_nxt, rcv_wnd}
-use Rattle.lard_endpoint.specs.Leaving.{advanced, emitted, owed_ready, owes, ready_of}
-use Rattle.lard_endpoint.specs.Moving.{end_reason, final_of, is_closed, may_end, may_freeze}
 use Rattle.lard_endpoint.proofs.Silence.{emit-none}
 use Rattle.lard_endpoint.proofs.Sound.{queueing-sound}
-use Rattle.lard_rules.specs.FrontReading.{MayMove, Reading, block_at, reading_left, front_reads, reads_block, reads_found, targeted, reading_turn, with_service}
 use Rattle.lard_history.proofs.Each.{Each, Each-append}
-use Rattle.lard_journal.specs.declared.rec.Rec.{Rec}
 use Rattle.lard_journal.specs.declared.rec.Rec.TheVariants as rec
-use Rattle.lard_recv.specs.Recv.{Received}
 use Rattle.lard_request.specs.declared.verdict.Code.TheVariants as code
-use Rattle.lard_request.specs.declared.verdict.Verdict.{Verdict}
 use Rattle.lard_request.specs.declared.verdict.Verdict.TheVariants.{Fault}
-use Rattle.lard_request.specs.Verdict.{closes}
-use Rattle.lard_rules.specs.declared.places.Ending.{Ending}
 use Rattle.lard_rules.specs.declared.places.Ending.TheVariants as ending
-use Rattle.lard_rules.specs.declared.places.Turn.{Turn}
-use Rattle.lard_rules.specs.Loop.{Step, runs_on}
 use Rattle.lard_rules.specs.Loop as loop
-use Rattle.lard_rules.specs.Serving.{ServeEnv, Service, answered, closed_behind, serving_consumed, cut_off, ended_at_fin, may_read, passed_over, queued, rested, serving_settled, limit_said, spoken, serving_told}
-use Rattle.lard_rules.specs.Speaking.{speaks, speaks_symbols}
 use Rattle.lard_rules.proofs.Saying.{speaks-done}
-use Rattle.lard_segment.specs.declared.segment.Ready.{Ready}
-use Rattle.lard_segment.specs.Segment.{Said}
-use Rattle.lard_send.specs.Send.{is_clear, next_piece, symbols}
-use Rattle.lard_seq.specs.Seq.{one_if}
 use Rattle.lard_law_view.proofs.EndpointSends.{AllTo, speaks-to, speaks_symbols-to}
+use Rattle.lard_rules.proofs.Endings.{answered-keeps, at-fin-keeps, settled-keeps}
 
 -- ---- between steps
 
@@ -183,7 +162,7 @@ module _ (o : Option Said) where
     answered-serves v w open_ h =
         let bytes : List ℕ = answer env.files v in
         let total : ℕ = w.block.send.total + length bytes in
-        cond_both (nat_lt env.stream total) (passed_over env total w) (queued env Own v bytes w) Serves
+        answered-keeps Serves env Own v w
         (λ t. record { ready = h.ready; notes = Each-append IsRead w.notes (rec.Reset env.place env.c total ∷ []) h.notes (tt, tt) })
         (λ t. let fits : total ≤ env.stream = ltb-false env.stream total t in
         record {
@@ -195,7 +174,7 @@ module _ (o : Option Said) where
     consumed-serves n w h = record { ready = consuming-ready w.block n h.ready; notes = h.notes }
 
     ended-serves : (w : Service) → Serves w → Serves (ended_at_fin w)
-    ended-serves w h = cond_both w.block.recv.fin (record w { block = finishing w.block }) w Serves (λ t. record { ready = finishing-ready w.block h.ready; notes = h.notes }) (λ t. h)
+    ended-serves w h = at-fin-keeps Serves w (λ t. record { ready = finishing-ready w.block h.ready; notes = h.notes }) (λ t. h)
 
     -- while it goes on nothing is to be placed, and what is to be placed may move
     abbrev IsReading : Reading → Type 0
@@ -330,11 +309,8 @@ module _ (env : ServeEnv) (o : Option Said) (w : Service) (h : IsReady o w.block
 
   -- or is cut off at the stream limit
   pub settled-ends : EndsHeld env.c o w.notes (serving_settled env w)
-  settled-ends = go w.over where
-    go : (p : Option ℕ) → EndsHeld env.c o w.notes (elim p as (λ p. Ending × Turn) [ None ↦ spoken env w [] | Some total ↦ cut_off env w ])
-    go None = spoken-ends
-    go (Some total) = record {
-      noted = refl;
-      to = Each-append (λ s. s.0 ≡ Client env.c) (speaks_symbols env.c w.block).0 (serving_told env (limit_said (final_of (speaks_symbols env.c w.block).1 Limit)) ∷ []) (speaks_symbols-to env.c w.block).to (refl, tt);
-      held = λ b count e. let no : ending.Over (final_of (speaks_symbols env.c w.block).1 Limit) ≡ ending.Here b count = e in absurd cc;
-    }
+  settled-ends = settled-keeps (EndsHeld env.c o w.notes) env w (λ e. spoken-ends) (λ total e. record {
+    noted = refl;
+    to = Each-append (λ s. s.0 ≡ Client env.c) (speaks_symbols env.c w.block).0 (serving_told env (limit_said (final_of (speaks_symbols env.c w.block).1 Limit)) ∷ []) (speaks_symbols-to env.c w.block).to (refl, tt);
+    held = λ b count e. let no : ending.Over (final_of (speaks_symbols env.c w.block).1 Limit) ≡ ending.Here b count = e in absurd cc;
+  })

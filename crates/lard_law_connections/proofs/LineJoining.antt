@@ -2,8 +2,7 @@
 use Rattle.std.proofs.Common.{◌≡◌, ℕ, ◌^◌, ◌≤◌, Bool, true, false, cond, List, [], ◌∷◌, ◌++◌, map, Option, Some, None, refl, sym, ap, ◌∙◌, subst, ⊎_elim, arith}
 use Rattle.std.proofs.lemmas.List.Sums.{fold-append}
 use Rattle.std.specs.List.{fold}
-use Rattle.lard_base.specs.declared.place.Place.{Place}
-use Rattle.lard_base.specs.declared.place.Place.TheVariants.{Client, Front, Node}
+use Rattle.lard_law_view.specs.Prelude.{Came, Client, Conn, EachRow, Front, FrontConn, FrontRow, IsLaw, MayRestOn, Move, Node, Place, Rec, Row, Seen, Setting, Tale, ToCluster, decoded, grown, rows_of, seen_in, seen_step, tale_at, tale_of, tale_step, untold}
 use Rattle.lard_law_connections.proofs.LineFronts.{RowStands, StageStands}
 use Rattle.lard_law_connections.proofs.LineHolding.{IsRead}
 use Rattle.lard_law_connections.proofs.LineLaw.{IsLined}
@@ -13,23 +12,15 @@ use Rattle.lard_law_connections.proofs.LineTurns.{IsBare, IsEntry, IsNoted, Note
 use Rattle.lard_law_connections.specs.Line.{leaves}
 use Rattle.lard_law_connections.specs.Places.{IsRowEarly, IsStageEarly, Owning, Sits, StageSits, owning}
 use Rattle.lard_law_connections.proofs.PlacesTurns.{IsPlaced}
-use Rattle.lard_law_view.specs.Carry.{IsLaw, MayRestOn, tale_at}
-use Rattle.lard_law_view.specs.View.{Conn, Move, Setting, grown, rows_of, seen_in, sending, timer_rows}
 use Rattle.lard_law_view.proofs.Fine.{IsFine, IsItsOwn, fine}
 use Rattle.lard_law_view.proofs.Guarded.{both, weaker}
-use Rattle.lard_law_view.proofs.Saying.{GaveAt, NotedAt}
-use Rattle.lard_law_view.proofs.Timers.{IsTimerAt, timer_rows-are}
-use Rattle.lard_handoff_front.specs.declared.row.FrontConn.{FrontConn}
+use Rattle.lard_law_view.proofs.Saying.{NotedAt}
 use Rattle.lard_handoff_front.specs.declared.row.FrontConn.TheVariants as stage
-use Rattle.lard_handoff_front.specs.declared.row.FrontRow.{FrontRow}
-use Rattle.lard_history.specs.Journal.{Tale, tale_step, untold}
-use Rattle.lard_history.specs.Own.{EachRow, Seen, Row, Came, seen_step, tale_of}
 use Rattle.lard_history.proofs.Each.{Each, Each-weaker}
 use Rattle.lard_history.proofs.Lifting.{each_row-append}
-use Rattle.lard_journal.specs.declared.rec.Rec.{Rec}
 use Rattle.lard_journal.specs.declared.rec.Rec.TheVariants as rec
-use Rattle.lard_segment.specs.declared.segment.Dir.TheVariants.{ToCluster}
-use Rattle.lard_segment.specs.Segment.{decoded}
+use Rattle.lard_law_view.proofs.OfKinds.{each-rows, rest_of, rest-outer, rows-are, elsewhere}
+use Rattle.lard_law_view.proofs.RecordKinds.{IsOuter, IsElsewhere, kind_of}
 
 -- ---- where it may be told to wait
 
@@ -103,35 +94,23 @@ bare-rows c past (Row r ∷ xs) e = (other-may c past r (bare-other r e.0), bare
 bare-rows c past (Came l ∷ xs) e = bare-rows c (past ++ Came l ∷ []) xs e.1
 
 other-rows : (c : ℕ) (past : List Seen) (rs : List Rec) → Each IsNoWait rs → EachRow (MayJoin c) past (map Row rs)
-other-rows c past [] e = tt
-other-rows c past (r ∷ rs) e = (other-may c past r e.0, other-rows c (past ++ Row r ∷ []) rs e.1)
+other-rows c past rs e = each-rows IsNoWait (MayJoin c) (other-may c) past rs e
 
 -- behind others
 rows-behind : (c : ℕ) (past : List Seen) (xs ys : List Rec) → EachRow (MayJoin c) past (map Row xs) → Each IsNoWait ys → EachRow (MayJoin c) past (map Row (xs ++ ys))
 rows-behind c past [] ys h e = other-rows c past ys e
 rows-behind c past (x ∷ xs) ys h e = (h.0, rows-behind c (past ++ Row x ∷ []) xs ys h.1 e)
 
+else-other : (r : Rec) → IsElsewhere (kind_of r) → IsNoWait r
+else-other (rec.Waits d) h = absurd h
+else-other _ h = tt
+
 note-other : (place : Place) (c : ℕ) (r : Rec) → (place ≡ Front → ⊥) → NotedAt place c r → IsNoWait r
-note-other Front c r never h = absurd (never refl)
-note-other (Client e) c (rec.Waits d) never h = absurd h
-note-other (Node n) c (rec.Waits d) never h = absurd h
-note-other _ c _ never h = tt
+note-other place c r never h = else-other r (elsewhere place c r h never)
 
-gave-other : (place : Place) (c : ℕ) (r : Rec) → GaveAt place c r → IsNoWait r
-gave-other place c (rec.Waits d) h = absurd (none place h) where
-  none : (p : Place) → GaveAt p c (rec.Waits d) → ⊥
-  none Front h = h
-  none (Node n) h = h
-  none (Client e) h = h
-gave-other place c _ h = tt
-
-timer-other : (place : Place) (c : ℕ) (r : Rec) → IsTimerAt place c r → IsNoWait r
-timer-other place c (rec.Waits d) h = absurd h
-timer-other place c _ h = tt
-
-sends-other : (place : Place) (ss : List (Place × List ℕ)) → Each IsNoWait (map (sending place) ss)
-sends-other place [] = tt
-sends-other place (s ∷ ss) = (tt, sends-other place ss)
+outer-other : (r : Rec) → IsOuter r → IsNoWait r
+outer-other (rec.Waits d) h = absurd h
+outer-other _ h = tt
 
 read-bare : (r : Rec) → IsRead r → IsBare (Row r)
 read-bare (rec.Served place c r code size via) h = tt
@@ -193,22 +172,9 @@ module _ (x : Conn) (lined : IsLined x) (placed : IsPlaced x) where
 
   -- all that is seen of a move
   move-rows : (v : Move) → IsItsOwn x v → IsNoted x v → EachRow (MayJoin x.c) x.seen (seen_in x v)
-  move-rows v own noted =
-      let c : ℕ = x.c in
-      let past : List Seen = x.seen ++ v.heads in
-      let N : List Rec = v.said.notes in
-      let S : List Rec = map (sending v.place) v.said.segments in
-      let G : List Rec = v.said.gave in
-      let M : List Rec = map (sending v.place) v.said.messages in
-      let T : List Rec = timer_rows v.place x.c x.part v.part in
-      each_row-append (MayJoin c) x.seen v.heads (map Row (rows_of x v)) (bare-rows c x.seen v.heads noted.bare)
-      (rows-behind c past (N ++ S ++ G ++ M) T
-      (rows-behind c past (N ++ S ++ G) M
-      (rows-behind c past (N ++ S) G
-      (rows-behind c past N S (notes-rows v own noted v.place refl) (sends-other v.place v.said.segments))
-      (Each-weaker (GaveAt v.place c) IsNoWait (gave-other v.place c) G own.gave))
-      (sends-other v.place v.said.messages))
-      (Each-weaker (IsTimerAt v.place c) IsNoWait (timer-other v.place c) T (timer_rows-are v.place c x.part v.part)))
+  move-rows v own noted = each_row-append (MayJoin x.c) x.seen v.heads (map Row (rows_of x v)) (bare-rows x.c x.seen v.heads noted.bare)
+      (subst (λ (rs : List Rec). EachRow (MayJoin x.c) (x.seen ++ v.heads) (map Row rs)) (sym (rows-are x v))
+      (rows-behind x.c (x.seen ++ v.heads) v.said.notes (rest_of x v) (notes-rows v own noted v.place refl) (rest-outer x v IsNoWait outer-other own)))
 
 -- ---- every rule
 

@@ -2,40 +2,26 @@
 use Rattle.std.proofs.Common.{◌≡◌, ℕ, ◌^◌, ◌<◌, ◌≤◌, List, [], ◌∷◌, ◌++◌, map, true, false, cond, Option, Some, None, refl, sym, ap, ◌∙◌, subst, arith}
 use Rattle.std.specs.List.{fold}
 use Rattle.lard_base.specs.declared.event.Event.TheVariants as event
-use Rattle.lard_base.specs.declared.place.Place.{Place}
-use Rattle.lard_base.specs.declared.place.Place.TheVariants.{Client, Front, Node}
-use Rattle.lard_client.specs.Control.{ClientBlock}
-use Rattle.lard_rules.specs.Bounds.{HasRule}
+use Rattle.lard_law_view.specs.Prelude.{Client, ClientBlock, ClientRules, Conn, Front, FrontConn, FrontEnv, FrontPart, FrontRow, FrontRules, HasRule, IsFrontEnv, IsLaw, IsUnheard, MayRestOn, Move, Node, NodeRules, Place, Rec, Rules, Seen, Setting, Station, ToCluster, Turn, TurnSaid, admitted_by, ask_of, asked_by, asked_node, blank_conn, client_begins, client_does, client_injects, client_rule, decoded, end_answer, event_seen, front_asked, front_does, front_ended, front_ended_by, front_gets, front_taken, front_timer, grown, inject_seen, is_row_at, node_does, nothing_said, packet_seen, stands, taken_by, tale_at, timer_rows}
+use Rattle.lard_law_view.proofs.EachClient.{client_goes, client_seen, each-client, of-client}
 use Rattle.lard_law_connections.proofs.LineFrontMessages.{admitted-stands, asked-stands, ended-stands, taken-stands}
 use Rattle.lard_law_connections.proofs.LineFronts.{DeedStands, RowStands, StageStands, came-out, came_so, counts-alike, gets-stands, timer-stands}
+use Rattle.lard_law_view.proofs.NodeHeads.{of-aside, of-heads}
 use Rattle.lard_law_connections.proofs.LineStands.{IsAlike, IsElsewhere, Stand, all-same, came_stand, client-behind, node-behind, notes-same, row_step, sends-alike, stand-grown, stand_at, stand_before, stand_behind, stand_step}
 use Rattle.lard_law_connections.specs.Places.{Owning, Sits, StageSits, owning}
 use Rattle.lard_law_connections.proofs.PlacesRows.{MayOwnBy, OwnsBy, after, after_all}
 use Rattle.lard_law_connections.proofs.PlacesLaw.{owing}
 use Rattle.lard_law_connections.proofs.PlacesTurns.{IsPlaced, Owes}
-use Rattle.lard_law_view.specs.Carry.{IsLaw, MayRestOn, tale_at}
-use Rattle.lard_law_view.specs.View.{ClientRules, Conn, FrontRules, IsFrontEnv, IsUnheard, Move, NodeRules, Rules, TurnSaid, Setting, blank_conn, brought_said, client_begins, client_does, content_said, event_seen, front_does, grown, inject_seen, node_does, nothing_said, packet_seen, reads_first, sending, stands, timer_rows}
+use Rattle.lard_law_view.specs.View.{sending}
+use Rattle.lard_law_view.proofs.EachNode.{aside_said, aside_seen, each-node, job_notes, told_first}
 use Rattle.lard_law_view.proofs.Fine.{IsFine, IsItsOwn, fine}
 use Rattle.lard_law_view.proofs.Guarded.{both, weaker}
 use Rattle.lard_law_view.proofs.Saying.{AllBetween, NotedAt}
 use Rattle.lard_rules.specs.Front as front
-use Rattle.lard_rules.specs.Front.{FrontEnv, FrontPart, admitted_by, ask_of, asked_by, is_row_at, front_asked, front_ended, front_gets, front_taken, front_timer, taken_by, front_ended_by}
-use Rattle.lard_handoff_front.specs.declared.row.FrontConn.{FrontConn}
 use Rattle.lard_handoff_front.specs.declared.row.FrontConn.TheVariants as stage
-use Rattle.lard_handoff_front.specs.declared.row.FrontRow.{FrontRow}
-use Rattle.lard_handoff_front.specs.Front.{asked_node, end_answer}
-use Rattle.lard_history.specs.Journal.{request}
-use Rattle.lard_history.specs.Own.{Seen}
 use Rattle.lard_history.proofs.Each.{Each}
-use Rattle.lard_journal.specs.declared.rec.Rec.{Rec}
 use Rattle.lard_journal.specs.declared.rec.Rec.TheVariants as rec
 use Rattle.lard_rules.specs.Node as node
-use Rattle.lard_rules.specs.Node.{node_acknowledged, node_content, node_forwarded, node_offered, node_read, node_tagged, node_timer}
-use Rattle.lard_rules.specs.declared.places.Station.{Station}
-use Rattle.lard_rules.specs.declared.places.Turn.{Turn}
-use Rattle.lard_rules.specs.Client.{client_aborts, client_gets, client_holds, client_injects, client_shuts, client_takes, client_timer, client_writes}
-use Rattle.lard_segment.specs.declared.segment.Dir.TheVariants.{ToClient, ToCluster}
-use Rattle.lard_segment.specs.Segment.{decoded}
 
 -- Of a connection, touched or not: the cluster's first number is in range, no client that did not open is known, and it stands as its
 -- stage says.
@@ -192,10 +178,10 @@ pub record IsThere (x : Conn) (heads : List Seen) (v : Move) : Type 0 where
   pub station : v.part.station ≡ x.part.station
   pub heads_are : v.heads ≡ heads
 
-pub node-there : (x : Conn) (n : ℕ) (heads : List Seen) (d : node.NodeDeed) → IsThere x heads (node_does x n heads d)
-node-there x n heads node.Drops = record { place = tt; front = refl; station = refl; heads_are = refl }
-node-there x n heads (node.Says messages) = record { place = tt; front = refl; station = refl; heads_are = refl }
-node-there x n heads (node.Does given) = record { place = tt; front = refl; station = refl; heads_are = refl }
+pub node-there : (x : Conn) (n : ℕ) (rs : List Rec) (heads : List Seen) (d : node.NodeDeed) → IsThere x heads (told_first rs (node_does x n heads d))
+node-there x n rs heads node.Drops = record { place = tt; front = refl; station = refl; heads_are = refl }
+node-there x n rs heads (node.Says messages) = record { place = tt; front = refl; station = refl; heads_are = refl }
+node-there x n rs heads (node.Does given) = record { place = tt; front = refl; station = refl; heads_are = refl }
 
 there-aside : (x : Conn) (heads : List Seen) (v : Move) → fold (stand_step x.c) (stand_at x) heads ≡ stand_at x → IsThere x heads v → IsLined x → IsAside x v
 there-aside x heads v same t h = record {
@@ -222,17 +208,11 @@ module _ (k : Setting) (small : k.stream ≤ 2 ^ 30) where
   aside x v a own owes placed h = aside-lined x v own owes placed (a h) h
 
   clients : ClientRules k Lines
-  clients = record {
+  clients = each-client k Lines (record {
     opens = λ x isn iss wnd mss rule none. aside x _ (λ h. begins-aside x isn iss wnd mss rule);
-    gets = λ x s path there le. aside x _ (does-aside x s (event_seen (event.Get x.c path)) (client_writes s.client (request path)) refl there);
-    writes = λ x s bytes there le. aside x _ (does-aside x s (event_seen (event.Write x.c bytes)) (client_writes s.client bytes) refl there);
-    shuts = λ x s there. aside x _ (does-aside x s (event_seen (event.Shut x.c)) (client_shuts s.client) refl there);
-    aborts = λ x s there. aside x _ (does-aside x s (event_seen (event.Abort x.c)) (client_aborts s.client) refl there);
-    holds = λ x s there. aside x _ (does-aside x s (event_seen (event.Hold x.c)) (client_holds s.client) refl there);
-    takes = λ x s there. aside x _ (does-aside x s (event_seen (event.Take x.c)) (client_takes s.client) refl there);
-    fires = λ x s there. aside x _ (does-aside x s (event_seen (event.Timer (Client x.c) x.c)) (client_timer s.client) refl there);
-    hears = λ x s from bytes there was. aside x _ (does-aside x s (packet_seen from (Client x.c) bytes) (client_gets s.client (decoded bytes x.c ToClient)) refl there);
-  }
+    does = λ x s g there comes. aside x (client_goes x s g) (does-aside x s (client_seen x.c g) (client_rule x.c s.client g)
+        (of-client x.c (λ heads. fold (stand_step x.c) (stand_at x) heads ≡ stand_at x) (λ from bytes. refl) (λ e. refl) g) there);
+  })
 
   -- the rule is one of this connection
   by-front : (x : Conn) (env : FrontEnv) → IsFrontEnv k x.c env → (heads : List Seen) (d : front.FrontDeed) → (IsLined x → x.part.station ≡ None → d ≡ front.Drops)
@@ -267,30 +247,23 @@ module _ (k : Setting) (small : k.stream ≤ 2 ^ 30) where
         (λ h. admitted-stands env x.part.front (stand_at x) h.stands choice given e);
   }
 
-  by-node : (x : Conn) (n : ℕ) (heads : List Seen) (d : node.NodeDeed) → fold (stand_step x.c) (stand_at x) heads ≡ stand_at x → Lines x (node_does x n heads d)
-  by-node x n heads d same = aside x (node_does x n heads d) (there-aside x heads (node_does x n heads d) same (node-there x n heads d))
+  -- it stands behind what is seen first as before
+  abbrev StandsAs : Conn → List Seen → Type 0
+  StandsAs x heads = fold (stand_step x.c) (stand_at x) heads ≡ stand_at x
 
-  said-aside : (x : Conn) (n : ℕ) (heads : List Seen) (said : TurnSaid) → fold (stand_step x.c) (stand_at x) heads ≡ stand_at x → Lines x (stands x (Node n) heads said)
+  by-node : (x : Conn) (n : ℕ) (rs : List Rec) (heads : List Seen) (d : node.NodeDeed) → StandsAs x heads → Lines x (told_first rs (node_does x n heads d))
+  by-node x n rs heads d same = aside x (told_first rs (node_does x n heads d))
+      (there-aside x heads (told_first rs (node_does x n heads d)) same (node-there x n rs heads d))
+
+  said-aside : (x : Conn) (n : ℕ) (heads : List Seen) (said : TurnSaid) → StandsAs x heads → Lines x (stands x (Node n) heads said)
   said-aside x n heads said same = aside x (stands x (Node n) heads said) (there-aside x heads (stands x (Node n) heads said) same (record { place = tt; front = refl; station = refl; heads_are = refl }))
 
-  read-lined : (x : Conn) (n : ℕ) (r : Rec) (d : node.NodeDeed) → Lines x (reads_first r (node_does x n [] d))
-  read-lined x n r d =
-      let t : IsThere x [] (node_does x n [] d) = node-there x n [] d in
-      aside x (reads_first r (node_does x n [] d)) (there-aside x [] (reads_first r (node_does x n [] d)) refl (record { place = t.place; front = t.front; station = t.station; heads_are = t.heads_are }))
-
   nodes : NodeRules k Lines
-  nodes = record {
-    offered = λ x n epoch env parts bytes is spells was. by-node x n (packet_seen Front (Node n) bytes) (node_offered env (x.part.nodes n) parts) refl;
-    forwarded = λ x n epoch env segment bytes is spells was. by-node x n (packet_seen Front (Node n) bytes) (node_forwarded env (x.part.nodes n) (decoded segment x.c ToCluster)) refl;
-    tagged = λ x n epoch number tags env bytes is spells was. by-node x n (packet_seen Front (Node n) bytes) (node_tagged env (x.part.nodes n) number tags) refl;
-    content = λ x n from epoch r env file bytes is spells was. by-node x n (packet_seen (Node from) (Node n) bytes) (node_content env (x.part.nodes n) from r) refl;
-    acknowledged = λ x n epoch env bytes is spells was. by-node x n (packet_seen Front (Node n) bytes) (node_acknowledged env (x.part.nodes n)) refl;
-    read = λ x n epoch r env path is. read-lined x n (rec.Read n n x.c r path) (node_read env (x.part.nodes n) r);
-    fires = λ x s n env there is. by-node x n (event_seen (event.Timer (Node n) x.c)) (node_timer env (x.part.nodes n)) refl;
-    answers = λ x n from epoch r path file bytes there spells was. said-aside x n (packet_seen (Node from) (Node n) bytes) (content_said k n from x.c epoch r path) refl;
-    queues = λ x n from epoch r path file bytes there spells was. said-aside x n (packet_seen (Node from) (Node n) bytes) (record nothing_said { notes = rec.Queued n from x.c r path ∷ [] }) refl;
-    brings = λ x n from epoch r path. said-aside x n [] (brought_said k n from x.c epoch r path) refl;
-  }
+  nodes = each-node k Lines (record {
+    does = λ x n epoch env heads g is at comes. by-node x n (job_notes x.c n g) heads (node.node_rule env (x.part.nodes n) g)
+        (of-heads x n (StandsAs x) (λ from bytes. refl) refl refl epoch heads g comes);
+    aside = λ x n a may. said-aside x n (aside_seen n a) (aside_said k n x.c a) (of-aside x n (StandsAs x) (λ from bytes. refl) refl a);
+  })
 
   ignores-lined : (x : Conn) (from to : Place) (bytes : List ℕ) → IsUnheard k.nodes x.part.station from to bytes → Lines x (stands x to (packet_seen from to bytes) nothing_said)
   ignores-lined x from to bytes unheard own owes placed h = record {

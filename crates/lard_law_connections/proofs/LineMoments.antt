@@ -3,42 +3,27 @@
 use Rattle.std.proofs.Common.{◌≡◌, ◌≢◌, ◌⊎◌, ℕ, ◌+◌, ◌-◌, nat_eq, not, ◌||◌, Bool, true, false, cond, List, [], ◌∷◌, ◌++◌, map, Option, Some, None, Ok, inl, inr, ⊎_elim, refl, sym, ap, ◌∙◌, subst, append-nil}
 use Rattle.std.proofs.lemmas.List.Sums.{fold-append}
 use Rattle.std.specs.List.{fold, list_any}
-use Rattle.lard_base.specs.declared.event.Event.{Event}
+use Rattle.lard_law_view.specs.Prelude.{Client, EachMay, Epoch, Event, Front, Has, HasRule, IsViewed, Machine, Move, Node, Out, Packet, Part, Place, Rec, Row, Rules, Seen, ToCluster, clocked, conn, decoded, lose_at, machine_step, machine_told, over_note, own, packet_at, passed, seen_on, setting_of}
 use Rattle.lard_base.specs.declared.event.Event.TheVariants as event
-use Rattle.lard_base.specs.declared.ids.Epoch.{Epoch}
-use Rattle.lard_base.specs.declared.place.Place.{Place}
-use Rattle.lard_base.specs.declared.place.Place.TheVariants.{Client, Front, Node}
-use Rattle.lard_rules.specs.declared.machine.Machine.{Machine}
-use Rattle.lard_rules.specs.Bounds.{HasRule}
-use Rattle.lard_rules.specs.Machine.{clocked, machine_step, passed, machine_told}
 use Rattle.lard_law_connections.proofs.LineHolding.{IsRead}
 use Rattle.lard_law_connections.proofs.LineLaw.{IsLined}
 use Rattle.lard_law_connections.proofs.LineNotes.{Alone, Begins, Ends, Enters, Goes, IsLater, Noted, Reads, Shares, Was, Waits}
 use Rattle.lard_law_connections.proofs.LineStands.{stand_at, stand_step, unknown}
-use Rattle.lard_law_connections.proofs.LineSteps.{IsNoEntry, IsQuiet, IsRising, behind-quiet, gifts-quiet, last-quiet, nobody-quiet, note-quiet, on-quiet, read-quiet, rows-same, timers-quiet}
+use Rattle.lard_law_connections.proofs.LineSteps.{IsNoEntry, IsQuiet, IsRising, allows-quiet, nobody-quiet, note-quiet, on-quiet, read-quiet, rows-same}
 use Rattle.lard_law_connections.proofs.LineTelling.{stands-told}
 use Rattle.lard_law_connections.proofs.LineTurns.{IsEntry, IsNoted, Notes, was_at}
 use Rattle.lard_law_connections.specs.LineLaws.{AdmitsBehind, AdmitsHead, MayPass}
 use Rattle.lard_law_connections.specs.Line.{Line, leaves, line_left_at, line_left_by, waiting_line, line_step, nobody, all_but}
-use Rattle.lard_law_connections.proofs.PolicyCalm.{first_rows, last_rows, told-journal}
+use Rattle.lard_law_connections.proofs.Calm.{first-calm, first_rows, gifts-calm, last-calm, last_rows, timers-calm, told-journal}
 use Rattle.lard_law_connections.proofs.PolicyHomes.{less-any}
-use Rattle.lard_law_view.specs.View.{IsViewed, Move, Part, Rules, conn, setting_of}
 use Rattle.lard_law_view.proofs.AnyShape.{IsAct, each-act, one-act, two-act}
 use Rattle.lard_law_view.proofs.Saying.{NotedAt, notes-all}
 use Rattle.lard_law_view.proofs.Shapes.{NamesNobody, ReadsOn, Shapes, both_out, each_out, move_of, with_rest}
 use Rattle.lard_law_view.proofs.Stepping.{step-has}
 use Rattle.lard_law_connections.specs.PolicyLaws.{last_record}
-use Rattle.lard_rules.specs.Front.{over_note}
-use Rattle.lard_history.specs.Laws.{EachMay}
-use Rattle.lard_history.specs.Own.{Has, Row, Seen, own, seen_on}
 use Rattle.lard_history.proofs.Each.{Each, Each-append, Each-weaker}
 use Rattle.lard_history.proofs.Seeing.{by_number, has-before, has-behind, has-each, other_number, own-append, same_number}
-use Rattle.lard_journal.specs.declared.rec.Rec.{Rec}
 use Rattle.lard_journal.specs.declared.rec.Rec.TheVariants as rec
-use Rattle.lard_net.specs.Net.{Packet, lose_at, packet_at}
-use Rattle.lard_rules.specs.declared.places.Out.{Out}
-use Rattle.lard_segment.specs.declared.segment.Dir.TheVariants.{ToCluster}
-use Rattle.lard_segment.specs.Segment.{decoded}
 use Rattle.lard_law_view.proofs.OwnRecords.{behind}
 
 abbrev has : ℕ → List ℕ → Bool
@@ -387,8 +372,8 @@ module _ (m : Machine) (view : IsViewed m) (lined : (q : ℕ) → IsLined (conn 
   told-adds w e place o act notes =
       let first : List Rec = first_rows w e in
       let last : List Rec = last_rows w place o in
-      let quiet : Each IsQuiet first = (((λ i. refl), tt, tt, tt), behind-quiet e) in
-      let still : Each IsQuiet last = last-quiet w place o (gifts-quiet place o.gave act.gave) (timers-quiet place o.timers act.timers) in (
+      let quiet : Each IsQuiet first = first-calm IsQuiet allows-quiet w e in
+      let still : Each IsQuiet last = last-calm IsQuiet allows-quiet w place o (gifts-calm IsQuiet allows-quiet place o.gave act.gave) (timers-calm IsQuiet allows-quiet place o.timers act.timers) in (
         first ++ o.notes ++ last,
         told-journal w e place o ∙ ap (λ (J : List Rec). J ++ (first ++ o.notes ++ last)) act.put.journal,
         λ lets at settled. pass-append IsSettled IsSettled before at (first ++ o.notes) last

@@ -1,30 +1,15 @@
 -- What the front end notes of a connection in a turn, by its rules.
 use Rattle.std.proofs.Common.{◌∙◌, ap, ◌≡◌, ℕ, ◌+◌, ◌^◌, ◌<◌, ◌≤◌, Bool, true, false, List, [], ◌∷◌, ◌++◌, Option, Some, None, Result, Ok, Err, sym, subst}
-use Rattle.lard_base.specs.declared.ids.Epoch.{Epoch}
+use Rattle.lard_law_view.specs.Prelude.{Ask, ControlBlock, Epoch, Final, FirstChoice, FrontConn, FrontDeed, FrontEnv, FrontPart, FrontRow, FrontTurn, LaterChoice, Reading, Rec, Said, SegFault, Service, assigned_notes, front_admitted, front_asked, front_ended, front_gets, front_reads, front_rest, front_taken, front_timer, last_words, next_epoch, over_note, serving_settled, tombstone}
 use Rattle.lard_base.specs.declared.place.Place.TheVariants as place
 use Rattle.lard_law_connections.proofs.LineFrontMessages.{away-counts}
 use Rattle.lard_law_connections.proofs.LineFronts.{RowStands, StageStands, heard-ready}
 use Rattle.lard_law_connections.proofs.LineHolding.{HasRead, IsRead, all-read, settled-ends}
 use Rattle.lard_law_connections.proofs.LineStands.{Stand}
-use Rattle.lard_costs.specs.declared.later.LaterChoice.{LaterChoice}
-use Rattle.lard_dispatch.specs.declared.dispatch.Ask.{Ask}
-use Rattle.lard_endpoint.specs.declared.control.moving.Final.{Final}
-use Rattle.lard_endpoint.specs.Control.{ControlBlock}
-use Rattle.lard_rules.specs.declared.front.FrontTurn.{FrontTurn}
-use Rattle.lard_rules.specs.Front.{FrontDeed, Drops, Says, Does, FrontEnv, FrontPart, assigned_notes, front_admitted, front_asked, front_ended, front_gets, front_taken, front_timer, over_note, front_rest}
-use Rattle.lard_rules.specs.FrontReading.{Reading, front_reads}
-use Rattle.lard_handoff_front.specs.declared.row.FrontConn.{FrontConn}
+use Rattle.lard_rules.specs.Front.{Drops, Says, Does}
 use Rattle.lard_handoff_front.specs.declared.row.FrontConn.TheVariants as stage
-use Rattle.lard_handoff_front.specs.declared.row.FrontRow.{FrontRow}
-use Rattle.lard_handoff_front.specs.Front.{next_epoch}
 use Rattle.lard_history.proofs.Each.{Each}
-use Rattle.lard_journal.specs.declared.rec.Rec.{Rec}
 use Rattle.lard_journal.specs.declared.rec.Rec.TheVariants as rec
-use Rattle.lard_policy.specs.declared.first.FirstChoice.{FirstChoice}
-use Rattle.lard_rules.specs.Tombstone.{last_words, tombstone}
-use Rattle.lard_rules.specs.Serving.{Service, serving_settled}
-use Rattle.lard_segment.specs.declared.fault.SegFault.{SegFault}
-use Rattle.lard_segment.specs.Segment.{Said}
 use Rattle.lard_rules.proofs.FrontCases.{KeptBySegment, IsInStage, of-stage, heard_reading, heard_service, segment-keeps, timer-keeps, taken-keeps, asked-keeps, ended-keeps, admitted-keeps}
 
 -- a later assignment

@@ -3,14 +3,7 @@ use Rattle.std.proofs.Common.{◌≡◌, ℕ, ◌<◌, ◌≤◌, ◌||◌, nat_
 use Rattle.std.proofs.lemmas.List.{length-map}
 use Rattle.std.specs.List.{fold, list_any}
 use Rattle.lard_base.proofs.Usable.{usable}
-use Rattle.lard_base.specs.Config.{config_check}
-use Rattle.lard_base.specs.declared.config.Config.{Config}
-use Rattle.lard_base.specs.declared.event.Event.{Event}
-use Rattle.lard_base.specs.declared.place.Place.{Place}
-use Rattle.lard_base.specs.declared.place.Place.TheVariants.{Front, Node, Client}
-use Rattle.lard_rules.specs.declared.machine.Machine.{Machine}
-use Rattle.lard_rules.specs.Bounds.{HasRule}
-use Rattle.lard_rules.specs.Machine.{IsReached, machine_step}
+use Rattle.lard_law_view.specs.Prelude.{Client, Config, DispatchStanding, EachMay, Event, Front, FrontConn, FrontPart, FrontRest, FrontRow, HasRule, IsReached, IsRowSound, IsStageSound, Kept, Machine, Node, Packet, Place, Rec, Rules, Setting, Tale, ToCluster, Waiting, config_check, conn, decoded, dispatch_standing, front_part, is_waiting, line_waits, machine_step, own, packet_at, part_of, plain, setting, whose}
 use Rattle.lard_law_connections.proofs.LineFronts.{RowStands, StageStands}
 use Rattle.lard_law_connections.proofs.LineJoining.{IsLinedThere, JoinsFree, MayJoin, joining-law}
 use Rattle.lard_law_connections.proofs.LineLaw.{IsLined, line-law}
@@ -32,35 +25,16 @@ use Rattle.lard_law_connections.proofs.PolicyWaiting.{who, within-more}
 use Rattle.lard_law_connections.specs.PolicyLaws.{AdmitsFirst, PassesOn}
 use Rattle.lard_counts.specs.Ledger.{is_in_ledger, ledger}
 use Rattle.lard_law_connections.specs.PolicyLine.{IsSublist, waiting, waiting_step}
-use Rattle.lard_law_view.specs.Carry.{setting}
-use Rattle.lard_law_view.specs.View.{Rules, Setting, conn, part_of}
 use Rattle.lard_law_view.proofs.After.{IsAfter, step-after}
 use Rattle.lard_law_view.proofs.Carried.{IsOn, carried, carried-keep, on-setting}
 use Rattle.lard_law_view.proofs.InSteps.{carried-ends, carried-records}
-use Rattle.lard_dispatch.specs.declared.line.Waiting.{Waiting}
-use Rattle.lard_dispatch.specs.Line.{line_waits}
-use Rattle.lard_rules.specs.declared.front.FrontRest.{FrontRest}
-use Rattle.lard_rules.specs.FrontPlace.{front_part}
-use Rattle.lard_rules.specs.Front.{FrontPart}
-use Rattle.lard_rules.specs.FrontSound.{IsRowSound, IsStageSound, DispatchStanding, dispatch_standing}
-use Rattle.lard_handoff_front.specs.declared.row.FrontConn.{FrontConn}
 use Rattle.lard_handoff_front.specs.declared.row.FrontConn.TheVariants as stage
-use Rattle.lard_handoff_front.specs.declared.row.FrontRow.{FrontRow}
-use Rattle.lard_handoff_front.specs.Row.{is_waiting}
-use Rattle.lard_history.specs.Journal.{Tale}
-use Rattle.lard_history.specs.Laws.{EachMay}
-use Rattle.lard_history.specs.Own.{own, plain, whose}
 use Rattle.lard_history.proofs.Each.{Each, Each-weaker}
 use Rattle.lard_history.proofs.Lifting.{tale-own}
 use Rattle.lard_history.proofs.Seeing.{by_number, other_number, same_number, has-each}
 use Rattle.lard_history.proofs.Tales.{epoch-tale, owner-tale}
 use Rattle.lard_history.proofs.Stepping.{AreLawful, cancel, one-more}
-use Rattle.lard_journal.specs.declared.rec.Rec.{Rec}
 use Rattle.lard_journal.specs.declared.rec.Rec.TheVariants as rec
-use Rattle.lard_net.specs.Net.{Packet, packet_at}
-use Rattle.lard_resend.specs.declared.kept.Kept.{Kept}
-use Rattle.lard_segment.specs.declared.segment.Dir.TheVariants.{ToCluster}
-use Rattle.lard_segment.specs.Segment.{decoded}
 
 -- ---- the line is within those who were to wait
 

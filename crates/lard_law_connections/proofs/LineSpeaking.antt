@@ -3,25 +3,14 @@ use Rattle.std.proofs.Common.{◌≡◌, ℕ, zero, suc, ◌+◌, ◌-◌, ◌^�
 use Rattle.std.specs.Prelude.{Option, Some, None, IfSome, OnSome}
 use Rattle.std.proofs.lemmas.Bool.{cond_both}
 use Rattle.std.proofs.lemmas.List.{length-take}
-use Rattle.lard_base.specs.declared.place.Place.{Place}
-use Rattle.lard_base.specs.declared.place.Place.TheVariants.{Client}
+use Rattle.lard_law_view.specs.Prelude.{Client, ControlBlock, IsControlBlock, IsSendable, Place, Ready, Said, Sending, ServeEnv, ToClient, ack_ready, advanced, after_emit, after_next, after_owed, after_piece, after_resend, after_timer, awaited, decoded, emits, emits_left, emitted, filled, next_piece, owed_ready, owes, own_mss, piece_ready, rcv_nxt, rcv_wnd, ready_of, receive_room, resent_piece, retried, seq_add, speaks, spelled, timed, to_client, told}
 use Rattle.lard_law_connections.proofs.LineHearing.{GoesOn, goes-same, goes-then}
 use Rattle.lard_law_connections.specs.Line.{said_of}
-use Rattle.lard_endpoint.specs.Control.{ControlBlock, IsControlBlock, rcv_nxt, rcv_wnd}
-use Rattle.lard_endpoint.specs.Leaving.{told, own_mss, piece_ready, ack_ready, owes, owed_ready, after_owed, ready_of, after_piece, advanced, retried, emitted, after_emit, timed, after_timer, filled, emits_left}
 use Rattle.lard_endpoint.proofs.Ends.{emit-falls}
 use Rattle.lard_endpoint.proofs.Sound.{after_emit-sound, after_timer-sound}
-use Rattle.lard_recv.specs.Recv.{awaited, receive_room}
 use Rattle.lard_rules.specs.Serving as serving
-use Rattle.lard_rules.specs.Serving.{ServeEnv}
-use Rattle.lard_rules.specs.Speaking.{emits, speaks, to_client}
-use Rattle.lard_segment.specs.declared.segment.Dir.TheVariants.{ToClient}
-use Rattle.lard_segment.specs.declared.segment.Ready.{Ready}
-use Rattle.lard_segment.specs.Segment.{Said, IsSendable, decoded, spelled}
 use Rattle.lard_segment.proofs.Again.{again}
 use Rattle.lard_send.specs.declared.piece.Piece.{Piece}
-use Rattle.lard_send.specs.Send.{Sending, after_next, after_resend, next_piece, resent_piece}
-use Rattle.lard_seq.specs.Seq.{seq_add}
 use Rattle.lard_law_view.proofs.Pieces.{next-carries, resent-carries}
 use Rattle.lard_law_view.proofs.Speaking.{next-moves, resend-moves}
 use Rattle.lard_law_view.proofs.EndpointSends.{AllTo}

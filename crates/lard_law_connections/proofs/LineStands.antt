@@ -1,24 +1,20 @@
 -- How one connection stands by what it sees: what its client was told last, whether it is in the line, and whether it is admitted.
-use Rattle.std.proofs.Common.{◌≡◌, ℕ, ◌+◌, Bool, true, false, cond, List, [], ◌∷◌, ◌++◌, map, Option, Some, None, refl, sym, ap, ◌∙◌}
+use Rattle.std.proofs.Common.{◌≡◌, ℕ, ◌+◌, Bool, true, false, cond, List, [], ◌∷◌, ◌++◌, map, Option, Some, None, refl, sym, ap, ◌∙◌, subst}
 use Rattle.std.proofs.lemmas.List.Sums.{fold-append}
 use Rattle.std.specs.List.{fold}
-use Rattle.lard_base.specs.declared.place.Place.{Place}
-use Rattle.lard_base.specs.declared.place.Place.TheVariants.{Front, Node, Client}
+use Rattle.lard_law_view.specs.Prelude.{Came, Client, Conn, Front, GoesBetween, IsMachine, Move, Node, Place, Rec, Row, Said, Seen, ToClient, ToCluster, decoded, grown, rows_of, seen_in, timer_rows}
 use Rattle.lard_law_connections.proofs.LineSpeaking.{heard_by}
 use Rattle.lard_law_connections.specs.Line.{leaves, said_of}
-use Rattle.lard_law_view.specs.View.{Conn, IsMachine, GoesBetween, Move, grown, rows_of, seen_in, sending, timer_rows}
+use Rattle.lard_law_view.specs.View.{sending}
 use Rattle.lard_law_view.proofs.Fine.{IsItsOwn}
-use Rattle.lard_law_view.proofs.Saying.{AllBetween, AreMessages, GaveAt, NotedAt}
-use Rattle.lard_law_view.proofs.Timers.{IsTimerAt, timer_rows-are}
+use Rattle.lard_law_view.proofs.Saying.{AllBetween, AreMessages, NotedAt}
 use Rattle.lard_law_connections.specs.Places.{Owning}
 use Rattle.lard_law_connections.proofs.PlacesRows.{OwnsBy, SendsOwn}
-use Rattle.lard_history.specs.Own.{Seen, Row, Came}
-use Rattle.lard_history.proofs.Each.{Each}
-use Rattle.lard_journal.specs.declared.rec.Rec.{Rec}
+use Rattle.lard_history.proofs.Each.{Each, Each-weaker}
 use Rattle.lard_journal.specs.declared.rec.Rec.TheVariants as rec
-use Rattle.lard_segment.specs.declared.segment.Dir.TheVariants.{ToClient, ToCluster}
-use Rattle.lard_segment.specs.Segment.{Said, decoded}
 use Rattle.lard_law_view.proofs.EndpointSends.{AllTo}
+use Rattle.lard_law_view.proofs.OfKinds.{of-gifts, of-timers, elsewhere}
+use Rattle.lard_law_view.proofs.RecordKinds as kinds
 
 pub record Stand : Type 0 where
   pub told : Option Said  -- the last segment that the cluster sent to its client
@@ -67,22 +63,6 @@ pub all-same : (c : ℕ) (s : Stand) (rs : List Rec) → Each (IsSame c) rs → 
 all-same c s [] e = refl
 all-same c s (r ∷ rs) e = ap (λ (t : Stand). fold (row_step c) t rs) (e.0 s) ∙ all-same c s rs e.1
 
-gave-same : (place : Place) (c : ℕ) (rs : List Rec) → Each (GaveAt place c) rs → Each (IsSame c) rs
-gave-same place c [] e = tt
-gave-same place c (r ∷ rs) e = (one place r e.0, gave-same place c rs e.1) where
-  one : (place : Place) (r : Rec) → GaveAt place c r → IsSame c r
-  one Front (rec.Gave Front d epoch) h = λ s. refl
-  one (Node n) (rec.Gave (Node k) d epoch) h = λ s. refl
-  one _ _ h = absurd h
-
-timers-same : (place : Place) (c : ℕ) (rs : List Rec) → Each (IsTimerAt place c) rs → Each (IsSame c) rs
-timers-same place c [] e = tt
-timers-same place c (r ∷ rs) e = (one r e.0, timers-same place c rs e.1) where
-  one : (r : Rec) → IsTimerAt place c r → IsSame c r
-  one (rec.Armed p d kind) h = λ s. refl
-  one (rec.Cleared p d kind) h = λ s. refl
-  one _ h = absurd h
-
 -- what goes to a machine tells no client anything
 machine-same : (c : ℕ) (s : Stand) (to from : Place) (bytes : List ℕ) → IsMachine to → sent_stand c s to from bytes ≡ s
 machine-same c s Front from bytes m = refl
@@ -98,22 +78,15 @@ abbrev pub IsElsewhere : Place → Type 0
 IsElsewhere Front = ⊥
 IsElsewhere _ = Unit {0}
 
+else-same : (c : ℕ) (r : Rec) → kinds.IsElsewhere (kinds.kind_of r) → IsSame c r
+else-same c (rec.Waits d) h = absurd h
+else-same c (rec.Admitted d) h = absurd h
+else-same c (rec.Released d) h = absurd h
+else-same c (rec.Sent k from to bytes) h = absurd h
+else-same c _ h = λ s. refl
+
 pub notes-same : (place : Place) (c : ℕ) (rs : List Rec) → IsElsewhere place → Each (NotedAt place c) rs → Each (IsSame c) rs
-notes-same place c [] there e = tt
-notes-same place c (r ∷ rs) there e = (one place r there e.0, notes-same place c rs there e.1) where
-  one : (place : Place) (r : Rec) → IsElsewhere place → NotedAt place c r → IsSame c r
-  one Front r there h = absurd there
-  one (Client e) (rec.Wrote d bytes) there h = λ s. refl
-  one (Client e) (rec.Accepted d bytes) there h = λ s. refl
-  one (Client e) (rec.Eof d) there h = λ s. refl
-  one (Client e) (rec.Aborted d) there h = λ s. refl
-  one (Node n) (rec.Took (Node k) d epoch) there h = λ s. refl
-  one (Node n) (rec.Served (Node k) d r code size via) there h = λ s. refl
-  one (Node n) (rec.Reset (Node k) d total) there h = λ s. refl
-  one (Node n) (rec.Queued k o d r path) there h = λ s. refl
-  one (Node n) (rec.Read k o d r path) there h = λ s. refl
-  one (Node n) (rec.Hit k path) there h = λ s. refl
-  one _ _ there h = absurd h
+notes-same place c rs there = Each-weaker (NotedAt place c) (IsSame c) (λ r h. else-same c r (elsewhere place c r h (λ e. subst IsElsewhere e there))) rs
 
 -- ---- a move
 
@@ -141,9 +114,9 @@ stand-grown x v own =
     fold-append (stand_step c) unknown x.seen (seen_in x v)
     ∙ fold-append (stand_step c) (stand_at x) v.heads (map Row (rows_of x v))
     ∙ rows-seen c s (rows_of x v)
-    ∙ fold-append (row_step c) s (N ++ S ++ G ++ M) T ∙ all-same c (fold (row_step c) s (N ++ S ++ G ++ M)) T (timers-same v.place c T (timer_rows-are v.place c x.part v.part))
+    ∙ fold-append (row_step c) s (N ++ S ++ G ++ M) T ∙ all-same c (fold (row_step c) s (N ++ S ++ G ++ M)) T (of-timers (IsSame c) (λ p d kind. ((λ u. refl), (λ u. refl))) v.place c x.part v.part)
     ∙ fold-append (row_step c) s (N ++ S ++ G) M ∙ all-same c (fold (row_step c) s (N ++ S ++ G)) M (messages-same c v.place v.said.messages own.messages)
-    ∙ fold-append (row_step c) s (N ++ S) G ∙ all-same c (fold (row_step c) s (N ++ S)) G (gave-same v.place c G own.gave)
+    ∙ fold-append (row_step c) s (N ++ S) G ∙ all-same c (fold (row_step c) s (N ++ S)) G (of-gifts (IsSame c) (λ p d epoch u. refl) v.place c G own.gave)
     ∙ fold-append (row_step c) s N S
 
 -- ---- segments

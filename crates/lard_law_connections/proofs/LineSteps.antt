@@ -1,35 +1,21 @@
 -- The records of a step: each release that is due stands directly behind its record; and what takes from loads stands before what adds
 -- to them.
-use Rattle.std.proofs.Common.{◌≡◌, ℕ, ◌+◌, ◌-◌, Bool, true, false, cond, List, [], ◌∷◌, ◌++◌, map, length, Option, Ok, refl, sym, ap, ◌∙◌, subst, append_assoc, append-nil, ⊎_elim, ◌||◌, nat_lt, ◌⊎◌, inl, inr}
-use Rattle.lard_base.specs.declared.event.Event.{Event}
+use Rattle.std.proofs.Common.{◌≡◌, ℕ, ◌+◌, ◌-◌, Bool, true, false, cond, List, [], ◌∷◌, ◌++◌, map, Option, Ok, refl, sym, ap, ◌∙◌, subst, append_assoc, append-nil, ⊎_elim, ◌||◌, nat_lt, ◌⊎◌, inl, inr}
+use Rattle.lard_law_view.specs.Prelude.{Client, Epoch, Event, Front, HasRule, IsViewed, Machine, Move, Node, Out, Packet, Part, Place, Rec, Row, Rules, Seen, clocked, conn, lose_at, machine_step, machine_told, over_note, passed, seen_on, setting_of}
 use Rattle.lard_base.specs.declared.event.Event.TheVariants as event
-use Rattle.lard_base.specs.declared.ids.Epoch.{Epoch}
-use Rattle.lard_base.specs.declared.place.Place.{Place}
-use Rattle.lard_base.specs.declared.place.Place.TheVariants.{Client, Front, Node}
-use Rattle.lard_rules.specs.declared.machine.Machine.{Machine}
-use Rattle.lard_rules.specs.Bounds.{HasRule}
-use Rattle.lard_rules.specs.Machine.{clocked, machine_step, passed, segments_sent, machine_told}
 use Rattle.lard_law_connections.proofs.LineHolding.{IsRead}
 use Rattle.lard_law_connections.proofs.LineLaw.{IsLined}
 use Rattle.lard_law_connections.proofs.LineNotes.{Begins, Ends, Enters, Alone, Goes, IsLater, Noted, Reads, Shares, Was, Waits}
 use Rattle.lard_law_connections.proofs.LineStands.{stand_at}
 use Rattle.lard_law_connections.proofs.LineTurns.{IsEntry, IsNoted, Notes, was_at}
 use Rattle.lard_law_connections.specs.LineLaws.{AreReleased, LineDue, Nothing, Release, due_behind}
-use Rattle.lard_law_connections.proofs.PolicyCalm.{first_rows, last_rows, told-journal}
-use Rattle.lard_law_view.specs.View.{IsViewed, Move, Part, Rules, conn, setting_of}
-use Rattle.lard_law_view.proofs.AnyShape.{IsAct, SomeGift, SomeTimer, each-act, one-act, two-act}
-use Rattle.lard_law_view.proofs.Saying.{GaveAt, NotedAt, notes-all}
+use Rattle.lard_law_connections.proofs.Calm.{Allows, first-calm, first_rows, gifts-calm, last-calm, last_rows, timers-calm, told-journal}
+use Rattle.lard_law_view.proofs.AnyShape.{IsAct, each-act, one-act, two-act}
+use Rattle.lard_law_view.proofs.Saying.{NotedAt, notes-all}
 use Rattle.lard_law_view.proofs.Shapes.{NamesNobody, ReadsOn, Shapes, both_out, each_out, move_of, with_rest}
 use Rattle.lard_law_view.proofs.Stepping.{step-has}
-use Rattle.lard_law_view.proofs.Timers.{IsTimerAt}
-use Rattle.lard_rules.specs.Front.{over_note}
-use Rattle.lard_history.specs.Own.{Row, Seen, seen_on}
 use Rattle.lard_history.proofs.Each.{Each, Each-append, Each-weaker}
-use Rattle.lard_journal.specs.declared.rec.Rec.{Rec}
 use Rattle.lard_journal.specs.declared.rec.Rec.TheVariants as rec
-use Rattle.lard_rules.specs.Sent.{sent_records}
-use Rattle.lard_net.specs.Net.{Packet, lose_at}
-use Rattle.lard_rules.specs.declared.places.Out.{Out}
 use Rattle.lard_law_view.proofs.OwnRecords.{behind}
 
 -- it adds to no load
@@ -74,40 +60,18 @@ note-quiet (Node n) c (rec.Read k o d r path) never h = ((λ inside. refl), tt, 
 note-quiet (Node n) c (rec.Hit k path) never h = ((λ inside. refl), tt, tt, tt)
 note-quiet _ c _ never h = absurd h
 
-gave-quiet : (place : Place) (c : ℕ) (r : Rec) → GaveAt place c r → IsQuiet r
-gave-quiet Front c (rec.Gave Front d epoch) h = ((λ inside. refl), tt, tt, tt)
-gave-quiet (Node n) c (rec.Gave (Node k) d epoch) h = ((λ inside. refl), tt, tt, tt)
-gave-quiet _ c _ h = absurd h
-
-timer-quiet : (place : Place) (c : ℕ) (r : Rec) → IsTimerAt place c r → IsQuiet r
-timer-quiet place c (rec.Armed p d kind) h = ((λ inside. refl), tt, tt, tt)
-timer-quiet place c (rec.Cleared p d kind) h = ((λ inside. refl), tt, tt, tt)
-timer-quiet place c _ h = absurd h
-
-sents-quiet : (k : ℕ) (place : Place) (ss : List (Place × List ℕ)) → Each IsQuiet (sent_records k place ss)
-sents-quiet k place [] = tt
-sents-quiet k place (s ∷ ss) = (((λ inside. refl), tt, tt, tt), sents-quiet (k + 1) place ss)
-
-pub behind-quiet : (e : Event) → Each IsQuiet (behind e)
-behind-quiet (event.Open c isn iss wnd mss) = (((λ inside. refl), tt, tt, tt), tt)
-behind-quiet (event.Deliver k) = (((λ inside. refl), tt, tt, tt), tt)
-behind-quiet (event.Lose k) = (((λ inside. refl), tt, tt, tt), tt)
-behind-quiet (event.Inject c bytes) = (((λ inside. refl), tt, tt, tt), tt)
-behind-quiet _ = tt
-
-pub last-quiet : (w : Machine) (place : Place) (o : Out) → Each IsQuiet o.gave → Each IsQuiet o.timers → Each IsQuiet (last_rows w place o)
-last-quiet w place o gave timers =
-    let S : List Rec = sent_records (length w.net + 1) place o.segments in
-    let M : List Rec = sent_records (length (segments_sent w place o) + 1) place o.messages in
-    Each-append IsQuiet (S ++ o.gave ++ M) o.timers
-    (Each-append IsQuiet (S ++ o.gave) M (Each-append IsQuiet S o.gave (sents-quiet (length w.net + 1) place o.segments) gave) (sents-quiet (length (segments_sent w place o) + 1) place o.messages))
-    timers
-
-pub gifts-quiet : (place : Place) (rs : List Rec) → Each (SomeGift place) rs → Each IsQuiet rs
-gifts-quiet place rs e = Each-weaker (SomeGift place) IsQuiet (λ r h. gave-quiet place h.0 r h.1) rs e
-
-pub timers-quiet : (place : Place) (rs : List Rec) → Each (SomeTimer place) rs → Each IsQuiet rs
-timers-quiet place rs e = Each-weaker (SomeTimer place) IsQuiet (λ r h. timer-quiet place h.0 r h.1) rs e
+pub allows-quiet : Allows IsQuiet
+allows-quiet = record {
+  event = λ i e. ((λ inside. refl), tt, tt, tt);
+  opened = λ c isn iss wnd mss. ((λ inside. refl), tt, tt, tt);
+  injected = λ c. ((λ inside. refl), tt, tt, tt);
+  got = λ k. ((λ inside. refl), tt, tt, tt);
+  lost = λ k. ((λ inside. refl), tt, tt, tt);
+  sent = λ k from to bytes. ((λ inside. refl), tt, tt, tt);
+  gave = λ place c epoch. ((λ inside. refl), tt, tt, tt);
+  armed = λ place c kind. ((λ inside. refl), tt, tt, tt);
+  cleared = λ place c kind. ((λ inside. refl), tt, tt, tt);
+}
 
 -- what names nobody is quiet, and so is what is read on behind the head of the line
 pub nobody-quiet : (place : Place) (r : Rec) → NamesNobody place r → IsQuiet r
@@ -339,8 +303,8 @@ module _ (m : Machine) (lined : (q : ℕ) → IsLined (conn m q)) (inside : ℕ 
   told-adds w e place o act notes = (
     first_rows w e ++ o.notes ++ last_rows w place o,
     told-journal w e place o ∙ ap (λ (J : List Rec). J ++ (first_rows w e ++ o.notes ++ last_rows w place o)) act.put.journal,
-    between-order inside (first_rows w e) o.notes (last_rows w place o) (((λ i. refl), tt, tt, tt), behind-quiet e) notes
-        (last-quiet w place o (gifts-quiet place o.gave act.gave) (timers-quiet place o.timers act.timers)),
+    between-order inside (first_rows w e) o.notes (last_rows w place o) (first-calm IsQuiet allows-quiet w e) notes
+        (last-calm IsQuiet allows-quiet w place o (gifts-calm IsQuiet allows-quiet place o.gave act.gave) (timers-calm IsQuiet allows-quiet place o.timers act.timers)),
   )
 
   -- a connection has its number

@@ -2,21 +2,14 @@
 use Rattle.std.proofs.Common.{◌≡◌, ◌≢◌, ℕ, ◌+◌, nat_eq, Bool, true, false, cond, List, [], ◌∷◌, ◌++◌, Option, Some, None, arith, refl, sym, ap, ◌∙◌, subst}
 use Rattle.std.proofs.lemmas.List.Sums.{fold-append}
 use Rattle.std.specs.List.{fold, list_any}
-use Rattle.lard_base.specs.declared.place.Place.{Place}
-use Rattle.lard_base.specs.declared.place.Place.TheVariants.{Front, Node, Client}
+use Rattle.lard_law_view.specs.Prelude.{Came, Client, Front, Node, Packet, Place, Rec, Row, Said, Seen, ToClient, ToCluster, came_seen, conn_of, decoded, in_step, is_in, net_step, one_of, own, packet_at, plain, seen_of, seen_on, whose}
 use Rattle.lard_law_connections.proofs.LineStands.{Stand, stand_step, unknown}
 use Rattle.lard_law_connections.specs.Line.{Line, leaves, line_left_at, line_left_by, waiting_line, line_step, nobody, said_of, told_by, all_but}
 use Rattle.lard_law_connections.proofs.PolicyHomes.{any-more, less-any}
 use Rattle.lard_law_connections.proofs.PolicyIns.{count, count-append, none-left, others-left}
 use Rattle.lard_law_connections.specs.PolicyLine.{waiting, waiting_step}
-use Rattle.lard_history.specs.Journal.{in_step, is_in}
-use Rattle.lard_history.specs.Own.{Seen, Row, Came, came_seen, conn_of, net_step, one_of, own, plain, seen_of, seen_on, whose}
 use Rattle.lard_history.proofs.Seeing.{by_number, other_number, same_number}
-use Rattle.lard_journal.specs.declared.rec.Rec.{Rec}
 use Rattle.lard_journal.specs.declared.rec.Rec.TheVariants as rec
-use Rattle.lard_net.specs.Net.{Packet, packet_at}
-use Rattle.lard_segment.specs.declared.segment.Dir.TheVariants.{ToClient, ToCluster}
-use Rattle.lard_segment.specs.Segment.{Said, decoded}
 
 module _ (c : ℕ) where
   -- What was told to each client, who is in the line, who was to wait since, and whether c is admitted, agree with how c stands.

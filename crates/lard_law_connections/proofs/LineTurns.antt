@@ -1,19 +1,16 @@
 -- What each rule notes, as a fact of each move.
 use Rattle.std.proofs.Common.{◌≡◌, ℕ, ◌^◌, ◌<◌, ◌≤◌, List, [], ◌∷◌, sym, subst, ◌⊎◌, inl, inr, true, refl}
-use Rattle.lard_base.specs.declared.place.Place.{Place}
-use Rattle.lard_base.specs.declared.place.Place.TheVariants.{Client, Front, Node}
+use Rattle.lard_law_view.specs.Prelude.{Came, Client, ClientRules, Conn, Front, FrontEnv, FrontRules, Move, Node, NodeRules, Place, Rec, Row, Rules, Seen, Setting, ToCluster, ask_of, client_begins, decoded, front_admits, front_asked, front_does, front_ended, front_gets, front_taken, front_timer, node_does, nothing_said, packet_seen, stands}
+use Rattle.lard_law_view.proofs.EachClient.{client_goes, each-client, of-client}
 use Rattle.lard_law_connections.proofs.LineLaw.{IsLined, IsThere, node-there}
 use Rattle.lard_law_connections.proofs.LineNotes.{DeedNotes, Enters, Noted, Was, admitted-enters, admitted-waits, asked-noted, ended-noted, gets-noted, held_there, none-noted, taken-noted, timer-noted, was}
+use Rattle.lard_law_view.proofs.NodeHeads.{heads-of, of-aside}
 use Rattle.lard_law_connections.proofs.LineStands.{IsElsewhere, stand_at}
-use Rattle.lard_law_view.specs.View.{ClientRules, Conn, FrontRules, Move, NodeRules, Rules, Setting, front_admits, front_does, node_does, nothing_said, packet_seen, stands}
+use Rattle.lard_law_view.proofs.EachNode.{each-node, job_notes, told_first}
 use Rattle.lard_rules.specs.Front as front
-use Rattle.lard_rules.specs.Front.{FrontEnv, ask_of, front_asked, front_ended, front_gets, front_taken, front_timer}
-use Rattle.lard_history.specs.Own.{Seen, Row, Came}
 use Rattle.lard_history.proofs.Each.{Each}
 use Rattle.lard_journal.specs.declared.rec.Rec.TheVariants as rec
 use Rattle.lard_rules.specs.Node as node
-use Rattle.lard_segment.specs.declared.segment.Dir.TheVariants.{ToCluster}
-use Rattle.lard_segment.specs.Segment.{decoded}
 
 -- It is the admission of one that waits, before which nothing is seen.
 pub record IsEntry (x : Conn) (v : Move) : Type 0 where
@@ -54,10 +51,10 @@ elsewhere (Client d) there at = let no : Client d ≡ Front = at in absurd cc
 aside : (x : Conn) (v : Move) → IsElsewhere v.place → Each IsBare v.heads → Notes x v
 aside x v there bare h = record { bare = bare; noted = λ at. absurd (elsewhere v.place there at); alone = λ at none. absurd (elsewhere v.place there at) }
 
-by-node : (x : Conn) (n : ℕ) (heads : List Seen) (d : node.NodeDeed) → Each IsBare heads → Notes x (node_does x n heads d)
-by-node x n heads d bare =
-    let there : IsThere x heads (node_does x n heads d) = node-there x n heads d in
-    aside x (node_does x n heads d) there.place (subst (Each IsBare) (sym there.heads_are) bare)
+by-node : (x : Conn) (n : ℕ) (rs : List Rec) (heads : List Seen) (d : node.NodeDeed) → Each IsBare heads → Notes x (told_first rs (node_does x n heads d))
+by-node x n rs heads d bare =
+    let there : IsThere x heads (told_first rs (node_does x n heads d)) = node-there x n rs heads d in
+    aside x (told_first rs (node_does x n heads d)) there.place (subst (Each IsBare) (sym there.heads_are) bare)
 
 -- something is seen before what the front end does
 by-front : (x : Conn) (env : FrontEnv) (first : Seen) (rest : List Seen) (d : front.FrontDeed) → env.serve.c ≡ x.c → Each IsBare (first ∷ rest) → (IsLined x → DeedNotes env.serve.c (was_at x) d) → Notes x (front_does x (first ∷ rest) d)
@@ -72,17 +69,10 @@ by-front x env first rest d same bare noted h = go d (subst (λ (c : ℕ). DeedN
 
 module _ (k : Setting) (small : k.stream ≤ 2 ^ 30) where
   clients : ClientRules k Notes
-  clients = record {
-    opens = λ x isn iss wnd mss rule none. aside x _ tt (tt, (tt, tt));
-    gets = λ x s path there le. aside x _ tt (tt, tt);
-    writes = λ x s bytes there le. aside x _ tt (tt, tt);
-    shuts = λ x s there. aside x _ tt (tt, tt);
-    aborts = λ x s there. aside x _ tt (tt, tt);
-    holds = λ x s there. aside x _ tt (tt, tt);
-    takes = λ x s there. aside x _ tt (tt, tt);
-    fires = λ x s there. aside x _ tt (tt, tt);
-    hears = λ x s from bytes there was. aside x _ tt (tt, tt);
-  }
+  clients = each-client k Notes (record {
+    opens = λ x isn iss wnd mss rule none. aside x (client_begins x isn iss wnd mss) tt (tt, (tt, tt));
+    does = λ x s g there comes. aside x (client_goes x s g) tt (of-client x.c (Each IsBare) (λ from bytes. (tt, tt)) (λ e. (tt, tt)) g);
+  })
 
   fronts : FrontRules k Notes
   fronts = record {
@@ -104,18 +94,11 @@ module _ (k : Setting) (small : k.stream ≤ 2 ^ 30) where
   }
 
   nodes : NodeRules k Notes
-  nodes = record {
-    offered = λ x n epoch env parts bytes is spells was. by-node x n _ _ (tt, tt);
-    forwarded = λ x n epoch env segment bytes is spells was. by-node x n _ _ (tt, tt);
-    tagged = λ x n epoch number tags env bytes is spells was. by-node x n _ _ (tt, tt);
-    content = λ x n from epoch r env file bytes is spells was. by-node x n _ _ (tt, tt);
-    acknowledged = λ x n epoch env bytes is spells was. by-node x n _ _ (tt, tt);
-    read = λ x n epoch r env path is. aside x _ (node-there x n [] _).place (subst (Each IsBare) (sym (node-there x n [] _).heads_are) tt);
-    fires = λ x s n env there is. by-node x n _ _ (tt, tt);
-    answers = λ x n from epoch r path file bytes there spells was. aside x _ tt (tt, tt);
-    queues = λ x n from epoch r path file bytes there spells was. aside x _ tt (tt, tt);
-    brings = λ x n from epoch r path. aside x _ tt tt;
-  }
+  nodes = each-node k Notes (record {
+    does = λ x n epoch env heads g is at comes. by-node x n (job_notes x.c n g) heads (node.node_rule env (x.part.nodes n) g)
+        (heads-of IsBare (λ l. tt) (λ m c. tt) x n epoch heads g comes);
+    aside = λ x n a may. aside x _ tt (of-aside x n (Each IsBare) (λ from bytes. (tt, tt)) tt a);
+  })
 
   -- nothing is noted of what is not heard
   ignored : (x : Conn) (from to : Place) (bytes : List ℕ) → Notes x (stands x to (packet_seen from to bytes) nothing_said)

@@ -1,22 +1,13 @@
 -- What the front end notes while it reads: responses, and a reset.
 use Rattle.std.proofs.Common.{◌+◌, nat_lt, ℕ, List, [], ◌∷◌, length, Option, Some, None, subst}
 use Rattle.std.proofs.lemmas.Bool.{cond_both}
-use Rattle.lard_answers.specs.Answers.{answer, answer_code, good_path}
+use Rattle.lard_law_view.specs.Prelude.{Done, Found, More, Reading, Rec, ServeEnv, Service, Step, Verdict, answer, answer_code, answered, block_at, cut_of, ended_at_fin, finishing, front_reads, good_path, may_freeze, may_read, passed_over, queued, reading_left, reading_turn, reads_block, reads_found, serving_consumed, targeted}
 use Rattle.lard_base.specs.declared.place.Via.TheVariants.{Own}
-use Rattle.lard_block.specs.declared.block.Found.{Found}
 use Rattle.lard_block.specs.declared.block.Found.TheVariants as found
-use Rattle.lard_block.specs.Blocks.{cut_of}
-use Rattle.lard_endpoint.specs.Control.{finishing}
-use Rattle.lard_endpoint.specs.Moving.{may_freeze}
-use Rattle.lard_rules.specs.FrontReading.{Reading, block_at, reading_left, front_reads, reads_block, reads_found, targeted, reading_turn}
 use Rattle.lard_history.proofs.Each.{Each, Each-append}
-use Rattle.lard_journal.specs.declared.rec.Rec.{Rec}
 use Rattle.lard_journal.specs.declared.rec.Rec.TheVariants as rec
 use Rattle.lard_request.specs.declared.verdict.Code.TheVariants as code
-use Rattle.lard_request.specs.declared.verdict.Verdict.{Verdict}
 use Rattle.lard_request.specs.declared.verdict.Verdict.TheVariants.{Fault}
-use Rattle.lard_rules.specs.Loop.{Step, More, Done}
-use Rattle.lard_rules.specs.Serving.{ServeEnv, Service, answered, serving_consumed, ended_at_fin, may_read, passed_over, queued}
 use Rattle.lard_rules.proofs.Runs.{runs_keep}
 
 abbrev pub IsAnswer : Rec → Type 0

@@ -3,36 +3,20 @@ use Rattle.std.proofs.Common.{◌+◌, ◌≡◌, ◌==◌, ◌||◌, not, ℕ, 
 use Rattle.std.proofs.lemmas.Bool.{cond_both}
 use Rattle.std.proofs.lemmas.List.Folds.{list_any-append}
 use Rattle.std.specs.List.{fold, list_any}
-use Rattle.lard_base.specs.declared.place.Place.{Place}
-use Rattle.lard_base.specs.declared.place.Place.TheVariants.{Client, Front, Node}
+use Rattle.lard_law_view.specs.Prelude.{Ask, Body, Client, Conn, Front, FrontConn, FrontRow, Kept, Kind, LaterChoice, Node, Place, Rec, Seen, assigned_notes, epoch_at, is_under, kind_of, listed, over_note, sent_of, without}
 use Rattle.lard_base.specs.declared.place.TimerKind.TheVariants as timer
 use Rattle.lard_law_connections.specs.MotionStory.{Story, ended_in, forward_to, is_among, is_forward, is_syn_in, picked, segment_in, story, story_step}
 use Rattle.lard_law_connections.proofs.MotionAnswers.{IsAnswer}
 use Rattle.lard_law_connections.proofs.MotionElsewhere.{IsAway, IsBare, IsOfferKept, RowKnown, StageKnown}
 use Rattle.lard_law_connections.proofs.MotionPicking.{IsStill, pick}
 use Rattle.lard_law_connections.proofs.PlacesHeads.{head, spelled-some}
-use Rattle.lard_law_view.specs.View.{Conn, sending}
+use Rattle.lard_law_view.specs.View.{sending}
 use Rattle.lard_rules.specs.Front.{message}
-use Rattle.lard_handoff_front.specs.declared.row.FrontConn.{FrontConn}
 use Rattle.lard_handoff_front.specs.declared.row.FrontConn.TheVariants as stage
-use Rattle.lard_handoff_front.specs.declared.row.FrontRow.{FrontRow}
-use Rattle.lard_history.specs.Own.{Seen}
 use Rattle.lard_history.proofs.Each.{Each, Each-weaker}
-use Rattle.lard_costs.specs.declared.later.LaterChoice.{LaterChoice}
-use Rattle.lard_dispatch.specs.declared.dispatch.Ask.{Ask}
-use Rattle.lard_rules.specs.Front.{assigned_notes, over_note}
-use Rattle.lard_journal.specs.declared.rec.Rec.{Rec}
 use Rattle.lard_journal.specs.declared.rec.Rec.TheVariants as rec
-use Rattle.lard_message.specs.declared.kind.Kind.{Kind}
 use Rattle.lard_message.specs.declared.kind.Kind.TheVariants as kind
-use Rattle.lard_message.specs.declared.message.Body.{Body}
 use Rattle.lard_message.specs.declared.message.Body.TheVariants as body
-use Rattle.lard_message.specs.Message.{kind_of}
-use Rattle.lard_message.specs.Reading.{epoch_at}
-use Rattle.lard_resend.specs.declared.kept.Kept.{Kept}
-use Rattle.lard_resend.specs.Kept.{is_under, without}
-use Rattle.lard_resend.specs.Pending.{sent_of}
-use Rattle.lard_rules.specs.Speaking.{listed}
 
 -- ---- answers tell nothing of the way
 

@@ -2,31 +2,21 @@
 use Rattle.std.proofs.Common.{◌≡◌, ℕ, ◌||◌, ◌&&◌, not, Bool, true, false, cond, List, [], ◌∷◌, ◌++◌, map, Option, Some, None, refl, sym, ap, ◌∙◌, subst, ◌+◌, append-nil}
 use Rattle.std.specs.List.{fold, list_any}
 use Rattle.std.proofs.lemmas.List.Folds.{list_any-append}
-use Rattle.lard_base.specs.declared.place.Place.{Place}
-use Rattle.lard_base.specs.declared.place.Place.TheVariants.{Client, Front, Node}
-use Rattle.lard_rules.specs.Bounds.{IsConnNumber}
+use Rattle.lard_law_view.specs.Prelude.{Came, Client, Conn, Front, FrontConn, FrontPart, FrontRow, IsConnNumber, IsConnSound, IsMachine, Kept, Letter, Move, Node, NodePart, Place, Rec, Row, Seen, grown, letter, letters_of, listed, rows_of, seen_in}
 use Rattle.lard_law_connections.specs.Motion.{Forwards, HandsOff, forwards_by, IsHandedOff, TakesBack, TakesFirst, first_end, first_syn, first_takes, forwards_of, later_takes}
 use Rattle.lard_law_connections.specs.MotionStory.{Story, ended_in, first_node, forward_to, front_gave_epoch, front_took, is_among, is_syn_in, of_row, picked, row_step, segment_in, story, to_node}
-use Rattle.lard_law_connections.proofs.MotionPicking.{IsApart, IsStill, apart-ended, apart-segments, apart-story, apart-syn, came-none, pick, pick-parts, pick-seen, picked-append, rows-syn, sends-still, still-all, stills-first, stills-gave, stills-took, still-first, still-gave, still-took, or-false, story-grown, timers-none, timers-still, pick-none}
+use Rattle.lard_law_connections.proofs.MotionPicking.{IsApart, IsStill, apart-ended, apart-segments, apart-story, apart-syn, came-none, pick, pick-seen, picked-append, rows-syn, still-all, stills-first, stills-gave, stills-took, still-first, still-gave, still-took, or-false, story-grown, IsNoGift, pick-given, pick-noted, pick-sent}
 use Rattle.lard_law_connections.specs.Places.{IsDecided, message_head}
 use Rattle.lard_law_connections.proofs.PlacesGrowing.{decided-grows}
 use Rattle.lard_law_connections.proofs.PlacesTurns.{IsPlaced, Owes}
-use Rattle.lard_law_view.specs.View.{Conn, IsMachine, IsConnSound, Move, grown, letter, letters_of, rows_of, seen_in, sending, timer_rows}
+use Rattle.lard_law_view.specs.View.{sending}
 use Rattle.lard_law_view.proofs.Fine.{IsItsOwn}
 use Rattle.lard_law_view.proofs.Saying.{GaveAt, NotedAt}
-use Rattle.lard_law_view.proofs.Timers.{IsTimerAt}
-use Rattle.lard_rules.specs.Front.{FrontPart}
-use Rattle.lard_handoff_front.specs.declared.row.FrontConn.{FrontConn}
 use Rattle.lard_handoff_front.specs.declared.row.FrontConn.TheVariants as stage
-use Rattle.lard_handoff_front.specs.declared.row.FrontRow.{FrontRow}
-use Rattle.lard_history.specs.Own.{Letter, Row, Came, Seen}
 use Rattle.lard_history.proofs.Each.{Each, Each-weaker}
-use Rattle.lard_journal.specs.declared.rec.Rec.{Rec}
 use Rattle.lard_journal.specs.declared.rec.Rec.TheVariants as rec
 use Rattle.lard_message.specs.declared.kind.Kind.TheVariants as kind
-use Rattle.lard_rules.specs.Node.{NodePart}
-use Rattle.lard_resend.specs.declared.kept.Kept.{Kept}
-use Rattle.lard_rules.specs.Speaking.{listed}
+use Rattle.lard_law_view.proofs.RecordKinds.{IsOuter, IsUnsent}
 
 -- What is known of a connection and of its move beside its way: the view has it of each rule, and the law of places.
 pub record Helps (x : Conn) (v : Move) : Type 0 where
@@ -123,12 +113,7 @@ module _ (x : Conn) (v : Move) (takes gives firsts : List ℕ) (forwards : List 
 
 -- ---- what is seen first, and the records behind it
 
--- it tells of no packet that is sent
-abbrev pub IsUnsent : Rec → Type 0
-IsUnsent (rec.Sent k from to bytes) = ⊥
-IsUnsent _ = Unit {0}
-
--- nor of the front end's part
+-- it tells of no packet that is sent, and nothing of the front end's part
 abbrev pub IsBare : Seen → Type 0
 IsBare (Row r) = IsStill r × IsUnsent r
 IsBare (Came l) = Unit {0}
@@ -151,41 +136,18 @@ pub unsent-said : (r : Rec) → IsUnsent r → to_node r ≡ None
 unsent-said (rec.Sent k from to bytes) h = absurd h
 unsent-said _ h = refl
 
-pub note-unsent : (place : Place) (c : ℕ) (r : Rec) → NotedAt place c r → IsUnsent r
-note-unsent Front c (rec.Sent k from to bytes) h = h
-note-unsent (Node n) c (rec.Sent k from to bytes) h = h
-note-unsent (Client d) c (rec.Sent k from to bytes) h = h
-note-unsent place c _ h = tt
+-- only notes take or assign, and only what is given up gives
+took-noted : (r : Rec) → IsOuter r → front_took r ≡ None
+took-noted (rec.Took p d epoch) h = absurd h
+took-noted _ h = refl
 
-pub gave-unsent : (place : Place) (c : ℕ) (r : Rec) → GaveAt place c r → IsUnsent r
-gave-unsent Front c (rec.Sent k from to bytes) h = h
-gave-unsent (Node n) c (rec.Sent k from to bytes) h = h
-gave-unsent (Client d) c (rec.Sent k from to bytes) h = h
-gave-unsent place c _ h = tt
+first-noted : (r : Rec) → IsOuter r → first_node r ≡ None
+first-noted (rec.AssignedFirst d r path n add remove) h = absurd h
+first-noted _ h = refl
 
-pub timer-unsent : (place : Place) (d : ℕ) (r : Rec) → IsTimerAt place d r → IsUnsent r
-timer-unsent place d (rec.Armed p k kind) h = tt
-timer-unsent place d (rec.Cleared p k kind) h = tt
-timer-unsent place d _ h = absurd h
-
--- no note gives anything up
-note-gave : (place : Place) (c : ℕ) (r : Rec) → NotedAt place c r → front_gave_epoch r ≡ None
-note-gave Front c (rec.Gave p d epoch) h = absurd h
-note-gave (Node n) c (rec.Gave p d epoch) h = absurd h
-note-gave (Client e) c (rec.Gave p d epoch) h = absurd h
-note-gave place c _ h = refl
-
-gave-took : (place : Place) (c : ℕ) (r : Rec) → GaveAt place c r → front_took r ≡ None
-gave-took Front c (rec.Took p d epoch) h = absurd h
-gave-took (Node n) c (rec.Took p d epoch) h = absurd h
-gave-took (Client e) c (rec.Took p d epoch) h = absurd h
-gave-took place c _ h = refl
-
-gave-first : (place : Place) (c : ℕ) (r : Rec) → GaveAt place c r → first_node r ≡ None
-gave-first Front c (rec.AssignedFirst d r path n add remove) h = absurd h
-gave-first (Node k) c (rec.AssignedFirst d r path n add remove) h = absurd h
-gave-first (Client e) c (rec.AssignedFirst d r path n add remove) h = absurd h
-gave-first place c _ h = refl
+gave-given : (r : Rec) → IsNoGift r → front_gave_epoch r ≡ None
+gave-given (rec.Gave p d epoch) h = absurd h
+gave-given _ h = refl
 
 module _ (x : Conn) (v : Move) (own : IsItsOwn x v) (parts : Parts x v) where
   abbrev sent : List Rec
@@ -194,44 +156,22 @@ module _ (x : Conn) (v : Move) (own : IsItsOwn x v) (parts : Parts x v) where
   abbrev told : List Rec
   told = map (sending v.place) v.said.messages
 
-  abbrev timers : List Rec
-  timers = timer_rows v.place x.c x.part v.part
-
-  still-none : {A : Type 0} (f : Rec → Option A) → ((rs : List Rec) → Each IsStill rs → pick f rs ≡ []) → (ns gs : List A) → pick f v.said.notes ≡ ns → pick f v.said.gave ≡ gs
-      → pick f (rows_of x v) ≡ ns ++ gs
-  still-none {A = A} f none ns gs notes gave =
-      pick-parts f x v
-      ∙ (λ i. notes i ++ none sent (sends-still v.place v.said.segments) i ++ gave i ++ none told (sends-still v.place v.said.messages) i ++ none timers (timers-still v.place x.c x.part v.part) i)
-      ∙ append-nil (ns ++ [] ++ gs ++ [])
-      ∙ append-nil (ns ++ [] ++ gs)
-      ∙ ap (λ (l : List A). l ++ gs) (append-nil ns)
-
   behind : {A : Type 0} (f : Rec → Option A) (found : List A) → picked (of_row f) v.heads ≡ [] → pick f (rows_of x v) ≡ found → picked (of_row f) (seen_in x v) ≡ found
   behind f found heads rows = pick-seen f x v ∙ (λ i. heads i ++ rows i)
 
   pub seen-takes : (takes : List ℕ) → pick front_took v.said.notes ≡ takes → picked (of_row front_took) (seen_in x v) ≡ takes
-  seen-takes takes e = behind front_took takes (bare-none front_took (λ r s u. still-took r s) v.heads parts.heads)
-      (still-none front_took stills-took takes [] e (pick-none front_took v.said.gave (Each-weaker (GaveAt v.place x.c) (λ r. front_took r ≡ None) (gave-took v.place x.c) v.said.gave own.gave)) ∙ append-nil takes)
+  seen-takes takes e = behind front_took takes (bare-none front_took (λ r s u. still-took r s) v.heads parts.heads) (pick-noted front_took x v own took-noted ∙ e)
 
   pub seen-gives : (gives : List ℕ) → pick front_gave_epoch v.said.gave ≡ gives → picked (of_row front_gave_epoch) (seen_in x v) ≡ gives
-  seen-gives gives e = behind front_gave_epoch gives (bare-none front_gave_epoch (λ r s u. still-gave r s) v.heads parts.heads)
-      (still-none front_gave_epoch stills-gave [] gives (pick-none front_gave_epoch v.said.notes (Each-weaker (NotedAt v.place x.c) (λ r. front_gave_epoch r ≡ None) (note-gave v.place x.c) v.said.notes own.notes)) e)
+  seen-gives gives e = behind front_gave_epoch gives (bare-none front_gave_epoch (λ r s u. still-gave r s) v.heads parts.heads) (pick-given front_gave_epoch x v own gave-given ∙ e)
 
   pub seen-firsts : (firsts : List ℕ) → pick first_node v.said.notes ≡ firsts → picked (of_row first_node) (seen_in x v) ≡ firsts
-  seen-firsts firsts e = behind first_node firsts (bare-none first_node (λ r s u. still-first r s) v.heads parts.heads)
-      (still-none first_node stills-first firsts [] e (pick-none first_node v.said.gave (Each-weaker (GaveAt v.place x.c) (λ r. first_node r ≡ None) (gave-first v.place x.c) v.said.gave own.gave)) ∙ append-nil firsts)
+  seen-firsts firsts e = behind first_node firsts (bare-none first_node (λ r s u. still-first r s) v.heads parts.heads) (pick-noted first_node x v own first-noted ∙ e)
 
   -- what is sent
   seen-sent : {A : Type 0} (f : Rec → Option A) → ((r : Rec) → IsUnsent r → f r ≡ None) → (found : List A) → pick f sent ≡ [] → pick f told ≡ found → picked (of_row f) (seen_in x v) ≡ found
   seen-sent f none found segments e = behind f found (bare-none f (λ r s u. none r u) v.heads parts.heads)
-      (pick-parts f x v
-      ∙ (λ i.
-      pick-none f v.said.notes (Each-weaker (NotedAt v.place x.c) (λ r. f r ≡ None) (λ r h. none r (note-unsent v.place x.c r h)) v.said.notes own.notes) i
-      ++ segments i
-      ++ pick-none f v.said.gave (Each-weaker (GaveAt v.place x.c) (λ r. f r ≡ None) (λ r h. none r (gave-unsent v.place x.c r h)) v.said.gave own.gave) i
-      ++ e i
-      ++ pick-none f timers (timers-none f (λ place d r h. none r (timer-unsent place d r h)) v.place x.c x.part v.part) i)
-      ∙ append-nil found)
+      (pick-sent f x v own none ∙ (λ i. segments i ++ e i))
 
   pub seen-forwards : (forwards : List (ℕ × List ℕ)) → pick forward_to told ≡ forwards → picked (of_row forward_to) (seen_in x v) ≡ forwards
   seen-forwards forwards e = seen-sent forward_to unsent-forward forwards parts.segments e

@@ -4,9 +4,7 @@ use Rattle.std.proofs.lemmas.Bool.{both_ways, cond_both}
 use Rattle.std.proofs.lemmas.List.Folds.{list_any-append}
 use Rattle.std.proofs.lemmas.List.Sums.{fold-append}
 use Rattle.std.specs.List.{fold}
-use Rattle.lard_base.specs.declared.ids.Epoch.{Epoch}
-use Rattle.lard_base.specs.declared.place.Place.{Place}
-use Rattle.lard_base.specs.declared.place.Place.TheVariants.{Client, Front, Node}
+use Rattle.lard_law_view.specs.Prelude.{Ask, BackRow, Call, Client, Conn, ControlBlock, Did, Ending, Epoch, Final, First, FirstChoice, Front, FrontConn, FrontDeed, FrontEnv, FrontPart, FrontRest, FrontRow, FrontTurn, IsEarlyHere, IsFrontEnv, Later, Move, Node, NodePart, Place, Reading, Rec, Said as Segment, Seen, Service, Setting, Turn, ack_sent, after_timer, assigned_notes, assigns, by_front, end_answer, ended_with, front_admitted, front_asked, front_begun, front_does, front_ended, front_ended_by, front_ends, front_fired, front_hears, front_reads, front_rest, front_rests, front_saying, front_taken, front_timer, handed_off, heard, hears_at, is_away, is_plain_syn, last_words, leaves_by, letter, letters_of, listed, listening, met, next_epoch, on_segment, over_note, placed, seen_in, sent_of, serving, serving_settled, settled_by, spoken, stage_after, tag_sent, taken_by, tale_at, timed, tombstone, turn_here, with_front, without}
 use Rattle.lard_base.specs.declared.place.TimerKind.TheVariants as timer
 use Rattle.lard_law_connections.specs.Motion.{IsHandedOff, first_end, first_syn, first_takes, forwards_by, forwards_of, later_takes}
 use Rattle.lard_law_connections.specs.MotionStory.{Story, first_node, forward_to, front_gave_epoch, front_took, is_among, row_step, story, to_node}
@@ -17,49 +15,19 @@ use Rattle.lard_law_connections.specs.Places.{ArePast, IsDecided, IsPast, Owning
 use Rattle.lard_law_connections.proofs.PlacesHeads.{spelled-head}
 use Rattle.lard_law_connections.proofs.PlacesLoops.{settled-is, spoken-to}
 use Rattle.lard_law_connections.proofs.PlacesTurns.{IsPlaced, early-at}
-use Rattle.lard_law_view.specs.Carry.{tale_at}
-use Rattle.lard_law_view.specs.View.{Conn, IsFrontEnv, Move, Setting, by_front, front_does, letter, letters_of, seen_in, sending, with_front}
-use Rattle.lard_dispatch.specs.declared.dispatch.Ask.{Ask}
-use Rattle.lard_dispatch.specs.declared.dispatch.First.{First}
+use Rattle.lard_law_view.specs.View.{sending}
 use Rattle.lard_dispatch.specs.declared.dispatch.First.TheVariants as first
-use Rattle.lard_dispatch.specs.declared.dispatch.Later.{Later}
-use Rattle.lard_dispatch.specs.Laws.{Call}
 use Rattle.lard_dispatch.specs.Laws as call
-use Rattle.lard_endpoint.specs.declared.control.moving.Final.{Final}
-use Rattle.lard_endpoint.specs.Arriving.{on_segment}
-use Rattle.lard_endpoint.specs.Control.{ControlBlock, listening}
-use Rattle.lard_endpoint.specs.Leaving.{after_timer, timed}
-use Rattle.lard_rules.specs.declared.front.FrontRest.{FrontRest}
-use Rattle.lard_rules.specs.declared.front.FrontTurn.{FrontTurn}
-use Rattle.lard_rules.specs.Front.{FrontDeed, Did, Drops, Says, Does, FrontEnv, FrontPart, ack_sent, assigned_notes, assigns, front_begun, front_ended_by, front_ends, front_fired, front_admitted, front_asked, front_ended, front_hears, front_taken, front_timer, handed_off, heard, hears_at, leaves_by, message, met, over_note, placed, front_rest, front_rests, front_saying, settled_by, stage_after, tag_sent, taken_by, turn_here}
-use Rattle.lard_rules.specs.FrontReading.{Reading, front_reads}
-use Rattle.lard_handoff_back.specs.declared.row.BackRow.{BackRow}
-use Rattle.lard_handoff_front.specs.declared.row.FrontConn.{FrontConn}
+use Rattle.lard_rules.specs.Front.{Drops, Says, Does, message}
 use Rattle.lard_handoff_front.specs.declared.row.FrontConn.TheVariants as stage
-use Rattle.lard_handoff_front.specs.declared.row.FrontRow.{FrontRow}
 use Rattle.lard_handoff_front.specs.declared.table.OnEnded.TheVariants.{New, Again, Stale}
-use Rattle.lard_handoff_front.specs.Front.{end_answer, ended_with, next_epoch}
-use Rattle.lard_handoff_front.specs.Row.{is_away}
-use Rattle.lard_history.specs.Own.{Seen}
 use Rattle.lard_history.proofs.Each.{Each, Each-append}
-use Rattle.lard_journal.specs.declared.rec.Rec.{Rec}
 use Rattle.lard_journal.specs.declared.rec.Rec.TheVariants as rec
 use Rattle.lard_message.specs.declared.message.Body.TheVariants as body
-use Rattle.lard_rules.specs.Node.{NodePart}
-use Rattle.lard_policy.specs.declared.first.FirstChoice.{FirstChoice}
-use Rattle.lard_resend.specs.Kept.{without}
-use Rattle.lard_resend.specs.Pending.{sent_of}
-use Rattle.lard_rules.specs.declared.places.Ending.{Ending}
 use Rattle.lard_rules.specs.declared.places.Ending.TheVariants as ending
-use Rattle.lard_rules.specs.declared.places.Turn.{Turn}
-use Rattle.lard_rules.specs.Tombstone.{is_plain_syn, last_words, tombstone}
-use Rattle.lard_rules.specs.Speaking.{listed}
-use Rattle.lard_rules.specs.Serving.{Service, serving, serving_settled, spoken}
-use Rattle.lard_segment.specs.Segment.{Said as Segment}
 use Rattle.lard_law_view.proofs.EndpointSends.{AllTo, ready-to}
 use Rattle.lard_law_connections.proofs.MotionComings.{assigned-still, over-still, Heads, answers-still, behind_heads, forwarded-is, not-forwarded, resent-none, row-behind, without-kept}
 use Rattle.lard_rules.proofs.FrontCases.{IsInStage, of-stage, fired_before, fired_service, timer-keeps, taken-keeps, asked-keeps, admitted-keeps}
-use Rattle.lard_rules.specs.FrontSound.{IsEarlyHere}
 
 -- ---- one connection
 

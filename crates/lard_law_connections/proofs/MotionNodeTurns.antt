@@ -1,60 +1,32 @@
 -- What each rule of a node makes of a connection's way.
-use Rattle.std.proofs.Common.{◌≡◌, ◌≢◌, ◌⊎◌, ◌≤◌, ◌<◌, ◌^◌, ◌==◌, ◌&&◌, max, nat_lt, nat_eq, ℕ, Bool, true, false, cond, List, [], ◌∷◌, ◌++◌, map, Option, Some, None, Result, Ok, Err, inl, inr, ⊎_elim, refl, sym, ap, ◌∙◌, subst, arith, eqb-true, eq-eqb}
-use Rattle.std.proofs.lemmas.Bool.{and_parts, both_ways, cond_both, lt-ltb, ltb-true}
+use Rattle.std.proofs.Common.{◌≡◌, ◌≢◌, ◌⊎◌, ◌≤◌, ◌<◌, ◌^◌, ◌==◌, max, nat_lt, nat_eq, ℕ, Bool, true, false, cond, List, [], ◌∷◌, ◌++◌, map, Option, Some, None, inl, inr, ⊎_elim, refl, sym, ap, ◌∙◌, subst, arith, eqb-true, eq-eqb}
+use Rattle.std.proofs.lemmas.Bool.{both_ways, lt-ltb, ltb-true}
 use Rattle.std.proofs.lemmas.List.{map-append}
-use Rattle.std.specs.List.{find}
-use Rattle.lard_base.specs.declared.parts.EndpointParts.{EndpointParts}
-use Rattle.lard_base.specs.declared.place.Place.{Place}
-use Rattle.lard_base.specs.declared.place.Place.TheVariants.{Node}
+use Rattle.lard_law_view.specs.Prelude.{Adopt, BackRow, Conn, ControlBlock, Ending, EndpointParts, IsEarlyAway, IsNodeEnv, Message, Move, Node, NodeDeed, NodeEnv, NodeGets, NodePart, Offered, Place, Rec, Seen, Setting, Stay, Turn, Work, after_timer, again_sent, all_sent, came_for, come_progress, ended_sent, epoch_in, goes_on, gone, is_no_node, kept_after, listed, named_records, node_does, node_offered, node_put_back, node_rule, node_saying, offer_answer, offered_by, on_segment, read_progress, reset_count, rows_of, seen_in, serving, serving_ready_of, serving_settled, spelled_message, spoken, tagged, taken_sent, tale_at, timed, timer_rows, turn_by, with_work, without, work_of}
 use Rattle.lard_base.specs.declared.place.TimerKind.TheVariants as timer
-use Rattle.lard_rules.specs.Machine.{is_no_node}
 use Rattle.lard_law_connections.specs.Motion.{EachIsTold, NodeEnds, Says as SaysIt, above}
 use Rattle.lard_law_connections.specs.MotionStory.{from_node, highest, node_gave_epoch, node_took, of_row, epoch_offered, picked}
 use Rattle.lard_law_connections.proofs.MotionElsewhere.{Helps}
 use Rattle.lard_law_connections.proofs.MotionPicking.{pick, pick-append, pick-none, pick-parts, pick-seen}
 use Rattle.lard_law_connections.specs.Places.{Head, IsDecided, IsEven, IsOffered, Owning, owning}
 use Rattle.lard_law_connections.proofs.PlacesHeads.{spelled-head}
-use Rattle.lard_law_connections.proofs.PlacesLoops.{batch-state, came-notes, goes-notes, settled-is, tagged-notes}
-use Rattle.lard_law_connections.proofs.PlacesNodeRules.{Begins, has-at, here-has}
+use Rattle.lard_law_connections.proofs.PlacesLoops.{came-notes, goes-notes, settled-is, tagged-notes}
+use Rattle.lard_law_connections.proofs.PlacesNodeRules.{Begins, begun-notes, begun_work, has-here, new-below, not-decided, plain-more, took_by}
 use Rattle.lard_law_connections.proofs.PlacesRows.{IsPlain, plain-named}
 use Rattle.lard_law_connections.proofs.PlacesTurns.{IsPlaced}
-use Rattle.lard_law_view.specs.Carry.{tale_at}
-use Rattle.lard_law_view.specs.View.{Conn, IsNodeEnv, Move, Setting, epoch_in, named_records, node_does, node_put_back, rows_of, seen_in, sending, timer_rows}
+use Rattle.lard_law_view.specs.View.{sending}
 use Rattle.lard_law_view.proofs.Fine.{IsItsOwn}
 use Rattle.lard_law_view.proofs.Parts.{put-same}
-use Rattle.lard_endpoint.specs.Arriving.{on_segment}
-use Rattle.lard_endpoint.specs.Control.{ControlBlock}
-use Rattle.lard_endpoint.specs.Leaving.{after_timer, timed}
-use Rattle.lard_handoff_back.specs.declared.row.BackConn.{BackConn}
-use Rattle.lard_handoff_back.specs.declared.row.BackConn.TheVariants as back
-use Rattle.lard_handoff_back.specs.declared.row.BackRow.{BackRow}
 use Rattle.lard_handoff_back.specs.declared.table.Adopt.TheVariants.{New, Again, Stale}
-use Rattle.lard_handoff_back.specs.Back.{awaits_ack, back_endpoint, offer_answer, staying}
-use Rattle.lard_handoff_back.specs.Row.{back_held, is_gone}
-use Rattle.lard_history.specs.Own.{Seen}
-use Rattle.lard_history.proofs.Each.{Each, Each-append, Each-weaker}
+use Rattle.lard_history.proofs.Each.{Each, Each-weaker}
 use Rattle.lard_history.proofs.Seeing.{other_number, same_number}
-use Rattle.lard_journal.specs.declared.rec.Rec.{Rec}
 use Rattle.lard_journal.specs.declared.rec.Rec.TheVariants as rec
-use Rattle.lard_lateral.specs.Lateral.{is_from}
 use Rattle.lard_message.specs.declared.kind.Kind.TheVariants as kind
 use Rattle.lard_message.specs.declared.message.Body.TheVariants as body
-use Rattle.lard_message.specs.declared.message.Message.{Message}
-use Rattle.lard_message.specs.Message.{spelled_message}
-use Rattle.lard_rules.specs.declared.stay.Stay.{Stay}
-use Rattle.lard_rules.specs.Node.{NodeDeed, Drops, Says, Does, NodePart, again_sent, all_sent, node_begins, both_of, come_by, reset_count, ended_sent, node_fired_by, gone, node_heard_by, here, is_tag_awaited, kept_after, node_acknowledged, node_content, node_forwarded, node_offered, node_read, node_tagged, node_timer, offered_by, node_read_by, node_saying, tagged_by, taken_sent, turn_by, with_work, work_of}
-use Rattle.lard_rules.specs.Stay.{NodeEnv, Work, came_for, come_progress, goes_on, read_progress, reads_batch, tagged}
-use Rattle.lard_resend.specs.Kept.{is_under, without}
-use Rattle.lard_rules.specs.declared.places.Ending.{Ending}
+use Rattle.lard_rules.proofs.NodeCases.{IsHereWith, IsInItsEpoch, KeptByNode, node-keeps}
+use Rattle.lard_rules.specs.Node.{Drops, Says, Does}
 use Rattle.lard_rules.specs.declared.places.Ending.TheVariants as ending
-use Rattle.lard_rules.specs.declared.places.Turn.{Turn}
-use Rattle.lard_rules.specs.Loop.{state_of}
-use Rattle.lard_rules.specs.Serving.{serving_ready_of, serving, serving_settled, spoken}
-use Rattle.lard_rules.specs.Speaking.{listed}
-use Rattle.lard_segment.specs.declared.fault.SegFault.{SegFault}
-use Rattle.lard_segment.specs.Segment.{Said as Segment}
 use Rattle.lard_law_connections.proofs.MotionNodes.{At, IsFirst, IsOther, IsOfNodes, NodesGo, NodesKnown, max-none, nodes-go, other-at, quiet-at, seen-gave, seen-offers, seen-took}
-use Rattle.lard_rules.specs.FrontSound.{IsEarlyAway}
 use Rattle.lard_law_connections.proofs.PlacesWithNode.{offered-away}
 
 -- ---- plain notes take nothing
@@ -75,6 +47,11 @@ says-before h (x ∷ xs) ys s = inr (says-before h xs ys s)
 says-behind : (h : Head) (xs ys : List (List ℕ)) → SaysIt h xs → SaysIt h (xs ++ ys)
 says-behind h [] ys s = absurd s
 says-behind h (x ∷ xs) ys s = ⊎_elim (λ e. inl e) (λ e. inr (says-behind h xs ys e)) s
+
+-- anything but an Offer
+abbrev pub IsNoOffer : NodeGets → Type 0
+IsNoOffer (Offered parts) = ⊥
+IsNoOffer _ = Unit {0}
 
 -- ---- one node
 
@@ -110,19 +87,6 @@ module _ (k : Setting) (x : Conn) (at_place : IsPlaced x) (known : NodesKnown x)
 
   late-as : (o : Option BackRow) → ours.row ≡ o → IsOfNodes o
   late-as o e = subst IsOfNodes e (known.late n)
-
-  -- ---- where no Offer comes to it
-
-  module _ (none : picked (epoch_offered n) heads ≡ []) where
-    stays-at : (v : Move) → IsItsOwn x v → v.heads ≡ heads → v.part.nodes n ≡ ours → pick (node_took n) v.said.notes ≡ [] → pick (node_gave_epoch n) v.said.gave ≡ [] → At k.nodes x v n
-    stays-at v mine seen same took gave =
-        quiet-at k.nodes n x v mine known (subst (Each IsFirst) (sym seen) first) (subst (λ (hs : List Seen). picked (epoch_offered n) hs ≡ []) (sym seen) none) took gave (ap epoch_in same) (subst (λ (p : NodePart). IsOfNodes p.row) (sym same) (known.late n))
-
-    pub dropped : Goes Drops
-    dropped help = by-own (node_does x n heads Drops) help.own refl refl (λ m other. refl) (stays-at (node_does x n heads Drops) help.own refl refl refl refl)
-
-    pub says-go : (ms : List (Place × List ℕ)) → Goes (Says ms)
-    says-go ms help = by-own (node_does x n heads (Says ms)) help.own refl refl (λ m other. refl) (stays-at (node_does x n heads (Says ms)) help.own refl refl refl refl)
 
   -- ---- a turn of the node
 
@@ -182,30 +146,23 @@ module _ (k : Setting) (x : Conn) (at_place : IsPlaced x) (known : NodesKnown x)
     early : IsEarlyAway env.epoch
     now : epoch_in ours ≡ env.epoch
 
-  staying-epoch : (o : Option BackRow) (b : ControlBlock) → staying env.epoch o ≡ Some b → (elim o as (λ q. ℕ) [ None ↦ 0 | Some row ↦ row.epoch.0 ]) ≡ env.epoch
-  staying-epoch None b e = let no : None ≡ Some b = e in absurd cc
-  staying-epoch (Some row) b e = go (row.epoch.0 == env.epoch) refl e where
-    go : (t : Bool) → (row.epoch.0 == env.epoch) ≡ t → cond t (back_held row.stage) None ≡ Some b → row.epoch.0 ≡ env.epoch
-    go true f h = eqb-true row.epoch.0 env.epoch f
-    go false f h = let no : None ≡ Some b = h in absurd cc
+  is-here : (b : ControlBlock) (s : Stay) → IsHereWith env.epoch ours b s → IsHere
+  is-here b s at = let can = (has-here x at_place n env.epoch b s at).can in
+      record { even = can.even; early = can.early; now = ap (λ (o : Option BackRow). epoch_in (record ours { row = o })) at.found ∙ at.epoch_is }
 
-  both-of : (b : ControlBlock) (s : Stay) (o : Option ControlBlock) (y : Option Stay) → both_of o y ≡ Some (b, s) → o ≡ Some b
-  both-of b s None y e = let no : ◌≡◌ {A = Option (ControlBlock × Stay)} None (Some (b, s)) = e in absurd cc
-  both-of b s (Some c) None e = let no : ◌≡◌ {A = Option (ControlBlock × Stay)} None (Some (b, s)) = e in absurd cc
-  both-of b s (Some c) (Some r) e = ap fst e where
-    fst : Option (ControlBlock × Stay) → Option ControlBlock
-    fst None = None
-    fst (Some q) = Some q.0
+  -- ---- where no Offer comes to it, and nothing is taken
 
-  is-here : (b : ControlBlock) (s : Stay) → here env.epoch ours ≡ Some (b, s) → IsHere
-  is-here b s e = record {
-    even = (here-has x at_place n env.epoch b s e).can.even;
-    early = (here-has x at_place n env.epoch b s e).can.early;
-    now = staying-epoch ours.row b (both-of b s (staying env.epoch ours.row) ours.stay e);
-  }
-
-  -- no Offer comes, and nothing is taken
   module _ (none : picked (epoch_offered n) heads ≡ []) where
+    stays-at : (v : Move) → IsItsOwn x v → v.heads ≡ heads → v.part.nodes n ≡ ours → pick (node_took n) v.said.notes ≡ [] → pick (node_gave_epoch n) v.said.gave ≡ [] → At k.nodes x v n
+    stays-at v mine seen same took gave =
+        quiet-at k.nodes n x v mine known (subst (Each IsFirst) (sym seen) first) (subst (λ (hs : List Seen). picked (epoch_offered n) hs ≡ []) (sym seen) none) took gave (ap epoch_in same) (subst (λ (p : NodePart). IsOfNodes p.row) (sym same) (known.late n))
+
+    dropped : Goes Drops
+    dropped help = by-own (node_does x n heads Drops) help.own refl refl (λ m other. refl) (stays-at (node_does x n heads Drops) help.own refl refl refl refl)
+
+    says-go : (ms : List (Place × List ℕ)) → Goes (Says ms)
+    says-go ms help = by-own (node_does x n heads (Says ms)) help.own refl refl (λ m other. refl) (stays-at (node_does x n heads (Says ms)) help.own refl refl refl refl)
+
     plain-go : IsHere → (part : NodePart) (before_sent : List (Place × List ℕ)) (work : Work) (given : Ending × Turn) → Each IsPlain given.1.notes → Goes (Does (kept_after env part work given.0, turn_by env before_sent work given))
     plain-go it part before_sent work given plain = turn-go part before_sent work given [] it.even it.early (plains-took n (named_records given.1.notes) (plain-named given.1.notes plain))
         (λ there. ap (above before) (sym none)) (max-none before ∙ known.highest_is n ∙ it.now)
@@ -214,45 +171,8 @@ module _ (k : Setting) (x : Conn) (at_place : IsPlaced x) (known : NodesKnown x)
     works-go it part work plain =
         let w : Work = goes_on env work in
         let done = settled-is env.serve w.service in
-        plain-go it part [] w (serving_settled env.serve w.service) (subst (Each IsPlain) (sym done.notes) (goes-notes (Each IsPlain) plain-more env work plain)) where
-          plain-more : (ns rs : List Rec) → Each IsPlain rs → Each IsPlain ns → Each IsPlain (ns ++ rs)
-          plain-more ns rs p h = Each-append IsPlain ns rs h p
-
-    heard-by : (r : Result Segment SegFault) (o : Option (ControlBlock × Stay)) → here env.epoch ours ≡ o → Goes (node_heard_by env ours r o)
-    heard-by (Err fault) o e = dropped none
-    heard-by (Ok s) None e = dropped none
-    heard-by (Ok s) (Some y) e = works-go (is-here y.0 y.1 e) ours (work_of (on_segment y.0 s).1 y.1) tt
-
-    pub forwarded-go : (r : Result Segment SegFault) → Goes (node_forwarded env ours r)
-    forwarded-go r = heard-by r (here env.epoch ours) refl
-
-    plain-on : (ns rs : List Rec) → Each IsPlain rs → Each IsPlain ns → Each IsPlain (ns ++ rs)
-    plain-on ns rs p h = Each-append IsPlain ns rs h p
-
-    tagged-by : (number : ℕ) (tags : List ℕ) (o : Option (ControlBlock × Stay)) → here env.epoch ours ≡ o → Goes (tagged_by env number tags ours o)
-    tagged-by number tags None e = dropped none
-    tagged-by number tags (Some y) e = cond_both (is_tag_awaited env number tags ours y.1) _ Drops Goes
-        (λ t. works-go (is-here y.0 y.1 e) (record ours { kept = without timer.Ask 0 ours.kept }) (tagged env tags (work_of y.0 y.1)) (tagged-notes (Each IsPlain) plain-on env tags (work_of y.0 y.1) tt))
-        (λ t. dropped none)
-
-    pub tagged-go : (number : ℕ) (tags : List ℕ) → Goes (node_tagged env ours number tags)
-    tagged-go number tags = tagged-by number tags (here env.epoch ours) refl
-
-    come-by : (from r : ℕ) (o : Option (ControlBlock × Stay)) → here env.epoch ours ≡ o → Goes (come_by env from r ours o)
-    come-by from r None e = dropped none
-    come-by from r (Some y) e = cond_both (is_from from env.epoch (find (is_under timer.Fetch r) ours.fetches)) _ Drops Goes
-        (λ t. works-go (is-here y.0 y.1 e) (record ours { fetches = without timer.Fetch r ours.fetches }) (came_for (come_progress from) r (work_of y.0 y.1)) (came-notes (Each IsPlain) plain-on (come_progress from) r (work_of y.0 y.1) tt))
-        (λ t. dropped none)
-
-    pub content-go : (from r : ℕ) → Goes (node_content env ours from r)
-    content-go from r = come-by from r (here env.epoch ours) refl
-
-    read-by : (r : ℕ) (o : Option (ControlBlock × Stay)) → here env.epoch ours ≡ o → Goes (node_read_by env r ours o)
-    read-by r None e = dropped none
-    read-by r (Some y) e = works-go (is-here y.0 y.1 e) ours (came_for read_progress r (work_of y.0 y.1)) (came-notes (Each IsPlain) plain-on read_progress r (work_of y.0 y.1) tt)
-
-    pub read-go : (r : ℕ) → Goes (node_read env ours r)
-    read-go r = read-by r (here env.epoch ours) refl
+        plain-go it part [] w (serving_settled env.serve w.service)
+        (subst (Each IsPlain) (sym done.notes) (goes-notes (Each IsPlain) plain-more env work plain))
 
     -- its end is acknowledged
     gone-epoch : (o : Option BackRow) → epoch_in (record ours { row = gone o }) ≡ epoch_in (record ours { row = o })
@@ -263,16 +183,34 @@ module _ (k : Setting) (x : Conn) (at_place : IsPlaced x) (known : NodesKnown x)
     gone-late None h = tt
     gone-late (Some row) h = h
 
-    pub acknowledged-go : Goes (node_acknowledged env ours)
-    acknowledged-go =
+    ends-go : Goes (Does (record ours { row = gone ours.row; kept = without timer.Ended 0 ours.kept }, node_saying []))
+    ends-go help =
         let q : NodePart = record ours { row = gone ours.row; kept = without timer.Ended 0 ours.kept } in
-        cond_both (awaits_ack env.epoch ours.row) (Does (q, node_saying [])) Drops Goes
-        (λ t help.
         let v : Move = node_does x n heads (Does (q, node_saying [])) in
         by-own v help.own refl refl (put-other q)
         (quiet-at k.nodes n x v help.own known first none refl refl (ap epoch_in (put-same nodes n q) ∙ gone-epoch ours.row)
-        (subst (λ (p : NodePart). IsOfNodes p.row) (sym (put-same nodes n q)) (gone-late ours.row (known.late n)))))
-        (λ t. dropped none)
+        (subst (λ (p : NodePart). IsOfNodes p.row) (sym (put-same nodes n q)) (gone-late ours.row (known.late n))))
+
+    rules_go : KeptByNode env ours IsNoOffer Goes
+    rules_go = record {
+      drops = dropped;
+      hears = λ said b s m at. works-go (is-here b s at) ours (work_of (on_segment b said).1 s) tt;
+      tags = λ number tags b s m at asked same count. works-go (is-here b s at) (record ours { kept = without timer.Ask 0 ours.kept })
+          (tagged env tags (work_of b s)) (tagged-notes (Each IsPlain) plain-more env tags (work_of b s) tt);
+      comes = λ from r b s m at wanted. works-go (is-here b s at) (record ours { fetches = without timer.Fetch r ours.fetches })
+          (came_for (come_progress from) r (work_of b s)) (came-notes (Each IsPlain) plain-more (come_progress from) r (work_of b s) tt);
+      reads = λ r path b s m at. works-go (is-here b s at) ours (came_for read_progress r (work_of b s))
+          (came-notes (Each IsPlain) plain-more read_progress r (work_of b s) tt);
+      begins = λ parts m new. absurd m;
+      takes_again = λ parts m again. absurd m;
+      fires = λ b s m at. plain-go (is-here b s at) ours (again_sent ours) (work_of (after_timer b) s)
+          (spoken env.serve (serving (after_timer b) s.served []) (serving_ready_of env.serve (after_timer b) (timed b))) tt;
+      resends = λ m nobody. says-go (again_sent ours);
+      ends = λ m told. ends-go;
+    }
+
+    pub rule-goes : (g : NodeGets) → IsInItsEpoch env ours g → IsNoOffer g → Goes (node_rule env ours g)
+    rule-goes g at other = node-keeps env ours IsNoOffer Goes rules_go g at other
 
   -- ---- an Offer comes to it
 
@@ -304,93 +242,42 @@ module _ (k : Setting) (x : Conn) (at_place : IsPlaced x) (known : NodesKnown x)
     undecided-away : (IsDecided env.epoch ours.row → ⊥) → IsAwayNow
     undecided-away other = offered-away x at_place n env.epoch (⊎_elim (λ (d : IsDecided env.epoch ours.row). absurd (other d)) (λ (o : IsOffered n env.epoch x.part.front.row). o) said)
 
-    begins-more : (r : Rec) (ns rs : List Rec) → Each IsPlain rs → Begins r ns → Begins r (ns ++ rs)
-    begins-more r ns rs plain b = (b.0 ++ rs, ap (λ (l : List Rec). l ++ rs) b.1, Each-append IsPlain b.0 rs b.2 plain)
+    -- what the node had is of an earlier epoch, where the Offer is new
+    below : (o : Option BackRow) → offer_answer env.epoch o ≡ New → IsAwayNow → epoch_in (record ours { row = o }) < env.epoch
+    below None new away = away.0.1
+    below (Some row) new away = new-below env.epoch row new
 
     -- the node takes it
-    new-go : (IsDecided env.epoch ours.row → ⊥) → nat_lt (epoch_in ours) env.epoch ≡ true → Goes (offered_by env parts ours New)
-    new-go undecided above_it =
-        let away : IsAwayNow = undecided-away undecided in
-        let took : Rec = rec.Took (Node env.n) env.serve.c (record { 0 = env.epoch }) in
-        let start : Work = node_begins env parts in
-        let work : Work = goes_on env (state_of (reads_batch env true start)) in
+    new-go : offer_answer env.epoch ours.row ≡ New → Goes (offered_by env parts ours New)
+    new-go new =
+        let away : IsAwayNow = undecided-away (not-decided env.epoch ours.row new) in
+        let work : Work = begun_work env parts in
         let given : Ending × Turn = serving_settled env.serve work.service in
-        let done = settled-is env.serve work.service in
-        let all : Begins took work.service.notes = goes-notes (Begins took) (begins-more took) env (state_of (reads_batch env true start)) (batch-state (Begins took) (begins-more took) env true start refl ([], refl, tt)) in
-        let notes : given.1.notes ≡ took ∷ all.0 = done.notes ∙ all.1 in
+        let all : Begins (took_by env) given.1.notes = begun-notes env parts in
         let takes : pick (node_took n) (named_records given.1.notes) ≡ env.epoch ∷ [] =
-        ap (λ (l : List Rec). pick (node_took n) (named_records l)) notes
+        ap (λ (l : List Rec). pick (node_took n) (named_records l)) all.1
         ∙ ap (λ b. listed (cond b (Some env.epoch) None) ++ pick (node_took n) (named_records all.0)) (ap (λ (m : ℕ). nat_eq m n) is.node ∙ same_number n)
         ∙ ap (λ (l : List ℕ). env.epoch ∷ l) (plains-took n (named_records all.0) (plain-named all.0 all.2)) in
-        let over : before < env.epoch = omega (arith, known.highest_is n, ltb-true (epoch_in ours) env.epoch above_it) in
+        let over : before < env.epoch = let less : epoch_in ours < env.epoch = below ours.row new away in omega (arith, known.highest_is n, less) in
         turn-go ours (taken_sent env) work given (env.epoch ∷ []) away.0 away.1 takes
         (λ there. sym (ap (above before) comes ∙ ap (λ (b : Bool). cond b (env.epoch ∷ []) []) (lt-ltb before env.epoch over))) (omega (arith, over))
 
-    offered-row : (o : Option BackRow) → ours.row ≡ o → Goes (offered_by env parts ours (offer_answer env.epoch o))
-    offered-row None found =
-        let none : epoch_in ours ≡ 0 = ap (λ (o : Option BackRow). epoch_in (record ours { row = o })) found in
-        let undecided : IsDecided env.epoch ours.row → ⊥ = λ d. subst (IsDecided env.epoch) found d in
-        let away : IsAwayNow = undecided-away undecided in
-        new-go undecided (lt-ltb (epoch_in ours) env.epoch (let some : 0 < env.epoch = away.0.1 in omega (arith, none, some)))
-    offered-row (Some row) found = go (row.epoch.0 == env.epoch) refl where
-      at : epoch_in ours ≡ row.epoch.0
-      at = ap (λ (o : Option BackRow). epoch_in (record ours { row = o })) found
-
-      -- a stay of an earlier epoch is not there
-      late : IsEven row.epoch.0
-      late = late-as (Some row) found
-
-      not-less : row.epoch.0 < env.epoch → ⊥
-      not-less less =
+    -- where it is not, no stay of an earlier epoch is there
+    not-below : (o : Option BackRow) → ours.row ≡ o → (offer_answer env.epoch o ≡ New → ⊥) → nat_lt (epoch_in (record ours { row = o })) env.epoch ≡ false
+    not-below None found other = absurd (other refl)
+    not-below (Some row) found other = go (nat_lt row.epoch.0 env.epoch) refl where
+      go : (b : Bool) → nat_lt row.epoch.0 env.epoch ≡ b → b ≡ false
+      go false e = refl
+      go true e =
+          let less : row.epoch.0 < env.epoch = ltb-true row.epoch.0 env.epoch e in
+          let late : IsEven row.epoch.0 = late-as (Some row) found in
           let away : IsAwayNow = undecided-away (λ d. let le : env.epoch ≤ row.epoch.0 = subst (IsDecided env.epoch) found d in omega (arith, le, less)) in
-          omega (arith, away.1, late.0, late.1, less)
+          absurd (omega (arith, away.1, late.0, late.1, less))
 
-      old : nat_lt (epoch_in ours) env.epoch ≡ false
-      old = go_on (nat_lt (epoch_in ours) env.epoch) refl where
-        go_on : (b : Bool) → nat_lt (epoch_in ours) env.epoch ≡ b → b ≡ false
-        go_on false e = refl
-        go_on true e = absurd (not-less (omega (arith, at, ltb-true (epoch_in ours) env.epoch e)))
-
-      or_stale : (b : Bool) → (nat_lt row.epoch.0 env.epoch && is_gone row.stage) ≡ b → Goes (offered_by env parts ours (cond b New Stale))
-      or_stale true e = absurd (not-less (ltb-true row.epoch.0 env.epoch (and_parts _ _ e).0))
-      or_stale false e = old-drops old
-
-      go : (b : Bool) → (row.epoch.0 == env.epoch) ≡ b → Goes (offered_by env parts ours (cond b Again (cond (nat_lt row.epoch.0 env.epoch && is_gone row.stage) New Stale)))
-      go true e = old-says old (taken_sent env)
-      go false e = or_stale (nat_lt row.epoch.0 env.epoch && is_gone row.stage) refl
+    by-answer : (a : Adopt) → offer_answer env.epoch ours.row ≡ a → Goes (offered_by env parts ours a)
+    by-answer New new = new-go new
+    by-answer Again again = old-says (not-below ours.row refl (λ new. let no : Again ≡ New = sym again ∙ new in absurd cc)) (taken_sent env)
+    by-answer Stale stale = old-drops (not-below ours.row refl (λ new. let no : Stale ≡ New = sym stale ∙ new in absurd cc))
 
     pub offered-go : Goes (node_offered env ours parts)
-    offered-go = offered-row ours.row refl
-
--- ---- its timer fires
-
-module _ (k : Setting) (x : Conn) (at_place : IsPlaced x) (known : NodesKnown x) (n : ℕ) (env : NodeEnv) (is : IsNodeEnv k x.c n (epoch_in (x.part.nodes n)) env) (heads : List Seen) (first : Each IsFirst heads) (none : (m : ℕ) → picked (epoch_offered m) heads ≡ []) where
-  abbrev mine : NodePart
-  mine = x.part.nodes n
-
-  abbrev Fires : NodeDeed → Type 0
-  Fires d = Goes k x at_place known n (epoch_in mine) env is heads first (λ m other. none m) d
-
-  away-at : (row : BackRow) (b : ControlBlock) → mine.row ≡ Some row → back_held row.stage ≡ Some b → IsEven row.epoch.0 × IsEarlyAway row.epoch.0
-  away-at row b found held = let can = (has-at x at_place n row b found (in-stage row.stage held) x.part.front.row refl).can in (can.even, can.early) where
-    in-stage : (st : BackConn) → back_held st ≡ Some b → st ≡ back.Here b
-    in-stage (back.Here c) h = let same : c ≡ b = cc in ap back.Here same
-    in-stage back.Out h = let no : None ≡ Some b = h in absurd cc
-    in-stage back.Ended h = let no : None ≡ Some b = h in absurd cc
-    in-stage back.Gone h = let no : None ≡ Some b = h in absurd cc
-
-  here-at : (o : Option BackRow) → mine.row ≡ o → (b : ControlBlock) → back_endpoint o ≡ Some b → IsEven env.epoch × IsEarlyAway env.epoch
-  here-at None found b e = let no : None ≡ Some b = e in absurd cc
-  here-at (Some row) found b e =
-      let same : row.epoch.0 ≡ env.epoch = sym (is.epoch_is ∙ ap (λ (o : Option BackRow). epoch_in (record mine { row = o })) found) in
-      let away = away-at row b found e in
-      (subst IsEven same away.0, subst IsEarlyAway same away.1)
-
-  fires-by : (o : Option ControlBlock) → back_endpoint mine.row ≡ o → (y : Option Stay) → Fires (node_fired_by env mine (both_of o y))
-  fires-by None e y = says-go k x at_place known n (epoch_in mine) env is heads first (λ m other. none m) (none n) (again_sent mine)
-  fires-by (Some b) e None = says-go k x at_place known n (epoch_in mine) env is heads first (λ m other. none m) (none n) (again_sent mine)
-  fires-by (Some b) e (Some s) = plain-go k x at_place known n (epoch_in mine) env is heads first (λ m other. none m) (none n) (let away = here-at mine.row refl b e in record { even = away.0; early = away.1; now = sym is.epoch_is }) mine (again_sent mine)
-      (work_of (after_timer b) s) (spoken env.serve (serving (after_timer b) s.served []) (serving_ready_of env.serve (after_timer b) (timed b))) tt
-
-  pub fires-go : Fires (node_timer env mine)
-  fires-go = fires-by (back_endpoint mine.row) refl mine.stay
+    offered-go = by-answer (offer_answer env.epoch ours.row) refl

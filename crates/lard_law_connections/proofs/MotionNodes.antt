@@ -1,23 +1,16 @@
 -- What each rule makes of a connection's way at the nodes.
 use Rattle.std.proofs.Common.{◌≡◌, ◌≢◌, max, ℕ, false, cond, List, [], ◌∷◌, ◌++◌, map, Option, Some, None, refl, sym, ap, ◌∙◌, subst, arith, append-nil}
-use Rattle.lard_base.specs.declared.place.Place.{Place}
-use Rattle.lard_base.specs.declared.place.Place.TheVariants.{Client, Front, Node}
-use Rattle.lard_rules.specs.Machine.{is_no_node}
+use Rattle.lard_law_view.specs.Prelude.{BackRow, Came, Client, Conn, Front, Move, Node, NodePart, Place, Rec, Row, Seen, epoch_in, grown, is_no_node, rows_of, seen_in}
 use Rattle.lard_law_connections.specs.Motion.{EachIsTold, NodeEnds, NodeTakes, above}
 use Rattle.lard_law_connections.specs.MotionStory.{from_node, highest, node_gave_epoch, node_took, of_row, epoch_offered, picked}
-use Rattle.lard_law_connections.proofs.MotionPicking.{came-none, pick, pick-none, pick-parts, pick-seen, picked-append, picked-none, timers-none}
-use Rattle.lard_law_view.specs.View.{Conn, Move, epoch_in, grown, rows_of, seen_in, sending, timer_rows}
+use Rattle.lard_law_connections.proofs.MotionPicking.{came-none, pick, pick-none, pick-seen, picked-append, picked-none, IsNoGift, pick-given, pick-noted}
 use Rattle.lard_law_view.proofs.Fine.{IsItsOwn}
 use Rattle.lard_law_view.proofs.Saying.{GaveAt, NotedAt}
-use Rattle.lard_law_view.proofs.Timers.{IsTimerAt}
-use Rattle.lard_handoff_back.specs.declared.row.BackRow.{BackRow}
-use Rattle.lard_history.specs.Own.{Came, Row, Seen}
 use Rattle.lard_history.proofs.Each.{Each, Each-weaker}
 use Rattle.lard_history.proofs.Seeing.{other_number}
-use Rattle.lard_journal.specs.declared.rec.Rec.{Rec}
 use Rattle.lard_journal.specs.declared.rec.Rec.TheVariants as rec
-use Rattle.lard_rules.specs.Node.{NodePart}
 use Rattle.lard_law_connections.specs.Places.{IsEven}
+use Rattle.lard_law_view.proofs.RecordKinds.{IsOuter}
 
 -- ---- what is known of the way at the nodes
 
@@ -94,57 +87,26 @@ gave-behind n (Came l) h = refl
 
 -- ---- records of node n
 
-timer-took : (n : ℕ) (place : Place) (d : ℕ) (r : Rec) → IsTimerAt place d r → node_took n r ≡ None
-timer-took n place d (rec.Armed p k kind) h = refl
-timer-took n place d (rec.Cleared p k kind) h = refl
-timer-took n place d _ h = absurd h
+took-noted : (n : ℕ) (r : Rec) → IsOuter r → node_took n r ≡ None
+took-noted n (rec.Took p d epoch) h = absurd h
+took-noted n _ h = refl
 
-timer-gave : (n : ℕ) (place : Place) (d : ℕ) (r : Rec) → IsTimerAt place d r → node_gave_epoch n r ≡ None
-timer-gave n place d (rec.Armed p k kind) h = refl
-timer-gave n place d (rec.Cleared p k kind) h = refl
-timer-gave n place d _ h = absurd h
-
-sends-took : (n : ℕ) (place : Place) (ss : List (Place × List ℕ)) → pick (node_took n) (map (sending place) ss) ≡ []
-sends-took n place [] = refl
-sends-took n place (s ∷ ss) = sends-took n place ss
-
-sends-gave : (n : ℕ) (place : Place) (ss : List (Place × List ℕ)) → pick (node_gave_epoch n) (map (sending place) ss) ≡ []
-sends-gave n place [] = refl
-sends-gave n place (s ∷ ss) = sends-gave n place ss
-
--- no note gives anything up, and what is given up is not taken
-note-gave : (n : ℕ) (place : Place) (c : ℕ) (r : Rec) → NotedAt place c r → node_gave_epoch n r ≡ None
-note-gave n Front c (rec.Gave p d epoch) h = absurd h
-note-gave n (Node m) c (rec.Gave p d epoch) h = absurd h
-note-gave n (Client e) c (rec.Gave p d epoch) h = absurd h
-note-gave n place c _ h = refl
-
-gave-took : (n : ℕ) (place : Place) (c : ℕ) (r : Rec) → GaveAt place c r → node_took n r ≡ None
-gave-took n Front c (rec.Took p d epoch) h = absurd h
-gave-took n (Node m) c (rec.Took p d epoch) h = absurd h
-gave-took n (Client e) c (rec.Took p d epoch) h = absurd h
-gave-took n place c _ h = refl
+gave-given : (n : ℕ) (r : Rec) → IsNoGift r → node_gave_epoch n r ≡ None
+gave-given n (rec.Gave p d epoch) h = absurd h
+gave-given n _ h = refl
 
 module _ (n : ℕ) (x : Conn) (v : Move) (own : IsItsOwn x v) (first : Each IsFirst v.heads) where
   pub seen-took : (takes : List ℕ) → pick (node_took n) v.said.notes ≡ takes → picked (of_row (node_took n)) (seen_in x v) ≡ takes
   seen-took takes e =
       pick-seen (node_took n) x v
       ∙ ap (λ l. l ++ pick (node_took n) (rows_of x v)) (picked-none (of_row (node_took n)) v.heads (Each-weaker IsFirst (λ s. of_row (node_took n) s ≡ None) (took-behind n) v.heads first))
-      ∙ pick-parts (node_took n) x v
-      ∙ (λ i. e i ++ sends-took n v.place v.said.segments i
-      ++ pick-none (node_took n) v.said.gave (Each-weaker (GaveAt v.place x.c) (λ r. node_took n r ≡ None) (gave-took n v.place x.c) v.said.gave own.gave) i
-      ++ sends-took n v.place v.said.messages i ++ pick-none (node_took n) (timer_rows v.place x.c x.part v.part) (timers-none (node_took n) (timer-took n) v.place x.c x.part v.part) i)
-      ∙ append-nil (takes ++ [] ++ [] ++ []) ∙ append-nil (takes ++ [] ++ []) ∙ append-nil (takes ++ []) ∙ append-nil takes
+      ∙ pick-noted (node_took n) x v own (took-noted n) ∙ e
 
   pub seen-gave : (gives : List ℕ) → pick (node_gave_epoch n) v.said.gave ≡ gives → picked (of_row (node_gave_epoch n)) (seen_in x v) ≡ gives
   seen-gave gives e =
       pick-seen (node_gave_epoch n) x v
       ∙ ap (λ l. l ++ pick (node_gave_epoch n) (rows_of x v)) (picked-none (of_row (node_gave_epoch n)) v.heads (Each-weaker IsFirst (λ s. of_row (node_gave_epoch n) s ≡ None) (gave-behind n) v.heads first))
-      ∙ pick-parts (node_gave_epoch n) x v
-      ∙ (λ i. pick-none (node_gave_epoch n) v.said.notes (Each-weaker (NotedAt v.place x.c) (λ r. node_gave_epoch n r ≡ None) (note-gave n v.place x.c) v.said.notes own.notes) i
-      ++ sends-gave n v.place v.said.segments i ++ e i
-      ++ sends-gave n v.place v.said.messages i ++ pick-none (node_gave_epoch n) (timer_rows v.place x.c x.part v.part) (timers-none (node_gave_epoch n) (timer-gave n) v.place x.c x.part v.part) i)
-      ∙ append-nil (gives ++ []) ∙ append-nil gives
+      ∙ pick-given (node_gave_epoch n) x v own (gave-given n) ∙ e
 
   -- the Offers that come are seen first
   pub seen-offers : (offers : List ℕ) → picked (epoch_offered n) v.heads ≡ offers → picked (epoch_offered n) (seen_in x v) ≡ offers

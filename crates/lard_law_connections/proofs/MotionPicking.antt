@@ -2,17 +2,15 @@
 use Rattle.std.proofs.Common.{◌≡◌, ℕ, ◌||◌, Bool, true, false, List, [], ◌∷◌, ◌++◌, map, Option, None, refl, sym, ap, ◌∙◌, append_assoc, append-nil}
 use Rattle.std.proofs.lemmas.List.Sums.{fold-append}
 use Rattle.std.specs.List.{fold, list_any}
-use Rattle.lard_base.specs.declared.place.Place.{Place}
-use Rattle.lard_base.specs.declared.place.Place.TheVariants.{Client, Front, Node}
+use Rattle.lard_law_view.specs.Prelude.{Came, Client, Conn, Front, Move, Node, Part, Place, Rec, Row, Seen, listed, rows_of, seen_in, timer_rows}
 use Rattle.lard_law_connections.specs.MotionStory.{Story, ended_in, ended_on, first_node, front_gave_epoch, front_took, is_syn_in, of_row, picked, row_step, segment_in, segment_on, story, story_step, syn_on, untold_story}
-use Rattle.lard_law_view.specs.View.{Conn, Move, Part, rows_of, seen_in, sending, timer_rows}
-use Rattle.lard_law_view.proofs.Timers.{IsTimerAt, timer_rows-are}
-use Rattle.lard_history.specs.Own.{Seen, Row, Came}
+use Rattle.lard_law_view.specs.View.{sending}
 use Rattle.lard_history.proofs.Each.{Each, Each-weaker}
-use Rattle.lard_journal.specs.declared.rec.Rec.{Rec}
 use Rattle.lard_journal.specs.declared.rec.Rec.TheVariants as rec
-use Rattle.lard_rules.specs.Speaking.{listed}
 use Rattle.lard_law_view.proofs.EndpointSends.{AllTo}
+use Rattle.lard_law_view.proofs.Fine.{IsItsOwn}
+use Rattle.lard_law_view.proofs.OfKinds.{gaves-unsent, notes-unsent, of-notes, of-sends, of-timers, rest_of, rest-outer, rows-are, timers-unsent}
+use Rattle.lard_law_view.proofs.RecordKinds.{IsNote, IsOuter, IsUnsent}
 
 -- ---- lists
 
@@ -71,9 +69,51 @@ module _ {A : Type 0} (f : Rec → Option A) (x : Conn) (v : Move) where
   pub pick-seen : picked (of_row f) (seen_in x v) ≡ picked (of_row f) v.heads ++ pick f (rows_of x v)
   pick-seen = picked-append (of_row f) v.heads (map Row (rows_of x v)) ∙ ap (λ l. picked (of_row f) v.heads ++ l) (picked-rows f (rows_of x v))
 
--- what timers tell is nothing of it
-pub timers-none : {A : Type 0} (f : Rec → Option A) → ((place : Place) (d : ℕ) (r : Rec) → IsTimerAt place d r → f r ≡ None) → (place : Place) (c : ℕ) (p q : Part) → Each (λ r. f r ≡ None) (timer_rows place c p q)
-timers-none f none place c p q = Each-weaker (IsTimerAt place c) (λ r. f r ≡ None) (none place c) (timer_rows place c p q) (timer_rows-are place c p q)
+-- it gives nothing up
+abbrev pub IsNoGift : Rec → Type 0
+IsNoGift (rec.Gave place c epoch) = ⊥
+IsNoGift _ = Unit {0}
+
+note-no-gift : (r : Rec) → IsNote r → IsNoGift r
+note-no-gift (rec.Gave place c epoch) h = absurd h
+note-no-gift _ h = tt
+
+module _ {A : Type 0} (f : Rec → Option A) (x : Conn) (v : Move) (own : IsItsOwn x v) where
+  abbrev Misses : Rec → Type 0
+  Misses r = f r ≡ None
+
+  -- what is picked of notes alone
+  pub pick-noted : ((r : Rec) → IsOuter r → f r ≡ None) → pick f (rows_of x v) ≡ pick f v.said.notes
+  pick-noted none =
+      ap (pick f) (rows-are x v)
+      ∙ pick-append f v.said.notes (rest_of x v)
+      ∙ ap (λ l. pick f v.said.notes ++ l) (pick-none f (rest_of x v) (rest-outer x v Misses none own))
+      ∙ append-nil (pick f v.said.notes)
+
+  -- of what is given up alone
+  pub pick-given : ((r : Rec) → IsNoGift r → f r ≡ None) → pick f (rows_of x v) ≡ pick f v.said.gave
+  pick-given none =
+      pick-parts f x v
+      ∙ (λ i.
+      pick-none f v.said.notes (of-notes Misses (λ r h. none r (note-no-gift r h)) v.place x.c v.said.notes own.notes) i
+      ++ pick-none f (S f x v) (sent v.said.segments) i ++ pick f v.said.gave ++ pick-none f (M f x v) (sent v.said.messages) i
+      ++ pick-none f (T f x v) (of-timers Misses (λ p d kind. (none (rec.Armed p d kind) tt, none (rec.Cleared p d kind) tt)) v.place x.c x.part v.part) i)
+      ∙ append-nil (pick f v.said.gave ++ []) ∙ append-nil (pick f v.said.gave)
+    where
+      sent : (ss : List (Place × List ℕ)) → Each Misses (map (sending v.place) ss)
+      sent ss = of-sends Misses (λ k from to bytes. none (rec.Sent k from to bytes) tt) v.place ss
+
+  -- of what is sent alone
+  pub pick-sent : ((r : Rec) → IsUnsent r → f r ≡ None) → pick f (rows_of x v) ≡ pick f (S f x v) ++ pick f (M f x v)
+  pick-sent none =
+      pick-parts f x v
+      ∙ (λ i.
+      pick-none f v.said.notes (Each-weaker IsUnsent Misses none v.said.notes (notes-unsent v.place x.c v.said.notes own.notes)) i
+      ++ pick f (S f x v)
+      ++ pick-none f v.said.gave (Each-weaker IsUnsent Misses none v.said.gave (gaves-unsent v.place x.c v.said.gave own.gave)) i
+      ++ pick f (M f x v)
+      ++ pick-none f (T f x v) (Each-weaker IsUnsent Misses none (T f x v) (timers-unsent v.place x.c x.part v.part)) i)
+      ∙ append-nil (pick f (S f x v) ++ [] ++ pick f (M f x v)) ∙ ap (λ l. l ++ pick f (M f x v)) (append-nil (pick f (S f x v)))
 
 -- ---- the story
 
@@ -124,16 +164,10 @@ pub stills-first : (rs : List Rec) → Each IsStill rs → pick first_node rs �
 stills-first rs h = pick-none first_node rs (Each-weaker IsStill (λ r. first_node r ≡ None) still-first rs h)
 
 pub sends-still : (place : Place) (ss : List (Place × List ℕ)) → Each IsStill (map (sending place) ss)
-sends-still place [] = tt
-sends-still place (s ∷ ss) = (tt, sends-still place ss)
-
-timer-still : (place : Place) (d : ℕ) (r : Rec) → IsTimerAt place d r → IsStill r
-timer-still place d (rec.Armed p k kind) h = tt
-timer-still place d (rec.Cleared p k kind) h = tt
-timer-still place d _ h = absurd h
+sends-still = of-sends IsStill (λ k from to bytes. tt)
 
 pub timers-still : (place : Place) (c : ℕ) (p q : Part) → Each IsStill (timer_rows place c p q)
-timers-still place c p q = Each-weaker (IsTimerAt place c) IsStill (timer-still place c) (timer_rows place c p q) (timer_rows-are place c p q)
+timers-still = of-timers IsStill (λ p d kind. (tt, tt))
 
 story-rows : (c : ℕ) (t : Story) (rs : List Rec) → fold (story_step c) t (map Row rs) ≡ fold row_step t rs
 story-rows c t [] = refl

@@ -3,11 +3,8 @@ use Rattle.std.proofs.Common.{◌≡◌, ◌≢◌, ◌⊎◌, ◌||◌, ℕ, Bo
 use Rattle.std.proofs.lemmas.Bool.{both_ways}
 use Rattle.std.proofs.lemmas.List.Folds.{list_any-append}
 use Rattle.lard_base.specs.declared.event.Event.TheVariants as event
-use Rattle.lard_base.specs.declared.parts.EndpointParts.{EndpointParts}
-use Rattle.lard_base.specs.declared.place.Place.{Place}
-use Rattle.lard_base.specs.declared.place.Place.TheVariants.{Client, Front, Node}
-use Rattle.lard_client.specs.Control.{ClientBlock}
-use Rattle.lard_rules.specs.Machine.{is_no_node}
+use Rattle.lard_law_view.specs.Prelude.{Acknowledged, BackRow, Body, Client, ClientBlock, ClientRules, Completed, Conn, Content, Fires, Forwarded, Front, FrontEnv, FrontPart, FrontTurn, IsForFront, IsForNode, IsFrontEnv, IsNobody, IsNodeEnv, IsUnheard, MayRestOn, Message, Move, MsgFault, Node, NodeEnv, NodeGets, Offered, Place, Rec, Row, Rules, Said as Segment, Seen, SegFault, Setting, SpellsMessage, Station, Tagged, ToCluster, Turn, Was, ask_of, client_begins, client_does, client_injects, client_opens, client_rule, content_said, decoded, decoded_message, event_seen, front_admits, front_asked, front_does, front_ended, front_gets, front_taken, front_timer, inject_seen, is_no_node, kind_of, letter, listed, node_does, node_read, node_rule, nothing_said, packet_seen, reads_first, rows_of, seen_in, stands}
+use Rattle.lard_law_view.proofs.EachClient.{client_seen, each-client, of-client}
 use Rattle.lard_law_connections.specs.Motion.{EachIsTold, above}
 use Rattle.lard_law_connections.specs.MotionStory.{Story, decoded_bytes, ended_epoch, ended_on, from_node, highest, is_among, is_syn, node_took, offer_epoch, epoch_offered, offer_on, of_row, picked, segment_on, story, syn_on}
 use Rattle.lard_law_connections.proofs.MotionElsewhere.{Helps, IsBare, IsKnown, IsNotOfClient, Moves, SomeDecided, else-moves, machine-letters, quiet-moves}
@@ -15,40 +12,21 @@ use Rattle.lard_law_connections.proofs.MotionFronts as fronts
 use Rattle.lard_law_connections.proofs.MotionComings.{Heads}
 use Rattle.lard_law_connections.proofs.MotionNodes.{IsFirst, NodesGo, NodesKnown, NodesMove, max-none, nodes-go, seen-gave, other-at, quiet-at, seen-offers, seen-took}
 use Rattle.lard_law_connections.proofs.MotionNodeTurns as turns
+use Rattle.lard_law_view.proofs.NodeHeads.{of-heads}
 use Rattle.lard_law_connections.proofs.MotionPicking.{IsApart, or-false, pick, picked-append}
 use Rattle.lard_law_connections.specs.Places.{IsDecided, IsOffered, IsOver}
 use Rattle.lard_law_connections.proofs.PlacesFrontMessages.{came-says}
 use Rattle.lard_law_connections.proofs.PlacesFrontRules.{has-each}
 use Rattle.lard_law_connections.proofs.PlacesTurns.{IsPlaced, Owes}
-use Rattle.lard_law_view.specs.Carry.{MayRestOn}
-use Rattle.lard_law_view.specs.View.{ClientRules, Conn, IsFrontEnv, IsNodeEnv, IsForFront, IsForNode, IsNobody, IsUnheard, Move, Rules, Setting, SpellsMessage, Was, client_begins, client_does, content_said, epoch_in, event_seen, front_admits, front_does, inject_seen, letter, node_does, nothing_said, packet_seen, reads_first, rows_of, seen_in, stands}
+use Rattle.lard_law_view.proofs.EachNode.{Answers, Aside, Brings, NodeComes, Queues, aside_said, aside_seen, each-node, job_notes, node_goes, told_first}
 use Rattle.lard_law_view.proofs.Fine.{IsItsOwn}
-use Rattle.lard_rules.specs.declared.front.FrontTurn.{FrontTurn}
 use Rattle.lard_rules.specs.Front as front
-use Rattle.lard_rules.specs.Front.{FrontEnv, FrontPart, ask_of, front_asked, front_ended, front_gets, front_hears, front_taken, front_timer}
-use Rattle.lard_handoff_back.specs.declared.row.BackRow.{BackRow}
-use Rattle.lard_history.specs.Journal.{request}
-use Rattle.lard_history.specs.Own.{Row, Seen}
 use Rattle.lard_history.proofs.Each.{Each, Each-append}
 use Rattle.lard_history.proofs.Seeing.{other_number, same_number}
-use Rattle.lard_journal.specs.declared.rec.Rec.{Rec}
 use Rattle.lard_journal.specs.declared.rec.Rec.TheVariants as rec
-use Rattle.lard_message.specs.declared.fault.MsgFault.{MsgFault}
-use Rattle.lard_message.specs.declared.message.Body.{Body}
 use Rattle.lard_message.specs.declared.message.Body.TheVariants as body
-use Rattle.lard_message.specs.declared.message.Message.{Message}
-use Rattle.lard_message.specs.Message.{kind_of}
-use Rattle.lard_message.specs.Reading.{decoded_message}
+use Rattle.lard_rules.proofs.NodeCases.{IsInItsEpoch}
 use Rattle.lard_rules.specs.Node as node
-use Rattle.lard_rules.specs.Node.{NodePart, node_acknowledged, node_content, node_forwarded, node_offered, node_read, node_tagged, node_timer}
-use Rattle.lard_rules.specs.Stay.{NodeEnv}
-use Rattle.lard_rules.specs.declared.places.Station.{Station}
-use Rattle.lard_rules.specs.declared.places.Turn.{Turn}
-use Rattle.lard_rules.specs.Client.{client_aborts, client_gets, client_holds, client_injects, client_opens, client_shuts, client_takes, client_timer, client_writes}
-use Rattle.lard_rules.specs.Speaking.{listed}
-use Rattle.lard_segment.specs.declared.fault.SegFault.{SegFault}
-use Rattle.lard_segment.specs.declared.segment.Dir.TheVariants.{ToClient, ToCluster}
-use Rattle.lard_segment.specs.Segment.{Said as Segment, decoded}
 
 -- what is known of a connection's way
 pub record Way (x : Conn) : Type 0 where
@@ -209,17 +187,15 @@ module _ (k : Setting) (x : Conn) (n : ℕ) where
   node-fresh known ss ms none = Each-append IsNotOfClient x.letters (map (letter (Node n)) ss ++ map (letter (Node n)) ms) (known.fresh none)
       (Each-append IsNotOfClient (map (letter (Node n)) ss) (map (letter (Node n)) ms) (machine-letters (Node n) ss tt) (machine-letters (Node n) ms tt))
 
-  -- the front end is as it was
-  node-front : (heads : List Seen) → Each (IsApart x.c) heads → Each IsBare heads → IsKnown x → (d : node.NodeDeed) → Helps x (node_does x n heads d) → Moves x (node_does x n heads d)
-  node-front heads apart bare known node.Drops help = else-moves x (node_does x n heads node.Drops) help known tt apart bare refl (node-fresh known [] [])
-  node-front heads apart bare known (node.Says ms) help = else-moves x (node_does x n heads (node.Says ms)) help known tt apart bare refl (node-fresh known [] ms)
-  node-front heads apart bare known (node.Does y) help = else-moves x (node_does x n heads (node.Does y)) help known tt apart bare refl (node-fresh known y.1.segments y.1.messages)
-
-  -- and so it is behind the record of a job
-  read-front : (r : Rec) → IsKnown x → (d : node.NodeDeed) → Helps x (reads_first r (node_does x n [] d)) → Moves x (reads_first r (node_does x n [] d))
-  read-front r known node.Drops help = else-moves x (reads_first r (node_does x n [] node.Drops)) help known tt tt tt refl (node-fresh known [] [])
-  read-front r known (node.Says ms) help = else-moves x (reads_first r (node_does x n [] (node.Says ms))) help known tt tt tt refl (node-fresh known [] ms)
-  read-front r known (node.Does y) help = else-moves x (reads_first r (node_does x n [] (node.Does y))) help known tt tt tt refl (node-fresh known y.1.segments y.1.messages)
+  -- the front end is as it was, also behind the record of a job
+  node-front : (rs : List Rec) (heads : List Seen) → Each (IsApart x.c) heads → Each IsBare heads → IsKnown x → (d : node.NodeDeed)
+      → Helps x (told_first rs (node_does x n heads d)) → Moves x (told_first rs (node_does x n heads d))
+  node-front rs heads apart bare known node.Drops help = else-moves x (told_first rs (node_does x n heads node.Drops)) help known tt apart bare refl
+      (node-fresh known [] [])
+  node-front rs heads apart bare known (node.Says ms) help = else-moves x (told_first rs (node_does x n heads (node.Says ms))) help known tt apart bare refl
+      (node-fresh known [] ms)
+  node-front rs heads apart bare known (node.Does y) help = else-moves x (told_first rs (node_does x n heads (node.Does y))) help known tt apart bare refl
+      (node-fresh known y.1.segments y.1.messages)
 
   -- no other node hears what comes to this one
   others-unheard : (from : Place) (bytes : List ℕ) (m : ℕ) → m ≢ n → picked (epoch_offered m) (packet_seen from (Node n) bytes) ≡ []
@@ -232,53 +208,11 @@ module _ (k : Setting) (x : Conn) (n : ℕ) where
   this-hears bytes o e =
       append-nil (listed (cond (nat_eq n n) (offer_epoch (decoded_message bytes)) None)) ∙ ap (λ b. listed (cond b (offer_epoch (decoded_message bytes)) None)) (same_number n) ∙ ap listed e
 
-  front-apart : (bytes : List ℕ) → Each (IsApart x.c) (packet_seen Front (Node n) bytes)
-  front-apart bytes = ((refl, refl, refl), tt)
-
-  node-apart : (from : ℕ) (bytes : List ℕ) → Each (IsApart x.c) (packet_seen (Node from) (Node n) bytes)
-  node-apart from bytes = ((refl, refl, refl), tt)
-
-  offered-goes : (epoch : ℕ) (env : NodeEnv) (parts : EndpointParts) (bytes : List ℕ) → IsNodeEnv k x.c n epoch env → SpellsMessage x.c epoch (body.Offer parts) bytes → Was x Front (Node n) bytes
-      → Goes k x (node_does x n (packet_seen Front (Node n) bytes) (node_offered env (x.part.nodes n) parts))
-  offered-goes epoch env parts bytes is spells was may way help = (
-    node-front (packet_seen Front (Node n) bytes) (front-apart bytes) (tt, tt) way.front (node_offered env (x.part.nodes n) parts) help,
-    turns.offered-go k x may.given way.nodes n epoch env is (packet_seen Front (Node n) bytes) (tt, tt) (others-unheard Front bytes) parts
-        (this-hears bytes (Some epoch) (ap offer_epoch spells) ∙ ap (λ (e : ℕ). e ∷ []) (sym is.epoch_is))
-        (subst (λ (e : ℕ). IsDecided e (x.part.nodes n).row ⊎ IsOffered n e x.part.front.row) (sym is.epoch_is) (came-says x Front (Node n) epoch (body.Offer parts) bytes may.given.letters was spells)) help,
-  )
-
-  forwarded-goes : (epoch : ℕ) (env : NodeEnv) (segment bytes : List ℕ) → IsNodeEnv k x.c n epoch env → SpellsMessage x.c epoch (body.Forward segment) bytes
-      → Goes k x (node_does x n (packet_seen Front (Node n) bytes) (node_forwarded env (x.part.nodes n) (decoded segment x.c ToCluster)))
-  forwarded-goes epoch env segment bytes is spells may way help = (
-    node-front (packet_seen Front (Node n) bytes) (front-apart bytes) (tt, tt) way.front (node_forwarded env (x.part.nodes n) (decoded segment x.c ToCluster)) help,
-    turns.forwarded-go k x may.given way.nodes n epoch env is (packet_seen Front (Node n) bytes) (tt, tt) (others-unheard Front bytes) (this-hears bytes None (ap offer_epoch spells)) (decoded segment x.c ToCluster) help,
-  )
-
-  tagged-goes : (epoch number : ℕ) (tags : List ℕ) (env : NodeEnv) (bytes : List ℕ) → IsNodeEnv k x.c n epoch env → SpellsMessage x.c epoch (body.Tag number tags) bytes
-      → Goes k x (node_does x n (packet_seen Front (Node n) bytes) (node_tagged env (x.part.nodes n) number tags))
-  tagged-goes epoch number tags env bytes is spells may way help = (
-    node-front (packet_seen Front (Node n) bytes) (front-apart bytes) (tt, tt) way.front (node_tagged env (x.part.nodes n) number tags) help,
-    turns.tagged-go k x may.given way.nodes n epoch env is (packet_seen Front (Node n) bytes) (tt, tt) (others-unheard Front bytes) (this-hears bytes None (ap offer_epoch spells)) number tags help,
-  )
-
-  content-goes : (from epoch r : ℕ) (env : NodeEnv) (bytes : List ℕ) → IsNodeEnv k x.c n epoch env → Goes k x (node_does x n (packet_seen (Node from) (Node n) bytes) (node_content env (x.part.nodes n) from r))
-  content-goes from epoch r env bytes is may way help = (
-    node-front (packet_seen (Node from) (Node n) bytes) (node-apart from bytes) (tt, tt) way.front (node_content env (x.part.nodes n) from r) help,
-    turns.content-go k x may.given way.nodes n epoch env is (packet_seen (Node from) (Node n) bytes) (tt, tt) (others-unheard (Node from) bytes) refl from r help,
-  )
-
-  acknowledged-goes : (epoch : ℕ) (env : NodeEnv) (bytes : List ℕ) → IsNodeEnv k x.c n epoch env → SpellsMessage x.c epoch body.EndedAck bytes
-      → Goes k x (node_does x n (packet_seen Front (Node n) bytes) (node_acknowledged env (x.part.nodes n)))
-  acknowledged-goes epoch env bytes is spells may way help = (
-    node-front (packet_seen Front (Node n) bytes) (front-apart bytes) (tt, tt) way.front (node_acknowledged env (x.part.nodes n)) help,
-    turns.acknowledged-go k x may.given way.nodes n epoch env is (packet_seen Front (Node n) bytes) (tt, tt) (others-unheard Front bytes) (this-hears bytes None (ap offer_epoch spells)) help,
-  )
-
-  fires-at-node : (env : NodeEnv) → IsNodeEnv k x.c n (epoch_in (x.part.nodes n)) env → Goes k x (node_does x n (event_seen (event.Timer (Node n) x.c)) (node_timer env (x.part.nodes n)))
-  fires-at-node env is may way help = (
-    node-front (event_seen (event.Timer (Node n) x.c)) (tt, tt) ((tt, tt), tt) way.front (node_timer env (x.part.nodes n)) help,
-    turns.fires-go k x may.given way.nodes n env is (event_seen (event.Timer (Node n) x.c)) (tt, tt) (λ m. refl) help,
-  )
+  -- what comes to a node is nothing of the way
+  packet-apart : (from : Place) (bytes : List ℕ) → Each (IsApart x.c) (packet_seen from (Node n) bytes)
+  packet-apart Front bytes = ((refl, refl, refl), tt)
+  packet-apart (Node from) bytes = ((refl, refl, refl), tt)
+  packet-apart (Client d) bytes = ((refl, refl, refl), tt)
 
   -- ---- a job of its own
 
@@ -306,17 +240,49 @@ module _ (k : Setting) (x : Conn) (n : ℕ) where
         },
       )
 
-  no-heads-at : (d : node.NodeDeed) → (node_does x n [] d).heads ≡ []
-  no-heads-at node.Drops = refl
-  no-heads-at (node.Says ms) = refl
-  no-heads-at (node.Does y) = refl
+  -- ---- whatever comes to it
 
-  read-goes : (epoch r : ℕ) (env : NodeEnv) (path : List ℕ) → IsNodeEnv k x.c n epoch env → Goes k x (reads_first (rec.Read n n x.c r path) (node_does x n [] (node_read env (x.part.nodes n) r)))
-  read-goes epoch r env path is may way help =
-      let d : node.NodeDeed = node_read env (x.part.nodes n) r in
-      let v : Move = node_does x n [] d in (
-        read-front (rec.Read n n x.c r path) way.front d help,
-        read-nodes r path v (no-heads-at d) (turns.read-go k x may.given way.nodes n epoch env is [] tt (λ m other. refl) refl r (behind-read r path v help)),
+  module _ (epoch : ℕ) (env : NodeEnv) (is : IsNodeEnv k x.c n epoch env) (heads : List Seen) where
+    -- no Offer is picked of anything else
+    no-offers : (g : NodeGets) → NodeComes x n epoch heads g → turns.IsNoOffer g → picked (epoch_offered n) heads ≡ []
+    no-offers (Offered parts) comes other = absurd other
+    no-offers (Forwarded given) comes other = ap (picked (epoch_offered n)) comes.came.seen
+        ∙ this-hears comes.came.bytes None (ap offer_epoch comes.came.spells)
+    no-offers (Tagged number tags) comes other = ap (picked (epoch_offered n)) comes.seen ∙ this-hears comes.bytes None (ap offer_epoch comes.spells)
+    no-offers (Content from r) comes other = ap (picked (epoch_offered n)) comes.came.seen
+    no-offers Acknowledged comes other = ap (picked (epoch_offered n)) comes.seen ∙ this-hears comes.bytes None (ap offer_epoch comes.spells)
+    no-offers (Completed r path) comes other = ap (picked (epoch_offered n)) comes
+    no-offers Fires comes other = ap (picked (epoch_offered n)) comes.seen
+
+    heads-at : (d : node.NodeDeed) → (node_does x n heads d).heads ≡ heads
+    heads-at node.Drops = refl
+    heads-at (node.Says ms) = refl
+    heads-at (node.Does y) = refl
+
+    module _ (may : MayRestOn IsPlaced x) (way : Way x) (first : Each IsFirst heads) (others : (m : ℕ) → m ≢ n → picked (epoch_offered m) heads ≡ []) where
+      goes-nodes : (g : NodeGets) → IsInItsEpoch env (x.part.nodes n) g → NodeComes x n epoch heads g → Helps x (node_goes x n env heads g)
+          → NodesGo k.nodes x (node_goes x n env heads g)
+      goes-nodes (Offered parts) at comes help =
+          turns.offered-go k x may.given way.nodes n epoch env is heads first others parts
+          (ap (picked (epoch_offered n)) comes.seen ∙ this-hears comes.bytes (Some epoch) (ap offer_epoch comes.spells)
+          ∙ ap (λ (e : ℕ). e ∷ []) (sym is.epoch_is))
+          (subst (λ (e : ℕ). IsDecided e (x.part.nodes n).row ⊎ IsOffered n e x.part.front.row) (sym is.epoch_is)
+          (came-says x Front (Node n) epoch (body.Offer parts) comes.bytes may.given.letters comes.was comes.spells)) help
+      goes-nodes (Completed r path) at comes help =
+          let d : node.NodeDeed = node_read env (x.part.nodes n) r in
+          read-nodes r path (node_does x n heads d) (heads-at d ∙ comes)
+          (turns.rule-goes k x may.given way.nodes n epoch env is heads first others (no-offers (Completed r path) comes tt) (Completed r path) at tt
+          (behind-read r path (node_does x n heads d) help))
+      goes-nodes g at comes help = turns.rule-goes k x may.given way.nodes n epoch env is heads first others (no-offers g comes tt) g at tt help
+
+  does-goes : (epoch : ℕ) (env : NodeEnv) (heads : List Seen) (g : NodeGets) → IsNodeEnv k x.c n epoch env → IsInItsEpoch env (x.part.nodes n) g
+      → NodeComes x n epoch heads g → Goes k x (node_goes x n env heads g)
+  does-goes epoch env heads g is at comes may way help =
+      let seen = of-heads x n (λ hs. Each (IsApart x.c) hs × Each IsBare hs × Each IsFirst hs × ((m : ℕ) → m ≢ n → picked (epoch_offered m) hs ≡ []))
+      (λ from bytes. (packet-apart from bytes, (tt, tt), (tt, tt), others-unheard from bytes)) (tt, tt, tt, λ m other. refl)
+      ((tt, tt), ((tt, tt), tt), (tt, tt), λ m other. refl) epoch heads g comes in (
+        node-front (job_notes x.c n g) heads seen.0 seen.1 way.front (node_rule env (x.part.nodes n) g) help,
+        goes-nodes epoch env is heads may way seen.2 seen.3 g at comes help,
       )
 
   -- ---- what it does for another one
@@ -329,10 +295,18 @@ module _ (k : Setting) (x : Conn) (n : ℕ) where
       )
 
   between-clear : (from : ℕ) (bytes : List ℕ) → IsClear x (packet_seen (Node from) (Node n) bytes)
-  between-clear from bytes = record { apart = node-apart from bytes; bare = (tt, tt); first = (tt, tt); offers = λ m. refl }
+  between-clear from bytes = record { apart = packet-apart (Node from) bytes; bare = (tt, tt); first = (tt, tt); offers = λ m. refl }
 
   nothing-clear : IsClear x []
   nothing-clear = record { apart = tt; bare = tt; first = tt; offers = λ m. refl }
+
+  aside-goes : (a : Aside) → Goes k x (stands x (Node n) (aside_seen n a) (aside_said k n x.c a))
+  aside-goes (Answers from epoch r path file bytes) = stands-goes (packet_seen (Node from) (Node n) bytes) []
+      (content_said k n from x.c epoch r path).messages (between-clear from bytes) (λ m. refl)
+  aside-goes (Queues from epoch r path file bytes) = stands-goes (packet_seen (Node from) (Node n) bytes) (rec.Queued n from x.c r path ∷ []) []
+      (between-clear from bytes) (λ m. refl)
+  aside-goes (Brings from epoch r path) = stands-goes [] (rec.Read n from x.c r path ∷ []) (content_said k n from x.c epoch r path).messages nothing-clear
+      (λ m. refl)
 
 -- ---- a packet that no rule hears
 
@@ -430,17 +404,11 @@ module _ (k : Setting) (x : Conn) (from to : Place) (bytes : List ℕ) where
 
 module _ (k : Setting) where
   clients : ClientRules k (Goes k)
-  clients = record {
+  clients = each-client k (Goes k) (record {
     opens = λ x isn iss wnd mss rule none. begins-goes k x isn iss wnd mss;
-    gets = λ x s path there le. client-goes k x (event_seen (event.Get x.c path)) s (client_writes s.client (request path)) (event-clear k x (event.Get x.c path));
-    writes = λ x s bytes there le. client-goes k x (event_seen (event.Write x.c bytes)) s (client_writes s.client bytes) (event-clear k x (event.Write x.c bytes));
-    shuts = λ x s there. client-goes k x (event_seen (event.Shut x.c)) s (client_shuts s.client) (event-clear k x (event.Shut x.c));
-    aborts = λ x s there. client-goes k x (event_seen (event.Abort x.c)) s (client_aborts s.client) (event-clear k x (event.Abort x.c));
-    holds = λ x s there. client-goes k x (event_seen (event.Hold x.c)) s (client_holds s.client) (event-clear k x (event.Hold x.c));
-    takes = λ x s there. client-goes k x (event_seen (event.Take x.c)) s (client_takes s.client) (event-clear k x (event.Take x.c));
-    fires = λ x s there. client-goes k x (event_seen (event.Timer (Client x.c) x.c)) s (client_timer s.client) (event-clear k x (event.Timer (Client x.c) x.c));
-    hears = λ x s from bytes there was. client-goes k x (packet_seen from (Client x.c) bytes) s (client_gets s.client (decoded bytes x.c ToClient)) (client-clear x from x.c bytes);
-  }
+    does = λ x s g there comes. client-goes k x (client_seen x.c g) s (client_rule x.c s.client g)
+        (of-client x.c (IsClear x) (λ from bytes. client-clear x from x.c bytes) (event-clear k x) g);
+  })
 
   pub all-go : Rules k (Goes k)
   all-go = record {
@@ -454,18 +422,8 @@ module _ (k : Setting) where
         ended = λ x env n epoch reason snd rcv count bytes is spells was. ended-goes k x env is n epoch reason snd rcv count bytes spells was;
         admitted = λ x env choice given is e. admitted-goes k x env is choice given e;
       };
-      node = record {
-        offered = λ x n epoch env parts bytes is spells was. offered-goes k x n epoch env parts bytes is spells was;
-        forwarded = λ x n epoch env segment bytes is spells was. forwarded-goes k x n epoch env segment bytes is spells;
-        tagged = λ x n epoch number tags env bytes is spells was. tagged-goes k x n epoch number tags env bytes is spells;
-        content = λ x n from epoch r env file bytes is spells was. content-goes k x n from epoch r env bytes is;
-        acknowledged = λ x n epoch env bytes is spells was. acknowledged-goes k x n epoch env bytes is spells;
-        read = λ x n epoch r env path is. read-goes k x n epoch r env path is;
-        fires = λ x s n env there is. fires-at-node k x n env is;
-        answers = λ x n from epoch r path file bytes there spells was. stands-goes k x n (packet_seen (Node from) (Node n) bytes) [] (content_said k n from x.c epoch r path).messages (between-clear k x n from bytes) (λ m. refl);
-        queues = λ x n from epoch r path file bytes there spells was. stands-goes k x n (packet_seen (Node from) (Node n) bytes) (rec.Queued n from x.c r path ∷ []) [] (between-clear k x n from bytes) (λ m. refl);
-        brings = λ x n from epoch r path. stands-goes k x n [] (rec.Read n from x.c r path ∷ []) (content_said k n from x.c epoch r path).messages (nothing-clear k x n) (λ m. refl);
-      };
+      node = each-node k (Goes k)
+          (record { does = λ x n epoch env heads g is at comes. does-goes k x n epoch env heads g is at comes; aside = λ x n a rest. aside-goes k x n a });
       ignores = λ x from to bytes was. ignores-goes k x from to bytes was;
     };
     injects = λ x s bytes there rule. injects-goes k x s bytes;

@@ -1,6 +1,6 @@
 -- The motion law in every run.
 use Rattle.std.proofs.Common.{ℕ, List, [], refl, sym, ◌∙◌}
-use Rattle.lard_base.specs.declared.config.Config.{Config}
+use Rattle.lard_law_view.specs.Prelude.{Config, Conn, IsLaw, IsStepLaw, MayRestOn, Move, OfEach, Rules, Seen, Setting, grown, seen_in, setting}
 use Rattle.lard_law_connections.specs.Motion.{IsMotion, MustMove}
 use Rattle.lard_law_connections.specs.MotionRuns.{ConnectionsMoveInSteps}
 use Rattle.lard_law_connections.specs.MotionStory.{Story, story}
@@ -10,13 +10,10 @@ use Rattle.lard_law_connections.proofs.MotionRules.{Goes, Way, all-go}
 use Rattle.lard_law_connections.proofs.PlacesLaw.{owing}
 use Rattle.lard_law_connections.proofs.PlacesRuns.{each-placed}
 use Rattle.lard_law_connections.proofs.PlacesTurns.{IsPlaced, Owes}
-use Rattle.lard_law_view.specs.Carry.{IsLaw, IsStepLaw, MayRestOn, OfEach, setting}
-use Rattle.lard_law_view.specs.View.{Conn, Move, Rules, Setting, grown, seen_in}
 use Rattle.lard_law_view.proofs.Carried.{carried}
 use Rattle.lard_law_view.proofs.Fine.{IsFine, fine}
 use Rattle.lard_law_view.proofs.Guarded.{both, weaker}
 use Rattle.lard_law_view.proofs.InSteps.{carried-steps}
-use Rattle.lard_history.specs.Own.{Seen}
 
 -- where nothing of it is seen, nothing of it is done
 nothing-moves : (nodes c : ℕ) (past : List Seen) → IsMotion nodes c past []

@@ -4,18 +4,15 @@ use Rattle.std.proofs.Math.Seq.{drop-append_seam}
 use Rattle.std.proofs.lemmas.Bool.Decides.{nat_tests}
 use Rattle.std.proofs.lemmas.List.{drop-append-le, length-append, length-drop, length-map, length-take, length-take-le, take-append-drop}
 use Rattle.std.specs.List.{starts_with}
-use Rattle.lard_answers.specs.Answers.{closes_any, verdicts_on}
+use Rattle.lard_law_view.specs.Prelude.{Cuts, Found, Head, Long, Verdict, blocks, closes, closes_any, cut_of, head_end, piece_moved, pieces, skipped, verdict, verdicts_on}
 use Rattle.lard_answers.proofs.Following.{verdicts_on-moved}
-use Rattle.lard_block.specs.declared.block.Found.{Found}
 use Rattle.lard_block.specs.declared.block.Found.TheVariants.{Block, More, TooLong}
-use Rattle.lard_block.specs.Blocks.{Cuts, Head, Long, Piece, blocks, cut_of, head_end, piece_moved, pieces, skipped}
+use Rattle.lard_block.specs.Blocks.{Piece}
 use Rattle.lard_block.proofs.Cutting.{IsCut, cut_is, found-more, is_cut}
 use Rattle.lard_block.proofs.Division.{block-first, cuts-block, cuts-join, cuts-nothing, long-last, none-yet}
 use Rattle.lard_block.proofs.Skips.{cuts-pairs}
 use Rattle.lard_law_connections.specs.Offers.{BeginsFrom, EndsBy, IsCutAt}
 use Rattle.lard_history.proofs.Each.{Each}
-use Rattle.lard_request.specs.declared.verdict.Verdict.{Verdict}
-use Rattle.lard_request.specs.Verdict.{closes, verdict}
 
 -- ---- two empty lines behind some bytes
 

@@ -1,21 +1,13 @@
 -- The parts of an endpoint that the front end froze are what the journal tells of it.
 use Rattle.std.proofs.Common.{◌≡◌, ◌+◌, ◌-◌, ◌≤◌, ℕ, true, List, [], ◌++◌, drop, length, take, Some, arith, refl, ap, ◌∙◌, sym, subst, append-nil}
 use Rattle.std.specs.List.{concat}
-use Rattle.lard_answers.specs.Answers.{FilesAt, answers, verdicts_on}
-use Rattle.lard_block.specs.Blocks.{blocks}
+use Rattle.lard_law_view.specs.Prelude.{ControlBlock, FilesAt, Rec, SaysAnswers, Stream, Tale, Verdict, answers, blocks, may_freeze, numbers_of, parts_of, said_to, served, tale, verdicts_on, wrote}
 use Rattle.lard_law_connections.specs.BytesAgreement.{FrontHolds}
 use Rattle.lard_law_connections.specs.Offers.{ArePartsOf, IsCutAt}
 use Rattle.lard_law_connections.proofs.OffersCutting.{cut-at}
-use Rattle.lard_endpoint.specs.Control.{ControlBlock}
-use Rattle.lard_endpoint.specs.Moving.{may_freeze, parts_of}
 use Rattle.lard_endpoint.proofs.Adoption.{frozen_stands}
-use Rattle.lard_history.specs.Journal.{Tale, numbers_of, said_to, served, tale, wrote}
 use Rattle.lard_history.proofs.Tales.{numbers-tale, served-tale, wrote-tale}
-use Rattle.lard_journal.specs.declared.rec.Rec.{Rec}
-use Rattle.lard_law_view.specs.Agreement.{SaysAnswers}
 use Rattle.lard_law_view.proofs.Prefix.{said-bytes}
-use Rattle.lard_request.specs.declared.verdict.Verdict.{Verdict}
-use Rattle.lard_law_view.specs.Truth.{Stream}
 
 -- what is told of both streams and of the responses
 pub record Tells (w out : Stream) (vs : List Verdict) (t : Tale) : Type 0 where

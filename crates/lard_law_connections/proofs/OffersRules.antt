@@ -1,10 +1,7 @@
 -- What each rule says to nodes, where its connection agrees.
 use Rattle.std.proofs.Common.{◌≡◌, ◌≤◌, ◌^◌, ℕ, List, [], ◌∷◌, map, Some, None, Ok, Result, refl, ap, ◌∙◌, sym, subst, inl}
-use Rattle.lard_answers.specs.Answers.{FilesAt}
+use Rattle.lard_law_view.specs.Prelude.{AreSent, Ask, Client, Conn, ControlBlock, FilesAt, Final, FirstChoice, Front, FrontConn, FrontDeed, FrontEnv, FrontPart, FrontRow, FrontRules, FrontTurn, IsConnNumber, IsFrontEnv, IsWord, Kept, Move, Node, Place, Said, Seen, SegFault, Setting, Station, Talk, ToCluster, Verdict, Was, ask_of, decoded, event_seen, fires_at, front_admits, front_admitted, front_asked, front_begun, front_does, front_ended, front_gets, front_hears, front_rest, front_taken, front_timer, handed_off, hears_at, holds, packet_seen, placed, sent_of, serving, serving_settled, tale_at, told_on}
 use Rattle.lard_base.specs.declared.event.Event.TheVariants as event
-use Rattle.lard_base.specs.declared.place.Place.{Place}
-use Rattle.lard_base.specs.declared.place.Place.TheVariants.{Client, Front, Node}
-use Rattle.lard_rules.specs.Bounds.{IsConnNumber}
 use Rattle.lard_law_connections.specs.BytesAgreement.{IsFair, IsFairOn, IsOpen, IsTruthful}
 use Rattle.lard_law_connections.specs.BytesKeeping.{AdmittedKeeps, FrontPartAgrees, FrontDeedKeeps, FrontTurned, IsFrontTalk}
 use Rattle.lard_law_connections.proofs.BytesClientMoves.{has-fair, open-at}
@@ -14,35 +11,14 @@ use Rattle.lard_law_connections.proofs.BytesFronts.{admissions-keep, front-hears
 use Rattle.lard_law_connections.proofs.BytesTold.{Bytes, bytes_of}
 use Rattle.lard_law_connections.proofs.OffersParts.{Tells}
 use Rattle.lard_law_connections.proofs.OffersSaying.{AreSaid, MayGo, handed-says, other-goes, replies-to}
-use Rattle.lard_law_view.specs.Carry.{tale_at}
-use Rattle.lard_law_view.specs.View.{AreSent, Conn, FrontRules, IsFrontEnv, Move, Setting, Was, event_seen, front_admits, front_does, packet_seen}
 use Rattle.lard_law_view.proofs.Frames.{Owed}
 use Rattle.lard_law_view.proofs.Rows.{tale_before}
-use Rattle.lard_dispatch.specs.declared.dispatch.Ask.{Ask}
 use Rattle.lard_dispatch.specs.declared.dispatch.First.TheVariants as first
-use Rattle.lard_endpoint.specs.Control.{ControlBlock}
-use Rattle.lard_endpoint.specs.declared.control.moving.Final.{Final}
-use Rattle.lard_rules.specs.declared.front.FrontTurn.{FrontTurn}
-use Rattle.lard_rules.specs.Front.{FrontDeed, Does, Drops, FrontEnv, FrontPart, Says, ask_of, front_begun, fires_at, front_admitted, front_gets, front_hears, front_timer, handed_off, hears_at, message, placed, front_rest, front_asked, front_ended, front_taken, holds}
-use Rattle.lard_handoff_front.specs.declared.row.FrontConn.{FrontConn}
+use Rattle.lard_rules.specs.Front.{Does, Drops, Says, message}
 use Rattle.lard_handoff_front.specs.declared.row.FrontConn.TheVariants as stage
-use Rattle.lard_handoff_front.specs.declared.row.FrontRow.{FrontRow}
-use Rattle.lard_history.specs.Journal.{told_on}
-use Rattle.lard_history.specs.Own.{Seen}
 use Rattle.lard_history.proofs.Each.{Each}
-use Rattle.lard_law_view.specs.Agreement.{IsWord}
-use Rattle.lard_law_view.specs.Truthful.{Talk}
 use Rattle.lard_message.specs.declared.kind.Kind.TheVariants as kind
 use Rattle.lard_message.specs.declared.message.Body.TheVariants as body
-use Rattle.lard_policy.specs.declared.first.FirstChoice.{FirstChoice}
-use Rattle.lard_request.specs.declared.verdict.Verdict.{Verdict}
-use Rattle.lard_resend.specs.declared.kept.Kept.{Kept}
-use Rattle.lard_resend.specs.Pending.{sent_of}
-use Rattle.lard_rules.specs.declared.places.Station.{Station}
-use Rattle.lard_rules.specs.Serving.{serving, serving_settled}
-use Rattle.lard_segment.specs.declared.fault.SegFault.{SegFault}
-use Rattle.lard_segment.specs.declared.segment.Dir.TheVariants.{ToCluster}
-use Rattle.lard_segment.specs.Segment.{Said, decoded}
 use Rattle.lard_segment.proofs.Again.{again}
 use Rattle.lard_rules.proofs.FrontCases.{KeptBySegment, IsInStage, segment-keeps, taken-keeps, asked-keeps, ended-keeps, admitted-keeps}
 use Rattle.lard_rules.proofs.FrontCases as cases

@@ -1,11 +1,6 @@
 -- What an Offer carries in every run.
 use Rattle.std.proofs.Common.{◌≡◌, ◌≤◌, ◌^◌, ℕ, false, List, [], Some, None, ap, ◌∙◌, sym, subst}
-use Rattle.lard_answers.specs.Answers.{FilesAt}
-use Rattle.lard_base.specs.declared.config.Config.{Config}
-use Rattle.lard_base.specs.declared.place.Place.{Place}
-use Rattle.lard_base.specs.declared.place.Place.TheVariants.{Client, Front, Node}
-use Rattle.lard_rules.specs.declared.machine.Machine.{Machine}
-use Rattle.lard_rules.specs.Machine.{IsReached}
+use Rattle.lard_law_view.specs.Prelude.{Client, Config, Conn, EachRow, FilesAt, Front, Guarded, IsGuardedLaw, IsReached, Machine, MayRestOn, Move, Node, NodeRules, OfEach, Place, Rec, Seen, Setting, Tale, Untouched, UntouchedRules, WhileUntouched, conn, file_at, grown, is_touched, node_does, nothing_said, own, packet_seen, plain, seen_in, setting, stands, tale_at, tale_of, whose}
 use Rattle.lard_law_connections.specs.BytesAgreement.{IsTruthful}
 use Rattle.lard_law_connections.proofs.BytesOwners.{Known, Knows, known}
 use Rattle.lard_law_connections.proofs.BytesRuns.{states-truthful}
@@ -15,49 +10,31 @@ use Rattle.lard_law_connections.proofs.OffersRules.{SaysAt, SaysTruth, Wants, fr
 use Rattle.lard_law_connections.proofs.OffersSent.{AreSeen, grown-seen, own-sends}
 use Rattle.lard_law_connections.proofs.PlacesRuns.{each-placed}
 use Rattle.lard_law_connections.proofs.PlacesTurns.{IsPlaced}
-use Rattle.lard_law_view.specs.Carry.{Guarded, IsGuardedLaw, MayRestOn, OfEach, Untouched, WhileUntouched, setting, tale_at}
-use Rattle.lard_law_view.specs.View.{Conn, Move, NodeRules, Setting, UntouchedRules, conn, grown, node_does, nothing_said, packet_seen, reads_first, seen_in, stands}
 use Rattle.lard_law_view.proofs.Carried.{carried}
+use Rattle.lard_law_view.proofs.EachNode.{each-node, job_notes, told_first}
 use Rattle.lard_law_view.proofs.Fine.{IsFine, IsItsOwn, fine}
 use Rattle.lard_law_view.proofs.Frames.{Owed, clients-leave}
 use Rattle.lard_law_view.proofs.Guarded.{guarded-law, untouched-both, untouched-weaker}
 use Rattle.lard_law_view.proofs.InSteps.{carried-records}
 use Rattle.lard_law_view.proofs.Naming.{Names, decoded-names}
-use Rattle.lard_files.specs.Files.{file_at}
-use Rattle.lard_history.specs.Journal.{Tale, is_touched}
-use Rattle.lard_history.specs.Own.{EachRow, Seen, own, plain, tale_of, whose}
 use Rattle.lard_history.proofs.Lifting.{tale-own}
 use Rattle.lard_history.proofs.Tales.{touched-tale}
-use Rattle.lard_journal.specs.declared.rec.Rec.{Rec}
 use Rattle.lard_journal.specs.declared.rec.Rec.TheVariants as rec
 use Rattle.lard_rules.specs.Node as node
 
 -- ---- the other places say nothing of the front end
 
 module _ (k : Setting) (small : k.stream ≤ 2 ^ 30) where
-  node-says : (x : Conn) (n : ℕ) (heads : List Seen) (d : node.NodeDeed) → SaysTruth k.files x (node_does x n heads d)
-  node-says x n heads node.Drops = tt
-  node-says x n heads (node.Says messages) = tt
-  node-says x n heads (node.Does given) = tt
-
-  read-says : (x : Conn) (n : ℕ) (r : Rec) (d : node.NodeDeed) → SaysTruth k.files x (reads_first r (node_does x n [] d))
-  read-says x n r node.Drops = tt
-  read-says x n r (node.Says messages) = tt
-  read-says x n r (node.Does given) = tt
+  node-says : (x : Conn) (n : ℕ) (rs : List Rec) (heads : List Seen) (d : node.NodeDeed) → SaysTruth k.files x (told_first rs (node_does x n heads d))
+  node-says x n rs heads node.Drops = tt
+  node-says x n rs heads (node.Says messages) = tt
+  node-says x n rs heads (node.Does given) = tt
 
   nodes : NodeRules k (Owed (Wants k small))
-  nodes = record {
-    offered = λ x n epoch env parts bytes is spells was number sound h. node-says x n _ _;
-    forwarded = λ x n epoch env segment bytes is spells was number sound h. node-says x n _ _;
-    tagged = λ x n epoch z ns env bytes is spells was number sound h. node-says x n _ _;
-    content = λ x n from epoch r env file bytes is spells was number sound h. node-says x n _ _;
-    acknowledged = λ x n epoch env bytes is spells was number sound h. node-says x n _ _;
-    read = λ x n epoch r env path is number sound h. read-says x n (rec.Read n n x.c r path) _;
-    fires = λ x s n env there is number sound h. node-says x n _ _;
-    answers = λ x n from epoch r path file bytes there spells was number sound h. tt;
-    queues = λ x n from epoch r path file bytes there spells was number sound h. tt;
-    brings = λ x n from epoch r path number sound h. tt;
-  }
+  nodes = each-node k (Owed (Wants k small)) (record {
+    does = λ x n epoch env heads g is at comes number sound h. node-says x n (job_notes x.c n g) heads (node.node_rule env (x.part.nodes n) g);
+    aside = λ x n a may number sound h. tt;
+  })
 
   -- a packet comes, and nothing is done
   ignored-says : (x : Conn) (from to : Place) (bytes : List ℕ) → SaysTruth k.files x (stands x to (packet_seen from to bytes) nothing_said)

@@ -1,43 +1,21 @@
 -- What a turn of the front end says to nodes: what was said before, no Offer, or one that carries what the journal tells.
 use Rattle.std.proofs.Common.{◌≡◌, ◌≢◌, ◌⊎◌, ◌+◌, ◌^◌, ◌<◌, ◌-◌, ◌≤◌, ℕ, Bool, true, List, [], ◌∷◌, length, Some, Ok, arith, refl, ap, ◌∙◌, sym, subst, inr, append-nil}
 use Rattle.std.specs.List.{list_any}
-use Rattle.lard_answers.specs.Answers.{FilesAt}
-use Rattle.lard_base.specs.declared.place.Place.{Place}
-use Rattle.lard_base.specs.declared.place.Place.TheVariants.{Client, Front, Node}
-use Rattle.lard_rules.specs.Bounds.{IsConnNumber}
+use Rattle.lard_law_view.specs.Prelude.{AreReplies, Body, Client, Conn, ControlBlock, FilesAt, FirstChoice, Front, FrontEnv, FrontRow, FrontTurn, IsConnNumber, IsMessage, IsStream, Kept, Message, Node, Place, Rec, Service, Stream, Tale, Verdict, Was, bytes_served_in, decoded_message, handed_off, is_reset_record, kind_of, may_freeze, next_epoch, offer_kept, parts_of, served_in, tale, told_on}
 use Rattle.lard_law_connections.specs.BytesAgreement.{FrontHolds, IsOffering}
 use Rattle.lard_law_connections.specs.BytesKeeping.{FrontTurned}
 use Rattle.lard_law_connections.proofs.BytesTold.{Bytes, bytes_of, place-notes}
 use Rattle.lard_law_connections.specs.Offers.{BodyCarries}
 use Rattle.lard_law_connections.proofs.OffersParts.{Tells, carries}
 use Rattle.lard_law_connections.proofs.PlacesHeads.{kinds-same, spelled-body}
-use Rattle.lard_law_view.specs.View.{Conn, Was}
-use Rattle.lard_endpoint.specs.Control.{ControlBlock}
-use Rattle.lard_endpoint.specs.Moving.{may_freeze, parts_of}
 use Rattle.lard_endpoint.proofs.Adoption.{parts-valid}
-use Rattle.lard_rules.specs.declared.front.FrontTurn.{FrontTurn}
-use Rattle.lard_rules.specs.Front.{FrontEnv, handed_off, message, offer_kept}
-use Rattle.lard_handoff_front.specs.declared.row.FrontRow.{FrontRow}
-use Rattle.lard_handoff_front.specs.Front.{next_epoch}
-use Rattle.lard_history.specs.Journal.{Tale, tale, told_on}
+use Rattle.lard_rules.specs.Front.{message}
 use Rattle.lard_history.proofs.Each.{Each}
-use Rattle.lard_journal.specs.declared.rec.Rec.{Rec}
-use Rattle.lard_law_view.specs.Agreement.{AreReplies}
-use Rattle.lard_law_view.specs.Keeping.{is_reset_record, served_in, bytes_served_in}
 use Rattle.lard_law_view.proofs.Notes.{Adds}
 use Rattle.lard_message.specs.declared.kind.Kind.TheVariants as kind
-use Rattle.lard_message.specs.declared.message.Body.{Body}
 use Rattle.lard_message.specs.declared.message.Body.TheVariants as body
-use Rattle.lard_message.specs.declared.message.Message.{Message}
-use Rattle.lard_message.specs.Message.{IsMessage, kind_of}
-use Rattle.lard_message.specs.Reading.{decoded_message}
 use Rattle.lard_message.proofs.Fields.{some_same}
 use Rattle.lard_message.proofs.Whole.{again}
-use Rattle.lard_policy.specs.declared.first.FirstChoice.{FirstChoice}
-use Rattle.lard_request.specs.declared.verdict.Verdict.{Verdict}
-use Rattle.lard_resend.specs.declared.kept.Kept.{Kept}
-use Rattle.lard_rules.specs.Serving.{Service}
-use Rattle.lard_law_view.specs.Truth.{IsStream, Stream}
 
 -- ---- what goes out
 

@@ -1,12 +1,9 @@
 -- Packets that were sent before, in what a connection sees.
 use Rattle.std.proofs.Common.{◌≡◌, ◌⊎◌, ℕ, Bool, true, false, cond, List, [], ◌∷◌, ◌++◌, map, Option, Some, None, ap, inl, inr, ⊎_elim, nat_eq}
-use Rattle.lard_base.specs.declared.place.Place.{Place}
+use Rattle.lard_law_view.specs.Prelude.{Came, Conn, Has, Letter, Move, Packet, Place, Rec, Row, Seen, came_seen, conn_of, grown, letter, letter_of, letters_of, net_step, one_of, own, packet_at, plain, rows_of, seen_in, seen_of, seen_on, timer_rows, whose}
 use Rattle.lard_law_connections.specs.Offers.{Sends, WasSentBetween}
-use Rattle.lard_law_view.specs.View.{Conn, Move, grown, letter, letters_of, rows_of, seen_in, sending, timer_rows}
-use Rattle.lard_history.specs.Own.{Came, Has, Letter, Row, Seen, came_seen, conn_of, letter_of, net_step, one_of, own, plain, seen_of, seen_on, whose}
-use Rattle.lard_journal.specs.declared.rec.Rec.{Rec}
+use Rattle.lard_law_view.specs.View.{sending}
 use Rattle.lard_journal.specs.declared.rec.Rec.TheVariants as rec
-use Rattle.lard_net.specs.Net.{Packet, packet_at}
 
 -- ---- of what is seen
 

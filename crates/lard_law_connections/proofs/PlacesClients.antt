@@ -1,22 +1,15 @@
 -- What a client's rules owe, and what a packet that nobody answers does.
 use Rattle.std.proofs.Common.{◌≡◌, ℕ, List, [], ◌∷◌, ◌++◌, map, sym, ◌∙◌, subst}
 use Rattle.std.proofs.lemmas.List.Sums.{fold-append}
-use Rattle.lard_base.specs.declared.place.Place.{Place}
-use Rattle.lard_base.specs.declared.place.Place.TheVariants.{Client}
-use Rattle.lard_client.specs.Control.{ClientBlock}
+use Rattle.lard_law_view.specs.Prelude.{Client, ClientBlock, Conn, Part, Place, Rec, Seen, Station, Turn, by_client, letter, tale_at, timer_rows, with_station}
 use Rattle.lard_law_connections.specs.Places.{LetterMay, Owning, Sits, owning}
 use Rattle.lard_law_connections.proofs.PlacesFront.{IsQuiet}
 use Rattle.lard_law_connections.proofs.PlacesGrowing.{back-still, front-still}
 use Rattle.lard_law_connections.proofs.PlacesRows.{IsPlain, after_all, client-owns, owns-append, plain-after, plain-owns, sends-after}
 use Rattle.lard_law_connections.proofs.PlacesTurns.{IsPlaced, Owes, timers-plain}
-use Rattle.lard_law_view.specs.Carry.{tale_at}
-use Rattle.lard_law_view.specs.View.{Conn, Part, letter, sending, timer_rows, by_client, with_station}
-use Rattle.lard_history.specs.Own.{Seen}
+use Rattle.lard_law_view.specs.View.{sending}
 use Rattle.lard_history.proofs.Each.{Each, Each-append, Each-weaker}
-use Rattle.lard_journal.specs.declared.rec.Rec.{Rec}
 use Rattle.lard_journal.specs.declared.rec.Rec.TheVariants as rec
-use Rattle.lard_rules.specs.declared.places.Station.{Station}
-use Rattle.lard_rules.specs.declared.places.Turn.{Turn}
 use Rattle.lard_law_view.proofs.PlaceTurns.{IsClientTurn, NotedAt}
 
 client-plain : (e c : ℕ) (r : Rec) → NotedAt (Client e) c r → IsPlain r

@@ -1,38 +1,23 @@
 -- What each rule of the front end owes.
 use Rattle.std.proofs.Common.{◌≡◌, ℕ, ◌+◌, List, [], ◌∷◌, ◌++◌, map, Option, Some, None, inl, inr, ⊎_elim, refl, sym, ap, ◌∙◌, subst, arith}
 use Rattle.std.specs.List.{fold}
-use Rattle.lard_base.specs.declared.place.Place.{Place}
-use Rattle.lard_base.specs.declared.place.Place.TheVariants.{Client, Front, Node}
+use Rattle.lard_law_view.specs.Prelude.{Call, Client, Conn, ControlBlock, EachRow, Ending, First, Front, FrontConn, FrontEnv, FrontPart, FrontRest, FrontRow, IsEarlyHere, IsMachine, Node, Part, Place, Seen, Service, Turn, TurnSaid, by_front, front_does, front_rests, front_saying, holds, leaves_by, letter, nothing_said, placed, seen_step, serving_settled, spoken, stage_after, tale_at, tale_step, turn_here, with_front}
 use Rattle.lard_law_connections.specs.Places.{EndedBefore, IsEven, IsHome, IsOdd, IsPast, LetterMay, MaySay, Offers, Owning, Sits, StageSits, message_head, owning}
 use Rattle.lard_law_connections.proofs.PlacesGrowing.{FrontGrows, back-still, front-still, past-later}
 use Rattle.lard_law_connections.proofs.PlacesHeads.{spelled-head}
-use Rattle.lard_law_connections.proofs.PlacesLoops.{reads-notes, settled-is, spoken-to}
+use Rattle.lard_law_connections.proofs.PlacesLoops.{settled-is, spoken-to}
 use Rattle.lard_law_connections.proofs.PlacesRows.{IsPlain, MayStand, OwnsBy, after_all, plain-after, plain-owns}
-use Rattle.lard_law_connections.proofs.PlacesTurns.{IsPlaced, Owes, Turned, timers-plain, turned-after, turned-owns}
-use Rattle.lard_law_view.specs.Carry.{tale_at}
-use Rattle.lard_law_view.specs.View.{Conn, IsMachine, Part, TurnSaid, by_front, front_does, letter, nothing_said, with_front}
-use Rattle.lard_dispatch.specs.declared.dispatch.First.{First}
+use Rattle.lard_law_connections.proofs.PlacesTurns.{IsPlaced, Owes, Turned, early-at, timers-plain, turned-after, turned-owns}
 use Rattle.lard_dispatch.specs.declared.dispatch.First.TheVariants as first
-use Rattle.lard_dispatch.specs.Laws.{Call}
 use Rattle.lard_dispatch.specs.Laws as call
-use Rattle.lard_endpoint.specs.Control.{ControlBlock}
-use Rattle.lard_rules.specs.declared.front.FrontRest.{FrontRest}
-use Rattle.lard_rules.specs.Front.{Drops, Says, Does, FrontEnv, FrontPart, heard, leaves_by, placed, front_rests, front_saying, settled_by, stage_after, turn_here}
-use Rattle.lard_rules.specs.FrontReading.{Reading, front_reads}
-use Rattle.lard_handoff_front.specs.declared.row.FrontConn.{FrontConn}
+use Rattle.lard_rules.proofs.FrontCases.{IsInStage, of-stage}
+use Rattle.lard_rules.specs.Front.{Drops, Says, Does}
 use Rattle.lard_handoff_front.specs.declared.row.FrontConn.TheVariants as stage
-use Rattle.lard_handoff_front.specs.declared.row.FrontRow.{FrontRow}
-use Rattle.lard_history.specs.Journal.{tale_step}
-use Rattle.lard_history.specs.Own.{EachRow, Seen, seen_step}
 use Rattle.lard_history.proofs.Each.{Each, Each-append}
 use Rattle.lard_journal.specs.declared.rec.Rec.TheVariants as rec
-use Rattle.lard_rules.specs.declared.places.Ending.{Ending}
 use Rattle.lard_rules.specs.declared.places.Ending.TheVariants as ending
-use Rattle.lard_rules.specs.declared.places.Turn.{Turn}
-use Rattle.lard_rules.specs.Serving.{Service, serving, serving_settled, spoken}
 use Rattle.lard_law_view.proofs.EndpointSends.{AllTo}
 use Rattle.lard_law_view.proofs.RowLists.{MayBeSeen}
-use Rattle.lard_rules.specs.FrontSound.{IsEarlyHere}
 
 -- ---- what is seen before the notes
 
@@ -40,6 +25,44 @@ use Rattle.lard_rules.specs.FrontSound.{IsEarlyHere}
 pub record IsQuiet (x : Conn) (heads : List Seen) : Type 0 where
   pub may : EachRow (MayBeSeen (MayStand x.c) x.c) x.seen heads
   pub same : owning (fold (seen_step (tale_step x.c)) (tale_at x) heads) ≡ owning (tale_at x)
+
+-- ---- where it is at the front end
+
+pub record IsHomeAt (x : Conn) (row : FrontRow) : Type 0 where
+  pub found : x.part.front.row ≡ Some row
+  pub odd : IsOdd row.epoch.0
+  pub early : IsEarlyHere row.epoch.0
+  pub home : IsHome row.epoch.0 (owning (tale_at x)) x.part.nodes
+  pub ended : EndedBefore row.epoch.0 row.ended_by
+  pub none : (n e : ℕ) → Offers n e row.stage → ⊥
+
+-- what is said of its row in a stage
+pub sits-in : (x : Conn) → IsPlaced x → (row : FrontRow) (st : FrontConn) → IsInStage x.part.front row st
+    → StageSits row.epoch.0 (owning (tale_at x)) x.part.nodes st × EndedBefore row.epoch.0 row.ended_by
+sits-in x placed row st at = of-stage (Sits (owning (tale_at x)) x.part.nodes) x.part.front row st at placed.sits
+
+-- it is held, or waits
+pub held-home : (x : Conn) → IsPlaced x → (row : FrontRow) (b : ControlBlock) → IsInStage x.part.front row (stage.Held b) → IsHomeAt x row
+held-home x placed row b at = let h = sits-in x placed row (stage.Held b) at in record {
+  found = at.0;
+  odd = h.0.0;
+  early = early-at x placed row at.0 (stage.Held b) at.1;
+  home = h.0.1;
+  ended = h.1;
+  none = λ n e. subst
+      (λ (q : FrontConn). Offers n e q → ⊥) (sym at.1) (λ o. o);
+}
+
+pub waits-home : (x : Conn) → IsPlaced x → (row : FrontRow) (b : ControlBlock) → IsInStage x.part.front row (stage.Waiting b) → IsHomeAt x row
+waits-home x placed row b at = let h = sits-in x placed row (stage.Waiting b) at in record {
+  found = at.0;
+  odd = h.0.0;
+  early = early-at x placed row at.0 (stage.Waiting b) at.1;
+  home = h.0.1;
+  ended = h.1;
+  none = λ n e. subst
+      (λ (q : FrontConn). Offers n e q → ⊥) (sym at.1) (λ o. o);
+}
 
 -- ---- packets
 
@@ -120,19 +143,19 @@ module _ (x : Conn) (heads : List Seen) (quiet : IsQuiet x heads) where
         go (ending.Over last) = (odd, home)
 
   -- an endpoint that is here goes on, with plain notes
-  module _ (env : FrontEnv) (mine : env.serve.c ≡ x.c) (row : FrontRow) (found : x.part.front.row ≡ Some row) (odd : IsOdd row.epoch.0) (early : IsEarlyHere row.epoch.0) (home : IsHome row.epoch.0 w x.part.nodes)
-      (ended : EndedBefore row.epoch.0 row.ended_by) (none : (n e : ℕ) → Offers n e row.stage → ⊥) where
+  module _ (env : FrontEnv) (mine : env.serve.c ≡ x.c) (row : FrontRow) (here : IsHomeAt x row) where
     to-mine : (ss : List (Place × List ℕ)) → AllTo (Client env.serve.c) ss → AllTo (Client x.c) ss
     to-mine ss to = subst (λ (c : ℕ). AllTo (Client c) ss) mine to
 
     here-grows : (st : FrontConn) → FrontGrows x.part.nodes x.part.front.row (Some (record row { stage = st }))
-    here-grows st = subst (λ (o : Option FrontRow). FrontGrows x.part.nodes o (Some (record row { stage = st }))) (sym found) (omega arith, λ n e offers. absurd (none n e offers))
+    here-grows st = subst (λ (o : Option FrontRow). FrontGrows x.part.nodes o (Some (record row { stage = st }))) (sym here.found)
+        (omega arith, λ n e offers. absurd (here.none n e offers))
 
     pub goes-owe : (rest : FrontRest) (stays : ControlBlock → FrontConn) (given : Ending × Turn) (calls : List Call)
         → ((b : ControlBlock) → IsHome row.epoch.0 w x.part.nodes → StageSits row.epoch.0 w x.part.nodes (stays b))
         → Each IsPlain given.1.notes → AllTo (Client env.serve.c) given.1.segments
         → Owes x (front_does x heads (Does (record { part = front_rests x.part.front row rest stays given.0; turn = turn_here given.1; calls = calls })))
-    goes-owe rest stays given calls stay plain to = ends-owe row rest stays given calls w stay odd ended home here-grows
+    goes-owe rest stays given calls stay plain to = ends-owe row rest stays given calls w stay here.odd here.ended here.home here-grows
         (plain-owns x.c w given.1.notes plain) (plain-after w given.1.notes plain) (to-mine given.1.segments to)
 
     -- it is handed off
@@ -143,34 +166,34 @@ module _ (x : Conn) (heads : List Seen) (quiet : IsQuiet x heads) where
         let v : Owning = record { owner = None; epoch = row.epoch.0 } in
         let notes : Each IsPlain did.turn.notes = Each-append IsPlain s.notes (rec.Admitted env.serve.c ∷ rec.AssignedFirst env.serve.c (s.count + 1) path choice.node choice.add choice.remove ∷ []) plain (tt, (tt, tt)) in
         let now : after_all w did.turn.notes ≡ w = plain-after w did.turn.notes notes in
-        let even : IsEven (row.epoch.0 + 1) = (omega (arith, odd), omega arith) in
-        let past : (n : ℕ) → IsPast (row.epoch.0 + 1) (x.part.nodes n).row = λ n. past-later row.epoch.0 (row.epoch.0 + 1) (x.part.nodes n).row (omega arith) (home.1 n) in
+        let even : IsEven (row.epoch.0 + 1) = (let odd : IsOdd row.epoch.0 = here.odd in omega (arith, odd), omega arith) in
+        let past : (n : ℕ) → IsPast (row.epoch.0 + 1) (x.part.nodes n).row = λ n. past-later row.epoch.0 (row.epoch.0 + 1) (x.part.nodes n).row (omega arith)
+        (here.home.1 n) in
         front-owes (by_front did.turn) did.part v
         (record {
           notes = plain-owns x.c w did.turn.notes notes;
           segments = inr refl;
-          gave = subst (λ (u : Owning). OwnsBy x.c u did.turn.gave) (sym (now ∙ home.0)) ((mine, refl, refl), tt);
+          gave = subst (λ (u : Owning). OwnsBy x.c u did.turn.gave) (sym (now ∙ here.home.0)) ((mine, refl, refl), tt);
           messages = (tt, tt);
-          then = ap (λ (u : Owning). after_all u did.turn.gave) (now ∙ home.0);
+          then = ap (λ (u : Owning). after_all u did.turn.gave) (now ∙ here.home.0);
         })
         ((even, refl, (λ m other. past m), inl (refl, refl, past choice.node)), tt)
-        (subst (λ (o : Option FrontRow). FrontGrows x.part.nodes o did.part.row) (sym found) (omega arith, λ n e offers. absurd (none n e offers)))
-        (subst (λ h. MaySay q Front (Node choice.node) h) (sym (spelled-head _ (omega (arith, early)))) (inr (refl, refl)), tt)
+        (subst (λ (o : Option FrontRow). FrontGrows x.part.nodes o did.part.row) (sym here.found) (omega arith, λ n e offers. absurd (here.none n e offers))) (
+          subst (λ h. MaySay q Front (Node choice.node) h) (sym (spelled-head _ (let early : IsEarlyHere row.epoch.0 = here.early in omega (arith, early))))
+              (inr (refl, refl)),
+          tt,
+        )
     placed-owes rest s path first.Waits plain =
         let s' : Service = record s { notes = s.notes ++ rec.Waits env.serve.c ∷ [] } in
-        goes-owe (record rest { target = Some path }) stage.Waiting (spoken env.serve s' []) (call.First env.serve.c path env.now ∷ leaves_by env.serve.c (spoken env.serve s' []).0) (λ b home. (odd, home))
+        goes-owe (record rest { target = Some path }) stage.Waiting (spoken env.serve s' [])
+        (call.First env.serve.c path env.now ∷ leaves_by env.serve.c (spoken env.serve s' []).0) (λ b home. (here.odd, home))
         (Each-append IsPlain s.notes (rec.Waits env.serve.c ∷ []) plain (tt, tt)) (spoken-to env.serve s' [] tt)
 
-    settled-owes : (rest : FrontRest) (s : Service) (o : Option (List ℕ)) → Each IsPlain s.notes → Owes x (front_does x heads (settled_by env x.part.front row rest s o))
-    settled-owes rest s None plain =
+    pub holds-owe : (rest : FrontRest) (s : Service) → Each IsPlain s.notes
+        → Owes x (front_does x heads (holds x.part.front row rest (serving_settled env.serve s)))
+    holds-owe rest s plain =
         let is = settled-is env.serve s in
-        goes-owe rest stage.Held (serving_settled env.serve s) [] (λ b home. (odd, home)) (subst (Each IsPlain) (sym is.notes) plain) is.to
-    settled-owes rest s (Some path) plain = placed-owes rest s path (env.first path) plain
-
-    pub heard-owes : (rest : FrontRest) (b : ControlBlock) → Owes x (front_does x heads (heard env x.part.front row rest b))
-    heard-owes rest b =
-        let r : Reading = front_reads env.serve (record { service = serving b rest.count []; target = None }) in
-        settled-owes rest r.service r.target (reads-notes (Each IsPlain) (λ ns rs plain h. Each-append IsPlain ns rs h plain) env.serve (record { service = serving b rest.count []; target = None }) tt)
+        goes-owe rest stage.Held (serving_settled env.serve s) [] (λ b home. (here.odd, home)) (subst (Each IsPlain) (sym is.notes) plain) is.to
 
     -- what is said in a stage of waiting or of being held
     pub says-owe : (rest : FrontRest) (stays : ControlBlock → FrontConn) (s : Service) (before : List (Place × List ℕ)) (calls : List Call)

@@ -1,47 +1,21 @@
 -- The front end's rules for what nodes say, and the head of the line.
-use Rattle.std.proofs.Common.{◌≡◌, ◌⊎◌, ℕ, ◌+◌, ◌<◌, ◌==◌, ◌&&◌, nat_lt, Bool, true, false, cond, List, [], ◌∷◌, Option, Some, None, inr, refl, sym, ◌∙◌, subst, arith, eqb-true, eq-eqb}
-use Rattle.std.proofs.lemmas.Bool.{cond_both}
-use Rattle.lard_base.specs.declared.ids.Epoch.{Epoch}
-use Rattle.lard_base.specs.declared.place.Place.{Place}
-use Rattle.lard_base.specs.declared.place.Place.TheVariants.{Front, Node}
+use Rattle.std.proofs.Common.{◌≡◌, ◌⊎◌, ℕ, ◌+◌, ◌<◌, ◌==◌, Bool, true, false, List, [], ◌∷◌, Option, Some, None, inr, refl, sym, ◌∙◌, subst, arith, eqb-true, eq-eqb}
+use Rattle.lard_law_view.specs.Prelude.{Ask, BackConn, BackRow, Body, Conn, Epoch, Final, FirstChoice, Front, FrontConn, FrontDeed, FrontEnv, FrontPart, FrontRest, FrontRow, FrontTurn, IsEarlyAway, IsEarlyOver, IsFrontEnv, Kind, Later, LaterChoice, Node, NodePart, Part, Place, Seen, Setting, SpellsMessage, Was, ack_sent, assigned_notes, assigns, by_front, ended_with, front_admits, front_admitted, front_asked, front_does, front_ended, front_ends, front_rest, front_saying, front_taken, is_away, kind_of, next_epoch, over_note, serving, tag_sent, taken_by, tale_at, with_front}
 use Rattle.lard_law_connections.specs.Places.{EndedBefore, HasEnded, IsComing, IsDecided, IsEven, IsLeft, IsOver, IsPast, IsThere, LetterMay, MaySay, Offers, OthersArePast, Owning, Owns, StageSits, owning}
-use Rattle.lard_law_connections.proofs.PlacesFront.{IsQuiet, Tells, drops-owes, front-owes, messages-owe, placed-owes}
+use Rattle.lard_law_connections.proofs.PlacesFront.{IsQuiet, Tells, drops-owes, front-owes, messages-owe, placed-owes, waits-home}
 use Rattle.lard_law_connections.proofs.PlacesFrontRules.{decided-there, has-each, sits-row, there-decided}
 use Rattle.lard_law_connections.proofs.PlacesGrowing.{FrontGrows, front-still, past-later}
 use Rattle.lard_law_connections.proofs.PlacesHeads.{decoded-head, head, spelled-head, spelled-some}
 use Rattle.lard_law_connections.proofs.PlacesRows.{IsPlain, plain-after, plain-owns}
 use Rattle.lard_law_connections.proofs.PlacesTurns.{IsPlaced, Owes, early-at, small-early}
-use Rattle.lard_law_view.specs.Carry.{tale_at}
-use Rattle.lard_law_view.specs.View.{Conn, IsFrontEnv, Part, Setting, SpellsMessage, Was, by_front, front_admits, front_does, with_front}
-use Rattle.lard_costs.specs.declared.later.LaterChoice.{LaterChoice}
-use Rattle.lard_dispatch.specs.declared.dispatch.Ask.{Ask}
 use Rattle.lard_dispatch.specs.declared.dispatch.First.TheVariants as first
-use Rattle.lard_dispatch.specs.declared.dispatch.Later.{Later}
-use Rattle.lard_endpoint.specs.declared.control.moving.Final.{Final}
-use Rattle.lard_endpoint.specs.Control.{ControlBlock}
-use Rattle.lard_rules.specs.declared.front.FrontRest.{FrontRest}
-use Rattle.lard_rules.specs.declared.front.FrontTurn.{FrontTurn}
-use Rattle.lard_rules.specs.Front.{FrontDeed, Drops, Says, Does, FrontEnv, FrontPart, ack_sent, admitted_at, admitted_by, front_admitted_with, asked_by, assigned_notes, assigns, front_ended_by, front_ends, front_admitted, front_asked, front_ended, front_taken, handed_off, is_row_at, over_note, front_rest, front_saying, tag_sent, taken_by}
-use Rattle.lard_handoff_back.specs.declared.row.BackConn.{BackConn}
+use Rattle.lard_rules.proofs.FrontCases.{admitted-keeps, asked-keeps, ended-keeps, taken-keeps}
+use Rattle.lard_rules.specs.Front.{Drops, Says, Does}
 use Rattle.lard_handoff_back.specs.declared.row.BackConn.TheVariants as back
-use Rattle.lard_handoff_back.specs.declared.row.BackRow.{BackRow}
-use Rattle.lard_handoff_front.specs.declared.row.FrontConn.{FrontConn}
 use Rattle.lard_handoff_front.specs.declared.row.FrontConn.TheVariants as stage
-use Rattle.lard_handoff_front.specs.declared.row.FrontRow.{FrontRow}
-use Rattle.lard_handoff_front.specs.declared.table.OnEnded.TheVariants.{New, Again, Stale}
-use Rattle.lard_handoff_front.specs.Front.{end_answer, ended_with, next_epoch}
-use Rattle.lard_handoff_front.specs.Row.{is_away, offered_to}
-use Rattle.lard_history.specs.Own.{Seen}
 use Rattle.lard_history.proofs.Each.{Each, Each-append}
-use Rattle.lard_message.specs.declared.kind.Kind.{Kind}
 use Rattle.lard_message.specs.declared.kind.Kind.TheVariants as kind
-use Rattle.lard_message.specs.declared.message.Body.{Body}
 use Rattle.lard_message.specs.declared.message.Body.TheVariants as body
-use Rattle.lard_message.specs.Message.{kind_of}
-use Rattle.lard_rules.specs.Node.{NodePart}
-use Rattle.lard_policy.specs.declared.first.FirstChoice.{FirstChoice}
-use Rattle.lard_rules.specs.Serving.{serving}
-use Rattle.lard_rules.specs.FrontSound.{IsEarlyAway, IsEarlyOver}
 
 -- what a packet that came says, where it is a message of this connection
 pub came-says : (x : Conn) (from to : Place) (epoch : ℕ) (b : Body) (bytes : List ℕ) → Each (LetterMay x.part) x.letters → Was x from to bytes → SpellsMessage x.c epoch b bytes
@@ -123,19 +97,9 @@ module _ (k : Setting) (x : Conn) (heads : List Seen) (quiet : IsQuiet x heads) 
       ))
       tt
 
-  taken-at : (epoch m : ℕ) (row : FrontRow) → p.row ≡ Some row → IsDecided epoch (nodes m).row → (st : FrontConn) → row.stage ≡ st → Owed (taken_by p epoch (Some row) (offered_to epoch st))
-  taken-at epoch m row found decided (stage.Offering n d) at = go (d.0 == epoch) refl where
-    go : (b : Bool) → (d.0 == epoch) ≡ b → Owed (taken_by p epoch (Some row) (cond b (Some n) None))
-    go true e = taken-owes row n d epoch m found at (eqb-true d.0 epoch e) decided
-    go false e = dropped
-  taken-at epoch m row found decided _ at = dropped
-
-  taken-by : (epoch m : ℕ) → IsDecided epoch (nodes m).row → (o : Option FrontRow) → p.row ≡ o → Owed (taken_by p epoch o (elim o [ None ↦ None | Some row ↦ offered_to epoch row.stage ]))
-  taken-by epoch m decided None e = dropped
-  taken-by epoch m decided (Some row) e = taken-at epoch m row e decided row.stage refl
-
   pub taken-rule : (m epoch : ℕ) (bytes : List ℕ) → SpellsMessage x.c epoch body.Taken bytes → Was x (Node m) Front bytes → Owed (front_taken p epoch)
-  taken-rule m epoch bytes spells was = taken-by epoch m (came-says x (Node m) Front epoch body.Taken bytes held.letters was spells) p.row refl
+  taken-rule m epoch bytes spells was = taken-keeps p Owed dropped epoch
+      (λ row n d at same. taken-owes row n d epoch m at.0 at.1 same (came-says x (Node m) Front epoch body.Taken bytes held.letters was spells))
 
   -- ---- an Ask
 
@@ -160,15 +124,11 @@ module _ (k : Setting) (x : Conn) (heads : List Seen) (quiet : IsQuiet x heads) 
       (record { notes = plain-owns x.c w did.turn.notes plain; segments = inr refl; gave = tt; messages = (tt, tt); then = plain-after w did.turn.notes plain })
       held.sits (front-still nodes p.row) (tag-tells (with_front x.part did.part) n epoch ask.number _)
 
-  asked-by : (n epoch : ℕ) (ask : Ask) (o : Option FrontRest) → Owed (asked_by env p n epoch ask o)
-  asked-by n epoch ask None = dropped
-  asked-by n epoch ask (Some rest) =
-      cond_both (ask.number == rest.asks + 1) (Does (assigns env p rest n epoch ask (env.later ask))) _ Owed (λ t. assigns-owe rest n epoch ask (env.later ask))
-      (λ t. cond_both (ask.number == rest.asks && nat_lt 0 rest.asks) (Says (front_saying (tag_sent env n epoch rest.asks rest.tag))) Drops Owed
-      (λ u. messages-owe x heads quiet held (tag_sent env n epoch rest.asks rest.tag) (tt, tt) (tag-tells x.part n epoch rest.asks rest.tag)) (λ u. dropped))
-
   pub asked-rule : (n epoch : ℕ) (ask : Ask) → Owed (front_asked env p n epoch ask)
-  asked-rule n epoch ask = cond_both (is_row_at n epoch p.row) (asked_by env p n epoch ask p.rest) Drops Owed (λ t. asked-by n epoch ask p.rest) (λ t. dropped)
+  asked-rule n epoch ask = asked-keeps p Owed dropped env n epoch ask
+      (λ rest found there same some. messages-owe x heads quiet held (tag_sent env n epoch rest.asks rest.tag) (tt, tt)
+      (tag-tells x.part n epoch rest.asks rest.tag))
+      (λ rest found there next. assigns-owe rest n epoch ask (env.later ask))
 
   -- ---- an Ended
 
@@ -242,23 +202,13 @@ module _ (k : Setting) (x : Conn) (heads : List Seen) (quiet : IsQuiet x heads) 
         earlier None e h = let no : false ≡ true = e in absurd cc
         earlier (Some by) e h = let same : by.0 ≡ epoch = eqb-true by.0 epoch e in omega (arith, same, h)
 
-  ended-row : (m epoch : ℕ) (last : Final) (row : FrontRow) → p.row ≡ Some row → IsOver epoch (nodes m).row → Owed (front_ended_by env p m epoch last (Some row) (end_answer epoch (Some row)))
-  ended-row m epoch last row found over = go (is_away epoch row.stage) refl where
-    go : (b : Bool) → is_away epoch row.stage ≡ b → Owed (front_ended_by env p m epoch last (Some row) (cond b (New (next_epoch row)) (cond (ended_with epoch row.ended_by) Again Stale)))
-    go true away = with-node row found epoch row.stage refl away _
-        (λ n there now offered. ends-owe-one row m n epoch last found there now over offered (find-row row found).1)
-    go false away = again (ended_with epoch row.ended_by) refl where
-      again : (b : Bool) → ended_with epoch row.ended_by ≡ b → Owed (front_ended_by env p m epoch last (Some row) (cond b Again Stale))
-      again true e = again-owes row m epoch found e
-      again false e = dropped
-
-  ended-by : (m epoch : ℕ) (last : Final) → IsOver epoch (nodes m).row → (o : Option FrontRow) → p.row ≡ o → Owed (front_ended_by env p m epoch last o (end_answer epoch o))
-  ended-by m epoch last over None e = dropped
-  ended-by m epoch last over (Some row) e = ended-row m epoch last row e over
-
   pub ended-rule : (m epoch : ℕ) (b : Body) (bytes : List ℕ) (last : Final) → kind_of b ≡ kind.Ended → SpellsMessage x.c epoch b bytes → Was x (Node m) Front bytes → Owed (front_ended env p m epoch last)
   ended-rule m epoch b bytes last kind spells was =
-      ended-by m epoch last (subst (λ (k : Kind). MaySay x.part (Node m) Front (Some (head k epoch))) kind (came-says x (Node m) Front epoch b bytes held.letters was spells)) p.row refl
+      let over : IsOver epoch (nodes m).row = subst (λ (k : Kind). MaySay x.part (Node m) Front (Some (head k epoch))) kind
+      (came-says x (Node m) Front epoch b bytes held.letters was spells) in
+      ended-keeps p Owed dropped env m epoch last (λ row found away again. again-owes row m epoch found again)
+      (λ row found away. with-node row found epoch row.stage refl away _
+      (λ n there now offered. ends-owe-one row m n epoch last found there now over offered (find-row row found).1))
 
 -- ---- the head of the line
 
@@ -266,26 +216,7 @@ module _ (k : Setting) (x : Conn) (held : IsPlaced x) (env : FrontEnv) (is : IsF
   abbrev nothing_seen : IsQuiet x []
   nothing_seen = record { may = tt; same = refl }
 
-  admitted-with : (row : FrontRow) (b : ControlBlock) (given : FrontPart × FrontTurn) (o : Option (List ℕ)) → x.part.front.row ≡ Some row → row.stage ≡ stage.Waiting b
-      → front_admitted_with env row (front_rest x.part.front.rest) b choice o ≡ Some given → Owes x (front_admits x given)
-  admitted-with row b given None found at e = let no : None ≡ Some given = e in absurd cc
-  admitted-with row b given (Some path) found at e =
-      let rest : FrontRest = front_rest x.part.front.rest in
-      let handed : FrontPart × FrontTurn = handed_off env row (serving b rest.count []) path choice in
-      let same : handed ≡ given = cc in
-      let h = sits-row k x [] nothing_seen held env is row found in
-      let sits : StageSits row.epoch.0 (owning (tale_at x)) x.part.nodes (stage.Waiting b) = subst (StageSits row.epoch.0 (owning (tale_at x)) x.part.nodes) at h.0 in
-      subst (λ (g : FrontPart × FrontTurn). Owes x (front_admits x g)) same
-      (placed-owes x [] nothing_seen env is.number row found sits.0 (early-at x held row found (stage.Waiting b) at) sits.1 h.1 (λ n e. subst (λ (q : FrontConn). Offers n e q → ⊥) (sym at) (λ o. o)) rest (serving b rest.count []) path (first.Go choice) tt)
-
-  admitted-at : (row : FrontRow) (given : FrontPart × FrontTurn) (st : FrontConn) → x.part.front.row ≡ Some row → row.stage ≡ st → admitted_at env x.part.front choice row st ≡ Some given
-      → Owes x (front_admits x given)
-  admitted-at row given (stage.Waiting b) found at e = admitted-with row b given (front_rest x.part.front.rest).target found at e
-  admitted-at row given _ found at e = let no : None ≡ Some given = e in absurd cc
-
-  admitted-by : (given : FrontPart × FrontTurn) (o : Option FrontRow) → x.part.front.row ≡ o → admitted_by env x.part.front choice o ≡ Some given → Owes x (front_admits x given)
-  admitted-by given None found e = let no : None ≡ Some given = e in absurd cc
-  admitted-by given (Some row) found e = admitted-at row given row.stage found refl e
-
   pub admitted-rule : (given : FrontPart × FrontTurn) → front_admitted env x.part.front choice ≡ Some given → Owes x (front_admits x given)
-  admitted-rule given e = admitted-by given x.part.front.row refl e
+  admitted-rule = admitted-keeps env x.part.front choice (λ given. Owes x (front_admits x given))
+      (λ row b path at target. placed-owes x [] nothing_seen env is.number row (waits-home x held row b at) (front_rest x.part.front.rest)
+      (serving b (front_rest x.part.front.rest).count []) path (first.Go choice) tt)

@@ -1,38 +1,19 @@
 -- The rules of the front end, one by one.
 use Rattle.std.proofs.Common.{◌≡◌, ◌⊎◌, ℕ, ◌==◌, Bool, true, false, List, [], ◌∷◌, map, Option, Some, None, Result, Ok, Err, inl, inr, ⊎_elim, refl, sym, ap, ◌∙◌, subst, arith, eqb-true, eq-eqb}
-use Rattle.std.proofs.lemmas.Bool.{cond_both}
-use Rattle.lard_base.specs.declared.place.Place.{Place}
-use Rattle.lard_base.specs.declared.place.Place.TheVariants.{Client, Front, Node}
-use Rattle.lard_law_connections.specs.Places.{EndedBefore, IsComing, IsDecided, IsHome, IsPast, IsThere, LetterMay, MaySay, Offers, OthersArePast, Owning, Sits, StageSits, owning}
-use Rattle.lard_law_connections.proofs.PlacesFront.{IsQuiet, Tells, drops-owes, ends-owe, front-owes, heard-owes, messages-owe, says-owe}
+use Rattle.lard_law_view.specs.Prelude.{AreSent, BackRow, Client, Conn, ControlBlock, Ending, Final, Front, FrontDeed, FrontEnv, FrontPart, FrontRow, Has, IsConnSound, IsFrontEnv, IsMachine, Kept, Node, NodePart, Place, Said as Segment, Seen, SegFault, Service, Setting, Turn, after_timer, by_front, front_begun, front_does, front_gets, front_rest, front_saying, front_timer, last_words, leaves_by, sent_of, spoken, tale_at, timed, tombstone, turn_here, waits_on}
+use Rattle.lard_law_connections.specs.Places.{EndedBefore, IsComing, IsDecided, IsHome, IsPast, IsThere, LetterMay, MaySay, OthersArePast, Owning, Sits, StageSits, owning}
+use Rattle.lard_law_connections.proofs.PlacesFront.{IsHomeAt, IsQuiet, Tells, drops-owes, ends-owe, front-owes, held-home, holds-owe, messages-owe, placed-owes, says-owe, sits-in, waits-home}
 use Rattle.lard_law_connections.proofs.PlacesGrowing.{FrontGrows, front-still, past-later}
 use Rattle.lard_law_connections.proofs.PlacesHeads.{spelled-some}
-use Rattle.lard_law_connections.proofs.PlacesLoops.{spoken-to}
-use Rattle.lard_law_connections.proofs.PlacesTurns.{IsPlaced, Owes, early-at}
-use Rattle.lard_law_view.specs.Carry.{tale_at}
-use Rattle.lard_law_view.specs.View.{AreSent, Conn, IsFrontEnv, IsMachine, IsConnSound, Setting, by_front, front_does}
-use Rattle.lard_endpoint.specs.declared.control.moving.Final.{Final}
-use Rattle.lard_endpoint.specs.Arriving.{on_segment}
-use Rattle.lard_endpoint.specs.Control.{listening}
-use Rattle.lard_endpoint.specs.Leaving.{after_timer, timed}
-use Rattle.lard_rules.specs.Front.{FrontDeed, Drops, Says, FrontEnv, FrontPart, front_begun, front_fired, front_fired_by, fires_at, front_gets, front_hears, front_timer, hears_at, leaves_by, message, met, front_rest, front_saying, turn_here}
-use Rattle.lard_handoff_front.specs.declared.row.FrontConn.{FrontConn}
+use Rattle.lard_law_connections.proofs.PlacesLoops.{reads-notes, spoken-to}
+use Rattle.lard_law_connections.proofs.PlacesRows.{IsPlain}
+use Rattle.lard_law_connections.proofs.PlacesTurns.{IsPlaced, Owes}
+use Rattle.lard_rules.proofs.FrontCases.{IsInStage, KeptBySegment, begun_row, begun_service, fired_before, fired_service, heard_reading, heard_service, segment-keeps, timer-keeps}
+use Rattle.lard_rules.specs.Front.{Drops, Says, message}
+use Rattle.lard_dispatch.specs.declared.dispatch.First.TheVariants as first
 use Rattle.lard_handoff_front.specs.declared.row.FrontConn.TheVariants as stage
-use Rattle.lard_handoff_front.specs.declared.row.FrontRow.{FrontRow}
-use Rattle.lard_handoff_back.specs.declared.row.BackRow.{BackRow}
-use Rattle.lard_history.specs.Own.{Has, Seen}
-use Rattle.lard_history.proofs.Each.{Each}
-use Rattle.lard_journal.specs.declared.rec.Rec.TheVariants as rec
+use Rattle.lard_history.proofs.Each.{Each, Each-append}
 use Rattle.lard_message.specs.declared.message.Body.TheVariants as body
-use Rattle.lard_rules.specs.Node.{NodePart}
-use Rattle.lard_resend.specs.declared.kept.Kept.{Kept}
-use Rattle.lard_resend.specs.Pending.{sent_of}
-use Rattle.lard_rules.specs.declared.places.Ending.{Ending}
-use Rattle.lard_rules.specs.declared.places.Turn.{Turn}
-use Rattle.lard_rules.specs.Tombstone.{is_plain_syn, last_words, tombstone}
-use Rattle.lard_rules.specs.Serving.{serving_ready_of, serving, spoken}
-use Rattle.lard_segment.specs.declared.fault.SegFault.{SegFault}
-use Rattle.lard_segment.specs.Segment.{Said as Segment}
 use Rattle.lard_law_view.proofs.EndpointSends.{AllTo, ready-to}
 
 -- ---- packets that were sent
@@ -102,21 +83,18 @@ module _ (k : Setting) (x : Conn) (heads : List Seen) (quiet : IsQuiet x heads) 
 
   -- ---- a segment
 
-  met-owes : (s : Segment) → p.row ≡ None → Owed (met env p s)
-  met-owes s none =
-      let row : FrontRow = record { stage = stage.Lent; epoch = record { 0 = 1 }; ended_by = None } in
-      let given : Ending × Turn = spoken env.serve (serving (listening s env.iss) 0 (rec.Took Front env.serve.c (record { 0 = 1 }) ∷ [])) [] in
+  begins-owe : (s : Segment) → p.row ≡ None → Owed (front_begun env p s)
+  begins-owe s none =
+      let given : Ending × Turn = spoken env.serve (begun_service env s) [] in
       let at : Sits w nodes None = subst (Sits w nodes) none placed.sits in
       let v : Owning = record { owner = Some Front; epoch = 1 } in
       let home : IsHome 1 v nodes = (refl, λ n. past-later 0 1 (nodes n).row (omega arith) (at.1 n)) in
       let fresh : w.epoch ≡ 0 = ap (λ (u : Owning). u.epoch) at.0 in
       let free : w.owner ≡ None = ap (λ (u : Owning). u.owner) at.0 in
-      cond_both (is_plain_syn s) (front_begun env p s) Drops Owed
-      (λ t. ends-owe x heads quiet row (front_rest None) stage.Held given [] v (λ b home. (refl, home)) refl tt home
-      (λ st. subst (λ (o : Option FrontRow). FrontGrows nodes o (Some (record row { stage = st }))) (sym none) tt)
+      ends-owe x heads quiet begun_row (front_rest None) stage.Held given [] v (λ b home. (refl, home)) refl tt home
+      (λ st. subst (λ (o : Option FrontRow). FrontGrows nodes o (Some (record begun_row { stage = st }))) (sym none) tt)
       ((is.number, omega (arith, fresh), free), tt) refl
-      (subst (λ (c : ℕ). AllTo (Client c) given.1.segments) is.number (spoken-to env.serve (serving (listening s env.iss) 0 (rec.Took Front env.serve.c (record { 0 = 1 }) ∷ [])) [] tt)))
-      (λ t. dropped)
+      (subst (λ (c : ℕ). AllTo (Client c) given.1.segments) is.number (spoken-to env.serve (begun_service env s) [] tt))
 
   tombstone-owes : (row : FrontRow) (last : Final) (o : Option Segment) → IsHome row.epoch.0 w nodes → Owed (Says (turn_here (tombstone env.serve o)))
   tombstone-owes row last None home = front-owes x heads quiet (by_front (turn_here (tombstone env.serve None))) p w
@@ -130,52 +108,42 @@ module _ (k : Setting) (x : Conn) (heads : List Seen) (quiet : IsQuiet x heads) 
         then = refl;
       }) placed.sits (front-still nodes p.row) tt
 
-  hears-at : (bytes : List ℕ) (s : Segment) (row : FrontRow) → p.row ≡ Some row → (st : FrontConn) → row.stage ≡ st → Owed (hears_at env p row bytes s st)
-  hears-at bytes s row found (stage.Held b) at =
-      let h = sits-row row found in
-      let sits : StageSits row.epoch.0 w nodes (stage.Held b) = subst (StageSits row.epoch.0 w nodes) at h.0 in
-      heard-owes x heads quiet env is.number row found sits.0 (early-at x placed row found (stage.Held b) at) sits.1 h.1 (λ n e. subst (λ (q : FrontConn). Offers n e q → ⊥) (sym at) (λ o. o)) (front_rest p.rest) (on_segment b s).1
-  hears-at bytes s row found (stage.Waiting b) at =
-      let h = sits-row row found in
-      let sits : StageSits row.epoch.0 w nodes (stage.Waiting b) = subst (StageSits row.epoch.0 w nodes) at h.0 in
-      says-owe x heads quiet env is.number row found sits.0 (early-at x placed row found (stage.Waiting b) at) sits.1 h.1 (λ n e. subst (λ (q : FrontConn). Offers n e q → ⊥) (sym at) (λ o. o)) (front_rest p.rest) stage.Waiting
-      (serving (on_segment b s).1 (front_rest p.rest).count []) [] (leaves_by env.serve.c (spoken env.serve (serving (on_segment b s).1 (front_rest p.rest).count []) []).0) (λ b home. (sits.0, home)) tt tt
-  hears-at bytes s row found stage.Lent at = dropped
-  hears-at bytes s row found (stage.Offering n e) at = forwards n e.0 bytes
-  hears-at bytes s row found (stage.Moved n e) at = forwards n e.0 bytes
-  hears-at bytes s row found (stage.Closed last) at =
-      let sits : StageSits row.epoch.0 w nodes (stage.Closed last) = subst (StageSits row.epoch.0 w nodes) at (sits-row row found).0 in
-      tombstone-owes row last (last_words last.reason last s) sits.1
+  waits-on : (row : FrontRow) (b : ControlBlock) → IsInStage p row (stage.Waiting b) → (s : Service) (before : List (Place × List ℕ)) → Each IsPlain s.notes
+      → AllTo (Client env.serve.c) before
+      → Owed (waits_on env p row (front_rest p.rest) (spoken env.serve s before))
+  waits-on row b at s before plain to =
+      let here : IsHomeAt x row = waits-home x placed row b at in
+      says-owe x heads quiet env is.number row here (front_rest p.rest) stage.Waiting s before (leaves_by env.serve.c (spoken env.serve s before).0)
+      (λ c home. (here.odd, home)) plain to
 
-  hears : (bytes : List ℕ) (s : Segment) (o : Option FrontRow) → p.row ≡ o → Owed (front_hears env p bytes s o)
-  hears bytes s None e = met-owes s e
-  hears bytes s (Some row) e = hears-at bytes s row e row.stage refl
+  by-segment : (bytes : List ℕ) (s : Segment) → KeptBySegment env p bytes s (λ r o. Each IsPlain r.notes) Owed
+  by-segment bytes s = record {
+    drops = dropped;
+    begins = λ none plain. begins-owe s none;
+    reads = λ row b at. reads-notes (Each IsPlain) (λ ns rs plain h. Each-append IsPlain ns rs h plain) env.serve (heard_reading p b s) tt;
+    holds = λ row b r at plain. holds-owe x heads quiet env is.number row (held-home x placed row b at) (front_rest p.rest) r plain;
+    hands = λ row b r path choice at plain same. placed-owes x heads quiet env is.number row (held-home x placed row b at) (front_rest p.rest) r path
+        (first.Go choice) plain;
+    waits = λ row b r path at plain same. placed-owes x heads quiet env is.number row (held-home x placed row b at)
+        (front_rest p.rest) r path first.Waits plain;
+    stays = λ row b at. waits-on row b at (heard_service p b s) [] tt tt;
+    forwards = λ row n e at. forwards n e.0 bytes;
+    words = λ row last at. tombstone-owes row last (last_words last.reason last s) (sits-in x placed row (stage.Closed last) at).0.1;
+  }
 
   pub gets-owe : (bytes : List ℕ) (r : Result Segment SegFault) → Owed (front_gets env p bytes r)
   gets-owe bytes (Err fault) = dropped
-  gets-owe bytes (Ok s) = hears bytes s p.row refl
+  gets-owe bytes (Ok s) = segment-keeps env p bytes s (λ r o. Each IsPlain r.notes) Owed (by-segment bytes s)
 
   -- ---- timers
 
-  module _ (sound : IsConnSound x) where
-    fires-at : (row : FrontRow) → p.row ≡ Some row → (st : FrontConn) → row.stage ≡ st → Owed (fires_at env p row st)
-    fires-at row found (stage.Held b) at =
-        let h = sits-row row found in
-        let sits : StageSits row.epoch.0 w nodes (stage.Held b) = subst (StageSits row.epoch.0 w nodes) at h.0 in
-        says-owe x heads quiet env is.number row found sits.0 (early-at x placed row found (stage.Held b) at) sits.1 h.1 (λ n e. subst (λ (q : FrontConn). Offers n e q → ⊥) (sym at) (λ o. o)) (front_rest p.rest) stage.Held
-        (serving (after_timer b) (front_rest p.rest).count []) (serving_ready_of env.serve (after_timer b) (timed b)) [] (λ b home. (sits.0, home)) tt (ready-to env.serve (after_timer b) (timed b))
-    fires-at row found (stage.Waiting b) at =
-        let h = sits-row row found in
-        let sits : StageSits row.epoch.0 w nodes (stage.Waiting b) = subst (StageSits row.epoch.0 w nodes) at h.0 in
-        says-owe x heads quiet env is.number row found sits.0 (early-at x placed row found (stage.Waiting b) at) sits.1 h.1 (λ n e. subst (λ (q : FrontConn). Offers n e q → ⊥) (sym at) (λ o. o)) (front_rest p.rest) stage.Waiting
-        (serving (after_timer b) (front_rest p.rest).count []) (serving_ready_of env.serve (after_timer b) (timed b)) (leaves_by env.serve.c (front_fired env (front_rest p.rest) b).0) (λ b home. (sits.0, home)) tt (ready-to env.serve (after_timer b) (timed b))
-    fires-at row found (stage.Offering n e) at =
-        messages-owe x heads quiet placed (map sent_of p.kept) (resent-machines x Front p.kept sound.front) (resent-tells x Front p.kept placed.letters sound.front)
-    fires-at row found _ at = dropped
-
-    fires : (o : Option FrontRow) → p.row ≡ o → Owed (front_fired_by env p o)
-    fires None e = dropped
-    fires (Some row) e = fires-at row e row.stage refl
-
-    pub timer-owes : Owed (front_timer env p)
-    timer-owes = fires p.row refl
+  pub timer-owes : IsConnSound x → Owed (front_timer env p)
+  timer-owes sound = timer-keeps env p Owed (record {
+    drops = dropped;
+    holds = λ row b at. let here : IsHomeAt x row = held-home x placed row b at in
+        says-owe x heads quiet env is.number row here (front_rest p.rest) stage.Held (fired_service p b) (fired_before env b) []
+        (λ c home. (here.odd, home)) tt (ready-to env.serve (after_timer b) (timed b));
+    stays = λ row b at. waits-on row b at (fired_service p b) (fired_before env b) tt (ready-to env.serve (after_timer b) (timed b));
+    resends = λ row n e at. messages-owe x heads quiet placed (map sent_of p.kept) (resent-machines x Front p.kept sound.front)
+        (resent-tells x Front p.kept placed.letters sound.front);
+  })

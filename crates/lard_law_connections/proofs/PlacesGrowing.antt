@@ -1,16 +1,9 @@
 -- What was said of a packet stays so while the front end and the nodes go on.
 use Rattle.std.proofs.Common.{◌≡◌, ◌⊎◌, ℕ, ◌≤◌, List, Option, Some, None, inl, inr, ⊎_elim, sym, ◌∙◌, arith}
-use Rattle.lard_base.specs.declared.place.Place.{Place}
-use Rattle.lard_base.specs.declared.place.Place.TheVariants.{Front, Node}
+use Rattle.lard_law_view.specs.Prelude.{BackRow, Front, FrontRow, Kind, Letter, Node, NodePart, Part, Place}
 use Rattle.lard_law_connections.specs.Places.{FrontSaid, HasEnded, Head, IsDecided, IsLeft, IsOffered, IsOver, IsPast, LetterMay, MaySay, NodeSaid, Offers}
-use Rattle.lard_law_view.specs.View.{Part}
-use Rattle.lard_handoff_back.specs.declared.row.BackRow.{BackRow}
-use Rattle.lard_handoff_front.specs.declared.row.FrontRow.{FrontRow}
-use Rattle.lard_history.specs.Own.{Letter}
 use Rattle.lard_history.proofs.Each.{Each, Each-weaker}
-use Rattle.lard_message.specs.declared.kind.Kind.{Kind}
 use Rattle.lard_message.specs.declared.kind.Kind.TheVariants as kind
-use Rattle.lard_rules.specs.Node.{NodePart}
 
 -- ---- rows go on
 

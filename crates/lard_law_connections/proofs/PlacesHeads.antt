@@ -2,18 +2,12 @@
 use Rattle.std.proofs.Common.{◌≡◌, ℕ, ◌+◌, ◌<◌, ◌^◌, Bool, true, false, cond, not, ◌==◌, ◌&&◌, nat_le, nat_lt, List, [], ◌++◌, drop, length, option_map, Option, Some, None, Result, Ok, Err, refl, sym, ap, ◌∙◌, subst}
 use Rattle.std.specs.Int.{w32}
 use Rattle.std.proofs.lemmas.Nat.{from_be_bytes-to_be_bytes_2}
+use Rattle.lard_law_view.specs.Prelude.{Body, Kind, Message, MsgFault, ask_at, body_at, body_bytes, byte_at, connection_at, content_at, counted_at, decoded_message, ended_body_at, epoch_at, fetch_at, header_bytes, is_of_table, is_version, kind_named, kind_number, kind_of, length_at, nodes_of, number_at, number_byte, offer_at, parts_at, paths_at, reason_at, spelled_message, tag_at, taken_at, version_at, version_of, with_body, with_kind}
 use Rattle.lard_base.specs.declared.ids.TheConstants.ConnId.{MAX}
 use Rattle.lard_law_connections.specs.Places.{Head, message_head}
-use Rattle.lard_message.specs.declared.fault.MsgFault.{MsgFault}
 use Rattle.lard_message.specs.declared.fault.MsgFault.TheVariants as fault
-use Rattle.lard_message.specs.declared.kind.Kind.{Kind}
 use Rattle.lard_message.specs.declared.kind.Kind.TheVariants as kind
-use Rattle.lard_message.specs.declared.message.Body.{Body}
 use Rattle.lard_message.specs.declared.message.Body.TheVariants as body
-use Rattle.lard_message.specs.declared.message.Message.{Message}
-use Rattle.lard_message.specs.Kinds.{is_version, kind_named, kind_number, version_of}
-use Rattle.lard_message.specs.Message.{body_bytes, header_bytes, kind_of, spelled_message}
-use Rattle.lard_message.specs.Reading.{ask_at, body_at, byte_at, connection_at, content_at, counted_at, decoded_message, ended_body_at, nodes_of, number_at, parts_at, paths_at, reason_at, taken_at, epoch_at, fetch_at, is_of_table, length_at, number_byte, offer_at, tag_at, version_at, with_body, with_kind}
 use Rattle.lard_message.proofs.Fields.{bind_then, some_same}
 
 abbrev pub head : Kind → ℕ → Head

@@ -1,36 +1,20 @@
 -- Reading and serving note plain records alone, at the front end and at a node; and what an endpoint says goes to its client.
 use Rattle.std.proofs.Common.{◌≡◌, ℕ, ◌+◌, ◌-◌, Bool, nat_lt, List, [], ◌∷◌, ◌++◌, length, Option, Some, None, refl, subst}
 use Rattle.std.proofs.lemmas.Bool.{cond_both}
-use Rattle.lard_answers.specs.Answers.{answer, answer_code, good_path}
-use Rattle.lard_base.specs.declared.place.Place.{Place}
-use Rattle.lard_base.specs.declared.place.Place.TheVariants.{Client}
+use Rattle.lard_law_view.specs.Prelude.{Client, Done, Ending, Found, More, NodeEnv, Place, Progress, Reading, Rec, ServeEnv, Service, Step, Turn, Verdict, Via, Work, answer, answer_code, answered, block_at, came_for, come_on, cut_of, cut_off, ended_at_fin, final_of, goes_on, good_path, limit_said, may_freeze, may_read, reads_batch, reads_block, reads_found, serving_consumed, serving_settled, serving_told, speaks, speaks_symbols, spoken, state_of, tagged, targeted}
 use Rattle.lard_base.specs.declared.place.Reason.TheVariants.{Limit}
-use Rattle.lard_base.specs.declared.place.Via.{Via}
 use Rattle.lard_base.specs.declared.place.Via.TheVariants.{Own}
-use Rattle.lard_block.specs.declared.block.Found.{Found}
 use Rattle.lard_block.specs.declared.block.Found.TheVariants as found
-use Rattle.lard_block.specs.Blocks.{cut_of}
 use Rattle.lard_law_connections.proofs.PlacesRows.{IsPlain}
-use Rattle.lard_endpoint.specs.Control.{finishing}
-use Rattle.lard_endpoint.specs.Moving.{final_of, may_freeze}
-use Rattle.lard_rules.specs.FrontReading.{Reading, block_at, reads_block, reads_found, targeted}
 use Rattle.lard_rules.specs.FrontReading as front
 use Rattle.lard_history.proofs.Each.{Each, Each-append}
-use Rattle.lard_journal.specs.declared.rec.Rec.{Rec}
 use Rattle.lard_journal.specs.declared.rec.Rec.TheVariants as rec
-use Rattle.lard_rules.specs.declared.stay.Progress.{Progress}
-use Rattle.lard_rules.specs.Stay.{NodeEnv, Work, came_for, come_on, goes_on, reads_batch, tagged}
 use Rattle.lard_request.specs.declared.verdict.Code.TheVariants as code
-use Rattle.lard_request.specs.declared.verdict.Verdict.{Verdict}
 use Rattle.lard_request.specs.declared.verdict.Verdict.TheVariants.{Fault}
-use Rattle.lard_rules.specs.declared.places.Ending.{Ending}
-use Rattle.lard_rules.specs.declared.places.Turn.{Turn}
-use Rattle.lard_rules.specs.Loop.{Step, More, Done, state_of}
-use Rattle.lard_rules.specs.Serving.{ServeEnv, Service, answered, serving_consumed, cut_off, ended_at_fin, limit_said, may_read, passed_over, queued, serving_settled, spoken, serving_told}
-use Rattle.lard_rules.specs.Speaking.{speaks, speaks_symbols}
 use Rattle.lard_rules.proofs.Runs.{runs_keep}
 use Rattle.lard_law_view.proofs.EndpointSends.{AllTo, speaks-to, speaks_symbols-to}
 use Rattle.lard_rules.proofs.StayKeeping.{KeptByNotes, batch-works, goes-works, tagged-works}
+use Rattle.lard_rules.proofs.Endings.{answered-keeps, at-fin-keeps, settled-keeps}
 
 -- ---- what is said
 
@@ -47,10 +31,7 @@ pub record IsSettled (env : ServeEnv) (w : Service) (given : Ending × Turn) : T
   pub to : AllTo (Client env.c) given.1.segments
 
 pub settled-is : (env : ServeEnv) (w : Service) → IsSettled env w (serving_settled env w)
-settled-is env w = go w.over where
-  go : (o : Option ℕ) → IsSettled env w (elim o as (λ p. Ending × Turn) [ None ↦ spoken env w [] | Some total ↦ cut_off env w ])
-  go None = record { notes = refl; to = spoken-to env w [] tt }
-  go (Some total) = record { notes = refl; to = cut_off-to env w }
+settled-is env w = settled-keeps (IsSettled env w) env w (λ e. record { notes = refl; to = spoken-to env w [] tt }) (λ total e. record { notes = refl; to = cut_off-to env w })
 
 -- ---- what is noted: P is so of the notes, and of more plain ones behind them
 
@@ -59,12 +40,12 @@ module _ (P : List Rec → Type 0) (more : (ns rs : List Rec) → Each IsPlain r
   answered-notes env via v w h =
       let bytes : List ℕ = answer env.files v in
       let total : ℕ = w.block.send.total + length bytes in
-      cond_both (nat_lt env.stream total) (passed_over env total w) (queued env via v bytes w) (λ s. P s.notes)
+      answered-keeps (λ s. P s.notes) env via v w
       (λ t. more w.notes (rec.Reset env.place env.c total ∷ []) (tt, tt) h)
       (λ t. more w.notes (rec.Served env.place env.c (w.count + 1) (answer_code env.files v) (length bytes) via ∷ []) (tt, tt) h)
 
   ended-notes : (w : Service) → P w.notes → P (ended_at_fin w).notes
-  ended-notes w h = cond_both w.block.recv.fin (record w { block = finishing w.block }) w (λ s. P s.notes) (λ t. h) (λ t. h)
+  ended-notes w h = at-fin-keeps (λ s. P s.notes) w (λ t. h) (λ t. h)
 
   -- ---- the front end
 

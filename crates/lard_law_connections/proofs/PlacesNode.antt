@@ -1,31 +1,18 @@
 -- What a turn of a node owes.
 use Rattle.std.proofs.Common.{◌≡◌, ℕ, List, [], ◌∷◌, ◌++◌, Option, Some, None, inl, inr, refl, sym, ap, ◌∙◌, subst, arith}
-use Rattle.lard_base.specs.declared.place.Place.{Place}
-use Rattle.lard_base.specs.declared.place.Place.TheVariants.{Client, Front, Node}
+use Rattle.lard_law_view.specs.Prelude.{Asked, BackConn, BackRow, Client, Conn, Ending, Front, IsEarlyAway, IsMachine, Node, NodeEnv, NodePart, Part, Place, Rec, Seen, Turn, TurnSaid, Want, Work, all_sent, asked_sent, by_node, ended_sent, gave_by, kept_after, named_records, node_does, node_put_back, nothing_said, stands, tale_at, turn_by, wants_sent, with_node}
 use Rattle.lard_law_connections.specs.Places.{IsEven, IsOver, MaySay, Owning, Owns, Sits, owning}
 use Rattle.lard_law_connections.proofs.PlacesFront.{IsQuiet, Tells, turn-letters}
 use Rattle.lard_law_connections.proofs.PlacesGrowing.{BackGrows, back-still, front-still, grows-still}
 use Rattle.lard_law_connections.proofs.PlacesHeads.{spelled-head, spelled-some}
 use Rattle.lard_law_connections.proofs.PlacesRows.{IsPlain, OwnsBy, after_all, plain-after, plain-owns}
 use Rattle.lard_law_connections.proofs.PlacesTurns.{IsPlaced, Owes, Turned, timers-plain, turned-after, turned-owns}
-use Rattle.lard_law_view.specs.Carry.{tale_at}
-use Rattle.lard_law_view.specs.View.{Conn, IsMachine, Part, TurnSaid, by_node, named_records, node_does, node_put_back, nothing_said, stands, with_node}
 use Rattle.lard_law_view.proofs.Parts.{put-each, put-same}
-use Rattle.lard_handoff_back.specs.declared.row.BackConn.{BackConn}
 use Rattle.lard_handoff_back.specs.declared.row.BackConn.TheVariants as back
-use Rattle.lard_handoff_back.specs.declared.row.BackRow.{BackRow}
-use Rattle.lard_history.specs.Own.{Seen}
 use Rattle.lard_history.proofs.Each.{Each, Each-append}
-use Rattle.lard_journal.specs.declared.rec.Rec.{Rec}
-use Rattle.lard_rules.specs.declared.stay.Asked.{Asked}
-use Rattle.lard_rules.specs.declared.stay.Want.{Want}
-use Rattle.lard_rules.specs.Node.{Drops, Says, Does, NodePart, all_sent, asked_sent, ended_sent, gave_by, kept_after, turn_by, wants_sent}
-use Rattle.lard_rules.specs.Stay.{NodeEnv, Work}
-use Rattle.lard_rules.specs.declared.places.Ending.{Ending}
+use Rattle.lard_rules.specs.Node.{Drops, Says, Does}
 use Rattle.lard_rules.specs.declared.places.Ending.TheVariants as ending
-use Rattle.lard_rules.specs.declared.places.Turn.{Turn}
 use Rattle.lard_law_view.proofs.EndpointSends.{AllTo}
-use Rattle.lard_rules.specs.FrontSound.{IsEarlyAway}
 
 module _ (x : Conn) (heads : List Seen) (quiet : IsQuiet x heads) where
   abbrev w : Owning

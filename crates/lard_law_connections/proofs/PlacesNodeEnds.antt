@@ -1,40 +1,26 @@
--- A node's timers, and the acknowledgement of an end.
-use Rattle.std.proofs.Common.{◌≡◌, ◌≢◌, ℕ, Bool, true, false, cond, List, [], ◌∷◌, ◌++◌, Option, Some, None, inl, inr, ⊎_elim, refl, sym, ap, ◌∙◌, subst, arith, eqb-true}
+-- A node's timers, the acknowledgement of an end, and every rule of a node by what it comes to.
+use Rattle.std.proofs.Common.{◌≡◌, ◌≢◌, ◌⊎◌, ℕ, true, false, List, [], ◌∷◌, ◌++◌, Option, Some, None, inl, inr, ⊎_elim, refl, sym, ap, ◌∙◌, subst, arith, eqb-true}
 use Rattle.std.proofs.lemmas.Bool.{and_parts}
-use Rattle.lard_base.specs.declared.place.Place.{Place}
-use Rattle.lard_base.specs.declared.place.Place.TheVariants.{Front, Node}
+use Rattle.lard_law_view.specs.Prelude.{Acknowledged, AreSent, BackConn, BackRow, Conn, ControlBlock, Front, FrontConn, FrontRow, IsConnSound, IsMachine, IsNodeEnv, Kept, Node, NodeDeed, NodeEnv, NodeGets, NodePart, Offered, Place, Seen, Setting, Stay, Work, after_timer, again_sent, awaits_ack, by_node, came_for, come_progress, goes_on, gone, is_ended, node_does, node_fired, node_put_back, node_rule, node_saying, on_segment, read_progress, serving, serving_ready_of, spoken, tagged, tale_at, timed, with_node, with_work, without, work_of}
 use Rattle.lard_base.specs.declared.place.TimerKind.TheVariants as kind
-use Rattle.lard_law_connections.specs.Places.{ArePast, HasEnded, IsComing, IsLeft, IsPast, IsThere, OthersArePast, Owning, Sits, StageSits, owning}
+use Rattle.lard_law_connections.specs.Places.{ArePast, HasEnded, IsComing, IsDecided, IsOffered, IsLeft, IsPast, IsThere, OthersArePast, Owning, Sits, StageSits, owning}
 use Rattle.lard_law_connections.proofs.PlacesFront.{IsQuiet, Tells}
 use Rattle.lard_law_connections.proofs.PlacesFrontMessages.{came-says}
 use Rattle.lard_law_connections.proofs.PlacesFrontRules.{resent-machines, resent-tells}
 use Rattle.lard_law_connections.proofs.PlacesGrowing.{BackGrows, Grows, back-still, front-still, may_say-grows}
-use Rattle.lard_law_connections.proofs.PlacesLoops.{spoken-to}
-use Rattle.lard_law_connections.proofs.PlacesNode.{node-drops, node-owes, node-says, plain-turned}
-use Rattle.lard_law_connections.proofs.PlacesNodeRules.{HasIt, has-at, turn-owes}
+use Rattle.lard_law_connections.proofs.PlacesLoops.{came-notes, spoken-to, tagged-notes}
+use Rattle.lard_law_connections.proofs.PlacesNode.{node-owes, node-says, plain-turned}
+use Rattle.lard_law_connections.proofs.PlacesNodeRules.{HasIt, IsSaid, again-owe, begins-owe, dropped, goes-owe, has-here, plain-more, turn-owes}
+use Rattle.lard_law_connections.proofs.PlacesRows.{IsPlain}
 use Rattle.lard_law_connections.proofs.PlacesTurns.{IsPlaced, Owes}
-use Rattle.lard_law_view.specs.Carry.{tale_at}
-use Rattle.lard_law_view.specs.View.{AreSent, Conn, IsMachine, IsNodeEnv, IsConnSound, Setting, SpellsMessage, Was, by_node, epoch_in, node_does, node_put_back, with_node}
 use Rattle.lard_law_view.proofs.Parts.{put-each}
-use Rattle.lard_endpoint.specs.Control.{ControlBlock}
-use Rattle.lard_endpoint.specs.Leaving.{after_timer, timed}
-use Rattle.lard_handoff_back.specs.declared.row.BackConn.{BackConn}
 use Rattle.lard_handoff_back.specs.declared.row.BackConn.TheVariants as back
-use Rattle.lard_handoff_back.specs.declared.row.BackRow.{BackRow}
-use Rattle.lard_handoff_back.specs.Back.{awaits_ack, back_endpoint}
-use Rattle.lard_handoff_back.specs.Row.{back_held, is_ended}
-use Rattle.lard_handoff_front.specs.declared.row.FrontConn.{FrontConn}
 use Rattle.lard_handoff_front.specs.declared.row.FrontConn.TheVariants as stage
-use Rattle.lard_handoff_front.specs.declared.row.FrontRow.{FrontRow}
-use Rattle.lard_history.specs.Own.{Seen}
 use Rattle.lard_history.proofs.Each.{Each, Each-weaker}
 use Rattle.lard_message.specs.declared.message.Body.TheVariants as body
-use Rattle.lard_rules.specs.declared.stay.Stay.{Stay}
-use Rattle.lard_rules.specs.Node.{NodeDeed, Drops, Does, NodePart, again_sent, both_of, node_fired, node_fired_by, gone, node_acknowledged, node_timer, node_saying, work_of}
-use Rattle.lard_rules.specs.Stay.{NodeEnv}
-use Rattle.lard_resend.specs.declared.kept.Kept.{Kept}
-use Rattle.lard_resend.specs.Kept.{without}
-use Rattle.lard_rules.specs.Serving.{serving_ready_of, serving, spoken}
+use Rattle.lard_law_view.proofs.EachNode.{NodeComes}
+use Rattle.lard_rules.proofs.NodeCases.{IsHereWith, IsInItsEpoch, KeptByNode, node-keeps}
+use Rattle.lard_rules.specs.Node.{Does}
 use Rattle.lard_law_view.proofs.EndpointSends.{ready-to}
 
 -- ---- an end that is acknowledged
@@ -96,7 +82,14 @@ module _ (x : Conn) (held : IsPlaced x) (n : ℕ) (row : BackRow) (found : (x.pa
   pub gone-grows : BackGrows (nodes n).row q.row
   gone-grows = subst (BackGrows (nodes n).row) (sym is) (subst (λ (o : Option BackRow). BackGrows o (Some (record row { stage = back.Gone }))) (sym found) (omega arith, λ same l. tt))
 
-module _ (k : Setting) (x : Conn) (heads : List Seen) (quiet : IsQuiet x heads) (held : IsPlaced x) (n epoch : ℕ) (env : NodeEnv) (is : IsNodeEnv k x.c n epoch env) where
+sent-append : (x : Conn) (place : Place) (ks ls : List Kept) → AreSent x place ks → AreSent x place ls → AreSent x place (ks ++ ls)
+sent-append x place [] ls h k = k
+sent-append x place (q ∷ ks) ls h k = (h.0, sent-append x place ks ls h.1 k)
+
+-- ---- every rule of a node, by what it comes to
+
+module _ (k : Setting) (x : Conn) (heads : List Seen) (quiet : IsQuiet x heads) (held : IsPlaced x) (sound : IsConnSound x) (n epoch : ℕ) (env : NodeEnv)
+    (is : IsNodeEnv k x.c n epoch env) where
   abbrev ours : NodePart
   ours = x.part.nodes n
 
@@ -121,61 +114,64 @@ module _ (k : Setting) (x : Conn) (heads : List Seen) (quiet : IsQuiet x heads) 
       node-owes x heads quiet n (by_node (node_saying [])) q (owning (tale_at x)) (plain-turned x heads quiet (Node n) [] [] tt tt)
       (gone-sits x held n row found left past q put) (gone-grows x held n row found left past q put) tt
 
-  pub acknowledged-rule : (bytes : List ℕ) → SpellsMessage x.c epoch body.EndedAck bytes → Was x Front (Node n) bytes → Owed (node_acknowledged env ours)
-  acknowledged-rule bytes spells was =
-      let ended : HasEnded env.epoch x.part.front.row = subst (λ (e : ℕ). HasEnded e x.part.front.row) (sym is.epoch_is) (came-says x Front (Node n) epoch body.EndedAck bytes held.letters was spells) in
-      go (awaits_ack env.epoch ours.row) refl ended where
-        go : (b : Bool) → awaits_ack env.epoch ours.row ≡ b → HasEnded env.epoch x.part.front.row
-            → Owed (cond b (Does (record ours { row = gone ours.row; kept = without kind.Ended 0 ours.kept }, node_saying [])) Drops)
-        go true e ended = acked ours.row refl ended e
-        go false e ended = node-drops x heads quiet held n
+  all-were : AreSent x (Node n) (ours.kept ++ ours.fetches)
+  all-were = sent-append x (Node n) ours.kept ours.fetches (sound.kept n) (sound.fetches n)
 
--- ---- timers
+  again-machines : Each (λ m. IsMachine m.0) (again_sent ours)
+  again-machines = resent-machines x (Node n) (ours.kept ++ ours.fetches) all-were
 
-sent-append : (x : Conn) (place : Place) (ks ls : List Kept) → AreSent x place ks → AreSent x place ls → AreSent x place (ks ++ ls)
-sent-append x place [] ls h k = k
-sent-append x place (q ∷ ks) ls h k = (h.0, sent-append x place ks ls h.1 k)
+  again-tells : Each (Tells x.part (Node n)) (again_sent ours)
+  again-tells = resent-tells x (Node n) (ours.kept ++ ours.fetches) held.letters all-were
 
-module _ (k : Setting) (x : Conn) (heads : List Seen) (quiet : IsQuiet x heads) (held : IsPlaced x) (sound : IsConnSound x) (n : ℕ) (env : NodeEnv) (is : IsNodeEnv k x.c n (epoch_in (x.part.nodes n)) env) where
-  abbrev mine : NodePart
-  mine = x.part.nodes n
-
-  abbrev Fires : NodeDeed → Type 0
-  Fires d = Owes x (node_does x n heads d)
-
-  all-were : AreSent x (Node n) (mine.kept ++ mine.fetches)
-  all-were = sent-append x (Node n) mine.kept mine.fetches (sound.kept n) (sound.fetches n)
-
-  again-machines : Each (λ m. IsMachine m.0) (again_sent mine)
-  again-machines = resent-machines x (Node n) (mine.kept ++ mine.fetches) all-were
-
-  again-tells : Each (Tells x.part (Node n)) (again_sent mine)
-  again-tells = resent-tells x (Node n) (mine.kept ++ mine.fetches) held.letters all-were
-
-  here-fires : (b : ControlBlock) (s : Stay) → HasIt x held n env.epoch → Fires (Does (node_fired env mine (b, s) (spoken env.serve (serving (after_timer b) s.served []) (serving_ready_of env.serve (after_timer b) (timed b)))))
+  here-fires : (b : ControlBlock) (s : Stay) → HasIt x held n env.epoch
+      → Owed (Does (node_fired env ours (b, s) (spoken env.serve (serving (after_timer b) s.served []) (serving_ready_of env.serve (after_timer b) (timed b)))))
   here-fires b s has =
-      turn-owes k x heads quiet held n (epoch_in mine) env is has mine (again_sent mine) (work_of (after_timer b) s) (spoken env.serve (serving (after_timer b) s.served []) (serving_ready_of env.serve (after_timer b) (timed b)))
+      turn-owes k x heads quiet held n epoch env is has ours (again_sent ours) (work_of (after_timer b) s)
+      (spoken env.serve (serving (after_timer b) s.served []) (serving_ready_of env.serve (after_timer b) (timed b)))
       tt (spoken-to env.serve (serving (after_timer b) s.served []) (serving_ready_of env.serve (after_timer b) (timed b)) (ready-to env.serve (after_timer b) (timed b))) again-machines
-      (λ q st row. Each-weaker (Tells x.part (Node n)) (Tells (with_node x.part n q) (Node n)) (λ m. may_say-grows x.part (with_node x.part n q) (Node n) m.0 _ (grown-to q st row)) (again_sent mine) again-tells) where
+      (λ q st row. Each-weaker (Tells x.part (Node n)) (Tells (with_node x.part n q) (Node n))
+      (λ m. may_say-grows x.part (with_node x.part n q) (Node n) m.0 _ (grown-to q st row)) (again_sent ours) again-tells) where
         grown-to : (q : NodePart) (st : BackConn) → q.row ≡ Some (record { stage = st; epoch = record { 0 = env.epoch } }) → Grows x.part (with_node x.part n q)
         grown-to q st row = record {
-          nodes = put-each x.part.nodes n q (λ m r. BackGrows (x.part.nodes m).row r.row) (subst (BackGrows mine.row) (sym row) (has.can.grows st)) (λ m other. back-still (x.part.nodes m).row);
+          nodes = put-each x.part.nodes n q (λ m r. BackGrows (x.part.nodes m).row r.row) (subst (BackGrows ours.row) (sym row) (has.can.grows st))
+              (λ m other. back-still (x.part.nodes m).row);
           front = front-still (with_node x.part n q).nodes x.part.front.row;
         }
 
-  held-row : (o : Option BackRow) → mine.row ≡ o → (b : ControlBlock) → back_endpoint o ≡ Some b → HasIt x held n env.epoch
-  held-row None found b h = let no : ◌≡◌ {A = Option ControlBlock} None (Some b) = h in absurd cc
-  held-row (Some row) found b h = subst (HasIt x held n) (sym (is.epoch_is ∙ ap (λ (o : Option BackRow). epoch_in (record mine { row = o })) found)) (has-at x held n row b found (in-stage row.stage h) x.part.front.row refl) where
-    in-stage : (st : BackConn) → back_held st ≡ Some b → st ≡ back.Here b
-    in-stage (back.Here c) h = let same : c ≡ b = cc in ap back.Here same
-    in-stage back.Out h = let no : ◌≡◌ {A = Option ControlBlock} None (Some b) = h in absurd cc
-    in-stage back.Ended h = let no : ◌≡◌ {A = Option ControlBlock} None (Some b) = h in absurd cc
-    in-stage back.Gone h = let no : ◌≡◌ {A = Option ControlBlock} None (Some b) = h in absurd cc
+  -- what a packet that came says of the connection
+  abbrev Says : NodeGets → Type 0
+  Says (Offered parts) = IsSaid k x heads quiet held n epoch env is
+  Says Acknowledged = HasEnded env.epoch x.part.front.row
+  Says _ = Unit {0}
 
-  fires-by : (o : Option ControlBlock) → back_endpoint mine.row ≡ o → (t : Option Stay) → Fires (node_fired_by env mine (both_of o t))
-  fires-by None e t = node-says x heads quiet held n (again_sent mine) again-machines again-tells
-  fires-by (Some b) e None = node-says x heads quiet held n (again_sent mine) again-machines again-tells
-  fires-by (Some b) e (Some s) = here-fires b s (held-row mine.row refl b e)
+  says : (g : NodeGets) → NodeComes x n epoch heads g → Says g
+  says (Offered parts) comes =
+      subst (λ (e : ℕ). IsDecided e ours.row ⊎ IsOffered n e x.part.front.row) (sym is.epoch_is)
+      (came-says x Front (Node n) epoch (body.Offer parts) comes.bytes held.letters comes.was comes.spells)
+  says Acknowledged comes = subst (λ (e : ℕ). HasEnded e x.part.front.row) (sym is.epoch_is)
+      (came-says x Front (Node n) epoch body.EndedAck comes.bytes held.letters comes.was comes.spells)
+  says _ comes = tt
 
-  pub timer-rule : Fires (node_timer env mine)
-  timer-rule = fires-by (back_endpoint mine.row) refl mine.stay
+  goes : (b : ControlBlock) (s : Stay) → IsHereWith env.epoch ours b s → (part : NodePart) (work : Work) → Each IsPlain work.service.notes
+      → Owed (with_work env part [] (goes_on env work))
+  goes b s at = goes-owe k x heads quiet held n epoch env is (has-here x held n env.epoch b s at)
+
+  rules_owe : KeptByNode env ours Says Owed
+  rules_owe = record {
+    drops = dropped k x heads quiet held n epoch env is;
+    hears = λ said b s m at. goes b s at ours (work_of (on_segment b said).1 s) tt;
+    tags = λ number tags b s m at asked same count. goes b s at (record ours { kept = without kind.Ask 0 ours.kept }) (tagged env tags (work_of b s))
+        (tagged-notes (Each IsPlain) plain-more env tags (work_of b s) tt);
+    comes = λ from r b s m at wanted. goes b s at (record ours { fetches = without kind.Fetch r ours.fetches })
+        (came_for (come_progress from) r (work_of b s)) (came-notes (Each IsPlain) plain-more (come_progress from) r (work_of b s) tt);
+    reads = λ r path b s m at. goes b s at ours (came_for read_progress r (work_of b s))
+        (came-notes (Each IsPlain) plain-more read_progress r (work_of b s) tt);
+    begins = λ parts m new. begins-owe k x heads quiet held n epoch env is parts m new;
+    takes_again = λ parts m again. again-owe k x heads quiet held n epoch env is again;
+    fires = λ b s m at. here-fires b s (has-here x held n env.epoch b s at);
+    resends = λ m none. node-says x heads quiet held n (again_sent ours) again-machines again-tells;
+    ends = λ ended told. acked ours.row refl ended told;
+  }
+
+  pub rule-owes : (g : NodeGets) → IsInItsEpoch env ours g → NodeComes x n epoch heads g → Owed (node_rule env ours g)
+  rule-owes g at comes = node-keeps env ours Says Owed rules_owe g at (says g comes)

@@ -1,18 +1,13 @@
 -- What the records of a turn do to who owns a connection: the law of owners and senders, of one connection's own records.
-use Rattle.std.proofs.Common.{◌≡◌, ℕ, ◌<◌, List, [], ◌∷◌, ◌++◌, map, Bool, true, false, cond, Some, None, is_some, refl, sym, ap, ◌∙◌, subst, nat_eq}
+use Rattle.std.proofs.Common.{◌≡◌, ℕ, ◌<◌, List, [], ◌∷◌, ◌++◌, map, true, cond, Some, None, is_some, refl, sym, ap, ◌∙◌, subst, nat_eq}
+use Rattle.std.proofs.lemmas.Bool.{cond_both}
 use Rattle.std.specs.List.{fold}
-use Rattle.lard_base.specs.declared.place.Place.{Place}
-use Rattle.lard_base.specs.declared.place.Place.TheVariants.{Client, Front, Node}
-use Rattle.lard_base.specs.declared.place.TimerKind.{TimerKind}
+use Rattle.lard_law_view.specs.Prelude.{Client, Front, IsMachine, Node, Place, Rec, Tale, named_records, tale_step, told_on, whose}
 use Rattle.lard_law_connections.specs.Places.{Owning, owning}
-use Rattle.lard_law_view.specs.View.{IsMachine, named_records, sending}
-use Rattle.lard_history.specs.Journal.{Tale, tale_step, told_on}
-use Rattle.lard_history.specs.Own.{whose}
+use Rattle.lard_law_view.specs.View.{sending}
 use Rattle.lard_history.proofs.Each.{Each}
 use Rattle.lard_history.proofs.Seeing.{same_number}
-use Rattle.lard_journal.specs.declared.rec.Rec.{Rec}
 use Rattle.lard_journal.specs.declared.rec.Rec.TheVariants as rec
-use Rattle.lard_rules.specs.Outs.{kind_change}
 use Rattle.lard_law_view.specs.WhileUntouched.{TellsBy}
 use Rattle.lard_law_view.proofs.EndpointSends.{AllTo}
 
@@ -98,12 +93,13 @@ pub plain-owns : (c : ℕ) (w : Owning) (rs : List Rec) → Each IsPlain rs → 
 plain-owns c w [] h = tt
 plain-owns c w (r ∷ rs) h = (plain-may c w r h.0, plain-owns c (after w r) rs h.1)
 
+-- of the notes that name a connection all is so that is so of all
+pub each-named : (P : Rec → Type 0) (rs : List Rec) → Each P rs → Each P (named_records rs)
+each-named P [] h = tt
+each-named P (r ∷ rs) h = cond_both (is_some (whose r)) (r ∷ named_records rs) (named_records rs) (Each P) (λ t. (h.0, each-named P rs h.1)) (λ t. each-named P rs h.1)
+
 pub plain-named : (rs : List Rec) → Each IsPlain rs → Each IsPlain (named_records rs)
-plain-named [] h = tt
-plain-named (r ∷ rs) h = go (is_some (whose r)) (plain-named rs h.1) where
-  go : (b : Bool) → Each IsPlain (named_records rs) → Each IsPlain (cond b (r ∷ named_records rs) (named_records rs))
-  go true later = (h.0, later)
-  go false later = later
+plain-named rs h = each-named IsPlain rs h
 
 -- ---- what is sent
 
@@ -138,11 +134,3 @@ owner-owns c w place (s ∷ ss) at mine to =
       one Front at mine = (refl, mine)
       one (Node n) at mine = (refl, mine)
       one (Client d) at mine = absurd at
-
--- ---- timers
-
-pub change-owns : (c : ℕ) (w : Owning) (p : Place) (d : ℕ) (kind : TimerKind) (was is : Bool) → Each IsPlain (kind_change p d kind was is)
-change-owns c w p d kind false false = tt
-change-owns c w p d kind false true = (tt, tt)
-change-owns c w p d kind true false = (tt, tt)
-change-owns c w p d kind true true = tt

@@ -1,19 +1,14 @@
 -- The law of places in every run.
 use Rattle.std.proofs.Common.{ℕ, List, [], refl}
-use Rattle.lard_base.specs.declared.config.Config.{Config}
-use Rattle.lard_rules.specs.declared.machine.Machine.{Machine}
-use Rattle.lard_rules.specs.Machine.{IsReached}
+use Rattle.lard_law_view.specs.Prelude.{Config, Conn, EachMay, IsLaw, IsReached, Machine, MayOwn, MayRestOn, MaySend, OfEach, Setting, blank_conn, conn, grown, setting}
 use Rattle.lard_law_connections.specs.PlacesLaws.{EachConnectionSits, OwnersAreLawful, SendersAreLawful}
 use Rattle.lard_law_connections.proofs.PlacesLaw.{owing}
 use Rattle.lard_law_connections.proofs.PlacesRows.{MayStand}
 use Rattle.lard_law_connections.proofs.PlacesTelling.{IsLawful, lawful-local}
 use Rattle.lard_law_connections.proofs.PlacesTurns.{IsPlaced, Owes, owes-placed}
-use Rattle.lard_law_view.specs.Carry.{IsLaw, MayRestOn, OfEach, setting}
-use Rattle.lard_law_view.specs.View.{Conn, Setting, blank_conn, conn, grown}
 use Rattle.lard_law_view.proofs.Carried.{carried}
 use Rattle.lard_law_view.proofs.Guarded.{weaker, both}
 use Rattle.lard_law_view.proofs.InSteps.{carried-records}
-use Rattle.lard_history.specs.Laws.{EachMay, MayOwn, MaySend}
 use Rattle.lard_history.proofs.Each.{each_weaker}
 use Rattle.lard_law_view.proofs.RowLists.{MayBeSeen}
 use Rattle.lard_law_connections.proofs.PlacesEarly.{StaysEarly, stay-early}

@@ -1,15 +1,10 @@
 -- The laws of owners and senders look at the record's own connection alone.
 use Rattle.std.proofs.Common.{◌≡◌, ℕ, ◌<◌, List, Some, None, sym, subst}
-use Rattle.lard_base.specs.declared.place.Place.{Place}
-use Rattle.lard_base.specs.declared.place.Place.TheVariants.{Client, Front, Node}
+use Rattle.lard_law_view.specs.Prelude.{Client, Front, MayOwn, MaySend, Node, OwnerSends, Place, Rec, Tale, conn_of, last_epoch, owner, plain, tale, whose}
 use Rattle.lard_law_connections.specs.Places.{owning}
 use Rattle.lard_law_connections.proofs.PlacesRows.{MayStand, SendsOwn}
-use Rattle.lard_history.specs.Journal.{Tale, last_epoch, owner, tale}
-use Rattle.lard_history.specs.Laws.{MayOwn, MaySend, OwnerSends}
-use Rattle.lard_history.specs.Own.{conn_of, plain, whose}
 use Rattle.lard_history.proofs.Lifting.{IsLocal, tale-own}
 use Rattle.lard_history.proofs.Tales.{epoch-tale, owner-tale}
-use Rattle.lard_journal.specs.declared.rec.Rec.{Rec}
 use Rattle.lard_journal.specs.declared.rec.Rec.TheVariants as rec
 use Rattle.lard_law_view.proofs.RowLists.{MayBeSeen}
 

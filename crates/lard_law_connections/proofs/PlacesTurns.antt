@@ -1,31 +1,20 @@
 -- What a move owes: its records may stand, and behind them the connection sits where they say.
-use Rattle.std.proofs.Common.{◌≡◌, ◌⊎◌, ℕ, List, [], ◌∷◌, ◌++◌, map, flat_map, Some, None, ⊎_elim, sym, ap, ◌∙◌, subst, arith}
+use Rattle.std.proofs.Common.{◌≡◌, ◌⊎◌, ℕ, List, [], ◌∷◌, ◌++◌, map, Some, ⊎_elim, sym, ap, ◌∙◌, subst, arith}
 use Rattle.std.proofs.lemmas.List.Sums.{fold-append}
 use Rattle.std.specs.List.{fold}
-use Rattle.lard_base.specs.declared.place.Place.{Place}
-use Rattle.lard_base.specs.declared.place.Place.TheVariants.{Client, Front, Node}
-use Rattle.lard_base.specs.declared.place.TimerKind.{TimerKind}
+use Rattle.lard_law_view.specs.Prelude.{Client, Conn, EachRow, FrontConn, FrontRow, IsEarlyOver, IsMachine, Move, Part, Place, Rec, Row, Tale, TurnSaid, grown, letters_of, rows_of, seen_in, seen_step, tale_at, tale_step, timer_rows, told_on, untold}
 use Rattle.lard_base.specs.declared.place.TimerKind.TheVariants as kind
 use Rattle.lard_law_connections.specs.Places.{HasEarlyEpoch, IsRowEarly, IsStageEarly, LetterMay, Owning, Sits, SitsAt, owning}
 use Rattle.lard_law_connections.proofs.PlacesGrowing.{Grows, letters-grow}
-use Rattle.lard_law_connections.proofs.PlacesRows.{IsPlain, MayStand, OwnsBy, after_all, change-owns, machines-own, owner-owns, owns-append, owns-told, plain-after, plain-owns, sends-after}
-use Rattle.lard_law_view.specs.Carry.{tale_at}
-use Rattle.lard_law_view.specs.View.{Conn, IsMachine, Move, Part, TurnSaid, grown, letters_of, rows_of, seen_in, sending, station_armed, timer_rows}
-use Rattle.lard_handoff_front.specs.declared.row.FrontConn.{FrontConn}
+use Rattle.lard_law_connections.proofs.PlacesRows.{IsPlain, MayStand, OwnsBy, after_all, machines-own, owner-owns, owns-append, owns-told, plain-after, plain-owns, sends-after}
+use Rattle.lard_law_view.specs.View.{sending}
 use Rattle.lard_handoff_front.specs.declared.row.FrontConn.TheVariants as stage
-use Rattle.lard_handoff_front.specs.declared.row.FrontRow.{FrontRow}
-use Rattle.lard_rules.specs.Front.{front_armed}
-use Rattle.lard_rules.specs.FrontSound.{IsEarlyOver}
-use Rattle.lard_history.specs.Journal.{Tale, tale_step, told_on, untold}
-use Rattle.lard_history.specs.Own.{EachRow, Row, seen_step}
 use Rattle.lard_history.proofs.Each.{Each, Each-append}
 use Rattle.lard_history.proofs.Lifting.{each_row-append}
-use Rattle.lard_journal.specs.declared.rec.Rec.{Rec}
-use Rattle.lard_rules.specs.Node.{node_armed}
-use Rattle.lard_rules.specs.Outs.{kind_change, timer_kinds}
 use Rattle.lard_law_view.proofs.EndpointSends.{AllTo}
 use Rattle.lard_law_view.specs.WhileUntouched.{TellsBy}
 use Rattle.lard_law_view.proofs.RowLists.{MayBeSeen, each_row-told, seen-rows}
+use Rattle.lard_law_view.proofs.OfKinds.{of-timers}
 
 -- ---- the records of a turn
 
@@ -38,17 +27,8 @@ pub record Turned (c : ℕ) (place : Place) (w : Owning) (s : TurnSaid) (v : Own
   pub messages : Each (λ m. IsMachine m.0) s.messages
   pub then : after_all (after_all w s.notes) s.gave ≡ v
 
-flat-plain : (f : TimerKind → List Rec) → ((k : TimerKind) → Each IsPlain (f k)) → (ks : List TimerKind) → Each IsPlain (flat_map f ks)
-flat-plain f h [] = tt
-flat-plain f h (k ∷ ks) = Each-append IsPlain (f k) (flat_map f ks) (h k) (flat-plain f h ks)
-
 pub timers-plain : (place : Place) (c : ℕ) (p q : Part) → Each IsPlain (timer_rows place c p q)
-unfolding timer_rows
-timers-plain (Client d) c p q = change-owns c (record { owner = None; epoch = 0 }) (Client d) c kind.Tcp (station_armed p.station) (station_armed q.station)
-timers-plain Front c p q = flat-plain (λ k. kind_change Front c k (front_armed p.front k) (front_armed q.front k))
-    (λ k. change-owns c (record { owner = None; epoch = 0 }) Front c k (front_armed p.front k) (front_armed q.front k)) timer_kinds
-timers-plain (Node n) c p q = flat-plain (λ k. kind_change (Node n) c k (node_armed (p.nodes n) k) (node_armed (q.nodes n) k))
-    (λ k. change-owns c (record { owner = None; epoch = 0 }) (Node n) c k (node_armed (p.nodes n) k) (node_armed (q.nodes n) k)) timer_kinds
+timers-plain = of-timers IsPlain (λ p d kind. (tt, tt))
 
 segments-own : (c : ℕ) (place : Place) (w : Owning) (ss : List (Place × List ℕ)) → (AllTo (Client c) ss × (w.owner ≡ Some place) × IsMachine place) ⊎ (ss ≡ [])
     → OwnsBy c w (map (sending place) ss)

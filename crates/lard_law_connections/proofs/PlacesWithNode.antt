@@ -2,14 +2,9 @@
 use Rattle.std.proofs.Common.{◌≡◌, ◌⊎◌, ◌==◌, ℕ, Bool, true, false, Option, Some, None, refl, sym, ◌∙◌, subst, eqb-true, eq-eqb, inl, inr, ⊎_elim}
 use Rattle.lard_law_connections.specs.Places.{IsComing, IsEven, IsOffered, IsPast, IsThere, Offers, Owning, Sits, StageSits, owning}
 use Rattle.lard_law_connections.proofs.PlacesTurns.{IsPlaced, early-at}
-use Rattle.lard_law_view.specs.Carry.{tale_at}
-use Rattle.lard_law_view.specs.View.{Conn}
-use Rattle.lard_endpoint.specs.Control.{ControlBlock}
+use Rattle.lard_law_view.specs.Prelude.{Conn, ControlBlock, FrontConn, FrontRow, IsEarlyAway, tale_at}
 use Rattle.lard_handoff_back.specs.declared.row.BackConn.TheVariants as back
-use Rattle.lard_handoff_front.specs.declared.row.FrontConn.{FrontConn}
 use Rattle.lard_handoff_front.specs.declared.row.FrontConn.TheVariants as stage
-use Rattle.lard_handoff_front.specs.declared.row.FrontRow.{FrontRow}
-use Rattle.lard_rules.specs.FrontSound.{IsEarlyAway}
 
 -- the front end has it with this node, in this epoch
 pub record IsWithNode (x : Conn) (n e : ℕ) : Type 0 where

@@ -1,23 +1,15 @@
 -- Records that say nothing of admission, loads and server sets, and what may stand behind what a ledger says.
-use Rattle.std.proofs.Common.{◌≡◌, ℕ, ◌+◌, List, [], ◌∷◌, ◌++◌, Option, Some, None, refl, sym, ap, ◌∙◌, subst}
+use Rattle.std.proofs.Common.{◌≡◌, List, [], ◌∷◌, ◌++◌, Option, Some, None, refl, sym, ap, ◌∙◌, subst}
 use Rattle.std.proofs.lemmas.List.Sums.{fold-append}
 use Rattle.std.specs.List.{fold}
-use Rattle.lard_base.specs.declared.config.Config.{Config}
-use Rattle.lard_base.specs.declared.event.Event.{Event}
-use Rattle.lard_base.specs.declared.event.Event.TheVariants as event
-use Rattle.lard_base.specs.declared.place.Place.{Place}
-use Rattle.lard_base.specs.declared.place.Place.TheVariants.{Front, Node, Client}
+use Rattle.lard_law_view.specs.Prelude.{Client, Config, EachMay, Front, Node, Rec}
+use Rattle.lard_law_connections.proofs.Calm.{Allows, AllowsNotes}
+use Rattle.lard_law_connections.proofs.Forms.{IsNoFront}
 use Rattle.lard_law_connections.specs.PolicyLaws.{ArePaired, AssignmentDue, MayAdmit, MayAssign, MayRelease, MayShare, last_record}
 use Rattle.lard_law_connections.specs.PolicyLaws.AssignmentDue.{First, Later, Nothing}
 use Rattle.lard_counts.specs.Ledger.{Ledger, blank_ledger, ledger, ledger_step}
-use Rattle.lard_law_view.proofs.Saying.{GaveAt, NotedAt}
-use Rattle.lard_law_view.proofs.Timers.{IsTimerAt}
-use Rattle.lard_history.specs.Laws.{EachMay}
 use Rattle.lard_history.proofs.Each.{Each}
-use Rattle.lard_journal.specs.declared.rec.Rec.{Rec}
 use Rattle.lard_journal.specs.declared.rec.Rec.TheVariants as rec
-use Rattle.lard_rules.specs.Sent.{sent_records}
-use Rattle.lard_law_view.proofs.OwnRecords.{behind}
 
 -- ---- both laws at once, over a ledger that goes on record by record
 
@@ -124,12 +116,21 @@ asides-paired (r ∷ rs) e = (aside r e.0).pair rs (asides-paired rs e.1)
 
 -- ---- which records are
 
--- what a client or a node notes
-abbrev pub IsNoFront : Place → Type 0
-IsNoFront Front = ⊥
-IsNoFront _ = Unit {0}
+-- what is no note, and what a client or a node notes
+pub allows-aside : Allows IsAside
+allows-aside = record {
+  event = λ i e. tt;
+  opened = λ c isn iss wnd mss. tt;
+  injected = λ c. tt;
+  got = λ k. tt;
+  lost = λ k. tt;
+  sent = λ k from to bytes. tt;
+  gave = λ place c epoch. tt;
+  armed = λ place c kind. tt;
+  cleared = λ place c kind. tt;
+}
 
-pub note-aside : (place : Place) (c : ℕ) (r : Rec) → IsNoFront place → NotedAt place c r → IsAside r
+pub note-aside : AllowsNotes IsNoFront IsAside
 note-aside Front c r k h = absurd k
 note-aside (Client e) c (rec.Wrote d bytes) k h = tt
 note-aside (Client e) c (rec.Accepted d bytes) k h = tt
@@ -142,25 +143,3 @@ note-aside (Node n) c (rec.Queued k o d r path) _ h = tt
 note-aside (Node n) c (rec.Read k o d r path) _ h = tt
 note-aside (Node n) c (rec.Hit k path) _ h = tt
 note-aside _ c _ k h = absurd h
-
-pub gave-aside : (place : Place) (c : ℕ) (r : Rec) → GaveAt place c r → IsAside r
-gave-aside Front c (rec.Gave Front d epoch) h = tt
-gave-aside (Node n) c (rec.Gave (Node k) d epoch) h = tt
-gave-aside _ c _ h = absurd h
-
-pub timer-aside : (place : Place) (c : ℕ) (r : Rec) → IsTimerAt place c r → IsAside r
-timer-aside place c (rec.Armed p d kind) h = tt
-timer-aside place c (rec.Cleared p d kind) h = tt
-timer-aside place c _ h = absurd h
-
-pub sents-aside : (k : ℕ) (place : Place) (ss : List (Place × List ℕ)) → Each IsAside (sent_records k place ss)
-sents-aside k place [] = tt
-sents-aside k place (s ∷ ss) = (tt, sents-aside (k + 1) place ss)
-
--- what stands directly behind an event
-pub behind-aside : (e : Event) → Each IsAside (behind e)
-behind-aside (event.Open c isn iss wnd mss) = (tt, tt)
-behind-aside (event.Deliver k) = (tt, tt)
-behind-aside (event.Lose k) = (tt, tt)
-behind-aside (event.Inject c bytes) = (tt, tt)
-behind-aside _ = tt

@@ -6,18 +6,11 @@ use Rattle.std.specs.FinMap as map
 use Rattle.std.specs.FinMap.{get-empty, len-empty}
 use Rattle.std.specs.List.{fold}
 use Rattle.std.specs.Ordering.{nat_cmp}
-use Rattle.lard_base.specs.Config.{config_check, room_of}
-use Rattle.lard_base.specs.declared.config.Config.{Config}
-use Rattle.lard_base.specs.declared.event.Event.{Event}
+use Rattle.lard_law_view.specs.Prelude.{Books, Config, EachMay, Event, Front, FrontState, HasRule, IsFrontSound, IsReached, IsViewed, Machine, Millis, Out, Rec, Standing, Waiting, clocked, config_check, front_gave, front_setting, front_step, machine_start, machine_step, machine_told, room_of, time_step}
 use Rattle.lard_base.specs.declared.event.Event.TheVariants as event
-use Rattle.lard_base.specs.declared.ids.Millis.{Millis}
-use Rattle.lard_base.specs.declared.place.Place.TheVariants.{Front}
-use Rattle.lard_rules.specs.declared.machine.Machine.{Machine}
-use Rattle.lard_rules.specs.Bounds.{HasRule}
-use Rattle.lard_rules.specs.Machine.{IsReached, clocked, front_gave, front_setting, machine_step, machine_start, machine_told}
-use Rattle.lard_law_connections.proofs.PolicyAsides.{EachAfter, EachFrom, IsAside, May, MayFollow, after-may, from-may, may-from, paired-append}
-use Rattle.lard_law_connections.proofs.PolicyCalm.{FrontActs, IsCalm, first-aside, first_rows, last-aside, last_rows, step-calm, told-journal}
-use Rattle.lard_law_connections.proofs.PolicyForms.{Clocks, FrontStays, FrontStep, step-form}
+use Rattle.lard_law_connections.proofs.PolicyAsides.{EachAfter, EachFrom, IsAside, May, MayFollow, after-may, allows-aside, from-may, may-from, note-aside, paired-append}
+use Rattle.lard_law_connections.proofs.Calm.{IsCalm, first-calm, first_rows, last-calm, last_rows, told-journal}
+use Rattle.lard_law_connections.proofs.Forms.{Clocks, FrontStays, FrontStep, front-calm, front-form}
 use Rattle.lard_law_connections.proofs.PolicyHomes.{stands-so}
 use Rattle.lard_law_connections.proofs.PolicyIns.{AreIn, length-others}
 use Rattle.lard_law_connections.proofs.PolicyLeading.{Leads, aside-leads, at, behind-asides, both-lead}
@@ -34,24 +27,13 @@ use Rattle.lard_law_connections.specs.PolicyLaws.{AdmitsByRoom, AdmitsFirst, Adm
 use Rattle.lard_law_connections.specs.PolicyLaws.AssignmentDue.{Nothing}
 use Rattle.lard_counts.specs.Ledger.{Ledger, ledger_admitted, blank_ledger, ledger, ledger_step}
 use Rattle.lard_law_connections.specs.PolicyLoads.{charges}
-use Rattle.lard_law_view.specs.View.{IsViewed}
 use Rattle.lard_dispatch.proofs.AllCalls.{some-node}
 use Rattle.lard_loads.proofs.Charged.{IsCharged}
 use Rattle.lard_law_view.proofs.Carried.{carried-keep, reached-viewed}
-use Rattle.lard_dispatch.specs.declared.line.Waiting.{Waiting}
-use Rattle.lard_dispatch.specs.Books.{Books}
-use Rattle.lard_rules.specs.declared.front.FrontState.{FrontState}
-use Rattle.lard_rules.specs.FrontPlace.{front_step}
-use Rattle.lard_rules.specs.FrontSound.{IsFrontSound}
 use Rattle.lard_rules.proofs.FrontStepping.{start-sound, step-stays}
-use Rattle.lard_history.specs.Journal.{time_step}
-use Rattle.lard_history.specs.Laws.{EachMay}
 use Rattle.lard_history.proofs.Each.{Each, Each-weaker, each_append, each_then, each_weaker}
-use Rattle.lard_journal.specs.declared.rec.Rec.{Rec}
 use Rattle.lard_journal.specs.declared.rec.Rec.TheVariants as rec
 use Rattle.lard_loads.specs.Tally as tally
-use Rattle.lard_loads.specs.Tally.{Standing}
-use Rattle.lard_rules.specs.declared.places.Out.{Out}
 use Rattle.lard_law_view.proofs.OwnRecords.{behind}
 
 abbrev pub Lawful : Config → List Rec → List Rec → Type 0
@@ -95,7 +77,7 @@ module _ (cfg : Config) (m : Machine) (counted : IsCounted cfg m) where
 
   -- ---- the front end stays
 
-  calm-counted : (n : Machine) → n.front ≡ m.front → n.now ≡ m.now → IsCalm m n → IsCounted cfg n
+  calm-counted : (n : Machine) → n.front ≡ m.front → n.now ≡ m.now → IsCalm IsAside m n → IsCounted cfg n
   calm-counted n same now calm =
       let leads : Leads cfg (time_in m) counted.ins m.front.dispatch.books calm.0 m.front.dispatch.books = aside-leads cfg (time_in m) counted.ins m.front.dispatch.books counted.in_ calm.0 calm.2 in record {
         config_is = ap (λ (f : FrontState). f.dispatch.config) same ∙ counted.config_is;
@@ -131,11 +113,11 @@ module _ (cfg : Config) (m : Machine) (counted : IsCounted cfg m) where
     noted = subst (λ (c : Config). Leads c (time_in m) counted.ins m.front.dispatch.books o.notes t.dispatch.books) counted.config_is tells.leads
 
     lasts : Each IsAside last
-    lasts = last-aside w Front o tells.gave tells.timers
+    lasts = last-calm IsAside allows-aside w Front o tells.gave tells.timers
 
     whole : LeadsBy (first ++ o.notes ++ last) t.dispatch.books
     whole =
-        let front : LeadsBy (first ++ o.notes) t.dispatch.books = behind-asides cfg (time_in m) counted.ins m.front.dispatch.books t.dispatch.books first o.notes counted.in_ (first-aside m e) noted in
+        let front : LeadsBy (first ++ o.notes) t.dispatch.books = behind-asides cfg (time_in m) counted.ins m.front.dispatch.books t.dispatch.books first o.notes counted.in_ (first-calm IsAside allows-aside m e) noted in
         both-lead cfg (time_in m) counted.ins m.front.dispatch.books t.dispatch.books t.dispatch.books (first ++ o.notes) last front (aside-leads cfg (time_in m) front.more t.dispatch.books front.in_ last lasts)
 
     moved-counted : IsCounted cfg (front_gave m e (behind e) (t, o))
@@ -152,7 +134,7 @@ module _ (cfg : Config) (m : Machine) (counted : IsCounted cfg m) where
           paired = subst (ArePaired Nothing) (sym J) (paired-append Nothing m.journal (first ++ o.notes ++ last) counted.paired whole.paired);
           follows = subst (Follows cfg []) (sym J) (on-follows (first ++ o.notes ++ last) t.dispatch.books whole);
           line = subst (λ (J : List Rec). IsSublist (who t.dispatch.books.line) (waiting J)) (sym J) (on-line (first ++ o.notes ++ last) t.dispatch.books.line
-              (between-leaves m.front.dispatch.books.line t.dispatch.books.line first o.notes last (asides-idle first (first-aside m e)) tells.waits (asides-idle last lasts)));
+              (between-leaves m.front.dispatch.books.line t.dispatch.books.line first o.notes last (asides-idle first (first-calm IsAside allows-aside m e)) tells.waits (asides-idle last lasts)));
         }
 
   -- ---- the time moves on
@@ -176,12 +158,9 @@ module _ (cfg : Config) (m : Machine) (counted : IsCounted cfg m) where
   -- ---- a step
 
   step-counted : (n : Machine) (e : Event) → IsViewed m → HasRule e → machine_step m e ≡ Ok n → IsCounted cfg n
-  step-counted n e view rule is = ⊎_elim stays (⊎_elim moves clocks) (step-form m e n is) where
+  step-counted n e view rule is = ⊎_elim stays (⊎_elim moves clocks) (front-form m n e is) where
     stays : FrontStays m e n → IsCounted cfg n
-    stays s = calm-counted n s.front s.now (⊎_elim
-        (λ (never : FrontActs m e → ⊥). ⊎_elim (λ (acts : FrontActs m e). absurd (never acts)) (λ (calm : IsCalm m n). calm) (step-calm m view e n rule is s.untimed))
-        (λ (calm : IsCalm m n). calm)
-        s.calm)
+    stays s = calm-counted n s.front s.now (front-calm IsAside allows-aside note-aside m view e n rule is s)
 
     moves : FrontStep m e n → IsCounted cfg n
     moves s =
@@ -190,7 +169,7 @@ module _ (cfg : Config) (m : Machine) (counted : IsCounted cfg m) where
         (step-stays (front_setting m) m.front s.comes counted.sound).sound)
 
     clocks : Clocks m e n → IsCounted cfg n
-    clocks c = subst (IsCounted cfg) (sym c.1) (clocked-counted c.0)
+    clocks c = subst (IsCounted cfg) (sym c.is) (clocked-counted c.ms)
 
   -- ---- in its order
 
@@ -207,7 +186,7 @@ module _ (cfg : Config) (m : Machine) (counted : IsCounted cfg m) where
   moved-ordered e t o tells =
       let w : Machine = record m { front = t } in
       let all : IsOrdered Line (first_rows m e ++ o.notes ++ last_rows w Front o) =
-      between-ordered Line (first_rows m e) o.notes (last_rows w Front o) (neither (first_rows m e) (first-aside m e)) tells.ordered (neither (last_rows w Front o) (last-aside w Front o tells.gave tells.timers)) in
+      between-ordered Line (first_rows m e) o.notes (last_rows w Front o) (neither (first_rows m e) (first-calm IsAside allows-aside m e)) tells.ordered (neither (last_rows w Front o) (last-calm IsAside allows-aside w Front o tells.gave tells.timers)) in
       (first_rows m e ++ o.notes ++ last_rows w Front o, told-journal w e Front o, all.first, all.passes)
 
   clocked-ordered : (ms : ℕ) → InOrder (clocked m ms)
@@ -217,15 +196,12 @@ module _ (cfg : Config) (m : Machine) (counted : IsCounted cfg m) where
       let all : IsOrdered Line rows = none-ordered Line rows (tt, (tt, tt)) in (rows, refl, all.first, all.passes)
 
   pub step-ordered : (n : Machine) (e : Event) → IsViewed m → HasRule e → machine_step m e ≡ Ok n → InOrder n
-  step-ordered n e view rule is = ⊎_elim stays (⊎_elim moves clocks) (step-form m e n is) where
-    by-calm : IsCalm m n → InOrder n
+  step-ordered n e view rule is = ⊎_elim stays (⊎_elim moves clocks) (front-form m n e is) where
+    by-calm : IsCalm IsAside m n → InOrder n
     by-calm calm = let all : IsOrdered Line calm.0 = none-ordered Line calm.0 (neither calm.0 calm.2) in (calm.0, calm.1, all.first, all.passes)
 
     stays : FrontStays m e n → InOrder n
-    stays s = by-calm (⊎_elim
-        (λ (never : FrontActs m e → ⊥). ⊎_elim (λ (acts : FrontActs m e). absurd (never acts)) (λ (calm : IsCalm m n). calm) (step-calm m view e n rule is s.untimed))
-        (λ (calm : IsCalm m n). calm)
-        s.calm)
+    stays s = by-calm (front-calm IsAside allows-aside note-aside m view e n rule is s)
 
     moves : FrontStep m e n → InOrder n
     moves s =
@@ -233,7 +209,7 @@ module _ (cfg : Config) (m : Machine) (counted : IsCounted cfg m) where
         subst InOrder (sym s.is) (moved-ordered e given.0 given.1 (step-tells (front_setting m) m.front counted.sound counted.lined counted.ins counted.in_ s.comes))
 
     clocks : Clocks m e n → InOrder n
-    clocks c = subst InOrder (sym c.1) (clocked-ordered c.0)
+    clocks c = subst InOrder (sym c.is) (clocked-ordered c.ms)
 
 -- ---- every state
 

@@ -1,8 +1,7 @@
 -- What the front end notes of a connection is what its dispatcher does.
 use Rattle.std.proofs.Common.{◌≡◌, ℕ, ◌+◌, ◌≤◌, ◌<◌, ◌==◌, Bool, true, false, cond, List, [], ◌∷◌, ◌++◌, Option, Some, None, Result, Ok, Err, refl, sym, ap, subst, ◌∙◌, arith, length}
 use Rattle.std.proofs.lemmas.Bool.{eq-eqb, eqb-false, eqb-true, ne_eqb}
-use Rattle.lard_base.specs.Config.{room_of}
-use Rattle.lard_base.specs.declared.ids.Millis.{Millis}
+use Rattle.lard_law_view.specs.Prelude.{Ask, ControlBlock, Did, DispatchStanding, Dispatcher, Ending, First, FirstChoice, FrontDeed, FrontEnv, FrontPart, FrontRest, FrontRow, FrontTurn, IsDispatcherSound, IsPartSound, IsRowSound, Later, Millis, Rec, Said, SegFault, Service, Turn, Waiting, admitted, admitted_with, after_calls, after_first, ask_of, assigned_notes, assigns, batch_over, choice_at, dispatch_standing, first_answer, front_asked, front_fired, front_gets, front_hears, front_rest, front_rests, front_taken, front_timer, holds, home, is_full, is_row_at, last_words, later_answer, leaves_by, line_waits, line_without, nowhere, over_note, placed, room_of, serving_settled, spoken, tombstone, turn_here, waits_on}
 use Rattle.lard_law_connections.proofs.PolicyAsides.{IsAside}
 use Rattle.lard_law_connections.proofs.PolicyIns.{AreIn}
 use Rattle.lard_law_connections.proofs.PolicyLeading.{Leads, admit-leads, aside-leads, behind-asides, later-leads, line-shared, wait-leads}
@@ -10,40 +9,17 @@ use Rattle.lard_law_connections.proofs.PolicyLines.{AreLined, lined-absent, line
 use Rattle.lard_law_connections.proofs.PolicyOrder.{IsNeither, IsOrdered, alone-ordered, aside-neither, assigned-neither, none-ordered, over-neither}
 use Rattle.lard_law_connections.proofs.PolicyReading.{reads-notes, settled-notes}
 use Rattle.lard_law_connections.proofs.PolicyWaiting.{IsIdle, Leaves, asides-idle, assigned-idle, idle-leaves, left-leaves, over-idle, waits-leaves}
-use Rattle.lard_dispatch.specs.declared.dispatch.Ask.{Ask}
-use Rattle.lard_dispatch.specs.declared.dispatch.First.{First}
 use Rattle.lard_dispatch.specs.declared.dispatch.First.TheVariants as first
-use Rattle.lard_dispatch.specs.declared.dispatch.Later.{Later}
-use Rattle.lard_dispatch.specs.declared.line.Waiting.{Waiting}
-use Rattle.lard_dispatch.specs.Books.{Dispatcher}
-use Rattle.lard_dispatch.specs.Calls.{admitted_with, after_first, batch_over, choice_at, first_answer, is_full, later_answer}
-use Rattle.lard_dispatch.specs.Laws.{after_calls}
 use Rattle.lard_dispatch.specs.Laws as call
-use Rattle.lard_dispatch.specs.Line.{line_waits, line_without}
-use Rattle.lard_dispatch.specs.Sound.{IsDispatcherSound}
 use Rattle.lard_dispatch.proofs.Soundness.{not-in}
-use Rattle.lard_rules.specs.declared.front.FrontRest.{FrontRest}
-use Rattle.lard_rules.specs.declared.front.FrontTurn.{FrontTurn}
-use Rattle.lard_rules.specs.Front.{FrontDeed, Drops, Says, Does, Did, FrontEnv, FrontPart, ask_of, assigned_notes, assigns, front_fired, front_asked, front_gets, front_hears, front_taken, front_timer, holds, is_row_at, leaves_by, over_note, placed, front_rest, front_rests, turn_here, waits_on}
-use Rattle.lard_rules.specs.FrontSound.{IsPartSound, IsRowSound, DispatchStanding, nowhere, dispatch_standing}
+use Rattle.lard_rules.specs.Front.{Drops, Says, Does}
 use Rattle.lard_rules.proofs.FrontDeeds.{IsOf, away-stands}
 use Rattle.lard_handoff_front.specs.declared.row.FrontConn.TheVariants as stage
-use Rattle.lard_handoff_front.specs.declared.row.FrontRow.{FrontRow}
 use Rattle.lard_history.proofs.Each.{Each, Each-append, Each-weaker}
 use Rattle.lard_history.proofs.Seeing.{by_number}
-use Rattle.lard_journal.specs.declared.rec.Rec.{Rec}
 use Rattle.lard_journal.specs.declared.rec.Rec.TheVariants as rec
-use Rattle.lard_loads.specs.Tally.{admitted, home}
-use Rattle.lard_policy.specs.declared.first.FirstChoice.{FirstChoice}
-use Rattle.lard_rules.specs.declared.places.Ending.{Ending}
 use Rattle.lard_rules.specs.declared.places.Ending.TheVariants.{Here, Over}
-use Rattle.lard_rules.specs.declared.places.Turn.{Turn}
-use Rattle.lard_rules.specs.Tombstone.{last_words, tombstone}
-use Rattle.lard_rules.specs.Serving.{Service, serving_settled, spoken}
-use Rattle.lard_segment.specs.declared.fault.SegFault.{SegFault}
-use Rattle.lard_segment.specs.Segment.{Said}
 use Rattle.lard_rules.proofs.FrontCases.{KeptBySegment, IsInStage, of-stage, begun_row, begun_service, heard_reading, heard_service, segment-keeps, timer-keeps, taken-keeps, asked-keeps}
-use Rattle.lard_endpoint.specs.Control.{ControlBlock}
 
 -- What is noted of connection c is what the dispatcher does, and who is in the line waits as it is told.
 pub record Tells (d : Dispatcher) (c : ℕ) (now : Millis) (ins : List ℕ) (p : FrontPart) (x : Did) : Type 0 where

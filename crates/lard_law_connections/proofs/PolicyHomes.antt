@@ -6,15 +6,12 @@ use Rattle.std.specs.FinMap as map
 use Rattle.std.specs.FinMap.{get-empty}
 use Rattle.std.specs.List.{filter, fold, list_any}
 use Rattle.std.specs.Ordering.{nat_cmp}
-use Rattle.lard_base.specs.declared.config.Config.{Config}
+use Rattle.lard_law_view.specs.Prelude.{Config, Rec, Standing, Tally, batch_ended, batch_ended_with, connected, home, home_of, home_step, in_step, released, shared, sharing}
 use Rattle.lard_counts.specs.Ledger.{Ledger, blank_ledger, is_in_ledger, ledger_step}
 use Rattle.lard_dispatch.proofs.Sharing.{home-ended, home-shared}
 use Rattle.lard_history.specs.Journal as told
-use Rattle.lard_history.specs.Journal.{home_step, in_step}
 use Rattle.lard_history.proofs.Seeing.{by_number, other_number, same_number}
-use Rattle.lard_journal.specs.declared.rec.Rec.{Rec}
 use Rattle.lard_journal.specs.declared.rec.Rec.TheVariants as rec
-use Rattle.lard_loads.specs.Tally.{Standing, Tally, batch_ended, connected, batch_ended_with, home, home_of, released, shared, sharing}
 use Rattle.lard_table.proofs.Map.{get_inserted, get_other, get_put_other, get_put_same}
 
 -- ---- who is in

@@ -6,7 +6,7 @@ use Rattle.std.specs.List.{filter, list_any}
 use Rattle.std.specs.Cmp.{nat_cmp_total}
 use Rattle.std.specs.Ordering.{nat_cmp}
 use Rattle.lard_history.proofs.Seeing.{by_number, other_number, same_number}
-use Rattle.lard_loads.specs.Tally.{Standing}
+use Rattle.lard_law_view.specs.Prelude.{Standing}
 use Rattle.lard_table.proofs.Map.{get_inserted, get_other, get_put_other, get_put_same, some_len}
 
 -- ---- a list of numbers

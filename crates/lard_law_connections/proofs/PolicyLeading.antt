@@ -4,30 +4,17 @@ use Rattle.std.proofs.lemmas.Bool.{cond_both, ltb-false}
 use Rattle.std.proofs.lemmas.List.Sums.{fold-append}
 use Rattle.std.specs.FinMap as map
 use Rattle.std.specs.List.{filter, fold}
-use Rattle.lard_base.specs.Config.{room_of}
-use Rattle.lard_base.specs.declared.config.Config.{Config}
-use Rattle.lard_base.specs.declared.ids.Epoch.{Epoch}
-use Rattle.lard_base.specs.declared.ids.Millis.{Millis}
-use Rattle.lard_base.specs.declared.place.Place.TheVariants.{Front}
+use Rattle.lard_law_view.specs.Prelude.{Ask, Books, Config, Epoch, Front, LaterChoice, Millis, Rec, Standing, Tally, Waiting, admitted, admitted_with, all_choices, all_shared, assigned_notes, batch_ended, batch_ended_with, batch_over, choice_at, home, home_of, later_choice_at, open_shares, over_note, put_or, released_from, room_of, shared, shared_with, shares_of, sharing}
 use Rattle.lard_law_connections.proofs.PolicyAsides.{EachAfter, EachFrom, IsAside, May, after-append, asides-after, asides-may, asides-paired, asides-same, from-append, paired-append}
 use Rattle.lard_law_connections.proofs.PolicyIns.{AreIn, in-less, in-more, in-not, in-same, in-there}
 use Rattle.lard_law_connections.specs.PolicyLaws.{ArePaired, IsBehind}
 use Rattle.lard_law_connections.specs.PolicyLaws.AssignmentDue.{Nothing}
 use Rattle.lard_counts.specs.Ledger.{Ledger, ledger_step}
-use Rattle.lard_costs.specs.declared.later.LaterChoice.{LaterChoice}
-use Rattle.lard_dispatch.specs.declared.dispatch.Ask.{Ask}
-use Rattle.lard_dispatch.specs.declared.line.Waiting.{Waiting}
-use Rattle.lard_dispatch.specs.Books.{Books}
-use Rattle.lard_dispatch.specs.Calls.{admitted_with, all_choices, all_shared, batch_over, choice_at, later_choice_at, released_from, shared_with}
 use Rattle.lard_dispatch.proofs.Sharing.{home-ended, home-shared, shares-ended, shares-shared}
-use Rattle.lard_rules.specs.Front.{assigned_notes, over_note}
 use Rattle.lard_history.proofs.Each.{Each}
-use Rattle.lard_journal.specs.declared.rec.Rec.{Rec}
 use Rattle.lard_journal.specs.declared.rec.Rec.TheVariants as rec
-use Rattle.lard_loads.specs.Tally.{Standing, Tally, admitted, batch_ended, batch_ended_with, home, home_of, open_shares, shared, shares_of, sharing}
 use Rattle.lard_loads.specs.declared.slot.Share.{Share}
 use Rattle.lard_table.proofs.Map.{put_got}
-use Rattle.lard_table.specs.Table.{put_or}
 
 -- the ledger that says what the books have
 abbrev pub at : Millis → List ℕ → Books → Ledger

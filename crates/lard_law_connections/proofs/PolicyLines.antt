@@ -2,11 +2,7 @@
 use Rattle.std.proofs.Common.{◌≡◌, ℕ, ◌==◌, ◌||◌, not, Bool, true, false, cond, List, [], ◌∷◌, ◌++◌, Option, Some, refl, ◌∙◌}
 use Rattle.std.proofs.lemmas.Bool.{eqb-false}
 use Rattle.std.specs.FinMap as table
-use Rattle.lard_dispatch.specs.declared.line.Waiting.{Waiting}
-use Rattle.lard_dispatch.specs.Line.{line_waits, line_without}
-use Rattle.lard_rules.specs.declared.front.FrontRest.{FrontRest}
-use Rattle.lard_rules.specs.declared.front.FrontState.{FrontState}
-use Rattle.lard_rules.specs.Front.{front_rest}
+use Rattle.lard_law_view.specs.Prelude.{FrontRest, FrontState, Waiting, front_rest, line_waits, line_without}
 use Rattle.lard_history.proofs.Each.{Each, Each-append}
 
 -- the path with which a connection waits, if it does

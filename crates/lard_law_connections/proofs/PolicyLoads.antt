@@ -2,7 +2,7 @@
 use Rattle.std.proofs.Common.{◌≡◌, ℕ, ◌≤◌, nat_lt, true, length, List, [], ◌∷◌, ◌++◌, is_some, Option, Some, None, refl, sym, ap, ◌∙◌, subst}
 use Rattle.std.specs.FinMap as map
 use Rattle.std.specs.List.{fold}
-use Rattle.lard_base.specs.declared.config.Config.{Config}
+use Rattle.lard_law_view.specs.Prelude.{BatchOver, Charge, Config, Connect, LoadCall, MayCallAll, Rec, Release, Standing, Tally, charges_from, shares_of, tally_after, tally_after_all, tally_start}
 use Rattle.lard_law_connections.proofs.PolicyAsides.{EachFrom, May}
 use Rattle.lard_law_connections.proofs.PolicyNumbers.{IsNumbered}
 use Rattle.lard_law_connections.proofs.PolicyStanding.{HasNodes, first-within, later-within, one-has}
@@ -10,11 +10,9 @@ use Rattle.lard_counts.specs.Ledger.{Ledger, blank_ledger, ledger_step}
 use Rattle.lard_law_connections.specs.PolicyLoads.{charge_step, charges}
 use Rattle.lard_dispatch.proofs.Soundness.{is-in, not-in}
 use Rattle.lard_history.proofs.Each.{Each}
-use Rattle.lard_journal.specs.declared.rec.Rec.{Rec}
 use Rattle.lard_journal.specs.declared.rec.Rec.TheVariants as rec
-use Rattle.lard_loads.specs.Charges.{BatchOver, LoadCall, Charge, Connect, MayCallAll, Release, Share, tally_after, tally_after_all, charges_from}
+use Rattle.lard_loads.specs.Charges.{Share}
 use Rattle.lard_loads.specs.Charges as loads
-use Rattle.lard_loads.specs.Tally.{Standing, Tally, shares_of, tally_start}
 use Rattle.lard_loads.proofs.Charged.{IsCharged, all_charged}
 
 -- ---- the calls of the loads that records tell

@@ -1,23 +1,14 @@
 -- Each record of admission and of assignments is of a connection's number.
 use Rattle.std.proofs.Common.{◌≡◌, ℕ, ◌+◌, List, [], ◌∷◌, ◌++◌, Ok, refl, sym, ap, ◌∙◌, subst}
-use Rattle.lard_base.specs.declared.config.Config.{Config}
-use Rattle.lard_base.specs.declared.event.Event.{Event}
+use Rattle.lard_law_view.specs.Prelude.{Client, Config, Event, Front, HasRule, IsConnNumber, IsReached, IsViewed, Machine, Node, Out, Place, Rec, clocked, machine_step, machine_told, passed}
 use Rattle.lard_base.specs.declared.event.Event.TheVariants as event
-use Rattle.lard_base.specs.declared.place.Place.{Place}
-use Rattle.lard_base.specs.declared.place.Place.TheVariants.{Front, Node, Client}
-use Rattle.lard_rules.specs.declared.machine.Machine.{Machine}
-use Rattle.lard_rules.specs.Bounds.{HasRule, IsConnNumber}
-use Rattle.lard_rules.specs.Machine.{IsReached, clocked, machine_step, passed, machine_told}
-use Rattle.lard_law_connections.proofs.PolicyAsides.{IsAside, note-aside}
-use Rattle.lard_law_connections.proofs.PolicyCalm.{first-aside, first_rows, last-aside, last_rows, some-gifts-aside, some-timers-aside, told-journal}
-use Rattle.lard_law_view.specs.View.{IsViewed}
+use Rattle.lard_law_connections.proofs.PolicyAsides.{IsAside, allows-aside, note-aside}
+use Rattle.lard_law_connections.proofs.Calm.{first-calm, first_rows, gifts-calm, last-calm, last_rows, timers-calm, told-journal}
 use Rattle.lard_law_view.proofs.AnyShape.{AnyShape, IsAct, SomeNote, step-any}
 use Rattle.lard_law_view.proofs.Carried.{carried-keep}
 use Rattle.lard_law_view.proofs.Saying.{NotedAt}
 use Rattle.lard_history.proofs.Each.{Each, Each-append, Each-weaker}
-use Rattle.lard_journal.specs.declared.rec.Rec.{Rec}
 use Rattle.lard_journal.specs.declared.rec.Rec.TheVariants as rec
-use Rattle.lard_rules.specs.declared.places.Out.{Out}
 use Rattle.lard_law_view.proofs.OwnRecords.{behind}
 
 abbrev pub IsNumbered : Rec → Type 0
@@ -68,8 +59,9 @@ module _ (m : Machine) where
     first_rows w e ++ o.notes ++ last_rows w place o,
     told-journal w e place o ∙ ap (λ (J : List Rec). J ++ (first_rows w e ++ o.notes ++ last_rows w place o)) act.put.journal,
     Each-append IsNumbered (first_rows w e ++ o.notes) (last_rows w place o)
-        (Each-append IsNumbered (first_rows w e) o.notes (asides-numbered (first_rows w e) (first-aside w e)) (Each-weaker (SomeNote place) IsNumbered (λ r h. note-numbered place h.0 r h.1 h.2) o.notes act.notes))
-        (asides-numbered (last_rows w place o) (last-aside w place o (some-gifts-aside place o.gave act.gave) (some-timers-aside place o.timers act.timers))),
+        (Each-append IsNumbered (first_rows w e) o.notes (asides-numbered (first_rows w e) (first-calm IsAside allows-aside w e)) (Each-weaker (SomeNote place) IsNumbered (λ r h. note-numbered place h.0 r h.1 h.2) o.notes act.notes))
+        (asides-numbered (last_rows w place o) (last-calm IsAside allows-aside w place o (gifts-calm IsAside allows-aside place o.gave act.gave)
+        (timers-calm IsAside allows-aside place o.timers act.timers))),
   )
 
   any-add : AnyShape m (λ e n. Adds n)

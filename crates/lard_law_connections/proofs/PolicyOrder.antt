@@ -2,14 +2,9 @@
 use Rattle.std.proofs.Common.{ℕ, ◌+◌, Bool, true, false, List, [], ◌∷◌, ◌++◌}
 use Rattle.lard_law_connections.proofs.PolicyAsides.{IsAside}
 use Rattle.lard_law_connections.specs.PolicyLaws.{AdmitsFirst, PassesOn}
-use Rattle.lard_costs.specs.declared.later.LaterChoice.{LaterChoice}
-use Rattle.lard_dispatch.specs.declared.dispatch.Ask.{Ask}
-use Rattle.lard_dispatch.specs.declared.line.Waiting.{Waiting}
-use Rattle.lard_rules.specs.Front.{assigned_notes, over_note}
-use Rattle.lard_history.specs.Own.{Has}
+use Rattle.lard_law_view.specs.Prelude.{Ask, Has, LaterChoice, Rec, Waiting, assigned_notes, over_note}
 use Rattle.lard_history.proofs.Each.{Each, Each-append, Each-weaker}
 use Rattle.lard_history.proofs.Seeing.{has-before, has-behind}
-use Rattle.lard_journal.specs.declared.rec.Rec.{Rec}
 use Rattle.lard_journal.specs.declared.rec.Rec.TheVariants as rec
 
 -- it is neither an admission nor a release

@@ -1,34 +1,21 @@
 -- Reading and saying at the front end notes records aside alone.
-use Rattle.std.proofs.Common.{◌≡◌, ℕ, ◌+◌, nat_lt, List, [], ◌∷◌, length, Option, Some, None, refl, subst}
+use Rattle.std.proofs.Common.{◌≡◌, ℕ, ◌+◌, List, [], ◌∷◌, length, Option, Some, None, refl, subst}
 use Rattle.std.proofs.lemmas.Bool.{cond_both}
-use Rattle.lard_answers.specs.Answers.{answer, answer_code, good_path}
-use Rattle.lard_base.specs.declared.place.Via.{Via}
+use Rattle.lard_law_view.specs.Prelude.{Done, Found, More, Reading, ServeEnv, Service, Step, Verdict, Via, answer, answer_code, answered, block_at, cut_of, ended_at_fin, front_reads, good_path, may_freeze, may_read, reading_turn, reads_block, reads_found, serving_consumed, serving_settled, targeted}
 use Rattle.lard_base.specs.declared.place.Via.TheVariants.{Own}
-use Rattle.lard_block.specs.declared.block.Found.{Found}
 use Rattle.lard_block.specs.declared.block.Found.TheVariants as found
-use Rattle.lard_block.specs.Blocks.{cut_of}
 use Rattle.lard_law_connections.proofs.PolicyAsides.{IsAside}
-use Rattle.lard_endpoint.specs.Control.{finishing}
-use Rattle.lard_endpoint.specs.Moving.{may_freeze}
-use Rattle.lard_rules.specs.FrontReading.{Reading, block_at, front_reads, reads_block, reads_found, targeted, reading_turn}
 use Rattle.lard_rules.specs.FrontReading as front
 use Rattle.lard_history.proofs.Each.{Each, Each-append}
 use Rattle.lard_journal.specs.declared.rec.Rec.TheVariants as rec
 use Rattle.lard_request.specs.declared.verdict.Code.TheVariants as code
-use Rattle.lard_request.specs.declared.verdict.Verdict.{Verdict}
 use Rattle.lard_request.specs.declared.verdict.Verdict.TheVariants.{Fault}
-use Rattle.lard_rules.specs.declared.places.Ending.{Ending}
-use Rattle.lard_rules.specs.declared.places.Turn.{Turn}
-use Rattle.lard_rules.specs.Loop.{Step, More, Done}
-use Rattle.lard_rules.specs.Serving.{ServeEnv, Service, answered, serving_consumed, cut_off, ended_at_fin, may_read, passed_over, queued, serving_settled, spoken}
 use Rattle.lard_rules.proofs.Runs.{runs_keep}
+use Rattle.lard_rules.proofs.Endings.{answered-keeps, at-fin-keeps, settled-keeps}
 
 -- what was in hand is said, with the notes that it had
 pub settled-notes : (env : ServeEnv) (w : Service) → (serving_settled env w).1.notes ≡ w.notes
-settled-notes env w = go w.over where
-  go : (o : Option ℕ) → (elim o as (λ p. Ending × Turn) [ None ↦ spoken env w [] | Some total ↦ cut_off env w ]).1.notes ≡ w.notes
-  go None = refl
-  go (Some total) = refl
+settled-notes env w = settled-keeps (λ given. given.1.notes ≡ w.notes) env w (λ e. refl) (λ total e. refl)
 
 -- all notes are aside
 abbrev pub Notes : Service → Type 0
@@ -38,12 +25,12 @@ answered-notes : (env : ServeEnv) (via : Via) (v : Verdict) (w : Service) → No
 answered-notes env via v w h =
     let bytes : List ℕ = answer env.files v in
     let total : ℕ = w.block.send.total + length bytes in
-    cond_both (nat_lt env.stream total) (passed_over env total w) (queued env via v bytes w) Notes
+    answered-keeps Notes env via v w
     (λ t. Each-append IsAside w.notes (rec.Reset env.place env.c total ∷ []) h (tt, tt))
     (λ t. Each-append IsAside w.notes (rec.Served env.place env.c (w.count + 1) (answer_code env.files v) (length bytes) via ∷ []) h (tt, tt))
 
 ended-notes : (w : Service) → Notes w → Notes (ended_at_fin w)
-ended-notes w h = cond_both w.block.recv.fin (record w { block = finishing w.block }) w Notes (λ t. h) (λ t. h)
+ended-notes w h = at-fin-keeps Notes w (λ t. h) (λ t. h)
 
 abbrev ReadsSo : Step Reading → Type 0
 ReadsSo (More y) = Notes y.service

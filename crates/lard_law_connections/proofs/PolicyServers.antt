@@ -3,22 +3,13 @@ use Rattle.std.proofs.Common.{◌≡◌, ℕ, ◌≤◌, ◌&&◌, ◌||◌, nat
 use Rattle.std.proofs.lemmas.Slice.Eq.{bytes_eq-Decides}
 use Rattle.std.specs.List.{fold}
 use Rattle.std.specs.Str.{bytes_eq}
-use Rattle.lard_base.specs.declared.config.Config.{Config}
-use Rattle.lard_base.specs.declared.ids.Millis.{Millis}
-use Rattle.lard_base.specs.Members.{has}
+use Rattle.lard_law_view.specs.Prelude.{Add, Close, Config, IsNode, Millis, NameNodes, Rec, Remove, RemoveKept, ServerSet, SetCall, Touch, added, changed, changed_after, has, has_place, joined, place, put, reduced, removed, serves_after, serves_after_all, set_of, sets_after_call, sets_after_calls, touched}
 use Rattle.lard_law_connections.proofs.PolicyAsides.{EachFrom, May}
 use Rattle.lard_law_connections.proofs.PolicyStanding.{HasNodes, first-within, later-within, one-has}
 use Rattle.lard_counts.specs.Ledger.{Ledger, blank_ledger, ledger_step, server_set}
 use Rattle.lard_law_connections.specs.PolicyServers.{Dated, dated, dated_step, last_mod, serves_step, taken_in, taken_out}
 use Rattle.lard_law_connections.specs.PolicyServers as told
-use Rattle.lard_dispatch.specs.Calls.{joined, reduced}
-use Rattle.lard_dispatch.specs.Sound.{IsNode}
-use Rattle.lard_journal.specs.declared.rec.Rec.{Rec}
 use Rattle.lard_journal.specs.declared.rec.Rec.TheVariants as rec
-use Rattle.lard_sets.specs.declared.sets.ServerSet.{ServerSet}
-use Rattle.lard_sets.specs.Laws.{SetCall, NameNodes, RemoveKept, sets_after_call, sets_after_calls, changed, changed_after, serves_after_all, serves_after}
-use Rattle.lard_sets.specs.Laws.SetCall.{Touch, Add, Remove, Close}
-use Rattle.lard_sets.specs.Sets.{added, has_place, place, put, removed, set_of, touched}
 use Rattle.lard_sets.proofs.Changes.{last_change, last_decides, place-put}
 
 abbrev Sets : Type 0

@@ -3,15 +3,9 @@ use Rattle.std.proofs.Common.{◌≡◌, ℕ, zero, suc, ◌≤◌, ◌<◌, nat
 use Rattle.std.proofs.lemmas.Bool.{cond_both}
 use Rattle.std.specs.FinMap as map
 use Rattle.std.specs.List.{AllByRecursion, fold, range_with_len}
-use Rattle.lard_base.specs.Config.{config_check}
-use Rattle.lard_base.specs.declared.config.Config.{Config}
+use Rattle.lard_law_view.specs.Prelude.{AreAtNodes, AreServedByNodes, Config, FirstChoice, IsDispatcherSound, IsNode, LaterChoice, Rec, Standing, Tally, batch_ended, batch_ended_with, config_check, dispatch_begun, first_choice, home, joined, later_choice, numbers, shared, sharing, touched}
 use Rattle.lard_law_connections.proofs.PolicyAsides.{EachFrom, May}
 use Rattle.lard_counts.specs.Ledger.{Ledger, blank_ledger, ledger_step, server_set}
-use Rattle.lard_costs.specs.declared.later.LaterChoice.{LaterChoice}
-use Rattle.lard_costs.specs.Later.{later_choice}
-use Rattle.lard_dispatch.specs.Books.{dispatch_begun}
-use Rattle.lard_dispatch.specs.Calls.{joined}
-use Rattle.lard_dispatch.specs.Sound.{AreAtNodes, AreServedByNodes, IsNode, IsDispatcherSound}
 use Rattle.lard_dispatch.proofs.AllCalls.{some-node}
 use Rattle.lard_dispatch.proofs.Chosen.{IsChosen, all-numbers, choice-within}
 use Rattle.lard_dispatch.proofs.Counted.{later-has}
@@ -19,12 +13,7 @@ use Rattle.lard_dispatch.proofs.Servers.{served-joined, served-reduced, served-t
 use Rattle.lard_dispatch.proofs.Sharing.{add-home}
 use Rattle.lard_dispatch.proofs.Soundness.{begun-sound, home-node}
 use Rattle.lard_dispatch.proofs.Standing.{at-nodes-put}
-use Rattle.lard_journal.specs.declared.rec.Rec.{Rec}
 use Rattle.lard_journal.specs.declared.rec.Rec.TheVariants as rec
-use Rattle.lard_loads.specs.Tally.{Standing, Tally, batch_ended, batch_ended_with, home, numbers, shared, sharing}
-use Rattle.lard_policy.specs.declared.first.FirstChoice.{FirstChoice}
-use Rattle.lard_policy.specs.First.{first_choice}
-use Rattle.lard_sets.specs.Sets.{touched}
 
 pub record HasNodes (cfg : Config) (l : Ledger) : Type 0 where
   pub nodes : l.loads.nodes ≡ cfg.nodes

@@ -5,9 +5,8 @@ use Rattle.std.specs.FinMap as map
 use Rattle.std.specs.FinMap.{FinMap}
 use Rattle.std.specs.List.{flat_map}
 use Rattle.std.specs.Ordering.{nat_cmp}
-use Rattle.lard_base.specs.Config.{room_of}
+use Rattle.lard_law_view.specs.Prelude.{AreApart, Body, Books, Did, DispatchStanding, Dispatcher, Final, FirstChoice, FrontDeed, FrontEnv, FrontIn, FrontPart, FrontRow, FrontSetting, FrontState, FrontTurn, IsFrontSound, IsOfTable, Message, MsgFault, OnEnded, Out, Rec, TimerKind, ToCluster, Waiting, Waits, admits, admits_too, admitted, ask_of, decoded, decoded_message, dispatch_standing, end_answer, ended_deed, front_armed, front_asked, front_deed, front_did, front_ended, front_ended_by, front_ends, front_env, front_gets, front_out_of, front_part, front_put, front_step, front_taken, front_timer, front_timers, front_told, handed_off, in_order, kind_change, line_waits, message_comes, next_admission, next_admitted, next_epoch, nothing_done, put_back, released_from, room_of, serving, timer_kinds}
 use Rattle.lard_base.specs.declared.place.Place.TheVariants as place
-use Rattle.lard_base.specs.declared.place.TimerKind.{TimerKind}
 use Rattle.lard_law_connections.proofs.PolicyAsides.{IsAside}
 use Rattle.lard_law_connections.proofs.PolicyFronts.{DeedTells, IsMute, Tells, asked-tells, gets-tells, taken-tells, timer-tells}
 use Rattle.lard_law_connections.proofs.PolicyIns.{AreIn}
@@ -16,44 +15,17 @@ use Rattle.lard_law_connections.proofs.PolicyLines.{AreLined, lined-absent, targ
 use Rattle.lard_law_connections.proofs.PolicyMessages.{IsTold, message-told}
 use Rattle.lard_law_connections.proofs.PolicyOrder.{IsOrdered, alone-ordered, none-ordered}
 use Rattle.lard_law_connections.proofs.PolicyWaiting.{Leaves, head-within, idle-leaves}
-use Rattle.lard_dispatch.specs.declared.line.Waiting.{Waiting}
-use Rattle.lard_dispatch.specs.Books.{Books, Dispatcher}
-use Rattle.lard_dispatch.specs.Calls.{next_admitted, next_admission, released_from}
-use Rattle.lard_dispatch.specs.Line.{line_waits}
-use Rattle.lard_dispatch.specs.Sound.{AreApart}
 use Rattle.lard_dispatch.proofs.AllCalls.{configs-stay}
 use Rattle.lard_dispatch.proofs.Soundness.{free-first, is-in}
-use Rattle.lard_endpoint.specs.declared.control.moving.Final.{Final}
-use Rattle.lard_rules.specs.declared.front.FrontState.{FrontState}
-use Rattle.lard_rules.specs.declared.front.FrontTurn.{FrontTurn}
-use Rattle.lard_rules.specs.Front.{FrontDeed, Drops, Says, Does, Did, FrontEnv, FrontPart, ask_of, front_ended_by, front_ends, front_armed, front_asked, front_ended, front_gets, front_taken, front_timer, handed_off}
-use Rattle.lard_rules.specs.FrontPlace.{FrontSetting, admits, admits_too, ended_deed, front_deed, front_did, front_env, front_part, front_put, front_step, front_told, in_order, message_comes, front_out_of, put_back, front_timers}
-use Rattle.lard_rules.specs.FrontSound.{IsFrontSound, DispatchStanding, Waits, dispatch_standing}
+use Rattle.lard_rules.specs.Front.{Drops, Says, Does}
 use Rattle.lard_rules.proofs.FrontDeeds.{IsOf}
 use Rattle.lard_rules.proofs.FrontEnded.{Comes, IsAdmitted, chosen, end-comes, head-apart, head-given, head-waiting, may-end}
-use Rattle.lard_handoff_front.specs.declared.row.FrontRow.{FrontRow}
-use Rattle.lard_handoff_front.specs.declared.table.OnEnded.{OnEnded}
 use Rattle.lard_handoff_front.specs.declared.table.OnEnded.TheVariants.{New, Again, Stale}
-use Rattle.lard_handoff_front.specs.Front.{end_answer, next_epoch}
 use Rattle.lard_history.proofs.Each.{Each, Each-append}
-use Rattle.lard_journal.specs.declared.rec.Rec.{Rec}
 use Rattle.lard_journal.specs.declared.rec.Rec.TheVariants as rec
 use Rattle.lard_loads.specs.Tally as tally
-use Rattle.lard_loads.specs.Tally.{admitted}
-use Rattle.lard_message.specs.declared.fault.MsgFault.{MsgFault}
-use Rattle.lard_message.specs.declared.message.Body.{Body}
 use Rattle.lard_message.specs.declared.message.Body.TheVariants as body
-use Rattle.lard_message.specs.declared.message.Message.{Message}
-use Rattle.lard_message.specs.Message.{IsOfTable}
-use Rattle.lard_message.specs.Reading.{decoded_message}
-use Rattle.lard_policy.specs.declared.first.FirstChoice.{FirstChoice}
-use Rattle.lard_rules.specs.declared.front.FrontIn.{FrontIn}
 use Rattle.lard_rules.specs.declared.front.FrontIn.TheVariants as input
-use Rattle.lard_rules.specs.declared.places.Out.{Out}
-use Rattle.lard_rules.specs.Outs.{kind_change, timer_kinds, nothing_done}
-use Rattle.lard_rules.specs.Serving.{serving}
-use Rattle.lard_segment.specs.declared.segment.Dir.TheVariants.{ToCluster}
-use Rattle.lard_segment.specs.Segment.{decoded}
 use Rattle.lard_table.proofs.Map.{get_put_other, get_put_same, shorter}
 
 -- ---- the records of timers

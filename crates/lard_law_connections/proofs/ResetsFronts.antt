@@ -1,42 +1,19 @@
 -- What the front end does keeps the law of RST.
-use Rattle.std.proofs.Common.{◌≡◌, ◌+◌, ℕ, Bool, List, [], ◌∷◌, ◌++◌, map, Option, Some, None, Result, Ok, Err, subst}
-use Rattle.lard_base.specs.declared.place.Place.{Place}
-use Rattle.lard_base.specs.declared.place.Place.TheVariants.{Front, Node}
-use Rattle.lard_base.specs.declared.place.Reason.{Reason}
-use Rattle.lard_dispatch.specs.declared.dispatch.Ask.{Ask}
-use Rattle.lard_dispatch.specs.declared.dispatch.Later.{Later}
-use Rattle.lard_dispatch.specs.Laws.{Call}
+use Rattle.std.proofs.Common.{◌+◌, ℕ, Bool, List, [], ◌∷◌, ◌++◌, map, Option, Some, None, subst}
+use Rattle.lard_law_view.specs.Prelude.{Call, Conn, ControlBlock, Ending, Final, FirstChoice, Front, FrontConn, FrontDeed, FrontEnv, FrontGets, FrontPart, FrontRest, FrontRow, IsConnSound, IsFrontEnv, Later, Node, Place, Rec, Said as Segment, Seen, Service, Setting, Turn, ack_sent, after_timer, assigned_notes, front_does, front_fired, front_rest, front_rule, front_saying, holds, last_words, leaves_by, over_note, sent_of, serving, serving_settled, spoken, stage_after, tag_sent, tale_at, tombstone, turn_here, waits_on}
+use Rattle.lard_law_view.proofs.EachFront.{FrontComes, admission}
 use Rattle.lard_dispatch.specs.Laws as call
-use Rattle.lard_endpoint.specs.declared.control.moving.Final.{Final}
-use Rattle.lard_endpoint.specs.Control.{ControlBlock}
-use Rattle.lard_endpoint.specs.Leaving.{after_timer}
-use Rattle.lard_handoff_front.specs.declared.row.FrontConn.{FrontConn}
 use Rattle.lard_handoff_front.specs.declared.row.FrontConn.TheVariants as stage
-use Rattle.lard_handoff_front.specs.declared.row.FrontRow.{FrontRow}
-use Rattle.lard_history.specs.Own.{Seen}
 use Rattle.lard_history.proofs.Each.{Each}
 use Rattle.lard_history.proofs.Seeing.{has-each}
-use Rattle.lard_journal.specs.declared.rec.Rec.{Rec}
 use Rattle.lard_law_connections.specs.ResetsLaws.{EndsAfter, LetterEndsBehind, RowEndsBehind, StageEndsBehind}
 use Rattle.lard_law_connections.proofs.ResetsMoves.{IsBehindResets, MoveResets, kept-fair}
 use Rattle.lard_law_connections.proofs.ResetsRows.{AllKeepRst, IsUnsentSeen, resets-stay, resets_on, row-more}
 use Rattle.lard_law_connections.proofs.ResetsTurns.{EndingAfter, IsBehind, SayTo, TurnResets, are-fair, reads-behind, settled-resets, spoken-resets, timed-plain, tombstone-says}
-use Rattle.lard_law_view.specs.Carry.{tale_at}
-use Rattle.lard_law_view.specs.View.{Conn, IsFrontEnv, IsConnSound, Setting, SpellsMessage, Was, front_does}
 use Rattle.lard_message.specs.declared.message.Body.TheVariants as body
-use Rattle.lard_policy.specs.declared.first.FirstChoice.{FirstChoice}
-use Rattle.lard_resend.specs.Pending.{sent_of}
-use Rattle.lard_rules.specs.declared.front.FrontRest.{FrontRest}
-use Rattle.lard_rules.specs.declared.front.FrontTurn.{FrontTurn}
-use Rattle.lard_rules.specs.declared.places.Ending.{Ending}
 use Rattle.lard_rules.specs.declared.places.Ending.TheVariants as ending
-use Rattle.lard_rules.specs.declared.places.Turn.{Turn}
-use Rattle.lard_rules.specs.Front.{FrontDeed, Drops, Says, Does, FrontEnv, FrontPart, ack_sent, assigned_notes, front_fired, front_admitted, front_asked, front_ended, front_gets, front_taken, front_timer, holds, leaves_by, message, over_note, front_rest, front_saying, stage_after, tag_sent, turn_here, waits_on}
-use Rattle.lard_rules.specs.Serving.{Service, serving, serving_settled, spoken}
-use Rattle.lard_rules.specs.Tombstone.{last_words, tombstone}
-use Rattle.lard_segment.specs.declared.fault.SegFault.{SegFault}
-use Rattle.lard_segment.specs.Segment.{Said as Segment}
-use Rattle.lard_rules.proofs.FrontCases.{KeptBySegment, of-stage, begun_row, begun_service, heard_service, waiting_service, segment-keeps, timer-keeps, taken-keeps, asked-keeps, ended-keeps, admitted-keeps, fired_before, heard_reading, hands_off, rests_in}
+use Rattle.lard_rules.specs.Front.{Drops, Says, message}
+use Rattle.lard_rules.proofs.FrontCases.{KeptByFront, KeptBySegment, begun_row, begun_service, fired_before, front-keeps, hands_off, heard_reading, heard_service, of-stage, rests_in, waiting_service}
 
 module _ (k : Setting) (x : Conn) (sound_x : IsConnSound x) (h : IsBehindResets x) (heads : List Seen) (seen : Each IsUnsentSeen heads) (env : FrontEnv) (is : IsFrontEnv k x.c env) where
   abbrev p : FrontPart
@@ -109,46 +86,35 @@ module _ (k : Setting) (x : Conn) (sound_x : IsConnSound x) (h : IsBehindResets 
     words = λ row last at. tombstone-behind last s (of-stage (RowEndsBehind was) p row (stage.Closed last) at h.ends.front);
   }
 
-  pub gets-behind : (bytes : List ℕ) (r : Result Segment SegFault) → Stays (front_gets env p bytes r)
-  gets-behind bytes (Err fault) = dropped
-  gets-behind bytes (Ok s) = segment-keeps env p bytes s (λ w o. IsBehind env.serve was w) Stays (by-segment bytes s)
-
   -- ---- timers
 
   fired-behind : (rest : FrontRest) (b : ControlBlock) → TurnResets env.serve.c was (front_fired env rest b)
   fired-behind rest b = spoken-resets env.serve was (serving (after_timer b) rest.count []) (fired_before env b) (timed-plain env.serve b)
 
-  pub timer-behind : Stays (front_timer env p)
-  timer-behind = timer-keeps env p Stays (record {
+  by-rules : KeptByFront env p (FrontComes x env heads) (λ w o. IsBehind env.serve was w) Stays
+  by-rules = record {
     drops = dropped;
-    holds = λ row b at. holds-behind row (front_rest p.rest) (front_fired env (front_rest p.rest) b) (fired-behind (front_rest p.rest) b);
-    stays = λ row b at. waits-behind row (front_rest p.rest) (front_fired env (front_rest p.rest) b) (fired-behind (front_rest p.rest) b);
-    resends = λ row n e at. says (map sent_of p.kept) (kept-fair x Front p.kept h.ends sound_x.front);
-  })
+    hears = λ bytes s m. by-segment bytes s;
+    fires = λ m. record {
+      drops = dropped;
+      holds = λ row b at. holds-behind row (front_rest p.rest) (front_fired env (front_rest p.rest) b) (fired-behind (front_rest p.rest) b);
+      stays = λ row b at. waits-behind row (front_rest p.rest) (front_fired env (front_rest p.rest) b) (fired-behind (front_rest p.rest) b);
+      resends = λ row n e at. says (map sent_of p.kept) (kept-fair x Front p.kept h.ends sound_x.front);
+    };
+    takes = λ n epoch m row node e at same. record { heads = seen; segments = tt; messages = tt; front = tt };
+    tags_again = λ n epoch ask m rest found there same some. says (tag_sent env n epoch rest.asks rest.tag) ((tt, tt), tt);
+    assigns_next = λ n epoch ask m rest found there next.
+        let l : Later = env.later ask in
+        let notes : List Rec = over_note env.serve.c l.over ++ assigned_notes env.serve.c ask rest.assigned ask.paths l.choices in
+        record { heads = seen; segments = tt; messages = ((tt, tt), tt); front = row-more was (resets_on x.c was notes) p.row (resets-stay x.c notes was) h.ends.front };
+    ends_again = λ n epoch last m row found away again. says (ack_sent env n epoch) ((tt, tt), tt);
+    -- an Ended that came tells the limit only of a connection that was reset
+    ends = λ n epoch last m row found away.
+        let said = has-each (record { from = Node n; to = Front; bytes = m.told.bytes }) (LetterEndsBehind was) x.letters m.told.was h.ends.letters in
+        record { heads = seen; segments = tt; messages = ((tt, tt), tt); front = said _ m.told.spells };
+    admits = λ choice row b path at target. handed-behind row (serving b (front_rest p.rest).count []) path choice [];
+  }
 
-  -- ---- what nodes say
-
-  pub taken-behind : (epoch : ℕ) → Stays (front_taken p epoch)
-  taken-behind epoch = taken-keeps p Stays dropped epoch (λ row n e at same. record { heads = seen; segments = tt; messages = tt; front = tt })
-
-  pub asked-behind : (n epoch : ℕ) (ask : Ask) → Stays (front_asked env p n epoch ask)
-  asked-behind n epoch ask = asked-keeps p Stays dropped env n epoch ask (λ rest found there same some. says (tag_sent env n epoch rest.asks rest.tag) ((tt, tt), tt)) (λ rest found there next.
-      let l : Later = env.later ask in
-      let notes : List Rec = over_note env.serve.c l.over ++ assigned_notes env.serve.c ask rest.assigned ask.paths l.choices in
-      record { heads = seen; segments = tt; messages = ((tt, tt), tt); front = row-more was (resets_on x.c was notes) p.row (resets-stay x.c notes was) h.ends.front })
-
-  -- an Ended that came tells the limit only of a connection that was reset
-  pub ended-behind : (n epoch : ℕ) (reason : Reason) (snd rcv count : ℕ) (bytes : List ℕ) → SpellsMessage x.c epoch (body.Ended reason snd rcv count) bytes → Was x (Node n) Front bytes
-      → Stays (front_ended env p n epoch (record { reason = reason; snd = record { 0 = snd }; rcv = record { 0 = rcv } }))
-  ended-behind n epoch reason snd rcv count bytes spells sent =
-      let said = has-each (record { from = Node n; to = Front; bytes = bytes }) (LetterEndsBehind was) x.letters sent h.ends.letters in
-      ended-keeps p Stays dropped env n epoch (record { reason = reason; snd = record { 0 = snd }; rcv = record { 0 = rcv } }) (λ row found away again. says (ack_sent env n epoch) ((tt, tt), tt)) (λ row found away.
-      record { heads = seen; segments = tt; messages = ((tt, tt), tt); front = said (record { c = x.c; epoch = record { 0 = epoch }; body = body.Ended reason snd rcv count }) spells })
-
-  -- ---- the head of the line
-
-  abbrev Admitted : FrontPart × FrontTurn → Type 0
-  Admitted given = MoveResets x (front_does x heads (Does (record { part = given.0; turn = given.1; calls = [] })))
-
-  pub admitted-behind : (choice : FirstChoice) (given : FrontPart × FrontTurn) → front_admitted env p choice ≡ Some given → Admitted given
-  admitted-behind choice = admitted-keeps env p choice Admitted (λ row b path at target. handed-behind row (serving b (front_rest p.rest).count []) path choice [])
+  -- whatever comes
+  pub front-behind : (g : FrontGets) → FrontComes x env heads g → Stays (front_rule env p g)
+  front-behind g comes = front-keeps env p (FrontComes x env heads) (λ w o. IsBehind env.serve was w) Stays by-rules g (admission x env heads g comes) comes

@@ -1,34 +1,21 @@
 -- What the move of each rule owes to the law of RST, and what a connection keeps of it.
 use Rattle.std.proofs.Common.{◌≡◌, ℕ, Bool, List, [], ◌∷◌, ◌++◌, map, Some, sym, ap, ◌∙◌, subst}
-use Rattle.lard_base.specs.declared.place.Place.{Place}
-use Rattle.lard_base.specs.declared.place.Place.TheVariants.{Client, Front, Node}
-use Rattle.lard_base.specs.declared.place.Reason.{Reason}
-use Rattle.lard_client.specs.Control.{ClientBlock}
-use Rattle.lard_history.specs.Journal.{Tale, told_on}
-use Rattle.lard_history.specs.Own.{EachRow, Seen}
+use Rattle.lard_law_view.specs.Prelude.{AreSent, Body, Client, ClientBlock, Conn, EachRow, Front, Kept, Move, Node, Place, Reason, Rec, Seen, Station, Tale, Turn, TurnSaid, body_bytes, by_client, ended_body_at, grown, kind_of, letter, letters_of, number_at, reason_at, reason_byte, seen_in, sent_of, stands, tale_at, timer_rows, told_on, with_station}
 use Rattle.lard_history.proofs.Each.{Each, Each-append}
-use Rattle.lard_journal.specs.declared.rec.Rec.{Rec}
 use Rattle.lard_law_connections.proofs.PlacesHeads.{kinds-same, spelled-body}
 use Rattle.lard_law_connections.specs.ResetsLaws.{BodyEndsBehind, EndsAfter, EndsBehindResets, SaysEndsBehind, LetterEndsBehind, RowEndsBehind}
-use Rattle.lard_law_connections.proofs.ResetsRows.{AllKeepRst, IsUnsentSeen, MayStand, Since, client-fair, fair-letters, gaves-unsent, letters-more, machine-rst, notes-unsent, resets-more, resets-stay, resets_on, row-more, seen-stays, sent-tell, timers-unsent, told-reset, told-stays, unsent-seen, unsent-tell}
-use Rattle.lard_law_view.specs.Carry.{tale_at}
-use Rattle.lard_law_view.specs.View.{AreSent, Conn, Move, TurnSaid, by_client, grown, letter, letters_of, seen_in, sending, stands, timer_rows, with_station}
+use Rattle.lard_law_connections.proofs.ResetsRows.{AllKeepRst, IsUnsentSeen, MayStand, Since, client-fair, fair-letters, letters-more, machine-rst, resets-more, resets-stay, resets_on, row-more, seen-stays, sent-tell, told-reset, told-stays, unsent-seen, unsent-tell}
+use Rattle.lard_law_view.specs.View.{sending}
 use Rattle.lard_law_view.proofs.Fine.{IsItsOwn}
 use Rattle.lard_law_view.proofs.RowLists.{MayBeSeen}
 use Rattle.lard_law_view.proofs.Rows.{grown-lawful, grown-tale, move-lawful, tale_before, tale_said}
 use Rattle.lard_history.proofs.Seeing.{has-each}
 use Rattle.lard_message.specs.declared.kind.Kind.TheVariants as kind
-use Rattle.lard_message.specs.declared.message.Body.{Body}
 use Rattle.lard_message.specs.declared.message.Body.TheVariants as body
-use Rattle.lard_message.specs.Message.{body_bytes, kind_of, reason_byte}
-use Rattle.lard_message.specs.Reading.{ended_body_at, number_at, reason_at}
 use Rattle.lard_message.proofs.Fields.{bind_then, reason_again, some_same}
-use Rattle.lard_resend.specs.declared.kept.Kept.{Kept}
-use Rattle.lard_resend.specs.Pending.{sent_of}
 use Rattle.lard_rules.specs.Node.{message}
-use Rattle.lard_rules.specs.declared.places.Station.{Station}
-use Rattle.lard_rules.specs.declared.places.Turn.{Turn}
 use Rattle.std.specs.Int.{w32, to_be_bytes}
+use Rattle.lard_law_view.proofs.OfKinds.{gaves-unsent, notes-unsent, timers-unsent}
 
 -- Where the stream limit ended a connection it was reset, and each of its records may stand.
 pub record IsBehindResets (x : Conn) : Type 0 where

@@ -1,41 +1,16 @@
 -- What a node does keeps the law of RST.
-use Rattle.std.proofs.Common.{◌≡◌, ℕ, Bool, true, List, [], ◌∷◌, ◌++◌, Option, Some, None, Result, Ok, Err, refl, sym, subst}
-use Rattle.std.proofs.lemmas.Bool.{cond_both}
-use Rattle.std.specs.List.{find}
-use Rattle.lard_base.specs.declared.parts.EndpointParts.{EndpointParts}
-use Rattle.lard_base.specs.declared.place.Place.{Place}
-use Rattle.lard_base.specs.declared.place.Place.TheVariants.{Node}
+use Rattle.std.proofs.Common.{◌≡◌, ℕ, Bool, true, List, [], ◌∷◌, ◌++◌, Option, Some, None, refl, sym, subst}
+use Rattle.lard_law_view.specs.Prelude.{AreSent, Asked, Conn, ControlBlock, Ending, IsConnSound, IsNodeEnv, Kept, Node, NodeDeed, NodeEnv, NodeGets, NodePart, Place, Progress, Seen, Service, Setting, Stay, Turn, Want, Work, after_timer, again_sent, all_sent, asked_sent, came_for, come_progress, ended_sent, goes_on, kept_after, named_records, node_begins, node_does, node_rule, on_segment, read_progress, reads_batch, serving, serving_ready_of, serving_settled, spoken, state_of, tagged, taken_sent, tale_at, timed, turn_by, wants_sent, with_work, without, work_of}
 use Rattle.lard_base.specs.declared.place.TimerKind.TheVariants as timer
-use Rattle.lard_endpoint.specs.Arriving.{on_segment}
-use Rattle.lard_endpoint.specs.Control.{ControlBlock}
-use Rattle.lard_endpoint.specs.Leaving.{after_timer, timed}
-use Rattle.lard_handoff_back.specs.declared.table.Adopt.{Adopt}
-use Rattle.lard_handoff_back.specs.declared.table.Adopt.TheVariants.{New, Again, Stale}
-use Rattle.lard_handoff_back.specs.Back.{awaits_ack, back_endpoint, offer_answer}
-use Rattle.lard_history.specs.Own.{Seen}
 use Rattle.lard_history.proofs.Each.{Each, Each-append}
 use Rattle.lard_law_connections.proofs.LimitsWorking.{batch-state, came-so, goes-so, tagged-so}
 use Rattle.lard_law_connections.proofs.ResetsMoves.{IsBehindResets, MoveResets, ended-ends, kept-fair, other-ends}
 use Rattle.lard_law_connections.proofs.ResetsRows.{AllKeepRst, KeepsRst, IsUnsentSeen, fair-more, named-resets, resets-stay, resets_on, row-more}
 use Rattle.lard_law_connections.proofs.ResetsTurns.{EndingAfter, IsBehind, TurnResets, are-fair, serving-behind, settled-resets, spoken-resets, timed-plain}
-use Rattle.lard_lateral.specs.Lateral.{is_from}
-use Rattle.lard_law_view.specs.Carry.{tale_at}
-use Rattle.lard_law_view.specs.View.{AreSent, Conn, IsNodeEnv, IsConnSound, Setting, named_records, node_does}
 use Rattle.lard_message.specs.declared.message.Body.TheVariants as body
-use Rattle.lard_resend.specs.declared.kept.Kept.{Kept}
-use Rattle.lard_resend.specs.Kept.{is_under, without}
-use Rattle.lard_rules.specs.declared.places.Ending.{Ending}
+use Rattle.lard_rules.proofs.NodeCases.{IsInItsEpoch, KeptByNode, node-keeps}
 use Rattle.lard_rules.specs.declared.places.Ending.TheVariants as ending
-use Rattle.lard_rules.specs.declared.places.Turn.{Turn}
-use Rattle.lard_rules.specs.declared.stay.Asked.{Asked}
-use Rattle.lard_rules.specs.declared.stay.Stay.{Stay}
-use Rattle.lard_rules.specs.declared.stay.Want.{Want}
-use Rattle.lard_rules.specs.Loop.{state_of}
-use Rattle.lard_rules.specs.Node.{NodeDeed, Drops, Says, Does, NodePart, again_sent, all_sent, asked_sent, node_begins, both_of, come_by, ended_sent, node_fired_by, gone, node_heard_by, here, is_tag_awaited, kept_after, node_acknowledged, node_content, node_forwarded, node_offered, node_read, node_tagged, node_timer, offered_by, node_read_by, node_saying, tagged_by, taken_sent, turn_by, wants_sent, with_work, work_of}
-use Rattle.lard_rules.specs.Serving.{serving_ready_of, serving, serving_settled, spoken}
-use Rattle.lard_rules.specs.Stay.{NodeEnv, Work, came_for, come_progress, goes_on, read_progress, reads_batch, tagged}
-use Rattle.lard_segment.specs.declared.fault.SegFault.{SegFault}
-use Rattle.lard_segment.specs.Segment.{Said as Segment}
+use Rattle.lard_rules.specs.Node.{Drops, Says, Does}
 
 both-sent : (x : Conn) (place : Place) (ks ls : List Kept) → AreSent x place ks → AreSent x place ls → AreSent x place (ks ++ ls)
 both-sent x place [] ls sent more = more
@@ -104,76 +79,38 @@ module _ (k : Setting) (x : Conn) (sound_x : IsConnSound x) (h : IsBehindResets 
   abbrev Works : Work → Type 0
   Works w = IsBehind env.serve was w.service
 
-  works-behind : (part : NodePart) (before : List (Place × List ℕ)) (work : Work) → AllKeepRst was (Node n) before → Works work → Stays (with_work env part before work)
-  works-behind part before work fair behind = turn-behind part before work (serving_settled env.serve work.service) fair (settled-resets env.serve was work.service behind)
+  goes-behind : (part : NodePart) (before : List (Place × List ℕ)) (work : Work) → AllKeepRst was (Node n) before → Works work
+      → Stays (with_work env part before (goes_on env work))
+  goes-behind part before work fair behind =
+      let w : Work = goes_on env work in
+      turn-behind part before w (serving_settled env.serve w.service) fair
+      (settled-resets env.serve was w.service (goes-so env (IsBehind env.serve was) (serving-behind env.serve was) work behind))
 
-  goes-behind : (part : NodePart) (work : Work) → Works work → Stays (with_work env part [] (goes_on env work))
-  goes-behind part work behind = works-behind part [] (goes_on env work) tt (goes-so env (IsBehind env.serve was) (serving-behind env.serve was) work behind)
+  -- ---- the rules
 
-  heard-by : (r : Result Segment SegFault) (o : Option (ControlBlock × Stay)) → Stays (node_heard_by env ours r o)
-  heard-by (Err fault) o = dropped
-  heard-by (Ok s) None = dropped
-  heard-by (Ok s) (Some y) = goes-behind ours (work_of (on_segment y.0 s).1 y.1) tt
+  came-behind : (f : Progress → Progress) (r : ℕ) (b : ControlBlock) (s : Stay) → Works (came_for f r (work_of b s))
+  came-behind f r b s = came-so env (IsBehind env.serve was) (serving-behind env.serve was) f r (work_of b s) tt
 
-  pub forwarded-behind : (r : Result Segment SegFault) → Stays (node_forwarded env ours r)
-  forwarded-behind r = heard-by r (here env.epoch ours)
+  rules_behind : KeptByNode env ours (λ g. Unit {0}) Stays
+  rules_behind = record {
+    drops = dropped;
+    hears = λ said b s m at. goes-behind ours [] (work_of (on_segment b said).1 s) tt tt;
+    tags = λ number nodes b s m at asked same count. goes-behind (record ours { kept = without timer.Ask 0 ours.kept }) [] (tagged env nodes (work_of b s)) tt
+        (tagged-so env (IsBehind env.serve was) (serving-behind env.serve was) nodes (work_of b s) tt);
+    comes = λ from r b s m at wanted. goes-behind (record ours { fetches = without timer.Fetch r ours.fetches }) []
+        (came_for (come_progress from) r (work_of b s)) tt (came-behind (come_progress from) r b s);
+    reads = λ r path b s m at. goes-behind ours [] (came_for read_progress r (work_of b s)) tt (came-behind read_progress r b s);
+    begins = λ parts m new. goes-behind ours (taken_sent env) (state_of (reads_batch env true (node_begins env parts))) (taken-fair was)
+        (batch-state env (IsBehind env.serve was) (serving-behind env.serve was) true (node_begins env parts) refl tt);
+    takes_again = λ parts m again. says (taken_sent env) (taken-fair was);
+    fires = λ b s m at.
+        let before : List (Place × List ℕ) = serving_ready_of env.serve (after_timer b) (timed b) in
+        let start : Service = serving (after_timer b) s.served [] in
+        turn-behind ours (again_sent ours) (work_of (after_timer b) s) (spoken env.serve start before) again-fair
+        (spoken-resets env.serve was start before (timed-plain env.serve b));
+    resends = λ m none. says (again_sent ours) again-fair;
+    ends = λ m told. record { heads = seen; segments = tt; messages = tt; front = h.ends.front };
+  }
 
-  tagged-by : (number : ℕ) (tags : List ℕ) (o : Option (ControlBlock × Stay)) → Stays (tagged_by env number tags ours o)
-  tagged-by number tags None = dropped
-  tagged-by number tags (Some y) = cond_both (is_tag_awaited env number tags ours y.1) _ Drops Stays
-      (λ t. goes-behind (record ours { kept = without timer.Ask 0 ours.kept }) (tagged env tags (work_of y.0 y.1)) (tagged-so env (IsBehind env.serve was) (serving-behind env.serve was) tags (work_of y.0 y.1) tt))
-      (λ t. dropped)
-
-  pub tagged-behind : (number : ℕ) (tags : List ℕ) → Stays (node_tagged env ours number tags)
-  tagged-behind number tags = tagged-by number tags (here env.epoch ours)
-
-  come-by : (from r : ℕ) (o : Option (ControlBlock × Stay)) → Stays (come_by env from r ours o)
-  come-by from r None = dropped
-  come-by from r (Some y) = cond_both (is_from from env.epoch (find (is_under timer.Fetch r) ours.fetches)) _ Drops Stays
-      (λ t. goes-behind (record ours { fetches = without timer.Fetch r ours.fetches }) (came_for (come_progress from) r (work_of y.0 y.1))
-      (came-so env (IsBehind env.serve was) (serving-behind env.serve was) (come_progress from) r (work_of y.0 y.1) tt))
-      (λ t. dropped)
-
-  pub content-behind : (from r : ℕ) → Stays (node_content env ours from r)
-  content-behind from r = come-by from r (here env.epoch ours)
-
-  read-by : (r : ℕ) (o : Option (ControlBlock × Stay)) → Stays (node_read_by env r ours o)
-  read-by r None = dropped
-  read-by r (Some y) = goes-behind ours (came_for read_progress r (work_of y.0 y.1)) (came-so env (IsBehind env.serve was) (serving-behind env.serve was) read_progress r (work_of y.0 y.1) tt)
-
-  pub read-behind : (r : ℕ) → Stays (node_read env ours r)
-  read-behind r = read-by r (here env.epoch ours)
-
-  -- ---- an Offer
-
-  offered-by : (parts : EndpointParts) (a : Adopt) → Stays (offered_by env parts ours a)
-  offered-by parts New =
-      let first : Work = state_of (reads_batch env true (node_begins env parts)) in
-      works-behind ours (taken_sent env) (goes_on env first) (taken-fair was)
-      (goes-so env (IsBehind env.serve was) (serving-behind env.serve was) first (batch-state env (IsBehind env.serve was) (serving-behind env.serve was) true (node_begins env parts) refl tt))
-  offered-by parts Again = says (taken_sent env) (taken-fair was)
-  offered-by parts Stale = dropped
-
-  pub offered-behind : (parts : EndpointParts) → Stays (node_offered env ours parts)
-  offered-behind parts = offered-by parts (offer_answer env.epoch ours.row)
-
-  -- ---- the end of a stay
-
-  pub acknowledged-behind : Stays (node_acknowledged env ours)
-  acknowledged-behind =
-      let d : NodeDeed = Does (record ours { row = gone ours.row; kept = without timer.Ended 0 ours.kept }, node_saying []) in
-      cond_both (awaits_ack env.epoch ours.row) d Drops Stays
-      (λ t. record { heads = seen; segments = tt; messages = tt; front = h.ends.front })
-      (λ t. dropped)
-
-  -- ---- its timer fires
-
-  fires-by : (o : Option (ControlBlock × Stay)) → Stays (node_fired_by env ours o)
-  fires-by None = says (again_sent ours) again-fair
-  fires-by (Some y) =
-      let before : List (Place × List ℕ) = serving_ready_of env.serve (after_timer y.0) (timed y.0) in
-      let start = serving (after_timer y.0) y.1.served [] in
-      turn-behind ours (again_sent ours) (work_of (after_timer y.0) y.1) (spoken env.serve start before) again-fair (spoken-resets env.serve was start before (timed-plain env.serve y.0))
-
-  pub fires-behind : Stays (node_timer env ours)
-  fires-behind = fires-by (both_of (back_endpoint ours.row) ours.stay)
+  pub rule-behind : (g : NodeGets) → IsInItsEpoch env ours g → Stays (node_rule env ours g)
+  rule-behind g at = node-keeps env ours (λ g. Unit {0}) Stays rules_behind g at tt

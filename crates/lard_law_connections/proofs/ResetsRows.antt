@@ -2,27 +2,19 @@
 use Rattle.std.proofs.Common.{◌≡◌, ℕ, List, [], ◌∷◌, ◌++◌, map, Bool, true, false, cond, Option, Some, None, is_some, refl, sym, ap, ◌∙◌, subst, nat_eq}
 use Rattle.std.specs.List.{fold}
 use Rattle.std.proofs.lemmas.Bool.{both_ways}
-use Rattle.lard_base.specs.declared.place.Place.{Place}
-use Rattle.lard_base.specs.declared.place.Place.TheVariants.{Client, Front, Node}
-use Rattle.lard_history.specs.Journal.{Tale, reset_step, tale, tale_step, told_on, was_reset}
-use Rattle.lard_history.specs.Own.{EachRow, Seen, Row, Came, conn_of, plain, seen_step, tale_of, whose}
+use Rattle.lard_law_view.specs.Prelude.{Body, Came, Client, EachRow, Front, FrontConn, FrontRow, IsMachine, Letter, Node, Place, Rec, Row, Seen, Tale, conn_of, letter, named_records, plain, reset_step, seen_step, tale, tale_of, tale_step, told_on, was_reset, whose}
 use Rattle.lard_history.proofs.Each.{Each, Each-weaker}
 use Rattle.lard_history.proofs.Lifting.{IsLocal, tale-own}
 use Rattle.lard_history.proofs.Tales.{reset-tale}
-use Rattle.lard_journal.specs.declared.rec.Rec.{Rec}
 use Rattle.lard_journal.specs.declared.rec.Rec.TheVariants as rec
 use Rattle.lard_law_connections.specs.ResetsLaws.{BodyEndsBehind, SaysEndsBehind, HasRstOnly, LetterEndsBehind, MaySendRst, ResetsOnly, RowEndsBehind, StageEndsBehind}
-use Rattle.lard_law_view.specs.View.{IsMachine, Part, letter, named_records, sending, timer_rows}
+use Rattle.lard_law_view.specs.View.{sending}
 use Rattle.lard_law_view.specs.WhileUntouched.{TellsBy}
 use Rattle.lard_law_view.proofs.RowLists.{MayBeSeen}
-use Rattle.lard_law_view.proofs.Saying.{GaveAt, NotedAt}
-use Rattle.lard_law_view.proofs.Timers.{IsTimerAt, timer_rows-are}
-use Rattle.lard_handoff_front.specs.declared.row.FrontConn.{FrontConn}
 use Rattle.lard_handoff_front.specs.declared.row.FrontConn.TheVariants as stage
-use Rattle.lard_handoff_front.specs.declared.row.FrontRow.{FrontRow}
-use Rattle.lard_message.specs.declared.message.Body.{Body}
 use Rattle.lard_message.specs.declared.message.Body.TheVariants as body
-use Rattle.lard_history.specs.Own.{Letter}
+use Rattle.lard_law_view.proofs.OfKinds.{each-tells}
+use Rattle.lard_law_view.proofs.RecordKinds.{IsUnsent}
 
 -- ---- resets
 
@@ -148,10 +140,6 @@ abbrev pub MayStand : Tale → Rec → Type 0
 MayStand t (rec.Sent k from to bytes) = RstSent t.was_reset from to bytes
 MayStand t _ = Unit {0}
 
-abbrev pub IsUnsent : Rec → Type 0
-IsUnsent (rec.Sent k from to bytes) = ⊥
-IsUnsent _ = Unit {0}
-
 abbrev pub IsUnsentSeen : Seen → Type 0
 IsUnsentSeen (Row r) = IsUnsent r
 IsUnsentSeen (Came l) = Unit {0}
@@ -161,8 +149,7 @@ unsent-may t (rec.Sent k from to bytes) h = absurd h
 unsent-may t _ h = tt
 
 pub unsent-tell : (c : ℕ) (rs : List Rec) (t : Tale) → Each IsUnsent rs → TellsBy MayStand c t rs
-unsent-tell c [] t h = tt
-unsent-tell c (r ∷ rs) t h = (unsent-may t r h.0, unsent-tell c rs (tale_step c t r) h.1)
+unsent-tell c rs t h = each-tells IsUnsent MayStand unsent-may c t rs h
 
 pub unsent-seen : (c : ℕ) (past ss : List Seen) → Each IsUnsentSeen ss → EachRow (MayBeSeen MayStand c) past ss
 unsent-seen c past [] h = tt
@@ -172,31 +159,6 @@ unsent-seen c past (Came l ∷ ss) h = unsent-seen c (past ++ Came l ∷ []) ss 
 pub sent-tell : (c : ℕ) (was : Bool) (from : Place) (ss : List (Place × List ℕ)) (t : Tale) → Since was t.was_reset → AllKeepRst was from ss → TellsBy MayStand c t (map (sending from) ss)
 sent-tell c was from [] t h k = tt
 sent-tell c was from (s ∷ ss) t h k = (rst-more was t.was_reset from s.0 s.1 h k.0.0, sent-tell c was from ss (tale_step c t (sending from s)) h k.1)
-
-noted-unsent : (place : Place) (c : ℕ) (r : Rec) → NotedAt place c r → IsUnsent r
-noted-unsent Front c (rec.Sent k from to bytes) h = absurd h
-noted-unsent (Node n) c (rec.Sent k from to bytes) h = absurd h
-noted-unsent (Client e) c (rec.Sent k from to bytes) h = absurd h
-noted-unsent _ c _ h = tt
-
-pub notes-unsent : (place : Place) (c : ℕ) (rs : List Rec) → Each (NotedAt place c) rs → Each IsUnsent rs
-notes-unsent place c rs h = Each-weaker (NotedAt place c) IsUnsent (noted-unsent place c) rs h
-
-gave-unsent : (place : Place) (c : ℕ) (r : Rec) → GaveAt place c r → IsUnsent r
-gave-unsent Front c (rec.Sent k from to bytes) h = absurd h
-gave-unsent (Node n) c (rec.Sent k from to bytes) h = absurd h
-gave-unsent (Client e) c (rec.Sent k from to bytes) h = absurd h
-gave-unsent _ c _ h = tt
-
-pub gaves-unsent : (place : Place) (c : ℕ) (rs : List Rec) → Each (GaveAt place c) rs → Each IsUnsent rs
-gaves-unsent place c rs h = Each-weaker (GaveAt place c) IsUnsent (gave-unsent place c) rs h
-
-timer-unsent : (place : Place) (c : ℕ) (r : Rec) → IsTimerAt place c r → IsUnsent r
-timer-unsent place c (rec.Sent k from to bytes) h = absurd h
-timer-unsent place c _ h = tt
-
-pub timers-unsent : (place : Place) (c : ℕ) (p q : Part) → Each IsUnsent (timer_rows place c p q)
-timers-unsent place c p q = Each-weaker (IsTimerAt place c) IsUnsent (timer-unsent place c) (timer_rows place c p q) (timer_rows-are place c p q)
 
 -- ---- the law
 

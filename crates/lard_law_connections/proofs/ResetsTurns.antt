@@ -1,53 +1,26 @@
 -- In a turn of a place, RST is sent only behind the record of a reset, and a connection ends for the stream limit only there.
-use Rattle.std.proofs.Common.{◌≡◌, ◌+◌, ◌-◌, nat_lt, nat_eq, not, ℕ, Bool, true, false, cond, List, [], ◌∷◌, ◌++◌, length, take, drop, slice_index, Option, Some, None, Result, Ok, Err, refl, sym, ap, ◌∙◌, subst, arith}
+use Rattle.std.proofs.Common.{Bool, Err, List, None, Ok, Option, Result, Some, [], ap, arith, cond, drop, false, length, nat_eq, nat_lt, not, refl, slice_index, subst, sym, take, true, ℕ, ◌++◌, ◌+◌, ◌-◌, ◌∙◌, ◌∷◌, ◌≡◌}
 use Rattle.std.proofs.lemmas.Bool.{cond_both}
 use Rattle.std.proofs.lemmas.List.Sums.{fold-append}
-use Rattle.lard_answers.specs.Answers.{answer, good_path}
-use Rattle.lard_base.specs.declared.place.Place.{Place}
-use Rattle.lard_base.specs.declared.place.Place.TheVariants.{Client, Front, Node}
-use Rattle.lard_base.specs.declared.place.Reason.{Reason}
+use Rattle.lard_law_view.specs.Prelude.{Client, ControlBlock, Done, Ending, Final, Flags, Found, Front, IsSendable, More, Node, Place, Reading, Ready, Reason, Rec, Said, SegFault, ServeEnv, Service, Step, ToClient, Turn, Verdict, Via, after_emit, after_timer, answer, answered, are_ports, begins_at, block_at, checksum_of, cut_of, cut_off, decoded, emitted, end_reason, ended_at_fin, filled, final_of, flags_byte, flags_of, front_reads, good_path, is_telling, last_ack, last_words, limit_said, may_read, mss_in, reading_left, reading_turn, reads_block, reads_found, refusal, reset_step, serving_consumed, serving_ready_of, serving_settled, serving_told, speaks, speaks_symbols, spelled, spoken, timed, tombstone, with_data, with_mss, word_at}
 use Rattle.lard_base.specs.declared.place.Reason.TheVariants.{Closed, Limit, Peer}
-use Rattle.lard_base.specs.declared.place.Via.{Via}
 use Rattle.lard_base.specs.declared.place.Via.TheVariants.{Own}
-use Rattle.lard_block.specs.declared.block.Found.{Found}
 use Rattle.lard_block.specs.declared.block.Found.TheVariants as found
-use Rattle.lard_block.specs.Blocks.{cut_of}
-use Rattle.lard_endpoint.specs.Control.{ControlBlock}
-use Rattle.lard_endpoint.specs.Leaving.{after_emit, after_timer, emitted, filled, timed}
-use Rattle.lard_endpoint.specs.Moving.{end_reason, final_of, may_end}
 use Rattle.lard_endpoint.proofs.Windows.{emitted-tells, timed-tells}
 use Rattle.lard_history.proofs.Each.{Each, Each-append, Each-weaker}
 use Rattle.lard_history.proofs.Seeing.{same_number}
-use Rattle.lard_history.specs.Journal.{reset_step}
-use Rattle.lard_journal.specs.declared.rec.Rec.{Rec}
 use Rattle.lard_journal.specs.declared.rec.Rec.TheVariants as rec
 use Rattle.lard_law_connections.specs.ResetsLaws.{EndsAfter, HasRstOnly}
 use Rattle.lard_law_connections.proofs.LimitsWorking.{KeptByServing}
 use Rattle.lard_law_connections.proofs.ResetsRows.{AllKeepRst, KeepsRst, Since, resets-stay, resets_on, since-false}
 use Rattle.lard_request.specs.declared.verdict.Code.TheVariants as code
-use Rattle.lard_request.specs.declared.verdict.Verdict.{Verdict}
 use Rattle.lard_request.specs.declared.verdict.Verdict.TheVariants.{Fault}
-use Rattle.lard_rules.specs.declared.places.Ending.{Ending}
 use Rattle.lard_rules.specs.declared.places.Ending.TheVariants as ending
-use Rattle.lard_rules.specs.declared.places.Turn.{Turn}
-use Rattle.lard_rules.specs.FrontReading.{Reading, block_at, reading_left, front_reads, reads_block, reads_found, reading_turn}
-use Rattle.lard_rules.specs.Loop.{Step, More, Done}
-use Rattle.lard_rules.specs.Serving.{ServeEnv, Service, answered, serving_consumed, cut_off, ended_at_fin, limit_said, may_read, passed_over, queued, serving_ready_of, serving_settled, spoken, serving_told}
-use Rattle.lard_rules.specs.Speaking.{speaks, speaks_symbols}
-use Rattle.lard_rules.specs.Tombstone.{is_telling, last_ack, last_words, refusal, tombstone}
-use Rattle.lard_endpoint.specs.declared.control.moving.Final.{Final}
 use Rattle.lard_rules.proofs.Loops.{KeptBySpeaking, speaks_keep, symbols_keep}
 use Rattle.lard_rules.proofs.Runs.{runs_keep}
-use Rattle.lard_segment.specs.declared.fault.SegFault.{SegFault}
 use Rattle.lard_segment.specs.declared.fault.SegFault.TheVariants as fault
-use Rattle.lard_segment.specs.declared.segment.Dir.TheVariants.{ToClient}
-use Rattle.lard_segment.specs.declared.segment.Flags.{Flags}
-use Rattle.lard_segment.specs.declared.segment.Ready.{Ready}
-use Rattle.lard_segment.specs.Checksum.{checksum_of}
-use Rattle.lard_segment.specs.Fields.{flags_byte, flags_of, word_at}
-use Rattle.lard_segment.specs.Options.{mss_in}
-use Rattle.lard_segment.specs.Segment.{Said, IsSendable, are_ports, begins_at, decoded, spelled, with_data, with_mss}
 use Rattle.lard_segment.proofs.Again.{again}
+use Rattle.lard_rules.proofs.Endings.{answered-keeps, rested-keeps, settled-keeps}
 
 -- ---- the control bits of what was spelled
 
@@ -175,7 +148,7 @@ module _ (env : ServeEnv) (was : Bool) where
       let total : ℕ = s.block.send.total + length bytes in
       let reset : Rec = rec.Reset env.place env.c total in
       let before : Bool = resets_on env.c was s.notes in
-      cond_both (nat_lt env.stream total) (passed_over env total s) (queued env via v bytes s) IsBehind
+      answered-keeps IsBehind env via v s
       (λ t. fold-append (reset_step env.c) was s.notes (reset ∷ []) ∙ ap (λ (b : Bool). cond b true before) (same_number env.c))
       (λ t. tt)
 
@@ -198,7 +171,7 @@ module _ (env : ServeEnv) (was : Bool) where
       let b : ControlBlock = (speaks env.c s.block).1 in
       record {
         says = say-more env.c false now (before ++ (speaks env.c s.block).0) (since-false now) (Each-append (SaysTo env.c false) before (speaks env.c s.block).0 to (speaks-plain env.c s.block));
-        ends = cond_both (may_end b) (ending.Over (final_of b (end_reason b))) (ending.Here b s.count) (EndingAfter now) (λ t. closes-otherwise b now) (λ t. tt);
+        ends = rested-keeps (EndingAfter now) b s.count (λ t. closes-otherwise b now) (λ t. tt);
       }
 
   cut-resets : (s : Service) → resets_on env.c was s.notes ≡ true → TurnResets env.c was (cut_off env s)
@@ -211,10 +184,7 @@ module _ (env : ServeEnv) (was : Bool) where
       }
 
   pub settled-resets : (s : Service) → IsBehind s → TurnResets env.c was (serving_settled env s)
-  settled-resets s h = go s.over h where
-    go : (o : Option ℕ) → OverTold o (resets_on env.c was s.notes) → TurnResets env.c was (elim o as (λ p. Ending × Turn) [ None ↦ spoken env s [] | Some total ↦ cut_off env s ])
-    go None h = spoken-resets s [] tt
-    go (Some total) h = cut-resets s h
+  settled-resets s h = settled-keeps (TurnResets env.c was) env s (λ e. spoken-resets s [] tt) (λ total e. cut-resets s (subst (λ (o : Option ℕ). OverTold o (resets_on env.c was s.notes)) e h))
 
   -- ---- the front end reads
 

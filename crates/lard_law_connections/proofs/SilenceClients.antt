@@ -1,30 +1,16 @@
 -- A client has said all that it may at the end of each turn, and holds nothing unless it holds.
-use Rattle.std.proofs.Common.{◌≡◌, ◌≤◌, ◌<◌, ◌+◌, ◌==◌, ◌&&◌, ◌||◌, ◌^◌, not, nat_lt, ℕ, zero, suc, Bool, true, false, cond, List, [], ◌∷◌, ◌++◌, length, Option, Some, None, Result, Ok, Err, refl, arith}
+use Rattle.std.proofs.Common.{◌≡◌, ◌≤◌, ◌<◌, ◌+◌, ◌||◌, ◌^◌, not, nat_lt, ℕ, zero, suc, Bool, true, false, cond, List, [], ◌∷◌, ◌++◌, length, Option, Some, None, Result, Ok, Err, refl, arith}
 use Rattle.std.proofs.lemmas.Bool.{both_ways, cond-false, cond-true, cond_both, ltb-false}
-use Rattle.lard_arrival.specs.Arrival.{bare, is_acceptable, is_allowed}
-use Rattle.lard_base.specs.declared.place.Place.{Place}
-use Rattle.lard_client.specs.declared.heard.Heard.{Heard}
-use Rattle.lard_client.specs.declared.phase.Phase.{Phase}
-use Rattle.lard_client.specs.declared.phase.Phase.TheVariants.{Open, Aborted, Reset}
-use Rattle.lard_client.specs.Arriving.{accepting, answers_syn, client_arrived, client_begins_after, client_ends, established, fresh_len, heard_in, heard_nothing, client_on_ack, on_fresh, on_greeting, client_on_rst, client_on_segment, client_on_syn, client_on_text, client_on_unacceptable, client_owing, client_part_of, reset_by_peer}
-use Rattle.lard_client.specs.Control.{ClientBlock, held_on, is_established, is_client_open, is_writing, client_opened, client_rcv_nxt, client_rcv_wnd, shut_down, client_taken, client_written, written_len}
-use Rattle.lard_client.specs.Leaving.{client_ack_ready, client_after_emit, client_after_owed, client_after_piece, client_after_timer, client_emitted, client_owes, client_ready_of, client_told, unsaid}
+use Rattle.lard_law_view.specs.Prelude.{ClientBlock, IsSending, Place, Ready, Said, SegFault, Speaks, Turn, after_next, client_aborts, client_ack_ready, client_after_emit, client_after_piece, client_after_timer, client_arrived, client_emits, client_emitted, client_gets, client_holds, client_opened, client_opens, client_owes, client_ready_of, client_shuts, client_speaks, client_taken, client_takes, client_timer, client_told, client_writes, client_written, fresh_len, held_on, is_client_open, is_established, is_writing, next_piece, queued_too, send_closed, shut_down, silent, speaking, to_front, unsaid, written_len}
+use Rattle.lard_client.specs.declared.phase.Phase.TheVariants.{Aborted}
 use Rattle.lard_client.proofs.Emitting.{owed_falls, told_falls}
 use Rattle.lard_law_connections.specs.Silence.{ClientHasSpoken}
-use Rattle.lard_rules.specs.declared.places.Turn.{Turn}
-use Rattle.lard_rules.specs.Client.{client_aborts, client_gets, client_holds, client_opens, client_shuts, client_takes, client_timer, client_writes, silent, speaking}
-use Rattle.lard_rules.specs.Speaking.{client_emits, client_speaks, to_front}
 use Rattle.lard_rules.proofs.Loops.{client_keeps}
 use Rattle.lard_journal.specs.declared.rec.Rec.TheVariants as rec
-use Rattle.lard_segment.specs.declared.fault.SegFault.{SegFault}
-use Rattle.lard_segment.specs.declared.segment.Ready.{Ready}
-use Rattle.lard_segment.specs.Segment.{Said}
 use Rattle.lard_send.specs.declared.piece.Piece.{Piece}
-use Rattle.lard_send.specs.Send.{IsSending, after_ack, after_next, after_resend, send_closed, next_piece, queued_too, resent_piece}
-use Rattle.lard_seq.specs.Seq.{seq_offset}
-use Rattle.lard_law_view.specs.Truth.{Speaks}
 use Rattle.lard_law_view.proofs.Client.{arriving-continues, closing-speaks, written-speaks}
 use Rattle.lard_law_view.proofs.Speaking.{speaks-begun, speaks-next, speaks-resend}
+use Rattle.lard_rules.proofs.Hearing.{acked, arrived-keeps, client-emit-keeps, client-timer-keeps}
 
 -- ---- what it holds
 
@@ -32,50 +18,18 @@ use Rattle.lard_law_view.proofs.Speaking.{speaks-begun, speaks-next, speaks-rese
 abbrev pub IsHolding : ClientBlock → Type 0
 IsHolding x = x.holding ≡ false → x.held ≡ 0
 
-abbrev Hears : Heard × ClientBlock → Type 0
-Hears r = IsHolding r.1
-
-fresh-holds : (x : ClientBlock) (s : Said) → IsHolding x → Hears (on_fresh x s)
-fresh-holds x s h = cond_both {A = Heard × ClientBlock} (client_begins_after x s || x.eof) (heard_nothing, x) (client_part_of x s, accepting x (fresh_len x s) (client_ends x s)) Hears (λ t. h)
-    (λ t e. let none : cond x.holding (fresh_len x s) 0 ≡ 0 = cond-false x.holding (fresh_len x s) 0 e in omega (arith, h e, none))
-
-text-holds : (x : ClientBlock) (s : Said) → IsHolding x → Hears (client_on_text x s)
-text-holds x s h = cond_both {A = Heard × ClientBlock} ((length s.payload == 0) && not s.flags.fin) (heard_nothing, x) (on_fresh (client_owing x) s) Hears (λ t. h) (λ t. fresh-holds (client_owing x) s h)
-
-ack-holds : (x : ClientBlock) (s : Said) → IsHolding x → Hears (client_on_ack x s)
-ack-holds x s h =
-    let y : ClientBlock = record x { send = after_ack x.send s.ack s.seq s.wnd } in
-    let beyond : Bool = nat_lt x.send.nxt (seq_offset s.ack x.send.iss) in
-    cond_both {A = Heard × ClientBlock} (not s.flags.ack) (heard_nothing, x) (cond beyond (heard_nothing, client_owing x) (client_on_text y s)) Hears (λ t. h)
-    (λ t. cond_both {A = Heard × ClientBlock} beyond (heard_nothing, client_owing x) (client_on_text y s) Hears (λ u. h) (λ u. text-holds y s h))
-
-segment-holds : (x : ClientBlock) (s : Said) → IsHolding x → Hears (client_on_segment x s)
-segment-holds x s h =
-    let owed : Heard × ClientBlock = (heard_nothing, client_owing x) in
-    let next : Bool = s.seq == client_rcv_nxt x in
-    cond_both (is_acceptable (client_rcv_nxt x) (client_rcv_wnd x) s) (client_on_rst x s) (client_on_unacceptable x s) Hears
-    (λ t. cond_both (not s.flags.rst) (client_on_syn x s) (cond next (heard_nothing, reset_by_peer x) owed) Hears
-    (λ u. cond_both s.flags.syn owed (client_on_ack x s) Hears (λ v. h) (λ v. ack-holds x s h))
-    (λ u. cond_both {A = Heard × ClientBlock} next (heard_nothing, reset_by_peer x) owed Hears (λ v. h) (λ v. h)))
-    (λ t. cond_both (is_allowed (client_rcv_nxt x) (client_rcv_wnd x) s) (client_on_ack (client_owing x) (bare s)) (cond s.flags.rst (heard_nothing, x) owed) Hears
-    (λ u. ack-holds (client_owing x) (bare s) h)
-    (λ u. cond_both {A = Heard × ClientBlock} s.flags.rst (heard_nothing, x) owed Hears (λ v. h) (λ v. h)))
-
-greeting-holds : (x : ClientBlock) (s : Said) → IsHolding x → Hears (on_greeting x s)
-greeting-holds x s h =
-    let synced : Heard × ClientBlock = cond s.flags.syn (heard_nothing, established x s) (heard_nothing, x) in
-    cond_both {A = Heard × ClientBlock} (not (answers_syn x s)) (heard_nothing, x) (cond s.flags.rst (heard_nothing, reset_by_peer x) synced) Hears (λ t. h)
-    (λ t. cond_both {A = Heard × ClientBlock} s.flags.rst (heard_nothing, reset_by_peer x) synced Hears (λ u. h)
-    (λ u. cond_both {A = Heard × ClientBlock} s.flags.syn (heard_nothing, established x s) (heard_nothing, x) Hears (λ v. h) (λ v. h)))
-
-phase-holds : (p : Phase) (x : ClientBlock) (s : Said) → IsHolding x → Hears (heard_in p x s)
-phase-holds Open x s h = cond_both (x.send.una == 0) (on_greeting x s) (client_on_segment x s) Hears (λ t. greeting-holds x s h) (λ t. segment-holds x s h)
-phase-holds Aborted x s h = h
-phase-holds Reset x s h = h
-
 arrived-holds : (x : ClientBlock) (s : Said) → IsHolding x → IsHolding (client_arrived x s).1
-unfolding client_arrived
-arrived-holds x s h = phase-holds x.phase x s h
+arrived-holds x s h = arrived-keeps x s (λ r. IsHolding r.1) (record {
+  refuses = λ e. h;
+  ignores = λ e. h;
+  learns = λ e t plain. h;
+  takes = λ e. record {
+    rests = λ owed. h;
+    resets = λ t. h;
+    acks = λ owed c. h;
+    accepts = λ c in_order going e. let none : cond x.holding (fresh_len (acked x s true) s) 0 ≡ 0 = cond-false x.holding (fresh_len (acked x s true) s) 0 e in omega (arith, h e, none);
+  };
+})
 
 -- ---- what it keeps of what it was given
 
@@ -86,20 +40,11 @@ IsGiven x = (bytes : List ℕ) × Speaks x.send bytes
 abbrev pub IsTurning : ClientBlock → Type 0
 IsTurning x = IsGiven x × IsHolding x
 
-piece-turns : (x y : ClientBlock) (p : Option Piece) → IsTurning x → IsTurning y → IsTurning (client_after_piece x p y)
-piece-turns x y (Some p) h k = h
-piece-turns x y None h k = k
-
 emit-turns : (x : ClientBlock) → IsTurning x → IsTurning (client_after_emit x)
-emit-turns x h =
-    let next : ClientBlock = record x { send = after_next x.send } in
-    cond_both (not (is_client_open x)) x (client_after_piece next (next_piece x.send) (client_after_owed x)) IsTurning (λ t. h) (λ t.
-    piece-turns next (client_after_owed x) (next_piece x.send) ((h.0.0, (speaks-next x.send h.0.0 h.0.1).0), h.1) (cond_both (client_owes x) (client_told x) x IsTurning (λ u. h) (λ u. h)))
+emit-turns x h = client-emit-keeps IsTurning x h h ((h.0.0, (speaks-next x.send h.0.0 h.0.1).0), h.1)
 
 timer-turns : (x : ClientBlock) → IsTurning x → IsTurning (client_after_timer x)
-timer-turns x h =
-    let next : ClientBlock = record x { send = after_resend x.send } in
-    cond_both (not (is_client_open x)) x (client_after_piece next (resent_piece x.send) x) IsTurning (λ t. h) (λ t. piece-turns next x (resent_piece x.send) ((h.0.0, (speaks-resend x.send h.0.0 h.0.1).0), h.1) h)
+timer-turns x h = client-timer-keeps IsTurning x h ((h.0.0, (speaks-resend x.send h.0.0 h.0.1).0), h.1)
 
 -- ---- so many segments suffice
 

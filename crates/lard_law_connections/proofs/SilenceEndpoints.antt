@@ -1,36 +1,17 @@
 -- An endpoint has said all that it may at the end of each turn, and tells its window as an open one.
-use Rattle.std.proofs.Common.{◌≡◌, ◌≤◌, ◌<◌, ◌+◌, ◌-◌, ◌==◌, ◌&&◌, ◌^◌, not, nat_lt, min, ℕ, zero, suc, Bool, true, false, cond, List, [], ◌∷◌, length, Option, Some, None, OnSome, refl, subst, arith}
+use Rattle.std.proofs.Common.{◌≡◌, ◌≤◌, ◌<◌, ◌+◌, ◌-◌, ◌^◌, not, min, ℕ, zero, suc, Bool, true, false, cond, List, [], ◌∷◌, length, Option, Some, None, OnSome, refl, subst, arith}
 use Rattle.std.proofs.lemmas.Bool.{cond_both, or_parts}
-use Rattle.lard_answers.specs.Answers.{answer}
-use Rattle.lard_arrival.specs.Arrival.{bare, is_acceptable, is_allowed}
-use Rattle.lard_base.specs.declared.parts.EndpointParts.{EndpointParts}
-use Rattle.lard_base.specs.declared.place.Place.{Place}
-use Rattle.lard_base.specs.declared.place.Via.{Via}
-use Rattle.lard_base.specs.Parts.{IsValidParts}
+use Rattle.lard_law_view.specs.Prelude.{ControlBlock, EndpointParts, IsControlBlock, IsValidParts, Place, Ready, Received, Said, ServeEnv, Service, Verdict, Via, adopted, after_emit, after_timer, answer, answered, arrived, awaited, begins_after, bytes_taken, closes, discarding_on, emits, emits_left, emitted, ended_at_fin, ends, finishing, fresh_bytes, is_closed, listening, may_end, on_segment, queued, queueing, rcv_wnd, speaks, to_client, told}
 use Rattle.lard_law_connections.proofs.LimitsServing.{answered-sound, ended-sound, reads-unfinished}
 use Rattle.lard_law_connections.proofs.LimitsWorking.{KeptByServing}
 use Rattle.lard_law_connections.specs.Silence.{HasSpoken}
 use Rattle.lard_law_connections.proofs.SilenceTurns.{IsKept}
-use Rattle.lard_endpoint.specs.declared.control.arriving.Arrival.{Arrival}
-use Rattle.lard_endpoint.specs.declared.control.arriving.Arrival.TheVariants.{Fine, AckOwed, Reset}
-use Rattle.lard_endpoint.specs.Arriving.{on_ack, on_acked, on_rst, on_segment, on_syn, on_text, on_unacceptable, owing}
-use Rattle.lard_endpoint.specs.Control.{ControlBlock, IsControlBlock, discarding_on, finishing, listening, queueing, rcv_nxt, rcv_wnd}
-use Rattle.lard_endpoint.specs.Leaving.{advanced, after_emit, after_owed, after_piece, after_timer, emits_left, emitted, owes, retried, told}
-use Rattle.lard_endpoint.specs.Moving.{adopted, is_closed, may_end}
 use Rattle.lard_endpoint.proofs.Ends.{emit-falls}
 use Rattle.lard_endpoint.proofs.Sound.{after_emit-sound, after_timer-sound, on_segment-sound}
-use Rattle.lard_recv.specs.Recv.{Received, arrived, awaited, begins_after, ends, fresh_bytes, bytes_taken}
-use Rattle.lard_request.specs.declared.verdict.Verdict.{Verdict}
-use Rattle.lard_request.specs.Verdict.{closes}
-use Rattle.lard_rules.specs.Serving.{ServeEnv, Service, answered, ended_at_fin, passed_over, queued}
-use Rattle.lard_rules.specs.Speaking.{emits, speaks, to_client}
 use Rattle.lard_rules.proofs.Endpoints.{consuming-sound, listening-sound}
 use Rattle.lard_rules.proofs.Loops.{speaks_keep}
-use Rattle.lard_segment.specs.declared.segment.Ready.{Ready}
-use Rattle.lard_segment.specs.Segment.{Said}
-use Rattle.lard_send.specs.declared.piece.Piece.{Piece}
-use Rattle.lard_send.specs.Send.{after_ack, next_piece, resent_piece}
-use Rattle.lard_seq.specs.Seq.{seq_offset}
+use Rattle.lard_rules.proofs.Endings.{answered-keeps, at-fin-keeps}
+use Rattle.lard_rules.proofs.Hearing.{emit-keeps, segment-keeps, timer-keeps}
 
 -- ---- windows
 
@@ -50,61 +31,32 @@ IsTurning b = IsControlBlock b × IsTelling b
 
 -- ---- a segment that comes leaves the last window as it was, and takes nothing back
 
-abbrev Onward : ControlBlock → Arrival × ControlBlock → Type 0
-Onward b r = (r.1.last_window ≡ b.last_window) × (b.recv.got ≤ r.1.recv.got)
+abbrev Onward : ControlBlock → ControlBlock → Type 0
+Onward b d = (d.last_window ≡ b.last_window) × (b.recv.got ≤ d.recv.got)
 
 got-arrived : (r : Received) (seq : ℕ) (bytes : List ℕ) (fin : Bool) → r.got ≤ (arrived r seq bytes fin).got
 got-arrived r seq bytes fin =
     let more : Received = bytes_taken r (fresh_bytes r seq bytes) (ends r seq bytes fin) in
     cond_both (begins_after seq (awaited r)) r (cond r.fin r more) (λ (z : Received). r.got ≤ z.got) (λ t. omega arith) (λ t. cond_both r.fin r more (λ (z : Received). r.got ≤ z.got) (λ u. omega arith) (λ u. omega arith))
 
-acked-onward : (b : ControlBlock) (s : Said) → Onward b (on_acked b s)
-acked-onward b s =
-    let text : Arrival × ControlBlock = (AckOwed, record b { recv = arrived b.recv s.seq s.payload s.flags.fin; owed = true }) in
-    cond_both {A = Arrival × ControlBlock} (b.send.una == 0) (Fine, b) (on_text b s) (Onward b) (λ t. (refl, omega arith)) (λ t.
-    cond_both {A = Arrival × ControlBlock} (length s.payload == 0 && not s.flags.fin) (Fine, b) text (Onward b) (λ u. (refl, omega arith)) (λ u. (refl, got-arrived b.recv s.seq s.payload s.flags.fin)))
-
-ack-onward : (b : ControlBlock) (s : Said) → Onward b (on_ack b s)
-ack-onward b s =
-    let sent : ControlBlock = record b { send = after_ack b.send s.ack s.seq s.wnd } in
-    let beyond : Bool = nat_lt b.send.nxt (seq_offset s.ack b.send.iss) in
-    cond_both {A = Arrival × ControlBlock} (not s.flags.ack) (Fine, b) (cond beyond (AckOwed, owing b) (on_acked sent s)) (Onward b) (λ t. (refl, omega arith)) (λ t.
-    cond_both {A = Arrival × ControlBlock} beyond (AckOwed, owing b) (on_acked sent s) (Onward b) (λ u. (refl, omega arith)) (λ u. acked-onward sent s))
-
-heard-onward : (b : ControlBlock) (s : Said) → Onward b (on_segment b s)
-heard-onward b s =
-    let owed : Arrival × ControlBlock = (AckOwed, owing b) in
-    let reset : Arrival × ControlBlock = (Reset, record b { reset = true }) in
-    let next : Bool = s.seq == rcv_nxt b in
-    cond_both (is_acceptable (rcv_nxt b) (rcv_wnd b) s) (on_rst b s) (on_unacceptable b s) (Onward b)
-    (λ t. cond_both (not s.flags.rst) (on_syn b s) (cond next reset owed) (Onward b)
-    (λ u. cond_both s.flags.syn owed (on_ack b s) (Onward b) (λ v. (refl, omega arith)) (λ v. ack-onward b s))
-    (λ u. cond_both next reset owed (Onward b) (λ v. (refl, omega arith)) (λ v. (refl, omega arith))))
-    (λ t. cond_both {A = Arrival × ControlBlock} (is_allowed (rcv_nxt b) (rcv_wnd b) s) (AckOwed, (on_ack (owing b) (bare s)).1) (cond s.flags.rst (Fine, b) owed) (Onward b)
-    (λ u. ack-onward (owing b) (bare s))
-    (λ u. cond_both {A = Arrival × ControlBlock} s.flags.rst (Fine, b) owed (Onward b) (λ v. (refl, omega arith)) (λ v. (refl, omega arith))))
+heard-onward : (b : ControlBlock) (s : Said) → Onward b (on_segment b s).1
+heard-onward b s = segment-keeps b s (Onward b) (record {
+  rests = λ owed. (refl, omega arith);
+  resets = λ t. (refl, omega arith);
+  acks = λ owed c. (refl, omega arith);
+  comes = λ c some. (refl, got-arrived b.recv s.seq s.payload s.flags.fin);
+})
 
 pub heard-turns : (b : ControlBlock) (s : Said) → IsTurning b → IsTurning (on_segment b s).1
 heard-turns b s h = let on = heard-onward b s in (on_segment-sound b s h.0, omega (arith, on.0, on.1, h.1))
 
 -- ---- what goes out tells the window
 
-piece-tells : (b d : ControlBlock) (p : Option Piece) → 16384 ≤ rcv_wnd b + b.recv.got → IsTelling d → IsTelling (after_piece b p d)
-piece-tells b d (Some p) wide h = wide
-piece-tells b d None wide h = h
-
 pub emit-turns : (b : ControlBlock) → IsTurning b → IsTurning (after_emit b)
-emit-turns b h = (
-  after_emit-sound b h.0,
-  cond_both b.reset b (after_piece (advanced b) (next_piece b.send) (after_owed (advanced b))) IsTelling (λ t. h.1) (λ t.
-      piece-tells (advanced b) (after_owed (advanced b)) (next_piece b.send) (window-wide b h.0) (cond_both (owes (advanced b)) (told (advanced b)) (advanced b) IsTelling (λ u. window-wide b h.0) (λ u. h.1))),
-)
+emit-turns b h = (after_emit-sound b h.0, emit-keeps IsTelling b h.1 h.1 (window-wide b h.0))
 
 pub timer-turns : (b : ControlBlock) → IsTurning b → IsTurning (after_timer b)
-timer-turns b h = (
-  after_timer-sound b h.0,
-  cond_both b.reset b (after_piece (retried b) (resent_piece b.send) (retried b)) IsTelling (λ t. h.1) (λ t. piece-tells (retried b) (retried b) (resent_piece b.send) (window-wide b h.0) h.1),
-)
+timer-turns b h = (after_timer-sound b h.0, timer-keeps IsTelling b h.1 h.1 (window-wide b h.0))
 
 -- ---- so many segments suffice
 
@@ -137,13 +89,12 @@ spoke c b h stays =
 answered-tells : (env : ServeEnv) (via : Via) (v : Verdict) (w : Service) → IsTelling w.block → IsTelling (answered env via v w).block
 answered-tells env via v w h =
     let bytes = answer env.files v in
-    let total = w.block.send.total + length bytes in
     let more = queueing w.block bytes in
-    cond_both (nat_lt env.stream total) (passed_over env total w) (queued env via v bytes w) (λ (z : Service). IsTelling z.block) (λ t. h)
+    answered-keeps (λ (z : Service). IsTelling z.block) env via v w (λ t. h)
     (λ t. cond_both (closes v) (finishing (discarding_on more)) more IsTelling (λ u. h) (λ u. h))
 
 ended-tells : (w : Service) → IsTelling w.block → IsTelling (ended_at_fin w).block
-ended-tells w h = cond_both w.block.recv.fin (record w { block = finishing w.block }) w (λ (z : Service). IsTelling z.block) (λ t. h) (λ t. h)
+ended-tells w h = at-fin-keeps (λ (z : Service). IsTelling z.block) w (λ t. h) (λ t. h)
 
 serving-turns : (env : ServeEnv) → env.stream ≤ 2 ^ 30 → KeptByServing env (λ (w : Service). IsTurning w.block)
 serving-turns env small = record {

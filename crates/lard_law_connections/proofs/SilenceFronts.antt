@@ -1,28 +1,13 @@
 -- What the front end does with an endpoint keeps what each of its operations keeps.
 use Rattle.std.proofs.Common.{false, ◌≡◌, ℕ, true, List, [], ◌∷◌, Option, Some, None, Ok, IfSome, refl}
-use Rattle.lard_base.specs.declared.place.Place.{Place}
+use Rattle.lard_law_view.specs.Prelude.{Ask, Call, ControlBlock, Ending, Final, First, FirstChoice, FrontConn, FrontDeed, FrontEnv, FrontPart, FrontRest, FrontRow, FrontTurn, Place, Said, Service, Turn, front_admitted, front_asked, front_ended, front_fired, front_gets, front_rest, front_taken, front_timer, is_plain_syn, is_row_at, last_words, leaves_by, listening, serving_settled, spoken, stage_after, tombstone}
 use Rattle.lard_law_connections.specs.SilencePlaces.{FrontHas, FrontStageHas, KnownHas}
 use Rattle.lard_law_connections.proofs.SilencePlaces.{front-known}
 use Rattle.lard_law_connections.proofs.SilenceTurns.{AreTold, EndHas, IsKept, TurnHas, fired-has, nobody, reads-keep, settled-has, spoken-has}
-use Rattle.lard_dispatch.specs.declared.dispatch.Ask.{Ask}
-use Rattle.lard_dispatch.specs.declared.dispatch.First.{First}
-use Rattle.lard_dispatch.specs.Laws.{Call}
 use Rattle.lard_dispatch.specs.Laws as call
-use Rattle.lard_endpoint.specs.declared.control.moving.Final.{Final}
-use Rattle.lard_endpoint.specs.Control.{ControlBlock, listening}
-use Rattle.lard_rules.specs.declared.front.FrontRest.{FrontRest}
-use Rattle.lard_rules.specs.declared.front.FrontTurn.{FrontTurn}
-use Rattle.lard_rules.specs.Front.{FrontDeed, Drops, Says, Does, FrontEnv, FrontPart, front_fired, front_admitted, front_asked, front_ended, front_gets, front_taken, front_timer, is_row_at, leaves_by, front_rest, stage_after}
-use Rattle.lard_handoff_front.specs.declared.row.FrontConn.{FrontConn}
+use Rattle.lard_rules.specs.Front.{Drops, Says, Does}
 use Rattle.lard_handoff_front.specs.declared.row.FrontConn.TheVariants as stage
-use Rattle.lard_handoff_front.specs.declared.row.FrontRow.{FrontRow}
-use Rattle.lard_policy.specs.declared.first.FirstChoice.{FirstChoice}
-use Rattle.lard_rules.specs.declared.places.Ending.{Ending}
 use Rattle.lard_rules.specs.declared.places.Ending.TheVariants as ending
-use Rattle.lard_rules.specs.declared.places.Turn.{Turn}
-use Rattle.lard_rules.specs.Tombstone.{is_plain_syn, last_words, tombstone}
-use Rattle.lard_rules.specs.Serving.{Service, serving_settled, spoken}
-use Rattle.lard_segment.specs.Segment.{Said}
 use Rattle.lard_rules.proofs.FrontCases.{KeptBySegment, of-stage, begun_row, begun_service, heard_reading, heard_service, rests_in, waiting_service, segment-keeps, timer-keeps, taken-keeps, asked-keeps, ended-keeps, admitted-keeps}
 
 -- what it keeps behind a deed, and what goes out: by the endpoint that stays, and else by some endpoint or by any

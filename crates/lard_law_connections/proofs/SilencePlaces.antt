@@ -1,15 +1,9 @@
 -- What is so of an endpoint wherever it is, so is what follows from that.
 use Rattle.std.proofs.Common.{◌≡◌, Option, Some, None}
 use Rattle.lard_law_connections.specs.SilencePlaces.{BackHas, BackStageHas, FrontHas, FrontStageHas, HereHas, KnownHas, NodeHas}
-use Rattle.lard_endpoint.specs.Control.{ControlBlock}
-use Rattle.lard_handoff_back.specs.declared.row.BackConn.{BackConn}
+use Rattle.lard_law_view.specs.Prelude.{BackConn, BackRow, ControlBlock, FrontConn, FrontRow, NodePart, Stay}
 use Rattle.lard_handoff_back.specs.declared.row.BackConn.TheVariants as back
-use Rattle.lard_handoff_back.specs.declared.row.BackRow.{BackRow}
-use Rattle.lard_handoff_front.specs.declared.row.FrontConn.{FrontConn}
 use Rattle.lard_handoff_front.specs.declared.row.FrontConn.TheVariants as stage
-use Rattle.lard_handoff_front.specs.declared.row.FrontRow.{FrontRow}
-use Rattle.lard_rules.specs.declared.stay.Stay.{Stay}
-use Rattle.lard_rules.specs.Node.{NodePart}
 
 module _ (P Q : ControlBlock → Type 0) (w : (b : ControlBlock) → P b → Q b) where
   stage-weaker : (st : FrontConn) → FrontStageHas P st → FrontStageHas Q st

@@ -1,11 +1,7 @@
 -- Each rule leaves nothing to be said, so it is in every run.
 use Rattle.std.proofs.Common.{◌≡◌, ◌≤◌, ◌^◌, ℕ, List, [], Option, Some, None, Result, Ok, Err, IfSome, sym, subst}
 use Rattle.lard_base.specs.declared.event.Event.TheVariants as event
-use Rattle.lard_base.specs.declared.parts.EndpointParts.{EndpointParts}
-use Rattle.lard_base.specs.declared.place.Place.TheVariants.{Client, Front, Node}
-use Rattle.lard_base.specs.Parts.{IsValidParts}
-use Rattle.lard_client.specs.Control.{ClientBlock}
-use Rattle.lard_endpoint.specs.Control.{ControlBlock}
+use Rattle.lard_law_view.specs.Prelude.{Client, ClientBlock, ClientRules, Conn, ControlBlock, EndpointParts, Forwarded, Front, FrontRules, IsFrontEnv, IsLaw, IsNodeEnv, IsValidParts, MayRestOn, Move, Node, NodeEnv, NodeGets, NodeRules, Offered, Rules, Said, Seen, SegFault, Setting, SpellsMessage, Station, ToCluster, ask_of, decoded, event_seen, front_asked, front_does, front_ended, front_gets, front_taken, front_timer, grown, last_words, node_does, node_rule, packet_seen, setting, with_station}
 use Rattle.lard_law_connections.proofs.PolicyMessages.{IsTold, message-told}
 use Rattle.lard_law_connections.specs.SilenceLaws.{ConnectionsHaveSpoken}
 use Rattle.lard_law_connections.specs.SilencePlaces.{FrontHas, NodeHas}
@@ -16,22 +12,12 @@ use Rattle.lard_law_connections.proofs.SilenceFronts as fronts
 use Rattle.lard_law_connections.proofs.SilenceNodes as nodes
 use Rattle.lard_law_connections.proofs.SilencePlaces.{known-front, node-weaker}
 use Rattle.lard_law_connections.proofs.SilenceTurns.{IsKept}
-use Rattle.lard_law_view.specs.Carry.{IsLaw, MayRestOn, setting}
-use Rattle.lard_law_view.specs.View.{ClientRules, Conn, FrontRules, IsFrontEnv, IsNodeEnv, Move, NodeRules, Rules, Setting, SpellsMessage, event_seen, front_does, grown, node_does, packet_seen, with_station}
 use Rattle.lard_law_view.proofs.Carried.{carried}
+use Rattle.lard_law_view.proofs.EachNode.{NodeComes, each-node}
 use Rattle.lard_law_view.proofs.Parts.{put-each}
 use Rattle.lard_rules.specs.Front as front
-use Rattle.lard_rules.specs.Front.{ask_of, front_asked, front_ended, front_gets, front_taken, front_timer}
-use Rattle.lard_history.specs.Own.{Seen}
 use Rattle.lard_message.specs.declared.message.Body.TheVariants as body
 use Rattle.lard_rules.specs.Node as node
-use Rattle.lard_rules.specs.Node.{node_acknowledged, node_content, node_forwarded, node_offered, node_read, node_tagged, node_timer}
-use Rattle.lard_rules.specs.Stay.{NodeEnv}
-use Rattle.lard_rules.specs.declared.places.Station.{Station}
-use Rattle.lard_rules.specs.Tombstone.{last_words}
-use Rattle.lard_segment.specs.declared.fault.SegFault.{SegFault}
-use Rattle.lard_segment.specs.declared.segment.Dir.TheVariants.{ToCluster}
-use Rattle.lard_segment.specs.Segment.{Said, decoded}
 
 -- no other law is needed
 abbrev Nothing : Conn → Type 0
@@ -106,26 +92,20 @@ module _ (k : Setting) (small : k.stream ≤ 2 ^ 30) where
   node-kept : (x : Conn) (n epoch : ℕ) (env : NodeEnv) → IsNodeEnv k x.c n epoch env → IsKept env.serve IsTurning HasSpoken Anything AnyReply
   node-kept x n epoch env is = endpoint-law env.serve (subst (λ (n : ℕ). n ≤ 2 ^ 30) (sym is.stream) small)
 
+  node-given : (x : Conn) (n epoch : ℕ) (env : NodeEnv) (is : IsNodeEnv k x.c n epoch env) (heads : List Seen) → AllHaveSpoken x → (g : NodeGets)
+      → NodeComes x n epoch heads g
+      → nodes.Given env IsTurning HasSpoken HasSpoken Anything AnyReply (node-kept x n epoch env is) (x.part.nodes n) g
+  node-given x n epoch env is heads h (Offered parts) c = λ new. adopted-turns parts (offer-valid x.c epoch parts c.bytes c.spells)
+  node-given x n epoch env is heads h (Forwarded given) c = (h.nodes n, λ s e. tt)
+  node-given x n epoch env is heads h _ c = h.nodes n
+
   node-rules : NodeRules k Speaks
-  node-rules = record {
-    offered = λ x n epoch env parts bytes is spells was may h. node-move x n (packet_seen Front (Node n) bytes) env.serve.c (node_offered env (x.part.nodes n) parts)
-        (nodes.offered-has env IsTurning HasSpoken HasSpoken Anything AnyReply (node-kept x n epoch env is) (x.part.nodes n) parts (λ new. adopted-turns parts (offer-valid x.c epoch parts bytes spells))) h;
-    forwarded = λ x n epoch env segment bytes is spells was may h. node-move x n (packet_seen Front (Node n) bytes) env.serve.c (node_forwarded env (x.part.nodes n) (decoded segment x.c ToCluster))
-        (nodes.forwarded-has env IsTurning HasSpoken HasSpoken Anything AnyReply (node-kept x n epoch env is) (x.part.nodes n) (h.nodes n) (decoded segment x.c ToCluster) (λ s e. tt)) h;
-    tagged = λ x n epoch number tags env bytes is spells was may h. node-move x n (packet_seen Front (Node n) bytes) env.serve.c (node_tagged env (x.part.nodes n) number tags)
-        (nodes.tagged-has env IsTurning HasSpoken HasSpoken Anything AnyReply (node-kept x n epoch env is) (x.part.nodes n) (h.nodes n) number tags) h;
-    content = λ x n from epoch r env file bytes is spells was may h. node-move x n (packet_seen (Node from) (Node n) bytes) env.serve.c (node_content env (x.part.nodes n) from r)
-        (nodes.content-has env IsTurning HasSpoken HasSpoken Anything AnyReply (node-kept x n epoch env is) (x.part.nodes n) (h.nodes n) from r) h;
-    acknowledged = λ x n epoch env bytes is spells was may h. node-move x n (packet_seen Front (Node n) bytes) env.serve.c (node_acknowledged env (x.part.nodes n))
-        (nodes.acknowledged-has env IsTurning HasSpoken HasSpoken Anything AnyReply (node-kept x n epoch env is) (x.part.nodes n) (h.nodes n)) h;
-    read = λ x n epoch r env path is may h.
-        node-move x n [] env.serve.c (node_read env (x.part.nodes n) r) (nodes.read-has env IsTurning HasSpoken HasSpoken Anything AnyReply (node-kept x n epoch env is) (x.part.nodes n) (h.nodes n) r) h;
-    fires = λ x s n env there is may h. node-move x n (event_seen (event.Timer (Node n) x.c)) env.serve.c (node_timer env (x.part.nodes n))
-        (nodes.timer-has env IsTurning HasSpoken HasSpoken Anything AnyReply (node-kept x n _ env is) (x.part.nodes n) (h.nodes n)) h;
-    answers = λ x n from epoch r path file bytes there spells was may h. h;
-    queues = λ x n from epoch r path file bytes there spells was may h. h;
-    brings = λ x n from epoch r path may h. h;
-  }
+  node-rules = each-node k Speaks (record {
+    does = λ x n epoch env heads g is at comes may h. node-move x n heads env.serve.c (node_rule env (x.part.nodes n) g)
+        (nodes.rule-has env IsTurning HasSpoken HasSpoken Anything AnyReply (node-kept x n epoch env is) (x.part.nodes n) g at
+        (node-given x n epoch env is heads h g comes)) h;
+    aside = λ x n a may rest h. h;
+  })
 
   rules : Rules k Speaks
   rules = record {

@@ -1,37 +1,18 @@
 -- What each operation of an endpoint keeps, and of what it says is so, a turn of a place keeps, whichever place it is.
 use Rattle.std.proofs.Common.{◌≡◌, ◌+◌, ℕ, true, false, List, [], ◌∷◌, ◌++◌, length, Option, Some, None, refl, subst}
 use Rattle.std.proofs.lemmas.Bool.{cond_both}
-use Rattle.lard_answers.specs.Answers.{good_path}
-use Rattle.lard_base.specs.declared.place.Place.{Place}
-use Rattle.lard_base.specs.declared.place.Place.TheVariants.{Client}
+use Rattle.lard_law_view.specs.Prelude.{Client, ControlBlock, Done, Ending, Found, More, Place, Reading, Ready, Said, ServeEnv, Service, Step, ToClient, Turn, Verdict, after_emit, after_timer, block_at, cut_of, cut_off, emitted, filled, final_of, front_reads, good_path, limit_said, may_end, may_freeze, may_read, on_segment, reading_left, reading_turn, reads_block, reads_found, rested, restored, send_begun, serving, serving_consumed, serving_ready_of, serving_settled, serving_told, speaks, speaks_symbols, spelled, spoken, timed, to_client}
 use Rattle.lard_base.specs.declared.place.Reason.TheVariants.{Limit}
 use Rattle.lard_base.specs.declared.place.Via.TheVariants.{Own}
-use Rattle.lard_block.specs.declared.block.Found.{Found}
 use Rattle.lard_block.specs.declared.block.Found.TheVariants as found
-use Rattle.lard_block.specs.Blocks.{cut_of}
 use Rattle.lard_law_connections.proofs.LimitsWorking.{KeptByServing}
-use Rattle.lard_endpoint.specs.Arriving.{on_segment}
-use Rattle.lard_endpoint.specs.Control.{ControlBlock}
-use Rattle.lard_endpoint.specs.Leaving.{after_emit, after_timer, emitted, filled, timed}
-use Rattle.lard_endpoint.specs.Moving.{end_reason, final_of, may_end, may_freeze}
-use Rattle.lard_rules.specs.FrontReading.{Reading, block_at, reading_left, front_reads, reads_block, reads_found, reading_turn}
 use Rattle.lard_history.proofs.Each.{Each, Each-append, Each-weaker}
-use Rattle.lard_recv.specs.Recv.{restored}
 use Rattle.lard_request.specs.declared.verdict.Code.TheVariants as code
-use Rattle.lard_request.specs.declared.verdict.Verdict.{Verdict}
 use Rattle.lard_request.specs.declared.verdict.Verdict.TheVariants.{Fault}
-use Rattle.lard_rules.specs.declared.places.Ending.{Ending}
 use Rattle.lard_rules.specs.declared.places.Ending.TheVariants as ending
-use Rattle.lard_rules.specs.declared.places.Turn.{Turn}
-use Rattle.lard_rules.specs.Loop.{Step, More, Done}
-use Rattle.lard_rules.specs.Serving.{ServeEnv, Service, serving_consumed, cut_off, limit_said, may_read, serving_ready_of, rested, serving, serving_settled, spoken, serving_told}
-use Rattle.lard_rules.specs.Speaking.{speaks, speaks_symbols, to_client}
 use Rattle.lard_rules.proofs.Loops.{speaks_keep, symbols_keep}
 use Rattle.lard_rules.proofs.Runs.{runs_keep}
-use Rattle.lard_segment.specs.declared.segment.Dir.TheVariants.{ToClient}
-use Rattle.lard_segment.specs.declared.segment.Ready.{Ready}
-use Rattle.lard_segment.specs.Segment.{Said, spelled}
-use Rattle.lard_send.specs.Send.{send_begun}
+use Rattle.lard_rules.proofs.Endings.{rested-keeps, settled-keeps}
 
 -- ---- what goes out
 
@@ -103,7 +84,7 @@ module _ (env : ServeEnv) (P R : ControlBlock → Type 0) (Word : Said → Type 
     pub sent : (d : ControlBlock) × AreTold env.c (Reply d) given.1.segments
 
   rested-has : (ss : List (Place × List ℕ)) (b : ControlBlock) (count : ℕ) → AreTold env.c (Reply b) ss → (may_end b ≡ false → R b) → EndHas ss (rested b count)
-  rested-has ss b count sent h = cond_both (may_end b) (ending.Over (final_of b (end_reason b))) (ending.Here b count) (EndHas ss) (λ t. tt) (λ t. (h t, sent))
+  rested-has ss b count sent h = rested-keeps (EndHas ss) b count (λ t. tt) (λ t. (h t, sent))
 
   pub spoken-has : (w : Service) (before : List (Place × List ℕ)) → P w.block → AreTold env.c (Reply w.block) before → TurnHas (spoken env w before)
   spoken-has w before h sent =
@@ -121,10 +102,7 @@ module _ (env : ServeEnv) (P R : ControlBlock → Type 0) (Word : Said → Type 
       record { ends = tt; sent = (d, Each-append (Told env.c (Reply d)) (speaks_symbols env.c w.block).0 (serving_told env last ∷ []) l.sent ((refl, (last, refl, k.cuts d l.kept)), tt)) }
 
   pub settled-has : (w : Service) → P w.block → TurnHas (serving_settled env w)
-  settled-has w h = go w.over where
-    go : (o : Option ℕ) → TurnHas (elim o as (λ p. Ending × Turn) [ None ↦ spoken env w [] | Some total ↦ cut_off env w ])
-    go None = spoken-has w [] h tt
-    go (Some total) = cut-has w h
+  settled-has w h = settled-keeps TurnHas env w (λ e. spoken-has w [] h tt) (λ total e. cut-has w h)
 
   -- what its timer sends again goes out first
   pub fired-has : (b : ControlBlock) (count : ℕ) → R b → TurnHas (spoken env (serving (after_timer b) count []) (serving_ready_of env (after_timer b) (timed b)))

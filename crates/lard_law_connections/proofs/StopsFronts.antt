@@ -1,44 +1,20 @@
 -- The front end reads until no request is left, or the next one is to be placed.
-use Rattle.std.proofs.Common.{◌≡◌, ◌⊎◌, ◌+◌, ◌<◌, ℕ, zero, suc, Bool, true, false, List, [], length, Option, Some, None, Result, Ok, Err, inl, inr, ⊎_elim, refl, sym, ◌∙◌, arith}
+use Rattle.std.proofs.Common.{◌≡◌, ◌⊎◌, ◌+◌, ◌<◌, ℕ, zero, suc, Bool, true, false, List, [], length, Option, Some, None, inl, inr, ⊎_elim, refl, sym, ◌∙◌, arith}
 use Rattle.std.proofs.lemmas.Bool.{both_ways, cond_both}
-use Rattle.lard_answers.specs.Answers.{FilesAt, good_path}
-use Rattle.lard_base.specs.declared.place.Place.{Place}
+use Rattle.lard_law_view.specs.Prelude.{Conn, ControlBlock, Done, Ending, FilesAt, Found, FrontConn, FrontDeed, FrontEnv, FrontGets, FrontPart, FrontRow, HasStopped, More, Place, Reading, Said, Seen, ServeEnv, Service, Step, Verdict, after_timer, answered, block_at, cut_of, front_does, front_fired, front_reads, front_rest, front_rule, good_path, grown, holds, may_freeze, may_read, on_segment, reading_left, reading_turn, reads_block, reads_found, runs_on, serving_consumed, serving_settled, speaks, spoken, stage_after, targeted}
 use Rattle.lard_base.specs.declared.place.Via.TheVariants.{Own}
-use Rattle.lard_block.specs.declared.block.Found.{Found}
 use Rattle.lard_block.specs.declared.block.Found.TheVariants as found
-use Rattle.lard_block.specs.Blocks.{cut_of}
 use Rattle.lard_law_connections.specs.Stops.{FrontStageStops, FrontStops, HeldStops, IsHeldBack, ReadingStops}
-use Rattle.lard_law_connections.proofs.StopsSame.{Same, Stays, answered-closes, closed-there, ended-stopped, none-behind, rested-stays, same-held, same-stopped, segment-closes, speaks-same, timer-same}
-use Rattle.lard_law_view.specs.View.{Conn, front_does, grown}
-use Rattle.lard_dispatch.specs.declared.dispatch.Ask.{Ask}
-use Rattle.lard_endpoint.specs.declared.control.moving.Final.{Final}
-use Rattle.lard_endpoint.specs.Arriving.{on_segment}
-use Rattle.lard_endpoint.specs.Control.{ControlBlock}
-use Rattle.lard_endpoint.specs.Leaving.{after_timer}
-use Rattle.lard_endpoint.specs.Moving.{may_freeze}
-use Rattle.lard_rules.specs.declared.front.FrontTurn.{FrontTurn}
-use Rattle.lard_rules.specs.Front.{FrontDeed, Drops, Says, Does, FrontEnv, FrontPart, front_fired, front_admitted, front_asked, front_ended, front_gets, front_taken, front_timer, holds, front_rest, stage_after}
-use Rattle.lard_rules.specs.FrontReading.{Reading, block_at, reading_left, front_reads, reads_block, reads_found, targeted, reading_turn}
+use Rattle.lard_law_connections.proofs.StopsSame.{Same, Stays, answered-closes, closed-there, ended-stopped, none-behind, spoken-calm, same-held, same-stopped, segment-closes, speaks-same, timer-same}
+use Rattle.lard_rules.specs.Front.{Drops, Says, Does}
 use Rattle.lard_rules.proofs.FrontTurns.{falls}
-use Rattle.lard_handoff_front.specs.declared.row.FrontConn.{FrontConn}
 use Rattle.lard_handoff_front.specs.declared.row.FrontConn.TheVariants as stage
-use Rattle.lard_handoff_front.specs.declared.row.FrontRow.{FrontRow}
-use Rattle.lard_history.specs.Own.{Seen}
-use Rattle.lard_law_view.specs.Agreement.{HasStopped}
 use Rattle.lard_law_view.proofs.Stopping.{stopped-arrived, stopped-begun, stopped-discarding, unfinished-there}
-use Rattle.lard_policy.specs.declared.first.FirstChoice.{FirstChoice}
 use Rattle.lard_request.specs.declared.verdict.Code.TheVariants as code
-use Rattle.lard_request.specs.declared.verdict.Verdict.{Verdict}
 use Rattle.lard_request.specs.declared.verdict.Verdict.TheVariants.{Fault}
-use Rattle.lard_rules.specs.declared.places.Ending.{Ending}
 use Rattle.lard_rules.specs.declared.places.Ending.TheVariants as ending
-use Rattle.lard_rules.specs.declared.places.Turn.{Turn}
-use Rattle.lard_rules.specs.Loop.{Step, More, Done, runs_on}
-use Rattle.lard_rules.specs.Serving.{ServeEnv, Service, answered, serving_consumed, cut_off, may_read, serving_settled, spoken}
-use Rattle.lard_rules.specs.Speaking.{speaks}
-use Rattle.lard_segment.specs.declared.fault.SegFault.{SegFault}
-use Rattle.lard_segment.specs.Segment.{Said}
-use Rattle.lard_rules.proofs.FrontCases.{KeptBySegment, IsInStage, of-stage, begun_service, fired_before, fired_service, heard_service, waiting_service, segment-keeps, timer-keeps, taken-keeps, asked-keeps, ended-keeps, admitted-keeps}
+use Rattle.lard_rules.proofs.FrontCases.{KeptBySegment, IsInStage, of-stage, begun_service, fired_before, fired_service, heard_service, waiting_service, IsAsGiven, KeptByFront, front-keeps}
+use Rattle.lard_rules.proofs.Endings.{settled-keeps}
 
 -- ---- the loop
 
@@ -99,7 +75,7 @@ module _ (env : ServeEnv) where
   spoken-stops s before h =
       let b : ControlBlock = (speaks env.c s.block).1 in
       let same : Same s.block b = speaks-same env.c s.block in
-      rested-stays (HeldStops env.files) b s.count (λ calm. (
+      spoken-calm (HeldStops env.files) env s before (λ calm. (
         calm,
         ⊎_elim
             (λ (t : HasStopped s.block). inl (same-stopped s.block b same t))
@@ -108,10 +84,7 @@ module _ (env : ServeEnv) where
       ))
 
   settled-stops : (s : Service) → (s.over ≡ None → s.block.reset ≡ false → HasStopped s.block ⊎ IsHeldBack env.files s.block) → Stays (HeldStops env.files) (serving_settled env s).0
-  settled-stops s h = go s.over refl where
-    go : (o : Option ℕ) → s.over ≡ o → Stays (HeldStops env.files) (elim o as (λ p. Ending × Turn) [ None ↦ spoken env s [] | Some total ↦ cut_off env s ]).0
-    go None e = spoken-stops s [] (h e)
-    go (Some total) e = tt
+  settled-stops s h = settled-keeps (λ given. Stays (HeldStops env.files) given.0) env s (λ e. spoken-stops s [] (h e)) (λ total e. tt)
 
 -- ---- what the front end keeps
 
@@ -163,36 +136,32 @@ module _ (env : FrontEnv) (p : FrontPart) (h : FrontStops env.serve.files p.row)
     words = λ row last at. tt;
   }
 
-  pub gets-stops : (bytes : List ℕ) (r : Result Said SegFault) → Goes (front_gets env p bytes r)
-  gets-stops bytes (Err fault) = tt
-  gets-stops bytes (Ok s) = segment-keeps env p bytes s Came Goes (by-segment bytes s)
-
   fired-stops : (row : FrontRow) (b : ControlBlock) → HeldStops own b → Stays (HeldStops own) (front_fired env (front_rest p.rest) b).0
   fired-stops row b held =
       let same : Same b (after_timer b) = timer-same b in
       spoken-stops env.serve (fired_service p b) (fired_before env b) (λ calm.
       ⊎_elim (λ (t : HasStopped b). inl (same-stopped b (after_timer b) same t)) (λ (t : IsHeldBack own b). inr (same-held own b (after_timer b) same t)) held.1)
 
-  pub timer-stops : Goes (front_timer env p)
-  timer-stops = timer-keeps env p Goes (record {
+  by-rules : KeptByFront env p (λ g. Unit {0}) Came Goes
+  by-rules = record {
     drops = tt;
-    holds = λ row b at. stage-held (front_fired env (front_rest p.rest) b).0 (fired-stops row b (held-row row (stage.Held b) at));
-    stays = λ row b at. stage-waiting (front_fired env (front_rest p.rest) b).0;
-    resends = λ row n e at. tt;
-  })
+    hears = λ bytes s m. by-segment bytes s;
+    fires = λ m. record {
+      drops = tt;
+      holds = λ row b at. stage-held (front_fired env (front_rest p.rest) b).0 (fired-stops row b (held-row row (stage.Held b) at));
+      stays = λ row b at. stage-waiting (front_fired env (front_rest p.rest) b).0;
+      resends = λ row n e at. tt;
+    };
+    takes = λ n epoch m row node e at same. tt;
+    tags_again = λ n epoch ask m rest found there same some. tt;
+    assigns_next = λ n epoch ask m rest found there next. h;
+    ends_again = λ n epoch last m row found away again. tt;
+    ends = λ n epoch last m row found away. tt;
+    admits = λ choice row b path at target. tt;
+  }
 
-  pub asked-stops : (n epoch : ℕ) (ask : Ask) → Goes (front_asked env p n epoch ask)
-  asked-stops n epoch ask = asked-keeps p Goes tt env n epoch ask (λ rest found there same some. tt) (λ rest found there next. h)
-
-  pub ended-stops : (n epoch : ℕ) (last : Final) → Goes (front_ended env p n epoch last)
-  ended-stops n epoch last = ended-keeps p Goes tt env n epoch last (λ row found away again. tt) (λ row found away. tt)
-
-  pub admitted-stops : (choice : FirstChoice) (given : FrontPart × FrontTurn) → front_admitted env p choice ≡ Some given → FrontStops own given.0.row
-  admitted-stops choice = admitted-keeps env p choice (λ given. FrontStops own given.0.row) (λ row b path at target. tt)
-
--- a node took it
-pub taken-stops : (files : FilesAt) (p : FrontPart) (epoch : ℕ) → DeedStops files (front_taken p epoch)
-taken-stops files p epoch = taken-keeps p (DeedStops files) tt epoch (λ row n e at same. tt)
+  pub rule-stops : (g : FrontGets) → IsAsGiven env p g → Goes (front_rule env p g)
+  rule-stops g is = front-keeps env p (λ g. Unit {0}) Came Goes by-rules g is tt
 
 -- ---- its move
 

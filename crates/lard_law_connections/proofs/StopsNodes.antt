@@ -1,59 +1,25 @@
 -- A node reads and serves until the first request is not ready, or no request is left.
-use Rattle.std.proofs.Common.{◌≡◌, ◌⊎◌, ◌-◌, ◌+◌, ◌==◌, nat_lt, ℕ, Bool, true, false, cond, List, [], ◌∷◌, ◌++◌, length, take, drop, Option, Some, None, Result, Ok, Err, inl, inr, ⊎_elim, refl, sym, ap, ◌∙◌, subst, append-nil}
+use Rattle.std.proofs.Common.{◌≡◌, ◌⊎◌, ◌-◌, ◌+◌, nat_lt, ℕ, Bool, true, false, cond, List, [], ◌∷◌, ◌++◌, length, take, drop, Option, Some, None, inl, inr, ⊎_elim, refl, sym, ap, ◌∙◌, subst, append-nil}
 use Rattle.std.proofs.lemmas.Bool.{both_ways, cond_both}
-use Rattle.std.specs.List.{find}
-use Rattle.lard_answers.specs.Answers.{FilesAt}
-use Rattle.lard_base.specs.declared.parts.EndpointParts.{EndpointParts}
-use Rattle.lard_base.specs.declared.place.Place.{Place}
+use Rattle.lard_law_view.specs.Prelude.{BackRow, Conn, ControlBlock, Ending, Entry, FilesAt, Found, HasStopped, More, NodeDeed, NodeEnv, NodeGets, NodePart, Place, Progress, Received, Said, Seen, Service, Stay, Verdict, Via, Work, after_timer, answered, awaited, batch_of, begins_after, blocks, bytes_taken, bytes_used, came_for, closes, come_on, come_progress, cut_of, ended_at_fin, ends, fresh_bytes, goes_on, gone, grown, here, kept_after, may_read, next_in, node_begins, node_does, node_fired, node_rule, on_segment, read_progress, reads_batch, serves_with, serving, serving_consumed, serving_ready_of, serving_settled, speaks, spoken, state_of, tagged, taken_sent, timed, verdict, with_work, without, work_of}
 use Rattle.lard_base.specs.declared.place.TimerKind.TheVariants as timer
 use Rattle.lard_base.specs.declared.place.Via.TheVariants as via
-use Rattle.lard_block.specs.declared.block.Found.{Found}
 use Rattle.lard_block.specs.declared.block.Found.TheVariants as found
-use Rattle.lard_block.specs.Blocks.{blocks, cut_of}
-use Rattle.lard_law_connections.specs.Stops.{BackStageStops, HereStops, FirstIsAwaited, NodeStops, ReadingStops, RowStops, StayStops}
-use Rattle.lard_law_connections.proofs.StopsSame.{Same, Stays, answered-closes, closed-there, ended-stopped, none-behind, rested-stays, same-stopped, segment-closes, speaks-same, timer-same}
-use Rattle.lard_law_view.specs.View.{Conn, node_does, grown}
+use Rattle.lard_law_connections.specs.Stops.{FirstIsAwaited, NodeStops, ReadingStops, RowStops, StayStops}
+use Rattle.lard_law_connections.proofs.StopsSame.{Same, Stays, answered-closes, closed-there, ended-stopped, none-behind, spoken-calm, same-stopped, segment-closes, speaks-same, timer-same}
 use Rattle.lard_law_view.proofs.Parts.{put-each}
-use Rattle.lard_endpoint.specs.Arriving.{on_segment}
-use Rattle.lard_endpoint.specs.Control.{ControlBlock}
-use Rattle.lard_endpoint.specs.Leaving.{after_timer, timed}
-use Rattle.lard_handoff_back.specs.declared.row.BackConn.{BackConn}
-use Rattle.lard_handoff_back.specs.declared.row.BackConn.TheVariants as back
-use Rattle.lard_handoff_back.specs.declared.row.BackRow.{BackRow}
-use Rattle.lard_handoff_back.specs.declared.table.Adopt.{Adopt}
-use Rattle.lard_handoff_back.specs.declared.table.Adopt.TheVariants.{New, Again, Stale}
-use Rattle.lard_handoff_back.specs.Back.{awaits_ack, back_endpoint, offer_answer, staying}
-use Rattle.lard_handoff_back.specs.Row.{back_held}
-use Rattle.lard_history.specs.Own.{Seen}
-use Rattle.lard_lateral.specs.Lateral.{is_from}
-use Rattle.lard_law_view.specs.Agreement.{HasStopped}
 use Rattle.lard_law_view.proofs.EndpointStreams.{segment-takes}
 use Rattle.lard_law_view.proofs.Stopping.{stopped-arrived, stopped-discarding, unfinished-there}
-use Rattle.lard_rules.specs.declared.stay.Entry.{Entry}
 use Rattle.lard_rules.specs.declared.stay.Next.TheVariants as next
-use Rattle.lard_rules.specs.declared.stay.Progress.{Progress}
 use Rattle.lard_rules.specs.declared.stay.Progress.TheVariants as progress
-use Rattle.lard_rules.specs.declared.stay.Stay.{Stay}
-use Rattle.lard_rules.specs.Node.{NodeDeed, Drops, Says, Does, NodePart, node_begins, both_of, come_by, node_fired_by, gone, node_heard_by, here, is_tag_awaited, kept_after, node_acknowledged, node_content, node_forwarded, node_offered, node_read, node_tagged, node_timer, offered_by, node_read_by, node_saying, tagged_by, taken_sent, with_work, work_of}
-use Rattle.lard_rules.specs.Stay.{NodeEnv, Work, came_for, come_on, come_progress, goes_on, next_in, read_progress, reads_batch, tagged, serves_with}
-use Rattle.lard_reader.specs.Batches.{batch_of, bytes_used}
+use Rattle.lard_rules.proofs.NodeCases.{IsHereWith, IsInItsEpoch, KeptByNode, node-keeps, of-here}
+use Rattle.lard_rules.specs.Node.{Drops, Says, Does}
 use Rattle.lard_reader.proofs.Going.{batch-closed, batch-long, batch-open, used-suc}
-use Rattle.lard_recv.specs.Recv.{Received, awaited, begins_after, ends, fresh_bytes, bytes_taken}
 use Rattle.lard_request.specs.declared.verdict.Code.TheVariants.{FieldsTooLarge}
-use Rattle.lard_request.specs.declared.verdict.Verdict.{Verdict}
 use Rattle.lard_request.specs.declared.verdict.Verdict.TheVariants.{Fault}
-use Rattle.lard_request.specs.Verdict.{closes, verdict}
-use Rattle.lard_resend.specs.Kept.{is_under, without}
-use Rattle.lard_rules.specs.declared.places.Ending.{Ending}
 use Rattle.lard_rules.specs.declared.places.Ending.TheVariants as ending
-use Rattle.lard_rules.specs.declared.places.Turn.{Turn}
-use Rattle.lard_rules.specs.Loop.{More, state_of}
-use Rattle.lard_rules.specs.Serving.{Service, answered, serving_consumed, cut_off, ended_at_fin, may_read, serving_ready_of, serving, serving_settled, spoken}
-use Rattle.lard_rules.specs.Speaking.{speaks}
-use Rattle.lard_segment.specs.declared.fault.SegFault.{SegFault}
-use Rattle.lard_segment.specs.Segment.{Said}
 use Rattle.lard_rules.proofs.StayWalking.{KeptByStarts, KeptByReads, StepIn, goes-in, state-in, tagged-in, these-in}
-use Rattle.lard_base.specs.declared.place.Via.{Via}
+use Rattle.lard_rules.proofs.Endings.{settled-keeps}
 
 -- ---- an empty batch
 
@@ -197,13 +163,10 @@ module _ (env : NodeEnv) where
   spoken-at s before batch h =
       let b : ControlBlock = (speaks env.serve.c s.block).1 in
       let same : Same s.block b = speaks-same env.serve.c s.block in
-      rested-stays (λ d. StayStops d batch) b s.count (λ calm. let at : IsAt b batch = same-at s.block b batch same (h (sym same.4 ∙ calm)) in record { not_reset = calm; open_ = at.0; closed = at.1 })
+      spoken-calm (λ d. StayStops d batch) env.serve s before (λ calm. let at : IsAt b batch = same-at s.block b batch same (h (sym same.4 ∙ calm)) in record { not_reset = calm; open_ = at.0; closed = at.1 })
 
   settled-at : (k : Work) → Rests k → Stays (λ b. StayStops b k.batch) (serving_settled env.serve k.service).0
-  settled-at k h = go k.service.over refl where
-    go : (o : Option ℕ) → k.service.over ≡ o → Stays (λ b. StayStops b k.batch) (elim o as (λ p. Ending × Turn) [ None ↦ spoken env.serve k.service [] | Some total ↦ cut_off env.serve k.service ]).0
-    go None e = spoken-at k.service [] k.batch (h e)
-    go (Some total) e = tt
+  settled-at k h = settled-keeps (λ given. Stays (λ b. StayStops b k.batch) given.0) env.serve k.service (λ e. spoken-at k.service [] k.batch (h e)) (λ total e. tt)
 
   -- ---- the rules
 
@@ -219,85 +182,54 @@ module _ (env : NodeEnv) where
   goes-stop p before k h = works-stop p before (goes_on env k) (goes-rest k h)
 
   module _ (p : NodePart) (h : NodeStops p) where
-    -- it is so of none, and of each stay that has stopped
-    module _ (P : Option (ControlBlock × Stay) → Type 0) (none : P None) (some : (y : ControlBlock × Stay) → StayStops y.0 y.1.batch → P (Some y)) where
-      of-stay : (b : ControlBlock) (o : Option Stay) → HereStops b o → P (both_of (Some b) o)
-      of-stay b None k = none
-      of-stay b (Some s) k = some (b, s) k
+    stays : (b : ControlBlock) (s : Stay) → IsHereWith env.epoch p b s → StayStops b s.batch
+    stays b s at = of-here RowStops env.epoch p b s at h
 
-      of-stage : (d : BackConn) (o : Option Stay) → BackStageStops d o → P (both_of (back_held d) o)
-      of-stage (back.Here b) o k = of-stay b o k
-      of-stage _ o k = none
-
-      at-endpoint : (q : Option BackRow) → RowStops q p.stay → P (both_of (back_endpoint q) p.stay)
-      at-endpoint None k = none
-      at-endpoint (Some row) k = of-stage row.stage p.stay k
-
-      at-epoch : (q : Option BackRow) → RowStops q p.stay → P (both_of (staying env.epoch q) p.stay)
-      at-epoch None k = none
-      at-epoch (Some row) k = cond_both (row.epoch.0 == env.epoch) (back_held row.stage) None (λ o. P (both_of o p.stay)) (λ t. of-stage row.stage p.stay k) (λ t. none)
-
-    pub forwarded-stops : (r : Result Said SegFault) → DeedStops (node_forwarded env p r)
-    forwarded-stops (Err fault) = tt
-    forwarded-stops (Ok s) = at-epoch (λ y. DeedStops (node_heard_by env p (Ok s) y)) tt
-        (λ y stops.
-        let same = segment-closes y.0 s in
-        goes-stop p [] (work_of (on_segment y.0 s).1 y.1) (λ closed.
+    segment-may : (said : Said) (b : ControlBlock) (s : Stay) → StayStops b s.batch → MayRest (work_of (on_segment b said).1 s)
+    segment-may said b s stops closed =
+        let same = segment-closes b said in
         let t = stops.closed (sym same ∙ closed) in
-        (stopped-arrived y.0 s same t.0 closed, λ keeps. t.1 (segment-keeps y.0 s keeps))))
-        p.row h
+        (stopped-arrived b said same t.0 closed, λ keeps. t.1 (segment-keeps b said keeps))
 
-    pub came-closes : (f : Progress → Progress) (r : ℕ) (y : ControlBlock × Stay) → StayStops y.0 y.1.batch → MayRest (came_for f r (work_of y.0 y.1))
-    came-closes f r y stops =
-        let k : Work = work_of y.0 y.1 in
+    pub came-closes : (f : Progress → Progress) (r : ℕ) (b : ControlBlock) (s : Stay) → StayStops b s.batch → MayRest (came_for f r (work_of b s))
+    came-closes f r b s stops =
+        let k : Work = work_of b s in
         cond_both (nat_lt k.service.count r) (record k { batch = come_on f (r - (k.service.count + 1)) k.batch }) k MayRest
         (λ t closed. let c = stops.closed closed in (c.0, λ keeps. ap (come_on f (r - (k.service.count + 1))) (c.1 keeps))) (λ t. stops.closed)
 
-    pub tagged-closes : (nodes : List ℕ) (y : ControlBlock × Stay) → StayStops y.0 y.1.batch → MayRest (tagged env nodes (work_of y.0 y.1))
-    tagged-closes nodes y stops =
-        let all = tagged-in env nodes Left (by_starts nodes) (work_of y.0 y.1) stops.closed in
-        subst (Closes (tagged env nodes (work_of y.0 y.1)).service.block) (append-nil (tagged env nodes (work_of y.0 y.1)).batch) all.1
+    pub tagged-closes : (nodes : List ℕ) (b : ControlBlock) (s : Stay) → StayStops b s.batch → MayRest (tagged env nodes (work_of b s))
+    tagged-closes nodes b s stops =
+        let all = tagged-in env nodes Left (by_starts nodes) (work_of b s) stops.closed in
+        subst (Closes (tagged env nodes (work_of b s)).service.block) (append-nil (tagged env nodes (work_of b s)).batch) all.1
 
-    pub tagged-stops : (number : ℕ) (nodes : List ℕ) → DeedStops (node_tagged env p number nodes)
-    tagged-stops number nodes = at-epoch (λ y. DeedStops (tagged_by env number nodes p y)) tt
-        (λ y stops. cond_both (is_tag_awaited env number nodes p y.1) (with_work env (record p { kept = without timer.Ask 0 p.kept }) [] (goes_on env (tagged env nodes (work_of y.0 y.1)))) Drops DeedStops
-        (λ t. goes-stop (record p { kept = without timer.Ask 0 p.kept }) [] (tagged env nodes (work_of y.0 y.1)) (tagged-closes nodes y stops)) (λ t. tt))
-        p.row h
-
-    pub content-stops : (from r : ℕ) → DeedStops (node_content env p from r)
-    content-stops from r = at-epoch (λ y. DeedStops (come_by env from r p y)) tt
-        (λ y stops. cond_both (is_from from env.epoch (find (is_under timer.Fetch r) p.fetches)) (with_work env (record p { fetches = without timer.Fetch r p.fetches }) [] (goes_on env (came_for (come_progress from) r (work_of y.0 y.1)))) Drops DeedStops
-        (λ t. goes-stop (record p { fetches = without timer.Fetch r p.fetches }) [] (came_for (come_progress from) r (work_of y.0 y.1)) (came-closes (come_progress from) r y stops)) (λ t. tt))
-        p.row h
-
-    pub read-stops : (r : ℕ) → DeedStops (node_read env p r)
-    read-stops r = at-epoch (λ y. DeedStops (node_read_by env r p y)) tt
-        (λ y stops. goes-stop p [] (came_for read_progress r (work_of y.0 y.1)) (came-closes read_progress r y stops)) p.row h
-
-    pub timer-stops : DeedStops (node_timer env p)
-    timer-stops = at-endpoint (λ y. DeedStops (node_fired_by env p y)) tt
-        (λ y stops.
-        let same : Same y.0 (after_timer y.0) = timer-same y.0 in
-        let s : Service = serving (after_timer y.0) y.1.served [] in
-        let before : List (Place × List ℕ) = serving_ready_of env.serve (after_timer y.0) (timed y.0) in
-        after-stops p (work_of (after_timer y.0) y.1) (spoken env.serve s before).0
-        (spoken-at s before y.1.batch (λ calm. same-at y.0 (after_timer y.0) y.1.batch same (stops.open_, stops.closed))))
-        p.row h
+    timer-stops : (b : ControlBlock) (s : Stay) → StayStops b s.batch
+        → DeedStops (Does (node_fired env p (b, s) (spoken env.serve (serving (after_timer b) s.served []) (serving_ready_of env.serve (after_timer b) (timed b)))))
+    timer-stops b s stops =
+        let w : Service = serving (after_timer b) s.served [] in
+        let before : List (Place × List ℕ) = serving_ready_of env.serve (after_timer b) (timed b) in
+        after-stops p (work_of (after_timer b) s) (spoken env.serve w before).0
+        (spoken-at w before s.batch (λ calm. same-at b (after_timer b) s.batch (timer-same b) (stops.open_, stops.closed)))
 
     gone-stops : (q : Option BackRow) → RowStops (gone q) p.stay
     gone-stops None = tt
     gone-stops (Some row) = tt
 
-    pub acknowledged-stops : DeedStops (node_acknowledged env p)
-    acknowledged-stops = cond_both (awaits_ack env.epoch p.row) (Does (record p { row = gone p.row; kept = without timer.Ended 0 p.kept }, node_saying [])) Drops DeedStops (λ t. gone-stops p.row) (λ t. tt)
+    rules_stop : KeptByNode env p (λ g. Unit {0}) DeedStops
+    rules_stop = record {
+      drops = tt;
+      hears = λ said b s m at. goes-stop p [] (work_of (on_segment b said).1 s) (segment-may said b s (stays b s at));
+      tags = λ number nodes b s m at asked same count. goes-stop (record p { kept = without timer.Ask 0 p.kept }) [] (tagged env nodes (work_of b s)) (tagged-closes nodes b s (stays b s at));
+      comes = λ from r b s m at wanted. goes-stop (record p { fetches = without timer.Fetch r p.fetches }) [] (came_for (come_progress from) r (work_of b s)) (came-closes (come_progress from) r b s (stays b s at));
+      reads = λ r path b s m at. goes-stop p [] (came_for read_progress r (work_of b s)) (came-closes read_progress r b s (stays b s at));
+      begins = λ parts m new. goes-stop p (taken_sent env) (state_of (reads_batch env true (node_begins env parts))) (batch-at true (node_begins env parts) refl refl).1;
+      takes_again = λ parts m again. tt;
+      fires = λ b s m at. timer-stops b s (stays b s at);
+      resends = λ m none. tt;
+      ends = λ m told. gone-stops p.row;
+    }
 
-  offered-by : (p : NodePart) (parts : EndpointParts) (a : Adopt) → DeedStops (offered_by env parts p a)
-  offered-by p parts New = goes-stop p (taken_sent env) (state_of (reads_batch env true (node_begins env parts))) (batch-at true (node_begins env parts) refl refl).1
-  offered-by p parts Again = tt
-  offered-by p parts Stale = tt
-
-  pub offered-stops : (p : NodePart) (parts : EndpointParts) → DeedStops (node_offered env p parts)
-  offered-stops p parts = offered-by p parts (offer_answer env.epoch p.row)
+    pub rule-stops : (g : NodeGets) → IsInItsEpoch env p g → DeedStops (node_rule env p g)
+    rule-stops g at = node-keeps env p (λ g. Unit {0}) DeedStops rules_stop g at tt
 
 -- ---- its move
 

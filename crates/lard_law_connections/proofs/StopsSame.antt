@@ -1,37 +1,18 @@
 -- What sending leaves as it was, why an endpoint that was not reset stops, and what an answer makes of one.
-use Rattle.std.proofs.Common.{◌≡◌, ◌+◌, ℕ, Bool, true, false, cond, nat_lt, not, ◌==◌, ◌&&◌, List, [], ◌∷◌, map, length, take, drop, Option, Some, None, refl, sym, ap, ◌∙◌}
+use Rattle.std.proofs.Common.{◌≡◌, ◌+◌, ℕ, Bool, true, false, not, ◌==◌, ◌&&◌, List, [], ◌∷◌, map, length, take, drop, Option, Some, None, refl, sym, ap, ◌∙◌}
 use Rattle.std.proofs.lemmas.Bool.{both_ways, cond_both, or_parts}
 use Rattle.std.proofs.lemmas.List.{take-append-drop}
-use Rattle.lard_answers.specs.Answers.{FilesAt, answer, good_path}
-use Rattle.lard_arrival.specs.Arrival.{bare, is_acceptable, is_allowed}
-use Rattle.lard_base.specs.declared.place.Via.{Via}
+use Rattle.lard_law_view.specs.Prelude.{ControlBlock, Ending, FilesAt, HasStopped, Place, Received, Said, Sending, ServeEnv, Service, Verdict, Via, advanced, after_emit, after_timer, answer, answered, blocks, closes, cut_of, discarding_on, ended_at_fin, finishing, good_path, is_closed, may_end, may_freeze, may_read, on_segment, one_if, piece_moved, queueing, retried, speaks, spoken, verdict}
 use Rattle.lard_block.specs.declared.block.Found.TheVariants.{More}
-use Rattle.lard_block.specs.Blocks.{blocks, cut_of, piece_moved}
 use Rattle.lard_block.proofs.Division.{none-yet}
 use Rattle.lard_law_connections.specs.Stops.{IsHeldBack}
-use Rattle.lard_endpoint.specs.declared.control.arriving.Arrival.{Arrival}
-use Rattle.lard_endpoint.specs.declared.control.arriving.Arrival.TheVariants.{Fine, AckOwed, Reset}
-use Rattle.lard_endpoint.specs.Arriving.{on_ack, on_acked, on_rst, on_segment, on_syn, on_unacceptable, owing}
-use Rattle.lard_endpoint.specs.Control.{ControlBlock, discarding_on, finishing, queueing, rcv_nxt, rcv_wnd}
-use Rattle.lard_endpoint.specs.Leaving.{advanced, after_emit, after_owed, after_piece, after_timer, owes, retried, told}
-use Rattle.lard_endpoint.specs.Moving.{end_reason, final_of, is_closed, may_end, may_freeze}
-use Rattle.lard_law_view.specs.Agreement.{HasStopped}
 use Rattle.lard_law_view.proofs.ReadingBytes.{cuts-more}
 use Rattle.lard_law_view.proofs.Stopping.{stopped-alike}
-use Rattle.lard_recv.specs.Recv.{Received, arrived}
-use Rattle.lard_request.specs.declared.verdict.Verdict.{Verdict}
-use Rattle.lard_request.specs.Verdict.{closes, verdict}
-use Rattle.lard_rules.specs.declared.places.Ending.{Ending}
-use Rattle.lard_rules.specs.declared.places.Ending.TheVariants as ending
-use Rattle.lard_rules.specs.Serving.{ServeEnv, Service, answered, ended_at_fin, may_read, passed_over, queued, rested}
-use Rattle.lard_rules.specs.Speaking.{speaks}
 use Rattle.lard_rules.proofs.Loops.{speaks_keep}
 use Rattle.lard_rules.proofs.Sides.{ack-side}
-use Rattle.lard_segment.specs.Segment.{Said}
-use Rattle.lard_send.specs.declared.piece.Piece.{Piece}
-use Rattle.lard_send.specs.Send.{Sending, after_ack, next_piece, resent_piece}
-use Rattle.lard_seq.specs.Seq.{one_if, seq_offset}
 use Rattle.lard_law_view.proofs.Speaking.{next-moves, resend-moves}
+use Rattle.lard_rules.proofs.Endings.{StaysWith, answered-keeps, at-fin-keeps, spoken-stays}
+use Rattle.lard_rules.proofs.Hearing.{emit-keeps, segment-keeps, timer-keeps}
 
 -- ---- sending
 
@@ -42,22 +23,17 @@ Same b d = (d.recv ≡ b.recv) × (d.send.una ≡ b.send.una) × (d.send.total �
 same-both : (b d e : ControlBlock) → Same b d → Same d e → Same b e
 same-both b d e h k = (k.0 ∙ h.0, k.1 ∙ h.1, k.2 ∙ h.2, k.3 ∙ h.3, k.4 ∙ h.4)
 
-same-piece : (b d other : ControlBlock) (p : Option Piece) → Same b d → Same b other → Same b (after_piece d p other)
-same-piece b d other (Some p) h k = h
-same-piece b d other None h k = k
-
 pub emit-same : (b : ControlBlock) → Same b (after_emit b)
 emit-same b =
     let m = next-moves b.send in
     let sent : Same b (advanced b) = (refl, ap (λ (s : Sending). s.una) m, ap (λ (s : Sending). s.total) m, ap (λ (s : Sending). s.finished) m, refl) in
-    cond_both b.reset b (after_piece (advanced b) (next_piece b.send) (after_owed (advanced b))) (Same b) (λ _. (refl, refl, refl, refl, refl))
-    (λ _. same-piece b (advanced b) (after_owed (advanced b)) (next_piece b.send) sent (cond_both (owes (advanced b)) (told (advanced b)) (advanced b) (Same b) (λ _. sent) (λ _. sent)))
+    emit-keeps (Same b) b (refl, refl, refl, refl, refl) sent sent
 
 pub timer-same : (b : ControlBlock) → Same b (after_timer b)
 timer-same b =
     let m = resend-moves b.send in
     let sent : Same b (retried b) = (refl, ap (λ (s : Sending). s.una) m, ap (λ (s : Sending). s.total) m, ap (λ (s : Sending). s.finished) m, refl) in
-    cond_both b.reset b (after_piece (retried b) (resent_piece b.send) (retried b)) (Same b) (λ _. (refl, refl, refl, refl, refl)) (λ _. same-piece b (retried b) (retried b) (resent_piece b.send) sent sent)
+    timer-keeps (Same b) b (refl, refl, refl, refl, refl) sent sent
 
 pub speaks-same : (c : ℕ) (b : ControlBlock) → Same b (speaks c b).1
 speaks-same c b = speaks_keep c (λ b ss d. Same b d) (record { rests = λ b. (refl, refl, refl, refl, refl); says = λ b r ss d e later. same-both b (after_emit b) d (emit-same b) later }) b
@@ -83,38 +59,18 @@ ends-not b e = (or_parts b.reset (is_closed b) e).0
 
 -- of what stays, P is so
 abbrev pub Stays : (ControlBlock → Type 0) → Ending → Type 0
-Stays P (ending.Here b count) = P b
-Stays P (ending.Over last) = Unit {0}
+Stays P = StaysWith (λ b count. P b)
 
-pub rested-stays : (P : ControlBlock → Type 0) (b : ControlBlock) (count : ℕ) → (b.reset ≡ false → P b) → Stays P (rested b count)
-rested-stays P b count h = cond_both (may_end b) (ending.Over (final_of b (end_reason b))) (ending.Here b count) (Stays P) (λ t. tt) (λ t. h (ends-not b t))
+-- and P is so of what it said all that it may of, if that was not reset
+pub spoken-calm : (P : ControlBlock → Type 0) (env : ServeEnv) (s : Service) (before : List (Place × List ℕ)) → ((speaks env.c s.block).1.reset ≡ false → P (speaks env.c s.block).1) → Stays P (spoken env s before).0
+spoken-calm P env s before h = spoken-stays (λ b count. P b) env s before (λ stays. h (ends-not (speaks env.c s.block).1 stays))
 
 -- ---- a segment closes nothing of the cluster's
 
-abbrev Keeps : ControlBlock → Arrival × ControlBlock → Type 0
-Keeps b p = p.1.send.finished ≡ b.send.finished
-
-acked-closes : (b d : ControlBlock) (s : Said) → d.send.finished ≡ b.send.finished → Keeps b (on_acked d s)
-acked-closes b d s h = cond_both (d.send.una == 0) (Fine, d) (cond (length s.payload == 0 && not s.flags.fin) (Fine, d) (AckOwed, record d { recv = arrived d.recv s.seq s.payload s.flags.fin; owed = true })) (Keeps b) (λ _. h)
-    (λ _. cond_both (length s.payload == 0 && not s.flags.fin) (Fine, d) (AckOwed, record d { recv = arrived d.recv s.seq s.payload s.flags.fin; owed = true }) (Keeps b) (λ _. h) (λ _. h))
-
-ack-closes : (b : ControlBlock) (s : Said) → Keeps b (on_ack b s)
-ack-closes b s =
-    let acked : ControlBlock = record b { send = after_ack b.send s.ack s.seq s.wnd } in
-    let beyond = nat_lt b.send.nxt (seq_offset s.ack b.send.iss) in
-    cond_both (not s.flags.ack) (Fine, b) (cond beyond (AckOwed, owing b) (on_acked acked s)) (Keeps b) (λ _. refl)
-    (λ _. cond_both beyond (AckOwed, owing b) (on_acked acked s) (Keeps b) (λ _. refl) (λ _. acked-closes b acked s (ack-side b.send s.ack s.seq s.wnd).finished))
-
 pub segment-closes : (b : ControlBlock) (s : Said) → (on_segment b s).1.send.finished ≡ b.send.finished
 segment-closes b s =
-    let reset : Arrival × ControlBlock = cond (s.seq == rcv_nxt b) (Reset, record b { reset = true }) (AckOwed, owing b) in
-    let dropped : Arrival × ControlBlock = cond s.flags.rst (Fine, b) (AckOwed, owing b) in
-    cond_both (is_acceptable (rcv_nxt b) (rcv_wnd b) s) (on_rst b s) (on_unacceptable b s) (Keeps b)
-    (λ _. cond_both (not s.flags.rst) (on_syn b s) reset (Keeps b)
-    (λ _. cond_both s.flags.syn (AckOwed, owing b) (on_ack b s) (Keeps b) (λ _. refl) (λ _. ack-closes b s))
-    (λ _. cond_both (s.seq == rcv_nxt b) (Reset, record b { reset = true }) (AckOwed, owing b) (Keeps b) (λ _. refl) (λ _. refl)))
-    (λ _. cond_both (is_allowed (rcv_nxt b) (rcv_wnd b) s) (AckOwed, (on_ack (owing b) (bare s)).1) dropped (Keeps b) (λ _. ack-closes (owing b) (bare s))
-    (λ _. cond_both s.flags.rst (Fine, b) (AckOwed, owing b) (Keeps b) (λ _. refl) (λ _. refl)))
+    let closed = (ack-side b.send s.ack s.seq s.wnd).finished in
+    segment-keeps b s (λ d. d.send.finished ≡ b.send.finished) (record { rests = λ owed. refl; resets = λ t. refl; acks = λ owed c. closed; comes = λ c some. closed })
 
 -- ---- what is left where a block is awaited
 
@@ -129,7 +85,7 @@ none-behind q skip e = nothing-mapped (piece_moved (length (take skip q))) (bloc
 
 -- where no whole block is left it has stopped, behind the client's FIN with its own
 pub ended-stopped : (s : Service) → s.block.send.finished ≡ false → blocks s.block.recv.unread ≡ [] → HasStopped (ended_at_fin s).block
-ended-stopped s open_ none = cond_both s.block.recv.fin (record s { block = finishing s.block }) s (λ (z : Service). HasStopped z.block)
+ended-stopped s open_ none = at-fin-keeps (λ (z : Service). HasStopped z.block) s
     (λ fin. record { none = λ _. none; finishes = λ _ _. refl; only_then = λ _ _. fin })
     (λ fin. record { none = λ _. none; finishes = λ _ i. absurd (both_ways s.block.recv.fin fin i); only_then = λ _ i. absurd (both_ways s.block.send.finished open_ i) })
 
@@ -139,9 +95,8 @@ ended-stopped s open_ none = cond_both s.block.recv.fin (record s { block = fini
 pub answered-closes : (env : ServeEnv) (via : Via) (v : Verdict) (s : Service) → s.block.send.finished ≡ false → (answered env via v s).block.send.finished ≡ true → (answered env via v s).block.recv.discarding ≡ true
 answered-closes env via v s open_ =
     let bytes = answer env.files v in
-    let total = s.block.send.total + length bytes in
     let more = queueing s.block bytes in
-    cond_both (nat_lt env.stream total) (passed_over env total s) (queued env via v bytes s) (λ (z : Service). z.block.send.finished ≡ true → z.block.recv.discarding ≡ true)
+    answered-keeps (λ (z : Service). z.block.send.finished ≡ true → z.block.recv.discarding ≡ true) env via v s
     (λ _ f. absurd (both_ways s.block.send.finished open_ f))
     (λ _. cond_both (closes v) (finishing (discarding_on more)) more (λ (d : ControlBlock). d.send.finished ≡ true → d.recv.discarding ≡ true) (λ _ _. refl) (λ _ f. absurd (both_ways s.block.send.finished open_ f)))
 

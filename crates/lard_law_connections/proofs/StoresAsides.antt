@@ -2,22 +2,13 @@
 use Rattle.std.proofs.Common.{◌≡◌, ℕ, false, ◌+◌, List, [], ◌∷◌, ◌++◌, refl, ap, ◌∙◌}
 use Rattle.std.proofs.lemmas.List.Sums.{fold-append}
 use Rattle.std.specs.List.{fold}
-use Rattle.lard_answers.specs.Answers.{FilesAt}
-use Rattle.lard_base.specs.declared.event.Event.{Event}
-use Rattle.lard_base.specs.declared.event.Event.TheVariants as event
-use Rattle.lard_base.specs.declared.place.Place.{Place}
-use Rattle.lard_base.specs.declared.place.Place.TheVariants.{Front, Node, Client}
-use Rattle.lard_cache.specs.Recency.{Recency}
+use Rattle.lard_law_view.specs.Prelude.{Client, EachMay, FilesAt, Front, Node, Rec, Recency}
+use Rattle.lard_law_connections.proofs.Calm.{Allows, AllowsNotes}
 use Rattle.lard_law_connections.specs.StoresLaws.{MayStore, is_read}
 use Rattle.lard_counts.specs.Stores.{Queue, cache_of, cache_step, jobs, jobs_step, no_jobs, queue_of}
-use Rattle.lard_law_view.proofs.Saying.{GaveAt, NamesAll, NotedAt}
-use Rattle.lard_law_view.proofs.Timers.{IsTimerAt}
-use Rattle.lard_history.specs.Laws.{EachMay}
+use Rattle.lard_law_view.proofs.Saying.{NamesAll}
 use Rattle.lard_history.proofs.Each.{Each}
-use Rattle.lard_journal.specs.declared.rec.Rec.{Rec}
 use Rattle.lard_journal.specs.declared.rec.Rec.TheVariants as rec
-use Rattle.lard_rules.specs.Sent.{sent_records}
-use Rattle.lard_law_view.proofs.OwnRecords.{behind}
 
 -- it is none of a disk or a cache
 abbrev pub IsAside : Rec → Type 0
@@ -55,8 +46,21 @@ asides-may files limit past (r ∷ rs) e = ((aside r e.0).may files limit past, 
 
 -- ---- which records are
 
--- what a client or the front end notes
-pub note-aside : (place : Place) (c : ℕ) (r : Rec) → NamesAll place → NotedAt place c r → IsAside r
+-- what is no note, and what a client or the front end notes
+pub allows-aside : Allows IsAside
+allows-aside = record {
+  event = λ i e. tt;
+  opened = λ c isn iss wnd mss. tt;
+  injected = λ c. tt;
+  got = λ k. tt;
+  lost = λ k. tt;
+  sent = λ k from to bytes. tt;
+  gave = λ place c epoch. tt;
+  armed = λ place c kind. tt;
+  cleared = λ place c kind. tt;
+}
+
+pub note-aside : AllowsNotes NamesAll IsAside
 note-aside (Client e) c (rec.Wrote d bytes) k h = tt
 note-aside (Client e) c (rec.Accepted d bytes) k h = tt
 note-aside (Client e) c (rec.Eof d) k h = tt
@@ -72,28 +76,6 @@ note-aside Front c (rec.BatchOver d) k h = tt
 note-aside Front c (rec.Released d) k h = tt
 note-aside (Node n) c r k h = absurd k
 note-aside _ c _ k h = absurd h
-
-pub gave-aside : (place : Place) (c : ℕ) (r : Rec) → GaveAt place c r → IsAside r
-gave-aside Front c (rec.Gave Front d epoch) h = tt
-gave-aside (Node n) c (rec.Gave (Node k) d epoch) h = tt
-gave-aside _ c _ h = absurd h
-
-pub timer-aside : (place : Place) (c : ℕ) (r : Rec) → IsTimerAt place c r → IsAside r
-timer-aside place c (rec.Armed p d kind) h = tt
-timer-aside place c (rec.Cleared p d kind) h = tt
-timer-aside place c _ h = absurd h
-
-pub sents-aside : (k : ℕ) (place : Place) (ss : List (Place × List ℕ)) → Each IsAside (sent_records k place ss)
-sents-aside k place [] = tt
-sents-aside k place (s ∷ ss) = (tt, sents-aside (k + 1) place ss)
-
--- what stands directly behind an event
-pub behind-aside : (e : Event) → Each IsAside (behind e)
-behind-aside (event.Open c isn iss wnd mss) = (tt, tt)
-behind-aside (event.Deliver k) = (tt, tt)
-behind-aside (event.Lose k) = (tt, tt)
-behind-aside (event.Inject c bytes) = (tt, tt)
-behind-aside _ = tt
 
 -- ---- behind a journal
 

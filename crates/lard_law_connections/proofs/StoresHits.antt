@@ -3,7 +3,7 @@ use Rattle.std.proofs.Common.{◌≡◌, ℕ, Bool, true, false, cond, List, [],
 use Rattle.std.proofs.lemmas.Slice.Eq.{bytes_eq-Decides}
 use Rattle.std.specs.Map.{remove_entry}
 use Rattle.std.specs.Str.{bytes_eq}
-use Rattle.lard_cache.specs.Recency.{after_hit, brought_forward, has_path, size_at}
+use Rattle.lard_law_view.specs.Prelude.{after_hit, brought_forward, has_path, size_at}
 
 abbrev Entries : Type 0
 Entries = List (List ℕ × ℕ)

@@ -5,26 +5,16 @@ use Rattle.std.proofs.lemmas.List.Sums.{fold-append}
 use Rattle.std.proofs.lemmas.Option.{slice_get-map}
 use Rattle.std.specs.Prelude.{slice_get}
 use Rattle.std.specs.Option.{option_map}
-use Rattle.lard_answers.specs.Answers.{FilesAt}
+use Rattle.lard_law_view.specs.Prelude.{BackIn, EachMay, FilesAt, Job, NodeSetting, NodeState, Out, Rec, Recency, after_put, completed, content_bytes, has_path, hits, job_at, last_event, without_job}
 use Rattle.lard_base.specs.declared.event.Event.TheVariants.{Disk}
-use Rattle.lard_cache.specs.Recency.{Recency, after_put, has_path}
 use Rattle.lard_law_connections.specs.StoresLaws.{MayStore, job_told}
 use Rattle.lard_counts.specs.Stores.{Queue, bytes_of_file, cache_of, cache_step, jobs, jobs_step, no_jobs, queue_of, size_of, waiting_at, without_waiting}
 use Rattle.lard_law_connections.proofs.StoresAsides.{IsAside, cache-behind, jobs-behind}
 use Rattle.lard_law_connections.proofs.StoresNodes.{MovesFrom, NodeMoves, Plain, Reads}
 use Rattle.lard_law_connections.proofs.StoresNotes.{IsKept, notes-kept, notes-may, other-test, others-kept, own-test}
-use Rattle.lard_disk.specs.declared.disk.Job.{Job}
-use Rattle.lard_disk.specs.Jobs.{job_at, without_job}
-use Rattle.lard_history.specs.Journal.{last_event}
-use Rattle.lard_history.specs.Laws.{EachMay}
 use Rattle.lard_history.proofs.Each.{Each}
-use Rattle.lard_journal.specs.declared.rec.Rec.{Rec}
 use Rattle.lard_journal.specs.declared.rec.Rec.TheVariants as rec
-use Rattle.lard_rules.specs.declared.node.BackIn.{BackIn}
 use Rattle.lard_rules.specs.declared.node.BackIn.TheVariants as back
-use Rattle.lard_rules.specs.declared.node.NodeState.{NodeState}
-use Rattle.lard_rules.specs.NodePlace.{NodeSetting, content_bytes, completed, hits}
-use Rattle.lard_rules.specs.declared.places.Out.{Out}
 
 -- ---- a job among the jobs that are told
 

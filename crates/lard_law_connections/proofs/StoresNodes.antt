@@ -1,34 +1,17 @@
 -- What a node's step makes of its disk and its cache, and what it tells of them.
 use Rattle.std.proofs.Common.{◌≡◌, ℕ, ◌==◌, Bool, true, false, List, [], ◌∷◌, ◌++◌, is_some, Option, Some, None, Result, Ok, Err, refl, sym, ap, append-nil}
-use Rattle.lard_answers.specs.Answers.{FilesAt}
+use Rattle.lard_law_view.specs.Prelude.{Acknowledged, BackIn, BackRow, Body, Completed, Content, FilesAt, Fires, Forwarded, Front, Job, Message, MsgFault, Node, NodeDeed, NodeGets, NodeSetting, NodeState, NodeTurn, Offered, Out, Place, Recency, Tagged, TimerKind, ToCluster, aside, completed, content_sent, decoded, decoded_message, disk_step, fetched, fetched_file, has_path, hits, is_for, job_at, kind_change, node_armed, node_brought, node_deed, node_env, node_epoch_at, node_gets, node_hears, node_part, node_read, node_rule, node_saying, node_step, nothing_done, timer_kinds, with_first}
 use Rattle.std.proofs.lemmas.Bool.{cond_both}
 use Rattle.std.specs.List.{flat_map, list_any}
-use Rattle.lard_base.specs.declared.place.Place.{Place}
-use Rattle.lard_base.specs.declared.place.Place.TheVariants.{Front, Node}
-use Rattle.lard_base.specs.declared.place.TimerKind.{TimerKind}
-use Rattle.lard_cache.specs.Recency.{Recency, has_path}
 use Rattle.lard_law_connections.proofs.StoresAsides.{IsAside}
 use Rattle.lard_law_connections.proofs.StoresNotes.{Tells}
-use Rattle.lard_law_connections.proofs.StoresTurns.{DeedTells, acknowledged-deed, content-deed, fires-deed, forwarded-deed, nothing-told, offered-deed, read-deed, tagged-deed}
-use Rattle.lard_disk.specs.declared.disk.Job.{Job}
-use Rattle.lard_disk.specs.Jobs.{is_for, job_at}
+use Rattle.lard_law_connections.proofs.StoresTurns.{DeedTells, nothing-told, rule-deed}
 use Rattle.lard_history.proofs.Each.{Each, Each-append}
 use Rattle.lard_journal.specs.declared.rec.Rec.TheVariants as rec
-use Rattle.lard_message.specs.declared.fault.MsgFault.{MsgFault}
-use Rattle.lard_message.specs.declared.message.Body.{Body}
 use Rattle.lard_message.specs.declared.message.Body.TheVariants as body
-use Rattle.lard_message.specs.declared.message.Message.{Message}
-use Rattle.lard_message.specs.Reading.{decoded_message}
-use Rattle.lard_rules.specs.declared.node.BackIn.{BackIn}
 use Rattle.lard_rules.specs.declared.node.BackIn.TheVariants as back
-use Rattle.lard_rules.specs.declared.node.NodeState.{NodeState}
-use Rattle.lard_rules.specs.declared.node.NodeTurn.{NodeTurn}
-use Rattle.lard_rules.specs.Node.{NodeDeed, Drops, Says, Does, node_acknowledged, node_armed, node_content, node_forwarded, node_offered, node_read, node_tagged, node_timer, node_saying}
-use Rattle.lard_rules.specs.NodePlace.{NodeSetting, aside, node_brought, completed, content_sent, disk_step, node_epoch_at, fetched, fetched_file, hits, node_deed, node_env, node_gets, node_hears, node_part, node_step, with_first}
-use Rattle.lard_rules.specs.declared.places.Out.{Out}
-use Rattle.lard_rules.specs.Outs.{kind_change, timer_kinds, nothing_done}
-use Rattle.lard_segment.specs.declared.segment.Dir.TheVariants.{ToCluster}
-use Rattle.lard_segment.specs.Segment.{decoded}
+use Rattle.lard_rules.proofs.NodeCases.{IsInItsEpoch}
+use Rattle.lard_rules.specs.Node.{Drops, Says, Does}
 
 -- Node n, which had this cache and these jobs, is so now and did this: it was given the jobs that it notes, and its cache has the
 -- paths in front that it notes.
@@ -78,6 +61,10 @@ module _ (k : NodeSetting) where
     timers = timers-aside (Node k.n) c (node_armed (node_part s c)) (node_armed x.0) timer_kinds;
   }
 
+  rule-moves : (s : NodeState) (c epoch : ℕ) (g : NodeGets) → IsInItsEpoch (node_env k s c epoch) (node_part s c) g
+      → MovesFrom s (node_deed k s c (node_rule (node_env k s c epoch) (node_part s c) g))
+  rule-moves s c epoch g at = deed-moves s c (node_rule (node_env k s c epoch) (node_part s c) g) (rule-deed (node_env k s c epoch) (node_part s c) g at)
+
   -- ---- messages
 
   fetched-moves : (s : NodeState) (from c epoch r : ℕ) (path : List ℕ) (o : Option (List ℕ)) → k.files path ≡ o → MovesFrom s (fetched k s from c epoch r path o)
@@ -90,12 +77,12 @@ module _ (k : NodeSetting) where
       (λ there. record { told = refl; each = ((refl, there, ap is_some is), tt) })))
 
   hears-moves : (s : NodeState) (from : Place) (c epoch : ℕ) (b : Body) → MovesFrom s (node_hears k s from c epoch b)
-  hears-moves s Front c epoch (body.Offer parts) = deed-moves s c (node_offered (node_env k s c epoch) (node_part s c) parts) (offered-deed (node_env k s c epoch) (node_part s c) parts)
-  hears-moves s Front c epoch (body.Forward bytes) = deed-moves s c (node_forwarded (node_env k s c epoch) (node_part s c) (decoded bytes c ToCluster)) (forwarded-deed (node_env k s c epoch) (node_part s c) (decoded bytes c ToCluster))
-  hears-moves s Front c epoch (body.Tag number nodes) = deed-moves s c (node_tagged (node_env k s c epoch) (node_part s c) number nodes) (tagged-deed (node_env k s c epoch) (node_part s c) number nodes)
-  hears-moves s Front c epoch body.EndedAck = deed-moves s c (node_acknowledged (node_env k s c epoch) (node_part s c)) (acknowledged-deed (node_env k s c epoch) (node_part s c))
+  hears-moves s Front c epoch (body.Offer parts) = rule-moves s c epoch (Offered parts) tt
+  hears-moves s Front c epoch (body.Forward bytes) = rule-moves s c epoch (Forwarded (decoded bytes c ToCluster)) tt
+  hears-moves s Front c epoch (body.Tag number nodes) = rule-moves s c epoch (Tagged number nodes) tt
+  hears-moves s Front c epoch body.EndedAck = rule-moves s c epoch Acknowledged tt
   hears-moves s (Node from) c epoch (body.Fetch r path) = fetched-moves s from c epoch r path (k.files path) refl
-  hears-moves s (Node from) c epoch (body.Content r bytes) = deed-moves s c (node_content (node_env k s c epoch) (node_part s c) from r) (content-deed (node_env k s c epoch) (node_part s c) from r)
+  hears-moves s (Node from) c epoch (body.Content r bytes) = rule-moves s c epoch (Content from r) tt
   hears-moves s _ c epoch _ = stays s
 
   gets-moves : (s : NodeState) (from : Place) (r : Result Message MsgFault) → MovesFrom s (node_gets k s from r)
@@ -107,7 +94,7 @@ module _ (k : NodeSetting) where
   brought-moves : (s : NodeState) (job : Job) → MovesFrom s (node_brought k s job)
   brought-moves s job = cond_both (job.origin == k.n) (node_deed k s job.c (node_read (node_env k s job.c job.epoch.0) (node_part s job.c) job.r))
       (aside s (node_saying (content_sent k job.origin job.c job.epoch.0 job.r job.path ∷ []))) (MovesFrom s)
-      (λ t. deed-moves s job.c (node_read (node_env k s job.c job.epoch.0) (node_part s job.c) job.r) (read-deed (node_env k s job.c job.epoch.0) (node_part s job.c) job.r))
+      (λ t. rule-moves s job.c job.epoch.0 (Completed job.r job.path) tt)
       (λ t. aside-moves s (node_saying (content_sent k job.origin job.c job.epoch.0 job.r job.path ∷ [])) (nothing-told k.n k.files (has_path s.cache.entries)))
 
   -- no job is there that this would complete
@@ -127,5 +114,6 @@ module _ (k : NodeSetting) where
 
   pub step-moves : (s : NodeState) (i : BackIn) → NodeMoves s i (node_step k s i)
   step-moves s (back.Message from bytes) = Plain tt (gets-moves s from (decoded_message bytes))
-  step-moves s (back.Timer c) = Plain tt (deed-moves s c (node_timer (node_env k s c (node_epoch_at s c)) (node_part s c)) (fires-deed (node_env k s c (node_epoch_at s c)) (node_part s c)))
+  step-moves s (back.Timer c) = Plain tt (rule-moves s c (node_epoch_at s c) Fires
+      (λ row found. sym (ap (λ (o : Option BackRow). elim o as (λ o. ℕ) [ None ↦ 0 | Some r ↦ r.epoch.0 ]) found)))
   step-moves s (back.Disk j) = disk-moves s j (job_at s.disk j) refl

@@ -3,19 +3,14 @@ use Rattle.std.proofs.Common.{◌≡◌, ◌≢◌, ℕ, Bool, true, false, cond
 use Rattle.std.proofs.lemmas.List.{map-append}
 use Rattle.std.proofs.lemmas.List.Sums.{fold-append}
 use Rattle.std.specs.List.{fold}
-use Rattle.lard_answers.specs.Answers.{FilesAt}
-use Rattle.lard_cache.specs.Recency.{Recency, after_hit, has_path}
+use Rattle.lard_law_view.specs.Prelude.{EachMay, FilesAt, Job, Rec, Recency, after_hit, has_path, hit_step, hits}
 use Rattle.lard_law_connections.specs.StoresLaws.{MayStore, job_told}
 use Rattle.lard_counts.specs.Stores.{Queue, Waiting, cache_of, cache_step, cached, jobs, jobs_step, no_jobs, queue_of}
 use Rattle.lard_law_connections.proofs.StoresAsides.{IsAside, aside}
 use Rattle.lard_law_connections.proofs.StoresHits.{hit-has}
-use Rattle.lard_disk.specs.declared.disk.Job.{Job}
-use Rattle.lard_history.specs.Laws.{EachMay}
 use Rattle.lard_history.proofs.Each.{Each, Each-append}
 use Rattle.lard_history.proofs.Seeing.{other_number, same_number}
-use Rattle.lard_journal.specs.declared.rec.Rec.{Rec}
 use Rattle.lard_journal.specs.declared.rec.Rec.TheVariants as rec
-use Rattle.lard_rules.specs.NodePlace.{hit_step, hits}
 
 -- ---- what a turn notes
 

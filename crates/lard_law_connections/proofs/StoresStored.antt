@@ -3,38 +3,23 @@ use Rattle.std.proofs.Common.{◌≡◌, ℕ, ◌+◌, ◌-◌, List, [], ◌∷
 use Rattle.std.specs.Prelude.{slice_set}
 use Rattle.std.proofs.lemmas.List.{length-map}
 use Rattle.std.proofs.lemmas.List.Sums.{fold-append}
-use Rattle.lard_answers.specs.Answers.{FilesAt}
-use Rattle.lard_base.specs.declared.config.Config.{Config}
-use Rattle.lard_base.specs.declared.event.Event.{Event}
+use Rattle.lard_law_view.specs.Prelude.{BackIn, Config, EachMay, Event, FilesAt, HasRule, IsReached, IsViewed, Machine, Node, NodeSetting, NodeState, Out, Rec, file_at, last_event_step, machine_start, machine_step, machine_told, no_stays, node_at, node_gave, node_setting, node_step}
 use Rattle.lard_base.specs.declared.event.Event.TheVariants as event
-use Rattle.lard_base.specs.declared.place.Place.TheVariants.{Node}
-use Rattle.lard_rules.specs.declared.machine.Machine.{Machine}
-use Rattle.lard_rules.specs.Bounds.{HasRule}
-use Rattle.lard_rules.specs.Machine.{IsReached, machine_step, node_at, node_gave, node_setting, machine_start, machine_told}
 use Rattle.lard_law_connections.specs.StoresLaws.{CachesAreTold, JobsAreTold, MayStore, StoresAreLawful, job_told}
 use Rattle.lard_counts.specs.Stores.{Queue, jobs_step, no_jobs, queue_of}
-use Rattle.lard_law_connections.proofs.StoresAsides.{IsAside, asides-may}
-use Rattle.lard_law_connections.proofs.StoresCalm.{IsCalm, NodeActs, first-aside, first_rows, last-aside, last_rows, step-calm, told-journal}
-use Rattle.lard_law_connections.proofs.StoresForms.{Comes, IsOther, NodeStep, NodesStay, step-form}
+use Rattle.lard_law_connections.proofs.StoresAsides.{IsAside, allows-aside, asides-may, note-aside}
+use Rattle.lard_law_connections.proofs.Calm.{IsCalm, every-clock, first-calm, first_rows, last-calm, last_rows, told-journal}
+use Rattle.lard_law_connections.proofs.Forms.{Comes, NodeStep, NodesStay, node-form, nodes-calm}
 use Rattle.lard_law_connections.proofs.StoresLeading.{IsNamed, Leads, asides-kept, step-leads}
 use Rattle.lard_law_connections.proofs.StoresNodes.{NodeMoves, Plain, Reads, step-moves}
 use Rattle.lard_law_connections.proofs.StoresNotes.{IsKept, own-test}
-use Rattle.lard_law_view.specs.View.{IsViewed}
 use Rattle.lard_law_view.proofs.Carried.{carried-keep}
 use Rattle.lard_law_view.proofs.Parts.{node-others, node-set}
 use Rattle.lard_law_view.proofs.Runs.{of-nodes}
-use Rattle.lard_files.specs.Files.{file_at}
-use Rattle.lard_history.specs.Journal.{last_event_step}
-use Rattle.lard_history.specs.Laws.{EachMay}
 use Rattle.lard_history.proofs.Each.{Each, each_append}
 use Rattle.lard_history.proofs.Seeing.{by_number}
-use Rattle.lard_journal.specs.declared.rec.Rec.{Rec}
 use Rattle.lard_journal.specs.declared.rec.Rec.TheVariants as rec
-use Rattle.lard_rules.specs.declared.node.BackIn.{BackIn}
 use Rattle.lard_rules.specs.declared.node.BackIn.TheVariants as back
-use Rattle.lard_rules.specs.declared.node.NodeState.{NodeState}
-use Rattle.lard_rules.specs.NodePlace.{NodeSetting, no_stays, node_step}
-use Rattle.lard_rules.specs.declared.places.Out.{Out}
 use Rattle.lard_law_view.proofs.OwnRecords.{behind}
 
 -- Each disk and each cache is as the journal tells it, and the journal obeys the law of its records.
@@ -44,7 +29,7 @@ pub record IsStored (files : FilesAt) (limit : ℕ) (m : Machine) : Type 0 where
 
 -- ---- no node moves
 
-calm-stored : (files : FilesAt) (limit : ℕ) (m n : Machine) → IsStored files limit m → n.nodes ≡ m.nodes → IsCalm m n → IsStored files limit n
+calm-stored : (files : FilesAt) (limit : ℕ) (m n : Machine) → IsStored files limit m → n.nodes ≡ m.nodes → IsCalm IsAside m n → IsStored files limit n
 calm-stored files limit m n stored same calm =
     let rs : List Rec = calm.0 in record {
       kept = λ k s at. subst (λ (J : List Rec). IsKept files limit J k s.cache s.disk) (sym calm.1)
@@ -55,20 +40,20 @@ calm-stored files limit m n stored same calm =
 -- ---- a node moves
 
 -- the event of a disk names the job that is completed
-named-after : (k : NodeSetting) (limit : ℕ) (J : List Rec) (c : ℕ) (e : Event) (i : BackIn) (s : NodeState) → Comes e k.n s i → IsNamed k limit (J ++ rec.Event c e ∷ behind e) i
-named-after k limit J c e (back.Disk j) s comes = subst (λ (d : Event). IsNamed k limit (J ++ rec.Event c d ∷ behind d) (back.Disk j)) (sym comes.0) (
+named-after : (k : NodeSetting) (limit : ℕ) (J : List Rec) (m : Machine) (c : ℕ) (e : Event) (i : BackIn) (s : NodeState) → Comes m e k.n s i → IsNamed k limit (J ++ rec.Event c e ∷ behind e) i
+named-after k limit J m c e (back.Disk j) s comes = subst (λ (d : Event). IsNamed k limit (J ++ rec.Event c d ∷ behind d) (back.Disk j)) (sym comes.0) (
   ap (λ (q : Queue). q.at) (fold-append (jobs_step k.n) no_jobs J (rec.Event c (event.Disk k.n j) ∷ [])) ∙ own-test k.n k.n j (queue_of J k.n).at refl,
   fold-append last_event_step None J (rec.Event c (event.Disk k.n j) ∷ []),
 )
-named-after k limit J c e (back.Timer d) s comes = tt
-named-after k limit J c e (back.Message from bytes) s comes = tt
+named-after k limit J m c e (back.Timer d) s comes = tt
+named-after k limit J m c e (back.Message from bytes) s comes = tt
 
 -- the records of a node's step but its notes are aside
 pub moves-asides : (k : NodeSetting) (s : NodeState) (i : BackIn) (x : NodeState × Out) → NodeMoves k s i x → Each IsAside x.1.gave × Each IsAside x.1.timers
 moves-asides k s i x (Plain idle moves) = (moves.gave, moves.timers)
 moves-asides k s (back.Disk j) x (Reads {job = job} {x = y} is moves) = (moves.gave, moves.timers)
 
-module _ (limit : ℕ) (m : Machine) (stored : IsStored (file_at m.files) limit m) (e : Event) (i : ℕ) (s : NodeState) (comes : BackIn) (at : node_at m.nodes i ≡ Some s) (named : Comes e i s comes)
+module _ (limit : ℕ) (m : Machine) (stored : IsStored (file_at m.files) limit m) (e : Event) (i : ℕ) (s : NodeState) (comes : BackIn) (at : node_at m.nodes i ≡ Some s) (came : Comes m e i s comes)
     (t : NodeState) (o : Out) (moves : NodeMoves (node_setting m i) s comes (t, o)) where
   abbrev files : FilesAt
   files = file_at m.files
@@ -86,11 +71,11 @@ module _ (limit : ℕ) (m : Machine) (stored : IsStored (file_at m.files) limit 
   rows = first ++ o.notes ++ last
 
   leads : Leads files limit (m.journal ++ first) i o.notes t
-  leads = step-leads (node_setting m i) limit (m.journal ++ first) s comes (t, o) (asides-kept files limit i m.journal first s.cache s.disk (first-aside m e) (stored.kept i s at))
-      (named-after (node_setting m i) limit m.journal (m.events + 1) e comes s named) moves
+  leads = step-leads (node_setting m i) limit (m.journal ++ first) s comes (t, o) (asides-kept files limit i m.journal first s.cache s.disk (first-calm IsAside allows-aside m e) (stored.kept i s at))
+      (named-after (node_setting m i) limit m.journal m (m.events + 1) e comes s came) moves
 
   lasts : Each IsAside last
-  lasts = let asides = moves-asides (node_setting m i) s comes (t, o) moves in last-aside w (Node i) o asides.0 asides.1
+  lasts = let asides = moves-asides (node_setting m i) s comes (t, o) moves in last-calm IsAside allows-aside w (Node i) o asides.0 asides.1
 
   -- the journal behind the step
   whole : (m.journal ++ first ++ o.notes) ++ last ≡ m.journal ++ rows
@@ -107,13 +92,13 @@ module _ (limit : ℕ) (m : Machine) (stored : IsStored (file_at m.files) limit 
       subst (λ (j : ℕ). IsKept files limit (m.journal ++ rows) j u.cache u.disk) (sym same) (subst (λ (x : NodeState). IsKept files limit (m.journal ++ rows) i x.cache x.disk) e (kept-on i t leads.mine)))
       (λ other.
       let was : IsKept files limit m.journal k u.cache u.disk = stored.kept k u (sym (node-others m.nodes i k s t at other) ∙ is) in
-      kept-on k u (leads.others k u.cache u.disk (λ same. other (sym same)) (asides-kept files limit k m.journal first u.cache u.disk (first-aside m e) was)))
+      kept-on k u (leads.others k u.cache u.disk (λ same. other (sym same)) (asides-kept files limit k m.journal first u.cache u.disk (first-calm IsAside allows-aside m e) was)))
 
   law-on : EachMay (MayStore files limit) [] (m.journal ++ rows)
   law-on = subst (EachMay (MayStore files limit) []) whole
       (each_append (MayStore files limit) [] (m.journal ++ first ++ o.notes) last
       (each_append (MayStore files limit) [] (m.journal ++ first) o.notes
-      (each_append (MayStore files limit) [] m.journal first stored.law (asides-may files limit m.journal first (first-aside m e)))
+      (each_append (MayStore files limit) [] m.journal first stored.law (asides-may files limit m.journal first (first-calm IsAside allows-aside m e)))
       leads.law)
       (asides-may files limit (m.journal ++ first ++ o.notes) last lasts))
 
@@ -132,11 +117,8 @@ abbrev files_in : Machine → FilesAt
 files_in m = file_at m.files
 
 -- what is said where no node moves
-pub calm-of : (m n : Machine) (e : Event) → IsViewed m → HasRule e → machine_step m e ≡ Ok n → NodesStay m e n → IsCalm m n
-calm-of m n e view rule is stay = ⊎_elim
-    (λ (never : NodeActs m e → ⊥). ⊎_elim (λ (acts : NodeActs m e). absurd (never acts)) (λ (calm : IsCalm m n). calm) (step-calm m view e n rule is))
-    (λ (calm : IsOther e × IsCalm m n). calm.1)
-    stay.1
+pub calm-of : (m n : Machine) (e : Event) → IsViewed m → HasRule e → machine_step m e ≡ Ok n → NodesStay m e n → IsCalm IsAside m n
+calm-of m n e view rule is stay = nodes-calm IsAside allows-aside note-aside m view e n rule is (every-clock IsAside (λ time. tt) e) stay
 
 step-stored : (limit : ℕ) (m n : Machine) (e : Event) → IsViewed m → IsStored (files_in m) limit m → HasRule e → machine_step m e ≡ Ok n → IsStored (files_in m) limit n
 step-stored limit m n e view stored rule is = ⊎_elim
@@ -145,8 +127,8 @@ step-stored limit m n e view stored rule is = ⊎_elim
     (λ (step : NodeStep m e n).
     let given : NodeState × Out = node_step (node_setting m step.i) step.s step.comes in
     subst (IsStored (files_in m) limit) (sym step.is)
-    (node-stored limit m stored e step.i step.s step.comes step.there step.named given.0 given.1 (step-moves (node_setting m step.i) step.s step.comes)))
-    (step-form m e n is)
+    (node-stored limit m stored e step.i step.s step.comes step.there step.came given.0 given.1 (step-moves (node_setting m step.i) step.s step.comes)))
+    (node-form m n e is)
 
 -- ---- every state
 

@@ -1,9 +1,7 @@
 -- What is awaited was asked for, over every run of the cluster.
 use Rattle.std.specs.Prelude.{ℕ, List}
-use Rattle.lard_base.specs.declared.config.Config.{Config}
+use Rattle.lard_law_view.specs.Prelude.{Config, OfEach, file_at}
 use Rattle.lard_law_connections.specs.Awaits.{AwaitsWhatItAsked}
-use Rattle.lard_law_view.specs.Carry.{OfEach}
-use Rattle.lard_files.specs.Files.{file_at}
 
 -- Of each connection, in every state: each node that has it awaits what it asked for.
 abbrev pub ConnectionsAwait : Type 0

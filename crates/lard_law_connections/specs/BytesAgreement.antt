@@ -1,50 +1,18 @@
 -- What holds of one connection of the cluster between any two steps, as far as bytes go: what its client and the place that has its
 -- endpoint keep, what the journal says of it, and what every packet that was ever sent says, agree.
 use Rattle.std.specs.Prelude.{◌≡◌, ◌≢◌, ◌⊎◌, ℕ, ◌+◌, ◌-◌, ◌^◌, ◌<◌, ◌≤◌, Bool, true, false, List, [], ◌∷◌, ◌++◌, map, length, take, Option, Some, None, Ok}
-use Rattle.lard_answers.specs.Answers.{FilesAt, IsPrefix, closes_any, good_path, verdicts, verdicts_on}
-use Rattle.lard_base.specs.declared.place.Place.{Place}
-use Rattle.lard_base.specs.declared.place.Place.TheVariants.{Client, Front, Node}
+use Rattle.lard_law_view.specs.Prelude.{BackConn, BackRow, Body, Client, ClientAgrees, Conn, ControlBlock, Ending, Entry, FilesAt, Final, Front, FrontConn, FrontRow, Hears, IsControlBlock, IsPrefix, IsReply, IsWord, Kept, Letter, Message, Node, NodePart, Part, Place, Progress, Said, SaysAnswers, Serves, Speaks, Station, Stay, Stream, Tale, Talk, ToClient, ToCluster, Verdict, blocks, closes_any, decoded_message, ended_kept, front_rest, good_path, may_freeze, parts_of, seq_add, spelled, stream_of, tale_at, verdicts, verdicts_on}
 use Rattle.lard_base.specs.declared.place.Reason.TheVariants as reason
 use Rattle.lard_base.specs.declared.place.TimerKind.TheVariants as kind
-use Rattle.lard_block.specs.Blocks.{blocks}
 use Rattle.lard_law_connections.specs.BytesRecords.{IsWay}
 use Rattle.lard_law_connections.specs.Places.{HasEnded, IsDecided, IsPast}
-use Rattle.lard_law_view.specs.Carry.{tale_at}
-use Rattle.lard_law_view.specs.View.{Conn, Part}
-use Rattle.lard_endpoint.specs.Control.{ControlBlock, IsControlBlock}
-use Rattle.lard_endpoint.specs.declared.control.moving.Final.{Final}
-use Rattle.lard_endpoint.specs.Moving.{may_freeze, parts_of}
-use Rattle.lard_rules.specs.Front.{message, front_rest}
-use Rattle.lard_rules.specs.FrontSound.{Serves}
-use Rattle.lard_handoff_back.specs.declared.row.BackConn.{BackConn}
+use Rattle.lard_rules.specs.Front.{message}
 use Rattle.lard_handoff_back.specs.declared.row.BackConn.TheVariants as back
-use Rattle.lard_handoff_back.specs.declared.row.BackRow.{BackRow}
-use Rattle.lard_handoff_front.specs.declared.row.FrontConn.{FrontConn}
 use Rattle.lard_handoff_front.specs.declared.row.FrontConn.TheVariants as stage
-use Rattle.lard_handoff_front.specs.declared.row.FrontRow.{FrontRow}
-use Rattle.lard_history.specs.Journal.{Tale}
-use Rattle.lard_history.specs.Own.{Letter}
 use Rattle.lard_history.proofs.Each.{Each}
-use Rattle.lard_law_view.specs.Agreement.{ClientAgrees, IsReply, IsWord, SaysAnswers}
-use Rattle.lard_law_view.specs.Truthful.{Talk}
-use Rattle.lard_message.specs.declared.message.Body.{Body}
 use Rattle.lard_message.specs.declared.message.Body.TheVariants as body
-use Rattle.lard_message.specs.declared.message.Message.{Message}
-use Rattle.lard_message.specs.Reading.{decoded_message}
-use Rattle.lard_rules.specs.declared.stay.Entry.{Entry}
-use Rattle.lard_rules.specs.declared.stay.Progress.{Progress}
 use Rattle.lard_rules.specs.declared.stay.Progress.TheVariants as progress
-use Rattle.lard_rules.specs.declared.stay.Stay.{Stay}
-use Rattle.lard_rules.specs.Node.{NodePart, ended_kept}
-use Rattle.lard_request.specs.declared.verdict.Verdict.{Verdict}
-use Rattle.lard_resend.specs.declared.kept.Kept.{Kept}
-use Rattle.lard_rules.specs.declared.places.Ending.{Ending}
-use Rattle.lard_rules.specs.declared.places.Station.{Station}
 use Rattle.lard_rules.specs.declared.places.Ending.TheVariants as ending
-use Rattle.lard_segment.specs.declared.segment.Dir.TheVariants.{ToClient, ToCluster}
-use Rattle.lard_segment.specs.Segment.{Said, spelled}
-use Rattle.lard_seq.specs.Seq.{seq_add}
-use Rattle.lard_law_view.specs.Truth.{Stream, stream_of, Speaks, Hears}
 
 -- ---- reading
 

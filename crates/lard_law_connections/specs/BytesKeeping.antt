@@ -1,43 +1,17 @@
 -- What the rules of a place keep of the agreement of its connection: those of a node, those of the front end, and what a client does.
 use Rattle.std.specs.Prelude.{◌≡◌, ◌⊎◌, ℕ, ◌^◌, ◌<◌, ◌||◌, ◌≤◌, Bool, false, true, List, [], ◌++◌, Option, Some, None, Ok}
 use Rattle.std.specs.List.{list_any}
-use Rattle.lard_answers.specs.Answers.{FilesAt}
-use Rattle.lard_base.specs.declared.limits.TheConstants.{MAX_STREAM_BYTES}
-use Rattle.lard_base.specs.declared.parts.EndpointParts.{EndpointParts}
-use Rattle.lard_base.specs.declared.place.Place.{Place}
-use Rattle.lard_base.specs.declared.place.Place.TheVariants.{Front, Node}
-use Rattle.lard_base.specs.declared.place.Reason.{Reason}
-use Rattle.lard_rules.specs.Bounds.{IsConnNumber}
+use Rattle.lard_law_view.specs.Prelude.{AreReplies, Body, ControlBlock, EndpointParts, FilesAt, Final, FirstChoice, Front, FrontConn, FrontEnv, FrontPart, FrontRow, FrontTurn, GoesOn, IsConnNumber, IsStream, IsWord, Kind, MAX_STREAM_BYTES, Message, Node, NodeDeed, NodeEnv, NodePart, NodeTurn, Part, Place, Reason, Said, SaysAnswers, Stream, Verdict, again_sent, decoded_message, front_admitted, front_ended, front_gets, front_rest, front_timer, is_reset_record, kind_of, may_freeze, node_content, node_forwarded, node_offered, node_read, node_tagged, node_timer, parts_of}
 use Rattle.lard_law_connections.specs.BytesAgreement.{EndedWithNumbers, FrontHolds, FrontWaits, IsKept, IsOffering, NodeAgrees, SeatAgrees, StayComesOn}
 use Rattle.lard_law_connections.specs.BytesTurning.{CountsResponses}
 use Rattle.lard_law_connections.specs.Places.{IsDecided}
-use Rattle.lard_law_view.specs.View.{Part}
-use Rattle.lard_endpoint.specs.declared.control.moving.Final.{Final}
-use Rattle.lard_endpoint.specs.Control.{ControlBlock}
-use Rattle.lard_endpoint.specs.Moving.{may_freeze, parts_of}
-use Rattle.lard_rules.specs.declared.front.FrontTurn.{FrontTurn}
-use Rattle.lard_rules.specs.Front.{FrontEnv, FrontPart, front_admitted, front_ended, front_gets, front_timer, message, front_rest}
+use Rattle.lard_rules.specs.Front.{message}
 use Rattle.lard_rules.specs.Front as front
-use Rattle.lard_handoff_front.specs.declared.row.FrontConn.{FrontConn}
 use Rattle.lard_handoff_front.specs.declared.row.FrontConn.TheVariants as stage
-use Rattle.lard_handoff_front.specs.declared.row.FrontRow.{FrontRow}
 use Rattle.lard_history.proofs.Each.{Each}
-use Rattle.lard_law_view.specs.Agreement.{AreReplies, IsWord, SaysAnswers}
-use Rattle.lard_law_view.specs.Keeping.{is_reset_record}
-use Rattle.lard_message.specs.declared.kind.Kind.{Kind}
 use Rattle.lard_message.specs.declared.kind.Kind.TheVariants as kind
-use Rattle.lard_message.specs.declared.message.Body.{Body}
 use Rattle.lard_message.specs.declared.message.Body.TheVariants as body
-use Rattle.lard_message.specs.declared.message.Message.{Message}
-use Rattle.lard_message.specs.Message.{kind_of}
-use Rattle.lard_message.specs.Reading.{decoded_message}
-use Rattle.lard_rules.specs.declared.node.NodeTurn.{NodeTurn}
-use Rattle.lard_rules.specs.Node.{NodeDeed, Does, Drops, NodePart, Says, again_sent, node_content, node_forwarded, node_offered, node_read, node_tagged, node_timer}
-use Rattle.lard_rules.specs.Stay.{NodeEnv}
-use Rattle.lard_policy.specs.declared.first.FirstChoice.{FirstChoice}
-use Rattle.lard_request.specs.declared.verdict.Verdict.{Verdict}
-use Rattle.lard_segment.specs.Segment.{Said}
-use Rattle.lard_law_view.specs.Truth.{GoesOn, IsStream, Stream}
+use Rattle.lard_rules.specs.Node.{Does, Drops, Says}
 
 -- What a node says: an Ended is the one that it keeps.
 abbrev pub EndsOfKind : NodePart → List ℕ → Kind → Type 0

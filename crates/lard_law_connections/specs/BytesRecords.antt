@@ -1,15 +1,9 @@
 -- What each record of a journal of the cluster may say where it stands, as far as bytes go.
 use Rattle.std.specs.Prelude.{◌≡◌, ℕ, ◌+◌, false, List, [], length, Option, Some, None}
 use Rattle.std.specs.Option.{option_map}
-use Rattle.lard_answers.specs.Answers.{FilesAt, answer_code, good_path}
-use Rattle.lard_base.specs.declared.place.Via.{Via}
+use Rattle.lard_law_view.specs.Prelude.{EachMay, FilesAt, MayAccept, MayTell, Rec, Tale, Verdict, Via, answer_code, good_path, is_touched, next_answer, next_verdict, owner, served, served_bytes, tale}
 use Rattle.lard_base.specs.declared.place.Via.TheVariants.{Own}
-use Rattle.lard_history.specs.Journal.{Tale, is_touched, next_answer, next_verdict, owner, served, served_bytes, tale}
-use Rattle.lard_history.specs.Laws.{EachMay, MayTell}
-use Rattle.lard_journal.specs.declared.rec.Rec.{Rec}
 use Rattle.lard_journal.specs.declared.rec.Rec.TheVariants as rec
-use Rattle.lard_law_view.specs.Truthful.{MayAccept}
-use Rattle.lard_request.specs.declared.verdict.Verdict.{Verdict}
 
 -- ---- the law of service
 

@@ -1,14 +1,8 @@
 -- The law of bytes, over every run of the cluster's machine.
 use Rattle.std.specs.Prelude.{ℕ, ◌≤◌, List}
-use Rattle.lard_base.specs.declared.config.Config.{Config}
-use Rattle.lard_base.specs.declared.limits.TheConstants.{MAX_STREAM_BYTES}
-use Rattle.lard_rules.specs.declared.machine.Machine.{Machine}
-use Rattle.lard_rules.specs.Machine.{IsReached}
+use Rattle.lard_law_view.specs.Prelude.{AcceptsOnlyAnswers, Config, IsReached, MAX_STREAM_BYTES, Machine, OfEach, TellsTheTruth, Untouched, file_at}
 use Rattle.lard_law_connections.specs.BytesAgreement.{IsTruthful}
 use Rattle.lard_law_connections.specs.BytesRecords.{ServesTheAnswers}
-use Rattle.lard_law_view.specs.Carry.{OfEach, Untouched}
-use Rattle.lard_files.specs.Files.{file_at}
-use Rattle.lard_history.specs.Laws.{AcceptsOnlyAnswers, TellsTheTruth}
 
 -- Every state that events lead to, where the stream limit is within what one direction of a connection carries.
 abbrev pub AlwaysWithinStreams : (List (List ℕ × List ℕ) → Machine → Type 0) → Type 0

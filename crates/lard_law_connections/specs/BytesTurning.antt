@@ -1,23 +1,13 @@
 -- What a turn of a place notes while it has a connection, and what it makes of the connection's streams.
 use Rattle.std.specs.Prelude.{◌≡◌, ◌⊎◌, ℕ, ◌+◌, ◌||◌, Bool, false, true, List, length, Option, Some, None}
 use Rattle.std.specs.List.{list_any}
-use Rattle.lard_answers.specs.Answers.{FilesAt}
+use Rattle.lard_law_view.specs.Prelude.{AreReplies, ControlBlock, Ending, FilesAt, GoesOn, Rec, SaysAnswers, Service, Stream, Tale, TellsOf, Turn, Verdict, bytes_served_in, is_reset_record, served_in, tale}
 use Rattle.lard_law_connections.specs.BytesAgreement.{EndAgreesPending, HasReadPending, IsWide}
 use Rattle.lard_law_connections.specs.BytesRecords.{AnswersNext, ResetsNext}
 use Rattle.lard_law_view.specs.Carry.{TellsBy}
-use Rattle.lard_endpoint.specs.Control.{ControlBlock}
-use Rattle.lard_history.specs.Journal.{Tale, tale}
 use Rattle.lard_history.proofs.Each.{Each}
-use Rattle.lard_journal.specs.declared.rec.Rec.{Rec}
 use Rattle.lard_journal.specs.declared.rec.Rec.TheVariants as rec
-use Rattle.lard_law_view.specs.Agreement.{AreReplies, SaysAnswers}
-use Rattle.lard_law_view.specs.Keeping.{TellsOf, is_reset_record, served_in, bytes_served_in}
 use Rattle.lard_law_view.proofs.EndpointStreams.{IsBetween}
-use Rattle.lard_request.specs.declared.verdict.Verdict.{Verdict}
-use Rattle.lard_rules.specs.declared.places.Ending.{Ending}
-use Rattle.lard_rules.specs.declared.places.Turn.{Turn}
-use Rattle.lard_rules.specs.Serving.{Service}
-use Rattle.lard_law_view.specs.Truth.{GoesOn, Stream}
 
 -- it tells nothing of bytes, or of this connection
 abbrev pub IsNoteOf : ℕ → Rec → Type 0

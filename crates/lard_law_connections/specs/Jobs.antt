@@ -1,18 +1,8 @@
 -- What a node reads for the requests of a batch, and the jobs of its disk.
 use Rattle.std.specs.Prelude.{◌≡◌, ℕ, ◌+◌, true, List, [], ◌∷◌, Option, Some, None}
-use Rattle.lard_disk.specs.declared.disk.Job.{Job}
-use Rattle.lard_disk.specs.Jobs.{is_for}
-use Rattle.lard_handoff_back.specs.declared.row.BackConn.{BackConn}
+use Rattle.lard_law_view.specs.Prelude.{BackConn, BackRow, Entry, Has, Job, NodePart, NodeState, Progress, Stay, is_for, node_part}
 use Rattle.lard_handoff_back.specs.declared.row.BackConn.TheVariants as back
-use Rattle.lard_handoff_back.specs.declared.row.BackRow.{BackRow}
-use Rattle.lard_history.specs.Own.{Has}
-use Rattle.lard_rules.specs.declared.node.NodeState.{NodeState}
-use Rattle.lard_rules.specs.declared.stay.Entry.{Entry}
-use Rattle.lard_rules.specs.declared.stay.Progress.{Progress}
 use Rattle.lard_rules.specs.declared.stay.Progress.TheVariants as progress
-use Rattle.lard_rules.specs.declared.stay.Stay.{Stay}
-use Rattle.lard_rules.specs.Node.{NodePart}
-use Rattle.lard_rules.specs.NodePlace.{node_part}
 
 -- one of these jobs reads for request r of connection c, which node n serves in that epoch
 abbrev pub HasJob : ℕ → ℕ → List Job → ℕ → ℕ → Type 0

@@ -1,20 +1,11 @@
 -- What is read is a job, over every run of the cluster.
 use Rattle.std.specs.Prelude.{◌≡◌, ℕ, ◌+◌, List, Some, ◌∷◌}
-use Rattle.lard_base.specs.declared.config.Config.{Config}
-use Rattle.lard_rules.specs.declared.machine.Machine.{Machine}
-use Rattle.lard_rules.specs.Machine.{IsReached}
+use Rattle.lard_law_view.specs.Prelude.{BackRow, Config, ControlBlock, Entry, Has, IsReached, Machine, Rec, Stay, conn}
 use Rattle.lard_law_connections.specs.Jobs.{NodeReads}
 use Rattle.lard_law_connections.specs.StoresLaws.{OfEachNode}
 use Rattle.lard_counts.specs.Stores.{jobs}
-use Rattle.lard_law_view.specs.View.{conn}
 use Rattle.lard_handoff_back.specs.declared.row.BackConn.TheVariants as back
-use Rattle.lard_handoff_back.specs.declared.row.BackRow.{BackRow}
-use Rattle.lard_endpoint.specs.Control.{ControlBlock}
-use Rattle.lard_history.specs.Own.{Has}
-use Rattle.lard_journal.specs.declared.rec.Rec.{Rec}
-use Rattle.lard_rules.specs.declared.stay.Entry.{Entry}
 use Rattle.lard_rules.specs.declared.stay.Progress.TheVariants as progress
-use Rattle.lard_rules.specs.declared.stay.Stay.{Stay}
 
 -- Each node reads, of each connection, only what a job of its disk is for.
 abbrev pub ReadsAreJobs : Type 0

@@ -1,9 +1,7 @@
 -- What is kept of connections, over every run of the cluster.
 use Rattle.std.specs.Prelude.{ℕ, List}
-use Rattle.lard_base.specs.declared.config.Config.{Config}
+use Rattle.lard_law_view.specs.Prelude.{Config, OfEach, file_at}
 use Rattle.lard_law_connections.specs.Kept.{IsKeptByStage}
-use Rattle.lard_law_view.specs.Carry.{OfEach}
-use Rattle.lard_files.specs.Files.{file_at}
 
 -- any node
 abbrev pub AnyNode : ℕ → Type 0

@@ -1,12 +1,7 @@
 -- The reset law, over every run of the cluster.
 use Rattle.std.specs.Prelude.{ℕ, ◌≤◌, List}
-use Rattle.lard_base.specs.declared.config.Config.{Config}
-use Rattle.lard_base.specs.declared.limits.TheConstants.{MAX_STREAM_BYTES}
-use Rattle.lard_rules.specs.declared.machine.Machine.{Machine}
-use Rattle.lard_rules.specs.Machine.{IsReached}
+use Rattle.lard_law_view.specs.Prelude.{Config, IsReached, MAX_STREAM_BYTES, Machine, OfEach, ResetsAtTheLimit}
 use Rattle.lard_law_connections.specs.LimitsCounts.{CountsWhatWasServed}
-use Rattle.lard_law_view.specs.Carry.{OfEach}
-use Rattle.lard_history.specs.Laws.{ResetsAtTheLimit}
 
 -- Whatever has an endpoint of a connection, or its Offer, counts what was served on it.
 abbrev pub ConnectionsAreCounted : Type 0

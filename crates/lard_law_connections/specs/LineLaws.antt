@@ -2,22 +2,11 @@
 use Rattle.std.specs.Prelude.{◌≡◌, ℕ, ◌+◌, ◌*◌, ◌<◌, ◌≤◌, ◌||◌, nat_lt, nat_le, max, count_by, Bool, if◌then◌else◌, List, [], ◌∷◌, length, map, Option, Some, None, Ok, nat_eq, false}
 use Rattle.std.specs.FinMap as table
 use Rattle.std.specs.List.{list_any}
-use Rattle.lard_base.specs.declared.config.Config.{Config}
-use Rattle.lard_base.specs.declared.place.Place.TheVariants.{Front}
-use Rattle.lard_base.specs.Config.{config_check, room_of}
-use Rattle.lard_rules.specs.declared.machine.Machine.{Machine}
-use Rattle.lard_rules.specs.Machine.{IsReached}
+use Rattle.lard_law_view.specs.Prelude.{AtEachEnd, Config, EachMay, EachStep, Front, FrontRow, IsReached, Machine, Rec, config_check, home_told, is_home_of_node, is_waiting, last_epoch, owner, room_of, steps}
 use Rattle.lard_law_connections.specs.Line.{waiting_line}
 use Rattle.lard_law_connections.specs.PolicyLaws.{AtEveryMoment, last_record}
 use Rattle.lard_counts.specs.Ledger.{Ledger, ledger_admitted, is_in_ledger, ledger}
 use Rattle.lard_law_connections.specs.PolicyLoads.{load_told}
-use Rattle.lard_dispatch.specs.Loads.{is_home_of_node}
-use Rattle.lard_handoff_front.specs.declared.row.FrontRow.{FrontRow}
-use Rattle.lard_handoff_front.specs.Row.{is_waiting}
-use Rattle.lard_history.specs.Journal.{home_told, last_epoch, owner}
-use Rattle.lard_history.specs.Laws.{EachMay}
-use Rattle.lard_history.specs.Steps.{AtEachEnd, EachStep, steps}
-use Rattle.lard_journal.specs.declared.rec.Rec.{Rec}
 use Rattle.lard_journal.specs.declared.rec.Rec.TheVariants as rec
 use Rattle.lard_loads.specs.Tally as tally
 

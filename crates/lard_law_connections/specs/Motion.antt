@@ -1,12 +1,10 @@
 -- How a connection moves, step by step, in words of what it sees.
 use Rattle.std.specs.Prelude.{◌≡◌, ◌⊎◌, ℕ, ◌+◌, ◌&&◌, nat_lt, not, Bool, false, if◌then◌else◌, List, [], ◌∷◌, map, Option, Some, None}
 use Rattle.std.specs.List.{list_any}
-use Rattle.lard_rules.specs.Machine.{is_no_node}
+use Rattle.lard_law_view.specs.Prelude.{Rec, Seen, is_no_node, net_of, own, seen_on}
 use Rattle.lard_law_connections.specs.MotionStory.{Story, ended_in, first_node, forward_to, from_node, front_gave_epoch, front_took, highest, is_among, is_syn_in, node_gave_epoch, node_took, of_row, epoch_offered, picked, segment_in, story, to_node}
 use Rattle.lard_law_connections.specs.Places.{Head, message_head}
 use Rattle.lard_rules.specs.Front.{message}
-use Rattle.lard_history.specs.Own.{Seen, net_of, own, seen_on}
-use Rattle.lard_journal.specs.declared.rec.Rec.{Rec}
 use Rattle.lard_message.specs.declared.kind.Kind.TheVariants as kind
 use Rattle.lard_message.specs.declared.message.Body.TheVariants as body
 

@@ -1,10 +1,7 @@
 -- The motion law, over every run of the cluster.
 use Rattle.std.specs.Prelude.{ℕ, List, []}
-use Rattle.lard_base.specs.declared.config.Config.{Config}
-use Rattle.lard_rules.specs.declared.machine.Machine.{Machine}
-use Rattle.lard_rules.specs.Machine.{IsReached}
+use Rattle.lard_law_view.specs.Prelude.{Config, EachStep, IsReached, Machine, steps}
 use Rattle.lard_law_connections.specs.Motion.{MustMove}
-use Rattle.lard_history.specs.Steps.{EachStep, steps}
 
 -- Each step of each connection is as its way so far lets it be.
 abbrev pub ConnectionsMoveInSteps : Type 0

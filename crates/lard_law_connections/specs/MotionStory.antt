@@ -1,22 +1,11 @@
 -- What a connection sees of its way: the packets by which it moves, and the records that tell of it.
 use Rattle.std.specs.Prelude.{ℕ, ◌+◌, ◌||◌, ◌==◌, nat_eq, max, Bool, true, false, if◌then◌else◌, List, [], ◌∷◌, ◌++◌, Option, Some, None, Result, Ok, Err}
 use Rattle.std.specs.List.{fold, list_any}
-use Rattle.lard_base.specs.declared.place.Place.{Place}
-use Rattle.lard_base.specs.declared.place.Place.TheVariants.{Front, Node, Client}
+use Rattle.lard_law_view.specs.Prelude.{Came, Client, Front, Message, MsgFault, Node, Place, Rec, Row, Said, Seen, SegFault, ToCluster, decoded, decoded_message, is_plain_syn, listed}
 use Rattle.lard_law_connections.specs.Places.{Head, message_head}
-use Rattle.lard_history.specs.Own.{Seen, Row, Came}
-use Rattle.lard_journal.specs.declared.rec.Rec.{Rec}
 use Rattle.lard_journal.specs.declared.rec.Rec.TheVariants as rec
-use Rattle.lard_message.specs.declared.fault.MsgFault.{MsgFault}
 use Rattle.lard_message.specs.declared.kind.Kind.TheVariants as kind
 use Rattle.lard_message.specs.declared.message.Body.TheVariants as body
-use Rattle.lard_message.specs.declared.message.Message.{Message}
-use Rattle.lard_message.specs.Reading.{decoded_message}
-use Rattle.lard_rules.specs.Tombstone.{is_plain_syn}
-use Rattle.lard_rules.specs.Speaking.{listed}
-use Rattle.lard_segment.specs.declared.fault.SegFault.{SegFault}
-use Rattle.lard_segment.specs.declared.segment.Dir.TheVariants.{ToCluster}
-use Rattle.lard_segment.specs.Segment.{Said, decoded}
 
 -- what is picked of each thing that is seen, in order
 abbrev pub picked : {A : Type 0} → (Seen → Option A) → List Seen → List A

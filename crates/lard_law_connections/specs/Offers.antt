@@ -1,21 +1,11 @@
 -- What an Offer carries: the endpoint at the moment at which the Offer is first sent, in words of the journal.
 use Rattle.std.specs.Prelude.{◌≡◌, ◌⊎◌, ℕ, ◌+◌, ◌-◌, ◌≤◌, false, List, [], ◌∷◌, length, take, drop, Some, Ok}
-use Rattle.lard_answers.specs.Answers.{FilesAt}
-use Rattle.lard_base.specs.declared.parts.EndpointParts.{EndpointParts}
-use Rattle.lard_base.specs.declared.place.Place.{Place}
-use Rattle.lard_base.specs.declared.place.Place.TheVariants.{Front, Node}
-use Rattle.lard_block.specs.Blocks.{Cuts, Head, Long, Piece, blocks}
+use Rattle.lard_law_view.specs.Prelude.{Body, Cuts, EachMay, EndpointParts, FilesAt, Front, Head, Long, Message, Node, Place, Rec, blocks, decoded_message, file_at, is_touched, numbers_of, said_to, served, wrote}
+use Rattle.lard_block.specs.Blocks.{Piece}
 use Rattle.lard_law_connections.specs.BytesRuns.{AlwaysWithinStreams}
-use Rattle.lard_files.specs.Files.{file_at}
-use Rattle.lard_history.specs.Journal.{is_touched, numbers_of, said_to, served, wrote}
-use Rattle.lard_history.specs.Laws.{EachMay}
 use Rattle.lard_history.proofs.Each.{Each}
-use Rattle.lard_journal.specs.declared.rec.Rec.{Rec}
 use Rattle.lard_journal.specs.declared.rec.Rec.TheVariants as rec
-use Rattle.lard_message.specs.declared.message.Body.{Body}
 use Rattle.lard_message.specs.declared.message.Body.TheVariants as body
-use Rattle.lard_message.specs.declared.message.Message.{Message}
-use Rattle.lard_message.specs.Reading.{decoded_message}
 
 -- ---- packets that were sent before
 

@@ -1,24 +1,9 @@
 -- Where the sending side of a connection is, by what the front end and the nodes keep of it, and what its messages say of that.
 use Rattle.std.specs.Prelude.{◌≡◌, ◌≢◌, ◌⊎◌, ℕ, ◌+◌, ◌%◌, ◌<◌, ◌≤◌, List, option_map, Option, Some, None}
-use Rattle.lard_base.specs.declared.ids.Epoch.{Epoch}
-use Rattle.lard_base.specs.declared.place.Place.{Place}
-use Rattle.lard_base.specs.declared.place.Place.TheVariants.{Front, Node}
-use Rattle.lard_law_view.specs.Carry.{tale_at}
-use Rattle.lard_law_view.specs.View.{Conn, Part}
-use Rattle.lard_handoff_back.specs.declared.row.BackConn.{BackConn}
+use Rattle.lard_law_view.specs.Prelude.{BackConn, BackRow, Conn, Epoch, Front, FrontConn, FrontRow, IsEarlyAway, IsEarlyHere, IsEarlyOver, Kind, Letter, Node, NodePart, Part, Place, Tale, epoch_at, kind_named, number_byte, tale_at, version_at}
 use Rattle.lard_handoff_back.specs.declared.row.BackConn.TheVariants.{Here, Out, Ended, Gone}
-use Rattle.lard_handoff_back.specs.declared.row.BackRow.{BackRow}
-use Rattle.lard_handoff_front.specs.declared.row.FrontConn.{FrontConn}
 use Rattle.lard_handoff_front.specs.declared.row.FrontConn.TheVariants.{Held, Waiting, Lent, Offering, Moved, Closed}
-use Rattle.lard_handoff_front.specs.declared.row.FrontRow.{FrontRow}
-use Rattle.lard_history.specs.Journal.{Tale}
-use Rattle.lard_history.specs.Own.{Letter}
-use Rattle.lard_message.specs.declared.kind.Kind.{Kind}
 use Rattle.lard_message.specs.declared.kind.Kind.TheVariants as kind
-use Rattle.lard_message.specs.Kinds.{kind_named}
-use Rattle.lard_message.specs.Reading.{epoch_at, number_byte, version_at}
-use Rattle.lard_rules.specs.FrontSound.{IsEarlyAway, IsEarlyHere, IsEarlyOver}
-use Rattle.lard_rules.specs.Node.{NodePart}
 
 -- who owns the sending side of a connection, and the epoch in which it was taken last
 pub record Owning : Type 0 where

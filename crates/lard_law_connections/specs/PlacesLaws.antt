@@ -1,11 +1,7 @@
 -- The law of places, over every run of the cluster.
 use Rattle.std.specs.Prelude.{ℕ, List}
-use Rattle.lard_base.specs.declared.config.Config.{Config}
-use Rattle.lard_rules.specs.declared.machine.Machine.{Machine}
-use Rattle.lard_rules.specs.Machine.{IsReached}
+use Rattle.lard_law_view.specs.Prelude.{Config, IsOwnership, IsReached, IsSoleSender, Machine, OfEach}
 use Rattle.lard_law_connections.specs.Places.{HasEarlyEpoch, SitsAt}
-use Rattle.lard_law_view.specs.Carry.{OfEach}
-use Rattle.lard_history.specs.Laws.{IsOwnership, IsSoleSender}
 
 -- it is so in every state that events lead to
 abbrev pub Always : (Machine → Type 0) → Type 0

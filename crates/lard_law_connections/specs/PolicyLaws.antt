@@ -1,31 +1,14 @@
 -- Which records of admission and of assignments may stand where.
 use Rattle.std.specs.Prelude.{◌≡◌, ◌⊎◌, ℕ, ◌≤◌, ◌<◌, true, false, nat_lt, is_some, List, [], ◌∷◌, ◌++◌, length, map, Option, Some, None, Ok}
 use Rattle.std.specs.List.{AllByRecursion, fold}
-use Rattle.lard_base.specs.declared.event.Event.{Event}
-use Rattle.lard_base.specs.declared.place.Place.TheVariants.{Front}
-use Rattle.lard_rules.specs.Bounds.{HasRule}
-use Rattle.lard_dispatch.specs.declared.line.Waiting.{Waiting}
-use Rattle.lard_base.specs.Config.{config_check, room_of}
-use Rattle.lard_base.specs.declared.config.Config.{Config}
-use Rattle.lard_rules.specs.declared.machine.Machine.{Machine}
-use Rattle.lard_rules.specs.Machine.{IsReached, machine_step}
+use Rattle.lard_law_view.specs.Prelude.{Config, EachMay, Event, FirstChoice, Front, Has, HasRule, IsReached, LaterChoice, Machine, Rec, Waiting, config_check, first_choice, has, home, later_choice, machine_step, numbers, open_shares, room_of, time_of}
 use Rattle.lard_counts.specs.Ledger.{Ledger, ledger_admitted, is_in_ledger, ledger, server_set}
-use Rattle.lard_costs.specs.declared.later.LaterChoice.{LaterChoice}
-use Rattle.lard_costs.specs.Later.{later_choice}
-use Rattle.lard_history.specs.Laws.{EachMay}
-use Rattle.lard_history.specs.Own.{Has}
-use Rattle.lard_journal.specs.declared.rec.Rec.{Rec}
 use Rattle.lard_journal.specs.declared.rec.Rec.TheVariants as rec
-use Rattle.lard_base.specs.Members.{has}
 use Rattle.lard_law_connections.specs.PolicyLine.{IsSublist, waiting}
 use Rattle.lard_law_connections.specs.PolicyLoads.{load_told}
 use Rattle.lard_law_connections.specs.PolicyServers.{last_mod, serves}
 use Rattle.lard_history.specs.Journal as history
-use Rattle.lard_history.specs.Journal.{time_of}
 use Rattle.lard_loads.specs.Tally as tally
-use Rattle.lard_loads.specs.Tally.{home, numbers, open_shares}
-use Rattle.lard_policy.specs.declared.first.FirstChoice.{FirstChoice}
-use Rattle.lard_policy.specs.First.{first_choice}
 
 -- ---- admission
 

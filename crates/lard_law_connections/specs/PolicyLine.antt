@@ -1,7 +1,7 @@
 -- Who waits, as the journal tells it.
 use Rattle.std.specs.Prelude.{◌≡◌, ◌⊎◌, ℕ, not, nat_eq, List, [], ◌∷◌, ◌++◌}
 use Rattle.std.specs.List.{filter, fold}
-use Rattle.lard_journal.specs.declared.rec.Rec.{Rec}
+use Rattle.lard_law_view.specs.Prelude.{Rec}
 use Rattle.lard_journal.specs.declared.rec.Rec.TheVariants as rec
 
 abbrev pub waiting_step : List ℕ → Rec → List ℕ

@@ -1,9 +1,8 @@
 -- Loads as the journal tells them: what each record charges a node, until another record takes it back.
 use Rattle.std.specs.Prelude.{ℕ, ◌/◌, true, false, not, List, [], ◌∷◌, ◌++◌, sum_by, if◌then◌else◌}
 use Rattle.std.specs.List.{filter, fold}
-use Rattle.lard_journal.specs.declared.rec.Rec.{Rec}
+use Rattle.lard_law_view.specs.Prelude.{Charge, Rec, is_charge_of, is_home, is_share_of, units_at}
 use Rattle.lard_journal.specs.declared.rec.Rec.TheVariants as rec
-use Rattle.lard_loads.specs.Charges.{Charge, is_home, is_charge_of, is_share_of, units_at}
 
 -- A first assignment charges its node 840, until the connection is released. A later one to another node than that charges its node
 -- 840 divided by the size of the batch, until the batch is over or the connection is released.

@@ -1,29 +1,11 @@
 -- Where RST is sent to a client: in words of the journal, and what holds of one connection between any two steps.
 use Rattle.std.specs.Prelude.{◌≡◌, ℕ, Bool, true, List, [], Option, Some, None, Ok}
-use Rattle.lard_base.specs.declared.config.Config.{Config}
-use Rattle.lard_base.specs.declared.place.Place.{Place}
-use Rattle.lard_base.specs.declared.place.Place.TheVariants.{Client, Front, Node}
-use Rattle.lard_base.specs.declared.place.Reason.{Reason}
+use Rattle.lard_law_view.specs.Prelude.{Body, Client, Config, Conn, EachMay, Front, FrontConn, FrontRow, IsReached, Letter, Machine, Message, Node, OfEach, Place, Reason, Rec, Said, ToClient, decoded, decoded_message, tale_at, was_reset}
 use Rattle.lard_base.specs.declared.place.Reason.TheVariants.{Limit}
-use Rattle.lard_handoff_front.specs.declared.row.FrontConn.{FrontConn}
 use Rattle.lard_handoff_front.specs.declared.row.FrontConn.TheVariants as stage
-use Rattle.lard_handoff_front.specs.declared.row.FrontRow.{FrontRow}
-use Rattle.lard_history.specs.Journal.{was_reset}
-use Rattle.lard_history.specs.Laws.{EachMay}
-use Rattle.lard_history.specs.Own.{Letter}
 use Rattle.lard_history.proofs.Each.{Each}
-use Rattle.lard_journal.specs.declared.rec.Rec.{Rec}
 use Rattle.lard_journal.specs.declared.rec.Rec.TheVariants as rec
-use Rattle.lard_law_view.specs.Carry.{OfEach, tale_at}
-use Rattle.lard_law_view.specs.View.{Conn}
-use Rattle.lard_message.specs.declared.message.Body.{Body}
 use Rattle.lard_message.specs.declared.message.Body.TheVariants as body
-use Rattle.lard_message.specs.declared.message.Message.{Message}
-use Rattle.lard_message.specs.Reading.{decoded_message}
-use Rattle.lard_rules.specs.declared.machine.Machine.{Machine}
-use Rattle.lard_rules.specs.Machine.{IsReached}
-use Rattle.lard_segment.specs.declared.segment.Dir.TheVariants.{ToClient}
-use Rattle.lard_segment.specs.Segment.{Said, decoded}
 
 -- ---- the law
 

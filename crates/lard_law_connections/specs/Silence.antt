@@ -1,15 +1,8 @@
 -- What an endpoint and a client have said between two steps: all that they may.
 use Rattle.std.specs.Prelude.{◌≡◌, ◌+◌, ◌≤◌, ℕ, false, List, Option, Some, None}
-use Rattle.lard_base.specs.declared.limits.TheConstants.{RECEIVE_WINDOW}
-use Rattle.lard_client.specs.Control.{ClientBlock}
+use Rattle.lard_law_view.specs.Prelude.{ClientBlock, Conn, ControlBlock, IsControlBlock, Part, RECEIVE_WINDOW, Speaks, Station, emitted, may_end}
 use Rattle.lard_client.specs.Leaving as client
 use Rattle.lard_law_connections.specs.SilencePlaces.{FrontHas, NodeHas}
-use Rattle.lard_law_view.specs.View.{Conn, Part}
-use Rattle.lard_endpoint.specs.Control.{ControlBlock, IsControlBlock}
-use Rattle.lard_endpoint.specs.Leaving.{emitted}
-use Rattle.lard_endpoint.specs.Moving.{may_end}
-use Rattle.lard_rules.specs.declared.places.Station.{Station}
-use Rattle.lard_law_view.specs.Truth.{Speaks}
 
 -- It goes on. The window that it told last ends no sooner than the first one did.
 pub record HasSpoken (b : ControlBlock) : Type 0 where

@@ -1,9 +1,7 @@
 -- Nothing is left to be said, over every run of the cluster.
 use Rattle.std.specs.Prelude.{ℕ, ◌≤◌, List}
-use Rattle.lard_base.specs.declared.config.Config.{Config}
-use Rattle.lard_base.specs.declared.limits.TheConstants.{MAX_STREAM_BYTES}
+use Rattle.lard_law_view.specs.Prelude.{Config, MAX_STREAM_BYTES, OfEach}
 use Rattle.lard_law_connections.specs.Silence.{AllHaveSpoken}
-use Rattle.lard_law_view.specs.Carry.{OfEach}
 
 -- Of each connection, in every state: its client and each place that has an endpoint of it have said all that they may.
 abbrev pub ConnectionsHaveSpoken : Type 0

@@ -1,14 +1,8 @@
 -- What is so of an endpoint, wherever the front end or a node has it.
 use Rattle.std.specs.Prelude.{Option, Some, None}
-use Rattle.lard_endpoint.specs.Control.{ControlBlock}
-use Rattle.lard_handoff_back.specs.declared.row.BackConn.{BackConn}
+use Rattle.lard_law_view.specs.Prelude.{BackConn, BackRow, ControlBlock, FrontConn, FrontRow, NodePart, Stay}
 use Rattle.lard_handoff_back.specs.declared.row.BackConn.TheVariants as back
-use Rattle.lard_handoff_back.specs.declared.row.BackRow.{BackRow}
-use Rattle.lard_handoff_front.specs.declared.row.FrontConn.{FrontConn}
 use Rattle.lard_handoff_front.specs.declared.row.FrontConn.TheVariants as stage
-use Rattle.lard_handoff_front.specs.declared.row.FrontRow.{FrontRow}
-use Rattle.lard_rules.specs.declared.stay.Stay.{Stay}
-use Rattle.lard_rules.specs.Node.{NodePart}
 
 -- ---- at the front end
 

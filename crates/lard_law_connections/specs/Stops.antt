@@ -1,24 +1,10 @@
 -- Why a place of the cluster reads no further on a connection that it has, between any two steps.
 use Rattle.std.specs.Prelude.{◌≡◌, ◌⊎◌, ℕ, true, false, List, [], ◌∷◌, take, drop, Option, Some, None}
-use Rattle.lard_answers.specs.Answers.{FilesAt, good_path}
+use Rattle.lard_law_view.specs.Prelude.{BackConn, BackRow, Conn, ControlBlock, Entry, FilesAt, FrontConn, FrontRow, HasStopped, NodePart, Stay, cut_of, good_path, may_freeze, next_by, verdict}
 use Rattle.lard_block.specs.declared.block.Found.TheVariants.{Block}
-use Rattle.lard_block.specs.Blocks.{cut_of}
-use Rattle.lard_law_view.specs.View.{Conn}
-use Rattle.lard_endpoint.specs.Control.{ControlBlock}
-use Rattle.lard_endpoint.specs.Moving.{may_freeze}
-use Rattle.lard_handoff_back.specs.declared.row.BackConn.{BackConn}
 use Rattle.lard_handoff_back.specs.declared.row.BackConn.TheVariants as back
-use Rattle.lard_handoff_back.specs.declared.row.BackRow.{BackRow}
-use Rattle.lard_handoff_front.specs.declared.row.FrontConn.{FrontConn}
 use Rattle.lard_handoff_front.specs.declared.row.FrontConn.TheVariants as stage
-use Rattle.lard_handoff_front.specs.declared.row.FrontRow.{FrontRow}
-use Rattle.lard_law_view.specs.Agreement.{HasStopped}
-use Rattle.lard_rules.specs.declared.stay.Entry.{Entry}
 use Rattle.lard_rules.specs.declared.stay.Next.TheVariants.{Stop}
-use Rattle.lard_rules.specs.declared.stay.Stay.{Stay}
-use Rattle.lard_rules.specs.Node.{NodePart}
-use Rattle.lard_rules.specs.Stay.{next_by}
-use Rattle.lard_request.specs.Verdict.{verdict}
 
 -- ---- at the front end
 

@@ -1,9 +1,7 @@
 -- Why reading stops, over every run of the cluster.
 use Rattle.std.specs.Prelude.{ℕ, List}
-use Rattle.lard_base.specs.declared.config.Config.{Config}
+use Rattle.lard_law_view.specs.Prelude.{Config, OfEach, file_at}
 use Rattle.lard_law_connections.specs.Stops.{ReadingStops}
-use Rattle.lard_law_view.specs.Carry.{OfEach}
-use Rattle.lard_files.specs.Files.{file_at}
 
 -- Of each connection, in every state: the place that has it reads no further for a reason.
 abbrev pub ConnectionsStop : Type 0

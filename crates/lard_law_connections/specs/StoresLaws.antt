@@ -1,22 +1,10 @@
 -- What is so of disks and caches in every run.
 use Rattle.std.specs.Prelude.{◌≡◌, ℕ, Bool, true, false, is_some, List, [], ◌∷◌, length, map, Some}
 use Rattle.std.specs.List.{AllByRecursion}
-use Rattle.lard_answers.specs.Answers.{FilesAt}
-use Rattle.lard_base.specs.declared.config.Config.{Config}
-use Rattle.lard_base.specs.declared.event.Event.{Event}
+use Rattle.lard_law_view.specs.Prelude.{Config, EachMay, EachStep, Event, FilesAt, IsReached, Job, Machine, NodeState, Rec, file_at, has_path, last_event, node_at, steps}
 use Rattle.lard_base.specs.declared.event.Event.TheVariants.{Disk}
-use Rattle.lard_cache.specs.Recency.{has_path}
-use Rattle.lard_rules.specs.declared.machine.Machine.{Machine}
-use Rattle.lard_rules.specs.Machine.{IsReached, node_at}
 use Rattle.lard_counts.specs.Stores.{Waiting, cached, jobs, waiting_at}
-use Rattle.lard_disk.specs.declared.disk.Job.{Job}
-use Rattle.lard_files.specs.Files.{file_at}
-use Rattle.lard_history.specs.Journal.{last_event}
-use Rattle.lard_history.specs.Laws.{EachMay}
-use Rattle.lard_history.specs.Steps.{EachStep, steps}
-use Rattle.lard_journal.specs.declared.rec.Rec.{Rec}
 use Rattle.lard_journal.specs.declared.rec.Rec.TheVariants as rec
-use Rattle.lard_rules.specs.declared.node.NodeState.{NodeState}
 
 -- it is so of each node in every state that events lead to
 abbrev pub OfEachNode : (Config → List (List ℕ × List ℕ) → List Rec → ℕ → NodeState → Type 0) → Type 0

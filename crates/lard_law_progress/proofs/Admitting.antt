@@ -1,20 +1,14 @@
 -- A connection that is admitted from the line is offered then: a unit goes.
 use Rattle.std.proofs.Common.{◌≡◌, ◌<◌, ◌≤◌, ◌+◌, Option, Some, None, [], refl, sym, ap, ◌∙◌, subst, ⊎_elim}
 use Rattle.std.proofs.lemmas.Bool.{cases_lt}
-use Rattle.lard_answers.specs.Answers.{FilesAt}
+use Rattle.lard_law_view.specs.Prelude.{Conn, FilesAt, FirstChoice, FrontEnv, FrontPart, FrontTurn, Part, Service, Setting, Station, admitted_by, front_admits, front_admitted, front_rest, grown, handed_off, serving, with_front}
 use Rattle.lard_bound.specs.Progress.{Lasts, spot_with}
 use Rattle.lard_bound.specs.Spots.{InLine, OnOffer, Spot, post_of, spot_of}
 use Rattle.lard_bound.specs.Units.{Whole, units}
-use Rattle.lard_law_view.specs.View.{Conn, Part, Setting, front_admits, grown, with_front}
-use Rattle.lard_rules.specs.declared.front.FrontTurn.{FrontTurn}
-use Rattle.lard_rules.specs.Front.{FrontEnv, FrontPart, admitted_by, front_admitted, handed_off, front_rest}
 use Rattle.lard_handoff_front.specs.declared.row.FrontConn.TheVariants as stage
-use Rattle.lard_policy.specs.declared.first.FirstChoice.{FirstChoice}
 use Rattle.lard_law_progress.proofs.AnswersNodeStill.{post-is}
 use Rattle.lard_law_progress.proofs.Given.{IsFresh}
 use Rattle.lard_law_progress.proofs.Seating.{seat-at, seat-offering}
-use Rattle.lard_rules.specs.declared.places.Station.{Station}
-use Rattle.lard_rules.specs.Serving.{Service, serving}
 use Rattle.lard_rules.proofs.FrontCases.{admitted-keeps}
 
 none-given : (g : FrontPart × FrontTurn) → ◌≡◌ {A = Option (FrontPart × FrontTurn)} None (Some g) → ⊥

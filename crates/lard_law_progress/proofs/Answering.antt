@@ -1,18 +1,12 @@
 -- One that has nothing to say but an acknowledgement says just that.
 use Rattle.std.proofs.Common.{◌≡◌, ℕ, ◌==◌, ◌&&◌, ◌||◌, nat_lt, not, List, [], ◌∷◌, Bool, true, false, cond, Option, Some, None, refl, ap, ◌∙◌}
 use Rattle.std.proofs.lemmas.Bool.{cond-false, cond-true}
-use Rattle.lard_base.specs.declared.place.Place.{Place}
-use Rattle.lard_client.specs.Control.{ClientBlock, is_established, is_client_open}
+use Rattle.lard_law_view.specs.Prelude.{ClientBlock, IsSending, Place, Ready, Sending, after_next, client_speaks, is_client_open, is_established, may_send, next_piece, to_front}
 use Rattle.lard_client.specs.Control as control
 use Rattle.lard_client.specs.Leaving as client
-use Rattle.lard_endpoint.specs.Control.{rcv_wnd}
-use Rattle.lard_endpoint.specs.Leaving.{ack_ready, after_emit, after_owed, after_piece, emitted, owed_ready, owes, ready_of, told}
-use Rattle.lard_rules.specs.Speaking.{client_speaks, to_front}
 use Rattle.lard_rules.proofs.Saying.{client-done, client-more}
-use Rattle.lard_segment.specs.declared.segment.Ready.{Ready}
 use Rattle.lard_send.specs.declared.piece.Piece.{Piece}
 use Rattle.lard_send.proofs.Sent.{next-rests}
-use Rattle.lard_send.specs.Send.{IsSending, Sending, after_next, may_send, next_piece}
 
 -- ---- a client
 

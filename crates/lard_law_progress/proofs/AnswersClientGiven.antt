@@ -1,23 +1,10 @@
 -- What is given of a connection, on which what its client makes of a packet rests.
 use Rattle.std.proofs.Common.{◌≡◌, ◌<◌, ◌≤◌, ◌+◌, ◌^◌, ◌==◌, ℕ, true, false, List, length, None, Some, Ok}
-use Rattle.lard_arrival.specs.Arrival.{seg_len}
-use Rattle.lard_base.specs.declared.limits.TheConstants.{MAX_STREAM_BYTES}
-use Rattle.lard_base.specs.declared.place.Place.{Place}
-use Rattle.lard_base.specs.declared.place.Place.TheVariants.{Client, Front, Node}
-use Rattle.lard_base.specs.declared.place.Reason.{Reason}
+use Rattle.lard_law_view.specs.Prelude.{Client, ClientBlock, Conn, ControlBlock, Front, IsSending, MAX_STREAM_BYTES, Node, Place, Reason, Said, Station, ToClient, Was, client_emitted, decoded, seg_len, seq_add, seq_offset, symbols}
 use Rattle.lard_base.specs.declared.place.Reason.TheVariants.{Closed, Limit, Peer}
 use Rattle.lard_bound.specs.Seats.{Held, Here, Over, SeatNow, seat_of}
 use Rattle.lard_bound.specs.Units.{symbols_taken}
-use Rattle.lard_client.specs.Control.{ClientBlock}
 use Rattle.lard_client.specs.declared.phase.Phase.TheVariants.{Open}
-use Rattle.lard_client.specs.Leaving.{client_emitted}
-use Rattle.lard_law_view.specs.View.{Conn, Was}
-use Rattle.lard_endpoint.specs.Control.{ControlBlock}
-use Rattle.lard_rules.specs.declared.places.Station.{Station}
-use Rattle.lard_segment.specs.declared.segment.Dir.TheVariants.{ToClient}
-use Rattle.lard_segment.specs.Segment.{Said, decoded}
-use Rattle.lard_send.specs.Send.{IsSending, symbols}
-use Rattle.lard_seq.specs.Seq.{seq_add, seq_offset}
 
 -- A client that holds nothing while it is open, and has said all that it may.
 pub record IsCalm (st : Station) (x : ClientBlock) : Type 0 where

@@ -3,17 +3,10 @@
 use Rattle.std.proofs.Common.{◌≡◌, ◌⊎◌, ◌<◌, ◌≤◌, ◌+◌, ◌-◌, ◌^◌, ◌==◌, ◌&&◌, ◌||◌, nat_lt, not, min, ℕ, Bool, true, false, cond, length, inl, inr, ⊎_elim, refl, sym, ap, ◌∙◌, subst, arith}
 use Rattle.std.proofs.lemmas.Bool.{cases_lt, cond_both, cond-false, cond-true}
 use Rattle.std.proofs.lemmas.Bool.Decides.{nat_tests}
-use Rattle.lard_arrival.specs.Arrival.{bare, is_acceptable, is_allowed, is_in_window, last_number, seg_len}
-use Rattle.lard_base.specs.declared.limits.TheConstants.{MAX_STREAM_BYTES}
+use Rattle.lard_law_view.specs.Prelude.{ClientBlock, Heard, MAX_STREAM_BYTES, Said, accepting, after_ack, bare, client_begins_after, client_ends, client_on_ack, client_on_rst, client_on_segment, client_on_syn, client_on_text, client_on_unacceptable, client_owing, client_part_of, client_rcv_nxt, client_rcv_wnd, client_room, fresh_len, heard_nothing, is_acceptable, is_allowed, is_in_window, known, last_number, on_fresh, one_if, reset_by_peer, seg_len, seq_add, seq_offset}
 use Rattle.lard_bound.specs.Units.{symbols_taken}
-use Rattle.lard_client.specs.Arriving.{accepting, client_begins_after, client_ends, fresh_len, known, heard_nothing, client_on_ack, on_fresh, client_on_rst, client_on_segment, client_on_syn, client_on_text, client_on_unacceptable, client_owing, client_part_of, reset_by_peer, client_room}
-use Rattle.lard_client.specs.Control.{ClientBlock, client_rcv_nxt, client_rcv_wnd}
-use Rattle.lard_client.specs.declared.heard.Heard.{Heard}
 use Rattle.lard_client.specs.declared.phase.Phase.TheVariants.{Reset}
-use Rattle.lard_law_progress.proofs.AnswersClientKeeps.{ack-irs}
-use Rattle.lard_segment.specs.Segment.{Said}
-use Rattle.lard_send.specs.Send.{after_ack}
-use Rattle.lard_seq.specs.Seq.{one_if, seq_add, seq_offset}
+use Rattle.lard_send.proofs.Sent.{after_ack-irs}
 
 -- how many symbols an established client took
 abbrev pub took : ClientBlock → ℕ
@@ -164,7 +157,7 @@ module _ (x : ClientBlock) (s : Said) (listens : IsListening x) where
       let f : client_on_text after s ≡ on_fresh (client_owing after) s = cond-false ((length s.payload == 0) && not s.flags.fin) (heard_nothing, after) (on_fresh (client_owing after) s) (some-text (length s.payload) s.flags.fin h.some) in
       let whole : (client_on_segment x s).1 ≡ (on_fresh (client_owing after) s).1 = ap (λ (r : Heard × ClientBlock). r.1) (a ∙ c ∙ d ∙ e ∙ f) in
       let y : ClientBlock = client_owing after in
-      let at_y : s.seq ≡ client_rcv_nxt y = h.at ∙ ap (λ n. seq_add n (took x)) (sym (ack-irs x.send s.ack s.seq s.wnd)) in
+      let at_y : s.seq ≡ client_rcv_nxt y = h.at ∙ ap (λ n. seq_add n (took x)) (sym (after_ack-irs x.send s.ack s.seq s.wnd)) in
       let none : known y s ≡ 0 = ap (seq_offset (client_rcv_nxt y)) at_y ∙ itself (client_rcv_nxt y) in
       let first : client_begins_after y s ≡ false = not-after (is_in_window (client_rcv_nxt y) (client_rcv_wnd y) s.seq) (s.seq == client_rcv_nxt y) (equal s.seq (client_rcv_nxt y) at_y) in
       let is : on_fresh y s ≡ (client_part_of y s, accepting y (fresh_len y s) (client_ends y s)) =

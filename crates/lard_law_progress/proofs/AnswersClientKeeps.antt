@@ -1,49 +1,30 @@
 -- What an open and established client keeps of itself, whatever segment comes.
-use Rattle.std.proofs.Common.{◌≡◌, ◌≤◌, ◌+◌, ◌-◌, ◌^◌, ◌==◌, ◌&&◌, ◌||◌, nat_lt, min, not, ℕ, Bool, true, false, cond, drop, length, None, refl, ap, ◌∙◌, arith}
+use Rattle.std.proofs.Common.{◌≡◌, ◌≤◌, ◌+◌, ◌-◌, ◌^◌, min, ℕ, Bool, true, false, cond, length, None, refl, ap, ◌∙◌, arith}
 use Rattle.std.proofs.lemmas.Bool.{cond_both}
-use Rattle.lard_arrival.specs.Arrival.{bare, is_acceptable, is_allowed}
-use Rattle.lard_base.specs.declared.limits.TheConstants.{MAX_STREAM_BYTES}
-use Rattle.lard_client.specs.Arriving.{accepting, client_begins_after, client_ends, fresh_len, known, heard_nothing, client_on_ack, on_fresh, client_on_rst, client_on_segment, client_on_syn, client_on_text, client_on_unacceptable, client_owing, client_part_of, reset_by_peer}
-use Rattle.lard_client.specs.Control.{ClientBlock, client_rcv_nxt, client_rcv_wnd}
-use Rattle.lard_client.specs.declared.heard.Heard.{Heard}
+use Rattle.lard_law_view.specs.Prelude.{ClientBlock, IsSending, MAX_STREAM_BYTES, Said, Sending, accepting, after_ack, client_ends, client_on_segment, client_rcv_wnd, fresh_len, known, one_if, reset_by_peer, send_closed}
 use Rattle.lard_endpoint.proofs.Sound.{after_ack-sound}
 use Rattle.lard_law_progress.proofs.Silence.{ack-kept}
-use Rattle.lard_segment.specs.Segment.{Said}
-use Rattle.lard_send.specs.Send.{IsSending, Sending, after_ack, send_closed, is_newer, moved_up, windowed}
-use Rattle.lard_seq.specs.Seq.{one_if, seq_offset}
+use Rattle.lard_rules.proofs.Hearing.{acked, client-segment-keeps}
+use Rattle.lard_send.proofs.Sent.{after_ack-irs}
 
 -- ---- what each step keeps, a segment does
 
 pub record KeptByHearing (P : ClientBlock → Type 0) : Type 0 where
-  pub owes : (y : ClientBlock) → P y → P (client_owing y)
+  pub owes : (y : ClientBlock) (owed : Bool) → P y → P (record y { owed = owed })
   pub resets : (y : ClientBlock) → P y → P (reset_by_peer y)
   pub acks : (y : ClientBlock) (ack seq wnd : ℕ) → P y → P (record y { send = after_ack y.send ack seq wnd })
   pub accepts : (y : ClientBlock) (s : Said) → P y → P (accepting y (fresh_len y s) (client_ends y s))
 
 module _ (P : ClientBlock → Type 0) (k : KeptByHearing P) where
-  abbrev On : Heard × ClientBlock → Type 0
-  On r = P r.1
-
-  fresh : (y : ClientBlock) (s : Said) → P y → On (on_fresh y s)
-  fresh y s h = cond_both {A = Heard × ClientBlock} (client_begins_after y s || y.eof) (heard_nothing, y) (client_part_of y s, accepting y (fresh_len y s) (client_ends y s)) On (λ t. h) (λ t. k.accepts y s h)
-
-  text : (y : ClientBlock) (s : Said) → P y → On (client_on_text y s)
-  text y s h = cond_both {A = Heard × ClientBlock} ((length s.payload == 0) && not s.flags.fin) (heard_nothing, y) (on_fresh (client_owing y) s) On (λ t. h) (λ t. fresh (client_owing y) s (k.owes y h))
-
-  acked : (y : ClientBlock) (s : Said) → P y → On (client_on_ack y s)
-  acked y s h =
-      let after : ClientBlock = record y { send = after_ack y.send s.ack s.seq s.wnd } in
-      cond_both {A = Heard × ClientBlock} (not s.flags.ack) (heard_nothing, y) (cond (nat_lt y.send.nxt (seq_offset s.ack y.send.iss)) (heard_nothing, client_owing y) (client_on_text after s)) On (λ t. h)
-      (λ t. cond_both {A = Heard × ClientBlock} (nat_lt y.send.nxt (seq_offset s.ack y.send.iss)) (heard_nothing, client_owing y) (client_on_text after s) On (λ t. k.owes y h) (λ t. text after s (k.acks y s.ack s.seq s.wnd h)))
-
   pub heard-keeps : (x : ClientBlock) (s : Said) → P x → P (client_on_segment x s).1
-  heard-keeps x s h = cond_both {A = Heard × ClientBlock} (is_acceptable (client_rcv_nxt x) (client_rcv_wnd x) s) (client_on_rst x s) (client_on_unacceptable x s) On
-      (λ t. cond_both {A = Heard × ClientBlock} (not s.flags.rst) (client_on_syn x s) (cond (s.seq == client_rcv_nxt x) (heard_nothing, reset_by_peer x) (heard_nothing, client_owing x)) On
-      (λ t. cond_both {A = Heard × ClientBlock} s.flags.syn (heard_nothing, client_owing x) (client_on_ack x s) On (λ t. k.owes x h) (λ t. acked x s h))
-      (λ t. cond_both {A = Heard × ClientBlock} (s.seq == client_rcv_nxt x) (heard_nothing, reset_by_peer x) (heard_nothing, client_owing x) On (λ t. k.resets x h) (λ t. k.owes x h)))
-      (λ t. cond_both {A = Heard × ClientBlock} (is_allowed (client_rcv_nxt x) (client_rcv_wnd x) s) (client_on_ack (client_owing x) (bare s)) (cond s.flags.rst (heard_nothing, x) (heard_nothing, client_owing x)) On
-      (λ t. acked (client_owing x) (bare s) (k.owes x h))
-      (λ t. cond_both {A = Heard × ClientBlock} s.flags.rst (heard_nothing, x) (heard_nothing, client_owing x) On (λ t. h) (λ t. k.owes x h)))
+  heard-keeps x s h = client-segment-keeps x s (λ r. P r.1) (record {
+    rests = λ owed. k.owes x owed h;
+    resets = λ t. k.resets x h;
+    acks = λ owed c. now owed;
+    accepts = λ c in_order going. k.accepts (acked x s true) s (now true);
+  }) where
+    now : (owed : Bool) → P (acked x s owed)
+    now owed = k.owes (record x { send = after_ack x.send s.ack s.seq s.wnd }) owed (k.acks x s.ack s.seq s.wnd h)
 
 -- ---- what is kept so
 
@@ -59,23 +40,13 @@ pub record IsSame (x y : ClientBlock) : Type 0 where
   pub irs : y.send.irs ≡ x.send.irs
   pub more : x.accepted ≤ y.accepted
 
-pub ack-irs : (t : Sending) (ack seq wnd : ℕ) → (after_ack t ack seq wnd).irs ≡ t.irs
-ack-irs t ack seq wnd =
-    let offset = seq_offset ack t.iss in
-    let up = moved_up t offset in
-    let P : Sending → Type 0 = λ u. u.irs ≡ t.irs in
-    let u : P up = cond_both (nat_lt t.una offset) (record t { una = offset; rest = drop ((offset - 1) - (t.una - 1)) t.rest }) t P (λ e. refl) (λ e. refl) in
-    cond_both (nat_lt t.nxt offset) t (cond ((t.una == 0) && (offset == 0)) t (windowed up (t.una == 0) seq ack wnd)) P (λ e. refl)
-    (λ e. cond_both ((t.una == 0) && (offset == 0)) t (windowed up (t.una == 0) seq ack wnd) P (λ e. refl)
-    (λ e. cond_both ((t.una == 0) || is_newer up seq ack) (record up { wnd = wnd; wl1 = seq; wl2 = ack }) up P (λ e. u) (λ e. u)))
-
 pub heard-same : (x : ClientBlock) (s : Said) → x.holding ≡ false → IsSame x (client_on_segment x s).1
 heard-same x s free = heard-keeps (IsSame x) (record {
-  owes = λ y h. record { c = h.c; wnd = h.wnd; held = h.held; holding = h.holding; last = h.last; nxt = h.nxt; iss = h.iss; irs = h.irs; more = h.more };
+  owes = λ y owed h. record { c = h.c; wnd = h.wnd; held = h.held; holding = h.holding; last = h.last; nxt = h.nxt; iss = h.iss; irs = h.irs; more = h.more };
   resets = λ y h. record { c = h.c; wnd = h.wnd; held = h.held; holding = h.holding; last = h.last; nxt = h.nxt; iss = h.iss; irs = h.irs; more = h.more };
   acks = λ y ack seq wnd h.
       let a = ack-kept y.send y.send ack seq wnd (record { nxt = refl; mss = refl; total = refl; finished = refl; iss = refl }) in
-      record { c = h.c; wnd = h.wnd; held = h.held; holding = h.holding; last = h.last; nxt = a.nxt ∙ h.nxt; iss = a.iss ∙ h.iss; irs = ack-irs y.send ack seq wnd ∙ h.irs; more = h.more };
+      record { c = h.c; wnd = h.wnd; held = h.held; holding = h.holding; last = h.last; nxt = a.nxt ∙ h.nxt; iss = a.iss ∙ h.iss; irs = after_ack-irs y.send ack seq wnd ∙ h.irs; more = h.more };
   accepts = λ y s h. record {
     c = h.c;
     wnd = h.wnd;
@@ -104,7 +75,7 @@ closed-sound s h = record { sent = h.sent; queued = let q = h.queued in let o = 
 
 pub heard-sound : (x : ClientBlock) (s : Said) → IsSending x.send → IsSending (client_on_segment x s).1.send
 heard-sound x s h = heard-keeps (λ y. IsSending y.send) (record {
-  owes = λ y e. e;
+  owes = λ y owed e. e;
   resets = λ y e. e;
   acks = λ y ack seq wnd e. after_ack-sound y.send ack seq wnd e;
   accepts = λ y s e. cond_both (client_ends y s) (send_closed y.send) y.send IsSending (λ t. closed-sound y.send e) (λ t. e);
@@ -113,7 +84,7 @@ heard-sound x s h = heard-keeps (λ y. IsSending y.send) (record {
 -- it takes no more than one direction carries
 pub heard-few : (x : ClientBlock) (s : Said) → x.accepted ≤ 2 ^ 31 → (client_on_segment x s).1.accepted ≤ 2 ^ 31
 heard-few x s h = heard-keeps (λ y. y.accepted ≤ 2 ^ 31) (record {
-  owes = λ y e. e;
+  owes = λ y owed e. e;
   resets = λ y e. e;
   acks = λ y ack seq wnd e. e;
   accepts = λ y s e. few y.accepted (length s.payload - known y s) (client_rcv_wnd y) e;
@@ -123,26 +94,5 @@ heard-few x s h = heard-keeps (λ y. y.accepted ≤ 2 ^ 31) (record {
 
 -- ---- at once it answers nothing
 
-abbrev IsQuiet : Heard × ClientBlock → Type 0
-IsQuiet r = r.0.reply ≡ None
-
-fresh-quiet : (y : ClientBlock) (s : Said) → IsQuiet (on_fresh y s)
-fresh-quiet y s = cond_both {A = Heard × ClientBlock} (client_begins_after y s || y.eof) (heard_nothing, y) (client_part_of y s, accepting y (fresh_len y s) (client_ends y s)) IsQuiet (λ t. refl) (λ t. refl)
-
-text-quiet : (y : ClientBlock) (s : Said) → IsQuiet (client_on_text y s)
-text-quiet y s = cond_both {A = Heard × ClientBlock} ((length s.payload == 0) && not s.flags.fin) (heard_nothing, y) (on_fresh (client_owing y) s) IsQuiet (λ t. refl) (λ t. fresh-quiet (client_owing y) s)
-
-ack-quiet : (y : ClientBlock) (s : Said) → IsQuiet (client_on_ack y s)
-ack-quiet y s =
-    let after : ClientBlock = record y { send = after_ack y.send s.ack s.seq s.wnd } in
-    cond_both {A = Heard × ClientBlock} (not s.flags.ack) (heard_nothing, y) (cond (nat_lt y.send.nxt (seq_offset s.ack y.send.iss)) (heard_nothing, client_owing y) (client_on_text after s)) IsQuiet (λ t. refl)
-    (λ t. cond_both {A = Heard × ClientBlock} (nat_lt y.send.nxt (seq_offset s.ack y.send.iss)) (heard_nothing, client_owing y) (client_on_text after s) IsQuiet (λ t. refl) (λ t. text-quiet after s))
-
 pub heard-quiet : (x : ClientBlock) (s : Said) → (client_on_segment x s).0.reply ≡ None
-heard-quiet x s = cond_both {A = Heard × ClientBlock} (is_acceptable (client_rcv_nxt x) (client_rcv_wnd x) s) (client_on_rst x s) (client_on_unacceptable x s) IsQuiet
-    (λ t. cond_both {A = Heard × ClientBlock} (not s.flags.rst) (client_on_syn x s) (cond (s.seq == client_rcv_nxt x) (heard_nothing, reset_by_peer x) (heard_nothing, client_owing x)) IsQuiet
-    (λ t. cond_both {A = Heard × ClientBlock} s.flags.syn (heard_nothing, client_owing x) (client_on_ack x s) IsQuiet (λ t. refl) (λ t. ack-quiet x s))
-    (λ t. cond_both {A = Heard × ClientBlock} (s.seq == client_rcv_nxt x) (heard_nothing, reset_by_peer x) (heard_nothing, client_owing x) IsQuiet (λ t. refl) (λ t. refl)))
-    (λ t. cond_both {A = Heard × ClientBlock} (is_allowed (client_rcv_nxt x) (client_rcv_wnd x) s) (client_on_ack (client_owing x) (bare s)) (cond s.flags.rst (heard_nothing, x) (heard_nothing, client_owing x)) IsQuiet
-    (λ t. ack-quiet (client_owing x) (bare s))
-    (λ t. cond_both {A = Heard × ClientBlock} s.flags.rst (heard_nothing, x) (heard_nothing, client_owing x) IsQuiet (λ t. refl) (λ t. refl)))
+heard-quiet x s = client-segment-keeps x s (λ r. r.0.reply ≡ None) (record { rests = λ owed. refl; resets = λ t. refl; acks = λ owed c. refl; accepts = λ c in_order going. refl })

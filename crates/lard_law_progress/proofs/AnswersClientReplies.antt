@@ -3,16 +3,12 @@
 use Rattle.std.proofs.Common.{◌≡◌, ◌<◌, ◌≤◌, ◌+◌, ◌^◌, ◌==◌, ◌&&◌, ◌||◌, nat_lt, not, ℕ, Bool, true, false, cond, length, Option, Some, None, ⊎_elim, refl, sym, ap, ◌∙◌, subst, arith}
 use Rattle.std.proofs.lemmas.Bool.{cases_lt, eqb-true}
 use Rattle.std.proofs.lemmas.Bool.Decides.{nat_tests}
-use Rattle.lard_arrival.specs.Arrival.{seg_len}
-use Rattle.lard_base.specs.declared.limits.TheConstants.{MAX_STREAM_BYTES}
+use Rattle.lard_law_view.specs.Prelude.{ClientBlock, MAX_STREAM_BYTES, Ready, Said, Station, client_ack_ready, client_arrived, client_on_segment, client_owed_ready, client_owes, client_rcv_nxt, client_rcv_wnd, client_ready_of, is_client_open, is_open_in, next_piece, one_if, seg_len, seq_add, seq_offset, symbols}
 use Rattle.lard_bound.specs.Nears.{IsAnswer, IsUntold}
 use Rattle.lard_bound.specs.Seats.{SeatNow}
 use Rattle.lard_bound.specs.Spots.{EndpointSymbols, Spot}
 use Rattle.lard_bound.specs.Units.{symbols_taken}
-use Rattle.lard_client.specs.Arriving.{client_arrived, client_on_segment}
-use Rattle.lard_client.specs.Control.{ClientBlock, is_client_open, is_open_in, client_rcv_nxt, client_rcv_wnd}
 use Rattle.lard_client.specs.declared.phase.Phase.TheVariants.{Open, Reset}
-use Rattle.lard_client.specs.Leaving.{client_ack_ready, client_owed_ready, client_owes, client_ready_of}
 use Rattle.lard_law_progress.proofs.AnswersClientGiven.{IsCalm, IsReply, Matters}
 use Rattle.lard_law_progress.proofs.AnswersClientHears.{IsListening, at-next, refused, resets-at, syn-owed, takes-next, took, took-taken}
 use Rattle.lard_law_progress.proofs.AnswersClientKeeps.{IsSame, heard-few, heard-same, heard-sound}
@@ -20,12 +16,7 @@ use Rattle.lard_law_progress.proofs.AnswersClientSays.{HasSaidAll}
 use Rattle.lard_law_progress.proofs.Clients.{Takes, arrived-takes}
 use Rattle.lard_law_progress.proofs.Hearing.{IsInTalk, arrives, data-owed, plain-tells}
 use Rattle.lard_law_progress.proofs.Silence.{plain-parts}
-use Rattle.lard_rules.specs.declared.places.Station.{Station}
-use Rattle.lard_segment.specs.declared.segment.Ready.{Ready}
-use Rattle.lard_segment.specs.Segment.{Said}
 use Rattle.lard_send.specs.declared.piece.Piece.{Piece}
-use Rattle.lard_send.specs.Send.{next_piece, symbols}
-use Rattle.lard_seq.specs.Seq.{one_if, seq_add, seq_offset}
 use Rattle.lard_seq.proofs.Laws.{add-offset, offset-add}
 
 -- behind the turn it goes on, and knows of no more

@@ -1,31 +1,17 @@
 -- What a client's rules owe of the packets that come to it.
 use Rattle.std.proofs.Common.{◌≡◌, ◌+◌, ◌++◌, ℕ, suc, List, [], map, Some, Result, Ok, Err, refl, sym, ap, ◌∙◌, subst}
 use Rattle.lard_base.specs.declared.event.Event.TheVariants as event
-use Rattle.lard_base.specs.declared.place.Place.{Place}
-use Rattle.lard_base.specs.declared.place.Place.TheVariants.{Client, Front, Node}
+use Rattle.lard_law_view.specs.Prelude.{Client, ClientBlock, Conn, Front, GoesBetween, Letter, Move, Node, Place, Said, Seen, SegFault, Setting, Station, ToClient, Turn, Was, client_arrived, client_does, client_gets, client_speaks, client_timer, decoded, event_seen, letter, one_if, packet_seen, symbols, with_station}
 use Rattle.lard_bound.specs.Nears.{Near, NearSegment, OfSegment}
 use Rattle.lard_bound.specs.Seats.{seat_of}
 use Rattle.lard_bound.specs.Spots.{Spot, spot_of}
 use Rattle.lard_bound.specs.Units.{Whole}
-use Rattle.lard_client.specs.Arriving.{client_arrived}
-use Rattle.lard_client.specs.Control.{ClientBlock}
-use Rattle.lard_law_view.specs.View.{Conn, GoesBetween, Move, Setting, Was, client_does, event_seen, letter, packet_seen, with_station}
 use Rattle.lard_law_view.proofs.Turned.{between-has}
-use Rattle.lard_history.specs.Own.{Letter, Seen}
 use Rattle.lard_law_progress.proofs.AnswersClientGiven.{ClientGiven, IsCluster}
 use Rattle.lard_law_progress.proofs.AnswersClientReplies.{GoesOn}
 use Rattle.lard_law_progress.proofs.AnswersClientTurns.{heard-answers, segments_of}
 use Rattle.lard_law_progress.proofs.AnswersForm.{Owes, Replies, answers-by, no-reply, seated-is}
 use Rattle.lard_law_progress.proofs.Clients.{speaks-told}
-use Rattle.lard_rules.specs.declared.places.Station.{Station}
-use Rattle.lard_rules.specs.declared.places.Turn.{Turn}
-use Rattle.lard_rules.specs.Client.{client_gets, client_timer}
-use Rattle.lard_rules.specs.Speaking.{client_speaks}
-use Rattle.lard_segment.specs.declared.fault.SegFault.{SegFault}
-use Rattle.lard_segment.specs.declared.segment.Dir.TheVariants.{ToClient}
-use Rattle.lard_segment.specs.Segment.{Said, decoded}
-use Rattle.lard_send.specs.Send.{symbols}
-use Rattle.lard_seq.specs.Seq.{one_if}
 
 of-cluster : (c : ℕ) (from : Place) (bytes : List ℕ) → GoesBetween c from (Client c) bytes → IsCluster from
 of-cluster c Front bytes h = tt

@@ -4,19 +4,12 @@ use Rattle.std.proofs.lemmas.Bool.{cond-false}
 use Rattle.std.proofs.lemmas.Bool.Decides.{nat_tests}
 use Rattle.lard_bound.specs.Chains.{is_current}
 use Rattle.lard_bound.specs.Spots.{Spot}
-use Rattle.lard_client.specs.Control.{ClientBlock, is_established, is_client_open, client_rcv_nxt, client_rcv_wnd, client_snd_nxt}
-use Rattle.lard_client.specs.Leaving.{client_ack_ready, client_emitted, client_owed_ready, client_owes, client_ready_of, client_refusal, client_told}
+use Rattle.lard_law_view.specs.Prelude.{ClientBlock, IsSending, Ready, Said, Sending, ToCluster, byte_piece, client_ack_ready, client_emitted, client_owed_ready, client_owes, client_rcv_nxt, client_rcv_wnd, client_ready_of, client_refusal, client_snd_nxt, client_speaks, client_told, decoded, is_client_open, is_established, may_send, next_fin, next_len, next_piece, send_left, seq_offset, symbols, syn_piece, to_front}
 use Rattle.lard_law_progress.proofs.Answering.{client-answers}
-use Rattle.lard_rules.specs.Speaking.{client_speaks, to_front}
 use Rattle.lard_rules.proofs.Saying.{client-done}
-use Rattle.lard_segment.specs.declared.segment.Dir.TheVariants.{ToCluster}
-use Rattle.lard_segment.specs.declared.segment.Ready.{Ready}
 use Rattle.lard_segment.specs.declared.segment.TheConstants.Flags.{ACK, RST}
-use Rattle.lard_segment.specs.Segment.{Said, decoded}
 use Rattle.lard_segment.proofs.Again.{again}
 use Rattle.lard_send.specs.declared.piece.Piece.{Piece}
-use Rattle.lard_send.specs.Send.{IsSending, Sending, byte_piece, send_left, may_send, next_fin, next_len, next_piece, symbols, syn_piece}
-use Rattle.lard_seq.specs.Seq.{seq_offset}
 use Rattle.lard_seq.proofs.Laws.{offset-add}
 
 -- ---- nothing more to send

@@ -2,26 +2,14 @@
 use Rattle.std.proofs.Common.{◌≡◌, ◌<◌, ◌≤◌, ◌+◌, ◌^◌, ◌==◌, ◌&&◌, ◌||◌, nat_lt, not, ℕ, zero, suc, Bool, true, false, cond, List, [], ◌∷◌, ◌++◌, map, Option, Some, None, Ok, inl, inr, refl, sym, ap, ◌∙◌, subst, arith}
 use Rattle.std.proofs.lemmas.Bool.{cond_both, cond-false, cond-true, eqb-true}
 use Rattle.std.proofs.lemmas.Bool.Decides.{nat_tests}
-use Rattle.lard_answers.specs.Answers.{FilesAt}
-use Rattle.lard_arrival.specs.Arrival.{peer_mss}
-use Rattle.lard_base.specs.declared.place.Place.{Place}
-use Rattle.lard_base.specs.declared.place.Place.TheVariants.{Client, Front, Node}
-use Rattle.lard_base.specs.declared.place.Reason.{Reason}
+use Rattle.lard_law_view.specs.Prelude.{Client, ClientBlock, ControlBlock, FilesAt, Front, Heard, Letter, Node, Part, Phase, Place, Ready, Reason, Said, Sending, Station, ToClient, ToCluster, answers_syn, client_ack_ready, client_arrived, client_on_segment, client_refusal, client_speaks, client_told, decoded, established, heard_in, heard_nothing, introduced, letter, on_greeting, peer_mss, reply_to, reset_by_peer, seq_offset, station_ready_of, symbols, to_front}
 use Rattle.lard_base.specs.declared.place.Reason.TheVariants as reason
 use Rattle.lard_bound.specs.Chains.{chain, is_current, reply_chain, word_result}
 use Rattle.lard_bound.specs.Nears.{IsAnswer, IsNews, Near, NearAway, NearClosing, NearHeld, NearLast, NearReply, NearSegment, NearWord, OfSegment}
-use Rattle.lard_bound.specs.Seats.{Gone, Held, Here, Offered, Over, SeatNow, Unborn, Waiting}
+use Rattle.lard_bound.specs.Seats.{Held, Here, Over, SeatNow}
 use Rattle.lard_bound.specs.Spots.{EndpointSymbols, Spot, ends_of, post_of}
 use Rattle.lard_bound.specs.Units.{symbols_taken}
-use Rattle.lard_client.specs.Arriving.{answers_syn, client_arrived, established, heard_in, heard_nothing, on_greeting, client_on_segment, reply_to, reset_by_peer}
-use Rattle.lard_client.specs.Control.{ClientBlock}
-use Rattle.lard_client.specs.declared.heard.Heard.{Heard}
-use Rattle.lard_client.specs.declared.phase.Phase.{Phase}
 use Rattle.lard_client.specs.declared.phase.Phase.TheVariants as phase
-use Rattle.lard_client.specs.Leaving.{client_ack_ready, client_refusal, client_told}
-use Rattle.lard_law_view.specs.View.{Part, letter}
-use Rattle.lard_endpoint.specs.Control.{ControlBlock}
-use Rattle.lard_history.specs.Own.{Letter}
 use Rattle.lard_law_progress.proofs.AnswersClientGiven.{EndTells, IsCalm, IsCluster, IsReply, Matters, SeatTells}
 use Rattle.lard_law_progress.proofs.AnswersClientHears.{took}
 use Rattle.lard_law_progress.proofs.AnswersClientKeeps.{heard-quiet}
@@ -29,15 +17,7 @@ use Rattle.lard_law_progress.proofs.AnswersClientReplies.{GoesOn, answer-tells, 
 use Rattle.lard_law_progress.proofs.AnswersClientSays.{HasSaidAll, ack-current, ack-read, ack_said, refusal-read, refusal_said, says-nothing, says-one}
 use Rattle.lard_law_progress.proofs.AnswersForm.{Replies, no-reply, seated}
 use Rattle.lard_law_progress.proofs.Silence.{ack-una}
-use Rattle.lard_rules.specs.declared.places.Station.{Station}
-use Rattle.lard_rules.specs.Client.{station_ready_of}
-use Rattle.lard_rules.specs.Speaking.{client_speaks, to_front}
 use Rattle.lard_rules.proofs.Saying.{client-done}
-use Rattle.lard_segment.specs.declared.segment.Dir.TheVariants.{ToClient, ToCluster}
-use Rattle.lard_segment.specs.declared.segment.Ready.{Ready}
-use Rattle.lard_segment.specs.Segment.{Said, decoded}
-use Rattle.lard_send.specs.Send.{Sending, introduced, symbols}
-use Rattle.lard_seq.specs.Seq.{seq_offset}
 
 -- what goes out of what a client heard
 abbrev pub segments_of : Heard × ClientBlock → List (Place × List ℕ)
@@ -111,10 +91,7 @@ module _ (files : FilesAt) (p : Part) (st : Station) (z : SeatNow) (from : Place
     go (Held b count) h = subst (λ (ph : Phase). NearReply t 2 (suc d) (ends_of x b) s ph) is h
     go (Here aware n e b u) h = subst (λ (ph : Phase). NearReply t 3 (suc d) (ends_of x b) s ph) is h
     go (Over last) h = subst (λ (ph : Phase). NearClosing t (suc d) (symbols_taken x) s last.reason ph) is h
-    go Unborn h = h
-    go (Waiting b count) h = h
-    go (Offered n e count) h = h
-    go (Gone aware n e) h = h
+    go _ h = h
 
   -- ---- one that was aborted
 
@@ -124,10 +101,7 @@ module _ (files : FilesAt) (p : Part) (st : Station) (z : SeatNow) (from : Place
     go (Held b count) h = let k = subst (λ (ph : Phase). NearReply t 2 (suc d) (ends_of x b) s ph) is h in (k.0, k.1)
     go (Here aware n e b u) h = let k = subst (λ (ph : Phase). NearReply t 3 (suc d) (ends_of x b) s ph) is h in (k.0, k.1)
     go (Over last) h = absurd (subst (λ (ph : Phase). NearClosing t (suc d) (symbols_taken x) s last.reason ph) is h)
-    go Unborn h = absurd h
-    go (Waiting b count) h = absurd h
-    go (Offered n e count) h = absurd h
-    go (Gone aware n e) h = absurd h
+    go _ h = absurd h
 
   abort-leads : x.phase ≡ phase.Aborted → (d : ℕ) → NearSegment t (suc d) s (post_of files x z) → NearWord t d (refusal_said s.ack) (post_of files x z)
   abort-leads is d near = go z near where
@@ -142,10 +116,7 @@ module _ (files : FilesAt) (p : Part) (st : Station) (z : SeatNow) (from : Place
     go (Held b count) h = let k = subst (λ (ph : Phase). NearReply t 2 (suc d) (ends_of x b) s ph) is h in held d (ends_of x b) k.2 (let two : 2 ≤ suc d = k.3 in omega (arith, two))
     go (Here aware n e b u) h = let k = subst (λ (ph : Phase). NearReply t 3 (suc d) (ends_of x b) s ph) is h in away d (ends_of x b) k.2 (let two : 3 ≤ suc d = k.3 in omega (arith, two))
     go (Over last) h = absurd (subst (λ (ph : Phase). NearClosing t (suc d) (symbols_taken x) s last.reason ph) is h)
-    go Unborn h = absurd h
-    go (Waiting b count) h = absurd h
-    go (Offered n e count) h = absurd h
-    go (Gone aware n e) h = absurd h
+    go _ h = absurd h
 
   abort-answers : x.phase ≡ phase.Aborted → Answered (segments_of (reply_to x s, x))
   abort-answers is = go (s.flags.ack && not s.flags.rst) refl where
@@ -204,10 +175,7 @@ module _ (files : FilesAt) (p : Part) (st : Station) (z : SeatNow) (from : Place
       go (Held b count) k h = of-end 2 b k.0 h
       go (Here aware n e b u) k h = absurd (let bad : true ≡ false = sym new ∙ k.1 in cc)
       go (Over last) k h = absurd (at-end last.reason k (subst (λ (ph : Phase). NearClosing t (suc d) (symbols_taken x) s last.reason ph) open_ h))
-      go Unborn k h = absurd h
-      go (Waiting b count) k h = absurd h
-      go (Offered n e count) k h = absurd h
-      go (Gone aware n e) k h = absurd h
+      go _ k h = absurd h
 
     abbrev OnGreeting : Heard × ClientBlock → Type 0
     OnGreeting r = GoesOn x r.1 → Answered (segments_of r)
@@ -300,10 +268,7 @@ module _ (files : FilesAt) (p : Part) (st : Station) (z : SeatNow) (from : Place
         go (Held b count) is k h = of-end 2 b (Word d (Held b count)) (subst Matters (sym is) tt) k (λ two more. held d (ends_of x b) more (omega (arith, two))) h
         go (Here aware n e b u) is k h = of-end 3 b (Word d (Here aware n e b u)) (subst Matters (sym is) tt) k.0 (λ two more. away d (ends_of x b) more (omega (arith, two))) h
         go (Over last) is k h = absurd (at-end last.reason (λ e. subst Matters (sym is) e) (subst (λ (ph : Phase). NearClosing t (suc d) (symbols_taken x) s last.reason ph) open_ h))
-        go Unborn is k h = absurd h
-        go (Waiting b count) is k h = absurd h
-        go (Offered n e count) is k h = absurd h
-        go (Gone aware n e) is k h = absurd h
+        go _ is k h = absurd h
 
       segment-answers : Answered (segments_of (client_on_segment x s))
       segment-answers = subst (λ (o : Option Ready). Answered (station_ready_of y o ++ (client_speaks y).0)) (sym (heard-quiet x s)) (by-owed y.owed refl) where

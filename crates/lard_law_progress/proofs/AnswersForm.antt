@@ -1,25 +1,13 @@
 -- What comes of a packet, by the spot of its connection alone: where no unit goes, that is the same before the move and behind it.
 use Rattle.std.proofs.Common.{◌≡◌, ◌<◌, ◌≤◌, ◌⊎◌, ℕ, suc, true, false, List, [], Option, Some, Ok, refl, sym, ap, ◌∙◌, subst}
-use Rattle.lard_answers.specs.Answers.{FilesAt}
-use Rattle.lard_base.specs.declared.place.Place.{Place}
-use Rattle.lard_base.specs.declared.place.Place.TheVariants.{Client, Front, Node}
+use Rattle.lard_law_view.specs.Prelude.{Body, Client, Conn, FilesAt, Front, Letter, MayRestOn, Message, Move, Node, Part, Place, Said, Setting, Station, ToCluster, decoded, decoded_message, grown, letters_of, symbols}
 use Rattle.lard_bound.specs.Chains.{chain}
 use Rattle.lard_bound.specs.Nears.{Near}
 use Rattle.lard_bound.specs.Progress.{Answers, Any, Every, IfCame, IsFetch, IsWarm, Lasts, NearOn, came_in, chain_on, spot_at, spot_with}
 use Rattle.lard_bound.specs.Seats.{SeatNow, seat_of, tells_end}
 use Rattle.lard_bound.specs.Spots.{Spot, post_of, spot_of}
 use Rattle.lard_bound.specs.Units.{Whole, units}
-use Rattle.lard_law_view.specs.Carry.{MayRestOn}
-use Rattle.lard_law_view.specs.View.{Conn, Move, Part, Setting, grown, letters_of}
-use Rattle.lard_history.specs.Own.{Letter}
-use Rattle.lard_message.specs.declared.message.Body.{Body}
 use Rattle.lard_message.specs.declared.message.Body.TheVariants as body
-use Rattle.lard_message.specs.declared.message.Message.{Message}
-use Rattle.lard_message.specs.Reading.{decoded_message}
-use Rattle.lard_rules.specs.declared.places.Station.{Station}
-use Rattle.lard_segment.specs.declared.segment.Dir.TheVariants.{ToCluster}
-use Rattle.lard_segment.specs.Segment.{Said, decoded}
-use Rattle.lard_send.specs.Send.{symbols}
 
 -- ---- what a client says late: no reset of its own, which has ACK, but refusals
 

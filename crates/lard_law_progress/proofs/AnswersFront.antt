@@ -2,27 +2,15 @@
 -- near, something of that is nearer.
 use Rattle.std.proofs.Common.{◌≡◌, ℕ, suc, true, false, List, Option, Some, None, Result, Ok, Err, refl, sym, ap, ◌∙◌, subst}
 use Rattle.lard_base.specs.declared.event.Event.TheVariants as event
-use Rattle.lard_base.specs.declared.place.Place.{Place}
-use Rattle.lard_base.specs.declared.place.Place.TheVariants.{Client, Front, Node}
+use Rattle.lard_law_view.specs.Prelude.{Body, Client, Conn, Final, Front, FrontConn, FrontDeed, FrontEnv, FrontRow, FrontRules, IsForFront, IsFrontEnv, IsUnheard, Letter, MayRestOn, Message, Move, MsgFault, Node, Place, Said, Seen, SegFault, Setting, Station, ToCluster, Was, ask_of, decoded, decoded_message, event_seen, front_asked, front_does, front_ended, front_gets, front_hears, front_rest, front_taken, front_timer, grown, hears_at, kind_of, nothing_said, packet_seen, stands}
 use Rattle.lard_bound.specs.Nears.{NearSaid, OfMessage}
 use Rattle.lard_bound.specs.Progress.{Answers, IfCame, IsWarm, IsWarmBy, IsWarmSegment, IsWarmWord, Lasts, NearOn, came_in, spot_at, spot_with}
 use Rattle.lard_bound.specs.Seats.{Held, Over, SeatNow, Waiting, seat_in, seat_of}
 use Rattle.lard_bound.specs.Spots.{Spot}
 use Rattle.lard_bound.specs.Units.{Whole}
-use Rattle.lard_law_view.specs.Carry.{MayRestOn}
-use Rattle.lard_law_view.specs.View.{Conn, FrontRules, IsForFront, IsFrontEnv, IsUnheard, Move, Setting, Was, event_seen, front_does, grown, nothing_said, packet_seen, stands}
-use Rattle.lard_endpoint.specs.declared.control.moving.Final.{Final}
-use Rattle.lard_rules.specs.Front.{FrontDeed, Drops, Says, Does, FrontEnv, front_asked, front_ended, front_gets, front_hears, front_taken, front_timer, hears_at, front_rest, ask_of}
-use Rattle.lard_handoff_front.specs.declared.row.FrontConn.{FrontConn}
+use Rattle.lard_rules.specs.Front.{Drops, Says, Does}
 use Rattle.lard_handoff_front.specs.declared.row.FrontConn.TheVariants as stage
-use Rattle.lard_handoff_front.specs.declared.row.FrontRow.{FrontRow}
-use Rattle.lard_history.specs.Own.{Letter, Seen}
-use Rattle.lard_message.specs.declared.fault.MsgFault.{MsgFault}
-use Rattle.lard_message.specs.declared.message.Body.{Body}
 use Rattle.lard_message.specs.declared.message.Body.TheVariants as body
-use Rattle.lard_message.specs.declared.message.Message.{Message}
-use Rattle.lard_message.specs.Message.{kind_of}
-use Rattle.lard_message.specs.Reading.{decoded_message}
 use Rattle.lard_law_progress.proofs.AnswersFrontAsked.{asked-answers}
 use Rattle.lard_law_progress.proofs.AnswersFrontAway.{Owes, forwarded-owes, l, met-owes, unread-owes}
 use Rattle.lard_law_progress.proofs.AnswersForm.{IsLateOn}
@@ -32,10 +20,6 @@ use Rattle.lard_law_progress.proofs.AnswersFrontOver.{over-owes}
 use Rattle.lard_law_progress.proofs.AnswersFrontSpots.{seat-row}
 use Rattle.lard_law_progress.proofs.AnswersFrontTold.{ended-answers, taken-answers}
 use Rattle.lard_law_progress.proofs.AnswersFrontWaiting.{waiting-owes}
-use Rattle.lard_rules.specs.declared.places.Station.{Station}
-use Rattle.lard_segment.specs.declared.fault.SegFault.{SegFault}
-use Rattle.lard_segment.specs.declared.segment.Dir.TheVariants.{ToCluster}
-use Rattle.lard_segment.specs.Segment.{Said, decoded}
 
 -- ---- a client's segment
 
@@ -125,12 +109,7 @@ module _ (k : Setting) (w : Whole) where
     by (body.Taken) e near = never m is (subst (λ b. IsForFront (kind_of b)) (sym e) tt)
     by (body.Ask number queue size paths) e near = never m is (subst (λ b. IsForFront (kind_of b)) (sym e) tt)
     by (body.Ended why snd rcv count) e near = never m is (subst (λ b. IsForFront (kind_of b)) (sym e) tt)
-    by (body.Offer parts) e near = near
-    by (body.Forward segment) e near = near
-    by (body.Tag number nodes) e near = near
-    by (body.Fetch r path) e near = near
-    by (body.Content r file) e near = near
-    by body.EndedAck e near = near
+    by _ e near = near
 
   pub front-ignores : (x : Conn) (from : Place) (bytes : List ℕ) → IsUnheard k.nodes x.part.station from Front bytes → Answers k w x (stands x Front (packet_seen from Front bytes) nothing_said) (record { from = from; to = Front; bytes = bytes })
   front-ignores x from bytes unheard = record { shorter = λ up. tt; leads = λ up d near. absurd (far from unheard (spot_at k.files x) refl d near) } where

@@ -2,32 +2,20 @@
 use Rattle.std.proofs.Common.{◌≡◌, ◌<◌, ◌≤◌, ◌+◌, ◌^◌, ◌==◌, ◌&&◌, nat_lt, ℕ, suc, Bool, true, false, cond, List, [], ◌∷◌, length, map, is_some, Option, Some, None, ⊎_elim, refl, sym, ap, ◌∙◌, subst, arith}
 use Rattle.std.specs.List.{AllByRecursion, find}
 use Rattle.std.proofs.lemmas.Bool.{and_parts, cond_both, eq-eqb, eqb-true, lt-ltb, ltb-true}
-use Rattle.lard_base.specs.declared.place.Place.TheVariants.{Front, Node}
+use Rattle.lard_law_view.specs.Prelude.{Ask, Conn, ControlBlock, Front, FrontConn, FrontDeed, FrontEnv, FrontPart, FrontRest, FrontRow, IsConnNumber, IsFrontEnv, IsNodeNumber, Node, NodePart, Part, Setting, SpellsMessage, Station, ask_of, asked_by, assigns, front_asked, front_rest, front_saying, grown, is_row_at, is_under, letters_of, named_paths, tag_sent, with_front}
 use Rattle.lard_base.specs.declared.place.TimerKind.TheVariants as kind
 use Rattle.lard_bound.specs.Chains.{chain, node_chain, of_message}
 use Rattle.lard_bound.specs.Nears.{Near, NearAsk, NearSaid, OfMessage}
-use Rattle.lard_bound.specs.Seats.{Gone, Held, Here, Offered, Over, SeatNow, Staying, Unborn, Waiting, seat_away, seat_by, seat_in, seat_of}
+use Rattle.lard_bound.specs.Seats.{Held, Here, SeatNow, Staying, Waiting, seat_away, seat_by, seat_in, seat_of}
 use Rattle.lard_bound.specs.Spots.{Spot, post_of}
 use Rattle.lard_bound.specs.Units.{Whole}
-use Rattle.lard_rules.specs.Bounds.{IsConnNumber}
-use Rattle.lard_law_view.specs.View.{Conn, IsFrontEnv, Part, Setting, SpellsMessage, grown, letters_of, with_front}
-use Rattle.lard_dispatch.specs.declared.dispatch.Ask.{Ask}
-use Rattle.lard_endpoint.specs.Control.{ControlBlock}
-use Rattle.lard_rules.specs.declared.front.FrontRest.{FrontRest}
-use Rattle.lard_rules.specs.Front.{FrontDeed, Drops, Says, Does, FrontEnv, FrontPart, ask_of, asked_by, assigns, front_asked, is_row_at, message, front_rest, front_saying, tag_sent}
-use Rattle.lard_handoff_front.specs.declared.row.FrontConn.{FrontConn}
+use Rattle.lard_rules.specs.Front.{Drops, Says, Does, message}
 use Rattle.lard_handoff_front.specs.declared.row.FrontConn.TheVariants as stage
-use Rattle.lard_handoff_front.specs.declared.row.FrontRow.{FrontRow}
 use Rattle.lard_message.specs.declared.message.Body.TheVariants as body
-use Rattle.lard_message.specs.Message.{IsNodeNumber}
-use Rattle.lard_rules.specs.Node.{NodePart}
-use Rattle.lard_rules.specs.Stay.{named_paths}
 use Rattle.lard_law_progress.proofs.AnswersFrontGiven.{FrontGiven, HasTag, IsAsked}
 use Rattle.lard_law_progress.proofs.AnswersFrontHome.{home, small-at}
 use Rattle.lard_law_progress.proofs.AnswersFrontMessages.{Owes, does, drops-owes, l, one-owes, reads, unopened-owes}
 use Rattle.lard_law_progress.proofs.AnswersFrontSpots.{at_seat}
-use Rattle.lard_resend.specs.Kept.{is_under}
-use Rattle.lard_rules.specs.declared.places.Station.{Station}
 
 -- where the connection is hangs on how many responses were queued, and on no more of the rest
 seat-count : (f g : FrontPart) (nodes : ℕ → NodePart) → (front_rest g.rest).count ≡ (front_rest f.rest).count → (o : Option FrontRow) → seat_by g nodes o ≡ seat_by f nodes o

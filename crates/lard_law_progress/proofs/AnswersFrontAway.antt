@@ -2,39 +2,22 @@
 -- forwarded.
 use Rattle.std.proofs.Common.{◌≡◌, ◌<◌, ◌+◌, ◌^◌, ℕ, suc, Bool, true, false, List, [], ◌∷◌, Some, None, Ok, Err, inl, refl, sym, ap, ◌∙◌, subst, arith, ◌++◌}
 use Rattle.std.proofs.lemmas.Bool.{cond_both}
-use Rattle.lard_base.specs.declared.ids.Epoch.{Epoch}
-use Rattle.lard_base.specs.declared.place.Place.TheVariants.{Client, Front, Node}
+use Rattle.lard_law_view.specs.Prelude.{Client, Conn, ControlBlock, Ending, Epoch, Final, Front, FrontDeed, FrontEnv, FrontRow, IsConnNumber, IsFrontEnv, Letter, Move, Node, NodePart, Said, SegFault, Setting, Station, ToCluster, Turn, decoded, forwarded, front_begun, front_does, front_rest, grown, holds, is_plain_syn, listening, met, packet_seen, serving, speaks, turn_of}
 use Rattle.lard_bound.specs.Chains.{chain, front_chain, of_message, word_chain, word_result}
 use Rattle.lard_bound.specs.Nears.{Near, NearForward, NearTold, NearWord, OfMessage, OfSegment}
 use Rattle.lard_bound.specs.Progress.{Answers, Lasts}
 use Rattle.lard_bound.specs.Seats.{Held, Over, SeatNow, Unborn, seat_away, seat_of}
 use Rattle.lard_bound.specs.Spots.{Spot, post_of}
 use Rattle.lard_bound.specs.Units.{Whole}
-use Rattle.lard_rules.specs.Bounds.{IsConnNumber}
-use Rattle.lard_law_view.specs.View.{Conn, IsFrontEnv, Move, Setting, front_does, grown, packet_seen}
-use Rattle.lard_endpoint.specs.Control.{ControlBlock, listening}
-use Rattle.lard_endpoint.specs.declared.control.moving.Final.{Final}
-use Rattle.lard_rules.specs.Front.{FrontDeed, Drops, FrontEnv, front_begun, forwarded, holds, message, met, front_rest}
+use Rattle.lard_rules.specs.Front.{Drops, message}
 use Rattle.lard_handoff_front.specs.declared.row.FrontConn.TheVariants as stage
-use Rattle.lard_handoff_front.specs.declared.row.FrontRow.{FrontRow}
-use Rattle.lard_history.specs.Own.{Letter}
 use Rattle.lard_journal.specs.declared.rec.Rec.TheVariants as rec
 use Rattle.lard_message.specs.declared.message.Body.TheVariants as body
-use Rattle.lard_rules.specs.Node.{NodePart}
 use Rattle.lard_law_progress.proofs.AnswersFrontGiven.{FrontGiven, IsWord}
 use Rattle.lard_law_progress.proofs.AnswersFrontMessages.{reads}
 use Rattle.lard_law_progress.proofs.AnswersFrontSaying.{spoken-cases}
 use Rattle.lard_law_progress.proofs.AnswersFrontSpots.{answers-by, at_seat, away-cases, moves-on, nothing-comes, unit-goes}
-use Rattle.lard_rules.specs.declared.places.Ending.{Ending}
 use Rattle.lard_rules.specs.declared.places.Ending.TheVariants as ending
-use Rattle.lard_rules.specs.declared.places.Station.{Station}
-use Rattle.lard_rules.specs.declared.places.Turn.{Turn}
-use Rattle.lard_rules.specs.Tombstone.{is_plain_syn}
-use Rattle.lard_rules.specs.Serving.{serving, turn_of}
-use Rattle.lard_rules.specs.Speaking.{speaks}
-use Rattle.lard_segment.specs.declared.fault.SegFault.{SegFault}
-use Rattle.lard_segment.specs.declared.segment.Dir.TheVariants.{ToCluster}
-use Rattle.lard_segment.specs.Segment.{Said, decoded}
 
 module _ (k : Setting) (w : Whole) (x : Conn) (bytes : List ℕ) where
   abbrev pub l : Letter

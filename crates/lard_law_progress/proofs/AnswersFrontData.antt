@@ -1,26 +1,17 @@
 -- Data of which the client does not know that it was taken, at an endpoint that has said all: one acknowledgement is said, which is news
 -- to the client.
 use Rattle.std.proofs.Common.{◌≡◌, ◌<◌, ◌≤◌, ◌+◌, ◌-◌, ◌^◌, cond, min, ℕ, Bool, true, false, List, length, refl, sym, ap, ◌∙◌, subst, arith}
-use Rattle.lard_arrival.specs.Arrival.{seg_len}
-use Rattle.lard_base.specs.declared.limits.TheConstants.{MAX_STREAM_BYTES, RECEIVE_WINDOW}
+use Rattle.lard_law_view.specs.Prelude.{ControlBlock, IsSendable, MAX_STREAM_BYTES, RECEIVE_WINDOW, Received, Said, Sending, Station, ack_ready, filled, on_segment, one_if, rcv_nxt, receive_room, seg_len, seq_add, seq_offset, snd_nxt, symbols, told}
 use Rattle.lard_bound.specs.Nears.{Crosses, IsAnswer}
 use Rattle.lard_bound.specs.Spots.{Spot}
 use Rattle.lard_bound.specs.Units.{symbols_taken}
-use Rattle.lard_endpoint.specs.Arriving.{on_segment}
-use Rattle.lard_endpoint.specs.Control.{ControlBlock, rcv_nxt, snd_nxt}
-use Rattle.lard_endpoint.specs.Leaving.{ack_ready, filled, told}
 use Rattle.lard_endpoint.proofs.Sound.{on_segment-sound}
 use Rattle.lard_law_progress.proofs.AnswersFrontGiven.{IsTalking}
 use Rattle.lard_law_progress.proofs.AnswersFrontSaying.{ack-known, flag-none, not-zero}
 use Rattle.lard_law_progress.proofs.Data.{CarriesData, IsOwing, data-owes, heard}
 use Rattle.lard_law_progress.proofs.Silence.{heard-keeps, heard-kept}
 use Rattle.lard_law_progress.proofs.Stays.{IsAlike}
-use Rattle.lard_recv.specs.Recv.{Received, receive_room}
-use Rattle.lard_rules.specs.declared.places.Station.{Station}
-use Rattle.lard_segment.specs.Segment.{IsSendable, Said}
-use Rattle.lard_send.specs.Send.{Sending, symbols}
 use Rattle.lard_send.proofs.Sent.{after_ack-irs}
-use Rattle.lard_seq.specs.Seq.{one_if, seq_add, seq_offset}
 use Rattle.lard_seq.proofs.Laws.{add-offset, offset-add}
 
 flag-len : (t : Bool) → cond t 1 0 ≡ one_if t

@@ -1,36 +1,15 @@
 -- What holds of a connection in a settle, as far as the front end's answers rest on it.
 use Rattle.std.proofs.Common.{◌≡◌, ◌⊎◌, ◌<◌, ◌≤◌, ◌+◌, ◌^◌, ℕ, true, false, length, is_some, Option, Some, None, Ok, List, Bool}
 use Rattle.std.specs.List.{AllByRecursion, find}
-use Rattle.lard_answers.specs.Answers.{FilesAt}
-use Rattle.lard_arrival.specs.Arrival.{seg_len}
-use Rattle.lard_base.specs.declared.ids.Epoch.{Epoch}
-use Rattle.lard_base.specs.declared.limits.TheConstants.{MAX_SEGMENT_BYTES}
-use Rattle.lard_base.specs.declared.place.Place.TheVariants.{Client, Front}
+use Rattle.lard_law_view.specs.Prelude.{Client, Conn, ControlBlock, Epoch, FilesAt, Final, Front, FrontConn, FrontRest, FrontRow, IsControlBlock, IsNodeNumber, Letter, MAX_SEGMENT_BYTES, Said, Station, ToCluster, Was, decoded, is_under, may_end, may_freeze, named_paths, receive_room, seg_len, seq_add, seq_offset, symbols}
 use Rattle.lard_base.specs.declared.place.Reason.TheVariants.{Closed}
 use Rattle.lard_base.specs.declared.place.TimerKind.TheVariants as kind
 use Rattle.lard_bound.specs.Seats.{Gone, Held, Here, Offered, Over, SeatNow, Staying, Unborn, Waiting, seat_of, tells_end}
 use Rattle.lard_bound.specs.Units.{Whole, symbols_taken}
 use Rattle.lard_client.specs.declared.phase.Phase.TheVariants as phase
-use Rattle.lard_law_view.specs.View.{Conn, Was}
-use Rattle.lard_endpoint.specs.Control.{ControlBlock, IsControlBlock}
-use Rattle.lard_endpoint.specs.declared.control.moving.Final.{Final}
-use Rattle.lard_endpoint.specs.Moving.{may_end, may_freeze}
-use Rattle.lard_rules.specs.declared.front.FrontRest.{FrontRest}
-use Rattle.lard_handoff_front.specs.declared.row.FrontConn.{FrontConn}
 use Rattle.lard_handoff_front.specs.declared.row.FrontConn.TheVariants as stage
-use Rattle.lard_handoff_front.specs.declared.row.FrontRow.{FrontRow}
-use Rattle.lard_history.specs.Own.{Letter}
-use Rattle.lard_message.specs.Message.{IsNodeNumber}
-use Rattle.lard_rules.specs.Stay.{named_paths}
 use Rattle.lard_law_progress.proofs.Data.{heard}
 use Rattle.lard_law_progress.proofs.Silence.{IsSilent}
-use Rattle.lard_recv.specs.Recv.{receive_room}
-use Rattle.lard_resend.specs.Kept.{is_under}
-use Rattle.lard_rules.specs.declared.places.Station.{Station}
-use Rattle.lard_segment.specs.declared.segment.Dir.TheVariants.{ToCluster}
-use Rattle.lard_segment.specs.Segment.{Said, decoded}
-use Rattle.lard_send.specs.Send.{symbols}
-use Rattle.lard_seq.specs.Seq.{seq_add, seq_offset}
 
 -- ---- endpoints
 

@@ -1,17 +1,11 @@
 -- A connection that the front end holds, where a client's segment comes and no unit goes: its endpoint is as it was, but for what it owes.
 use Rattle.std.proofs.Common.{◌≡◌, ◌⊎◌, ◌<◌, ◌≤◌, ◌+◌, ◌-◌, ◌*◌, ◌==◌, ℕ, Bool, true, false, [], is_some, Option, None, inl, inr, ⊎_elim, refl, sym, ap, ◌∙◌, arith}
 use Rattle.std.proofs.lemmas.Bool.{eq-eqb, eqb-true}
-use Rattle.lard_answers.specs.Answers.{FilesAt}
+use Rattle.lard_law_view.specs.Prelude.{ControlBlock, FilesAt, FrontPart, Part, Phase, Said, Sending, Service, Station, may_end, on_segment, serving, with_front}
 use Rattle.lard_bound.specs.Progress.{IsWarmWord}
 use Rattle.lard_bound.specs.Seats.{Held, SeatNow, seat_of}
 use Rattle.lard_bound.specs.Units.{Whole, is_stale, left_with, one_if_not, symbols_taken, tellers}
-use Rattle.lard_client.specs.declared.phase.Phase.{Phase}
 use Rattle.lard_client.specs.declared.phase.Phase.TheVariants as phase
-use Rattle.lard_law_view.specs.View.{Part, with_front}
-use Rattle.lard_endpoint.specs.Arriving.{on_segment}
-use Rattle.lard_endpoint.specs.Control.{ControlBlock}
-use Rattle.lard_endpoint.specs.Moving.{may_end}
-use Rattle.lard_rules.specs.Front.{FrontPart}
 use Rattle.lard_law_progress.proofs.AnswersFrontGiven.{IsTalking}
 use Rattle.lard_law_progress.proofs.AnswersFrontSaying.{reset-ends}
 use Rattle.lard_law_progress.proofs.Away.{not-less}
@@ -20,10 +14,6 @@ use Rattle.lard_law_progress.proofs.Fronts.{Carries, FitsAt}
 use Rattle.lard_law_progress.proofs.Less.{left_by}
 use Rattle.lard_law_progress.proofs.Reading.{Further, IsSame}
 use Rattle.lard_law_progress.proofs.Stays.{IsAlike}
-use Rattle.lard_rules.specs.declared.places.Station.{Station}
-use Rattle.lard_rules.specs.Serving.{Service, serving}
-use Rattle.lard_segment.specs.Segment.{Said}
-use Rattle.lard_send.specs.Send.{Sending}
 
 -- ---- by what is left
 

@@ -1,33 +1,18 @@
 -- What comes of a client's segment to a connection that the front end holds.
 use Rattle.std.proofs.Common.{◌≡◌, ◌+◌, ◌⊎◌, ◌<◌, ◌≤◌, ◌==◌, ◌||◌, ℕ, suc, true, false, List, [], ◌∷◌, ◌++◌, length, map, Option, Some, None, Ok, inl, inr, ⊎_elim, refl, sym, ap, ◌∙◌, subst, arith}
 use Rattle.std.proofs.lemmas.Bool.{and_parts, eqb-true, lt-ltb, or_cases}
-use Rattle.lard_arrival.specs.Arrival.{seg_len}
-use Rattle.lard_base.specs.declared.place.Place.{Place}
-use Rattle.lard_base.specs.declared.place.Place.TheVariants.{Client, Front}
+use Rattle.lard_law_view.specs.Prelude.{Client, Conn, ControlBlock, Ending, Final, First, Front, FrontEnv, FrontRest, FrontRow, IsFrontEnv, Letter, Move, Phase, Place, Reading, Said, Service, Setting, Station, ToClient, ToCluster, Turn, ack_ready, decoded, emitted, front_rest, front_rests, heard, holds, letter, may_end, next_epoch, offering, on_segment, placed, rcv_nxt, seg_len, seq_offset, serving, serving_settled, settled_by, speaks, spelled, spoken, symbols, to_client, told, turn_of, with_front}
 use Rattle.lard_bound.specs.Chains.{is_current, is_plain}
 use Rattle.lard_bound.specs.Nears.{Crosses, IsNews, Near, NearHeld, NearReply, NearSegment, OfSegment}
 use Rattle.lard_bound.specs.Progress.{Answers, Any, IsWarmWord, Lasts}
 use Rattle.lard_bound.specs.Seats.{Held, Over, SeatNow, Waiting, seat_away, seat_of}
 use Rattle.lard_bound.specs.Spots.{Spot, number_awaited, ends_of, post_of}
 use Rattle.lard_bound.specs.Units.{Whole, symbols_taken}
-use Rattle.lard_client.specs.declared.phase.Phase.{Phase}
 use Rattle.lard_client.specs.declared.phase.Phase.TheVariants as phase
-use Rattle.lard_law_view.specs.View.{Conn, IsFrontEnv, Move, Setting, letter, with_front}
-use Rattle.lard_dispatch.specs.declared.dispatch.First.{First}
 use Rattle.lard_dispatch.specs.declared.dispatch.First.TheVariants as first
-use Rattle.lard_endpoint.specs.Arriving.{on_segment}
-use Rattle.lard_endpoint.specs.Control.{ControlBlock, rcv_nxt}
-use Rattle.lard_endpoint.specs.declared.control.moving.Final.{Final}
-use Rattle.lard_endpoint.specs.Leaving.{ack_ready, emitted, told}
-use Rattle.lard_endpoint.specs.Moving.{may_end}
-use Rattle.lard_rules.specs.declared.front.FrontRest.{FrontRest}
-use Rattle.lard_rules.specs.Front.{Does, FrontEnv, heard, holds, offering, placed, front_rest, front_rests, settled_by}
+use Rattle.lard_rules.specs.Front.{Does}
 use Rattle.lard_rules.specs.FrontReading as reading
-use Rattle.lard_rules.specs.FrontReading.{Reading}
-use Rattle.lard_handoff_front.specs.declared.row.FrontRow.{FrontRow}
 use Rattle.lard_handoff_front.specs.declared.row.FrontConn.TheVariants as stage
-use Rattle.lard_handoff_front.specs.Front.{next_epoch}
-use Rattle.lard_history.specs.Own.{Letter}
 use Rattle.lard_journal.specs.declared.rec.Rec.TheVariants as rec
 use Rattle.lard_law_progress.proofs.AnswersFrontAway.{Owes, does, l, word-chained, word-near}
 use Rattle.lard_law_progress.proofs.AnswersFrontData.{all-sent, answer, answer-fits, answer-news, crosses-owes}
@@ -40,18 +25,9 @@ use Rattle.lard_law_progress.proofs.Reading.{Further, reads-further}
 use Rattle.lard_law_progress.proofs.Silence.{IsSilent, plain-news, plain-parts, plain-silent}
 use Rattle.lard_law_progress.proofs.Stays.{IsAlike}
 use Rattle.lard_law_progress.proofs.Still.{alike-none}
-use Rattle.lard_rules.specs.declared.places.Ending.{Ending}
 use Rattle.lard_rules.specs.declared.places.Ending.TheVariants as ending
-use Rattle.lard_rules.specs.declared.places.Station.{Station}
-use Rattle.lard_rules.specs.declared.places.Turn.{Turn}
-use Rattle.lard_rules.specs.Serving.{Service, serving, serving_settled, spoken, turn_of}
-use Rattle.lard_rules.specs.Speaking.{speaks, to_client}
 use Rattle.lard_rules.proofs.Saying.{speaks-done}
-use Rattle.lard_segment.specs.declared.segment.Dir.TheVariants.{ToClient, ToCluster}
-use Rattle.lard_segment.specs.Segment.{Said, decoded, spelled}
 use Rattle.lard_segment.proofs.Again.{again}
-use Rattle.lard_send.specs.Send.{symbols}
-use Rattle.lard_seq.specs.Seq.{seq_offset}
 
 module _ (k : Setting) (w : Whole) (x : Conn) (bytes : List ℕ) (st : Station) (was : x.part.station ≡ Some st) (s : Said) (reads_so : decoded bytes x.c ToCluster ≡ Ok s) (env : FrontEnv) (is_env : IsFrontEnv k x.c env)
     (row : FrontRow) (b : ControlBlock) (seat : seat_of x.part ≡ Held b (front_rest x.part.front.rest).count) (talk : IsTalking st b) (word : IsWord st (seat_of x.part) bytes s)

@@ -2,14 +2,8 @@
 use Rattle.std.proofs.Common.{◌≡◌, ◌<◌, ◌^◌, ◌==◌, ◌&&◌, ℕ, Bool, true, false, Option, Some, None, refl, sym, ◌∙◌, arith}
 use Rattle.std.proofs.lemmas.Bool.{and_parts, eq-eqb, eqb-true}
 use Rattle.lard_bound.specs.Seats.{Gone, Here, SeatNow, Staying, Unborn, seat_away, seat_in, seat_of}
-use Rattle.lard_law_view.specs.View.{Part}
-use Rattle.lard_endpoint.specs.Control.{ControlBlock}
-use Rattle.lard_rules.specs.Front.{is_row_at, is_with, front_rest}
-use Rattle.lard_handoff_front.specs.declared.row.FrontConn.{FrontConn}
+use Rattle.lard_law_view.specs.Prelude.{ControlBlock, FrontConn, FrontRow, NodePart, Part, front_rest, is_away, is_row_at, is_with}
 use Rattle.lard_handoff_front.specs.declared.row.FrontConn.TheVariants as stage
-use Rattle.lard_handoff_front.specs.declared.row.FrontRow.{FrontRow}
-use Rattle.lard_handoff_front.specs.Row.{is_away}
-use Rattle.lard_rules.specs.Node.{NodePart}
 use Rattle.lard_law_progress.proofs.AnswersFrontGiven.{IsStage}
 use Rattle.lard_law_progress.proofs.AnswersFrontSpots.{away-cases, seat-row}
 

@@ -1,22 +1,15 @@
 -- What is owed of a message of a node that comes to the front end, and of the message that it sends back.
 use Rattle.std.proofs.Common.{◌≡◌, ◌<◌, ◌^◌, ℕ, suc, List, [], ◌∷◌, Some, None, Ok, inl, refl, sym, ap, ◌∙◌, subst, arith}
-use Rattle.lard_base.specs.declared.place.Place.TheVariants.{Front, Node}
+use Rattle.lard_law_view.specs.Prelude.{Body, Conn, FitsFields, Front, FrontDeed, IsConnNumber, IsOfTable, Letter, Move, Node, Setting, Station, decoded_message, front_does, grown, letters_of, packet_seen}
 use Rattle.lard_bound.specs.Chains.{chain, front_chain, of_message}
 use Rattle.lard_bound.specs.Nears.{Near, NearTold, OfMessage}
 use Rattle.lard_bound.specs.Progress.{Answers, Lasts}
 use Rattle.lard_bound.specs.Seats.{SeatNow, seat_of}
 use Rattle.lard_bound.specs.Units.{Whole}
-use Rattle.lard_rules.specs.Bounds.{IsConnNumber}
-use Rattle.lard_law_view.specs.View.{Conn, Move, Setting, front_does, grown, letters_of, packet_seen}
-use Rattle.lard_rules.specs.Front.{FrontDeed, Drops, message}
-use Rattle.lard_history.specs.Own.{Letter}
-use Rattle.lard_message.specs.declared.message.Body.{Body}
-use Rattle.lard_message.specs.Message.{FitsFields, IsOfTable}
-use Rattle.lard_message.specs.Reading.{decoded_message}
+use Rattle.lard_rules.specs.Front.{Drops, message}
 use Rattle.lard_message.proofs.Whole.{again}
 use Rattle.lard_law_progress.proofs.AnswersFrontGiven.{FrontGiven}
 use Rattle.lard_law_progress.proofs.AnswersFrontSpots.{AnswersBy, answers-by, answers-none, at_seat, nothing-comes}
-use Rattle.lard_rules.specs.declared.places.Station.{Station}
 
 -- it is read as it was written
 pub reads : (c d e : ℕ) (b : Body) → d ≡ c → IsConnNumber c → e < 2 ^ 16 → IsOfTable b → FitsFields b → decoded_message (message d e b) ≡ Ok (record { c = c; epoch = record { 0 = e }; body = b })

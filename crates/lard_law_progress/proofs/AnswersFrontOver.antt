@@ -2,31 +2,19 @@
 use Rattle.std.proofs.Common.{◌≡◌, ◌<◌, ◌≤◌, ◌+◌, ◌==◌, ◌&&◌, ◌||◌, nat_lt, not, ℕ, suc, Bool, true, false, List, length, Option, Some, None, Ok, inl, refl, sym, ap, ◌∙◌, subst, arith, if◌then◌else◌}
 use Rattle.std.proofs.lemmas.Bool.{cond_both, cond-false, lt-ltb}
 use Rattle.std.proofs.lemmas.Bool.Decides.{nat_tests}
-use Rattle.lard_arrival.specs.Arrival.{seg_len}
-use Rattle.lard_base.specs.declared.place.Place.TheVariants.{Client, Front}
-use Rattle.lard_base.specs.declared.place.Reason.{Reason}
+use Rattle.lard_law_view.specs.Prelude.{Client, Conn, Final, Front, FrontDeed, FrontEnv, IsFrontEnv, IsSendable, Letter, Phase, Reason, Said, Setting, Station, ToClient, ToCluster, decoded, is_telling, last_ack, last_words, refusal, seg_len, seq_offset, spelled, symbols, tombstone, turn_here}
 use Rattle.lard_base.specs.declared.place.Reason.TheVariants as reason
 use Rattle.lard_bound.specs.Chains.{chain, is_current, reply_chain, word_chain}
 use Rattle.lard_bound.specs.Nears.{Crosses, Near, NearClosing, NearEnded, NearSegment, OfSegment}
 use Rattle.lard_bound.specs.Seats.{Over, seat_of}
 use Rattle.lard_bound.specs.Spots.{Spot}
 use Rattle.lard_bound.specs.Units.{Whole, symbols_taken}
-use Rattle.lard_client.specs.declared.phase.Phase.{Phase}
 use Rattle.lard_client.specs.declared.phase.Phase.TheVariants as phase
-use Rattle.lard_law_view.specs.View.{Conn, IsFrontEnv, Setting}
-use Rattle.lard_endpoint.specs.declared.control.moving.Final.{Final}
-use Rattle.lard_rules.specs.Front.{FrontDeed, Says, FrontEnv, turn_here}
-use Rattle.lard_history.specs.Own.{Letter}
+use Rattle.lard_rules.specs.Front.{Says}
 use Rattle.lard_law_progress.proofs.AnswersFrontAway.{Owes, does, l, word-chained, word-near}
 use Rattle.lard_law_progress.proofs.AnswersFrontGiven.{HasClosed, IsWord}
 use Rattle.lard_law_progress.proofs.AnswersFrontSpots.{answers-by, at_seat, nothing-comes}
-use Rattle.lard_rules.specs.declared.places.Station.{Station}
-use Rattle.lard_rules.specs.Tombstone.{is_telling, last_ack, last_words, refusal, tombstone}
-use Rattle.lard_segment.specs.declared.segment.Dir.TheVariants.{ToClient, ToCluster}
-use Rattle.lard_segment.specs.Segment.{IsSendable, Said, decoded, spelled}
 use Rattle.lard_segment.proofs.Again.{again}
-use Rattle.lard_send.specs.Send.{symbols}
-use Rattle.lard_seq.specs.Seq.{seq_offset}
 
 -- ---- what has something to acknowledge
 

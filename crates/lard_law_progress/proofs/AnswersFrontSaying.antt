@@ -1,40 +1,23 @@
 -- What an endpoint that has said all makes of a client's segment: nothing is said to a refusal and to an acknowledgement with the last
 -- number, and data is acknowledged by one segment.
 use Rattle.std.proofs.Common.{◌≡◌, ◌⊎◌, ◌<◌, ◌≤◌, ◌+◌, ◌-◌, ◌^◌, ◌==◌, ◌&&◌, ◌||◌, nat_lt, not, ℕ, zero, suc, Bool, true, false, cond, List, [], ◌∷◌, ◌++◌, length, Option, Some, None, inl, inr, ⊎_elim, refl, sym, ap, ◌∙◌, arith}
-use Rattle.std.proofs.lemmas.Bool.{cases_lt, cond_both, cond-false, cond-true, eq-eqb, eqb-true, le-ltb, lt-ltb}
+use Rattle.std.proofs.lemmas.Bool.{cases_lt, cond-false, cond-true, eq-eqb, eqb-true, le-ltb, lt-ltb}
 use Rattle.std.proofs.lemmas.Bool.Decides.{nat_tests}
-use Rattle.lard_arrival.specs.Arrival.{bare, is_acceptable, is_allowed, is_in_window, last_number, seg_len}
-use Rattle.lard_base.specs.declared.place.Place.{Place}
-use Rattle.lard_base.specs.declared.place.Reason.TheVariants.{Limit}
+use Rattle.lard_law_view.specs.Prelude.{Arrival, ControlBlock, Ending, Final, Place, Ready, Said, Sending, ServeEnv, Service, Station, Turn, ack_ready, advanced, after_emit, after_owed, after_piece, bare, byte_piece, cut_off, emits, emits_left, emitted, is_acceptable, is_allowed, is_closed, is_in_window, last_number, may_end, may_send, next_fin, next_len, next_piece, on_ack, on_rst, on_segment, on_syn, on_unacceptable, one_if, owed_ready, owes, owing, rcv_nxt, rcv_wnd, ready_of, receive_room, seg_len, send_left, seq_add, seq_offset, serving_settled, speaks, spoken, symbols, syn_piece, to_client, told, turn_of}
 use Rattle.lard_bound.specs.Chains.{is_plain}
-use Rattle.lard_endpoint.specs.declared.control.arriving.Arrival.{Arrival}
 use Rattle.lard_endpoint.specs.declared.control.arriving.Arrival.TheVariants as arrival
-use Rattle.lard_endpoint.specs.Arriving.{on_ack, on_rst, on_segment, on_syn, on_unacceptable, owing}
-use Rattle.lard_endpoint.specs.Control.{ControlBlock, rcv_nxt, rcv_wnd}
-use Rattle.lard_endpoint.specs.declared.control.moving.Final.{Final}
-use Rattle.lard_endpoint.specs.Leaving.{ack_ready, advanced, after_emit, after_owed, after_piece, emits_left, emitted, owed_ready, owes, ready_of, told}
-use Rattle.lard_endpoint.specs.Moving.{end_reason, final_of, is_closed, may_end}
 use Rattle.lard_endpoint.proofs.Numbers.{offset_later}
 use Rattle.lard_endpoint.proofs.Silence.{emit-none}
 use Rattle.lard_law_progress.proofs.AnswersFrontGiven.{IsTalking}
 use Rattle.lard_law_progress.proofs.AnswersFrontSpots.{AreToClient}
 use Rattle.lard_law_progress.proofs.Data.{heard}
 use Rattle.lard_law_progress.proofs.Silence.{IsSilent, heard-kept, plain-heard, plain-parts}
-use Rattle.lard_recv.specs.Recv.{receive_room}
-use Rattle.lard_rules.specs.declared.places.Ending.{Ending}
 use Rattle.lard_rules.specs.declared.places.Ending.TheVariants as ending
-use Rattle.lard_rules.specs.declared.places.Station.{Station}
-use Rattle.lard_rules.specs.declared.places.Turn.{Turn}
-use Rattle.lard_rules.specs.Serving.{ServeEnv, Service, cut_off, serving_settled, spoken, turn_of}
-use Rattle.lard_rules.specs.Speaking.{emits, speaks, speaks_symbols, to_client}
 use Rattle.lard_rules.proofs.Loops.{speaks_keep}
-use Rattle.lard_segment.specs.declared.segment.Ready.{Ready}
-use Rattle.lard_segment.specs.Segment.{Said}
 use Rattle.lard_send.specs.declared.piece.Piece.{Piece}
 use Rattle.lard_send.proofs.Sent.{next-rests}
-use Rattle.lard_send.specs.Send.{Sending, byte_piece, send_left, may_send, next_fin, next_len, next_piece, symbols, syn_piece}
-use Rattle.lard_seq.specs.Seq.{one_if, seq_add, seq_offset}
 use Rattle.lard_seq.proofs.Laws.{add-offset}
+use Rattle.lard_rules.proofs.Endings.{rested-keeps, settled-keeps}
 
 pub not-zero : (n : ℕ) → 1 ≤ n → (n == 0) ≡ false
 not-zero n e = grind (arith, nat_tests, e)
@@ -51,17 +34,11 @@ says-to-client c b = speaks_keep c (λ b ss d. AreToClient c ss) (record { rests
 -- what was said is so, or it ended
 pub spoken-cases : (env : ServeEnv) (w : Service) (P : Ending × Turn → Type 0) → ((last : Final) (t : Turn) → P (ending.Over last, t))
     → (may_end (speaks env.c w.block).1 ≡ false → P (ending.Here (speaks env.c w.block).1 w.count, turn_of w ([] ++ (speaks env.c w.block).0))) → P (spoken env w [])
-spoken-cases env w P over here =
-    let d = (speaks env.c w.block).1 in
-    let t = turn_of w ([] ++ (speaks env.c w.block).0) in
-    cond_both (may_end d) (ending.Over (final_of d (end_reason d))) (ending.Here d w.count) (λ (o : Ending). P (o, t)) (λ e. over (final_of d (end_reason d)) t) (λ e. here e)
+spoken-cases env w P over here = let t = turn_of w ([] ++ (speaks env.c w.block).0) in rested-keeps (λ (o : Ending). P (o, t)) (speaks env.c w.block).1 w.count (λ e. over _ t) here
 
 pub settled-cases : (env : ServeEnv) (w : Service) (P : Ending × Turn → Type 0) → ((last : Final) (t : Turn) → P (ending.Over last, t))
     → (w.over ≡ None → may_end (speaks env.c w.block).1 ≡ false → P (ending.Here (speaks env.c w.block).1 w.count, turn_of w ([] ++ (speaks env.c w.block).0))) → P (serving_settled env w)
-settled-cases env w P over here = go w.over refl where
-  go : (o : Option ℕ) → w.over ≡ o → P (elim o as (λ t. Ending × Turn) [ None ↦ spoken env w [] | Some total ↦ cut_off env w ])
-  go None e = spoken-cases env w P over (here e)
-  go (Some total) e = over (final_of (speaks_symbols env.c w.block).1 Limit) (cut_off env w).1
+settled-cases env w P over here = settled-keeps P env w (λ e. spoken-cases env w P over (here e)) (λ total e. over _ (cut_off env w).1)
 
 -- what was reset may end
 pub reset-ends : (b : ControlBlock) → b.reset ≡ true → may_end b ≡ true

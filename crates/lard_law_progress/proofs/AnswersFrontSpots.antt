@@ -1,28 +1,14 @@
 -- A spot by the seat of a connection, and what comes of a packet by that.
 use Rattle.std.proofs.Common.{◌≡◌, ◌<◌, ◌≤◌, ◌+◌, ◌&&◌, ◌||◌, not, ℕ, suc, Bool, true, false, List, [], ◌∷◌, ◌++◌, map, Option, Some, None, Result, Ok, Err, inl, refl, sym, ap, ◌∙◌, subst, arith, ◌==◌}
 use Rattle.std.proofs.lemmas.Bool.{cond_both, cond-false}
-use Rattle.lard_answers.specs.Answers.{FilesAt}
-use Rattle.lard_base.specs.declared.place.Place.{Place}
-use Rattle.lard_base.specs.declared.place.Place.TheVariants.{Client, Front}
+use Rattle.lard_law_view.specs.Prelude.{BackConn, BackRow, Client, Conn, ControlBlock, FilesAt, Front, FrontRow, Letter, Move, NodePart, Part, Place, Said, SegFault, Setting, Station, ToClient, decoded, grown, letter, letters_of, symbols}
 use Rattle.lard_bound.specs.Chains.{chain, chain_between, is_current, reply_chain, word_chain}
 use Rattle.lard_bound.specs.Nears.{Near}
 use Rattle.lard_bound.specs.Progress.{Answers, Any, Every, Lasts, NearOn, chain_at, chain_on, spot_at, spot_with}
 use Rattle.lard_bound.specs.Seats.{Gone, Here, Offered, SeatNow, seat_away, seat_by, seat_decided, seat_of, seat_there, staying_of, tells_end}
 use Rattle.lard_bound.specs.Spots.{Nowhere, Post, Spot, post_of, spot_of}
 use Rattle.lard_bound.specs.Units.{Whole, left_to_client, left_with, units}
-use Rattle.lard_law_view.specs.View.{Conn, Move, Part, Setting, grown, letter, letters_of}
-use Rattle.lard_endpoint.specs.Control.{ControlBlock}
-use Rattle.lard_handoff_back.specs.declared.row.BackConn.{BackConn}
 use Rattle.lard_handoff_back.specs.declared.row.BackConn.TheVariants as back
-use Rattle.lard_handoff_back.specs.declared.row.BackRow.{BackRow}
-use Rattle.lard_handoff_front.specs.declared.row.FrontRow.{FrontRow}
-use Rattle.lard_history.specs.Own.{Letter}
-use Rattle.lard_rules.specs.Node.{NodePart}
-use Rattle.lard_rules.specs.declared.places.Station.{Station}
-use Rattle.lard_segment.specs.declared.fault.SegFault.{SegFault}
-use Rattle.lard_segment.specs.declared.segment.Dir.TheVariants.{ToClient}
-use Rattle.lard_segment.specs.Segment.{Said, decoded}
-use Rattle.lard_send.specs.Send.{symbols}
 
 -- ---- seats
 

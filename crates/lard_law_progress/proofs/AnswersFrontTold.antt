@@ -2,31 +2,20 @@
 -- acknowledged again.
 use Rattle.std.proofs.Common.{◌≡◌, ◌<◌, ◌≤◌, ◌^◌, ℕ, suc, Bool, true, false, cond, List, Option, Some, None, refl, sym, ap, ◌∙◌, subst, arith}
 use Rattle.std.proofs.lemmas.Bool.{cond_both, eq-eqb, eqb-true}
-use Rattle.lard_base.specs.declared.ids.Epoch.{Epoch}
-use Rattle.lard_base.specs.declared.place.Reason.{Reason}
+use Rattle.lard_law_view.specs.Prelude.{ClientBlock, Conn, Epoch, Final, FrontConn, FrontEnv, FrontRow, IsConnNumber, IsFrontEnv, NodePart, Reason, Setting, SpellsMessage, Station, ack_sent, asked_node, end_answer, ended_with, front_ended, front_ended_by, front_rest, front_saying, front_taken, is_away, next_epoch, offered_to, taken_by}
 use Rattle.lard_bound.specs.Chains.{chain, node_chain, of_message}
 use Rattle.lard_bound.specs.Nears.{Near, NearEnding, NearSaid, NearTaken, OfMessage}
 use Rattle.lard_bound.specs.Seats.{Gone, Held, Here, Offered, Over, SeatNow, Unborn, Waiting, seat_away, seat_in, seat_of, tells_end}
 use Rattle.lard_bound.specs.Spots.{Spot, post_of}
 use Rattle.lard_bound.specs.Units.{Whole}
-use Rattle.lard_client.specs.Control.{ClientBlock}
-use Rattle.lard_rules.specs.Bounds.{IsConnNumber}
-use Rattle.lard_law_view.specs.View.{Conn, IsFrontEnv, Setting, SpellsMessage}
-use Rattle.lard_endpoint.specs.declared.control.moving.Final.{Final}
-use Rattle.lard_rules.specs.Front.{Says, FrontEnv, ack_sent, front_ended_by, front_ended, front_taken, message, front_rest, front_saying, taken_by}
-use Rattle.lard_handoff_front.specs.declared.row.FrontConn.{FrontConn}
+use Rattle.lard_rules.specs.Front.{Says, message}
 use Rattle.lard_handoff_front.specs.declared.row.FrontConn.TheVariants as stage
-use Rattle.lard_handoff_front.specs.declared.row.FrontRow.{FrontRow}
 use Rattle.lard_handoff_front.specs.declared.table.OnEnded.TheVariants.{New, Again, Stale}
-use Rattle.lard_handoff_front.specs.Front.{asked_node, end_answer, ended_with, next_epoch}
-use Rattle.lard_handoff_front.specs.Row.{is_away, offered_to}
 use Rattle.lard_message.specs.declared.message.Body.TheVariants as body
-use Rattle.lard_rules.specs.Node.{NodePart}
 use Rattle.lard_law_progress.proofs.AnswersFrontGiven.{FrontGiven}
 use Rattle.lard_law_progress.proofs.AnswersFrontHome.{gone-home}
 use Rattle.lard_law_progress.proofs.AnswersFrontMessages.{Owes, does, drops-owes, l, one-owes, reads, unopened-owes}
 use Rattle.lard_law_progress.proofs.AnswersFrontSpots.{answers-by, at_seat, away-cases, moves-on, seat-row, unit-goes}
-use Rattle.lard_rules.specs.declared.places.Station.{Station}
 
 -- ---- a Taken
 

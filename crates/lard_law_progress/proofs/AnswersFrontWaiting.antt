@@ -1,37 +1,19 @@
 -- What comes of a client's segment to a connection in the line: no unit is near, and nothing is said to a segment that ends a chain.
 use Rattle.std.proofs.Common.{◌≡◌, ◌≤◌, ◌&&◌, ◌||◌, not, ℕ, suc, true, false, List, [], ◌++◌, Some, None, Ok, ⊎_elim, refl, sym, ap, ◌∙◌, subst, arith, ◌==◌, length}
 use Rattle.std.proofs.lemmas.Bool.{and_parts, eqb-true, or_cases}
-use Rattle.lard_base.specs.declared.place.Place.{Place}
+use Rattle.lard_law_view.specs.Prelude.{Conn, ControlBlock, Ending, Final, FrontEnv, FrontRest, FrontRow, Place, Said, Service, Setting, Station, ToCluster, Turn, decoded, emitted, front_rest, is_clear, may_end, may_freeze, on_segment, seq_offset, serving, speaks, spoken, symbols, turn_of, waits_on}
 use Rattle.lard_bound.specs.Chains.{is_current, is_plain}
 use Rattle.lard_bound.specs.Seats.{Over, SeatNow, Waiting, seat_of}
 use Rattle.lard_bound.specs.Spots.{Spot}
 use Rattle.lard_bound.specs.Units.{Whole, symbols_taken}
-use Rattle.lard_law_view.specs.View.{Conn, Setting}
-use Rattle.lard_endpoint.specs.Arriving.{on_segment}
-use Rattle.lard_endpoint.specs.Control.{ControlBlock}
-use Rattle.lard_endpoint.specs.declared.control.moving.Final.{Final}
-use Rattle.lard_endpoint.specs.Leaving.{emitted}
-use Rattle.lard_endpoint.specs.Moving.{may_end, may_freeze}
-use Rattle.lard_rules.specs.Front.{FrontEnv, front_rest, waits_on}
-use Rattle.lard_rules.specs.declared.front.FrontRest.{FrontRest}
-use Rattle.lard_handoff_front.specs.declared.row.FrontRow.{FrontRow}
 use Rattle.lard_law_progress.proofs.AnswersFrontAway.{Owes, does, l, word-chained, word-near}
 use Rattle.lard_law_progress.proofs.AnswersFrontGiven.{IsOnlyRefusal, IsTalking, IsWord, WasAwaited}
 use Rattle.lard_law_progress.proofs.AnswersFrontSaying.{clear-silent, refused, reset-ends, says-to-client, spoken-cases}
 use Rattle.lard_law_progress.proofs.AnswersFrontSpots.{answers-by, at_seat, moves-on, unit-goes, words-short}
 use Rattle.lard_law_progress.proofs.Ends.{speaks-said}
 use Rattle.lard_law_progress.proofs.Silence.{plain-parts}
-use Rattle.lard_rules.specs.declared.places.Ending.{Ending}
 use Rattle.lard_rules.specs.declared.places.Ending.TheVariants as ending
-use Rattle.lard_rules.specs.declared.places.Station.{Station}
-use Rattle.lard_rules.specs.declared.places.Turn.{Turn}
-use Rattle.lard_rules.specs.Serving.{Service, serving, spoken, turn_of}
-use Rattle.lard_rules.specs.Speaking.{speaks}
 use Rattle.lard_rules.proofs.Saying.{speaks-done}
-use Rattle.lard_segment.specs.declared.segment.Dir.TheVariants.{ToCluster}
-use Rattle.lard_segment.specs.Segment.{Said, decoded}
-use Rattle.lard_send.specs.Send.{is_clear, symbols}
-use Rattle.lard_seq.specs.Seq.{seq_offset}
 
 -- the number of a refusal was awaited by the endpoint
 pub awaited-here : (st : Station) (seq : ℕ) (z : SeatNow) (b : ControlBlock) (count : ℕ) → z ≡ Waiting b count → WasAwaited st seq z → WasAwaited st seq (Waiting b count)

@@ -1,35 +1,20 @@
 -- A packet to a node or to a client of which nothing comes, since nobody hears it: it was not near.
 use Rattle.std.proofs.Common.{◌≡◌, ℕ, suc, true, false, List, length, Option, Some, None, Result, Ok, Err, inr, refl, sym, ap, ◌∙◌, subst}
 use Rattle.std.specs.List.{find}
-use Rattle.lard_base.specs.declared.place.Place.{Place}
-use Rattle.lard_base.specs.declared.place.Place.TheVariants.{Client, Front, Node}
+use Rattle.lard_law_view.specs.Prelude.{BackRow, Body, Client, Conn, Front, IsForNode, IsUnheard, Message, MsgFault, Node, Place, Said, SegFault, Setting, Station, ToCluster, decoded, decoded_message, is_from, is_no_node, is_under, kind_of, nothing_said, packet_seen, stands}
 use Rattle.lard_base.specs.declared.place.TimerKind.TheVariants as timer
 use Rattle.lard_bound.specs.Nears.{Near, NearAside, NearForward, NearOffer, NearTold, OfMessage}
 use Rattle.lard_bound.specs.Progress.{Answers, IsFetch, NearOn, spot_with}
-use Rattle.lard_bound.specs.Seats.{Gone, Held, Here, Offered, Over, SeatNow, Unborn, Waiting, seat_of, tells_end}
+use Rattle.lard_bound.specs.Seats.{Gone, Here, Offered, SeatNow, seat_of, tells_end}
 use Rattle.lard_bound.specs.Spots.{Spot, post_of, spot_of}
 use Rattle.lard_bound.specs.Units.{Whole}
-use Rattle.lard_rules.specs.Machine.{is_no_node}
-use Rattle.lard_law_view.specs.View.{Conn, IsForNode, IsUnheard, Setting, nothing_said, packet_seen, stands}
-use Rattle.lard_handoff_back.specs.declared.row.BackRow.{BackRow}
-use Rattle.lard_lateral.specs.Lateral.{is_from}
-use Rattle.lard_message.specs.declared.fault.MsgFault.{MsgFault}
-use Rattle.lard_message.specs.declared.message.Body.{Body}
 use Rattle.lard_message.specs.declared.message.Body.TheVariants as body
-use Rattle.lard_message.specs.declared.message.Message.{Message}
-use Rattle.lard_message.specs.Message.{kind_of}
-use Rattle.lard_message.specs.Reading.{decoded_message}
 use Rattle.lard_law_progress.proofs.AnswersNodeComing.{AwaitsAt, ask-awaits, content-awaits}
 use Rattle.lard_law_progress.proofs.AnswersNodeForward.{forward-awaits}
 use Rattle.lard_law_progress.proofs.AnswersNodeGiven.{NodeGiven}
 use Rattle.lard_law_progress.proofs.AnswersNodeSeats.{Sits, seat-sits}
 use Rattle.lard_law_progress.proofs.AnswersForm.{seated-is}
 use Rattle.lard_law_progress.proofs.AnswersNodeStill.{post-is}
-use Rattle.lard_resend.specs.Kept.{is_under}
-use Rattle.lard_rules.specs.declared.places.Station.{Station}
-use Rattle.lard_segment.specs.declared.fault.SegFault.{SegFault}
-use Rattle.lard_segment.specs.declared.segment.Dir.TheVariants.{ToCluster}
-use Rattle.lard_segment.specs.Segment.{Said, decoded}
 
 -- A content from node a to node n that no request awaits: the view says nothing of packets between nodes that nobody hears.
 abbrev pub IsUnwanted : Conn → ℕ → ℕ → List ℕ → Type 0
@@ -52,10 +37,7 @@ module _ (k : Setting) (w : Whole) (x : Conn) where
       go (Here told m f b s) is sits h = row-there m _ sits.0.there h.0
       go (Gone told m f) is sits h = row-there m sits.row sits.there h.0
       go (Offered m f count) is sits h = subst there h.0 (given.placed m f count is)
-      go Unborn is sits h = absurd h
-      go (Held b count) is sits h = absurd h
-      go (Waiting b count) is sits h = absurd h
-      go (Over last) is sits h = absurd h
+      go _ is sits h = absurd h
 
     forward-there : (d e : ℕ) (r : Result Said SegFault) → NearForward t d n e r t.post → there n
     forward-there d e (Err fault) near = absurd near
@@ -84,11 +66,7 @@ module _ (k : Setting) (w : Whole) (x : Conn) where
           let a = ask-awaits k.files x.part st n m.epoch.0 1 number (length nodes) h.0 in
           both (row-there n _ a.2.there refl) (none m is (subst (λ (b : Body). IsForNode (kind_of b)) (sym f) tt))
       by-body m is body.EndedAck f h = both (ended-there m.epoch.0 h.0) (none m is (subst (λ (b : Body). IsForNode (kind_of b)) (sym f) tt))
-      by-body m is body.Taken f h = h
-      by-body m is (body.Ask number queue size paths) f h = h
-      by-body m is (body.Fetch r path) f h = h
-      by-body m is (body.Content r file) f h = h
-      by-body m is (body.Ended why snd rcv count) f h = h
+      by-body m is _ f h = h
 
       go : (o : Result Message MsgFault) → decoded_message bytes ≡ o → OfMessage (λ (m : Message). NearTold t x.c (suc d) n m.epoch.0 m.body) o → ⊥
       go (Err fault) is h = h
@@ -100,13 +78,7 @@ module _ (k : Setting) (w : Whole) (x : Conn) where
       by-body : (m : Message) → decoded_message bytes ≡ Ok m → (b : Body) → m.body ≡ b → NearAside k.files t (suc d) a n m.epoch.0 b → IsFetch (record { from = Node a; to = Node n; bytes = bytes })
       by-body m is (body.Fetch r path) f h = (m.c, m.epoch.0, r, path, is ∙ λ i. Ok (record { c = m.c; epoch = m.epoch; body = f i }))
       by-body m is (body.Content r file) f h = absurd (unwanted m r file is f (content-awaits k.files x.part st n m.epoch.0 a r h.0))
-      by-body m is (body.Offer parts) f h = absurd h
-      by-body m is (body.Forward segment) f h = absurd h
-      by-body m is (body.Tag number nodes) f h = absurd h
-      by-body m is body.EndedAck f h = absurd h
-      by-body m is body.Taken f h = absurd h
-      by-body m is (body.Ask number queue size paths) f h = absurd h
-      by-body m is (body.Ended why snd rcv count) f h = absurd h
+      by-body m is _ f h = absurd h
 
       go : (o : Result Message MsgFault) → decoded_message bytes ≡ o → OfMessage (λ (m : Message). NearAside k.files t (suc d) a n m.epoch.0 m.body) o → IsFetch (record { from = Node a; to = Node n; bytes = bytes })
       go (Err fault) is h = absurd h

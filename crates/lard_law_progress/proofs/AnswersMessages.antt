@@ -1,17 +1,10 @@
 -- What is read of the messages by which a node answers, and how far they lead.
 use Rattle.std.proofs.Common.{◌≡◌, ◌≤◌, ℕ, List, length, sym, ap, subst}
-use Rattle.lard_answers.specs.Answers.{FilesAt}
-use Rattle.lard_base.specs.declared.limits.TheConstants.{MAX_FILE_BYTES}
-use Rattle.lard_base.specs.declared.parts.EndpointParts.{EndpointParts}
-use Rattle.lard_base.specs.declared.place.Place.TheVariants.{Front, Node}
+use Rattle.lard_law_view.specs.Prelude.{Body, EndpointParts, FilesAt, Front, IsMessage, Letter, MAX_FILE_BYTES, Message, Node}
 use Rattle.lard_bound.specs.Chains.{aside_chain, chain, node_chain, of_message}
 use Rattle.lard_bound.specs.Nears.{Near, NearSaid, NearTaken, OfMessage}
 use Rattle.lard_bound.specs.Spots.{Spot}
-use Rattle.lard_history.specs.Own.{Letter}
-use Rattle.lard_message.specs.declared.message.Body.{Body}
 use Rattle.lard_message.specs.declared.message.Body.TheVariants as body
-use Rattle.lard_message.specs.declared.message.Message.{Message}
-use Rattle.lard_message.specs.Message.{IsMessage}
 use Rattle.lard_message.proofs.Whole.{again}
 use Rattle.lard_rules.specs.Node.{message}
 

@@ -1,7 +1,6 @@
 -- As a stay goes on, it asks for nothing, or the numbers of its Asks go on; and it wants no further content.
 use Rattle.std.proofs.Common.{◌≡◌, ◌<◌, ◌≤◌, ◌⊎◌, ◌+◌, ◌∷◌, Option, inl, inr, refl, arith}
-use Rattle.lard_rules.specs.declared.stay.Asked.{Asked}
-use Rattle.lard_rules.specs.Stay.{NodeEnv, Work, asks_for, goes_on}
+use Rattle.lard_law_view.specs.Prelude.{Asked, NodeEnv, Work, asks_for, goes_on}
 use Rattle.lard_rules.proofs.StayKeeping.{turning-keeps}
 
 pub record Asks (a b : Work) : Type 0 where

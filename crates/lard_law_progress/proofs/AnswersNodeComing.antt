@@ -1,36 +1,24 @@
 -- What comes of a Tag, of a content, and of the acknowledgement of an end: where no unit goes they did not count, and were not near.
-use Rattle.std.proofs.Common.{◌≡◌, ◌==◌, ◌&&◌, ℕ, suc, Bool, true, false, cond, List, [], length, is_some, Option, Some, None, refl, sym, ap, ◌∙◌, subst, arith}
+use Rattle.std.proofs.Common.{◌≡◌, ◌==◌, ◌&&◌, ℕ, suc, Bool, true, false, List, [], length, is_some, Option, Some, None, refl, sym, ap, ◌∙◌, subst, arith}
 use Rattle.std.specs.List.{find}
+use Rattle.std.proofs.lemmas.Bool.{and_parts, cond_both, cond-false, cond-true}
 use Rattle.std.proofs.lemmas.Bool.Decides.{nat_tests}
-use Rattle.lard_answers.specs.Answers.{FilesAt}
-use Rattle.lard_base.specs.declared.place.Place.TheVariants.{Front, Node}
+use Rattle.lard_law_view.specs.Prelude.{BackConn, BackRow, Conn, ControlBlock, FilesAt, Front, IsNodeEnv, Kept, Message, Node, NodeEnv, NodePart, Part, Setting, SpellsMessage, Station, Stay, Was, awaits_ack, came_for, come_by, come_progress, goes_on, gone, here, is_ended, is_from, is_tag_awaited, is_under, named_paths, node_acknowledged, node_content, node_put_back, node_rests, node_saying, node_tagged, tagged, tagged_by, with_node, with_work, without, work_of}
 use Rattle.lard_base.specs.declared.place.TimerKind.TheVariants as kind
 use Rattle.lard_bound.specs.Nears.{IsAwaited, IsWanted, Near, NearAsk, NearAside, NearTold, OfMessage}
-use Rattle.lard_bound.specs.Seats.{Gone, Held, Here, Offered, Over, SeatNow, Unborn, Waiting, seat_of, stay_of, staying_of, telling, tells_end}
+use Rattle.lard_bound.specs.Seats.{Here, SeatNow, seat_of, stay_of, staying_of, telling, tells_end}
 use Rattle.lard_bound.specs.Spots.{Spot, awaits_of, post_of, spot_of}
 use Rattle.lard_bound.specs.Units.{Whole}
-use Rattle.lard_law_view.specs.View.{Conn, IsNodeEnv, Part, Setting, SpellsMessage, Was, node_put_back, with_node}
-use Rattle.lard_endpoint.specs.Control.{ControlBlock}
-use Rattle.lard_handoff_back.specs.declared.row.BackConn.{BackConn}
 use Rattle.lard_handoff_back.specs.declared.row.BackConn.TheVariants as back
-use Rattle.lard_handoff_back.specs.declared.row.BackRow.{BackRow}
-use Rattle.lard_handoff_back.specs.Back.{awaits_ack}
-use Rattle.lard_handoff_back.specs.Row.{is_ended}
-use Rattle.lard_lateral.specs.Lateral.{is_from}
 use Rattle.lard_message.specs.declared.message.Body.TheVariants as body
-use Rattle.lard_message.specs.declared.message.Message.{Message}
-use Rattle.lard_rules.specs.declared.stay.Stay.{Stay}
-use Rattle.lard_rules.specs.Node.{NodePart, gone, here, is_tag_awaited, node_acknowledged, node_content, node_tagged, come_by, node_rests, node_saying, tagged_by, with_work, work_of}
 use Rattle.lard_rules.specs.Node as node
-use Rattle.lard_rules.specs.Stay.{NodeEnv, came_for, come_progress, goes_on, named_paths, tagged}
 use Rattle.lard_law_progress.proofs.AnswersNodeDeeds.{OwesBy, does-owes, drops-owes, is-here}
 use Rattle.lard_law_progress.proofs.AnswersNodeGiven.{NodeGiven}
-use Rattle.lard_law_progress.proofs.AnswersNodeSeats.{IsHere, Sits, both-here, here-both, seat-sits}
-use Rattle.lard_law_progress.proofs.AnswersNodeStill.{Still, content-falls, post-is, still, tag-falls}
-use Rattle.lard_law_progress.proofs.Away.{put-there}
-use Rattle.lard_resend.specs.declared.kept.Kept.{Kept}
-use Rattle.lard_resend.specs.Kept.{is_under, without}
-use Rattle.lard_rules.specs.declared.places.Station.{Station}
+use Rattle.lard_law_progress.proofs.AnswersNodeSeats.{IsHere, Sits, here-both, seat-sits}
+use Rattle.lard_law_progress.proofs.AnswersNodeStill.{content-falls, post-is, still, tag-falls}
+use Rattle.lard_law_progress.proofs.Away.{here-row, put-there}
+use Rattle.lard_law_progress.proofs.Coming.{awaited-some}
+use Rattle.lard_rules.proofs.NodeCases.{where-here}
 
 -- ---- what is near, a node awaits
 
@@ -38,7 +26,7 @@ use Rattle.lard_rules.specs.declared.places.Station.{Station}
 abbrev pub AwaitsAt : Part → ℕ → ℕ → (NodePart → Type 0) → Type 0
 AwaitsAt p n e P = (told : Bool) × (b : ControlBlock) × IsHere p told n e b × P (p.nodes n)
 
-at-same : (p : Part) (told : Bool) (n m e f : ℕ) (b : ControlBlock) → m ≡ n → f ≡ e → IsHere p told m f b → IsHere p told n e b
+pub at-same : (p : Part) (told : Bool) (n m e f : ℕ) (b : ControlBlock) → m ≡ n → f ≡ e → IsHere p told m f b → IsHere p told n e b
 at-same p told n m e f b same_n same_e h = subst (λ (i : ℕ). IsHere p told i e b) same_n (subst (λ (j : ℕ). IsHere p told m j b) same_e h)
 
 module _ (files : FilesAt) (p : Part) (st : Station) (n e : ℕ) where
@@ -48,12 +36,7 @@ module _ (files : FilesAt) (p : Part) (st : Station) (n e : ℕ) where
     go (Here told m f b s) sits h =
         let a : IsAwaited number count (awaits_of files (staying_of (p.nodes m))) = subst (λ z. IsAwaited number count (awaits_of files z)) sits.1 h.2 in
         (told, b, at-same p told n m e f b h.0 h.1 sits.0, subst (λ (i : ℕ). IsAwaited number count (awaits_of files (staying_of (p.nodes i)))) h.0 a)
-    go Unborn sits h = absurd h
-    go (Held b count) sits h = absurd h
-    go (Waiting b count) sits h = absurd h
-    go (Offered m f count) sits h = absurd h
-    go (Gone told m f) sits h = absurd h
-    go (Over last) sits h = absurd h
+    go _ sits h = absurd h
 
   abbrev Wants : ℕ → ℕ → NodePart → Type 0
   Wants from r q = is_from from e (find (is_under kind.Fetch r) q.fetches) ≡ true
@@ -64,22 +47,13 @@ module _ (files : FilesAt) (p : Part) (st : Station) (n e : ℕ) where
     go (Here told m f b s) sits h =
         let a : Wants from r (p.nodes m) = subst (λ z. is_from from e (find (is_under kind.Fetch r) (awaits_of files z).fetches) ≡ true) sits.1 h.2 in
         (told, b, at-same p told n m e f b h.0 h.1 sits.0, subst (λ (i : ℕ). Wants from r (p.nodes i)) h.0 a)
-    go Unborn sits h = absurd h
-    go (Held b count) sits h = absurd h
-    go (Waiting b count) sits h = absurd h
-    go (Offered m f count) sits h = absurd h
-    go (Gone told m f) sits h = absurd h
-    go (Over last) sits h = absurd h
+    go _ sits h = absurd h
 
 -- ---- the rules
 
 all-three : (a : Bool) (i j n m : ℕ) → a ≡ true → i ≡ j → n ≡ m → (a && (i == j && n == m)) ≡ true
 all-three true i j n m e f g = grind (arith, nat_tests, f, g)
 all-three false i j n m e f g = absurd (let bad : false ≡ true = e in cc)
-
-first-of : (a b : Bool) → (a && b) ≡ true → a ≡ true
-first-of true b e = refl
-first-of false b e = absurd (let bad : false ≡ true = e in cc)
 
 module _ (k : Setting) (w : Whole) (x : Conn) (n epoch : ℕ) (env : NodeEnv) (of : IsNodeEnv k x.c n epoch env) where
   abbrev q : NodePart
@@ -115,28 +89,26 @@ module _ (k : Setting) (w : Whole) (x : Conn) (n epoch : ℕ) (env : NodeEnv) (o
         a.2 ∙ ap (λ (o : Option Stay). length (named_paths k.files (stay_of o).batch)) s.2 ∙ ap (λ (f : FilesAt). length (named_paths f s.0.batch)) (sym of.files) in
         (h.1, s.0, s.1, all-three (is_some (find (is_under kind.Ask 0) q.kept)) s.0.asks number (length nodes) (length (named_paths env.serve.files s.0.batch)) a.0 (sym asks) named)
 
-    tag-test : (b : ControlBlock) (s : Stay) → here env.epoch q ≡ Some (b, s) → (t : Bool) → is_tag_awaited env number nodes q s ≡ t
-        → Tags (cond t (with_work env (record q { kept = without kind.Ask 0 q.kept }) [] (goes_on env (tagged env nodes (work_of b s)))) node.Drops)
-    tag-test b s is true e = does-owes k w x n Front bytes was (λ given. given.opened n bytes was) (node_rests env (record q { kept = without kind.Ask 0 q.kept }) [] (goes_on env (tagged env nodes (work_of b s))))
-        (λ given after warm late st st_is c_is up same.
-        let both = both-here q env.epoch b s is in
-        let at = is-here k w x given n env.epoch b both.0 in
-        let pp : NodePart = record q { kept = without kind.Ask 0 q.kept } in
-        let rest : Still k.files x.part st at.0 n b env at.1 pp [] (goes_on env (tagged env nodes (work_of b s))) = still k.files x.part st at.0 n b env at.1 pp [] (goes_on env (tagged env nodes (work_of b s))) same in
-        absurd (tag-falls k.files x.part st at.0 n b env at.1 s nodes both.1 (first-of (is_some (find (is_under kind.Ask 0) q.kept)) _ e) rest))
-    tag-test b s is false e = drops-owes k w x n Front bytes was (λ given st st_is d near.
+    -- one that is dropped was not near
+    tag-dropped : node_tagged env q number nodes ≡ node.Drops → Tags node.Drops
+    tag-dropped e = drops-owes k w x n Front bytes was (λ given st st_is d near.
         let h = counts given st d near in
-        let pair : ◌≡◌ {A = Option (ControlBlock × Stay)} (Some (b, s)) (Some (h.0, h.1)) = sym is ∙ h.2 in
-        let same : s ≡ h.1 = ap (λ (o : Option (ControlBlock × Stay)). elim o [ None ↦ s | Some z ↦ z.1 ]) pair in
-        let bad : true ≡ false = sym h.3 ∙ sym (ap (is_tag_awaited env number nodes q) same) ∙ e in cc)
+        let bad : with_work env (record q { kept = without kind.Ask 0 q.kept }) [] (goes_on env (tagged env nodes (work_of h.0 h.1))) ≡ node.Drops =
+        sym (ap (tagged_by env number nodes q) h.2 ∙ cond-true (is_tag_awaited env number nodes q h.1) _ node.Drops h.3) ∙ e in cc)
 
     pub tagged-owes : Tags (node_tagged env q number nodes)
-    tagged-owes = go (here env.epoch q) refl where
-      go : (o : Option (ControlBlock × Stay)) → here env.epoch q ≡ o → Tags (tagged_by env number nodes q o)
-      go None is = drops-owes k w x n Front bytes was (λ given st st_is d near.
-          let h = counts given st d near in
-          let bad : ◌≡◌ {A = Option (ControlBlock × Stay)} None (Some (h.0, h.1)) = sym is ∙ h.2 in cc)
-      go (Some z) is = tag-test z.0 z.1 is (is_tag_awaited env number nodes q z.1) refl
+    tagged-owes = where-here env.epoch q (λ o. here env.epoch q ≡ o → Tags (tagged_by env number nodes q o))
+        (λ is. tag-dropped (ap (tagged_by env number nodes q) is))
+        (λ b s at is.
+        let pp : NodePart = record q { kept = without kind.Ask 0 q.kept } in
+        let v = goes_on env (tagged env nodes (work_of b s)) in
+        cond_both (is_tag_awaited env number nodes q s) (with_work env pp [] v) node.Drops Tags
+        (λ t. does-owes k w x n Front bytes was (λ given. given.opened n bytes was) (node_rests env pp [] v) (λ given after warm late st st_is c_is up same.
+        let home = is-here k w x given n env.epoch b (here-row env.epoch q b s at) in
+        absurd (tag-falls k.files x.part st home.0 n b env home.1 s nodes at.stays (and_parts _ _ t).0
+        (still k.files x.part st home.0 n b env home.1 pp [] v same))))
+        (λ f. tag-dropped (ap (tagged_by env number nodes q) is ∙ cond-false (is_tag_awaited env number nodes q s) (with_work env pp [] v) node.Drops f)))
+        refl
 
   -- ---- a content
 
@@ -156,30 +128,28 @@ module _ (k : Setting) (w : Whole) (x : Conn) (n epoch : ℕ) (env : NodeEnv) (o
         let s = has-both given h.0 h.1 h.2 in
         (h.1, s.0, s.1, ap (λ (e : ℕ). is_from from e (find (is_under kind.Fetch r) q.fetches)) of.epoch_is ∙ h.3)
 
-    some-kept : (o : Option Kept) → is_from from env.epoch o ≡ true → is_some o ≡ true
-    some-kept None e = absurd (let bad : false ≡ true = e in cc)
-    some-kept (Some kept) e = refl
-
-    come-test : (b : ControlBlock) (s : Stay) → here env.epoch q ≡ Some (b, s) → (t : Bool) → is_wanted ≡ t
-        → Brings (cond t (with_work env (record q { fetches = without kind.Fetch r q.fetches }) [] (goes_on env (came_for (come_progress from) r (work_of b s)))) node.Drops)
-    come-test b s is true e = does-owes k w x n (Node from) bytes was (λ given. given.held n env.epoch b (both-here q env.epoch b s is).0) (node_rests env (record q { fetches = without kind.Fetch r q.fetches }) [] (goes_on env (came_for (come_progress from) r (work_of b s))))
-        (λ given after warm late st st_is c_is up same.
-        let both = both-here q env.epoch b s is in
-        let at = is-here k w x given n env.epoch b both.0 in
-        let pp : NodePart = record q { fetches = without kind.Fetch r q.fetches } in
-        let rest : Still k.files x.part st at.0 n b env at.1 pp [] (goes_on env (came_for (come_progress from) r (work_of b s))) = still k.files x.part st at.0 n b env at.1 pp [] (goes_on env (came_for (come_progress from) r (work_of b s))) same in
-        absurd (content-falls k.files x.part st at.0 n b env at.1 s from r (some-kept (find (is_under kind.Fetch r) q.fetches) e) rest))
-    come-test b s is false e = drops-owes k w x n (Node from) bytes was (λ given st st_is d near.
+    content-dropped : node_content env q from r ≡ node.Drops → Brings node.Drops
+    content-dropped e = drops-owes k w x n (Node from) bytes was (λ given st st_is d near.
         let h = wanted given st d near in
-        let bad : true ≡ false = sym h.3 ∙ e in cc)
+        let bad : with_work env (record q { fetches = without kind.Fetch r q.fetches }) [] (goes_on env (came_for (come_progress from) r (work_of h.0 h.1))) ≡
+        node.Drops =
+        sym (ap (come_by env from r q) h.2 ∙ cond-true is_wanted _ node.Drops h.3) ∙ e in cc)
 
     pub content-owes : Brings (node_content env q from r)
-    content-owes = go (here env.epoch q) refl where
-      go : (o : Option (ControlBlock × Stay)) → here env.epoch q ≡ o → Brings (come_by env from r q o)
-      go None is = drops-owes k w x n (Node from) bytes was (λ given st st_is d near.
-          let h = wanted given st d near in
-          let bad : ◌≡◌ {A = Option (ControlBlock × Stay)} None (Some (h.0, h.1)) = sym is ∙ h.2 in cc)
-      go (Some z) is = come-test z.0 z.1 is is_wanted refl
+    content-owes = where-here env.epoch q (λ o. here env.epoch q ≡ o → Brings (come_by env from r q o))
+        (λ is. content-dropped (ap (come_by env from r q) is))
+        (λ b s at is.
+        let row = here-row env.epoch q b s at in
+        let pp : NodePart = record q { fetches = without kind.Fetch r q.fetches } in
+        let v = goes_on env (came_for (come_progress from) r (work_of b s)) in
+        cond_both is_wanted (with_work env pp [] v) node.Drops Brings
+        (λ t. does-owes k w x n (Node from) bytes was (λ given. given.held n env.epoch b row) (node_rests env pp [] v)
+        (λ given after warm late st st_is c_is up same.
+        let home = is-here k w x given n env.epoch b row in
+        absurd (content-falls k.files x.part st home.0 n b env home.1 s from r (awaited-some from env.epoch (find (is_under kind.Fetch r) q.fetches) t)
+        (still k.files x.part st home.0 n b env home.1 pp [] v same))))
+        (λ f. content-dropped (ap (come_by env from r q) is ∙ cond-false is_wanted (with_work env pp [] v) node.Drops f)))
+        refl
 
   -- ---- the acknowledgement of an end
 
@@ -217,12 +187,13 @@ module _ (k : Setting) (w : Whole) (x : Conn) (n epoch : ℕ) (env : NodeEnv) (o
         sym (ap (λ (z : NodePart). tells_end z.row) (put-there x.part.nodes n r) ∙ gone-tells q.row) ∙ t
 
     pub acknowledged-owes : Acks (node_acknowledged env q)
-    acknowledged-owes = go (awaits_ack env.epoch q.row) refl where
-      go : (t : Bool) → awaits_ack env.epoch q.row ≡ t → Acks (cond t (node.Does (record q { row = gone q.row; kept = without kind.Ended 0 q.kept }, node_saying [])) node.Drops)
-      go true is = does-owes k w x n Front bytes was (λ given. given.opened n bytes was) (record q { row = gone q.row; kept = without kind.Ended 0 q.kept }, node_saying []) (λ given after warm late st st_is c_is up same. record {
-        shorter = tt;
-        leads = λ d near. absurd (let bad : None ≡ Some epoch = after-tells st (without kind.Ended 0 q.kept) same ∙ ack-near st d near in cc);
-      })
-      go false is = drops-owes k w x n Front bytes was (λ given st st_is d near.
-          let yes : awaits_ack env.epoch q.row ≡ true = ap (λ (e : ℕ). awaits_ack e q.row) of.epoch_is ∙ told-end q.row epoch (ack-near st d near) in
-          let bad : true ≡ false = sym yes ∙ is in cc)
+    acknowledged-owes = cond_both (awaits_ack env.epoch q.row) (node.Does (record q { row = gone q.row; kept = without kind.Ended 0 q.kept }, node_saying []))
+        node.Drops Acks
+        (λ t. does-owes k w x n Front bytes was (λ given. given.opened n bytes was)
+        (record q { row = gone q.row; kept = without kind.Ended 0 q.kept }, node_saying []) (λ given after warm late st st_is c_is up same. record {
+          shorter = tt;
+          leads = λ d near. absurd (let bad : None ≡ Some epoch = after-tells st (without kind.Ended 0 q.kept) same ∙ ack-near st d near in cc);
+        }))
+        (λ f. drops-owes k w x n Front bytes was (λ given st st_is d near.
+        let yes : awaits_ack env.epoch q.row ≡ true = ap (λ (e : ℕ). awaits_ack e q.row) of.epoch_is ∙ told-end q.row epoch (ack-near st d near) in
+        let bad : true ≡ false = sym yes ∙ f in cc))

@@ -1,26 +1,28 @@
 -- What a node's deed owes, of a packet that came to it.
 use Rattle.std.proofs.Common.{◌≡◌, ◌≤◌, ℕ, suc, Bool, List, map, Option, None, Some, refl, subst}
-use Rattle.lard_base.specs.declared.place.Place.{Place}
-use Rattle.lard_base.specs.declared.place.Place.TheVariants.{Node}
+use Rattle.lard_law_view.specs.Prelude.{Conn, ControlBlock, Letter, Move, Node, NodeDeed, NodePart, NodeTurn, Place, Setting, Station, Was, grown, letter, letters_of, node_does, nothing_said, packet_seen, stands, with_node}
 use Rattle.lard_bound.specs.Nears.{Near}
 use Rattle.lard_bound.specs.Progress.{Answers, IsWarm, NearOn, spot_with}
 use Rattle.lard_bound.specs.Spots.{spot_of}
 use Rattle.lard_bound.specs.Units.{Whole, left_to_client, left_with, units}
-use Rattle.lard_law_view.specs.View.{Conn, Move, Setting, Was, grown, letter, letters_of, node_does, nothing_said, packet_seen, stands, with_node}
-use Rattle.lard_endpoint.specs.Control.{ControlBlock}
-use Rattle.lard_history.specs.Own.{Letter}
-use Rattle.lard_rules.specs.Node.{NodeDeed, NodePart}
 use Rattle.lard_rules.specs.Node as node
-use Rattle.lard_rules.specs.declared.node.NodeTurn.{NodeTurn}
 use Rattle.lard_law_progress.proofs.AnswersForm.{IsLateOn, Owes, Replies, answers-by, no-reply}
 use Rattle.lard_law_progress.proofs.AnswersNodeGiven.{HasIt, NodeGiven}
 use Rattle.lard_law_progress.proofs.AnswersNodeSeats.{IsHere}
-use Rattle.lard_rules.specs.declared.places.Station.{Station}
 
 module _ (k : Setting) (w : Whole) (x : Conn) where
   -- where a node has it
   pub is-here : NodeGiven k w x → (n e : ℕ) (b : ControlBlock) → HasIt x n e b → (told : Bool) × IsHere x.part told n e b
   is-here given n e b has = let h = given.homes n e b has in (h.0, record { front = h.1; row = h.2; with_ = h.3; there = has })
+
+  -- where no unit goes, so much is left as before
+  pub left-same : (v : Move) (st : Station) → x.part.station ≡ Some st → v.part.station ≡ Some st → units w k.nodes x ≤ units w k.nodes (grown x v)
+      → left_with w k.nodes x.part st ≤ left_with w k.nodes v.part st
+  unfolding units
+  left-same v st is now up =
+      let at : left_to_client w k.nodes x.part (Some st) ≤ left_to_client w k.nodes v.part v.part.station =
+      subst (λ (o : Option Station). left_to_client w k.nodes x.part o ≤ left_to_client w k.nodes v.part v.part.station) is up in
+      subst (λ (o : Option Station). left_with w k.nodes x.part st ≤ left_to_client w k.nodes v.part o) now at
 
   module _ (n : ℕ) (from : Place) (bytes : List ℕ) (was : Was x from (Node n) bytes) where
     abbrev pub came_letter : Letter
@@ -57,13 +59,6 @@ module _ (k : Setting) (w : Whole) (x : Conn) where
     abbrev pub moved : NodePart × NodeTurn → Move
     moved given = node_does x n (packet_seen from (Node n) bytes) (node.Does given)
 
-    less : (given : NodePart × NodeTurn) (st : Station) → x.part.station ≡ Some st → units w k.nodes x ≤ units w k.nodes (grown x (moved given))
-        → left_with w k.nodes x.part st ≤ left_with w k.nodes (with_node x.part n given.0) st
-    unfolding units
-    less given st is up =
-        let A : Option Station → Type 0 = λ o. left_to_client w k.nodes x.part o ≤ left_to_client w k.nodes (with_node x.part n given.0) o in
-        subst A is up
-
     pub does-owes : Opens → (given : NodePart × NodeTurn)
         → (NodeGiven k w x → NodeGiven k w (grown x (moved given)) → IsWarm x came_letter → IsLateOn x came_letter → (st : Station) → x.part.station ≡ Some st → st.client.c ≡ x.c
         → left_with w k.nodes x.part st ≤ left_with w k.nodes (with_node x.part n given.0) st → spot_of k.files (with_node x.part n given.0) st ≡ spot_of k.files x.part st
@@ -71,4 +66,5 @@ module _ (k : Setting) (w : Whole) (x : Conn) where
         → OwesBy (node.Does given)
     does-owes opens given wanted may after warm late lasts =
         let o = opens may.given in
-        answers-by k w x (moved given) came_letter o.0 o.0 o.1 o.1 lasts (λ up same. wanted may.given after warm late o.0 o.1 (may.sound.client o.0 o.1) (less given o.0 o.1 up) same)
+        answers-by k w x (moved given) came_letter o.0 o.0 o.1 o.1 lasts
+        (λ up same. wanted may.given after warm late o.0 o.1 (may.sound.client o.0 o.1) (left-same (moved given) o.0 o.1 o.1 up) same)

@@ -3,53 +3,33 @@
 use Rattle.std.proofs.Common.{◌≡◌, ◌⊎◌, ◌<◌, ◌≤◌, ◌+◌, ◌==◌, ◌&&◌, ◌||◌, nat_lt, not, ℕ, suc, Bool, true, false, cond, List, [], ◌∷◌, ◌++◌, length, map, Option, Some, None, Result, Ok, Err, inl, inr, ⊎_elim, refl, sym, ap, ◌∙◌, subst, arith}
 use Rattle.std.proofs.lemmas.Bool.{and_parts, cond-false, eqb-true, or_cases}
 use Rattle.std.proofs.lemmas.Bool.Decides.{nat_tests}
-use Rattle.lard_answers.specs.Answers.{FilesAt}
-use Rattle.lard_arrival.specs.Arrival.{seg_len}
-use Rattle.lard_base.specs.declared.place.Place.{Place}
-use Rattle.lard_base.specs.declared.place.Place.TheVariants.{Client, Front, Node}
+use Rattle.lard_law_view.specs.Prelude.{Body, Client, Conn, ControlBlock, FilesAt, Front, IsNodeEnv, Letter, Message, MsgFault, Node, NodeEnv, NodePart, Part, Phase, Place, Said, SegFault, Setting, SpellsMessage, Station, Stay, ToClient, ToCluster, Was, Work, ack_ready, decoded, decoded_message, goes_on, here, kept_after, letter, node_forwarded, node_heard_by, node_rests, on_segment, seg_len, seq_offset, spelled, symbols, to_client, told, with_node, with_work, work_of}
 use Rattle.lard_bound.specs.Chains.{aside_chain, chain, front_chain, is_current, is_plain, node_chain, of_message, reply_chain, word_chain, word_result}
 use Rattle.lard_bound.specs.Nears.{Crosses, IsNews, Near, NearForward, NearHeld, NearReply, NearSegment, NearTold, OfMessage, OfSegment}
 use Rattle.lard_bound.specs.Progress.{Any, Every, IsFetch, IsWarm, IsWarmBody, IsWarmBy, IsWarmMessage, IsWarmSegment, IsWarmWord}
-use Rattle.lard_bound.specs.Seats.{Gone, Held, Here, Offered, Over, SeatNow, Unborn, Waiting, seat_of, staying_of}
+use Rattle.lard_bound.specs.Seats.{Here, SeatNow, seat_of, staying_of}
 use Rattle.lard_bound.specs.Spots.{Post, Spot, number_awaited, ends_of, post_of, spot_of}
 use Rattle.lard_bound.specs.Units.{Whole, left_with, symbols_taken}
-use Rattle.lard_client.specs.declared.phase.Phase.{Phase}
 use Rattle.lard_client.specs.declared.phase.Phase.TheVariants as phase
-use Rattle.lard_law_view.specs.View.{Conn, IsNodeEnv, Part, Setting, SpellsMessage, Was, letter, with_node}
-use Rattle.lard_endpoint.specs.Arriving.{on_segment}
-use Rattle.lard_endpoint.specs.Control.{ControlBlock}
-use Rattle.lard_endpoint.specs.Leaving.{ack_ready, told}
-use Rattle.lard_history.specs.Own.{Letter}
-use Rattle.lard_message.specs.declared.fault.MsgFault.{MsgFault}
-use Rattle.lard_message.specs.declared.message.Body.{Body}
 use Rattle.lard_message.specs.declared.message.Body.TheVariants as body
-use Rattle.lard_message.specs.declared.message.Message.{Message}
-use Rattle.lard_message.specs.Reading.{decoded_message}
-use Rattle.lard_rules.specs.declared.stay.Stay.{Stay}
-use Rattle.lard_rules.specs.Node.{NodePart, node_heard_by, here, kept_after, node_forwarded, node_rests, with_work, work_of}
 use Rattle.lard_rules.specs.Node as node
-use Rattle.lard_rules.specs.Stay.{NodeEnv, Work, goes_on}
 use Rattle.lard_law_progress.proofs.AnswersForm.{Replies, seated, seated-is}
 use Rattle.lard_law_progress.proofs.AnswersFrontData.{all-sent, answer, answer-fits, answer-news, crosses-owes}
 use Rattle.lard_law_progress.proofs.AnswersFrontGiven.{IsTalking}
 use Rattle.lard_law_progress.proofs.AnswersFrontSaying.{ack-known, at-awaited, current-fits, one-said, refused}
+use Rattle.lard_law_progress.proofs.AnswersNodeComing.{at-same}
 use Rattle.lard_law_progress.proofs.AnswersNodeDeeds.{OwesBy, does-owes, drops-owes, is-here}
 use Rattle.lard_law_progress.proofs.AnswersNodeGiven.{IsForwarded}
 use Rattle.lard_law_progress.proofs.AnswersNodeHearing.{Hears, IsStill, alike, hears-stale, no-messages, not-reset, same-window, segments-are, silent-segments, stale-same, una-same, v}
-use Rattle.lard_law_progress.proofs.AnswersNodeSeats.{IsHere, Sits, both-here, here-both, here-seat, seat-sits}
+use Rattle.lard_law_progress.proofs.AnswersNodeSeats.{IsHere, Sits, here-both, here-seat, seat-sits}
 use Rattle.lard_law_progress.proofs.AnswersNodeStill.{left_here, still, still-seat}
+use Rattle.lard_law_progress.proofs.Away.{here-row}
 use Rattle.lard_law_progress.proofs.Silence.{IsSilent, heard-kept, plain-news, plain-parts, plain-silent}
 use Rattle.lard_law_progress.proofs.Data.{IsOwing}
 use Rattle.lard_law_progress.proofs.Stays.{read_of}
 use Rattle.lard_rules.specs.declared.places.Ending.TheVariants as ending
-use Rattle.lard_rules.specs.declared.places.Station.{Station}
-use Rattle.lard_rules.specs.Speaking.{to_client}
-use Rattle.lard_segment.specs.declared.fault.SegFault.{SegFault}
-use Rattle.lard_segment.specs.declared.segment.Dir.TheVariants.{ToClient, ToCluster}
-use Rattle.lard_segment.specs.Segment.{Said, decoded, spelled}
+use Rattle.lard_rules.proofs.NodeCases.{IsHereWith, where-here}
 use Rattle.lard_segment.proofs.Again.{again}
-use Rattle.lard_send.specs.Send.{symbols}
-use Rattle.lard_seq.specs.Seq.{seq_offset}
 
 -- ---- all that a node sends has a chain of two at the most
 
@@ -66,14 +46,7 @@ by-place t c n (Client d) bytes = reply (decoded bytes c ToClient) where
 by-place t c n Front bytes = say (decoded_message bytes) where
   body-most : (b : Body) → node_chain b ≤ 2
   body-most (body.Ask number queue size paths) = omega arith
-  body-most (body.Ended why snd rcv count) = omega arith
-  body-most (body.Offer parts) = omega arith
-  body-most body.Taken = omega arith
-  body-most (body.Forward segment) = omega arith
-  body-most (body.Tag number nodes) = omega arith
-  body-most (body.Fetch r path) = omega arith
-  body-most (body.Content r file) = omega arith
-  body-most body.EndedAck = omega arith
+  body-most _ = omega arith
 
   say : (r : Result Message MsgFault) → of_message (λ (m : Message). node_chain m.body) r ≤ 2
   say (Err fault) = omega arith
@@ -81,14 +54,7 @@ by-place t c n Front bytes = say (decoded_message bytes) where
 by-place t c n (Node k) bytes = say (decoded_message bytes) where
   body-most : (b : Body) → aside_chain b ≤ 2
   body-most (body.Fetch r path) = omega arith
-  body-most (body.Ask number queue size paths) = omega arith
-  body-most (body.Ended why snd rcv count) = omega arith
-  body-most (body.Offer parts) = omega arith
-  body-most body.Taken = omega arith
-  body-most (body.Forward segment) = omega arith
-  body-most (body.Tag number nodes) = omega arith
-  body-most (body.Content r file) = omega arith
-  body-most body.EndedAck = omega arith
+  body-most _ = omega arith
 
   say : (r : Result Message MsgFault) → of_message (λ (m : Message). aside_chain m.body) r ≤ 2
   say (Err fault) = omega arith
@@ -110,17 +76,9 @@ forward-awaits files p st n e d s near = go (seat_of p) (seat-sits p) near where
   t : Spot
   t = seated files p st (seat_of p)
 
-  at-same : (told : Bool) (m f : ℕ) (b : ControlBlock) → m ≡ n → f ≡ e → IsHere p told m f b → IsHere p told n e b
-  at-same told m f b same_n same_e h = subst (λ (i : ℕ). IsHere p told i e b) same_n (subst (λ (j : ℕ). IsHere p told m j b) same_e h)
-
   go : (z : SeatNow) → Sits p z → NearForward t d n e (Ok s) (post_of files st.client z) → ForwardAt files p st n e d t s
-  go (Here told m f b u) sits h = (told, b, at-same told m f b h.0 h.1 sits.0, h.2)
-  go Unborn sits h = absurd h
-  go (Held b count) sits h = absurd h
-  go (Waiting b count) sits h = absurd h
-  go (Offered m f count) sits h = absurd h
-  go (Gone told m f) sits h = absurd h
-  go (Over last) sits h = absurd h
+  go (Here told m f b u) sits h = (told, b, at-same p told n m e f b h.0 h.1 sits.0, h.2)
+  go _ sits h = absurd h
 
 -- ---- the rule
 
@@ -277,14 +235,15 @@ module _ (k : Setting) (w : Whole) (x : Conn) (n epoch : ℕ) (env : NodeEnv) (o
       let c : IsWarmBody st.client (body.Forward segment) = subst (IsWarmMessage st.client) spells a in
       subst (IsWarmSegment st.client) (ap (λ m. decoded segment m ToCluster) c_is ∙ read) c
 
-  heard-owes : (s : Said) → decoded segment x.c ToCluster ≡ Ok s → (b : ControlBlock) (stay : Stay) → here env.epoch q ≡ Some (b, stay) → Forwards (with_work env q [] (goes_on env (work_of (on_segment b s).1 stay)))
+  heard-owes : (s : Said) → decoded segment x.c ToCluster ≡ Ok s → (b : ControlBlock) (stay : Stay) → IsHereWith env.epoch q b stay
+      → Forwards (with_work env q [] (goes_on env (work_of (on_segment b s).1 stay)))
   heard-owes s read b stay is = does-owes k w x n Front bytes was (λ given. given.opened n bytes was) (node_rests env q [] (goes_on env (work_of (on_segment b s).1 stay))) (λ given after warm late st st_is c_is up same.
-      let both = both-here q env.epoch b stay is in
-      let at = is-here k w x given n env.epoch b both.0 in
+      let row = here-row env.epoch q b stay is in
+      let at = is-here k w x given n env.epoch b row in
       let turn = goes_on env (work_of (on_segment b s).1 stay) in
       let spells_env : SpellsMessage x.c env.epoch (body.Forward segment) bytes = subst (λ (e : ℕ). SpellsMessage x.c e (body.Forward segment) bytes) (sym of.epoch_is) spells in
-      let talk = given.talks st n env.epoch b st_is both.0 in
-      let word = given.words st n env.epoch b segment bytes s st_is both.0 spells_env was read in
+      let talk = given.talks st n env.epoch b st_is row in
+      let word = given.words st n env.epoch b segment bytes s st_is row spells_env was read in
       let late_word : s.flags.rst ≡ true → s.flags.ack ≡ false = late st st_is (record { c = x.c; epoch = record { 0 = epoch }; body = body.Forward segment }) spells s read in
       let stays = still k.files x.part st at.0 n b env at.1 q [] turn same in
       let warm_word : IsWarmWord st.client s st.client.phase = is-warm st s read st_is c_is warm in
@@ -294,21 +253,13 @@ module _ (k : Setting) (w : Whole) (x : Conn) (n epoch : ℕ) (env : NodeEnv) (o
       let spot : spot_of k.files x.part st ≡ t = seated-is k.files x.part st ∙ ap (seated k.files x.part st) (here-seat x.part at.0 n env.epoch b at.1) in
       let R : Spot → Type 0 = λ u. Replies k.files u x.c came (map (letter (Node n)) (node_rests env q [] turn).1.segments ++ map (letter (Node n)) (node_rests env q [] turn).1.messages) in
       subst R (sym spot) (record {
-        shorter = shorter st s read at.0 b at.1 stay both.1 talk word late_word warm_word stays few up;
-        leads = λ d near. leads st s read at.0 b at.1 stay both.1 talk word late_word warm_word stays few up d
+        shorter = shorter st s read at.0 b at.1 stay is.stays talk word late_word warm_word stays few up;
+        leads = λ d near. leads st s read at.0 b at.1 stay is.stays talk word late_word warm_word stays few up d
             (subst (λ (r : Result Said SegFault). NearForward t (suc d) n epoch r t.post) read (near-is t (suc d) near)).2;
       }))
 
   pub forwarded-owes : Forwards (node_forwarded env q (decoded segment x.c ToCluster))
   forwarded-owes = by-read (decoded segment x.c ToCluster) refl where
-    by-here : (s : Said) → decoded segment x.c ToCluster ≡ Ok s → (o : Option (ControlBlock × Stay)) → here env.epoch q ≡ o → Forwards (node_heard_by env q (Ok s) o)
-    by-here s read None is = drops-owes k w x n Front bytes was (λ given st st_is d near.
-        let h = at-node st (suc d) s read near in
-        let stay = given.stays n epoch h.1 h.2.there in
-        let some : here env.epoch q ≡ Some (h.1, stay.0) = ap (λ (e : ℕ). here e q) of.epoch_is ∙ here-both q epoch h.1 stay.0 h.2.there stay.1 in
-        let bad : ◌≡◌ {A = Option (ControlBlock × Stay)} None (Some (h.1, stay.0)) = sym is ∙ some in cc)
-    by-here s read (Some y) is = heard-owes s read y.0 y.1 is
-
     by-read : (r : Result Said SegFault) → decoded segment x.c ToCluster ≡ r → Forwards (node_heard_by env q r (here env.epoch q))
     by-read (Err fault) read = drops-owes k w x n Front bytes was (λ given st st_is d near.
         let t = spot_of k.files x.part st in
@@ -316,4 +267,10 @@ module _ (k : Setting) (w : Whole) (x : Conn) (n epoch : ℕ) (env : NodeEnv) (o
       where
         far : (t : Spot) (d : ℕ) (post : Post) (fault : SegFault) → NearForward t d n epoch (Err fault) post → ⊥
         far t d post fault h = h
-    by-read (Ok s) read = by-here s read (here env.epoch q) refl
+    by-read (Ok s) read = where-here env.epoch q (λ o. here env.epoch q ≡ o → Forwards (node_heard_by env q (Ok s) o))
+        (λ is. drops-owes k w x n Front bytes was (λ given st st_is d near.
+        let h = at-node st (suc d) s read near in
+        let stay = given.stays n epoch h.1 h.2.there in
+        let some : here env.epoch q ≡ Some (h.1, stay.0) = ap (λ (e : ℕ). here e q) of.epoch_is ∙ here-both q epoch h.1 stay.0 h.2.there stay.1 in
+        let bad : ◌≡◌ {A = Option (ControlBlock × Stay)} None (Some (h.1, stay.0)) = sym is ∙ some in cc))
+        (λ b stay at is. heard-owes s read b stay at) refl

@@ -1,33 +1,16 @@
 -- What is given of a connection, on which the rules of its nodes rest.
 use Rattle.std.proofs.Common.{◌≡◌, ◌<◌, ◌≤◌, ◌+◌, ◌^◌, ℕ, Bool, List, true, false, length, None, Some, Ok}
-use Rattle.lard_arrival.specs.Arrival.{seg_len}
-use Rattle.lard_base.specs.declared.limits.TheConstants.{MAX_FILE_BYTES}
-use Rattle.lard_base.specs.declared.parts.EndpointParts.{EndpointParts}
-use Rattle.lard_base.specs.declared.place.Place.TheVariants.{Front, Node}
+use Rattle.lard_law_view.specs.Prelude.{AreBytes, BackRow, Conn, ControlBlock, EndpointParts, Front, FrontRow, Has, Letter, MAX_FILE_BYTES, Node, Said, Setting, SpellsMessage, Station, Stay, ToCluster, Was, decoded, is_no_node, offer_answer, seg_len, seq_add, seq_offset, symbols}
 use Rattle.lard_bound.specs.Seats.{Here, Offered, Staying, seat_of}
 use Rattle.lard_bound.specs.Units.{Whole, symbols_taken}
-use Rattle.lard_rules.specs.Machine.{is_no_node}
-use Rattle.lard_law_view.specs.View.{Conn, Setting, SpellsMessage, Was}
-use Rattle.lard_endpoint.specs.Control.{ControlBlock}
 use Rattle.lard_handoff_back.specs.declared.row.BackConn.TheVariants as back
-use Rattle.lard_handoff_back.specs.declared.row.BackRow.{BackRow}
 use Rattle.lard_handoff_back.specs.declared.table.Adopt.TheVariants.{New}
-use Rattle.lard_handoff_back.specs.Back.{offer_answer}
 use Rattle.lard_handoff_front.specs.declared.row.FrontConn.TheVariants as stage
-use Rattle.lard_handoff_front.specs.declared.row.FrontRow.{FrontRow}
-use Rattle.lard_history.specs.Own.{Has, Letter}
 use Rattle.lard_message.specs.declared.message.Body.TheVariants as body
-use Rattle.lard_message.specs.Laws.{AreBytes}
-use Rattle.lard_rules.specs.declared.stay.Stay.{Stay}
 use Rattle.lard_law_progress.proofs.AnswersFrontGiven.{IsTalking}
 use Rattle.lard_law_progress.proofs.Away.{IsWith}
 use Rattle.lard_law_progress.proofs.Data.{heard}
 use Rattle.lard_law_progress.proofs.Turns.{read_in}
-use Rattle.lard_rules.specs.declared.places.Station.{Station}
-use Rattle.lard_segment.specs.declared.segment.Dir.TheVariants.{ToCluster}
-use Rattle.lard_segment.specs.Segment.{Said, decoded}
-use Rattle.lard_send.specs.Send.{symbols}
-use Rattle.lard_seq.specs.Seq.{seq_add, seq_offset}
 
 -- where node n has it in epoch e
 abbrev pub HasIt : Conn → ℕ → ℕ → ControlBlock → Type 0

@@ -3,22 +3,12 @@
 use Rattle.std.proofs.Common.{◌≡◌, ◌⊎◌, ◌≤◌, ◌==◌, ◌||◌, ℕ, Bool, true, false, List, [], Option, Some, None, inl, inr, ⊎_elim, refl, sym, ap, ◌∙◌, subst, arith}
 use Rattle.std.proofs.lemmas.Bool.{cond-true, eqb-true}
 use Rattle.std.proofs.lemmas.Bool.Decides.{nat_tests}
-use Rattle.lard_answers.specs.Answers.{FilesAt}
-use Rattle.lard_base.specs.declared.place.Place.{Place}
+use Rattle.lard_law_view.specs.Prelude.{ClientBlock, ControlBlock, Ending, FilesAt, NodeEnv, NodePart, Part, Phase, Place, Said, Sending, Station, Stay, Turn, Work, cut_off, end_reason, final_of, goes_on, is_closed, may_end, node_rests, on_segment, serving_settled, speaks, spoken, with_node, work_of}
 use Rattle.lard_bound.specs.Progress.{IsWarmWord}
 use Rattle.lard_bound.specs.Seats.{Staying, stay_of, staying_of}
 use Rattle.lard_bound.specs.Spots.{EndpointSymbols}
 use Rattle.lard_bound.specs.Units.{Whole, is_stale, left_with, one_if_not}
-use Rattle.lard_client.specs.Control.{ClientBlock}
-use Rattle.lard_client.specs.declared.phase.Phase.{Phase}
 use Rattle.lard_client.specs.declared.phase.Phase.TheVariants as phase
-use Rattle.lard_law_view.specs.View.{Part, with_node}
-use Rattle.lard_endpoint.specs.Arriving.{on_segment}
-use Rattle.lard_endpoint.specs.Control.{ControlBlock}
-use Rattle.lard_endpoint.specs.Moving.{end_reason, final_of, is_closed, may_end}
-use Rattle.lard_rules.specs.declared.stay.Stay.{Stay}
-use Rattle.lard_rules.specs.Node.{NodePart, node_rests, work_of}
-use Rattle.lard_rules.specs.Stay.{NodeEnv, Work, goes_on}
 use Rattle.lard_law_progress.proofs.AnswersFrontGiven.{IsTalking}
 use Rattle.lard_law_progress.proofs.AnswersNodeSeats.{IsHere}
 use Rattle.lard_law_progress.proofs.AnswersNodeStill.{Still, left_here, no-message}
@@ -28,15 +18,8 @@ use Rattle.lard_law_progress.proofs.Silence.{IsSilent}
 use Rattle.lard_law_progress.proofs.Stays.{IsAlike, read_of}
 use Rattle.lard_law_progress.proofs.Still.{alike-none}
 use Rattle.lard_law_progress.proofs.Turns.{reset-passed, window-on}
-use Rattle.lard_rules.specs.declared.places.Ending.{Ending}
 use Rattle.lard_rules.specs.declared.places.Ending.TheVariants as ending
-use Rattle.lard_rules.specs.declared.places.Station.{Station}
-use Rattle.lard_rules.specs.declared.places.Turn.{Turn}
-use Rattle.lard_rules.specs.Serving.{cut_off, serving_settled, spoken}
-use Rattle.lard_rules.specs.Speaking.{speaks}
 use Rattle.lard_rules.proofs.Saying.{speaks-done}
-use Rattle.lard_segment.specs.Segment.{Said}
-use Rattle.lard_send.specs.Send.{Sending}
 
 module _ (w : Whole) (K : ℕ) (files : FilesAt) (p : Part) (st : Station) (told : Bool) (n : ℕ) (b : ControlBlock) (env : NodeEnv) (h : IsHere p told n env.epoch b) (d0 : ControlBlock)
     (stay : Stay) (stay_is : (p.nodes n).stay ≡ Some stay) where

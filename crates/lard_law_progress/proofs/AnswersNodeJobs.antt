@@ -1,48 +1,30 @@
 -- What a node sends as a job is done: for another node the content, of which nothing comes; for a request of its own nothing, where no unit
 -- goes.
 use Rattle.std.proofs.Common.{◌≡◌, ◌<◌, ◌≤◌, ℕ, List, [], ◌∷◌, ◌++◌, length, map, Option, Some, None, Result, Ok, Err, refl, sym, ap, ◌∙◌, subst, arith}
-use Rattle.lard_base.specs.declared.place.Place.{Place}
-use Rattle.lard_base.specs.declared.place.Place.TheVariants.{Node}
+use Rattle.lard_law_view.specs.Prelude.{Asked, Body, Conn, ControlBlock, Ending, Letter, Message, Move, MsgFault, Node, NodeEnv, NodePart, Place, Seen, Service, Setting, Station, Stay, Turn, Want, Work, brought_said, came_for, content_bytes, cut_off, decoded_message, goes_on, grown, kind_of, letter, letters_of, node_does, node_read, node_read_by, node_rests, read_progress, serving_settled, spelled_message, spoken, stands, with_node, work_of}
 use Rattle.lard_bound.specs.Chains.{aside_chain, chain, of_message}
 use Rattle.lard_bound.specs.Progress.{Every, Lasts, chain_at, chain_on, spot_with}
 use Rattle.lard_bound.specs.Seats.{Staying, stay_of, staying_of}
 use Rattle.lard_bound.specs.Spots.{Spot, spot_of}
-use Rattle.lard_bound.specs.Units.{Whole, batch_left, is_stale, left_to_client, left_with, units}
+use Rattle.lard_bound.specs.Units.{Whole, batch_left, is_stale, left_with, units}
 use Rattle.lard_law_connections.specs.Places.{Head}
 use Rattle.lard_law_connections.proofs.PlacesHeads.{decoded-head, spelled-some}
-use Rattle.lard_law_view.specs.View.{Conn, Move, Setting, brought_said, grown, letter, letters_of, node_does, reads_first, stands, with_node}
-use Rattle.lard_endpoint.specs.Control.{ControlBlock}
-use Rattle.lard_history.specs.Own.{Letter}
 use Rattle.lard_journal.specs.declared.rec.Rec.TheVariants as rec
-use Rattle.lard_message.specs.declared.fault.MsgFault.{MsgFault}
 use Rattle.lard_message.specs.declared.kind.Kind.TheVariants as kind
-use Rattle.lard_message.specs.declared.message.Body.{Body}
 use Rattle.lard_message.specs.declared.message.Body.TheVariants as body
-use Rattle.lard_message.specs.declared.message.Message.{Message}
-use Rattle.lard_message.specs.Message.{kind_of, spelled_message}
-use Rattle.lard_message.specs.Reading.{decoded_message}
-use Rattle.lard_rules.specs.declared.node.NodeTurn.{NodeTurn}
-use Rattle.lard_rules.specs.declared.stay.Asked.{Asked}
-use Rattle.lard_rules.specs.declared.stay.Stay.{Stay}
-use Rattle.lard_rules.specs.declared.stay.Want.{Want}
-use Rattle.lard_rules.specs.Node.{NodePart, here, node_read, node_read_by, node_rests, work_of}
 use Rattle.lard_rules.specs.Node as node
-use Rattle.lard_rules.specs.NodePlace.{content_bytes}
-use Rattle.lard_rules.specs.Stay.{NodeEnv, Work, came_for, goes_on, read_progress}
+use Rattle.lard_law_view.proofs.EachNode.{told_first}
 use Rattle.lard_law_progress.proofs.AnswersMessages.{content_letter, of_conn}
-use Rattle.lard_law_progress.proofs.AnswersNodeDeeds.{is-here}
+use Rattle.lard_law_progress.proofs.AnswersNodeDeeds.{is-here, left-same}
 use Rattle.lard_law_progress.proofs.AnswersNodeGiven.{NodeGiven}
-use Rattle.lard_law_progress.proofs.AnswersNodeSeats.{both-here}
+use Rattle.lard_law_progress.proofs.Away.{here-row}
 use Rattle.lard_law_progress.proofs.AnswersNodeStill.{left_here, no-message, still, still-seat}
 use Rattle.lard_law_progress.proofs.AnswersNodeUnits.{Unmoved, unmoved}
 use Rattle.lard_law_progress.proofs.Coming.{came-on, read-comes}
 use Rattle.lard_law_progress.proofs.Stays.{IsAlike, read_of}
 use Rattle.lard_law_progress.proofs.Still.{alike-none}
-use Rattle.lard_rules.specs.declared.places.Ending.{Ending}
 use Rattle.lard_rules.specs.declared.places.Ending.TheVariants as ending
-use Rattle.lard_rules.specs.declared.places.Station.{Station}
-use Rattle.lard_rules.specs.declared.places.Turn.{Turn}
-use Rattle.lard_rules.specs.Serving.{Service, cut_off, serving_settled, spoken}
+use Rattle.lard_rules.proofs.NodeCases.{IsHereWith, where-here}
 use Rattle.lard_rules.proofs.Saying.{speaks-done}
 
 -- what is sent as a job is done has no chain, where no unit goes
@@ -80,14 +62,14 @@ module _ (k : Setting) (w : Whole) (x : Conn) where
 
 -- ---- a request of its own
 
-module _ (k : Setting) (w : Whole) (x : Conn) (n epoch r : ℕ) (env : NodeEnv) (path : List ℕ) where
+module _ (k : Setting) (w : Whole) (x : Conn) (n r : ℕ) (env : NodeEnv) (path : List ℕ) (heads : List Seen) where
   abbrev q : NodePart
   q = x.part.nodes n
 
   abbrev does : node.NodeDeed → Move
-  does deed = reads_first (rec.Read n n x.c r path) (node_does x n [] deed)
+  does deed = told_first (rec.Read n n x.c r path ∷ []) (node_does x n heads deed)
 
-  module _ (st : Station) (is : x.part.station ≡ Some st) (b : ControlBlock) (stay : Stay) (has : here env.epoch q ≡ Some (b, stay)) where
+  module _ (st : Station) (is : x.part.station ≡ Some st) (b : ControlBlock) (stay : Stay) (has : IsHereWith env.epoch q b stay) where
     abbrev w0 : Work
     w0 = came_for read_progress r (work_of b stay)
 
@@ -101,12 +83,12 @@ module _ (k : Setting) (w : Whole) (x : Conn) (n epoch r : ℕ) (env : NodeEnv) 
     read-silent : NodeGiven k w x → NodeGiven k w (grown x (does (node.Does (node_rests env q [] turn)))) → left_with w k.nodes x.part st ≤ left_with w k.nodes (with_node x.part n (node_rests env q [] turn).0) st
         → spot_of k.files (with_node x.part n (node_rests env q [] turn).0) st ≡ spot_of k.files x.part st → letters_of (does (node.Does (node_rests env q [] turn))) ≡ []
     read-silent given after up same =
-        let both = both-here q env.epoch b stay has in
-        let at = is-here k w x given n env.epoch b both.0 in
+        let row = here-row env.epoch q b stay has in
+        let at = is-here k w x given n env.epoch b row in
         let stays = still k.files x.part st at.0 n b env at.1 q [] turn same in
         let d = left_here k.files x.part st at.0 n b env at.1 q [] turn in
         let few : read_of turn ≤ w.requests = after.few at.0 n env.epoch d (staying_of (node.kept_after env q turn (ending.Here d turn.service.count))) (still-seat k.files x.part st at.0 n b env at.1 q [] turn stays) in
-        let s-is : s0 ≡ staying_of q = λ i. record { stay = stay_of (sym both.1 i); kept = q.kept; fetches = q.fetches } in
+        let s-is : s0 ≡ staying_of q = λ i. record { stay = stay_of (sym has.stays i); kept = q.kept; fetches = q.fetches } in
         let h = came-on read_progress read-comes r (work_of b stay) in
         let block : w0.service.block ≡ b = ap (λ (z : Service). z.block) h.2 in
         let l : length w0.batch ≡ length stay.batch = h.0 in
@@ -118,7 +100,7 @@ module _ (k : Setting) (w : Whole) (x : Conn) (n epoch r : ℕ) (env : NodeEnv) 
         let un : Unmoved w k.nodes k.files x.part st at.0 n b env at.1 q [] w0 s0 s-is =
         unmoved w k.nodes k.files x.part st at.0 n b env at.1 q [] w0 s0 s-is stays
         (record { shut = ap (λ (z : ControlBlock). z.send.finished) block; stale = omega (arith, stale); read = omega (arith, l, count); costs = omega (arith, c, asked, wants) }) few up in
-        let talk = given.talks st n env.epoch b is both.0 in
+        let talk = given.talks st n env.epoch b is row in
         let alike : IsAlike b turn.service.block = subst (λ (z : ControlBlock). IsAlike z turn.service.block) block un.idle.block in
         let none = alike-none b turn.service.block talk.silent alike in
         let spoke : serving_settled env.serve turn.service ≡ spoken env.serve turn.service [] =
@@ -127,33 +109,17 @@ module _ (k : Setting) (w : Whole) (x : Conn) (n epoch r : ℕ) (env : NodeEnv) 
         let messages : (node_rests env q [] turn).1.messages ≡ [] = no-message k.files x.part st at.0 n b env at.1 q [] turn stays (un.idle.asked ∙ h.4) (un.idle.wants ∙ h.3) in
         λ i. map (letter (Node n)) (segments i) ++ map (letter (Node n)) (messages i)
 
-  unit-parts : (given : NodePart × NodeTurn) (st : Station) → x.part.station ≡ Some st → units w k.nodes x ≤ units w k.nodes (grown x (does (node.Does given))) → left_with w k.nodes x.part st ≤ left_with w k.nodes (with_node x.part n given.0) st
-  unfolding units
-  unit-parts given st is up =
-      let A : Option Station → Type 0 = λ o. left_to_client w k.nodes x.part o ≤ left_to_client w k.nodes (with_node x.part n given.0) o in
-      subst A is up
-
   pub read-works : NodeGiven k w x → NodeGiven k w (grown x (does (node_read env q r))) → Lasts k w x (does (node_read env q r)) → JobOwes k w x (does (node_read env q r))
-  read-works given = go (here env.epoch q) refl where
-    none-sent : (deed : node.NodeDeed) → letters_of (does deed) ≡ [] → Every (λ a. chain_at k.files (grown x (does deed)) a < 1) (letters_of (does deed))
-    none-sent deed none = subst (λ (ls : List Letter). Every (λ a. chain_at k.files (grown x (does deed)) a < 1) ls) (sym none) tt
-
-    opened : (deed : node.NodeDeed) (o : Option Station) → x.part.station ≡ o → (does deed).part.station ≡ o → ((st : Station) → o ≡ Some st → letters_of (does deed) ≡ []) → Every (λ a. chain_at k.files (grown x (does deed)) a < 1) (letters_of (does deed))
-    opened deed (Some st) is now h = none-sent deed (h st refl)
-    opened deed None is now h =
-        let C : Option Station → Type 0 = λ o. Every (λ a. chain_on (spot_with k.files (grown x (does deed)) o) x.c a < 1) (letters_of (does deed)) in
-        subst C (sym now) (all (letters_of (does deed)))
-      where
-        all : (ls : List Letter) → Every (λ a. chain_on None x.c a < 1) ls
-        all [] = tt
-        all (l ∷ ls) = (omega arith, all ls)
-
-    go : (o : Option (ControlBlock × Stay)) → here env.epoch q ≡ o → NodeGiven k w (grown x (does (node_read_by env r q o))) → Lasts k w x (does (node_read_by env r q o)) → JobOwes k w x (does (node_read_by env r q o))
-    go None is after lasts up = tt
-    go (Some (b, stay)) is after lasts up = opened (node_read_by env r q (Some (b, stay))) x.part.station refl refl (λ st at.
-        let given_turn = node_rests env q [] (goes_on env (came_for read_progress r (work_of b stay))) in
-        let later : spot_with k.files (grown x (does (node.Does given_turn))) x.part.station ≡ spot_with k.files x x.part.station = lasts.steady up in
-        let both : Some (spot_of k.files (with_node x.part n given_turn.0) st) ≡ Some (spot_of k.files x.part st) =
-        sym (ap (spot_with k.files (grown x (does (node.Does given_turn)))) at) ∙ later ∙ ap (spot_with k.files x) at in
-        let same : spot_of k.files (with_node x.part n given_turn.0) st ≡ spot_of k.files x.part st = cc in
-        read-silent st at b stay is given after (unit-parts given_turn st at up) same)
+  read-works given = where-here env.epoch q (λ o. NodeGiven k w (grown x (does (node_read_by env r q o))) → Lasts k w x (does (node_read_by env r q o))
+      → JobOwes k w x (does (node_read_by env r q o)))
+      (λ after lasts up. tt)
+      (λ b stay has after lasts up.
+      let st = given.held n env.epoch b (here-row env.epoch q b stay has) in
+      let turn = node_rests env q [] (goes_on env (came_for read_progress r (work_of b stay))) in
+      let v = does (node.Does turn) in
+      let later : spot_with k.files (grown x v) x.part.station ≡ spot_with k.files x x.part.station = lasts.steady up in
+      let both : Some (spot_of k.files (with_node x.part n turn.0) st.0) ≡ Some (spot_of k.files x.part st.0) = sym (ap (spot_with k.files (grown x v)) st.1)
+      ∙ later ∙ ap (spot_with k.files x) st.1 in
+      let same : spot_of k.files (with_node x.part n turn.0) st.0 ≡ spot_of k.files x.part st.0 = cc in
+      subst (λ (ls : List Letter). Every (λ a. chain_at k.files (grown x v) a < 1) ls)
+      (sym (read-silent st.0 st.1 b stay has given after (left-same k w x v st.0 st.1 st.1 up) same)) tt)

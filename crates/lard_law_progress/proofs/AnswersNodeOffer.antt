@@ -1,49 +1,31 @@
 -- What comes of an Offer: one that is new is a unit, and one that was decided is answered by Taken again.
-use Rattle.std.proofs.Common.{◌≡◌, ◌≤◌, ◌==◌, ◌⊎◌, nat_lt, ◌&&◌, ℕ, suc, Bool, true, false, cond, List, Option, Some, None, inl, inr, refl, sym, ap, ◌∙◌, subst, arith}
+use Rattle.std.proofs.Common.{◌≡◌, ◌≤◌, ◌==◌, ◌⊎◌, nat_lt, ◌&&◌, ℕ, suc, Bool, true, false, cond, List, Some, None, inl, inr, refl, sym, ap, ◌∙◌, subst, arith}
 use Rattle.std.proofs.lemmas.Bool.{cond-true}
 use Rattle.std.proofs.lemmas.Bool.Decides.{nat_tests}
-use Rattle.lard_answers.specs.Answers.{FilesAt}
-use Rattle.lard_base.specs.declared.parts.EndpointParts.{EndpointParts}
-use Rattle.lard_base.specs.declared.place.Place.{Place}
-use Rattle.lard_base.specs.declared.place.Place.TheVariants.{Front, Node}
+use Rattle.lard_law_view.specs.Prelude.{Adopt, BackRow, Conn, ControlBlock, Ending, EndpointParts, FilesAt, Front, FrontRow, IsMessage, IsNodeEnv, Letter, Message, Node, NodeEnv, NodePart, Part, Place, Setting, SpellsMessage, Station, Was, Work, front_rest, is_gone, kept_after, node_offered, node_rests, offer_answer, offered_by, serving_settled, speaks, taken_sent, with_node}
 use Rattle.lard_bound.specs.Chains.{chain, front_chain, of_message}
 use Rattle.lard_bound.specs.Nears.{IsUnaware, Near, NearOffer, NearTaken, NearTold, OfMessage}
 use Rattle.lard_bound.specs.Progress.{IsFetch}
-use Rattle.lard_bound.specs.Seats.{Gone, Held, Here, Offered, Over, SeatNow, Unborn, Waiting, seat_decided, seat_of}
+use Rattle.lard_bound.specs.Seats.{Gone, Here, Offered, Over, SeatNow, seat_of}
 use Rattle.lard_bound.specs.Spots.{AtNode, Left, OnOffer, Post, Spot, awaits_of, ends_of, post_of, spot_of}
 use Rattle.lard_bound.specs.Seats as seats
 use Rattle.lard_bound.specs.Units.{Whole}
-use Rattle.lard_law_view.specs.View.{Conn, IsNodeEnv, Part, Setting, SpellsMessage, Was, with_node}
-use Rattle.lard_endpoint.specs.Control.{ControlBlock}
-use Rattle.lard_rules.specs.Front.{front_rest}
 use Rattle.lard_handoff_back.specs.declared.row.BackConn.TheVariants as back
-use Rattle.lard_handoff_back.specs.declared.row.BackRow.{BackRow}
-use Rattle.lard_handoff_back.specs.declared.table.Adopt.{Adopt}
 use Rattle.lard_handoff_back.specs.declared.table.Adopt.TheVariants as adopt
-use Rattle.lard_handoff_back.specs.Back.{offer_answer}
-use Rattle.lard_handoff_back.specs.Row.{is_gone}
 use Rattle.lard_handoff_front.specs.declared.row.FrontConn.TheVariants as stage
-use Rattle.lard_handoff_front.specs.declared.row.FrontRow.{FrontRow}
-use Rattle.lard_history.specs.Own.{Letter}
 use Rattle.lard_message.specs.declared.message.Body.TheVariants as body
-use Rattle.lard_message.specs.declared.message.Message.{Message}
-use Rattle.lard_message.specs.Message.{IsMessage}
 use Rattle.lard_message.proofs.Whole.{spelled_so}
-use Rattle.lard_rules.specs.Node.{NodePart, kept_after, message, node_offered, offered_by, node_rests, taken_sent}
+use Rattle.lard_rules.specs.Node.{message}
 use Rattle.lard_rules.specs.Node as node
-use Rattle.lard_rules.specs.Stay.{NodeEnv, Work}
 use Rattle.lard_law_progress.proofs.AnswersMessages.{of_conn, taken-chain, taken-may, taken-near, taken_letter}
 use Rattle.lard_law_progress.proofs.AnswersNodeDeeds.{OwesBy, does-owes, drops-owes, says-owes}
 use Rattle.lard_law_progress.proofs.AnswersNodeGiven.{NodeGiven}
 use Rattle.lard_law_progress.proofs.AnswersNodeSeats.{Sits, seat-sits}
 use Rattle.lard_law_progress.proofs.AnswersNodeStill.{post-is}
 use Rattle.lard_law_progress.proofs.Away.{IsWith, away-ended, away-here, by-ending, seat-put, seat-with}
+use Rattle.lard_law_progress.proofs.NodeMessages.{new-row}
 use Rattle.lard_law_progress.proofs.NodeRules.{taking}
-use Rattle.lard_rules.specs.declared.places.Ending.{Ending}
 use Rattle.lard_rules.specs.declared.places.Ending.TheVariants as ending
-use Rattle.lard_rules.specs.declared.places.Station.{Station}
-use Rattle.lard_rules.specs.Serving.{serving_settled}
-use Rattle.lard_rules.specs.Speaking.{speaks}
 
 -- ---- what an Offer that is near is answered by
 
@@ -82,19 +64,9 @@ module _ (files : FilesAt) (p : Part) (st : Station) (n e : ℕ) (fresh : (n e c
     go (Offered m f count) is sits h =
         let none : (p.nodes n).row ≡ None = subst (λ (i : ℕ). (p.nodes i).row ≡ None) h.0 (fresh m f count is) in
         inl (ap (offer_answer e) none)
-    go Unborn is sits h = absurd h
-    go (Held b count) is sits h = absurd h
-    go (Waiting b count) is sits h = absurd h
-    go (Over last) is sits h = absurd h
+    go _ is sits h = absurd h
 
 -- ---- one that is new
-
-new-open : (told : Bool) (n e count : ℕ) (q : NodePart) (o : Option BackRow) → offer_answer e o ≡ adopt.New → seat_decided told n e count q o ≡ Offered n e count
-new-open told n e count q None is = refl
-new-open told n e count q (Some row) is = go (row.epoch.0 == e) is where
-  go : (t : Bool) → cond t adopt.Again (cond (nat_lt row.epoch.0 e && is_gone row.stage) adopt.New adopt.Stale) ≡ adopt.New → cond t (seats.seat_there told n e count q row.stage) (Offered n e count) ≡ Offered n e count
-  go true f = absurd (let bad : adopt.Again ≡ adopt.New = f in cc)
-  go false f = refl
 
 module _ (files : FilesAt) (p : Part) (st : Station) (n : ℕ) (env : NodeEnv) (row : FrontRow) (front : p.front.row ≡ Some row) (with_ : IsWith false n env.epoch row.stage)
     (is_new : offer_answer env.epoch (p.nodes n).row ≡ adopt.New) (before : List (Place × List ℕ)) (w : Work) where
@@ -108,7 +80,7 @@ module _ (files : FilesAt) (p : Part) (st : Station) (n : ℕ) (env : NodeEnv) (
   put o = with_node p n (kept_after env q w o)
 
   was : post_of files st.client (seat_of p) ≡ OnOffer n env.epoch
-  was = ap (post_of files st.client) (seat-with p n env.epoch false row front with_ ∙ new-open false n env.epoch at q q.row is_new)
+  was = ap (post_of files st.client) (seat-with p n env.epoch false row front with_ ∙ (new-row n env.epoch at q q.row is_new).0)
 
   -- then it is somewhere else
   pub new-moves : spot_of files (with_node p n (node_rests env q before w).0) st ≡ spot_of files p st → ⊥

@@ -1,27 +1,23 @@
 -- What the rules of a node owe of the packets that come to it; and what its jobs send.
-use Rattle.std.proofs.Common.{◌≡◌, ℕ, List, [], ◌∷◌, Some, sym, ap, subst, inr, arith}
+use Rattle.std.proofs.Common.{◌≡◌, ℕ, List, [], ◌∷◌, None, Some, refl, sym, ap, ◌∙◌, subst, inr, arith}
 use Rattle.lard_base.specs.declared.event.Event.TheVariants as event
-use Rattle.lard_base.specs.declared.place.Place.TheVariants.{Node}
+use Rattle.lard_law_view.specs.Prelude.{Conn, IsMessage, Letter, Message, Node, NodeRules, Rec, Seen, Setting, SpellsMessage, Was, content_bytes, content_said, event_seen, node_does, node_read, node_timer, nothing_said, packet_seen, stands}
 use Rattle.lard_bound.specs.Chains.{aside_chain, chain, of_message}
+use Rattle.lard_bound.specs.Progress.{Answers, IfCame, came_in}
 use Rattle.lard_bound.specs.Spots.{spot_of}
 use Rattle.lard_bound.specs.Units.{Whole}
-use Rattle.lard_law_view.specs.View.{Conn, NodeRules, Setting, SpellsMessage, Was, content_said, event_seen, node_does, nothing_said, packet_seen, reads_first, stands}
-use Rattle.lard_history.specs.Own.{Letter}
+use Rattle.lard_law_view.proofs.EachNode.{told_first}
 use Rattle.lard_journal.specs.declared.rec.Rec.TheVariants as rec
 use Rattle.lard_message.specs.declared.message.Body.TheVariants as body
-use Rattle.lard_message.specs.declared.message.Message.{Message}
-use Rattle.lard_message.specs.Message.{IsMessage}
 use Rattle.lard_message.proofs.Whole.{spelled_so}
 use Rattle.lard_rules.specs.Node as node
-use Rattle.lard_rules.specs.Node.{node_acknowledged, node_content, node_forwarded, node_offered, node_read, node_tagged, node_timer}
-use Rattle.lard_rules.specs.NodePlace.{content_bytes}
-use Rattle.lard_rules.specs.Stay.{NodeEnv}
 use Rattle.lard_law_progress.proofs.AnswersForm.{Owes, answers-by}
 use Rattle.lard_law_progress.proofs.AnswersMessages.{content-chain, content-may, content_letter, of_conn}
 use Rattle.lard_law_progress.proofs.AnswersNodeComing.{acknowledged-owes, content-owes, tagged-owes}
 use Rattle.lard_law_progress.proofs.AnswersNodeForward.{forwarded-owes}
 use Rattle.lard_law_progress.proofs.AnswersNodeGiven.{NodeGiven}
 use Rattle.lard_law_progress.proofs.AnswersNodeOffer.{offered-owes}
+use Rattle.lard_law_progress.proofs.Lasting.{node-heads}
 
 -- ---- a Fetch
 
@@ -57,29 +53,20 @@ module _ (k : Setting) (w : Whole) (x : Conn) (n from epoch r : ℕ) (path file 
 
 -- ---- all of them
 
-pub node-answers : (k : Setting) (w : Whole) → NodeRules k (Owes k w (NodeGiven k w))
-node-answers k w = record {
-  offered = λ x n epoch env parts bytes of spells was. offered-owes k w x n epoch env of parts bytes spells was;
-  forwarded = λ x n epoch env segment bytes of spells was. forwarded-owes k w x n epoch env of segment bytes spells was;
-  tagged = λ x n epoch number nodes env bytes of spells was. tagged-owes k w x n epoch env of number nodes bytes spells was;
-  content = λ x n from epoch r env file bytes of spells was. content-owes k w x n epoch env of from r file bytes spells was;
-  acknowledged = λ x n epoch env bytes of spells was. acknowledged-owes k w x n epoch env of bytes spells was;
-  read = λ x n epoch r env path of. no-packet-read x n epoch r env path;
-  fires = λ x s n env is of. no-packet-fires x n env;
-  answers = λ x n from epoch r path file bytes is spells was. answers-owes k w x n from epoch r path file bytes is spells was;
-  queues = λ x n from epoch r path file bytes is spells was. queues-owes k w x n from epoch r path file bytes is spells was;
+pub node-answers : (k : Setting) (all : ℕ → Whole) → NodeRules k (λ x v. Owes k (all x.c) (NodeGiven k (all x.c)) x v)
+node-answers k all = record {
+  offered = λ x n epoch env parts bytes of spells was. offered-owes k (all x.c) x n epoch env of parts bytes spells was;
+  forwarded = λ x n epoch env segment bytes of spells was. forwarded-owes k (all x.c) x n epoch env of segment bytes spells was;
+  tagged = λ x n epoch number nodes env bytes of spells was. tagged-owes k (all x.c) x n epoch env of number nodes bytes spells was;
+  content = λ x n from epoch r env file bytes of spells was. content-owes k (all x.c) x n epoch env of from r file bytes spells was;
+  acknowledged = λ x n epoch env bytes of spells was. acknowledged-owes k (all x.c) x n epoch env of bytes spells was;
+  read = λ x n epoch r env path of. no-packet x n (rec.Read n n x.c r path ∷ []) [] refl (node_read env (x.part.nodes n) r);
+  fires = λ x s n env is of. no-packet x n [] (event_seen (event.Timer (Node n) x.c)) refl (node_timer env (x.part.nodes n));
+  answers = λ x n from epoch r path file bytes is spells was. answers-owes k (all x.c) x n from epoch r path file bytes is spells was;
+  queues = λ x n from epoch r path file bytes is spells was. queues-owes k (all x.c) x n from epoch r path file bytes is spells was;
   brings = λ x n from epoch r path may after warm late lasts. tt;
 } where
-  no-packet-read : (x : Conn) (n epoch r : ℕ) (env : NodeEnv) (path : List ℕ) → Owes k w (NodeGiven k w) x (reads_first (rec.Read n n x.c r path) (node_does x n [] (node_read env (x.part.nodes n) r)))
-  no-packet-read x n epoch r env path = go (node_read env (x.part.nodes n) r) where
-    go : (deed : node.NodeDeed) → Owes k w (NodeGiven k w) x (reads_first (rec.Read n n x.c r path) (node_does x n [] deed))
-    go node.Drops may after warm late lasts = tt
-    go (node.Says messages) may after warm late lasts = tt
-    go (node.Does given) may after warm late lasts = tt
-
-  no-packet-fires : (x : Conn) (n : ℕ) (env : NodeEnv) → Owes k w (NodeGiven k w) x (node_does x n (event_seen (event.Timer (Node n) x.c)) (node_timer env (x.part.nodes n)))
-  no-packet-fires x n env = go (node_timer env (x.part.nodes n)) where
-    go : (deed : node.NodeDeed) → Owes k w (NodeGiven k w) x (node_does x n (event_seen (event.Timer (Node n) x.c)) deed)
-    go node.Drops may after warm late lasts = tt
-    go (node.Says messages) may after warm late lasts = tt
-    go (node.Does given) may after warm late lasts = tt
+  no-packet : (x : Conn) (n : ℕ) (rs : List Rec) (heads : List Seen) → came_in heads ≡ None → (deed : node.NodeDeed)
+      → Owes k (all x.c) (NodeGiven k (all x.c)) x (told_first rs (node_does x n heads deed))
+  no-packet x n rs heads none deed may after warm late lasts = subst (IfCame (Answers k (all x.c) x (told_first rs (node_does x n heads deed))))
+      (sym (ap came_in (node-heads x n heads deed) ∙ none)) tt

@@ -3,19 +3,9 @@ use Rattle.std.proofs.Common.{◌≡◌, ◌==◌, ◌⊎◌, ℕ, Bool, true, f
 use Rattle.std.proofs.lemmas.Bool.{cond-true, eqb-true}
 use Rattle.std.proofs.lemmas.Bool.Decides.{nat_tests}
 use Rattle.lard_bound.specs.Seats.{Gone, Here, Offered, SeatNow, seat_by, seat_decided, seat_in, seat_of, seat_there, staying_of}
-use Rattle.lard_law_view.specs.View.{Part}
-use Rattle.lard_endpoint.specs.Control.{ControlBlock}
-use Rattle.lard_rules.specs.Front.{front_rest}
-use Rattle.lard_handoff_back.specs.declared.row.BackConn.{BackConn}
+use Rattle.lard_law_view.specs.Prelude.{BackConn, BackRow, ControlBlock, FrontConn, FrontRow, NodePart, Part, Stay, both_of, front_rest, here, staying}
 use Rattle.lard_handoff_back.specs.declared.row.BackConn.TheVariants as back
-use Rattle.lard_handoff_back.specs.declared.row.BackRow.{BackRow}
-use Rattle.lard_handoff_back.specs.Back.{staying}
-use Rattle.lard_handoff_back.specs.Row.{back_held}
-use Rattle.lard_handoff_front.specs.declared.row.FrontConn.{FrontConn}
 use Rattle.lard_handoff_front.specs.declared.row.FrontConn.TheVariants as stage
-use Rattle.lard_handoff_front.specs.declared.row.FrontRow.{FrontRow}
-use Rattle.lard_rules.specs.declared.stay.Stay.{Stay}
-use Rattle.lard_rules.specs.Node.{NodePart, both_of, here}
 use Rattle.lard_law_progress.proofs.Away.{IsWith, away-here, seat-with}
 
 -- node n has the connection in epoch e, and the front end is with it
@@ -87,30 +77,3 @@ pub here-both : (q : NodePart) (e : ℕ) (b : ControlBlock) (s : Stay) → q.row
 here-both q e b s row stay =
     let one : staying e q.row ≡ Some b = ap (staying e) row ∙ cond-true (e == e) (Some b) None (self e) in
     ap (λ (o : Option ControlBlock). both_of o q.stay) one ∙ ap (both_of (Some b)) stay
-
--- and the other way round
-abbrev pub Both : NodePart → ℕ → ControlBlock → Stay → Type 0
-Both q e b s = (q.row ≡ Some (record { stage = back.Here b; epoch = record { 0 = e } })) × (q.stay ≡ Some s)
-
-pub both-here : (q : NodePart) (e : ℕ) (b : ControlBlock) (s : Stay) → here e q ≡ Some (b, s) → Both q e b s
-both-here q e b s is = by-row q.row refl is where
-  by-stay : (row : BackRow) (d : ControlBlock) → q.row ≡ Some row → row.epoch.0 ≡ e → row.stage ≡ back.Here d → (o : Option Stay) → q.stay ≡ o → both_of (Some d) o ≡ Some (b, s) → Both q e b s
-  by-stay row d r same g None h f = absurd (let bad : None ≡ Some (b, s) = f in cc)
-  by-stay row d r same g (Some u) h f =
-      let one : d ≡ b = ap (λ (o : Option (ControlBlock × Stay)). elim o [ None ↦ d | Some z ↦ z.0 ]) f in
-      let two : u ≡ s = ap (λ (o : Option (ControlBlock × Stay)). elim o [ None ↦ u | Some z ↦ z.1 ]) f in
-      (r ∙ (λ i. Some (record { stage = (g ∙ ap back.Here one) i; epoch = record { 0 = same i } })), h ∙ ap (λ (z : Stay). Some z) two)
-
-  by-stage : (row : BackRow) → q.row ≡ Some row → row.epoch.0 ≡ e → (z : BackConn) → row.stage ≡ z → both_of (back_held z) q.stay ≡ Some (b, s) → Both q e b s
-  by-stage row r same (back.Here d) g f = by-stay row d r same g q.stay refl f
-  by-stage row r same back.Out g f = absurd (let bad : None ≡ Some (b, s) = f in cc)
-  by-stage row r same back.Ended g f = absurd (let bad : None ≡ Some (b, s) = f in cc)
-  by-stage row r same back.Gone g f = absurd (let bad : None ≡ Some (b, s) = f in cc)
-
-  by-epoch : (row : BackRow) → q.row ≡ Some row → (t : Bool) → (row.epoch.0 == e) ≡ t → both_of (cond t (back_held row.stage) None) q.stay ≡ Some (b, s) → Both q e b s
-  by-epoch row r true same f = by-stage row r (eqb-true row.epoch.0 e same) row.stage refl f
-  by-epoch row r false same f = absurd (let bad : None ≡ Some (b, s) = f in cc)
-
-  by-row : (o : Option BackRow) → q.row ≡ o → both_of (staying e o) q.stay ≡ Some (b, s) → Both q e b s
-  by-row None r f = absurd (let bad : None ≡ Some (b, s) = f in cc)
-  by-row (Some row) r f = by-epoch row r (row.epoch.0 == e) refl f

@@ -3,32 +3,15 @@
 use Rattle.std.proofs.Common.{◌≡◌, ◌<◌, ◌≤◌, ◌+◌, ℕ, Bool, true, List, [], ◌++◌, length, is_some, Option, Some, None, ⊎_elim, refl, sym, ap, ◌∙◌, arith}
 use Rattle.std.specs.List.{find}
 use Rattle.std.proofs.lemmas.List.{append-nil}
-use Rattle.lard_answers.specs.Answers.{FilesAt}
-use Rattle.lard_base.specs.declared.place.Place.{Place}
+use Rattle.lard_law_view.specs.Prelude.{Asked, ClientBlock, ControlBlock, Ending, FilesAt, Final, Kept, NodeEnv, NodePart, Part, Place, Station, Stay, Want, Work, asked_kept, asked_sent, came_for, come_progress, ended_sent, front_rest, goes_on, is_under, kept_after, node_rests, serving_settled, speaks, tagged, wants_kept, wants_sent, with_node, without, work_of}
 use Rattle.lard_base.specs.declared.place.TimerKind.TheVariants as kind
 use Rattle.lard_bound.specs.Seats.{Here, seat_of, stay_of, staying_of}
 use Rattle.lard_bound.specs.Spots.{AtNode, Awaits, EndpointSymbols, Left, Post, Spot, awaits_of, ends_of, post_of, spot_of}
-use Rattle.lard_client.specs.Control.{ClientBlock}
-use Rattle.lard_law_view.specs.View.{Part, with_node}
-use Rattle.lard_endpoint.specs.Control.{ControlBlock}
-use Rattle.lard_endpoint.specs.declared.control.moving.Final.{Final}
-use Rattle.lard_rules.specs.Front.{front_rest}
-use Rattle.lard_rules.specs.declared.stay.Asked.{Asked}
-use Rattle.lard_rules.specs.declared.stay.Stay.{Stay}
-use Rattle.lard_rules.specs.declared.stay.Want.{Want}
-use Rattle.lard_rules.specs.Node.{NodePart, asked_kept, asked_sent, ended_sent, kept_after, node_rests, wants_kept, wants_sent, work_of}
-use Rattle.lard_rules.specs.Stay.{NodeEnv, Work, came_for, come_progress, goes_on, tagged}
 use Rattle.lard_law_progress.proofs.AnswersNodeAsks.{Asks, goes-asks}
 use Rattle.lard_law_progress.proofs.AnswersNodeSeats.{IsHere, here-seat}
 use Rattle.lard_law_progress.proofs.Away.{away-ended, away-here, by-ending, seat-put}
 use Rattle.lard_law_progress.proofs.Coming.{came-on, content-comes, tagged-on, without-fewer}
-use Rattle.lard_resend.specs.declared.kept.Kept.{Kept}
-use Rattle.lard_resend.specs.Kept.{is_under, without}
-use Rattle.lard_rules.specs.declared.places.Ending.{Ending}
 use Rattle.lard_rules.specs.declared.places.Ending.TheVariants as ending
-use Rattle.lard_rules.specs.declared.places.Station.{Station}
-use Rattle.lard_rules.specs.Serving.{serving_settled}
-use Rattle.lard_rules.specs.Speaking.{speaks}
 
 -- what a post has of a node's stay
 abbrev pub ends_or : EndpointSymbols → Post → EndpointSymbols

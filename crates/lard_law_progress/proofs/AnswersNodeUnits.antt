@@ -2,18 +2,10 @@
 -- is as old as before. So the stay went on by nothing.
 use Rattle.std.proofs.lemmas.Bool.{cases_lt}
 use Rattle.std.proofs.Common.{◌≡◌, ◌<◌, ◌≤◌, ◌⊎◌, ◌+◌, ◌*◌, ◌==◌, ℕ, Bool, true, false, cond, List, is_some, Option, ⊎_elim, refl, sym, ap, ◌∙◌, arith}
-use Rattle.lard_answers.specs.Answers.{FilesAt}
-use Rattle.lard_base.specs.declared.place.Place.{Place}
+use Rattle.lard_law_view.specs.Prelude.{BackRow, ClientBlock, ControlBlock, FilesAt, NodeEnv, NodePart, Part, Place, Station, Work, front_rest, goes_on, kept_after, node_rests, with_node}
 use Rattle.lard_bound.specs.Seats.{Here, SeatNow, Staying, seat_of, staying_of, tells_end}
 use Rattle.lard_bound.specs.Spots.{EndpointSymbols}
 use Rattle.lard_bound.specs.Units.{Whole, client_left, heard_left, is_stale, left_with, one_if_not, requests_left, seat_left, tellers}
-use Rattle.lard_client.specs.Control.{ClientBlock}
-use Rattle.lard_law_view.specs.View.{Part, with_node}
-use Rattle.lard_endpoint.specs.Control.{ControlBlock}
-use Rattle.lard_rules.specs.Front.{front_rest}
-use Rattle.lard_handoff_back.specs.declared.row.BackRow.{BackRow}
-use Rattle.lard_rules.specs.Node.{NodePart, kept_after, node_rests}
-use Rattle.lard_rules.specs.Stay.{NodeEnv, Work, goes_on}
 use Rattle.lard_law_progress.proofs.AnswersNodeSeats.{IsHere, here-seat}
 use Rattle.lard_law_progress.proofs.AnswersNodeStill.{Still, left_here}
 use Rattle.lard_law_progress.proofs.Away.{away-here, not-less, not-same, seat-put, stay-less, stay-same, tellers-same, tells}
@@ -21,7 +13,6 @@ use Rattle.lard_law_progress.proofs.Ends.{IsSaid, speaks-said}
 use Rattle.lard_law_progress.proofs.Stays.{Cheaper, Finishes, Idle, cost, goes-onward, read_of}
 use Rattle.lard_law_progress.proofs.Turns.{Falls, cost_in, read_in}
 use Rattle.lard_rules.specs.declared.places.Ending.TheVariants as ending
-use Rattle.lard_rules.specs.declared.places.Station.{Station}
 
 module _ (k : Whole) (K : ℕ) (files : FilesAt) (p : Part) (st : Station) (told : Bool) (n : ℕ) (b : ControlBlock) (env : NodeEnv) (h : IsHere p told n env.epoch b)
     (pp : NodePart) (before : List (Place × List ℕ)) (w0 : Work) (s : Staying) (s_is : s ≡ staying_of (p.nodes n)) where

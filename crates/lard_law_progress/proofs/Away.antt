@@ -1,42 +1,21 @@
 -- A connection whose stay goes on, or ends, at the node that has it: nothing that is left to do on it comes back.
-use Rattle.std.proofs.Common.{◌≡◌, ◌⊎◌, ◌<◌, ◌≤◌, ◌+◌, ◌-◌, ◌*◌, ◌==◌, ℕ, zero, suc, Bool, true, false, cond, List, [], length, is_some, Option, Some, None, ⊎_elim, refl, sym, ap, ◌∙◌, subst, arith}
+use Rattle.std.proofs.Common.{◌≡◌, ◌⊎◌, ◌<◌, ◌≤◌, ◌+◌, ◌-◌, ◌*◌, ◌==◌, ℕ, zero, suc, Bool, true, false, cond, List, length, is_some, Option, Some, None, ⊎_elim, refl, sym, ap, ◌∙◌, subst, arith}
 use Rattle.std.proofs.lemmas.Bool.{cond_both, cond-true, eqb-true}
 use Rattle.std.proofs.lemmas.Bool.Decides.{nat_tests}
-use Rattle.lard_answers.specs.Answers.{FilesAt}
-use Rattle.lard_base.specs.declared.place.Place.{Place}
+use Rattle.lard_law_view.specs.Prelude.{BackRow, ClientBlock, ControlBlock, Ending, FilesAt, Final, FrontConn, FrontRow, Kept, NodeEnv, NodePart, Part, Phase, Place, ServeEnv, Service, Station, Stay, Work, asked_kept, awaited, front_rest, kept_after, named_paths, node_put_back, node_rests, one_if, serving_settled, speaks, symbols, wants_kept, with_node}
 use Rattle.lard_bound.specs.Seats.{Gone, Here, Offered, SeatNow, Staying, seat_away, seat_by, seat_decided, seat_in, seat_of, staying_of, tells_end}
 use Rattle.lard_bound.specs.Spots.{AtNode, number_awaited, ends_of, post_of, spot_of}
 use Rattle.lard_bound.specs.Units.{Whole, block_left, client_left, ended_left, heard_left, is_stale, left_with, one_if_not, requests_left, seat_left, stay_left, symbols_taken, tellers}
-use Rattle.lard_client.specs.Control.{ClientBlock}
-use Rattle.lard_client.specs.declared.phase.Phase.{Phase}
 use Rattle.lard_client.specs.declared.phase.Phase.TheVariants as phase
-use Rattle.lard_law_view.specs.View.{Part, node_put_back, with_node}
-use Rattle.lard_endpoint.specs.Control.{ControlBlock}
-use Rattle.lard_base.specs.declared.place.Reason.TheVariants.{Limit}
-use Rattle.lard_endpoint.specs.declared.control.moving.Final.{Final}
-use Rattle.lard_endpoint.specs.Moving.{end_reason, final_of, may_end}
-use Rattle.lard_rules.specs.Front.{front_rest}
 use Rattle.lard_handoff_back.specs.declared.row.BackConn.TheVariants as back
-use Rattle.lard_handoff_back.specs.declared.row.BackRow.{BackRow}
-use Rattle.lard_handoff_front.specs.declared.row.FrontConn.{FrontConn}
 use Rattle.lard_handoff_front.specs.declared.row.FrontConn.TheVariants as stage
-use Rattle.lard_handoff_front.specs.declared.row.FrontRow.{FrontRow}
-use Rattle.lard_rules.specs.Node.{NodePart, asked_kept, kept_after, node_rests, wants_kept}
-use Rattle.lard_rules.specs.Stay.{NodeEnv, Work, named_paths}
 use Rattle.lard_law_progress.proofs.Ends.{IsSaid, speaks-said}
 use Rattle.lard_law_progress.proofs.Less.{Lasting}
 use Rattle.lard_law_progress.proofs.Stays.{cost, read_of}
 use Rattle.lard_law_progress.proofs.Turns.{Falls, Rests, Works, awaited-same, cost_in, read_in}
-use Rattle.lard_recv.specs.Recv.{awaited}
-use Rattle.lard_resend.specs.declared.kept.Kept.{Kept}
-use Rattle.lard_rules.specs.declared.places.Ending.{Ending}
 use Rattle.lard_rules.specs.declared.places.Ending.TheVariants as ending
-use Rattle.lard_rules.specs.declared.places.Station.{Station}
-use Rattle.lard_rules.specs.declared.places.Turn.{Turn}
-use Rattle.lard_rules.specs.Serving.{ServeEnv, Service, cut_off, serving_settled, spoken}
-use Rattle.lard_rules.specs.Speaking.{speaks, speaks_symbols}
-use Rattle.lard_send.specs.Send.{symbols}
-use Rattle.lard_seq.specs.Seq.{one_if}
+use Rattle.lard_rules.proofs.NodeCases.{IsHereWith}
+use Rattle.lard_rules.proofs.Endings.{rested-keeps, settled-keeps}
 
 self : (n : ℕ) → (n == n) ≡ true
 self n = grind (arith, nat_tests)
@@ -65,6 +44,11 @@ away-here told n e count q b is = ap (seat_decided told n e count q) is ∙ cond
 
 pub away-ended : (told : Bool) (n e count : ℕ) (q : NodePart) → q.row ≡ Some (record { stage = back.Ended; epoch = record { 0 = e } }) → seat_away told n e count q ≡ Gone told n e
 away-ended told n e count q is = ap (seat_decided told n e count q) is ∙ cond-true (e == e) (Gone told n e) (Offered n e count) (self e)
+
+-- the row of a connection that a rule finds here
+pub here-row : (e : ℕ) (q : NodePart) (b : ControlBlock) (s : Stay) → IsHereWith e q b s
+    → q.row ≡ Some (record { stage = back.Here b; epoch = record { 0 = e } })
+here-row e q b s at = at.found ∙ λ i. Some (record { stage = at.staged i; epoch = record { 0 = at.epoch_is i } })
 
 -- ---- who tells an end
 
@@ -101,12 +85,7 @@ tellers-same nodes n q e (suc m) = go (suc m == n) refl (tellers-same nodes n q 
 
 -- the endpoint said what it may and is still here, or it ended
 pub by-ending : (env : ServeEnv) (w : Service) (P : Ending → Type 0) → (w.over ≡ None → P (ending.Here (speaks env.c w.block).1 w.count)) → ((last : Final) → P (ending.Over last)) → P (serving_settled env w).0
-by-ending env w P here over = go w.over refl where
-  go : (o : Option ℕ) → w.over ≡ o → P (elim o as (λ t. Ending × Turn) [ None ↦ spoken env w [] | Some total ↦ cut_off env w ]).0
-  go None e =
-      let d = (speaks env.c w.block).1 in
-      cond_both (may_end d) (ending.Over (final_of d (end_reason d))) (ending.Here d w.count) P (λ t. over (final_of d (end_reason d))) (λ t. here e)
-  go (Some total) e = over (final_of (speaks_symbols env.c w.block).1 Limit)
+by-ending env w P here over = settled-keeps (λ given. P given.0) env w (λ e. rested-keeps P (speaks env.c w.block).1 w.count (λ t. over _) (λ t. here e)) (λ total e. over _)
 
 pub not-less : (a b : Bool) → (a ≡ true → b ≡ true) → one_if_not b ≤ one_if_not a
 not-less true true on = omega arith

@@ -1,29 +1,18 @@
 -- A client hears and says: nothing that is left to do on its connection comes back.
-use Rattle.std.proofs.Common.{◌≡◌, ◌⊎◌, ◌≤◌, ◌+◌, ◌-◌, ◌==◌, ◌&&◌, ◌||◌, nat_lt, not, ℕ, Bool, true, false, cond, drop, length, max, Option, Some, None, inl, inr, refl, sym, ap, ◌∙◌, arith}
-use Rattle.std.proofs.lemmas.Bool.{cond_both}
+use Rattle.std.proofs.Common.{Bool, ap, arith, cond, false, inl, inr, refl, subst, sym, true, ℕ, ◌+◌, ◌-◌, ◌==◌, ◌∙◌, ◌≡◌, ◌≤◌, ◌⊎◌}
 use Rattle.std.proofs.lemmas.Bool.Decides.{nat_tests}
-use Rattle.lard_answers.specs.Answers.{FilesAt}
-use Rattle.lard_arrival.specs.Arrival.{bare, is_acceptable, is_allowed}
+use Rattle.lard_law_view.specs.Prelude.{ClientBlock, FilesAt, Part, Phase, Said, Sending, Station, after_next, after_resend, client_after_emit, client_after_timer, client_arrived, client_speaks, client_told, one_if, symbols, with_station}
 use Rattle.lard_bound.specs.Seats.{Gone, Held, Here, Offered, Over, SeatNow, Unborn, Waiting, seat_of, tells_end}
 use Rattle.lard_bound.specs.Spots.{AtFront, AtNode, Ended, number_awaited, awaits_of, post_of, spot_of}
 use Rattle.lard_bound.specs.Units.{Whole, client_left, ended_left, hand_off, heard_left, left_with, one_if_not, requests_left, seat_left, spoken_left, symbols_taken, tellers}
-use Rattle.lard_client.specs.Arriving.{accepting, answers_syn, client_arrived, client_begins_after, client_ends, established, fresh_len, heard_in, heard_nothing, client_on_ack, on_fresh, on_greeting, client_on_rst, client_on_segment, client_on_syn, client_on_text, client_on_unacceptable, client_owing, client_part_of, reset_by_peer}
-use Rattle.lard_client.specs.Control.{ClientBlock, is_client_open, client_rcv_nxt, client_rcv_wnd}
-use Rattle.lard_client.specs.declared.heard.Heard.{Heard}
-use Rattle.lard_client.specs.declared.phase.Phase.{Phase}
 use Rattle.lard_client.specs.declared.phase.Phase.TheVariants.{Open, Aborted, Reset}
-use Rattle.lard_client.specs.Leaving.{client_after_emit, client_after_owed, client_after_piece, client_after_timer, client_owes, client_told}
-use Rattle.lard_law_view.specs.View.{Part, with_station}
 use Rattle.lard_law_progress.proofs.Away.{not-less, not-same}
 use Rattle.lard_law_progress.proofs.Ends.{IsAhead, ahead-self, ahead-then, kept-ahead}
-use Rattle.lard_rules.specs.declared.places.Station.{Station}
-use Rattle.lard_rules.specs.Speaking.{client_speaks}
 use Rattle.lard_rules.proofs.Halves.{KeptBySending, client-arrived}
 use Rattle.lard_rules.proofs.Loops.{client_keeps}
-use Rattle.lard_segment.specs.Segment.{Said}
-use Rattle.lard_send.specs.declared.piece.Piece.{Piece}
-use Rattle.lard_send.specs.Send.{Sending, after_ack, after_next, after_resend, is_newer, may_send, moved_up, next_fin, next_len, next_piece, resent_piece, symbols, windowed}
-use Rattle.lard_seq.specs.Seq.{one_if, seq_offset}
+use Rattle.lard_rules.proofs.Hearing.{acked, arrived-keeps, client-emit-keeps, client-timer-keeps}
+use Rattle.lard_rules.proofs.Sides.{ack-side, next-side, resend-side}
+use Rattle.lard_law_view.proofs.Speaking.{next-moves, resend-moves}
 
 -- it is as it was, or was reset
 abbrev pub OnPhase : Phase → Phase → Type 0
@@ -53,65 +42,23 @@ takes-then x y z h k = record {
   phase = phases-then x.phase y.phase z.phase h.phase k.phase;
 }
 
-module _ (x : ClientBlock) where
-  abbrev On : Heard × ClientBlock → Type 0
-  On r = Takes x r.1
-
-  fresh-takes : (y : ClientBlock) (s : Said) → Takes x y → On (on_fresh y s)
-  fresh-takes y s h = go y.eof refl where
-    go : (e : Bool) → y.eof ≡ e → On (cond (client_begins_after y s || e) (heard_nothing, y) (client_part_of y s, accepting y (fresh_len y s) (client_ends y s)))
-    go true is = cond_both {A = Heard × ClientBlock} (client_begins_after y s || true) (heard_nothing, y) (client_part_of y s, accepting y (fresh_len y s) (client_ends y s)) On (λ t. h) (λ t. absurd (never (client_begins_after y s) t)) where
-      never : (b : Bool) → (b || true) ≡ false → ⊥
-      never true e = cc
-      never false e = cc
-    go false is = cond_both {A = Heard × ClientBlock} (client_begins_after y s || false) (heard_nothing, y) (client_part_of y s, accepting y (fresh_len y s) (client_ends y s)) On (λ t. h)
-        (λ t. record {
-          accepted = let a : x.accepted ≤ y.accepted = h.accepted in omega arith;
-          eof = λ e. absurd (let bad : true ≡ false = sym (h.eof e) ∙ is in cc);
-          wnd = h.wnd;
-          phase = h.phase;
-        })
-
-  text-takes : (y : ClientBlock) (s : Said) → Takes x y → On (client_on_text y s)
-  text-takes y s h = cond_both {A = Heard × ClientBlock} ((length s.payload == 0) && not s.flags.fin) (heard_nothing, y) (on_fresh (client_owing y) s) On (λ t. h)
-      (λ t. fresh-takes (client_owing y) s (record { accepted = h.accepted; eof = h.eof; wnd = h.wnd; phase = h.phase }))
-
-  ack-takes : (y : ClientBlock) (s : Said) → Takes x y → On (client_on_ack y s)
-  ack-takes y s h =
-      let after : ClientBlock = record y { send = after_ack y.send s.ack s.seq s.wnd } in
-      cond_both {A = Heard × ClientBlock} (not s.flags.ack) (heard_nothing, y) (cond (nat_lt y.send.nxt (seq_offset s.ack y.send.iss)) (heard_nothing, client_owing y) (client_on_text after s)) On (λ t. h)
-      (λ t. cond_both {A = Heard × ClientBlock} (nat_lt y.send.nxt (seq_offset s.ack y.send.iss)) (heard_nothing, client_owing y) (client_on_text after s) On
-      (λ t. record { accepted = h.accepted; eof = h.eof; wnd = h.wnd; phase = h.phase })
-      (λ t. text-takes after s (record { accepted = h.accepted; eof = h.eof; wnd = h.wnd; phase = h.phase })))
-
-  segment-takes : (s : Said) → x.phase ≡ Open → On (client_on_segment x s)
-  segment-takes s open_ = cond_both {A = Heard × ClientBlock} (is_acceptable (client_rcv_nxt x) (client_rcv_wnd x) s) (client_on_rst x s) (client_on_unacceptable x s) On
-      (λ t. cond_both {A = Heard × ClientBlock} (not s.flags.rst) (client_on_syn x s) (cond (s.seq == client_rcv_nxt x) (heard_nothing, reset_by_peer x) (heard_nothing, client_owing x)) On
-      (λ t. cond_both {A = Heard × ClientBlock} s.flags.syn (heard_nothing, client_owing x) (client_on_ack x s) On (λ t. owed) (λ t. ack-takes x s (takes-self x)))
-      (λ t. cond_both {A = Heard × ClientBlock} (s.seq == client_rcv_nxt x) (heard_nothing, reset_by_peer x) (heard_nothing, client_owing x) On
-      (λ t. record { accepted = omega arith; eof = λ e. e; wnd = refl; phase = inr (open_, refl) }) (λ t. owed)))
-      (λ t. cond_both {A = Heard × ClientBlock} (is_allowed (client_rcv_nxt x) (client_rcv_wnd x) s) (client_on_ack (client_owing x) (bare s)) (cond s.flags.rst (heard_nothing, x) (heard_nothing, client_owing x)) On
-      (λ t. ack-takes (client_owing x) (bare s) owed)
-      (λ t. cond_both {A = Heard × ClientBlock} s.flags.rst (heard_nothing, x) (heard_nothing, client_owing x) On (λ t. takes-self x) (λ t. owed)))
-    where
-      owed : Takes x (client_owing x)
-      owed = record { accepted = omega arith; eof = λ e. e; wnd = refl; phase = inl refl }
-
-  greeting-takes : (s : Said) → x.phase ≡ Open → On (on_greeting x s)
-  greeting-takes s open_ = cond_both {A = Heard × ClientBlock} (not (answers_syn x s)) (heard_nothing, x) (cond s.flags.rst (heard_nothing, reset_by_peer x) (cond s.flags.syn (heard_nothing, established x s) (heard_nothing, x))) On (λ t. takes-self x)
-      (λ t. cond_both {A = Heard × ClientBlock} s.flags.rst (heard_nothing, reset_by_peer x) (cond s.flags.syn (heard_nothing, established x s) (heard_nothing, x)) On
-      (λ t. record { accepted = omega arith; eof = λ e. e; wnd = refl; phase = inr (open_, refl) })
-      (λ t. cond_both {A = Heard × ClientBlock} s.flags.syn (heard_nothing, established x s) (heard_nothing, x) On
-      (λ t. record { accepted = omega arith; eof = λ e. e; wnd = refl; phase = inl refl }) (λ t. takes-self x)))
+module _ (x : ClientBlock) (s : Said) where
+  acked-takes : (owed : Bool) → Takes x (acked x s owed)
+  acked-takes owed = record { accepted = omega arith; eof = λ e. e; wnd = refl; phase = inl refl }
 
   -- and one that is not open takes nothing
-  pub arrived-takes : (s : Said) → Takes x (client_arrived x s).1 × ((x.phase ≡ Open → ⊥) → (client_arrived x s).1 ≡ x)
-  unfolding client_arrived
-  arrived-takes s = go x.phase refl where
-    go : (p : Phase) → x.phase ≡ p → On (heard_in p x s) × ((p ≡ Open → ⊥) → (heard_in p x s).1 ≡ x)
-    go Open is = (cond_both {A = Heard × ClientBlock} (x.send.una == 0) (on_greeting x s) (client_on_segment x s) On (λ t. greeting-takes s is) (λ t. segment-takes s is), λ no_. absurd (no_ refl))
-    go Aborted is = (takes-self x, λ no_. refl)
-    go Reset is = (takes-self x, λ no_. refl)
+  pub arrived-takes : Takes x (client_arrived x s).1 × ((x.phase ≡ Open → ⊥) → (client_arrived x s).1 ≡ x)
+  arrived-takes = arrived-keeps x s (λ r. Takes x r.1 × ((x.phase ≡ Open → ⊥) → r.1 ≡ x)) (record {
+    refuses = λ e. (takes-self x, λ no_. refl);
+    ignores = λ e. (takes-self x, λ no_. refl);
+    learns = λ e t plain. (record { accepted = omega arith; eof = λ e. e; wnd = refl; phase = inl refl }, λ no_. absurd (no_ e));
+    takes = λ e. record {
+      rests = λ owed. (record { accepted = omega arith; eof = λ e. e; wnd = refl; phase = inl refl }, λ no_. absurd (no_ e));
+      resets = λ t. (record { accepted = omega arith; eof = λ e. e; wnd = refl; phase = inr (e, refl) }, λ no_. absurd (no_ e));
+      acks = λ owed c. (acked-takes owed, λ no_. absurd (no_ e));
+      accepts = λ c in_order going. (record { accepted = omega arith; eof = λ f. absurd (let bad : true ≡ false = sym f ∙ going in cc); wnd = refl; phase = inl refl }, λ no_. absurd (no_ e));
+    };
+  })
 
 -- ---- what it says
 
@@ -132,58 +79,41 @@ told-self x = record { ahead = ahead-self x.send; una = refl; finished = refl; i
 told-then : (x y z : ClientBlock) → IsTold x y → IsTold y z → IsTold x z
 told-then x y z h k = record { ahead = ahead-then x.send y.send z.send h.ahead k.ahead; una = k.una ∙ h.una; finished = k.finished ∙ h.finished; iss = k.iss ∙ h.iss; accepted = k.accepted ∙ h.accepted; eof = k.eof ∙ h.eof; wnd = k.wnd ∙ h.wnd; phase = k.phase ∙ h.phase }
 
-next-same : (s : Sending) → ((after_next s).una ≡ s.una) × ((after_next s).finished ≡ s.finished) × ((after_next s).iss ≡ s.iss)
-next-same s =
-    let P : Sending → Type 0 = λ t. (t.una ≡ s.una) × (t.finished ≡ s.finished) × (t.iss ≡ s.iss) in
-    cond_both (s.nxt == 0) (record s { nxt = 1 }) (cond (may_send s) (record s { nxt = s.nxt + next_len s + one_if (next_fin s) }) s) P (λ t. (refl, refl, refl))
-    (λ t. cond_both (may_send s) (record s { nxt = s.nxt + next_len s + one_if (next_fin s) }) s P (λ t. (refl, refl, refl)) (λ t. (refl, refl, refl)))
-
-again-same : (s : Sending) → ((after_resend s).una ≡ s.una) × ((after_resend s).finished ≡ s.finished) × ((after_resend s).iss ≡ s.iss)
-again-same s =
-    let P : Sending → Type 0 = λ t. (t.una ≡ s.una) × (t.finished ≡ s.finished) × (t.iss ≡ s.iss) in
-    cond_both (s.una == 0) (record s { nxt = max s.nxt 1 }) (cond (nat_lt s.una s.nxt) s (cond (nat_lt s.nxt (symbols s)) (record s { nxt = s.nxt + 1 }) s)) P
-    (λ t. (refl, refl, refl))
-    (λ t. cond_both (nat_lt s.una s.nxt) s (cond (nat_lt s.nxt (symbols s)) (record s { nxt = s.nxt + 1 }) s) P (λ t. (refl, refl, refl))
-    (λ t. cond_both (nat_lt s.nxt (symbols s)) (record s { nxt = s.nxt + 1 }) s P (λ t. (refl, refl, refl)) (λ t. (refl, refl, refl))))
-
 kept-iss : (n : ℕ) → KeptBySending (λ (u : Sending). u.iss ≡ n)
 kept-iss n = record {
-  acks = λ t ack seq wnd h.
-      let P : Sending → Type 0 = λ u. u.iss ≡ n in
-      let up = moved_up t (seq_offset ack t.iss) in
-      let u : P up = cond_both (nat_lt t.una (seq_offset ack t.iss)) (record t { una = seq_offset ack t.iss; rest = drop ((seq_offset ack t.iss - 1) - (t.una - 1)) t.rest }) t P (λ e. h) (λ e. h) in
-      cond_both (nat_lt t.nxt (seq_offset ack t.iss)) t (cond ((t.una == 0) && (seq_offset ack t.iss == 0)) t (windowed up (t.una == 0) seq ack wnd)) P (λ e. h)
-      (λ e. cond_both ((t.una == 0) && (seq_offset ack t.iss == 0)) t (windowed up (t.una == 0) seq ack wnd) P (λ e. h)
-      (λ e. cond_both ((t.una == 0) || is_newer up seq ack) (record up { wnd = wnd; wl1 = seq; wl2 = ack }) up P (λ e. u) (λ e. u)));
-  nexts = λ t h. (next-same t).2 ∙ h;
-  resends = λ t h. (again-same t).2 ∙ h;
+  acks = λ t ack seq wnd h. (ack-side t ack seq wnd).first ∙ h;
+  nexts = λ t h. (next-side t).first ∙ h;
+  resends = λ t h. (resend-side t).first ∙ h;
   closes = λ t h. h;
   learns = λ t irs mss h. h;
 }
 
-next-told : (x : ClientBlock) → ((after_next x.send).una ≡ x.send.una) × ((after_next x.send).finished ≡ x.send.finished) × ((after_next x.send).iss ≡ x.send.iss) → IsTold x (record x { send = after_next x.send })
-next-told x h = record { ahead = (kept-ahead x.send).nexts x.send (ahead-self x.send); una = h.0; finished = h.1; iss = h.2; accepted = refl; eof = refl; wnd = refl; phase = refl }
-
-piece-told : (x y z : ClientBlock) (p : Option Piece) → IsTold x y → IsTold x z → IsTold x (client_after_piece y p z)
-piece-told x y z (Some p) h k = record { ahead = h.ahead; una = h.una; finished = h.finished; iss = h.iss; accepted = h.accepted; eof = h.eof; wnd = h.wnd; phase = h.phase }
-piece-told x y z None h k = k
+-- a client with another sending half, in which no more than the next number differs
+sent-told : (x y : ClientBlock) (t : Sending) → t ≡ record x.send { nxt = t.nxt } → IsAhead x.send t → y ≡ record x { send = t; owed = y.owed; last_window = y.last_window } → IsTold x y
+sent-told x y t m ahead is = subst (IsTold x) (sym is) (record {
+  ahead = ahead;
+  una = ap (λ (s : Sending). s.una) m;
+  finished = ap (λ (s : Sending). s.finished) m;
+  iss = ap (λ (s : Sending). s.iss) m;
+  accepted = refl;
+  eof = refl;
+  wnd = refl;
+  phase = refl;
+})
 
 emit-told : (x : ClientBlock) → IsTold x (client_after_emit x)
 emit-told x =
-    let a : IsTold x (record x { send = after_next x.send }) = next-told x (next-same x.send) in
-    let owed : IsTold x (client_after_owed x) = cond_both (client_owes x) (client_told x) x (IsTold x) (λ t. record { ahead = ahead-self x.send; una = refl; finished = refl; iss = refl; accepted = refl; eof = refl; wnd = refl; phase = refl }) (λ t. told-self x) in
-    cond_both (not (is_client_open x)) x (client_after_piece (record x { send = after_next x.send }) (next_piece x.send) (client_after_owed x)) (IsTold x) (λ t. told-self x)
-    (λ t. piece-told x (record x { send = after_next x.send }) (client_after_owed x) (next_piece x.send) a owed)
+    let next : ClientBlock = record x { send = after_next x.send } in
+    client-emit-keeps (IsTold x) x (told-self x) (sent-told x (client_told x) x.send refl (ahead-self x.send) refl)
+    (sent-told x (client_told next) (after_next x.send) (next-moves x.send) ((kept-ahead x.send).nexts x.send (ahead-self x.send)) refl)
 
 pub speaks-told : (x : ClientBlock) → IsTold x (client_speaks x).1
 speaks-told x = client_keeps (λ y ss z. IsTold y z) (record { rests = told-self; says = λ y r ss z e h. told-then y (client_after_emit y) z (emit-told y) h }) x
 
 pub timer-told : (x : ClientBlock) → IsTold x (client_after_timer x)
 timer-told x =
-    let h = again-same x.send in
-    let a : IsTold x (record x { send = after_resend x.send }) = record { ahead = (kept-ahead x.send).resends x.send (ahead-self x.send); una = h.0; finished = h.1; iss = h.2; accepted = refl; eof = refl; wnd = refl; phase = refl } in
-    cond_both (not (is_client_open x)) x (client_after_piece (record x { send = after_resend x.send }) (resent_piece x.send) x) (IsTold x) (λ t. told-self x)
-    (λ t. piece-told x (record x { send = after_resend x.send }) x (resent_piece x.send) a (told-self x))
+    let next : ClientBlock = record x { send = after_resend x.send } in
+    client-timer-keeps (IsTold x) x (told-self x) (sent-told x (client_told next) (after_resend x.send) (resend-moves x.send) ((kept-ahead x.send).resends x.send (ahead-self x.send)) refl)
 
 -- ---- the whole turn
 

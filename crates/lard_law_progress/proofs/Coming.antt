@@ -1,20 +1,13 @@
 -- What comes for the requests of a batch: the nodes of a Tag, a job that was done, a content.
-use Rattle.std.proofs.Common.{◌≡◌, ◌≤◌, ◌+◌, ◌-◌, ◌==◌, nat_lt, ℕ, zero, suc, Bool, true, false, not, cond, List, [], ◌∷◌, ◌++◌, length, is_some, Some, None, refl, ap, ◌∙◌, arith}
+use Rattle.std.proofs.Common.{◌≡◌, ◌≤◌, ◌+◌, ◌-◌, ◌==◌, nat_lt, ℕ, zero, suc, Bool, true, false, not, cond, List, [], ◌∷◌, ◌++◌, length, is_some, Option, Some, None, refl, ap, ◌∙◌, arith}
 use Rattle.std.specs.List.{find}
 use Rattle.std.proofs.lemmas.Bool.{cond_both}
 use Rattle.std.proofs.lemmas.List.{length_push}
-use Rattle.lard_base.specs.declared.place.TimerKind.{TimerKind}
+use Rattle.lard_law_view.specs.Prelude.{Entry, Kept, NodeEnv, Progress, TimerKind, Want, Work, anew, came_for, come_on, come_progress, entered, fetch_of, hit_here, is_from, is_under, path_in, queued_here, read_progress, started_there, tagged, wants_kept, without}
 use Rattle.lard_base.specs.declared.place.Via.TheVariants as via
 use Rattle.lard_bound.specs.Units.{batch_left, progress_left}
-use Rattle.lard_rules.specs.declared.stay.Entry.{Entry}
-use Rattle.lard_rules.specs.declared.stay.Progress.{Progress}
 use Rattle.lard_rules.specs.declared.stay.Progress.TheVariants as progress
-use Rattle.lard_rules.specs.declared.stay.Want.{Want}
-use Rattle.lard_rules.specs.Node.{anew, fetch_of, wants_kept}
-use Rattle.lard_rules.specs.Stay.{NodeEnv, Work, came_for, come_on, come_progress, entered, path_in, read_progress, started_there, tagged, hit_here, queued_here}
 use Rattle.lard_resend.proofs.Lengths.{anew-more, without-less}
-use Rattle.lard_resend.specs.declared.kept.Kept.{Kept}
-use Rattle.lard_resend.specs.Kept.{is_under, without}
 use Rattle.lard_rules.proofs.StayWalking.{KeptByStarts, tagged-in}
 
 left-push : (es : List Entry) (e : Entry) → batch_left (es ++ e ∷ []) ≡ batch_left es + progress_left e.progress
@@ -146,3 +139,8 @@ without-fewer kind r (k ∷ ks) some = go (is_under kind r k) some (without-less
       → length (cond (not b) (k ∷ without kind r ks) (without kind r ks)) + 1 ≤ suc (length ks)
   go true some less later = omega (arith, less)
   go false some less later = let rest = later some in omega (arith, rest)
+
+-- what is awaited from a node is awaited
+pub awaited-some : (from e : ℕ) (o : Option Kept) → is_from from e o ≡ true → is_some o ≡ true
+awaited-some from e None t = absurd (let bad : false ≡ true = t in cc)
+awaited-some from e (Some k) t = refl

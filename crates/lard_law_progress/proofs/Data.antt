@@ -3,17 +3,10 @@ use Rattle.std.proofs.Common.{◌≡◌, ◌⊎◌, ◌<◌, ◌≤◌, ◌+◌,
 use Rattle.std.proofs.lemmas.Bool.{cases_lt, cond_both, cond-false, cond-true}
 use Rattle.std.proofs.lemmas.Bool.Decides.{nat_tests}
 use Rattle.std.proofs.lemmas.List.{length-drop, length-take}
-use Rattle.lard_arrival.specs.Arrival.{bare, is_acceptable, is_allowed, is_in_window, last_number, seg_len}
-use Rattle.lard_endpoint.specs.declared.control.arriving.Arrival.{Arrival}
+use Rattle.lard_law_view.specs.Prelude.{Arrival, ControlBlock, Received, Said, Sending, after_ack, arrived, awaited, bare, begins_after, bytes_taken, ends, fresh_bytes, is_acceptable, is_allowed, is_in_window, last_number, on_ack, on_acked, on_rst, on_segment, on_syn, on_text, on_unacceptable, one_if, owing, rcv_nxt, rcv_wnd, receive_room, seg_len, seq_add, seq_offset}
 use Rattle.lard_endpoint.specs.declared.control.arriving.Arrival.TheVariants as arrival
-use Rattle.lard_endpoint.specs.Arriving.{on_ack, on_acked, on_rst, on_segment, on_syn, on_text, on_unacceptable, owing}
-use Rattle.lard_endpoint.specs.Control.{ControlBlock, rcv_nxt, rcv_wnd}
 use Rattle.lard_endpoint.proofs.Numbers.{offset_later}
 use Rattle.lard_law_progress.proofs.Ends.{ahead-self, kept-ahead}
-use Rattle.lard_recv.specs.Recv.{Received, arrived, awaited, begins_after, ends, fresh_bytes, receive_room, bytes_taken}
-use Rattle.lard_segment.specs.Segment.{Said}
-use Rattle.lard_send.specs.Send.{Sending, after_ack}
-use Rattle.lard_seq.specs.Seq.{one_if, seq_add, seq_offset}
 
 -- how many symbols of the client's were taken
 abbrev pub heard : Received → ℕ

@@ -1,20 +1,12 @@
 -- How an endpoint goes on: nothing that was acknowledged comes back, and its peer's window is the one that it knew or the one that came.
-use Rattle.std.proofs.Common.{◌≡◌, ◌⊎◌, ◌≤◌, ◌<◌, ◌==◌, ◌+◌, ◌-◌, ◌&&◌, ◌||◌, nat_lt, not, ℕ, true, max, cond, drop, length, Option, Some, None, inl, inr, refl, ◌∙◌, arith}
+use Rattle.std.proofs.Common.{ap, arith, cond, drop, inl, inr, max, nat_lt, refl, true, ℕ, ◌&&◌, ◌+◌, ◌-◌, ◌<◌, ◌==◌, ◌||◌, ◌∙◌, ◌≡◌, ◌≤◌, ◌⊎◌}
 use Rattle.std.proofs.lemmas.Bool.{cond_both, ltb-true}
-use Rattle.lard_arrival.specs.Arrival.{bare, is_acceptable, is_allowed}
-use Rattle.lard_endpoint.specs.declared.control.arriving.Arrival.{Arrival}
-use Rattle.lard_endpoint.specs.declared.control.arriving.Arrival.TheVariants as arrival
-use Rattle.lard_endpoint.specs.Arriving.{on_ack, on_acked, on_rst, on_segment, on_syn, on_text, on_unacceptable, owing}
-use Rattle.lard_endpoint.specs.Control.{ControlBlock, rcv_nxt, rcv_wnd}
-use Rattle.lard_endpoint.specs.Leaving.{advanced, after_emit, after_owed, after_piece, after_timer, owes, retried, told}
+use Rattle.lard_law_view.specs.Prelude.{ControlBlock, Said, Sending, advanced, after_ack, after_emit, after_next, after_resend, after_timer, is_newer, may_send, moved_up, next_fin, next_len, on_segment, one_if, retried, seq_offset, speaks, symbols, told, windowed}
 use Rattle.lard_recv.specs.Recv as recv
-use Rattle.lard_rules.specs.Speaking.{speaks}
 use Rattle.lard_rules.proofs.Halves.{KeptBySending, endpoint-segment}
 use Rattle.lard_rules.proofs.Loops.{speaks_keep}
-use Rattle.lard_segment.specs.Segment.{Said}
-use Rattle.lard_send.specs.declared.piece.Piece.{Piece}
-use Rattle.lard_send.specs.Send.{Sending, after_ack, after_next, after_resend, may_send, moved_up, next_fin, next_len, next_piece, is_newer, symbols, resent_piece, windowed}
-use Rattle.lard_seq.specs.Seq.{one_if, seq_offset}
+use Rattle.lard_rules.proofs.Hearing.{emit-keeps, segment-keeps, timer-keeps}
+use Rattle.lard_law_view.proofs.Speaking.{next-moves, resend-moves}
 
 -- no less is acknowledged, as many bytes were queued, and a side that was closed stays so
 pub record IsAhead (s t : Sending) : Type 0 where
@@ -79,52 +71,29 @@ said-self b = record { ahead = ahead-self b.send; una = refl; finished = refl; w
 said-then : (b d f : ControlBlock) → IsSaid b d → IsSaid d f → IsSaid b f
 said-then b d f h k = record { ahead = ahead-then b.send d.send f.send h.ahead k.ahead; una = k.una ∙ h.una; finished = k.finished ∙ h.finished; wnd = k.wnd ∙ h.wnd; recv = k.recv ∙ h.recv; reset = k.reset ∙ h.reset }
 
-next-same : (s : Sending) → ((after_next s).una ≡ s.una) × ((after_next s).finished ≡ s.finished) × ((after_next s).wnd ≡ s.wnd)
-next-same s = cond_both (s.nxt == 0) (record s { nxt = 1 }) (cond (may_send s) (record s { nxt = s.nxt + next_len s + one_if (next_fin s) }) s) (λ (t : Sending). (t.una ≡ s.una) × (t.finished ≡ s.finished) × (t.wnd ≡ s.wnd))
-    (λ t. (refl, refl, refl))
-    (λ t. cond_both (may_send s) (record s { nxt = s.nxt + next_len s + one_if (next_fin s) }) s (λ (t : Sending). (t.una ≡ s.una) × (t.finished ≡ s.finished) × (t.wnd ≡ s.wnd)) (λ t. (refl, refl, refl)) (λ t. (refl, refl, refl)))
-
 advanced-said : (b : ControlBlock) → IsSaid b (advanced b)
-advanced-said b = let h = next-same b.send in record { ahead = nexts-ahead b.send; una = h.0; finished = h.1; wnd = h.2; recv = refl; reset = refl }
+advanced-said b = let m = next-moves b.send in record { ahead = nexts-ahead b.send; una = ap (λ (s : Sending). s.una) m; finished = ap (λ (s : Sending). s.finished) m; wnd = ap (λ (s : Sending). s.wnd) m; recv = refl; reset = refl }
 
 told-said : (b d : ControlBlock) → IsSaid b d → IsSaid b (told d)
 told-said b d h = record { ahead = h.ahead; una = h.una; finished = h.finished; wnd = h.wnd; recv = h.recv; reset = h.reset }
 
 pub emit-said : (b : ControlBlock) → IsSaid b (after_emit b)
-emit-said b =
-    let a = advanced-said b in
-    cond_both b.reset b (after_piece (advanced b) (next_piece b.send) (after_owed (advanced b))) (IsSaid b) (λ t. said-self b) (λ t. go (next_piece b.send) a)
-  where
-    go : (p : Option Piece) → IsSaid b (advanced b) → IsSaid b (after_piece (advanced b) p (after_owed (advanced b)))
-    go (Some p) a = told-said b (advanced b) a
-    go None a = cond_both (owes (advanced b)) (told (advanced b)) (advanced b) (IsSaid b) (λ t. told-said b (advanced b) a) (λ t. a)
+emit-said b = let a = advanced-said b in emit-keeps (IsSaid b) b (said-self b) a (told-said b (advanced b) a)
 
 pub speaks-said : (c : ℕ) (b : ControlBlock) → IsSaid b (speaks c b).1
 speaks-said c b = speaks_keep c (λ b ss d. IsSaid b d) (record { rests = said-self; says = λ b r ss d e h. said-then b (after_emit b) d (emit-said b) h }) b
 
 -- its timer fires
-again-same : (s : Sending) → ((after_resend s).una ≡ s.una) × ((after_resend s).finished ≡ s.finished) × ((after_resend s).wnd ≡ s.wnd)
-again-same s =
-    let P : Sending → Type 0 = λ t. (t.una ≡ s.una) × (t.finished ≡ s.finished) × (t.wnd ≡ s.wnd) in
-    cond_both (s.una == 0) (record s { nxt = max s.nxt 1 }) (cond (nat_lt s.una s.nxt) s (cond (nat_lt s.nxt (symbols s)) (record s { nxt = s.nxt + 1 }) s)) P
-    (λ t. (refl, refl, refl))
-    (λ t. cond_both (nat_lt s.una s.nxt) s (cond (nat_lt s.nxt (symbols s)) (record s { nxt = s.nxt + 1 }) s) P (λ t. (refl, refl, refl))
-    (λ t. cond_both (nat_lt s.nxt (symbols s)) (record s { nxt = s.nxt + 1 }) s P (λ t. (refl, refl, refl)) (λ t. (refl, refl, refl))))
-
 pub timer-said : (b : ControlBlock) → IsSaid b (after_timer b)
 timer-said b =
-    let h = again-same b.send in
-    let a : IsSaid b (retried b) = record { ahead = resends-ahead b.send; una = h.0; finished = h.1; wnd = h.2; recv = refl; reset = refl } in
-    cond_both b.reset b (after_piece (retried b) (resent_piece b.send) (retried b)) (IsSaid b) (λ t. said-self b) (λ t. go (resent_piece b.send) a)
-  where
-    go : (p : Option Piece) → IsSaid b (retried b) → IsSaid b (after_piece (retried b) p (retried b))
-    go (Some p) a = told-said b (retried b) a
-    go None a = a
+    let m = resend-moves b.send in
+    let a : IsSaid b (retried b) = record { ahead = resends-ahead b.send; una = ap (λ (s : Sending). s.una) m; finished = ap (λ (s : Sending). s.finished) m; wnd = ap (λ (s : Sending). s.wnd) m; recv = refl; reset = refl } in
+    timer-keeps (IsSaid b) b (said-self b) a (told-said b (retried b) a)
 
 -- ---- its peer's window
 
-abbrev pub IsWindow : ControlBlock → Said → Arrival × ControlBlock → Type 0
-IsWindow b s r = (r.1.send.wnd ≡ b.send.wnd) ⊎ (r.1.send.wnd ≡ s.wnd)
+abbrev pub IsWindow : ControlBlock → Said → ControlBlock → Type 0
+IsWindow b s d = (d.send.wnd ≡ b.send.wnd) ⊎ (d.send.wnd ≡ s.wnd)
 
 ack-window : (s : Sending) (ack seq wnd : ℕ) → ((after_ack s ack seq wnd).wnd ≡ s.wnd) ⊎ ((after_ack s ack seq wnd).wnd ≡ wnd)
 ack-window s ack seq wnd =
@@ -135,20 +104,7 @@ ack-window s ack seq wnd =
     (λ t. cond_both ((s.una == 0) && (seq_offset ack s.iss == 0)) s (windowed up (s.una == 0) seq ack wnd) P (λ t. inl refl)
     (λ t. cond_both ((s.una == 0) || is_newer up seq ack) (record up { wnd = wnd; wl1 = seq; wl2 = ack }) up P (λ t. inr refl) (λ t. inl same)))
 
-acked-window : (b : ControlBlock) (s : Said) → IsWindow b s (on_ack b s)
-acked-window b s =
-    let after : ControlBlock = record b { send = after_ack b.send s.ack s.seq s.wnd } in
+pub heard-window : (b : ControlBlock) (s : Said) → IsWindow b s (on_segment b s).1
+heard-window b s =
     let w = ack-window b.send s.ack s.seq s.wnd in
-    cond_both {A = Arrival × ControlBlock} (not s.flags.ack) (arrival.Fine, b) (cond (nat_lt b.send.nxt (seq_offset s.ack b.send.iss)) (arrival.AckOwed, owing b) (on_acked after s)) (IsWindow b s) (λ t. inl refl)
-    (λ t. cond_both {A = Arrival × ControlBlock} (nat_lt b.send.nxt (seq_offset s.ack b.send.iss)) (arrival.AckOwed, owing b) (on_acked after s) (IsWindow b s) (λ t. inl refl)
-    (λ t. cond_both {A = Arrival × ControlBlock} (after.send.una == 0) (arrival.Fine, after) (on_text after s) (IsWindow b s) (λ t. w)
-    (λ t. cond_both {A = Arrival × ControlBlock} ((length s.payload == 0) && not s.flags.fin) (arrival.Fine, after) (arrival.AckOwed, record after { recv = recv.arrived after.recv s.seq s.payload s.flags.fin; owed = true }) (IsWindow b s) (λ t. w) (λ t. w))))
-
-pub heard-window : (b : ControlBlock) (s : Said) → IsWindow b s (on_segment b s)
-heard-window b s = cond_both {A = Arrival × ControlBlock} (is_acceptable (rcv_nxt b) (rcv_wnd b) s) (on_rst b s) (on_unacceptable b s) (IsWindow b s)
-    (λ t. cond_both {A = Arrival × ControlBlock} (not s.flags.rst) (on_syn b s) (cond (s.seq == rcv_nxt b) (arrival.Reset, record b { reset = true }) (arrival.AckOwed, owing b)) (IsWindow b s)
-    (λ t. cond_both {A = Arrival × ControlBlock} s.flags.syn (arrival.AckOwed, owing b) (on_ack b s) (IsWindow b s) (λ t. inl refl) (λ t. acked-window b s))
-    (λ t. cond_both {A = Arrival × ControlBlock} (s.seq == rcv_nxt b) (arrival.Reset, record b { reset = true }) (arrival.AckOwed, owing b) (IsWindow b s) (λ t. inl refl) (λ t. inl refl)))
-    (λ t. cond_both {A = Arrival × ControlBlock} (is_allowed (rcv_nxt b) (rcv_wnd b) s) (arrival.AckOwed, (on_ack (owing b) (bare s)).1) (cond s.flags.rst (arrival.Fine, b) (arrival.AckOwed, owing b)) (IsWindow b s)
-    (λ t. acked-window (owing b) (bare s))
-    (λ t. cond_both {A = Arrival × ControlBlock} s.flags.rst (arrival.Fine, b) (arrival.AckOwed, owing b) (IsWindow b s) (λ t. inl refl) (λ t. inl refl)))
+    segment-keeps b s (IsWindow b s) (record { rests = λ owed. inl refl; resets = λ t. inl refl; acks = λ owed c. w; comes = λ c some. w })

@@ -1,30 +1,16 @@
 -- The front end hears a message of a node: nothing that is left to do comes back.
 use Rattle.std.proofs.Common.{◌≡◌, ◌==◌, ℕ, Bool, true, false, cond, Option, Some, None, refl, sym, ap, ◌∙◌}
-use Rattle.lard_answers.specs.Answers.{FilesAt}
-use Rattle.lard_base.specs.declared.ids.Epoch.{Epoch}
+use Rattle.lard_law_view.specs.Prelude.{Ask, BackConn, BackRow, Epoch, FilesAt, Final, FrontEnv, FrontPart, FrontRest, FrontRow, NodePart, Part, Station, assigns, ended_row, front_asked, front_ended, front_ends, front_rest, front_taken, is_away, next_epoch, taken_by, with_front, without}
 use Rattle.lard_base.specs.declared.place.TimerKind.TheVariants as kind
 use Rattle.lard_bound.specs.Seats.{Offered, seat_away, seat_decided, seat_of, seat_there, staying_of}
 use Rattle.lard_bound.specs.Units.{Whole}
-use Rattle.lard_law_view.specs.View.{Part, with_front}
-use Rattle.lard_dispatch.specs.declared.dispatch.Ask.{Ask}
-use Rattle.lard_endpoint.specs.declared.control.moving.Final.{Final}
-use Rattle.lard_rules.specs.declared.front.FrontRest.{FrontRest}
 use Rattle.lard_rules.specs.Front as front
-use Rattle.lard_rules.specs.Front.{FrontEnv, FrontPart, assigns, front_ends, front_asked, front_ended, front_taken, front_rest, taken_by}
-use Rattle.lard_handoff_back.specs.declared.row.BackConn.{BackConn}
 use Rattle.lard_handoff_back.specs.declared.row.BackConn.TheVariants as back
-use Rattle.lard_handoff_back.specs.declared.row.BackRow.{BackRow}
 use Rattle.lard_handoff_front.specs.declared.row.FrontConn.TheVariants as stage
-use Rattle.lard_handoff_front.specs.declared.row.FrontRow.{FrontRow}
-use Rattle.lard_handoff_front.specs.Front.{ended_row, next_epoch}
-use Rattle.lard_handoff_front.specs.Row.{is_away}
-use Rattle.lard_rules.specs.Node.{NodePart}
 use Rattle.lard_law_progress.proofs.Given.{IsGone}
 use Rattle.lard_law_progress.proofs.Handing.{ended-over, taken-gone, taken-here}
 use Rattle.lard_law_progress.proofs.Less.{Lasting}
 use Rattle.lard_law_progress.proofs.Seating.{FrontLasts, front-stays, seat-at, seat-counts}
-use Rattle.lard_resend.specs.Kept.{without}
-use Rattle.lard_rules.specs.declared.places.Station.{Station}
 use Rattle.lard_rules.proofs.FrontCases.{taken-keeps, asked-keeps, ended-keeps}
 
 module _ (w : Whole) (K : ℕ) (files : FilesAt) (p : Part) (st : Station) where

@@ -1,45 +1,24 @@
 -- The front end hears a segment of a connection that it has, and its timer fires: nothing that is left to do comes back.
 use Rattle.std.proofs.Common.{◌≡◌, ◌⊎◌, ◌<◌, ◌≤◌, ◌==◌, ℕ, Bool, true, false, [], is_some, Option, None, inl, inr, ⊎_elim, refl, sym, ap, ◌∙◌, arith}
-use Rattle.std.proofs.lemmas.Bool.{cond_both}
-use Rattle.lard_answers.specs.Answers.{FilesAt}
+use Rattle.lard_law_view.specs.Prelude.{ClientBlock, ControlBlock, Ending, FilesAt, Final, FrontConn, FrontPart, FrontRest, FrontRow, NodeEnv, Part, Phase, Said, Sending, ServeEnv, Service, Station, after_timer, awaited, front_reads, front_rests, on_segment, rested, serving, serving_settled, speaks, with_front}
 use Rattle.lard_bound.specs.Progress.{IsWarmWord}
 use Rattle.lard_bound.specs.Seats.{Held, Over, seat_of}
 use Rattle.lard_bound.specs.Spots.{number_awaited}
 use Rattle.lard_bound.specs.Units.{Whole, is_stale, one_if_not, symbols_taken}
-use Rattle.lard_client.specs.Control.{ClientBlock}
-use Rattle.lard_client.specs.declared.phase.Phase.{Phase}
 use Rattle.lard_client.specs.declared.phase.Phase.TheVariants as phase
-use Rattle.lard_law_view.specs.View.{Part, with_front}
-use Rattle.lard_endpoint.specs.Arriving.{on_segment}
-use Rattle.lard_endpoint.specs.Control.{ControlBlock}
-use Rattle.lard_endpoint.specs.declared.control.moving.Final.{Final}
-use Rattle.lard_endpoint.specs.Leaving.{after_timer}
-use Rattle.lard_endpoint.specs.Moving.{end_reason, final_of, may_end}
-use Rattle.lard_rules.specs.declared.front.FrontRest.{FrontRest}
-use Rattle.lard_rules.specs.Front.{FrontPart, front_rests}
-use Rattle.lard_rules.specs.FrontReading.{front_reads}
-use Rattle.lard_handoff_front.specs.declared.row.FrontConn.{FrontConn}
 use Rattle.lard_handoff_front.specs.declared.row.FrontConn.TheVariants as stage
-use Rattle.lard_handoff_front.specs.declared.row.FrontRow.{FrontRow}
-use Rattle.lard_rules.specs.Stay.{NodeEnv}
 use Rattle.lard_law_progress.proofs.Away.{by-ending}
 use Rattle.lard_law_progress.proofs.Ends.{IsSaid, heard-ahead, heard-window, speaks-said, timer-said}
 use Rattle.lard_law_progress.proofs.Fronts.{Carries, FitsAt, Keeps, held-less, over-less}
 use Rattle.lard_law_progress.proofs.Less.{Lasting}
 use Rattle.lard_law_progress.proofs.Reading.{Further, IsSame, reads-further}
 use Rattle.lard_law_progress.proofs.Turns.{awaited-same, reset-passed, window-on}
-use Rattle.lard_recv.specs.Recv.{awaited}
-use Rattle.lard_rules.specs.declared.places.Ending.{Ending}
 use Rattle.lard_rules.specs.declared.places.Ending.TheVariants as ending
-use Rattle.lard_rules.specs.declared.places.Station.{Station}
-use Rattle.lard_rules.specs.Serving.{ServeEnv, Service, rested, serving, serving_settled}
-use Rattle.lard_rules.specs.Speaking.{speaks}
-use Rattle.lard_segment.specs.Segment.{Said}
-use Rattle.lard_send.specs.Send.{Sending}
+use Rattle.lard_rules.proofs.Endings.{rested-keeps}
 
 -- where what was read may end, without the stream limit
 pub by-rest : (c : ℕ) (b : ControlBlock) (count : ℕ) (P : Ending → Type 0) → P (ending.Here (speaks c b).1 count) → ((last : Final) → P (ending.Over last)) → P (rested (speaks c b).1 count)
-by-rest c b count P here over = let d = (speaks c b).1 in cond_both (may_end d) (ending.Over (final_of d (end_reason d))) (ending.Here d count) P (λ t. over (final_of d (end_reason d))) (λ t. here)
+by-rest c b count P here over = rested-keeps P (speaks c b).1 count (λ t. over _) (λ t. here)
 
 module _ (k : Whole) (K : ℕ) (files : FilesAt) (p : Part) (st : Station) (b : ControlBlock) (count : ℕ) (held : seat_of p ≡ Held b count) (acked : b.send.una ≤ symbols_taken st.client) where
   abbrev x : ClientBlock

@@ -1,21 +1,12 @@
 -- A connection that the front end has, and what becomes of it in a step: nothing that is left to do on it comes back.
 use Rattle.std.proofs.Common.{◌≡◌, ◌⊎◌, ◌<◌, ◌≤◌, ◌+◌, ◌-◌, ◌*◌, ℕ, zero, suc, Bool, true, false, ⊎_elim, refl, sym, ap, ◌∙◌, arith}
-use Rattle.lard_answers.specs.Answers.{FilesAt}
+use Rattle.lard_law_view.specs.Prelude.{ClientBlock, ControlBlock, FilesAt, Final, FrontPart, Part, Phase, Station, one_if, symbols, with_front}
 use Rattle.lard_bound.specs.Seats.{Held, Offered, Over, SeatNow, Waiting, seat_of, tells_end}
 use Rattle.lard_bound.specs.Spots.{AtFront, number_awaited, ends_of, post_of, spot_of}
 use Rattle.lard_bound.specs.Units.{Whole, block_left, client_left, ended_left, hand_off, heard_left, is_stale, left_with, one_if_not, requests_left, seat_left, symbols_taken, tellers}
-use Rattle.lard_client.specs.Control.{ClientBlock}
-use Rattle.lard_client.specs.declared.phase.Phase.{Phase}
 use Rattle.lard_client.specs.declared.phase.Phase.TheVariants as phase
-use Rattle.lard_law_view.specs.View.{Part, with_front}
-use Rattle.lard_endpoint.specs.Control.{ControlBlock}
-use Rattle.lard_endpoint.specs.declared.control.moving.Final.{Final}
-use Rattle.lard_rules.specs.Front.{FrontPart}
 use Rattle.lard_law_progress.proofs.Away.{not-less, not-same}
 use Rattle.lard_law_progress.proofs.Less.{Lasting}
-use Rattle.lard_rules.specs.declared.places.Station.{Station}
-use Rattle.lard_send.specs.Send.{symbols}
-use Rattle.lard_seq.specs.Seq.{one_if}
 
 -- Of an endpoint that the front end has, of which so many responses were queued: it is as good as it was.
 pub record Carries (x : ClientBlock) (b d : ControlBlock) (count more : ℕ) : Type 0 where

@@ -1,34 +1,19 @@
 -- What is known of a connection between two steps of a settle's rounds, so that no unit comes back in the next one.
 use Rattle.std.proofs.Common.{◌≡◌, ◌≤◌, ◌+◌, ℕ, Bool, true, false, List, [], Option, Some, None}
-use Rattle.lard_base.specs.declared.event.Event.{Event}
+use Rattle.lard_law_view.specs.Prelude.{BackRow, Came, ClientBlock, Conn, ControlBlock, EndpointParts, Event, Front, FrontPart, FrontRow, HasRule, HasTimer, MayRestOn, Move, Node, NodePart, Part, Reason, Row, Seen, Setting, SpellsMessage, Station, Was, front_rest, grown, is_away, offer_answer}
 use Rattle.lard_base.specs.declared.event.Event.TheVariants as event
-use Rattle.lard_base.specs.declared.parts.EndpointParts.{EndpointParts}
-use Rattle.lard_base.specs.declared.place.Place.TheVariants.{Front, Node}
-use Rattle.lard_base.specs.declared.place.Reason.{Reason}
 use Rattle.lard_bound.specs.Progress.{IfCame, IsWarm, Lasts, came_in}
 use Rattle.lard_bound.specs.Seats.{Gone, Held, Here, Offered, Over, SeatNow, Unborn, Waiting, seat_of}
 use Rattle.lard_bound.specs.Units.{Whole, symbols_taken}
-use Rattle.lard_client.specs.Control.{ClientBlock}
 use Rattle.lard_client.specs.declared.phase.Phase.TheVariants as phase
-use Rattle.lard_law_view.specs.Carry.{MayRestOn}
-use Rattle.lard_law_view.specs.View.{Conn, Move, Part, Setting, SpellsMessage, Was, grown}
-use Rattle.lard_endpoint.specs.Control.{ControlBlock}
-use Rattle.lard_rules.specs.Front.{FrontPart, front_rest}
-use Rattle.lard_handoff_back.specs.Back.{offer_answer}
 use Rattle.lard_handoff_back.specs.declared.row.BackConn.TheVariants as back
-use Rattle.lard_handoff_back.specs.declared.row.BackRow.{BackRow}
 use Rattle.lard_handoff_back.specs.declared.table.Adopt.TheVariants.{New}
-use Rattle.lard_handoff_front.specs.Row.{is_away}
 use Rattle.lard_handoff_front.specs.declared.row.FrontConn.TheVariants as stage
-use Rattle.lard_handoff_front.specs.declared.row.FrontRow.{FrontRow}
-use Rattle.lard_history.specs.Own.{Came, Row, Seen}
 use Rattle.lard_history.proofs.Each.{Each}
 use Rattle.lard_journal.specs.declared.rec.Rec.TheVariants as rec
 use Rattle.lard_message.specs.declared.message.Body.TheVariants as body
-use Rattle.lard_rules.specs.Node.{NodePart}
 use Rattle.lard_law_progress.proofs.Away.{IsWith}
 use Rattle.lard_law_progress.proofs.Turns.{read_in}
-use Rattle.lard_rules.specs.declared.places.Station.{Station}
 
 -- ---- by where it is
 
@@ -99,20 +84,26 @@ Given k all x = (st : Station) → x.part.station ≡ Some st → Known k.nodes 
 
 -- ---- what a move owes
 
--- the events of which a settle's rounds are made
-abbrev pub IsInner : Event → Type 0
-IsInner (event.Deliver k) = Unit {0}
-IsInner (event.Disk n j) = Unit {0}
-IsInner (event.Timer p c) = Unit {0}
-IsInner _ = ⊥
+-- the events of which a settle's rounds are made: a delivery, the first job of a node, or a timer
+abbrev pub IsRounds : Event → Type 0
+IsRounds (event.Deliver k) = Unit {0}
+IsRounds (event.Disk n j) = j ≡ 1
+IsRounds (event.Timer p c) = HasTimer p c
+IsRounds _ = ⊥
 
-abbrev pub IsInnerSeen : Seen → Type 0
-IsInnerSeen (Row (rec.Event i e)) = IsInner e
-IsInnerSeen (Row r) = Unit {0}
-IsInnerSeen (Came l) = Unit {0}
+pub rounds-rule : (e : Event) → IsRounds e → HasRule e
+rounds-rule (event.Deliver k) h = tt
+rounds-rule (event.Disk n j) h = tt
+rounds-rule (event.Timer p c) h = h
+rounds-rule _ h = absurd h
+
+abbrev pub IsRoundsSeen : Seen → Type 0
+IsRoundsSeen (Row (rec.Event i e)) = IsRounds e
+IsRoundsSeen (Row r) = Unit {0}
+IsRoundsSeen (Came l) = Unit {0}
 
 abbrev pub AreInner : List Seen → Type 0
-AreInner ss = Each IsInnerSeen ss
+AreInner ss = Each IsRoundsSeen ss
 
 -- Of each inner step, with which comes a packet that was sent behind the first rounds, if any.
 abbrev pub Owed : Setting → (ℕ → Whole) → Conn → Move → Type 0

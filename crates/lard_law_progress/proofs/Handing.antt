@@ -2,32 +2,17 @@
 use Rattle.std.proofs.Common.{◌≡◌, ◌<◌, ◌≤◌, ◌+◌, ◌*◌, ◌==◌, ℕ, zero, suc, Bool, true, false, cond, List, [], Some, None, refl, sym, ap, ◌∙◌, subst, arith}
 use Rattle.std.proofs.lemmas.Bool.{eqb-true}
 use Rattle.std.proofs.lemmas.Bool.Decides.{nat_tests}
-use Rattle.lard_answers.specs.Answers.{FilesAt}
-use Rattle.lard_base.specs.declared.place.Place.{Place}
+use Rattle.lard_law_view.specs.Prelude.{ClientBlock, ControlBlock, Ending, FilesAt, Final, FrontPart, FrontRow, Kept, NodeEnv, NodePart, Part, Phase, Place, Station, Work, asked_kept, front_rest, kept_after, node_put_back, node_rests, speaks, symbols, wants_kept, with_front, with_node}
 use Rattle.lard_bound.specs.Seats.{Gone, Held, Here, Offered, Over, SeatNow, Staying, Unborn, Waiting, seat_of, staying_of, tells_end}
 use Rattle.lard_bound.specs.Spots.{post_of, spot_of}
 use Rattle.lard_bound.specs.Units.{Whole, block_left, ended_left, is_stale, left_with, one_if_not, symbols_taken, tellers, untaken}
-use Rattle.lard_client.specs.Control.{ClientBlock}
-use Rattle.lard_client.specs.declared.phase.Phase.{Phase}
 use Rattle.lard_client.specs.declared.phase.Phase.TheVariants as phase
-use Rattle.lard_law_view.specs.View.{Part, node_put_back, with_front, with_node}
-use Rattle.lard_endpoint.specs.Control.{ControlBlock}
-use Rattle.lard_endpoint.specs.declared.control.moving.Final.{Final}
-use Rattle.lard_rules.specs.Front.{FrontPart, front_rest}
 use Rattle.lard_handoff_back.specs.declared.row.BackConn.TheVariants as back
-use Rattle.lard_handoff_front.specs.declared.row.FrontRow.{FrontRow}
-use Rattle.lard_rules.specs.Node.{NodePart, asked_kept, kept_after, node_rests, wants_kept}
-use Rattle.lard_rules.specs.Stay.{NodeEnv, Work}
 use Rattle.lard_law_progress.proofs.Away.{IsWith, away-ended, away-here, by-ending, not-less, seat-put, stay-less, tellers-put, tellers-same, tells, tells-one}
 use Rattle.lard_law_progress.proofs.Ends.{IsSaid, speaks-said}
 use Rattle.lard_law_progress.proofs.Less.{Lasting, falls, left_by}
 use Rattle.lard_law_progress.proofs.Stays.{cost, read_of}
-use Rattle.lard_resend.specs.declared.kept.Kept.{Kept}
-use Rattle.lard_rules.specs.declared.places.Ending.{Ending}
 use Rattle.lard_rules.specs.declared.places.Ending.TheVariants as ending
-use Rattle.lard_rules.specs.declared.places.Station.{Station}
-use Rattle.lard_rules.specs.Speaking.{speaks}
-use Rattle.lard_send.specs.Send.{symbols}
 
 pub stale-one : (x : ClientBlock) (b : ControlBlock) → is_stale x b ≤ 1
 stale-one x b = go (b.send.wnd == x.wnd) where

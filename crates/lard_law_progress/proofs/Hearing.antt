@@ -1,17 +1,10 @@
 -- What an open client makes of a segment: it owes an acknowledgement of data, and takes one of what it sent.
 use Rattle.std.proofs.Common.{◌≡◌, ◌==◌, ◌&&◌, ◌||◌, nat_lt, not, true, false, cond, length, refl, sym, ap, ◌∙◌, subst}
 use Rattle.std.proofs.lemmas.Bool.{cond_both, cond-false, cond-true}
-use Rattle.lard_arrival.specs.Arrival.{bare, is_acceptable, is_allowed}
+use Rattle.lard_law_view.specs.Prelude.{ClientBlock, Heard, Phase, Said, accepting, after_ack, bare, client_arrived, client_begins_after, client_ends, client_on_ack, client_on_rst, client_on_segment, client_on_syn, client_on_text, client_on_unacceptable, client_owing, client_part_of, client_rcv_nxt, client_rcv_wnd, fresh_len, heard_in, heard_nothing, is_acceptable, is_allowed, on_fresh, on_greeting, reset_by_peer, seq_offset}
 use Rattle.lard_bound.specs.Chains.{is_plain}
-use Rattle.lard_client.specs.Arriving.{accepting, client_arrived, client_begins_after, client_ends, fresh_len, heard_in, heard_nothing, client_on_ack, on_fresh, on_greeting, client_on_rst, client_on_segment, client_on_syn, client_on_text, client_on_unacceptable, client_owing, client_part_of, reset_by_peer}
-use Rattle.lard_client.specs.Control.{ClientBlock, client_rcv_nxt, client_rcv_wnd}
-use Rattle.lard_client.specs.declared.heard.Heard.{Heard}
-use Rattle.lard_client.specs.declared.phase.Phase.{Phase}
 use Rattle.lard_client.specs.declared.phase.Phase.TheVariants.{Open}
 use Rattle.lard_law_progress.proofs.Silence.{ack-una, plain-parts}
-use Rattle.lard_segment.specs.Segment.{Said}
-use Rattle.lard_send.specs.Send.{after_ack}
-use Rattle.lard_seq.specs.Seq.{seq_offset}
 
 -- It is open and established, and the segment acknowledges nothing that it did not send.
 pub record IsInTalk (x : ClientBlock) (s : Said) : Type 0 where

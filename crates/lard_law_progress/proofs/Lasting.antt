@@ -1,41 +1,23 @@
 -- Every step of which a settle's rounds are made: no unit of a connection comes back, and where none goes, its spot is as it was.
-use Rattle.std.proofs.Common.{◌≡◌, ℕ, List, [], ◌∷◌, Option, Some, None, Result, Ok, Err, refl, sym, ap, ◌∙◌, subst, arith}
-use Rattle.lard_answers.specs.Answers.{FilesAt}
-use Rattle.lard_base.specs.declared.place.Place.TheVariants.{Client, Front, Node}
+use Rattle.std.proofs.Common.{◌≡◌, ℕ, List, Option, Some, None, Result, Ok, Err, refl, sym, ap, ◌∙◌, subst, arith}
+use Rattle.lard_law_view.specs.Prelude.{Client, ClientBlock, ClientFires, ClientGets, ClientReceives, ClientRules, Conn, Front, FrontRules, IsConnSound, IsNodeEnv, Letter, MayRestOn, Message, Move, MsgFault, Node, NodeEnv, NodeRules, Rec, Rules, Said, Seen, SegFault, Setting, SpellsMessage, Station, ToClient, ToCluster, Turn, ask_of, client_does, client_gets, client_timer, decoded, decoded_message, event_seen, front_admits, front_asked, front_does, front_ended, front_gets, front_taken, front_timer, grown, node_does, node_rule, nothing_said, offer_answer, packet_seen, stands}
+use Rattle.lard_law_view.proofs.EachClient.{ClientComes, client_goes, each-client}
 use Rattle.lard_bound.specs.Progress.{IfCame, IsWarm, IsWarmBy, IsWarmMessage, IsWarmSegment, Lasts, came_in, spot_with}
-use Rattle.lard_bound.specs.Seats.{seat_of}
-use Rattle.lard_bound.specs.Spots.{spot_of}
 use Rattle.lard_bound.specs.Units.{Whole, left_to_client, units}
-use Rattle.lard_client.specs.Control.{ClientBlock}
-use Rattle.lard_law_view.specs.View.{ClientRules, Conn, FrontRules, IsConnSound, Move, NodeRules, Part, Rules, Setting, SpellsMessage, brought_said, client_does, content_said, event_seen, front_admits, front_does, grown, node_does, nothing_said, packet_seen, reads_first, stands}
 use Rattle.lard_rules.specs.Front as front
-use Rattle.lard_rules.specs.Front.{ask_of, front_asked, front_ended, front_gets, front_taken, front_timer}
-use Rattle.lard_handoff_back.specs.Back.{offer_answer}
 use Rattle.lard_handoff_back.specs.declared.table.Adopt.TheVariants.{New}
-use Rattle.lard_history.specs.Own.{Letter, Seen}
-use Rattle.lard_journal.specs.declared.rec.Rec.{Rec}
-use Rattle.lard_journal.specs.declared.rec.Rec.TheVariants as rec
 use Rattle.lard_base.specs.declared.event.Event.TheVariants as event
-use Rattle.lard_message.specs.declared.fault.MsgFault.{MsgFault}
 use Rattle.lard_message.specs.declared.message.Body.TheVariants as body
-use Rattle.lard_message.specs.declared.message.Message.{Message}
-use Rattle.lard_message.specs.Reading.{decoded_message}
 use Rattle.lard_rules.specs.Node as node
-use Rattle.lard_rules.specs.Node.{node_acknowledged, node_content, node_forwarded, node_offered, node_read, node_tagged, node_timer}
+use Rattle.lard_law_view.proofs.EachNode.{NodeComes, aside_said, aside_seen, each-node, job_notes, told_first}
 use Rattle.lard_law_progress.proofs.Clients.{Turned, client-less, client-steady, heard-turned, timer-turned}
 use Rattle.lard_law_progress.proofs.FrontMessages.{asked-lasts, ended-lasts, taken-lasts}
-use Rattle.lard_law_progress.proofs.Given.{Given, IsNewOffer, Owed, SeatKnown}
+use Rattle.lard_law_progress.proofs.Given.{Given, IsNewOffer, Owed}
 use Rattle.lard_law_progress.proofs.Less.{idles, lasts}
 use Rattle.lard_law_progress.proofs.Lining.{admitted-lasts}
-use Rattle.lard_law_progress.proofs.NodeMessages.{acknowledged-lasts, contents-last, fires-last, forwards-last, offers-last, reads-last, tags-last}
+use Rattle.lard_law_progress.proofs.NodeMessages.{IsExpected, rule-lasts}
 use Rattle.lard_law_progress.proofs.Placing.{fires-lasts, gets-lasts}
 use Rattle.lard_law_progress.proofs.Seating.{FrontLasts, NodeLasts}
-use Rattle.lard_rules.specs.declared.places.Station.{Station}
-use Rattle.lard_rules.specs.declared.places.Turn.{Turn}
-use Rattle.lard_rules.specs.Client.{client_gets, client_timer}
-use Rattle.lard_segment.specs.declared.fault.SegFault.{SegFault}
-use Rattle.lard_segment.specs.declared.segment.Dir.TheVariants.{ToClient, ToCluster}
-use Rattle.lard_segment.specs.Segment.{Said, decoded}
 
 -- ---- a move, by its client
 
@@ -55,19 +37,9 @@ by-station k w x v same h = go x.part.station refl where
   go None at = nobody k w x v at (same ∙ at)
   go (Some st) at = h st at
 
--- a spot is of the part alone
-spot-part : (files : FilesAt) (x y : Conn) → x.part ≡ y.part → (o : Option Station) → spot_with files x o ≡ spot_with files y o
-spot-part files x y same None = refl
-spot-part files x y same (Some s) = ap (λ (p : Part). Some (spot_of files p s)) same
-
--- what is noted first changes nothing of that
-first-lasts : (k : Setting) (w : Whole) (x : Conn) (r : Rec) (v : Move) → Lasts k w x v → Lasts k w x (reads_first r v)
-unfolding units
-first-lasts k w x r v h = record { less = h.less; steady = λ up. spot-part k.files (grown x (reads_first r v)) (grown x v) refl v.part.station ∙ h.steady up }
-
 -- ---- what comes is warm
 
--- whatever a deed is, its heads stand first
+-- whatever a deed is, its heads stand first, and it is at its place
 pub front-heads : (x : Conn) (heads : List Seen) (d : front.FrontDeed) → (front_does x heads d).heads ≡ heads
 front-heads x heads front.Drops = refl
 front-heads x heads (front.Says turn) = refl
@@ -77,6 +49,11 @@ pub node-heads : (x : Conn) (n : ℕ) (heads : List Seen) (d : node.NodeDeed) �
 node-heads x n heads node.Drops = refl
 node-heads x n heads (node.Says messages) = refl
 node-heads x n heads (node.Does given) = refl
+
+pub node-place : (x : Conn) (n : ℕ) (heads : List Seen) (d : node.NodeDeed) → (node_does x n heads d).place ≡ Node n
+node-place x n heads node.Drops = refl
+node-place x n heads (node.Says messages) = refl
+node-place x n heads (node.Does given) = refl
 
 came-by : (x : Conn) {heads hs : List Seen} → heads ≡ hs → IfCame (IsWarm x) (came_in heads) → IfCame (IsWarm x) (came_in hs)
 came-by x same h = subst (λ (ss : List Seen). IfCame (IsWarm x) (came_in ss)) same h
@@ -98,25 +75,25 @@ warm-forward x st n epoch segment bytes sound at spells h =
 module _ (k : Setting) (all : ℕ → Whole) where
   -- ---- a deed is a move
 
-  -- what is known of where the connection is behind a move
-  abbrev After : Conn → Part → Type 0
-  After x p = (st : Station) → p.station ≡ Some st → SeatKnown (all x.c) st.client (seat_of p)
-
-  front-deed : (x : Conn) (heads : List Seen) (d : front.FrontDeed) → ((st : Station) → x.part.station ≡ Some st → FrontLasts (all x.c) k.nodes k.files x.part st d) → After x (front_does x heads d).part
+  front-deed : (x : Conn) (heads : List Seen) (d : front.FrontDeed)
+      → ((st : Station) → x.part.station ≡ Some st → FrontLasts (all x.c) k.nodes k.files x.part st d) → Given k all (grown x (front_does x heads d))
       → Lasts k (all x.c) x (front_does x heads d)
   front-deed x heads front.Drops h g = idles k (all x.c) x (front_does x heads front.Drops) refl
   front-deed x heads (front.Says turn) h g = idles k (all x.c) x (front_does x heads (front.Says turn)) refl
   front-deed x heads (front.Does did) h g =
       let v = front_does x heads (front.Does did) in
-      by-station k (all x.c) x v refl (λ st at. lasts k (all x.c) x v st st at at (h st at (g st at)))
+      by-station k (all x.c) x v refl (λ st at. lasts k (all x.c) x v st st at at (h st at (g st at).seat))
 
-  node-deed : (x : Conn) (n : ℕ) (heads : List Seen) (d : node.NodeDeed) → ((st : Station) → x.part.station ≡ Some st → NodeLasts (all x.c) k.nodes k.files x.part st n d) → After x (node_does x n heads d).part
-      → Lasts k (all x.c) x (node_does x n heads d)
-  node-deed x n heads node.Drops h g = idles k (all x.c) x (node_does x n heads node.Drops) refl
-  node-deed x n heads (node.Says messages) h g = idles k (all x.c) x (node_does x n heads (node.Says messages)) refl
-  node-deed x n heads (node.Does given) h g =
-      let v = node_does x n heads (node.Does given) in
-      by-station k (all x.c) x v refl (λ st at. lasts k (all x.c) x v st st at at (h st at (g st at)))
+  -- whatever was noted first
+  node-deed : (x : Conn) (n : ℕ) (rs : List Rec) (heads : List Seen) (d : node.NodeDeed)
+      → ((st : Station) → x.part.station ≡ Some st → NodeLasts (all x.c) k.nodes k.files x.part st n d)
+      → Given k all (grown x (told_first rs (node_does x n heads d)))
+      → Lasts k (all x.c) x (told_first rs (node_does x n heads d))
+  node-deed x n rs heads node.Drops h g = idles k (all x.c) x (told_first rs (node_does x n heads node.Drops)) refl
+  node-deed x n rs heads (node.Says messages) h g = idles k (all x.c) x (told_first rs (node_does x n heads (node.Says messages))) refl
+  node-deed x n rs heads (node.Does given) h g =
+      let v = told_first rs (node_does x n heads (node.Does given)) in
+      by-station k (all x.c) x v refl (λ st at. lasts k (all x.c) x v st st at at (h st at (g st at).seat))
 
   -- ---- clients
 
@@ -136,18 +113,14 @@ module _ (k : Setting) (all : ℕ → Whole) where
       idles k (all x.c) x (client_does x s heads (client_gets s.client (Err fault))) (λ i. record { station = sym at i; front = x.part.front; nodes = x.part.nodes })
   client-hears x s heads (Ok said) at g = client-move x s heads (client_gets s.client (Ok said)) at (heard-turned s.client said) g
 
+  -- an inner event is its timer, or a packet that comes
+  client-lasts : (x : Conn) (s : Station) (g : ClientGets) → x.part.station ≡ Some s → ClientComes k x s g → Owed k all x (client_goes x s g)
+  client-lasts x s ClientFires at comes m g inner came = client-move x s (event_seen (event.Timer (Client x.c) x.c)) (client_timer s.client) at (timer-turned s.client) g
+  client-lasts x s (ClientReceives from bytes) at was m g inner came = client-hears x s (packet_seen from (Client x.c) bytes) (decoded bytes x.c ToClient) at g
+  client-lasts x s _ at comes m g inner came = absurd inner.0
+
   clients : ClientRules k (Owed k all)
-  clients = record {
-    opens = λ x isn iss wnd mss rule none m g inner came. absurd inner.0;
-    gets = λ x s path at le m g inner came. absurd inner.0;
-    writes = λ x s bytes at le m g inner came. absurd inner.0;
-    shuts = λ x s at m g inner came. absurd inner.0;
-    aborts = λ x s at m g inner came. absurd inner.0;
-    holds = λ x s at m g inner came. absurd inner.0;
-    takes = λ x s at m g inner came. absurd inner.0;
-    fires = λ x s at m g inner came. client-move x s (event_seen (event.Timer (Client x.c) x.c)) (client_timer s.client) at (timer-turned s.client) g;
-    hears = λ x s from bytes at was m g inner came. client-hears x s (packet_seen from (Client x.c) bytes) (decoded bytes x.c ToClient) at g;
-  }
+  clients = each-client k (Owed k all) (record { opens = λ x isn iss wnd mss rule none m g inner came. absurd inner.0; does = client-lasts })
 
   -- ---- the front end
 
@@ -155,22 +128,19 @@ module _ (k : Setting) (all : ℕ → Whole) where
   fronts = record {
     hears = λ x s env bytes there is iss was m g inner came. front-deed x (packet_seen (Client x.c) Front bytes) (front_gets env x.part.front bytes (decoded bytes x.c ToCluster))
         (λ st at. let known = m.given st at in
-        gets-lasts (all x.c) k.nodes k.files x.part st known.seat known.heard known.fresh env bytes (decoded bytes x.c ToCluster) (warm-word x st bytes m.sound at (came-by x (front-heads x (packet_seen (Client x.c) Front bytes) (front_gets env x.part.front bytes (decoded bytes x.c ToCluster))) came)))
-        (λ st at. (g st at).seat);
+        gets-lasts (all x.c) k.nodes k.files x.part st known.seat known.heard known.fresh env bytes (decoded bytes x.c ToCluster)
+        (warm-word x st bytes m.sound at (came-by x (front-heads x (packet_seen (Client x.c) Front bytes)
+        (front_gets env x.part.front bytes (decoded bytes x.c ToCluster))) came))) g;
     fires = λ x s env there is m g inner came. front-deed x (event_seen (event.Timer Front x.c)) (front_timer env x.part.front)
-        (λ st at. let known = m.given st at in fires-lasts (all x.c) k.nodes k.files x.part st known.seat known.heard known.fresh env)
-        (λ st at. (g st at).seat);
+        (λ st at. let known = m.given st at in fires-lasts (all x.c) k.nodes k.files x.part st known.seat known.heard known.fresh env) g;
     taken = λ x env n epoch bytes is spells was m g inner came. front-deed x (packet_seen (Node n) Front bytes) (front_taken x.part.front epoch)
-        (λ st at. taken-lasts (all x.c) k.nodes k.files x.part st epoch)
-        (λ st at. (g st at).seat);
+        (λ st at. taken-lasts (all x.c) k.nodes k.files x.part st epoch) g;
     asked = λ x env n epoch number queue size paths bytes is spells was m g inner came. front-deed x (packet_seen (Node n) Front bytes) (front_asked env x.part.front n epoch (ask_of x.c n number queue size paths))
-        (λ st at. asked-lasts (all x.c) k.nodes k.files x.part st env n epoch (ask_of x.c n number queue size paths))
-        (λ st at. (g st at).seat);
+        (λ st at. asked-lasts (all x.c) k.nodes k.files x.part st env n epoch (ask_of x.c n number queue size paths)) g;
     ended = λ x env n epoch reason snd rcv count bytes is spells was m g inner came.
         front-deed x (packet_seen (Node n) Front bytes) (front_ended env x.part.front n epoch (record { reason = reason; snd = record { 0 = snd }; rcv = record { 0 = rcv } }))
         (λ st at. ended-lasts (all x.c) k.nodes k.files x.part st env n epoch (record { reason = reason; snd = record { 0 = snd }; rcv = record { 0 = rcv } })
-        ((m.given st at).ends n epoch reason snd rcv count bytes spells was))
-        (λ st at. (g st at).seat);
+        ((m.given st at).ends n epoch reason snd rcv count bytes spells was)) g;
     admitted = λ x env choice given is e m g inner came. by-station k (all x.c) x (front_admits x given) refl
         (λ st at. let known = m.given st at in
         lasts k (all x.c) x (front_admits x given) st st at at (admitted-lasts (all x.c) k.nodes k.files x.part st env choice given known.seat known.fresh e));
@@ -178,39 +148,27 @@ module _ (k : Setting) (all : ℕ → Whole) where
 
   -- ---- nodes
 
+  -- what comes to a node is expected there
+  expected : (x : Conn) (n epoch : ℕ) (env : NodeEnv) (heads : List Seen) (g : node.NodeGets) → IsNodeEnv k x.c n epoch env → NodeComes x n epoch heads g
+      → MayRestOn (Given k all) x → IfCame (IsWarm x) (came_in heads)
+      → (st : Station) → x.part.station ≡ Some st → IsExpected (all x.c) k.nodes k.files x.part st n env g
+  expected x n epoch env heads (node.Offered parts) is comes m came st at =
+      subst (λ e. offer_answer e (x.part.nodes n).row ≡ New → IsNewOffer x.part st.client n e parts) (sym is.epoch_is)
+      ((m.given st at).offers n epoch parts comes.bytes comes.spells comes.was)
+  expected x n epoch env heads (node.Forwarded given) is comes m came st at =
+      subst (IsWarmSegment st.client) (sym comes.read) (warm-forward x st n epoch comes.segment comes.came.bytes m.sound at comes.came.spells
+      (came-by x comes.came.seen came))
+  expected x n epoch env heads g is comes m came st at = tt
+
   nodes : NodeRules k (Owed k all)
-  nodes = record {
-    offered = λ x n epoch env parts bytes is spells was m g inner came. node-deed x n (packet_seen Front (Node n) bytes) (node_offered env (x.part.nodes n) parts)
+  nodes = each-node k (Owed k all) (record {
+    does = λ x n epoch env heads g is in_its comes m after inner came. let d = node_rule env (x.part.nodes n) g in
+        node-deed x n (job_notes x.c n g) heads d
         (λ st at. let known = m.given st at in
-        offers-last (all x.c) k.nodes k.files x.part st n env parts
-        (subst (λ e. offer_answer e (x.part.nodes n).row ≡ New → IsNewOffer x.part st.client n e parts) (sym is.epoch_is) (known.offers n epoch parts bytes spells was)))
-        (λ st at. (g st at).seat);
-    forwarded = λ x n epoch env segment bytes is spells was m g inner came. node-deed x n (packet_seen Front (Node n) bytes) (node_forwarded env (x.part.nodes n) (decoded segment x.c ToCluster))
-        (λ st at. let known = m.given st at in
-        forwards-last (all x.c) k.nodes k.files x.part st n env known.seat known.heard (known.homes n env.epoch) (decoded segment x.c ToCluster) (warm-forward x st n epoch segment bytes m.sound at spells
-        (came-by x (node-heads x n (packet_seen Front (Node n) bytes) (node_forwarded env (x.part.nodes n) (decoded segment x.c ToCluster))) came)))
-        (λ st at. (g st at).seat);
-    tagged = λ x n epoch number tags env bytes is spells was m g inner came. node-deed x n (packet_seen Front (Node n) bytes) (node_tagged env (x.part.nodes n) number tags)
-        (λ st at. let known = m.given st at in tags-last (all x.c) k.nodes k.files x.part st n env known.seat known.heard (known.homes n env.epoch) number tags)
-        (λ st at. (g st at).seat);
-    content = λ x n from epoch r env file bytes is spells was m g inner came. node-deed x n (packet_seen (Node from) (Node n) bytes) (node_content env (x.part.nodes n) from r)
-        (λ st at. let known = m.given st at in contents-last (all x.c) k.nodes k.files x.part st n env known.seat known.heard (known.homes n env.epoch) from r)
-        (λ st at. (g st at).seat);
-    acknowledged = λ x n epoch env bytes is spells was m g inner came. node-deed x n (packet_seen Front (Node n) bytes) (node_acknowledged env (x.part.nodes n))
-        (λ st at. acknowledged-lasts (all x.c) k.nodes k.files x.part st n env ((m.given st at).there n))
-        (λ st at. (g st at).seat);
-    read = λ x n epoch r env path is m g inner came. first-lasts k (all x.c) x (rec.Read n n x.c r path) (node_does x n [] (node_read env (x.part.nodes n) r))
-        (node-deed x n [] (node_read env (x.part.nodes n) r)
-        (λ st at. let known = m.given st at in reads-last (all x.c) k.nodes k.files x.part st n env known.seat known.heard (known.homes n env.epoch) r)
-        (λ st at. (g st at).seat));
-    fires = λ x s n env there is m g inner came. node-deed x n (event_seen (event.Timer (Node n) x.c)) (node_timer env (x.part.nodes n))
-        (λ st at. let known = m.given st at in fires-last (all x.c) k.nodes k.files x.part st n env known.seat known.heard (known.homes n env.epoch) is.epoch_is)
-        (λ st at. (g st at).seat);
-    answers = λ x n from epoch r path file bytes is spells was m g inner came. idles k (all x.c) x (stands x (Node n) (packet_seen (Node from) (Node n) bytes) (content_said k n from x.c epoch r path)) refl;
-    queues = λ x n from epoch r path file bytes is spells was m g inner came.
-        idles k (all x.c) x (stands x (Node n) (packet_seen (Node from) (Node n) bytes) (record nothing_said { notes = rec.Queued n from x.c r path ∷ [] })) refl;
-    brings = λ x n from epoch r path m g inner came. idles k (all x.c) x (stands x (Node n) [] (brought_said k n from x.c epoch r path)) refl;
-  }
+        rule-lasts (all x.c) k.nodes k.files x.part st n env known.seat known.heard (known.homes n env.epoch) (known.there n) g in_its
+        (expected x n epoch env heads g is comes m (came-by x (node-heads x n heads d) came) st at)) after;
+    aside = λ x n a may m after inner came. idles k (all x.c) x (stands x (Node n) (aside_seen n a) (aside_said k n x.c a)) refl;
+  })
 
   -- ---- every rule
 

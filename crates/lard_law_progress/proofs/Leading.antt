@@ -1,19 +1,17 @@
 -- Every step of which a settle's rounds are made leads further: no unit comes back, and what comes of a packet is shorter and nearer.
 use Rattle.std.proofs.Common.{◌≡◌, ◌<◌, ℕ, List, [], ◌∷◌, Option, Some, None, refl, sym, ◌∙◌, subst, arith}
 use Rattle.lard_base.specs.declared.event.Event.TheVariants as event
-use Rattle.lard_base.specs.declared.place.Place.{Place}
-use Rattle.lard_base.specs.declared.place.Place.TheVariants.{Client, Front, Node}
+use Rattle.lard_law_view.specs.Prelude.{Came, Client, ClientFires, ClientGets, ClientReceives, ClientRules, Conn, Front, FrontRules, IsNobody, IsUnheard, Letter, MayRestOn, Move, Node, NodeEnv, NodeRules, Place, Row, Rules, Seen, Setting, Station, ToCluster, ask_of, decoded, front_asked, front_does, front_ended, front_gets, front_taken, front_timer, grown, node_read, node_rule, nothing_said, packet_seen, stands}
+use Rattle.lard_law_view.proofs.EachClient.{ClientComes, client_goes, each-client}
 use Rattle.lard_bound.specs.Progress.{Answers, IfCame, IsWarm, Lasts, came_in}
 use Rattle.lard_bound.specs.Units.{Whole, units}
-use Rattle.lard_law_view.specs.Carry.{MayRestOn}
-use Rattle.lard_law_view.specs.View.{ClientRules, Conn, content_said, FrontRules, IsNobody, IsUnheard, Move, NodeRules, Rules, Setting, brought_said, client_does, event_seen, front_admits, front_does, grown, node_does, nothing_said, packet_seen, reads_first, stands}
 use Rattle.lard_law_view.proofs.Saying.{NamesAll}
 use Rattle.lard_rules.specs.Front as front
-use Rattle.lard_rules.specs.Front.{ask_of, front_asked, front_ended, front_gets, front_taken, front_timer}
-use Rattle.lard_history.specs.Own.{Came, Letter, Row, Seen}
 use Rattle.lard_journal.specs.declared.rec.Rec.TheVariants as rec
 use Rattle.lard_rules.specs.Node as node
-use Rattle.lard_rules.specs.Node.{node_acknowledged, node_content, node_forwarded, node_offered, node_read, node_tagged, node_timer}
+use Rattle.lard_law_view.proofs.EachNode.{Aside, NodeComes, aside_said, aside_seen, each-node, node_goes}
+use Rattle.lard_law_view.proofs.EachNode as each
+use Rattle.lard_law_view.proofs.Guarded.{both, node-both, node-weaker, weaker}
 use Rattle.lard_law_progress.proofs.Admitting.{admitted-falls}
 use Rattle.lard_law_progress.proofs.AnswersClientGiven.{ClientGiven}
 use Rattle.lard_law_progress.proofs.AnswersClientRules.{client-answers}
@@ -25,10 +23,7 @@ use Rattle.lard_law_progress.proofs.AnswersNodeGiven.{NodeGiven}
 use Rattle.lard_law_progress.proofs.AnswersNodeJobs.{JobOwes, brings-works, read-works}
 use Rattle.lard_law_progress.proofs.AnswersNodeRules.{node-answers}
 use Rattle.lard_law_progress.proofs.Given.{AreInner, Given, Owed}
-use Rattle.lard_law_progress.proofs.Lasting.{front-heads, node-heads, rules-last}
-use Rattle.lard_rules.specs.Client.{client_gets, client_timer}
-use Rattle.lard_segment.specs.declared.segment.Dir.TheVariants.{ToClient, ToCluster}
-use Rattle.lard_segment.specs.Segment.{decoded}
+use Rattle.lard_law_progress.proofs.Lasting.{front-heads, node-heads, node-place, rules-last}
 
 -- ---- what is given
 
@@ -59,95 +54,81 @@ pub record Leads (k : Setting) (w : Whole) (x : Conn) (v : Move) : Type 0 where
 abbrev pub OwesAll : Setting → (ℕ → Whole) → Conn → Move → Type 0
 OwesAll k all x v = MayRestOn (AllGiven k all) x → AllGiven k all (grown x v) → Comes x v → Leads k (all x.c) x v
 
+-- what that takes beside that no unit comes back
+record Further (k : Setting) (w : Whole) (x : Conn) (v : Move) : Type 0 where
+  answers : IfCame (Answers k w x v) (came_in v.heads)
+  alone : v.heads ≡ [] → (NamesAll v.place → units w k.nodes (grown x v) < units w k.nodes x) × JobOwes k w x v
+
 both-came : (P Q : Letter → Type 0) (o : Option Letter) → IfCame P o → IfCame Q o → IfCame (λ l. P l × Q l) o
 both-came P Q None p q = tt
 both-came P Q (Some l) p q = (p, q)
 
+-- what is seen is not nothing
+begun : (h : Seen) (hs : List Seen) → h ∷ hs ≡ [] → ⊥
+begun h hs e = cc
+
 module _ (k : Setting) (all : ℕ → Whole) where
+  -- P of a move, by all that is given
+  abbrev Within : (Conn → Move → Type 0) → Conn → Move → Type 0
+  Within P x v = MayRestOn (AllGiven k all) x → AllGiven k all (grown x v) → Comes x v → Lasts k (all x.c) x v → P x v
+
   abbrev Answered : Conn → Move → Type 0
-  Answered x v = MayRestOn (AllGiven k all) x → AllGiven k all (grown x v) → Comes x v → Lasts k (all x.c) x v → IfCame (Answers k (all x.c) x v) (came_in v.heads)
+  Answered = Within (λ x v. IfCame (Answers k (all x.c) x v) (came_in v.heads))
+
+  abbrev Adds : Conn → Move → Type 0
+  Adds = Within (λ x v. Further k (all x.c) x v)
 
   -- what a rule of prog owes, with what is given of all
   may : (H : Conn → Type 0) (x : Conn) → MayRestOn (AllGiven k all) x → (AllGiven k all x → H x) → MayRestOn H x
   may H x m f = record { number = m.number; sound = m.sound; given = f m.given }
 
-  lasting : (x : Conn) (v : Move) → Owed k all x v → MayRestOn (AllGiven k all) x → AllGiven k all (grown x v) → Comes x v → Lasts k (all x.c) x v
-  lasting x v owed m after comes = owed (may (Given k all) x m (λ g. g.known)) after.known comes.inner comes.warm
-
   -- a move that sees its event
-  sees : (x : Conn) (v : Move) → (v.heads ≡ [] → ⊥) → Owed k all x v → Answered x v → OwesAll k all x v
-  sees x v some owed answered m after comes =
-      let l = lasting x v owed m after comes in
-      record { lasts = l; answers = answered m after comes l; admits = λ none. absurd (some none); works = λ none. absurd (some none) }
-
-  -- what is seen begins with it
-  begun : (h : Seen) (hs ss : List Seen) → ss ≡ h ∷ hs → ss ≡ [] → ⊥
-  begun h hs ss e f = let bad : h ∷ hs ≡ [] = sym e ∙ f in cc
-
-  lasts_all : Rules k (Owed k all)
-  lasts_all = rules-last k all
+  sees : (x : Conn) (v : Move) → (v.heads ≡ [] → ⊥) → Answered x v → Adds x v
+  sees x v some answered m after comes l = record { answers = answered m after comes l; alone = λ none. absurd (some none) }
 
   -- ---- clients
 
-  clients : ClientRules k (OwesAll k all)
-  clients = record {
-    opens = λ x isn iss wnd mss rule none m after comes. absurd comes.inner.0;
-    gets = λ x s path at few m after comes. absurd comes.inner.0;
-    writes = λ x s bytes at few m after comes. absurd comes.inner.0;
-    shuts = λ x s at m after comes. absurd comes.inner.0;
-    aborts = λ x s at m after comes. absurd comes.inner.0;
-    holds = λ x s at m after comes. absurd comes.inner.0;
-    takes = λ x s at m after comes. absurd comes.inner.0;
-    fires = λ x s at.
-        let hs = event_seen (event.Timer (Client x.c) x.c) in
-        sees x (client_does x s hs (client_timer s.client)) (begun (Row (rec.Event 0 (event.Timer (Client x.c) x.c))) [] hs refl) (lasts_all.untouched.client.fires x s at) (λ m after comes l. tt);
-    hears = λ x s from bytes at was.
-        let hs = packet_seen from (Client x.c) bytes in
-        sees x (client_does x s hs (client_gets s.client (decoded bytes x.c ToClient))) (begun (Came (record { from = from; to = Client x.c; bytes = bytes })) [] hs refl) (lasts_all.untouched.client.hears x s from bytes at was)
-        (λ m after comes l. (client-answers k (all x.c)).hears x s from bytes at was (may ClientGiven x m (λ g. g.client)) after.client comes.warm comes.late l);
-  }
+  client-adds : (x : Conn) (s : Station) (g : ClientGets) → x.part.station ≡ Some s → ClientComes k x s g → Adds x (client_goes x s g)
+  client-adds x s ClientFires at comes = sees x (client_goes x s ClientFires) (begun _ _) (λ m after comes l. tt)
+  client-adds x s (ClientReceives from bytes) at was = sees x (client_goes x s (ClientReceives from bytes)) (begun _ _)
+      (λ m after comes l. (client-answers k (all x.c)).hears x s from bytes at was (may ClientGiven x m (λ g. g.client)) after.client comes.warm comes.late l)
+  client-adds x s _ at none = λ m after comes l. absurd comes.inner.0
+
+  clients : ClientRules k Adds
+  clients = each-client k Adds (record { opens = λ x isn iss wnd mss rule none m after comes l. absurd comes.inner.0; does = client-adds })
 
   -- ---- the front end
 
   abbrev FrontOf : Conn → Conn → Type 0
   FrontOf x y = FrontGiven k.files (all x.c) y
 
-  front-sees : (x : Conn) (h : Seen) (d : front.FrontDeed) → let v = front_does x (h ∷ []) d in Owed k all x v → Answered x v → OwesAll k all x v
-  front-sees x h d = sees x (front_does x (h ∷ []) d) (begun h [] (front_does x (h ∷ []) d).heads (front-heads x (h ∷ []) d))
+  front-sees : (x : Conn) (h : Seen) (d : front.FrontDeed) → let v = front_does x (h ∷ []) d in
+      (MayRestOn (FrontOf x) x → FrontOf x (grown x v) → IfCame (λ a. IsWarm x a × IsLateOn x a) (came_in v.heads) → Lasts k (all x.c) x v
+      → IfCame (Answers k (all x.c) x v) (came_in v.heads)) → Adds x v
+  front-sees x h d owes =
+      let v = front_does x (h ∷ []) d in
+      sees x v (λ none. begun h [] (sym (front-heads x (h ∷ []) d) ∙ none))
+      (λ m after comes l. owes (may (FrontOf x) x m (λ g. g.front)) after.front (both-came (IsWarm x) (IsLateOn x) (came_in v.heads) comes.warm comes.late) l)
 
-  front-by : (x : Conn) (v : Move) → (MayRestOn (FrontOf x) x → FrontOf x (grown x v) → IfCame (λ a. IsWarm x a × IsLateOn x a) (came_in v.heads) → Lasts k (all x.c) x v → IfCame (Answers k (all x.c) x v) (came_in v.heads))
-      → Answered x v
-  front-by x v h m after comes l = h (may (FrontOf x) x m (λ g. g.front)) after.front (both-came (IsWarm x) (IsLateOn x) (came_in v.heads) comes.warm comes.late) l
-
-  fronts : FrontRules k (OwesAll k all)
+  fronts : FrontRules k Adds
   fronts = record {
-    hears = λ x s env bytes at is iss was.
-        let d = front_gets env x.part.front bytes (decoded bytes x.c ToCluster) in
-        let h = Came (record { from = Client x.c; to = Front; bytes = bytes }) in
-        front-sees x h d (lasts_all.untouched.front.hears x s env bytes at is iss was) (front-by x (front_does x (h ∷ []) d) ((front-answers k (all x.c)).hears x s env bytes at is iss was));
-    fires = λ x s env at is.
-        let d = front_timer env x.part.front in
-        let h = Row (rec.Event 0 (event.Timer Front x.c)) in
-        front-sees x h d (lasts_all.untouched.front.fires x s env at is) (front-by x (front_does x (h ∷ []) d) ((front-answers k (all x.c)).fires x s env at is));
-    taken = λ x env n epoch bytes is spells was.
-        let d = front_taken x.part.front epoch in
-        let h = Came (record { from = Node n; to = Front; bytes = bytes }) in
-        front-sees x h d (lasts_all.untouched.front.taken x env n epoch bytes is spells was) (front-by x (front_does x (h ∷ []) d) ((front-answers k (all x.c)).taken x env n epoch bytes is spells was));
-    asked = λ x env n epoch number queue size paths bytes is spells was.
-        let d = front_asked env x.part.front n epoch (ask_of x.c n number queue size paths) in
-        let h = Came (record { from = Node n; to = Front; bytes = bytes }) in
-        front-sees x h d (lasts_all.untouched.front.asked x env n epoch number queue size paths bytes is spells was)
-        (front-by x (front_does x (h ∷ []) d) ((front-answers k (all x.c)).asked x env n epoch number queue size paths bytes is spells was));
+    hears = λ x s env bytes at is iss was. front-sees x (Came (record { from = Client x.c; to = Front; bytes = bytes }))
+        (front_gets env x.part.front bytes (decoded bytes x.c ToCluster))
+        ((front-answers k (all x.c)).hears x s env bytes at is iss was);
+    fires = λ x s env at is. front-sees x (Row (rec.Event 0 (event.Timer Front x.c))) (front_timer env x.part.front)
+        ((front-answers k (all x.c)).fires x s env at is);
+    taken = λ x env n epoch bytes is spells was. front-sees x (Came (record { from = Node n; to = Front; bytes = bytes })) (front_taken x.part.front epoch)
+        ((front-answers k (all x.c)).taken x env n epoch bytes is spells was);
+    asked = λ x env n epoch number queue size paths bytes is spells was. front-sees x (Came (record { from = Node n; to = Front; bytes = bytes }))
+        (front_asked env x.part.front n epoch (ask_of x.c n number queue size paths))
+        ((front-answers k (all x.c)).asked x env n epoch number queue size paths bytes is spells was);
     ended = λ x env n epoch reason snd rcv count bytes is spells was.
-        let d = front_ended env x.part.front n epoch (record { reason = reason; snd = record { 0 = snd }; rcv = record { 0 = rcv } }) in
-        let h = Came (record { from = Node n; to = Front; bytes = bytes }) in
-        front-sees x h d (lasts_all.untouched.front.ended x env n epoch reason snd rcv count bytes is spells was)
-        (front-by x (front_does x (h ∷ []) d) ((front-answers k (all x.c)).ended x env n epoch reason snd rcv count bytes is spells was));
-    admitted = λ x env choice given is e m after comes.
-        let v = front_admits x given in
-        let l = lasting x v (lasts_all.untouched.front.admitted x env choice given is e) m after comes in
+        front-sees x (Came (record { from = Node n; to = Front; bytes = bytes }))
+        (front_ended env x.part.front n epoch (record { reason = reason; snd = record { 0 = snd }; rcv = record { 0 = rcv } }))
+        ((front-answers k (all x.c)).ended x env n epoch reason snd rcv count bytes is spells was);
+    admitted = λ x env choice given is e m after comes l.
         let falls = admitted-falls k (all x.c) x env choice given m.given.front.unopened (λ st at. (m.given.known st at).fresh) e l in
-        record { lasts = l; answers = tt; admits = λ none names. falls; works = λ none up. absurd (omega (arith, falls, up)) };
+        record { answers = tt; alone = λ none. (λ names. falls, λ up. absurd (omega (arith, falls, up))) };
   }
 
   -- ---- nodes
@@ -155,66 +136,34 @@ module _ (k : Setting) (all : ℕ → Whole) where
   abbrev NodeOf : Conn → Conn → Type 0
   NodeOf x y = NodeGiven k (all x.c) y
 
-  node-sees : (x : Conn) (n : ℕ) (h : Seen) (d : node.NodeDeed) → let v = node_does x n (h ∷ []) d in Owed k all x v → Answered x v → OwesAll k all x v
-  node-sees x n h d = sees x (node_does x n (h ∷ []) d) (begun h [] (node_does x n (h ∷ []) d).heads (node-heads x n (h ∷ []) d))
+  -- where there is nothing to see, a job was done
+  abbrev Alone : Conn → Move → Type 0
+  Alone x v = v.heads ≡ [] → NodeOf x x → NodeOf x (grown x v) → Lasts k (all x.c) x v → (NamesAll v.place → ⊥) × JobOwes k (all x.c) x v
 
-  node-by : (x : Conn) (v : Move) → Owes k (all x.c) (NodeOf x) x v → Answered x v
-  node-by x v h m after comes l = h (may (NodeOf x) x m (λ g. g.node)) after.node comes.warm comes.late l
+  node-alone : (x : Conn) (n epoch : ℕ) (env : NodeEnv) (heads : List Seen) (g : node.NodeGets) → NodeComes x n epoch heads g → heads ≡ []
+      → Alone x (node_goes x n env heads g)
+  node-alone x n epoch env heads (node.Completed r path) comes none = λ same given after l.
+      (λ names. subst NamesAll (node-place x n heads (node_read env (x.part.nodes n) r)) names, read-works k (all x.c) x n r env path heads given after l)
+  node-alone x n epoch env heads (node.Forwarded given) comes none = absurd (begun _ _ (sym comes.came.seen ∙ none))
+  node-alone x n epoch env heads (node.Content from r) comes none = absurd (begun _ _ (sym comes.came.seen ∙ none))
+  node-alone x n epoch env heads _ comes none = absurd (begun _ _ (sym comes.seen ∙ none))
 
-  -- a node's deed is at its place
-  node-place : (x : Conn) (n : ℕ) (heads : List Seen) (d : node.NodeDeed) → (node_does x n heads d).place ≡ Node n
-  node-place x n heads node.Drops = refl
-  node-place x n heads (node.Says messages) = refl
-  node-place x n heads (node.Does given) = refl
+  aside-alone : (x : Conn) (n : ℕ) (a : Aside) → Alone x (stands x (Node n) (aside_seen n a) (aside_said k n x.c a))
+  aside-alone x n (each.Brings from epoch r path) none given after l = (λ names. names, brings-works k (all x.c) x n from epoch r path)
+  aside-alone x n _ none given after l = absurd (begun _ _ none)
 
-  nodes : NodeRules k (OwesAll k all)
-  nodes = record {
-    offered = λ x n epoch env parts bytes is spells was.
-        let d = node_offered env (x.part.nodes n) parts in
-        let h = Came (record { from = Front; to = Node n; bytes = bytes }) in
-        node-sees x n h d (lasts_all.untouched.node.offered x n epoch env parts bytes is spells was) (node-by x (node_does x n (h ∷ []) d) ((node-answers k (all x.c)).offered x n epoch env parts bytes is spells was));
-    forwarded = λ x n epoch env segment bytes is spells was.
-        let d = node_forwarded env (x.part.nodes n) (decoded segment x.c ToCluster) in
-        let h = Came (record { from = Front; to = Node n; bytes = bytes }) in
-        node-sees x n h d (lasts_all.untouched.node.forwarded x n epoch env segment bytes is spells was) (node-by x (node_does x n (h ∷ []) d) ((node-answers k (all x.c)).forwarded x n epoch env segment bytes is spells was));
-    tagged = λ x n epoch number tags env bytes is spells was.
-        let d = node_tagged env (x.part.nodes n) number tags in
-        let h = Came (record { from = Front; to = Node n; bytes = bytes }) in
-        node-sees x n h d (lasts_all.untouched.node.tagged x n epoch number tags env bytes is spells was) (node-by x (node_does x n (h ∷ []) d) ((node-answers k (all x.c)).tagged x n epoch number tags env bytes is spells was));
-    content = λ x n from epoch r env file bytes is spells was.
-        let d = node_content env (x.part.nodes n) from r in
-        let h = Came (record { from = Node from; to = Node n; bytes = bytes }) in
-        node-sees x n h d (lasts_all.untouched.node.content x n from epoch r env file bytes is spells was) (node-by x (node_does x n (h ∷ []) d) ((node-answers k (all x.c)).content x n from epoch r env file bytes is spells was));
-    acknowledged = λ x n epoch env bytes is spells was.
-        let d = node_acknowledged env (x.part.nodes n) in
-        let h = Came (record { from = Front; to = Node n; bytes = bytes }) in
-        node-sees x n h d (lasts_all.untouched.node.acknowledged x n epoch env bytes is spells was) (node-by x (node_does x n (h ∷ []) d) ((node-answers k (all x.c)).acknowledged x n epoch env bytes is spells was));
-    read = λ x n epoch r env path is m after comes.
-        let d = node_read env (x.part.nodes n) r in
-        let v = reads_first (rec.Read n n x.c r path) (node_does x n [] d) in
-        let l = lasting x v (lasts_all.untouched.node.read x n epoch r env path is) m after comes in
-        record {
-          lasts = l;
-          answers = (node-answers k (all x.c)).read x n epoch r env path is (may (NodeOf x) x m (λ g. g.node)) after.node comes.warm comes.late l;
-          admits = λ none names. absurd (subst NamesAll (node-place x n [] d) names);
-          works = λ none. read-works k (all x.c) x n epoch r env path m.given.node after.node l;
-        };
-    fires = λ x s n env at is.
-        let d = node_timer env (x.part.nodes n) in
-        let h = Row (rec.Event 0 (event.Timer (Node n) x.c)) in
-        node-sees x n h d (lasts_all.untouched.node.fires x s n env at is) (node-by x (node_does x n (h ∷ []) d) ((node-answers k (all x.c)).fires x s n env at is));
-    answers = λ x n from epoch r path file bytes is spells was.
-        let v = stands x (Node n) (packet_seen (Node from) (Node n) bytes) (content_said k n from x.c epoch r path) in
-        sees x v (begun (Came (record { from = Node from; to = Node n; bytes = bytes })) [] (packet_seen (Node from) (Node n) bytes) refl) (lasts_all.untouched.node.answers x n from epoch r path file bytes is spells was)
-        (node-by x v ((node-answers k (all x.c)).answers x n from epoch r path file bytes is spells was));
-    queues = λ x n from epoch r path file bytes is spells was.
-        let v = stands x (Node n) (packet_seen (Node from) (Node n) bytes) (record nothing_said { notes = rec.Queued n from x.c r path ∷ [] }) in
-        sees x v (begun (Came (record { from = Node from; to = Node n; bytes = bytes })) [] (packet_seen (Node from) (Node n) bytes) refl) (lasts_all.untouched.node.queues x n from epoch r path file bytes is spells was)
-        (node-by x v ((node-answers k (all x.c)).queues x n from epoch r path file bytes is spells was));
-    brings = λ x n from epoch r path m after comes.
-        let v = stands x (Node n) [] (brought_said k n from x.c epoch r path) in
-        record { lasts = lasting x v (lasts_all.untouched.node.brings x n from epoch r path) m after comes; answers = tt; admits = λ none names. absurd names; works = λ none. brings-works k (all x.c) x n from epoch r path };
-  }
+  alone-nodes : NodeRules k Alone
+  alone-nodes = each-node k Alone (record {
+    does = λ x n epoch env heads g is in_its comes none. node-alone x n epoch env heads g comes
+        (sym (node-heads x n heads (node_rule env (x.part.nodes n) g)) ∙ none) none;
+    aside = λ x n a allowed. aside-alone x n a;
+  })
+
+  nodes : NodeRules k Adds
+  nodes = node-weaker k (λ x v. Owes k (all x.c) (NodeOf x) x v × Alone x v) Adds (λ x v h m after comes l. record {
+    answers = h.0 (may (NodeOf x) x m (λ g. g.node)) after.node comes.warm comes.late l;
+    alone = λ none. let a = h.1 none m.given.node after.node l in (λ names. absurd (a.0 names), a.1);
+  }) (node-both k (λ x v. Owes k (all x.c) (NodeOf x) x v) Alone (node-answers k all) alone-nodes)
 
   -- ---- a packet that nobody hears
 
@@ -226,14 +175,20 @@ module _ (k : Setting) (all : ℕ → Whole) where
 
   -- ---- every rule
 
-  pub rules-lead : Rules k (OwesAll k all)
-  rules-lead = record {
+  adds : Rules k Adds
+  adds = record {
     untouched = record {
       client = clients;
       front = fronts;
       node = nodes;
-      ignores = λ x from to bytes h. sees x (stands x to (packet_seen from to bytes) nothing_said) (begun (Came (record { from = from; to = to; bytes = bytes })) [] (packet_seen from to bytes) refl)
-          (lasts_all.untouched.ignores x from to bytes h) (ignored x from to bytes h.1 h.2);
+      ignores = λ x from to bytes h. sees x (stands x to (packet_seen from to bytes) nothing_said) (begun _ _) (ignored x from to bytes h.1 h.2);
     };
-    injects = λ x s bytes at rule m after comes. absurd comes.inner.0;
+    injects = λ x s bytes at rule m after comes l. absurd comes.inner.0;
   }
+
+  pub rules-lead : Rules k (OwesAll k all)
+  rules-lead = weaker k (λ x v. Owed k all x v × Adds x v) (OwesAll k all) (λ x v h m after comes.
+      let l = h.0 (may (Given k all) x m (λ g. g.known)) after.known comes.inner comes.warm in
+      let f = h.1 m after comes l in
+      record { lasts = l; answers = f.answers; admits = λ none. (f.alone none).0; works = λ none. (f.alone none).1 })
+      (both k (Owed k all) Adds (rules-last k all) adds)

@@ -1,12 +1,10 @@
 -- What a step leaves to be done on a connection, by what all places keep of it.
 use Rattle.std.proofs.Common.{◌≡◌, ◌<◌, ◌≤◌, ◌+◌, ℕ, Some, sym, ap, ◌∙◌, arith}
-use Rattle.lard_answers.specs.Answers.{FilesAt}
+use Rattle.lard_law_view.specs.Prelude.{Conn, FilesAt, Move, Part, Setting, Station, grown}
 use Rattle.lard_bound.specs.Progress.{Lasts, spot_with}
 use Rattle.lard_bound.specs.Seats.{SeatNow, seat_of}
 use Rattle.lard_bound.specs.Spots.{Spot, spot_of}
 use Rattle.lard_bound.specs.Units.{Whole, client_left, heard_left, left_to_client, left_with, requests_left, seat_left, tellers, units}
-use Rattle.lard_law_view.specs.View.{Conn, Move, Part, Setting, grown}
-use Rattle.lard_rules.specs.declared.places.Station.{Station}
 
 -- No unit comes back, and where none goes, the spot is as it was.
 pub record Lasting (k : Whole) (K : ℕ) (files : FilesAt) (p : Part) (st : Station) (p' : Part) (st' : Station) : Type 0 where

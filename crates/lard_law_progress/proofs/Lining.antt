@@ -1,29 +1,16 @@
 -- A connection in the line hears, says again what it said, and is admitted: nothing that is left to do comes back.
 use Rattle.std.proofs.Common.{◌≡◌, ◌≤◌, ◌+◌, ℕ, true, List, [], Some, ◌∙◌, subst, arith}
-use Rattle.lard_answers.specs.Answers.{FilesAt}
+use Rattle.lard_law_view.specs.Prelude.{ControlBlock, Ending, FilesAt, FirstChoice, FrontEnv, FrontPart, FrontRow, FrontTurn, Part, Said, Station, after_timer, fires_at, front_admitted, front_rest, front_rests, handed_off, hears_at, offering, on_segment, rested, serving, speaks, with_front}
 use Rattle.lard_bound.specs.Seats.{Waiting, seat_of}
 use Rattle.lard_bound.specs.Units.{Whole}
-use Rattle.lard_law_view.specs.View.{Part, with_front}
-use Rattle.lard_endpoint.specs.Arriving.{on_segment}
-use Rattle.lard_endpoint.specs.Control.{ControlBlock}
-use Rattle.lard_endpoint.specs.Leaving.{after_timer}
-use Rattle.lard_rules.specs.declared.front.FrontTurn.{FrontTurn}
-use Rattle.lard_rules.specs.Front.{FrontEnv, FrontPart, fires_at, front_admitted, handed_off, hears_at, offering, front_rest, front_rests}
 use Rattle.lard_handoff_front.specs.declared.row.FrontConn.TheVariants as stage
-use Rattle.lard_handoff_front.specs.declared.row.FrontRow.{FrontRow}
-use Rattle.lard_policy.specs.declared.first.FirstChoice.{FirstChoice}
 use Rattle.lard_law_progress.proofs.Ends.{heard-ahead, speaks-said, timer-said}
 use Rattle.lard_law_progress.proofs.FrontRules.{by-rest}
 use Rattle.lard_law_progress.proofs.Given.{IsFresh, SeatKnown}
 use Rattle.lard_law_progress.proofs.Handing.{admitted-less, waits-on, waits-over}
 use Rattle.lard_law_progress.proofs.Less.{Lasting}
 use Rattle.lard_law_progress.proofs.Seating.{FrontLasts, seat-at, seat-offering, seat-over, seat-waits}
-use Rattle.lard_rules.specs.declared.places.Ending.{Ending}
 use Rattle.lard_rules.specs.declared.places.Ending.TheVariants as ending
-use Rattle.lard_rules.specs.declared.places.Station.{Station}
-use Rattle.lard_rules.specs.Serving.{rested, serving}
-use Rattle.lard_rules.specs.Speaking.{speaks}
-use Rattle.lard_segment.specs.Segment.{Said}
 use Rattle.lard_rules.proofs.FrontCases.{admitted-keeps}
 
 module _ (w : Whole) (K : ℕ) (files : FilesAt) (p : Part) (st : Station) where

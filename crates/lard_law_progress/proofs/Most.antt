@@ -3,14 +3,10 @@ use Rattle.std.proofs.Common.{◌≡◌, ◌<◌, ◌≤◌, ◌+◌, ◌-◌, �
 use Rattle.std.proofs.lemmas.Bool.{cases_lt}
 use Rattle.lard_bound.specs.Seats.{Gone, Held, Here, Offered, Over, SeatNow, Staying, Unborn, Waiting, seat_of}
 use Rattle.lard_bound.specs.Units.{Whole, batch_left, ended_left, hand_off, heard_left, left_with, requests_left, seat_left, spoken_left, tellers, units, units_to}
-use Rattle.lard_client.specs.Control.{ClientBlock}
-use Rattle.lard_client.specs.declared.phase.Phase.{Phase}
+use Rattle.lard_law_view.specs.Prelude.{ClientBlock, Machine, Part, Phase, Station, conn}
 use Rattle.lard_client.specs.declared.phase.Phase.TheVariants as phase
-use Rattle.lard_rules.specs.declared.machine.Machine.{Machine}
-use Rattle.lard_law_view.specs.View.{Part, conn}
 use Rattle.lard_law_progress.proofs.Handing.{flag-one, stale-one}
 use Rattle.lard_law_progress.proofs.Turns.{read_in}
-use Rattle.lard_rules.specs.declared.places.Station.{Station}
 
 -- ---- one connection
 

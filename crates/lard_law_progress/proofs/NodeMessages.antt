@@ -1,87 +1,34 @@
 -- Each rule of a node, by what it comes to: nothing that is left to do comes back.
-use Rattle.std.proofs.Common.{◌≡◌, ◌≤◌, ◌+◌, ◌==◌, ◌&&◌, nat_lt, ℕ, Bool, true, false, cond, List, [], length, is_some, Option, Some, None, Result, Ok, Err, refl, sym, ap, ◌∙◌, subst, arith}
+use Rattle.std.proofs.Common.{◌≡◌, ◌≤◌, ◌+◌, ◌==◌, ◌&&◌, nat_lt, ℕ, Bool, true, false, cond, List, [], length, is_some, Option, Some, None, refl, sym, ap, ◌∙◌, subst, arith}
 use Rattle.std.specs.List.{find}
 use Rattle.std.proofs.lemmas.Bool.{and_parts, cond_both, eqb-true}
-use Rattle.lard_answers.specs.Answers.{FilesAt}
-use Rattle.lard_base.specs.declared.parts.EndpointParts.{EndpointParts}
+use Rattle.lard_law_view.specs.Prelude.{BackConn, BackRow, ClientBlock, ControlBlock, Ending, EndpointParts, FilesAt, FrontConn, FrontRow, NodeDeed, NodeEnv, NodeGets, NodePart, Part, Said, ServeEnv, Service, Station, Stay, Work, after_timer, awaits_ack, came_for, come_progress, front_rest, goes_on, gone, is_ended, is_from, is_gone, is_under, kept_after, node_fired_by, node_put_back, node_rule, node_saying, offer_answer, offered_by, on_segment, read_progress, serving_settled, speaks, tagged, with_node, with_work, without, work_of}
 use Rattle.lard_base.specs.declared.place.TimerKind.TheVariants as kind
 use Rattle.lard_bound.specs.Progress.{IsWarmSegment, IsWarmWord}
 use Rattle.lard_bound.specs.Seats.{Gone, Here, Offered, SeatNow, seat_away, seat_by, seat_decided, seat_in, seat_of, seat_there, stay_of, staying_of, telling, tells_end}
 use Rattle.lard_bound.specs.Units.{Whole, symbols_taken}
-use Rattle.lard_client.specs.Control.{ClientBlock}
-use Rattle.lard_law_view.specs.View.{Part, epoch_in, node_put_back, with_node}
-use Rattle.lard_endpoint.specs.Arriving.{on_segment}
-use Rattle.lard_endpoint.specs.Control.{ControlBlock}
-use Rattle.lard_endpoint.specs.Leaving.{after_timer}
-use Rattle.lard_rules.specs.Front.{front_rest}
-use Rattle.lard_handoff_back.specs.Back.{awaits_ack, back_endpoint, offer_answer, staying}
-use Rattle.lard_handoff_back.specs.Row.{back_held, is_ended, is_gone}
-use Rattle.lard_handoff_back.specs.declared.row.BackConn.{BackConn}
 use Rattle.lard_handoff_back.specs.declared.row.BackConn.TheVariants as back
-use Rattle.lard_handoff_back.specs.declared.row.BackRow.{BackRow}
-use Rattle.lard_handoff_back.specs.declared.table.Adopt.{Adopt}
 use Rattle.lard_handoff_back.specs.declared.table.Adopt.TheVariants.{Again, New, Stale}
-use Rattle.lard_handoff_front.specs.declared.row.FrontConn.{FrontConn}
 use Rattle.lard_handoff_front.specs.declared.row.FrontConn.TheVariants as stage
-use Rattle.lard_handoff_front.specs.declared.row.FrontRow.{FrontRow}
-use Rattle.lard_lateral.specs.Lateral.{is_from}
-use Rattle.lard_rules.specs.declared.stay.Stay.{Stay}
 use Rattle.lard_rules.specs.Node as node
-use Rattle.lard_rules.specs.Node.{Does, Drops, NodePart, both_of, come_by, node_fired_by, gone, node_heard_by, here, is_tag_awaited, kept_after, node_acknowledged, node_content, node_forwarded, node_offered, node_read, node_tagged, node_timer, offered_by, node_read_by, node_saying, tagged_by, taken_sent, with_work, work_of}
-use Rattle.lard_rules.specs.Stay.{NodeEnv, Work, came_for, come_progress, goes_on, read_progress, tagged}
-use Rattle.lard_law_progress.proofs.Away.{Fits, away-here, by-ending, seat-put, seat-with, tells}
+use Rattle.lard_rules.specs.Node.{Does}
+use Rattle.lard_rules.proofs.NodeCases.{IsHereWith, IsInItsEpoch, KeptByNode, node-keeps}
+use Rattle.lard_law_progress.proofs.Away.{Fits, away-here, by-ending, here-row, seat-put, seat-with, tells}
+use Rattle.lard_law_progress.proofs.Coming.{awaited-some}
 use Rattle.lard_law_progress.proofs.Given.{IsAt, IsNewOffer, SeatKnown}
 use Rattle.lard_law_progress.proofs.Handing.{acknowledged-less, over-there}
 use Rattle.lard_law_progress.proofs.Less.{Lasting}
 use Rattle.lard_law_progress.proofs.NodeRules.{content-lasts, forwarded-lasts, offered-lasts, read-lasts, tagged-lasts, taking, timer-lasts}
 use Rattle.lard_law_progress.proofs.Seating.{NodeLasts}
-use Rattle.lard_resend.specs.declared.kept.Kept.{Kept}
-use Rattle.lard_resend.specs.Kept.{is_under, without}
-use Rattle.lard_rules.specs.declared.places.Ending.{Ending}
 use Rattle.lard_rules.specs.declared.places.Ending.TheVariants as ending
-use Rattle.lard_rules.specs.declared.places.Station.{Station}
-use Rattle.lard_rules.specs.Serving.{ServeEnv, Service, serving_settled}
-use Rattle.lard_rules.specs.Speaking.{speaks}
-use Rattle.lard_segment.specs.declared.fault.SegFault.{SegFault}
-use Rattle.lard_segment.specs.Segment.{Said}
 
--- ---- a connection is here, with what the node has in hand of it, or a rule has nothing to do
-
-module _ (e : ℕ) (q : NodePart) (P : Option (ControlBlock × Stay) → Type 0) (none : P None)
-    (there : (b : ControlBlock) → q.row ≡ Some (record { stage = back.Here b; epoch = record { 0 = e } }) → P (Some (b, stay_of q.stay))) where
-  by-stay : (b : ControlBlock) → q.row ≡ Some (record { stage = back.Here b; epoch = record { 0 = e } }) → (o : Option Stay) → q.stay ≡ o → P (both_of (Some b) o)
-  by-stay b is None at = none
-  by-stay b is (Some s) at = subst (λ (t : Stay). P (Some (b, t))) (ap stay_of at) (there b is)
-
-  by-stage : (row : BackRow) → q.row ≡ Some row → row.epoch.0 ≡ e → (s : BackConn) → row.stage ≡ s → P (both_of (back_held s) q.stay)
-  by-stage row at same (back.Here b) is =
-      let now : ◌≡◌ {A = Option BackRow} (Some row) (Some (record { stage = back.Here b; epoch = record { 0 = e } })) = λ i. Some (record { stage = is i; epoch = record { 0 = same i } }) in
-      by-stay b (at ∙ now) q.stay refl
-  by-stage row at same _ is = none
-
-  pub by-here : P (here e q)
-  by-here = go q.row refl where
-    go : (o : Option BackRow) → q.row ≡ o → P (both_of (staying e o) q.stay)
-    go None at = none
-    go (Some row) at = cond_both (row.epoch.0 == e) (back_held row.stage) None (λ (o : Option ControlBlock). P (both_of o q.stay)) (λ t. by-stage row at (eqb-true row.epoch.0 e t) row.stage refl) (λ t. none)
-
-  -- whatever its epoch is
-  pub by-own : e ≡ epoch_in q → P (both_of (back_endpoint q.row) q.stay)
-  by-own same = go q.row refl where
-    go : (o : Option BackRow) → q.row ≡ o → P (both_of (back_endpoint o) q.stay)
-    go None at = none
-    go (Some row) at = let its : epoch_in q ≡ row.epoch.0 = ap (λ (o : Option BackRow). epoch_in (record q { row = o })) at in by-stage row at (sym (same ∙ its)) row.stage refl
+-- ---- a connection is here
 
 -- what is still here served as many as were counted
 ending-count : (env : ServeEnv) (s : Service) (d : ControlBlock) (count : ℕ) → (serving_settled env s).0 ≡ ending.Here d count → count ≡ s.count
 ending-count env s d count = by-ending env s (λ (o : Ending). o ≡ ending.Here d count → count ≡ s.count)
     (λ none e. let is : ◌≡◌ {A = Ending} (ending.Here (speaks env.c s.block).1 s.count) (ending.Here d count) = e in cc)
     (λ last e. absurd (let bad : ◌≡◌ {A = Ending} (ending.Over last) (ending.Here d count) = e in cc))
-
--- what is awaited from a node is awaited
-awaited-some : (from e : ℕ) (o : Option Kept) → is_from from e o ≡ true → is_some o ≡ true
-awaited-some from e None t = absurd (let bad : false ≡ true = t in cc)
-awaited-some from e (Some k) t = refl
 
 -- ---- the stages of a node
 
@@ -100,7 +47,8 @@ ended-there told n e count q back.Ended t = refl
 ended-there told n e count q _ t = absurd (let bad : false ≡ true = t in cc)
 
 -- an Offer that is new to its node was not decided, and the node tells no end
-new-row : (n e count : ℕ) (q : NodePart) (o : Option BackRow) → offer_answer e o ≡ New → (seat_decided false n e count q o ≡ Offered n e count) × (◌≡◌ {A = ℕ} (cond (is_some (tells_end o)) 1 0) 0)
+pub new-row : (n e count : ℕ) (q : NodePart) (o : Option BackRow) → offer_answer e o ≡ New
+    → (seat_decided false n e count q o ≡ Offered n e count) × (◌≡◌ {A = ℕ} (cond (is_some (tells_end o)) 1 0) 0)
 new-row n e count q None is = (refl, refl)
 new-row n e count q (Some r) is = go (r.epoch.0 == e) refl is where
   left : (g : Bool) → (nat_lt r.epoch.0 e && is_gone r.stage) ≡ g → cond g New Stale ≡ New → is_gone r.stage ≡ true
@@ -127,68 +75,65 @@ module _ (w : Whole) (K : ℕ) (files : FilesAt) (p : Part) (st : Station) (n : 
 
   -- ---- a connection that is here
 
-  module _ (known : SeatKnown w x (seat_of p)) (heard_all : symbols_taken x ≤ w.answers + 2) (b : ControlBlock) (is : q.row ≡ Some (record { stage = back.Here b; epoch = record { 0 = env.epoch } })) (at : IsAt p.front n env.epoch) where
-    sits : seat_of p ≡ Here at.told n env.epoch b (staying_of q)
-    sits = seat-with p n env.epoch at.told at.row at.front at.with_ ∙ away-here at.told n env.epoch (front_rest p.front.rest).count q b is
-
-    knows : SeatKnown w x (Here at.told n env.epoch b (staying_of q))
-    knows = subst (SeatKnown w x) sits known
-
-    -- what is known behind a turn, where it is still here
-    fits : (pp : NodePart) (v : Work) → Behind (kept_after env pp v (serving_settled env.serve v.service).0) → (d : ControlBlock) (count : ℕ) → (serving_settled env.serve v.service).0 ≡ ending.Here d count
-        → Fits w K files p st n at.told at.row b env at.front at.with_ is knows.0 d v
-    fits pp v behind d count same =
-        let z : NodePart = kept_after env pp v (ending.Here d count) in
-        let there : seat_of (with_node p n z) ≡ Here at.told n env.epoch d (staying_of z) = seat-put p n env.epoch at.told at.row z at.front at.with_ ∙ away-here at.told n env.epoch (front_rest p.front.rest).count z d refl in
-        let now : seat_of (with_node p n (kept_after env pp v (serving_settled env.serve v.service).0)) ≡ Here at.told n env.epoch d (staying_of z) = ap (λ (o : Ending). seat_of (with_node p n (kept_after env pp v o))) same ∙ there in
-        let h : SeatKnown w x (Here at.told n env.epoch d (staying_of z)) = subst (SeatKnown w x) now behind in
-        let c = ending-count env.serve v.service d count same in
-        let few : count + length v.batch ≤ w.requests = h.1 in
-        record { acked = h.0; taken_in = heard_all; few = omega (arith, few, c) }
-
-    hears : (s : Said) → IsWarmWord x s x.phase → Owes (node_heard_by env q (Ok s) (Some (b, stay_of q.stay)))
-    hears s warm behind = forwarded-lasts w K files p st n at.told at.row b env at.front at.with_ is knows.0 s warm knows.2 (fits q (goes_on env (work_of (on_segment b s).1 (stay_of q.stay))) behind)
-
-    tags : (number : ℕ) (nodes : List ℕ) → Owes (tagged_by env number nodes q (Some (b, stay_of q.stay)))
-    tags number nodes =
-        let v = goes_on env (tagged env nodes (work_of b (stay_of q.stay))) in
-        let rest : NodePart = record q { kept = without kind.Ask 0 q.kept } in
-        cond_both (is_tag_awaited env number nodes q (stay_of q.stay)) (with_work env rest [] v) Drops Owes
-        (λ t behind. tagged-lasts w K files p st n at.told at.row b env at.front at.with_ is knows.0 nodes (and_parts _ _ t).0 (fits rest v behind))
-        (λ t. tt)
-
-    comes : (from r : ℕ) → Owes (come_by env from r q (Some (b, stay_of q.stay)))
-    comes from r =
-        let v = goes_on env (came_for (come_progress from) r (work_of b (stay_of q.stay))) in
-        let rest : NodePart = record q { fetches = without kind.Fetch r q.fetches } in
-        let found = find (is_under kind.Fetch r) q.fetches in
-        cond_both (is_from from env.epoch found) (with_work env rest [] v) Drops Owes
-        (λ t behind. content-lasts w K files p st n at.told at.row b env at.front at.with_ is knows.0 from r (awaited-some from env.epoch found t) (fits rest v behind))
-        (λ t. tt)
-
-    reads : (r : ℕ) → Owes (node_read_by env r q (Some (b, stay_of q.stay)))
-    reads r behind = read-lasts w K files p st n at.told at.row b env at.front at.with_ is knows.0 r (fits q (goes_on env (came_for read_progress r (work_of b (stay_of q.stay)))) behind)
-
-    fires : Owes (node_fired_by env q (Some (b, stay_of q.stay)))
-    fires behind = timer-lasts w K files p st n at.told at.row b env at.front at.with_ is knows.0 [] (fits q (work_of (after_timer b) (stay_of q.stay)) behind)
-
   module _ (known : SeatKnown w x (seat_of p)) (heard_all : symbols_taken x ≤ w.answers + 2)
       (homes : (b : ControlBlock) → q.row ≡ Some (record { stage = back.Here b; epoch = record { 0 = env.epoch } }) → IsAt p.front n env.epoch) where
-    pub forwards-last : (r : Result Said SegFault) → IsWarmSegment x r → Owes (node_forwarded env q r)
-    forwards-last (Err fault) warm = tt
-    forwards-last (Ok s) warm = by-here env.epoch q (λ (o : Option (ControlBlock × Stay)). Owes (node_heard_by env q (Ok s) o)) tt (λ b is. hears known heard_all b is (homes b is) s warm)
+    module _ (b : ControlBlock) (s : Stay) (here : IsHereWith env.epoch q b s) where
+      is : q.row ≡ Some (record { stage = back.Here b; epoch = record { 0 = env.epoch } })
+      is = here-row env.epoch q b s here
 
-    pub tags-last : (number : ℕ) (nodes : List ℕ) → Owes (node_tagged env q number nodes)
-    tags-last number nodes = by-here env.epoch q (λ (o : Option (ControlBlock × Stay)). Owes (tagged_by env number nodes q o)) tt (λ b is. tags known heard_all b is (homes b is) number nodes)
+      at : IsAt p.front n env.epoch
+      at = homes b is
 
-    pub contents-last : (from r : ℕ) → Owes (node_content env q from r)
-    contents-last from r = by-here env.epoch q (λ (o : Option (ControlBlock × Stay)). Owes (come_by env from r q o)) tt (λ b is. comes known heard_all b is (homes b is) from r)
+      sits : seat_of p ≡ Here at.told n env.epoch b (staying_of q)
+      sits = seat-with p n env.epoch at.told at.row at.front at.with_ ∙ away-here at.told n env.epoch (front_rest p.front.rest).count q b is
 
-    pub reads-last : (r : ℕ) → Owes (node_read env q r)
-    reads-last r = by-here env.epoch q (λ (o : Option (ControlBlock × Stay)). Owes (node_read_by env r q o)) tt (λ b is. reads known heard_all b is (homes b is) r)
+      knows : SeatKnown w x (Here at.told n env.epoch b (staying_of q))
+      knows = subst (SeatKnown w x) sits known
 
-    pub fires-last : env.epoch ≡ epoch_in q → Owes (node_timer env q)
-    fires-last own = by-own env.epoch q (λ (o : Option (ControlBlock × Stay)). Owes (node_fired_by env q o)) tt (λ b is. fires known heard_all b is (homes b is)) own
+      -- what is known behind a turn, where it is still here
+      fits : (pp : NodePart) (v : Work) → Behind (kept_after env pp v (serving_settled env.serve v.service).0) → (d : ControlBlock) (count : ℕ) → (serving_settled env.serve v.service).0 ≡ ending.Here d count
+          → Fits w K files p st n at.told at.row b env at.front at.with_ is knows.0 d v
+      fits pp v behind d count same =
+          let z : NodePart = kept_after env pp v (ending.Here d count) in
+          let there : seat_of (with_node p n z) ≡ Here at.told n env.epoch d (staying_of z) = seat-put p n env.epoch at.told at.row z at.front at.with_ ∙ away-here at.told n env.epoch (front_rest p.front.rest).count z d refl in
+          let now : seat_of (with_node p n (kept_after env pp v (serving_settled env.serve v.service).0)) ≡ Here at.told n env.epoch d (staying_of z) = ap (λ (o : Ending). seat_of (with_node p n (kept_after env pp v o))) same ∙ there in
+          let h : SeatKnown w x (Here at.told n env.epoch d (staying_of z)) = subst (SeatKnown w x) now behind in
+          let c = ending-count env.serve v.service d count same in
+          let few : count + length v.batch ≤ w.requests = h.1 in
+          record { acked = h.0; taken_in = heard_all; few = omega (arith, few, c) }
+
+      -- what is so with the stay that is kept is so with this one
+      with-stay : (D : Stay → NodeDeed) → Owes (D (stay_of q.stay)) → Owes (D s)
+      with-stay D = subst (λ (t : Stay). Owes (D t)) (ap stay_of here.stays)
+
+      heard-here : (said : Said) → IsWarmWord x said x.phase → Owes (with_work env q [] (goes_on env (work_of (on_segment b said).1 s)))
+      heard-here said warm = with-stay (λ t. with_work env q [] (goes_on env (work_of (on_segment b said).1 t)))
+          (λ behind. forwarded-lasts w K files p st n at.told at.row b env at.front at.with_ is knows.0 said warm knows.2
+          (fits q (goes_on env (work_of (on_segment b said).1 (stay_of q.stay))) behind))
+
+      tagged-here : (nodes : List ℕ) → is_some (find (is_under kind.Ask 0) q.kept) ≡ true
+          → Owes (with_work env (record q { kept = without kind.Ask 0 q.kept }) [] (goes_on env (tagged env nodes (work_of b s))))
+      tagged-here nodes asked = with-stay (λ t. with_work env (record q { kept = without kind.Ask 0 q.kept }) [] (goes_on env (tagged env nodes (work_of b t))))
+          (λ behind. tagged-lasts w K files p st n at.told at.row b env at.front at.with_ is knows.0 nodes asked
+          (fits (record q { kept = without kind.Ask 0 q.kept }) (goes_on env (tagged env nodes (work_of b (stay_of q.stay)))) behind))
+
+      come-here : (from r : ℕ) → is_from from env.epoch (find (is_under kind.Fetch r) q.fetches) ≡ true
+          → Owes (with_work env (record q { fetches = without kind.Fetch r q.fetches }) [] (goes_on env (came_for (come_progress from) r (work_of b s))))
+      come-here from r wanted = with-stay (λ t. with_work env (record q { fetches = without kind.Fetch r q.fetches }) []
+          (goes_on env (came_for (come_progress from) r (work_of b t))))
+          (λ behind. content-lasts w K files p st n at.told at.row b env at.front at.with_ is knows.0 from r
+          (awaited-some from env.epoch (find (is_under kind.Fetch r) q.fetches) wanted)
+          (fits (record q { fetches = without kind.Fetch r q.fetches }) (goes_on env (came_for (come_progress from) r (work_of b (stay_of q.stay)))) behind))
+
+      read-here : (r : ℕ) → Owes (with_work env q [] (goes_on env (came_for read_progress r (work_of b s))))
+      read-here r = with-stay (λ t. with_work env q [] (goes_on env (came_for read_progress r (work_of b t))))
+          (λ behind. read-lasts w K files p st n at.told at.row b env at.front at.with_ is knows.0 r
+          (fits q (goes_on env (came_for read_progress r (work_of b (stay_of q.stay)))) behind))
+
+      fired-here : Owes (node_fired_by env q (Some (b, s)))
+      fired-here = with-stay (λ t. node_fired_by env q (Some (b, t)))
+          (λ behind. timer-lasts w K files p st n at.told at.row b env at.front at.with_ is knows.0 []
+          (fits q (work_of (after_timer b) (stay_of q.stay)) behind))
 
   -- ---- an Offer that is new
 
@@ -209,13 +154,6 @@ module _ (w : Whole) (K : ℕ) (files : FilesAt) (p : Part) (st : Station) (n : 
       h.1))
       (λ last same there. over-there w K files p st n o.row env o.front o.with_ offered free.1 (kept_after env q v (serving_settled env.serve v.service).0) (ap (λ (e : Ending). (kept_after env q v e).row) same))
       refl behind
-
-  pub offers-last : (parts : EndpointParts) → (offer_answer env.epoch q.row ≡ New → IsNewOffer p x n env.epoch parts) → Owes (node_offered env q parts)
-  offers-last parts new = go (offer_answer env.epoch q.row) refl where
-    go : (g : Adopt) → offer_answer env.epoch q.row ≡ g → Owes (offered_by env parts q g)
-    go New e = adopts parts e (new e)
-    go Again e = tt
-    go Stale e = tt
 
   -- ---- the end of its stay is known
 
@@ -250,11 +188,37 @@ module _ (w : Whole) (K : ℕ) (files : FilesAt) (p : Part) (st : Station) (n : 
         let quiet : tells z ≡ 0 = ap (λ (o : Option BackRow). cond {A = ℕ} (is_some (tells_end o)) 1 0) now in
         acknowledged-less w K files p st n z (seat_of p) refl same-seat some within told quiet
 
-  pub acknowledged-lasts : ((row : BackRow) → q.row ≡ Some row → (1 ≤ n) × (n ≤ K)) → Owes (node_acknowledged env q)
-  acknowledged-lasts there =
-      let z : NodePart = record q { row = gone q.row; kept = without kind.Ended 0 q.kept } in
-      cond_both (awaits_ack env.epoch q.row) (Does (z, node_saying [])) Drops Owes (λ t behind. go q.row refl t) (λ t. tt)
-    where
-      go : (o : Option BackRow) → q.row ≡ o → awaits_ack env.epoch o ≡ true → Lasting w K files p st (with_node p n (record q { row = gone q.row; kept = without kind.Ended 0 q.kept })) st
-      go None at t = absurd (let bad : false ≡ true = t in cc)
-      go (Some row) at t = let in_ = there row at in acknowledges row (record q { row = gone q.row; kept = without kind.Ended 0 q.kept }) at (and_parts _ _ t).1 (ap gone at) in_.0 in_.1
+  gone-lasts : ((row : BackRow) → q.row ≡ Some row → (1 ≤ n) × (n ≤ K)) → awaits_ack env.epoch q.row ≡ true
+      → Owes (Does (record q { row = gone q.row; kept = without kind.Ended 0 q.kept }, node_saying []))
+  gone-lasts there t behind = go q.row refl t where
+    go : (o : Option BackRow) → q.row ≡ o → awaits_ack env.epoch o ≡ true → Lasting w K files p st (with_node p n (record q { row = gone q.row; kept = without kind.Ended 0 q.kept })) st
+    go None at t = absurd (let bad : false ≡ true = t in cc)
+    go (Some row) at t = let in_ = there row at in acknowledges row (record q { row = gone q.row; kept = without kind.Ended 0 q.kept }) at (and_parts _ _ t).1 (ap gone at) in_.0 in_.1
+
+  -- ---- every rule
+
+  -- an Offer that is new is the one that the front end makes, and a segment is the client's
+  abbrev pub IsExpected : NodeGets → Type 0
+  IsExpected (node.Offered parts) = offer_answer env.epoch q.row ≡ New → IsNewOffer p x n env.epoch parts
+  IsExpected (node.Forwarded given) = IsWarmSegment x given
+  IsExpected _ = Unit {0}
+
+  module _ (known : SeatKnown w x (seat_of p)) (heard_all : symbols_taken x ≤ w.answers + 2)
+      (homes : (b : ControlBlock) → q.row ≡ Some (record { stage = back.Here b; epoch = record { 0 = env.epoch } }) → IsAt p.front n env.epoch)
+      (there : (row : BackRow) → q.row ≡ Some row → (1 ≤ n) × (n ≤ K)) where
+    kept-last : KeptByNode env q IsExpected Owes
+    kept-last = record {
+      drops = tt;
+      hears = λ said b s warm here. heard-here known heard_all homes b s here said warm;
+      tags = λ number nodes b s m here asked same count. tagged-here known heard_all homes b s here nodes asked;
+      comes = λ from r b s m here wanted. come-here known heard_all homes b s here from r wanted;
+      reads = λ r path b s m here. read-here known heard_all homes b s here r;
+      begins = λ parts of new. adopts parts new (of new);
+      takes_again = λ parts of again. tt;
+      fires = λ b s m here. fired-here known heard_all homes b s here;
+      resends = λ m none. tt;
+      ends = λ m told. gone-lasts there told;
+    }
+
+    pub rule-lasts : (g : NodeGets) → IsInItsEpoch env q g → IsExpected g → Owes (node_rule env q g)
+    rule-lasts = node-keeps env q IsExpected Owes kept-last

@@ -1,35 +1,19 @@
 -- Each rule of a node, of a connection that it has or takes: nothing that is left to do comes back.
 use Rattle.std.proofs.Common.{◌≡◌, ◌≤◌, ◌+◌, ◌*◌, ℕ, Bool, true, false, List, [], is_some, Some, None, refl, arith}
 use Rattle.std.specs.List.{find}
-use Rattle.lard_answers.specs.Answers.{FilesAt}
-use Rattle.lard_base.specs.declared.parts.EndpointParts.{EndpointParts}
-use Rattle.lard_base.specs.declared.place.Place.{Place}
+use Rattle.lard_law_view.specs.Prelude.{ControlBlock, EndpointParts, FilesAt, FrontRow, Kept, NodeEnv, NodePart, Part, Place, Said, Station, Work, after_timer, came_for, come_progress, front_rest, goes_on, is_under, node_begins, node_rests, on_segment, read_progress, reads_batch, serving_settled, state_of, tagged, taken_sent, with_node, without, work_of}
 use Rattle.lard_base.specs.declared.place.TimerKind.TheVariants as kind
 use Rattle.lard_bound.specs.Progress.{IsWarmWord}
 use Rattle.lard_bound.specs.Seats.{Offered, Staying, seat_of, staying_of}
 use Rattle.lard_bound.specs.Units.{Whole, symbols_taken}
 use Rattle.lard_client.specs.declared.phase.Phase.TheVariants as phase
-use Rattle.lard_law_view.specs.View.{Part, with_node}
-use Rattle.lard_endpoint.specs.Arriving.{on_segment}
-use Rattle.lard_endpoint.specs.Control.{ControlBlock}
-use Rattle.lard_endpoint.specs.Leaving.{after_timer}
-use Rattle.lard_rules.specs.Front.{front_rest}
 use Rattle.lard_handoff_back.specs.declared.row.BackConn.TheVariants as back
-use Rattle.lard_handoff_front.specs.declared.row.FrontRow.{FrontRow}
-use Rattle.lard_rules.specs.Node.{NodePart, node_begins, node_rests, taken_sent, work_of}
-use Rattle.lard_rules.specs.Stay.{NodeEnv, Work, came_for, come_progress, goes_on, read_progress, reads_batch, tagged}
 use Rattle.lard_law_progress.proofs.Away.{Fits, IsWith, tells, turn-less}
 use Rattle.lard_law_progress.proofs.Handing.{adopted-less}
 use Rattle.lard_law_progress.proofs.Less.{Lasting}
 use Rattle.lard_law_progress.proofs.Stays.{Onward, cost, first-batch, goes-onward, onward-then, read_of}
 use Rattle.lard_law_progress.proofs.Turns.{Works, content-works, forwarded-works, read-works, tagged-works, timer-works}
-use Rattle.lard_resend.specs.declared.kept.Kept.{Kept}
-use Rattle.lard_resend.specs.Kept.{is_under, without}
 use Rattle.lard_rules.specs.declared.places.Ending.TheVariants as ending
-use Rattle.lard_rules.specs.declared.places.Station.{Station}
-use Rattle.lard_rules.specs.Loop.{state_of}
-use Rattle.lard_rules.specs.Serving.{serving_settled}
-use Rattle.lard_segment.specs.Segment.{Said}
 
 -- A connection that is at node n: the front end's row, the node's, and no more is acknowledged than the client took.
 module _ (k : Whole) (K : ℕ) (files : FilesAt) (p : Part) (st : Station) (n : ℕ) (told : Bool) (row : FrontRow) (b : ControlBlock) (env : NodeEnv)

@@ -1,26 +1,13 @@
 -- The front end has a connection: it begins, hears and says again, and a request of it is placed. Nothing that is left to do comes back.
 use Rattle.std.proofs.Common.{◌≡◌, ◌≤◌, ◌+◌, ℕ, true, false, List, [], Option, Some, None, Result, Ok, Err, refl, sym, ap, ◌∙◌, subst, ⊎_elim, arith}
 use Rattle.std.proofs.lemmas.Bool.{and_parts, cond_both, not-true}
-use Rattle.lard_answers.specs.Answers.{FilesAt}
+use Rattle.lard_law_view.specs.Prelude.{ClientBlock, ControlBlock, Ending, FilesAt, First, FirstChoice, FrontConn, FrontEnv, FrontPart, FrontRest, FrontRow, NodeEnv, Part, Reading, Said, SegFault, ServeEnv, Service, Station, after_timer, fires_at, front_begun, front_fired_by, front_gets, front_hears, front_reads, front_rest, front_rests, front_timer, hears_at, is_plain_syn, listening, may_freeze, met, offering, on_segment, placed, rested, serving, serving_settled, settled_by, speaks, with_front}
 use Rattle.lard_bound.specs.Progress.{IsWarmSegment, IsWarmWord}
 use Rattle.lard_bound.specs.Seats.{Held, Waiting, seat_of}
 use Rattle.lard_bound.specs.Units.{Whole, symbols_taken}
-use Rattle.lard_client.specs.Control.{ClientBlock}
-use Rattle.lard_law_view.specs.View.{Part, with_front}
-use Rattle.lard_dispatch.specs.declared.dispatch.First.{First}
 use Rattle.lard_dispatch.specs.declared.dispatch.First.TheVariants as first
-use Rattle.lard_endpoint.specs.Arriving.{on_segment}
-use Rattle.lard_endpoint.specs.Control.{ControlBlock, listening}
-use Rattle.lard_endpoint.specs.Leaving.{after_timer}
-use Rattle.lard_endpoint.specs.Moving.{may_freeze}
-use Rattle.lard_rules.specs.declared.front.FrontRest.{FrontRest}
-use Rattle.lard_rules.specs.Front.{Does, Drops, FrontEnv, FrontPart, front_begun, front_fired_by, fires_at, front_gets, front_hears, front_timer, hears_at, met, offering, placed, front_rest, front_rests, settled_by}
-use Rattle.lard_rules.specs.FrontReading.{Reading, front_reads}
-use Rattle.lard_handoff_front.specs.declared.row.FrontConn.{FrontConn}
+use Rattle.lard_rules.specs.Front.{Does, Drops}
 use Rattle.lard_handoff_front.specs.declared.row.FrontConn.TheVariants as stage
-use Rattle.lard_handoff_front.specs.declared.row.FrontRow.{FrontRow}
-use Rattle.lard_rules.specs.Stay.{NodeEnv}
-use Rattle.lard_policy.specs.declared.first.FirstChoice.{FirstChoice}
 use Rattle.lard_law_progress.proofs.Ends.{IsSaid, ahead-self, speaks-said}
 use Rattle.lard_law_progress.proofs.FrontRules.{Came, by-rest, carries, held-lasts, segment-came, timer-lasts}
 use Rattle.lard_law_progress.proofs.Fronts.{FitsAt, offered-less, over-less, waiting-less}
@@ -30,14 +17,7 @@ use Rattle.lard_law_progress.proofs.Less.{Lasting}
 use Rattle.lard_law_progress.proofs.Lining.{line-fires, line-hears}
 use Rattle.lard_law_progress.proofs.Reading.{Further, reads-further}
 use Rattle.lard_law_progress.proofs.Seating.{FrontLasts, seat-at, seat-held, seat-none, seat-offering, seat-over, seat-waits}
-use Rattle.lard_rules.specs.declared.places.Ending.{Ending}
 use Rattle.lard_rules.specs.declared.places.Ending.TheVariants as ending
-use Rattle.lard_rules.specs.declared.places.Station.{Station}
-use Rattle.lard_rules.specs.Tombstone.{is_plain_syn}
-use Rattle.lard_rules.specs.Serving.{ServeEnv, Service, rested, serving, serving_settled}
-use Rattle.lard_rules.specs.Speaking.{speaks}
-use Rattle.lard_segment.specs.declared.fault.SegFault.{SegFault}
-use Rattle.lard_segment.specs.Segment.{Said}
 
 -- a place of a node that has nothing to do with it
 abbrev no_node : ServeEnv → NodeEnv

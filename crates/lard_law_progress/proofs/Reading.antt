@@ -3,25 +3,13 @@
 use Rattle.std.proofs.Common.{◌≡◌, ◌⊎◌, ◌<◌, ◌≤◌, ◌+◌, ◌-◌, nat_lt, ℕ, zero, suc, Bool, true, false, not, ◌&&◌, cond, List, length, drop, min, is_some, Option, Some, None, inl, inr, ⊎_elim, refl, sym, ap, ◌∙◌, arith}
 use Rattle.std.proofs.lemmas.Bool.{cond_both}
 use Rattle.std.proofs.lemmas.List.{length-drop}
-use Rattle.lard_answers.specs.Answers.{answer, good_path}
-use Rattle.lard_base.specs.declared.limits.TheConstants.{MAX_STREAM_BYTES, RECEIVE_WINDOW}
+use Rattle.lard_law_view.specs.Prelude.{ControlBlock, Found, MAX_STREAM_BYTES, RECEIVE_WINDOW, Reading, Received, Sending, ServeEnv, Service, Step, Verdict, answer, answered, block_at, closed_behind, closes, cut_of, discarding_on, ended_at_fin, finishing, front_reads, good_path, may_freeze, may_read, passed_over, queued, queueing, reading_turn, reads_block, reads_found, receive_room, runs_on, serving_consumed, targeted}
 use Rattle.lard_base.specs.declared.place.Via.TheVariants.{Own}
-use Rattle.lard_block.specs.declared.block.Found.{Found}
 use Rattle.lard_block.specs.declared.block.Found.TheVariants.{Block, More, TooLong}
-use Rattle.lard_block.specs.Blocks.{cut_of}
-use Rattle.lard_endpoint.specs.Control.{ControlBlock, discarding_on, finishing, queueing}
-use Rattle.lard_endpoint.specs.Moving.{may_freeze}
-use Rattle.lard_rules.specs.FrontReading.{Reading, block_at, front_reads, reads_block, reads_found, targeted, reading_turn}
 use Rattle.lard_law_progress.proofs.Stays.{IsAlike, alike-self, alike-then}
-use Rattle.lard_recv.specs.Recv.{Received, receive_room}
 use Rattle.lard_request.specs.declared.verdict.Code.TheVariants as code
-use Rattle.lard_request.specs.declared.verdict.Verdict.{Verdict}
 use Rattle.lard_request.specs.declared.verdict.Verdict.TheVariants.{Fault}
-use Rattle.lard_request.specs.Verdict.{closes}
-use Rattle.lard_rules.specs.Loop.{Step, runs_on}
 use Rattle.lard_rules.specs.Loop as loop
-use Rattle.lard_rules.specs.Serving.{ServeEnv, Service, answered, closed_behind, serving_consumed, ended_at_fin, may_read, passed_over, queued}
-use Rattle.lard_send.specs.Send.{Sending}
 
 -- nothing is done but that less is unread
 pub record IsSame (a b : Service) : Type 0 where

@@ -2,28 +2,16 @@
 use Rattle.std.proofs.Common.{◌≡◌, ◌≤◌, ◌+◌, ◌==◌, ℕ, Bool, true, false, List, Option, Some, None, refl, ap, ◌∙◌, arith}
 use Rattle.std.proofs.lemmas.Bool.{cond-false}
 use Rattle.std.proofs.lemmas.Bool.Decides.{nat_tests}
-use Rattle.lard_answers.specs.Answers.{FilesAt}
+use Rattle.lard_law_view.specs.Prelude.{BackRow, ControlBlock, FilesAt, Final, FrontConn, FrontEnv, FrontPart, FrontRest, FrontRow, NodePart, Part, Service, Station, front_rest, front_rests, offering, symbols, with_front, with_node}
 use Rattle.lard_bound.specs.Seats.{Held, Offered, Over, SeatNow, Unborn, Waiting, seat_away, seat_by, seat_decided, seat_in, seat_of, seat_there, tells_end}
 use Rattle.lard_bound.specs.Spots.{post_of, spot_of}
 use Rattle.lard_bound.specs.Units.{Whole, left_with, tellers}
-use Rattle.lard_law_view.specs.View.{Part, with_front, with_node}
-use Rattle.lard_endpoint.specs.Control.{ControlBlock}
-use Rattle.lard_endpoint.specs.declared.control.moving.Final.{Final}
-use Rattle.lard_rules.specs.declared.front.FrontRest.{FrontRest}
 use Rattle.lard_rules.specs.Front as front
-use Rattle.lard_rules.specs.Front.{FrontEnv, FrontPart, offering, front_rest, front_rests}
-use Rattle.lard_handoff_back.specs.declared.row.BackRow.{BackRow}
-use Rattle.lard_handoff_front.specs.declared.row.FrontConn.{FrontConn}
 use Rattle.lard_handoff_front.specs.declared.row.FrontConn.TheVariants as stage
-use Rattle.lard_handoff_front.specs.declared.row.FrontRow.{FrontRow}
 use Rattle.lard_rules.specs.Node as node
-use Rattle.lard_rules.specs.Node.{NodePart}
 use Rattle.lard_law_progress.proofs.Given.{IsWithin, SeatKnown}
 use Rattle.lard_law_progress.proofs.Less.{Lasting, left_by}
 use Rattle.lard_rules.specs.declared.places.Ending.TheVariants as ending
-use Rattle.lard_rules.specs.declared.places.Station.{Station}
-use Rattle.lard_rules.specs.Serving.{Service}
-use Rattle.lard_send.specs.Send.{symbols}
 
 -- ---- by the row
 

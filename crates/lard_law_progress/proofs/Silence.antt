@@ -2,20 +2,13 @@
 use Rattle.std.proofs.Common.{◌≡◌, ◌-◌, ◌==◌, ◌&&◌, ◌||◌, nat_lt, not, ℕ, Bool, true, false, cond, drop, length, Option, Some, None, refl, ap, ◌∙◌, arith}
 use Rattle.std.proofs.lemmas.Bool.{cond_both, cond-false, cond-true}
 use Rattle.std.proofs.lemmas.Bool.Decides.{nat_tests}
-use Rattle.lard_arrival.specs.Arrival.{bare, is_acceptable, is_allowed}
+use Rattle.lard_law_view.specs.Prelude.{Arrival, ControlBlock, Ready, Said, Sending, ack_ready, advanced, after_ack, emitted, is_acceptable, is_newer, moved_up, next_piece, on_ack, on_acked, on_rst, on_segment, on_syn, on_text, on_unacceptable, owed_ready, owes, owing, peer_room, rcv_nxt, rcv_wnd, ready_of, seq_offset, windowed}
 use Rattle.lard_bound.specs.Chains.{is_plain}
-use Rattle.lard_endpoint.specs.declared.control.arriving.Arrival.{Arrival}
 use Rattle.lard_endpoint.specs.declared.control.arriving.Arrival.TheVariants as arrival
-use Rattle.lard_endpoint.specs.Arriving.{on_ack, on_acked, on_rst, on_segment, on_syn, on_text, on_unacceptable, owing}
-use Rattle.lard_endpoint.specs.Control.{ControlBlock, rcv_nxt, rcv_wnd}
-use Rattle.lard_endpoint.specs.Leaving.{ack_ready, advanced, emitted, owed_ready, owes, ready_of}
 use Rattle.lard_endpoint.proofs.Silence.{emit-none}
 use Rattle.lard_recv.specs.Recv as recv
-use Rattle.lard_segment.specs.declared.segment.Ready.{Ready}
-use Rattle.lard_segment.specs.Segment.{Said}
 use Rattle.lard_send.specs.declared.piece.Piece.{Piece}
-use Rattle.lard_send.specs.Send.{Sending, after_ack, is_newer, moved_up, next_piece, peer_room, windowed}
-use Rattle.lard_seq.specs.Seq.{seq_offset}
+use Rattle.lard_rules.proofs.Hearing.{segment-keeps}
 
 -- ---- what is sent next hangs on these numbers alone
 
@@ -33,26 +26,8 @@ next-same s t h = λ i. next_piece (record t { una = h.una i; nxt = h.nxt i; tot
 
 -- what an acknowledgement keeps of a sending half, a segment does
 module _ (P : Sending → Type 0) (acks : (s : Sending) (ack seq wnd : ℕ) → P s → P (after_ack s ack seq wnd)) where
-  abbrev On : Arrival × ControlBlock → Type 0
-  On r = P r.1.send
-
-  acked-keeps : (b : ControlBlock) (s : Said) → P b.send → On (on_ack b s)
-  acked-keeps b s h =
-      let after : ControlBlock = record b { send = after_ack b.send s.ack s.seq s.wnd } in
-      let k = acks b.send s.ack s.seq s.wnd h in
-      cond_both {A = Arrival × ControlBlock} (not s.flags.ack) (arrival.Fine, b) (cond (nat_lt b.send.nxt (seq_offset s.ack b.send.iss)) (arrival.AckOwed, owing b) (on_acked after s)) On (λ t. h)
-      (λ t. cond_both {A = Arrival × ControlBlock} (nat_lt b.send.nxt (seq_offset s.ack b.send.iss)) (arrival.AckOwed, owing b) (on_acked after s) On (λ t. h)
-      (λ t. cond_both {A = Arrival × ControlBlock} (after.send.una == 0) (arrival.Fine, after) (on_text after s) On (λ t. k)
-      (λ t. cond_both {A = Arrival × ControlBlock} ((length s.payload == 0) && not s.flags.fin) (arrival.Fine, after) (arrival.AckOwed, record after { recv = recv.arrived after.recv s.seq s.payload s.flags.fin; owed = true }) On (λ t. k) (λ t. k))))
-
-  pub heard-keeps : (b : ControlBlock) (s : Said) → P b.send → On (on_segment b s)
-  heard-keeps b s h = cond_both {A = Arrival × ControlBlock} (is_acceptable (rcv_nxt b) (rcv_wnd b) s) (on_rst b s) (on_unacceptable b s) On
-      (λ t. cond_both {A = Arrival × ControlBlock} (not s.flags.rst) (on_syn b s) (cond (s.seq == rcv_nxt b) (arrival.Reset, record b { reset = true }) (arrival.AckOwed, owing b)) On
-      (λ t. cond_both {A = Arrival × ControlBlock} s.flags.syn (arrival.AckOwed, owing b) (on_ack b s) On (λ t. h) (λ t. acked-keeps b s h))
-      (λ t. cond_both {A = Arrival × ControlBlock} (s.seq == rcv_nxt b) (arrival.Reset, record b { reset = true }) (arrival.AckOwed, owing b) On (λ t. h) (λ t. h)))
-      (λ t. cond_both {A = Arrival × ControlBlock} (is_allowed (rcv_nxt b) (rcv_wnd b) s) (arrival.AckOwed, (on_ack (owing b) (bare s)).1) (cond s.flags.rst (arrival.Fine, b) (arrival.AckOwed, owing b)) On
-      (λ t. acked-keeps (owing b) (bare s) h)
-      (λ t. cond_both {A = Arrival × ControlBlock} s.flags.rst (arrival.Fine, b) (arrival.AckOwed, owing b) On (λ t. h) (λ t. h)))
+  pub heard-keeps : (b : ControlBlock) (s : Said) → P b.send → P (on_segment b s).1.send
+  heard-keeps b s h = let k = acks b.send s.ack s.seq s.wnd h in segment-keeps b s (λ d. P d.send) (record { rests = λ owed. h; resets = λ t. h; acks = λ owed c. k; comes = λ c some. k })
 
 -- what an acknowledgement never changes
 pub record IsKept (s t : Sending) : Type 0 where

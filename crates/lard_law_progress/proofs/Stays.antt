@@ -3,29 +3,12 @@
 use Rattle.std.proofs.Common.{◌≡◌, ◌⊎◌, ◌<◌, ◌≤◌, ◌+◌, ◌-◌, ◌*◌, nat_lt, ℕ, suc, Bool, true, false, not, ◌&&◌, List, [], ◌∷◌, ◌++◌, length, drop, min, is_some, Option, Some, None, inl, inr, ⊎_elim, refl, sym, ap, ◌∙◌, subst, arith}
 use Rattle.std.proofs.lemmas.Bool.{cond_both}
 use Rattle.std.proofs.lemmas.List.{length_push, length-drop}
-use Rattle.lard_answers.specs.Answers.{answer}
-use Rattle.lard_base.specs.declared.limits.TheConstants.{MAX_STREAM_BYTES, RECEIVE_WINDOW}
+use Rattle.lard_law_view.specs.Prelude.{Asked, ControlBlock, Done, Entry, Kept, MAX_STREAM_BYTES, More, NodeEnv, Progress, RECEIVE_WINDOW, Received, Sending, Service, Step, Verdict, Via, Want, Work, answer, answered, ask_kept, asked_kept, asks_for, awaited, batch_of, bytes_used, closed_behind, closes, discarding_on, ended_at_fin, entered, finishing, goes_on, hit_here, passed_over, queued, queued_here, queueing, read_entry, reads_batch, reads_these, receive_room, serves_with, serving_consumed, state_of, wants_kept}
 use Rattle.lard_base.specs.declared.place.Via.TheVariants as via
 use Rattle.lard_bound.specs.Units.{batch_left, progress_left}
-use Rattle.lard_endpoint.specs.Control.{ControlBlock, discarding_on, finishing, queueing}
-use Rattle.lard_rules.specs.declared.stay.Asked.{Asked}
-use Rattle.lard_rules.specs.declared.stay.Entry.{Entry}
-use Rattle.lard_rules.specs.declared.stay.Progress.{Progress}
 use Rattle.lard_rules.specs.declared.stay.Progress.TheVariants as progress
-use Rattle.lard_rules.specs.declared.stay.Want.{Want}
-use Rattle.lard_rules.specs.Node.{ask_kept, asked_kept, wants_kept}
-use Rattle.lard_rules.specs.Stay.{NodeEnv, Work, asks_for, entered, goes_on, read_entry, reads_batch, reads_these, serves_with, hit_here, queued_here}
 use Rattle.lard_resend.proofs.Lengths.{anew-more, length-anew}
-use Rattle.lard_reader.specs.Batches.{batch_of, bytes_used}
-use Rattle.lard_recv.specs.Recv.{Received, awaited, receive_room}
-use Rattle.lard_request.specs.declared.verdict.Verdict.{Verdict}
-use Rattle.lard_request.specs.Verdict.{closes}
-use Rattle.lard_resend.specs.declared.kept.Kept.{Kept}
-use Rattle.lard_rules.specs.Loop.{Step, More, Done, state_of}
-use Rattle.lard_rules.specs.Serving.{Service, closed_behind, serving_consumed, ended_at_fin, passed_over, queued, answered}
-use Rattle.lard_send.specs.Send.{Sending}
 use Rattle.lard_rules.proofs.StayWalking.{KeptByReads, StepIn, goes-in, state-in, these-in}
-use Rattle.lard_base.specs.declared.place.Via.{Via}
 
 -- how many requests were read, served or not
 abbrev pub read_of : Work → ℕ

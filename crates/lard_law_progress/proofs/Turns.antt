@@ -1,35 +1,19 @@
 -- What a turn of a stay leaves to be done, of each kind of turn, up to where its endpoint speaks.
-use Rattle.std.proofs.Common.{◌≡◌, ◌⊎◌, ◌<◌, ◌≤◌, ◌+◌, ◌*◌, ◌==◌, ◌&&◌, not, ℕ, Bool, true, false, cond, List, length, is_some, Option, inl, inr, ⊎_elim, refl, sym, ap, ◌∙◌, arith}
+use Rattle.std.proofs.Common.{◌≡◌, ◌⊎◌, ◌<◌, ◌≤◌, ◌+◌, ◌*◌, ◌==◌, ℕ, Bool, true, false, List, length, is_some, Option, inl, inr, ⊎_elim, refl, sym, ap, ◌∙◌, arith}
 use Rattle.std.specs.List.{find}
-use Rattle.std.proofs.lemmas.Bool.{cases_lt, cond_both}
+use Rattle.std.proofs.lemmas.Bool.{both_ways, cases_lt}
 use Rattle.std.proofs.lemmas.Bool.Decides.{nat_tests}
-use Rattle.lard_arrival.specs.Arrival.{bare, is_acceptable}
+use Rattle.lard_law_view.specs.Prelude.{Asked, ClientBlock, ControlBlock, Kept, NodeEnv, Phase, Said, Sending, Service, Want, Work, after_timer, asked_kept, awaited, came_for, come_progress, goes_on, is_under, on_segment, rcv_nxt, read_progress, tagged, wants_kept, without, work_of}
 use Rattle.lard_base.specs.declared.place.TimerKind.TheVariants as kind
 use Rattle.lard_bound.specs.Progress.{IsWarmWord}
 use Rattle.lard_bound.specs.Seats.{Staying}
 use Rattle.lard_bound.specs.Spots.{number_awaited}
 use Rattle.lard_bound.specs.Units.{batch_left, is_stale, one_if_not}
-use Rattle.lard_client.specs.Control.{ClientBlock}
-use Rattle.lard_client.specs.declared.phase.Phase.{Phase}
 use Rattle.lard_client.specs.declared.phase.Phase.TheVariants as phase
-use Rattle.lard_endpoint.specs.declared.control.arriving.Arrival.{Arrival}
-use Rattle.lard_endpoint.specs.declared.control.arriving.Arrival.TheVariants as arrival
-use Rattle.lard_endpoint.specs.Arriving.{on_ack, on_segment, on_syn, owing}
-use Rattle.lard_endpoint.specs.Control.{ControlBlock, rcv_nxt, rcv_wnd}
-use Rattle.lard_endpoint.specs.Leaving.{after_timer}
-use Rattle.lard_rules.specs.declared.stay.Asked.{Asked}
-use Rattle.lard_rules.specs.declared.stay.Want.{Want}
-use Rattle.lard_rules.specs.Node.{asked_kept, wants_kept, work_of}
-use Rattle.lard_rules.specs.Stay.{NodeEnv, Work, came_for, come_progress, goes_on, read_progress, tagged}
 use Rattle.lard_law_progress.proofs.Coming.{came-on, content-comes, read-comes, read-still, tagged-on, without-fewer}
 use Rattle.lard_law_progress.proofs.Ends.{heard-ahead, heard-window, timer-said}
 use Rattle.lard_law_progress.proofs.Stays.{Finishes, Idle, Cheaper, cost, goes-onward, read_of}
-use Rattle.lard_recv.specs.Recv.{awaited}
-use Rattle.lard_resend.specs.declared.kept.Kept.{Kept}
-use Rattle.lard_resend.specs.Kept.{is_under, without}
-use Rattle.lard_rules.specs.Serving.{Service}
-use Rattle.lard_segment.specs.Segment.{Said}
-use Rattle.lard_send.specs.Send.{Sending}
+use Rattle.lard_rules.proofs.Hearing.{segment-keeps}
 
 -- the requests of a stay that were read, and what they cost
 abbrev pub read_in : Staying → ℕ
@@ -118,23 +102,16 @@ module _ (x : ClientBlock) (env : NodeEnv) where
   window-on b wnd (inr e) = let same : one_if_not (wnd == x.wnd) ≡ 0 = fresh wnd x.wnd e in omega (arith, same)
 
   -- a reset changes nothing but that
-  abbrev pub IsPassed : ControlBlock → Arrival × ControlBlock → Type 0
-  IsPassed b r = (r.1.send ≡ b.send) × (r.1.recv ≡ b.recv)
+  abbrev pub IsPassed : ControlBlock → ControlBlock → Type 0
+  IsPassed b d = (d.send ≡ b.send) × (d.recv ≡ b.recv)
 
-  pub reset-passed : (b : ControlBlock) (s : Said) → s.flags.rst ≡ true → IsPassed b (on_segment b s)
-  reset-passed b s rst = go s.flags.rst rst where
-    never : (a : Bool) → (a && false) ≡ true → ⊥
-    never true e = cc
-    never false e = cc
-
-    go : (r : Bool) → r ≡ true → IsPassed b (cond (is_acceptable (rcv_nxt b) (rcv_wnd b) s) (cond (not r) (on_syn b s) (cond (s.seq == rcv_nxt b) (arrival.Reset, record b { reset = true }) (arrival.AckOwed, owing b)))
-        (cond (((rcv_wnd b == 0) && (s.seq == rcv_nxt b)) && (not r && not s.flags.syn)) (arrival.AckOwed, (on_ack (owing b) (bare s)).1) (cond r (arrival.Fine, b) (arrival.AckOwed, owing b))))
-    go false e = absurd (let bad : false ≡ true = e in cc)
-    go true e = cond_both {A = Arrival × ControlBlock} (is_acceptable (rcv_nxt b) (rcv_wnd b) s) (cond (s.seq == rcv_nxt b) (arrival.Reset, record b { reset = true }) (arrival.AckOwed, owing b))
-        (cond (((rcv_wnd b == 0) && (s.seq == rcv_nxt b)) && false) (arrival.AckOwed, (on_ack (owing b) (bare s)).1) (arrival.Fine, b)) (IsPassed b)
-        (λ t. cond_both {A = Arrival × ControlBlock} (s.seq == rcv_nxt b) (arrival.Reset, record b { reset = true }) (arrival.AckOwed, owing b) (IsPassed b) (λ t. (refl, refl)) (λ t. (refl, refl)))
-        (λ t. cond_both {A = Arrival × ControlBlock} (((rcv_wnd b == 0) && (s.seq == rcv_nxt b)) && false) (arrival.AckOwed, (on_ack (owing b) (bare s)).1) (arrival.Fine, b) (IsPassed b)
-        (λ t. absurd (never ((rcv_wnd b == 0) && (s.seq == rcv_nxt b)) t)) (λ t. (refl, refl)))
+  pub reset-passed : (b : ControlBlock) (s : Said) → s.flags.rst ≡ true → IsPassed b (on_segment b s).1
+  reset-passed b s rst = segment-keeps b s (IsPassed b) (record {
+    rests = λ owed. (refl, refl);
+    resets = λ t. (refl, refl);
+    acks = λ owed c. absurd (both_ways s.flags.rst c.plain rst);
+    comes = λ c some. absurd (both_ways s.flags.rst c.plain rst);
+  })
 
   -- what came of a segment, before the stay goes on
   heard-by : (b : ControlBlock) (s : Staying) (said : Said) (p : Phase) → x.phase ≡ p → IsWarmWord x said p → (p ≡ phase.Reset → ⊥) → Works b s s.kept s.fetches (work_of (on_segment b said).1 s.stay)

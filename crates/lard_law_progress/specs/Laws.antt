@@ -1,15 +1,8 @@
 -- What each turn leaves to be done on its connection: no more than there was.
 use Rattle.std.specs.Prelude.{ℕ, ◌+◌, ◌≤◌, ◌≡◌}
-use Rattle.lard_answers.specs.Answers.{FilesAt}
+use Rattle.lard_law_view.specs.Prelude.{ClientBlock, FilesAt, Part, Said, Station, client_after_timer, client_arrived, client_speaks, with_station}
 use Rattle.lard_bound.specs.Spots.{spot_of}
 use Rattle.lard_bound.specs.Units.{Whole, left_with, symbols_taken}
-use Rattle.lard_client.specs.Arriving.{client_arrived}
-use Rattle.lard_client.specs.Control.{ClientBlock}
-use Rattle.lard_client.specs.Leaving.{client_after_timer}
-use Rattle.lard_law_view.specs.View.{Part, with_station}
-use Rattle.lard_rules.specs.declared.places.Station.{Station}
-use Rattle.lard_rules.specs.Speaking.{client_speaks}
-use Rattle.lard_segment.specs.Segment.{Said}
 
 abbrev pub with_client : Station → ClientBlock → Station
 with_client st y = record { client = y; iss = st.iss }

@@ -2,18 +2,10 @@
 use Rattle.std.proofs.Common.{◌*◌, ◌≡◌, ◌≤◌, ◌==◌, nat_lt, nat_eq, not, ℕ, ◌+◌, Bool, true, false, cond, List, length, Option, Some, None, Result, Ok, Err, refl, arith, eqb-true}
 use Rattle.std.proofs.lemmas.Bool.{and_parts, not-false}
 use Rattle.std.specs.Prelude.{slice_index}
-use Rattle.lard_message.specs.declared.fault.MsgFault.{MsgFault}
+use Rattle.lard_law_view.specs.Prelude.{Dir, Kind, Message, MsgFault, Said, ToClient, ToCluster, are_ports, decoded, decoded_message, first_kind, is_version, kind_named, number_byte, source_port, target_port, version_at, with_kind, word_at}
 use Rattle.lard_message.specs.declared.fault.MsgFault.TheVariants as fault
-use Rattle.lard_message.specs.declared.kind.Kind.{Kind}
 use Rattle.lard_message.specs.declared.kind.Kind.TheVariants as kind
-use Rattle.lard_message.specs.declared.message.Message.{Message}
-use Rattle.lard_message.specs.Kinds.{first_kind, is_version, kind_named}
-use Rattle.lard_message.specs.Reading.{decoded_message, number_byte, version_at, with_kind}
 use Rattle.lard_segment.specs.declared.fault.SegFault.TheVariants as seg
-use Rattle.lard_segment.specs.declared.segment.Dir.{Dir}
-use Rattle.lard_segment.specs.declared.segment.Dir.TheVariants.{ToClient, ToCluster}
-use Rattle.lard_segment.specs.Fields.{source_port, target_port, word_at}
-use Rattle.lard_segment.specs.Segment.{Said, are_ports, decoded}
 
 module _ {A E : Type 0} where
   refused : (b : Bool) (f : E) (given : Result A E) (x : A) → cond b (Err f) given ≡ Ok x → (b ≡ false) × (given ≡ Ok x)

@@ -6,19 +6,12 @@ use Rattle.std.proofs.lemmas.Option.{slice_get_within}
 use Rattle.std.specs.List.{AllByRecursion}
 use Rattle.lard_agenda.specs.Agenda.{seat}
 use Rattle.lard_agenda.specs.Laws.{NamesSeat}
-use Rattle.lard_base.specs.declared.event.Event.{Event}
+use Rattle.lard_law_view.specs.Prelude.{Client, Conn, ControlBlock, Event, Front, HasTimer, IsConnNumber, Machine, Move, Node, NodeState, Place, Row, TimerKind, conn, front_armed, is_running, kept_at, line_waits, node_armed, node_at, part_of, station_armed}
 use Rattle.lard_base.specs.declared.event.Event.TheVariants as event
-use Rattle.lard_base.specs.declared.place.Place.{Place}
-use Rattle.lard_base.specs.declared.place.Place.TheVariants.{Front, Node, Client}
-use Rattle.lard_base.specs.declared.place.TimerKind.{TimerKind}
 use Rattle.lard_base.specs.declared.place.TimerKind.TheVariants as kind
 use Rattle.lard_bound.specs.Seats.{Waiting, seat_of}
 use Rattle.lard_bound.specs.Units.{Whole, machine_units}
-use Rattle.lard_rules.specs.declared.machine.Machine.{Machine}
-use Rattle.lard_rules.specs.Bounds.{HasTimer, IsConnNumber}
-use Rattle.lard_rules.specs.Machine.{node_at}
 use Rattle.lard_laws.specs.StepsTimers.{RunsAsKept}
-use Rattle.lard_law_view.specs.View.{Conn, Move, conn, kept_at, part_of, station_armed}
 use Rattle.lard_law_settles.specs.CourseGame.{game, seats_due}
 use Rattle.lard_law_settles.proofs.CourseDelivering.{near-new, still}
 use Rattle.lard_law_settles.proofs.CourseFirsts.{first-due, no-sooner}
@@ -26,15 +19,8 @@ use Rattle.lard_law_settles.proofs.CourseGoing.{IsPlain}
 use Rattle.lard_law_settles.proofs.CourseLasting.{moves}
 use Rattle.lard_law_view.proofs.Steps.{shown}
 use Rattle.lard_law_settles.proofs.CourseOwing.{IsFirst, IsStep}
-use Rattle.lard_dispatch.specs.Line.{line_waits}
-use Rattle.lard_endpoint.specs.Control.{ControlBlock}
-use Rattle.lard_rules.specs.Front.{front_armed}
-use Rattle.lard_history.specs.Journal.{is_running}
-use Rattle.lard_history.specs.Own.{Row}
 use Rattle.lard_history.proofs.Seeing.{one-mine}
 use Rattle.lard_journal.specs.declared.rec.Rec.TheVariants as rec
-use Rattle.lard_rules.specs.declared.node.NodeState.{NodeState}
-use Rattle.lard_rules.specs.Node.{node_armed}
 use Rattle.lard_rounds.specs.Rounds.{Nearer}
 
 -- What is known of timers within a settle: they run as each place keeps them, their records name seats, there are no more nodes than have
@@ -73,10 +59,7 @@ module _ (m : Machine) (t : Timers m) (c : ℕ) where
 
   nothing-armed : (kind : TimerKind) → node_armed (kept_at c None) kind ≡ false
   nothing-armed kind.Tcp = refl
-  nothing-armed kind.Offer = refl
-  nothing-armed kind.Ask = refl
-  nothing-armed kind.Fetch = refl
-  nothing-armed kind.Ended = refl
+  nothing-armed _ = refl
 
   module _ (p : Place) (more : List (Place × ℕ)) (due_ : seats_due m ≡ (p, c) ∷ more) (low : c < 2 ^ 16) where
     -- no timer of the front end runs for it, where the first is at another place

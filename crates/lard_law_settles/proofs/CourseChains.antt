@@ -1,31 +1,15 @@
 -- No chain has five packets, and nothing is near within no rounds.
 use Rattle.std.proofs.Common.{◌≡◌, ◌<◌, ◌≤◌, ◌&&◌, ◌||◌, ◌⊎◌, inl, inr, not, ℕ, Bool, true, false, Option, Some, None, Result, Ok, Err, arith}
 use Rattle.std.proofs.lemmas.Bool.{cond_both}
-use Rattle.lard_answers.specs.Answers.{FilesAt}
-use Rattle.lard_base.specs.declared.place.Place.{Place}
-use Rattle.lard_base.specs.declared.place.Place.TheVariants.{Front, Node, Client}
-use Rattle.lard_base.specs.declared.place.Reason.{Reason}
+use Rattle.lard_law_view.specs.Prelude.{Body, Client, FilesAt, Front, Letter, Machine, Message, MsgFault, Node, Packet, Phase, Place, Reason, Said, SegFault, ToClient, ToCluster, conn, conn_of, decoded, decoded_message, file_at, letter_of, packet_at}
 use Rattle.lard_base.specs.declared.place.Reason.TheVariants as reason
 use Rattle.lard_bound.specs.Chains.{aside_chain, chain_between, front_chain, is_current, node_chain, of_message, reply_chain, word_result}
 use Rattle.lard_bound.specs.Nears.{Crosses, IsAnswer, IsNews, IsUntold, IsUnaware, NearAside, NearBetween, NearEnd, NearEnded, NearEnding, NearClosing, NearForward, NearHeld, NearLast, NearOffer, NearReply, NearSaid, NearSegment, NearTaken, NearTold, NearWord, OfMessage, OfSegment}
 use Rattle.lard_bound.specs.Progress.{NearOn, chain_on}
 use Rattle.lard_bound.specs.Spots.{AtFront, AtNode, Ended, EndpointSymbols, InLine, Left, Nowhere, OnOffer, Post, Spot}
-use Rattle.lard_client.specs.declared.phase.Phase.{Phase}
 use Rattle.lard_client.specs.declared.phase.Phase.TheVariants as phase
-use Rattle.lard_rules.specs.declared.machine.Machine.{Machine}
-use Rattle.lard_law_view.specs.View.{conn}
 use Rattle.lard_law_settles.specs.Course.{NearIn, chain_by, chain_in, chain_of}
-use Rattle.lard_files.specs.Files.{file_at}
-use Rattle.lard_history.specs.Own.{Letter, conn_of, letter_of}
-use Rattle.lard_message.specs.declared.fault.MsgFault.{MsgFault}
-use Rattle.lard_message.specs.declared.message.Body.{Body}
 use Rattle.lard_message.specs.declared.message.Body.TheVariants as body
-use Rattle.lard_message.specs.declared.message.Message.{Message}
-use Rattle.lard_message.specs.Reading.{decoded_message}
-use Rattle.lard_net.specs.Net.{Packet, packet_at}
-use Rattle.lard_segment.specs.declared.fault.SegFault.{SegFault}
-use Rattle.lard_segment.specs.declared.segment.Dir.TheVariants.{ToClient, ToCluster}
-use Rattle.lard_segment.specs.Segment.{Said, decoded}
 
 -- ---- chains
 
@@ -115,11 +99,8 @@ module _ (t : Spot) where
   word-never : (s : Said) (p : Post) → NearWord t 0 s p → ⊥
   word-never s Nowhere h = none 1 (omega arith) h.1
   word-never s (AtFront e) h = held-never e s t.phase h
-  word-never s InLine h = h
-  word-never s (OnOffer n k) h = h
-  word-never s (AtNode told n k e a) h = h
-  word-never s (Left told n k) h = h
   word-never s (Ended last taken) h = ended-never taken s last.reason t.phase h
+  word-never s _ h = h
 
   reply-open : (back : ℕ) → 1 ≤ back → (e : EndpointSymbols) (s : Said) → (IsUntold t e s × (back ≤ 0)) ⊎ (IsAnswer t e.una s × (e.una ≡ e.symbols) × (1 ≤ 0)) → ⊥
   reply-open back some e s (inl h) = none back some h.1
@@ -168,12 +149,7 @@ module _ (t : Spot) where
 
   forward-never : (k i : ℕ) (r : Result Said SegFault) (p : Post) → NearForward t 0 k i r p → ⊥
   forward-never k i (Ok s) (AtNode told n e ends a) h = held-never ends s t.phase h.2
-  forward-never k i (Ok s) Nowhere h = h
-  forward-never k i (Ok s) (AtFront e) h = h
-  forward-never k i (Ok s) InLine h = h
-  forward-never k i (Ok s) (OnOffer n e) h = h
-  forward-never k i (Ok s) (Left told n e) h = h
-  forward-never k i (Ok s) (Ended last taken) h = h
+  forward-never k i (Ok s) _ h = h
   forward-never k i (Err fault) p h = h
 
   ending-never : (k i : ℕ) (p : Post) → NearEnding t 0 k i p → ⊥

@@ -1,67 +1,26 @@
 -- A job is done: a content is nearer, or nothing comes of what is sent.
-use Rattle.std.proofs.Common.{◌≡◌, ◌≢◌, ◌<◌, ◌≤◌, ℕ, suc, ◌+◌, Bool, true, false, cond, List, [], ◌∷◌, length, Option, Some, None, Result, Ok, Err, refl, sym, ap, ◌∙◌, subst, arith}
+use Rattle.std.proofs.Common.{◌≡◌, ◌≢◌, ◌<◌, ◌≤◌, ℕ, suc, ◌+◌, Bool, cond, List, [], ◌∷◌, length, Option, Some, None, Ok, refl, sym, ap, ◌∙◌, subst, arith}
 use Rattle.lard_base.specs.declared.event.Event.TheVariants as event
-use Rattle.lard_base.specs.declared.place.Place.{Place}
-use Rattle.lard_base.specs.declared.place.Place.TheVariants.{Node}
+use Rattle.lard_law_view.specs.Prelude.{Conn, IsConnNumber, IsMessage, Job, Machine, Move, Node, NodeSetting, NodeState, Out, Place, Rec, completed, conn, content_bytes, content_sent, disk_step, file_at, grown, job_at, letter_of, letters_of, machine_step, node_at, node_deed, node_env, node_part, node_read, node_saying, node_setting, node_step, packet_at, packet_of, with_first}
 use Rattle.lard_bound.specs.Progress.{chain_at, spot_at}
 use Rattle.lard_bound.specs.Spots.{Spot}
 use Rattle.lard_bound.specs.Units.{Whole, machine_units}
-use Rattle.lard_rules.specs.declared.fault.StepFault.{StepFault}
-use Rattle.lard_rules.specs.declared.fault.Refusal.TheVariants.{NoJob, NoNode}
-use Rattle.lard_rules.specs.declared.fault.StepFault.TheVariants.{Limit, Refused}
-use Rattle.lard_rules.specs.declared.machine.Machine.{Machine}
-use Rattle.lard_rules.specs.Bounds.{IsConnNumber}
-use Rattle.lard_rules.specs.Machine.{completes, disk_at, is_no_job, is_no_node, limit_reached, machine_step, node_at, node_gave, node_setting, unless_limit}
-use Rattle.lard_law_view.specs.View.{Conn, Move, conn, grown, letters_of}
+use Rattle.lard_law_connections.proofs.Happened.{disk-is}
 use Rattle.lard_law_settles.specs.CourseGame.{JobNearOn, game}
 use Rattle.lard_law_settles.proofs.CourseDelivering.{new-is, still}
 use Rattle.lard_law_settles.proofs.CourseFetching.{Fetches, content-nearer, content_of, gave-sends}
 use Rattle.lard_law_settles.proofs.CourseGoing.{IsPlain}
 use Rattle.lard_law_settles.proofs.CourseOwing.{IsStep}
 use Rattle.lard_law_settles.proofs.CourseSending.{every-has}
-use Rattle.lard_disk.specs.declared.disk.Job.{Job}
-use Rattle.lard_disk.specs.Jobs.{job_at}
-use Rattle.lard_files.specs.Files.{file_at}
-use Rattle.lard_history.specs.Own.{letter_of}
 use Rattle.lard_history.proofs.Seeing.{other_number}
-use Rattle.lard_journal.specs.declared.rec.Rec.{Rec}
 use Rattle.lard_journal.specs.declared.rec.Rec.TheVariants as rec
-use Rattle.lard_rules.specs.declared.fault.What.{What}
-use Rattle.lard_rules.specs.Sent.{packet_of}
 use Rattle.lard_message.specs.declared.message.Body.TheVariants as body
-use Rattle.lard_message.specs.Message.{IsMessage}
-use Rattle.lard_net.specs.Net.{packet_at}
 use Rattle.lard_rules.specs.declared.node.BackIn.TheVariants as back
-use Rattle.lard_rules.specs.declared.node.NodeState.{NodeState}
-use Rattle.lard_rules.specs.Node.{message, node_read, node_saying}
+use Rattle.lard_rules.specs.Node.{message}
 use Rattle.lard_rules.specs.NodePlace as place
-use Rattle.lard_rules.specs.NodePlace.{NodeSetting, node_brought, content_bytes, completed, content_sent, disk_step, node_deed, node_env, node_part, node_step, with_first}
 use Rattle.lard_rounds.specs.Rounds.{AreShorter, Nearer}
-use Rattle.lard_rules.specs.declared.places.Out.{Out}
 
 -- ---- the step
-
--- what the disk of node i brings
-pub completed-at : (m n : Machine) (i : ℕ) (s : NodeState) → node_at m.nodes i ≡ Some s → machine_step m (event.Disk i 1) ≡ Ok n → n ≡ node_gave m (event.Disk i 1) [] i (node_step (node_setting m i) s (back.Disk 1))
-unfolding machine_step completes
-completed-at m n i s there is = limited (limit_reached m) is where
-  done : Machine
-  done = node_gave m (event.Disk i 1) [] i (node_step (node_setting m i) s (back.Disk 1))
-
-  ok-same : (x y : Machine) → ◌≡◌ {A = Result Machine StepFault} (Ok x) (Ok y) → x ≡ y
-  ok-same x y e = cc
-
-  has-job : (b : Bool) → cond {A = Result Machine StepFault} b (Err (Refused (NoJob i 1 (length s.disk)))) (Ok done) ≡ Ok n → n ≡ done
-  has-job true e = absurd (let no : ◌≡◌ {A = Result Machine StepFault} (Err (Refused (NoJob i 1 (length s.disk)))) (Ok n) = e in cc)
-  has-job false e = sym (ok-same done n e)
-
-  counted : (b : Bool) → cond {A = Result Machine StepFault} b (Err (Refused (NoNode i m.config.nodes))) (disk_at m i 1 (node_at m.nodes i)) ≡ Ok n → n ≡ done
-  counted true e = absurd (let no : ◌≡◌ {A = Result Machine StepFault} (Err (Refused (NoNode i m.config.nodes))) (Ok n) = e in cc)
-  counted false e = has-job (is_no_job s 1) (sym (ap (disk_at m i 1) there) ∙ e)
-
-  limited : (o : Option What) → unless_limit o (cond {A = Result Machine StepFault} (is_no_node m.config.nodes i) (Err (Refused (NoNode i m.config.nodes))) (disk_at m i 1 (node_at m.nodes i))) ≡ Ok n → n ≡ done
-  limited None e = counted (is_no_node m.config.nodes i) e
-  limited (Some what) e = absurd (let no : ◌≡◌ {A = Result Machine StepFault} (Err (Limit what)) (Ok n) = e in cc)
 
 -- a job for another node sends its content there, and says nothing else
 pub record Sends (k : NodeSetting) (job : Job) (given : NodeState × Out) : Type 0 where
@@ -98,7 +57,7 @@ module _ (Good : Machine → Type 0) (all : ℕ → Whole) (m n : Machine) (plai
     go None spot h = absurd h
     go (Some t) spot h =
         let given : NodeState × Out = node_step (node_setting m i) s (back.Disk 1) in
-        let step = completed-at m n i s there is in
+        let step = disk-is m n i 1 s there is in
         let sends = job-sends (node_setting m i) s job at h.1 in
         let x : Place × List ℕ = (Node job.origin, message job.c job.epoch.0 (body.Content job.r (content_bytes (file_at m.files job.path)))) in
         let sent : packet_at n.net (length m.net + 1) ≡ Some (packet_of (Node i) x) =

@@ -1,14 +1,10 @@
 -- A packet is delivered: what comes of it is shorter, and nearer.
 use Rattle.std.proofs.Common.{◌≡◌, ◌<◌, ◌≤◌, ◌⊎◌, ℕ, suc, true, List, [], ◌∷◌, ◌++◌, length, Some, inl, inr, ⊎_elim, refl, sym, ap, ◌∙◌, subst, arith}
 use Rattle.lard_agenda.specs.Laws.{is_on_way}
-use Rattle.lard_answers.specs.Answers.{FilesAt}
-use Rattle.lard_base.specs.declared.event.Event.{Event}
+use Rattle.lard_law_view.specs.Prelude.{Came, Conn, Event, FilesAt, Has, IsConnNumber, Letter, Machine, Move, Packet, Seen, came_seen, conn, conn_of, file_at, grown, letter_of, letters, letters_of, packet_at, setting_of}
 use Rattle.lard_base.specs.declared.event.Event.TheVariants as event
 use Rattle.lard_bound.specs.Progress.{Answers, Any, IfCame, IsFetch, NearAt, came_in, chain_at}
 use Rattle.lard_bound.specs.Units.{Whole, units, machine_units}
-use Rattle.lard_rules.specs.declared.machine.Machine.{Machine}
-use Rattle.lard_rules.specs.Bounds.{IsConnNumber}
-use Rattle.lard_law_view.specs.View.{Conn, Move, conn, grown, letters_of, setting_of}
 use Rattle.lard_law_view.proofs.Saying.{NamesAll}
 use Rattle.lard_law_settles.specs.Course.{NearIn, chain_by, chain_in, chain_of}
 use Rattle.lard_law_settles.specs.CourseGame.{game}
@@ -17,10 +13,7 @@ use Rattle.lard_law_settles.proofs.CourseLasting.{Moved, each-still, moved, move
 use Rattle.lard_law_view.proofs.Steps.{shown}
 use Rattle.lard_law_settles.proofs.CourseOwing.{IsStep}
 use Rattle.lard_law_settles.proofs.CourseSending.{any-has, every-has, has-new, more, new-has, new-letters, new-none}
-use Rattle.lard_files.specs.Files.{file_at}
-use Rattle.lard_history.specs.Own.{Came, Has, Letter, Seen, came_seen, conn_of, letter_of, letters}
 use Rattle.lard_history.proofs.Seeing.{by_number, one-mine, one-other}
-use Rattle.lard_net.specs.Net.{Packet, packet_at}
 use Rattle.lard_rounds.specs.Rounds.{AreShorter, Nearer}
 
 -- by its connection

@@ -3,46 +3,24 @@ use Rattle.std.proofs.Common.{[], ◌∷◌, ◌+◌, ◌≡◌, ◌≢◌, ◌�
 use Rattle.std.specs.Prelude.{◌⊎◌}
 use Rattle.std.proofs.lemmas.Bool.{and_parts}
 use Rattle.std.proofs.lemmas.Bool.Decides.{nat_tests}
-use Rattle.lard_answers.specs.Answers.{FilesAt}
+use Rattle.lard_law_view.specs.Prelude.{Client, Dir, FilesAt, Front, Has, IsConnNumber, IsMessage, IsViewed, Job, Letter, Machine, Message, Node, NodeState, Out, Packet, Place, Said, SegFault, SpellsMessage, ToClient, ToCluster, Was, conn, conn_of, content_bytes, decoded, decoded_message, fetched, file_at, is_for, is_no_node, letter_of, letters, machine_step, node_at, node_gave, node_gets, node_setting, packet_at, packet_of, part_of}
 use Rattle.lard_base.specs.declared.event.Event.TheVariants as event
-use Rattle.lard_base.specs.declared.place.Place.{Place}
-use Rattle.lard_base.specs.declared.place.Place.TheVariants.{Front, Node, Client}
 use Rattle.lard_bound.specs.Nears.{IsWanted, JobNear, NearAside, NearBetween, NearSaid, NearSegment, NearTold, NearWord, OfMessage, OfSegment}
 use Rattle.lard_bound.specs.Progress.{IsFetch, NearAt, NearOn, spot_at}
 use Rattle.lard_bound.specs.Seats.{seat_of}
 use Rattle.lard_bound.specs.Spots.{Spot}
 use Rattle.lard_bound.specs.Units.{Whole}
-use Rattle.lard_rules.specs.declared.machine.Machine.{Machine}
-use Rattle.lard_rules.specs.Bounds.{IsConnNumber}
-use Rattle.lard_rules.specs.Machine.{is_no_node, machine_step, node_at, node_gave, node_setting}
-use Rattle.lard_law_view.specs.View.{IsViewed, SpellsMessage, Was, conn, part_of}
 use Rattle.lard_law_view.proofs.Naming.{decoded-names}
 use Rattle.lard_law_view.proofs.Nothing.{node-there}
 use Rattle.lard_law_settles.specs.CourseGame.{JobNearOn, game}
 use Rattle.lard_law_settles.proofs.CourseApart.{no-message}
 use Rattle.lard_law_settles.proofs.CourseFetching.{Fetches, IsHome, Outcome, Queued, Queues, Sent, content-nearer, content_of, delivered-to, gave-sends, gave-state, outcome, spot-home}
 use Rattle.lard_law_settles.proofs.CourseGoing.{IsPlain}
-use Rattle.lard_disk.specs.declared.disk.Job.{Job}
-use Rattle.lard_disk.specs.Jobs.{is_for}
-use Rattle.lard_files.specs.Files.{file_at}
-use Rattle.lard_history.specs.Own.{Has, Letter, conn_of, letter_of, letters}
 use Rattle.lard_history.proofs.Seeing.{has-letter}
 use Rattle.lard_journal.specs.declared.rec.Rec.TheVariants as rec
 use Rattle.lard_message.specs.declared.message.Body.TheVariants as body
-use Rattle.lard_message.specs.declared.message.Message.{Message}
-use Rattle.lard_message.specs.Message.{IsMessage}
-use Rattle.lard_message.specs.Reading.{decoded_message}
-use Rattle.lard_rules.specs.Sent.{packet_of}
-use Rattle.lard_net.specs.Net.{Packet, packet_at}
-use Rattle.lard_rules.specs.declared.node.NodeState.{NodeState}
 use Rattle.lard_rules.specs.Node.{message}
-use Rattle.lard_rules.specs.NodePlace.{content_bytes, fetched, node_gets}
 use Rattle.lard_rounds.specs.Rounds.{JobNearer, Nearer}
-use Rattle.lard_rules.specs.declared.places.Out.{Out}
-use Rattle.lard_segment.specs.declared.fault.SegFault.{SegFault}
-use Rattle.lard_segment.specs.declared.segment.Dir.{Dir}
-use Rattle.lard_segment.specs.declared.segment.Dir.TheVariants.{ToClient, ToCluster}
-use Rattle.lard_segment.specs.Segment.{Said, decoded}
 
 -- a node in the range is one that there is
 in-range : (count n : ℕ) → 1 ≤ n → n ≤ count → is_no_node count n ≡ false

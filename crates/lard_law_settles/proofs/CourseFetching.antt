@@ -1,61 +1,30 @@
 -- A Fetch comes to its node, which has the file in its cache and sends it, or queues a job, or has one queued already.
-use Rattle.std.proofs.Common.{◌≡◌, ◌≢◌, ◌<◌, ◌≤◌, ◌||◌, ℕ, ◌+◌, ◌-◌, Bool, true, false, cond, List, [], ◌∷◌, ◌++◌, length, Option, Some, None, Result, Ok, Err, inl, inr, refl, sym, ap, ◌∙◌, subst, arith, append-nil}
+use Rattle.std.proofs.Common.{◌≡◌, ◌≢◌, ◌<◌, ◌≤◌, ◌||◌, ℕ, ◌+◌, ◌-◌, Bool, true, false, cond, List, [], ◌∷◌, ◌++◌, length, Option, Some, None, Ok, inl, inr, refl, sym, ap, ◌∙◌, subst, arith, append-nil}
 use Rattle.std.proofs.lemmas.Option.{slice_get_within}
 use Rattle.std.specs.Prelude.{slice_set}
 use Rattle.std.specs.List.{find, list_any}
-use Rattle.lard_answers.specs.Answers.{FilesAt}
-use Rattle.lard_base.specs.declared.event.Event.{Event}
+use Rattle.lard_law_view.specs.Prelude.{ClientBlock, Conn, ControlBlock, Event, FilesAt, Has, IsConnNumber, IsMessage, Job, Letter, Machine, Message, Node, NodePart, NodeSetting, NodeState, NodeTurn, Out, Packet, Place, Rec, SpellsMessage, Station, Was, aside, conn, content_bytes, content_sent, decoded_message, fetched, fetched_file, file_at, has_path, is_for, is_from, is_under, machine_step, machine_told, node_acts, node_at, node_deed, node_gave, node_gets, node_part, node_saying, node_setting, nothing_done, packet_at, packet_of, packets_of, part_of, to_place, with_node}
 use Rattle.lard_base.specs.declared.event.Event.TheVariants as event
-use Rattle.lard_base.specs.declared.place.Place.{Place}
-use Rattle.lard_base.specs.declared.place.Place.TheVariants.{Node}
 use Rattle.lard_base.specs.declared.place.TimerKind.TheVariants as kind
 use Rattle.lard_bound.specs.Nears.{IsWanted, NearAside, OfMessage}
 use Rattle.lard_bound.specs.Progress.{NearAt, NearOn, spot_at, spot_with}
-use Rattle.lard_bound.specs.Seats.{Gone, Held, Here, Offered, Over, SeatNow, Staying, Unborn, Waiting, seat_of}
+use Rattle.lard_bound.specs.Seats.{Here, SeatNow, Staying, seat_of}
 use Rattle.lard_bound.specs.Spots.{Spot, post_of, spot_of}
 use Rattle.lard_bound.specs.Units.{Whole}
-use Rattle.lard_cache.specs.Recency.{has_path}
-use Rattle.lard_client.specs.Control.{ClientBlock}
-use Rattle.lard_rules.specs.declared.fault.StepFault.{StepFault}
-use Rattle.lard_rules.specs.declared.fault.Refusal.TheVariants.{WasLost}
-use Rattle.lard_rules.specs.declared.fault.StepFault.TheVariants.{Limit, Refused}
-use Rattle.lard_rules.specs.declared.machine.Machine.{Machine}
-use Rattle.lard_rules.specs.Bounds.{IsConnNumber}
-use Rattle.lard_rules.specs.Machine.{delivered, limit_reached, machine_step, node_acts, node_at, node_gave, node_setting, to_place, machine_told, unless_limit}
-use Rattle.lard_law_view.specs.View.{Conn, SpellsMessage, Was, conn, part_of, with_node}
+use Rattle.lard_law_connections.proofs.Happened.{deliver-is}
 use Rattle.lard_law_view.proofs.Naming.{spelled-named}
 use Rattle.lard_law_view.proofs.Parts.{node-here, node-mine, node-set}
 use Rattle.lard_law_settles.specs.CourseGame.{game}
 use Rattle.lard_law_settles.proofs.CourseGoing.{IsPlain}
 use Rattle.lard_law_settles.proofs.CourseSending.{at-index, get-behind, within-net}
-use Rattle.lard_disk.specs.declared.disk.Job.{Job}
-use Rattle.lard_disk.specs.Jobs.{is_for}
-use Rattle.lard_endpoint.specs.Control.{ControlBlock}
-use Rattle.lard_files.specs.Files.{file_at}
-use Rattle.lard_history.specs.Own.{Has, Letter}
 use Rattle.lard_history.proofs.Seeing.{has-behind}
-use Rattle.lard_journal.specs.declared.rec.Rec.{Rec}
 use Rattle.lard_journal.specs.declared.rec.Rec.TheVariants as rec
-use Rattle.lard_lateral.specs.Lateral.{is_from}
-use Rattle.lard_rules.specs.declared.fault.What.{What}
-use Rattle.lard_rules.specs.Sent.{packet_of, packets_of}
 use Rattle.lard_message.specs.declared.message.Body.TheVariants as body
-use Rattle.lard_message.specs.declared.message.Message.{Message}
-use Rattle.lard_message.specs.Message.{IsMessage}
-use Rattle.lard_message.specs.Reading.{decoded_message}
 use Rattle.lard_message.proofs.Whole.{again}
-use Rattle.lard_net.specs.Net.{Packet, packet_at}
 use Rattle.lard_rules.specs.declared.node.BackIn.TheVariants as back
-use Rattle.lard_rules.specs.declared.node.NodeState.{NodeState}
-use Rattle.lard_rules.specs.declared.node.NodeTurn.{NodeTurn}
 use Rattle.lard_rules.specs.Node as node
-use Rattle.lard_rules.specs.Node.{NodePart, message, node_saying}
-use Rattle.lard_rules.specs.NodePlace.{NodeSetting, aside, content_bytes, content_sent, fetched, fetched_file, node_deed, node_gets, node_part}
-use Rattle.lard_resend.specs.Kept.{is_under}
+use Rattle.lard_rules.specs.Node.{message}
 use Rattle.lard_rounds.specs.Rounds.{Nearer}
-use Rattle.lard_rules.specs.declared.places.Out.{Out}
-use Rattle.lard_rules.specs.declared.places.Station.{Station}
-use Rattle.lard_rules.specs.Outs.{nothing_done}
 
 -- ---- what a node's step leaves
 
@@ -186,21 +155,5 @@ outcome k s a c e r path file = queued (list_any (is_for c e r) s.disk) refl whe
 -- what is delivered to a node
 pub delivered-to : (m n : Machine) (k b : ℕ) (p : Packet) (s : NodeState) → packet_at m.net k ≡ Some p → p.to ≡ Node b → node_at m.nodes b ≡ Some s → machine_step m (event.Deliver k) ≡ Ok n
     → n ≡ node_gave m (event.Deliver k) (rec.Got k ∷ []) b (node_gets (node_setting m b) s p.from (decoded_message p.bytes))
-unfolding machine_step delivered
-delivered-to m n k b p s at to there is = limited (limit_reached m) is where
-  gave : Machine
-  gave = node_gave m (event.Deliver k) (rec.Got k ∷ []) b (node_gets (node_setting m b) s p.from (decoded_message p.bytes))
-
-  placed : to_place m k p p.to ≡ gave
-  placed = ap (to_place m k p) to ∙ ap (node_acts m (event.Deliver k) (rec.Got k ∷ []) b (back.Message p.from p.bytes)) there
-
-  ok-same : (x y : Machine) → ◌≡◌ {A = Result Machine StepFault} (Ok x) (Ok y) → x ≡ y
-  ok-same x y e = cc
-
-  lost : (t : Bool) → cond {A = Result Machine StepFault} t (Err (Refused (WasLost k))) (Ok (to_place m k p p.to)) ≡ Ok n → n ≡ gave
-  lost true e = absurd (let no : ◌≡◌ {A = Result Machine StepFault} (Err (Refused (WasLost k))) (Ok n) = e in cc)
-  lost false e = sym (ok-same (to_place m k p p.to) n e) ∙ placed
-
-  limited : (o : Option What) → unless_limit o (delivered m k (packet_at m.net k)) ≡ Ok n → n ≡ gave
-  limited None e = lost p.lost (sym (ap (delivered m k) at) ∙ e)
-  limited (Some what) e = absurd (let no : ◌≡◌ {A = Result Machine StepFault} (Err (Limit what)) (Ok n) = e in cc)
+delivered-to m n k b p s at to there is =
+    deliver-is m n k p at is ∙ ap (to_place m k p) to ∙ ap (node_acts m (event.Deliver k) (rec.Got k ∷ []) b (back.Message p.from p.bytes)) there

@@ -15,11 +15,7 @@ use Rattle.lard_agenda.specs.Laws.{IsDue, IsSeated, NamesSeat}
 use Rattle.lard_agenda.proofs.Due.{timers_are_listed}
 use Rattle.lard_agenda.proofs.Kept.{kept_is_seated, nothing_idle}
 use Rattle.lard_agenda.proofs.Timers.{none-told, one_seat, timers_are_told}
-use Rattle.lard_base.specs.declared.place.Place.{Place}
-use Rattle.lard_base.specs.declared.place.TimerKind.{TimerKind}
-use Rattle.lard_dispatch.specs.Books.{Dispatcher}
-use Rattle.lard_history.specs.Journal.{is_running}
-use Rattle.lard_journal.specs.declared.rec.Rec.{Rec}
+use Rattle.lard_law_view.specs.Prelude.{Dispatcher, Place, Rec, TimerKind, is_running}
 use Rattle.lard_settling.specs.Settling.{is_own_seat, is_own_at}
 
 -- ---- lists by rising numbers

@@ -1,22 +1,16 @@
 -- A step of the machine goes on, as far as settling asks: no unit comes back, and where none goes, nothing gets farther.
 use Rattle.std.proofs.Common.{◌≡◌, ◌<◌, ◌≤◌, ◌⊎◌, ℕ, true, Option, Some, None, length, sym, ap, ◌∙◌, subst, arith}
 use Rattle.lard_agenda.specs.Laws.{is_on_way}
-use Rattle.lard_base.specs.declared.event.Event.{Event}
+use Rattle.lard_law_view.specs.Prelude.{Conn, Event, IsConnNumber, Machine, Move, Packet, conn, conn_of, file_at, packet_at}
 use Rattle.lard_bound.specs.Nears.{JobNear}
 use Rattle.lard_bound.specs.Progress.{spot_at}
 use Rattle.lard_bound.specs.Spots.{Spot}
 use Rattle.lard_bound.specs.Units.{Whole, machine_units}
-use Rattle.lard_rules.specs.declared.machine.Machine.{Machine}
-use Rattle.lard_rules.specs.Bounds.{IsConnNumber}
-use Rattle.lard_law_view.specs.View.{Conn, Move, conn}
 use Rattle.lard_law_settles.specs.CourseGame.{JobNearOn, Task, game}
 use Rattle.lard_law_settles.proofs.CourseLasting.{all-less, all-steady}
 use Rattle.lard_law_settles.proofs.CourseOnWay.{AreNew}
 use Rattle.lard_law_settles.proofs.CourseOwing.{IsStep}
 use Rattle.lard_law_settles.proofs.CourseStaying.{chain-stays, near-stays}
-use Rattle.lard_files.specs.Files.{file_at}
-use Rattle.lard_history.specs.Own.{conn_of}
-use Rattle.lard_net.specs.Net.{Packet, packet_at}
 use Rattle.lard_rounds.specs.Rounds.{Goes}
 
 -- Each packet that is on its way is one that there is, and each is of a connection.

@@ -2,31 +2,11 @@
 use Rattle.std.proofs.Common.{◌≡◌, ℕ, List, [], ◌++◌, Option, Some, None, Result, Ok, Err, refl, sym, ap, ◌∙◌, append-nil}
 use Rattle.std.proofs.lemmas.Bool.{cond_both}
 use Rattle.std.specs.List.{list_any}
-use Rattle.lard_base.specs.declared.parts.EndpointParts.{EndpointParts}
-use Rattle.lard_base.specs.declared.place.Place.{Place}
-use Rattle.lard_base.specs.declared.place.Place.TheVariants.{Client, Front, Node}
+use Rattle.lard_law_view.specs.Prelude.{Body, Client, ControlBlock, EndpointParts, Front, Job, Message, MsgFault, Node, NodeEnv, NodePart, NodeSetting, NodeState, NodeTurn, Out, Place, Stay, ToCluster, aside, awaits_ack, back_endpoint, both_of, decoded, fetched, fetched_file, gone, is_for, node_acknowledged, node_content, node_deed, node_env, node_forwarded, node_gets, node_hears, node_offered, node_part, node_saying, node_tagged, node_timer, nothing_done, without}
 use Rattle.lard_law_settles.proofs.CourseQueueing.{QueuesNone, content-none, forwarded-none}
-use Rattle.lard_disk.specs.declared.disk.Job.{Job}
-use Rattle.lard_disk.specs.Jobs.{is_for}
-use Rattle.lard_endpoint.specs.Control.{ControlBlock}
-use Rattle.lard_handoff_back.specs.Back.{awaits_ack, back_endpoint}
-use Rattle.lard_message.specs.declared.fault.MsgFault.{MsgFault}
-use Rattle.lard_message.specs.declared.message.Body.{Body}
 use Rattle.lard_message.specs.declared.message.Body.TheVariants as body
-use Rattle.lard_message.specs.declared.message.Message.{Message}
-use Rattle.lard_rules.specs.declared.node.NodeState.{NodeState}
-use Rattle.lard_rules.specs.declared.node.NodeTurn.{NodeTurn}
-use Rattle.lard_rules.specs.declared.stay.Stay.{Stay}
 use Rattle.lard_rules.specs.Node as node
-use Rattle.lard_rules.specs.Node.{NodePart, both_of, gone, node_acknowledged, node_content, node_forwarded, node_offered, node_tagged, node_timer, node_saying}
-use Rattle.lard_rules.specs.NodePlace.{NodeSetting, aside, fetched, fetched_file, node_deed, node_env, node_gets, node_hears, node_part}
-use Rattle.lard_rules.specs.Stay.{NodeEnv}
-use Rattle.lard_resend.specs.Kept.{without}
 use Rattle.lard_base.specs.declared.place.TimerKind.TheVariants as kind
-use Rattle.lard_rules.specs.declared.places.Out.{Out}
-use Rattle.lard_rules.specs.Outs.{nothing_done}
-use Rattle.lard_segment.specs.declared.segment.Dir.TheVariants.{ToCluster}
-use Rattle.lard_segment.specs.Segment.{decoded}
 
 -- ---- a turn
 
@@ -98,22 +78,12 @@ module _ (k : NodeSetting) (s : NodeState) where
       quiet Front (record { c = c; epoch = record { 0 = e }; body = body.EndedAck }) (node_acknowledged (node_env k s c e) (node_part s c))
       (cond_both (awaits_ack e (node_part s c).row) (node.Does (record (node_part s c) { row = gone (node_part s c).row; kept = without kind.Ended 0 (node_part s c).kept }, node_saying [])) node.Drops (λ (d : node.NodeDeed). jobs_of d ≡ []) (λ t. refl)
       (λ t. refl))
-  hears Front c e body.Taken = rests Front _
-  hears Front c e (body.Ask number queue size paths) = rests Front _
-  hears Front c e (body.Ended why snd rcv count) = rests Front _
-  hears Front c e (body.Fetch n path) = rests Front _
-  hears Front c e (body.Content n bytes) = rests Front _
+  hears Front c e _ = rests Front _
   hears (Node a) c e (body.Fetch n path) = asks a c e n path (k.files path)
   hears (Node a) c e (body.Content n bytes) =
       quiet (Node a) (record { c = c; epoch = record { 0 = e }; body = body.Content n bytes }) (node_content (node_env k s c e) (node_part s c) a n)
       (none-of (node_content (node_env k s c e) (node_part s c) a n) (content-none (node_env k s c e) (node_part s c) a n))
-  hears (Node a) c e (body.Offer parts) = rests (Node a) _
-  hears (Node a) c e (body.Forward bytes) = rests (Node a) _
-  hears (Node a) c e (body.Tag number nodes) = rests (Node a) _
-  hears (Node a) c e body.EndedAck = rests (Node a) _
-  hears (Node a) c e body.Taken = rests (Node a) _
-  hears (Node a) c e (body.Ask number queue size paths) = rests (Node a) _
-  hears (Node a) c e (body.Ended why snd rcv count) = rests (Node a) _
+  hears (Node a) c e _ = rests (Node a) _
   hears (Client d) c e b = rests (Client d) _
 
   pub gets-leaves : (from : Place) (r : Result Message MsgFault) → Leaves from r (node_gets k s from r).0

@@ -3,25 +3,16 @@ use Rattle.std.proofs.Common.{◌≡◌, ◌≤◌, ◌+◌, ℕ, inl, inr, ⊎_
 use Rattle.std.specs.Prelude.{◌⊎◌}
 use Rattle.std.proofs.lemmas.List.{append_cancel_left}
 use Rattle.std.specs.List.{fold}
-use Rattle.lard_answers.specs.Answers.{FilesAt}
-use Rattle.lard_base.specs.declared.event.Event.{Event}
+use Rattle.lard_law_view.specs.Prelude.{Conn, Event, FilesAt, GoesBy, Machine, Move, Packet, Place, Rec, Seen, conn, file_at, grown, net_step, own, packets_of, seen_on, sent_records, setting_of}
 use Rattle.lard_base.specs.declared.event.Event.TheVariants as event
 use Rattle.lard_base.specs.declared.ids.TheConstants.ConnId.{MAX}
-use Rattle.lard_base.specs.declared.place.Place.{Place}
 use Rattle.lard_bound.specs.Progress.{spot_at}
 use Rattle.lard_bound.specs.Units.{Whole, units, machine_units}
-use Rattle.lard_rules.specs.declared.machine.Machine.{Machine}
-use Rattle.lard_law_view.specs.View.{Conn, GoesBy, Move, conn, grown, setting_of}
 use Rattle.lard_law_view.proofs.Acts.{ActsAlone, ActsMany, IsPassing, said_rows, step_acts}
 use Rattle.lard_law_view.proofs.Steps.{IsShown, shown, step_comes}
 use Rattle.lard_law_settles.proofs.CourseOwing.{IsStep, Leads, Owed}
-use Rattle.lard_files.specs.Files.{file_at}
-use Rattle.lard_history.specs.Own.{Seen, net_step, own, seen_on}
 use Rattle.lard_history.proofs.Seeing.{own-append, seen_on-append}
-use Rattle.lard_journal.specs.declared.rec.Rec.{Rec}
 use Rattle.lard_journal.specs.declared.rec.Rec.TheVariants as rec
-use Rattle.lard_rules.specs.Sent.{packets_of, sent_records}
-use Rattle.lard_net.specs.Net.{Packet}
 use Rattle.lard_law_progress.proofs.Most.{sum-less, sum-still}
 use Rattle.lard_law_view.proofs.OwnRecords.{behind}
 

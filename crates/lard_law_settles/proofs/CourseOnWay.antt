@@ -1,27 +1,19 @@
 -- What a step sends is on its way behind it.
-use Rattle.std.proofs.Common.{⊎_elim, ◌≡◌, ◌<◌, ◌≤◌, ℕ, ◌+◌, ◌-◌, Bool, true, false, cond, nat_eq, List, [], ◌∷◌, ◌++◌, length, Ok, refl, ap, ◌∙◌, arith, append_assoc, length-append}
+use Rattle.std.proofs.Common.{⊎_elim, ◌≡◌, ◌<◌, ◌≤◌, ℕ, ◌+◌, ◌-◌, Bool, true, false, cond, nat_eq, List, [], ◌∷◌, ◌++◌, length, Ok, refl, ap, ◌∙◌, arith, length-append}
 use Rattle.std.specs.Prelude.{◌⊎◌}
 use Rattle.std.proofs.lemmas.Bool.{cases_lt}
 use Rattle.std.proofs.lemmas.List.{length-map}
 use Rattle.std.proofs.lemmas.List.Sums.{fold-append}
 use Rattle.std.specs.List.{fold}
 use Rattle.lard_agenda.specs.Laws.{is_on_way, way_flag}
-use Rattle.lard_base.specs.declared.event.Event.{Event}
+use Rattle.lard_law_view.specs.Prelude.{Event, HasRule, IsViewed, Machine, Out, Place, Rec, clocked, lose_at, machine_step, machine_told, packet_of, packets_of, passed, segments_sent, sent_records}
 use Rattle.lard_base.specs.declared.event.Event.TheVariants as event
-use Rattle.lard_base.specs.declared.place.Place.{Place}
-use Rattle.lard_rules.specs.declared.machine.Machine.{Machine}
-use Rattle.lard_rules.specs.Bounds.{HasRule}
-use Rattle.lard_rules.specs.Machine.{clocked, machine_step, passed, segments_sent, machine_told, told_rows}
-use Rattle.lard_law_view.specs.View.{IsViewed}
+use Rattle.lard_law_connections.proofs.Calm.{first_rows, last_rows}
 use Rattle.lard_law_view.proofs.AnyShape.{AnyShape, step-any}
 use Rattle.lard_law_view.proofs.Shapes.{IsPut}
-use Rattle.lard_law_settles.proofs.CourseWays.{OnlySend, SaysLittle, act-little, lost-length, none-send, sents-send}
+use Rattle.lard_law_settles.proofs.CourseWays.{OnlySend, SaysLittle, act-little, lost-length, none-send, rest-journal, sents-send}
 use Rattle.lard_history.proofs.Seeing.{by_number, same_number}
-use Rattle.lard_journal.specs.declared.rec.Rec.{Rec}
 use Rattle.lard_journal.specs.declared.rec.Rec.TheVariants as rec
-use Rattle.lard_rules.specs.Sent.{packet_of, packets_of, sent_records}
-use Rattle.lard_net.specs.Net.{lose_at}
-use Rattle.lard_rules.specs.declared.places.Out.{Out}
 use Rattle.lard_law_view.proofs.OwnRecords.{behind}
 
 -- each packet that is new is on its way
@@ -57,21 +49,19 @@ module _ (k : ℕ) where
     abbrev M : List Rec
     M = sent_records j place o.messages
 
-    segment-tells : i ≤ k → k < i + length o.segments → Tells (o.notes ++ S ++ o.gave ++ M ++ o.timers)
+    segment-tells : i ≤ k → k < i + length o.segments → Tells (o.notes ++ (S ++ o.gave ++ M ++ o.timers))
     segment-tells from to =
-        tells-before first (o.notes ++ S ++ o.gave ++ M) o.timers
-        (tells-before first (o.notes ++ S ++ o.gave) M
-        (tells-before first (o.notes ++ S) o.gave
-        (tells-behind o.notes S (sents-tell first i place o.segments a from to))
-        (none-send k first o.gave little.gave))
+        tells-behind o.notes (S ++ o.gave ++ M ++ o.timers)
+        (tells-before first (S ++ o.gave ++ M) o.timers
+        (tells-before first (S ++ o.gave) M
+        (tells-before first S o.gave (sents-tell first i place o.segments a from to) (none-send k first o.gave little.gave))
         (sents-send k first j place o.messages b))
-        (none-send k first o.timers little.timers)
+        (none-send k first o.timers little.timers))
 
-    message-tells : j ≤ k → k < j + length o.messages → Tells (o.notes ++ S ++ o.gave ++ M ++ o.timers)
+    message-tells : j ≤ k → k < j + length o.messages → Tells (o.notes ++ (S ++ o.gave ++ M ++ o.timers))
     message-tells from to =
-        tells-before first (o.notes ++ S ++ o.gave ++ M) o.timers
-        (tells-behind (o.notes ++ S ++ o.gave) M (sents-tell first j place o.messages b from to))
-        (none-send k first o.timers little.timers)
+        tells-behind o.notes (S ++ o.gave ++ M ++ o.timers)
+        (tells-before first (S ++ o.gave ++ M) o.timers (tells-behind (S ++ o.gave) M (sents-tell first j place o.messages b from to)) (none-send k first o.timers little.timers))
 
 -- ---- shape by shape
 
@@ -88,21 +78,13 @@ module _ (m : Machine) where
       length-append (segments_sent w place o) (packets_of place o.messages) in
       let i : ℕ = length w.net + 1 in
       let j : ℕ = length (segments_sent w place o) + 1 in
-      let S : List Rec = sent_records i place o.segments in
-      let M : List Rec = sent_records j place o.messages in
-      let rest : List Rec = o.notes ++ S ++ o.gave ++ M ++ o.timers in
-      let parts : told_rows w e (behind e) place o ≡ (rec.Event (w.events + 1) e ∷ behind e) ++ rest =
-      ap (λ l. rec.Event (w.events + 1) e ∷ (l ++ o.gave ++ M ++ o.timers)) (append_assoc (behind e) o.notes S)
-      ∙ ap (λ l. rec.Event (w.events + 1) e ∷ (l ++ M ++ o.timers)) (append_assoc (behind e) (o.notes ++ S) o.gave)
-      ∙ ap (λ l. rec.Event (w.events + 1) e ∷ (l ++ o.timers)) (append_assoc (behind e) (o.notes ++ S ++ o.gave) M)
-      ∙ ap (λ l. rec.Event (w.events + 1) e ∷ l) (append_assoc (behind e) (o.notes ++ S ++ o.gave ++ M) o.timers) in
+      let rest : List Rec = o.notes ++ last_rows w place o in
       let tells : (t : (k < j) ⊎ (j ≤ k)) → Tells k rest = λ t. ⊎_elim
       (λ (f : k < j). segment-tells k first place o (little k) i j (omega (arith, same)) (omega (arith, same, sum)) (omega (arith, late, same)) (omega (arith, f, sum, segments)))
       (λ (f : j ≤ k). message-tells k first place o (little k) i j (omega (arith, same)) (omega (arith, same, sum)) f (omega (arith, within, all, messages)))
       t in
-      fold-append (way_flag k) false w.journal (told_rows w e (behind e) place o)
-      ∙ ap (λ rs. fold (way_flag k) (is_on_way w.journal k) rs) parts
-      ∙ tells-behind k (rec.Event (w.events + 1) e ∷ behind e) rest (tells (cases_lt k j)) (is_on_way w.journal k)
+      ap (λ (J : List Rec). is_on_way J k) (rest-journal w e place o) ∙ fold-append (way_flag k) false w.journal (first_rows w e ++ rest)
+      ∙ tells-behind k (first_rows w e) rest (tells (cases_lt k j)) (is_on_way w.journal k)
 
   passed-new : (n : Machine) → length n.net ≡ length m.net → AreNew m n
   passed-new n same k late within = absurd (omega (arith, late, within, same))

@@ -1,23 +1,12 @@
 -- What each move owes within a settle, and what is known where the machine makes a step of one.
 use Rattle.std.proofs.Common.{◌≡◌, ◌<◌, ◌≤◌, ℕ, true, false, [], Ok}
-use Rattle.lard_base.specs.declared.event.Event.{Event}
+use Rattle.lard_law_view.specs.Prelude.{Client, Conn, ControlBlock, Event, Front, HasRule, IsViewed, Machine, MayRestOn, Move, Node, Part, Place, Rules, Setting, TimerKind, conn, event_seen, front_armed, grown, letters_of, machine_step, node_armed, setting_of, station_armed}
 use Rattle.lard_base.specs.declared.event.Event.TheVariants as event
-use Rattle.lard_base.specs.declared.place.Place.{Place}
-use Rattle.lard_base.specs.declared.place.Place.TheVariants.{Front, Node, Client}
-use Rattle.lard_base.specs.declared.place.TimerKind.{TimerKind}
 use Rattle.lard_bound.specs.Progress.{Answers, Any, Every, IfCame, Lasts, NearAt, came_in, chain_at}
 use Rattle.lard_bound.specs.Seats.{Waiting, seat_of}
 use Rattle.lard_bound.specs.Units.{Whole, units}
-use Rattle.lard_rules.specs.declared.machine.Machine.{Machine}
-use Rattle.lard_rules.specs.Bounds.{HasRule}
-use Rattle.lard_rules.specs.Machine.{machine_step}
-use Rattle.lard_law_view.specs.Carry.{MayRestOn}
-use Rattle.lard_law_view.specs.View.{Conn, IsViewed, Move, Part, Rules, Setting, conn, event_seen, grown, letters_of, setting_of, station_armed}
 use Rattle.lard_law_view.proofs.Saying.{NamesAll}
 use Rattle.lard_law_view.proofs.Steps.{IsShown}
-use Rattle.lard_endpoint.specs.Control.{ControlBlock}
-use Rattle.lard_rules.specs.Front.{front_armed}
-use Rattle.lard_rules.specs.Node.{node_armed}
 
 -- Of a move that sees nothing of its event: the connection is admitted, and a unit goes; or a job was done for it, and where no unit goes
 -- nothing comes of what is sent.

@@ -4,33 +4,13 @@ use Rattle.std.proofs.Common.{◌≡◌, ℕ, ◌+◌, ◌-◌, ◌==◌, nat_lt
 use Rattle.std.proofs.lemmas.Bool.{cond_both}
 use Rattle.std.specs.List.{find}
 use Rattle.lard_base.specs.declared.place.TimerKind.TheVariants as kind
-use Rattle.lard_disk.specs.declared.disk.Job.{Job}
-use Rattle.lard_disk.specs.Jobs.{job_at, without_job}
-use Rattle.lard_endpoint.specs.Arriving.{on_segment}
-use Rattle.lard_endpoint.specs.Control.{ControlBlock}
-use Rattle.lard_lateral.specs.Lateral.{is_from}
+use Rattle.lard_law_view.specs.Prelude.{ControlBlock, Done, Entry, Job, More, Next, NodeEnv, NodePart, NodeSetting, NodeState, Out, Progress, Said, SegFault, Stay, Step, Verdict, Work, asks_for, batch_of, bytes_used, came_for, come_by, come_on, come_progress, completed, content_sent, disk_step, entered, enters, goes_on, here, is_from, is_under, job_at, may_read, named_paths, next_in, node_brought, node_content, node_deed, node_env, node_forwarded, node_heard_by, node_part, node_read, node_read_by, node_step, on_segment, read_entry, read_progress, reads_these, serves_by, serves_first, serving_consumed, stay_turn, turned, with_work, without, without_job, work_left, work_of}
 use Rattle.lard_rules.specs.declared.node.BackIn.TheVariants as back
-use Rattle.lard_rules.specs.declared.node.NodeState.{NodeState}
-use Rattle.lard_rules.specs.declared.stay.Entry.{Entry}
-use Rattle.lard_rules.specs.declared.stay.Next.{Next}
 use Rattle.lard_rules.specs.declared.stay.Next.TheVariants as next
-use Rattle.lard_rules.specs.declared.stay.Progress.{Progress}
 use Rattle.lard_rules.specs.declared.stay.Progress.TheVariants as progress
-use Rattle.lard_rules.specs.declared.stay.Stay.{Stay}
 use Rattle.lard_rules.specs.Node as node
-use Rattle.lard_rules.specs.Node.{NodePart, come_by, node_heard_by, here, node_content, node_forwarded, node_read, node_read_by, with_work, work_of}
 use Rattle.lard_rules.specs.NodePlace as place
-use Rattle.lard_rules.specs.NodePlace.{NodeSetting, node_brought, completed, content_sent, disk_step, node_deed, node_env, node_part, node_step}
-use Rattle.lard_rules.specs.Stay.{NodeEnv, Work, asks_for, came_for, come_on, come_progress, enters, goes_on, work_left, named_paths, next_in, read_entry, entered, read_progress, reads_these, serves_by, serves_first, stay_turn, turned}
-use Rattle.lard_reader.specs.Batches.{batch_of, bytes_used}
-use Rattle.lard_request.specs.declared.verdict.Verdict.{Verdict}
-use Rattle.lard_resend.specs.Kept.{is_under, without}
-use Rattle.lard_rules.specs.declared.places.Out.{Out}
-use Rattle.lard_rules.specs.Loop.{Step, More, Done}
-use Rattle.lard_rules.specs.Serving.{serving_consumed, may_read}
 use Rattle.lard_rules.proofs.Runs.{runs_keep}
-use Rattle.lard_segment.specs.declared.fault.SegFault.{SegFault}
-use Rattle.lard_segment.specs.Segment.{Said}
 
 -- ---- a stay that goes on queues no job, but where a batch is read with the connection
 

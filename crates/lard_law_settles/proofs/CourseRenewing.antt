@@ -4,36 +4,17 @@ use Rattle.std.specs.Prelude.{◌⊎◌}
 use Rattle.std.proofs.lemmas.Bool.{cond-false, cond_both}
 use Rattle.std.proofs.lemmas.Bool.Decides.{nat_tests}
 use Rattle.std.specs.List.{AllByRecursion, find}
-use Rattle.lard_answers.specs.Answers.{FilesAt}
-use Rattle.lard_base.specs.declared.parts.EndpointParts.{EndpointParts}
-use Rattle.lard_base.specs.declared.place.Place.TheVariants.{Front, Node}
+use Rattle.lard_law_view.specs.Prelude.{BackConn, BackRow, Body, Conn, ControlBlock, EndpointParts, FilesAt, Final, Front, FrontConn, FrontRow, IsMessage, Kept, Message, Node, NodePart, Part, Station, Stay, ask_kept, ended_kept, fetch_kept, fetching, front_rest, is_from, is_under, named_paths, names_epoch, spelled_message}
 use Rattle.lard_base.specs.declared.place.TimerKind.TheVariants as kind
 use Rattle.lard_bound.specs.Nears.{IsWanted, Near, NearAside, NearAsk, NearEnding, NearOffer, NearSaid, NearTold, OfMessage}
 use Rattle.lard_bound.specs.Seats.{Gone, Offered, Over, SeatNow, seat_decided, seat_of, seat_there, stay_of, staying_of, tells_end}
 use Rattle.lard_bound.specs.Spots.{AtNode, Spot, awaits_of, ends_of, post_of, spot_of}
-use Rattle.lard_law_view.specs.View.{Conn, Part}
-use Rattle.lard_endpoint.specs.Control.{ControlBlock}
-use Rattle.lard_endpoint.specs.declared.control.moving.Final.{Final}
-use Rattle.lard_rules.specs.Front.{front_rest}
-use Rattle.lard_handoff_back.specs.declared.row.BackConn.{BackConn}
 use Rattle.lard_handoff_back.specs.declared.row.BackConn.TheVariants as back
-use Rattle.lard_handoff_back.specs.declared.row.BackRow.{BackRow}
-use Rattle.lard_handoff_front.specs.declared.row.FrontConn.{FrontConn}
 use Rattle.lard_handoff_front.specs.declared.row.FrontConn.TheVariants as stage
-use Rattle.lard_handoff_front.specs.declared.row.FrontRow.{FrontRow}
-use Rattle.lard_lateral.specs.Lateral.{fetch_kept, fetching, is_from, names_epoch}
-use Rattle.lard_message.specs.declared.message.Body.{Body}
 use Rattle.lard_message.specs.declared.message.Body.TheVariants as body
-use Rattle.lard_message.specs.declared.message.Message.{Message}
-use Rattle.lard_message.specs.Message.{IsMessage, spelled_message}
 use Rattle.lard_message.proofs.Whole.{again}
-use Rattle.lard_rules.specs.declared.stay.Stay.{Stay}
-use Rattle.lard_rules.specs.Node.{NodePart, ask_kept, ended_kept, message}
-use Rattle.lard_rules.specs.Stay.{named_paths}
+use Rattle.lard_rules.specs.Node.{message}
 use Rattle.lard_law_progress.proofs.Away.{IsWith, away-here, seat-with}
-use Rattle.lard_resend.specs.declared.kept.Kept.{Kept}
-use Rattle.lard_resend.specs.Kept.{is_under}
-use Rattle.lard_rules.specs.declared.places.Station.{Station}
 
 -- ---- what is kept, by the stage in which the connection is
 

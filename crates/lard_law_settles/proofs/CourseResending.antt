@@ -1,23 +1,13 @@
 -- What a timer sends again of a sending half: a segment from the first symbol that is not acknowledged, with one at least.
 use Rattle.std.proofs.Common.{◌≡◌, ◌<◌, ◌≤◌, ◌==◌, ◌&&◌, nat_lt, ℕ, ◌+◌, ◌-◌, ◌^◌, min, Bool, true, false, cond, List, [], ◌∷◌, length, Option, Some, None, refl, sym, ap, ◌∙◌, subst, arith, eqb-true, ltb-true, ltb-false, eq-eqb}
 use Rattle.std.proofs.lemmas.Bool.{both_ways, eqb-false}
-use Rattle.lard_arrival.specs.Arrival.{seg_len}
+use Rattle.lard_law_view.specs.Prelude.{ControlBlock, IsSendable, IsSending, Ready, Said, Sending, ServeEnv, Speaks, ToClient, after_piece, after_timer, again_fin, again_len, byte_piece, filled, is_clear, one_if, own_mss, piece_ready, rcv_nxt, rcv_wnd, ready_of, resent_piece, retried, seg_len, seq_add, seq_offset, spelled, symbols, syn_piece, timed, to_client, told, unsent_bytes}
 use Rattle.lard_base.specs.declared.place.Place.TheVariants as place
 use Rattle.lard_bound.specs.Nears.{IsUntold, first_symbol}
 use Rattle.lard_bound.specs.Spots.{EndpointSymbols, Spot}
-use Rattle.lard_endpoint.specs.Control.{ControlBlock, rcv_nxt, rcv_wnd}
-use Rattle.lard_endpoint.specs.Leaving.{after_piece, after_timer, filled, own_mss, piece_ready, ready_of, retried, timed, told}
 use Rattle.lard_rules.specs.Serving as serving
-use Rattle.lard_rules.specs.Serving.{ServeEnv}
-use Rattle.lard_rules.specs.Speaking.{to_client}
-use Rattle.lard_segment.specs.declared.segment.Dir.TheVariants.{ToClient}
-use Rattle.lard_segment.specs.declared.segment.Ready.{Ready}
-use Rattle.lard_segment.specs.Segment.{IsSendable, Said, spelled}
 use Rattle.lard_send.specs.declared.piece.Piece.{Piece}
-use Rattle.lard_send.specs.Send.{IsSending, Sending, again_fin, again_len, byte_piece, is_clear, resent_piece, symbols, syn_piece, unsent_bytes}
-use Rattle.lard_seq.specs.Seq.{one_if, seq_add, seq_offset}
 use Rattle.lard_seq.proofs.Laws.{offset-add}
-use Rattle.lard_law_view.specs.Truth.{Speaks}
 use Rattle.lard_law_view.proofs.Endpoint.{timed-fair}
 use Rattle.lard_law_view.proofs.Pieces.{piece_bytes, piece_size, resent-carries}
 use Rattle.lard_law_view.proofs.Speaking.{resend-moves}

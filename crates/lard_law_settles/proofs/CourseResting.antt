@@ -3,15 +3,12 @@ use Rattle.std.proofs.Common.{◌≡◌, ◌<◌, ◌≤◌, ℕ, suc, ◌+◌, 
 use Rattle.std.specs.Prelude.{◌⊎◌}
 use Rattle.std.proofs.lemmas.Option.{slice_get_within}
 use Rattle.lard_agenda.specs.Laws.{is_on_way}
-use Rattle.lard_base.specs.declared.event.Event.{Event}
+use Rattle.lard_law_view.specs.Prelude.{Conn, Event, Has, IsViewed, Job, Machine, Move, NodeState, Packet, Rules, conn, file_at, grown, job_at, letter_of, machine_step, node_at, packet_at, setting_of}
 use Rattle.lard_base.specs.declared.event.Event.TheVariants as event
 use Rattle.lard_bound.specs.Progress.{IsFetch, NearAt}
 use Rattle.lard_bound.specs.Units.{Whole, machine_units}
-use Rattle.lard_rules.specs.declared.machine.Machine.{Machine}
-use Rattle.lard_rules.specs.Bounds.{HasRule}
-use Rattle.lard_rules.specs.Machine.{machine_step, node_at}
-use Rattle.lard_law_view.specs.View.{Conn, IsViewed, Move, Rules, conn, grown, setting_of}
 use Rattle.lard_law_view.proofs.After.{IsAfter, step-after}
+use Rattle.lard_law_progress.proofs.Given.{IsRounds, rounds-rule}
 use Rattle.lard_law_settles.specs.Course.{chain_in}
 use Rattle.lard_law_settles.specs.CourseGame.{CompletesFirst, FiresAt, Begins, Task, TaskWaits, game}
 use Rattle.lard_law_settles.proofs.CourseBeginning.{Timers, begins-near}
@@ -27,29 +24,19 @@ use Rattle.lard_law_settles.proofs.CourseOwing.{IsStep, Owed}
 use Rattle.lard_law_settles.proofs.CourseWays.{Takes, Ways, step-ways}
 use Rattle.lard_law_settles.proofs.CourseSending.{within-net}
 use Rattle.lard_law_settles.proofs.CourseStocking.{Opened, Stocks, TagsFall, job-stocks, packet-stocks, timer-stocks}
-use Rattle.lard_disk.specs.declared.disk.Job.{Job}
-use Rattle.lard_disk.specs.Jobs.{job_at}
-use Rattle.lard_files.specs.Files.{file_at}
-use Rattle.lard_history.specs.Own.{Has, letter_of}
-use Rattle.lard_net.specs.Net.{Packet, packet_at}
-use Rattle.lard_rules.specs.declared.node.NodeState.{NodeState}
-use Rattle.lard_rounds.specs.Rounds.{Delivers, Fires, IsIdle, JobNearer, Nearer, Owes}
+use Rattle.lard_rounds.specs.Rounds.{Delivers, Fires, IsIdle, Nearer, Owes}
 use Rattle.lard_rounds.specs.Rounds as rounds
 
 -- ---- inner steps
 
--- a packet that is on its way is delivered, a node completes its first job, or a timer fires
-abbrev pub IsMade : Machine → Event → Type 0
-IsMade m (event.Deliver k) = is_on_way m.journal k ≡ true
-IsMade m (event.Disk i j) = j ≡ 1
-IsMade m (event.Timer p c) = HasRule (event.Timer p c)
-IsMade m _ = ⊥
+-- what is delivered is on its way
+abbrev pub IsReady : Machine → Event → Type 0
+IsReady m (event.Deliver k) = is_on_way m.journal k ≡ true
+IsReady m _ = Unit {0}
 
-pub made-rule : (m : Machine) (e : Event) → IsMade m e → HasRule e
-made-rule m (event.Deliver k) h = tt
-made-rule m (event.Disk i j) h = tt
-made-rule m (event.Timer p c) h = h
-made-rule m _ h = absurd h
+-- an event of a round, which is made from here
+abbrev pub IsMade : Machine → Event → Type 0
+IsMade m e = IsRounds e × IsReady m e
 
 -- ---- what is known
 
@@ -69,13 +56,13 @@ pub record Within (Given : Conn → Type 0) (Came : Conn → Move → Type 0) (a
 module _ (Given : Conn → Type 0) (Came : Conn → Move → Type 0) (all : ℕ → Whole) (Good : Machine → Type 0) (w : Within Given Came all Good) where
   module _ (m n : Machine) (e : Event) (good : Good m) (made : IsMade m e) (is : machine_step m e ≡ Ok n) where
     after : IsAfter m e n
-    after = step-after m (w.view m good) e n (made-rule m e made) is
+    after = step-after m (w.view m good) e n (rounds-rule e made.0) is
 
     pub step : IsStep Given Came all m n e
     step = record {
       view = w.view m good;
       rules = w.rules m good;
-      rule = made-rule m e made;
+      rule = rounds-rule e made.0;
       is = is;
       config = after.config;
       before = w.given m good;
@@ -84,7 +71,7 @@ module _ (Given : Conn → Type 0) (Came : Conn → Move → Type 0) (all : ℕ 
     }
 
     ways : Ways m e n
-    ways = step-ways m (w.view m good) e n (made-rule m e made) is
+    ways = step-ways m (w.view m good) e n (rounds-rule e made.0) is
 
     plain-of : ((k : ℕ) (p : Packet) → packet_at m.net k ≡ Some p → packet_at n.net k ≡ Some p) → IsPlain m n
     plain-of packets = record {
@@ -93,35 +80,35 @@ module _ (Given : Conn → Type 0) (Came : Conn → Move → Type 0) (all : ℕ 
       more = ways.more;
       packets = packets;
       way = λ k on. ⊎_elim (λ (h : (is_on_way m.journal k ≡ true) × (Takes e k → ⊥)). inl h.0) (λ (late : length m.net < k). inr late) (ways.way k on);
-      new = step-new m (w.view m good) e n (made-rule m e made) is;
+      new = step-new m (w.view m good) e n (rounds-rule e made.0) is;
       listed = w.listed m good;
       listed_too = w.listed n (w.goes m n e good made is);
     }
 
   stocks : (m n : Machine) (e : Event) → Good m → IsMade m e → machine_step m e ≡ Ok n → Stocks all m e n
-  stocks m n (event.Deliver k) good on is =
+  stocks m n (event.Deliver k) good made is =
       let l = w.listed m good in
-      let p = l.there k on in
+      let p = l.there k made.1 in
       let of = l.numbers k p.0 p.1 in
-      packet-stocks Given Came all m n k (step m n (event.Deliver k) good on is) (w.opened m good) (w.tags m n (event.Deliver k) good (step m n (event.Deliver k) good on is)) p.0 p.1 of.0 of.1 of.2
-  stocks m n (event.Disk i j) good one is =
-      subst (λ (x : ℕ). Stocks all m (event.Disk i x) n) (sym one) (job-stocks all m n i (subst (λ (x : ℕ). machine_step m (event.Disk i x) ≡ Ok n) one is))
-  stocks m n (event.Timer p c) good has is = timer-stocks all m n p c is
-  stocks m n _ good made is = absurd made
+      packet-stocks Given Came all m n k (step m n (event.Deliver k) good made is) (w.opened m good) (w.tags m n (event.Deliver k) good (step m n (event.Deliver k) good made is)) p.0 p.1 of.0 of.1 of.2
+  stocks m n (event.Disk i j) good made is =
+      subst (λ (x : ℕ). Stocks all m (event.Disk i x) n) (sym made.0) (job-stocks all m n i (subst (λ (x : ℕ). machine_step m (event.Disk i x) ≡ Ok n) made.0 is))
+  stocks m n (event.Timer p c) good made is = timer-stocks all m n p c is
+  stocks m n _ good made is = absurd made.0
 
   -- ---- a packet
 
   packet : (m n : Machine) (k : ℕ) → Good m → is_on_way m.journal k ≡ true → machine_step m (event.Deliver k) ≡ Ok n → Delivers (game all Good) 3 m k n
   packet m n k good on is =
       let e : Event = event.Deliver k in
-      let s = step m n e good on is in
-      let plain = plain-of m n e good on is (ways m n e good on is).packets in
-      let left = stocks m n e good on is in
+      let s = step m n e good (tt, on) is in
+      let plain = plain-of m n e good (tt, on) is (ways m n e good (tt, on) is).packets in
+      let left = stocks m n e good (tt, on) is in
       let p = plain.listed.there k on in
       let of = plain.listed.numbers k p.0 p.1 in
       record {
-        goes = goes-on Given Came Good all m n e s plain (w.goes m n e good on is);
-        others = (ways m n e good on is).others;
+        goes = goes-on Given Came Good all m n e s plain (w.goes m n e good (tt, on) is);
+        others = (ways m n e good (tt, on) is).others;
         jobs = λ t waits. ⊎_elim
             (λ (d : (z : NodeState) × (e ≡ event.Disk t.0 1) × (node_at m.nodes t.0 ≡ Some z) × (job_at z.disk 1 ≡ Some t.1)). absurd (let bad : e ≡ event.Disk t.0 1 = d.1 in cc))
             (λ (h : TaskWaits n t). h)
@@ -149,12 +136,12 @@ module _ (Given : Conn → Type 0) (Came : Conn → Move → Type 0) (all : ℕ 
   job : (m n : Machine) (t : Task) → Good m → TaskWaits m t → CompletesFirst m t n → rounds.Completes (game all Good) 3 m t n
   job m n t good waits (z, there, at, is) =
       let e : Event = event.Disk t.0 1 in
-      let s = step m n e good refl is in
-      let plain = plain-of m n e good refl is (ways m n e good refl is).packets in
-      let left = stocks m n e good refl is in
+      let s = step m n e good (refl, tt) is in
+      let plain = plain-of m n e good (refl, tt) is (ways m n e good (refl, tt) is).packets in
+      let left = stocks m n e good (refl, tt) is in
       record {
-        goes = goes-on Given Came Good all m n e s plain (w.goes m n e good refl is);
-        others = λ i on. ⊎_elim (λ (no_ : ⊥). absurd no_) (λ (h : is_on_way n.journal i ≡ true). h) ((ways m n e good refl is).others i on);
+        goes = goes-on Given Came Good all m n e s plain (w.goes m n e good (refl, tt) is);
+        others = λ i on. ⊎_elim (λ (no_ : ⊥). absurd no_) (λ (h : is_on_way n.journal i ≡ true). h) ((ways m n e good (refl, tt) is).others i on);
         jobs = λ u waits_. ⊎_elim
             (λ (d : (y : NodeState) × (e ≡ event.Disk u.0 1) × (node_at m.nodes u.0 ≡ Some y) × (job_at y.disk 1 ≡ Some u.1)). inl (same-task t u z d.0 there at (disk-same t.0 u.0 d.1) d.2 d.3))
             (λ (h : TaskWaits n u). inr h)
@@ -192,12 +179,12 @@ module _ (Given : Conn → Type 0) (Came : Conn → Move → Type 0) (all : ℕ 
   timer : (m n : Machine) → Good m → FiresAt m n → Fires (game all Good) m n
   timer m n good (p, c, has, is) =
       let e : Event = event.Timer p c in
-      let s = step m n e good has is in
-      let plain = plain-of m n e good has is (ways m n e good has is).packets in
-      let left = stocks m n e good has is in
+      let s = step m n e good (has, tt) is in
+      let plain = plain-of m n e good (has, tt) is (ways m n e good (has, tt) is).packets in
+      let left = stocks m n e good (has, tt) is in
       record {
-        goes = goes-on Given Came Good all m n e s plain (w.goes m n e good has is);
-        others = λ i on. ⊎_elim (λ (no_ : ⊥). absurd no_) (λ (h : is_on_way n.journal i ≡ true). h) ((ways m n e good has is).others i on);
+        goes = goes-on Given Came Good all m n e s plain (w.goes m n e good (has, tt) is);
+        others = λ i on. ⊎_elim (λ (no_ : ⊥). absurd no_) (λ (h : is_on_way n.journal i ≡ true). h) ((ways m n e good (has, tt) is).others i on);
         queues = λ u waits_. ⊎_elim
             (λ (h : TaskWaits m u). h)
             (λ (h : (i : ℕ) × (e ≡ event.Deliver i) × (machine_units all m ≤ machine_units all n → 1 ≤ chain_in m i)). absurd (let bad : e ≡ event.Deliver h.0 = h.1 in cc))
@@ -207,8 +194,8 @@ module _ (Given : Conn → Type 0) (Came : Conn → Move → Type 0) (all : ℕ 
   begin : (m n : Machine) → Good m → IsIdle (game all Good) m → Begins m n → (machine_units all n < machine_units all m) ⊎ Nearer (game all Good) n 0 3
   begin m n good idle (p, c, more, has, due_, is) =
       let e : Event = event.Timer p c in
-      let plain = plain-of m n e good has is (ways m n e good has is).packets in
-      begins-near Given Came Good all m n p c (step m n e good has is) plain (w.timers m good) more has due_
+      let plain = plain-of m n e good (has, tt) is (ways m n e good (has, tt) is).packets in
+      begins-near Given Came Good all m n p c (step m n e good (has, tt) is) plain (w.timers m good) more has due_
 
   -- ---- all of it
 

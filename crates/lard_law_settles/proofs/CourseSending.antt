@@ -4,11 +4,8 @@ use Rattle.std.specs.Prelude.{◌⊎◌, slice_get}
 use Rattle.std.proofs.lemmas.List.{append_cancel_left}
 use Rattle.std.proofs.lemmas.Option.{slice_get_within}
 use Rattle.lard_bound.specs.Progress.{Any, Every}
-use Rattle.lard_rules.specs.declared.machine.Machine.{Machine}
-use Rattle.lard_law_view.specs.View.{Conn, Move, conn, grown, letters_of}
-use Rattle.lard_history.specs.Own.{Has, Letter, letter_of, letters, letters_in, one_of}
+use Rattle.lard_law_view.specs.Prelude.{Conn, Has, Letter, Machine, Move, Packet, conn, grown, letter_of, letters, letters_in, letters_of, one_of, packet_at}
 use Rattle.lard_history.proofs.Seeing.{by_number, has-letter, letters-append, one-mine, one-other, other_number, packet_conn}
-use Rattle.lard_net.specs.Net.{Packet, packet_at}
 
 -- ---- lists
 

@@ -1,16 +1,10 @@
 -- Where each connection's spot is as it was, what is near stays near, and no chain gets longer.
 use Rattle.std.proofs.Common.{◌≡◌, ◌≤◌, ℕ, Option, Some, None, refl, sym, ap, ◌∙◌, subst}
-use Rattle.lard_answers.specs.Answers.{FilesAt}
+use Rattle.lard_law_view.specs.Prelude.{FilesAt, IsConnNumber, Letter, Machine, Packet, conn, conn_of, file_at, letter_of, packet_at}
 use Rattle.lard_base.specs.declared.ids.TheConstants.ConnId.{MAX}
 use Rattle.lard_bound.specs.Progress.{NearAt, NearOn, chain_at, chain_on, spot_at}
 use Rattle.lard_bound.specs.Spots.{Spot}
-use Rattle.lard_rules.specs.declared.machine.Machine.{Machine}
-use Rattle.lard_rules.specs.Bounds.{IsConnNumber}
-use Rattle.lard_law_view.specs.View.{conn}
 use Rattle.lard_law_settles.specs.Course.{NearIn, chain_by, chain_in, chain_of}
-use Rattle.lard_files.specs.Files.{file_at}
-use Rattle.lard_history.specs.Own.{Letter, conn_of, letter_of}
-use Rattle.lard_net.specs.Net.{Packet, packet_at}
 
 -- Of a step in which no unit goes: the spots, the files and the packets that there were are the same.
 module _ (m n : Machine) (files : n.files ≡ m.files) (spots : (q : ℕ) → 1 ≤ q → q ≤ MAX → spot_at (file_at m.files) (conn n q) ≡ spot_at (file_at m.files) (conn m q))

@@ -2,50 +2,29 @@
 -- where it is an Offer or a Fetch, of which something comes, or a Tag that counts, with which a unit goes.
 use Rattle.std.proofs.Common.{◌≡◌, ◌≢◌, ◌<◌, ◌≤◌, ℕ, List, [], ◌∷◌, ◌++◌, Some, Ok, inl, inr, ⊎_elim, refl, sym, ap, ◌∙◌, subst, arith}
 use Rattle.std.specs.Prelude.{◌⊎◌}
-use Rattle.lard_base.specs.declared.event.Event.{Event}
+use Rattle.lard_law_view.specs.Prelude.{Conn, Event, Front, Has, IsConnNumber, IsNodeEnv, Job, Letter, Machine, Message, Move, Node, NodeEnv, NodePart, NodeSetting, NodeState, NodeTurn, Out, Packet, Place, Rec, SpellsMessage, Station, Was, conn, conn_of, decoded_message, file_at, job_at, letter_of, letters, machine_step, machine_told, node_at, node_deed, node_env, node_epoch_at, node_gave, node_gets, node_part, node_setting, node_step, node_tagged, node_timer, packet_at, part_of, setting_of, with_node}
 use Rattle.lard_base.specs.declared.event.Event.TheVariants as event
-use Rattle.lard_base.specs.declared.place.Place.{Place}
-use Rattle.lard_base.specs.declared.place.Place.TheVariants.{Front, Node}
 use Rattle.lard_bound.specs.Chains.{aside_chain, chain_between, front_chain, of_message}
 use Rattle.lard_bound.specs.Progress.{chain_on, spot_with}
 use Rattle.lard_bound.specs.Spots.{Spot, spot_of}
 use Rattle.lard_bound.specs.Units.{Whole, units, machine_units}
-use Rattle.lard_rules.specs.declared.machine.Machine.{Machine}
-use Rattle.lard_rules.specs.Bounds.{IsConnNumber}
-use Rattle.lard_rules.specs.Machine.{machine_step, node_at, node_gave, node_setting, machine_told}
-use Rattle.lard_law_view.specs.View.{Conn, IsNodeEnv, Move, SpellsMessage, Was, conn, part_of, setting_of, with_node}
 use Rattle.lard_law_view.proofs.Naming.{decoded-names}
 use Rattle.lard_law_view.proofs.Parts.{node-kept, node-others}
 use Rattle.lard_law_settles.specs.Course.{chain_in}
 use Rattle.lard_law_settles.proofs.CourseActing.{FiresTo, GoesTo, deliver-goes, disk-goes, timer-goes}
 use Rattle.lard_law_settles.specs.CourseGame.{Task, TaskWaits}
-use Rattle.lard_law_settles.proofs.CourseCompleting.{completed-at}
+use Rattle.lard_law_connections.proofs.Happened.{disk-is}
 use Rattle.lard_law_settles.proofs.CourseDelivering.{chain-is}
 use Rattle.lard_law_settles.proofs.CourseFetching.{deed-part, delivered-to, gave-state}
 use Rattle.lard_law_settles.proofs.CourseJobs.{Asked, Leaves, Nothing, Offered, Tagged, Why, deed-adds, gets-leaves, timer-queues}
 use Rattle.lard_law_settles.proofs.CourseLasting.{each-still}
 use Rattle.lard_law_settles.proofs.CourseOwing.{IsStep}
 use Rattle.lard_law_settles.proofs.CourseQueueing.{first-disk}
-use Rattle.lard_disk.specs.declared.disk.Job.{Job}
-use Rattle.lard_disk.specs.Jobs.{job_at}
-use Rattle.lard_files.specs.Files.{file_at}
-use Rattle.lard_history.specs.Own.{Has, Letter, conn_of, letter_of, letters}
 use Rattle.lard_history.proofs.Seeing.{by_number, has-before, has-letter}
-use Rattle.lard_journal.specs.declared.rec.Rec.{Rec}
 use Rattle.lard_journal.specs.declared.rec.Rec.TheVariants as rec
 use Rattle.lard_message.specs.declared.message.Body.TheVariants as body
-use Rattle.lard_message.specs.declared.message.Message.{Message}
-use Rattle.lard_message.specs.Reading.{decoded_message}
-use Rattle.lard_net.specs.Net.{Packet, packet_at}
 use Rattle.lard_rules.specs.declared.node.BackIn.TheVariants as back
-use Rattle.lard_rules.specs.declared.node.NodeState.{NodeState}
-use Rattle.lard_rules.specs.declared.node.NodeTurn.{NodeTurn}
 use Rattle.lard_rules.specs.Node as node
-use Rattle.lard_rules.specs.Node.{NodePart, node_tagged, node_timer}
-use Rattle.lard_rules.specs.NodePlace.{NodeSetting, node_epoch_at, node_deed, node_env, node_gets, node_part, node_step}
-use Rattle.lard_rules.specs.Stay.{NodeEnv}
-use Rattle.lard_rules.specs.declared.places.Out.{Out}
-use Rattle.lard_rules.specs.declared.places.Station.{Station}
 
 -- ---- what is claimed
 
@@ -224,7 +203,7 @@ pub job-stocks : (all : ℕ → Whole) (m n : Machine) (i : ℕ) → machine_ste
 job-stocks all m n i step =
     let f = disk-goes m n i step in
     let given : NodeState × Out = node_step (node_setting m i) f.state (back.Disk 1) in
-    let is = completed-at m n i f.state f.at step in
+    let is = disk-is m n i 1 f.state f.at step in
     let rest : given.0.disk ≡ f.jobs = first-disk (node_setting m i) f.state f.job f.jobs f.were in
     record {
       kept = λ t w. ⊎_elim

@@ -1,30 +1,21 @@
 -- With a Tag that counts a unit of its connection goes.
-use Rattle.std.proofs.Common.{◌≡◌, ◌<◌, ◌≤◌, ◌==◌, ◌&&◌, ℕ, Bool, true, false, cond, List, [], length, Option, Some, None, is_some, ⊎_elim, refl, sym, ap, ◌∙◌}
-use Rattle.std.proofs.lemmas.Bool.{and_parts, cases_lt}
+use Rattle.std.proofs.Common.{◌≡◌, ◌<◌, ◌≤◌, ℕ, true, List, [], Option, Some, is_some, ⊎_elim, sym, ap, ◌∙◌}
+use Rattle.std.proofs.lemmas.Bool.{and_parts, cases_lt, cond_both}
 use Rattle.std.specs.List.{find}
-use Rattle.lard_base.specs.declared.event.Event.{Event}
+use Rattle.lard_law_view.specs.Prelude.{Conn, ControlBlock, Event, IsNodeEnv, Machine, Move, NodeEnv, NodePart, NodeTurn, Part, Station, Stay, conn, file_at, goes_on, is_tag_awaited, is_under, node_rests, node_tagged, part_of, setting_of, tagged, tagged_by, with_node, with_work, without, work_of}
 use Rattle.lard_base.specs.declared.place.TimerKind.TheVariants as kind
 use Rattle.lard_bound.specs.Progress.{spot_at, spot_with}
 use Rattle.lard_bound.specs.Spots.{Spot, spot_of}
 use Rattle.lard_bound.specs.Units.{Whole, units}
-use Rattle.lard_rules.specs.declared.machine.Machine.{Machine}
-use Rattle.lard_law_view.specs.View.{Conn, IsNodeEnv, Move, Part, conn, part_of, setting_of, with_node}
 use Rattle.lard_law_settles.proofs.CourseLasting.{steady}
 use Rattle.lard_law_settles.proofs.CourseOwing.{IsStep}
 use Rattle.lard_law_settles.proofs.CourseStocking.{TagsFall}
-use Rattle.lard_endpoint.specs.Control.{ControlBlock}
-use Rattle.lard_files.specs.Files.{file_at}
-use Rattle.lard_rules.specs.declared.node.NodeTurn.{NodeTurn}
-use Rattle.lard_rules.specs.declared.stay.Stay.{Stay}
 use Rattle.lard_rules.specs.Node as node
-use Rattle.lard_rules.specs.Node.{NodePart, here, is_tag_awaited, node_tagged, node_rests, tagged_by, with_work, work_of}
-use Rattle.lard_rules.specs.Stay.{NodeEnv, goes_on, named_paths, tagged}
 use Rattle.lard_law_progress.proofs.AnswersNodeDeeds.{is-here}
 use Rattle.lard_law_progress.proofs.AnswersNodeGiven.{NodeGiven}
-use Rattle.lard_law_progress.proofs.AnswersNodeSeats.{both-here}
 use Rattle.lard_law_progress.proofs.AnswersNodeStill.{still, tag-falls}
-use Rattle.lard_resend.specs.Kept.{is_under, without}
-use Rattle.lard_rules.specs.declared.places.Station.{Station}
+use Rattle.lard_law_progress.proofs.Away.{here-row}
+use Rattle.lard_rules.proofs.NodeCases.{IsHereWith, where-here}
 
 module _ (Given : Conn → Type 0) (Came : Conn → Move → Type 0) (all : ℕ → Whole) (m n : Machine) (e : Event) (step : IsStep Given Came all m n e) (given : (q : ℕ) → NodeGiven (setting_of m) (all q) (conn m q)) where
   module _ (q i epoch number : ℕ) (nodes : List ℕ) (env : NodeEnv) (of : IsNodeEnv (setting_of m) q i epoch env) (g : NodePart × NodeTurn) (put : part_of n q ≡ with_node (part_of m q) i g.0) where
@@ -32,14 +23,14 @@ module _ (Given : Conn → Type 0) (Came : Conn → Move → Type 0) (all : ℕ 
     p = (conn m q).part
 
     -- it counted, and the spot is as it was: that cannot be
-    counted : (b : ControlBlock) (s : Stay) → here env.epoch (p.nodes i) ≡ Some (b, s) → is_some (find (is_under kind.Ask 0) (p.nodes i).kept) ≡ true
+    counted : (b : ControlBlock) (s : Stay) → IsHereWith env.epoch (p.nodes i) b s → is_some (find (is_under kind.Ask 0) (p.nodes i).kept) ≡ true
         → g ≡ node_rests env (record (p.nodes i) { kept = without kind.Ask 0 (p.nodes i).kept }) [] (goes_on env (tagged env nodes (work_of b s)))
         → spot_at (file_at m.files) (conn n q) ≡ spot_at (file_at m.files) (conn m q) → ⊥
     unfolding conn
     counted b s is asked does spot =
-        let both = both-here (p.nodes i) env.epoch b s is in
-        let at = is-here (setting_of m) (all q) (conn m q) (given q) i env.epoch b both.0 in
-        let st = (given q).held i env.epoch b both.0 in
+        let row = here-row env.epoch (p.nodes i) b s is in
+        let at = is-here (setting_of m) (all q) (conn m q) (given q) i env.epoch b row in
+        let st = (given q).held i env.epoch b row in
         let pp : NodePart = record (p.nodes i) { kept = without kind.Ask 0 (p.nodes i).kept } in
         let w = goes_on env (tagged env nodes (work_of b s)) in
         let part : part_of n q ≡ with_node p i (node_rests env pp [] w).0 = put ∙ ap (λ (x : NodePart × NodeTurn). with_node p i x.0) does in
@@ -48,7 +39,7 @@ module _ (Given : Conn → Type 0) (Came : Conn → Move → Type 0) (all : ℕ 
         ap (λ (x : Part). S x x.station) part ∙ ap (S (with_node p i (node_rests env pp [] w).0)) st.1 in
         let before : spot_at (file_at m.files) (conn m q) ≡ Some (spot_of (file_at m.files) p st.0) = ap (spot_with (file_at m.files) (conn m q)) st.1 in
         let same : spot_of (file_at m.files) (with_node p i (node_rests env pp [] w).0) st.0 ≡ spot_of (file_at m.files) p st.0 = some-spot _ _ (sym behind ∙ spot ∙ before) in
-        tag-falls (file_at m.files) p st.0 at.0 i b env at.1 s nodes both.1 asked (still (file_at m.files) p st.0 at.0 i b env at.1 pp [] w same)
+        tag-falls (file_at m.files) p st.0 at.0 i b env at.1 s nodes is.stays asked (still (file_at m.files) p st.0 at.0 i b env at.1 pp [] w same)
       where
         some-spot : (a b : Spot) → Some a ≡ Some b → a ≡ b
         some-spot a b h = cc
@@ -60,17 +51,11 @@ module _ (Given : Conn → Type 0) (Came : Conn → Move → Type 0) (all : ℕ 
     drops-not h = cc
 
     none-counts : node_tagged env (p.nodes i) number nodes ≡ node.Does g → spot_at (file_at m.files) (conn n q) ≡ spot_at (file_at m.files) (conn m q) → ⊥
-    none-counts does spot = go (here env.epoch (p.nodes i)) refl does where
-      test : (b : ControlBlock) (s : Stay) → here env.epoch (p.nodes i) ≡ Some (b, s) → (t : Bool) → is_tag_awaited env number nodes (p.nodes i) s ≡ t
-          → cond t (with_work env (record (p.nodes i) { kept = without kind.Ask 0 (p.nodes i).kept }) [] (goes_on env (tagged env nodes (work_of b s)))) node.Drops ≡ node.Does g → ⊥
-      test b s is true awaited h =
-          let parts = and_parts (is_some (find (is_under kind.Ask 0) (p.nodes i).kept)) (s.asks == number && length nodes == length (named_paths env.serve.files s.batch)) awaited in
-          counted b s is parts.0 (does-is _ h) spot
-      test b s is false awaited h = drops-not h
-
-      go : (o : Option (ControlBlock × Stay)) → here env.epoch (p.nodes i) ≡ o → tagged_by env number nodes (p.nodes i) o ≡ node.Does g → ⊥
-      go None is h = drops-not h
-      go (Some x) is h = test x.0 x.1 is (is_tag_awaited env number nodes (p.nodes i) x.1) refl h
+    none-counts does spot = where-here env.epoch (p.nodes i) (λ o. tagged_by env number nodes (p.nodes i) o ≡ node.Does g → ⊥) drops-not
+        (λ b s is. cond_both (is_tag_awaited env number nodes (p.nodes i) s)
+        (with_work env (record (p.nodes i) { kept = without kind.Ask 0 (p.nodes i).kept }) [] (goes_on env (tagged env nodes (work_of b s)))) node.Drops
+        (λ (d : node.NodeDeed). d ≡ node.Does g → ⊥) (λ t h. counted b s is (and_parts _ _ t).0 (does-is _ h) spot) (λ t. drops-not))
+        does
 
     tag-takes : node_tagged env (p.nodes i) number nodes ≡ node.Does g → units (all q) m.config.nodes (conn n q) < units (all q) m.config.nodes (conn m q)
     tag-takes does = ⊎_elim

@@ -4,43 +4,21 @@ use Rattle.std.specs.Prelude.{◌⊎◌}
 use Rattle.std.proofs.lemmas.Bool.{both_ways}
 use Rattle.std.specs.List.{AllByRecursion, list_any}
 use Rattle.lard_base.specs.declared.event.Event.TheVariants as event
-use Rattle.lard_base.specs.declared.place.Place.{Place}
-use Rattle.lard_base.specs.declared.place.Place.TheVariants.{Front, Node}
-use Rattle.lard_base.specs.declared.place.TimerKind.{TimerKind}
+use Rattle.lard_law_view.specs.Prelude.{BackConn, BackRow, Conn, ControlBlock, Front, FrontConn, FrontEnv, FrontPart, FrontRow, Has, Kept, Letter, Move, Node, NodeEnv, NodePart, Place, Setting, Station, Stay, TimerKind, after_timer, again_sent, back_endpoint, back_held, both_of, event_seen, fetch_kept, fires_at, front_armed, front_does, front_fired_by, front_timer, grown, holds_kind, is_clear, is_unsaid, kind_rank, letter, letters_of, named_paths, node_armed, node_does, node_fired, node_timer, row_armed, sent_of, serving, serving_ready_of, spoken, stage_armed, timed}
 use Rattle.lard_base.specs.declared.place.TimerKind.TheVariants as kind
 use Rattle.lard_bound.specs.Nears.{Near}
 use Rattle.lard_bound.specs.Progress.{Any, Lasts, NearAt, NearOn, spot_at, spot_with}
 use Rattle.lard_bound.specs.Spots.{spot_of}
 use Rattle.lard_bound.specs.Units.{Whole, units}
-use Rattle.lard_law_view.specs.View.{Conn, Move, Setting, event_seen, front_does, grown, letter, letters_of, node_does}
 use Rattle.lard_law_settles.proofs.CourseOwing.{IsFirst}
 use Rattle.lard_law_settles.proofs.CourseRenewing.{BackKept, IsAsk, IsEnded, IsFetched, OfferKept, Renews, RowKept, StageKept, StayKept, ask-near, ended-near, fetch-near, offer-near}
-use Rattle.lard_endpoint.specs.Control.{ControlBlock}
-use Rattle.lard_endpoint.specs.Leaving.{after_timer, timed}
 use Rattle.lard_rules.specs.Front as front
-use Rattle.lard_rules.specs.Front.{FrontEnv, FrontPart, front_fired_by, fires_at, front_armed, front_timer, front_rest, row_armed, stage_armed}
-use Rattle.lard_handoff_back.specs.declared.row.BackConn.{BackConn}
 use Rattle.lard_handoff_back.specs.declared.row.BackConn.TheVariants as back
-use Rattle.lard_handoff_back.specs.declared.row.BackRow.{BackRow}
-use Rattle.lard_handoff_back.specs.Back.{back_endpoint}
-use Rattle.lard_handoff_back.specs.Row.{back_held}
-use Rattle.lard_lateral.specs.Lateral.{fetch_kept}
 use Rattle.lard_message.specs.declared.message.Body.TheVariants as body
-use Rattle.lard_handoff_front.specs.declared.row.FrontConn.{FrontConn}
 use Rattle.lard_handoff_front.specs.declared.row.FrontConn.TheVariants as stage
-use Rattle.lard_handoff_front.specs.declared.row.FrontRow.{FrontRow}
-use Rattle.lard_history.specs.Own.{Has, Letter}
 use Rattle.lard_history.proofs.Seeing.{has-before, has-behind}
-use Rattle.lard_rules.specs.declared.stay.Stay.{Stay}
 use Rattle.lard_rules.specs.Node as node
-use Rattle.lard_rules.specs.Node.{NodePart, again_sent, both_of, node_fired, holds_kind, is_unsaid, message, node_armed, node_timer}
-use Rattle.lard_rules.specs.Stay.{NodeEnv, named_paths}
-use Rattle.lard_resend.specs.declared.kept.Kept.{Kept}
-use Rattle.lard_resend.specs.Kept.{kind_rank}
-use Rattle.lard_resend.specs.Pending.{sent_of}
-use Rattle.lard_rules.specs.declared.places.Station.{Station}
-use Rattle.lard_rules.specs.Serving.{serving_ready_of, serving, spoken}
-use Rattle.lard_send.specs.Send.{is_clear}
+use Rattle.lard_rules.specs.Node.{message}
 
 -- ---- one of the letters of a move is near
 

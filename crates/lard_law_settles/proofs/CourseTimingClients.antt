@@ -2,57 +2,28 @@
 use Rattle.std.proofs.Common.{◌≡◌, ◌<◌, ◌≤◌, ◌==◌, not, ℕ, ◌+◌, ◌-◌, ◌^◌, Bool, true, false, cond, List, [], ◌∷◌, ◌++◌, map, length, take, drop, Option, Some, None, inl, inr, refl, sym, ap, ◌∙◌, subst, arith, eqb-true}
 use Rattle.std.proofs.lemmas.Bool.{and_parts, both_ways}
 use Rattle.std.specs.List.{list_any}
-use Rattle.lard_arrival.specs.Arrival.{seg_len}
+use Rattle.lard_law_view.specs.Prelude.{BackConn, BackRow, Client, ClientBlock, Conn, ControlBlock, Final, Front, FrontConn, FrontRow, Has, IsClientBlock, IsSendable, Kept, Letter, Move, NodePart, Phase, Place, Ready, Reason, Said, Sending, Setting, Speaks, Station, TimerKind, ToCluster, acknowledged_bytes, after_resend, client_after_piece, client_after_timer, client_does, client_filled, client_piece_ready, client_rcv_nxt, client_rcv_wnd, client_ready_of, client_speaks, client_timed, client_timer, client_told, data_ready, event_seen, front_armed, front_rest, holds_kind, is_clear, is_client_open, is_open_in, is_plain_syn, kind_rank, letter, letters_of, node_armed, one_if, resent_piece, seg_len, seq_add, seq_offset, spelled, station_armed, symbols, syn_ready}
 use Rattle.lard_base.specs.declared.event.Event.TheVariants as event
-use Rattle.lard_base.specs.declared.place.Place.{Place}
-use Rattle.lard_base.specs.declared.place.Place.TheVariants.{Client, Front}
-use Rattle.lard_base.specs.declared.place.Reason.{Reason}
 use Rattle.lard_base.specs.declared.place.Reason.TheVariants as reason
-use Rattle.lard_base.specs.declared.place.TimerKind.{TimerKind}
 use Rattle.lard_base.specs.declared.place.TimerKind.TheVariants as kind
 use Rattle.lard_bound.specs.Nears.{Crosses, Near, NearEnd, NearEnded, NearHeld, NearWord, OfSegment, first_symbol}
 use Rattle.lard_bound.specs.Progress.{Lasts}
 use Rattle.lard_bound.specs.Seats.{Held, Here, Over, SeatNow, Unborn, seat_by, seat_in, seat_of, staying_of}
 use Rattle.lard_bound.specs.Spots.{Post, Spot, ends_of, post_of, spot_of}
 use Rattle.lard_bound.specs.Units.{Whole, symbols_taken}
-use Rattle.lard_client.specs.Control.{ClientBlock, IsClientBlock, is_client_open, is_open_in, client_rcv_nxt, client_rcv_wnd}
-use Rattle.lard_client.specs.Leaving.{client_after_piece, client_after_timer, data_ready, client_filled, client_piece_ready, client_ready_of, syn_ready, client_timed, client_told}
-use Rattle.lard_client.specs.declared.phase.Phase.{Phase}
 use Rattle.lard_client.specs.declared.phase.Phase.TheVariants as phase
-use Rattle.lard_law_view.specs.View.{Conn, Move, Setting, client_does, event_seen, letter, letters_of, station_armed}
 use Rattle.lard_law_settles.proofs.CourseOwing.{IsFirst}
 use Rattle.lard_law_settles.proofs.CourseRenewing.{BackKept, OfferKept, Renews, RowKept, StageKept}
 use Rattle.lard_law_settles.proofs.CourseResending.{bit, IsResent, first-is, resent-first}
 use Rattle.lard_law_settles.proofs.CourseTiming.{not-off, SendsNear, near-by}
-use Rattle.lard_endpoint.specs.Control.{ControlBlock}
-use Rattle.lard_endpoint.specs.declared.control.moving.Final.{Final}
-use Rattle.lard_rules.specs.Front.{front_armed, front_rest}
-use Rattle.lard_handoff_back.specs.declared.row.BackConn.{BackConn}
 use Rattle.lard_handoff_back.specs.declared.row.BackConn.TheVariants as back
-use Rattle.lard_handoff_back.specs.declared.row.BackRow.{BackRow}
-use Rattle.lard_handoff_front.specs.declared.row.FrontConn.{FrontConn}
 use Rattle.lard_handoff_front.specs.declared.row.FrontConn.TheVariants as stage
-use Rattle.lard_handoff_front.specs.declared.row.FrontRow.{FrontRow}
-use Rattle.lard_history.specs.Own.{Has, Letter}
 use Rattle.lard_history.proofs.Seeing.{has-before}
-use Rattle.lard_rules.specs.Node.{NodePart, holds_kind, node_armed}
 use Rattle.lard_law_progress.proofs.Away.{away-here, seat-with}
-use Rattle.lard_resend.specs.declared.kept.Kept.{Kept}
-use Rattle.lard_resend.specs.Kept.{kind_rank}
 use Rattle.lard_rules.specs.Client as rules
-use Rattle.lard_rules.specs.Client.{client_timer}
-use Rattle.lard_rules.specs.Tombstone.{is_plain_syn}
-use Rattle.lard_rules.specs.Speaking.{client_speaks}
-use Rattle.lard_rules.specs.declared.places.Station.{Station}
-use Rattle.lard_segment.specs.declared.segment.Dir.TheVariants.{ToCluster}
-use Rattle.lard_segment.specs.declared.segment.Ready.{Ready}
-use Rattle.lard_segment.specs.Segment.{IsSendable, Said, spelled}
 use Rattle.lard_segment.proofs.Again.{again}
 use Rattle.lard_send.specs.declared.piece.Piece.{Piece}
-use Rattle.lard_send.specs.Send.{Sending, acknowledged_bytes, after_resend, is_clear, resent_piece, symbols}
-use Rattle.lard_seq.specs.Seq.{one_if, seq_add, seq_offset}
 use Rattle.lard_seq.proofs.Laws.{offset-add}
-use Rattle.lard_law_view.specs.Truth.{Speaks}
 use Rattle.lard_law_view.proofs.Client.{timed-fair}
 use Rattle.lard_law_view.proofs.Pieces.{piece_bytes, piece_size, resent-carries}
 use Rattle.lard_law_view.proofs.Speaking.{resend-moves}

@@ -1,37 +1,20 @@
 -- The timer of an endpoint, at the front end and at a node, sends what was not acknowledged, which is near.
 use Rattle.std.proofs.Common.{◌≡◌, ◌<◌, ◌≤◌, ◌^◌, ℕ, Bool, true, false, List, ◌∷◌, ◌++◌, map, Some, inl, refl, sym, ap, ◌∙◌, subst, arith}
-use Rattle.lard_answers.specs.Answers.{FilesAt}
+use Rattle.lard_law_view.specs.Prelude.{Client, Conn, ControlBlock, FilesAt, Front, FrontEnv, FrontRow, Has, IsFrontEnv, IsNodeEnv, Letter, Move, Node, NodeEnv, Part, Phase, Place, Said, ServeEnv, Setting, Speaks, Station, ToClient, after_timer, decoded, event_seen, fires_at, front_does, front_rest, is_clear, letter, letters_of, node_does, speaks, spelled}
 use Rattle.lard_base.specs.declared.event.Event.TheVariants as event
-use Rattle.lard_base.specs.declared.place.Place.{Place}
-use Rattle.lard_base.specs.declared.place.Place.TheVariants.{Client, Front, Node}
 use Rattle.lard_bound.specs.Nears.{Near, NearReply, NearSegment, OfSegment}
 use Rattle.lard_bound.specs.Seats.{Held, Waiting, Here, seat_by, seat_in, seat_of, staying_of}
 use Rattle.lard_bound.specs.Spots.{Spot, number_awaited, ends_of, post_of, spot_of}
 use Rattle.lard_bound.specs.Units.{Whole}
-use Rattle.lard_client.specs.declared.phase.Phase.{Phase}
 use Rattle.lard_client.specs.declared.phase.Phase.TheVariants as phase
-use Rattle.lard_law_view.specs.View.{Conn, IsFrontEnv, IsNodeEnv, Move, Part, Setting, event_seen, front_does, letter, letters_of, node_does}
 use Rattle.lard_law_settles.proofs.CourseRenewing.{IsWithNode, Renews}
 use Rattle.lard_law_settles.proofs.CourseResending.{said, timer-says, timer-sendable, timer-untold}
 use Rattle.lard_law_settles.proofs.CourseTiming.{WaitsClear, HereDeed, HereNear, HeldNear, near-by}
-use Rattle.lard_endpoint.specs.Control.{ControlBlock}
-use Rattle.lard_endpoint.specs.Leaving.{after_timer}
-use Rattle.lard_rules.specs.Front.{FrontEnv, fires_at, front_rest}
 use Rattle.lard_handoff_back.specs.declared.row.BackConn.TheVariants as back
 use Rattle.lard_handoff_front.specs.declared.row.FrontConn.TheVariants as stage
-use Rattle.lard_handoff_front.specs.declared.row.FrontRow.{FrontRow}
-use Rattle.lard_history.specs.Own.{Has, Letter}
 use Rattle.lard_history.proofs.Seeing.{has-before}
-use Rattle.lard_rules.specs.Stay.{NodeEnv}
 use Rattle.lard_law_progress.proofs.Away.{away-here, seat-with}
-use Rattle.lard_rules.specs.declared.places.Station.{Station}
-use Rattle.lard_rules.specs.Serving.{ServeEnv}
-use Rattle.lard_rules.specs.Speaking.{speaks}
-use Rattle.lard_segment.specs.declared.segment.Dir.TheVariants.{ToClient}
-use Rattle.lard_segment.specs.Segment.{Said, decoded, spelled}
 use Rattle.lard_segment.proofs.Again.{again}
-use Rattle.lard_send.specs.Send.{is_clear}
-use Rattle.lard_law_view.specs.Truth.{Speaks}
 
 -- Of an endpoint and its client, within a settle: it was not reset, and speaks; its first number is the one that the client knows; and the
 -- client was not reset.

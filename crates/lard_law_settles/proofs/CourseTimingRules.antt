@@ -1,25 +1,17 @@
 -- Of each rule: the first timer of those that are due sends what leads to a unit within three rounds.
-use Rattle.std.proofs.Common.{◌≡◌, ℕ, Bool, true, List, [], ◌∷◌, Some, refl, sym, ◌∙◌, subst}
+use Rattle.std.proofs.Common.{◌≡◌, ℕ, Bool, true, List, [], ◌∷◌, Some, sym, ◌∙◌, subst}
 use Rattle.lard_base.specs.declared.event.Event.TheVariants as event
-use Rattle.lard_base.specs.declared.place.Place.{Place}
-use Rattle.lard_base.specs.declared.place.Place.TheVariants.{Client, Front, Node}
+use Rattle.lard_law_view.specs.Prelude.{Came, Client, ClientFires, ClientGets, ClientReceives, ClientRules, Conn, ControlBlock, Front, FrontRules, Letter, Move, Node, NodeRules, Place, Seen, Setting, Station, UntouchedRules, event_seen, front_timer, is_clear, node_timer}
+use Rattle.lard_law_view.proofs.EachClient.{ClientComes, client_goes, each-client}
 use Rattle.lard_bound.specs.Progress.{Lasts}
 use Rattle.lard_bound.specs.Seats.{Held, Here, Waiting, seat_of, staying_of}
 use Rattle.lard_bound.specs.Units.{Whole}
-use Rattle.lard_law_view.specs.View.{ClientRules, Conn, FrontRules, Move, NodeRules, Setting, UntouchedRules, event_seen, front_does, node_does}
 use Rattle.lard_law_settles.proofs.CourseOwing.{Begins, IsFirst}
 use Rattle.lard_law_settles.proofs.CourseRenewing.{Renews}
 use Rattle.lard_law_settles.proofs.CourseTiming.{front-begins, node-begins}
 use Rattle.lard_law_settles.proofs.CourseTimingClients.{IsTimed, client-begins}
 use Rattle.lard_law_settles.proofs.CourseTimingHeld.{IsSpeaking, held-begins, here-begins, waits-clear}
-use Rattle.lard_endpoint.specs.Control.{ControlBlock}
-use Rattle.lard_rules.specs.Front as front
-use Rattle.lard_rules.specs.Front.{front_timer}
-use Rattle.lard_history.specs.Own.{Came, Letter, Seen}
-use Rattle.lard_rules.specs.Node as node
-use Rattle.lard_rules.specs.Node.{node_timer}
-use Rattle.lard_rules.specs.declared.places.Station.{Station}
-use Rattle.lard_send.specs.Send.{is_clear}
+use Rattle.lard_law_progress.proofs.Lasting.{front-heads, node-heads}
 
 -- What is known of a connection within a settle, whose client opened.
 pub record KnowsTimers (k : Setting) (x : Conn) (st : Station) : Type 0 where
@@ -39,18 +31,7 @@ Timed k all x v = TimersKnown k x → Lasts k (all x.c) x v → Begins k (all x.
 timer-place : (q p : Place) (c : ℕ) → event_seen (event.Timer q c) ≡ event_seen (event.Timer p c) → q ≡ p
 timer-place q p c e = cc
 
--- a move's heads are those that it is given
-front-heads : (x : Conn) (hs : List Seen) (d : front.FrontDeed) → (front_does x hs d).heads ≡ hs
-front-heads x hs front.Drops = refl
-front-heads x hs (front.Says turn) = refl
-front-heads x hs (front.Does did) = refl
-
-node-heads : (x : Conn) (n : ℕ) (hs : List Seen) (d : node.NodeDeed) → (node_does x n hs d).heads ≡ hs
-node-heads x n hs node.Drops = refl
-node-heads x n hs (node.Says messages) = refl
-node-heads x n hs (node.Does given) = refl
-
--- and none of these is a timer's
+-- what comes otherwise is no timer's
 no-event : (p : Place) (c : ℕ) → [] ≡ event_seen (event.Timer p c) → ⊥
 no-event p c e = cc
 
@@ -58,21 +39,16 @@ no-packet : (l : Letter) (ss : List Seen) (p : Place) (c : ℕ) → Came l ∷ s
 no-packet l ss p c e = cc
 
 module _ (k : Setting) (all : ℕ → Whole) where
+  client-timed : (x : Conn) (s : Station) (g : ClientGets) → x.part.station ≡ Some s → ClientComes k x s g → Timed k all x (client_goes x s g)
+  client-timed x s ClientFires is comes known lasts p heads = λ first up.
+      let kn = known s is in
+      let here : IsFirst x.part (Client x.c) = subst (IsFirst x.part) (sym (timer-place (Client x.c) p x.c heads)) first in
+      client-begins k (all x.c) x s is kn.renews kn.timed here lasts up
+  client-timed x s (ClientReceives from bytes) is was known lasts p heads = absurd (no-packet _ _ p x.c heads)
+  client-timed x s _ is comes known lasts p heads = absurd cc
+
   clients : ClientRules k (Timed k all)
-  clients = record {
-    opens = λ x isn iss wnd mss rule none known lasts p heads. absurd cc;
-    gets = λ x s path is few known lasts p heads. absurd cc;
-    writes = λ x s bytes is few known lasts p heads. absurd cc;
-    shuts = λ x s is known lasts p heads. absurd cc;
-    aborts = λ x s is known lasts p heads. absurd cc;
-    holds = λ x s is known lasts p heads. absurd cc;
-    takes = λ x s is known lasts p heads. absurd cc;
-    fires = λ x s is known lasts p heads first up.
-        let kn = known s is in
-        let here : IsFirst x.part (Client x.c) = subst (IsFirst x.part) (sym (timer-place (Client x.c) p x.c heads)) first in
-        client-begins k (all x.c) x s is kn.renews kn.timed here lasts up;
-    hears = λ x s from bytes is was known lasts p heads. absurd (no-packet _ _ p x.c heads);
-  }
+  clients = each-client k (Timed k all) (record { opens = λ x isn iss wnd mss rule none known lasts p heads. absurd cc; does = client-timed })
 
   fronts : FrontRules k (Timed k all)
   fronts = record {

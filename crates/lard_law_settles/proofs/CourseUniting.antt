@@ -2,7 +2,7 @@
 -- those that are due sends what is near.
 use Rattle.std.proofs.Common.{ℕ}
 use Rattle.lard_bound.specs.Units.{Whole}
-use Rattle.lard_law_view.specs.View.{Conn, Move, Rules, Setting}
+use Rattle.lard_law_view.specs.Prelude.{Conn, Move, Rules, Setting}
 use Rattle.lard_law_view.proofs.Guarded.{both, weaker}
 use Rattle.lard_law_settles.proofs.CourseOwing.{Owed}
 use Rattle.lard_law_settles.proofs.CourseTimingRules.{Timed, TimersKnown, rules-begin}

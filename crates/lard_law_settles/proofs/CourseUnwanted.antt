@@ -1,55 +1,29 @@
 -- A content that is awaited is not ignored: its node makes its request ready, and awaits it no longer.
-use Rattle.std.proofs.Common.{◌≡◌, ℕ, true, cond, List, [], ◌∷◌, ◌++◌, length, Option, Some, None, is_some, Ok, refl, sym, ap, ◌∙◌, subst, arith}
+use Rattle.std.proofs.Common.{◌≡◌, ℕ, true, cond, List, [], ◌∷◌, ◌++◌, length, Option, Some, None, Ok, refl, sym, ap, ◌∙◌, subst, arith}
 use Rattle.std.proofs.lemmas.Bool.{cond-true}
 use Rattle.std.specs.List.{find}
-use Rattle.lard_base.specs.declared.event.Event.{Event}
+use Rattle.lard_law_view.specs.Prelude.{BackConn, BackRow, Body, Came, Conn, ControlBlock, Ending, Epoch, Event, Kept, Letter, Machine, Message, Move, Node, NodeEnv, NodePart, NodeSetting, NodeState, NodeTurn, Out, Packet, Part, Row, Seen, Stay, Want, Work, came_for, came_seen, come_by, come_progress, conn, conn_of, decoded_message, goes_on, grown, here, is_from, is_under, kept_after, kept_at, letter_of, machine_step, node_at, node_content, node_deed, node_env, node_gets, node_hears, node_part, node_rests, node_setting, packet_at, part_of, serving_settled, setting_of, wants_kept, with_node, with_work, without, work_of}
 use Rattle.lard_base.specs.declared.event.Event.TheVariants as event
-use Rattle.lard_base.specs.declared.place.Place.TheVariants.{Node}
 use Rattle.lard_base.specs.declared.place.TimerKind.TheVariants as kind
 use Rattle.lard_bound.specs.Progress.{came_in}
 use Rattle.lard_bound.specs.Units.{Whole}
-use Rattle.lard_rules.specs.declared.machine.Machine.{Machine}
-use Rattle.lard_rules.specs.Machine.{machine_step, node_at, node_setting}
-use Rattle.lard_law_view.specs.View.{Conn, Move, Part, conn, grown, kept_at, part_of, setting_of, with_node}
 use Rattle.lard_law_view.proofs.Naming.{decoded-names}
 use Rattle.lard_law_view.proofs.Parts.{node-kept}
 use Rattle.lard_law_settles.proofs.CourseFetching.{deed-part, delivered-to}
 use Rattle.lard_law_settles.proofs.CourseGoing.{IsListed}
 use Rattle.lard_law_view.proofs.Steps.{IsShown, shown}
-use Rattle.lard_endpoint.specs.Control.{ControlBlock}
-use Rattle.lard_base.specs.declared.ids.Epoch.{Epoch}
-use Rattle.lard_handoff_back.specs.declared.row.BackConn.{BackConn}
 use Rattle.lard_handoff_back.specs.declared.row.BackConn.TheVariants as back
-use Rattle.lard_handoff_back.specs.declared.row.BackRow.{BackRow}
-use Rattle.lard_history.specs.Own.{Came, Letter, Row, Seen, came_seen, conn_of, letter_of}
 use Rattle.lard_history.proofs.Each.{Each}
 use Rattle.lard_history.proofs.Seeing.{by_number, one-other, same_number}
 use Rattle.lard_journal.specs.declared.rec.Rec.TheVariants as rec
-use Rattle.lard_lateral.specs.Lateral.{is_from}
-use Rattle.lard_message.specs.declared.message.Body.{Body}
 use Rattle.lard_message.specs.declared.message.Body.TheVariants as body
-use Rattle.lard_message.specs.declared.message.Message.{Message}
-use Rattle.lard_message.specs.Reading.{decoded_message}
-use Rattle.lard_net.specs.Net.{Packet, packet_at}
-use Rattle.lard_rules.specs.declared.node.NodeState.{NodeState}
-use Rattle.lard_rules.specs.declared.node.NodeTurn.{NodeTurn}
-use Rattle.lard_rules.specs.declared.stay.Stay.{Stay}
-use Rattle.lard_rules.specs.declared.stay.Want.{Want}
 use Rattle.lard_rules.specs.Node as node
-use Rattle.lard_rules.specs.Node.{NodePart, come_by, here, kept_after, node_content, node_rests, wants_kept, with_work, work_of}
-use Rattle.lard_rules.specs.NodePlace.{NodeSetting, node_deed, node_env, node_gets, node_hears, node_part}
-use Rattle.lard_rules.specs.Stay.{NodeEnv, Work, came_for, come_progress, goes_on}
 use Rattle.lard_law_progress.proofs.AnswersIgnored.{IsUnwanted}
 use Rattle.lard_law_progress.proofs.AnswersNodeAsks.{goes-asks}
 use Rattle.lard_law_progress.proofs.AnswersNodeGiven.{NodeGiven}
 use Rattle.lard_law_progress.proofs.AnswersNodeSeats.{here-both}
-use Rattle.lard_law_progress.proofs.Coming.{came-on, content-comes, without-fewer}
-use Rattle.lard_resend.specs.declared.kept.Kept.{Kept}
-use Rattle.lard_resend.specs.Kept.{is_under, without}
-use Rattle.lard_rules.specs.declared.places.Out.{Out}
-use Rattle.lard_rules.specs.declared.places.Ending.{Ending}
+use Rattle.lard_law_progress.proofs.Coming.{awaited-some, came-on, content-comes, without-fewer}
 use Rattle.lard_rules.specs.declared.places.Ending.TheVariants as ending
-use Rattle.lard_rules.specs.Serving.{serving_settled}
 use Rattle.lard_law_view.proofs.Deliveries.{IsDelivered}
 
 -- ---- a node's part, where the content is awaited
@@ -63,10 +37,6 @@ stages-apart b e f h = let bad : back.Here b ≡ back.Ended = ap stage-of h in c
 
 module _ (env : NodeEnv) (q : NodePart) (b : ControlBlock) (s : Stay) (e : ℕ) (row : q.row ≡ Some (record { stage = back.Here b; epoch = record { 0 = e } })) (from r : ℕ)
     (wanted : is_from from env.epoch (find (is_under kind.Fetch r) q.fetches) ≡ true) where
-  some-from : (o : Option Kept) → is_from from env.epoch o ≡ true → is_some o ≡ true
-  some-from None h = h
-  some-from (Some k) h = refl
-
   abbrev w : Work
   w = goes_on env (came_for (come_progress from) r (work_of b s))
 
@@ -79,7 +49,7 @@ module _ (env : NodeEnv) (q : NodePart) (b : ControlBlock) (s : Stay) (e : ℕ) 
       let none : w.wants ≡ [] = (goes-asks env (came_for (come_progress from) r (work_of b s))).wants ∙ t.3 in
       let fetches : without kind.Fetch r q.fetches ≡ q.fetches =
       sym (ap (λ (ws : List Want). wants_kept env ws (without kind.Fetch r q.fetches)) none) ∙ ap (λ (x : NodePart). x.fetches) same in
-      let few = without-fewer kind.Fetch r q.fetches (some-from (find (is_under kind.Fetch r) q.fetches) wanted) in
+      let few = without-fewer kind.Fetch r q.fetches (awaited-some from env.epoch (find (is_under kind.Fetch r) q.fetches) wanted) in
       let len : length (without kind.Fetch r q.fetches) ≡ length q.fetches = ap (λ (ks : List Kept). length ks) fetches in
       omega (arith, few, len)
   differs (ending.Over last) same =

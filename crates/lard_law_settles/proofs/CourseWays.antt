@@ -6,26 +6,17 @@ use Rattle.std.proofs.lemmas.Bool.{true≢false}
 use Rattle.std.proofs.lemmas.List.Sums.{fold-append}
 use Rattle.std.specs.List.{fold}
 use Rattle.lard_agenda.specs.Laws.{is_on_way, way_flag}
-use Rattle.lard_base.specs.declared.event.Event.{Event}
+use Rattle.lard_law_view.specs.Prelude.{Event, HasRule, IsViewed, Machine, Out, Packet, Place, Rec, clocked, lose_at, machine_step, machine_told, packet_at, packets_of, passed, segments_sent, sent_records}
 use Rattle.lard_base.specs.declared.event.Event.TheVariants as event
-use Rattle.lard_base.specs.declared.place.Place.{Place}
-use Rattle.lard_base.specs.declared.place.Place.TheVariants.{Front, Node, Client}
-use Rattle.lard_rules.specs.declared.machine.Machine.{Machine}
-use Rattle.lard_rules.specs.Bounds.{HasRule}
-use Rattle.lard_rules.specs.Machine.{clocked, machine_step, passed, segments_sent, machine_told, told_rows}
-use Rattle.lard_law_view.specs.View.{IsViewed}
+use Rattle.lard_law_connections.proofs.Calm.{first_rows, last_rows, told-journal}
 use Rattle.lard_law_view.proofs.AnyShape.{AnyShape, IsAct, SomeGift, SomeNote, SomeTimer, step-any}
-use Rattle.lard_law_view.proofs.Saying.{GaveAt, NotedAt}
 use Rattle.lard_law_view.proofs.Shapes.{IsPut}
-use Rattle.lard_law_view.proofs.Timers.{IsTimerAt}
 use Rattle.lard_history.proofs.Each.{Each, Each-weaker}
 use Rattle.lard_history.proofs.Seeing.{by_number, other_number, same_number}
-use Rattle.lard_journal.specs.declared.rec.Rec.{Rec}
 use Rattle.lard_journal.specs.declared.rec.Rec.TheVariants as rec
-use Rattle.lard_rules.specs.Sent.{packets_of, sent_records}
-use Rattle.lard_net.specs.Net.{Packet, lose_at, packet_at}
-use Rattle.lard_rules.specs.declared.places.Out.{Out}
 use Rattle.lard_law_view.proofs.OwnRecords.{behind}
+use Rattle.lard_law_view.proofs.OfKinds as of-kinds
+use Rattle.lard_law_view.proofs.RecordKinds.{IsNote}
 
 -- ---- what is claimed
 
@@ -96,27 +87,11 @@ module _ (k first : ℕ) where
   pub none-send : (rs : List Rec) → Each SaysNone rs → OnlySend rs
   none-send rs h = record { keeps = none-said true rs h; new = λ e. absurd (true≢false (sym (sym (none-said false rs h) ∙ e))) }
 
-  note-none : (place : Place) (c : ℕ) (r : Rec) → NotedAt place c r → SaysNone r
-  note-none (Client e) c (rec.Sent j from to bytes) h was = absurd h
-  note-none (Client e) c (rec.Got j) h was = absurd h
-  note-none (Client e) c (rec.Lost j) h was = absurd h
-  note-none Front c (rec.Sent j from to bytes) h was = absurd h
-  note-none Front c (rec.Got j) h was = absurd h
-  note-none Front c (rec.Lost j) h was = absurd h
-  note-none (Node n) c (rec.Sent j from to bytes) h was = absurd h
-  note-none (Node n) c (rec.Got j) h was = absurd h
-  note-none (Node n) c (rec.Lost j) h was = absurd h
-  note-none _ c _ h was = refl
-
-  gave-none : (place : Place) (c : ℕ) (r : Rec) → GaveAt place c r → SaysNone r
-  gave-none Front c (rec.Gave Front d epoch) h was = refl
-  gave-none (Node n) c (rec.Gave (Node j) d epoch) h was = refl
-  gave-none _ c _ h was = absurd h
-
-  timer-none : (place : Place) (c : ℕ) (r : Rec) → IsTimerAt place c r → SaysNone r
-  timer-none place c (rec.Armed p d kind) h was = refl
-  timer-none place c (rec.Cleared p d kind) h was = refl
-  timer-none place c _ h was = absurd h
+  noted-none : (r : Rec) → IsNote r → SaysNone r
+  noted-none (rec.Sent j from to bytes) h was = absurd h
+  noted-none (rec.Got j) h was = absurd h
+  noted-none (rec.Lost j) h was = absurd h
+  noted-none _ h was = refl
 
   -- ---- what a place does
 
@@ -127,24 +102,21 @@ module _ (k first : ℕ) where
 
   pub act-little : (m w : Machine) (e : Event) (place : Place) (o : Out) → IsAct m w e place o → SaysLittle o
   act-little m w e place o act = record {
-    notes = Each-weaker (SomeNote place) SaysNone (λ r h. note-none place h.0 r h.2) o.notes act.notes;
-    gave = Each-weaker (SomeGift place) SaysNone (λ r h. gave-none place h.0 r h.1) o.gave act.gave;
-    timers = Each-weaker (SomeTimer place) SaysNone (λ r h. timer-none place h.0 r h.1) o.timers act.timers;
+    notes = Each-weaker (SomeNote place) SaysNone (λ r h. noted-none r (of-kinds.noted place h.0 r h.2)) o.notes act.notes;
+    gave = Each-weaker (SomeGift place) SaysNone (λ r h. of-kinds.of-gift SaysNone (λ p d epoch was. refl) place h.0 r h.1) o.gave act.gave;
+    timers = Each-weaker (SomeTimer place) SaysNone (λ r h. of-kinds.of-timer SaysNone (λ p d kind. ((λ was. refl), (λ was. refl))) place h.0 r h.1) o.timers act.timers;
   }
 
   -- behind the event's own records
   rest-send : (place : Place) (o : Out) (i j : ℕ) → first < i → first < j → SaysLittle o
-      → OnlySend (o.notes ++ sent_records i place o.segments ++ o.gave ++ sent_records j place o.messages ++ o.timers)
+      → OnlySend (o.notes ++ (sent_records i place o.segments ++ o.gave ++ sent_records j place o.messages ++ o.timers))
   rest-send place o i j a b h =
       let S : List Rec = sent_records i place o.segments in
       let M : List Rec = sent_records j place o.messages in
-      send-append (o.notes ++ S ++ o.gave ++ M) o.timers
-      (send-append (o.notes ++ S ++ o.gave) M
-      (send-append (o.notes ++ S) o.gave
-      (send-append o.notes S (none-send o.notes h.notes) (sents-send i place o.segments a))
-      (none-send o.gave h.gave))
-      (sents-send j place o.messages b))
-      (none-send o.timers h.timers)
+      send-append o.notes (S ++ o.gave ++ M ++ o.timers) (none-send o.notes h.notes)
+      (send-append (S ++ o.gave ++ M) o.timers
+      (send-append (S ++ o.gave) M (send-append S o.gave (sents-send i place o.segments a) (none-send o.gave h.gave)) (sents-send j place o.messages b))
+      (none-send o.timers h.timers))
 
   -- ---- the event and its own records
 
@@ -190,6 +162,11 @@ module _ (k first : ℕ) where
     way = λ on. ⊎_elim (λ (there : is ≡ true). inl (h.way there)) (λ late. inr late) (sent-behind is rs s on);
   }
 
+-- the journal behind an act: the event and its own records, and the rest
+pub rest-journal : (w : Machine) (e : Event) (place : Place) (o : Out)
+    → (machine_told w e (behind e) place o).journal ≡ w.journal ++ (first_rows w e ++ (o.notes ++ last_rows w place o))
+rest-journal w e place o = told-journal w e place o ∙ ap (λ (rs : List Rec). w.journal ++ rs) (append_assoc (first_rows w e) o.notes (last_rows w place o))
+
 -- ---- packets stay
 
 module _ {A : Type 0} where
@@ -228,19 +205,10 @@ module _ (m : Machine) where
       let was : Bool = is_on_way m.journal k in
       let same : length w.net ≡ first = ap (λ ps. length ps) put.net in
       let sum : length (segments_sent w place o) ≡ length w.net + length (packets_of place o.segments) = length-append w.net (packets_of place o.segments) in
-      let S : List Rec = sent_records (length w.net + 1) place o.segments in
-      let M : List Rec = sent_records (length (segments_sent w place o) + 1) place o.messages in
-      let rest : List Rec = o.notes ++ S ++ o.gave ++ M ++ o.timers in
-      let parts : told_rows w e (behind e) place o ≡ rec.Event (w.events + 1) e ∷ (behind e ++ rest) =
-      ap (λ l. rec.Event (w.events + 1) e ∷ (l ++ o.gave ++ M ++ o.timers)) (append_assoc (behind e) o.notes S)
-      ∙ ap (λ l. rec.Event (w.events + 1) e ∷ (l ++ M ++ o.timers)) (append_assoc (behind e) (o.notes ++ S) o.gave)
-      ∙ ap (λ l. rec.Event (w.events + 1) e ∷ (l ++ o.timers)) (append_assoc (behind e) (o.notes ++ S ++ o.gave) M)
-      ∙ ap (λ l. rec.Event (w.events + 1) e ∷ l) (append_assoc (behind e) (o.notes ++ S ++ o.gave ++ M) o.timers) in
-      let told_is : is_on_way (w.journal ++ told_rows w e (behind e) place o) k ≡ fold (way_flag k) (fold (way_flag k) was (behind e)) rest =
-      ap (λ (J : List Rec). is_on_way (J ++ told_rows w e (behind e) place o) k) put.journal
-      ∙ fold-append (way_flag k) false m.journal (told_rows w e (behind e) place o)
-      ∙ ap (λ rs. fold (way_flag k) was rs) parts
-      ∙ fold-append (way_flag k) was (behind e) rest in
+      let rest : List Rec = o.notes ++ last_rows w place o in
+      let told_is : is_on_way (machine_told w e (behind e) place o).journal k ≡ fold (way_flag k) (fold (way_flag k) was (behind e)) rest =
+      ap (λ (J : List Rec). is_on_way J k) (rest-journal w e place o ∙ ap (λ (J : List Rec). J ++ (first_rows w e ++ rest)) put.journal)
+      ∙ fold-append (way_flag k) false m.journal (first_rows w e ++ rest) ∙ fold-append (way_flag k) was (first_rows w e) rest in
       subst (Goes k first e was) (sym told_is)
       (go-behind k first e was (fold (way_flag k) was (behind e)) rest (own-passes k first e was)
       (rest-send k first place o (length w.net + 1) (length (segments_sent w place o) + 1) (omega (arith, same)) (omega (arith, same, sum)) (little k)))

@@ -6,13 +6,8 @@ use Rattle.std.specs.List.{list_any}
 use Rattle.std.specs.Prelude.{IsSome, nat_le}
 use Rattle.lard_agenda.proofs.Due.{rest_is_told}
 use Rattle.lard_agenda.specs.Agenda.{agenda_of, rests}
-use Rattle.lard_answers.specs.Answers.{answer_bytes, answers, closes_any, verdicts}
-use Rattle.lard_base.specs.Config.{config_check, room_of}
-use Rattle.lard_base.specs.declared.config.Config.{Config}
-use Rattle.lard_base.specs.declared.place.Place.{Place}
+use Rattle.lard_law_view.specs.Prelude.{Config, Has, IsComplete, IsQuiet, Machine, Place, Rec, TimerKind, answer_bytes, answers, closes_any, config_check, file_at, has_aborted, is_running, is_touched, numbers_of, room_of, verdicts, was_reset}
 use Rattle.lard_base.specs.declared.place.Place.TheVariants as place
-use Rattle.lard_base.specs.declared.place.TimerKind.{TimerKind}
-use Rattle.lard_rules.specs.declared.machine.Machine.{Machine}
 use Rattle.lard_law_connections.proofs.LineRuns.{line-needs-a-full-room}
 use Rattle.lard_law_connections.specs.Line.{waiting_line}
 use Rattle.lard_counts.specs.Ledger.{ledger_admitted, ledger}
@@ -20,12 +15,7 @@ use Rattle.lard_laws.proofs.QuietEnds.{quiet-complete}
 use Rattle.lard_laws.specs.Quiet.{HasNoJob, IsInLine, reads_for}
 use Rattle.lard_laws.proofs.RecordsThere.{only-nodes}
 use Rattle.lard_counts.specs.Stores.{jobs}
-use Rattle.lard_files.specs.Files.{file_at}
 use Rattle.lard_history.proofs.Seeing.{by_number}
-use Rattle.lard_history.specs.Journal.{is_running, is_touched, numbers_of, was_reset}
-use Rattle.lard_history.specs.Own.{Has}
-use Rattle.lard_journal.specs.declared.rec.Rec.{Rec}
-use Rattle.lard_law_view.specs.Quiet.{IsComplete, IsQuiet, has_aborted}
 use Rattle.lard_law_settles.proofs.SettlesSeats.{seats-named}
 use Rattle.lard_law_settles.proofs.DoneJobs.{no-jobs}
 use Rattle.lard_law_settles.proofs.DoneSame.{tells-the-same}

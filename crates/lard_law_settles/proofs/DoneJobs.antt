@@ -4,8 +4,7 @@ use Rattle.std.specs.List.{fold}
 use Rattle.lard_laws.specs.RecordsMessages.{MayBeThere}
 use Rattle.lard_counts.specs.Stores.{Queue, Waiting, jobs, jobs_step, no_jobs, without_waiting}
 use Rattle.lard_history.proofs.Seeing.{by_number, other_number}
-use Rattle.lard_history.specs.Laws.{EachMay}
-use Rattle.lard_journal.specs.declared.rec.Rec.{Rec}
+use Rattle.lard_law_view.specs.Prelude.{EachMay, Rec}
 use Rattle.lard_journal.specs.declared.rec.Rec.TheVariants as rec
 
 module _ (nodes n : ℕ) (none : (1 ≤ n) × (n ≤ nodes) → ⊥) where

@@ -1,16 +1,8 @@
 -- In the journal of a run each settle that leaves nothing leaves each connection so.
 use Rattle.std.proofs.Common.{◌≡◌, ◌⊎◌, inl, inr, ℕ, zero, suc, ◌+◌, false, List, [], ◌∷◌, ◌++◌, Ok, Err, refl, sym, ap, ◌∙◌, subst}
-use Rattle.lard_base.specs.Config.{config_check}
-use Rattle.lard_base.specs.declared.config.Config.{Config}
-use Rattle.lard_base.specs.declared.event.Event.{Event}
+use Rattle.lard_law_view.specs.Prelude.{Config, EachMay, Event, Machine, Rec, StepFault, config_check, file_at, machine_start}
 use Rattle.lard_base.specs.declared.event.Event.TheVariants as event
-use Rattle.lard_rules.specs.declared.fault.StepFault.{StepFault}
-use Rattle.lard_rules.specs.declared.machine.Machine.{Machine}
-use Rattle.lard_rules.specs.Machine.{machine_start}
-use Rattle.lard_files.specs.Files.{file_at}
 use Rattle.lard_history.proofs.Each.{each_append}
-use Rattle.lard_history.specs.Laws.{EachMay}
-use Rattle.lard_journal.specs.declared.rec.Rec.{Rec}
 use Rattle.lard_journal.specs.declared.rec.Rec.TheVariants as rec
 use Rattle.lard_law_settles.proofs.SettlesEvents.{begun-is, either-kind, plain-done, plain-rule}
 use Rattle.lard_law_settles.proofs.SettlesFiring.{IsInner, deliver-inner, disk-inner, firings-inner, inner-rule, take-inner}

@@ -2,19 +2,12 @@
 use Rattle.std.proofs.Common.{◌≡◌, ℕ, Bool, true, false, ◌||◌, List, [], refl, sym, ap, ◌∙◌}
 use Rattle.std.specs.List.{fold}
 use Rattle.std.specs.Prelude.{sum_by}
-use Rattle.lard_answers.specs.Answers.{FilesAt}
-use Rattle.lard_base.specs.declared.place.Place.{Place}
-use Rattle.lard_base.specs.declared.place.TimerKind.{TimerKind}
-use Rattle.lard_cache.specs.Recency.{Recency}
+use Rattle.lard_law_view.specs.Prelude.{FilesAt, Place, Rec, Recency, Tale, TimerKind, aborted_step, accepted, armed_step, assigned, bytes_step, ended_step, home_told, is_touched, last_epoch, lost_step, numbers_of, owner, sent_step, served, served_bytes, shut_step, tale, tale_step, time_step, units_at, untold, was_reset, wrote}
 use Rattle.lard_law_connections.specs.Line.{Line, line_step, nobody}
 use Rattle.lard_counts.specs.Ledger.{blank_ledger, ledger_step}
 use Rattle.lard_law_connections.specs.PolicyLoads.{charge_step}
 use Rattle.lard_counts.specs.Stores.{Queue, cache_step, jobs_step, no_jobs}
 use Rattle.lard_history.proofs.Tales.{accepted-tale, assigned-tale, epoch-tale, home-tale, numbers-tale, owner-tale, reset-tale, served-tale, served_bytes-tale, touched-tale, wrote-tale}
-use Rattle.lard_history.specs.Journal.{Tale, accepted, armed_step, assigned, bytes_step, home_told, is_touched, last_epoch, lost_step, numbers_of, owner, sent_step, served, served_bytes, tale, tale_step, time_step, untold, was_reset, wrote}
-use Rattle.lard_journal.specs.declared.rec.Rec.{Rec}
-use Rattle.lard_law_view.specs.Quiet.{aborted_step, ended_step, shut_step}
-use Rattle.lard_loads.specs.Charges.{units_at}
 use Rattle.lard_law_settles.specs.DoneLaws.{WrittenOutTellsTheSame}
 use Rattle.lard_law_settles.specs.DoneSame.{TellsClientsTheSame}
 use Rattle.lard_law_settles.proofs.RoundsTold.{jobs-steps, line-steps}

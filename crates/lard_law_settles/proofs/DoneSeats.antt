@@ -4,11 +4,8 @@ use Rattle.std.proofs.lemmas.Bool.{and_parts, both_ways}
 use Rattle.std.specs.List.{AllByRecursion, fold}
 use Rattle.std.specs.Prelude.{nat_eq}
 use Rattle.lard_agenda.specs.Laws.{IsSeated, NamesSeat}
-use Rattle.lard_base.specs.declared.place.Place.{Place}
-use Rattle.lard_base.specs.declared.place.TimerKind.{TimerKind}
+use Rattle.lard_law_view.specs.Prelude.{Place, Rec, TimerKind, armed_step, is_kind, is_place, is_running}
 use Rattle.lard_history.proofs.Seeing.{by_number, other_number}
-use Rattle.lard_history.specs.Journal.{armed_step, is_kind, is_place, is_running}
-use Rattle.lard_journal.specs.declared.rec.Rec.{Rec}
 use Rattle.lard_journal.specs.declared.rec.Rec.TheVariants as rec
 use Rattle.lard_law_view.proofs.TimerChanges.{place-is}
 

@@ -14,12 +14,8 @@ use Rattle.lard_agenda.specs.Agenda.{agenda_of, due, free_of, no_seats, noted_by
 use Rattle.lard_agenda.specs.Laws.{is_on_way, way_flag}
 use Rattle.lard_agenda.specs.declared.agenda.Agenda.{Agenda}
 use Rattle.lard_agenda.specs.declared.kinds.Running.{Running}
-use Rattle.lard_base.specs.declared.config.Config.{Config}
-use Rattle.lard_base.specs.declared.place.Place.{Place}
-use Rattle.lard_rules.specs.declared.machine.Machine.{Machine}
+use Rattle.lard_law_view.specs.Prelude.{Config, Dispatcher, Machine, Place, Rec}
 use Rattle.lard_law_settles.specs.CourseGame.{seats_due}
-use Rattle.lard_dispatch.specs.Books.{Dispatcher}
-use Rattle.lard_journal.specs.declared.rec.Rec.{Rec}
 use Rattle.lard_rounds.proofs.Listing.{AreApart, IsBut}
 use Rattle.lard_settling.specs.Left.{jobs_at, jobs_from}
 use Rattle.lard_settling.specs.Settling.{is_own_seat, is_quiet, jobs_left}

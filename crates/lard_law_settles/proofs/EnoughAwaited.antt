@@ -2,17 +2,13 @@
 use Rattle.std.proofs.Common.{◌≡◌, ◌==◌, ◌+◌, ◌<◌, ◌≤◌, ℕ, Bool, true, false, cond, not, List, [], ◌∷◌, length, is_some, refl, ap, subst, arith, eqb-true}
 use Rattle.std.proofs.lemmas.Bool.{and_parts}
 use Rattle.std.specs.List.{AllByRecursion}
-use Rattle.lard_answers.specs.Answers.{FilesAt}
+use Rattle.lard_law_view.specs.Prelude.{Entry, FilesAt, Kept, Progress, is_under, kind_rank, without}
 use Rattle.lard_base.specs.declared.place.TimerKind.TheVariants as kind
 use Rattle.lard_law_connections.specs.Awaits.{BatchComes, IsToCome}
 use Rattle.lard_law_connections.proofs.AwaitsBatches.{batch-on, fetch-left}
 use Rattle.lard_law_connections.specs.Kept.{contents_awaited, awaits_content}
-use Rattle.lard_rules.specs.declared.stay.Entry.{Entry}
-use Rattle.lard_rules.specs.declared.stay.Progress.{Progress}
 use Rattle.lard_rules.specs.declared.stay.Progress.TheVariants as progress
 use Rattle.lard_law_progress.proofs.Coming.{without-fewer}
-use Rattle.lard_resend.specs.declared.kept.Kept.{Kept}
-use Rattle.lard_resend.specs.Kept.{is_under, kind_rank, without}
 
 -- its number is below this one
 abbrev pub AreBelow : ℕ → List Kept → Type 0

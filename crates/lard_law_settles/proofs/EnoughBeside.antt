@@ -5,23 +5,12 @@ use Rattle.std.proofs.lemmas.Bool.{leb-false, lt-leb}
 use Rattle.std.proofs.lemmas.List.{append_cancel_left}
 use Rattle.std.proofs.lemmas.List.Sums.{fold-append}
 use Rattle.std.specs.List.{fold}
-use Rattle.lard_base.specs.declared.config.Config.{Config}
-use Rattle.lard_base.specs.declared.event.Event.{Event}
+use Rattle.lard_law_view.specs.Prelude.{Config, Event, HasRule, MAX_PACKETS, MAX_PACKET_BYTES, MAX_RECORDS, MAX_RESPONSE_BYTES, Machine, Passes, Rec, StepFault, What, bytes_in, happens, limit_of, limit_reached, machine_step, turned_at, unless_limit}
 use Rattle.lard_base.specs.declared.event.Event.TheVariants as event
-use Rattle.lard_base.specs.declared.limits.TheConstants.{MAX_PACKETS, MAX_PACKET_BYTES, MAX_RECORDS, MAX_RESPONSE_BYTES}
-use Rattle.lard_rules.specs.Bounds.{HasRule}
-use Rattle.lard_rules.specs.declared.fault.StepFault.{StepFault}
-use Rattle.lard_rules.specs.declared.machine.Machine.{Machine}
-use Rattle.lard_rules.specs.Machine.{Passes, happens, limit_reached, machine_step, unless_limit}
 use Rattle.lard_history.proofs.Each.{Each}
-use Rattle.lard_journal.specs.Inner.{turned_at}
-use Rattle.lard_journal.specs.declared.rec.Rec.{Rec}
 use Rattle.lard_journal.specs.declared.rec.Rec.TheVariants as rec
 use Rattle.lard_journal.proofs.Turned.{turned_behind}
-use Rattle.lard_rules.specs.declared.fault.What.{What}
 use Rattle.lard_rules.specs.declared.fault.What.TheVariants.{Answers, PacketBytes, Packets, Records}
-use Rattle.lard_rules.specs.Limits.{limit_of}
-use Rattle.lard_net.specs.Net.{bytes_in}
 use Rattle.lard_law_settles.proofs.SettlesFiring.{IsInner, inner-rule}
 use Rattle.lard_law_settles.proofs.SettlesGiven.{InnerRows, inner-rows}
 use Rattle.lard_settling.specs.Settling.{Stop, all_inner}

@@ -2,17 +2,11 @@
 use Rattle.std.proofs.Common.{◌≡◌, ◌≢◌, ◌<◌, ◌≤◌, ℕ, zero, suc, ◌+◌, false, List, [], ◌∷◌, ◌++◌, length, replicate, Some, Result, Ok, Err, inl, ⊎_elim, refl, sym, ap, ◌∙◌, subst, arith, length-append}
 use Rattle.std.proofs.lemmas.Bool.{cases_lt}
 use Rattle.std.proofs.lemmas.Bool.Decides.{nat_tests}
-use Rattle.lard_base.specs.declared.config.Config.{Config}
+use Rattle.lard_law_view.specs.Prelude.{Config, Has, Job, Machine, NodeState, Passes, is_no_node, job_at, node_at}
 use Rattle.lard_base.specs.declared.event.Event.TheVariants as event
 use Rattle.lard_bound.specs.Units.{Whole}
-use Rattle.lard_rules.specs.declared.machine.Machine.{Machine}
-use Rattle.lard_rules.specs.Machine.{Passes, is_no_node, node_at}
 use Rattle.lard_law_view.proofs.Carried.{reached-viewed}
 use Rattle.lard_law_settles.specs.CourseGame.{Task, TaskWaits, game}
-use Rattle.lard_disk.specs.declared.disk.Job.{Job}
-use Rattle.lard_disk.specs.Jobs.{job_at}
-use Rattle.lard_history.specs.Own.{Has}
-use Rattle.lard_rules.specs.declared.node.NodeState.{NodeState}
 use Rattle.lard_rounds.proofs.Listing.{CompleteOn, complete-append}
 use Rattle.lard_law_settles.proofs.EnoughAgendas.{same-jobs}
 use Rattle.lard_law_settles.proofs.EnoughBeside.{Beside, Is, all-beside, err-ok, ok-same}

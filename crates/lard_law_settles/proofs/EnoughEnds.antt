@@ -2,19 +2,12 @@
 -- client wrote little.
 use Rattle.std.proofs.Common.{◌≡◌, ◌≤◌, ℕ, List, Ok, ap, ◌∙◌}
 use Rattle.std.specs.Prelude.{All}
-use Rattle.lard_base.specs.Config.{config_check}
+use Rattle.lard_law_view.specs.Prelude.{Config, Event, Machine, config_check, conn, file_at, machine_start, setting}
 use Rattle.lard_base.proofs.Usable.{usable}
-use Rattle.lard_base.specs.declared.config.Config.{Config}
-use Rattle.lard_base.specs.declared.event.Event.{Event}
 use Rattle.lard_bound.specs.Bound.{IsOrdinary, settling_bound}
-use Rattle.lard_rules.specs.declared.machine.Machine.{Machine}
-use Rattle.lard_rules.specs.Machine.{machine_start}
 use Rattle.lard_laws.specs.Records.{IsRunFile, IsScheduled}
 use Rattle.lard_laws.proofs.RecordsNamed.{files-named}
-use Rattle.lard_law_view.specs.Carry.{setting}
-use Rattle.lard_law_view.specs.View.{conn}
 use Rattle.lard_law_settles.proofs.CourseUniting.{Known}
-use Rattle.lard_files.specs.Files.{file_at}
 use Rattle.lard_history.proofs.Each.{Each}
 use Rattle.lard_law_settles.proofs.KnownEverything.{IsSet, is-set}
 use Rattle.lard_law_settles.proofs.EnoughBeside.{Is}

@@ -1,26 +1,15 @@
 -- What Fetches and jobs ask for can be told, and goes where it is awaited: what the laws of connections say of it, in words of seats.
 use Rattle.std.proofs.Common.{◌≡◌, ◌≢◌, ◌≤◌, ℕ, true, false, List, Some, Ok, refl, sym, subst}
 use Rattle.std.specs.List.{find}
-use Rattle.lard_base.specs.Config.{config_check}
-use Rattle.lard_base.specs.declared.config.Config.{Config}
+use Rattle.lard_law_view.specs.Prelude.{Config, Has, IsReached, Job, Machine, NodeState, config_check, conn, file_at, is_from, is_under, node_at, part_of, tale_at}
 use Rattle.lard_base.specs.declared.place.TimerKind.TheVariants as kind
 use Rattle.lard_bound.specs.Seats.{Staying, seat_of}
-use Rattle.lard_rules.specs.declared.machine.Machine.{Machine}
-use Rattle.lard_rules.specs.Machine.{IsReached, node_at}
 use Rattle.lard_law_connections.proofs.KeptRuns.{connections-are-kept}
 use Rattle.lard_laws.proofs.OriginsFetches.{FetchesAreTold, fetches-are-told}
 use Rattle.lard_laws.proofs.RecordsHolding.{Holds}
 use Rattle.lard_laws.proofs.RecordsNamed.{AreNamed}
-use Rattle.lard_law_view.specs.Carry.{tale_at}
-use Rattle.lard_law_view.specs.View.{conn, part_of}
 use Rattle.lard_law_settles.proofs.CourseFetching.{Fetches, IsHome}
-use Rattle.lard_disk.specs.declared.disk.Job.{Job}
-use Rattle.lard_files.specs.Files.{file_at}
 use Rattle.lard_law_settles.proofs.KnownStaying.{seat-stay, stay-there}
-use Rattle.lard_history.specs.Own.{Has}
-use Rattle.lard_lateral.specs.Lateral.{is_from}
-use Rattle.lard_rules.specs.declared.node.NodeState.{NodeState}
-use Rattle.lard_resend.specs.Kept.{is_under}
 
 -- the connection's row at the node that has it, and its stay
 conn-part : (m : Machine) (q : ℕ) → (conn m q).part ≡ part_of m q

@@ -1,29 +1,10 @@
 -- What the front end sends in the rounds of a settle: its segments go to the client, and of the messages to nodes one that forwards has the
 -- segment that came.
 use Rattle.std.proofs.Common.{◌≡◌, ℕ, List, [], ◌∷◌, map, Option, Some, None, Result, Ok, Err, refl}
-use Rattle.lard_base.specs.declared.parts.EndpointParts.{EndpointParts}
-use Rattle.lard_base.specs.declared.place.Place.{Place}
-use Rattle.lard_base.specs.declared.place.Place.TheVariants.{Client, Node}
-use Rattle.lard_dispatch.specs.declared.dispatch.Ask.{Ask}
-use Rattle.lard_endpoint.specs.declared.control.moving.Final.{Final}
-use Rattle.lard_endpoint.specs.Control.{ControlBlock}
-use Rattle.lard_endpoint.specs.Leaving.{after_timer, timed}
-use Rattle.lard_rules.specs.declared.front.FrontRest.{FrontRest}
-use Rattle.lard_rules.specs.declared.front.FrontTurn.{FrontTurn}
-use Rattle.lard_rules.specs.Front.{FrontDeed, Does, Drops, FrontEnv, FrontPart, Says, front_admitted, front_asked, front_ended, front_gets, front_taken, front_timer, message, front_rest, front_saying}
+use Rattle.lard_law_view.specs.Prelude.{Ask, Body, Client, ControlBlock, Ending, EndpointParts, Final, FirstChoice, FrontDeed, FrontEnv, FrontPart, FrontRest, FrontTurn, Kept, Node, Place, Said, SegFault, ServeEnv, Service, Turn, after_timer, cut_off, front_admitted, front_asked, front_ended, front_gets, front_rest, front_saying, front_taken, front_timer, last_words, sent_of, serving, serving_ready_of, serving_settled, speaks, speaks_symbols, spoken, timed, tombstone}
+use Rattle.lard_rules.specs.Front.{Does, Drops, Says, message}
 use Rattle.lard_history.proofs.Each.{Each, Each-append}
-use Rattle.lard_message.specs.declared.message.Body.{Body}
 use Rattle.lard_message.specs.declared.message.Body.TheVariants as body
-use Rattle.lard_policy.specs.declared.first.FirstChoice.{FirstChoice}
-use Rattle.lard_resend.specs.declared.kept.Kept.{Kept}
-use Rattle.lard_resend.specs.Pending.{sent_of}
-use Rattle.lard_rules.specs.Tombstone.{last_words, tombstone}
-use Rattle.lard_rules.specs.declared.places.Ending.{Ending}
-use Rattle.lard_rules.specs.declared.places.Turn.{Turn}
-use Rattle.lard_rules.specs.Serving.{ServeEnv, Service, cut_off, serving_ready_of, serving, serving_settled, spoken}
-use Rattle.lard_rules.specs.Speaking.{speaks, speaks_symbols}
-use Rattle.lard_segment.specs.declared.fault.SegFault.{SegFault}
-use Rattle.lard_segment.specs.Segment.{Said}
 use Rattle.lard_law_view.proofs.EndpointSends.{AllTo, ready-to, speaks-to, speaks_symbols-to}
 use Rattle.lard_rules.proofs.FrontCases.{KeptBySegment, begun_service, heard_service, waiting_service, segment-keeps, timer-keeps, taken-keeps, asked-keeps, ended-keeps, admitted-keeps}
 

@@ -1,26 +1,19 @@
 -- Of each connection of a machine within a settle: all that its rules want given is so.
 use Rattle.std.proofs.Common.{◌≡◌, ◌≤◌, ℕ, false, List, length, Some, Ok, sym, ap, ◌∙◌, arith}
 use Rattle.std.specs.Prelude.{All}
-use Rattle.lard_base.specs.Config.{config_check}
+use Rattle.lard_law_view.specs.Prelude.{Config, Conn, Machine, Setting, Station, Tale, config_check, conn, file_at, setting, tale_at, wrote}
 use Rattle.lard_base.proofs.Usable.{usable}
-use Rattle.lard_base.specs.declared.config.Config.{Config}
 use Rattle.lard_bound.specs.Units.{Whole, whole_of}
 use Rattle.lard_law_settles.proofs.KnownEverything as every
 use Rattle.lard_law_settles.proofs.KnownEverything.{known-by}
-use Rattle.lard_rules.specs.declared.machine.Machine.{Machine}
 use Rattle.lard_laws.specs.Records.{IsRunFile}
-use Rattle.lard_law_view.specs.Carry.{setting, tale_at}
-use Rattle.lard_law_view.specs.View.{Conn, Setting, conn}
-use Rattle.lard_files.specs.Files.{file_at}
 use Rattle.lard_law_settles.proofs.KnownFrontRuns.{each-front}
 use Rattle.lard_law_settles.proofs.KnownEnds.{each-client, each-held, each-met, each-talks, each-waiting}
-use Rattle.lard_history.specs.Journal.{Tale, wrote}
 use Rattle.lard_history.proofs.Tales.{wrote-tale}
 use Rattle.lard_law_settles.proofs.KnownCalm.{its-tale, open-free}
 use Rattle.lard_law_progress.proofs.AnswersFrontGiven.{FrontGiven}
 use Rattle.lard_law_progress.proofs.Given as progress
 use Rattle.lard_law_progress.proofs.Leading.{AllGiven}
-use Rattle.lard_rules.specs.declared.places.Station.{Station}
 use Rattle.lard_law_settles.proofs.EnoughRested.{all-events, free-of, free-tale, holds}
 use Rattle.lard_law_settles.proofs.EnoughSums.{wholes}
 use Rattle.lard_law_settles.proofs.EnoughWithin.{IsWithin}

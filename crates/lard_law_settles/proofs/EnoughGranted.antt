@@ -1,11 +1,7 @@
 -- A run with settles: the run without them that it stands for, with each of its events given in range.
 use Rattle.std.proofs.Common.{◌≡◌, ◌⊎◌, inl, inr, ℕ, false, List, [], ◌∷◌, ◌++◌, Ok, refl, sym, ap, ◌∙◌, subst, arith}
-use Rattle.lard_base.specs.declared.config.Config.{Config}
-use Rattle.lard_base.specs.declared.event.Event.{Event}
+use Rattle.lard_law_view.specs.Prelude.{Config, Event, HasRule, Machine, Passes, machine_start, machine_step}
 use Rattle.lard_base.specs.declared.event.Event.TheVariants as event
-use Rattle.lard_rules.specs.declared.machine.Machine.{Machine}
-use Rattle.lard_rules.specs.Bounds.{HasRule}
-use Rattle.lard_rules.specs.Machine.{Passes, machine_step, machine_start}
 use Rattle.lard_law_view.proofs.Runs.{passes-more}
 use Rattle.lard_laws.specs.Records.{IsScheduled}
 use Rattle.lard_history.proofs.Each.{Each, Each-append}

@@ -10,35 +10,21 @@ use Rattle.std.specs.Ordering.{eq_by_cmp, nat_cmp}
 use Rattle.lard_agenda.proofs.Holders.{holders_are_told}
 use Rattle.lard_agenda.specs.Agenda.{agenda_of, holders}
 use Rattle.lard_agenda.specs.Laws.{event_flag, holds_flag, is_held}
-use Rattle.lard_base.specs.declared.config.Config.{Config}
-use Rattle.lard_base.specs.declared.event.Event.{Event}
+use Rattle.lard_law_view.specs.Prelude.{AreOwn, ClientBlock, ClientRules, Config, Conn, Event, Has, HasRule, IsReached, IsStep, IsViewed, Machine, Move, Passes, Rec, Rules, Seen, Setting, Station, Turn, aborted, client_acts, client_opened, client_speaks, client_takes, client_writes, client_written, conn, event_seen, grown, is_client_open, is_established, is_holding, is_open_in, is_own, is_writing, machine_start, machine_step, machine_told, part_of, setting_of, shut_down, silent, speaking}
 use Rattle.lard_base.specs.declared.event.Event.TheVariants as event
-use Rattle.lard_base.specs.declared.place.Place.{Place}
-use Rattle.lard_base.specs.declared.place.Place.TheVariants.{Client, Front, Node}
-use Rattle.lard_client.specs.Control.{ClientBlock, aborted, is_established, is_holding, is_client_open, is_open_in, is_writing, client_opened, shut_down, client_written}
-use Rattle.lard_rules.specs.Bounds.{HasRule}
 use Rattle.lard_rules.specs.declared.fault.Refusal.TheVariants.{NoClient}
-use Rattle.lard_rules.specs.declared.fault.StepFault.TheVariants.{Limit, Refused}
-use Rattle.lard_rules.specs.declared.machine.Machine.{Machine}
-use Rattle.lard_rules.specs.Machine.{IsReached, Passes, client_acts, limit_reached, machine_step, machine_start, machine_told, unless_limit}
-use Rattle.lard_law_view.specs.View.{ClientRules, Conn, IsMachine, IsViewed, Move, Part, Rules, Setting, conn, event_seen, grown, part_of, setting_of}
+use Rattle.lard_rules.specs.declared.fault.StepFault.TheVariants.{Refused}
 use Rattle.lard_law_view.proofs.After.{IsAfter, step-after}
 use Rattle.lard_law_view.proofs.Carried.{carried-keep, reached-viewed}
-use Rattle.lard_law_view.proofs.Frames.{KeepsAt, Owed, by_clients}
+use Rattle.lard_law_view.proofs.Frames.{Owed, by_clients}
 use Rattle.lard_law_view.proofs.Runs.{passes-more}
 use Rattle.lard_law_view.proofs.Steps.{IsShown, step_comes}
 use Rattle.lard_history.proofs.Each.{Each}
 use Rattle.lard_history.proofs.Seeing.{by_number, other_number, same_number}
-use Rattle.lard_history.specs.Laws.{AreOwn, IsStep, is_own}
-use Rattle.lard_history.specs.Own.{Has, Seen}
-use Rattle.lard_journal.specs.declared.rec.Rec.{Rec}
 use Rattle.lard_journal.specs.declared.rec.Rec.TheVariants as rec
-use Rattle.lard_rules.specs.declared.fault.What.{What}
 use Rattle.lard_law_progress.proofs.Clients.{speaks-told}
-use Rattle.lard_rules.specs.declared.places.Station.{Station}
-use Rattle.lard_rules.specs.declared.places.Turn.{Turn}
-use Rattle.lard_rules.specs.Client.{client_takes, client_writes, silent, speaking}
-use Rattle.lard_rules.specs.Speaking.{client_speaks}
+use Rattle.lard_laws.proofs.ClientsAsides.{same-station}
+use Rattle.lard_law_connections.proofs.Happened.{done-happens}
 use Rattle.lard_law_settles.proofs.EnoughBeside.{Beside, Is, err-ok, ok-same}
 use Rattle.lard_law_settles.proofs.EnoughHolding.{fires-keeps, fires-phase, gets-keeps, gets-phase, holding-then, speaks-keeps}
 use Rattle.lard_settling.specs.Left.{holds_there, is_holder}
@@ -102,15 +88,10 @@ clients-hold k = record {
   hears = λ x st from bytes there was number sound h. inl (held-before x st there (holding-then st.client _ (gets-phase st.client _) (gets-keeps st.client _) h));
 }
 
-pub machine-station : (place : Place) (p q : Part) → IsMachine place → KeepsAt place p q → q.station ≡ p.station
-machine-station Front p q machine keeps = keeps.0
-machine-station (Node n) p q machine keeps = keeps.0
-machine-station (Client d) p q machine keeps = absurd machine
-
 rules-hold : (k : Setting) → Rules k (Owed HoldsOn)
 rules-hold k = record {
   untouched = by_clients k HoldsOn (clients-hold k)
-      (λ x v at own number sound h. inl (ap holds_there (sym (machine-station v.place x.part v.part at.machine at.keeps)) ∙ h))
+      (λ x v at own number sound h. inl (ap holds_there (sym (same-station v.place x.part v.part at.machine at.keeps)) ∙ h))
       (λ x from to bytes was number sound h. inl h);
   injects = λ x st bytes there rule number sound h. inl (held-before x st there h);
 }
@@ -145,15 +126,11 @@ module _ (m n : Machine) (e : Event) (v : IsViewed m) (rule : HasRule e) (is : m
 
 -- one that takes does not
 pub take-free : (m n : Machine) (d : ℕ) → machine_step m (event.Take d) ≡ Ok n → is_holder n d ≡ false
-unfolding machine_step client_acts machine_told
-take-free m n d is = limited (limit_reached m) is where
+unfolding client_acts machine_told
+take-free m n d is = does (table.get m.clients d) (done-happens m n (event.Take d) is).1 where
   does : (o : Option Station) → client_acts m (event.Take d) [] d client_takes o ≡ Ok n → is_holder n d ≡ false
   does None e = absurd (err-ok (Refused (NoClient d)) n e)
   does (Some x) e = subst (λ (k : Machine). is_holder k d ≡ false) (ok-same _ n e) (ap holds_there (get_inserted m.clients d (record { client = (client_takes x.client).0; iss = x.iss })) ∙ takes-free x.client)
-
-  limited : (o : Option What) → unless_limit o (client_acts m (event.Take d) [] d client_takes (table.get m.clients d)) ≡ Ok n → is_holder n d ≡ false
-  limited None e = does (table.get m.clients d) e
-  limited (Some what) e = absurd (err-ok (Limit what) n e)
 
 -- ---- the journal says so
 

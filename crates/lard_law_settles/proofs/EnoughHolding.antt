@@ -1,22 +1,11 @@
 -- What stays of a client in a turn of a settle's rounds: its number, its window, and what it holds where it does not hold.
 use Rattle.std.proofs.Common.{◌≡◌, ◌==◌, ◌&&◌, ◌||◌, not, nat_lt, Bool, true, false, cond, length, Option, Some, None, Result, Ok, Err, inl, inr, refl, sym, ap, ◌∙◌, arith}
 use Rattle.std.proofs.lemmas.Bool.{cond-false, cond_both, true≢false}
-use Rattle.lard_arrival.specs.Arrival.{bare, is_acceptable, is_allowed}
-use Rattle.lard_client.specs.declared.heard.Heard.{Heard}
-use Rattle.lard_client.specs.declared.phase.Phase.{Phase}
+use Rattle.lard_law_view.specs.Prelude.{ClientBlock, Heard, Phase, Said, SegFault, accepting, after_ack, after_next, after_resend, answers_syn, bare, client_after_emit, client_after_owed, client_after_piece, client_after_timer, client_arrived, client_begins_after, client_ends, client_gets, client_on_ack, client_on_rst, client_on_segment, client_on_syn, client_on_text, client_on_unacceptable, client_owes, client_owing, client_part_of, client_rcv_nxt, client_rcv_wnd, client_speaks, client_timer, client_told, established, fresh_len, heard_in, heard_nothing, is_acceptable, is_allowed, is_client_open, is_holding, is_open_in, next_piece, on_fresh, on_greeting, resent_piece, reset_by_peer, seq_offset}
 use Rattle.lard_client.specs.declared.phase.Phase.TheVariants.{Open, Aborted, Reset}
-use Rattle.lard_client.specs.Arriving.{accepting, answers_syn, client_arrived, client_begins_after, client_ends, established, fresh_len, heard_in, heard_nothing, client_on_ack, on_fresh, on_greeting, client_on_rst, client_on_segment, client_on_syn, client_on_text, client_on_unacceptable, client_owing, client_part_of, reset_by_peer}
-use Rattle.lard_client.specs.Control.{ClientBlock, is_holding, is_client_open, is_open_in, client_rcv_nxt, client_rcv_wnd}
-use Rattle.lard_client.specs.Leaving.{client_after_emit, client_after_owed, client_after_piece, client_after_timer, client_owes, client_told}
 use Rattle.lard_law_progress.proofs.Clients.{OnPhase, heard-turned, timer-turned}
-use Rattle.lard_rules.specs.Client.{client_gets, client_timer}
-use Rattle.lard_rules.specs.Speaking.{client_speaks}
 use Rattle.lard_rules.proofs.Loops.{client_keeps}
-use Rattle.lard_segment.specs.declared.fault.SegFault.{SegFault}
-use Rattle.lard_segment.specs.Segment.{Said}
 use Rattle.lard_send.specs.declared.piece.Piece.{Piece}
-use Rattle.lard_send.specs.Send.{after_ack, after_next, after_resend, next_piece, resent_piece}
-use Rattle.lard_seq.specs.Seq.{seq_offset}
 
 -- its number and its window, and what it holds where it does not hold
 pub record Keeps (x y : ClientBlock) : Type 0 where

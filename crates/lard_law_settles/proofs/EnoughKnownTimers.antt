@@ -1,27 +1,17 @@
 -- What the timers of a settle rest on is so of each connection of each machine within.
 use Rattle.std.proofs.Common.{◌≡◌, ◌≤◌, ◌==◌, ℕ, true, false, List, Option, Some, refl, subst}
-use Rattle.lard_base.specs.declared.config.Config.{Config}
-use Rattle.lard_base.specs.declared.limits.TheConstants.{MAX_STREAM_BYTES}
-use Rattle.lard_base.specs.declared.place.Reason.{Reason}
+use Rattle.lard_law_view.specs.Prelude.{ClientBlock, Config, Conn, ControlBlock, IsConnNumber, IsConnSound, IsReached, MAX_STREAM_BYTES, Machine, Reason, Setting, Station, conn, file_at, setting, tale_at}
 use Rattle.lard_base.specs.declared.place.Reason.TheVariants as reason
 use Rattle.lard_bound.specs.Seats.{Over, seat_of}
 use Rattle.lard_bound.specs.Units.{Whole}
-use Rattle.lard_client.specs.Control.{ClientBlock}
 use Rattle.lard_client.specs.declared.phase.Phase.TheVariants as phase
-use Rattle.lard_rules.specs.declared.machine.Machine.{Machine}
-use Rattle.lard_rules.specs.Bounds.{IsConnNumber}
-use Rattle.lard_rules.specs.Machine.{IsReached}
 use Rattle.lard_law_connections.specs.BytesAgreement.{ConnAgrees, IsOpen}
 use Rattle.lard_law_connections.proofs.BytesRuns.{states-truthful}
 use Rattle.lard_laws.proofs.RecordsHolding.{Holds}
 use Rattle.lard_laws.proofs.RecordsNamed.{AreNamed}
-use Rattle.lard_law_view.specs.Carry.{setting, tale_at}
-use Rattle.lard_law_view.specs.View.{Conn, IsConnSound, Setting, conn}
 use Rattle.lard_law_view.proofs.Carried.{reached-viewed}
 use Rattle.lard_law_settles.proofs.CourseTimingHeld.{IsSpeaking}
 use Rattle.lard_law_settles.proofs.CourseTimingRules.{KnowsTimers, TimersKnown}
-use Rattle.lard_endpoint.specs.Control.{ControlBlock}
-use Rattle.lard_files.specs.Files.{file_at}
 use Rattle.lard_handoff_front.specs.declared.row.FrontConn.TheVariants as stage
 use Rattle.lard_law_settles.proofs.KnownAborts.{AbortedIsOver, each-aborted}
 use Rattle.lard_law_settles.proofs.KnownRuns.{OpenActs, StationActs, connections-ack, number-of, story_at}
@@ -29,7 +19,6 @@ use Rattle.lard_law_settles.proofs.KnownTimed.{Speaking, SpeaksAt, client-low, h
 use Rattle.lard_law_progress.proofs.AnswersClientGiven.{EndTells, SeatTells}
 use Rattle.lard_law_progress.proofs.Leading.{AllGiven}
 use Rattle.lard_law_progress.proofs.Seating.{seat-at}
-use Rattle.lard_rules.specs.declared.places.Station.{Station}
 use Rattle.lard_law_settles.proofs.EnoughRenewals.{decided-are, renews-are}
 
 module _ (config : Config) (files : List (List ℕ × List ℕ)) (small : config.stream ≤ MAX_STREAM_BYTES) (m : Machine) (reached : IsReached config files m) (holds : Holds m) (named : AreNamed (file_at files)) (q : ℕ)

@@ -1,12 +1,9 @@
 -- Enough rounds settle: by what is left at each state within a settle, which goes down in rounds.
 use Rattle.std.proofs.Common.{◌≡◌, ◌≤◌, ℕ, List, Ok, sym, subst}
 use Rattle.std.specs.Prelude.{All}
-use Rattle.lard_base.specs.declared.config.Config.{Config}
+use Rattle.lard_law_view.specs.Prelude.{Config, Machine, file_at, machine_start}
 use Rattle.lard_bound.specs.Bound.{settling_bound}
-use Rattle.lard_rules.specs.declared.machine.Machine.{Machine}
-use Rattle.lard_rules.specs.Machine.{machine_start}
 use Rattle.lard_laws.specs.Records.{IsRunFile, IsScheduled}
-use Rattle.lard_files.specs.Files.{file_at}
 use Rattle.lard_law_view.proofs.ByteLists.{all-each}
 use Rattle.lard_law_settles.specs.Enough.{EndsWithEnough, RestsWithEnough}
 use Rattle.lard_law_settles.specs.EnoughLaws.{RunsSettle, SettlesEndQuiet, SettlesRest}

@@ -1,22 +1,12 @@
 -- Each packet is of a connection with a number, and each that is on its way is there.
 use Rattle.std.proofs.Common.{◌≡◌, ℕ, zero, suc, ◌-◌, ◌==◌, Bool, true, false, cond, List, [], ◌∷◌, ◌++◌, Some, None, Ok, sym, subst}
 use Rattle.std.specs.Prelude.{slice_get}
-use Rattle.lard_base.specs.declared.config.Config.{Config}
-use Rattle.lard_base.specs.declared.event.Event.{Event}
-use Rattle.lard_base.specs.declared.place.Place.{Place}
-use Rattle.lard_rules.specs.Bounds.{HasRule, IsConnNumber}
-use Rattle.lard_rules.specs.declared.machine.Machine.{Machine}
-use Rattle.lard_rules.specs.Machine.{IsReached, clocked, machine_step, machine_told}
-use Rattle.lard_law_view.specs.View.{IsViewed}
+use Rattle.lard_law_view.specs.Prelude.{Config, Event, HasRule, IsConnNumber, IsReached, IsViewed, Machine, Out, Packet, Place, clocked, conn_of, lose_at, machine_step, machine_told, packets_of}
 use Rattle.lard_law_view.proofs.AnyShape.{AnyShape, IsAct, SomeSent, step-any}
 use Rattle.lard_law_view.proofs.Carried.{carried-keep}
 use Rattle.lard_law_view.proofs.Saying.{between-conn}
 use Rattle.lard_law_settles.proofs.CourseGoing.{IsListed}
 use Rattle.lard_history.proofs.Each.{Each, Each-append}
-use Rattle.lard_history.specs.Own.{conn_of}
-use Rattle.lard_rules.specs.Sent.{packets_of}
-use Rattle.lard_net.specs.Net.{Packet, lose_at}
-use Rattle.lard_rules.specs.declared.places.Out.{Out}
 use Rattle.lard_law_settles.proofs.EnoughOwned.{way-there}
 use Rattle.lard_law_view.proofs.OwnRecords.{behind}
 

@@ -2,24 +2,14 @@
 use Rattle.std.proofs.Common.{◌≡◌, ℕ, nat_eq, false, cond, List, [], ◌∷◌, ◌++◌, Option, Some, None, Ok, inl, sym, ap, ◌∙◌, subst}
 use Rattle.std.specs.List.{fold}
 use Rattle.lard_base.proofs.Usable.{usable}
-use Rattle.lard_base.specs.Config.{config_check}
-use Rattle.lard_base.specs.declared.config.Config.{Config}
+use Rattle.lard_law_view.specs.Prelude.{Config, Has, IsReached, Machine, Numbers, Rec, Station, Tale, config_check, conn, file_at, is_touched, numbers_step, tale, tale_at}
 use Rattle.lard_bound.specs.Bound.{opener_step, openers}
-use Rattle.lard_rules.specs.declared.machine.Machine.{Machine}
-use Rattle.lard_rules.specs.Machine.{IsReached}
 use Rattle.lard_law_connections.specs.BytesAgreement.{ConnAgrees, IsOpen, IsTruthful}
 use Rattle.lard_law_connections.proofs.BytesRuns.{states-truthful}
-use Rattle.lard_law_view.specs.Carry.{tale_at}
-use Rattle.lard_law_view.specs.View.{conn}
-use Rattle.lard_files.specs.Files.{file_at}
 use Rattle.lard_history.proofs.Lifting.{tale-own}
 use Rattle.lard_history.proofs.Seeing.{by_number, has-before, has-behind, other_number}
 use Rattle.lard_history.proofs.Tales.{numbers-tale, touched-tale}
-use Rattle.lard_history.specs.Journal.{Numbers, Tale, is_touched, numbers_step, tale}
-use Rattle.lard_history.specs.Own.{Has}
-use Rattle.lard_journal.specs.declared.rec.Rec.{Rec}
 use Rattle.lard_journal.specs.declared.rec.Rec.TheVariants as rec
-use Rattle.lard_rules.specs.declared.places.Station.{Station}
 
 -- who has first numbers opened
 numbers-open : (c : ℕ) (J : List Rec) (k : Option Numbers) (os : List ℕ) → ((n : Numbers) → k ≡ Some n → Has c os) → (n : Numbers) → fold (numbers_step c) k J ≡ Some n → Has c (fold opener_step os J)

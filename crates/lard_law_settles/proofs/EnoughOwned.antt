@@ -7,19 +7,12 @@ use Rattle.std.specs.Ordering.{nat_cmp}
 use Rattle.lard_agenda.specs.Agenda.{agenda_of, due, free_of, is_stalled, no_seats, rests}
 use Rattle.lard_agenda.specs.Laws.{is_on_way}
 use Rattle.lard_agenda.specs.declared.kinds.Running.{Running}
-use Rattle.lard_base.specs.declared.config.Config.{Config}
-use Rattle.lard_base.specs.declared.place.Place.{Place}
-use Rattle.lard_base.specs.declared.place.Place.TheVariants.{Front, Node, Client}
-use Rattle.lard_rules.specs.Bounds.{HasTimer}
-use Rattle.lard_rules.specs.declared.machine.Machine.{Machine}
-use Rattle.lard_rules.specs.Machine.{IsReached}
+use Rattle.lard_law_view.specs.Prelude.{Client, Config, Front, HasTimer, IsReached, Machine, Node, Packet, Place, Rec, packet_at}
 use Rattle.lard_laws.proofs.StepsLinking.{reached-linked}
 use Rattle.lard_law_settles.specs.CourseGame.{seats_due}
 use Rattle.lard_history.proofs.Each.{Each, Each-weaker}
 use Rattle.lard_history.proofs.Seeing.{same_number}
-use Rattle.lard_journal.specs.declared.rec.Rec.{Rec}
 use Rattle.lard_journal.specs.declared.rec.Rec.TheVariants as rec
-use Rattle.lard_net.specs.Net.{Packet, packet_at}
 use Rattle.lard_law_settles.proofs.SettlesFiring.{IsTimed, OfTimer, agenda-timed, each-filter, each-map, entries-each}
 use Rattle.lard_law_settles.proofs.SettlesKeeping.{HasPacket}
 use Rattle.lard_law_settles.proofs.SettlesPackets.{on-way-there}

@@ -1,15 +1,9 @@
 -- What is known of a connection, so that what is sent again is near: what is kept are messages, and go where they are awaited.
 use Rattle.std.proofs.Common.{◌≡◌, ◌⊎◌, ◌<◌, ◌≤◌, ◌+◌, ◌^◌, ◌==◌, ℕ, Bool, true, false, List, [], ◌∷◌, length, Option, Some, None, IfSome, refl, sym, ap, ◌∙◌, subst, arith, inl, inr, ⊎_elim, eqb-true, eq-eqb}
 use Rattle.std.specs.List.{AllByRecursion}
-use Rattle.lard_answers.specs.Answers.{FilesAt}
-use Rattle.lard_base.specs.declared.config.Config.{Config}
-use Rattle.lard_base.specs.declared.parts.EndpointParts.{EndpointParts}
-use Rattle.lard_base.specs.declared.place.Place.TheVariants.{Front, Node}
+use Rattle.lard_law_view.specs.Prelude.{BackConn, BackRow, Config, Conn, ControlBlock, EndpointParts, Entry, FilesAt, Front, FrontConn, FrontPart, FrontRow, IsConnNumber, IsReached, Kept, Machine, Node, NodePart, NodeState, Part, Progress, Stay, and_path, ask_kept, back_endpoint, conn, ended_kept, file_at, front_rest, kept_at, named_path, named_paths, node_at, node_part, part_of, path_in, tale_at}
 use Rattle.lard_base.specs.declared.place.TimerKind.TheVariants as kind
 use Rattle.lard_bound.specs.Seats.{seat_by, seat_in, seat_of}
-use Rattle.lard_rules.specs.declared.machine.Machine.{Machine}
-use Rattle.lard_rules.specs.Bounds.{IsConnNumber}
-use Rattle.lard_rules.specs.Machine.{IsReached, node_at}
 use Rattle.lard_law_connections.specs.Awaits.{NodeComes, RowComes, StayComes}
 use Rattle.lard_law_connections.proofs.AwaitsRuns.{connections-await}
 use Rattle.lard_laws.specs.Homes.{KnowsOf, NoOtherKnows, RowHomes, StageHomes}
@@ -28,34 +22,17 @@ use Rattle.lard_laws.proofs.RecordsNodes as records
 use Rattle.lard_laws.proofs.RecordsNodes.{BothKeep, IsEarly, NodeKeeps}
 use Rattle.lard_laws.proofs.RecordsServing.{count-few}
 use Rattle.lard_laws.proofs.RecordsTurns.{AreHeld}
-use Rattle.lard_law_view.specs.Carry.{tale_at}
-use Rattle.lard_law_view.specs.View.{Conn, Part, conn, kept_at, part_of}
 use Rattle.lard_law_settles.proofs.CourseRenewing.{BackKept, IsAsk, IsFetched, IsTold, IsWithNode, Known, Left, OfferKept, Renews, RowKept, StageKept, StayKept}
 use Rattle.lard_law_settles.proofs.CourseTimingClients.{IsDecided}
-use Rattle.lard_endpoint.specs.Control.{ControlBlock}
-use Rattle.lard_files.specs.Files.{file_at}
-use Rattle.lard_rules.specs.Front.{FrontPart, front_rest}
-use Rattle.lard_handoff_back.specs.declared.row.BackConn.{BackConn}
 use Rattle.lard_handoff_back.specs.declared.row.BackConn.TheVariants as back
-use Rattle.lard_handoff_back.specs.declared.row.BackRow.{BackRow}
-use Rattle.lard_handoff_back.specs.Back.{back_endpoint}
-use Rattle.lard_handoff_front.specs.declared.row.FrontConn.{FrontConn}
 use Rattle.lard_handoff_front.specs.declared.row.FrontConn.TheVariants as stage
-use Rattle.lard_handoff_front.specs.declared.row.FrontRow.{FrontRow}
 use Rattle.lard_history.proofs.Each.{Each}
 use Rattle.lard_law_view.proofs.ByteLists.{each-all}
 use Rattle.lard_message.specs.declared.message.Body.TheVariants as body
 use Rattle.lard_message.specs.Message.{IsPath}
-use Rattle.lard_rules.specs.declared.node.NodeState.{NodeState}
-use Rattle.lard_rules.specs.declared.stay.Entry.{Entry}
-use Rattle.lard_rules.specs.declared.stay.Progress.{Progress}
 use Rattle.lard_rules.specs.declared.stay.Progress.TheVariants as progress
-use Rattle.lard_rules.specs.declared.stay.Stay.{Stay}
-use Rattle.lard_rules.specs.Node.{NodePart, ask_kept, ended_kept, message}
-use Rattle.lard_rules.specs.NodePlace.{node_part}
-use Rattle.lard_rules.specs.Stay.{and_path, named_path, named_paths, path_in}
+use Rattle.lard_rules.specs.Node.{message}
 use Rattle.lard_law_progress.proofs.Away.{IsWith, away-ended, seat-with}
-use Rattle.lard_resend.specs.declared.kept.Kept.{Kept}
 use Rattle.lard_law_settles.proofs.EnoughAwaited.{AreBelow, all-awaited}
 use Rattle.lard_law_settles.proofs.EnoughSpelt.{ask-may, ended-may, fetch-may, offer-may}
 

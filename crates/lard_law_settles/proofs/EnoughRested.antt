@@ -1,24 +1,17 @@
 -- Of the machines within a settle, put together: what its rounds owe, and so its end, where what is given of each connection is so.
-use Rattle.std.proofs.Common.{◌≡◌, ◌≤◌, ℕ, false, List, [], ◌∷◌, Option, Some, None, Ok, sym, ap, ◌∙◌, subst}
+use Rattle.std.proofs.Common.{◌≡◌, ◌≤◌, ℕ, false, List, Option, Some, None, Ok, sym, ap, ◌∙◌, subst}
 use Rattle.std.specs.Prelude.{All}
-use Rattle.lard_base.specs.Config.{config_check}
+use Rattle.lard_law_view.specs.Prelude.{Config, Conn, Event, Letter, Machine, Move, Rules, Seen, Setting, SpellsMessage, Station, config_check, conn, file_at, grown, is_holding, machine_step, part_of, setting, setting_of, tale_at}
 use Rattle.lard_base.proofs.Usable.{usable}
-use Rattle.lard_base.specs.declared.config.Config.{Config}
-use Rattle.lard_base.specs.declared.event.Event.{Event}
 use Rattle.lard_base.specs.declared.event.Event.TheVariants as event
 use Rattle.lard_bound.specs.Bound.{IsOrdinary, settling_bound}
 use Rattle.lard_bound.specs.Progress.{IfCame, IsWarm, came_in}
 use Rattle.lard_bound.specs.Units.{tellers, whole_of}
 use Rattle.lard_bound.specs.Seats.{seat_of}
-use Rattle.lard_rules.specs.declared.machine.Machine.{Machine}
-use Rattle.lard_rules.specs.Machine.{machine_step}
 use Rattle.lard_laws.specs.Records.{IsRunFile, IsScheduled}
 use Rattle.lard_laws.proofs.RecordsHolding.{Holds}
 use Rattle.lard_laws.proofs.RecordsNamed.{AreNamed, files-named}
 use Rattle.lard_laws.proofs.RecordsReached.{run-holds}
-use Rattle.lard_law_view.specs.Carry.{setting, tale_at}
-use Rattle.lard_client.specs.Control.{is_holding}
-use Rattle.lard_law_view.specs.View.{Conn, Move, Rules, Setting, SpellsMessage, conn, grown, part_of, setting_of}
 use Rattle.lard_law_view.proofs.Carried.{reached-viewed}
 use Rattle.lard_law_settles.proofs.KnownEverything.{is-set, setting-is}
 use Rattle.lard_law_view.proofs.Steps.{IsShown}
@@ -29,20 +22,16 @@ use Rattle.lard_law_settles.proofs.CourseUnwanted.{unwanted}
 use Rattle.lard_law_settles.proofs.CourseFetching.{Fetches}
 use Rattle.lard_law_settles.proofs.CourseResting.{IsMade, Within, owes}
 use Rattle.lard_law_settles.proofs.CourseStocking.{Opened}
-use Rattle.lard_files.specs.Files.{file_at}
-use Rattle.lard_history.specs.Own.{Came, Letter, Row, Seen}
-use Rattle.lard_history.proofs.Each.{Each}
+use Rattle.lard_history.proofs.Each.{Each, Each-weaker}
 use Rattle.lard_law_settles.proofs.KnownCalm as known
 use Rattle.lard_law_settles.proofs.KnownEventsGiven.{config-of, settle-given}
 use Rattle.lard_law_settles.proofs.KnownNodesGiven.{fetch-opened, front-opened}
 use Rattle.lard_law_view.proofs.ByteLists.{each-all}
 use Rattle.lard_law_progress.proofs.AnswersForm.{IsLateOn}
 use Rattle.lard_law_progress.proofs.AnswersNodeGiven.{NodeGiven}
-use Rattle.lard_law_progress.proofs.Given as progress
-use Rattle.lard_law_progress.proofs.Given.{AreInner, IsInnerSeen}
+use Rattle.lard_law_progress.proofs.Given.{IsRoundsSeen}
 use Rattle.lard_law_progress.proofs.Most.{IsModest}
 use Rattle.lard_law_progress.proofs.Leading.{Comes}
-use Rattle.lard_rules.specs.declared.places.Station.{Station}
 use Rattle.lard_law_settles.proofs.EnoughBeside.{Is}
 use Rattle.lard_law_settles.proofs.EnoughFetches.{fetches}
 use Rattle.lard_law_settles.proofs.EnoughListed.{listed-always}
@@ -51,30 +40,17 @@ use Rattle.lard_law_settles.proofs.EnoughSettled.{EndsQuiet}
 use Rattle.lard_law_settles.proofs.EnoughSums.{wholes}
 use Rattle.lard_law_settles.proofs.EnoughTiming.{timers-are}
 use Rattle.lard_law_settles.proofs.EnoughWarm.{second-late, second-warm}
-use Rattle.lard_law_settles.proofs.EnoughWarming.{IsReady, IsRounds, OfAll, Warming, comes-so, second-stays-so}
+use Rattle.lard_law_settles.proofs.EnoughWarming.{OfAll, Warming, comes-so, second-stays-so}
 use Rattle.lard_law_settles.proofs.EnoughWithin.{AreGiven, IsWithin, SettlesWithin, within-kept, within-quiet}
 use Rattle.lard_law_settles.proofs.EnoughWording.{First, IsCalmConn, Second, second-first}
-use Rattle.lard_law_settles.proofs.EnoughRuling.{step-warms}
+use Rattle.lard_law_settles.proofs.EnoughRuling.{rounds-seen, step-warms}
 use Rattle.lard_settling.specs.declared.settled.Settled.{Settled}
 use Rattle.lard_settling.specs.Left.{holds_there}
 use Rattle.lard_settling.specs.Settling.{settled}
 use Rattle.lard_law_view.proofs.Deliveries.{IsHead}
 use Rattle.lard_message.specs.declared.message.Body.TheVariants as body
-use Rattle.lard_journal.specs.declared.rec.Rec.TheVariants as rec
 
--- ---- inner steps
-
-made-rounds : (m : Machine) (e : Event) → IsMade m e → IsRounds e
-made-rounds m (event.Deliver k) h = tt
-made-rounds m (event.Disk n j) h = h
-made-rounds m (event.Timer p c) h = h
-made-rounds m _ h = absurd h
-
-made-ready : (m : Machine) (e : Event) → IsMade m e → IsReady m e
-made-ready m (event.Deliver k) h = h
-made-ready m (event.Disk n j) h = tt
-made-ready m (event.Timer p c) h = tt
-made-ready m _ h = absurd h
+-- ---- what comes
 
 came-also : (P Q : Letter → Type 0) (ss : List Seen) → IfCame P (came_in ss) → ((l : Letter) → P l → Q l) → IfCame Q (came_in ss)
 came-also P Q ss h f = go (came_in ss) h where
@@ -133,26 +109,6 @@ module _ (config : Config) (files : List (List ℕ × List ℕ)) (checked : conf
           fetch-opened config files (usable config checked).stream checked are w.reached.0 all-events p w.reached.1 (config-of config files p w.reached) q (free-tale q) a i e r path bytes (spells-of q e r path bytes spells) was;
     }
 
-  -- ---- what comes
-
-  made-inner : (p : Machine) (e : Event) → IsMade p e → progress.IsInner e
-  made-inner p (event.Deliver k) h = tt
-  made-inner p (event.Disk n j) h = tt
-  made-inner p (event.Timer q c) h = tt
-  made-inner p _ h = absurd h
-
-  -- what a move of a round sees first is an event of a round
-  heads-inner : (p : Machine) (e : Event) → IsMade p e → (q : ℕ) (v : Move) → IsShown p e (conn p q) v → AreInner v.heads
-  heads-inner p e made q v s = heads v.heads s.event where
-    one : (h : Seen) → IsHead e h → IsInnerSeen h
-    one (Row (rec.Event i d)) of = subst progress.IsInner (sym of) (made-inner p e made)
-    one (Row _) of = tt
-    one (Came l) of = tt
-
-    heads : (hs : List Seen) → Each (IsHead e) hs → AreInner hs
-    heads [] of = tt
-    heads (h ∷ hs) of = (one h of.0, heads hs of.1)
-
   -- ---- of all of them, where what is given of each connection is so
 
   abbrev pub k : Setting
@@ -179,17 +135,17 @@ module _ (config : Config) (files : List (List ℕ × List ℕ)) (checked : conf
 
     comes : (p n : Machine) (e : Event) → Good p → IsMade p e → machine_step p e ≡ Ok n → (q : ℕ) (v : Move) → IsShown p e (conn p q) v → conn n q ≡ grown (conn p q) v → Comes (conn p q) v
     comes p n e w made is q v s grows =
-        let second = comes-so Second p e (made-rounds p e made) (made-ready p e made) w.1 q v s in
+        let second = comes-so Second p e made.0 made.1 w.1 q v s in
         let sound = (reached-viewed config files p w.0.reached).sound q in
         record {
-          inner = heads-inner p e made q v s;
+          inner = Each-weaker (IsHead e) IsRoundsSeen (rounds-seen e made.0) v.heads s.event;
           warm = came-also (Second (conn p q)) (IsWarm (conn p q)) v.heads second (second-warm (conn p q) sound);
           late = came-also (Second (conn p q)) (IsLateOn (conn p q)) v.heads second (second-late (conn p q));
           unwanted = unwanted p n e is (listed-always config files p w.0.reached) q (wholes (file_at files) m.journal q) (node-given p w.0 q) v s grows;
         }
 
     goes : (p n : Machine) (e : Event) → Good p → IsMade p e → machine_step p e ≡ Ok n → Good n
-    goes p n e w made is = second-stays-so config files (wholes (file_at files) m.journal) Good (IsWithin config files m.journal) First Second warming p n e w (made-rounds p e made) (made-ready p e made) is
+    goes p n e w made is = second-stays-so config files (wholes (file_at files) m.journal) Good (IsWithin config files m.journal) First Second warming p n e w made.0 made.1 is
 
     within : Within Given Comes (wholes (file_at files) m.journal) Good
     within = record {

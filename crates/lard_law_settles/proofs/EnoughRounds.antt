@@ -6,14 +6,9 @@ use Rattle.std.specs.List.{AllByRecursion}
 use Rattle.lard_agenda.proofs.Due.{packets_are_listed}
 use Rattle.lard_agenda.specs.Agenda.{agenda_of, on_way, rests}
 use Rattle.lard_agenda.specs.Laws.{is_on_way}
-use Rattle.lard_base.specs.declared.config.Config.{Config}
-use Rattle.lard_base.specs.declared.event.Event.{Event}
+use Rattle.lard_law_view.specs.Prelude.{Config, Event, HasRule, IsReached, Machine, Passes, Place, machine_start, machine_step}
 use Rattle.lard_base.specs.declared.event.Event.TheVariants as event
-use Rattle.lard_base.specs.declared.place.Place.{Place}
 use Rattle.lard_bound.specs.Units.{Whole}
-use Rattle.lard_rules.specs.Bounds.{HasRule}
-use Rattle.lard_rules.specs.declared.machine.Machine.{Machine}
-use Rattle.lard_rules.specs.Machine.{IsReached, Passes, machine_step, machine_start}
 use Rattle.lard_law_view.proofs.Carried.{reached-viewed}
 use Rattle.lard_law_view.proofs.Runs.{passes-more}
 use Rattle.lard_law_settles.specs.CourseGame.{Task, TaskWaits, game, seats_due}

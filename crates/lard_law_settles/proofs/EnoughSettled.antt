@@ -1,13 +1,10 @@
 -- A settle with as many rounds as its journal's bound ends with nothing left, where each step of its rounds owes what rounds ask for.
 use Rattle.std.proofs.Common.{◌≡◌, ◌≤◌, ℕ, suc, ◌+◌, ◌*◌, ◌-◌, true, List, Result, Ok, Err, refl, sym, ap, ◌∙◌, subst, arith}
-use Rattle.lard_base.specs.declared.config.Config.{Config}
+use Rattle.lard_law_view.specs.Prelude.{Config, Machine, StepFault, file_at}
 use Rattle.lard_bound.proofs.Paying.{enough}
 use Rattle.lard_bound.specs.Bound.{settling_bound}
 use Rattle.lard_bound.specs.Units.{Whole, machine_units}
-use Rattle.lard_rules.specs.declared.fault.StepFault.{StepFault}
-use Rattle.lard_rules.specs.declared.machine.Machine.{Machine}
 use Rattle.lard_law_settles.specs.CourseGame.{game}
-use Rattle.lard_files.specs.Files.{file_at}
 use Rattle.lard_rounds.proofs.Ripening.{ripe-rests}
 use Rattle.lard_rounds.specs.Rounds.{Owes, Round, Rounds}
 use Rattle.lard_law_settles.proofs.EnoughAgendas.{closing-quiet, same-quiet}

@@ -3,20 +3,14 @@
 use Rattle.std.proofs.Common.{◌≡◌, ◌<◌, ◌^◌, ℕ, List, [], ◌∷◌, ◌++◌, drop, take, length, option_map, Option, refl, sym, ap, ◌∙◌, subst, arith, All}
 use Rattle.std.specs.Int.{to_be_bytes, w32}
 use Rattle.std.specs.List.{flat_map}
-use Rattle.lard_base.specs.declared.parts.EndpointParts.{EndpointParts}
-use Rattle.lard_rules.specs.Bounds.{IsConnNumber}
+use Rattle.lard_law_view.specs.Prelude.{Body, EndpointParts, Final, FitsFields, IsConnNumber, IsMessage, IsOfTable, Kind, Message, body_bytes, counted_bytes, header_bytes, kind_number, kind_of, spelled_message, version_of}
 use Rattle.lard_law_connections.specs.Places.{Head, message_head}
 use Rattle.lard_law_connections.proofs.PlacesHeads.{spelled-some}
 use Rattle.lard_laws.proofs.RecordsLetters.{IsSpelled}
 use Rattle.lard_law_settles.proofs.CourseRenewing.{of_conn}
-use Rattle.lard_endpoint.specs.declared.control.moving.Final.{Final}
-use Rattle.lard_message.specs.declared.kind.Kind.{Kind}
 use Rattle.lard_message.specs.declared.kind.Kind.TheVariants as kind
-use Rattle.lard_message.specs.declared.message.Body.{Body}
 use Rattle.lard_message.specs.declared.message.Body.TheVariants as body
-use Rattle.lard_message.specs.declared.message.Message.{Message}
-use Rattle.lard_message.specs.Kinds.{kind_number, version_of}
-use Rattle.lard_message.specs.Message.{FitsFields, IsMessage, IsOfTable, IsPath, body_bytes, counted_bytes, header_bytes, kind_of, spelled_message}
+use Rattle.lard_message.specs.Message.{IsPath}
 use Rattle.lard_message.proofs.Fields.{some_same}
 use Rattle.lard_rules.specs.Node.{message}
 
@@ -49,14 +43,7 @@ module _ (c e : ℕ) (number : IsConnNumber c) (early : e < 2 ^ 16) where
     go : (b : Body) → kind_of b ≡ kind.Offer → body_bytes b ≡ body_bytes (body.Offer parts) → IsOfTable b → FitsFields b
         → (p : EndpointParts) × (message c e (body.Offer parts) ≡ message c e (body.Offer p)) × IsMessage (of_conn c e (body.Offer p))
     go (body.Offer p) k same table fits = (p, respelled c e (body.Offer parts) (body.Offer p) refl (sym same), may (body.Offer p) table fits)
-    go body.Taken k same table fits = absurd cc
-    go (body.Forward bytes) k same table fits = absurd cc
-    go (body.Ask n queue size paths) k same table fits = absurd cc
-    go (body.Tag n nodes) k same table fits = absurd cc
-    go (body.Fetch r path) k same table fits = absurd cc
-    go (body.Content r bytes) k same table fits = absurd cc
-    go (body.Ended reason snd rcv count) k same table fits = absurd cc
-    go body.EndedAck k same table fits = absurd cc
+    go _ k same table fits = absurd cc
 
   -- what an Ended tells, and how much it counts
   abbrev pub told_end : Final → ℕ → Body
@@ -69,14 +56,7 @@ module _ (c e : ℕ) (number : IsConnNumber c) (early : e < 2 ^ 16) where
     go (body.Ended reason snd rcv n) k same table fits =
         let l : Final = record { reason = reason; snd = record { 0 = snd }; rcv = record { 0 = rcv } } in
         (l, n, respelled c e (told_end last count) (told_end l n) refl (sym same), may (told_end l n) table fits)
-    go body.Taken k same table fits = absurd cc
-    go (body.Forward bytes) k same table fits = absurd cc
-    go (body.Ask n queue size paths) k same table fits = absurd cc
-    go (body.Tag n nodes) k same table fits = absurd cc
-    go (body.Fetch r path) k same table fits = absurd cc
-    go (body.Content r bytes) k same table fits = absurd cc
-    go (body.Offer parts) k same table fits = absurd cc
-    go body.EndedAck k same table fits = absurd cc
+    go _ k same table fits = absurd cc
 
   -- a Fetch whose number has room
   pub fetch-may : (r : ℕ) (path : List ℕ) → r < 2 ^ 32 → IsSpelled (message c e (body.Fetch r path)) → IsMessage (of_conn c e (body.Fetch r path))
@@ -85,14 +65,7 @@ module _ (c e : ℕ) (number : IsConnNumber c) (early : e < 2 ^ 16) where
     go (body.Fetch i other) k same table =
         let paths : other ≡ path = ap (drop 6) same in
         may (body.Fetch r path) (subst IsPath paths table) low
-    go body.Taken k same table = absurd cc
-    go (body.Forward bytes) k same table = absurd cc
-    go (body.Ask n queue size paths) k same table = absurd cc
-    go (body.Tag n nodes) k same table = absurd cc
-    go (body.Offer parts) k same table = absurd cc
-    go (body.Content i bytes) k same table = absurd cc
-    go (body.Ended reason snd rcv count) k same table = absurd cc
-    go body.EndedAck k same table = absurd cc
+    go _ k same table = absurd cc
 
   -- an Ask whose number has room, for paths of files
   pub ask-may : (n queue size : ℕ) (paths : List (List ℕ)) → n < 2 ^ 32 → All IsPath paths → IsSpelled (message c e (body.Ask n queue size paths))
@@ -111,11 +84,4 @@ module _ (c e : ℕ) (number : IsConnNumber c) (early : e < 2 ^ 16) where
           respelled c e (body.Ask n queue size paths) (body.Ask n q size paths) refl (λ i. to_be_bytes w32 n ++ sym queues i ++ size ∷ length paths ∷ flat_map counted_bytes paths),
           may (body.Ask n q size paths) (omega (arith, few, sizes), omega (arith, some, lengths), omega (arith, within, lengths, sizes), named) (low, fits.1),
         )
-    go body.Taken k same table fits = absurd cc
-    go (body.Forward bytes) k same table fits = absurd cc
-    go (body.Offer parts) k same table fits = absurd cc
-    go (body.Tag m nodes) k same table fits = absurd cc
-    go (body.Fetch r path) k same table fits = absurd cc
-    go (body.Content r bytes) k same table fits = absurd cc
-    go (body.Ended reason snd rcv count) k same table fits = absurd cc
-    go body.EndedAck k same table fits = absurd cc
+    go _ k same table fits = absurd cc

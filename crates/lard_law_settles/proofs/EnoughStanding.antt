@@ -4,22 +4,12 @@ use Rattle.std.proofs.lemmas.Bool.{leb-false, leb-true}
 use Rattle.std.proofs.lemmas.List.Sums.{fold-append}
 use Rattle.std.specs.List.{fold}
 use Rattle.std.specs.Prelude.{nat_le}
-use Rattle.lard_answers.specs.Answers.{FilesAt, answer_bytes}
-use Rattle.lard_base.specs.declared.config.Config.{Config}
-use Rattle.lard_base.specs.declared.event.Event.{Event}
+use Rattle.lard_law_view.specs.Prelude.{Config, EachMay, Event, FilesAt, Machine, Rec, StepFault, answer_bytes, blocks, file_at, is_touched, machine_start, touched_step, wrote, wrote_step}
 use Rattle.lard_base.specs.declared.event.Event.TheVariants as event
-use Rattle.lard_block.specs.Blocks.{blocks}
 use Rattle.lard_bound.specs.Bound.{IsOrdinary, bytes_both_ways, opener_step, openers, requests_of, settling_bound, total_of}
-use Rattle.lard_rules.specs.declared.fault.StepFault.{StepFault}
-use Rattle.lard_rules.specs.declared.machine.Machine.{Machine}
-use Rattle.lard_rules.specs.Machine.{machine_start}
 use Rattle.lard_laws.specs.Records.{IsScheduled}
 use Rattle.lard_law_view.proofs.Carried.{reached-viewed}
-use Rattle.lard_files.specs.Files.{file_at}
 use Rattle.lard_history.proofs.Each.{Each, Each-append, each_append}
-use Rattle.lard_history.specs.Journal.{is_touched, touched_step, wrote, wrote_step}
-use Rattle.lard_history.specs.Laws.{EachMay}
-use Rattle.lard_journal.specs.declared.rec.Rec.{Rec}
 use Rattle.lard_journal.specs.declared.rec.Rec.TheVariants as rec
 use Rattle.lard_law_settles.proofs.EnoughAgendas.{closing-quiet}
 use Rattle.lard_law_settles.proofs.EnoughBeside.{Is, err-ok, inner-plain, ok-same}

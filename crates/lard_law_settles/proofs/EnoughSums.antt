@@ -1,21 +1,13 @@
 -- What is left to be done of all connections is at most what the bound of a journal pays for: each client that opened counts once.
 use Rattle.std.proofs.Common.{◌≡◌, ◌≢◌, ◌<◌, ◌≤◌, ◌⊎◌, inl, inr, ⊎_elim, ℕ, zero, suc, ◌+◌, ◌*◌, nat_eq, Bool, true, false, cond, if◌then◌else◌, List, [], ◌∷◌, length, Option, Some, None, refl, sym, ap, ◌∙◌, arith}
-use Rattle.lard_answers.specs.Answers.{FilesAt, until_close, verdicts, verdicts_on}
+use Rattle.lard_law_view.specs.Prelude.{FilesAt, Has, Machine, Rec, Station, Verdict, blocks, closes, conn, until_close, verdicts, verdicts_on, wrote}
 use Rattle.lard_base.specs.declared.ids.TheConstants.ConnId.{MAX}
-use Rattle.lard_block.specs.Blocks.{Piece, blocks}
+use Rattle.lard_block.specs.Blocks.{Piece}
 use Rattle.lard_bound.specs.Bound.{bytes_both_ways, openers, requests_of, total_of}
 use Rattle.lard_bound.specs.Seats.{seat_of}
 use Rattle.lard_bound.specs.Units.{Whole, left_to_client, left_with, tellers, units, machine_units, units_to, whole_of}
-use Rattle.lard_rules.specs.declared.machine.Machine.{Machine}
-use Rattle.lard_law_view.specs.View.{conn}
 use Rattle.lard_history.proofs.Seeing.{by_number, other_number, same_number}
-use Rattle.lard_history.specs.Journal.{wrote}
-use Rattle.lard_history.specs.Own.{Has}
-use Rattle.lard_journal.specs.declared.rec.Rec.{Rec}
 use Rattle.lard_law_progress.proofs.Most.{IsModest, left-most}
-use Rattle.lard_request.specs.Verdict.{closes}
-use Rattle.lard_request.specs.declared.verdict.Verdict.{Verdict}
-use Rattle.lard_rules.specs.declared.places.Station.{Station}
 
 -- ---- sums over numbers
 

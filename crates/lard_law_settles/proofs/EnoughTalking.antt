@@ -2,29 +2,16 @@
 -- only refuses.
 use Rattle.std.proofs.Common.{◌≡◌, ◌≤◌, ◌<◌, ◌^◌, ◌&&◌, not, ℕ, Bool, true, false, cond, List, [], ◌++◌, Option, Some, None, is_some, Result, Ok, Err, inl, inr, refl, sym, ap, ◌∙◌, subst, arith}
 use Rattle.std.proofs.lemmas.Bool.{cond_both, true≢false}
-use Rattle.lard_base.specs.declared.place.Place.{Place}
-use Rattle.lard_base.specs.declared.place.Place.TheVariants.{Front}
+use Rattle.lard_law_view.specs.Prelude.{ClientBlock, Front, IsClientBlock, IsSendable, Phase, Place, Ready, Said, SegFault, Speaks, ToCluster, after_next, after_resend, client_ack_ready, client_after_emit, client_after_owed, client_after_piece, client_after_timer, client_arrived, client_emitted, client_filled, client_gets, client_owed_ready, client_owes, client_piece_ready, client_rcv_wnd, client_ready_of, client_refusal, client_speaks, client_timed, client_timer, client_told, data_ready, heard_in, is_aborted_in, is_client_open, is_open_in, next_piece, resent_piece, spelled, stream_of, syn_ready, to_front}
 use Rattle.lard_bound.specs.Progress.{IsWarmWord}
-use Rattle.lard_client.specs.declared.phase.Phase.{Phase}
 use Rattle.lard_client.specs.declared.phase.Phase.TheVariants.{Open, Aborted, Reset}
-use Rattle.lard_client.specs.Arriving.{client_arrived, heard_in}
-use Rattle.lard_client.specs.Control.{ClientBlock, IsClientBlock, is_aborted_in, is_client_open, is_open_in, client_rcv_wnd}
-use Rattle.lard_client.specs.Leaving.{client_ack_ready, client_after_emit, client_after_owed, client_after_piece, client_after_timer, data_ready, client_emitted, client_filled, client_owed_ready, client_owes, client_piece_ready, client_ready_of, client_refusal, syn_ready, client_timed, client_told}
 use Rattle.lard_client.proofs.Accepted.{arrived-bounded, arrived-ended, arrived-reply}
 use Rattle.lard_history.proofs.Each.{Each, Each-append, Each-weaker}
 use Rattle.lard_law_progress.proofs.Clients.{OnPhase, heard-turned, timer-turned}
 use Rattle.lard_rules.specs.Client as rules
-use Rattle.lard_rules.specs.Client.{client_gets, client_timer}
-use Rattle.lard_rules.specs.Speaking.{client_speaks, to_front}
 use Rattle.lard_rules.proofs.Loops.{client_keeps}
-use Rattle.lard_segment.specs.declared.fault.SegFault.{SegFault}
-use Rattle.lard_segment.specs.declared.segment.Dir.TheVariants.{ToCluster}
-use Rattle.lard_segment.specs.declared.segment.Ready.{Ready}
-use Rattle.lard_segment.specs.Segment.{IsSendable, Said, spelled}
 use Rattle.lard_send.specs.declared.piece.Piece.{Piece}
-use Rattle.lard_send.specs.Send.{after_next, after_resend, next_piece, resent_piece}
 use Rattle.lard_law_settles.proofs.EnoughHolding.{Keeps, arrived-keeps, emit-keeps, timer-keeps}
-use Rattle.lard_law_view.specs.Truth.{Speaks, stream_of}
 use Rattle.lard_law_view.proofs.Client.{arriving-continues, emitted-fair, reply-fair, timed-fair}
 use Rattle.lard_law_view.proofs.Speaking.{speaks-next, speaks-resend}
 

@@ -3,16 +3,10 @@ use Rattle.std.proofs.Common.{◌≡◌, ℕ, Bool, true, not, List, [], ◌∷�
 use Rattle.std.proofs.lemmas.Bool.{and_parts}
 use Rattle.std.proofs.lemmas.List.Sums.{fold-append}
 use Rattle.std.specs.List.{fold, list_all}
-use Rattle.lard_base.specs.declared.event.Event.{Event}
+use Rattle.lard_law_view.specs.Prelude.{AreOwn, Event, IsStep, IsViewed, Machine, Rec, is_own, machine_step, touched_step, wrote_step}
 use Rattle.lard_base.specs.declared.event.Event.TheVariants as event
 use Rattle.lard_bound.specs.Bound.{opener_step}
-use Rattle.lard_rules.specs.declared.machine.Machine.{Machine}
-use Rattle.lard_rules.specs.Machine.{machine_step}
-use Rattle.lard_law_view.specs.View.{IsViewed}
 use Rattle.lard_law_view.proofs.After.{IsAfter, step-after}
-use Rattle.lard_history.specs.Journal.{touched_step, wrote_step}
-use Rattle.lard_history.specs.Laws.{AreOwn, IsStep, is_own}
-use Rattle.lard_journal.specs.declared.rec.Rec.{Rec}
 use Rattle.lard_journal.specs.declared.rec.Rec.TheVariants as rec
 use Rattle.lard_law_settles.proofs.SettlesFiring.{IsInner, inner-rule}
 

@@ -5,32 +5,18 @@ use Rattle.std.proofs.lemmas.Bool.Decides.{nat_tests}
 use Rattle.std.specs.FinMap as table
 use Rattle.std.specs.List.{list_any}
 use Rattle.lard_base.proofs.Usable.{usable}
-use Rattle.lard_base.specs.Config.{config_check}
-use Rattle.lard_base.specs.declared.config.Config.{Config}
-use Rattle.lard_bound.specs.Seats.{Gone, Held, Here, Offered, Over, SeatNow, Unborn, Waiting, seat_away, seat_by, seat_decided, seat_in, seat_of, seat_there}
-use Rattle.lard_rules.specs.declared.machine.Machine.{Machine}
-use Rattle.lard_rules.specs.Machine.{IsReached, machine_start}
+use Rattle.lard_law_view.specs.Prelude.{BackConn, BackRow, Config, ControlBlock, FrontConn, FrontPart, FrontRow, IsReached, Machine, NodePart, config_check, front_part, front_rest, is_of, is_waiting, line_waits, machine_start, part_of}
+use Rattle.lard_bound.specs.Seats.{Offered, SeatNow, Waiting, seat_away, seat_by, seat_decided, seat_in, seat_of, seat_there}
 use Rattle.lard_law_connections.proofs.LineRuns.{line-is-kept, line-is-of-those-who-wait}
 use Rattle.lard_law_connections.specs.LineLaws.{waits_there}
 use Rattle.lard_laws.proofs.StepsTimers.{timers-kept}
-use Rattle.lard_law_view.specs.View.{part_of}
 use Rattle.lard_law_view.proofs.Carried.{reached-viewed}
 use Rattle.lard_law_view.proofs.Runs.{passes-keep}
 use Rattle.lard_law_settles.proofs.CourseBeginning.{Timers}
-use Rattle.lard_dispatch.specs.Line.{is_of, line_waits}
 use Rattle.lard_dispatch.specs.declared.line.Waiting as line
-use Rattle.lard_endpoint.specs.Control.{ControlBlock}
-use Rattle.lard_rules.specs.Front.{FrontPart, front_rest}
-use Rattle.lard_rules.specs.FrontPlace.{front_part}
-use Rattle.lard_handoff_back.specs.declared.row.BackConn.{BackConn}
 use Rattle.lard_handoff_back.specs.declared.row.BackConn.TheVariants as back
-use Rattle.lard_handoff_back.specs.declared.row.BackRow.{BackRow}
-use Rattle.lard_handoff_front.specs.Row.{is_waiting}
-use Rattle.lard_handoff_front.specs.declared.row.FrontConn.{FrontConn}
 use Rattle.lard_handoff_front.specs.declared.row.FrontConn.TheVariants as stage
-use Rattle.lard_handoff_front.specs.declared.row.FrontRow.{FrontRow}
 use Rattle.lard_history.proofs.Seeing.{by_number}
-use Rattle.lard_rules.specs.Node.{NodePart}
 use Rattle.lard_law_settles.proofs.SettlesFew.{config-is}
 use Rattle.lard_law_settles.proofs.SettlesSeats.{seats-named}
 use Rattle.lard_settling.specs.Written.{IsWrittenOut}

@@ -1,20 +1,9 @@
 -- What is so of each packet that is on its way behind the two rounds, in the words of chains: it is warm.
 use Rattle.std.proofs.Common.{◌≡◌, ℕ, List, Option, Some, None, Result, Ok, Err, refl, subst}
-use Rattle.lard_base.specs.declared.place.Place.{Place}
-use Rattle.lard_base.specs.declared.place.Place.TheVariants.{Client, Front, Node}
+use Rattle.lard_law_view.specs.Prelude.{Body, Client, Conn, Front, IsConnSound, Letter, Message, MsgFault, Node, Place, Said, SegFault, Station, ToCluster, decoded, decoded_message}
 use Rattle.lard_bound.specs.Progress.{IsWarm, IsWarmBetween, IsWarmBody, IsWarmBy, IsWarmMessage, IsWarmSegment}
-use Rattle.lard_law_view.specs.View.{Conn, IsConnSound}
-use Rattle.lard_history.specs.Own.{Letter}
-use Rattle.lard_message.specs.declared.fault.MsgFault.{MsgFault}
-use Rattle.lard_message.specs.declared.message.Body.{Body}
 use Rattle.lard_message.specs.declared.message.Body.TheVariants as body
-use Rattle.lard_message.specs.declared.message.Message.{Message}
-use Rattle.lard_message.specs.Reading.{decoded_message}
 use Rattle.lard_law_progress.proofs.AnswersForm.{IsLateBetween, IsLateBody, IsLateOn, IsLateWord}
-use Rattle.lard_rules.specs.declared.places.Station.{Station}
-use Rattle.lard_segment.specs.declared.fault.SegFault.{SegFault}
-use Rattle.lard_segment.specs.declared.segment.Dir.TheVariants.{ToCluster}
-use Rattle.lard_segment.specs.Segment.{Said, decoded}
 use Rattle.lard_law_settles.proofs.EnoughWording.{AreWordsOf, Forwards, Second, SecondOn}
 
 module _ (x : Conn) (st : Station) (there : x.part.station ≡ Some st) (named : st.client.c ≡ x.c) where
@@ -36,12 +25,8 @@ module _ (x : Conn) (st : Station) (there : x.part.station ≡ Some st) (named :
 
   between-warm : (from to : Place) (l : Letter) → SecondOn x from to l.bytes → IsWarmBetween st.client from to l
   between-warm (Client d) Front l h = segment-warm l.bytes h
-  between-warm (Client d) (Client e) l h = tt
-  between-warm (Client d) (Node n) l h = tt
-  between-warm Front Front l h = tt
-  between-warm Front (Client d) l h = tt
   between-warm Front (Node n) l h = message-warm l.bytes h
-  between-warm (Node n) _ l h = tt
+  between-warm _ _ l h = tt
 
 pub second-warm : (x : Conn) → IsConnSound x → (l : Letter) → Second x l → IsWarm x l
 second-warm x sound l h = go x.part.station refl where
@@ -61,12 +46,8 @@ module _ (x : Conn) (st : Station) (there : x.part.station ≡ Some st) where
 
   between-late : (from to : Place) (bytes : List ℕ) → SecondOn x from to bytes → IsLateBetween x.c from to bytes
   between-late (Client d) Front bytes h = word-late bytes h
-  between-late (Client d) (Client e) bytes h = tt
-  between-late (Client d) (Node n) bytes h = tt
-  between-late Front Front bytes h = tt
-  between-late Front (Client d) bytes h = tt
   between-late Front (Node n) bytes h = λ m is. body-late m.body (λ segment same. h m segment is same)
-  between-late (Node n) _ bytes h = tt
+  between-late _ _ bytes h = tt
 
 pub second-late : (x : Conn) (l : Letter) → Second x l → IsLateOn x l
 second-late x l h st there = between-late x st there l.from l.to l.bytes h

@@ -2,25 +2,19 @@
 -- the second as what is sent where such a packet came.
 use Rattle.std.proofs.Common.{◌≡◌, ◌<◌, inl, inr, ⊎_elim, ℕ, nat_eq, Bool, true, false, cond, List, [], ◌∷◌, ◌++◌, length, Option, Some, None, Ok, refl, sym, ap, ◌∙◌, subst}
 use Rattle.lard_agenda.specs.Laws.{is_on_way}
-use Rattle.lard_base.specs.declared.config.Config.{Config}
-use Rattle.lard_base.specs.declared.event.Event.{Event}
+use Rattle.lard_law_view.specs.Prelude.{Came, Config, Conn, Event, GoesBy, Has, IsReached, Letter, Machine, Move, Packet, Place, Row, Seen, came_seen, conn, conn_of, grown, letter_of, letters, letters_of, machine_step, one_of, packet_at}
 use Rattle.lard_base.specs.declared.event.Event.TheVariants as event
-use Rattle.lard_base.specs.declared.place.Place.{Place}
 use Rattle.lard_bound.specs.Progress.{IfCame, came_in}
 use Rattle.lard_bound.specs.Units.{Whole}
-use Rattle.lard_rules.specs.Bounds.{HasRule, HasTimer}
-use Rattle.lard_rules.specs.declared.machine.Machine.{Machine}
-use Rattle.lard_rules.specs.Machine.{IsReached, machine_step}
-use Rattle.lard_law_view.specs.View.{Conn, GoesBy, Move, conn, grown, letters_of}
 use Rattle.lard_law_view.proofs.Carried.{reached-viewed}
 use Rattle.lard_law_settles.specs.CourseGame.{Task, game}
 use Rattle.lard_law_view.proofs.Steps.{IsShown, shown}
+use Rattle.lard_law_progress.proofs.Given.{IsRounds, rounds-rule}
+use Rattle.lard_law_settles.proofs.CourseResting.{IsReady}
 use Rattle.lard_law_settles.proofs.CourseSending.{more, new-has, new-letters, new-none}
 use Rattle.lard_law_settles.proofs.CourseWays.{KeepsPackets, Takes, Ways, step-ways}
 use Rattle.lard_history.proofs.Seeing.{by_number, one-mine, one-other}
-use Rattle.lard_history.specs.Own.{Came, Has, Letter, Row, Seen, came_seen, conn_of, letter_of, letters, one_of}
 use Rattle.lard_journal.specs.declared.rec.Rec.TheVariants as rec
-use Rattle.lard_net.specs.Net.{Packet, packet_at}
 use Rattle.lard_rounds.proofs.Ripening.{ripens}
 use Rattle.lard_rounds.specs.Ripening.{Ripens, Turns}
 use Rattle.lard_rounds.specs.Rounds.{Game, Round}
@@ -46,20 +40,6 @@ OfPacket P m k = (p : Packet) → packet_at m.net k ≡ Some p → (q : ℕ) →
 abbrev pub OfAll : (Conn → Letter → Type 0) → Machine → Type 0
 OfAll P m = (k : ℕ) → is_on_way m.journal k ≡ true → OfPacket P m k
 
--- ---- events of rounds
-
-abbrev pub IsRounds : Event → Type 0
-IsRounds (event.Deliver k) = Unit {0}
-IsRounds (event.Disk n j) = j ≡ 1
-IsRounds (event.Timer p c) = HasTimer p c
-IsRounds _ = ⊥
-
-pub rounds-rule : (e : Event) → IsRounds e → HasRule e
-rounds-rule (event.Deliver k) h = tt
-rounds-rule (event.Disk n j) h = tt
-rounds-rule (event.Timer p c) h = h
-rounds-rule _ h = absurd h
-
 -- ---- what comes in a step
 
 -- what is so of a packet is so of it where it comes
@@ -82,11 +62,6 @@ timer-so P m place c q = go (nat_eq c q) where
   go : (b : Bool) → IfCame (P (conn m q)) (came_in (cond b (Row (rec.Event 0 (event.Timer place c)) ∷ []) [] ++ []))
   go true = tt
   go false = tt
-
--- what is delivered is on its way
-abbrev pub IsReady : Machine → Event → Type 0
-IsReady m (event.Deliver k) = is_on_way m.journal k ≡ true
-IsReady m _ = Unit {0}
 
 shown-so : (P : Conn → Letter → Type 0) (m : Machine) (e : Event) → IsRounds e → IsReady m e → OfAll P m → (q : ℕ) → IfCame (P (conn m q)) (came_in (shown m e q))
 shown-so P m (event.Deliver k) of on so q = came-so P m k (so k on) q

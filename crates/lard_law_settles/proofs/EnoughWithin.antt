@@ -5,35 +5,27 @@ use Rattle.std.proofs.lemmas.Bool.{both_ways}
 use Rattle.std.proofs.lemmas.List.Sums.{fold-append}
 use Rattle.std.specs.List.{fold}
 use Rattle.lard_agenda.specs.Agenda.{agenda_of, holders}
-use Rattle.lard_base.specs.declared.config.Config.{Config}
-use Rattle.lard_base.specs.declared.event.Event.{Event}
+use Rattle.lard_law_view.specs.Prelude.{Config, Event, Has, IsReached, Machine, Passes, Rec, Station, conn, file_at, is_touched, machine_start, machine_step, passed, touched_step, wrote, wrote_step}
 use Rattle.lard_base.specs.declared.event.Event.TheVariants as event
 use Rattle.lard_bound.specs.Bound.{IsOrdinary, opener_step, openers, settling_bound}
 use Rattle.lard_bound.specs.Seats.{seat_of}
 use Rattle.lard_bound.specs.Units.{tellers}
-use Rattle.lard_rules.specs.declared.machine.Machine.{Machine}
-use Rattle.lard_rules.specs.Machine.{IsReached, Passes, machine_step, passed, machine_start}
-use Rattle.lard_law_view.specs.View.{conn}
 use Rattle.lard_law_view.proofs.Carried.{reached-viewed}
 use Rattle.lard_law_view.proofs.Runs.{passes-more}
 use Rattle.lard_laws.specs.Records.{IsScheduled}
 use Rattle.lard_law_settles.specs.CourseGame.{game}
-use Rattle.lard_files.specs.Files.{file_at}
 use Rattle.lard_history.proofs.Each.{Each, Each-append}
-use Rattle.lard_history.specs.Journal.{is_touched, touched_step, wrote, wrote_step}
-use Rattle.lard_history.specs.Own.{Has}
-use Rattle.lard_journal.specs.declared.rec.Rec.{Rec}
 use Rattle.lard_journal.specs.declared.rec.Rec.TheVariants as rec
 use Rattle.lard_law_progress.proofs.Most.{IsModest}
 use Rattle.lard_rounds.specs.Rounds.{Owes}
-use Rattle.lard_rules.specs.declared.places.Station.{Station}
 use Rattle.lard_law_settles.proofs.EnoughBeside.{Beside, Is}
 use Rattle.lard_law_settles.proofs.EnoughHolders.{holder-before, none-holds}
 use Rattle.lard_law_settles.proofs.EnoughRuling.{step-warms}
 use Rattle.lard_law_settles.proofs.EnoughSettled.{EndsQuiet, SettlesBy, settled-quiet}
 use Rattle.lard_law_settles.proofs.EnoughSums.{wholes}
 use Rattle.lard_law_settles.proofs.EnoughTelling.{PassesOver, inner-over, openers-over, touched-over, wrote-over}
-use Rattle.lard_law_settles.proofs.EnoughWarming.{IsRounds, OfAll, Warming, first-round, rounds-rule, second-round}
+use Rattle.lard_law_progress.proofs.Given.{IsRounds, rounds-rule}
+use Rattle.lard_law_settles.proofs.EnoughWarming.{OfAll, Warming, first-round, second-round}
 use Rattle.lard_law_settles.proofs.EnoughWording.{First, IsCalmConn, Second, second-first}
 use Rattle.lard_law_settles.proofs.SettlesEvents.{begun-is}
 use Rattle.lard_law_settles.proofs.SettlesFiring.{IsInner}

@@ -2,37 +2,23 @@
 -- where the one that came was.
 use Rattle.std.proofs.Common.{◌≡◌, ◌⊎◌, ◌<◌, ◌^◌, ℕ, List, [], ◌∷◌, ◌++◌, map, Some, Result, Ok, inl, inr, ⊎_elim, refl, sym, ap, ◌∙◌, subst}
 use Rattle.lard_base.specs.declared.event.Event.TheVariants as event
-use Rattle.lard_base.specs.declared.place.Place.{Place}
-use Rattle.lard_base.specs.declared.place.Place.TheVariants.{Client, Front, Node}
+use Rattle.lard_law_view.specs.Prelude.{Body, Client, ClientBlock, ClientFires, ClientGets, ClientReceives, ClientRules, Conn, Front, FrontRules, Has, Letter, MayRestOn, Message, Move, Node, Place, Said, Seen, SegFault, Setting, Station, ToClient, ToCluster, Turn, Was, ask_of, client_does, client_gets, client_timer, decoded, decoded_message, event_seen, front_admits, front_asked, front_does, front_ended, front_gets, front_taken, front_timer, grown, kind_of, letter, letters_of, packet_seen, spelled}
+use Rattle.lard_law_view.proofs.EachClient.{ClientComes, client_goes, each-client}
 use Rattle.lard_bound.specs.Progress.{IfCame, came_in}
-use Rattle.lard_client.specs.Control.{ClientBlock}
 use Rattle.lard_law_connections.proofs.BytesMessages.{forwards-read}
 use Rattle.lard_law_connections.proofs.PlacesHeads.{kinds-same}
-use Rattle.lard_law_view.specs.Carry.{MayRestOn}
-use Rattle.lard_law_view.specs.View.{ClientRules, Conn, FrontRules, Move, Setting, Was, client_does, event_seen, front_admits, front_does, grown, letter, letters_of, packet_seen}
 use Rattle.lard_rules.specs.Front as front
-use Rattle.lard_rules.specs.Front.{ask_of, front_asked, front_ended, front_gets, front_taken, front_timer, message}
+use Rattle.lard_rules.specs.Front.{message}
 use Rattle.lard_history.proofs.Each.{Each}
-use Rattle.lard_history.specs.Own.{Came, Has, Letter, Row, Seen}
-use Rattle.lard_journal.specs.declared.rec.Rec.TheVariants as rec
-use Rattle.lard_message.specs.declared.message.Body.{Body}
 use Rattle.lard_message.specs.declared.message.Body.TheVariants as body
 use Rattle.lard_message.specs.declared.kind.Kind.TheVariants as kind
-use Rattle.lard_message.specs.declared.message.Message.{Message}
-use Rattle.lard_message.specs.Message.{kind_of}
-use Rattle.lard_message.specs.Reading.{decoded_message}
+use Rattle.lard_law_progress.proofs.Given.{IsRoundsSeen}
 use Rattle.lard_law_progress.proofs.Clients.{OnPhase}
-use Rattle.lard_rules.specs.Client.{client_gets, client_timer}
-use Rattle.lard_rules.specs.declared.places.Station.{Station}
-use Rattle.lard_rules.specs.declared.places.Turn.{Turn}
 use Rattle.lard_segment.proofs.Again.{again}
-use Rattle.lard_segment.specs.declared.fault.SegFault.{SegFault}
-use Rattle.lard_segment.specs.declared.segment.Dir.TheVariants.{ToClient, ToCluster}
-use Rattle.lard_segment.specs.Segment.{Said, decoded, spelled}
 use Rattle.lard_law_settles.proofs.EnoughForwarding.{BodyHas, DeedHas, IsOffer, MessageHas, admitted-has, asked-has, ended-has, fires-has, gets-has, taken-has}
 use Rattle.lard_law_settles.proofs.EnoughHolding.{fires-keeps, fires-phase, gets-keeps, gets-phase}
 use Rattle.lard_law_settles.proofs.EnoughTalking.{AreSaid, IsCalm, IsFineWord, IsSaid, fine-stays, fires-says, gets-says}
-use Rattle.lard_law_settles.proofs.EnoughWarming.{IsRounds, Warms}
+use Rattle.lard_law_settles.proofs.EnoughWarming.{Warms}
 use Rattle.lard_law_view.proofs.EndpointSends.{AllTo}
 
 -- ---- what is so of packets
@@ -65,14 +51,7 @@ pub second-first : (x : Conn) (l : Letter) → Second x l → First x l
 second-first x l h = go l.from l.to h where
   go : (from to : Place) → SecondOn x from to l.bytes → FirstOn x from to l.bytes
   go (Client d) Front k = k
-  go (Client d) (Client e) k = tt
-  go (Client d) (Node n) k = tt
-  go Front Front k = tt
-  go Front (Client d) k = tt
-  go Front (Node n) k = tt
-  go (Node n) Front k = tt
-  go (Node n) (Client d) k = tt
-  go (Node n) (Node j) k = tt
+  go _ _ k = tt
 
 -- ---- what is known of a connection
 
@@ -80,12 +59,6 @@ pub record IsCalmConn (x : Conn) : Type 0 where
   pub calm : (st : Station) → x.part.station ≡ Some st → IsCalm st.client
   pub acks : (from : Place) (bytes : List ℕ) → Was x from (Client x.c) bytes → (s : Said) → decoded bytes x.c ToClient ≡ Ok s → s.ack < 2 ^ 32
   pub offers : Each (IsOffer x.c) x.part.front.kept
-
--- the events of a settle's rounds are seen
-abbrev pub IsRoundsSeen : Seen → Type 0
-IsRoundsSeen (Row (rec.Event i e)) = IsRounds e
-IsRoundsSeen (Row r) = Unit {0}
-IsRoundsSeen (Came l) = Unit {0}
 
 abbrev pub WarmsOwed : Conn → Move → Type 0
 WarmsOwed x v = MayRestOn IsCalmConn x → Each IsRoundsSeen v.heads → Warms First Second x v
@@ -96,21 +69,12 @@ WarmsOwed x v = MayRestOn IsCalmConn x → Each IsRoundsSeen v.heads → Warms F
 module _ (x y : Conn) (stay : (bytes : List ℕ) → AreWordsOf x bytes → AreWordsOf y bytes) where
   first-on : (from to : Place) (bytes : List ℕ) → FirstOn x from to bytes → FirstOn y from to bytes
   first-on (Client d) Front bytes h = stay bytes h
-  first-on (Client d) (Client e) bytes h = tt
-  first-on (Client d) (Node n) bytes h = tt
-  first-on Front Front bytes h = tt
-  first-on Front (Client d) bytes h = tt
-  first-on Front (Node n) bytes h = tt
-  first-on (Node n) _ bytes h = tt
+  first-on _ _ bytes h = tt
 
   second-on : (from to : Place) (bytes : List ℕ) → SecondOn x from to bytes → SecondOn y from to bytes
   second-on (Client d) Front bytes h = stay bytes h
-  second-on (Client d) (Client e) bytes h = tt
-  second-on (Client d) (Node n) bytes h = tt
-  second-on Front Front bytes h = tt
-  second-on Front (Client d) bytes h = tt
   second-on Front (Node n) bytes h = λ m segment d is. stay segment (h m segment d is)
-  second-on (Node n) _ bytes h = tt
+  second-on _ _ bytes h = tt
 
 same-words : (x : Conn) (v : Move) → v.part.station ≡ x.part.station → (bytes : List ℕ) → AreWordsOf x bytes → AreWordsOf (grown x v) bytes
 same-words x v same bytes h st at = h st (sym same ∙ at)
@@ -185,23 +149,18 @@ module _ (x : Conn) (st : Station) (heads : List Seen) (given : ClientBlock × T
     second_sent = λ came. sent-by (Second (grown x (client_does x st heads given))) (client_does x st heads given) second-said (λ p none. absurd none);
   }
 
+client-warmed : (k : Setting) (x : Conn) (st : Station) (g : ClientGets) → x.part.station ≡ Some st → ClientComes k x st g → WarmsOwed x (client_goes x st g)
+client-warmed k x st ClientFires there comes may seen =
+    client-warms x st (event_seen (event.Timer (Client x.c) x.c)) (client_timer st.client) there (may.sound.client st there)
+    (fires-keeps st.client).wnd (fires-phase st.client) (fires-says st.client (may.given.calm st there))
+client-warmed k x st (ClientReceives from bytes) there was may seen =
+    let given : Result Said SegFault = decoded bytes x.c ToClient in
+    client-warms x st (packet_seen from (Client x.c) bytes) (client_gets st.client given) there (may.sound.client st there)
+    (gets-keeps st.client given).wnd (gets-phase st.client given) (gets-says st.client given (may.given.calm st there) (may.given.acks from bytes was))
+client-warmed k x st _ there comes may seen = absurd seen.0
+
 pub clients-warm : (k : Setting) → ClientRules k WarmsOwed
-clients-warm k = record {
-  opens = λ x isn iss wnd mss rule none may seen. absurd seen.0;
-  gets = λ x st path there le may seen. absurd seen.0;
-  writes = λ x st bytes there le may seen. absurd seen.0;
-  shuts = λ x st there may seen. absurd seen.0;
-  aborts = λ x st there may seen. absurd seen.0;
-  holds = λ x st there may seen. absurd seen.0;
-  takes = λ x st there may seen. absurd seen.0;
-  fires = λ x st there may seen.
-      client-warms x st (event_seen (event.Timer (Client x.c) x.c)) (client_timer st.client) there (may.sound.client st there)
-      (fires-keeps st.client).wnd (fires-phase st.client) (fires-says st.client (may.given.calm st there));
-  hears = λ x st from bytes there was may seen.
-      let given : Result Said SegFault = decoded bytes x.c ToClient in
-      client-warms x st (packet_seen from (Client x.c) bytes) (client_gets st.client given) there (may.sound.client st there)
-      (gets-keeps st.client given).wnd (gets-phase st.client given) (gets-says st.client given (may.given.calm st there) (may.given.acks from bytes was));
-}
+clients-warm k = each-client k WarmsOwed (record { opens = λ x isn iss wnd mss rule none may seen. absurd seen.0; does = client-warmed k })
 
 -- ---- a machine's moves
 

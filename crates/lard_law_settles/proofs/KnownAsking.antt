@@ -1,36 +1,20 @@
 -- Where the front end placed a connection, its client asked for something; and where an Offer comes new, the node keeps nothing of it.
 use Rattle.std.proofs.Common.{◌≡◌, ◌≤◌, ℕ, true, false, List, [], ◌∷◌, ◌++◌, map, length, Option, Some, None, ⊎_elim, refl, ap, subst, arith}
 use Rattle.std.specs.List.{slice_get}
-use Rattle.lard_answers.specs.Answers.{FilesAt, IsPrefix, verdicts}
+use Rattle.lard_law_view.specs.Prelude.{BackConn, BackRow, Conn, ControlBlock, FilesAt, FrontConn, FrontRest, FrontRow, HasTarget, IsPrefix, NodePart, Station, Talk, Verdict, front_rest, is_gone, offer_answer, tale_at, verdicts}
 use Rattle.lard_bound.specs.Units.{Whole, whole_of}
 use Rattle.lard_laws.proofs.BackingNext.{next-for}
 use Rattle.lard_law_connections.specs.BytesAgreement.{IsOpen, SeatAgrees, StageAgrees}
 use Rattle.lard_law_connections.specs.Kept.{FrontKeeps, FrontRowKeeps, FrontStageKeeps, NodeKeepsMessages, NodeRowKeeps, NodeStageKeeps}
 use Rattle.lard_law_connections.specs.Places.{IsDecided, IsPast}
-use Rattle.lard_law_view.specs.Carry.{tale_at}
-use Rattle.lard_law_view.specs.View.{Conn}
 use Rattle.lard_laws.specs.WaysState.{BeginsWithRequest, GoesItsWay, IsAway, IsPlacedOnce, WaitsForNext, SeatWays, StageWays, StayWays, marks_at}
 use Rattle.lard_laws.specs.WaysUnder.{Assigned}
 use Rattle.lard_laws.specs.Ways.{good_paths, paths_wanted}
-use Rattle.lard_endpoint.specs.Control.{ControlBlock}
-use Rattle.lard_rules.specs.declared.front.FrontRest.{FrontRest}
-use Rattle.lard_rules.specs.Front.{front_rest}
-use Rattle.lard_rules.specs.FrontSound.{HasTarget}
-use Rattle.lard_handoff_back.specs.Back.{offer_answer}
-use Rattle.lard_handoff_back.specs.declared.row.BackConn.{BackConn}
 use Rattle.lard_handoff_back.specs.declared.row.BackConn.TheVariants as back
-use Rattle.lard_handoff_back.specs.declared.row.BackRow.{BackRow}
 use Rattle.lard_handoff_back.specs.declared.table.Adopt.TheVariants.{New}
-use Rattle.lard_handoff_back.specs.Row.{is_gone}
-use Rattle.lard_handoff_front.specs.declared.row.FrontConn.{FrontConn}
 use Rattle.lard_handoff_front.specs.declared.row.FrontConn.TheVariants as stage
-use Rattle.lard_handoff_front.specs.declared.row.FrontRow.{FrontRow}
 use Rattle.lard_law_settles.proofs.KnownKnowing.{IsPlacing}
 use Rattle.lard_law_settles.proofs.KnownSitting.{new-parts}
-use Rattle.lard_law_view.specs.Truthful.{Talk}
-use Rattle.lard_rules.specs.Node.{NodePart}
-use Rattle.lard_request.specs.declared.verdict.Verdict.{Verdict}
-use Rattle.lard_rules.specs.declared.places.Station.{Station}
 
 -- ---- there is a request
 

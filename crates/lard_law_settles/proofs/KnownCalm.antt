@@ -1,17 +1,10 @@
 -- What a settle's rounds want of each machine within them, of each connection: of its client, of what comes to it, and of the Offers that are
 -- kept; who opened; and how much is left to do.
 use Rattle.std.proofs.Common.{◌≡◌, ◌≤◌, ◌<◌, ◌^◌, ◌&&◌, ℕ, Bool, true, false, List, [], Option, Some, None, Result, Ok, refl, sym, ap, ◌∙◌, subst}
-use Rattle.lard_base.specs.declared.config.Config.{Config}
-use Rattle.lard_base.specs.declared.limits.TheConstants.{MAX_STREAM_BYTES}
-use Rattle.lard_base.specs.declared.place.Place.{Place}
-use Rattle.lard_base.specs.declared.place.Place.TheVariants.{Client, Front, Node}
-use Rattle.lard_base.specs.declared.parts.EndpointParts.{EndpointParts}
+use Rattle.lard_law_view.specs.Prelude.{Client, ClientBlock, Config, Conn, EndpointParts, Front, FrontConn, FrontRow, GoesBetween, IsClientBlock, IsReached, IsReply, Kept, Letter, MAX_STREAM_BYTES, Machine, Node, Place, Said, SegFault, Speaks, Station, Tale, Talk, ToClient, Verdict, Was, conn, decoded, file_at, is_holding, is_open_in, is_touched, sent_of, spelled, tale, tale_at, wrote}
 use Rattle.lard_bound.specs.Seats.{seat_of}
 use Rattle.lard_bound.specs.Units.{tellers, whole_of}
-use Rattle.lard_client.specs.Control.{ClientBlock, IsClientBlock, is_holding, is_open_in}
 use Rattle.lard_client.specs.declared.phase.Phase.TheVariants.{Open}
-use Rattle.lard_rules.specs.declared.machine.Machine.{Machine}
-use Rattle.lard_rules.specs.Machine.{IsReached}
 use Rattle.lard_law_connections.specs.BytesAgreement.{ConnAgrees, IsFair, IsFairOn, IsInner, IsOpen, IsConnUnopened}
 use Rattle.lard_law_connections.proofs.BytesRuns.{states-truthful}
 use Rattle.lard_law_connections.specs.Kept.{FrontRowKeeps, FrontStageKeeps}
@@ -19,33 +12,16 @@ use Rattle.lard_law_connections.proofs.KeptRuns.{connections-are-kept}
 use Rattle.lard_law_connections.proofs.PlacesFrontRules.{has-each}
 use Rattle.lard_law_connections.specs.Silence.{ClientHasSpoken, StationHasSpoken}
 use Rattle.lard_law_connections.proofs.SilenceRuns.{connections-have-spoken}
-use Rattle.lard_law_view.specs.Carry.{tale_at}
-use Rattle.lard_law_view.specs.View.{Conn, GoesBetween, Was, conn}
 use Rattle.lard_law_view.proofs.Turned.{between-has}
-use Rattle.lard_files.specs.Files.{file_at}
 use Rattle.lard_rules.specs.Front.{message}
-use Rattle.lard_handoff_front.specs.declared.row.FrontConn.{FrontConn}
 use Rattle.lard_handoff_front.specs.declared.row.FrontConn.TheVariants as stage
-use Rattle.lard_handoff_front.specs.declared.row.FrontRow.{FrontRow}
-use Rattle.lard_history.specs.Journal.{Tale, is_touched, tale, wrote}
-use Rattle.lard_history.specs.Own.{Letter}
 use Rattle.lard_history.proofs.Each.{Each}
 use Rattle.lard_history.proofs.Lifting.{tale-own}
 use Rattle.lard_history.proofs.Tales.{touched-tale, wrote-tale}
 use Rattle.lard_law_settles.proofs.KnownRuns.{each-modest, view}
-use Rattle.lard_law_view.specs.Agreement.{IsReply}
-use Rattle.lard_law_view.specs.Truthful.{Talk}
 use Rattle.lard_message.specs.declared.message.Body.TheVariants as body
 use Rattle.lard_law_progress.proofs.Most.{IsModest}
-use Rattle.lard_request.specs.declared.verdict.Verdict.{Verdict}
-use Rattle.lard_resend.specs.declared.kept.Kept.{Kept}
-use Rattle.lard_resend.specs.Pending.{sent_of}
-use Rattle.lard_rules.specs.declared.places.Station.{Station}
-use Rattle.lard_segment.specs.declared.fault.SegFault.{SegFault}
-use Rattle.lard_segment.specs.declared.segment.Dir.TheVariants.{ToClient}
-use Rattle.lard_segment.specs.Segment.{Said, decoded, spelled}
 use Rattle.lard_segment.proofs.Again.{again}
-use Rattle.lard_law_view.specs.Truth.{Speaks}
 
 -- ---- clients
 

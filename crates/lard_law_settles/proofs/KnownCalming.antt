@@ -3,27 +3,15 @@
 use Rattle.std.proofs.Common.{◌≡◌, ◌<◌, ◌≤◌, ◌+◌, ◌-◌, ◌^◌, ◌==◌, ◌&&◌, nat_lt, not, ℕ, Bool, true, false, cond, List, length, Option, Some, None, ⊎_elim, refl, ap, ◌∙◌, subst, arith}
 use Rattle.std.proofs.lemmas.Bool.{cases_lt}
 use Rattle.std.proofs.lemmas.Bool.Decides.{nat_tests}
-use Rattle.lard_answers.specs.Answers.{FilesAt}
-use Rattle.lard_base.specs.declared.limits.TheConstants.{MAX_STREAM_BYTES, RECEIVE_WINDOW}
+use Rattle.lard_law_view.specs.Prelude.{ClientBlock, Conn, ControlBlock, FilesAt, MAX_STREAM_BYTES, RECEIVE_WINDOW, Ready, Sending, Station, Stream, Talk, Verdict, byte_piece, client_emitted, client_owed_ready, client_ready_of, is_client_open, is_open_in, may_send, next_fin, next_len, next_piece, one_if, peer_room, send_left, symbols, syn_piece}
 use Rattle.lard_bound.specs.Units.{symbols_taken}
-use Rattle.lard_client.specs.Control.{ClientBlock, is_client_open, is_open_in}
 use Rattle.lard_client.specs.declared.phase.Phase.TheVariants.{Open}
-use Rattle.lard_client.specs.Leaving.{client_emitted, client_owed_ready, client_ready_of}
 use Rattle.lard_law_connections.specs.BytesAgreement.{IsOpen}
-use Rattle.lard_law_view.specs.View.{Conn}
-use Rattle.lard_endpoint.specs.Control.{ControlBlock}
 use Rattle.lard_law_settles.proofs.KnownTalking.{taken-is}
 use Rattle.lard_law_settles.proofs.KnownForwarded.{took-most}
-use Rattle.lard_law_view.specs.Truthful.{Talk}
 use Rattle.lard_law_progress.proofs.AnswersClientGiven.{IsCalm, Tells}
 use Rattle.lard_law_progress.proofs.AnswersFrontGiven.{IsTalking}
-use Rattle.lard_request.specs.declared.verdict.Verdict.{Verdict}
-use Rattle.lard_rules.specs.declared.places.Station.{Station}
-use Rattle.lard_segment.specs.declared.segment.Ready.{Ready}
 use Rattle.lard_send.specs.declared.piece.Piece.{Piece}
-use Rattle.lard_send.specs.Send.{Sending, byte_piece, send_left, may_send, next_fin, next_len, next_piece, peer_room, symbols, syn_piece}
-use Rattle.lard_seq.specs.Seq.{one_if}
-use Rattle.lard_law_view.specs.Truth.{Stream}
 
 one-most : (t : Bool) → one_if t ≤ 1
 one-most true = omega arith

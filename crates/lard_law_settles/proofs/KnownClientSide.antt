@@ -1,44 +1,31 @@
 -- What a client's answers rest on, from the laws of every run.
 use Rattle.std.proofs.Common.{◌≡◌, ◌≤◌, ◌==◌, ℕ, Bool, true, false, List, length, Some, Ok, refl, ap, subst, arith}
 use Rattle.std.proofs.lemmas.Bool.{both_ways, eqb-true}
-use Rattle.lard_answers.specs.Answers.{FilesAt}
-use Rattle.lard_base.specs.declared.place.Place.{Place}
-use Rattle.lard_base.specs.declared.place.Place.TheVariants.{Client, Front, Node}
-use Rattle.lard_base.specs.declared.place.Reason.{Reason}
+use Rattle.lard_law_view.specs.Prelude.{Client, Conn, ControlBlock, FilesAt, Final, Front, Letter, Node, Place, Reason, Said, Station, ToClient, Was, decoded, is_open_in, seq_offset, symbols}
 use Rattle.lard_base.specs.declared.place.Reason.TheVariants.{Closed, Limit, Peer}
-use Rattle.lard_bound.specs.Seats.{Gone, Held, Here, Offered, Over, SeatNow, Unborn, Waiting, seat_of}
+use Rattle.lard_bound.specs.Seats.{Held, Here, Over, SeatNow, seat_of}
 use Rattle.lard_bound.specs.Units.{Whole, symbols_taken}
-use Rattle.lard_client.specs.Control.{is_open_in}
 use Rattle.lard_client.specs.declared.phase.Phase.TheVariants.{Open}
 use Rattle.lard_laws.specs.Acks.{FrontStageActs, OpenActs, bounds_of}
 use Rattle.lard_law_connections.specs.BytesAgreement.{IsOpen}
 use Rattle.lard_law_connections.proofs.PlacesFrontRules.{has-each}
 use Rattle.lard_law_connections.specs.Silence.{ClientHasSpoken, StationHasSpoken}
-use Rattle.lard_law_view.specs.View.{Conn, Was}
 use Rattle.lard_laws.specs.WindowsRefusals.{BytesRefuse, RefusesOn}
 use Rattle.lard_laws.specs.WindowsRefusals as refusals
 use Rattle.lard_laws.proofs.WindowsRefusals.{turned-down}
 use Rattle.lard_laws.specs.WindowsWords.{Starts, StartsOn}
-use Rattle.lard_endpoint.specs.Control.{ControlBlock}
-use Rattle.lard_endpoint.specs.declared.control.moving.Final.{Final}
 use Rattle.lard_law_settles.proofs.KnownCalming.{calms, nothing-next, sent-syn, tells-of}
 use Rattle.lard_law_settles.proofs.KnownReplying.{MayReply, replies}
 use Rattle.lard_law_settles.proofs.KnownSeating.{IsLawful, SeatHas, few-written, held-talks, node-acts, open-acts, open-reaches, opens, seat-has, stage-acts, talks-there}
 use Rattle.lard_law_settles.proofs.KnownTalking.{one-most, taken-is}
 use Rattle.lard_law_settles.proofs.KnownForwarded.{Refuses}
 use Rattle.lard_handoff_front.specs.declared.row.FrontConn.TheVariants as stage
-use Rattle.lard_history.specs.Own.{Letter}
 use Rattle.lard_law_view.proofs.Acked.{heard_by, taken_by}
 use Rattle.lard_law_progress.proofs.AnswersClientGiven.{ClientGiven, EndTells, IsCalm, IsCluster, IsReply, Matters, SeatTells}
 use Rattle.lard_law_progress.proofs.AnswersFrontGiven.{HasClosed, IsTalking}
 use Rattle.lard_law_progress.proofs.AnswersNodeGiven.{HasIt}
 use Rattle.lard_law_progress.proofs.Data.{heard}
 use Rattle.lard_law_progress.proofs.Given.{Known}
-use Rattle.lard_rules.specs.declared.places.Station.{Station}
-use Rattle.lard_segment.specs.declared.segment.Dir.TheVariants.{ToClient}
-use Rattle.lard_segment.specs.Segment.{Said, decoded}
-use Rattle.lard_send.specs.Send.{symbols}
-use Rattle.lard_seq.specs.Seq.{seq_offset}
 
 -- Beside the laws so far: before a client is established, its SYN alone is acknowledged to it, no node has the connection, and neither both
 -- sides nor the stream limit ended it.

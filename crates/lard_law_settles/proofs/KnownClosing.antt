@@ -3,9 +3,8 @@ use Rattle.std.proofs.Common.{◌≡◌, ◌≤◌, ◌<◌, ◌+◌, ◌^◌, �
 use Rattle.std.proofs.lemmas.Bool.{eqb-true}
 use Rattle.std.proofs.lemmas.List.{length-append}
 use Rattle.std.specs.List.{concat}
-use Rattle.lard_answers.specs.Answers.{FilesAt, answer, answer_bytes, verdicts}
+use Rattle.lard_law_view.specs.Prelude.{Conn, FilesAt, Final, FrontRow, MAX_STREAM_BYTES, Station, Stream, Talk, Verdict, answer, answer_bytes, one_if, seq_add, seq_offset, symbols, verdicts}
 use Rattle.lard_answers.proofs.Growing.{answers-are}
-use Rattle.lard_base.specs.declared.limits.TheConstants.{MAX_STREAM_BYTES}
 use Rattle.lard_base.specs.declared.place.Reason.TheVariants as reason
 use Rattle.lard_bound.specs.Units.{symbols_taken}
 use Rattle.lard_laws.specs.Acks.{AcksWhatWasTaken, EndActs, FrontActs, FrontStageActs, OpenActs, StationActs, bounds_of}
@@ -13,23 +12,14 @@ use Rattle.lard_law_connections.specs.BytesAgreement.{EndedWithNumbers, IsOpen, 
 use Rattle.lard_law_connections.proofs.BytesClientMoves.{open-at}
 use Rattle.lard_laws.specs.EndedEnds.{EndsAreTrue, IsTrueEnd, RowEnds, StageEnds, StationEnds, TellsEnds, WasClosed, written_by}
 use Rattle.lard_laws.proofs.EndedClients.{written-is}
-use Rattle.lard_law_view.specs.View.{Conn}
-use Rattle.lard_endpoint.specs.declared.control.moving.Final.{Final}
 use Rattle.lard_handoff_front.specs.declared.row.FrontConn.TheVariants as stage
-use Rattle.lard_handoff_front.specs.declared.row.FrontRow.{FrontRow}
-use Rattle.lard_law_view.specs.Truthful.{Talk}
 use Rattle.lard_law_view.proofs.Answered.{all-answered}
 use Rattle.lard_law_view.proofs.Prefix.{said-front}
 use Rattle.lard_law_view.proofs.Acked.{Acks, taken_by}
 use Rattle.lard_law_view.proofs.Complete.{BothClosed, both-closed, closed-taken}
 use Rattle.lard_law_progress.proofs.AnswersFrontGiven.{HasClosed}
-use Rattle.lard_request.specs.declared.verdict.Verdict.{Verdict}
 use Rattle.lard_rules.specs.declared.places.Ending.TheVariants as ending
-use Rattle.lard_rules.specs.declared.places.Station.{Station}
-use Rattle.lard_send.specs.Send.{symbols}
-use Rattle.lard_seq.specs.Seq.{one_if, seq_add, seq_offset}
 use Rattle.lard_seq.proofs.Laws.{offset-add}
-use Rattle.lard_law_view.specs.Truth.{Stream}
 
 -- a client that took as much as this many bytes, the SYN and the FIN, and accepted no more bytes
 took-all : (none eof : Bool) (accepted bytes : ℕ) → 2 + bytes ≤ cond (not none) (1 + accepted + one_if eof) 0 → accepted ≤ bytes → cond none 0 (1 + accepted + cond eof 1 0) ≡ 2 + bytes

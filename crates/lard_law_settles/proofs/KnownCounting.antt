@@ -3,22 +3,11 @@
 use Rattle.std.proofs.Common.{◌≡◌, ◌≤◌, ◌+◌, ◌==◌, not, ℕ, Bool, true, false, cond, List, [], ◌++◌, map, length, append-nil, refl, ap, ◌∙◌, subst, arith}
 use Rattle.std.proofs.lemmas.Bool.{and_parts, both_ways, cond_both, eqb-true, not-true}
 use Rattle.std.proofs.lemmas.List.{length-append, length-map}
-use Rattle.lard_answers.specs.Answers.{FilesAt, IsPrefix, answer_bytes, verdicts}
+use Rattle.lard_law_view.specs.Prelude.{ClientAgrees, ClientBlock, ControlBlock, Entry, FilesAt, IsPrefix, SaysAnswers, Station, Stream, Talk, Verdict, answer_bytes, is_clear, may_freeze, one_if, verdicts}
 use Rattle.lard_bound.specs.Units.{Whole, symbols_taken, whole_of}
-use Rattle.lard_client.specs.Control.{ClientBlock}
 use Rattle.lard_law_connections.specs.BytesAgreement.{HoldsItPending}
-use Rattle.lard_endpoint.specs.Control.{ControlBlock}
-use Rattle.lard_endpoint.specs.Moving.{may_freeze}
-use Rattle.lard_law_view.specs.Agreement.{ClientAgrees, SaysAnswers}
-use Rattle.lard_law_view.specs.Truthful.{Talk}
 use Rattle.lard_law_view.proofs.Prefix.{said-front}
 use Rattle.lard_law_view.proofs.Acked.{taken_by}
-use Rattle.lard_rules.specs.declared.stay.Entry.{Entry}
-use Rattle.lard_request.specs.declared.verdict.Verdict.{Verdict}
-use Rattle.lard_rules.specs.declared.places.Station.{Station}
-use Rattle.lard_send.specs.Send.{is_clear}
-use Rattle.lard_seq.specs.Seq.{one_if}
-use Rattle.lard_law_view.specs.Truth.{Stream}
 use Rattle.lard_law_view.proofs.Growth.{front-length}
 
 -- ---- words for the same

@@ -1,25 +1,18 @@
 -- In every state that events lead to: wherever its endpoint is, it talks with its client, and what the client's answers rest on, of a
 -- connection that the schedule did not touch and whose client wrote little.
 use Rattle.std.proofs.Common.{◌≡◌, ◌≤◌, false, ℕ, List, length, Some, subst}
-use Rattle.lard_base.specs.declared.config.Config.{Config}
-use Rattle.lard_base.specs.declared.limits.TheConstants.{MAX_STREAM_BYTES}
+use Rattle.lard_law_view.specs.Prelude.{Config, Conn, ControlBlock, IsReached, MAX_STREAM_BYTES, Machine, Station, conn, file_at, tale_at}
 use Rattle.lard_bound.specs.Seats.{Held, Waiting, seat_of}
 use Rattle.lard_bound.specs.Units.{Whole}
 use Rattle.lard_client.specs.declared.phase.Phase.TheVariants.{Open}
-use Rattle.lard_rules.specs.declared.machine.Machine.{Machine}
-use Rattle.lard_rules.specs.Machine.{IsReached}
 use Rattle.lard_laws.proofs.AcksRuns.{connections-ack}
 use Rattle.lard_law_connections.proofs.BytesRuns.{states-truthful}
 use Rattle.lard_law_connections.proofs.LimitsRuns.{connections-counted}
 use Rattle.lard_law_connections.proofs.SilenceRuns.{connections-have-spoken}
-use Rattle.lard_law_view.specs.Carry.{tale_at}
-use Rattle.lard_law_view.specs.View.{Conn, conn}
 use Rattle.lard_laws.proofs.WindowsEarlyRuns.{stays-early}
 use Rattle.lard_laws.proofs.WindowsRefusals.{refusals-answer}
 use Rattle.lard_laws.proofs.WindowsRuns.{windows-reach}
 use Rattle.lard_laws.proofs.WindowsWordRuns.{clients-start}
-use Rattle.lard_endpoint.specs.Control.{ControlBlock}
-use Rattle.lard_files.specs.Files.{file_at}
 use Rattle.lard_law_settles.proofs.KnownClientSide.{IsMet, client-given}
 use Rattle.lard_law_settles.proofs.KnownMeeting.{met}
 use Rattle.lard_law_settles.proofs.KnownSeating.{IsLawful, held-given, talks-there, waiting-given}
@@ -27,7 +20,6 @@ use Rattle.lard_law_progress.proofs.AnswersClientGiven.{ClientGiven}
 use Rattle.lard_law_progress.proofs.AnswersFrontGiven.{AtSeat, FrontGiven, IsTalking}
 use Rattle.lard_law_progress.proofs.AnswersNodeGiven.{HasIt}
 use Rattle.lard_law_progress.proofs.Given.{Known}
-use Rattle.lard_rules.specs.declared.places.Station.{Station}
 
 module _ (config : Config) (files : List (List ℕ × List ℕ)) (small : config.stream ≤ MAX_STREAM_BYTES) (m : Machine) (reached : IsReached config files m) (q : ℕ) (free : (tale_at (conn m q)).touched ≡ false)
     (few : length (tale_at (conn m q)).wrote ≤ 16382) where

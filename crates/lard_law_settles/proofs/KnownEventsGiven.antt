@@ -4,33 +4,20 @@ use Rattle.std.specs.FinMap as table
 use Rattle.std.specs.Prelude.{slice_get}
 use Rattle.std.proofs.lemmas.Bool.{ltb-false, or_parts}
 use Rattle.std.proofs.lemmas.Option.{slice_get_within}
-use Rattle.lard_base.specs.Config.{config_check}
+use Rattle.lard_law_view.specs.Prelude.{Client, Config, Event, Front, HasTimer, IsNumber, IsPlaceInRange, IsReached, IsViewed, Machine, Node, Packet, Place, Station, StepFault, bytes_in, client_acts, client_takes, completes, config_check, conn, delivered, disk_at, is_no_node, machine_step, node_acts, node_at, packet_at, part_of, timer}
 use Rattle.lard_base.proofs.Usable.{usable}
-use Rattle.lard_base.specs.declared.config.Config.{Config}
-use Rattle.lard_base.specs.declared.event.Event.{Event}
 use Rattle.lard_base.specs.declared.event.Event.TheVariants as event
-use Rattle.lard_base.specs.declared.place.Place.{Place}
-use Rattle.lard_base.specs.declared.place.Place.TheVariants.{Client, Front, Node}
-use Rattle.lard_rules.specs.declared.fault.StepFault.{StepFault}
 use Rattle.lard_rules.specs.declared.fault.Refusal.TheVariants.{NoClient, NoNode, NotSent}
 use Rattle.lard_rules.specs.declared.fault.StepFault.TheVariants.{Refused}
-use Rattle.lard_rules.specs.declared.machine.Machine.{Machine}
 use Rattle.lard_rules.specs.Bounds as bounds
-use Rattle.lard_rules.specs.Bounds.{HasTimer}
-use Rattle.lard_rules.specs.Machine.{IsReached, client_acts, completes, delivered, disk_at, is_no_node, machine_step, node_acts, node_at, timer}
 use Rattle.lard_laws.specs.Records.{IsScheduled}
-use Rattle.lard_laws.proofs.RecordsReached.{below}
-use Rattle.lard_law_view.specs.View.{IsViewed, conn, part_of}
+use Rattle.lard_law_connections.proofs.Happened.{done-happens}
 use Rattle.lard_law_view.proofs.After.{step-after}
 use Rattle.lard_law_view.proofs.Carried.{carried-keep, reached-viewed}
-use Rattle.lard_journal.specs.Range.{IsNumber, IsPlaceInRange}
 use Rattle.lard_law_settles.proofs.KnownRuns.{number-of}
 use Rattle.lard_law_settles.proofs.SettlesFiring.{IsInner}
 use Rattle.lard_law_view.proofs.EventRange.{few-before}
-use Rattle.lard_net.specs.Net.{Packet, bytes_in, packet_at}
 use Rattle.lard_rules.specs.declared.node.BackIn.TheVariants as back
-use Rattle.lard_rules.specs.Client.{client_takes}
-use Rattle.lard_rules.specs.declared.places.Station.{Station}
 
 never : {A : Type 0} (fault : StepFault) (n : Machine) → ◌≡◌ {A = Result Machine StepFault} (Err fault) (Ok n) → A
 never fault n e = absurd cc
@@ -78,13 +65,13 @@ module _ (m n : Machine) (view : IsViewed m) (nodes : IsNumber m.config.nodes) w
     test false t h = node-number i t
 
   pub event-given : (e : Event) → IsInner e → machine_step m e ≡ Ok n → IsScheduled e
-  event-given (event.Take c) h is = (takes c (event.Take c) (table.get m.clients c) refl (below m n (event.Take c) is).1, tt)
+  event-given (event.Take c) h is = (takes c (event.Take c) (table.get m.clients c) refl (done-happens m n (event.Take c) is).1, tt)
   event-given (event.Deliver k) h is =
-      let parts = below m n (event.Deliver k) is in
+      let parts = done-happens m n (event.Deliver k) is in
       let few = few-before (length m.net) (bytes_in m.net) (length m.journal) m.answered parts.0 in
       (delivers k (packet_at m.net k) refl few.0 parts.1, tt)
-  event-given (event.Disk i j) h is = ((completed i j (below m n (event.Disk i j) is).1, omega (arith, h)), tt)
-  event-given (event.Timer p c) h is = (fires p c h (table.get m.clients c) refl (below m n (event.Timer p c) is).1, tt)
+  event-given (event.Disk i j) h is = ((completed i j (done-happens m n (event.Disk i j) is).1, omega (arith, h)), tt)
+  event-given (event.Timer p c) h is = (fires p c h (table.get m.clients c) refl (done-happens m n (event.Timer p c) is).1, tt)
   event-given _ h is = absurd h
 
 -- ---- every run

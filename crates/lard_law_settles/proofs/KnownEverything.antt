@@ -1,24 +1,16 @@
 -- All that the rules want given holds of each connection of a machine within a settle, where the schedule touched none.
 use Rattle.std.proofs.Common.{◌≡◌, ℕ, List, Some, Ok, refl, sym, ap, ◌∙◌, subst, false}
 use Rattle.std.specs.Prelude.{All}
-use Rattle.lard_base.specs.Config.{config_check}
+use Rattle.lard_law_view.specs.Prelude.{Config, Conn, ControlBlock, IsReached, Machine, Setting, Station, Tale, config_check, conn, file_at, is_touched, setting, setting_of, tale_at, wrote}
 use Rattle.lard_base.proofs.Usable.{usable}
-use Rattle.lard_base.specs.declared.config.Config.{Config}
 use Rattle.lard_bound.specs.Seats.{Held, Waiting, seat_of}
 use Rattle.lard_bound.specs.Units.{Whole, whole_of}
-use Rattle.lard_rules.specs.declared.machine.Machine.{Machine}
-use Rattle.lard_rules.specs.Machine.{IsReached}
 use Rattle.lard_laws.specs.Records.{IsRunFile, IsScheduled}
 use Rattle.lard_laws.proofs.RecordsHolding.{Holds}
 use Rattle.lard_laws.proofs.RecordsReached.{run-holds}
-use Rattle.lard_law_view.specs.Carry.{setting, tale_at}
-use Rattle.lard_law_view.specs.View.{Conn, Setting, conn, setting_of}
 use Rattle.lard_law_view.proofs.After.{step-after}
 use Rattle.lard_law_view.proofs.Carried.{carried-keep}
-use Rattle.lard_endpoint.specs.Control.{ControlBlock}
-use Rattle.lard_files.specs.Files.{file_at}
 use Rattle.lard_law_settles.proofs.KnownFrontRuns.{each-forwarded, each-front}
-use Rattle.lard_history.specs.Journal.{Tale, is_touched, wrote}
 use Rattle.lard_history.proofs.Tales.{wrote-tale}
 use Rattle.lard_law_settles.proofs.KnownCalm.{free-tale, its-tale}
 use Rattle.lard_law_settles.proofs.KnownEventsGiven.{config-of}
@@ -29,7 +21,6 @@ use Rattle.lard_law_progress.proofs.AnswersFrontGiven.{AtSeat, IsTalking}
 use Rattle.lard_law_progress.proofs.AnswersNodeGiven.{HasIt, NodeGiven}
 use Rattle.lard_law_progress.proofs.Given.{Given, Known}
 use Rattle.lard_law_progress.proofs.Leading.{AllGiven}
-use Rattle.lard_rules.specs.declared.places.Station.{Station}
 
 -- ---- settings
 

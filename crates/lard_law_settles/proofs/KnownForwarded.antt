@@ -1,31 +1,16 @@
 -- What a segment of the client says that a node gets, by the laws of bytes and of acknowledgements.
 use Rattle.std.proofs.Common.{◌≡◌, ◌<◌, ◌≤◌, ◌+◌, ◌^◌, ◌==◌, not, ℕ, Bool, true, false, cond, List, length, Ok, sym, ap, subst, arith}
-use Rattle.lard_answers.specs.Answers.{FilesAt}
-use Rattle.lard_arrival.specs.Arrival.{seg_len}
-use Rattle.lard_base.specs.declared.limits.TheConstants.{MAX_STREAM_BYTES}
-use Rattle.lard_base.specs.declared.place.Place.TheVariants.{Front, Node}
-use Rattle.lard_client.specs.Control.{ClientBlock}
+use Rattle.lard_law_view.specs.Prelude.{ClientBlock, Conn, ControlBlock, FilesAt, Front, IsStream, Letter, MAX_STREAM_BYTES, Message, Node, Said, SpellsMessage, Station, Stream, Talk, ToCluster, Verdict, Was, decoded, one_if, seg_len, seq_add, seq_offset}
 use Rattle.lard_laws.specs.Acks.{LetterActs, OpenActs, bounds_of}
 use Rattle.lard_law_connections.specs.BytesAgreement.{IsFair, IsOpen}
 use Rattle.lard_law_connections.proofs.PlacesFrontRules.{has-each}
-use Rattle.lard_law_view.specs.View.{Conn, SpellsMessage, Was}
-use Rattle.lard_endpoint.specs.Control.{ControlBlock}
 use Rattle.lard_law_settles.proofs.KnownSegments.{acks-most, read-is, symbols-within}
 use Rattle.lard_law_settles.proofs.KnownTalking.{taken-is}
-use Rattle.lard_history.specs.Own.{Letter}
 use Rattle.lard_law_view.specs.Agreement as agreement
-use Rattle.lard_law_view.specs.Truthful.{Talk}
 use Rattle.lard_law_view.proofs.Acked.{WordMay, taken_by}
 use Rattle.lard_message.specs.declared.message.Body.TheVariants as body
-use Rattle.lard_message.specs.declared.message.Message.{Message}
 use Rattle.lard_law_progress.proofs.AnswersNodeGiven.{IsForwarded}
 use Rattle.lard_law_progress.proofs.Data.{heard}
-use Rattle.lard_request.specs.declared.verdict.Verdict.{Verdict}
-use Rattle.lard_rules.specs.declared.places.Station.{Station}
-use Rattle.lard_segment.specs.declared.segment.Dir.TheVariants.{ToCluster}
-use Rattle.lard_segment.specs.Segment.{Said, decoded}
-use Rattle.lard_seq.specs.Seq.{one_if, seq_add, seq_offset}
-use Rattle.lard_law_view.specs.Truth.{IsStream, Stream}
 
 -- a refusal has the number of what was acknowledged
 abbrev pub Refuses : ℕ → ℕ → Said → Type 0

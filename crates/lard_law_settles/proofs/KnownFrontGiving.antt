@@ -1,8 +1,6 @@
 -- What the front end's answers rest on: of its stages, epochs, last numbers and Tags, from the laws of every run.
 use Rattle.std.proofs.Common.{◌≡◌, ◌<◌, ◌^◌, ℕ, Bool, true, false, List, Option, Some, None, Ok, refl, sym, subst, arith}
-use Rattle.lard_answers.specs.Answers.{FilesAt}
-use Rattle.lard_base.specs.declared.ids.Epoch.{Epoch}
-use Rattle.lard_base.specs.declared.place.Place.TheVariants.{Client, Front}
+use Rattle.lard_law_view.specs.Prelude.{Client, Conn, ControlBlock, Epoch, FilesAt, Front, FrontConn, FrontRest, FrontRow, NodePart, Said, Station, ToCluster, Was, decoded, front_rest, tale_at}
 use Rattle.lard_bound.specs.Seats.{Held, Waiting, seat_away, seat_in, seat_of}
 use Rattle.lard_bound.specs.Units.{Whole}
 use Rattle.lard_laws.specs.Acks.{AcksWhatWasTaken}
@@ -12,22 +10,11 @@ use Rattle.lard_laws.specs.Homes.{HasOneHome}
 use Rattle.lard_law_connections.specs.Places.{EndedBefore, HasEarlyEpoch, IsRowEarly, IsStageEarly, Owning, Sits, SitsAt, StageSits, owning}
 use Rattle.lard_laws.proofs.RecordsFronts.{RestKeeps}
 use Rattle.lard_laws.proofs.TagsAgree.{Agreed}
-use Rattle.lard_law_view.specs.Carry.{tale_at}
-use Rattle.lard_law_view.specs.View.{Conn, Was}
-use Rattle.lard_endpoint.specs.Control.{ControlBlock}
 use Rattle.lard_law_settles.proofs.KnownClosing.{has-closed}
 use Rattle.lard_law_settles.proofs.KnownStaying.{asks-given, ended-given}
-use Rattle.lard_rules.specs.declared.front.FrontRest.{FrontRest}
-use Rattle.lard_rules.specs.Front.{front_rest}
-use Rattle.lard_handoff_front.specs.declared.row.FrontConn.{FrontConn}
 use Rattle.lard_handoff_front.specs.declared.row.FrontConn.TheVariants as stage
-use Rattle.lard_handoff_front.specs.declared.row.FrontRow.{FrontRow}
-use Rattle.lard_rules.specs.Node.{NodePart}
 use Rattle.lard_law_progress.proofs.AnswersFrontGiven.{AtSeat, FrontGiven, HasTag, IsStage, IsWord}
 use Rattle.lard_law_progress.proofs.AnswersFrontSpots.{away-cases, seat-row}
-use Rattle.lard_rules.specs.declared.places.Station.{Station}
-use Rattle.lard_segment.specs.declared.segment.Dir.TheVariants.{ToCluster}
-use Rattle.lard_segment.specs.Segment.{Said, decoded}
 use Rattle.lard_law_connections.proofs.PlacesTurns.{small-early}
 
 -- What other laws give of it: of an endpoint that the front end has, and of what its client says.

@@ -1,13 +1,9 @@
 -- In every state that events lead to: what the front end's answers rest on, of a connection that the schedule did not touch.
 use Rattle.std.proofs.Common.{◌≡◌, false, List, ℕ, Some, Ok, subst}
 use Rattle.lard_base.proofs.Usable.{usable}
-use Rattle.lard_base.specs.Config.{config_check}
-use Rattle.lard_base.specs.declared.config.Config.{Config}
-use Rattle.lard_base.specs.declared.place.Place.TheVariants.{Client, Front, Node}
+use Rattle.lard_law_view.specs.Prelude.{Client, Config, Conn, ControlBlock, Front, IsNode, IsReached, Machine, Node, Said, SpellsMessage, Station, ToCluster, Was, config_check, conn, decoded, file_at, front_rest, part_of, tale_at}
 use Rattle.lard_bound.specs.Seats.{Held, Waiting, seat_of}
 use Rattle.lard_bound.specs.Units.{Whole}
-use Rattle.lard_rules.specs.declared.machine.Machine.{Machine}
-use Rattle.lard_rules.specs.Machine.{IsReached}
 use Rattle.lard_laws.specs.Acks.{OpenActs, StationActs}
 use Rattle.lard_laws.proofs.AcksRuns.{connections-ack}
 use Rattle.lard_law_connections.specs.BytesAgreement.{IsOpen, IsTruthful}
@@ -19,23 +15,14 @@ use Rattle.lard_law_connections.proofs.PlacesRuns.{each-sits}
 use Rattle.lard_laws.proofs.RecordsFronts.{RestKeeps}
 use Rattle.lard_laws.proofs.RecordsHolding.{Holds}
 use Rattle.lard_laws.proofs.TagsGoing.{each-agrees}
-use Rattle.lard_law_view.specs.Carry.{tale_at}
-use Rattle.lard_law_view.specs.View.{Conn, SpellsMessage, Was, conn, part_of}
 use Rattle.lard_law_view.proofs.Carried.{reached-viewed}
 use Rattle.lard_laws.proofs.WindowsForwards.{forwards-were}
 use Rattle.lard_laws.proofs.WindowsWordRuns.{words-fit}
-use Rattle.lard_dispatch.specs.Sound.{IsNode}
-use Rattle.lard_endpoint.specs.Control.{ControlBlock}
-use Rattle.lard_files.specs.Files.{file_at}
 use Rattle.lard_law_settles.proofs.KnownFrontGiving.{front-given}
 use Rattle.lard_law_settles.proofs.KnownFrontWords.{word, word-there}
-use Rattle.lard_rules.specs.Front.{front_rest}
 use Rattle.lard_message.specs.declared.message.Body.TheVariants as body
 use Rattle.lard_law_progress.proofs.AnswersFrontGiven.{AtSeat, FrontGiven, IsWord}
 use Rattle.lard_law_progress.proofs.AnswersNodeGiven.{HasIt, IsForwarded}
-use Rattle.lard_rules.specs.declared.places.Station.{Station}
-use Rattle.lard_segment.specs.declared.segment.Dir.TheVariants.{ToCluster}
-use Rattle.lard_segment.specs.Segment.{Said, decoded}
 
 -- its Tag and its numbers are in their ranges
 rest-keeps : (m : Machine) (q : ℕ) → Holds m → RestKeeps (front_rest (conn m q).part.front.rest)

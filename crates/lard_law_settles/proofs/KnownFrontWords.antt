@@ -1,42 +1,26 @@
 -- What the segments of a client say, at the front end and where it forwards them, whenever they were sent.
 use Rattle.std.proofs.Common.{◌≡◌, ◌<◌, ◌≤◌, ◌^◌, ℕ, Bool, true, false, List, [], ◌∷◌, length, Option, Some, None, Ok, refl, sym, ap, ◌∙◌, subst, arith}
-use Rattle.lard_answers.specs.Answers.{FilesAt}
-use Rattle.lard_base.specs.declared.place.Place.{Place}
-use Rattle.lard_base.specs.declared.place.Place.TheVariants.{Client, Front, Node}
+use Rattle.lard_law_view.specs.Prelude.{AreBetween, Client, Conn, ControlBlock, FilesAt, Front, FrontConn, FrontRow, GoesBetween, Has, IsConnSound, Letter, Node, NodePart, Place, Said, SpellsMessage, Station, Talk, ToCluster, Verdict, Was, decoded, front_rest, is_client_open, is_open_in, seq_add, spelled}
 use Rattle.lard_bound.specs.Seats.{seat_away, seat_in, seat_of}
-use Rattle.lard_client.specs.Control.{is_client_open, is_open_in}
 use Rattle.lard_client.specs.declared.phase.Phase.TheVariants as phase
 use Rattle.lard_laws.specs.Acks.{BackActs, FrontActs, FrontStageActs, LetterActs, OpenActs, bounds_of}
 use Rattle.lard_law_connections.specs.BytesAgreement.{IsFair, IsOpen}
 use Rattle.lard_law_connections.proofs.PlacesFrontRules.{has-each}
-use Rattle.lard_law_view.specs.View.{AreBetween, Conn, GoesBetween, IsConnSound, SpellsMessage, Was}
 use Rattle.lard_laws.specs.WindowsWords.{FitsClient, FitsOn, ForwardsWere, HasFittingWords, IsRefused, WordFits}
 use Rattle.lard_laws.proofs.WindowsLatest.{forward-fits}
-use Rattle.lard_endpoint.specs.Control.{ControlBlock}
-use Rattle.lard_rules.specs.Front.{front_rest}
 use Rattle.lard_law_settles.proofs.KnownSegments.{acks-most, read-is}
 use Rattle.lard_law_settles.proofs.KnownTalking.{taken-is}
 use Rattle.lard_law_settles.proofs.KnownForwarded.{Refuses, forwarded, taken-small}
-use Rattle.lard_handoff_front.specs.declared.row.FrontConn.{FrontConn}
 use Rattle.lard_handoff_front.specs.declared.row.FrontConn.TheVariants as stage
-use Rattle.lard_handoff_front.specs.declared.row.FrontRow.{FrontRow}
-use Rattle.lard_history.specs.Own.{Has, Letter}
 use Rattle.lard_history.proofs.Each.{Each}
 use Rattle.lard_law_view.specs.Agreement as agreement
-use Rattle.lard_law_view.specs.Truthful.{Talk}
 use Rattle.lard_law_view.proofs.Acked.{Acks, WordMay, taken_by}
 use Rattle.lard_message.specs.declared.message.Body.TheVariants as body
-use Rattle.lard_rules.specs.Node.{NodePart}
 use Rattle.lard_law_progress.proofs.AnswersFrontGiven.{IsWord, WasAwaited}
 use Rattle.lard_law_progress.proofs.AnswersFrontSpots.{away-cases, seat-row}
 use Rattle.lard_law_progress.proofs.AnswersNodeGiven.{HasIt, IsForwarded}
 use Rattle.lard_law_progress.proofs.Data.{heard}
-use Rattle.lard_request.specs.declared.verdict.Verdict.{Verdict}
-use Rattle.lard_rules.specs.declared.places.Station.{Station}
-use Rattle.lard_segment.specs.declared.segment.Dir.TheVariants.{ToCluster}
-use Rattle.lard_segment.specs.Segment.{Said, decoded, spelled}
 use Rattle.lard_segment.proofs.Written.{length-spelled, length-spelled-most}
-use Rattle.lard_seq.specs.Seq.{seq_add}
 
 -- a packet to a client is of the front end or of a node
 between : (c : ℕ) (ls : List Letter) (l : Letter) → Has l ls → AreBetween c ls → GoesBetween c l.from l.to l.bytes

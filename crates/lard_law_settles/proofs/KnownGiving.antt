@@ -2,12 +2,9 @@
 use Rattle.std.specs.Int.{from_be_bytes, to_be_bytes, w32}
 use Rattle.std.proofs.lemmas.Nat.{from_be_bytes-to_be_bytes_4}
 use Rattle.std.proofs.Common.{drop, take, ◌≡◌, ◌≤◌, ◌<◌, ◌^◌, ℕ, List, [], ◌∷◌, Some, Ok, ⊎_elim, refl, sym, ap, ◌∙◌, subst, arith}
-use Rattle.lard_answers.specs.Answers.{FilesAt}
-use Rattle.lard_base.specs.declared.parts.EndpointParts.{EndpointParts}
-use Rattle.lard_base.specs.declared.place.Place.TheVariants.{Front, Node}
+use Rattle.lard_law_view.specs.Prelude.{BackRow, Conn, EndpointParts, FilesAt, Front, FrontRow, IsConnNumber, IsStream, Kept, Node, SpellsMessage, Station, Stream, Talk, Verdict, Was, decoded_message, front_rest, offer_answer, parts_of, spelled_message, tale_at}
 use Rattle.lard_base.specs.declared.place.TimerKind.TheVariants as kind
 use Rattle.lard_bound.specs.Units.{Whole, whole_of}
-use Rattle.lard_rules.specs.Bounds.{IsConnNumber}
 use Rattle.lard_laws.specs.Acks.{OpenActs}
 use Rattle.lard_law_connections.specs.BytesAgreement.{AwayAgrees, FrontTells, IsFair, IsKept, IsOffering, IsOpen, NodeAgrees, SeatAgrees, StageAgrees}
 use Rattle.lard_law_connections.proofs.BytesMessages.{offers-read}
@@ -17,28 +14,15 @@ use Rattle.lard_law_connections.specs.Places.{IsDecided, IsPast, Sits, StageSits
 use Rattle.lard_law_connections.proofs.PlacesFrontMessages.{came-says}
 use Rattle.lard_law_connections.proofs.PlacesFrontRules.{has-each}
 use Rattle.lard_law_connections.proofs.PlacesTurns.{IsPlaced, early-at}
-use Rattle.lard_law_view.specs.Carry.{tale_at}
-use Rattle.lard_law_view.specs.View.{Conn, SpellsMessage, Was}
-use Rattle.lard_endpoint.specs.Moving.{parts_of}
-use Rattle.lard_rules.specs.Front.{message, front_rest}
-use Rattle.lard_handoff_back.specs.Back.{offer_answer}
-use Rattle.lard_handoff_back.specs.declared.row.BackRow.{BackRow}
+use Rattle.lard_rules.specs.Front.{message}
 use Rattle.lard_handoff_back.specs.declared.table.Adopt.TheVariants.{New}
 use Rattle.lard_handoff_front.specs.declared.row.FrontConn.TheVariants as stage
-use Rattle.lard_handoff_front.specs.declared.row.FrontRow.{FrontRow}
 use Rattle.lard_law_settles.proofs.KnownCounting.{client-said, client-took, frozen-knows}
 use Rattle.lard_law_settles.proofs.KnownKnowing.{IsPlacing, seat-knows}
 use Rattle.lard_law_settles.proofs.KnownSitting.{IsOfferedAt, new-undecided, said-offered, sits-at, sits-fresh, sits-gone}
 use Rattle.lard_law_settles.proofs.KnownSmall.{IsSmall, RowSmall, StageSmall}
-use Rattle.lard_law_view.specs.Truthful.{Talk}
 use Rattle.lard_message.specs.declared.message.Body.TheVariants as body
-use Rattle.lard_message.specs.Message.{spelled_message}
-use Rattle.lard_message.specs.Reading.{decoded_message}
 use Rattle.lard_law_progress.proofs.Given.{IsNewOffer, Known}
-use Rattle.lard_request.specs.declared.verdict.Verdict.{Verdict}
-use Rattle.lard_resend.specs.declared.kept.Kept.{Kept}
-use Rattle.lard_rules.specs.declared.places.Station.{Station}
-use Rattle.lard_law_view.specs.Truth.{IsStream, Stream}
 
 -- What the law of what is kept, and the laws of ways, give beside: where the front end placed it, there is a request; a node to which an
 -- Offer comes new keeps nothing of the connection; only nodes that are there have rows.

@@ -1,7 +1,7 @@
 -- What is known of a connection between two steps of a settle's rounds, from the laws of every run.
 use Rattle.std.proofs.Common.{◌≡◌, ◌⊎◌, ◌≤◌, ◌+◌, ◌==◌, ℕ, Bool, true, false, cond, List, [], length, Option, Some, None, inl, inr, ⊎_elim, refl, sym, ◌∙◌, subst, arith}
 use Rattle.std.proofs.lemmas.Bool.{both_ways, cond-true, cond_both, eq-eqb}
-use Rattle.lard_answers.specs.Answers.{FilesAt}
+use Rattle.lard_law_view.specs.Prelude.{BackConn, BackRow, Conn, ControlBlock, FilesAt, FrontConn, FrontRow, NodePart, Station, Stay, Talk, Verdict, front_rest, tale_at}
 use Rattle.lard_bound.specs.Seats.{Here, Offered, SeatNow, seat_away, seat_decided, seat_in, seat_of, seat_there, stay_of, staying_of}
 use Rattle.lard_bound.specs.Units.{Whole, symbols_taken, whole_of}
 use Rattle.lard_client.specs.declared.phase.Phase.TheVariants as phase
@@ -10,26 +10,13 @@ use Rattle.lard_laws.proofs.AcksStory.{reset-told}
 use Rattle.lard_law_connections.specs.BytesAgreement.{AwayAgrees, BackAgrees, IsOffering, IsOpen, NodeAgrees, RowAgrees, SeatAgrees, StageAgrees, StayAgrees}
 use Rattle.lard_law_connections.specs.LimitsCounts.{BackCounts, BackStageCounts, FrontCounts, FrontStageCounts, CountsWhatWasServed, served_by_tale}
 use Rattle.lard_law_connections.specs.Places.{IsDecided, IsLeft, IsPast}
-use Rattle.lard_law_view.specs.Carry.{tale_at}
-use Rattle.lard_law_view.specs.View.{Conn}
-use Rattle.lard_endpoint.specs.Control.{ControlBlock}
-use Rattle.lard_rules.specs.Front.{front_rest}
-use Rattle.lard_handoff_back.specs.declared.row.BackConn.{BackConn}
 use Rattle.lard_handoff_back.specs.declared.row.BackConn.TheVariants as back
-use Rattle.lard_handoff_back.specs.declared.row.BackRow.{BackRow}
-use Rattle.lard_handoff_front.specs.declared.row.FrontConn.{FrontConn}
 use Rattle.lard_handoff_front.specs.declared.row.FrontConn.TheVariants as stage
-use Rattle.lard_handoff_front.specs.declared.row.FrontRow.{FrontRow}
 use Rattle.lard_law_settles.proofs.KnownCounting.{read-most, stay-most, taken-same}
-use Rattle.lard_law_view.specs.Truthful.{Talk}
 use Rattle.lard_law_view.proofs.Acked.{taken_by}
-use Rattle.lard_rules.specs.declared.stay.Stay.{Stay}
-use Rattle.lard_rules.specs.Node.{NodePart}
 use Rattle.lard_law_progress.proofs.Given.{SeatKnown}
 use Rattle.lard_law_progress.proofs.Placing.{freeze-open}
 use Rattle.lard_law_progress.proofs.Seating.{seat-at, seat-none}
-use Rattle.lard_request.specs.declared.verdict.Verdict.{Verdict}
-use Rattle.lard_rules.specs.declared.places.Station.{Station}
 
 -- the front end placed it: it waits, or goes to a node, or is there
 abbrev pub IsPlacing : FrontConn → Type 0

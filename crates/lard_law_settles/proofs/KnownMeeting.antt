@@ -1,26 +1,15 @@
 -- While an open client is not established, the front end alone has its connection, and only its SYN is acknowledged to it.
 use Rattle.std.proofs.Common.{◌≡◌, ℕ, true, List, Option, Some, None, Ok, sym, ap, ◌∙◌, subst}
-use Rattle.lard_base.specs.declared.place.Place.{Place}
-use Rattle.lard_base.specs.declared.place.Place.TheVariants.{Client, Front, Node}
+use Rattle.lard_law_view.specs.Prelude.{BackRow, Client, Conn, ControlBlock, Final, Front, Letter, Node, Place, Said, Station, ToClient, Was, decoded, is_open_in, seq_offset}
 use Rattle.lard_bound.specs.Seats.{Over, seat_of}
-use Rattle.lard_client.specs.Control.{is_open_in}
 use Rattle.lard_client.specs.declared.phase.Phase.TheVariants.{Open}
 use Rattle.lard_law_connections.proofs.PlacesFrontRules.{has-each}
-use Rattle.lard_law_view.specs.View.{Conn, Was}
 use Rattle.lard_laws.specs.WindowsEarly.{EarlyOn, IsEarly, LetterIsEarly, RowIsFresh, StageIsFresh, StaysEarly, StaysEarlyOn}
-use Rattle.lard_endpoint.specs.Control.{ControlBlock}
-use Rattle.lard_endpoint.specs.declared.control.moving.Final.{Final}
 use Rattle.lard_law_settles.proofs.KnownClientSide.{IsMet}
 use Rattle.lard_law_settles.proofs.KnownSeating.{SeatHas, seat-has}
 use Rattle.lard_handoff_back.specs.declared.row.BackConn.TheVariants as back
-use Rattle.lard_handoff_back.specs.declared.row.BackRow.{BackRow}
-use Rattle.lard_history.specs.Own.{Letter}
 use Rattle.lard_law_progress.proofs.AnswersClientGiven.{IsCluster}
 use Rattle.lard_law_progress.proofs.AnswersNodeGiven.{HasIt}
-use Rattle.lard_rules.specs.declared.places.Station.{Station}
-use Rattle.lard_segment.specs.declared.segment.Dir.TheVariants.{ToClient}
-use Rattle.lard_segment.specs.Segment.{Said, decoded}
-use Rattle.lard_seq.specs.Seq.{seq_offset}
 
 module _ (x : Conn) (st : Station) (at : x.part.station ≡ Some st) (stays : StaysEarly x) (open_ : st.client.phase ≡ Open) (una : st.client.send.una ≡ 0) where
   early : IsEarly x st

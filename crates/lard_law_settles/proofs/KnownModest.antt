@@ -1,32 +1,19 @@
 -- How much is left to do on a connection is bounded: who tells an end, and what a node keeps of a stay.
 use Rattle.std.proofs.Common.{◌≡◌, ◌≤◌, ◌+◌, ◌*◌, ◌==◌, ℕ, zero, suc, Bool, true, false, cond, List, [], ◌∷◌, length, is_some, Option, Some, None, ⊎_elim, refl, sym, ap, ◌∙◌, subst, arith}
 use Rattle.std.proofs.lemmas.Bool.{both_ways, cases_eq, cond_both, eq-eqb}
-use Rattle.lard_answers.specs.Answers.{FilesAt}
-use Rattle.lard_base.specs.declared.ids.Epoch.{Epoch}
+use Rattle.lard_law_view.specs.Prelude.{BackConn, BackRow, Conn, Entry, Epoch, FilesAt, FrontConn, FrontRow, Kept, NodePart, Progress, Station, Stay, front_rest}
 use Rattle.lard_bound.specs.Seats.{Offered, SeatNow, seat_decided, seat_in, seat_of, seat_there, stay_of, telling, tells_end}
 use Rattle.lard_bound.specs.Units.{Whole, batch_left, progress_left, tellers}
 use Rattle.lard_laws.specs.Homes.{HasOneHome, KnowsOf, NoneKnows, NoOtherKnows, RowHomes, StageHomes, WasAt}
 use Rattle.lard_law_connections.specs.Kept.{AsksFor, HereKeeps, IsKeptByStage, NodeRowKeeps, NodeStageKeeps, contents_awaited, awaits_content}
-use Rattle.lard_law_view.specs.View.{Conn}
-use Rattle.lard_rules.specs.Front.{front_rest}
-use Rattle.lard_handoff_back.specs.declared.row.BackConn.{BackConn}
 use Rattle.lard_handoff_back.specs.declared.row.BackConn.TheVariants as back
-use Rattle.lard_handoff_back.specs.declared.row.BackRow.{BackRow}
-use Rattle.lard_handoff_front.specs.declared.row.FrontConn.{FrontConn}
 use Rattle.lard_handoff_front.specs.declared.row.FrontConn.TheVariants as stage
-use Rattle.lard_handoff_front.specs.declared.row.FrontRow.{FrontRow}
 use Rattle.lard_law_settles.proofs.KnownKnowing.{IsPlacing}
-use Rattle.lard_rules.specs.declared.stay.Entry.{Entry}
-use Rattle.lard_rules.specs.declared.stay.Progress.{Progress}
 use Rattle.lard_rules.specs.declared.stay.Progress.TheVariants as progress
-use Rattle.lard_rules.specs.declared.stay.Stay.{Stay}
-use Rattle.lard_rules.specs.Node.{NodePart}
 use Rattle.lard_law_progress.proofs.Away.{tells}
 use Rattle.lard_law_progress.proofs.Given.{SeatKnown}
 use Rattle.lard_law_progress.proofs.Most.{IsModest, IsModestStay}
 use Rattle.lard_law_progress.proofs.Seating.{seat-at, seat-none}
-use Rattle.lard_resend.specs.declared.kept.Kept.{Kept}
-use Rattle.lard_rules.specs.declared.places.Station.{Station}
 
 -- ---- who tells an end
 

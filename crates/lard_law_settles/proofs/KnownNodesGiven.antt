@@ -3,16 +3,9 @@
 use Rattle.std.proofs.Common.{◌≡◌, ◌≤◌, ◌==◌, ◌&&◌, nat_eq, nat_lt, ℕ, Bool, true, false, cond, List, [], ◌∷◌, length, Option, Some, None, Ok, refl, sym, ap, ◌∙◌, subst, arith}
 use Rattle.std.specs.Prelude.{All}
 use Rattle.std.proofs.lemmas.Bool.{both_ways, cond_both, eq-eqb, le-ltb, ne_eqb, and_from, or_from}
-use Rattle.lard_answers.specs.Answers.{FilesAt, verdicts}
+use Rattle.lard_law_view.specs.Prelude.{AreBytes, BackConn, BackRow, Config, Conn, ControlBlock, Event, FilesAt, Front, FrontConn, FrontRow, Has, IsReached, Letter, MAX_STREAM_BYTES, Machine, Node, NodePart, Packet, Passes, Said, Setting, SpellsMessage, Station, Stay, ToCluster, Verdict, Was, config_check, conn, conn_of, decoded, file_at, front_rest, is_no_node, is_row_at, is_with, letter_of, letters, letters_in, machine_start, one_of, setting, tale_at, verdicts}
 use Rattle.lard_answers.proofs.Growing.{verdicts-nothing}
-use Rattle.lard_base.specs.Config.{config_check}
-use Rattle.lard_base.specs.declared.config.Config.{Config}
-use Rattle.lard_base.specs.declared.event.Event.{Event}
-use Rattle.lard_base.specs.declared.limits.TheConstants.{MAX_STREAM_BYTES}
-use Rattle.lard_base.specs.declared.place.Place.TheVariants.{Front, Node}
 use Rattle.lard_bound.specs.Seats.{Gone, Held, Here, Offered, Over, SeatNow, Unborn, Waiting, seat_away, seat_decided, seat_in, seat_of, seat_there, staying_of}
-use Rattle.lard_rules.specs.declared.machine.Machine.{Machine}
-use Rattle.lard_rules.specs.Machine.{IsReached, Passes, is_no_node, machine_start}
 use Rattle.lard_laws.specs.BackingRequests.{IsFor}
 use Rattle.lard_laws.specs.BackingState.{LetterFor, SaysFor}
 use Rattle.lard_laws.proofs.BackingRules.{each-backed}
@@ -31,39 +24,21 @@ use Rattle.lard_laws.specs.Records.{IsRunFile, IsScheduled}
 use Rattle.lard_laws.proofs.RecordsHolding.{IsPacket}
 use Rattle.lard_laws.proofs.RecordsReached.{run-holds}
 use Rattle.lard_laws.proofs.TagsGoing.{each-with}
-use Rattle.lard_law_view.specs.Carry.{setting, tale_at}
-use Rattle.lard_law_view.specs.View.{Conn, Setting, SpellsMessage, Was, conn}
 use Rattle.lard_laws.specs.WaysState.{marks_at}
-use Rattle.lard_endpoint.specs.Control.{ControlBlock}
-use Rattle.lard_files.specs.Files.{file_at}
 use Rattle.lard_files.specs.Files as files_of
 use Rattle.lard_files.proofs.Lookups.{file-kept}
-use Rattle.lard_rules.specs.Front.{is_row_at, is_with, front_rest}
-use Rattle.lard_handoff_back.specs.declared.row.BackConn.{BackConn}
 use Rattle.lard_handoff_back.specs.declared.row.BackConn.TheVariants as back
-use Rattle.lard_handoff_back.specs.declared.row.BackRow.{BackRow}
-use Rattle.lard_handoff_front.specs.declared.row.FrontConn.{FrontConn}
 use Rattle.lard_handoff_front.specs.declared.row.FrontConn.TheVariants as stage
-use Rattle.lard_handoff_front.specs.declared.row.FrontRow.{FrontRow}
-use Rattle.lard_history.specs.Own.{Has, Letter, conn_of, letter_of, letters, letters_in, one_of}
 use Rattle.lard_history.proofs.Each.{Each, Each-append, Each-weaker}
 use Rattle.lard_law_settles.proofs.KnownAsking.{some-got}
 use Rattle.lard_law_settles.proofs.KnownRuns.{each-known, node-there, view, written_on}
 use Rattle.lard_law_settles.proofs.KnownSitting.{said-offered, sits-at}
 use Rattle.lard_law_view.proofs.ByteLists.{all-each, bytes-index, each-all}
-use Rattle.lard_message.specs.Laws.{AreBytes}
 use Rattle.lard_message.specs.declared.message.Body.TheVariants as body
-use Rattle.lard_net.specs.Net.{Packet}
-use Rattle.lard_rules.specs.declared.stay.Stay.{Stay}
-use Rattle.lard_rules.specs.Node.{NodePart}
 use Rattle.lard_law_progress.proofs.AnswersFrontGiven.{IsTalking}
 use Rattle.lard_law_progress.proofs.AnswersNodeGiven.{HasIt, IsForwarded, NodeGiven}
 use Rattle.lard_law_progress.proofs.Given.{SeatKnown}
 use Rattle.lard_law_progress.proofs.Seating.{seat-at, seat-none}
-use Rattle.lard_request.specs.declared.verdict.Verdict.{Verdict}
-use Rattle.lard_rules.specs.declared.places.Station.{Station}
-use Rattle.lard_segment.specs.declared.segment.Dir.TheVariants.{ToCluster}
-use Rattle.lard_segment.specs.Segment.{Said, decoded}
 
 -- ---- packets are bytes
 

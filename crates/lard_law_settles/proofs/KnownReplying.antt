@@ -1,31 +1,18 @@
 -- What a segment of the cluster says that comes to the client, by the laws of bytes and of acknowledgements.
 use Rattle.std.proofs.Common.{◌≡◌, ◌<◌, ◌≤◌, ◌^◌, ◌==◌, ℕ, true, false, List, length, Ok, ap, subst, arith}
-use Rattle.lard_answers.specs.Answers.{FilesAt}
-use Rattle.lard_base.specs.declared.place.Place.{Place}
-use Rattle.lard_base.specs.declared.place.Place.TheVariants.{Client, Front, Node}
+use Rattle.lard_law_view.specs.Prelude.{Client, Conn, FilesAt, Front, IsStream, Letter, Node, Place, Said, Station, Talk, ToClient, Verdict, Was, decoded, one_if, seq_offset, spelled, symbols}
 use Rattle.lard_bound.specs.Seats.{SeatNow, seat_of}
 use Rattle.lard_bound.specs.Units.{symbols_taken}
 use Rattle.lard_client.specs.declared.phase.Phase.TheVariants.{Open}
 use Rattle.lard_laws.specs.Acks.{LetterActs, OpenActs, ReplyActs, bounds_of}
 use Rattle.lard_law_connections.specs.BytesAgreement.{IsFair, IsOpen}
 use Rattle.lard_law_connections.proofs.PlacesFrontRules.{has-each}
-use Rattle.lard_law_view.specs.View.{Conn, Was}
 use Rattle.lard_law_settles.proofs.KnownSegments.{acks-most, bytes-within, read-is, symbols-within}
 use Rattle.lard_law_settles.proofs.KnownForwarded.{Refuses}
-use Rattle.lard_history.specs.Own.{Letter}
 use Rattle.lard_law_view.specs.Agreement as agreement
-use Rattle.lard_law_view.specs.Truthful.{Talk}
 use Rattle.lard_law_view.proofs.Acked.{ReplyMay}
-use Rattle.lard_law_progress.proofs.AnswersClientGiven.{IsReply, Matters}
+use Rattle.lard_law_progress.proofs.AnswersClientGiven.{IsReply, Matters, IsCluster}
 use Rattle.lard_law_progress.proofs.AnswersClientHears.{took-taken}
-use Rattle.lard_law_progress.proofs.AnswersClientGiven.{IsCluster}
-use Rattle.lard_request.specs.declared.verdict.Verdict.{Verdict}
-use Rattle.lard_rules.specs.declared.places.Station.{Station}
-use Rattle.lard_segment.specs.declared.segment.Dir.TheVariants.{ToClient}
-use Rattle.lard_segment.specs.Segment.{Said, decoded, spelled}
-use Rattle.lard_send.specs.Send.{symbols}
-use Rattle.lard_seq.specs.Seq.{one_if, seq_offset}
-use Rattle.lard_law_view.specs.Truth.{IsStream}
 
 -- Beside the two laws: no more of the client's was taken than it has, all of which it sent once it is established; only one that is
 -- established took the FIN; before that its SYN is what is acknowledged; and a refusal has the number of what was acknowledged.

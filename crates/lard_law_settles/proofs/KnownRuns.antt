@@ -1,13 +1,9 @@
 -- In every state that events lead to, all that is known of a connection that the schedule did not touch is so.
 use Rattle.std.proofs.Common.{◌≡◌, ◌≤◌, ℕ, zero, suc, false, List, [], ◌∷◌, length, Option, Some, None, ⊎_elim, refl, sym, ap, ◌∙◌, subst, arith}
 use Rattle.std.specs.Prelude.{slice_get}
-use Rattle.lard_base.specs.declared.config.Config.{Config}
-use Rattle.lard_base.specs.declared.limits.TheConstants.{MAX_STREAM_BYTES}
+use Rattle.lard_law_view.specs.Prelude.{BackRow, Config, Conn, IsConnNumber, IsConnSound, IsReached, IsViewed, MAX_STREAM_BYTES, Machine, NodeState, Station, blank_conn, conn, file_at, kept_at, node_at, part_of, tale_at}
 use Rattle.lard_bound.specs.Seats.{seat_of}
 use Rattle.lard_bound.specs.Units.{Whole, tellers, whole_of}
-use Rattle.lard_rules.specs.declared.machine.Machine.{Machine}
-use Rattle.lard_rules.specs.Bounds.{IsConnNumber}
-use Rattle.lard_rules.specs.Machine.{IsReached, node_at}
 pub use Rattle.lard_laws.specs.Acks.{OpenActs, StationActs, story_at}
 pub use Rattle.lard_laws.proofs.AcksRuns.{connections-ack}
 use Rattle.lard_law_connections.specs.BytesAgreement.{ConnAgrees, IsOpen}
@@ -17,20 +13,14 @@ use Rattle.lard_law_connections.specs.KeptLaws.{AnyNode}
 use Rattle.lard_law_connections.proofs.KeptRuns.{connections-are-kept}
 use Rattle.lard_law_connections.proofs.LimitsRuns.{connections-counted}
 use Rattle.lard_law_connections.proofs.PlacesRuns.{each-placed}
-use Rattle.lard_law_view.specs.Carry.{tale_at}
-use Rattle.lard_law_view.specs.View.{Conn, IsConnSound, IsViewed, blank_conn, conn, kept_at, part_of}
 use Rattle.lard_laws.proofs.WaysRuns.{each-guarded}
 use Rattle.lard_law_view.proofs.Carried.{reached-viewed}
-use Rattle.lard_files.specs.Files.{file_at}
-use Rattle.lard_handoff_back.specs.declared.row.BackRow.{BackRow}
 use Rattle.lard_law_settles.proofs.KnownAsking.{new-idle, placing-asks}
 use Rattle.lard_law_settles.proofs.KnownGiving.{known}
 use Rattle.lard_law_settles.proofs.KnownModest.{modest}
 use Rattle.lard_law_settles.proofs.KnownSmall.{each-small}
-use Rattle.lard_rules.specs.declared.node.NodeState.{NodeState}
 use Rattle.lard_law_progress.proofs.Given.{Known}
 use Rattle.lard_law_progress.proofs.Most.{IsModest}
-use Rattle.lard_rules.specs.declared.places.Station.{Station}
 
 -- ---- only nodes that are there keep something
 

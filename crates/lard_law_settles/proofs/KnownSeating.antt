@@ -1,7 +1,7 @@
 -- Wherever its endpoint is, it talks with the client: by the laws of every run, of a connection whose client wrote little.
 use Rattle.std.proofs.Common.{◌≡◌, ◌≤◌, ◌==◌, ℕ, Bool, true, false, List, [], length, Option, Some, None, ⊎_elim, refl, sym, ◌∙◌, subst}
 use Rattle.std.proofs.lemmas.Bool.{both_ways, cond_both, eqb-true}
-use Rattle.lard_answers.specs.Answers.{FilesAt}
+use Rattle.lard_law_view.specs.Prelude.{BackConn, BackRow, Conn, ControlBlock, FilesAt, FrontConn, FrontRow, Part, Station, Stay, Talk, front_rest, may_freeze, tale_at}
 use Rattle.lard_bound.specs.Seats.{Held, Here, Offered, Over, SeatNow, Waiting, seat_away, seat_decided, seat_in, seat_of, seat_there}
 use Rattle.lard_bound.specs.Units.{Whole}
 use Rattle.lard_laws.specs.Acks.{AcksWhatWasTaken, BackActs, EndActs, FrontActs, FrontStageActs, OpenActs, StationActs, bounds_of}
@@ -11,30 +11,18 @@ use Rattle.lard_law_connections.specs.LimitsCounts.{BackCounts, FrontCounts, Fro
 use Rattle.lard_law_connections.specs.Places.{IsDecided, IsPast}
 use Rattle.lard_law_connections.specs.SilencePlaces.{BackHas, FrontHas, FrontStageHas, HereHas}
 use Rattle.lard_law_connections.specs.Silence.{AllHaveSpoken, HasSpoken}
-use Rattle.lard_law_view.specs.Carry.{tale_at}
-use Rattle.lard_law_view.specs.View.{Conn, Part}
 use Rattle.lard_laws.specs.WindowsRefusals.{RefusesSegments}
 use Rattle.lard_laws.specs.Windows.{AnyBlock, EndSent, IsReaching, ReachesOn, StationReaches}
 use Rattle.lard_laws.specs.WindowsWords.{HasStarted}
-use Rattle.lard_endpoint.specs.Control.{ControlBlock}
-use Rattle.lard_endpoint.specs.Moving.{may_freeze}
-use Rattle.lard_rules.specs.Front.{front_rest}
 use Rattle.lard_law_settles.proofs.KnownTalking.{HasSaid, talks}
-use Rattle.lard_handoff_back.specs.declared.row.BackConn.{BackConn}
 use Rattle.lard_handoff_back.specs.declared.row.BackConn.TheVariants as back
-use Rattle.lard_handoff_back.specs.declared.row.BackRow.{BackRow}
-use Rattle.lard_handoff_front.specs.declared.row.FrontConn.{FrontConn}
 use Rattle.lard_handoff_front.specs.declared.row.FrontConn.TheVariants as stage
-use Rattle.lard_handoff_front.specs.declared.row.FrontRow.{FrontRow}
-use Rattle.lard_law_view.specs.Truthful.{Talk}
-use Rattle.lard_rules.specs.declared.stay.Stay.{Stay}
 use Rattle.lard_law_progress.proofs.AnswersFrontGiven.{AtSeat, IsTalking}
 use Rattle.lard_law_progress.proofs.AnswersFrontSpots.{seat-row}
 use Rattle.lard_law_progress.proofs.AnswersNodeGiven.{HasIt}
 use Rattle.lard_law_progress.proofs.Away.{IsWith}
 use Rattle.lard_law_progress.proofs.Given.{IsAt, Known, SeatKnown}
 use Rattle.lard_rules.specs.declared.places.Ending.TheVariants as ending
-use Rattle.lard_rules.specs.declared.places.Station.{Station}
 
 -- ---- who has it
 

@@ -1,16 +1,10 @@
 -- What a segment of the client, or of the cluster, says: by the laws of bytes and of acknowledgements, whenever it was sent.
 use Rattle.std.proofs.Common.{◌≡◌, ◌<◌, ◌≤◌, ◌+◌, ◌^◌, ℕ, Bool, true, false, cond, List, length, Ok, ⊎_elim, refl, sym, ap, ◌∙◌, arith}
 use Rattle.std.specs.Prelude.{Result}
-use Rattle.lard_arrival.specs.Arrival.{seg_len}
-use Rattle.lard_base.specs.declared.limits.TheConstants.{MAX_STREAM_BYTES}
+use Rattle.lard_law_view.specs.Prelude.{Dir, IsBare, IsSendable, IsStream, IsTrueOf, MAX_STREAM_BYTES, Said, SegFault, Stands, Stream, decoded, one_if, seg_len, seq_offset, spelled}
 use Rattle.lard_law_view.proofs.Acked.{Acks}
-use Rattle.lard_segment.specs.declared.fault.SegFault.{SegFault}
-use Rattle.lard_segment.specs.declared.segment.Dir.{Dir}
-use Rattle.lard_segment.specs.Segment.{IsSendable, Said, decoded, spelled}
 use Rattle.lard_segment.proofs.Again.{again}
-use Rattle.lard_seq.specs.Seq.{one_if, seq_offset}
 use Rattle.lard_seq.proofs.Laws.{offset-add}
-use Rattle.lard_law_view.specs.Truth.{IsBare, IsStream, IsTrueOf, Stands, Stream}
 
 -- what is read of a segment that was spelled is that segment
 pub read-is : (c : ℕ) (dir : Dir) (bytes : List ℕ) (said s : Said) → bytes ≡ spelled c dir said → IsSendable said → decoded bytes c dir ≡ Ok s → said ≡ s

@@ -4,20 +4,10 @@ use Rattle.std.proofs.Common.{◌≡◌, ◌⊎◌, ◌≤◌, ◌<◌, ◌==◌
 use Rattle.std.proofs.lemmas.Bool.{and_parts, cases_eq, cond-true, eqb-true, eq-eqb, ltb-true}
 use Rattle.lard_bound.specs.Seats.{Gone, Offered, seat_away, seat_decided, seat_of, seat_there}
 use Rattle.lard_law_connections.specs.Places.{IsComing, IsDecided, IsLeft, IsOffered, IsOver, IsPast, IsThere, Offers, OthersArePast, Owning, Sits, StageSits}
-use Rattle.lard_law_view.specs.View.{Part}
-use Rattle.lard_endpoint.specs.Control.{ControlBlock}
-use Rattle.lard_rules.specs.Front.{FrontPart, front_rest}
-use Rattle.lard_handoff_back.specs.Back.{offer_answer}
-use Rattle.lard_handoff_back.specs.Row.{is_gone}
-use Rattle.lard_handoff_back.specs.declared.row.BackConn.{BackConn}
+use Rattle.lard_law_view.specs.Prelude.{BackConn, BackRow, ControlBlock, FrontConn, FrontPart, FrontRow, NodePart, Part, front_rest, is_away, is_gone, offer_answer}
 use Rattle.lard_handoff_back.specs.declared.row.BackConn.TheVariants as back
-use Rattle.lard_handoff_back.specs.declared.row.BackRow.{BackRow}
 use Rattle.lard_handoff_back.specs.declared.table.Adopt.TheVariants.{Again, New, Stale}
-use Rattle.lard_handoff_front.specs.Row.{is_away}
-use Rattle.lard_handoff_front.specs.declared.row.FrontConn.{FrontConn}
 use Rattle.lard_handoff_front.specs.declared.row.FrontConn.TheVariants as stage
-use Rattle.lard_handoff_front.specs.declared.row.FrontRow.{FrontRow}
-use Rattle.lard_rules.specs.Node.{NodePart}
 use Rattle.lard_law_progress.proofs.Given.{IsAt, IsFresh, IsGone, IsWithin}
 use Rattle.lard_law_progress.proofs.Seating.{seat-at}
 

@@ -1,51 +1,24 @@
 -- Of a connection that the front end offers to a node, it counts no more responses than a message has room for.
 use Rattle.std.proofs.Common.{◌≡◌, ◌≤◌, ◌<◌, ◌+◌, ◌^◌, nat_lt, ℕ, zero, suc, false, List, [], length, Option, Some, None, Result, Ok, Err, sym, ◌∙◌, subst, arith}
 use Rattle.std.proofs.lemmas.Bool.{cond_both}
-use Rattle.lard_answers.specs.Answers.{FilesAt, answer, good_path}
-use Rattle.lard_base.specs.declared.config.Config.{Config}
-use Rattle.lard_base.specs.declared.limits.TheConstants.{MAX_STREAM_BYTES}
+use Rattle.lard_law_view.specs.Prelude.{Ask, Client, ClientRules, Config, Conn, ControlBlock, Ending, FilesAt, Final, FirstChoice, Found, Front, FrontConn, FrontDeed, FrontEnv, FrontPart, FrontRest, FrontRow, FrontRules, FrontTurn, IsControlBlock, IsUntouchedLaw, MAX_STREAM_BYTES, MayRestOn, Move, Node, NodeRules, OfEach, Reading, Said, Seen, SegFault, ServeEnv, Service, Setting, Station, Step, Talk, ToCluster, Untouched, Verdict, answer, answered, ask_of, block_at, cut_of, decoded, ended_at_fin, event_seen, finishing, front_admitted, front_asked, front_does, front_ended, front_fired, front_gets, front_reads, front_rest, front_rests, front_taken, front_timer, good_path, grown, may_freeze, may_read, node_does, on_segment, packet_seen, passed_over, queued, reading_turn, reads_block, reads_found, runs_on, serving_consumed, serving_settled, setting, spoken, tale_at}
 use Rattle.lard_base.specs.declared.event.Event.TheVariants as event
-use Rattle.lard_base.specs.declared.place.Place.TheVariants.{Client, Front, Node}
 use Rattle.lard_base.specs.declared.place.Via.TheVariants.{Own}
-use Rattle.lard_block.specs.Blocks.{cut_of}
-use Rattle.lard_block.specs.declared.block.Found.{Found}
 use Rattle.lard_block.specs.declared.block.Found.TheVariants.{Block, More, TooLong}
 use Rattle.lard_law_connections.specs.BytesAgreement.{ConnAgrees, FrontHolds, IsTruthful, SeatAgrees, StageAgrees}
 use Rattle.lard_law_connections.proofs.BytesRuns.{states-truthful}
-use Rattle.lard_law_view.specs.Carry.{IsUntouchedLaw, MayRestOn, OfEach, Untouched, setting, tale_at}
-use Rattle.lard_law_view.specs.View.{ClientRules, Conn, FrontRules, Move, NodeRules, Setting, front_does, grown, node_does, packet_seen, event_seen}
 use Rattle.lard_law_view.proofs.Carried.{carried}
-use Rattle.lard_law_view.proofs.Guarded.{untouched-law}
-use Rattle.lard_dispatch.specs.declared.dispatch.Ask.{Ask}
-use Rattle.lard_endpoint.specs.Arriving.{on_segment}
-use Rattle.lard_endpoint.specs.Control.{ControlBlock, IsControlBlock, finishing}
+use Rattle.lard_law_view.proofs.EachNode.{each-node}
+use Rattle.lard_law_view.proofs.Frames.{Owed, clients-leave}
+use Rattle.lard_law_view.proofs.Guarded.{client-weaker, untouched-law}
 use Rattle.lard_endpoint.proofs.Sound.{on_segment-sound}
-use Rattle.lard_endpoint.specs.Moving.{may_freeze}
-use Rattle.lard_endpoint.specs.declared.control.moving.Final.{Final}
-use Rattle.lard_rules.specs.declared.front.FrontRest.{FrontRest}
-use Rattle.lard_rules.specs.declared.front.FrontTurn.{FrontTurn}
-use Rattle.lard_rules.specs.Front.{FrontDeed, Does, Drops, FrontEnv, FrontPart, Says, ask_of, front_admitted, front_asked, front_ended, front_gets, front_taken, front_timer, front_rest, front_rests, front_fired}
-use Rattle.lard_rules.specs.FrontReading.{Reading, block_at, front_reads, reads_block, reads_found, reading_turn}
-use Rattle.lard_handoff_front.specs.declared.row.FrontConn.{FrontConn}
+use Rattle.lard_rules.specs.Front.{Does, Drops, Says}
 use Rattle.lard_handoff_front.specs.declared.row.FrontConn.TheVariants as stage
-use Rattle.lard_handoff_front.specs.declared.row.FrontRow.{FrontRow}
-use Rattle.lard_history.specs.Own.{Seen}
-use Rattle.lard_law_view.specs.Truthful.{Talk}
 use Rattle.lard_rules.specs.Node as node
-use Rattle.lard_rules.specs.Node.{node_acknowledged, node_content, node_forwarded, node_offered, node_read, node_tagged, node_timer}
-use Rattle.lard_policy.specs.declared.first.FirstChoice.{FirstChoice}
 use Rattle.lard_request.specs.declared.verdict.Code.TheVariants as code
-use Rattle.lard_request.specs.declared.verdict.Verdict.{Verdict}
 use Rattle.lard_request.specs.declared.verdict.Verdict.TheVariants.{Fault}
-use Rattle.lard_rules.specs.declared.places.Ending.{Ending}
 use Rattle.lard_rules.specs.declared.places.Ending.TheVariants as ending
-use Rattle.lard_rules.specs.declared.places.Station.{Station}
-use Rattle.lard_rules.specs.Loop.{Step, runs_on}
 use Rattle.lard_rules.specs.Loop as loop
-use Rattle.lard_rules.specs.Serving.{ServeEnv, Service, answered, serving_consumed, ended_at_fin, may_read, passed_over, queued, serving_settled, spoken}
-use Rattle.lard_segment.specs.declared.fault.SegFault.{SegFault}
-use Rattle.lard_segment.specs.declared.segment.Dir.TheVariants.{ToCluster}
-use Rattle.lard_segment.specs.Segment.{Said, decoded}
 use Rattle.lard_rules.proofs.FrontCases.{KeptBySegment, IsInStage, begun_row, begun_service, heard_reading, heard_service, waiting_service, segment-keeps, timer-keeps, taken-keeps, asked-keeps, ended-keeps, admitted-keeps}
 
 -- ---- reading answers one request in a turn at the most
@@ -232,17 +205,8 @@ module _ (k : Setting) where
   few-of x m free = truth-few k.files x (m.given free)
 
   clients : ClientRules k Wanted
-  clients = record {
-    opens = λ x isn iss wnd mss rule none m free h. h;
-    gets = λ x s path at le m free h. h;
-    writes = λ x s bytes at le m free h. h;
-    shuts = λ x s at m free h. h;
-    aborts = λ x s at m free h. h;
-    holds = λ x s at m free h. h;
-    takes = λ x s at m free h. h;
-    fires = λ x s at m free h. h;
-    hears = λ x s from bytes at was m free h. h;
-  }
+  clients = client-weaker k (Owed Wanted) Wanted (λ x v owed m. owed m.number m.sound m)
+      (clients-leave k Wanted (λ x v at own number sound m free h. subst IsSmall (sym at.keeps.0) h))
 
   fronts : FrontRules k Wanted
   fronts = record {
@@ -259,18 +223,10 @@ module _ (k : Setting) where
   }
 
   nodes : NodeRules k Wanted
-  nodes = record {
-    offered = λ x n epoch env parts bytes is spells was m free h. node-deed x n (packet_seen Front (Node n) bytes) (node_offered env (x.part.nodes n) parts) h;
-    forwarded = λ x n epoch env segment bytes is spells was m free h. node-deed x n (packet_seen Front (Node n) bytes) (node_forwarded env (x.part.nodes n) (decoded segment x.c ToCluster)) h;
-    tagged = λ x n epoch number tags env bytes is spells was m free h. node-deed x n (packet_seen Front (Node n) bytes) (node_tagged env (x.part.nodes n) number tags) h;
-    content = λ x n from epoch r env file bytes is spells was m free h. node-deed x n (packet_seen (Node from) (Node n) bytes) (node_content env (x.part.nodes n) from r) h;
-    acknowledged = λ x n epoch env bytes is spells was m free h. node-deed x n (packet_seen Front (Node n) bytes) (node_acknowledged env (x.part.nodes n)) h;
-    read = λ x n epoch r env path is m free h. node-deed x n [] (node_read env (x.part.nodes n) r) h;
-    fires = λ x s n env there is m free h. node-deed x n (event_seen (event.Timer (Node n) x.c)) (node_timer env (x.part.nodes n)) h;
-    answers = λ x n from epoch r path file bytes is spells was m free h. h;
-    queues = λ x n from epoch r path file bytes is spells was m free h. h;
-    brings = λ x n from epoch r path m free h. h;
-  }
+  nodes = each-node k Wanted (record {
+    does = λ x n epoch env heads g is in_its comes m free h. node-deed x n heads (node.node_rule env (x.part.nodes n) g) h;
+    aside = λ x n a allowed m free h. h;
+  })
 
   small-law : IsUntouchedLaw k Given (λ x. IsSmall x.part.front)
   small-law = record { begins = λ c. tt; moves = record { client = clients; front = fronts; node = nodes; ignores = λ x from to bytes h m free small. small } }

@@ -2,29 +2,17 @@
 use Rattle.std.proofs.Common.{◌≡◌, ◌==◌, ℕ, Bool, true, false, is_some, Option, Some, None, refl, sym, ap, ◌∙◌, subst}
 use Rattle.std.specs.List.{find}
 use Rattle.std.proofs.lemmas.Bool.{cond_both, eqb-false, eqb-true}
-use Rattle.lard_answers.specs.Answers.{FilesAt}
-use Rattle.lard_base.specs.declared.ids.Epoch.{Epoch}
+use Rattle.lard_law_view.specs.Prelude.{BackConn, BackRow, Conn, ControlBlock, Epoch, FilesAt, Final, FrontConn, FrontRow, NodePart, Part, Stay, front_rest, is_under}
 use Rattle.lard_base.specs.declared.place.TimerKind.TheVariants as kind
 use Rattle.lard_bound.specs.Seats.{Here, Offered, Over, SeatNow, Staying, Unborn, seat_away, seat_decided, seat_in, seat_of, seat_there, stay_of, staying_of, tells_end, telling}
 use Rattle.lard_laws.specs.Homes.{HasOneHome, KnowsOf, RowHomes, StageHomes, WasAt}
 use Rattle.lard_law_connections.specs.Kept.{HereKeeps, NodeRowKeeps}
 use Rattle.lard_law_connections.specs.KeptLaws.{AnyNode}
 use Rattle.lard_laws.proofs.TagsAgree.{Agreed, asks-agree}
-use Rattle.lard_law_view.specs.View.{Conn, Part}
-use Rattle.lard_endpoint.specs.Control.{ControlBlock}
-use Rattle.lard_endpoint.specs.declared.control.moving.Final.{Final}
-use Rattle.lard_rules.specs.Front.{front_rest}
-use Rattle.lard_handoff_back.specs.declared.row.BackConn.{BackConn}
 use Rattle.lard_handoff_back.specs.declared.row.BackConn.TheVariants as back
-use Rattle.lard_handoff_back.specs.declared.row.BackRow.{BackRow}
-use Rattle.lard_handoff_front.specs.declared.row.FrontConn.{FrontConn}
 use Rattle.lard_handoff_front.specs.declared.row.FrontConn.TheVariants as stage
-use Rattle.lard_handoff_front.specs.declared.row.FrontRow.{FrontRow}
-use Rattle.lard_rules.specs.declared.stay.Stay.{Stay}
-use Rattle.lard_rules.specs.Node.{NodePart}
 use Rattle.lard_law_progress.proofs.AnswersFrontGiven.{IsAsked}
 use Rattle.lard_law_progress.proofs.AnswersFrontSpots.{away-cases, seat-row}
-use Rattle.lard_resend.specs.Kept.{is_under}
 
 -- ---- at a node
 

@@ -2,27 +2,15 @@
 -- acknowledged than was taken, and all that the client says is within its window.
 use Rattle.std.proofs.Common.{◌≡◌, ◌<◌, ◌≤◌, ◌+◌, ◌-◌, ◌^◌, ◌==◌, not, min, ℕ, Bool, true, false, cond, List, length, None, refl, sym, ap, ◌∙◌, subst, arith}
 use Rattle.std.proofs.lemmas.Bool.Decides.{nat_tests}
-use Rattle.lard_answers.specs.Answers.{FilesAt}
-use Rattle.lard_base.specs.declared.limits.TheConstants.{MAX_STREAM_BYTES, RECEIVE_WINDOW}
+use Rattle.lard_law_view.specs.Prelude.{ClientBlock, Conn, ControlBlock, FilesAt, MAX_STREAM_BYTES, RECEIVE_WINDOW, Station, Stream, Talk, Verdict, emitted, may_end, one_if, symbols}
 use Rattle.lard_bound.specs.Units.{symbols_taken}
-use Rattle.lard_client.specs.Control.{ClientBlock}
 use Rattle.lard_client.specs.declared.phase.Phase.TheVariants as phase
 use Rattle.lard_laws.specs.Acks.{EndActs, OpenActs, bounds_of}
 use Rattle.lard_law_connections.specs.BytesAgreement.{HoldsItPending, IsOpen}
-use Rattle.lard_law_view.specs.View.{Conn}
-use Rattle.lard_endpoint.specs.Control.{ControlBlock}
-use Rattle.lard_endpoint.specs.Leaving.{emitted}
-use Rattle.lard_endpoint.specs.Moving.{may_end}
-use Rattle.lard_law_view.specs.Truthful.{Talk}
 use Rattle.lard_law_view.proofs.Acked.{heard_by, taken_by}
 use Rattle.lard_law_progress.proofs.AnswersFrontGiven.{IsTalking}
 use Rattle.lard_law_progress.proofs.Data.{heard}
-use Rattle.lard_request.specs.declared.verdict.Verdict.{Verdict}
 use Rattle.lard_rules.specs.declared.places.Ending.TheVariants as ending
-use Rattle.lard_rules.specs.declared.places.Station.{Station}
-use Rattle.lard_send.specs.Send.{symbols}
-use Rattle.lard_seq.specs.Seq.{one_if}
-use Rattle.lard_law_view.specs.Truth.{Stream}
 
 -- how much a client took, as both count it
 pub taken-is : (x : ClientBlock) → symbols_taken x ≡ taken_by x

@@ -7,7 +7,7 @@ use Rattle.lard_agenda.specs.Agenda.{agenda_of, firing, is_stalled, kinds_in, no
 use Rattle.lard_agenda.specs.Kinds.{how_many, is_none}
 use Rattle.lard_agenda.specs.declared.kinds.Kinds.{Kinds}
 use Rattle.lard_agenda.specs.declared.kinds.Running.{Running}
-use Rattle.lard_rules.specs.declared.machine.Machine.{Machine}
+use Rattle.lard_law_view.specs.Prelude.{Machine}
 use Rattle.lard_history.proofs.Each.{Each}
 use Rattle.lard_law_settles.proofs.SettlesFiring.{each-filter, each-map, entries-each}
 use Rattle.lard_settling.specs.Settling.{is_quiet, jobs_left, settle_left}

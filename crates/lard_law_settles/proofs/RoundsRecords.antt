@@ -1,9 +1,8 @@
 -- Journals all of whose settles are closed, and records that begin none.
 use Rattle.std.proofs.Common.{◌≡◌, ◌⊎◌, inl, inr, ℕ, zero, suc, ◌+◌, ◌==◌, Bool, true, false, List, [], ◌∷◌, ◌++◌, length, refl, sym, ap, ◌∙◌, subst, append_assoc, append-nil}
 use Rattle.std.specs.List.{AllByRecursion}
-use Rattle.lard_base.specs.declared.event.Event.{Event}
+use Rattle.lard_law_view.specs.Prelude.{Event, Rec}
 use Rattle.lard_base.specs.declared.event.Event.TheVariants as event
-use Rattle.lard_journal.specs.declared.rec.Rec.{Rec}
 use Rattle.lard_journal.specs.declared.rec.Rec.TheVariants as rec
 use Rattle.lard_law_settles.specs.Rounds.{AreBegun, AreRounds, CompletesInTurn, Fires, IsBegun, IsRound, IsToldInStep, IsWhole, SettlesTakeRounds, SomeCompletes, SomeFire, SomeOfRound, SomeSteps, StandsAt, StandsBehind, InnerSteps}
 use Rattle.lard_law_settles.specs.RoundsToDo.{completions_in}

@@ -6,13 +6,9 @@ use Rattle.std.specs.FinMap.{values}
 use Rattle.std.specs.List.{list_any}
 use Rattle.lard_agenda.specs.Agenda.{agenda_of, firing, kinds_in, stalled_at}
 use Rattle.lard_agenda.specs.declared.kinds.Running.{Running}
-use Rattle.lard_base.specs.Config.{config_check}
-use Rattle.lard_base.specs.declared.config.Config.{Config}
+use Rattle.lard_law_view.specs.Prelude.{Config, Machine, NodeState, Place, Rec, Station, Waiting, client_of, config_check, conn, is_no_node, line_waits, node_at, own, part_of}
 use Rattle.lard_base.specs.declared.event.Event.TheVariants as event
-use Rattle.lard_base.specs.declared.place.Place.{Place}
 use Rattle.lard_base.specs.declared.place.Place.TheVariants as place
-use Rattle.lard_rules.specs.declared.machine.Machine.{Machine}
-use Rattle.lard_rules.specs.Machine.{is_no_node, node_at}
 use Rattle.lard_laws.proofs.ClientsTables.{client_at, clients-folded}
 use Rattle.lard_law_connections.proofs.LineRuns.{line-kept}
 use Rattle.lard_law_connections.specs.Line.{Line, waiting_line, line_step, nobody}
@@ -20,14 +16,6 @@ use Rattle.lard_law_connections.proofs.StoresStored.{jobs-told}
 use Rattle.lard_counts.specs.Stores.{Queue, jobs, jobs_step, no_jobs}
 use Rattle.lard_law_view.proofs.Carried.{reached-viewed}
 use Rattle.lard_law_view.proofs.Nothing.{node-there}
-use Rattle.lard_law_view.specs.View.{conn, part_of}
-use Rattle.lard_dispatch.specs.Line.{line_waits}
-use Rattle.lard_dispatch.specs.declared.line.Waiting.{Waiting}
-use Rattle.lard_history.specs.Own.{own}
-use Rattle.lard_journal.specs.declared.rec.Rec.{Rec}
-use Rattle.lard_law_view.specs.ClientRule.{client_of}
-use Rattle.lard_rules.specs.declared.node.NodeState.{NodeState}
-use Rattle.lard_rules.specs.declared.places.Station.{Station}
 use Rattle.lard_law_settles.proofs.SettlesFew.{config-is}
 use Rattle.lard_law_settles.specs.RoundsToDo.{all_jobs, firing_in, firings_in, holds_in, is_holder_now, is_stalled_at, jobs_in, left_in, seats_of, takes_in}
 use Rattle.lard_settling.proofs.Folds.{TakesSteps, fold-written}

@@ -1,12 +1,7 @@
 -- An event of a schedule is a settle, or does one step.
 use Rattle.std.proofs.Common.{◌≡◌, ◌⊎◌, inl, inr, ℕ, false, [], Option, Some, None, Result, Ok, Err, refl, sym, ap, ◌∙◌}
-use Rattle.lard_base.specs.declared.event.Event.{Event}
+use Rattle.lard_law_view.specs.Prelude.{Event, HasRule, Machine, StepFault, What, limit_reached, machine_step, passed, unless_limit}
 use Rattle.lard_base.specs.declared.event.Event.TheVariants as event
-use Rattle.lard_rules.specs.declared.fault.StepFault.{StepFault}
-use Rattle.lard_rules.specs.declared.machine.Machine.{Machine}
-use Rattle.lard_rules.specs.Bounds.{HasRule}
-use Rattle.lard_rules.specs.Machine.{limit_reached, machine_step, passed, unless_limit}
-use Rattle.lard_rules.specs.declared.fault.What.{What}
 use Rattle.lard_settling.specs.Events.{MayCome, event_step, stepped_from}
 use Rattle.lard_settling.specs.Steps.{settle_begun}
 use Rattle.lard_settling.specs.Written.{is_settle}

@@ -2,13 +2,10 @@
 use Rattle.std.proofs.Common.{◌≡◌, ◌≤◌, ◌*◌, ◌^◌, ℕ, zero, suc, ◌+◌, List, Option, Some, None, refl, sym, ap, ◌∙◌, subst, arith}
 use Rattle.lard_agenda.proofs.Few.{few_timers}
 use Rattle.lard_base.proofs.Usable.{usable}
-use Rattle.lard_base.specs.declared.config.Config.{Config}
-use Rattle.lard_rules.specs.declared.machine.Machine.{Machine}
-use Rattle.lard_rules.specs.Machine.{IsReached, node_at}
+use Rattle.lard_law_view.specs.Prelude.{Config, IsReached, Machine, NodeState, node_at}
 use Rattle.lard_laws.proofs.RecordsShort.{disks-stay}
 use Rattle.lard_law_view.proofs.Carried.{carried-keep}
 use Rattle.lard_law_view.proofs.After.{IsAfter, step-after}
-use Rattle.lard_rules.specs.declared.node.NodeState.{NodeState}
 use Rattle.lard_law_settles.specs.SettlesFew.{FewAreLeft}
 use Rattle.lard_law_settles.proofs.SettlesSeats.{seats-low}
 use Rattle.lard_settling.specs.Left.{jobs_at, jobs_from, jobs_of}

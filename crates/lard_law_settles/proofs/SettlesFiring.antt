@@ -12,15 +12,11 @@ use Rattle.lard_agenda.specs.Kinds.{is_none, kinds_of, with_timer}
 use Rattle.lard_agenda.specs.declared.agenda.Agenda.{Agenda}
 use Rattle.lard_agenda.specs.declared.kinds.Kinds.{Kinds}
 use Rattle.lard_agenda.specs.declared.kinds.Running.{Running}
-use Rattle.lard_base.specs.declared.event.Event.{Event}
+use Rattle.lard_law_view.specs.Prelude.{Event, HasRule, Machine, Place, Rec, TimerKind}
 use Rattle.lard_base.specs.declared.event.Event.TheVariants as event
-use Rattle.lard_base.specs.declared.place.Place.{Place}
-use Rattle.lard_base.specs.declared.place.TimerKind.{TimerKind}
-use Rattle.lard_rules.specs.declared.machine.Machine.{Machine}
-use Rattle.lard_rules.specs.Bounds.{HasRule, HasTimer}
 use Rattle.lard_history.proofs.Each.{Each}
-use Rattle.lard_journal.specs.declared.rec.Rec.{Rec}
 use Rattle.lard_journal.specs.declared.rec.Rec.TheVariants as rec
+use Rattle.lard_law_progress.proofs.Given.{IsRounds, rounds-rule}
 use Rattle.lard_settling.specs.Settling.{firings, is_own_seat}
 use Rattle.lard_law_settles.proofs.SettlesLists.{own-timer}
 use Rattle.lard_settling.specs.Order.{MayBeInner}
@@ -135,10 +131,7 @@ module _ (Q : Place → ℕ → Type 0) (R : Event → Type 0) (w : (p : Place) 
 -- an event of an inner step: it has a rule, and no client writes in it; of a node's jobs the first is completed
 abbrev pub IsInner : Event → Type 0
 IsInner (event.Take c) = Unit {0}
-IsInner (event.Deliver k) = Unit {0}
-IsInner (event.Disk n j) = j ≡ 1
-IsInner (event.Timer p c) = HasTimer p c
-IsInner _ = ⊥
+IsInner e = IsRounds e
 
 own-inner : (seats : List (Place × ℕ)) → Each IsInner (map (λ (s : Place × ℕ). event.Timer s.0 s.1) (filter is_own_seat seats))
 own-inner [] = tt
@@ -166,10 +159,7 @@ disk-inner n (suc i) = (refl, disk-inner n i)
 -- they have rules
 pub inner-rule : (e : Event) → IsInner e → HasRule e
 inner-rule (event.Take c) h = tt
-inner-rule (event.Deliver k) h = tt
-inner-rule (event.Disk n j) h = tt
-inner-rule (event.Timer p c) h = h
-inner-rule _ h = absurd h
+inner-rule e h = rounds-rule e h
 
 -- and may stand inside a settle
 pub inner-stands : (e : Event) → IsInner e → MayBeInner e

@@ -1,18 +1,9 @@
 -- What steps are recorded with: the record that begins them, and behind it others that begin no step and close no settle.
 use Rattle.std.proofs.Common.{◌≡◌, ◌<◌, ℕ, ◌+◌, List, [], ◌∷◌, ◌++◌, length, Result, Ok, Err, refl, ap, ◌∙◌, subst}
-use Rattle.lard_base.specs.declared.config.Config.{Config}
-use Rattle.lard_base.specs.declared.event.Event.{Event}
+use Rattle.lard_law_view.specs.Prelude.{Config, Event, HasRule, MAX_RECORDS, Machine, Rec, StepFault, bytes_in, happens, limit_reached, machine_step, passed, turned_at}
 use Rattle.lard_base.specs.declared.event.Event.TheVariants as event
-use Rattle.lard_base.specs.declared.limits.TheConstants.{MAX_RECORDS}
-use Rattle.lard_rules.specs.Bounds.{HasRule}
-use Rattle.lard_rules.specs.declared.fault.StepFault.{StepFault}
-use Rattle.lard_rules.specs.declared.machine.Machine.{Machine}
-use Rattle.lard_rules.specs.Machine.{happens, limit_reached, machine_step, passed}
-use Rattle.lard_journal.specs.Inner.{turned_at}
-use Rattle.lard_journal.specs.declared.rec.Rec.{Rec}
 use Rattle.lard_journal.specs.declared.rec.Rec.TheVariants as rec
 use Rattle.lard_journal.proofs.Turned.{turned_behind}
-use Rattle.lard_net.specs.Net.{bytes_in}
 use Rattle.lard_settling.specs.Steps.{as_inner, inner_given, inner_step, settle_begun}
 use Rattle.lard_settling.specs.Written.{IsWrittenOut}
 use Rattle.lard_settling.proofs.Plain.{AreUnmarked}

@@ -3,21 +3,13 @@ use Rattle.std.proofs.Common.{◌≡◌, ◌≤◌, ℕ, zero, suc, ◌-◌, ◌
 use Rattle.std.proofs.lemmas.Bool.{cond_both}
 use Rattle.std.proofs.lemmas.Bool.Decides.{nat_tests}
 use Rattle.lard_base.specs.declared.event.Event.TheVariants as event
-use Rattle.lard_rules.specs.declared.fault.StepFault.{StepFault}
+use Rattle.lard_law_view.specs.Prelude.{Job, Machine, NodeSetting, NodeState, Out, StepFault, completed, completes, content_sent, disk_at, disk_step, is_no_job, is_no_node, job_at, machine_told, node_at, node_brought, node_deed, node_env, node_gave, node_part, node_read, node_setting, node_step, without_job}
 use Rattle.lard_rules.specs.declared.fault.Refusal.TheVariants.{NoJob, NoNode}
 use Rattle.lard_rules.specs.declared.fault.StepFault.TheVariants.{Refused}
-use Rattle.lard_rules.specs.declared.machine.Machine.{Machine}
-use Rattle.lard_rules.specs.Machine.{completes, disk_at, is_no_job, is_no_node, node_at, node_gave, node_setting, machine_told}
 use Rattle.lard_law_view.proofs.Parts.{length-set, node-set}
-use Rattle.lard_disk.specs.declared.disk.Job.{Job}
-use Rattle.lard_disk.specs.Jobs.{job_at, without_job}
 use Rattle.lard_rules.specs.declared.node.BackIn.TheVariants as back
-use Rattle.lard_rules.specs.declared.node.NodeState.{NodeState}
 use Rattle.lard_rules.specs.Node as node
-use Rattle.lard_rules.specs.Node.{node_read}
 use Rattle.lard_rules.specs.NodePlace as place
-use Rattle.lard_rules.specs.NodePlace.{NodeSetting, node_brought, completed, content_sent, disk_step, node_deed, node_env, node_part, node_step}
-use Rattle.lard_rules.specs.declared.places.Out.{Out}
 use Rattle.lard_settling.specs.Settling.{all_inner}
 use Rattle.lard_law_settles.specs.SettlesStops.{StopsAtLimits}
 use Rattle.lard_law_settles.proofs.SettlesKeeping.{DoneOrLimit, inner-done, one-more}

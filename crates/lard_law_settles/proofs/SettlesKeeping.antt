@@ -2,38 +2,16 @@
 use Rattle.std.proofs.Common.{◌≡◌, ℕ, zero, suc, ◌-◌, ◌==◌, Bool, true, false, cond, List, [], ◌∷◌, ◌++◌, Option, Some, None, Result, Ok, Err, inl, inr, ⊎_elim, refl, sym, ap, ◌∙◌, subst, append_assoc, append-nil}
 use Rattle.std.specs.Prelude.{◌⊎◌, slice_get, slice_set}
 use Rattle.std.specs.FinMap as table
-use Rattle.lard_base.specs.declared.event.Event.{Event}
+use Rattle.lard_law_view.specs.Prelude.{BackIn, ClientBlock, Event, FrontIn, FrontState, Machine, NodeState, Out, Packet, Place, Rec, Station, StepFault, ToClient, Turn, What, client_acts, client_gets, client_goes_on, client_put, client_takes, client_timer, decoded, delivered, from_place, front_acts, front_gave, front_setting, front_step, happens, is_client_armed, is_no_node, limit_reached, machine_step, machine_to_client, machine_to_front, machine_told, node_acts, node_at, node_gave, node_setting, node_step, out_of, packet_at, packets_of, passed, timer, timer_at, to_place, unless_limit}
 use Rattle.lard_base.specs.declared.event.Event.TheVariants as event
-use Rattle.lard_base.specs.declared.place.Place.{Place}
 use Rattle.lard_base.specs.declared.place.Place.TheVariants as place
-use Rattle.lard_client.specs.Control.{ClientBlock, is_client_armed}
-use Rattle.lard_rules.specs.declared.fault.StepFault.{StepFault}
 use Rattle.lard_rules.specs.declared.fault.Refusal.TheVariants.{NoNode, WasLost}
 use Rattle.lard_rules.specs.declared.fault.StepFault.TheVariants.{Limit, Refused}
-use Rattle.lard_rules.specs.declared.machine.Machine.{Machine}
-use Rattle.lard_rules.specs.Machine.{client_acts, client_goes_on, client_put, delivered, from_place, front_acts, front_gave, front_setting, happens, is_no_node, limit_reached, machine_step, node_acts, node_at, node_gave, node_setting, passed, timer, timer_at, machine_to_client, machine_to_front, to_place, machine_told, unless_limit}
-use Rattle.lard_rules.specs.declared.front.FrontState.{FrontState}
-use Rattle.lard_rules.specs.FrontPlace.{front_step}
 use Rattle.lard_history.proofs.Each.{Each}
 use Rattle.lard_history.proofs.Seeing.{by_number}
-use Rattle.lard_journal.specs.declared.rec.Rec.{Rec}
 use Rattle.lard_journal.specs.declared.rec.Rec.TheVariants as rec
-use Rattle.lard_rules.specs.declared.fault.What.{What}
-use Rattle.lard_rules.specs.Sent.{packets_of}
-use Rattle.lard_net.specs.Net.{Packet, packet_at}
-use Rattle.lard_rules.specs.declared.node.BackIn.{BackIn}
 use Rattle.lard_rules.specs.declared.node.BackIn.TheVariants as back
-use Rattle.lard_rules.specs.declared.node.NodeState.{NodeState}
-use Rattle.lard_rules.specs.NodePlace.{node_step}
-use Rattle.lard_rules.specs.Client.{client_gets, client_takes, client_timer}
-use Rattle.lard_rules.specs.declared.front.FrontIn.{FrontIn}
 use Rattle.lard_rules.specs.declared.front.FrontIn.TheVariants as input
-use Rattle.lard_rules.specs.declared.places.Out.{Out}
-use Rattle.lard_rules.specs.declared.places.Station.{Station}
-use Rattle.lard_rules.specs.declared.places.Turn.{Turn}
-use Rattle.lard_rules.specs.Outs.{out_of}
-use Rattle.lard_segment.specs.declared.segment.Dir.TheVariants.{ToClient}
-use Rattle.lard_segment.specs.Segment.{decoded}
 use Rattle.lard_settling.specs.Settling.{Stop, all_inner}
 use Rattle.lard_law_settles.specs.SettlesStops.{StopsAtLimits}
 use Rattle.lard_settling.specs.Steps.{as_inner, inner_given, inner_step}

@@ -4,26 +4,15 @@ use Rattle.std.specs.FinMap as table
 use Rattle.std.proofs.lemmas.Bool.{both_ways}
 use Rattle.std.proofs.lemmas.Bool.Decides.{nat_tests}
 use Rattle.std.proofs.lemmas.Option.{slice_get_within}
-use Rattle.lard_base.specs.declared.config.Config.{Config}
-use Rattle.lard_base.specs.declared.place.Place.{Place}
-use Rattle.lard_base.specs.declared.place.Place.TheVariants.{Front, Node, Client}
-use Rattle.lard_base.specs.declared.place.TimerKind.{TimerKind}
-use Rattle.lard_base.specs.declared.place.TimerKind.TheVariants.{Tcp, Offer, Ask, Fetch, Ended}
-use Rattle.lard_rules.specs.declared.machine.Machine.{Machine}
-use Rattle.lard_rules.specs.Machine.{IsReached, is_no_node, node_at}
+use Rattle.lard_law_view.specs.Prelude.{Client, ClientRules, Config, Conn, Front, FrontPart, FrontRules, Has, IsLaw, IsReached, Letter, Machine, MayRestOn, Move, Node, NodePart, NodeRules, NodeState, OfEach, Part, Place, Seen, Setting, Station, TimerKind, brought_said, conn, content_said, front_admitted, front_armed, front_does, grown, is_no_node, kept_at, letters_of, node_armed, node_at, node_content, node_does, node_read, nothing_kept, nothing_said, packet_seen, part_of, setting, stands}
+use Rattle.lard_law_view.proofs.EachClient.{each-client}
+use Rattle.lard_base.specs.declared.place.TimerKind.TheVariants.{Tcp}
 use Rattle.lard_laws.specs.StepsTimers.{armed_at, client_armed}
-use Rattle.lard_law_view.specs.Carry.{IsLaw, MayRestOn, OfEach, setting}
-use Rattle.lard_law_view.specs.View.{ClientRules, Conn, FrontRules, Move, NodeRules, Part, Setting, brought_said, conn, content_said, front_does, grown, kept_at, letters_of, node_does, nothing_kept, nothing_said, packet_seen, part_of, stands}
 use Rattle.lard_law_view.proofs.Carried.{carried}
 use Rattle.lard_rules.specs.Front as front
-use Rattle.lard_rules.specs.Front.{FrontPart, front_admitted, front_armed}
 use Rattle.lard_history.proofs.Each.{Each, Each-append}
-use Rattle.lard_history.specs.Own.{Has, Letter, Seen}
 use Rattle.lard_journal.specs.declared.rec.Rec.TheVariants as rec
-use Rattle.lard_rules.specs.declared.node.NodeState.{NodeState}
 use Rattle.lard_rules.specs.Node as node
-use Rattle.lard_rules.specs.Node.{NodePart, node_armed, node_content, node_read}
-use Rattle.lard_rules.specs.declared.places.Station.{Station}
 use Rattle.lard_law_settles.proofs.SettlesKeeping.{HasClient, IsThere}
 
 -- ---- what there may be before a client opens
@@ -74,7 +63,7 @@ front-station x heads front.Drops = refl
 front-station x heads (front.Says turn) = refl
 front-station x heads (front.Does did) = refl
 
-node-station : (x : Conn) (n : ℕ) (heads : List Seen) (d : node.NodeDeed) → (node_does x n heads d).part.station ≡ x.part.station
+pub node-station : (x : Conn) (n : ℕ) (heads : List Seen) (d : node.NodeDeed) → (node_does x n heads d).part.station ≡ x.part.station
 node-station x n heads node.Drops = refl
 node-station x n heads (node.Says messages) = refl
 node-station x n heads (node.Does given) = refl
@@ -103,17 +92,10 @@ node-drops x n heads f drops may late none =
 -- ---- every rule
 
 clients : (k : Setting) → ClientRules k Owes
-clients k = record {
+clients k = each-client k Owes (record {
   opens = λ x isn iss wnd mss rule absent may late none. absurd (some-none _ none);
-  gets = λ x s path there le may late none. absurd (some-none _ none);
-  writes = λ x s bytes there le may late none. absurd (some-none _ none);
-  shuts = λ x s there may late none. absurd (some-none _ none);
-  aborts = λ x s there may late none. absurd (some-none _ none);
-  holds = λ x s there may late none. absurd (some-none _ none);
-  takes = λ x s there may late none. absurd (some-none _ none);
-  fires = λ x s there may late none. absurd (some-none _ none);
-  hears = λ x s from bytes there was may late none. absurd (some-none _ none);
-}
+  does = λ x s g there comes may late none. absurd (some-none _ none);
+})
 
 fronts : (k : Setting) → FrontRules k Owes
 fronts k = record {
@@ -155,24 +137,15 @@ late-always config files = carried config files Anything IsLate (late-law (setti
 
 client-off : (kind : TimerKind) → client_armed None kind ≡ false
 client-off Tcp = refl
-client-off Offer = refl
-client-off Ask = refl
-client-off Fetch = refl
-client-off Ended = refl
+client-off _ = refl
 
 front-off : (kind : TimerKind) → front_armed blank_front kind ≡ false
 front-off Tcp = refl
-front-off Offer = refl
-front-off Ask = refl
-front-off Fetch = refl
-front-off Ended = refl
+front-off _ = refl
 
 node-off : (kind : TimerKind) → node_armed nothing_kept kind ≡ false
 node-off Tcp = refl
-node-off Offer = refl
-node-off Ask = refl
-node-off Fetch = refl
-node-off Ended = refl
+node-off _ = refl
 
 untold-off : (m : Machine) (c : ℕ) → table.get m.clients c ≡ None → IsUntold (conn m c) → (p : Place) (kind : TimerKind) → armed_at p (part_of m c) kind ≡ false
 unfolding conn part_of

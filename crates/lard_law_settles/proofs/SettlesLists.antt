@@ -6,21 +6,14 @@ use Rattle.std.proofs.lemmas.Bool.{both_ways, true≢false}
 use Rattle.lard_agenda.proofs.Due.{packets_are_listed, timers_are_listed}
 use Rattle.lard_agenda.specs.Agenda.{agenda_of, due, holders, on_way}
 use Rattle.lard_agenda.specs.Laws.{IsDue, is_on_way, way_flag}
-use Rattle.lard_base.specs.declared.config.Config.{Config}
-use Rattle.lard_base.specs.declared.event.Event.{Event}
+use Rattle.lard_law_view.specs.Prelude.{Config, Event, HasTimer, Machine, Place, Station, TimerKind, armed_step, is_running}
 use Rattle.lard_base.specs.declared.event.Event.TheVariants as event
-use Rattle.lard_base.specs.declared.place.Place.{Place}
 use Rattle.lard_base.specs.declared.place.Place.TheVariants as place
-use Rattle.lard_base.specs.declared.place.TimerKind.{TimerKind}
-use Rattle.lard_rules.specs.Bounds.{HasTimer}
-use Rattle.lard_rules.specs.declared.machine.Machine.{Machine}
 use Rattle.lard_laws.proofs.StepsLinking.{reached-linked}
 use Rattle.lard_laws.proofs.StepsTimers.{timers-kept}
 use Rattle.lard_law_view.proofs.Carried.{reached-viewed}
 use Rattle.lard_history.proofs.Each.{Each}
 use Rattle.lard_history.proofs.Seeing.{by_number, other_number}
-use Rattle.lard_history.specs.Journal.{armed_step, is_running}
-use Rattle.lard_rules.specs.declared.places.Station.{Station}
 use Rattle.lard_settling.specs.Settling.{deliveries, firings, is_own_seat, is_own_at, takes}
 use Rattle.lard_law_settles.specs.SettlesStops.{CompletionsStopAtLimits, DeliveriesStopAtLimits, FiringsStopAtLimits, TakesStopAtLimits}
 use Rattle.lard_law_settles.proofs.SettlesJobs.{completions-stop}

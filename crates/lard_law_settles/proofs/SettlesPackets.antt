@@ -4,14 +4,9 @@ use Rattle.std.specs.Prelude.{IsSome}
 use Rattle.std.proofs.lemmas.Bool.{true≢false}
 use Rattle.std.proofs.lemmas.List.Sums.{fold-append}
 use Rattle.lard_agenda.specs.Laws.{is_on_way, way_flag}
-use Rattle.lard_base.specs.declared.place.Place.{Place}
+use Rattle.lard_law_view.specs.Prelude.{EachMay, IsNetOf, MayInNetwork, Packet, Place, Rec, goal_in, goal_of, goal_step, is_lost, lost_in, lost_step, packet_at, sent_count, sent_step}
 use Rattle.lard_history.proofs.Seeing.{by_number, other_number, same_number}
-use Rattle.lard_history.specs.Journal.{goal_of, goal_step, is_lost, lost_step, sent_count, sent_step}
-use Rattle.lard_history.specs.Laws.{EachMay, MayInNetwork}
-use Rattle.lard_journal.specs.declared.rec.Rec.{Rec}
 use Rattle.lard_journal.specs.declared.rec.Rec.TheVariants as rec
-use Rattle.lard_law_view.specs.ClientTale.{IsNetOf, goal_in, lost_in}
-use Rattle.lard_net.specs.Net.{Packet, packet_at}
 use Rattle.lard_law_settles.proofs.SettlesKeeping.{HasPacket}
 
 abbrev HasGoal : Option Place → Type 0

@@ -4,20 +4,11 @@ use Rattle.std.specs.Prelude.{◌⊎◌}
 use Rattle.std.specs.List.{AllByRecursion}
 use Rattle.lard_agenda.specs.Agenda.{seat}
 use Rattle.lard_agenda.specs.Laws.{IsSeated, NamesLowSeat, NamesSeat}
-use Rattle.lard_base.specs.Config.{config_check}
-use Rattle.lard_base.specs.declared.config.Config.{Config}
-use Rattle.lard_base.specs.declared.event.Event.{Event}
+use Rattle.lard_law_view.specs.Prelude.{Client, Config, Conn, EachMay, Event, Front, HasRule, HasTimer, IsConnNumber, IsMachine, IsReached, IsViewed, Machine, Move, Node, Packet, Part, Place, Rec, Rules, Setting, config_check, conn, machine_step, packets_of, part_of, sent_records, setting, timer_rows}
 use Rattle.lard_base.specs.declared.event.Event.TheVariants as event
-use Rattle.lard_base.specs.declared.place.Place.{Place}
-use Rattle.lard_base.specs.declared.place.Place.TheVariants.{Front, Node, Client}
-use Rattle.lard_rules.specs.Bounds.{HasRule, HasTimer, IsConnNumber}
-use Rattle.lard_rules.specs.declared.machine.Machine.{Machine}
-use Rattle.lard_rules.specs.Machine.{IsReached, machine_step}
 use Rattle.lard_base.proofs.Usable.{usable}
 use Rattle.lard_laws.proofs.RecordsThere.{only-nodes}
 use Rattle.lard_laws.specs.RecordsMessages.{MayBeThere}
-use Rattle.lard_law_view.specs.Carry.{setting}
-use Rattle.lard_law_view.specs.View.{Conn, IsMachine, IsViewed, Move, Part, Rules, Setting, conn, part_of, timer_rows}
 use Rattle.lard_law_view.proofs.Acts.{ActsAlone, ActsMany, IsPassing, IsStepOf, Moving, said_rows, step_acts, timers_in}
 use Rattle.lard_law_view.proofs.AnyShape.{SomeGift, SomeNote}
 use Rattle.lard_law_view.proofs.Carried.{IsOn, carried-keep, on-setting}
@@ -27,13 +18,11 @@ use Rattle.lard_law_view.proofs.Guarded.{both}
 use Rattle.lard_law_view.proofs.Saying.{GaveAt, NotedAt}
 use Rattle.lard_law_view.proofs.Timers.{IsTimerAt, timer_rows-are, timer_rows-same}
 use Rattle.lard_history.proofs.Each.{Each, Each-append, Each-weaker}
-use Rattle.lard_history.specs.Laws.{EachMay}
-use Rattle.lard_journal.specs.declared.rec.Rec.{Rec}
 use Rattle.lard_journal.specs.declared.rec.Rec.TheVariants as rec
-use Rattle.lard_rules.specs.Sent.{packets_of, sent_records}
-use Rattle.lard_net.specs.Net.{Packet}
 use Rattle.lard_settling.specs.Written.{IsWrittenOut, steps_with, written_from, written_rec}
 use Rattle.lard_law_view.proofs.OwnRecords.{behind}
+use Rattle.lard_law_view.proofs.OfKinds as of-kinds
+use Rattle.lard_law_view.proofs.RecordKinds.{IsNote}
 
 -- ---- records
 
@@ -46,19 +35,16 @@ IsNamed _ = Unit {0}
 abbrev pub AreNamed : List Rec → Type 0
 AreNamed rs = Each IsNamed rs
 
+noted-named : (r : Rec) → IsNote r → IsNamed r
+noted-named (rec.Armed p d kind) h = absurd h
+noted-named (rec.Cleared p d kind) h = absurd h
+noted-named _ h = tt
+
 note-named : (place : Place) (c : ℕ) (r : Rec) → NotedAt place c r → IsNamed r
-note-named (Client e) c (rec.Armed p d kind) h = absurd h
-note-named (Client e) c (rec.Cleared p d kind) h = absurd h
-note-named Front c (rec.Armed p d kind) h = absurd h
-note-named Front c (rec.Cleared p d kind) h = absurd h
-note-named (Node n) c (rec.Armed p d kind) h = absurd h
-note-named (Node n) c (rec.Cleared p d kind) h = absurd h
-note-named _ c _ h = tt
+note-named place c r h = noted-named r (of-kinds.noted place c r h)
 
 gave-named : (place : Place) (c : ℕ) (r : Rec) → GaveAt place c r → IsNamed r
-gave-named Front c (rec.Gave Front d epoch) h = tt
-gave-named (Node n) c (rec.Gave (Node j) d epoch) h = tt
-gave-named _ c _ h = absurd h
+gave-named = of-kinds.of-gift IsNamed (λ p d epoch. tt)
 
 timer-named : (place : Place) (c : ℕ) → HasTimer place c → IsConnNumber c → (r : Rec) → IsTimerAt place c r → IsNamed r
 timer-named place c own number (rec.Armed p d kind) h = (subst (λ (q : Place). HasTimer q d) (sym h.0) (subst (HasTimer place) (sym h.1) own), subst IsConnNumber (sym h.1) number)
@@ -72,8 +58,7 @@ rows-named place c p q number of = ⊎_elim
     of
 
 sents-named : (k : ℕ) (place : Place) (ss : List (Place × List ℕ)) → AreNamed (sent_records k place ss)
-sents-named k place [] = tt
-sents-named k place (s ∷ ss) = (tt, sents-named (k + 1) place ss)
+sents-named = of-kinds.of-sents IsNamed (λ k from to bytes. tt)
 
 behind-named : (e : Event) → AreNamed (behind e)
 behind-named (event.Open c isn iss wnd mss) = (tt, tt)

@@ -1,17 +1,9 @@
 -- A whole settle: each of its inner steps is taken from a state that a run leads to, so it stops at a limit alone.
 use Rattle.std.proofs.Common.{◌≡◌, ℕ, zero, suc, ◌+◌, ◌==◌, Bool, true, false, cond, List, [], ◌∷◌, map, filter, length, replicate, Option, Some, None, Result, Ok, Err, refl, ap, subst}
 use Rattle.lard_agenda.specs.Agenda.{agenda_of, due, holders, on_way}
-use Rattle.lard_base.specs.Config.{config_check}
-use Rattle.lard_base.specs.declared.config.Config.{Config}
-use Rattle.lard_base.specs.declared.event.Event.{Event}
+use Rattle.lard_law_view.specs.Prelude.{Config, Event, HasRule, Machine, Place, StepFault, What, config_check, limit_reached, passed, unless_limit}
 use Rattle.lard_base.specs.declared.event.Event.TheVariants as event
-use Rattle.lard_base.specs.declared.place.Place.{Place}
-use Rattle.lard_rules.specs.Bounds.{HasRule}
-use Rattle.lard_rules.specs.declared.fault.StepFault.{StepFault}
-use Rattle.lard_rules.specs.declared.machine.Machine.{Machine}
-use Rattle.lard_rules.specs.Machine.{limit_reached, passed, unless_limit}
 use Rattle.lard_history.proofs.Each.{Each}
-use Rattle.lard_rules.specs.declared.fault.What.{What}
 use Rattle.lard_settling.specs.declared.settled.Settled.{Settled}
 use Rattle.lard_settling.specs.Settling.{Stop, all_inner, closed_by, completed_since, completions, deliveries, fired_since, firings, is_own_seat, is_quiet, nodes_complete, round, rounds_from, settled, settled_from, takes}
 use Rattle.lard_law_settles.specs.SettlesStops.{IsLimit, SettlesStopAtLimits, StopsAtLimits}

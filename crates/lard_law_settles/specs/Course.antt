@@ -1,12 +1,7 @@
 -- What is near among the packets of the whole, and how long their chains are.
 use Rattle.std.specs.Prelude.{◌≡◌, ℕ, Option, Some, None}
 use Rattle.lard_bound.specs.Progress.{NearAt, chain_at}
-use Rattle.lard_rules.specs.declared.machine.Machine.{Machine}
-use Rattle.lard_rules.specs.Bounds.{IsConnNumber}
-use Rattle.lard_law_view.specs.View.{conn}
-use Rattle.lard_files.specs.Files.{file_at}
-use Rattle.lard_history.specs.Own.{conn_of, letter_of}
-use Rattle.lard_net.specs.Net.{Packet, packet_at}
+use Rattle.lard_law_view.specs.Prelude.{IsConnNumber, Machine, Packet, conn, conn_of, file_at, letter_of, packet_at}
 
 -- the chain of a packet, by its connection; one of no connection has none
 abbrev pub chain_of : Machine → Packet → Option ℕ → ℕ

@@ -3,22 +3,13 @@ use Rattle.std.specs.Prelude.{◌≡◌, ℕ, true, List, ◌∷◌, length, fil
 use Rattle.lard_agenda.specs.Agenda.{agenda_of, due}
 use Rattle.lard_agenda.specs.Laws.{is_on_way}
 use Rattle.lard_base.specs.declared.event.Event.TheVariants as event
-use Rattle.lard_base.specs.declared.place.Place.{Place}
+use Rattle.lard_law_view.specs.Prelude.{Has, HasTimer, IsConnNumber, Job, Machine, NodeState, Place, conn, file_at, job_at, machine_step, node_at}
 use Rattle.lard_bound.specs.Chains.{job_chain}
 use Rattle.lard_bound.specs.Nears.{JobNear}
 use Rattle.lard_bound.specs.Progress.{spot_at}
 use Rattle.lard_bound.specs.Spots.{Spot}
 use Rattle.lard_bound.specs.Units.{Whole, machine_units}
-use Rattle.lard_rules.specs.declared.machine.Machine.{Machine}
-use Rattle.lard_rules.specs.Bounds.{HasTimer, IsConnNumber}
-use Rattle.lard_rules.specs.Machine.{machine_step, node_at}
-use Rattle.lard_law_view.specs.View.{conn}
 use Rattle.lard_law_settles.specs.Course.{NearIn, chain_in}
-use Rattle.lard_disk.specs.declared.disk.Job.{Job}
-use Rattle.lard_disk.specs.Jobs.{job_at}
-use Rattle.lard_files.specs.Files.{file_at}
-use Rattle.lard_history.specs.Own.{Has}
-use Rattle.lard_rules.specs.declared.node.NodeState.{NodeState}
 use Rattle.lard_rounds.specs.Rounds.{Game}
 use Rattle.lard_settling.specs.Settling.{is_own_seat, is_quiet}
 

@@ -1,7 +1,7 @@
 -- The cluster's machine comes to rest, where each of its steps owes what a machine that goes on by rounds owes.
 use Rattle.std.specs.Prelude.{◌≡◌, ℕ, Bool, true}
 use Rattle.lard_bound.specs.Units.{Whole}
-use Rattle.lard_rules.specs.declared.machine.Machine.{Machine}
+use Rattle.lard_law_view.specs.Prelude.{Machine}
 use Rattle.lard_law_settles.specs.CourseGame.{game}
 use Rattle.lard_rounds.specs.Rounds.{ComesToRest, Owes}
 

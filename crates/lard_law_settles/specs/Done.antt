@@ -1,15 +1,9 @@
 -- How a settle leaves each connection where it ends with nothing left to do, in words of the journal.
 use Rattle.std.specs.Prelude.{◌≡◌, ◌⊎◌, ℕ, true, false, List, IsSome}
-use Rattle.lard_answers.specs.Answers.{FilesAt}
-use Rattle.lard_base.specs.declared.config.Config.{Config}
-use Rattle.lard_base.specs.declared.place.Place.{Place}
-use Rattle.lard_base.specs.declared.place.TimerKind.{TimerKind}
+use Rattle.lard_law_view.specs.Prelude.{Config, FilesAt, IsComplete, Place, Rec, TimerKind, has_aborted, is_running, is_touched, numbers_of, was_reset}
 use Rattle.lard_law_connections.specs.Line.{waiting_line}
 use Rattle.lard_laws.specs.Quiet.{HasNoJob, IsInLine}
-use Rattle.lard_history.specs.Journal.{is_running, is_touched, numbers_of, was_reset}
-use Rattle.lard_journal.specs.declared.rec.Rec.{Rec}
 use Rattle.lard_journal.specs.declared.rec.Rec.TheVariants as rec
-use Rattle.lard_law_view.specs.Quiet.{IsComplete, has_aborted}
 use Rattle.lard_law_settles.specs.RoundsToDo.{is_stalled_at}
 
 -- Connection c is quiet but for timers that are stalled, since it is in the line, and no job waits for it. So it is complete, or in the

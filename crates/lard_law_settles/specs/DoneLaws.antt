@@ -1,15 +1,7 @@
 -- Runs with settles: each one that leaves nothing leaves each connection complete or in the line, and all folds say the same of a journal
 -- and of it with its settles written out.
 use Rattle.std.specs.Prelude.{◌≡◌, ℕ, List, [], Ok}
-use Rattle.lard_answers.specs.Answers.{FilesAt}
-use Rattle.lard_base.specs.Config.{config_check}
-use Rattle.lard_base.specs.declared.config.Config.{Config}
-use Rattle.lard_base.specs.declared.event.Event.{Event}
-use Rattle.lard_rules.specs.Machine.{machine_start}
-use Rattle.lard_rules.specs.declared.machine.Machine.{Machine}
-use Rattle.lard_files.specs.Files.{file_at}
-use Rattle.lard_history.specs.Laws.{EachMay}
-use Rattle.lard_journal.specs.declared.rec.Rec.{Rec}
+use Rattle.lard_law_view.specs.Prelude.{Config, EachMay, Event, FilesAt, Machine, Rec, config_check, file_at, machine_start}
 use Rattle.lard_law_settles.specs.Done.{MaySettle}
 use Rattle.lard_law_settles.specs.DoneSame.{TellsTheSame}
 use Rattle.lard_settling.specs.Events.{LeadsTo}

@@ -1,16 +1,10 @@
 -- What a journal tells is told by it with its settles written out, too: fold by fold.
 use Rattle.std.specs.Prelude.{◌≡◌, ℕ, List}
-use Rattle.lard_answers.specs.Answers.{FilesAt}
-use Rattle.lard_base.specs.declared.config.Config.{Config}
-use Rattle.lard_base.specs.declared.place.Place.{Place}
-use Rattle.lard_base.specs.declared.place.TimerKind.{TimerKind}
+use Rattle.lard_law_view.specs.Prelude.{Config, FilesAt, Place, Rec, TimerKind, accepted, assigned, has_aborted, has_ended, home_told, is_lost, is_running, is_touched, last_epoch, numbers_of, owner, packet_bytes, sent_count, served, served_bytes, time_of, was_reset, was_shut, wrote}
 use Rattle.lard_law_connections.specs.Line.{waiting_line}
 use Rattle.lard_counts.specs.Ledger.{ledger}
 use Rattle.lard_law_connections.specs.PolicyLoads.{load_told}
 use Rattle.lard_counts.specs.Stores.{cached, jobs}
-use Rattle.lard_history.specs.Journal.{accepted, assigned, home_told, is_lost, is_running, is_touched, last_epoch, numbers_of, owner, packet_bytes, sent_count, served, served_bytes, time_of, was_reset, wrote}
-use Rattle.lard_journal.specs.declared.rec.Rec.{Rec}
-use Rattle.lard_law_view.specs.Quiet.{has_aborted, has_ended, was_shut}
 
 -- Two journals tell the same of each client: what it opened with, wrote and accepted, and how it ended.
 pub record TellsClientsTheSame (J K : List Rec) : Type 0 where

@@ -1,13 +1,7 @@
 -- Enough rounds settle.
 use Rattle.std.specs.Prelude.{◌≡◌, ℕ, All, List, [], Ok}
-use Rattle.lard_base.specs.Config.{config_check}
-use Rattle.lard_base.specs.declared.config.Config.{Config}
-use Rattle.lard_base.specs.declared.event.Event.{Event}
-use Rattle.lard_rules.specs.declared.machine.Machine.{Machine}
-use Rattle.lard_rules.specs.Machine.{machine_start}
+use Rattle.lard_law_view.specs.Prelude.{Config, EachMay, Event, Machine, config_check, file_at, machine_start}
 use Rattle.lard_laws.specs.Records.{IsRunFile, IsScheduled}
-use Rattle.lard_files.specs.Files.{file_at}
-use Rattle.lard_history.specs.Laws.{EachMay}
 use Rattle.lard_law_settles.specs.Enough.{EndsWithEnough, MayLeaveUnsettled, RestsWithEnough}
 use Rattle.lard_settling.specs.declared.settled.Settled.{Settled}
 use Rattle.lard_settling.specs.Events.{LeadsTo}

@@ -1,15 +1,8 @@
 -- What is known of each connection in every state that events lead to, so that no unit of what is left to do comes back.
 use Rattle.std.specs.Prelude.{◌≡◌, ℕ, ◌≤◌, false, List, Some}
-use Rattle.lard_base.specs.declared.config.Config.{Config}
-use Rattle.lard_base.specs.declared.limits.TheConstants.{MAX_STREAM_BYTES}
+use Rattle.lard_law_view.specs.Prelude.{Config, IsReached, MAX_STREAM_BYTES, Machine, Station, conn, file_at, tale_at}
 use Rattle.lard_bound.specs.Units.{whole_of}
-use Rattle.lard_rules.specs.declared.machine.Machine.{Machine}
-use Rattle.lard_rules.specs.Machine.{IsReached}
-use Rattle.lard_law_view.specs.Carry.{tale_at}
-use Rattle.lard_law_view.specs.View.{conn}
-use Rattle.lard_files.specs.Files.{file_at}
 use Rattle.lard_law_progress.proofs.Given.{Known}
-use Rattle.lard_rules.specs.declared.places.Station.{Station}
 
 -- It is by what the client wrote so far, which it does not go on with within a settle.
 abbrev pub EachConnectionIsKnown : Type 0

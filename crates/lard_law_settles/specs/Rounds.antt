@@ -1,9 +1,8 @@
 -- Which inner steps a settle has, in words of the journal alone: takes, and rounds as long as anything is left.
 use Rattle.std.specs.Prelude.{ℕ, zero, suc, ◌+◌, ◌<◌, ◌≤◌, ◌≡◌, ◌≢◌, ◌⊎◌, ◌==◌, Bool, true, false, List, [], ◌∷◌, ◌++◌, length}
 use Rattle.std.specs.List.{AllByRecursion}
-use Rattle.lard_base.specs.declared.event.Event.{Event}
+use Rattle.lard_law_view.specs.Prelude.{Event, Rec}
 use Rattle.lard_base.specs.declared.event.Event.TheVariants as event
-use Rattle.lard_journal.specs.declared.rec.Rec.{Rec}
 use Rattle.lard_journal.specs.declared.rec.Rec.TheVariants as rec
 use Rattle.lard_law_settles.specs.RoundsToDo.{completions_in, deliveries_in, firings_in, left_in, takes_in}
 use Rattle.lard_settling.specs.Steps.{closing}

@@ -1,10 +1,6 @@
 -- Runs with settles: each takes rounds, and its closing record tells what is left.
 use Rattle.std.specs.Prelude.{◌≡◌, ℕ, List, [], Ok}
-use Rattle.lard_base.specs.Config.{config_check}
-use Rattle.lard_base.specs.declared.config.Config.{Config}
-use Rattle.lard_base.specs.declared.event.Event.{Event}
-use Rattle.lard_rules.specs.declared.machine.Machine.{Machine}
-use Rattle.lard_rules.specs.Machine.{machine_start}
+use Rattle.lard_law_view.specs.Prelude.{Config, Event, Machine, config_check, machine_start}
 use Rattle.lard_law_settles.specs.Rounds.{SettlesTakeRounds}
 use Rattle.lard_settling.specs.Events.{LeadsTo}
 

@@ -4,16 +4,10 @@ use Rattle.std.specs.FinMap.{values}
 use Rattle.std.specs.List.{list_any}
 use Rattle.lard_agenda.specs.Agenda.{agenda_of, holders, kinds_in, on_way}
 use Rattle.lard_agenda.specs.declared.kinds.Running.{Running}
-use Rattle.lard_base.specs.declared.event.Event.{Event}
+use Rattle.lard_law_view.specs.Prelude.{Client, ClientBlock, Event, Front, Node, Place, Rec, client_of, is_holding, own}
 use Rattle.lard_base.specs.declared.event.Event.TheVariants as event
-use Rattle.lard_base.specs.declared.place.Place.{Place}
-use Rattle.lard_base.specs.declared.place.Place.TheVariants.{Front, Node, Client}
-use Rattle.lard_client.specs.Control.{ClientBlock, is_holding}
 use Rattle.lard_law_connections.specs.Line.{waiting_line}
 use Rattle.lard_counts.specs.Stores.{jobs}
-use Rattle.lard_history.specs.Own.{own}
-use Rattle.lard_journal.specs.declared.rec.Rec.{Rec}
-use Rattle.lard_law_view.specs.ClientRule.{client_of}
 use Rattle.lard_settling.specs.Settling.{is_own_seat}
 use Rattle.lard_settling.specs.Written.{written_out}
 

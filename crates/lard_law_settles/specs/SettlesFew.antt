@@ -1,8 +1,6 @@
 -- Runs with settles: few timers and jobs are left at any moment.
 use Rattle.std.specs.Prelude.{◌≡◌, ◌<◌, ◌^◌, ℕ, List, Ok}
-use Rattle.lard_base.specs.Config.{config_check}
-use Rattle.lard_base.specs.declared.config.Config.{Config}
-use Rattle.lard_rules.specs.declared.machine.Machine.{Machine}
+use Rattle.lard_law_view.specs.Prelude.{Config, Machine, config_check}
 use Rattle.lard_settling.specs.Settling.{settle_left}
 use Rattle.lard_settling.specs.Written.{IsWrittenOut}
 

@@ -1,9 +1,6 @@
 -- Runs with settles: their settles stand in order.
 use Rattle.std.specs.Prelude.{ℕ, List}
-use Rattle.lard_base.specs.declared.config.Config.{Config}
-use Rattle.lard_base.specs.declared.event.Event.{Event}
-use Rattle.lard_rules.specs.declared.machine.Machine.{Machine}
-use Rattle.lard_rules.specs.Machine.{machine_start}
+use Rattle.lard_law_view.specs.Prelude.{Config, Event, Machine, machine_start}
 use Rattle.lard_settling.specs.Events.{LeadsTo}
 use Rattle.lard_settling.specs.Order.{SettlesInOrder}
 

@@ -1,11 +1,7 @@
 -- Why a settle may stop before its end: a limit of the run was reached, and nothing else.
 use Rattle.std.specs.Prelude.{◌≡◌, ℕ, List, Result, Ok, Err}
-use Rattle.lard_base.specs.Config.{config_check}
-use Rattle.lard_base.specs.declared.config.Config.{Config}
-use Rattle.lard_rules.specs.declared.fault.StepFault.{StepFault}
+use Rattle.lard_law_view.specs.Prelude.{Config, Machine, StepFault, What, config_check}
 use Rattle.lard_rules.specs.declared.fault.StepFault.TheVariants.{Limit}
-use Rattle.lard_rules.specs.declared.machine.Machine.{Machine}
-use Rattle.lard_rules.specs.declared.fault.What.{What}
 use Rattle.lard_settling.specs.Settling.{Stop, all_inner, completions, deliveries, firings, settled, takes}
 use Rattle.lard_settling.specs.Written.{IsWrittenOut}
 

@@ -1,21 +1,12 @@
 -- A client accepts the next bytes of a true segment.
 use Rattle.std.proofs.Common.{◌≡◌, ◌≤◌, ◌<◌, ◌+◌, ◌^◌, ℕ, true, false, cond, ◌==◌, not, List, length, take, drop, arith, ap, ◌∙◌, sym, subst, refl, ⊎_elim, length-take, length-drop}
 use Rattle.std.proofs.lemmas.Bool.{cond_both, cond-false}
-use Rattle.lard_arrival.specs.Arrival.{IsPartAt, peer_mss}
-use Rattle.lard_client.specs.declared.heard.Heard.{Heard}
-use Rattle.lard_client.specs.declared.phase.Phase.{Phase}
+use Rattle.lard_law_view.specs.Prelude.{Accepts, ClientBlock, Heard, IsBare, IsInOrder, IsNextOf, IsPartAt, IsStream, IsTrueOf, IsTrueSegment, Phase, Said, Stands, Stream, answers_syn, client_arrived, client_on_segment, established, heard_in, heard_nothing, heard_open, introduced, is_established, is_open_in, on_greeting, peer_mss, reset_by_peer, seq_add}
 use Rattle.lard_client.specs.declared.phase.Phase.TheVariants.{Open, Aborted, Reset}
-use Rattle.lard_client.specs.Control.{ClientBlock, is_open_in, is_established}
-use Rattle.lard_client.specs.Arriving.{heard_nothing, reset_by_peer, answers_syn, established, on_greeting, client_on_segment, heard_open, heard_in, client_arrived}
-use Rattle.lard_client.specs.Laws.{IsInOrder, IsTrueSegment, IsNextOf}
 use Rattle.lard_client.proofs.Accepted.{arrived-order, arrived-ended}
 use Rattle.lard_client.proofs.Outcomes.{Outcome, Quiet, Took, segment-outcome}
 use Rattle.lard_client.proofs.TrueSegments.{true-accepted}
-use Rattle.lard_segment.specs.Segment.{Said}
 use Rattle.lard_send.proofs.Sent.{after_ack-irs}
-use Rattle.lard_send.specs.Send.{introduced}
-use Rattle.lard_seq.specs.Seq.{seq_add}
-use Rattle.lard_law_view.specs.Truth.{Stream, IsStream, IsBare, Stands, IsTrueOf, Accepts}
 
 -- what is accepted of a segment are the next bytes
 abbrev pub Takes : Stream → ClientBlock → Said → Heard × ClientBlock → Type 0

@@ -1,24 +1,12 @@
 -- What the two ends of a connection and their packets acknowledge: never more than was taken.
 use Rattle.std.proofs.Common.{◌≡◌, ◌⊎◌, ◌≤◌, ◌<◌, ◌+◌, ◌^◌, ℕ, Bool, true, false, List, [], ◌∷◌, length, Ok}
 use Rattle.std.specs.Prelude.{if◌then◌else◌}
-use Rattle.lard_base.specs.declared.place.Place.{Place}
+use Rattle.lard_law_view.specs.Prelude.{AtFront, Away, ClientAgrees, ClientBlock, Ending, IsSendable, IsTrueOf, Nowhere, Over, Place, Rec, Received, Said, Seat, Stream, ToClient, ToCluster, Turn, client_aborts, client_gets, client_holds, client_opens, client_shuts, client_takes, client_timer, client_writes, is_client_open, is_established, one_if, seq_add, seq_offset, spelled, written_len}
 use Rattle.lard_base.specs.declared.place.Place.TheVariants as place
 use Rattle.lard_base.specs.declared.place.Reason.TheVariants as reason
 use Rattle.lard_client.specs.declared.phase.Phase.TheVariants.{Aborted, Reset}
-use Rattle.lard_client.specs.Control.{ClientBlock, is_established, is_client_open, written_len}
-use Rattle.lard_journal.specs.declared.rec.Rec.{Rec}
 use Rattle.lard_journal.specs.declared.rec.Rec.TheVariants as rec
-use Rattle.lard_law_view.specs.Agreement.{ClientAgrees}
-use Rattle.lard_rules.specs.declared.places.Ending.{Ending}
 use Rattle.lard_rules.specs.declared.places.Ending.TheVariants as ending
-use Rattle.lard_rules.specs.declared.places.Turn.{Turn}
-use Rattle.lard_rules.specs.Client.{client_aborts, client_gets, client_holds, client_opens, client_shuts, client_takes, client_timer, client_writes}
-use Rattle.lard_law_view.specs.Seat.{Seat, Nowhere, AtFront, Away, Over}
-use Rattle.lard_recv.specs.Recv.{Received}
-use Rattle.lard_segment.specs.declared.segment.Dir.TheVariants.{ToClient, ToCluster}
-use Rattle.lard_segment.specs.Segment.{IsSendable, Said, spelled}
-use Rattle.lard_seq.specs.Seq.{one_if, seq_add, seq_offset}
-use Rattle.lard_law_view.specs.Truth.{IsTrueOf, Stream}
 
 -- ---- how much was taken
 

@@ -2,8 +2,7 @@
 use Rattle.std.proofs.Common.{◌≡◌, ◌≤◌, ◌<◌, ◌-◌, ◌^◌, ℕ, true, cond, ◌==◌, ◌&&◌, ◌||◌, nat_lt, drop, arith, ap}
 use Rattle.std.proofs.lemmas.Bool.{cond_both, ltb-true}
 use Rattle.lard_law_view.proofs.Acked.{Acks}
-use Rattle.lard_send.specs.Send.{Sending, moved_up, is_newer, windowed, after_ack}
-use Rattle.lard_seq.specs.Seq.{seq_add, seq_offset}
+use Rattle.lard_law_view.specs.Prelude.{Sending, after_ack, is_newer, moved_up, seq_add, seq_offset, windowed}
 
 -- the offset of what was added is at most that
 offset-least : (b a : ℕ) → b < 2 ^ 32 → seq_offset (seq_add b a) b ≤ a

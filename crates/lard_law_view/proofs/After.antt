@@ -3,29 +3,16 @@
 use Rattle.std.proofs.Common.{◌≡◌, ℕ, ◌+◌, ◌-◌, List, [], ◌∷◌, ◌++◌, length, false, Ok, refl, sym, ap, ◌∙◌, true, not, ◌&&◌, append_assoc}
 use Rattle.std.proofs.lemmas.List.Sums.{fold-append}
 use Rattle.std.specs.List.{fold, list_all}
-use Rattle.lard_base.specs.declared.event.Event.{Event}
+use Rattle.lard_law_view.specs.Prelude.{Event, HasRule, IsStep, IsViewed, Machine, Out, Packet, Place, Rec, answered_step, clocked, is_opening, is_own, lose_at, machine_step, machine_told, net_of, net_step, node_at, packets_of, passed, segments_sent, sent_records, told_rows}
 use Rattle.lard_base.specs.declared.event.Event.TheVariants as event
-use Rattle.lard_base.specs.declared.place.Place.{Place}
-use Rattle.lard_base.specs.declared.place.Place.TheVariants.{Front, Node}
-use Rattle.lard_rules.specs.declared.machine.Machine.{Machine}
-use Rattle.lard_rules.specs.Bounds.{HasRule}
-use Rattle.lard_rules.specs.Machine.{clocked, machine_step, node_at, passed, segments_sent, machine_told, told_rows}
-use Rattle.lard_law_view.specs.View.{IsViewed}
 use Rattle.lard_law_view.proofs.AnyShape.{AnyShape, IsAct, SomeGift, SomeNote, SomeTimer, step-any}
-use Rattle.lard_law_view.proofs.Saying.{GaveAt, IsStill, gave-still, note-still}
+use Rattle.lard_law_view.proofs.OfKinds.{OfTimers, of-gift, of-sents, of-timer}
+use Rattle.lard_law_view.proofs.Saying.{IsStill, gave-still, note-still}
 use Rattle.lard_law_view.proofs.Shapes.{HasJobs, IsPut}
-use Rattle.lard_law_view.proofs.Timers.{IsTimerAt, timer-still}
-use Rattle.lard_history.specs.Journal.{answered_step}
-use Rattle.lard_history.specs.Laws.{IsStep, is_own}
-use Rattle.lard_history.specs.Own.{net_of, net_step}
-use Rattle.lard_history.specs.Steps.{is_opening}
+use Rattle.lard_law_view.proofs.Timers.{timer-still}
 use Rattle.lard_history.proofs.Each.{Each, Each-append, Each-weaker}
 use Rattle.lard_history.proofs.Stepping.{AreInside, IsOneStep}
-use Rattle.lard_journal.specs.declared.rec.Rec.{Rec}
 use Rattle.lard_journal.specs.declared.rec.Rec.TheVariants as rec
-use Rattle.lard_rules.specs.Sent.{packets_of, sent_records}
-use Rattle.lard_net.specs.Net.{Packet, lose_at}
-use Rattle.lard_rules.specs.declared.places.Out.{Out}
 use Rattle.lard_law_view.proofs.Firsts.{AreOthers, HasOwn, others_append, own-alone}
 use Rattle.lard_law_view.proofs.SentPackets.{sents-net}
 use Rattle.lard_law_view.proofs.OwnRecords.{behind}
@@ -75,19 +62,11 @@ quiet-others : (rs : List Rec) → Each IsQuiet rs → AreOthers rs
 quiet-others [] e = refl
 quiet-others (r ∷ rs) e = ap (λ b. b && list_all (λ q. not (is_own q)) rs) e.0.1 ∙ quiet-others rs e.1
 
+quiet-timers : OfTimers IsQuiet
+quiet-timers p d kind = ((λ n. refl, refl), (λ n. refl, refl))
+
 sents-quiet : (k : ℕ) (place : Place) (ss : List (Place × List ℕ)) → Each IsQuiet (sent_records k place ss)
-sents-quiet k place [] = tt
-sents-quiet k place (s ∷ ss) = ((λ n. refl, refl), sents-quiet (k + 1) place ss)
-
-gave-quiet : (place : Place) (c : ℕ) (r : Rec) → GaveAt place c r → IsQuiet r
-gave-quiet Front c (rec.Gave Front d epoch) h = (λ n. refl, refl)
-gave-quiet (Node n) c (rec.Gave (Node k) d epoch) h = (λ n. refl, refl)
-gave-quiet _ c _ h = absurd h
-
-timer-quiet : (place : Place) (c : ℕ) (r : Rec) → IsTimerAt place c r → IsQuiet r
-timer-quiet place c (rec.Armed p d kind) h = (λ n. refl, refl)
-timer-quiet place c (rec.Cleared p d kind) h = (λ n. refl, refl)
-timer-quiet place c _ h = absurd h
+sents-quiet = of-sents IsQuiet (λ k from to bytes. (λ n. refl, refl))
 
 -- ---- what an act says
 
@@ -100,8 +79,8 @@ record IsStillOut (o : Out) : Type 0 where
 act-still : (m w : Machine) (e : Event) (place : Place) (o : Out) → IsAct m w e place o → IsStillOut o
 act-still m w e place o act = record {
   notes = Each-weaker (SomeNote place) IsStill (λ r h. note-still place h.0 r h.2) o.notes act.notes;
-  gave = Each-weaker (SomeGift place) (λ r. IsStill r × IsQuiet r) (λ r h. (gave-still place h.0 r h.1, gave-quiet place h.0 r h.1)) o.gave act.gave;
-  timers = Each-weaker (SomeTimer place) (λ r. IsStill r × IsQuiet r) (λ r h. (timer-still place h.0 r h.1, timer-quiet place h.0 r h.1)) o.timers act.timers;
+  gave = Each-weaker (SomeGift place) (λ r. IsStill r × IsQuiet r) (λ r h. (gave-still place h.0 r h.1, of-gift IsQuiet (λ p d epoch. (λ n. refl, refl)) place h.0 r h.1)) o.gave act.gave;
+  timers = Each-weaker (SomeTimer place) (λ r. IsStill r × IsQuiet r) (λ r h. (timer-still place h.0 r h.1, of-timer IsQuiet quiet-timers place h.0 r h.1)) o.timers act.timers;
 }
 
 -- the event and its own records stand before all others

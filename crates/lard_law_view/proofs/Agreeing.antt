@@ -1,19 +1,9 @@
 -- A turn of a place keeps what its connection agrees on.
 use Rattle.std.proofs.Common.{◌≡◌, ℕ, ◌+◌, ◌-◌, ◌≤◌, List, ◌++◌, length, Bool, true, false, refl, sym, ap, ◌∙◌, subst, arith}
 use Rattle.std.proofs.lemmas.Bool.{both_ways}
-use Rattle.lard_answers.specs.Answers.{verdicts_on}
-use Rattle.lard_block.specs.Blocks.{blocks}
-use Rattle.lard_endpoint.specs.Control.{ControlBlock}
-use Rattle.lard_history.specs.Journal.{Tale, fin_sent, tale}
+use Rattle.lard_law_view.specs.Prelude.{AtFront, Away, ControlBlock, EndedAs, Final, FrontAgrees, GoesOn, HasRead, HoldsIt, Nowhere, Over, Rec, Seat, Stream, Tale, Verdict, blocks, fin_sent, seq_add, tale, verdicts_on}
 use Rattle.lard_history.proofs.Tales.{fin-tale}
-use Rattle.lard_journal.specs.declared.rec.Rec.{Rec}
-use Rattle.lard_law_view.specs.Seat.{Seat, Nowhere, AtFront, Away, Over}
-use Rattle.lard_request.specs.declared.verdict.Verdict.{Verdict}
-use Rattle.lard_endpoint.specs.declared.control.moving.Final.{Final}
-use Rattle.lard_seq.specs.Seq.{seq_add}
-use Rattle.lard_law_view.specs.Truth.{GoesOn, Stream}
 use Rattle.lard_law_view.proofs.Growth.{front-length, front-take, heard-grown}
-use Rattle.lard_law_view.specs.Agreement.{EndedAs, FrontAgrees, HasRead, HoldsIt}
 
 -- ---- while the client's stream goes on
 

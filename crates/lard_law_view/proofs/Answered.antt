@@ -1,16 +1,10 @@
 -- What the front end got of what a client wrote, it has answered.
 use Rattle.std.proofs.Common.{◌≡◌, ◌≤◌, ◌+◌, ◌-◌, ℕ, ◌||◌, Bool, true, false, List, [], ◌∷◌, ◌++◌, length, take, drop, arith, refl, ap, ◌∙◌, sym, append-nil, length-append}
 use Rattle.std.proofs.Math.Seq.{take-add, take-length}
-use Rattle.lard_answers.specs.Answers.{FilesAt, IsPrefix, closes_any, until_close, verdicts, verdicts_on}
+use Rattle.lard_law_view.specs.Prelude.{ControlBlock, FilesAt, HoldsIt, IsPrefix, SaysAnswers, Stream, Verdict, blocks, closes, closes_any, until_close, verdicts, verdicts_on}
 use Rattle.lard_answers.proofs.Following.{until_close-behind}
 use Rattle.lard_answers.proofs.Growing.{until_close-nil, until_close-closed, until_close-open, verdicts-are, verdicts-grow}
-use Rattle.lard_block.specs.Blocks.{blocks}
-use Rattle.lard_endpoint.specs.Control.{ControlBlock}
-use Rattle.lard_law_view.specs.Agreement.{HoldsIt, SaysAnswers}
 use Rattle.lard_law_view.proofs.ReadingBytes.{read-came}
-use Rattle.lard_request.specs.declared.verdict.Verdict.{Verdict}
-use Rattle.lard_request.specs.Verdict.{closes}
-use Rattle.lard_law_view.specs.Truth.{Stream}
 
 -- ---- verdicts that close
 

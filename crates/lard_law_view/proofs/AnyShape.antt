@@ -4,27 +4,16 @@ use Rattle.std.proofs.Common.{◌≡◌, ℕ, ◌+◌, ◌-◌, List, [], ◌∷
 use Rattle.std.specs.Prelude.{◌⊎◌}
 use Rattle.std.proofs.lemmas.List.Sums.{fold-append}
 use Rattle.std.specs.List.{flat_map, fold}
-use Rattle.lard_base.specs.declared.event.Event.{Event}
+use Rattle.lard_law_view.specs.Prelude.{Conn, Event, Front, GoesBetween, HasRule, IsConnNumber, IsViewed, Machine, Move, Node, Out, Packet, Part, Place, Rec, Seen, answered_step, clocked, lose_at, machine_step, machine_told, net_step, packet_at, part_of, passed, seen_of, seen_on, setting_of, timer_rows}
 use Rattle.lard_base.specs.declared.event.Event.TheVariants as event
-use Rattle.lard_base.specs.declared.place.Place.{Place}
-use Rattle.lard_base.specs.declared.place.Place.TheVariants.{Front, Node}
-use Rattle.lard_rules.specs.declared.machine.Machine.{Machine}
-use Rattle.lard_rules.specs.Bounds.{HasRule, IsConnNumber}
-use Rattle.lard_rules.specs.Machine.{clocked, machine_step, passed, machine_told}
-use Rattle.lard_law_view.specs.View.{Conn, GoesBetween, IsViewed, Move, Part, part_of, setting_of, timer_rows}
 use Rattle.lard_law_view.proofs.Fine.{IsFine, fine}
 use Rattle.lard_law_view.proofs.Heads.{ActsAt, Begins}
 use Rattle.lard_law_view.proofs.Saying.{AllBetween, AreMessages, GaveAt, IsStill, NotedAt, messages-between}
 use Rattle.lard_law_view.proofs.Shapes.{ActsOn, ActsOnEach, ActsOnTwo, IsMover, IsNobodyAt, IsPut, IsUnheardAt, Mover, NamesNobody, Shapes, both_out, each_out}
 use Rattle.lard_law_view.proofs.Stepping.{step-has}
 use Rattle.lard_law_view.proofs.Timers.{IsTimerAt, timer_rows-are}
-use Rattle.lard_history.specs.Journal.{answered_step}
-use Rattle.lard_history.specs.Own.{Seen, net_step, seen_of, seen_on}
 use Rattle.lard_history.proofs.Each.{Each, Each-append, Each-weaker}
-use Rattle.lard_journal.specs.declared.rec.Rec.{Rec}
 use Rattle.lard_journal.specs.declared.rec.Rec.TheVariants as rec
-use Rattle.lard_net.specs.Net.{Packet, lose_at, packet_at}
-use Rattle.lard_rules.specs.declared.places.Out.{Out}
 use Rattle.lard_law_view.proofs.Firsts.{HasOwn}
 use Rattle.lard_law_view.proofs.OwnRecords.{behind}
 

@@ -7,12 +7,7 @@ use Rattle.std.specs.Int.{to_be_bytes, w16, w32}
 use Rattle.std.specs.List.{list_all}
 use Rattle.hex.specs.Hex.{IsBytes}
 use Rattle.lard_history.proofs.Each.{Each, Each-append}
-use Rattle.lard_segment.specs.Checksum.{checksum_of}
-use Rattle.lard_segment.specs.declared.segment.Dir.{Dir}
-use Rattle.lard_segment.specs.declared.segment.Flags.{Flags}
-use Rattle.lard_segment.specs.Fields.{flags_byte, source_port, target_port}
-use Rattle.lard_segment.specs.Options.{option_bytes}
-use Rattle.lard_segment.specs.Segment.{Said, decoded, fixed_bytes, spelled, with_checksum}
+use Rattle.lard_law_view.specs.Prelude.{Dir, Flags, Said, checksum_of, decoded, fixed_bytes, flags_byte, option_bytes, source_port, spelled, target_port, with_checksum}
 use Rattle.lard_segment.proofs.Decoded.{decoded-read}
 use Rattle.lard_segment.proofs.Written.{length-option_bytes}
 

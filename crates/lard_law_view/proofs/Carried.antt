@@ -1,20 +1,10 @@
 -- A law of one connection is a law of each connection in every state that events lead to.
 use Rattle.std.proofs.Common.{◌≡◌, ℕ, List, [], ◌∷◌, ◌++◌, Some, None, Ok, refl, sym, ap, ◌∙◌, subst, inl, inr, ⊎_elim}
-use Rattle.lard_base.specs.declared.config.Config.{Config}
-use Rattle.lard_base.specs.declared.event.Event.{Event}
-use Rattle.lard_rules.specs.declared.machine.Machine.{Machine}
-use Rattle.lard_rules.specs.Bounds.{HasRule, IsConnNumber}
-use Rattle.lard_rules.specs.Machine.{IsReached, machine_step, machine_start}
-use Rattle.lard_law_view.specs.Carry.{MayRestOn, setting}
-use Rattle.lard_law_view.specs.Laws.{Carries, IsViewedAlways, StepsMove}
-use Rattle.lard_law_view.specs.View.{AreNumbered, Conn, GoesBy, IsConnSound, IsViewed, Move, Rules, Setting, blank_conn, conn, grown, setting_of}
+use Rattle.lard_law_view.specs.Prelude.{AreNumbered, Carries, Config, Conn, Event, GoesBy, HasRule, IsConnNumber, IsConnSound, IsReached, IsViewed, IsViewedAlways, Machine, MayRestOn, Move, NodeState, Rules, Setting, StepsMove, blank_conn, conn, file_at, grown, machine_start, machine_step, no_stays, setting, setting_of}
 use Rattle.lard_law_view.proofs.After.{IsAfter, step-after}
 use Rattle.lard_law_view.proofs.Fine.{IsFine, fine}
 use Rattle.lard_law_view.proofs.Runs.{length-replicated, of-nodes, passes-keep, passes-more, start-blank}
 use Rattle.lard_law_view.proofs.Steps.{IsShown, step_comes}
-use Rattle.lard_files.specs.Files.{file_at}
-use Rattle.lard_rules.specs.declared.node.NodeState.{NodeState}
-use Rattle.lard_rules.specs.NodePlace.{no_stays}
 
 -- each connection stays, or makes one move of one rule
 pub step_moves : StepsMove

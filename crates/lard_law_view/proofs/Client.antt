@@ -1,20 +1,11 @@
 -- A client sends the truth of its own stream, which goes on as it writes and as segments come.
-use Rattle.std.proofs.Common.{◌≡◌, ◌≤◌, ◌<◌, ◌+◌, ◌^◌, ℕ, Bool, true, false, cond, nat_lt, ◌==◌, not, ◌&&◌, ◌||◌, List, [], ◌++◌, length, Option, Some, None, IfSome, arith, sym, subst, refl}
+use Rattle.std.proofs.Common.{◌≡◌, ◌≤◌, ◌<◌, ◌+◌, ◌^◌, ℕ, Bool, true, false, cond, not, ◌&&◌, ◌||◌, List, [], ◌++◌, length, Option, Some, None, IfSome, arith, sym, subst, refl}
 use Rattle.std.proofs.lemmas.Bool.{cond_both, and_parts, not-true}
-use Rattle.lard_arrival.specs.Arrival.{is_acceptable, is_allowed, bare, peer_mss}
-use Rattle.lard_client.specs.declared.heard.Heard.{Heard}
-use Rattle.lard_client.specs.declared.phase.Phase.{Phase}
+use Rattle.lard_law_view.specs.Prelude.{Accepts, ClientBlock, GoesOn, IsClientBlock, Phase, Ready, Said, Sending, Speaks, Stream, abort_ready, aborted, accepting, after_ack, after_next, after_resend, client_ack_ready, client_after_emit, client_after_owed, client_after_piece, client_after_timer, client_arrived, client_emitted, client_ends, client_filled, client_opened, client_owed_ready, client_owes, client_piece_ready, client_rcv_nxt, client_rcv_wnd, client_ready_of, client_refusal, client_taken, client_timed, client_told, client_written, data_ready, established, fresh_len, heard_in, heard_open, held_on, introduced, is_client_open, is_established, is_writing, next_piece, peer_mss, queued_too, resent_piece, reset_ready, send_closed, shut_down, stream_of, syn_ready}
 use Rattle.lard_client.specs.declared.phase.Phase.TheVariants.{Open, Aborted, Reset}
-use Rattle.lard_client.specs.Control.{ClientBlock, IsClientBlock, is_client_open, is_established, is_writing, client_rcv_nxt, client_rcv_wnd, client_opened, client_written, shut_down, held_on, client_taken, aborted}
-use Rattle.lard_client.specs.Leaving.{syn_ready, data_ready, client_piece_ready, client_ack_ready, reset_ready, client_refusal, client_told, client_owes, client_owed_ready, client_after_owed, client_ready_of, client_after_piece, client_emitted, client_after_emit, client_timed, client_after_timer, abort_ready, client_filled}
-use Rattle.lard_client.specs.Arriving.{heard_nothing, client_owing, reset_by_peer, client_begins_after, fresh_len, client_ends, accepting, client_part_of, on_fresh, client_on_text, client_on_ack, client_on_syn, client_on_rst, client_on_unacceptable, client_on_segment, answers_syn, established, on_greeting, heard_open, heard_in, client_arrived}
 use Rattle.lard_client.proofs.Accepted.{no_reply}
-use Rattle.lard_segment.specs.declared.segment.Ready.{Ready}
-use Rattle.lard_segment.specs.Segment.{Said}
 use Rattle.lard_send.specs.declared.piece.Piece.{Piece}
-use Rattle.lard_send.specs.Send.{Sending, queued_too, send_closed, introduced, next_piece, after_next, resent_piece, after_resend, after_ack}
-use Rattle.lard_seq.specs.Seq.{seq_offset}
-use Rattle.lard_law_view.specs.Truth.{Stream, GoesOn, Speaks, Accepts, stream_of}
+use Rattle.lard_rules.proofs.Hearing.{acked, arrived-keeps, client-emit-keeps, client-timer-keeps}
 use Rattle.lard_law_view.proofs.Pieces.{Carries, Fair, bare-true, piece_size, piece-true, next-carries, resent-carries}
 use Rattle.lard_law_view.proofs.Speaking.{SpeaksAs, Continues, next-moves, resend-moves, speaks-begun, speaks-next, speaks-resend, speaks-ack, speaks-introduced, speaks-queued, speaks-closed, continues-as, continues-behind}
 
@@ -115,69 +106,24 @@ module _ (x : Stream) (b : ClientBlock) (bytes : List ℕ) (h : Speaks b.send by
   told-left : (d : ClientBlock) → Left d → Left (client_told d)
   told-left d l = (l.0, l.1, record { first = l.2.first; within = l.2.within; final = l.2.final })
 
-  piece-left : (d other : ClientBlock) (p : Option Piece) → Left d → Left other → Left (client_after_piece d p other)
-  piece-left d other (Some p) l k = told-left d l
-  piece-left d other None l k = k
-
   sent-left : (t : Sending) (n : ℕ) → t ≡ record b.send { nxt = n } → SpeaksAs b.send bytes t → Left (record b { send = t })
   sent-left t n e s = (s.0, s.1, subst (λ (z : Sending). Accepts x (record b { send = z })) (sym e) (accepts-unsent x b n a))
 
   pub emit-left : Left (client_after_emit b)
   emit-left =
-      let sent = sent-left (after_next b.send) (after_next b.send).nxt (next-moves b.send) (speaks-next b.send bytes h) in
-      let unsent : Left b = (h, refl, a) in
-      cond_both (not (is_client_open b)) b (client_after_piece (record b { send = after_next b.send }) (next_piece b.send) (client_after_owed b)) Left (λ t. unsent)
-      (λ t. piece-left (record b { send = after_next b.send }) (client_after_owed b) (next_piece b.send) sent
-      (cond_both (client_owes b) (client_told b) b Left (λ u. told-left b unsent) (λ u. unsent)))
+      let next : ClientBlock = record b { send = after_next b.send } in
+      let sent : Left next = sent-left (after_next b.send) (after_next b.send).nxt (next-moves b.send) (speaks-next b.send bytes h) in
+      client-emit-keeps Left b (h, refl, a) (told-left b (h, refl, a)) (told-left next sent)
 
   pub timer-left : Left (client_after_timer b)
   timer-left =
-      let sent = sent-left (after_resend b.send) (after_resend b.send).nxt (resend-moves b.send) (speaks-resend b.send bytes h) in
-      let unsent : Left b = (h, refl, a) in
-      cond_both (not (is_client_open b)) b (client_after_piece (record b { send = after_resend b.send }) (resent_piece b.send) b) Left (λ t. unsent)
-      (λ t. piece-left (record b { send = after_resend b.send }) b (resent_piece b.send) sent unsent)
+      let next : ClientBlock = record b { send = after_resend b.send } in
+      let sent : Left next = sent-left (after_resend b.send) (after_resend b.send).nxt (resend-moves b.send) (speaks-resend b.send bytes h) in
+      client-timer-keeps Left b (h, refl, a) (told-left next sent)
 
 -- ---- a segment arrives
-abbrev Continuing : ClientBlock → List ℕ → Heard × ClientBlock → Type 0
-Continuing b bytes r = Continues b.send bytes r.1.send
-
 still : (b : ClientBlock) (bytes : List ℕ) → Speaks b.send bytes → Continues b.send bytes b.send
 still b bytes h = continues-as b.send b.send bytes (h, refl)
-
--- a FIN that is taken finishes its own side
-fresh-continues : (b : ClientBlock) (bytes : List ℕ) (s : Said) → Speaks b.send bytes → Continuing b bytes (on_fresh b s)
-fresh-continues b bytes s h =
-    cond_both (client_begins_after b s || b.eof) (heard_nothing, b) (client_part_of b s, accepting b (fresh_len b s) (client_ends b s)) (Continuing b bytes) (λ t. still b bytes h)
-    (λ t. cond_both (client_ends b s) (send_closed b.send) b.send (Continues b.send bytes) (λ u. speaks-closed b.send bytes h) (λ u. still b bytes h))
-
-text-continues : (b : ClientBlock) (bytes : List ℕ) (s : Said) → Speaks b.send bytes → Continuing b bytes (client_on_text b s)
-text-continues b bytes s h =
-    cond_both ((length s.payload == 0) && not s.flags.fin) (heard_nothing, b) (on_fresh (client_owing b) s) (Continuing b bytes)
-    (λ t. still b bytes h) (λ t. fresh-continues (client_owing b) bytes s h)
-
-ack-continues : (b : ClientBlock) (bytes : List ℕ) (s : Said) → Speaks b.send bytes → Continuing b bytes (client_on_ack b s)
-ack-continues b bytes s h =
-    let send = after_ack b.send s.ack s.seq s.wnd in
-    let acked : ClientBlock = record b { send = send } in
-    let beyond = nat_lt b.send.nxt (seq_offset s.ack b.send.iss) in
-    let kept = speaks-ack b.send bytes s.ack s.seq s.wnd h in
-    cond_both (not s.flags.ack) (heard_nothing, b) (cond beyond (heard_nothing, client_owing b) (client_on_text acked s)) (Continuing b bytes) (λ t. still b bytes h)
-    (λ t. cond_both beyond (heard_nothing, client_owing b) (client_on_text acked s) (Continuing b bytes) (λ u. still b bytes h)
-    (λ u. continues-behind b.send send (client_on_text acked s).1.send bytes kept (text-continues acked bytes s kept.0)))
-
-segment-continues : (b : ClientBlock) (bytes : List ℕ) (s : Said) → Speaks b.send bytes → Continuing b bytes (client_on_segment b s)
-segment-continues b bytes s h =
-    let P : Heard × ClientBlock → Type 0 = Continuing b bytes in
-    let reset : Heard × ClientBlock = cond (s.seq == client_rcv_nxt b) (heard_nothing, reset_by_peer b) (heard_nothing, client_owing b) in
-    let dropped : Heard × ClientBlock = cond s.flags.rst (heard_nothing, b) (heard_nothing, client_owing b) in
-    let none = still b bytes h in
-    cond_both (is_acceptable (client_rcv_nxt b) (client_rcv_wnd b) s) (client_on_rst b s) (client_on_unacceptable b s) P
-    (λ t. cond_both (not s.flags.rst) (client_on_syn b s) reset P
-    (λ u. cond_both s.flags.syn (heard_nothing, client_owing b) (client_on_ack b s) P (λ v. none) (λ v. ack-continues b bytes s h))
-    (λ u. cond_both (s.seq == client_rcv_nxt b) (heard_nothing, reset_by_peer b) (heard_nothing, client_owing b) P (λ v. none) (λ v. none)))
-    (λ t. cond_both (is_allowed (client_rcv_nxt b) (client_rcv_wnd b) s) (client_on_ack (client_owing b) (bare s)) dropped P
-    (λ u. ack-continues (client_owing b) bytes (bare s) h)
-    (λ u. cond_both s.flags.rst (heard_nothing, b) (heard_nothing, client_owing b) P (λ v. none) (λ v. none)))
 
 -- the cluster's SYN
 established-continues : (b : ClientBlock) (bytes : List ℕ) (s : Said) → Speaks b.send bytes → Continues b.send bytes (established b s).send
@@ -187,24 +133,24 @@ established-continues b bytes s h =
     let learnt = speaks-introduced b.send bytes s.seq (peer_mss s.mss) (omega arith) (omega arith) h in
     continues-behind b.send met send bytes learnt (continues-as met send bytes (speaks-ack met bytes s.ack s.seq s.wnd learnt.0))
 
-greeting-continues : (b : ClientBlock) (bytes : List ℕ) (s : Said) → Speaks b.send bytes → Continuing b bytes (on_greeting b s)
-greeting-continues b bytes s h =
-    let P : Heard × ClientBlock → Type 0 = Continuing b bytes in
-    let synced = cond s.flags.syn (heard_nothing, established b s) (heard_nothing, b) in
-    let none = still b bytes h in
-    cond_both (not (answers_syn b s)) (heard_nothing, b) (cond s.flags.rst (heard_nothing, reset_by_peer b) synced) P (λ t. none)
-    (λ t. cond_both s.flags.rst (heard_nothing, reset_by_peer b) synced P (λ u. none)
-    (λ u. cond_both s.flags.syn (heard_nothing, established b s) (heard_nothing, b) P (λ v. established-continues b bytes s h) (λ v. none)))
-
-phase-continues : (p : Phase) (b : ClientBlock) (bytes : List ℕ) (s : Said) → Speaks b.send bytes → Continuing b bytes (heard_in p b s)
-phase-continues Open b bytes s h = cond_both (b.send.una == 0) (on_greeting b s) (client_on_segment b s) (Continuing b bytes)
-    (λ t. greeting-continues b bytes s h) (λ t. segment-continues b bytes s h)
-phase-continues Aborted b bytes s h = still b bytes h
-phase-continues Reset b bytes s h = still b bytes h
-
 pub arriving-continues : (b : ClientBlock) (bytes : List ℕ) (s : Said) → Speaks b.send bytes → Continues b.send bytes (client_arrived b s).1.send
-unfolding client_arrived
-arriving-continues b bytes s h = phase-continues b.phase b bytes s h
+arriving-continues b bytes s h = arrived-keeps b s (λ r. Continues b.send bytes r.1.send) (record {
+  refuses = λ e. still b bytes h;
+  ignores = λ e. still b bytes h;
+  learns = λ e t plain. established-continues b bytes s h;
+  takes = λ e. record {
+    rests = λ owed. still b bytes h;
+    resets = λ t. still b bytes h;
+    acks = λ owed c. continues-as b.send (acked b s owed).send bytes kept;
+    accepts = λ c in_order going.
+        let y : ClientBlock = acked b s true in
+        -- a FIN that is taken finishes its own side
+        continues-behind b.send y.send (accepting y (fresh_len y s) (client_ends y s)).send bytes kept
+        (cond_both (client_ends y s) (send_closed y.send) y.send (Continues y.send bytes) (λ u. speaks-closed y.send bytes kept.0) (λ u. still y bytes kept.0));
+  };
+}) where
+  kept : SpeaksAs b.send bytes (after_ack b.send s.ack s.seq s.wnd)
+  kept = speaks-ack b.send bytes s.ack s.seq s.wnd h
 
 -- ---- the beginning, and its owner's calls
 pub opening-begins : (x : Stream) (c isn wnd mss : ℕ) → isn < 2 ^ 32 → Accepts x (client_opened c isn wnd mss) × Speaks (client_opened c isn wnd mss).send []

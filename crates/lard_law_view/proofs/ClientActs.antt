@@ -1,23 +1,11 @@
 -- Each rule of a client takes no less than was taken, acknowledges no more, and aborts, resets and closes by its causes.
 use Rattle.std.proofs.Common.{◌≡◌, ◌≤◌, ◌+◌, ◌^◌, ℕ, Bool, true, false, cond, ◌||◌, nat_lt, List, [], ◌∷◌, ◌++◌, length, take, drop, arith, refl, sym, ap, ◌∙◌, subst, inl, inr, ⊎_elim}
 use Rattle.std.proofs.lemmas.Bool.{cond_both, cond-true}
-use Rattle.lard_base.specs.declared.place.Place.{Place}
-use Rattle.lard_client.specs.declared.heard.Heard.{Heard}
+use Rattle.lard_law_view.specs.Prelude.{Accepts, ClientAgrees, ClientBlock, Heard, Place, Rec, Sending, Speaks, Stream, abort_ready, aborted, accepted_note, client_after_timer, client_arrived, client_emits, client_holds, client_opened, client_shuts, client_taken, client_takes, client_timed, client_timer, client_writes, client_written, eof_note, heard_nothing, held_on, is_aborted_in, is_client_open, is_established, is_open_in, is_writing, queued_too, send_closed, seq_add, seq_offset, shut_down, silent, speaking, station_ready_of, stream_of, unsaid, unwritten, written_len}
 use Rattle.lard_client.specs.declared.phase.Phase.TheVariants as phase
-use Rattle.lard_client.specs.Control.{ClientBlock, is_client_open, is_open_in, is_aborted_in, is_established, is_writing, client_opened, client_written, written_len, shut_down, held_on, client_taken, aborted}
-use Rattle.lard_client.specs.Arriving.{heard_nothing, client_arrived}
-use Rattle.lard_client.specs.Leaving.{abort_ready, client_timed, client_after_timer, unsaid}
-use Rattle.lard_journal.specs.declared.rec.Rec.{Rec}
 use Rattle.lard_journal.specs.declared.rec.Rec.TheVariants as rec
-use Rattle.lard_rules.specs.Client.{silent, station_ready_of, speaking, accepted_note, eof_note, client_writes, client_shuts, client_holds, client_takes, client_timer}
-use Rattle.lard_rules.specs.Speaking.{client_emits}
-use Rattle.lard_send.specs.Send.{Sending, queued_too, send_closed}
-use Rattle.lard_seq.specs.Seq.{seq_add, seq_offset}
-use Rattle.lard_law_view.specs.Truth.{Stream, Speaks, Accepts, stream_of}
 use Rattle.lard_law_view.proofs.Accepting.{arrived-takes}
 use Rattle.lard_law_view.proofs.Client.{timed-fair, timer-left, abort-fair, reply-fair, arriving-continues, written-speaks, closing-speaks, others-change_nothing}
-use Rattle.lard_law_view.specs.Agreement.{ClientAgrees}
-use Rattle.lard_law_view.specs.Keeping.{unwritten}
 use Rattle.lard_law_view.proofs.ClientAlike.{IsLike, alike, timer-alike, arrived-alike}
 use Rattle.lard_law_view.proofs.ClientSpeaking.{agrees-after}
 use Rattle.lard_law_view.proofs.ClientAgreement.{opened-agrees}

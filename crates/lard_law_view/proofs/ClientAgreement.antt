@@ -1,21 +1,12 @@
 -- The turns of a client's own calls and of its timer keep the agreement.
 use Rattle.std.proofs.Common.{◌≡◌, ◌≤◌, ◌<◌, ◌+◌, ◌^◌, ℕ, true, false, cond, ◌||◌, List, [], ◌∷◌, ◌++◌, length, take, Some, arith, refl, sym, ap, ◌∙◌, subst, append-nil}
 use Rattle.std.proofs.lemmas.Bool.{cond_both}
-use Rattle.lard_base.specs.declared.place.Place.{Place}
+use Rattle.lard_law_view.specs.Prelude.{Accepts, AreClientNotes, AreClientWords, ClientAgrees, ClientBlock, ClientOpened, ClientTurned, GoesOn, Place, Ready, Rec, Speaks, Stream, abort_ready, aborted, accepted_in, client_aborts, client_after_timer, client_filled, client_holds, client_opened, client_opens, client_shuts, client_taken, client_takes, client_timed, client_timer, client_writes, client_written, held_on, is_client_open, is_established, is_writing, queued_too, send_closed, shut_down, silent, speaking, station_ready_of, stream_of, unwritten, written_in, written_len}
 use Rattle.lard_client.specs.declared.phase.Phase.TheVariants as phase
-use Rattle.lard_client.specs.Control.{ClientBlock, is_client_open, is_established, is_writing, client_opened, client_written, written_len, shut_down, held_on, client_taken, aborted}
-use Rattle.lard_client.specs.Leaving.{abort_ready, client_timed, client_after_timer, client_filled}
-use Rattle.lard_journal.specs.declared.rec.Rec.{Rec}
 use Rattle.lard_journal.specs.declared.rec.Rec.TheVariants as rec
-use Rattle.lard_rules.specs.Client.{silent, station_ready_of, speaking, client_opens, client_writes, client_shuts, client_holds, client_takes, client_aborts, client_timer}
-use Rattle.lard_segment.specs.declared.segment.Ready.{Ready}
-use Rattle.lard_send.specs.Send.{queued_too, send_closed}
-use Rattle.lard_law_view.specs.Truth.{Stream, GoesOn, Speaks, Accepts, stream_of}
 use Rattle.lard_law_view.proofs.Client.{opening-begins, timed-fair, timer-left, abort-fair, written-speaks}
 use Rattle.lard_law_view.proofs.Pieces.{Fair}
 use Rattle.lard_law_view.proofs.Speaking.{Continues, continues-as, speaks-closed}
-use Rattle.lard_law_view.specs.Agreement.{AreClientWords, ClientAgrees}
-use Rattle.lard_law_view.specs.Keeping.{AreClientNotes, ClientOpened, ClientTurned, accepted_in, unwritten, written_in}
 use Rattle.lard_law_view.proofs.ClientAlike.{IsLike, IsLeft, alike, timer-alike}
 use Rattle.lard_law_view.proofs.ClientSpeaking.{agrees-after, emits-spoke, ready-words, turned-speaking}
 

@@ -1,19 +1,11 @@
 -- A client that hears a true segment accepts the next bytes of the cluster's stream, and notes just these.
 use Rattle.std.proofs.Common.{◌≡◌, ◌≤◌, ◌<◌, ◌^◌, ℕ, nat_lt, List, [], ◌∷◌, ◌++◌, length, take, drop, Ok, arith, refl, sym, ap, ◌∙◌, subst, append-nil, length-take, length-drop, take-add}
 use Rattle.std.proofs.lemmas.Bool.{cond_both, ltb-false}
-use Rattle.lard_client.specs.declared.heard.Heard.{Heard}
-use Rattle.lard_client.specs.Control.{ClientBlock}
-use Rattle.lard_client.specs.Arriving.{client_arrived}
+use Rattle.lard_law_view.specs.Prelude.{AreClientNotes, ClientAgrees, ClientBlock, ClientTurned, Heard, IsTrueOf, Rec, Said, Stream, accepted_in, accepted_note, client_arrived, client_gets, eof_note, station_ready_of, stream_of, written_in}
 use Rattle.lard_client.proofs.Accepted.{arrived-order}
-use Rattle.lard_journal.specs.declared.rec.Rec.{Rec}
 use Rattle.lard_journal.specs.declared.rec.Rec.TheVariants as rec
-use Rattle.lard_rules.specs.Client.{accepted_note, eof_note, station_ready_of, client_gets}
-use Rattle.lard_segment.specs.Segment.{Said}
-use Rattle.lard_law_view.specs.Truth.{Stream, IsTrueOf, stream_of}
 use Rattle.lard_law_view.proofs.Accepting.{arrived-takes}
 use Rattle.lard_law_view.proofs.Client.{arriving-continues, reply-fair}
-use Rattle.lard_law_view.specs.Agreement.{ClientAgrees}
-use Rattle.lard_law_view.specs.Keeping.{AreClientNotes, ClientTurned, accepted_in, written_in}
 use Rattle.lard_law_view.proofs.ClientAlike.{arrived-alike}
 use Rattle.lard_law_view.proofs.ClientSpeaking.{ready-words, turned-speaking}
 use Rattle.lard_law_view.proofs.ClientAgreement.{turned}

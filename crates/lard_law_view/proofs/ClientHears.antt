@@ -1,15 +1,9 @@
 -- What a client hears of a segment, in the numbers of the journal.
 use Rattle.std.proofs.Common.{◌≡◌, ℕ, ◌+◌, ◌<◌, ◌^◌, length, Bool, true, false, not, ◌==◌, cond, refl, sym, ap, ◌∙◌, arith}
 use Rattle.std.proofs.lemmas.Bool.{cond_both}
-use Rattle.lard_client.specs.declared.heard.Heard.{Heard}
-use Rattle.lard_client.specs.declared.phase.Phase.{Phase}
+use Rattle.lard_law_view.specs.Prelude.{ClientBlock, Heard, IsInOrder, Phase, Said, answers_syn, client_arrived, client_on_segment, established, heard_in, heard_nothing, is_established, on_greeting, one_if, reset_by_peer, seq_add}
 use Rattle.lard_client.specs.declared.phase.Phase.TheVariants.{Open, Aborted, Reset}
-use Rattle.lard_client.specs.Arriving.{answers_syn, client_arrived, established, heard_in, heard_nothing, on_greeting, client_on_segment, reset_by_peer}
-use Rattle.lard_client.specs.Control.{ClientBlock, is_established}
-use Rattle.lard_client.specs.Laws.{IsInOrder}
 use Rattle.lard_client.proofs.Accepted.{arrived-order}
-use Rattle.lard_segment.specs.Segment.{Said}
-use Rattle.lard_seq.specs.Seq.{one_if, seq_add}
 
 -- it takes something
 abbrev pub Takes : Heard → Type 0

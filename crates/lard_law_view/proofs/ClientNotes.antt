@@ -1,24 +1,12 @@
 -- What each rule of a client says: its notes may stand, and it stands as they tell.
 use Rattle.std.proofs.Common.{◌≡◌, ℕ, Bool, true, false, cond, nat_lt, List, [], ◌∷◌, ◌++◌, take, drop, Some, Result, Ok, Err, refl, sym, ap, ◌∙◌}
 use Rattle.std.proofs.lemmas.Bool.{cond_both}
-use Rattle.lard_base.specs.declared.place.Place.{Place}
-use Rattle.lard_base.specs.declared.place.Place.TheVariants.{Front}
-use Rattle.lard_client.specs.Arriving.{client_arrived}
-use Rattle.lard_client.specs.Control.{ClientBlock, aborted, held_on, is_writing, client_opened, shut_down, client_taken, client_written}
-use Rattle.lard_client.specs.Leaving.{abort_ready, client_after_timer, client_timed}
-use Rattle.lard_history.specs.Journal.{Tale, told_on}
+use Rattle.lard_law_view.specs.Prelude.{ClientBlock, ClientTale, Front, IsOpened, Place, Rec, Said, SegFault, Tale, Turn, abort_ready, aborted, client_aborts, client_after_timer, client_arrived, client_gets, client_holds, client_injects, client_opened, client_opens, client_shuts, client_speaks, client_taken, client_takes, client_tale, client_timed, client_timer, client_writes, client_written, held_on, is_writing, shut_down, silent, speaking, station_ready_of, told_on}
 use Rattle.lard_history.proofs.Each.{Each, Each-append}
-use Rattle.lard_journal.specs.declared.rec.Rec.{Rec}
 use Rattle.lard_journal.specs.declared.rec.Rec.TheVariants as rec
-use Rattle.lard_law_view.specs.ClientTale.{ClientTale, IsOpened, client_tale}
 use Rattle.lard_law_view.proofs.ClientTurns.{GoesOn, aborted-on, arrived-hears, held-on, ready-to, shut-on, speaks-on, taken-on, timer-on, written-on}
 use Rattle.lard_law_view.proofs.EndpointSends.{AllTo}
 use Rattle.lard_law_view.proofs.Telling.{Tells}
-use Rattle.lard_rules.specs.declared.places.Turn.{Turn}
-use Rattle.lard_rules.specs.Client.{client_aborts, client_gets, client_holds, client_injects, client_opens, client_shuts, client_takes, client_timer, client_writes, station_ready_of, silent, speaking}
-use Rattle.lard_rules.specs.Speaking.{client_speaks}
-use Rattle.lard_segment.specs.declared.fault.SegFault.{SegFault}
-use Rattle.lard_segment.specs.Segment.{Said}
 
 -- what a client notes in its turn
 abbrev pub IsOfClient : Rec → Type 0

@@ -1,25 +1,11 @@
 -- What a client notes and sends in its turn is in range, and it sends few segments.
 use Rattle.std.proofs.Common.{◌≡◌, ℕ, zero, suc, ◌+◌, ◌-◌, ◌≤◌, ◌<◌, ◌^◌, List, [], ◌∷◌, ◌++◌, length, take, drop, true, false, cond, nat_lt, ◌||◌, Option, Some, None, Ok, Err, Result, refl, sym, subst, arith, length-append}
 use Rattle.std.proofs.lemmas.Bool.{cond_both}
-use Rattle.lard_base.specs.declared.place.Place.{Place}
-use Rattle.lard_client.specs.Arriving.{client_arrived}
-use Rattle.lard_client.specs.Control.{ClientBlock, aborted, held_on, is_established, is_client_open, is_writing, client_opened, shut_down, client_taken, client_written, written_len}
-use Rattle.lard_client.specs.declared.heard.Heard.{Heard}
+use Rattle.lard_law_view.specs.Prelude.{ClientBlock, Heard, IsNumber, IsPlaceInRange, IsRecordInRange, Place, Ready, Rec, Said, SegFault, ToCluster, Turn, abort_ready, aborted, accepted_note, acknowledged_bytes, client_aborts, client_after_emit, client_after_timer, client_arrived, client_emits, client_emitted, client_filled, client_gets, client_holds, client_injects, client_opened, client_opens, client_owes, client_shuts, client_speaks, client_taken, client_takes, client_timed, client_timer, client_writes, client_written, eof_note, held_on, is_client_open, is_established, is_writing, queued_too, shut_down, silent, speaking, station_ready_of, to_front, unsaid, written_len}
 use Rattle.lard_client.specs.declared.phase.Phase.TheVariants.{Aborted}
-use Rattle.lard_client.specs.Leaving.{abort_ready, client_after_emit, client_after_timer, client_emitted, client_filled, client_owes, client_timed, unsaid}
 use Rattle.lard_history.proofs.Each.{Each, Each-append}
-use Rattle.lard_journal.specs.declared.rec.Rec.{Rec}
 use Rattle.lard_journal.specs.declared.rec.Rec.TheVariants as rec
-use Rattle.lard_journal.specs.Range.{IsRecordInRange, IsNumber, IsPlaceInRange}
 use Rattle.lard_rules.proofs.Loops.{KeptByTelling, client_keeps}
-use Rattle.lard_rules.specs.Client.{accepted_note, client_aborts, client_gets, client_holds, client_injects, client_opens, client_shuts, client_takes, client_timer, client_writes, eof_note, station_ready_of, silent, speaking}
-use Rattle.lard_rules.specs.declared.places.Turn.{Turn}
-use Rattle.lard_rules.specs.Speaking.{client_emits, client_speaks, to_front}
-use Rattle.lard_segment.specs.declared.fault.SegFault.{SegFault}
-use Rattle.lard_segment.specs.declared.segment.Dir.TheVariants.{ToCluster}
-use Rattle.lard_segment.specs.declared.segment.Ready.{Ready}
-use Rattle.lard_segment.specs.Segment.{Said}
-use Rattle.lard_send.specs.Send.{acknowledged_bytes, queued_too}
 use Rattle.lard_law_view.proofs.ClientTurns.{arrived-hears}
 use Rattle.lard_law_view.proofs.ByteLists.{AreBytes, bytes-append, bytes-index, bytes-spelled, each-drop, each-take}
 use Rattle.lard_rules.proofs.Halves.{client-arrived, client-emit, client-fires, client-shuts}

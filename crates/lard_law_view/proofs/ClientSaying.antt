@@ -1,29 +1,17 @@
 -- What a client emits acknowledges what it took, and nothing before it is established. What it took stays as it is.
 use Rattle.std.proofs.Common.{◌≡◌, ◌≤◌, ◌+◌, ◌-◌, ℕ, zero, suc, Bool, true, false, cond, not, ◌==◌, ◌&&◌, ◌||◌, nat_lt, List, [], ◌∷◌, ◌++◌, min, Option, Some, None, IfSome, arith, refl, sym, ap, ◌∙◌, subst}
 use Rattle.std.proofs.lemmas.Bool.{cond_both, cond-true, and_parts}
-use Rattle.lard_base.specs.declared.place.Place.{Place}
-use Rattle.lard_client.specs.declared.phase.Phase.{Phase}
+use Rattle.lard_law_view.specs.Prelude.{Accepts, ClientAgrees, ClientBlock, IsSendable, Phase, Place, Ready, Said, Sending, Stream, ToCluster, abort_ready, after_next, after_resend, again_fin, again_len, byte_piece, client_ack_ready, client_after_emit, client_after_timer, client_arrived, client_emits, client_emitted, client_filled, client_owed_ready, client_owes, client_piece_ready, client_rcv_nxt, client_rcv_wnd, client_refusal, client_timed, data_ready, heard_in, heard_open, is_client_open, is_established, may_send, next_fin, next_len, next_piece, one_if, resent_piece, reset_ready, send_left, seq_add, spelled, station_ready_of, symbols, syn_piece, syn_ready, to_front, unsent_bytes}
 use Rattle.lard_client.specs.declared.phase.Phase.TheVariants.{Open, Aborted, Reset}
-use Rattle.lard_client.specs.Control.{ClientBlock, is_client_open, is_established, client_rcv_nxt, client_rcv_wnd}
-use Rattle.lard_client.specs.Arriving.{heard_open, heard_in, client_arrived}
-use Rattle.lard_client.specs.Leaving.{syn_ready, data_ready, client_piece_ready, client_ack_ready, reset_ready, client_refusal, client_told, client_owes, client_owed_ready, client_after_owed, client_after_piece, client_emitted, client_after_emit, client_timed, client_after_timer, abort_ready, client_filled}
 use Rattle.lard_client.specs.Leaving as client
 use Rattle.lard_client.proofs.Accepted.{no_reply}
-use Rattle.lard_rules.specs.Client.{station_ready_of}
-use Rattle.lard_rules.specs.Speaking.{to_front, client_emits}
-use Rattle.lard_segment.specs.declared.segment.Dir.TheVariants.{ToCluster}
-use Rattle.lard_segment.specs.declared.segment.Ready.{Ready}
-use Rattle.lard_segment.specs.Segment.{Said, IsSendable, spelled}
 use Rattle.lard_send.specs.declared.piece.Piece.{Piece}
-use Rattle.lard_send.specs.Send.{Sending, symbols, send_left, syn_piece, byte_piece, unsent_bytes, may_send, next_len, next_fin, next_piece, after_next, again_len, again_fin, resent_piece, after_resend}
-use Rattle.lard_seq.specs.Seq.{one_if, seq_add}
-use Rattle.lard_law_view.specs.Truth.{Stream, Accepts}
 use Rattle.lard_law_view.proofs.Client.{emitted-fair, emit-left}
 use Rattle.lard_law_view.proofs.Speaking.{next-moves, resend-moves}
-use Rattle.lard_law_view.specs.Agreement.{ClientAgrees}
 use Rattle.lard_law_view.proofs.ClientAlike.{emit-alike}
 use Rattle.lard_law_view.proofs.ClientSpeaking.{agrees-after}
 use Rattle.lard_law_view.proofs.Acked.{Acks, WordMay, WordsMay, taken_by}
+use Rattle.lard_rules.proofs.Hearing.{client-emit-keeps, client-timer-keeps}
 
 -- ---- what sending leaves
 
@@ -43,27 +31,13 @@ same-behind x y z a b = (b.0 ∙ a.0, b.1 ∙ a.1, b.2 ∙ a.2, b.3 ∙ a.3, b.4
 moved-same : (x : ClientBlock) (t : Sending) (n : ℕ) → t ≡ record x.send { nxt = n } → Same x (record x { send = t })
 moved-same x t n e = (ap (λ (s : Sending). s.una) e, refl, refl, refl, ap (λ (s : Sending). s.finished) e)
 
--- a piece is sent, or else what is sent in its place
-piece-same : (x d other : ClientBlock) (p : Option Piece) → Same x d → Same x other → Same x (client_after_piece d p other)
-piece-same x d other (Some p) l k = l
-piece-same x d other None l k = k
-
 -- it emits
 pub emit-same : (x : ClientBlock) → Same x (client_after_emit x)
-emit-same x =
-    let none = same x in
-    let sent = moved-same x (after_next x.send) (after_next x.send).nxt (next-moves x.send) in
-    cond_both (not (is_client_open x)) x (client_after_piece (record x { send = after_next x.send }) (next_piece x.send) (client_after_owed x)) (Same x) (λ t. none)
-    (λ t. piece-same x (record x { send = after_next x.send }) (client_after_owed x) (next_piece x.send) sent
-    (cond_both (client_owes x) (client_told x) x (Same x) (λ u. none) (λ u. none)))
+emit-same x = let none = same x in client-emit-keeps (Same x) x none none (moved-same x (after_next x.send) (after_next x.send).nxt (next-moves x.send))
 
 -- its timer fires
 pub timer-same : (x : ClientBlock) → Same x (client_after_timer x)
-timer-same x =
-    let none = same x in
-    let sent = moved-same x (after_resend x.send) (after_resend x.send).nxt (resend-moves x.send) in
-    cond_both (not (is_client_open x)) x (client_after_piece (record x { send = after_resend x.send }) (resent_piece x.send) x) (Same x) (λ t. none)
-    (λ t. piece-same x (record x { send = after_resend x.send }) x (resent_piece x.send) sent none)
+timer-same x = client-timer-keeps (Same x) x (same x) (moved-same x (after_resend x.send) (after_resend x.send).nxt (resend-moves x.send))
 
 -- call by call
 pub emits-same : (n : ℕ) (x : ClientBlock) → Same x (client_emits n x).1

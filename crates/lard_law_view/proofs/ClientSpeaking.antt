@@ -1,19 +1,9 @@
 -- What a client sends once its rule is done is true of its stream, and it agrees on as much after that as before.
 use Rattle.std.proofs.Common.{◌≡◌, ◌≤◌, ◌^◌, ℕ, zero, suc, List, [], ◌∷◌, ◌++◌, take, Option, Some, None, arith, refl, sym, ap, ◌∙◌, subst}
-use Rattle.lard_base.specs.declared.place.Place.{Place}
-use Rattle.lard_client.specs.Control.{ClientBlock}
+use Rattle.lard_law_view.specs.Prelude.{Accepts, AreClientWords, ClientAgrees, ClientBlock, ClientTurned, Place, Ready, Rec, Speaks, Stream, ToCluster, client_emits, speaking, spelled, station_ready_of, stream_of, to_front}
 use Rattle.lard_client.specs.Leaving as client
-use Rattle.lard_journal.specs.declared.rec.Rec.{Rec}
-use Rattle.lard_rules.specs.Client.{station_ready_of, speaking}
-use Rattle.lard_rules.specs.Speaking.{to_front, client_emits}
-use Rattle.lard_segment.specs.declared.segment.Dir.TheVariants.{ToCluster}
-use Rattle.lard_segment.specs.declared.segment.Ready.{Ready}
-use Rattle.lard_segment.specs.Segment.{spelled}
-use Rattle.lard_law_view.specs.Truth.{Stream, Speaks, Accepts, stream_of}
 use Rattle.lard_law_view.proofs.Client.{emitted-fair, emit-left}
 use Rattle.lard_law_view.proofs.Pieces.{Fair}
-use Rattle.lard_law_view.specs.Agreement.{AreClientWords, ClientAgrees}
-use Rattle.lard_law_view.specs.Keeping.{ClientTurned}
 use Rattle.lard_law_view.proofs.ClientAlike.{IsLike, emit-alike}
 
 -- ---- agreeing

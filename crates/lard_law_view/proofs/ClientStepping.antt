@@ -1,20 +1,13 @@
 -- What each operation makes of a client: what it took and what is acknowledged only grow, no more is acknowledged than was
 -- told, and it is aborted, reset and closed by their causes.
-use Rattle.std.proofs.Common.{◌≡◌, ◌⊎◌, ◌≤◌, ◌+◌, ℕ, Bool, true, false, cond, not, ◌==◌, ◌&&◌, ◌||◌, nat_lt, List, length, arith, refl, sym, ap, ◌∙◌, inl, inr}
-use Rattle.std.proofs.lemmas.Bool.{cond_both, and_parts, or_parts, not-true, not-false, eqb-true, eqb-false}
-use Rattle.lard_arrival.specs.Arrival.{is_acceptable, is_allowed, bare, peer_mss}
-use Rattle.lard_client.specs.declared.heard.Heard.{Heard}
-use Rattle.lard_client.specs.declared.phase.Phase.{Phase}
-use Rattle.lard_client.specs.declared.phase.Phase.TheVariants.{Open, Aborted, Reset}
-use Rattle.lard_client.specs.Control.{ClientBlock, is_client_open, is_open_in, is_aborted_in, is_established, is_writing, client_rcv_nxt, client_rcv_wnd, client_written, shut_down, held_on, client_taken, aborted}
-use Rattle.lard_client.specs.Leaving.{client_after_timer}
-use Rattle.lard_client.specs.Arriving.{heard_nothing, client_owing, reset_by_peer, client_begins_after, fresh_len, client_ends, accepting, client_part_of, on_fresh, client_on_text, client_on_ack, client_on_syn, client_on_rst, client_on_unacceptable, client_on_segment, answers_syn, established, on_greeting, reply_to, heard_in, client_arrived}
-use Rattle.lard_segment.specs.Segment.{Said}
-use Rattle.lard_send.specs.Send.{Sending, queued_too, send_closed, introduced, after_ack}
-use Rattle.lard_seq.specs.Seq.{one_if, seq_offset}
+use Rattle.std.proofs.Common.{◌≡◌, ◌⊎◌, ◌≤◌, ◌+◌, ℕ, Bool, true, false, cond, not, ◌==◌, ◌&&◌, ◌||◌, nat_lt, List, arith, refl, sym, ap, ◌∙◌, inl, inr}
+use Rattle.std.proofs.lemmas.Bool.{cond_both, and_parts, not-true, not-false, eqb-true, eqb-false}
+use Rattle.lard_law_view.specs.Prelude.{ClientBlock, Heard, Said, Sending, aborted, accepting, after_ack, client_after_timer, client_arrived, client_ends, client_part_of, client_taken, client_written, established, fresh_len, heard_nothing, held_on, introduced, is_aborted_in, is_client_open, is_established, is_open_in, is_writing, one_if, peer_mss, queued_too, reply_to, reset_by_peer, send_closed, seq_offset, shut_down}
+use Rattle.lard_client.specs.declared.phase.Phase.TheVariants.{Aborted, Reset}
 use Rattle.lard_law_view.proofs.Acked.{taken_by}
 use Rattle.lard_law_view.proofs.Acknowledging.{Moves, ack-moves}
 use Rattle.lard_law_view.proofs.ClientSaying.{Same, timer-same}
+use Rattle.lard_rules.proofs.Hearing.{acked, arrived-keeps}
 
 -- ---- a step
 
@@ -83,71 +76,36 @@ module _ (n : ℕ) (gone reset : Bool) where
   -- ---- a segment comes
 
   -- a part of it is accepted
-  fresh-step : (x : ClientBlock) (s : Said) → Steps x (on_fresh x s)
-  fresh-step x s =
+  fresh-step : (x : ClientBlock) (s : Said) → x.eof ≡ false → Steps x (client_part_of x s, accepting x (fresh_len x s) (client_ends x s))
+  fresh-step x s going =
       let after : ClientBlock = accepting x (fresh_len x s) (client_ends x s) in
-      cond_both (client_begins_after x s || x.eof) (heard_nothing, x) (client_part_of x s, after) (Steps x) (λ t. still x heard_nothing)
-      (λ t.
-      let going : x.eof ≡ false = (or_parts (client_begins_after x s) x.eof t).1 in
       cond_both (client_ends x s) (send_closed x.send) x.send (λ (q : Sending). Steps x (client_part_of x s, record after { send = q }))
       (λ u. (omega arith, λ e. e, omega arith, λ e. absurd (cc), λ e. inr e, λ e. refl, λ e. e, λ e. e, λ e. e))
-      (λ u. (omega arith, λ e. e, omega arith, λ e. absurd (cc), λ e. inr e, λ e. e, λ e. e, λ e. e, λ e. e)))
-
-  -- its data, and its FIN
-  text-step : (x : ClientBlock) (s : Said) → Steps x (client_on_text x s)
-  text-step x s =
-      cond_both ((length s.payload == 0) && not s.flags.fin) (heard_nothing, x) (on_fresh (client_owing x) s) (Steps x) (λ t. still x heard_nothing) (λ t. fresh-step (client_owing x) s)
-
-  -- it acknowledges no more than the front end took
-  ack-step : (x : ClientBlock) (s : Said) → (s.flags.ack ≡ true → seq_offset s.ack x.send.iss ≤ n) → Steps x (client_on_ack x s)
-  ack-step x s told =
-      let send = after_ack x.send s.ack s.seq s.wnd in
-      let acked : ClientBlock = record x { send = send } in
-      let beyond = nat_lt x.send.nxt (seq_offset s.ack x.send.iss) in
-      cond_both (not s.flags.ack) (heard_nothing, x) (cond beyond (heard_nothing, client_owing x) (client_on_text acked s)) (Steps x) (λ t. still x heard_nothing)
-      (λ t. cond_both beyond (heard_nothing, client_owing x) (client_on_text acked s) (Steps x) (λ u. still x heard_nothing)
-      (λ u. behind x send (client_on_text acked s) (ack-moves n x.send s.ack s.seq s.wnd (told (not-false s.flags.ack t))) (text-step acked s)))
+      (λ u. (omega arith, λ e. e, omega arith, λ e. absurd (cc), λ e. inr e, λ e. e, λ e. e, λ e. e, λ e. e))
 
   module _ (x : ClientBlock) (s : Said) (told : s.flags.ack ≡ true → seq_offset s.ack x.send.iss ≤ n) (cause : s.flags.rst ≡ true → reset ≡ true) where
-    -- to an established client
-    segment-step : Steps x (client_on_segment x s)
-    segment-step =
-        let P : Heard × ClientBlock → Type 0 = Steps x in
-        let none = still x heard_nothing in
-        let resets : Heard × ClientBlock = cond (s.seq == client_rcv_nxt x) (heard_nothing, reset_by_peer x) (heard_nothing, client_owing x) in
-        let dropped : Heard × ClientBlock = cond s.flags.rst (heard_nothing, x) (heard_nothing, client_owing x) in
-        cond_both (is_acceptable (client_rcv_nxt x) (client_rcv_wnd x) s) (client_on_rst x s) (client_on_unacceptable x s) P
-        (λ t. cond_both (not s.flags.rst) (client_on_syn x s) resets P
-        (λ u. cond_both s.flags.syn (heard_nothing, client_owing x) (client_on_ack x s) P (λ v. none) (λ v. ack-step x s told))
-        (λ u. cond_both (s.seq == client_rcv_nxt x) (heard_nothing, reset_by_peer x) (heard_nothing, client_owing x) P (λ v. reset-step x (cause (not-false s.flags.rst u))) (λ v. none)))
-        (λ t. cond_both (is_allowed (client_rcv_nxt x) (client_rcv_wnd x) s) (client_on_ack (client_owing x) (bare s)) dropped P
-        (λ u. ack-step (client_owing x) (bare s) told)
-        (λ u. cond_both s.flags.rst (heard_nothing, x) (heard_nothing, client_owing x) P (λ v. none) (λ v. none)))
-
-    -- the cluster's SYN
-    greeting-step : Steps x (on_greeting x s)
-    greeting-step =
-        let P : Heard × ClientBlock → Type 0 = Steps x in
-        let none = still x heard_nothing in
-        let synced = cond s.flags.syn (heard_nothing, established x s) (heard_nothing, x) in
-        let met = introduced x.send s.seq (peer_mss s.mss) in
-        cond_both (not (answers_syn x s)) (heard_nothing, x) (cond s.flags.rst (heard_nothing, reset_by_peer x) synced) P (λ t. none)
-        (λ t. cond_both s.flags.rst (heard_nothing, reset_by_peer x) synced P (λ u. reset-step x (cause u))
-        (λ u. cond_both s.flags.syn (heard_nothing, established x s) (heard_nothing, x) P
-        (λ v.
-        let acks : s.flags.ack ≡ true = (and_parts s.flags.ack ((seq_offset s.ack x.send.iss == 1) && nat_lt 0 x.send.nxt) (not-false (answers_syn x s) t)).0 in
-        behind x (after_ack met s.ack s.seq s.wnd) (heard_nothing, established x s) (ack-moves n met s.ack s.seq s.wnd (told acks)) (still (established x s) heard_nothing))
-        (λ v. none)))
+    -- it acknowledges no more than the front end took
+    ack-step : s.flags.ack ≡ true → Moves n x.send (after_ack x.send s.ack s.seq s.wnd)
+    ack-step t = ack-moves n x.send s.ack s.seq s.wnd (told t)
 
     -- to any client
-    phase-step : (p : Phase) → Steps x (heard_in p x s)
-    phase-step Open = cond_both (x.send.una == 0) (on_greeting x s) (client_on_segment x s) (Steps x) (λ t. greeting-step) (λ t. segment-step)
-    phase-step Aborted = still x (reply_to x s)
-    phase-step Reset = still x heard_nothing
-
     pub arrived-step : Steps x (client_arrived x s)
-    unfolding client_arrived
-    arrived-step = phase-step x.phase
+    arrived-step = arrived-keeps x s (Steps x) (record {
+      refuses = λ e. still x (reply_to x s);
+      ignores = λ e. still x heard_nothing;
+      learns = λ e t plain.
+          let acks : s.flags.ack ≡ true = (and_parts s.flags.ack ((seq_offset s.ack x.send.iss == 1) && nat_lt 0 x.send.nxt) t).0 in
+          let met = introduced x.send s.seq (peer_mss s.mss) in
+          behind x (after_ack met s.ack s.seq s.wnd) (heard_nothing, established x s) (ack-moves n met s.ack s.seq s.wnd (told acks)) (still (established x s) heard_nothing);
+      takes = λ e. record {
+        rests = λ owed. still x heard_nothing;
+        resets = λ t. reset-step x (cause t);
+        acks = λ owed c. behind x (after_ack x.send s.ack s.seq s.wnd) (heard_nothing, acked x s owed) (ack-step c.ack) (still (acked x s owed) heard_nothing);
+        accepts = λ c in_order going.
+            let y : ClientBlock = acked x s true in
+            behind x (after_ack x.send s.ack s.seq s.wnd) (client_part_of y s, accepting y (fresh_len y s) (client_ends y s)) (ack-step c.ack) (fresh-step y s going);
+      };
+    })
 
   -- ---- its own calls, and its timer
 

@@ -1,25 +1,14 @@
 -- What a client does in its turn is an act on its connection.
 use Rattle.std.proofs.Common.{◌≡◌, ℕ, Bool, List, [], refl, ap, ◌++◌}
 use Rattle.std.specs.FinMap as table
-use Rattle.lard_base.specs.declared.event.Event.{Event}
-use Rattle.lard_base.specs.declared.place.Place.TheVariants.{Client}
-use Rattle.lard_client.specs.Control.{ClientBlock, is_client_armed}
-use Rattle.lard_rules.specs.declared.machine.Machine.{Machine}
-use Rattle.lard_rules.specs.Bounds.{IsConnNumber}
-use Rattle.lard_rules.specs.Machine.{client_acted, client_put}
-use Rattle.lard_law_view.specs.View.{Conn, Move, by_client, conn, part_of, station_armed, timer_rows, with_station}
+use Rattle.lard_law_view.specs.Prelude.{Client, ClientBlock, Conn, Event, IsConnNumber, Machine, Move, Rec, Seen, Station, Turn, by_client, client_acted, client_put, conn, is_client_armed, out_of, part_of, station_armed, timer_change, timer_rows, with_station}
 use Rattle.lard_law_view.proofs.Heads.{Begins}
 use Rattle.lard_law_view.proofs.Parts.{client-mine, client-others}
 use Rattle.lard_law_view.proofs.Saying.{NotedAt, notes-all}
 use Rattle.lard_law_view.proofs.Shapes.{Shapes}
 use Rattle.lard_law_view.proofs.Turned.{IsSaid, client-segments}
-use Rattle.lard_history.specs.Own.{Seen}
 use Rattle.lard_history.proofs.Each.{Each-weaker}
-use Rattle.lard_journal.specs.declared.rec.Rec.{Rec}
 use Rattle.lard_journal.specs.declared.rec.Rec.TheVariants as rec
-use Rattle.lard_rules.specs.declared.places.Station.{Station}
-use Rattle.lard_rules.specs.declared.places.Turn.{Turn}
-use Rattle.lard_rules.specs.Outs.{out_of, timer_change}
 use Rattle.lard_law_view.proofs.Firsts.{HasOwn}
 use Rattle.lard_law_view.proofs.OwnRecords.{behind}
 use Rattle.lard_law_view.proofs.PlaceTurns as today

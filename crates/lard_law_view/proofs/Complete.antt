@@ -4,28 +4,14 @@ use Rattle.std.proofs.lemmas.Bool.{and_parts, both_ways, eqb-true}
 use Rattle.std.proofs.lemmas.List.{length-map}
 use Rattle.std.proofs.Math.Seq.{take-length}
 use Rattle.std.specs.List.{concat}
-use Rattle.lard_answers.specs.Answers.{FilesAt, answer, answer_bytes, answers, closes_any, verdicts}
+use Rattle.lard_law_view.specs.Prelude.{Accepts, Agrees, AtFront, Away, ClientBlock, ControlBlock, EndedAs, FilesAt, Final, FrontAgrees, Hears, HoldsIt, Nowhere, Over, Phase, Reason, SaysAnswers, Seat, Sending, Station, Stream, Tale, Verdict, answer, answer_bytes, answers, closes_any, is_clear, is_client_armed, is_client_open, is_closed, is_established, is_open_in, one_if, seat_armed, seq_add, symbols, verdicts}
 use Rattle.lard_answers.proofs.Growing.{answers-are}
-use Rattle.lard_base.specs.declared.place.Reason.{Reason}
 use Rattle.lard_base.specs.declared.place.Reason.TheVariants as reason
-use Rattle.lard_client.specs.declared.phase.Phase.{Phase}
 use Rattle.lard_client.specs.declared.phase.Phase.TheVariants.{Open, Aborted, Reset}
-use Rattle.lard_client.specs.Control.{ClientBlock, is_client_armed, is_established, is_client_open, is_open_in}
-use Rattle.lard_endpoint.specs.Control.{ControlBlock}
-use Rattle.lard_endpoint.specs.declared.control.moving.Final.{Final}
-use Rattle.lard_endpoint.specs.Moving.{is_closed}
-use Rattle.lard_history.specs.Journal.{Tale}
-use Rattle.lard_law_view.specs.Agreement.{Agrees, EndedAs, FrontAgrees, HoldsIt, SaysAnswers}
 use Rattle.lard_law_view.proofs.Answered.{all-answered}
 use Rattle.lard_law_view.proofs.Acked.{Acks, FrontHolds, heard_by, heard_of, taken_by}
 use Rattle.lard_law_view.proofs.Holding.{ConnHolds}
 use Rattle.lard_law_view.proofs.Story.{Story}
-use Rattle.lard_rules.specs.declared.places.Station.{Station}
-use Rattle.lard_law_view.specs.Seat.{Seat, Nowhere, AtFront, Away, Over, seat_armed}
-use Rattle.lard_request.specs.declared.verdict.Verdict.{Verdict}
-use Rattle.lard_send.specs.Send.{Sending, is_clear, symbols}
-use Rattle.lard_seq.specs.Seq.{one_if, seq_add}
-use Rattle.lard_law_view.specs.Truth.{Accepts, Hears, Stream}
 
 -- ---- two ends of a stream
 

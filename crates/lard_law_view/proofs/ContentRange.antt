@@ -1,12 +1,9 @@
 -- The answers to requests are bytes, and not much longer than the files are.
 use Rattle.std.proofs.Common.{ℕ, ◌+◌, ◌≤◌, ◌<◌, ◌^◌, List, [], ◌++◌, length, codes, decimal, Bool, true, false, Option, Some, None, IfSome, refl, arith, length-append}
 use Rattle.std.proofs.lemmas.Fmt.{length-decimal-le}
-use Rattle.lard_answers.specs.Answers.{FilesAt, answer, answer_code, found, found_code}
-use Rattle.lard_request.specs.declared.verdict.Code.{Code}
+use Rattle.lard_law_view.specs.Prelude.{Code, FilesAt, Verdict, answer, answer_code, close_line, found, found_code, length_line, number, reason, response, response_body, status_line}
 use Rattle.lard_request.specs.declared.verdict.Code.TheVariants as code
-use Rattle.lard_request.specs.declared.verdict.Verdict.{Verdict}
 use Rattle.lard_request.specs.declared.verdict.Verdict.TheVariants.{Fault, Serve}
-use Rattle.lard_response.specs.Response.{close_line, length_line, number, reason, response, response_body, status_line}
 use Rattle.lard_law_view.proofs.ByteLists.{AreBytes, bytes-append, bytes-decimal, bytes-tested}
 
 -- the content of a file

@@ -1,24 +1,16 @@
 -- From the move of one connection to the records of its step: the packet that came is the one that was delivered last.
 use Rattle.std.proofs.Common.{◌≡◌, ◌⊎◌, ⊎_elim, ℕ, ◌+◌, List, [], ◌∷◌, ◌++◌, length, Option, Some, None, refl, sym, ap, ◌∙◌, subst}
 use Rattle.std.proofs.lemmas.List.Sums.{fold-append}
-use Rattle.lard_base.specs.declared.event.Event.{Event}
+use Rattle.lard_law_view.specs.Prelude.{Came, EachMay, Event, Gets, Letter, MayTake, Packet, Rec, Seen, Tale, accepted, accepted_step, got_step, last_got, letter_of, net_of, net_step, numbers_of, numbers_step, own, packet_at, seq_add, tale_of, tale_step}
 use Rattle.lard_base.specs.declared.event.Event.TheVariants as event
-use Rattle.lard_base.specs.declared.place.Place.{Place}
-use Rattle.lard_history.specs.Journal.{Tale, accepted, accepted_step, numbers_of, numbers_step, tale_step}
-use Rattle.lard_history.specs.Laws.{EachMay}
-use Rattle.lard_history.specs.Own.{Letter, Seen, Came, letter_of, net_of, net_step, own, tale_of}
 use Rattle.lard_history.proofs.Each.{Each}
 use Rattle.lard_history.proofs.Lifting.{tale-own}
 use Rattle.lard_history.proofs.Tales.{accepted-tale, numbers-tale}
-use Rattle.lard_journal.specs.declared.rec.Rec.{Rec}
 use Rattle.lard_journal.specs.declared.rec.Rec.TheVariants as rec
-use Rattle.lard_law_view.specs.Taking.{Gets, MayTake, got_step, last_got}
 use Rattle.lard_law_view.proofs.Taking.{GetsBy, TakesBy, TakesNothing, TakesOf}
-use Rattle.lard_rules.specs.Sent.{sent_records}
-use Rattle.lard_net.specs.Net.{Packet, packet_at}
-use Rattle.lard_seq.specs.Seq.{seq_add}
 use Rattle.lard_law_view.specs.WhileUntouched.{TellsBy}
 use Rattle.lard_law_view.proofs.Deliveries.{IsDelivered}
+use Rattle.lard_law_view.proofs.OfKinds.{each-may}
 use Rattle.lard_law_view.proofs.OwnRecords.{behind}
 
 -- ---- records that take nothing
@@ -29,19 +21,7 @@ may-pass J (rec.Eof c) n = absurd n
 may-pass J _ n = tt
 
 pub all-may : (J rs : List Rec) → Each TakesNothing rs → EachMay MayTake J rs
-all-may J [] n = tt
-all-may J (r ∷ rs) n = (may-pass J r n.0, all-may (J ++ r ∷ []) rs n.1)
-
-pub behind-nothing : (e : Event) → Each TakesNothing (behind e)
-behind-nothing (event.Open c isn iss wnd mss) = (tt, tt)
-behind-nothing (event.Deliver k) = (tt, tt)
-behind-nothing (event.Lose k) = (tt, tt)
-behind-nothing (event.Inject c bytes) = (tt, tt)
-behind-nothing _ = tt
-
-pub sents-nothing : (k : ℕ) (place : Place) (ss : List (Place × List ℕ)) → Each TakesNothing (sent_records k place ss)
-sents-nothing k place [] = tt
-sents-nothing k place (s ∷ ss) = (tt, sents-nothing (k + 1) place ss)
+all-may = each-may TakesNothing MayTake may-pass
 
 -- ---- records that take of a packet
 

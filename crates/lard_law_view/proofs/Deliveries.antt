@@ -1,10 +1,8 @@
 -- What is seen first in a step: its event, and the packet that the event delivers.
 use Rattle.std.proofs.Common.{◌≡◌, ℕ, List, Some}
-use Rattle.lard_base.specs.declared.event.Event.{Event}
+use Rattle.lard_law_view.specs.Prelude.{Came, Event, Packet, Row, Seen, letter_of, packet_at}
 use Rattle.lard_base.specs.declared.event.Event.TheVariants as event
-use Rattle.lard_history.specs.Own.{Seen, Row, Came, letter_of}
 use Rattle.lard_journal.specs.declared.rec.Rec.TheVariants as rec
-use Rattle.lard_net.specs.Net.{Packet, packet_at}
 
 -- an event that is seen is this one
 abbrev pub IsHead : Event → Seen → Type 0

@@ -1,14 +1,7 @@
 -- Where a connection ended at its node, the front end acts on it, and on the head of the line as well where that is admitted.
 use Rattle.std.proofs.Common.{◌≡◌, ◌≢◌, ℕ, ◌+◌, nat_lt, Bool, true, false, cond, List, [], ◌++◌, Option, Some, None, refl, sym, ap, ◌∙◌, subst, inl, inr, append-nil, arith}
 use Rattle.std.specs.Prelude.{◌⊎◌}
-use Rattle.lard_base.specs.declared.event.Event.{Event}
-use Rattle.lard_base.specs.declared.place.Place.TheVariants.{Front}
-use Rattle.lard_rules.specs.declared.machine.Machine.{Machine}
-use Rattle.lard_rules.specs.Bounds.{IsConnNumber}
-use Rattle.lard_rules.specs.Machine.{front_gave, front_setting, machine_told}
-use Rattle.lard_rules.specs.Outs.{nothing_done}
-use Rattle.lard_rules.specs.declared.places.Out.{Out}
-use Rattle.lard_law_view.specs.View.{Conn, IsViewed, Move, Rules, conn, front_does, part_of, setting_of, timer_rows, with_front}
+use Rattle.lard_law_view.specs.Prelude.{AreOwn, Conn, Did, Event, Final, FirstChoice, Front, FrontDeed, FrontEnv, FrontPart, FrontRow, FrontState, FrontTurn, IsConnNumber, IsViewed, Machine, Move, OnEnded, Out, Rec, Rules, Seen, admits, admits_too, conn, end_answer, ended_answer, ended_deed, front_admitted, front_does, front_ended, front_ended_by, front_env, front_gave, front_joined, front_out_of, front_part, front_put, front_setting, front_timers, in_order, machine_told, nothing_done, part_of, put_back, seen_on, setting_of, timer_rows, with_front}
 use Rattle.lard_law_view.proofs.FrontActs.{front-acts, front-put}
 use Rattle.lard_law_view.proofs.Fronts.{IsAdmission, IsFrontDeed, admitted-turn}
 use Rattle.lard_law_view.proofs.Heads.{Begins}
@@ -17,21 +10,9 @@ use Rattle.lard_law_view.proofs.Parts.{front-mine, front-others}
 use Rattle.lard_law_view.proofs.Saying.{notes-all, notes-other}
 use Rattle.lard_law_view.proofs.Shapes.{Shapes, both_out, move_of, with_rest}
 use Rattle.lard_law_view.proofs.Turned.{sent-messages}
-use Rattle.lard_endpoint.specs.declared.control.moving.Final.{Final}
-use Rattle.lard_rules.specs.declared.front.FrontState.{FrontState}
-use Rattle.lard_rules.specs.declared.front.FrontTurn.{FrontTurn}
-use Rattle.lard_rules.specs.Front.{FrontDeed, Drops, Says, Does, Did, FrontEnv, FrontPart, front_ended_by, front_admitted, front_ended}
-use Rattle.lard_rules.specs.FrontPlace.{admits, admits_too, ended_deed, front_env, front_part, front_put, in_order, front_joined, front_out_of, put_back, front_timers}
+use Rattle.lard_rules.specs.Front.{Drops, Says, Does}
 use Rattle.lard_rules.proofs.FrontParts.{part_other, part_put}
-use Rattle.lard_dispatch.specs.Calls.{ended_answer}
-use Rattle.lard_handoff_front.specs.declared.row.FrontRow.{FrontRow}
-use Rattle.lard_handoff_front.specs.declared.table.OnEnded.{OnEnded}
 use Rattle.lard_handoff_front.specs.declared.table.OnEnded.TheVariants.{New, Again, Stale}
-use Rattle.lard_handoff_front.specs.Front.{end_answer}
-use Rattle.lard_history.specs.Laws.{AreOwn}
-use Rattle.lard_history.specs.Own.{Seen, seen_on}
-use Rattle.lard_journal.specs.declared.rec.Rec.{Rec}
-use Rattle.lard_policy.specs.declared.first.FirstChoice.{FirstChoice}
 use Rattle.lard_law_view.proofs.Firsts.{others_append}
 use Rattle.lard_law_view.proofs.OwnRecords.{behind}
 

@@ -1,19 +1,8 @@
 -- An endpoint sends the truth of its own stream, and hears that of its peer.
-use Rattle.std.proofs.Common.{◌≡◌, ◌≤◌, ◌<◌, ◌+◌, ◌^◌, ℕ, Bool, true, false, cond, nat_lt, ◌==◌, not, ◌&&◌, List, [], length, Option, Some, None, IfSome, arith, ap, ◌∙◌, sym, subst, refl, ⊎_elim}
-use Rattle.std.proofs.lemmas.Bool.{cond_both}
-use Rattle.lard_arrival.specs.Arrival.{is_acceptable, is_allowed, bare, peer_mss}
-use Rattle.lard_endpoint.specs.declared.control.arriving.Arrival.{Arrival}
-use Rattle.lard_endpoint.specs.declared.control.arriving.Arrival.TheVariants.{Fine, AckOwed, Reset}
-use Rattle.lard_endpoint.specs.Arriving.{owing, on_text, on_acked, on_ack, on_syn, on_rst, on_unacceptable, on_segment}
-use Rattle.lard_endpoint.specs.Control.{ControlBlock, rcv_nxt, rcv_wnd, listening}
-use Rattle.lard_endpoint.specs.Leaving.{told, own_mss, piece_ready, ack_ready, owes, owed_ready, after_owed, ready_of, after_piece, advanced, retried, emitted, after_emit, timed, after_timer, filled}
-use Rattle.lard_recv.specs.Recv.{Received, arrived}
-use Rattle.lard_segment.specs.declared.segment.Ready.{Ready}
-use Rattle.lard_segment.specs.Segment.{Said}
+use Rattle.std.proofs.Common.{◌≡◌, ◌≤◌, ◌<◌, ◌+◌, ◌^◌, ℕ, Bool, true, false, cond, ◌==◌, not, ◌&&◌, List, [], length, Option, Some, None, IfSome, arith, ap, ◌∙◌, sym, subst, refl, ⊎_elim}
+use Rattle.lard_law_view.specs.Prelude.{ControlBlock, Hears, IsBare, IsStream, IsTrueOf, Ready, Said, Sending, Speaks, Stands, Stream, ack_ready, advanced, after_emit, after_next, after_owed, after_piece, after_resend, after_timer, arrived, bare, emitted, filled, listening, next_piece, on_segment, owed_ready, owes, own_mss, peer_mss, piece_ready, rcv_nxt, rcv_wnd, ready_of, resent_piece, retried, seq_add, stream_of, timed, told}
 use Rattle.lard_send.specs.declared.piece.Piece.{Piece}
-use Rattle.lard_send.specs.Send.{Sending, next_piece, after_next, resent_piece, after_resend, after_ack}
-use Rattle.lard_seq.specs.Seq.{seq_add, seq_offset}
-use Rattle.lard_law_view.specs.Truth.{Stream, IsStream, IsTrueOf, Stands, IsBare, Speaks, Hears, stream_of}
+use Rattle.lard_rules.proofs.Hearing.{emit-keeps, segment-keeps, timer-keeps}
 use Rattle.lard_law_view.proofs.StreamHearing.{heard-begun, heard-arrived}
 use Rattle.lard_law_view.proofs.Pieces.{Carries, Fair, piece_bytes, bare-true, piece_size, piece-true, syn-empty, next-carries, resent-carries}
 use Rattle.lard_law_view.proofs.Speaking.{SpeaksAs, next-moves, resend-moves, speaks-begun, speaks-next, speaks-resend, speaks-ack}
@@ -105,100 +94,30 @@ module _ (c : ControlBlock) (bytes : List ℕ) (h : Speaks c.send bytes) where
   abbrev Left : ControlBlock → Type 0
   Left d = Speaks d.send bytes × (stream_of d.send bytes ≡ stream_of c.send bytes) × (d.recv ≡ c.recv)
 
-  piece-left : (d other : ControlBlock) (p : Option Piece) → Left d → Left other → Left (after_piece d p other)
-  piece-left d other (Some p) l k = l
-  piece-left d other None l k = k
-
   pub emit-left : Left (after_emit c)
-  emit-left =
-      let next = speaks-next c.send bytes h in
-      let sent : Left (advanced c) = (next.0, next.1, refl) in
-      cond_both c.reset c (after_piece (advanced c) (next_piece c.send) (after_owed (advanced c))) Left (λ t. (h, refl, refl))
-      (λ t. piece-left (advanced c) (after_owed (advanced c)) (next_piece c.send) sent (cond_both (owes (advanced c)) (told (advanced c)) (advanced c) Left (λ u. sent) (λ u. sent)))
+  emit-left = let next = speaks-next c.send bytes h in emit-keeps Left c (h, refl, refl) (next.0, next.1, refl) (next.0, next.1, refl)
 
   pub timer-left : Left (after_timer c)
-  timer-left =
-      let again = speaks-resend c.send bytes h in
-      let sent : Left (retried c) = (again.0, again.1, refl) in
-      cond_both c.reset c (after_piece (retried c) (resent_piece c.send) (retried c)) Left (λ t. (h, refl, refl))
-      (λ t. piece-left (retried c) (retried c) (resent_piece c.send) sent sent)
+  timer-left = let again = speaks-resend c.send bytes h in timer-keeps Left c (h, refl, refl) (again.0, again.1, refl) (again.0, again.1, refl)
 
 -- ---- a segment arrives
-on_text-send : (c : ControlBlock) (s : Said) → (on_acked c s).1.send ≡ c.send
-on_text-send c s =
-    let P : Arrival × ControlBlock → Type 0 = λ p. p.1.send ≡ c.send in
-    cond_both (c.send.una == 0) (Fine, c) (on_text c s) P (λ t. refl)
-    (λ t. cond_both (length s.payload == 0 && not s.flags.fin) (Fine, c) (AckOwed, record c { recv = arrived c.recv s.seq s.payload s.flags.fin; owed = true }) P (λ u. refl) (λ u. refl))
-
-module _ (c : ControlBlock) (bytes : List ℕ) (h : Speaks c.send bytes) where
-  abbrev Speaking : Arrival × ControlBlock → Type 0
-  Speaking p = SpeaksAs c.send bytes p.1.send
-
-  still : Speaking (Fine, c)
-  still = (h, refl)
-
-  on_ack-speaks : (s : Said) → Speaking (on_ack c s)
-  on_ack-speaks s =
-      let acked : ControlBlock = record c { send = after_ack c.send s.ack s.seq s.wnd } in
-      let beyond = nat_lt c.send.nxt (seq_offset s.ack c.send.iss) in
-      cond_both (not s.flags.ack) (Fine, c) (cond beyond (AckOwed, owing c) (on_acked acked s)) Speaking (λ t. still)
-      (λ t. cond_both beyond (AckOwed, owing c) (on_acked acked s) Speaking (λ u. still)
-      (λ u. subst (λ (z : Sending). SpeaksAs c.send bytes z) (sym (on_text-send acked s)) (speaks-ack c.send bytes s.ack s.seq s.wnd h)))
-
 pub arriving-speaks : (c : ControlBlock) (bytes : List ℕ) (s : Said) → Speaks c.send bytes → SpeaksAs c.send bytes (on_segment c s).1.send
 arriving-speaks c bytes s h =
-    let P : Arrival × ControlBlock → Type 0 = Speaking c bytes h in
-    let reset : Arrival × ControlBlock = cond (s.seq == rcv_nxt c) (Reset, record c { reset = true }) (AckOwed, owing c) in
-    let dropped : Arrival × ControlBlock = cond s.flags.rst (Fine, c) (AckOwed, owing c) in
-    let none = still c bytes h in
-    cond_both (is_acceptable (rcv_nxt c) (rcv_wnd c) s) (on_rst c s) (on_unacceptable c s) P
-    (λ t. cond_both (not s.flags.rst) (on_syn c s) reset P
-    (λ u. cond_both s.flags.syn (AckOwed, owing c) (on_ack c s) P (λ v. none) (λ v. on_ack-speaks c bytes h s))
-    (λ u. cond_both (s.seq == rcv_nxt c) (Reset, record c { reset = true }) (AckOwed, owing c) P (λ v. none) (λ v. none)))
-    (λ t. cond_both (is_allowed (rcv_nxt c) (rcv_wnd c) s) (AckOwed, (on_ack (owing c) (bare s)).1) dropped P
-    (λ u. on_ack-speaks (owing c) bytes h (bare s))
-    (λ u. cond_both s.flags.rst (Fine, c) (AckOwed, owing c) P (λ v. none) (λ v. none)))
-
--- what is taken is of the text alone
-module _ (x : Stream) (s : Said) (taken : (r : Received) → Hears x r → (length s.payload == 0 && not s.flags.fin) ≡ false → Hears x (arrived r s.seq s.payload s.flags.fin)) where
-  abbrev Hearing : Arrival × ControlBlock → Type 0
-  Hearing p = Hears x p.1.recv
-
-  on_acked-hears : (c : ControlBlock) → Hears x c.recv → Hearing (on_acked c s)
-  on_acked-hears c h =
-      cond_both (c.send.una == 0) (Fine, c) (on_text c s) Hearing (λ t. h)
-      (λ t. cond_both (length s.payload == 0 && not s.flags.fin) (Fine, c) (AckOwed, record c { recv = arrived c.recv s.seq s.payload s.flags.fin; owed = true }) Hearing (λ u. h)
-      (λ u. taken c.recv h u))
-
-  on_ack-hears : (c : ControlBlock) → Hears x c.recv → Hearing (on_ack c s)
-  on_ack-hears c h =
-      let acked : ControlBlock = record c { send = after_ack c.send s.ack s.seq s.wnd } in
-      let beyond = nat_lt c.send.nxt (seq_offset s.ack c.send.iss) in
-      cond_both (not s.flags.ack) (Fine, c) (cond beyond (AckOwed, owing c) (on_acked acked s)) Hearing (λ t. h)
-      (λ t. cond_both beyond (AckOwed, owing c) (on_acked acked s) Hearing (λ u. h) (λ u. on_acked-hears acked h))
+    let acked = speaks-ack c.send bytes s.ack s.seq s.wnd h in
+    segment-keeps c s (λ d. SpeaksAs c.send bytes d.send) (record { rests = λ owed. (h, refl); resets = λ t. (h, refl); acks = λ owed c. acked; comes = λ c some. acked })
 
 -- without bytes and FIN nothing is taken
 bare-none : (b : Bool) (s : Said) → s.flags.fin ≡ b → IsBare s → (length s.payload == 0 && not b) ≡ true
 bare-none b s e bare = ap (λ p. length p == 0 && not b) bare.0 ∙ ap not (sym e ∙ bare.1)
 
-text-heard : (x : Stream) (s : Said) → IsStream x → IsTrueOf x s → (r : Received) → Hears x r → (length s.payload == 0 && not s.flags.fin) ≡ false → Hears x (arrived r s.seq s.payload s.flags.fin)
-text-heard x s is t r h some = ⊎_elim
-    (λ (b : IsBare s). absurd (let none = bare-none s.flags.fin s refl b in cc))
-    (λ (stands : Stands x s). heard-arrived x r s is h stands)
-    t.carries
-
+-- what is taken is of the text alone
 pub arriving-hears : (x : Stream) (c : ControlBlock) (s : Said) → IsStream x → Hears x c.recv → IsTrueOf x s → Hears x (on_segment c s).1.recv
-arriving-hears x c s is h t =
-    let P : Arrival × ControlBlock → Type 0 = λ p. Hears x p.1.recv in
-    let reset : Arrival × ControlBlock = cond (s.seq == rcv_nxt c) (Reset, record c { reset = true }) (AckOwed, owing c) in
-    let dropped : Arrival × ControlBlock = cond s.flags.rst (Fine, c) (AckOwed, owing c) in
-    cond_both (is_acceptable (rcv_nxt c) (rcv_wnd c) s) (on_rst c s) (on_unacceptable c s) P
-    (λ _. cond_both (not s.flags.rst) (on_syn c s) reset P
-    (λ _. cond_both s.flags.syn (AckOwed, owing c) (on_ack c s) P (λ _. h) (λ _. on_ack-hears x s (text-heard x s is t) c h))
-    (λ _. cond_both (s.seq == rcv_nxt c) (Reset, record c { reset = true }) (AckOwed, owing c) P (λ _. h) (λ _. h)))
-    (λ _. cond_both (is_allowed (rcv_nxt c) (rcv_wnd c) s) (AckOwed, (on_ack (owing c) (bare s)).1) dropped P
-    (λ _. on_ack-hears x (bare s) (λ r k some. absurd (cc)) (owing c) h)
-    (λ _. cond_both s.flags.rst (Fine, c) (AckOwed, owing c) P (λ _. h) (λ _. h)))
+arriving-hears x c s is h t = segment-keeps c s (λ d. Hears x d.recv) (record { rests = λ owed. h; resets = λ t. h; acks = λ owed c. h; comes = λ counts some. text some }) where
+  text : (length s.payload == 0 && not s.flags.fin) ≡ false → Hears x (arrived c.recv s.seq s.payload s.flags.fin)
+  text some = ⊎_elim
+      (λ (b : IsBare s). absurd (let none = bare-none s.flags.fin s refl b in cc))
+      (λ (stands : Stands x s). heard-arrived x c.recv s is h stands)
+      t.carries
 
 -- ---- the beginning
 pub listening-begins : (x : Stream) (s : Said) (iss : ℕ) → iss < 2 ^ 32 → s.seq ≡ x.first → Hears x (listening s iss).recv × Speaks (listening s iss).send []

@@ -1,29 +1,17 @@
 -- Each rule of the front end takes no less than was taken, and acknowledges no more.
-use Rattle.std.proofs.Common.{◌≡◌, ◌≤◌, ◌+◌, ℕ, Bool, true, false, cond, ◌&&◌, ◌||◌, List, [], ◌∷◌, ◌++◌, Option, Some, None, arith, refl, ap, ◌∙◌, sym, subst}
-use Rattle.std.proofs.lemmas.Bool.{cond_both, and_parts, eqb-true}
-use Rattle.lard_base.specs.declared.place.Place.{Place}
-use Rattle.lard_base.specs.declared.place.Reason.{Reason}
+use Rattle.std.proofs.Common.{◌≡◌, ◌≤◌, ◌+◌, ℕ, Bool, true, false, cond, ◌&&◌, ◌||◌, List, [], ◌∷◌, ◌++◌, arith, refl, ap, ◌∙◌, sym, subst}
+use Rattle.std.proofs.lemmas.Bool.{and_parts, eqb-true}
+use Rattle.lard_law_view.specs.Prelude.{ControlBlock, Ending, IsSendable, IsStream, Over, Place, Reason, ServeEnv, Service, Stream, Turn, cut_off, emits_left, end_reason, final_of, is_clear, is_closed, limit_said, may_end, rested, seq_add, seq_offset, serving_settled, serving_told, snd_nxt, speaks, speaks_symbols, spoken, symbols}
 use Rattle.lard_base.specs.declared.place.Reason.TheVariants as reason
-use Rattle.lard_endpoint.specs.Control.{ControlBlock, snd_nxt}
-use Rattle.lard_endpoint.specs.Leaving.{emits_left}
-use Rattle.lard_endpoint.specs.Moving.{end_reason, final_of, is_closed, may_end}
 use Rattle.lard_law_view.proofs.EndpointStreams.{IsBetween}
 use Rattle.lard_law_view.proofs.Acked.{Acks, EndHolds, RepliesMay, ReplyMay, ServingActed, heard_at, heard_by}
 use Rattle.lard_law_view.proofs.EndpointArriving.{Holds}
 use Rattle.lard_law_view.proofs.EndpointReading.{Spans}
 use Rattle.lard_law_view.proofs.EndpointSaying.{Left, Spoke, awaits-acks, emits-spoke, emits_symbols-spoke, replies_may-append}
-use Rattle.lard_rules.specs.declared.places.Ending.{Ending}
 use Rattle.lard_rules.specs.declared.places.Ending.TheVariants as ending
-use Rattle.lard_rules.specs.declared.places.Turn.{Turn}
-use Rattle.lard_rules.specs.Serving.{ServeEnv, Service, cut_off, limit_said, rested, serving_settled, spoken, serving_told}
-use Rattle.lard_rules.specs.Speaking.{speaks, speaks_symbols}
-use Rattle.lard_law_view.specs.Seat.{Over}
-use Rattle.lard_segment.specs.Segment.{IsSendable}
-use Rattle.lard_send.specs.Send.{is_clear, symbols}
-use Rattle.lard_seq.specs.Seq.{seq_add, seq_offset}
 use Rattle.lard_seq.proofs.Laws.{offset-add}
-use Rattle.lard_law_view.specs.Truth.{Stream, IsStream}
 use Rattle.lard_law_view.proofs.Speaking.{one_small}
+use Rattle.lard_rules.proofs.Endings.{rested-keeps, settled-keeps}
 
 -- ---- the end of a turn
 
@@ -36,9 +24,7 @@ ended-heard w out b why is h =
 
 -- so it does whether the connection ended or not
 rested-heard : (w out : Stream) (b : ControlBlock) (count : ℕ) → IsStream w → IsBetween w out b → heard_at w.first (rested b count) ≡ heard_by b.recv
-rested-heard w out b count is h = cond_both (may_end b) (ending.Over (final_of b (end_reason b))) (ending.Here b count) (λ (e : Ending). heard_at w.first e ≡ heard_by b.recv)
-    (λ _. ended-heard w out b (end_reason b) is h)
-    (λ _. refl)
+rested-heard w out b count is h = rested-keeps (λ (e : Ending). heard_at w.first e ≡ heard_by b.recv) b count (λ _. ended-heard w out b (end_reason b) is h) (λ _. refl)
 
 -- where both sides closed, all that was sent is acknowledged
 closed-acks : (w out : Stream) (b : ControlBlock) (first most : ℕ) → IsBetween w out b → out.first ≡ first → b.send.una ≤ most → is_closed b ≡ true → Acks first most (snd_nxt b)
@@ -61,9 +47,7 @@ ended-holds w out b first most aborted h e k t = go b.reset refl t where
 -- and so does what comes of it at the end of a turn
 rested-holds : (w out : Stream) (b : ControlBlock) (count first most : ℕ) (aborted : Bool) → IsBetween w out b → out.first ≡ first → Holds most aborted b
     → EndHolds first most aborted (rested b count)
-rested-holds w out b count first most aborted h e k = cond_both (may_end b) (ending.Over (final_of b (end_reason b))) (ending.Here b count) (λ (e : Ending). EndHolds first most aborted e)
-    (λ t. ended-holds w out b first most aborted h e k t)
-    (λ _. k)
+rested-holds w out b count first most aborted h e k = rested-keeps (EndHolds first most aborted) b count (λ t. ended-holds w out b first most aborted h e k t) (λ _. k)
 
 -- what leaves it as it was keeps what holds
 left-holds : (b d : ControlBlock) (most : ℕ) (aborted : Bool) → Left b d → Holds most aborted b → Holds most aborted d
@@ -116,7 +100,4 @@ module _ (env : ServeEnv) (w : Stream) (first most : ℕ) (aborted : Bool) (is :
 
   -- either is the end of a turn
   pub settled-acts : (n : ℕ) (s : Service) → n ≤ heard_by s.block.recv → Spans w first s.block → Holds most aborted s.block → Turns n (serving_settled env s)
-  settled-acts n s grows spans holds = go s.over where
-    go : (o : Option ℕ) → Turns n (elim o [ None ↦ spoken env s [] | Some total ↦ cut_off env s ])
-    go None = spoken-acts n s [] grows spans holds tt
-    go (Some total) = cut_off-acts n s grows spans
+  settled-acts n s grows spans holds = settled-keeps (Turns n) env s (λ e. spoken-acts n s [] grows spans holds tt) (λ total e. cut_off-acts n s grows spans)

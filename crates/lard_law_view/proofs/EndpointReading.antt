@@ -1,15 +1,10 @@
 -- What the front end's reading leaves as it was: what was taken, what is acknowledged, and whether the peer reset the
 -- connection. It goes on between the same numbers.
-use Rattle.std.proofs.Common.{◌≡◌, ◌≤◌, ◌+◌, ◌^◌, ℕ, false, nat_lt, List, length, arith, ◌∙◌}
+use Rattle.std.proofs.Common.{◌≡◌, ◌≤◌, ◌+◌, ◌^◌, ℕ, false, List, length, arith, ◌∙◌}
 use Rattle.std.proofs.lemmas.Bool.{cond_both, ltb-false}
-use Rattle.lard_answers.specs.Answers.{answer}
-use Rattle.lard_base.specs.declared.place.Via.{Via}
-use Rattle.lard_endpoint.specs.Control.{ControlBlock, discarding_on, finishing, queueing}
+use Rattle.lard_law_view.specs.Prelude.{ControlBlock, ServeEnv, Service, Stream, Verdict, Via, answer, answered, closed_behind, closes, discarding_on, finishing, queueing}
 use Rattle.lard_law_view.proofs.EndpointStreams.{IsBetween, Onward, between-discarded, onward-finished, onward-queued}
-use Rattle.lard_rules.specs.Serving.{ServeEnv, Service, answered, closed_behind, passed_over, queued}
-use Rattle.lard_request.specs.declared.verdict.Verdict.{Verdict}
-use Rattle.lard_request.specs.Verdict.{closes}
-use Rattle.lard_law_view.specs.Truth.{Stream}
+use Rattle.lard_rules.proofs.Endings.{answered-keeps}
 
 -- as much was taken and acknowledged, and the peer reset both or neither
 abbrev pub Stays : ControlBlock → ControlBlock → Type 0
@@ -51,6 +46,5 @@ module _ (w : Stream) (first : ℕ) (b : ControlBlock) where
     answered-reads via v s open_ h =
         let bytes = answer env.files v in
         let total = s.block.send.total + length bytes in
-        cond_both (nat_lt env.stream total) (passed_over env total s) (queued env via v bytes s) (λ (z : Service). Reads z.block)
-        (λ _. h)
+        answered-keeps (λ (z : Service). Reads z.block) env via v s (λ _. h)
         (λ t. let le : total ≤ env.stream = ltb-false env.stream total t in closed-reads v (queueing s.block bytes) (queued-reads bytes s.block open_ (omega arith) h))

@@ -1,22 +1,13 @@
 -- What an endpoint sends acknowledges what it took, and no more; and sending moves neither.
-use Rattle.std.proofs.Common.{◌≡◌, ℕ, List, [], ◌∷◌, ◌++◌, Option, Some, None, arith, refl, ap, ◌∙◌, subst}
-use Rattle.std.proofs.lemmas.Bool.{cond_both}
-use Rattle.lard_base.specs.declared.place.Place.{Place}
+use Rattle.std.proofs.Common.{◌≡◌, ℕ, List, [], ◌∷◌, ◌++◌, Some, arith, refl, ap, ◌∙◌, subst}
+use Rattle.lard_law_view.specs.Prelude.{ControlBlock, IsSendable, Place, Ready, Sending, Stream, advanced, after_emit, after_timer, emits, emits_symbols, emitted, filled, rcv_nxt, retried, seq_add, timed, to_client}
 use Rattle.lard_endpoint.proofs.Windows.{emitted-tells, timed-tells}
-use Rattle.lard_endpoint.specs.Control.{ControlBlock, rcv_nxt}
-use Rattle.lard_endpoint.specs.Leaving.{owes, after_owed, after_piece, advanced, retried, emitted, after_emit, timed, after_timer, told, filled}
 use Rattle.lard_law_view.proofs.EndpointStreams.{IsBetween, between-emitted}
 use Rattle.lard_law_view.proofs.EndpointSpeaking.{emits-all, emits_symbols-all}
 use Rattle.lard_law_view.proofs.Acked.{Acks, RepliesMay, ReplyMay, heard_by}
-use Rattle.lard_rules.specs.Speaking.{to_client, emits, emits_symbols}
-use Rattle.lard_segment.specs.declared.segment.Ready.{Ready}
-use Rattle.lard_segment.specs.Segment.{IsSendable}
-use Rattle.lard_send.specs.declared.piece.Piece.{Piece}
-use Rattle.lard_send.specs.Send.{Sending, next_piece, resent_piece}
-use Rattle.lard_seq.specs.Seq.{seq_add}
-use Rattle.lard_law_view.specs.Truth.{Stream}
 use Rattle.lard_law_view.proofs.Endpoint.{emitted-fair, timed-fair}
 use Rattle.lard_law_view.proofs.Speaking.{next-moves, resend-moves}
+use Rattle.lard_rules.proofs.Hearing.{emit-keeps, timer-keeps}
 
 -- ---- what is acknowledged
 
@@ -30,24 +21,13 @@ awaits-acks w out b h = (heard_by b.recv, ap (λ i. seq_add i (heard_by b.recv))
 abbrev pub Left : ControlBlock → ControlBlock → Type 0
 Left b d = (d.recv ≡ b.recv) × (d.send.una ≡ b.send.una) × (d.reset ≡ b.reset)
 
--- a piece leaves them, and so does what is sent in its place
-piece-left : (b d other : ControlBlock) (p : Option Piece) → Left b d → Left b other → Left b (after_piece d p other)
-piece-left b d other (Some p) h k = h
-piece-left b d other None h k = k
-
 -- what is emitted leaves them
 pub emit-left : (b : ControlBlock) → Left b (after_emit b)
-emit-left b =
-    let sent : Left b (advanced b) = (refl, ap (λ (s : Sending). s.una) (next-moves b.send), refl) in
-    cond_both b.reset b (after_piece (advanced b) (next_piece b.send) (after_owed (advanced b))) (Left b) (λ _. (refl, refl, refl))
-    (λ _. piece-left b (advanced b) (after_owed (advanced b)) (next_piece b.send) sent (cond_both (owes (advanced b)) (told (advanced b)) (advanced b) (Left b) (λ _. sent) (λ _. sent)))
+emit-left b = let sent : Left b (advanced b) = (refl, ap (λ (s : Sending). s.una) (next-moves b.send), refl) in emit-keeps (Left b) b (refl, refl, refl) sent sent
 
 -- and so does what the timer sends
 pub timer-left : (b : ControlBlock) → Left b (after_timer b)
-timer-left b =
-    let sent : Left b (retried b) = (refl, ap (λ (s : Sending). s.una) (resend-moves b.send), refl) in
-    cond_both b.reset b (after_piece (retried b) (resent_piece b.send) (retried b)) (Left b) (λ _. (refl, refl, refl))
-    (λ _. piece-left b (retried b) (retried b) (resent_piece b.send) sent sent)
+timer-left b = let sent : Left b (retried b) = (refl, ap (λ (s : Sending). s.una) (resend-moves b.send), refl) in timer-keeps (Left b) b (refl, refl, refl) sent sent
 
 -- ---- a turn's segments
 

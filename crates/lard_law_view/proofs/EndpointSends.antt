@@ -1,14 +1,9 @@
 -- What an endpoint sends goes to its client, and its bytes stay as many as they were.
 use Rattle.std.proofs.Common.{◌≡◌, ℕ, List, Option, Some, None, refl, ◌∙◌}
-use Rattle.lard_base.specs.declared.place.Place.{Place}
-use Rattle.lard_base.specs.declared.place.Place.TheVariants.{Client}
-use Rattle.lard_endpoint.specs.Control.{ControlBlock}
+use Rattle.lard_law_view.specs.Prelude.{Client, ControlBlock, Place, Ready, ServeEnv, serving_ready_of, speaks, speaks_symbols}
 use Rattle.lard_history.proofs.Each.{Each}
 use Rattle.lard_rules.proofs.Loops.{KeptBySpeaking, speaks_keep, symbols_keep}
 use Rattle.lard_rules.proofs.Totals.{HasAsMany, emit-many}
-use Rattle.lard_rules.specs.Serving.{ServeEnv, serving_ready_of}
-use Rattle.lard_rules.specs.Speaking.{speaks, speaks_symbols}
-use Rattle.lard_segment.specs.declared.segment.Ready.{Ready}
 
 -- what is sent all goes to one place
 abbrev pub AllTo : Place → List (Place × List ℕ) → Type 0

@@ -1,17 +1,9 @@
 -- What the front end sends at the end of its turn: true replies, call by call, and the streams stay as they were.
 use Rattle.std.proofs.Common.{◌≡◌, ◌≤◌, ◌+◌, ℕ, zero, suc, Bool, false, cond, List, [], ◌∷◌, length, Option, Some, None, arith, refl, ap, ◌∙◌, sym, subst}
 use Rattle.std.proofs.lemmas.Bool.{cond_both}
-use Rattle.lard_base.specs.declared.place.Place.{Place}
+use Rattle.lard_law_view.specs.Prelude.{AreReplies, ControlBlock, IsReply, Place, Ready, Said, Stream, after_emit, after_timer, emits, emits_symbols, emitted, filled, has_symbol, one_if, rcv_nxt, seq_add, timed, to_client}
 use Rattle.lard_endpoint.proofs.Windows.{emitted-tells, timed-tells}
-use Rattle.lard_endpoint.specs.Control.{ControlBlock, rcv_nxt}
-use Rattle.lard_endpoint.specs.Leaving.{emitted, after_emit, timed, after_timer, filled}
-use Rattle.lard_law_view.specs.Agreement.{AreReplies, IsReply}
 use Rattle.lard_law_view.proofs.EndpointStreams.{IsBetween, between-emitted}
-use Rattle.lard_rules.specs.Speaking.{to_client, emits, has_symbol, emits_symbols}
-use Rattle.lard_segment.specs.declared.segment.Ready.{Ready}
-use Rattle.lard_segment.specs.Segment.{Said}
-use Rattle.lard_seq.specs.Seq.{one_if, seq_add}
-use Rattle.lard_law_view.specs.Truth.{Stream}
 use Rattle.lard_law_view.proofs.Endpoint.{emitted-fair, timed-fair, emit-left}
 use Rattle.lard_law_view.proofs.Pieces.{Fair}
 use Rattle.lard_law_view.proofs.Speaking.{one_small}

@@ -1,19 +1,9 @@
 -- An endpoint between two streams: it speaks one and hears the other, whatever befalls it.
-use Rattle.std.proofs.Common.{◌≡◌, ◌≤◌, ◌<◌, ◌+◌, ◌^◌, ℕ, true, false, cond, nat_lt, ◌==◌, not, ◌&&◌, List, [], ◌++◌, length, refl, ap, ◌∙◌, sym, subst}
-use Rattle.std.proofs.lemmas.Bool.{cond_both}
-use Rattle.lard_arrival.specs.Arrival.{is_acceptable, is_allowed, bare}
-use Rattle.lard_endpoint.specs.declared.control.arriving.Arrival.{Arrival}
-use Rattle.lard_endpoint.specs.declared.control.arriving.Arrival.TheVariants.{Fine, AckOwed, Reset}
-use Rattle.lard_endpoint.specs.Arriving.{owing, on_text, on_acked, on_ack, on_syn, on_rst, on_unacceptable, on_segment}
-use Rattle.lard_endpoint.specs.Control.{ControlBlock, IsControlBlock, rcv_nxt, rcv_wnd, listening, queueing, finishing, consuming, discarding_on}
-use Rattle.lard_endpoint.specs.Leaving.{after_emit, after_timer}
+use Rattle.std.proofs.Common.{◌≡◌, ◌≤◌, ◌<◌, ◌+◌, ◌^◌, ℕ, false, List, [], ◌++◌, length, refl, ap, ◌∙◌, sym, subst}
+use Rattle.lard_law_view.specs.Prelude.{ControlBlock, GoesOn, Hears, IsControlBlock, IsStream, IsTrueOf, Received, Said, Speaks, Stream, after_emit, after_timer, arrived, consuming, discarding_on, finishing, listening, on_segment, queueing, stream_of}
 use Rattle.lard_endpoint.proofs.Sound.{on_segment-sound, after_emit-sound, after_timer-sound}
-use Rattle.lard_recv.specs.Recv.{Received, arrived}
-use Rattle.lard_segment.specs.Segment.{Said}
-use Rattle.lard_send.specs.Send.{after_ack}
-use Rattle.lard_seq.specs.Seq.{seq_offset}
-use Rattle.lard_law_view.specs.Truth.{Stream, IsStream, IsTrueOf, GoesOn, Speaks, Hears, stream_of}
 use Rattle.lard_law_view.proofs.Endpoint.{emit-left, timer-left, arriving-speaks, arriving-hears, listening-begins}
+use Rattle.lard_rules.proofs.Hearing.{segment-keeps}
 use Rattle.lard_law_view.proofs.StreamHearing.{heard-consumed, heard-discarded}
 use Rattle.lard_law_view.proofs.Speaking.{speaks-queued, speaks-closed}
 
@@ -109,43 +99,8 @@ between-begun w out s number none open_ first =
 -- ---- what a segment does to the receiving half
 
 -- it takes the segment's data, or leaves all as it was
-module _ (P : Received → Type 0) (s : Said) where
-  abbrev Takes : Arrival × ControlBlock → Type 0
-  Takes p = P p.1.recv
-
-  on_acked-takes : (b : ControlBlock) → P b.recv → P (arrived b.recv s.seq s.payload s.flags.fin) → Takes (on_acked b s)
-  on_acked-takes b h k =
-      cond_both (b.send.una == 0) (Fine, b) (on_text b s) Takes (λ _. h)
-      (λ _. cond_both (length s.payload == 0 && not s.flags.fin) (Fine, b) (AckOwed, record b { recv = arrived b.recv s.seq s.payload s.flags.fin; owed = true }) Takes (λ _. h) (λ _. k))
-
-  on_ack-takes : (b : ControlBlock) → P b.recv → P (arrived b.recv s.seq s.payload s.flags.fin) → Takes (on_ack b s)
-  on_ack-takes b h k =
-      let acked : ControlBlock = record b { send = after_ack b.send s.ack s.seq s.wnd } in
-      let beyond = nat_lt b.send.nxt (seq_offset s.ack b.send.iss) in
-      cond_both (not s.flags.ack) (Fine, b) (cond beyond (AckOwed, owing b) (on_acked acked s)) Takes (λ _. h)
-      (λ _. cond_both beyond (AckOwed, owing b) (on_acked acked s) Takes (λ _. h) (λ _. on_acked-takes acked h k))
-
--- without data it leaves all as it was
-bare-takes : (P : Received → Type 0) (s : Said) (b : ControlBlock) → P b.recv → P (on_ack b (bare s)).1.recv
-bare-takes P s b h =
-    let Q : Arrival × ControlBlock → Type 0 = Takes P (bare s) in
-    let acked : ControlBlock = record b { send = after_ack b.send s.ack s.seq s.wnd } in
-    let beyond = nat_lt b.send.nxt (seq_offset s.ack b.send.iss) in
-    cond_both (not s.flags.ack) (Fine, b) (cond beyond (AckOwed, owing b) (on_acked acked (bare s))) Q (λ _. h)
-    (λ _. cond_both beyond (AckOwed, owing b) (on_acked acked (bare s)) Q (λ _. h) (λ _. cond_both (acked.send.una == 0) (Fine, acked) (Fine, acked) Q (λ _. h) (λ _. h)))
-
 pub segment-takes : (P : Received → Type 0) (s : Said) (b : ControlBlock) → P b.recv → P (arrived b.recv s.seq s.payload s.flags.fin) → P (on_segment b s).1.recv
-segment-takes P s b h k =
-    let Q : Arrival × ControlBlock → Type 0 = Takes P s in
-    let reset : Arrival × ControlBlock = cond (s.seq == rcv_nxt b) (Reset, record b { reset = true }) (AckOwed, owing b) in
-    let dropped : Arrival × ControlBlock = cond s.flags.rst (Fine, b) (AckOwed, owing b) in
-    cond_both (is_acceptable (rcv_nxt b) (rcv_wnd b) s) (on_rst b s) (on_unacceptable b s) Q
-    (λ _. cond_both (not s.flags.rst) (on_syn b s) reset Q
-    (λ _. cond_both s.flags.syn (AckOwed, owing b) (on_ack b s) Q (λ _. h) (λ _. on_ack-takes P s b h k))
-    (λ _. cond_both (s.seq == rcv_nxt b) (Reset, record b { reset = true }) (AckOwed, owing b) Q (λ _. h) (λ _. h)))
-    (λ _. cond_both (is_allowed (rcv_nxt b) (rcv_wnd b) s) (AckOwed, (on_ack (owing b) (bare s)).1) dropped Q
-    (λ _. bare-takes P s (owing b) h)
-    (λ _. cond_both s.flags.rst (Fine, b) (AckOwed, owing b) Q (λ _. h) (λ _. h)))
+segment-takes P s b h k = segment-keeps b s (λ d. P d.recv) (record { rests = λ owed. h; resets = λ t. h; acks = λ owed c. h; comes = λ c some. k })
 
 -- ---- what was read stays read
 

@@ -1,9 +1,8 @@
 -- Before a step there are few packets and few records.
 use Rattle.std.proofs.Common.{◌≡◌, ℕ, ◌<◌, ◌^◌, Bool, true, false, cond, nat_le, Option, Some, None, refl, arith}
 use Rattle.std.proofs.lemmas.Bool.Decides.{nat_tests}
-use Rattle.lard_rules.specs.declared.fault.What.{What}
+use Rattle.lard_law_view.specs.Prelude.{What, limit_of}
 use Rattle.lard_rules.specs.declared.fault.What.TheVariants.{Answers, PacketBytes, Packets, Records}
-use Rattle.lard_rules.specs.Limits.{limit_of}
 
 -- ---- limits
 

@@ -2,11 +2,8 @@
 use Rattle.std.proofs.Common.{◌≡◌, ℕ, is_some, cond, nat_eq, List, [], ◌∷◌, ◌++◌, map, Some, refl, sym, ap, ◌∙◌, subst, inl}
 use Rattle.std.proofs.lemmas.Bool.{cond_both}
 use Rattle.lard_base.specs.declared.event.Event.TheVariants as event
-use Rattle.lard_base.specs.declared.place.Place.{Place}
-use Rattle.lard_base.specs.declared.place.Place.TheVariants.{Front, Node, Client}
-use Rattle.lard_client.specs.Control.{ClientBlock}
-use Rattle.lard_rules.specs.Bounds.{IsConnNumber}
-use Rattle.lard_law_view.specs.View.{AreBetween, AreSent, ClientRules, Conn, FrontRules, IsFrontEnv, IsNodeEnv, IsConnSound, Move, NodeRules, Rules, TurnSaid, Setting, client_begins, client_does, brought_said, by_front, content_said, epoch_in, event_seen, front_admits, front_does, grown, inject_seen, letter, letters_of, named_records, node_does, node_put_back, nothing_said, packet_seen, reads_first, stands, with_front}
+use Rattle.lard_law_view.specs.Prelude.{AreBetween, AreSent, Ask, Client, ClientBlock, ClientRules, Conn, Final, Front, FrontEnv, FrontPart, FrontRules, FrontTurn, IsConnNumber, IsConnSound, IsFrontEnv, IsNodeEnv, Kept, Letter, Move, Node, NodeEnv, NodePart, NodeRules, Place, Rec, Rules, Seen, Setting, Station, ToCluster, Turn, TurnSaid, brought_said, by_front, client_begins, client_does, client_injects, client_opens, client_rule, content_said, decoded, epoch_in, event_seen, front_admits, front_does, grown, inject_seen, letter, letters_of, named_records, node_does, node_put_back, nothing_said, packet_seen, reads_first, sent_of, stands, whose, with_front}
+use Rattle.lard_law_view.proofs.EachClient.{client_seen, each-client}
 use Rattle.lard_law_view.proofs.Clients.{client-said}
 use Rattle.lard_law_view.proofs.Fronts as fronts
 use Rattle.lard_law_view.proofs.Fronts.{IsAdmission, IsFrontDeed}
@@ -14,29 +11,13 @@ use Rattle.lard_law_view.proofs.Nodes as nodes
 use Rattle.lard_law_view.proofs.Nodes.{IsNodeDeed}
 use Rattle.lard_law_view.proofs.Saying.{AllBetween, AreMessages, GaveAt, NotedAt, messages-between}
 use Rattle.lard_law_view.proofs.Turned.{AreHeld, IsSaid, held-sent, sent-messages, spelled}
-use Rattle.lard_dispatch.specs.declared.dispatch.Ask.{Ask}
-use Rattle.lard_endpoint.specs.declared.control.moving.Final.{Final}
 use Rattle.lard_rules.specs.Front as front
-use Rattle.lard_rules.specs.Front.{FrontEnv, FrontPart}
-use Rattle.lard_rules.specs.declared.front.FrontTurn.{FrontTurn}
-use Rattle.lard_history.specs.Journal.{request}
-use Rattle.lard_history.specs.Own.{Letter, Seen, whose}
 use Rattle.lard_history.proofs.Each.{Each}
 use Rattle.lard_history.proofs.Seeing.{by_number, other_number, same_number, has-before}
-use Rattle.lard_journal.specs.declared.rec.Rec.{Rec}
 use Rattle.lard_journal.specs.declared.rec.Rec.TheVariants as rec
 use Rattle.lard_message.specs.declared.message.Body.TheVariants as body
 use Rattle.lard_rules.specs.Node as node
-use Rattle.lard_rules.specs.Node.{NodePart}
-use Rattle.lard_rules.specs.Stay.{NodeEnv}
-use Rattle.lard_resend.specs.declared.kept.Kept.{Kept}
-use Rattle.lard_resend.specs.Pending.{sent_of}
-use Rattle.lard_rules.specs.declared.places.Station.{Station}
-use Rattle.lard_rules.specs.declared.places.Turn.{Turn}
-use Rattle.lard_rules.specs.Client.{client_aborts, client_gets, client_holds, client_injects, client_opens, client_shuts, client_takes, client_timer, client_writes}
-use Rattle.lard_segment.specs.declared.segment.Dir.TheVariants.{ToClient, ToCluster}
-use Rattle.lard_segment.specs.Segment.{decoded}
-use Rattle.lard_law_view.proofs.PlaceTurns.{IsClientTurn, aborts-turn, fires-turn, hears-turn, holds-turn, injects-turn, opens-turn, shuts-turn, takes-turn, writes-turn}
+use Rattle.lard_law_view.proofs.PlaceTurns.{IsClientTurn, injects-turn, opens-turn, rule-turn}
 
 -- All that a move says is of its connection.
 pub record IsItsOwn (x : Conn) (v : Move) : Type 0 where
@@ -210,18 +191,10 @@ module _ (x : Conn) (number : IsConnNumber x.c) (sound : IsConnSound x) where
 -- ---- each rule is fine
 
 client-rules : (k : Setting) → ClientRules k IsFine
-client-rules k = record {
+client-rules k = each-client k IsFine (record {
   opens = λ x isn iss wnd mss rule none number sound. begins x number sound isn iss wnd mss;
-  gets = λ x s path there le number sound. its-turn x number sound s (client_writes s.client (request path)) there (λ own. writes-turn x.c s.client own (request path)) (event_seen (event.Get x.c path));
-  writes = λ x s bytes there le number sound. its-turn x number sound s (client_writes s.client bytes) there (λ own. writes-turn x.c s.client own bytes) (event_seen (event.Write x.c bytes));
-  shuts = λ x s there number sound. its-turn x number sound s (client_shuts s.client) there (λ own. shuts-turn x.c s.client own) (event_seen (event.Shut x.c));
-  aborts = λ x s there number sound. its-turn x number sound s (client_aborts s.client) there (λ own. aborts-turn x.c s.client own) (event_seen (event.Abort x.c));
-  holds = λ x s there number sound. its-turn x number sound s (client_holds s.client) there (λ own. holds-turn x.c s.client own) (event_seen (event.Hold x.c));
-  takes = λ x s there number sound. its-turn x number sound s (client_takes s.client) there (λ own. takes-turn x.c s.client own) (event_seen (event.Take x.c));
-  fires = λ x s there number sound. its-turn x number sound s (client_timer s.client) there (λ own. fires-turn x.c s.client own) (event_seen (event.Timer (Client x.c) x.c));
-  hears = λ x s from bytes there was number sound. its-turn x number sound s (client_gets s.client (decoded bytes x.c ToClient)) there (λ own. hears-turn x.c s.client own (decoded bytes x.c ToClient))
-      (packet_seen from (Client x.c) bytes);
-} where
+  does = λ x s g there comes number sound. its-turn x number sound s (client_rule x.c s.client g) there (λ own. rule-turn x.c s.client own g) (client_seen x.c g);
+}) where
   begins : (x : Conn) → IsConnNumber x.c → IsConnSound x → (isn iss wnd mss : ℕ) → IsItsOwn x (client_begins x isn iss wnd mss) × IsConnSound (grown x (client_begins x isn iss wnd mss))
   begins x number sound isn iss wnd mss = client-fine x number sound (client_begins x isn iss wnd mss).heads iss (client_opens x.c isn wnd mss) (opens-turn x.c isn wnd mss)
 

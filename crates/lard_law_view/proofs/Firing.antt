@@ -4,19 +4,13 @@ use Rattle.std.proofs.lemmas.Bool.{cond_both}
 use Rattle.std.specs.Prelude.{slice_get}
 use Rattle.std.specs.FinMap as table
 use Rattle.std.specs.List.{AllByRecursion}
-use Rattle.lard_base.specs.declared.event.Event.{Event}
+use Rattle.lard_law_view.specs.Prelude.{AreNumbered, Client, Conn, Event, Front, FrontEnv, FrontPart, IsConnNumber, IsNodeEnv, IsViewed, Job, Machine, Move, Node, NodeEnv, NodePart, NodeState, Out, Packet, Rec, Rules, Station, ToCluster, aside, completed, conn, content_sent, decoded, disk_step, epoch_in, event_seen, front_acts, front_env, front_gets, front_part, front_setting, front_timer, is_no_job, job_at, node_at, node_deed, node_does, node_env, node_epoch_at, node_gave, node_part, node_read, node_saying, node_setting, node_step, node_timer, packet_at, packet_seen, part_of, reads_first, sent_of, setting_of, with_first, without_job}
 use Rattle.lard_base.specs.declared.event.Event.TheVariants as event
-use Rattle.lard_base.specs.declared.place.Place.TheVariants.{Front, Node, Client}
-use Rattle.lard_rules.specs.declared.machine.Machine.{Machine}
-use Rattle.lard_rules.specs.Bounds.{IsConnNumber}
-use Rattle.lard_rules.specs.Machine.{front_acts, front_setting, is_no_job, node_at, node_gave, node_setting}
-use Rattle.lard_law_view.specs.View.{AreNumbered, Conn, IsNodeEnv, IsViewed, Move, Rules, conn, epoch_in, event_seen, node_does, packet_seen, part_of, reads_first, setting_of}
 use Rattle.lard_law_view.proofs.FrontActs.{front-acts}
 use Rattle.lard_law_view.proofs.Fronts as fronts
 use Rattle.lard_law_view.proofs.Heads.{comes, completes, names, was}
 use Rattle.lard_law_view.proofs.NodeActs.{aside-acts, deed-acts}
 use Rattle.lard_law_view.proofs.Nodes as nodes
-use Rattle.lard_law_view.proofs.Nodes.{IsNodeDeed}
 use Rattle.lard_law_view.proofs.Nothing.{numbered}
 use Rattle.lard_law_view.proofs.Numbers.{client-number}
 use Rattle.lard_law_view.proofs.Parts.{node-kept}
@@ -24,25 +18,10 @@ use Rattle.lard_law_view.proofs.Saying.{AreMessages}
 use Rattle.lard_law_view.proofs.Shapes.{Shapes}
 use Rattle.lard_law_view.proofs.Turned.{sent-messages, spelled}
 use Rattle.lard_law_view.proofs.Works.{all-append}
-use Rattle.lard_disk.specs.declared.disk.Job.{Job}
-use Rattle.lard_disk.specs.Jobs.{job_at, without_job}
-use Rattle.lard_rules.specs.Front.{FrontEnv, FrontPart, front_gets, front_timer}
-use Rattle.lard_rules.specs.FrontPlace.{front_env, front_part}
-use Rattle.lard_journal.specs.declared.rec.Rec.{Rec}
 use Rattle.lard_journal.specs.declared.rec.Rec.TheVariants as rec
 use Rattle.lard_message.specs.declared.message.Body.TheVariants as body
-use Rattle.lard_net.specs.Net.{Packet, packet_at}
 use Rattle.lard_rules.specs.declared.node.BackIn.TheVariants as back
-use Rattle.lard_rules.specs.declared.node.NodeState.{NodeState}
-use Rattle.lard_rules.specs.Node.{NodePart, node_read, node_timer, node_saying}
-use Rattle.lard_rules.specs.NodePlace.{aside, completed, content_sent, disk_step, node_epoch_at, node_deed, node_env, node_part, node_step, with_first}
-use Rattle.lard_rules.specs.Stay.{NodeEnv}
-use Rattle.lard_resend.specs.Pending.{sent_of}
 use Rattle.lard_rules.specs.declared.front.FrontIn.TheVariants as input
-use Rattle.lard_rules.specs.declared.places.Out.{Out}
-use Rattle.lard_rules.specs.declared.places.Station.{Station}
-use Rattle.lard_segment.specs.declared.segment.Dir.TheVariants.{ToCluster}
-use Rattle.lard_segment.specs.Segment.{decoded}
 
 -- ---- lists
 

@@ -2,16 +2,8 @@
 use Rattle.std.proofs.Common.{◌≡◌, ◌⊎◌, ℕ, List, [], ◌∷◌, ◌++◌, take, drop, Bool, true, false, cond, nat_lt, not, ◌&&◌, Ok, Err, Result, refl, sym, ap, append-nil, inl, inr}
 use Rattle.std.proofs.lemmas.Bool.{cond_both}
 use Rattle.std.specs.List.{list_all}
-use Rattle.lard_base.specs.declared.event.Event.{Event}
-use Rattle.lard_client.specs.Arriving.{client_arrived}
-use Rattle.lard_client.specs.Control.{ClientBlock, is_writing, client_written}
-use Rattle.lard_history.specs.Laws.{AreOwn, is_own}
-use Rattle.lard_journal.specs.declared.rec.Rec.{Rec}
+use Rattle.lard_law_view.specs.Prelude.{AreOwn, ClientBlock, Event, Rec, Said, SegFault, Turn, client_arrived, client_gets, client_writes, client_written, is_own, is_writing, silent, speaking}
 use Rattle.lard_journal.specs.declared.rec.Rec.TheVariants as rec
-use Rattle.lard_rules.specs.declared.places.Turn.{Turn}
-use Rattle.lard_rules.specs.Client.{client_gets, client_writes, silent, speaking}
-use Rattle.lard_segment.specs.declared.fault.SegFault.{SegFault}
-use Rattle.lard_segment.specs.Segment.{Said}
 
 -- ---- records that are not an event's own
 

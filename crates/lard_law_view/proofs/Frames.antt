@@ -1,18 +1,17 @@
 -- What a move leaves as it was, for laws that look at one place: all but what its own place keeps. So such a law goes through the rules
 -- of that place alone.
-use Rattle.std.proofs.Common.{◌≡◌, ◌≢◌, ℕ, cond, List, [], refl, ap}
+use Rattle.std.proofs.Common.{◌≡◌, ◌≢◌, ℕ, cond, List, [], Some, refl, ap}
 use Rattle.lard_base.specs.declared.event.Event.TheVariants as event
-use Rattle.lard_base.specs.declared.place.Place.{Place}
-use Rattle.lard_base.specs.declared.place.Place.TheVariants.{Front, Node, Client}
-use Rattle.lard_rules.specs.Bounds.{IsConnNumber}
-use Rattle.lard_law_view.specs.View.{ClientRules, Conn, FrontRules, IsMachine, IsConnSound, Move, NodeRules, Part, Setting, UntouchedRules, Was, front_does, node_does, nothing_said, packet_seen, reads_first, stands}
+use Rattle.lard_law_view.specs.Prelude.{Came, Client, ClientFires, ClientGets, ClientReceives, ClientRules, Conn, Front, FrontRules, IsConnNumber, IsConnSound, IsMachine, Move, Node, NodeRules, Part, Place, Rec, Row, Seen, Setting, ToAbort, ToGet, ToHold, ToShut, ToTake, ToWrite, UntouchedRules, Was, event_conn, front_does, front_rule, node_does, node_rule, nothing_said, packet_seen, stands}
+use Rattle.lard_law_view.proofs.EachClient.{client_seen, each-client}
+use Rattle.lard_law_view.proofs.EachFront.{each-front, of-front}
+use Rattle.lard_law_view.proofs.EachNode.{each-node, job_notes, told_first}
 use Rattle.lard_law_view.proofs.Fine.{IsFine, IsItsOwn, fine}
 use Rattle.lard_law_view.proofs.Guarded.{client-both, client-weaker, front-both, front-weaker, node-both, node-weaker}
+use Rattle.lard_law_view.proofs.NodeHeads.{of-aside, of-heads}
 use Rattle.lard_rules.specs.Front as front
-use Rattle.lard_history.specs.Own.{Seen, Row, Came}
 use Rattle.lard_history.proofs.Each.{Each}
 use Rattle.lard_history.proofs.Seeing.{other_number}
-use Rattle.lard_journal.specs.declared.rec.Rec.{Rec}
 use Rattle.lard_journal.specs.declared.rec.Rec.TheVariants as rec
 use Rattle.lard_rules.specs.Node as node
 
@@ -53,51 +52,54 @@ module _ (x : Conn) (heads : List Seen) where
 
 -- ---- each rule of a machine
 
-fronts-frame : (k : Setting) → FrontRules k IsAtMachine
-fronts-frame k = record {
-  hears = λ x s env bytes there is iss was. front-at x _ (refl, tt) _;
-  fires = λ x s env there is. front-at x _ ((refl, refl), tt) _;
-  taken = λ x env n epoch bytes is spells was. front-at x _ (refl, tt) _;
-  asked = λ x env n epoch z queue size paths bytes is spells was. front-at x _ (refl, tt) _;
-  ended = λ x env n epoch reason snd rcv count bytes is spells was. front-at x _ (refl, tt) _;
-  admitted = λ x env choice given is e. record { machine = tt; keeps = (refl, refl); heads = tt };
-}
+pub fronts-frame : (k : Setting) → FrontRules k IsAtMachine
+fronts-frame k = each-front k IsAtMachine (λ x env heads g is comes. front-at x heads
+    (of-front x (Each (IsHeadAt Front x.c)) (λ from bytes. (refl, tt)) tt ((refl, refl), tt) env heads g comes) (front_rule env x.part.front g))
 
-nodes-frame : (k : Setting) → NodeRules k IsAtMachine
-nodes-frame k = record {
-  offered = λ x n epoch env parts bytes is spells was. node-at x _ n (refl, tt) _;
-  forwarded = λ x n epoch env segment bytes is spells was. node-at x _ n (refl, tt) _;
-  tagged = λ x n epoch z ns env bytes is spells was. node-at x _ n (refl, tt) _;
-  content = λ x n from epoch r env file bytes is spells was. node-at x _ n (refl, tt) _;
-  acknowledged = λ x n epoch env bytes is spells was. node-at x _ n (refl, tt) _;
-  fires = λ x s n env there is. node-at x _ n ((refl, refl), tt) _;
-  read = λ x n epoch r env path is. read-at x (rec.Read n n x.c r path) _ (node-at x [] n tt (node.node_read env (x.part.nodes n) r));
-  answers = λ x n from epoch r path file bytes there spells was. record { machine = tt; keeps = (refl, refl, λ j other. refl); heads = (refl, tt) };
-  queues = λ x n from epoch r path file bytes there spells was. record { machine = tt; keeps = (refl, refl, λ j other. refl); heads = (refl, tt) };
-  brings = λ x n from epoch r path. record { machine = tt; keeps = (refl, refl, λ j other. refl); heads = tt };
-} where
-  read-at : (x : Conn) (r : Rec) (v : Move) → IsAtMachine x v → IsAtMachine x (reads_first r v)
-  read-at x r v h = record { machine = h.machine; keeps = h.keeps; heads = h.heads }
+pub nodes-frame : (k : Setting) → NodeRules k IsAtMachine
+nodes-frame k = each-node k IsAtMachine (record {
+  does = λ x n epoch env heads g is at comes. told-at x (job_notes x.c n g) _ (node-at x heads n
+      (of-heads x n (Each (IsHeadAt (Node n) x.c)) (λ from bytes. (refl, tt)) tt ((refl, refl), tt) epoch heads g comes) (node_rule env (x.part.nodes n) g));
+  aside = λ x n a may. record {
+    machine = tt;
+    keeps = (refl, refl, λ j other. refl);
+    heads = of-aside x n (Each (IsHeadAt (Node n) x.c)) (λ from bytes. (refl, tt)) tt a;
+  };
+}) where
+  told-at : (x : Conn) (rs : List Rec) (v : Move) → IsAtMachine x v → IsAtMachine x (told_first rs v)
+  told-at x rs v h = record { machine = h.machine; keeps = h.keeps; heads = h.heads }
 
 -- ---- each rule of a client
 
--- A move of the connection's client.
+-- at a client an event is seen, and that it opened, or a packet that came to it
+abbrev pub IsClientHead : ℕ → Seen → Type 0
+IsClientHead c (Row (rec.Event i e)) = event_conn e ≡ Some c
+IsClientHead c (Row (rec.Opened d isn iss wnd mss)) = d ≡ c
+IsClientHead c (Row r) = ⊥
+IsClientHead c (Came l) = l.to ≡ Client c
+
+-- A move of the connection's client, which gives nobody anything and sends no message.
 pub record IsAtClient (x : Conn) (v : Move) : Type 0 where
   pub client : v.place ≡ Client x.c
   pub keeps : (v.part.front ≡ x.part.front) × (v.part.nodes ≡ x.part.nodes)
+  pub heads : Each (IsClientHead x.c) v.heads
+  pub gave : v.said.gave ≡ []
+  pub messages : v.said.messages ≡ []
 
-clients-frame : (k : Setting) → ClientRules k IsAtClient
-clients-frame k = record {
-  opens = λ x isn iss wnd mss rule none. record { client = refl; keeps = (refl, refl) };
-  gets = λ x s path there le. record { client = refl; keeps = (refl, refl) };
-  writes = λ x s bytes there le. record { client = refl; keeps = (refl, refl) };
-  shuts = λ x s there. record { client = refl; keeps = (refl, refl) };
-  aborts = λ x s there. record { client = refl; keeps = (refl, refl) };
-  holds = λ x s there. record { client = refl; keeps = (refl, refl) };
-  takes = λ x s there. record { client = refl; keeps = (refl, refl) };
-  fires = λ x s there. record { client = refl; keeps = (refl, refl) };
-  hears = λ x s from bytes there was. record { client = refl; keeps = (refl, refl) };
-}
+pub clients-frame : (k : Setting) → ClientRules k IsAtClient
+clients-frame k = each-client k IsAtClient (record {
+  opens = λ x isn iss wnd mss rule none. record { client = refl; keeps = (refl, refl); heads = (refl, (refl, tt)); gave = refl; messages = refl };
+  does = λ x s g there comes. record { client = refl; keeps = (refl, refl); heads = begins x.c g; gave = refl; messages = refl };
+}) where
+  begins : (c : ℕ) (g : ClientGets) → Each (IsClientHead c) (client_seen c g)
+  begins c (ToGet path) = (refl, tt)
+  begins c (ToWrite bytes) = (refl, tt)
+  begins c ToShut = (refl, tt)
+  begins c ToAbort = (refl, tt)
+  begins c ToHold = (refl, tt)
+  begins c ToTake = (refl, tt)
+  begins c ClientFires = (refl, tt)
+  begins c (ClientReceives from bytes) = (refl, tt)
 
 -- ---- a law that looks at one place
 

@@ -1,24 +1,14 @@
 -- What the front end does by a rule is an act on the rule's connection, and where one ended, perhaps on the head of the line.
 use Rattle.std.proofs.Common.{ℕ, List, [], refl, sym, arith}
-use Rattle.lard_base.specs.declared.event.Event.{Event}
-use Rattle.lard_base.specs.declared.place.Place.TheVariants.{Front}
-use Rattle.lard_rules.specs.declared.machine.Machine.{Machine}
-use Rattle.lard_rules.specs.Bounds.{IsConnNumber}
-use Rattle.lard_rules.specs.Machine.{front_gave}
-use Rattle.lard_law_view.specs.View.{Conn, Move, conn, front_does, part_of, timer_rows}
+use Rattle.lard_law_view.specs.Prelude.{AreOwn, Conn, Event, Front, FrontDeed, FrontState, FrontTurn, IsConnNumber, Machine, Move, Seen, conn, front_deed, front_does, front_gave, front_out_of, front_part, front_timers, part_of, put_back, timer_rows}
 use Rattle.lard_law_view.proofs.Fronts.{IsFrontDeed, IsFrontTurn}
 use Rattle.lard_law_view.proofs.Heads.{Begins}
 use Rattle.lard_law_view.proofs.Parts.{front-mine, front-others}
 use Rattle.lard_law_view.proofs.Saying.{notes-all, own-first}
 use Rattle.lard_law_view.proofs.Shapes.{IsPut, Shapes}
 use Rattle.lard_law_view.proofs.Timers.{timer_rows-same}
-use Rattle.lard_rules.specs.declared.front.FrontState.{FrontState}
-use Rattle.lard_rules.specs.declared.front.FrontTurn.{FrontTurn}
-use Rattle.lard_rules.specs.Front.{FrontDeed, Drops, Says, Does}
-use Rattle.lard_rules.specs.FrontPlace.{front_deed, front_part, front_out_of, put_back, front_timers}
+use Rattle.lard_rules.specs.Front.{Drops, Says, Does}
 use Rattle.lard_rules.proofs.FrontParts.{part_other, part_put}
-use Rattle.lard_history.specs.Laws.{AreOwn}
-use Rattle.lard_history.specs.Own.{Seen}
 use Rattle.lard_law_view.proofs.OwnRecords.{behind}
 
 pub front-put : (m : Machine) (s : FrontState) → IsPut m (record m { front = s })

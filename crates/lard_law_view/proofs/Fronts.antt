@@ -3,52 +3,23 @@ use Rattle.std.proofs.Common.{◌≡◌, ℕ, ◌+◌, Bool, true, false, List, 
 use Rattle.std.proofs.lemmas.Bool.{cond_both}
 use Rattle.std.proofs.lemmas.List.Sums.{fold-append}
 use Rattle.std.specs.List.{fold}
-use Rattle.lard_answers.specs.Answers.{good_path}
-use Rattle.lard_base.specs.declared.ids.Epoch.{Epoch}
-use Rattle.lard_base.specs.declared.place.Place.{Place}
-use Rattle.lard_base.specs.declared.place.Place.TheVariants.{Front}
+use Rattle.lard_law_view.specs.Prelude.{Ask, ControlBlock, Ending, Epoch, Final, FirstChoice, Found, Front, FrontDeed, FrontEnv, FrontPart, FrontRest, FrontRow, FrontTurn, IsConnNumber, Later, LaterChoice, Place, Reading, Rec, Said, SegFault, Service, Step, Turn, Verdict, ack_sent, answered_step, assigned_notes, assigns, block_at, cut_of, forwarded, front_admitted, front_asked, front_ended, front_fired, front_gets, front_reads, front_rest, front_saying, front_taken, front_timer, good_path, handed_off, holds, last_words, may_freeze, may_read, on_segment, over_note, placed, reading_left, reading_turn, reads_block, reads_found, sent_of, serving, serving_consumed, serving_ready_of, serving_settled, spoken, tag_sent, targeted, tombstone, turn_here, waits_on}
 use Rattle.lard_base.specs.declared.place.TimerKind.TheVariants as kind
 use Rattle.lard_base.specs.declared.place.Via.TheVariants.{Own}
-use Rattle.lard_block.specs.declared.block.Found.{Found}
 use Rattle.lard_block.specs.declared.block.Found.TheVariants.{Block, More, TooLong}
-use Rattle.lard_block.specs.Blocks.{cut_of}
-use Rattle.lard_rules.specs.Bounds.{IsConnNumber}
 use Rattle.lard_law_view.proofs.Saying.{AreMessages, NotedAt}
 use Rattle.lard_law_view.proofs.Turned.{AreHeld, HeldBy, IsSaid, as-held, front-segments, spelled}
-use Rattle.lard_costs.specs.declared.later.LaterChoice.{LaterChoice}
-use Rattle.lard_dispatch.specs.declared.dispatch.Ask.{Ask}
 use Rattle.lard_dispatch.specs.declared.dispatch.First.TheVariants as first
-use Rattle.lard_dispatch.specs.declared.dispatch.Later.{Later}
-use Rattle.lard_endpoint.specs.declared.control.moving.Final.{Final}
-use Rattle.lard_endpoint.specs.Arriving.{on_segment}
-use Rattle.lard_endpoint.specs.Control.{ControlBlock}
 use Rattle.lard_endpoint.specs.Leaving as leaving
-use Rattle.lard_endpoint.specs.Moving.{may_freeze}
-use Rattle.lard_rules.specs.declared.front.FrontRest.{FrontRest}
-use Rattle.lard_rules.specs.declared.front.FrontTurn.{FrontTurn}
-use Rattle.lard_rules.specs.Front.{FrontDeed, Drops, Says, Does, FrontEnv, FrontPart, ack_sent, assigned_notes, assigns, front_fired, forwarded, front_admitted, front_asked, front_ended, front_gets, front_taken, front_timer, handed_off, holds, over_note, placed, front_rest, front_saying, tag_sent, turn_here, waits_on}
-use Rattle.lard_rules.specs.FrontReading.{Reading, block_at, reading_left, front_reads, reads_block, reads_found, targeted, reading_turn}
-use Rattle.lard_handoff_front.specs.declared.row.FrontRow.{FrontRow}
-use Rattle.lard_history.specs.Journal.{answered_step}
+use Rattle.lard_rules.specs.Front.{Drops, Says, Does}
 use Rattle.lard_history.proofs.Each.{Each, Each-append}
-use Rattle.lard_journal.specs.declared.rec.Rec.{Rec}
 use Rattle.lard_journal.specs.declared.rec.Rec.TheVariants as rec
 use Rattle.lard_message.specs.declared.message.Body.TheVariants as body
-use Rattle.lard_policy.specs.declared.first.FirstChoice.{FirstChoice}
 use Rattle.lard_request.specs.declared.verdict.Code.TheVariants as code
-use Rattle.lard_request.specs.declared.verdict.Verdict.{Verdict}
 use Rattle.lard_request.specs.declared.verdict.Verdict.TheVariants.{Fault}
-use Rattle.lard_resend.specs.Pending.{sent_of}
 use Rattle.lard_resend.proofs.Ordered.{drop_all}
-use Rattle.lard_rules.specs.declared.places.Ending.{Ending}
-use Rattle.lard_rules.specs.declared.places.Turn.{Turn}
-use Rattle.lard_rules.specs.Tombstone.{last_words, tombstone}
-use Rattle.lard_rules.specs.Loop.{Step}
 use Rattle.lard_rules.specs.Loop as loop
-use Rattle.lard_rules.specs.Serving.{Service, serving_consumed, may_read, serving_ready_of, serving, serving_settled, spoken}
 use Rattle.lard_rules.proofs.Runs.{runs_keep}
-use Rattle.lard_segment.specs.declared.fault.SegFault.{SegFault}
-use Rattle.lard_segment.specs.Segment.{Said}
 use Rattle.lard_law_view.proofs.EndpointSends as endpoints
 use Rattle.lard_law_view.proofs.PlaceTurns as turns
 use Rattle.lard_law_view.proofs.PlaceTurns.{AreNoted, IsServingTurn, NotesServing}

@@ -1,13 +1,7 @@
 -- What was true, heard and accepted stays so as a stream goes on.
 use Rattle.std.proofs.Common.{◌≡◌, ◌≤◌, ◌+◌, ℕ, List, [], ◌++◌, length, take, drop, arith, ap, ◌∙◌, sym, subst, refl, inl, inr, ⊎_elim, length-append, length-drop, append-nil}
 use Rattle.std.proofs.lemmas.List.{drop-append-le, take-append-le}
-use Rattle.lard_answers.specs.Answers.{IsPrefix}
-use Rattle.lard_arrival.specs.Arrival.{IsPartAt}
-use Rattle.lard_client.specs.Control.{ClientBlock}
-use Rattle.lard_recv.specs.Recv.{Received, IsUnusedPart}
-use Rattle.lard_segment.specs.Segment.{Said}
-use Rattle.lard_seq.specs.Seq.{seq_add}
-use Rattle.lard_law_view.specs.Truth.{Stream, Stands, IsTrueOf, GoesOn, Hears, Accepts}
+use Rattle.lard_law_view.specs.Prelude.{Accepts, ClientBlock, GoesOn, Hears, IsPartAt, IsPrefix, IsTrueOf, IsUnusedPart, Received, Said, Stands, Stream, seq_add}
 
 -- ---- streams that go on
 pub goes_on-same : (x : Stream) → GoesOn x x

@@ -3,17 +3,11 @@ use Rattle.std.proofs.Common.{◌≡◌, ℕ, List, [], ◌∷◌, ◌++◌, map
 use Rattle.std.proofs.lemmas.List.Sums.{fold-append}
 use Rattle.std.specs.List.{fold}
 use Rattle.lard_base.specs.declared.event.Event.TheVariants as event
-use Rattle.lard_law_view.specs.Carry.{Guarded, IsGuardedLaw, IsLaw, MayRestOn, Untouched, WhileUntouched, tale_at}
-use Rattle.lard_law_view.specs.Laws.{GuardedIsLaw, UntouchedIsLaw}
-use Rattle.lard_law_view.specs.View.{ClientRules, Conn, FrontRules, Move, NodeRules, Rules, Setting, UntouchedRules, client_does, grown, inject_seen, rows_of, seen_in}
-use Rattle.lard_history.specs.Journal.{Tale, tale_step, untold}
-use Rattle.lard_history.specs.Own.{EachRow, Seen, Row, Came, seen_step, tale_of}
+use Rattle.lard_law_view.specs.Prelude.{Came, ClientRules, Conn, EachRow, FrontRules, Guarded, GuardedIsLaw, IsGuardedLaw, IsLaw, MayRestOn, Move, NodeRules, Rec, Row, Rules, Seen, Setting, Station, Tale, Untouched, UntouchedIsLaw, UntouchedRules, WhileUntouched, client_begins, client_does, client_injects, grown, inject_seen, rows_of, seen_in, seen_step, tale_at, tale_of, tale_step, untold}
+use Rattle.lard_law_view.proofs.EachClient.{client-each, client_goes, each-client}
 use Rattle.lard_history.proofs.Lifting.{each_row-append}
 use Rattle.lard_history.proofs.Seeing.{same_number}
-use Rattle.lard_journal.specs.declared.rec.Rec.{Rec}
 use Rattle.lard_journal.specs.declared.rec.Rec.TheVariants as rec
-use Rattle.lard_rules.specs.Client.{client_injects}
-use Rattle.lard_rules.specs.declared.places.Station.{Station}
 use Rattle.lard_law_view.proofs.Untouched.{touched-stays}
 
 module _ (k : Setting) (P Q : Conn → Move → Type 0) where
@@ -21,17 +15,10 @@ module _ (k : Setting) (P Q : Conn → Move → Type 0) where
 
   module _ (w : (x : Conn) (v : Move) → P x v → Q x v) where
     pub client-weaker : ClientRules k P → ClientRules k Q
-    client-weaker R = record {
-      opens = λ x isn iss wnd mss rule none. w x _ (R.opens x isn iss wnd mss rule none);
-      gets = λ x s path there le. w x _ (R.gets x s path there le);
-      writes = λ x s bytes there le. w x _ (R.writes x s bytes there le);
-      shuts = λ x s there. w x _ (R.shuts x s there);
-      aborts = λ x s there. w x _ (R.aborts x s there);
-      holds = λ x s there. w x _ (R.holds x s there);
-      takes = λ x s there. w x _ (R.takes x s there);
-      fires = λ x s there. w x _ (R.fires x s there);
-      hears = λ x s from bytes there was. w x _ (R.hears x s from bytes there was);
-    }
+    client-weaker R = each-client k Q (record {
+      opens = λ x isn iss wnd mss rule none. w x (client_begins x isn iss wnd mss) (R.opens x isn iss wnd mss rule none);
+      does = λ x s g there comes. w x (client_goes x s g) ((client-each k P R).does x s g there comes);
+    })
 
     pub front-weaker : FrontRules k P → FrontRules k Q
     front-weaker R = record {
@@ -74,17 +61,10 @@ module _ (k : Setting) (P Q : Conn → Move → Type 0) where
   -- ---- two facts of each rule at once
 
   pub client-both : ClientRules k P → ClientRules k Q → ClientRules k (λ x v. P x v × Q x v)
-  client-both R S = record {
+  client-both R S = each-client k (λ x v. P x v × Q x v) (record {
     opens = λ x isn iss wnd mss rule none. (R.opens x isn iss wnd mss rule none, S.opens x isn iss wnd mss rule none);
-    gets = λ x s path there le. (R.gets x s path there le, S.gets x s path there le);
-    writes = λ x s bytes there le. (R.writes x s bytes there le, S.writes x s bytes there le);
-    shuts = λ x s there. (R.shuts x s there, S.shuts x s there);
-    aborts = λ x s there. (R.aborts x s there, S.aborts x s there);
-    holds = λ x s there. (R.holds x s there, S.holds x s there);
-    takes = λ x s there. (R.takes x s there, S.takes x s there);
-    fires = λ x s there. (R.fires x s there, S.fires x s there);
-    hears = λ x s from bytes there was. (R.hears x s from bytes there was, S.hears x s from bytes there was);
-  }
+    does = λ x s g there comes. ((client-each k P R).does x s g there comes, (client-each k Q S).does x s g there comes);
+  })
 
   pub front-both : FrontRules k P → FrontRules k Q → FrontRules k (λ x v. P x v × Q x v)
   front-both R S = record {

@@ -1,20 +1,12 @@
 -- What is seen of an event, before all notes.
 use Rattle.std.proofs.Common.{◌≡◌, ◌≢◌, ℕ, List, [], ◌∷◌, ◌++◌, map, false, Some, None, refl, ap, ◌∙◌, subst}
 use Rattle.std.specs.List.{fold}
-use Rattle.lard_base.specs.declared.event.Event.{Event}
+use Rattle.lard_law_view.specs.Prelude.{Came, Event, Has, Letter, Machine, Node, Packet, Place, Rec, Row, Seen, Was, acting_in, answered_step, came_seen, conn, conn_of, event_conn, letter_of, one_of, packet_at, packet_seen, plain, seen_on, whose}
 use Rattle.lard_base.specs.declared.event.Event.TheVariants as event
-use Rattle.lard_base.specs.declared.place.Place.{Place}
-use Rattle.lard_base.specs.declared.place.Place.TheVariants.{Node}
-use Rattle.lard_rules.specs.declared.machine.Machine.{Machine}
-use Rattle.lard_law_view.specs.View.{Was, conn, packet_seen}
 use Rattle.lard_law_view.proofs.Saying.{IsStill}
-use Rattle.lard_history.specs.Journal.{acting_in, answered_step}
-use Rattle.lard_history.specs.Own.{Has, Letter, Seen, Row, Came, came_seen, conn_of, event_conn, letter_of, one_of, plain, seen_on, whose}
 use Rattle.lard_history.proofs.Each.{Each, Each-weaker}
 use Rattle.lard_history.proofs.Seeing.{AreOf, has-letter, of-whose, one-mine, one-other, seen-all, seen-mine, seen-none, seen-other}
-use Rattle.lard_journal.specs.declared.rec.Rec.{Rec}
 use Rattle.lard_journal.specs.declared.rec.Rec.TheVariants as rec
-use Rattle.lard_net.specs.Net.{Packet, packet_at}
 use Rattle.lard_law_view.proofs.Deliveries.{IsDelivered, IsHead}
 use Rattle.lard_law_view.proofs.OwnRecords.{IsAside, behind}
 

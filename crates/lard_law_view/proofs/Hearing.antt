@@ -4,14 +4,7 @@ use Rattle.std.proofs.lemmas.Bool.{cond_both}
 use Rattle.std.specs.FinMap as table
 use Rattle.std.specs.List.{list_any}
 use Rattle.lard_base.specs.declared.event.Event.TheVariants as event
-use Rattle.lard_base.specs.declared.place.Place.{Place}
-use Rattle.lard_base.specs.declared.place.Place.TheVariants.{Front, Node, Client}
-use Rattle.lard_base.specs.declared.event.Event.{Event}
-use Rattle.lard_cache.specs.Recency.{has_path}
-use Rattle.lard_rules.specs.declared.machine.Machine.{Machine}
-use Rattle.lard_rules.specs.Bounds.{IsConnNumber}
-use Rattle.lard_rules.specs.Machine.{front_gave, front_setting, node_at, node_gave, node_setting}
-use Rattle.lard_law_view.specs.View.{Conn, IsFrontEnv, IsNodeEnv, IsViewed, Move, Rules, Was, IsForFront, IsForNode, IsForOtherNode, IsUnheard, conn, node_does, packet_seen, part_of, setting_of}
+use Rattle.lard_law_view.specs.Prelude.{Ask, Body, Client, Conn, Event, Final, Front, FrontEnv, FrontPart, IsConnNumber, IsForFront, IsForNode, IsForOtherNode, IsFrontEnv, IsNodeEnv, IsUnheard, IsViewed, Kind, Machine, Message, Move, MsgFault, Node, NodeDeed, NodeEnv, NodePart, NodeState, NodeTurn, Out, Packet, Place, Rules, Seen, ToCluster, Was, aside, ask_of, conn, conn_of, content_sent, decoded, decoded_message, fetched, fetched_file, file_at, front_asked, front_ended, front_env, front_gave, front_part, front_setting, front_taken, front_told, has_path, is_for, kind_of, message_comes, node_acknowledged, node_at, node_content, node_deed, node_does, node_env, node_forwarded, node_gave, node_gets, node_hears, node_offered, node_part, node_saying, node_setting, node_tagged, nothing_done, packet_at, packet_seen, part_of, sent_of, setting_of}
 use Rattle.lard_law_view.proofs.Ended.{ended-acts, ended-leaves}
 use Rattle.lard_law_view.proofs.FrontActs.{front-acts}
 use Rattle.lard_law_view.proofs.Fronts as fronts
@@ -25,32 +18,8 @@ use Rattle.lard_law_view.proofs.Parts.{node-kept}
 use Rattle.lard_law_view.proofs.Saying.{AreMessages}
 use Rattle.lard_law_view.proofs.Shapes.{IsUnheardAt, Shapes}
 use Rattle.lard_law_view.proofs.Turned.{sent-messages, spelled}
-use Rattle.lard_disk.specs.Jobs.{is_for}
-use Rattle.lard_dispatch.specs.declared.dispatch.Ask.{Ask}
-use Rattle.lard_endpoint.specs.declared.control.moving.Final.{Final}
-use Rattle.lard_files.specs.Files.{file_at}
-use Rattle.lard_rules.specs.Front.{FrontEnv, FrontPart, ask_of, front_asked, front_ended, front_taken}
-use Rattle.lard_rules.specs.FrontPlace.{front_env, front_part, front_told, message_comes}
-use Rattle.lard_history.specs.Own.{Seen, conn_of}
 use Rattle.lard_journal.specs.declared.rec.Rec.TheVariants as rec
-use Rattle.lard_message.specs.declared.fault.MsgFault.{MsgFault}
-use Rattle.lard_message.specs.declared.kind.Kind.{Kind}
-use Rattle.lard_message.specs.declared.message.Body.{Body}
 use Rattle.lard_message.specs.declared.message.Body.TheVariants as body
-use Rattle.lard_message.specs.declared.message.Message.{Message}
-use Rattle.lard_message.specs.Message.{kind_of}
-use Rattle.lard_message.specs.Reading.{decoded_message}
-use Rattle.lard_net.specs.Net.{Packet, packet_at}
-use Rattle.lard_rules.specs.declared.node.NodeState.{NodeState}
-use Rattle.lard_rules.specs.declared.node.NodeTurn.{NodeTurn}
-use Rattle.lard_rules.specs.Node.{NodeDeed, NodePart, node_acknowledged, node_content, node_forwarded, node_offered, node_tagged, node_saying}
-use Rattle.lard_rules.specs.NodePlace.{aside, content_sent, fetched, fetched_file, node_deed, node_env, node_gets, node_hears, node_part}
-use Rattle.lard_rules.specs.Stay.{NodeEnv}
-use Rattle.lard_resend.specs.Pending.{sent_of}
-use Rattle.lard_rules.specs.declared.places.Out.{Out}
-use Rattle.lard_rules.specs.Outs.{nothing_done}
-use Rattle.lard_segment.specs.declared.segment.Dir.TheVariants.{ToCluster}
-use Rattle.lard_segment.specs.Segment.{decoded}
 
 -- ---- a message comes to the front end, or to a node
 

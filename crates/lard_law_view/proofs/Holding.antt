@@ -1,11 +1,8 @@
 -- What holds of the two ends of one connection.
 use Rattle.std.proofs.Common.{◌≡◌, ℕ, ◌≤◌, true, sym, ap, ◌∙◌, arith}
-use Rattle.lard_client.specs.Control.{is_client_open}
+use Rattle.lard_law_view.specs.Prelude.{Seat, Station, is_client_open, seq_add}
 use Rattle.lard_law_view.proofs.Acked.{Acks, ClientHolds, FrontHolds, heard_of, taken_by}
 use Rattle.lard_law_view.proofs.Story.{Story}
-use Rattle.lard_rules.specs.declared.places.Station.{Station}
-use Rattle.lard_law_view.specs.Seat.{Seat}
-use Rattle.lard_seq.specs.Seq.{seq_add}
 
 -- ---- its two ends
 

@@ -1,24 +1,13 @@
 -- Laws of a step: from the move of each connection in it to the steps of the whole journal. And laws of a record, and of
 -- the end of each step.
 use Rattle.std.proofs.Common.{◌≡◌, ℕ, List, [], ◌++◌, Ok, refl, sym, ap, ◌∙◌, subst, ⊎_elim, append-nil}
-use Rattle.lard_base.specs.declared.config.Config.{Config}
-use Rattle.lard_base.specs.declared.event.Event.{Event}
-use Rattle.lard_rules.specs.declared.machine.Machine.{Machine}
-use Rattle.lard_rules.specs.Bounds.{HasRule, IsConnNumber}
-use Rattle.lard_rules.specs.Machine.{IsReached, machine_step}
-use Rattle.lard_law_view.specs.Carry.{MayRestOn}
-use Rattle.lard_law_view.specs.Laws.{CarriesRecords, CarriesSteps}
-use Rattle.lard_law_view.specs.View.{Conn, GoesBy, Move, conn, grown, seen_in}
+use Rattle.lard_law_view.specs.Prelude.{AtEachEnd, CarriesRecords, CarriesSteps, Config, Conn, EachMay, Event, GoesBy, HasRule, HoldsBefore, IsConnNumber, IsReached, Machine, MayRestOn, Move, Rec, Seen, conn, grown, machine_step, net_of, own, seen_in, seen_on}
 use Rattle.lard_law_view.proofs.After.{IsAfter, step-after}
 use Rattle.lard_law_view.proofs.Carried.{IsOn, carried-keep, goes-on, may-move}
-use Rattle.lard_history.specs.Laws.{EachMay}
-use Rattle.lard_history.specs.Own.{Seen, net_of, own, seen_on}
-use Rattle.lard_history.specs.Steps.{AtEachEnd, HoldsBefore}
 use Rattle.lard_history.proofs.Each.{each_append}
 use Rattle.lard_history.proofs.Lifting.{each_from_own}
 use Rattle.lard_history.proofs.Seeing.{own-append}
 use Rattle.lard_history.proofs.Stepping.{AreLawful, cancel, one-more, step-holds}
-use Rattle.lard_journal.specs.declared.rec.Rec.{Rec}
 
 -- what a connection sees of a step is what its move says
 pub seen-step : (P : Conn → Move → Type 0) (Q : List Seen → Type 0) (m n : Machine) (s : List Rec) (q : ℕ) → n.journal ≡ m.journal ++ s → Q []

@@ -1,15 +1,8 @@
 -- What is kept to be sent, and what came and was not read, are bytes.
-use Rattle.std.proofs.Common.{ℕ, ◌+◌, ◌-◌, ◌≤◌, ◌<◌, ◌^◌, ◌==◌, ◌&&◌, ◌||◌, Bool, true, false, cond, max, nat_lt, List, ◌++◌, drop, arith}
+use Rattle.std.proofs.Common.{ℕ, ◌+◌, ◌-◌, ◌≤◌, ◌<◌, ◌^◌, ◌==◌, ◌&&◌, ◌||◌, Bool, true, false, cond, max, nat_lt, List, ◌++◌, drop, arith, sym, subst}
 use Rattle.std.proofs.lemmas.Bool.{cond_both}
-use Rattle.lard_endpoint.specs.Arriving.{on_segment}
-use Rattle.lard_endpoint.specs.Control.{ControlBlock}
-use Rattle.lard_endpoint.specs.Leaving.{after_emit, after_timer}
+use Rattle.lard_law_view.specs.Prelude.{ControlBlock, Received, Said, Sending, after_ack, after_emit, after_next, after_resend, after_timer, arrived, awaited, begins_after, bytes_taken, ends, fresh_bytes, is_newer, may_send, moved_up, next_fin, next_len, on_segment, one_if, receive_room, seq_offset, symbols, windowed}
 use Rattle.lard_endpoint.proofs.Windows.{emit-recv, segment-recv, timer-recv}
-use Rattle.lard_recv.specs.Recv.{Received, arrived, awaited, begins_after, ends, fresh_bytes, receive_room, bytes_taken}
-use Rattle.lard_segment.specs.Segment.{Said}
-use Rattle.lard_send.specs.Send.{Sending, after_ack, after_next, after_resend, is_newer, may_send, moved_up, next_fin, next_len, symbols, windowed}
-use Rattle.lard_seq.specs.Seq.{one_if, seq_offset}
-use Rattle.std.proofs.Common.{sym, subst}
 use Rattle.lard_law_view.proofs.ByteLists.{AreBytes, bytes-append, each-drop, each-take}
 use Rattle.lard_rules.proofs.Halves.{KeptBySending, endpoint-emit, endpoint-fires, endpoint-segment}
 

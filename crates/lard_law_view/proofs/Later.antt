@@ -1,11 +1,7 @@
 -- What was fair on a connection stays so as its streams go on.
 use Rattle.std.proofs.Common.{◌≡◌, ℕ, ◌≤◌, length, true, sym, ap, ◌∙◌, arith}
-use Rattle.lard_segment.specs.Segment.{Said}
-use Rattle.lard_seq.specs.Seq.{seq_add}
-use Rattle.lard_law_view.specs.Truth.{GoesOn, Stream}
+use Rattle.lard_law_view.specs.Prelude.{GoesOn, IsReply, IsWord, Said, Stream, Talk, seq_add}
 use Rattle.lard_law_view.proofs.Growth.{front-length, truth-grown}
-use Rattle.lard_law_view.specs.Agreement.{IsReply, IsWord}
-use Rattle.lard_law_view.specs.Truthful.{Talk}
 
 -- a talk goes on
 pub record TalksOn (k l : Talk) : Type 0 where

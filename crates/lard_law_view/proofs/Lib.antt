@@ -91,3 +91,9 @@ pub mod Guarded
 pub mod Rows
 pub mod Acts
 pub mod Frames
+pub mod EachNode
+pub mod RecordKinds
+pub mod OfKinds
+pub mod NodeHeads
+pub mod EachFront
+pub mod EachClient

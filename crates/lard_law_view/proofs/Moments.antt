@@ -2,17 +2,12 @@
 use Rattle.std.proofs.Common.{◌≡◌, ℕ, List, [], ◌∷◌, ◌++◌, Bool, true, false, cond, refl, sym, ap, ◌∙◌, subst, append_assoc, append-nil, nat_eq}
 use Rattle.std.proofs.lemmas.Bool.{both_ways, eqb-true}
 use Rattle.std.proofs.lemmas.List.Sums.{fold-append}
-use Rattle.lard_answers.specs.Answers.{FilesAt, IsPrefix, answer_bytes}
+use Rattle.lard_law_view.specs.Prelude.{AcceptsOnlyAnswers, AreClientNotes, EachMay, FilesAt, IsPrefix, IsTrueAfter, MayAccept, Rec, Tale, accepted, accepted_in, accepted_step, answer_bytes, is_touched, tale, tale_step, touched_step, wrote, wrote_step}
 use Rattle.lard_answers.proofs.Growing.{IsPrefix-trans, answer_bytes-grow}
-use Rattle.lard_history.specs.Journal.{Tale, accepted, accepted_step, is_touched, tale, tale_step, touched_step, wrote, wrote_step}
-use Rattle.lard_history.specs.Laws.{AcceptsOnlyAnswers, EachMay}
 use Rattle.lard_history.proofs.Each.{each_then}
 use Rattle.lard_history.proofs.Tales.{accepted-tale, wrote-tale}
-use Rattle.lard_journal.specs.declared.rec.Rec.{Rec}
 use Rattle.lard_journal.specs.declared.rec.Rec.TheVariants as rec
 use Rattle.lard_law_view.specs.WhileUntouched.{TellsBy}
-use Rattle.lard_law_view.specs.Keeping.{AreClientNotes, accepted_in}
-use Rattle.lard_law_view.specs.Truthful.{IsTrueAfter, MayAccept}
 use Rattle.lard_law_view.proofs.Notes.{same-number}
 
 module _ (files : FilesAt) where

@@ -2,20 +2,12 @@
 use Rattle.std.proofs.Common.{◌≡◌, ◌≢◌, ℕ, ◌+◌, List, [], ◌∷◌, ◌++◌, map, length, inl, inr, sym, ap, ◌∙◌, append_assoc, append-nil}
 use Rattle.std.proofs.lemmas.List.{map-append}
 use Rattle.std.specs.List.{fold}
-use Rattle.lard_base.specs.declared.event.Event.{Event}
-use Rattle.lard_base.specs.declared.place.Place.{Place}
-use Rattle.lard_rules.specs.declared.machine.Machine.{Machine}
-use Rattle.lard_rules.specs.Machine.{passed, segments_sent, machine_told, told_rows}
-use Rattle.lard_law_view.specs.View.{Conn, GoesBy, Move, Part, TurnSaid, conn, letter, nothing_said, packet_seen, part_of, sending, stands, timer_rows}
+use Rattle.lard_law_view.specs.Prelude.{Conn, Event, GoesBy, Machine, Move, Out, Packet, Part, Place, Rec, Row, Seen, TurnSaid, conn, letter, letters, machine_told, net_of, net_step, nothing_said, own, packet_seen, packets_of, part_of, passed, seen_on, segments_sent, sent_records, stands, timer_rows, told_rows}
+use Rattle.lard_law_view.specs.View.{sending}
 use Rattle.lard_law_view.proofs.Saying.{gaves-mine, gaves-others, letters-mine, letters-others, messages-between, notes-others, sents-mine, sents-others}
 use Rattle.lard_law_view.proofs.Turned.{IsSaid}
-use Rattle.lard_history.specs.Own.{Seen, Row, letters, net_of, net_step, own, seen_on}
 use Rattle.lard_history.proofs.Seeing.{AreOf, letters-append, of-whose, own-append, seen-all, seen-none, seen_on-append}
-use Rattle.lard_journal.specs.declared.rec.Rec.{Rec}
 use Rattle.lard_journal.specs.declared.rec.Rec.TheVariants as rec
-use Rattle.lard_rules.specs.Sent.{packets_of, sent_records}
-use Rattle.lard_net.specs.Net.{Packet}
-use Rattle.lard_rules.specs.declared.places.Out.{Out}
 
 -- ---- what a connection sees of an act
 

@@ -3,17 +3,9 @@ use Rattle.std.proofs.Common.{◌≡◌, ℕ, ◌+◌, ◌*◌, ◌≤◌, Bool,
 use Rattle.std.proofs.lemmas.Bool.{and_parts, not-false}
 use Rattle.std.proofs.lemmas.Nat.{from_be_bytes-to_be_bytes_2}
 use Rattle.std.specs.Int.{w16, w32, to_be_bytes, from_be_bytes}
+use Rattle.lard_law_view.specs.Prelude.{Body, IsConnNumber, Kind, Message, MsgFault, body_at, body_bytes, connection_at, decoded_message, epoch_at, is_of_table, is_version, kind_named, kind_number, kind_of, length_at, named_in, number_byte, spelled_message, version_at, version_of, with_body, with_kind}
 use Rattle.lard_base.specs.declared.ids.TheConstants.ConnId.{MAX}
-use Rattle.lard_rules.specs.Bounds.{IsConnNumber}
-use Rattle.lard_history.specs.Own.{named_in}
-use Rattle.lard_message.specs.declared.fault.MsgFault.{MsgFault}
 use Rattle.lard_message.specs.declared.fault.MsgFault.TheVariants as fault
-use Rattle.lard_message.specs.declared.kind.Kind.{Kind}
-use Rattle.lard_message.specs.declared.message.Body.{Body}
-use Rattle.lard_message.specs.declared.message.Message.{Message}
-use Rattle.lard_message.specs.Kinds.{is_version, kind_named, kind_number, version_of}
-use Rattle.lard_message.specs.Message.{body_bytes, kind_of, spelled_message}
-use Rattle.lard_message.specs.Reading.{body_at, connection_at, decoded_message, epoch_at, is_of_table, length_at, number_byte, version_at, with_body, with_kind}
 
 -- ---- as it is spelled
 

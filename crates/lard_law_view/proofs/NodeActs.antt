@@ -3,14 +3,8 @@ use Rattle.std.proofs.Common.{◌≡◌, ℕ, ◌-◌, cond, List, [], ◌++◌,
 use Rattle.std.specs.Prelude.{slice_set}
 use Rattle.std.proofs.lemmas.List.Sums.{fold-append}
 use Rattle.std.specs.List.{fold}
-use Rattle.lard_base.specs.declared.event.Event.{Event}
-use Rattle.lard_base.specs.declared.place.Place.{Place}
-use Rattle.lard_base.specs.declared.place.Place.TheVariants.{Node}
-use Rattle.lard_rules.specs.declared.machine.Machine.{Machine}
-use Rattle.lard_rules.specs.Bounds.{IsConnNumber}
-use Rattle.lard_rules.specs.Machine.{node_at, node_gave}
+use Rattle.lard_law_view.specs.Prelude.{AreNumbered, AreOwn, Conn, Event, IsConnNumber, Job, Machine, Move, Node, NodeDeed, NodePart, NodeSetting, NodeState, NodeTurn, Out, Place, Rec, Recency, Row, Seen, answered_step, aside, conn, named_records, node_at, node_deed, node_does, node_gave, node_out, node_part, node_saying, node_timers, nothing_done, part_of, stands, timer_rows, with_node}
 use Rattle.lard_law_view.specs.View as view
-use Rattle.lard_law_view.specs.View.{AreNumbered, Conn, IsViewed, Move, Part, conn, named_records, node_does, nothing_said, part_of, stands, timer_rows, with_node}
 use Rattle.lard_law_view.proofs.Heads.{Begins}
 use Rattle.lard_law_view.proofs.Nodes.{IsNodeDeed}
 use Rattle.lard_law_view.proofs.Parts.{length-set, node-as-before, node-elsewhere, node-here, node-kept, node-mine, node-others, node-set}
@@ -19,21 +13,10 @@ use Rattle.lard_law_view.proofs.Shapes.{HasJobs, IsPut, Shapes, move_of}
 use Rattle.lard_law_view.proofs.Timers.{timer_rows-same}
 use Rattle.lard_law_view.proofs.Turned.{IsSaid}
 use Rattle.lard_law_view.proofs.Works.{all-append}
-use Rattle.lard_cache.specs.Recency.{Recency}
-use Rattle.lard_disk.specs.declared.disk.Job.{Job}
-use Rattle.lard_history.specs.Journal.{answered_step}
-use Rattle.lard_history.specs.Laws.{AreOwn}
-use Rattle.lard_history.specs.Own.{Row, Seen}
 use Rattle.lard_history.proofs.Each.{Each, Each-append}
 use Rattle.lard_history.proofs.Seeing.{by_number, same_number}
-use Rattle.lard_journal.specs.declared.rec.Rec.{Rec}
-use Rattle.lard_rules.specs.declared.node.NodeState.{NodeState}
-use Rattle.lard_rules.specs.declared.node.NodeTurn.{NodeTurn}
-use Rattle.lard_rules.specs.Node.{NodeDeed, Drops, Says, Does, NodePart, node_saying}
+use Rattle.lard_rules.specs.Node.{Drops, Says, Does}
 use Rattle.lard_rules.specs.NodePlace as place
-use Rattle.lard_rules.specs.NodePlace.{NodeSetting, aside, node_deed, node_did, node_out, node_part, node_timers}
-use Rattle.lard_rules.specs.declared.places.Out.{Out}
-use Rattle.lard_rules.specs.Outs.{nothing_done}
 use Rattle.lard_law_view.proofs.OwnRecords.{behind}
 
 -- ---- what a node keeps is put back

@@ -2,45 +2,20 @@
 use Rattle.std.proofs.Common.{◌≡◌, ℕ, true, List, [], ◌∷◌, ◌++◌, map, Option, Some, None, Result, Ok, Err, refl, arith, inl, inr}
 use Rattle.std.proofs.lemmas.Bool.{cond_both}
 use Rattle.std.specs.List.{AllByRecursion, find}
-use Rattle.lard_base.specs.declared.parts.EndpointParts.{EndpointParts}
-use Rattle.lard_base.specs.declared.place.Place.{Place}
-use Rattle.lard_base.specs.declared.place.Place.TheVariants.{Node}
+use Rattle.lard_law_view.specs.Prelude.{Adopt, AreNumbered, Asked, ControlBlock, Ending, EndpointParts, GoesBetween, Has, IsConnNumber, IsMachine, Job, Kept, Node, NodeDeed, NodeEnv, NodePart, NodeTurn, Place, Said, SegFault, Service, Stay, Turn, Want, Work, again_sent, all_sent, anew, ask_kept, asked_kept, asked_sent, awaits_ack, back_endpoint, both_of, came_for, come_by, come_progress, ended_kept, ended_sent, fetch_of, gave_by, goes_on, gone, here, is_from, is_tag_awaited, is_under, kept_after, node_acknowledged, node_begins, node_content, node_fired_by, node_forwarded, node_heard_by, node_offered, node_read, node_read_by, node_saying, node_tagged, node_timer, offer_answer, offered_by, on_segment, read_progress, reads_batch, sent_of, serving, serving_ready_of, serving_settled, spoken, state_of, tagged, tagged_by, taken_sent, turn_by, wants_kept, wants_sent, with_work, without, work_of}
 use Rattle.lard_base.specs.declared.place.TimerKind.TheVariants as kind
-use Rattle.lard_rules.specs.Bounds.{IsConnNumber}
-use Rattle.lard_law_view.specs.View.{AreNumbered, GoesBetween, IsMachine}
 use Rattle.lard_law_view.proofs.Saying.{AreMessages, GaveAt}
 use Rattle.lard_law_view.proofs.Turned.{AreHeld, HeldBy, IsSaid, all-has, all-weaker, as-held, node-segments, spelled}
 use Rattle.lard_law_view.proofs.Works.{AreTold, IsAtWork, N, by_told, noting}
 use Rattle.lard_rules.proofs.StayKeeping.{KeptByNotes, batch-works, came-works, goes-works, tagged-works}
-use Rattle.lard_disk.specs.declared.disk.Job.{Job}
-use Rattle.lard_endpoint.specs.Arriving.{on_segment}
-use Rattle.lard_endpoint.specs.Control.{ControlBlock}
 use Rattle.lard_endpoint.specs.Leaving as leaving
-use Rattle.lard_handoff_back.specs.declared.table.Adopt.{Adopt}
 use Rattle.lard_handoff_back.specs.declared.table.Adopt.TheVariants.{New, Again, Stale}
-use Rattle.lard_handoff_back.specs.Back.{awaits_ack, back_endpoint, offer_answer}
-use Rattle.lard_history.specs.Own.{Has}
 use Rattle.lard_history.proofs.Each.{Each, Each-append}
 use Rattle.lard_history.proofs.Seeing.{has-before, has-behind}
-use Rattle.lard_lateral.specs.Lateral.{is_from}
 use Rattle.lard_message.specs.declared.message.Body.TheVariants as body
-use Rattle.lard_rules.specs.declared.node.NodeTurn.{NodeTurn}
-use Rattle.lard_rules.specs.declared.stay.Asked.{Asked}
-use Rattle.lard_rules.specs.declared.stay.Stay.{Stay}
-use Rattle.lard_rules.specs.declared.stay.Want.{Want}
-use Rattle.lard_rules.specs.Node.{NodeDeed, Drops, Says, Does, NodePart, again_sent, all_sent, anew, ask_kept, asked_kept, asked_sent, node_begins, both_of, come_by, ended_kept, ended_sent, fetch_of, node_fired_by, gave_by, gone, node_heard_by, here, is_tag_awaited, kept_after, node_acknowledged, node_content, node_forwarded, node_offered, node_read, node_tagged, node_timer, offered_by, node_read_by, node_saying, tagged_by, taken_sent, turn_by, wants_kept, wants_sent, with_work, work_of}
-use Rattle.lard_rules.specs.Stay.{NodeEnv, Work, came_for, come_progress, goes_on, read_progress, reads_batch, tagged}
-use Rattle.lard_resend.specs.declared.kept.Kept.{Kept}
-use Rattle.lard_resend.specs.Kept.{is_under, without}
-use Rattle.lard_resend.specs.Pending.{sent_of}
+use Rattle.lard_rules.specs.Node.{Drops, Says, Does}
 use Rattle.lard_resend.proofs.Ordered.{drop_all, put_all}
-use Rattle.lard_rules.specs.declared.places.Ending.{Ending}
 use Rattle.lard_rules.specs.declared.places.Ending.TheVariants.{Here, Over}
-use Rattle.lard_rules.specs.declared.places.Turn.{Turn}
-use Rattle.lard_rules.specs.Loop.{state_of}
-use Rattle.lard_rules.specs.Serving.{Service, serving_ready_of, serving, serving_settled, spoken}
-use Rattle.lard_segment.specs.declared.fault.SegFault.{SegFault}
-use Rattle.lard_segment.specs.Segment.{Said}
 use Rattle.lard_law_view.proofs.EndpointSends as endpoints
 use Rattle.lard_law_view.proofs.PlaceTurns as turns
 use Rattle.lard_law_view.proofs.PlaceTurns.{IsServingTurn}

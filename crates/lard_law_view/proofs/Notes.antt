@@ -1,10 +1,8 @@
 -- What the records of a turn add to the tale of their connection.
 use Rattle.std.proofs.Common.{◌≡◌, ℕ, ◌+◌, List, [], ◌∷◌, ◌++◌, Bool, true, false, cond, ◌||◌, refl, sym, ap, ◌∙◌, append_assoc, append-nil, arith, nat_eq}
 use Rattle.std.proofs.lemmas.Bool.{eq-eqb}
-use Rattle.lard_history.specs.Journal.{Tale, tale_step, told_on}
-use Rattle.lard_journal.specs.declared.rec.Rec.{Rec}
+use Rattle.lard_law_view.specs.Prelude.{AreClientNotes, Rec, Tale, accepted_in, tale_step, told_on, written_in}
 use Rattle.lard_journal.specs.declared.rec.Rec.TheVariants as rec
-use Rattle.lard_law_view.specs.Keeping.{AreClientNotes, accepted_in, written_in}
 
 -- Of what is told of a connection, what bytes rest on goes on so.
 pub record Adds (t : Tale) (written accepted_ : List ℕ) (more size : ℕ) (reset : Bool) (u : Tale) : Type 0 where

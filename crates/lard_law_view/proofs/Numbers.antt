@@ -1,10 +1,6 @@
 -- A connection on which something happened has the number of one.
 use Rattle.std.proofs.Common.{◌≡◌, Some, None, sym, ap, ◌∙◌, subst, ⊎_elim}
-use Rattle.lard_rules.specs.Bounds.{IsConnNumber}
-use Rattle.lard_law_view.specs.View.{Conn, IsConnSound, blank_conn}
-use Rattle.lard_handoff_front.specs.declared.row.FrontRow.{FrontRow}
-use Rattle.lard_history.specs.Own.{Has, Letter}
-use Rattle.lard_rules.specs.declared.places.Station.{Station}
+use Rattle.lard_law_view.specs.Prelude.{Conn, FrontRow, Has, IsConnNumber, IsConnSound, Letter, Station, blank_conn}
 
 module _ (x : Conn) where
   -- a packet was sent on it

@@ -1,8 +1,7 @@
 -- What stands directly behind an event, of whatever connection.
 use Rattle.std.proofs.Common.{◌≡◌, ℕ, ◌-◌, List, [], ◌∷◌}
-use Rattle.lard_base.specs.declared.event.Event.{Event}
+use Rattle.lard_law_view.specs.Prelude.{Event, Rec}
 use Rattle.lard_base.specs.declared.event.Event.TheVariants as event
-use Rattle.lard_journal.specs.declared.rec.Rec.{Rec}
 use Rattle.lard_journal.specs.declared.rec.Rec.TheVariants as rec
 
 -- ---- the shapes

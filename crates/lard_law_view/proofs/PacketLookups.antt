@@ -2,8 +2,7 @@
 use Rattle.std.proofs.Common.{◌≡◌, ℕ, zero, suc, ◌+◌, ◌-◌, List, [], ◌∷◌, ◌++◌, length, Bool, true, false, cond, Option, Some, None, refl, sym, ap, ◌∙◌, nat_eq, arith}
 use Rattle.std.proofs.lemmas.Bool.Decides.{nat_tests}
 use Rattle.std.specs.Prelude.{slice_get}
-use Rattle.lard_law_view.specs.ClientTale.{goal_in, lost_in}
-use Rattle.lard_net.specs.Net.{Packet, lose_at, packet_at}
+use Rattle.lard_law_view.specs.Prelude.{Packet, goal_in, lose_at, lost_in, packet_at}
 
 next_same : (m n : ℕ) → nat_eq m n ≡ nat_eq (suc m) (suc n)
 next_same m n = grind (arith, nat_tests)

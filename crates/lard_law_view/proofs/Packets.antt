@@ -2,20 +2,12 @@
 use Rattle.std.proofs.Common.{◌≡◌, ℕ, ◌+◌, ◌-◌, List, [], ◌∷◌, ◌++◌, length, Bool, true, false, cond, Option, Some, IsSome, refl, sym, ap, ◌∙◌, subst, append_assoc, append-nil, length-append, nat_eq}
 use Rattle.std.proofs.lemmas.List.Sums.{fold-append}
 use Rattle.std.specs.List.{fold}
-use Rattle.lard_base.specs.declared.event.Event.{Event}
+use Rattle.lard_law_view.specs.Prelude.{EachMay, Event, IsNetOf, MayInNetwork, Packet, Place, Rec, acting, acting_at, answered_bytes, answered_step, bytes_step, goal_in, goal_of, goal_step, is_lost, lose_at, lost_in, lost_step, net_of, net_step, packet_at, packet_bytes, packet_of, packets_of, sent_count, sent_records, sent_step}
 use Rattle.lard_base.specs.declared.event.Event.TheVariants.{Deliver, Lose}
-use Rattle.lard_base.specs.declared.place.Place.{Place}
-use Rattle.lard_history.specs.Journal.{acting, acting_at, answered_bytes, answered_step, goal_of, goal_step, is_lost, lost_step, packet_bytes, sent_count, sent_step, bytes_step}
-use Rattle.lard_history.specs.Laws.{EachMay, MayInNetwork}
 use Rattle.lard_history.proofs.Counts.{answered_bytes-append, goal_of-append, is_lost-append, last_event-append, packet_bytes-append, sent_count-append}
 use Rattle.lard_history.proofs.Each.{Each, each_append}
-use Rattle.lard_journal.specs.declared.rec.Rec.{Rec}
 use Rattle.lard_journal.specs.declared.rec.Rec.TheVariants as rec
-use Rattle.lard_history.specs.Own.{net_of, net_step}
-use Rattle.lard_law_view.specs.ClientTale.{IsNetOf, goal_in, lost_in}
 use Rattle.lard_law_view.proofs.PacketLookups.{goal_lost, goal_push, lost_lost, lost_push}
-use Rattle.lard_rules.specs.Sent.{packet_of, packets_of, sent_records}
-use Rattle.lard_net.specs.Net.{Packet, lose_at, packet_at}
 use Rattle.lard_net.proofs.Packets.{bytes_pushed, lost_bytes, lost_length}
 
 -- a journal of these packets, and of so many bytes of responses

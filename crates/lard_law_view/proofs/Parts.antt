@@ -2,20 +2,10 @@
 use Rattle.std.proofs.Common.{◌≡◌, ◌≢◌, ℕ, zero, suc, ◌-◌, ◌==◌, Bool, true, false, cond, List, [], ◌∷◌, length, Some, None, refl, sym, ap, ◌∙◌, subst, arith, nat_eq, eq-eqb, eqb-true}
 use Rattle.std.specs.Prelude.{slice_get, slice_set}
 use Rattle.std.specs.FinMap as table
-use Rattle.lard_rules.specs.declared.machine.Machine.{Machine}
-use Rattle.lard_rules.specs.Machine.{client_put, node_at}
-use Rattle.lard_law_view.specs.View.{kept_at, node_put_back, part_of, with_front, with_node, with_station}
-use Rattle.lard_rules.specs.declared.front.FrontState.{FrontState}
-use Rattle.lard_rules.specs.Front.{FrontPart}
-use Rattle.lard_rules.specs.FrontPlace.{front_part}
+use Rattle.lard_law_view.specs.Prelude.{FrontPart, FrontState, Machine, NodePart, NodeState, Station, client_put, front_part, kept_at, list_of, node_at, node_part, node_put_back, part_of, with_front, with_node, with_station}
 use Rattle.lard_history.proofs.Seeing.{by_number, other_number, same_number}
-use Rattle.lard_rules.specs.declared.node.NodeState.{NodeState}
-use Rattle.lard_rules.specs.Node.{NodePart}
 use Rattle.lard_rules.specs.NodePlace as place
-use Rattle.lard_rules.specs.NodePlace.{node_part}
 use Rattle.lard_resend.proofs.Lists.{found_other, held_put}
-use Rattle.lard_resend.specs.Pending.{list_of}
-use Rattle.lard_rules.specs.declared.places.Station.{Station}
 use Rattle.lard_table.proofs.Map.{get_inserted, get_other, get_put_other, get_put_same}
 
 -- ---- one node's part is put back among those of all nodes

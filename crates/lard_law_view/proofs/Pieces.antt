@@ -2,14 +2,9 @@
 -- connection share this half.
 use Rattle.std.proofs.Common.{◌≡◌, ◌≤◌, ◌<◌, ◌+◌, ◌-◌, ℕ, Bool, true, false, cond, min, nat_lt, ◌==◌, not, ◌&&◌, List, [], length, take, drop, Option, Some, None, IfSome, arith, ap, ◌∙◌, sym, subst, refl, inl, inr, length-take, length-drop}
 use Rattle.std.proofs.lemmas.Bool.{cond_both, and_parts, eqb-true, eqb-false, ltb-true}
-use Rattle.lard_arrival.specs.Arrival.{IsPartAt}
-use Rattle.lard_segment.specs.declared.segment.Flags.{Flags}
-use Rattle.lard_segment.specs.Segment.{Said, IsSendable}
+use Rattle.lard_law_view.specs.Prelude.{Flags, IsPartAt, IsSendable, IsSending, IsTrueOf, Said, Sending, Speaks, Stream, acknowledged_bytes, again_fin, again_len, byte_piece, may_send, next_fin, next_len, next_piece, one_if, resent_piece, send_left, seq_add, stream_of, symbols, syn_piece, unsent_bytes}
 use Rattle.lard_send.specs.declared.piece.Piece.{Piece}
-use Rattle.lard_send.specs.Send.{Sending, IsSending, symbols, acknowledged_bytes, syn_piece, byte_piece, send_left, unsent_bytes, may_send, next_len, next_fin, next_piece, again_len, again_fin, resent_piece}
 use Rattle.lard_send.proofs.Unacknowledged.{pieces}
-use Rattle.lard_seq.specs.Seq.{one_if, seq_add}
-use Rattle.lard_law_view.specs.Truth.{Stream, IsTrueOf, Speaks, stream_of}
 use Rattle.lard_law_view.proofs.Speaking.{one_small}
 
 -- Its bytes are queued and not acknowledged, a FIN stands behind all bytes, and a SYN goes alone.

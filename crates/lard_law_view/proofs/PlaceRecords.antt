@@ -3,11 +3,9 @@ use Rattle.std.proofs.Common.{◌≡◌, ℕ, ◌+◌, ◌-◌, ◌≤◌, ◌<�
 use Rattle.std.proofs.lemmas.Bool.Decides.{nat_tests}
 use Rattle.std.proofs.lemmas.Option.{slice_get_within}
 use Rattle.std.specs.Prelude.{slice_get}
-use Rattle.lard_base.specs.declared.place.Place.{Place}
+use Rattle.lard_law_view.specs.Prelude.{Packet, Place, packet_at, sent_records}
 use Rattle.lard_history.proofs.Acting.{IsAt, IsInside}
 use Rattle.lard_history.proofs.Each.{Each}
-use Rattle.lard_rules.specs.Sent.{sent_records}
-use Rattle.lard_net.specs.Net.{Packet, packet_at}
 
 -- ---- notes, segments, timers
 

@@ -1,34 +1,16 @@
 -- What each rule notes and sends is of its connection, and its client stays its own.
-use Rattle.std.proofs.Common.{◌≡◌, ℕ, ◌+◌, nat_lt, Bool, true, false, cond, List, [], ◌∷◌, ◌++◌, length, take, drop, Option, Some, None, Result, Ok, Err, refl, sym, ap, ◌∙◌, subst, arith}
+use Rattle.std.proofs.Common.{◌≡◌, ℕ, ◌+◌, nat_lt, Bool, true, false, cond, List, [], ◌∷◌, ◌++◌, length, take, drop, Result, Ok, Err, refl, ap, ◌∙◌, arith}
 use Rattle.std.proofs.lemmas.Bool.{cond_both}
 use Rattle.std.proofs.lemmas.List.Sums.{fold-append}
 use Rattle.std.specs.List.{fold}
-use Rattle.lard_answers.specs.Answers.{answer, answer_code}
-use Rattle.lard_base.specs.declared.place.Place.{Place}
-use Rattle.lard_base.specs.declared.place.Place.TheVariants.{Front, Client}
+use Rattle.lard_law_view.specs.Prelude.{Client, ClientBlock, ClientFires, ClientGets, ClientReceives, Front, Place, Rec, Said, SegFault, ServeEnv, Service, ToAbort, ToClient, ToGet, ToHold, ToShut, ToTake, ToWrite, Turn, Verdict, Via, abort_ready, aborted, answer, answer_code, answered, answered_step, client_aborts, client_after_timer, client_arrived, client_gets, client_holds, client_injects, client_opened, client_opens, client_rule, client_shuts, client_speaks, client_taken, client_takes, client_timed, client_timer, client_writes, client_written, cut_off, decoded, ended_at_fin, final_of, held_on, is_writing, limit_said, request, serving_settled, serving_told, shut_down, silent, speaking, speaks, speaks_symbols, spoken, station_ready_of}
 use Rattle.lard_base.specs.declared.place.Reason.TheVariants as reason
-use Rattle.lard_base.specs.declared.place.Via.{Via}
-use Rattle.lard_client.specs.Arriving.{client_arrived}
-use Rattle.lard_client.specs.Control.{ClientBlock, aborted, held_on, is_writing, client_opened, shut_down, client_taken, client_written}
-use Rattle.lard_client.specs.Leaving.{abort_ready, client_after_timer, client_timed}
-use Rattle.lard_endpoint.specs.Control.{finishing}
-use Rattle.lard_endpoint.specs.Moving.{final_of}
-use Rattle.lard_history.specs.Journal.{answered_step}
 use Rattle.lard_history.proofs.Each.{Each, Each-append}
-use Rattle.lard_journal.specs.declared.rec.Rec.{Rec}
 use Rattle.lard_journal.specs.declared.rec.Rec.TheVariants as rec
-use Rattle.lard_rules.specs.declared.places.Ending.{Ending}
-use Rattle.lard_rules.specs.declared.places.Turn.{Turn}
-use Rattle.lard_rules.specs.Client.{client_aborts, client_gets, client_holds, client_injects, client_opens, client_shuts, client_takes, client_timer, client_writes, station_ready_of, silent, speaking}
-use Rattle.lard_rules.specs.Serving.{ServeEnv, Service, answered, cut_off, ended_at_fin, limit_said, passed_over, queued, serving_settled, spoken, serving_told}
-use Rattle.lard_rules.specs.Serving as serve
-use Rattle.lard_rules.specs.Speaking.{client_speaks, speaks, speaks_symbols}
 use Rattle.lard_request.specs.declared.verdict.Code.TheVariants as code
-use Rattle.lard_request.specs.declared.verdict.Verdict.{Verdict}
-use Rattle.lard_segment.specs.declared.fault.SegFault.{SegFault}
-use Rattle.lard_segment.specs.Segment.{Said}
 use Rattle.lard_law_view.proofs.ClientTurns.{aborted-on, arrived-hears, held-on, ready-to, shut-on, speaks-on, taken-on, timer-on, written-on}
 use Rattle.lard_law_view.proofs.EndpointSends.{AllTo, speaks-to, speaks_symbols-to}
+use Rattle.lard_rules.proofs.Endings.{answered-keeps, at-fin-keeps, settled-keeps, total_with}
 
 -- what a place may note of connection c
 abbrev pub NotedAt : Place → ℕ → Rec → Type 0
@@ -117,6 +99,17 @@ module _ (c : ℕ) (x : ClientBlock) (n : x.c ≡ c) where
       let r = client_arrived x s in
       noted-turn (nat_lt 0 r.0.len) (take r.0.len (drop r.0.from s.payload)) r.0.eof r.1 (station_ready_of r.1 r.0.reply) ((arrived-hears x s).on.number ∙ n) (ready-to r.1 r.0.reply)
 
+  -- whatever comes to it
+  pub rule-turn : (g : ClientGets) → IsClientTurn c (client_rule c x g)
+  rule-turn (ToGet path) = writes-turn (request path)
+  rule-turn (ToWrite bytes) = writes-turn bytes
+  rule-turn ToShut = shuts-turn
+  rule-turn ToAbort = aborts-turn
+  rule-turn ToHold = holds-turn
+  rule-turn ToTake = takes-turn
+  rule-turn ClientFires = fires-turn
+  rule-turn (ClientReceives from bytes) = hears-turn (decoded bytes c ToClient)
+
 -- ---- a place that serves
 
 -- N is so of each note, and the segments go to client c
@@ -145,14 +138,13 @@ module _ (env : ServeEnv) (N : Rec → Type 0) (noting : NotesServing env N) whe
   pub answered-noted : (via : Via) (v : Verdict) (w : Service) → AreNoted w → AreNoted (answered env via v w)
   answered-noted via v w h =
       let bytes : List ℕ = answer env.files v in
-      let total : ℕ = w.block.send.total + length bytes in
-      cond_both (nat_lt env.stream total) (passed_over env total w) (queued env via v bytes w) AreNoted
-      (λ t. one-noted w (rec.Reset env.place env.c total) w.answered h (noting.reset total) (λ n. refl))
+      let total : ℕ = total_with env v w in
+      answered-keeps AreNoted env via v w (λ t. one-noted w (rec.Reset env.place env.c total) w.answered h (noting.reset total) (λ n. refl))
       (λ t. one-noted w (rec.Served env.place env.c (w.count + 1) (answer_code env.files v) (length bytes) via) (w.answered + length bytes) h
       (noting.served (w.count + 1) (answer_code env.files v) (length bytes) via) (λ n. omega arith))
 
   pub ended-noted : (w : Service) → AreNoted w → AreNoted (ended_at_fin w)
-  ended-noted w h = cond_both w.block.recv.fin (record w { block = finishing w.block }) w AreNoted (λ t. h) (λ t. h)
+  ended-noted w h = at-fin-keeps AreNoted w (λ t. h) (λ t. h)
 
   pub spoken-turn : (w : Service) (before : List (Place × List ℕ)) → AllTo (Client env.c) before → AreNoted w → IsServingTurn N env.c (spoken env w before).1
   spoken-turn w before to h = record { notes = h.0; answered = h.1; to = Each-append (λ s. s.0 ≡ Client env.c) before (speaks env.c w.block).0 to (speaks-to env.c w.block).to }
@@ -166,7 +158,4 @@ module _ (env : ServeEnv) (N : Rec → Type 0) (noting : NotesServing env N) whe
   }
 
   pub settled-turn : (w : Service) → AreNoted w → IsServingTurn N env.c (serving_settled env w).1
-  settled-turn w h = go w.over where
-    go : (o : Option ℕ) → IsServingTurn N env.c (elim o as (λ p. Ending × Turn) [ None ↦ spoken env w [] | Some total ↦ cut_off env w ]).1
-    go None = spoken-turn w [] tt h
-    go (Some total) = cut_off-turn w h
+  settled-turn w h = settled-keeps (λ given. IsServingTurn N env.c given.1) env w (λ e. spoken-turn w [] tt h) (λ total e. cut_off-turn w h)

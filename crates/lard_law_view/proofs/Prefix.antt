@@ -2,11 +2,8 @@
 use Rattle.std.proofs.Common.{◌≡◌, ℕ, List, [], map, length, take, sym, ap, ◌∙◌, subst, append-nil, take_at}
 use Rattle.std.specs.List.{concat}
 use Rattle.std.proofs.lemmas.List.{length-map}
-use Rattle.lard_answers.specs.Answers.{FilesAt, IsPrefix, answer, answer_bytes, answers, verdicts}
+use Rattle.lard_law_view.specs.Prelude.{FilesAt, IsPrefix, SaysAnswers, Stream, Verdict, answer, answer_bytes, answers, verdicts}
 use Rattle.lard_answers.proofs.Growing.{answers-are, concat-IsPrefix, map-IsPrefix}
-use Rattle.lard_request.specs.declared.verdict.Verdict.{Verdict}
-use Rattle.lard_law_view.specs.Truth.{Stream}
-use Rattle.lard_law_view.specs.Agreement.{SaysAnswers}
 
 module _ (files : FilesAt) (w out : Stream) (vs : List Verdict) (h : SaysAnswers files w out vs) where
   -- its verdicts are the first on what the client wrote so far

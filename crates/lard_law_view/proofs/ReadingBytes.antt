@@ -2,20 +2,16 @@
 use Rattle.std.proofs.Common.{◌≡◌, min, ◌+◌, ◌-◌, ℕ, false, cond, List, [], ◌∷◌, ◌++◌, map, length, take, drop, arith, ap, ◌∙◌, sym, subst, append_assoc, length-drop}
 use Rattle.std.proofs.Math.Seq.{take-add, drop-append_seam}
 use Rattle.std.proofs.lemmas.List.{take_min, drop-take, length-take-le, map-append, take-append-drop, take-append-le}
-use Rattle.lard_answers.specs.Answers.{IsPrefix, piece_verdict, verdicts_on, until_close, verdicts, closes_any}
+use Rattle.lard_law_view.specs.Prelude.{Cuts, Head, Hears, IsPrefix, Received, Stream, Verdict, blocks, closes, closes_any, consumed, cut_of, piece_moved, piece_verdict, until_close, verdict, verdicts, verdicts_on}
 use Rattle.lard_answers.proofs.Following.{verdicts_on-moved, until_close-behind}
 use Rattle.lard_answers.proofs.Growing.{until_close-cons, verdicts-are}
 use Rattle.lard_block.specs.declared.block.Found.TheVariants.{Block, More, TooLong}
-use Rattle.lard_block.specs.Blocks.{cut_of, Piece, Head, piece_moved, blocks, Cuts}
+use Rattle.lard_block.specs.Blocks.{Piece}
 use Rattle.lard_block.proofs.Cutting.{more-skips}
 use Rattle.lard_block.proofs.Division.{grows, long-last, cuts-block}
 use Rattle.lard_block.proofs.Skips.{cuts-pairs}
-use Rattle.lard_recv.specs.Recv.{Received, consumed}
 use Rattle.lard_request.specs.declared.verdict.Code.TheVariants.{FieldsTooLarge}
-use Rattle.lard_request.specs.declared.verdict.Verdict.{Verdict}
 use Rattle.lard_request.specs.declared.verdict.Verdict.TheVariants.{Fault}
-use Rattle.lard_request.specs.Verdict.{closes, verdict}
-use Rattle.lard_law_view.specs.Truth.{Stream, Hears}
 
 -- these bytes are cut into pieces with these verdicts, whatever follows
 abbrev pub IsJudged : List ℕ → List Verdict → Type 0

@@ -1,13 +1,7 @@
 -- What nobody is told and nobody accepts: records of no connection may stand anywhere.
 use Rattle.std.proofs.Common.{◌≡◌, ℕ, List, Some, None}
-use Rattle.lard_answers.specs.Answers.{FilesAt}
-use Rattle.lard_base.specs.declared.place.Place.{Place}
-use Rattle.lard_base.specs.declared.place.Place.TheVariants.{Front, Node, Client}
-use Rattle.lard_history.specs.Laws.{MayTell, ToldTo}
-use Rattle.lard_history.specs.Own.{conn_of, whose}
-use Rattle.lard_journal.specs.declared.rec.Rec.{Rec}
+use Rattle.lard_law_view.specs.Prelude.{Client, FilesAt, Front, MayAccept, MayTell, Node, Place, Rec, ToldTo, conn_of, whose}
 use Rattle.lard_journal.specs.declared.rec.Rec.TheVariants as rec
-use Rattle.lard_law_view.specs.Truthful.{MayAccept}
 
 -- ---- from a connection's records to the journal's
 

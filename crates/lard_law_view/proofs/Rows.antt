@@ -2,18 +2,14 @@
 use Rattle.std.proofs.Common.{◌≡◌, ℕ, List, [], ◌∷◌, ◌++◌, map, false, ◌&&◌, refl, sym, ap, ◌∙◌, subst}
 use Rattle.std.proofs.lemmas.List.Sums.{fold-append}
 use Rattle.std.specs.List.{fold}
-use Rattle.lard_base.specs.declared.place.Place.{Place}
-use Rattle.lard_base.specs.declared.place.Place.TheVariants.{Front, Node, Client}
-use Rattle.lard_law_view.specs.Carry.{TellsBy, tale_at}
-use Rattle.lard_law_view.specs.View.{Conn, IsMachine, Move, grown, rows_of, seen_in, sending, timer_rows}
+use Rattle.lard_law_view.specs.Prelude.{Client, Conn, EachRow, Front, IsMachine, Move, Node, Place, Rec, Tale, about, goes_to, grown, is_cluster, rows_of, seen_in, seen_step, tale_at, tale_of, tale_step, timer_rows, told_on, untold}
+use Rattle.lard_law_view.specs.Carry.{TellsBy}
+use Rattle.lard_law_view.specs.View.{sending}
 use Rattle.lard_law_view.proofs.Saying.{AreMessages}
 use Rattle.lard_law_view.proofs.Timers.{IsTimerAt, timer_rows-are}
-use Rattle.lard_history.specs.Journal.{Tale, about, goes_to, is_cluster, tale_step, told_on, untold}
-use Rattle.lard_history.specs.Own.{EachRow, seen_step, tale_of}
 use Rattle.lard_history.proofs.Each.{Each, Each-weaker}
 use Rattle.lard_history.proofs.Lifting.{each_row-append}
 use Rattle.lard_history.proofs.Tales.{others, told_on-append}
-use Rattle.lard_journal.specs.declared.rec.Rec.{Rec}
 use Rattle.lard_journal.specs.declared.rec.Rec.TheVariants as rec
 use Rattle.lard_law_view.proofs.RowLists.{MayBeSeen, TellsBy-append, each_row-told, seen-rows}
 

@@ -3,16 +3,7 @@ use Rattle.std.proofs.Common.{◌≡◌, ℕ, zero, suc, List, [], ◌∷◌, �
 use Rattle.std.specs.Prelude.{slice_get}
 use Rattle.std.specs.FinMap.{get-empty}
 use Rattle.std.specs.Ordering.{nat_cmp}
-use Rattle.lard_base.specs.declared.config.Config.{Config}
-use Rattle.lard_base.specs.declared.event.Event.{Event}
-use Rattle.lard_rules.specs.declared.machine.Machine.{Machine}
-use Rattle.lard_rules.specs.Bounds.{HasRule}
-use Rattle.lard_rules.specs.Machine.{Passes, machine_step, node_at, machine_start}
-use Rattle.lard_law_view.specs.View.{blank_conn, conn, kept_at, nothing_kept, part_of}
-use Rattle.lard_history.specs.Own.{letters, own}
-use Rattle.lard_rules.specs.declared.node.NodeState.{NodeState}
-use Rattle.lard_rules.specs.NodePlace.{no_stays, node_part}
-use Rattle.lard_resend.specs.Pending.{list_of}
+use Rattle.lard_law_view.specs.Prelude.{Config, Event, HasRule, Machine, NodeState, Passes, blank_conn, conn, kept_at, letters, list_of, machine_start, machine_step, no_stays, node_at, node_part, nothing_kept, own, part_of}
 
 -- ---- runs
 

@@ -2,20 +2,13 @@
 use Rattle.std.proofs.Common.{◌≡◌, ◌≢◌, ℕ, ◌+◌, false, cond, List, [], ◌∷◌, ◌++◌, map, is_some, Option, Some, None, refl, sym, ap, ◌∙◌, inl, inr, ⊎_elim, true, not, ◌&&◌}
 use Rattle.std.specs.Prelude.{◌⊎◌}
 use Rattle.std.specs.List.{list_all}
-use Rattle.lard_base.specs.declared.event.Event.{Event}
-use Rattle.lard_base.specs.declared.place.Place.{Place}
-use Rattle.lard_base.specs.declared.place.Place.TheVariants.{Front, Node, Client}
-use Rattle.lard_law_view.specs.View.{GoesBetween, IsMachine, letter, named_records, sending}
-use Rattle.lard_history.specs.Laws.{AreOwn, is_own}
-use Rattle.lard_history.specs.Own.{Row, conn_of, letter_of, letters, net_step, plain, seen_of, seen_on, whose}
-use Rattle.lard_history.specs.Steps.{is_opening}
+use Rattle.lard_law_view.specs.Prelude.{AreOwn, Client, Event, Front, GoesBetween, IsMachine, Node, Packet, Place, Rec, Row, conn_of, is_opening, is_own, letter, letter_of, letters, named_records, net_step, packets_of, plain, seen_of, seen_on, sent_records, whose}
+use Rattle.lard_law_view.specs.View.{sending}
 use Rattle.lard_history.proofs.Each.{Each, Each-weaker}
 use Rattle.lard_history.proofs.Seeing.{AreOf, letters-all, letters-none, of-whose, packet_conn, seen-all, seen-mine, seen-none, seen-other}
-use Rattle.lard_journal.specs.declared.rec.Rec.{Rec}
 use Rattle.lard_journal.specs.declared.rec.Rec.TheVariants as rec
-use Rattle.lard_rules.specs.Sent.{packets_of, sent_records}
-use Rattle.lard_net.specs.Net.{Packet}
 use Rattle.lard_law_view.proofs.Firsts.{AreOthers, HasOwn}
+use Rattle.lard_law_view.proofs.RecordKinds.{IsByMachine, IsNote, IsOfPlace, any-kind, kind_of, machine-kind}
 use Rattle.lard_law_view.proofs.OwnRecords.{behind}
 
 -- ---- notes
@@ -42,6 +35,29 @@ NotedAt (Node n) c (rec.Queued k o d r path) = (k ≡ n) × (d ≡ c)
 NotedAt (Node n) c (rec.Read k o d r path) = (k ≡ n) × (d ≡ c)
 NotedAt (Node n) c (rec.Hit k path) = k ≡ n
 NotedAt _ _ _ = ⊥
+
+-- of what kind it is
+pub note-kind : (place : Place) (c : ℕ) (r : Rec) → NotedAt place c r → IsOfPlace place (kind_of r)
+note-kind (Client e) c (rec.Wrote d bytes) h = tt
+note-kind (Client e) c (rec.Accepted d bytes) h = tt
+note-kind (Client e) c (rec.Eof d) h = tt
+note-kind (Client e) c (rec.Aborted d) h = tt
+note-kind Front c (rec.Took Front d epoch) h = tt
+note-kind Front c (rec.Served Front d r code size via) h = tt
+note-kind Front c (rec.Reset Front d total) h = tt
+note-kind Front c (rec.Waits d) h = tt
+note-kind Front c (rec.Admitted d) h = tt
+note-kind Front c (rec.AssignedFirst d r path n add remove) h = tt
+note-kind Front c (rec.AssignedLater d r path n add size queue) h = tt
+note-kind Front c (rec.BatchOver d) h = tt
+note-kind Front c (rec.Released d) h = tt
+note-kind (Node n) c (rec.Took (Node k) d epoch) h = tt
+note-kind (Node n) c (rec.Served (Node k) d r code size via) h = tt
+note-kind (Node n) c (rec.Reset (Node k) d total) h = tt
+note-kind (Node n) c (rec.Queued k o d r path) h = tt
+note-kind (Node n) c (rec.Read k o d r path) h = tt
+note-kind (Node n) c (rec.Hit k path) h = tt
+note-kind _ c _ h = absurd h
 
 -- what it may give up
 abbrev pub GaveAt : Place → ℕ → Rec → Type 0
@@ -103,24 +119,23 @@ gave-of (Node n) c (rec.Gave (Node k) d epoch) h = (ap Some h.1, refl)
 gave-of _ c _ h = absurd h
 
 -- what a machine of the cluster notes is no event's own record
+machine-other : (r : Rec) → IsByMachine (kind_of r) → not (is_own r) ≡ true
+machine-other (rec.Took place c epoch) h = refl
+machine-other (rec.Served place c r code size via) h = refl
+machine-other (rec.Reset place c total) h = refl
+machine-other (rec.Waits c) h = refl
+machine-other (rec.Admitted c) h = refl
+machine-other (rec.Released c) h = refl
+machine-other (rec.AssignedFirst c r path n add remove) h = refl
+machine-other (rec.AssignedLater c r path n add size queue) h = refl
+machine-other (rec.BatchOver c) h = refl
+machine-other (rec.Hit n path) h = refl
+machine-other (rec.Queued n m c r path) h = refl
+machine-other (rec.Read n m c r path) h = refl
+machine-other _ h = absurd h
+
 note-other : (place : Place) (c : ℕ) (r : Rec) → IsMachine place → NotedAt place c r → not (is_own r) ≡ true
-note-other Front c (rec.Took Front d epoch) m h = refl
-note-other Front c (rec.Served Front d r code size via) m h = refl
-note-other Front c (rec.Reset Front d total) m h = refl
-note-other Front c (rec.Waits d) m h = refl
-note-other Front c (rec.Admitted d) m h = refl
-note-other Front c (rec.AssignedFirst d r path n add remove) m h = refl
-note-other Front c (rec.AssignedLater d r path n add size queue) m h = refl
-note-other Front c (rec.BatchOver d) m h = refl
-note-other Front c (rec.Released d) m h = refl
-note-other (Node n) c (rec.Took (Node k) d epoch) m h = refl
-note-other (Node n) c (rec.Served (Node k) d r code size via) m h = refl
-note-other (Node n) c (rec.Reset (Node k) d total) m h = refl
-note-other (Node n) c (rec.Queued k o d r path) m h = refl
-note-other (Node n) c (rec.Read k o d r path) m h = refl
-note-other (Node n) c (rec.Hit k path) m h = refl
-note-other (Client d) c r m h = absurd m
-note-other _ c _ m h = absurd h
+note-other place c r m h = machine-other r (machine-kind place (kind_of r) m (note-kind place c r h))
 
 pub notes-other : (place : Place) (c : ℕ) (rs : List Rec) → IsMachine place → Each (NotedAt place c) rs → AreOthers rs
 notes-other place c [] m e = refl
@@ -178,27 +193,15 @@ gaves-others place c q net rs n e = seen-none c q net rs n (of-whose c rs (gaves
 abbrev pub IsStill : Rec → Type 0
 IsStill r = (is_opening r ≡ false) × ((net : List Packet) → net_step net r ≡ net)
 
+note-passes : (r : Rec) → IsNote r → IsStill r
+note-passes (rec.Event i e) h = absurd h
+note-passes (rec.Inner e) h = absurd h
+note-passes (rec.Sent k from to bytes) h = absurd h
+note-passes (rec.Lost k) h = absurd h
+note-passes _ h = (refl, λ net. refl)
+
 pub note-still : (place : Place) (c : ℕ) (r : Rec) → NotedAt place c r → IsStill r
-note-still (Client e) c (rec.Wrote d bytes) h = (refl, λ net. refl)
-note-still (Client e) c (rec.Accepted d bytes) h = (refl, λ net. refl)
-note-still (Client e) c (rec.Eof d) h = (refl, λ net. refl)
-note-still (Client e) c (rec.Aborted d) h = (refl, λ net. refl)
-note-still Front c (rec.Took Front d epoch) h = (refl, λ net. refl)
-note-still Front c (rec.Served Front d r code size via) h = (refl, λ net. refl)
-note-still Front c (rec.Reset Front d total) h = (refl, λ net. refl)
-note-still Front c (rec.Waits d) h = (refl, λ net. refl)
-note-still Front c (rec.Admitted d) h = (refl, λ net. refl)
-note-still Front c (rec.AssignedFirst d r path n add remove) h = (refl, λ net. refl)
-note-still Front c (rec.AssignedLater d r path n add size queue) h = (refl, λ net. refl)
-note-still Front c (rec.BatchOver d) h = (refl, λ net. refl)
-note-still Front c (rec.Released d) h = (refl, λ net. refl)
-note-still (Node n) c (rec.Took (Node k) d epoch) h = (refl, λ net. refl)
-note-still (Node n) c (rec.Served (Node k) d r code size via) h = (refl, λ net. refl)
-note-still (Node n) c (rec.Reset (Node k) d total) h = (refl, λ net. refl)
-note-still (Node n) c (rec.Queued k o d r path) h = (refl, λ net. refl)
-note-still (Node n) c (rec.Read k o d r path) h = (refl, λ net. refl)
-note-still (Node n) c (rec.Hit k path) h = (refl, λ net. refl)
-note-still _ c _ h = absurd h
+note-still place c r h = note-passes r (any-kind place (kind_of r) (note-kind place c r h))
 
 pub gave-still : (place : Place) (c : ℕ) (r : Rec) → GaveAt place c r → IsStill r
 gave-still Front c (rec.Gave Front d epoch) h = (refl, λ net. refl)

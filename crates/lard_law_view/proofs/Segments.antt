@@ -2,20 +2,10 @@
 use Rattle.std.proofs.Common.{◌≡◌, ℕ, ◌+◌, ◌≤◌, List, length, take, Bool, true, false, ◌&&◌, ◌||◌, Some, ◌⊎◌, refl, sym, ap, ◌∙◌, subst, inl, inr, ⊎_elim, nat_eq}
 use Rattle.std.proofs.lemmas.Bool.{both_ways}
 use Rattle.std.specs.List.{concat}
-use Rattle.lard_answers.specs.Answers.{FilesAt, answers}
-use Rattle.lard_arrival.specs.Arrival.{IsPartAt}
-use Rattle.lard_base.specs.declared.place.Place.TheVariants.{Front, Client}
-use Rattle.lard_history.specs.Journal.{Tale, said_fin, said_to, tale, tale_step, wrote}
-use Rattle.lard_history.specs.Laws.{IsTold}
+use Rattle.lard_law_view.specs.Prelude.{Client, FilesAt, Front, IsBare, IsPartAt, IsReply, IsTold, IsTrueOf, Rec, Said, SaysAnswers, Stands, Stream, Tale, ToClient, Verdict, answers, decoded, said_fin, said_to, spelled, tale, tale_step, wrote}
 use Rattle.lard_history.proofs.Tales.{numbers-tale, reset-tale, served-tale, wrote-tale}
-use Rattle.lard_journal.specs.declared.rec.Rec.{Rec}
 use Rattle.lard_journal.specs.declared.rec.Rec.TheVariants as rec
-use Rattle.lard_request.specs.declared.verdict.Verdict.{Verdict}
 use Rattle.lard_segment.proofs.Again.{again}
-use Rattle.lard_segment.specs.declared.segment.Dir.TheVariants.{ToClient}
-use Rattle.lard_segment.specs.Segment.{Said, decoded, spelled}
-use Rattle.lard_law_view.specs.Truth.{IsBare, IsTrueOf, Stands, Stream}
-use Rattle.lard_law_view.specs.Agreement.{IsReply, SaysAnswers}
 use Rattle.lard_law_view.proofs.Prefix.{said-bytes}
 
 -- ---- what they tell of their connection

@@ -1,10 +1,7 @@
 -- What the journal tells of packets goes on as the network does.
 use Rattle.std.proofs.Common.{◌≡◌, ℕ, ◌+◌, List, [], ◌∷◌, ◌++◌, false, sym, ◌∙◌, append_assoc, append-nil}
 use Rattle.std.specs.List.{fold}
-use Rattle.lard_base.specs.declared.place.Place.{Place}
-use Rattle.lard_history.specs.Own.{net_step}
-use Rattle.lard_rules.specs.Sent.{packets_of, sent_records}
-use Rattle.lard_net.specs.Net.{Packet}
+use Rattle.lard_law_view.specs.Prelude.{Packet, Place, net_step, packets_of, sent_records}
 
 -- ---- what the journal tells of packets goes on as the network does
 

@@ -3,13 +3,9 @@ use Rattle.std.proofs.Common.{◌≡◌, ℕ, ◌+◌, List, [], ◌∷◌, ◌+
 use Rattle.std.proofs.lemmas.Option.{slice_get-map}
 use Rattle.std.specs.List.{slice_get}
 use Rattle.std.specs.Option.{option_map}
-use Rattle.lard_answers.specs.Answers.{FilesAt, IsPrefix, answer, verdicts}
+use Rattle.lard_law_view.specs.Prelude.{FilesAt, IsPrefix, Rec, TellsOf, Verdict, answer, next_answer, next_verdict, served, tale, verdicts, wrote}
 use Rattle.lard_answers.proofs.Growing.{answers-are}
-use Rattle.lard_history.specs.Journal.{next_answer, next_verdict, served, tale, wrote}
 use Rattle.lard_history.proofs.Tales.{served-tale, wrote-tale}
-use Rattle.lard_journal.specs.declared.rec.Rec.{Rec}
-use Rattle.lard_request.specs.declared.verdict.Verdict.{Verdict}
-use Rattle.lard_law_view.specs.Keeping.{TellsOf}
 
 -- ---- the next answer
 

@@ -1,10 +1,6 @@
 -- What the front end notes and sends in its turn is in range, and it sends few segments.
 use Rattle.std.proofs.Common.{ℕ, zero, suc, ◌-◌, ◌≤◌, List, [], ◌∷◌, length, Bool, true, false, cond, Option, Some, None, arith}
-use Rattle.lard_base.specs.declared.place.Place.{Place}
-use Rattle.lard_endpoint.specs.Control.{ControlBlock}
-use Rattle.lard_endpoint.specs.Leaving.{after_emit, emitted}
-use Rattle.lard_rules.specs.Speaking.{emits, emits_symbols, has_symbol, to_client}
-use Rattle.lard_segment.specs.declared.segment.Ready.{Ready}
+use Rattle.lard_law_view.specs.Prelude.{ControlBlock, Place, Ready, after_emit, emits, emits_symbols, emitted, has_symbol, to_client}
 
 -- ---- what an endpoint sends
 

@@ -4,24 +4,13 @@ use Rattle.std.proofs.Common.{◌≡◌, ◌≢◌, ℕ, ◌+◌, ◌-◌, ◌<�
 use Rattle.std.specs.Prelude.{◌⊎◌}
 use Rattle.std.specs.FinMap as table
 use Rattle.std.specs.List.{flat_map}
-use Rattle.lard_base.specs.declared.event.Event.{Event}
+use Rattle.lard_law_view.specs.Prelude.{AreNumbered, Client, Conn, Event, Front, IsConnNumber, IsMachine, IsUnheard, Machine, Move, Node, NodeState, Out, Packet, Part, Place, Rec, Row, Seen, clocked, conn, conn_of, lose_at, machine_told, node_at, packet_at, part_of, passed, seen_on, timer_rows}
 use Rattle.lard_base.specs.declared.event.Event.TheVariants as event
-use Rattle.lard_base.specs.declared.place.Place.{Place}
-use Rattle.lard_base.specs.declared.place.Place.TheVariants.{Client, Front, Node}
-use Rattle.lard_rules.specs.declared.machine.Machine.{Machine}
-use Rattle.lard_rules.specs.Bounds.{IsConnNumber}
-use Rattle.lard_rules.specs.Machine.{clocked, node_at, passed, machine_told}
-use Rattle.lard_law_view.specs.View.{AreNumbered, Conn, IsMachine, Move, Part, conn, part_of, timer_rows, IsUnheard}
 use Rattle.lard_law_view.proofs.Heads.{Begins}
 use Rattle.lard_law_view.proofs.Saying.{AreMessages, GaveAt}
 use Rattle.lard_law_view.proofs.Turned.{IsSaid}
-use Rattle.lard_history.specs.Own.{Seen, Row, seen_on, conn_of}
 use Rattle.lard_history.proofs.Each.{Each}
-use Rattle.lard_journal.specs.declared.rec.Rec.{Rec}
 use Rattle.lard_journal.specs.declared.rec.Rec.TheVariants as rec
-use Rattle.lard_net.specs.Net.{Packet, lose_at, packet_at}
-use Rattle.lard_rules.specs.declared.node.NodeState.{NodeState}
-use Rattle.lard_rules.specs.declared.places.Out.{Out}
 use Rattle.lard_law_view.proofs.Firsts.{HasOwn}
 use Rattle.lard_law_view.proofs.OwnRecords.{behind}
 

@@ -2,10 +2,8 @@
 use Rattle.std.proofs.Common.{◌≡◌, ◌≤◌, ◌<◌, ◌+◌, ◌-◌, ◌^◌, ℕ, Bool, true, false, cond, max, nat_lt, ◌==◌, ◌&&◌, ◌||◌, List, [], ◌++◌, length, drop, arith, ap, sym, subst, refl, append-nil}
 use Rattle.std.proofs.lemmas.Bool.{cond_both}
 use Rattle.lard_endpoint.proofs.Sound.{after_ack-sound, after_next-sound, after_resend-sound, queued-sound}
-use Rattle.lard_send.specs.Send.{Sending, IsSending, IsUnacknowledgedPart, send_begun, introduced, queued_too, send_closed, symbols, moved_up, is_newer, windowed, after_ack, may_send, next_len, next_fin, after_next, after_resend}
+use Rattle.lard_law_view.specs.Prelude.{GoesOn, IsSending, IsStream, IsUnacknowledgedPart, Sending, Speaks, Stream, after_ack, after_next, after_resend, introduced, is_newer, may_send, moved_up, next_fin, next_len, one_if, queued_too, send_begun, send_closed, seq_offset, stream_of, symbols, windowed}
 use Rattle.lard_send.proofs.Unacknowledged.{kept-queued, kept-ack, kept-next, kept-resend}
-use Rattle.lard_seq.specs.Seq.{one_if, seq_offset}
-use Rattle.lard_law_view.specs.Truth.{Stream, IsStream, GoesOn, Speaks, stream_of}
 use Rattle.lard_law_view.proofs.Growth.{goes_on-equal}
 
 -- ---- NXT is all that sending moves

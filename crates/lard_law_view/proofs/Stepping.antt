@@ -1,18 +1,10 @@
 -- A step that is done has one of the shapes.
 use Rattle.std.proofs.Common.{◌≡◌, ℕ, ◌-◌, Bool, true, false, cond, nat_lt, List, [], ◌∷◌, length, Option, Some, None, Result, Ok, Err, refl, sym, ap, ◌∙◌, subst, ◌++◌}
 use Rattle.std.specs.FinMap as table
-use Rattle.lard_base.specs.declared.event.Event.{Event}
+use Rattle.lard_law_view.specs.Prelude.{Client, ClientBlock, Conn, Event, Front, HasRule, IsUnheard, IsViewed, Machine, Move, Node, NodeState, Packet, Place, Rec, Rules, Seen, Station, StepFault, ToClient, Turn, What, client_aborts, client_acts, client_gets, client_goes_on, client_holds, client_injects, client_opens, client_shuts, client_takes, client_timer, client_writes, completes, conn, conn_of, decoded, decoded_message, delivered, disk_at, from_place, happens, is_client_armed, is_no_job, is_no_node, limit_reached, lose_at, lost, machine_opened, machine_step, machine_to_client, machine_to_front, machine_wrote, node_acts, node_at, node_gave, node_setting, node_step, packet_at, part_of, passed, request, setting_of, station_armed, timer, to_place, unless_limit, written_len}
 use Rattle.lard_base.specs.declared.event.Event.TheVariants as event
-use Rattle.lard_base.specs.declared.place.Place.{Place}
-use Rattle.lard_base.specs.declared.place.Place.TheVariants.{Front, Node, Client}
-use Rattle.lard_client.specs.Control.{ClientBlock, is_client_armed, written_len}
-use Rattle.lard_rules.specs.declared.fault.StepFault.{StepFault}
 use Rattle.lard_rules.specs.declared.fault.Refusal.TheVariants.{NoJob, NoNode, WasLost}
 use Rattle.lard_rules.specs.declared.fault.StepFault.TheVariants.{Limit, Refused}
-use Rattle.lard_rules.specs.declared.machine.Machine.{Machine}
-use Rattle.lard_rules.specs.Bounds.{HasRule}
-use Rattle.lard_rules.specs.Machine.{client_acts, client_goes_on, completes, delivered, disk_at, from_place, happens, is_no_job, is_no_node, limit_reached, lost, machine_step, node_acts, node_at, node_gave, node_setting, machine_opened, passed, timer, machine_to_client, machine_to_front, to_place, unless_limit, machine_wrote}
-use Rattle.lard_law_view.specs.View.{Conn, IsUnheard, IsViewed, Move, Rules, conn, packet_seen, part_of, setting_of, station_armed}
 use Rattle.lard_law_view.specs.View as moves
 use Rattle.lard_law_view.proofs.Clients.{client-acts}
 use Rattle.lard_law_view.proofs.Heads.{Begins, comes, names, was}
@@ -22,22 +14,9 @@ use Rattle.lard_law_view.proofs.Nothing.{node-there}
 use Rattle.lard_law_view.proofs.Numbers.{client-number}
 use Rattle.lard_law_view.proofs.Shapes.{Shapes}
 use Rattle.lard_law_view.proofs.Turned.{between-has}
-use Rattle.lard_history.specs.Journal.{request}
-use Rattle.lard_history.specs.Own.{Seen, conn_of}
-use Rattle.lard_journal.specs.declared.rec.Rec.{Rec}
 use Rattle.lard_journal.specs.declared.rec.Rec.TheVariants as rec
-use Rattle.lard_rules.specs.declared.fault.What.{What}
 use Rattle.lard_rules.specs.declared.fault.What.TheVariants.{Stream}
-use Rattle.lard_message.specs.Reading.{decoded_message}
-use Rattle.lard_net.specs.Net.{Packet, lose_at, packet_at}
 use Rattle.lard_rules.specs.declared.node.BackIn.TheVariants as back
-use Rattle.lard_rules.specs.declared.node.NodeState.{NodeState}
-use Rattle.lard_rules.specs.NodePlace.{node_step}
-use Rattle.lard_rules.specs.declared.places.Station.{Station}
-use Rattle.lard_rules.specs.declared.places.Turn.{Turn}
-use Rattle.lard_rules.specs.Client.{client_aborts, client_gets, client_holds, client_injects, client_opens, client_shuts, client_takes, client_timer, client_writes}
-use Rattle.lard_segment.specs.declared.segment.Dir.TheVariants.{ToClient}
-use Rattle.lard_segment.specs.Segment.{decoded}
 use Rattle.lard_law_view.proofs.Firsts.{HasOwn, gets-others, own-alone, writes-own}
 use Rattle.lard_law_view.proofs.OwnRecords.{behind}
 use Rattle.lard_law_view.proofs.PlaceTurns.{IsClientTurn, aborts-turn, fires-turn, hears-turn, holds-turn, injects-turn, opens-turn, shuts-turn, takes-turn, writes-turn}

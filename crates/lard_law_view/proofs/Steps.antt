@@ -5,14 +5,9 @@ use Rattle.std.specs.Prelude.{◌⊎◌}
 use Rattle.std.specs.FinMap as table
 use Rattle.std.specs.List.{flat_map, fold}
 use Rattle.std.proofs.lemmas.List.{map-append}
-use Rattle.lard_base.specs.declared.event.Event.{Event}
+use Rattle.lard_law_view.specs.Prelude.{Came, Client, Conn, Event, Front, GoesBetween, GoesBy, HasRule, IsConnNumber, IsNobody, IsViewed, Letter, Machine, Move, Node, Out, Packet, Part, Place, Rec, Row, Rules, Seen, TurnSaid, clocked, conn, conn_of, letter, letter_of, letters, lose_at, machine_step, machine_told, named_records, net_step, nothing_said, packet_at, packet_of, packets_of, part_of, passed, seen_on, sent_records, setting_of, timer_rows}
 use Rattle.lard_base.specs.declared.event.Event.TheVariants as event
-use Rattle.lard_base.specs.declared.place.Place.{Place}
-use Rattle.lard_base.specs.declared.place.Place.TheVariants.{Front, Node, Client}
-use Rattle.lard_rules.specs.declared.machine.Machine.{Machine}
-use Rattle.lard_rules.specs.Bounds.{HasRule, IsConnNumber}
-use Rattle.lard_rules.specs.Machine.{clocked, machine_step, passed, machine_told}
-use Rattle.lard_law_view.specs.View.{Conn, GoesBy, GoesBetween, IsNobody, IsViewed, Move, Part, Rules, TurnSaid, conn, letter, named_records, nothing_said, part_of, sending, setting_of, timer_rows}
+use Rattle.lard_law_view.specs.View.{sending}
 use Rattle.lard_law_view.proofs.AnyShape.{none-seen}
 use Rattle.lard_law_view.proofs.Deliveries.{IsDelivered, IsHead}
 use Rattle.lard_law_view.proofs.Heads.{Begins, comes, comes-to-none, was}
@@ -23,14 +18,9 @@ use Rattle.lard_law_view.proofs.Shapes.{ActsOn, ActsOnEach, ActsOnTwo, AreRising
 use Rattle.lard_law_view.proofs.Stepping.{step-has}
 use Rattle.lard_law_view.proofs.Timers.{timer_rows-of, timer_rows-same}
 use Rattle.lard_law_view.proofs.Turned.{IsSaid, between-has}
-use Rattle.lard_history.specs.Own.{Came, Letter, Row, Seen, conn_of, letter_of, letters, net_step, seen_on}
 use Rattle.lard_history.proofs.Each.{Each, Each-weaker}
 use Rattle.lard_history.proofs.Seeing.{AreOf, by_number, letters-append, letters-lost, seen_on-append}
-use Rattle.lard_journal.specs.declared.rec.Rec.{Rec}
 use Rattle.lard_journal.specs.declared.rec.Rec.TheVariants as rec
-use Rattle.lard_rules.specs.Sent.{packet_of, packets_of, sent_records}
-use Rattle.lard_net.specs.Net.{Packet, lose_at, packet_at}
-use Rattle.lard_rules.specs.declared.places.Out.{Out}
 use Rattle.lard_law_view.proofs.OwnRecords.{behind}
 
 -- what a place does on two connections

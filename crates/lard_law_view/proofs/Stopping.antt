@@ -2,15 +2,9 @@
 use Rattle.std.proofs.Common.{◌≡◌, ℕ, Bool, true, false, cond, not, ◌&&◌, Some, None, refl, ap, ◌∙◌, sym}
 use Rattle.std.proofs.lemmas.Bool.{cond_both, and_parts, not-true}
 use Rattle.lard_answers.proofs.Growing.{blocks-nothing}
-use Rattle.lard_block.specs.Blocks.{blocks}
-use Rattle.lard_endpoint.specs.Arriving.{on_segment}
-use Rattle.lard_endpoint.specs.Control.{ControlBlock, listening}
-use Rattle.lard_law_view.specs.Agreement.{HasStopped}
+use Rattle.lard_law_view.specs.Prelude.{ControlBlock, HasStopped, Received, Said, Service, awaited, begins_after, blocks, bytes_taken, ends, fresh_bytes, listening, may_read, on_segment}
 use Rattle.lard_law_view.proofs.EndpointStreams.{segment-takes}
-use Rattle.lard_rules.specs.Serving.{Service, may_read}
 use Rattle.lard_rules.proofs.Reading.{unread}
-use Rattle.lard_recv.specs.Recv.{Received, awaited, begins_after, fresh_bytes, ends, bytes_taken}
-use Rattle.lard_segment.specs.Segment.{Said}
 
 -- ---- endpoints that have stopped
 

@@ -1,16 +1,11 @@
 -- What is told of one connection beside its bytes: what became of its client.
 use Rattle.std.proofs.Common.{◌≡◌, ◌≢◌, ◌⊎◌, ℕ, List, [], ◌∷◌, Bool, true, false, cond, ◌||◌, Some, None, refl, sym, ap, ◌∙◌, inl, inr, nat_eq}
 use Rattle.std.specs.List.{fold}
-use Rattle.lard_base.specs.declared.event.Event.{Event}
+use Rattle.lard_law_view.specs.Prelude.{AreClientNotes, Came, Event, Rec, Row, Seen, Tale, aborted_step, ended_step, event_conn, event_shuts, has_aborted, has_ended, own, plain, reset_step, seen_step, shut_step, tale_step, was_reset, was_shut, whose}
 use Rattle.lard_base.specs.declared.event.Event.TheVariants as event
-use Rattle.lard_history.specs.Journal.{Tale, event_shuts, reset_step, tale_step, was_reset}
-use Rattle.lard_history.specs.Own.{Seen, Row, Came, event_conn, own, plain, seen_step, whose}
 use Rattle.lard_history.proofs.Lifting.{IsOwnFold, fold-own}
 use Rattle.lard_history.proofs.Seeing.{other_number, same_number}
-use Rattle.lard_journal.specs.declared.rec.Rec.{Rec}
 use Rattle.lard_journal.specs.declared.rec.Rec.TheVariants as rec
-use Rattle.lard_law_view.specs.Keeping.{AreClientNotes}
-use Rattle.lard_law_view.specs.Quiet.{aborted_step, ended_step, has_aborted, has_ended, shut_step, was_shut}
 use Rattle.lard_law_view.proofs.Acked.{ends_in}
 
 -- ---- one connection

@@ -4,15 +4,10 @@ use Rattle.std.proofs.lemmas.Bool.{cond_both}
 use Rattle.std.proofs.Math.Seq.{take-add}
 use Rattle.std.proofs.lemmas.List.{length-take-le}
 use Rattle.std.proofs.lemmas.Grind.{common_steps}
-use Rattle.lard_arrival.specs.Arrival.{IsPartAt}
-use Rattle.lard_endpoint.specs.Laws.{IsTrueData}
+use Rattle.lard_law_view.specs.Prelude.{Hears, IsPartAt, IsStream, IsTrueData, IsUnusedPart, Received, Said, Stands, Stream, arrived, awaited, begins_after, bytes_taken, consumed, discarded, ends, fresh_bytes, gained, restored, seq_add}
 use Rattle.lard_endpoint.proofs.Fresh.{gained-part}
 use Rattle.lard_endpoint.proofs.Sound.{arrived-sound}
-use Rattle.lard_recv.specs.Recv.{Received, IsUnusedPart, restored, awaited, begins_after, fresh_bytes, ends, bytes_taken, arrived, gained, consumed, discarded}
 use Rattle.lard_recv.proofs.Unused.{unused-arrived, unused-consumed}
-use Rattle.lard_segment.specs.Segment.{Said}
-use Rattle.lard_seq.specs.Seq.{seq_add}
-use Rattle.lard_law_view.specs.Truth.{Stream, IsStream, Stands, Hears}
 
 -- ---- a segment arrives
 

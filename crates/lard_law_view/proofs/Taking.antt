@@ -1,29 +1,15 @@
 -- What a connection takes in a move: of the packet that came in it.
 use Rattle.std.proofs.Common.{◌≡◌, ℕ, ◌+◌, ◌<◌, ◌≤◌, ◌^◌, List, [], ◌∷◌, ◌++◌, length, take, drop, true, false, cond, nat_lt, Some, ◌⊎◌, Result, Ok, Err, refl, sym, ap, ◌∙◌, subst, arith, length-append, length-take, length-drop}
 use Rattle.std.proofs.lemmas.Bool.{cond_both, ltb-false, ltb-true}
-use Rattle.lard_arrival.specs.Arrival.{IsPartAt}
-use Rattle.lard_base.specs.declared.place.Place.{Place}
-use Rattle.lard_base.specs.declared.place.Place.TheVariants.{Client}
-use Rattle.lard_client.specs.declared.heard.Heard.{Heard}
-use Rattle.lard_client.specs.Arriving.{client_arrived}
-use Rattle.lard_client.specs.Control.{ClientBlock, is_established, is_writing, client_written}
+use Rattle.lard_law_view.specs.Prelude.{Came, Client, ClientBlock, Heard, IsPartAt, Letter, Numbers, Place, Rec, Said, Seen, SegFault, Tale, ToClient, Turn, accepted_note, client_arrived, client_gets, client_speaks, client_writes, client_written, decoded, eof_note, is_established, is_writing, one_if, seq_add, silent, speaking, tale_step, told_on}
 use Rattle.lard_client.proofs.Accepted.{arrived-order}
-use Rattle.lard_history.specs.Journal.{Numbers, Tale, tale_step, told_on}
-use Rattle.lard_history.specs.Own.{Letter, Seen, Came}
 use Rattle.lard_history.proofs.Each.{Each}
 use Rattle.lard_history.proofs.Seeing.{same_number}
-use Rattle.lard_journal.specs.declared.rec.Rec.{Rec}
 use Rattle.lard_journal.specs.declared.rec.Rec.TheVariants as rec
 use Rattle.lard_law_view.proofs.ClientAlike.{arrived-alike, emit-alike}
 use Rattle.lard_law_view.proofs.ClientHears.{Takes, end-number, next-number, takes-established}
-use Rattle.lard_rules.specs.declared.places.Turn.{Turn}
-use Rattle.lard_rules.specs.Client.{accepted_note, client_gets, client_writes, eof_note, silent, speaking}
-use Rattle.lard_rules.specs.Speaking.{client_speaks}
+use Rattle.lard_law_view.proofs.RecordKinds.{IsOuter}
 use Rattle.lard_rules.proofs.Loops.{client_keeps}
-use Rattle.lard_segment.specs.declared.fault.SegFault.{SegFault}
-use Rattle.lard_segment.specs.declared.segment.Dir.TheVariants.{ToClient}
-use Rattle.lard_segment.specs.Segment.{Said, decoded}
-use Rattle.lard_seq.specs.Seq.{one_if, seq_add}
 use Rattle.lard_law_view.specs.WhileUntouched.{TellsBy}
 
 -- The segment that client c got, where this packet came and this is told of c.
@@ -46,6 +32,11 @@ abbrev pub TakesNothing : Rec → Type 0
 TakesNothing (rec.Accepted c bytes) = ⊥
 TakesNothing (rec.Eof c) = ⊥
 TakesNothing _ = Unit {0}
+
+pub outer-nothing : (r : Rec) → IsOuter r → TakesNothing r
+outer-nothing (rec.Accepted c bytes) h = absurd h
+outer-nothing (rec.Eof c) h = absurd h
+outer-nothing _ h = tt
 
 -- The notes of connection c, of which this is told, take nothing, or a packet came and they take of it.
 abbrev pub TakesOf : ℕ → Tale → List Seen → List Rec → Type 0

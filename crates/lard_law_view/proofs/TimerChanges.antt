@@ -5,22 +5,13 @@ use Rattle.std.proofs.lemmas.Bool.{and_parts, both_ways}
 use Rattle.std.proofs.lemmas.List.Elements.{filter-append}
 use Rattle.std.proofs.lemmas.List.Sums.{fold-append}
 use Rattle.std.specs.List.{filter, flat_map, fold, list_all}
-use Rattle.lard_base.specs.declared.event.Event.{Event}
+use Rattle.lard_law_view.specs.Prelude.{Came, ChangesTimers, Client, Event, Front, Node, Place, Rec, Row, Seen, TimerKind, armed_step, change_of, is_change, is_change_of, is_kind, is_place, is_running, kind_change, plain, seen_step, sent_records, timer_kinds, whose}
 use Rattle.lard_base.specs.declared.event.Event.TheVariants as event
-use Rattle.lard_base.specs.declared.place.Place.{Place}
-use Rattle.lard_base.specs.declared.place.Place.TheVariants.{Front, Node, Client}
-use Rattle.lard_base.specs.declared.place.TimerKind.{TimerKind}
 use Rattle.lard_base.specs.declared.place.TimerKind.TheVariants.{Tcp, Offer, Ask, Fetch, Ended}
-use Rattle.lard_history.specs.Journal.{armed_step, is_kind, is_place, is_running}
-use Rattle.lard_history.specs.Own.{Seen, Row, Came, plain, seen_step, whose}
 use Rattle.lard_history.proofs.Each.{Each, Each-weaker}
 use Rattle.lard_history.proofs.Lifting.{IsOwnFold}
 use Rattle.lard_history.proofs.Seeing.{by_number, other_number, same_number}
-use Rattle.lard_journal.specs.declared.rec.Rec.{Rec}
 use Rattle.lard_journal.specs.declared.rec.Rec.TheVariants as rec
-use Rattle.lard_law_view.specs.Timers.{ChangesTimers, change_of, is_change, is_change_of}
-use Rattle.lard_rules.specs.Sent.{sent_records}
-use Rattle.lard_rules.specs.Outs.{kind_change, timer_kinds}
 use Rattle.lard_law_view.proofs.OwnRecords.{behind}
 
 -- ---- records of no timer

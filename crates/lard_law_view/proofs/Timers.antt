@@ -1,20 +1,12 @@
 -- The records of a place's timers are of its connection, and there are none where nothing changed.
 use Rattle.std.proofs.Common.{◌≡◌, ℕ, Bool, true, false, List, [], ◌∷◌, ◌++◌, Some, refl, ap}
 use Rattle.std.specs.List.{flat_map}
-use Rattle.lard_base.specs.declared.place.Place.{Place}
-use Rattle.lard_base.specs.declared.place.Place.TheVariants.{Front, Node, Client}
-use Rattle.lard_base.specs.declared.place.TimerKind.{TimerKind}
+use Rattle.lard_law_view.specs.Prelude.{Client, Front, Node, Part, Place, Rec, TimerKind, front_armed, kind_change, node_armed, plain, station_armed, timer_kinds, timer_rows, whose}
 use Rattle.lard_base.specs.declared.place.TimerKind.TheVariants.{Tcp}
-use Rattle.lard_law_view.specs.View.{Part, station_armed, timer_rows}
 use Rattle.lard_law_view.proofs.Saying.{IsStill}
-use Rattle.lard_rules.specs.Front.{front_armed}
-use Rattle.lard_history.specs.Own.{plain, whose}
 use Rattle.lard_history.proofs.Each.{Each, Each-append, Each-weaker}
 use Rattle.lard_history.proofs.Seeing.{AreOf}
-use Rattle.lard_journal.specs.declared.rec.Rec.{Rec}
 use Rattle.lard_journal.specs.declared.rec.Rec.TheVariants as rec
-use Rattle.lard_rules.specs.Node.{node_armed}
-use Rattle.lard_rules.specs.Outs.{kind_change, timer_kinds}
 
 -- a timer of the place for connection c was armed or cleared
 abbrev pub IsTimerAt : Place → ℕ → Rec → Type 0

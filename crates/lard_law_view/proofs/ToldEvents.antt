@@ -1,6 +1,6 @@
 -- The events of a journal as a schedule gave them, and those that a connection sees of it.
 use Rattle.std.proofs.Common.{ℕ, ◌++◌, List, refl, codes}
-use Rattle.lard_history.specs.Journal.{request}
+use Rattle.lard_law_view.specs.Prelude.{request}
 use Rattle.lard_law_view.proofs.ByteLists.{AreBytes, bytes-append, bytes-tested}
 
 -- what a get writes

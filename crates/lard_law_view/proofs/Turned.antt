@@ -2,21 +2,11 @@
 use Rattle.std.proofs.Common.{◌≡◌, ℕ, ◌+◌, List, [], ◌∷◌, ◌++◌, map, Some, refl, sym, ap, subst, inl, inr, ⊎_elim}
 use Rattle.std.specs.Prelude.{◌⊎◌}
 use Rattle.std.specs.List.{AllByRecursion, fold}
-use Rattle.lard_base.specs.declared.place.Place.{Place}
-use Rattle.lard_base.specs.declared.place.Place.TheVariants.{Front, Node, Client}
-use Rattle.lard_rules.specs.Bounds.{IsConnNumber}
-use Rattle.lard_law_view.specs.View.{AreBetween, AreSent, Conn, GoesBetween, IsMachine, Was, letter}
+use Rattle.lard_law_view.specs.Prelude.{AreBetween, AreSent, Body, Client, Conn, Front, GoesBetween, Has, IsConnNumber, IsMachine, Kept, Letter, Node, Place, Rec, Was, answered_step, letter, named_in, sent_of, spelled_message}
 use Rattle.lard_law_view.proofs.Naming.{spelled-named}
 use Rattle.lard_law_view.proofs.Saying.{AllBetween, AreMessages, GaveAt, NotedAt}
-use Rattle.lard_history.specs.Journal.{answered_step}
-use Rattle.lard_history.specs.Own.{Has, Letter, named_in}
 use Rattle.lard_history.proofs.Each.{Each, Each-weaker}
 use Rattle.lard_history.proofs.Seeing.{has-before, has-behind, has-each}
-use Rattle.lard_journal.specs.declared.rec.Rec.{Rec}
-use Rattle.lard_message.specs.declared.message.Body.{Body}
-use Rattle.lard_message.specs.Message.{spelled_message}
-use Rattle.lard_resend.specs.declared.kept.Kept.{Kept}
-use Rattle.lard_resend.specs.Pending.{sent_of}
 use Rattle.lard_law_view.proofs.EndpointSends.{AllTo}
 
 -- ---- what a turn says

@@ -1,9 +1,7 @@
 -- Laws of connections that the schedule did not touch, and weaker ones.
 use Rattle.std.proofs.Common.{◌≡◌, ℕ, List, [], ◌∷◌, Bool, true, false, cond, refl, nat_eq}
 use Rattle.std.specs.List.{fold}
-use Rattle.lard_history.specs.Journal.{Tale, tale_step}
-use Rattle.lard_history.specs.Own.{Seen, Row, Came, seen_step}
-use Rattle.lard_journal.specs.declared.rec.Rec.{Rec}
+use Rattle.lard_law_view.specs.Prelude.{Came, Rec, Row, Seen, Tale, seen_step, tale_step}
 use Rattle.lard_journal.specs.declared.rec.Rec.TheVariants as rec
 
 -- ---- once touched, a connection stays so

@@ -2,18 +2,10 @@
 use Rattle.std.proofs.Common.{◌≡◌, ℕ, Bool, true, false, List, [], ◌∷◌, ◌++◌, refl, sym, ◌∙◌, subst}
 use Rattle.std.proofs.lemmas.List.Sums.{fold-append}
 use Rattle.std.specs.List.{AllByRecursion, fold}
-use Rattle.lard_base.specs.declared.place.Place.{Place}
-use Rattle.lard_base.specs.declared.place.Place.TheVariants.{Node}
-use Rattle.lard_rules.specs.Bounds.{IsConnNumber}
-use Rattle.lard_law_view.specs.View.{AreNumbered}
+use Rattle.lard_law_view.specs.Prelude.{AreNumbered, IsConnNumber, Job, Node, NodeEnv, Place, Rec, Service, Work, answered_step, noted, own_job}
 use Rattle.lard_law_view.proofs.Saying.{NotedAt}
-use Rattle.lard_disk.specs.declared.disk.Job.{Job}
-use Rattle.lard_history.specs.Journal.{answered_step}
 use Rattle.lard_history.proofs.Each.{Each-append}
-use Rattle.lard_journal.specs.declared.rec.Rec.{Rec}
 use Rattle.lard_journal.specs.declared.rec.Rec.TheVariants as rec
-use Rattle.lard_rules.specs.Stay.{NodeEnv, Work, noted, own_job}
-use Rattle.lard_rules.specs.Serving.{Service}
 use Rattle.lard_rules.proofs.StayKeeping.{KeptByNotes}
 use Rattle.lard_law_view.proofs.PlaceTurns as turns
 use Rattle.lard_law_view.proofs.PlaceTurns.{AreNoted, NotesServing}

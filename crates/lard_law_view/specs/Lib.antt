@@ -14,3 +14,4 @@ pub mod Seat
 pub mod Carry
 pub mod Laws
 pub mod View
+pub mod Prelude

@@ -2,12 +2,8 @@
 use Rattle.std.proofs.Common.{◌≡◌, ℕ, ◌≤◌, ◌^◌, List, [], ◌∷◌, map, Bool, true, false, ◌||◌, Option, Some, None, Result, Ok, inl, refl, sym, ap, ◌∙◌, subst, ⊎_elim, arith, nat_lt}
 use Rattle.std.proofs.Math.Bool.{or-false}
 use Rattle.std.proofs.lemmas.Bool.{both_ways, ltb-false}
-use Rattle.lard_answers.specs.Answers.{FilesAt}
-use Rattle.lard_base.specs.declared.event.Event.{Event}
+use Rattle.lard_law_view.specs.Prelude.{Client, ClientBlock, ClientKeeps, ClientRules, ClientTurned, Conn, Event, FilesAt, Front, FrontRow, GoesBetween, HasRule, IsReply, Letter, Move, Node, Place, Said, Seen, SegFault, Setting, Station, Stream, Talk, ToClient, Turn, Verdict, Was, client_aborts, client_begins, client_does, client_gets, client_holds, client_opens, client_shuts, client_takes, client_timer, client_writes, decoded, event_seen, event_shuts, grown, is_client_open, letter, letters_of, packet_seen, request, spelled, tale_at, written_len}
 use Rattle.lard_base.specs.declared.event.Event.TheVariants as event
-use Rattle.lard_base.specs.declared.place.Place.{Place}
-use Rattle.lard_base.specs.declared.place.Place.TheVariants.{Client, Front, Node}
-use Rattle.lard_client.specs.Control.{ClientBlock, is_client_open, written_len}
 use Rattle.lard_laws.specs.Acks.{AcksWhatWasTaken, Bounds, FrontActs, LetterActs, LetterActsOn, OpenActs, ReplyActs, StationActs, bounds_of, story_at}
 use Rattle.lard_laws.proofs.AcksFronts.{past-acts}
 use Rattle.lard_laws.proofs.AcksGrowing.{Widens, back-more, front-more, letters-on, words-act}
@@ -18,30 +14,13 @@ use Rattle.lard_law_connections.proofs.BytesClientMoves.{has-fair, open-at, was-
 use Rattle.lard_law_connections.proofs.LimitsMoves.{Helps}
 use Rattle.lard_law_connections.specs.Places.{Sits, owning}
 use Rattle.lard_law_connections.proofs.PlacesFrontRules.{has-each}
-use Rattle.lard_law_view.specs.Carry.{tale_at}
-use Rattle.lard_law_view.specs.View.{ClientRules, Conn, GoesBetween, Move, Setting, Was, client_begins, client_does, event_seen, grown, letter, letters_of, packet_seen}
-use Rattle.lard_rules.specs.Bounds.{HasRule}
-use Rattle.lard_handoff_front.specs.declared.row.FrontRow.{FrontRow}
-use Rattle.lard_history.specs.Journal.{event_shuts, request}
-use Rattle.lard_history.specs.Own.{Letter, Seen}
 use Rattle.lard_history.proofs.Each.{Each, Each-append}
-use Rattle.lard_law_view.specs.Agreement.{IsReply}
-use Rattle.lard_law_view.specs.Keeping.{ClientKeeps, ClientTurned}
-use Rattle.lard_law_view.specs.Truthful.{Talk}
 use Rattle.lard_law_view.proofs.ClientHearing.{hears-turned}
 use Rattle.lard_law_view.proofs.ClientAgreement.{aborts-turned, holds-turned, shuts-turned, takes-turned, timer-turned, writes-turned}
 use Rattle.lard_law_view.proofs.Acked.{ClientActed, ClientActs, ReplyMay, WordsMay, ends_in, taken_by}
 use Rattle.lard_law_view.proofs.ClientRules.{all-act}
 use Rattle.lard_law_view.proofs.Story.{Story, Tells, aborted-told, client-tells, ends-told, or-either, story_on, story_seen}
-use Rattle.lard_request.specs.declared.verdict.Verdict.{Verdict}
-use Rattle.lard_rules.specs.declared.places.Station.{Station}
-use Rattle.lard_rules.specs.declared.places.Turn.{Turn}
-use Rattle.lard_rules.specs.Client.{client_aborts, client_gets, client_holds, client_opens, client_shuts, client_takes, client_timer, client_writes}
 use Rattle.lard_segment.proofs.Again.{again}
-use Rattle.lard_segment.specs.declared.fault.SegFault.{SegFault}
-use Rattle.lard_segment.specs.declared.segment.Dir.TheVariants.{ToClient}
-use Rattle.lard_segment.specs.Segment.{Said, decoded, spelled}
-use Rattle.lard_law_view.specs.Truth.{Stream}
 
 words-told : (c iss taken : ℕ) (a b : Bool) (ss : List (Place × List ℕ)) → (a ≡ true → b ≡ true) → WordsMay c iss taken a ss → WordsMay c iss taken b ss
 words-told c iss taken a b [] told may = tt

@@ -2,11 +2,7 @@
 use Rattle.std.proofs.Common.{◌≡◌, ◌⊎◌, ◌≤◌, ◌<◌, ◌&&◌, not, ◌^◌, ℕ, Bool, true, false, List, [], ◌∷◌, map, Option, Some, None, Ok, IfSome, inr, ⊎_elim, refl, sym, ap, ◌∙◌, subst, arith, eqb-true}
 use Rattle.std.specs.List.{concat}
 use Rattle.std.proofs.lemmas.Bool.{and_parts, cond_both}
-use Rattle.lard_answers.specs.Answers.{answer}
-use Rattle.lard_base.specs.declared.ids.Epoch.{Epoch}
-use Rattle.lard_base.specs.declared.place.Place.{Place}
-use Rattle.lard_base.specs.declared.place.Place.TheVariants.{Front, Node}
-use Rattle.lard_base.specs.declared.place.Reason.{Reason}
+use Rattle.lard_law_view.specs.Prelude.{AreSent, Ask, BackConn, BackRow, Call, Conn, ControlBlock, Ending, Epoch, Final, FirstChoice, Front, FrontConn, FrontDeed, FrontEnv, FrontPart, FrontRest, FrontRow, FrontTurn, IsConnSound, IsFrontEnv, IsSendable, IsStream, IsWord, Kept, Move, Node, NodePart, Part, Place, Ready, Reason, Said as Segment, Seen, Service, Setting, Station, Stream, Talk, Turn, Verdict, ack_sent, after_timer, answer, assigns, filled, front_admitted, front_asked, front_begun, front_does, front_ended, front_ends, front_fired, front_gets, front_reads, front_rest, front_saying, front_taken, front_timer, holds, is_away, is_plain_syn, is_telling, last_ack, last_words, leaves_by, letter, listening, next_epoch, on_segment, refusal, sent_of, seq_offset, serving, serving_ready_of, serving_settled, spoken, stage_after, tag_sent, taken_by, tale_at, timed, tombstone, turn_here}
 use Rattle.lard_base.specs.declared.place.Reason.TheVariants as reason
 use Rattle.lard_laws.specs.Acks.{ActsWithin, BackActs, Bounds, EndActs, FrontActs, FrontStageActs, LetterActs, WordActs}
 use Rattle.lard_laws.proofs.AcksGrowing.{replies-act}
@@ -17,33 +13,11 @@ use Rattle.lard_law_connections.specs.BytesAgreement.{EndedWithNumbers, FrontHol
 use Rattle.lard_law_connections.specs.Places.{ArePast, HasEnded, IsLeft, IsOffered, IsOver, IsPast, Offers, Owning, Sits, StageSits, owning}
 use Rattle.lard_law_connections.proofs.PlacesFrontRules.{has-each}
 use Rattle.lard_law_connections.proofs.PlacesTurns.{IsPlaced}
-use Rattle.lard_law_view.specs.Carry.{tale_at}
-use Rattle.lard_law_view.specs.View.{AreSent, Conn, IsFrontEnv, IsConnSound, Move, Part, Setting, front_does, letter}
-use Rattle.lard_dispatch.specs.declared.dispatch.Ask.{Ask}
-use Rattle.lard_dispatch.specs.declared.dispatch.First.{First}
-use Rattle.lard_dispatch.specs.declared.dispatch.First.TheVariants as first
-use Rattle.lard_dispatch.specs.Laws.{Call}
 use Rattle.lard_dispatch.specs.Laws as call
-use Rattle.lard_endpoint.specs.declared.control.moving.Final.{Final}
-use Rattle.lard_endpoint.specs.Arriving.{on_segment}
-use Rattle.lard_endpoint.specs.Control.{ControlBlock, listening}
-use Rattle.lard_endpoint.specs.Leaving.{after_timer, filled, timed}
-use Rattle.lard_rules.specs.declared.front.FrontRest.{FrontRest}
-use Rattle.lard_rules.specs.declared.front.FrontTurn.{FrontTurn}
-use Rattle.lard_rules.specs.Front.{FrontDeed, Drops, Says, Does, FrontEnv, FrontPart, ack_sent, assigns, front_begun, front_admitted, front_asked, front_ended, front_gets, front_taken, front_timer, heard, holds, leaves_by, message, front_rest, front_saying, stage_after, tag_sent, taken_by, turn_here, front_ends, front_fired}
-use Rattle.lard_rules.specs.FrontReading.{front_reads}
-use Rattle.lard_handoff_back.specs.declared.row.BackConn.{BackConn}
+use Rattle.lard_rules.specs.Front.{Drops, Says, Does, message}
 use Rattle.lard_handoff_back.specs.declared.row.BackConn.TheVariants as back
-use Rattle.lard_handoff_back.specs.declared.row.BackRow.{BackRow}
-use Rattle.lard_handoff_front.specs.declared.row.FrontConn.{FrontConn}
 use Rattle.lard_handoff_front.specs.declared.row.FrontConn.TheVariants as stage
-use Rattle.lard_handoff_front.specs.declared.row.FrontRow.{FrontRow}
-use Rattle.lard_handoff_front.specs.Front.{next_epoch}
-use Rattle.lard_handoff_front.specs.Row.{is_away}
-use Rattle.lard_history.specs.Own.{Seen}
 use Rattle.lard_history.proofs.Each.{Each, Each-append}
-use Rattle.lard_law_view.specs.Agreement.{IsWord}
-use Rattle.lard_law_view.specs.Truthful.{Talk}
 use Rattle.lard_law_view.proofs.EndpointStreams.{IsBetween, between-arrived, between-begun, between-sound, between-timed}
 use Rattle.lard_law_view.proofs.Acked.{RepliesMay, ReplyMay, ServingActed, WordMay, heard_at, heard_by}
 use Rattle.lard_law_view.proofs.Acked as Acked
@@ -52,22 +26,8 @@ use Rattle.lard_law_view.proofs.EndpointReading.{Reads, Spans}
 use Rattle.lard_law_view.proofs.EndpointActs.{settled-acts, spoken-acts}
 use Rattle.lard_law_view.proofs.EndpointSaying.{timed-may, timer-left}
 use Rattle.lard_message.specs.declared.message.Body.TheVariants as body
-use Rattle.lard_rules.specs.Node.{NodePart}
-use Rattle.lard_policy.specs.declared.first.FirstChoice.{FirstChoice}
-use Rattle.lard_request.specs.declared.verdict.Verdict.{Verdict}
-use Rattle.lard_resend.specs.declared.kept.Kept.{Kept}
-use Rattle.lard_resend.specs.Pending.{sent_of}
-use Rattle.lard_rules.specs.declared.places.Ending.{Ending}
 use Rattle.lard_rules.specs.declared.places.Ending.TheVariants as ending
-use Rattle.lard_rules.specs.declared.places.Station.{Station}
-use Rattle.lard_rules.specs.declared.places.Turn.{Turn}
-use Rattle.lard_rules.specs.Tombstone.{is_plain_syn, is_telling, last_ack, last_words, refusal, tombstone}
-use Rattle.lard_rules.specs.Serving.{Service, serving_ready_of, serving, serving_settled, spoken}
-use Rattle.lard_segment.specs.declared.segment.Ready.{Ready}
-use Rattle.lard_segment.specs.Segment.{IsSendable, Said as Segment}
-use Rattle.lard_seq.specs.Seq.{seq_offset}
 use Rattle.lard_seq.proofs.Laws.{offset-add}
-use Rattle.lard_law_view.specs.Truth.{IsStream, Stream}
 use Rattle.lard_law_view.proofs.Speaking.{speaks-stream}
 use Rattle.lard_rules.proofs.FrontCases.{KeptBySegment, IsInStage, of-stage, begun_row, begun_service, heard_reading, heard_service, hands_off, rests_in, waiting_service, segment-keeps, timer-keeps, taken-keeps, asked-keeps, ended-keeps, admitted-keeps}
 

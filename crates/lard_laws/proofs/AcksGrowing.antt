@@ -1,33 +1,18 @@
 -- What was acknowledged may still be acknowledged when more was taken; and what packets say stays so while their connection moves.
 use Rattle.std.proofs.Common.{◌≡◌, ◌⊎◌, ℕ, ◌≤◌, true, List, [], ◌∷◌, map, Option, Some, None, Result, Ok, inl, inr, ⊎_elim, sym, ap, ◌∙◌, subst, arith}
-use Rattle.lard_base.specs.declared.parts.EndpointParts.{EndpointParts}
-use Rattle.lard_base.specs.declared.place.Place.{Place}
-use Rattle.lard_base.specs.declared.place.Place.TheVariants.{Client, Front, Node}
+use Rattle.lard_law_view.specs.Prelude.{BackConn, BackRow, Body, Client, Ending, EndpointParts, Final, Front, FrontConn, FrontRow, Letter, Node, Part, Place, Said, SegFault, ToClient, ToCluster, decoded, kind_of, letter}
 use Rattle.lard_laws.specs.Acks.{BackActs, Bounds, EndActs, FrontActs, FrontBodyActs, LetterActs, LetterActsOn, NodeBodyActs, PartsAct, ReplyActs, WordActs}
 use Rattle.lard_law_connections.specs.Places.{FrontSaid, HasEnded, IsDecided, IsOffered, IsOver, LetterMay, MaySay, NodeSaid, message_head}
 use Rattle.lard_law_connections.proofs.PlacesGrowing.{Grows, decided-grows, ended-grows}
 use Rattle.lard_law_connections.proofs.PlacesHeads.{decoded-head}
-use Rattle.lard_law_view.specs.View.{Part, letter}
 use Rattle.lard_handoff_back.specs.declared.row.BackConn.TheVariants as back
-use Rattle.lard_handoff_back.specs.declared.row.BackRow.{BackRow}
-use Rattle.lard_handoff_front.specs.declared.row.FrontConn.{FrontConn}
 use Rattle.lard_handoff_front.specs.declared.row.FrontConn.TheVariants as stage
-use Rattle.lard_handoff_front.specs.declared.row.FrontRow.{FrontRow}
-use Rattle.lard_handoff_back.specs.declared.row.BackConn.{BackConn}
-use Rattle.lard_history.specs.Own.{Letter}
 use Rattle.lard_history.proofs.Each.{Each}
-use Rattle.lard_endpoint.specs.declared.control.moving.Final.{Final}
 use Rattle.lard_law_view.proofs.Acked.{heard_at, RepliesMay, ReplyMay, WordMay, WordsMay}
 use Rattle.lard_law_view.proofs.Holding.{acks-more}
-use Rattle.lard_message.specs.declared.message.Body.{Body}
 use Rattle.lard_message.specs.declared.message.Body.TheVariants as body
-use Rattle.lard_message.specs.Message.{kind_of}
-use Rattle.lard_rules.specs.declared.places.Ending.{Ending}
 use Rattle.lard_rules.specs.declared.places.Ending.TheVariants as ending
 use Rattle.lard_segment.proofs.Again.{again}
-use Rattle.lard_segment.specs.declared.fault.SegFault.{SegFault}
-use Rattle.lard_segment.specs.declared.segment.Dir.TheVariants.{ToClient, ToCluster}
-use Rattle.lard_segment.specs.Segment.{Said, decoded}
 
 -- between the same numbers more is taken, and what was told stays told
 pub record Widens (b d : Bounds) : Type 0 where

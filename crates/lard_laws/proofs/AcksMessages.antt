@@ -3,27 +3,16 @@
 use Rattle.std.proofs.Common.{◌≡◌, ◌+◌, ◌≤◌, ◌<◌, ◌^◌, ℕ, Bool, true, false, cond, nat_lt, List, ◌∷◌, ◌++◌, length, drop, take, Option, Some, None, Ok, arith, inr, refl, ap, ◌∙◌, sym, subst}
 use Rattle.std.specs.Int.{Width, byte_len, from_be_bytes, to_be_bytes, w16, w32}
 use Rattle.std.proofs.lemmas.List.{drop_at}
-use Rattle.lard_base.specs.declared.parts.EndpointParts.{EndpointParts}
-use Rattle.lard_base.specs.declared.place.Place.TheVariants.{Front, Node}
-use Rattle.lard_base.specs.declared.place.Reason.{Reason}
+use Rattle.lard_law_view.specs.Prelude.{Body, ControlBlock, EndpointParts, Final, Front, IsControlBlock, Message, Node, Part, Reason, counted_at, counted_bytes, decoded_message, flag_at, flag_byte, kind_of, number_at, offer_at, one_if, parts_at, parts_bytes, parts_of}
 use Rattle.lard_laws.specs.Acks.{Bounds, EndActs, FrontBodyActs, LetterActsOn, NodeBodyActs, WordActs}
 use Rattle.lard_law_connections.proofs.BytesMessages.{ended-fields, forwards-read}
 use Rattle.lard_law_connections.proofs.PlacesHeads.{kinds-same, spelled-body}
-use Rattle.lard_law_view.specs.View.{Part}
-use Rattle.lard_endpoint.specs.declared.control.moving.Final.{Final}
-use Rattle.lard_endpoint.specs.Control.{ControlBlock, IsControlBlock}
-use Rattle.lard_endpoint.specs.Moving.{parts_of}
 use Rattle.lard_rules.specs.Front.{message}
 use Rattle.lard_law_view.proofs.Acked.{heard_by}
 use Rattle.lard_message.specs.declared.kind.Kind.TheVariants as kind
-use Rattle.lard_message.specs.declared.message.Body.{Body}
 use Rattle.lard_message.specs.declared.message.Body.TheVariants as body
-use Rattle.lard_message.specs.declared.message.Message.{Message}
-use Rattle.lard_message.specs.Message.{counted_bytes, flag_byte, kind_of, parts_bytes}
-use Rattle.lard_message.specs.Reading.{counted_at, decoded_message, flag_at, number_at, offer_at, parts_at}
 use Rattle.lard_message.proofs.Fields.{bind_then, flag_again, number_again, some_same, wide32}
 use Rattle.lard_rules.specs.declared.places.Ending.TheVariants as ending
-use Rattle.lard_seq.specs.Seq.{one_if}
 use Rattle.lard_law_view.proofs.Speaking.{one_small}
 
 -- ---- an Offer

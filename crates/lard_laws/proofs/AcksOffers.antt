@@ -1,33 +1,19 @@
 -- The endpoint that a node adopts is the one that the front end froze.
-use Rattle.std.proofs.Common.{◌≡◌, ◌⊎◌, ◌-◌, ℕ, true, List, [], ◌∷◌, Some, ⊎_elim, refl, sym, ap, ◌∙◌, subst, arith}
-use Rattle.lard_answers.specs.Answers.{FilesAt}
-use Rattle.lard_base.specs.declared.ids.Epoch.{Epoch}
-use Rattle.lard_base.specs.declared.parts.EndpointParts.{EndpointParts}
-use Rattle.lard_base.specs.declared.place.Place.TheVariants.{Front, Node}
-use Rattle.lard_rules.specs.Bounds.{IsConnNumber}
+use Rattle.std.proofs.Common.{◌≡◌, ◌⊎◌, ◌-◌, ℕ, true, List, [], ◌∷◌, Option, Some, None, ⊎_elim, refl, sym, ap, ◌∙◌, subst, arith}
+use Rattle.lard_law_view.specs.Prelude.{Conn, ControlBlock, EndpointParts, Epoch, FilesAt, Front, FrontConn, FrontRow, IsConnNumber, IsStream, Kept, Node, NodePart, SpellsMessage, Station, Stream, Talk, Verdict, Was, adopted, decoded_message, may_freeze, offer_answer, parts_of, restored, resumed, tale_at}
 use Rattle.lard_law_connections.specs.BytesAgreement.{AwayAgrees, FrontHolds, IsFair, IsKept, IsOffering, IsOpen, NodeAgrees, SeatAgrees, StageAgrees}
 use Rattle.lard_law_connections.proofs.BytesClientMoves.{has-fair}
 use Rattle.lard_law_connections.proofs.BytesMessages.{offers-read}
-use Rattle.lard_law_connections.specs.Places.{IsDecided, IsPast, Owning, Sits, StageSits, owning}
+use Rattle.lard_law_connections.specs.Places.{IsDecided, IsPast, Owning, Sits, StageSits, owning, IsOffered, Offers}
+use Rattle.lard_law_connections.proofs.PlacesFrontMessages.{came-says}
+use Rattle.lard_law_connections.proofs.PlacesNodeRules.{not-decided}
 use Rattle.lard_law_connections.proofs.PlacesTurns.{IsPlaced, early-at}
-use Rattle.lard_law_view.specs.Carry.{tale_at}
-use Rattle.lard_law_view.specs.View.{Conn, SpellsMessage, Was}
-use Rattle.lard_endpoint.specs.Control.{ControlBlock}
-use Rattle.lard_endpoint.specs.Moving.{adopted, may_freeze, parts_of}
 use Rattle.lard_endpoint.proofs.Adoption.{Stands, frozen_stands}
+use Rattle.lard_handoff_back.specs.declared.table.Adopt.TheVariants.{New}
 use Rattle.lard_handoff_front.specs.declared.row.FrontConn.TheVariants as stage
-use Rattle.lard_handoff_front.specs.declared.row.FrontRow.{FrontRow}
-use Rattle.lard_law_view.specs.Truthful.{Talk}
 use Rattle.lard_law_view.proofs.EndpointStreams.{IsBetween}
 use Rattle.lard_message.specs.declared.message.Body.TheVariants as body
-use Rattle.lard_message.specs.Reading.{decoded_message}
-use Rattle.lard_rules.specs.Node.{NodePart, message}
-use Rattle.lard_recv.specs.Recv.{restored}
-use Rattle.lard_request.specs.declared.verdict.Verdict.{Verdict}
-use Rattle.lard_resend.specs.declared.kept.Kept.{Kept}
-use Rattle.lard_rules.specs.declared.places.Station.{Station}
-use Rattle.lard_send.specs.Send.{resumed}
-use Rattle.lard_law_view.specs.Truth.{IsStream, Stream}
+use Rattle.lard_rules.specs.Node.{message}
 use Rattle.lard_law_view.proofs.Speaking.{speaks-stream}
 
 -- ---- what is adopted
@@ -62,6 +48,33 @@ pub record IsOfferOf (l : Talk) (pend : List Verdict) (parts : EndpointParts) : 
   pub holds : FrontHolds l.w l.out l.vs pend block count
   pub same : parts ≡ parts_of block count
 
+-- The front end offers the connection to a node to which an Offer is new, in that epoch, which the node has not decided.
+pub record IsOfferedHere (x : Conn) (n epoch : ℕ) : Type 0 where
+  pub row : FrontRow
+  pub node : ℕ
+  pub named : Epoch
+  pub found : x.part.front.row ≡ Some row
+  pub staged : row.stage ≡ stage.Offering node named
+  pub node_is : node ≡ n
+  pub epoch_is : named.0 ≡ epoch
+  pub undecided : IsDecided epoch (x.part.nodes n).row → ⊥
+
+pub new-offer : (x : Conn) → IsPlaced x → (n epoch : ℕ) (parts : EndpointParts) (bytes : List ℕ) → SpellsMessage x.c epoch (body.Offer parts) bytes → Was x Front (Node n) bytes
+    → offer_answer epoch (x.part.nodes n).row ≡ New → IsOfferedHere x n epoch
+new-offer x placed n epoch parts bytes spells was new =
+    by-row x.part.front.row refl (⊎_elim (λ f. absurd (undecided f)) (λ f. f) (came-says x Front (Node n) epoch (body.Offer parts) bytes placed.letters was spells)) where
+      undecided : IsDecided epoch (x.part.nodes n).row → ⊥
+      undecided = not-decided epoch (x.part.nodes n).row new
+
+      by-stage : (row : FrontRow) → x.part.front.row ≡ Some row → (d : FrontConn) → row.stage ≡ d → Offers n epoch d → IsOfferedHere x n epoch
+      by-stage row found (stage.Offering m e) staged offers =
+          record { row = row; node = m; named = e; found = found; staged = staged; node_is = offers.0; epoch_is = offers.1; undecided = undecided }
+      by-stage row found _ staged offers = absurd offers
+
+      by-row : (q : Option FrontRow) → x.part.front.row ≡ q → IsOffered n epoch q → IsOfferedHere x n epoch
+      by-row None found offers = absurd offers
+      by-row (Some row) found offers = by-stage row found row.stage refl offers
+
 module _ (files : FilesAt) (x : Conn) (number : IsConnNumber x.c) (at_place : IsPlaced x) (s : Station) (l : Talk) (pend : List Verdict) (o : IsOpen files x l pend s)
     (n epoch : ℕ) (parts : EndpointParts) (bytes : List ℕ) (spells : SpellsMessage x.c epoch (body.Offer parts) bytes) (was : Was x Front (Node n) bytes) where
   abbrev own : Owning
@@ -81,7 +94,7 @@ module _ (files : FilesAt) (x : Conn) (number : IsConnNumber x.c) (at_place : Is
   first_bytes (q ∷ qs) = q.bytes
 
   -- one that its node has not decided is of the endpoint that the front end froze
-  pub offer-is : (row : FrontRow) (m : ℕ) (d : Epoch) → x.part.front.row ≡ Some row → row.stage ≡ stage.Offering m d → m ≡ n → d.0 ≡ epoch → (IsDecided epoch (nodes n).row → ⊥) → IsOfferOf l pend parts
+  offer-is : (row : FrontRow) (m : ℕ) (d : Epoch) → x.part.front.row ≡ Some row → row.stage ≡ stage.Offering m d → m ≡ n → d.0 ≡ epoch → (IsDecided epoch (nodes n).row → ⊥) → IsOfferOf l pend parts
   unfolding first_bytes
   offer-is row m d found at mine when not =
       let sits : StageSits row.epoch.0 own nodes (stage.Offering m d) = subst (StageSits row.epoch.0 own nodes) at (subst (Sits own nodes) found at_place.sits).0 in
@@ -101,3 +114,6 @@ module _ (files : FilesAt) (x : Conn) (number : IsConnNumber x.c) (at_place : Is
         holds = offering.holds;
         same = offers-read x.c row.epoch.0 l.w l.out l.vs pend offering.block offering.count number (let early = early-at x at_place row found (stage.Offering m d) at in omega (arith, early)) is_stream offering.holds offering.frozen _ parts (ap decoded_message spelled ∙ spells) refl;
       }
+
+  pub new-is : offer_answer epoch (nodes n).row ≡ New → IsOfferOf l pend parts
+  new-is new = let f = new-offer x at_place n epoch parts bytes spells was new in offer-is f.row f.node f.named f.found f.staged f.node_is f.epoch_is f.undecided

@@ -2,27 +2,17 @@
 -- connection.
 use Rattle.std.proofs.Common.{◌≡◌, ◌≤◌, ◌+◌, ◌^◌, ℕ, zero, suc, Bool, true, List, length, Option, Some, None, sym, ap, ◌∙◌, arith}
 use Rattle.std.proofs.lemmas.Bool.{cond_both}
-use Rattle.lard_answers.specs.Answers.{good_path}
+use Rattle.lard_law_view.specs.Prelude.{ControlBlock, Done, Found, More, Reading, ServeEnv, Service, Step, Stream, Verdict, answered, block_at, cut_of, ended_at_fin, finishing, front_reads, good_path, may_freeze, may_read, one_if, reading_left, reading_turn, reads_block, reads_found, runs_on, serving_consumed}
 use Rattle.lard_base.specs.declared.place.Via.TheVariants.{Own}
-use Rattle.lard_block.specs.declared.block.Found.{Found}
 use Rattle.lard_block.specs.declared.block.Found.TheVariants as found
-use Rattle.lard_block.specs.Blocks.{cut_of}
 use Rattle.lard_law_connections.proofs.LimitsWorking.{KeptByServing}
-use Rattle.lard_endpoint.specs.Control.{ControlBlock, finishing}
-use Rattle.lard_endpoint.specs.Moving.{may_freeze}
-use Rattle.lard_rules.specs.FrontReading.{Reading, block_at, reading_left, front_reads, reads_block, reads_found, reading_turn}
 use Rattle.lard_law_view.proofs.EndpointStreams.{between-consumed, onward-finished}
 use Rattle.lard_law_view.proofs.Stopping.{unfinished-there}
 use Rattle.lard_law_view.proofs.Acked.{heard_by}
 use Rattle.lard_law_view.proofs.EndpointArriving.{Holds}
 use Rattle.lard_law_view.proofs.EndpointReading.{Reads, Stays, answered-reads}
 use Rattle.lard_request.specs.declared.verdict.Code.TheVariants as code
-use Rattle.lard_request.specs.declared.verdict.Verdict.{Verdict}
 use Rattle.lard_request.specs.declared.verdict.Verdict.TheVariants.{Fault}
-use Rattle.lard_rules.specs.Loop.{Step, More, Done, runs_on}
-use Rattle.lard_rules.specs.Serving.{ServeEnv, Service, answered, serving_consumed, ended_at_fin, may_read}
-use Rattle.lard_seq.specs.Seq.{one_if}
-use Rattle.lard_law_view.specs.Truth.{Stream}
 
 -- as much was taken before it as after it
 pub stays-heard : (b d : ControlBlock) → Stays b d → heard_by d.recv ≡ heard_by b.recv

@@ -1,16 +1,17 @@
 -- Each rule keeps what holds of its connection: what was acknowledged was taken, in every run.
-use Rattle.std.proofs.Common.{◌≡◌, ◌≤◌, ◌^◌, ℕ, false, List, [], ◌∷◌, Some, Result, Ok, refl, sym, ap, ◌∙◌, subst}
+use Rattle.std.proofs.Common.{◌≡◌, ◌≤◌, ◌^◌, ℕ, false, List, [], Some, Result, Ok, refl, sym, ap, ◌∙◌, subst}
 use Rattle.std.proofs.Math.Bool.{or-false}
 use Rattle.lard_base.specs.declared.event.Event.TheVariants as event
-use Rattle.lard_base.specs.declared.place.Place.{Place}
-use Rattle.lard_base.specs.declared.place.Place.TheVariants.{Client, Front, Node}
+use Rattle.lard_law_view.specs.Prelude.{Client, Conn, Front, FrontRules, IsFrontEnv, IsUntouchedLaw, Letter, MayRestOn, Move, Node, NodeRules, Place, Said, Seen, SegFault, Setting, Station, Stream, ToCluster, TurnSaid as SaidIn, Untouched, UntouchedRules, Was, ask_of, decoded, event_seen, front_asked, front_does, front_ended, front_gets, front_taken, front_timer, grown, letters_of, node_does, nothing_said, packet_seen, setting, stands, tale_at}
 use Rattle.lard_laws.specs.Acks.{AcksWhatWasTaken, ActsWithin, Bounds, LetterActs, OpenActs, WordActs, bounds_of, story_at}
 use Rattle.lard_laws.specs.AcksLaws.{ConnectionsAckWhatWasTaken}
 use Rattle.lard_laws.proofs.AcksClients.{Keeps, clients}
 use Rattle.lard_laws.proofs.AcksFronts.{admitted-act, asked-act, ended-act, gets-act, taken-act, timer-act}
-use Rattle.lard_laws.proofs.AcksNodes.{acknowledged-act, content-act, fires-act, forwarded-act, offered-act, read-act, tagged-act}
+use Rattle.lard_laws.proofs.AcksNodes.{rule-act}
+use Rattle.lard_laws.proofs.NodeDeeds.{aside-letters}
+use Rattle.lard_law_view.proofs.NodeHeads.{of-aside, of-heads}
 use Rattle.lard_laws.proofs.AcksTurns.{PlaceActs, idle-acts, place-keeps}
-use Rattle.lard_law_connections.specs.BytesAgreement.{FrontTells, IsFair, IsFairOn, IsOpen, IsTruthful}
+use Rattle.lard_law_connections.specs.BytesAgreement.{IsFair, IsFairOn, IsOpen, IsTruthful}
 use Rattle.lard_law_connections.proofs.BytesClientMoves.{has-fair, open-at}
 use Rattle.lard_law_connections.proofs.BytesRuns.{states-truthful}
 use Rattle.lard_law_connections.proofs.LimitsMoves.{Helps}
@@ -18,28 +19,16 @@ use Rattle.lard_law_connections.proofs.PlacesFrontRules.{has-each}
 use Rattle.lard_law_connections.proofs.PlacesLaw.{owing}
 use Rattle.lard_law_connections.proofs.PlacesRuns.{each-placed}
 use Rattle.lard_law_connections.proofs.PlacesTurns.{IsPlaced, Owes}
-use Rattle.lard_law_view.specs.Carry.{IsUntouchedLaw, MayRestOn, Untouched, setting, tale_at}
-use Rattle.lard_law_view.specs.View.{Conn, FrontRules, IsFrontEnv, IsNodeEnv, Move, NodeRules, TurnSaid as SaidIn, Setting, SpellsMessage, UntouchedRules, Was, brought_said, content_said, event_seen, front_does, grown, letters_of, node_does, nothing_said, packet_seen, reads_first, stands}
 use Rattle.lard_law_view.proofs.Carried.{carried}
+use Rattle.lard_law_view.proofs.EachNode.{aside_said, aside_seen, each-node, node_goes}
 use Rattle.lard_law_view.proofs.Fine.{IsFine, fine}
 use Rattle.lard_law_view.proofs.Guarded.{untouched-both, untouched-law, untouched-weaker}
 use Rattle.lard_rules.specs.Front as front
-use Rattle.lard_rules.specs.Front.{ask_of, front_asked, front_ended, front_gets, front_taken, front_timer}
-use Rattle.lard_history.specs.Own.{Letter, Seen}
 use Rattle.lard_history.proofs.Each.{Each}
-use Rattle.lard_journal.specs.declared.rec.Rec.TheVariants as rec
 use Rattle.lard_law_view.proofs.Acked.{taken_by}
 use Rattle.lard_law_view.proofs.Story.{story_seen}
-use Rattle.lard_message.specs.declared.message.Body.TheVariants as body
 use Rattle.lard_rules.specs.Node as node
-use Rattle.lard_rules.specs.Node.{node_acknowledged, node_content, node_forwarded, node_offered, node_read, node_tagged, node_timer}
-use Rattle.lard_rules.specs.Stay.{NodeEnv}
-use Rattle.lard_rules.specs.declared.places.Station.{Station}
 use Rattle.lard_segment.proofs.Again.{again}
-use Rattle.lard_segment.specs.declared.fault.SegFault.{SegFault}
-use Rattle.lard_segment.specs.declared.segment.Dir.TheVariants.{ToCluster}
-use Rattle.lard_segment.specs.Segment.{Said, decoded}
-use Rattle.lard_law_view.specs.Truth.{Stream}
 
 -- ---- what a place's move leaves alone
 
@@ -89,9 +78,6 @@ module _ (k : Setting) (small : k.stream ≤ 2 ^ 30) where
   front-rule : (x : Conn) (heads : List Seen) (d : front.FrontDeed) → story_seen x.c (story_at x) heads ≡ story_at x → (Helps x (front_does x heads d) → Acts x (front_does x heads d)) → Keeps k small x (front_does x heads d)
   front-rule x heads d plain acts = place-rule x (front_does x heads d) (ap (story_seen x.c (story_at x)) (front-heads x heads d) ∙ plain) (front-station x heads d) acts
 
-  node-rule : (x : Conn) (n : ℕ) (heads : List Seen) (d : node.NodeDeed) → story_seen x.c (story_at x) heads ≡ story_at x → (Helps x (node_does x n heads d) → Acts x (node_does x n heads d)) → Keeps k small x (node_does x n heads d)
-  node-rule x n heads d plain acts = place-rule x (node_does x n heads d) (ap (story_seen x.c (story_at x)) (node-heads x n heads d) ∙ plain) (node-station x n heads d) acts
-
   -- ---- the front end
 
   front-hears : (x : Conn) (s : Station) (env : front.FrontEnv) (bytes : List ℕ) → x.part.station ≡ Some s → IsFrontEnv k x.c env → env.iss ≡ s.iss → Was x (Client x.c) Front bytes
@@ -136,43 +122,20 @@ module _ (k : Setting) (small : k.stream ≤ 2 ^ 30) where
   stands-rule x place heads said plain letters = place-rule x (stands x place heads said) plain refl (λ help t at h o heard within.
       idle-acts x (stands x place heads said) (bounds_by h.talk.w.first x t heard) (record { front = within.front; nodes = within.nodes; letters = letters (bounds_by h.talk.w.first x t heard) }))
 
-  node-hears : (x : Conn) (n epoch : ℕ) (env : NodeEnv) (segment bytes : List ℕ) → IsNodeEnv k x.c n epoch env → SpellsMessage x.c epoch (body.Forward segment) bytes → Was x Front (Node n) bytes
-      → Keeps k small x (node_does x n (packet_seen Front (Node n) bytes) (node_forwarded env (x.part.nodes n) (decoded segment x.c ToCluster)))
-  node-hears x n epoch env segment bytes is spells was = node-rule x n (packet_seen Front (Node n) bytes) (node_forwarded env (x.part.nodes n) (decoded segment x.c ToCluster)) refl (λ help t at h o heard within.
-      let m : Letter = record { from = Front; to = Node n; bytes = bytes } in
-      let f : FrontTells h.talk x.c x.part n epoch bytes (body.Forward segment) = (has-fair (IsFair h.talk x.c x.part) m x.letters was o.fair) _ spells in
-      let read : decoded segment x.c ToCluster ≡ Ok f.0 = ap (λ (b : List ℕ). decoded b x.c ToCluster) f.1 ∙ again x.c ToCluster f.0 f.2.sendable in
-      let b : Bounds = bounds_by h.talk.w.first x t heard in
-      let acts : WordActs x.c b segment = (has-each (LetterActs x.c b x.part) m x.letters was within.packets) _ spells in
-      subst (λ (r : Result Said SegFault). PlaceActs x (node_does x n (packet_seen Front (Node n) bytes) (node_forwarded env (x.part.nodes n) r)) b) (sym read)
-      (forwarded-act k small x help.number help.sound help.placed t h.talk h.pend o heard (story_at x).aborted within n epoch env is (packet_seen Front (Node n) bytes) f.0 f.2 (acts f.0 read)))
-
-  -- the record of a job that was read says nothing of it
-  read-first : (x : Conn) (n r : ℕ) (path : List ℕ) (v : Move) (b : Bounds) → PlaceActs x v b → PlaceActs x (reads_first (rec.Read n n x.c r path) v) b
-  read-first x n r path v b p = record { then = p.then; more = p.more; offers = p.offers; ends = p.ends; front = p.front; nodes = p.nodes; letters = p.letters }
-
   nodes : NodeRules k (Keeps k small)
-  nodes = record {
-    offered = λ x n epoch env parts bytes is spells was. node-rule x n (packet_seen Front (Node n) bytes) (node_offered env (x.part.nodes n) parts) refl (λ help t at h o heard within.
-        offered-act k small x help.number help.sound help.placed t h.talk h.pend o heard (story_at x).aborted within n epoch env is (packet_seen Front (Node n) bytes) parts bytes spells was);
-    forwarded = node-hears;
-    tagged = λ x n epoch number tags env bytes is spells was. node-rule x n (packet_seen Front (Node n) bytes) (node_tagged env (x.part.nodes n) number tags) refl (λ help t at h o heard within.
-        tagged-act k small x help.number help.sound help.placed t h.talk h.pend o heard (story_at x).aborted within n epoch env is (packet_seen Front (Node n) bytes) number tags);
-    content = λ x n from epoch r env file bytes is spells was. node-rule x n (packet_seen (Node from) (Node n) bytes) (node_content env (x.part.nodes n) from r) refl (λ help t at h o heard within.
-        content-act k small x help.number help.sound help.placed t h.talk h.pend o heard (story_at x).aborted within n epoch env is (packet_seen (Node from) (Node n) bytes) from r);
-    acknowledged = λ x n epoch env bytes is spells was. node-rule x n (packet_seen Front (Node n) bytes) (node_acknowledged env (x.part.nodes n)) refl (λ help t at h o heard within.
-        acknowledged-act k small x help.number help.sound help.placed t h.talk h.pend o heard (story_at x).aborted within n epoch env is (packet_seen Front (Node n) bytes));
-    read = λ x n epoch r env path is.
-        let d : node.NodeDeed = node_read env (x.part.nodes n) r in
-        let v : Move = node_does x n [] d in
-        place-rule x (reads_first (rec.Read n n x.c r path) v) (ap (story_seen x.c (story_at x)) (node-heads x n [] d)) (node-station x n [] d) (λ help t at h o heard within.
-        read-first x n r path v (bounds_by h.talk.w.first x t heard) (read-act k small x help.number help.sound help.placed t h.talk h.pend o heard (story_at x).aborted within n epoch env is [] r));
-    fires = λ x s n env there is. node-rule x n (event_seen (event.Timer (Node n) x.c)) (node_timer env (x.part.nodes n)) (timer-plain x (Node n)) (λ help t at h o heard within.
-        fires-act k small x help.number help.sound help.placed t h.talk h.pend o heard (story_at x).aborted within n _ env is (event_seen (event.Timer (Node n) x.c)) is.epoch_is help.owes.grows);
-    answers = λ x n from epoch r path file bytes there spells was. stands-rule x (Node n) (packet_seen (Node from) (Node n) bytes) (content_said k n from x.c epoch r path) refl (λ b. (tt, tt));
-    queues = λ x n from epoch r path file bytes there spells was. stands-rule x (Node n) (packet_seen (Node from) (Node n) bytes) (record nothing_said { notes = rec.Queued n from x.c r path ∷ [] }) refl (λ b. tt);
-    brings = λ x n from epoch r path. stands-rule x (Node n) [] (brought_said k n from x.c epoch r path) refl (λ b. (tt, tt));
-  }
+  nodes = each-node k (Keeps k small) (record {
+    does = λ x n epoch env heads g is its comes.
+        let d : node.NodeDeed = node.node_rule env (x.part.nodes n) g in
+        place-rule x (node_goes x n env heads g)
+        (ap (story_seen x.c (story_at x)) (node-heads x n heads d)
+        ∙ of-heads x n (λ (ss : List Seen). story_seen x.c (story_at x) ss ≡ story_at x) (λ from bytes. refl) refl (timer-plain x (Node n)) epoch heads g comes)
+        (node-station x n heads d) (λ help t at h o heard within.
+        rule-act k small x help.number help.sound help.placed t h.talk h.pend o heard (story_at x).aborted within
+        n epoch env is heads g its comes help.owes.grows);
+    aside = λ x n a may. stands-rule x (Node n) (aside_seen n a) (aside_said k n x.c a)
+        (of-aside x n (λ (ss : List Seen). story_seen x.c (story_at x) ss ≡ story_at x) (λ from bytes. refl) refl a)
+        (λ b. aside-letters (LetterActs x.c b x.part) (λ n to bytes. tt) k x n a);
+  })
 
   -- ---- the law
 

@@ -1,20 +1,15 @@
 -- What is told of a client by what its connection sees: a move of another place tells nothing of it but resets.
 use Rattle.std.proofs.Common.{◌≡◌, ℕ, List, [], ◌∷◌, ◌++◌, map, Bool, true, false, cond, ◌||◌, append_assoc, nat_eq, refl, sym, ap, ◌∙◌, subst}
 use Rattle.std.proofs.lemmas.List.Sums.{fold-append}
-use Rattle.lard_base.specs.declared.place.Place.{Place}
-use Rattle.lard_base.specs.declared.place.Place.TheVariants.{Client, Front, Node}
+use Rattle.lard_law_view.specs.Prelude.{Conn, Move, Rec, grown, rows_of, tale_at, untold}
 use Rattle.lard_laws.specs.Acks.{story_at}
-use Rattle.lard_law_view.specs.Carry.{tale_at}
-use Rattle.lard_law_view.specs.View.{Conn, Move, grown, rows_of, sending, timer_rows}
 use Rattle.lard_law_view.proofs.Fine.{IsItsOwn}
 use Rattle.lard_law_view.proofs.Rows.{grown-told}
-use Rattle.lard_law_view.proofs.Saying.{GaveAt, NotedAt}
-use Rattle.lard_law_view.proofs.Timers.{IsTimerAt, timer_rows-are}
-use Rattle.lard_history.specs.Journal.{untold}
-use Rattle.lard_history.proofs.Each.{Each, Each-append, Each-weaker}
-use Rattle.lard_journal.specs.declared.rec.Rec.{Rec}
+use Rattle.lard_history.proofs.Each.{Each}
 use Rattle.lard_journal.specs.declared.rec.Rec.TheVariants as rec
 use Rattle.lard_law_view.proofs.Story.{Story, Tells, reset-in-tale, story_on, story_seen, story_step, unheard}
+use Rattle.lard_law_view.proofs.OfKinds.{of-gifts, of-notes, of-sends, of-timers, rest_of, rest-each, rows-are}
+use Rattle.lard_law_view.proofs.RecordKinds.{IsNote}
 
 -- ---- records that are no events
 
@@ -56,73 +51,33 @@ calm-tells c y (r ∷ rs) h = tells-both y (story_step c y r) (story_on c y (r �
 
 -- ---- the records of a move
 
-noted-calm : (place : Place) (c : ℕ) (r : Rec) → NotedAt place c r → IsCalm r
-noted-calm (Client e) c (rec.Event i f) h = absurd h
-noted-calm (Client e) c (rec.Inner f) h = absurd h
-noted-calm Front c (rec.Event i f) h = absurd h
-noted-calm Front c (rec.Inner f) h = absurd h
-noted-calm (Node n) c (rec.Event i f) h = absurd h
-noted-calm (Node n) c (rec.Inner f) h = absurd h
-noted-calm _ c _ h = tt
-
-gave-calm : (place : Place) (c : ℕ) (r : Rec) → GaveAt place c r → IsCalm r
-gave-calm Front c (rec.Gave p d epoch) h = tt
-gave-calm (Node n) c (rec.Gave p d epoch) h = tt
-gave-calm (Client d) c r h = absurd h
-gave-calm Front c _ h = absurd h
-gave-calm (Node n) c _ h = absurd h
-
-timer-calm : (place : Place) (c : ℕ) (r : Rec) → IsTimerAt place c r → IsCalm r
-timer-calm place c (rec.Armed p d kind) h = tt
-timer-calm place c (rec.Cleared p d kind) h = tt
-timer-calm place c _ h = absurd h
-
-sends-calm : (place : Place) (ss : List (Place × List ℕ)) → Each IsCalm (map (sending place) ss)
-sends-calm place [] = tt
-sends-calm place (s ∷ ss) = (tt, sends-calm place ss)
+noted-calm : (r : Rec) → IsNote r → IsCalm r
+noted-calm (rec.Event i f) h = absurd h
+noted-calm (rec.Inner f) h = absurd h
+noted-calm _ h = tt
 
 -- ---- a move
 
 module _ (x : Conn) (v : Move) (own : IsItsOwn x v) where
-  -- the records behind its notes
-  abbrev rest : List Rec
-  rest = map (sending v.place) v.said.segments ++ v.said.gave ++ map (sending v.place) v.said.messages ++ timer_rows v.place x.c x.part v.part
-
-  rest-calm : Each IsCalm rest
-  rest-calm =
-      let sent : List Rec = map (sending v.place) v.said.segments in
-      let told : List Rec = map (sending v.place) v.said.messages in
-      let timers : List Rec = timer_rows v.place x.c x.part v.part in
-      Each-append IsCalm (sent ++ v.said.gave ++ told) timers
-      (Each-append IsCalm (sent ++ v.said.gave) told
-      (Each-append IsCalm sent v.said.gave (sends-calm v.place v.said.segments) (Each-weaker (GaveAt v.place x.c) IsCalm (gave-calm v.place x.c) v.said.gave own.gave))
-      (sends-calm v.place v.said.messages))
-      (Each-weaker (IsTimerAt v.place x.c) IsCalm (timer-calm v.place x.c) timers (timer_rows-are v.place x.c x.part v.part))
-
-  rows-are : rows_of x v ≡ v.said.notes ++ rest
-  rows-are =
-      let sent : List Rec = map (sending v.place) v.said.segments in
-      let told : List Rec = map (sending v.place) v.said.messages in
-      let timers : List Rec = timer_rows v.place x.c x.part v.part in
-      ap (λ (l : List Rec). l ++ told ++ timers) (append_assoc v.said.notes sent v.said.gave)
-      ∙ ap (λ (l : List Rec). l ++ timers) (append_assoc v.said.notes (sent ++ v.said.gave) told)
-      ∙ append_assoc v.said.notes (sent ++ v.said.gave ++ told) timers
+  rest-calm : Each IsCalm (rest_of x v)
+  rest-calm = rest-each x v IsCalm (of-sends IsCalm (λ k from to bytes. tt) v.place v.said.segments) (of-gifts IsCalm (λ p d epoch. tt) v.place x.c v.said.gave own.gave)
+      (of-sends IsCalm (λ k from to bytes. tt) v.place v.said.messages) (of-timers IsCalm (λ p d kind. (tt, tt)) v.place x.c x.part v.part)
 
   module _ (y : Story) (heads : story_seen x.c (story_at x) v.heads ≡ y) where
     -- what is told behind its notes
     abbrev pub noted_story : Story
     noted_story = story_on x.c y v.said.notes
 
-    grown-story : story_at (grown x v) ≡ story_on x.c noted_story rest
-    grown-story = grown-told (story_step x.c) unheard x v ∙ ap (λ (z : Story). story_on x.c z (rows_of x v)) heads ∙ ap (story_on x.c y) rows-are ∙ fold-append (story_step x.c) y v.said.notes rest
+    grown-story : story_at (grown x v) ≡ story_on x.c noted_story (rest_of x v)
+    grown-story = grown-told (story_step x.c) unheard x v ∙ ap (λ (z : Story). story_on x.c z (rows_of x v)) heads ∙ ap (story_on x.c y) (rows-are x v) ∙ fold-append (story_step x.c) y v.said.notes (rest_of x v)
 
     -- stays told, with all that follows
     pub behind-notes : Tells noted_story (story_at (grown x v))
-    behind-notes = subst (λ (z : Story). Tells noted_story z) (sym grown-story) (calm-tells x.c noted_story rest rest-calm)
+    behind-notes = subst (λ (z : Story). Tells noted_story z) (sym grown-story) (calm-tells x.c noted_story (rest_of x v) rest-calm)
 
     -- and so does what was told before them
     pub move-tells : Tells y (story_at (grown x v))
-    move-tells = tells-both y noted_story (story_at (grown x v)) (calm-tells x.c y v.said.notes (Each-weaker (NotedAt v.place x.c) IsCalm (noted-calm v.place x.c) v.said.notes own.notes)) behind-notes
+    move-tells = tells-both y noted_story (story_at (grown x v)) (calm-tells x.c y v.said.notes (of-notes IsCalm noted-calm v.place x.c v.said.notes own.notes)) behind-notes
 
 -- its tale tells of resets as well
 pub reset-told : (x : Conn) → (story_at x).reset ≡ (tale_at x).was_reset

@@ -1,17 +1,15 @@
 -- A move of the front end or of a node keeps what holds of its connection, where what the place does acknowledges what was taken.
 use Rattle.std.proofs.Common.{◌≡◌, ◌⊎◌, ℕ, ◌≤◌, Bool, true, Option, Some, None, inl, refl, sym, ◌∙◌, subst, arith}
-use Rattle.lard_client.specs.Control.{ClientBlock}
+use Rattle.lard_law_view.specs.Prelude.{ClientBlock, Conn, Move, Station, grown, letters_of}
 use Rattle.lard_laws.specs.Acks.{AcksWhatWasTaken, BackActs, Bounds, FrontActs, LetterActs, OpenActs, StationActs, bounds_of, story_at}
 use Rattle.lard_laws.proofs.AcksGrowing.{Widens, back-more, front-more, letters-on}
 use Rattle.lard_laws.proofs.AcksStory.{move-tells}
 use Rattle.lard_law_connections.proofs.LimitsMoves.{Helps}
 use Rattle.lard_law_connections.specs.Places.{HasEnded, IsDecided, IsOffered, IsOver}
 use Rattle.lard_law_connections.proofs.PlacesGrowing.{grows-still}
-use Rattle.lard_law_view.specs.View.{Conn, Move, grown, letters_of}
 use Rattle.lard_history.proofs.Each.{Each, Each-append}
 use Rattle.lard_law_view.proofs.Acked.{ClientHolds}
 use Rattle.lard_law_view.proofs.Story.{Tells, story_seen}
-use Rattle.lard_rules.specs.declared.places.Station.{Station}
 
 -- what holds of a client goes on holding as more is taken and told
 pub client-more : (n m : ℕ) (a b r s : Bool) (x : ClientBlock) → n ≤ m → (a ≡ true → b ≡ true) → (r ≡ true → s ≡ true) → ClientHolds n a r x → ClientHolds m b s x

@@ -4,7 +4,7 @@ use Rattle.std.proofs.lemmas.Bool.{and_parts}
 use Rattle.std.proofs.lemmas.List.{length-map}
 use Rattle.std.proofs.lemmas.List.Sums.{fold-append}
 use Rattle.std.specs.List.{fold}
-use Rattle.lard_base.specs.declared.place.Place.TheVariants.{Front, Node}
+use Rattle.lard_law_view.specs.Prelude.{Ask, Conn, Did, Front, FrontConn, FrontDeed, FrontEnv, FrontPart, FrontRest, FrontRow, IsFrontEnv, Later, LaterChoice, Move, Node, Rec, Row, Seen, Setting, SpellsMessage, ask_of, asked_by, assigned_notes, assigns, decoded_message, front_asked, front_does, front_saying, grown, is_row_at, is_with, listed, over_note, packet_seen, rows_of, tag_sent}
 use Rattle.lard_laws.specs.AsksAnswers.{EndsWith, later_assigned, dues, tag_for, tags_due}
 use Rattle.lard_laws.specs.Asks.{Answered, Asking, AskTale, LaterAssigned, ask_from, ask_in, ask_tale, asks_step, came_done, end_in, is_again, is_its, is_next, is_this, later_in, node_in, row_done, tag_to}
 use Rattle.lard_laws.proofs.AsksFronts.{tagged-is}
@@ -13,22 +13,12 @@ use Rattle.lard_laws.proofs.AsksPicking.{done-grown, way-told}
 use Rattle.lard_law_connections.specs.MotionStory.{Story, picked, story}
 use Rattle.lard_law_connections.proofs.MotionElsewhere.{IsKnown, RowKnown, StageKnown}
 use Rattle.lard_law_connections.proofs.MotionPicking.{pick, pick-append}
-use Rattle.lard_law_view.specs.View.{Conn, IsFrontEnv, Move, Setting, SpellsMessage, front_does, grown, packet_seen, rows_of, sending}
+use Rattle.lard_law_view.specs.View.{sending}
 use Rattle.lard_law_view.proofs.Fine.{IsItsOwn}
-use Rattle.lard_costs.specs.declared.later.LaterChoice.{LaterChoice}
-use Rattle.lard_dispatch.specs.declared.dispatch.Ask.{Ask}
-use Rattle.lard_dispatch.specs.declared.dispatch.Later.{Later}
-use Rattle.lard_rules.specs.declared.front.FrontRest.{FrontRest}
-use Rattle.lard_rules.specs.Front.{FrontDeed, Did, Drops, Says, Does, FrontEnv, FrontPart, ask_of, asked_by, assigned_notes, assigns, front_asked, is_row_at, is_with, message, over_note, front_saying, tag_sent}
-use Rattle.lard_handoff_front.specs.declared.row.FrontConn.{FrontConn}
+use Rattle.lard_rules.specs.Front.{Drops, Says, Does, message}
 use Rattle.lard_handoff_front.specs.declared.row.FrontConn.TheVariants as stage
-use Rattle.lard_handoff_front.specs.declared.row.FrontRow.{FrontRow}
-use Rattle.lard_history.specs.Own.{Seen, Row}
-use Rattle.lard_journal.specs.declared.rec.Rec.{Rec}
 use Rattle.lard_journal.specs.declared.rec.Rec.TheVariants as rec
 use Rattle.lard_message.specs.declared.message.Body.TheVariants as body
-use Rattle.lard_message.specs.Reading.{decoded_message}
-use Rattle.lard_rules.specs.Speaking.{listed}
 
 -- ---- what is noted of an Ask
 

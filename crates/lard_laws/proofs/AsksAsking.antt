@@ -1,10 +1,6 @@
 -- What nodes ask, in every run.
 use Rattle.std.proofs.Common.{◌≡◌, ℕ, List, [], ◌∷◌, ◌++◌, length, Option, Some, Ok, refl, sym, ◌∙◌, subst, inl, inr, ⊎_elim}
-use Rattle.lard_base.specs.declared.config.Config.{Config}
-use Rattle.lard_base.specs.declared.event.Event.{Event}
-use Rattle.lard_rules.specs.declared.machine.Machine.{Machine}
-use Rattle.lard_rules.specs.Bounds.{HasRule, IsConnNumber}
-use Rattle.lard_rules.specs.Machine.{IsReached, machine_step, machine_start}
+use Rattle.lard_law_view.specs.Prelude.{Config, Conn, Event, HasRule, IsConnNumber, IsLaw, IsReached, Machine, MayRestOn, Move, OfEach, Rec, Rules, Setting, conn, grown, machine_start, machine_step, named_in, net_of, own, seen_on, setting}
 use Rattle.lard_laws.specs.AsksRuns.{AsksGoOnInSteps}
 use Rattle.lard_laws.specs.AsksSent.{AsksGoOn, IsNextAsk, MustAsk, ask_by, last_ask}
 use Rattle.lard_laws.proofs.AsksQueues.{Waits, asks-seen, go-on, last-named}
@@ -15,18 +11,14 @@ use Rattle.lard_law_connections.proofs.MotionPicking.{pick}
 use Rattle.lard_law_connections.proofs.PlacesRuns.{each-placed}
 use Rattle.lard_law_connections.proofs.PlacesTurns.{IsPlaced}
 use Rattle.lard_counts.specs.Stores.{jobs}
-use Rattle.lard_law_view.specs.Carry.{IsLaw, MayRestOn, OfEach, setting}
-use Rattle.lard_law_view.specs.View.{Conn, Move, Rules, Setting, conn, grown}
 use Rattle.lard_law_view.proofs.After.{IsAfter, step-after}
 use Rattle.lard_law_view.proofs.Carried.{IsOn, carried, carried-keep, goes-on}
 use Rattle.lard_law_view.proofs.Fine.{IsFine, fine}
 use Rattle.lard_law_view.proofs.Guarded.{both, weaker}
 use Rattle.lard_law_view.proofs.InSteps.{seen-step}
 use Rattle.lard_law_view.proofs.Runs.{passes-more}
-use Rattle.lard_history.specs.Own.{named_in, net_of, own, seen_on}
 use Rattle.lard_history.proofs.Each.{Each, Each-weaker}
 use Rattle.lard_history.proofs.Stepping.{AreLawful, one-more}
-use Rattle.lard_journal.specs.declared.rec.Rec.{Rec}
 use Rattle.lard_message.proofs.Fields.{some_same}
 
 module _ (k : Setting) where

@@ -3,19 +3,13 @@ use Rattle.std.proofs.Common.{◌≡◌, ℕ, Bool, true, false, cond, not, List
 use Rattle.std.specs.Prelude.{◌⊎◌}
 use Rattle.std.specs.List.{list_all}
 use Rattle.std.proofs.lemmas.Bool.{and_parts, cond_both}
-use Rattle.lard_base.specs.declared.event.Event.{Event}
+use Rattle.lard_law_view.specs.Prelude.{AreOwn, Came, Event, Machine, Packet, Rec, Row, Seen, came_seen, conn_of, is_own, letter_of, net_step, one_of, packet_at, plain, request, seen_of, seen_on, whose}
 use Rattle.lard_base.specs.declared.event.Event.TheVariants as event
-use Rattle.lard_rules.specs.declared.machine.Machine.{Machine}
 use Rattle.lard_laws.specs.Asks.{ask_in}
 use Rattle.lard_law_connections.specs.MotionStory.{picked}
 use Rattle.lard_law_view.proofs.After.{IsAfter}
-use Rattle.lard_history.specs.Journal.{request}
-use Rattle.lard_history.specs.Laws.{AreOwn, is_own}
-use Rattle.lard_history.specs.Own.{Came, Row, Seen, came_seen, conn_of, letter_of, net_step, one_of, plain, seen_of, seen_on, whose}
 use Rattle.lard_history.proofs.Each.{Each, Each-append}
-use Rattle.lard_journal.specs.declared.rec.Rec.{Rec}
 use Rattle.lard_journal.specs.declared.rec.Rec.TheVariants as rec
-use Rattle.lard_net.specs.Net.{Packet, packet_at}
 
 -- ---- records, and what is seen of them
 

@@ -1,12 +1,8 @@
 -- The batch before is over where later requests are assigned and shares were open, and nowhere else.
 use Rattle.std.proofs.Common.{◌≡◌, ◌≤◌, ℕ, ◌+◌, ◌==◌, nat_lt, nat_eq, Bool, true, false, cond, if◌then◌else◌, List, [], ◌∷◌, ◌++◌, length, Option, Some, None, Result, Ok, Err, refl, sym, ap, ◌∙◌, subst, arith, append-nil, append_assoc, eqb-true, ⊎_elim}
 use Rattle.std.proofs.lemmas.Bool.{and_parts}
-use Rattle.lard_base.specs.declared.event.Event.{Event}
+use Rattle.lard_law_view.specs.Prelude.{Ask, Body, Came, Client, Did, Event, Front, FrontRest, LaterChoice, Machine, Message, MsgFault, Node, Packet, Place, Rec, Row, Seen, ask_of, assigned_notes, came_seen, conn, conn_of, decoded_message, front_did, front_gave, front_part, is_row_at, letter_of, listed, machine_step, net_of, net_step, one_of, open_shares, over_note, own, packet_at, part_of, plain, seen_of, seen_on, timer_rows, whose}
 use Rattle.lard_base.specs.declared.event.Event.TheVariants as event
-use Rattle.lard_base.specs.declared.place.Place.{Place}
-use Rattle.lard_base.specs.declared.place.Place.TheVariants.{Client, Front, Node}
-use Rattle.lard_rules.specs.declared.machine.Machine.{Machine}
-use Rattle.lard_rules.specs.Machine.{front_gave, machine_step}
 use Rattle.lard_laws.specs.AsksAnswers.{EndsWith, IsAnswered, later_assigned, dues, ends_due}
 use Rattle.lard_laws.specs.Asks.{Asking, AskTale, LaterAssigned, ask_from, ask_in, ask_on, ask_tale, end_in, is_its, is_next, later_in}
 use Rattle.lard_laws.proofs.AsksAsked.{its-is, with-told}
@@ -17,32 +13,17 @@ use Rattle.lard_laws.proofs.AsksPicking.{way-told}
 use Rattle.lard_law_connections.specs.MotionStory.{Story, of_row, picked, story}
 use Rattle.lard_law_connections.proofs.MotionElsewhere.{IsKnown}
 use Rattle.lard_law_connections.proofs.MotionPicking.{pick, pick-append, pick-none}
-use Rattle.lard_law_connections.proofs.PolicyAsides.{IsAside}
-use Rattle.lard_law_connections.proofs.PolicyCalm.{first-aside, first_rows, last-aside, last_rows, timers-aside, told-journal}
+use Rattle.lard_law_connections.proofs.PolicyAsides.{IsAside, allows-aside}
+use Rattle.lard_law_connections.proofs.Calm.{changed-calm, first-calm, first_rows, last-calm, last_rows, told-journal}
 use Rattle.lard_law_connections.proofs.PolicyMessages.{IsTold as IsDecoded, message-told}
-use Rattle.lard_law_view.specs.View.{conn, part_of, timer_rows}
 use Rattle.lard_law_view.proofs.After.{IsAfter}
 use Rattle.lard_law_view.proofs.Naming.{Names, decoded-names}
-use Rattle.lard_costs.specs.declared.later.LaterChoice.{LaterChoice}
-use Rattle.lard_dispatch.specs.declared.dispatch.Ask.{Ask}
-use Rattle.lard_rules.specs.declared.front.FrontRest.{FrontRest}
-use Rattle.lard_rules.specs.Front.{Did, ask_of, assigned_notes, is_row_at, over_note}
-use Rattle.lard_rules.specs.FrontPlace.{front_did, front_part}
-use Rattle.lard_history.specs.Own.{Came, Row, Seen, came_seen, conn_of, letter_of, net_of, net_step, one_of, own, plain, seen_of, seen_on, whose}
 use Rattle.lard_history.proofs.Each.{Each, Each-weaker}
 use Rattle.lard_history.proofs.Seeing.{same_number}
 use Rattle.lard_history.proofs.Stepping.{cancel}
-use Rattle.lard_journal.specs.declared.rec.Rec.{Rec}
 use Rattle.lard_journal.specs.declared.rec.Rec.TheVariants as rec
-use Rattle.lard_loads.specs.Tally.{open_shares}
-use Rattle.lard_message.specs.declared.fault.MsgFault.{MsgFault}
-use Rattle.lard_message.specs.declared.message.Body.{Body}
 use Rattle.lard_message.specs.declared.message.Body.TheVariants as body
-use Rattle.lard_message.specs.declared.message.Message.{Message}
-use Rattle.lard_message.specs.Reading.{decoded_message}
 use Rattle.lard_message.proofs.Fields.{some_same}
-use Rattle.lard_net.specs.Net.{Packet, packet_at}
-use Rattle.lard_rules.specs.Speaking.{listed}
 
 -- ---- ends of connection q, in a list of records
 
@@ -141,11 +122,12 @@ module _ (m n : Machine) (e : Event) (after : IsAfter m e n) (is : machine_step 
         let n_is : n ≡ front_gave m (event.Deliver k) (rec.Got k ∷ []) given = asked-is m n k p at i is-from is-to stepped q epoch number queue size paths spells r there found one in
         let rows : List Rec = first_rows w (event.Deliver k) ++ given.1.notes ++ last_rows w Front given.1 in
         let step_is : after.step ≡ rows = cancel m.journal after.step rows (sym after.is ∙ ap (λ (x : Machine). x.journal) n_is ∙ told-journal w (event.Deliver k) Front given.1) in
-        let timers : Each IsAside given.1.timers = timers-aside Front q (record (part_of m q) { front = front_part m.front q }) (record (part_of m q) { front = done.part }) given.1.timers refl in
+        let timers : Each IsAside given.1.timers = changed-calm IsAside allows-aside Front q (record (part_of m q) { front = front_part m.front q }) (record (part_of m q) { front = done.part }) given.1.timers refl in
         let ends : picked (of_row end_in) seen ≡ cond opens (q ∷ []) [] =
         ap (λ (rs : List Rec). picked (of_row end_in) (seen_on q (net_of m.journal) rs)) step_is
         ∙ ends-are q (net_of m.journal) rows
-        ∙ between-ends q (first_rows w (event.Deliver k)) given.1.notes (last_rows w Front given.1) (first-aside w (event.Deliver k)) (last-aside w Front given.1 tt timers)
+        ∙ between-ends q (first_rows w (event.Deliver k)) given.1.notes (last_rows w Front given.1) (first-calm IsAside allows-aside w (event.Deliver k))
+        (last-calm IsAside allows-aside w Front given.1 tt timers)
         ∙ notes-ends q (ask_of q i number queue size paths) opens r.assigned paths _ in
         let laters : picked (of_row later_in) seen ≡ assigned-of paths = answered.assigns ∙ ap (dues t) comes ∙ ap (λ b. cond b (assigned-of paths) [] ++ []) next ∙ append-nil (assigned-of paths) in
         ends ∙ some-ends paths some ∙ ap (ends_due q opens) (sym laters) where

@@ -1,40 +1,20 @@
 -- An Ask that the event delivers is assigned by the dispatcher, and each of its paths gets a node. No rule of one connection tells
 -- this, since the view hides what the dispatcher answers.
-use Rattle.std.proofs.Common.{◌≡◌, ℕ, suc, ◌+◌, ◌==◌, ◌&&◌, Bool, true, false, cond, nat_lt, List, [], ◌∷◌, ◌++◌, length, map, Option, Some, None, Result, Ok, Err, refl, sym, ap, ◌∙◌, subst, eq-eqb, ⊎_elim}
+use Rattle.std.proofs.Common.{◌≡◌, ℕ, suc, ◌+◌, ◌==◌, ◌&&◌, true, cond, nat_lt, List, [], ◌∷◌, ◌++◌, length, map, Some, Result, Ok, refl, sym, ap, ◌∙◌, subst, eq-eqb, ⊎_elim}
 use Rattle.std.proofs.lemmas.List.{length-map}
-use Rattle.lard_base.specs.declared.config.Config.{Config}
-use Rattle.lard_base.specs.declared.event.Event.{Event}
+use Rattle.lard_law_view.specs.Prelude.{Ask, Books, Came, Config, Did, Event, Front, FrontDeed, FrontEnv, FrontPart, FrontRest, Later, Letter, Machine, Message, Millis, MsgFault, Node, Packet, Seen, all_choices, ask_of, asked_by, assigns, batch_over, conn, decoded_message, from_place, front_asked, front_deed, front_did, front_env, front_gave, front_part, front_saying, front_setting, is_row_at, letter_of, machine_step, machine_told, message_comes, net_of, own, packet_at, part_of, seen_on, shared_with, tag_sent, to_place}
 use Rattle.lard_base.specs.declared.event.Event.TheVariants as event
-use Rattle.lard_base.specs.declared.ids.Millis.{Millis}
-use Rattle.lard_base.specs.declared.place.Place.TheVariants.{Front, Node}
-use Rattle.lard_rules.specs.declared.fault.StepFault.{StepFault}
-use Rattle.lard_rules.specs.declared.fault.Refusal.TheVariants.{WasLost}
-use Rattle.lard_rules.specs.declared.fault.StepFault.TheVariants.{Refused}
-use Rattle.lard_rules.specs.declared.machine.Machine.{Machine}
-use Rattle.lard_rules.specs.Machine.{delivered, from_place, front_gave, front_setting, happens, limit_reached, machine_step, to_place, machine_told, unless_limit}
 use Rattle.lard_laws.proofs.AsksComing.{Delivers, IsRow, step-comes}
 use Rattle.lard_laws.proofs.AsksMoving.{Fills}
-use Rattle.lard_law_view.specs.View.{conn, part_of}
+use Rattle.lard_law_connections.proofs.Happened.{deliver-is}
 use Rattle.lard_law_view.proofs.After.{IsAfter}
-use Rattle.lard_dispatch.specs.declared.dispatch.Ask.{Ask}
-use Rattle.lard_dispatch.specs.declared.dispatch.Later.{Later}
-use Rattle.lard_dispatch.specs.Books.{Books}
-use Rattle.lard_dispatch.specs.Calls.{all_choices, batch_over, shared_with}
-use Rattle.lard_rules.specs.declared.front.FrontRest.{FrontRest}
-use Rattle.lard_rules.specs.Front.{FrontDeed, Did, Drops, Says, Does, FrontEnv, FrontPart, ask_of, asked_by, assigns, front_asked, is_row_at, front_saying, tag_sent}
-use Rattle.lard_rules.specs.FrontPlace.{front_deed, front_did, front_env, front_part, message_comes}
+use Rattle.lard_rules.specs.Front.{Drops, Says, Does}
 use Rattle.lard_rules.proofs.FrontParts.{part_put}
-use Rattle.lard_history.specs.Own.{Came, Letter, Seen, letter_of, net_of, own, seen_on}
 use Rattle.lard_history.proofs.Each.{Each}
 use Rattle.lard_history.proofs.Seeing.{own-append}
 use Rattle.lard_history.proofs.Stepping.{cancel}
 use Rattle.lard_journal.specs.declared.rec.Rec.TheVariants as rec
-use Rattle.lard_rules.specs.declared.fault.What.{What}
-use Rattle.lard_message.specs.declared.fault.MsgFault.{MsgFault}
 use Rattle.lard_message.specs.declared.message.Body.TheVariants as body
-use Rattle.lard_message.specs.declared.message.Message.{Message}
-use Rattle.lard_message.specs.Reading.{decoded_message}
-use Rattle.lard_net.specs.Net.{Packet, packet_at}
 
 -- ---- each path gets a node
 
@@ -45,24 +25,9 @@ choices-fill cfg ask now (path ∷ paths) b = ap suc (choices-fill cfg ask now p
 -- ---- the step in which a packet of a node comes to the front end
 
 module _ (m n : Machine) where
-  pub done : (given : Machine) → ◌≡◌ {A = Result Machine StepFault} (Ok given) (Ok n) → given ≡ n
-  done given e = cc
-
-  pub unlimited : (o : Option What) (given : Result Machine StepFault) → unless_limit o given ≡ Ok n → given ≡ Ok n
-  unlimited None given e = e
-  unlimited (Some what) given e = cc
-
-  unlost : (k : ℕ) (p : Packet) (b : Bool) → cond {A = Result Machine StepFault} b (Err (Refused (WasLost k))) (Ok (to_place m k p p.to)) ≡ Ok n → to_place m k p p.to ≡ n
-  unlost k p true e = cc
-  unlost k p false e = done (to_place m k p p.to) e
-
-  pub arrived : (k : ℕ) (p : Packet) → packet_at m.net k ≡ Some p → machine_step m (event.Deliver k) ≡ Ok n → to_place m k p p.to ≡ n
-  unfolding machine_step delivered
-  arrived k p at is = unlost k p p.lost (ap (delivered m k) (sym at) ∙ unlimited (limit_reached m) (happens m (event.Deliver k)) is)
-
   module _ (k : ℕ) (p : Packet) (at : packet_at m.net k ≡ Some p) (i : ℕ) (is-from : p.from ≡ Node i) (is-to : p.to ≡ Front) (is : machine_step m (event.Deliver k) ≡ Ok n) where
     pub message-is : n ≡ front_gave m (event.Deliver k) (rec.Got k ∷ []) (message_comes (front_setting m) m.front i (decoded_message p.bytes))
-    message-is = sym (arrived k p at is) ∙ ap (to_place m k p) is-to ∙ ap (from_place m k p.bytes) is-from
+    message-is = deliver-is m n k p at is ∙ ap (to_place m k p) is-to ∙ ap (from_place m k p.bytes) is-from
 
     module _ (c epoch number queue size : ℕ) (paths : List (List ℕ)) (spells : decoded_message p.bytes ≡ Ok (record { c = c; epoch = record { 0 = epoch }; body = body.Ask number queue size paths })) where
       abbrev its : Ask

@@ -2,8 +2,7 @@
 use Rattle.std.proofs.Common.{◌≡◌, ◌+◌, ℕ, false, cond, List, [], ◌∷◌, ◌++◌, map, Option, Some, None, refl, sym, ap, ◌∙◌, subst}
 use Rattle.std.proofs.lemmas.List.Sums.{fold-append}
 use Rattle.std.specs.List.{fold}
-use Rattle.lard_base.specs.declared.place.Place.{Place}
-use Rattle.lard_base.specs.declared.place.Place.TheVariants.{Client, Front, Node}
+use Rattle.lard_law_view.specs.Prelude.{Body, Call, Client, Conn, ControlBlock, Ending, Final, First, FirstChoice, Front, FrontConn, FrontDeed, FrontEnv, FrontPart, FrontRest, FrontRow, FrontTurn, IsFrontEnv, Kept, Kind, Move, Node, Place, Rec, Said as Segment, Seen, Service, Setting, Turn, ack_sent, after_timer, by_front, epoch_at, front_admitted, front_does, front_ended, front_ends, front_fired, front_hears, front_reads, front_rest, front_rests, front_saying, front_taken, front_timer, handed_off, kind_of, last_words, leaves_by, listed, next_epoch, sent_of, serving, serving_settled, spoken, stage_after, timed, tombstone, turn_here, with_front}
 use Rattle.lard_laws.specs.Asks.{Answered, AskTale, ask_in, ask_tale, is_tag, row_done, tag_to}
 use Rattle.lard_laws.proofs.AsksMoving.{Answers, IsCalm, RowTold, StageTold, Told, calm-answers}
 use Rattle.lard_law_connections.specs.MotionStory.{picked}
@@ -13,42 +12,16 @@ use Rattle.lard_law_connections.proofs.MotionNodes.{IsFirst}
 use Rattle.lard_law_connections.proofs.MotionPicking.{pick, segments-none}
 use Rattle.lard_law_connections.proofs.PlacesHeads.{head, spelled-some}
 use Rattle.lard_law_connections.proofs.PlacesLoops.{settled-is, spoken-to}
-use Rattle.lard_law_view.specs.View.{Conn, IsFrontEnv, Move, Setting, by_front, front_does, sending, with_front}
+use Rattle.lard_law_view.specs.View.{sending}
 use Rattle.lard_law_view.proofs.Fine.{IsItsOwn}
-use Rattle.lard_dispatch.specs.declared.dispatch.First.{First}
-use Rattle.lard_dispatch.specs.Laws.{Call}
 use Rattle.lard_dispatch.specs.Laws as call
-use Rattle.lard_endpoint.specs.declared.control.moving.Final.{Final}
-use Rattle.lard_endpoint.specs.Control.{ControlBlock}
-use Rattle.lard_endpoint.specs.Leaving.{after_timer, timed}
-use Rattle.lard_rules.specs.declared.front.FrontRest.{FrontRest}
-use Rattle.lard_rules.specs.declared.front.FrontTurn.{FrontTurn}
-use Rattle.lard_rules.specs.Front.{FrontDeed, Drops, Says, Does, FrontEnv, FrontPart, ack_sent, front_ends, front_fired, front_admitted, front_ended, front_hears, front_taken, front_timer, handed_off, leaves_by, message, front_rest, front_rests, front_saying, stage_after, turn_here}
-use Rattle.lard_rules.specs.FrontReading.{front_reads}
-use Rattle.lard_handoff_front.specs.declared.row.FrontConn.{FrontConn}
+use Rattle.lard_rules.specs.Front.{Drops, Says, Does, message}
 use Rattle.lard_handoff_front.specs.declared.row.FrontConn.TheVariants as stage
-use Rattle.lard_handoff_front.specs.declared.row.FrontRow.{FrontRow}
-use Rattle.lard_handoff_front.specs.Front.{next_epoch}
-use Rattle.lard_history.specs.Own.{Seen}
 use Rattle.lard_history.proofs.Each.{Each, Each-append, Each-weaker}
-use Rattle.lard_journal.specs.declared.rec.Rec.{Rec}
 use Rattle.lard_journal.specs.declared.rec.Rec.TheVariants as rec
-use Rattle.lard_message.specs.declared.kind.Kind.{Kind}
 use Rattle.lard_message.specs.declared.kind.Kind.TheVariants as kind
-use Rattle.lard_message.specs.declared.message.Body.{Body}
 use Rattle.lard_message.specs.declared.message.Body.TheVariants as body
-use Rattle.lard_message.specs.Message.{kind_of}
-use Rattle.lard_message.specs.Reading.{epoch_at}
-use Rattle.lard_policy.specs.declared.first.FirstChoice.{FirstChoice}
-use Rattle.lard_resend.specs.declared.kept.Kept.{Kept}
-use Rattle.lard_resend.specs.Pending.{sent_of}
-use Rattle.lard_rules.specs.declared.places.Ending.{Ending}
 use Rattle.lard_rules.specs.declared.places.Ending.TheVariants as ending
-use Rattle.lard_rules.specs.declared.places.Turn.{Turn}
-use Rattle.lard_rules.specs.Tombstone.{last_words, tombstone}
-use Rattle.lard_rules.specs.Speaking.{listed}
-use Rattle.lard_rules.specs.Serving.{Service, serving, serving_settled, spoken}
-use Rattle.lard_segment.specs.Segment.{Said as Segment}
 use Rattle.lard_law_view.proofs.EndpointSends.{AllTo, ready-to}
 use Rattle.lard_rules.proofs.FrontCases.{KeptBySegment, of-stage, begun_row, begun_service, fired_before, fired_service, heard_reading, heard_service, hands_off, rests_in, waiting_service, segment-keeps, timer-keeps, taken-keeps, ended-keeps, admitted-keeps}
 

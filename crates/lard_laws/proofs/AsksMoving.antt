@@ -1,23 +1,17 @@
 -- What is known at the front end of the last Ask, and what a move must be, by lists.
 use Rattle.std.proofs.Common.{◌≡◌, ℕ, ◌+◌, true, List, [], ◌∷◌, ◌++◌, length, map, Option, Some, None, refl, sym, ap, ◌∙◌, subst}
 use Rattle.std.specs.List.{fold}
-use Rattle.lard_base.specs.declared.place.Place.TheVariants.{Front, Node}
+use Rattle.lard_law_view.specs.Prelude.{Came, Conn, Front, FrontConn, FrontRest, FrontRow, Move, Node, Rec, Seen, SpellsMessage, grown, is_row_at, seen_in}
 use Rattle.lard_laws.specs.AsksAnswers.{EndsWith, IsAnswered, dues, tags_due}
 use Rattle.lard_laws.specs.Asks.{Answered, Asking, AskTale, LaterAssigned, ask_in, ask_tale, end_in, later_in, node_in, row_done, tag_to}
 use Rattle.lard_laws.proofs.AsksPicking.{done-grown, end-noted, first-done, later-noted, node-noted, seen-asks, seen-noted, seen-tags}
 use Rattle.lard_law_connections.specs.MotionStory.{of_row, picked}
 use Rattle.lard_law_connections.proofs.MotionNodes.{IsFirst}
 use Rattle.lard_law_connections.proofs.MotionPicking.{pick, pick-none}
-use Rattle.lard_law_view.specs.View.{Conn, Move, SpellsMessage, grown, seen_in, sending}
+use Rattle.lard_law_view.specs.View.{sending}
 use Rattle.lard_law_view.proofs.Fine.{IsItsOwn}
-use Rattle.lard_rules.specs.declared.front.FrontRest.{FrontRest}
-use Rattle.lard_rules.specs.Front.{is_row_at}
-use Rattle.lard_handoff_front.specs.declared.row.FrontConn.{FrontConn}
 use Rattle.lard_handoff_front.specs.declared.row.FrontConn.TheVariants as stage
-use Rattle.lard_handoff_front.specs.declared.row.FrontRow.{FrontRow}
-use Rattle.lard_history.specs.Own.{Came, Seen}
 use Rattle.lard_history.proofs.Each.{Each, Each-weaker}
-use Rattle.lard_journal.specs.declared.rec.Rec.{Rec}
 use Rattle.lard_journal.specs.declared.rec.Rec.TheVariants as rec
 use Rattle.lard_message.specs.declared.message.Body.TheVariants as body
 

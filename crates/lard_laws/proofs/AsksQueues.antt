@@ -1,41 +1,22 @@
 -- Each Ask that is sent in a step is the last one again, or says how many jobs the journal counts then.
-use Rattle.std.proofs.Common.{◌≡◌, ◌⊎◌, ℕ, suc, ◌+◌, ◌&&◌, nat_eq, Bool, true, false, cond, List, [], ◌∷◌, ◌++◌, drop, length, Option, Some, None, Result, Ok, Err, refl, sym, ap, ◌∙◌, subst, inl, inr, ⊎_elim, eqb-true}
-use Rattle.std.specs.FinMap as table
+use Rattle.std.proofs.Common.{◌≡◌, ◌⊎◌, ℕ, suc, ◌+◌, ◌&&◌, nat_eq, Bool, true, false, cond, List, [], ◌∷◌, ◌++◌, drop, length, Option, Some, None, Ok, refl, sym, ap, ◌∙◌, subst, inl, inr, ⊎_elim, eqb-true}
 use Rattle.std.specs.List.{fold}
-use Rattle.lard_base.specs.declared.event.Event.{Event}
-use Rattle.lard_base.specs.declared.event.Event.TheVariants as event
-use Rattle.lard_base.specs.declared.place.Place.{Place}
-use Rattle.lard_base.specs.declared.place.Place.TheVariants.{Client, Front, Node}
-use Rattle.lard_rules.specs.declared.fault.StepFault.{StepFault}
-use Rattle.lard_rules.specs.declared.fault.Refusal.TheVariants.{NoJob, NoNode}
-use Rattle.lard_rules.specs.declared.fault.StepFault.TheVariants.{Refused}
-use Rattle.lard_rules.specs.declared.machine.Machine.{Machine}
-use Rattle.lard_rules.specs.Machine.{completes, disk_at, happens, is_no_job, is_no_node, limit_reached, machine_step, node_acts, node_at, node_gave, node_setting, passed, timer, to_place}
+use Rattle.lard_law_view.specs.Prelude.{BackIn, Came, Client, Event, Front, IsViewed, Machine, Node, NodeState, Out, Packet, Place, Rec, Row, Seen, came_seen, conn, conn_of, header_bytes, letter_of, listed, machine_step, named_in, net_step, node_at, node_gave, node_setting, node_step, one_of, own, packet_at, passed, plain, seen_of, seen_on, spelled_message, whose}
 use Rattle.lard_laws.specs.AsksSent.{AsksGoOn, IsNextAsk, ask_by, is_ask, last_ask}
-use Rattle.lard_laws.proofs.AsksFilling.{arrived, unlimited}
+use Rattle.lard_law_connections.proofs.Forms.{Comes, NodeActs, NodeStep, NodesStay, Passes, comes-at, node-form}
 use Rattle.lard_laws.proofs.AsksSends.{IsSomeNext, PartsAsk}
 use Rattle.lard_laws.proofs.AsksSteps.{Told, disk-told, message-told, timer-told}
 use Rattle.lard_law_connections.specs.MotionStory.{of_row, picked}
 use Rattle.lard_law_connections.proofs.MotionPicking.{pick, picked-append}
 use Rattle.lard_law_connections.specs.Places.{message_head}
 use Rattle.lard_law_connections.proofs.PlacesTurns.{IsPlaced}
-use Rattle.lard_law_view.specs.View.{IsViewed, conn}
 use Rattle.lard_law_view.proofs.Heads.{ActsAt}
-use Rattle.lard_history.specs.Own.{Came, Row, Seen, came_seen, conn_of, letter_of, named_in, net_step, one_of, own, plain, seen_of, seen_on, whose}
 use Rattle.lard_history.proofs.Each.{Each}
-use Rattle.lard_journal.specs.declared.rec.Rec.{Rec}
 use Rattle.lard_journal.specs.declared.rec.Rec.TheVariants as rec
 use Rattle.lard_message.specs.declared.message.Body.TheVariants as body
-use Rattle.lard_message.specs.Message.{header_bytes, spelled_message}
 use Rattle.std.specs.Int.{w32, to_be_bytes}
-use Rattle.lard_net.specs.Net.{Packet, packet_at}
 use Rattle.lard_rules.specs.declared.node.BackIn.TheVariants as back
-use Rattle.lard_rules.specs.declared.node.NodeState.{NodeState}
 use Rattle.lard_rules.specs.Node.{message}
-use Rattle.lard_rules.specs.NodePlace.{node_step}
-use Rattle.lard_rules.specs.declared.places.Out.{Out}
-use Rattle.lard_rules.specs.declared.places.Station.{Station}
-use Rattle.lard_rules.specs.Speaking.{listed}
 use Rattle.lard_law_view.proofs.OwnRecords.{behind}
 
 -- ---- where a node acts
@@ -45,61 +26,21 @@ abbrev pub Moved : Machine → Event → Machine → ℕ → Type 0
 Moved m e n i = ((s : NodeState) × (x : NodeState × Out) × (node_at m.nodes i ≡ Some s) × Told m.journal i x × (n ≡ node_gave m e (behind e) i x)) ⊎ (n ≡ passed m e (behind e))
 
 module _ (m n : Machine) (view : IsViewed m) (placed : (c : ℕ) → IsPlaced (conn m c)) (known : (c : ℕ) → PartsAsk (conn m c)) (i : ℕ) where
-  place-same : (p q : Place) → Some p ≡ Some q → p ≡ q
-  place-same p q e = cc
-
-  delivered-moved : (k : ℕ) (l : Packet) → packet_at m.net k ≡ Some l → l.to ≡ Node i → machine_step m (event.Deliver k) ≡ Ok n → Moved m (event.Deliver k) n i
-  delivered-moved k l at is-to is = go (node_at m.nodes i) refl (sym (arrived m n k l at is) ∙ ap (to_place m k l) is-to) where
-    go : (o : Option NodeState) → node_at m.nodes i ≡ o → n ≡ node_acts m (event.Deliver k) (rec.Got k ∷ []) i (back.Message l.from l.bytes) o → Moved m (event.Deliver k) n i
-    go None there e = inr e
-    go (Some s) there e = inl (s, node_step (node_setting m i) s (back.Message l.from l.bytes), there, message-told m view placed known i s there k l at is-to, e)
-
-  given-is : (b : Bool) (fault : StepFault) (given : Machine) → cond {A = Result Machine StepFault} b (Err fault) (Ok given) ≡ Ok n → n ≡ given
-  given-is true fault given e = cc
-  given-is false fault given e = cc
-
-  timer-moved : (c : ℕ) → machine_step m (event.Timer (Node i) c) ≡ Ok n → Moved m (event.Timer (Node i) c) n i
-  unfolding machine_step timer
-  timer-moved c is = opened (table.get m.clients c) refl (unlimited m n (limit_reached m) (happens m (event.Timer (Node i) c)) is) where
-    at-node : (y : Station) → table.get m.clients c ≡ Some y → (o : Option NodeState) → node_at m.nodes i ≡ o → n ≡ node_acts m (event.Timer (Node i) c) [] i (back.Timer c) o → Moved m (event.Timer (Node i) c) n i
-    at-node y open_ None there e = inr e
-    at-node y open_ (Some s) there e = inl (s, node_step (node_setting m i) s (back.Timer c), there, timer-told m view placed known i s there c y open_, e)
-
-    opened : (o : Option Station) → table.get m.clients c ≡ o → timer m (Node i) c o ≡ Ok n → Moved m (event.Timer (Node i) c) n i
-    opened None open_ e = cc
-    opened (Some y) open_ e = at-node y open_ (node_at m.nodes i) refl (given-is (is_no_node m.config.nodes i) (Refused (NoNode i m.config.nodes)) (node_acts m (event.Timer (Node i) c) [] i (back.Timer c) (node_at m.nodes i)) e)
-
-  disk-moved : (j : ℕ) → machine_step m (event.Disk i j) ≡ Ok n → Moved m (event.Disk i j) n i
-  unfolding machine_step completes
-  disk-moved j is = there-is (is_no_node m.config.nodes i) (unlimited m n (limit_reached m) (happens m (event.Disk i j)) is) where
-    at-node : (o : Option NodeState) → node_at m.nodes i ≡ o → disk_at m i j o ≡ Ok n → Moved m (event.Disk i j) n i
-    at-node None there e = cc
-    at-node (Some s) there e =
-        let x : NodeState × Out = node_step (node_setting m i) s (back.Disk j) in
-        inl (s, x, there, disk-told m view placed known i s there j, given-is (is_no_job s j) (Refused (NoJob i j (length s.disk))) (node_gave m (event.Disk i j) [] i x) e)
-
-    there-is : (b : Bool) → cond {A = Result Machine StepFault} b (Err (Refused (NoNode i m.config.nodes))) (disk_at m i j (node_at m.nodes i)) ≡ Ok n → Moved m (event.Disk i j) n i
-    there-is true e = cc
-    there-is false e = at-node (node_at m.nodes i) refl e
+  tells : (e : Event) (k : ℕ) (s : NodeState) → node_at m.nodes k ≡ Some s → (x : BackIn) → Comes m e k s x → Told m.journal k (node_step (node_setting m k) s x)
+  tells e k s there (back.Message from bytes) c =
+      subst (λ (p : Place). Told m.journal k (node_step (node_setting m k) s (back.Message p bytes))) c.4
+      (subst (λ (bs : List ℕ). Told m.journal k (node_step (node_setting m k) s (back.Message c.1.from bs))) c.6 (message-told m view placed known k s there c.0 c.1 c.3 c.5))
+  tells e k s there (back.Timer d) c = timer-told m view placed known k s there d c.1 c.2
+  tells e k s there (back.Disk j) c = disk-told m view placed known k s there j
 
   pub acts-moved : (e : Event) → ActsAt m.net e (Node i) → machine_step m e ≡ Ok n → Moved m e n i
-  acts-moved (event.Deliver k) acts is = delivered-moved k acts.0 acts.1 acts.3 is
-  acts-moved (event.Timer p c) acts is =
-      let at : p ≡ Node i = place-same p (Node i) (acts []) in
-      subst (λ (q : Place). Moved m (event.Timer q c) n i) (sym at) (timer-moved c (ap (λ (q : Place). machine_step m (event.Timer q c)) (sym at) ∙ is))
-  acts-moved (event.Disk k j) acts is =
-      let same : Node k ≡ Node i = place-same (Node k) (Node i) (acts []) in
-      let at : k ≡ i = cc in
-      subst (λ (q : ℕ). Moved m (event.Disk q j) n i) (sym at) (disk-moved j (ap (λ (q : ℕ). machine_step m (event.Disk q j)) (sym at) ∙ is))
-  acts-moved (event.Open c isn iss wnd mss) acts is = let no : Some (Client c) ≡ Some (Node i) = acts [] in absurd cc
-  acts-moved (event.Get c path) acts is = let no : Some (Client c) ≡ Some (Node i) = acts [] in absurd cc
-  acts-moved (event.Write c bytes) acts is = let no : Some (Client c) ≡ Some (Node i) = acts [] in absurd cc
-  acts-moved (event.Shut c) acts is = let no : Some (Client c) ≡ Some (Node i) = acts [] in absurd cc
-  acts-moved (event.Abort c) acts is = let no : Some (Client c) ≡ Some (Node i) = acts [] in absurd cc
-  acts-moved (event.Hold c) acts is = let no : Some (Client c) ≡ Some (Node i) = acts [] in absurd cc
-  acts-moved (event.Take c) acts is = let no : Some (Client c) ≡ Some (Node i) = acts [] in absurd cc
-  acts-moved (event.Inject c bytes) acts is = let no : Some (Client c) ≡ Some (Node i) = acts [] in absurd cc
-  acts-moved _ acts is = let no : None ≡ Some (Node i) = acts [] in absurd cc
+  acts-moved e acts is = go (node-form m n e is) where
+    go : NodesStay m e n ⊎ NodeStep m e n → Moved m e n i
+    go (inl stay) = inr (⊎_elim (λ (never : NodeActs m e → ⊥). absurd (never (i, acts))) (λ (s : Passes m e n). s.is) stay.2)
+    go (inr step) =
+        let x : NodeState × Out = node_step (node_setting m step.i) step.s step.comes in
+        subst (Moved m e n) (comes-at m e i step.i step.s step.comes step.came acts)
+        (inl (step.s, x, step.there, tells e step.i step.s step.there step.comes step.came, step.is))
 
 -- ---- what a connection sees of the Asks
 

@@ -2,45 +2,30 @@
 use Rattle.std.proofs.Common.{◌≡◌, ◌≢◌, ◌⊎◌, ℕ, ◌+◌, ◌-◌, ◌==◌, Bool, true, false, List, [], ◌∷◌, ◌++◌, length, map, Option, Some, None, Ok, refl, sym, ap, ◌∙◌, subst, inl, inr, ⊎_elim, eqb-true, eq-eqb, append-nil}
 use Rattle.std.specs.Prelude.{slice_set}
 use Rattle.std.proofs.lemmas.Bool.{both_ways}
-use Rattle.lard_base.specs.declared.config.Config.{Config}
-use Rattle.lard_base.specs.declared.event.Event.{Event}
+use Rattle.lard_law_view.specs.Prelude.{Client, Config, Event, Front, HasRule, IsReached, IsViewed, Machine, Node, NodeState, Out, Place, Rec, clocked, conn, listed, lose_at, machine_step, machine_told, node_at, node_gave, own, passed, segments_sent, sent_records}
 use Rattle.lard_base.specs.declared.event.Event.TheVariants as event
-use Rattle.lard_base.specs.declared.place.Place.{Place}
-use Rattle.lard_base.specs.declared.place.Place.TheVariants.{Client, Front, Node}
-use Rattle.lard_rules.specs.declared.machine.Machine.{Machine}
-use Rattle.lard_rules.specs.Bounds.{HasRule}
-use Rattle.lard_rules.specs.Machine.{IsReached, machine_step, node_at, node_gave, passed, segments_sent, machine_told}
 use Rattle.lard_laws.specs.AsksSent.{AsksGoOn, IsNextAsk, JobsFirst, NoJobs, ask_by, is_job, last_ask}
 use Rattle.lard_laws.proofs.AsksQueues.{Moved, acts-moved}
 use Rattle.lard_laws.proofs.AsksSending.{asks_in}
-use Rattle.lard_laws.proofs.AsksSends.{IsNoNode, PartsAsk, ask-unsent, else-asks, other-asks}
+use Rattle.lard_laws.proofs.AsksSends.{IsNoNode, PartsAsk, ask-unsent, other-asks}
 use Rattle.lard_laws.proofs.AsksSteps.{Told}
-use Rattle.lard_law_connections.proofs.MotionElsewhere.{IsUnsent, gave-unsent, note-unsent, timer-unsent}
+use Rattle.lard_law_view.proofs.OfKinds.{gave-unsent, note-unsent, timer-unsent}
+use Rattle.lard_law_view.proofs.RecordKinds.{IsUnsent}
 use Rattle.lard_law_connections.proofs.MotionPicking.{pick, pick-append, pick-none}
 use Rattle.lard_law_connections.proofs.PlacesTurns.{IsPlaced}
 use Rattle.lard_counts.specs.Stores.{jobs}
-use Rattle.lard_law_connections.proofs.PolicyCalm.{first_rows, last_rows, told-journal}
+use Rattle.lard_law_connections.proofs.Calm.{Allows, first_rows, gifts-calm, last-calm, last_rows, timers-calm, told-journal}
+use Rattle.lard_law_connections.proofs.Forms.{NodeActs}
 use Rattle.lard_law_connections.proofs.StoresStored.{jobs-told}
-use Rattle.lard_law_view.specs.View.{IsViewed, Move, Part, conn, part_of, sending, setting_of, timer_rows}
-use Rattle.lard_law_view.proofs.AnyShape.{SomeGift, SomeNote, SomeTimer}
-use Rattle.lard_law_view.proofs.Acts.{ActsAlone, ActsMany, IsPassing, IsStepOf, Moves, said_rows, step_acts}
-use Rattle.lard_law_view.proofs.Fine.{IsFine, IsItsOwn, fine}
+use Rattle.lard_law_view.specs.View.{sending}
+use Rattle.lard_law_view.proofs.AnyShape.{AnyShape, IsAct, SomeGift, SomeNote, SomeTimer, step-any}
 use Rattle.lard_law_view.proofs.Heads.{ActsAt}
 use Rattle.lard_law_view.proofs.Parts.{node-set}
-use Rattle.lard_law_view.proofs.Saying.{GaveAt, NotedAt}
-use Rattle.lard_law_view.proofs.Timers.{IsTimerAt, timer_rows-are}
-use Rattle.lard_history.specs.Own.{own}
 use Rattle.lard_history.proofs.Each.{Each, Each-append, Each-weaker}
 use Rattle.lard_history.proofs.Stepping.{cancel}
-use Rattle.lard_journal.specs.declared.rec.Rec.{Rec}
 use Rattle.lard_journal.specs.declared.rec.Rec.TheVariants as rec
-use Rattle.lard_rules.specs.Sent.{packets_of, sent_records}
 use Rattle.lard_message.specs.declared.message.Body.TheVariants as body
-use Rattle.lard_net.specs.Net.{Packet}
-use Rattle.lard_rules.specs.declared.node.NodeState.{NodeState}
 use Rattle.lard_rules.specs.Node.{message}
-use Rattle.lard_rules.specs.declared.places.Out.{Out}
-use Rattle.lard_rules.specs.Speaking.{listed}
 use Rattle.lard_law_view.proofs.OwnRecords.{behind}
 
 -- ---- records that are no Asks
@@ -66,22 +51,21 @@ behind-unsent (event.Lose k) = (tt, tt)
 behind-unsent (event.Inject c bytes) = (tt, tt)
 behind-unsent _ = tt
 
-module _ (n e : ℕ) where
-  -- of an act only what is sent
-  acts-sent : (before : List Rec) (net : List Packet) (place : Place) (notes : List Rec) (segments : List (Place × List ℕ)) (gave : List Rec) (messages : List (Place × List ℕ)) (timers : List Rec)
-      → Each IsUnsent before → Each IsUnsent notes → Each IsUnsent gave → Each IsUnsent timers
-      → pick (ask_by n e) (said_rows before net place notes segments gave messages timers) ≡ pick (ask_by n e) (map (sending place) segments) ++ pick (ask_by n e) (map (sending place) messages)
-  acts-sent before net place notes segments gave messages timers hb hn hg ht =
-      let f : Rec → Option (List ℕ) = ask_by n e in
-      let s : ℕ = length net + 1 in
-      let m : ℕ = length (net ++ packets_of place segments) + 1 in
-      let S : List Rec = sent_records s place segments in
-      let M : List Rec = sent_records m place messages in
-      pick-append f (before ++ notes ++ S ++ gave ++ M) timers
-      ∙ (λ i. pick-append f (before ++ notes ++ S ++ gave) M i ++ unsent-none n e timers ht i)
-      ∙ append-nil (pick f (before ++ notes ++ S ++ gave) ++ pick f M)
-      ∙ (λ i. (pick-append f (before ++ notes ++ S) gave ∙ (λ j. pick-append f (before ++ notes) S j ++ unsent-none n e gave hg j) ∙ append-nil (pick f (before ++ notes) ++ pick f S)
-      ∙ (λ j. (pick-append f before notes ∙ (λ k. unsent-none n e before hb k ++ unsent-none n e notes hn k)) j ++ sents-same n e s place segments j)) i ++ sents-same n e m place messages i)
+-- it is none, whoever is meant
+abbrev IsNoAsk : Rec → Type 0
+IsNoAsk r = (n e : ℕ) → ask_by n e r ≡ None
+
+unsents-ask : (rs : List Rec) → Each IsUnsent rs → Each IsNoAsk rs
+unsents-ask rs h = Each-weaker IsUnsent IsNoAsk (λ r k n e. ask-unsent n e r k) rs h
+
+-- what is sent by a place that is no node
+sents-ask : (k : ℕ) (place : Place) (ss : List (Place × List ℕ)) → IsNoNode place → Each IsNoAsk (sent_records k place ss)
+sents-ask k place [] who = tt
+sents-ask k place (s ∷ ss) who = (one place who, sents-ask (k + 1) place ss who) where
+  one : (from : Place) → IsNoNode from → IsNoAsk (rec.Sent k from s.0 s.1)
+  one Front who n e = refl
+  one (Client d) who n e = refl
+  one (Node i) who n e = absurd who
 
 -- ---- jobs stand before packets
 
@@ -105,37 +89,75 @@ first-behind [] ys h k = none-first ys k
 first-behind (rec.Sent i from to bytes ∷ xs) ys h k = no-jobs xs ys h k
 first-behind (_ ∷ xs) ys h k = first-behind xs ys h k
 
-sents-jobs : (k : ℕ) (place : Place) (ss : List (Place × List ℕ)) → NoJobs (sent_records k place ss)
-sents-jobs k place [] = tt
-sents-jobs k place (s ∷ ss) = (refl, sents-jobs (k + 1) place ss)
+abbrev IsNoJob : Rec → Type 0
+IsNoJob r = is_job r ≡ false
 
-gave-job : (place : Place) (c : ℕ) (r : Rec) → GaveAt place c r → is_job r ≡ false
-gave-job Front c (rec.Gave Front d epoch) h = refl
-gave-job (Node n) c (rec.Gave (Node k) d epoch) h = refl
-gave-job _ c _ h = absurd h
+allows-no-job : Allows IsNoJob
+allows-no-job = record {
+  event = λ i e. refl;
+  opened = λ c isn iss wnd mss. refl;
+  injected = λ c. refl;
+  got = λ k. refl;
+  lost = λ k. refl;
+  sent = λ k from to bytes. refl;
+  gave = λ place c epoch. refl;
+  armed = λ place c kind. refl;
+  cleared = λ place c kind. refl;
+}
 
-timer-job : (place : Place) (c : ℕ) (r : Rec) → IsTimerAt place c r → is_job r ≡ false
-timer-job place c (rec.Armed p d kind) h = refl
-timer-job place c (rec.Cleared p d kind) h = refl
-timer-job place c _ h = absurd h
+each-jobs : (rs : List Rec) → Each IsNoJob rs → NoJobs rs
+each-jobs [] h = tt
+each-jobs (r ∷ rs) h = (h.0, each-jobs rs h.1)
 
-each-jobs : (P : Rec → Type 0) → ((r : Rec) → P r → is_job r ≡ false) → (rs : List Rec) → Each P rs → NoJobs rs
-each-jobs P none [] h = tt
-each-jobs P none (r ∷ rs) h = (none r h.0, each-jobs P none rs h.1)
+-- What a step adds: no Ask, but where a node acts; and jobs stand first.
+record Adds (m : Machine) (e : Event) (n : Machine) : Type 0 where
+  rows : List Rec
+  is : n.journal ≡ m.journal ++ rows
+  asks : NodeActs m e ⊎ Each IsNoAsk rows
+  jobs_first : JobsFirst rows
 
--- of an act
-acts-first : (before : List Rec) (net : List Packet) (place : Place) (notes : List Rec) (segments : List (Place × List ℕ)) (gave : List Rec) (messages : List (Place × List ℕ)) (timers : List Rec)
-    → Each IsUnsent before → Each IsUnsent notes → NoJobs gave → NoJobs timers → JobsFirst (said_rows before net place notes segments gave messages timers)
-acts-first before net place notes segments gave messages timers hb hn hg ht =
-    let s : ℕ = length net + 1 in
-    let m : ℕ = length (net ++ packets_of place segments) + 1 in
-    let S : List Rec = sent_records s place segments in
-    let M : List Rec = sent_records m place messages in
-    first-behind (before ++ notes ++ S ++ gave ++ M) timers
-    (first-behind (before ++ notes ++ S ++ gave) M
-    (first-behind (before ++ notes ++ S) gave
-    (first-behind (before ++ notes) S (unsent-first (before ++ notes) (Each-append IsUnsent before notes hb hn)) (sents-jobs s place segments))
-    hg) (sents-jobs m place messages)) ht
+module _ (m : Machine) where
+  told-adds : (w : Machine) (e : Event) (place : Place) (o : Out) → IsAct m w e place o → Adds m e (machine_told w e (behind e) place o)
+  told-adds w e place o act =
+      let S : List Rec = sent_records (length w.net + 1) place o.segments in
+      let M : List Rec = sent_records (length (segments_sent w place o) + 1) place o.messages in
+      let before : List Rec = first_rows w e ++ o.notes in
+      let last : List Rec = last_rows w place o in
+      let first : Each IsUnsent before = Each-append IsUnsent (first_rows w e) o.notes (tt, behind-unsent e) (Each-weaker (SomeNote place) IsUnsent (λ r k. note-unsent place k.0 r k.2) o.notes act.notes) in
+      let gave : Each IsUnsent o.gave = Each-weaker (SomeGift place) IsUnsent (λ r k. gave-unsent place k.0 r k.1) o.gave act.gave in
+      let timers : Each IsUnsent o.timers = Each-weaker (SomeTimer place) IsUnsent (λ r k. timer-unsent place k.0 r k.1) o.timers act.timers in
+      let none : Each IsNoJob last = last-calm IsNoJob allows-no-job w place o (gifts-calm IsNoJob allows-no-job place o.gave act.gave) (timers-calm IsNoJob allows-no-job place o.timers act.timers) in
+      record {
+        rows = before ++ last;
+        is = told-journal w e place o ∙ ap (λ (J : List Rec). J ++ (before ++ last)) act.put.journal;
+        asks = by-place place (before ++ last) act.acts (λ who. Each-append IsNoAsk before last (unsents-ask before first)
+            (Each-append IsNoAsk (S ++ o.gave ++ M) o.timers (Each-append IsNoAsk (S ++ o.gave) M
+            (Each-append IsNoAsk S o.gave (sents-ask (length w.net + 1) place o.segments who) (unsents-ask o.gave gave)) (sents-ask (length (segments_sent w place o) + 1) place o.messages who)) (unsents-ask o.timers timers)));
+        jobs_first = first-behind before last (unsent-first before first) (each-jobs last none);
+      }
+    where
+      by-place : (p : Place) (rs : List Rec) → ActsAt m.net e p → (IsNoNode p → Each IsNoAsk rs) → NodeActs m e ⊎ Each IsNoAsk rs
+      by-place Front rs acts quiet = inr (quiet tt)
+      by-place (Client d) rs acts quiet = inr (quiet tt)
+      by-place (Node i) rs acts quiet = inl (i, acts)
+
+  passed-adds : (w : Machine) (e : Event) (own : List Rec) → w.journal ≡ m.journal → Each IsUnsent own → Adds m e (passed w e own)
+  passed-adds w e own same h =
+      let rows : List Rec = rec.Event (w.events + 1) e ∷ own in record {
+        rows = rows;
+        is = ap (λ (J : List Rec). J ++ rows) same;
+        asks = inr (unsents-ask rows (tt, h));
+        jobs_first = unsent-first rows (tt, h);
+      }
+
+  any-adds : AnyShape m (Adds m)
+  unfolding clocked
+  any-adds = record {
+    acts = told-adds;
+    nobody = λ k l at there. passed-adds m (event.Deliver k) (rec.Got k ∷ []) refl (tt, tt);
+    loses = λ k l at there. passed-adds (record m { net = lose_at (k - 1) m.net }) (event.Lose k) (rec.Lost k ∷ []) refl (tt, tt);
+    clocks = λ ms. passed-adds (record m { now = m.now + ms }) (event.Clock ms) (rec.Clock (record { 0 = m.now + ms }) ∷ []) refl (tt, tt);
+  }
 
 -- ---- the Asks of a step
 
@@ -213,89 +235,19 @@ module _ (config : Config) (files : List (List ℕ × List ℕ)) (m n : Machine)
   -- ---- by who acts
 
   module _ (rule : HasRule e) (is : machine_step m e ≡ Ok n) where
-    stepped : IsStepOf IsFine m n e
-    stepped = step_acts m n e IsFine view (fine (setting_of m)) rule is
+    its : Adds m e n
+    its = step-any m view (Adds m) (any-adds m) e n rule is
 
-    rest-none : (rest : List Rec) → stepped.adds ≡ rest → ((j d : ℕ) → pick (ask_by j d) rest ≡ []) → AllTold
-    rest-none rest are none = none-told (λ j d. ap (pick (ask_by j d)) (cancel m.journal step (rec.Event (m.events + 1) e ∷ stepped.adds) (sym adds ∙ stepped.journal)) ∙ ap (pick (ask_by j d)) are ∙ none j d)
-
-    passing-none : (d : Event) (rest : List Rec) → IsPassing m d rest → Each IsUnsent rest
-    passing-none (event.Clock ms) rest p = subst (Each IsUnsent) (sym p) (tt, tt)
-    passing-none (event.Open c isn iss wnd mss) rest p = subst (Each IsUnsent) (sym p) (tt, tt)
-    passing-none (event.Deliver k) rest p = subst (Each IsUnsent) (sym p) (tt, tt)
-    passing-none (event.Lose k) rest p = subst (Each IsUnsent) (sym p) (tt, tt)
-    passing-none (event.Inject c bytes) rest p = subst (Each IsUnsent) (sym p) (tt, tt)
-    passing-none _ rest p = subst (Each IsUnsent) (sym p) tt
-
-    -- what a move notes and gives up
-    own-of : (c : ℕ) (v : Move) (noted : List Rec) → Moves IsFine m e c v noted → IsItsOwn (conn m c) v
-    unfolding conn
-    own-of c v noted moves = (moves.does moves.number (view.sound c)).0
-
-    timers-unsent : (place : Place) (c : ℕ) (p q : Part) → Each IsUnsent (timer_rows place c p q)
-    timers-unsent place c p q = Each-weaker (IsTimerAt place c) IsUnsent (timer-unsent place c) (timer_rows place c p q) (timer_rows-are place c p q)
-
-    notes-unsent : (place : Place) (c : ℕ) (rs : List Rec) → Each (NotedAt place c) rs → Each IsUnsent rs
-    notes-unsent place c rs h = Each-weaker (NotedAt place c) IsUnsent (note-unsent place c) rs h
-
-    gifts-unsent : (place : Place) (c : ℕ) (rs : List Rec) → Each (GaveAt place c) rs → Each IsUnsent rs
-    gifts-unsent place c rs h = Each-weaker (GaveAt place c) IsUnsent (gave-unsent place c) rs h
-
-    by-place : (place : Place) → ActsAt m.net e place → (IsNoNode place → AllTold) → AllTold
-    by-place Front acts other = other tt
-    by-place (Client d) acts other = other tt
-    by-place (Node i) acts other = node-told i (acts-moved m n view placed known i e acts is)
-
-    alone-told : ActsAlone IsFine m e stepped.adds → AllTold
-    unfolding conn
-    alone-told a = by-place a.move.place a.acts (λ quiet. rest-none _ a.are (λ j d.
-        let own_is = own-of a.c a.move a.noted a.moves in
-        acts-sent j d (behind e) m.net a.move.place a.noted a.move.said.segments a.move.said.gave a.move.said.messages (timer_rows a.move.place a.c (part_of m a.c) a.move.part)
-        (behind-unsent e) (notes-unsent a.move.place a.c a.noted a.moves.notes) (gifts-unsent a.move.place a.c a.move.said.gave own_is.gave) (timers-unsent a.move.place a.c (part_of m a.c) a.move.part)
-        ∙ (λ i. else-asks j d a.move.place a.move.said.segments quiet i ++ else-asks j d a.move.place a.move.said.messages quiet i)))
-
-    some-notes : (place : Place) (rs : List Rec) → Each (SomeNote place) rs → Each IsUnsent rs
-    some-notes place rs h = Each-weaker (SomeNote place) IsUnsent (λ r k. note-unsent place k.0 r k.2) rs h
-
-    many-told : ActsMany IsFine m e stepped.adds → AllTold
-    many-told a = by-place a.place a.act.acts (λ quiet. rest-none _ a.are (λ j d.
-        acts-sent j d (behind e) m.net a.place a.o.notes a.o.segments a.o.gave a.o.messages a.o.timers
-        (behind-unsent e) (some-notes a.place a.o.notes a.act.notes)
-        (Each-weaker (SomeGift a.place) IsUnsent (λ r k. gave-unsent a.place k.0 r k.1) a.o.gave a.act.gave)
-        (Each-weaker (SomeTimer a.place) IsUnsent (λ r k. timer-unsent a.place k.0 r k.1) a.o.timers a.act.timers)
-        ∙ (λ i. else-asks j d a.place a.o.segments quiet i ++ else-asks j d a.place a.o.messages quiet i)))
+    rows-same : its.rows ≡ step
+    rows-same = cancel m.journal its.rows step (sym its.is ∙ adds)
 
     pub step-told : AllTold
     step-told = ⊎_elim
-        (λ (p : IsPassing m e stepped.adds). rest-none stepped.adds refl (λ j d. unsent-none j d stepped.adds (passing-none e stepped.adds p)))
-        (λ (h : ActsAlone IsFine m e stepped.adds ⊎ ActsMany IsFine m e stepped.adds). ⊎_elim alone-told many-told h)
-        stepped.acts
+        (λ (acts : NodeActs m e). node-told acts.0 (acts-moved m n view placed known acts.0 e acts.1 is))
+        (λ (none : Each IsNoAsk its.rows). none-told (λ j d. ap (pick (ask_by j d)) (sym rows-same)
+        ∙ pick-none (ask_by j d) its.rows (Each-weaker IsNoAsk (λ r. ask_by j d r ≡ None) (λ r h. h j d) its.rows none)))
+        its.asks
 
-    -- ---- and jobs stand first
-
-    rest-first : (rest : List Rec) → stepped.adds ≡ rest → JobsFirst rest → JobsFirst step
-    rest-first rest are h = subst JobsFirst (sym (cancel m.journal step (rec.Event (m.events + 1) e ∷ stepped.adds) (sym adds ∙ stepped.journal))) (subst JobsFirst (sym are) h)
-
-    gifts-jobs : (place : Place) (c : ℕ) (rs : List Rec) → Each (GaveAt place c) rs → NoJobs rs
-    gifts-jobs place c rs h = each-jobs (GaveAt place c) (gave-job place c) rs h
-
-    timers-jobs : (place : Place) (c : ℕ) (p q : Part) → NoJobs (timer_rows place c p q)
-    timers-jobs place c p q = each-jobs (IsTimerAt place c) (timer-job place c) (timer_rows place c p q) (timer_rows-are place c p q)
-
-    alone-first : ActsAlone IsFine m e stepped.adds → JobsFirst step
-    unfolding conn
-    alone-first a =
-        let own_is = own-of a.c a.move a.noted a.moves in
-        rest-first _ a.are (acts-first (behind e) m.net a.move.place a.noted a.move.said.segments a.move.said.gave a.move.said.messages (timer_rows a.move.place a.c (part_of m a.c) a.move.part)
-        (behind-unsent e) (notes-unsent a.move.place a.c a.noted a.moves.notes) (gifts-jobs a.move.place a.c a.move.said.gave own_is.gave) (timers-jobs a.move.place a.c (part_of m a.c) a.move.part))
-
-    many-first : ActsMany IsFine m e stepped.adds → JobsFirst step
-    many-first a = rest-first _ a.are (acts-first (behind e) m.net a.place a.o.notes a.o.segments a.o.gave a.o.messages a.o.timers (behind-unsent e) (some-notes a.place a.o.notes a.act.notes)
-        (each-jobs (SomeGift a.place) (λ r k. gave-job a.place k.0 r k.1) a.o.gave a.act.gave)
-        (each-jobs (SomeTimer a.place) (λ r k. timer-job a.place k.0 r k.1) a.o.timers a.act.timers))
-
+    -- jobs stand first
     pub step-first : JobsFirst step
-    step-first = ⊎_elim
-        (λ (p : IsPassing m e stepped.adds). rest-first stepped.adds refl (unsent-first stepped.adds (passing-none e stepped.adds p)))
-        (λ (h : ActsAlone IsFine m e stepped.adds ⊎ ActsMany IsFine m e stepped.adds). ⊎_elim alone-first many-first h)
-        stepped.acts
+    step-first = subst JobsFirst rows-same its.jobs_first

@@ -2,9 +2,8 @@
 use Rattle.std.proofs.Common.{◌≡◌, ◌≤◌, ℕ, List, [], ◌∷◌, ◌++◌, length, map, Some, None, Result, Ok, Err, refl, sym, ap, ◌∙◌, subst, arith}
 use Rattle.std.specs.List.{fold}
 use Rattle.lard_base.specs.declared.event.Event.TheVariants as event
-use Rattle.lard_base.specs.declared.place.Place.{Place}
-use Rattle.lard_base.specs.declared.place.Place.TheVariants.{Client, Front, Node}
-use Rattle.lard_client.specs.Control.{ClientBlock}
+use Rattle.lard_law_view.specs.Prelude.{Body, Client, ClientBlock, ClientRules, Conn, Front, FrontEnv, FrontPart, FrontTurn, IsForFront, IsFrontEnv, IsOfTable, IsUnheard, Message, Move, MsgFault, Node, Place, Rec, Rules, Said as Segment, Seen, SegFault, Setting, SpellsMessage, Station, ToCluster, Turn, ask_of, client_begins, client_does, client_injects, client_opens, client_rule, content_said, decoded, decoded_message, event_seen, front_admits, front_asked, front_does, front_ended, front_gets, front_taken, front_timer, grown, inject_seen, kind_of, listed, node_acknowledged, node_content, node_does, node_forwarded, node_offered, node_read, node_tagged, node_timer, nothing_said, packet_seen, reads_first, stands}
+use Rattle.lard_law_view.proofs.EachClient.{each-client, of-client}
 use Rattle.lard_laws.specs.Asks.{Answered, ask_from, ask_in, ask_on, ask_tale, row_done, tag_to}
 use Rattle.lard_laws.proofs.AsksAsked.{asked-answers}
 use Rattle.lard_laws.proofs.AsksFronts as fronts
@@ -14,32 +13,16 @@ use Rattle.lard_law_connections.proofs.MotionElsewhere.{IsElse, IsKnown}
 use Rattle.lard_law_connections.proofs.MotionNodes.{IsFirst}
 use Rattle.lard_law_connections.proofs.MotionPicking.{pick}
 use Rattle.lard_law_connections.proofs.PolicyMessages.{IsTold, message-told}
-use Rattle.lard_law_view.specs.View.{ClientRules, Conn, IsForFront, IsFrontEnv, IsUnheard, Move, Rules, Setting, SpellsMessage, client_begins, client_does, content_said, event_seen, front_admits, front_does, grown, inject_seen, node_does, nothing_said, packet_seen, reads_first, sending, stands}
+use Rattle.lard_law_view.specs.View.{sending}
 use Rattle.lard_law_view.proofs.Fine.{IsItsOwn}
 use Rattle.lard_law_view.proofs.Saying.{NotedAt}
-use Rattle.lard_rules.specs.declared.front.FrontTurn.{FrontTurn}
 use Rattle.lard_rules.specs.Front as front
-use Rattle.lard_rules.specs.Front.{FrontEnv, FrontPart, ask_of, front_asked, front_ended, front_gets, front_taken, front_timer}
-use Rattle.lard_history.specs.Journal.{request}
-use Rattle.lard_history.specs.Own.{Seen}
 use Rattle.lard_history.proofs.Each.{Each, Each-weaker}
-use Rattle.lard_journal.specs.declared.rec.Rec.{Rec}
 use Rattle.lard_journal.specs.declared.rec.Rec.TheVariants as rec
-use Rattle.lard_message.specs.declared.fault.MsgFault.{MsgFault}
-use Rattle.lard_message.specs.declared.message.Body.{Body}
 use Rattle.lard_message.specs.declared.message.Body.TheVariants as body
-use Rattle.lard_message.specs.declared.message.Message.{Message}
-use Rattle.lard_message.specs.Message.{IsOfTable, kind_of}
-use Rattle.lard_message.specs.Reading.{decoded_message}
 use Rattle.lard_rules.specs.Node as node
-use Rattle.lard_rules.specs.Node.{node_acknowledged, node_content, node_forwarded, node_offered, node_read, node_tagged, node_timer}
-use Rattle.lard_rules.specs.declared.places.Station.{Station}
-use Rattle.lard_rules.specs.declared.places.Turn.{Turn}
-use Rattle.lard_rules.specs.Client.{client_aborts, client_gets, client_holds, client_injects, client_opens, client_shuts, client_takes, client_timer, client_writes}
-use Rattle.lard_rules.specs.Speaking.{listed}
-use Rattle.lard_segment.specs.declared.fault.SegFault.{SegFault}
-use Rattle.lard_segment.specs.declared.segment.Dir.TheVariants.{ToClient, ToCluster}
-use Rattle.lard_segment.specs.Segment.{Said as Segment, decoded}
+use Rattle.lard_law_view.proofs.OfKinds.{elsewhere}
+use Rattle.lard_law_view.proofs.RecordKinds.{IsElsewhere, kind_of as record_kind}
 
 -- the move is as it must be, and what is known stays known
 abbrev pub Goes : Setting → Conn → Move → Type 0
@@ -68,20 +51,14 @@ all-done : (d : Answered) (rs : List Rec) → Each IsUnasked rs → fold row_don
 all-done d [] e = refl
 all-done d (r ∷ rs) e = ap (λ (x : Answered). fold row_done x rs) (unasked-done d r e.0) ∙ all-done d rs e.1
 
+else-unasked : (r : Rec) → IsElsewhere (record_kind r) → IsUnasked r
+else-unasked (rec.AssignedFirst c r path n add remove) h = absurd h
+else-unasked (rec.AssignedLater c r path n add size queue) h = absurd h
+else-unasked (rec.BatchOver c) h = absurd h
+else-unasked _ h = tt
+
 else-note : (place : Place) (c : ℕ) (r : Rec) → IsElse place → NotedAt place c r → IsUnasked r
-else-note Front c r m h = absurd m
-else-note (Client e) c (rec.Wrote d bytes) m h = tt
-else-note (Client e) c (rec.Accepted d bytes) m h = tt
-else-note (Client e) c (rec.Eof d) m h = tt
-else-note (Client e) c (rec.Aborted d) m h = tt
-else-note (Client e) c _ m h = absurd h
-else-note (Node n) c (rec.Took (Node k) d epoch) m h = tt
-else-note (Node n) c (rec.Served (Node k) d r code size via) m h = tt
-else-note (Node n) c (rec.Reset (Node k) d total) m h = tt
-else-note (Node n) c (rec.Queued k o d r path) m h = tt
-else-note (Node n) c (rec.Read k o d r path) m h = tt
-else-note (Node n) c (rec.Hit k path) m h = tt
-else-note (Node n) c _ m h = absurd h
+else-note place c r m h = else-unasked r (elsewhere place c r h (λ e. subst IsElse e m))
 
 else-sends : (place : Place) (ss : List (Place × List ℕ)) → IsElse place → pick tag_to (map (sending place) ss) ≡ []
 else-sends Front ss m = absurd m
@@ -203,17 +180,13 @@ module _ (k : Setting) (x : Conn) where
 
 module _ (k : Setting) where
   clients : ClientRules k (Goes k)
-  clients = record {
-    opens = λ x isn iss wnd mss rule none. client-goes k x (client_begins x isn iss wnd mss).heads (record { client = (client_opens x.c isn wnd mss).0; iss = iss }) (client_opens x.c isn wnd mss) (tt, (tt, tt)) refl;
-    gets = λ x s path there le. event-goes k x (event.Get x.c path) s (client_writes s.client (request path));
-    writes = λ x s bytes there le. event-goes k x (event.Write x.c bytes) s (client_writes s.client bytes);
-    shuts = λ x s there. event-goes k x (event.Shut x.c) s (client_shuts s.client);
-    aborts = λ x s there. event-goes k x (event.Abort x.c) s (client_aborts s.client);
-    holds = λ x s there. event-goes k x (event.Hold x.c) s (client_holds s.client);
-    takes = λ x s there. event-goes k x (event.Take x.c) s (client_takes s.client);
-    fires = λ x s there. event-goes k x (event.Timer (Client x.c) x.c) s (client_timer s.client);
-    hears = λ x s from bytes there was. client-goes k x (packet_seen from (Client x.c) bytes) s (client_gets s.client (decoded bytes x.c ToClient)) (tt, tt) (client-hears k x from x.c bytes);
-  }
+  clients = each-client k (Goes k) (record {
+    opens = λ x isn iss wnd mss rule none. client-goes k x (client_begins x isn iss wnd mss).heads (record { client = (client_opens x.c isn wnd mss).0; iss = iss })
+        (client_opens x.c isn wnd mss) (tt, (tt, tt)) refl;
+    does = λ x s g there comes. of-client x.c (λ heads. Goes k x (client_does x s heads (client_rule x.c s.client g)))
+        (λ from bytes. client-goes k x (packet_seen from (Client x.c) bytes) s (client_rule x.c s.client g) (tt, tt) (client-hears k x from x.c bytes))
+        (λ e. event-goes k x e s (client_rule x.c s.client g)) g;
+  })
 
   pub all-go : Rules k (Goes k)
   all-go = record {

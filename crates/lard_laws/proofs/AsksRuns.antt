@@ -1,10 +1,6 @@
 -- The laws of Asks in every run.
 use Rattle.std.proofs.Common.{◌≡◌, ℕ, nat_lt, List, [], Ok, refl, sym, subst, inl, inr, ⊎_elim}
-use Rattle.lard_base.specs.declared.config.Config.{Config}
-use Rattle.lard_base.specs.declared.event.Event.{Event}
-use Rattle.lard_rules.specs.declared.machine.Machine.{Machine}
-use Rattle.lard_rules.specs.Bounds.{HasRule, IsConnNumber}
-use Rattle.lard_rules.specs.Machine.{IsReached, machine_step, machine_start}
+use Rattle.lard_law_view.specs.Prelude.{Config, Conn, Event, HasRule, IsConnNumber, IsReached, Machine, Move, Rules, Seen, Tally, conn, grown, machine_start, machine_step, net_of, open_shares, own, seen_on, setting}
 use Rattle.lard_laws.specs.AsksAnswers.{IsAnswered, MustAnswer, MustEnd, ends_due}
 use Rattle.lard_laws.specs.Asks.{end_in, later_in}
 use Rattle.lard_laws.specs.AsksRuns.{AsksAreAnswered, BatchesEndInSteps}
@@ -15,9 +11,6 @@ use Rattle.lard_laws.proofs.AsksRules.{Goes, all-go}
 use Rattle.lard_law_connections.specs.MotionStory.{of_row, picked}
 use Rattle.lard_law_connections.proofs.MotionRuns.{each-way}
 use Rattle.lard_law_connections.proofs.PolicyCounted.{books-are-told}
-use Rattle.lard_loads.specs.Tally.{Tally, open_shares}
-use Rattle.lard_law_view.specs.Carry.{setting}
-use Rattle.lard_law_view.specs.View.{Conn, Move, Rules, blank_conn, conn, grown, seen_in}
 use Rattle.lard_law_view.specs.View as view
 use Rattle.lard_law_view.proofs.After.{IsAfter, step-after}
 use Rattle.lard_law_view.proofs.Carried.{IsOn, carried-keep, goes-on, gone}
@@ -25,7 +18,6 @@ use Rattle.lard_law_view.proofs.Fine.{IsFine, fine}
 use Rattle.lard_law_view.proofs.Guarded.{both}
 use Rattle.lard_law_view.proofs.InSteps.{seen-step}
 use Rattle.lard_law_view.proofs.Runs.{start-blank}
-use Rattle.lard_history.specs.Own.{Seen, net_of, own, seen_on}
 use Rattle.lard_history.proofs.Stepping.{AreLawful, one-more}
 
 -- where nothing of it is seen, nothing of it is done

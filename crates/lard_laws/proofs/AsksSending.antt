@@ -3,39 +3,22 @@ use Rattle.std.proofs.Common.{◌≡◌, ◌<◌, ◌^◌, ℕ, ◌+◌, ◌==�
 use Rattle.std.proofs.lemmas.Bool.{both_ways, cond_both}
 use Rattle.std.proofs.lemmas.List.{map-append}
 use Rattle.std.specs.List.{AllByRecursion, fold}
-use Rattle.lard_base.specs.declared.place.Place.{Place}
-use Rattle.lard_base.specs.declared.place.Place.TheVariants.{Client, Front, Node}
+use Rattle.lard_law_view.specs.Prelude.{Asked, BackConn, BackRow, Body, Client, Ending, Front, Kept, Kind, Node, NodeEnv, NodePart, Place, Stay, Turn, Want, Work, all_sent, anew, ask_kept, asked_kept, asked_sent, ended_kept, ended_sent, epoch_at, epoch_in, fetch_of, is_under, kept_after, kind_of, listed, reset_count, sent_of, taken_sent, turn_by, wants_kept, wants_sent, without}
 use Rattle.lard_base.specs.declared.place.TimerKind.TheVariants as timer
 use Rattle.lard_laws.specs.AsksSent.{AsksGoOn, IsNextAsk, IsAskNumbered, ask_by, is_ask}
 use Rattle.lard_laws.proofs.AsksWorking.{AskedSo, IsAsking}
 use Rattle.lard_law_connections.proofs.MotionPicking.{pick, pick-append}
 use Rattle.lard_law_connections.specs.Places.{message_head}
 use Rattle.lard_law_connections.proofs.PlacesHeads.{head, spelled-head, spelled-some}
-use Rattle.lard_law_view.specs.View.{epoch_in, sending}
-use Rattle.lard_handoff_back.specs.declared.row.BackConn.{BackConn}
+use Rattle.lard_law_view.specs.View.{sending}
 use Rattle.lard_handoff_back.specs.declared.row.BackConn.TheVariants as back
-use Rattle.lard_handoff_back.specs.declared.row.BackRow.{BackRow}
 use Rattle.lard_history.proofs.Each.{Each, Each-append, Each-weaker}
 use Rattle.lard_history.proofs.Seeing.{same_number}
-use Rattle.lard_message.specs.declared.kind.Kind.{Kind}
 use Rattle.lard_message.specs.declared.kind.Kind.TheVariants as kind
-use Rattle.lard_message.specs.declared.message.Body.{Body}
 use Rattle.lard_message.specs.declared.message.Body.TheVariants as body
-use Rattle.lard_message.specs.Message.{kind_of}
-use Rattle.lard_message.specs.Reading.{epoch_at}
-use Rattle.lard_rules.specs.declared.stay.Asked.{Asked}
-use Rattle.lard_rules.specs.declared.stay.Stay.{Stay}
-use Rattle.lard_rules.specs.declared.stay.Want.{Want}
-use Rattle.lard_rules.specs.Node.{NodePart, all_sent, anew, ask_kept, asked_kept, asked_sent, reset_count, ended_kept, ended_sent, fetch_of, kept_after, message, taken_sent, turn_by, wants_kept, wants_sent}
-use Rattle.lard_rules.specs.Stay.{NodeEnv, Work}
-use Rattle.lard_resend.specs.declared.kept.Kept.{Kept}
-use Rattle.lard_resend.specs.Kept.{is_under, without}
-use Rattle.lard_resend.specs.Pending.{sent_of}
+use Rattle.lard_rules.specs.Node.{message}
 use Rattle.lard_resend.proofs.Ordered.{put_all}
-use Rattle.lard_rules.specs.declared.places.Ending.{Ending}
 use Rattle.lard_rules.specs.declared.places.Ending.TheVariants as ending
-use Rattle.lard_rules.specs.declared.places.Turn.{Turn}
-use Rattle.lard_rules.specs.Speaking.{listed}
 
 -- ---- what is kept
 

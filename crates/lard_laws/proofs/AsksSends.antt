@@ -4,52 +4,36 @@ use Rattle.std.proofs.lemmas.Bool.{and_parts, both_ways, ltb-true}
 use Rattle.std.proofs.lemmas.List.Sums.{fold-append}
 use Rattle.std.specs.List.{fold}
 use Rattle.lard_base.specs.declared.event.Event.TheVariants as event
-use Rattle.lard_base.specs.declared.parts.EndpointParts.{EndpointParts}
-use Rattle.lard_base.specs.declared.place.Place.{Place}
-use Rattle.lard_base.specs.declared.place.Place.TheVariants.{Client, Front, Node}
-use Rattle.lard_client.specs.Control.{ClientBlock}
+use Rattle.lard_law_view.specs.Prelude.{BackRow, Came, Client, ClientBlock, ClientRules, Conn, ControlBlock, EndpointParts, Front, IsEarlyAway, IsNodeEnv, Move, Node, NodeEnv, NodeGets, NodePart, Offered, Place, Rec, Row, Rules, Seen, Setting, SpellsMessage, Station, Stay, Turn, Was, client_begins, client_does, client_injects, client_opens, client_rule, epoch_in, front_does, front_rule, grown, inject_seen, is_gone, listed, node_does, node_put_back, node_rule, nothing_said, offer_answer, packet_seen, rows_of, seen_in, stands, tale_at}
+use Rattle.lard_law_view.proofs.EachFront.{each-front, of-front}
+use Rattle.lard_law_view.proofs.EachClient.{client_seen, each-client, of-client}
 use Rattle.lard_laws.specs.AsksSent.{AsksGoOn, IsNextAsk, ask_by, is_ask, last_ask, newest}
-use Rattle.lard_laws.proofs.AsksNodeAsks.{DeedAsks, IsNewer, acknowledged-asks, content-asks, forwarded-asks, offered-asks, read-asks, tagged-asks, timer-asks}
+use Rattle.lard_laws.proofs.AsksNodeAsks.{DeedAsks, IsNewer, MayAsk, rule-asks}
 use Rattle.lard_laws.proofs.AsksSending.{Outcome, PartAsks, asks_in}
 use Rattle.lard_law_connections.specs.MotionStory.{of_row, picked}
-use Rattle.lard_law_connections.proofs.MotionElsewhere.{IsUnsent, gave-unsent, note-unsent, timer-unsent}
 use Rattle.lard_law_connections.proofs.MotionNodes.{IsFirst}
-use Rattle.lard_law_connections.proofs.MotionPicking.{pick, pick-none, pick-parts, pick-seen, picked-append, picked-none, segments-none, timers-none}
+use Rattle.lard_law_connections.proofs.MotionPicking.{pick, pick-seen, picked-append, picked-none, segments-none, pick-sent}
 use Rattle.lard_law_connections.specs.Places.{IsDecided, IsEven, IsOffered, Owning, message_head, owning}
 use Rattle.lard_law_connections.proofs.PlacesFrontMessages.{came-says}
 use Rattle.lard_law_connections.proofs.PlacesNodeRules.{here-has}
 use Rattle.lard_law_connections.proofs.PlacesTurns.{IsPlaced}
-use Rattle.lard_law_view.specs.Carry.{tale_at}
-use Rattle.lard_law_view.specs.View.{ClientRules, Conn, IsNodeEnv, Move, Rules, Setting, SpellsMessage, Was, client_begins, client_does, epoch_in, event_seen, front_admits, front_does, grown, inject_seen, node_does, node_put_back, nothing_said, packet_seen, reads_first, rows_of, seen_in, sending, stands, timer_rows}
+use Rattle.lard_law_view.specs.View.{sending}
 use Rattle.lard_law_view.proofs.Fine.{IsItsOwn}
 use Rattle.lard_law_view.proofs.Parts.{put-same}
-use Rattle.lard_law_view.proofs.Saying.{GaveAt, NotedAt}
-use Rattle.lard_rules.specs.declared.front.FrontTurn.{FrontTurn}
 use Rattle.lard_rules.specs.Front as front
-use Rattle.lard_rules.specs.Front.{FrontPart, ask_of, front_asked, front_ended, front_gets, front_taken, front_timer}
-use Rattle.lard_handoff_back.specs.declared.row.BackRow.{BackRow}
 use Rattle.lard_handoff_back.specs.declared.table.Adopt.TheVariants.{New, Again, Stale}
-use Rattle.lard_handoff_back.specs.Back.{offer_answer}
-use Rattle.lard_handoff_back.specs.Row.{is_gone}
-use Rattle.lard_history.specs.Journal.{request}
-use Rattle.lard_history.specs.Own.{Came, Row, Seen}
 use Rattle.lard_history.proofs.Each.{Each, Each-weaker}
 use Rattle.lard_history.proofs.Seeing.{other_number}
-use Rattle.lard_journal.specs.declared.rec.Rec.{Rec}
 use Rattle.lard_journal.specs.declared.rec.Rec.TheVariants as rec
 use Rattle.lard_message.specs.declared.message.Body.TheVariants as body
+use Rattle.lard_law_view.proofs.NodeHeads.{heads-of}
+use Rattle.lard_laws.proofs.NodeHere.{here-of}
+use Rattle.lard_law_view.proofs.EachNode.{Answers, Aside, Brings, MayAside, NodeComes, Queues, aside_said, aside_seen, each-node, job_notes, node_goes, told_first}
+use Rattle.lard_rules.proofs.NodeCases.{IsHereWith, IsInItsEpoch}
 use Rattle.lard_rules.specs.Node as node
-use Rattle.lard_rules.specs.Node.{NodePart, here, node_acknowledged, node_content, node_forwarded, node_offered, node_read, node_tagged, node_timer}
-use Rattle.lard_rules.specs.Stay.{NodeEnv}
-use Rattle.lard_rules.specs.declared.places.Station.{Station}
-use Rattle.lard_rules.specs.declared.places.Turn.{Turn}
-use Rattle.lard_rules.specs.Speaking.{listed}
-use Rattle.lard_rules.specs.Client.{client_aborts, client_gets, client_holds, client_injects, client_opens, client_shuts, client_takes, client_timer, client_writes}
-use Rattle.lard_segment.specs.declared.segment.Dir.TheVariants.{ToClient, ToCluster}
-use Rattle.lard_segment.specs.Segment.{decoded}
 use Rattle.lard_law_view.proofs.EndpointSends.{AllTo}
-use Rattle.lard_rules.specs.FrontSound.{IsEarlyAway}
 use Rattle.lard_law_connections.proofs.PlacesWithNode.{offered-away}
+use Rattle.lard_law_view.proofs.RecordKinds.{IsUnsent}
 
 -- the last Asks that node n sent of the connection
 abbrev pub lasts : Conn → ℕ → ℕ → Option (List ℕ)
@@ -115,23 +99,13 @@ module _ (x : Conn) (v : Move) (own : IsItsOwn x v) (first : Each IsFirst v.head
   abbrev messages : List Rec
   messages = map (sending v.place) v.said.messages
 
-  abbrev timers : List Rec
-  timers = timer_rows v.place x.c x.part v.part
-
   -- its segments and its messages
   seen-asks : (n e : ℕ) → picked (of_row (ask_by n e)) (seen_in x v) ≡ pick (ask_by n e) segments ++ pick (ask_by n e) messages
   seen-asks n e =
       let f : Rec → Option (List ℕ) = ask_by n e in
       pick-seen f x v
       ∙ ap (λ l. l ++ pick f (rows_of x v)) (picked-none (of_row f) v.heads (Each-weaker IsFirst (λ s. of_row f s ≡ None) (ask-first n e) v.heads first))
-      ∙ pick-parts f x v
-      ∙ (λ i. pick-none f v.said.notes (Each-weaker (NotedAt v.place x.c) (λ r. f r ≡ None) (λ r h. ask-unsent n e r (note-unsent v.place x.c r h)) v.said.notes own.notes) i
-      ++ pick f segments
-      ++ pick-none f v.said.gave (Each-weaker (GaveAt v.place x.c) (λ r. f r ≡ None) (λ r h. ask-unsent n e r (gave-unsent v.place x.c r h)) v.said.gave own.gave) i
-      ++ pick f messages
-      ++ pick-none f timers (timers-none f (λ place d r h. ask-unsent n e r (timer-unsent place d r h)) v.place x.c x.part v.part) i)
-      ∙ append-nil (pick f segments ++ [] ++ pick f messages)
-      ∙ ap (λ l. l ++ pick f messages) (append-nil (pick f segments))
+      ∙ pick-sent f x v own (ask-unsent n e)
 
   -- the last ones then
   last-grown : (n e : ℕ) → lasts (grown x v) n e ≡ fold (λ (o : Option (List ℕ)) (bytes : List ℕ). Some bytes) (lasts x n e) (picked (of_row (ask_by n e)) (seen_in x v))
@@ -201,18 +175,12 @@ module _ (k : Setting) (x : Conn) where
   client-goes : (heads : List Seen) (s : Station) (given : ClientBlock × Turn) → Each IsFirst heads → Goes k x (client_does x s heads given)
   client-goes heads s given first placed h own = else-sends x (client_does x s heads given) own first tt refl h
 
-  event-goes : (e : _) (s : Station) (given : ClientBlock × Turn) → Goes k x (client_does x s (event_seen e) given)
-  event-goes e s given = client-goes (event_seen e) s given (tt, tt)
-
   -- ---- the front end
 
   front-goes : (heads : List Seen) → Each IsFirst heads → (d : front.FrontDeed) → Goes k x (front_does x heads d)
   front-goes heads first front.Drops placed h own = else-sends x (front_does x heads front.Drops) own first tt refl h
   front-goes heads first (front.Says turn) placed h own = else-sends x (front_does x heads (front.Says turn)) own first tt refl h
   front-goes heads first (front.Does did) placed h own = else-sends x (front_does x heads (front.Does did)) own first tt refl h
-
-  admits-goes : (given : FrontPart × FrontTurn) → Goes k x (front_admits x given)
-  admits-goes given placed h own = else-sends x (front_admits x given) own tt tt refl h
 
 -- ---- a node
 
@@ -226,26 +194,17 @@ module _ (k : Setting) (x : Conn) (n epoch : ℕ) (env : NodeEnv) (is : IsNodeEn
   abbrev DeedsAsk : node.NodeDeed → Type 0
   DeedsAsk d = (h : PartsAsk x) → DeedAsks x.c n (lasts x n) env is.number ours (h n) d
 
-  node-goes : (heads : List Seen) → Each IsFirst heads → (d : node.NodeDeed) → (IsPlaced x → DeedsAsk d) → Goes k x (node_does x n heads d)
-  node-goes heads first node.Drops asks placed h own =
-      let v : Move = node_does x n heads node.Drops in all-of x v own first (λ m. none-of x v own first m (λ e. refl) (λ e. refl) refl (h m))
-  node-goes heads first (node.Says ms) asks placed h own =
-      let v : Move = node_does x n heads (node.Says ms) in node-sends x v own first n refl 0 tt 0 ours refl (λ m other. refl) (asks placed h 0) h
-  node-goes heads first (node.Does given) asks placed h own =
-      let v : Move = node_does x n heads (node.Does given) in
+  -- behind the record of a job of its own, or none
+  node-goes : (heads : List Seen) → Each IsFirst heads → (first : List Rec) (d : node.NodeDeed) → (IsPlaced x → DeedsAsk d)
+      → Goes k x (told_first first (node_does x n heads d))
+  node-goes heads are first node.Drops asks placed h own =
+      let v : Move = told_first first (node_does x n heads node.Drops) in all-of x v own are (λ m. none-of x v own are m (λ e. refl) (λ e. refl) refl (h m))
+  node-goes heads are first (node.Says ms) asks placed h own =
+      let v : Move = told_first first (node_does x n heads (node.Says ms)) in node-sends x v own are n refl 0 tt 0 ours refl (λ m other. refl) (asks placed h 0) h
+  node-goes heads are first (node.Does given) asks placed h own =
+      let v : Move = told_first first (node_does x n heads (node.Does given)) in
       let out = asks placed h in
-      node-sends x v own first n refl env.serve.c out.1 (env.queue + length given.1.jobs) given.0 (put-same x.part.nodes n given.0) (put-other given.0) out.0 h
-
-  -- behind the record of a job of its own
-  read-goes : (r : Rec) (d : node.NodeDeed) → (IsPlaced x → DeedsAsk d) → Goes k x (reads_first r (node_does x n [] d))
-  read-goes r node.Drops asks placed h own =
-      let v : Move = reads_first r (node_does x n [] node.Drops) in all-of x v own tt (λ m. none-of x v own tt m (λ e. refl) (λ e. refl) refl (h m))
-  read-goes r (node.Says ms) asks placed h own =
-      let v : Move = reads_first r (node_does x n [] (node.Says ms)) in node-sends x v own tt n refl 0 tt 0 ours refl (λ m other. refl) (asks placed h 0) h
-  read-goes r (node.Does given) asks placed h own =
-      let v : Move = reads_first r (node_does x n [] (node.Does given)) in
-      let out = asks placed h in
-      node-sends x v own tt n refl env.serve.c out.1 (env.queue + length given.1.jobs) given.0 (put-same x.part.nodes n given.0) (put-other given.0) out.0 h
+      node-sends x v own are n refl env.serve.c out.1 (env.queue + length given.1.jobs) given.0 (put-same x.part.nodes n given.0) (put-other given.0) out.0 h
 
   -- ---- its epoch
 
@@ -253,8 +212,8 @@ module _ (k : Setting) (x : Conn) (n epoch : ℕ) (env : NodeEnv) (is : IsNodeEn
     abbrev owns : Owning
     owns = owning (tale_at x)
 
-    pub small-here : (y : _) → here env.epoch ours ≡ Some y → env.epoch < 2 ^ 16
-    small-here y e = let early = (here-has x placed n env.epoch y.0 y.1 e).can.early in omega (arith, early)
+    pub small-here : (b : ControlBlock) (s : Stay) → IsHereWith env.epoch ours b s → env.epoch < 2 ^ 16
+    small-here b s at = let early = (here-has x placed n env.epoch b s (here-of env.epoch ours b s at)).can.early in omega (arith, early)
 
     undecided-away : IsDecided env.epoch ours.row ⊎ IsOffered n env.epoch x.part.front.row → (IsDecided env.epoch ours.row → ⊥) → IsEven env.epoch × IsEarlyAway env.epoch
     undecided-away said other = offered-away x placed n env.epoch (⊎_elim (λ (d : IsDecided env.epoch ours.row). absurd (other d)) (λ (o : IsOffered n env.epoch x.part.front.row). o) said)
@@ -280,6 +239,16 @@ module _ (k : Setting) (x : Conn) (n epoch : ℕ) (env : NodeEnv) (is : IsNodeEn
   offer-said placed parts bytes spells was =
       subst (λ (e : ℕ). IsDecided e ours.row ⊎ IsOffered n e x.part.front.row) (sym is.epoch_is) (came-says x Front (Node n) epoch (body.Offer parts) bytes placed.letters was spells)
 
+  -- what is known of an Offer that comes
+  may-ask : (heads : List Seen) (g : NodeGets) → NodeComes x n epoch heads g → IsPlaced x → (h : PartsAsk x)
+      → MayAsk x.c n (lasts x n) env is.number ours (h n) g
+  may-ask heads (Offered parts) comes placed h = newer placed h (offer-said placed parts comes.bytes comes.spells comes.was)
+  may-ask heads _ comes placed h = tt
+
+  pub rule-goes : (heads : List Seen) (g : NodeGets) → IsInItsEpoch env ours g → NodeComes x n epoch heads g → Goes k x (node_goes x n env heads g)
+  rule-goes heads g at comes = node-goes heads (heads-of IsFirst (λ l. tt) (λ i c. tt) x n epoch heads g comes) (job_notes x.c n g) (node_rule env ours g)
+      (λ placed h. rule-asks x.c n (lasts x n) env is.number ours (h n) (small-here placed) g at (may-ask heads g comes placed h))
+
 -- what it does for another one
 stands-goes : (k : Setting) (x : Conn) (n from : ℕ) (heads : List Seen) → Each IsFirst heads → (notes : List Rec) (bytes : List (List ℕ)) → Goes k x (stands x (Node n) heads (record { notes = notes; segments = []; gave = []; messages = map (λ b. (Node from, b)) bytes }))
 stands-goes k x n from heads first notes bytes placed h own =
@@ -297,50 +266,24 @@ ignores-goes k x from to bytes placed h own =
 
 module _ (k : Setting) where
   clients : ClientRules k (Goes k)
-  clients = record {
-    opens = λ x isn iss wnd mss rule none. client-goes k x (client_begins x isn iss wnd mss).heads (record { client = (client_opens x.c isn wnd mss).0; iss = iss }) (client_opens x.c isn wnd mss) (tt, (tt, tt));
-    gets = λ x s path there le. event-goes k x (event.Get x.c path) s (client_writes s.client (request path));
-    writes = λ x s bytes there le. event-goes k x (event.Write x.c bytes) s (client_writes s.client bytes);
-    shuts = λ x s there. event-goes k x (event.Shut x.c) s (client_shuts s.client);
-    aborts = λ x s there. event-goes k x (event.Abort x.c) s (client_aborts s.client);
-    holds = λ x s there. event-goes k x (event.Hold x.c) s (client_holds s.client);
-    takes = λ x s there. event-goes k x (event.Take x.c) s (client_takes s.client);
-    fires = λ x s there. event-goes k x (event.Timer (Client x.c) x.c) s (client_timer s.client);
-    hears = λ x s from bytes there was. client-goes k x (packet_seen from (Client x.c) bytes) s (client_gets s.client (decoded bytes x.c ToClient)) (tt, tt);
-  }
+  clients = each-client k (Goes k) (record {
+    opens = λ x isn iss wnd mss rule none. client-goes k x (client_begins x isn iss wnd mss).heads (record { client = (client_opens x.c isn wnd mss).0; iss = iss })
+        (client_opens x.c isn wnd mss) (tt, (tt, tt));
+    does = λ x s g there comes. client-goes k x (client_seen x.c g) s (client_rule x.c s.client g) (of-client x.c (Each IsFirst) (λ from bytes. (tt, tt)) (λ e. (tt, tt)) g);
+  })
+
+  asides-go : (x : Conn) (n : ℕ) (a : Aside) → MayAside k x n a → Goes k x (stands x (Node n) (aside_seen n a) (aside_said k n x.c a))
+  asides-go x n (Answers from epoch r path file bytes) may = stands-goes k x n from (packet_seen (Node from) (Node n) bytes) (tt, tt) [] (_ ∷ [])
+  asides-go x n (Queues from epoch r path file bytes) may = stands-goes k x n from (packet_seen (Node from) (Node n) bytes) (tt, tt) (rec.Queued n from x.c r path ∷ []) []
+  asides-go x n (Brings from epoch r path) may = stands-goes k x n from [] tt (rec.Read n from x.c r path ∷ []) (_ ∷ [])
 
   pub all-send : Rules k (Goes k)
   all-send = record {
     untouched = record {
       client = clients;
-      front = record {
-        hears = λ x s env bytes there is iss was. front-goes k x (packet_seen (Client x.c) Front bytes) (tt, tt) (front_gets env x.part.front bytes (decoded bytes x.c ToCluster));
-        fires = λ x s env there is. front-goes k x (event_seen (event.Timer Front x.c)) (tt, tt) (front_timer env x.part.front);
-        taken = λ x env n epoch bytes is spells was. front-goes k x (packet_seen (Node n) Front bytes) (tt, tt) (front_taken x.part.front epoch);
-        asked = λ x env n epoch number queue size paths bytes is spells was. front-goes k x (packet_seen (Node n) Front bytes) (tt, tt) (front_asked env x.part.front n epoch (ask_of x.c n number queue size paths));
-        ended = λ x env n epoch reason snd rcv count bytes is spells was.
-            front-goes k x (packet_seen (Node n) Front bytes) (tt, tt) (front_ended env x.part.front n epoch (record { reason = reason; snd = record { 0 = snd }; rcv = record { 0 = rcv } }));
-        admitted = λ x env choice given is e. admits-goes k x given;
-      };
-      node = record {
-        offered = λ x n epoch env parts bytes is spells was. node-goes k x n epoch env is (packet_seen Front (Node n) bytes) (tt, tt) (node_offered env (x.part.nodes n) parts)
-            (λ placed h. offered-asks x.c n (lasts x n) env is.number (x.part.nodes n) (h n) parts (newer k x n epoch env is placed h (offer-said k x n epoch env is placed parts bytes spells was)));
-        forwarded = λ x n epoch env segment bytes is spells was. node-goes k x n epoch env is (packet_seen Front (Node n) bytes) (tt, tt) (node_forwarded env (x.part.nodes n) (decoded segment x.c ToCluster))
-            (λ placed h. forwarded-asks x.c n (lasts x n) env is.number (x.part.nodes n) (h n) (small-here k x n epoch env is placed) (decoded segment x.c ToCluster));
-        tagged = λ x n epoch number tags env bytes is spells was. node-goes k x n epoch env is (packet_seen Front (Node n) bytes) (tt, tt) (node_tagged env (x.part.nodes n) number tags)
-            (λ placed h. tagged-asks x.c n (lasts x n) env is.number (x.part.nodes n) (h n) (small-here k x n epoch env is placed) number tags);
-        content = λ x n from epoch r env file bytes is spells was. node-goes k x n epoch env is (packet_seen (Node from) (Node n) bytes) (tt, tt) (node_content env (x.part.nodes n) from r)
-            (λ placed h. content-asks x.c n (lasts x n) env is.number (x.part.nodes n) (h n) (small-here k x n epoch env is placed) from r);
-        acknowledged = λ x n epoch env bytes is spells was. node-goes k x n epoch env is (packet_seen Front (Node n) bytes) (tt, tt) (node_acknowledged env (x.part.nodes n))
-            (λ placed h. acknowledged-asks x.c n (lasts x n) env is.number (x.part.nodes n) (h n));
-        read = λ x n epoch r env path is. read-goes k x n epoch env is (rec.Read n n x.c r path) (node_read env (x.part.nodes n) r)
-            (λ placed h. read-asks x.c n (lasts x n) env is.number (x.part.nodes n) (h n) (small-here k x n epoch env is placed) r);
-        fires = λ x s n env there is. node-goes k x n (epoch_in (x.part.nodes n)) env is (event_seen (event.Timer (Node n) x.c)) (tt, tt) (node_timer env (x.part.nodes n))
-            (λ placed h. timer-asks x.c n (lasts x n) env is.number (x.part.nodes n) (h n) (small-here k x n (epoch_in (x.part.nodes n)) env is placed) is.epoch_is);
-        answers = λ x n from epoch r path file bytes there spells was. stands-goes k x n from (packet_seen (Node from) (Node n) bytes) (tt, tt) [] (_ ∷ []);
-        queues = λ x n from epoch r path file bytes there spells was. stands-goes k x n from (packet_seen (Node from) (Node n) bytes) (tt, tt) (rec.Queued n from x.c r path ∷ []) [];
-        brings = λ x n from epoch r path. stands-goes k x n from [] tt (rec.Read n from x.c r path ∷ []) (_ ∷ []);
-      };
+      front = each-front k (Goes k) (λ x env heads g is comes. front-goes k x heads
+          (of-front x (Each IsFirst) (λ from bytes. (tt, tt)) tt (tt, tt) env heads g comes) (front_rule env x.part.front g));
+      node = each-node k (Goes k) (record { does = λ x n epoch env heads g is at comes. rule-goes k x n epoch env is heads g at comes; aside = asides-go });
       ignores = λ x from to bytes was. ignores-goes k x from to bytes;
     };
     injects = λ x s bytes there rule. client-goes k x (inject_seen x.c bytes) s (client_injects s.client bytes) (tt, (tt, tt));

@@ -5,21 +5,16 @@ use Rattle.std.proofs.lemmas.Bool.{cond_both}
 use Rattle.std.proofs.lemmas.List.{length-append}
 use Rattle.std.specs.FinMap as table
 use Rattle.std.specs.List.{list_any}
-use Rattle.lard_base.specs.declared.parts.EndpointParts.{EndpointParts}
-use Rattle.lard_base.specs.declared.place.Place.{Place}
-use Rattle.lard_base.specs.declared.place.Place.TheVariants.{Client, Front, Node}
-use Rattle.lard_cache.specs.Recency.{Recency, has_path}
-use Rattle.lard_rules.specs.declared.machine.Machine.{Machine}
-use Rattle.lard_rules.specs.Bounds.{IsConnNumber}
-use Rattle.lard_rules.specs.Machine.{node_at, node_setting}
+use Rattle.lard_law_view.specs.Prelude.{Acknowledged, AreNumbered, BackRow, Body, Client, Completed, Conn, Content, ControlBlock, EndpointParts, Fires, Forwarded, Front, IsConnNumber, IsNodeEnv, IsViewed, Job, Machine, Message, MsgFault, Node, NodeDeed, NodeEnv, NodeGets, NodePart, NodeState, NodeTurn, Offered, Out, Packet, Part, Place, Rec, Recency, SpellsMessage, Station, Stay, Tagged, ToCluster, Was, aside, completed, conn, content_sent, decoded, decoded_message, disk_step, epoch_in, fetched, fetched_file, has_path, is_for, job_at, node_acknowledged, node_at, node_content, node_deed, node_env, node_epoch_at, node_forwarded, node_gets, node_hears, node_offered, node_part, node_read, node_rule, node_saying, node_setting, node_step, node_tagged, node_timer, node_timers, nothing_done, offer_answer, own, packet_at, part_of, sent_of, setting_of, timer_rows, with_first}
 use Rattle.lard_laws.specs.AsksSent.{AsksGoOn, IsNextAsk, ask_by, last_ask}
-use Rattle.lard_laws.proofs.AsksNodeAsks.{DeedAsks, IsNewer, acknowledged-asks, content-asks, forwarded-asks, offered-asks, read-asks, tagged-asks, timer-asks}
+use Rattle.lard_laws.proofs.AsksNodeAsks.{DeedAsks, IsNewer, MayAsk, rule-asks}
 use Rattle.lard_laws.proofs.AsksSending.{PartAsks, asks_in}
 use Rattle.lard_laws.proofs.AsksSends.{PartsAsk, lasts, newer, offer-said, small-here}
-use Rattle.lard_law_connections.proofs.MotionElsewhere.{IsUnsent, gave-unsent, note-unsent, timer-unsent}
+use Rattle.lard_law_view.proofs.OfKinds.{gave-unsent, note-unsent, timer-unsent}
+use Rattle.lard_law_view.proofs.RecordKinds.{IsUnsent}
 use Rattle.lard_law_connections.proofs.MotionPicking.{pick, segments-none}
 use Rattle.lard_law_connections.proofs.PlacesTurns.{IsPlaced}
-use Rattle.lard_law_view.specs.View.{AreNumbered, Conn, IsNodeEnv, IsViewed, Part, SpellsMessage, Was, conn, epoch_in, part_of, sending, setting_of, timer_rows}
+use Rattle.lard_law_view.specs.View.{sending}
 use Rattle.lard_law_view.proofs.Heads.{was}
 use Rattle.lard_law_view.proofs.Naming.{decoded-names}
 use Rattle.lard_law_view.proofs.Nodes as nodes
@@ -29,32 +24,13 @@ use Rattle.lard_law_view.proofs.Parts.{node-kept}
 use Rattle.lard_law_view.proofs.Saying.{AreMessages, GaveAt, NotedAt}
 use Rattle.lard_law_view.proofs.Timers.{IsTimerAt, timer_rows-are}
 use Rattle.lard_law_view.proofs.Turned.{sent-messages}
-use Rattle.lard_disk.specs.declared.disk.Job.{Job}
-use Rattle.lard_disk.specs.Jobs.{is_for, job_at}
 use Rattle.lard_handoff_back.specs.declared.table.Adopt.TheVariants.{New}
-use Rattle.lard_handoff_back.specs.Back.{offer_answer}
-use Rattle.lard_history.specs.Own.{own}
 use Rattle.lard_history.proofs.Each.{Each, Each-weaker}
-use Rattle.lard_journal.specs.declared.rec.Rec.{Rec}
 use Rattle.lard_journal.specs.declared.rec.Rec.TheVariants as rec
-use Rattle.lard_message.specs.declared.fault.MsgFault.{MsgFault}
-use Rattle.lard_message.specs.declared.message.Body.{Body}
 use Rattle.lard_message.specs.declared.message.Body.TheVariants as body
-use Rattle.lard_message.specs.declared.message.Message.{Message}
-use Rattle.lard_message.specs.Reading.{decoded_message}
-use Rattle.lard_net.specs.Net.{Packet, packet_at}
 use Rattle.lard_rules.specs.declared.node.BackIn.TheVariants as back
-use Rattle.lard_rules.specs.declared.node.NodeState.{NodeState}
-use Rattle.lard_rules.specs.declared.node.NodeTurn.{NodeTurn}
-use Rattle.lard_rules.specs.Node.{NodeDeed, Drops, Says, Does, NodePart, here, node_acknowledged, node_content, node_forwarded, node_offered, node_read, node_tagged, node_timer, node_saying}
-use Rattle.lard_rules.specs.NodePlace.{aside, completed, content_sent, disk_step, node_epoch_at, fetched, fetched_file, node_deed, node_env, node_gets, node_hears, node_part, node_step, node_timers, with_first}
-use Rattle.lard_rules.specs.Stay.{NodeEnv}
-use Rattle.lard_resend.specs.Pending.{sent_of}
-use Rattle.lard_rules.specs.declared.places.Out.{Out}
-use Rattle.lard_rules.specs.declared.places.Station.{Station}
-use Rattle.lard_rules.specs.Outs.{nothing_done}
-use Rattle.lard_segment.specs.declared.segment.Dir.TheVariants.{ToCluster}
-use Rattle.lard_segment.specs.Segment.{decoded}
+use Rattle.lard_rules.specs.Node.{Drops, Says, Does}
+use Rattle.lard_rules.proofs.NodeCases.{IsHereWith, IsInItsEpoch}
 
 -- A node's step from this journal: the Asks of one connection go on, and nothing else is an Ask.
 pub record Told (J : List Rec) (i : ℕ) (x : NodeState × Out) : Type 0 where
@@ -128,24 +104,28 @@ module _ (m : Machine) (view : IsViewed m) (placed : (c : ℕ) → IsPlaced (con
         }
 
     -- its epoch, where it is here
-    small : (y : _) → here env.epoch p ≡ Some y → env.epoch < 2 ^ 16
+    small : (b : ControlBlock) (y : Stay) → IsHereWith env.epoch p b y → env.epoch < 2 ^ 16
     unfolding conn
-    small = subst (λ (q : NodePart). (y : _) → here env.epoch q ≡ Some y → env.epoch < 2 ^ 16) (node-kept m i s c there) (small-here (setting_of m) x i epoch env is-env (placed c))
+    small = subst (λ (q : NodePart). (b : ControlBlock) (y : Stay) → IsHereWith env.epoch q b y → env.epoch < 2 ^ 16) (node-kept m i s c there) (small-here (setting_of m) x i epoch env is-env (placed c))
+
+    rule-told : (g : NodeGets) → IsInItsEpoch env p g → MayAsk c i (lasts x i) env refl p part-known g → IsNodeDeed i c p (node_rule env p g)
+        → Tells (node_deed (node_setting m i) u c (node_rule env p g))
+    rule-told g at may good = deed-told (node_rule env p g) (rule-asks c i (lasts x i) env refl p part-known small g at may) good
 
     forwarded : (bytes : List ℕ) → Tells (node_deed (node_setting m i) u c (node_forwarded env p (decoded bytes c ToCluster)))
-    forwarded bytes = deed-told _ (forwarded-asks c i (lasts x i) env refl p part-known small (decoded bytes c ToCluster)) (nodes.forwarded-deed env refl number p (decoded bytes c ToCluster))
+    forwarded bytes = rule-told (Forwarded (decoded bytes c ToCluster)) tt tt (nodes.forwarded-deed env refl number p (decoded bytes c ToCluster))
 
     tagged : (tag : ℕ) (ns : List ℕ) → Tells (node_deed (node_setting m i) u c (node_tagged env p tag ns))
-    tagged tag ns = deed-told _ (tagged-asks c i (lasts x i) env refl p part-known small tag ns) (nodes.tagged-deed env refl number p tag ns)
+    tagged tag ns = rule-told (Tagged tag ns) tt tt (nodes.tagged-deed env refl number p tag ns)
 
     content : (from r : ℕ) → Tells (node_deed (node_setting m i) u c (node_content env p from r))
-    content from r = deed-told _ (content-asks c i (lasts x i) env refl p part-known small from r) (nodes.content-deed env refl number p from r)
+    content from r = rule-told (Content from r) tt tt (nodes.content-deed env refl number p from r)
 
     read : (r : ℕ) → Tells (node_deed (node_setting m i) u c (node_read env p r))
-    read r = deed-told _ (read-asks c i (lasts x i) env refl p part-known small r) (nodes.read-deed env refl number p r)
+    read r = rule-told (Completed r []) tt tt (nodes.read-deed env refl number p r)
 
     acknowledged : Tells (node_deed (node_setting m i) u c (node_acknowledged env p))
-    acknowledged = deed-told _ (acknowledged-asks c i (lasts x i) env refl p part-known) (nodes.acknowledged-deed env refl number p)
+    acknowledged = rule-told Acknowledged tt tt (nodes.acknowledged-deed env refl number p)
 
     -- an Offer that was sent to it
     offered : (parts : EndpointParts) (bytes : List ℕ) → SpellsMessage c epoch (body.Offer parts) bytes → Was x Front (Node i) bytes → Tells (node_deed (node_setting m i) u c (node_offered env p parts))
@@ -154,8 +134,8 @@ module _ (m : Machine) (view : IsViewed m) (placed : (c : ℕ) → IsPlaced (con
         let kept_is = node-kept m i s c there in
         let new : offer_answer env.epoch ((part_of m c).nodes i).row ≡ New → IsNewer c i (lasts x i) env refl ((part_of m c).nodes i) (known c i) =
         newer (setting_of m) x i epoch env is-env (placed c) (known c) (offer-said (setting_of m) x i epoch env is-env (placed c) parts bytes spells sent) in
-        deed-told _ (offered-asks c i (lasts x i) env refl p part-known parts
-        (λ e. let n = new (ap (λ (q : NodePart). offer_answer env.epoch q.row) kept_is ∙ e) in record { small = n.small; above = subst (λ (q : NodePart). epoch_in q < env.epoch) kept_is n.above }))
+        rule-told (Offered parts) tt
+        (λ e. let n = new (ap (λ (q : NodePart). offer_answer env.epoch q.row) kept_is ∙ e) in record { small = n.small; above = subst (λ (q : NodePart). epoch_in q < env.epoch) kept_is n.above })
         (nodes.offered-deed env refl number p parts)
 
     -- its timer fires
@@ -167,7 +147,7 @@ module _ (m : Machine) (view : IsViewed m) (placed : (c : ℕ) → IsPlaced (con
         subst (λ (q : NodePart). AreMessages c (Node i) (map sent_of q.kept)) kept_is (sent-messages x (Node i) ((part_of m c).nodes i).kept (view.sound c).between ((view.sound c).kept i)) in
         let fetches : AreMessages c (Node i) (map sent_of p.fetches) =
         subst (λ (q : NodePart). AreMessages c (Node i) (map sent_of q.fetches)) kept_is (sent-messages x (Node i) ((part_of m c).nodes i).fetches (view.sound c).between ((view.sound c).fetches i)) in
-        deed-told _ (timer-asks c i (lasts x i) env refl p part-known small at) (nodes.fires-deed env refl number p kept fetches)
+        rule-told Fires (λ row found. sym (at ∙ ap (λ (o : Option BackRow). epoch_in (record p { row = o })) found)) tt (nodes.fires-deed env refl number p kept fetches)
 
   -- ---- what a node does for another one
 

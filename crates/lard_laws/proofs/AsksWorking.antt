@@ -1,18 +1,9 @@
 -- The Ask that a node makes in a turn: at most one, whose number is the next, with the jobs that the disk has at the end of it.
 use Rattle.std.proofs.Common.{◌≡◌, ℕ, ◌+◌, ◌-◌, nat_lt, Bool, false, List, [], ◌∷◌, length, Option, Some, None, refl, sym, ap, ◌∙◌, subst}
 use Rattle.std.proofs.lemmas.Bool.{cond_both}
-use Rattle.lard_answers.specs.Answers.{FilesAt}
-use Rattle.lard_rules.specs.declared.stay.Asked.{Asked}
-use Rattle.lard_rules.specs.declared.stay.Entry.{Entry}
-use Rattle.lard_rules.specs.declared.stay.Progress.{Progress}
+use Rattle.lard_law_view.specs.Prelude.{Asked, Entry, FilesAt, NodeEnv, Progress, Service, Verdict, Via, Work, and_path, answered, batch_of, bytes_used, came_for, come_on, ended_at_fin, goes_on, left_by, named_paths, path_in, reads_batch, serves_with, serving_consumed, state_of, tagged}
 use Rattle.lard_rules.specs.declared.stay.Progress.TheVariants as progress
-use Rattle.lard_rules.specs.Stay.{NodeEnv, Work, and_path, came_for, come_on, goes_on, left_by, named_paths, path_in, reads_batch, serves_with, tagged}
-use Rattle.lard_reader.specs.Batches.{batch_of, bytes_used}
-use Rattle.lard_request.specs.declared.verdict.Verdict.{Verdict}
-use Rattle.lard_rules.specs.Loop.{state_of}
-use Rattle.lard_rules.specs.Serving.{Service, serving_consumed, ended_at_fin, answered}
 use Rattle.lard_rules.proofs.StayWalking.{KeptByReads, KeptByStarts, StepIn, goes-in, state-in, tagged-in, these-in}
-use Rattle.lard_base.specs.declared.place.Via.{Via}
 
 module _ (env : NodeEnv) (was : ℕ) where
   abbrev files : FilesAt

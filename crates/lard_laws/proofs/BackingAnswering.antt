@@ -2,11 +2,8 @@
 use Rattle.std.proofs.Common.{◌≡◌, ◌≤◌, ◌+◌, ℕ, zero, suc, false, List, [], ◌∷◌, ◌++◌, length, take, Option, Some, None, refl, sym, ap, ◌∙◌, subst, arith, inl, inr, append-nil}
 use Rattle.std.specs.List.{slice_get}
 use Rattle.std.proofs.lemmas.List.{length-append}
-use Rattle.lard_answers.specs.Answers.{FilesAt, IsPrefix, good_path, verdicts}
+use Rattle.lard_law_view.specs.Prelude.{Client, EachMay, FilesAt, Front, IsPrefix, Node, Place, Rec, Verdict, Via, and_path, assigned, good_path, is_touched, served, verdicts, whose}
 use Rattle.lard_answers.proofs.Growing.{verdicts-grow}
-use Rattle.lard_base.specs.declared.place.Place.{Place}
-use Rattle.lard_base.specs.declared.place.Place.TheVariants.{Client, Front, Node}
-use Rattle.lard_base.specs.declared.place.Via.{Via}
 use Rattle.lard_laws.specs.BackingRequests.{AnswersFrom, IsFor, MayAnswerFrom}
 use Rattle.lard_laws.specs.BackingState.{MayBack}
 use Rattle.lard_laws.proofs.BackingMarks.{Marked, MayMark, marked-by, untouched-before}
@@ -15,13 +12,7 @@ use Rattle.lard_laws.specs.WaysUnder.{Assigned}
 use Rattle.lard_laws.specs.Ways.{AnswersBy, AnswersNextAt, ComesAsAssigned, WayMarks, MayComeThisWay, good_paths, way_marks}
 use Rattle.lard_laws.proofs.WaysGoods.{answered-grow, good-append, good-prefix}
 use Rattle.lard_laws.proofs.WaysMarking.{mark}
-use Rattle.lard_history.specs.Journal.{assigned, is_touched, served}
-use Rattle.lard_history.specs.Laws.{EachMay}
-use Rattle.lard_history.specs.Own.{whose}
-use Rattle.lard_journal.specs.declared.rec.Rec.{Rec}
 use Rattle.lard_journal.specs.declared.rec.Rec.TheVariants as rec
-use Rattle.lard_rules.specs.Stay.{and_path}
-use Rattle.lard_request.specs.declared.verdict.Verdict.{Verdict}
 
 -- ---- fronts of a list
 

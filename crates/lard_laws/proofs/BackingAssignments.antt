@@ -6,18 +6,13 @@ use Rattle.std.proofs.lemmas.Bool.{eqb-true, ltb-false, ltb-true}
 use Rattle.std.proofs.lemmas.List.{length_push}
 use Rattle.std.proofs.lemmas.List.Sums.{fold-append}
 use Rattle.lard_laws.specs.Asks.{Answered, Asking, AskTale, ask_on, ask_tale, asks_step, came_done, is_next, row_done, unasked}
-use Rattle.lard_answers.specs.Answers.{FilesAt}
+use Rattle.lard_law_view.specs.Prelude.{Came, EachMay, FilesAt, Letter, Packet, Rec, Row, Seen, assigned, assigned_step, came_seen, conn_of, is_touched, letter_of, net_of, one_of, own, packet_at, plain, seen_of, whose}
 use Rattle.lard_laws.specs.BackingState.{MayBack}
 use Rattle.lard_laws.specs.BackingTold.{files_before}
 use Rattle.lard_laws.proofs.BackingMarks.{MayMark, each-at, untouched-before}
 use Rattle.lard_laws.specs.Ways.{way_marks}
-use Rattle.lard_history.specs.Journal.{assigned, assigned_step, is_touched}
-use Rattle.lard_history.specs.Laws.{EachMay}
-use Rattle.lard_history.specs.Own.{Came, Letter, Row, Seen, came_seen, conn_of, letter_of, net_of, one_of, own, plain, seen_of, whose}
 use Rattle.lard_history.proofs.Seeing.{own-append}
-use Rattle.lard_journal.specs.declared.rec.Rec.{Rec}
 use Rattle.lard_journal.specs.declared.rec.Rec.TheVariants as rec
-use Rattle.lard_net.specs.Net.{Packet, packet_at}
 
 -- what was answered of Asks
 abbrev pub done : ℕ → List Rec → Answered

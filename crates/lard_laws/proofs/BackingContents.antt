@@ -2,14 +2,9 @@
 use Rattle.std.proofs.Common.{◌≡◌, ◌<◌, ◌+◌, ◌^◌, ℕ, Bool, true, false, cond, List, [], ◌∷◌, ◌++◌, Some, Ok, refl, sym, ap, ◌∙◌, subst, arith, inl, inr, ⊎_elim, append_assoc}
 use Rattle.std.specs.Prelude.{◌⊎◌, slice_get}
 use Rattle.std.specs.List.{AllByRecursion}
-use Rattle.lard_answers.specs.Answers.{FilesAt, good_path, verdicts}
-use Rattle.lard_base.specs.declared.event.Event.{Event}
+use Rattle.lard_law_view.specs.Prelude.{Came, Client, EachMay, EachStep, Event, FilesAt, Front, Has, IsConnNumber, Letter, Message, Node, Place, Rec, Seen, Via, content_bytes, decoded_message, good_path, is_opening, is_touched, letter_of, named_in, net_of, own, seen_on, served, split, steps, verdicts, whose, wrote}
 use Rattle.lard_base.specs.declared.event.Event.TheVariants as event
-use Rattle.lard_base.specs.declared.place.Place.{Place}
-use Rattle.lard_base.specs.declared.place.Place.TheVariants.{Client, Front, Node}
-use Rattle.lard_base.specs.declared.place.Via.{Via}
 use Rattle.lard_base.specs.declared.place.Via.TheVariants as via
-use Rattle.lard_rules.specs.Bounds.{IsConnNumber}
 use Rattle.lard_laws.specs.BackingRequests.{HasComeFor, IsBehindTold, IsFor, IsQueuedAndRead, MayBeBacked, StandsFor, WasFor}
 use Rattle.lard_laws.specs.BackingState.{MayBack, SaysFor}
 use Rattle.lard_laws.proofs.BackingFinding.{IsSentIn, Stands, came-sent, each-from, has-stands, job-queued, packet-sent}
@@ -23,19 +18,11 @@ use Rattle.lard_law_connections.specs.StoresLaws.{CompletesJob, MayStore, MustRe
 use Rattle.lard_law_view.proofs.Naming.{decoded-names, spelled-named}
 use Rattle.lard_laws.specs.WaysContents.{AnswersFetch, BringsFile, IsContentMessage, MayBring, MustBring}
 use Rattle.lard_laws.specs.Ways.{AnswersNextAt, MayComeThisWay, way_marks}
-use Rattle.lard_history.specs.Journal.{is_touched, served, wrote}
-use Rattle.lard_history.specs.Laws.{EachMay}
-use Rattle.lard_history.specs.Own.{Came, Has, Letter, Seen, letter_of, named_in, net_of, own, seen_on, whose}
-use Rattle.lard_history.specs.Steps.{EachStep, is_opening, split, steps}
 use Rattle.lard_history.proofs.Each.{Each}
 use Rattle.lard_history.proofs.Seeing.{has-before, has-behind, own-append}
-use Rattle.lard_journal.specs.declared.rec.Rec.{Rec}
 use Rattle.lard_journal.specs.declared.rec.Rec.TheVariants as rec
 use Rattle.lard_message.specs.declared.message.Body.TheVariants as body
-use Rattle.lard_message.specs.declared.message.Message.{Message}
-use Rattle.lard_message.specs.Reading.{decoded_message}
 use Rattle.lard_rules.specs.Node.{message}
-use Rattle.lard_rules.specs.NodePlace.{content_bytes}
 
 -- ---- a request is for one path
 

@@ -5,12 +5,9 @@ use Rattle.std.specs.List.{fold}
 use Rattle.std.proofs.lemmas.Bool.{eqb-true}
 use Rattle.std.proofs.lemmas.List.{map-append}
 use Rattle.lard_counts.specs.Stores.{Queue, Waiting, jobs, jobs_step, no_jobs, waiting_at, without_waiting}
-use Rattle.lard_history.specs.Laws.{EachMay}
-use Rattle.lard_history.specs.Own.{Came, Has, Letter, Row, Seen, came_seen, letter_of, net_of, net_step, one_of, own, plain, seen_of, seen_on, whose}
+use Rattle.lard_law_view.specs.Prelude.{Came, EachMay, Has, Letter, Packet, Rec, Row, Seen, came_seen, letter_of, lose_at, net_of, net_step, one_of, own, packet_at, plain, seen_of, seen_on, whose}
 use Rattle.lard_history.proofs.Seeing.{has-before}
-use Rattle.lard_journal.specs.declared.rec.Rec.{Rec}
 use Rattle.lard_journal.specs.declared.rec.Rec.TheVariants as rec
-use Rattle.lard_net.specs.Net.{Packet, lose_at, packet_at}
 
 -- ---- one of a list
 

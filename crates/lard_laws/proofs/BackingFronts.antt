@@ -1,7 +1,6 @@
 -- The rules of the front end: it answers before anything is assigned, and assigns the next request.
 use Rattle.std.proofs.Common.{◌≡◌, ◌≤◌, ◌+◌, ◌^◌, ℕ, Bool, true, false, List, [], ◌∷◌, ◌++◌, Option, Some, None, ⊎_elim, refl, sym, ap, ◌∙◌, subst}
-use Rattle.lard_answers.specs.Answers.{FilesAt}
-use Rattle.lard_base.specs.declared.place.Place.TheVariants.{Front, Node}
+use Rattle.lard_law_view.specs.Prelude.{Ask, Conn, ControlBlock, FilesAt, Final, FirstChoice, Front, FrontConn, FrontDeed, FrontEnv, FrontPart, FrontRest, FrontRow, IsFrontEnv, IsWord, LaterChoice, MayMove, Move, Node, NodePart, Reading, Rec, Said, Seen, Service, Setting, Station, Talk, Verdict, ack_sent, assigned_notes, assigns, fires_at, forwarded, front_admits, front_asked, front_begun, front_does, front_ended, front_ends, front_hears, front_reads, front_rest, front_saying, front_taken, front_timer, handed_off, hears_at, holds, is_row_at, is_with, last_words, may_freeze, next_epoch, over_note, placed, serving, serving_settled, tag_sent, taken_by, tombstone, turn_here}
 use Rattle.lard_laws.specs.BackingRequests.{IsFor}
 use Rattle.lard_laws.proofs.BackingMoving.{Keeps, makes, others-for}
 use Rattle.lard_laws.proofs.BackingNext.{next-for}
@@ -16,41 +15,19 @@ use Rattle.lard_law_connections.proofs.BytesServing.{So}
 use Rattle.lard_law_connections.proofs.PlacesLoops.{settled-is}
 use Rattle.lard_law_connections.proofs.PolicyAsides.{IsAside}
 use Rattle.lard_law_connections.proofs.PolicyReading.{reads-notes}
-use Rattle.lard_law_view.specs.View.{Conn, IsFrontEnv, Move, Setting, front_admits, front_does}
 use Rattle.lard_law_view.proofs.Saying.{NotedAt}
 use Rattle.lard_laws.specs.WaysState.{BeginsWithRequest, GoesItsWay, IsAway, IsUnassigned, IsPlacedOnce, WaitsForNext, SeatWays, StageWays, StayWays, marks_at}
 use Rattle.lard_laws.specs.WaysUnder.{Assigned}
 use Rattle.lard_laws.specs.Ways.{WayMarks}
 use Rattle.lard_laws.proofs.WaysLooking.{Looks, reads-look}
 use Rattle.lard_laws.proofs.WaysMarking.{mark, marked}
-use Rattle.lard_costs.specs.declared.later.LaterChoice.{LaterChoice}
-use Rattle.lard_dispatch.specs.declared.dispatch.Ask.{Ask}
 use Rattle.lard_dispatch.specs.declared.dispatch.First.TheVariants as first
-use Rattle.lard_endpoint.specs.Control.{ControlBlock}
-use Rattle.lard_endpoint.specs.declared.control.moving.Final.{Final}
-use Rattle.lard_endpoint.specs.Moving.{may_freeze}
-use Rattle.lard_rules.specs.declared.front.FrontRest.{FrontRest}
-use Rattle.lard_rules.specs.Front.{FrontDeed, Does, Drops, FrontEnv, FrontPart, Says, assigned_notes, assigns, front_begun, fires_at, front_asked, front_ended, front_hears, front_taken, handed_off, hears_at, is_row_at, is_with, over_note, placed, front_rest, front_saying, tag_sent, taken_by, turn_here, front_ends, forwarded, ack_sent, front_timer, holds}
-use Rattle.lard_rules.specs.FrontReading.{MayMove, Reading, front_reads}
+use Rattle.lard_rules.specs.Front.{Does, Drops, Says}
 use Rattle.lard_rules.proofs.FrontBlocks.{segment-serves}
 use Rattle.lard_rules.proofs.FrontTurns.{reads-stop}
-use Rattle.lard_handoff_front.specs.declared.row.FrontConn.{FrontConn}
 use Rattle.lard_handoff_front.specs.declared.row.FrontConn.TheVariants as stage
-use Rattle.lard_handoff_front.specs.declared.row.FrontRow.{FrontRow}
-use Rattle.lard_handoff_front.specs.Front.{next_epoch}
-use Rattle.lard_history.specs.Own.{Seen}
 use Rattle.lard_history.proofs.Each.{Each}
-use Rattle.lard_journal.specs.declared.rec.Rec.{Rec}
 use Rattle.lard_journal.specs.declared.rec.Rec.TheVariants as rec
-use Rattle.lard_law_view.specs.Agreement.{IsWord}
-use Rattle.lard_law_view.specs.Truthful.{Talk}
-use Rattle.lard_rules.specs.Node.{NodePart}
-use Rattle.lard_policy.specs.declared.first.FirstChoice.{FirstChoice}
-use Rattle.lard_request.specs.declared.verdict.Verdict.{Verdict}
-use Rattle.lard_rules.specs.declared.places.Station.{Station}
-use Rattle.lard_rules.specs.Tombstone.{last_words, tombstone}
-use Rattle.lard_rules.specs.Serving.{Service, serving, serving_settled}
-use Rattle.lard_segment.specs.Segment.{Said}
 use Rattle.lard_rules.proofs.FrontCases.{KeptBySegment, IsInStage, of-stage, heard_reading, heard_service, segment-keeps, timer-keeps, taken-keeps, asked-keeps, ended-keeps}
 
 -- ---- notes

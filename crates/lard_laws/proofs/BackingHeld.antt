@@ -1,34 +1,18 @@
 -- What is known of each request in hand at a node: the node was told where it is assigned, and what backs its way stands behind that.
-use Rattle.std.proofs.Common.{◌≡◌, ◌+◌, ◌==◌, ℕ, zero, suc, Bool, true, false, cond, List, [], ◌∷◌, ◌++◌, length, Option, Some, None, Ok, refl, sym, ap, ◌∙◌, subst, arith, append_assoc, inl, eqb-true}
+use Rattle.std.proofs.Common.{◌≡◌, ◌+◌, ℕ, zero, suc, false, List, [], ◌∷◌, ◌++◌, length, Option, Some, None, Ok, refl, sym, ap, ◌∙◌, subst, arith, append_assoc, inl}
 use Rattle.std.proofs.lemmas.List.Sums.{fold-append}
 use Rattle.std.specs.List.{fold}
-use Rattle.lard_answers.specs.Answers.{FilesAt}
-use Rattle.lard_base.specs.declared.place.Place.TheVariants.{Node}
-use Rattle.lard_base.specs.declared.place.Via.{Via}
+use Rattle.lard_law_view.specs.Prelude.{BackRow, Came, Entry, FilesAt, Has, Node, Packet, Progress, Rec, Seen, Stay, Via, come_on, decoded_message, gone, is_touched, net_of, net_step, seen_on, wrote}
 use Rattle.lard_base.specs.declared.place.Via.TheVariants as via
 use Rattle.lard_laws.proofs.BackingAssignments.{HasAssignment}
 use Rattle.lard_laws.specs.BackingRequests.{IsFor}
 use Rattle.lard_laws.specs.BackingTold.{WasTold}
 use Rattle.lard_laws.proofs.BackingMarks.{for-later, untouched-before}
 use Rattle.lard_laws.proofs.BackingNumbers.{assigned-on}
-use Rattle.lard_endpoint.specs.Control.{ControlBlock}
-use Rattle.lard_handoff_back.specs.declared.row.BackRow.{BackRow}
-use Rattle.lard_handoff_back.specs.Back.{staying}
-use Rattle.lard_handoff_back.specs.Row.{back_held}
-use Rattle.lard_history.specs.Journal.{is_touched, wrote}
-use Rattle.lard_history.specs.Own.{Came, Has, Seen, net_of, net_step, seen_on}
 use Rattle.lard_history.proofs.Seeing.{has-before, has-behind, own-append, seen_on-append}
-use Rattle.lard_journal.specs.declared.rec.Rec.{Rec}
 use Rattle.lard_journal.specs.declared.rec.Rec.TheVariants as rec
 use Rattle.lard_message.specs.declared.message.Body.TheVariants as body
-use Rattle.lard_message.specs.Reading.{decoded_message}
-use Rattle.lard_net.specs.Net.{Packet}
-use Rattle.lard_rules.specs.declared.stay.Entry.{Entry}
-use Rattle.lard_rules.specs.declared.stay.Progress.{Progress}
 use Rattle.lard_rules.specs.declared.stay.Progress.TheVariants as progress
-use Rattle.lard_rules.specs.declared.stay.Stay.{Stay}
-use Rattle.lard_rules.specs.Node.{gone}
-use Rattle.lard_rules.specs.Stay.{come_on}
 
 -- ---- what was told stays told
 
@@ -240,13 +224,6 @@ module _ (P Q : ℕ → Progress → Type 0) (more : (r : ℕ) (p : Progress) �
 -- the epoch in which a node has it
 abbrev pub epoch_by : Option BackRow → ℕ
 epoch_by o = elim o [ None ↦ 0 | Some row ↦ row.epoch.0 ]
-
-pub staying-at : (epoch : ℕ) (o : Option BackRow) (b : ControlBlock) → staying epoch o ≡ Some b → epoch_by o ≡ epoch
-staying-at epoch None b e = let no : None ≡ Some b = e in absurd (let f : ⊥ = cc in f)
-staying-at epoch (Some row) b e = go (row.epoch.0 == epoch) refl e where
-  go : (t : Bool) → (row.epoch.0 == epoch) ≡ t → cond t (back_held row.stage) None ≡ Some b → row.epoch.0 ≡ epoch
-  go true same f = eqb-true row.epoch.0 epoch same
-  go false same f = let no : None ≡ Some b = f in absurd (let g : ⊥ = cc in g)
 
 module _ (files : FilesAt) (n c : ℕ) where
   pub batch-more : (epoch : ℕ) (J rs : List Rec) (r : ℕ) (es : List Entry) → AreHeld (Holds files n c epoch J) r es → AreHeld (Holds files n c epoch (J ++ rs)) r es

@@ -4,16 +4,8 @@ use Rattle.std.specs.FinMap.{get-empty}
 use Rattle.std.specs.Ordering.{nat_cmp}
 use Rattle.std.specs.Prelude.{slice_set}
 use Rattle.std.proofs.lemmas.List.Sums.{fold-append}
-use Rattle.lard_answers.specs.Answers.{FilesAt}
-use Rattle.lard_base.specs.declared.config.Config.{Config}
-use Rattle.lard_base.specs.declared.event.Event.{Event}
+use Rattle.lard_law_view.specs.Prelude.{BackIn, BackRow, Body, Came, Config, Conn, ControlBlock, EachMay, EndpointParts, Event, FilesAt, Front, Has, IsConnNumber, IsNodeEnv, IsReached, Letter, Machine, Message, MsgFault, Node, NodeEnv, NodePart, NodeSetting, NodeState, Out, Packet, Place, Rec, Seen, Setting, SpellsMessage, Station, Stay, Tale, Was, assigned, back_held, batch_of, both_of, came_seen, conn, conn_of, decoded_message, file_at, here, is_tag_awaited, is_touched, letter_of, machine_start, machine_told, named_in, net_of, no_stays, node_at, node_env, node_gave, node_part, node_setting, node_step, offer_answer, own, packet_at, seen_on, setting_of, staying, tale_at, touched_step, wrote, wrote_step}
 use Rattle.lard_base.specs.declared.event.Event.TheVariants as event
-use Rattle.lard_base.specs.declared.parts.EndpointParts.{EndpointParts}
-use Rattle.lard_base.specs.declared.place.Place.{Place}
-use Rattle.lard_base.specs.declared.place.Place.TheVariants.{Front, Node}
-use Rattle.lard_rules.specs.declared.machine.Machine.{Machine}
-use Rattle.lard_rules.specs.Bounds.{IsConnNumber}
-use Rattle.lard_rules.specs.Machine.{IsReached, node_at, node_gave, node_setting, passed, machine_start, machine_told}
 use Rattle.lard_laws.specs.Asks.{ask_tale}
 use Rattle.lard_laws.proofs.AsksRuns.{each-told}
 use Rattle.lard_laws.specs.BackingRequests.{IsFor}
@@ -21,10 +13,9 @@ use Rattle.lard_laws.specs.BackingState.{FetchesFor, LetterFor}
 use Rattle.lard_laws.proofs.BackingRules.{each-backed}
 use Rattle.lard_laws.specs.BackingTold.{TagHasCome, files_before}
 use Rattle.lard_laws.proofs.BackingAssignments.{HasAssignment, assignment-at, first-assigned, last-assigned}
-use Rattle.lard_laws.proofs.BackingComings.{Comes, NodeStep, NodesStay, step-form}
-use Rattle.lard_laws.proofs.BackingElsewhere.{IsMild, first-still, last-still, passed-mild, step-mild}
+use Rattle.lard_laws.proofs.BackingElsewhere.{allows-still, stays-still}
 use Rattle.lard_laws.proofs.BackingHeld.{StayHits, assigned-past, stay-more}
-use Rattle.lard_laws.proofs.BackingHitting.{MayHit, stills-may}
+use Rattle.lard_laws.proofs.BackingHitting.{IsStill, MayHit, stills-may}
 use Rattle.lard_laws.proofs.BackingMarked.{marks-lawful}
 use Rattle.lard_laws.proofs.BackingNodes.{hand-for}
 use Rattle.lard_laws.proofs.BackingOffered.{IsAlone, offered-for}
@@ -38,9 +29,8 @@ use Rattle.lard_law_connections.proofs.BytesNodeRest.{front-opens}
 use Rattle.lard_law_connections.proofs.BytesRuns.{states-truthful}
 use Rattle.lard_law_connections.proofs.PlacesRuns.{each-placed}
 use Rattle.lard_law_connections.proofs.PlacesTurns.{IsPlaced}
-use Rattle.lard_law_connections.proofs.StoresCalm.{NodeActs, first_rows, last_rows, told-journal}
-use Rattle.lard_law_view.specs.Carry.{tale_at}
-use Rattle.lard_law_view.specs.View.{Conn, IsNodeEnv, Setting, SpellsMessage, Was, conn, setting_of}
+use Rattle.lard_law_connections.proofs.Calm.{IsCalm, first-calm, first_rows, last-calm, last_rows, told-journal}
+use Rattle.lard_law_connections.proofs.Forms.{Comes, NodeStep, NodesStay, node-form}
 use Rattle.lard_law_view.proofs.Carried.{IsOn, carried-keep, reached-viewed}
 use Rattle.lard_law_view.proofs.Heads.{was}
 use Rattle.lard_law_view.proofs.Naming.{Names, decoded-names}
@@ -51,36 +41,13 @@ use Rattle.lard_laws.specs.WaysUnder.{Assigned}
 use Rattle.lard_laws.proofs.WaysBacked.{RowTook, TookIn}
 use Rattle.lard_laws.proofs.WaysEarlier.{each-served}
 use Rattle.lard_laws.proofs.WaysRuns.{each-guarded}
-use Rattle.lard_endpoint.specs.Control.{ControlBlock}
-use Rattle.lard_files.specs.Files.{file_at}
-use Rattle.lard_handoff_back.specs.declared.row.BackRow.{BackRow}
 use Rattle.lard_handoff_back.specs.declared.table.Adopt.TheVariants.{New}
-use Rattle.lard_handoff_back.specs.Back.{offer_answer, staying}
-use Rattle.lard_handoff_back.specs.Row.{back_held}
-use Rattle.lard_history.specs.Journal.{Tale, assigned, is_touched, touched_step, wrote, wrote_step}
-use Rattle.lard_history.specs.Laws.{EachMay}
-use Rattle.lard_history.specs.Own.{Came, Has, Letter, Seen, came_seen, conn_of, letter_of, named_in, net_of, own, seen_on}
 use Rattle.lard_history.proofs.Each.{each_append}
 use Rattle.lard_history.proofs.Lifting.{tale-own}
 use Rattle.lard_history.proofs.Seeing.{by_number, one-mine, own-append}
 use Rattle.lard_history.proofs.Tales.{assigned-tale, touched-tale, wrote-tale}
-use Rattle.lard_journal.specs.declared.rec.Rec.{Rec}
-use Rattle.lard_message.specs.declared.fault.MsgFault.{MsgFault}
-use Rattle.lard_message.specs.declared.message.Body.{Body}
 use Rattle.lard_message.specs.declared.message.Body.TheVariants as body
-use Rattle.lard_message.specs.declared.message.Message.{Message}
-use Rattle.lard_message.specs.Reading.{decoded_message}
-use Rattle.lard_net.specs.Net.{Packet, packet_at}
-use Rattle.lard_rules.specs.declared.node.BackIn.{BackIn}
 use Rattle.lard_rules.specs.declared.node.BackIn.TheVariants as input
-use Rattle.lard_rules.specs.declared.node.NodeState.{NodeState}
-use Rattle.lard_rules.specs.declared.stay.Stay.{Stay}
-use Rattle.lard_rules.specs.Node.{NodePart, both_of, here, is_tag_awaited}
-use Rattle.lard_rules.specs.NodePlace.{NodeSetting, no_stays, node_env, node_part, node_step}
-use Rattle.lard_rules.specs.Stay.{NodeEnv}
-use Rattle.lard_reader.specs.Batches.{batch_of}
-use Rattle.lard_rules.specs.declared.places.Out.{Out}
-use Rattle.lard_rules.specs.declared.places.Station.{Station}
 use Rattle.lard_law_view.proofs.OwnRecords.{behind}
 
 -- ---- what is in hand was taken
@@ -283,7 +250,7 @@ module _ (m : Machine) (small : m.config.stream ≤ 2 ^ 30) (reached : IsReached
       gets-known (Err fault) reads = tt
       gets-known (Ok msg) reads = body-known msg reads p.from refl msg.body refl
 
-    step-known : ((q : ℕ) → StayHits files i q m.journal (node_part s q).row (node_part s q).stay) → (d : Event) (comes : BackIn) → Comes m d i comes → StepKnown its (m.journal ++ first_rows m d) s comes
+    step-known : ((q : ℕ) → StayHits files i q m.journal (node_part s q).row (node_part s q).stay) → (d : Event) (comes : BackIn) → Comes m d i s comes → StepKnown its (m.journal ++ first_rows m d) s comes
     step-known kept d (input.Message from bytes) h =
         subst (λ (l : List Rec). GetsKnown its l s from (decoded_message bytes)) (ap (λ (v : Event). m.journal ++ first_rows m v) (sym h.2))
         (subst (λ (f : Place). GetsKnown its (m.journal ++ first_rows m (event.Deliver h.0)) s f (decoded_message bytes)) h.4
@@ -301,7 +268,7 @@ pub record AreHit (files : FilesAt) (m : Machine) : Type 0 where
 
 module _ (files : FilesAt) (m n : Machine) (hit : AreHit files m) where
   -- no node moves
-  mild-hit : n.nodes ≡ m.nodes → IsMild m n → AreHit files n
+  mild-hit : n.nodes ≡ m.nodes → IsCalm IsStill m n → AreHit files n
   mild-hit same mild = record {
     kept = λ i s at q. subst (λ (J : List Rec). StayHits files i q J (node_part s q).row (node_part s q).stay) (sym mild.1) (stay-more files i q m.journal mild.0 (node_part s q).row (node_part s q).stay (hit.kept i s (ap (λ (nodes : List NodeState). node_at nodes i) (sym same) ∙ at) q));
     law = subst (EachMay (MayHit files) []) (sym mild.1) (each_append (MayHit files) [] m.journal mild.0 hit.law (stills-may files m.journal mild.0 mild.2));
@@ -339,9 +306,9 @@ module _ (m : Machine) (e : Event) (hit : AreHit (file_at m.files) m) (i : ℕ) 
   law-on = subst (EachMay (MayHit fs) []) whole
       (each_append (MayHit fs) [] (m.journal ++ first ++ o.notes) last
       (each_append (MayHit fs) [] (m.journal ++ first) o.notes
-      (each_append (MayHit fs) [] m.journal first hit.law (stills-may fs m.journal first (first-still m e)))
+      (each_append (MayHit fs) [] m.journal first hit.law (stills-may fs m.journal first (first-calm IsStill allows-still m e)))
       h.notes)
-      (stills-may fs (m.journal ++ first ++ o.notes) last (last-still w (Node i) o h.gave h.timers)))
+      (stills-may fs (m.journal ++ first ++ o.notes) last (last-calm IsStill allows-still w (Node i) o h.gave h.timers)))
 
   node-hit : AreHit fs (node_gave m e (behind e) i (t, o))
   unfolding machine_told
@@ -391,11 +358,9 @@ module _ (config : Config) (files : List (List ℕ × List ℕ)) (small : config
       (λ k n e on hit rule is.
       subst (λ (fs : List (List ℕ × List ℕ)). AreHit (file_at fs) n) on.files_are
       (⊎_elim
-      (λ (stay : NodesStay k e n). mild-hit (file_at k.files) k n (now-hit k on hit) stay.0
-      (⊎_elim (λ (never : NodeActs k e → ⊥). ⊎_elim (λ (acts : NodeActs k e). absurd (never acts)) (λ (mild : IsMild k n). mild) (step-mild k on.view e n rule is))
-      (λ (same : n ≡ passed k e (behind e)). subst (IsMild k) (sym same) (passed-mild k e)) stay.1))
+      (λ (stay : NodesStay k e n). mild-hit (file_at k.files) k n (now-hit k on hit) stay.0 (stays-still k on.view e n rule is stay))
       (λ (step : NodeStep k e n).
       let given : NodeState × Out = node_step (node_setting k step.i) step.s step.comes in
       subst (AreHit (file_at k.files)) (sym step.is) (node-hit k e (now-hit k on hit) step.i step.s step.there step.comes given.0 given.1 (node-hits k on hit e n step)))
-      (step-form k e n is)))
+      (node-form k n e is)))
       m r

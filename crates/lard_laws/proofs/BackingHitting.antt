@@ -1,57 +1,32 @@
 -- What backs each response of a node's turn stands behind what told the node where the request is assigned, and so it is of what it keeps
 -- in hand. And the jobs that it tells are the node's own.
-use Rattle.std.proofs.Common.{◌≡◌, ◌<◌, ◌+◌, ◌-◌, ◌==◌, nat_lt, ℕ, Bool, true, false, List, [], ◌∷◌, ◌++◌, length, slice_get, Option, Some, None, Result, Ok, Err, refl, sym, ap, ◌∙◌, subst, arith, append_assoc, append-nil, inl}
-use Rattle.std.proofs.lemmas.Bool.{cond_both, ltb-true}
+use Rattle.std.proofs.Common.{◌≡◌, ◌<◌, ◌+◌, ◌-◌, ◌==◌, ◌&&◌, is_some, eq-eqb, nat_lt, ℕ, Bool, true, false, List, [], ◌∷◌, ◌++◌, length, slice_get, Option, Some, None, refl, sym, ap, ◌∙◌, subst, arith, append_assoc, append-nil, inl}
+use Rattle.std.proofs.lemmas.Bool.{and_from, cond_both, ltb-true}
 use Rattle.std.proofs.lemmas.List.{length_push}
 use Rattle.std.specs.List.{find}
-use Rattle.lard_answers.specs.Answers.{FilesAt, answer, answer_code, good_path}
-use Rattle.lard_base.specs.declared.parts.EndpointParts.{EndpointParts}
-use Rattle.lard_base.specs.declared.place.Place.{Place}
-use Rattle.lard_base.specs.declared.place.Place.TheVariants.{Node}
+use Rattle.lard_law_view.specs.Prelude.{Completed, Content, ControlBlock, Done, EachMay, Ending, EndpointParts, Entry, FilesAt, More, Next, Node, NodeDeed, NodeEnv, NodeGets, NodePart, Offered, Place, Progress, Rec, Service, Stay, Step, Tagged, Turn, Verdict, Work, after_timer, again_sent, answer, answer_code, asks_for, batch_of, bytes_used, came_for, come_on, come_progress, entered, enters, enters_first, finishing, gave_by, goes_on, good_path, here, is_tag_awaited, is_touched, is_under, kept_after, named_path, named_paths, net_of, next_of, node_begins, node_rule, offer_answer, on_segment, passed_over, progress_of, queued, read_entry, read_progress, reads_batch, reads_these, seen_on, serves_by, serves_first, serves_with, serving, serving_consumed, serving_ready_of, serving_settled, spoken, started, started_here, started_there, starts_at, starts_named, starts_one, state_of, stay_turn, tagged, taken_sent, timed, turn_by, turned, with_work, without, work_left, work_of, wrote}
 use Rattle.lard_base.specs.declared.place.TimerKind.TheVariants as timer
 use Rattle.lard_base.specs.declared.place.Via.TheVariants as via
 use Rattle.lard_law_connections.proofs.AwaitsNodes.{HasServed, settled-served, spoken-served}
 use Rattle.lard_laws.proofs.BackingAssignments.{HasAssignment}
 use Rattle.lard_laws.specs.BackingRequests.{IsFor}
 use Rattle.lard_laws.specs.BackingTold.{WasTold}
-use Rattle.lard_laws.proofs.BackingHeld.{Anything, AreHeld, HasCome, Holds, IsHit, IsQueued, Started, StayHits, Ways, assigned-past, batch-more, come-held, content-come, epoch_by, gone-hits, held-weaker, job-done, one-more, pushed, stay-more, staying-at, told-more, ways-more}
+use Rattle.lard_laws.proofs.BackingHeld.{Anything, AreHeld, HasCome, Holds, IsHit, IsQueued, Started, StayHits, Ways, assigned-past, batch-more, come-held, content-come, gone-hits, held-weaker, job-done, one-more, pushed, stay-more, told-more, ways-more}
 use Rattle.lard_laws.proofs.BackingMarks.{for-later, untouched-before}
 use Rattle.lard_laws.proofs.BackingNumbers.{assigned-on}
 use Rattle.lard_laws.proofs.BackingTurns.{EachNamed, FirstBy, FirstIn}
 use Rattle.lard_law_connections.proofs.PlacesLoops.{settled-is}
-use Rattle.lard_endpoint.specs.Arriving.{on_segment}
-use Rattle.lard_endpoint.specs.Control.{ControlBlock, finishing}
-use Rattle.lard_endpoint.specs.Leaving.{after_timer, timed}
-use Rattle.lard_handoff_back.specs.declared.table.Adopt.{Adopt}
-use Rattle.lard_handoff_back.specs.declared.table.Adopt.TheVariants.{Again, New, Stale}
-use Rattle.lard_handoff_back.specs.Back.{awaits_ack, back_endpoint, offer_answer, staying}
-use Rattle.lard_history.specs.Journal.{is_touched, wrote}
-use Rattle.lard_history.specs.Laws.{EachMay}
-use Rattle.lard_history.specs.Own.{net_of, seen_on}
+use Rattle.lard_handoff_back.specs.declared.table.Adopt.TheVariants.{New}
 use Rattle.lard_history.proofs.Each.{Each, Each-append, Each-weaker, each_append}
 use Rattle.lard_history.proofs.Seeing.{has-behind}
-use Rattle.lard_journal.specs.declared.rec.Rec.{Rec}
 use Rattle.lard_journal.specs.declared.rec.Rec.TheVariants as rec
-use Rattle.lard_lateral.specs.Lateral.{is_from}
-use Rattle.lard_rules.specs.declared.stay.Entry.{Entry}
-use Rattle.lard_rules.specs.declared.stay.Next.{Next}
 use Rattle.lard_rules.specs.declared.stay.Next.TheVariants as next
-use Rattle.lard_rules.specs.declared.stay.Progress.{Progress}
 use Rattle.lard_rules.specs.declared.stay.Progress.TheVariants as progress
-use Rattle.lard_rules.specs.declared.stay.Stay.{Stay}
-use Rattle.lard_rules.specs.Node.{NodeDeed, Does, Drops, NodePart, Says, again_sent, node_begins, both_of, come_by, node_fired_by, gave_by, gone, node_heard_by, is_tag_awaited, kept_after, node_acknowledged, node_forwarded, node_offered, node_timer, offered_by, node_read_by, node_saying, tagged_by, taken_sent, turn_by, with_work, work_of}
-use Rattle.lard_rules.specs.Stay.{NodeEnv, Work, asks_for, came_for, come_on, come_progress, entered, enters, enters_first, goes_on, work_left, named_path, named_paths, next_of, progress_of, read_entry, read_progress, reads_batch, reads_these, serves_by, serves_first, serves_with, started, started_here, started_there, starts_at, starts_named, starts_one, tagged, stay_turn, turned}
-use Rattle.lard_reader.specs.Batches.{batch_of, bytes_used}
-use Rattle.lard_request.specs.declared.verdict.Verdict.{Verdict}
-use Rattle.lard_resend.specs.Kept.{is_under, without}
-use Rattle.lard_rules.specs.declared.places.Ending.{Ending}
+use Rattle.lard_laws.proofs.NodeHere.{here-of}
+use Rattle.lard_rules.proofs.NodeCases.{IsHereWith, IsInItsEpoch, KeptByNode, node-keeps, of-here}
+use Rattle.lard_rules.specs.Node.{Does, Drops, Says}
 use Rattle.lard_rules.specs.declared.places.Ending.TheVariants as ending
-use Rattle.lard_rules.specs.declared.places.Turn.{Turn}
-use Rattle.lard_rules.specs.Loop.{Step, More, Done, state_of}
-use Rattle.lard_rules.specs.Serving.{Service, serving_consumed, passed_over, queued, serving_ready_of, serving, serving_settled, spoken}
 use Rattle.lard_rules.proofs.Runs.{runs_keep}
-use Rattle.lard_segment.specs.declared.fault.SegFault.{SegFault}
-use Rattle.lard_segment.specs.Segment.{Said}
 
 -- ---- responses
 
@@ -391,18 +366,26 @@ module _ (env : NodeEnv) (at_node : env.serve.place ≡ Node env.n) (base : List
     pub for : AllFor (Some number) (y.1.served + 1) y.1.batch
 
   module _ (p : NodePart) where
-    -- what is in hand of a stay in this epoch
-    by-both : (J : List Rec) (P : Option (ControlBlock × Stay) → Type 0) → P None → ((b : ControlBlock) (s : Stay) → AreHeld (W J) (s.served + 1) s.batch → P (Some (b, s)))
-        → (o : Option ControlBlock) → ((b : ControlBlock) → o ≡ Some b → epoch_by p.row ≡ env.epoch) → (t : Option Stay) → StayHits files_at n c J p.row t → P (both_of o t)
-    by-both J P none some None at t h = none
-    by-both J P none some (Some b) at None h = none
-    by-both J P none some (Some b) at (Some s) h = some b s (subst (λ (e : ℕ). AreHeld (Holds files_at n c e J) (s.served + 1) s.batch) (at b refl) h)
+    -- a content came behind these, and what was kept then is kept still
+    pub record CameBehind (from r : ℕ) : Type 0 where
+      pub old : List Rec
+      pub first : List Rec
+      pub is : base ≡ old ++ first
+      pub kept : StayHits files_at n c old p.row p.stay
+      pub comes : HasCome n from c env.epoch r (seen_on c (net_of old) first)
 
-    abbrev here_now : Option ControlBlock
-    here_now = staying env.epoch p.row
+    -- what is known of what comes
+    abbrev pub MayCome : NodeGets → Type 0
+    MayCome (Offered parts) = offer_answer env.epoch p.row ≡ New → FirstFor None (parts.served + 1) (batch_of 8 parts.unread)
+    MayCome (Tagged number nodes) = StayHits files_at n c base p.row p.stay × ((y : ControlBlock × Stay) → here env.epoch p ≡ Some y → is_tag_awaited env number nodes p y.1 ≡ true → TagKnown number y)
+    MayCome (Content from r) = CameBehind from r
+    MayCome (Completed r path) = (old : List Rec) × (base ≡ old ++ rec.Read n n c r path ∷ []) × StayHits files_at n c old p.row p.stay
+    MayCome _ = StayHits files_at n c base p.row p.stay
 
-    now-at : (b : ControlBlock) → here_now ≡ Some b → epoch_by p.row ≡ env.epoch
-    now-at b e = staying-at env.epoch p.row b e
+    -- what is in hand of a stay that is here
+    held-here : (J : List Rec) (b : ControlBlock) (s : Stay) → IsHereWith env.epoch p b s → StayHits files_at n c J p.row p.stay
+        → AreHeld (W J) (s.served + 1) s.batch
+    held-here J b s at h = subst (λ (e : ℕ). AreHeld (Holds files_at n c e J) (s.served + 1) s.batch) at.epoch_is (of-here (StayHits files_at n c J) env.epoch p b s at h)
 
     fresh : (b : ControlBlock) (s : Stay) → AreHeld (W base) (s.served + 1) s.batch → Goes [] (tt, tt) (work_of b s)
     fresh b s h = record { batch = batch-more files_at n c env.epoch base [] (s.served + 1) s.batch h; more = []; notes = refl; each = tt }
@@ -420,69 +403,53 @@ module _ (env : NodeEnv) (at_node : env.serve.place ≡ Node env.n) (base : List
           on : (i : ℕ) (x : Progress) → W old i x → W (base ++ []) i x
           on i x g = now i x (one-more files_at n c env.epoch old first i x g)
 
-    -- a content came
-    pub come-hit : (old first : List Rec) → base ≡ old ++ first → (from r : ℕ) → HasCome n from c env.epoch r (seen_on c (net_of old) first) → StayHits files_at n c old p.row p.stay → DeedHits (come_by env from r p (both_of here_now p.stay))
-    come-hit old first is from r come held = by-both old (λ y. DeedHits (come_by env from r p y)) tt
-        (λ b s h.
-        let part : NodePart = record p { fetches = without timer.Fetch r p.fetches } in
-        let k : Work = came_for (come_progress from) r (work_of b s) in
-        cond_both (is_from from env.epoch (find (is_under timer.Fetch r) p.fetches)) (with_work env part [] (goes_on env k)) Drops DeedHits
-        (λ t. works-hit [] (tt, tt) part [] k (came-goes old first is (come_progress from) r keeps b s h)) (λ t. tt)) here_now now-at p.stay held where
-          still : (x : Progress) → W old r x → W (old ++ first) r x
-          still x h = one-more files_at n c env.epoch old first r x h
+    content-keeps : (from r : ℕ) (m : CameBehind from r) (x : Progress) → W m.old r x → W (m.old ++ m.first) r (come_progress from x)
+    content-keeps from r m progress.Named h = tt
+    content-keeps from r m progress.Reading h = one-more files_at n c env.epoch m.old m.first r progress.Reading h
+    content-keeps from r m (progress.Ready way) h = one-more files_at n c env.epoch m.old m.first r (progress.Ready way) h
+    content-keeps from r m (progress.Awaited node) h = cond_both (node == from) (progress.Ready (via.Node from)) (progress.Awaited node) (W (m.old ++ m.first) r)
+        (λ t. content-come files_at n c env.epoch m.old m.first from node r m.comes h) (λ t. one-more files_at n c env.epoch m.old m.first r (progress.Awaited node) h)
 
-          keeps : (x : Progress) → W old r x → W (old ++ first) r (come_progress from x)
-          keeps progress.Named h = tt
-          keeps progress.Reading h = still progress.Reading h
-          keeps (progress.Ready way) h = still (progress.Ready way) h
-          keeps (progress.Awaited node) h = cond_both (node == from) (progress.Ready (via.Node from)) (progress.Awaited node) (W (old ++ first) r)
-              (λ t. content-come files_at n c env.epoch old first from node r come h) (λ t. still (progress.Awaited node) h)
+    job-keeps : (old : List Rec) (r : ℕ) (path : List ℕ) (x : Progress) → W old r x → W (old ++ rec.Read n n c r path ∷ []) r (read_progress x)
+    job-keeps old r path progress.Named h = tt
+    job-keeps old r path progress.Reading h = job-done files_at n c env.epoch old r path h
+    job-keeps old r path (progress.Ready way) h = one-more files_at n c env.epoch old (rec.Read n n c r path ∷ []) r (progress.Ready way) h
+    job-keeps old r path (progress.Awaited node) h = one-more files_at n c env.epoch old (rec.Read n n c r path ∷ []) r (progress.Awaited node) h
 
-    -- a job was read
-    pub read-hit : (old : List Rec) (r : ℕ) (path : List ℕ) → base ≡ old ++ rec.Read n n c r path ∷ [] → StayHits files_at n c old p.row p.stay → DeedHits (node_read_by env r p (both_of here_now p.stay))
-    read-hit old r path is held = by-both old (λ y. DeedHits (node_read_by env r p y)) tt
-        (λ b s h. works-hit [] (tt, tt) p [] (came_for read_progress r (work_of b s)) (came-goes old (rec.Read n n c r path ∷ []) is read_progress r keeps b s h)) here_now now-at p.stay held where
-          still : (x : Progress) → W old r x → W (old ++ rec.Read n n c r path ∷ []) r x
-          still x h = one-more files_at n c env.epoch old (rec.Read n n c r path ∷ []) r x h
+    tags : (number : ℕ) (nodes : List ℕ) (b : ControlBlock) (s : Stay) → AreHeld (W base) (s.served + 1) s.batch → TagKnown number (b, s)
+        → DeedHits (with_work env (record p { kept = without timer.Ask 0 p.kept }) [] (goes_on env (tagged env nodes (work_of b s))))
+    tags number nodes b s h k =
+        let begins_so : Starts (Some number) (record (work_of b s) { batch = [] }) (s.served + 1) = record { batch = tt; silent = (tt, tt); told = told-more base [] n c env.epoch (Some number) k.told; next_is = omega arith } in
+        started-hit (Some number) (record p { kept = without timer.Ask 0 p.kept }) [] (tagged env nodes (work_of b s))
+        (at-starts (Some number) nodes 0 (s.served + 1) s.batch (record (work_of b s) { batch = [] }) begins_so h k.for)
 
-          keeps : (x : Progress) → W old r x → W (old ++ rec.Read n n c r path ∷ []) r (read_progress x)
-          keeps progress.Named h = tt
-          keeps progress.Reading h = job-done files_at n c env.epoch old r path h
-          keeps (progress.Ready way) h = still (progress.Ready way) h
-          keeps (progress.Awaited node) h = still (progress.Awaited node) h
+    begins : (parts : EndpointParts) → FirstFor None (parts.served + 1) (batch_of 8 parts.unread)
+        → DeedHits (with_work env p (taken_sent env) (goes_on env (state_of (reads_batch env true (node_begins env parts)))))
+    begins parts for = started-hit None p (taken_sent env) (state_of (reads_batch env true (node_begins env parts)))
+        (these-start None (bytes_used 8 parts.unread) (node_begins env parts) (batch_of 8 parts.unread) for
+        (record { batch = tt; silent = ((tt, tt), (tt, tt)); told = has-behind (rec.Took (Node n) c (record { 0 = env.epoch })) base (rec.Took (Node n) c (record { 0 = env.epoch }) ∷ []) (inl refl); next_is = omega arith }))
 
-    module _ (held : StayHits files_at n c base p.row p.stay) where
-      pub forwarded-hit : (r : Result Said SegFault) → DeedHits (node_forwarded env p r)
-      forwarded-hit (Err fault) = tt
-      forwarded-hit (Ok sd) = by-both base (λ y. DeedHits (node_heard_by env p (Ok sd) y)) tt (λ b s h. works-hit [] (tt, tt) p [] (work_of (on_segment b sd).1 s) (fresh (on_segment b sd).1 s h)) here_now now-at p.stay held
-
-      pub fired-hit : epoch_by p.row ≡ env.epoch → DeedHits (node_timer env p)
-      fired-hit same = by-both base (λ y. DeedHits (node_fired_by env p y)) tt
-          (λ b s h.
+    rules_hit : KeptByNode env p MayCome DeedHits
+    rules_hit = record {
+      drops = tt;
+      hears = λ sd b s m at. works-hit [] (tt, tt) p [] (work_of (on_segment b sd).1 s) (fresh (on_segment b sd).1 s (held-here base b s at m));
+      tags = λ number nodes b s m at asked same count. tags number nodes b s (held-here base b s at m.0)
+          (m.1 (b, s) (here-of env.epoch p b s at) (and_from (is_some (find (is_under timer.Ask 0) p.kept)) (s.asks == number && length nodes == length (named_paths files_at s.batch)) asked
+          (and_from (s.asks == number) (length nodes == length (named_paths files_at s.batch)) (eq-eqb s.asks number same) (eq-eqb (length nodes) (length (named_paths files_at s.batch)) count))));
+      comes = λ from r b s m at wanted.
+          works-hit [] (tt, tt) (record p { fetches = without timer.Fetch r p.fetches }) [] (came_for (come_progress from) r (work_of b s))
+          (came-goes m.old m.first m.is (come_progress from) r (content-keeps from r m) b s (held-here m.old b s at m.kept));
+      reads = λ r path b s m at.
+          works-hit [] (tt, tt) p [] (came_for read_progress r (work_of b s)) (came-goes m.0 (rec.Read n n c r path ∷ []) m.1 read_progress r (job-keeps m.0 r path) b s (held-here m.0 b s at m.2));
+      begins = λ parts m new. begins parts (m new);
+      takes_again = λ parts m again. tt;
+      fires = λ b s m at.
           let v : Service = serving (after_timer b) s.served [] in
           let before = serving_ready_of env.serve (after_timer b) (timed b) in
-          ends-hit [] (tt, tt) p (again_sent p) (work_of (after_timer b) s) (spoken env.serve v before) (spoken-served env.serve v before) refl (fresh (after_timer b) s h)) (back_endpoint p.row) (λ b e. same) p.stay held
+          ends-hit [] (tt, tt) p (again_sent p) (work_of (after_timer b) s) (spoken env.serve v before) (spoken-served env.serve v before) refl (fresh (after_timer b) s (held-here base b s at m));
+      resends = λ m none. tt;
+      ends = λ m told. (gone-hits files_at n c (base ++ []) p.row p.stay (stay-more files_at n c base [] p.row p.stay m), tt, tt, tt);
+    }
 
-      pub acknowledged-hit : DeedHits (node_acknowledged env p)
-      acknowledged-hit = cond_both (awaits_ack env.epoch p.row) (Does (record p { row = gone p.row; kept = without timer.Ended 0 p.kept }, node_saying [])) Drops DeedHits
-          (λ t. (gone-hits files_at n c (base ++ []) p.row p.stay (stay-more files_at n c base [] p.row p.stay held), tt, tt, tt)) (λ t. tt)
-
-      pub tagged-hit : (number : ℕ) (nodes : List ℕ) → ((y : ControlBlock × Stay) → both_of here_now p.stay ≡ Some y → is_tag_awaited env number nodes p y.1 ≡ true → TagKnown number y) → DeedHits (tagged_by env number nodes p (both_of here_now p.stay))
-      tagged-hit number nodes known = by-both base (λ y. ((z : ControlBlock × Stay) → y ≡ Some z → is_tag_awaited env number nodes p z.1 ≡ true → TagKnown number z) → DeedHits (tagged_by env number nodes p y)) (λ f. tt)
-          (λ b s h f.
-          let part : NodePart = record p { kept = without timer.Ask 0 p.kept } in
-          cond_both (is_tag_awaited env number nodes p s) (with_work env part [] (goes_on env (tagged env nodes (work_of b s)))) Drops DeedHits
-          (λ t.
-          let k : TagKnown number (b, s) = f (b, s) refl t in
-          let begins_so : Starts (Some number) (record (work_of b s) { batch = [] }) (s.served + 1) = record { batch = tt; silent = (tt, tt); told = told-more base [] n c env.epoch (Some number) k.told; next_is = omega arith } in
-          started-hit (Some number) part [] (tagged env nodes (work_of b s)) (at-starts (Some number) nodes 0 (s.served + 1) s.batch (record (work_of b s) { batch = [] }) begins_so h k.for)) (λ t. tt))
-          here_now now-at p.stay held known
-
-      pub offered-hit : (parts : EndpointParts) → (offer_answer env.epoch p.row ≡ New → FirstFor None (parts.served + 1) (batch_of 8 parts.unread)) → DeedHits (node_offered env p parts)
-      offered-hit parts for = go (offer_answer env.epoch p.row) for where
-        go : (a : Adopt) → (a ≡ New → FirstFor None (parts.served + 1) (batch_of 8 parts.unread)) → DeedHits (offered_by env parts p a)
-        go New f = started-hit None p (taken_sent env) (state_of (reads_batch env true (node_begins env parts)))
-            (these-start None (bytes_used 8 parts.unread) (node_begins env parts) (batch_of 8 parts.unread) (f refl)
-            (record { batch = tt; silent = ((tt, tt), (tt, tt)); told = has-behind (rec.Took (Node n) c (record { 0 = env.epoch })) base (rec.Took (Node n) c (record { 0 = env.epoch }) ∷ []) (inl refl); next_is = omega arith }))
-        go Again f = tt
-        go Stale f = tt
+    pub rule-hit : (g : NodeGets) → IsInItsEpoch env p g → MayCome g → DeedHits (node_rule env p g)
+    rule-hit g at m = node-keeps env p MayCome DeedHits rules_hit g at m

@@ -1,25 +1,15 @@
 -- Each record of a connection that the schedule did not touch may stand by what the journal marks of it.
 use Rattle.std.proofs.Common.{◌≡◌, ◌≤◌, ◌^◌, ℕ, false, List, [], Some, None, sym, ap, ◌∙◌, subst}
-use Rattle.lard_answers.specs.Answers.{FilesAt}
-use Rattle.lard_base.specs.declared.config.Config.{Config}
-use Rattle.lard_rules.specs.declared.machine.Machine.{Machine}
-use Rattle.lard_rules.specs.Machine.{IsReached}
+use Rattle.lard_law_view.specs.Prelude.{Config, EachMay, EachRow, FilesAt, IsReached, Machine, Rec, Seen, Tale, WhileUntouched, conn, file_at, is_touched, own, plain, tale_of, whose}
 use Rattle.lard_laws.specs.BackingState.{MayBack}
 use Rattle.lard_laws.proofs.BackingMarks.{MayMark}
 use Rattle.lard_laws.proofs.BackingRows.{Mine}
 use Rattle.lard_laws.proofs.BackingRules.{each-backed}
-use Rattle.lard_law_view.specs.Carry.{WhileUntouched}
-use Rattle.lard_law_view.specs.View.{conn}
 use Rattle.lard_law_view.proofs.InSteps.{carried-records}
 use Rattle.lard_laws.specs.WaysState.{marks_of}
 use Rattle.lard_laws.specs.Ways.{WayMarks, way_marks}
-use Rattle.lard_files.specs.Files.{file_at}
-use Rattle.lard_history.specs.Journal.{Tale, is_touched}
-use Rattle.lard_history.specs.Laws.{EachMay}
-use Rattle.lard_history.specs.Own.{EachRow, Seen, own, plain, tale_of, whose}
 use Rattle.lard_history.proofs.Lifting.{tale-own}
 use Rattle.lard_history.proofs.Tales.{assigned-tale, served-tale, touched-tale, wrote-tale}
-use Rattle.lard_journal.specs.declared.rec.Rec.{Rec}
 use Rattle.lard_journal.specs.declared.rec.Rec.TheVariants as rec
 
 module _ (files : FilesAt) where

@@ -3,16 +3,12 @@ use Rattle.std.proofs.Common.{◌≡◌, ◌+◌, ℕ, Bool, true, false, cond, 
 use Rattle.std.specs.Prelude.{◌⊎◌}
 use Rattle.std.proofs.lemmas.Bool.{both_ways, eqb-true}
 use Rattle.std.proofs.lemmas.List.Sums.{fold-append}
-use Rattle.lard_answers.specs.Answers.{FilesAt}
+use Rattle.lard_law_view.specs.Prelude.{EachMay, FilesAt, Rec, assigned, assigned_step, is_touched, served, served_step, touched_step, whose, wrote, wrote_step}
 use Rattle.lard_laws.specs.BackingRequests.{IsFor}
 use Rattle.lard_laws.specs.BackingState.{MayBack}
 use Rattle.lard_laws.proofs.BackingRows.{WritesOn, for-more, marked-on}
 use Rattle.lard_laws.specs.Ways.{WayMarks, way_marks}
 use Rattle.lard_laws.proofs.WaysMarking.{mark}
-use Rattle.lard_history.specs.Journal.{assigned, assigned_step, is_touched, served, served_step, touched_step, wrote, wrote_step}
-use Rattle.lard_history.specs.Laws.{EachMay}
-use Rattle.lard_history.specs.Own.{whose}
-use Rattle.lard_journal.specs.declared.rec.Rec.{Rec}
 use Rattle.lard_journal.specs.declared.rec.Rec.TheVariants as rec
 
 -- ---- one record more

@@ -2,9 +2,7 @@
 use Rattle.std.proofs.Common.{◌≡◌, ◌+◌, ◌-◌, ℕ, Bool, true, false, cond, nat_eq, List, [], ◌∷◌, ◌++◌, length, take, Option, Some, refl, sym, ap, ◌∙◌, subst, arith, append_assoc, append-nil}
 use Rattle.std.specs.List.{fold, slice_get}
 use Rattle.std.proofs.lemmas.List.Sums.{fold-append}
-use Rattle.lard_answers.specs.Answers.{FilesAt, verdicts}
-use Rattle.lard_base.specs.declared.place.Place.TheVariants.{Node}
-use Rattle.lard_base.specs.declared.place.Via.{Via}
+use Rattle.lard_law_view.specs.Prelude.{FilesAt, Node, Rec, Via, assigned, assigned_step, served, verdicts, wrote}
 use Rattle.lard_base.specs.declared.place.Via.TheVariants as via
 use Rattle.lard_laws.specs.BackingRequests.{IsFor, comes_from}
 use Rattle.lard_laws.specs.BackingTold.{AssignsFor, WasAssigned}
@@ -12,9 +10,7 @@ use Rattle.lard_laws.proofs.BackingAssignments.{HasAssignment, IsMadeFor}
 use Rattle.lard_laws.specs.WaysUnder.{Assigned}
 use Rattle.lard_laws.specs.Ways.{AnswersBy, AnswersNextAt, ComesAsAssigned, ComesFrom, GoesWith, good_paths, way_marks}
 use Rattle.lard_laws.proofs.WaysGoods.{get-behind}
-use Rattle.lard_history.specs.Journal.{assigned, assigned_step, served, wrote}
 use Rattle.lard_history.proofs.Seeing.{same_number}
-use Rattle.lard_journal.specs.declared.rec.Rec.{Rec}
 use Rattle.lard_journal.specs.declared.rec.Rec.TheVariants as rec
 
 -- ---- what was assigned stays in its place

@@ -1,25 +1,16 @@
 -- A move is right, where its notes and its messages are.
 use Rattle.std.proofs.Common.{◌≡◌, ℕ, Bool, true, false, cond, is_some, List, [], ◌∷◌, map, refl, sym, subst}
-use Rattle.lard_answers.specs.Answers.{FilesAt}
-use Rattle.lard_base.specs.declared.place.Place.{Place}
-use Rattle.lard_base.specs.declared.place.Place.TheVariants.{Client, Front, Node}
+use Rattle.lard_law_view.specs.Prelude.{AreSent, Body, Client, Conn, FilesAt, Front, Kept, Move, Node, Place, Rec, kind_of, letter, named_records, sent_of, whose}
 use Rattle.lard_laws.specs.BackingState.{BodyFor, FetchesFor, LetterFor, SaysFor}
 use Rattle.lard_laws.proofs.BackingRows.{Backs, IsBackedMove, backed-move}
 use Rattle.lard_law_connections.proofs.BytesLaw.{Helps}
 use Rattle.lard_law_connections.proofs.BytesClientMoves.{has-fair}
 use Rattle.lard_law_connections.proofs.PlacesHeads.{kinds-same}
-use Rattle.lard_law_view.specs.View.{AreSent, Conn, Move, letter, named_records}
 use Rattle.lard_laws.specs.WaysState.{GoesItsWay, marks_at}
-use Rattle.lard_history.specs.Own.{whose}
 use Rattle.lard_history.proofs.Each.{Each}
-use Rattle.lard_journal.specs.declared.rec.Rec.{Rec}
 use Rattle.lard_message.specs.declared.kind.Kind.TheVariants as kind
-use Rattle.lard_message.specs.declared.message.Body.{Body}
 use Rattle.lard_message.specs.declared.message.Body.TheVariants as body
-use Rattle.lard_message.specs.Message.{kind_of}
 use Rattle.lard_rules.specs.Node.{message}
-use Rattle.lard_resend.specs.declared.kept.Kept.{Kept}
-use Rattle.lard_resend.specs.Pending.{sent_of}
 use Rattle.lard_law_view.proofs.EndpointSends.{AllTo}
 
 -- what a move owes

@@ -1,18 +1,13 @@
 -- The next request of a frozen endpoint, among all that its client wrote.
 use Rattle.std.proofs.Common.{◌≡◌, ◌+◌, ℕ, true, List, [], ◌∷◌, ◌++◌, take, refl, ap, ◌∙◌, subst, append-nil}
 use Rattle.std.specs.List.{slice_get}
-use Rattle.lard_answers.specs.Answers.{FilesAt, IsPrefix, verdicts}
+use Rattle.lard_law_view.specs.Prelude.{ControlBlock, FilesAt, IsPrefix, Stream, Verdict, batch_of, may_freeze, verdicts}
 use Rattle.lard_laws.specs.BackingRequests.{IsFor}
 use Rattle.lard_law_connections.specs.BytesAgreement.{HoldsItPending}
 use Rattle.lard_law_connections.proofs.BytesReading.{batch-read}
 use Rattle.lard_laws.specs.WaysState.{BeginsWithRequest}
 use Rattle.lard_laws.proofs.WaysGoods.{next-get}
-use Rattle.lard_endpoint.specs.Control.{ControlBlock}
-use Rattle.lard_endpoint.specs.Moving.{may_freeze}
 use Rattle.lard_endpoint.proofs.Adoption.{frozen_stands}
-use Rattle.lard_reader.specs.Batches.{batch_of}
-use Rattle.lard_request.specs.declared.verdict.Verdict.{Verdict}
-use Rattle.lard_law_view.specs.Truth.{Stream}
 
 pub next-for : (files : FilesAt) (w out : Stream) (vs : List Verdict) (b : ControlBlock) (count : ℕ) → HoldsItPending w out vs [] b count → may_freeze b ≡ true → (path : List ℕ) → BeginsWithRequest files b.recv.unread path → IsFor files w.bytes (count + 1) path
 next-for files w out vs b count h frozen path next =

@@ -3,7 +3,7 @@ use Rattle.std.proofs.Common.{◌≡◌, ◌≤◌, ◌<◌, ◌+◌, ◌-◌, �
 use Rattle.std.specs.List.{slice_get}
 use Rattle.std.proofs.lemmas.List.{length_push}
 use Rattle.std.proofs.lemmas.Option.{slice_get_within}
-use Rattle.lard_answers.specs.Answers.{FilesAt, good_path, verdicts}
+use Rattle.lard_law_view.specs.Prelude.{Entry, FilesAt, NodeEnv, Progress, Rec, Verdict, and_path, good_path, named_paths, path_in, verdicts, wrote}
 use Rattle.lard_base.specs.declared.place.Via.TheVariants as via
 use Rattle.lard_laws.proofs.BackingAssignments.{HasAssignment}
 use Rattle.lard_laws.specs.BackingRequests.{IsFor}
@@ -13,13 +13,7 @@ use Rattle.lard_laws.proofs.BackingTurns.{AreAt, EachNamed, IsHome}
 use Rattle.lard_laws.specs.WaysUnder.{Assigned, Lies, TakesFirstAssigned, Under}
 use Rattle.lard_laws.specs.Ways.{WayMarks, good_paths}
 use Rattle.lard_laws.proofs.WaysGoods.{answered-grow, good-append}
-use Rattle.lard_history.specs.Journal.{wrote}
-use Rattle.lard_journal.specs.declared.rec.Rec.{Rec}
-use Rattle.lard_rules.specs.declared.stay.Entry.{Entry}
-use Rattle.lard_rules.specs.declared.stay.Progress.{Progress}
 use Rattle.lard_rules.specs.declared.stay.Progress.TheVariants as progress
-use Rattle.lard_rules.specs.Stay.{NodeEnv, and_path, named_paths, path_in}
-use Rattle.lard_request.specs.declared.verdict.Verdict.{Verdict}
 
 -- ---- as a client writes on
 

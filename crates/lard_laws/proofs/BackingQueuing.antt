@@ -2,35 +2,22 @@
 use Rattle.std.proofs.Common.{◌≡◌, ◌-◌, ℕ, List, [], ◌∷◌, ◌++◌, refl, sym, ap, ◌∙◌, subst, inl, inr, ⊎_elim}
 use Rattle.std.specs.Prelude.{slice_set}
 use Rattle.std.specs.List.{AllByRecursion}
-use Rattle.lard_base.specs.declared.event.Event.{Event}
-use Rattle.lard_base.specs.declared.place.Place.TheVariants.{Node}
-use Rattle.lard_rules.specs.declared.machine.Machine.{Machine}
-use Rattle.lard_rules.specs.Machine.{node_setting, passed, machine_told}
+use Rattle.lard_law_view.specs.Prelude.{BackIn, Event, Has, IsViewed, Machine, Node, NodeState, Out, Packet, Rec, decoded_message, machine_told, node_setting, node_step, packet_at}
 use Rattle.lard_laws.specs.BackingJobs.{GetsFetch, MayQueue, MustQueue}
 use Rattle.lard_laws.specs.BackingRuns.{JobsAreAsked}
-use Rattle.lard_laws.proofs.BackingComings.{Comes, NodeStep, NodesStay, step-form}
-use Rattle.lard_laws.proofs.BackingElsewhere.{IsMild, first-still, last-still, passed-mild, step-mild}
+use Rattle.lard_laws.proofs.BackingElsewhere.{allows-still, stays-still}
 use Rattle.lard_laws.proofs.BackingHits.{node-hits, reached-hit}
 use Rattle.lard_laws.proofs.BackingHitting.{IsStill}
 use Rattle.lard_laws.proofs.BackingWalking.{FetchIn, QueuesBy, StepHits}
-use Rattle.lard_law_connections.proofs.StoresCalm.{NodeActs, first_rows, last_rows, told-journal}
-use Rattle.lard_law_view.specs.View.{IsViewed}
+use Rattle.lard_law_connections.proofs.Calm.{IsCalm, first-calm, first_rows, last-calm, last_rows, told-journal}
+use Rattle.lard_law_connections.proofs.Forms.{Comes, NodeStep, NodesStay, node-form}
 use Rattle.lard_law_view.proofs.After.{IsAfter, step-after}
 use Rattle.lard_law_view.proofs.Carried.{carried-keep}
-use Rattle.lard_history.specs.Own.{Has}
 use Rattle.lard_history.proofs.Each.{Each, Each-append, Each-weaker}
 use Rattle.lard_history.proofs.Seeing.{has-before}
 use Rattle.lard_history.proofs.Stepping.{AreLawful, cancel, one-more}
-use Rattle.lard_journal.specs.declared.rec.Rec.{Rec}
 use Rattle.lard_journal.specs.declared.rec.Rec.TheVariants as rec
-use Rattle.lard_message.specs.Reading.{decoded_message}
-use Rattle.lard_net.specs.Net.{Packet, packet_at}
-use Rattle.lard_rules.specs.declared.node.BackIn.{BackIn}
 use Rattle.lard_rules.specs.declared.node.BackIn.TheVariants as input
-use Rattle.lard_rules.specs.declared.node.NodeState.{NodeState}
-use Rattle.lard_rules.specs.NodePlace.{node_step}
-use Rattle.lard_rules.specs.declared.places.Out.{Out}
-use Rattle.lard_law_view.proofs.OwnRecords.{behind}
 
 still-may : (past step : List Rec) (r : Rec) → IsStill r → MayQueue past step r
 still-may past step (rec.Queued n m c r path) h = inl h.1
@@ -44,7 +31,7 @@ all-may past step (r ∷ rs) h = (h.0, all-may past step rs h.1)
 abbrev Good : Machine → Machine → Type 0
 Good m n = (rs : List Rec) × (n.journal ≡ m.journal ++ rs) × MustQueue m.journal rs
 
-mild-good : (m n : Machine) → IsMild m n → Good m n
+mild-good : (m n : Machine) → IsCalm IsStill m n → Good m n
 mild-good m n h = (h.0, h.1, all-may m.journal h.0 h.0 (Each-weaker IsStill (MayQueue m.journal h.0) (still-may m.journal h.0) h.0 h.2))
 
 -- ---- a node's step
@@ -65,7 +52,7 @@ module _ (m : Machine) (view : IsViewed m) (e : Event) (n : Machine) (step : Nod
   abbrev rows : List Rec
   rows = first ++ given.1.notes ++ last
 
-  fetched : (comes : BackIn) → Comes m e step.i comes → (k c r : ℕ) (path : List ℕ) → FetchIn comes k c r path → GetsFetch m.journal rows step.i k c r path
+  fetched : (comes : BackIn) → Comes m e step.i step.s comes → (k c r : ℕ) (path : List ℕ) → FetchIn comes k c r path → GetsFetch m.journal rows step.i k c r path
   fetched (input.Message from bytes) came k c r path f = record {
     k = came.0;
     packet = came.1;
@@ -92,8 +79,8 @@ module _ (m : Machine) (view : IsViewed m) (e : Event) (n : Machine) (step : Nod
         ap (λ (k : Machine). k.journal) step.is ∙ told-journal w e (Node step.i) given.1,
         all-may m.journal rows rows
             (Each-append P (first ++ given.1.notes) last
-            (Each-append P first given.1.notes (Each-weaker IsStill P (still-may m.journal rows) first (first-still m e)) (Each-weaker (QueuesBy step.i step.comes) P by-may given.1.notes h.queued))
-            (Each-weaker IsStill P (still-may m.journal rows) last (last-still w (Node step.i) given.1 h.gave h.timers))),
+            (Each-append P first given.1.notes (Each-weaker IsStill P (still-may m.journal rows) first (first-calm IsStill allows-still m e)) (Each-weaker (QueuesBy step.i step.comes) P by-may given.1.notes h.queued))
+            (Each-weaker IsStill P (still-may m.journal rows) last (last-calm IsStill allows-still w (Node step.i) given.1 h.gave h.timers))),
       )
 
 -- ---- every state
@@ -103,11 +90,9 @@ jobs-are-asked config files m small r = (carried-keep config files (λ k. AreLaw
     (λ k n e on lawful rule is.
     let after : IsAfter k e n = step-after k on.view e n rule is in
     let good : Good k n = ⊎_elim
-    (λ (stay : NodesStay k e n). mild-good k n
-    (⊎_elim (λ (never : NodeActs k e → ⊥). ⊎_elim (λ (acts : NodeActs k e). absurd (never acts)) (λ (mild : IsMild k n). mild) (step-mild k on.view e n rule is))
-    (λ (same : n ≡ passed k e (behind e)). subst (IsMild k) (sym same) (passed-mild k e)) stay.1))
+    (λ (stay : NodesStay k e n). mild-good k n (stays-still k on.view e n rule is stay))
     (λ (step : NodeStep k e n). node-good k on.view e n step (node-hits config files small k on (reached-hit config files small k on.reached) e n step))
-    (step-form k e n is) in
+    (node-form k n e is) in
     let same : good.0 ≡ after.step = cancel k.journal good.0 after.step (sym good.1 ∙ after.is) in
     subst (AreLawful MustQueue) (sym after.is) (one-more MustQueue k.journal after.step after.one lawful (subst (MustQueue k.journal) same good.2)))
     m r).1

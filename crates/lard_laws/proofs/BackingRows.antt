@@ -1,15 +1,13 @@
 -- What the records of a move say of requests, list by list.
 use Rattle.std.proofs.Common.{◌≡◌, ◌+◌, ℕ, true, cond, nat_eq, List, [], ◌∷◌, ◌++◌, map, refl, sym, ap, ◌∙◌, subst, append-nil, append_assoc}
 use Rattle.std.specs.List.{fold, slice_get}
-use Rattle.lard_answers.specs.Answers.{FilesAt, IsPrefix, verdicts}
+use Rattle.lard_law_view.specs.Prelude.{Body, Client, Conn, EachRow, FilesAt, Front, IsPrefix, Letter, Move, Node, Place, Rec, Seen, Tale, Verdict, grown, letter, letters_of, seen_in, tale_at, tale_of, tale_step, timer_rows, told_on, verdicts}
 use Rattle.lard_answers.proofs.Growing.{verdicts-grow}
-use Rattle.lard_base.specs.declared.place.Place.{Place}
-use Rattle.lard_base.specs.declared.place.Place.TheVariants.{Client, Front, Node}
 use Rattle.lard_laws.specs.BackingRequests.{IsFor}
 use Rattle.lard_laws.specs.BackingState.{BodyFor, FetchesFor, LetterFor, MayBack, SaysFor}
-use Rattle.lard_law_connections.proofs.BytesLaw.{IsHead}
-use Rattle.lard_law_view.specs.Carry.{TellsBy, tale_at}
-use Rattle.lard_law_view.specs.View.{Conn, Move, grown, letter, letters_of, seen_in, sending, timer_rows}
+use Rattle.lard_law_connections.proofs.BytesLaw.{IsHead, heads-stand}
+use Rattle.lard_law_view.specs.Carry.{TellsBy}
+use Rattle.lard_law_view.specs.View.{sending}
 use Rattle.lard_law_view.proofs.Fine.{IsItsOwn}
 use Rattle.lard_law_view.proofs.Rows.{move-lawful, tale_before, tale_said}
 use Rattle.lard_law_view.proofs.Saying.{GaveAt, NotedAt}
@@ -17,16 +15,11 @@ use Rattle.lard_law_view.proofs.Timers.{IsTimerAt, timer_rows-are}
 use Rattle.lard_laws.specs.WaysState.{marks_at, marks_of}
 use Rattle.lard_laws.specs.Ways.{WayMarks}
 use Rattle.lard_laws.proofs.WaysGoods.{get-front}
-use Rattle.lard_laws.proofs.WaysMarking.{IsOwnMark, IsPlain, mark, marked, marks-after, plain-marked}
-use Rattle.lard_history.specs.Journal.{Tale, tale_step, told_on}
-use Rattle.lard_history.specs.Own.{Came, EachRow, Letter, Row, Seen, seen_step, tale_of}
+use Rattle.lard_laws.proofs.WaysMarking.{IsOwnMark, IsPlain, mark, marked, marks-after, heads-marks, noted-own, one-step, plain-told, sends-plain, told-marks}
 use Rattle.lard_history.proofs.Each.{Each, Each-append, Each-weaker}
-use Rattle.lard_history.proofs.Seeing.{same_number}
-use Rattle.lard_journal.specs.declared.rec.Rec.{Rec}
 use Rattle.lard_journal.specs.declared.rec.Rec.TheVariants as rec
-use Rattle.lard_message.specs.declared.message.Body.{Body}
 use Rattle.lard_message.specs.declared.message.Body.TheVariants as body
-use Rattle.lard_request.specs.declared.verdict.Verdict.{Verdict}
+use Rattle.lard_law_view.proofs.OfKinds.{each-tells, of-gift, of-gifts, of-timer}
 
 -- ---- as the client writes on
 
@@ -87,56 +80,13 @@ backs-append files m (x ∷ xs) ys h k = (h.0, backs-append files (mark m x) xs 
 
 -- ---- in the tale
 
-noted-own : (place : Place) (c : ℕ) (r : Rec) → NotedAt place c r → IsOwnMark c r
-noted-own (Client e) c (rec.Wrote d bytes) h = h
-noted-own Front c (rec.Wrote d bytes) h = absurd h
-noted-own (Node n) c (rec.Wrote d bytes) h = absurd h
-noted-own Front c (rec.Served Front d r code size way) h = h
-noted-own Front c (rec.Served (Node k) d r code size way) h = absurd h
-noted-own Front c (rec.Served (Client k) d r code size way) h = absurd h
-noted-own (Node n) c (rec.Served (Node k) d r code size way) h = h.1
-noted-own (Node n) c (rec.Served Front d r code size way) h = absurd h
-noted-own (Node n) c (rec.Served (Client k) d r code size way) h = absurd h
-noted-own (Client e) c (rec.Served place d r code size way) h = absurd h
-noted-own Front c (rec.AssignedFirst d r path n add remove) h = h
-noted-own (Node k) c (rec.AssignedFirst d r path n add remove) h = absurd h
-noted-own (Client k) c (rec.AssignedFirst d r path n add remove) h = absurd h
-noted-own Front c (rec.AssignedLater d r path n add size queue) h = h
-noted-own (Node k) c (rec.AssignedLater d r path n add size queue) h = absurd h
-noted-own (Client k) c (rec.AssignedLater d r path n add size queue) h = absurd h
-noted-own place c _ h = tt
-
-mine : (d c : ℕ) → d ≡ c → nat_eq d c ≡ true
-mine d c e = subst (λ (n : ℕ). nat_eq n c ≡ true) (sym e) (same_number c)
-
-one-step : (c : ℕ) (t : Tale) (r : Rec) → IsOwnMark c r → marks_of (tale_step c t r) ≡ mark (marks_of t) r
-one-step c t (rec.Wrote d bytes) h = ap (λ b. record (marks_of t) { wrote = cond b (t.wrote ++ bytes) t.wrote }) (mine d c h)
-one-step c t (rec.Served place d r code size way) h = ap (λ b. record (marks_of t) { served = cond b (t.served + 1) t.served }) (mine d c h)
-one-step c t (rec.AssignedFirst d r path n add remove) h = ap (λ b. record (marks_of t) { assigned = cond b (t.assigned ++ (path, n) ∷ []) t.assigned }) (mine d c h)
-one-step c t (rec.AssignedLater d r path n add size queue) h = ap (λ b. record (marks_of t) { assigned = cond b (t.assigned ++ (path, n) ∷ []) t.assigned }) (mine d c h)
-one-step c t _ h = refl
-
-plain-own : (c : ℕ) (r : Rec) → IsPlain r → IsOwnMark c r
-plain-own c (rec.Wrote d bytes) h = absurd h
-plain-own c (rec.Served place d r code size way) h = absurd h
-plain-own c (rec.AssignedFirst d r path n add remove) h = absurd h
-plain-own c (rec.AssignedLater d r path n add size queue) h = absurd h
-plain-own c _ h = tt
-
 module _ (files : FilesAt) (c : ℕ) where
   abbrev pub MayTell : Tale → Rec → Type 0
   MayTell t r = MayBack files (marks_of t) r
 
-  told-marks : (t : Tale) (rs : List Rec) → Each (IsOwnMark c) rs → marks_of (told_on c t rs) ≡ marked (marks_of t) rs
-  told-marks t [] own = refl
-  told-marks t (r ∷ rs) own = told-marks (tale_step c t r) rs own.1 ∙ ap (λ (m : WayMarks). marked m rs) (one-step c t r own.0)
-
   told-backs : (t : Tale) (rs : List Rec) → Each (IsOwnMark c) rs → Backs files (marks_of t) rs → TellsBy MayTell c t rs
   told-backs t [] own h = tt
   told-backs t (r ∷ rs) own h = (h.0, told-backs (tale_step c t r) rs own.1 (subst (λ (m : WayMarks). Backs files m rs) (sym (one-step c t r own.0)) h.1))
-
-  plain-told : (t : Tale) (rs : List Rec) → Each IsPlain rs → marks_of (told_on c t rs) ≡ marks_of t
-  plain-told t rs h = told-marks t rs (Each-weaker IsPlain (IsOwnMark c) (plain-own c) rs h) ∙ plain-marked (marks_of t) rs h
 
   -- what is sent
   sends-tell : (place : Place) (t : Tale) (ss : List (Place × List ℕ)) → Each (LetterFor files t.wrote) (map (letter place) ss) → TellsBy MayTell c t (map (sending place) ss)
@@ -144,43 +94,17 @@ module _ (files : FilesAt) (c : ℕ) where
   sends-tell place t (s ∷ ss) h = (h.0, sends-tell place (tale_step c t (sending place s)) ss h.1)
 
   gave-tells : (place : Place) (d : ℕ) (t : Tale) (rs : List Rec) → Each (GaveAt place d) rs → TellsBy MayTell c t rs
-  gave-tells place d t [] h = tt
-  gave-tells Front d t (rec.Gave Front e epoch ∷ rs) h = (tt, gave-tells Front d (tale_step c t (rec.Gave Front e epoch)) rs h.1)
-  gave-tells (Node n) d t (rec.Gave (Node k) e epoch ∷ rs) h = (tt, gave-tells (Node n) d (tale_step c t (rec.Gave (Node k) e epoch)) rs h.1)
-  gave-tells _ d t (_ ∷ rs) h = absurd h.0
+  gave-tells place d = each-tells (GaveAt place d) MayTell (λ t. of-gift (MayTell t) (λ p e epoch. tt) place d) c
 
   timers-tell : (place : Place) (d : ℕ) (t : Tale) (rs : List Rec) → Each (IsTimerAt place d) rs → TellsBy MayTell c t rs
-  timers-tell place d t [] h = tt
-  timers-tell place d t (rec.Armed p k kind ∷ rs) h = (tt, timers-tell place d (tale_step c t (rec.Armed p k kind)) rs h.1)
-  timers-tell place d t (rec.Cleared p k kind ∷ rs) h = (tt, timers-tell place d (tale_step c t (rec.Cleared p k kind)) rs h.1)
-  timers-tell place d t (_ ∷ rs) h = absurd h.0
+  timers-tell place d = each-tells (IsTimerAt place d) MayTell (λ t. of-timer (MayTell t) (λ p e kind. (tt, tt)) place d) c
 
   -- what the connection sees of a record
   abbrev pub Mine : List Seen → Rec → Type 0
   Mine past r = MayTell (tale_of c past) r
 
-sends-plain : (place : Place) (ss : List (Place × List ℕ)) → Each IsPlain (map (sending place) ss)
-sends-plain place [] = tt
-sends-plain place (s ∷ ss) = (tt, sends-plain place ss)
-
-gave-plain : (place : Place) (c : ℕ) (r : Rec) → GaveAt place c r → IsPlain r
-gave-plain Front c (rec.Gave Front d epoch) h = tt
-gave-plain (Node n) c (rec.Gave (Node k) d epoch) h = tt
-gave-plain _ c _ h = absurd h
-
-heads-marks : (c : ℕ) (heads : List Seen) (t : Tale) → Each IsHead heads → marks_of (fold (seen_step (tale_step c)) t heads) ≡ marks_of t
-heads-marks c [] t h = refl
-heads-marks c (Came l ∷ ss) t h = heads-marks c ss t h.1
-heads-marks c (Row (rec.Event i e) ∷ ss) t h = heads-marks c ss (tale_step c t (rec.Event i e)) h.1
-heads-marks c (Row (rec.Opened d isn iss wnd mss) ∷ ss) t h = heads-marks c ss (tale_step c t (rec.Opened d isn iss wnd mss)) h.1
-heads-marks c (Row _ ∷ ss) t h = absurd h.0
-
 heads-mine : (files : FilesAt) (c : ℕ) (past heads : List Seen) → Each IsHead heads → EachRow (Mine files c) past heads
-heads-mine files c past [] h = tt
-heads-mine files c past (Came l ∷ ss) h = heads-mine files c (past ++ Came l ∷ []) ss h.1
-heads-mine files c past (Row (rec.Event i e) ∷ ss) h = (tt, heads-mine files c (past ++ Row (rec.Event i e) ∷ []) ss h.1)
-heads-mine files c past (Row (rec.Opened d isn iss wnd mss) ∷ ss) h = (tt, heads-mine files c (past ++ Row (rec.Opened d isn iss wnd mss) ∷ []) ss h.1)
-heads-mine files c past (Row _ ∷ ss) h = absurd h.0
+heads-mine files c = heads-stand (Mine files c) (λ past i e. tt) (λ past d isn iss wnd mss. tt)
 
 -- ---- a move
 
@@ -211,7 +135,7 @@ module _ (files : FilesAt) (x : Conn) (v : Move) (own : IsItsOwn x v) (heads : E
   noted-same = told-marks files x.c before v.said.notes ours ∙ ap (λ (k : WayMarks). marked k v.said.notes) before-same
 
   said-same : marks_of (tale_said x v before) ≡ marked m v.said.notes
-  said-same = plain-told files x.c (told_on x.c noted segments) v.said.gave (Each-weaker (GaveAt v.place x.c) IsPlain (gave-plain v.place x.c) v.said.gave own.gave)
+  said-same = plain-told files x.c (told_on x.c noted segments) v.said.gave (of-gifts IsPlain (λ p d epoch. tt) v.place x.c v.said.gave own.gave)
       ∙ plain-told files x.c noted segments (sends-plain v.place v.said.segments) ∙ noted-same
 
   -- what was right before the move is right behind its notes

@@ -1,59 +1,45 @@
 -- Each rule leaves what is said of a connection's requests right, so it is in every run.
-use Rattle.std.proofs.Common.{◌≡◌, ◌≤◌, ◌^◌, ℕ, true, false, cond, Bool, List, [], ◌∷◌, Some, None, Result, Ok, refl, sym, ap, ◌∙◌, subst}
-use Rattle.lard_base.specs.declared.config.Config.{Config}
+use Rattle.std.proofs.Common.{◌≡◌, ◌≤◌, ◌^◌, ℕ, false, List, [], ◌∷◌, ◌++◌, ◌+◌, Some, None, Result, Ok, refl, sym, ap, ◌∙◌, subst}
+use Rattle.lard_law_view.specs.Prelude.{AreSent, Client, ClientRules, Completed, Config, Conn, ControlBlock, EachRow, FilesAt, FirstChoice, Front, FrontEnv, FrontPart, FrontRules, FrontTurn, Guarded, IsFrontEnv, IsGuardedLaw, IsNodeEnv, MayRestOn, Move, Node, NodeDeed, NodeEnv, NodeGets, NodePart, NodeRules, OfEach, Place, Rec, Said, Seen, SegFault, Setting, Station, Stay, ToCluster, Untouched, UntouchedRules, Was, Work, after_timer, again_sent, ask_of, brought_said, came_for, come_progress, content_bytes, content_said, decoded, event_seen, file_at, front_admits, front_admitted, front_does, front_gets, goes_on, gone, grown, node_does, node_fired, node_saying, nothing_said, offered_by, on_segment, packet_seen, read_progress, seen_in, serving, serving_ready_of, setting, spoken, stands, tagged, taken_sent, tale_at, timed, with_work, without, work_of}
 use Rattle.lard_base.specs.declared.event.Event.TheVariants as event
-use Rattle.lard_base.specs.declared.place.Place.{Place}
-use Rattle.lard_base.specs.declared.place.Place.TheVariants.{Client, Front, Node}
 use Rattle.lard_base.specs.declared.place.TimerKind.TheVariants as timer
-use Rattle.lard_client.specs.Control.{ClientBlock}
-use Rattle.lard_laws.specs.BackingState.{FetchesFor, LetterFor}
+use Rattle.lard_laws.specs.BackingState.{FetchesFor, LetterFor, SaysFor}
 use Rattle.lard_laws.proofs.BackingFronts.{admits-makes, hears-makes, fires-makes, asked-row, ended-row, taken-row}
-use Rattle.lard_laws.proofs.BackingMoving.{Keeps, content-for, makes, others-for}
-use Rattle.lard_laws.proofs.BackingNodes.{contents-keep, fires-keep, forwards-keep, read-keeps, still-makes, tags-keep}
-use Rattle.lard_laws.proofs.BackingOffered.{offered-keep}
-use Rattle.lard_laws.proofs.BackingRows.{Backs, IsBackedMove, Mine}
+use Rattle.lard_laws.proofs.BackingMoving.{Keeps, again-for, content-for, nodes-for, makes, others-for}
+use Rattle.lard_laws.proofs.BackingNodes.{came-clean, deed-makes, fired-back, fresh, goes-back, hand-at, home, still-makes}
+use Rattle.lard_laws.proofs.BackingTurns.{AreAt, Clean, DeedBacks, IsHome, IsSteady, SaidFor, tagged-clean}
+use Rattle.lard_laws.proofs.NodeHere.{here-of}
+use Rattle.lard_laws.proofs.NodeStays.{StayHolds, stay-holds}
+use Rattle.lard_laws.proofs.WaysHomes.{sent-append}
+use Rattle.lard_laws.proofs.BackingOffered.{new-makes}
+use Rattle.lard_laws.proofs.BackingRows.{Backs, Mine}
 use Rattle.lard_law_connections.specs.BytesAgreement.{IsFair, IsFairOn, IsTruthful}
 use Rattle.lard_law_connections.proofs.BytesClientMoves.{has-fair, open-at}
 use Rattle.lard_law_connections.proofs.BytesFrontMessages.{opened-at}
 use Rattle.lard_law_connections.proofs.BytesFrontMoves.{talk-of}
-use Rattle.lard_law_connections.proofs.BytesNodeRest.{by-station, front-opens, nothing-here}
+use Rattle.lard_law_connections.proofs.BytesNodeRest.{front-opens}
 use Rattle.lard_law_connections.proofs.BytesOwners.{Known, Knows, known}
 use Rattle.lard_law_connections.proofs.BytesRuns.{states-truthful}
 use Rattle.lard_law_connections.proofs.PlacesLaw.{owing}
 use Rattle.lard_law_connections.proofs.PlacesRuns.{each-placed}
 use Rattle.lard_law_connections.proofs.PlacesTurns.{IsPlaced}
 use Rattle.lard_law_connections.proofs.PlacesTurns as places
-use Rattle.lard_law_view.specs.Carry.{Guarded, IsGuardedLaw, MayRestOn, OfEach, Untouched, setting, tale_at}
-use Rattle.lard_law_view.specs.View.{ClientRules, Conn, FrontRules, IsFrontEnv, IsNodeEnv, Move, NodeRules, Setting, UntouchedRules, Was, brought_said, client_begins, client_does, content_said, event_seen, front_admits, front_does, grown, node_does, nothing_said, packet_seen, reads_first, seen_in, stands}
 use Rattle.lard_law_view.proofs.Carried.{carried}
+use Rattle.lard_law_view.proofs.Frames as frames
+use Rattle.lard_law_view.proofs.Frames.{clients-leave}
 use Rattle.lard_law_view.proofs.Fine.{IsFine, IsItsOwn, fine}
-use Rattle.lard_law_view.proofs.Guarded.{guarded-law, untouched-both, untouched-weaker}
+use Rattle.lard_law_view.proofs.Guarded.{client-weaker, guarded-law, untouched-both, untouched-weaker}
 use Rattle.lard_law_view.proofs.Saying.{NotedAt}
 use Rattle.lard_laws.specs.WaysState.{GoesItsWay, marks_at}
 use Rattle.lard_laws.specs.Ways.{WayMarks}
 use Rattle.lard_laws.proofs.WaysRuns.{each-guarded}
 use Rattle.lard_laws.proofs.WaysMarking.{mark}
-use Rattle.lard_answers.specs.Answers.{FilesAt}
-use Rattle.lard_files.specs.Files.{file_at}
-use Rattle.lard_rules.specs.Front.{FrontEnv, FrontPart, ask_of, front_admitted, front_gets}
-use Rattle.lard_rules.specs.declared.front.FrontTurn.{FrontTurn}
-use Rattle.lard_handoff_back.specs.Back.{awaits_ack}
-use Rattle.lard_history.specs.Journal.{request}
-use Rattle.lard_history.specs.Own.{EachRow, Seen}
 use Rattle.lard_history.proofs.Each.{Each}
-use Rattle.lard_journal.specs.declared.rec.Rec.{Rec}
 use Rattle.lard_journal.specs.declared.rec.Rec.TheVariants as rec
-use Rattle.lard_rules.specs.Node.{NodeDeed, Does, Drops, come_by, gone, node_acknowledged, node_content, node_read, node_read_by, node_saying}
-use Rattle.lard_rules.specs.NodePlace.{content_bytes}
-use Rattle.lard_rules.specs.Stay.{NodeEnv}
-use Rattle.lard_policy.specs.declared.first.FirstChoice.{FirstChoice}
-use Rattle.lard_resend.specs.Kept.{without}
-use Rattle.lard_rules.specs.declared.places.Station.{Station}
-use Rattle.lard_rules.specs.declared.places.Turn.{Turn}
-use Rattle.lard_rules.specs.Client.{client_aborts, client_gets, client_holds, client_shuts, client_takes, client_timer, client_writes}
-use Rattle.lard_segment.specs.declared.fault.SegFault.{SegFault}
-use Rattle.lard_segment.specs.declared.segment.Dir.TheVariants.{ToClient, ToCluster}
-use Rattle.lard_segment.specs.Segment.{Said, decoded}
+use Rattle.lard_handoff_back.specs.declared.table.Adopt.TheVariants.{New}
+use Rattle.lard_law_view.proofs.EachNode.{Answers, Aside, Brings, MayAside, NodeComes, Queues, aside_said, aside_seen, each-node, job_notes, node_goes, told_first}
+use Rattle.lard_rules.proofs.NodeCases.{IsHereWith, KeptByNode, node-keeps}
+use Rattle.lard_rules.specs.Node.{Does, Says}
 use Rattle.lard_segment.proofs.Again.{again}
 use Rattle.lard_rules.proofs.FrontCases.{admitted-keeps}
 
@@ -80,21 +66,8 @@ module _ (k : Setting) (small : k.stream ≤ 2 ^ 30) where
   abbrev Owes : Conn → Move → Type 0
   Owes x v = IsTruthful k.files x → Keeps k.files x v
 
-  does : (x : Conn) (s : Station) (heads : List Seen) (given : ClientBlock × Turn) → Owes x (client_does x s heads given)
-  does x s heads given h = client-makes k.files x (client_does x s heads given) x.c refl
-
   clients : ClientRules k Owes
-  clients = record {
-    opens = λ x isn iss wnd mss rule none h. client-makes k.files x (client_begins x isn iss wnd mss) x.c refl;
-    gets = λ x s path there fits. does x s _ (client_writes s.client (request path));
-    writes = λ x s bytes there fits. does x s _ (client_writes s.client bytes);
-    shuts = λ x s there. does x s _ (client_shuts s.client);
-    aborts = λ x s there. does x s _ (client_aborts s.client);
-    holds = λ x s there. does x s _ (client_holds s.client);
-    takes = λ x s there. does x s _ (client_takes s.client);
-    fires = λ x s there. does x s _ (client_timer s.client);
-    hears = λ x s from bytes there was. does x s _ (client_gets s.client (decoded bytes x.c ToClient));
-  }
+  clients = client-weaker k (frames.Owed Owes) Owes (λ x v owed h help. owed help.number help.sound h help) (clients-leave k Owes (λ x v at own number sound h. client-makes k.files x v x.c at.client))
 
   -- ---- the front end
 
@@ -134,48 +107,86 @@ module _ (k : Setting) (small : k.stream ≤ 2 ^ 30) where
 
   -- ---- a node
 
-  acknowledged-keep : (x : Conn) (n : ℕ) (heads : List Seen) (env : NodeEnv) → Keeps k.files x (node_does x n heads (node_acknowledged env (x.part.nodes n)))
-  acknowledged-keep x n heads env = go (awaits_ack env.epoch (x.part.nodes n).row) where
-    go : (b : Bool) → Keeps k.files x (node_does x n heads (cond b (Does (record (x.part.nodes n) { row = gone (x.part.nodes n).row; kept = without timer.Ended 0 (x.part.nodes n).kept }, node_saying [])) Drops))
-    go true = makes k.files x (node_does x n heads (Does (record (x.part.nodes n) { row = gone (x.part.nodes n).row; kept = without timer.Ended 0 (x.part.nodes n).kept }, node_saying []))) tt tt tt
-    go false = still-makes k.files x n heads
+  -- behind the record of a job that was completed, or of none
+  module _ (x : Conn) (truth : IsTruthful k.files x) (n epoch : ℕ) (env : NodeEnv) (is : IsNodeEnv k x.c n epoch env) (heads : List Seen) (first : List Rec) (steady : Each (IsSteady env.serve.files (marks_at x)) first) where
+    abbrev ours : NodePart
+    ours = x.part.nodes n
 
-  content : (x : Conn) (n from epoch r : ℕ) (env : NodeEnv) (file bytes : List ℕ) → IsNodeEnv k x.c n epoch env → Was x (Node from) (Node n) bytes
-      → Owes x (node_does x n (packet_seen (Node from) (Node n) bytes) (node_content env (x.part.nodes n) from r))
-  content x n from epoch r env file bytes is was h help =
-      let heads : List Seen = packet_seen (Node from) (Node n) bytes in
-      by-station k small x (GoesItsWay k.files x → FetchesFor k.files x → IsBackedMove k.files x (node_does x n heads (node_content env (x.part.nodes n) from r)))
-      (λ s there. contents-keep k small x s there h.talk h.pend (open-at k.files x s there h) n epoch env is heads from r help)
-      (λ none. subst (λ (d : NodeDeed). Keeps k.files x (node_does x n heads d)) (sym (ap (come_by env from r (x.part.nodes n)) (nothing-here k.files x none h n env.epoch help.placed.sits))) (still-makes k.files x n heads) help)
+    abbrev marks : WayMarks
+    marks = marks_at x
 
-  read : (x : Conn) (n epoch r : ℕ) (env : NodeEnv) (path : List ℕ) → IsNodeEnv k x.c n epoch env → Owes x (reads_first (rec.Read n n x.c r path) (node_does x n [] (node_read env (x.part.nodes n) r)))
-  read x n epoch r env path is h help =
-      by-station k small x (GoesItsWay k.files x → FetchesFor k.files x → IsBackedMove k.files x (reads_first (rec.Read n n x.c r path) (node_does x n [] (node_read env (x.part.nodes n) r))))
-      (λ s there. read-keeps k small x s there h.talk h.pend (open-at k.files x s there h) n epoch env is r path help)
-      (λ none. subst (λ (d : NodeDeed). Keeps k.files x (reads_first (rec.Read n n x.c r path) (node_does x n [] d))) (sym (ap (node_read_by env r (x.part.nodes n)) (nothing-here k.files x none h n env.epoch help.placed.sits)))
-      (makes k.files x (reads_first (rec.Read n n x.c r path) (node_does x n [] Drops)) (tt, tt) tt tt) help)
+    abbrev After : NodeDeed → Type 0
+    After d = Keeps env.serve.files x (told_first first (node_does x n heads d))
+
+    abbrev Comes : NodeGets → Type 0
+    Comes g = NodeComes x n epoch heads g × (first ≡ job_notes x.c n g)
+
+    alone : first ≡ [] → (d : NodeDeed) → Keeps env.serve.files x (node_does x n heads d) → After d
+    alone none d h = subst (λ (rs : List Rec). Keeps env.serve.files x (told_first rs (node_does x n heads d))) (sym none) h
+
+    -- what was held is said again
+    again-said : AreSent x (Node n) ours.kept → AreSent x (Node n) ours.fetches → FetchesFor env.serve.files x
+        → Each (λ s. SaysFor env.serve.files marks.wrote (Node n) s.0 s.1) (again_sent ours)
+    again-said kept fetches old = again-for env.serve.files x n (ours.kept ++ ours.fetches) (sent-append x (Node n) ours.kept ours.fetches kept fetches) old
+
+    -- where it is here, it is at its home
+    does-here : (b : ControlBlock) (t : Stay) → IsHereWith env.epoch ours b t → (d : NodeDeed)
+        → ((h : IsHome env marks) → AreAt env marks h (t.served + 1) t.batch → Each (SaidFor env marks h) (again_sent ours) → DeedBacks env marks h d) → After d
+    does-here b t at d knows help g old =
+        let y : StayHolds k small x truth n epoch env is b t = stay-holds k small x truth n epoch env is help.placed b t at in
+        let h : IsHome env marks = home k small x y.station y.there truth.talk truth.pend y.opened n epoch env is y.it help.placed g in
+        let again : Each (SaidFor env marks h) (again_sent ours) = subst (λ (i : ℕ). Each (λ s. SaysFor env.serve.files marks.wrote (Node i) s.0 s.1) (again_sent ours)) (sym is.node) (again-said (help.sound.kept n) (help.sound.fetches n) old) in
+        deed-makes env x n is.node h heads first steady d
+        (knows h (hand-at k small x y.station y.there truth.talk truth.pend y.opened n epoch env is y.it help.placed h (b, t) (here-of env.epoch ours b t at)) again) help g old
+
+    turns : (b : ControlBlock) (t : Stay) → IsHereWith env.epoch ours b t → (q : NodePart) (w : Work)
+        → ((h : IsHome env marks) → AreAt env marks h (t.served + 1) t.batch → Clean env marks h w) → After (with_work env q [] (goes_on env w))
+    turns b t at q w clean = does-here b t at (with_work env q [] (goes_on env w)) (λ h are again. goes-back env marks h ours q w (clean h are))
+
+    rules_keep : KeptByNode env ours Comes After
+    rules_keep = record {
+      drops = still-makes env.serve.files x n heads first steady;
+      hears = λ said b t m at. turns b t at ours (work_of (on_segment b said).1 t) (λ h are. fresh env marks h ours (on_segment b said).1 t);
+      tags = λ number nodes b t m at asked same count. turns b t at (record ours { kept = without timer.Ask 0 ours.kept }) (tagged env nodes (work_of b t))
+          (λ h are. tagged-clean env marks h nodes (work_of b t) are (fresh env marks h ours b t));
+      comes = λ from r b t m at wanted.
+          turns b t at (record ours { fetches = without timer.Fetch r ours.fetches }) (came_for (come_progress from) r (work_of b t)) (λ h are. came-clean env marks h ours (come_progress from) r b t);
+      reads = λ r path b t m at. turns b t at ours (came_for read_progress r (work_of b t)) (λ h are. came-clean env marks h ours read_progress r b t);
+      begins = λ parts m new.
+          let s = opened-at k.files x truth (front-opens x n m.0.bytes m.0.was) in
+          alone m.1 (offered_by env parts ours New) (new-makes k small x s.0 s.1 truth.talk truth.pend (open-at k.files x s.0 s.1 truth) n epoch env is parts m.0.bytes m.0.spells m.0.was heads new);
+      takes_again = λ parts m again. alone m.1 (Says (taken_sent env)) (makes env.serve.files x (node_does x n heads (Says (taken_sent env))) tt tt (tt, tt));
+      fires = λ b t m at.
+          does-here b t at (Does (node_fired env ours (b, t) (spoken env.serve (serving (after_timer b) t.served []) (serving_ready_of env.serve (after_timer b) (timed b)))))
+          (λ h are again. fired-back env marks h ours again b t);
+      resends = λ m none. alone m.1 (Says (again_sent ours))
+          (λ help g old. makes env.serve.files x (node_does x n heads (Says (again_sent ours))) tt tt (nodes-for env.serve.files marks.wrote n (again_sent ours) (again-said (help.sound.kept n) (help.sound.fetches n) old)) help g old);
+      ends = λ m told. alone m.1 (Does (record ours { row = gone ours.row; kept = without timer.Ended 0 ours.kept }, node_saying []))
+          (makes env.serve.files x (node_does x n heads (Does (record ours { row = gone ours.row; kept = without timer.Ended 0 ours.kept }, node_saying []))) tt tt tt);
+    }
+
+  jobs-steady : (x : Conn) (files : FilesAt) (n : ℕ) (g : NodeGets) → Each (IsSteady files (marks_at x)) (job_notes x.c n g)
+  jobs-steady x files n (Completed r path) = ((tt, tt), tt)
+  jobs-steady x files n _ = tt
+
+  asides-keep : (x : Conn) (n : ℕ) (a : Aside) → MayAside k x n a → Owes x (stands x (Node n) (aside_seen n a) (aside_said k n x.c a))
+  asides-keep x n (Answers from epoch r path file bytes) may h help g old = makes k.files x (stands x (Node n) (packet_seen (Node from) (Node n) bytes) (content_said k n from x.c epoch r path)) tt tt
+      (content-for k.files (marks_at x).wrote n from x.c epoch r (content_bytes (k.files path)), tt) help g old
+  asides-keep x n (Queues from epoch r path file bytes) may h help g old =
+      let asked = (has-fair (LetterFor k.files (marks_at x).wrote) (record { from = Node from; to = Node n; bytes = bytes }) x.letters may.was old) _ may.spells in
+      makes k.files x (stands x (Node n) (packet_seen (Node from) (Node n) bytes) (record nothing_said { notes = rec.Queued n from x.c r path ∷ [] })) ((asked.0, asked.1), tt) tt tt help g old
+  asides-keep x n (Brings from epoch r path) may h help g old = makes k.files x (stands x (Node n) [] (brought_said k n from x.c epoch r path)) (tt, tt) tt
+      (content-for k.files (marks_at x).wrote n from x.c epoch r (content_bytes (k.files path)), tt) help g old
 
   nodes : NodeRules k Owes
-  nodes = record {
-    offered = λ x n epoch env parts bytes is spells was h.
-        let opened = opened-at k.files x h (front-opens x n bytes was) in
-        offered-keep k small x opened.0 opened.1 h.talk h.pend (open-at k.files x opened.0 opened.1 h) n epoch env is parts bytes spells was;
-    forwarded = λ x n epoch env segment bytes is spells was h.
-        let opened = opened-at k.files x h (front-opens x n bytes was) in
-        forwards-keep k small x opened.0 opened.1 h.talk h.pend (open-at k.files x opened.0 opened.1 h) n epoch env is (packet_seen Front (Node n) bytes) (decoded segment x.c ToCluster);
-    tagged = λ x n epoch number tags env bytes is spells was h.
-        let opened = opened-at k.files x h (front-opens x n bytes was) in
-        tags-keep k small x opened.0 opened.1 h.talk h.pend (open-at k.files x opened.0 opened.1 h) n epoch env is (packet_seen Front (Node n) bytes) number tags;
-    content = λ x n from epoch r env file bytes is spells was. content x n from epoch r env file bytes is was;
-    acknowledged = λ x n epoch env bytes is spells was h. acknowledged-keep x n (packet_seen Front (Node n) bytes) env;
-    read = read;
-    fires = λ x s n env there is h. fires-keep k small x s there h.talk h.pend (open-at k.files x s there h) n _ env is (event_seen (event.Timer (Node n) x.c)) is.epoch_is;
-    answers = λ x n from epoch r path file bytes there spells was h. makes k.files x (stands x (Node n) (packet_seen (Node from) (Node n) bytes) (content_said k n from x.c epoch r path)) tt tt (content-for k.files (marks_at x).wrote n from x.c epoch r (content_bytes (k.files path)), tt);
-    queues = λ x n from epoch r path file bytes there spells was h help g old.
-        let asked = (has-fair (LetterFor k.files (marks_at x).wrote) (record { from = Node from; to = Node n; bytes = bytes }) x.letters was old) _ spells in
-        makes k.files x (stands x (Node n) (packet_seen (Node from) (Node n) bytes) (record nothing_said { notes = rec.Queued n from x.c r path ∷ [] })) ((asked.0, asked.1), tt) tt tt help g old;
-    brings = λ x n from epoch r path h. makes k.files x (stands x (Node n) [] (brought_said k n from x.c epoch r path)) (tt, tt) tt (content-for k.files (marks_at x).wrote n from x.c epoch r (content_bytes (k.files path)), tt);
-  }
+  nodes = each-node k Owes (record {
+    does = λ x n epoch env heads g is at comes h.
+        let first : List Rec = job_notes x.c n g in
+        let steady : Each (IsSteady env.serve.files (marks_at x)) first = jobs-steady x env.serve.files n g in
+        subst (λ (f : FilesAt). Keeps f x (node_goes x n env heads g)) is.files
+        (node-keeps env (x.part.nodes n) (Comes x h n epoch env is heads first steady) (After x h n epoch env is heads first steady) (rules_keep x h n epoch env is heads first steady) g at (comes, refl));
+    aside = asides-keep;
+  })
 
   -- ---- the law
 

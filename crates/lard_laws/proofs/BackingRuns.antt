@@ -1,11 +1,7 @@
 -- What each connection's records say of its requests, the journal says.
 use Rattle.std.proofs.Common.{◌≡◌, ◌≤◌, ◌^◌, ℕ, List, [], ◌∷◌, Some, refl, sym, ap, subst, inl, inr}
 use Rattle.std.specs.Prelude.{◌⊎◌}
-use Rattle.lard_answers.specs.Answers.{FilesAt}
-use Rattle.lard_base.specs.declared.config.Config.{Config}
-use Rattle.lard_rules.specs.declared.machine.Machine.{Machine}
-use Rattle.lard_rules.specs.Bounds.{IsConnNumber}
-use Rattle.lard_rules.specs.Machine.{IsReached}
+use Rattle.lard_law_view.specs.Prelude.{Config, Conn, FilesAt, Has, IsConnNumber, IsReached, Machine, Rec, Row, blank_conn, conn, file_at, net_of, net_step, own, plain, seen_of, seen_on, whose}
 use Rattle.lard_laws.specs.BackingRequests.{MayName}
 use Rattle.lard_laws.specs.BackingRuns.{JobsStartWhenTold, JournalsNameRequests, PlacesAnswer, ResponsesAreBacked}
 use Rattle.lard_laws.proofs.BackingAnswering.{places-answer}
@@ -17,18 +13,14 @@ use Rattle.lard_laws.proofs.BackingMarked.{marks-lawful}
 use Rattle.lard_laws.proofs.BackingMarks.{MayMark}
 use Rattle.lard_law_connections.proofs.StoresDisks.{disks-read}
 use Rattle.lard_law_connections.proofs.StoresStored.{lawful}
-use Rattle.lard_law_view.specs.View.{Conn, blank_conn, conn}
 use Rattle.lard_law_connections.proofs.BytesRuns.{journals-serve}
 use Rattle.lard_law_view.proofs.After.{IsAfter, step-after}
 use Rattle.lard_law_view.proofs.Carried.{carried-keep, reached-viewed}
 use Rattle.lard_laws.proofs.WaysRuns.{assign-in-order, contents-come}
 use Rattle.lard_laws.proofs.WaysSteps.{contents-are-files}
-use Rattle.lard_files.specs.Files.{file_at}
-use Rattle.lard_history.specs.Own.{Has, Row, net_of, net_step, own, plain, seen_of, seen_on, whose}
 use Rattle.lard_history.proofs.Each.{each_weaker}
 use Rattle.lard_history.proofs.Seeing.{has-before, has-behind, own-append, seen-mine}
 use Rattle.lard_history.proofs.Stepping.{AreLawful, one-more}
-use Rattle.lard_journal.specs.declared.rec.Rec.{Rec}
 use Rattle.lard_journal.specs.declared.rec.Rec.TheVariants as rec
 
 module _ (files : FilesAt) where

@@ -4,30 +4,20 @@ use Rattle.std.proofs.lemmas.List.{append-nil}
 use Rattle.std.proofs.lemmas.Bool.{cond_both, ltb-false}
 use Rattle.std.specs.Int.{from_be_bytes, to_be_bytes, w32}
 use Rattle.std.specs.List.{slice_get}
-use Rattle.lard_answers.specs.Answers.{FilesAt, good_path, until_close, verdicts, verdicts_on}
+use Rattle.lard_law_view.specs.Prelude.{Body, FilesAt, Found, Head, Kind, Long, Message, MsgFault, Verdict, and_path, blocks, body_bytes, content_at, counted_at, counted_bytes, cut_of, decoded_message, fetch_at, good_path, is_version, kind_named, length_at, number_at, number_byte, piece_moved, pieces, pieces_from, spelled_message, taken_at, until_close, verdicts, verdicts_on, version_at, with_kind}
 use Rattle.lard_answers.proofs.Growing.{until_close-cons, until_close-nil, verdicts-are}
-use Rattle.lard_block.specs.declared.block.Found.{Found}
 use Rattle.lard_block.specs.declared.block.Found.TheVariants.{Block, More, TooLong}
-use Rattle.lard_block.specs.Blocks.{Head, Long, Piece, blocks, cut_of, piece_moved, pieces, pieces_from}
+use Rattle.lard_block.specs.Blocks.{Piece}
 use Rattle.lard_laws.specs.BackingRequests.{IsFor}
 use Rattle.lard_law_connections.proofs.PlacesHeads.{spelled-body}
 use Rattle.lard_laws.specs.Ways.{good_paths}
 use Rattle.lard_laws.proofs.WaysShort.{wanted-short}
 use Rattle.lard_history.proofs.Each.{Each}
-use Rattle.lard_message.specs.declared.fault.MsgFault.{MsgFault}
 use Rattle.lard_message.specs.declared.fault.MsgFault.TheVariants as fault
-use Rattle.lard_message.specs.declared.kind.Kind.{Kind}
-use Rattle.lard_message.specs.declared.message.Body.{Body}
 use Rattle.lard_message.specs.declared.message.Body.TheVariants as body
-use Rattle.lard_message.specs.declared.message.Message.{Message}
-use Rattle.lard_message.specs.Message.{body_bytes, counted_bytes, spelled_message}
-use Rattle.lard_message.specs.Kinds.{is_version, kind_named}
-use Rattle.lard_message.specs.Reading.{content_at, counted_at, decoded_message, fetch_at, length_at, number_at, number_byte, taken_at, version_at, with_kind}
 use Rattle.lard_message.proofs.Fields.{bind_then, counted_alone, number_again, some_same, taken_again, wide32}
 use Rattle.lard_message.proofs.Spelled.{length-spelled}
 use Rattle.lard_rules.specs.Node.{message}
-use Rattle.lard_rules.specs.Stay.{and_path}
-use Rattle.lard_request.specs.declared.verdict.Verdict.{Verdict}
 
 -- ---- no more requests than bytes
 

@@ -1,7 +1,7 @@
 -- A job of a node itself is queued and read only behind what told the node where its request is assigned.
 use Rattle.std.proofs.Common.{◌≡◌, ◌-◌, ℕ, zero, suc, false, List, [], ◌∷◌, ◌++◌, length, take, Option, Some, None, refl, sym, ap, ◌∙◌, subst, arith, append_assoc}
 use Rattle.std.specs.Prelude.{slice_get}
-use Rattle.lard_answers.specs.Answers.{FilesAt, good_path, verdicts}
+use Rattle.lard_law_view.specs.Prelude.{EachMay, FilesAt, Rec, Verdict, and_path, assigned, good_path, is_touched, verdicts, wrote}
 use Rattle.lard_laws.specs.BackingRequests.{IsFor, NodeIsTold, MayStart}
 use Rattle.lard_laws.specs.BackingState.{MayBack}
 use Rattle.lard_laws.specs.BackingTold.{AssignsFor, WasTold, files_before}
@@ -15,12 +15,7 @@ use Rattle.lard_law_connections.specs.StoresLaws.{MayStore}
 use Rattle.lard_laws.specs.WaysUnder.{Assigned}
 use Rattle.lard_laws.specs.Ways.{AreAssignedInOrder, IsNextGood, MayBeAssigned, good_paths, way_marks}
 use Rattle.lard_laws.proofs.WaysGoods.{get-front, wanted-grow}
-use Rattle.lard_history.specs.Journal.{assigned, is_touched, wrote}
-use Rattle.lard_history.specs.Laws.{EachMay}
-use Rattle.lard_journal.specs.declared.rec.Rec.{Rec}
 use Rattle.lard_journal.specs.declared.rec.Rec.TheVariants as rec
-use Rattle.lard_rules.specs.Stay.{and_path}
-use Rattle.lard_request.specs.declared.verdict.Verdict.{Verdict}
 
 -- ---- the path of an assignment
 

@@ -1,11 +1,10 @@
 -- Where a Tag counts, it has the number of the last Ask that was answered, and the requests that start by it are the last assigned.
-use Rattle.std.proofs.Common.{◌≡◌, ◌≤◌, ◌<◌, ◌+◌, ◌-◌, ◌^◌, ◌==◌, ◌&&◌, ℕ, suc, true, List, [], ◌∷◌, ◌++◌, length, take, Option, Some, None, ⊎_elim, inl, inr, refl, sym, ap, ◌∙◌, subst, arith, eq-eqb, eqb-true}
+use Rattle.std.proofs.Common.{◌≡◌, ◌≤◌, ◌<◌, ◌+◌, ◌-◌, ◌^◌, ◌==◌, ◌&&◌, ℕ, suc, true, List, [], ◌∷◌, ◌++◌, length, take, Option, Some, None, ⊎_elim, inl, inr, refl, sym, ap, ◌∙◌, subst, arith, eqb-true}
 use Rattle.std.specs.Prelude.{is_some}
 use Rattle.std.specs.List.{find}
-use Rattle.std.proofs.lemmas.Bool.{and_from, and_parts}
+use Rattle.std.proofs.lemmas.Bool.{and_parts}
 use Rattle.std.proofs.lemmas.List.{length-append, length-map}
-use Rattle.lard_answers.specs.Answers.{FilesAt, verdicts}
-use Rattle.lard_base.specs.declared.place.Place.TheVariants.{Front, Node}
+use Rattle.lard_law_view.specs.Prelude.{Conn, ControlBlock, FilesAt, Front, FrontRest, IsNodeEnv, Node, NodeEnv, NodePart, Setting, SpellsMessage, Station, Stay, Talk, Verdict, Was, both_of, front_rest, here, is_row_at, is_tag_awaited, is_under, named_paths, verdicts}
 use Rattle.lard_base.specs.declared.place.TimerKind.TheVariants as timer
 use Rattle.lard_laws.specs.Asks.{Answered, ask_tale}
 use Rattle.lard_laws.proofs.AsksAsked.{with-told}
@@ -16,29 +15,14 @@ use Rattle.lard_laws.proofs.BackingNumbers.{IsWithin, named-within}
 use Rattle.lard_laws.proofs.BackingTurns.{EachNamed, IsHome, named-weaker}
 use Rattle.lard_law_connections.specs.BytesAgreement.{IsOpen}
 use Rattle.lard_law_connections.proofs.BytesClientMoves.{has-fair}
-use Rattle.lard_law_connections.proofs.BytesNodeMoves.{HasIt, IsAt}
+use Rattle.lard_law_connections.proofs.BytesNodeMoves.{HasIt}
 use Rattle.lard_law_connections.proofs.BytesNodeTurns.{here-or}
-use Rattle.lard_law_connections.specs.Places.{Sits, StageSits, owning}
 use Rattle.lard_law_connections.proofs.PlacesTurns.{IsPlaced}
-use Rattle.lard_law_view.specs.Carry.{tale_at}
-use Rattle.lard_law_view.specs.View.{Conn, IsNodeEnv, Setting, SpellsMessage, Was}
 use Rattle.lard_laws.specs.WaysState.{FrontSaysWays, GoesItsWay, IsAsking, LetterWays, StayGoes, StayWays, TagIs, given_to, marks_at}
 use Rattle.lard_laws.specs.Ways.{WayMarks, good_paths}
+use Rattle.lard_laws.proofs.NodeStays.{with-row}
 use Rattle.lard_laws.proofs.WaysHomes.{AtHome, at-home}
-use Rattle.lard_endpoint.specs.Control.{ControlBlock}
-use Rattle.lard_rules.specs.declared.front.FrontRest.{FrontRest}
-use Rattle.lard_rules.specs.Front.{is_row_at, is_with, front_rest}
-use Rattle.lard_handoff_front.specs.declared.row.FrontConn.{FrontConn}
-use Rattle.lard_handoff_front.specs.declared.row.FrontConn.TheVariants as stage
-use Rattle.lard_handoff_front.specs.declared.row.FrontRow.{FrontRow}
-use Rattle.lard_law_view.specs.Truthful.{Talk}
 use Rattle.lard_message.specs.declared.message.Body.TheVariants as body
-use Rattle.lard_rules.specs.declared.stay.Stay.{Stay}
-use Rattle.lard_rules.specs.Node.{NodePart, both_of, here, is_tag_awaited}
-use Rattle.lard_rules.specs.Stay.{NodeEnv, named_paths}
-use Rattle.lard_request.specs.declared.verdict.Verdict.{Verdict}
-use Rattle.lard_resend.specs.Kept.{is_under}
-use Rattle.lard_rules.specs.declared.places.Station.{Station}
 
 -- ---- what the front end keeps of the last Ask
 
@@ -92,14 +76,7 @@ module _ (k : Setting) (small : k.stream ≤ 2 ^ 30) (x : Conn) (s : Station) (t
     front-at : is_row_at n epoch x.part.front.row ≡ true
     front-at =
         let has : HasIt x l pend o.seat placed n env.epoch = (it placed).0 in
-        subst (λ (q : Option FrontRow). is_row_at n epoch q ≡ true) (sym has.found) (go has.row.epoch.0 has.row.stage has.at (subst (Sits (owning (tale_at x)) x.part.nodes) has.found placed.sits).0 (has.same ∙ is.epoch_is)) where
-          go : (now : ℕ) (f : FrontConn) → IsAt n f → StageSits now (owning (tale_at x)) x.part.nodes f → now ≡ epoch → is_with n epoch f ≡ true
-          go now (stage.Offering i f) at s e = and_from (i == n) (f.0 == epoch) (eq-eqb i n at) (eq-eqb f.0 epoch (s.1 ∙ e))
-          go now (stage.Moved i f) at s e = and_from (i == n) (f.0 == epoch) (eq-eqb i n at) (eq-eqb f.0 epoch (s.1 ∙ e))
-          go now (stage.Held b) at s e = absurd at
-          go now (stage.Waiting b) at s e = absurd at
-          go now stage.Lent at s e = absurd at
-          go now (stage.Closed last) at s e = absurd at
+        with-row x placed n epoch has.row has.found has.at (has.same ∙ is.epoch_is)
 
     module _ (g : GoesItsWay files x) (told : Told x) (number : ℕ) (nodes bytes : List ℕ) (spells : SpellsMessage x.c epoch (body.Tag number nodes) bytes) (was : Was x Front (Node n) bytes) where
       tag-is : TagIs r number nodes

@@ -2,10 +2,7 @@
 use Rattle.std.proofs.Common.{◌≡◌, ◌≤◌, ◌+◌, ◌^◌, ◌==◌, nat_lt, ℕ, Bool, true, false, List, [], ◌∷◌, ◌++◌, map, length, slice_get, Option, Some, None, refl, sym, ap, ◌∙◌, subst, arith, append_assoc, eq-eqb, ◌≢◌}
 use Rattle.std.proofs.lemmas.Bool.{both_ways, cond_both}
 use Rattle.std.proofs.lemmas.List.{length_push}
-use Rattle.lard_answers.specs.Answers.{FilesAt, IsPrefix, answer, answer_code, good_path, verdicts}
-use Rattle.lard_base.specs.declared.place.Place.{Place}
-use Rattle.lard_base.specs.declared.place.Place.TheVariants.{Client, Front, Node}
-use Rattle.lard_base.specs.declared.place.Via.{Via}
+use Rattle.lard_law_view.specs.Prelude.{Asked, Client, Done, Ending, Entry, FilesAt, Front, IsPrefix, More, Next, Node, NodeDeed, NodeEnv, NodePart, NodeTurn, Place, Progress, Rec, Service, Step, Turn, Verdict, Via, Want, Work, all_sent, answer, answer_code, asked_sent, asks_for, batch_of, bytes_used, ended_sent, entered, enters, enters_first, fetch_of, finishing, goes_on, good_path, kept_after, named_path, named_paths, next_of, passed_over, path_in, queued, read_entry, reads_these, serves_by, serves_first, serves_with, serving_consumed, serving_settled, started, started_here, started_there, starts_at, starts_named, starts_one, state_of, stay_turn, tagged, turn_by, turned, verdicts, wants_sent, with_work, work_left}
 use Rattle.lard_laws.specs.BackingRequests.{IsFor}
 use Rattle.lard_laws.specs.BackingState.{BodyFor, MayBack, SaysFor, StartsAt}
 use Rattle.lard_laws.proofs.BackingRows.{Backs}
@@ -14,27 +11,12 @@ use Rattle.lard_law_connections.proofs.PlacesLoops.{settled-is}
 use Rattle.lard_laws.specs.Ways.{WayMarks}
 use Rattle.lard_laws.proofs.WaysGoods.{next-get}
 use Rattle.lard_laws.proofs.WaysMarking.{mark}
-use Rattle.lard_endpoint.specs.Control.{finishing}
 use Rattle.lard_history.proofs.Each.{Each, Each-append}
-use Rattle.lard_journal.specs.declared.rec.Rec.{Rec}
 use Rattle.lard_journal.specs.declared.rec.Rec.TheVariants as rec
-use Rattle.lard_rules.specs.declared.node.NodeTurn.{NodeTurn}
-use Rattle.lard_rules.specs.declared.stay.Asked.{Asked}
-use Rattle.lard_rules.specs.declared.stay.Entry.{Entry}
-use Rattle.lard_rules.specs.declared.stay.Next.{Next}
 use Rattle.lard_rules.specs.declared.stay.Next.TheVariants as next
-use Rattle.lard_rules.specs.declared.stay.Progress.{Progress}
 use Rattle.lard_rules.specs.declared.stay.Progress.TheVariants as progress
-use Rattle.lard_rules.specs.declared.stay.Want.{Want}
-use Rattle.lard_rules.specs.Node.{NodeDeed, Drops, Says, Does, NodePart, all_sent, asked_sent, ended_sent, fetch_of, kept_after, turn_by, wants_sent, with_work}
-use Rattle.lard_rules.specs.Stay.{NodeEnv, Work, asks_for, entered, enters, enters_first, goes_on, work_left, named_path, named_paths, next_of, path_in, read_entry, reads_these, serves_by, serves_first, serves_with, started, started_here, started_there, starts_at, starts_named, starts_one, tagged, stay_turn, turned}
-use Rattle.lard_reader.specs.Batches.{batch_of, bytes_used}
-use Rattle.lard_request.specs.declared.verdict.Verdict.{Verdict}
-use Rattle.lard_rules.specs.declared.places.Ending.{Ending}
+use Rattle.lard_rules.specs.Node.{Drops, Says, Does}
 use Rattle.lard_rules.specs.declared.places.Ending.TheVariants as ending
-use Rattle.lard_rules.specs.declared.places.Turn.{Turn}
-use Rattle.lard_rules.specs.Loop.{Step, More, Done, state_of}
-use Rattle.lard_rules.specs.Serving.{Service, serving_consumed, passed_over, queued, serving_settled}
 use Rattle.lard_rules.proofs.Runs.{runs_keep}
 use Rattle.lard_law_view.proofs.EndpointSends.{AllTo}
 

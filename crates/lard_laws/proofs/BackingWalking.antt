@@ -3,42 +3,17 @@ use Rattle.std.proofs.Common.{◌≡◌, ℕ, ◌+◌, ◌==◌, Bool, true, fal
 use Rattle.std.specs.Prelude.{◌⊎◌}
 use Rattle.std.proofs.lemmas.Bool.{cond_both}
 use Rattle.std.specs.List.{flat_map, list_any}
-use Rattle.lard_base.specs.declared.place.Place.{Place}
-use Rattle.lard_base.specs.declared.place.Place.TheVariants.{Front, Node}
-use Rattle.lard_base.specs.declared.place.TimerKind.{TimerKind}
-use Rattle.lard_cache.specs.Recency.{has_path}
-use Rattle.lard_laws.proofs.BackingHeld.{HasCome, StayHits, stay-more}
-use Rattle.lard_laws.proofs.BackingHitting.{DeedHits, FirstFor, IsOwn, IsQuiet, IsStill, MayHit, TagKnown, acknowledged-hit, come-hit, fired-hit, forwarded-hit, offered-hit, quiet-may, read-hit, tagged-hit}
+use Rattle.lard_law_view.specs.Prelude.{Acknowledged, BackIn, BackRow, Body, Completed, Content, ControlBlock, EachMay, Fires, Forwarded, Front, Job, Message, MsgFault, Node, NodeDeed, NodePart, NodeSetting, NodeState, NodeTurn, Offered, Out, Place, Rec, Stay, Tagged, TimerKind, ToCluster, aside, batch_of, completed, content_sent, decoded, decoded_message, disk_step, fetched, fetched_file, has_path, here, is_for, is_tag_awaited, is_touched, job_at, kind_change, node_armed, node_brought, node_deed, node_env, node_epoch_at, node_gets, node_hears, node_part, node_put, node_read, node_saying, node_step, nothing_done, offer_answer, timer_kinds, with_first}
+use Rattle.lard_laws.proofs.BackingHeld.{StayHits, stay-more}
+use Rattle.lard_laws.proofs.BackingHitting.{CameBehind, DeedHits, FirstFor, IsOwn, IsQuiet, IsStill, MayHit, TagKnown, quiet-may, rule-hit}
 use Rattle.lard_law_view.proofs.Parts.{node-elsewhere, node-here}
-use Rattle.lard_disk.specs.declared.disk.Job.{Job}
-use Rattle.lard_disk.specs.Jobs.{is_for, job_at}
-use Rattle.lard_endpoint.specs.Control.{ControlBlock}
 use Rattle.lard_handoff_back.specs.declared.table.Adopt.TheVariants.{New}
-use Rattle.lard_handoff_back.specs.Back.{offer_answer}
-use Rattle.lard_history.specs.Journal.{is_touched}
-use Rattle.lard_history.specs.Laws.{EachMay}
-use Rattle.lard_history.specs.Own.{net_of, seen_on}
 use Rattle.lard_history.proofs.Each.{Each, Each-append, Each-weaker}
 use Rattle.lard_history.proofs.Seeing.{by_number}
-use Rattle.lard_journal.specs.declared.rec.Rec.{Rec}
 use Rattle.lard_journal.specs.declared.rec.Rec.TheVariants as rec
-use Rattle.lard_message.specs.declared.fault.MsgFault.{MsgFault}
-use Rattle.lard_message.specs.declared.message.Body.{Body}
 use Rattle.lard_message.specs.declared.message.Body.TheVariants as body
-use Rattle.lard_message.specs.declared.message.Message.{Message}
-use Rattle.lard_message.specs.Reading.{decoded_message}
-use Rattle.lard_rules.specs.declared.node.BackIn.{BackIn}
 use Rattle.lard_rules.specs.declared.node.BackIn.TheVariants as input
-use Rattle.lard_rules.specs.declared.node.NodeState.{NodeState}
-use Rattle.lard_rules.specs.declared.node.NodeTurn.{NodeTurn}
-use Rattle.lard_rules.specs.declared.stay.Stay.{Stay}
-use Rattle.lard_rules.specs.Node.{NodeDeed, Does, Drops, NodePart, Says, here, is_tag_awaited, node_armed, node_read, node_saying}
-use Rattle.lard_rules.specs.NodePlace.{NodeSetting, aside, node_brought, completed, content_sent, disk_step, node_epoch_at, fetched, fetched_file, node_deed, node_env, node_gets, node_hears, node_part, node_put, node_step, with_first}
-use Rattle.lard_reader.specs.Batches.{batch_of}
-use Rattle.lard_rules.specs.declared.places.Out.{Out}
-use Rattle.lard_rules.specs.Outs.{kind_change, timer_kinds, nothing_done}
-use Rattle.lard_segment.specs.declared.segment.Dir.TheVariants.{ToCluster}
-use Rattle.lard_segment.specs.Segment.{decoded}
+use Rattle.lard_rules.specs.Node.{Does, Drops, Says}
 
 -- ---- the records of timers
 
@@ -79,12 +54,8 @@ module _ (k : NodeSetting) where
 
   module _ (base : List Rec) where
     -- A content of request r came from node m in the last of these records, and before them this was kept.
-    pub record ContentKnown (s : NodeState) (m c epoch r : ℕ) : Type 0 where
-      pub old : List Rec
-      pub first : List Rec
-      pub is : base ≡ old ++ first
-      pub kept : StayHits k.files k.n c old (node_part s c).row (node_part s c).stay
-      pub comes : HasCome k.n m c epoch r (seen_on c (net_of old) first)
+    abbrev pub ContentKnown : NodeState → ℕ → ℕ → ℕ → ℕ → Type 0
+    ContentKnown s m c epoch r = CameBehind (node_env k s c epoch) refl base (node_part s c) m r
 
     -- what must be known of a message that comes
     abbrev pub BodyKnown : NodeState → Place → ℕ → ℕ → Body → Type 0
@@ -145,12 +116,12 @@ module _ (k : NodeSetting) (i : BackIn) where
     Asked _ c _ = Unit {0}
 
     hears-hits : (s : NodeState) (from : Place) (c epoch : ℕ) (b : Body) → Asked from c b → NodeHits k base s → BodyKnown k base s from c epoch b → StepHits base (node_hears k s from c epoch b)
-    hears-hits s Front c epoch (body.Offer parts) asked h known = deed-hits s c epoch _ h (offered-hit (node_env k s c epoch) refl base (node_part s c) (h c) parts known)
-    hears-hits s Front c epoch (body.Forward bytes) asked h known = deed-hits s c epoch _ h (forwarded-hit (node_env k s c epoch) refl base (node_part s c) (h c) (decoded bytes c ToCluster))
-    hears-hits s Front c epoch (body.Tag number nodes) asked h known = deed-hits s c epoch _ h (tagged-hit (node_env k s c epoch) refl base (node_part s c) (h c) number nodes known)
-    hears-hits s Front c epoch body.EndedAck asked h known = deed-hits s c epoch _ h (acknowledged-hit (node_env k s c epoch) refl base (node_part s c) (h c))
+    hears-hits s Front c epoch (body.Offer parts) asked h known = deed-hits s c epoch _ h (rule-hit (node_env k s c epoch) refl base (node_part s c) (Offered parts) tt known)
+    hears-hits s Front c epoch (body.Forward bytes) asked h known = deed-hits s c epoch _ h (rule-hit (node_env k s c epoch) refl base (node_part s c) (Forwarded (decoded bytes c ToCluster)) tt (h c))
+    hears-hits s Front c epoch (body.Tag number nodes) asked h known = deed-hits s c epoch _ h (rule-hit (node_env k s c epoch) refl base (node_part s c) (Tagged number nodes) tt (h c, known))
+    hears-hits s Front c epoch body.EndedAck asked h known = deed-hits s c epoch _ h (rule-hit (node_env k s c epoch) refl base (node_part s c) Acknowledged tt (h c))
     hears-hits s (Node from) c epoch (body.Fetch r path) asked h known = fetched-hits s from c epoch r path (k.files path) known asked h
-    hears-hits s (Node from) c epoch (body.Content r bytes) asked h known = deed-hits s c epoch _ h (come-hit (node_env k s c epoch) refl base (node_part s c) known.old known.first known.is from r known.comes known.kept)
+    hears-hits s (Node from) c epoch (body.Content r bytes) asked h known = deed-hits s c epoch _ h (rule-hit (node_env k s c epoch) refl base (node_part s c) (Content from r) tt known)
     hears-hits s _ c epoch _ asked h known = stays s h
 
     asked-by : (from : Place) (bytes : List ℕ) → i ≡ input.Message from bytes → (m : Message) → decoded_message bytes ≡ Ok m → Asked from m.c m.body
@@ -172,7 +143,7 @@ module _ (k : NodeSetting) (i : BackIn) where
       let now : List Rec = base ++ read ∷ [] in
       let more : NodeHits k now s = node-more k base (read ∷ []) s h in
       cond_both (job.origin == k.n) (node_deed k s job.c (node_read (node_env k s job.c job.epoch.0) (node_part s job.c) job.r)) (aside s (node_saying (content_sent k job.origin job.c job.epoch.0 job.r job.path ∷ []))) (StepHits now)
-      (λ t. deed-hits now s job.c job.epoch.0 _ more (read-hit (node_env k s job.c job.epoch.0) refl now (node_part s job.c) base job.r job.path (ap (λ (o : ℕ). base ++ rec.Read k.n o job.c job.r job.path ∷ []) (eqb-true job.origin k.n t)) (h job.c)))
+      (λ t. deed-hits now s job.c job.epoch.0 _ more (rule-hit (node_env k s job.c job.epoch.0) refl now (node_part s job.c) (Completed job.r job.path) tt (base, ap (λ (o : ℕ). base ++ rec.Read k.n o job.c job.r job.path ∷ []) (eqb-true job.origin k.n t), h job.c)))
       (λ t. aside-hits now s (node_saying (content_sent k job.origin job.c job.epoch.0 job.r job.path ∷ [])) tt tt more)
 
   first-hits : (base : List Rec) (r : Rec) (x : NodeState × Out) → IsQuiet r → QueuesBy k.n i r → StepHits (base ++ r ∷ []) x → StepHits base (with_first r x)
@@ -199,5 +170,5 @@ module _ (k : NodeSetting) where
 
   pub step-hits : (base : List Rec) (s : NodeState) (i : BackIn) → NodeHits k base s → StepKnown base s i → StepHits k i base (node_step k s i)
   step-hits base s (input.Message from bytes) h known = gets-hits k (input.Message from bytes) base s from bytes refl (decoded_message bytes) refl h known
-  step-hits base s (input.Timer c) h known = deed-hits k (input.Timer c) base s c (node_epoch_at s c) _ h (fired-hit (node_env k s c (node_epoch_at s c)) refl base (node_part s c) (h c) refl)
+  step-hits base s (input.Timer c) h known = deed-hits k (input.Timer c) base s c (node_epoch_at s c) _ h (rule-hit (node_env k s c (node_epoch_at s c)) refl base (node_part s c) Fires (λ row found. sym (ap (λ (o : Option BackRow). elim o [ None ↦ 0 | Some row ↦ row.epoch.0 ]) found)) (h c))
   step-hits base s (input.Disk j) h known = disk-hits k (input.Disk j) base s j (job_at s.disk j) h

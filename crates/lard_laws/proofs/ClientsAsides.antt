@@ -2,20 +2,16 @@
 use Rattle.std.proofs.Common.{◌≡◌, ℕ, List, [], ◌∷◌, ◌++◌, map, true, false, Option, Some, None, refl, sym, ap, ◌∙◌, subst}
 use Rattle.std.specs.List.{fold}
 use Rattle.lard_base.specs.declared.event.Event.TheVariants as event
-use Rattle.lard_base.specs.declared.place.Place.{Place}
-use Rattle.lard_base.specs.declared.place.Place.TheVariants.{Front, Node, Client}
-use Rattle.lard_client.specs.Control.{ClientBlock}
-use Rattle.lard_law_view.specs.View.{Conn, IsMachine, Move, Part, rows_of, seen_in, sending, timer_rows}
+use Rattle.lard_law_view.specs.Prelude.{Came, Client, ClientBlock, Conn, Front, IsClientStep, IsGiven, IsMachine, Move, Node, NoneOfClient, Part, Place, Rec, Row, Seen, after_turn, at_client, client_step, client_turn, is_of_client, is_opening, row_turn, rows_of, seen_in}
+use Rattle.lard_law_view.specs.View.{sending}
 use Rattle.lard_law_view.proofs.Fine.{IsItsOwn}
 use Rattle.lard_law_view.proofs.Frames.{IsAtMachine, IsHeadAt, KeepsAt}
-use Rattle.lard_law_view.proofs.Saying.{GaveAt, NotedAt, gave-still, note-still}
+use Rattle.lard_law_view.proofs.Saying.{NotedAt, note-still}
 use Rattle.lard_law_view.proofs.Timers.{IsTimerAt, timer_rows-are}
-use Rattle.lard_history.specs.Own.{Seen, Row, Came}
-use Rattle.lard_history.specs.Steps.{is_opening}
 use Rattle.lard_history.proofs.Each.{Each, Each-append, Each-weaker}
-use Rattle.lard_journal.specs.declared.rec.Rec.{Rec}
 use Rattle.lard_journal.specs.declared.rec.Rec.TheVariants as rec
-use Rattle.lard_law_view.specs.ClientRule.{IsClientStep, IsGiven, NoneOfClient, after_turn, at_client, client_step, client_turn, is_of_client, row_turn}
+use Rattle.lard_law_view.proofs.OfKinds.{by-machine, of-gifts, rest_of, rest-each, rows-are, timers}
+use Rattle.lard_law_view.proofs.RecordKinds.{IsByMachine, kind_of}
 
 -- ---- records of a machine
 
@@ -28,29 +24,17 @@ not-client Front m = refl
 not-client (Node n) m = refl
 not-client (Client d) m = absurd m
 
-note-other : (place : Place) (c : ℕ) (r : Rec) → IsMachine place → NotedAt place c r → is_of_client r ≡ false
-note-other Front c (rec.Took Front d epoch) m h = refl
-note-other Front c (rec.Served Front d r code size via) m h = refl
-note-other Front c (rec.Reset Front d total) m h = refl
-note-other Front c (rec.Waits d) m h = refl
-note-other Front c (rec.Admitted d) m h = refl
-note-other Front c (rec.AssignedFirst d r path n add remove) m h = refl
-note-other Front c (rec.AssignedLater d r path n add size queue) m h = refl
-note-other Front c (rec.BatchOver d) m h = refl
-note-other Front c (rec.Released d) m h = refl
-note-other (Node n) c (rec.Took (Node k) d epoch) m h = refl
-note-other (Node n) c (rec.Served (Node k) d r code size via) m h = refl
-note-other (Node n) c (rec.Reset (Node k) d total) m h = refl
-note-other (Node n) c (rec.Queued k o d r path) m h = refl
-note-other (Node n) c (rec.Read k o d r path) m h = refl
-note-other (Node n) c (rec.Hit k path) m h = refl
-note-other (Client d) c r m h = absurd m
-note-other _ c _ m h = absurd h
-
-gave-other : (place : Place) (c : ℕ) (r : Rec) → GaveAt place c r → is_of_client r ≡ false
-gave-other Front c (rec.Gave Front d epoch) h = refl
-gave-other (Node n) c (rec.Gave (Node k) d epoch) h = refl
-gave-other _ c _ h = absurd h
+note-other : (r : Rec) → IsByMachine (kind_of r) → is_of_client r ≡ false
+note-other (rec.Wrote d bytes) h = absurd h
+note-other (rec.Accepted d bytes) h = absurd h
+note-other (rec.Eof d) h = absurd h
+note-other (rec.Aborted d) h = absurd h
+note-other (rec.Sent k from to bytes) h = absurd h
+note-other (rec.Armed p d kind) h = absurd h
+note-other (rec.Cleared p d kind) h = absurd h
+note-other (rec.Opened d isn iss wnd mss) h = absurd h
+note-other (rec.Injected d) h = absurd h
+note-other _ h = refl
 
 timer-machine : (place : Place) (c : ℕ) (r : Rec) → IsMachine place → IsTimerAt place c r → IsOfMachine r
 timer-machine place c (rec.Armed p d kind) m h = (refl, ap at_client h.0 ∙ not-client place m)
@@ -62,23 +46,17 @@ sends-machine place [] m = tt
 sends-machine place (s ∷ ss) m = ((refl, not-client place m), sends-machine place ss m)
 
 pub note-machine : (place : Place) (c : ℕ) (r : Rec) → IsMachine place → NotedAt place c r → IsOfMachine r
-note-machine place c r m h = ((note-still place c r h).0, note-other place c r m h)
+note-machine place c r m h = ((note-still place c r h).0, note-other r (by-machine place c r h m))
 
 -- all that it tells of its connection
 pub rows-machine : (x : Conn) (v : Move) → IsMachine v.place → IsItsOwn x v → Each IsOfMachine (rows_of x v)
-rows-machine x v m own =
-    let segments : List Rec = map (sending v.place) v.said.segments in
-    let messages : List Rec = map (sending v.place) v.said.messages in
-    let timers : List Rec = timer_rows v.place x.c x.part v.part in
-    Each-append IsOfMachine (v.said.notes ++ segments ++ v.said.gave ++ messages) timers
-    (Each-append IsOfMachine (v.said.notes ++ segments ++ v.said.gave) messages
-    (Each-append IsOfMachine (v.said.notes ++ segments) v.said.gave
-    (Each-append IsOfMachine v.said.notes segments
+rows-machine x v m own = subst (Each IsOfMachine) (sym (rows-are x v)) (Each-append IsOfMachine v.said.notes (rest_of x v)
     (Each-weaker (NotedAt v.place x.c) IsOfMachine (λ r h. note-machine v.place x.c r m h) v.said.notes own.notes)
-    (sends-machine v.place v.said.segments m))
-    (Each-weaker (GaveAt v.place x.c) IsOfMachine (λ r h. ((gave-still v.place x.c r h).0, gave-other v.place x.c r h)) v.said.gave own.gave))
-    (sends-machine v.place v.said.messages m))
-    (Each-weaker (IsTimerAt v.place x.c) IsOfMachine (λ r h. timer-machine v.place x.c r m h) timers (timer_rows-are v.place x.c x.part v.part))
+    (rest-each x v IsOfMachine
+    (sends-machine v.place v.said.segments m)
+    (of-gifts IsOfMachine (λ p d epoch. (refl, refl)) v.place x.c v.said.gave own.gave)
+    (sends-machine v.place v.said.messages m)
+    (Each-weaker (IsTimerAt v.place x.c) IsOfMachine (λ r h. timer-machine v.place x.c r m h) (timers x v) (timer_rows-are v.place x.c x.part v.part))))
 
 -- ---- what is seen of it
 

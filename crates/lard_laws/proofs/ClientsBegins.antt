@@ -1,15 +1,9 @@
 -- A connection has one first number of the cluster's side wherever it is, in every run: each rule keeps it.
 use Rattle.std.proofs.Common.{◌≡◌, ◌<◌, ◌^◌, ℕ, List, [], ◌∷◌, ◌++◌, map, Option, Some, None, Result, Ok, Err, refl, sym, ap, ◌∙◌, subst}
 use Rattle.lard_base.specs.declared.event.Event.TheVariants as event
-use Rattle.lard_base.specs.declared.parts.EndpointParts.{EndpointParts}
-use Rattle.lard_base.specs.declared.place.Place.{Place}
-use Rattle.lard_base.specs.declared.place.Place.TheVariants.{Client, Front, Node}
-use Rattle.lard_client.specs.Control.{ClientBlock}
-use Rattle.lard_endpoint.specs.Control.{ControlBlock}
-use Rattle.lard_history.specs.Journal.{request}
-use Rattle.lard_history.specs.Own.{Seen}
+use Rattle.lard_law_view.specs.Prelude.{AreSent, Client, ClientBlock, ClientRules, Config, Conn, ControlBlock, Final, Front, FrontEnv, FrontRules, IsFrontEnv, IsLaw, IsNodeEnv, Kept, MayRestOn, Move, Node, NodeEnv, NodeRules, OfEach, Place, Rec, Rules, Said, Seen, SegFault, Setting, Station, ToCluster, Turn, TurnSaid, ask_of, client_begins, client_does, client_injects, client_opens, client_rule, decoded, event_seen, front_asked, front_does, front_ended, front_gets, front_taken, front_timer, grown, inject_seen, letter, letters_of, node_does, nothing_said, packet_seen, sent_of, setting, stands}
+use Rattle.lard_law_view.proofs.EachClient.{client_seen, each-client}
 use Rattle.lard_history.proofs.Each.{Each, Each-append}
-use Rattle.lard_journal.specs.declared.rec.Rec.TheVariants as rec
 use Rattle.lard_law_connections.proofs.PlacesFrontRules.{has-each}
 use Rattle.lard_law_connections.proofs.SilenceEndpoints.{Anything}
 use Rattle.lard_law_connections.proofs.SilenceFronts as fronts
@@ -17,9 +11,8 @@ use Rattle.lard_law_connections.proofs.SilenceNodes as nodes
 use Rattle.lard_law_connections.proofs.SilencePlaces.{known-front, node-weaker}
 use Rattle.lard_law_connections.proofs.SilenceTurns.{nobody}
 use Rattle.lard_law_connections.specs.SilencePlaces.{NodeHas}
-use Rattle.lard_law_view.specs.Carry.{IsLaw, MayRestOn, OfEach, setting}
-use Rattle.lard_law_view.specs.View.{AreSent, ClientRules, Conn, FrontRules, IsFrontEnv, IsNodeEnv, Move, NodeRules, Rules, Setting, SpellsMessage, TurnSaid, Was, brought_said, client_begins, client_does, content_said, event_seen, front_does, grown, inject_seen, letter, letters_of, node_does, nothing_said, packet_seen, reads_first, stands}
 use Rattle.lard_law_view.proofs.Carried.{carried}
+use Rattle.lard_law_view.proofs.EachNode.{NodeComes, aside_said, aside_seen, each-node, job_notes, told_first}
 use Rattle.lard_law_view.proofs.Fine.{IsFine, IsItsOwn, fine}
 use Rattle.lard_law_view.proofs.Guarded.{both, weaker}
 use Rattle.lard_law_view.proofs.Parts.{put-each}
@@ -30,22 +23,10 @@ use Rattle.lard_laws.proofs.AcksRuns.{front-station, node-station}
 use Rattle.lard_laws.proofs.ClientsFirsts.{client-first, first-kept, forward-tells, front-first, front-tells, node-first, told-first, words-greet}
 use Rattle.lard_laws.proofs.ClientsTelling as telling
 use Rattle.lard_laws.proofs.ClientsTelling.{AllTell, DeedTells}
+use Rattle.lard_laws.proofs.NodeDeeds.{aside-letters}
 use Rattle.lard_message.specs.declared.message.Body.TheVariants as body
-use Rattle.lard_base.specs.declared.config.Config.{Config}
-use Rattle.lard_endpoint.specs.declared.control.moving.Final.{Final}
-use Rattle.lard_resend.specs.declared.kept.Kept.{Kept}
-use Rattle.lard_resend.specs.Pending.{sent_of}
-use Rattle.lard_rules.specs.declared.places.Station.{Station}
-use Rattle.lard_rules.specs.declared.places.Turn.{Turn}
-use Rattle.lard_rules.specs.Client.{client_aborts, client_gets, client_holds, client_injects, client_opens, client_shuts, client_takes, client_timer, client_writes}
 use Rattle.lard_rules.specs.Front as front
-use Rattle.lard_rules.specs.Front.{FrontEnv, ask_of, front_asked, front_ended, front_gets, front_taken, front_timer}
 use Rattle.lard_rules.specs.Node as node
-use Rattle.lard_rules.specs.Node.{node_acknowledged, node_content, node_forwarded, node_offered, node_read, node_tagged, node_timer}
-use Rattle.lard_rules.specs.Stay.{NodeEnv}
-use Rattle.lard_segment.specs.declared.fault.SegFault.{SegFault}
-use Rattle.lard_segment.specs.declared.segment.Dir.TheVariants.{ToClient, ToCluster}
-use Rattle.lard_segment.specs.Segment.{Said, decoded}
 
 -- no other law is needed
 abbrev Nothing : Conn → Type 0
@@ -91,7 +72,7 @@ module _ (x : Conn) (iss : ℕ) (small : iss < 2 ^ 32) (all : AllHaveFirst x iss
     letters = more (front_does x heads (front.Does did)) (told-first x.c iss small Front tt did.turn.segments has.1.1) (front-first x.c iss did.turn.messages tells);
   }
 
-  node-does-first : (n : ℕ) (heads : List Seen) (d : node.NodeDeed) → nodes.DeedHas (IssIs iss) AnyBlock (Reply iss) x.c d → AreMessages x.c (Node n) (node_does x n heads d).said.messages
+  node-does-first : (n : ℕ) (heads : List Seen) (d : node.NodeDeed) → nodes.DeedHas (IssIs iss) AnyBlock (Reply iss) x.c d → AreMessages x.c (node_does x n heads d).place (node_does x n heads d).said.messages
       → AllHaveFirst (grown x (node_does x n heads d)) iss
   node-does-first n heads node.Drops has own = stands-first (Node n) heads nothing_said tt tt
   node-does-first n heads (node.Says ms) has own = stands-first (Node n) heads (record nothing_said { messages = ms }) tt (node-first x.c iss n ms own)
@@ -171,63 +152,35 @@ module _ (k : Setting) where
 
   -- ---- the nodes
 
-  node-rule : (x : Conn) (n epoch : ℕ) (env : NodeEnv) (heads : List Seen) (d : node.NodeDeed) → IsNodeEnv k x.c n epoch env
-      → ((iss : ℕ) → iss < 2 ^ 32 → AllHaveFirst x iss → nodes.DeedHas (IssIs iss) AnyBlock (Reply iss) env.serve.c d) → AreMessages x.c (Node n) (node_does x n heads d).said.messages
-      → HasOneFirst x → HasOneFirst (grown x (node_does x n heads d))
-  node-rule x n epoch env heads d is has own h = by-number x (node_does x n heads d) (node-station x n heads d)
-      (λ iss small there all. node-does-first x iss small all n heads d (subst (λ (c : ℕ). nodes.DeedHas (IssIs iss) AnyBlock (Reply iss) c d) is.number (has iss small all)) own) h
-
-  -- a place of the node does it
-  at-node : (x : Conn) (n : ℕ) (heads : List Seen) (d : node.NodeDeed) → IsItsOwn x (node_does x n heads d) → AreMessages x.c (Node n) (node_does x n heads d).said.messages
-  at-node x n heads node.Drops own = own.messages
-  at-node x n heads (node.Says ms) own = own.messages
-  at-node x n heads (node.Does given) own = own.messages
-
-  -- the parts of an Offer that came
-  offer-first : (x : Conn) (n epoch iss : ℕ) (parts : EndpointParts) (bytes : List ℕ) → SpellsMessage x.c epoch (body.Offer parts) bytes → Was x Front (Node n) bytes → AllHaveFirst x iss → parts.iss ≡ iss
-  offer-first x n epoch iss parts bytes spells was all =
-      has-each (LetterHasFirst x.c iss) (record { from = Front; to = Node n; bytes = bytes }) x.letters was all.letters (record { c = x.c; epoch = record { 0 = epoch }; body = body.Offer parts }) spells
-
-  -- a move that stands as it is but for a message between nodes
-  inner-rule : (x : Conn) (n : ℕ) (heads : List Seen) (said : TurnSaid)
-      → ((iss : ℕ) → AllFirst x iss (Node n) said.segments) → ((iss : ℕ) → AllFirst x iss (Node n) said.messages) → HasOneFirst x → HasOneFirst (grown x (stands x (Node n) heads said))
-  inner-rule x n heads said segments messages h = by-number x (stands x (Node n) heads said) refl (λ iss small there all. stands-first x iss small all (Node n) heads said (segments iss) (messages iss)) h
-
-  read-rule : (x : Conn) (n epoch r : ℕ) (env : NodeEnv) (path : List ℕ) → IsNodeEnv k x.c n epoch env → Keeps x (reads_first (rec.Read n n x.c r path) (node_does x n [] (node_read env (x.part.nodes n) r)))
-  read-rule x n epoch r env path is own may h =
-      let d : node.NodeDeed = node_read env (x.part.nodes n) r in
-      let v : Move = node_does x n [] d in
-      by-number x (reads_first (rec.Read n n x.c r path) v) (node-station x n [] d) (λ iss small there all.
-      let has : nodes.DeedHas (IssIs iss) AnyBlock (Reply iss) x.c d = subst (λ (c : ℕ). nodes.DeedHas (IssIs iss) AnyBlock (Reply iss) c d) is.number
-      (nodes.read-has env (IssIs iss) (IssIs iss) AnyBlock Anything (Reply iss) (first-kept iss env.serve) (x.part.nodes n) (all.nodes n) r) in
-      let a : AllHaveFirst (grown x v) iss = node-does-first x iss small all n [] d has (at-node x n [] d (record { notes = own.notes.1; segments = own.segments; gave = own.gave; messages = own.messages })) in
+  -- with what was noted before it
+  node-rule : (x : Conn) (n epoch : ℕ) (env : NodeEnv) (heads : List Seen) (d : node.NodeDeed) (rs : List Rec) → IsNodeEnv k x.c n epoch env
+      → ((iss : ℕ) → iss < 2 ^ 32 → AllHaveFirst x iss → nodes.DeedHas (IssIs iss) AnyBlock (Reply iss) env.serve.c d)
+      → AreMessages x.c (node_does x n heads d).place (node_does x n heads d).said.messages
+      → HasOneFirst x → HasOneFirst (grown x (told_first rs (node_does x n heads d)))
+  node-rule x n epoch env heads d rs is has own h = by-number x (told_first rs (node_does x n heads d)) (node-station x n heads d) (λ iss small there all.
+      let its = subst (λ (c : ℕ). nodes.DeedHas (IssIs iss) AnyBlock (Reply iss) c d) is.number (has iss small all) in
+      let a = node-does-first x iss small all n heads d its own in
       record { front = a.front; nodes = a.nodes; letters = a.letters }) h
 
+  -- the parts of an Offer that came, and what is here
+  given-first : (x : Conn) (n epoch iss : ℕ) (env : NodeEnv) (heads : List Seen) (all : AllHaveFirst x iss) (g : node.NodeGets) → NodeComes x n epoch heads g
+      → nodes.Given env (IssIs iss) (IssIs iss) AnyBlock Anything (Reply iss) (first-kept iss env.serve) (x.part.nodes n) g
+  given-first x n epoch iss env heads all (node.Offered parts) comes = λ new.
+      has-each (LetterHasFirst x.c iss) (record { from = Front; to = Node n; bytes = comes.bytes }) x.letters comes.was all.letters
+      (record { c = x.c; epoch = record { 0 = epoch }; body = body.Offer parts }) comes.spells
+  given-first x n epoch iss env heads all (node.Forwarded given) comes = (all.nodes n, λ s e. tt)
+  given-first x n epoch iss env heads all _ comes = all.nodes n
+
   node-rules : NodeRules k Keeps
-  node-rules = record {
-    offered = λ x n epoch env parts bytes is spells was own may. node-rule x n epoch env (packet_seen Front (Node n) bytes) (node_offered env (x.part.nodes n) parts) is
-        (λ i small all. nodes.offered-has env (IssIs i) (IssIs i) AnyBlock Anything (Reply i) (first-kept i env.serve) (x.part.nodes n) parts (λ new. offer-first x n epoch i parts bytes spells was all))
-        (at-node x n (packet_seen Front (Node n) bytes) (node_offered env (x.part.nodes n) parts) own);
-    forwarded = λ x n epoch env segment bytes is spells was own may. node-rule x n epoch env (packet_seen Front (Node n) bytes) (node_forwarded env (x.part.nodes n) (decoded segment x.c ToCluster)) is
-        (λ i small all. nodes.forwarded-has env (IssIs i) (IssIs i) AnyBlock Anything (Reply i) (first-kept i env.serve) (x.part.nodes n) (all.nodes n) (decoded segment x.c ToCluster) (λ s e. tt))
-        (at-node x n (packet_seen Front (Node n) bytes) (node_forwarded env (x.part.nodes n) (decoded segment x.c ToCluster)) own);
-    tagged = λ x n epoch number tags env bytes is spells was own may. node-rule x n epoch env (packet_seen Front (Node n) bytes) (node_tagged env (x.part.nodes n) number tags) is
-        (λ i small all. nodes.tagged-has env (IssIs i) (IssIs i) AnyBlock Anything (Reply i) (first-kept i env.serve) (x.part.nodes n) (all.nodes n) number tags)
-        (at-node x n (packet_seen Front (Node n) bytes) (node_tagged env (x.part.nodes n) number tags) own);
-    content = λ x n from epoch r env file bytes is spells was own may. node-rule x n epoch env (packet_seen (Node from) (Node n) bytes) (node_content env (x.part.nodes n) from r) is
-        (λ i small all. nodes.content-has env (IssIs i) (IssIs i) AnyBlock Anything (Reply i) (first-kept i env.serve) (x.part.nodes n) (all.nodes n) from r)
-        (at-node x n (packet_seen (Node from) (Node n) bytes) (node_content env (x.part.nodes n) from r) own);
-    acknowledged = λ x n epoch env bytes is spells was own may. node-rule x n epoch env (packet_seen Front (Node n) bytes) (node_acknowledged env (x.part.nodes n)) is
-        (λ i small all. nodes.acknowledged-has env (IssIs i) (IssIs i) AnyBlock Anything (Reply i) (first-kept i env.serve) (x.part.nodes n) (all.nodes n))
-        (at-node x n (packet_seen Front (Node n) bytes) (node_acknowledged env (x.part.nodes n)) own);
-    read = read-rule;
-    fires = λ x s n env there is own may. node-rule x n _ env (event_seen (event.Timer (Node n) x.c)) (node_timer env (x.part.nodes n)) is
-        (λ i small all. nodes.timer-has env (IssIs i) (IssIs i) AnyBlock Anything (Reply i) (first-kept i env.serve) (x.part.nodes n) (all.nodes n))
-        (at-node x n (event_seen (event.Timer (Node n) x.c)) (node_timer env (x.part.nodes n)) own);
-    answers = λ x n from epoch r path file bytes there spells was own may. inner-rule x n (packet_seen (Node from) (Node n) bytes) (content_said k n from x.c epoch r path) (λ iss. tt) (λ iss. (tt, tt));
-    queues = λ x n from epoch r path file bytes there spells was own may. inner-rule x n (packet_seen (Node from) (Node n) bytes) (record nothing_said { notes = rec.Queued n from x.c r path ∷ [] }) (λ iss. tt) (λ iss. tt);
-    brings = λ x n from epoch r path own may. inner-rule x n [] (brought_said k n from x.c epoch r path) (λ iss. tt) (λ iss. (tt, tt));
-  }
+  node-rules = each-node k Keeps (record {
+    does = λ x n epoch env heads g is at comes own may. node-rule x n epoch env heads (node.node_rule env (x.part.nodes n) g) (job_notes x.c n g) is
+        (λ i small all. nodes.rule-has env (IssIs i) (IssIs i) AnyBlock Anything (Reply i) (first-kept i env.serve) (x.part.nodes n) g at
+        (given-first x n epoch i env heads all g comes)) own.messages;
+    aside = λ x n a there own may h. by-number x (stands x (Node n) (aside_seen n a) (aside_said k n x.c a)) refl (λ iss small there all.
+        let v : Move = stands x (Node n) (aside_seen n a) (aside_said k n x.c a) in
+        let new : Each (LetterHasFirst x.c iss) (letters_of v) = aside-letters (LetterHasFirst x.c iss) (λ n to bytes. tt) k x n a in
+        record { front = all.front; nodes = all.nodes; letters = Each-append (LetterHasFirst x.c iss) x.letters (letters_of v) all.letters new }) h;
+  })
 
   -- ---- clients
 
@@ -237,20 +190,14 @@ module _ (k : Setting) where
       (f.0, client-does-first x s.iss f.0 f.1 s heads given)
 
   client-rules : ClientRules k Keeps
-  client-rules = record {
+  client-rules = each-client k Keeps (record {
     opens = λ x isn iss wnd mss rule none own may h.
         let f : FirstOn x None = subst (FirstOn x) none h in
         let a : AllHaveFirst x iss = f iss rule.5 in
-        (rule.5, record { front = a.front; nodes = a.nodes; letters = more x iss rule.5 a (client_begins x isn iss wnd mss) (client-first x.c iss x.c (client_opens x.c isn wnd mss).1.segments) tt });
-    gets = λ x s path there fits. client-rule x s (event_seen (event.Get x.c path)) (client_writes s.client (request path)) there;
-    writes = λ x s bytes there fits. client-rule x s (event_seen (event.Write x.c bytes)) (client_writes s.client bytes) there;
-    shuts = λ x s there. client-rule x s (event_seen (event.Shut x.c)) (client_shuts s.client) there;
-    aborts = λ x s there. client-rule x s (event_seen (event.Abort x.c)) (client_aborts s.client) there;
-    holds = λ x s there. client-rule x s (event_seen (event.Hold x.c)) (client_holds s.client) there;
-    takes = λ x s there. client-rule x s (event_seen (event.Take x.c)) (client_takes s.client) there;
-    fires = λ x s there. client-rule x s (event_seen (event.Timer (Client x.c) x.c)) (client_timer s.client) there;
-    hears = λ x s from bytes there was. client-rule x s (packet_seen from (Client x.c) bytes) (client_gets s.client (decoded bytes x.c ToClient)) there;
-  }
+        let more_letters = more x iss rule.5 a (client_begins x isn iss wnd mss) (client-first x.c iss x.c (client_opens x.c isn wnd mss).1.segments) tt in
+        (rule.5, record { front = a.front; nodes = a.nodes; letters = more_letters });
+    does = λ x s g there comes. client-rule x s (client_seen x.c g) (client_rule x.c s.client g) there;
+  })
 
   rules : Rules k Keeps
   rules = record {

@@ -1,28 +1,14 @@
 -- A client counts what it is told to have accepted, from the cluster's first number, in every run: each rule keeps it.
-use Rattle.std.proofs.Common.{◌≡◌, ◌==◌, ◌||◌, not, ℕ, true, false, cond, List, [], ◌∷◌, length, Option, Some, None, Result, Ok, Err, ⊎_elim, refl, sym, ap, ◌∙◌, subst}
+use Rattle.std.proofs.Common.{◌≡◌, ◌==◌, ◌||◌, not, ℕ, true, false, cond, List, [], ◌∷◌, length, Option, Some, Result, Ok, Err, ⊎_elim, refl, sym, ap, ◌∙◌, subst}
 use Rattle.std.specs.List.{fold}
 use Rattle.std.proofs.lemmas.Bool.{cond_both}
-use Rattle.lard_arrival.specs.Arrival.{peer_mss}
-use Rattle.lard_base.specs.declared.config.Config.{Config}
-use Rattle.lard_base.specs.declared.event.Event.{Event}
+use Rattle.lard_law_view.specs.Prelude.{Client, ClientBlock, ClientStands, ClientTale, Config, Conn, Event, Front, GoesBetween, Heard, IsConnSound, IsLaw, IsOpened, MayRestOn, Move, Node, OfEach, Phase, Place, Rules, Said, Seen, SegFault, Sending, Setting, Station, Tale, ToClient, Turn, Was, aborted, answers_syn, client_aborts, client_after_emit, client_after_timer, client_arrived, client_begins, client_does, client_gets, client_holds, client_injects, client_on_segment, client_opened, client_opens, client_shuts, client_speaks, client_taken, client_takes, client_tale, client_timer, client_writes, client_written, decoded, established, event_seen, grown, heard_in, heard_nothing, held_on, inject_seen, introduced, is_client_open, is_established, is_writing, nothing_said, on_greeting, packet_seen, peer_mss, queued_too, request, reset_by_peer, seen_step, send_closed, setting, shut_down, silent, speaking, stands, tale_at, tale_step, told_on}
 use Rattle.lard_base.specs.declared.event.Event.TheVariants as event
-use Rattle.lard_base.specs.declared.place.Place.{Place}
-use Rattle.lard_base.specs.declared.place.Place.TheVariants.{Client, Front, Node}
-use Rattle.lard_client.specs.declared.heard.Heard.{Heard}
-use Rattle.lard_client.specs.declared.phase.Phase.{Phase}
 use Rattle.lard_client.specs.declared.phase.Phase.TheVariants.{Aborted, Open, Reset}
-use Rattle.lard_client.specs.Arriving.{answers_syn, client_arrived, client_on_segment, established, heard_in, heard_nothing, on_greeting, reset_by_peer}
-use Rattle.lard_client.specs.Control.{ClientBlock, aborted, client_opened, client_taken, client_written, held_on, is_client_open, is_established, is_writing, shut_down}
-use Rattle.lard_client.specs.Leaving.{client_after_emit, client_after_owed, client_after_piece, client_after_timer, client_owes, client_told}
 use Rattle.lard_client.proofs.Outcomes.{Quiet, Took, segment-outcome}
-use Rattle.lard_history.specs.Journal.{Tale, request, tale_step, told_on}
-use Rattle.lard_history.specs.Own.{Seen, seen_step}
 use Rattle.lard_journal.specs.declared.rec.Rec.TheVariants as rec
 use Rattle.lard_law_connections.proofs.BytesClientMoves.{was-between}
 use Rattle.lard_law_connections.proofs.PlacesFrontRules.{has-each}
-use Rattle.lard_law_view.specs.Carry.{IsLaw, MayRestOn, OfEach, setting, tale_at}
-use Rattle.lard_law_view.specs.ClientTale.{ClientStands, ClientTale, IsOpened, client_tale}
-use Rattle.lard_law_view.specs.View.{Conn, GoesBetween, IsConnSound, Move, Rules, Setting, Was, client_begins, client_does, event_seen, grown, inject_seen, nothing_said, packet_seen, stands}
 use Rattle.lard_law_view.proofs.Carried.{carried}
 use Rattle.lard_law_view.proofs.Fine.{IsItsOwn}
 use Rattle.lard_law_view.proofs.Frames.{IsAtMachine, Owed, fronts-leave, nodes-leave}
@@ -35,17 +21,9 @@ use Rattle.lard_laws.specs.ClientsFirsts.{BytesGreet, CountsFrom, CountsOn, Coun
 use Rattle.lard_laws.proofs.ClientsAsides.{same-station}
 use Rattle.lard_laws.proofs.ClientsBegins.{one-first}
 use Rattle.lard_laws.proofs.ClientsWriters.{machine-told, nothing-told, stand-as-told}
-use Rattle.lard_rules.specs.declared.places.Station.{Station}
-use Rattle.lard_rules.specs.declared.places.Turn.{Turn}
-use Rattle.lard_rules.specs.Client.{client_aborts, client_gets, client_holds, client_injects, client_opens, client_shuts, client_takes, client_timer, client_writes, silent, speaking}
-use Rattle.lard_rules.specs.Speaking.{client_speaks}
 use Rattle.lard_rules.proofs.Loops.{client_keeps}
-use Rattle.lard_segment.specs.declared.fault.SegFault.{SegFault}
-use Rattle.lard_segment.specs.declared.segment.Dir.TheVariants.{ToClient}
-use Rattle.lard_segment.specs.Segment.{Said, decoded}
-use Rattle.lard_send.specs.declared.piece.Piece.{Piece}
-use Rattle.lard_send.specs.Send.{Sending, after_next, after_resend, introduced, next_piece, queued_too, resent_piece, send_closed}
 use Rattle.lard_send.proofs.Sent.{after_ack-irs}
+use Rattle.lard_rules.proofs.Hearing.{client-emit-keeps, client-timer-keeps}
 
 -- ---- what it does by itself
 
@@ -61,24 +39,15 @@ same-count x = record { una = refl; irs = refl; accepted = refl }
 then-count : (x y z : ClientBlock) → IsSameCount x y → IsSameCount y z → IsSameCount x z
 then-count x y z h k = record { una = k.una ∙ h.una; irs = k.irs ∙ h.irs; accepted = k.accepted ∙ h.accepted }
 
-piece-count : (x y other : ClientBlock) (p : Option Piece) → IsSameCount x y → IsSameCount x other → IsSameCount x (client_after_piece y p other)
-piece-count x y other (Some p) h k = record { una = h.una; irs = h.irs; accepted = h.accepted }
-piece-count x y other None h k = k
-
 emit-count : (x : ClientBlock) → IsSameCount x (client_after_emit x)
 emit-count x =
-    let next : ClientBlock = record x { send = after_next x.send } in
-    cond_both (not (is_client_open x)) x (client_after_piece next (next_piece x.send) (client_after_owed x)) (IsSameCount x) (λ t. same-count x)
-    (λ t. piece-count x next (client_after_owed x) (next_piece x.send)
-    (record { una = ap (λ (s : Sending). s.una) (next-moves x.send); irs = ap (λ (s : Sending). s.irs) (next-moves x.send); accepted = refl })
-    (cond_both (client_owes x) (client_told x) x (IsSameCount x) (λ u. record { una = refl; irs = refl; accepted = refl }) (λ u. same-count x)))
+    let m = next-moves x.send in
+    client-emit-keeps (IsSameCount x) x (same-count x) (record { una = refl; irs = refl; accepted = refl }) (record { una = ap (λ (s : Sending). s.una) m; irs = ap (λ (s : Sending). s.irs) m; accepted = refl })
 
 timer-count : (x : ClientBlock) → IsSameCount x (client_after_timer x)
 timer-count x =
-    let next : ClientBlock = record x { send = after_resend x.send } in
-    cond_both (not (is_client_open x)) x (client_after_piece next (resent_piece x.send) x) (IsSameCount x) (λ t. same-count x)
-    (λ t. piece-count x next x (resent_piece x.send)
-    (record { una = ap (λ (s : Sending). s.una) (resend-moves x.send); irs = ap (λ (s : Sending). s.irs) (resend-moves x.send); accepted = refl }) (same-count x))
+    let m = resend-moves x.send in
+    client-timer-keeps (IsSameCount x) x (same-count x) (record { una = ap (λ (s : Sending). s.una) m; irs = ap (λ (s : Sending). s.irs) m; accepted = refl })
 
 speaks-count : (x : ClientBlock) → IsSameCount x (client_speaks x).1
 speaks-count x = client_keeps (λ x ss y. IsSameCount x y) (record { rests = same-count; says = λ x r ss y e later. then-count x (client_after_emit x) y (emit-count x) later }) x

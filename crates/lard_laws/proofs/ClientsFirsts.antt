@@ -1,46 +1,26 @@
 -- Each operation of an endpoint leaves the cluster's first number as it is, and each segment with SYN that it sends has it.
-use Rattle.std.proofs.Common.{◌≡◌, ◌+◌, ◌*◌, ◌/◌, ◌%◌, ◌<◌, ◌^◌, ◌&&◌, not, nat_lt, ℕ, Bool, true, false, cond, List, [], ◌∷◌, length, map, Option, Some, None, Ok, IfSome, refl, sym, ap, ◌∙◌, subst, arith}
+use Rattle.std.proofs.Common.{◌≡◌, ◌+◌, ◌*◌, ◌/◌, ◌%◌, ◌<◌, ◌^◌, ◌&&◌, not, ℕ, Bool, true, false, cond, List, [], ◌∷◌, map, Option, Some, None, Ok, IfSome, refl, sym, ap, ◌∙◌, subst, arith}
 use Rattle.std.proofs.lemmas.Bool.{cond-true, cond_both}
-use Rattle.lard_answers.specs.Answers.{answer}
-use Rattle.lard_base.specs.declared.place.Place.{Place}
-use Rattle.lard_base.specs.declared.place.Place.TheVariants.{Client, Front, Node}
-use Rattle.lard_base.specs.declared.place.Reason.{Reason}
+use Rattle.lard_law_view.specs.Prelude.{Body, Client, ControlBlock, Final, Flags, Front, IsMachine, Node, Place, Ready, Reason, Said, Sending, ServeEnv, Service, ToClient, Verdict, Via, ack_ready, advanced, answer, answered, closes, decoded, discarding_on, emitted, finishing, is_telling, kind_of, last_ack, last_words, letter, next_piece, owed_ready, owes, parts_of, piece_ready, queueing, ready_of, refusal, resent_piece, retried, seq_add, spelled, timed}
 use Rattle.lard_base.specs.declared.place.Reason.TheVariants as reason
-use Rattle.lard_base.specs.declared.place.Via.{Via}
-use Rattle.lard_endpoint.specs.declared.control.moving.Final.{Final}
-use Rattle.lard_endpoint.specs.Control.{ControlBlock, discarding_on, finishing, queueing}
-use Rattle.lard_endpoint.specs.Leaving.{ack_ready, advanced, emitted, owed_ready, owes, piece_ready, ready_of, retried, timed}
-use Rattle.lard_endpoint.specs.Moving.{parts_of}
 use Rattle.lard_history.proofs.Each.{Each}
 use Rattle.lard_law_connections.proofs.LimitsOffers.{offer-read}
 use Rattle.lard_law_connections.proofs.ResetsTurns.{same-flags}
 use Rattle.lard_law_connections.proofs.SilenceEndpoints.{Anything}
 use Rattle.lard_law_connections.proofs.SilenceTurns.{AreTold, IsKept}
 use Rattle.lard_law_connections.proofs.PlacesHeads.{kinds-same}
-use Rattle.lard_law_view.specs.View.{IsMachine, letter}
 use Rattle.lard_law_view.proofs.Saying.{AreMessages}
 use Rattle.lard_laws.specs.ClientsFirsts.{BodyHasFirst, BytesGreet, GreetsBy, HasFirstOn, IssIs, LetterHasFirst, MessageHasFirst}
 use Rattle.lard_laws.proofs.ClientsTelling.{TellsEach}
 use Rattle.lard_message.specs.declared.kind.Kind.TheVariants as kind
-use Rattle.lard_message.specs.declared.message.Body.{Body}
 use Rattle.lard_message.specs.declared.message.Body.TheVariants as body
-use Rattle.lard_message.specs.Message.{kind_of}
-use Rattle.lard_request.specs.declared.verdict.Verdict.{Verdict}
-use Rattle.lard_request.specs.Verdict.{closes}
 use Rattle.lard_rules.specs.Front.{message}
-use Rattle.lard_rules.specs.Serving.{ServeEnv, Service, answered, passed_over, queued}
-use Rattle.lard_rules.specs.Tombstone.{is_telling, last_ack, last_words, refusal}
 use Rattle.lard_rules.proofs.Halves.{KeptBySending, endpoint-emit, endpoint-fires, endpoint-segment}
 use Rattle.lard_rules.proofs.Loops.{speaks_keep}
 use Rattle.lard_rules.proofs.Sides.{ack-side, next-side, resend-side}
 use Rattle.lard_segment.proofs.Decoded.{decoded-read}
-use Rattle.lard_segment.specs.declared.segment.Dir.TheVariants.{ToClient}
-use Rattle.lard_segment.specs.declared.segment.Flags.{Flags}
-use Rattle.lard_segment.specs.declared.segment.Ready.{Ready}
-use Rattle.lard_segment.specs.Segment.{Said, decoded, spelled}
 use Rattle.lard_send.specs.declared.piece.Piece.{Piece}
-use Rattle.lard_send.specs.Send.{Sending, next_piece, resent_piece}
-use Rattle.lard_seq.specs.Seq.{seq_add}
+use Rattle.lard_rules.proofs.Endings.{answered-keeps, at-fin-keeps}
 
 -- ---- an endpoint
 
@@ -90,9 +70,8 @@ module _ (iss : ℕ) where
   answered-first : (env : ServeEnv) (via : Via) (v : Verdict) (w : Service) → IssIs iss w.block → IssIs iss (answered env via v w).block
   answered-first env via v w h =
       let bytes = answer env.files v in
-      let total = w.block.send.total + length bytes in
       let more = queueing w.block bytes in
-      cond_both (nat_lt env.stream total) (passed_over env total w) (queued env via v bytes w) (λ (z : Service). IssIs iss z.block) (λ t. h)
+      answered-keeps (λ (z : Service). IssIs iss z.block) env via v w (λ t. h)
       (λ t. cond_both (closes v) (finishing (discarding_on more)) more (IssIs iss) (λ u. h) (λ u. h))
 
   pub first-kept : (env : ServeEnv) → IsKept env (IssIs iss) (IssIs iss) Anything (λ b s. GreetsBy iss s)
@@ -108,7 +87,7 @@ module _ (iss : ℕ) where
     serves = record {
       notes = λ w rs starts h. h;
       reads = λ w n h. h;
-      ends = λ w h. cond_both w.block.recv.fin (record w { block = finishing w.block }) w (λ (z : Service). IssIs iss z.block) (λ t. h) (λ t. h);
+      ends = λ w h. at-fin-keeps (λ (z : Service). IssIs iss z.block) w (λ t. h) (λ t. h);
       answers = λ w way v may h. answered-first env way v w h;
     };
     rests = λ b h stays. speaks_keep env.c (λ (b : ControlBlock) ss d. IssIs iss b → IssIs iss d)

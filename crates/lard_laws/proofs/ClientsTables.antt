@@ -3,15 +3,11 @@ use Rattle.std.proofs.Common.{◌≡◌, ℕ, List, [], ◌∷◌, ◌++◌, map
 use Rattle.std.proofs.lemmas.List.{map-append}
 use Rattle.std.proofs.lemmas.List.Sums.{fold-append}
 use Rattle.std.specs.List.{fold}
-use Rattle.lard_base.specs.declared.config.Config.{Config}
+use Rattle.lard_law_view.specs.Prelude.{Came, Client, ClientBlock, Config, Conn, Front, IsClientStep, IsGiven, IsLaw, IsNobody, IsStepLaw, MayRestOn, Move, MustKeepTables, Node, NoneOfClient, OfEach, Place, Rec, Row, Rules, Seen, Setting, Station, ToClient, Turn, after_turn, client_aborts, client_begins, client_does, client_gets, client_holds, client_injects, client_of, client_opens, client_shuts, client_step, client_takes, client_timer, client_turn, client_writes, decoded, grown, is_client_armed, is_opening, nothing_said, packet_seen, request, rows_of, seen_in, setting, stands, station_armed, timer_change, timer_rows, turn_rows}
 use Rattle.lard_base.specs.declared.event.Event.TheVariants as event
-use Rattle.lard_base.specs.declared.place.Place.{Place}
-use Rattle.lard_base.specs.declared.place.Place.TheVariants.{Front, Node, Client}
-use Rattle.lard_client.specs.Control.{ClientBlock, is_client_armed}
 use Rattle.lard_laws.specs.ClientsLaws.{ClientsKeepTheirTables}
 use Rattle.lard_laws.proofs.ClientsAsides.{IsAside, asides-step, asides-still, machine-aside, same-station}
-use Rattle.lard_law_view.specs.Carry.{IsLaw, IsStepLaw, MayRestOn, OfEach, setting}
-use Rattle.lard_law_view.specs.View.{Conn, IsNobody, Move, Rules, Setting, client_begins, client_does, grown, nothing_said, packet_seen, rows_of, seen_in, sending, stands, station_armed, timer_rows}
+use Rattle.lard_law_view.specs.View.{sending}
 use Rattle.lard_law_view.proofs.Carried.{carried}
 use Rattle.lard_law_view.proofs.Fine.{IsFine, IsItsOwn, fine}
 use Rattle.lard_law_view.proofs.Frames.{IsAtMachine, Owed, fronts-leave, nodes-leave}
@@ -19,20 +15,9 @@ use Rattle.lard_law_view.proofs.Guarded.{both, weaker}
 use Rattle.lard_law_view.proofs.InSteps.{carried-steps}
 use Rattle.lard_law_view.proofs.Saying.{GaveAt, IsStill, NotedAt, gave-still, note-still}
 use Rattle.lard_law_view.proofs.Timers.{timer_rows-same, timer_rows-still}
-use Rattle.lard_history.specs.Journal.{request}
-use Rattle.lard_history.specs.Own.{Seen, Row, Came}
-use Rattle.lard_history.specs.Steps.{is_opening}
 use Rattle.lard_history.proofs.Each.{Each, Each-append, Each-weaker}
 use Rattle.lard_history.proofs.Stepping.{AreInside}
-use Rattle.lard_journal.specs.declared.rec.Rec.{Rec}
 use Rattle.lard_journal.specs.declared.rec.Rec.TheVariants as rec
-use Rattle.lard_law_view.specs.ClientRule.{IsClientStep, IsGiven, MustKeepTables, NoneOfClient, after_turn, client_of, client_step, client_turn, turn_rows}
-use Rattle.lard_rules.specs.declared.places.Station.{Station}
-use Rattle.lard_rules.specs.declared.places.Turn.{Turn}
-use Rattle.lard_rules.specs.Client.{client_aborts, client_gets, client_holds, client_injects, client_opens, client_shuts, client_takes, client_timer, client_writes}
-use Rattle.lard_rules.specs.Outs.{timer_change}
-use Rattle.lard_segment.specs.declared.segment.Dir.TheVariants.{ToClient}
-use Rattle.lard_segment.specs.Segment.{decoded}
 
 -- ---- the state
 

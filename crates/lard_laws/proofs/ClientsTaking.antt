@@ -1,13 +1,8 @@
 -- What clients take in a step: of the packet that came in it, wherever it was sent.
 use Rattle.std.proofs.Common.{◌≡◌, ℕ, ◌+◌, List, [], ◌∷◌, ◌++◌, map, length, Ok, inl, inr, ⊎_elim, refl, sym, ap, ◌∙◌, subst}
 use Rattle.std.specs.Prelude.{◌⊎◌}
-use Rattle.lard_base.specs.declared.event.Event.{Event}
+use Rattle.lard_law_view.specs.Prelude.{Client, Conn, EachMay, Event, Front, GoesBetween, HasRule, IsMachine, IsReached, IsViewed, Machine, MayTake, Move, Node, Out, Part, Place, Rec, Row, Rules, Setting, TakesInOrder, ToClient, conn, decoded, machine_step, packets_of, part_of, request, sent_records, setting_of, tale_at, timer_rows}
 use Rattle.lard_base.specs.declared.event.Event.TheVariants as event
-use Rattle.lard_base.specs.declared.place.Place.{Place}
-use Rattle.lard_base.specs.declared.place.Place.TheVariants.{Front, Node, Client}
-use Rattle.lard_rules.specs.declared.machine.Machine.{Machine}
-use Rattle.lard_rules.specs.Bounds.{HasRule}
-use Rattle.lard_rules.specs.Machine.{IsReached, machine_step}
 use Rattle.lard_law_connections.proofs.BytesClientMoves.{was-between}
 use Rattle.lard_laws.specs.ClientsFirsts.{CountsTaken, HasOneFirst, StandsAsTold}
 use Rattle.lard_laws.specs.ClientsLaws.{ClientsTakeInOrder}
@@ -15,8 +10,6 @@ use Rattle.lard_laws.proofs.ClientsAsides.{IsOfMachine, note-machine}
 use Rattle.lard_laws.proofs.ClientsBegins.{one-first}
 use Rattle.lard_laws.proofs.ClientsCounts.{counts-taken, packet-known}
 use Rattle.lard_laws.proofs.ClientsWriters.{stand-as-told}
-use Rattle.lard_law_view.specs.Carry.{tale_at}
-use Rattle.lard_law_view.specs.View.{Conn, GoesBetween, IsMachine, IsViewed, Move, Part, Rules, Setting, conn, part_of, setting_of, timer_rows}
 use Rattle.lard_law_view.proofs.AnyShape.{SomeGift, SomeNote, SomeTimer}
 use Rattle.lard_law_view.proofs.Acts.{ActsAlone, ActsMany, IsPassing, IsStepOf, Moves, said_rows, step_acts}
 use Rattle.lard_law_view.proofs.Carried.{IsOn, carried-keep}
@@ -24,21 +17,12 @@ use Rattle.lard_law_view.proofs.Fine.{IsFine, fine}
 use Rattle.lard_law_view.proofs.Guarded.{both}
 use Rattle.lard_law_view.proofs.Frames.{Owed, fronts-leave, nodes-leave}
 use Rattle.lard_law_view.proofs.Saying.{GaveAt, NamesAll, NotedAt, notes-all}
-use Rattle.lard_law_view.proofs.Timers.{IsTimerAt, timer_rows-are}
-use Rattle.lard_history.specs.Journal.{request}
-use Rattle.lard_history.specs.Laws.{EachMay}
-use Rattle.lard_history.specs.Own.{Row}
 use Rattle.lard_history.proofs.Each.{Each, Each-weaker, each_append}
-use Rattle.lard_journal.specs.declared.rec.Rec.{Rec}
 use Rattle.lard_journal.specs.declared.rec.Rec.TheVariants as rec
-use Rattle.lard_law_view.specs.Taking.{MayTake, TakesInOrder}
-use Rattle.lard_law_view.proofs.DeliveredPackets.{all-may, behind-nothing, notes-may, sents-nothing}
-use Rattle.lard_law_view.proofs.Taking.{TakesNothing, TakesOf, hears, writes-pass}
-use Rattle.lard_rules.specs.Sent.{packets_of, sent_records}
-use Rattle.lard_rules.specs.declared.places.Out.{Out}
-use Rattle.lard_segment.specs.declared.segment.Dir.TheVariants.{ToClient}
-use Rattle.lard_segment.specs.Segment.{decoded}
+use Rattle.lard_law_view.proofs.DeliveredPackets.{all-may, notes-may}
+use Rattle.lard_law_view.proofs.Taking.{TakesNothing, TakesOf, hears, writes-pass, outer-nothing}
 use Rattle.lard_law_view.proofs.OwnRecords.{behind}
+use Rattle.lard_law_view.proofs.OfKinds.{outer-behind, outer-gift, outer-gifts, outer-sents, outer-timer, outer-timers}
 
 -- ---- records that take nothing
 
@@ -50,21 +34,11 @@ machine-nothing _ h = tt
 notes-nothing : (place : Place) (c : ℕ) (rs : List Rec) → IsMachine place → Each (NotedAt place c) rs → Each TakesNothing rs
 notes-nothing place c rs m e = Each-weaker (NotedAt place c) TakesNothing (λ r h. machine-nothing r (note-machine place c r m h)) rs e
 
-gave-nothing : (place : Place) (c : ℕ) (r : Rec) → GaveAt place c r → TakesNothing r
-gave-nothing Front c (rec.Gave Front d epoch) h = tt
-gave-nothing (Node n) c (rec.Gave (Node j) d epoch) h = tt
-gave-nothing _ c _ h = absurd h
-
 gaves-nothing : (place : Place) (c : ℕ) (rs : List Rec) → Each (GaveAt place c) rs → Each TakesNothing rs
-gaves-nothing place c rs e = Each-weaker (GaveAt place c) TakesNothing (gave-nothing place c) rs e
-
-timer-nothing : (place : Place) (c : ℕ) (r : Rec) → IsTimerAt place c r → TakesNothing r
-timer-nothing place c (rec.Armed p d kind) h = tt
-timer-nothing place c (rec.Cleared p d kind) h = tt
-timer-nothing place c _ h = absurd h
+gaves-nothing = outer-gifts TakesNothing outer-nothing
 
 timers-nothing : (place : Place) (c : ℕ) (p q : Part) → Each TakesNothing (timer_rows place c p q)
-timers-nothing place c p q = Each-weaker (IsTimerAt place c) TakesNothing (timer-nothing place c) (timer_rows place c p q) (timer_rows-are place c p q)
+timers-nothing = outer-timers TakesNothing outer-nothing
 
 -- ---- what a rule owes
 
@@ -133,7 +107,7 @@ module _ (m : Machine) (view : IsViewed m) (known : (q : ℕ) → IsKnown (conn 
   begun = rec.Event (m.events + 1) e ∷ behind e
 
   begun-may : EachMay MayTake m.journal begun
-  begun-may = all-may m.journal begun (tt, behind-nothing e)
+  begun-may = all-may m.journal begun (tt, outer-behind TakesNothing outer-nothing e)
 
   notes-take : (c : ℕ) (move : Move) (noted : List Rec) → Moves P m e c move noted → EachMay MayTake (m.journal ++ begun) noted
   unfolding conn
@@ -161,9 +135,9 @@ module _ (m : Machine) (view : IsViewed m) (known : (q : ℕ) → IsKnown (conn 
       each_append MayTake J (begun ++ notes ++ S ++ gave ++ M) timers
       (each_append MayTake J (begun ++ notes ++ S ++ gave) M
       (each_append MayTake J (begun ++ notes ++ S) gave
-      (each_append MayTake J (begun ++ notes) S (each_append MayTake J begun notes begun-may may) (all-may (J ++ (begun ++ notes)) S (sents-nothing (length m.net + 1) place segments)))
+      (each_append MayTake J (begun ++ notes) S (each_append MayTake J begun notes begun-may may) (all-may (J ++ (begun ++ notes)) S (outer-sents TakesNothing outer-nothing (length m.net + 1) place segments)))
       (all-may (J ++ (begun ++ notes ++ S)) gave g))
-      (all-may (J ++ (begun ++ notes ++ S ++ gave)) M (sents-nothing (length (m.net ++ packets_of place segments) + 1) place messages)))
+      (all-may (J ++ (begun ++ notes ++ S ++ gave)) M (outer-sents TakesNothing outer-nothing (length (m.net ++ packets_of place segments) + 1) place messages)))
       (all-may (J ++ (begun ++ notes ++ S ++ gave ++ M)) timers t)
 
   alone-takes : ActsAlone P m e adds → EachMay MayTake m.journal (rec.Event (m.events + 1) e ∷ adds)
@@ -180,14 +154,14 @@ module _ (m : Machine) (view : IsViewed m) (known : (q : ℕ) → IsKnown (conn 
       let notes : Each TakesNothing o.notes = Each-weaker (SomeNote a.place) TakesNothing (λ r h. machine-nothing r (note-machine a.place h.0 r a.machine h.2)) o.notes a.act.notes in
       subst (λ (rs : List Rec). EachMay MayTake m.journal (rec.Event (m.events + 1) e ∷ rs)) (sym a.are)
       (said-take a.place o.notes o.segments o.gave o.messages o.timers (all-may (m.journal ++ begun) o.notes notes)
-      (Each-weaker (SomeGift a.place) TakesNothing (λ r h. gave-nothing a.place h.0 r h.1) o.gave a.act.gave)
-      (Each-weaker (SomeTimer a.place) TakesNothing (λ r h. timer-nothing a.place h.0 r h.1) o.timers a.act.timers))
+      (Each-weaker (SomeGift a.place) TakesNothing (λ r h. outer-gift TakesNothing outer-nothing a.place h.0 r h.1) o.gave a.act.gave)
+      (Each-weaker (SomeTimer a.place) TakesNothing (λ r h. outer-timer TakesNothing outer-nothing a.place h.0 r h.1) o.timers a.act.timers))
 
   step-takes : IsPassing m e adds ⊎ (ActsAlone P m e adds ⊎ ActsMany P m e adds) → EachMay MayTake m.journal (rec.Event (m.events + 1) e ∷ adds)
   step-takes (inl passing) = all-may m.journal (rec.Event (m.events + 1) e ∷ adds) (tt, passing-nothing e adds passing) where
     passing-nothing : (d : Event) (rs : List Rec) → IsPassing m d rs → Each TakesNothing rs
     passing-nothing (event.Clock ms) rs h = subst (Each TakesNothing) (sym h) (tt, tt)
-    passing-nothing d rs h = subst (Each TakesNothing) (sym h) (behind-nothing d)
+    passing-nothing d rs h = subst (Each TakesNothing) (sym h) (outer-behind TakesNothing outer-nothing d)
   step-takes (inr (inl a)) = alone-takes a
   step-takes (inr (inr a)) = many-take a
 

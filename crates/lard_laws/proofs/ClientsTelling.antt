@@ -1,36 +1,16 @@
 -- What the front end tells nodes, deed by deed: what is so of each message that it makes is so of all.
 use Rattle.std.proofs.Common.{◌≡◌, ◌+◌, ◌==◌, ◌&&◌, nat_lt, ℕ, cond, List, [], map, Option, Some, None, Result, Ok, Err, refl, subst}
 use Rattle.std.proofs.lemmas.Bool.{cond_both}
-use Rattle.lard_base.specs.declared.place.Place.{Place}
-use Rattle.lard_base.specs.declared.place.Place.TheVariants.{Node}
-use Rattle.lard_dispatch.specs.declared.dispatch.Ask.{Ask}
-use Rattle.lard_dispatch.specs.declared.dispatch.First.{First}
+use Rattle.lard_law_view.specs.Prelude.{Ask, ControlBlock, Final, First, FirstChoice, FrontConn, FrontDeed, FrontEnv, FrontPart, FrontRest, FrontRow, FrontTurn, Node, OnEnded, Place, Reading, Said, SegFault, Service, admitted_at, admitted_by, asked_by, asked_node, assigns, end_answer, fires_at, front_admitted, front_admitted_with, front_asked, front_begun, front_ended, front_ended_by, front_fired_by, front_gets, front_hears, front_reads, front_rest, front_saying, front_taken, front_timer, handed_off, hears_at, is_plain_syn, is_row_at, on_segment, parts_of, placed, sent_of, serving, settled_by, tag_sent, taken_by}
 use Rattle.lard_dispatch.specs.declared.dispatch.First.TheVariants as first
-use Rattle.lard_endpoint.specs.declared.control.moving.Final.{Final}
-use Rattle.lard_endpoint.specs.Arriving.{on_segment}
-use Rattle.lard_endpoint.specs.Control.{ControlBlock}
-use Rattle.lard_endpoint.specs.Moving.{parts_of}
-use Rattle.lard_handoff_front.specs.declared.row.FrontConn.{FrontConn}
 use Rattle.lard_handoff_front.specs.declared.row.FrontConn.TheVariants as stage
-use Rattle.lard_handoff_front.specs.declared.row.FrontRow.{FrontRow}
-use Rattle.lard_handoff_front.specs.declared.table.OnEnded.{OnEnded}
 use Rattle.lard_handoff_front.specs.declared.table.OnEnded.TheVariants.{New, Again, Stale}
-use Rattle.lard_handoff_front.specs.Front.{asked_node, end_answer}
 use Rattle.lard_history.proofs.Each.{Each}
 use Rattle.lard_law_connections.proofs.SilenceEndpoints.{Anything}
 use Rattle.lard_law_connections.proofs.SilenceTurns.{IsKept, reads-keep}
 use Rattle.lard_law_connections.specs.SilencePlaces.{FrontHas, FrontStageHas}
 use Rattle.lard_message.specs.declared.message.Body.TheVariants as body
-use Rattle.lard_policy.specs.declared.first.FirstChoice.{FirstChoice}
-use Rattle.lard_resend.specs.Pending.{sent_of}
-use Rattle.lard_rules.specs.declared.front.FrontRest.{FrontRest}
-use Rattle.lard_rules.specs.declared.front.FrontTurn.{FrontTurn}
-use Rattle.lard_rules.specs.Front.{FrontDeed, Drops, Says, Does, FrontEnv, FrontPart, admitted_at, admitted_by, front_admitted_with, asked_by, assigns, front_begun, front_ended_by, front_fired_by, fires_at, front_admitted, front_asked, front_ended, front_gets, front_hears, front_taken, front_timer, handed_off, hears_at, is_row_at, message, placed, front_rest, front_saying, settled_by, tag_sent, taken_by}
-use Rattle.lard_rules.specs.FrontReading.{Reading, front_reads}
-use Rattle.lard_rules.specs.Serving.{Service, serving}
-use Rattle.lard_rules.specs.Tombstone.{is_plain_syn}
-use Rattle.lard_segment.specs.declared.fault.SegFault.{SegFault}
-use Rattle.lard_segment.specs.Segment.{Said}
+use Rattle.lard_rules.specs.Front.{Drops, Says, Does, message}
 
 module _ (Tells : Place → List ℕ → Type 0) where
   abbrev pub AllTell : List (Place × List ℕ) → Type 0

@@ -4,44 +4,29 @@ use Rattle.std.proofs.lemmas.Bool.{both_ways}
 use Rattle.std.specs.FinMap as table
 use Rattle.std.specs.List.{fold}
 use Rattle.std.proofs.lemmas.List.Sums.{fold-append}
-use Rattle.lard_base.specs.declared.config.Config.{Config}
-use Rattle.lard_base.specs.declared.event.Event.{Event}
+use Rattle.lard_law_view.specs.Prelude.{Came, Client, ClientBlock, ClientStands, ClientTale, Config, Conn, EachRow, Event, IsLaw, IsOpened, IsReached, IsUnopened, Machine, MayRestOn, MayWrite, Move, OfEach, Place, Rec, Row, Rules, Seen, Setting, Station, Tale, ToClient, Turn, client_aborts, client_begins, client_does, client_gets, client_holds, client_injects, client_opens, client_shuts, client_takes, client_tale, client_timer, client_writes, conn, decoded, event_seen, event_shuts, grown, has_closed, inject_seen, nothing_said, own, packet_seen, part_of, plain, request, rows_of, seen_in, seen_step, setting, stands, tale, tale_at, tale_of, tale_step, timer_rows, told_on, untold, whose}
 use Rattle.lard_base.specs.declared.event.Event.TheVariants as event
-use Rattle.lard_base.specs.declared.place.Place.{Place}
-use Rattle.lard_base.specs.declared.place.Place.TheVariants.{Client}
-use Rattle.lard_client.specs.Control.{ClientBlock}
-use Rattle.lard_rules.specs.declared.machine.Machine.{Machine}
-use Rattle.lard_rules.specs.Machine.{IsReached}
 use Rattle.lard_laws.specs.ClientsFirsts.{StandsAsTold}
 use Rattle.lard_laws.specs.ClientsLaws.{WritersAreLawful}
 use Rattle.lard_laws.proofs.ClientsAsides.{IsOfMachine, rows-machine, same-station}
-use Rattle.lard_law_view.specs.Carry.{IsLaw, MayRestOn, OfEach, TellsBy, setting, tale_at}
-use Rattle.lard_law_view.specs.View.{Conn, Move, Rules, Setting, client_begins, client_does, conn, event_seen, grown, inject_seen, nothing_said, packet_seen, part_of, rows_of, seen_in, sending, stands, timer_rows}
+use Rattle.lard_law_view.specs.Carry.{TellsBy}
+use Rattle.lard_law_view.specs.View.{sending}
 use Rattle.lard_law_view.proofs.Carried.{carried}
 use Rattle.lard_law_view.proofs.Fine.{IsItsOwn}
 use Rattle.lard_law_view.proofs.Frames.{IsAtMachine, IsHeadAt, Owed, fronts-leave, nodes-leave}
 use Rattle.lard_law_view.proofs.Guarded.{weaker}
 use Rattle.lard_law_view.proofs.InSteps.{carried-records}
 use Rattle.lard_law_view.proofs.Rows.{grown-lawful, grown-tale, move-lawful, tale_before, tale_said}
-use Rattle.lard_law_view.proofs.Timers.{IsTimerAt, timer_rows-are, timer_rows-same}
-use Rattle.lard_history.specs.Journal.{Tale, event_shuts, has_closed, request, tale, tale_step, told_on, untold}
-use Rattle.lard_history.specs.Laws.{MayWrite}
-use Rattle.lard_history.specs.Own.{EachRow, Seen, Row, Came, own, plain, seen_step, tale_of, whose}
+use Rattle.lard_law_view.proofs.Timers.{timer_rows-same}
 use Rattle.lard_history.proofs.Each.{Each, Each-append, Each-weaker}
 use Rattle.lard_history.proofs.Lifting.{each_row-append, tale-own}
 use Rattle.lard_history.proofs.Seeing.{same_number}
 use Rattle.lard_history.proofs.Tales.{closed-tale, other}
-use Rattle.lard_journal.specs.declared.rec.Rec.{Rec}
 use Rattle.lard_journal.specs.declared.rec.Rec.TheVariants as rec
-use Rattle.lard_law_view.specs.ClientTale.{ClientStands, ClientTale, IsOpened, IsUnopened, client_tale}
 use Rattle.lard_law_view.proofs.ClientNotes.{ClientSays, aborts-says, gets-says, holds-says, injects-says, opens-says, shuts-says, takes-says, timer-says, writes-says}
 use Rattle.lard_law_view.proofs.Telling.{MayStand, Tells}
-use Rattle.lard_rules.specs.declared.places.Station.{Station}
-use Rattle.lard_rules.specs.declared.places.Turn.{Turn}
-use Rattle.lard_rules.specs.Client.{client_aborts, client_gets, client_holds, client_injects, client_opens, client_shuts, client_takes, client_timer, client_writes}
-use Rattle.lard_segment.specs.declared.segment.Dir.TheVariants.{ToClient}
-use Rattle.lard_segment.specs.Segment.{decoded}
 use Rattle.lard_law_view.proofs.RowLists.{MayBeSeen, client-sends-tale}
+use Rattle.lard_law_view.proofs.OfKinds.{each-tells, of-sends, of-timers}
 
 -- ---- the law, in the tale of one connection
 
@@ -59,8 +44,7 @@ not-wrote c t (rec.Wrote d bytes) n = absurd n
 not-wrote c t _ n = tt
 
 none-wrote : (c : ℕ) (t : Tale) (rs : List Rec) → Each NotWrote rs → TellsBy (MayWriteBy c) c t rs
-none-wrote c t [] n = tt
-none-wrote c t (r ∷ rs) n = (not-wrote c t r n.0, none-wrote c (tale_step c t r) rs n.1)
+none-wrote c t rs n = each-tells NotWrote (MayWriteBy c) (not-wrote c) c t rs n
 
 -- what may stand by the laws of places, may by this one
 stands-writes : (stream c : ℕ) (t : Tale) (r : Rec) → MayStand stream c t r → MayWriteBy c t r
@@ -75,13 +59,7 @@ abbrev May : ℕ → List Seen → Rec → Type 0
 May c = MayBeSeen (MayWriteBy c) c
 
 sends-wrote : (place : Place) (ss : List (Place × List ℕ)) → Each NotWrote (map (sending place) ss)
-sends-wrote place [] = tt
-sends-wrote place (s ∷ ss) = (tt, sends-wrote place ss)
-
-timer-wrote : (place : Place) (c : ℕ) (r : Rec) → IsTimerAt place c r → NotWrote r
-timer-wrote place c (rec.Armed p d kind) h = tt
-timer-wrote place c (rec.Cleared p d kind) h = tt
-timer-wrote place c _ h = absurd h
+sends-wrote = of-sends NotWrote (λ k from to bytes. tt)
 
 -- it is the law of the journal
 wrote-nobody : (J : List Rec) (r : Rec) → whose r ≡ None → MayWrite J r
@@ -194,7 +172,7 @@ module _ (k : Setting) (x : Conn) (h : StandsOpen x) where
         client = subst (λ (w : Tale). ClientStands x.c (Some (record { client = given.0; iss = s.iss })) (client_tale w)) (sym told) says.stands;
         lawful = grown-lawful (MayWriteBy x.c) x v h.lawful
             (move-lawful (MayWriteBy x.c) x v may (tells-writes k.stream x.c u given.1.notes says.told) (none-wrote x.c t (map (sending (Client x.c)) given.1.segments) (sends-wrote (Client x.c) given.1.segments)) tt tt
-            (none-wrote x.c (tale_said x v u) (timer_rows (Client x.c) x.c x.part v.part) (Each-weaker (IsTimerAt (Client x.c) x.c) NotWrote (timer-wrote (Client x.c) x.c) (timer_rows (Client x.c) x.c x.part v.part) (timer_rows-are (Client x.c) x.c x.part v.part))));
+            (none-wrote x.c (tale_said x v u) (timer_rows (Client x.c) x.c x.part v.part) (of-timers NotWrote (λ p d kind. (tt, tt)) (Client x.c) x.c x.part v.part)));
       }
 
   begins-keeps : (isn iss wnd mss : ℕ) → x.part.station ≡ None → StandsOpen (grown x (client_begins x isn iss wnd mss))

@@ -3,30 +3,17 @@ use Rattle.std.proofs.Common.{◌≡◌, ◌<◌, ◌+◌, ◌*◌, ◌/◌, ◌
 use Rattle.std.proofs.lemmas.Bool.{and_parts, both_ways, cond-false, ltb-true}
 use Rattle.std.specs.List.{AllByRecursion}
 use Rattle.std.specs.Prelude.{slice_get}
-use Rattle.lard_answers.specs.Answers.{FilesAt}
-use Rattle.lard_base.specs.declared.place.Place.{Place}
-use Rattle.lard_base.specs.declared.place.Place.TheVariants.{Front, Node}
-use Rattle.lard_base.specs.declared.place.TimerKind.{TimerKind}
-use Rattle.lard_handoff_back.specs.declared.row.BackConn.{BackConn}
+use Rattle.lard_law_view.specs.Prelude.{AreInOrder, BackConn, BackRow, Conn, FilesAt, Front, Has, Kept, Letter, Move, Node, NodePart, Place, Rec, Row, Seen, Stay, TimerKind, comes_before, fetch_kept, fetching, is_under, kind_rank, named_paths, names_epoch, rows_of, seen_in, spelled_message, timer_rows, without}
 use Rattle.lard_handoff_back.specs.declared.row.BackConn.TheVariants as back
-use Rattle.lard_handoff_back.specs.declared.row.BackRow.{BackRow}
-use Rattle.lard_history.specs.Own.{Has, Letter, Row, Seen}
 use Rattle.lard_history.proofs.Each.{Each, Each-append}
 use Rattle.lard_history.proofs.Seeing.{has-before, has-behind}
-use Rattle.lard_journal.specs.declared.rec.Rec.{Rec}
 use Rattle.lard_journal.specs.declared.rec.Rec.TheVariants as rec
-use Rattle.lard_lateral.specs.Lateral.{fetch_kept, fetching, names_epoch}
-use Rattle.lard_law_view.specs.View.{Conn, Move, rows_of, seen_in, sending, timer_rows}
+use Rattle.lard_law_view.specs.View.{sending}
 use Rattle.lard_law_view.proofs.Turned.{has-all, has-map}
 use Rattle.lard_laws.specs.Due.{CameAs, IsContentFor, IsTagFor, IsUnanswered}
 use Rattle.lard_laws.specs.DueAnswers.{FetchKeptIsOut, HereIsOut, NamesAreOut, PartIsOut, RowIsOut, StageIsOut, StayIsOut}
 use Rattle.lard_message.specs.declared.message.Body.TheVariants as body
-use Rattle.lard_message.specs.Message.{spelled_message}
-use Rattle.lard_resend.specs.declared.kept.Kept.{Kept}
-use Rattle.lard_resend.specs.Kept.{AreInOrder, comes_before, is_under, kind_rank, without}
-use Rattle.lard_rules.specs.declared.stay.Stay.{Stay}
-use Rattle.lard_rules.specs.Node.{NodePart, message}
-use Rattle.lard_rules.specs.Stay.{named_paths}
+use Rattle.lard_rules.specs.Node.{message}
 
 -- ---- what is seen
 

@@ -2,57 +2,27 @@
 use Rattle.std.proofs.Common.{◌≡◌, ◌⊎◌, ◌<◌, ◌+◌, ◌^◌, ◌==◌, ◌&&◌, ℕ, Bool, true, false, cond, List, [], ◌∷◌, ◌++◌, length, find, is_some, Option, Some, None, Result, Ok, Err, inl, inr, ⊎_elim, refl, sym, ap, ◌∙◌, subst, eq-eqb}
 use Rattle.std.proofs.lemmas.Bool.{and_from, both_ways, cond_both}
 use Rattle.std.specs.List.{AllByRecursion}
-use Rattle.lard_answers.specs.Answers.{FilesAt}
-use Rattle.lard_base.specs.declared.parts.EndpointParts.{EndpointParts}
-use Rattle.lard_base.specs.declared.place.Place.{Place}
-use Rattle.lard_base.specs.declared.place.Place.TheVariants.{Front, Node}
+use Rattle.lard_law_view.specs.Prelude.{Adopt, AreInOrder, Asked, BackConn, BackRow, ControlBlock, Ending, EndpointParts, FilesAt, Front, Has, Kept, Letter, Message, MsgFault, Node, NodeDeed, NodeEnv, NodePart, Place, Row, Said, Seen, SegFault, Stay, Turn, Want, Work, after_timer, again_sent, all_sent, anew, ask_kept, asked_kept, asked_sent, awaits_ack, back_endpoint, back_held, both_of, came_for, come_by, come_progress, decoded_message, ended_sent, epoch_in, fetch_kept, fetch_of, goes_on, gone, here, is_from, is_tag_awaited, is_under, kept_after, named_paths, names_epoch, node_acknowledged, node_begins, node_content, node_fired_by, node_forwarded, node_heard_by, node_offered, node_read, node_read_by, node_saying, node_tagged, node_timer, offer_answer, offered_by, on_segment, read_progress, reads_batch, sent_of, serving, serving_ready_of, serving_settled, spoken, state_of, stay_after, staying, tagged, tagged_by, taken_sent, timed, turn_by, wants_kept, wants_sent, with_work, without, work_of}
 use Rattle.lard_base.specs.declared.place.TimerKind.TheVariants as kind
-use Rattle.lard_endpoint.specs.Arriving.{on_segment}
-use Rattle.lard_endpoint.specs.Control.{ControlBlock}
-use Rattle.lard_endpoint.specs.Leaving.{after_timer, timed}
-use Rattle.lard_handoff_back.specs.declared.row.BackConn.{BackConn}
 use Rattle.lard_handoff_back.specs.declared.row.BackConn.TheVariants as back
-use Rattle.lard_handoff_back.specs.declared.row.BackRow.{BackRow}
-use Rattle.lard_handoff_back.specs.declared.table.Adopt.{Adopt}
 use Rattle.lard_handoff_back.specs.declared.table.Adopt.TheVariants.{New, Again, Stale}
-use Rattle.lard_handoff_back.specs.Back.{awaits_ack, back_endpoint, offer_answer, staying}
-use Rattle.lard_handoff_back.specs.Row.{back_held}
-use Rattle.lard_history.specs.Own.{Has, Letter, Row, Seen}
 use Rattle.lard_history.proofs.Each.{Each}
 use Rattle.lard_history.proofs.Seeing.{has-before, has-behind}
 use Rattle.lard_journal.specs.declared.rec.Rec.TheVariants as rec
-use Rattle.lard_lateral.specs.Lateral.{fetch_kept, is_from, names_epoch}
 use Rattle.lard_law_connections.specs.Kept.{AsksFor, HereKeeps, NodeKeepsMessages, NodeRowKeeps, StayKeeps}
 use Rattle.lard_law_connections.specs.KeptLaws.{AnyNode}
 use Rattle.lard_law_connections.proofs.AwaitsBatches.{anew-found}
 use Rattle.lard_law_connections.proofs.KeptHere.{IsHere, here-is, here-timer}
 use Rattle.lard_law_connections.proofs.KeptNodes.{DeedFollows, DeedGoes, DeedKeeps, MayFollow, StayFollows, asks-left, content-keeps, forwarded-keeps, new-none, offered-keeps, read-keeps, tagged-keeps, timer-keeps}
-use Rattle.lard_law_view.specs.View.{epoch_in}
 use Rattle.lard_law_view.proofs.Nodes.{anew-all}
 use Rattle.lard_laws.specs.Due.{AskIsOut, IsContentFor, IsTagFor}
 use Rattle.lard_laws.specs.DueAnswers.{FetchKeptIsOut, HereIsOut, NamesAreOut, PartIsOut, RowIsOut, StayIsOut}
 use Rattle.lard_laws.proofs.DueAnswersMoves.{AllCalm, NoneCome, StayCalm, calm-part, calm-stay, fetches-more, found-it, has-without, names-epoch, names-more, numbers-differ, part-more, sent-now}
 use Rattle.lard_laws.proofs.DueSeats.{found-is}
-use Rattle.lard_message.specs.declared.fault.MsgFault.{MsgFault}
 use Rattle.lard_message.specs.declared.message.Body.TheVariants as body
-use Rattle.lard_message.specs.declared.message.Message.{Message}
-use Rattle.lard_message.specs.Reading.{decoded_message}
-use Rattle.lard_resend.specs.declared.kept.Kept.{Kept}
-use Rattle.lard_resend.specs.Kept.{AreInOrder, is_under, without}
 use Rattle.lard_resend.proofs.Ordered.{drop_all}
-use Rattle.lard_resend.specs.Pending.{sent_of}
-use Rattle.lard_rules.specs.declared.places.Ending.{Ending}
 use Rattle.lard_rules.specs.declared.places.Ending.TheVariants as ending
-use Rattle.lard_rules.specs.declared.places.Turn.{Turn}
-use Rattle.lard_rules.specs.declared.stay.Asked.{Asked}
-use Rattle.lard_rules.specs.declared.stay.Stay.{Stay}
-use Rattle.lard_rules.specs.declared.stay.Want.{Want}
-use Rattle.lard_rules.specs.Loop.{state_of}
-use Rattle.lard_rules.specs.Node.{NodeDeed, Drops, Says, Does, NodePart, again_sent, all_sent, anew, ask_kept, asked_kept, asked_sent, both_of, come_by, ended_sent, fetch_of, gone, here, is_tag_awaited, kept_after, node_acknowledged, node_begins, node_content, node_fired_by, node_forwarded, node_heard_by, node_offered, node_read, node_read_by, node_saying, node_tagged, node_timer, offered_by, stay_after, tagged_by, taken_sent, turn_by, wants_kept, wants_sent, with_work, work_of}
-use Rattle.lard_rules.specs.Serving.{serving, serving_ready_of, serving_settled, spoken}
-use Rattle.lard_rules.specs.Stay.{NodeEnv, Work, came_for, come_progress, goes_on, named_paths, read_progress, reads_batch, tagged}
-use Rattle.lard_segment.specs.declared.fault.SegFault.{SegFault}
-use Rattle.lard_segment.specs.Segment.{Said}
+use Rattle.lard_rules.specs.Node.{Drops, Says, Does}
 
 -- what the node keeps behind a deed, and what it sends
 abbrev pub part_behind : NodePart → NodeDeed → NodePart

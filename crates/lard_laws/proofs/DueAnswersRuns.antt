@@ -1,20 +1,11 @@
 -- In every state what a node asked for and has not got was sent, and no answer to it came behind that.
 use Rattle.std.proofs.Common.{◌≡◌, ◌≢◌, ◌⊎◌, ◌<◌, ◌≤◌, ◌^◌, ◌==◌, ◌||◌, nat_lt, eqb-true, ℕ, zero, suc, Bool, true, false, List, [], ◌∷◌, ◌++◌, length, slice_get, Ok, Option, Some, None, inl, inr, ⊎_elim, refl, sym, ap, ◌∙◌, subst, arith}
 use Rattle.std.proofs.lemmas.Bool.{both_ways, ltb-true}
-use Rattle.lard_answers.specs.Answers.{FilesAt}
-use Rattle.lard_base.specs.declared.config.Config.{Config}
+use Rattle.lard_law_view.specs.Prelude.{BackRow, Body, Client, ClientBlock, ClientRules, Config, Conn, ControlBlock, FilesAt, Front, FrontConn, FrontRow, FrontRules, Has, IsLaw, IsNodeEnv, IsReached, IsUnheard, Letter, Machine, MayRestOn, Message, Move, Node, NodeEnv, NodePart, NodeRules, NodeState, Place, Row, Rules, Seen, Setting, SpellsMessage, Station, Stay, ToCluster, Turn, brought_said, client_begins, client_does, client_injects, client_rule, conn, content_said, decoded, decoded_message, epoch_in, event_seen, file_at, front_does, front_rule, grown, here, inject_seen, is_no_node, kept_at, node_acknowledged, node_at, node_content, node_does, node_forwarded, node_offered, node_read, node_tagged, node_timer, nothing_kept, nothing_said, packet_seen, part_of, reads_first, seen_in, setting, stands, tale_at}
+use Rattle.lard_law_view.proofs.EachFront.{each-front, of-front}
+use Rattle.lard_law_view.proofs.EachClient.{each-client, of-client}
 use Rattle.lard_base.specs.declared.event.Event.TheVariants as event
-use Rattle.lard_base.specs.declared.place.Place.{Place}
-use Rattle.lard_base.specs.declared.place.Place.TheVariants.{Client, Front, Node}
-use Rattle.lard_client.specs.Control.{ClientBlock}
-use Rattle.lard_endpoint.specs.Control.{ControlBlock}
-use Rattle.lard_files.specs.Files.{file_at}
-use Rattle.lard_handoff_back.specs.declared.row.BackRow.{BackRow}
-use Rattle.lard_handoff_front.specs.declared.row.FrontConn.{FrontConn}
 use Rattle.lard_handoff_front.specs.declared.row.FrontConn.TheVariants as stage
-use Rattle.lard_handoff_front.specs.declared.row.FrontRow.{FrontRow}
-use Rattle.lard_history.specs.Journal.{request}
-use Rattle.lard_history.specs.Own.{Has, Letter, Row, Seen}
 use Rattle.lard_history.proofs.Each.{Each}
 use Rattle.lard_history.proofs.Seeing.{by_number}
 use Rattle.lard_journal.specs.declared.rec.Rec.TheVariants as rec
@@ -25,33 +16,17 @@ use Rattle.lard_law_connections.proofs.KeptHere.{here-is}
 use Rattle.lard_law_connections.proofs.KeptRuns.{connections-are-kept}
 use Rattle.lard_law_connections.proofs.PlacesRuns.{each-placed}
 use Rattle.lard_law_connections.proofs.PlacesTurns.{IsPlaced, small-early}
-use Rattle.lard_law_view.specs.Carry.{IsLaw, MayRestOn, setting, tale_at}
-use Rattle.lard_law_view.specs.View.{ClientRules, Conn, FrontRules, IsNodeEnv, IsUnheard, Move, NodeRules, Rules, Setting, SpellsMessage, brought_said, client_begins, client_does, conn, content_said, epoch_in, event_seen, front_admits, front_does, grown, inject_seen, kept_at, node_does, nothing_kept, nothing_said, packet_seen, part_of, reads_first, seen_in, stands}
 use Rattle.lard_law_view.proofs.Carried.{carried, reached-viewed}
 use Rattle.lard_law_view.proofs.Parts.{put-each}
 use Rattle.lard_laws.specs.Due.{IsContentFor, IsTagFor}
 use Rattle.lard_laws.specs.DueAnswers.{AwaitsAnswers, ConnectionsAwaitAnswers, PartIsOut}
+use Rattle.lard_laws.proofs.AcksRuns.{front-heads, node-heads}
 use Rattle.lard_laws.proofs.DueAnswersMoves.{AllCalm, NoneCome, calm-part, message-seen, move-none}
 use Rattle.lard_laws.proofs.DueAnswersNodes.{AreSeen, acknowledged-out, content-out, forwarded-out, messages_of, offered-out, part_behind, read-out, tagged-out, timer-out}
 use Rattle.lard_laws.proofs.StepsLinking.{settings-stay}
-use Rattle.lard_message.specs.declared.message.Body.{Body}
 use Rattle.lard_message.specs.declared.message.Body.TheVariants as body
-use Rattle.lard_message.specs.declared.message.Message.{Message}
-use Rattle.lard_message.specs.Reading.{decoded_message}
-use Rattle.lard_rules.specs.declared.machine.Machine.{Machine}
-use Rattle.lard_rules.specs.declared.node.NodeState.{NodeState}
-use Rattle.lard_rules.specs.declared.places.Station.{Station}
-use Rattle.lard_rules.specs.declared.places.Turn.{Turn}
-use Rattle.lard_rules.specs.declared.stay.Stay.{Stay}
-use Rattle.lard_rules.specs.Client.{client_aborts, client_gets, client_holds, client_injects, client_shuts, client_takes, client_timer, client_writes}
-use Rattle.lard_rules.specs.Machine.{IsReached, is_no_node, node_at}
 use Rattle.lard_rules.specs.Front as front
-use Rattle.lard_rules.specs.Front.{ask_of, front_asked, front_ended, front_gets, front_taken, front_timer}
 use Rattle.lard_rules.specs.Node as node
-use Rattle.lard_rules.specs.Node.{NodePart, here, node_acknowledged, node_content, node_forwarded, node_offered, node_read, node_tagged, node_timer}
-use Rattle.lard_rules.specs.Stay.{NodeEnv}
-use Rattle.lard_segment.specs.declared.segment.Dir.TheVariants.{ToClient, ToCluster}
-use Rattle.lard_segment.specs.Segment.{decoded}
 
 -- what is kept, and where it is; a node that is not there keeps nothing
 record Known (k : Setting) (x : Conn) : Type 0 where
@@ -161,50 +136,36 @@ module _ (k : Setting) where
   front-parts x heads (front.Says turn) n = refl
   front-parts x heads (front.Does did) n = refl
 
-  front-heads : (x : Conn) (heads : List Seen) (d : front.FrontDeed) → (front_does x heads d).heads ≡ heads
-  front-heads x heads front.Drops = refl
-  front-heads x heads (front.Says turn) = refl
-  front-heads x heads (front.Does did) = refl
-
   -- the front end hears
   to-front : (x : Conn) (from : Place) (bytes : List ℕ) (d : front.FrontDeed) → AwaitsAnswers k.files x → AwaitsAnswers k.files (grown x (front_does x (packet_seen from Front bytes) d))
   to-front x from bytes d h = by-packet x (front_does x (packet_seen from Front bytes) d) from Front bytes (front-heads x (packet_seen from Front bytes) d) (λ n e. let no : Front ≡ Node n = e in cc) (front-parts x (packet_seen from Front bytes) d) h
+
+  front-rows : (x : Conn) (heads : List Seen) (d : front.FrontDeed) → ((P : Letter → Type 0) → NoneCome P heads) → AwaitsAnswers k.files x
+      → AwaitsAnswers k.files (grown x (front_does x heads d))
+  front-rows x heads d rows h = by-rows x (front_does x heads d) (front-parts x heads d) (λ P. subst (NoneCome P) (sym (front-heads x heads d)) (rows P)) h
 
   -- a client does what no packet asked for
   client-goes : (x : Conn) (s : Station) (heads : List Seen) (given : ClientBlock × Turn) → ((P : Letter → Type 0) → NoneCome P heads) → AwaitsAnswers k.files x → AwaitsAnswers k.files (grown x (client_does x s heads given))
   client-goes x s heads given rows h = by-rows x (client_does x s heads given) (λ n. refl) rows h
 
   clients : ClientRules k Goes
-  clients = record {
+  clients = each-client k Goes (record {
     opens = λ x isn iss wnd mss rule none may h. by-rows x (client_begins x isn iss wnd mss) (λ n. refl) (λ P. ((λ a. a), ((λ a. a), tt))) h;
-    gets = λ x s path there fits may h. client-goes x s (event_seen (event.Get x.c path)) (client_writes s.client (request path)) (λ P. ((λ a. a), tt)) h;
-    writes = λ x s bytes there fits may h. client-goes x s (event_seen (event.Write x.c bytes)) (client_writes s.client bytes) (λ P. ((λ a. a), tt)) h;
-    shuts = λ x s there may h. client-goes x s (event_seen (event.Shut x.c)) (client_shuts s.client) (λ P. ((λ a. a), tt)) h;
-    aborts = λ x s there may h. client-goes x s (event_seen (event.Abort x.c)) (client_aborts s.client) (λ P. ((λ a. a), tt)) h;
-    holds = λ x s there may h. client-goes x s (event_seen (event.Hold x.c)) (client_holds s.client) (λ P. ((λ a. a), tt)) h;
-    takes = λ x s there may h. client-goes x s (event_seen (event.Take x.c)) (client_takes s.client) (λ P. ((λ a. a), tt)) h;
-    fires = λ x s there may h. client-goes x s (event_seen (event.Timer (Client x.c) x.c)) (client_timer s.client) (λ P. ((λ a. a), tt)) h;
-    hears = λ x s from bytes there was may h. by-packet x (client_does x s (packet_seen from (Client x.c) bytes) (client_gets s.client (decoded bytes x.c ToClient))) from (Client x.c) bytes refl
-        (λ n e. let no : Client x.c ≡ Node n = e in cc) (λ n. refl) h;
-  }
+    does = λ x s g there comes may h.
+        let given : ClientBlock × Turn = client_rule x.c s.client g in
+        of-client x.c (λ heads. AwaitsAnswers k.files (grown x (client_does x s heads given)))
+        (λ from bytes. by-packet x (client_does x s (packet_seen from (Client x.c) bytes) given) from (Client x.c) bytes refl
+        (λ n e. let no : Client x.c ≡ Node n = e in cc) (λ n. refl) h)
+        (λ e. client-goes x s (event_seen e) given (λ P. ((λ a. a), tt)) h) g;
+  })
 
   fronts : FrontRules k Goes
-  fronts = record {
-    hears = λ x s env bytes there is iss was may h. to-front x (Client x.c) bytes (front_gets env x.part.front bytes (decoded bytes x.c ToCluster)) h;
-    fires = λ x s env there is may h. by-rows x (front_does x (event_seen (event.Timer Front x.c)) (front_timer env x.part.front)) (front-parts x (event_seen (event.Timer Front x.c)) (front_timer env x.part.front))
-        (λ P. subst (NoneCome P) (sym (front-heads x (event_seen (event.Timer Front x.c)) (front_timer env x.part.front))) ((λ a. a), tt)) h;
-    taken = λ x env n epoch bytes is spells was may h. to-front x (Node n) bytes (front_taken x.part.front epoch) h;
-    asked = λ x env n epoch number queue size paths bytes is spells was may h. to-front x (Node n) bytes (front_asked env x.part.front n epoch (ask_of x.c n number queue size paths)) h;
-    ended = λ x env n epoch reason snd rcv count bytes is spells was may h. to-front x (Node n) bytes (front_ended env x.part.front n epoch (record { reason = reason; snd = record { 0 = snd }; rcv = record { 0 = rcv } })) h;
-    admitted = λ x env choice given is e may h. by-rows x (front_admits x given) (λ n. refl) (λ P. tt) h;
-  }
+  fronts = each-front k Goes (λ x env heads g is comes may h.
+      let d : front.FrontDeed = front_rule env x.part.front g in
+      of-front x (λ hs. AwaitsAnswers k.files (grown x (front_does x hs d))) (λ from bytes. to-front x from bytes d h) (front-rows x [] d (λ P. tt) h)
+      (front-rows x (event_seen (event.Timer Front x.c)) d (λ P. ((λ a. a), tt)) h) env heads g comes)
 
   -- ---- a rule of a node
-
-  node-heads : (x : Conn) (n : ℕ) (heads : List Seen) (d : node.NodeDeed) → (node_does x n heads d).heads ≡ heads
-  node-heads x n heads node.Drops = refl
-  node-heads x n heads (node.Says messages) = refl
-  node-heads x n heads (node.Does given) = refl
 
   node-place : (x : Conn) (n : ℕ) (heads : List Seen) (d : node.NodeDeed) → (node_does x n heads d).place ≡ Node n
   node-place x n heads node.Drops = refl

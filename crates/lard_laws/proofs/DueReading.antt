@@ -2,22 +2,16 @@
 use Rattle.std.proofs.Common.{◌≡◌, ◌≢◌, ◌<◌, ◌≤◌, ◌+◌, ◌-◌, ℕ, Bool, true, false, List, [], ◌∷◌, ◌++◌, map, length, take, drop, Option, Some, None, refl, sym, ap, ◌∙◌, subst, arith, append-nil, take_all}
 use Rattle.std.proofs.lemmas.Bool.{both_ways}
 use Rattle.std.specs.List.{slice_get}
-use Rattle.lard_answers.specs.Answers.{FilesAt, IsPrefix, good_path, verdicts}
-use Rattle.lard_endpoint.specs.Control.{ControlBlock}
+use Rattle.lard_law_view.specs.Prelude.{ControlBlock, Entry, FilesAt, HasRead, HasStopped, Hears, IsPrefix, SaysAnswers, Stream, Verdict, good_path, verdict, verdicts}
 use Rattle.lard_law_connections.specs.BytesAgreement.{HoldsItPending}
 use Rattle.lard_law_connections.specs.Stops.{NextIsGood}
 use Rattle.lard_law_connections.proofs.BytesReading.{read-alone}
-use Rattle.lard_law_view.specs.Agreement.{HasRead, HasStopped, SaysAnswers}
-use Rattle.lard_law_view.specs.Truth.{Hears, Stream}
 use Rattle.lard_law_view.proofs.Acked.{heard_by}
 use Rattle.lard_law_view.proofs.Answered.{came-answered, fewer-verdicts}
 use Rattle.lard_law_view.proofs.ReadingBytes.{begins-block, next-verdict}
 use Rattle.lard_laws.specs.BackingRequests.{IsFor}
 use Rattle.lard_laws.proofs.QuietComplete.{stopped-held}
 use Rattle.lard_laws.proofs.WaysGoods.{next-get}
-use Rattle.lard_request.specs.declared.verdict.Verdict.{Verdict}
-use Rattle.lard_request.specs.Verdict.{verdict}
-use Rattle.lard_rules.specs.declared.stay.Entry.{Entry}
 
 -- the bytes among the symbols that were taken came
 among : (w : Stream) (b : ControlBlock) → Hears w b.recv → (n : ℕ) → n ≤ heard_by b.recv → length (verdicts (take (n - 1) w.bytes)) ≤ length (verdicts (take b.recv.got w.bytes))

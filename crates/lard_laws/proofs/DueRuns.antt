@@ -3,20 +3,11 @@ use Rattle.std.proofs.Common.{◌≡◌, ◌⊎◌, ◌<◌, ◌≤◌, ◌+◌,
 use Rattle.std.proofs.lemmas.Bool.{both_ways}
 use Rattle.std.specs.FinMap as table
 use Rattle.std.specs.Prelude.{IsSome}
-use Rattle.lard_answers.specs.Answers.{FilesAt, verdicts}
-use Rattle.lard_base.specs.Config.{config_check}
-use Rattle.lard_base.specs.declared.config.Config.{Config}
-use Rattle.lard_base.specs.declared.place.Place.{Place}
-use Rattle.lard_base.specs.declared.place.Place.TheVariants.{Client, Front, Node}
-use Rattle.lard_base.specs.declared.place.TimerKind.{TimerKind}
+use Rattle.lard_law_view.specs.Prelude.{Client, Config, Conn, FilesAt, Front, Has, HasTimer, IsReached, Letter, Machine, Node, Numbers, Packet, Place, Rec, Station, Stream, Tale, TimerKind, config_check, conn, file_at, front_armed, has_aborted, is_cluster, is_running, is_touched, last_epoch, letters, node_armed, numbers_of, own, owner, part_of, seq_add, served, tale_at, verdicts, was_reset, wrote}
 use Rattle.lard_base.specs.declared.place.TimerKind.TheVariants as timer
-use Rattle.lard_files.specs.Files.{file_at}
-use Rattle.lard_history.specs.Journal.{Numbers, Tale, is_cluster, is_running, is_touched, last_epoch, numbers_of, owner, served, was_reset, wrote}
-use Rattle.lard_history.specs.Own.{Has, Letter, letters, own}
 use Rattle.lard_history.proofs.Lifting.{tale-own}
 use Rattle.lard_history.proofs.Seeing.{has-each}
 use Rattle.lard_history.proofs.Tales.{epoch-tale, numbers-tale, owner-tale, served-tale, wrote-tale}
-use Rattle.lard_journal.specs.declared.rec.Rec.{Rec}
 use Rattle.lard_law_connections.specs.BytesAgreement.{IsOpen, IsTruthful}
 use Rattle.lard_law_connections.specs.JobsLaws.{HasQueued}
 use Rattle.lard_law_connections.proofs.AwaitsRuns.{connections-await}
@@ -26,9 +17,6 @@ use Rattle.lard_law_connections.proofs.JobsRuns.{reads-are-queued}
 use Rattle.lard_law_connections.proofs.KeptRuns.{connections-are-kept}
 use Rattle.lard_law_connections.proofs.PlacesRuns.{each-placed}
 use Rattle.lard_law_connections.proofs.StopsRuns.{connections-stop}
-use Rattle.lard_law_view.specs.Carry.{tale_at}
-use Rattle.lard_law_view.specs.Quiet.{has_aborted}
-use Rattle.lard_law_view.specs.View.{Conn, conn, part_of}
 use Rattle.lard_law_view.proofs.Acked.{Acks}
 use Rattle.lard_law_view.proofs.Carried.{reached-viewed}
 use Rattle.lard_law_view.proofs.InSteps.{carried-ends}
@@ -46,15 +34,6 @@ use Rattle.lard_laws.specs.QuietStill.{IsWaiting}
 use Rattle.lard_laws.specs.StepsTimers.{armed_at}
 use Rattle.lard_laws.proofs.StepsTimers.{timers-kept}
 use Rattle.lard_laws.proofs.WaysRuns.{each-guarded}
-use Rattle.lard_rules.specs.declared.machine.Machine.{Machine}
-use Rattle.lard_rules.specs.Machine.{IsReached}
-use Rattle.lard_rules.specs.declared.places.Station.{Station}
-use Rattle.lard_rules.specs.Bounds.{HasTimer}
-use Rattle.lard_rules.specs.Front.{front_armed}
-use Rattle.lard_rules.specs.Node.{node_armed}
-use Rattle.lard_net.specs.Net.{Packet}
-use Rattle.lard_law_view.specs.Truth.{Stream}
-use Rattle.lard_seq.specs.Seq.{seq_add}
 
 -- a number of symbols below 2^32 is the least that gives its sequence number
 acked-within : (isn n q heard : ℕ) → seq_add isn n ≡ seq_add isn q → n < 2 ^ 32 → q ≤ heard → n ≤ heard

@@ -3,21 +3,11 @@ use Rattle.std.proofs.Common.{◌≡◌, ◌⊎◌, ◌<◌, ◌≤◌, ◌+◌,
 use Rattle.std.proofs.lemmas.Bool.{and_parts, both_ways}
 use Rattle.std.proofs.lemmas.List.{length-map}
 use Rattle.std.specs.List.{find, list_any}
-use Rattle.lard_answers.specs.Answers.{FilesAt, answer, answers, good_path, verdicts}
+use Rattle.lard_law_view.specs.Prelude.{BackConn, BackRow, Client, Conn, ControlBlock, Entry, FilesAt, Front, FrontConn, FrontRest, FrontRow, Has, HasStopped, HasTarget, Kept, Node, NodePart, Place, Progress, Station, Stay, Tale, Talk, Verdict, and_path, answer, answers, front_armed, front_rest, good_path, holds_kind, is_clear, is_under, kind_rank, may_freeze, named_paths, next_by, node_armed, path_in, row_armed, stage_armed, tale_at, verdicts}
 use Rattle.lard_answers.proofs.Growing.{answers-are, verdicts-nothing}
-use Rattle.lard_base.specs.declared.place.Place.{Place}
-use Rattle.lard_base.specs.declared.place.Place.TheVariants.{Client, Front, Node}
 use Rattle.lard_base.specs.declared.place.TimerKind.TheVariants as timer
-use Rattle.lard_endpoint.specs.Control.{ControlBlock}
-use Rattle.lard_endpoint.specs.Moving.{may_freeze}
-use Rattle.lard_handoff_back.specs.declared.row.BackConn.{BackConn}
 use Rattle.lard_handoff_back.specs.declared.row.BackConn.TheVariants as back
-use Rattle.lard_handoff_back.specs.declared.row.BackRow.{BackRow}
-use Rattle.lard_handoff_front.specs.declared.row.FrontConn.{FrontConn}
 use Rattle.lard_handoff_front.specs.declared.row.FrontConn.TheVariants as stage
-use Rattle.lard_handoff_front.specs.declared.row.FrontRow.{FrontRow}
-use Rattle.lard_history.specs.Journal.{Tale}
-use Rattle.lard_history.specs.Own.{Has}
 use Rattle.lard_law_view.proofs.Turned.{has-all}
 use Rattle.lard_law_connections.specs.Awaits.{AwaitsWhatItAsked, BatchComes, FetchKept, IsToCome, RowComes, StageComes, StayComes}
 use Rattle.lard_law_connections.specs.BytesAgreement.{AreOnTheWay, BackAgrees, ComesOn, FrontHolds, FrontWaits, HoldsItPending, IsOffering, IsOpen, IsTruthful, NodeAgrees, RowAgrees, SeatAgrees, StageAgrees, StayAgrees, StayComesOn}
@@ -25,10 +15,6 @@ use Rattle.lard_law_connections.specs.Places.{IsComing, IsDecided, IsPast, IsThe
 use Rattle.lard_law_connections.specs.Stops.{BackStageStops, FirstIsAwaited, FrontStageStops, FrontStops, HeldStops, IsHeldBack, ReadingStops, RowStops, StayStops}
 use Rattle.lard_law_connections.proofs.BytesClientMoves.{open-at}
 use Rattle.lard_law_connections.proofs.PlacesTurns.{IsPlaced}
-use Rattle.lard_law_view.specs.Agreement.{HasStopped}
-use Rattle.lard_law_view.specs.Carry.{tale_at}
-use Rattle.lard_law_view.specs.Truthful.{Talk}
-use Rattle.lard_law_view.specs.View.{Conn}
 use Rattle.lard_law_view.proofs.Answered.{fewer-verdicts}
 use Rattle.lard_laws.specs.Acks.{AcksWhatWasTaken, BackActs, BackStageActs, EndActs, FrontActs, FrontStageActs, OpenActs, StationActs, bounds_of, story_at}
 use Rattle.lard_laws.specs.BackingRequests.{IsFor}
@@ -43,22 +29,9 @@ use Rattle.lard_laws.proofs.QuietClosed.{closed-done}
 use Rattle.lard_laws.proofs.QuietComplete.{IsDone}
 use Rattle.lard_law_connections.specs.Kept.{FrontRowKeeps, FrontStageKeeps, IsKeptByStage}
 use Rattle.lard_law_connections.specs.KeptLaws.{AnyNode}
-use Rattle.lard_request.specs.declared.verdict.Verdict.{Verdict}
-use Rattle.lard_resend.specs.declared.kept.Kept.{Kept}
-use Rattle.lard_resend.specs.Kept.{is_under, kind_rank}
-use Rattle.lard_rules.specs.declared.front.FrontRest.{FrontRest}
 use Rattle.lard_rules.specs.declared.places.Ending.TheVariants as ending
-use Rattle.lard_rules.specs.declared.places.Station.{Station}
-use Rattle.lard_rules.specs.declared.stay.Entry.{Entry}
 use Rattle.lard_rules.specs.declared.stay.Next.TheVariants as next
-use Rattle.lard_rules.specs.declared.stay.Progress.{Progress}
 use Rattle.lard_rules.specs.declared.stay.Progress.TheVariants as progress
-use Rattle.lard_rules.specs.declared.stay.Stay.{Stay}
-use Rattle.lard_rules.specs.Front.{front_armed, front_rest, row_armed, stage_armed}
-use Rattle.lard_rules.specs.FrontSound.{HasTarget}
-use Rattle.lard_rules.specs.Node.{NodePart, holds_kind, node_armed}
-use Rattle.lard_rules.specs.Stay.{and_path, named_paths, next_by, path_in}
-use Rattle.lard_send.specs.Send.{is_clear}
 
 -- what is found is one of the list, and as was looked for
 pub found-is : (p : Kept → Bool) (ks : List Kept) (k : Kept) → find p ks ≡ Some k → Has k ks × (p k ≡ true)

@@ -1,10 +1,7 @@
 -- What a client does keeps what is told of an end: what it writes goes on behind what it wrote.
 use Rattle.std.proofs.Common.{◌≡◌, ◌≤◌, ◌^◌, ℕ, nat_lt, false, List, [], ◌++◌, map, Some, None, Result, arith, refl, ap, ◌∙◌, sym, subst, ltb-false}
-use Rattle.lard_answers.specs.Answers.{FilesAt}
+use Rattle.lard_law_view.specs.Prelude.{Client, ClientBlock, ClientKeeps, ClientRules, ClientTurned, Conn, FilesAt, Final, Front, GoesBetween, GoesOn, IsReply, Move, Node, Place, Said, Seen, SegFault, Setting, Station, Stream, Talk, ToClient, Turn, Was, client_aborts, client_begins, client_does, client_gets, client_holds, client_opens, client_shuts, client_takes, client_timer, client_writes, decoded, event_seen, grown, letter, letters_of, packet_seen, request, spelled, stream_of, tale_at, written_in, written_len}
 use Rattle.lard_base.specs.declared.event.Event.TheVariants as event
-use Rattle.lard_base.specs.declared.place.Place.{Place}
-use Rattle.lard_base.specs.declared.place.Place.TheVariants.{Client, Front, Node}
-use Rattle.lard_client.specs.Control.{ClientBlock, written_len}
 use Rattle.lard_law_connections.specs.BytesAgreement.{ConnAgrees, IsFair, IsFairOn, IsOpen, IsTruthful, IsConnUnopened}
 use Rattle.lard_law_connections.proofs.BytesClientMoves.{has-fair, open-at, was-between}
 use Rattle.lard_laws.specs.EndedEnds.{EndsAreTrue, IsTrueEnd, LetterEnds, RowEnds, StationEnds, TellsEnds, written_by}
@@ -12,27 +9,12 @@ use Rattle.lard_laws.proofs.EndedGrowing.{client-letters, ends-on, inner-letters
 use Rattle.lard_laws.proofs.EndedTurns.{told-grown, wrote-behind}
 use Rattle.lard_law_connections.proofs.LimitsMoves.{Helps}
 use Rattle.lard_law_connections.specs.Stops.{ReadingStops}
-use Rattle.lard_law_view.specs.Carry.{tale_at}
-use Rattle.lard_law_view.specs.View.{ClientRules, Conn, GoesBetween, Move, Setting, Was, client_begins, client_does, event_seen, grown, letter, letters_of, packet_seen}
 use Rattle.lard_law_view.proofs.Rows.{tale_before}
-use Rattle.lard_endpoint.specs.declared.control.moving.Final.{Final}
-use Rattle.lard_history.specs.Journal.{request}
-use Rattle.lard_history.specs.Own.{Seen}
 use Rattle.lard_history.proofs.Each.{Each-append}
-use Rattle.lard_law_view.specs.Agreement.{IsReply}
-use Rattle.lard_law_view.specs.Keeping.{ClientKeeps, ClientTurned, written_in}
-use Rattle.lard_law_view.specs.Truthful.{Talk}
 use Rattle.lard_law_view.proofs.ClientHearing.{hears-turned}
 use Rattle.lard_law_view.proofs.ClientAgreement.{aborts-turned, holds-turned, shuts-turned, takes-turned, timer-turned, writes-turned}
 use Rattle.lard_law_view.proofs.Notes.{client-notes}
-use Rattle.lard_rules.specs.declared.places.Station.{Station}
-use Rattle.lard_rules.specs.declared.places.Turn.{Turn}
-use Rattle.lard_rules.specs.Client.{client_aborts, client_gets, client_holds, client_opens, client_shuts, client_takes, client_timer, client_writes}
 use Rattle.lard_segment.proofs.Again.{again}
-use Rattle.lard_segment.specs.declared.fault.SegFault.{SegFault}
-use Rattle.lard_segment.specs.declared.segment.Dir.TheVariants.{ToClient}
-use Rattle.lard_segment.specs.Segment.{Said, decoded, spelled}
-use Rattle.lard_law_view.specs.Truth.{GoesOn, Stream, stream_of}
 
 -- the client's stream is what it is told to have written
 pub written-is : (files : FilesAt) (x : Conn) (s : Station) (l : Talk) (pend : List _) (o : IsOpen files x l pend s) → l.w ≡ written_by x s

@@ -1,9 +1,7 @@
 -- The end of a turn of a place that has the endpoint: where both sides have closed it is what the last numbers are of.
-use Rattle.std.proofs.Common.{◌≡◌, ◌<◌, ◌^◌, ◌||◌, ◌&&◌, ℕ, Bool, true, false, cond, List, [], ◌∷◌, Option, Some, None, arith, refl, ◌∙◌, sym, subst}
-use Rattle.std.proofs.lemmas.Bool.{and_parts, both_ways, cond_both}
-use Rattle.lard_base.specs.declared.place.Place.{Place}
-use Rattle.lard_base.specs.declared.place.Place.TheVariants.{Client}
-use Rattle.lard_base.specs.declared.place.Reason.{Reason}
+use Rattle.std.proofs.Common.{◌≡◌, ◌<◌, ◌^◌, ◌||◌, ◌&&◌, ℕ, Bool, true, false, cond, List, [], None, arith, refl, ◌∙◌, sym, subst}
+use Rattle.std.proofs.lemmas.Bool.{and_parts, both_ways}
+use Rattle.lard_law_view.specs.Prelude.{ControlBlock, Ending, HasStopped, Place, Reason, SaysAnswers, ServeEnv, Service, Stream, Verdict, after_timer, emits_left, end_reason, final_of, is_clear, is_closed, serving, serving_settled, speaks, spoken}
 use Rattle.lard_base.specs.declared.place.Reason.TheVariants as reason
 use Rattle.lard_law_connections.specs.BytesAgreement.{HasReadPending, HoldsItPending}
 use Rattle.lard_law_connections.specs.BytesTurning.{IsReading}
@@ -13,24 +11,12 @@ use Rattle.lard_law_connections.proofs.BytesServing.{So, counts-nothing}
 use Rattle.lard_law_connections.proofs.BytesWide.{half-wide, wide-half}
 use Rattle.lard_laws.specs.EndedEnds.{IsTrueEnd, WasClosed}
 use Rattle.lard_law_connections.proofs.StopsSame.{Same, same-stopped, speaks-same}
-use Rattle.lard_endpoint.specs.Control.{ControlBlock}
-use Rattle.lard_endpoint.specs.Leaving.{after_timer, emits_left}
-use Rattle.lard_endpoint.specs.Moving.{end_reason, final_of, is_closed, may_end}
-use Rattle.lard_history.proofs.Each.{Each-append}
-use Rattle.lard_law_view.specs.Agreement.{HasStopped, SaysAnswers}
 use Rattle.lard_law_view.proofs.EndpointStreams.{IsBetween, between-sound, between-timed}
 use Rattle.lard_law_view.proofs.EndpointSpeaking.{Spoke, emits-spoke}
-use Rattle.lard_request.specs.declared.verdict.Verdict.{Verdict}
-use Rattle.lard_rules.specs.declared.places.Ending.{Ending}
 use Rattle.lard_rules.specs.declared.places.Ending.TheVariants as ending
-use Rattle.lard_rules.specs.declared.places.Turn.{Turn}
-use Rattle.lard_rules.specs.Serving.{ServeEnv, Service, cut_off, limit_said, serving, serving_settled, spoken, serving_told}
-use Rattle.lard_rules.specs.Speaking.{speaks, speaks_symbols}
 use Rattle.lard_rules.proofs.Wide.{timer-wide}
-use Rattle.lard_send.specs.Send.{is_clear}
-use Rattle.lard_law_view.specs.Truth.{Stream}
 use Rattle.lard_law_view.proofs.Endpoint.{timer-left}
-use Rattle.lard_law_view.proofs.EndpointSends.{AllTo, speaks-to, speaks_symbols-to}
+use Rattle.lard_rules.proofs.Endings.{rested-keeps, settled-keeps}
 
 -- ---- an endpoint
 
@@ -65,7 +51,7 @@ module _ (env : ServeEnv) (w : Stream) (iss : ℕ) where
   open-ends s before open_ =
       let b : ControlBlock = (speaks env.c s.block).1 in
       let same : Same s.block b = speaks-same env.c s.block in
-      cond_both (may_end b) (ending.Over (final_of b (end_reason b))) (ending.Here b s.count) EndsTruly
+      rested-keeps EndsTruly b s.count
       (λ may. (
         omega arith,
         omega arith,
@@ -122,7 +108,7 @@ module _ (env : ServeEnv) (w : Stream) (iss : ℕ) where
     pub spoken-end : (s : Service) (pend : List Verdict) (g : So env w out vs s pend) (before : List (Place × List ℕ)) → HasReadPending w s.block g.vs_now pend → (s.block.reset ≡ false → ReadsNothing s.block pend) → EndsTruly (spoken env s before).0
     spoken-end s pend g before read nothing =
         let b : ControlBlock = (speaks env.c s.block).1 in
-        cond_both (may_end b) (ending.Over (final_of b (end_reason b))) (ending.Here b s.count) EndsTruly
+        rested-keeps EndsTruly b s.count
         (λ may. (
           omega arith,
           omega arith,
@@ -134,10 +120,9 @@ module _ (env : ServeEnv) (w : Stream) (iss : ℕ) where
 
     -- of what is in hand, unless it is to be reset
     pub settled-end : (s : Service) (pend : List Verdict) (g : So env w out vs s pend) → (s.over ≡ None → s.block.reset ≡ false → ReadsNothing s.block pend) → EndsTruly (serving_settled env s).0
-    settled-end s pend g nothing = go s.over refl g.reading where
-      go : (o : Option ℕ) → s.over ≡ o → IsReading w g.vs_now pend s.block s.notes o → EndsTruly (elim o as (λ p. Ending × Turn) [ None ↦ spoken env s [] | Some total ↦ cut_off env s ]).0
-      go None e read = spoken-end s pend g [] read (nothing e)
-      go (Some total) e reset = (omega arith, omega arith, λ why. absurd (let no : reason.Limit ≡ reason.Closed = why in cc))
+    settled-end s pend g nothing = settled-keeps (λ given. EndsTruly given.0) env s
+        (λ e. spoken-end s pend g [] (subst (IsReading w g.vs_now pend s.block s.notes) e g.reading) (nothing e))
+        (λ total e. (omega arith, omega arith, λ why. absurd (let no : reason.Limit ≡ reason.Closed = why in cc)))
 
     -- its timer fired
     module _ (says : SaysAnswers env.files w out vs) (pend : List Verdict) (b : ControlBlock) (count : ℕ) (h : HoldsItPending w out vs pend b count) where
@@ -151,14 +136,3 @@ module _ (env : ServeEnv) (w : Stream) (iss : ℕ) where
           let wide = wide-half (after_timer b) (timer-wide b (half-wide b h.wide)) in
           let so = begins-so env w out vs says pend (after_timer b) count [] h.counted after wide read (counts-nothing env.files env.c w out vs) in
           spoken-end (serving (after_timer b) count []) pend so before so.reading nothing
-
--- ---- what goes out
-
-pub spoken-to : (env : ServeEnv) (s : Service) (before : List (Place × List ℕ)) → AllTo (Client env.c) before → AllTo (Client env.c) (spoken env s before).1.segments
-spoken-to env s before to = Each-append (λ m. m.0 ≡ Client env.c) before (speaks env.c s.block).0 to (speaks-to env.c s.block).to
-
-pub settled-to : (env : ServeEnv) (s : Service) → AllTo (Client env.c) (serving_settled env s).1.segments
-settled-to env s = go s.over where
-  go : (o : Option ℕ) → AllTo (Client env.c) (elim o as (λ p. Ending × Turn) [ None ↦ spoken env s [] | Some total ↦ cut_off env s ]).1.segments
-  go None = spoken-to env s [] tt
-  go (Some total) = Each-append (λ m. m.0 ≡ Client env.c) (speaks_symbols env.c s.block).0 (serving_told env (limit_said (final_of (speaks_symbols env.c s.block).1 reason.Limit)) ∷ []) (speaks_symbols-to env.c s.block).to (refl, tt)

@@ -1,8 +1,7 @@
 -- What the front end keeps of an end is so: its own turns end truly, and what a node tells it was so.
 use Rattle.std.proofs.Common.{◌≡◌, ◌⊎◌, ◌≤◌, ◌<◌, not, ◌^◌, ℕ, true, false, List, [], map, Option, Some, Ok, inl, inr, ⊎_elim, refl, sym, ◌∙◌, subst, arith, eqb-true}
 use Rattle.std.proofs.lemmas.Bool.{and_parts, both_ways, not-true}
-use Rattle.lard_base.specs.declared.place.Place.{Place}
-use Rattle.lard_base.specs.declared.place.Place.TheVariants.{Front}
+use Rattle.lard_law_view.specs.Prelude.{Ask, Conn, ControlBlock, Ending, Final, FirstChoice, Front, FrontConn, FrontDeed, FrontEnv, FrontPart, FrontRow, FrontTurn, HasStopped, IsStream, IsWord, MayMove, Place, Said, Seen, Service, Station, Talk, Verdict, after_timer, front_admitted, front_asked, front_does, front_ended, front_fired, front_gets, front_reads, front_rest, front_taken, front_timer, is_away, letter, may_freeze, serving_settled, spoken, stage_after, tale_at}
 use Rattle.lard_law_connections.specs.BytesAgreement.{FrontHolds, IsOpen, SeatAgrees, StageAgrees}
 use Rattle.lard_law_connections.proofs.BytesFrontReading.{reads-so}
 use Rattle.lard_law_connections.proofs.BytesHolding.{heard-so}
@@ -16,34 +15,12 @@ use Rattle.lard_law_connections.proofs.PlacesTurns.{IsPlaced}
 use Rattle.lard_law_connections.specs.Stops.{FrontStageStops, FrontStops, HeldStops, IsHeldBack}
 use Rattle.lard_law_connections.proofs.StopsFronts as stops
 use Rattle.lard_law_connections.proofs.StopsSame.{Same, same-held, same-stopped, segment-closes, timer-same}
-use Rattle.lard_law_view.specs.Carry.{tale_at}
-use Rattle.lard_law_view.specs.View.{Conn, front_does, letter}
-use Rattle.lard_dispatch.specs.declared.dispatch.Ask.{Ask}
-use Rattle.lard_endpoint.specs.declared.control.moving.Final.{Final}
-use Rattle.lard_endpoint.specs.Control.{ControlBlock}
-use Rattle.lard_endpoint.specs.Leaving.{after_timer}
-use Rattle.lard_endpoint.specs.Moving.{may_freeze}
-use Rattle.lard_rules.specs.declared.front.FrontTurn.{FrontTurn}
-use Rattle.lard_rules.specs.Front.{FrontDeed, Drops, Says, Does, FrontEnv, FrontPart, front_fired, front_admitted, front_asked, front_ended, front_gets, front_taken, front_timer, front_rest, stage_after}
-use Rattle.lard_rules.specs.FrontReading.{MayMove, front_reads}
+use Rattle.lard_rules.specs.Front.{Drops, Says, Does}
 use Rattle.lard_rules.proofs.FrontBlocks.{segment-serves}
 use Rattle.lard_rules.proofs.FrontTurns.{reads-stop}
-use Rattle.lard_handoff_front.specs.declared.row.FrontConn.{FrontConn}
 use Rattle.lard_handoff_front.specs.declared.row.FrontConn.TheVariants as stage
-use Rattle.lard_handoff_front.specs.declared.row.FrontRow.{FrontRow}
-use Rattle.lard_handoff_front.specs.Row.{is_away}
-use Rattle.lard_history.specs.Own.{Seen}
 use Rattle.lard_history.proofs.Each.{Each-append}
-use Rattle.lard_law_view.specs.Agreement.{HasStopped, IsWord}
-use Rattle.lard_law_view.specs.Truthful.{Talk}
-use Rattle.lard_policy.specs.declared.first.FirstChoice.{FirstChoice}
-use Rattle.lard_request.specs.declared.verdict.Verdict.{Verdict}
-use Rattle.lard_rules.specs.declared.places.Ending.{Ending}
 use Rattle.lard_rules.specs.declared.places.Ending.TheVariants as ending
-use Rattle.lard_rules.specs.declared.places.Station.{Station}
-use Rattle.lard_rules.specs.Serving.{Service, serving_settled, spoken}
-use Rattle.lard_segment.specs.Segment.{Said}
-use Rattle.lard_law_view.specs.Truth.{IsStream}
 use Rattle.lard_law_view.proofs.Speaking.{speaks-stream}
 use Rattle.lard_rules.proofs.FrontCases.{KeptBySegment, IsInStage, of-stage, begun_service, fired_before, fired_service, heard_reading, heard_service, waiting_service, segment-keeps, timer-keeps, taken-keeps, asked-keeps, ended-keeps, admitted-keeps}
 

@@ -1,8 +1,6 @@
 -- What is told of an end stays told: while its client writes on, and while the connection moves.
 use Rattle.std.proofs.Common.{◌≡◌, ◌<◌, ◌^◌, ℕ, false, List, [], ◌∷◌, map, Option, Some, None, inl, inr, ⊎_elim, refl, sym, subst}
-use Rattle.lard_answers.specs.Answers.{FilesAt}
-use Rattle.lard_base.specs.declared.place.Place.{Place}
-use Rattle.lard_base.specs.declared.place.Place.TheVariants.{Client, Front, Node}
+use Rattle.lard_law_view.specs.Prelude.{AtFront, Body, Client, EndedAs, FilesAt, Final, Front, FrontConn, FrontRow, GoesOn, Letter, Node, NodePart, Place, Stream, kind_of, letter}
 use Rattle.lard_law_connections.specs.BytesAgreement.{IsInner, IsNodePlace}
 use Rattle.lard_law_connections.proofs.BytesLater.{said-stays}
 use Rattle.lard_laws.proofs.AcksMessages.{ended-same}
@@ -10,22 +8,12 @@ use Rattle.lard_laws.specs.EndedEnds.{BodyEnds, IsTrueEnd, LetterEnds, LetterEnd
 use Rattle.lard_law_connections.specs.Places.{HasEnded}
 use Rattle.lard_law_connections.proofs.PlacesGrowing.{FrontGrows, ended-grows}
 use Rattle.lard_law_connections.proofs.PlacesHeads.{kinds-same}
-use Rattle.lard_law_view.specs.View.{letter}
-use Rattle.lard_endpoint.specs.declared.control.moving.Final.{Final}
-use Rattle.lard_handoff_front.specs.declared.row.FrontConn.{FrontConn}
 use Rattle.lard_handoff_front.specs.declared.row.FrontConn.TheVariants as stage
-use Rattle.lard_handoff_front.specs.declared.row.FrontRow.{FrontRow}
-use Rattle.lard_history.specs.Own.{Letter}
 use Rattle.lard_history.proofs.Each.{Each}
-use Rattle.lard_law_view.specs.Agreement.{EndedAs}
 use Rattle.lard_law_view.proofs.Agreeing.{front-grown}
 use Rattle.lard_message.specs.declared.kind.Kind.TheVariants as kind
-use Rattle.lard_message.specs.declared.message.Body.{Body}
 use Rattle.lard_message.specs.declared.message.Body.TheVariants as body
-use Rattle.lard_message.specs.Message.{kind_of}
-use Rattle.lard_rules.specs.Node.{NodePart, message}
-use Rattle.lard_law_view.specs.Seat.{AtFront}
-use Rattle.lard_law_view.specs.Truth.{GoesOn, Stream}
+use Rattle.lard_rules.specs.Node.{message}
 use Rattle.lard_law_view.proofs.EndpointSends.{AllTo}
 
 -- ---- the client writes on

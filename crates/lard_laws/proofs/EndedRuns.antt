@@ -1,12 +1,10 @@
 -- Each rule keeps what is told of an end: it was so, in every run.
 use Rattle.std.proofs.Common.{◌≡◌, ◌≤◌, ◌^◌, ℕ, false, List, [], ◌∷◌, Some, Result, Ok, refl, sym, ap, ◌∙◌, subst}
 use Rattle.std.specs.List.{fold}
-use Rattle.lard_answers.specs.Answers.{FilesAt}
+use Rattle.lard_law_view.specs.Prelude.{Client, Conn, FilesAt, Final, Front, FrontRules, IsFrontEnv, IsMachine, IsNodeEnv, IsUntouchedLaw, MayRestOn, Move, Node, NodeEnv, NodeRules, Place, Said, Seen, SegFault, Setting, Station, Stream, ToCluster, TurnSaid as SaidIn, Untouched, UntouchedRules, Was, ask_of, brought_said, content_said, decoded, event_seen, file_at, front_asked, front_does, front_ended, front_gets, front_taken, front_timer, grown, letters_of, node_does, nothing_said, packet_seen, seen_step, setting, stands, tale_at, tale_step}
 use Rattle.lard_base.specs.declared.event.Event.TheVariants as event
-use Rattle.lard_base.specs.declared.place.Place.{Place}
-use Rattle.lard_base.specs.declared.place.Place.TheVariants.{Client, Front, Node}
 use Rattle.lard_laws.proofs.AcksRuns.{front-heads, front-station, node-heads, node-station}
-use Rattle.lard_law_connections.specs.BytesAgreement.{FrontTells, IsFair, IsFairOn, IsOpen, IsTruthful}
+use Rattle.lard_law_connections.specs.BytesAgreement.{IsFair, IsFairOn, IsOpen, IsTruthful}
 use Rattle.lard_law_connections.proofs.BytesClientMoves.{has-fair, open-at}
 use Rattle.lard_law_connections.proofs.BytesRuns.{states-truthful}
 use Rattle.lard_laws.specs.EndedEnds.{EndsAreTrue, IsTrueEnd, LetterEnds, TellsEnds, written_by}
@@ -21,33 +19,19 @@ use Rattle.lard_law_connections.proofs.PlacesFrontRules.{has-each}
 use Rattle.lard_law_connections.proofs.PlacesLaw.{owing}
 use Rattle.lard_law_connections.proofs.PlacesRuns.{each-placed}
 use Rattle.lard_law_connections.proofs.PlacesTurns.{IsPlaced, Owes}
+use Rattle.lard_law_view.proofs.NodeHeads.{of-heads}
 use Rattle.lard_law_connections.specs.Stops.{ReadingStops}
 use Rattle.lard_law_connections.proofs.StopsRuns.{connections-stop}
-use Rattle.lard_law_view.specs.Carry.{IsUntouchedLaw, MayRestOn, Untouched, setting, tale_at}
-use Rattle.lard_law_view.specs.View.{Conn, FrontRules, IsFrontEnv, IsMachine, IsNodeEnv, Move, NodeRules, TurnSaid as SaidIn, Setting, SpellsMessage, UntouchedRules, Was, brought_said, content_said, event_seen, front_does, grown, letters_of, node_does, nothing_said, packet_seen, reads_first, stands}
 use Rattle.lard_law_view.proofs.Carried.{carried}
+use Rattle.lard_law_view.proofs.EachNode.{Aside, Answers, Queues, Brings, aside_said, aside_seen, each-node, node_goes}
 use Rattle.lard_law_view.proofs.Fine.{IsFine, fine}
 use Rattle.lard_law_view.proofs.Guarded.{untouched-both, untouched-law, untouched-weaker}
 use Rattle.lard_law_view.proofs.Rows.{tale_before}
-use Rattle.lard_endpoint.specs.declared.control.moving.Final.{Final}
-use Rattle.lard_files.specs.Files.{file_at}
 use Rattle.lard_rules.specs.Front as front
-use Rattle.lard_rules.specs.Front.{ask_of, front_asked, front_ended, front_gets, front_taken, front_timer}
-use Rattle.lard_history.specs.Journal.{tale_step}
-use Rattle.lard_history.specs.Own.{Seen, seen_step}
 use Rattle.lard_history.proofs.Each.{Each}
-use Rattle.lard_journal.specs.declared.rec.Rec.{Rec}
 use Rattle.lard_journal.specs.declared.rec.Rec.TheVariants as rec
-use Rattle.lard_message.specs.declared.message.Body.TheVariants as body
 use Rattle.lard_rules.specs.Node as node
-use Rattle.lard_rules.specs.Node.{node_acknowledged, node_content, node_forwarded, node_offered, node_read, node_tagged, node_timer}
-use Rattle.lard_rules.specs.Stay.{NodeEnv}
-use Rattle.lard_rules.specs.declared.places.Station.{Station}
 use Rattle.lard_segment.proofs.Again.{again}
-use Rattle.lard_segment.specs.declared.fault.SegFault.{SegFault}
-use Rattle.lard_segment.specs.declared.segment.Dir.TheVariants.{ToCluster}
-use Rattle.lard_segment.specs.Segment.{Said, decoded}
-use Rattle.lard_law_view.specs.Truth.{Stream}
 
 -- ---- what a place's move leaves alone
 
@@ -129,10 +113,6 @@ module _ (k : Setting) (small : k.stream ≤ 2 ^ 30) where
 
   -- ---- the nodes
 
-  node-rule : (x : Conn) (n : ℕ) (heads : List Seen) (d : node.NodeDeed) → told_by x heads ≡ (tale_at x).wrote → (Helps x (node_does x n heads d) → Ends k.files x (node_does x n heads d)) → Keeps k small x (node_does x n heads d)
-  node-rule x n heads d plain ends = place-rule x (node_does x n heads d) (ap (told_by x) (node-heads x n heads d) ∙ plain) (node-station x n heads d)
-      (λ help. notes-unwritten (node_does x n heads d).place x.c (node_does x n heads d).said.notes (node-machine x n heads d) help.own.notes) ends
-
   node-within : (c n epoch : ℕ) (env : NodeEnv) → IsNodeEnv k c n epoch env → env.serve.stream ≤ 2 ^ 30
   node-within c n epoch env is = subst (λ (m : ℕ). m ≤ 2 ^ 30) (sym is.stream) small
 
@@ -141,54 +121,24 @@ module _ (k : Setting) (small : k.stream ≤ 2 ^ 30) where
       → Keeps k small x (stands x place heads said)
   stands-rule x place heads said plain notes letters = place-rule x (stands x place heads said) plain refl (λ help. notes) (λ help t at h o stops told. record { front = told.front; letters = letters (IsTrueEnd k.files h.talk.w t.iss) })
 
-  node-hears : (x : Conn) (n epoch : ℕ) (env : NodeEnv) (segment bytes : List ℕ) → IsNodeEnv k x.c n epoch env → SpellsMessage x.c epoch (body.Forward segment) bytes → Was x Front (Node n) bytes
-      → Keeps k small x (node_does x n (packet_seen Front (Node n) bytes) (node_forwarded env (x.part.nodes n) (decoded segment x.c ToCluster)))
-  node-hears x n epoch env segment bytes is spells was =
-      let heads : List Seen = packet_seen Front (Node n) bytes in
-      node-rule x n heads (node_forwarded env (x.part.nodes n) (decoded segment x.c ToCluster)) refl (λ help.
-      by-files x (node_does x n heads (node_forwarded env (x.part.nodes n) (decoded segment x.c ToCluster))) env.serve.files is.files (λ t at h o stops told.
-      let f : FrontTells h.talk x.c x.part n epoch bytes (body.Forward segment) = (has-fair (IsFair h.talk x.c x.part) (record { from = Front; to = Node n; bytes = bytes }) x.letters was o.fair) _ spells in
-      let read : decoded segment x.c ToCluster ≡ Ok f.0 = ap (λ (b : List ℕ). decoded b x.c ToCluster) f.1 ∙ again x.c ToCluster f.0 f.2.sendable in
-      subst (λ (r : Result Said SegFault). PlaceEnds x (node_does x n heads (node_forwarded env (x.part.nodes n) r)) (IsTrueEnd env.serve.files h.talk.w t.iss)) (sym read)
-      (nodes_of.forwarded-ends env (node-within x.c n epoch env is) x help.sound help.placed t h.talk h.pend o n (stops.1 n) told heads f.0 f.2)))
+  asides : (x : Conn) (n : ℕ) (a : Aside) → Keeps k small x (stands x (Node n) (aside_seen n a) (aside_said k n x.c a))
+  asides x n (Answers from epoch r path file bytes) = stands-rule x (Node n) (packet_seen (Node from) (Node n) bytes) (content_said k n from x.c epoch r path) refl tt (λ P. (tt, tt))
+  asides x n (Queues from epoch r path file bytes) = stands-rule x (Node n) (packet_seen (Node from) (Node n) bytes) (record nothing_said { notes = rec.Queued n from x.c r path ∷ [] }) refl (tt, tt) (λ P. tt)
+  asides x n (Brings from epoch r path) = stands-rule x (Node n) [] (brought_said k n from x.c epoch r path) refl (tt, tt) (λ P. (tt, tt))
 
   nodes : NodeRules k (Keeps k small)
-  nodes = record {
-    offered = λ x n epoch env parts bytes is spells was.
-        let heads : List Seen = packet_seen Front (Node n) bytes in
-        node-rule x n heads (node_offered env (x.part.nodes n) parts) refl (λ help. by-files x (node_does x n heads (node_offered env (x.part.nodes n) parts)) env.serve.files is.files (λ t at h o stops told.
-        nodes_of.offered-ends env (node-within x.c n epoch env is) x help.sound help.placed t h.talk h.pend o n (stops.1 n) told heads help.number epoch is.epoch_is parts bytes spells was));
-    forwarded = node-hears;
-    tagged = λ x n epoch number tags env bytes is spells was.
-        let heads : List Seen = packet_seen Front (Node n) bytes in
-        node-rule x n heads (node_tagged env (x.part.nodes n) number tags) refl (λ help. by-files x (node_does x n heads (node_tagged env (x.part.nodes n) number tags)) env.serve.files is.files (λ t at h o stops told.
-        nodes_of.tagged-ends env (node-within x.c n epoch env is) x help.sound help.placed t h.talk h.pend o n (stops.1 n) told heads number tags));
-    content = λ x n from epoch r env file bytes is spells was.
-        let heads : List Seen = packet_seen (Node from) (Node n) bytes in
-        node-rule x n heads (node_content env (x.part.nodes n) from r) refl (λ help. by-files x (node_does x n heads (node_content env (x.part.nodes n) from r)) env.serve.files is.files (λ t at h o stops told.
-        nodes_of.content-ends env (node-within x.c n epoch env is) x help.sound help.placed t h.talk h.pend o n (stops.1 n) told heads from r));
-    acknowledged = λ x n epoch env bytes is spells was.
-        let heads : List Seen = packet_seen Front (Node n) bytes in
-        node-rule x n heads (node_acknowledged env (x.part.nodes n)) refl (λ help. by-files x (node_does x n heads (node_acknowledged env (x.part.nodes n))) env.serve.files is.files (λ t at h o stops told.
-        nodes_of.acknowledged-ends env (node-within x.c n epoch env is) x help.sound help.placed t h.talk h.pend o n (stops.1 n) told heads));
-    read = λ x n epoch r env path is.
-        let d : node.NodeDeed = node_read env (x.part.nodes n) r in
-        let v : Move = node_does x n [] d in
-        let first : Rec = rec.Read n n x.c r path in
-        place-rule x (reads_first first v) (ap (told_by x) (node-heads x n [] d)) (node-station x n [] d) (λ help. notes-unwritten (reads_first first v).place x.c (reads_first first v).said.notes (node-machine x n [] d) help.own.notes)
-        (λ help. by-files x (reads_first first v) env.serve.files is.files (λ t at h o stops told. read-first x first v (IsTrueEnd env.serve.files h.talk.w t.iss)
-        (nodes_of.read-ends env (node-within x.c n epoch env is) x help.sound help.placed t h.talk h.pend o n (stops.1 n) told [] r)));
-    fires = λ x s n env there is.
-        let heads : List Seen = event_seen (event.Timer (Node n) x.c) in
-        node-rule x n heads (node_timer env (x.part.nodes n)) refl (λ help. by-files x (node_does x n heads (node_timer env (x.part.nodes n))) env.serve.files is.files (λ t at h o stops told.
-        nodes_of.timer-ends env (node-within x.c n _ env is) x help.sound help.placed t h.talk h.pend o n (stops.1 n) told heads));
-    answers = λ x n from epoch r path file bytes there spells was. stands-rule x (Node n) (packet_seen (Node from) (Node n) bytes) (content_said k n from x.c epoch r path) refl tt (λ P. (tt, tt));
-    queues = λ x n from epoch r path file bytes there spells was. stands-rule x (Node n) (packet_seen (Node from) (Node n) bytes) (record nothing_said { notes = rec.Queued n from x.c r path ∷ [] }) refl (tt, tt) (λ P. tt);
-    brings = λ x n from epoch r path. stands-rule x (Node n) [] (brought_said k n from x.c epoch r path) refl (tt, tt) (λ P. (tt, tt));
-  } where
-    -- the record of a job that was read tells no end
-    read-first : (x : Conn) (r : Rec) (v : Move) (P : Final → Type 0) → PlaceEnds x v P → PlaceEnds x (reads_first r v) P
-    read-first x r v P p = record { front = p.front; letters = p.letters }
+  nodes = each-node k (Keeps k small) (record {
+    does = λ x n epoch env heads g is its comes.
+        let v : Move = node_goes x n env heads g in
+        let d : node.NodeDeed = node.node_rule env (x.part.nodes n) g in
+        place-rule x v (ap (told_by x) (node-heads x n heads d)
+        ∙ of-heads x n (λ (ss : List Seen). told_by x ss ≡ (tale_at x).wrote) (λ from bytes. refl) refl refl epoch heads g comes) (node-station x n heads d)
+        (λ help. notes-unwritten v.place x.c v.said.notes (node-machine x n heads d) help.own.notes)
+        (λ help. by-files x v env.serve.files is.files (λ t at h o stops told.
+        nodes_of.rule-ends env (node-within x.c n epoch env is) x help.sound help.placed t h.talk h.pend o n (stops.1 n) told help.number epoch is.epoch_is
+        heads g its comes));
+    aside = λ x n a may. asides x n a;
+  })
 
   -- ---- the law
 

@@ -1,23 +1,14 @@
 -- A move of the front end or of a node keeps what is told of an end, where what the place tells of one is so.
 use Rattle.std.proofs.Common.{◌≡◌, ℕ, List, [], ◌∷◌, Option, Some, None, refl, sym, ap, ◌∙◌, subst}
-use Rattle.lard_answers.specs.Answers.{FilesAt}
-use Rattle.lard_base.specs.declared.place.Place.{Place}
-use Rattle.lard_base.specs.declared.place.Place.TheVariants.{Client, Front, Node}
+use Rattle.lard_law_view.specs.Prelude.{Client, Conn, FilesAt, Final, Front, IsMachine, Move, Node, Place, Rec, Station, Stream, Tale, grown, letters_of, stream_of, tale_at, tale_step, told_on}
 use Rattle.lard_law_connections.proofs.BytesTold.{Bytes, move-bytes}
 use Rattle.lard_laws.specs.EndedEnds.{EndsAreTrue, IsTrueEnd, LetterEnds, RowEnds, StationEnds, TellsEnds, written_by}
 use Rattle.lard_laws.proofs.EndedGrowing.{letters-on}
 use Rattle.lard_law_connections.proofs.LimitsMoves.{Helps}
-use Rattle.lard_law_view.specs.Carry.{tale_at}
-use Rattle.lard_law_view.specs.View.{Conn, IsMachine, Move, grown, letters_of}
 use Rattle.lard_law_view.proofs.Rows.{tale_before}
 use Rattle.lard_law_view.proofs.Saying.{NotedAt}
-use Rattle.lard_endpoint.specs.declared.control.moving.Final.{Final}
-use Rattle.lard_history.specs.Journal.{Tale, tale_step, told_on}
 use Rattle.lard_history.proofs.Each.{Each, Each-append, Each-weaker}
-use Rattle.lard_journal.specs.declared.rec.Rec.{Rec}
 use Rattle.lard_journal.specs.declared.rec.Rec.TheVariants as rec
-use Rattle.lard_rules.specs.declared.places.Station.{Station}
-use Rattle.lard_law_view.specs.Truth.{Stream, stream_of}
 
 -- ---- what a place does writes nothing
 

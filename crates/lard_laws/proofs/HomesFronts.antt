@@ -1,27 +1,11 @@
 -- What the front end does leaves one home.
-use Rattle.std.proofs.Common.{◌≡◌, ℕ, true, false, List, [], Option, Some, None, Result, Ok, Err, refl, sym, subst, eqb-true}
-use Rattle.lard_base.specs.declared.ids.Epoch.{Epoch}
+use Rattle.std.proofs.Common.{◌≡◌, ℕ, true, false, List, [], Option, Some, None, refl, sym, subst, eqb-true}
+use Rattle.lard_law_view.specs.Prelude.{Conn, Ending, Epoch, FrontConn, FrontDeed, FrontEnv, FrontGets, FrontPart, FrontRest, FrontRow, NodePart, Said, Seen, front_does, front_fired, front_rest, front_rests, front_rule, grown, is_away, next_epoch, serving_settled, spoken}
 use Rattle.lard_laws.specs.Homes.{HasOneHome, KnowsOf, NoneKnows, RowHomes, StageHomes, WasAt}
-use Rattle.lard_law_view.specs.View.{Conn, front_does, grown}
-use Rattle.lard_dispatch.specs.declared.dispatch.Ask.{Ask}
-use Rattle.lard_endpoint.specs.declared.control.moving.Final.{Final}
-use Rattle.lard_rules.specs.declared.front.FrontRest.{FrontRest}
-use Rattle.lard_rules.specs.declared.front.FrontTurn.{FrontTurn}
-use Rattle.lard_rules.specs.Front.{FrontDeed, Drops, Says, Does, FrontEnv, FrontPart, front_fired, front_admitted, front_asked, front_ended, front_gets, front_taken, front_timer, front_rest, front_rests}
-use Rattle.lard_handoff_front.specs.declared.row.FrontConn.{FrontConn}
+use Rattle.lard_rules.specs.Front.{Drops, Says, Does}
 use Rattle.lard_handoff_front.specs.declared.row.FrontConn.TheVariants as stage
-use Rattle.lard_handoff_front.specs.declared.row.FrontRow.{FrontRow}
-use Rattle.lard_handoff_front.specs.Front.{next_epoch}
-use Rattle.lard_handoff_front.specs.Row.{is_away}
-use Rattle.lard_history.specs.Own.{Seen}
-use Rattle.lard_rules.specs.Node.{NodePart}
-use Rattle.lard_policy.specs.declared.first.FirstChoice.{FirstChoice}
-use Rattle.lard_rules.specs.declared.places.Ending.{Ending}
 use Rattle.lard_rules.specs.declared.places.Ending.TheVariants as ending
-use Rattle.lard_rules.specs.Serving.{serving_settled, spoken}
-use Rattle.lard_segment.specs.declared.fault.SegFault.{SegFault}
-use Rattle.lard_segment.specs.Segment.{Said}
-use Rattle.lard_rules.proofs.FrontCases.{KeptBySegment, IsInStage, of-stage, begun_row, begun_service, heard_service, waiting_service, segment-keeps, timer-keeps, taken-keeps, asked-keeps, ended-keeps, admitted-keeps}
+use Rattle.lard_rules.proofs.FrontCases.{IsAsGiven, IsInStage, KeptByFront, KeptBySegment, begun_row, begun_service, front-keeps, heard_service, of-stage, waiting_service}
 
 module _ (nodes : ℕ → NodePart) (p : FrontPart) where
   abbrev pub DeedHomes : FrontDeed → Type 0
@@ -69,33 +53,27 @@ module _ (nodes : ℕ → NodePart) (p : FrontPart) where
       words = λ row last at. tt;
     }
 
-    pub gets-home : (env : FrontEnv) (bytes : List ℕ) (r : Result Said SegFault) → DeedHomes (front_gets env p bytes r)
-    gets-home env bytes (Err fault) = tt
-    gets-home env bytes (Ok s) = segment-keeps env p bytes s (λ w o. Unit {0}) DeedHomes (by-segment env bytes s)
-
-    pub timer-home : (env : FrontEnv) → DeedHomes (front_timer env p)
-    timer-home env = timer-keeps env p DeedHomes (record {
+    by-rules : (env : FrontEnv) → KeptByFront env p (λ g. Unit {0}) (λ w o. Unit {0}) DeedHomes
+    by-rules env = record {
       drops = tt;
-      holds = λ row b at. held-rests row (at-stage row (stage.Held b) at) (front_rest p.rest) (front_fired env (front_rest p.rest) b).0;
-      stays = λ row b at. waiting-rests row (at-stage row (stage.Waiting b) at) (front_rest p.rest) (front_fired env (front_rest p.rest) b).0;
-      resends = λ row n e at. tt;
-    })
+      hears = λ bytes s m. by-segment env bytes s;
+      fires = λ m. record {
+        drops = tt;
+        holds = λ row b at. held-rests row (at-stage row (stage.Held b) at) (front_rest p.rest) (front_fired env (front_rest p.rest) b).0;
+        stays = λ row b at. waiting-rests row (at-stage row (stage.Waiting b) at) (front_rest p.rest) (front_fired env (front_rest p.rest) b).0;
+        resends = λ row n e at. tt;
+      };
+      takes = λ i epoch m row n e at same. let k = at-stage row (stage.Offering n e) at in (k.0, subst (λ (d : ℕ). KnowsOf d (nodes n).row) same k.1);
+      tags_again = λ n epoch ask m rest found there same some. tt;
+      assigns_next = λ n epoch ask m rest found there next. h;
+      ends_again = λ n epoch last m row found away again. tt;
+      ends = λ n epoch last m row found away. was-away epoch row.ended_by row.stage away (at-stage row row.stage (found, refl));
+      admits = λ choice row b path at target. goes-out row (at-stage row (stage.Waiting b) at) choice.node (next_epoch row) None;
+    }
 
-    -- ---- messages of nodes
-
-    pub taken-home : (epoch : ℕ) → DeedHomes (front_taken p epoch)
-    taken-home epoch = taken-keeps p DeedHomes tt epoch (λ row n e at same. let k = at-stage row (stage.Offering n e) at in (k.0, subst (λ (d : ℕ). KnowsOf d (nodes n).row) same k.1))
-
-    pub asked-home : (env : FrontEnv) (n epoch : ℕ) (ask : Ask) → DeedHomes (front_asked env p n epoch ask)
-    asked-home env n epoch ask = asked-keeps p DeedHomes tt env n epoch ask (λ rest found there same some. tt) (λ rest found there next. h)
-
-    pub ended-home : (env : FrontEnv) (n epoch : ℕ) (last : Final) → DeedHomes (front_ended env p n epoch last)
-    ended-home env n epoch last = ended-keeps p DeedHomes tt env n epoch last (λ row found away again. tt) (λ row found away. was-away epoch row.ended_by row.stage away (at-stage row row.stage (found, refl)))
-
-    -- ---- the head of the line
-
-    pub admitted-home : (env : FrontEnv) (choice : FirstChoice) (given : FrontPart × FrontTurn) → front_admitted env p choice ≡ Some given → RowHomes nodes given.0.row
-    admitted-home env choice = admitted-keeps env p choice (λ given. RowHomes nodes given.0.row) (λ row b path at target. goes-out row (at-stage row (stage.Waiting b) at) choice.node (next_epoch row) None)
+    -- whatever comes
+    pub front-home : (env : FrontEnv) (g : FrontGets) → IsAsGiven env p g → DeedHomes (front_rule env p g)
+    front-home env g is = front-keeps env p (λ g. Unit {0}) (λ w o. Unit {0}) DeedHomes (by-rules env) g is tt
 
 -- ---- its move
 

@@ -1,23 +1,21 @@
 -- What a node does leaves one home.
-use Rattle.std.proofs.Common.{◌≡◌, ◌≢◌, ℕ, Option, Some, None, refl, sym, ◌∙◌, subst}
-use Rattle.lard_answers.specs.Answers.{FilesAt}
+use Rattle.std.proofs.Common.{◌≡◌, ◌≢◌, ◌⊎◌, ℕ, List, [], Option, Some, None, true, ⊎_elim, refl, sym, ◌∙◌, subst}
+use Rattle.lard_law_view.specs.Prelude.{BackRow, Conn, ControlBlock, Ending, EndpointParts, Epoch, Front, FrontConn, FrontRow, Node, NodeDeed, NodeEnv, NodeGets, NodePart, Seen, Stay, Turn, Work, after_timer, came_for, come_progress, goes_on, gone, grown, kept_after, node_begins, node_does, node_fired, node_put_back, node_rests, node_rule, node_saying, offer_answer, on_segment, read_progress, reads_batch, serving, serving_ready_of, serving_settled, spoken, state_of, tagged, taken_sent, timed, with_work, without, work_of}
+use Rattle.lard_base.specs.declared.place.TimerKind.TheVariants as kind
 use Rattle.lard_laws.specs.Homes.{HasOneHome, KnowsOf, RowHomes, StageHomes, WasAt}
-use Rattle.lard_law_connections.proofs.KeptHere.{IsHere, here-is}
-use Rattle.lard_law_connections.proofs.KeptNodes.{DeedGoes, IsOfEpoch}
-use Rattle.lard_handoff_back.specs.declared.row.BackConn.TheVariants as back
-use Rattle.lard_law_connections.specs.Places.{IsOffered, Offers}
-use Rattle.lard_law_view.specs.View.{Conn, grown, node_does, node_put_back}
+use Rattle.lard_law_connections.proofs.KeptNodes.{IsOfEpoch}
+use Rattle.lard_law_connections.specs.Places.{IsDecided, IsOffered, Offers}
+use Rattle.lard_law_connections.proofs.PlacesFrontMessages.{came-says}
+use Rattle.lard_law_connections.proofs.PlacesNodeRules.{not-decided}
+use Rattle.lard_law_connections.proofs.PlacesTurns.{IsPlaced}
+use Rattle.lard_law_view.proofs.EachNode.{HasCome, NodeComes}
 use Rattle.lard_law_view.proofs.Parts.{put-each}
-use Rattle.lard_base.specs.declared.ids.Epoch.{Epoch}
-use Rattle.lard_endpoint.specs.Control.{ControlBlock}
-use Rattle.lard_handoff_back.specs.declared.row.BackRow.{BackRow}
-use Rattle.lard_handoff_front.specs.declared.row.FrontConn.{FrontConn}
+use Rattle.lard_handoff_back.specs.declared.table.Adopt.TheVariants.{New}
 use Rattle.lard_handoff_front.specs.declared.row.FrontConn.TheVariants as stage
-use Rattle.lard_handoff_front.specs.declared.row.FrontRow.{FrontRow}
-use Rattle.lard_history.specs.Own.{Seen}
-use Rattle.std.proofs.Common.{List}
-use Rattle.lard_rules.specs.declared.stay.Stay.{Stay}
-use Rattle.lard_rules.specs.Node.{NodeDeed, Drops, Says, Does, NodePart, gone, here}
+use Rattle.lard_message.specs.declared.message.Body.TheVariants as body
+use Rattle.lard_rules.proofs.NodeCases.{IsHereWith, IsInItsEpoch, KeptByNode, node-keeps}
+use Rattle.lard_rules.specs.Node.{Drops, Says, Does}
+use Rattle.lard_rules.specs.declared.places.Ending.TheVariants as ending
 
 -- ---- a row goes on
 
@@ -35,19 +33,16 @@ knows-of : (d e : ℕ) (q : Option BackRow) → IsOfEpoch d q → d ≡ e → Kn
 knows-of d e None of same = tt
 knows-of d e (Some row) of same = of ∙ same
 
--- a rule of a stay
-pub stay-goes : (files : FilesAt) (d : ℕ) (p : NodePart) (deed : NodeDeed) → DeedGoes files d (here d p) deed → DeedGoesOn p.row deed
-stay-goes files d p Drops k = tt
-stay-goes files d p (Says ms) k = tt
-stay-goes files d p (Does given) k = go (here d p) refl k where
-  go : (o : Option (ControlBlock × Stay)) → here d p ≡ o → DeedGoes files d o (Does given) → RowGoes p.row given.0.row
-  go None is l = absurd l
-  go (Some y) is l =
-      let was : IsHere d p y.0 y.1 = here-is d p y.0 y.1 is in
-      record {
-        none = λ none. let no : None ≡ Some (record { stage = back.Here y.0; epoch = record { 0 = d } }) = sym none ∙ was.row in absurd cc;
-        knows = λ e h. knows-of d e given.0.row l.1 (subst (KnowsOf e) was.row h);
-      }
+-- what stays, and what ends, is of the epoch of its rule
+epoch-is : (env : NodeEnv) (p : NodePart) (w : Work) (e : Ending) → IsOfEpoch env.epoch (kept_after env p w e).row
+epoch-is env p w (ending.Here b count) = refl
+epoch-is env p w (ending.Over last) = refl
+
+row-stays : (d : ℕ) (p : NodePart) (b : ControlBlock) (s : Stay) (q : Option BackRow) → IsHereWith d p b s → IsOfEpoch d q → RowGoes p.row q
+row-stays d p b s q at of = record {
+  none = λ none. let no : None ≡ Some at.row = sym none ∙ at.found in absurd cc;
+  knows = λ e h. knows-of d e q of (let same : at.row.epoch.0 ≡ e = subst (KnowsOf e) at.found h in sym at.epoch_is ∙ same);
+}
 
 -- an end that is acknowledged
 pub gone-goes : (o : Option BackRow) → RowGoes o (gone o)
@@ -100,3 +95,42 @@ pub node-move : (x : Conn) (n : ℕ) (heads : List Seen) (d : NodeDeed) → Deed
 node-move x n heads Drops k h = h
 node-move x n heads (Says ms) k h = h
 node-move x n heads (Does given) k h = row-goes x.part.nodes n given.0 k x.part.front.row h
+
+-- ---- the rules
+
+module _ (x : Conn) (n epoch : ℕ) (env : NodeEnv) (heads : List Seen) (placed : IsPlaced x) (now : env.epoch ≡ epoch) (h : HasOneHome x) where
+  abbrev p : NodePart
+  p = x.part.nodes n
+
+  abbrev After : NodeDeed → Type 0
+  After d = HasOneHome (grown x (node_does x n heads d))
+
+  goes : (b : ControlBlock) (s : Stay) → IsHereWith env.epoch p b s → (q : NodePart) (w : Work) → After (with_work env q [] w)
+  goes b s at q w = node-move x n heads (with_work env q [] w) (row-stays env.epoch p b s _ at (epoch-is env q w (serving_settled env.serve w.service).0)) h
+
+  begins : (parts : EndpointParts) (w : Work) → HasCome x Front n epoch (body.Offer parts) heads → offer_answer env.epoch p.row ≡ New
+      → After (with_work env p (taken_sent env) w)
+  begins parts w come new =
+      let said : IsDecided epoch p.row ⊎ IsOffered n epoch x.part.front.row = came-says x Front (Node n) epoch (body.Offer parts) come.bytes placed.letters come.was come.spells in
+      let offers : IsOffered n epoch x.part.front.row = ⊎_elim (λ (d : IsDecided epoch p.row). absurd (not-decided epoch p.row (subst (λ (i : ℕ). offer_answer i p.row ≡ New) now new) d)) (λ (o : IsOffered n epoch x.part.front.row). o) said in
+      offered-home x.part.nodes n (node_rests env p (taken_sent env) w).0 env.epoch x.part.front.row (subst (λ (i : ℕ). IsOffered n i x.part.front.row) (sym now) offers) (epoch-is env p w (serving_settled env.serve w.service).0) h
+
+  rules_home : KeptByNode env p (NodeComes x n epoch heads) After
+  rules_home = record {
+    drops = h;
+    hears = λ said b s m at. goes b s at p (goes_on env (work_of (on_segment b said).1 s));
+    tags = λ number nodes b s m at asked same count. goes b s at (record p { kept = without kind.Ask 0 p.kept }) (goes_on env (tagged env nodes (work_of b s)));
+    comes = λ from r b s m at wanted.
+        goes b s at (record p { fetches = without kind.Fetch r p.fetches }) (goes_on env (came_for (come_progress from) r (work_of b s)));
+    reads = λ r path b s m at. goes b s at p (goes_on env (came_for read_progress r (work_of b s)));
+    begins = λ parts m new. begins parts (goes_on env (state_of (reads_batch env true (node_begins env parts)))) m new;
+    takes_again = λ parts m again. h;
+    fires = λ b s m at.
+        let given : Ending × Turn = spoken env.serve (serving (after_timer b) s.served []) (serving_ready_of env.serve (after_timer b) (timed b)) in
+        node-move x n heads (Does (node_fired env p (b, s) given)) (row-stays env.epoch p b s _ at (epoch-is env p (work_of (after_timer b) s) given.0)) h;
+    resends = λ m none. h;
+    ends = λ m told. node-move x n heads (Does (record p { row = gone p.row; kept = without kind.Ended 0 p.kept }, node_saying [])) (gone-goes p.row) h;
+  }
+
+  pub rule-home : (g : NodeGets) → IsInItsEpoch env p g → NodeComes x n epoch heads g → After (node_rule env p g)
+  rule-home g at comes = node-keeps env p (NodeComes x n epoch heads) After rules_home g at comes

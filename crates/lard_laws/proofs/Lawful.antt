@@ -1,7 +1,7 @@
 -- Each law is proved in a crate of its own.
 use Rattle.std.specs.Prelude.{◌≤◌}
 use Rattle.lard_base.proofs.Usable.{usable}
-use Rattle.lard_base.specs.declared.limits.TheConstants.{MAX_STREAM_BYTES}
+use Rattle.lard_law_view.specs.Prelude.{MAX_STREAM_BYTES}
 use Rattle.lard_laws.proofs.AsksAsking.{asks-go-on}
 use Rattle.lard_laws.proofs.AsksRuns.{asks-answered, batches-end}
 use Rattle.lard_laws.proofs.BackingQueuing.{jobs-are-asked}

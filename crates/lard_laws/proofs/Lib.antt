@@ -1,3 +1,5 @@
+pub mod NodeHere
+pub mod NodeStays
 pub mod AsksPicking
 pub mod AsksMoving
 pub mod AsksFronts
@@ -61,6 +63,7 @@ pub mod WaysTurning
 pub mod WaysMoving
 pub mod WaysHomes
 pub mod WaysNodes
+pub mod WaysOffering
 pub mod WaysOffered
 pub mod WaysNodeRules
 pub mod WaysLooking
@@ -99,7 +102,6 @@ pub mod BackingHeld
 pub mod BackingHitting
 pub mod BackingWalking
 pub mod BackingElsewhere
-pub mod BackingComings
 pub mod BackingHits
 pub mod BackingQueuing
 pub mod BackingMatching
@@ -147,6 +149,7 @@ pub mod EndedGrowing
 pub mod EndedNodes
 pub mod EndedRuns
 pub mod EndedTurns
+pub mod NodeDeeds
 pub mod WindowsClientRules
 pub mod WindowsClients
 pub mod WindowsEarly

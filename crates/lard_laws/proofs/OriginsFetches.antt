@@ -3,13 +3,8 @@
 use Rattle.std.proofs.Common.{◌≡◌, ◌≢◌, ℕ, ◌≤◌, nat_eq, true, false, List, [], ◌∷◌, length, Option, Some, None, IfSome, Ok, sym, subst, arith}
 use Rattle.std.proofs.lemmas.Bool.{cond_both}
 use Rattle.std.specs.List.{find}
-use Rattle.lard_answers.specs.Answers.{FilesAt}
-use Rattle.lard_base.specs.Config.{config_check}
-use Rattle.lard_base.specs.declared.config.Config.{Config}
-use Rattle.lard_base.specs.declared.place.Place.TheVariants.{Node}
+use Rattle.lard_law_view.specs.Prelude.{Config, ControlBlock, FilesAt, Has, IsMessage, IsNode, IsReached, Job, Letter, MAX_FILE_BYTES, Machine, Message, Node, NodeState, Packet, SpellsMessage, Stay, Was, config_check, conn, conn_of, content_bytes, file_at, is_from, is_under, letter_of, letters, letters_in, node_at, one_of, tale_at}
 use Rattle.lard_base.specs.declared.place.TimerKind.TheVariants as kind
-use Rattle.lard_rules.specs.declared.machine.Machine.{Machine}
-use Rattle.lard_rules.specs.Machine.{IsReached, node_at}
 use Rattle.lard_laws.proofs.HomesRuns.{connections-have-one-home}
 use Rattle.lard_laws.specs.Origins.{Knows}
 use Rattle.lard_laws.proofs.OriginsJobs.{jobs-from-home, one-knows}
@@ -20,27 +15,11 @@ use Rattle.lard_laws.proofs.RecordsNamed.{AreNamed, IsNamed}
 use Rattle.lard_laws.proofs.RecordsWorks.{JobFits}
 use Rattle.lard_laws.proofs.TagsAgree.{IsStaying, goal-there}
 use Rattle.lard_laws.proofs.TagsGoing.{each-goes}
-use Rattle.lard_law_view.specs.Carry.{tale_at}
-use Rattle.lard_law_view.specs.View.{SpellsMessage, Was, conn}
-use Rattle.lard_disk.specs.declared.disk.Job.{Job}
-use Rattle.lard_dispatch.specs.Sound.{IsNode}
-use Rattle.lard_endpoint.specs.Control.{ControlBlock}
-use Rattle.lard_files.specs.Files.{file_at}
 use Rattle.lard_handoff_back.specs.declared.row.BackConn.TheVariants as back
-use Rattle.lard_history.specs.Own.{Has, Letter, conn_of, letter_of, letters, letters_in, one_of}
 use Rattle.lard_history.proofs.Each.{Each, Each-append}
-use Rattle.lard_base.specs.declared.limits.TheConstants.{MAX_FILE_BYTES}
 use Rattle.lard_law_view.proofs.ByteLists.{AreBytes}
 use Rattle.lard_law_view.proofs.ContentRange.{IsContent}
 use Rattle.lard_message.specs.declared.message.Body.TheVariants as body
-use Rattle.lard_message.specs.declared.message.Message.{Message}
-use Rattle.lard_message.specs.Message.{IsMessage}
-use Rattle.lard_net.specs.Net.{Packet}
-use Rattle.lard_rules.specs.declared.node.NodeState.{NodeState}
-use Rattle.lard_rules.specs.declared.stay.Stay.{Stay}
-use Rattle.lard_rules.specs.NodePlace.{content_bytes}
-use Rattle.lard_lateral.specs.Lateral.{is_from}
-use Rattle.lard_resend.specs.Kept.{is_under}
 
 -- ---- packets have bytes
 

@@ -2,7 +2,7 @@
 use Rattle.std.proofs.Common.{◌≡◌, ℕ, zero, suc, ◌+◌, ◌-◌, ◌==◌, Bool, true, false, cond, nat_eq, List, [], ◌∷◌, map, Option, Some, None, refl, sym, ap, ◌∙◌, subst, arith, inl, inr, ⊎_elim, eqb-true, eq-eqb}
 use Rattle.std.proofs.lemmas.Bool.Decides.{nat_tests}
 use Rattle.std.specs.Prelude.{slice_get}
-use Rattle.lard_base.specs.declared.ids.Epoch.{Epoch}
+use Rattle.lard_law_view.specs.Prelude.{BackRow, Conn, Epoch, FrontConn, FrontRow, Has, Job, Rec, Row, conn, net_of, net_step, own, plain, seen_of, seen_on, whose}
 use Rattle.lard_laws.proofs.BackingFinding.{Stands, has-stands, job-queued}
 use Rattle.lard_laws.specs.Homes.{HasOneHome, NoneKnows, NoOtherKnows, RowHomes, StageHomes, WasAt}
 use Rattle.lard_laws.specs.OriginsLaws.{JobsComeFromHome}
@@ -12,15 +12,8 @@ use Rattle.lard_law_connections.proofs.PlacesFrontRules.{has-each}
 use Rattle.lard_law_connections.specs.StoresLaws.{job_told}
 use Rattle.lard_counts.specs.Stores.{Waiting, jobs, waiting_at}
 use Rattle.lard_law_connections.proofs.StoresStored.{jobs-told}
-use Rattle.lard_law_view.specs.View.{Conn, conn}
-use Rattle.lard_disk.specs.declared.disk.Job.{Job}
-use Rattle.lard_handoff_back.specs.declared.row.BackRow.{BackRow}
-use Rattle.lard_handoff_front.specs.declared.row.FrontConn.{FrontConn}
 use Rattle.lard_handoff_front.specs.declared.row.FrontConn.TheVariants as stage
-use Rattle.lard_handoff_front.specs.declared.row.FrontRow.{FrontRow}
-use Rattle.lard_history.specs.Own.{Has, Row, net_of, net_step, own, plain, seen_of, seen_on, whose}
 use Rattle.lard_history.proofs.Seeing.{has-before, has-behind, own-append, seen-mine}
-use Rattle.lard_journal.specs.declared.rec.Rec.{Rec}
 use Rattle.lard_journal.specs.declared.rec.Rec.TheVariants as rec
 
 -- ---- jobs

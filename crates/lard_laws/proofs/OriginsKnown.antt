@@ -1,29 +1,20 @@
 -- A move leaves it so that only nodes that know of a connection ask for its contents.
 use Rattle.std.proofs.Common.{◌≡◌, ℕ, List, [], ◌∷◌, ◌++◌, map, is_some, Option, Some, None, refl, sym, ◌∙◌, subst}
 use Rattle.std.proofs.lemmas.Bool.{cond_both}
-use Rattle.lard_base.specs.declared.place.Place.{Place}
-use Rattle.lard_base.specs.declared.place.Place.TheVariants.{Client, Front, Node}
-use Rattle.lard_law_connections.proofs.KeptNodes.{IsOfEpoch}
+use Rattle.lard_law_view.specs.Prelude.{AreSent, BackRow, Body, Came, Client, Conn, Front, Kept, Move, Node, Part, Place, Rec, Row, Seen, grown, kind_of, letter, letters_of, named_records, rows_of, seen_in, sent_of, spelled_message, whose}
 use Rattle.lard_laws.specs.Origins.{AreKnown, BodyKnown, KnownBy, Knows, LetterKnown, SeenKnown}
 use Rattle.lard_laws.proofs.OriginsNotes.{IsOwn}
 use Rattle.lard_law_connections.proofs.PlacesFrontRules.{has-each}
 use Rattle.lard_law_connections.proofs.PlacesGrowing.{BackGrows, Grows}
 use Rattle.lard_law_connections.proofs.PlacesHeads.{kinds-same}
-use Rattle.lard_law_view.specs.View.{AreSent, Conn, Move, Part, grown, letter, letters_of, named_records, rows_of, seen_in, sending, timer_rows}
 use Rattle.lard_law_view.proofs.Fine.{IsItsOwn}
-use Rattle.lard_law_view.proofs.Saying.{GaveAt, NotedAt}
-use Rattle.lard_law_view.proofs.Timers.{IsTimerAt, timer_rows-are}
-use Rattle.lard_handoff_back.specs.declared.row.BackRow.{BackRow}
-use Rattle.lard_history.specs.Own.{Came, Row, Seen, whose}
+use Rattle.lard_law_view.proofs.Saying.{NotedAt}
 use Rattle.lard_history.proofs.Each.{Each, Each-append, Each-weaker}
-use Rattle.lard_journal.specs.declared.rec.Rec.{Rec}
 use Rattle.lard_journal.specs.declared.rec.Rec.TheVariants as rec
 use Rattle.lard_message.specs.declared.kind.Kind.TheVariants as kind
-use Rattle.lard_message.specs.declared.message.Body.{Body}
 use Rattle.lard_message.specs.declared.message.Body.TheVariants as body
-use Rattle.lard_message.specs.Message.{kind_of, spelled_message}
-use Rattle.lard_resend.specs.declared.kept.Kept.{Kept}
-use Rattle.lard_resend.specs.Pending.{sent_of}
+use Rattle.lard_law_view.proofs.OfKinds.{rest_of, rest-outer, rows-are}
+use Rattle.lard_law_view.proofs.RecordKinds.{IsOuter}
 
 -- ---- what is known stays known
 
@@ -86,19 +77,9 @@ module _ (p : Part) where
   else-note (Node n) c r e h = absurd e
   else-note place c _ e h = tt
 
-  gave-note : (place : Place) (c : ℕ) (r : Rec) → GaveAt place c r → NoteKnown r
-  gave-note Front c (rec.Queued n m d r path) h = absurd h
-  gave-note (Node k) c (rec.Queued n m d r path) h = absurd h
-  gave-note (Client k) c (rec.Queued n m d r path) h = absurd h
-  gave-note place c _ h = tt
-
-  timer-note : (place : Place) (c : ℕ) (r : Rec) → IsTimerAt place c r → NoteKnown r
-  timer-note place c (rec.Queued n m d r path) h = absurd h
-  timer-note place c _ h = tt
-
-  sent-notes : (place : Place) (ss : List (Place × List ℕ)) → Each NoteKnown (map (sending place) ss)
-  sent-notes place [] = tt
-  sent-notes place (s ∷ ss) = (tt, sent-notes place ss)
+  outer-note : (r : Rec) → IsOuter r → NoteKnown r
+  outer-note (rec.Queued n m d r path) h = absurd h
+  outer-note _ h = tt
 
   rows-seen : (rs : List Rec) → Each NoteKnown rs → Each (SeenKnown p) (map Row rs)
   rows-seen [] h = tt
@@ -131,22 +112,9 @@ moved x v g own new h =
       seen = Each-append (SeenKnown p) x.seen (seen_in x v) (Each-weaker (SeenKnown x.part) (SeenKnown p) (λ s k. seen-grows x.part p s g k) x.seen h.seen)
           (Each-append (SeenKnown p) v.heads (map Row (rows_of x v)) new.heads (rows-seen p (rows_of x v) rows));
     } where
-      sends : List (Place × List ℕ) → List Rec
-      sends ss = map (sending v.place) ss
-
-      timers : List Rec
-      timers = timer_rows v.place x.c x.part v.part
-
       rows : Each (NoteKnown v.part) (rows_of x v)
-      rows =
-          let N : Rec → Type 0 = NoteKnown v.part in
-          let gave : Each N v.said.gave = Each-weaker (GaveAt v.place x.c) N (gave-note v.part v.place x.c) v.said.gave own.gave in
-          let timed : Each N timers = Each-weaker (IsTimerAt v.place x.c) N (timer-note v.part v.place x.c) timers (timer_rows-are v.place x.c x.part v.part) in
-          Each-append N (v.said.notes ++ sends v.said.segments ++ v.said.gave ++ sends v.said.messages) timers
-          (Each-append N (v.said.notes ++ sends v.said.segments ++ v.said.gave) (sends v.said.messages)
-          (Each-append N (v.said.notes ++ sends v.said.segments) v.said.gave (Each-append N v.said.notes (sends v.said.segments) new.notes (sent-notes v.part v.place v.said.segments)) gave)
-          (sent-notes v.part v.place v.said.messages))
-          timed
+      rows = subst (Each (NoteKnown v.part)) (sym (rows-are x v))
+          (Each-append (NoteKnown v.part) v.said.notes (rest_of x v) new.notes (rest-outer x v (NoteKnown v.part) (outer-note v.part) own))
 
 -- another place than a node
 pub else-new : (x : Conn) (v : Move) → IsItsOwn x v → IsElse v.part v.place → Each (SeenKnown v.part) v.heads → News x v
@@ -174,8 +142,3 @@ content-known p n (Node k) c epoch r bytes = λ msg d. other-body (p.nodes n).ro
 pub sent-known : (x : Conn) → AreKnown x → (n : ℕ) (ks : List Kept) → AreSent x (Node n) ks → Each (LetterKnown x.part) (map (letter (Node n)) (map sent_of ks))
 sent-known x h n [] sent = tt
 sent-known x h n (k ∷ ks) sent = (has-each (LetterKnown x.part) (record { from = Node n; to = k.to; bytes = k.bytes }) x.letters sent.0.1 h.letters, sent-known x h n ks sent.1)
-
--- its row is there
-pub knows-of : (e : ℕ) (o : Option BackRow) → IsOfEpoch e o → Knows o
-knows-of e None h = h
-knows-of e (Some row) h = tt

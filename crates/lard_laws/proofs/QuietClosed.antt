@@ -4,11 +4,9 @@ use Rattle.std.proofs.lemmas.Bool.{both_ways}
 use Rattle.std.proofs.lemmas.List.{length-append, length-map}
 use Rattle.std.proofs.Math.Seq.{take-length}
 use Rattle.std.specs.List.{concat}
-use Rattle.lard_answers.specs.Answers.{FilesAt, IsPrefix, answer, answer_bytes, answers, verdicts}
+use Rattle.lard_law_view.specs.Prelude.{Conn, FilesAt, Final, FrontRow, IsPrefix, Reason, Station, Stream, Talk, Verdict, answer, answer_bytes, answers, is_established, one_if, verdicts}
 use Rattle.lard_answers.proofs.Growing.{answers-are}
-use Rattle.lard_base.specs.declared.place.Reason.{Reason}
 use Rattle.lard_base.specs.declared.place.Reason.TheVariants as reason
-use Rattle.lard_client.specs.Control.{is_established}
 use Rattle.lard_laws.specs.Acks.{AcksWhatWasTaken, EndActs, FrontActs, FrontStageActs, OpenActs, StationActs, bounds_of, story_at}
 use Rattle.lard_laws.proofs.AcksStory.{reset-told}
 use Rattle.lard_law_connections.specs.BytesAgreement.{EndedWithNumbers, IsOpen, IsTruthful, SeatAgrees, StageAgrees}
@@ -16,21 +14,13 @@ use Rattle.lard_law_connections.proofs.BytesClientMoves.{open-at}
 use Rattle.lard_laws.specs.EndedEnds.{EndsAreTrue, IsTrueEnd, RowEnds, StageEnds, StationEnds, TellsEnds, WasClosed, written_by}
 use Rattle.lard_laws.proofs.EndedClients.{written-is}
 use Rattle.lard_laws.proofs.QuietComplete.{IsDone}
-use Rattle.lard_law_view.specs.View.{Conn}
-use Rattle.lard_endpoint.specs.declared.control.moving.Final.{Final}
 use Rattle.lard_handoff_front.specs.declared.row.FrontConn.TheVariants as stage
-use Rattle.lard_handoff_front.specs.declared.row.FrontRow.{FrontRow}
-use Rattle.lard_law_view.specs.Truthful.{Talk}
 use Rattle.lard_law_view.proofs.Answered.{all-answered}
 use Rattle.lard_law_view.proofs.Prefix.{said-front}
 use Rattle.lard_law_view.proofs.Acked.{Acks, taken_by}
 use Rattle.lard_law_view.proofs.Complete.{both-closed, closed-taken}
-use Rattle.lard_request.specs.declared.verdict.Verdict.{Verdict}
 use Rattle.lard_rules.proofs.Serving.{answer-some}
 use Rattle.lard_rules.specs.declared.places.Ending.TheVariants as ending
-use Rattle.lard_rules.specs.declared.places.Station.{Station}
-use Rattle.lard_seq.specs.Seq.{one_if}
-use Rattle.lard_law_view.specs.Truth.{Stream}
 
 -- the front of a list that is as long is the whole
 whole-front : (xs ys rest : List ℕ) → ys ≡ xs ++ rest → length ys ≤ length xs → ys ≡ xs

@@ -1,9 +1,7 @@
 -- A connection that a place has, and both of whose ends rest, is complete.
 use Rattle.std.proofs.Common.{◌≡◌, ◌&&◌, not, ℕ, Bool, true, false, List, [], length, map, Some, ⊎_elim, refl, sym, ap, ◌∙◌, subst, None}
 use Rattle.std.proofs.lemmas.Bool.{both_ways}
-use Rattle.lard_answers.specs.Answers.{FilesAt, answer_bytes, answers, closes_any, verdicts}
-use Rattle.lard_base.specs.declared.config.Config.{Config}
-use Rattle.lard_rules.specs.declared.machine.Machine.{Machine}
+use Rattle.lard_law_view.specs.Prelude.{Agrees, AtFront, BackConn, Config, Conn, ControlBlock, FilesAt, HasStopped, IsComplete, Machine, Nowhere, Rec, Seat, Station, Stream, Tale, Talk, Verdict, answer_bytes, answers, closes_any, conn, file_at, front_rest, has_aborted, is_clear, is_touched, may_freeze, seat_armed, tale_at, verdicts, was_reset}
 use Rattle.lard_laws.specs.Acks.{AcksWhatWasTaken, BackActs, BackStageActs, EndActs, FrontActs, FrontStageActs, OpenActs, StationActs, bounds_of, story_at}
 use Rattle.lard_laws.proofs.AcksRuns.{connections-ack}
 use Rattle.lard_laws.proofs.AcksStory.{reset-told}
@@ -17,33 +15,16 @@ use Rattle.lard_law_connections.proofs.PlacesTurns.{IsPlaced}
 use Rattle.lard_laws.specs.QuietRests.{ClientRests, HeldRests, RestingIsComplete, RestsSomewhere, StayRests}
 use Rattle.lard_law_connections.specs.Stops.{BackStageStops, FrontStageStops, FrontStops, HeldStops, FirstIsAwaited, IsHeldBack, ReadingStops, RowStops, StayStops}
 use Rattle.lard_law_connections.proofs.StopsRuns.{connections-stop}
-use Rattle.lard_law_view.specs.Carry.{tale_at}
-use Rattle.lard_law_view.specs.View.{Conn, conn}
-use Rattle.lard_endpoint.specs.Control.{ControlBlock}
-use Rattle.lard_endpoint.specs.Moving.{may_freeze}
-use Rattle.lard_files.specs.Files.{file_at}
-use Rattle.lard_rules.specs.Front.{front_rest}
-use Rattle.lard_handoff_back.specs.declared.row.BackConn.{BackConn}
 use Rattle.lard_handoff_back.specs.declared.row.BackConn.TheVariants as back
 use Rattle.lard_handoff_front.specs.declared.row.FrontConn.TheVariants as stage
-use Rattle.lard_history.specs.Journal.{Tale, is_touched, was_reset}
 use Rattle.lard_history.proofs.Lifting.{tale-own}
 use Rattle.lard_history.proofs.Tales.{accepted-tale, served-tale, touched-tale, wrote-tale}
-use Rattle.lard_journal.specs.declared.rec.Rec.{Rec}
-use Rattle.lard_law_view.specs.Agreement.{Agrees, HasStopped}
 use Rattle.lard_law_view.specs.Agreement as one
-use Rattle.lard_law_view.specs.Truthful.{Talk}
-use Rattle.lard_law_view.specs.Quiet.{IsComplete, has_aborted}
 use Rattle.lard_law_view.proofs.Acked.{ClientHolds, FrontHolds, heard_of, taken_by}
 use Rattle.lard_law_view.proofs.Complete.{accepted-all, closes-ended, served-all, shut-ended}
 use Rattle.lard_law_view.proofs.Holding.{ConnHolds}
 use Rattle.lard_law_view.proofs.Story.{Story, aborted-story, ended-story, reset-story, shut-story}
-use Rattle.lard_request.specs.declared.verdict.Verdict.{Verdict}
 use Rattle.lard_rules.specs.declared.places.Ending.TheVariants as ending
-use Rattle.lard_rules.specs.declared.places.Station.{Station}
-use Rattle.lard_law_view.specs.Seat.{Seat, AtFront, Nowhere, seat_armed}
-use Rattle.lard_send.specs.Send.{is_clear}
-use Rattle.lard_law_view.specs.Truth.{Stream}
 
 -- an endpoint with nothing that was read and is not answered, which has stopped
 pub stopped-held : (w out : Stream) (vs : List Verdict) (b : ControlBlock) (count : ℕ) → HoldsItPending w out vs [] b count → HasStopped b → one.HoldsIt w out vs b count

@@ -5,11 +5,7 @@ use Rattle.std.specs.FinMap as table
 use Rattle.std.specs.List.{list_any}
 use Rattle.std.specs.Prelude.{IsSome}
 use Rattle.lard_base.proofs.Usable.{usable}
-use Rattle.lard_base.specs.Config.{config_check}
-use Rattle.lard_base.specs.declared.config.Config.{Config}
-use Rattle.lard_base.specs.declared.limits.TheConstants.{MAX_STREAM_BYTES}
-use Rattle.lard_rules.specs.declared.machine.Machine.{Machine}
-use Rattle.lard_rules.specs.Machine.{IsReached}
+use Rattle.lard_law_view.specs.Prelude.{ClientStands, Config, DispatchStanding, Has, IsComplete, IsReached, IsRowSound, IsStageSound, MAX_STREAM_BYTES, Machine, Station, Waiting, client_tale, config_check, conn, dispatch_standing, file_at, front_part, line_waits, numbers_of, part_of, tale}
 use Rattle.lard_laws.proofs.ClientsWriters.{clients-stand}
 use Rattle.lard_law_connections.specs.JobsLaws.{HasQueued}
 use Rattle.lard_law_connections.proofs.JobsRuns.{reads-are-queued}
@@ -21,20 +17,9 @@ use Rattle.lard_laws.specs.QuietStill.{AwaitsADisk, IsWaiting}
 use Rattle.lard_laws.proofs.QuietStill.{quiet-or-else}
 use Rattle.lard_counts.specs.Stores.{jobs}
 use Rattle.lard_counts.specs.Stores as stores
-use Rattle.lard_law_view.specs.View.{conn, part_of}
 use Rattle.lard_law_view.proofs.InSteps.{carried-ends}
-use Rattle.lard_dispatch.specs.declared.line.Waiting.{Waiting}
-use Rattle.lard_dispatch.specs.Line.{line_waits}
-use Rattle.lard_files.specs.Files.{file_at}
-use Rattle.lard_rules.specs.FrontPlace.{front_part}
-use Rattle.lard_rules.specs.FrontSound.{IsRowSound, IsStageSound, DispatchStanding, dispatch_standing}
-use Rattle.lard_history.specs.Journal.{numbers_of, tale}
-use Rattle.lard_history.specs.Own.{Has}
 use Rattle.lard_history.proofs.Seeing.{same_number}
 use Rattle.lard_history.proofs.Tales.{numbers-tale}
-use Rattle.lard_law_view.specs.ClientTale.{ClientStands, client_tale}
-use Rattle.lard_law_view.specs.Quiet.{IsComplete}
-use Rattle.lard_rules.specs.declared.places.Station.{Station}
 
 -- ---- a connection that waits is in the line
 

@@ -2,11 +2,8 @@
 use Rattle.std.proofs.Common.{◌≡◌, ◌⊎◌, ◌+◌, ◌==◌, ◌||◌, not, ℕ, Bool, true, false, cond, List, [], ◌∷◌, Option, Some, None, inl, inr, ⊎_elim, refl, sym, ap, ◌∙◌, subst}
 use Rattle.std.proofs.lemmas.Bool.{and_parts, both_ways}
 use Rattle.std.specs.List.{find, list_any}
-use Rattle.lard_answers.specs.Answers.{FilesAt}
-use Rattle.lard_base.specs.declared.place.Place.TheVariants.{Client, Front, Node}
-use Rattle.lard_base.specs.declared.place.TimerKind.{TimerKind}
+use Rattle.lard_law_view.specs.Prelude.{BackConn, BackRow, Client, Conn, ControlBlock, Entry, FilesAt, Front, FrontConn, FrontRow, Kept, Node, NodePart, Progress, Stay, Talk, TimerKind, Verdict, back_endpoint, back_held, conn, file_at, front_armed, holds_kind, is_clear, is_client_armed, is_under, is_unsaid, kind_rank, next_by, node_armed, row_armed, stage_armed, station_armed}
 use Rattle.lard_base.specs.declared.place.TimerKind.TheVariants as timer
-use Rattle.lard_client.specs.Control.{is_client_armed}
 use Rattle.lard_laws.specs.Acks.{AcksWhatWasTaken, story_at}
 use Rattle.lard_laws.proofs.AcksRuns.{connections-ack}
 use Rattle.lard_law_connections.specs.Awaits.{AwaitsWhatItAsked, BatchComes, IsToCome, RowComes, StageComes, StayComes}
@@ -26,30 +23,10 @@ use Rattle.lard_laws.proofs.QuietComplete.{IsDone, aborted-at, calm-at, complete
 use Rattle.lard_laws.proofs.StepsTimers.{timers-kept}
 use Rattle.lard_law_connections.specs.Stops.{FirstIsAwaited, ReadingStops}
 use Rattle.lard_law_connections.proofs.StopsRuns.{connections-stop}
-use Rattle.lard_law_view.specs.View.{Conn, conn, station_armed}
-use Rattle.lard_endpoint.specs.Control.{ControlBlock}
-use Rattle.lard_files.specs.Files.{file_at}
-use Rattle.lard_rules.specs.Front.{front_armed, row_armed, stage_armed}
-use Rattle.lard_handoff_back.specs.declared.row.BackConn.{BackConn}
 use Rattle.lard_handoff_back.specs.declared.row.BackConn.TheVariants as back
-use Rattle.lard_handoff_back.specs.declared.row.BackRow.{BackRow}
-use Rattle.lard_handoff_back.specs.Back.{back_endpoint}
-use Rattle.lard_handoff_back.specs.Row.{back_held}
-use Rattle.lard_handoff_front.specs.declared.row.FrontConn.{FrontConn}
 use Rattle.lard_handoff_front.specs.declared.row.FrontConn.TheVariants as stage
-use Rattle.lard_handoff_front.specs.declared.row.FrontRow.{FrontRow}
-use Rattle.lard_law_view.specs.Truthful.{Talk}
-use Rattle.lard_rules.specs.declared.stay.Entry.{Entry}
 use Rattle.lard_rules.specs.declared.stay.Next.TheVariants as next
-use Rattle.lard_rules.specs.declared.stay.Progress.{Progress}
 use Rattle.lard_rules.specs.declared.stay.Progress.TheVariants as progress
-use Rattle.lard_rules.specs.declared.stay.Stay.{Stay}
-use Rattle.lard_rules.specs.Node.{NodePart, holds_kind, is_unsaid, node_armed}
-use Rattle.lard_rules.specs.Stay.{next_by}
-use Rattle.lard_request.specs.declared.verdict.Verdict.{Verdict}
-use Rattle.lard_resend.specs.declared.kept.Kept.{Kept}
-use Rattle.lard_resend.specs.Kept.{is_under, kind_rank}
-use Rattle.lard_send.specs.Send.{is_clear}
 
 -- what is found of a kind is held of it
 found-held : (a : TimerKind) (r : ℕ) (ks : List Kept) (k : Kept) → find (is_under a r) ks ≡ Some k → holds_kind a ks ≡ true

@@ -3,27 +3,14 @@ use Rattle.std.proofs.Common.{◌≡◌, ℕ, suc, ◌≤◌, List, [], ◌∷�
 use Rattle.std.proofs.lemmas.Bool.{cond_both}
 use Rattle.std.specs.List.{AllByRecursion}
 use Rattle.lard_base.proofs.Usable.{usable}
-use Rattle.lard_base.specs.declared.config.Config.{Config}
-use Rattle.lard_base.specs.declared.ids.Millis.{Millis}
-use Rattle.lard_base.specs.Members.{has, node_numbers}
+use Rattle.lard_law_view.specs.Prelude.{Ask, Books, Config, Cost, Dispatcher, FirstChoice, IsDispatcherSound, Millis, Tally, Waiting, all_choices, batch_over, cheapest, choice_at, cost_at, ended_answer, first_answer, has, is_full, is_less, later_answer, later_choice, members_of, next_admission, node_numbers, numbers, released_from, set_of, shared_with, stays}
 use Rattle.lard_laws.proofs.RecordsFronts.{FirstFits, IsLater, IsNode}
-use Rattle.lard_costs.specs.Costs.{cost_at, is_less}
-use Rattle.lard_costs.specs.declared.cost.Cost.{Cost}
-use Rattle.lard_costs.specs.Later.{cheapest, later_choice, members_of, stays}
-use Rattle.lard_dispatch.specs.declared.dispatch.Ask.{Ask}
 use Rattle.lard_dispatch.specs.declared.dispatch.First.TheVariants as first
-use Rattle.lard_dispatch.specs.declared.line.Waiting.{Waiting}
-use Rattle.lard_dispatch.specs.Books.{Books, Dispatcher}
-use Rattle.lard_dispatch.specs.Calls.{all_choices, batch_over, choice_at, ended_answer, first_answer, is_full, later_answer, next_admission, released_from, shared_with}
 use Rattle.lard_dispatch.specs.Sound as sound
-use Rattle.lard_dispatch.specs.Sound.{IsDispatcherSound}
 use Rattle.lard_dispatch.proofs.Chosen.{IsChosen, all-filter, all-numbers, choice-within}
 use Rattle.lard_dispatch.proofs.Counted.{cheapest-has}
 use Rattle.lard_dispatch.proofs.Sharing.{add-home}
 use Rattle.lard_history.proofs.Each.{Each}
-use Rattle.lard_loads.specs.Tally.{Tally, numbers}
-use Rattle.lard_policy.specs.declared.first.FirstChoice.{FirstChoice}
-use Rattle.lard_sets.specs.Sets.{set_of}
 
 -- ---- the first choice
 

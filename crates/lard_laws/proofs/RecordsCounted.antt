@@ -2,15 +2,9 @@
 -- or is in the batch.
 use Rattle.std.proofs.Common.{◌≡◌, ℕ, zero, suc, ◌+◌, ◌-◌, ◌≤◌, nat_lt, List, [], ◌∷◌, ◌++◌, length, refl, ap, arith}
 use Rattle.std.proofs.lemmas.Bool.{cond_both}
-use Rattle.lard_answers.specs.Answers.{answer}
-use Rattle.lard_base.specs.declared.place.Via.{Via}
+use Rattle.lard_law_view.specs.Prelude.{Entry, NodeEnv, Progress, Service, Verdict, Via, Work, answer, answered, came_for, come_on, entered, left_by, own_job, passed_over, queued, queued_here, tagged}
 use Rattle.lard_base.specs.declared.place.Via.TheVariants as via
-use Rattle.lard_rules.specs.declared.stay.Entry.{Entry}
-use Rattle.lard_rules.specs.declared.stay.Progress.{Progress}
 use Rattle.lard_rules.specs.declared.stay.Progress.TheVariants.{Reading, Awaited, Ready}
-use Rattle.lard_rules.specs.Stay.{NodeEnv, Work, came_for, come_on, entered, left_by, tagged, queued_here, own_job}
-use Rattle.lard_request.specs.declared.verdict.Verdict.{Verdict}
-use Rattle.lard_rules.specs.Serving.{Service, answered, passed_over, queued}
 use Rattle.lard_rules.proofs.StayWalking.{KeptByStarts, tagged-in}
 use Rattle.std.proofs.lemmas.List.{length_push}
 

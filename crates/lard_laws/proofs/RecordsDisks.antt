@@ -3,14 +3,10 @@ use Rattle.std.proofs.Common.{◌≡◌, ℕ, suc, ◌+◌, ◌-◌, ◌≤◌, 
 use Rattle.std.proofs.lemmas.Bool.{cond_both}
 use Rattle.std.proofs.lemmas.List.{length-take}
 use Rattle.std.specs.List.{fold}
-use Rattle.lard_base.specs.declared.config.Config.{Config}
-use Rattle.lard_rules.specs.declared.machine.Machine.{Machine}
-use Rattle.lard_rules.specs.Machine.{IsReached, node_at}
+use Rattle.lard_law_view.specs.Prelude.{Config, IsReached, Machine, NodeState, Rec, node_at}
 use Rattle.lard_counts.specs.Stores.{Queue, Waiting, jobs, jobs_step, no_jobs, without_waiting}
 use Rattle.lard_law_connections.proofs.StoresStored.{jobs-told}
-use Rattle.lard_journal.specs.declared.rec.Rec.{Rec}
 use Rattle.lard_journal.specs.declared.rec.Rec.TheVariants as rec
-use Rattle.lard_rules.specs.declared.node.NodeState.{NodeState}
 
 -- a journal tells of no more jobs than it has records
 jobs-few : (n : ℕ) (J : List Rec) → length (jobs J n) ≤ length J

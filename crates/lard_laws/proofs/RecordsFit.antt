@@ -1,32 +1,19 @@
 -- The numbers of an endpoint fit the message that offers it, and what holds of every endpoint holds of it, whatever comes and goes.
 use Rattle.std.proofs.Common.{◌≡◌, ℕ, ◌+◌, ◌≤◌, ◌<◌, ◌^◌, List, length, true, false, Ok, refl, sym, subst, arith}
 use Rattle.std.proofs.lemmas.Bool.{cond_both}
-use Rattle.lard_base.specs.declared.parts.EndpointParts.{EndpointParts}
-use Rattle.lard_base.specs.Parts.{IsValidParts}
-use Rattle.lard_endpoint.specs.Arriving.{on_segment}
-use Rattle.lard_endpoint.specs.Control.{ControlBlock, IsControlBlock, consuming, discarding_on, finishing, listening, queueing}
-use Rattle.lard_endpoint.specs.Leaving.{after_emit, after_timer}
-use Rattle.lard_endpoint.specs.Moving.{adopted, may_freeze, parts_of}
+use Rattle.lard_law_view.specs.Prelude.{ControlBlock, Dir, EndpointParts, FitsFields, IsControlBlock, IsOfTable, IsValidParts, Received, Said, Sending, Verdict, adopted, after_emit, after_timer, closed_behind, closes, consuming, decoded, discarding_on, finishing, listening, may_freeze, on_segment, parts_of, queueing}
 use Rattle.lard_endpoint.proofs.Adoption.{parts-valid}
 use Rattle.lard_endpoint.proofs.Sound.{after_emit-sound, after_timer-sound, on_segment-sound, queueing-sound}
 use Rattle.lard_endpoint.proofs.Windows.{emit-recv, segment-recv, timer-recv}
 use Rattle.lard_law_view.proofs.ByteLists.{AreBytes, bytes-decoded, bytes-index}
 use Rattle.lard_law_view.proofs.KeptBytes.{IsKept, emit-keeps, segment-keeps, timer-keeps}
 use Rattle.lard_message.specs.declared.message.Body.TheVariants as body
-use Rattle.lard_message.specs.Message.{FitsFields, IsOfTable}
-use Rattle.lard_recv.specs.Recv.{Received}
 use Rattle.lard_recv.proofs.Window.{arrived-irs}
-use Rattle.lard_request.specs.declared.verdict.Verdict.{Verdict}
-use Rattle.lard_request.specs.Verdict.{closes}
 use Rattle.lard_rules.proofs.Halves.{KeptBySending, endpoint-emit, endpoint-fires, endpoint-segment}
 use Rattle.lard_rules.proofs.Sides.{ack-side, next-side, resend-side}
-use Rattle.lard_rules.specs.Serving.{closed_behind}
 use Rattle.lard_rules.proofs.Endpoints.{closed-sound, consuming-sound, finishing-sound, listening-sound}
 use Rattle.lard_rules.proofs.Wide.{IsWideHalf, closed-wide, emit-wide, numbers-wide, timer-wide}
-use Rattle.lard_segment.specs.declared.segment.Dir.{Dir}
-use Rattle.lard_segment.specs.Segment.{Said, decoded}
 use Rattle.lard_segment.proofs.Decoded.{decoded-read, length-decoded}
-use Rattle.lard_send.specs.Send.{Sending}
 
 -- ---- a segment
 

@@ -1,7 +1,6 @@
 -- A step of the front end: what it keeps of each connection, and what it does, is in range.
 use Rattle.std.proofs.Common.{◌≡◌, ℕ, ◌≤◌, ◌<◌, ◌^◌, List, [], length, Option, Some, None, IfSome, Ok, Err, Result, refl, subst, arith}
-use Rattle.lard_base.specs.declared.place.Place.TheVariants.{Front}
-use Rattle.lard_base.specs.declared.limits.TheConstants.{MAX_SEGMENT_BYTES}
+use Rattle.lard_law_view.specs.Prelude.{Body, Did, Final, FirstChoice, Front, FrontDeed, FrontEnv, FrontIn, FrontPart, FrontRow, FrontSetting, FrontState, FrontTurn, IsFrontSound, IsMessage, IsNumber, IsRecordInRange, MAX_SEGMENT_BYTES, Message, MsgFault, Out, ToCluster, admits, admits_too, admitted_by, ask_of, decoded, decoded_message, ended_answer, ended_deed, front_admitted, front_armed, front_asked, front_deed, front_ended, front_env, front_gets, front_part, front_rest, front_step, front_taken, front_timer, front_timers, front_told, message_comes, nothing_done, put_back}
 use Rattle.lard_rules.specs.Bounds as cluster
 use Rattle.lard_laws.proofs.RecordsChoices as choices
 use Rattle.lard_laws.proofs.RecordsFit.{some-decoded, told-decoded}
@@ -11,31 +10,12 @@ use Rattle.lard_laws.proofs.RecordsLetters.{HasPaths, SaysPaths, conn-number, is
 use Rattle.lard_laws.proofs.RecordsNamed.{AreNamed}
 use Rattle.lard_laws.proofs.RecordsOuts.{OutFits, both-fit, nothing-fits, ordered-range, timers-range, turn-fits}
 use Rattle.lard_dispatch.proofs.Chosen.{IsChosen}
-use Rattle.lard_dispatch.specs.Calls.{ended_answer}
-use Rattle.lard_endpoint.specs.declared.control.moving.Final.{Final}
-use Rattle.lard_rules.specs.declared.front.FrontState.{FrontState}
-use Rattle.lard_rules.specs.declared.front.FrontTurn.{FrontTurn}
-use Rattle.lard_rules.specs.Front.{FrontDeed, Drops, Says, Does, Did, FrontEnv, FrontPart, admitted_by, front_admitted, front_armed, front_ended, front_gets, front_taken, front_asked, front_timer, ask_of, front_rest}
-use Rattle.lard_rules.specs.FrontPlace.{FrontSetting, admits, admits_too, ended_deed, front_deed, front_env, front_part, front_step, front_told, message_comes, put_back, front_timers}
-use Rattle.lard_rules.specs.FrontSound.{IsFrontSound}
+use Rattle.lard_rules.specs.Front.{Drops, Says, Does}
 use Rattle.lard_rules.proofs.FrontKeeping.{put-all}
-use Rattle.lard_handoff_front.specs.declared.row.FrontRow.{FrontRow}
 use Rattle.lard_history.proofs.Each.{Each}
-use Rattle.lard_journal.specs.Range.{IsRecordInRange, IsNumber}
 use Rattle.lard_law_view.proofs.ByteLists.{AreBytes}
-use Rattle.lard_message.specs.declared.fault.MsgFault.{MsgFault}
-use Rattle.lard_message.specs.declared.message.Body.{Body}
 use Rattle.lard_message.specs.declared.message.Body.TheVariants as body
-use Rattle.lard_message.specs.declared.message.Message.{Message}
-use Rattle.lard_message.specs.Message.{IsMessage}
-use Rattle.lard_message.specs.Reading.{decoded_message}
-use Rattle.lard_policy.specs.declared.first.FirstChoice.{FirstChoice}
-use Rattle.lard_rules.specs.declared.front.FrontIn.{FrontIn}
 use Rattle.lard_rules.specs.declared.front.FrontIn.TheVariants as input
-use Rattle.lard_rules.specs.declared.places.Out.{Out}
-use Rattle.lard_rules.specs.Outs.{nothing_done}
-use Rattle.lard_segment.specs.declared.segment.Dir.TheVariants.{ToCluster}
-use Rattle.lard_segment.specs.Segment.{decoded}
 
 -- what comes to the front end is of a connection or of a node in range, and has bytes; a segment fits a message
 abbrev pub InputFits : FrontIn → Type 0

@@ -2,71 +2,36 @@
 use Rattle.std.proofs.Common.{◌≡◌, ℕ, suc, ◌+◌, ◌-◌, ◌*◌, ◌≤◌, ◌<◌, ◌^◌, ◌==◌, ◌&&◌, not, nat_lt, List, [], ◌∷◌, ◌++◌, length, map, Bool, true, false, cond, Option, Some, None, IfSome, Ok, Err, Result, refl, sym, ap, subst, arith, eqb-true}
 use Rattle.std.proofs.lemmas.Bool.{and_parts, cond_both, ltb-true, not-true}
 use Rattle.std.specs.List.{AllByRecursion}
-use Rattle.lard_answers.specs.Answers.{good_path}
-use Rattle.lard_base.specs.declared.ids.Epoch.{Epoch}
-use Rattle.lard_base.specs.declared.place.Place.{Place}
+use Rattle.lard_law_view.specs.Prelude.{Ask, ControlBlock, Ending, Epoch, Final, First, FirstChoice, Found, FrontConn, FrontDeed, FrontEnv, FrontPart, FrontRest, FrontRow, FrontTurn, IsChoiceInRange, IsEarlyAway, IsEarlyHere, IsNumber, IsPlaceInRange, IsRecordInRange, IsUnspaced, Later, LaterChoice, MayMove, OnEnded, Place, Reading, Reason, Said, SegFault, Service, Step, Turn, Verdict, ack_sent, admitted_at, admitted_by, after_timer, ask_of, asked_by, asked_node, assigned_notes, assigns, block_at, cut_of, end_answer, ended_with, fires_at, forwarded, front_admitted, front_admitted_with, front_asked, front_begun, front_ended, front_ended_by, front_fired, front_fired_by, front_gets, front_hears, front_reads, front_rest, front_rests, front_saying, front_taken, front_timer, good_path, handed_off, heard, hears_at, holds, is_away, is_plain_syn, is_row_at, is_telling, is_with, last_ack, last_words, listening, may_freeze, may_read, met, next_epoch, offer_kept, offered_to, on_segment, over_note, placed, reading_left, reading_turn, reads_block, reads_found, refusal, sent_of, serving, serving_consumed, serving_ready_of, serving_settled, serving_told, settled_by, spoken, tag_sent, taken_by, targeted, timed, tombstone, turn_here, waits_on, without}
 use Rattle.lard_base.specs.declared.place.Place.TheVariants as place
-use Rattle.lard_base.specs.declared.place.Reason.{Reason}
 use Rattle.lard_base.specs.declared.place.Reason.TheVariants as reason
 use Rattle.lard_base.specs.declared.place.TimerKind.TheVariants as kind
 use Rattle.lard_base.specs.declared.place.Via.TheVariants.{Own}
-use Rattle.lard_block.specs.declared.block.Found.{Found}
 use Rattle.lard_block.specs.declared.block.Found.TheVariants.{Block, More, TooLong}
-use Rattle.lard_block.specs.Blocks.{cut_of}
 use Rattle.lard_rules.specs.Bounds as cluster
 use Rattle.lard_laws.proofs.RecordsFit.{IsTold, fit-listening, keeping-segment, keeping-timer, offer-fits}
 use Rattle.lard_laws.proofs.RecordsLetters.{IsLetter, bytes-message, conn-number, spells}
 use Rattle.lard_laws.proofs.RecordsNamed.{AreNamed, IsNamed, contents, verdict-named}
 use Rattle.lard_laws.proofs.RecordsServing.{EndFits, EndKeeps, Keeps, Serves, TurnFits, answered-serves, consumed-serves, count-few, ended-serves, ready-few, ready-sent, settled-fits, spoken-fits, told-sent}
 use Rattle.lard_laws.proofs.RecordsTurns.{AreHeld, IsTurn, held-less, held-sent, length-held, length-less, sends}
-use Rattle.lard_costs.specs.declared.later.LaterChoice.{LaterChoice}
-use Rattle.lard_dispatch.specs.declared.dispatch.Ask.{Ask}
-use Rattle.lard_dispatch.specs.declared.dispatch.First.{First}
 use Rattle.lard_dispatch.specs.declared.dispatch.First.TheVariants as first
-use Rattle.lard_dispatch.specs.declared.dispatch.Later.{Later}
 use Rattle.lard_dispatch.specs.Sound as dispatch
 use Rattle.lard_dispatch.proofs.Chosen.{IsChosen}
-use Rattle.lard_endpoint.specs.declared.control.moving.Final.{Final}
-use Rattle.lard_endpoint.specs.Arriving.{on_segment}
-use Rattle.lard_endpoint.specs.Control.{ControlBlock, listening}
-use Rattle.lard_endpoint.specs.Leaving.{after_timer, timed}
-use Rattle.lard_endpoint.specs.Moving.{may_freeze}
-use Rattle.lard_rules.specs.declared.front.FrontRest.{FrontRest}
-use Rattle.lard_rules.specs.declared.front.FrontTurn.{FrontTurn}
-use Rattle.lard_rules.specs.Front.{FrontDeed, Drops, Says, Does, FrontEnv, FrontPart, ack_sent, admitted_at, admitted_by, front_admitted_with, ask_of, asked_by, assigned_notes, assigns, front_begun, front_ended_by, front_fired, front_fired_by, fires_at, forwarded, front_admitted, front_asked, front_ended, front_gets, front_hears, front_taken, front_timer, handed_off, heard, hears_at, holds, is_row_at, is_with, met, offer_kept, over_note, placed, front_rest, front_rests, front_saying, settled_by, tag_sent, taken_by, turn_here, waits_on}
-use Rattle.lard_rules.specs.FrontReading.{MayMove, Reading, block_at, reading_left, front_reads, reads_block, reads_found, targeted, reading_turn}
+use Rattle.lard_rules.specs.Front.{Drops, Says, Does}
 use Rattle.lard_rules.proofs.FrontBlocks.{EndsIdle, EndsServing, ServesAs, idle-of, segment-idle, segment-serves, settled-serves, spoken-idle, spoken-serves, timer-idle, timer-serves}
 use Rattle.lard_rules.proofs.FrontTurns.{HasStopped, reads-stop}
-use Rattle.lard_handoff_front.specs.declared.row.FrontConn.{FrontConn}
 use Rattle.lard_handoff_front.specs.declared.row.FrontConn.TheVariants as stage
-use Rattle.lard_handoff_front.specs.declared.row.FrontRow.{FrontRow}
-use Rattle.lard_handoff_front.specs.declared.table.OnEnded.{OnEnded}
 use Rattle.lard_handoff_front.specs.declared.table.OnEnded.TheVariants.{Again, New, Stale}
-use Rattle.lard_handoff_front.specs.Front.{asked_node, end_answer, ended_with, next_epoch}
-use Rattle.lard_handoff_front.specs.Row.{is_away, offered_to}
 use Rattle.lard_history.proofs.Each.{Each, Each-append}
 use Rattle.lard_journal.specs.declared.rec.Rec.TheVariants as rec
-use Rattle.lard_journal.specs.Range.{IsChoiceInRange, IsRecordInRange, IsNumber, IsPlaceInRange, IsUnspaced}
 use Rattle.lard_law_view.proofs.ByteLists.{AreBytes}
 use Rattle.lard_message.specs.declared.message.Body.TheVariants as body
 use Rattle.lard_message.specs.Message as message
-use Rattle.lard_policy.specs.declared.first.FirstChoice.{FirstChoice}
 use Rattle.lard_request.specs.declared.verdict.Code.TheVariants as code
-use Rattle.lard_request.specs.declared.verdict.Verdict.{Verdict}
 use Rattle.lard_request.specs.declared.verdict.Verdict.TheVariants.{Fault}
-use Rattle.lard_resend.specs.Kept.{without}
-use Rattle.lard_resend.specs.Pending.{sent_of}
 use Rattle.lard_rules.proofs.Runs.{runs_keep}
-use Rattle.lard_rules.specs.declared.places.Ending.{Ending}
 use Rattle.lard_rules.specs.declared.places.Ending.TheVariants as ending
-use Rattle.lard_rules.specs.declared.places.Turn.{Turn}
-use Rattle.lard_rules.specs.Tombstone.{is_plain_syn, is_telling, last_ack, last_words, refusal, tombstone}
-use Rattle.lard_rules.specs.Loop.{Step}
 use Rattle.lard_rules.specs.Loop as loop
-use Rattle.lard_rules.specs.Serving.{Service, serving_consumed, may_read, serving_ready_of, serving, serving_settled, spoken, serving_told}
-use Rattle.lard_segment.specs.declared.fault.SegFault.{SegFault}
-use Rattle.lard_segment.specs.Segment.{Said}
-use Rattle.lard_rules.specs.FrontSound.{IsEarlyAway, IsEarlyHere}
 
 -- ---- what is kept
 

@@ -4,13 +4,9 @@ use Rattle.std.specs.FinMap as table
 use Rattle.std.specs.FinMap.{FinMap}
 use Rattle.std.specs.Ordering.{nat_cmp}
 use Rattle.std.specs.Prelude.{slice_set}
-use Rattle.lard_base.specs.declared.event.Event.{Event}
-use Rattle.lard_base.specs.declared.place.Place.{Place}
+use Rattle.lard_law_view.specs.Prelude.{BackIn, ClientBlock, Event, FrontIn, FrontState, IsFrontSound, IsNumber, IsPlaceInRange, IsRecordInRange, Machine, NodeState, Out, Packet, Place, Rec, Station, Turn, client_acted, file_at, front_acts, front_part, front_setting, front_step, is_client_armed, machine_told, node_at, node_gave, node_setting, node_step, packets_of, passed, segments_sent, sent_records, told_rows}
 use Rattle.lard_base.specs.declared.place.Place.TheVariants as place
 use Rattle.lard_base.specs.declared.place.TimerKind.TheVariants.{Tcp}
-use Rattle.lard_client.specs.Control.{ClientBlock, is_client_armed}
-use Rattle.lard_rules.specs.declared.machine.Machine.{Machine}
-use Rattle.lard_rules.specs.Machine.{client_acted, front_acts, front_setting, node_at, node_gave, node_setting, passed, segments_sent, machine_told, told_rows}
 use Rattle.lard_rules.specs.Bounds as cluster
 use Rattle.lard_laws.specs.Records.{IsScheduled}
 use Rattle.lard_laws.proofs.RecordsFrontStep as front
@@ -23,27 +19,12 @@ use Rattle.lard_laws.proofs.RecordsNodeStep.{PlaceKeeps, place-wider}
 use Rattle.lard_laws.proofs.RecordsOuts.{OutFits}
 use Rattle.lard_laws.proofs.RecordsTurns.{change-range}
 use Rattle.lard_law_view.proofs.Parts.{node-others, node-set}
-use Rattle.lard_files.specs.Files.{file_at}
-use Rattle.lard_rules.specs.declared.front.FrontState.{FrontState}
-use Rattle.lard_rules.specs.FrontPlace.{front_part, front_step}
-use Rattle.lard_rules.specs.FrontSound.{IsFrontSound}
 use Rattle.lard_rules.proofs.FrontStepping.{step-stays}
 use Rattle.lard_history.proofs.Each.{Each, Each-append}
 use Rattle.lard_history.proofs.Seeing.{by_number}
-use Rattle.lard_journal.specs.declared.rec.Rec.{Rec}
 use Rattle.lard_journal.specs.declared.rec.Rec.TheVariants as rec
-use Rattle.lard_journal.specs.Range.{IsRecordInRange, IsNumber, IsPlaceInRange}
 use Rattle.lard_law_view.proofs.ByteLists.{bytes-index}
 use Rattle.lard_law_view.proofs.ClientRange.{ClientFits, ClientKeeps, IsSent}
-use Rattle.lard_rules.specs.Sent.{packets_of, sent_records}
-use Rattle.lard_net.specs.Net.{Packet}
-use Rattle.lard_rules.specs.declared.node.BackIn.{BackIn}
-use Rattle.lard_rules.specs.declared.node.NodeState.{NodeState}
-use Rattle.lard_rules.specs.NodePlace.{node_step}
-use Rattle.lard_rules.specs.declared.front.FrontIn.{FrontIn}
-use Rattle.lard_rules.specs.declared.places.Out.{Out}
-use Rattle.lard_rules.specs.declared.places.Station.{Station}
-use Rattle.lard_rules.specs.declared.places.Turn.{Turn}
 use Rattle.lard_rules.specs.Outs as outs
 use Rattle.lard_table.proofs.Map.{get_inserted, get_other}
 

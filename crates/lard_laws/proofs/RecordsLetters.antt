@@ -5,26 +5,15 @@ use Rattle.std.proofs.lemmas.Bool.{cond-false, le-ltb}
 use Rattle.std.proofs.lemmas.List.{append-nil}
 use Rattle.std.specs.Int.{from_be_bytes, to_be_bytes, w16, w32}
 use Rattle.std.specs.List.{AllByRecursion, flat_map}
-use Rattle.lard_base.specs.declared.limits.TheConstants.{MAX_SEGMENT_BYTES}
-use Rattle.lard_base.specs.declared.parts.EndpointParts.{EndpointParts}
-use Rattle.lard_base.specs.declared.place.Place.{Place}
-use Rattle.lard_base.specs.declared.place.Place.TheVariants.{Client, Front, Node}
-use Rattle.lard_base.specs.declared.place.Reason.{Reason}
+use Rattle.lard_law_view.specs.Prelude.{Body, Client, EndpointParts, FitsFields, Front, IsMessage, IsNumber, IsOfTable, IsPlaceInRange, IsUnspaced, Kind, MAX_SEGMENT_BYTES, Message, Node, Place, Reason, ask_at, body_bytes, byte_at, counted_bytes, decoded_message, ended_body_at, flag_byte, header_bytes, kind_number, kind_of, number_at, parts_numbers, paths_at, reason_at, reason_byte, spelled_message, version_of}
 use Rattle.lard_base.specs.declared.place.Reason.TheVariants as reason
 use Rattle.lard_rules.specs.Bounds as cluster
 use Rattle.lard_law_connections.proofs.PlacesHeads.{spelled-body}
 use Rattle.lard_laws.proofs.RecordsNamed.{IsNamed}
 use Rattle.lard_history.proofs.Each.{Each, Each-weaker}
-use Rattle.lard_journal.specs.Range.{IsNumber, IsPlaceInRange, IsUnspaced}
 use Rattle.lard_law_view.proofs.ByteLists.{AreBytes, bytes-16, bytes-32, bytes-append, bytes-index, each-behind}
-use Rattle.lard_message.specs.declared.kind.Kind.{Kind}
 use Rattle.lard_message.specs.declared.kind.Kind.TheVariants as kind
-use Rattle.lard_message.specs.declared.message.Body.{Body}
 use Rattle.lard_message.specs.declared.message.Body.TheVariants as body
-use Rattle.lard_message.specs.declared.message.Message.{Message}
-use Rattle.lard_message.specs.Kinds.{kind_number, version_of}
-use Rattle.lard_message.specs.Message.{FitsFields, IsMessage, IsOfTable, body_bytes, counted_bytes, flag_byte, header_bytes, kind_of, parts_numbers, reason_byte, spelled_message}
-use Rattle.lard_message.specs.Reading.{ask_at, byte_at, decoded_message, ended_body_at, number_at, paths_at, reason_at}
 use Rattle.lard_message.proofs.Fields.{bind_then, paths_again, some_same}
 use Rattle.lard_message.proofs.Whole.{spelled_so}
 use Rattle.lard_rules.specs.Node.{message}

@@ -4,14 +4,12 @@ use Rattle.std.proofs.lemmas.Bool.{cond_both}
 use Rattle.std.proofs.lemmas.Slice.Eq.{bytes_eq-Decides}
 use Rattle.std.specs.Map.{lookup}
 use Rattle.std.specs.Str.{bytes_eq}
-use Rattle.lard_answers.specs.Answers.{FilesAt, good_path}
+use Rattle.lard_law_view.specs.Prelude.{FilesAt, IsUnspaced, Verdict, file_at, good_path}
 use Rattle.lard_laws.specs.Records.{IsRunFile}
-use Rattle.lard_files.specs.Files.{IsPath, file_at}
+use Rattle.lard_files.specs.Files.{IsPath}
 use Rattle.lard_history.proofs.Each.{Each}
-use Rattle.lard_journal.specs.Range.{IsUnspaced}
 use Rattle.lard_law_view.proofs.ByteLists.{AreBytes, all-each, index-bytes}
 use Rattle.lard_law_view.proofs.ContentRange.{AreFiles, IsContent}
-use Rattle.lard_request.specs.declared.verdict.Verdict.{Verdict}
 use Rattle.lard_request.specs.declared.verdict.Verdict.TheVariants.{Fault, Serve}
 
 -- ---- files

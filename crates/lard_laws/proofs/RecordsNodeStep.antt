@@ -1,50 +1,32 @@
 -- A step of a node: what it keeps of each connection, its disk, and what it does, is in range.
-use Rattle.std.proofs.Common.{◌≡◌, ℕ, suc, ◌+◌, ◌-◌, ◌≤◌, ◌<◌, ◌^◌, ◌==◌, List, [], ◌∷◌, ◌++◌, length, take, drop, Option, Some, None, IfSome, Ok, Err, Result, refl, sym, subst, arith, length-append, length-drop}
+use Rattle.std.proofs.Common.{◌≡◌, ℕ, suc, ◌+◌, ◌-◌, ◌≤◌, ◌<◌, ◌^◌, ◌==◌, List, [], ◌∷◌, ◌++◌, length, take, drop, Option, Some, None, IfSome, Ok, Err, Result, refl, sym, ap, subst, arith, length-append, length-drop}
 use Rattle.std.proofs.lemmas.Bool.{cond_both}
 use Rattle.std.proofs.lemmas.List.{length-take}
 use Rattle.std.specs.FinMap as table
 use Rattle.std.specs.List.{AllByRecursion, list_any}
-use Rattle.lard_base.specs.declared.place.Place.{Place}
+use Rattle.lard_law_view.specs.Prelude.{Acknowledged, BackIn, BackRow, Body, Completed, Content, Fires, Forwarded, IsMessage, IsNumber, IsPlaceInRange, IsRecordInRange, Job, Message, MsgFault, NodeDeed, NodeGets, NodeSetting, NodeState, NodeTurn, Offered, Out, Place, Rec, Said, SegFault, Tagged, ToCluster, aside, completed, content_bytes, content_sent, decoded, decoded_message, disk_step, fetched, fetched_file, has_path, is_for, job_at, node_armed, node_brought, node_deed, node_env, node_epoch_at, node_gets, node_hears, node_part, node_put, node_read, node_rule, node_saying, node_step, node_timers, nothing_done, with_first, without_job}
 use Rattle.lard_base.specs.declared.place.Place.TheVariants as place
-use Rattle.lard_cache.specs.Recency.{has_path}
 use Rattle.lard_rules.specs.Bounds as cluster
-use Rattle.lard_laws.proofs.RecordsFit.{told-decoded}
+use Rattle.lard_laws.proofs.RecordsFit.{IsTold, told-decoded}
 use Rattle.lard_laws.proofs.RecordsFrontStep.{message-number}
 use Rattle.lard_laws.proofs.RecordsLetters.{IsLetter, bytes-message, conn-number, forward-read, is-message, offer-read, spells}
 use Rattle.lard_laws.proofs.RecordsNamed.{AreNamed, IsNamed, contents, named}
 use Rattle.lard_laws.proofs.RecordsNodes as node
-use Rattle.lard_laws.proofs.RecordsNodes.{DeedFits, IsEarly, NodeKeeps, keeps-wider}
+use Rattle.lard_laws.proofs.RecordsNodes.{DeedFits, IsEarly, MayFit, NodeKeeps, keeps-wider}
 use Rattle.lard_laws.proofs.RecordsOuts.{OutFits, nothing-fits, timers-range, turn-fits}
 use Rattle.lard_laws.proofs.RecordsTurns.{IsTurn, sends}
 use Rattle.lard_laws.proofs.RecordsWorks.{IsRequest, JobFits, got}
 use Rattle.lard_law_view.proofs.Parts.{node-elsewhere, node-here}
-use Rattle.lard_disk.specs.declared.disk.Job.{Job}
-use Rattle.lard_disk.specs.Jobs.{is_for, job_at, without_job}
-use Rattle.lard_handoff_back.specs.declared.row.BackRow.{BackRow}
 use Rattle.lard_history.proofs.Each.{Each, Each-append}
 use Rattle.lard_history.proofs.Seeing.{by_number}
-use Rattle.lard_journal.specs.declared.rec.Rec.{Rec}
 use Rattle.lard_journal.specs.declared.rec.Rec.TheVariants as rec
-use Rattle.lard_journal.specs.Range.{IsRecordInRange, IsNumber, IsPlaceInRange}
 use Rattle.lard_law_view.proofs.ByteLists.{AreBytes, each-drop, each-take}
 use Rattle.lard_law_view.proofs.ContentRange.{IsContent}
-use Rattle.lard_message.specs.declared.fault.MsgFault.{MsgFault}
-use Rattle.lard_message.specs.declared.message.Body.{Body}
 use Rattle.lard_message.specs.declared.message.Body.TheVariants as body
-use Rattle.lard_message.specs.declared.message.Message.{Message}
-use Rattle.lard_message.specs.Message.{IsMessage}
 use Rattle.lard_message.specs.Message as message
-use Rattle.lard_message.specs.Reading.{decoded_message}
-use Rattle.lard_rules.specs.declared.node.BackIn.{BackIn}
 use Rattle.lard_rules.specs.declared.node.BackIn.TheVariants as input
-use Rattle.lard_rules.specs.declared.node.NodeState.{NodeState}
-use Rattle.lard_rules.specs.declared.node.NodeTurn.{NodeTurn}
-use Rattle.lard_rules.specs.Node.{NodeDeed, Drops, Says, Does, node_acknowledged, node_armed, node_content, node_forwarded, node_offered, node_read, node_tagged, node_timer, node_saying}
-use Rattle.lard_rules.specs.NodePlace.{NodeSetting, aside, node_brought, content_bytes, completed, content_sent, disk_step, node_epoch_at, fetched, fetched_file, node_deed, node_env, node_gets, node_hears, node_part, node_put, node_step, node_timers, with_first}
-use Rattle.lard_rules.specs.declared.places.Out.{Out}
-use Rattle.lard_rules.specs.Outs.{nothing_done}
-use Rattle.lard_segment.specs.declared.segment.Dir.TheVariants.{ToCluster}
-use Rattle.lard_segment.specs.Segment.{decoded}
+use Rattle.lard_rules.proofs.NodeCases.{IsInItsEpoch}
+use Rattle.lard_rules.specs.Node.{Drops, Says, Does}
 
 -- what a node keeps of all connections, and the jobs of its disk
 pub record PlaceKeeps (n most : ℕ) (s : NodeState) : Type 0 where
@@ -105,6 +87,16 @@ module _ (k : NodeSetting) (n-is : IsNumber k.n) (small : k.stream ≤ 2 ^ 30) (
             (timers-range (place.Node k.n) c (node_armed (node_part s c)) (node_armed x.0) n-is (conn-number c n)),
       )
 
+  rule-fits : (s : NodeState) → PlaceKeeps k.n most s → length s.disk ≤ 2 ^ 30 → (c epoch : ℕ) → cluster.IsConnNumber c → epoch < 2 ^ 16 → (g : NodeGets)
+      → IsInItsEpoch (node_env k s c epoch) (node_part s c) g → MayFit g
+      → StepFits (node_deed k s c (node_rule (node_env k s c epoch) (node_part s c) g))
+  rule-fits s h short c epoch n early g at m = deed-fits s c (node_rule (node_env k s c epoch) (node_part s c) g) h n
+      (node.rule-fits (node_env k s c epoch) refl n-is n early small files short most packets (node_part s c) (h.each c) g at m)
+
+  forward-fits : (r : Result Said SegFault) → ((said : Said) → r ≡ Ok said → IsTold said) → MayFit (Forwarded r)
+  forward-fits (Err fault) d = tt
+  forward-fits (Ok said) d = d said refl
+
   -- a content for another node
   content-fits : (to c epoch r : ℕ) (path : List ℕ) → IsNumber to → cluster.IsConnNumber c → epoch < 2 ^ 16 → IsRequest r → IsLetter (place.Node k.n) (content_sent k to c epoch r path)
   content-fits to c epoch r path n conn early low =
@@ -136,30 +128,18 @@ module _ (k : NodeSetting) (n-is : IsNumber k.n) (small : k.stream ≤ 2 ^ 30) (
 
     hears-fits : (bytes : List ℕ) (from : Place) (c epoch : ℕ) (b : Body) → IsPlaceInRange from → AreBytes bytes → IsMessage (its b c epoch) → decoded_message bytes ≡ Ok (its b c epoch) → StepFits (node_hears k s from c epoch b)
     hears-fits bytes place.Front c epoch (body.Offer parts) f d is read =
-        let n = message-number _ is in
-        deed-fits s c (node_offered (node_env k s c epoch) (node_part s c) parts) h n
-        (node.offered-fits (node_env k s c epoch) refl n-is n is.epoch small files short most packets (node_part s c) (h.each c) parts is.table is.fits (offer-read bytes c epoch parts d read))
+        rule-fits s h short c epoch (message-number _ is) is.epoch (Offered parts) tt (record { valid = is.table; fits = is.fits; unread = offer-read bytes c epoch parts d read })
     hears-fits bytes place.Front c epoch (body.Forward segment) f d is read =
-        let n = message-number _ is in
-        let inner : AreBytes segment = forward-read bytes c epoch segment d read in
-        deed-fits s c (node_forwarded (node_env k s c epoch) (node_part s c) (decoded segment c ToCluster)) h n
-        (node.forwarded-fits (node_env k s c epoch) refl n-is n is.epoch small files short most packets (node_part s c) (h.each c) (decoded segment c ToCluster) (λ said of. told-decoded segment c ToCluster said of inner))
-    hears-fits bytes place.Front c epoch (body.Tag z nodes) f d is read =
-        let n = message-number _ is in
-        deed-fits s c (node_tagged (node_env k s c epoch) (node_part s c) z nodes) h n
-        (node.tagged-fits (node_env k s c epoch) refl n-is n is.epoch small files short most packets (node_part s c) (h.each c) z nodes (numbers nodes is.fits.1))
-    hears-fits bytes place.Front c epoch body.EndedAck f d is read =
-        let n = message-number _ is in
-        deed-fits s c (node_acknowledged (node_env k s c epoch) (node_part s c)) h n (node.acknowledged-fits (node_env k s c epoch) refl n-is n is.epoch small files short most packets (node_part s c) (h.each c))
+        rule-fits s h short c epoch (message-number _ is) is.epoch (Forwarded (decoded segment c ToCluster)) tt (forward-fits (decoded segment c ToCluster) (λ said of. told-decoded segment c ToCluster said of (forward-read bytes c epoch segment d read)))
+    hears-fits bytes place.Front c epoch (body.Tag z nodes) f d is read = rule-fits s h short c epoch (message-number _ is) is.epoch (Tagged z nodes) tt (numbers nodes is.fits.1)
+    hears-fits bytes place.Front c epoch body.EndedAck f d is read = rule-fits s h short c epoch (message-number _ is) is.epoch Acknowledged tt tt
     hears-fits bytes place.Front c epoch body.Taken f d is read = still s h
     hears-fits bytes place.Front c epoch (body.Ask z queue size paths) f d is read = still s h
     hears-fits bytes place.Front c epoch (body.Fetch r path) f d is read = still s h
     hears-fits bytes place.Front c epoch (body.Content r file) f d is read = still s h
     hears-fits bytes place.Front c epoch (body.Ended reason snd rcv count) f d is read = still s h
     hears-fits bytes (place.Node from) c epoch (body.Fetch r path) f d is read = fetched-fits c epoch (message-number _ is) is.epoch from r path (k.files path) refl f is.fits
-    hears-fits bytes (place.Node from) c epoch (body.Content r file) f d is read =
-        let n = message-number _ is in
-        deed-fits s c (node_content (node_env k s c epoch) (node_part s c) from r) h n (node.content-fits (node_env k s c epoch) refl n-is n is.epoch small files short most packets (node_part s c) (h.each c) from r f)
+    hears-fits bytes (place.Node from) c epoch (body.Content r file) f d is read = rule-fits s h short c epoch (message-number _ is) is.epoch (Content from r) tt f
     hears-fits bytes (place.Node from) c epoch (body.Offer parts) f d is read = still s h
     hears-fits bytes (place.Node from) c epoch body.Taken f d is read = still s h
     hears-fits bytes (place.Node from) c epoch (body.Forward segment) f d is read = still s h
@@ -209,7 +189,7 @@ module _ (k : NodeSetting) (n-is : IsNumber k.n) (small : k.stream ≤ 2 ^ 30) (
         let shorter : length after.disk ≤ 2 ^ 30 = completed-short j in
         first-fits (rec.Read k.n job.origin job.c job.r job.path) (node_brought k after job) (n-is, f.0, conn-number job.c f.1, omega (arith, low), f.4.0)
         (cond_both (job.origin == k.n) (node_deed k after job.c (node_read env (node_part after job.c) job.r)) (aside after (node_saying (content_sent k job.origin job.c job.epoch.0 job.r job.path ∷ []))) StepFits
-        (λ t. deed-fits after job.c (node_read env (node_part after job.c) job.r) keeps f.1 (node.read-deed env refl n-is f.1 f.2 small files shorter most packets (node_part after job.c) (keeps.each job.c) job.r))
+        (λ t. rule-fits after keeps shorter job.c job.epoch.0 f.1 f.2 (Completed job.r job.path) tt tt)
         (λ t. aside-fits after (node_saying (content_sent k job.origin job.c job.epoch.0 job.r job.path ∷ [])) keeps
         (sends (place.Node k.n) _ (content-fits job.origin job.c job.epoch.0 job.r job.path f.0 f.1 f.2 f.3, tt) (omega arith)) tt))
 
@@ -217,6 +197,6 @@ module _ (k : NodeSetting) (n-is : IsNumber k.n) (small : k.stream ≤ 2 ^ 30) (
 
     pub step-fits : (i : BackIn) → InputFits i → StepFits (node_step k s i)
     step-fits (input.Message from bytes) f = gets-fits bytes from (decoded_message bytes) f.0 f.1 refl
-    step-fits (input.Timer c) f = deed-fits s c (node_timer (node_env k s c (node_epoch_at s c)) (node_part s c)) h f
-        (node.fires-fits (node_env k s c (node_epoch_at s c)) refl n-is f (early-at (table.get s.conns c) (h.each c).early) small files short most packets (node_part s c) (h.each c))
+    step-fits (input.Timer c) f = rule-fits s h short c (node_epoch_at s c) f (early-at (table.get s.conns c) (h.each c).early) Fires
+        (λ row found. sym (ap (λ (o : Option BackRow). elim o [ None ↦ 0 | Some row ↦ row.epoch.0 ]) found)) tt
     step-fits (input.Disk j) f = disk-fits j (job_at s.disk j) (job-fits j)

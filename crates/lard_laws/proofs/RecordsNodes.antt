@@ -1,12 +1,7 @@
 -- What each rule of a node keeps of a connection, and that its turn is in range.
-use Rattle.std.proofs.Common.{◌≡◌, ℕ, suc, ◌+◌, ◌-◌, ◌≤◌, ◌<◌, ◌^◌, ◌==◌, List, [], ◌∷◌, ◌++◌, length, true, Option, Some, None, IfSome, Ok, Err, Result, refl, ap, subst, arith, length-append}
-use Rattle.std.proofs.lemmas.Bool.{cond_both}
-use Rattle.std.specs.List.{find}
-use Rattle.lard_base.specs.declared.parts.EndpointParts.{EndpointParts}
-use Rattle.lard_base.specs.declared.place.Place.{Place}
-use Rattle.lard_base.specs.declared.place.Place.TheVariants.{Node}
+use Rattle.std.proofs.Common.{◌≡◌, ℕ, suc, ◌+◌, ◌-◌, ◌≤◌, ◌<◌, ◌^◌, List, [], ◌∷◌, ◌++◌, length, true, Option, Some, None, IfSome, Ok, refl, ap, subst, arith, length-append}
+use Rattle.lard_law_view.specs.Prelude.{Asked, BackRow, Content, ControlBlock, Ending, EndpointParts, Final, Forwarded, IsNumber, IsRecordInRange, IsValidParts, Kept, Node, NodeDeed, NodeEnv, NodeGets, NodePart, NodeTurn, Offered, Place, Progress, Said, Stay, Tagged, Turn, Want, Work, after_timer, again_sent, all_sent, anew, ask_kept, asked_kept, asked_sent, back_endpoint, came_for, come_progress, ended_kept, ended_sent, fetch_of, gave_by, goes_on, gone, here, kept_after, node_begins, node_fired, node_rule, node_saying, on_segment, read_progress, reads_batch, reset_count, sent_of, serving, serving_ready_of, serving_settled, spoken, state_of, tagged, taken_sent, timed, turn_by, wants_kept, wants_sent, with_work, without, work_of}
 use Rattle.lard_base.specs.declared.place.TimerKind.TheVariants as kind
-use Rattle.lard_base.specs.Parts.{IsValidParts}
 use Rattle.lard_rules.specs.Bounds as cluster
 use Rattle.lard_laws.proofs.RecordsCounted.{IsCounted, came-counts, tagged-counts}
 use Rattle.lard_laws.proofs.RecordsFit.{IsTold, fit-adopted, keeping-segment, keeping-timer}
@@ -16,39 +11,14 @@ use Rattle.lard_laws.proofs.RecordsServing.{EndFits, EndKeeps, EndTells, Keeps, 
 use Rattle.lard_laws.proofs.RecordsTurns.{AreHeld, IsTurn, held-less, held-more, held-sent, length-held, length-less, length-more, sends}
 use Rattle.lard_laws.proofs.RecordsWorks.{AskFits, EntryFits, IsAtWork, JobFits, ProgressFits, WantFits, at, batch-works, came-fits, came-works, goes-works, read-fits, tagged-works, work-wider}
 use Rattle.lard_laws.proofs.RecordsWorks as works
-use Rattle.lard_endpoint.specs.declared.control.moving.Final.{Final}
-use Rattle.lard_endpoint.specs.Arriving.{on_segment}
-use Rattle.lard_endpoint.specs.Control.{ControlBlock}
-use Rattle.lard_endpoint.specs.Leaving.{after_timer, timed}
-use Rattle.lard_handoff_back.specs.declared.row.BackRow.{BackRow}
-use Rattle.lard_handoff_back.specs.declared.table.Adopt.{Adopt}
-use Rattle.lard_handoff_back.specs.declared.table.Adopt.TheVariants.{Again, New, Stale}
-use Rattle.lard_handoff_back.specs.Back.{awaits_ack, back_endpoint, offer_answer, staying}
-use Rattle.lard_handoff_back.specs.Row.{back_held}
 use Rattle.lard_history.proofs.Each.{Each, Each-append, Each-weaker}
-use Rattle.lard_journal.specs.Range.{IsRecordInRange, IsNumber}
-use Rattle.lard_lateral.specs.Lateral.{is_from}
 use Rattle.lard_law_view.proofs.ByteLists.{AreBytes, each-all}
 use Rattle.lard_message.specs.declared.message.Body.TheVariants as body
 use Rattle.lard_message.specs.Message as message
 use Rattle.lard_message.specs.Message.{IsPath}
-use Rattle.lard_rules.specs.declared.node.NodeTurn.{NodeTurn}
-use Rattle.lard_rules.specs.declared.stay.Asked.{Asked}
-use Rattle.lard_rules.specs.declared.stay.Progress.{Progress}
-use Rattle.lard_rules.specs.declared.stay.Stay.{Stay}
-use Rattle.lard_rules.specs.declared.stay.Want.{Want}
-use Rattle.lard_rules.specs.Node.{NodeDeed, Drops, Says, Does, NodePart, again_sent, all_sent, anew, ask_kept, asked_kept, asked_sent, node_begins, both_of, come_by, reset_count, ended_kept, ended_sent, fetch_of, node_fired_by, gave_by, gone, node_heard_by, here, is_tag_awaited, kept_after, node_acknowledged, node_content, node_forwarded, node_offered, node_read, node_tagged, node_timer, offered_by, node_read_by, node_saying, tagged_by, taken_sent, turn_by, wants_kept, wants_sent, with_work, work_of}
-use Rattle.lard_rules.specs.Stay.{NodeEnv, Work, came_for, come_progress, goes_on, read_progress, reads_batch, tagged}
-use Rattle.lard_resend.specs.declared.kept.Kept.{Kept}
-use Rattle.lard_resend.specs.Kept.{is_under, without}
-use Rattle.lard_resend.specs.Pending.{sent_of}
-use Rattle.lard_rules.specs.declared.places.Ending.{Ending}
+use Rattle.lard_rules.proofs.NodeCases.{IsHereWith, IsInItsEpoch, KeptByNode, node-keeps, of-here}
+use Rattle.lard_rules.specs.Node.{Drops, Says, Does}
 use Rattle.lard_rules.specs.declared.places.Ending.TheVariants.{Here, Over}
-use Rattle.lard_rules.specs.declared.places.Turn.{Turn}
-use Rattle.lard_rules.specs.Loop.{state_of}
-use Rattle.lard_rules.specs.Serving.{serving_ready_of, serving, serving_settled, spoken}
-use Rattle.lard_segment.specs.declared.fault.SegFault.{SegFault}
-use Rattle.lard_segment.specs.Segment.{Said}
 
 -- ---- what is kept
 
@@ -89,16 +59,6 @@ DeedFits n most Drops = Unit {0}
 DeedFits n most (Says messages) = Each (IsLetter (Node n)) messages × (length messages ≤ 2 ^ 30)
 DeedFits n most (Does x) = NodeKeeps n (most + length x.1.messages) x.0 × NodeTurnFits n x.1
 
-both-keep : (b : Option ControlBlock) (s : Option Stay) → HereKeeps b s → IfSome (both_of b s) (λ x. BothKeep x.0 x.1)
-both-keep None s h = tt
-both-keep (Some b) None h = tt
-both-keep (Some b) (Some s) h = h
-
--- where it is here in the epoch
-staying-keeps : (epoch : ℕ) (row : Option BackRow) (s : Option Stay) → HereKeeps (back_endpoint row) s → IfSome (both_of (staying epoch row) s) (λ x. BothKeep x.0 x.1)
-staying-keeps epoch None s h = tt
-staying-keeps epoch (Some row) s h = cond_both (row.epoch.0 == epoch) (back_held row.stage) None (λ (o : Option ControlBlock). IfSome (both_of o s) (λ x. BothKeep x.0 x.1)) (λ t. both-keep (back_held row.stage) s h) (λ t. tt)
-
 gone-early : (row : Option BackRow) → IsEarly row → IsEarly (gone row)
 gone-early None h = tt
 gone-early (Some row) h = h
@@ -106,6 +66,20 @@ gone-early (Some row) h = h
 gone-keeps : (row : Option BackRow) (s : Option Stay) → HereKeeps (back_endpoint (gone row)) s
 gone-keeps None s = tt
 gone-keeps (Some row) s = tt
+
+-- what an Offer may bring
+pub record IsAdoptable (parts : EndpointParts) : Type 0 where
+  pub valid : IsValidParts parts
+  pub fits : message.FitsFields (body.Offer parts)
+  pub unread : AreBytes parts.unread
+
+-- what comes is in range
+abbrev pub MayFit : NodeGets → Type 0
+MayFit (Offered parts) = IsAdoptable parts
+MayFit (Forwarded (Ok said)) = IsTold said
+MayFit (Tagged number nodes) = Each IsNumber nodes
+MayFit (Content from r) = IsNumber from
+MayFit _ = Unit {0}
 
 -- ---- the rules, in an environment of a node
 
@@ -265,38 +239,26 @@ module _ (env : NodeEnv) (own : env.serve.place ≡ Node env.n) (node : IsNumber
   fresh-counts b s h = record { asks = h.3; jobs = omega arith }
 
   module _ (p : NodePart) (held : NodeKeeps env.n most p) where
-    abbrev HasBoth : Option (ControlBlock × Stay) → Type 0
-    HasBoth o = IfSome o (λ x. BothKeep x.0 x.1)
+    both-here : (b : ControlBlock) (s : Stay) → IsHereWith env.epoch p b s → BothKeep b s
+    both-here b s at = of-here (λ (row : Option BackRow) (stay : Option Stay). HereKeeps (back_endpoint row) stay) env.epoch p b s at held.here
 
-    here-has : HasBoth (here env.epoch p)
-    here-has = staying-keeps env.epoch p.row p.stay held.here
-
-    heard-fits : (r : Result Said SegFault) (x : Option (ControlBlock × Stay)) → ((s : Said) → r ≡ Ok s → IsTold s) → HasBoth x → Fits (node_heard_by env p r x)
-    heard-fits (Err fault) x d h = tt
-    heard-fits (Ok s) None d h = tt
-    heard-fits (Ok s) (Some x) d h =
-        let w : Work = work_of (on_segment x.0 s).1 x.1 in
-        let both : BothKeep (on_segment x.0 s).1 x.1 = (keeping-segment (x.1.served - 2 ^ 30) x.0 s (d s refl) h.0, h.1, h.2, h.3) in
+    hears : (said : Said) (b : ControlBlock) (s : Stay) → IsTold said → BothKeep b s → Fits (with_work env p [] (goes_on env (work_of (on_segment b said).1 s)))
+    hears said b s told h =
+        let w : Work = work_of (on_segment b said).1 s in
+        let both : BothKeep (on_segment b said).1 s = (keeping-segment (s.served - 2 ^ 30) b said told h.0, h.1, h.2, h.3) in
         work-fits p held [] tt (omega arith) (goes_on env w)
-        (goes-works env own node conn early small files short 8 w (wide w (fresh (on_segment x.0 s).1 x.1 both)) (fresh-counts (on_segment x.0 s).1 x.1 both))
+        (goes-works env own node conn early small files short 8 w (wide w (fresh (on_segment b said).1 s both)) (fresh-counts (on_segment b said).1 s both))
 
-    pub forwarded-fits : (r : Result Said SegFault) → ((s : Said) → r ≡ Ok s → IsTold s) → Fits (node_forwarded env p r)
-    forwarded-fits r d = heard-fits r (here env.epoch p) d here-has
-
-    tagged_by-fits : (z : ℕ) (nodes : List ℕ) (x : Option (ControlBlock × Stay)) → Each IsNumber nodes → HasBoth x → Fits (tagged_by env z nodes p x)
-    tagged_by-fits z nodes None ns h = tt
-    tagged_by-fits z nodes (Some x) ns h =
+    tags : (nodes : List ℕ) (b : ControlBlock) (s : Stay) → Each IsNumber nodes → BothKeep b s
+        → Fits (with_work env (record p { kept = without kind.Ask 0 p.kept }) [] (goes_on env (tagged env nodes (work_of b s))))
+    tags nodes b s ns h =
         let q : NodePart = record p { kept = without kind.Ask 0 p.kept } in
-        let w : Work = tagged env nodes (work_of x.0 x.1) in
+        let w : Work = tagged env nodes (work_of b s) in
         let few = held.few in
         let fewer = length-less kind.Ask 0 p.kept in
         let less : NodeKeeps env.n most q = record { early = held.early; here = held.here; kept = held-less kind.Ask 0 (Node env.n) p.kept held.kept; few = omega (arith, few, fewer); fetches = held.fetches; few_fetches = held.few_fetches } in
-        cond_both (is_tag_awaited env z nodes p x.1) (with_work env q [] (goes_on env w)) Drops Fits
-        (λ t. work-fits q less [] tt (omega arith) (goes_on env w) (goes-works env own node conn early small files short 8 w (tagged-works env own node conn early small files short nodes (work_of x.0 x.1) ns (fresh x.0 x.1 h))
-        (tagged-counts env nodes (work_of x.0 x.1) (omega arith) (fresh-counts x.0 x.1 h)))) (λ t. tt)
-
-    pub tagged-fits : (z : ℕ) (nodes : List ℕ) → Each IsNumber nodes → Fits (node_tagged env p z nodes)
-    tagged-fits z nodes ns = tagged_by-fits z nodes (here env.epoch p) ns here-has
+        work-fits q less [] tt (omega arith) (goes_on env w) (goes-works env own node conn early small files short 8 w (tagged-works env own node conn early small files short nodes (work_of b s) ns (fresh b s h))
+        (tagged-counts env nodes (work_of b s) (omega arith) (fresh-counts b s h)))
 
     came : (f : Progress → Progress) → ((x : Progress) → ProgressFits x → ProgressFits (f x)) → (r : ℕ) (b : ControlBlock) (s : Stay) → BothKeep b s
         → Works 8 (goes_on env (came_for f r (work_of b s))) × IsCounted (goes_on env (came_for f r (work_of b s)))
@@ -304,40 +266,29 @@ module _ (env : NodeEnv) (own : env.serve.place ≡ Node env.n) (node : IsNumber
         let w : Work = came_for f r (work_of b s) in
         goes-works env own node conn early small files short 8 w (wide w (came-works env own node conn early small files short f on r (work_of b s) (fresh b s h))) (came-counts env f r (work_of b s) (fresh-counts b s h))
 
-    come_by-fits : (from r : ℕ) (x : Option (ControlBlock × Stay)) → IsNumber from → HasBoth x → Fits (come_by env from r p x)
-    come_by-fits from r None n h = tt
-    come_by-fits from r (Some x) n h =
+    comes : (from r : ℕ) (b : ControlBlock) (s : Stay) → IsNumber from → BothKeep b s
+        → Fits (with_work env (record p { fetches = without kind.Fetch r p.fetches }) [] (goes_on env (came_for (come_progress from) r (work_of b s))))
+    comes from r b s n h =
         let q : NodePart = record p { fetches = without kind.Fetch r p.fetches } in
-        let w : Work = came_for (come_progress from) r (work_of x.0 x.1) in
         let few = held.few_fetches in
         let fewer = length-less kind.Fetch r p.fetches in
         let less : NodeKeeps env.n most q = record { early = held.early; here = held.here; kept = held.kept; few = held.few; fetches = held-less kind.Fetch r (Node env.n) p.fetches held.fetches; few_fetches = omega (arith, few, fewer) } in
-        cond_both (is_from from env.epoch (find (is_under kind.Fetch r) p.fetches)) (with_work env q [] (goes_on env w)) Drops Fits
-        (λ t. work-fits q less [] tt (omega arith) (goes_on env w) (came (come_progress from) (came-fits from n) r x.0 x.1 h)) (λ t. tt)
-
-    pub content-fits : (from r : ℕ) → IsNumber from → Fits (node_content env p from r)
-    content-fits from r n = come_by-fits from r (here env.epoch p) n here-has
-
-    read_by-fits : (r : ℕ) (x : Option (ControlBlock × Stay)) → HasBoth x → Fits (node_read_by env r p x)
-    read_by-fits r None h = tt
-    read_by-fits r (Some x) h = work-fits p held [] tt (omega arith) (goes_on env (came_for read_progress r (work_of x.0 x.1))) (came read_progress read-fits r x.0 x.1 h)
-
-    pub read-deed : (r : ℕ) → Fits (node_read env p r)
-    read-deed r = read_by-fits r (here env.epoch p) here-has
+        work-fits q less [] tt (omega arith) (goes_on env (came_for (come_progress from) r (work_of b s))) (came (come_progress from) (came-fits from n) r b s h)
 
     -- ---- an Offer
 
     takes : Each IsSaid (taken_sent env)
     takes = ((tt, bytes-message env.serve.c env.epoch body.Taken tt, taken-says env.serve.c env.epoch, spells env.serve.c env.epoch body.Taken conn early tt tt), tt)
 
-    offered_by-fits : (parts : EndpointParts) (a : Adopt) → IsValidParts parts → message.FitsFields (body.Offer parts) → AreBytes parts.unread → Fits (offered_by env parts p a)
-    offered_by-fits parts New valid wide_enough unread =
-        let got = valid.received in
-        let answered = valid.answered in
-        let acked = valid.acknowledged in
+    begins : (parts : EndpointParts) → IsAdoptable parts
+        → Fits (with_work env p (taken_sent env) (goes_on env (state_of (reads_batch env true (node_begins env parts)))))
+    begins parts fit =
+        let got = fit.valid.received in
+        let answered = fit.valid.answered in
+        let acked = fit.valid.acknowledged in
         let w : Work = state_of (reads_batch env true (node_begins env parts)) in
         let start : IsAtWork env own node conn early small files short 8 0 (node_begins env parts) = record {
-          service = record { notes = ((node, number, omega (arith, early)), tt); keeps = ((tt, omega (arith, got, answered), omega (arith, acked)), unread, fit-adopted parts valid wide_enough); over = tt };
+          service = record { notes = ((node, number, omega (arith, early)), tt); keeps = ((tt, omega (arith, got, answered), omega (arith, acked)), fit.unread, fit-adopted parts fit.valid fit.fits); over = tt };
           batch = tt;
           few = omega arith;
           jobs = tt;
@@ -349,29 +300,24 @@ module _ (env : NodeEnv) (own : env.serve.place ≡ Node env.n) (node : IsNumber
         let begun = batch-works env own node conn early small files short 0 true (node_begins env parts) refl start first in
         work-fits p held (taken_sent env) takes (omega arith) (goes_on env w)
         (goes-works env own node conn early small files short 8 w (wide w begun.0) begun.1)
-    offered_by-fits parts Again valid wide_enough unread = (takes, omega arith)
-    offered_by-fits parts Stale valid wide_enough unread = tt
-
-    pub offered-fits : (parts : EndpointParts) → IsValidParts parts → message.FitsFields (body.Offer parts) → AreBytes parts.unread → Fits (node_offered env p parts)
-    offered-fits parts valid wide_enough unread = offered_by-fits parts (offer_answer env.epoch p.row) valid wide_enough unread
 
     -- ---- the end of a stay
 
-    pub acknowledged-fits : Fits (node_acknowledged env p)
-    acknowledged-fits =
-        let q : NodePart = record p { row = gone p.row; kept = without kind.Ended 0 p.kept } in
+    ends : Fits (Does (record p { row = gone p.row; kept = without kind.Ended 0 p.kept }, node_saying []))
+    ends =
         let few = held.few in
         let fetches = held.few_fetches in
-        let fewer = length-less kind.Ended 0 p.kept in
-        let keeps : NodeKeeps env.n (most + 0) q = record {
-          early = gone-early p.row held.early;
-          here = gone-keeps p.row p.stay;
-          kept = held-less kind.Ended 0 (Node env.n) p.kept held.kept;
-          few = omega (arith, few, fewer);
-          fetches = held.fetches;
-          few_fetches = omega (arith, fetches);
-        } in
-        cond_both (awaits_ack env.epoch p.row) (Does (q, node_saying [])) Drops Fits (λ t. (keeps, (sends (Node env.n) [] tt (omega arith), tt))) (λ t. tt)
+        let fewer = length-less kind.Ended 0 p.kept in (
+          record {
+            early = gone-early p.row held.early;
+            here = gone-keeps p.row p.stay;
+            kept = held-less kind.Ended 0 (Node env.n) p.kept held.kept;
+            few = omega (arith, few, fewer);
+            fetches = held.fetches;
+            few_fetches = omega (arith, fetches);
+          },
+          (sends (Node env.n) [] tt (omega arith), tt),
+        )
 
     -- ---- timers
 
@@ -386,18 +332,35 @@ module _ (env : NodeEnv) (own : env.serve.place ≡ Node env.n) (node : IsNumber
     again : Each IsSaid (again_sent p)
     again = held-sent (Node env.n) (p.kept ++ p.fetches) (Each-append (λ k. IsSaid (sent_of k)) p.kept p.fetches held.kept held.fetches)
 
-    fired_by-fits : (x : Option (ControlBlock × Stay)) → HasBoth x → Fits (node_fired_by env p x)
-    fired_by-fits None h = let few = again-few in (again, omega (arith, few))
-    fired_by-fits (Some x) h =
-        let b : ControlBlock = after_timer x.0 in
-        let after : Keeps x.1.served b = keeping-timer (x.1.served - 2 ^ 30) x.0 h.0 in
-        let w : Work = work_of b x.1 in
-        let both : BothKeep b x.1 = (after, h.1, h.2, h.3) in
-        result p held (again_sent p) again again-few w (wide w (fresh b x.1 both)) (fresh-counts b x.1 both) (spoken env.serve (serving b x.1.served []) (serving_ready_of env.serve b (timed x.0)))
-        (subst (λ (q : Place). EndFits q (spoken env.serve (serving b x.1.served []) (serving_ready_of env.serve b (timed x.0)))) own
-        (spoken-fits env.serve number small (contents env.serve.files files) (at env own node conn early small files short) (serving b x.1.served []) (serving_ready_of env.serve b (timed x.0))
-        (ready-sent env.serve number (x.1.served - 2 ^ 30) b (timed x.0) after) (ready-few env.serve number b (timed x.0)) (record { notes = tt; keeps = after; over = tt })))
-        (spoken-tells env.serve number small (contents env.serve.files files) (at env own node conn early small files short) (serving b x.1.served []) (serving_ready_of env.serve b (timed x.0)))
+    fires : (b : ControlBlock) (s : Stay) → BothKeep b s
+        → Fits (Does (node_fired env p (b, s) (spoken env.serve (serving (after_timer b) s.served []) (serving_ready_of env.serve (after_timer b) (timed b)))))
+    fires b0 s h =
+        let b : ControlBlock = after_timer b0 in
+        let after : Keeps s.served b = keeping-timer (s.served - 2 ^ 30) b0 h.0 in
+        let w : Work = work_of b s in
+        let both : BothKeep b s = (after, h.1, h.2, h.3) in
+        result p held (again_sent p) again again-few w (wide w (fresh b s both)) (fresh-counts b s both) (spoken env.serve (serving b s.served []) (serving_ready_of env.serve b (timed b0)))
+        (subst (λ (q : Place). EndFits q (spoken env.serve (serving b s.served []) (serving_ready_of env.serve b (timed b0)))) own
+        (spoken-fits env.serve number small (contents env.serve.files files) (at env own node conn early small files short) (serving b s.served []) (serving_ready_of env.serve b (timed b0))
+        (ready-sent env.serve number (s.served - 2 ^ 30) b (timed b0) after) (ready-few env.serve number b (timed b0)) (record { notes = tt; keeps = after; over = tt })))
+        (spoken-tells env.serve number small (contents env.serve.files files) (at env own node conn early small files short) (serving b s.served []) (serving_ready_of env.serve b (timed b0)))
 
-    pub fires-fits : Fits (node_timer env p)
-    fires-fits = fired_by-fits (both_of (back_endpoint p.row) p.stay) (both-keep (back_endpoint p.row) p.stay held.here)
+    -- ---- the rules
+
+    rules_fit : KeptByNode env p MayFit Fits
+    rules_fit = record {
+      drops = tt;
+      hears = λ said b s m here. hears said b s m (both-here b s here);
+      tags = λ number nodes b s m here asked same count. tags nodes b s m (both-here b s here);
+      comes = λ from r b s m here wanted. comes from r b s m (both-here b s here);
+      reads = λ r path b s m here.
+          work-fits p held [] tt (omega arith) (goes_on env (came_for read_progress r (work_of b s))) (came read_progress read-fits r b s (both-here b s here));
+      begins = λ parts m new. begins parts m;
+      takes_again = λ parts m told. (takes, omega arith);
+      fires = λ b s m here. fires b s (both-here b s here);
+      resends = λ m none. let few = again-few in (again, omega (arith, few));
+      ends = λ m told. ends;
+    }
+
+    pub rule-fits : (g : NodeGets) → IsInItsEpoch env p g → MayFit g → Fits (node_rule env p g)
+    rule-fits g in_epoch m = node-keeps env p MayFit Fits rules_fit g in_epoch m

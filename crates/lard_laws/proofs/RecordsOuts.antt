@@ -1,16 +1,10 @@
 -- What a place does in a step is in range.
 use Rattle.std.proofs.Common.{ℕ, ◌≤◌, ◌^◌, List, [], ◌∷◌, ◌++◌, length, nat_lt, Bool, true, false, cond, arith, length-append}
 use Rattle.std.specs.List.{flat_map}
-use Rattle.lard_base.specs.declared.place.Place.{Place}
-use Rattle.lard_base.specs.declared.place.TimerKind.{TimerKind}
+use Rattle.lard_law_view.specs.Prelude.{IsNumber, IsPlaceInRange, IsRecordInRange, Out, Place, Rec, TimerKind, in_order, kind_change, nothing_done, timer_kinds}
 use Rattle.lard_laws.proofs.RecordsLetters.{IsLetter}
 use Rattle.lard_laws.proofs.RecordsTurns.{IsTurn, change-range}
-use Rattle.lard_rules.specs.FrontPlace.{in_order}
 use Rattle.lard_history.proofs.Each.{Each, Each-append}
-use Rattle.lard_journal.specs.declared.rec.Rec.{Rec}
-use Rattle.lard_journal.specs.Range.{IsRecordInRange, IsNumber, IsPlaceInRange}
-use Rattle.lard_rules.specs.declared.places.Out.{Out}
-use Rattle.lard_rules.specs.Outs.{kind_change, timer_kinds, nothing_done}
 
 pub record OutFits (from : Place) (o : Out) : Type 0 where
   pub notes : Each IsRecordInRange o.notes

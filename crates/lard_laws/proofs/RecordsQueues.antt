@@ -1,52 +1,20 @@
 -- A step gives the disk of a node eight jobs at most: one for the first request of a batch that an Offer brings, and one for each node
 -- of a Tag.
-use Rattle.std.proofs.Common.{◌≡◌, ℕ, suc, ◌+◌, ◌-◌, ◌≤◌, ◌==◌, ◌&&◌, nat_le, nat_lt, List, [], ◌∷◌, ◌++◌, length, take, drop, Bool, true, false, cond, not, Option, Some, None, Result, Ok, Err, refl, ap, arith, length-append, length-drop}
+use Rattle.std.proofs.Common.{sym, ◌≡◌, ℕ, suc, ◌+◌, ◌-◌, ◌≤◌, ◌==◌, ◌&&◌, nat_le, nat_lt, List, [], ◌∷◌, ◌++◌, length, take, drop, Bool, true, false, cond, not, Option, Some, None, Result, Ok, Err, refl, ap, arith, length-append, length-drop}
 use Rattle.std.proofs.lemmas.Bool.{and_parts, cond_both}
 use Rattle.std.proofs.lemmas.Bool.Decides.{nat_tests}
 use Rattle.std.proofs.lemmas.List.{length-take}
 use Rattle.std.proofs.lemmas.Option.{slice_get_within}
-use Rattle.std.specs.List.{find, list_any}
+use Rattle.std.specs.List.{list_any}
+use Rattle.lard_law_view.specs.Prelude.{Acknowledged, BackIn, BackRow, Body, Completed, Content, Fires, Forwarded, Job, Kind, Message, MsgFault, NodeDeed, NodeEnv, NodeGets, NodePart, NodeSetting, NodeState, NodeTurn, Offered, Out, Place, Progress, Tagged, ToCluster, Verdict, Work, aside, batch_of, body_at, bytes_used, came_for, come_on, come_progress, completed, connection_at, content_sent, decoded, decoded_message, disk_step, epoch_at as message_epoch, fetched, fetched_file, goes_on, has_path, here, is_for, is_of_table, is_version, job_at, kind_named, length_at, node_begins, node_brought, node_deed, node_env, node_epoch_at, node_gets, node_hears, node_part, node_read, node_rule, node_saying, node_step, nothing_done, number_byte, on_segment, own_job, read_progress, reads_batch, state_of, tagged, version_at, with_body, with_kind, without_job, work_of}
 use Rattle.lard_base.specs.declared.ids.TheConstants.ConnId.{MAX}
-use Rattle.lard_base.specs.declared.parts.EndpointParts.{EndpointParts}
-use Rattle.lard_base.specs.declared.place.Place.{Place}
 use Rattle.lard_base.specs.declared.place.Place.TheVariants as place
-use Rattle.lard_base.specs.declared.place.TimerKind.TheVariants as kind
-use Rattle.lard_cache.specs.Recency.{has_path}
-use Rattle.lard_disk.specs.declared.disk.Job.{Job}
-use Rattle.lard_disk.specs.Jobs.{is_for, job_at, without_job}
-use Rattle.lard_endpoint.specs.Arriving.{on_segment}
-use Rattle.lard_endpoint.specs.Control.{ControlBlock}
-use Rattle.lard_handoff_back.specs.declared.table.Adopt.{Adopt}
-use Rattle.lard_handoff_back.specs.declared.table.Adopt.TheVariants.{Again, New, Stale}
-use Rattle.lard_handoff_back.specs.Back.{awaits_ack, back_endpoint, offer_answer}
 use Rattle.lard_journal.specs.declared.rec.Rec.TheVariants as rec
-use Rattle.lard_lateral.specs.Lateral.{is_from}
-use Rattle.lard_message.specs.declared.fault.MsgFault.{MsgFault}
 use Rattle.lard_message.specs.declared.fault.MsgFault.TheVariants as fault
-use Rattle.lard_message.specs.declared.kind.Kind.{Kind}
-use Rattle.lard_message.specs.Kinds.{is_version, kind_named}
-use Rattle.lard_message.specs.declared.message.Body.{Body}
 use Rattle.lard_message.specs.declared.message.Body.TheVariants as body
-use Rattle.lard_message.specs.declared.message.Message.{Message}
-use Rattle.lard_message.specs.Reading.{body_at, connection_at, decoded_message, epoch_at as message_epoch, is_of_table, length_at, number_byte, version_at, with_body, with_kind}
-use Rattle.lard_rules.specs.declared.node.BackIn.{BackIn}
 use Rattle.lard_rules.specs.declared.node.BackIn.TheVariants as input
-use Rattle.lard_rules.specs.declared.node.NodeState.{NodeState}
-use Rattle.lard_rules.specs.declared.node.NodeTurn.{NodeTurn}
-use Rattle.lard_rules.specs.declared.stay.Progress.{Progress}
-use Rattle.lard_rules.specs.declared.stay.Stay.{Stay}
-use Rattle.lard_rules.specs.Node.{NodeDeed, Drops, Does, NodePart, Says, node_begins, both_of, come_by, node_fired_by, gone, node_heard_by, here, is_tag_awaited, node_acknowledged, node_content, node_forwarded, node_offered, node_read, node_tagged, node_timer, offered_by, node_read_by, node_saying, tagged_by, with_work, work_of}
-use Rattle.lard_rules.specs.NodePlace.{NodeSetting, aside, node_brought, completed, content_sent, disk_step, node_epoch_at, fetched, fetched_file, node_deed, node_env, node_gets, node_hears, node_part, node_step}
-use Rattle.lard_rules.specs.Stay.{NodeEnv, Work, came_for, come_on, come_progress, goes_on, read_progress, reads_batch, tagged, own_job}
-use Rattle.lard_reader.specs.Batches.{batch_of, bytes_used}
-use Rattle.lard_request.specs.declared.verdict.Verdict.{Verdict}
-use Rattle.lard_resend.specs.Kept.{is_under, without}
-use Rattle.lard_rules.specs.declared.places.Out.{Out}
-use Rattle.lard_rules.specs.Loop.{state_of}
-use Rattle.lard_rules.specs.Outs.{nothing_done}
-use Rattle.lard_segment.specs.declared.fault.SegFault.{SegFault}
-use Rattle.lard_segment.specs.declared.segment.Dir.TheVariants.{ToCluster}
-use Rattle.lard_segment.specs.Segment.{Said, decoded}
+use Rattle.lard_rules.proofs.NodeCases.{IsInItsEpoch, KeptByNode, node-keeps}
+use Rattle.lard_rules.specs.Node.{Drops, Does, Says}
 use Rattle.lard_rules.proofs.StayWalking.{KeptByReads, KeptByStarts, state-in, tagged-in, these-in}
 use Rattle.lard_rules.proofs.StayKeeping.{turning-keeps}
 
@@ -147,11 +115,6 @@ module _ (env : NodeEnv) where
   QueuesFew (Says messages) = Unit {0}
   QueuesFew (Does x) = length x.1.jobs ≤ 8
 
-  -- of two deeds by a test, the other is that nothing is done
-  if-few : (b : Bool) (d : NodeDeed) → QueuesFew d → QueuesFew (cond b d Drops)
-  if-few true d h = h
-  if-few false d h = tt
-
   -- what is in hand goes on, with so few jobs
   on-few : (w : Work) → length w.jobs ≤ 8 → length (goes_on env w).jobs ≤ 8
   on-few w few = goes-few 8 w few
@@ -162,40 +125,26 @@ module _ (env : NodeEnv) where
   came-few : (f : Progress → Progress) (r : ℕ) (w : Work) → length w.jobs ≤ 8 → length (goes_on env (came_for f r w)).jobs ≤ 8
   came-few f r w few = on-few (came_for f r w) (let same : length (came_for f r w).jobs ≡ length w.jobs = ap length (came-same f r w) in omega (arith, same, few))
 
-  heard-few : (p : NodePart) (given : Result Said SegFault) (x : Option (ControlBlock × Stay)) → QueuesFew (node_heard_by env p given x)
-  heard-few p (Err fault) x = tt
-  heard-few p (Ok s) None = tt
-  heard-few p (Ok s) (Some x) = on-few (work_of (on_segment x.0 s).1 x.1) (omega arith)
+  abbrev MayQueue : NodeGets → Type 0
+  MayQueue (Tagged number nodes) = length nodes ≤ 8
+  MayQueue _ = Unit {0}
 
-  tagged-few : (number : ℕ) (nodes : List ℕ) (p : NodePart) (x : Option (ControlBlock × Stay)) → length nodes ≤ 8 → QueuesFew (tagged_by env number nodes p x)
-  tagged-few number nodes p None few = tt
-  tagged-few number nodes p (Some x) few =
-      let w : Work = work_of x.0 x.1 in
-      let q : NodePart = record p { kept = without kind.Ask 0 p.kept } in
-      if-few (is_tag_awaited env number nodes p x.1) (with_work env q [] (goes_on env (tagged env nodes w))) (on-few (tagged env nodes w) (starts-few 8 nodes w (omega (arith, few))))
+  rules_few : (p : NodePart) → KeptByNode env p MayQueue QueuesFew
+  rules_few p = record {
+    drops = tt;
+    hears = λ said b s m at. on-few (work_of (on_segment b said).1 s) (omega arith);
+    tags = λ number nodes b s m at asked same count. on-few (tagged env nodes (work_of b s)) (starts-few 8 nodes (work_of b s) (omega (arith, m)));
+    comes = λ from r b s m at wanted. came-few (come_progress from) r (work_of b s) (omega arith);
+    reads = λ r path b s m at. came-few read_progress r (work_of b s) (omega arith);
+    begins = λ parts m new. on-few (state_of (reads_batch env true (node_begins env parts))) (first-few 8 (node_begins env parts) refl (omega arith));
+    takes_again = λ parts m again. tt;
+    fires = λ b s m at. omega arith;
+    resends = λ m none. tt;
+    ends = λ m told. omega arith;
+  }
 
-  come-few : (from r : ℕ) (p : NodePart) (x : Option (ControlBlock × Stay)) → QueuesFew (come_by env from r p x)
-  come-few from r p None = tt
-  come-few from r p (Some x) =
-      let w : Work = came_for (come_progress from) r (work_of x.0 x.1) in
-      let q : NodePart = record p { fetches = without kind.Fetch r p.fetches } in
-      if-few (is_from from env.epoch (find (is_under kind.Fetch r) p.fetches)) (with_work env q [] (goes_on env w)) (came-few (come_progress from) r (work_of x.0 x.1) (omega arith))
-
-  read-few : (r : ℕ) (p : NodePart) (x : Option (ControlBlock × Stay)) → QueuesFew (node_read_by env r p x)
-  read-few r p None = tt
-  read-few r p (Some x) = came-few read_progress r (work_of x.0 x.1) (omega arith)
-
-  offered-few : (parts : EndpointParts) (p : NodePart) (a : Adopt) → QueuesFew (offered_by env parts p a)
-  offered-few parts p New = on-few (state_of (reads_batch env true (node_begins env parts))) (first-few 8 (node_begins env parts) refl (omega arith))
-  offered-few parts p Again = tt
-  offered-few parts p Stale = tt
-
-  acknowledged-few : (p : NodePart) → QueuesFew (node_acknowledged env p)
-  acknowledged-few p = if-few (awaits_ack env.epoch p.row) (Does (record p { row = gone p.row; kept = without kind.Ended 0 p.kept }, node_saying [])) (omega arith)
-
-  fires-few : (p : NodePart) (x : Option (ControlBlock × Stay)) → QueuesFew (node_fired_by env p x)
-  fires-few p None = tt
-  fires-few p (Some x) = omega arith
+  rule-few : (p : NodePart) (g : NodeGets) → IsInItsEpoch env p g → MayQueue g → QueuesFew (node_rule env p g)
+  rule-few p g at m = node-keeps env p MayQueue QueuesFew (rules_few p) g at m
 
 -- ---- a node's step
 
@@ -212,6 +161,10 @@ module _ (k : NodeSetting) where
   deed-gains env s c (Says messages) few = let more = length-append s.disk [] in omega (arith, more)
   deed-gains env s c (Does x) few = let more = length-append s.disk x.1.jobs in omega (arith, more, few)
 
+  rule-gains : (s : NodeState) (c epoch : ℕ) (g : NodeGets) → IsInItsEpoch (node_env k s c epoch) (node_part s c) g → MayQueue (node_env k s c epoch) g
+      → GainsFew s.disk (node_deed k s c (node_rule (node_env k s c epoch) (node_part s c) g)).0.disk
+  rule-gains s c epoch g at m = deed-gains (node_env k s c epoch) s c (node_rule (node_env k s c epoch) (node_part s c) g) (rule-few (node_env k s c epoch) (node_part s c) g at m)
+
   file-gains : (s : NodeState) (from c epoch r : ℕ) (path : List ℕ) → GainsFew s.disk (aside s (fetched_file k s from c epoch r path)).0.disk
   file-gains s from c epoch r path =
       let job : Job = record { origin = from; c = c; epoch = record { 0 = epoch }; r = r; path = path } in
@@ -227,12 +180,12 @@ module _ (k : NodeSetting) where
       cond_both (list_any (is_for c epoch r) s.disk) (s, nothing_done) (aside s (fetched_file k s from c epoch r path)) (λ (x : NodeState × Out). GainsFew s.disk x.0.disk) (λ t. omega arith) (λ t. file-gains s from c epoch r path)
 
   hears-gains : (s : NodeState) (from : Place) (c epoch : ℕ) (b : Body) → TagsFew b → GainsFew s.disk (node_hears k s from c epoch b).0.disk
-  hears-gains s place.Front c epoch (body.Offer parts) few = let env = node_env k s c epoch in deed-gains env s c (node_offered env (node_part s c) parts) (offered-few env parts (node_part s c) (offer_answer epoch (node_part s c).row))
-  hears-gains s place.Front c epoch (body.Forward bytes) few = let env = node_env k s c epoch in deed-gains env s c (node_forwarded env (node_part s c) (decoded bytes c ToCluster)) (heard-few env (node_part s c) (decoded bytes c ToCluster) (here epoch (node_part s c)))
-  hears-gains s place.Front c epoch (body.Tag number nodes) few = let env = node_env k s c epoch in deed-gains env s c (node_tagged env (node_part s c) number nodes) (tagged-few env number nodes (node_part s c) (here epoch (node_part s c)) few)
-  hears-gains s place.Front c epoch body.EndedAck few = let env = node_env k s c epoch in deed-gains env s c (node_acknowledged env (node_part s c)) (acknowledged-few env (node_part s c))
+  hears-gains s place.Front c epoch (body.Offer parts) few = rule-gains s c epoch (Offered parts) tt tt
+  hears-gains s place.Front c epoch (body.Forward bytes) few = rule-gains s c epoch (Forwarded (decoded bytes c ToCluster)) tt tt
+  hears-gains s place.Front c epoch (body.Tag number nodes) few = rule-gains s c epoch (Tagged number nodes) tt few
+  hears-gains s place.Front c epoch body.EndedAck few = rule-gains s c epoch Acknowledged tt tt
   hears-gains s (place.Node from) c epoch (body.Fetch r path) few = fetched-gains s from c epoch r path (k.files path)
-  hears-gains s (place.Node from) c epoch (body.Content r bytes) few = let env = node_env k s c epoch in deed-gains env s c (node_content env (node_part s c) from r) (come-few env from r (node_part s c) (here epoch (node_part s c)))
+  hears-gains s (place.Node from) c epoch (body.Content r bytes) few = rule-gains s c epoch (Content from r) tt tt
   hears-gains s _ c epoch _ few = still-gains s.disk
 
   gets-gains : (s : NodeState) (from : Place) (given : Result Message MsgFault) → ReadsFew given → GainsFew s.disk (node_gets k s from given).0.disk
@@ -255,7 +208,7 @@ module _ (k : NodeSetting) where
       let read : NodeState × Out = node_deed k s job.c (node_read env (node_part s job.c) job.r) in
       let sent : NodeState × Out = aside s (node_saying (content_sent k job.origin job.c job.epoch.0 job.r job.path ∷ [])) in
       cond_both (job.origin == k.n) read sent (λ (x : NodeState × Out). GainsFew s.disk x.0.disk)
-      (λ t. deed-gains env s job.c (node_read env (node_part s job.c) job.r) (read-few env job.r (node_part s job.c) (here job.epoch.0 (node_part s job.c))))
+      (λ t. rule-gains s job.c job.epoch.0 (Completed job.r job.path) tt tt)
       (λ t. omega (arith, none))
 
   disk-gains : (s : NodeState) (j : ℕ) (o : Option Job) → GainsFew s.disk (disk_step k s j o).0.disk
@@ -264,7 +217,5 @@ module _ (k : NodeSetting) where
 
   pub step-gains : (s : NodeState) (i : BackIn) → GainsFew s.disk (node_step k s i).0.disk
   step-gains s (input.Message from bytes) = gets-gains s from (decoded_message bytes) (decoded-few bytes)
-  step-gains s (input.Timer c) =
-      let env = node_env k s c (node_epoch_at s c) in
-      deed-gains env s c (node_timer env (node_part s c)) (fires-few env (node_part s c) (both_of (back_endpoint (node_part s c).row) (node_part s c).stay))
+  step-gains s (input.Timer c) = rule-gains s c (node_epoch_at s c) Fires (λ row found. sym (ap (λ (o : Option BackRow). elim o [ None ↦ 0 | Some row ↦ row.epoch.0 ]) found)) tt
   step-gains s (input.Disk j) = disk-gains s j (job_at s.disk j)

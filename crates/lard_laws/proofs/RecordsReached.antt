@@ -6,21 +6,13 @@ use Rattle.std.specs.FinMap.{get-empty}
 use Rattle.std.specs.Ordering.{nat_cmp}
 use Rattle.std.specs.Prelude.{slice_get}
 use Rattle.lard_base.proofs.Usable.{usable}
-use Rattle.lard_base.specs.Config.{config_check}
-use Rattle.lard_base.specs.declared.config.Config.{Config}
-use Rattle.lard_base.specs.declared.event.Event.{Event}
+use Rattle.lard_law_view.specs.Prelude.{BackIn, ClientBlock, Config, Event, HasRule, IsNumber, IsPlaceInRange, IsReached, IsRecordInRange, IsViewed, MAX_SEGMENT_BYTES, Machine, NodeState, Packet, Passes, Place, Rec, Station, StepFault, ToClient, Turn, bytes_in, client_aborts, client_acts, client_gets, client_goes_on, client_holds, client_injects, client_opens, client_shuts, client_takes, client_timer, client_writes, clocked, completes, config_check, conn, decoded, delivered, disk_at, file_at, from_place, happens, is_client_armed, is_no_job, is_no_node, list_of, lose_at, lost, machine_opened, machine_start, machine_step, machine_to_client, machine_to_front, machine_wrote, no_stays, node_acts, node_at, node_gave, node_part, node_setting, node_step, nothing_kept, packet_at, part_of, passed, request, timer, timer_at, to_place, written_len}
 use Rattle.lard_base.specs.declared.event.Event.TheVariants as event
-use Rattle.lard_base.specs.declared.limits.TheConstants.{MAX_SEGMENT_BYTES}
-use Rattle.lard_base.specs.declared.place.Place.{Place}
 use Rattle.lard_base.specs.declared.place.Place.TheVariants as place
-use Rattle.lard_client.specs.Control.{ClientBlock, is_client_armed, written_len}
-use Rattle.lard_rules.specs.Bounds.{HasRule}
-use Rattle.lard_rules.specs.declared.fault.StepFault.{StepFault}
 use Rattle.lard_rules.specs.declared.fault.Refusal.TheVariants.{NoJob, NoNode, WasLost}
 use Rattle.lard_rules.specs.declared.fault.StepFault.TheVariants.{Limit, Refused}
-use Rattle.lard_rules.specs.declared.machine.Machine.{Machine}
-use Rattle.lard_rules.specs.Machine.{IsReached, Passes, client_acts, client_goes_on, clocked, completes, delivered, disk_at, from_place, happens, is_no_job, is_no_node, limit_reached, lost, machine_step, node_acts, node_at, node_gave, node_setting, machine_opened, passed, machine_start, timer, timer_at, machine_to_client, machine_to_front, to_place, unless_limit, machine_wrote}
 use Rattle.lard_laws.specs.Records.{IsRunFile, IsScheduled, RecordsAreInRange}
+use Rattle.lard_law_connections.proofs.Happened.{done-happens}
 use Rattle.lard_laws.proofs.RecordsDisks.{DisksAreShort, disks-short}
 use Rattle.lard_laws.proofs.RecordsFronts.{FrontKeeps, no-rest}
 use Rattle.lard_laws.proofs.RecordsHolding.{HasRoom, Holds, IsPacket, NodeHolds, StationKeeps, client-holds, front-holds, node-holds, passed-holds}
@@ -31,35 +23,19 @@ use Rattle.lard_laws.proofs.RecordsNodeStep as node
 use Rattle.lard_laws.proofs.RecordsNodeStep.{PlaceKeeps}
 use Rattle.lard_laws.proofs.RecordsSizes.{IsSized, SizeFits, aborts-sized, fires-sized, gets-sized, holds-sized, injects-sized, opens-sized, shuts-sized, takes-sized, writes-sized}
 use Rattle.lard_laws.proofs.RecordsWorks.{got}
-use Rattle.lard_law_view.specs.View.{IsViewed, conn, nothing_kept, part_of}
 use Rattle.lard_law_view.proofs.After.{IsAfter, step-after}
 use Rattle.lard_law_view.proofs.Carried.{reached-viewed}
 use Rattle.lard_law_view.proofs.Runs.{passes-more, start-blank}
-use Rattle.lard_files.specs.Files.{file_at}
 use Rattle.lard_rules.proofs.FrontStepping.{start-sound}
 use Rattle.lard_history.proofs.Each.{Each}
-use Rattle.lard_history.specs.Journal.{request}
-use Rattle.lard_journal.specs.declared.rec.Rec.{Rec}
 use Rattle.lard_journal.specs.declared.rec.Rec.TheVariants as rec
-use Rattle.lard_journal.specs.Range.{IsRecordInRange, IsNumber, IsPlaceInRange}
 use Rattle.lard_law_view.proofs.ByteLists.{AreBytes, all-each, bytes-decoded, each-all, index-bytes}
 use Rattle.lard_law_view.proofs.ClientRange.{ClientFits, ClientKeeps, aborts-fits, fires-fits, gets-fits, holds-fits, injects-fits, opens-fits, shuts-fits, takes-fits, writes-fits}
 use Rattle.lard_law_view.proofs.EventRange.{few-before}
 use Rattle.lard_law_view.proofs.ToldEvents.{request-bytes}
-use Rattle.lard_rules.specs.declared.fault.What.{What}
 use Rattle.lard_rules.specs.declared.fault.What.TheVariants.{Stream}
-use Rattle.lard_net.specs.Net.{Packet, bytes_in, lose_at, packet_at}
-use Rattle.lard_rules.specs.declared.node.BackIn.{BackIn}
 use Rattle.lard_rules.specs.declared.node.BackIn.TheVariants as back
-use Rattle.lard_rules.specs.declared.node.NodeState.{NodeState}
-use Rattle.lard_rules.specs.NodePlace.{no_stays, node_part, node_step}
-use Rattle.lard_resend.specs.Pending.{list_of}
 use Rattle.lard_rules.specs.declared.front.FrontIn.TheVariants as input
-use Rattle.lard_rules.specs.declared.places.Station.{Station}
-use Rattle.lard_rules.specs.declared.places.Turn.{Turn}
-use Rattle.lard_rules.specs.Client.{client_aborts, client_gets, client_holds, client_injects, client_opens, client_shuts, client_takes, client_timer, client_writes}
-use Rattle.lard_segment.specs.declared.segment.Dir.TheVariants.{ToClient}
-use Rattle.lard_segment.specs.Segment.{decoded}
 
 -- ---- what a step gives
 
@@ -67,14 +43,6 @@ use Rattle.lard_segment.specs.Segment.{decoded}
 abbrev Good : Result Machine StepFault → Type 0
 Good (Ok n) = Holds n
 Good (Err fault) = Unit {0}
-
--- no limit was reached before a step that is done
-pub below : (m n : Machine) (e : Event) → machine_step m e ≡ Ok n → (limit_reached m ≡ None) × (happens m e ≡ Ok n)
-unfolding machine_step
-below m n e is = go (limit_reached m) refl is where
-  go : (o : Option What) → limit_reached m ≡ o → unless_limit o (happens m e) ≡ Ok n → (limit_reached m ≡ None) × (happens m e ≡ Ok n)
-  go None limit same = (limit, same)
-  go (Some what) limit same = absurd cc
 
 -- a packet that arrives no more is as it was
 lost-packets : (i : ℕ) (net : List Packet) → Each IsPacket net → Each IsPacket (lose_at i net)
@@ -246,7 +214,7 @@ module _ (config : Config) (files : List (List ℕ × List ℕ)) (small : config
 
   step-holds : (m n : Machine) (e : Event) → IsOn m → Holds m → IsScheduled e → HasRule e → machine_step m e ≡ Ok n → Holds n
   step-holds m n e on h given rule is =
-      let first = below m n e is in
+      let first = done-happens m n e is in
       let few = few-before (length m.net) (bytes_in m.net) (length m.journal) m.answered first.0 in
       let good : Good (happens m e) = happens-good m (reached-viewed config files m on.reached) (subst (λ (c : Config). c.stream ≤ 2 ^ 30) (sym on.config_is) small) (subst (λ (fs : List (List ℕ × List ℕ)). AreNamed (file_at fs)) (sym on.files_are) named) h
       (record { packets = few.0; records = few.1 }) (disks-short config files m on.reached few.1) e given rule in

@@ -1,37 +1,20 @@
 -- What any place notes and sends while it serves is in range, and what it keeps of a connection then is bytes.
-use Rattle.std.proofs.Common.{◌≡◌, ℕ, ◌+◌, ◌-◌, ◌≤◌, ◌<◌, ◌^◌, List, [], ◌∷◌, length, drop, nat_lt, false, Option, Some, None, IfSome, refl, sym, subst, arith, length-append}
+use Rattle.std.proofs.Common.{◌≡◌, ℕ, ◌+◌, ◌-◌, ◌≤◌, ◌<◌, ◌^◌, List, [], ◌∷◌, length, drop, false, Option, Some, None, IfSome, refl, sym, subst, arith, length-append}
 use Rattle.std.proofs.lemmas.Bool.{cond_both, ltb-false}
-use Rattle.lard_answers.specs.Answers.{answer, answer_code}
-use Rattle.lard_base.specs.declared.place.Place.{Place}
+use Rattle.lard_law_view.specs.Prelude.{ControlBlock, Ending, FitsFields, IsCount, IsNumber, IsOfTable, IsPlaceInRange, IsRecordInRange, IsViaInRange, Place, Ready, Said, ServeEnv, Service, ToClient, Turn, Verdict, Via, acknowledged_bytes, after_emit, answer, answer_code, answered, closed_behind, closes, cut_off, discarding_on, emits_left, ended_at_fin, filled, final_of, finishing, limit_said, owes, queueing, reset_count, rested, serving_consumed, serving_ready_of, serving_settled, serving_told, speaks, speaks_symbols, spoken, to_client}
 use Rattle.lard_base.specs.declared.place.Reason.TheVariants as reason
-use Rattle.lard_base.specs.declared.place.Via.{Via}
 use Rattle.lard_laws.proofs.RecordsFit.{Keeping, fit-closed, fit-consuming, fit-finishing, fit-queueing, keeping-emit}
 use Rattle.lard_laws.proofs.RecordsLetters.{IsLetter}
-use Rattle.lard_endpoint.specs.Control.{ControlBlock, discarding_on, finishing, queueing}
-use Rattle.lard_endpoint.specs.Leaving.{after_emit, emits_left, filled, owes}
-use Rattle.lard_endpoint.specs.Moving.{end_reason, final_of, may_end}
 use Rattle.lard_history.proofs.Each.{Each, Each-append}
 use Rattle.lard_journal.specs.declared.rec.Rec.TheVariants as rec
-use Rattle.lard_journal.specs.Range.{IsRecordInRange, IsNumber, IsPlaceInRange, IsViaInRange}
 use Rattle.lard_law_view.proofs.ByteLists.{AreBytes, bytes-append, bytes-spelled, each-drop, each-take}
 use Rattle.lard_law_view.proofs.ContentRange.{AreFiles, answer-fits, code-small}
 use Rattle.lard_law_view.proofs.ServingRange.{emits-few, symbols-few}
 use Rattle.lard_law_view.proofs.KeptBytes.{IsKept, left-few}
 use Rattle.lard_message.specs.declared.message.Body.TheVariants as body
-use Rattle.lard_message.specs.Message.{FitsFields, IsCount, IsOfTable}
-use Rattle.lard_rules.specs.Node.{reset_count}
-use Rattle.lard_request.specs.declared.verdict.Verdict.{Verdict}
-use Rattle.lard_request.specs.Verdict.{closes}
 use Rattle.lard_rules.proofs.Loops.{KeptBySpeaking, speaks_keep, symbols_keep}
-use Rattle.lard_rules.specs.declared.places.Ending.{Ending}
 use Rattle.lard_rules.specs.declared.places.Ending.TheVariants as ending
-use Rattle.lard_rules.specs.declared.places.Turn.{Turn}
-use Rattle.lard_rules.specs.Serving.{ServeEnv, Service, answered, serving_consumed, cut_off, ended_at_fin, limit_said, passed_over, queued, serving_ready_of, rested, serving_settled, spoken, closed_behind, serving_told}
-use Rattle.lard_rules.specs.Speaking.{speaks, speaks_symbols, to_client}
-use Rattle.lard_segment.specs.declared.segment.Dir.TheVariants.{ToClient}
-use Rattle.lard_segment.specs.declared.segment.Ready.{Ready}
-use Rattle.lard_segment.specs.Segment.{Said}
-use Rattle.lard_send.specs.Send.{acknowledged_bytes}
+use Rattle.lard_rules.proofs.Endings.{answered-keeps, at-fin-keeps, rested-keeps, settled-keeps}
 
 -- What is kept of a connection here is bytes. At most 2^30 responses were counted where it was before, and each that was counted
 -- here has a byte.
@@ -136,7 +119,7 @@ module _ (env : ServeEnv) (number : IsNumber env.c) where
         let few = h.keeps.0.1 in
         let most = h.keeps.0.2 in
         let low = code-small env.files v in
-        cond_both (nat_lt env.stream (total + length bytes)) (passed_over env (total + length bytes) w) (queued env via v bytes w) Serves
+        answered-keeps Serves env via v w
         (λ t. record {
           notes = Each-append IsRecordInRange w.notes (rec.Reset env.place env.c (total + length bytes) ∷ []) h.notes ((at, number, omega (arith, short, most)), tt);
           keeps = h.keeps;
@@ -157,7 +140,7 @@ module _ (env : ServeEnv) (number : IsNumber env.c) where
 
     -- behind the client's FIN the cluster's follows
     pub ended-serves : (w : Service) → Serves w → Serves (ended_at_fin w)
-    ended-serves w h = cond_both w.block.recv.fin (record w { block = finishing w.block }) w Serves (λ t. record { notes = h.notes; keeps = (h.keeps.0, h.keeps.1, fit-finishing w.block h.keeps.2); over = h.over }) (λ t. h)
+    ended-serves w h = at-fin-keeps Serves w (λ t. record { notes = h.notes; keeps = (h.keeps.0, h.keeps.1, fit-finishing w.block h.keeps.2); over = h.over }) (λ t. h)
 
     -- ---- the end of a turn
 
@@ -170,8 +153,7 @@ module _ (env : ServeEnv) (number : IsNumber env.c) where
         let both = length-append before (speaks env.c w.block).0 in
         let says : Keeping least (speaks env.c w.block).1 × Each (IsLetter env.place) (speaks env.c w.block).0 = speaks-says least w.block h.keeps in
         record {
-          keeps = cond_both (may_end (speaks env.c w.block).1) (ending.Over (final_of (speaks env.c w.block).1 (end_reason (speaks env.c w.block).1))) (ending.Here (speaks env.c w.block).1 w.count)
-              EndKeeps (λ t. tt) (λ t. says.0);
+          keeps = rested-keeps EndKeeps (speaks env.c w.block).1 w.count (λ t. tt) (λ t. says.0);
           turn = record { notes = h.notes; sent = Each-append (IsLetter env.place) before (speaks env.c w.block).0 sent says.1; few = omega (arith, few, left, both, one) };
         }
 
@@ -194,16 +176,13 @@ module _ (env : ServeEnv) (number : IsNumber env.c) where
 
     -- either end of a turn
     pub settled-fits : (w : Service) → Serves w → EndFits env.place (serving_settled env w)
-    settled-fits w h = go w.over where
-      go : (o : Option ℕ) → EndFits env.place (elim o as (λ p. Ending × Turn) [ None ↦ spoken env w [] | Some total ↦ cut_off env w ])
-      go None = spoken-fits w [] tt (omega arith) h
-      go (Some total) = cut_off-fits w h
+    settled-fits w h = settled-keeps (EndFits env.place) env w (λ e. spoken-fits w [] tt (omega arith) h) (λ total e. cut_off-fits w h)
 
     -- ---- the end of a stay
 
     -- an endpoint that may end
     rested-tells : (b : ControlBlock) (count : ℕ) → EndTells None count (rested b count)
-    rested-tells b count = cond_both (may_end b) (ending.Over (final_of b (end_reason b))) (ending.Here b count) (EndTells None count)
+    rested-tells b count = rested-keeps (EndTells None count) b count
         (λ t. (cond_both b.reset reason.Peer reason.Closed (λ why. IsCount why 0) (λ u. refl) (λ u. refl), (omega arith, omega arith, omega arith))) (λ t. refl)
 
     pub spoken-tells : (w : Service) (before : List (Place × List ℕ)) → EndTells None w.count (spoken env w before).0

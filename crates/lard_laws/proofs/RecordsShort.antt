@@ -1,24 +1,16 @@
 -- A disk stays short: before a step it has no more jobs than there are records, which are few then, and a step adds eight at most.
 use Rattle.std.proofs.Common.{◌≡◌, ℕ, ◌+◌, ◌-◌, ◌≤◌, ◌^◌, List, [], length, Some, Ok, refl, sym, ap, ◌∙◌, subst, inl, inr, arith}
-use Rattle.std.specs.Prelude.{slice_set}
-use Rattle.lard_base.specs.declared.config.Config.{Config}
-use Rattle.lard_base.specs.declared.event.Event.{Event}
-use Rattle.lard_rules.specs.Bounds.{HasRule}
-use Rattle.lard_rules.specs.declared.machine.Machine.{Machine}
-use Rattle.lard_rules.specs.Machine.{machine_step, node_at, node_setting, machine_start, machine_told}
+use Rattle.std.specs.Prelude.{◌⊎◌, slice_set}
+use Rattle.lard_law_view.specs.Prelude.{Config, Event, HasRule, Machine, NodeState, Out, bytes_in, machine_start, machine_step, machine_told, node_at, node_setting, node_step}
 use Rattle.lard_laws.proofs.RecordsDisks.{disks-short}
 use Rattle.lard_laws.proofs.RecordsQueues.{step-gains}
-use Rattle.lard_laws.proofs.RecordsReached.{below}
+use Rattle.lard_law_connections.proofs.Happened.{done-happens}
 use Rattle.lard_laws.specs.RecordsDisks.{DisksStayShort}
-use Rattle.lard_law_connections.proofs.StoresForms.{IsForm, NodeStep, step-form}
+use Rattle.lard_law_connections.proofs.Forms.{NodeStep, NodesStay, node-form}
 use Rattle.lard_law_view.proofs.Carried.{IsOn, carried-keep}
 use Rattle.lard_law_view.proofs.Parts.{node-others, node-set}
 use Rattle.lard_history.proofs.Seeing.{by_number}
 use Rattle.lard_law_view.proofs.EventRange.{few-before}
-use Rattle.lard_net.specs.Net.{bytes_in}
-use Rattle.lard_rules.specs.declared.node.NodeState.{NodeState}
-use Rattle.lard_rules.specs.NodePlace.{node_step}
-use Rattle.lard_rules.specs.declared.places.Out.{Out}
 
 -- so many jobs at most at each node that is there
 abbrev AreWithin : ℕ → List NodeState → Type 0
@@ -40,15 +32,15 @@ moved-within m n e short move q s at =
     subst (λ (t : NodeState). length t.disk ≤ 2 ^ 30 + 8) is (omega (arith, before, gains)))
     (λ other. let before = short q s (sym (node-others m.nodes move.i q move.s x.0 move.there other) ∙ there) in omega (arith, before))
 
-form-within : (m n : Machine) (e : Event) → AreWithin (2 ^ 30) m.nodes → IsForm m e n → AreWithin (2 ^ 30 + 8) n.nodes
+form-within : (m n : Machine) (e : Event) → AreWithin (2 ^ 30) m.nodes → NodesStay m e n ⊎ NodeStep m e n → AreWithin (2 ^ 30 + 8) n.nodes
 form-within m n e short (inl still) q s at = let before = short q s (ap (λ (ns : List NodeState). node_at ns q) (sym still.0) ∙ at) in omega (arith, before)
 form-within m n e short (inr move) q s at = moved-within m n e short move q s at
 
 module _ (config : Config) (files : List (List ℕ × List ℕ)) where
   short-step : (m n : Machine) (e : Event) → IsOn config files m → AreWithin (2 ^ 30 + 8) m.nodes → HasRule e → machine_step m e ≡ Ok n → AreWithin (2 ^ 30 + 8) n.nodes
   short-step m n e on h rule is =
-      let few = few-before (length m.net) (bytes_in m.net) (length m.journal) m.answered (below m n e is).0 in
-      form-within m n e (disks-short config files m on.reached few.1) (step-form m e n is)
+      let few = few-before (length m.net) (bytes_in m.net) (length m.journal) m.answered (done-happens m n e is).0 in
+      form-within m n e (disks-short config files m on.reached few.1) (node-form m n e is)
 
   start-short : AreWithin (2 ^ 30 + 8) (machine_start config files).nodes
   start-short n s at = let few = disks-short config files (machine_start config files) ([], refl) (omega arith) n s at in omega (arith, few)

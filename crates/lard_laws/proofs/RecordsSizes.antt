@@ -1,34 +1,18 @@
 -- What a client sends is short: the size of a segment that it has learnt is in its range, so each segment of its own fits a message.
-use Rattle.std.proofs.Common.{ℕ, ◌+◌, ◌-◌, ◌≤◌, ◌==◌, not, ◌&&◌, ◌||◌, max, min, cond, nat_lt, Bool, true, false, List, [], ◌∷◌, ◌++◌, length, drop, Option, Some, None, IfSome, Ok, Err, Result, refl, arith}
+use Rattle.std.proofs.Common.{ℕ, ◌+◌, ◌-◌, ◌≤◌, ◌==◌, not, ◌&&◌, ◌||◌, max, min, cond, nat_lt, true, false, List, [], ◌∷◌, ◌++◌, length, drop, Option, Some, None, IfSome, Ok, Err, Result, refl, arith}
 use Rattle.std.proofs.lemmas.Bool.{cond_both}
 use Rattle.std.proofs.lemmas.List.{length-take}
-use Rattle.lard_arrival.specs.Arrival.{bare, is_acceptable, is_allowed, peer_mss}
-use Rattle.lard_base.specs.declared.limits.TheConstants.{MAX_SEGMENT_BYTES, MAX_SEGMENT_DATA}
-use Rattle.lard_base.specs.declared.place.Place.{Place}
-use Rattle.lard_client.specs.Arriving.{accepting, answers_syn, client_arrived, client_begins_after, client_ends, established, fresh_len, heard_in, heard_open, heard_nothing, client_on_ack, on_fresh, on_greeting, client_on_rst, client_on_segment, client_on_syn, client_on_text, client_on_unacceptable, client_owing, client_part_of, reset_by_peer}
-use Rattle.lard_client.specs.Control.{ClientBlock, aborted, held_on, is_established, is_client_open, is_writing, client_opened, client_rcv_nxt, client_rcv_wnd, shut_down, client_taken, client_written}
-use Rattle.lard_client.specs.declared.heard.Heard.{Heard}
-use Rattle.lard_client.specs.declared.phase.Phase.{Phase}
+use Rattle.lard_law_view.specs.Prelude.{ClientBlock, Heard, MAX_SEGMENT_BYTES, MAX_SEGMENT_DATA, Phase, Place, Ready, Rec, Said, SegFault, Sending, ToCluster, Turn, abort_ready, aborted, accepted_note, acknowledged_bytes, after_ack, after_next, after_resend, again_fin, again_len, byte_piece, client_aborts, client_after_emit, client_after_timer, client_arrived, client_ends, client_filled, client_gets, client_holds, client_injects, client_opened, client_opens, client_piece_ready, client_refusal, client_shuts, client_speaks, client_taken, client_takes, client_timed, client_timer, client_writes, client_written, data_ready, eof_note, heard_in, heard_open, held_on, introduced, is_client_open, is_established, is_newer, is_writing, may_send, moved_up, next_fin, next_len, one_if, peer_mss, queued_too, resent_piece, reset_ready, send_closed, seq_offset, shut_down, silent, speaking, station_ready_of, symbols, syn_piece, syn_ready, to_front, unsent_bytes, windowed}
 use Rattle.lard_client.specs.declared.phase.Phase.TheVariants.{Open, Aborted, Reset}
-use Rattle.lard_client.specs.Leaving.{abort_ready, client_after_emit, client_after_owed, client_after_piece, client_after_timer, data_ready, client_emitted, client_filled, client_owes, client_piece_ready, client_refusal, reset_ready, syn_ready, client_timed, client_told}
 use Rattle.lard_client.specs.Leaving as leaving
 use Rattle.lard_client.proofs.Accepted.{no_reply}
 use Rattle.lard_client.proofs.Windows.{emitted-allowed}
 use Rattle.lard_history.proofs.Each.{Each, Each-append}
-use Rattle.lard_journal.specs.declared.rec.Rec.{Rec}
 use Rattle.lard_journal.specs.declared.rec.Rec.TheVariants as rec
 use Rattle.lard_rules.proofs.Loops.{KeptByTelling, client_keeps}
-use Rattle.lard_rules.specs.Client.{accepted_note, client_aborts, client_gets, client_holds, client_injects, client_opens, client_shuts, client_takes, client_timer, client_writes, eof_note, station_ready_of, silent, speaking}
-use Rattle.lard_rules.specs.declared.places.Turn.{Turn}
-use Rattle.lard_rules.specs.Speaking.{client_speaks, to_front}
-use Rattle.lard_segment.specs.declared.fault.SegFault.{SegFault}
-use Rattle.lard_segment.specs.declared.segment.Dir.TheVariants.{ToCluster}
-use Rattle.lard_segment.specs.declared.segment.Ready.{Ready}
-use Rattle.lard_segment.specs.Segment.{Said}
 use Rattle.lard_segment.proofs.Written.{length-spelled-most}
 use Rattle.lard_send.specs.declared.piece.Piece.{Piece}
-use Rattle.lard_send.specs.Send.{Sending, acknowledged_bytes, after_ack, after_next, after_resend, again_fin, again_len, byte_piece, send_closed, introduced, is_newer, may_send, moved_up, next_fin, next_len, next_piece, queued_too, resent_piece, symbols, syn_piece, unsent_bytes, windowed}
-use Rattle.lard_seq.specs.Seq.{one_if, seq_offset}
+use Rattle.lard_rules.proofs.Hearing.{acked, arrived-keeps, client-emit-keeps, client-timer-keeps}
 
 -- the size of a segment that the peer takes
 abbrev pub HasSize : Sending → Type 0
@@ -77,20 +61,11 @@ resent-size s h =
 
 -- ---- what it says
 
-piece-size : (x y : ClientBlock) (p : Option Piece) → IsSized x → IsSized y → IsSized (client_after_piece x p y)
-piece-size x y None h k = k
-piece-size x y (Some p) h k = h
-
 emit-size : (x : ClientBlock) → IsSized x → IsSized (client_after_emit x)
-emit-size x h =
-    let next : ClientBlock = record x { send = after_next x.send } in
-    cond_both (not (is_client_open x)) x (client_after_piece next (next_piece x.send) (client_after_owed x)) IsSized (λ t. h)
-    (λ t. piece-size next (client_after_owed x) (next_piece x.send) (next-size x.send h) (cond_both (client_owes x) (client_told x) x IsSized (λ u. h) (λ u. h)))
+emit-size x h = client-emit-keeps IsSized x h h (next-size x.send h)
 
 timer-size : (x : ClientBlock) → IsSized x → IsSized (client_after_timer x)
-timer-size x h =
-    let next : ClientBlock = record x { send = after_resend x.send } in
-    cond_both (not (is_client_open x)) x (client_after_piece next (resent_piece x.send) x) IsSized (λ t. h) (λ t. piece-size next x (resent_piece x.send) (resend-size x.send h) h)
+timer-size x h = client-timer-keeps IsSized x h (resend-size x.send h)
 
 -- a segment with so little data
 short-front : (x : ClientBlock) (r : Ready) → r.len ≤ MAX_SEGMENT_DATA → IsShort (to_front x r)
@@ -127,52 +102,21 @@ speaking-size notes segments x sent h =
 
 -- ---- a segment comes
 
-abbrev Hears : Heard × ClientBlock → Type 0
-Hears r = IsSized r.1
-
-fresh-size : (x : ClientBlock) (s : Said) → IsSized x → Hears (on_fresh x s)
-fresh-size x s h = cond_both {A = Heard × ClientBlock} (client_begins_after x s || x.eof) (heard_nothing, x) (client_part_of x s, accepting x (fresh_len x s) (client_ends x s)) Hears (λ t. h)
-    (λ t. cond_both (client_ends x s) (send_closed x.send) x.send HasSize (λ u. h) (λ u. h))
-
-text-size : (x : ClientBlock) (s : Said) → IsSized x → Hears (client_on_text x s)
-text-size x s h = cond_both {A = Heard × ClientBlock} ((length s.payload == 0) && not s.flags.fin) (heard_nothing, x) (on_fresh (client_owing x) s) Hears (λ t. h) (λ t. fresh-size (client_owing x) s h)
-
-acked-size : (x : ClientBlock) (s : Said) → IsSized x → Hears (client_on_ack x s)
-acked-size x s h =
-    let y : ClientBlock = record x { send = after_ack x.send s.ack s.seq s.wnd } in
-    let beyond : Bool = nat_lt x.send.nxt (seq_offset s.ack x.send.iss) in
-    cond_both {A = Heard × ClientBlock} (not s.flags.ack) (heard_nothing, x) (cond beyond (heard_nothing, client_owing x) (client_on_text y s)) Hears (λ t. h)
-    (λ t. cond_both {A = Heard × ClientBlock} beyond (heard_nothing, client_owing x) (client_on_text y s) Hears (λ u. h) (λ u. text-size y s (ack-size x.send s.ack s.seq s.wnd h)))
-
-segment-size : (x : ClientBlock) (s : Said) → IsSized x → Hears (client_on_segment x s)
-segment-size x s h =
-    let owed : Heard × ClientBlock = (heard_nothing, client_owing x) in
-    let next : Bool = s.seq == client_rcv_nxt x in
-    cond_both (is_acceptable (client_rcv_nxt x) (client_rcv_wnd x) s) (client_on_rst x s) (client_on_unacceptable x s) Hears
-    (λ t. cond_both (not s.flags.rst) (client_on_syn x s) (cond next (heard_nothing, reset_by_peer x) owed) Hears
-    (λ u. cond_both s.flags.syn owed (client_on_ack x s) Hears (λ v. h) (λ v. acked-size x s h))
-    (λ u. cond_both {A = Heard × ClientBlock} next (heard_nothing, reset_by_peer x) owed Hears (λ v. h) (λ v. h)))
-    (λ t. cond_both (is_allowed (client_rcv_nxt x) (client_rcv_wnd x) s) (client_on_ack (client_owing x) (bare s)) (cond s.flags.rst (heard_nothing, x) owed) Hears
-    (λ u. acked-size (client_owing x) (bare s) h)
-    (λ u. cond_both {A = Heard × ClientBlock} s.flags.rst (heard_nothing, x) owed Hears (λ v. h) (λ v. h)))
-
--- the size that the cluster's SYN names is clamped
-greeting-size : (x : ClientBlock) (s : Said) → IsSized x → Hears (on_greeting x s)
-greeting-size x s h =
-    let synced : Heard × ClientBlock = cond s.flags.syn (heard_nothing, established x s) (heard_nothing, x) in
-    cond_both {A = Heard × ClientBlock} (not (answers_syn x s)) (heard_nothing, x) (cond s.flags.rst (heard_nothing, reset_by_peer x) synced) Hears (λ t. h)
-    (λ t. cond_both {A = Heard × ClientBlock} s.flags.rst (heard_nothing, reset_by_peer x) synced Hears (λ u. h)
-    (λ u. cond_both {A = Heard × ClientBlock} s.flags.syn (heard_nothing, established x s) (heard_nothing, x) Hears
-    (λ v. ack-size (introduced x.send s.seq (peer_mss s.mss)) s.ack s.seq s.wnd (omega arith)) (λ v. h)))
-
-phase-size : (p : Phase) (x : ClientBlock) (s : Said) → IsSized x → Hears (heard_in p x s)
-phase-size Open x s h = cond_both (x.send.una == 0) (on_greeting x s) (client_on_segment x s) Hears (λ t. greeting-size x s h) (λ t. segment-size x s h)
-phase-size Aborted x s h = h
-phase-size Reset x s h = h
-
-arrived-size : (x : ClientBlock) (s : Said) → IsSized x → Hears (client_arrived x s)
-unfolding client_arrived
-arrived-size x s h = phase-size x.phase x s h
+arrived-size : (x : ClientBlock) (s : Said) → IsSized x → IsSized (client_arrived x s).1
+arrived-size x s h = arrived-keeps x s (λ r. IsSized r.1) (record {
+  refuses = λ e. h;
+  ignores = λ e. h;
+  -- the size that the cluster's SYN names is clamped
+  learns = λ e t plain. ack-size (introduced x.send s.seq (peer_mss s.mss)) s.ack s.seq s.wnd (omega arith);
+  takes = λ e. record {
+    rests = λ owed. h;
+    resets = λ t. h;
+    acks = λ owed c. k;
+    accepts = λ c in_order going. let y : ClientBlock = acked x s true in cond_both (client_ends y s) (send_closed y.send) y.send HasSize (λ u. k) (λ u. k);
+  };
+}) where
+  k : HasSize (after_ack x.send s.ack s.seq s.wnd)
+  k = ack-size x.send s.ack s.seq s.wnd h
 
 -- what is answered at once has no data
 reply-none : (p : Phase) (x : ClientBlock) (s : Said) → IfSome (heard_in p x s).0.reply (λ r. r.len ≤ MAX_SEGMENT_DATA)

@@ -1,27 +1,19 @@
 -- Each packet between two machines of the cluster is a message: the journal tells of the packets that there are.
 use Rattle.std.proofs.Common.{ℕ, zero, suc, ◌-◌, List, [], ◌∷◌, ◌++◌, false, sym, ap, ◌∙◌, subst}
 use Rattle.std.specs.List.{fold}
-use Rattle.lard_base.specs.declared.place.Place.{Place}
-use Rattle.lard_base.specs.declared.place.Place.TheVariants.{Client, Front, Node}
+use Rattle.lard_law_view.specs.Prelude.{Client, EachMay, Front, IsMachine, Message, Node, Packet, Place, Rec, decoded_message, lose_at, named_in, net_step}
 use Rattle.lard_law_connections.specs.Places.{message_head}
 use Rattle.lard_law_connections.proofs.PlacesHeads.{spelled-head}
 use Rattle.lard_laws.specs.RecordsMessages.{Decodes, MayTalk, PacketsAreMessages}
 use Rattle.lard_laws.proofs.RecordsHolding.{Holds, IsPacket}
 use Rattle.lard_laws.proofs.RecordsLetters.{IsLetter, IsSpelled, MaySay}
 use Rattle.lard_laws.proofs.RecordsReached.{run-holds}
-use Rattle.lard_law_view.specs.View.{IsMachine}
 use Rattle.lard_law_view.proofs.Carried.{reached-viewed}
 use Rattle.lard_law_view.proofs.Naming.{spelled-named}
-use Rattle.lard_history.specs.Laws.{EachMay}
-use Rattle.lard_history.specs.Own.{named_in, net_step}
 use Rattle.lard_history.proofs.Each.{Each}
-use Rattle.lard_journal.specs.declared.rec.Rec.{Rec}
 use Rattle.lard_journal.specs.declared.rec.Rec.TheVariants as rec
 use Rattle.lard_law_view.proofs.ByteLists.{each-before, each-behind}
-use Rattle.lard_message.specs.declared.message.Message.{Message}
-use Rattle.lard_message.specs.Reading.{decoded_message}
 use Rattle.lard_message.proofs.Whole.{again}
-use Rattle.lard_net.specs.Net.{Packet, lose_at}
 
 -- ---- one packet
 

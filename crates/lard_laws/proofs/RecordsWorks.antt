@@ -4,8 +4,7 @@ use Rattle.std.proofs.Common.{◌≡◌, ◌∙◌, ℕ, zero, suc, ◌+◌, ◌
 use Rattle.std.proofs.lemmas.Bool.{cond_both}
 use Rattle.std.proofs.lemmas.List.{length-take, length_push}
 use Rattle.std.specs.Prelude.{slice_get}
-use Rattle.lard_answers.specs.Answers.{good_path, verdicts}
-use Rattle.lard_base.specs.declared.place.Place.TheVariants.{Node}
+use Rattle.lard_law_view.specs.Prelude.{Asked, Entry, IsNumber, IsPlaceInRange, IsRecordInRange, IsViaInRange, Job, Node, NodeEnv, Progress, Rec, Service, Verdict, Want, Work, and_path, answered, asks_for, batch_of, bytes_used, came_for, come_on, come_progress, entered, finishing, goes_on, good_path, hit_here, left_by, named_path, named_paths, noted, own_job, path_in, progress_of, queued_here, read_entry, read_progress, reads_batch, serving_consumed, started_there, state_of, tagged, verdicts}
 use Rattle.lard_base.specs.declared.place.Via.TheVariants as via
 use Rattle.lard_rules.specs.Bounds as cluster
 use Rattle.lard_laws.proofs.RecordsCounted.{IsCounted, come-length, entered-counts, queued-counts, served-counts}
@@ -13,23 +12,10 @@ use Rattle.lard_laws.proofs.RecordsFronts.{may-open}
 use Rattle.lard_laws.proofs.RecordsLetters.{conn-number}
 use Rattle.lard_laws.proofs.RecordsNamed.{AreNamed, IsNamed, contents, verdict-named}
 use Rattle.lard_laws.proofs.RecordsServing.{Serves, answered-serves, consumed-serves, count-few, ended-serves}
-use Rattle.lard_disk.specs.declared.disk.Job.{Job}
 use Rattle.lard_history.proofs.Each.{Each, Each-append}
-use Rattle.lard_journal.specs.declared.rec.Rec.{Rec}
 use Rattle.lard_journal.specs.declared.rec.Rec.TheVariants as rec
-use Rattle.lard_journal.specs.Range.{IsRecordInRange, IsNumber, IsPlaceInRange, IsViaInRange}
-use Rattle.lard_rules.specs.declared.stay.Asked.{Asked}
-use Rattle.lard_rules.specs.declared.stay.Entry.{Entry}
-use Rattle.lard_rules.specs.declared.stay.Progress.{Progress}
 use Rattle.lard_rules.specs.declared.stay.Progress.TheVariants.{Named, Reading, Awaited, Ready}
-use Rattle.lard_rules.specs.declared.stay.Want.{Want}
-use Rattle.lard_rules.specs.Stay.{NodeEnv, Work, asks_for, came_for, come_on, come_progress, entered, goes_on, and_path, left_by, named_path, named_paths, noted, path_in, progress_of, read_entry, read_progress, reads_batch, started_there, tagged, hit_here, queued_here, own_job}
-use Rattle.lard_reader.specs.Batches.{batch_of, bytes_used}
-use Rattle.lard_request.specs.declared.verdict.Verdict.{Verdict}
-use Rattle.lard_rules.specs.Loop.{state_of}
-use Rattle.lard_rules.specs.Serving.{Service, answered, serving_consumed}
 use Rattle.lard_rules.proofs.StayWalking.{KeptByReads, KeptByStarts, StepIn, goes-in, next_number, state-in, tagged-in, these-in}
-use Rattle.lard_endpoint.specs.Control.{finishing}
 
 -- ---- what is in hand
 

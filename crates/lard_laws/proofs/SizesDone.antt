@@ -1,9 +1,7 @@
 -- How many requests a node has read at the end of a step is what is said of them.
 use Rattle.std.proofs.Common.{◌≡◌, ◌≢◌, ◌≤◌, ◌<◌, ◌+◌, ◌-◌, ◌*◌, ◌/◌, ℕ, min, nat_lt, cond, Bool, true, false, List, [], ◌∷◌, length, take, map, Option, Some, None, ⊎_elim, refl, sym, ap, ◌∙◌, subst, arith}
 use Rattle.std.proofs.lemmas.Bool.{ltb-false, ltb-true}
-use Rattle.lard_answers.specs.Answers.{FilesAt, verdicts}
-use Rattle.lard_base.specs.declared.place.Place.{Place}
-use Rattle.lard_base.specs.declared.place.Place.TheVariants.{Client, Front, Node}
+use Rattle.lard_law_view.specs.Prelude.{BackConn, BackRow, Client, Conn, ControlBlock, Entry, FilesAt, Front, HasStopped, IsStream, Node, Place, Station, Stay, Stream, Talk, Verdict, tale_at, verdicts}
 use Rattle.lard_law_connections.specs.BytesAgreement.{ConnAgrees, HoldsItPending, IsOpen, IsTruthful, IsConnUnopened, RowAgrees, StayAgrees}
 use Rattle.lard_law_connections.proofs.BytesClientMoves.{open-at}
 use Rattle.lard_law_connections.proofs.BytesNodeMoves.{has-it}
@@ -17,21 +15,9 @@ use Rattle.lard_laws.proofs.SizesMoving.{IsTelling, Reaches, marks_now}
 use Rattle.lard_laws.proofs.SizesReading.{IsReadOn, Reach}
 use Rattle.lard_laws.proofs.SizesTurns.{Reads, RowReach, RowReads, RowTold, StageReach, StageReads, StageTold, StayReach, StayReads, complete-is}
 use Rattle.lard_law_connections.specs.Stops.{BackStageStops, FirstIsAwaited, ReadingStops, RowStops, StayStops}
-use Rattle.lard_law_view.specs.Carry.{tale_at}
-use Rattle.lard_law_view.specs.View.{Conn}
-use Rattle.lard_endpoint.specs.Control.{ControlBlock}
-use Rattle.lard_handoff_back.specs.declared.row.BackConn.{BackConn}
 use Rattle.lard_handoff_back.specs.declared.row.BackConn.TheVariants as back
-use Rattle.lard_handoff_back.specs.declared.row.BackRow.{BackRow}
-use Rattle.lard_law_view.specs.Agreement.{HasStopped}
 use Rattle.lard_law_view.specs.Agreement as one
-use Rattle.lard_law_view.specs.Truthful.{Talk}
 use Rattle.lard_law_view.proofs.Answered.{came-answered}
-use Rattle.lard_rules.specs.declared.stay.Entry.{Entry}
-use Rattle.lard_rules.specs.declared.stay.Stay.{Stay}
-use Rattle.lard_request.specs.declared.verdict.Verdict.{Verdict}
-use Rattle.lard_rules.specs.declared.places.Station.{Station}
-use Rattle.lard_law_view.specs.Truth.{IsStream, Stream}
 use Rattle.lard_law_view.proofs.Speaking.{speaks-stream}
 
 -- ---- numbers

@@ -3,10 +3,8 @@ use Rattle.std.proofs.Common.{◌≡◌, ◌+◌, ◌-◌, ℕ, zero, suc, nat_l
 use Rattle.std.proofs.lemmas.Bool.{cond_both}
 use Rattle.std.proofs.lemmas.List.{length-append}
 use Rattle.lard_base.specs.declared.place.Via.TheVariants as via
-use Rattle.lard_rules.specs.declared.stay.Entry.{Entry}
-use Rattle.lard_rules.specs.declared.stay.Progress.{Progress}
+use Rattle.lard_law_view.specs.Prelude.{Entry, NodeEnv, Progress, Work, came_for, come_on, tagged}
 use Rattle.lard_rules.specs.declared.stay.Progress.TheVariants as progress
-use Rattle.lard_rules.specs.Stay.{NodeEnv, Work, came_for, come_on, tagged}
 use Rattle.lard_rules.proofs.StayWalking.{KeptByStarts, tagged-in}
 
 -- So many requests more are in the batch.

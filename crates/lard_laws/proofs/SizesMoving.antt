@@ -1,9 +1,7 @@
 -- In each move the client of a connection is told what it has to be, and what its Asks say is so.
 use Rattle.std.proofs.Common.{◌≡◌, ◌≢◌, ◌⊎◌, ◌+◌, ◌==◌, ℕ, Bool, true, false, eq-eqb, eqb-true, List, [], ◌∷◌, ◌++◌, map, Option, Some, None, Ok, inl, inr, ⊎_elim, refl, sym, ap, ◌∙◌, subst, append-nil}
-use Rattle.std.specs.List.{fold}
-use Rattle.lard_answers.specs.Answers.{FilesAt}
-use Rattle.lard_base.specs.declared.place.Place.{Place}
-use Rattle.lard_base.specs.declared.place.Place.TheVariants.{Client, Front, Node}
+use Rattle.std.specs.List.{fold, list_any}
+use Rattle.lard_law_view.specs.Prelude.{BackConn, BackRow, Came, Client, Conn, FilesAt, Front, Message, Move, Node, NodePart, Part, Place, Rec, Row, Said, Seen, Tale, ToClient, Was, bytes_served_in, decoded, decoded_message, grown, is_reset_record, rows_of, seen_in, served_in, tale_at, tale_of, timer_rows, told_on}
 use Rattle.lard_law_connections.proofs.BytesLaw.{IsHead}
 use Rattle.lard_law_connections.specs.BytesTurning.{IsNoteOf}
 use Rattle.lard_law_connections.proofs.BytesTold.{Bytes, bytes_of, move-bytes, place-notes}
@@ -17,29 +15,17 @@ use Rattle.lard_law_connections.proofs.PlacesRows.{MayOwnBy, OwnsBy, SendsOwn, a
 use Rattle.lard_law_connections.proofs.PlacesTurns.{IsPlaced, Owes}
 use Rattle.lard_laws.specs.Sizes.{BodyIsOfBatch, SizeMarks}
 use Rattle.lard_laws.proofs.SizesTurns.{PartReach, Reads, RowTold, SaysFit, StageTold, now_told, reads-reach}
-use Rattle.lard_law_view.specs.Carry.{tale_at}
-use Rattle.lard_law_view.specs.View.{Conn, Move, Part, Was, grown, rows_of, seen_in, sending, timer_rows}
+use Rattle.lard_law_view.specs.View.{sending}
 use Rattle.lard_law_view.proofs.Fine.{IsItsOwn}
 use Rattle.lard_law_view.proofs.Rows.{tale_before}
-use Rattle.lard_law_view.proofs.Saying.{GaveAt, NotedAt}
-use Rattle.lard_law_view.proofs.Timers.{IsTimerAt, timer_rows-are}
-use Rattle.lard_handoff_back.specs.declared.row.BackConn.{BackConn}
+use Rattle.lard_law_view.proofs.Saying.{NotedAt}
 use Rattle.lard_handoff_back.specs.declared.row.BackConn.TheVariants as back
-use Rattle.lard_handoff_back.specs.declared.row.BackRow.{BackRow}
-use Rattle.lard_history.specs.Journal.{Tale, told_on}
-use Rattle.lard_history.specs.Own.{Came, Row, Seen, tale_of}
 use Rattle.lard_history.proofs.Each.{Each, Each-append, Each-weaker}
-use Rattle.lard_journal.specs.declared.rec.Rec.{Rec}
 use Rattle.lard_journal.specs.declared.rec.Rec.TheVariants as rec
-use Rattle.lard_law_view.specs.Keeping.{is_reset_record, served_in, bytes_served_in}
 use Rattle.lard_law_view.proofs.Notes.{Adds}
-use Rattle.lard_message.specs.declared.message.Message.{Message}
-use Rattle.lard_message.specs.Reading.{decoded_message}
-use Rattle.lard_rules.specs.Node.{NodePart}
-use Rattle.lard_segment.specs.declared.segment.Dir.TheVariants.{ToClient}
-use Rattle.lard_segment.specs.Segment.{Said, decoded}
 use Rattle.lard_law_view.proofs.EndpointSends.{AllTo}
-use Rattle.std.specs.List.{list_any}
+use Rattle.lard_law_view.proofs.OfKinds.{gaves-unsent, note-unsent, notes-unsent, rest_of, rest-each, rows-are, timers-unsent}
+use Rattle.lard_law_view.proofs.RecordKinds.{IsUnsent}
 
 -- ---- what is told
 
@@ -89,22 +75,9 @@ IsNoNode (Node n) = ⊥
 -- ---- records that send nothing
 
 module _ (files : FilesAt) (c u : ℕ) (past step : List Seen) where
-  note-fits : (place : Place) (d : ℕ) (r : Rec) → NotedAt place d r → RowFits files c u past step r
-  note-fits (Client e) d (rec.Sent k from to bytes) h = absurd h
-  note-fits Front d (rec.Sent k from to bytes) h = absurd h
-  note-fits (Node n) d (rec.Sent k from to bytes) h = absurd h
-  note-fits place d _ h = tt
-
-  gift-fits : (place : Place) (d : ℕ) (r : Rec) → GaveAt place d r → RowFits files c u past step r
-  gift-fits (Client e) d (rec.Sent k from to bytes) h = absurd h
-  gift-fits Front d (rec.Sent k from to bytes) h = absurd h
-  gift-fits (Node n) d (rec.Sent k from to bytes) h = absurd h
-  gift-fits place d _ h = tt
-
-  timer-fits : (place : Place) (d : ℕ) (r : Rec) → IsTimerAt place d r → RowFits files c u past step r
-  timer-fits place d (rec.Armed p e kind) h = tt
-  timer-fits place d (rec.Cleared p e kind) h = tt
-  timer-fits place d _ h = absurd h
+  unsent-fits : (r : Rec) → IsUnsent r → RowFits files c u past step r
+  unsent-fits (rec.Sent k from to bytes) h = absurd h
+  unsent-fits _ h = tt
 
   head-fits : (s : Seen) → IsHead s → SeenFits files c u past step s
   head-fits (Came l) h = tt
@@ -135,20 +108,14 @@ module _ (files : FilesAt) (u : ℕ) (x : Conn) (v : Move) (own : IsItsOwn x v) 
   -- all of a move, once its packets may be
   pub all-fit : Each (SeenFits files x.c u x.seen (seen_in x v)) v.heads → Each Fit (map (sending v.place) v.said.segments) → Each Fit (map (sending v.place) v.said.messages) → AllFit files u x v
   all-fit heads segments messages =
-      let S : List Rec = map (sending v.place) v.said.segments in
-      let M : List Rec = map (sending v.place) v.said.messages in
-      let T : List Rec = timer_rows v.place x.c x.part v.part in
+      let fits : (r : Rec) → IsUnsent r → Fit r = unsent-fits files x.c u x.seen (seen_in x v) in
       let N : List Rec = v.said.notes in
       let G : List Rec = v.said.gave in
+      let T : List Rec = timer_rows v.place x.c x.part v.part in
       Each-append (SeenFits files x.c u x.seen (seen_in x v)) v.heads (map Row (rows_of x v)) heads
-      (rows-fit files x.c u x.seen (seen_in x v) (rows_of x v)
-      (Each-append Fit (N ++ S ++ G ++ M) T
-      (Each-append Fit (N ++ S ++ G) M
-      (Each-append Fit (N ++ S) G
-      (Each-append Fit N S (Each-weaker (NotedAt v.place x.c) Fit (note-fits files x.c u x.seen (seen_in x v) v.place x.c) N own.notes) segments)
-      (Each-weaker (GaveAt v.place x.c) Fit (gift-fits files x.c u x.seen (seen_in x v) v.place x.c) G own.gave))
-      messages)
-      (Each-weaker (IsTimerAt v.place x.c) Fit (timer-fits files x.c u x.seen (seen_in x v) v.place x.c) T (timer_rows-are v.place x.c x.part v.part))))
+      (rows-fit files x.c u x.seen (seen_in x v) (rows_of x v) (subst (Each Fit) (sym (rows-are x v))
+      (Each-append Fit N (rest_of x v) (Each-weaker IsUnsent Fit fits N (notes-unsent v.place x.c N own.notes))
+      (rest-each x v Fit segments (Each-weaker IsUnsent Fit fits G (gaves-unsent v.place x.c G own.gave)) messages (Each-weaker IsUnsent Fit fits T (timers-unsent v.place x.c x.part v.part))))))
 
 -- ---- what the client was told last
 
@@ -175,15 +142,13 @@ sends-told : (c : ℕ) (place : Place) (s : Stand) (ss : List (Place × List ℕ
 sends-told c place s [] = refl
 sends-told c place s (y ∷ ys) = sends-told c place (sent_stand c s y.0 place y.1) ys ∙ ap (λ (o : Option Said). told_behind c place o ys) (sent-one c s y.0 place y.1)
 
-note-told : (place : Place) (c d : ℕ) (s : Stand) (r : Rec) → NotedAt place d r → (row_step c s r).told ≡ s.told
-note-told (Client e) c d s (rec.Sent k from to bytes) h = absurd h
-note-told Front c d s (rec.Sent k from to bytes) h = absurd h
-note-told (Node n) c d s (rec.Sent k from to bytes) h = absurd h
-note-told place c d s _ h = refl
+unsent-told : (c : ℕ) (s : Stand) (r : Rec) → IsUnsent r → (row_step c s r).told ≡ s.told
+unsent-told c s (rec.Sent k from to bytes) h = absurd h
+unsent-told c s _ h = refl
 
 notes-told : (place : Place) (c d : ℕ) (s : Stand) (rs : List Rec) → Each (NotedAt place d) rs → (fold (row_step c) s rs).told ≡ s.told
 notes-told place c d s [] h = refl
-notes-told place c d s (r ∷ rs) h = notes-told place c d (row_step c s r) rs h.1 ∙ note-told place c d s r h.0
+notes-told place c d s (r ∷ rs) h = notes-told place c d (row_step c s r) rs h.1 ∙ unsent-told c s r (note-unsent place d r h.0)
 
 came-told : (c : ℕ) (s : Stand) (to from : Place) (bytes : List ℕ) → (came_stand c s to from bytes).told ≡ s.told
 came-told c s Front (Client d) bytes = refl

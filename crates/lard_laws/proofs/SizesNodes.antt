@@ -1,70 +1,47 @@
 -- Each rule of a node tells its client all that came, and asks for what its batch is.
-use Rattle.std.proofs.Common.{◌≡◌, ◌≤◌, ◌+◌, ◌^◌, ℕ, cond, List, [], ◌∷◌, ◌++◌, map, length, Option, Some, None, Result, Ok, inl, ⊎_elim, refl, sym, ap, ◌∙◌, subst, arith}
-use Rattle.std.proofs.lemmas.Bool.{cond_both}
+use Rattle.std.proofs.Common.{◌≡◌, ◌≤◌, ◌+◌, ◌^◌, ℕ, cond, List, [], ◌∷◌, ◌++◌, map, Option, Some, None, inl, refl, sym, ap, ◌∙◌, subst, arith}
 use Rattle.std.proofs.lemmas.List.{map-append}
-use Rattle.lard_answers.specs.Answers.{FilesAt}
-use Rattle.lard_base.specs.declared.event.Event.TheVariants as event
-use Rattle.lard_base.specs.declared.parts.EndpointParts.{EndpointParts}
-use Rattle.lard_base.specs.declared.place.Place.{Place}
-use Rattle.lard_base.specs.declared.place.Place.TheVariants.{Front, Node}
+use Rattle.lard_law_view.specs.Prelude.{AreSent, BackRow, Completed, Conn, ControlBlock, EndpointParts, FilesAt, Front, IsConnNumber, IsConnSound, IsNodeEnv, Kept, Move, Node, NodeDeed, NodeEnv, NodeGets, NodePart, NodeRules, NodeTurn, Place, Rec, Seen, Setting, Stay, Tale, Talk, after_timer, again_sent, came_for, come_progress, content_said, front_rest, goes_on, gone, here, named_records, node_does, node_fired, node_rule, nothing_said, offer_answer, offered_by, on_segment, packet_seen, read_progress, reads_first, seen_step, sent_of, served_in, serving, serving_ready_of, spoken, stands, tagged, taken_sent, tale_at, tale_step, timed, with_node, with_work, without, work_of}
 use Rattle.lard_base.specs.declared.place.TimerKind.TheVariants as timer
-use Rattle.lard_rules.specs.Bounds.{IsConnNumber}
-use Rattle.lard_law_connections.specs.BytesAgreement.{HoldsItPending, IsFair, IsOpen, IsTruthful}
+use Rattle.lard_law_connections.specs.BytesAgreement.{IsOpen, IsTruthful}
 use Rattle.lard_law_connections.proofs.BytesLaw.{IsHead}
 use Rattle.lard_law_connections.specs.BytesTurning.{IsNoteOf}
-use Rattle.lard_law_connections.proofs.BytesClientMoves.{has-fair, open-at}
+use Rattle.lard_law_connections.proofs.BytesClientMoves.{open-at}
 use Rattle.lard_law_connections.proofs.BytesFrontMessages.{opened-at}
 use Rattle.lard_law_connections.proofs.BytesNodeMoves.{HasIt}
-use Rattle.lard_law_connections.proofs.BytesNodeRest.{by-station, front-opens, nothing-here}
-use Rattle.lard_law_connections.proofs.BytesNodeTurns.{It, agrees-by, endpoint-or, here-or, talk-of, ways-here}
+use Rattle.lard_law_connections.proofs.BytesNodeRest.{front-opens}
+use Rattle.lard_law_connections.proofs.BytesNodeTurns.{talk-of}
 use Rattle.lard_law_connections.proofs.BytesTold.{bytes_of, named-each, named-served}
-use Rattle.lard_law_connections.proofs.BytesWorking.{verdicts_of}
 use Rattle.lard_law_connections.proofs.LineSpeaking.{heard_by}
 use Rattle.lard_law_connections.proofs.PlacesTurns.{IsPlaced, Owes}
 use Rattle.lard_laws.specs.Sizes.{SizeMarks}
 use Rattle.lard_laws.proofs.SizesMoving.{IsSaid, IsTelling, acts, marks_now, node-said}
-use Rattle.lard_laws.proofs.SizesOffers.{offered-fits}
-use Rattle.lard_laws.proofs.SizesReading.{HasGood}
-use Rattle.lard_laws.proofs.SizesStays.{comes-fit, fires-fit, hears-fit, reads-fit, stay-good, tags-fit}
-use Rattle.lard_laws.proofs.SizesTurns.{DeedFits, PartReach, Reads, RowReach, RowTold, SaysFit, now_told, other-says, reads-reach}
-use Rattle.lard_law_view.specs.Carry.{tale_at}
-use Rattle.lard_law_view.specs.View.{AreSent, Conn, IsNodeEnv, IsConnSound, Move, NodeRules, Setting, SpellsMessage, Was, content_said, epoch_in, event_seen, named_records, node_does, nothing_said, packet_seen, reads_first, stands, with_node}
+use Rattle.lard_laws.proofs.SizesOffers.{new-fits}
+use Rattle.lard_laws.proofs.SizesStays.{IsAgreeing, comes-fit, fires-fit, hears-fit, reads-fit, stay-good, tags-fit}
+use Rattle.lard_laws.proofs.SizesTurns.{DeedFits, PartReach, Reads, RowReach, RowReads, RowTold, SaysFit, now_told, other-says, reads-reach}
 use Rattle.lard_law_view.proofs.Fine.{IsItsOwn}
 use Rattle.lard_law_view.proofs.Parts.{put-same}
 use Rattle.lard_law_view.proofs.Rows.{tale_before}
 use Rattle.lard_laws.specs.WaysState.{GoesItsWay, StayWays, marks_at}
 use Rattle.lard_laws.proofs.WaysHomes.{AtHome, at-home}
-use Rattle.lard_endpoint.specs.Control.{ControlBlock}
-use Rattle.lard_rules.specs.Front.{front_rest}
-use Rattle.lard_handoff_back.specs.declared.row.BackRow.{BackRow}
-use Rattle.lard_handoff_back.specs.Back.{awaits_ack, back_endpoint}
-use Rattle.lard_history.specs.Journal.{Numbers}
-use Rattle.lard_history.specs.Own.{Seen}
 use Rattle.lard_history.proofs.Each.{Each, Each-append}
 use Rattle.lard_history.proofs.Seeing.{other_number}
-use Rattle.lard_journal.specs.declared.rec.Rec.{Rec}
 use Rattle.lard_journal.specs.declared.rec.Rec.TheVariants as rec
-use Rattle.lard_law_view.specs.Keeping.{served_in}
-use Rattle.lard_law_view.specs.Truthful.{Talk}
 use Rattle.lard_message.specs.declared.kind.Kind.TheVariants as kind
 use Rattle.lard_message.specs.declared.message.Body.TheVariants as body
-use Rattle.lard_rules.specs.declared.node.NodeTurn.{NodeTurn}
-use Rattle.lard_rules.specs.declared.stay.Stay.{Stay}
-use Rattle.lard_rules.specs.Node.{NodeDeed, Does, Drops, NodePart, Says, again_sent, both_of, come_by, node_fired_by, gone, here, node_acknowledged, node_content, node_forwarded, node_offered, node_read, node_tagged, node_timer, node_read_by, node_saying, tagged_by}
-use Rattle.lard_rules.specs.Node as node
+use Rattle.lard_handoff_back.specs.declared.table.Adopt.TheVariants.{New}
+use Rattle.lard_law_view.proofs.EachNode.{Answers, Aside, Brings, HasCome, MayAside, NodeComes, Queues, aside_said, aside_seen, each-node, job_notes, told_first}
+use Rattle.lard_law_view.proofs.NodeHeads.{heads-of}
+use Rattle.lard_laws.proofs.NodeStays.{StayHolds, stay-holds, word-of}
+use Rattle.lard_rules.proofs.NodeCases.{IsHereWith, IsInItsEpoch, KeptByNode, node-keeps, of-here}
+use Rattle.std.specs.List.{fold}
+use Rattle.lard_rules.specs.Node.{Does, Drops, Says}
 use Rattle.lard_rules.specs.NodePlace as node_place
-use Rattle.lard_rules.specs.Stay.{NodeEnv}
-use Rattle.lard_request.specs.declared.verdict.Verdict.{Verdict}
-use Rattle.lard_resend.specs.declared.kept.Kept.{Kept}
-use Rattle.lard_resend.specs.Kept.{without}
-use Rattle.lard_resend.specs.Pending.{sent_of}
-use Rattle.lard_rules.specs.declared.places.Station.{Station}
-use Rattle.lard_segment.specs.declared.fault.SegFault.{SegFault}
-use Rattle.lard_segment.specs.declared.segment.Dir.TheVariants.{ToCluster}
-use Rattle.lard_segment.specs.Segment.{decoded}
 use Rattle.lard_segment.specs.Segment as spelling
-use Rattle.lard_segment.proofs.Again.{again}
-use Rattle.lard_law_view.specs.Agreement.{IsWord}
+
+-- it tells nothing of bytes
+abbrev IsStill : Seen → Type 0
+IsStill y = (c : ℕ) (t : Tale) → bytes_of (seen_step (tale_step c) t y) ≡ bytes_of t
 
 -- ---- a deed as a move
 
@@ -128,27 +105,37 @@ module _ (files : FilesAt) (x : Conn) (n u : ℕ) (reads : Reads u x) where
   gone-reach wrote o None = tt
   gone-reach wrote o (Some row) = tt
 
-  pub acknowledged-fits : (env : NodeEnv) → DeedFits files x.c x n u past (node_acknowledged env p)
-  acknowledged-fits env = cond_both (awaits_ack env.epoch p.row) (Does (record p { row = gone p.row; kept = without timer.Ended 0 p.kept }, node_saying [])) Drops (DeedFits files x.c x n u past)
-      (λ t. record { each = tt; to = tt; row = gone-told past.told p.row; reach = gone-reach past.wrote p.stay p.row; says = tt }) (λ t. tt)
+  -- what comes, and the record of a job that was completed, tell nothing
+  still-bytes : (heads : List Seen) (t : Tale) → Each IsStill heads → bytes_of (fold (seen_step (tale_step x.c)) t heads) ≡ bytes_of t
+  still-bytes [] t h = refl
+  still-bytes (y ∷ ys) t h = still-bytes ys (seen_step (tale_step x.c) t y) h.1 ∙ h.0 x.c t
 
--- ---- of one whose client opened
+  pub rule-said : (epoch : ℕ) (heads : List Seen) (g : NodeGets) → NodeComes x n epoch heads g → (d : NodeDeed) → DeedFits files x.c x n u past d
+      → Said (told_first (job_notes x.c n g) (node_does x n heads d))
+  rule-said epoch heads (Completed r path) comes d f = subst (λ (hs : List Seen). Said (reads_first (rec.Read n n x.c r path) (node_does x n hs d))) (sym comes) (first-said r path d f)
+  rule-said epoch heads g comes d f = deed-said heads d (heads-of IsHead (λ l. tt) (λ i c. tt) x n epoch heads g comes) quiet f where
+    still : bytes_of (fold (seen_step (tale_step x.c)) (tale_at x) heads) ≡ bytes_of (tale_at x)
+    still = still-bytes heads (tale_at x) (heads-of IsStill (λ l c t. refl) (λ i e c t. refl) x n epoch heads g comes)
 
-module _ (k : Setting) (small : k.stream ≤ 2 ^ 30) (x : Conn) (s : Station) (there : x.part.station ≡ Some s) (l : Talk) (pend : List Verdict) (o : IsOpen k.files x l pend s) (n epoch : ℕ) (env : NodeEnv) (is : IsNodeEnv k x.c n epoch env) (sound : IsConnSound x) (placed : IsPlaced x)
-    (g : GoesItsWay k.files x) (h : IsTelling x) (u : ℕ) (reads : Reads u x) where
+    quiet : (v : NodeDeed) → bytes_of (tale_before x (node_does x n heads v)) ≡ bytes_of (tale_at x)
+    quiet Drops = still
+    quiet (Says messages) = still
+    quiet (Does given) = still
+
+-- ---- the rules
+
+module _ (k : Setting) (small : k.stream ≤ 2 ^ 30) (x : Conn) (number : IsConnNumber x.c) (sound : IsConnSound x) (truth : IsTruthful k.files x) (g : GoesItsWay k.files x) (placed : IsPlaced x) (h : IsTelling x) (u : ℕ) (reads : Reads u x)
+    (n epoch : ℕ) (env : NodeEnv) (is : IsNodeEnv k x.c n epoch env) (heads : List Seen) where
   abbrev part : NodePart
   part = x.part.nodes n
 
   abbrev before : SizeMarks
   before = marks_now x
 
-  abbrev IsIt : Type 0
-  IsIt = It k small x s there l pend o n env epoch is env.epoch
+  abbrev l : Talk
+  l = truth.talk
 
-  num : Numbers
-  num = record { isn = l.w.first; iss = l.out.first }
-
-  abbrev Fits : NodeDeed → Type 0
+  abbrev pub Fits : NodeDeed → Type 0
   Fits d = DeedFits k.files x.c x n u before d
 
   -- of the run's files, and this connection
@@ -158,145 +145,77 @@ module _ (k : Setting) (small : k.stream ≤ 2 ^ 30) (x : Conn) (s : Station) (t
   own-way : GoesItsWay env.serve.files x
   own-way = subst (λ (files : FilesAt). GoesItsWay files x) (sym is.files) g
 
-  module _ (it : IsIt) where
-    has : HasIt x l pend o.seat placed n env.epoch
-    has = (it placed).0
+  agreeing : (b : ControlBlock) (t : Stay) → IsHereWith env.epoch part b t → IsAgreeing env u before l truth.pend b t
+  agreeing b t at =
+      let y : StayHolds k small x truth n epoch env is b t = stay-holds k small x truth n epoch env is placed b t at in
+      let o : IsOpen k.files x l truth.pend y.station = y.opened in
+      let has : HasIt x l truth.pend o.seat placed n env.epoch = (y.it placed).0 in
+      let home : AtHome env.serve.files (marks_at x) (front_rest x.part.front.rest) n part = at-home env.serve.files x own-way n has.row has.found has.at has.decided in
+      record {
+        talk = talk-of k small x y.station y.there l truth.pend o n env epoch is;
+        num = record { isn = l.w.first; iss = l.out.first };
+        numbers = o.tale.numbers;
+        isn = refl;
+        wrote = o.tale.wrote;
+        counted = o.tale.served;
+        held = y.held;
+        told = of-here (λ (row : Option BackRow) (stay : Option Stay). RowTold before.told row) env.epoch part b t at (h.told n);
+        read = of-here (λ (row : Option BackRow) (stay : Option Stay). RowReads u stay row) env.epoch part b t at (reads.here n);
+        good = stay-good env u l.w l.out l.vs truth.pend n (marks_at x) (front_rest x.part.front.rest) b t y.held.1 y.held.0 o.tale.wrote o.tale.served
+            (subst (StayWays env.serve.files n (marks_at x) (front_rest x.part.front.rest)) at.stays home.stay) home.path n home.others home.first;
+      }
 
-    home-of : AtHome env.serve.files (marks_at x) (front_rest x.part.front.rest) n part
-    unfolding has
-    home-of = at-home env.serve.files x own-way n has.row has.found has.at has.decided
+  begins : (parts : EndpointParts) → HasCome x Front n epoch (body.Offer parts) heads → offer_answer env.epoch part.row ≡ New
+      → Fits (offered_by env parts part New)
+  begins parts come new =
+      let s = opened-at k.files x truth (front-opens x n come.bytes come.was) in
+      let o : IsOpen k.files x l truth.pend s.0 = open-at k.files x s.0 s.1 truth in
+      own-fits (offered_by env parts part New)
+      (new-fits k small x number s.0 s.1 l truth.pend o n epoch env is u before (record { isn = l.w.first; iss = l.out.first }) o.tale.numbers refl o.tale.wrote o.tale.served parts come.bytes come.spells come.was placed own-way reads new)
 
-    good : (b : ControlBlock) (t : Stay) → part.stay ≡ Some t → HoldsItPending l.w l.out l.vs pend b t.served → pend ≡ verdicts_of t.batch → HasGood env l.w l.out l.vs u (t.served + length t.batch)
-    good b t found held are = stay-good env u l.w l.out l.vs pend n (marks_at x) (front_rest x.part.front.rest) b t held are o.tale.wrote o.tale.served
-        (subst (StayWays env.serve.files n (marks_at x) (front_rest x.part.front.rest)) found home-of.stay) home-of.path n home-of.others home-of.first
+  rules_fit : KeptByNode env part (NodeComes x n epoch heads) Fits
+  rules_fit = record {
+    drops = tt;
+    hears = λ said b t m at.
+        own-fits (with_work env part [] (goes_on env (work_of (on_segment b said).1 t))) (hears-fit env x n u before l truth.pend part b t (agreeing b t at) said (word-of k x truth n epoch heads said m));
+    tags = λ ask nodes b t m at asked same count.
+        own-fits (with_work env (record part { kept = without timer.Ask 0 part.kept }) [] (goes_on env (tagged env nodes (work_of b t)))) (tags-fit env x n u before l truth.pend part b t (agreeing b t at) nodes);
+    comes = λ from r b t m at wanted. own-fits (with_work env (record part { fetches = without timer.Fetch r part.fetches }) [] (goes_on env (came_for (come_progress from) r (work_of b t)))) (comes-fit env x n u before l truth.pend part b t (agreeing b t at) from r);
+    reads = λ r path b t m at.
+        own-fits (with_work env part [] (goes_on env (came_for read_progress r (work_of b t)))) (reads-fit env x n u before l truth.pend part b t (agreeing b t at) r);
+    begins = begins;
+    takes_again = λ parts m again.
+        own-fits (Says (taken_sent env)) (other-says env.serve.files x n u before before env.serve.c env.epoch Front body.Taken (λ e. let no : kind.Taken ≡ kind.Ask = e in absurd cc), tt);
+    fires = λ b t m at.
+        own-fits (Does (node_fired env part (b, t) (spoken env.serve (serving (after_timer b) t.served []) (serving_ready_of env.serve (after_timer b) (timed b)))))
+        (fires-fit env x n u before l truth.pend part b t (agreeing b t at) (λ now. again-says env.serve.files x n u reads sound now));
+    resends = λ m none. again-says k.files x n u reads sound before;
+    ends = λ m told.
+        record { each = tt; to = tt; row = gone-told k.files x n u reads before.told part.row; reach = gone-reach k.files x n u reads before.wrote part.stay part.row; says = tt };
+  }
 
-    hears-it : (sd : spelling.Said) → IsWord l.w sd → Fits (node_forwarded env part (Ok sd))
-    unfolding num
-    hears-it sd word = own-fits (node_forwarded env part (Ok sd)) (hears-fit env x n u before l.w l.out l.vs pend l.was_reset (talk-of k small x s there l pend o n env epoch is) num o.tale.numbers refl o.tale.wrote o.tale.served part
-        (agrees-by k small x s there l pend o n env epoch is it placed) (ways-here k small x s there l pend o n env epoch is) (h.told n) good (reads.here n) sd word)
-
-    tags-it : (number : ℕ) (nodes : List ℕ) → Fits (node_tagged env part number nodes)
-    unfolding num
-    tags-it number nodes = own-fits (node_tagged env part number nodes) (tags-fit env x n u before l.w l.out l.vs pend l.was_reset (talk-of k small x s there l pend o n env epoch is) num o.tale.numbers refl o.tale.wrote o.tale.served part
-        (agrees-by k small x s there l pend o n env epoch is it placed) (ways-here k small x s there l pend o n env epoch is) (h.told n) good (reads.here n) number nodes)
-
-    comes-it : (from i : ℕ) → Fits (node_content env part from i)
-    unfolding num
-    comes-it from i = own-fits (node_content env part from i) (comes-fit env x n u before l.w l.out l.vs pend l.was_reset (talk-of k small x s there l pend o n env epoch is) num o.tale.numbers refl o.tale.wrote o.tale.served part
-        (agrees-by k small x s there l pend o n env epoch is it placed) (ways-here k small x s there l pend o n env epoch is) (h.told n) good (reads.here n) from i)
-
-    reads-it : (i : ℕ) → Fits (node_read env part i)
-    unfolding num
-    reads-it i = own-fits (node_read env part i) (reads-fit env x n u before l.w l.out l.vs pend l.was_reset (talk-of k small x s there l pend o n env epoch is) num o.tale.numbers refl o.tale.wrote o.tale.served part
-        (agrees-by k small x s there l pend o n env epoch is it placed) (ways-here k small x s there l pend o n env epoch is) (h.told n) good (reads.here n) i)
-
-    fires-it : Fits (node_timer env part)
-    unfolding num
-    fires-it = own-fits (node_timer env part) (fires-fit env x n u before l.w l.out l.vs pend l.was_reset (talk-of k small x s there l pend o n env epoch is) num o.tale.numbers refl o.tale.wrote o.tale.served part
-        (agrees-by k small x s there l pend o n env epoch is it placed) (ways-here k small x s there l pend o n env epoch is) (h.told n) good (reads.here n)
-        (λ now. again-says env.serve.files x n u reads sound now))
-
-  -- where it is here, or nothing is done
-  by-here : (rule : Option (ControlBlock × Stay) → NodeDeed) → rule None ≡ Drops → (IsIt → Fits (rule (here env.epoch part))) → Fits (rule (here env.epoch part))
-  by-here rule none fits = ⊎_elim
-      (λ (e : here env.epoch part ≡ None). subst Fits (sym (ap rule e ∙ none)) tt)
-      (λ (it : IsIt). fits it) (here-or k small x s there l pend o n env epoch is)
-
-  pub forwards-fit : (sd : spelling.Said) → IsWord l.w sd → Fits (node_forwarded env part (Ok sd))
-  forwards-fit sd word = by-here (node.node_heard_by env part (Ok sd)) refl (λ it. hears-it it sd word)
-
-  pub tagged-fits : (number : ℕ) (nodes : List ℕ) → Fits (node_tagged env part number nodes)
-  tagged-fits number nodes = by-here (tagged_by env number nodes part) refl (λ it. tags-it it number nodes)
-
-  pub content-fits : (from i : ℕ) → Fits (node_content env part from i)
-  content-fits from i = by-here (come_by env from i part) refl (λ it. comes-it it from i)
-
-  pub read-fits : (i : ℕ) → Fits (node_read env part i)
-  read-fits i = by-here (node_read_by env i part) refl (λ it. reads-it it i)
-
-  pub timer-fits : env.epoch ≡ epoch_in part → Fits (node_timer env part)
-  timer-fits same = ⊎_elim
-      (λ (e : both_of (back_endpoint part.row) part.stay ≡ None). subst Fits (sym (ap (node_fired_by env part) e)) (again-says k.files x n u reads sound before))
-      (λ (it : IsIt). fires-it it) (endpoint-or k small x s there l pend o n env epoch is part.row refl same)
-
-  pub offer-fits : IsConnNumber x.c → (parts : EndpointParts) (bytes : List ℕ) → SpellsMessage x.c epoch (body.Offer parts) bytes → Was x Front (Node n) bytes → Fits (node_offered env part parts)
-  unfolding num
-  offer-fits number parts bytes spells was = own-fits (node_offered env part parts) (offered-fits k small x number s there l pend o n epoch env is u before num o.tale.numbers refl o.tale.wrote o.tale.served parts bytes spells was placed own-way reads)
-
--- ---- every rule of a node
-
-packet-quiet : (x : Conn) (from : Place) (n : ℕ) (bytes : List ℕ) (d : NodeDeed) → bytes_of (tale_before x (node_does x n (packet_seen from (Node n) bytes) d)) ≡ bytes_of (tale_at x)
-packet-quiet x from n bytes Drops = refl
-packet-quiet x from n bytes (Says messages) = refl
-packet-quiet x from n bytes (Does given) = refl
-
-event-quiet : (x : Conn) (n : ℕ) (d : NodeDeed) → bytes_of (tale_before x (node_does x n (event_seen (event.Timer (Node n) x.c)) d)) ≡ bytes_of (tale_at x)
-event-quiet x n Drops = refl
-event-quiet x n (Says messages) = refl
-event-quiet x n (Does given) = refl
+  pub rule-fits : (g : NodeGets) → IsInItsEpoch env part g → NodeComes x n epoch heads g → Fits (node_rule env part g)
+  rule-fits g at comes = node-keeps env part (NodeComes x n epoch heads) Fits rules_fit g at comes
 
 module _ (k : Setting) (small : k.stream ≤ 2 ^ 30) where
   -- what is owed of a move, where the laws below hold of its connection
   abbrev pub Owed : Conn → Move → Type 0
   Owed x v = IsConnNumber x.c → IsConnSound x → IsTruthful k.files x → GoesItsWay k.files x → IsItsOwn x v → Owes x v → IsPlaced x → IsTelling x → (u : ℕ) → Reads u x → IsSaid k.files u x v
 
-  offered : (x : Conn) (n epoch : ℕ) (env : NodeEnv) (parts : EndpointParts) (bytes : List ℕ) → IsNodeEnv k x.c n epoch env → SpellsMessage x.c epoch (body.Offer parts) bytes → Was x Front (Node n) bytes
-      → Owed x (node_does x n (packet_seen Front (Node n) bytes) (node_offered env (x.part.nodes n) parts))
-  offered x n epoch env parts bytes is spells was number sound truth g own owes placed h u reads =
-      let opened = opened-at k.files x truth (front-opens x n bytes was) in
-      deed-said k.files x n u reads (packet_seen Front (Node n) bytes) (node_offered env (x.part.nodes n) parts) (tt, tt) (packet-quiet x Front n bytes)
-      (offer-fits k small x opened.0 opened.1 truth.talk truth.pend (open-at k.files x opened.0 opened.1 truth) n epoch env is sound placed g h u reads number parts bytes spells was) own owes placed h
-
-  forwarded : (x : Conn) (n epoch : ℕ) (env : NodeEnv) (segment bytes : List ℕ) → IsNodeEnv k x.c n epoch env → SpellsMessage x.c epoch (body.Forward segment) bytes → Was x Front (Node n) bytes
-      → Owed x (node_does x n (packet_seen Front (Node n) bytes) (node_forwarded env (x.part.nodes n) (decoded segment x.c ToCluster)))
-  forwarded x n epoch env segment bytes is spells was number sound truth g own owes placed h u reads =
-      let opened = opened-at k.files x truth (front-opens x n bytes was) in
-      let o = open-at k.files x opened.0 opened.1 truth in
-      let f = (has-fair (IsFair truth.talk x.c x.part) (record { from = Front; to = Node n; bytes = bytes }) x.letters was o.fair) _ spells in
-      let same : decoded segment x.c ToCluster ≡ Ok f.0 = ap (λ (b : List ℕ). decoded b x.c ToCluster) f.1 ∙ again x.c ToCluster f.0 f.2.sendable in
-      deed-said k.files x n u reads (packet_seen Front (Node n) bytes) (node_forwarded env (x.part.nodes n) (decoded segment x.c ToCluster)) (tt, tt) (packet-quiet x Front n bytes)
-      (subst (λ (r : Result spelling.Said SegFault). DeedFits k.files x.c x n u (marks_now x) (node_forwarded env (x.part.nodes n) r)) (sym same)
-      (forwards-fit k small x opened.0 opened.1 truth.talk truth.pend o n epoch env is sound placed g h u reads f.0 f.2)) own owes placed h
-
-  told_nodes : (x : Conn) (n epoch number : ℕ) (tags : List ℕ) (env : NodeEnv) (bytes : List ℕ) → IsNodeEnv k x.c n epoch env → Was x Front (Node n) bytes
-      → Owed x (node_does x n (packet_seen Front (Node n) bytes) (node_tagged env (x.part.nodes n) number tags))
-  told_nodes x n epoch ask tags env bytes is was number sound truth g own owes placed h u reads =
-      let opened = opened-at k.files x truth (front-opens x n bytes was) in
-      deed-said k.files x n u reads (packet_seen Front (Node n) bytes) (node_tagged env (x.part.nodes n) ask tags) (tt, tt) (packet-quiet x Front n bytes)
-      (tagged-fits k small x opened.0 opened.1 truth.talk truth.pend (open-at k.files x opened.0 opened.1 truth) n epoch env is sound placed g h u reads ask tags) own owes placed h
-
-  content : (x : Conn) (n from epoch r : ℕ) (env : NodeEnv) (bytes : List ℕ) → IsNodeEnv k x.c n epoch env → Owed x (node_does x n (packet_seen (Node from) (Node n) bytes) (node_content env (x.part.nodes n) from r))
-  content x n from epoch r env bytes is number sound truth g own owes placed h u reads =
-      deed-said k.files x n u reads (packet_seen (Node from) (Node n) bytes) (node_content env (x.part.nodes n) from r) (tt, tt) (packet-quiet x (Node from) n bytes)
-      (by-station k small x (DeedFits k.files x.c x n u (marks_now x) (node_content env (x.part.nodes n) from r))
-      (λ s there. content-fits k small x s there truth.talk truth.pend (open-at k.files x s there truth) n epoch env is sound placed g h u reads from r)
-      (λ none. subst (DeedFits k.files x.c x n u (marks_now x)) (sym (ap (come_by env from r (x.part.nodes n)) (nothing-here k.files x none truth n env.epoch placed.sits))) tt)) own owes placed h
-
-  read : (x : Conn) (n epoch r : ℕ) (env : NodeEnv) (path : List ℕ) → IsNodeEnv k x.c n epoch env → Owed x (reads_first (rec.Read n n x.c r path) (node_does x n [] (node_read env (x.part.nodes n) r)))
-  read x n epoch r env path is number sound truth g own owes placed h u reads =
-      first-said k.files x n u reads r path (node_read env (x.part.nodes n) r)
-      (by-station k small x (DeedFits k.files x.c x n u (marks_now x) (node_read env (x.part.nodes n) r))
-      (λ s there. read-fits k small x s there truth.talk truth.pend (open-at k.files x s there truth) n epoch env is sound placed g h u reads r)
-      (λ none. subst (DeedFits k.files x.c x n u (marks_now x)) (sym (ap (node_read_by env r (x.part.nodes n)) (nothing-here k.files x none truth n env.epoch placed.sits))) tt)) own owes placed h
-
-  fires : (x : Conn) (s : Station) (n : ℕ) (env : NodeEnv) → x.part.station ≡ Some s → IsNodeEnv k x.c n (epoch_in (x.part.nodes n)) env → Owed x (node_does x n (event_seen (event.Timer (Node n) x.c)) (node_timer env (x.part.nodes n)))
-  fires x s n env there is number sound truth g own owes placed h u reads =
-      deed-said k.files x n u reads (event_seen (event.Timer (Node n) x.c)) (node_timer env (x.part.nodes n)) (tt, tt) (event-quiet x n)
-      (timer-fits k small x s there truth.talk truth.pend (open-at k.files x s there truth) n (epoch_in (x.part.nodes n)) env is sound placed g h u reads is.epoch_is) own owes placed h
-
   content-says : (x : Conn) (n u from epoch r : ℕ) (path : List ℕ) → Each (SaysFit k.files x.c x n u (marks_now x) (marks_now x)) (content_said k n from x.c epoch r path).messages
   content-says x n u from epoch r path = (other-says k.files x n u (marks_now x) (marks_now x) x.c epoch (Node from) (body.Content r (node_place.content_bytes (k.files path))) (λ e. let no : kind.Content ≡ kind.Ask = e in absurd cc), tt)
 
+  asides-said : (x : Conn) (n : ℕ) (a : Aside) → MayAside k x n a → Owed x (stands x (Node n) (aside_seen n a) (aside_said k n x.c a))
+  asides-said x n (Answers from epoch r path file bytes) may number sound truth g own owes placed h u reads =
+      stands-said k.files x n u reads (packet_seen (Node from) (Node n) bytes) [] (content_said k n from x.c epoch r path).messages (tt, tt) refl tt refl (content-says x n u from epoch r path) own owes placed h
+  asides-said x n (Queues from epoch r path file bytes) may number sound truth g own owes placed h u reads =
+      stands-said k.files x n u reads (packet_seen (Node from) (Node n) bytes) (rec.Queued n from x.c r path ∷ []) [] (tt, tt) refl (tt, tt) refl tt own owes placed h
+  asides-said x n (Brings from epoch r path) may number sound truth g own owes placed h u reads =
+      stands-said k.files x n u reads [] (rec.Read n from x.c r path ∷ []) (content_said k n from x.c epoch r path).messages tt refl (tt, tt) refl (content-says x n u from epoch r path) own owes placed h
+
   pub nodes : NodeRules k Owed
-  nodes = record {
-    offered = offered;
-    forwarded = forwarded;
-    tagged = λ x n epoch number tags env bytes is spells was. told_nodes x n epoch number tags env bytes is was;
-    content = λ x n from epoch r env file bytes is spells was. content x n from epoch r env bytes is;
-    acknowledged = λ x n epoch env bytes is spells was number sound truth g own owes placed h u reads. deed-said k.files x n u reads (packet_seen Front (Node n) bytes) (node_acknowledged env (x.part.nodes n)) (tt, tt) (packet-quiet x Front n bytes) (acknowledged-fits k.files x n u reads env) own owes placed h;
-    read = read;
-    fires = fires;
-    answers = λ x n from epoch r path file bytes there spells was number sound truth g own owes placed h u reads. stands-said k.files x n u reads (packet_seen (Node from) (Node n) bytes) [] (content_said k n from x.c epoch r path).messages (tt, tt) refl tt refl (content-says x n u from epoch r path) own owes placed h;
-    queues = λ x n from epoch r path file bytes there spells was number sound truth g own owes placed h u reads. stands-said k.files x n u reads (packet_seen (Node from) (Node n) bytes) (rec.Queued n from x.c r path ∷ []) [] (tt, tt) refl (tt, tt) refl tt own owes placed h;
-    brings = λ x n from epoch r path number sound truth g own owes placed h u reads. stands-said k.files x n u reads [] (rec.Read n from x.c r path ∷ []) (content_said k n from x.c epoch r path).messages tt refl (tt, tt) refl (content-says x n u from epoch r path) own owes placed h;
-  }
+  nodes = each-node k Owed (record {
+    does = λ x n epoch env heads g is at comes number sound truth way own owes placed h u reads.
+        rule-said k.files x n u reads epoch heads g comes (node_rule env (x.part.nodes n) g) (rule-fits k small x number sound truth way placed h u reads n epoch env is heads g at comes) own owes placed h;
+    aside = asides-said;
+  })

@@ -3,11 +3,9 @@ use Rattle.std.proofs.Common.{◌≡◌, ◌≢◌, ◌⊎◌, ◌≤◌, ◌<�
 use Rattle.std.proofs.Math.Seq.{drop-append_seam, take-append_seam}
 use Rattle.std.proofs.lemmas.Bool.{and_parts, cond_both, not-true}
 use Rattle.std.proofs.lemmas.List.{length-append, length-take}
-use Rattle.lard_answers.specs.Answers.{FilesAt, IsPrefix, answer, good_path, until_close, verdicts, verdicts_on}
+use Rattle.lard_law_view.specs.Prelude.{Asked, ControlBlock, Entry, FilesAt, IsPrefix, NodeEnv, Progress, Service, Stream, Verdict, Via, Work, and_path, answer, answered, asks_for, batch_of, blocks, bytes_used, closed_behind, closes, discarding_on, ended_at_fin, enters, enters_first, finishing, goes_on, good_path, left_by, may_read, named_path, named_paths, passed_over, path_in, progress_of, queued, queueing, read_entry, reads_batch, reads_these, serves_with, serving_consumed, started_here, state_of, until_close, verdicts, verdicts_on}
 use Rattle.lard_answers.proofs.Following.{until_close-behind}
 use Rattle.lard_answers.proofs.Growing.{verdicts-are}
-use Rattle.lard_base.specs.declared.place.Via.{Via}
-use Rattle.lard_block.specs.Blocks.{blocks}
 use Rattle.lard_law_connections.proofs.BytesReading.{batch-read, read-alone}
 use Rattle.lard_law_connections.proofs.BytesServing.{MayGo, So, may-go}
 use Rattle.lard_law_connections.proofs.BytesWorking.{Right, Works, verdicts_of, going_so}
@@ -16,19 +14,8 @@ use Rattle.lard_laws.specs.Ways.{good_paths}
 use Rattle.lard_laws.proofs.WaysEntering.{Begun, Enters, begun-none, enters-both, here-begins, read-enter}
 use Rattle.lard_laws.proofs.WaysGoods.{good-append, prefix-take}
 use Rattle.lard_laws.proofs.WaysLying.{named-append}
-use Rattle.lard_endpoint.specs.Control.{ControlBlock, discarding_on, finishing, queueing}
 use Rattle.lard_law_view.proofs.ReadingBytes.{IsJudged, place, read-came}
-use Rattle.lard_rules.specs.declared.stay.Asked.{Asked}
-use Rattle.lard_rules.specs.declared.stay.Entry.{Entry}
-use Rattle.lard_rules.specs.declared.stay.Progress.{Progress}
 use Rattle.lard_rules.specs.declared.stay.Progress.TheVariants as progress
-use Rattle.lard_rules.specs.Stay.{NodeEnv, Work, and_path, asks_for, enters, enters_first, goes_on, left_by, named_path, named_paths, path_in, progress_of, read_entry, reads_batch, reads_these, serves_with, started_here}
-use Rattle.lard_reader.specs.Batches.{batch_of, bytes_used}
-use Rattle.lard_request.specs.declared.verdict.Verdict.{Verdict}
-use Rattle.lard_request.specs.Verdict.{closes}
-use Rattle.lard_rules.specs.Loop.{state_of}
-use Rattle.lard_rules.specs.Serving.{Service, closed_behind, serving_consumed, ended_at_fin, may_read, passed_over, queued, answered}
-use Rattle.lard_law_view.specs.Truth.{Stream}
 use Rattle.lard_rules.proofs.StayWalking.{StepIn, both-going, goes-in}
 
 -- ---- paths of good requests

@@ -2,15 +2,9 @@
 use Rattle.std.proofs.Common.{◌≡◌, ◌≤◌, ◌^◌, ℕ, Bool, true, false, cond, List, [], ◌∷◌, ◌++◌, map, Some, Ok, refl, sym, ap, ◌∙◌, subst, append_assoc, append-nil}
 use Rattle.std.proofs.lemmas.List.Sums.{fold-append}
 use Rattle.std.specs.List.{AllByRecursion, fold}
-use Rattle.lard_answers.specs.Answers.{FilesAt}
-use Rattle.lard_base.specs.declared.config.Config.{Config}
-use Rattle.lard_base.specs.declared.event.Event.{Event}
+use Rattle.lard_law_view.specs.Prelude.{Client, Config, Conn, EachStep, Event, FilesAt, Front, FrontRules, GoesBy, HasRule, IsConnNumber, IsConnSound, IsReached, Machine, MayRestOn, Move, Node, OfEach, Packet, Place, Rec, Row, Rules, Seen, Setting, Station, Tale, Untouched, UntouchedRules, client_does, client_injects, conn, file_at, front_does, front_rule, grown, inject_seen, is_opening, is_touched, machine_start, machine_step, net_of, net_step, nothing_said, own, packet_seen, plain, rows_of, seen_in, seen_of, seen_on, seen_step, setting, stands, steps, tale_at, tale_of, tale_step, untold, whose}
+use Rattle.lard_law_view.proofs.EachFront.{each-front}
 use Rattle.lard_base.specs.declared.event.Event.TheVariants as event
-use Rattle.lard_base.specs.declared.place.Place.{Place}
-use Rattle.lard_base.specs.declared.place.Place.TheVariants.{Client, Front, Node}
-use Rattle.lard_rules.specs.declared.machine.Machine.{Machine}
-use Rattle.lard_rules.specs.Bounds.{HasRule, IsConnNumber}
-use Rattle.lard_rules.specs.Machine.{IsReached, machine_step, machine_start}
 use Rattle.lard_law_connections.specs.BytesAgreement.{IsTruthful}
 use Rattle.lard_law_connections.proofs.BytesOwners.{Known, Knows, known}
 use Rattle.lard_law_connections.proofs.BytesRuns.{states-truthful}
@@ -26,8 +20,6 @@ use Rattle.lard_laws.proofs.SizesMoving.{AllFit, IsNoNode, IsSaid, IsTelling, Re
 use Rattle.lard_laws.proofs.SizesNodes.{Owed, nodes, stands-said}
 use Rattle.lard_laws.proofs.SizesTurns.{Reads, reads-reach}
 use Rattle.lard_law_connections.proofs.StopsRuns.{connections-stop}
-use Rattle.lard_law_view.specs.Carry.{MayRestOn, OfEach, Untouched, setting, tale_at}
-use Rattle.lard_law_view.specs.View.{Conn, FrontRules, GoesBy, IsConnSound, Move, Rules, Setting, UntouchedRules, client_does, conn, front_admits, front_does, grown, inject_seen, nothing_said, packet_seen, rows_of, seen_in, stands}
 use Rattle.lard_law_view.proofs.After.{IsAfter, step-after}
 use Rattle.lard_law_view.proofs.Carried.{IsOn, carried-keep, goes-on, gone, may-move}
 use Rattle.lard_law_view.proofs.Fine.{IsFine, IsItsOwn, fine}
@@ -38,21 +30,13 @@ use Rattle.lard_law_view.proofs.Naming.{Names, decoded-names}
 use Rattle.lard_law_view.proofs.Runs.{passes-more, start-blank}
 use Rattle.lard_laws.specs.WaysState.{GoesItsWay}
 use Rattle.lard_laws.proofs.WaysRuns as ways
-use Rattle.lard_files.specs.Files.{file_at}
 use Rattle.lard_rules.specs.Front as front
-use Rattle.lard_history.specs.Journal.{Tale, is_touched, tale_step, untold}
-use Rattle.lard_history.specs.Own.{Row, Seen, net_of, net_step, own, plain, seen_of, seen_on, seen_step, tale_of, whose}
-use Rattle.lard_history.specs.Steps.{EachStep, is_opening, steps}
 use Rattle.lard_history.proofs.Each.{Each}
 use Rattle.lard_history.proofs.Lifting.{tale-own}
 use Rattle.lard_history.proofs.Seeing.{own-append, same_number, seen-mine}
 use Rattle.lard_history.proofs.Stepping.{AreInside, AreLawful, IsOneStep, one-more}
 use Rattle.lard_history.proofs.Tales.{numbers-tale, owner-tale, served-tale, touched-tale, wrote-tale}
-use Rattle.lard_journal.specs.declared.rec.Rec.{Rec}
 use Rattle.lard_journal.specs.declared.rec.Rec.TheVariants as rec
-use Rattle.lard_net.specs.Net.{Packet}
-use Rattle.lard_rules.specs.Client.{client_injects}
-use Rattle.lard_rules.specs.declared.places.Station.{Station}
 use Rattle.lard_law_view.proofs.Untouched.{touched-stays}
 
 -- ---- a packet that the schedule puts on the way touches its connection
@@ -84,14 +68,7 @@ module _ (k : Setting) (small : k.stream ≤ 2 ^ 30) where
   front-wants x heads (front.Does did) number sound more truth g own owes placed h u reads = else-said x (front_does x heads (front.Does did)) own owes placed more.heads k.files tt refl h u reads
 
   fronts : FrontRules k Wants
-  fronts = record {
-    hears = λ x s env bytes there is iss was. front-wants x _ _;
-    fires = λ x s env there is. front-wants x _ _;
-    taken = λ x env n epoch bytes is spells was. front-wants x _ _;
-    asked = λ x env n epoch number queue size paths bytes is spells was. front-wants x _ _;
-    ended = λ x env n epoch reason snd rcv count bytes is spells was. front-wants x _ _;
-    admitted = λ x env choice given is e number sound more truth g own owes placed h u reads. else-said x (front_admits x given) own owes placed more.heads k.files tt refl h u reads;
-  }
+  fronts = each-front k Wants (λ x env heads g is comes. front-wants x heads (front_rule env x.part.front g))
 
   -- a packet comes, and nothing is done
   ignores-want : (x : Conn) (from to : Place) (bytes : List ℕ) → Wants x (stands x to (packet_seen from to bytes) nothing_said)

@@ -1,36 +1,19 @@
 -- What the client of a connection is told in a turn of its node: the last segment acknowledges all that came.
-use Rattle.std.proofs.Common.{◌≡◌, ◌⊎◌, ◌≤◌, ◌+◌, ℕ, Bool, true, false, nat_lt, List, [], ◌∷◌, ◌++◌, length, Option, Some, None, inl, inr, ⊎_elim, refl, sym, ap, ◌∙◌, arith}
+use Rattle.std.proofs.Common.{◌≡◌, ◌⊎◌, ◌≤◌, ◌+◌, ℕ, Bool, true, false, List, [], ◌∷◌, ◌++◌, Option, Some, inl, inr, ⊎_elim, refl, sym, ap, ◌∙◌, arith}
 use Rattle.std.proofs.lemmas.Bool.{cond_both}
 use Rattle.std.proofs.lemmas.List.{length-drop}
-use Rattle.lard_answers.specs.Answers.{answer}
-use Rattle.lard_base.specs.declared.place.Place.{Place}
+use Rattle.lard_law_view.specs.Prelude.{ControlBlock, Ending, NodeEnv, Place, Said, ServeEnv, Service, Stream, ToClient, Verdict, Via, Work, after_timer, answer, answered, awaited, closed_behind, closes, consuming, cut_off, decoded, discarding_on, emits_left, ended_at_fin, final_of, finishing, goes_on, limit_said, on_segment, queueing, rcv_nxt, rcv_wnd, reads_batch, receive_room, serving, serving_ready_of, serving_settled, serving_told, speaks, speaks_symbols, spoken, state_of, timed}
 use Rattle.lard_base.specs.declared.place.Reason.TheVariants.{Limit}
-use Rattle.lard_base.specs.declared.place.Via.{Via}
 use Rattle.lard_law_connections.specs.Line.{said_of}
 use Rattle.lard_law_connections.proofs.LineHearing.{Hears, is_reset, segment-hears}
 use Rattle.lard_law_connections.proofs.LineHolding.{EndsHeld, IsReady, held-ends, ready-quiet, settled-ends}
 use Rattle.lard_law_connections.proofs.LineSpeaking.{HasSpoken, IsSound, IsTold, heard_by, speaks-spoken, timer-spoken, told-on}
-use Rattle.lard_endpoint.specs.Arriving.{on_segment}
-use Rattle.lard_endpoint.specs.Control.{ControlBlock, consuming, discarding_on, finishing, queueing, rcv_nxt, rcv_wnd}
-use Rattle.lard_endpoint.specs.Leaving.{after_timer, emits_left, timed}
-use Rattle.lard_endpoint.specs.Moving.{end_reason, final_of, may_end}
 use Rattle.lard_law_view.proofs.EndpointStreams.{IsBetween, between-sound}
 use Rattle.lard_law_view.proofs.EndpointSpeaking.{Spoke, emits-spoke, emits_symbols-spoke}
-use Rattle.lard_rules.specs.Stay.{NodeEnv, Work, goes_on, reads_batch}
-use Rattle.lard_recv.specs.Recv.{awaited, receive_room}
-use Rattle.lard_request.specs.declared.verdict.Verdict.{Verdict}
-use Rattle.lard_request.specs.Verdict.{closes}
-use Rattle.lard_rules.specs.declared.places.Ending.{Ending}
 use Rattle.lard_rules.specs.declared.places.Ending.TheVariants as ending
-use Rattle.lard_rules.specs.declared.places.Turn.{Turn}
-use Rattle.lard_rules.specs.Loop.{state_of}
-use Rattle.lard_rules.specs.Serving.{ServeEnv, Service, answered, closed_behind, cut_off, ended_at_fin, limit_said, passed_over, queued, serving_ready_of, serving, serving_settled, spoken, serving_told}
-use Rattle.lard_rules.specs.Speaking.{speaks, speaks_symbols}
-use Rattle.lard_segment.specs.declared.segment.Dir.TheVariants.{ToClient}
-use Rattle.lard_segment.specs.Segment.{Said, decoded}
 use Rattle.lard_segment.proofs.Again.{again}
-use Rattle.lard_law_view.specs.Truth.{Stream}
 use Rattle.lard_rules.proofs.StayKeeping.{KeptByStay, batch-keeps, goes-keep}
+use Rattle.lard_rules.proofs.Endings.{answered-keeps, at-fin-keeps, rested-keeps, settled-keeps}
 
 -- ---- what answering leaves of an endpoint
 
@@ -87,13 +70,12 @@ module _ (env : NodeEnv) where
   answered-wider : (s : ServeEnv) (way : Via) (v : Verdict) (w : Service) → IsWider w.block (answered s way v w).block
   answered-wider s way v w =
       let bytes : List ℕ = answer s.files v in
-      let total : ℕ = w.block.send.total + length bytes in
-      cond_both (nat_lt s.stream total) (passed_over s total w) (queued s way v bytes w) (λ (t : Service). IsWider w.block t.block)
+      answered-keeps (λ (t : Service). IsWider w.block t.block) s way v w
       (λ t. wider-same w.block)
       (λ t. wider-then w.block (queueing w.block bytes) (closed_behind v (queueing w.block bytes)) (sending-wider w.block (queueing w.block bytes) refl refl refl refl) (closed-wider v (queueing w.block bytes)))
 
   fin-wider : (w : Service) → IsWider w.block (ended_at_fin w).block
-  fin-wider w = cond_both w.block.recv.fin (record w { block = finishing w.block }) w (λ (t : Service). IsWider w.block t.block) (λ t. sending-wider w.block (finishing w.block) refl refl refl refl) (λ t. wider-same w.block)
+  fin-wider w = at-fin-keeps (λ (t : Service). IsWider w.block t.block) w (λ t. sending-wider w.block (finishing w.block) refl refl refl refl) (λ t. wider-same w.block)
 
   -- more behind that
   on-wider : (k y : Work) (d : ControlBlock) → Wider k y → IsWider y.service.block d → IsWider k.service.block d
@@ -161,23 +143,17 @@ module _ (env : ServeEnv) (o : Option Said) (w out : Stream) (s : Service) (betw
 
   -- wherever the turn ends, unless the client reset the connection
   pub settled-told : s.block.reset ≡ false → Acknowledges (heard_by env.c o (serving_settled env s).1.segments) (rcv_nxt s.block)
-  settled-told calm = go s.over where
-    go : (p : Option ℕ) → Acknowledges (heard_by env.c o (elim p as (λ p. Ending × Turn) [ None ↦ spoken env s [] | Some total ↦ cut_off env s ]).1.segments) (rcv_nxt s.block)
-    go None = spoken-told calm
-    go (Some total) = limit-told calm
+  settled-told calm = settled-keeps (λ given. Acknowledges (heard_by env.c o given.1.segments) (rcv_nxt s.block)) env s (λ e. spoken-told calm) (λ total e. limit-told calm)
 
   -- where it stays, it received what it had
   spoken-recv : SameRecv s.block (spoken env s []).0
   spoken-recv =
       let said = speaks env.c s.block in
       let talk : Spoke env.c w out true s.block said = emits-spoke env.c w out true (emits_left s.block) s.block between in
-      cond_both (may_end said.1) (ending.Over (final_of said.1 (end_reason said.1))) (ending.Here said.1 s.count) (SameRecv s.block) (λ t. tt) (λ t. talk.recv)
+      rested-keeps (SameRecv s.block) said.1 s.count (λ t. tt) (λ t. talk.recv)
 
   pub settled-recv : SameRecv s.block (serving_settled env s).0
-  settled-recv = go s.over where
-    go : (p : Option ℕ) → SameRecv s.block (elim p as (λ p. Ending × Turn) [ None ↦ spoken env s [] | Some total ↦ cut_off env s ]).0
-    go None = spoken-recv
-    go (Some total) = tt
+  settled-recv = settled-keeps (λ given. SameRecv s.block given.0) env s (λ e. spoken-recv) (λ total e. tt)
 
   pub settled-held : EndsHeld env.c o s.notes (serving_settled env s)
   settled-held = settled-ends env o s ready

@@ -1,9 +1,7 @@
 -- What a turn of a node leaves: its client was told all that came, and an Ask says what its batch is.
 use Rattle.std.proofs.Common.{◌≡◌, ◌≢◌, ◌⊎◌, ◌≤◌, ◌<◌, ◌+◌, ◌-◌, ◌*◌, ◌/◌, ◌^◌, ℕ, min, Bool, true, false, List, [], ◌∷◌, ◌++◌, length, take, drop, Option, Some, None, Ok, inl, inr, refl, sym, ap, ◌∙◌, subst, arith}
 use Rattle.std.proofs.lemmas.List.{length-take, take-append-drop, take_all}
-use Rattle.lard_answers.specs.Answers.{FilesAt, verdicts}
-use Rattle.lard_base.specs.declared.place.Place.{Place}
-use Rattle.lard_base.specs.declared.place.Place.TheVariants.{Client, Front, Node}
+use Rattle.lard_law_view.specs.Prelude.{Asked, BackConn, BackRow, Body, Client, Conn, ControlBlock, Ending, Entry, FilesAt, Front, Hears, IsStream, Message, Node, NodeDeed, NodeEnv, NodePart, NodeTurn, Numbers, Place, Received, Said, Service, Stay, Stream, Turn, Verdict, Want, Was, Work, asked_sent, awaited, decoded_message, ended_sent, goes_on, kept_after, kind_of, named_paths, one_if, rcv_nxt, seq_add, seq_offset, served_in, serving_settled, tale_at, verdicts, wants_sent, with_work}
 use Rattle.lard_law_connections.specs.BytesKeeping.{IsTalk}
 use Rattle.lard_law_connections.specs.BytesTurning.{IsNoteOf}
 use Rattle.lard_law_connections.proofs.BytesWorking.{Right, Works}
@@ -14,42 +12,17 @@ use Rattle.lard_law_connections.proofs.AwaitsNodes.{HasServed, settled-served}
 use Rattle.lard_law_connections.proofs.PlacesHeads.{kinds-same}
 use Rattle.lard_laws.proofs.SizesReading.{AskSo, Fits, Reach, goes-fit}
 use Rattle.lard_laws.proofs.SizesTelling.{Acknowledges, IsQuiet, SameRecv, goes-wider, settled-held, settled-recv, settled-told, wider-quiet}
-use Rattle.lard_law_view.specs.Carry.{tale_at}
-use Rattle.lard_law_view.specs.View.{Conn, Was}
 use Rattle.lard_laws.specs.Ways.{good_paths}
 use Rattle.lard_laws.proofs.WaysGoods.{good-append}
 use Rattle.lard_laws.proofs.WaysShort.{AreShort, short-within, wanted-short}
 use Rattle.lard_laws.proofs.WaysSpelling.{ReadsAsk, ask-reads}
-use Rattle.lard_endpoint.specs.Control.{ControlBlock, rcv_nxt}
-use Rattle.lard_handoff_back.specs.declared.row.BackConn.{BackConn}
 use Rattle.lard_handoff_back.specs.declared.row.BackConn.TheVariants as back
-use Rattle.lard_handoff_back.specs.declared.row.BackRow.{BackRow}
-use Rattle.lard_history.specs.Journal.{Numbers}
 use Rattle.lard_history.proofs.Each.{Each, Each-append}
-use Rattle.lard_law_view.specs.Keeping.{served_in}
 use Rattle.lard_message.specs.declared.kind.Kind.TheVariants as kind
-use Rattle.lard_message.specs.declared.message.Body.{Body}
 use Rattle.lard_message.specs.declared.message.Body.TheVariants as body
-use Rattle.lard_message.specs.declared.message.Message.{Message}
-use Rattle.lard_message.specs.Message.{kind_of}
-use Rattle.lard_message.specs.Reading.{decoded_message}
-use Rattle.lard_rules.specs.declared.node.NodeTurn.{NodeTurn}
-use Rattle.lard_rules.specs.declared.stay.Asked.{Asked}
-use Rattle.lard_rules.specs.declared.stay.Entry.{Entry}
-use Rattle.lard_rules.specs.declared.stay.Stay.{Stay}
-use Rattle.lard_rules.specs.declared.stay.Want.{Want}
-use Rattle.lard_rules.specs.Node.{NodeDeed, Drops, Says, Does, NodePart, asked_sent, ended_sent, kept_after, message, wants_sent, with_work}
+use Rattle.lard_rules.specs.Node.{Drops, Says, Does, message}
 use Rattle.lard_rules.specs.Node as node
-use Rattle.lard_rules.specs.Stay.{NodeEnv, Work, goes_on, named_paths}
-use Rattle.lard_recv.specs.Recv.{Received, awaited}
-use Rattle.lard_request.specs.declared.verdict.Verdict.{Verdict}
-use Rattle.lard_rules.specs.declared.places.Ending.{Ending}
 use Rattle.lard_rules.specs.declared.places.Ending.TheVariants as ending
-use Rattle.lard_rules.specs.declared.places.Turn.{Turn}
-use Rattle.lard_rules.specs.Serving.{Service, serving_settled}
-use Rattle.lard_segment.specs.Segment.{Said}
-use Rattle.lard_seq.specs.Seq.{one_if, seq_add, seq_offset}
-use Rattle.lard_law_view.specs.Truth.{Hears, IsStream, Stream}
 use Rattle.lard_law_view.proofs.EndpointSends.{AllTo}
 
 -- ---- what a turn leaves

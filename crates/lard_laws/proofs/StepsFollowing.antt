@@ -1,14 +1,9 @@
 -- The journal follows the events.
 use Rattle.std.proofs.Common.{◌≡◌, ◌+◌, List, [], ◌∷◌, ◌++◌, refl, sym, ap, ◌∙◌, subst, append_assoc, append-nil}
-use Rattle.lard_base.specs.declared.event.Event.{Event}
-use Rattle.lard_rules.specs.declared.machine.Machine.{Machine}
-use Rattle.lard_rules.specs.Machine.{Passes, machine_start}
+use Rattle.lard_law_view.specs.Prelude.{Event, Follows, IsStep, IsViewed, Machine, Passes, Rec, machine_start}
 use Rattle.lard_laws.specs.StepsLaws.{JournalsFollow}
-use Rattle.lard_law_view.specs.View.{IsViewed}
 use Rattle.lard_law_view.proofs.After.{IsAfter, step-after}
 use Rattle.lard_law_view.proofs.Carried.{start-viewed, viewed-kept}
-use Rattle.lard_history.specs.Laws.{Follows, IsStep}
-use Rattle.lard_journal.specs.declared.rec.Rec.{Rec}
 
 -- behind m stand the steps of these events
 follows-on : (es : List Event) (m n : Machine) → IsViewed m → Passes m es n → (adds : List Rec) × (n.journal ≡ m.journal ++ adds) × Follows (m.events + 1) es adds

@@ -2,31 +2,20 @@
 use Rattle.std.proofs.Common.{◌≡◌, ℕ, ◌+◌, ◌-◌, List, [], ◌∷◌, ◌++◌, length, cond, Bool, true, false, Some, None, refl, sym, ap, ◌∙◌, subst, append_assoc, nat_eq}
 use Rattle.std.specs.Prelude.{slice_get}
 use Rattle.std.specs.List.{fold}
-use Rattle.lard_base.specs.declared.config.Config.{Config}
-use Rattle.lard_base.specs.declared.event.Event.{Event}
+use Rattle.lard_law_view.specs.Prelude.{Config, Event, IsReached, Machine, Out, Packet, Place, Rec, answered_step, clocked, goal_in, lost_in, machine_start, machine_told, packet_at, packets_of, segments_sent, sent_records}
 use Rattle.lard_base.specs.declared.event.Event.TheVariants as event
-use Rattle.lard_base.specs.declared.place.Place.{Place}
-use Rattle.lard_base.specs.declared.place.Place.TheVariants.{Front, Node, Client}
-use Rattle.lard_rules.specs.declared.machine.Machine.{Machine}
-use Rattle.lard_rules.specs.Machine.{IsReached, clocked, segments_sent, machine_start, machine_told}
 use Rattle.lard_laws.specs.StepsLaws.{SettingsStay}
 use Rattle.lard_law_view.proofs.After.{IsAfter, step-after}
 use Rattle.lard_law_view.proofs.AnyShape.{AnyShape, IsAct, SomeGift, SomeNote, SomeTimer, step-any}
 use Rattle.lard_law_view.proofs.Carried.{carried-keep}
 use Rattle.lard_law_view.proofs.Heads.{ActsAt}
-use Rattle.lard_law_view.proofs.Saying.{GaveAt, NotedAt}
 use Rattle.lard_law_view.proofs.Shapes.{IsPut}
-use Rattle.lard_law_view.proofs.Timers.{IsTimerAt}
-use Rattle.lard_history.specs.Journal.{answered_step}
 use Rattle.lard_history.proofs.Each.{Each, Each-weaker}
-use Rattle.lard_journal.specs.declared.rec.Rec.{Rec}
 use Rattle.lard_journal.specs.declared.rec.Rec.TheVariants as rec
-use Rattle.lard_law_view.specs.ClientTale.{goal_in, lost_in}
 use Rattle.lard_law_view.proofs.Packets.{IsUncounted, Linked, delivers, loses, sents, uncounted-all}
-use Rattle.lard_rules.specs.Sent.{packets_of, sent_records}
-use Rattle.lard_net.specs.Net.{Packet, packet_at}
-use Rattle.lard_rules.specs.declared.places.Out.{Out}
 use Rattle.lard_law_view.proofs.OwnRecords.{behind}
+use Rattle.lard_law_view.proofs.OfKinds.{noted as noted_kind, of-gift, of-timer}
+use Rattle.lard_law_view.proofs.RecordKinds.{IsNote}
 
 -- a state's journal is one of its packets and responses
 abbrev pub IsLinked : Machine → Type 0
@@ -34,41 +23,15 @@ IsLinked m = Linked m.journal m.net m.answered
 
 -- ---- records that say nothing of packets
 
-note-uncounted : (p : Place) (c : ℕ) (r : Rec) → NotedAt p c r → IsUncounted r
-note-uncounted (Client e) c (rec.Wrote d bytes) h = tt
-note-uncounted (Client e) c (rec.Accepted d bytes) h = tt
-note-uncounted (Client e) c (rec.Eof d) h = tt
-note-uncounted (Client e) c (rec.Aborted d) h = tt
-note-uncounted Front c (rec.Took Front d epoch) h = tt
-note-uncounted Front c (rec.Served Front d r code size via) h = tt
-note-uncounted Front c (rec.Reset Front d total) h = tt
-note-uncounted Front c (rec.Waits d) h = tt
-note-uncounted Front c (rec.Admitted d) h = tt
-note-uncounted Front c (rec.AssignedFirst d r path n add remove) h = tt
-note-uncounted Front c (rec.AssignedLater d r path n add size queue) h = tt
-note-uncounted Front c (rec.BatchOver d) h = tt
-note-uncounted Front c (rec.Released d) h = tt
-note-uncounted (Node n) c (rec.Took (Node k) d epoch) h = tt
-note-uncounted (Node n) c (rec.Served (Node k) d r code size via) h = tt
-note-uncounted (Node n) c (rec.Reset (Node k) d total) h = tt
-note-uncounted (Node n) c (rec.Queued k o d r path) h = tt
-note-uncounted (Node n) c (rec.Read k o d r path) h = tt
-note-uncounted (Node n) c (rec.Hit k path) h = tt
-note-uncounted _ c _ h = absurd h
+note-uncounted : (r : Rec) → IsNote r → IsUncounted r
+note-uncounted (rec.Sent k from to bytes) h = absurd h
+note-uncounted (rec.Got k) h = absurd h
+note-uncounted (rec.Lost k) h = absurd h
+note-uncounted _ h = tt
 
 -- nor of responses
 abbrev IsIdle : Rec → Type 0
 IsIdle r = IsUncounted r × ((n : ℕ) → answered_step n r ≡ n)
-
-gave-idle : (p : Place) (c : ℕ) (r : Rec) → GaveAt p c r → IsIdle r
-gave-idle Front c (rec.Gave Front d epoch) h = (tt, λ n. refl)
-gave-idle (Node n) c (rec.Gave (Node k) d epoch) h = (tt, λ n. refl)
-gave-idle _ c _ h = absurd h
-
-timer-idle : (p : Place) (c : ℕ) (r : Rec) → IsTimerAt p c r → IsIdle r
-timer-idle p c (rec.Armed q d kind) h = (tt, λ n. refl)
-timer-idle p c (rec.Cleared q d kind) h = (tt, λ n. refl)
-timer-idle p c _ h = absurd h
 
 idle-count : (n : ℕ) (rs : List Rec) → Each IsIdle rs → fold answered_step n rs ≡ n
 idle-count n [] e = refl
@@ -115,9 +78,9 @@ module _ (m : Machine) (l : IsLinked m) where
   unfolding machine_told
   told-linked w e place o act =
       let put : IsPut m w = act.put in
-      let notes : Each IsUncounted o.notes = Each-weaker (SomeNote place) IsUncounted (λ r h. note-uncounted place h.0 r h.2) o.notes act.notes in
-      let gave : Each IsIdle o.gave = Each-weaker (SomeGift place) IsIdle (λ r h. gave-idle place h.0 r h.1) o.gave act.gave in
-      let timers : Each IsIdle o.timers = Each-weaker (SomeTimer place) IsIdle (λ r h. timer-idle place h.0 r h.1) o.timers act.timers in
+      let notes : Each IsUncounted o.notes = Each-weaker (SomeNote place) IsUncounted (λ r h. note-uncounted r (noted_kind place h.0 r h.2)) o.notes act.notes in
+      let gave : Each IsIdle o.gave = Each-weaker (SomeGift place) IsIdle (λ r h. of-gift IsIdle (λ p d epoch. (tt, λ n. refl)) place h.0 r h.1) o.gave act.gave in
+      let timers : Each IsIdle o.timers = Each-weaker (SomeTimer place) IsIdle (λ r h. of-timer IsIdle (λ p d kind. ((tt, λ n. refl), (tt, λ n. refl))) place h.0 r h.1) o.timers act.timers in
       let A : List Rec = rec.Event (w.events + 1) e ∷ behind e in
       let net : List Packet = segments_sent w place o in
       let answered : ℕ = w.answered + o.answered in

@@ -2,13 +2,8 @@
 use Rattle.std.proofs.Common.{◌≡◌, ℕ, ◌+◌, ◌-◌, ◌≤◌, ◌<◌, List, [], ◌∷◌, ◌++◌, length, Some, None, inl, inr, refl, sym, ap, ◌∙◌, subst, arith, length-append}
 use Rattle.std.proofs.lemmas.List.Sums.{fold-append}
 use Rattle.std.specs.List.{fold}
-use Rattle.lard_base.specs.declared.config.Config.{Config}
-use Rattle.lard_base.specs.declared.event.Event.{Event}
+use Rattle.lard_law_view.specs.Prelude.{ActsInPlace, Client, Config, EachMay, Event, Front, IsReached, KeepsTime, Machine, MayAct, MayTime, Node, Out, Packet, Place, Rec, clocked, first_place, goal_in, lose_at, machine_told, packets_of, passed, segments_sent, sent_records, time_of, time_step, told_rows}
 use Rattle.lard_base.specs.declared.event.Event.TheVariants as event
-use Rattle.lard_base.specs.declared.place.Place.{Place}
-use Rattle.lard_base.specs.declared.place.Place.TheVariants.{Front, Node, Client}
-use Rattle.lard_rules.specs.declared.machine.Machine.{Machine}
-use Rattle.lard_rules.specs.Machine.{IsReached, clocked, passed, segments_sent, machine_told, told_rows}
 use Rattle.lard_laws.proofs.StepsLinking.{IsLinked, reached-linked}
 use Rattle.lard_law_view.proofs.AnyShape.{AnyShape, IsAct, SomeGift, SomeNote, SomeTimer, step-any}
 use Rattle.lard_law_view.proofs.Carried.{carried-keep}
@@ -16,19 +11,13 @@ use Rattle.lard_law_view.proofs.Heads.{ActsAt}
 use Rattle.lard_law_view.proofs.Saying.{GaveAt, NotedAt}
 use Rattle.lard_law_view.proofs.Shapes.{IsPut}
 use Rattle.lard_law_view.proofs.Timers.{IsTimerAt}
-use Rattle.lard_history.specs.Journal.{time_of, time_step}
-use Rattle.lard_history.specs.Laws.{ActsInPlace, EachMay, KeepsTime, MayAct, MayTime, first_place}
 use Rattle.lard_history.proofs.Acting.{IsActing, IsAt, IsInside, acting-lawful, comes-acting, named-acting, placeless-acts}
 use Rattle.lard_history.proofs.Counts.{last_event-append}
 use Rattle.lard_history.proofs.Each.{Each, Each-append, Each-weaker, each_append}
-use Rattle.lard_journal.specs.declared.rec.Rec.{Rec}
 use Rattle.lard_journal.specs.declared.rec.Rec.TheVariants as rec
-use Rattle.lard_law_view.specs.ClientTale.{goal_in}
 use Rattle.lard_law_view.proofs.PlaceRecords.{few, sents-at, sents-inside}
-use Rattle.lard_rules.specs.Sent.{packets_of, sent_records}
-use Rattle.lard_net.specs.Net.{Packet, lose_at}
-use Rattle.lard_rules.specs.declared.places.Out.{Out}
 use Rattle.lard_law_view.proofs.OwnRecords.{behind}
+use Rattle.lard_law_view.proofs.OfKinds.{each-may, of-sents}
 
 -- ---- records that tell no time
 
@@ -41,8 +30,7 @@ timeless-may past (rec.Clock time) h = absurd h
 timeless-may past _ h = tt
 
 timeless-all : (past rs : List Rec) → Each IsTimeless rs → EachMay MayTime past rs
-timeless-all past [] e = tt
-timeless-all past (r ∷ rs) e = (timeless-may past r e.0, timeless-all (past ++ r ∷ []) rs e.1)
+timeless-all past rs e = each-may IsTimeless MayTime timeless-may past rs e
 
 timeless-step : (n : ℕ) (r : Rec) → IsTimeless r → time_step n r ≡ n
 timeless-step n (rec.Clock time) h = absurd h
@@ -99,8 +87,7 @@ behind-here p (event.Inject c bytes) = ((inl refl, (λ k. (refl, tt)), tt), tt)
 behind-here p _ = tt
 
 sents-timeless : (k : ℕ) (p : Place) (ss : List (Place × List ℕ)) → Each IsTimeless (sent_records k p ss)
-sents-timeless k p [] = tt
-sents-timeless k p (s ∷ ss) = (tt, sents-timeless (k + 1) p ss)
+sents-timeless = of-sents IsTimeless (λ k from to bytes. tt)
 
 -- ---- what an act says
 

@@ -4,19 +4,12 @@ use Rattle.std.specs.Prelude.{◌⊎◌}
 use Rattle.std.proofs.lemmas.Bool.{both_ways}
 use Rattle.std.proofs.lemmas.List.Sums.{fold-append}
 use Rattle.std.specs.List.{fold, list_all}
-use Rattle.lard_base.specs.declared.config.Config.{Config}
-use Rattle.lard_base.specs.declared.event.Event.{Event}
+use Rattle.lard_law_view.specs.Prelude.{Came, ChangesTimers, Client, Config, Conn, Event, Front, HasRule, HasTimer, IsConnNumber, IsLaw, IsMachine, IsReached, IsViewed, Machine, MayRestOn, Move, Node, NodePart, OfEach, Part, Place, Rec, Row, Rules, Seen, Setting, TimerKind, armed_step, blank_conn, conn, front_armed, grown, is_change, is_place, machine_step, node_armed, packets_of, part_of, rows_of, seen_step, sent_records, setting, timer_change, timer_kinds, timer_rows}
+use Rattle.lard_law_view.proofs.EachClient.{each-client, of-client}
 use Rattle.lard_base.specs.declared.event.Event.TheVariants as event
-use Rattle.lard_base.specs.declared.place.Place.{Place}
-use Rattle.lard_base.specs.declared.place.Place.TheVariants.{Front, Node, Client}
-use Rattle.lard_base.specs.declared.place.TimerKind.{TimerKind}
 use Rattle.lard_base.specs.declared.place.TimerKind.TheVariants.{Tcp, Offer, Ask, Fetch, Ended}
-use Rattle.lard_rules.specs.declared.machine.Machine.{Machine}
-use Rattle.lard_rules.specs.Bounds.{HasRule, HasTimer, IsConnNumber}
-use Rattle.lard_rules.specs.Machine.{IsReached, machine_step}
 use Rattle.lard_laws.specs.StepsTimers.{RunsAsKept, TimersChangeInSteps, TimersRunAsKept, armed_at, client_armed}
-use Rattle.lard_law_view.specs.Carry.{IsLaw, MayRestOn, OfEach, setting}
-use Rattle.lard_law_view.specs.View.{Conn, IsMachine, IsViewed, Move, Part, Rules, Setting, blank_conn, conn, grown, part_of, rows_of, sending, timer_rows}
+use Rattle.lard_law_view.specs.View.{sending}
 use Rattle.lard_law_view.proofs.Acts.{ActsAlone, ActsMany, AreApart, IsPassing, IsStepOf, Moving, step_acts, timers_in}
 use Rattle.lard_law_view.proofs.AnyShape.{SomeGift, SomeNote}
 use Rattle.lard_law_view.proofs.After.{IsAfter, step-after}
@@ -27,37 +20,28 @@ use Rattle.lard_law_view.proofs.Guarded.{both, weaker}
 use Rattle.lard_law_view.proofs.Rows.{grown-told}
 use Rattle.lard_law_view.proofs.Saying.{GaveAt, NotedAt}
 use Rattle.lard_law_view.proofs.Timers.{timer_rows-same}
-use Rattle.lard_rules.specs.Front.{front_armed}
-use Rattle.lard_history.specs.Journal.{armed_step, is_place}
-use Rattle.lard_history.specs.Own.{Seen, Row, Came, seen_step}
 use Rattle.lard_history.proofs.Each.{Each, Each-append, Each-weaker}
 use Rattle.lard_history.proofs.Lifting.{fold-own}
 use Rattle.lard_history.proofs.Seeing.{by_number, same_number}
 use Rattle.lard_history.proofs.Stepping.{AreLawful, cancel, one-more}
-use Rattle.lard_journal.specs.declared.rec.Rec.{Rec}
 use Rattle.lard_journal.specs.declared.rec.Rec.TheVariants as rec
-use Rattle.lard_law_view.specs.Timers.{ChangesTimers, is_change}
 use Rattle.lard_law_view.proofs.TimerChanges.{AreOthers, Exactly, IsStill, Still, all-both, all-change, changes, exactly-both, exactly-changes, exactly-none, kinds-change, number-others, others-both, place-is, place-others, step-changes, still-behind, still-rows, still-seen, still-sents, timer-is-own}
-use Rattle.lard_rules.specs.Sent.{packets_of, sent_records}
-use Rattle.lard_rules.specs.Node.{NodePart, node_armed}
-use Rattle.lard_rules.specs.Outs.{timer_kinds, timer_change}
 use Rattle.lard_law_view.proofs.OwnRecords.{behind}
+use Rattle.lard_law_view.proofs.OfKinds as of-note
+use Rattle.lard_law_view.proofs.RecordKinds.{IsNote}
 
 -- ---- records of no timer
 
+note-stays : (r : Rec) → IsNote r → is_change r ≡ false
+note-stays (rec.Armed p d kind) h = absurd h
+note-stays (rec.Cleared p d kind) h = absurd h
+note-stays _ h = refl
+
 still-note : (place : Place) (c : ℕ) (r : Rec) → NotedAt place c r → is_change r ≡ false
-still-note (Client e) c (rec.Armed p d kind) h = absurd h
-still-note (Client e) c (rec.Cleared p d kind) h = absurd h
-still-note Front c (rec.Armed p d kind) h = absurd h
-still-note Front c (rec.Cleared p d kind) h = absurd h
-still-note (Node n) c (rec.Armed p d kind) h = absurd h
-still-note (Node n) c (rec.Cleared p d kind) h = absurd h
-still-note _ c _ h = refl
+still-note place c r h = note-stays r (of-note.noted place c r h)
 
 still-gave : (place : Place) (c : ℕ) (r : Rec) → GaveAt place c r → is_change r ≡ false
-still-gave Front c (rec.Gave Front d epoch) h = refl
-still-gave (Node n) c (rec.Gave (Node j) d epoch) h = refl
-still-gave _ c _ h = absurd h
+still-gave = of-note.of-gift (λ r. is_change r ≡ false) (λ p d epoch. refl)
 
 still-notes : (place : Place) (c : ℕ) (rs : List Rec) → Each (NotedAt place c) rs → Still rs
 still-notes place c rs e = Each-weaker (NotedAt place c) (λ r. is_change r ≡ false) (still-note place c) rs e
@@ -109,17 +93,13 @@ machine-plain x v at = record {
 plainly : (k : Setting) → Rules k (Owed IsPlain)
 plainly k = record {
   untouched = record {
-    client = record {
+    client = each-client k (Owed IsPlain) (record {
       opens = λ x isn iss wnd mss rule none number sound. record { heads = (refl, (refl, tt)); acts = inl (refl, (refl, refl)) };
-      gets = λ x s path there le number sound. record { heads = (refl, tt); acts = inl (refl, (refl, refl)) };
-      writes = λ x s bytes there le number sound. record { heads = (refl, tt); acts = inl (refl, (refl, refl)) };
-      shuts = λ x s there number sound. record { heads = (refl, tt); acts = inl (refl, (refl, refl)) };
-      aborts = λ x s there number sound. record { heads = (refl, tt); acts = inl (refl, (refl, refl)) };
-      holds = λ x s there number sound. record { heads = (refl, tt); acts = inl (refl, (refl, refl)) };
-      takes = λ x s there number sound. record { heads = (refl, tt); acts = inl (refl, (refl, refl)) };
-      fires = λ x s there number sound. record { heads = (refl, tt); acts = inl (refl, (refl, refl)) };
-      hears = λ x s from bytes there was number sound. record { heads = (tt, tt); acts = inl (refl, (refl, refl)) };
-    };
+      does = λ x s g there comes number sound. record {
+        heads = of-client x.c (Each IsStill) (λ from bytes. (tt, tt)) (λ e. (refl, tt)) g;
+        acts = inl (refl, (refl, refl));
+      };
+    });
     front = fronts-leave k IsPlain (λ x v at own number sound. machine-plain x v at);
     node = nodes-leave k IsPlain (λ x v at own number sound. machine-plain x v at);
     ignores = λ x from to bytes was number sound. record { heads = (tt, tt); acts = inr refl };

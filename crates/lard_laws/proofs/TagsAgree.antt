@@ -3,8 +3,7 @@
 use Rattle.std.proofs.Common.{◌≡◌, ◌≢◌, ◌⊎◌, ◌<◌, ◌+◌, ◌==◌, ℕ, Bool, true, false, cond, List, [], ◌∷◌, length, is_some, Option, Some, None, refl, sym, ap, ◌∙◌, subst, arith, eqb-true, eq-eqb, inl, inr, ⊎_elim}
 use Rattle.std.proofs.lemmas.Bool.{and_from, and_parts}
 use Rattle.std.specs.List.{AllByRecursion, find}
-use Rattle.lard_answers.specs.Answers.{FilesAt}
-use Rattle.lard_base.specs.declared.place.Place.TheVariants.{Front, Node}
+use Rattle.lard_law_view.specs.Prelude.{Conn, ControlBlock, FilesAt, Front, FrontRest, Kept, Node, NodePart, SpellsMessage, Stay, Was, front_rest, is_from, is_node, is_row_at, is_under, is_with, named_paths, names_epoch}
 use Rattle.lard_base.specs.declared.place.TimerKind.TheVariants as kind
 use Rattle.lard_law_connections.specs.Kept.{AsksFor, FrontRowKeeps, FrontStageKeeps, HasRest, IsFetchFromOther, IsKeptByStage, NodeRowKeeps, StayKeeps, HereKeeps}
 use Rattle.lard_law_connections.specs.KeptLaws.{AnyNode}
@@ -14,21 +13,11 @@ use Rattle.lard_law_connections.proofs.PlacesFrontRules.{has-each}
 use Rattle.lard_law_connections.proofs.PlacesWithNode.{IsWithNode, with-node}
 use Rattle.lard_laws.specs.Tags.{NamesNodes}
 use Rattle.lard_laws.proofs.TagsNodes.{Facts, asks-are}
-use Rattle.lard_law_view.specs.View.{Conn, SpellsMessage, Was}
 use Rattle.lard_laws.specs.WaysState.{FrontSaysWays, LetterWays, TagIs, marks_at}
-use Rattle.lard_endpoint.specs.Control.{ControlBlock}
-use Rattle.lard_rules.specs.declared.front.FrontRest.{FrontRest}
-use Rattle.lard_rules.specs.Front.{is_row_at, is_with, front_rest}
 use Rattle.lard_handoff_back.specs.declared.row.BackConn.TheVariants as back
 use Rattle.lard_handoff_front.specs.declared.row.FrontConn.TheVariants as stage
 use Rattle.lard_history.proofs.Each.{Each}
-use Rattle.lard_lateral.specs.Lateral.{is_from, is_node, names_epoch}
 use Rattle.lard_message.specs.declared.message.Body.TheVariants as body
-use Rattle.lard_rules.specs.declared.stay.Stay.{Stay}
-use Rattle.lard_rules.specs.Node.{NodePart}
-use Rattle.lard_rules.specs.Stay.{named_paths}
-use Rattle.lard_resend.specs.declared.kept.Kept.{Kept}
-use Rattle.lard_resend.specs.Kept.{is_under}
 
 -- ---- with whom the front end has it
 

@@ -2,40 +2,19 @@
 use Rattle.std.proofs.Common.{◌≡◌, ℕ, ◌+◌, ◌==◌, true, false, List, [], ◌∷◌, ◌++◌, map, Option, Some, None, IfSome, Ok, sym, ap, ◌∙◌, subst, eqb-true, ⊎_elim}
 use Rattle.std.proofs.lemmas.Bool.{and_parts}
 use Rattle.std.specs.FinMap as table
-use Rattle.lard_base.specs.declared.config.Config.{Config}
-use Rattle.lard_base.specs.declared.event.Event.{Event}
+use Rattle.lard_law_view.specs.Prelude.{AreServedByNodes, Ask, Books, Came, Config, Conn, Did, DispatchStanding, Dispatcher, Event, Front, FrontConn, FrontPart, FrontRest, FrontRow, IsDispatcherSound, IsFrontSound, IsNode, IsRowSound, IsStageSound, Kept, Letter, Machine, Millis, Node, Packet, Seen, SpellsMessage, all_choices, ask_of, batch_over, conn, decoded_message, dispatch_standing, front_part, front_setting, is_row_at, is_with, later_choice_at, letter_of, machine_step, machine_told, net_of, packet_at, part_of, seen_on, set_of, shared_with, touched}
 use Rattle.lard_base.specs.declared.event.Event.TheVariants as event
-use Rattle.lard_base.specs.declared.ids.Millis.{Millis}
-use Rattle.lard_base.specs.declared.place.Place.TheVariants.{Front, Node}
-use Rattle.lard_rules.specs.declared.machine.Machine.{Machine}
-use Rattle.lard_rules.specs.Machine.{front_setting, machine_step, machine_told}
 use Rattle.lard_laws.proofs.AsksComing.{Delivers, IsRow, step-comes}
 use Rattle.lard_laws.proofs.AsksFilling.{asked-is, did, seen-is}
-use Rattle.lard_law_view.specs.View.{Conn, SpellsMessage, conn, part_of}
 use Rattle.lard_law_view.proofs.After.{IsAfter}
-use Rattle.lard_dispatch.specs.declared.dispatch.Ask.{Ask}
-use Rattle.lard_dispatch.specs.Books.{Books, Dispatcher}
-use Rattle.lard_dispatch.specs.Calls.{all_choices, batch_over, later_choice_at, shared_with}
-use Rattle.lard_dispatch.specs.Sound.{AreServedByNodes, IsNode, IsDispatcherSound}
 use Rattle.lard_dispatch.proofs.Counted.{later-has}
 use Rattle.lard_dispatch.proofs.Servers.{served-joined, served-touched}
 use Rattle.lard_dispatch.proofs.Sharing.{add-home}
-use Rattle.lard_rules.specs.declared.front.FrontRest.{FrontRest}
-use Rattle.lard_rules.specs.Front.{Did, FrontPart, ask_of, is_row_at, is_with}
-use Rattle.lard_rules.specs.FrontPlace.{front_part}
-use Rattle.lard_rules.specs.FrontSound.{IsFrontSound, IsRowSound, IsStageSound, DispatchStanding, dispatch_standing}
 use Rattle.lard_rules.proofs.FrontParts.{part_put}
-use Rattle.lard_handoff_front.specs.declared.row.FrontConn.{FrontConn}
 use Rattle.lard_handoff_front.specs.declared.row.FrontConn.TheVariants as stage
-use Rattle.lard_handoff_front.specs.declared.row.FrontRow.{FrontRow}
-use Rattle.lard_history.specs.Own.{Came, Letter, Seen, letter_of, net_of, seen_on}
 use Rattle.lard_history.proofs.Each.{Each}
 use Rattle.lard_loads.specs.Tally as tally
 use Rattle.lard_message.specs.declared.message.Body.TheVariants as body
-use Rattle.lard_message.specs.Reading.{decoded_message}
-use Rattle.lard_net.specs.Net.{Packet, packet_at}
-use Rattle.lard_resend.specs.declared.kept.Kept.{Kept}
-use Rattle.lard_sets.specs.Sets.{set_of, touched}
 
 -- ---- choices
 

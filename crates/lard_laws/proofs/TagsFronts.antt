@@ -1,36 +1,19 @@
 -- What the front end does leaves the last Tag with nodes that are there, and with as many as requests wait for one.
 use Rattle.std.proofs.Common.{◌≡◌, ◌≤◌, ◌+◌, ◌==◌, ◌&&◌, ℕ, true, false, List, [], length, map, Option, Some, None, Result, Ok, Err, refl, sym, ap, ◌∙◌, subst, arith, eqb-true, inr, ⊎_elim}
 use Rattle.std.proofs.lemmas.Bool.{and_parts}
-use Rattle.lard_answers.specs.Answers.{FilesAt}
-use Rattle.lard_base.specs.declared.place.Place.TheVariants.{Front, Node}
+use Rattle.lard_law_view.specs.Prelude.{Ask, Conn, ControlBlock, Did, Ending, FilesAt, Final, FirstChoice, Front, FrontConn, FrontDeed, FrontEnv, FrontPart, FrontRest, FrontRow, FrontTurn, Move, Node, Row, Said, Seen, SegFault, Service, SpellsMessage, Was, ask_of, assigns, front_admits, front_admitted, front_asked, front_does, front_ended, front_ends, front_fired, front_gets, front_rest, front_rests, front_taken, front_timer, grown, is_row_at, is_with, next_epoch, offering, packet_seen, placed, rows_of, serving, serving_settled, spoken, tale_at}
 use Rattle.lard_laws.proofs.AsksMoving.{Fills}
 use Rattle.lard_law_connections.specs.Places.{ArePast, IsPast, Sits, owning}
 use Rattle.lard_law_connections.proofs.PlacesFrontRules.{has-each}
 use Rattle.lard_laws.specs.Tags.{FitsAt, NamesNodes, TagsAre}
 use Rattle.lard_laws.proofs.TagsChoices.{Names}
 use Rattle.lard_laws.proofs.TagsNodes.{Facts}
-use Rattle.lard_law_view.specs.Carry.{tale_at}
-use Rattle.lard_law_view.specs.View.{Conn, Move, SpellsMessage, Was, front_admits, front_does, grown, packet_seen, rows_of}
 use Rattle.lard_laws.specs.WaysState.{AskIs, LetterWays, NodeSaysWays, StayAsks, marks_at}
-use Rattle.lard_dispatch.specs.declared.dispatch.Ask.{Ask}
-use Rattle.lard_endpoint.specs.declared.control.moving.Final.{Final}
-use Rattle.lard_endpoint.specs.Control.{ControlBlock}
-use Rattle.lard_rules.specs.declared.front.FrontRest.{FrontRest}
-use Rattle.lard_rules.specs.declared.front.FrontTurn.{FrontTurn}
-use Rattle.lard_rules.specs.Front.{FrontDeed, Did, Drops, Says, Does, FrontEnv, FrontPart, ask_of, assigns, front_ends, front_fired, front_admitted, front_asked, front_ended, front_gets, front_taken, front_timer, is_row_at, is_with, offering, placed, front_rest, front_rests}
-use Rattle.lard_handoff_front.specs.declared.row.FrontConn.{FrontConn}
+use Rattle.lard_rules.specs.Front.{Drops, Says, Does}
 use Rattle.lard_handoff_front.specs.declared.row.FrontConn.TheVariants as stage
-use Rattle.lard_handoff_front.specs.declared.row.FrontRow.{FrontRow}
-use Rattle.lard_handoff_front.specs.Front.{next_epoch}
-use Rattle.lard_history.specs.Own.{Row, Seen}
 use Rattle.lard_history.proofs.Each.{Each}
 use Rattle.lard_message.specs.declared.message.Body.TheVariants as body
-use Rattle.lard_policy.specs.declared.first.FirstChoice.{FirstChoice}
-use Rattle.lard_rules.specs.declared.places.Ending.{Ending}
 use Rattle.lard_rules.specs.declared.places.Ending.TheVariants as ending
-use Rattle.lard_rules.specs.Serving.{Service, serving, serving_settled, spoken}
-use Rattle.lard_segment.specs.declared.fault.SegFault.{SegFault}
-use Rattle.lard_segment.specs.Segment.{Said}
 use Rattle.lard_rules.proofs.FrontCases.{KeptBySegment, IsInStage, of-stage, begun_row, begun_service, heard_service, waiting_service, segment-keeps, timer-keeps, taken-keeps, asked-keeps, ended-keeps, admitted-keeps}
 
 -- the nodes of the Tag of what is kept, if anything is

@@ -1,20 +1,14 @@
 -- In every run: Fetches go to nodes that are there, and so do connections.
 use Rattle.std.proofs.Common.{◌≡◌, ℕ, false, true, List, Ok, subst}
-use Rattle.lard_base.specs.Config.{config_check}
-use Rattle.lard_base.specs.declared.config.Config.{Config}
+use Rattle.lard_law_view.specs.Prelude.{Config, Conn, IsNode, IsUntouchedLaw, MayRestOn, OfEach, Setting, Untouched, config_check, conn, file_at, grown, is_row_at, part_of, setting, tale_at}
 use Rattle.lard_law_connections.specs.Kept.{IsKeptByStage}
 use Rattle.lard_law_connections.proofs.KeptRuns.{kept-law}
 use Rattle.lard_law_connections.proofs.PolicyCounted.{IsCounted, reached-counted}
 use Rattle.lard_laws.proofs.TagsAgree.{Agreed, tags-name}
 use Rattle.lard_laws.proofs.TagsChoices.{with-there}
 use Rattle.lard_laws.proofs.TagsRuns.{connections-name-nodes, known-of}
-use Rattle.lard_law_view.specs.Carry.{IsUntouchedLaw, MayRestOn, OfEach, Untouched, setting, tale_at}
-use Rattle.lard_law_view.specs.View.{Conn, Setting, conn, grown, part_of}
 use Rattle.lard_law_view.proofs.Carried.{carried}
 use Rattle.lard_law_view.proofs.Guarded.{untouched-law, untouched-weaker}
-use Rattle.lard_dispatch.specs.Sound.{IsNode}
-use Rattle.lard_files.specs.Files.{file_at}
-use Rattle.lard_rules.specs.Front.{is_row_at}
 
 module _ (config : Config) (files : List (List ℕ × List ℕ)) (checked : config_check config ≡ Ok tt) where
   abbrev N : ℕ → Type 0

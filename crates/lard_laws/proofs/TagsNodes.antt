@@ -1,31 +1,19 @@
 -- What a node does leaves the last Tag with as many nodes as requests wait for one.
 use Rattle.std.proofs.Common.{◌≡◌, ◌⊎◌, ◌+◌, ◌==◌, ℕ, true, false, List, [], length, Option, Some, None, refl, sym, ap, ◌∙◌, subst, arith, eqb-true, inl, inr, ⊎_elim}
 use Rattle.std.proofs.lemmas.Bool.{and_parts}
-use Rattle.lard_answers.specs.Answers.{FilesAt}
+use Rattle.lard_law_view.specs.Prelude.{Adopt, BackRow, Conn, ControlBlock, EndpointParts, FilesAt, FrontConn, FrontRest, FrontRow, NodeDeed, NodeEnv, NodePart, Seen, Stay, front_rest, goes_on, grown, here, is_row_at, is_with, named_paths, node_begins, node_does, node_rests, offer_answer, offered_by, reads_batch, state_of, taken_sent, tale_at}
 use Rattle.lard_law_connections.proofs.KeptHere.{IsHere, here-is}
-use Rattle.lard_law_connections.proofs.KeptNodes.{DeedFollows, DeedGoes, IsIdle, IsOfEpoch, MayFollow, StayFollows}
+use Rattle.lard_law_connections.proofs.KeptNodes.{DeedFollows, DeedGoes, IsOfEpoch, MayFollow, StayFollows}
 use Rattle.lard_law_connections.specs.Places.{IsPast, Sits, StageSits, owning}
 use Rattle.lard_law_connections.proofs.PlacesNodeRules.{not-decided}
 use Rattle.lard_law_connections.proofs.PlacesTurns.{IsPlaced}
 use Rattle.lard_laws.specs.Tags.{FitsAt, NamesNodes}
-use Rattle.lard_law_view.specs.Carry.{tale_at}
-use Rattle.lard_law_view.specs.View.{Conn, grown, node_does}
 use Rattle.lard_law_view.proofs.Parts.{put-each}
 use Rattle.lard_laws.specs.WaysState.{GoesItsWay, IsAway, SeatWays, StageWays, StayWays, marks_at}
-use Rattle.lard_endpoint.specs.Control.{ControlBlock}
-use Rattle.lard_rules.specs.declared.front.FrontRest.{FrontRest}
-use Rattle.lard_rules.specs.Front.{is_row_at, is_with, front_rest}
 use Rattle.lard_handoff_back.specs.declared.row.BackConn.TheVariants as back
-use Rattle.lard_handoff_back.specs.declared.row.BackRow.{BackRow}
-use Rattle.lard_handoff_back.specs.declared.table.Adopt.TheVariants.{New}
-use Rattle.lard_handoff_back.specs.Back.{offer_answer}
-use Rattle.lard_handoff_front.specs.declared.row.FrontConn.{FrontConn}
+use Rattle.lard_handoff_back.specs.declared.table.Adopt.TheVariants.{New, Again, Stale}
 use Rattle.lard_handoff_front.specs.declared.row.FrontConn.TheVariants as stage
-use Rattle.lard_handoff_front.specs.declared.row.FrontRow.{FrontRow}
-use Rattle.lard_history.specs.Own.{Seen}
-use Rattle.lard_rules.specs.declared.stay.Stay.{Stay}
-use Rattle.lard_rules.specs.Node.{NodeDeed, Drops, Says, Does, NodePart, here}
-use Rattle.lard_rules.specs.Stay.{named_paths}
+use Rattle.lard_rules.specs.Node.{Drops, Says, Does}
 
 -- what is known of a connection beside its Tags
 pub record Facts (files : FilesAt) (x : Conn) : Type 0 where
@@ -137,10 +125,11 @@ module _ (N : ℕ → Type 0) (files : FilesAt) (x : Conn) (facts : Facts files 
       (λ (more : s.asks ≡ 0 + 1). absurd (omega (arith, more, none, answered)))
       goes
 
-  pub begins-fit : (e : ℕ) (d : NodeDeed) → (IsIdle d ⊎ (offer_answer e ours.row ≡ New)) → DeedFollows files e 0 [] d → DeedFits d
-  begins-fit e Drops k f = tt
-  begins-fit e (Says ms) k f = tt
-  begins-fit e (Does given) k f = ⊎_elim (λ (no : ⊥). absurd no) (λ (new : offer_answer e ours.row ≡ New). begins e given.0 new f.0 f.1) k
+  pub offered-fit : (env : NodeEnv) (parts : EndpointParts) (a : Adopt) → offer_answer env.epoch ours.row ≡ a
+      → DeedFollows files env.epoch 0 [] (offered_by env parts ours a) → DeedFits (offered_by env parts ours a)
+  offered-fit env parts New new f = begins env.epoch (node_rests env ours (taken_sent env) (goes_on env (state_of (reads_batch env true (node_begins env parts))))).0 new f.0 f.1
+  offered-fit env parts Again new f = tt
+  offered-fit env parts Stale new f = tt
 
   -- ---- its move
 

@@ -1,24 +1,17 @@
 -- Each rule leaves the last Tag as it must be, by what the dispatcher answers, so it is in every run.
-use Rattle.std.proofs.Common.{◌≡◌, ◌⊎◌, ℕ, false, true, List, [], ◌∷◌, Option, Some, None, Ok, refl, sym, ap, subst, inl, inr, ⊎_elim}
+use Rattle.std.proofs.Common.{◌≡◌, ℕ, false, true, List, [], ◌∷◌, Option, Some, None, Ok, refl, sym, ap, ◌∙◌, subst, inl, inr, ⊎_elim}
 use Rattle.std.proofs.lemmas.Bool.{cond_both}
-use Rattle.lard_answers.specs.Answers.{FilesAt}
+use Rattle.lard_law_view.specs.Prelude.{Acknowledged, BackRow, Client, ClientRules, Completed, Config, Conn, Content, Event, FilesAt, Fires, Forwarded, Front, FrontRules, HasRule, IsConnNumber, IsNode, IsNodeEnv, IsReached, Machine, Move, Node, NodeEnv, NodeGets, NodePart, NodeRules, Offered, Rules, Seen, Setting, Tagged, ToCluster, Untouched, ask_of, awaits_ack, config_check, conn, decoded, epoch_in, event_seen, file_at, front_asked, front_ended, front_gets, front_taken, front_timer, grown, here, is_gone, machine_start, machine_step, node_rule, node_saying, offer_answer, packet_seen, setting, tale_at, without}
+use Rattle.lard_law_view.proofs.EachClient.{each-client}
 use Rattle.lard_base.proofs.Usable.{usable}
-use Rattle.lard_base.specs.Config.{config_check}
-use Rattle.lard_base.specs.declared.config.Config.{Config}
-use Rattle.lard_base.specs.declared.event.Event.{Event}
 use Rattle.lard_base.specs.declared.event.Event.TheVariants as event
-use Rattle.lard_base.specs.declared.parts.EndpointParts.{EndpointParts}
-use Rattle.lard_base.specs.declared.place.Place.TheVariants.{Client, Front, Node}
-use Rattle.lard_rules.specs.Bounds.{HasRule, IsConnNumber}
-use Rattle.lard_rules.specs.declared.machine.Machine.{Machine}
-use Rattle.lard_rules.specs.Machine.{IsReached, machine_step, machine_start}
 use Rattle.lard_laws.proofs.AsksFilling.{step-fills}
 use Rattle.lard_laws.proofs.AsksMoving.{Fills}
 use Rattle.lard_law_connections.specs.Kept.{IsKeptByStage, NodeKeepsMessages}
 use Rattle.lard_law_connections.specs.KeptLaws.{AnyNode}
 use Rattle.lard_law_connections.proofs.KeptHere.{here-timer}
 use Rattle.lard_law_connections.proofs.KeptNodes as kept
-use Rattle.lard_law_connections.proofs.KeptNodes.{DeedFollows, DeedGoes, IsIdle}
+use Rattle.lard_law_connections.proofs.KeptNodes.{DeedFollows, DeedGoes}
 use Rattle.lard_law_connections.proofs.KeptRuns.{connections-are-kept}
 use Rattle.lard_law_connections.proofs.PlacesRuns.{each-placed}
 use Rattle.lard_law_connections.proofs.PolicyCounted.{IsCounted, reached-counted}
@@ -26,33 +19,18 @@ use Rattle.lard_laws.specs.TagsLaws.{ConnectionsNameNodes}
 use Rattle.lard_laws.specs.Tags.{NamesNodes}
 use Rattle.lard_laws.proofs.TagsChoices.{Names, step-names}
 use Rattle.lard_laws.proofs.TagsFronts.{admitted-fits, admitted-move, asked-fits, ended-fits, front-move, gets-fit, taken-fits, timer-fits}
-use Rattle.lard_laws.proofs.TagsNodes.{DeedFits, Facts, begins-fit, goes-fit, node-move}
-use Rattle.lard_law_view.specs.Carry.{Untouched, setting, tale_at}
+use Rattle.lard_laws.proofs.TagsNodes.{DeedFits, Facts, goes-fit, node-move, offered-fit}
 use Rattle.lard_law_view.specs.View as view
-use Rattle.lard_law_view.specs.View.{ClientRules, Conn, FrontRules, IsNodeEnv, Move, NodeRules, Rules, Setting, conn, event_seen, grown, node_does, packet_seen}
 use Rattle.lard_law_view.proofs.After.{IsAfter, step-after}
 use Rattle.lard_law_view.proofs.Carried.{IsOn, carried-keep, goes-on, gone}
 use Rattle.lard_law_view.proofs.Guarded.{untouched-before}
 use Rattle.lard_law_view.proofs.Runs.{start-blank}
 use Rattle.lard_laws.proofs.WaysRuns.{each-guarded}
-use Rattle.lard_dispatch.specs.Sound.{IsNode}
-use Rattle.lard_files.specs.Files.{file_at}
-use Rattle.lard_rules.specs.Front.{ask_of, front_ended, front_gets, front_taken, front_timer, front_asked}
 use Rattle.lard_handoff_back.specs.declared.row.BackConn.TheVariants as back
-use Rattle.lard_handoff_back.specs.declared.row.BackRow.{BackRow}
-use Rattle.lard_handoff_back.specs.declared.table.Adopt.{Adopt}
-use Rattle.lard_handoff_back.specs.declared.table.Adopt.TheVariants.{New, Again, Stale}
-use Rattle.lard_handoff_back.specs.Back.{awaits_ack, offer_answer}
-use Rattle.lard_handoff_back.specs.Row.{is_gone}
-use Rattle.lard_history.specs.Own.{Seen}
 use Rattle.lard_history.proofs.Each.{Each}
+use Rattle.lard_law_view.proofs.EachNode.{NodeComes, each-node}
 use Rattle.lard_rules.specs.Node as node
-use Rattle.lard_rules.specs.Node.{NodePart, here, node_acknowledged, node_content, node_forwarded, node_offered, node_read, node_tagged, node_timer, offered_by, node_saying}
-use Rattle.lard_rules.specs.Stay.{NodeEnv}
-use Rattle.lard_resend.specs.Kept.{without}
 use Rattle.lard_base.specs.declared.place.TimerKind.TheVariants as kind
-use Rattle.lard_segment.specs.declared.segment.Dir.TheVariants.{ToCluster}
-use Rattle.lard_segment.specs.Segment.{decoded}
 
 -- what is known of a connection beside its Tags
 pub record Known (files : FilesAt) (x : Conn) : Type 0 where
@@ -68,17 +46,10 @@ module _ (N : ℕ → Type 0) (k : Setting) where
   Moves x v = Known k.files x → Fills x (grown x v) → Names N x (grown x v) → NamesNodes N k.files x → NamesNodes N k.files (grown x v)
 
   clients : ClientRules k Moves
-  clients = record {
+  clients = each-client k Moves (record {
     opens = λ x isn iss wnd mss rule none known fills names h. record { nodes = h.nodes; fits = h.fits };
-    gets = λ x s path there fits known fills names h. record { nodes = h.nodes; fits = h.fits };
-    writes = λ x s bytes there fits known fills names h. record { nodes = h.nodes; fits = h.fits };
-    shuts = λ x s there known fills names h. record { nodes = h.nodes; fits = h.fits };
-    aborts = λ x s there known fills names h. record { nodes = h.nodes; fits = h.fits };
-    holds = λ x s there known fills names h. record { nodes = h.nodes; fits = h.fits };
-    takes = λ x s there known fills names h. record { nodes = h.nodes; fits = h.fits };
-    fires = λ x s there known fills names h. record { nodes = h.nodes; fits = h.fits };
-    hears = λ x s from bytes there was known fills names h. record { nodes = h.nodes; fits = h.fits };
-  }
+    does = λ x s g there comes known fills names h. record { nodes = h.nodes; fits = h.fits };
+  })
 
   fronts : FrontRules k Moves
   fronts = record {
@@ -95,62 +66,52 @@ module _ (N : ℕ → Type 0) (k : Setting) where
     admitted = λ x env choice given is e known fills names h. admitted-move N k.files x known.facts h given (admitted-fits N k.files x known.facts h env choice given e);
   }
 
-  -- a rule of a node, whose stay goes on
-  goes : (x : Conn) (n epoch : ℕ) (env : NodeEnv) → IsNodeEnv k x.c n epoch env → Known k.files x → (d : node.NodeDeed)
-      → (NodeKeepsMessages AnyNode env.serve.files env.serve.c env.n (x.part.nodes n) → DeedGoes env.serve.files env.epoch (here env.epoch (x.part.nodes n)) d) → DeedGoes k.files env.epoch (here env.epoch (x.part.nodes n)) d
-  goes x n epoch env is known d rule =
-      let all : ◌≡◌ {A = FilesAt × ℕ × ℕ} (env.serve.files, env.serve.c, env.n) (k.files, x.c, n) = λ i. (is.files i, is.number i, is.node i) in
-      subst (λ (t : FilesAt × ℕ × ℕ). NodeKeepsMessages AnyNode t.0 t.1 t.2 (x.part.nodes n) → DeedGoes t.0 env.epoch (here env.epoch (x.part.nodes n)) d) all rule (known.kept.nodes n)
+  -- a rule of a node
+  module _ (x : Conn) (n epoch : ℕ) (env : NodeEnv) (is : IsNodeEnv k x.c n epoch env) (known : Known k.files x) (h : NamesNodes N k.files x) where
+    abbrev p : NodePart
+    p = x.part.nodes n
 
-  by-node : (x : Conn) (n epoch : ℕ) (env : NodeEnv) → IsNodeEnv k x.c n epoch env → (known : Known k.files x) (h : NamesNodes N k.files x) (heads : List Seen) (d : node.NodeDeed)
-      → (NodeKeepsMessages AnyNode env.serve.files env.serve.c env.n (x.part.nodes n) → DeedGoes env.serve.files env.epoch (here env.epoch (x.part.nodes n)) d) → NamesNodes N k.files (grown x (node_does x n heads d))
-  by-node x n epoch env is known h heads d rule = node-move N k.files x known.facts h n heads d (goes-fit N k.files x known.facts h n env.epoch d (goes x n epoch env is known d rule))
+    abbrev Fits : node.NodeDeed → Type 0
+    Fits d = DeedFits N k.files x known.facts h n d
 
-  -- an Offer
-  offered-idle : (env : NodeEnv) (parts : EndpointParts) (p : NodePart) (a : Adopt) → offer_answer env.epoch p.row ≡ a → IsIdle (offered_by env parts p a) ⊎ (offer_answer env.epoch p.row ≡ New)
-  offered-idle env parts p New e = inr e
-  offered-idle env parts p Again e = inl tt
-  offered-idle env parts p Stale e = inl tt
+    abbrev IsKept : FilesAt × ℕ × ℕ → Type 0
+    IsKept t = NodeKeepsMessages AnyNode t.0 t.1 t.2 p
 
-  offered : (x : Conn) (n epoch : ℕ) (env : NodeEnv) → IsNodeEnv k x.c n epoch env → (known : Known k.files x) (h : NamesNodes N k.files x) (heads : List Seen) (parts : EndpointParts) → NamesNodes N k.files (grown x (node_does x n heads (node_offered env (x.part.nodes n) parts)))
-  offered x n epoch env is known h heads parts =
-      let p : NodePart = x.part.nodes n in
-      let d : node.NodeDeed = node_offered env p parts in
-      let all : ◌≡◌ {A = FilesAt × ℕ × ℕ} (env.serve.files, env.serve.c, env.n) (k.files, x.c, n) = λ i. (is.files i, is.number i, is.node i) in
-      let follows : DeedFollows k.files env.epoch 0 [] d =
-      subst (λ (t : FilesAt × ℕ × ℕ). NodeKeepsMessages AnyNode t.0 t.1 t.2 p → DeedFollows t.0 env.epoch 0 [] d) all (λ g. (kept.offered-keeps AnyNode env p g parts).1) (known.kept.nodes n) in
-      node-move N k.files x known.facts h n heads d (begins-fit N k.files x known.facts h n env.epoch d (offered-idle env parts p (offer_answer env.epoch p.row) refl) follows)
+    -- what is so with its files is so with the run's
+    of-run : (P : FilesAt → Type 0) → (IsKept (env.serve.files, env.serve.c, env.n) → P env.serve.files) → P k.files
+    of-run P rule =
+        let all : ◌≡◌ {A = FilesAt × ℕ × ℕ} (env.serve.files, env.serve.c, env.n) (k.files, x.c, n) = λ i. (is.files i, is.number i, is.node i) in
+        subst (λ (t : FilesAt × ℕ × ℕ). IsKept t → P t.0) all rule (known.kept.nodes n)
 
-  -- its end is acknowledged: nothing is here
-  acknowledged : (x : Conn) (n : ℕ) (env : NodeEnv) (known : Known k.files x) (h : NamesNodes N k.files x) (heads : List Seen) → NamesNodes N k.files (grown x (node_does x n heads (node_acknowledged env (x.part.nodes n))))
-  acknowledged x n env known h heads =
-      let p : NodePart = x.part.nodes n in
-      let q : NodePart = record p { row = node.gone p.row; kept = without kind.Ended 0 p.kept } in
-      node-move N k.files x known.facts h n heads (node_acknowledged env p)
-      (cond_both (awaits_ack env.epoch p.row) (node.Does (q, node_saying [])) node.Drops (DeedFits N k.files x known.facts h n) (λ t e b s r at row stay rest answered. absurd (none p.row e b row)) (λ t. tt)) where
-        none : (o : Option BackRow) (e : ℕ) (b : _) → node.gone o ≡ Some (record { stage = back.Here b; epoch = record { 0 = e } }) → ⊥
-        none None e b is = cc
-        none (Some row) e b is = let no : true ≡ false = ap (λ (o : Option BackRow). elim o [ None ↦ true | Some row ↦ is_gone row.stage ]) is in cc
+    -- the stay goes on
+    goes : (d : node.NodeDeed) → (IsKept (env.serve.files, env.serve.c, env.n) → DeedGoes env.serve.files env.epoch (here env.epoch p) d) → Fits d
+    goes d rule = goes-fit N k.files x known.facts h n env.epoch d (of-run (λ (f : FilesAt). DeedGoes f env.epoch (here env.epoch p) d) rule)
+
+    -- where its end is acknowledged nothing is here
+    none-here : (o : Option BackRow) (e : ℕ) (b : _) → node.gone o ≡ Some (record { stage = back.Here b; epoch = record { 0 = e } }) → ⊥
+    none-here None e b is = cc
+    none-here (Some row) e b is = let no : true ≡ false = ap (λ (o : Option BackRow). elim o [ None ↦ true | Some row ↦ is_gone row.stage ]) is in cc
+
+    rule-fits : (heads : List Seen) (g : NodeGets) → NodeComes x n epoch heads g → Fits (node_rule env p g)
+    rule-fits heads (Offered parts) comes = offered-fit N k.files x known.facts h n env parts (offer_answer env.epoch p.row) refl
+        (of-run (λ (f : FilesAt). DeedFollows f env.epoch 0 [] (node_rule env p (Offered parts))) (λ g. (kept.offered-keeps AnyNode env p g parts).1))
+    rule-fits heads (Forwarded given) comes = goes (node_rule env p (Forwarded given)) (λ g. (kept.forwarded-keeps AnyNode env p g given).1)
+    rule-fits heads (Tagged number tags) comes = goes (node_rule env p (Tagged number tags)) (λ g. (kept.tagged-keeps AnyNode env p g number tags (λ y at same. any tags)).1)
+    rule-fits heads (Content from r) comes = goes (node_rule env p (Content from r)) (λ g. (kept.content-keeps AnyNode env p g from r).1)
+    rule-fits heads Acknowledged comes =
+        let q : NodePart = record p { row = node.gone p.row; kept = without kind.Ended 0 p.kept } in
+        cond_both (awaits_ack env.epoch p.row) (node.Does (q, node_saying [])) node.Drops Fits (λ t e b s r at row stay rest answered. absurd (none-here p.row e b row)) (λ t. tt)
+    rule-fits heads (Completed r path) comes = goes (node_rule env p (Completed r path)) (λ g. (kept.read-keeps AnyNode env p g r).1)
+    rule-fits heads Fires comes = let now : env.epoch ≡ epoch_in p = is.epoch_is ∙ comes.epoch_is in
+        goes (node_rule env p Fires) (λ g. subst (λ o. DeedGoes env.serve.files env.epoch o (node_rule env p Fires)) (here-timer env.epoch p now) (kept.timer-keeps AnyNode env p g now).1)
 
   nodes : NodeRules k Moves
-  nodes = record {
-    offered = λ x n epoch env parts bytes is spells was known fills names h. offered x n epoch env is known h (packet_seen Front (Node n) bytes) parts;
-    forwarded = λ x n epoch env segment bytes is spells was known fills names h. by-node x n epoch env is known h (packet_seen Front (Node n) bytes) (node_forwarded env (x.part.nodes n) (decoded segment x.c ToCluster))
-        (λ g. (kept.forwarded-keeps AnyNode env (x.part.nodes n) g (decoded segment x.c ToCluster)).1);
-    tagged = λ x n epoch number tags env bytes is spells was known fills names h. by-node x n epoch env is known h (packet_seen Front (Node n) bytes) (node_tagged env (x.part.nodes n) number tags)
-        (λ g. (kept.tagged-keeps AnyNode env (x.part.nodes n) g number tags (λ y at same. any tags)).1);
-    content = λ x n from epoch r env file bytes is spells was known fills names h. by-node x n epoch env is known h (packet_seen (Node from) (Node n) bytes) (node_content env (x.part.nodes n) from r)
-        (λ g. (kept.content-keeps AnyNode env (x.part.nodes n) g from r).1);
-    acknowledged = λ x n epoch env bytes is spells was known fills names h. acknowledged x n env known h (packet_seen Front (Node n) bytes);
-    read = λ x n epoch r env path is known fills names h.
-        let y = by-node x n epoch env is known h [] (node_read env (x.part.nodes n) r) (λ g. (kept.read-keeps AnyNode env (x.part.nodes n) g r).1) in
+  nodes = each-node k Moves (record {
+    does = λ x n epoch env heads g is at comes known fills names h.
+        let y = node-move N k.files x known.facts h n heads (node_rule env (x.part.nodes n) g) (rule-fits x n epoch env is known h heads g comes) in
         record { nodes = y.nodes; fits = y.fits };
-    fires = λ x s n env there is known fills names h. by-node x n _ env is known h (event_seen (event.Timer (Node n) x.c)) (node_timer env (x.part.nodes n))
-        (λ g. subst (λ o. DeedGoes env.serve.files env.epoch o (node_timer env (x.part.nodes n))) (here-timer env.epoch (x.part.nodes n) is.epoch_is) (kept.timer-keeps AnyNode env (x.part.nodes n) g is.epoch_is).1);
-    answers = λ x n from epoch r path file bytes there spells was known fills names h. record { nodes = h.nodes; fits = h.fits };
-    queues = λ x n from epoch r path file bytes there spells was known fills names h. record { nodes = h.nodes; fits = h.fits };
-    brings = λ x n from epoch r path known fills names h. record { nodes = h.nodes; fits = h.fits };
-  }
+    aside = λ x n a may known fills names h. record { nodes = h.nodes; fits = h.fits };
+  })
 
   rules : Rules k Moves
   rules = record {

@@ -1,28 +1,21 @@
 -- What a connection sees go out of a move: the paths of an Ask that was not sent before go on from those that were assigned.
 use Rattle.std.proofs.Common.{◌≡◌, ℕ, List, [], ◌∷◌, ◌++◌, map, sym, subst, ⊎_elim, Ok}
-use Rattle.lard_answers.specs.Answers.{FilesAt}
-use Rattle.lard_base.specs.declared.place.Place.{Place}
-use Rattle.lard_base.specs.declared.place.Place.TheVariants.{Client, Front, Node}
-use Rattle.lard_law_connections.proofs.BytesLaw.{IsHead}
+use Rattle.lard_law_view.specs.Prelude.{Came, Client, Conn, EachRow, FilesAt, Front, Letter, Message, Move, Node, Place, Rec, Row, Seen, Tale, Was, decoded_message, letter, letters_of, seen_in, tale_of, tale_step, timer_rows, told_on}
+use Rattle.lard_law_connections.proofs.BytesLaw.{IsHead, heads-stand}
 use Rattle.lard_law_connections.proofs.OffersSent.{AreSeen, SentSeen, seen-before}
 use Rattle.lard_law_view.specs.Carry.{TellsBy}
-use Rattle.lard_law_view.specs.View.{Conn, Move, Was, letter, letters_of, seen_in, sending, timer_rows}
+use Rattle.lard_law_view.specs.View.{sending}
 use Rattle.lard_law_view.proofs.Fine.{IsItsOwn}
 use Rattle.lard_law_view.proofs.RowLists.{MayBeSeen}
 use Rattle.lard_law_view.proofs.Rows.{move-lawful, tale_before, tale_said}
-use Rattle.lard_law_view.proofs.Saying.{GaveAt, NotedAt}
-use Rattle.lard_law_view.proofs.Timers.{IsTimerAt, timer_rows-are}
 use Rattle.lard_laws.specs.WaysState.{marks_at, marks_of}
 use Rattle.lard_laws.specs.Ways.{BodyGoesOn, WayMarks}
 use Rattle.lard_laws.proofs.WaysMarking.{marked, noted-marks, said-marks}
 use Rattle.lard_laws.proofs.WaysMoving.{AskTo, AsksBy, LetterAsks}
-use Rattle.lard_history.specs.Journal.{Tale, tale_step, told_on}
-use Rattle.lard_history.specs.Own.{Came, EachRow, Letter, Row, Seen, tale_of}
 use Rattle.lard_history.proofs.Each.{Each}
-use Rattle.lard_journal.specs.declared.rec.Rec.{Rec}
 use Rattle.lard_journal.specs.declared.rec.Rec.TheVariants as rec
-use Rattle.lard_message.specs.declared.message.Message.{Message}
-use Rattle.lard_message.specs.Reading.{decoded_message}
+use Rattle.lard_law_view.proofs.OfKinds.{each-tells, gaves-unsent, notes-unsent, timers-unsent}
+use Rattle.lard_law_view.proofs.RecordKinds.{IsUnsent}
 
 -- ---- what may be seen
 
@@ -45,37 +38,14 @@ module _ (files : FilesAt) (x : Conn) where
   TellsRows t rs = TellsBy MayRow x.c t rs
 
   heads-may : (past heads : List Seen) → Each IsHead heads → EachRow (MayBeSeen MayRow x.c) past heads
-  heads-may past [] h = tt
-  heads-may past (Came l ∷ ss) h = heads-may (past ++ Came l ∷ []) ss h.1
-  heads-may past (Row (rec.Event i e) ∷ ss) h = (tt, heads-may (past ++ Row (rec.Event i e) ∷ []) ss h.1)
-  heads-may past (Row (rec.Opened d isn iss wnd mss) ∷ ss) h = (tt, heads-may (past ++ Row (rec.Opened d isn iss wnd mss) ∷ []) ss h.1)
-  heads-may past (Row _ ∷ ss) h = absurd h.0
+  heads-may = heads-stand (MayBeSeen MayRow x.c) (λ past i e. tt) (λ past d isn iss wnd mss. tt)
 
-  note-may : (place : Place) (t : Tale) (r : Rec) → NotedAt place x.c r → MayRow t r
-  note-may (Client d) t (rec.Sent k from to bytes) h = absurd h
-  note-may Front t (rec.Sent k from to bytes) h = absurd h
-  note-may (Node n) t (rec.Sent k from to bytes) h = absurd h
-  note-may place t _ h = tt
+  unsent-may : (t : Tale) (r : Rec) → IsUnsent r → MayRow t r
+  unsent-may t (rec.Sent k from to bytes) h = absurd h
+  unsent-may t _ h = tt
 
-  notes-may : (place : Place) (t : Tale) (rs : List Rec) → Each (NotedAt place x.c) rs → TellsRows t rs
-  notes-may place t [] h = tt
-  notes-may place t (r ∷ rs) h = (note-may place t r h.0, notes-may place (tale_step x.c t r) rs h.1)
-
-  gift-may : (place : Place) (t : Tale) (r : Rec) → GaveAt place x.c r → MayRow t r
-  gift-may (Client d) t (rec.Sent k from to bytes) h = absurd h
-  gift-may Front t (rec.Sent k from to bytes) h = absurd h
-  gift-may (Node n) t (rec.Sent k from to bytes) h = absurd h
-  gift-may place t _ h = tt
-
-  gave-may : (place : Place) (t : Tale) (rs : List Rec) → Each (GaveAt place x.c) rs → TellsRows t rs
-  gave-may place t [] h = tt
-  gave-may place t (r ∷ rs) h = (gift-may place t r h.0, gave-may place (tale_step x.c t r) rs h.1)
-
-  timers-may : (place : Place) (t : Tale) (rs : List Rec) → Each (IsTimerAt place x.c) rs → TellsRows t rs
-  timers-may place t [] h = tt
-  timers-may place t (rec.Armed p e kind ∷ rs) h = (tt, timers-may place (tale_step x.c t (rec.Armed p e kind)) rs h.1)
-  timers-may place t (rec.Cleared p e kind ∷ rs) h = (tt, timers-may place (tale_step x.c t (rec.Cleared p e kind)) rs h.1)
-  timers-may place t (_ ∷ rs) h = absurd h.0
+  unsents-may : (t : Tale) (rs : List Rec) → Each IsUnsent rs → TellsRows t rs
+  unsents-may = each-tells IsUnsent MayRow unsent-may x.c
 
   -- ---- packets
 
@@ -101,11 +71,11 @@ module _ (files : FilesAt) (x : Conn) where
         let ss : List Letter = map (letter v.place) v.said.segments in
         let ms : List Letter = map (letter v.place) v.said.messages in
         let parts = both-ask (marked (marks_at x) v.said.notes) v.place ss ms h in
-        move-lawful MayRow x v (heads-may x.seen v.heads heads) (notes-may v.place (tale_before x v) v.said.notes own.notes)
+        move-lawful MayRow x v (heads-may x.seen v.heads heads) (unsents-may (tale_before x v) v.said.notes (notes-unsent v.place x.c v.said.notes own.notes))
         (sent-may v.place (told_on x.c (tale_before x v) v.said.notes) v.said.segments (subst (λ (m : WayMarks). AsksBy files m x v.place ss) (sym (noted-marks files x v own heads)) parts.0))
-        (gave-may v.place _ v.said.gave own.gave)
+        (unsents-may _ v.said.gave (gaves-unsent v.place x.c v.said.gave own.gave))
         (sent-may v.place (tale_said x v (tale_before x v)) v.said.messages (subst (λ (m : WayMarks). AsksBy files m x v.place ms) (sym (said-marks files x v own heads)) parts.1))
-        (timers-may v.place _ (timer_rows v.place x.c x.part v.part) (timer_rows-are v.place x.c x.part v.part))
+        (unsents-may _ (timer_rows v.place x.c x.part v.part) (timers-unsent v.place x.c x.part v.part))
 
   -- ---- what was sent before the move was seen
 

@@ -1,48 +1,21 @@
 -- Each content that is served was there before.
-use Rattle.std.proofs.Common.{ap, ◌∙◌, append_assoc, ◌≡◌, ℕ, ◌+◌, ◌==◌, true, List, [], ◌∷◌, ◌++◌, Option, Some, None, Result, Ok, Err, refl, sym, subst, inl}
-use Rattle.std.proofs.lemmas.Bool.{cond_both, eqb-true}
-use Rattle.std.specs.List.{find}
-use Rattle.lard_base.specs.declared.parts.EndpointParts.{EndpointParts}
-use Rattle.lard_base.specs.declared.place.Place.{Place}
-use Rattle.lard_base.specs.declared.place.Place.TheVariants.{Node}
+use Rattle.std.proofs.Common.{ap, ◌∙◌, append_assoc, ◌≡◌, ℕ, ◌+◌, ◌==◌, true, List, [], ◌∷◌, ◌++◌, Option, Some, None, Ok, refl, sym, subst, inl}
+use Rattle.std.proofs.lemmas.Bool.{cond_both}
+use Rattle.lard_law_view.specs.Prelude.{BackRow, Came, Completed, Content, ControlBlock, Ending, EndpointParts, Entry, Has, Node, NodeDeed, NodeEnv, NodeGets, NodePart, NodeTurn, Place, Progress, Rec, Row, Seen, Service, Stay, Turn, Via, Work, after_timer, again_sent, came_for, come_progress, decoded_message, goes_on, gone, kept_after, node_begins, node_rule, on_segment, read_progress, reads_batch, serving, serving_ready_of, serving_settled, spoken, state_of, tagged, taken_sent, timed, turn_by, with_work, without, work_of}
 use Rattle.lard_base.specs.declared.place.TimerKind.TheVariants as timer
-use Rattle.lard_base.specs.declared.place.Via.{Via}
 use Rattle.lard_base.specs.declared.place.Via.TheVariants as via
 use Rattle.lard_law_connections.proofs.AwaitsNodes.{HasServed, settled-served, spoken-served}
 use Rattle.lard_law_connections.proofs.PlacesLoops.{settled-is}
 use Rattle.lard_laws.specs.WaysBefore.{SawBehind, WasRead, WasThere}
 use Rattle.lard_laws.proofs.WaysBacking.{AreBacked, GoesBacked, IsBacked, IsNoted, came-backed, goes-backed, read-backed, tagged-backed}
-use Rattle.lard_endpoint.specs.Arriving.{on_segment}
-use Rattle.lard_endpoint.specs.Control.{ControlBlock}
-use Rattle.lard_endpoint.specs.Leaving.{after_timer, timed}
-use Rattle.lard_handoff_back.specs.declared.row.BackRow.{BackRow}
-use Rattle.lard_handoff_back.specs.declared.table.Adopt.{Adopt}
-use Rattle.lard_handoff_back.specs.declared.table.Adopt.TheVariants.{New, Again, Stale}
-use Rattle.lard_handoff_back.specs.Back.{awaits_ack, back_endpoint, offer_answer, staying}
-use Rattle.lard_handoff_back.specs.Row.{back_held}
-use Rattle.lard_history.specs.Own.{Came, Has, Row, Seen}
 use Rattle.lard_history.proofs.Each.{Each}
 use Rattle.lard_history.proofs.Seeing.{has-before}
-use Rattle.lard_journal.specs.declared.rec.Rec.{Rec}
 use Rattle.lard_journal.specs.declared.rec.Rec.TheVariants as rec
-use Rattle.lard_lateral.specs.Lateral.{is_from}
 use Rattle.lard_message.specs.declared.message.Body.TheVariants as body
-use Rattle.lard_message.specs.Reading.{decoded_message}
-use Rattle.lard_rules.specs.declared.node.NodeTurn.{NodeTurn}
-use Rattle.lard_rules.specs.declared.stay.Entry.{Entry}
-use Rattle.lard_rules.specs.declared.stay.Progress.{Progress}
 use Rattle.lard_rules.specs.declared.stay.Progress.TheVariants as progress
-use Rattle.lard_rules.specs.declared.stay.Stay.{Stay}
-use Rattle.lard_rules.specs.Node.{NodeDeed, Drops, Says, Does, NodePart, again_sent, node_begins, both_of, come_by, node_fired_by, gone, node_heard_by, is_tag_awaited, kept_after, node_acknowledged, node_content, node_forwarded, node_offered, node_read, node_tagged, node_timer, offered_by, node_read_by, node_saying, tagged_by, taken_sent, turn_by, with_work, work_of}
-use Rattle.lard_rules.specs.Stay.{NodeEnv, Work, came_for, come_progress, goes_on, read_progress, reads_batch, tagged}
-use Rattle.lard_resend.specs.Kept.{is_under, without}
-use Rattle.lard_rules.specs.declared.places.Ending.{Ending}
+use Rattle.lard_rules.proofs.NodeCases.{IsHereWith, IsInItsEpoch, KeptByNode, node-keeps}
+use Rattle.lard_rules.specs.Node.{Drops, Says, Does}
 use Rattle.lard_rules.specs.declared.places.Ending.TheVariants as ending
-use Rattle.lard_rules.specs.declared.places.Turn.{Turn}
-use Rattle.lard_rules.specs.Loop.{state_of}
-use Rattle.lard_rules.specs.Serving.{Service, serving_ready_of, serving, serving_settled, spoken}
-use Rattle.lard_segment.specs.declared.fault.SegFault.{SegFault}
-use Rattle.lard_segment.specs.Segment.{Said}
 
 -- ---- more is seen
 
@@ -163,100 +136,85 @@ module _ (env : NodeEnv) (past : List Seen) where
   goes : (w : Work) → Goes w → Goes (goes_on env w)
   goes w h = goes-backed B Quiet (λ ns r h. tt) env (λ r. tt) (λ r. tt) w h
 
+  -- a content came from there in this epoch
+  pub record CameFrom (from r : ℕ) : Type 0 where
+    pub file : List ℕ
+    pub bytes : List ℕ
+    pub came : TookIn n c past env.epoch → SawBehind past n c env.epoch (Came (record { from = Node from; to = Node n; bytes = bytes }))
+    pub reads : decoded_message bytes ≡ Ok (record { c = c; epoch = record { 0 = env.epoch }; body = body.Content r file })
+
+  -- and a job was read
+  abbrev pub MayCome : NodeGets → Type 0
+  MayCome (Content from r) = CameFrom from r
+  MayCome (Completed r path) = TookIn n c past env.epoch → WasRead past n c r
+  MayCome _ = Unit {0}
+
   module _ (p : NodePart) (held : PartThere n c past p) where
-    module _ (P : Option (ControlBlock × Stay) → Type 0) (none : P None) (some : (y : ControlBlock × Stay) → TookIn n c past env.epoch → AreBacked B (y.1.served + 1) y.1.batch → P (Some y)) where
-      of-stay : (b : ControlBlock) (o : Option Stay) → TookIn n c past env.epoch → StayThere n c past o → P (both_of (Some b) o)
-      of-stay b None took h = none
-      of-stay b (Some s) took h = some (b, s) took h
+    took-here : (b : ControlBlock) (s : Stay) → IsHereWith env.epoch p b s → TookIn n c past env.epoch
+    took-here b s at = subst (TookIn n c past) at.epoch_is (subst (RowTook n c past) at.found held.row)
 
-      of-both : (o : Option ControlBlock) → TookIn n c past env.epoch → P (both_of o p.stay)
-      of-both None took = none
-      of-both (Some b) took = of-stay b p.stay took held.stay
-
-      at-epoch : (q : Option BackRow) → RowTook n c past q → P (both_of (staying env.epoch q) p.stay)
-      at-epoch None h = none
-      at-epoch (Some row) h = cond_both (row.epoch.0 == env.epoch) (back_held row.stage) None (λ o. P (both_of o p.stay)) (λ t. of-both (back_held row.stage) (subst (TookIn n c past) (eqb-true row.epoch.0 env.epoch t) h)) (λ t. none)
-
-      at-endpoint : (q : Option BackRow) → RowTook n c past q → env.epoch ≡ (elim q as (λ o. ℕ) [ None ↦ 0 | Some row ↦ row.epoch.0 ]) → P (both_of (back_endpoint q) p.stay)
-      at-endpoint None h is = none
-      at-endpoint (Some row) h is = of-both (back_held row.stage) (subst (TookIn n c past) (sym is) h)
+    batch-here : (b : ControlBlock) (s : Stay) → IsHereWith env.epoch p b s → AreBacked B (s.served + 1) s.batch
+    batch-here b s at = subst (StayThere n c past) at.stays held.stay
 
     abbrev IsThere : NodeDeed → Type 0
     IsThere d = DeedThere n c past d
 
-    pub forwarded-there : (given : Result Said SegFault) → IsThere (node_forwarded env p given)
-    forwarded-there (Err fault) = tt
-    forwarded-there (Ok s) = at-epoch (λ y. IsThere (node_heard_by env p (Ok s) y)) tt (λ y took h. works-there p [] (goes_on env (work_of (on_segment y.0 s).1 y.1)) (goes (work_of (on_segment y.0 s).1 y.1) (fresh (on_segment y.0 s).1 y.1 h)) took) p.row held.row
+    -- a turn of a stay that is here
+    turns : (b : ControlBlock) (s : Stay) → IsHereWith env.epoch p b s → (q : NodePart) (w : Work) → Goes w → IsThere (with_work env q [] (goes_on env w))
+    turns b s at q w h = works-there q [] (goes_on env w) (goes w h) (took-here b s at)
 
-    pub tagged-there : (number : ℕ) (nodes : List ℕ) → IsThere (node_tagged env p number nodes)
-    tagged-there number nodes = at-epoch (λ y. IsThere (tagged_by env number nodes p y)) tt
-        (λ y took h.
-        let q : NodePart = record p { kept = without timer.Ask 0 p.kept } in
-        let w : Work = tagged env nodes (work_of y.0 y.1) in
-        cond_both (is_tag_awaited env number nodes p y.1) (with_work env q [] (goes_on env w)) Drops IsThere
-        (λ t. works-there q [] (goes_on env w) (goes w (tagged-backed B Quiet (λ ns r h. tt) env (λ r. tt) (λ r. tt) nodes (work_of y.0 y.1) (fresh y.0 y.1 h))) took) (λ t. tt))
-        p.row held.row
+    come-backed : (from r : ℕ) → CameFrom from r → TookIn n c past env.epoch → (x : Progress) → IsBacked B r x → IsBacked B r (come_progress from x)
+    come-backed from r m took progress.Named k = tt
+    come-backed from r m took progress.Reading k = tt
+    come-backed from r m took (progress.Ready way) k = k
+    come-backed from r m took (progress.Awaited node) k = cond_both (node == from) (progress.Ready (via.Node from)) (progress.Awaited node) (IsBacked B r)
+        (λ t. record { epoch = env.epoch; file = m.file; bytes = m.bytes; came = m.came took; reads = m.reads }) (λ t. tt)
 
-    -- a content came from there in this epoch
-    pub content-there : (from r : ℕ) (file bytes : List ℕ) → (TookIn n c past env.epoch → SawBehind past n c env.epoch (Came (record { from = Node from; to = Node n; bytes = bytes }))) → decoded_message bytes ≡ Ok (record { c = c; epoch = record { 0 = env.epoch }; body = body.Content r file }) → IsThere (node_content env p from r)
-    content-there from r file bytes came reads = at-epoch (λ y. IsThere (come_by env from r p y)) tt
-        (λ y took h.
-        let q : NodePart = record p { fetches = without timer.Fetch r p.fetches } in
-        let w : Work = came_for (come_progress from) r (work_of y.0 y.1) in
-        cond_both (is_from from env.epoch (find (is_under timer.Fetch r) p.fetches)) (with_work env q [] (goes_on env w)) Drops IsThere
-        (λ t. works-there q [] (goes_on env w) (goes w (came-backed B Quiet (λ ns r h. tt) (come_progress from) r (work_of y.0 y.1) (comes took) (fresh y.0 y.1 h))) took) (λ t. tt))
-        p.row held.row where
-          comes : TookIn n c past env.epoch → (x : Progress) → IsBacked B r x → IsBacked B r (come_progress from x)
-          comes took progress.Named k = tt
-          comes took progress.Reading k = tt
-          comes took (progress.Ready way) k = k
-          comes took (progress.Awaited node) k = cond_both (node == from) (progress.Ready (via.Node from)) (progress.Awaited node) (IsBacked B r)
-              (λ t. record { epoch = env.epoch; file = file; bytes = bytes; came = came took; reads = reads }) (λ t. tt)
+    job-backed : (r : ℕ) → WasRead past n c r → (x : Progress) → IsBacked B r x → IsBacked B r (read_progress x)
+    job-backed r so progress.Named k = tt
+    job-backed r so progress.Reading k = so
+    job-backed r so (progress.Ready way) k = k
+    job-backed r so (progress.Awaited node) k = tt
 
-    -- a job was read
-    pub read-there : (r : ℕ) → (TookIn n c past env.epoch → WasRead past n c r) → IsThere (node_read env p r)
-    read-there r was = at-epoch (λ y. IsThere (node_read_by env r p y)) tt
-        (λ y took h.
-        let w : Work = came_for read_progress r (work_of y.0 y.1) in
-        works-there p [] (goes_on env w) (goes w (came-backed B Quiet (λ ns r h. tt) read_progress r (work_of y.0 y.1) (comes (was took)) (fresh y.0 y.1 h))) took)
-        p.row held.row where
-          comes : WasRead past n c r → (x : Progress) → IsBacked B r x → IsBacked B r (read_progress x)
-          comes so progress.Named k = tt
-          comes so progress.Reading k = so
-          comes so (progress.Ready way) k = k
-          comes so (progress.Awaited node) k = tt
+    Taking : List Rec → Type 0
+    Taking ns = Has (rec.Took (Node n) c (record { 0 = env.epoch })) ns
 
-    pub offered-there : (parts : EndpointParts) → IsThere (node_offered env p parts)
-    offered-there parts = go (offer_answer env.epoch p.row) where
-      Taking : List Rec → Type 0
-      Taking ns = Has (rec.Took (Node n) c (record { 0 = env.epoch })) ns
+    more : (ns : List Rec) (r : Rec) → Taking ns → Taking (ns ++ r ∷ [])
+    unfolding Taking
+    more ns r h = has-before (rec.Took (Node n) c (record { 0 = env.epoch })) ns (r ∷ []) h
 
-      more : (ns : List Rec) (r : Rec) → Taking ns → Taking (ns ++ r ∷ [])
-      more ns r h = has-before (rec.Took (Node n) c (record { 0 = env.epoch })) ns (r ∷ []) h
-
-      go : (a : Adopt) → IsThere (offered_by env parts p a)
-      go New =
-          let w : Work = state_of (reads_batch env true (node_begins env parts)) in
-          let all : GoesBacked B Taking more (goes_on env w) = goes-backed B Taking more env (λ r. tt) (λ r. tt) w (read-backed B Taking more env (λ r. tt) (λ r. tt) true (node_begins env parts) refl (record { batch = tt; notes = ((tt, tt), inl refl) })) in
-          let s : Service = (goes_on env w).service in
-          let same = (settled-is env.serve s).notes in
-          ends-there p (taken_sent env) (goes_on env w) (serving_settled env.serve s) (settled-served env.serve s) same all.batch all.notes.0 (λ later k. k env.epoch (subst Taking (sym same) all.notes.1))
-      go Again = tt
-      go Stale = tt
+    begins : (parts : EndpointParts) → IsThere (with_work env p (taken_sent env) (goes_on env (state_of (reads_batch env true (node_begins env parts)))))
+    unfolding Taking
+    begins parts =
+        let w : Work = state_of (reads_batch env true (node_begins env parts)) in
+        let all : GoesBacked B Taking more (goes_on env w) = goes-backed B Taking more env (λ r. tt) (λ r. tt) w (read-backed B Taking more env (λ r. tt) (λ r. tt) true (node_begins env parts) refl (record { batch = tt; notes = ((tt, tt), inl refl) })) in
+        let s : Service = (goes_on env w).service in
+        let same = (settled-is env.serve s).notes in
+        ends-there p (taken_sent env) (goes_on env w) (serving_settled env.serve s) (settled-served env.serve s) same all.batch all.notes.0 (λ later k. k env.epoch (subst Taking (sym same) all.notes.1))
 
     gone-took : (later : List Seen) (o : Option BackRow) → RowTook n c past o → RowTook n c (past ++ later) (gone o)
     gone-took later None h = tt
     gone-took later (Some row) h = has-before (Row (rec.Took (Node n) c (record { 0 = row.epoch.0 }))) past later h
 
-    pub acknowledged-there : IsThere (node_acknowledged env p)
-    acknowledged-there =
-        let q : NodePart = record p { row = gone p.row; kept = without timer.Ended 0 p.kept } in
-        cond_both (awaits_ack env.epoch p.row) (Does (q, node_saying [])) Drops IsThere (λ t. record { stay = held.stay; row = λ later k. gone-took later p.row held.row; notes = tt }) (λ t. tt)
+    rules_there : KeptByNode env p MayCome IsThere
+    rules_there = record {
+      drops = tt;
+      hears = λ said b s m at. turns b s at p (work_of (on_segment b said).1 s) (fresh (on_segment b said).1 s (batch-here b s at));
+      tags = λ number nodes b s m at asked same count. turns b s at (record p { kept = without timer.Ask 0 p.kept }) (tagged env nodes (work_of b s))
+          (tagged-backed B Quiet (λ ns r h. tt) env (λ r. tt) (λ r. tt) nodes (work_of b s) (fresh b s (batch-here b s at)));
+      comes = λ from r b s m at wanted. turns b s at (record p { fetches = without timer.Fetch r p.fetches }) (came_for (come_progress from) r (work_of b s))
+          (came-backed B Quiet (λ ns r h. tt) (come_progress from) r (work_of b s) (come-backed from r m (took-here b s at)) (fresh b s (batch-here b s at)));
+      reads = λ r path b s m at. turns b s at p (came_for read_progress r (work_of b s))
+          (came-backed B Quiet (λ ns r h. tt) read_progress r (work_of b s) (job-backed r (m (took-here b s at))) (fresh b s (batch-here b s at)));
+      begins = λ parts m new. begins parts;
+      takes_again = λ parts m again. tt;
+      fires = λ b s m at.
+          let v : Service = serving (after_timer b) s.served [] in
+          let before = serving_ready_of env.serve (after_timer b) (timed b) in
+          ends-there p (again_sent p) (work_of (after_timer b) s) (spoken env.serve v before) (spoken-served env.serve v before) refl (batch-here b s at) tt (took-before [] (took-here b s at));
+      resends = λ m none. tt;
+      ends = λ m told. record { stay = held.stay; row = λ later k. gone-took later p.row held.row; notes = tt };
+    }
 
-    pub fires-there : env.epoch ≡ (elim p.row as (λ o. ℕ) [ None ↦ 0 | Some row ↦ row.epoch.0 ]) → IsThere (node_timer env p)
-    fires-there is = at-endpoint (λ y. IsThere (node_fired_by env p y)) tt
-        (λ y took h.
-        let v : Service = serving (after_timer y.0) y.1.served [] in
-        let before = serving_ready_of env.serve (after_timer y.0) (timed y.0) in
-        ends-there p (again_sent p) (work_of (after_timer y.0) y.1) (spoken env.serve v before) (spoken-served env.serve v before) refl h tt (took-before [] took))
-        p.row held.row is
+    pub rule-there : (g : NodeGets) → IsInItsEpoch env p g → MayCome g → IsThere (node_rule env p g)
+    rule-there g at m = node-keeps env p MayCome IsThere rules_there g at m

@@ -1,20 +1,11 @@
 -- While a stay goes on, each request of its batch that is ready has what its way needs, and so has each that is served.
 use Rattle.std.proofs.Common.{◌≡◌, ◌<◌, ◌+◌, ◌-◌, nat_lt, ℕ, zero, suc, Bool, List, [], ◌∷◌, ◌++◌, length, Option, Some, None, refl, sym, subst, arith}
 use Rattle.std.proofs.lemmas.Bool.{cond_both, ltb-true}
-use Rattle.lard_answers.specs.Answers.{FilesAt, answer, good_path}
-use Rattle.lard_base.specs.declared.place.Via.{Via}
+use Rattle.lard_law_view.specs.Prelude.{Entry, FilesAt, NodeEnv, Progress, Rec, Service, Verdict, Via, Work, answer, answered, came_for, come_on, ended_at_fin, entered, finishing, goes_on, good_path, passed_over, progress_of, queued, read_entry, reads_batch, serves_with, state_of, tagged}
 use Rattle.lard_base.specs.declared.place.Via.TheVariants as via
-use Rattle.lard_endpoint.specs.Control.{finishing}
 use Rattle.lard_history.proofs.Each.{Each, Each-append}
-use Rattle.lard_journal.specs.declared.rec.Rec.{Rec}
 use Rattle.lard_journal.specs.declared.rec.Rec.TheVariants as rec
-use Rattle.lard_rules.specs.declared.stay.Entry.{Entry}
-use Rattle.lard_rules.specs.declared.stay.Progress.{Progress}
 use Rattle.lard_rules.specs.declared.stay.Progress.TheVariants as progress
-use Rattle.lard_rules.specs.Stay.{NodeEnv, Work, came_for, come_on, entered, goes_on, progress_of, read_entry, reads_batch, serves_with, tagged}
-use Rattle.lard_request.specs.declared.verdict.Verdict.{Verdict}
-use Rattle.lard_rules.specs.Loop.{state_of}
-use Rattle.lard_rules.specs.Serving.{Service, passed_over, queued, answered, ended_at_fin}
 use Rattle.lard_rules.proofs.StayKeeping.{KeptByStay, batch-keeps, goes-keep, tagged-keeps, EachFrom}
 
 -- B is so of a request and its way

@@ -1,47 +1,25 @@
 -- Each content that a node sends stands in the step of a hit of its path, or of the job that was read for it.
-use Rattle.std.proofs.Common.{◌≡◌, ℕ, ◌+◌, ◌-◌, Bool, true, false, cond, List, [], ◌∷◌, ◌++◌, length, Option, Some, None, Result, Ok, Err, refl, sym, ap, ◌∙◌, subst, inl, inr, ⊎_elim}
+use Rattle.std.proofs.Common.{◌≡◌, ℕ, ◌+◌, ◌-◌, List, [], ◌∷◌, ◌++◌, length, Option, Some, None, Result, Ok, refl, sym, ap, ◌∙◌, subst, inl, inr, ⊎_elim}
 use Rattle.std.specs.Prelude.{slice_set}
 use Rattle.std.proofs.lemmas.Bool.{cond_both}
 use Rattle.std.specs.List.{AllByRecursion, list_any}
-use Rattle.lard_answers.specs.Answers.{FilesAt}
-use Rattle.lard_base.specs.declared.event.Event.{Event}
+use Rattle.lard_law_view.specs.Prelude.{Client, Event, FilesAt, Front, Has, IsViewed, Machine, Message, MsgFault, Node, NodeSetting, NodeState, NodeTurn, Out, Packet, Place, Rec, Row, Seen, aside, decoded_message, fetched, fetched_file, file_at, has_path, is_for, machine_step, machine_told, net_step, node_acts, node_at, node_gave, node_gets, node_setting, node_step, nothing_done, packet_at, passed, plain, seen_of, seen_on, segments_sent, sent_records, to_place, whose}
 use Rattle.lard_base.specs.declared.event.Event.TheVariants as event
-use Rattle.lard_base.specs.declared.place.Place.{Place}
-use Rattle.lard_base.specs.declared.place.Place.TheVariants.{Client, Front, Node}
-use Rattle.lard_cache.specs.Recency.{has_path}
-use Rattle.lard_rules.specs.declared.fault.StepFault.{StepFault}
-use Rattle.lard_rules.specs.declared.fault.Refusal.TheVariants.{WasLost}
-use Rattle.lard_rules.specs.declared.fault.StepFault.TheVariants.{Refused}
-use Rattle.lard_rules.specs.declared.machine.Machine.{Machine}
-use Rattle.lard_rules.specs.Machine.{delivered, happens, limit_reached, machine_step, node_acts, node_at, node_gave, node_setting, passed, segments_sent, to_place, machine_told, unless_limit}
-use Rattle.lard_law_connections.proofs.StoresCalm.{first_rows, last_rows, told-journal}
-use Rattle.lard_law_view.specs.View.{IsViewed}
+use Rattle.lard_law_connections.proofs.Calm.{first_rows, last_rows, told-journal}
+use Rattle.lard_law_connections.proofs.Happened.{deliver-is}
 use Rattle.lard_law_view.proofs.Saying.{GaveAt, NamesAll, NotedAt, note-of}
 use Rattle.lard_law_view.proofs.Timers.{IsTimerAt}
 use Rattle.lard_laws.specs.WaysContents.{MayBring, MustBring, SendsFile}
 use Rattle.lard_laws.proofs.WaysQuiet.{IsNone, SentNone}
-use Rattle.lard_disk.specs.Jobs.{is_for}
-use Rattle.lard_files.specs.Files.{file_at}
-use Rattle.lard_history.specs.Own.{Has, Row, Seen, net_step, plain, seen_of, seen_on, whose}
 use Rattle.lard_history.proofs.Each.{Each, Each-append, Each-weaker}
 use Rattle.lard_history.proofs.Seeing.{seen-mine}
-use Rattle.lard_journal.specs.declared.rec.Rec.{Rec}
 use Rattle.lard_journal.specs.declared.rec.Rec.TheVariants as rec
-use Rattle.lard_rules.specs.declared.fault.What.{What}
-use Rattle.lard_rules.specs.Sent.{sent_records}
-use Rattle.lard_message.specs.declared.fault.MsgFault.{MsgFault}
 use Rattle.lard_message.specs.declared.message.Body.TheVariants as body
-use Rattle.lard_message.specs.declared.message.Message.{Message}
-use Rattle.lard_message.specs.Reading.{decoded_message}
-use Rattle.lard_net.specs.Net.{Packet, packet_at}
 use Rattle.lard_rules.specs.declared.node.BackIn.TheVariants as back
-use Rattle.lard_rules.specs.declared.node.NodeState.{NodeState}
-use Rattle.lard_rules.specs.declared.node.NodeTurn.{NodeTurn}
-use Rattle.lard_rules.specs.NodePlace.{NodeSetting, aside, fetched, fetched_file, node_gets, node_step}
-use Rattle.lard_rules.specs.declared.places.Out.{Out}
-use Rattle.lard_rules.specs.Outs.{nothing_done}
 use Rattle.lard_law_view.proofs.EndpointSends.{AllTo}
 use Rattle.lard_law_view.proofs.OwnRecords.{behind}
+use Rattle.lard_law_view.proofs.OfKinds.{note-unsent, of-gift, of-timer}
+use Rattle.lard_law_view.proofs.RecordKinds.{IsUnsent}
 
 -- ---- records that send no content from a node to a node
 
@@ -64,21 +42,18 @@ plain-may : (files : FilesAt) (past step : List Rec) (r : Rec) → IsPlain r →
 plain-may files past step (rec.Sent k from to bytes) h = plain-sends files past step from to bytes h
 plain-may files past step _ h = tt
 
+unsent-plain : (r : Rec) → IsUnsent r → IsPlain r
+unsent-plain (rec.Sent k from to bytes) h = absurd h
+unsent-plain _ h = tt
+
 pub note-plain : (place : Place) (c : ℕ) (r : Rec) → NotedAt place c r → IsPlain r
-note-plain Front c (rec.Sent k from to bytes) h = absurd h
-note-plain (Node n) c (rec.Sent k from to bytes) h = absurd h
-note-plain (Client d) c (rec.Sent k from to bytes) h = absurd h
-note-plain place c _ h = tt
+note-plain place c r h = unsent-plain r (note-unsent place c r h)
 
 pub gave-plain : (place : Place) (c : ℕ) (r : Rec) → GaveAt place c r → IsPlain r
-gave-plain Front c (rec.Sent k from to bytes) h = absurd h
-gave-plain (Node n) c (rec.Sent k from to bytes) h = absurd h
-gave-plain (Client d) c (rec.Sent k from to bytes) h = absurd h
-gave-plain place c _ h = tt
+gave-plain = of-gift IsPlain (λ p d epoch. tt)
 
 pub timer-plain : (place : Place) (c : ℕ) (r : Rec) → IsTimerAt place c r → IsPlain r
-timer-plain place c (rec.Sent k from to bytes) h = absurd h
-timer-plain place c _ h = tt
+timer-plain = of-timer IsPlain (λ p d kind. (tt, tt))
 
 behind-plain : (e : Event) → Each IsPlain (behind e)
 behind-plain (event.Open c isn iss wnd mss) = (tt, tt)
@@ -224,19 +199,5 @@ module _ (m : Machine) where
     place-good = subst (λ (to : Place). Good (to_place m k p to)) (sym is_to)
         (subst (λ (q : Place). Good (node_acts m e (rec.Got k ∷ []) i (back.Message q p.bytes) (node_at m.nodes i))) (sym is_from) (acts-good (node_at m.nodes i)))
 
-    same-machine : (a n : Machine) → ◌≡◌ {A = Result Machine StepFault} (Ok a) (Ok n) → a ≡ n
-    same-machine a n h = cc
-
-    got-good : (n : Machine) → delivered m k (Some p) ≡ Ok n → Good n
-    unfolding delivered
-    got-good n is = go p.lost is where
-      go : (b : Bool) → cond {A = Result Machine StepFault} b (Err (Refused (WasLost k))) (Ok (to_place m k p p.to)) ≡ Ok n → Good n
-      go true h = absurd (let f : ⊥ = cc in f)
-      go false h = subst Good (same-machine (to_place m k p p.to) n h) place-good
-
     pub fetch-good : (n : Machine) → machine_step m e ≡ Ok n → Good n
-    unfolding machine_step
-    fetch-good n is = go (limit_reached m) is where
-      go : (o : Option What) → unless_limit o (happens m e) ≡ Ok n → Good n
-      go None h = got-good n (ap (delivered m k) (sym at) ∙ h)
-      go (Some what) h = absurd (let f : ⊥ = cc in f)
+    fetch-good n is = subst Good (sym (deliver-is m n k p at is)) place-good

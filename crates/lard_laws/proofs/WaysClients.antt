@@ -1,13 +1,10 @@
 -- What a client does leaves its connection on its way.
 use Rattle.std.proofs.Common.{◌≡◌, ◌≤◌, ◌^◌, ℕ, List, [], ◌∷◌, ◌++◌, map, length, Option, Some, None, inl, inr, ⊎_elim, refl, sym, ap, ◌∙◌, arith, append-nil, append_assoc}
 use Rattle.std.proofs.lemmas.List.{length-append}
-use Rattle.lard_answers.specs.Answers.{FilesAt, verdicts}
-use Rattle.lard_base.specs.declared.place.Place.{Place}
-use Rattle.lard_base.specs.declared.place.Place.TheVariants.{Client}
-use Rattle.lard_client.specs.Control.{ClientBlock}
+use Rattle.lard_law_view.specs.Prelude.{Client, ClientBlock, ClientRules, Conn, FilesAt, FrontConn, FrontRest, FrontRow, Move, NodePart, Part, Place, Rec, Seen, Setting, Station, Stay, Turn, client_does, client_rule, front_rest, letter, verdicts, with_station}
+use Rattle.lard_law_view.proofs.EachClient.{client_seen, each-client}
 use Rattle.lard_law_connections.specs.BytesAgreement.{ConnAgrees, IsTruthful}
 use Rattle.lard_law_connections.specs.Places.{IsDecided, IsPast}
-use Rattle.lard_law_view.specs.View.{ClientRules, Conn, Move, Part, Setting, client_does, letter, with_station}
 use Rattle.lard_law_view.proofs.Saying.{NotedAt}
 use Rattle.lard_laws.specs.WaysState.{IsAway, IsPlacedOnce, LetterWays, SeatWays, StageWays, StayWays, marks_at}
 use Rattle.lard_laws.specs.WaysUnder.{Assigned}
@@ -17,23 +14,9 @@ use Rattle.lard_laws.proofs.WaysLetters.{IsSame, assigned-same, carries-same}
 use Rattle.lard_laws.proofs.WaysMarking.{Rightly, marked}
 use Rattle.lard_laws.proofs.WaysMoving.{Keeps, makes}
 use Rattle.lard_laws.proofs.WaysNodeRules.{Owes}
-use Rattle.lard_rules.specs.declared.front.FrontRest.{FrontRest}
-use Rattle.lard_rules.specs.Front.{front_rest}
-use Rattle.lard_handoff_front.specs.declared.row.FrontConn.{FrontConn}
 use Rattle.lard_handoff_front.specs.declared.row.FrontConn.TheVariants as stage
-use Rattle.lard_handoff_front.specs.declared.row.FrontRow.{FrontRow}
-use Rattle.lard_history.specs.Journal.{request}
-use Rattle.lard_history.specs.Own.{Seen}
 use Rattle.lard_history.proofs.Each.{Each}
-use Rattle.lard_journal.specs.declared.rec.Rec.{Rec}
 use Rattle.lard_journal.specs.declared.rec.Rec.TheVariants as rec
-use Rattle.lard_rules.specs.declared.stay.Stay.{Stay}
-use Rattle.lard_rules.specs.Node.{NodePart}
-use Rattle.lard_rules.specs.declared.places.Station.{Station}
-use Rattle.lard_rules.specs.declared.places.Turn.{Turn}
-use Rattle.lard_rules.specs.Client.{client_aborts, client_gets, client_holds, client_shuts, client_takes, client_timer, client_writes}
-use Rattle.lard_segment.specs.declared.segment.Dir.TheVariants.{ToClient}
-use Rattle.lard_segment.specs.Segment.{decoded}
 
 -- ---- it writes on
 
@@ -122,14 +105,7 @@ module _ (k : Setting) (small : k.stream ≤ 2 ^ 30) where
   does x s heads given h = client-makes k.files x heads given.1.notes given.1.segments (record { client = given.0; iss = s.iss }) h
 
   pub clients : ClientRules k (Owes k small)
-  clients = record {
+  clients = each-client k (Owes k small) (record {
     opens = λ x isn iss wnd mss rule none h. client-makes k.files x _ _ _ _ h;
-    gets = λ x s path there fits. does x s _ (client_writes s.client (request path));
-    writes = λ x s bytes there fits. does x s _ (client_writes s.client bytes);
-    shuts = λ x s there. does x s _ (client_shuts s.client);
-    aborts = λ x s there. does x s _ (client_aborts s.client);
-    holds = λ x s there. does x s _ (client_holds s.client);
-    takes = λ x s there. does x s _ (client_takes s.client);
-    fires = λ x s there. does x s _ (client_timer s.client);
-    hears = λ x s from bytes there was. does x s _ (client_gets s.client (decoded bytes x.c ToClient));
-  }
+    does = λ x s g there comes. does x s (client_seen x.c g) (client_rule x.c s.client g);
+  })

@@ -1,39 +1,29 @@
 -- So it is in every run: each content that is served was there before.
 use Rattle.std.proofs.Common.{◌≡◌, ℕ, Bool, true, false, cond, List, [], ◌∷◌, ◌++◌, map, Option, Some, None, Ok, is_some, refl, sym, ap, ◌∙◌, subst, inl, inr, ⊎_elim, append_assoc, append-nil}
-use Rattle.lard_base.specs.declared.config.Config.{Config}
+use Rattle.lard_law_view.specs.Prelude.{Acknowledged, BackRow, Came, Client, ClientRules, Completed, Config, Conn, Content, EachRow, Fires, Forwarded, Front, FrontRules, Has, IsLaw, IsNodeEnv, IsReached, Letter, Machine, MayRestOn, Move, Node, NodeEnv, NodePart, NodeRules, OfEach, Offered, Place, Rec, Row, Rules, Seen, Setting, Tagged, ToCluster, brought_said, client_begins, conn, content_said, decoded, decoded_message, epoch_in, event_seen, front_does, front_rule, grown, named_records, node_acknowledged, node_content, node_does, node_forwarded, node_offered, node_read, node_tagged, node_timer, nothing_said, own, packet_seen, plain, reads_first, rows_of, seen_in, setting, stands, timer_rows, whose}
+use Rattle.lard_law_view.proofs.EachFront.{each-front, of-front}
+use Rattle.lard_law_view.proofs.EachClient.{client_goes, each-client, of-client}
 use Rattle.lard_base.specs.declared.event.Event.TheVariants as event
-use Rattle.lard_base.specs.declared.place.Place.{Place}
-use Rattle.lard_base.specs.declared.place.Place.TheVariants.{Client, Front, Node}
-use Rattle.lard_rules.specs.declared.machine.Machine.{Machine}
-use Rattle.lard_rules.specs.Machine.{IsReached}
-use Rattle.lard_law_view.specs.Carry.{IsLaw, MayRestOn, OfEach, setting}
-use Rattle.lard_law_view.specs.View.{ClientRules, Conn, FrontRules, IsNodeEnv, Move, NodeRules, Rules, Setting, brought_said, conn, content_said, epoch_in, event_seen, front_does, grown, named_records, node_does, nothing_said, packet_seen, reads_first, rows_of, seen_in, sending, stands, timer_rows}
+use Rattle.lard_law_view.specs.View.{sending}
 use Rattle.lard_law_view.specs.View as view
 use Rattle.lard_law_view.proofs.Carried.{carried}
 use Rattle.lard_law_view.proofs.Fine.{IsFine, IsItsOwn, fine}
 use Rattle.lard_law_view.proofs.Guarded.{both, weaker}
 use Rattle.lard_law_view.proofs.InSteps.{carried-records}
 use Rattle.lard_law_view.proofs.Parts.{put-each}
-use Rattle.lard_law_view.proofs.Saying.{GaveAt, NamesAll, NotedAt}
-use Rattle.lard_law_view.proofs.Timers.{IsTimerAt, timer_rows-are}
+use Rattle.lard_law_view.proofs.Saying.{NamesAll, NotedAt}
 use Rattle.lard_laws.specs.WaysBefore.{ContentsWereThere, MayBeServed, MayFollow, SawBehind, WasAtPlace, WasThere}
-use Rattle.lard_laws.proofs.WaysBacked.{DeedThere, PartThere, TookIn, acknowledged-there, content-there, fires-there, forwarded-there, offered-there, part-more, read-there, stay-more, tagged-there, there-more}
+use Rattle.lard_laws.proofs.WaysBacked.{DeedThere, PartThere, TookIn, part-more, rule-there, stay-more, there-more}
 use Rattle.lard_laws.proofs.WaysBacking.{IsNoted}
 use Rattle.lard_rules.specs.Front as front
-use Rattle.lard_rules.specs.Front.{ask_of, front_asked, front_ended, front_gets, front_taken, front_timer}
-use Rattle.lard_history.specs.Own.{Came, EachRow, Has, Letter, Row, Seen, own, plain, whose}
 use Rattle.lard_history.proofs.Each.{Each, Each-append, Each-weaker}
 use Rattle.lard_history.proofs.Lifting.{each_row-append}
 use Rattle.lard_history.proofs.Seeing.{has-before, has-behind}
-use Rattle.lard_journal.specs.declared.rec.Rec.{Rec}
 use Rattle.lard_journal.specs.declared.rec.Rec.TheVariants as rec
 use Rattle.lard_message.specs.declared.message.Body.TheVariants as body
-use Rattle.lard_message.specs.Reading.{decoded_message}
 use Rattle.lard_rules.specs.Node as node
-use Rattle.lard_rules.specs.Node.{NodePart, node_acknowledged, node_content, node_forwarded, node_offered, node_read, node_tagged, node_timer}
-use Rattle.lard_rules.specs.Stay.{NodeEnv}
-use Rattle.lard_segment.specs.declared.segment.Dir.TheVariants.{ToCluster}
-use Rattle.lard_segment.specs.Segment.{decoded}
+use Rattle.lard_law_view.proofs.OfKinds.{rest_of, rest-outer, rows-are}
+use Rattle.lard_law_view.proofs.RecordKinds.{IsOuter}
 
 -- ---- rows behind what was seen
 
@@ -69,36 +59,16 @@ other-at (Client e) c past names (rec.Served place d r code size way) own = absu
 other-at (Node n) c past names (rec.Served place d r code size way) own = absurd names
 other-at place c past names _ own = λ later. tt
 
-sends-at : (place : Place) (c : ℕ) (past : List Seen) (ss : List (Place × List ℕ)) → Each (RowAt c past) (map (sending place) ss)
-sends-at place c past [] = tt
-sends-at place c past (s ∷ ss) = (λ later. tt, sends-at place c past ss)
-
-gave-at : (place : Place) (c : ℕ) (past : List Seen) (r : Rec) → GaveAt place c r → RowAt c past r
-gave-at Front c past (rec.Served place d r code size way) own = absurd own
-gave-at (Node n) c past (rec.Served place d r code size way) own = absurd own
-gave-at (Client e) c past (rec.Served place d r code size way) own = absurd own
-gave-at place c past _ own = λ later. tt
-
-timer-at : (place : Place) (d c : ℕ) (past : List Seen) (r : Rec) → IsTimerAt place d r → RowAt c past r
-timer-at place d c past (rec.Served p e r code size way) own = absurd own
-timer-at place d c past _ own = λ later. tt
+outer-at : (c : ℕ) (past : List Seen) (r : Rec) → IsOuter r → RowAt c past r
+outer-at c past (rec.Served place d r code size way) h = absurd h
+outer-at c past _ h = λ later. tt
 
 -- ---- a move
 
 module _ (x : Conn) (v : Move) (its : IsItsOwn x v) where
   all-rows : (past : List Seen) → Each (RowAt x.c past) v.said.notes → Each (RowAt x.c past) (rows_of x v)
-  all-rows past notes =
-      let P : Rec → Type 0 = RowAt x.c past in
-      let S : List Rec = map (sending v.place) v.said.segments in
-      let M : List Rec = map (sending v.place) v.said.messages in
-      let T : List Rec = timer_rows v.place x.c x.part v.part in
-      let gave : Each P v.said.gave = Each-weaker (GaveAt v.place x.c) P (gave-at v.place x.c past) v.said.gave its.gave in
-      let timers : Each P T = Each-weaker (IsTimerAt v.place x.c) P (timer-at v.place x.c x.c past) T (timer_rows-are v.place x.c x.part v.part) in
-      Each-append P (v.said.notes ++ S ++ v.said.gave ++ M) T
-      (Each-append P (v.said.notes ++ S ++ v.said.gave) M
-      (Each-append P (v.said.notes ++ S) v.said.gave (Each-append P v.said.notes S notes (sends-at v.place x.c past v.said.segments)) gave)
-      (sends-at v.place x.c past v.said.messages))
-      timers
+  all-rows past notes = subst (Each (RowAt x.c past)) (sym (rows-are x v))
+      (Each-append (RowAt x.c past) v.said.notes (rest_of x v) notes (rest-outer x v (RowAt x.c past) (outer-at x.c past) its))
 
   -- behind its heads
   move-rows : EachRow (MayFollow x.c) x.seen v.heads → Each (RowAt x.c (x.seen ++ v.heads)) v.said.notes → EachRow (MayFollow x.c) x.seen (seen_in x v)
@@ -235,27 +205,14 @@ module _ (k : Setting) where
   front-owes x heads (front.Does did) seen = others x (front_does x heads (front.Does did)) refl tt seen
 
   clients : ClientRules k Owes
-  clients = record {
-    opens = λ x isn iss wnd mss rule none. others x _ refl tt (tt, (tt, tt));
-    gets = λ x s path there fits. others x _ refl tt (tt, tt);
-    writes = λ x s bytes there fits. others x _ refl tt (tt, tt);
-    shuts = λ x s there. others x _ refl tt (tt, tt);
-    aborts = λ x s there. others x _ refl tt (tt, tt);
-    holds = λ x s there. others x _ refl tt (tt, tt);
-    takes = λ x s there. others x _ refl tt (tt, tt);
-    fires = λ x s there. others x _ refl tt (tt, tt);
-    hears = λ x s from bytes there was. others x _ refl tt tt;
-  }
+  clients = each-client k Owes (record {
+    opens = λ x isn iss wnd mss rule none. others x (client_begins x isn iss wnd mss) refl tt (tt, (tt, tt));
+    does = λ x s g there comes. others x (client_goes x s g) refl tt (of-client x.c (EachRow (MayFollow x.c) x.seen) (λ from bytes. tt) (λ e. (tt, tt)) g);
+  })
 
   fronts : FrontRules k Owes
-  fronts = record {
-    hears = λ x s env bytes there is iss was. front-owes x (packet_seen (Client x.c) Front bytes) (front_gets env x.part.front bytes (decoded bytes x.c ToCluster)) tt;
-    fires = λ x s env there is. front-owes x (event_seen (event.Timer Front x.c)) (front_timer env x.part.front) (tt, tt);
-    taken = λ x env n epoch bytes is spells was. front-owes x (packet_seen (Node n) Front bytes) (front_taken x.part.front epoch) tt;
-    asked = λ x env n epoch number queue size paths bytes is spells was. front-owes x (packet_seen (Node n) Front bytes) (front_asked env x.part.front n epoch (ask_of x.c n number queue size paths)) tt;
-    ended = λ x env n epoch reason snd rcv count bytes is spells was. front-owes x (packet_seen (Node n) Front bytes) (front_ended env x.part.front n epoch (record { reason = reason; snd = record { 0 = snd }; rcv = record { 0 = rcv } })) tt;
-    admitted = λ x env choice given is e. others x _ refl tt tt;
-  }
+  fronts = each-front k Owes (λ x env heads g is comes. front-owes x heads (front_rule env x.part.front g)
+      (of-front x (EachRow (MayFollow x.c) x.seen) (λ from bytes. tt) tt (tt, tt) env heads g comes))
 
   -- a rule of a node, whose number and connection are those of the rule
   by-node : (x : Conn) (n epoch : ℕ) (env : NodeEnv) → IsNodeEnv k x.c n epoch env → (past : List Seen) (d : node.NodeDeed) → (PartThere env.n env.serve.c past (x.part.nodes n) → DeedThere env.n env.serve.c past d) → PartThere n x.c past (x.part.nodes n) → DeedThere n x.c past d
@@ -292,23 +249,26 @@ module _ (k : Setting) where
 
   nodes : NodeRules k Owes
   nodes = record {
-    offered = λ x n epoch env parts bytes is spells was. owes x n epoch env is (packet_seen Front (Node n) bytes) (node_offered env (x.part.nodes n) parts) (λ g. offered-there env (x.seen ++ packet_seen Front (Node n) bytes) (x.part.nodes n) g parts) tt;
-    forwarded = λ x n epoch env segment bytes is spells was. owes x n epoch env is (packet_seen Front (Node n) bytes) (node_forwarded env (x.part.nodes n) (decoded segment x.c ToCluster)) (λ g. forwarded-there env (x.seen ++ packet_seen Front (Node n) bytes) (x.part.nodes n) g (decoded segment x.c ToCluster)) tt;
-    tagged = λ x n epoch number tags env bytes is spells was. owes x n epoch env is (packet_seen Front (Node n) bytes) (node_tagged env (x.part.nodes n) number tags) (λ g. tagged-there env (x.seen ++ packet_seen Front (Node n) bytes) (x.part.nodes n) g number tags) tt;
+    offered = λ x n epoch env parts bytes is spells was.
+        owes x n epoch env is (packet_seen Front (Node n) bytes) (node_offered env (x.part.nodes n) parts) (λ g. rule-there env (x.seen ++ packet_seen Front (Node n) bytes) (x.part.nodes n) g (Offered parts) tt tt) tt;
+    forwarded = λ x n epoch env segment bytes is spells was. owes x n epoch env is (packet_seen Front (Node n) bytes) (node_forwarded env (x.part.nodes n) (decoded segment x.c ToCluster)) (λ g. rule-there env (x.seen ++ packet_seen Front (Node n) bytes) (x.part.nodes n) g (Forwarded (decoded segment x.c ToCluster)) tt tt) tt;
+    tagged = λ x n epoch number tags env bytes is spells was.
+        owes x n epoch env is (packet_seen Front (Node n) bytes) (node_tagged env (x.part.nodes n) number tags) (λ g. rule-there env (x.seen ++ packet_seen Front (Node n) bytes) (x.part.nodes n) g (Tagged number tags) tt tt) tt;
     content = λ x n from epoch r env file bytes is spells was. owes x n epoch env is (packet_seen (Node from) (Node n) bytes) (node_content env (x.part.nodes n) from r)
-        (λ g. content-there env (x.seen ++ packet_seen (Node from) (Node n) bytes) (x.part.nodes n) g from r file bytes
-        (has-come x n from epoch bytes env is)
-        (came-reads x n from epoch r env file bytes is spells)) tt;
-    acknowledged = λ x n epoch env bytes is spells was. owes x n epoch env is (packet_seen Front (Node n) bytes) (node_acknowledged env (x.part.nodes n)) (λ g. acknowledged-there env (x.seen ++ packet_seen Front (Node n) bytes) (x.part.nodes n) g) tt;
+        (λ g. rule-there env (x.seen ++ packet_seen (Node from) (Node n) bytes) (x.part.nodes n) g (Content from r) tt
+        (record { file = file; bytes = bytes; came = has-come x n from epoch bytes env is; reads = came-reads x n from epoch r env file bytes is spells })) tt;
+    acknowledged = λ x n epoch env bytes is spells was.
+        owes x n epoch env is (packet_seen Front (Node n) bytes) (node_acknowledged env (x.part.nodes n)) (λ g. rule-there env (x.seen ++ packet_seen Front (Node n) bytes) (x.part.nodes n) g Acknowledged tt tt) tt;
     read = λ x n epoch r env path is its h.
         let job : Rec = rec.Read n n x.c r path in
         let past : List Seen = x.seen ++ Row job ∷ [] in
         read-owes x n [] job (λ p. tt) (node_read env (x.part.nodes n) r)
         (by-node x n epoch env is past (node_read env (x.part.nodes n) r)
-        (λ g. read-there env past (x.part.nodes n) g r (λ took. record { epoch = env.epoch; path = path; read = was-read x n epoch r path env is took }))
+        (λ g. rule-there env past (x.part.nodes n) g (Completed r path) tt (λ took. record { epoch = env.epoch; path = path; read = was-read x n epoch r path env is took }))
         (part-more n x.c x.seen (Row job ∷ []) (x.part.nodes n) (h n)))
         refl its h;
-    fires = λ x s n env there is. owes x n (epoch_in (x.part.nodes n)) env is (event_seen (event.Timer (Node n) x.c)) (node_timer env (x.part.nodes n)) (λ g. fires-there env (x.seen ++ event_seen (event.Timer (Node n) x.c)) (x.part.nodes n) g is.epoch_is) (tt, tt);
+    fires = λ x s n env there is. owes x n (epoch_in (x.part.nodes n)) env is (event_seen (event.Timer (Node n) x.c)) (node_timer env (x.part.nodes n))
+        (λ g. rule-there env (x.seen ++ event_seen (event.Timer (Node n) x.c)) (x.part.nodes n) g Fires (λ row found. sym (is.epoch_is ∙ ap (λ (o : Option BackRow). epoch_in (record (x.part.nodes n) { row = o })) found)) tt) (tt, tt);
     answers = λ x n from epoch r path file bytes there spells was. aside x n (packet_seen (Node from) (Node n) bytes) (content_said k n from x.c epoch r path) tt (λ past. tt);
     queues = λ x n from epoch r path file bytes there spells was. aside x n (packet_seen (Node from) (Node n) bytes) (record nothing_said { notes = rec.Queued n from x.c r path ∷ [] }) tt (λ past. (λ later. tt, tt));
     brings = λ x n from epoch r path. aside x n [] (brought_said k n from x.c epoch r path) tt (λ past. (λ later. tt, tt));

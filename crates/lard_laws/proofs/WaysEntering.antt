@@ -2,7 +2,7 @@
 use Rattle.std.proofs.Common.{◌≡◌, ◌≢◌, ◌+◌, ◌==◌, ℕ, suc, Bool, true, false, List, [], ◌∷◌, ◌++◌, map, length, slice_get, Option, Some, None, inl, refl, sym, ap, ◌∙◌, subst, arith, append_assoc, append-nil, eqb-true, eq-eqb}
 use Rattle.std.proofs.lemmas.Bool.{cond_both}
 use Rattle.std.proofs.lemmas.List.{length-append}
-use Rattle.lard_answers.specs.Answers.{FilesAt, good_path}
+use Rattle.lard_law_view.specs.Prelude.{Entry, FilesAt, NodeEnv, Progress, Rec, Service, Verdict, Work, and_path, entered, enters, good_path, named_path, named_paths, noted, path_in, progress_of, read_entry, started, started_here, started_there, starts_at, starts_named, starts_one}
 use Rattle.lard_base.specs.declared.place.Via.TheVariants as via
 use Rattle.lard_laws.specs.WaysState.{given_to}
 use Rattle.lard_laws.specs.WaysUnder.{Assigned, IsStarted, Lies, LiesGood, TakesFirstAssigned, Under}
@@ -10,14 +10,8 @@ use Rattle.lard_laws.proofs.WaysGoods.{get-behind}
 use Rattle.lard_laws.proofs.WaysLying.{named-append, takes-lies, under-append}
 use Rattle.lard_laws.proofs.WaysMarking.{IsPlain}
 use Rattle.lard_history.proofs.Each.{Each, Each-append}
-use Rattle.lard_journal.specs.declared.rec.Rec.{Rec}
 use Rattle.lard_journal.specs.declared.rec.Rec.TheVariants as rec
-use Rattle.lard_rules.specs.declared.stay.Entry.{Entry}
-use Rattle.lard_rules.specs.declared.stay.Progress.{Progress}
 use Rattle.lard_rules.specs.declared.stay.Progress.TheVariants as progress
-use Rattle.lard_rules.specs.Stay.{NodeEnv, Work, and_path, entered, enters, named_path, named_paths, noted, path_in, progress_of, read_entry, started, started_here, started_there, starts_at, starts_named, starts_one}
-use Rattle.lard_request.specs.declared.verdict.Verdict.{Verdict}
-use Rattle.lard_rules.specs.Serving.{Service}
 
 -- ---- a batch that grows
 

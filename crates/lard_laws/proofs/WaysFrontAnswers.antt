@@ -3,14 +3,10 @@ use Rattle.std.proofs.Common.{◌≡◌, ◌≤◌, ◌<◌, ◌+◌, ◌^◌, �
 use Rattle.std.specs.List.{slice_get}
 use Rattle.std.proofs.lemmas.Bool.{and_from, and_parts}
 use Rattle.std.proofs.lemmas.List.{map-append}
-use Rattle.lard_answers.specs.Answers.{FilesAt, IsPrefix}
-use Rattle.lard_base.specs.declared.ids.Epoch.{Epoch}
-use Rattle.lard_base.specs.declared.place.Place.TheVariants.{Front, Node}
+use Rattle.lard_law_view.specs.Prelude.{Ask, Conn, Did, Epoch, FilesAt, Final, Front, FrontConn, FrontDeed, FrontEnv, FrontPart, FrontRest, FrontRow, IsEarlyAway, IsPrefix, LaterChoice, Move, Node, NodePart, Part, Rec, Seen, Stay, ack_sent, assigned_notes, assigns, by_front, front_asked, front_does, front_ended, front_ends, front_rest, front_saying, front_taken, is_row_at, is_with, named_paths, next_epoch, nothing_said, over_note, tag_sent, taken_by, tale_at}
 use Rattle.lard_law_connections.proofs.BytesFrontMessages.{past-undecided}
 use Rattle.lard_law_connections.specs.Places.{IsDecided, IsOffered, IsPast, Offers, Sits, StageSits, owning}
 use Rattle.lard_law_connections.proofs.PlacesTurns.{IsPlaced, early-at}
-use Rattle.lard_law_view.specs.Carry.{tale_at}
-use Rattle.lard_law_view.specs.View.{Conn, Move, Part, by_front, front_does, nothing_said}
 use Rattle.lard_laws.specs.WaysState.{AskIs, FrontSaysWays, GoesItsWay, IsAway, IsBy, IsPlacedOnce, LetterWays, NodeSaysWays, SeatWays, StageWays, StayAsks, StayWays, given_to, marks_at}
 use Rattle.lard_laws.specs.WaysUnder.{Assigned}
 use Rattle.lard_laws.specs.Ways.{WayMarks, paths_assigned, paths_wanted}
@@ -20,25 +16,11 @@ use Rattle.lard_laws.proofs.WaysLetters.{Counts, carries-none}
 use Rattle.lard_laws.proofs.WaysMarking.{Rightly, marked}
 use Rattle.lard_laws.proofs.WaysMoving.{Keeps, makes, same-marks, stands-makes}
 use Rattle.lard_laws.proofs.WaysSpelling.{ReadsTag, epoch-reads, tag-reads}
-use Rattle.lard_costs.specs.declared.later.LaterChoice.{LaterChoice}
-use Rattle.lard_dispatch.specs.declared.dispatch.Ask.{Ask}
-use Rattle.lard_endpoint.specs.declared.control.moving.Final.{Final}
-use Rattle.lard_rules.specs.declared.front.FrontRest.{FrontRest}
-use Rattle.lard_rules.specs.Front.{FrontDeed, Did, Does, Drops, FrontEnv, FrontPart, Says, ack_sent, assigned_notes, assigns, front_asked, is_row_at, is_with, message, over_note, front_rest, front_saying, tag_sent, taken_by, front_ended, front_ends, front_taken}
-use Rattle.lard_handoff_front.specs.declared.row.FrontConn.{FrontConn}
+use Rattle.lard_rules.specs.Front.{Does, Drops, Says, message}
 use Rattle.lard_handoff_front.specs.declared.row.FrontConn.TheVariants as stage
-use Rattle.lard_handoff_front.specs.declared.row.FrontRow.{FrontRow}
-use Rattle.lard_history.specs.Own.{Seen}
-use Rattle.lard_journal.specs.declared.rec.Rec.{Rec}
 use Rattle.lard_message.specs.declared.kind.Kind.TheVariants as kind
 use Rattle.lard_message.specs.declared.message.Body.TheVariants as body
-use Rattle.lard_rules.specs.declared.stay.Stay.{Stay}
-use Rattle.lard_rules.specs.Node.{NodePart}
-use Rattle.lard_rules.specs.Stay.{named_paths}
 use Rattle.lard_rules.proofs.FrontCases.{IsInStage, of-stage, taken-keeps, asked-keeps, ended-keeps}
-use Rattle.lard_handoff_front.specs.Front.{next_epoch}
-use Rattle.lard_resend.specs.Kept.{without}
-use Rattle.lard_rules.specs.FrontSound.{IsEarlyAway}
 
 -- ---- what an Ask assigns
 

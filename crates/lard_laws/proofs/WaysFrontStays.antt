@@ -1,11 +1,6 @@
 -- A segment of the client, and the front end's timers, leave a connection on its way.
 use Rattle.std.proofs.Common.{◌≡◌, ◌≤◌, ◌^◌, ℕ, Bool, true, false, cond, List, [], ◌∷◌, ◌++◌, map, length, take, Option, Some, None, refl, sym, ap, ◌∙◌, subst, append-nil}
-use Rattle.std.proofs.lemmas.Bool.{cond_both}
-use Rattle.lard_answers.specs.Answers.{FilesAt, IsPrefix, verdicts}
-use Rattle.lard_base.specs.declared.ids.Epoch.{Epoch}
-use Rattle.lard_base.specs.declared.place.Place.{Place}
-use Rattle.lard_base.specs.declared.place.Place.TheVariants.{Client, Front, Node}
-use Rattle.lard_rules.specs.Bounds.{IsConnNumber}
+use Rattle.lard_law_view.specs.Prelude.{Client, Conn, ControlBlock, Ending, Epoch, FilesAt, Final, First, FirstChoice, Front, FrontConn, FrontDeed, FrontEnv, FrontPart, FrontRest, FrontRow, FrontTurn, IsConnNumber, IsEarlyHere, IsFrontEnv, IsPrefix, IsStream, IsWord, MayMove, Node, Place, Reading, Said, Seen, ServeEnv, Service, Setting, Station, Stream, Talk, Turn, Verdict, after_timer, batch_of, by_front, fires_at, forwarded, front_admits, front_admitted_with, front_begun, front_does, front_fired, front_fired_by, front_hears, front_reads, front_rest, front_rests, front_saying, handed_off, hears_at, holds, is_plain_syn, is_row_at, last_words, listening, may_freeze, met, nothing_said, on_segment, placed, sent_of, serving, serving_ready_of, serving_settled, settled_by, speaks, spoken, stage_after, tale_at, timed, tombstone, turn_here, verdicts, with_front}
 use Rattle.lard_law_connections.specs.BytesAgreement.{FrontHolds, FrontWaits, IsOpen, SeatAgrees, StageAgrees}
 use Rattle.lard_law_connections.specs.BytesKeeping.{IsFrontTalk}
 use Rattle.lard_law_connections.proofs.BytesFrontMoves.{IsBefore, home-past}
@@ -16,54 +11,26 @@ use Rattle.lard_law_connections.proofs.BytesReading.{batch-read}
 use Rattle.lard_law_connections.proofs.BytesServing.{So}
 use Rattle.lard_law_connections.specs.Places.{ArePast, IsStageEarly, Sits, owning}
 use Rattle.lard_law_connections.proofs.PlacesLoops.{settled-is, spoken-to}
-use Rattle.lard_law_view.specs.Carry.{tale_at}
-use Rattle.lard_law_view.specs.View.{Conn, IsFrontEnv, Setting, by_front, front_admits, front_does, nothing_said, with_front}
 use Rattle.lard_laws.specs.WaysState.{BeginsWithRequest, GoesItsWay, IsUnassigned, WaitsForNext, SeatWays, StageWays, marks_at}
 use Rattle.lard_laws.specs.Ways.{WayMarks}
 use Rattle.lard_laws.proofs.WaysFronting.{IsFrozen, front-quiet, handed-makes, turned-makes}
 use Rattle.lard_laws.proofs.WaysLooking.{Looks, reads-look, waits-kept}
 use Rattle.lard_laws.proofs.WaysMarking.{Rightly, marked, marked-append, rightly-append}
 use Rattle.lard_laws.proofs.WaysMoving.{Keeps, sent-say, stands-makes}
-use Rattle.lard_dispatch.specs.declared.dispatch.First.{First}
 use Rattle.lard_dispatch.specs.declared.dispatch.First.TheVariants as first
-use Rattle.lard_endpoint.specs.Arriving.{on_segment}
-use Rattle.lard_endpoint.specs.Control.{ControlBlock, listening}
-use Rattle.lard_endpoint.specs.declared.control.moving.Final.{Final}
-use Rattle.lard_endpoint.specs.Leaving.{after_timer, timed}
-use Rattle.lard_endpoint.specs.Moving.{end_reason, final_of, may_end, may_freeze}
 use Rattle.lard_endpoint.proofs.Adoption.{frozen_stands}
-use Rattle.lard_rules.specs.declared.front.FrontRest.{FrontRest}
-use Rattle.lard_rules.specs.declared.front.FrontTurn.{FrontTurn}
-use Rattle.lard_rules.specs.Front.{FrontDeed, Does, Drops, FrontEnv, FrontPart, Says, front_admitted_with, front_begun, front_fired, front_fired_by, fires_at, forwarded, front_hears, handed_off, hears_at, holds, is_row_at, message, met, placed, front_rest, front_rests, front_saying, settled_by, stage_after, turn_here}
-use Rattle.lard_rules.specs.FrontReading.{MayMove, Reading, front_reads}
+use Rattle.lard_rules.specs.Front.{Does, Drops, Says, message}
 use Rattle.lard_rules.proofs.FrontBlocks.{segment-keeps, segment-serves, speaks-keep, timer-keeps}
 use Rattle.lard_rules.proofs.FrontTurns.{reads-stop}
-use Rattle.lard_handoff_front.specs.declared.row.FrontConn.{FrontConn}
 use Rattle.lard_handoff_front.specs.declared.row.FrontConn.TheVariants as stage
-use Rattle.lard_handoff_front.specs.declared.row.FrontRow.{FrontRow}
-use Rattle.lard_history.specs.Own.{Seen}
 use Rattle.lard_journal.specs.declared.rec.Rec.TheVariants as rec
-use Rattle.lard_law_view.specs.Agreement.{IsWord}
-use Rattle.lard_law_view.specs.Truthful.{Talk}
 use Rattle.lard_message.specs.declared.kind.Kind.TheVariants as kind
 use Rattle.lard_message.specs.declared.message.Body.TheVariants as body
-use Rattle.lard_policy.specs.declared.first.FirstChoice.{FirstChoice}
-use Rattle.lard_reader.specs.Batches.{batch_of}
-use Rattle.lard_request.specs.declared.verdict.Verdict.{Verdict}
-use Rattle.lard_resend.specs.Pending.{sent_of}
-use Rattle.lard_rules.specs.declared.places.Ending.{Ending}
 use Rattle.lard_rules.specs.declared.places.Ending.TheVariants as ending
-use Rattle.lard_rules.specs.declared.places.Station.{Station}
-use Rattle.lard_rules.specs.declared.places.Turn.{Turn}
-use Rattle.lard_rules.specs.Tombstone.{is_plain_syn, last_words, tombstone}
-use Rattle.lard_rules.specs.Serving.{ServeEnv, Service, serving_ready_of, serving, serving_settled, spoken}
-use Rattle.lard_rules.specs.Speaking.{speaks}
-use Rattle.lard_segment.specs.Segment.{Said}
-use Rattle.lard_law_view.specs.Truth.{IsStream, Stream}
 use Rattle.lard_law_view.proofs.Speaking.{speaks-stream}
 use Rattle.lard_law_view.proofs.EndpointSends.{AllTo, ready-to}
-use Rattle.lard_rules.specs.FrontSound.{IsEarlyHere}
 use Rattle.lard_law_connections.proofs.PlacesTurns.{early-at}
+use Rattle.lard_rules.proofs.Endings.{rested-keeps}
 
 some-same : {A : Type 0} (a b : A) → Some a ≡ Some b → a ≡ b
 some-same a b e = cc
@@ -72,9 +39,7 @@ some-same a b e = cc
 
 -- it stays with what was said, or it is over
 spoken-either : (env : ServeEnv) (s : Service) (before : List (Place × List ℕ)) (Q : Ending → Type 0) → ((last : Final) → Q (ending.Over last)) → Q (ending.Here (speaks env.c s.block).1 s.count) → Q (spoken env s before).0
-spoken-either env s before Q over here =
-    let b : ControlBlock = (speaks env.c s.block).1 in
-    cond_both (may_end b) (ending.Over (final_of b (end_reason b))) (ending.Here b s.count) Q (λ t. over (final_of b (end_reason b))) (λ t. here)
+spoken-either env s before Q over here = rested-keeps Q (speaks env.c s.block).1 s.count (λ t. over _) (λ t. here)
 
 module _ (k : Setting) (small : k.stream ≤ 2 ^ 30) (x : Conn) (s : Station) (there : x.part.station ≡ Some s) (env : FrontEnv) (is : IsFrontEnv k x.c env) (l : Talk) (pend : List Verdict) (o : IsOpen k.files x l pend s) where
   abbrev files : FilesAt

@@ -2,17 +2,12 @@
 use Rattle.std.proofs.Common.{◌≡◌, ◌<◌, ◌≢◌, ◌≤◌, ◌+◌, ◌==◌, ℕ, true, List, [], ◌∷◌, ◌++◌, map, length, take, Option, Some, None, Ok, inl, inr, refl, sym, ap, ◌∙◌, subst, arith, append_assoc, eqb-true}
 use Rattle.std.specs.List.{slice_get}
 use Rattle.std.proofs.lemmas.Bool.{and_parts}
-use Rattle.lard_answers.specs.Answers.{FilesAt, IsPrefix, good_path, verdicts}
-use Rattle.lard_base.specs.declared.parts.EndpointParts.{EndpointParts}
-use Rattle.lard_base.specs.declared.place.Place.{Place}
-use Rattle.lard_base.specs.declared.place.Place.TheVariants.{Client, Front, Node}
-use Rattle.lard_rules.specs.Bounds.{IsConnNumber}
+use Rattle.lard_law_view.specs.Prelude.{Body, Client, Conn, Did, EndpointParts, FilesAt, FirstChoice, Front, FrontEnv, FrontPart, FrontRow, FrontTurn, IsConnNumber, IsEarlyHere, IsPrefix, IsStream, Message, Move, Node, Part, Place, Rec, Seen, Service, Stream, Verdict, and_path, decoded_message, front_does, good_path, handed_off, is_row_at, kind_of, letter, may_freeze, next_epoch, parts_of, verdicts, with_front}
 use Rattle.lard_law_connections.specs.BytesAgreement.{FrontHolds}
 use Rattle.lard_law_connections.proofs.BytesMessages.{offers-read}
 use Rattle.lard_law_connections.specs.Places.{ArePast, IsDecided, IsPast}
 use Rattle.lard_law_connections.proofs.PlacesGrowing.{past-later}
 use Rattle.lard_law_connections.proofs.PlacesHeads.{kinds-same}
-use Rattle.lard_law_view.specs.View.{Conn, Move, Part, front_does, letter, with_front}
 use Rattle.lard_laws.specs.WaysState.{BeginsWithRequest, FrontSaysWays, IsBy, LetterWays, SeatWays, marks_at}
 use Rattle.lard_laws.specs.WaysUnder.{Assigned}
 use Rattle.lard_laws.specs.Ways.{IsNextGood, WayMarks, good_paths, paths_assigned, paths_wanted}
@@ -21,29 +16,13 @@ use Rattle.lard_laws.proofs.WaysLetters.{carries-none}
 use Rattle.lard_laws.proofs.WaysLooking.{Looks}
 use Rattle.lard_laws.proofs.WaysMarking.{Rightly, marked, marked-append, rightly-append}
 use Rattle.lard_laws.proofs.WaysMoving.{Keeps, clients-say, makes, same-marks}
-use Rattle.lard_endpoint.specs.Moving.{may_freeze, parts_of}
-use Rattle.lard_rules.specs.declared.front.FrontTurn.{FrontTurn}
-use Rattle.lard_rules.specs.Front.{Did, Does, FrontEnv, FrontPart, handed_off, is_row_at, message}
+use Rattle.lard_rules.specs.Front.{Does, message}
 use Rattle.lard_handoff_front.specs.declared.row.FrontConn.TheVariants as stage
-use Rattle.lard_handoff_front.specs.declared.row.FrontRow.{FrontRow}
-use Rattle.lard_handoff_front.specs.Front.{next_epoch}
-use Rattle.lard_history.specs.Own.{Seen}
 use Rattle.lard_history.proofs.Each.{Each}
-use Rattle.lard_journal.specs.declared.rec.Rec.{Rec}
 use Rattle.lard_journal.specs.declared.rec.Rec.TheVariants as rec
 use Rattle.lard_message.specs.declared.kind.Kind.TheVariants as kind
-use Rattle.lard_message.specs.declared.message.Body.{Body}
 use Rattle.lard_message.specs.declared.message.Body.TheVariants as body
-use Rattle.lard_message.specs.declared.message.Message.{Message}
-use Rattle.lard_message.specs.Message.{kind_of}
-use Rattle.lard_message.specs.Reading.{decoded_message}
-use Rattle.lard_rules.specs.Stay.{and_path}
-use Rattle.lard_policy.specs.declared.first.FirstChoice.{FirstChoice}
-use Rattle.lard_request.specs.declared.verdict.Verdict.{Verdict}
-use Rattle.lard_rules.specs.Serving.{Service}
-use Rattle.lard_law_view.specs.Truth.{IsStream, Stream}
 use Rattle.lard_law_view.proofs.EndpointSends.{AllTo}
-use Rattle.lard_rules.specs.FrontSound.{IsEarlyHere}
 
 -- ---- messages that say nothing of ways
 

@@ -2,7 +2,7 @@
 use Rattle.std.proofs.Common.{◌≡◌, ◌≤◌, ◌^◌, ◌+◌, ◌-◌, nat_lt, ℕ, Bool, true, false, List, [], ◌∷◌, ◌++◌, map, length, take, Option, Some, None, inl, inr, ⊎_elim, refl, sym, ap, ◌∙◌, subst, arith, append_assoc, append-nil}
 use Rattle.std.proofs.lemmas.Bool.{and_parts, cond_both}
 use Rattle.std.specs.Prelude.{not, ◌&&◌}
-use Rattle.lard_answers.specs.Answers.{FilesAt, good_path, verdicts}
+use Rattle.lard_law_view.specs.Prelude.{Asked, ControlBlock, Entry, FilesAt, FrontRest, NodeEnv, Progress, Service, Stay, Stream, Verdict, Work, asks_for, batch_of, bytes_used, came_for, come_on, enters, enters_first, goes_on, good_path, may_read, named_paths, read_entry, reads_these, serving_consumed, started_here, state_of, tagged, verdicts, work_of}
 use Rattle.lard_law_connections.proofs.BytesWorking.{Right, Works, going_so}
 use Rattle.lard_laws.specs.WaysState.{StayAsks, StayGoes, given_to}
 use Rattle.lard_laws.specs.WaysUnder.{Assigned, Under}
@@ -11,19 +11,6 @@ use Rattle.lard_laws.proofs.WaysEntering.{AllStarted, Begun, Enters, all-start, 
 use Rattle.lard_laws.proofs.WaysLying.{KeepsStarted, came-named, came-under, under-append}
 use Rattle.lard_laws.proofs.WaysMarking.{Rightly, marked}
 use Rattle.lard_laws.proofs.WaysStaying.{AskIn, Goes, Home, StepReads, answered-goes, these-go, asks-go, entered-notes, entered-told, entered-walked, unasked, works-read}
-use Rattle.lard_endpoint.specs.Control.{ControlBlock}
-use Rattle.lard_rules.specs.declared.front.FrontRest.{FrontRest}
-use Rattle.lard_rules.specs.declared.stay.Asked.{Asked}
-use Rattle.lard_rules.specs.declared.stay.Entry.{Entry}
-use Rattle.lard_rules.specs.declared.stay.Progress.{Progress}
-use Rattle.lard_rules.specs.declared.stay.Stay.{Stay}
-use Rattle.lard_rules.specs.Node.{work_of}
-use Rattle.lard_rules.specs.Stay.{NodeEnv, Work, asks_for, came_for, come_on, enters, enters_first, goes_on, named_paths, reads_these, read_entry, started_here, tagged}
-use Rattle.lard_reader.specs.Batches.{batch_of, bytes_used}
-use Rattle.lard_request.specs.declared.verdict.Verdict.{Verdict}
-use Rattle.lard_rules.specs.Loop.{state_of}
-use Rattle.lard_rules.specs.Serving.{Service, serving_consumed, may_read}
-use Rattle.lard_law_view.specs.Truth.{Stream}
 use Rattle.lard_rules.proofs.StayWalking.{StepIn, both-going, goes-in}
 
 none-over : (o : Option ℕ) → elim o [ None ↦ true | Some total ↦ false ] ≡ true → o ≡ None

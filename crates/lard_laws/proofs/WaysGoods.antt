@@ -3,12 +3,10 @@ use Rattle.std.proofs.Common.{◌≡◌, ◌≤◌, ◌+◌, ℕ, zero, suc, Lis
 use Rattle.std.specs.List.{slice_get}
 use Rattle.std.proofs.lemmas.List.{take-append-le}
 use Rattle.std.proofs.Math.Seq.{take-append_seam}
-use Rattle.lard_answers.specs.Answers.{FilesAt, IsPrefix, good_path, goods, goods_from, numbered, verdicts}
+use Rattle.lard_law_view.specs.Prelude.{FilesAt, IsPrefix, Verdict, and_path, good_path, goods, goods_from, numbered, verdicts}
 use Rattle.lard_answers.proofs.Growing.{verdicts-grow}
 use Rattle.lard_answers.proofs.Numbered.{goods-are}
 use Rattle.lard_laws.specs.Ways.{good_paths}
-use Rattle.lard_rules.specs.Stay.{and_path}
-use Rattle.lard_request.specs.declared.verdict.Verdict.{Verdict}
 
 -- ---- fronts of lists
 

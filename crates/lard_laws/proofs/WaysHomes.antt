@@ -2,44 +2,27 @@
 use Rattle.std.proofs.Common.{◌≡◌, ◌≢◌, ◌≤◌, ◌<◌, ◌+◌, ◌^◌, ◌⊎◌, nat_lt, ℕ, Bool, true, false, cond, List, [], ◌∷◌, ◌++◌, map, Option, Some, None, Ok, inl, inr, ⊎_elim, refl, sym, ap, ◌∙◌, subst, arith}
 use Rattle.std.specs.Prelude.{is_some}
 use Rattle.std.proofs.lemmas.Bool.{ltb-false, ltb-true}
-use Rattle.lard_answers.specs.Answers.{FilesAt}
-use Rattle.lard_base.specs.declared.place.Place.{Place}
-use Rattle.lard_base.specs.declared.place.Place.TheVariants.{Front, Node}
+use Rattle.lard_law_view.specs.Prelude.{AreSent, Body, Conn, FilesAt, Front, FrontConn, FrontRest, FrontRow, Kept, Message, Move, Node, NodeEnv, NodePart, NodeTurn, Part, Place, Rec, Seen, Stay, again_sent, decoded_message, front_rest, kind_of, letter, named_records, node_put_back, whose, with_node}
 use Rattle.lard_law_connections.proofs.BytesLaw.{Helps}
 use Rattle.lard_law_connections.proofs.BytesFrontMessages.{past-undecided}
 use Rattle.lard_law_connections.proofs.BytesNodeMoves.{IsAt}
 use Rattle.lard_law_connections.specs.Places.{IsDecided, IsPast}
 use Rattle.lard_law_connections.proofs.PlacesHeads.{kinds-same}
-use Rattle.lard_law_view.specs.View.{AreSent, Conn, Move, Part, letter, named_records, node_put_back, stands, nothing_said, with_node}
 use Rattle.lard_law_view.proofs.Parts.{put-each, put-same}
 use Rattle.lard_laws.specs.WaysState.{GoesItsWay, IsAway, IsPlacedOnce, LetterWays, NodeSaysWays, SeatWays, StageWays, StayAsks, StayWays, marks_at}
 use Rattle.lard_laws.specs.WaysUnder.{Assigned}
 use Rattle.lard_laws.specs.Ways.{BodyGoesOn, WayMarks}
 use Rattle.lard_laws.proofs.WaysLetters.{Counts, carries-same}
 use Rattle.lard_laws.proofs.WaysMarking.{IsPlain, Rightly, mark, marked}
-use Rattle.lard_laws.proofs.WaysMoving.{Keeps, LetterAsks, asks-append, clients-ask, clients-say, makes, same-marks, says-append, sent-ask, sent-say, stands-makes}
+use Rattle.lard_laws.proofs.WaysMoving.{Keeps, LetterAsks, asks-append, clients-ask, clients-say, makes, same-marks, says-append, sent-ask, sent-say}
 use Rattle.lard_laws.proofs.WaysSpelling.{ReadsAsk, ask-reads, epoch-reads}
 use Rattle.lard_laws.proofs.WaysTurning.{BodyIs, SaysIt, TurnWays}
-use Rattle.lard_rules.specs.declared.front.FrontRest.{FrontRest}
-use Rattle.lard_rules.specs.Front.{front_rest}
-use Rattle.lard_handoff_front.specs.declared.row.FrontConn.{FrontConn}
 use Rattle.lard_handoff_front.specs.declared.row.FrontConn.TheVariants as stage
-use Rattle.lard_handoff_front.specs.declared.row.FrontRow.{FrontRow}
-use Rattle.lard_history.specs.Own.{Seen, whose}
 use Rattle.lard_history.proofs.Each.{Each, Each-append}
-use Rattle.lard_journal.specs.declared.rec.Rec.{Rec}
 use Rattle.lard_journal.specs.declared.rec.Rec.TheVariants as rec
 use Rattle.lard_message.specs.declared.kind.Kind.TheVariants as kind
-use Rattle.lard_message.specs.declared.message.Body.{Body}
 use Rattle.lard_message.specs.declared.message.Body.TheVariants as body
-use Rattle.lard_message.specs.declared.message.Message.{Message}
-use Rattle.lard_message.specs.Message.{kind_of}
-use Rattle.lard_message.specs.Reading.{decoded_message}
-use Rattle.lard_rules.specs.declared.node.NodeTurn.{NodeTurn}
-use Rattle.lard_rules.specs.declared.stay.Stay.{Stay}
-use Rattle.lard_rules.specs.Node.{NodePart, again_sent, message}
-use Rattle.lard_rules.specs.Stay.{NodeEnv}
-use Rattle.lard_resend.specs.declared.kept.Kept.{Kept}
+use Rattle.lard_rules.specs.Node.{message}
 
 -- ---- what is named of the notes
 
@@ -292,14 +275,3 @@ module _ (env : NodeEnv) (x : Conn) (n : ℕ) (node : env.n ≡ n) (small : env.
             → Each (LetterWays all_files k q) (map (letter (Node n)) ss ++ map (letter (Node n)) ms)
         append-letters [] ms q k h g = g
         append-letters (s ∷ ss) ms q k h g = (h.0, append-letters ss ms q k h.1 g)
-
-  -- what it says alone
-  pub says-makes : (heads : List Seen) (notes : List Rec) (ms : List (Place × List ℕ)) → Each IsPlain notes → (ms ≡ again_sent p) ⊎ Each (SaysIt env m kept p.stay) ms → IsDecided env.epoch p.row ⊎ (ms ≡ again_sent p)
-      → Keeps all_files x (stands x (Node n) heads (record nothing_said { notes = notes; messages = ms }))
-  says-makes heads notes ms plain h decided help g = stands-makes all_files x (Node n) heads (record nothing_said { notes = notes; messages = ms }) plain
-      (λ old. ⊎_elim
-      (λ (again : ms ≡ again_sent p). again-say m x.part (stands x (Node n) heads (record nothing_said { notes = notes; messages = ms })) help ms (inr again) old)
-      (λ (f : Each (SaysIt env m kept p.stay) ms). ⊎_elim (λ (d : IsDecided env.epoch p.row). it-says env m x.part n small d ms f)
-      (λ (again : ms ≡ again_sent p). again-say m x.part (stands x (Node n) heads (record nothing_said { notes = notes; messages = ms })) help ms (inr again) old) decided) h)
-      (⊎_elim (λ (again : ms ≡ again_sent p). again-ask m (stands x (Node n) heads (record nothing_said { notes = notes; messages = ms })) help ms (inr again))
-      (λ (f : Each (SaysIt env m kept p.stay) ms). it-asks env m kept x n p.stay ms f) h) help g

@@ -1,28 +1,16 @@
 -- What packets say of Asks, Tags and Offers stays so while the front end and the nodes go on.
 use Rattle.std.proofs.Common.{◌≡◌, ◌≤◌, ◌+◌, ◌⊎◌, ℕ, true, List, [], ◌∷◌, ◌++◌, map, Option, Some, None, inl, inr, ⊎_elim, sym, ap, ◌∙◌, subst, arith}
-use Rattle.lard_answers.specs.Answers.{FilesAt, IsPrefix}
+use Rattle.lard_law_view.specs.Prelude.{Body, Client, EndpointParts, FilesAt, Front, FrontRest, FrontRow, IsPrefix, Letter, Node, NodePart, Part, Place, Stay, front_rest, is_row_at, kind_of}
 use Rattle.lard_answers.proofs.Growing.{IsPrefix-trans}
-use Rattle.lard_base.specs.declared.parts.EndpointParts.{EndpointParts}
-use Rattle.lard_base.specs.declared.place.Place.{Place}
-use Rattle.lard_base.specs.declared.place.Place.TheVariants.{Client, Front, Node}
 use Rattle.lard_law_connections.specs.Places.{FrontSaid, IsDecided, LetterMay, MaySay}
 use Rattle.lard_law_connections.proofs.PlacesGrowing.{FrontGrows, Grows, decided-grows}
 use Rattle.lard_law_connections.proofs.PlacesHeads.{decoded-head}
-use Rattle.lard_law_view.specs.View.{Part}
 use Rattle.lard_laws.specs.WaysState.{AskIs, FrontSaysWays, IsBy, LetterWays, NodeSaysWays, OfferIs, SaysWays, StayAsks, TagIs}
 use Rattle.lard_laws.specs.WaysUnder.{Assigned}
 use Rattle.lard_laws.specs.Ways.{WayMarks, paths_assigned, paths_wanted}
-use Rattle.lard_rules.specs.declared.front.FrontRest.{FrontRest}
-use Rattle.lard_rules.specs.Front.{is_row_at, front_rest}
-use Rattle.lard_handoff_front.specs.declared.row.FrontRow.{FrontRow}
-use Rattle.lard_history.specs.Own.{Letter}
 use Rattle.lard_history.proofs.Each.{Each}
 use Rattle.lard_message.specs.declared.kind.Kind.TheVariants as kind
-use Rattle.lard_message.specs.declared.message.Body.{Body}
 use Rattle.lard_message.specs.declared.message.Body.TheVariants as body
-use Rattle.lard_message.specs.Message.{kind_of}
-use Rattle.lard_rules.specs.declared.stay.Stay.{Stay}
-use Rattle.lard_rules.specs.Node.{NodePart}
 
 -- ---- what a move carries on
 

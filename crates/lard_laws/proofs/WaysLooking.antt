@@ -2,13 +2,11 @@
 use Rattle.std.proofs.Common.{◌≡◌, ◌≤◌, ◌+◌, ◌^◌, ℕ, zero, suc, cond, nat_lt, List, [], ◌∷◌, ◌++◌, length, take, Option, Some, None, refl, sym, ap, ◌∙◌, subst, arith, append-nil, length-append}
 use Rattle.std.specs.List.{slice_get}
 use Rattle.std.proofs.lemmas.Bool.{cond_both}
-use Rattle.lard_answers.specs.Answers.{FilesAt, IsPrefix, answer, answer_code, good_path, verdicts}
+use Rattle.lard_law_view.specs.Prelude.{ControlBlock, Done, FilesAt, Found, IsPrefix, More, Reading, Received, ServeEnv, Service, Step, Stream, Verdict, and_path, answer, answer_code, answered, awaited, begins_after, block_at, bytes_taken, consuming, cut_of, ended_at_fin, ends, fresh_bytes, front_reads, good_path, may_freeze, may_read, passed_over, queued, reading_left, reading_turn, reads_block, reads_found, runs_on, serving_consumed, verdicts}
 use Rattle.lard_answers.proofs.Firsts.{verdicts-block}
 use Rattle.lard_answers.proofs.Growing.{verdicts-grow}
 use Rattle.lard_base.specs.declared.place.Via.TheVariants.{Own}
-use Rattle.lard_block.specs.declared.block.Found.{Found}
 use Rattle.lard_block.specs.declared.block.Found.TheVariants as found
-use Rattle.lard_block.specs.Blocks.{cut_of}
 use Rattle.lard_law_connections.specs.BytesAgreement.{HasReadPending}
 use Rattle.lard_law_connections.proofs.BytesFrontReading.{IsOn, ReadsSo, block-read, long-read, turn-so}
 use Rattle.lard_law_connections.proofs.BytesServing.{MayGo, So, may-go}
@@ -16,19 +14,10 @@ use Rattle.lard_laws.specs.WaysState.{BeginsWithRequest, WaitsForNext}
 use Rattle.lard_laws.specs.Ways.{AnswersBy, AnswersNextAt, ComesAsAssigned, WayMarks, good_paths}
 use Rattle.lard_laws.proofs.WaysGoods.{good-append, next-get, prefix-take}
 use Rattle.lard_laws.proofs.WaysMarking.{Rightly, marked, marked-append, rightly-append}
-use Rattle.lard_endpoint.specs.Control.{ControlBlock, consuming}
-use Rattle.lard_endpoint.specs.Moving.{may_freeze}
-use Rattle.lard_rules.specs.FrontReading.{Reading, block_at, reading_left, front_reads, reads_block, reads_found, reading_turn}
 use Rattle.lard_rules.proofs.FrontBlocks.{KeptByTurns}
 use Rattle.lard_journal.specs.declared.rec.Rec.TheVariants as rec
-use Rattle.lard_rules.specs.Stay.{and_path}
-use Rattle.lard_recv.specs.Recv.{Received, awaited, begins_after, ends, fresh_bytes, bytes_taken}
 use Rattle.lard_request.specs.declared.verdict.Code.TheVariants as code
-use Rattle.lard_request.specs.declared.verdict.Verdict.{Verdict}
 use Rattle.lard_request.specs.declared.verdict.Verdict.TheVariants.{Fault}
-use Rattle.lard_rules.specs.Loop.{Step, More, Done, runs_on}
-use Rattle.lard_rules.specs.Serving.{ServeEnv, Service, answered, serving_consumed, ended_at_fin, may_read, passed_over, queued}
-use Rattle.lard_law_view.specs.Truth.{Stream}
 
 -- ---- the first of the unread bytes stays the first
 

@@ -1,16 +1,12 @@
 -- Batches and their assignments: one batch behind another, what came for one of the requests, and the nodes of those that had none.
 use Rattle.std.proofs.Common.{◌≡◌, ◌⊎◌, ◌==◌, ℕ, zero, suc, List, [], ◌∷◌, ◌++◌, map, Option, Some, None, inl, inr, ⊎_elim, refl, sym, ap, ◌∙◌, subst, eqb-true}
 use Rattle.std.proofs.lemmas.Bool.{cond_both}
-use Rattle.lard_answers.specs.Answers.{FilesAt, good_path}
-use Rattle.lard_base.specs.declared.place.Via.{Via}
+use Rattle.lard_law_view.specs.Prelude.{Entry, FilesAt, Progress, Via, and_path, come_on, come_progress, good_path, named_path, named_paths, path_in, read_progress}
 use Rattle.lard_base.specs.declared.place.Via.TheVariants as via
 use Rattle.lard_law_connections.proofs.BytesWorking.{verdicts_of}
 use Rattle.lard_laws.specs.WaysUnder.{Assigned, IsStarted, Lies, LiesGood, TakesFirstAssigned, Under}
 use Rattle.lard_laws.specs.Ways.{good_paths}
-use Rattle.lard_rules.specs.declared.stay.Entry.{Entry}
-use Rattle.lard_rules.specs.declared.stay.Progress.{Progress}
 use Rattle.lard_rules.specs.declared.stay.Progress.TheVariants as progress
-use Rattle.lard_rules.specs.Stay.{and_path, come_on, come_progress, named_path, named_paths, path_in, read_progress}
 
 -- ---- one request
 

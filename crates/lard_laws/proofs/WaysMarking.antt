@@ -1,25 +1,20 @@
 -- What the records of a move tell of its connection's requests.
-use Rattle.std.proofs.Common.{◌≡◌, ◌+◌, ℕ, List, [], ◌∷◌, ◌++◌, map, true, cond, refl, sym, ap, ◌∙◌, subst, nat_eq}
+use Rattle.std.proofs.Common.{◌≡◌, ◌+◌, ℕ, List, [], ◌∷◌, ◌++◌, map, true, cond, Some, None, refl, sym, ap, ◌∙◌, subst, nat_eq, ⊎_elim}
 use Rattle.std.specs.List.{fold}
 use Rattle.std.proofs.lemmas.List.Sums.{fold-append}
-use Rattle.lard_answers.specs.Answers.{FilesAt}
-use Rattle.lard_base.specs.declared.place.Place.{Place}
-use Rattle.lard_base.specs.declared.place.Place.TheVariants.{Client, Front, Node}
-use Rattle.lard_law_connections.proofs.BytesLaw.{IsHead}
-use Rattle.lard_law_view.specs.Carry.{TellsBy, tale_at}
-use Rattle.lard_law_view.specs.View.{Conn, Move, grown, seen_in, sending, timer_rows}
+use Rattle.lard_law_view.specs.Prelude.{Came, Conn, EachRow, FilesAt, Move, Packet, Place, Rec, Row, Seen, Tale, grown, plain, seen_in, seen_of, seen_step, tale_at, tale_of, tale_step, timer_rows, told_on, whose}
+use Rattle.lard_law_connections.proofs.BytesLaw.{IsHead, heads-stand}
+use Rattle.lard_law_view.specs.Carry.{TellsBy}
+use Rattle.lard_law_view.specs.View.{sending}
 use Rattle.lard_law_view.proofs.Fine.{IsItsOwn}
 use Rattle.lard_law_view.proofs.Rows.{grown-tale, move-lawful, tale_before, tale_said}
-use Rattle.lard_law_view.proofs.Saying.{GaveAt, NotedAt}
-use Rattle.lard_law_view.proofs.Timers.{IsTimerAt, timer_rows-are}
+use Rattle.lard_law_view.proofs.Saying.{NotedAt, IsOf, note-of}
 use Rattle.lard_laws.specs.WaysState.{marks_at, marks_of}
 use Rattle.lard_laws.specs.Ways.{AnswersNextAt, IsNextGood, WayMarks}
-use Rattle.lard_history.specs.Journal.{Tale, tale_step, told_on}
-use Rattle.lard_history.specs.Own.{Came, EachRow, Row, Seen, seen_step, tale_of}
 use Rattle.lard_history.proofs.Each.{Each, Each-weaker}
 use Rattle.lard_history.proofs.Seeing.{same_number}
-use Rattle.lard_journal.specs.declared.rec.Rec.{Rec}
 use Rattle.lard_journal.specs.declared.rec.Rec.TheVariants as rec
+use Rattle.lard_law_view.proofs.OfKinds.{of-gifts, of-sends, of-timers}
 
 -- ---- a record of the connection
 
@@ -89,29 +84,25 @@ IsOwnMark c (rec.AssignedFirst d r path n add remove) = d ≡ c
 IsOwnMark c (rec.AssignedLater d r path n add size queue) = d ≡ c
 IsOwnMark c _ = Unit {0}
 
-noted-own : (place : Place) (c : ℕ) (r : Rec) → NotedAt place c r → IsOwnMark c r
-noted-own (Client e) c (rec.Wrote d bytes) h = h
-noted-own Front c (rec.Wrote d bytes) h = absurd h
-noted-own (Node n) c (rec.Wrote d bytes) h = absurd h
-noted-own Front c (rec.Served Front d r code size way) h = h
-noted-own Front c (rec.Served (Node k) d r code size way) h = absurd h
-noted-own Front c (rec.Served (Client k) d r code size way) h = absurd h
-noted-own (Node n) c (rec.Served (Node k) d r code size way) h = h.1
-noted-own (Node n) c (rec.Served Front d r code size way) h = absurd h
-noted-own (Node n) c (rec.Served (Client k) d r code size way) h = absurd h
-noted-own (Client e) c (rec.Served place d r code size way) h = absurd h
-noted-own Front c (rec.AssignedFirst d r path n add remove) h = h
-noted-own (Node k) c (rec.AssignedFirst d r path n add remove) h = absurd h
-noted-own (Client k) c (rec.AssignedFirst d r path n add remove) h = absurd h
-noted-own Front c (rec.AssignedLater d r path n add size queue) h = h
-noted-own (Node k) c (rec.AssignedLater d r path n add size queue) h = absurd h
-noted-own (Client k) c (rec.AssignedLater d r path n add size queue) h = absurd h
+-- a note that names somebody is of the connection
+names : (c d : ℕ) (r : Rec) → whose r ≡ Some d → IsOf c r → d ≡ c
+names c d r of note = ⊎_elim
+    (λ (k : (whose r ≡ Some c) × (plain r ≡ r)). let e : Some d ≡ Some c = sym of ∙ k.0 in cc)
+    (λ (k : (whose r ≡ None) × ((q : ℕ) (net : List Packet) → seen_of q net r ≡ [])). let no : Some d ≡ None = sym of ∙ k.0 in absurd cc)
+    note
+
+pub noted-own : (place : Place) (c : ℕ) (r : Rec) → NotedAt place c r → IsOwnMark c r
+noted-own place c (rec.Wrote d bytes) h = names c d (rec.Wrote d bytes) refl (note-of place c (rec.Wrote d bytes) h)
+noted-own place c (rec.Served p d r code size way) h = names c d (rec.Served p d r code size way) refl (note-of place c (rec.Served p d r code size way) h)
+noted-own place c (rec.AssignedFirst d r path n add remove) h = names c d (rec.AssignedFirst d r path n add remove) refl (note-of place c (rec.AssignedFirst d r path n add remove) h)
+noted-own place c (rec.AssignedLater d r path n add size queue) h =
+    names c d (rec.AssignedLater d r path n add size queue) refl (note-of place c (rec.AssignedLater d r path n add size queue) h)
 noted-own place c _ h = tt
 
 mine : (d c : ℕ) → d ≡ c → nat_eq d c ≡ true
 mine d c e = subst (λ (n : ℕ). nat_eq n c ≡ true) (sym e) (same_number c)
 
-one-step : (c : ℕ) (t : Tale) (r : Rec) → IsOwnMark c r → marks_of (tale_step c t r) ≡ mark (marks_of t) r
+pub one-step : (c : ℕ) (t : Tale) (r : Rec) → IsOwnMark c r → marks_of (tale_step c t r) ≡ mark (marks_of t) r
 one-step c t (rec.Wrote d bytes) h = ap (λ b. record (marks_of t) { wrote = cond b (t.wrote ++ bytes) t.wrote }) (mine d c h)
 one-step c t (rec.Served place d r code size way) h = ap (λ b. record (marks_of t) { served = cond b (t.served + 1) t.served }) (mine d c h)
 one-step c t (rec.AssignedFirst d r path n add remove) h = ap (λ b. record (marks_of t) { assigned = cond b (t.assigned ++ (path, n) ∷ []) t.assigned }) (mine d c h)
@@ -122,7 +113,7 @@ module _ (files : FilesAt) (c : ℕ) where
   abbrev pub MayTell : Tale → Rec → Type 0
   MayTell t r = MayMark files (marks_of t) r
 
-  told-marks : (t : Tale) (rs : List Rec) → Each (IsOwnMark c) rs → marks_of (told_on c t rs) ≡ marked (marks_of t) rs
+  pub told-marks : (t : Tale) (rs : List Rec) → Each (IsOwnMark c) rs → marks_of (told_on c t rs) ≡ marked (marks_of t) rs
   told-marks t [] own = refl
   told-marks t (r ∷ rs) own = told-marks (tale_step c t r) rs own.1 ∙ ap (λ (m : WayMarks). marked m rs) (one-step c t r own.0)
 
@@ -141,7 +132,7 @@ module _ (files : FilesAt) (c : ℕ) where
   plain-tells : (t : Tale) (rs : List Rec) → Each IsPlain rs → TellsBy MayTell c t rs
   plain-tells t rs h = told-rightly t rs (Each-weaker IsPlain (IsOwnMark c) plain-own rs h) (plain-rightly files (marks_of t) rs h)
 
-  plain-told : (t : Tale) (rs : List Rec) → Each IsPlain rs → marks_of (told_on c t rs) ≡ marks_of t
+  pub plain-told : (t : Tale) (rs : List Rec) → Each IsPlain rs → marks_of (told_on c t rs) ≡ marks_of t
   plain-told t rs h = told-marks t rs (Each-weaker IsPlain (IsOwnMark c) plain-own rs h) ∙ plain-marked (marks_of t) rs h
 
   -- what the connection sees of a record
@@ -150,21 +141,10 @@ module _ (files : FilesAt) (c : ℕ) where
 
 -- ---- what a move tells beside its notes
 
-sends-plain : (place : Place) (ss : List (Place × List ℕ)) → Each IsPlain (map (sending place) ss)
-sends-plain place [] = tt
-sends-plain place (s ∷ ss) = (tt, sends-plain place ss)
+pub sends-plain : (place : Place) (ss : List (Place × List ℕ)) → Each IsPlain (map (sending place) ss)
+sends-plain = of-sends IsPlain (λ k from to bytes. tt)
 
-gave-plain : (place : Place) (c : ℕ) (r : Rec) → GaveAt place c r → IsPlain r
-gave-plain Front c (rec.Gave Front d epoch) h = tt
-gave-plain (Node n) c (rec.Gave (Node k) d epoch) h = tt
-gave-plain _ c _ h = absurd h
-
-timer-plain : (place : Place) (d : ℕ) (r : Rec) → IsTimerAt place d r → IsPlain r
-timer-plain place d (rec.Armed p k kind) h = tt
-timer-plain place d (rec.Cleared p k kind) h = tt
-timer-plain place d _ h = absurd h
-
-heads-marks : (c : ℕ) (heads : List Seen) (t : Tale) → Each IsHead heads → marks_of (fold (seen_step (tale_step c)) t heads) ≡ marks_of t
+pub heads-marks : (c : ℕ) (heads : List Seen) (t : Tale) → Each IsHead heads → marks_of (fold (seen_step (tale_step c)) t heads) ≡ marks_of t
 heads-marks c [] t h = refl
 heads-marks c (Came l ∷ ss) t h = heads-marks c ss t h.1
 heads-marks c (Row (rec.Event i e) ∷ ss) t h = heads-marks c ss (tale_step c t (rec.Event i e)) h.1
@@ -172,11 +152,7 @@ heads-marks c (Row (rec.Opened d isn iss wnd mss) ∷ ss) t h = heads-marks c ss
 heads-marks c (Row _ ∷ ss) t h = absurd h.0
 
 heads-mine : (files : FilesAt) (c : ℕ) (past heads : List Seen) → Each IsHead heads → EachRow (Mine files c) past heads
-heads-mine files c past [] h = tt
-heads-mine files c past (Came l ∷ ss) h = heads-mine files c (past ++ Came l ∷ []) ss h.1
-heads-mine files c past (Row (rec.Event i e) ∷ ss) h = (tt, heads-mine files c (past ++ Row (rec.Event i e) ∷ []) ss h.1)
-heads-mine files c past (Row (rec.Opened d isn iss wnd mss) ∷ ss) h = (tt, heads-mine files c (past ++ Row (rec.Opened d isn iss wnd mss) ∷ []) ss h.1)
-heads-mine files c past (Row _ ∷ ss) h = absurd h.0
+heads-mine files c = heads-stand (Mine files c) (λ past i e. tt) (λ past d isn iss wnd mss. tt)
 
 -- ---- a move
 
@@ -200,7 +176,7 @@ module _ (files : FilesAt) (x : Conn) (v : Move) (own : IsItsOwn x v) (heads : E
   timers = timer_rows v.place x.c x.part v.part
 
   gave : Each IsPlain v.said.gave
-  gave = Each-weaker (GaveAt v.place x.c) IsPlain (gave-plain v.place x.c) v.said.gave own.gave
+  gave = of-gifts IsPlain (λ p d epoch. tt) v.place x.c v.said.gave own.gave
 
   before-same : marks_of before ≡ marks_at x
   unfolding before
@@ -236,4 +212,4 @@ module _ (files : FilesAt) (x : Conn) (v : Move) (own : IsItsOwn x v) (heads : E
       (plain-tells files x.c noted segments (sends-plain v.place v.said.segments))
       (plain-tells files x.c (told_on x.c noted segments) v.said.gave gave)
       (plain-tells files x.c (tale_said x v before) messages (sends-plain v.place v.said.messages))
-      (plain-tells files x.c (told_on x.c (tale_said x v before) messages) timers (Each-weaker (IsTimerAt v.place x.c) IsPlain (timer-plain v.place x.c) timers (timer_rows-are v.place x.c x.part v.part)))
+      (plain-tells files x.c (told_on x.c (tale_said x v before) messages) timers (of-timers IsPlain (λ p d kind. (tt, tt)) v.place x.c x.part v.part))

@@ -4,14 +4,11 @@ use Rattle.std.specs.List.{slice_get}
 use Rattle.std.proofs.lemmas.Bool.{both_ways, eqb-true}
 use Rattle.std.proofs.lemmas.List.{map-append}
 use Rattle.std.proofs.lemmas.List.Sums.{fold-append}
-use Rattle.lard_answers.specs.Answers.{FilesAt, IsPrefix, verdicts}
+use Rattle.lard_law_view.specs.Prelude.{EachMay, FilesAt, IsPrefix, Rec, assigned, assigned_step, is_touched, touched_step, verdicts, wrote, wrote_step}
 use Rattle.lard_answers.proofs.Growing.{IsPrefix-trans}
 use Rattle.lard_laws.specs.Ways.{AssignsAPrefix, MayBeAssigned, good_paths}
 use Rattle.lard_laws.proofs.WaysGoods.{goods-paths, wanted-grow}
-use Rattle.lard_history.specs.Journal.{assigned, assigned_step, is_touched, touched_step, wrote, wrote_step}
-use Rattle.lard_history.specs.Laws.{EachMay}
 use Rattle.lard_history.proofs.Each.{each_then}
-use Rattle.lard_journal.specs.declared.rec.Rec.{Rec}
 use Rattle.lard_journal.specs.declared.rec.Rec.TheVariants as rec
 
 abbrev Chosen : Type 0

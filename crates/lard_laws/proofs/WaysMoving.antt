@@ -1,22 +1,14 @@
 -- A move leaves a connection on its way, where its notes may stand, its seat agrees, and what is said agrees.
 use Rattle.std.proofs.Common.{◌≡◌, ◌⊎◌, ℕ, List, [], ◌∷◌, ◌++◌, map, Ok, inl, refl, sym, ◌∙◌, subst, append-nil}
-use Rattle.lard_answers.specs.Answers.{FilesAt, IsPrefix}
-use Rattle.lard_base.specs.declared.place.Place.{Place}
-use Rattle.lard_base.specs.declared.place.Place.TheVariants.{Client, Front, Node}
+use Rattle.lard_law_view.specs.Prelude.{AreSent, Client, Conn, EachRow, FilesAt, Front, IsPrefix, Kept, Letter, Message, Move, Node, Part, Place, Seen, TurnSaid, Was, decoded_message, grown, letter, letters_of, seen_in, sent_of, stands}
 use Rattle.lard_law_connections.proofs.BytesLaw.{Helps}
 use Rattle.lard_law_connections.proofs.BytesClientMoves.{has-fair}
 use Rattle.lard_law_connections.proofs.PlacesGrowing.{grows-still}
-use Rattle.lard_law_view.specs.View.{AreSent, Conn, Move, Part, TurnSaid, Was, grown, letter, letters_of, seen_in, stands}
 use Rattle.lard_laws.specs.WaysState.{GoesItsWay, LetterWays, SeatWays, marks_at}
 use Rattle.lard_laws.specs.Ways.{BodyGoesOn, WayMarks, paths_assigned, paths_wanted}
 use Rattle.lard_laws.proofs.WaysLetters.{Carries, IsSame, carries-same, letters-on}
 use Rattle.lard_laws.proofs.WaysMarking.{IsPlain, Mine, Rightly, marked, marks-after, plain-marked, plain-rightly, rows-mine}
-use Rattle.lard_history.specs.Own.{EachRow, Letter, Seen}
 use Rattle.lard_history.proofs.Each.{Each, Each-append}
-use Rattle.lard_message.specs.declared.message.Message.{Message}
-use Rattle.lard_message.specs.Reading.{decoded_message}
-use Rattle.lard_resend.specs.declared.kept.Kept.{Kept}
-use Rattle.lard_resend.specs.Pending.{sent_of}
 
 -- What a node sends was sent before, or the paths of an Ask go on from those that were assigned.
 abbrev pub AskTo : FilesAt → WayMarks → Conn → Place → Place → List ℕ → Type 0

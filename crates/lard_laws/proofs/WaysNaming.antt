@@ -1,17 +1,10 @@
 -- The paths of each Ask go on from those that were assigned, in every run.
 use Rattle.std.proofs.Common.{◌≡◌, ◌≤◌, ◌^◌, ℕ, false, List, [], Some, None, ap, ◌∙◌, sym, subst}
-use Rattle.lard_answers.specs.Answers.{FilesAt}
-use Rattle.lard_base.specs.declared.config.Config.{Config}
-use Rattle.lard_base.specs.declared.place.Place.{Place}
-use Rattle.lard_base.specs.declared.place.Place.TheVariants.{Client, Front, Node}
-use Rattle.lard_rules.specs.declared.machine.Machine.{Machine}
-use Rattle.lard_rules.specs.Machine.{IsReached}
+use Rattle.lard_law_view.specs.Prelude.{Client, Config, Conn, EachRow, FilesAt, Front, Guarded, IsGuardedLaw, IsReached, Machine, MayRestOn, Move, Node, OfEach, Place, Rec, Seen, Setting, Tale, Untouched, WhileUntouched, conn, file_at, grown, is_touched, own, plain, seen_in, setting, tale_at, tale_of, whose}
 use Rattle.lard_law_connections.proofs.BytesLaw.{Helps}
 use Rattle.lard_law_connections.proofs.BytesRuns.{states-truthful}
 use Rattle.lard_law_connections.proofs.OffersSent.{AreSeen, grown-seen, own-sends}
 use Rattle.lard_law_connections.proofs.PlacesRuns.{each-placed}
-use Rattle.lard_law_view.specs.Carry.{Guarded, IsGuardedLaw, MayRestOn, OfEach, Untouched, WhileUntouched, setting, tale_at}
-use Rattle.lard_law_view.specs.View.{Conn, Move, Setting, conn, grown, seen_in}
 use Rattle.lard_law_view.proofs.Carried.{carried}
 use Rattle.lard_law_view.proofs.Guarded.{guarded-law, untouched-weaker}
 use Rattle.lard_law_view.proofs.InSteps.{carried-records}
@@ -23,12 +16,8 @@ use Rattle.lard_laws.proofs.WaysAsking.{Names, move-may, rows-name}
 use Rattle.lard_laws.proofs.WaysMoving.{IsMade}
 use Rattle.lard_laws.proofs.WaysRuns.{All, all, each-guarded, helped, made, marks-own}
 use Rattle.lard_laws.proofs.WaysRuns as ways
-use Rattle.lard_files.specs.Files.{file_at}
-use Rattle.lard_history.specs.Journal.{Tale, is_touched}
-use Rattle.lard_history.specs.Own.{EachRow, Seen, own, plain, tale_of, whose}
 use Rattle.lard_history.proofs.Lifting.{tale-own}
 use Rattle.lard_history.proofs.Tales.{touched-tale}
-use Rattle.lard_journal.specs.declared.rec.Rec.{Rec}
 use Rattle.lard_journal.specs.declared.rec.Rec.TheVariants as rec
 
 -- ---- a law

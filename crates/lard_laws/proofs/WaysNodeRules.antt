@@ -1,38 +1,30 @@
 -- All rules of a node, and what changes nothing, leave a connection on its way.
-use Rattle.std.proofs.Common.{◌≤◌, ◌+◌, ◌^◌, ℕ, Bool, true, false, cond, List, [], ◌∷◌, Option, Some, None, Result, refl, sym, ap, ◌∙◌, subst}
-use Rattle.lard_answers.specs.Answers.{FilesAt}
-use Rattle.lard_base.specs.declared.event.Event.TheVariants as event
-use Rattle.lard_base.specs.declared.place.Place.{Place}
-use Rattle.lard_base.specs.declared.place.Place.TheVariants.{Front, Node}
+use Rattle.std.proofs.Common.{◌≡◌, ◌≤◌, ◌+◌, ◌^◌, ℕ, List, [], ◌∷◌, ◌++◌, Option, Some, None, refl, sym, subst}
+use Rattle.lard_law_view.specs.Prelude.{AreSent, BackRow, Completed, Conn, FilesAt, IsNodeEnv, Move, Node, NodeDeed, NodeEnv, NodeGets, NodePart, NodeRules, Place, Rec, Seen, Setting, again_sent, brought_said, content_said, front_rest, gone, node_does, node_saying, nothing_said, offered_by, packet_seen, stands, taken_sent, without}
 use Rattle.lard_base.specs.declared.place.TimerKind.TheVariants as timer
-use Rattle.lard_law_connections.specs.BytesAgreement.{IsFair, IsTruthful}
-use Rattle.lard_law_connections.proofs.BytesClientMoves.{has-fair, open-at}
-use Rattle.lard_law_connections.proofs.BytesFrontMessages.{opened-at}
-use Rattle.lard_law_connections.proofs.BytesNodeRest.{by-station, front-opens, nothing-here}
-use Rattle.lard_law_connections.specs.Places.{IsDecided, IsPast}
-use Rattle.lard_law_view.specs.View.{Conn, IsNodeEnv, Move, NodeRules, Setting, SpellsMessage, Was, brought_said, content_said, event_seen, node_does, nothing_said, packet_seen, reads_first, stands}
-use Rattle.lard_law_view.proofs.Parts.{put-each}
-use Rattle.lard_laws.specs.WaysState.{GoesItsWay, StayAsks, marks_at}
-use Rattle.lard_laws.specs.Ways.{WayMarks}
-use Rattle.lard_laws.proofs.WaysHomes.{seat-kept}
-use Rattle.lard_laws.proofs.WaysLetters.{carries-same}
-use Rattle.lard_laws.proofs.WaysMoving.{IsMade, Keeps, makes, none-asked, same-marks, stands-makes}
-use Rattle.lard_laws.proofs.WaysNodes.{contents-keep, fires-keep, forwards-keep, read-keeps, tags-keep}
-use Rattle.lard_laws.proofs.WaysOffered.{offered-keep}
-use Rattle.lard_rules.specs.Front.{front_rest}
-use Rattle.lard_handoff_back.specs.declared.row.BackRow.{BackRow}
-use Rattle.lard_handoff_back.specs.Back.{awaits_ack}
-use Rattle.lard_history.specs.Own.{Seen}
+use Rattle.lard_handoff_back.specs.declared.table.Adopt.TheVariants.{New}
+use Rattle.lard_history.proofs.Each.{Each, Each-append}
 use Rattle.lard_journal.specs.declared.rec.Rec.TheVariants as rec
+use Rattle.lard_law_connections.specs.BytesAgreement.{IsTruthful}
+use Rattle.lard_law_connections.proofs.BytesClientMoves.{open-at}
+use Rattle.lard_law_connections.proofs.BytesFrontMessages.{opened-at}
+use Rattle.lard_law_connections.proofs.BytesNodeRest.{front-opens}
+use Rattle.lard_law_connections.specs.Places.{IsDecided, IsPast}
+use Rattle.lard_law_view.proofs.EachNode.{Answers, Aside, Brings, MayAside, NodeComes, Queues, aside_said, aside_seen, each-node, job_notes, node_goes, told_first}
+use Rattle.lard_law_view.proofs.Parts.{put-each}
+use Rattle.lard_laws.specs.WaysState.{StayAsks, marks_at}
+use Rattle.lard_laws.specs.Ways.{WayMarks}
+use Rattle.lard_laws.proofs.NodeStays.{word-of}
+use Rattle.lard_laws.proofs.WaysHomes.{quiet-asks, quiet-says, seat-kept, sent-append}
+use Rattle.lard_laws.proofs.WaysLetters.{carries-same}
+use Rattle.lard_laws.proofs.WaysMarking.{IsPlain}
+use Rattle.lard_laws.proofs.WaysMoving.{Keeps, makes, none-asked, same-marks, sent-ask, sent-say, stands-makes}
+use Rattle.lard_laws.proofs.WaysNodes.{comes, fires, hears, reads, tags}
+use Rattle.lard_laws.proofs.WaysOffered.{new-makes}
+use Rattle.lard_message.specs.declared.kind.Kind.TheVariants as kind
 use Rattle.lard_message.specs.declared.message.Body.TheVariants as body
-use Rattle.lard_rules.specs.Node.{NodeDeed, Does, Drops, NodePart, come_by, gone, node_acknowledged, node_content, node_forwarded, node_read, node_read_by, node_saying}
-use Rattle.lard_rules.specs.Stay.{NodeEnv}
-use Rattle.lard_resend.specs.Kept.{without}
-use Rattle.lard_segment.specs.declared.fault.SegFault.{SegFault}
-use Rattle.lard_segment.specs.declared.segment.Dir.TheVariants.{ToCluster}
-use Rattle.lard_segment.specs.Segment.{decoded}
-use Rattle.lard_segment.specs.Segment as spelling
-use Rattle.lard_segment.proofs.Again.{again}
+use Rattle.lard_rules.proofs.NodeCases.{KeptByNode, node-keeps}
+use Rattle.lard_rules.specs.Node.{Does, Says}
 
 -- ---- the acknowledgement of an end
 
@@ -61,11 +53,21 @@ module _ (files : FilesAt) (x : Conn) (n : ℕ) (heads : List Seen) where
       (λ i e ps c d a. put-each x.part.nodes n q (λ j (z : NodePart). StayAsks files ((front_rest x.part.front.rest).asks + 1) ps (x.part.nodes j).stay → StayAsks files ((front_rest x.part.front.rest).asks + 1) ps z.stay) (λ b. b) (λ j other b. b) i a))
       (λ old. tt) tt
 
-  acknowledged-keep : (env : NodeEnv) → Keeps files x (node_does x n heads (node_acknowledged env p))
-  acknowledged-keep env = go (awaits_ack env.epoch p.row) where
-    go : (b : Bool) → Keeps files x (node_does x n heads (cond b (Does (q, node_saying [])) Drops))
-    go true = gone-makes
-    go false = stands-makes files x (Node n) heads nothing_said tt (λ old. tt) tt
+-- ---- what is said alone
+
+module _ (files : FilesAt) (x : Conn) (n : ℕ) (env : NodeEnv) (heads : List Seen) where
+  answer-makes : Keeps files x (node_does x n heads (Says (taken_sent env)))
+  answer-makes = stands-makes files x (Node n) heads (record nothing_said { messages = taken_sent env }) tt
+      (λ old. (quiet-says files (marks_at x) x.part n env.serve.c env.epoch body.Taken (λ ask. let no : kind.Taken ≡ kind.Ask = ask in cc), tt))
+      (quiet-asks files (marks_at x) x n env.serve.c env.epoch body.Taken (λ ask. let no : kind.Taken ≡ kind.Ask = ask in cc), tt)
+
+  -- what was said before
+  again-makes : Keeps files x (node_does x n heads (Says (again_sent (x.part.nodes n))))
+  again-makes help g =
+      let p : NodePart = x.part.nodes n in
+      let sent : AreSent x (Node n) (p.kept ++ p.fetches) = sent-append x (Node n) p.kept p.fetches (help.sound.kept n) (help.sound.fetches n) in
+      stands-makes files x (Node n) heads (record nothing_said { messages = again_sent p }) tt (λ old. sent-say files (marks_at x) x.part x (Node n) (p.kept ++ p.fetches) sent old)
+      (sent-ask files (marks_at x) x n (p.kept ++ p.fetches) sent) help g
 
 -- ---- the rules
 
@@ -74,49 +76,54 @@ module _ (k : Setting) (small : k.stream ≤ 2 ^ 30) where
   abbrev pub Owes : Conn → Move → Type 0
   Owes x v = IsTruthful k.files x → Keeps k.files x v
 
-  forwarded : (x : Conn) (n epoch : ℕ) (env : NodeEnv) (segment bytes : List ℕ) → IsNodeEnv k x.c n epoch env → SpellsMessage x.c epoch (body.Forward segment) bytes → Was x Front (Node n) bytes
-      → Owes x (node_does x n (packet_seen Front (Node n) bytes) (node_forwarded env (x.part.nodes n) (decoded segment x.c ToCluster)))
-  forwarded x n epoch env segment bytes is spells was h =
-      let opened = opened-at k.files x h (front-opens x n bytes was) in
-      let o = open-at k.files x opened.0 opened.1 h in
-      let f = (has-fair (IsFair h.talk x.c x.part) (record { from = Front; to = Node n; bytes = bytes }) x.letters was o.fair) _ spells in
-      let heads : List Seen = packet_seen Front (Node n) bytes in
-      subst (λ (r : Result spelling.Said SegFault). Keeps k.files x (node_does x n heads (node_forwarded env (x.part.nodes n) r)))
-      (sym (ap (λ (b : List ℕ). decoded b x.c ToCluster) f.1 ∙ again x.c ToCluster f.0 f.2.sendable))
-      (forwards-keep k small x opened.0 opened.1 h.talk h.pend o n epoch env is heads f.0 f.2)
+  -- behind the record of a job that was completed, or of none
+  module _ (x : Conn) (truth : IsTruthful k.files x) (n epoch : ℕ) (env : NodeEnv) (is : IsNodeEnv k x.c n epoch env) (heads : List Seen) (first : List Rec) (plain : Each IsPlain first) where
+    abbrev After : NodeDeed → Type 0
+    After d = Keeps env.serve.files x (told_first first (node_does x n heads d))
 
-  content : (x : Conn) (n from epoch r : ℕ) (env : NodeEnv) (file bytes : List ℕ) → IsNodeEnv k x.c n epoch env → Was x (Node from) (Node n) bytes
-      → Owes x (node_does x n (packet_seen (Node from) (Node n) bytes) (node_content env (x.part.nodes n) from r))
-  content x n from epoch r env file bytes is was h help =
-      let heads : List Seen = packet_seen (Node from) (Node n) bytes in
-      by-station k small x (GoesItsWay k.files x → IsMade k.files x (node_does x n heads (node_content env (x.part.nodes n) from r)))
-      (λ s there. contents-keep k small x s there h.talk h.pend (open-at k.files x s there h) n epoch env is heads from r help)
-      (λ none. subst (λ (d : NodeDeed). Keeps k.files x (node_does x n heads d)) (sym (ap (come_by env from r (x.part.nodes n)) (nothing-here k.files x none h n env.epoch help.placed.sits))) (stands-makes k.files x (Node n) heads nothing_said tt (λ old. tt) tt) help)
+    abbrev Comes : NodeGets → Type 0
+    Comes g = NodeComes x n epoch heads g × (first ≡ job_notes x.c n g)
 
-  read : (x : Conn) (n epoch r : ℕ) (env : NodeEnv) (path : List ℕ) → IsNodeEnv k x.c n epoch env → Owes x (reads_first (rec.Read n n x.c r path) (node_does x n [] (node_read env (x.part.nodes n) r)))
-  read x n epoch r env path is h help =
-      by-station k small x (GoesItsWay k.files x → IsMade k.files x (reads_first (rec.Read n n x.c r path) (node_does x n [] (node_read env (x.part.nodes n) r))))
-      (λ s there. read-keeps k small x s there h.talk h.pend (open-at k.files x s there h) n epoch env is r path help)
-      (λ none. subst (λ (d : NodeDeed). Keeps k.files x (reads_first (rec.Read n n x.c r path) (node_does x n [] d))) (sym (ap (node_read_by env r (x.part.nodes n)) (nothing-here k.files x none h n env.epoch help.placed.sits)))
-      (stands-makes k.files x (Node n) [] (record nothing_said { notes = rec.Read n n x.c r path ∷ [] }) (tt, tt) (λ old. tt) tt) help)
+    alone : first ≡ [] → (d : NodeDeed) → Keeps env.serve.files x (node_does x n heads d) → After d
+    alone none d h = subst (λ (rs : List Rec). Keeps env.serve.files x (told_first rs (node_does x n heads d))) (sym none) h
+
+    rules_keep : KeptByNode env (x.part.nodes n) Comes After
+    rules_keep = record {
+      drops = stands-makes env.serve.files x (Node n) heads (record nothing_said { notes = first ++ [] }) (Each-append IsPlain first [] plain tt) (λ old. tt) tt;
+      hears = λ said b t m here. hears k small x truth n epoch env is heads first plain b t here said (word-of k x truth n epoch heads said m.0);
+      tags = λ number nodes b t m here asked same count.
+          tags k small x truth n epoch env is heads first plain b t here number nodes m.0.bytes m.0.spells m.0.was same count;
+      comes = λ from r b t m here wanted. comes k small x truth n epoch env is heads first plain b t here from r;
+      reads = λ r path b t m here. reads k small x truth n epoch env is heads first plain b t here r;
+      begins = λ parts m new.
+          let s = opened-at k.files x truth (front-opens x n m.0.bytes m.0.was) in
+          alone m.1 (offered_by env parts (x.part.nodes n) New)
+          (new-makes k small x s.0 s.1 truth.talk truth.pend (open-at k.files x s.0 s.1 truth) n epoch env is parts m.0.bytes m.0.spells m.0.was heads new);
+      takes_again = λ parts m again. alone m.1 (Says (taken_sent env)) (answer-makes env.serve.files x n env heads);
+      fires = λ b t m here. fires k small x truth n epoch env is heads first plain b t here;
+      resends = λ m none. alone m.1 (Says (again_sent (x.part.nodes n))) (again-makes env.serve.files x n env heads);
+      ends = λ m told.
+          alone m.1 (Does (record (x.part.nodes n) { row = gone (x.part.nodes n).row; kept = without timer.Ended 0 (x.part.nodes n).kept }, node_saying [])) (gone-makes env.serve.files x n heads);
+    }
+
+  jobs-plain : (c n : ℕ) (g : NodeGets) → Each IsPlain (job_notes c n g)
+  jobs-plain c n (Completed r path) = (tt, tt)
+  jobs-plain c n _ = tt
+
+  asides-keep : (x : Conn) (n : ℕ) (a : Aside) → MayAside k x n a → Owes x (stands x (Node n) (aside_seen n a) (aside_said k n x.c a))
+  asides-keep x n (Answers from epoch r path file bytes) may h = stands-makes k.files x (Node n) (packet_seen (Node from) (Node n) bytes) (content_said k n from x.c epoch r path) tt (λ old. (tt, tt)) (tt, tt)
+  asides-keep x n (Queues from epoch r path file bytes) may h = stands-makes k.files x (Node n) (packet_seen (Node from) (Node n) bytes) (record nothing_said { notes = rec.Queued n from x.c r path ∷ [] }) (tt, tt) (λ old. tt) tt
+  asides-keep x n (Brings from epoch r path) may h = stands-makes k.files x (Node n) [] (brought_said k n from x.c epoch r path) (tt, tt) (λ old. (tt, tt)) (tt, tt)
 
   pub nodes : NodeRules k Owes
-  nodes = record {
-    offered = λ x n epoch env parts bytes is spells was h.
-        let opened = opened-at k.files x h (front-opens x n bytes was) in
-        offered-keep k small x opened.0 opened.1 h.talk h.pend (open-at k.files x opened.0 opened.1 h) n epoch env is parts bytes spells was;
-    forwarded = forwarded;
-    tagged = λ x n epoch number tags env bytes is spells was h.
-        let opened = opened-at k.files x h (front-opens x n bytes was) in
-        tags-keep k small x opened.0 opened.1 h.talk h.pend (open-at k.files x opened.0 opened.1 h) n epoch env is (packet_seen Front (Node n) bytes) number tags bytes spells was;
-    content = λ x n from epoch r env file bytes is spells was. content x n from epoch r env file bytes is was;
-    acknowledged = λ x n epoch env bytes is spells was h. acknowledged-keep k.files x n (packet_seen Front (Node n) bytes) env;
-    read = read;
-    fires = λ x s n env there is h. fires-keep k small x s there h.talk h.pend (open-at k.files x s there h) n _ env is (event_seen (event.Timer (Node n) x.c)) is.epoch_is;
-    answers = λ x n from epoch r path file bytes there spells was h. stands-makes k.files x (Node n) (packet_seen (Node from) (Node n) bytes) (content_said k n from x.c epoch r path) tt (λ old. (tt, tt)) (tt, tt);
-    queues = λ x n from epoch r path file bytes there spells was h. stands-makes k.files x (Node n) (packet_seen (Node from) (Node n) bytes) (record nothing_said { notes = rec.Queued n from x.c r path ∷ [] }) (tt, tt) (λ old. tt) tt;
-    brings = λ x n from epoch r path h. stands-makes k.files x (Node n) [] (brought_said k n from x.c epoch r path) (tt, tt) (λ old. (tt, tt)) (tt, tt);
-  }
+  nodes = each-node k Owes (record {
+    does = λ x n epoch env heads g is at comes h.
+        let first : List Rec = job_notes x.c n g in
+        let all = rules_keep x h n epoch env is heads first (jobs-plain x.c n g) in
+        subst (λ (f : FilesAt). Keeps f x (node_goes x n env heads g)) is.files
+        (node-keeps env (x.part.nodes n) (Comes x h n epoch env is heads first (jobs-plain x.c n g)) (After x h n epoch env is heads first (jobs-plain x.c n g)) all g at (comes, refl));
+    aside = asides-keep;
+  })
 
   -- a packet comes, and nothing is done
   pub ignores : (x : Conn) (from to : Place) (bytes : List ℕ) → Owes x (stands x to (packet_seen from to bytes) nothing_said)

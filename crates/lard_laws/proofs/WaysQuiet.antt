@@ -1,46 +1,19 @@
 -- What a node says of its own connections, and what it holds of them until that is answered, is no content.
-use Rattle.std.proofs.Common.{◌≡◌, ℕ, true, List, [], ◌∷◌, ◌++◌, map, Option, Some, None, Result, Ok, Err, ◌∙◌}
-use Rattle.std.proofs.lemmas.Bool.{cond_both}
-use Rattle.std.specs.List.{AllByRecursion, find}
-use Rattle.lard_base.specs.declared.parts.EndpointParts.{EndpointParts}
-use Rattle.lard_base.specs.declared.place.Place.{Place}
-use Rattle.lard_base.specs.declared.place.Place.TheVariants.{Client}
-use Rattle.lard_base.specs.declared.place.TimerKind.{TimerKind}
+use Rattle.std.proofs.Common.{◌≡◌, ℕ, true, List, [], ◌∷◌, ◌++◌, map, Option, Some, None, ◌∙◌}
+use Rattle.std.specs.List.{AllByRecursion}
+use Rattle.lard_law_view.specs.Prelude.{Asked, Body, Client, Ending, Final, Kept, NodeDeed, NodeEnv, NodeGets, NodePart, NodeTurn, Place, Service, TimerKind, Turn, Want, Work, after_timer, again_sent, all_sent, anew, ask_kept, asked_kept, asked_sent, came_for, come_progress, ended_kept, ended_sent, fetch_of, goes_on, kept_after, kind_of, node_begins, node_rule, on_segment, read_progress, reads_batch, sent_of, serving, serving_ready_of, serving_settled, spoken, state_of, tagged, taken_sent, timed, turn_by, wants_kept, wants_sent, with_work, without, work_of}
 use Rattle.lard_base.specs.declared.place.TimerKind.TheVariants as timer
 use Rattle.lard_law_connections.proofs.PlacesHeads.{kinds-same}
 use Rattle.lard_law_connections.proofs.PlacesLoops.{settled-is, spoken-to}
 use Rattle.lard_law_view.proofs.Nodes.{anew-all}
 use Rattle.lard_laws.specs.WaysContents.{IsContentMessage}
-use Rattle.lard_endpoint.specs.Arriving.{on_segment}
-use Rattle.lard_endpoint.specs.Control.{ControlBlock}
-use Rattle.lard_endpoint.specs.declared.control.moving.Final.{Final}
-use Rattle.lard_endpoint.specs.Leaving.{after_timer, timed}
-use Rattle.lard_handoff_back.specs.declared.table.Adopt.{Adopt}
-use Rattle.lard_handoff_back.specs.declared.table.Adopt.TheVariants.{New, Again, Stale}
-use Rattle.lard_handoff_back.specs.Back.{awaits_ack, back_endpoint, offer_answer}
 use Rattle.lard_history.proofs.Each.{Each, Each-append}
-use Rattle.lard_lateral.specs.Lateral.{is_from}
 use Rattle.lard_message.specs.declared.kind.Kind.TheVariants as kind
-use Rattle.lard_message.specs.declared.message.Body.{Body}
 use Rattle.lard_message.specs.declared.message.Body.TheVariants as body
-use Rattle.lard_message.specs.Message.{kind_of}
-use Rattle.lard_rules.specs.declared.node.NodeTurn.{NodeTurn}
-use Rattle.lard_rules.specs.declared.stay.Asked.{Asked}
-use Rattle.lard_rules.specs.declared.stay.Stay.{Stay}
-use Rattle.lard_rules.specs.declared.stay.Want.{Want}
-use Rattle.lard_rules.specs.Node.{NodeDeed, Drops, Says, Does, NodePart, again_sent, all_sent, anew, ask_kept, asked_kept, asked_sent, node_begins, both_of, come_by, ended_kept, ended_sent, fetch_of, node_fired_by, gone, node_heard_by, here, is_tag_awaited, kept_after, message, node_acknowledged, node_content, node_forwarded, node_offered, node_read, node_tagged, node_timer, offered_by, node_read_by, node_saying, tagged_by, taken_sent, turn_by, wants_kept, wants_sent, with_work, work_of}
-use Rattle.lard_rules.specs.Stay.{NodeEnv, Work, came_for, come_progress, goes_on, read_progress, reads_batch, tagged}
-use Rattle.lard_resend.specs.declared.kept.Kept.{Kept}
-use Rattle.lard_resend.specs.Kept.{is_under, without}
-use Rattle.lard_resend.specs.Pending.{sent_of}
+use Rattle.lard_rules.proofs.NodeCases.{IsInItsEpoch, KeptByNode, node-keeps}
+use Rattle.lard_rules.specs.Node.{Drops, Says, Does, message}
 use Rattle.lard_resend.proofs.Ordered.{drop_all}
-use Rattle.lard_rules.specs.declared.places.Ending.{Ending}
 use Rattle.lard_rules.specs.declared.places.Ending.TheVariants.{Here, Over}
-use Rattle.lard_rules.specs.declared.places.Turn.{Turn}
-use Rattle.lard_rules.specs.Loop.{state_of}
-use Rattle.lard_rules.specs.Serving.{Service, serving_ready_of, serving, serving_settled, spoken}
-use Rattle.lard_segment.specs.declared.fault.SegFault.{SegFault}
-use Rattle.lard_segment.specs.Segment.{Said}
 use Rattle.lard_law_view.proofs.EndpointSends.{AllTo, ready-to}
 
 abbrev pub IsNone : List ℕ → Type 0
@@ -135,60 +108,30 @@ module _ (env : NodeEnv) where
   -- ---- the rules
 
   module _ (p : NodePart) (held : PartNone p) where
-    pub forwarded-none : (given : Result Said SegFault) → IsQuiet (node_forwarded env p given)
-    forwarded-none given = go given (here env.epoch p) where
-      go : (given : Result Said SegFault) (x : Option (ControlBlock × Stay)) → IsQuiet (node_heard_by env p given x)
-      go (Err fault) x = tt
-      go (Ok s) None = tt
-      go (Ok s) (Some x) = works-none p held [] (goes_on env (work_of (on_segment x.0 s).1 x.1)) tt
-
-    pub tagged-none : (number : ℕ) (nodes : List ℕ) → IsQuiet (node_tagged env p number nodes)
-    tagged-none number nodes = go (here env.epoch p) where
-      go : (x : Option (ControlBlock × Stay)) → IsQuiet (tagged_by env number nodes p x)
-      go None = tt
-      go (Some x) =
-          let q : NodePart = record p { kept = without timer.Ask 0 p.kept } in
-          let w : Work = goes_on env (tagged env nodes (work_of x.0 x.1)) in
-          cond_both (is_tag_awaited env number nodes p x.1) (with_work env q [] w) Drops IsQuiet (λ t. works-none q (less-held timer.Ask 0 p.kept held.0, held.1) [] w tt) (λ t. tt)
-
-    pub content-none : (from r : ℕ) → IsQuiet (node_content env p from r)
-    content-none from r = go (here env.epoch p) where
-      go : (x : Option (ControlBlock × Stay)) → IsQuiet (come_by env from r p x)
-      go None = tt
-      go (Some x) =
-          let q : NodePart = record p { fetches = without timer.Fetch r p.fetches } in
-          let w : Work = goes_on env (came_for (come_progress from) r (work_of x.0 x.1)) in
-          cond_both (is_from from env.epoch (find (is_under timer.Fetch r) p.fetches)) (with_work env q [] w) Drops IsQuiet (λ t. works-none q (held.0, less-held timer.Fetch r p.fetches held.1) [] w tt) (λ t. tt)
-
-    pub read-none : (r : ℕ) → IsQuiet (node_read env p r)
-    read-none r = go (here env.epoch p) where
-      go : (x : Option (ControlBlock × Stay)) → IsQuiet (node_read_by env r p x)
-      go None = tt
-      go (Some x) = works-none p held [] (goes_on env (came_for read_progress r (work_of x.0 x.1))) tt
-
     taken-none : SentNone (taken_sent env)
     taken-none = (spelled-none env.serve.c env.epoch body.Taken (λ f. let no : kind.Taken ≡ kind.Content = f in cc), tt)
-
-    pub offered-none : (parts : EndpointParts) → IsQuiet (node_offered env p parts)
-    offered-none parts = go (offer_answer env.epoch p.row) where
-      go : (a : Adopt) → IsQuiet (offered_by env parts p a)
-      go New = works-none p held (taken_sent env) (goes_on env (state_of (reads_batch env true (node_begins env parts)))) taken-none
-      go Again = taken-none
-      go Stale = tt
-
-    pub acknowledged-none : IsQuiet (node_acknowledged env p)
-    acknowledged-none =
-        let q : NodePart = record p { row = gone p.row; kept = without timer.Ended 0 p.kept } in
-        cond_both (awaits_ack env.epoch p.row) (Does (q, node_saying [])) Drops IsQuiet (λ t. record { part = (less-held timer.Ended 0 p.kept held.0, held.1); messages = tt; segments = tt }) (λ t. tt)
 
     again-none : SentNone (again_sent p)
     again-none = all-held (p.kept ++ p.fetches) (both-held p.kept p.fetches held.0 held.1)
 
-    pub fires-none : IsQuiet (node_timer env p)
-    fires-none = go (both_of (back_endpoint p.row) p.stay) where
-      go : (x : Option (ControlBlock × Stay)) → IsQuiet (node_fired_by env p x)
-      go None = again-none
-      go (Some x) =
-          let v : Service = serving (after_timer x.0) x.1.served [] in
-          let before = serving_ready_of env.serve (after_timer x.0) (timed x.0) in
-          turn-none p held (again_sent p) (work_of (after_timer x.0) x.1) (spoken env.serve v before) again-none (spoken-to env.serve v before (ready-to env.serve (after_timer x.0) (timed x.0)))
+    rules_none : KeptByNode env p (λ g. Unit {0}) IsQuiet
+    rules_none = record {
+      drops = tt;
+      hears = λ said b s m at. works-none p held [] (goes_on env (work_of (on_segment b said).1 s)) tt;
+      tags = λ number nodes b s m at asked same count.
+          works-none (record p { kept = without timer.Ask 0 p.kept }) (less-held timer.Ask 0 p.kept held.0, held.1) [] (goes_on env (tagged env nodes (work_of b s))) tt;
+      comes = λ from r b s m at wanted.
+          works-none (record p { fetches = without timer.Fetch r p.fetches }) (held.0, less-held timer.Fetch r p.fetches held.1) [] (goes_on env (came_for (come_progress from) r (work_of b s))) tt;
+      reads = λ r path b s m at. works-none p held [] (goes_on env (came_for read_progress r (work_of b s))) tt;
+      begins = λ parts m new. works-none p held (taken_sent env) (goes_on env (state_of (reads_batch env true (node_begins env parts)))) taken-none;
+      takes_again = λ parts m again. taken-none;
+      fires = λ b s m at.
+          let v : Service = serving (after_timer b) s.served [] in
+          let before = serving_ready_of env.serve (after_timer b) (timed b) in
+          turn-none p held (again_sent p) (work_of (after_timer b) s) (spoken env.serve v before) again-none (spoken-to env.serve v before (ready-to env.serve (after_timer b) (timed b)));
+      resends = λ m none. again-none;
+      ends = λ m told. record { part = (less-held timer.Ended 0 p.kept held.0, held.1); messages = tt; segments = tt };
+    }
+
+    pub rule-none : (g : NodeGets) → IsInItsEpoch env p g → IsQuiet (node_rule env p g)
+    rule-none g at = node-keeps env p (λ g. Unit {0}) IsQuiet rules_none g at tt

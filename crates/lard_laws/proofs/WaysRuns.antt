@@ -1,11 +1,7 @@
 -- Each rule leaves a connection on its way, so it is in every run; and what its records say the journal says.
 use Rattle.std.proofs.Common.{◌≡◌, ◌≤◌, ◌^◌, ℕ, false, List, [], Option, Some, None, Result, Ok, refl, sym, ap, ◌∙◌, subst}
-use Rattle.lard_answers.specs.Answers.{FilesAt}
-use Rattle.lard_base.specs.declared.config.Config.{Config}
+use Rattle.lard_law_view.specs.Prelude.{Client, Config, Conn, EachRow, FilesAt, FirstChoice, Front, FrontConn, FrontEnv, FrontPart, FrontRow, FrontRules, FrontTurn, Guarded, IsFrontEnv, IsGuardedLaw, IsReached, Machine, MayRestOn, Move, Node, OfEach, Rec, Said, Seen, SegFault, Setting, Station, Tale, ToCluster, Untouched, UntouchedRules, Was, WhileUntouched, admitted_at, admitted_by, ask_of, conn, decoded, event_seen, file_at, front_admits, front_does, front_gets, front_timer, grown, is_touched, own, packet_seen, plain, seen_in, setting, tale_at, tale_of, whose}
 use Rattle.lard_base.specs.declared.event.Event.TheVariants as event
-use Rattle.lard_base.specs.declared.place.Place.TheVariants.{Client, Front, Node}
-use Rattle.lard_rules.specs.declared.machine.Machine.{Machine}
-use Rattle.lard_rules.specs.Machine.{IsReached}
 use Rattle.lard_law_connections.specs.BytesAgreement.{IsFair, IsFairOn, IsTruthful}
 use Rattle.lard_law_connections.proofs.BytesClientMoves.{has-fair, open-at}
 use Rattle.lard_law_connections.proofs.BytesLaw.{Helps}
@@ -17,8 +13,6 @@ use Rattle.lard_law_connections.proofs.PlacesLaw.{owing}
 use Rattle.lard_law_connections.proofs.PlacesRuns.{each-placed}
 use Rattle.lard_law_connections.proofs.PlacesTurns.{IsPlaced}
 use Rattle.lard_law_connections.proofs.PlacesTurns as places
-use Rattle.lard_law_view.specs.Carry.{Guarded, IsGuardedLaw, MayRestOn, OfEach, Untouched, WhileUntouched, setting, tale_at}
-use Rattle.lard_law_view.specs.View.{Conn, FrontRules, IsFrontEnv, Move, Setting, UntouchedRules, Was, conn, event_seen, front_admits, front_does, grown, packet_seen, seen_in}
 use Rattle.lard_law_view.proofs.Carried.{carried}
 use Rattle.lard_law_view.proofs.Fine.{IsFine, IsItsOwn, fine}
 use Rattle.lard_law_view.proofs.Guarded.{guarded-law, untouched-both, untouched-weaker}
@@ -33,23 +27,10 @@ use Rattle.lard_laws.proofs.WaysMarking.{MayTell, Mine}
 use Rattle.lard_laws.proofs.WaysMoments.{assigns-a-prefix}
 use Rattle.lard_laws.proofs.WaysMoving.{IsMade, Keeps}
 use Rattle.lard_laws.proofs.WaysNodeRules.{Owes, ignores, nodes}
-use Rattle.lard_files.specs.Files.{file_at}
-use Rattle.lard_rules.specs.Front.{FrontEnv, FrontPart, admitted_at, admitted_by, ask_of, front_gets, front_timer}
-use Rattle.lard_rules.specs.declared.front.FrontTurn.{FrontTurn}
-use Rattle.lard_handoff_front.specs.declared.row.FrontConn.{FrontConn}
 use Rattle.lard_handoff_front.specs.declared.row.FrontConn.TheVariants as stage
-use Rattle.lard_handoff_front.specs.declared.row.FrontRow.{FrontRow}
-use Rattle.lard_history.specs.Journal.{Tale, is_touched}
-use Rattle.lard_history.specs.Own.{EachRow, Seen, own, plain, tale_of, whose}
 use Rattle.lard_history.proofs.Lifting.{tale-own}
 use Rattle.lard_history.proofs.Tales.{assigned-tale, served-tale, touched-tale, wrote-tale}
-use Rattle.lard_journal.specs.declared.rec.Rec.{Rec}
 use Rattle.lard_journal.specs.declared.rec.Rec.TheVariants as rec
-use Rattle.lard_policy.specs.declared.first.FirstChoice.{FirstChoice}
-use Rattle.lard_rules.specs.declared.places.Station.{Station}
-use Rattle.lard_segment.specs.declared.fault.SegFault.{SegFault}
-use Rattle.lard_segment.specs.declared.segment.Dir.TheVariants.{ToCluster}
-use Rattle.lard_segment.specs.Segment.{Said, decoded}
 use Rattle.lard_segment.proofs.Again.{again}
 
 -- ---- the rules of the front end

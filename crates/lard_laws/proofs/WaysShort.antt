@@ -6,22 +6,14 @@ use Rattle.std.specs.Str.{str_eq_ignore_ascii_case}
 use Rattle.std.proofs.lemmas.Bool.{cond_both}
 use Rattle.std.proofs.lemmas.List.{length-append, length-drop, length-take}
 use Rattle.httparse.specs.Grammar.{RequestHead, print_blank, print_end, print_request, print_section, print_version}
-use Rattle.lard_answers.specs.Answers.{FilesAt, good_path, until_close, verdicts, verdicts_on}
+use Rattle.lard_law_view.specs.Prelude.{FilesAt, Found, Head, IsWithin, Long, MAX_FIELDS, Verdict, absolute_path, and_path, asked, authority_len, blocks, closes, cut_of, good_path, has_bare_feed, has_content, has_good_host, head_of, head_verdict, is_get, is_head, is_query, pairs_in, path_behind, path_of, path_verdict, piece_moved, pieces, pieces_from, says_close, until_close, verdict, verdict_of, verdicts, verdicts_on, without_query}
 use Rattle.lard_answers.proofs.Growing.{until_close-cons, until_close-nil, verdicts-are}
-use Rattle.lard_base.specs.declared.limits.TheConstants.{MAX_FIELDS}
-use Rattle.lard_block.specs.declared.block.Found.{Found}
 use Rattle.lard_block.specs.declared.block.Found.TheVariants.{Block, More, TooLong}
-use Rattle.lard_block.specs.Blocks.{Head, IsWithin, Long, Piece, blocks, cut_of, piece_moved, pieces, pieces_from}
+use Rattle.lard_block.specs.Blocks.{Piece}
 use Rattle.lard_block.proofs.Cutting.{cut-within}
 use Rattle.lard_laws.specs.Ways.{good_paths}
 use Rattle.lard_history.proofs.Each.{Each}
-use Rattle.lard_rules.specs.Stay.{and_path}
-use Rattle.lard_request.specs.declared.verdict.Verdict.{Verdict}
 use Rattle.lard_request.specs.declared.verdict.Verdict.TheVariants.{Fault, Serve}
-use Rattle.lard_request.specs.Fields.{has_content, has_good_host, says_close}
-use Rattle.lard_request.specs.Head.{head_of}
-use Rattle.lard_request.specs.Target.{absolute_path, authority_len, is_query, path_behind, path_of, without_query}
-use Rattle.lard_request.specs.Verdict.{asked, closes, has_bare_feed, head_verdict, is_get, is_head, pairs_in, path_verdict, verdict, verdict_of}
 use Rattle.lard_request.proofs.Reading.{head-sound}
 
 le-front : (xs ys : List ℕ) → length xs ≤ length (xs ++ ys)

@@ -8,11 +8,8 @@ use Rattle.std.specs.List.{AllByRecursion, flat_map}
 use Rattle.lard_law_connections.specs.Places.{Head}
 use Rattle.lard_law_connections.proofs.PlacesHeads.{decoded-head, spelled-body, spelled-head}
 use Rattle.lard_laws.proofs.WaysShort.{AreShort}
-use Rattle.lard_message.specs.declared.message.Body.{Body}
+use Rattle.lard_law_view.specs.Prelude.{Body, Message, ask_at, body_bytes, byte_at, counted_bytes, decoded_message, nodes_of, number_at, paths_at, spelled_message, tag_at, taken_at}
 use Rattle.lard_message.specs.declared.message.Body.TheVariants as body
-use Rattle.lard_message.specs.declared.message.Message.{Message}
-use Rattle.lard_message.specs.Message.{body_bytes, counted_bytes, spelled_message}
-use Rattle.lard_message.specs.Reading.{ask_at, byte_at, decoded_message, nodes_of, number_at, paths_at, tag_at, taken_at}
 use Rattle.lard_message.proofs.Fields.{bind_then, nodes_are, paths_again, some_same, taken_again}
 use Rattle.lard_rules.specs.Node.{message}
 

@@ -3,9 +3,7 @@ use Rattle.std.proofs.Common.{◌≡◌, ◌+◌, nat_lt, ℕ, suc, false, List,
 use Rattle.std.specs.List.{slice_get}
 use Rattle.std.proofs.lemmas.Bool.{cond_both}
 use Rattle.std.proofs.lemmas.List.{length-append, map-append}
-use Rattle.lard_answers.specs.Answers.{FilesAt, IsPrefix, answer, answer_code, good_path, verdicts}
-use Rattle.lard_base.specs.declared.place.Place.TheVariants.{Node}
-use Rattle.lard_base.specs.declared.place.Via.{Via}
+use Rattle.lard_law_view.specs.Prelude.{Asked, Done, Entry, FilesAt, FrontRest, IsPrefix, More, Node, NodeEnv, Progress, Rec, Service, Step, Stream, Verdict, Via, Work, and_path, answer, answer_code, answered, asks_for, ended_at_fin, enters, good_path, named_path, named_paths, passed_over, path_in, queued, read_entry, reads_these, serves_with, serving_consumed, stay_after, verdicts}
 use Rattle.lard_base.specs.declared.place.Via.TheVariants as via
 use Rattle.lard_law_connections.specs.BytesTurning.{IsReading}
 use Rattle.lard_law_connections.proofs.BytesWorking.{Works, verdicts_of}
@@ -16,20 +14,9 @@ use Rattle.lard_laws.proofs.WaysEntering.{Enters, read-enter, read-under}
 use Rattle.lard_laws.proofs.WaysGoods.{get-behind, get-front, good-append, good-prefix, next-get, prefix-take}
 use Rattle.lard_laws.proofs.WaysLying.{under-paths}
 use Rattle.lard_laws.proofs.WaysMarking.{IsPlain, Rightly, marked, marked-append, plain-marked, plain-rightly, rightly-append}
-use Rattle.lard_rules.specs.declared.front.FrontRest.{FrontRest}
 use Rattle.lard_history.proofs.Each.{Each}
-use Rattle.lard_journal.specs.declared.rec.Rec.{Rec}
 use Rattle.lard_journal.specs.declared.rec.Rec.TheVariants as rec
-use Rattle.lard_rules.specs.declared.stay.Asked.{Asked}
-use Rattle.lard_rules.specs.declared.stay.Entry.{Entry}
-use Rattle.lard_rules.specs.declared.stay.Progress.{Progress}
 use Rattle.lard_rules.specs.declared.stay.Progress.TheVariants as progress
-use Rattle.lard_rules.specs.Node.{stay_after}
-use Rattle.lard_rules.specs.Stay.{NodeEnv, Work, and_path, asks_for, enters, named_path, named_paths, path_in, reads_these, read_entry, serves_with}
-use Rattle.lard_request.specs.declared.verdict.Verdict.{Verdict}
-use Rattle.lard_rules.specs.Loop.{Step, More, Done}
-use Rattle.lard_rules.specs.Serving.{Service, answered, serving_consumed, ended_at_fin, passed_over, queued}
-use Rattle.lard_law_view.specs.Truth.{Stream}
 use Rattle.lard_rules.proofs.StayWalking.{StepIn}
 
 -- a batch is read where none is left

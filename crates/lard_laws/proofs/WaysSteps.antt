@@ -1,15 +1,9 @@
 -- In every step, and so in every run, the contents that nodes send are those of files that they have.
 use Rattle.std.proofs.Common.{◌≡◌, ℕ, ◌+◌, ◌-◌, List, [], ◌∷◌, ◌++◌, map, length, Some, Ok, refl, sym, ap, ◌∙◌, subst, inl, inr, ⊎_elim}
 use Rattle.std.specs.Prelude.{◌⊎◌}
-use Rattle.lard_base.specs.declared.event.Event.{Event}
+use Rattle.lard_law_view.specs.Prelude.{Client, Event, Front, Has, HasRule, IsViewed, Letter, Machine, Move, Node, Out, Packet, Part, Place, Rec, Row, Seen, clocked, conn, decoded_message, file_at, letter_of, lose_at, machine_step, machine_told, packet_at, packet_seen, segments_sent, sent_records, setting_of}
 use Rattle.lard_base.specs.declared.event.Event.TheVariants as event
-use Rattle.lard_base.specs.declared.place.Place.{Place}
-use Rattle.lard_base.specs.declared.place.Place.TheVariants.{Client, Front, Node}
-use Rattle.lard_rules.specs.declared.machine.Machine.{Machine}
-use Rattle.lard_rules.specs.Bounds.{HasRule}
-use Rattle.lard_rules.specs.Machine.{clocked, machine_step, segments_sent, machine_told}
-use Rattle.lard_law_connections.proofs.StoresCalm.{first_rows, last_rows}
-use Rattle.lard_law_view.specs.View.{IsViewed, Move, Part, conn, packet_seen, setting_of}
+use Rattle.lard_law_connections.proofs.Calm.{first_rows, last_rows}
 use Rattle.lard_law_view.proofs.After.{IsAfter, step-after}
 use Rattle.lard_law_view.proofs.AnyShape.{IsAct, SomeGift, SomeNote, SomeTimer, each-act, each-flat, one-act, two-act}
 use Rattle.lard_law_view.proofs.Carried.{carried-keep}
@@ -20,17 +14,10 @@ use Rattle.lard_laws.specs.WaysContents.{ContentsAreFiles, MustBring}
 use Rattle.lard_laws.proofs.WaysBringing.{Good, IsPlain, all-may, all_rows, fetch-good, gave-plain, may_in, none-plain, note-plain, noted-has, others-plain, passed-good, timer-plain, to-client, told-good}
 use Rattle.lard_laws.proofs.WaysQuiet.{IsNone, SentNone}
 use Rattle.lard_laws.proofs.WaysSending.{Brings, Fetches, HoldsNone, Owes, SaysAt, SaysOfContents, each-holds, rules}
-use Rattle.lard_files.specs.Files.{file_at}
-use Rattle.lard_history.specs.Own.{Has, Letter, Row, Seen, letter_of}
 use Rattle.lard_history.proofs.Each.{Each, Each-weaker}
 use Rattle.lard_history.proofs.Seeing.{has-before, has-behind}
 use Rattle.lard_history.proofs.Stepping.{AreLawful, cancel, one-more}
-use Rattle.lard_journal.specs.declared.rec.Rec.{Rec}
 use Rattle.lard_journal.specs.declared.rec.Rec.TheVariants as rec
-use Rattle.lard_rules.specs.Sent.{sent_records}
-use Rattle.lard_message.specs.Reading.{decoded_message}
-use Rattle.lard_net.specs.Net.{Packet, lose_at, packet_at}
-use Rattle.lard_rules.specs.declared.places.Out.{Out}
 use Rattle.lard_law_view.proofs.Deliveries.{IsDelivered}
 use Rattle.lard_law_view.proofs.OwnRecords.{behind}
 

@@ -1,19 +1,13 @@
 -- What a turn of a node leaves: its responses go with their assignments, its batch still agrees with them, and an Ask names the next
 -- good requests.
-use Rattle.std.proofs.Common.{◌≡◌, ◌+◌, ◌⊎◌, ◌==◌, ◌&&◌, ℕ, Bool, List, [], ◌∷◌, ◌++◌, length, Option, Some, None, Ok, inl, inr, ⊎_elim, refl, sym, ap, ◌∙◌, subst, arith, append_assoc, append-nil, eqb-true}
-use Rattle.std.specs.Prelude.{is_some}
-use Rattle.std.specs.List.{find}
-use Rattle.std.proofs.lemmas.Bool.{and_parts, cond_both}
-use Rattle.lard_answers.specs.Answers.{FilesAt, IsPrefix}
-use Rattle.lard_base.specs.declared.place.Place.{Place}
-use Rattle.lard_base.specs.declared.place.Place.TheVariants.{Client, Front, Node}
+use Rattle.std.proofs.Common.{◌≡◌, ◌+◌, ◌⊎◌, ℕ, List, [], ◌∷◌, ◌++◌, length, Option, Some, None, inl, inr, ⊎_elim, refl, sym, ap, ◌∙◌, subst, arith, append_assoc, append-nil}
+use Rattle.lard_law_view.specs.Prelude.{Asked, Body, Client, ControlBlock, Ending, FilesAt, Front, FrontRest, IsPrefix, IsWord, Node, NodeDeed, NodeEnv, NodePart, NodeTurn, Place, Said, Stay, Talk, Turn, Verdict, Want, Work, after_timer, again_sent, asked_sent, came_for, come_progress, ended_sent, goes_on, kept_after, named_paths, node_fired, on_segment, read_progress, serving, serving_ready_of, serving_settled, spoken, tagged, timed, turn_by, wants_sent, with_work, without, work_of}
 use Rattle.lard_base.specs.declared.place.TimerKind.TheVariants as timer
 use Rattle.lard_law_connections.proofs.AwaitsNodes.{HasServed, settled-served, spoken-served}
-use Rattle.lard_law_connections.specs.BytesAgreement.{NodeAgrees, StayComesOn}
 use Rattle.lard_law_connections.specs.BytesKeeping.{IsTalk}
 use Rattle.lard_law_connections.proofs.BytesHolding.{heard-so}
 use Rattle.lard_law_connections.proofs.BytesServing.{So}
-use Rattle.lard_law_connections.proofs.BytesStays.{IsHeld, at-endpoint, at-epoch, same-works}
+use Rattle.lard_law_connections.proofs.BytesStays.{IsHeld, same-works}
 use Rattle.lard_law_connections.proofs.BytesWorking.{Right, Works, came-so, tagged-so}
 use Rattle.lard_law_connections.proofs.BytesWays.{came-right, come_progress-on, read_progress-on, tagged-right}
 use Rattle.lard_law_connections.specs.Places.{IsDecided}
@@ -25,31 +19,11 @@ use Rattle.lard_laws.proofs.WaysLying.{come-keeps, read-keeps}
 use Rattle.lard_laws.proofs.WaysMarking.{Rightly, marked}
 use Rattle.lard_laws.proofs.WaysShort.{AreShort, short-within, wanted-short}
 use Rattle.lard_laws.proofs.WaysStaying.{AskIn, Goes, Home}
-use Rattle.lard_endpoint.specs.Arriving.{on_segment}
-use Rattle.lard_endpoint.specs.Control.{ControlBlock}
-use Rattle.lard_endpoint.specs.Leaving.{after_timer, timed}
-use Rattle.lard_rules.specs.declared.front.FrontRest.{FrontRest}
-use Rattle.lard_handoff_back.specs.Back.{back_endpoint, staying}
 use Rattle.lard_history.proofs.Each.{Each, Each-append}
-use Rattle.lard_law_view.specs.Agreement.{IsWord}
-use Rattle.lard_lateral.specs.Lateral.{is_from}
-use Rattle.lard_message.specs.declared.message.Body.{Body}
 use Rattle.lard_message.specs.declared.message.Body.TheVariants as body
-use Rattle.lard_rules.specs.declared.node.NodeTurn.{NodeTurn}
-use Rattle.lard_rules.specs.declared.stay.Asked.{Asked}
-use Rattle.lard_rules.specs.declared.stay.Stay.{Stay}
-use Rattle.lard_rules.specs.declared.stay.Want.{Want}
-use Rattle.lard_rules.specs.Node.{NodeDeed, Drops, Says, Does, NodePart, again_sent, asked_sent, both_of, come_by, ended_sent, node_fired_by, node_heard_by, here, is_tag_awaited, kept_after, message, node_content, node_forwarded, node_read, node_tagged, node_timer, node_read_by, tagged_by, turn_by, wants_sent, with_work, work_of}
+use Rattle.lard_rules.specs.Node.{Does, message}
 use Rattle.lard_rules.specs.Node as node
-use Rattle.lard_rules.specs.Stay.{NodeEnv, Work, came_for, come_progress, goes_on, named_paths, read_progress, tagged}
-use Rattle.lard_request.specs.declared.verdict.Verdict.{Verdict}
-use Rattle.lard_resend.specs.Kept.{is_under, without}
-use Rattle.lard_rules.specs.declared.places.Ending.{Ending}
 use Rattle.lard_rules.specs.declared.places.Ending.TheVariants as ending
-use Rattle.lard_rules.specs.declared.places.Turn.{Turn}
-use Rattle.lard_rules.specs.Serving.{serving_ready_of, serving, serving_settled, spoken}
-use Rattle.lard_segment.specs.Segment.{Said}
-use Rattle.lard_law_view.specs.Truth.{Stream}
 use Rattle.lard_law_view.proofs.EndpointSends.{AllTo, ready-to}
 
 module _ (env : NodeEnv) (m : WayMarks) (r : FrontRest) where
@@ -85,11 +59,9 @@ module _ (env : NodeEnv) (m : WayMarks) (r : FrontRest) where
     pub sent : (again ≡ []) ⊎ (again ≡ again_sent before)
     pub said : Each (SaysIt given.0.stay) more
 
-  -- what it says without a turn was said before, or it is an answer
   abbrev pub DeedWays : NodePart → (List (List ℕ) → Type 0) → NodeDeed → Type 0
-  DeedWays before Was Drops = Unit {0}
-  DeedWays before Was (Says ms) = (ms ≡ again_sent before) ⊎ Each (SaysIt before.stay) ms
   DeedWays before Was (Does given) = TurnWays before Was given
+  DeedWays before Was _ = Unit {0}
 
   -- ---- the end of a turn
 
@@ -163,91 +135,70 @@ module _ (env : NodeEnv) (m : WayMarks) (r : FrontRest) where
     pub none-first : (old : NodePart) → First old []
     none-first old = record { again = []; first = []; is = refl; sent = inl refl; said = λ stay. tt }
 
-  -- ---- the rules of a stay
+  -- ---- the rules of a stay that is here, which agrees
 
-  module _ (home : Home env m) (w out : Stream) (vs pend : List Verdict) (was_reset : Bool) (wrote : m.wrote ≡ w.bytes) (counted : m.served ≡ length vs) (talk : IsTalk env w out vs)
-      (p : NodePart) (agrees : NodeAgrees w out vs pend was_reset env.serve.c p) (ways : StayComesOn files p.stay) (h : StayWays files env.n m r p.stay) where
-    -- the stay that is here
-    here-stay : (o : Option ControlBlock) (t : Option Stay) (x : ControlBlock × Stay) → both_of o t ≡ Some x → t ≡ Some x.1
-    here-stay None t x e = let no : ◌≡◌ {A = Option (ControlBlock × Stay)} None (Some x) = e in absurd cc
-    here-stay (Some b) None x e = let no : ◌≡◌ {A = Option (ControlBlock × Stay)} None (Some x) = e in absurd cc
-    here-stay (Some b) (Some s) x e = ap stay_of e where
-      stay_of : Option (ControlBlock × Stay) → Option Stay
-      stay_of None = None
-      stay_of (Some y) = Some y.1
+  pub record IsAgreeing (l : Talk) (pend : List Verdict) (p : NodePart) (b : ControlBlock) (s : Stay) : Type 0 where
+    pub home : Home env m
+    pub wrote : m.wrote ≡ l.w.bytes
+    pub counted : m.served ≡ length l.vs
+    pub talk : IsTalk env l.w l.out l.vs
+    pub stay : StayWays files env.n m r p.stay
+    pub held : IsHeld env l.w l.out l.vs l.was_reset pend (b, s)
+    pub is : p.stay ≡ Some s
 
-    -- it is so of each stay that agrees, with what is in hand of it
-    begun : (x : ControlBlock × Stay) → IsHeld env w out vs was_reset pend x → p.stay ≡ Some x.1 → Goes env m r (Awaits env m r x.1) (work_of x.0 x.1)
-    begun x held is = work-goes env m r x.0 x.1 (counted ∙ sym held.1.counted) (subst (StayWays files env.n m r) is h)
+  module _ (l : Talk) (pend : List Verdict) (p : NodePart) (b : ControlBlock) (s : Stay) (a : IsAgreeing l pend p b s) where
+    abbrev k : Work
+    k = work_of b s
 
-    asks-it : (x : ControlBlock × Stay) → p.stay ≡ Some x.1 → (ps : List (List ℕ)) → StayAsks files (r.asks + 1) ps p.stay → Awaits env m r x.1 ps
-    asks-it x is ps a = subst (StayAsks files (r.asks + 1) ps) is a
+    abbrev Before : List (List ℕ) → Type 0
+    Before = Awaits env m r s
 
-    goes-on : (x : ControlBlock × Stay) → p.stay ≡ Some x.1 → (part : NodePart) (k : Work) → Works env w out vs k → Right env w out vs k → Goes env m r (Awaits env m r x.1) k → DeedWays p (Asked_by p) (with_work env part [] (goes_on env k))
-    goes-on x is part k works right g =
-        let all : Goes env m r (Awaits env m r x.1) (goes_on env k) = stay-goes env m r (Awaits env m r x.1) home w out vs wrote talk.most k works right g in
-        work-ways (Awaits env m r x.1) (goes_on env k) all p part (Asked_by p) [] (none-first (Awaits env m r x.1) (goes_on env k) all p) (asks-it x is)
+    begun : Goes env m r Before k
+    begun = work-goes env m r b s (a.counted ∙ sym a.held.1.counted) (subst (StayWays files env.n m r) a.is a.stay)
 
-    abbrev Rule : (Option (ControlBlock × Stay) → NodeDeed) → Option (ControlBlock × Stay) → Type 0
-    Rule rule o = here env.epoch p ≡ o → DeedWays p (Asked_by p) (rule o)
+    asks-it : (ps : List (List ℕ)) → StayAsks files (r.asks + 1) ps p.stay → Before ps
+    asks-it ps asked = subst (StayAsks files (r.asks + 1) ps) a.is asked
 
-    by-here : (rule : Option (ControlBlock × Stay) → NodeDeed) → rule None ≡ Drops → ((x : ControlBlock × Stay) → IsHeld env w out vs was_reset pend x → p.stay ≡ Some x.1 → DeedWays p (Asked_by p) (rule (Some x))) → DeedWays p (Asked_by p) (rule (here env.epoch p))
-    by-here rule none some = at-epoch env w out vs was_reset pend (Rule rule) (λ e. subst (DeedWays p (Asked_by p)) (sym none) tt)
-        (λ x held e. some x held (here-stay (staying env.epoch p.row) p.stay x e)) p env.serve.c p.row agrees ways refl
+    same : Works env l.w l.out l.vs k
+    same = same-works env l.w l.out l.vs l.was_reset pend (b, s) a.talk.says a.held
 
-    pub hears-ways : (s : Said) → IsWord w s → DeedWays p (Asked_by p) (node_forwarded env p (Ok s))
-    hears-ways s word = by-here (node_heard_by env p (Ok s)) refl
-        (λ x held is. goes-on x is p (work_of (on_segment x.0 s).1 x.1)
-        (subst (So env.serve w out vs (serving (on_segment x.0 s).1 x.1.served [])) held.0 (heard-so env.serve w out vs talk.says pend x.0 x.1.served held.1 talk.stream s word)) held.2
-        (let g = begun x held is in record { noted_so = g.noted_so; told = g.told; gone = g.gone; under = g.under; walked = g.walked; lies = g.lies; asking = g.asking; asked = g.asked; kept = g.kept }))
+    goes-on : (part : NodePart) (k : Work) → Works env l.w l.out l.vs k → Right env l.w l.out l.vs k → Goes env m r Before k
+        → DeedWays p (Asked_by p) (with_work env part [] (goes_on env k))
+    goes-on part k works right g =
+        let all : Goes env m r Before (goes_on env k) = stay-goes env m r Before a.home l.w l.out l.vs a.wrote a.talk.most k works right g in
+        work-ways Before (goes_on env k) all p part (Asked_by p) [] (none-first Before (goes_on env k) all p) asks-it
 
-    pub tags-ways : (number : ℕ) (nodes : List ℕ) → TagIs r number nodes → DeedWays p (Asked_by p) (node_tagged env p number nodes)
-    tags-ways number nodes tag = by-here (tagged_by env number nodes p) refl
-        (λ x held is.
+    pub hears-ways : (said : Said) → IsWord l.w said → DeedWays p (Asked_by p) (with_work env p [] (goes_on env (work_of (on_segment b said).1 s)))
+    hears-ways said word = goes-on p (work_of (on_segment b said).1 s)
+        (subst (So env.serve l.w l.out l.vs (serving (on_segment b said).1 s.served [])) a.held.0 (heard-so env.serve l.w l.out l.vs a.talk.says pend b s.served a.held.1 a.talk.stream said word)) a.held.2
+        (let g = begun in record { noted_so = g.noted_so; told = g.told; gone = g.gone; under = g.under; walked = g.walked; lies = g.lies; asking = g.asking; asked = g.asked; kept = g.kept })
+
+    pub tags-ways : (number : ℕ) (nodes : List ℕ) → TagIs r number nodes → s.asks ≡ number → length nodes ≡ length (named_paths files s.batch)
+        → DeedWays p (Asked_by p) (with_work env (record p { kept = without timer.Ask 0 p.kept }) [] (goes_on env (tagged env nodes k)))
+    tags-ways number nodes tag asks count =
         let part : NodePart = record p { kept = without timer.Ask 0 p.kept } in
-        let k : Work = work_of x.0 x.1 in
-        let named : ℕ = length (named_paths files x.1.batch) in
-        cond_both (is_tag_awaited env number nodes p x.1) (with_work env part [] (goes_on env (tagged env nodes k))) Drops (DeedWays p (Asked_by p))
-        (λ t.
-        let tests = and_parts (x.1.asks == number) (length nodes == named) (and_parts (is_some (find (is_under timer.Ask 0) p.kept)) (x.1.asks == number && length nodes == named) t).1 in
-        let same : x.1.asks ≡ number = eqb-true x.1.asks number tests.0 in
-        let count : length nodes ≡ named = eqb-true (length nodes) named tests.1 in
-        let g = begun x held is in
-        let at : number ≡ r.asks = ⊎_elim (λ (a : (x.1.asks ≡ r.asks) × (m.assigned ≡ _)). sym same ∙ a.0) (λ (a : (x.1.asks ≡ r.asks + 1) × _ × _). absurd (let le = tag.0 in omega (arith, same, a.0, le))) g.asking in
+        let at : number ≡ r.asks = ⊎_elim (λ (q : (s.asks ≡ r.asks) × (m.assigned ≡ _)). sym asks ∙ q.0) (λ (q : (s.asks ≡ r.asks + 1) × _ × _). absurd (let le = tag.0 in omega (arith, asks, q.0, le))) begun.asking in
         let is_tag : nodes ≡ r.tag = tag.1 at in
         subst (λ (ns : List ℕ). DeedWays p (Asked_by p) (with_work env part [] (goes_on env (tagged env ns k)))) (sym is_tag)
-        (goes-on x is part (tagged env r.tag k) (tagged-so env w out vs r.tag k (same-works env w out vs was_reset pend x talk.says held)) (tagged-right env r.tag k held.2)
-        (tagged-goes env m r (Awaits env m r x.1) k g refl (same ∙ at) (ap length (sym is_tag) ∙ count))))
-        (λ t. tt))
+        (goes-on part (tagged env r.tag k) (tagged-so env l.w l.out l.vs r.tag k same) (tagged-right env r.tag k a.held.2)
+        (tagged-goes env m r Before k begun refl (asks ∙ at) (ap length (sym is_tag) ∙ count)))
 
-    pub comes-ways : (from i : ℕ) → DeedWays p (Asked_by p) (node_content env p from i)
-    comes-ways from i = by-here (come_by env from i p) refl
-        (λ x held is.
-        let part : NodePart = record p { fetches = without timer.Fetch i p.fetches } in
-        let k : Work = work_of x.0 x.1 in
-        cond_both (is_from from env.epoch (find (is_under timer.Fetch i) p.fetches)) (with_work env part [] (goes_on env (came_for (come_progress from) i k))) Drops (DeedWays p (Asked_by p))
-        (λ t. goes-on x is part (came_for (come_progress from) i k) (came-so env w out vs (come_progress from) i k (same-works env w out vs was_reset pend x talk.says held))
-        (came-right files (come_progress from) (come_progress-on files from) i k held.2)
-        (came-goes env m r (Awaits env m r x.1) (come_progress from) (come-keeps files env.n from) i k (begun x held is)))
-        (λ t. tt))
+    pub comes-ways : (from i : ℕ)
+        → DeedWays p (Asked_by p) (with_work env (record p { fetches = without timer.Fetch i p.fetches }) [] (goes_on env (came_for (come_progress from) i k)))
+    comes-ways from i = goes-on (record p { fetches = without timer.Fetch i p.fetches }) (came_for (come_progress from) i k) (came-so env l.w l.out l.vs (come_progress from) i k same)
+        (came-right files (come_progress from) (come_progress-on files from) i k a.held.2)
+        (came-goes env m r Before (come_progress from) (come-keeps files env.n from) i k begun)
 
-    pub reads-ways : (i : ℕ) → DeedWays p (Asked_by p) (node_read env p i)
-    reads-ways i = by-here (node_read_by env i p) refl
-        (λ x held is.
-        let k : Work = work_of x.0 x.1 in
-        goes-on x is p (came_for read_progress i k) (came-so env w out vs read_progress i k (same-works env w out vs was_reset pend x talk.says held))
-        (came-right files read_progress (read_progress-on files) i k held.2)
-        (came-goes env m r (Awaits env m r x.1) read_progress (read-keeps files env.n) i k (begun x held is)))
+    pub reads-ways : (i : ℕ) → DeedWays p (Asked_by p) (with_work env p [] (goes_on env (came_for read_progress i k)))
+    reads-ways i = goes-on p (came_for read_progress i k) (came-so env l.w l.out l.vs read_progress i k same) (came-right files read_progress (read_progress-on files) i k a.held.2)
+        (came-goes env m r Before read_progress (read-keeps files env.n) i k begun)
 
-    pub fires-ways : DeedWays p (Asked_by p) (node_timer env p)
-    fires-ways = at-endpoint env w out vs was_reset pend (λ o. both_of (back_endpoint p.row) p.stay ≡ o → DeedWays p (Asked_by p) (node_fired_by env p o)) (λ e. inl refl)
-        (λ x held e.
-        let is : p.stay ≡ Some x.1 = here-stay (back_endpoint p.row) p.stay x e in
-        let k : Work = work_of (after_timer x.0) x.1 in
-        let g = begun x held is in
-        let h : Goes env m r (Awaits env m r x.1) k = record { noted_so = g.noted_so; told = g.told; gone = g.gone; under = g.under; walked = g.walked; lies = g.lies; asking = g.asking; asked = g.asked; kept = g.kept } in
-        let before = serving_ready_of env.serve (after_timer x.0) (timed x.0) in
-        turn-ways (Awaits env m r x.1) k h p p (Asked_by p) (again_sent p) (spoken env.serve (serving (after_timer x.0) x.1.served []) before)
-        (record { again = again_sent p; first = []; is = sym (append-nil (again_sent p)); sent = inr refl; said = λ stay. tt }) refl (spoken-served env.serve k.service before)
-        (spoken-to env.serve (serving (after_timer x.0) x.1.served []) before (ready-to env.serve (after_timer x.0) (timed x.0))) (asks-it x is))
-        p env.serve.c p.row agrees ways refl
+    pub fires-ways : DeedWays p (Asked_by p) (Does (node_fired env p (b, s) (spoken env.serve (serving (after_timer b) s.served []) (serving_ready_of env.serve (after_timer b) (timed b)))))
+    fires-ways =
+        let after : Work = work_of (after_timer b) s in
+        let g = begun in
+        let h : Goes env m r Before after = record { noted_so = g.noted_so; told = g.told; gone = g.gone; under = g.under; walked = g.walked; lies = g.lies; asking = g.asking; asked = g.asked; kept = g.kept } in
+        let before = serving_ready_of env.serve (after_timer b) (timed b) in
+        turn-ways Before after h p p (Asked_by p) (again_sent p) (spoken env.serve (serving (after_timer b) s.served []) before)
+        (record { again = again_sent p; first = []; is = sym (append-nil (again_sent p)); sent = inr refl; said = λ stay. tt }) refl (spoken-served env.serve after.service before)
+        (spoken-to env.serve (serving (after_timer b) s.served []) before (ready-to env.serve (after_timer b) (timed b))) asks-it

@@ -2,39 +2,21 @@
 use Rattle.std.proofs.Common.{◌≡◌, ◌≤◌, ◌<◌, ◌+◌, ◌^◌, ℕ, List, [], ◌∷◌, ◌++◌, map, length, Some, None, Result, Ok, refl, sym, ap, ◌∙◌, subst, arith}
 use Rattle.std.proofs.lemmas.Bool.{cond_both}
 use Rattle.lard_base.specs.declared.event.Event.TheVariants as event
-use Rattle.lard_base.specs.declared.place.Place.{Place}
-use Rattle.lard_base.specs.declared.place.Place.TheVariants.{Client, Front, Node}
-use Rattle.lard_client.specs.Arriving.{client_arrived}
-use Rattle.lard_client.specs.Control.{ClientBlock, is_writing, held_on, client_opened, shut_down, client_taken, client_written}
-use Rattle.lard_client.specs.Leaving.{client_after_timer}
+use Rattle.lard_law_view.specs.Prelude.{Client, ClientAgrees, ClientBlock, ClientRules, Conn, Front, GoesBetween, IsReply, IsTrueOf, Letter, Move, Node, Place, Said, Seen, SegFault, Setting, Station, Talk, ToClient, Turn, Was, client_aborts, client_after_timer, client_arrived, client_begins, client_does, client_gets, client_holds, client_opened, client_opens, client_shuts, client_speaks, client_taken, client_takes, client_timer, client_writes, client_written, decoded, event_seen, grown, held_on, is_writing, letter, letters_of, packet_seen, request, seq_offset, shut_down, silent, speaking, spelled}
 use Rattle.lard_law_connections.specs.BytesAgreement.{ConnAgrees, IsFair, IsFairOn, IsInner, IsNodePlace, IsTruthful, IsConnUnopened}
 use Rattle.lard_law_connections.proofs.BytesClientMoves.{has-fair, was-between}
 use Rattle.lard_law_connections.proofs.PlacesFrontRules.{has-each}
 use Rattle.lard_law_connections.specs.SilencePlaces.{FrontHas}
-use Rattle.lard_law_view.specs.View.{ClientRules, Conn, GoesBetween, Move, Setting, Was, client_begins, client_does, event_seen, grown, letter, letters_of, packet_seen}
 use Rattle.lard_laws.specs.Windows.{BytesReach, ClientReaches, EndSent, FrontSent, IsReaching, LetterReaches, LetterReachesOn, ReachesOn, StationReaches, SymbolsWereSent}
 use Rattle.lard_laws.proofs.WindowsClients.{IsSame, aborted-same, arrived-reaches, arrived-taken, held-same, same-reaches, same-taken, shut-same, speaks-same, taken-same, then-speaks, timer-same, written-same}
 use Rattle.lard_laws.proofs.WindowsLetters.{words-reach}
 use Rattle.lard_laws.proofs.WindowsMoves.{client-moves}
 use Rattle.lard_laws.proofs.WindowsOffers.{true-place}
 use Rattle.lard_laws.proofs.WindowsPlaces.{no-stay}
-use Rattle.lard_history.specs.Journal.{request}
-use Rattle.lard_history.specs.Own.{Letter, Seen}
 use Rattle.lard_history.proofs.Each.{Each, Each-append, Each-weaker}
 use Rattle.lard_journal.specs.declared.rec.Rec.TheVariants as rec
-use Rattle.lard_law_view.specs.Agreement.{ClientAgrees, IsReply}
-use Rattle.lard_law_view.specs.Truthful.{Talk}
 use Rattle.lard_law_view.proofs.Acked.{taken_by}
-use Rattle.lard_rules.specs.declared.places.Station.{Station}
-use Rattle.lard_rules.specs.declared.places.Turn.{Turn}
-use Rattle.lard_rules.specs.Client.{client_aborts, client_gets, client_holds, client_opens, client_shuts, client_takes, client_timer, client_writes, silent, speaking}
-use Rattle.lard_rules.specs.Speaking.{client_speaks}
 use Rattle.lard_segment.proofs.Again.{again}
-use Rattle.lard_segment.specs.declared.fault.SegFault.{SegFault}
-use Rattle.lard_segment.specs.declared.segment.Dir.TheVariants.{ToClient}
-use Rattle.lard_segment.specs.Segment.{Said, decoded, spelled}
-use Rattle.lard_seq.specs.Seq.{seq_offset}
-use Rattle.lard_law_view.specs.Truth.{IsTrueOf}
 use Rattle.lard_law_view.proofs.Client.{arriving-continues}
 use Rattle.lard_laws.proofs.WindowsOpen as known
 

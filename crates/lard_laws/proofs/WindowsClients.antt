@@ -1,26 +1,16 @@
 -- A segment that reaches leaves the client with a window that ends far enough, and with no more symbols than were sent.
-use Rattle.std.proofs.Common.{◌≡◌, ◌⊎◌, ◌≤◌, ◌<◌, ◌+◌, ◌-◌, ◌^◌, ◌==◌, ◌&&◌, ◌||◌, nat_lt, not, ℕ, Bool, true, false, cond, List, length, drop, Option, Some, None, inl, inr, ⊎_elim, refl, sym, ap, ◌∙◌, arith}
-use Rattle.std.proofs.lemmas.Bool.{and_parts, cond-true, cond_both, eqb-false, eqb-true, ltb-false, ltb-true, not-true, or_parts}
-use Rattle.lard_arrival.specs.Arrival.{bare, is_acceptable, is_allowed, peer_mss, seg_len}
-use Rattle.lard_client.specs.declared.heard.Heard.{Heard}
-use Rattle.lard_client.specs.declared.phase.Phase.{Phase}
+use Rattle.std.proofs.Common.{◌≡◌, ◌⊎◌, ◌≤◌, ◌<◌, ◌+◌, ◌-◌, ◌^◌, ◌==◌, ◌&&◌, ◌||◌, nat_lt, not, ℕ, Bool, true, false, cond, List, length, drop, inl, inr, ⊎_elim, refl, sym, ap, ◌∙◌, arith}
+use Rattle.std.proofs.lemmas.Bool.{cond-true, cond_both, eqb-false, eqb-true, ltb-false, ltb-true, or_parts}
+use Rattle.lard_law_view.specs.Prelude.{ClientBlock, Heard, IsInOrder, Phase, Said, Sending, aborted, after_ack, answers_syn, client_after_emit, client_after_timer, client_arrived, client_ends, client_on_segment, client_rcv_nxt, client_speaks, client_taken, client_written, established, fresh_len, heard_in, heard_nothing, held_on, introduced, is_client_open, is_established, is_newer, is_writing, moved_up, on_greeting, one_if, peer_mss, queued_too, reset_by_peer, seg_len, send_closed, seq_add, seq_offset, shut_down, windowed}
 use Rattle.lard_client.specs.declared.phase.Phase.TheVariants.{Open, Aborted, Reset}
-use Rattle.lard_client.specs.Arriving.{accepting, answers_syn, client_arrived, client_begins_after, client_ends, established, fresh_len, heard_in, heard_nothing, client_on_ack, on_fresh, on_greeting, client_on_rst, client_on_segment, client_on_syn, client_on_text, client_on_unacceptable, client_owing, client_part_of, reset_by_peer}
-use Rattle.lard_client.specs.Control.{ClientBlock, aborted, held_on, is_established, is_client_open, is_writing, client_rcv_nxt, client_rcv_wnd, shut_down, client_taken, client_written}
-use Rattle.lard_client.specs.Laws.{IsInOrder}
-use Rattle.lard_client.specs.Leaving.{client_after_emit, client_after_owed, client_after_piece, client_after_timer, client_owes, client_told}
 use Rattle.lard_client.proofs.Accepted.{arrived-order}
 use Rattle.lard_client.proofs.Outcomes.{Quiet, Took, greeting-quiet, segment-outcome}
 use Rattle.lard_laws.specs.Windows.{ClientReaches}
 use Rattle.lard_law_view.proofs.Acked.{taken_by}
-use Rattle.lard_rules.specs.Speaking.{client_speaks}
 use Rattle.lard_rules.proofs.Loops.{client_keeps}
-use Rattle.lard_segment.specs.Segment.{Said}
-use Rattle.lard_send.specs.declared.piece.Piece.{Piece}
-use Rattle.lard_send.specs.Send.{Sending, after_ack, after_next, after_resend, send_closed, introduced, is_newer, moved_up, next_piece, queued_too, resent_piece, windowed}
-use Rattle.lard_seq.specs.Seq.{one_if, seq_add, seq_offset}
 use Rattle.lard_seq.proofs.Laws.{offset-add}
 use Rattle.lard_law_view.proofs.Speaking.{next-moves, resend-moves}
+use Rattle.lard_rules.proofs.Hearing.{Counts, acked, arrived-keeps, client-emit-keeps, client-segment-keeps, client-timer-keeps}
 
 -- ---- an acknowledgement
 
@@ -52,61 +42,24 @@ ack-up t ack seq wnd wide h =
 
 -- ---- a segment, by the window that it names
 
-module _ (x : ClientBlock) where
-  abbrev Hears : Heard × ClientBlock → Type 0
-  Hears r = Up x.send r.1.send
-
-  fresh-up : (y : ClientBlock) (s : Said) → Up x.send y.send → Hears (on_fresh y s)
-  fresh-up y s h = cond_both {A = Heard × ClientBlock} (client_begins_after y s || y.eof) (heard_nothing, y) (client_part_of y s, accepting y (fresh_len y s) (client_ends y s)) Hears (λ t. h)
-      (λ t. cond_both (client_ends y s) (send_closed y.send) y.send (Up x.send) (λ u. h) (λ u. h))
-
-  text-up : (y : ClientBlock) (s : Said) → Up x.send y.send → Hears (client_on_text y s)
-  text-up y s h = cond_both {A = Heard × ClientBlock} ((length s.payload == 0) && not s.flags.fin) (heard_nothing, y) (on_fresh (client_owing y) s) Hears (λ t. h) (λ t. fresh-up (client_owing y) s h)
-
-acked-up : (x : ClientBlock) (s : Said) → 16384 ≤ seq_offset s.ack x.send.iss + s.wnd → IsWide x.send → Hears x (client_on_ack x s)
-acked-up x s wide h =
-    let y : ClientBlock = record x { send = after_ack x.send s.ack s.seq s.wnd } in
-    let beyond : Bool = nat_lt x.send.nxt (seq_offset s.ack x.send.iss) in
-    let still : Up x.send x.send = (h, omega arith) in
-    cond_both {A = Heard × ClientBlock} (not s.flags.ack) (heard_nothing, x) (cond beyond (heard_nothing, client_owing x) (client_on_text y s)) (Hears x) (λ t. still)
-    (λ t. cond_both {A = Heard × ClientBlock} beyond (heard_nothing, client_owing x) (client_on_text y s) (Hears x) (λ u. still) (λ u. text-up x y s (ack-up x.send s.ack s.seq s.wnd wide h)))
-
 module _ (x : ClientBlock) (s : Said) (wide : s.flags.rst ≡ false → 16384 ≤ seq_offset s.ack x.send.iss + s.wnd) (h : IsWide x.send) where
   still : Up x.send x.send
   still = (h, omega arith)
 
-  -- an allowed segment is no reset
-  allowed-plain : is_allowed (client_rcv_nxt x) (client_rcv_wnd x) s ≡ true → s.flags.rst ≡ false
-  allowed-plain t = not-true s.flags.rst (and_parts _ _ (and_parts _ _ t).1).0
-
-  segment-up : Hears x (client_on_segment x s)
-  segment-up =
-      let owed : Heard × ClientBlock = (heard_nothing, client_owing x) in
-      let next : Bool = s.seq == client_rcv_nxt x in
-      cond_both (is_acceptable (client_rcv_nxt x) (client_rcv_wnd x) s) (client_on_rst x s) (client_on_unacceptable x s) (Hears x)
-      (λ t. cond_both (not s.flags.rst) (client_on_syn x s) (cond next (heard_nothing, reset_by_peer x) owed) (Hears x)
-      (λ u. cond_both s.flags.syn owed (client_on_ack x s) (Hears x) (λ v. still) (λ v. acked-up x s (wide (not-true s.flags.rst u)) h))
-      (λ u. cond_both {A = Heard × ClientBlock} next (heard_nothing, reset_by_peer x) owed (Hears x) (λ v. still) (λ v. still)))
-      (λ t. cond_both (is_allowed (client_rcv_nxt x) (client_rcv_wnd x) s) (client_on_ack (client_owing x) (bare s)) (cond s.flags.rst (heard_nothing, x) owed) (Hears x)
-      (λ u. acked-up (client_owing x) (bare s) (wide (allowed-plain u)) h)
-      (λ u. cond_both {A = Heard × ClientBlock} s.flags.rst (heard_nothing, x) owed (Hears x) (λ v. still) (λ v. still)))
-
-  greeting-up : Hears x (on_greeting x s)
-  greeting-up =
-      let synced : Heard × ClientBlock = cond s.flags.syn (heard_nothing, established x s) (heard_nothing, x) in
-      cond_both {A = Heard × ClientBlock} (not (answers_syn x s)) (heard_nothing, x) (cond s.flags.rst (heard_nothing, reset_by_peer x) synced) (Hears x) (λ t. still)
-      (λ t. cond_both {A = Heard × ClientBlock} s.flags.rst (heard_nothing, reset_by_peer x) synced (Hears x) (λ u. still)
-      (λ u. cond_both {A = Heard × ClientBlock} s.flags.syn (heard_nothing, established x s) (heard_nothing, x) (Hears x)
-      (λ v. ack-up (introduced x.send s.seq (peer_mss s.mss)) s.ack s.seq s.wnd (wide u) h) (λ v. still)))
-
-  phase-up : (p : Phase) → Hears x (heard_in p x s)
-  phase-up Open = cond_both (x.send.una == 0) (on_greeting x s) (client_on_segment x s) (Hears x) (λ t. greeting-up) (λ t. segment-up)
-  phase-up Aborted = still
-  phase-up Reset = still
-
   pub arrived-up : Up x.send (client_arrived x s).1.send
-  unfolding client_arrived
-  arrived-up = phase-up x.phase
+  arrived-up = arrived-keeps x s (λ r. Up x.send r.1.send) (record {
+    refuses = λ e. still;
+    ignores = λ e. still;
+    learns = λ e t plain. ack-up (introduced x.send s.seq (peer_mss s.mss)) s.ack s.seq s.wnd (wide plain) h;
+    takes = λ e. record {
+      rests = λ owed. still;
+      resets = λ t. still;
+      acks = λ owed c. knows c;
+      accepts = λ c in_order going. let y : ClientBlock = acked x s true in cond_both (client_ends y s) (send_closed y.send) y.send (Up x.send) (λ u. knows c) (λ u. knows c);
+    };
+  }) where
+    knows : Counts s x.send → Up x.send (after_ack x.send s.ack s.seq s.wnd)
+    knows c = ack-up x.send s.ack s.seq s.wnd (wide c.plain) h
 
 -- ---- what was taken
 
@@ -114,20 +67,13 @@ pub taken-most : (y : ClientBlock) → taken_by y ≤ 1 + y.accepted + one_if y.
 taken-most y = cond_both (is_established y) (1 + y.accepted + one_if y.eof) 0 (λ n. n ≤ 1 + y.accepted + one_if y.eof) (λ t. omega arith) (λ t. omega arith)
 
 -- a reset takes nothing
-module _ (x : ClientBlock) (s : Said) where
-  abbrev Plain : Heard × ClientBlock → Type 0
-  Plain r = ((r.1.accepted ≡ x.accepted) × (r.1.eof ≡ x.eof)) ⊎ (s.flags.rst ≡ false)
-
-  segment-plain : Plain (client_on_segment x s)
-  segment-plain =
-      let owed : Heard × ClientBlock = (heard_nothing, client_owing x) in
-      let next : Bool = s.seq == client_rcv_nxt x in
-      cond_both (is_acceptable (client_rcv_nxt x) (client_rcv_wnd x) s) (client_on_rst x s) (client_on_unacceptable x s) Plain
-      (λ t. cond_both (not s.flags.rst) (client_on_syn x s) (cond next (heard_nothing, reset_by_peer x) owed) Plain (λ u. inr (not-true s.flags.rst u))
-      (λ u. cond_both {A = Heard × ClientBlock} next (heard_nothing, reset_by_peer x) owed Plain (λ v. inl (refl, refl)) (λ v. inl (refl, refl))))
-      (λ t. cond_both (is_allowed (client_rcv_nxt x) (client_rcv_wnd x) s) (client_on_ack (client_owing x) (bare s)) (cond s.flags.rst (heard_nothing, x) owed) Plain
-      (λ u. inr (not-true s.flags.rst (and_parts _ _ (and_parts _ _ u).1).0))
-      (λ u. cond_both {A = Heard × ClientBlock} s.flags.rst (heard_nothing, x) owed Plain (λ v. inl (refl, refl)) (λ v. inl (refl, refl))))
+segment-plain : (x : ClientBlock) (s : Said) → (((client_on_segment x s).1.accepted ≡ x.accepted) × ((client_on_segment x s).1.eof ≡ x.eof)) ⊎ (s.flags.rst ≡ false)
+segment-plain x s = client-segment-keeps x s (λ (r : Heard × ClientBlock). ((r.1.accepted ≡ x.accepted) × (r.1.eof ≡ x.eof)) ⊎ (s.flags.rst ≡ false)) (record {
+  rests = λ owed. inl (refl, refl);
+  resets = λ t. inl (refl, refl);
+  acks = λ owed c. inr c.plain;
+  accepts = λ c in_order going. inr c.plain;
+})
 
 -- two numbers that are the same from a first one on
 same-count : (iss a b : ℕ) → iss < 2 ^ 32 → a < 2 ^ 32 → b < 2 ^ 32 → seq_add iss a ≡ seq_add iss b → a ≡ b
@@ -274,22 +220,15 @@ same-self x = (refl, refl, refl, refl, refl)
 same-then : (x y z : ClientBlock) → IsSame x y → IsSame y z → IsSame x z
 same-then x y z h k = (k.0 ∙ h.0, k.1 ∙ h.1, k.2 ∙ h.2, k.3 ∙ h.3, k.4 ∙ h.4)
 
-piece-same : (x y z : ClientBlock) (p : Option Piece) → IsSame x y → IsSame x z → IsSame x (client_after_piece y p z)
-piece-same x y z (Some p) h k = h
-piece-same x y z None h k = k
-
 emit-same : (x : ClientBlock) → IsSame x (client_after_emit x)
 emit-same x =
     let m = next-moves x.send in
-    let sent : IsSame x (record x { send = after_next x.send }) = (ap (λ (s : Sending). s.iss) m, ap (λ (s : Sending). s.una) m, ap (λ (s : Sending). s.wnd) m, refl, refl) in
-    cond_both (not (is_client_open x)) x (client_after_piece (record x { send = after_next x.send }) (next_piece x.send) (client_after_owed x)) (IsSame x) (λ t. same-self x)
-    (λ t. piece-same x (record x { send = after_next x.send }) (client_after_owed x) (next_piece x.send) sent (cond_both (client_owes x) (client_told x) x (IsSame x) (λ u. same-self x) (λ u. same-self x)))
+    client-emit-keeps (IsSame x) x (same-self x) (same-self x) (ap (λ (s : Sending). s.iss) m, ap (λ (s : Sending). s.una) m, ap (λ (s : Sending). s.wnd) m, refl, refl)
 
 pub timer-same : (x : ClientBlock) → IsSame x (client_after_timer x)
 timer-same x =
     let m = resend-moves x.send in
-    let sent : IsSame x (record x { send = after_resend x.send }) = (ap (λ (s : Sending). s.iss) m, ap (λ (s : Sending). s.una) m, ap (λ (s : Sending). s.wnd) m, refl, refl) in
-    cond_both (not (is_client_open x)) x (client_after_piece (record x { send = after_resend x.send }) (resent_piece x.send) x) (IsSame x) (λ t. same-self x) (λ t. piece-same x (record x { send = after_resend x.send }) x (resent_piece x.send) sent (same-self x))
+    client-timer-keeps (IsSame x) x (same-self x) (ap (λ (s : Sending). s.iss) m, ap (λ (s : Sending). s.una) m, ap (λ (s : Sending). s.wnd) m, refl, refl)
 
 pub speaks-same : (x : ClientBlock) → IsSame x (client_speaks x).1
 speaks-same x = client_keeps (λ (x : ClientBlock) ss y. IsSame x y) (record { rests = same-self; says = λ x r ss y e later. same-then x (client_after_emit x) y (emit-same x) later }) x

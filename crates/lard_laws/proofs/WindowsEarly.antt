@@ -1,45 +1,20 @@
 -- An endpoint that took its client's SYN alone goes on so while nothing but the SYN comes.
-use Rattle.std.proofs.Common.{◌≡◌, ◌≤◌, ◌<◌, ◌+◌, ◌^◌, ◌==◌, ◌&&◌, ◌||◌, nat_lt, not, zero, suc, ℕ, Bool, true, false, cond, List, [], ◌∷◌, ◌++◌, length, take, drop, Option, Some, None, refl, sym, ap, ◌∙◌, subst, arith}
+use Rattle.std.proofs.Common.{◌≡◌, ◌≤◌, ◌<◌, ◌+◌, ◌^◌, ◌==◌, ◌&&◌, ◌||◌, zero, suc, ℕ, Bool, true, false, cond, List, [], ◌∷◌, ◌++◌, length, take, drop, Option, Some, None, refl, sym, ap, ◌∙◌, subst, arith}
 use Rattle.std.proofs.lemmas.Bool.{and_parts, both_ways, cond_both, eqb-true}
-use Rattle.lard_arrival.specs.Arrival.{bare, is_acceptable, is_allowed, seg_len}
-use Rattle.lard_base.specs.declared.place.Place.{Place}
-use Rattle.lard_base.specs.declared.place.Place.TheVariants.{Front}
-use Rattle.lard_block.specs.declared.block.Found.{Found}
+use Rattle.lard_law_view.specs.Prelude.{ControlBlock, Done, Ending, Found, Front, FrontConn, FrontDeed, FrontEnv, FrontPart, FrontRest, FrontRow, More, Place, Reading, Ready, Received, Said, Service, Step, Turn, after_emit, after_timer, arrived, awaited, begins_after, bytes_taken, cut_of, cut_off, ends, filled, fires_at, fresh_bytes, front_begun, front_fired_by, front_hears, front_reads, front_rest, head_end, heard, hears_at, holds, is_plain_syn, listening, may_end, may_read, on_segment, one_if, rcv_nxt, reading_left, reading_turn, reads_found, rested, seg_len, seq_add, seq_offset, serving, serving_consumed, serving_ready_of, settled_by, skipped, speaks, spoken, stage_after, timed}
 use Rattle.lard_block.specs.declared.block.Found.TheVariants as found
-use Rattle.lard_block.specs.Blocks.{cut_of, head_end, skipped}
 use Rattle.lard_law_connections.proofs.SilenceTurns.{AreTold, Told}
 use Rattle.lard_laws.specs.WindowsEarly.{IsFresh, RowIsFresh, StageIsFresh}
-use Rattle.lard_endpoint.specs.declared.control.arriving.Arrival.{Arrival}
-use Rattle.lard_endpoint.specs.declared.control.arriving.Arrival.TheVariants.{Fine, AckOwed, Reset}
-use Rattle.lard_endpoint.specs.Arriving.{on_ack, on_acked, on_rst, on_segment, on_syn, on_text, on_unacceptable, owing}
-use Rattle.lard_endpoint.specs.Control.{ControlBlock, listening, rcv_nxt, rcv_wnd}
-use Rattle.lard_endpoint.specs.Leaving.{advanced, after_emit, after_owed, after_piece, after_timer, filled, owes, retried, timed, told}
-use Rattle.lard_endpoint.specs.Moving.{may_end}
 use Rattle.lard_endpoint.proofs.Windows.{emit-recv, emitted-tells, timed-tells, timer-recv}
-use Rattle.lard_rules.specs.Front.{FrontDeed, Drops, Says, Does, FrontEnv, FrontPart, front_begun, front_fired_by, fires_at, front_hears, heard, hears_at, holds, front_rest, settled_by, stage_after}
-use Rattle.lard_rules.specs.declared.front.FrontRest.{FrontRest}
-use Rattle.lard_rules.specs.FrontReading.{Reading, reading_left, front_reads, reads_found, reading_turn}
-use Rattle.lard_handoff_front.specs.declared.row.FrontConn.{FrontConn}
+use Rattle.lard_rules.specs.Front.{Drops, Says, Does}
 use Rattle.lard_handoff_front.specs.declared.row.FrontConn.TheVariants as stage
-use Rattle.lard_handoff_front.specs.declared.row.FrontRow.{FrontRow}
 use Rattle.lard_history.proofs.Each.{Each-append}
 use Rattle.lard_journal.specs.declared.rec.Rec.TheVariants as rec
 use Rattle.lard_law_view.proofs.EndpointStreams.{segment-takes}
-use Rattle.lard_recv.specs.Recv.{Received, arrived, awaited, begins_after, ends, fresh_bytes, bytes_taken}
-use Rattle.lard_rules.specs.declared.places.Ending.{Ending}
-use Rattle.lard_rules.specs.declared.places.Ending.TheVariants as ending
-use Rattle.lard_rules.specs.declared.places.Turn.{Turn}
-use Rattle.lard_rules.specs.Tombstone.{is_plain_syn}
-use Rattle.lard_rules.specs.Loop.{Step, More, Done}
-use Rattle.lard_rules.specs.Serving.{Service, serving_consumed, cut_off, may_read, serving_ready_of, rested, serving, spoken}
-use Rattle.lard_rules.specs.Speaking.{speaks}
 use Rattle.lard_rules.proofs.Loops.{speaks_keep}
 use Rattle.lard_rules.proofs.Runs.{runs_keep}
-use Rattle.lard_segment.specs.declared.segment.Ready.{Ready}
-use Rattle.lard_segment.specs.Segment.{Said}
-use Rattle.lard_send.specs.Send.{after_ack, next_piece, resent_piece}
-use Rattle.lard_send.specs.declared.piece.Piece.{Piece}
-use Rattle.lard_seq.specs.Seq.{one_if, seq_add, seq_offset}
+use Rattle.lard_rules.proofs.Hearing.{emit-keeps, segment-keeps, timer-keeps}
+use Rattle.lard_rules.proofs.Endings.{rested-keeps}
 
 -- ---- what is taken
 
@@ -128,34 +103,13 @@ module _ (isn : ℕ) (small : isn < 2 ^ 32) (s : Said) (seq_small : s.seq < 2 ^ 
   -- ---- the endpoint
 
   module _ (plain : s.flags.rst ≡ false) where
-    abbrev Unreset : Arrival × ControlBlock → Type 0
-    Unreset p = p.1.reset ≡ false
-
-    text-unreset : (b : ControlBlock) (t : Said) → b.reset ≡ false → Unreset (on_text b t)
-    text-unreset b t h = cond_both (length t.payload == 0 && not t.flags.fin) (Fine, b) (AckOwed, record b { recv = arrived b.recv t.seq t.payload t.flags.fin; owed = true }) Unreset (λ u. h) (λ u. h)
-
-    acked-unreset : (b : ControlBlock) (t : Said) → b.reset ≡ false → Unreset (on_acked b t)
-    acked-unreset b t h = cond_both (b.send.una == 0) (Fine, b) (on_text b t) Unreset (λ u. h) (λ u. text-unreset b t h)
-
-    ack-unreset : (b : ControlBlock) (t : Said) → b.reset ≡ false → Unreset (on_ack b t)
-    ack-unreset b t h =
-        let next : Arrival × ControlBlock = on_acked (record b { send = after_ack b.send t.ack t.seq t.wnd }) t in
-        cond_both (not t.flags.ack) (Fine, b) (cond (nat_lt b.send.nxt (seq_offset t.ack b.send.iss)) (AckOwed, owing b) next) Unreset (λ u. h) (λ u.
-        cond_both (nat_lt b.send.nxt (seq_offset t.ack b.send.iss)) (AckOwed, owing b) next Unreset (λ v. h) (λ v. acked-unreset (record b { send = after_ack b.send t.ack t.seq t.wnd }) t h))
-
-    syn-unreset : (b : ControlBlock) → b.reset ≡ false → Unreset (on_syn b s)
-    syn-unreset b h = cond_both s.flags.syn (AckOwed, owing b) (on_ack b s) Unreset (λ u. h) (λ u. ack-unreset b s h)
-
-    rst-unreset : (b : ControlBlock) → b.reset ≡ false → Unreset (on_rst b s)
-    rst-unreset b h = cond_both (not s.flags.rst) (on_syn b s) (cond (s.seq == rcv_nxt b) (Reset, record b { reset = true }) (AckOwed, owing b)) Unreset (λ u. syn-unreset b h) (λ u. absurd (both_ways (not s.flags.rst) u (ap not plain)))
-
-    unacceptable-unreset : (b : ControlBlock) → b.reset ≡ false → Unreset (on_unacceptable b s)
-    unacceptable-unreset b h =
-        cond_both (is_allowed (rcv_nxt b) (rcv_wnd b) s) (AckOwed, (on_ack (owing b) (bare s)).1) (cond s.flags.rst (Fine, b) (AckOwed, owing b)) Unreset (λ u. ack-unreset (owing b) (bare s) h)
-        (λ u. cond_both s.flags.rst (Fine, b) (AckOwed, owing b) Unreset (λ v. h) (λ v. h))
-
-    segment-unreset : (b : ControlBlock) → b.reset ≡ false → Unreset (on_segment b s)
-    segment-unreset b h = cond_both (is_acceptable (rcv_nxt b) (rcv_wnd b) s) (on_rst b s) (on_unacceptable b s) Unreset (λ u. rst-unreset b h) (λ u. unacceptable-unreset b h)
+    segment-unreset : (b : ControlBlock) → b.reset ≡ false → (on_segment b s).1.reset ≡ false
+    segment-unreset b h = segment-keeps b s (λ d. d.reset ≡ false) (record {
+      rests = λ owed. h;
+      resets = λ t. absurd (both_ways s.flags.rst plain t);
+      acks = λ owed c. h;
+      comes = λ c some. h;
+    })
 
     pub segment-fresh : (b : ControlBlock) → IsFresh isn b → IsFresh isn (on_segment b s).1
     segment-fresh b h =
@@ -182,16 +136,11 @@ module _ (isn : ℕ) where
     reset = reset ∙ h.reset;
   }
 
-  piece-reset : (b c d : ControlBlock) (p : Option Piece) → c.reset ≡ b.reset → d.reset ≡ b.reset → (after_piece c p d).reset ≡ b.reset
-  piece-reset b c d (Some p) e f = e
-  piece-reset b c d None e f = f
-
   emit-reset : (b : ControlBlock) → (after_emit b).reset ≡ b.reset
-  emit-reset b = cond_both b.reset b (after_piece (advanced b) (next_piece b.send) (after_owed (advanced b))) (λ (d : ControlBlock). d.reset ≡ b.reset) (λ t. refl)
-      (λ t. piece-reset b (advanced b) (after_owed (advanced b)) (next_piece b.send) refl (cond_both (owes (advanced b)) (told (advanced b)) (advanced b) (λ (d : ControlBlock). d.reset ≡ b.reset) (λ u. refl) (λ u. refl)))
+  emit-reset b = emit-keeps (λ d. d.reset ≡ b.reset) b refl refl refl
 
   timer-reset : (b : ControlBlock) → (after_timer b).reset ≡ b.reset
-  timer-reset b = cond_both b.reset b (after_piece (retried b) (resent_piece b.send) (retried b)) (λ (d : ControlBlock). d.reset ≡ b.reset) (λ t. refl) (λ t. piece-reset b (retried b) (retried b) (resent_piece b.send) refl refl)
+  timer-reset b = timer-keeps (λ d. d.reset ≡ b.reset) b refl refl refl
 
   emit-fresh : (b : ControlBlock) → IsFresh isn b → IsFresh isn (after_emit b)
   emit-fresh b h = of-recv b (after_emit b) (emit-recv b) (emit-reset b) h
@@ -228,7 +177,7 @@ module _ (isn : ℕ) where
     c = env.serve.c
 
     stays : (b : ControlBlock) (count : ℕ) → IsFresh isn b → StageIsFresh isn (stage_after stage.Held (rested b count))
-    stays b count h = cond_both (may_end b) (ending.Over _) (ending.Here b count) (λ (e : Ending). StageIsFresh isn (stage_after stage.Held e)) (λ t. absurd (both_ways (may_end b) (may-not b h) t)) (λ t. h)
+    stays b count h = rested-keeps (λ (e : Ending). StageIsFresh isn (stage_after stage.Held e)) b count (λ t. absurd (both_ways (may_end b) (may-not b h) t)) (λ t. h)
 
     holds-early : (row : FrontRow) (rest : FrontRest) (w : Service) (before : List (Place × List ℕ)) → IsFresh isn w.block → AreTold c (AcksFirst isn) before → DeedIsEarly c (holds p row rest (spoken env.serve w before))
     holds-early row rest w before h sent =

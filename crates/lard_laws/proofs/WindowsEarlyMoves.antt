@@ -1,11 +1,8 @@
 -- Each rule keeps that of an open client which is not established nothing is known but its SYN.
 use Rattle.std.proofs.Common.{◌≡◌, ◌≤◌, ◌+◌, ◌^◌, ℕ, Bool, true, false, List, [], ◌∷◌, ◌++◌, map, Option, Some, None, Result, Ok, refl, sym, ap, ◌∙◌, subst, arith}
 use Rattle.std.proofs.lemmas.Bool.{both_ways}
-use Rattle.lard_arrival.specs.Arrival.{seg_len}
+use Rattle.lard_law_view.specs.Prelude.{BackRow, Client, ClientBlock, ClientRules, Conn, ControlBlock, FirstChoice, Front, FrontConn, FrontRow, FrontRules, IsConnSound, IsFrontEnv, IsUntouchedLaw, Letter, MayRestOn, Move, Node, NodeEnv, NodeGets, NodePart, NodeRules, Place, Said, Seen, SegFault, Setting, Station, Stay, Stream, Talk, ToClient, ToCluster, Turn, TurnSaid as SaidIn, Untouched, UntouchedRules, Was, admitted_at, admitted_by, again_sent, ask_of, client_aborts, client_begins, client_does, client_gets, client_holds, client_opens, client_shuts, client_takes, client_timer, client_writes, decoded, event_seen, front_asked, front_does, front_ended, front_gets, front_taken, front_timer, grown, is_client_open, letter, letters_of, node_does, nothing_said, packet_seen, request, seg_len, seq_offset, spelled, stands, tale_at}
 use Rattle.lard_base.specs.declared.event.Event.TheVariants as event
-use Rattle.lard_base.specs.declared.place.Place.{Place}
-use Rattle.lard_base.specs.declared.place.Place.TheVariants.{Client, Front, Node}
-use Rattle.lard_client.specs.Control.{ClientBlock, is_client_open}
 use Rattle.lard_laws.proofs.AcksRuns.{front-station, node-station}
 use Rattle.lard_law_connections.specs.BytesAgreement.{ConnAgrees, IsFair, IsFairOn, IsInner, IsNodePlace, IsOpen, IsTruthful, IsConnUnopened}
 use Rattle.lard_law_connections.proofs.BytesClientMoves.{has-fair, open-at}
@@ -13,42 +10,21 @@ use Rattle.lard_law_connections.specs.Places.{IsPast, Sits, owning}
 use Rattle.lard_law_connections.proofs.PlacesFrontRules.{has-each}
 use Rattle.lard_law_connections.proofs.PlacesTurns.{IsPlaced}
 use Rattle.lard_law_connections.proofs.SilenceTurns.{AreTold}
-use Rattle.lard_law_view.specs.Carry.{IsUntouchedLaw, MayRestOn, Untouched, tale_at}
-use Rattle.lard_law_view.specs.View.{AreSent, ClientRules, Conn, FrontRules, IsFrontEnv, IsConnSound, Move, NodeRules, TurnSaid as SaidIn, Setting, UntouchedRules, Was, brought_said, client_begins, client_does, content_said, event_seen, front_does, grown, letter, letters_of, node_does, nothing_said, packet_seen, reads_first, stands}
+use Rattle.lard_law_view.proofs.EachNode.{NodeComes, aside_said, aside_seen, each-node, node_goes}
 use Rattle.lard_law_view.proofs.Guarded.{untouched-weaker}
 use Rattle.lard_laws.specs.WindowsEarly.{RowIsFresh, StageIsFresh}
 use Rattle.lard_laws.specs.WindowsWords.{FitsClient, FitsOn, HasFittingWords, HasStarted, Starts, StartsOn, WordFits}
+use Rattle.lard_laws.proofs.NodeDeeds.{again-letters, aside-letters}
 use Rattle.lard_laws.proofs.WindowsEarly.{AcksFirst, DeedIsEarly, fires-early, hears-early}
 use Rattle.lard_laws.proofs.WindowsWordRuns.{by-aborts, by-holds, by-shuts, by-takes, by-timer, by-writes, hears-turned}
 use Rattle.lard_laws.proofs.WindowsWords.{IsLater}
 use Rattle.lard_laws.proofs.WindowsWordTurns.{Turned}
 use Rattle.lard_rules.specs.Front as front
-use Rattle.lard_rules.specs.Front.{ask_of, front_admitted, front_asked, front_ended, front_gets, front_taken, front_timer, admitted_by, admitted_at}
-use Rattle.lard_handoff_back.specs.declared.row.BackRow.{BackRow}
-use Rattle.lard_handoff_front.specs.declared.row.FrontConn.{FrontConn}
 use Rattle.lard_handoff_front.specs.declared.row.FrontConn.TheVariants as stage
-use Rattle.lard_handoff_front.specs.declared.row.FrontRow.{FrontRow}
-use Rattle.lard_history.specs.Journal.{request}
-use Rattle.lard_history.specs.Own.{Letter, Seen}
 use Rattle.lard_history.proofs.Each.{Each, Each-append, Each-weaker}
-use Rattle.lard_journal.specs.declared.rec.Rec.TheVariants as rec
-use Rattle.lard_law_view.specs.Truthful.{Talk}
+use Rattle.lard_rules.proofs.NodeCases.{IsHereWith, IsInItsEpoch, KeptByNode, node-keeps}
 use Rattle.lard_rules.specs.Node as node
-use Rattle.lard_rules.specs.Node.{NodePart, again_sent, both_of, come_by, node_fired_by, here, node_acknowledged, node_content, node_forwarded, node_offered, node_read, node_tagged, node_timer, node_read_by}
-use Rattle.lard_rules.specs.Stay.{NodeEnv}
-use Rattle.lard_handoff_back.specs.Back.{back_endpoint, staying}
-use Rattle.lard_policy.specs.declared.first.FirstChoice.{FirstChoice}
-use Rattle.lard_resend.specs.declared.kept.Kept.{Kept}
-use Rattle.lard_resend.specs.Pending.{sent_of}
-use Rattle.lard_rules.specs.declared.places.Station.{Station}
-use Rattle.lard_rules.specs.declared.places.Turn.{Turn}
-use Rattle.lard_rules.specs.Client.{client_aborts, client_gets, client_holds, client_opens, client_shuts, client_takes, client_timer, client_writes}
 use Rattle.lard_segment.proofs.Again.{again}
-use Rattle.lard_segment.specs.declared.fault.SegFault.{SegFault}
-use Rattle.lard_segment.specs.declared.segment.Dir.TheVariants.{ToClient, ToCluster}
-use Rattle.lard_segment.specs.Segment.{Said, decoded, spelled}
-use Rattle.lard_seq.specs.Seq.{seq_offset}
-use Rattle.lard_law_view.specs.Truth.{Stream}
 
 -- ---- letters, by how they were spelled
 
@@ -97,21 +73,6 @@ inner-are c isn ls h = Each-weaker IsInner (LetterIs c isn) (λ l i. go l.from l
   go (Node m) (Client d) bytes i j = absurd j
   go Front to bytes i j = absurd i
   go (Client d) to bytes i j = absurd i
-
--- ---- a node that has none does nothing with it
-
-module _ (env : NodeEnv) (p : NodePart) (none : p.row ≡ None) where
-  here-none : here env.epoch p ≡ None
-  here-none = ap (λ (q : Option BackRow). both_of (staying env.epoch q) p.stay) none
-
-  content-none : (from r : ℕ) → node_content env p from r ≡ node.Drops
-  content-none from r = ap (come_by env from r p) here-none
-
-  read-none : (r : ℕ) → node_read env p r ≡ node.Drops
-  read-none r = ap (node_read_by env r p) here-none
-
-  timer-none : node_timer env p ≡ node.Says (again_sent p)
-  timer-none = ap (node_fired_by env p) (ap (λ (q : Option BackRow). both_of (back_endpoint q) p.stay) none)
 
 module _ (k : Setting) (small : k.stream ≤ 2 ^ 30) where
   -- what is known beside it
@@ -222,56 +183,54 @@ module _ (k : Setting) (small : k.stream ≤ 2 ^ 30) where
 
   -- ---- the nodes
 
-  node-rule : (x : Conn) (v : Move) → v.part.station ≡ x.part.station → ((s : Station) → IsEarlySo x s → IsEarlySo (grown x v) s) → Keeps x v
-  node-rule x v same f help h = by-early x v same (λ s there open_ una e. f s e) h
-
   -- nothing changes but what is said
   said-still : (x : Conn) (s : Station) (place : Place) (heads : List Seen) (said : SaidIn) → IsEarlySo x s → Each (LetterIs x.c s.client.send.iss) (letters_of (stands x place heads said)) → IsEarlySo (grown x (stands x place heads said)) s
   said-still x s place heads said h more = record { front = h.front; nodes = h.nodes; letters = Each-append (LetterIs x.c s.client.send.iss) x.letters (letters_of (stands x place heads said)) h.letters more }
 
   stands-rule : (x : Conn) (place : Place) (heads : List Seen) (said : SaidIn) → ((c isn : ℕ) → Each (LetterIs c isn) (letters_of (stands x place heads said))) → Keeps x (stands x place heads said)
-  stands-rule x place heads said more = node-rule x (stands x place heads said) refl (λ s h. said-still x s place heads said h (more x.c s.client.send.iss))
+  stands-rule x place heads said more help h =
+      by-early x (stands x place heads said) refl (λ s there open_ una e. said-still x s place heads said e (more x.c s.client.send.iss)) h
 
-  never-rule : (x : Conn) (n : ℕ) (bytes : List ℕ) (v : Move) → v.part.station ≡ x.part.station → Was x Front (Node n) bytes → Keeps x v
-  never-rule x n bytes v same was = node-rule x v same (λ s h. absurd (none-said x s Front (Node n) bytes h was))
+  -- a node that has none does nothing with it, and it hears nothing of the front end
+  module _ (x : Conn) (n epoch : ℕ) (env : NodeEnv) (heads : List Seen) (sound : IsConnSound x) (s : Station) (h : IsEarlySo x s) where
+    abbrev p : NodePart
+    p = x.part.nodes n
 
-  drops-rule : (x : Conn) (n : ℕ) (heads : List Seen) (d : node.NodeDeed) → ((x.part.nodes n).row ≡ None → d ≡ node.Drops) → Keeps x (node_does x n heads d)
-  drops-rule x n heads d none = node-rule x (node_does x n heads d) (node-station x n heads d) (λ s h.
-      subst (λ (e : node.NodeDeed). IsEarlySo (grown x (node_does x n heads e)) s) (sym (none (h.nodes n))) (said-still x s (Node n) heads nothing_said h tt))
+    abbrev Early : node.NodeDeed → Type 0
+    Early d = IsEarlySo (grown x (node_does x n heads d)) s
 
-  -- what is kept was sent
-  kept-said : (x : Conn) (s : Station) (n : ℕ) → IsEarlySo x s → (ks : List Kept) → AreSent x (Node n) ks → Each (LetterIs x.c s.client.send.iss) (map (letter (Node n)) (map sent_of ks))
-  kept-said x s n h [] sent = tt
-  kept-said x s n h (q ∷ ks) sent = (none-said x s (Node n) q.to q.bytes h sent.0.1, kept-said x s n h ks sent.1)
+    none-here : (b : ControlBlock) (t : Stay) → IsHereWith env.epoch p b t → ⊥
+    none-here b t at = let no : None ≡ Some at.row = sym (h.nodes n) ∙ at.found in cc
 
-  sent-append : (x : Conn) (n : ℕ) (xs ys : List Kept) → AreSent x (Node n) xs → AreSent x (Node n) ys → AreSent x (Node n) (xs ++ ys)
-  sent-append x n [] ys h g = g
-  sent-append x n (a ∷ xs) ys h g = (h.0, sent-append x n xs ys h.1 g)
+    never : (bytes : List ℕ) → Was x Front (Node n) bytes → ⊥
+    never bytes was = none-said x s Front (Node n) bytes h was
 
-  timer-rule : (x : Conn) (n : ℕ) (heads : List Seen) (env : NodeEnv) → Keeps x (node_does x n heads (node_timer env (x.part.nodes n)))
-  timer-rule x n heads env help h = node-rule x (node_does x n heads (node_timer env (x.part.nodes n))) (node-station x n heads (node_timer env (x.part.nodes n))) (λ s e.
-      let p : NodePart = x.part.nodes n in
-      subst (λ (d : node.NodeDeed). IsEarlySo (grown x (node_does x n heads d)) s) (sym (timer-none env p (e.nodes n)))
-      (said-still x s (Node n) heads (record nothing_said { messages = again_sent p }) e (kept-said x s n e (p.kept ++ p.fetches) (sent-append x n p.kept p.fetches (help.sound.kept n) (help.sound.fetches n))))) help h
+    rules_early : KeptByNode env p (NodeComes x n epoch heads) Early
+    rules_early = record {
+      drops = said-still x s (Node n) heads nothing_said h tt;
+      hears = λ said b t m at. absurd (none-here b t at);
+      tags = λ number nodes b t m at asked same count. absurd (none-here b t at);
+      comes = λ from r b t m at wanted. absurd (none-here b t at);
+      reads = λ r path b t m at. absurd (none-here b t at);
+      begins = λ parts m new. absurd (never m.bytes m.was);
+      takes_again = λ parts m again. absurd (never m.bytes m.was);
+      fires = λ b t m at. absurd (none-here b t at);
+      resends = λ m none. said-still x s (Node n) heads (record nothing_said { messages = again_sent p }) h
+          (again-letters (LetterIs x.c s.client.send.iss) x sound h.letters n);
+      ends = λ m told. absurd (never m.bytes m.was);
+    }
 
-  read-again : (x : Conn) (s : Station) (n r : ℕ) (path : List ℕ) (d : node.NodeDeed) → IsEarlySo (grown x (node_does x n [] d)) s → IsEarlySo (grown x (reads_first (rec.Read n n x.c r path) (node_does x n [] d))) s
-  read-again x s n r path d e = record { front = e.front; nodes = e.nodes; letters = e.letters }
+    rule-early : (g : NodeGets) → IsInItsEpoch env p g → NodeComes x n epoch heads g → IsEarlySo (grown x (node_goes x n env heads g)) s
+    rule-early g at comes = let e = node-keeps env p (NodeComes x n epoch heads) Early rules_early g at comes in
+        record { front = e.front; nodes = e.nodes; letters = e.letters }
 
   node-rules : NodeRules k Keeps
-  node-rules = record {
-    offered = λ x n epoch env parts bytes is spells was. never-rule x n bytes (node_does x n (packet_seen Front (Node n) bytes) (node_offered env (x.part.nodes n) parts)) (node-station x n (packet_seen Front (Node n) bytes) (node_offered env (x.part.nodes n) parts)) was;
-    forwarded = λ x n epoch env segment bytes is spells was. never-rule x n bytes (node_does x n (packet_seen Front (Node n) bytes) (node_forwarded env (x.part.nodes n) (decoded segment x.c ToCluster))) (node-station x n (packet_seen Front (Node n) bytes) (node_forwarded env (x.part.nodes n) (decoded segment x.c ToCluster))) was;
-    tagged = λ x n epoch number tags env bytes is spells was. never-rule x n bytes (node_does x n (packet_seen Front (Node n) bytes) (node_tagged env (x.part.nodes n) number tags)) (node-station x n (packet_seen Front (Node n) bytes) (node_tagged env (x.part.nodes n) number tags)) was;
-    acknowledged = λ x n epoch env bytes is spells was. never-rule x n bytes (node_does x n (packet_seen Front (Node n) bytes) (node_acknowledged env (x.part.nodes n))) (node-station x n (packet_seen Front (Node n) bytes) (node_acknowledged env (x.part.nodes n))) was;
-    content = λ x n from epoch r env file bytes is spells was. drops-rule x n (packet_seen (Node from) (Node n) bytes) (node_content env (x.part.nodes n) from r) (λ none. content-none env (x.part.nodes n) none from r);
-    read = λ x n epoch r env path is. node-rule x (reads_first (rec.Read n n x.c r path) (node_does x n [] (node_read env (x.part.nodes n) r))) (node-station x n [] (node_read env (x.part.nodes n) r)) (λ s h.
-        read-again x s n r path (node_read env (x.part.nodes n) r)
-        (subst (λ (e : node.NodeDeed). IsEarlySo (grown x (node_does x n [] e)) s) (sym (read-none env (x.part.nodes n) (h.nodes n) r)) (said-still x s (Node n) [] nothing_said h tt)));
-    fires = λ x s n env there is. timer-rule x n (event_seen (event.Timer (Node n) x.c)) env;
-    answers = λ x n from epoch r path file bytes there spells was. stands-rule x (Node n) (packet_seen (Node from) (Node n) bytes) (content_said k n from x.c epoch r path) (λ c isn. (tt, tt));
-    queues = λ x n from epoch r path file bytes there spells was. stands-rule x (Node n) (packet_seen (Node from) (Node n) bytes) (record nothing_said { notes = rec.Queued n from x.c r path ∷ [] }) (λ c isn. tt);
-    brings = λ x n from epoch r path. stands-rule x (Node n) [] (brought_said k n from x.c epoch r path) (λ c isn. (tt, tt));
-  }
+  node-rules = each-node k Keeps (record {
+    does = λ x n epoch env heads g is at comes help h.
+        by-early x (node_goes x n env heads g) (node-station x n heads (node.node_rule env (x.part.nodes n) g))
+        (λ s there open_ una e. rule-early x n epoch env heads help.sound s e g at comes) h;
+    aside = λ x n a may. stands-rule x (Node n) (aside_seen n a) (aside_said k n x.c a) (λ c isn. aside-letters (LetterIs c isn) (λ n to bytes. tt) k x n a);
+  })
 
   -- ---- clients
 

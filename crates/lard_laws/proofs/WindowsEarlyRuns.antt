@@ -1,13 +1,10 @@
 -- Of an open client which is not established nothing is known but its SYN, in every run.
 use Rattle.std.proofs.Common.{◌≡◌, ◌<◌, ◌^◌, ℕ, Bool, true, false, List, [], ◌∷◌, Option, Some, None, refl, sym, ap, ◌∙◌, arith}
-use Rattle.lard_base.specs.declared.place.Place.{Place}
-use Rattle.lard_base.specs.declared.place.Place.TheVariants.{Client, Front, Node}
+use Rattle.lard_law_view.specs.Prelude.{Client, Conn, FilesAt, Front, IsReply, Letter, Node, Place, Said, Setting, Station, Talk, ToClient, Untouched, decoded, double_word_at, seq_add, seq_offset, setting, spelled}
 use Rattle.lard_law_connections.specs.BytesAgreement.{IsFair, IsFairOn, IsOpen, IsTruthful}
 use Rattle.lard_law_connections.proofs.BytesClientMoves.{open-at}
 use Rattle.lard_law_connections.proofs.BytesRuns.{states-truthful}
 use Rattle.lard_law_connections.proofs.PlacesRuns.{each-placed}
-use Rattle.lard_law_view.specs.Carry.{Untouched, setting}
-use Rattle.lard_law_view.specs.View.{Conn, Setting}
 use Rattle.lard_law_view.proofs.Carried.{carried}
 use Rattle.lard_law_view.proofs.Guarded.{untouched-law}
 use Rattle.lard_laws.specs.WindowsEarly.{AcksSyn, EarlyOn, IsEarly, LetterIsEarly, StaysEarly, StaysEarlyOn}
@@ -16,17 +13,8 @@ use Rattle.lard_laws.proofs.ClientsFirsts.{four}
 use Rattle.lard_laws.proofs.WindowsRefusals.{ack-same, flags-spelled}
 use Rattle.lard_laws.proofs.WindowsLetters.{same-said}
 use Rattle.lard_laws.proofs.WindowsWordRuns.{clients-start, words-fit}
-use Rattle.lard_answers.specs.Answers.{FilesAt}
-use Rattle.lard_history.specs.Own.{Letter}
 use Rattle.lard_history.proofs.Each.{Each}
-use Rattle.lard_law_view.specs.Agreement.{IsReply}
-use Rattle.lard_law_view.specs.Truthful.{Talk}
-use Rattle.lard_rules.specs.declared.places.Station.{Station}
 use Rattle.lard_segment.proofs.Again.{again}
-use Rattle.lard_segment.specs.declared.segment.Dir.TheVariants.{ToClient}
-use Rattle.lard_segment.specs.Fields.{double_word_at}
-use Rattle.lard_segment.specs.Segment.{Said, decoded, spelled}
-use Rattle.lard_seq.specs.Seq.{seq_add, seq_offset}
 use Rattle.lard_seq.proofs.Laws.{offset-add}
 use Rattle.lard_laws.proofs.WindowsEarlyMoves.{EarlyAt, Given, IsEarlyIn, IsEarlySo, LetterIs, Spelled, SpelledOn, early-law}
 

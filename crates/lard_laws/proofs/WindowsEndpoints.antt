@@ -2,39 +2,23 @@
 use Rattle.std.proofs.Common.{◌≡◌, ◌≤◌, ◌<◌, ◌+◌, ◌-◌, ◌^◌, ◌==◌, ◌&&◌, ◌||◌, nat_lt, max, ℕ, Bool, true, false, cond, List, ◌++◌, length, take, drop, Option, Some, None, refl, ap, ◌∙◌, subst, arith}
 use Rattle.std.proofs.lemmas.Bool.{both_ways, cond_both, eqb-true, ltb-false}
 use Rattle.std.proofs.lemmas.List.{length-take}
-use Rattle.lard_answers.specs.Answers.{answer}
-use Rattle.lard_arrival.specs.Arrival.{seg_len}
+use Rattle.lard_law_view.specs.Prelude.{ControlBlock, IsControlBlock, IsSendable, IsSending, Ready, Received, Said, Sending, ServeEnv, Service, Speaks, Verdict, Via, ack_ready, acknowledged_bytes, advanced, after_ack, after_emit, after_next, after_piece, after_resend, after_timer, answer, answered, closes, consuming, discarding_on, emitted, ended_at_fin, filled, final_of, finishing, is_newer, limit_said, may_read, may_send, moved_up, next_fin, next_len, next_piece, on_segment, one_if, owes, passed_over, piece_ready, piece_seq, queued, queueing, rcv_nxt, rcv_wnd, ready_of, resent_piece, retried, seg_len, seq_add, seq_offset, speaks, symbols, timed, told, windowed}
 use Rattle.lard_base.specs.declared.place.Reason.TheVariants.{Limit}
-use Rattle.lard_base.specs.declared.place.Via.{Via}
 use Rattle.lard_law_connections.proofs.LimitsServing.{reads-unfinished}
 use Rattle.lard_law_connections.proofs.LimitsWorking.{KeptByServing}
 use Rattle.lard_law_connections.proofs.SilenceEndpoints.{Anything, window-wide}
 use Rattle.lard_law_connections.proofs.SilenceTurns.{IsKept}
 use Rattle.lard_laws.specs.Windows.{IsEnd, ReachesFar}
 use Rattle.lard_laws.proofs.WindowsPieces.{IsSent, next-is, resend-is}
-use Rattle.lard_endpoint.specs.Arriving.{on_segment}
-use Rattle.lard_endpoint.specs.Control.{ControlBlock, IsControlBlock, consuming, discarding_on, finishing, queueing, rcv_nxt, rcv_wnd}
-use Rattle.lard_endpoint.specs.Leaving.{ack_ready, advanced, after_emit, after_piece, after_timer, emitted, filled, owes, piece_ready, piece_seq, ready_of, retried, timed, told}
-use Rattle.lard_endpoint.specs.Moving.{final_of}
 use Rattle.lard_endpoint.proofs.Sound.{after_emit-sound, after_next-sound, after_resend-sound, after_timer-sound, on_segment-sound, queueing-sound}
 use Rattle.lard_endpoint.proofs.Windows.{emitted-tells, timed-tells}
 use Rattle.lard_law_view.proofs.EndpointStreams.{segment-takes}
-use Rattle.lard_recv.specs.Recv.{Received}
 use Rattle.lard_recv.proofs.Window.{arrived-irs}
-use Rattle.lard_request.specs.declared.verdict.Verdict.{Verdict}
-use Rattle.lard_request.specs.Verdict.{closes}
-use Rattle.lard_rules.specs.Serving.{ServeEnv, Service, answered, ended_at_fin, limit_said, may_read, passed_over, queued}
-use Rattle.lard_rules.specs.Speaking.{speaks}
 use Rattle.lard_rules.proofs.Endpoints.{consuming-sound, finishing-sound}
 use Rattle.lard_rules.proofs.Halves.{KeptBySending, endpoint-emit, endpoint-fires, endpoint-segment}
 use Rattle.lard_rules.proofs.Loops.{speaks_keep}
-use Rattle.lard_segment.specs.declared.segment.Ready.{Ready}
-use Rattle.lard_segment.specs.Segment.{IsSendable, Said}
 use Rattle.lard_send.specs.declared.piece.Piece.{Piece}
-use Rattle.lard_send.specs.Send.{IsSending, Sending, acknowledged_bytes, after_ack, after_next, after_resend, is_newer, may_send, moved_up, next_fin, next_len, next_piece, resent_piece, symbols, windowed}
-use Rattle.lard_seq.specs.Seq.{one_if, seq_add, seq_offset}
 use Rattle.lard_seq.proofs.Laws.{offset-add}
-use Rattle.lard_law_view.specs.Truth.{Speaks}
 use Rattle.lard_law_view.proofs.Endpoint.{arriving-speaks, emit-left, emitted-fair, timed-fair, timer-left}
 use Rattle.lard_law_view.proofs.Speaking.{next-moves, resend-moves, speaks-closed, speaks-queued}
 

@@ -1,8 +1,7 @@
 -- What the front end forwards was a packet of the client's.
 use Rattle.std.proofs.Common.{◌≡◌, ℕ, List, [], ◌∷◌, ◌++◌, map, Option, Some, None, Result, Ok, Err, IfSome, refl, sym, ap, ◌∙◌, subst}
 use Rattle.lard_base.specs.declared.event.Event.TheVariants as event
-use Rattle.lard_base.specs.declared.place.Place.{Place}
-use Rattle.lard_base.specs.declared.place.Place.TheVariants.{Client, Front, Node}
+use Rattle.lard_law_view.specs.Prelude.{AreSent, Body, Client, ClientRules, Conn, ControlBlock, Front, FrontConn, FrontDeed, FrontEnv, FrontRow, FrontRules, Has, IsFrontEnv, IsLaw, Kept, Letter, MayRestOn, Message, Move, Node, NodeRules, Place, Rules, Said, Seen, SegFault, ServeEnv, Setting, ToCluster, ask_of, client_does, client_injects, decoded, decoded_message, event_seen, front_asked, front_does, front_ended, front_gets, front_taken, front_timer, grown, inject_seen, kind_of, letter, letters_of, node_does, nothing_said, packet_seen, parts_of, sent_of, setting, stands}
 use Rattle.lard_law_connections.proofs.BytesMessages.{forwards-read}
 use Rattle.lard_law_connections.proofs.PlacesFrontRules.{has-each}
 use Rattle.lard_law_connections.proofs.PlacesHeads.{kinds-same}
@@ -10,41 +9,23 @@ use Rattle.lard_law_connections.proofs.SilenceEndpoints.{AnyReply, Anything}
 use Rattle.lard_law_connections.proofs.SilenceFronts as fronts
 use Rattle.lard_law_connections.proofs.SilenceTurns.{AreTold, IsKept, nobody}
 use Rattle.lard_law_connections.specs.SilencePlaces.{FrontHas, FrontStageHas}
-use Rattle.lard_law_view.specs.Carry.{IsLaw, MayRestOn, setting}
-use Rattle.lard_law_view.specs.View.{AreSent, ClientRules, Conn, FrontRules, IsFrontEnv, Move, NodeRules, Rules, Setting, brought_said, client_begins, client_does, content_said, event_seen, front_does, grown, letter, inject_seen, letters_of, node_does, nothing_said, packet_seen, stands}
 use Rattle.lard_law_view.proofs.Carried.{carried}
+use Rattle.lard_law_view.proofs.EachNode.{aside_said, aside_seen, each-node}
+use Rattle.lard_law_view.proofs.Frames.{IsAtClient, Owed, clients-leave}
+use Rattle.lard_law_view.proofs.Guarded.{client-weaker}
 use Rattle.lard_laws.proofs.ClientsTelling as telling
 use Rattle.lard_laws.proofs.ClientsTelling.{DeedTells}
 use Rattle.lard_laws.specs.WindowsLaws.{ForwardsComeFromClients}
 use Rattle.lard_laws.specs.Windows.{AnyBlock}
 use Rattle.lard_laws.specs.WindowsWords.{ForwardWas, ForwardWasOn, ForwardsWere}
-use Rattle.lard_endpoint.specs.Control.{ControlBlock}
-use Rattle.lard_endpoint.specs.Moving.{parts_of}
 use Rattle.lard_rules.specs.Front as front
-use Rattle.lard_rules.specs.Front.{FrontDeed, Drops, Says, Does, FrontEnv, ask_of, front_asked, front_ended, front_gets, front_taken, front_timer, message}
-use Rattle.lard_handoff_front.specs.declared.row.FrontConn.{FrontConn}
+use Rattle.lard_rules.specs.Front.{Drops, Says, Does, message}
 use Rattle.lard_handoff_front.specs.declared.row.FrontConn.TheVariants as stage
-use Rattle.lard_handoff_front.specs.declared.row.FrontRow.{FrontRow}
-use Rattle.lard_history.specs.Journal.{request}
-use Rattle.lard_history.specs.Own.{Has, Letter, Seen}
 use Rattle.lard_history.proofs.Each.{Each, Each-append, Each-weaker}
 use Rattle.lard_history.proofs.Seeing.{has-before}
-use Rattle.lard_journal.specs.declared.rec.Rec.TheVariants as rec
 use Rattle.lard_message.specs.declared.kind.Kind.TheVariants as kind
-use Rattle.lard_message.specs.declared.message.Body.{Body}
 use Rattle.lard_message.specs.declared.message.Body.TheVariants as body
-use Rattle.lard_message.specs.declared.message.Message.{Message}
-use Rattle.lard_message.specs.Message.{kind_of}
-use Rattle.lard_message.specs.Reading.{decoded_message}
 use Rattle.lard_rules.specs.Node as node
-use Rattle.lard_rules.specs.Node.{node_acknowledged, node_content, node_forwarded, node_offered, node_read, node_tagged, node_timer}
-use Rattle.lard_resend.specs.declared.kept.Kept.{Kept}
-use Rattle.lard_resend.specs.Pending.{sent_of}
-use Rattle.lard_rules.specs.Client.{client_aborts, client_gets, client_holds, client_injects, client_opens, client_shuts, client_takes, client_timer, client_writes}
-use Rattle.lard_rules.specs.Serving.{ServeEnv}
-use Rattle.lard_segment.specs.declared.fault.SegFault.{SegFault}
-use Rattle.lard_segment.specs.declared.segment.Dir.TheVariants.{ToClient, ToCluster}
-use Rattle.lard_segment.specs.Segment.{Said, decoded}
 
 -- ---- letters
 
@@ -189,52 +170,33 @@ module _ (k : Setting) where
     go (Node n) to differs = tt
     go (Client d) to differs = tt
 
-  node-rule : (x : Conn) (n : ℕ) (heads : List Seen) (d : node.NodeDeed) → Keeps x (node_does x n heads d)
-  node-rule x n heads node.Drops may h = grows x (node_does x n heads node.Drops) tt h
-  node-rule x n heads (node.Says ms) may h = grows x (node_does x n heads (node.Says ms)) (other-from x _ (Node n) (λ e. cc) ms) h
-  node-rule x n heads (node.Does given) may h =
-      let v : Move = node_does x n heads (node.Does given) in
+  any-rule : (x : Conn) (v : Move) → (Front ≡ v.place → ⊥) → Keeps x v
+  any-rule x v other may h =
       let ls : List Letter = x.letters ++ letters_of v in
-      grows x v (Each-append (ForwardWas x.c ls) (map (letter (Node n)) given.1.segments) (map (letter (Node n)) given.1.messages) (other-from x ls (Node n) (λ e. cc) given.1.segments) (other-from x ls (Node n) (λ e. cc) given.1.messages)) h
+      grows x v (Each-append (ForwardWas x.c ls) (map (letter v.place) v.said.segments) (map (letter v.place) v.said.messages)
+      (other-from x ls v.place other v.said.segments) (other-from x ls v.place other v.said.messages)) h
 
-  client-rule : (x : Conn) (v : Move) (ss : List (Place × List ℕ)) → letters_of v ≡ map (letter (Client x.c)) ss ++ [] → Keeps x v
-  client-rule x v ss is may h = grows x v (subst (Each (ForwardWas x.c (x.letters ++ letters_of v))) (sym is)
-      (Each-append (ForwardWas x.c (x.letters ++ letters_of v)) (map (letter (Client x.c)) ss) [] (other-from x (x.letters ++ letters_of v) (Client x.c) (λ e. cc) ss) tt)) h
-
-  still-rule : (x : Conn) (v : Move) → ((ls : List Letter) → Each (ForwardWas x.c ls) (letters_of v)) → Keeps x v
-  still-rule x v new may h = grows x v (new (x.letters ++ letters_of v)) h
+  node-rule : (x : Conn) (n : ℕ) (heads : List Seen) (d : node.NodeDeed) → Keeps x (node_does x n heads d)
+  node-rule x n heads node.Drops = any-rule x (node_does x n heads node.Drops) (λ e. cc)
+  node-rule x n heads (node.Says ms) = any-rule x (node_does x n heads (node.Says ms)) (λ e. cc)
+  node-rule x n heads (node.Does given) = any-rule x (node_does x n heads (node.Does given)) (λ e. cc)
 
   node-rules : NodeRules k Keeps
-  node-rules = record {
-    offered = λ x n epoch env parts bytes is spells was. node-rule x n (packet_seen Front (Node n) bytes) (node_offered env (x.part.nodes n) parts);
-    forwarded = λ x n epoch env segment bytes is spells was. node-rule x n (packet_seen Front (Node n) bytes) (node_forwarded env (x.part.nodes n) (decoded segment x.c ToCluster));
-    tagged = λ x n epoch number tags env bytes is spells was. node-rule x n (packet_seen Front (Node n) bytes) (node_tagged env (x.part.nodes n) number tags);
-    content = λ x n from epoch r env file bytes is spells was. node-rule x n (packet_seen (Node from) (Node n) bytes) (node_content env (x.part.nodes n) from r);
-    acknowledged = λ x n epoch env bytes is spells was. node-rule x n (packet_seen Front (Node n) bytes) (node_acknowledged env (x.part.nodes n));
-    read = λ x n epoch r env path is. node-rule x n [] (node_read env (x.part.nodes n) r);
-    fires = λ x s n env there is. node-rule x n (event_seen (event.Timer (Node n) x.c)) (node_timer env (x.part.nodes n));
-    answers = λ x n from epoch r path file bytes there spells was. still-rule x (stands x (Node n) (packet_seen (Node from) (Node n) bytes) (content_said k n from x.c epoch r path)) (λ ls. (tt, tt));
-    queues = λ x n from epoch r path file bytes there spells was. still-rule x (stands x (Node n) (packet_seen (Node from) (Node n) bytes) (record nothing_said { notes = rec.Queued n from x.c r path ∷ [] })) (λ ls. tt);
-    brings = λ x n from epoch r path. still-rule x (stands x (Node n) [] (brought_said k n from x.c epoch r path)) (λ ls. (tt, tt));
-  }
+  node-rules = each-node k Keeps (record {
+    does = λ x n epoch env heads g is at comes. node-rule x n heads (node.node_rule env (x.part.nodes n) g);
+    aside = λ x n a may. any-rule x (stands x (Node n) (aside_seen n a) (aside_said k n x.c a)) (λ e. cc);
+  })
+
+  by-client : (x : Conn) (v : Move) → Owed IsAtClient x v → Keeps x v
+  by-client x v frame may = any-rule x v (λ e. let no : Front ≡ Client x.c = e ∙ (frame may.number may.sound).client in cc) may
 
   client-rules : ClientRules k Keeps
-  client-rules = record {
-    opens = λ x isn iss wnd mss rule none. client-rule x (client_begins x isn iss wnd mss) (client_opens x.c isn wnd mss).1.segments refl;
-    gets = λ x s path there fits. client-rule x (client_does x s (event_seen (event.Get x.c path)) (client_writes s.client (request path))) (client_writes s.client (request path)).1.segments refl;
-    writes = λ x s bytes there fits. client-rule x (client_does x s (event_seen (event.Write x.c bytes)) (client_writes s.client bytes)) (client_writes s.client bytes).1.segments refl;
-    shuts = λ x s there. client-rule x (client_does x s (event_seen (event.Shut x.c)) (client_shuts s.client)) (client_shuts s.client).1.segments refl;
-    aborts = λ x s there. client-rule x (client_does x s (event_seen (event.Abort x.c)) (client_aborts s.client)) (client_aborts s.client).1.segments refl;
-    holds = λ x s there. client-rule x (client_does x s (event_seen (event.Hold x.c)) (client_holds s.client)) (client_holds s.client).1.segments refl;
-    takes = λ x s there. client-rule x (client_does x s (event_seen (event.Take x.c)) (client_takes s.client)) (client_takes s.client).1.segments refl;
-    fires = λ x s there. client-rule x (client_does x s (event_seen (event.Timer (Client x.c) x.c)) (client_timer s.client)) (client_timer s.client).1.segments refl;
-    hears = λ x s from bytes there was. client-rule x (client_does x s (packet_seen from (Client x.c) bytes) (client_gets s.client (decoded bytes x.c ToClient))) (client_gets s.client (decoded bytes x.c ToClient)).1.segments refl;
-  }
+  client-rules = client-weaker k (Owed IsAtClient) Keeps by-client (clients-leave k IsAtClient (λ x v at own number sound. at))
 
   rules : Rules k Keeps
   rules = record {
-    untouched = record { client = client-rules; front = front-rules; node = node-rules; ignores = λ x from to bytes was. still-rule x (stands x to (packet_seen from to bytes) nothing_said) (λ ls. tt) };
-    injects = λ x s bytes there rule. client-rule x (client_does x s (inject_seen x.c bytes) (client_injects s.client bytes)) (client_injects s.client bytes).1.segments refl;
+    untouched = record { client = client-rules; front = front-rules; node = node-rules; ignores = λ x from to bytes was may h. grows x (stands x to (packet_seen from to bytes) nothing_said) tt h };
+    injects = λ x s bytes there rule. any-rule x (client_does x s (inject_seen x.c bytes) (client_injects s.client bytes)) (λ e. cc);
   }
 
   forwards-law : IsLaw k Nothing ForwardsWere

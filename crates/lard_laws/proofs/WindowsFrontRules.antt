@@ -2,8 +2,7 @@
 use Rattle.std.proofs.Common.{◌≡◌, ◌≤◌, ◌<◌, ◌^◌, ◌&&◌, not, ℕ, true, List, [], Option, Some, None, Result, Ok, IfSome, refl, sym, ap, ◌∙◌, subst, arith}
 use Rattle.std.proofs.lemmas.Bool.{and_parts, cond_both}
 use Rattle.lard_base.specs.declared.event.Event.TheVariants as event
-use Rattle.lard_base.specs.declared.place.Place.TheVariants.{Client, Front, Node}
-use Rattle.lard_base.specs.declared.place.Reason.{Reason}
+use Rattle.lard_law_view.specs.Prelude.{Client, Conn, ControlBlock, Final, Front, FrontRow, FrontRules, IsFrontEnv, IsWord, Move, Node, Reason, Said, Seen, SegFault, Setting, Station, ToCluster, Was, ask_of, decoded, event_seen, front_asked, front_does, front_ended, front_gets, front_taken, front_timer, grown, is_plain_syn, is_telling, last_ack, last_words, listening, packet_seen, refusal}
 use Rattle.lard_base.specs.declared.place.Reason.TheVariants as reason
 use Rattle.lard_laws.proofs.AcksRuns.{front-station}
 use Rattle.lard_law_connections.specs.BytesAgreement.{EndedWithNumbers, IsFair, IsFairOn, IsTruthful, SeatAgrees, StageAgrees}
@@ -13,26 +12,14 @@ use Rattle.lard_law_connections.specs.SilencePlaces.{FrontHas}
 use Rattle.lard_law_connections.proofs.SilenceEndpoints.{Anything}
 use Rattle.lard_law_connections.proofs.SilenceFronts as fronts
 use Rattle.lard_law_connections.proofs.SilenceTurns.{IsKept}
-use Rattle.lard_law_view.specs.View.{Conn, FrontRules, IsFrontEnv, Move, Setting, Was, event_seen, front_does, grown, packet_seen}
 use Rattle.lard_laws.specs.Windows.{EndSent, FrontSent, StationReaches, SymbolsWereSent}
 use Rattle.lard_laws.proofs.WindowsEndpoints.{endpoint-law}
 use Rattle.lard_laws.proofs.WindowsMoves.{GoesOn, Home, Known, Says, front-moves, known}
 use Rattle.lard_laws.proofs.WindowsPlaces.{closed-alone, front-at, front-sent, front_sent, home-alone, unborn-alone}
-use Rattle.lard_endpoint.specs.declared.control.moving.Final.{Final}
-use Rattle.lard_endpoint.specs.Control.{ControlBlock, listening}
 use Rattle.lard_rules.specs.Front as front
-use Rattle.lard_rules.specs.Front.{ask_of, front_asked, front_ended, front_gets, front_taken, front_timer}
 use Rattle.lard_handoff_front.specs.declared.row.FrontConn.TheVariants as stage
-use Rattle.lard_handoff_front.specs.declared.row.FrontRow.{FrontRow}
-use Rattle.lard_history.specs.Own.{Seen}
-use Rattle.lard_law_view.specs.Agreement.{IsWord}
-use Rattle.lard_rules.specs.declared.places.Station.{Station}
-use Rattle.lard_rules.specs.Tombstone.{is_plain_syn, is_telling, last_ack, last_words, refusal}
 use Rattle.lard_rules.proofs.Endpoints.{listening-sound}
 use Rattle.lard_segment.proofs.Again.{again}
-use Rattle.lard_segment.specs.declared.fault.SegFault.{SegFault}
-use Rattle.lard_segment.specs.declared.segment.Dir.TheVariants.{ToCluster}
-use Rattle.lard_segment.specs.Segment.{Said, decoded}
 use Rattle.lard_law_view.proofs.Endpoint.{listening-begins}
 use Rattle.lard_laws.proofs.WindowsOpen as known
 use Rattle.lard_laws.proofs.WindowsOpen.{by-station}

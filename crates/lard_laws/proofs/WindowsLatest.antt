@@ -1,12 +1,9 @@
 -- What follows where few bytes were written: an established client sent all that it has, and an endpoint has an open window.
 use Rattle.std.proofs.Common.{◌≡◌, ℕ, List, Some, refl, subst}
 use Rattle.lard_law_connections.proofs.PlacesFrontRules.{has-each}
-use Rattle.lard_law_view.specs.View.{Conn, SpellsMessage, Was}
-use Rattle.lard_base.specs.declared.place.Place.TheVariants.{Client, Front, Node}
+use Rattle.lard_law_view.specs.Prelude.{Client, Conn, Front, Has, Node, SpellsMessage, Station, Was}
 use Rattle.lard_laws.specs.WindowsWords.{BytesFit, ForwardWas, ForwardsWere, HasFittingWords, FitsOn, WordFits}
-use Rattle.lard_history.specs.Own.{Has}
 use Rattle.lard_message.specs.declared.message.Body.TheVariants as body
-use Rattle.lard_rules.specs.declared.places.Station.{Station}
 
 -- ---- a segment that was forwarded fits as the client's do
 

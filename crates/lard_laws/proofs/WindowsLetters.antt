@@ -1,17 +1,11 @@
 -- What goes out reaches, where each segment does; and it goes on as more is sent.
 use Rattle.std.proofs.Common.{◌≡◌, ◌⊎◌, ◌≤◌, ℕ, List, [], ◌∷◌, map, Result, Ok, inl, inr, refl, sym, ap, ◌∙◌, subst, arith}
-use Rattle.lard_base.specs.declared.place.Place.{Place}
-use Rattle.lard_base.specs.declared.place.Place.TheVariants.{Client, Front, Node}
+use Rattle.lard_law_view.specs.Prelude.{Client, Front, IsMachine, IsSendable, Letter, Node, Place, Said, SegFault, ToClient, decoded, letter}
 use Rattle.lard_law_connections.proofs.SilenceTurns.{AreTold}
-use Rattle.lard_law_view.specs.View.{IsMachine, letter}
 use Rattle.lard_law_view.proofs.Saying.{AreMessages}
 use Rattle.lard_laws.specs.Windows.{BytesReach, LetterReaches, LetterReachesOn, ReachesFar}
-use Rattle.lard_history.specs.Own.{Letter}
 use Rattle.lard_history.proofs.Each.{Each, Each-weaker}
 use Rattle.lard_segment.proofs.Again.{again}
-use Rattle.lard_segment.specs.declared.fault.SegFault.{SegFault}
-use Rattle.lard_segment.specs.declared.segment.Dir.TheVariants.{ToClient}
-use Rattle.lard_segment.specs.Segment.{IsSendable, Said, decoded}
 
 -- ---- as more is sent
 

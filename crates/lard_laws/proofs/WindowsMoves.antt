@@ -1,14 +1,11 @@
 -- What a move leaves of how far windows reach, by what goes out in it.
 use Rattle.std.proofs.Common.{◌≡◌, ◌⊎◌, ⊎_elim, ◌≤◌, ◌<◌, ◌+◌, ◌^◌, ℕ, List, [], ◌++◌, map, Option, Some, None, sym, subst, arith}
-use Rattle.lard_base.specs.declared.place.Place.{Place}
-use Rattle.lard_base.specs.declared.place.Place.TheVariants.{Client, Front, Node}
-use Rattle.lard_client.specs.Control.{ClientBlock}
+use Rattle.lard_law_view.specs.Prelude.{Client, ClientBlock, Conn, ControlBlock, Front, FrontRow, IsMachine, Letter, Node, NodePart, Place, Said, Seen, Station, Turn, client_does, front_does, grown, letter, letters_of, node_does, stands}
 use Rattle.lard_law_connections.specs.SilencePlaces.{FrontHas, KnownHas, NodeHas}
 use Rattle.lard_law_connections.proofs.SilenceFronts as fronts
 use Rattle.lard_law_connections.proofs.SilenceNodes as nodes
 use Rattle.lard_law_connections.proofs.SilencePlaces.{front-weaker, known-front, node-weaker}
 use Rattle.lard_law_connections.proofs.SilenceTurns.{AreTold, nobody}
-use Rattle.lard_law_view.specs.View.{Conn, IsMachine, client_does, front_does, grown, letter, letters_of, node_does, stands}
 use Rattle.lard_law_view.specs.View as view
 use Rattle.lard_law_view.proofs.Fine.{IsItsOwn}
 use Rattle.lard_law_view.proofs.Parts.{put-each}
@@ -17,17 +14,10 @@ use Rattle.lard_laws.specs.Windows.{AnyBlock, ClientReaches, EndSent, FrontSent,
 use Rattle.lard_laws.proofs.WindowsEndpoints.{Goes, Replies}
 use Rattle.lard_laws.proofs.WindowsLetters.{by-told, letters-more, messages-reach, told-reach}
 use Rattle.lard_laws.proofs.WindowsPlaces.{FrontAlone, NodeAlone, RowIsAway, away-has, front-alone, past-has}
-use Rattle.lard_endpoint.specs.Control.{ControlBlock}
 use Rattle.lard_rules.specs.Front as front
-use Rattle.lard_handoff_front.specs.declared.row.FrontRow.{FrontRow}
-use Rattle.lard_history.specs.Own.{Letter, Seen}
 use Rattle.lard_history.proofs.Each.{Each, Each-append}
 use Rattle.lard_law_view.proofs.Acked.{taken_by}
 use Rattle.lard_rules.specs.Node as node
-use Rattle.lard_rules.specs.Node.{NodePart}
-use Rattle.lard_rules.specs.declared.places.Station.{Station}
-use Rattle.lard_rules.specs.declared.places.Turn.{Turn}
-use Rattle.lard_segment.specs.Segment.{Said}
 
 -- ---- a client's
 
@@ -197,17 +187,17 @@ module _ (x : Conn) (s : Station) (h : StationReaches x s) where
     abbrev pub There : Type 0
     There = NodeAlone n x.part
 
-    pub node-moves : (heads : List Seen) (d : node.NodeDeed) → nodes.DeedHas (GoesOn sent small There) AnyBlock (Says sent small There) x.c d → IsItsOwn x (node_does x n heads d) → StationReaches (grown x (node_does x n heads d)) s
+    pub node-moves : (heads : List Seen) (d : node.NodeDeed) → nodes.DeedHas (GoesOn sent small There) AnyBlock (Says sent small There) x.c d → AreMessages x.c (node_does x n heads d).place (node_does x n heads d).said.messages → StationReaches (grown x (node_does x n heads d)) s
     node-moves heads node.Drops g own = idle-moves (Node n) heads view.nothing_said (λ u. tt)
-    node-moves heads (node.Says ms) g own = idle-moves (Node n) heads (record view.nothing_said { messages = ms }) (λ u. messages-reach x.c isn s.iss u (Node n) ms own.messages)
+    node-moves heads (node.Says ms) g own = idle-moves (Node n) heads (record view.nothing_said { messages = ms }) (λ u. messages-reach x.c isn s.iss u (Node n) ms own)
     node-moves heads (node.Does given) g own = record {
       client = h.client;
       most = h.most + g.1.0.send.nxt;
-      letters = new-letters sent small There (Node n) tt ss ms own.messages g.1.0 g.1.1;
+      letters = new-letters sent small There (Node n) tt ss ms own g.1.0 g.1.1;
       begins = ⊎_elim (λ (none : ss ≡ []). old-begins all (quiet none) x.part.front.row h.begins) (λ (there : There). away-begins all x.part.front.row there.0) told;
       front = ⊎_elim (λ (none : ss ≡ []). old-front all (quiet none) x.part.front.row h.front) (λ (there : There). away-has (New all) x.part.front.row there.0) told;
       nodes = put-each x.part.nodes n given.0 (λ m p. NodeHas (New all) AnyBlock p)
-          (node-weaker (λ (b : ControlBlock). GoesOn sent small There b × AreTold x.c (Says sent small There b) ss) (New all) AnyBlock (new-end sent small There (Node n) tt ss ms own.messages) given.0 g.0)
+          (node-weaker (λ (b : ControlBlock). GoesOn sent small There b × AreTold x.c (Says sent small There b) ss) (New all) AnyBlock (new-end sent small There (Node n) tt ss ms own) given.0 g.0)
           (λ m other. ⊎_elim
           (λ (none : ss ≡ []). old-node all (quiet none) (x.part.nodes m) (h.nodes m))
           (λ (there : There). past-has (New all) AnyBlock there.1.0 (x.part.nodes m) (there.1.1 m other)) told);
@@ -222,7 +212,7 @@ module _ (x : Conn) (s : Station) (h : StationReaches x s) where
       all = map (letter (Node n)) given.1.segments ++ map (letter (Node n)) given.1.messages
 
       quiet : given.1.segments ≡ [] → (u : ℕ) → Each (LetterReaches x.c isn s.iss u) (map (letter (Node n)) given.1.segments ++ map (letter (Node n)) given.1.messages)
-      quiet none = silent sent small There (Node n) tt given.1.segments given.1.messages own.messages none
+      quiet none = silent sent small There (Node n) tt given.1.segments given.1.messages own none
 
       told : (given.1.segments ≡ []) ⊎ There
-      told = told-known sent small There (Node n) tt given.1.segments given.1.messages own.messages g.1.0 g.1.1
+      told = told-known sent small There (Node n) tt given.1.segments given.1.messages own g.1.0 g.1.1

@@ -1,59 +1,22 @@
 -- What is adopted from an Offer sent all that there was.
-use Rattle.std.proofs.Common.{◌≡◌, ⊎_elim, ◌≤◌, ◌<◌, ◌+◌, ◌^◌, ◌==◌, ◌&&◌, nat_lt, ℕ, Bool, true, false, cond, List, [], ◌∷◌, length, Option, Some, None, Result, Ok, refl, sym, ap, ◌∙◌, subst, arith}
-use Rattle.std.proofs.lemmas.Bool.{and_parts, both_ways, ltb-true}
-use Rattle.lard_answers.specs.Answers.{FilesAt}
-use Rattle.lard_arrival.specs.Arrival.{seg_len}
-use Rattle.lard_base.specs.declared.parts.EndpointParts.{EndpointParts}
-use Rattle.lard_base.specs.declared.place.Place.{Place}
-use Rattle.lard_base.specs.declared.place.Place.TheVariants.{Client, Front, Node}
-use Rattle.lard_rules.specs.Bounds.{IsConnNumber}
-use Rattle.lard_laws.proofs.AcksOffers.{IsOfferOf, adopted-between, offer-is}
+use Rattle.std.proofs.Common.{◌≡◌, ⊎_elim, ◌≤◌, ◌<◌, ◌+◌, ◌^◌, ℕ, Bool, true, false, cond, List, [], ◌∷◌, length, Result, Ok, refl, sym, ap, ◌∙◌, subst, arith}
+use Rattle.std.proofs.lemmas.Bool.{both_ways}
+use Rattle.lard_law_view.specs.Prelude.{Client, Conn, EndpointParts, FilesAt, Front, IsBare, IsConnNumber, IsTrueOf, Letter, Node, Part, Place, Said, SegFault, SpellsMessage, Stands as StandsIn, Station, Stream, Talk, ToClient, Verdict, Was, adopted, decoded, offer_answer, one_if, seg_len, seq_offset}
+use Rattle.lard_laws.proofs.AcksOffers.{IsOfferOf, adopted-between, new-is, new-offer}
 use Rattle.lard_law_connections.specs.BytesAgreement.{IsFair, IsFairOn, IsOpen}
-use Rattle.lard_law_connections.specs.Places.{IsDecided, IsOffered, Offers}
-use Rattle.lard_law_connections.proofs.PlacesFrontMessages.{came-says}
 use Rattle.lard_law_connections.proofs.PlacesTurns.{IsPlaced}
 use Rattle.lard_law_connections.proofs.SilenceEndpoints.{adopted-turns}
 use Rattle.lard_law_connections.proofs.SilenceRuns.{offer-valid}
-use Rattle.lard_law_view.specs.View.{Conn, Part, SpellsMessage, Was}
 use Rattle.lard_laws.specs.Windows.{IsEnd, LetterReaches, LetterReachesOn, StationReaches, SymbolsWereSent}
 use Rattle.lard_laws.proofs.WindowsClients.{taken-most}
 use Rattle.lard_laws.proofs.WindowsPlaces.{NodeAlone, offered-alone}
-use Rattle.lard_endpoint.specs.Moving.{adopted}
 use Rattle.lard_endpoint.proofs.Adoption.{Stands, frozen_stands}
-use Rattle.lard_handoff_back.specs.declared.row.BackRow.{BackRow}
-use Rattle.lard_handoff_back.specs.declared.table.Adopt.TheVariants.{New, Again, Stale}
-use Rattle.lard_handoff_back.specs.Back.{offer_answer}
-use Rattle.lard_handoff_back.specs.Row.{is_gone}
-use Rattle.lard_handoff_front.specs.declared.row.FrontConn.{FrontConn}
-use Rattle.lard_handoff_front.specs.declared.row.FrontConn.TheVariants as stage
-use Rattle.lard_handoff_front.specs.declared.row.FrontRow.{FrontRow}
-use Rattle.lard_history.specs.Own.{Letter}
+use Rattle.lard_handoff_back.specs.declared.table.Adopt.TheVariants.{New}
 use Rattle.lard_history.proofs.Each.{Each}
-use Rattle.lard_law_view.specs.Truthful.{Talk}
 use Rattle.lard_law_view.proofs.EndpointStreams.{IsBetween}
 use Rattle.lard_message.specs.declared.message.Body.TheVariants as body
-use Rattle.lard_request.specs.declared.verdict.Verdict.{Verdict}
-use Rattle.lard_rules.specs.declared.places.Station.{Station}
 use Rattle.lard_segment.proofs.Again.{again}
-use Rattle.lard_segment.specs.declared.fault.SegFault.{SegFault}
-use Rattle.lard_segment.specs.declared.segment.Dir.TheVariants.{ToClient}
-use Rattle.lard_segment.specs.Segment.{Said, decoded}
-use Rattle.lard_seq.specs.Seq.{one_if, seq_offset}
 use Rattle.lard_seq.proofs.Laws.{offset-add}
-use Rattle.lard_law_view.specs.Truth.{IsBare, IsTrueOf, Stands as StandsIn, Stream}
-
--- ---- an Offer that is new was not decided
-
-pub new-undecided : (e : ℕ) (q : Option BackRow) → offer_answer e q ≡ New → IsDecided e q → ⊥
-new-undecided e None new d = d
-new-undecided e (Some row) new d = go (row.epoch.0 == e) new where
-  late : (t : Bool) → (nat_lt row.epoch.0 e && is_gone row.stage) ≡ t → cond t New Stale ≡ New → ⊥
-  late true f g = let less = ltb-true row.epoch.0 e (and_parts _ _ f).0 in omega (arith, less, d)
-  late false f g = cc
-
-  go : (t : Bool) → cond t Again (cond (nat_lt row.epoch.0 e && is_gone row.stage) New Stale) ≡ New → ⊥
-  go true g = cc
-  go false g = late (nat_lt row.epoch.0 e && is_gone row.stage) refl g
 
 -- ---- where a true segment stands
 
@@ -170,17 +133,7 @@ module _ (files : FilesAt) (x : Conn) (number : IsConnNumber x.c) (at_place : Is
         open-eof false e = ap one_if e
         open-eof true e = absurd (both_ways l.out.ended (ap (λ (z : Stream). z.ended) f.holds.holds.out_is ∙ (frozen_stands f.block f.holds.holds.sound f.frozen).finished_is) (o.client.accepts.final e).1)
 
-  undecided : IsDecided epoch (x.part.nodes n).row → ⊥
-  undecided = new-undecided epoch (x.part.nodes n).row new
-
-  by-stage : (f : FrontRow) → x.part.front.row ≡ Some f → (d : FrontConn) → f.stage ≡ d → Offers n epoch d → Adopts
-  by-stage f found (stage.Offering m e) at offers =
-      of-offer (offer-is files x number at_place s l pend o n epoch parts bytes spells was f m e found at offers.0 offers.1 undecided) (offered-alone x at_place n f m e found at offers.0)
-  by-stage f found _ at offers = absurd offers
-
-  by-row : (q : Option FrontRow) → x.part.front.row ≡ q → IsOffered n epoch q → Adopts
-  by-row None found offers = absurd offers
-  by-row (Some f) found offers = by-stage f found f.stage refl offers
-
   pub adopts : Adopts
-  adopts = by-row x.part.front.row refl (⊎_elim (λ f. absurd (undecided f)) (λ f. f) (came-says x Front (Node n) epoch (body.Offer parts) bytes at_place.letters was spells))
+  adopts =
+      let f = new-offer x at_place n epoch parts bytes spells was new in
+      of-offer (new-is files x number at_place s l pend o n epoch parts bytes spells was new) (offered-alone x at_place n f.row f.node f.named f.found f.staged f.node_is)

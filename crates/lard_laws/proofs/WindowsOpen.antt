@@ -1,15 +1,11 @@
 -- What is known of a connection whose client opened, beside how far its windows reach.
 use Rattle.std.proofs.Common.{◌≡◌, ◌≤◌, ◌<◌, ◌^◌, Option, Some, None, refl, sym, ap, ◌∙◌, subst, arith}
-use Rattle.lard_client.specs.Control.{client_opened}
-use Rattle.lard_rules.specs.Bounds.{IsConnNumber}
+use Rattle.lard_law_view.specs.Prelude.{Conn, IsConnNumber, IsConnSound, Move, Setting, Station, Stream, grown}
 use Rattle.lard_law_connections.specs.BytesAgreement.{IsOpen, IsTruthful}
 use Rattle.lard_law_connections.proofs.BytesClientMoves.{open-at}
 use Rattle.lard_law_connections.proofs.PlacesTurns.{IsPlaced}
-use Rattle.lard_law_view.specs.View.{Conn, IsConnSound, Move, Setting, grown}
 use Rattle.lard_law_view.proofs.Fine.{IsItsOwn}
 use Rattle.lard_laws.specs.Windows.{IsReaching, ReachesOn, StationReaches}
-use Rattle.lard_rules.specs.declared.places.Station.{Station}
-use Rattle.lard_law_view.specs.Truth.{Stream}
 
 -- ---- a place's move, of a connection whose client opened or not
 

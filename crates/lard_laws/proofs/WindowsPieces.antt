@@ -1,9 +1,8 @@
 -- The symbols of what is sent count as sent from then on.
 use Rattle.std.proofs.Common.{◌≡◌, ◌≤◌, ◌<◌, ◌+◌, ◌-◌, ◌==◌, ◌&&◌, nat_lt, min, max, ℕ, Bool, true, false, cond, Option, Some, None, IfSome, refl, ap, arith, subst}
 use Rattle.std.proofs.lemmas.Bool.{and_parts, eqb-false, eqb-true, ltb-true}
+use Rattle.lard_law_view.specs.Prelude.{IsSending, Sending, after_next, after_resend, again_fin, again_len, byte_piece, may_send, next_fin, next_len, next_piece, one_if, resent_piece, symbols, syn_piece, unsent_bytes}
 use Rattle.lard_send.specs.declared.piece.Piece.{Piece}
-use Rattle.lard_send.specs.Send.{IsSending, Sending, after_next, after_resend, again_fin, again_len, byte_piece, may_send, next_fin, next_len, next_piece, resent_piece, symbols, syn_piece, unsent_bytes}
-use Rattle.lard_seq.specs.Seq.{one_if}
 
 -- where so many symbols were sent then
 pub record IsSent (t : Sending) (p : Piece) : Type 0 where

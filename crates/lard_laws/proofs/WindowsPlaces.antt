@@ -1,23 +1,13 @@
 -- Where one place has a connection, no other has it.
 use Rattle.std.proofs.Common.{◌≡◌, ◌⊎◌, inl, inr, ⊎_elim, ℕ, Option, Some, None, refl, sym, ap, ◌∙◌, subst}
-use Rattle.lard_base.specs.declared.ids.Epoch.{Epoch}
+use Rattle.lard_law_view.specs.Prelude.{BackConn, BackRow, Conn, ControlBlock, Epoch, Final, FrontConn, FrontRow, NodePart, Part, Stay, tale_at}
 use Rattle.lard_law_connections.specs.Places.{ArePast, IsLeft, IsPast, OthersArePast, Owning, Sits, StageSits, owning}
 use Rattle.lard_law_connections.proofs.PlacesNodeRules.{by-node, past-held}
 use Rattle.lard_law_connections.proofs.PlacesTurns.{IsPlaced}
 use Rattle.lard_law_connections.specs.SilencePlaces.{BackHas, BackStageHas, FrontHas, FrontStageHas, HereHas, NodeHas}
-use Rattle.lard_law_view.specs.Carry.{tale_at}
-use Rattle.lard_law_view.specs.View.{Conn, Part}
 use Rattle.lard_laws.specs.Windows.{AnyBlock}
-use Rattle.lard_endpoint.specs.declared.control.moving.Final.{Final}
-use Rattle.lard_endpoint.specs.Control.{ControlBlock}
-use Rattle.lard_handoff_back.specs.declared.row.BackConn.{BackConn}
 use Rattle.lard_handoff_back.specs.declared.row.BackConn.TheVariants as back
-use Rattle.lard_handoff_back.specs.declared.row.BackRow.{BackRow}
-use Rattle.lard_handoff_front.specs.declared.row.FrontConn.{FrontConn}
 use Rattle.lard_handoff_front.specs.declared.row.FrontConn.TheVariants as stage
-use Rattle.lard_handoff_front.specs.declared.row.FrontRow.{FrontRow}
-use Rattle.lard_rules.specs.declared.stay.Stay.{Stay}
-use Rattle.lard_rules.specs.Node.{NodePart}
 
 -- ---- what is known of endpoints by the rows in which they are
 

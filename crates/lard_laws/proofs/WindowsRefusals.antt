@@ -1,32 +1,17 @@
 -- Each segment of the cluster has ACK, or it is the refusal of a segment of the client's.
 use Rattle.std.proofs.Common.{◌≡◌, ⊎_elim, ◌≤◌, ◌<◌, ◌^◌, ℕ, Bool, true, false, cond, List, [], ◌∷◌, Option, Some, None, Ok, refl, sym, ap, ◌∙◌, subst, arith}
 use Rattle.std.specs.Prelude.{slice_index}
-use Rattle.lard_arrival.specs.Arrival.{seg_len}
-use Rattle.lard_base.specs.declared.place.Place.{Place}
-use Rattle.lard_base.specs.declared.place.Place.TheVariants.{Client, Front, Node}
+use Rattle.lard_law_view.specs.Prelude.{Client, Conn, FilesAt, Flags, Front, Has, IsReply, IsSendable, Letter, Node, Place, Said, Setting, Station, Talk, ToClient, ToCluster, decoded, flags_byte, refusal, seg_len, seq_add, setting, spelled}
 use Rattle.lard_laws.specs.Acks.{LetterActs, OpenActs, bounds_of}
 use Rattle.lard_law_connections.specs.BytesAgreement.{ConnAgrees, IsFair, IsFairOn, IsInner, IsNodePlace, IsOpen, IsTruthful, IsConnUnopened}
 use Rattle.lard_law_connections.proofs.BytesClientMoves.{has-fair, open-at}
 use Rattle.lard_law_connections.proofs.BytesRuns.{states-truthful}
-use Rattle.lard_law_view.specs.Carry.{setting}
-use Rattle.lard_law_view.specs.View.{Conn, Setting}
 use Rattle.lard_law_view.proofs.Carried.{carried}
 use Rattle.lard_laws.specs.WindowsLaws.{RefusalsAnswer}
 use Rattle.lard_laws.specs.WindowsRefusals.{BytesRefuse, IsRefusal, IsTurnedDown, RefusesLetter, RefusesOn, RefusesSegments}
-use Rattle.lard_answers.specs.Answers.{FilesAt}
-use Rattle.lard_history.specs.Own.{Has, Letter}
 use Rattle.lard_history.proofs.Each.{Each, Each-weaker}
-use Rattle.lard_law_view.specs.Agreement.{IsReply}
-use Rattle.lard_law_view.specs.Truthful.{Talk}
 use Rattle.lard_law_view.proofs.Acked.{taken_by}
-use Rattle.lard_rules.specs.declared.places.Station.{Station}
-use Rattle.lard_rules.specs.Tombstone.{refusal}
 use Rattle.lard_segment.proofs.Again.{again}
-use Rattle.lard_segment.specs.declared.segment.Dir.TheVariants.{ToClient, ToCluster}
-use Rattle.lard_segment.specs.declared.segment.Flags.{Flags}
-use Rattle.lard_segment.specs.Fields.{flags_byte}
-use Rattle.lard_segment.specs.Segment.{IsSendable, Said, decoded, spelled}
-use Rattle.lard_seq.specs.Seq.{seq_add}
 use Rattle.lard_laws.proofs.WindowsLetters.{same-said}
 use Rattle.lard_laws.proofs.WindowsRefusing.{IsRefused, LetterIs, Nothing, RepliesAre, ReplyIs, ReplyIsOn, replies-law}
 

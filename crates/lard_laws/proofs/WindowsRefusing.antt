@@ -2,48 +2,27 @@
 use Rattle.std.proofs.Common.{◌≡◌, ◌⊎◌, ⊎_elim, inl, inr, ◌&&◌, not, ℕ, Bool, true, false, cond, List, [], ◌∷◌, ◌++◌, map, Option, Some, None, Result, Ok, Err, IfSome, refl, sym, subst}
 use Rattle.std.proofs.lemmas.Bool.{and_parts, cond_both}
 use Rattle.lard_base.specs.declared.event.Event.TheVariants as event
-use Rattle.lard_base.specs.declared.place.Place.{Place}
-use Rattle.lard_base.specs.declared.place.Place.TheVariants.{Client, Front, Node}
-use Rattle.lard_base.specs.declared.place.Reason.{Reason}
+use Rattle.lard_law_view.specs.Prelude.{BackConn, BackRow, Client, ClientRules, Conn, ControlBlock, Final, Front, FrontRules, Has, IsFrontEnv, IsLaw, IsMachine, IsNodeEnv, Letter, MayRestOn, Move, Node, NodeEnv, NodePart, NodeRules, Place, Ready, Reason, Rules, Said, Seen, SegFault, ServeEnv, Setting, Stay, ToClient, ToCluster, ack_ready, advanced, ask_of, client_does, client_injects, decoded, emitted, event_seen, front_asked, front_does, front_ended, front_gets, front_taken, front_timer, grown, inject_seen, is_telling, last_ack, last_words, letter, letters_of, next_piece, node_does, nothing_said, owed_ready, owes, packet_seen, ready_of, refusal, resent_piece, retried, spelled, stands, timed}
 use Rattle.lard_base.specs.declared.place.Reason.TheVariants as reason
 use Rattle.lard_law_connections.specs.SilencePlaces.{BackHas, BackStageHas, HereHas, NodeHas}
 use Rattle.lard_law_connections.proofs.SilenceEndpoints.{Anything}
 use Rattle.lard_law_connections.proofs.SilenceFronts as fronts
 use Rattle.lard_law_connections.proofs.SilenceNodes as nodes
 use Rattle.lard_law_connections.proofs.SilenceTurns.{AreTold, IsKept, nobody}
-use Rattle.lard_law_view.specs.Carry.{IsLaw, MayRestOn}
-use Rattle.lard_law_view.specs.View.{ClientRules, Conn, FrontRules, IsFrontEnv, IsMachine, IsNodeEnv, Move, NodeRules, Rules, Setting, brought_said, client_begins, client_does, content_said, event_seen, front_does, grown, inject_seen, letter, letters_of, node_does, nothing_said, packet_seen, reads_first, stands}
+use Rattle.lard_law_view.proofs.EachNode.{aside_said, aside_seen, each-node}
+use Rattle.lard_law_view.proofs.Frames.{IsAtClient, Owed as Framed, clients-leave}
 use Rattle.lard_law_view.proofs.Fine.{IsFine, IsItsOwn, fine}
-use Rattle.lard_law_view.proofs.Guarded.{both, weaker}
+use Rattle.lard_law_view.proofs.Guarded.{both, weaker, client-weaker}
 use Rattle.lard_law_view.proofs.Saying.{AreMessages}
+use Rattle.lard_laws.proofs.NodeDeeds.{aside-letters}
 use Rattle.lard_laws.specs.Windows.{AnyBlock}
 use Rattle.lard_laws.proofs.WindowsForwards.{any-front}
-use Rattle.lard_endpoint.specs.declared.control.moving.Final.{Final}
-use Rattle.lard_endpoint.specs.Control.{ControlBlock}
-use Rattle.lard_endpoint.specs.Leaving.{ack_ready, advanced, emitted, owed_ready, owes, ready_of, retried, timed}
 use Rattle.lard_rules.specs.Front as front
-use Rattle.lard_rules.specs.Front.{ask_of, front_asked, front_ended, front_gets, front_taken, front_timer}
-use Rattle.lard_handoff_back.specs.declared.row.BackConn.{BackConn}
 use Rattle.lard_handoff_back.specs.declared.row.BackConn.TheVariants as back
-use Rattle.lard_handoff_back.specs.declared.row.BackRow.{BackRow}
-use Rattle.lard_history.specs.Journal.{request}
-use Rattle.lard_history.specs.Own.{Has, Letter, Seen}
 use Rattle.lard_history.proofs.Each.{Each, Each-append, Each-weaker}
 use Rattle.lard_history.proofs.Seeing.{has-before}
-use Rattle.lard_journal.specs.declared.rec.Rec.TheVariants as rec
-use Rattle.lard_rules.specs.declared.stay.Stay.{Stay}
 use Rattle.lard_rules.specs.Node as node
-use Rattle.lard_rules.specs.Node.{NodePart, node_acknowledged, node_content, node_forwarded, node_offered, node_read, node_tagged, node_timer}
-use Rattle.lard_rules.specs.Stay.{NodeEnv}
-use Rattle.lard_rules.specs.Client.{client_aborts, client_gets, client_holds, client_injects, client_opens, client_shuts, client_takes, client_timer, client_writes}
-use Rattle.lard_rules.specs.Tombstone.{is_telling, last_ack, last_words, refusal}
-use Rattle.lard_rules.specs.Serving.{ServeEnv}
-use Rattle.lard_segment.specs.declared.fault.SegFault.{SegFault}
-use Rattle.lard_segment.specs.declared.segment.Dir.TheVariants.{ToClient, ToCluster}
-use Rattle.lard_segment.specs.declared.segment.Ready.{Ready}
-use Rattle.lard_segment.specs.Segment.{Said, decoded, spelled}
 use Rattle.lard_send.specs.declared.piece.Piece.{Piece}
-use Rattle.lard_send.specs.Send.{next_piece, resent_piece}
 
 -- ---- what an endpoint sends has ACK
 
@@ -202,7 +181,7 @@ RepliesAre x = Each (LetterIs x.c x.letters) x.letters
 
 module _ (k : Setting) where
   abbrev Keeps : Conn → Move → Type 0
-  Keeps x v = IsItsOwn x v → RepliesAre x → RepliesAre (grown x v)
+  Keeps x v = MayRestOn Nothing x → IsItsOwn x v → RepliesAre x → RepliesAre (grown x v)
 
   grows : (x : Conn) (v : Move) → Each (LetterIs x.c x.letters) (letters_of v) → RepliesAre x → RepliesAre (grown x v)
   grows x v new h = letters-later x.c x.letters (letters_of v) (x.letters ++ letters_of v) (Each-append (LetterIs x.c x.letters) x.letters (letters_of v) h new)
@@ -214,9 +193,9 @@ module _ (k : Setting) where
   -- ---- the front end
 
   front-rule : (x : Conn) (heads : List Seen) (d : front.FrontDeed) → fronts.DeedHas AnyBlock (Says x.c x.letters) x.c d → Keeps x (front_does x heads d)
-  front-rule x heads front.Drops told own h = grows x (front_does x heads front.Drops) tt h
-  front-rule x heads (front.Says turn) told own h = grows x (front_does x heads (front.Says turn)) (goes-out x Front tt turn.segments turn.messages (told nobody) own.messages) h
-  front-rule x heads (front.Does did) told own h = grows x (front_does x heads (front.Does did)) (goes-out x Front tt did.turn.segments did.turn.messages told.1.1 own.messages) h
+  front-rule x heads front.Drops told may own h = grows x (front_does x heads front.Drops) tt h
+  front-rule x heads (front.Says turn) told may own h = grows x (front_does x heads (front.Says turn)) (goes-out x Front tt turn.segments turn.messages (told nobody) own.messages) h
+  front-rule x heads (front.Does did) told may own h = grows x (front_does x heads (front.Does did)) (goes-out x Front tt did.turn.segments did.turn.messages told.1.1 own.messages) h
 
   own-number : (x : Conn) (env : front.FrontEnv) → IsFrontEnv k x.c env → (d : front.FrontDeed) → fronts.DeedHas AnyBlock (Says x.c x.letters) env.serve.c d → fronts.DeedHas AnyBlock (Says x.c x.letters) x.c d
   own-number x env is d f = subst (λ (c : ℕ). fronts.DeedHas AnyBlock (Says x.c x.letters) c d) is.number f
@@ -237,61 +216,47 @@ module _ (k : Setting) where
 
   -- ---- the nodes
 
-  node-rule : (x : Conn) (n epoch : ℕ) (env : NodeEnv) (heads : List Seen) (d : node.NodeDeed) → IsNodeEnv k x.c n epoch env → nodes.DeedHas AnyBlock AnyBlock (Says x.c x.letters) env.serve.c d → Keeps x (node_does x n heads d)
-  node-rule x n epoch env heads d is f own h = go d (subst (λ (c : ℕ). nodes.DeedHas AnyBlock AnyBlock (Says x.c x.letters) c d) is.number f) own where
-    go : (d : node.NodeDeed) → nodes.DeedHas AnyBlock AnyBlock (Says x.c x.letters) x.c d → IsItsOwn x (node_does x n heads d) → RepliesAre (grown x (node_does x n heads d))
-    go node.Drops told own = grows x (node_does x n heads node.Drops) tt h
-    go (node.Says ms) told own = grows x (node_does x n heads (node.Says ms)) (messages-are x.c x.letters (Node n) ms own.messages) h
-    go (node.Does given) told own = grows x (node_does x n heads (node.Does given)) (goes-out x (Node n) tt given.1.segments given.1.messages told.1.1 own.messages) h
+  node-rule : (x : Conn) (n epoch : ℕ) (env : NodeEnv) (heads : List Seen) (d : node.NodeDeed) → IsNodeEnv k x.c n epoch env
+      → nodes.DeedHas AnyBlock AnyBlock (Says x.c x.letters) env.serve.c d
+      → AreMessages x.c (node_does x n heads d).place (node_does x n heads d).said.messages → RepliesAre x → RepliesAre (grown x (node_does x n heads d))
+  node-rule x n epoch env heads d is f messages h =
+      go d (subst (λ (c : ℕ). nodes.DeedHas AnyBlock AnyBlock (Says x.c x.letters) c d) is.number f) messages where
+        go : (d : node.NodeDeed) → nodes.DeedHas AnyBlock AnyBlock (Says x.c x.letters) x.c d
+            → AreMessages x.c (node_does x n heads d).place (node_does x n heads d).said.messages → RepliesAre (grown x (node_does x n heads d))
+        go node.Drops told own = grows x (node_does x n heads node.Drops) tt h
+        go (node.Says ms) told own = grows x (node_does x n heads (node.Says ms)) (messages-are x.c x.letters (Node n) ms own) h
+        go (node.Does given) told own = grows x (node_does x n heads (node.Does given)) (goes-out x (Node n) tt given.1.segments given.1.messages told.1.1 own) h
 
-  still-rule : (x : Conn) (v : Move) → ((ls : List Letter) → Each (LetterIs x.c ls) (letters_of v)) → Keeps x v
-  still-rule x v new own h = grows x v (new x.letters) h
+  given-any : (x : Conn) (env : NodeEnv) (p : NodePart) (g : node.NodeGets) → nodes.Given env AnyBlock AnyBlock AnyBlock Anything (Says x.c x.letters) (says-kept x.c x.letters env.serve) p g
+  given-any x env p (node.Offered parts) = λ new. tt
+  given-any x env p (node.Forwarded given) = (any-node p, λ s e. tt)
+  given-any x env p _ = any-node p
 
   node-rules : NodeRules k Keeps
-  node-rules = record {
-    offered = λ x n epoch env parts bytes is spells was. node-rule x n epoch env (packet_seen Front (Node n) bytes) (node_offered env (x.part.nodes n) parts) is
-        (nodes.offered-has env AnyBlock AnyBlock AnyBlock Anything (Says x.c x.letters) (says-kept x.c x.letters env.serve) (x.part.nodes n) parts (λ new. tt));
-    forwarded = λ x n epoch env segment bytes is spells was. node-rule x n epoch env (packet_seen Front (Node n) bytes) (node_forwarded env (x.part.nodes n) (decoded segment x.c ToCluster)) is
-        (nodes.forwarded-has env AnyBlock AnyBlock AnyBlock Anything (Says x.c x.letters) (says-kept x.c x.letters env.serve) (x.part.nodes n) (any-node (x.part.nodes n)) (decoded segment x.c ToCluster) (λ s e. tt));
-    tagged = λ x n epoch number tags env bytes is spells was. node-rule x n epoch env (packet_seen Front (Node n) bytes) (node_tagged env (x.part.nodes n) number tags) is
-        (nodes.tagged-has env AnyBlock AnyBlock AnyBlock Anything (Says x.c x.letters) (says-kept x.c x.letters env.serve) (x.part.nodes n) (any-node (x.part.nodes n)) number tags);
-    content = λ x n from epoch r env file bytes is spells was. node-rule x n epoch env (packet_seen (Node from) (Node n) bytes) (node_content env (x.part.nodes n) from r) is
-        (nodes.content-has env AnyBlock AnyBlock AnyBlock Anything (Says x.c x.letters) (says-kept x.c x.letters env.serve) (x.part.nodes n) (any-node (x.part.nodes n)) from r);
-    acknowledged = λ x n epoch env bytes is spells was. node-rule x n epoch env (packet_seen Front (Node n) bytes) (node_acknowledged env (x.part.nodes n)) is
-        (nodes.acknowledged-has env AnyBlock AnyBlock AnyBlock Anything (Says x.c x.letters) (says-kept x.c x.letters env.serve) (x.part.nodes n) (any-node (x.part.nodes n)));
-    read = λ x n epoch r env path is own h. node-rule x n epoch env [] (node_read env (x.part.nodes n) r) is
-        (nodes.read-has env AnyBlock AnyBlock AnyBlock Anything (Says x.c x.letters) (says-kept x.c x.letters env.serve) (x.part.nodes n) (any-node (x.part.nodes n)) r) (read-own x n r env path own) h;
-    fires = λ x s n env there is. node-rule x n _ env (event_seen (event.Timer (Node n) x.c)) (node_timer env (x.part.nodes n)) is
-        (nodes.timer-has env AnyBlock AnyBlock AnyBlock Anything (Says x.c x.letters) (says-kept x.c x.letters env.serve) (x.part.nodes n) (any-node (x.part.nodes n)));
-    answers = λ x n from epoch r path file bytes there spells was. still-rule x (stands x (Node n) (packet_seen (Node from) (Node n) bytes) (content_said k n from x.c epoch r path)) (λ ls. (tt, tt));
-    queues = λ x n from epoch r path file bytes there spells was. still-rule x (stands x (Node n) (packet_seen (Node from) (Node n) bytes) (record nothing_said { notes = rec.Queued n from x.c r path ∷ [] })) (λ ls. tt);
-    brings = λ x n from epoch r path. still-rule x (stands x (Node n) [] (brought_said k n from x.c epoch r path)) (λ ls. (tt, tt));
-  } where
-    read-own : (x : Conn) (n r : ℕ) (env : NodeEnv) (path : List ℕ) → IsItsOwn x (reads_first (rec.Read n n x.c r path) (node_does x n [] (node_read env (x.part.nodes n) r))) → IsItsOwn x (node_does x n [] (node_read env (x.part.nodes n) r))
-    read-own x n r env path own = record { notes = own.notes.1; segments = own.segments; gave = own.gave; messages = own.messages }
+  node-rules = each-node k Keeps (record {
+    does = λ x n epoch env heads g is at comes may own. node-rule x n epoch env heads (node.node_rule env (x.part.nodes n) g) is
+        (nodes.rule-has env AnyBlock AnyBlock AnyBlock Anything (Says x.c x.letters) (says-kept x.c x.letters env.serve) (x.part.nodes n) g at
+        (given-any x env (x.part.nodes n) g)) own.messages;
+    aside = λ x n a there may own h. grows x (stands x (Node n) (aside_seen n a) (aside_said k n x.c a))
+        (aside-letters (LetterIs x.c x.letters) (λ n to bytes. tt) k x n a) h;
+  })
 
   -- ---- clients
 
-  client-rule : (x : Conn) (v : Move) (ss : List (Place × List ℕ)) → letters_of v ≡ map (letter (Client x.c)) ss ++ [] → Keeps x v
-  client-rule x v ss is own h = grows x v (subst (Each (LetterIs x.c x.letters)) (sym is) (Each-append (LetterIs x.c x.letters) (map (letter (Client x.c)) ss) [] (words-are x.c x.letters x.c ss) tt)) h
+  client-rule : (x : Conn) (v : Move) → v.place ≡ Client x.c → Keeps x v
+  client-rule x v at may own h = grows x v (subst
+      (λ (place : Place). Each (LetterIs x.c x.letters) (map (letter place) v.said.segments ++ map (letter place) v.said.messages)) (sym at)
+      (Each-append (LetterIs x.c x.letters) (map (letter (Client x.c)) v.said.segments) (map (letter (Client x.c)) v.said.messages)
+      (words-are x.c x.letters x.c v.said.segments) (words-are x.c x.letters x.c v.said.messages))) h
 
   client-rules : ClientRules k Keeps
-  client-rules = record {
-    opens = λ x isn iss wnd mss rule none. client-rule x (client_begins x isn iss wnd mss) (client_opens x.c isn wnd mss).1.segments refl;
-    gets = λ x s path there fits. client-rule x (client_does x s (event_seen (event.Get x.c path)) (client_writes s.client (request path))) (client_writes s.client (request path)).1.segments refl;
-    writes = λ x s bytes there fits. client-rule x (client_does x s (event_seen (event.Write x.c bytes)) (client_writes s.client bytes)) (client_writes s.client bytes).1.segments refl;
-    shuts = λ x s there. client-rule x (client_does x s (event_seen (event.Shut x.c)) (client_shuts s.client)) (client_shuts s.client).1.segments refl;
-    aborts = λ x s there. client-rule x (client_does x s (event_seen (event.Abort x.c)) (client_aborts s.client)) (client_aborts s.client).1.segments refl;
-    holds = λ x s there. client-rule x (client_does x s (event_seen (event.Hold x.c)) (client_holds s.client)) (client_holds s.client).1.segments refl;
-    takes = λ x s there. client-rule x (client_does x s (event_seen (event.Take x.c)) (client_takes s.client)) (client_takes s.client).1.segments refl;
-    fires = λ x s there. client-rule x (client_does x s (event_seen (event.Timer (Client x.c) x.c)) (client_timer s.client)) (client_timer s.client).1.segments refl;
-    hears = λ x s from bytes there was. client-rule x (client_does x s (packet_seen from (Client x.c) bytes) (client_gets s.client (decoded bytes x.c ToClient))) (client_gets s.client (decoded bytes x.c ToClient)).1.segments refl;
-  }
+  client-rules = client-weaker k (Framed IsAtClient) Keeps (λ x v frame may. client-rule x v (frame may.number may.sound).client may)
+      (clients-leave k IsAtClient (λ x v at own number sound. at))
 
   rules : Rules k Keeps
   rules = record {
-    untouched = record { client = client-rules; front = front-rules; node = node-rules; ignores = λ x from to bytes was. still-rule x (stands x to (packet_seen from to bytes) nothing_said) (λ ls. tt) };
-    injects = λ x s bytes there rule. client-rule x (client_does x s (inject_seen x.c bytes) (client_injects s.client bytes)) (client_injects s.client bytes).1.segments refl;
+    untouched = record { client = client-rules; front = front-rules; node = node-rules; ignores = λ x from to bytes was may own h. grows x (stands x to (packet_seen from to bytes) nothing_said) tt h };
+    injects = λ x s bytes there rule. client-rule x (client_does x s (inject_seen x.c bytes) (client_injects s.client bytes)) refl;
   }
 
   abbrev Owed : Conn → Move → Type 0
@@ -301,7 +266,7 @@ module _ (k : Setting) where
   Wanted x v = MayRestOn Nothing x → RepliesAre x → RepliesAre (grown x v)
 
   wanted : (x : Conn) (v : Move) → Owed x v → Wanted x v
-  wanted x v owed may h = owed.1 (owed.0 may.number may.sound).0 h
+  wanted x v owed may h = owed.1 may (owed.0 may.number may.sound).0 h
 
   pub replies-law : IsLaw k Nothing RepliesAre
   replies-law = record { begins = λ c. tt; moves = weaker k Owed Wanted wanted (both k IsFine Keeps (fine k) rules) }

@@ -4,8 +4,7 @@ use Rattle.lard_law_connections.specs.BytesAgreement.{IsTruthful}
 use Rattle.lard_law_connections.proofs.BytesRuns.{states-truthful}
 use Rattle.lard_law_connections.proofs.PlacesRuns.{each-placed}
 use Rattle.lard_law_connections.proofs.PlacesTurns.{IsPlaced}
-use Rattle.lard_law_view.specs.Carry.{IsUntouchedLaw, MayRestOn, Untouched, setting, tale_at}
-use Rattle.lard_law_view.specs.View.{Conn, Move, Setting, UntouchedRules, grown, nothing_said, packet_seen}
+use Rattle.lard_law_view.specs.Prelude.{Conn, IsUntouchedLaw, MayRestOn, Move, Setting, Untouched, UntouchedRules, grown, nothing_said, packet_seen, setting, tale_at}
 use Rattle.lard_law_view.proofs.Carried.{carried}
 use Rattle.lard_law_view.proofs.Fine.{IsFine, fine}
 use Rattle.lard_law_view.proofs.Guarded.{untouched-both, untouched-law, untouched-weaker}

@@ -1,40 +1,20 @@
 -- Each rule keeps that the segments of a client fit it, so it is in every run.
 use Rattle.std.proofs.Common.{◌≡◌, ◌<◌, ◌≤◌, ◌^◌, nat_lt, false, ℕ, List, [], ◌∷◌, ◌++◌, map, Option, Some, None, Result, Ok, refl, sym, ap, ◌∙◌, subst, arith}
-use Rattle.lard_base.specs.declared.config.Config.{Config}
+use Rattle.lard_law_view.specs.Prelude.{Client, ClientAgrees, ClientBlock, ClientRules, Config, Conn, Front, FrontRules, GoesBetween, Has, HasRule, IsConnNumber, IsConnSound, IsMachine, IsReply, IsUntouchedLaw, Letter, MayRestOn, Move, Node, NodeRules, OfEach, Part, Place, Said, Seen, SegFault, Setting, Station, ToClient, ToCluster, Turn, Untouched, UntouchedRules, Was, client_aborts, client_begins, client_does, client_gets, client_holds, client_opened, client_opens, client_shuts, client_takes, client_timer, client_writes, decoded, event_seen, grown, letter, letters_of, nothing_said, packet_seen, request, setting, spelled, stands, tale_at, written_len}
 use Rattle.lard_base.specs.declared.event.Event.TheVariants as event
-use Rattle.lard_base.specs.declared.place.Place.{Place}
-use Rattle.lard_base.specs.declared.place.Place.TheVariants.{Client, Front, Node}
-use Rattle.lard_client.specs.Control.{ClientBlock, client_opened, written_len}
-use Rattle.lard_rules.specs.Bounds.{HasRule}
-use Rattle.lard_laws.proofs.AcksRuns.{front-station, node-station}
 use Rattle.lard_law_connections.specs.BytesAgreement.{IsFair, IsFairOn, IsTruthful}
 use Rattle.lard_law_connections.proofs.BytesClientMoves.{has-fair, open-at, was-between}
 use Rattle.lard_law_connections.proofs.BytesRuns.{states-truthful}
-use Rattle.lard_law_view.specs.Carry.{IsUntouchedLaw, OfEach, MayRestOn, Untouched, setting, tale_at}
-use Rattle.lard_law_view.specs.View.{ClientRules, Conn, FrontRules, GoesBetween, IsMachine, IsConnSound, Move, NodeRules, Setting, UntouchedRules, Was, brought_said, client_begins, client_does, content_said, event_seen, front_does, grown, letter, letters_of, node_does, nothing_said, packet_seen, reads_first, stands}
 use Rattle.lard_law_view.proofs.Carried.{carried}
-use Rattle.lard_law_view.proofs.Guarded.{untouched-law, untouched-weaker}
+use Rattle.lard_law_view.proofs.Frames.{IsAtMachine, KeepsAt, Owed, fronts-leave, nodes-leave}
+use Rattle.lard_law_view.proofs.Guarded.{untouched-law, untouched-weaker, front-weaker, node-weaker}
 use Rattle.lard_laws.specs.WindowsLaws.{ClientsStart, WordsFit}
 use Rattle.lard_laws.specs.WindowsWords.{BytesFit, FitsClient, FitsOn, HasFittingWords, HasStarted, IsNoWord, IsNoWordOn, StartsOn, WordFits, WordFitsOn}
 use Rattle.lard_laws.proofs.WindowsWords.{IsLater, fits-later, later-self, starts-later}
 use Rattle.lard_laws.proofs.WindowsWordTurns.{Out, Turned, aborts-turned, gets-turned, holds-turned, opens-turned, shuts-turned, takes-turned, timer-turned, writes-turned}
-use Rattle.lard_rules.specs.Front as front
-use Rattle.lard_rules.specs.Front.{ask_of, front_asked, front_ended, front_gets, front_taken, front_timer}
-use Rattle.lard_history.specs.Journal.{request}
-use Rattle.lard_history.specs.Own.{Has, Letter, Seen}
 use Rattle.lard_history.proofs.Each.{Each, Each-append, Each-weaker}
 use Rattle.lard_history.proofs.Seeing.{has-before}
-use Rattle.lard_journal.specs.declared.rec.Rec.TheVariants as rec
-use Rattle.lard_law_view.specs.Agreement.{ClientAgrees, IsReply}
-use Rattle.lard_rules.specs.Node as node
-use Rattle.lard_rules.specs.Node.{node_acknowledged, node_content, node_forwarded, node_offered, node_read, node_tagged, node_timer}
-use Rattle.lard_rules.specs.declared.places.Station.{Station}
-use Rattle.lard_rules.specs.declared.places.Turn.{Turn}
-use Rattle.lard_rules.specs.Client.{client_aborts, client_gets, client_holds, client_opens, client_shuts, client_takes, client_timer, client_writes}
 use Rattle.lard_segment.proofs.Again.{again}
-use Rattle.lard_segment.specs.declared.fault.SegFault.{SegFault}
-use Rattle.lard_segment.specs.declared.segment.Dir.TheVariants.{ToClient, ToCluster}
-use Rattle.lard_segment.specs.Segment.{Said, decoded, spelled}
 
 -- ---- letters go on fitting
 
@@ -104,6 +84,7 @@ All x = HasFittingWords x × HasStarted x
 module _ (k : Setting) (small : k.stream ≤ 2 ^ 30) where
   -- what is known beside the words
   pub record Helps (x : Conn) : Type 0 where
+    pub number : IsConnNumber x.c
     pub sound : IsConnSound x
     pub truth : IsTruthful k.files x
 
@@ -120,58 +101,29 @@ module _ (k : Setting) (small : k.stream ≤ 2 ^ 30) where
         (Each-append (WordFits x.c s.client (x.letters ++ letters_of v)) x.letters (letters_of v)
         (letters-later x.c s.client s.client x.letters (x.letters ++ letters_of v) (later-self s.client) (λ l has. has-before l x.letters (letters_of v) has) x.letters r) (fit x.c s.client (x.letters ++ letters_of v)))
 
-  front-rule : (x : Conn) (heads : List Seen) (d : front.FrontDeed) → Keeps x (front_does x heads d)
-  front-rule x heads d = still-rule x (front_does x heads d) (front-station x heads d) (λ c y ls. fit c y ls d) (none d) where
-    fit : (c : ℕ) (y : ClientBlock) (ls : List Letter) (d : front.FrontDeed) → Each (WordFits c y ls) (letters_of (front_does x heads d))
-    fit c y ls front.Drops = tt
-    fit c y ls (front.Says turn) = Each-append (WordFits c y ls) (map (letter Front) turn.segments) (map (letter Front) turn.messages) (sent-fit c y ls Front tt turn.segments) (sent-fit c y ls Front tt turn.messages)
-    fit c y ls (front.Does did) = Each-append (WordFits c y ls) (map (letter Front) did.turn.segments) (map (letter Front) did.turn.messages) (sent-fit c y ls Front tt did.turn.segments) (sent-fit c y ls Front tt did.turn.messages)
+  -- a machine's says no word of the client's
+  machine-rule : (x : Conn) (v : Move) → IsMachine v.place → v.part.station ≡ x.part.station → Keeps x v
+  machine-rule x v m same = still-rule x v same
+      (λ c y ls. Each-append (WordFits c y ls) (map (letter v.place) v.said.segments) (map (letter v.place) v.said.messages)
+      (sent-fit c y ls v.place m v.said.segments) (sent-fit c y ls v.place m v.said.messages))
+      (Each-append IsNoWord (map (letter v.place) v.said.segments) (map (letter v.place) v.said.messages) (sent-none v.place m v.said.segments)
+      (sent-none v.place m v.said.messages))
 
-    none : (d : front.FrontDeed) → Each IsNoWord (letters_of (front_does x heads d))
-    none front.Drops = tt
-    none (front.Says turn) = Each-append IsNoWord (map (letter Front) turn.segments) (map (letter Front) turn.messages) (sent-none Front tt turn.segments) (sent-none Front tt turn.messages)
-    none (front.Does did) = Each-append IsNoWord (map (letter Front) did.turn.segments) (map (letter Front) did.turn.messages) (sent-none Front tt did.turn.segments) (sent-none Front tt did.turn.messages)
+  station-stays : (place : Place) (p q : Part) → IsMachine place → KeepsAt place p q → q.station ≡ p.station
+  station-stays Front p q m keeps = keeps.0
+  station-stays (Node n) p q m keeps = keeps.0
+  station-stays (Client d) p q m keeps = absurd m
 
-  -- a node's, with the record of a job before it or not
-  module _ (x : Conn) (n : ℕ) where
-    fit : (c : ℕ) (y : ClientBlock) (ls : List Letter) (heads : List Seen) (d : node.NodeDeed) → Each (WordFits c y ls) (letters_of (node_does x n heads d))
-    fit c y ls heads node.Drops = tt
-    fit c y ls heads (node.Says ms) = sent-fit c y ls (Node n) tt ms
-    fit c y ls heads (node.Does given) = Each-append (WordFits c y ls) (map (letter (Node n)) given.1.segments) (map (letter (Node n)) given.1.messages) (sent-fit c y ls (Node n) tt given.1.segments) (sent-fit c y ls (Node n) tt given.1.messages)
-
-    none : (heads : List Seen) (d : node.NodeDeed) → Each IsNoWord (letters_of (node_does x n heads d))
-    none heads node.Drops = tt
-    none heads (node.Says ms) = sent-none (Node n) tt ms
-    none heads (node.Does given) = Each-append IsNoWord (map (letter (Node n)) given.1.segments) (map (letter (Node n)) given.1.messages) (sent-none (Node n) tt given.1.segments) (sent-none (Node n) tt given.1.messages)
-
-  node-rule : (x : Conn) (n : ℕ) (heads : List Seen) (d : node.NodeDeed) → Keeps x (node_does x n heads d)
-  node-rule x n heads d = still-rule x (node_does x n heads d) (node-station x n heads d) (λ c y ls. fit x n c y ls heads d) (none x n heads d)
+  by-frame : (x : Conn) (v : Move) → Owed IsAtMachine x v → Keeps x v
+  by-frame x v frame help =
+      let at : IsAtMachine x v = frame help.number help.sound in
+      machine-rule x v at.machine (station-stays v.place x.part v.part at.machine at.keeps) help
 
   fronts : FrontRules k Keeps
-  fronts = record {
-    hears = λ x s env bytes there is iss was. front-rule x (packet_seen (Client x.c) Front bytes) (front_gets env x.part.front bytes (decoded bytes x.c ToCluster));
-    fires = λ x s env there is. front-rule x (event_seen (event.Timer Front x.c)) (front_timer env x.part.front);
-    taken = λ x env n epoch bytes is spells was. front-rule x (packet_seen (Node n) Front bytes) (front_taken x.part.front epoch);
-    asked = λ x env n epoch number queue size paths bytes is spells was. front-rule x (packet_seen (Node n) Front bytes) (front_asked env x.part.front n epoch (ask_of x.c n number queue size paths));
-    ended = λ x env n epoch reason snd rcv count bytes is spells was. front-rule x (packet_seen (Node n) Front bytes) (front_ended env x.part.front n epoch (record { reason = reason; snd = record { 0 = snd }; rcv = record { 0 = rcv } }));
-    admitted = λ x env choice given is e. front-rule x [] (front.Does (record { part = given.0; turn = given.1; calls = [] }));
-  }
+  fronts = front-weaker k (Owed IsAtMachine) Keeps by-frame (fronts-leave k IsAtMachine (λ x v at own number sound. at))
 
   nodes : NodeRules k Keeps
-  nodes = record {
-    offered = λ x n epoch env parts bytes is spells was. node-rule x n (packet_seen Front (Node n) bytes) (node_offered env (x.part.nodes n) parts);
-    forwarded = λ x n epoch env segment bytes is spells was. node-rule x n (packet_seen Front (Node n) bytes) (node_forwarded env (x.part.nodes n) (decoded segment x.c ToCluster));
-    tagged = λ x n epoch number tags env bytes is spells was. node-rule x n (packet_seen Front (Node n) bytes) (node_tagged env (x.part.nodes n) number tags);
-    content = λ x n from epoch r env file bytes is spells was. node-rule x n (packet_seen (Node from) (Node n) bytes) (node_content env (x.part.nodes n) from r);
-    acknowledged = λ x n epoch env bytes is spells was. node-rule x n (packet_seen Front (Node n) bytes) (node_acknowledged env (x.part.nodes n));
-    read = λ x n epoch r env path is.
-        let d : node.NodeDeed = node_read env (x.part.nodes n) r in
-        still-rule x (reads_first (rec.Read n n x.c r path) (node_does x n [] d)) (node-station x n [] d) (λ c y ls. fit x n c y ls [] d) (none x n [] d);
-    fires = λ x s n env there is. node-rule x n (event_seen (event.Timer (Node n) x.c)) (node_timer env (x.part.nodes n));
-    answers = λ x n from epoch r path file bytes there spells was. still-rule x (stands x (Node n) (packet_seen (Node from) (Node n) bytes) (content_said k n from x.c epoch r path)) refl (λ c y ls. (tt, tt)) (tt, tt);
-    queues = λ x n from epoch r path file bytes there spells was. still-rule x (stands x (Node n) (packet_seen (Node from) (Node n) bytes) (record nothing_said { notes = rec.Queued n from x.c r path ∷ [] })) refl (λ c y ls. tt) tt;
-    brings = λ x n from epoch r path. still-rule x (stands x (Node n) [] (brought_said k n from x.c epoch r path)) refl (λ c y ls. (tt, tt)) (tt, tt);
-  }
+  nodes = node-weaker k (Owed IsAtMachine) Keeps by-frame (nodes-leave k IsAtMachine (λ x v at own number sound. at))
 
   -- ---- clients
 
@@ -278,7 +230,7 @@ module _ (k : Setting) (small : k.stream ≤ 2 ^ 30) where
   Wanted x v = MayRestOn Given x → (tale_at x).touched ≡ false → All x → All (grown x v)
 
   wanted : (x : Conn) (v : Move) → Keeps x v → Wanted x v
-  wanted x v keeps may untouched h = keeps (record { sound = may.sound; truth = may.given untouched }) h
+  wanted x v keeps may untouched h = keeps (record { number = may.number; sound = may.sound; truth = may.given untouched }) h
 
   fitting-law : IsUntouchedLaw k Given All
   fitting-law = record { begins = λ c. (tt, tt); moves = untouched-weaker k Keeps Wanted wanted keeps }

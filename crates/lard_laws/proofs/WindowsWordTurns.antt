@@ -1,52 +1,30 @@
 -- What a client says in the turn of each of its rules.
 use Rattle.std.proofs.Common.{◌≡◌, ◌≤◌, ◌<◌, ◌+◌, ◌^◌, ◌&&◌, ◌||◌, nat_lt, not, ℕ, Bool, true, false, cond, List, [], ◌∷◌, ◌++◌, length, Option, Some, None, Ok, IfSome, refl, sym, ap, ◌∙◌, subst, arith}
 use Rattle.std.proofs.lemmas.Bool.{and_parts, both_ways, cond-true, cond_both, ltb-false, not-true}
-use Rattle.lard_arrival.specs.Arrival.{seg_len}
-use Rattle.lard_base.specs.declared.place.Place.{Place}
-use Rattle.lard_base.specs.declared.place.Place.TheVariants.{Client}
-use Rattle.lard_client.specs.declared.heard.Heard.{Heard}
-use Rattle.lard_client.specs.declared.phase.Phase.{Phase}
+use Rattle.lard_law_view.specs.Prelude.{Client, ClientBlock, Has, Heard, IsClientBlock, IsSendable, Letter, Phase, Place, Ready, Rec, Said, Sending, Speaks, ToClient, ToCluster, Turn, abort_ready, aborted, after_resend, client_aborts, client_after_emit, client_after_piece, client_after_timer, client_arrived, client_filled, client_gets, client_holds, client_opened, client_opens, client_piece_ready, client_ready_of, client_refusal, client_shuts, client_speaks, client_takes, client_timed, client_timer, client_told, client_writes, client_written, decoded, heard_in, heard_open, is_client_open, is_established, is_open_in, is_writing, one_if, queued_too, resent_piece, reset_ready, seg_len, send_closed, seq_offset, shut_down, silent, speaking, spelled, symbols, written_len}
 use Rattle.lard_client.specs.declared.phase.Phase.TheVariants.{Open, Aborted, Reset}
-use Rattle.lard_client.specs.Arriving.{client_arrived, heard_in, heard_open}
-use Rattle.lard_client.specs.Control.{ClientBlock, IsClientBlock, aborted, is_established, is_client_open, is_open_in, is_writing, client_opened, shut_down, client_written, written_len}
-use Rattle.lard_client.specs.Leaving.{abort_ready, client_after_emit, client_after_owed, client_after_piece, client_after_timer, client_filled, client_owes, client_piece_ready, client_ready_of, client_refusal, reset_ready, client_timed, client_told}
 use Rattle.lard_client.proofs.Accepted.{arrived-bounded, arrived-ended, no_reply}
 use Rattle.lard_client.proofs.Windows.{timed-tells}
 use Rattle.lard_laws.specs.WindowsWords.{FitsClient}
 use Rattle.lard_laws.proofs.WindowsPieces.{resend-is}
 use Rattle.lard_laws.proofs.WindowsWords.{IsLater, IsTurning, Says, Spoke, Word, client-ends, fits-later, from-like, later-self, later-then, since-kept, since-self, speaks-words, symbols-small, IsSince}
 use Rattle.lard_endpoint.proofs.Sound.{after_resend-sound}
-use Rattle.lard_history.specs.Own.{Has, Letter}
 use Rattle.lard_history.proofs.Each.{Each, Each-append, Each-weaker}
-use Rattle.lard_journal.specs.declared.rec.Rec.{Rec}
 use Rattle.lard_journal.specs.declared.rec.Rec.TheVariants as rec
 use Rattle.lard_law_view.proofs.ClientAlike.{IsLike, alike, arrived-alike, emit-alike, timer-alike}
-use Rattle.lard_rules.specs.declared.places.Turn.{Turn}
 use Rattle.lard_rules.specs.Client as client
-use Rattle.lard_rules.specs.Client.{client_aborts, client_gets, client_holds, client_opens, client_shuts, client_takes, client_timer, client_writes, silent, speaking}
-use Rattle.lard_rules.specs.Speaking.{client_speaks}
 use Rattle.lard_rules.proofs.Halves.{client-arrived, client-fires, client-shuts}
 use Rattle.lard_rules.proofs.Loops.{client_keeps}
 use Rattle.lard_rules.proofs.Sides.{resend-side}
-use Rattle.lard_segment.specs.declared.segment.Dir.TheVariants.{ToClient, ToCluster}
-use Rattle.lard_segment.specs.declared.segment.Ready.{Ready}
-use Rattle.lard_segment.specs.Segment.{IsSendable, Said, decoded, spelled}
 use Rattle.lard_send.specs.declared.piece.Piece.{Piece}
-use Rattle.lard_send.specs.Send.{Sending, after_next, after_resend, send_closed, next_piece, queued_too, resent_piece, symbols}
-use Rattle.lard_seq.specs.Seq.{one_if, seq_offset}
-use Rattle.lard_law_view.specs.Truth.{Speaks}
 use Rattle.lard_law_view.proofs.Client.{abort-fair, arriving-continues, closing-speaks, reply-fair, timed-fair, written-speaks}
 use Rattle.lard_law_view.proofs.Speaking.{speaks-begun, speaks-resend}
+use Rattle.lard_rules.proofs.Hearing.{client-emit-keeps, client-timer-keeps}
 
 -- ---- it is open as before
 
-open-piece : (x y z : ClientBlock) (p : Option Piece) → is_client_open y ≡ is_client_open x → is_client_open z ≡ is_client_open x → is_client_open (client_after_piece y p z) ≡ is_client_open x
-open-piece x y z (Some p) h k = h
-open-piece x y z None h k = k
-
 emit-open : (x : ClientBlock) → is_client_open (client_after_emit x) ≡ is_client_open x
-emit-open x = cond_both (not (is_client_open x)) x (client_after_piece (record x { send = after_next x.send }) (next_piece x.send) (client_after_owed x)) (λ (y : ClientBlock). is_client_open y ≡ is_client_open x) (λ t. refl)
-    (λ t. open-piece x (record x { send = after_next x.send }) (client_after_owed x) (next_piece x.send) refl (cond_both (client_owes x) (client_told x) x (λ (y : ClientBlock). is_client_open y ≡ is_client_open x) (λ u. refl) (λ u. refl)))
+emit-open x = client-emit-keeps (λ (y : ClientBlock). is_client_open y ≡ is_client_open x) x refl refl refl
 
 speaks-open : (x : ClientBlock) → is_client_open (client_speaks x).1 ≡ is_client_open x
 speaks-open x = client_keeps (λ (x : ClientBlock) ss y. is_client_open y ≡ is_client_open x) (record { rests = λ x. refl; says = λ x r ss y e later. later ∙ emit-open x }) x
@@ -205,14 +183,10 @@ module _ (c : ℕ) (ls : List Letter) where
     timer-later : IsLater x (client_after_timer x)
     timer-later = record { since = client-fires _ (since-kept x.send) x (since-self x.send); window = (timer-alike x).0.1; closed = λ e. open_ ∙ e } where
       open_ : is_client_open (client_after_timer x) ≡ is_client_open x
-      open_ = cond_both (not (is_client_open x)) x (client_after_piece (record x { send = after_resend x.send }) (resent_piece x.send) x) (λ (y : ClientBlock). is_client_open y ≡ is_client_open x) (λ t. refl)
-          (λ t. open-piece x (record x { send = after_resend x.send }) x (resent_piece x.send) refl refl)
+      open_ = client-timer-keeps (λ (y : ClientBlock). is_client_open y ≡ is_client_open x) x refl refl
 
     timer-speaks : Speaks (client_after_timer x).send bytes
-    timer-speaks = cond_both (not (is_client_open x)) x (client_after_piece (record x { send = after_resend x.send }) (resent_piece x.send) x) (λ (y : ClientBlock). Speaks y.send bytes) (λ t. speaks) (λ t. piece (resent_piece x.send)) where
-      piece : (p : Option Piece) → Speaks (client_after_piece (record x { send = after_resend x.send }) p x).send bytes
-      piece (Some p) = (speaks-resend x.send bytes speaks).0
-      piece None = speaks
+    timer-speaks = client-timer-keeps (λ (y : ClientBlock). Speaks y.send bytes) x speaks (speaks-resend x.send bytes speaks).0
 
     pub timer-turned : Turned c x ls (client_timer x)
     timer-turned =

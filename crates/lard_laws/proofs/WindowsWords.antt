@@ -2,32 +2,21 @@
 use Rattle.std.proofs.Common.{◌≡◌, ◌≤◌, ◌<◌, ◌+◌, ◌-◌, ◌^◌, ◌==◌, ◌&&◌, ◌||◌, nat_lt, max, eq-eqb, not, ℕ, Bool, true, false, cond, List, drop, Option, Some, None, refl, sym, ap, ◌∙◌, subst, arith}
 use Rattle.std.proofs.lemmas.Bool.{and_parts, cond_both, eqb-false, eqb-true, ltb-true}
 use Rattle.std.proofs.lemmas.List.{length-take}
-use Rattle.lard_arrival.specs.Arrival.{seg_len}
-use Rattle.lard_base.specs.declared.place.Place.{Place}
-use Rattle.lard_base.specs.declared.place.Place.TheVariants.{Front}
-use Rattle.lard_client.specs.Control.{ClientBlock, IsClientBlock, is_client_open}
-use Rattle.lard_client.specs.Leaving.{client_ack_ready, client_after_emit, client_after_owed, client_after_piece, data_ready, client_emitted, client_filled, client_owes, client_piece_ready, client_ready_of, syn_ready, client_told}
+use Rattle.lard_law_view.specs.Prelude.{ClientBlock, Front, Has, IsClientBlock, IsSendable, IsSending, Letter, Place, Ready, Said, Sending, Speaks, ToCluster, acknowledged_bytes, after_ack, after_next, after_resend, client_ack_ready, client_after_emit, client_after_piece, client_emitted, client_filled, client_owes, client_piece_ready, client_ready_of, client_speaks, client_told, data_ready, is_client_open, is_newer, may_send, moved_up, next_fin, next_len, next_piece, one_if, seg_len, send_closed, seq_add, seq_offset, spelled, symbols, syn_ready, windowed}
 use Rattle.lard_client.proofs.Windows.{emitted-tells}
 use Rattle.lard_laws.specs.WindowsWords.{FitsClient, Starts}
 use Rattle.lard_laws.proofs.WindowsPieces.{IsSent, next-is}
-use Rattle.lard_history.specs.Own.{Has, Letter}
 use Rattle.lard_history.proofs.Each.{Each}
 use Rattle.lard_law_view.proofs.ClientAlike.{IsLike, emit-alike}
-use Rattle.lard_rules.specs.Speaking.{client_speaks}
 use Rattle.lard_rules.proofs.Halves.{KeptBySending, client-emit}
 use Rattle.lard_rules.proofs.Loops.{client_keeps}
 use Rattle.lard_rules.proofs.Sides.{ack-side, next-side, resend-side}
-use Rattle.lard_segment.specs.declared.segment.Dir.TheVariants.{ToCluster}
-use Rattle.lard_segment.specs.declared.segment.Ready.{Ready}
-use Rattle.lard_segment.specs.Segment.{IsSendable, Said, spelled}
 use Rattle.lard_send.specs.declared.piece.Piece.{Piece}
-use Rattle.lard_send.specs.Send.{IsSending, Sending, acknowledged_bytes, after_ack, after_next, after_resend, send_closed, is_newer, may_send, moved_up, next_fin, next_len, next_piece, symbols, windowed}
 use Rattle.lard_endpoint.proofs.Sound.{after_next-sound}
-use Rattle.lard_seq.specs.Seq.{one_if, seq_add, seq_offset}
 use Rattle.lard_seq.proofs.Laws.{offset-add}
-use Rattle.lard_law_view.specs.Truth.{Speaks}
 use Rattle.lard_law_view.proofs.Client.{emitted-fair}
 use Rattle.lard_law_view.proofs.Speaking.{speaks-next}
+use Rattle.lard_rules.proofs.Hearing.{client-emit-keeps}
 
 -- ---- a sending half later
 
@@ -204,12 +193,9 @@ module _ (c iss : ℕ) where
       let like = emit-alike x in
       let few = h.sound.bounded in
       let side = next-side x.send in
-      let next : ClientBlock = record x { send = after_next x.send } in
       let P : ClientBlock → Type 0 = λ y. Speaks y.send h.bytes × (y.send.iss ≡ iss) in
       let still : P x = (h.speaks, h.first) in
-      let sent : P next = ((speaks-next x.send h.bytes h.speaks).0, side.first ∙ h.first) in
-      let all : P (client_after_emit x) = cond_both (not (is_client_open x)) x (client_after_piece next (next_piece x.send) (client_after_owed x)) P (λ t. still) (λ t.
-      piece next (client_after_owed x) (next_piece x.send) P sent (cond_both (client_owes x) (client_told x) x P (λ u. still) (λ u. still))) in
+      let all : P (client_after_emit x) = client-emit-keeps P x still still ((speaks-next x.send h.bytes h.speaks).0, side.first ∙ h.first) in
       record {
         numbered = like.0.0 ∙ h.numbered;
         sound = from-like x (client_after_emit x) like.0 (omega (arith, few, like.1)) h.sound;
@@ -217,10 +203,7 @@ module _ (c iss : ℕ) where
         bytes = h.bytes;
         speaks = all.0;
         first = all.1;
-      } where
-        piece : (y z : ClientBlock) (p : Option Piece) (P : ClientBlock → Type 0) → P (client_told y) → P z → P (client_after_piece y p z)
-        piece y z (Some p) P h k = h
-        piece y z None P h k = k
+      }
 
   emitted-within : (x : ClientBlock) (r : Ready) → T x → client_emitted x ≡ Some r → seq_offset (client_filled (client_after_emit x) r).seq iss + seg_len (client_filled (client_after_emit x) r) ≤ (client_after_emit x).send.nxt
   emitted-within x r h e = go (not (is_client_open x)) (next_piece x.send) refl (client_owes x) e where

@@ -1,31 +1,14 @@
 -- What the two ends of a connection of the cluster, and all its packets, acknowledge: never more than was taken.
 use Rattle.std.specs.Prelude.{◌≡◌, ◌⊎◌, ℕ, ◌+◌, ◌≤◌, Bool, true, false, List, Option, Some, None, Ok}
-use Rattle.lard_base.specs.declared.parts.EndpointParts.{EndpointParts}
-use Rattle.lard_base.specs.declared.place.Place.{Place}
-use Rattle.lard_base.specs.declared.place.Place.TheVariants.{Client, Front, Node}
-use Rattle.lard_client.specs.Control.{is_client_open}
+use Rattle.lard_law_view.specs.Prelude.{BackConn, BackRow, Body, Client, Conn, Ending, EndpointParts, Front, FrontConn, FrontRow, Letter, Message, Node, Part, Place, Said, Station, ToClient, ToCluster, decoded, decoded_message, is_client_open, one_if}
 use Rattle.lard_law_connections.specs.Places.{HasEnded, IsDecided}
-use Rattle.lard_law_view.specs.View.{Conn, Part}
-use Rattle.lard_handoff_back.specs.declared.row.BackConn.{BackConn}
 use Rattle.lard_handoff_back.specs.declared.row.BackConn.TheVariants as back
-use Rattle.lard_handoff_back.specs.declared.row.BackRow.{BackRow}
-use Rattle.lard_handoff_front.specs.declared.row.FrontConn.{FrontConn}
 use Rattle.lard_handoff_front.specs.declared.row.FrontConn.TheVariants as stage
-use Rattle.lard_handoff_front.specs.declared.row.FrontRow.{FrontRow}
-use Rattle.lard_history.specs.Own.{Letter}
 use Rattle.lard_history.proofs.Each.{Each}
 use Rattle.lard_law_view.proofs.Acked.{ClientHolds, EndHolds, ReplyMay, WordMay, heard_at, taken_by}
 use Rattle.lard_law_view.proofs.Story.{Story, story_seen, unheard}
-use Rattle.lard_message.specs.declared.message.Body.{Body}
 use Rattle.lard_message.specs.declared.message.Body.TheVariants as body
-use Rattle.lard_message.specs.declared.message.Message.{Message}
-use Rattle.lard_message.specs.Reading.{decoded_message}
-use Rattle.lard_rules.specs.declared.places.Ending.{Ending}
 use Rattle.lard_rules.specs.declared.places.Ending.TheVariants as ending
-use Rattle.lard_rules.specs.declared.places.Station.{Station}
-use Rattle.lard_segment.specs.declared.segment.Dir.TheVariants.{ToClient, ToCluster}
-use Rattle.lard_segment.specs.Segment.{Said, decoded}
-use Rattle.lard_seq.specs.Seq.{one_if}
 
 -- What bounds all acknowledgements of a connection: the first number of its client and of the cluster, how many symbols of the
 -- client's the cluster took and how many of the cluster's the client took; and whether the client aborted.

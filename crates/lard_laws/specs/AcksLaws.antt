@@ -1,9 +1,7 @@
 -- What was acknowledged was taken, over every run of the cluster.
 use Rattle.std.specs.Prelude.{ℕ, ◌≤◌, List}
-use Rattle.lard_base.specs.declared.config.Config.{Config}
-use Rattle.lard_base.specs.declared.limits.TheConstants.{MAX_STREAM_BYTES}
+use Rattle.lard_law_view.specs.Prelude.{Config, MAX_STREAM_BYTES, OfEach, Untouched}
 use Rattle.lard_laws.specs.Acks.{AcksWhatWasTaken}
-use Rattle.lard_law_view.specs.Carry.{OfEach, Untouched}
 
 -- Of each connection that the schedule did not touch nothing is acknowledged that was not taken, by either side, wherever it is.
 abbrev pub ConnectionsAckWhatWasTaken : Type 0

@@ -1,19 +1,13 @@
 -- What the front end heard and answered of Asks: what comes, what it writes of each, and what it keeps of the last.
 use Rattle.std.specs.Prelude.{ℕ, ◌+◌, ◌==◌, nat_lt, ◌&&◌, Bool, true, false, if◌then◌else◌, List, [], ◌∷◌, ◌++◌, Option, Some, None, Result, Ok, Err}
 use Rattle.std.specs.List.{fold}
-use Rattle.lard_base.specs.declared.place.Place.{Place}
-use Rattle.lard_base.specs.declared.place.Place.TheVariants.{Front, Node}
+use Rattle.lard_law_view.specs.Prelude.{Came, Front, Message, MsgFault, Node, Place, Rec, Row, Seen, decoded_message}
 use Rattle.lard_law_connections.specs.MotionStory.{Story, story_step}
 use Rattle.lard_law_connections.specs.MotionStory as motion
 use Rattle.lard_law_connections.specs.Places.{Head, message_head}
-use Rattle.lard_history.specs.Own.{Seen, Row, Came}
-use Rattle.lard_journal.specs.declared.rec.Rec.{Rec}
 use Rattle.lard_journal.specs.declared.rec.Rec.TheVariants as rec
-use Rattle.lard_message.specs.declared.fault.MsgFault.{MsgFault}
 use Rattle.lard_message.specs.declared.kind.Kind.TheVariants as kind
 use Rattle.lard_message.specs.declared.message.Body.TheVariants as body
-use Rattle.lard_message.specs.declared.message.Message.{Message}
-use Rattle.lard_message.specs.Reading.{decoded_message}
 
 -- ---- an Ask that comes
 

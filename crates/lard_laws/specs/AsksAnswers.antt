@@ -1,13 +1,10 @@
 -- When later requests are assigned, and which Tags are sent, in words of what a connection sees.
 use Rattle.std.specs.Prelude.{◌≡◌, ℕ, ◌+◌, nat_lt, Bool, if◌then◌else◌, List, [], ◌∷◌, ◌++◌}
-use Rattle.lard_base.specs.declared.config.Config.{Config}
+use Rattle.lard_law_view.specs.Prelude.{Config, Rec, Seen, net_of, open_shares, own, seen_on}
 use Rattle.lard_laws.specs.Asks.{Asking, AskTale, LaterAssigned, ask_in, ask_tale, end_in, is_again, is_next, later_in, node_in, tag_to}
 use Rattle.lard_law_connections.specs.MotionStory.{of_row, picked}
 use Rattle.lard_counts.specs.Ledger.{ledger}
 use Rattle.lard_rules.specs.Front.{message}
-use Rattle.lard_history.specs.Own.{Seen, net_of, own, seen_on}
-use Rattle.lard_journal.specs.declared.rec.Rec.{Rec}
-use Rattle.lard_loads.specs.Tally.{open_shares}
 use Rattle.lard_message.specs.declared.message.Body.TheVariants as body
 
 -- ---- assignments

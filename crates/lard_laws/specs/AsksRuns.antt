@@ -1,12 +1,8 @@
 -- The laws of Asks, over every run of the cluster.
 use Rattle.std.specs.Prelude.{◌≡◌, ℕ, List, [], Ok}
-use Rattle.lard_base.specs.Config.{config_check}
-use Rattle.lard_base.specs.declared.config.Config.{Config}
-use Rattle.lard_rules.specs.declared.machine.Machine.{Machine}
-use Rattle.lard_rules.specs.Machine.{IsReached}
+use Rattle.lard_law_view.specs.Prelude.{Config, EachStep, IsReached, Machine, config_check, steps}
 use Rattle.lard_laws.specs.AsksAnswers.{MustAnswer, MustEnd}
 use Rattle.lard_laws.specs.AsksSent.{MustAsk}
-use Rattle.lard_history.specs.Steps.{EachStep, steps}
 
 -- Each step assigns what the Ask that comes in it lets it assign, and sends the Tags that are due.
 abbrev pub AsksAreAnswered : Type 0

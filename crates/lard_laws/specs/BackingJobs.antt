@@ -1,13 +1,9 @@
 -- For which node a job is queued, in words of the step in which it is.
 use Rattle.std.specs.Prelude.{◌≡◌, ◌⊎◌, ℕ, List, Some, Ok}
 use Rattle.std.specs.List.{AllByRecursion}
-use Rattle.lard_base.specs.declared.place.Place.TheVariants.{Node}
-use Rattle.lard_history.specs.Own.{Has, net_of}
-use Rattle.lard_journal.specs.declared.rec.Rec.{Rec}
+use Rattle.lard_law_view.specs.Prelude.{Has, Node, Packet, Rec, decoded_message, net_of, packet_at}
 use Rattle.lard_journal.specs.declared.rec.Rec.TheVariants as rec
 use Rattle.lard_message.specs.declared.message.Body.TheVariants as body
-use Rattle.lard_message.specs.Reading.{decoded_message}
-use Rattle.lard_net.specs.Net.{Packet, packet_at}
 
 -- In the step node n gets a Fetch from node m, of request r of connection c for this path.
 pub record GetsFetch (past step : List Rec) (n m c r : ℕ) (path : List ℕ) : Type 0 where

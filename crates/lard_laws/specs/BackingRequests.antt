@@ -2,21 +2,12 @@
 -- journal.
 use Rattle.std.specs.Prelude.{◌≡◌, ℕ, ◌+◌, false, List, [], ◌∷◌, ◌++◌, take, Option, Some, Ok}
 use Rattle.std.specs.List.{slice_get}
-use Rattle.lard_answers.specs.Answers.{FilesAt, good_path, verdicts}
-use Rattle.lard_base.specs.declared.place.Place.{Place}
-use Rattle.lard_base.specs.declared.place.Place.TheVariants.{Client, Front, Node}
-use Rattle.lard_base.specs.declared.place.Via.{Via}
+use Rattle.lard_law_view.specs.Prelude.{Came, Client, FilesAt, Front, Has, Node, Place, Rec, Seen, Verdict, Via, assigned, content_bytes, decoded_message, good_path, is_touched, net_of, seen_on, served, verdicts, wrote}
 use Rattle.lard_base.specs.declared.place.Via.TheVariants as via
 use Rattle.lard_laws.specs.BackingTold.{WasAssigned, WasTold}
 use Rattle.lard_laws.specs.Ways.{good_paths}
-use Rattle.lard_history.specs.Journal.{assigned, is_touched, served, wrote}
-use Rattle.lard_history.specs.Own.{Came, Has, Seen, net_of, seen_on}
-use Rattle.lard_journal.specs.declared.rec.Rec.{Rec}
 use Rattle.lard_journal.specs.declared.rec.Rec.TheVariants as rec
 use Rattle.lard_message.specs.declared.message.Body.TheVariants as body
-use Rattle.lard_message.specs.Reading.{decoded_message}
-use Rattle.lard_rules.specs.NodePlace.{content_bytes}
-use Rattle.lard_request.specs.declared.verdict.Verdict.{Verdict}
 
 -- Request r of all that a client wrote is for this path.
 pub record IsFor (files : FilesAt) (wrote : List ℕ) (r : ℕ) (path : List ℕ) : Type 0 where

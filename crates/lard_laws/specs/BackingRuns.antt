@@ -3,9 +3,7 @@ use Rattle.std.specs.Prelude.{[]}
 use Rattle.lard_laws.specs.BackingJobs.{MustQueue}
 use Rattle.lard_laws.specs.BackingRequests.{MayAnswerFrom, MayBeBacked, MayName, MayStart}
 use Rattle.lard_law_connections.specs.BytesRuns.{AlwaysWithinStreams}
-use Rattle.lard_files.specs.Files.{file_at}
-use Rattle.lard_history.specs.Laws.{EachMay}
-use Rattle.lard_history.specs.Steps.{EachStep, steps}
+use Rattle.lard_law_view.specs.Prelude.{EachMay, EachStep, file_at, steps}
 
 -- The first assignment has the number and the path of the next request, and each job has the path of its request.
 abbrev pub JournalsNameRequests : Type 0

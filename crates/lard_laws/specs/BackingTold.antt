@@ -1,17 +1,12 @@
 -- What tells a node where a request is assigned, in words of the journal: that it takes the connection, and the Tag of the Ask that names
 -- the request.
 use Rattle.std.specs.Prelude.{◌≡◌, ℕ, ◌-◌, List, ◌∷◌, ◌++◌, length, take, Option, Some, None, Ok}
-use Rattle.lard_answers.specs.Answers.{FilesAt, verdicts}
-use Rattle.lard_base.specs.declared.place.Place.TheVariants.{Front, Node}
+use Rattle.lard_law_view.specs.Prelude.{Came, FilesAt, Front, Has, Node, Rec, assigned, decoded_message, own, verdicts}
 use Rattle.lard_laws.specs.Asks.{ask_tale}
 use Rattle.lard_laws.specs.WaysBefore.{SawBehind}
 use Rattle.lard_laws.specs.Ways.{good_paths}
-use Rattle.lard_history.specs.Journal.{assigned}
-use Rattle.lard_history.specs.Own.{Came, Has, own}
-use Rattle.lard_journal.specs.declared.rec.Rec.{Rec}
 use Rattle.lard_journal.specs.declared.rec.Rec.TheVariants as rec
 use Rattle.lard_message.specs.declared.message.Body.TheVariants as body
-use Rattle.lard_message.specs.Reading.{decoded_message}
 
 -- ---- the assignment of a request
 

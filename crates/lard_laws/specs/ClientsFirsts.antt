@@ -1,23 +1,10 @@
 -- The first number of the cluster's side, wherever a connection has it, and what a client counts from it.
 use Rattle.std.specs.Prelude.{◌≡◌, ℕ, ◌<◌, ◌^◌, true, List, [], length, Option, Some, None, Ok}
-use Rattle.lard_base.specs.declared.place.Place.{Place}
-use Rattle.lard_base.specs.declared.place.Place.TheVariants.{Client, Front, Node}
-use Rattle.lard_client.specs.Control.{ClientBlock, is_established}
-use Rattle.lard_endpoint.specs.Control.{ControlBlock}
-use Rattle.lard_history.specs.Own.{Letter}
+use Rattle.lard_law_view.specs.Prelude.{Body, Client, ClientBlock, ClientStands, Conn, ControlBlock, Front, Letter, Message, Node, Place, Said, Station, ToClient, client_tale, decoded, decoded_message, is_established, tale_at}
 use Rattle.lard_history.proofs.Each.{Each}
 use Rattle.lard_law_connections.specs.SilencePlaces.{FrontHas, NodeHas}
-use Rattle.lard_law_view.specs.Carry.{tale_at}
-use Rattle.lard_law_view.specs.ClientTale.{ClientStands, client_tale}
-use Rattle.lard_law_view.specs.View.{Conn}
 use Rattle.lard_laws.specs.Windows.{AnyBlock}
-use Rattle.lard_message.specs.declared.message.Body.{Body}
 use Rattle.lard_message.specs.declared.message.Body.TheVariants as body
-use Rattle.lard_message.specs.declared.message.Message.{Message}
-use Rattle.lard_message.specs.Reading.{decoded_message}
-use Rattle.lard_rules.specs.declared.places.Station.{Station}
-use Rattle.lard_segment.specs.declared.segment.Dir.TheVariants.{ToClient}
-use Rattle.lard_segment.specs.Segment.{Said, decoded}
 
 -- ---- endpoints and packets
 

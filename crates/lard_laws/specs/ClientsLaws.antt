@@ -1,11 +1,6 @@
 -- What clients do in every run of the cluster's machine.
 use Rattle.std.specs.Prelude.{ℕ, List}
-use Rattle.lard_base.specs.declared.config.Config.{Config}
-use Rattle.lard_rules.specs.declared.machine.Machine.{Machine}
-use Rattle.lard_rules.specs.Machine.{IsReached}
-use Rattle.lard_history.specs.Laws.{WritesWhileOpen}
-use Rattle.lard_law_view.specs.Taking.{TakesInOrder}
-use Rattle.lard_law_view.specs.ClientRule.{KeepsTables}
+use Rattle.lard_law_view.specs.Prelude.{Config, IsReached, KeepsTables, Machine, TakesInOrder, WritesWhileOpen}
 
 -- A client's state is a fold over its own events and the packets that it got, and behind each of these stand exactly the records
 -- that its table gives from that state.

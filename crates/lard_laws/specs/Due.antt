@@ -1,31 +1,15 @@
 -- That no response is due at the end of a step, in words of the journal: each request that the cluster acknowledged is answered, or the next one
 -- of them awaits what has not come.
 use Rattle.std.specs.Prelude.{◌≡◌, ◌⊎◌, ℕ, ◌+◌, ◌-◌, ◌<◌, ◌≤◌, true, false, List, ◌∷◌, ◌++◌, length, take, Option, Some, None, Ok}
-use Rattle.lard_answers.specs.Answers.{FilesAt, verdicts}
-use Rattle.lard_base.specs.Config.{config_check}
-use Rattle.lard_base.specs.declared.config.Config.{Config}
-use Rattle.lard_base.specs.declared.place.Place.{Place}
-use Rattle.lard_base.specs.declared.place.Place.TheVariants.{Client, Front, Node}
+use Rattle.lard_law_view.specs.Prelude.{AtEachEnd, Came, Client, Config, FilesAt, Front, Has, IsReached, Letter, Machine, Node, Numbers, Place, Rec, Row, Said, Seen, ToClient, config_check, decoded, decoded_message, file_at, has_aborted, is_cluster, is_running, is_touched, last_epoch, letters, net_of, numbers_of, own, owner, seq_add, served, verdicts, was_reset, wrote}
 use Rattle.lard_base.specs.declared.place.TimerKind.TheVariants as timer
-use Rattle.lard_rules.specs.declared.machine.Machine.{Machine}
-use Rattle.lard_rules.specs.Machine.{IsReached}
 use Rattle.lard_rules.specs.Node.{message}
 use Rattle.lard_counts.specs.Stores.{jobs}
-use Rattle.lard_files.specs.Files.{file_at}
-use Rattle.lard_history.specs.Journal.{Numbers, is_cluster, is_running, is_touched, last_epoch, numbers_of, owner, served, was_reset, wrote}
-use Rattle.lard_history.specs.Own.{Came, Has, Letter, Row, Seen, letters, net_of, own}
-use Rattle.lard_history.specs.Steps.{AtEachEnd}
 use Rattle.lard_history.proofs.Each.{Each}
-use Rattle.lard_journal.specs.declared.rec.Rec.{Rec}
 use Rattle.lard_journal.specs.declared.rec.Rec.TheVariants as rec
-use Rattle.lard_law_view.specs.Quiet.{has_aborted}
 use Rattle.lard_laws.specs.BackingRequests.{IsFor}
 use Rattle.lard_laws.specs.Quiet.{IsInLine}
 use Rattle.lard_message.specs.declared.message.Body.TheVariants as body
-use Rattle.lard_message.specs.Reading.{decoded_message}
-use Rattle.lard_segment.specs.declared.segment.Dir.TheVariants.{ToClient}
-use Rattle.lard_segment.specs.Segment.{Said, decoded}
-use Rattle.lard_seq.specs.Seq.{seq_add}
 
 -- ---- what was acknowledged
 

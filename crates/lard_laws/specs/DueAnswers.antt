@@ -1,21 +1,9 @@
 -- What a node asked for and has not got, of one connection between any two steps: it was sent, and no answer to it came behind that.
 use Rattle.std.specs.Prelude.{◌≡◌, ℕ, List, [], ◌∷◌, Option, Some, None}
 use Rattle.std.specs.List.{AllByRecursion}
-use Rattle.lard_answers.specs.Answers.{FilesAt}
-use Rattle.lard_base.specs.declared.config.Config.{Config}
-use Rattle.lard_files.specs.Files.{file_at}
-use Rattle.lard_handoff_back.specs.declared.row.BackConn.{BackConn}
+use Rattle.lard_law_view.specs.Prelude.{BackConn, BackRow, Config, Conn, FilesAt, Kept, NodePart, OfEach, Seen, Stay, fetch_kept, file_at, named_paths}
 use Rattle.lard_handoff_back.specs.declared.row.BackConn.TheVariants as back
-use Rattle.lard_handoff_back.specs.declared.row.BackRow.{BackRow}
-use Rattle.lard_history.specs.Own.{Seen}
-use Rattle.lard_lateral.specs.Lateral.{fetch_kept}
-use Rattle.lard_law_view.specs.Carry.{OfEach}
-use Rattle.lard_law_view.specs.View.{Conn}
 use Rattle.lard_laws.specs.Due.{AskIsOut, FetchIsOut}
-use Rattle.lard_resend.specs.declared.kept.Kept.{Kept}
-use Rattle.lard_rules.specs.declared.stay.Stay.{Stay}
-use Rattle.lard_rules.specs.Node.{NodePart}
-use Rattle.lard_rules.specs.Stay.{named_paths}
 
 -- where requests have no node, the last Ask is for these
 abbrev pub NamesAreOut : List Seen → ℕ → ℕ → ℕ → ℕ → List (List ℕ) → Type 0

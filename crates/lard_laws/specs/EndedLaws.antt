@@ -1,10 +1,7 @@
 -- How connections of the cluster ended, over every run.
 use Rattle.std.specs.Prelude.{ℕ, ◌≤◌, List}
-use Rattle.lard_base.specs.declared.config.Config.{Config}
-use Rattle.lard_base.specs.declared.limits.TheConstants.{MAX_STREAM_BYTES}
+use Rattle.lard_law_view.specs.Prelude.{Config, MAX_STREAM_BYTES, OfEach, Untouched, file_at}
 use Rattle.lard_laws.specs.EndedEnds.{EndsAreTrue}
-use Rattle.lard_law_view.specs.Carry.{OfEach, Untouched}
-use Rattle.lard_files.specs.Files.{file_at}
 
 -- Of each connection that the schedule did not touch: what is told to be closed by both sides was an endpoint that they had closed.
 abbrev pub ConnectionsWereClosed : Type 0

@@ -1,12 +1,7 @@
 -- Which nodes ever knew of a connection, by its stage at the front end.
 use Rattle.std.specs.Prelude.{◌≡◌, ◌≢◌, ℕ, Option, Some, None}
-use Rattle.lard_base.specs.declared.ids.Epoch.{Epoch}
-use Rattle.lard_law_view.specs.View.{Conn}
-use Rattle.lard_handoff_back.specs.declared.row.BackRow.{BackRow}
-use Rattle.lard_handoff_front.specs.declared.row.FrontConn.{FrontConn}
+use Rattle.lard_law_view.specs.Prelude.{BackRow, Conn, Epoch, FrontConn, FrontRow, NodePart}
 use Rattle.lard_handoff_front.specs.declared.row.FrontConn.TheVariants as stage
-use Rattle.lard_handoff_front.specs.declared.row.FrontRow.{FrontRow}
-use Rattle.lard_rules.specs.Node.{NodePart}
 
 -- no node does
 abbrev pub NoneKnows : (ℕ → NodePart) → Type 0

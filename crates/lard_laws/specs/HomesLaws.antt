@@ -1,8 +1,7 @@
 -- One node at most has a connection, over every run of the cluster.
 use Rattle.std.specs.Prelude.{ℕ, List}
-use Rattle.lard_base.specs.declared.config.Config.{Config}
+use Rattle.lard_law_view.specs.Prelude.{Config, OfEach}
 use Rattle.lard_laws.specs.Homes.{HasOneHome}
-use Rattle.lard_law_view.specs.Carry.{OfEach}
 
 -- Of each connection, in every state.
 abbrev pub ConnectionsHaveOneHome : Type 0

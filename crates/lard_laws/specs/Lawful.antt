@@ -1,10 +1,6 @@
 -- The laws of a journal of the cluster, in words of its records alone.
 use Rattle.std.specs.Prelude.{◌≡◌, ℕ, ◌≤◌, List, [], ◌++◌, Ok}
-use Rattle.lard_answers.specs.Answers.{FilesAt}
-use Rattle.lard_base.specs.Config.{config_check, room_of}
-use Rattle.lard_base.specs.declared.config.Config.{Config}
-use Rattle.lard_rules.specs.declared.machine.Machine.{Machine}
-use Rattle.lard_rules.specs.Machine.{IsReached}
+use Rattle.lard_law_view.specs.Prelude.{AcceptsOnlyAnswers, ActsInPlace, AtEachEnd, ChangesInSteps, Config, EachMay, EachStep, FilesAt, IsNetwork, IsOwnership, IsReached, IsSoleSender, KeepsTables, KeepsTime, Machine, Rec, ResetsAtTheLimit, TakesInOrder, TellsTheTruth, WritesWhileOpen, config_check, file_at, room_of, steps}
 use Rattle.lard_laws.specs.AsksAnswers.{MustAnswer, MustEnd}
 use Rattle.lard_laws.specs.AsksSent.{MustAsk}
 use Rattle.lard_laws.specs.BackingJobs.{MustQueue}
@@ -24,13 +20,6 @@ use Rattle.lard_law_connections.specs.StoresLaws.{MayStore, MustRead}
 use Rattle.lard_laws.specs.WaysBefore.{MayBeServed}
 use Rattle.lard_laws.specs.WaysContents.{MustBring}
 use Rattle.lard_laws.specs.Ways.{AreAssignedInOrder, AssignsAPrefix, ComeAsAssigned, NamesTheNext}
-use Rattle.lard_files.specs.Files.{file_at}
-use Rattle.lard_history.specs.Laws.{AcceptsOnlyAnswers, ActsInPlace, EachMay, IsNetwork, IsOwnership, IsSoleSender, KeepsTime, ResetsAtTheLimit, TellsTheTruth, WritesWhileOpen}
-use Rattle.lard_history.specs.Steps.{AtEachEnd, EachStep, steps}
-use Rattle.lard_journal.specs.declared.rec.Rec.{Rec}
-use Rattle.lard_law_view.specs.Taking.{TakesInOrder}
-use Rattle.lard_law_view.specs.ClientRule.{KeepsTables}
-use Rattle.lard_law_view.specs.Timers.{ChangesInSteps}
 
 -- P is so, at every moment, of what the journal counts and of the records so far.
 abbrev pub Throughout : (Ledger → List Rec → Type 0) → Config → List Rec → Type 0

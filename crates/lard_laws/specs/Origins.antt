@@ -1,16 +1,9 @@
 -- Who asks other nodes for contents of a connection, and for whom jobs are queued: nodes that know of it.
 use Rattle.std.specs.Prelude.{◌≡◌, ℕ, List, Option, Some, None, Ok}
-use Rattle.lard_base.specs.declared.place.Place.{Place}
-use Rattle.lard_base.specs.declared.place.Place.TheVariants.{Node}
-use Rattle.lard_law_view.specs.View.{Conn, Part}
-use Rattle.lard_handoff_back.specs.declared.row.BackRow.{BackRow}
-use Rattle.lard_history.specs.Own.{Came, Letter, Row, Seen}
+use Rattle.lard_law_view.specs.Prelude.{BackRow, Body, Came, Conn, Letter, Message, Node, Part, Place, Row, Seen, decoded_message}
 use Rattle.lard_history.proofs.Each.{Each}
 use Rattle.lard_journal.specs.declared.rec.Rec.TheVariants as rec
-use Rattle.lard_message.specs.declared.message.Body.{Body}
 use Rattle.lard_message.specs.declared.message.Body.TheVariants as body
-use Rattle.lard_message.specs.declared.message.Message.{Message}
-use Rattle.lard_message.specs.Reading.{decoded_message}
 
 -- it was offered there
 abbrev pub Knows : Option BackRow → Type 0

@@ -1,13 +1,7 @@
 -- For whom jobs are, over every run of the cluster.
 use Rattle.std.specs.Prelude.{◌≡◌, ℕ, List, Some}
-use Rattle.lard_base.specs.declared.config.Config.{Config}
-use Rattle.lard_rules.specs.declared.machine.Machine.{Machine}
-use Rattle.lard_rules.specs.Machine.{IsReached, node_at}
+use Rattle.lard_law_view.specs.Prelude.{Config, Has, IsReached, Job, Machine, NodeState, conn, node_at}
 use Rattle.lard_laws.specs.Origins.{Knows}
-use Rattle.lard_law_view.specs.View.{conn}
-use Rattle.lard_disk.specs.declared.disk.Job.{Job}
-use Rattle.lard_history.specs.Own.{Has}
-use Rattle.lard_rules.specs.declared.node.NodeState.{NodeState}
 
 -- Each job of each disk is for a node that knows of its connection.
 abbrev pub JobsComeFromHome : Type 0

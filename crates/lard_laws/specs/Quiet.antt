@@ -1,20 +1,10 @@
 -- When a connection of the cluster is quiet, and that it is complete then or in the line, in words of the journal.
 use Rattle.std.specs.Prelude.{◌≡◌, ◌⊎◌, ℕ, Bool, false, nat_eq, List, IsSome, Ok}
 use Rattle.std.specs.List.{list_any}
-use Rattle.lard_answers.specs.Answers.{FilesAt}
-use Rattle.lard_base.specs.Config.{config_check, room_of}
-use Rattle.lard_base.specs.declared.config.Config.{Config}
-use Rattle.lard_rules.specs.declared.machine.Machine.{Machine}
-use Rattle.lard_rules.specs.Machine.{IsReached}
+use Rattle.lard_law_view.specs.Prelude.{AtEachEnd, Config, FilesAt, Has, IsComplete, IsQuiet, IsReached, Machine, Rec, config_check, file_at, has_aborted, is_touched, numbers_of, room_of, was_reset}
 use Rattle.lard_law_connections.specs.Line.{waiting_line}
 use Rattle.lard_counts.specs.Ledger.{ledger_admitted, ledger}
 use Rattle.lard_counts.specs.Stores.{Waiting, jobs}
-use Rattle.lard_files.specs.Files.{file_at}
-use Rattle.lard_history.specs.Journal.{is_touched, numbers_of, was_reset}
-use Rattle.lard_history.specs.Own.{Has}
-use Rattle.lard_history.specs.Steps.{AtEachEnd}
-use Rattle.lard_journal.specs.declared.rec.Rec.{Rec}
-use Rattle.lard_law_view.specs.Quiet.{IsComplete, IsQuiet, has_aborted}
 
 -- a job is for connection c
 abbrev pub reads_for : ℕ → Waiting → Bool

@@ -1,23 +1,9 @@
 -- When nothing more comes of a connection that a place of the cluster has, as far as its two ends go; and that it is complete then.
 use Rattle.std.specs.Prelude.{◌≡◌, ◌⊎◌, ℕ, ◌≤◌, true, false, List, Some}
-use Rattle.lard_base.specs.declared.config.Config.{Config}
-use Rattle.lard_base.specs.declared.limits.TheConstants.{MAX_STREAM_BYTES}
-use Rattle.lard_client.specs.Control.{is_client_armed}
-use Rattle.lard_rules.specs.declared.machine.Machine.{Machine}
-use Rattle.lard_rules.specs.Machine.{IsReached}
+use Rattle.lard_law_view.specs.Prelude.{BackRow, Config, Conn, ControlBlock, FrontRow, IsComplete, IsReached, MAX_STREAM_BYTES, Machine, Station, Stay, conn, file_at, has_aborted, is_clear, is_client_armed, is_touched, was_reset}
 use Rattle.lard_law_connections.specs.Stops.{FirstIsAwaited}
-use Rattle.lard_law_view.specs.View.{Conn, conn}
-use Rattle.lard_endpoint.specs.Control.{ControlBlock}
-use Rattle.lard_files.specs.Files.{file_at}
 use Rattle.lard_handoff_back.specs.declared.row.BackConn.TheVariants as back
-use Rattle.lard_handoff_back.specs.declared.row.BackRow.{BackRow}
 use Rattle.lard_handoff_front.specs.declared.row.FrontConn.TheVariants as stage
-use Rattle.lard_handoff_front.specs.declared.row.FrontRow.{FrontRow}
-use Rattle.lard_history.specs.Journal.{is_touched, was_reset}
-use Rattle.lard_law_view.specs.Quiet.{IsComplete, has_aborted}
-use Rattle.lard_rules.specs.declared.stay.Stay.{Stay}
-use Rattle.lard_rules.specs.declared.places.Station.{Station}
-use Rattle.lard_send.specs.Send.{is_clear}
 
 -- all that the client sent is acknowledged
 pub record ClientRests (x : Conn) : Type 0 where

@@ -1,22 +1,9 @@
 -- What is left of a connection of which no timer runs: it is complete, or waits to be admitted, or awaits a disk.
 use Rattle.std.specs.Prelude.{◌≡◌, ◌⊎◌, ℕ, ◌≤◌, false, List, ◌∷◌, Some}
-use Rattle.lard_base.specs.declared.config.Config.{Config}
-use Rattle.lard_base.specs.declared.limits.TheConstants.{MAX_STREAM_BYTES}
-use Rattle.lard_rules.specs.declared.machine.Machine.{Machine}
-use Rattle.lard_rules.specs.Machine.{IsReached}
-use Rattle.lard_law_view.specs.View.{Conn, conn}
-use Rattle.lard_endpoint.specs.Control.{ControlBlock}
-use Rattle.lard_files.specs.Files.{file_at}
+use Rattle.lard_law_view.specs.Prelude.{BackRow, Config, Conn, ControlBlock, Entry, FrontRow, IsComplete, IsQuiet, IsReached, MAX_STREAM_BYTES, Machine, Station, Stay, conn, file_at, has_aborted, is_touched, was_reset}
 use Rattle.lard_handoff_back.specs.declared.row.BackConn.TheVariants as back
-use Rattle.lard_handoff_back.specs.declared.row.BackRow.{BackRow}
 use Rattle.lard_handoff_front.specs.declared.row.FrontConn.TheVariants as stage
-use Rattle.lard_handoff_front.specs.declared.row.FrontRow.{FrontRow}
-use Rattle.lard_history.specs.Journal.{is_touched, was_reset}
-use Rattle.lard_law_view.specs.Quiet.{IsComplete, IsQuiet, has_aborted}
-use Rattle.lard_rules.specs.declared.stay.Entry.{Entry}
 use Rattle.lard_rules.specs.declared.stay.Progress.TheVariants as progress
-use Rattle.lard_rules.specs.declared.stay.Stay.{Stay}
-use Rattle.lard_rules.specs.declared.places.Station.{Station}
 
 -- it waits at the front end to be admitted to a node
 abbrev pub IsWaiting : Conn → Type 0

@@ -1,14 +1,9 @@
 -- What a schedule gives to a run of the cluster, and that all records of the run are in range.
 use Rattle.std.specs.Prelude.{◌≡◌, ℕ, ◌<◌, ◌^◌, List, All, Ok}
 use Rattle.hex.specs.Hex.{IsBytes}
-use Rattle.lard_base.specs.Config.{config_check}
-use Rattle.lard_base.specs.declared.config.Config.{Config}
-use Rattle.lard_base.specs.declared.event.Event.{Event}
+use Rattle.lard_law_view.specs.Prelude.{Config, Event, IsEventInRange, IsRecordInRange, IsUnspaced, Machine, Passes, config_check, machine_start}
 use Rattle.lard_base.specs.declared.event.Event.TheVariants as event
-use Rattle.lard_rules.specs.declared.machine.Machine.{Machine}
-use Rattle.lard_rules.specs.Machine.{Passes, machine_start}
 use Rattle.lard_files.specs.Files as files
-use Rattle.lard_journal.specs.Range.{IsEventInRange, IsRecordInRange, IsUnspaced}
 
 -- a file of bytes that may be kept, whose path is bytes without a space
 abbrev pub IsRunFile : List ℕ × List ℕ → Type 0

@@ -1,9 +1,6 @@
 -- How many jobs wait at a disk.
 use Rattle.std.specs.Prelude.{◌≡◌, ℕ, ◌<◌, ◌^◌, List, length, Some}
-use Rattle.lard_base.specs.declared.config.Config.{Config}
-use Rattle.lard_rules.specs.declared.machine.Machine.{Machine}
-use Rattle.lard_rules.specs.Machine.{IsReached, node_at}
-use Rattle.lard_rules.specs.declared.node.NodeState.{NodeState}
+use Rattle.lard_law_view.specs.Prelude.{Config, IsReached, Machine, NodeState, node_at}
 
 -- In every state of every run, whatever its events name, fewer than 2^31 jobs wait at each node.
 abbrev pub DisksStayShort : Type 0

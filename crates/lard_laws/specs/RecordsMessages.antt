@@ -1,21 +1,9 @@
 -- What machines of the cluster say to each other, and which nodes act, record by record.
 use Rattle.std.specs.Prelude.{◌≡◌, ℕ, ◌≤◌, List, [], All, Some, Ok}
-use Rattle.lard_base.specs.Config.{config_check}
-use Rattle.lard_base.specs.declared.config.Config.{Config}
-use Rattle.lard_base.specs.declared.event.Event.{Event}
-use Rattle.lard_base.specs.declared.place.Place.TheVariants.{Node}
-use Rattle.lard_rules.specs.declared.machine.Machine.{Machine}
-use Rattle.lard_rules.specs.Machine.{IsReached, Passes, machine_start}
+use Rattle.lard_law_view.specs.Prelude.{Config, EachMay, Event, IsMachine, IsMessage, IsReached, Machine, Message, Node, Passes, Rec, config_check, decoded_message, first_place, kind_of, machine_start, named_in, spelled_message}
 use Rattle.lard_law_connections.specs.Places.{message_head}
 use Rattle.lard_laws.specs.Records.{IsRunFile, IsScheduled}
-use Rattle.lard_law_view.specs.View.{IsMachine}
-use Rattle.lard_history.specs.Laws.{EachMay, first_place}
-use Rattle.lard_history.specs.Own.{named_in}
-use Rattle.lard_journal.specs.declared.rec.Rec.{Rec}
 use Rattle.lard_journal.specs.declared.rec.Rec.TheVariants as rec
-use Rattle.lard_message.specs.declared.message.Message.{Message}
-use Rattle.lard_message.specs.Message.{IsMessage, kind_of, spelled_message}
-use Rattle.lard_message.specs.Reading.{decoded_message}
 
 -- ---- messages
 

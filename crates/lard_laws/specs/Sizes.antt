@@ -1,28 +1,12 @@
 -- How many requests the batch of an Ask has, and which they are, in words of the journal.
 use Rattle.std.specs.Prelude.{◌≡◌, ℕ, ◌+◌, ◌-◌, ◌*◌, ◌/◌, ◌<◌, ◌≤◌, min, nat_lt, if◌then◌else◌, false, List, [], ◌∷◌, ◌++◌, length, take, drop, Option, Some, None, Ok}
 use Rattle.std.specs.List.{AllByRecursion, fold}
-use Rattle.lard_answers.specs.Answers.{FilesAt, verdicts}
-use Rattle.lard_base.specs.declared.config.Config.{Config}
-use Rattle.lard_base.specs.declared.limits.TheConstants.{MAX_STREAM_BYTES}
-use Rattle.lard_base.specs.declared.place.Place.{Place}
-use Rattle.lard_base.specs.declared.place.Place.TheVariants.{Client, Front, Node}
-use Rattle.lard_rules.specs.declared.machine.Machine.{Machine}
-use Rattle.lard_rules.specs.Machine.{IsReached}
+use Rattle.lard_law_view.specs.Prelude.{Body, Client, Config, EachStep, FilesAt, Front, IsReached, MAX_STREAM_BYTES, Machine, Message, Node, Numbers, Place, Rec, Said, Verdict, decoded_message, file_at, is_opening, is_touched, numbers_of, owner, seq_offset, served, steps, verdicts, wrote}
 use Rattle.lard_law_connections.specs.Line.{line_step, nobody}
 use Rattle.lard_law_connections.specs.Offers.{WasSentBetween}
 use Rattle.lard_laws.specs.Ways.{good_paths}
-use Rattle.lard_files.specs.Files.{file_at}
-use Rattle.lard_history.specs.Journal.{Numbers, is_touched, numbers_of, owner, served, wrote}
-use Rattle.lard_history.specs.Steps.{EachStep, is_opening, steps}
-use Rattle.lard_journal.specs.declared.rec.Rec.{Rec}
 use Rattle.lard_journal.specs.declared.rec.Rec.TheVariants as rec
-use Rattle.lard_message.specs.declared.message.Body.{Body}
 use Rattle.lard_message.specs.declared.message.Body.TheVariants as body
-use Rattle.lard_message.specs.declared.message.Message.{Message}
-use Rattle.lard_message.specs.Reading.{decoded_message}
-use Rattle.lard_request.specs.declared.verdict.Verdict.{Verdict}
-use Rattle.lard_segment.specs.Segment.{Said}
-use Rattle.lard_seq.specs.Seq.{seq_offset}
 
 -- ---- which requests the cluster has
 

@@ -1,12 +1,6 @@
 -- What is so in every state of a run of the cluster's machine, of all connections at once.
 use Rattle.std.specs.Prelude.{◌≡◌, ℕ, List}
-use Rattle.lard_base.specs.declared.config.Config.{Config}
-use Rattle.lard_base.specs.declared.event.Event.{Event}
-use Rattle.lard_rules.specs.declared.machine.Machine.{Machine}
-use Rattle.lard_rules.specs.Machine.{IsReached, Passes, machine_start}
-use Rattle.lard_history.specs.Journal.{answered_bytes}
-use Rattle.lard_history.specs.Laws.{ActsInPlace, Follows, IsNetwork, KeepsTime}
-use Rattle.lard_law_view.specs.ClientTale.{IsNetOf}
+use Rattle.lard_law_view.specs.Prelude.{ActsInPlace, Config, Event, Follows, IsNetOf, IsNetwork, IsReached, KeepsTime, Machine, Passes, answered_bytes, machine_start}
 pub use Rattle.lard_law_connections.specs.PlacesLaws.{Always}
 
 abbrev pub SettingsStay : Type 0

@@ -1,18 +1,8 @@
 -- When timers run in a run of the cluster's machine: as each place keeps them.
 use Rattle.std.specs.Prelude.{◌≡◌, ℕ, Bool, false, Option}
-use Rattle.lard_base.specs.declared.place.Place.{Place}
-use Rattle.lard_base.specs.declared.place.Place.TheVariants.{Front, Node, Client}
-use Rattle.lard_base.specs.declared.place.TimerKind.{TimerKind}
+use Rattle.lard_law_view.specs.Prelude.{ChangesInSteps, Client, Front, HasTimer, Machine, Node, Part, Place, Station, TimerKind, front_armed, is_running, node_armed, part_of, station_armed}
 use Rattle.lard_base.specs.declared.place.TimerKind.TheVariants.{Tcp}
-use Rattle.lard_rules.specs.declared.machine.Machine.{Machine}
-use Rattle.lard_rules.specs.Bounds.{HasTimer}
 use Rattle.lard_laws.specs.StepsLaws.{Always}
-use Rattle.lard_law_view.specs.View.{Part, part_of, station_armed}
-use Rattle.lard_rules.specs.Front.{front_armed}
-use Rattle.lard_history.specs.Journal.{is_running}
-use Rattle.lard_law_view.specs.Timers.{ChangesInSteps}
-use Rattle.lard_rules.specs.Node.{node_armed}
-use Rattle.lard_rules.specs.declared.places.Station.{Station}
 
 -- a client has one timer, that of its end
 abbrev pub client_armed : Option Station → TimerKind → Bool

@@ -1,15 +1,8 @@
 -- What the last Tag of a connection names.
 use Rattle.std.specs.Prelude.{◌≡◌, ◌⊎◌, ℕ, true, [], length, Some}
-use Rattle.lard_answers.specs.Answers.{FilesAt}
-use Rattle.lard_law_view.specs.View.{Conn}
-use Rattle.lard_endpoint.specs.Control.{ControlBlock}
-use Rattle.lard_rules.specs.declared.front.FrontRest.{FrontRest}
-use Rattle.lard_rules.specs.Front.{FrontPart, is_row_at}
+use Rattle.lard_law_view.specs.Prelude.{Conn, ControlBlock, FilesAt, FrontPart, FrontRest, NodePart, Stay, is_row_at, named_paths}
 use Rattle.lard_handoff_back.specs.declared.row.BackConn.TheVariants as back
 use Rattle.lard_history.proofs.Each.{Each}
-use Rattle.lard_rules.specs.declared.stay.Stay.{Stay}
-use Rattle.lard_rules.specs.Node.{NodePart}
-use Rattle.lard_rules.specs.Stay.{named_paths}
 
 -- N is so of each node that is named
 abbrev pub TagsAre : (ℕ → Type 0) → FrontPart → Type 0

@@ -1,11 +1,7 @@
 -- What Tags name, over every run of the cluster.
 use Rattle.std.specs.Prelude.{◌≡◌, ℕ, List, Ok}
-use Rattle.lard_base.specs.Config.{config_check}
-use Rattle.lard_base.specs.declared.config.Config.{Config}
+use Rattle.lard_law_view.specs.Prelude.{Config, IsNode, OfEach, Untouched, config_check, file_at}
 use Rattle.lard_laws.specs.Tags.{NamesNodes}
-use Rattle.lard_law_view.specs.Carry.{OfEach, Untouched}
-use Rattle.lard_dispatch.specs.Sound.{IsNode}
-use Rattle.lard_files.specs.Files.{file_at}
 
 -- Of each connection that the schedule did not touch, in every state.
 abbrev pub ConnectionsNameNodes : Type 0

@@ -1,22 +1,11 @@
 -- By which way each content came, and in which order requests are assigned, in words of the journal.
 use Rattle.std.specs.Prelude.{◌≡◌, ◌≢◌, ℕ, false, List, [], ◌∷◌, ◌++◌, length, map, take, Option, Some, None, Ok}
 use Rattle.std.specs.List.{slice_get}
-use Rattle.lard_answers.specs.Answers.{FilesAt, IsPrefix, good_path, goods, verdicts}
-use Rattle.lard_base.specs.declared.place.Place.{Place}
-use Rattle.lard_base.specs.declared.place.Place.TheVariants.{Front, Node}
-use Rattle.lard_base.specs.declared.place.Via.{Via}
+use Rattle.lard_law_view.specs.Prelude.{Body, EachMay, FilesAt, Front, IsPrefix, Message, Node, Place, Rec, Verdict, Via, and_path, assigned, decoded_message, good_path, goods, is_touched, served, verdicts, wrote}
 use Rattle.lard_base.specs.declared.place.Via.TheVariants as via
-use Rattle.lard_history.specs.Journal.{assigned, is_touched, served, wrote}
-use Rattle.lard_history.specs.Laws.{EachMay}
-use Rattle.lard_journal.specs.declared.rec.Rec.{Rec}
 use Rattle.lard_journal.specs.declared.rec.Rec.TheVariants as rec
 use Rattle.lard_law_connections.specs.Offers.{WasSentBetween}
-use Rattle.lard_message.specs.declared.message.Body.{Body}
 use Rattle.lard_message.specs.declared.message.Body.TheVariants as body
-use Rattle.lard_message.specs.declared.message.Message.{Message}
-use Rattle.lard_message.specs.Reading.{decoded_message}
-use Rattle.lard_rules.specs.Stay.{and_path}
-use Rattle.lard_request.specs.declared.verdict.Verdict.{Verdict}
 
 -- ---- what is told of a connection's requests
 

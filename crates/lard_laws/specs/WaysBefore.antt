@@ -1,18 +1,9 @@
 -- What a connection saw before a response whose content its node did not have at hand.
 use Rattle.std.specs.Prelude.{◌≡◌, ℕ, List, [], ◌++◌, Ok}
-use Rattle.lard_base.specs.declared.config.Config.{Config}
-use Rattle.lard_base.specs.declared.place.Place.{Place}
-use Rattle.lard_base.specs.declared.place.Place.TheVariants.{Client, Front, Node}
-use Rattle.lard_base.specs.declared.place.Via.{Via}
+use Rattle.lard_law_view.specs.Prelude.{Came, Client, Config, EachMay, Front, Has, IsReached, Machine, Node, Place, Rec, Row, Seen, Via, decoded_message, own}
 use Rattle.lard_base.specs.declared.place.Via.TheVariants as via
-use Rattle.lard_rules.specs.declared.machine.Machine.{Machine}
-use Rattle.lard_rules.specs.Machine.{IsReached}
-use Rattle.lard_history.specs.Laws.{EachMay}
-use Rattle.lard_history.specs.Own.{Came, Has, Row, Seen, own}
-use Rattle.lard_journal.specs.declared.rec.Rec.{Rec}
 use Rattle.lard_journal.specs.declared.rec.Rec.TheVariants as rec
 use Rattle.lard_message.specs.declared.message.Body.TheVariants as body
-use Rattle.lard_message.specs.Reading.{decoded_message}
 
 -- Node n took connection c in this epoch, and this was seen behind that.
 pub record SawBehind (past : List Seen) (n c epoch : ℕ) (it : Seen) : Type 0 where

@@ -1,7 +1,7 @@
 -- The ways of requests, over every run of the cluster's machine.
 use Rattle.lard_law_connections.specs.BytesRuns.{AlwaysWithinStreams}
 use Rattle.lard_laws.specs.Ways.{AreAssignedInOrder, AssignsAPrefix, ComeAsAssigned, NamesTheNext}
-use Rattle.lard_files.specs.Files.{file_at}
+use Rattle.lard_law_view.specs.Prelude.{file_at}
 
 -- Each assignment is of the next good request.
 abbrev pub JournalsAssignInOrder : Type 0

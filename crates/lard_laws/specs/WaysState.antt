@@ -1,31 +1,13 @@
 -- What holds of one connection between any two steps, as far as the ways of its requests go: what was assigned, what its home's batch
 -- awaits, and what is said of Asks and Tags, agree.
 use Rattle.std.specs.Prelude.{◌≡◌, ◌⊎◌, ℕ, ◌+◌, ◌≤◌, true, List, [], ◌∷◌, ◌++◌, map, Option, Some, None, Ok}
-use Rattle.lard_answers.specs.Answers.{FilesAt, IsPrefix, good_path, verdicts}
-use Rattle.lard_base.specs.declared.parts.EndpointParts.{EndpointParts}
-use Rattle.lard_base.specs.declared.place.Place.{Place}
-use Rattle.lard_base.specs.declared.place.Place.TheVariants.{Front, Node}
+use Rattle.lard_law_view.specs.Prelude.{Body, Conn, EndpointParts, FilesAt, Front, FrontConn, FrontRest, FrontRow, IsPrefix, Letter, Message, Node, NodePart, Part, Place, Stay, Tale, Verdict, decoded_message, front_rest, good_path, is_row_at, named_paths, tale_at, verdicts}
 use Rattle.lard_law_connections.specs.Places.{IsDecided, IsPast}
-use Rattle.lard_law_view.specs.Carry.{tale_at}
-use Rattle.lard_law_view.specs.View.{Conn, Part}
 use Rattle.lard_laws.specs.WaysUnder.{Assigned, Under}
 use Rattle.lard_laws.specs.Ways.{WayMarks, paths_answered, paths_assigned, paths_wanted}
-use Rattle.lard_rules.specs.declared.front.FrontRest.{FrontRest}
-use Rattle.lard_rules.specs.Front.{is_row_at, front_rest}
-use Rattle.lard_handoff_front.specs.declared.row.FrontConn.{FrontConn}
 use Rattle.lard_handoff_front.specs.declared.row.FrontConn.TheVariants as stage
-use Rattle.lard_handoff_front.specs.declared.row.FrontRow.{FrontRow}
-use Rattle.lard_history.specs.Journal.{Tale}
-use Rattle.lard_history.specs.Own.{Letter}
 use Rattle.lard_history.proofs.Each.{Each}
-use Rattle.lard_message.specs.declared.message.Body.{Body}
 use Rattle.lard_message.specs.declared.message.Body.TheVariants as body
-use Rattle.lard_message.specs.declared.message.Message.{Message}
-use Rattle.lard_message.specs.Reading.{decoded_message}
-use Rattle.lard_rules.specs.declared.stay.Stay.{Stay}
-use Rattle.lard_rules.specs.Node.{NodePart}
-use Rattle.lard_rules.specs.Stay.{named_paths}
-use Rattle.lard_request.specs.declared.verdict.Verdict.{Verdict}
 
 abbrev pub marks_of : Tale → WayMarks
 marks_of t = record { wrote = t.wrote; served = t.served; assigned = t.assigned }

@@ -1,10 +1,8 @@
 -- What became of each request of a batch: it takes the next of its connection's assignments once it started.
 use Rattle.std.specs.Prelude.{◌≡◌, ◌≢◌, ℕ, List, [], ◌∷◌, Option, Some, None}
-use Rattle.lard_answers.specs.Answers.{FilesAt, good_path}
+use Rattle.lard_law_view.specs.Prelude.{Entry, FilesAt, Progress, good_path}
 use Rattle.lard_base.specs.declared.place.Via.TheVariants as via
 use Rattle.lard_laws.specs.Ways.{ComesFrom}
-use Rattle.lard_rules.specs.declared.stay.Entry.{Entry}
-use Rattle.lard_rules.specs.declared.stay.Progress.{Progress}
 use Rattle.lard_rules.specs.declared.stay.Progress.TheVariants as progress
 
 -- an assignment: a path, and its node

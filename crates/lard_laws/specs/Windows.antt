@@ -1,22 +1,9 @@
 -- How far the windows of the cluster reach, and how much of what it sends was sent.
 use Rattle.std.specs.Prelude.{◌≡◌, ◌+◌, ◌<◌, ◌≤◌, ℕ, false, List, Option, Some, None, Ok}
-use Rattle.lard_arrival.specs.Arrival.{seg_len}
-use Rattle.lard_base.specs.declared.limits.TheConstants.{RECEIVE_WINDOW}
-use Rattle.lard_base.specs.declared.place.Place.{Place}
-use Rattle.lard_base.specs.declared.place.Place.TheVariants.{Client, Front, Node}
-use Rattle.lard_client.specs.Control.{ClientBlock}
+use Rattle.lard_law_view.specs.Prelude.{Client, ClientBlock, Conn, ControlBlock, Front, FrontRow, IsControlBlock, Letter, Node, Place, RECEIVE_WINDOW, Said, Speaks, Station, ToClient, decoded, seg_len, seq_offset}
 use Rattle.lard_law_connections.specs.SilencePlaces.{FrontHas, NodeHas}
-use Rattle.lard_law_view.specs.View.{Conn}
-use Rattle.lard_endpoint.specs.Control.{ControlBlock, IsControlBlock}
-use Rattle.lard_handoff_front.specs.declared.row.FrontRow.{FrontRow}
-use Rattle.lard_history.specs.Own.{Letter}
 use Rattle.lard_history.proofs.Each.{Each}
 use Rattle.lard_law_view.proofs.Acked.{taken_by}
-use Rattle.lard_rules.specs.declared.places.Station.{Station}
-use Rattle.lard_segment.specs.declared.segment.Dir.TheVariants.{ToClient}
-use Rattle.lard_segment.specs.Segment.{Said, decoded}
-use Rattle.lard_seq.specs.Seq.{seq_offset}
-use Rattle.lard_law_view.specs.Truth.{Speaks}
 
 -- ---- segments to the client
 

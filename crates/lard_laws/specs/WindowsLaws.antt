@@ -1,8 +1,6 @@
 -- How far windows reach, over every run of the cluster.
 use Rattle.std.specs.Prelude.{ℕ, ◌≤◌, List}
-use Rattle.lard_base.specs.declared.config.Config.{Config}
-use Rattle.lard_base.specs.declared.limits.TheConstants.{MAX_STREAM_BYTES}
-use Rattle.lard_law_view.specs.Carry.{OfEach, Untouched}
+use Rattle.lard_law_view.specs.Prelude.{Config, MAX_STREAM_BYTES, OfEach, Untouched}
 use Rattle.lard_laws.specs.WindowsEarly.{StaysEarly}
 use Rattle.lard_laws.specs.WindowsRefusals.{RefusesSegments}
 use Rattle.lard_laws.specs.Windows.{IsReaching}

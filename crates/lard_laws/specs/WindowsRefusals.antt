@@ -1,13 +1,7 @@
 -- What the cluster refuses.
 use Rattle.std.specs.Prelude.{◌≡◌, ℕ, true, false, List, Ok}
-use Rattle.lard_arrival.specs.Arrival.{seg_len}
-use Rattle.lard_base.specs.declared.place.Place.{Place}
-use Rattle.lard_base.specs.declared.place.Place.TheVariants.{Client, Front, Node}
-use Rattle.lard_law_view.specs.View.{Conn}
-use Rattle.lard_history.specs.Own.{Has, Letter}
+use Rattle.lard_law_view.specs.Prelude.{Client, Conn, Front, Has, Letter, Node, Place, Said, ToClient, ToCluster, decoded, seg_len}
 use Rattle.lard_history.proofs.Each.{Each}
-use Rattle.lard_segment.specs.declared.segment.Dir.TheVariants.{ToClient, ToCluster}
-use Rattle.lard_segment.specs.Segment.{Said, decoded}
 
 -- The number is the one that a segment of the client's acknowledges, which was sent and is no reset.
 pub record IsTurnedDown (c : ℕ) (letters : List Letter) (number : ℕ) : Type 0 where

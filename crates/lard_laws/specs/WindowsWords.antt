@@ -1,20 +1,8 @@
 -- What the segments of a client say of it.
 use Rattle.std.specs.Prelude.{◌≡◌, ◌+◌, ◌≤◌, ℕ, true, false, List, Option, Some, None, Ok}
-use Rattle.lard_arrival.specs.Arrival.{seg_len}
-use Rattle.lard_base.specs.declared.place.Place.{Place}
-use Rattle.lard_base.specs.declared.place.Place.TheVariants.{Client, Front, Node}
-use Rattle.lard_client.specs.Control.{ClientBlock, is_client_open}
-use Rattle.lard_law_view.specs.View.{Conn}
-use Rattle.lard_history.specs.Own.{Has, Letter}
+use Rattle.lard_law_view.specs.Prelude.{Client, ClientBlock, Conn, Front, Has, Letter, Message, Node, Place, Said, Station, ToClient, ToCluster, decoded, decoded_message, is_client_open, seg_len, seq_offset, symbols}
 use Rattle.lard_history.proofs.Each.{Each}
 use Rattle.lard_message.specs.declared.message.Body.TheVariants as body
-use Rattle.lard_message.specs.declared.message.Message.{Message}
-use Rattle.lard_message.specs.Reading.{decoded_message}
-use Rattle.lard_rules.specs.declared.places.Station.{Station}
-use Rattle.lard_segment.specs.declared.segment.Dir.TheVariants.{ToClient, ToCluster}
-use Rattle.lard_segment.specs.Segment.{Said, decoded}
-use Rattle.lard_send.specs.Send.{symbols}
-use Rattle.lard_seq.specs.Seq.{seq_offset}
 
 -- The number is the one that a segment to the client acknowledges, which was sent and is no reset.
 pub record IsRefused (c : ℕ) (letters : List Letter) (number : ℕ) : Type 0 where

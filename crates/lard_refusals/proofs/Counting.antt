@@ -3,7 +3,7 @@ use Rattle.std.proofs.Common.{◌≡◌, ℕ, zero, suc, ◌+◌, ◌<◌, ◌�
 use Rattle.std.proofs.lemmas.Bool.{cases_eq}
 use Rattle.std.proofs.lemmas.List.Sums.{sum_by-cons}
 use Rattle.std.specs.List.{range_with_len}
-use Rattle.lard_loads.specs.Tally.{connections, most_connections, numbers}
+use Rattle.lard_law_view.specs.Prelude.{connections, most_connections, numbers}
 use Rattle.lard_loads.proofs.Sums.{most-is}
 
 module _ (p : ℕ → Bool) where

@@ -1,6 +1,6 @@
 -- What is one of a list, in a list and its parts.
 use Rattle.std.proofs.Common.{◌≡◌, List, [], ◌∷◌, ◌++◌, inr, subst, sym}
-use Rattle.lard_history.specs.Own.{Has}
+use Rattle.lard_law_view.specs.Prelude.{Has}
 
 module _ {A : Type 0} where
   behind : (a : A) (xs ys : List A) → Has a ys → Has a (xs ++ ys)

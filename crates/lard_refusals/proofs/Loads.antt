@@ -3,14 +3,8 @@ use Rattle.std.proofs.Common.{◌≡◌, ◌+◌, ℕ, nat_eq, cond, [], ◌∷�
 use Rattle.std.specs.FinMap.{get-empty}
 use Rattle.std.specs.FinMap as map
 use Rattle.std.specs.Ordering.{nat_cmp}
-use Rattle.lard_base.specs.declared.ids.Millis.{Millis}
-use Rattle.lard_base.specs.Members.{node_numbers}
-use Rattle.lard_costs.specs.Later.{later_choice}
-use Rattle.lard_loads.specs.Charges.{Connect}
-use Rattle.lard_loads.specs.Tally.{Standing, Tally, connected, home, home_of, load, open_shares, shared, shares_of, sharing, tally_start}
+use Rattle.lard_law_view.specs.Prelude.{Connect, FirstChoice, Millis, Standing, Tally, connected, first_choice, home, home_of, later_choice, least_node, load, node_numbers, open_shares, shared, shares_of, sharing, tally_start}
 use Rattle.lard_loads.proofs.Charged.{all_charged}
-use Rattle.lard_policy.specs.declared.first.FirstChoice.{FirstChoice}
-use Rattle.lard_policy.specs.First.{first_choice, least_node}
 use Rattle.lard_refusals.specs.Refusals.{three_nodes}
 use Rattle.lard_table.proofs.Map.{get_inserted, get_other}
 

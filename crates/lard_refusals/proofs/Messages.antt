@@ -1,12 +1,8 @@
 -- What the messages say.
 use Rattle.std.proofs.Common.{◌≡◌, ℕ, false, List, [], ◌∷◌, Ok, refl}
 use Rattle.std.specs.Prelude.{codes}
-use Rattle.lard_base.specs.declared.parts.EndpointParts.{EndpointParts}
-use Rattle.lard_history.specs.Journal.{request}
-use Rattle.lard_message.specs.declared.message.Body.{Body}
+use Rattle.lard_law_view.specs.Prelude.{Body, EndpointParts, Message, ask_at, content_at, counted_at, decoded_message, flag_at, offer_at, parts_at, paths_at, request}
 use Rattle.lard_message.specs.declared.message.Body.TheVariants as body
-use Rattle.lard_message.specs.declared.message.Message.{Message}
-use Rattle.lard_message.specs.Reading.{ask_at, content_at, counted_at, decoded_message, flag_at, offer_at, parts_at, paths_at}
 use Rattle.lard_refusals.specs.Packets.{content, first_ask, offer, offer_without_bytes}
 
 -- a message on connection 1 in epoch 2

@@ -1,6 +1,6 @@
 -- What is so at every moment of a journal that is written out: it is so of each of its fronts.
 use Rattle.std.proofs.Common.{◌≡◌, List, [], ◌∷◌, ◌++◌, append-nil, append_assoc, subst, sym}
-use Rattle.lard_journal.specs.declared.rec.Rec.{Rec}
+use Rattle.lard_law_view.specs.Prelude.{Rec}
 
 -- P is so of what is done, and with each more of these records
 abbrev pub EachFront : (List Rec → Type 0) → List Rec → List Rec → Type 0

@@ -4,14 +4,8 @@ use Rattle.std.specs.Char.{encode_utf8}
 use Rattle.std.specs.Prelude.{codes}
 use Rattle.std.specs.Str.{chars, is_utf8}
 use Rattle.httparse.specs.Grammar.{is_token_byte, trim_ows}
-use Rattle.lard_answers.specs.Answers.{until_close, verdicts}
-use Rattle.lard_block.specs.Blocks.{Head, blocks, cut_of, head_end, pieces, skipped}
-use Rattle.lard_history.specs.Journal.{request}
+use Rattle.lard_law_view.specs.Prelude.{Head, blank_lines, blocks, cut_of, field, has_bare_feed, has_content, has_good_host, head_end, head_of, head_verdict, is_close, newline, pairs_in, path_of, pieces, request, run, says_close, section, skipped, until_close, values, verdict, verdicts, version, word}
 use Rattle.lard_request.specs.declared.verdict.Verdict.TheVariants.{Serve}
-use Rattle.lard_request.specs.Fields.{has_content, has_good_host, is_close, says_close, values}
-use Rattle.lard_request.specs.Head.{blank_lines, field, head_of, newline, run, section, version, word}
-use Rattle.lard_request.specs.Target.{path_of}
-use Rattle.lard_request.specs.Verdict.{has_bare_feed, head_verdict, pairs_in, verdict}
 
 pub nothing-asked : verdicts [] ≡ []
 unfolding blocks pieces until_close verdicts

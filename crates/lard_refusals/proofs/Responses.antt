@@ -3,15 +3,12 @@ use Rattle.std.proofs.Common.{◌≡◌, ℕ, false, List, [], ◌∷◌, map, N
 use Rattle.std.specs.Fmt.{digits}
 use Rattle.std.specs.List.{concat}
 use Rattle.std.specs.Prelude.{codes, slice_get}
-use Rattle.lard_answers.specs.Answers.{answer, answer_bytes, answers, goods, goods_from, verdicts}
+use Rattle.lard_law_view.specs.Prelude.{Verdict, answer, answer_bytes, answers, goods, goods_from, request, response, verdicts}
 use Rattle.lard_laws.specs.BackingRequests.{IsFor}
 use Rattle.lard_laws.specs.Ways.{good_paths}
-use Rattle.lard_history.specs.Journal.{request}
 use Rattle.lard_refusals.specs.Refusals.{two_files}
 use Rattle.lard_refusals.proofs.Requests.{nothing-asked, request-asks}
-use Rattle.lard_request.specs.declared.verdict.Verdict.{Verdict}
 use Rattle.lard_request.specs.declared.verdict.Verdict.TheVariants.{Serve}
-use Rattle.lard_response.specs.Response.{response}
 
 -- the answer to the request for /a
 abbrev pub answer_a : List ℕ

@@ -1,13 +1,9 @@
 -- What the segments say.
 use Rattle.std.proofs.Common.{◌≡◌, true, false, [], ◌∷◌, Some, None, Result, Ok, Err, refl}
 use Rattle.std.specs.Prelude.{codes}
-use Rattle.lard_history.specs.Journal.{Numbers}
+use Rattle.lard_law_view.specs.Prelude.{Flags, Numbers, Said, SegFault, ToClient, decoded}
 use Rattle.lard_refusals.specs.Packets.{acknowledgement, acknowledges_the_request, acknowledges_three_bytes, final_segment, reset_segment, two_bytes, two_bytes_from_the_end, two_bytes_from_zero, two_other_bytes}
-use Rattle.lard_segment.specs.declared.fault.SegFault.{SegFault}
 use Rattle.lard_segment.specs.declared.fault.SegFault.TheVariants as fault
-use Rattle.lard_segment.specs.declared.segment.Dir.TheVariants.{ToClient}
-use Rattle.lard_segment.specs.declared.segment.Flags.{Flags}
-use Rattle.lard_segment.specs.Segment.{Said, decoded}
 
 -- what is decoded twice is the same
 pub same-said : {r : Result Said SegFault} {s t : Said} → r ≡ Ok s → r ≡ Ok t → s ≡ t

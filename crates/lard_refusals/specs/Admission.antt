@@ -1,15 +1,11 @@
 -- Journals that break the laws of admission: of the room, of releases, and of the line.
 use Rattle.std.specs.Prelude.{List, [], ◌∷◌, ◌≤◌, None, Some, codes}
-use Rattle.lard_base.specs.Config.{room_of}
+use Rattle.lard_law_view.specs.Prelude.{AtEachEnd, EachMay, EachStep, Front, Node, Rec, room_of, steps}
 use Rattle.lard_base.specs.declared.event.Event.TheVariants as event
-use Rattle.lard_base.specs.declared.place.Place.TheVariants.{Front, Node}
 use Rattle.lard_laws.specs.Lawful.{EachCounted, Throughout}
 use Rattle.lard_law_connections.specs.LineLaws.{LineNeedsAFullRoom, MayPass, MayWait, MustRelease}
 use Rattle.lard_law_connections.specs.PolicyLaws.{ArePaired, MayAdmit, MayRelease, Nothing, last_record}
 use Rattle.lard_counts.specs.Ledger.{ledger_admitted, ledger}
-use Rattle.lard_history.specs.Laws.{EachMay}
-use Rattle.lard_history.specs.Steps.{AtEachEnd, EachStep, steps}
-use Rattle.lard_journal.specs.declared.rec.Rec.{Rec}
 use Rattle.lard_journal.specs.declared.rec.Rec.TheVariants as rec
 use Rattle.lard_refusals.specs.Refusals.{Law, took}
 

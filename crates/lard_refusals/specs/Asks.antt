@@ -1,15 +1,12 @@
 -- Journals that break the laws of Asks and Tags, and of the order and the ways of later requests.
 use Rattle.std.specs.Prelude.{ℕ, List, [], ◌∷◌, None, Some, codes}
 use Rattle.lard_base.specs.declared.event.Event.TheVariants as event
-use Rattle.lard_base.specs.declared.place.Place.TheVariants.{Front, Node}
+use Rattle.lard_law_view.specs.Prelude.{EachStep, Front, Node, Rec, request, steps}
 use Rattle.lard_base.specs.declared.place.Via.TheVariants as via
 use Rattle.lard_laws.specs.AsksAnswers.{MustAnswer, MustEnd}
 use Rattle.lard_laws.specs.AsksSent.{MustAsk}
 use Rattle.lard_laws.specs.Sizes.{MustSize}
 use Rattle.lard_laws.specs.Ways.{AreAssignedInOrder, AssignsAPrefix, ComeAsAssigned, NamesTheNext}
-use Rattle.lard_history.specs.Journal.{request}
-use Rattle.lard_history.specs.Steps.{EachStep, steps}
-use Rattle.lard_journal.specs.declared.rec.Rec.{Rec}
 use Rattle.lard_journal.specs.declared.rec.Rec.TheVariants as rec
 use Rattle.lard_refusals.specs.Packets.{ask_with_a_queue, first_ask, second_ask, tag}
 use Rattle.lard_refusals.specs.Refusals.{Law, gave}

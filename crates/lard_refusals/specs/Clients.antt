@@ -1,14 +1,9 @@
 -- Journals that break the laws of what clients write and take, and of timers.
 use Rattle.std.specs.Prelude.{List, [], ◌∷◌, codes}
 use Rattle.lard_base.specs.declared.event.Event.TheVariants as event
-use Rattle.lard_base.specs.declared.place.Place.TheVariants.{Client, Front}
+use Rattle.lard_law_view.specs.Prelude.{ChangesInSteps, Client, Front, KeepsTables, Rec, TakesInOrder, WritesWhileOpen}
 use Rattle.lard_base.specs.declared.place.TimerKind.TheVariants.{Tcp}
-use Rattle.lard_history.specs.Laws.{WritesWhileOpen}
-use Rattle.lard_journal.specs.declared.rec.Rec.{Rec}
 use Rattle.lard_journal.specs.declared.rec.Rec.TheVariants as rec
-use Rattle.lard_law_view.specs.Taking.{TakesInOrder}
-use Rattle.lard_law_view.specs.ClientRule.{KeepsTables}
-use Rattle.lard_law_view.specs.Timers.{ChangesInSteps}
 use Rattle.lard_refusals.specs.Packets.{acknowledgement, syn, two_bytes}
 use Rattle.lard_refusals.specs.Refusals.{Law, took}
 

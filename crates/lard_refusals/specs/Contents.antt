@@ -1,17 +1,13 @@
 -- Journals that break the laws of disks and caches, and of where contents come from.
 use Rattle.std.specs.Prelude.{List, [], ◌∷◌, None, Some, codes}
 use Rattle.lard_base.specs.declared.event.Event.TheVariants as event
-use Rattle.lard_base.specs.declared.place.Place.TheVariants.{Node}
+use Rattle.lard_law_view.specs.Prelude.{EachMay, EachStep, Node, Rec, request, steps}
 use Rattle.lard_base.specs.declared.place.Via.TheVariants as via
 use Rattle.lard_laws.specs.BackingJobs.{MustQueue}
 use Rattle.lard_laws.specs.BackingRequests.{MayBeBacked, MayStart}
 use Rattle.lard_law_connections.specs.StoresLaws.{MayStore, MustRead}
 use Rattle.lard_laws.specs.WaysBefore.{MayBeServed}
 use Rattle.lard_laws.specs.WaysContents.{MustBring}
-use Rattle.lard_history.specs.Journal.{request}
-use Rattle.lard_history.specs.Laws.{EachMay}
-use Rattle.lard_history.specs.Steps.{EachStep, steps}
-use Rattle.lard_journal.specs.declared.rec.Rec.{Rec}
 use Rattle.lard_journal.specs.declared.rec.Rec.TheVariants as rec
 use Rattle.lard_refusals.specs.Packets.{content}
 use Rattle.lard_refusals.specs.Refusals.{Law, took}

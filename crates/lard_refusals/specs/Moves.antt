@@ -1,12 +1,9 @@
 -- Journals in which a connection moves as it may not, and in which an Offer carries what it should not.
 use Rattle.std.specs.Prelude.{List, [], ◌∷◌, None, Some, codes}
 use Rattle.lard_base.specs.declared.event.Event.TheVariants as event
-use Rattle.lard_base.specs.declared.place.Place.TheVariants.{Client, Front, Node}
+use Rattle.lard_law_view.specs.Prelude.{Client, EachStep, Front, Node, Rec, request, steps}
 use Rattle.lard_law_connections.specs.Motion.{MustMove}
 use Rattle.lard_law_connections.specs.Offers.{CarryTheEndpoint}
-use Rattle.lard_history.specs.Journal.{request}
-use Rattle.lard_history.specs.Steps.{EachStep, steps}
-use Rattle.lard_journal.specs.declared.rec.Rec.{Rec}
 use Rattle.lard_journal.specs.declared.rec.Rec.TheVariants as rec
 use Rattle.lard_refusals.specs.Packets.{client_acknowledgement, offer, offer_without_bytes, syn}
 use Rattle.lard_refusals.specs.Refusals.{Law, gave, took}

@@ -1,10 +1,8 @@
 -- Journals that break the laws of the network, of the places that act, and of the clock.
 use Rattle.std.specs.Prelude.{List, [], ◌∷◌, codes}
 use Rattle.lard_base.specs.declared.event.Event.TheVariants as event
-use Rattle.lard_base.specs.declared.place.Place.TheVariants.{Client, Front, Node}
+use Rattle.lard_law_view.specs.Prelude.{ActsInPlace, Client, EachMay, Front, IsNetwork, KeepsTime, Node, Rec}
 use Rattle.lard_laws.specs.RecordsMessages.{MayBeThere}
-use Rattle.lard_history.specs.Laws.{ActsInPlace, EachMay, IsNetwork, KeepsTime}
-use Rattle.lard_journal.specs.declared.rec.Rec.{Rec}
 use Rattle.lard_journal.specs.declared.rec.Rec.TheVariants as rec
 use Rattle.lard_refusals.specs.Packets.{syn}
 use Rattle.lard_refusals.specs.Refusals.{Law, took}

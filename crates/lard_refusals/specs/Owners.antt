@@ -1,8 +1,6 @@
 -- Journals in which a connection has no owner or two, and in which another than its owner sends to the client.
 use Rattle.std.specs.Prelude.{List, [], ◌∷◌}
-use Rattle.lard_base.specs.declared.place.Place.TheVariants.{Client, Front, Node}
-use Rattle.lard_history.specs.Laws.{IsOwnership, IsSoleSender}
-use Rattle.lard_journal.specs.declared.rec.Rec.{Rec}
+use Rattle.lard_law_view.specs.Prelude.{Client, Front, IsOwnership, IsSoleSender, Node, Rec}
 use Rattle.lard_journal.specs.declared.rec.Rec.TheVariants as rec
 use Rattle.lard_refusals.specs.Packets.{acknowledgement}
 use Rattle.lard_refusals.specs.Refusals.{Law, gave, took}

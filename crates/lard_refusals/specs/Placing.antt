@@ -5,8 +5,7 @@ use Rattle.lard_laws.specs.Lawful.{EachCounted, Throughout}
 use Rattle.lard_law_connections.specs.LineLaws.{HasFewConnections, IsNearTheThresholds, IsNotBusy, IsWithinTheRoom}
 use Rattle.lard_law_connections.specs.PolicyLaws.{AreLoadsCharged, AreServersTold, MayAssign, MayShare, last_record}
 use Rattle.lard_counts.specs.Ledger.{ledger}
-use Rattle.lard_history.specs.Laws.{EachMay}
-use Rattle.lard_journal.specs.declared.rec.Rec.{Rec}
+use Rattle.lard_law_view.specs.Prelude.{EachMay, Rec}
 use Rattle.lard_journal.specs.declared.rec.Rec.TheVariants as rec
 use Rattle.lard_refusals.specs.Refusals.{Law}
 

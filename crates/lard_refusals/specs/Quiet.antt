@@ -1,11 +1,9 @@
 -- Journals in which a connection comes to rest and is not complete, and in which a response is due and nothing comes of it.
 use Rattle.std.specs.Prelude.{List, [], ◌∷◌, codes}
 use Rattle.lard_base.specs.declared.event.Event.TheVariants as event
-use Rattle.lard_base.specs.declared.place.Place.TheVariants.{Client, Node}
+use Rattle.lard_law_view.specs.Prelude.{Client, Node, Rec, request}
 use Rattle.lard_laws.specs.Due.{AnswersWhatIsDue}
 use Rattle.lard_laws.specs.Quiet.{CompletesWhenQuiet}
-use Rattle.lard_history.specs.Journal.{request}
-use Rattle.lard_journal.specs.declared.rec.Rec.{Rec}
 use Rattle.lard_journal.specs.declared.rec.Rec.TheVariants as rec
 use Rattle.lard_refusals.specs.Packets.{acknowledges_the_request}
 use Rattle.lard_refusals.specs.Refusals.{Law, took}

@@ -1,12 +1,7 @@
 -- What it is to refuse a journal, and the cluster and the files that all journals here are of.
 use Rattle.std.specs.Prelude.{◌≡◌, ℕ, List, [], ◌∷◌, Ok, codes}
-use Rattle.lard_answers.specs.Answers.{FilesAt}
-use Rattle.lard_base.specs.Config.{config_check}
-use Rattle.lard_base.specs.declared.config.Config.{Config}
-use Rattle.lard_base.specs.declared.place.Place.{Place}
+use Rattle.lard_law_view.specs.Prelude.{Config, FilesAt, Place, Rec, config_check, file_at}
 use Rattle.lard_laws.specs.Lawful.{IsLawful}
-use Rattle.lard_files.specs.Files.{file_at}
-use Rattle.lard_journal.specs.declared.rec.Rec.{Rec}
 use Rattle.lard_journal.specs.declared.rec.Rec.TheVariants as rec
 
 -- ---- laws

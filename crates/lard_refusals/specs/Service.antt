@@ -1,13 +1,10 @@
 -- Journals that break the laws of what is told to clients, of responses, and of resets.
 use Rattle.std.specs.Prelude.{List, [], ◌∷◌, ◌++◌, None, Some, codes}
-use Rattle.lard_base.specs.declared.place.Place.TheVariants.{Client, Front, Node}
+use Rattle.lard_law_view.specs.Prelude.{AcceptsOnlyAnswers, Client, EachMay, Front, Node, Rec, ResetsAtTheLimit, TellsTheTruth, request}
 use Rattle.lard_base.specs.declared.place.Via.TheVariants as via
 use Rattle.lard_laws.specs.BackingRequests.{MayAnswerFrom, MayName}
 use Rattle.lard_law_connections.specs.BytesRecords.{ServesTheAnswers}
 use Rattle.lard_law_connections.specs.ResetsLaws.{SendsRstBehindResets}
-use Rattle.lard_history.specs.Journal.{request}
-use Rattle.lard_history.specs.Laws.{AcceptsOnlyAnswers, EachMay, ResetsAtTheLimit, TellsTheTruth}
-use Rattle.lard_journal.specs.declared.rec.Rec.{Rec}
 use Rattle.lard_journal.specs.declared.rec.Rec.TheVariants as rec
 use Rattle.lard_refusals.specs.Packets.{acknowledges_three_bytes, final_segment, reset_segment, two_bytes, two_bytes_from_the_end, two_bytes_from_zero, two_other_bytes}
 use Rattle.lard_refusals.specs.Refusals.{Law, took}

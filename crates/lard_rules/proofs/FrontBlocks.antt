@@ -1,27 +1,23 @@
 -- What a segment, a timer and what is said keep of an endpoint.
-use Rattle.std.proofs.Common.{◌≡◌, ℕ, ◌+◌, ◌-◌, ◌≤◌, ◌<◌, ◌==◌, nat_lt, max, not, ◌&&◌, ◌||◌, Bool, true, false, cond, List, [], ◌++◌, length, length-append, drop, ◌^◌, Option, Some, None, refl, ◌∙◌, arith}
+use Rattle.std.proofs.Common.{◌≡◌, ℕ, ◌+◌, ◌-◌, ◌≤◌, ◌<◌, ◌==◌, nat_lt, max, not, ◌&&◌, ◌||◌, Bool, true, false, cond, List, ◌++◌, length, length-append, drop, ◌^◌, refl, ◌∙◌, arith}
 use Rattle.std.proofs.lemmas.List.{length-take}
 use Rattle.std.proofs.lemmas.Bool.{cond_both, eq-eqb, eqb-false, eqb-true, ltb-false, ltb-true, not-true}
-use Rattle.lard_arrival.specs.Arrival.{bare, is_acceptable, is_allowed}
 use Rattle.lard_base.specs.declared.place.Place.{Place}
-use Rattle.lard_endpoint.specs.declared.control.arriving.Arrival.{Arrival}
-use Rattle.lard_endpoint.specs.declared.control.arriving.Arrival.TheVariants.{Fine, AckOwed, Reset}
-use Rattle.lard_endpoint.specs.Arriving.{on_ack, on_acked, on_rst, on_segment, on_syn, on_text, on_unacceptable, owing}
-use Rattle.lard_endpoint.specs.Control.{ControlBlock, rcv_nxt, rcv_wnd}
-use Rattle.lard_endpoint.specs.Leaving.{advanced, after_emit, after_owed, after_piece, after_timer, owes, retried, told}
-use Rattle.lard_endpoint.specs.Moving.{end_reason, final_of, is_closed, may_end, may_freeze}
+use Rattle.lard_endpoint.specs.Arriving.{on_segment}
+use Rattle.lard_endpoint.specs.Control.{ControlBlock}
+use Rattle.lard_endpoint.specs.Leaving.{advanced, after_emit, after_timer, retried}
+use Rattle.lard_endpoint.specs.Moving.{is_closed, may_freeze}
 use Rattle.lard_rules.specs.FrontSound.{Serves}
 use Rattle.lard_recv.specs.Recv.{Received, arrived, awaited, begins_after, ends, fresh_bytes, receive_room, bytes_taken}
+use Rattle.lard_rules.proofs.Endings.{StaysWith, settled-stays, spoken-stays}
+use Rattle.lard_rules.proofs.Hearing as hearing
 use Rattle.lard_rules.proofs.Loops.{speaks_keep}
 use Rattle.lard_rules.proofs.Sides.{ack-side, next-side, resend-side}
 use Rattle.lard_rules.specs.declared.places.Ending.{Ending}
-use Rattle.lard_rules.specs.declared.places.Ending.TheVariants.{Here, Over}
-use Rattle.lard_rules.specs.declared.places.Turn.{Turn}
-use Rattle.lard_rules.specs.Serving.{ServeEnv, Service, cut_off, rested, serving_settled, spoken}
+use Rattle.lard_rules.specs.Serving.{ServeEnv, Service, serving_settled, spoken}
 use Rattle.lard_rules.specs.Speaking.{speaks}
 use Rattle.lard_segment.specs.Segment.{Said}
-use Rattle.lard_send.specs.declared.piece.Piece.{Piece}
-use Rattle.lard_send.specs.Send.{Sending, after_ack, after_next, after_resend, is_clear, is_newer, send_left, may_send, moved_up, next_fin, next_len, next_piece, resent_piece, symbols, unsent_bytes, windowed}
+use Rattle.lard_send.specs.Send.{Sending, after_ack, after_next, after_resend, is_clear, is_newer, send_left, may_send, moved_up, next_fin, next_len, symbols, unsent_bytes, windowed}
 use Rattle.lard_seq.specs.Seq.{one_if, seq_offset}
 
 -- ---- what each of its parts keeps, it keeps
@@ -37,50 +33,16 @@ module _ (P : Received → Sending → Type 0) (kept : KeptByTurns P) where
   abbrev pub Of : ControlBlock → Type 0
   Of b = P b.recv b.send
 
-  abbrev Takes : Arrival × ControlBlock → Type 0
-  Takes x = P x.1.recv x.1.send
-
-  acked-keeps : (b : ControlBlock) (s : Said) → Of b → Takes (on_acked b s)
-  acked-keeps b s h =
-      let text : Arrival × ControlBlock = (AckOwed, record b { recv = arrived b.recv s.seq s.payload s.flags.fin; owed = true }) in
-      cond_both {A = Arrival × ControlBlock} (b.send.una == 0) (Fine, b) (on_text b s) Takes (λ t. h) (λ t.
-      cond_both {A = Arrival × ControlBlock} (length s.payload == 0 && not s.flags.fin) (Fine, b) text Takes (λ u. h) (λ u. kept.comes b.recv b.send s.seq s.payload s.flags.fin h))
-
-  ack-keeps : (b : ControlBlock) (s : Said) → Of b → Takes (on_ack b s)
-  ack-keeps b s h =
-      let sent : ControlBlock = record b { send = after_ack b.send s.ack s.seq s.wnd } in
-      let beyond : Bool = nat_lt b.send.nxt (seq_offset s.ack b.send.iss) in
-      cond_both {A = Arrival × ControlBlock} (not s.flags.ack) (Fine, b) (cond beyond (AckOwed, owing b) (on_acked sent s)) Takes (λ t. h) (λ t.
-      cond_both {A = Arrival × ControlBlock} beyond (AckOwed, owing b) (on_acked sent s) Takes (λ u. h) (λ u. acked-keeps sent s (kept.acks b.recv b.send s.ack s.seq s.wnd h)))
-
   pub segment-keeps : (b : ControlBlock) (s : Said) → Of b → Of (on_segment b s).1
   segment-keeps b s h =
-      let owed : Arrival × ControlBlock = (AckOwed, owing b) in
-      let reset : Arrival × ControlBlock = (Reset, record b { reset = true }) in
-      let next : Bool = s.seq == rcv_nxt b in
-      cond_both (is_acceptable (rcv_nxt b) (rcv_wnd b) s) (on_rst b s) (on_unacceptable b s) Takes
-      (λ t. cond_both (not s.flags.rst) (on_syn b s) (cond next reset owed) Takes
-      (λ u. cond_both s.flags.syn owed (on_ack b s) Takes (λ v. h) (λ v. ack-keeps b s h))
-      (λ u. cond_both next reset owed Takes (λ v. h) (λ v. h)))
-      (λ t. cond_both {A = Arrival × ControlBlock} (is_allowed (rcv_nxt b) (rcv_wnd b) s) (AckOwed, (on_ack (owing b) (bare s)).1) (cond s.flags.rst (Fine, b) owed) Takes
-      (λ u. ack-keeps (owing b) (bare s) h)
-      (λ u. cond_both {A = Arrival × ControlBlock} s.flags.rst (Fine, b) owed Takes (λ v. h) (λ v. h)))
-
-  piece-keeps : (b d : ControlBlock) (p : Option Piece) → Of b → Of d → Of (after_piece b p d)
-  piece-keeps b d None h k = k
-  piece-keeps b d (Some p) h k = h
+      let k : P b.recv (after_ack b.send s.ack s.seq s.wnd) = kept.acks b.recv b.send s.ack s.seq s.wnd h in
+      hearing.segment-keeps b s Of (record { rests = λ owed. h; resets = λ t. h; acks = λ owed c. k; comes = λ c some. kept.comes b.recv (after_ack b.send s.ack s.seq s.wnd) s.seq s.payload s.flags.fin k })
 
   emit-keeps : (b : ControlBlock) → Of b → Of (after_emit b)
-  emit-keeps b h =
-      let next : ControlBlock = advanced b in
-      let k : Of next = kept.nexts b.recv b.send h in
-      cond_both b.reset b (after_piece next (next_piece b.send) (after_owed next)) Of (λ t. h) (λ t.
-      piece-keeps next (after_owed next) (next_piece b.send) k (cond_both (owes next) (told next) next Of (λ u. k) (λ u. k)))
+  emit-keeps b h = let k : Of (advanced b) = kept.nexts b.recv b.send h in hearing.emit-keeps Of b h k k
 
   pub timer-keeps : (b : ControlBlock) → Of b → Of (after_timer b)
-  timer-keeps b h =
-      let k : Of (retried b) = kept.again b.recv b.send h in
-      cond_both b.reset b (after_piece (retried b) (resent_piece b.send) (retried b)) Of (λ t. h) (λ t. piece-keeps (retried b) (retried b) (resent_piece b.send) k k)
+  timer-keeps b h = let k : Of (retried b) = kept.again b.recv b.send h in hearing.timer-keeps Of b h k k
 
   pub speaks-keep : (c : ℕ) (b : ControlBlock) → Of b → Of (speaks c b).1
   speaks-keep c b = speaks_keep c (λ b ss d. Of b → Of d) (record { rests = λ b h. h; says = λ b r ss d e later h. later (emit-keeps b h) }) b
@@ -186,20 +148,13 @@ speaks-serve n = speaks-keep (Serves n) (serves-kept n)
 
 -- where its turn ends
 abbrev pub EndsServing : Ending → Type 0
-EndsServing (Here b count) = Serves count b.recv b.send
-EndsServing (Over last) = Unit {0}
-
-rested-serves : (b : ControlBlock) (count : ℕ) → ServesAs count b → EndsServing (rested b count)
-rested-serves b count h = cond_both (may_end b) (Over (final_of b (end_reason b))) (Here b count) EndsServing (λ t. tt) (λ t. h)
+EndsServing = StaysWith (λ b count. Serves count b.recv b.send)
 
 pub spoken-serves : (env : ServeEnv) (w : Service) (before : List (Place × List ℕ)) → ServesAs w.count w.block → EndsServing (spoken env w before).0
-spoken-serves env w before h = rested-serves (speaks env.c w.block).1 w.count (speaks-serve w.count env.c w.block h)
+spoken-serves env w before h = spoken-stays (λ b count. ServesAs count b) env w before (λ stays. speaks-serve w.count env.c w.block h)
 
 pub settled-serves : (env : ServeEnv) (w : Service) → ServesAs w.count w.block → EndsServing (serving_settled env w).0
-settled-serves env w h = go w.over where
-  go : (o : Option ℕ) → EndsServing (elim o as (λ p. Ending × Turn) [ None ↦ spoken env w [] | Some total ↦ cut_off env w ]).0
-  go None = spoken-serves env w [] h
-  go (Some total) = tt
+settled-serves env w h = settled-stays (λ b count. ServesAs count b) env w (λ none stays. speaks-serve w.count env.c w.block h)
 
 -- ---- an endpoint that may move
 
@@ -269,15 +224,13 @@ timer-idle = timer-keeps IsIdle idle-kept
 
 -- where its turn ends, it may move
 abbrev pub EndsIdle : Ending → Type 0
-EndsIdle (Here b count) = may_freeze b ≡ true
-EndsIdle (Over last) = Unit {0}
+EndsIdle = StaysWith (λ b count. may_freeze b ≡ true)
 
 not-either : (a b : Bool) → (a || b) ≡ false → a ≡ false
 not-either false b h = refl
 not-either true b h = let no : true ≡ false = h in absurd cc
 
-rested-idle : (b : ControlBlock) (count : ℕ) → IdleAs b → EndsIdle (rested b count)
-rested-idle b count h = cond_both (may_end b) (Over (final_of b (end_reason b))) (Here b count) EndsIdle (λ t. tt) (λ t. idle-may b h (not-either b.reset (is_closed b) t))
-
 pub spoken-idle : (env : ServeEnv) (w : Service) (before : List (Place × List ℕ)) → IdleAs w.block → EndsIdle (spoken env w before).0
-spoken-idle env w before h = rested-idle (speaks env.c w.block).1 w.count (speaks-keep IsIdle idle-kept env.c w.block h)
+spoken-idle env w before h =
+    let b : ControlBlock = (speaks env.c w.block).1 in
+    spoken-stays (λ b count. may_freeze b ≡ true) env w before (λ stays. idle-may b (speaks-keep IsIdle idle-kept env.c w.block h) (not-either b.reset (is_closed b) stays))

@@ -1,6 +1,6 @@
 -- What each rule of the front end can come to, once: what a segment, a timer, a Taken, an Ask and an Ended do, and what becomes of the head of
 -- the line. A law says what it keeps for each outcome, and opens no rule.
-use Rattle.std.proofs.Common.{◌≡◌, ◌⊎◌, inl, inr, ◌<◌, ◌+◌, ◌==◌, ◌&&◌, nat_lt, ℕ, Bool, true, false, cond, List, [], ◌∷◌, ◌++◌, map, Option, Some, None, refl, subst, arith}
+use Rattle.std.proofs.Common.{◌≡◌, ◌⊎◌, inl, inr, ◌<◌, ◌+◌, ◌==◌, ◌&&◌, nat_lt, ℕ, Bool, true, false, cond, List, [], ◌∷◌, ◌++◌, map, Option, Some, None, Err, Ok, refl, subst, arith}
 use Rattle.std.proofs.lemmas.Bool.{cond_both, eqb-true, ltb-true}
 use Rattle.lard_base.specs.declared.ids.Epoch.{Epoch}
 use Rattle.lard_base.specs.declared.place.Place.{Place}
@@ -27,7 +27,7 @@ use Rattle.lard_rules.specs.declared.front.FrontRest.{FrontRest}
 use Rattle.lard_rules.specs.declared.front.FrontTurn.{FrontTurn}
 use Rattle.lard_rules.specs.declared.places.Ending.{Ending}
 use Rattle.lard_rules.specs.declared.places.Turn.{Turn}
-use Rattle.lard_rules.specs.Front.{FrontDeed, Drops, Says, Does, FrontEnv, FrontPart, ack_sent, admitted_at, admitted_by, asked_by, assigns, fires_at, forwarded, front_admitted, front_admitted_with, front_asked, front_begun, front_ended, front_ended_by, front_ends, front_fired, front_fired_by, front_hears, front_rest, front_rests, front_saying, front_taken, front_timer, handed_off, hears_at, holds, is_row_at, placed, settled_by, tag_sent, taken_by, turn_here, waits_on}
+use Rattle.lard_rules.specs.Front.{FrontDeed, Drops, Says, Does, FrontGets, FrontHears, FrontFires, TakenBy, AskedBy, EndedBy, FrontAdmits, front_rule, FrontEnv, FrontPart, ack_sent, admitted_at, admitted_by, asked_by, assigns, fires_at, forwarded, front_admitted, front_admitted_with, front_asked, front_begun, front_ended, front_ended_by, front_ends, front_fired, front_fired_by, front_hears, front_rest, front_rests, front_saying, front_taken, front_timer, handed_off, hears_at, holds, is_row_at, placed, settled_by, tag_sent, taken_by, turn_here, waits_on}
 use Rattle.lard_rules.specs.FrontReading.{Reading, front_reads}
 use Rattle.lard_rules.specs.Serving.{Service, serving, serving_ready_of, serving_settled, spoken}
 use Rattle.lard_rules.specs.Tombstone.{is_plain_syn, last_words, tombstone}
@@ -220,3 +220,39 @@ admitted-keeps env p choice A hands given = by p.row refl where
   by : (o : Option FrontRow) → p.row ≡ o → admitted_by env p choice o ≡ Some given → A given
   by None none e = let no : None ≡ Some given = e in absurd cc
   by (Some row) found e = in-stage row row.stage (found, refl) e
+
+-- ---- whatever comes
+
+-- What is known of who is admitted: the rule says what comes of that.
+abbrev pub IsAsGiven : FrontEnv → FrontPart → FrontGets → Type 0
+IsAsGiven env p (FrontAdmits choice given) = front_admitted env p choice ≡ Some given
+IsAsGiven env p _ = Unit {0}
+
+-- M is what is known of what came, R what tells what reading came to: a segment, the timer, a Taken, the last Ask again and the next one, an Ended
+-- again and a new one, and the head of the line.
+pub record KeptByFront (env : FrontEnv) (p : FrontPart) (M : FrontGets → Type 0) (R : Service → Option (List ℕ) → Type 0) (D : FrontDeed → Type 0) : Type 0 where
+  pub drops : D Drops
+  pub hears : (bytes : List ℕ) (s : Said) → M (FrontHears bytes (Ok s)) → KeptBySegment env p bytes s R D
+  pub fires : M FrontFires → KeptByTimer env p D
+  pub takes : (n epoch : ℕ) → M (TakenBy n epoch) → (row : FrontRow) (node : ℕ) (e : Epoch) → IsInStage p row (stage.Offering node e) → e.0 ≡ epoch
+      → D (taken_by p epoch (Some row) (Some node))
+  pub tags_again : (n epoch : ℕ) (ask : Ask) → M (AskedBy n epoch ask) → (rest : FrontRest) → p.rest ≡ Some rest → is_row_at n epoch p.row ≡ true
+      → ask.number ≡ rest.asks → 0 < rest.asks → D (Says (front_saying (tag_sent env n epoch rest.asks rest.tag)))
+  pub assigns_next : (n epoch : ℕ) (ask : Ask) → M (AskedBy n epoch ask) → (rest : FrontRest) → p.rest ≡ Some rest → is_row_at n epoch p.row ≡ true
+      → ask.number ≡ rest.asks + 1 → D (Does (assigns env p rest n epoch ask (env.later ask)))
+  pub ends_again : (n epoch : ℕ) (last : Final) → M (EndedBy n epoch last) → (row : FrontRow) → p.row ≡ Some row → is_away epoch row.stage ≡ false
+      → ended_with epoch row.ended_by ≡ true → D (Says (front_saying (ack_sent env n epoch)))
+  pub ends : (n epoch : ℕ) (last : Final) → M (EndedBy n epoch last) → (row : FrontRow) → p.row ≡ Some row → is_away epoch row.stage ≡ true
+      → D (Does (front_ends env p n epoch last row (next_epoch row)))
+  pub admits : (choice : FirstChoice) (row : FrontRow) (b : ControlBlock) (path : List ℕ) → IsInStage p row (stage.Waiting b)
+      → (front_rest p.rest).target ≡ Some path → D (hands_off env row (serving b (front_rest p.rest).count []) path choice [])
+
+module _ (env : FrontEnv) (p : FrontPart) (M : FrontGets → Type 0) (R : Service → Option (List ℕ) → Type 0) (D : FrontDeed → Type 0) (kept : KeptByFront env p M R D) where
+  pub front-keeps : (g : FrontGets) → IsAsGiven env p g → M g → D (front_rule env p g)
+  front-keeps (FrontHears bytes (Err fault)) is m = kept.drops
+  front-keeps (FrontHears bytes (Ok s)) is m = segment-keeps env p bytes s R D (kept.hears bytes s m)
+  front-keeps FrontFires is m = timer-keeps env p D (kept.fires m)
+  front-keeps (TakenBy n epoch) is m = taken-keeps p D kept.drops epoch (kept.takes n epoch m)
+  front-keeps (AskedBy n epoch ask) is m = asked-keeps p D kept.drops env n epoch ask (kept.tags_again n epoch ask m) (kept.assigns_next n epoch ask m)
+  front-keeps (EndedBy n epoch last) is m = ended-keeps p D kept.drops env n epoch last (kept.ends_again n epoch last m) (kept.ends n epoch last m)
+  front-keeps (FrontAdmits choice given) is m = admitted-keeps env p choice (λ y. D (Does (record { part = y.0; turn = y.1; calls = [] }))) (kept.admits choice) given is

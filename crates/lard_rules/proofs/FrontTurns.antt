@@ -1,5 +1,5 @@
 -- The turns of reading: each but the last takes unread bytes, and a request that is to be placed finds an endpoint that may move.
-use Rattle.std.proofs.Common.{◌≡◌, ℕ, zero, suc, ◌+◌, ◌≤◌, ◌<◌, true, false, List, length, cond, nat_lt, Option, Some, None, refl, sym, ap, subst, ◌∙◌, arith, length-drop}
+use Rattle.std.proofs.Common.{◌≡◌, ℕ, zero, suc, ◌+◌, ◌≤◌, ◌<◌, true, false, List, length, cond, Option, Some, None, refl, sym, ap, subst, ◌∙◌, arith, length-drop}
 use Rattle.std.proofs.lemmas.Bool.{cond_both}
 use Rattle.lard_answers.specs.Answers.{answer, good_path}
 use Rattle.lard_base.specs.declared.place.Via.{Via}
@@ -14,13 +14,14 @@ use Rattle.lard_request.specs.declared.verdict.Code.TheVariants as code
 use Rattle.lard_request.specs.declared.verdict.Verdict.{Verdict}
 use Rattle.lard_request.specs.declared.verdict.Verdict.TheVariants.{Fault}
 use Rattle.lard_request.specs.Verdict.{closes}
+use Rattle.lard_rules.proofs.Endings.{answered-keeps, at-fin-keeps}
 use Rattle.lard_rules.proofs.FrontBlocks.{ServesAs, one-few}
 use Rattle.lard_rules.proofs.Reading.{answered-unread}
 use Rattle.lard_rules.proofs.Serving.{answer-some}
 use Rattle.lard_rules.proofs.Runs.{Falls, goes_done, goes_more}
 use Rattle.lard_rules.specs.Loop.{Step, runs_on}
 use Rattle.lard_rules.specs.Loop as loop
-use Rattle.lard_rules.specs.Serving.{ServeEnv, Service, answered, closed_behind, serving_consumed, ended_at_fin, may_read, passed_over, queued}
+use Rattle.lard_rules.specs.Serving.{ServeEnv, Service, answered, closed_behind, serving_consumed, ended_at_fin, may_read}
 use Rattle.lard_rules.specs.FrontReading.{MayMove, Reading, block_at, reading_left, front_reads, reads_block, reads_found, targeted, reading_turn, with_service}
 
 -- ---- each turn but the last takes unread bytes
@@ -79,13 +80,11 @@ consumed-serves n w h = record { counted = h.counted; asked = omega (arith, h.as
 -- an answer is of a request that was read, and has a byte
 pub answered-serves : (env : ServeEnv) (via : Via) (v : Verdict) (w : Service) → w.count + 1 + length w.block.recv.unread ≤ w.block.recv.got → IsServed w → IsServed (answered env via v w)
 answered-serves env via v w le h =
-    let bytes : List ℕ = answer env.files v in
-    let total : ℕ = w.block.send.total + length bytes in
-    cond_both (nat_lt env.stream total) (passed_over env total w) (queued env via v bytes w) IsServed (λ t. h)
-    (λ t. closed-serves v (w.count + 1) (queueing w.block bytes) (record { counted = omega (arith, h.counted, answer-some env.files v); asked = le; most = h.most; sent = omega (arith, h.sent) }))
+    answered-keeps IsServed env via v w (λ t. h)
+    (λ t. closed-serves v (w.count + 1) (queueing w.block (answer env.files v)) (record { counted = omega (arith, h.counted, answer-some env.files v); asked = le; most = h.most; sent = omega (arith, h.sent) }))
 
 ended-serves : (w : Service) → IsServed w → IsServed (ended_at_fin w)
-ended-serves w h = cond_both w.block.recv.fin (record w { block = finishing w.block }) w IsServed (λ t. record { counted = h.counted; asked = h.asked; most = h.most; sent = omega (arith, h.sent, one-few w.block.send.finished) }) (λ t. h)
+ended-serves w h = at-fin-keeps IsServed w (λ t. record { counted = h.counted; asked = h.asked; most = h.most; sent = omega (arith, h.sent, one-few w.block.send.finished) }) (λ t. h)
 
 -- while it goes on nothing is to be placed
 abbrev pub IsReading : Reading → Type 0

@@ -1,6 +1,8 @@
 pub mod Draining
+pub mod Endings
 pub mod Endpoints
 pub mod Halves
+pub mod Hearing
 pub mod Loops
 pub mod Packets
 pub mod Reading
@@ -23,3 +25,4 @@ pub mod FrontStepping
 pub mod StayFalling
 pub mod StayWalking
 pub mod StayKeeping
+pub mod NodeCases

@@ -7,13 +7,15 @@ use Rattle.lard_client.specs.declared.heard.Heard.{Heard}
 use Rattle.lard_client.specs.Control.{ClientBlock, client_opened, client_written, is_writing, shut_down, held_on, client_taken, aborted}
 use Rattle.lard_client.specs.Arriving.{client_arrived}
 use Rattle.lard_client.specs.Leaving.{client_timed, client_after_timer, abort_ready}
+use Rattle.lard_history.specs.Journal.{request}
 use Rattle.lard_journal.specs.declared.rec.Rec.{Rec}
 use Rattle.lard_journal.specs.declared.rec.Rec.TheVariants as rec
 use Rattle.lard_rules.specs.declared.places.Turn.{Turn}
 use Rattle.lard_rules.specs.Speaking.{to_front, client_speaks}
 use Rattle.lard_segment.specs.declared.fault.SegFault.{SegFault}
+use Rattle.lard_segment.specs.declared.segment.Dir.TheVariants.{ToClient}
 use Rattle.lard_segment.specs.declared.segment.Ready.{Ready}
-use Rattle.lard_segment.specs.Segment.{Said}
+use Rattle.lard_segment.specs.Segment.{Said, decoded}
 
 -- a turn in which nothing is noted or sent
 abbrev pub silent : Turn
@@ -75,3 +77,27 @@ client_gets x (Ok s) = client_heard s.payload (client_arrived x s)
 -- The schedule puts a packet with these bytes on the way from it; the client itself does nothing.
 abbrev pub client_injects : ClientBlock → List ℕ → ClientBlock × Turn
 client_injects x bytes = (x, record { notes = []; segments = (Front, bytes) ∷ []; answered = 0 })
+
+-- ---- the rules as data
+
+-- What comes to a client that opened: a command of the schedule, its timer, or a packet.
+pub data ClientGets : Type 0 where
+  ToGet : List ℕ → ClientGets  -- this path
+  ToWrite : List ℕ → ClientGets
+  ToShut : ClientGets
+  ToAbort : ClientGets
+  ToHold : ClientGets
+  ToTake : ClientGets
+  ClientFires : ClientGets
+  ClientReceives : Place → List ℕ → ClientGets  -- from this place, these bytes
+
+-- the client of connection c
+abbrev pub client_rule : ℕ → ClientBlock → ClientGets → ClientBlock × Turn
+client_rule c x (ToGet path) = client_writes x (request path)
+client_rule c x (ToWrite bytes) = client_writes x bytes
+client_rule c x ToShut = client_shuts x
+client_rule c x ToAbort = client_aborts x
+client_rule c x ToHold = client_holds x
+client_rule c x ToTake = client_takes x
+client_rule c x ClientFires = client_timer x
+client_rule c x (ClientReceives from bytes) = client_gets x (decoded bytes c ToClient)

@@ -344,3 +344,22 @@ front_armed p kind.Offer = list_any (λ x. kind_rank x.kind == kind_rank kind.Of
 front_armed p kind.Ask = false
 front_armed p kind.Fetch = false
 front_armed p kind.Ended = false
+
+-- ---- the rules as data
+
+-- What comes to the front end for a connection: a segment of its client, its timer, a message of a node, or its turn as the head of the line.
+pub data FrontGets : Type 0 where
+  FrontHears : List ℕ → Result Said SegFault → FrontGets  -- these bytes, as they are read
+  FrontFires : FrontGets
+  TakenBy : ℕ → ℕ → FrontGets  -- from this node, in this epoch, as the next two
+  AskedBy : ℕ → ℕ → Ask → FrontGets
+  EndedBy : ℕ → ℕ → Final → FrontGets
+  FrontAdmits : FirstChoice → FrontPart × FrontTurn → FrontGets  -- and what comes of that
+
+abbrev pub front_rule : FrontEnv → FrontPart → FrontGets → FrontDeed
+front_rule env p (FrontHears bytes given) = front_gets env p bytes given
+front_rule env p FrontFires = front_timer env p
+front_rule env p (TakenBy from epoch) = front_taken p epoch
+front_rule env p (AskedBy from epoch ask) = front_asked env p from epoch ask
+front_rule env p (EndedBy from epoch last) = front_ended env p from epoch last
+front_rule env p (FrontAdmits choice given) = Does (record { part = given.0; turn = given.1; calls = [] })

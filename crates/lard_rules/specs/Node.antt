@@ -274,3 +274,24 @@ node_armed p kind.Offer = false
 node_armed p kind.Ask = holds_kind kind.Ask p.kept
 node_armed p kind.Fetch = holds_kind kind.Fetch p.fetches
 node_armed p kind.Ended = holds_kind kind.Ended p.kept
+
+-- ---- the rules as data
+
+-- What comes to a node for a connection: a message, a completed job of its disk, or its timer.
+pub data NodeGets : Type 0 where
+  Offered : EndpointParts → NodeGets
+  Forwarded : Result Said SegFault → NodeGets
+  Tagged : ℕ → List ℕ → NodeGets
+  Content : ℕ → ℕ → NodeGets  -- from this node, for this request
+  Acknowledged : NodeGets
+  Completed : ℕ → List ℕ → NodeGets  -- for this request, its path
+  Fires : NodeGets
+
+abbrev pub node_rule : NodeEnv → NodePart → NodeGets → NodeDeed
+node_rule env p (Offered parts) = node_offered env p parts
+node_rule env p (Forwarded given) = node_forwarded env p given
+node_rule env p (Tagged number nodes) = node_tagged env p number nodes
+node_rule env p (Content from r) = node_content env p from r
+node_rule env p Acknowledged = node_acknowledged env p
+node_rule env p (Completed r path) = node_read env p r
+node_rule env p Fires = node_timer env p

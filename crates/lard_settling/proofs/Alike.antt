@@ -3,35 +3,12 @@
 use Rattle.std.proofs.Common.{◌≡◌, ℕ, ◌+◌, ◌-◌, Bool, true, false, cond, nat_lt, List, [], ◌∷◌, ◌++◌, length, Option, Some, None, Result, Ok, Err, refl, subst}
 use Rattle.std.specs.FinMap as table
 use Rattle.std.specs.Prelude.{slice_set}
-use Rattle.lard_base.specs.declared.event.Event.{Event}
+use Rattle.lard_law_view.specs.Prelude.{BackIn, ClientBlock, Event, FrontIn, FrontState, HasRule, Machine, NodeState, Out, Packet, Place, Rec, Station, StepFault, ToClient, Turn, client_aborts, client_acted, client_acts, client_gets, client_goes_on, client_holds, client_injects, client_opens, client_put, client_shuts, client_takes, client_timer, client_writes, clocked, completes, decoded, delivered, disk_at, from_place, front_acts, front_gave, front_setting, front_step, happens, is_client_armed, is_no_job, is_no_node, lose_at, lost, machine_opened, machine_to_client, machine_to_front, machine_told, machine_wrote, node_acts, node_at, node_gave, node_setting, node_step, out_of, packet_at, packets_of, passed, request, segments_sent, sent_records, timer, to_place, written_len}
 use Rattle.lard_base.specs.declared.event.Event.TheVariants as event
-use Rattle.lard_base.specs.declared.place.Place.{Place}
 use Rattle.lard_base.specs.declared.place.Place.TheVariants as place
-use Rattle.lard_client.specs.Control.{ClientBlock, is_client_armed, written_len}
-use Rattle.lard_rules.specs.Bounds.{HasRule}
-use Rattle.lard_rules.specs.declared.fault.StepFault.{StepFault}
-use Rattle.lard_rules.specs.declared.machine.Machine.{Machine}
-use Rattle.lard_rules.specs.Machine.{client_acted, client_acts, client_goes_on, client_put, clocked, completes, delivered, disk_at, from_place, front_acts, front_gave, front_setting, happens, is_no_job, is_no_node, lost, node_acts, node_at, node_gave, node_setting, machine_opened, passed, segments_sent, timer, machine_to_client, machine_to_front, to_place, machine_told, machine_wrote}
-use Rattle.lard_rules.specs.declared.front.FrontState.{FrontState}
-use Rattle.lard_rules.specs.FrontPlace.{front_step}
-use Rattle.lard_history.specs.Journal.{request}
-use Rattle.lard_journal.specs.declared.rec.Rec.{Rec}
 use Rattle.lard_journal.specs.declared.rec.Rec.TheVariants as rec
-use Rattle.lard_rules.specs.Sent.{packets_of, sent_records}
-use Rattle.lard_net.specs.Net.{Packet, lose_at, packet_at}
-use Rattle.lard_rules.specs.declared.node.BackIn.{BackIn}
 use Rattle.lard_rules.specs.declared.node.BackIn.TheVariants as back
-use Rattle.lard_rules.specs.declared.node.NodeState.{NodeState}
-use Rattle.lard_rules.specs.NodePlace.{node_step}
-use Rattle.lard_rules.specs.Client.{client_aborts, client_gets, client_holds, client_injects, client_opens, client_shuts, client_takes, client_timer, client_writes}
-use Rattle.lard_rules.specs.declared.front.FrontIn.{FrontIn}
 use Rattle.lard_rules.specs.declared.front.FrontIn.TheVariants as input
-use Rattle.lard_rules.specs.declared.places.Out.{Out}
-use Rattle.lard_rules.specs.declared.places.Station.{Station}
-use Rattle.lard_rules.specs.declared.places.Turn.{Turn}
-use Rattle.lard_rules.specs.Outs.{out_of}
-use Rattle.lard_segment.specs.declared.segment.Dir.TheVariants.{ToClient}
-use Rattle.lard_segment.specs.Segment.{decoded}
 use Rattle.lard_settling.specs.Written.{told_as}
 
 -- Two machines behind steps of the same event, from machines that differ in these journals and numbers of events alone.

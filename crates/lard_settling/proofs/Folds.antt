@@ -3,10 +3,8 @@ use Rattle.std.proofs.Common.{◌≡◌, ◌≤◌, ℕ, ◌+◌, Bool, true, fa
 use Rattle.std.specs.List.{fold}
 use Rattle.std.proofs.lemmas.Bool.{true≢false}
 use Rattle.std.proofs.lemmas.List.Sums.{fold-append}
-use Rattle.lard_base.specs.declared.event.Event.{Event}
+use Rattle.lard_law_view.specs.Prelude.{Event, HasRule, Rec}
 use Rattle.lard_base.specs.declared.event.Event.TheVariants as event
-use Rattle.lard_rules.specs.Bounds.{HasRule}
-use Rattle.lard_journal.specs.declared.rec.Rec.{Rec}
 use Rattle.lard_journal.specs.declared.rec.Rec.TheVariants as rec
 use Rattle.lard_settling.specs.Written.{is_settle, steps_with, written_from, written_rec}
 use Rattle.lard_settling.proofs.Plain.{AreUnmarked, is_mark}

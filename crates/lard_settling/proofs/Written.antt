@@ -4,24 +4,13 @@ use Rattle.std.specs.Prelude.{nat_le}
 use Rattle.std.proofs.lemmas.Bool.{leb-false, lt-leb}
 use Rattle.std.proofs.lemmas.List.{append_cancel_left}
 use Rattle.std.proofs.lemmas.List.Sums.{fold-append}
-use Rattle.lard_base.specs.declared.config.Config.{Config}
-use Rattle.lard_base.specs.declared.event.Event.{Event}
+use Rattle.lard_law_view.specs.Prelude.{Config, Event, HasRule, MAX_PACKETS, MAX_PACKET_BYTES, MAX_RECORDS, MAX_RESPONSE_BYTES, Machine, Rec, StepFault, What, bytes_in, happens, limit_of, limit_reached, machine_start, machine_step, passed, turned_at, unless_limit}
 use Rattle.lard_base.specs.declared.event.Event.TheVariants as event
-use Rattle.lard_base.specs.declared.limits.TheConstants.{MAX_PACKETS, MAX_PACKET_BYTES, MAX_RECORDS, MAX_RESPONSE_BYTES}
-use Rattle.lard_rules.specs.Bounds.{HasRule}
-use Rattle.lard_rules.specs.declared.fault.StepFault.{StepFault}
-use Rattle.lard_rules.specs.declared.machine.Machine.{Machine}
-use Rattle.lard_rules.specs.Machine.{happens, limit_reached, machine_step, passed, machine_start, unless_limit}
 use Rattle.lard_law_view.proofs.Carried.{reached-viewed}
 use Rattle.lard_law_view.proofs.Runs.{passes-more}
-use Rattle.lard_journal.specs.Inner.{turned_at}
-use Rattle.lard_journal.specs.declared.rec.Rec.{Rec}
 use Rattle.lard_journal.specs.declared.rec.Rec.TheVariants as rec
 use Rattle.lard_journal.proofs.Turned.{turned_behind}
-use Rattle.lard_rules.specs.declared.fault.What.{What}
 use Rattle.lard_rules.specs.declared.fault.What.TheVariants.{Answers, PacketBytes, Packets, Records}
-use Rattle.lard_rules.specs.Limits.{limit_of}
-use Rattle.lard_net.specs.Net.{bytes_in}
 use Rattle.lard_settling.specs.Steps.{as_inner, closing, inner_given, inner_step, settle_begun, settle_closed}
 use Rattle.lard_settling.specs.Written.{AreWrittenOut, IsWrittenOut, is_settle, steps_in, steps_with, told_as, written_from, written_out, written_rec}
 use Rattle.lard_settling.proofs.Alike.{Alike, AreAlike, first-done, happens-alike}

@@ -1,11 +1,7 @@
 -- What places of the whole have to do: jobs at a node, and whether a client holds.
 use Rattle.std.specs.Prelude.{ℕ, zero, suc, ◌+◌, Bool, false, length, Option, Some, None}
 use Rattle.std.specs.FinMap as table
-use Rattle.lard_client.specs.Control.{is_holding}
-use Rattle.lard_rules.specs.declared.machine.Machine.{Machine}
-use Rattle.lard_rules.specs.Machine.{node_at}
-use Rattle.lard_rules.specs.declared.node.NodeState.{NodeState}
-use Rattle.lard_rules.specs.declared.places.Station.{Station}
+use Rattle.lard_law_view.specs.Prelude.{Machine, NodeState, Station, is_holding, node_at}
 
 -- how many jobs wait at the disk of node n
 abbrev pub jobs_of : Option NodeState → ℕ

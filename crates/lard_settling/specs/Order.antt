@@ -1,8 +1,7 @@
 -- Which steps belong to which settle, in words of the journal alone: what may stand behind what.
 use Rattle.std.specs.Prelude.{◌≡◌, ◌≤◌, ℕ, List, [], ◌∷◌, Option, Some, None, IsSome}
-use Rattle.lard_base.specs.declared.event.Event.{Event}
+use Rattle.lard_law_view.specs.Prelude.{Event, Rec}
 use Rattle.lard_base.specs.declared.event.Event.TheVariants as event
-use Rattle.lard_journal.specs.declared.rec.Rec.{Rec}
 use Rattle.lard_journal.specs.declared.rec.Rec.TheVariants as rec
 
 -- ---- where a journal is

@@ -1,14 +1,9 @@
 -- What a settle does: rounds of inner steps, until nothing is left to do or so many rounds were done.
 use Rattle.std.specs.Prelude.{◌≡◌, ℕ, zero, suc, ◌+◌, ◌==◌, ◌&&◌, Bool, true, false, nat_eq, if◌then◌else◌, List, [], ◌∷◌, ◌++◌, filter, length, map, replicate, Result, Ok, Err}
 use Rattle.lard_agenda.specs.Agenda.{agenda_of, due, holders, on_way, rests, timers_left}
-use Rattle.lard_base.specs.declared.event.Event.{Event}
+use Rattle.lard_law_view.specs.Prelude.{Client, Event, Front, Machine, Node, Place, Rec, StepFault}
 use Rattle.lard_base.specs.declared.event.Event.TheVariants as event
-use Rattle.lard_base.specs.declared.place.Place.{Place}
-use Rattle.lard_base.specs.declared.place.Place.TheVariants.{Front, Node, Client}
-use Rattle.lard_rules.specs.declared.fault.StepFault.{StepFault}
 use Rattle.lard_rules.specs.declared.fault.StepFault.TheVariants.{NoMemory}
-use Rattle.lard_rules.specs.declared.machine.Machine.{Machine}
-use Rattle.lard_journal.specs.declared.rec.Rec.{Rec}
 use Rattle.lard_journal.specs.declared.rec.Rec.TheVariants as rec
 use Rattle.lard_settling.specs.declared.settled.Settled.{Settled}
 use Rattle.lard_settling.specs.declared.settled.Settled.TheVariants.{Open, Quiet}

@@ -1,12 +1,7 @@
 -- What a settle does of the whole: its event, inner steps, and its closing record.
 use Rattle.std.specs.Prelude.{ℕ, zero, suc, [], ◌∷◌, ◌++◌, length, Result, Ok, Err}
-use Rattle.lard_base.specs.declared.event.Event.{Event}
+use Rattle.lard_law_view.specs.Prelude.{Event, Machine, Rec, StepFault, limit_reached, machine_step, passed, turned_at, unless_limit}
 use Rattle.lard_base.specs.declared.event.Event.TheVariants as event
-use Rattle.lard_rules.specs.declared.fault.StepFault.{StepFault}
-use Rattle.lard_rules.specs.declared.machine.Machine.{Machine}
-use Rattle.lard_rules.specs.Machine.{limit_reached, machine_step, passed, unless_limit}
-use Rattle.lard_journal.specs.Inner.{turned_at}
-use Rattle.lard_journal.specs.declared.rec.Rec.{Rec}
 use Rattle.lard_journal.specs.declared.rec.Rec.TheVariants as rec
 
 -- n, which a step has led to from m, where that step is no event of the schedule but an inner one

@@ -1,8 +1,6 @@
 -- By what a client keeps in its turn.
 use Rattle.lard_law_progress.proofs.Clients.{client-less, client-steady, heard-turned, timer-turned}
-use Rattle.lard_client.specs.Arriving.{client_arrived}
-use Rattle.lard_client.specs.Leaving.{client_after_timer}
-use Rattle.lard_rules.specs.Speaking.{client_speaks}
+use Rattle.lard_law_view.specs.Prelude.{client_after_timer, client_arrived, client_speaks}
 use Rattle.lard_law_progress.proofs.clients_leave_no_more.Goals as goal
 
 pub returns : goal.returns

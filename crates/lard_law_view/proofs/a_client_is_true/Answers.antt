@@ -1,7 +1,7 @@
 -- Each law, by its lemma.
 use Rattle.lard_law_view.proofs.Accepting.{arrived-takes}
 use Rattle.lard_law_view.proofs.Client.{opening-begins, emitted-fair, timed-fair, abort-fair, reply-fair, emit-left, timer-left, arriving-continues, written-speaks, closing-speaks, others-change_nothing}
-use Rattle.lard_law_view.specs.Truth.{stream_of}
+use Rattle.lard_law_view.specs.Prelude.{stream_of}
 use Rattle.lard_law_view.proofs.a_client_is_true.Goals as goal
 
 pub returns : goal.returns

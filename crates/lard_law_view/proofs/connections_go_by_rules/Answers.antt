@@ -1,5 +1,5 @@
 -- By the shapes of a step.
-use Rattle.lard_law_view.specs.Laws.{PassesTest}
+use Rattle.lard_law_view.specs.Prelude.{PassesTest}
 use Rattle.lard_law_view.proofs.Carried.{step_moves}
 use Rattle.lard_law_view.proofs.connections_go_by_rules.Goals as goal
 

@@ -1,6 +1,6 @@
 -- By what each step keeps.
 use Rattle.std.specs.Prelude.{◌≡◌, true}
-use Rattle.lard_law_view.specs.Laws.{HoldsTest}
+use Rattle.lard_law_view.specs.Prelude.{HoldsTest}
 use Rattle.lard_law_view.proofs.Carried.{carried}
 use Rattle.lard_law_view.proofs.InSteps.{carried-steps}
 use Rattle.lard_law_view.proofs.laws_are_carried.Goals as goal

@@ -1,6 +1,6 @@
 use Rattle.std.proofs.Common.{◌≡◌, ◌⊎◌, ℕ, ◌+◌, ◌-◌, ◌<◌, ◌≤◌, List, take, Ok, Err, refl, sym, ap, ◌∙◌, subst, arith}
 use Rattle.std.specs.Io.KnownBytes.{Appends, IsAtEnd}
-use Rattle.lard_base.specs.declared.limits.TheConstants.{MAX_INPUT_BYTES}
+use Rattle.lard_law_view.specs.Prelude.{MAX_INPUT_BYTES}
 use Rattle.lard_app.specs.Replay.{PassesLine, ending, gain, line_passed}
 use Rattle.lard_app.specs.Seen.{replay_seen}
 use Rattle.lard_app.proofs.Passing.{passed-read}

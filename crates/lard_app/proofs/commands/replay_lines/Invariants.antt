@@ -1,6 +1,6 @@
 use Rattle.std.proofs.Common.{◌≡◌, ◌+◌, ◌-◌, false}
 use Rattle.lard_agenda.specs.Agenda.{IsAgendaOf}
-use Rattle.lard_base.specs.declared.limits.TheConstants.{MAX_INPUT_BYTES}
+use Rattle.lard_law_view.specs.Prelude.{MAX_INPUT_BYTES}
 use Rattle.lard_app.specs.Seen.{replay_seen}
 use Rattle.lard_app.proofs.Reading.{Reading}
 use Rattle.lard_app.proofs.commands.replay_lines.Given as goal

@@ -1,6 +1,6 @@
 -- The schedule that was made is replayed, and what is counted is of its journal.
 use Rattle.std.proofs.Common.{All, Ok, Err, sym, ap, ◌∙◌, subst}
-use Rattle.lard_rules.specs.declared.machine.Machine.{Machine}
+use Rattle.lard_law_view.specs.Prelude.{Machine}
 use Rattle.lard_generate.specs.declared.schedule.Schedule.{Schedule}
 use Rattle.lard_schedule.specs.Events.{IsInLineRange}
 use Rattle.lard_summary.specs.Lines.{summary}

@@ -1,7 +1,7 @@
 -- The four lines were made and written, or were not.
 use Rattle.std.proofs.Common.{subst}
 use Rattle.std.specs.Io.KnownBytes.{Appends}
-use Rattle.lard_base.specs.Outside.{WrotePrefix}
+use Rattle.lard_law_view.specs.Prelude.{WrotePrefix}
 use Rattle.lard_app.proofs.Spelled.{says-all, says-nothing, says-some}
 use Rattle.lard_app.proofs.generating.generate.Goals as goal
 

@@ -1,7 +1,6 @@
 -- The machine began with the schedule's files, and its journal is kept.
 use Rattle.std.proofs.Common.{◌≡◌, Ok, Err, ap, ◌∙◌, subst}
-use Rattle.lard_rules.specs.Machine.{machine_start}
-use Rattle.lard_rules.specs.declared.machine.Machine.{Machine}
+use Rattle.lard_law_view.specs.Prelude.{Machine, machine_start}
 use Rattle.lard_app.specs.Generate.{GivesRun, run_begins, first_line, played}
 use Rattle.lard_app.proofs.Giving.{plays-done, plays-stopped}
 use Rattle.lard_app.proofs.generating.play.Goals as goal

@@ -1,6 +1,6 @@
 use Rattle.std.proofs.Common.{◌≡◌, take}
 use Rattle.std.specs.List.{flat_map}
-use Rattle.lard_journal.specs.Report.{rec_line}
+use Rattle.lard_law_view.specs.Prelude.{rec_line}
 use Rattle.lard_app.proofs.replay.lines_of.Given as goal
 
 -- the lines of the records so far

@@ -1,7 +1,7 @@
 use Rattle.std.proofs.Common.{◌≡◌, ◌-◌, ◌≤◌, length, take}
 use Rattle.std.specs.Io.KnownBytes.{Appends}
 use Rattle.std.specs.List.{flat_map}
-use Rattle.lard_journal.specs.Report.{rec_line}
+use Rattle.lard_law_view.specs.Prelude.{rec_line}
 use Rattle.lard_app.proofs.replay.write_pieces.Given as goal
 
 -- the records before the next piece were written

@@ -14,11 +14,11 @@ go-requires-clause-sound c =
 pub returns-clause-ok : goal.returns-clause-ok
 returns-clause-ok c =
     let at : At = record { n = c.args.setting.now.n; c = c.args.c; epoch = c.epoch_at-epoch.result } in
-    fired-by (node_setting_seen c.args.setting.now) c.args.state.now at c.epoch_at-epoch.ensures c.take_out.new.state c.go.new.state c.running-was.result c.in-Some.endpoint c.in-Some.stay
+    fired-by (node_setting_seen c.args.setting.now) c.args.state.now at c.epoch_at-epoch.ensures c.go.new.state c.running-was.result
     c.in-Some.ensures.found c.in-Some.ensures.after c.requires.sound c.go.result c.running-was.ensures refl c.go.ensures.gone
 
 pub returns-clause-sound : goal.returns-clause-sound
 returns-clause-sound c =
     let at : At = record { n = c.args.setting.now.n; c = c.args.c; epoch = c.epoch_at-epoch.result } in
-    fired-sound (node_setting_seen c.args.setting.now) c.args.state.now at c.epoch_at-epoch.ensures c.take_out.new.state c.go.new.state c.running-was.result c.in-Some.endpoint c.in-Some.stay
+    fired-sound (node_setting_seen c.args.setting.now) c.args.state.now at c.epoch_at-epoch.ensures c.go.new.state c.running-was.result
     c.in-Some.ensures.found c.in-Some.ensures.after c.requires.sound c.go.result c.go.ensures.gone

@@ -25,9 +25,8 @@ returns-in-New-clause-ok c =
     let k = node_setting_seen c.args.setting.now in
     let at = c.args.at.now in
     let new = sym c.in-New.is ∙ c.in_ok-on_offer.ensures.answer in
-    let t = record s { conns = c.take.new.self } in
-    let lends = lent-new k s at c.args.parts.now t c.on_offer.new.self c.in_ok-on_offer.ensures.ok (λ i. record s { conns = c.in-Some.ensures.after i }) new c.requires.sound in
-    new-by k s at c.args.parts.now t c.adopt.new.state c.running-was.result lends new c.requires.sound c.adopt.result c.running-was.ensures c.requires.node c.adopt.ensures.gone
+    let lends = lent-new k s at c.args.parts.now c.in_ok-on_offer.ensures.ok (λ i. record s { conns = c.in-Some.ensures.after i }) new c.requires.sound in
+    new-by k s at c.args.parts.now c.adopt.new.state c.running-was.result lends new c.requires.sound c.adopt.result c.running-was.ensures c.requires.node c.adopt.ensures.gone
 
 pub returns-in-New-clause-sound : goal.returns-in-New-clause-sound
 returns-in-New-clause-sound c =
@@ -35,6 +34,5 @@ returns-in-New-clause-sound c =
     let k = node_setting_seen c.args.setting.now in
     let at = c.args.at.now in
     let new = sym c.in-New.is ∙ c.in_ok-on_offer.ensures.answer in
-    let t = record s { conns = c.take.new.self } in
-    let lends = lent-new k s at c.args.parts.now t c.on_offer.new.self c.in_ok-on_offer.ensures.ok (λ i. record s { conns = c.in-Some.ensures.after i }) new c.requires.sound in
-    new-sound k s at c.args.parts.now t c.adopt.new.state c.running-was.result lends new c.requires.sound c.adopt.result c.adopt.ensures.gone
+    let lends = lent-new k s at c.args.parts.now c.in_ok-on_offer.ensures.ok (λ i. record s { conns = c.in-Some.ensures.after i }) new c.requires.sound in
+    new-sound k s at c.args.parts.now c.adopt.new.state c.running-was.result lends new c.requires.sound c.adopt.result c.adopt.ensures.gone

@@ -19,5 +19,5 @@ pub returns-clause-ok : goal.returns-clause-ok
 returns-clause-ok c =
     let is : c.settle.new.self ≡ pending_settled c.args.state.now.kept c.args.at.now.c Ask 0 =
     c.settle.ensures.after ∙ ap (λ (key : PendingKey). pending_settled c.args.state.now.kept key.c key.kind key.r) c.ask_of.ensures in
-    tag-by (node_setting_seen c.args.setting.now) c.args.state.now (record c.args.state.now { kept = c.settle.new.self }) c.assign.new.state c.args.at.now c.running-was.result c.args.number c.args.nodes.now c.assign.result
-    c.assign.ensures.acted (λ i. record c.args.state.now { kept = is i }) c.running-was.ensures c.requires.node c.requires.sound (sym c.awaits.ensures ∙ c.if-not-awaits.false)
+    tag-by (node_setting_seen c.args.setting.now) c.args.state.now c.args.at.now c.args.number c.args.nodes.now c.assign.new.state c.assign.result c.assign.ensures.acted
+    (λ i. record c.args.state.now { kept = is i }) c.running-was.ensures c.requires.node c.requires.sound (sym c.awaits.ensures ∙ c.if-not-awaits.false)

@@ -30,6 +30,6 @@ returns-clause-turn c =
     c.in_ok-notes.ensures
     ∙ (λ j. over_note c.args.ask.c ((ap (λ l. l.over) c.in_ok-over.ensures.answer) j) ++ assigned_notes c.args.ask.c c.args.ask c.args.assigned c.args.ask.paths ((c.as_slice.ensures ∙ chosen) j)) in
     let many : c.in-Some.last ≡ c.args.assigned + length c.args.ask.paths = c.in-Some.ensures.1 ∙ ap (λ (n : ℕ). c.args.assigned + n) c.len.ensures in
-    assigned-with (front_env_of c.args.around.now c.args.state.now) c.args.state.now c.args.epoch.0 c.args.ask c.args.assigned l c.keep.new.rests c.later.new.self c.in_ok-notes.notes
-    c.in_ok-nodes.nodes c.in_ok-tag.tag c.in-Some.last c.in_ok-turn.turn (sym c.requires.number) c.keep.ensures (c.in_ok-tag.ensures ∙ c.as_slice-3.ensures)
-    each (many ∙ ap (λ (n : ℕ). c.args.assigned + n) (sym (many-choices d c.args.ask c.args.around.now.time))) c.in_ok-over.ensures.ok noted c.in_ok-turn.ensures.turn
+    let ends = many ∙ ap (λ (n : ℕ). c.args.assigned + n) (sym (many-choices d c.args.ask c.args.around.now.time)) in
+    assigned-with (front_env_of c.args.around.now c.args.state.now) c.args.state.now c.args.epoch.0 c.args.ask c.args.assigned l (sym c.requires.number)
+    c.keep.ensures (c.in_ok-tag.ensures ∙ c.as_slice-3.ensures) each ends c.in_ok-over.ensures.ok noted c.in_ok-turn.ensures.turn

@@ -1,27 +1,19 @@
 -- It is held on, or ends.
-use Rattle.std.proofs.Common.{◌≡◌, false, [], IfOk, ap, ◌∙◌, subst}
-use Rattle.lard_endpoint.specs.Leaving.{after_timer, timed}
-use Rattle.lard_rules.specs.declared.front.FrontState.{FrontState}
-use Rattle.lard_front.specs.Hand.{front_rested_in}
-use Rattle.lard_front.proofs.Heard.{fires_held_is}
-use Rattle.lard_front.proofs.Lent.{held_on, same_endpoint}
+use Rattle.std.proofs.Common.{false, ◌∙◌}
+use Rattle.lard_front.proofs.Heard.{fired_turn, fires_held_is}
+use Rattle.lard_front.proofs.Lent.{held_on}
+use Rattle.lard_front.proofs.Seated.{given_is}
+use Rattle.lard_rules.specs.declared.places.Ending.{Ending}
 use Rattle.lard_rules.specs.declared.places.Turn.{Turn}
-use Rattle.lard_rules.specs.Serving.{serving_ready_of, serving, spoken}
 use Rattle.lard_serving.specs.Serving.{env_seen}
 use Rattle.lard_front.proofs.hearing.fire_held.Goals as goal
 
 pub returns-clause-turn : goal.returns-clause-turn
 returns-clause-turn c =
-    let s : FrontState = c.args.state.now in
-    let n = c.args.around.now.serve.c in
-    let env = env_seen c.args.around.now.serve in
     let h = c.requires.holds in
-    let b = c.take_out-endpoint.result in
-    let here = same_endpoint s n false h b c.take_out-endpoint.ensures.endpoint in
-    let e = c.fired-ending.result.0 in
-    let turn = c.in_ok-turn.field-0 in
-    let told = subst (λ r. IfOk r (λ (t : Turn). (e, t) ≡ spoken env (serving (after_timer b) c.count_of-count.result []) (serving_ready_of env (after_timer b) (timed b)))) c.in_ok-turn.was c.fired-ending.ensures.turn in
-    let ruled = told ∙ (λ i. spoken env (serving (after_timer (here i)) (c.count_of-count.ensures i) []) (serving_ready_of env (after_timer (here i)) (timed (here i)))) in
-    held_on s c.put_back.new.state n h e turn c.turn_here.result
-    (c.put_back.ensures ∙ ap (λ (t : FrontState). front_rested_in t n false e) c.take_out-endpoint.ensures.after) c.turn_here.ensures.turn
-    ∙ fires_held_is c.args.around.now s false h (e, turn) ruled
+    let out = c.take_out-endpoint.ensures in
+    let x : Ending × Turn = (c.fired-ending.result.0, c.in_ok-turn.field-0) in
+    let env = env_seen c.args.around.now.serve in
+    let told = given_is x.0 (fired_turn env c.take_out-endpoint.result c.count_of-count.result) c.in_ok-turn.was c.fired-ending.ensures.turn in
+    held_on h out.after x c.put_back.ensures c.turn_here.ensures.turn
+    ∙ fires_held_is c.args.around.now c.args.state.now false h out.endpoint c.count_of-count.ensures told

@@ -13,5 +13,5 @@ returns-clause-out c =
     let d = c.args.next.0 in
     let o = front_admitted (front_env (front_setting_seen c.args.setting.now) s d 0) (front_part s d) c.args.next.1 in
     ap (λ (out : Out). (c.admit.new.state, out)) c.out_of.ensures.out
-    ∙ too_is s c.admit.new.state c.args.turn c.in_ok-admitted.admitted c.args.timers c.args.c d o c.in_ok-all.all c.in_ok-others.others c.in_ok-in_order.field-0 c.armed_at-was.result c.armed_at.result
-    c.in_ok-admitted.ensures.turn c.in_ok-all.ensures.turn c.armed_at-was.ensures c.armed_at.ensures c.in_ok-others.ensures c.in_ok-in_order.ensures
+    ∙ too_is s c.args.turn c.args.timers c.args.c d o c.in_ok-admitted.ensures.turn c.in_ok-all.ensures.turn c.armed_at-was.ensures c.armed_at.ensures
+    c.in_ok-others.ensures c.in_ok-in_order.ensures

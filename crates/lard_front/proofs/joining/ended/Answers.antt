@@ -3,9 +3,7 @@ use Rattle.std.proofs.Common.{sym, ap, ◌∙◌}
 use Rattle.lard_rules.specs.Front.{front_ended}
 use Rattle.lard_rules.specs.FrontPlace.{front_env, front_part, front_out_of}
 use Rattle.lard_front.specs.Hand.{changes}
-use Rattle.lard_rules.specs.FrontSound.{dispatch_standing}
-use Rattle.lard_rules.proofs.FrontEnded.{end-comes}
-use Rattle.lard_front.proofs.Joined.{alone_is, head_waits, headed_is}
+use Rattle.lard_front.proofs.Joined.{alone_is, ended_waits, headed_is}
 use Rattle.lard_front.proofs.Seated.{then_is}
 use Rattle.lard_front.proofs.Steps.{deed_is}
 use Rattle.lard_front.specs.Place.{front_setting_seen}
@@ -18,26 +16,19 @@ returns-in-None-clause-out c =
     let n = c.args.c in
     let deed = front_ended (front_env k s n 0) (front_part s n) c.args.from c.args.epoch.0 c.args.last in
     let timed = c.in_ok-timers.ensures ∙ (λ i. changes n (c.armed_at-was.ensures i) (c.armed_at.ensures i)) in
-    deed_is s c.end.new.state n deed c.in_ok-turn.field-0.turn c.out_of.result c.in_ok-turn.ensures.turn (c.out_of.ensures.out ∙ ap (front_out_of c.in_ok-turn.field-0.turn) timed)
+    deed_is s c.end.new.state n deed c.in_ok-turn.field-0.turn c.out_of.result c.in_ok-turn.ensures.turn
+    (c.out_of.ensures.out ∙ ap (front_out_of c.in_ok-turn.field-0.turn) timed)
     ∙ alone_is k s n deed (sym c.in_ok-turn.ensures.next ∙ c.in-None.is)
 
 pub admits_too-requires-clause-head : goal.admits_too-requires-clause-head
 admits_too-requires-clause-head c =
-    let k = front_setting_seen c.args.setting.now in
-    let s = c.args.state.now in
-    let n = c.args.c in
-    let deed = front_ended (front_env k s n 0) (front_part s n) c.args.from c.args.epoch.0 c.args.last in
-    (head_waits k s n c.args.from c.args.epoch.0 c.args.last deed c.end.new.state c.in_ok-turn.field-0.turn c.in-Some.next c.requires.sound
-    (end-comes (front_env k s n 0) (front_part s n) c.args.from c.args.epoch.0 c.args.last (dispatch_standing s.dispatch n) (c.requires.sound.each n)) c.in_ok-turn.ensures.turn (sym c.in-Some.is ∙ c.in_ok-turn.ensures.next)).0
+    (ended_waits (front_setting_seen c.args.setting.now) c.args.state.now c.args.c c.args.from c.args.epoch.0 c.args.last c.requires.sound
+    c.in_ok-turn.ensures.turn (sym c.in-Some.is ∙ c.in_ok-turn.ensures.next)).0
 
 pub admits_too-requires-clause-some : goal.admits_too-requires-clause-some
 admits_too-requires-clause-some c =
-    let k = front_setting_seen c.args.setting.now in
-    let s = c.args.state.now in
-    let n = c.args.c in
-    let deed = front_ended (front_env k s n 0) (front_part s n) c.args.from c.args.epoch.0 c.args.last in
-    (head_waits k s n c.args.from c.args.epoch.0 c.args.last deed c.end.new.state c.in_ok-turn.field-0.turn c.in-Some.next c.requires.sound
-    (end-comes (front_env k s n 0) (front_part s n) c.args.from c.args.epoch.0 c.args.last (dispatch_standing s.dispatch n) (c.requires.sound.each n)) c.in_ok-turn.ensures.turn (sym c.in-Some.is ∙ c.in_ok-turn.ensures.next)).1
+    (ended_waits (front_setting_seen c.args.setting.now) c.args.state.now c.args.c c.args.from c.args.epoch.0 c.args.last c.requires.sound
+    c.in_ok-turn.ensures.turn (sym c.in-Some.is ∙ c.in_ok-turn.ensures.next)).1
 
 pub returns-in-Some-clause-out : goal.returns-in-Some-clause-out
 returns-in-Some-clause-out c =
@@ -45,5 +36,6 @@ returns-in-Some-clause-out c =
     let s = c.args.state.now in
     let n = c.args.c in
     let deed = front_ended (front_env k s n 0) (front_part s n) c.args.from c.args.epoch.0 c.args.last in
-    then_is c.admits_too.new.state _ _ (headed_is k s n deed c.end.new.state c.in_ok-turn.field-0.turn c.in_ok-timers.timers c.armed_at-was.result c.armed_at.result c.in-Some.next c.in_ok-turn.ensures.turn
-    (sym c.in-Some.is ∙ c.in_ok-turn.ensures.next) c.armed_at-was.ensures c.armed_at.ensures c.in_ok-timers.ensures) c.admits_too.result c.admits_too.ensures.out
+    then_is c.admits_too.new.state _ _
+    (headed_is k s n deed c.in_ok-turn.ensures.turn (sym c.in-Some.is ∙ c.in_ok-turn.ensures.next) c.armed_at-was.ensures c.armed_at.ensures c.in_ok-timers.ensures)
+    c.admits_too.result c.admits_too.ensures.out

@@ -13,5 +13,6 @@ hand_off-requires-clause-may c =
 
 pub returns-in-Ok-Go-clause-turn : goal.returns-in-Ok-Go-clause-turn
 returns-in-Ok-Go-clause-turn c =
-    where_ok _ _ (λ turn handed. placed_is c.args.around.now c.args.state.now c.args.endpoint c.args.service c.args.path c.in-Ok-Go.choice c.requires.lends.row c.requires.lends.found
-    c.put.new.self c.first.new.self c.hand_off.new.state turn c.put.ensures c.in-Ok-Go.ensures.ok (sym c.in-Ok-Go.field-0-is ∙ c.in-Ok-Go.ensures.answer) handed) c.hand_off.result c.hand_off.ensures.turn
+    let l = c.requires.lends in
+    where_ok _ _ (λ turn handed. placed_is c.args.around.now c.args.state.now c.args.endpoint c.args.service c.args.path c.in-Ok-Go.choice l.row l.found
+    c.put.ensures c.in-Ok-Go.ensures.ok (sym c.in-Ok-Go.field-0-is ∙ c.in-Ok-Go.ensures.answer) handed) c.hand_off.result c.hand_off.ensures.turn

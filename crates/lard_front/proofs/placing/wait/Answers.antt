@@ -1,11 +1,11 @@
 -- It is put back to wait, where it did not end.
-use Rattle.std.proofs.Common.{◌≡◌, [], ◌∷◌, ◌++◌, Some, IfOk, sym, ap, ◌∙◌, subst}
+use Rattle.std.proofs.Common.{◌≡◌, [], ◌∷◌, ◌++◌, Some, sym, ap, ◌∙◌}
 use Rattle.std.specs.FinMap as table
 use Rattle.lard_rules.specs.declared.front.FrontState.{FrontState}
 use Rattle.lard_rules.specs.Front.{front_rest, front_rests, turn_here}
 use Rattle.lard_rules.specs.FrontPlace.{front_part, front_put}
 use Rattle.lard_front.specs.Hand.{front_env_of, waits_at, waits_with}
-use Rattle.lard_front.proofs.Seated.{did_it, there_after, waited_is}
+use Rattle.lard_front.proofs.Seated.{did_it, given_is, there_after, waited_is}
 use Rattle.lard_handoff_front.specs.declared.row.FrontConn.TheVariants as stage
 use Rattle.lard_journal.specs.declared.rec.Rec.TheVariants as rec
 use Rattle.lard_rules.specs.declared.places.Ending.{Ending}
@@ -23,17 +23,18 @@ put_back-requires-2-clause-rest c = there_after _ c.set_target.new.rests c.args.
 pub returns-clause-turn : goal.returns-clause-turn
 returns-clause-turn c =
     let s : FrontState = c.args.state.now in
-    let n = c.args.around.now.serve.c in
-    let env = front_env_of c.args.around.now s in
+    let serve = c.args.around.now.serve in
     let w = service_of c.args.endpoint c.args.service in
+    let l = c.requires.lends in
     let turn = c.in_ok-turn.field-0 in
     let e = c.spoken-ending.result.0 in
-    let notes : c.push.new.self ≡ c.args.service.notes ++ rec.Waits n ∷ [] = did_it c.push.result c.is_err.result c.is_err.ensures.value c.if-is_err.false c.push.ensures.ok in
-    let told = subst (λ r. IfOk r (λ (t : Turn). (e, t) ≡ spoken (env_seen c.args.around.now.serve) (service_of c.args.endpoint (record c.args.service { notes = c.push.new.self })) c.new.result)) c.in_ok-turn.was c.spoken-ending.ensures.turn in
-    let ruled : (e, turn) ≡ spoken env.serve (record w { notes = w.notes ++ rec.Waits n ∷ [] }) [] =
-    told ∙ (λ i. spoken (env_seen c.args.around.now.serve) (service_of c.args.endpoint (record c.args.service { notes = notes i })) (c.new.ensures i)) in
+    let notes : c.push.new.self ≡ w.notes ++ rec.Waits serve.c ∷ [] = did_it c.push.result c.is_err.result c.is_err.ensures.value c.if-is_err.false c.push.ensures.ok in
+    let told = given_is e (spoken (env_seen serve) (record w { notes = c.push.new.self }) c.new.result) c.in_ok-turn.was c.spoken-ending.ensures.turn in
+    let ruled = told ∙ (λ i. spoken (env_seen serve) (record w { notes = notes i }) (c.new.ensures i)) in
+    let part = front_rests (front_part s serve.c) l.row (record (front_rest (table.get s.rests serve.c)) { target = Some c.args.path }) stage.Waiting e in
+    let env = front_env_of c.args.around.now s in
     (λ i. (c.put_back-2.ensures i, c.turn_here.ensures.turn i))
-    ∙ ap (λ (t : FrontState). (t, turn_here turn)) (waited_is s n c.requires.lends c.args.path c.set_target.new.rests c.leave_by.new.dispatch c.set_target.ensures c.requires.lends.row c.requires.lends.found e)
-    ∙ ap (λ d. (record (front_put s n (front_rests (front_part s n) c.requires.lends.row (record (front_rest (table.get s.rests n)) { target = Some c.args.path }) stage.Waiting e)) { dispatch = d }, turn_here turn)) c.leave_by.ensures
-    ∙ ap (λ (x : Ending × Turn). waits_with env s w c.args.path c.requires.lends.row x) ruled
-    ∙ sym (ap (waits_at env s w c.args.path) c.requires.lends.found)
+    ∙ ap (λ (t : FrontState). (t, turn_here turn)) (waited_is s serve.c l c.args.path c.leave_by.new.dispatch c.set_target.ensures e)
+    ∙ ap (λ d. (record (front_put s serve.c part) { dispatch = d }, turn_here turn)) c.leave_by.ensures
+    ∙ ap (λ (x : Ending × Turn). waits_with env s w c.args.path l.row x) ruled
+    ∙ sym (ap (waits_at env s w c.args.path) l.found)

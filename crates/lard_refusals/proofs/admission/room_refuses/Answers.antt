@@ -1,7 +1,6 @@
 use Rattle.std.proofs.Common.{◌≤◌, [], refl, arith, List}
-use Rattle.lard_base.specs.Config.{room_of}
+use Rattle.lard_law_view.specs.Prelude.{Rec, room_of}
 use Rattle.lard_counts.specs.Ledger.{ledger_admitted, ledger}
-use Rattle.lard_journal.specs.declared.rec.Rec.{Rec}
 use Rattle.lard_refusals.specs.Admission.{one_too_many, third_waits}
 use Rattle.lard_refusals.specs.Refusals.{three_nodes}
 use Rattle.lard_refusals.proofs.Moments.{at-every-moment}

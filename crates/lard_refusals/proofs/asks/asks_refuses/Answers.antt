@@ -1,8 +1,7 @@
 use Rattle.std.proofs.Common.{◌≡◌, ℕ, ◌+◌, List, true, false, None, Some, ap, subst, ⊎_elim, arith}
 use Rattle.std.specs.Prelude.{slice_index}
-use Rattle.lard_history.specs.Own.{own}
+use Rattle.lard_law_view.specs.Prelude.{own, spelled_message}
 use Rattle.lard_message.specs.declared.message.Body.TheVariants as body
-use Rattle.lard_message.specs.Message.{spelled_message}
 use Rattle.lard_rules.specs.Node.{message}
 use Rattle.lard_refusals.specs.Packets.{ask_with_a_queue, second_ask}
 use Rattle.lard_refusals.proofs.asks.asks_refuses.Goals as goal

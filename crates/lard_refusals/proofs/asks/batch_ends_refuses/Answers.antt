@@ -4,7 +4,7 @@ use Rattle.std.specs.Ordering.{nat_cmp}
 use Rattle.std.specs.Prelude.{codes, length, nat_lt}
 use Rattle.lard_laws.specs.AsksAnswers.{ends_due}
 use Rattle.lard_laws.specs.Asks.{LaterAssigned}
-use Rattle.lard_loads.specs.Tally.{Standing, shares_of}
+use Rattle.lard_law_view.specs.Prelude.{Standing, shares_of}
 use Rattle.lard_refusals.proofs.asks.batch_ends_refuses.Goals as goal
 
 abbrev later : LaterAssigned

@@ -1,11 +1,9 @@
 use Rattle.std.proofs.Common.{◌≡◌, ℕ, List, [], ◌∷◌, ◌++◌, Ok, Result, refl, sym, ◌∙◌, subst, ⊎_elim}
 use Rattle.std.specs.Prelude.{codes}
-use Rattle.lard_history.specs.Journal.{request}
+use Rattle.lard_law_view.specs.Prelude.{Message, MsgFault, request}
 use Rattle.lard_journal.specs.declared.rec.Rec.TheVariants as rec
 use Rattle.lard_laws.specs.Ways.{BodyGoesOn, way_marks}
-use Rattle.lard_message.specs.declared.fault.MsgFault.{MsgFault}
 use Rattle.lard_message.specs.declared.message.Body.TheVariants as body
-use Rattle.lard_message.specs.declared.message.Message.{Message}
 use Rattle.lard_refusals.specs.Refusals.{two_files}
 use Rattle.lard_refusals.proofs.Messages.{first-ask-says, saying}
 use Rattle.lard_refusals.proofs.Responses.{its-paths, no-paths}

@@ -1,8 +1,6 @@
 use Rattle.std.proofs.Common.{◌≡◌, ℕ, List, [], ◌∷◌, ◌++◌, refl, sym, ap, ◌∙◌, arith, Bool, true, false, cond, nat_eq, map, None, Some}
 use Rattle.std.specs.Prelude.{codes, slice_index}
-use Rattle.lard_answers.specs.Answers.{IsPrefix, goods}
-use Rattle.lard_history.specs.Journal.{assigned, request, wrote}
-use Rattle.lard_journal.specs.declared.rec.Rec.{Rec}
+use Rattle.lard_law_view.specs.Prelude.{IsPrefix, Rec, assigned, goods, request, wrote}
 use Rattle.lard_journal.specs.declared.rec.Rec.TheVariants as rec
 use Rattle.lard_refusals.specs.Asks.{another_path_assigned, assigned_before_it_is_written}
 use Rattle.lard_refusals.specs.Refusals.{two_files}

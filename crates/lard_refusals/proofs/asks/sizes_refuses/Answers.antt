@@ -1,7 +1,6 @@
 use Rattle.std.proofs.Common.{◌≡◌, ℕ, [], ◌∷◌, refl, arith}
 use Rattle.std.specs.Prelude.{codes}
-use Rattle.lard_answers.specs.Answers.{until_close, verdicts}
-use Rattle.lard_block.specs.Blocks.{blocks, pieces}
+use Rattle.lard_law_view.specs.Prelude.{blocks, pieces, until_close, verdicts}
 use Rattle.lard_message.specs.declared.message.Body.TheVariants as body
 use Rattle.lard_refusals.proofs.Messages.{first-ask-says, saying}
 use Rattle.lard_refusals.proofs.asks.sizes_refuses.Goals as goal

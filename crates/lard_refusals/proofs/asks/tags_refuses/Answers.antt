@@ -1,8 +1,7 @@
 use Rattle.std.proofs.Common.{◌≡◌, ℕ, List, [], ◌∷◌}
 use Rattle.std.specs.Prelude.{codes}
 use Rattle.lard_laws.specs.Asks.{LaterAssigned}
-use Rattle.lard_history.specs.Own.{own}
-use Rattle.lard_message.specs.Reading.{ask_at, counted_at, decoded_message, paths_at}
+use Rattle.lard_law_view.specs.Prelude.{ask_at, counted_at, decoded_message, own, paths_at}
 use Rattle.lard_refusals.specs.Packets.{tag}
 use Rattle.lard_refusals.proofs.asks.tags_refuses.Goals as goal
 

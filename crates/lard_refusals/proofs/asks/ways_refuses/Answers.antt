@@ -1,13 +1,11 @@
 use Rattle.std.proofs.Common.{◌≡◌, ℕ, List, [], ◌∷◌, None, Some, refl, ap, subst, arith, sym}
 use Rattle.std.specs.Prelude.{codes, slice_get}
-use Rattle.lard_base.specs.declared.place.Place.TheVariants.{Front, Node}
+use Rattle.lard_law_view.specs.Prelude.{Front, Node, Verdict, request}
 use Rattle.lard_base.specs.declared.place.Via.TheVariants as via
 use Rattle.lard_laws.specs.Ways.{AnswersBy, WayMarks}
-use Rattle.lard_history.specs.Journal.{request}
 use Rattle.lard_refusals.specs.Refusals.{two_files}
 use Rattle.lard_refusals.proofs.Requests.{nothing-asked, request-asks}
 use Rattle.lard_refusals.proofs.asks.ways_refuses.Goals as goal
-use Rattle.lard_request.specs.declared.verdict.Verdict.{Verdict}
 
 -- what is told once the client wrote the request, with these assignments
 abbrev asked : List (List ℕ × ℕ) → WayMarks

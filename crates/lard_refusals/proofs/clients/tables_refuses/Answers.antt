@@ -1,8 +1,6 @@
 use Rattle.std.proofs.Common.{◌≡◌, ℕ, true, false, length, ap, arith}
-use Rattle.lard_history.specs.Own.{own}
+use Rattle.lard_law_view.specs.Prelude.{client_emits, own, spelled}
 use Rattle.lard_refusals.proofs.clients.tables_refuses.Goals as goal
-use Rattle.lard_rules.specs.Speaking.{client_emits}
-use Rattle.lard_segment.specs.Segment.{spelled}
 
 pub returns-clause-writes_before_it_opens : goal.returns-clause-writes_before_it_opens
 unfolding own

@@ -1,14 +1,9 @@
 use Rattle.std.proofs.Common.{◌≡◌, ℕ, ◌+◌, ◌%◌, ◌^◌, ◌≤◌, true, false, List, [], ◌∷◌, None, Some, Ok, refl, sym, ap, subst, ◌∙◌, arith}
 use Rattle.std.specs.Prelude.{codes, drop, slice_index, take}
-use Rattle.lard_arrival.specs.Arrival.{IsPartAt}
-use Rattle.lard_base.specs.declared.place.Place.TheVariants.{Client, Front}
-use Rattle.lard_history.specs.Journal.{Numbers}
-use Rattle.lard_net.specs.Net.{Packet, packet_at}
+use Rattle.lard_law_view.specs.Prelude.{Client, Front, IsPartAt, Numbers, Packet, Said, ToClient, decoded, packet_at}
 use Rattle.lard_refusals.specs.Packets.{acknowledgement, two_bytes}
 use Rattle.lard_refusals.proofs.Segments.{acknowledgement-decodes, acknowledgement_says, same-numbers, same-said, two-bytes-decode, two_bytes_say}
 use Rattle.lard_refusals.proofs.clients.takers_refuses.Goals as goal
-use Rattle.lard_segment.specs.declared.segment.Dir.TheVariants.{ToClient}
-use Rattle.lard_segment.specs.Segment.{Said, decoded}
 
 pub returns-clause-accepts_out_of_nothing : goal.returns-clause-accepts_out_of_nothing
 returns-clause-accepts_out_of_nothing c h = let e : None ≡ Some h.1.0.0.number = h.1.0.0.last in cc

@@ -1,7 +1,6 @@
 use Rattle.std.proofs.Common.{◌≡◌, [], ◌∷◌, ⊎_elim, inl, refl}
 use Rattle.std.specs.Prelude.{codes}
-use Rattle.lard_base.specs.declared.place.Place.TheVariants.{Node}
-use Rattle.lard_history.specs.Own.{Came, Has, Row, Seen, own}
+use Rattle.lard_law_view.specs.Prelude.{Came, Has, Node, Row, Seen, own}
 use Rattle.lard_journal.specs.declared.rec.Rec.TheVariants as rec
 use Rattle.lard_refusals.specs.Refusals.{took}
 use Rattle.lard_refusals.proofs.Having.{of-later}

@@ -1,8 +1,7 @@
 use Rattle.std.proofs.Common.{◌≡◌, ℕ, [], ◌∷◌, ⊎_elim, arith, inl, refl}
 use Rattle.std.specs.Prelude.{codes}
 use Rattle.lard_base.specs.declared.event.Event.TheVariants as event
-use Rattle.lard_base.specs.declared.place.Place.TheVariants.{Node}
-use Rattle.lard_history.specs.Own.{Has}
+use Rattle.lard_law_view.specs.Prelude.{Has, Node}
 use Rattle.lard_journal.specs.declared.rec.Rec.TheVariants as rec
 use Rattle.lard_refusals.proofs.contents.queues_refuses.Goals as goal
 

@@ -1,9 +1,7 @@
 use Rattle.std.proofs.Common.{[], ◌∷◌, inl, refl, None, Some, inr, ◌≡◌, ℕ, sym, subst, ⊎_elim}
 use Rattle.std.specs.Prelude.{codes}
-use Rattle.lard_base.specs.declared.place.Place.TheVariants.{Node}
+use Rattle.lard_law_view.specs.Prelude.{Has, Node, Rec}
 use Rattle.lard_laws.specs.BackingTold.{AssignsFor, WasTold}
-use Rattle.lard_history.specs.Own.{Has}
-use Rattle.lard_journal.specs.declared.rec.Rec.{Rec}
 use Rattle.lard_journal.specs.declared.rec.Rec.TheVariants as rec
 use Rattle.lard_refusals.specs.Refusals.{took}
 use Rattle.lard_refusals.proofs.Having.{of-later}

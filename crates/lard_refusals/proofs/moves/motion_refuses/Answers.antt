@@ -1,11 +1,9 @@
 use Rattle.std.proofs.Common.{◌≡◌, ℕ, List, [], ◌∷◌, refl}
+use Rattle.lard_law_view.specs.Prelude.{counted_at, decoded, decoded_message, flag_at, offer_at, own, parts_at}
 use Rattle.lard_rules.specs.Front.{message}
-use Rattle.lard_history.specs.Own.{own}
 use Rattle.lard_message.specs.declared.message.Body.TheVariants as body
-use Rattle.lard_message.specs.Reading.{counted_at, decoded_message, flag_at, offer_at, parts_at}
 use Rattle.lard_refusals.specs.Packets.{client_acknowledgement}
 use Rattle.lard_refusals.proofs.moves.motion_refuses.Goals as goal
-use Rattle.lard_segment.specs.Segment.{decoded}
 
 pub returns-clause-taken_without_a_syn : goal.returns-clause-taken_without_a_syn
 unfolding own

@@ -1,8 +1,8 @@
 use Rattle.std.proofs.Common.{◌≡◌, ◌+◌, ◌≤◌, List, [], Option, None, Some, refl, subst, ⊎_elim, arith}
 use Rattle.std.specs.Prelude.{codes, drop}
+use Rattle.lard_law_view.specs.Prelude.{Numbers, request}
 use Rattle.lard_block.specs.Blocks.{Piece}
 use Rattle.lard_law_connections.specs.Offers.{BeginsFrom}
-use Rattle.lard_history.specs.Journal.{Numbers, request}
 use Rattle.lard_history.proofs.Each.{Each}
 use Rattle.lard_message.specs.declared.message.Body.TheVariants as body
 use Rattle.lard_refusals.proofs.Messages.{carrying, offer-says, offer-without-bytes-says, saying}

@@ -1,5 +1,5 @@
 use Rattle.std.proofs.Common.{◌≤◌, refl, arith, ◌≡◌, Some}
-use Rattle.lard_base.specs.declared.place.Place.TheVariants.{Node}
+use Rattle.lard_law_view.specs.Prelude.{Node}
 use Rattle.lard_refusals.proofs.network.acts_refuses.Goals as goal
 
 pub returns-clause-fourth_of_three : goal.returns-clause-fourth_of_three

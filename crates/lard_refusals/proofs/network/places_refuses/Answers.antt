@@ -1,6 +1,5 @@
 use Rattle.std.proofs.Common.{◌≡◌, Option, None, Some, refl}
-use Rattle.lard_base.specs.declared.place.Place.{Place}
-use Rattle.lard_base.specs.declared.place.Place.TheVariants.{Client, Front, Node}
+use Rattle.lard_law_view.specs.Prelude.{Client, Front, Node, Place}
 use Rattle.lard_refusals.proofs.network.places_refuses.Goals as goal
 
 pub returns-clause-acts_in_the_step_of_another : goal.returns-clause-acts_in_the_step_of_another

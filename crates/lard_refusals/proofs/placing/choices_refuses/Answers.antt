@@ -1,11 +1,7 @@
 use Rattle.std.proofs.Common.{◌≡◌, ◌≤◌, Option, ℕ, None, Some, sym, ap, subst, ◌∙◌, arith}
 use Rattle.std.specs.FinMap.{get-empty}
 use Rattle.std.specs.Ordering.{nat_cmp}
-use Rattle.lard_costs.specs.declared.later.LaterChoice.{LaterChoice}
-use Rattle.lard_costs.specs.Later.{later_choice}
-use Rattle.lard_loads.specs.Tally.{home, home_of, tally_start}
-use Rattle.lard_policy.specs.declared.first.FirstChoice.{FirstChoice}
-use Rattle.lard_policy.specs.First.{first_choice}
+use Rattle.lard_law_view.specs.Prelude.{FirstChoice, LaterChoice, first_choice, home, home_of, later_choice, tally_start}
 use Rattle.lard_refusals.specs.Refusals.{three_nodes}
 use Rattle.lard_refusals.proofs.Loads.{eight-shares-are-open, first-of-none, its-home, later-stays, no-share-is-open, one_at_home, second-first, second-has-none}
 use Rattle.lard_refusals.proofs.placing.choices_refuses.Goals as goal

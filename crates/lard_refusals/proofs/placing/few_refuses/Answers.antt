@@ -1,7 +1,6 @@
 use Rattle.std.proofs.Common.{ℕ, ◌≤◌, [], refl, arith}
 use Rattle.lard_law_connections.specs.LineLaws.{connections_told}
-use Rattle.lard_dispatch.specs.Loads.{is_home_of_node}
-use Rattle.lard_history.specs.Journal.{home_told}
+use Rattle.lard_law_view.specs.Prelude.{home_told, is_home_of_node}
 use Rattle.lard_refusals.specs.Placing.{three_at_one_node}
 use Rattle.lard_refusals.proofs.Counting.{three-of-all}
 use Rattle.lard_refusals.proofs.placing.few_refuses.Goals as goal

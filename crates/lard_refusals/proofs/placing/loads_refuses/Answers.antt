@@ -1,5 +1,5 @@
 use Rattle.std.proofs.Common.{◌≡◌, ℕ, [], refl, sym, ap, ◌∙◌, arith}
-use Rattle.lard_loads.specs.Tally.{Tally, load}
+use Rattle.lard_law_view.specs.Prelude.{Tally, load}
 use Rattle.lard_refusals.specs.Placing.{share_of_nobody}
 use Rattle.lard_refusals.proofs.Loads.{no-load, none-shares}
 use Rattle.lard_refusals.proofs.placing.loads_refuses.Goals as goal

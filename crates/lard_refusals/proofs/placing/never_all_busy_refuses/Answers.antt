@@ -1,9 +1,7 @@
 use Rattle.std.proofs.Common.{◌≡◌, ℕ, zero, suc, ◌+◌, ◌≤◌, true, [], count_by, nat_le, refl, arith}
 use Rattle.std.proofs.lemmas.Bool.Decides.{nat_tests}
 use Rattle.lard_law_connections.specs.LineLaws.{connections_told}
-use Rattle.lard_dispatch.specs.Loads.{is_home_of_node}
-use Rattle.lard_history.specs.Journal.{home_told}
-use Rattle.lard_loads.specs.Tally.{numbers}
+use Rattle.lard_law_view.specs.Prelude.{home_told, is_home_of_node, numbers}
 use Rattle.lard_refusals.specs.Placing.{one_at_each_node}
 use Rattle.lard_refusals.proofs.Counting.{one-of-all, three-of-three}
 use Rattle.lard_refusals.proofs.placing.never_all_busy_refuses.Goals as goal

@@ -1,13 +1,8 @@
 use Rattle.std.proofs.Common.{◌≡◌, ◌⊎◌, ◌<◌, ℕ, Bool, true, false, cond, nat_eq, List, [], ◌∷◌, ◌++◌, length, Some, None, inl, ⊎_elim, refl, sym, ap, ◌∙◌, subst, arith}
 use Rattle.std.specs.Prelude.{codes}
 use Rattle.lard_base.specs.declared.event.Event.TheVariants as event
-use Rattle.lard_base.specs.declared.place.Place.{Place}
-use Rattle.lard_base.specs.declared.place.Place.TheVariants.{Client, Front, Node}
-use Rattle.lard_answers.specs.Answers.{verdicts}
-use Rattle.lard_history.specs.Journal.{Numbers, numbers_of, request, was_reset}
-use Rattle.lard_history.specs.Own.{Has, Letter, Row, letters, own}
+use Rattle.lard_law_view.specs.Prelude.{Client, Front, Has, Letter, Node, Numbers, Place, Rec, Row, Verdict, letters, numbers_of, own, request, verdicts, was_reset}
 use Rattle.lard_history.proofs.Seeing.{has-before}
-use Rattle.lard_journal.specs.declared.rec.Rec.{Rec}
 use Rattle.lard_journal.specs.declared.rec.Rec.TheVariants as rec
 use Rattle.lard_laws.specs.Due.{AwaitsContent, AwaitsDisk, AwaitsTag, HasAcknowledged, IsUnanswered, NothingIsDue}
 use Rattle.lard_refusals.specs.Packets.{acknowledges_the_request}
@@ -15,7 +10,6 @@ use Rattle.lard_refusals.specs.Refusals.{three_nodes, took, two_files}
 use Rattle.lard_refusals.proofs.Requests.{request-asks}
 use Rattle.lard_refusals.proofs.Segments.{request-decodes, request_say}
 use Rattle.lard_refusals.proofs.quiet.nothing_due_refuses.Goals as goal
-use Rattle.lard_request.specs.declared.verdict.Verdict.{Verdict}
 
 -- ---- the reset comes late
 

@@ -1,12 +1,11 @@
 use Rattle.std.proofs.Common.{◌≡◌, List, [], ◌∷◌, refl, subst, sym}
 use Rattle.std.specs.Prelude.{codes, take}
-use Rattle.lard_base.specs.declared.place.Place.TheVariants.{Front, Node}
+use Rattle.lard_law_view.specs.Prelude.{Front, Node, Verdict}
 use Rattle.lard_laws.specs.BackingRequests.{AnswersFrom}
 use Rattle.lard_laws.specs.Ways.{good_paths}
 use Rattle.lard_refusals.specs.Refusals.{two_files}
 use Rattle.lard_refusals.proofs.Requests.{nothing-asked, request-asks}
 use Rattle.lard_refusals.proofs.service.answerers_refuses.Goals as goal
-use Rattle.lard_request.specs.declared.verdict.Verdict.{Verdict}
 
 pub returns-clause-node_answers_no_file : goal.returns-clause-node_answers_no_file
 returns-clause-node_answers_no_file c h =

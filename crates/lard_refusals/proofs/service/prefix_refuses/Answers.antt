@@ -1,8 +1,6 @@
 use Rattle.std.proofs.Common.{◌≡◌, ℕ, Bool, true, false, List, [], ◌∷◌, ◌++◌, cond, nat_eq, refl, sym, ap, ◌∙◌, arith}
 use Rattle.std.specs.Prelude.{codes, slice_index}
-use Rattle.lard_answers.specs.Answers.{IsPrefix, answer_bytes}
-use Rattle.lard_history.specs.Journal.{accepted, request, wrote}
-use Rattle.lard_journal.specs.declared.rec.Rec.{Rec}
+use Rattle.lard_law_view.specs.Prelude.{IsPrefix, Rec, accepted, answer_bytes, request, wrote}
 use Rattle.lard_journal.specs.declared.rec.Rec.TheVariants as rec
 use Rattle.lard_refusals.specs.Refusals.{two_files}
 use Rattle.lard_refusals.specs.Service.{accepted_and_not_asked, another_answer_accepted}

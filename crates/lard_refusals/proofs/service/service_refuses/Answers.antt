@@ -1,15 +1,13 @@
 use Rattle.std.proofs.Common.{◌≡◌, ℕ, List, Option, Some, length, refl, sym, ap, ◌∙◌, arith, [], ◌∷◌, None, false, subst}
 use Rattle.std.specs.Option.{option_map}
 use Rattle.std.specs.Prelude.{slice_get, codes}
-use Rattle.lard_answers.specs.Answers.{answer_code}
-use Rattle.lard_base.specs.declared.place.Place.TheVariants.{Node}
+use Rattle.lard_law_view.specs.Prelude.{Node, Verdict, answer_code}
 use Rattle.lard_base.specs.declared.place.Via.TheVariants as via
 use Rattle.lard_law_connections.specs.BytesRecords.{ComesBy}
 use Rattle.lard_refusals.specs.Refusals.{two_files}
 use Rattle.lard_refusals.proofs.Requests.{request-asks}
 use Rattle.lard_refusals.proofs.Responses.{one-answer}
 use Rattle.lard_refusals.proofs.service.service_refuses.Goals as goal
-use Rattle.lard_request.specs.declared.verdict.Verdict.{Verdict}
 use Rattle.lard_request.specs.declared.verdict.Verdict.TheVariants.{Serve}
 
 pub returns-clause-second_answer_first : goal.returns-clause-second_answer_first

@@ -2,17 +2,12 @@ use Rattle.std.proofs.Common.{◌≡◌, ◌⊎◌, ℕ, ◌+◌, ◌<◌, ◌�
 use Rattle.std.proofs.lemmas.Bool.{both_ways}
 use Rattle.std.specs.List.{concat}
 use Rattle.std.specs.Prelude.{codes, drop, slice_index, take}
-use Rattle.lard_answers.specs.Answers.{answers}
-use Rattle.lard_arrival.specs.Arrival.{IsPartAt}
-use Rattle.lard_history.specs.Journal.{Numbers, said_fin, request}
+use Rattle.lard_law_view.specs.Prelude.{IsPartAt, Numbers, Said, ToClient, answers, decoded, request, said_fin, seq_add}
 use Rattle.lard_refusals.specs.Packets.{final_segment}
 use Rattle.lard_refusals.specs.Refusals.{two_files}
 use Rattle.lard_refusals.proofs.Responses.{answer_a, one-answer}
 use Rattle.lard_refusals.proofs.Segments.{final-decodes, garbage-is-short, reset-decodes, reset_says, same-numbers, same-said, three-bytes-decode, three_bytes_say, two-bytes-decode, other-bytes-decode, other_bytes_say, from-the-end-decodes, from-zero-decodes, from_the_end_say, from_zero_say, two_bytes_say}
 use Rattle.lard_refusals.proofs.service.tells_refuses.Goals as goal
-use Rattle.lard_segment.specs.declared.segment.Dir.TheVariants.{ToClient}
-use Rattle.lard_segment.specs.Segment.{Said, decoded}
-use Rattle.lard_seq.specs.Seq.{seq_add}
 
 -- ---- what a segment carries, and numbers modulo 2^32
 

@@ -1,6 +1,6 @@
 -- A file is added or not, and nothing is written.
 use Rattle.std.proofs.Common.{sym, subst, length}
-use Rattle.lard_files.specs.Files.{add_check}
+use Rattle.lard_law_view.specs.Prelude.{add_check}
 use Rattle.lard_schedule.specs.declared.item.Item.{Item}
 use Rattle.lard_app.specs.Replay.{PassesLine, filed, item_gain, taken_item}
 use Rattle.lard_app.specs.Seen.{replay_seen}
