@@ -13,6 +13,8 @@ use Rattle.lard_handoff_front.specs.Row.{held_in, is_away, is_waiting}
 use Rattle.lard_handoff_front.specs.Front.{Fronts, AreRows, front_after_ended, end_answer, ended_row, IsSmall, MayBeOffered, in_stage, leaving_of, next_epoch, offered, with_stage}
 use Rattle.std.proofs.lemmas.Bool.{cond-true}
 use Rattle.lard_handoff_front.specs.Laws.{EndsOnce, OffersOnce}
+use Rattle.lard_handoff_front.specs.Returns.{after_back}
+use Rattle.lard_handoff_front.specs.declared.table.returns.Back.TheVariants as back
 use Rattle.lard_handoff_front.proofs.Rows.{row_put}
 
 -- a row stays where its stage is set
@@ -99,5 +101,6 @@ rises m c row h =
     let epoch_of : Option FrontRow → Option Epoch = option_map (λ (r : FrontRow). r.epoch) in (
       λ node. ap (λ (o : Option FrontRow). epoch_of (get (offered m c node o) c)) h ∙ ap epoch_of (get_inserted m c _),
       λ epoch last away. ap epoch_of (end_is m c epoch last row h away),
+      λ parts. ap (λ (o : Option FrontRow). epoch_of (get (after_back m c parts o (back.New (next_epoch row))) c)) h ∙ ap epoch_of (get_inserted m c _),
       λ stage. ap (λ (o : Option FrontRow). epoch_of (get (with_stage m c stage o) c)) h ∙ ap epoch_of (get_inserted m c _),
     )

@@ -1,3 +1,4 @@
 pub mod Row
 pub mod Front
+pub mod Returns
 pub mod Laws

@@ -9,4 +9,4 @@ mod row;
 mod table;
 
 pub use row::{FrontConn, FrontRow};
-pub use table::{FrontTable, OnEnded};
+pub use table::{Back, FrontTable, OnEnded};

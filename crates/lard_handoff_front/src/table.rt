@@ -20,6 +20,10 @@ use lard_table::Table;
 use std::alloc::Global;
 use std::marker::Model;
 
+mod returns;
+
+pub use returns::Back;
+
 /// No connection is offered in an epoch above this one.
 const MAX_EPOCH: u16 = 65_000;
 
