@@ -1,8 +1,12 @@
 //! Each call once, with ample memory, along one connection's way to a node and back.
 
-use lard_base::{Bytes, ConnId, Epoch, NoMemory, NodeId, Reason};
+ghost use Rattle.std.specs.Prelude.{IfSome};
+ghost use Rattle.lard_base.specs.Parts.{IsValidParts};
+
+use lard_base::{Bytes, ConnId, EndpointParts, Epoch, NoMemory, NodeId, Reason};
 use lard_endpoint::Final;
-use lard_handoff_front::{FrontConn, FrontTable, OnEnded};
+use lard_handoff_front::{Back, FrontConn, FrontTable, OnEnded};
+use lard_message::{Body, decode};
 use lard_segment::{Flags, Segment};
 use lard_seq::Seq;
 use std::alloc::Global;
@@ -154,5 +158,110 @@ fn a_connection_ends_at_the_front_end(rt: HostRuntime) -> Result<(), Fail> {
     table.finish();
     assert!(rt; began && closed && state);
     assert_eq!(rt; ended, OnEnded::Stale);
+    Ok(())
+}
+
+/// The parts that an Offer's bytes carry.
+fn parts_of(alloc: Global, offer: &Bytes) -> Option<EndpointParts>
+    ensures { IfSome result IsValidParts }
+{
+    match decode(alloc, offer.as_slice()).ok()?.body {
+        Body::Offer(parts) => Some(parts),
+        _ => None,
+    }
+}
+
+/// Begins a connection, offers it to a node, and answers the parts of the Offer.
+fn offered(
+    table: &mut FrontTable,
+    alloc: Global,
+    c: &ConnId,
+    node: &NodeId,
+) -> Option<EndpointParts>
+    ensures { IfSome result IsValidParts }
+{
+    if !begin(table, alloc, c) || !establish(table, c) {
+        return None;
+    }
+    let bytes = offer(table, alloc, c, node).ok()?;
+    parts_of(alloc, &bytes)
+}
+
+/// What a refusal of three epochs is, one after another.
+fn refusals(
+    table: &mut FrontTable,
+    alloc: Global,
+    c: &ConnId,
+    parts: &EndpointParts,
+) -> Result<(Back, Back, Back), NoMemory>
+    requires { IsValidParts parts.now }
+{
+    Ok((
+        table.on_refused(alloc, *c, Epoch(3), parts)?,
+        table.on_refused(alloc, *c, Epoch(2), parts)?,
+        table.on_refused(alloc, *c, Epoch(2), parts)?,
+    ))
+}
+
+/// What a Give of three epochs is, one after another.
+fn gifts(
+    table: &mut FrontTable,
+    alloc: Global,
+    c: &ConnId,
+    parts: &EndpointParts,
+) -> Result<(Back, Back, Back), NoMemory>
+    requires { IsValidParts parts.now }
+{
+    Ok((
+        table.on_give(alloc, *c, Epoch(3), parts)?,
+        table.on_give(alloc, *c, Epoch(2), parts)?,
+        table.on_give(alloc, *c, Epoch(2), parts)?,
+    ))
+}
+
+#[test]
+fn a_node_refuses_a_connection(rt: HostRuntime) -> Result<(), Fail> {
+    let c = ConnId::new(1).ok_or("a connection")?;
+    let node = NodeId::new(1).ok_or("a node")?;
+    let mut table = FrontTable::new(rt.alloc());
+    let answers = match offered(&mut table, rt.alloc(), &c, &node) {
+        Some(parts) => refusals(&mut table, rt.alloc(), &c, &parts).ok(),
+        None => None,
+    };
+    let behind = (
+        matches!(table.state(c), Some(FrontConn::Held(_))),
+        table.epoch(c),
+    );
+    table.finish();
+    assert_eq!(rt;
+        answers,
+        Some((Back::Stale, Back::New(Epoch(3)), Back::Stale))
+    );
+    assert_eq!(rt; behind, (true, Some(Epoch(3))));
+    Ok(())
+}
+
+#[test]
+fn a_node_gives_a_connection_back(rt: HostRuntime) -> Result<(), Fail> {
+    let c = ConnId::new(1).ok_or("a connection")?;
+    let node = NodeId::new(1).ok_or("a node")?;
+    let mut table = FrontTable::new(rt.alloc());
+    let parts = offered(&mut table, rt.alloc(), &c, &node);
+    let taken = table.on_taken(c, Epoch(2));
+    let answers = match parts {
+        Some(parts) => gifts(&mut table, rt.alloc(), &c, &parts).ok(),
+        None => None,
+    };
+    let behind = (
+        matches!(table.state(c), Some(FrontConn::Held(_))),
+        table.epoch(c),
+    );
+    table.finish();
+    assert!(rt; taken);
+    assert_eq!(rt;
+        answers,
+        Some((Back::Stale, Back::New(Epoch(3)), Back::Again))
+    );
+    assert_eq!(rt; behind, (true, Some(Epoch(3))));
     Ok(())
 }
