@@ -2,7 +2,8 @@
 use Rattle.std.proofs.Common.{◌≡◌, ◌≤◌, ◌+◌, ◌^◌, ℕ, nat_lt, Bool, false, true, cond, List, [], ◌∷◌, ◌++◌, map, take, drop, append-nil, Some, None, Result, arith, refl, ap, ◌∙◌, sym, subst, inl, ⊎_elim, ltb-false}
 use Rattle.std.proofs.lemmas.Bool.{both_ways}
 use Rattle.std.proofs.lemmas.List.{take-append-drop}
-use Rattle.lard_law_view.specs.Prelude.{AreBetween, AreClientWords, Client, ClientBlock, ClientKeeps, ClientOpened, ClientRules, ClientTurned, Conn, EachRow, FilesAt, Front, GoesBetween, Has, HasRule, IsConnSound, IsPrefix, IsReply, Letter, Move, Node, Place, Rec, Said, Seen, SegFault, Setting, Station, Stream, Tale, Talk, ToClient, Turn, Verdict, Was, accepted_in, client_aborts, client_begins, client_does, client_gets, client_holds, client_opens, client_shuts, client_takes, client_timer, client_writes, decoded, event_seen, grown, letter, letters_of, packet_seen, request, seen_in, spelled, tale_at, timer_rows, told_on, unwritten, verdicts, written_in, written_len}
+use Rattle.std.specs.List.{fold}
+use Rattle.lard_law_view.specs.Prelude.{AreBetween, AreClientWords, Client, ClientBlock, ClientFires, ClientGets, ClientOpened, ClientReceives, ClientRules, ClientTurned, Conn, EachRow, FilesAt, Front, GoesBetween, Has, HasRule, IsConnSound, IsPrefix, IsReply, Letter, Move, Node, Place, Rec, Said, Seen, SegFault, Setting, Station, Stream, Tale, Talk, ToAbort, ToClient, ToGet, ToHold, ToShut, ToTake, ToWrite, Turn, Verdict, Was, accepted_in, client_begins, client_does, client_gets, client_opens, client_rule, client_writes, decoded, grown, letter, letters_of, request, seen_in, seen_step, spelled, tale_at, tale_step, timer_rows, told_on, unwritten, verdicts, written_in, written_len}
 use Rattle.lard_base.specs.declared.event.Event.TheVariants as event
 use Rattle.lard_law_connections.specs.BytesAgreement.{ConnAgrees, IsFair, IsFairOn, IsInner, IsNodePlace, IsOpen, IsTruthful, IsConnUnopened, SeatAgrees, StayComesOn, TaleAgreesWithTalk}
 use Rattle.lard_law_connections.proofs.BytesLaw.{Helps, IsSeenTrue, IsTrueMove, StaysTruthful}
@@ -11,6 +12,7 @@ use Rattle.lard_law_connections.proofs.BytesFair.{GoesOnFairly, all-on}
 use Rattle.lard_law_connections.proofs.BytesLater.{said-stays, seat-stays}
 use Rattle.lard_law_connections.proofs.BytesTelling.{Tells, client-tells, heads-true, timers-true, words-true}
 use Rattle.lard_law_connections.proofs.BytesTold.{Bytes, bytes_of, heads-fin, move-bytes, tale-agrees}
+use Rattle.lard_law_view.proofs.EachClient.{ClientComes, client_seen, each-client, of-client}
 use Rattle.lard_law_view.proofs.Rows.{grown-tale, move-lawful, tale_before}
 use Rattle.lard_law_view.proofs.Timers.{timer_rows-are}
 use Rattle.lard_history.proofs.Each.{Each, Each-append}
@@ -201,44 +203,42 @@ module _ (files : FilesAt) (x : Conn) (isn iss wnd mss : ℕ) (rule : HasRule (e
 -- ---- the rules
 
 module _ (k : Setting) (small : k.stream ≤ 2 ^ 30) where
-  by-rule : (x : Conn) (s : Station) → x.part.station ≡ Some s → (heads : List Seen) (rule : ClientBlock → ClientBlock × Turn) → ClientKeeps rule
-      → bytes_of (tale_before x (client_does x s heads (rule s.client))) ≡ bytes_of (tale_at x) → StaysTruthful k x (client_does x s heads (rule s.client))
-  by-rule x s there heads rule keeps quiet help h =
-      let o = open-at k.files x s there h in
-      client-goes k.files x s there heads (rule s.client) help h.talk h.pend o quiet (keeps x.c h.talk.w h.talk.out s.client o.says.most o.client)
-
-  by-writing : (x : Conn) (s : Station) → x.part.station ≡ Some s → (heads : List Seen) (bytes : List ℕ) → nat_lt k.stream (written_len s.client bytes) ≡ false
-      → bytes_of (tale_before x (client_does x s heads (client_writes s.client bytes))) ≡ bytes_of (tale_at x) → StaysTruthful k x (client_does x s heads (client_writes s.client bytes))
-  by-writing x s there heads bytes fits quiet help h =
-      let o = open-at k.files x s there h in
-      let le : written_len s.client bytes ≤ k.stream = ltb-false k.stream (written_len s.client bytes) fits in
-      client-goes k.files x s there heads (client_writes s.client bytes) help h.talk h.pend o quiet (writes-turned x.c h.talk.w h.talk.out s.client o.says.most o.client bytes (omega (arith, le, small)))
-
   -- what comes to a client is true of the cluster's stream, whichever place sent it
   reply-in : (x : Conn) (l : Talk) (from : Place) (bytes : List ℕ) → GoesBetween x.c from (Client x.c) bytes → IsFairOn l x.c x.part from (Client x.c) bytes → (s : Said) × (bytes ≡ spelled x.c ToClient s) × IsReply l.w l.out l.was_reset s
   reply-in x l Front bytes n f = f
   reply-in x l (Node m) bytes n f = f
   reply-in x l (Client d) bytes n f = absurd n
 
-  client-hears : (x : Conn) (s : Station) (from : Place) (bytes : List ℕ) → x.part.station ≡ Some s → Was x from (Client x.c) bytes
-      → StaysTruthful k x (client_does x s (packet_seen from (Client x.c) bytes) (client_gets s.client (decoded bytes x.c ToClient)))
-  client-hears x s from bytes there was help h =
-      let o = open-at k.files x s there h in
-      let l = h.talk in
-      let f = reply-in x l from bytes (was-between x from (Client x.c) bytes help.sound was) (has-fair (IsFair l x.c x.part) (record { from = from; to = Client x.c; bytes = bytes }) x.letters was o.fair) in
-      client-goes k.files x s there (packet_seen from (Client x.c) bytes) (client_gets s.client (decoded bytes x.c ToClient)) help l h.pend o refl
-      (subst (λ (r : Result Said SegFault). ClientTurned x.c l.w l.out s.client (client_gets s.client r)) (sym (ap (λ (b : List ℕ). decoded b x.c ToClient) f.1 ∙ again x.c ToClient f.0 f.2.sendable))
-      (hears-turned x.c l.w l.out s.client f.0 o.says.most o.says.number f.2.sendable.seq_fits f.2.sendable.ack_fits o.client f.2.true_of))
+  module _ (x : Conn) (s : Station) (h : IsTruthful k.files x) (o : IsOpen k.files x h.talk h.pend s) where
+    abbrev Turned : ClientBlock × Turn → Type 0
+    Turned given = ClientTurned x.c h.talk.w h.talk.out s.client given
+
+    writes-so : (bytes : List ℕ) → nat_lt k.stream (written_len s.client bytes) ≡ false → Turned (client_writes s.client bytes)
+    writes-so bytes fits =
+        let le : written_len s.client bytes ≤ k.stream = ltb-false k.stream (written_len s.client bytes) fits in
+        writes-turned x.c h.talk.w h.talk.out s.client o.says.most o.client bytes (omega (arith, le, small))
+
+    rule-turned : IsConnSound x → (g : ClientGets) → ClientComes k x s g → Turned (client_rule x.c s.client g)
+    rule-turned sound (ToGet path) fits = writes-so (request path) fits
+    rule-turned sound (ToWrite bytes) fits = writes-so bytes fits
+    rule-turned sound ToShut comes = shuts-turned x.c h.talk.w h.talk.out s.client o.says.most o.client
+    rule-turned sound ToAbort comes = aborts-turned x.c h.talk.w h.talk.out s.client o.says.most o.client
+    rule-turned sound ToHold comes = holds-turned x.c h.talk.w h.talk.out s.client o.says.most o.client
+    rule-turned sound ToTake comes = takes-turned x.c h.talk.w h.talk.out s.client o.says.most o.client
+    rule-turned sound ClientFires comes = timer-turned x.c h.talk.w h.talk.out s.client o.says.most o.client
+    rule-turned sound (ClientReceives from bytes) was =
+        let f = reply-in x h.talk from bytes (was-between x from (Client x.c) bytes sound was)
+        (has-fair (IsFair h.talk x.c x.part) (record { from = from; to = Client x.c; bytes = bytes }) x.letters was o.fair) in
+        subst (λ (r : Result Said SegFault). Turned (client_gets s.client r))
+        (sym (ap (λ (b : List ℕ). decoded b x.c ToClient) f.1 ∙ again x.c ToClient f.0 f.2.sendable))
+        (hears-turned x.c h.talk.w h.talk.out s.client f.0 o.says.most o.says.number f.2.sendable.seq_fits f.2.sendable.ack_fits o.client f.2.true_of)
 
   pub clients : ClientRules k (StaysTruthful k)
-  clients = record {
+  clients = each-client k (StaysTruthful k) (record {
     opens = λ x isn iss wnd mss rule none help h. opens-goes k.files x isn iss wnd mss rule none h help;
-    gets = λ x s path there fits. by-writing x s there (event_seen (event.Get x.c path)) (request path) fits refl;
-    writes = λ x s bytes there fits. by-writing x s there (event_seen (event.Write x.c bytes)) bytes fits refl;
-    shuts = λ x s there. by-rule x s there (event_seen (event.Shut x.c)) client_shuts (λ c w out y most a. shuts-turned c w out y most a) refl;
-    aborts = λ x s there. by-rule x s there (event_seen (event.Abort x.c)) client_aborts (λ c w out y most a. aborts-turned c w out y most a) refl;
-    holds = λ x s there. by-rule x s there (event_seen (event.Hold x.c)) client_holds (λ c w out y most a. holds-turned c w out y most a) refl;
-    takes = λ x s there. by-rule x s there (event_seen (event.Take x.c)) client_takes (λ c w out y most a. takes-turned c w out y most a) refl;
-    fires = λ x s there. by-rule x s there (event_seen (event.Timer (Client x.c) x.c)) client_timer (λ c w out y most a. timer-turned c w out y most a) refl;
-    hears = client-hears;
-  }
+    does = λ x s g there comes help h. let o = open-at k.files x s there h in
+        client-goes k.files x s there (client_seen x.c g) (client_rule x.c s.client g) help h.talk h.pend o
+        (of-client x.c (λ (ss : List Seen). bytes_of (fold (seen_step (tale_step x.c)) (tale_at x) ss) ≡ bytes_of (tale_at x))
+        (λ from bytes. refl) (λ e. refl) g)
+        (rule-turned x s h o help.sound g comes);
+  })

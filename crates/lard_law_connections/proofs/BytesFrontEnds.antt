@@ -1,14 +1,14 @@
 -- An Ask and the end of a connection at its node leave it in agreement.
 use Rattle.std.proofs.Common.{◌≡◌, ◌≤◌, ◌+◌, ◌==◌, ◌^◌, ℕ, Bool, false, true, List, [], ◌∷◌, ◌++◌, map, Option, Some, None, Ok, arith, refl, ap, ◌∙◌, sym, subst, inl, ⊎_elim, eqb-true, eq-eqb}
-use Rattle.std.specs.List.{list_any}
-use Rattle.lard_law_view.specs.Prelude.{Ask, BackConn, BackRow, Conn, Final, Front, FrontConn, FrontDeed, FrontEnv, FrontPart, FrontRest, FrontRow, IsFrontEnv, Kept, LaterChoice, Message, Node, NodePart, Reason, Rec, Seen, Setting, SpellsMessage, Station, Stream, Talk, Verdict, Was, ack_sent, ask_of, assigned_notes, assigns, bytes_served_in, decoded_message, ended_kept, front_asked, front_does, front_ended, front_ended_by, front_saying, is_away, is_reset_record, is_row_at, is_with, next_epoch, over_note, packet_seen, served_in, tag_sent, tale_at, with_front}
-use Rattle.lard_law_connections.specs.BytesAgreement.{AwayAgrees, BackAgrees, EndedWithNumbers, IsEnding, IsFair, IsKept, IsOpen, NodeAgrees, NodeTells, RowAgrees, SeatAgrees, StageAgrees}
-use Rattle.lard_law_connections.specs.BytesKeeping.{FrontSays}
+use Rattle.std.specs.List.{fold, list_any}
+use Rattle.lard_law_view.specs.Prelude.{Ask, BackConn, BackRow, Conn, Final, Front, FrontConn, FrontDeed, FrontEnv, FrontGets, FrontPart, FrontRest, FrontRow, FrontRules, IsFrontEnv, Kept, LaterChoice, Message, Node, NodePart, Reason, Rec, Seen, Setting, SpellsMessage, Station, Stream, Talk, Verdict, Was, ack_sent, assigned_notes, assigns, bytes_served_in, decoded_message, ended_kept, front_does, front_ended_by, front_rest, front_rule, front_saying, is_away, is_reset_record, is_row_at, is_with, next_epoch, over_note, seen_step, served_in, serving, tag_sent, tale_at, tale_step, with_front}
+use Rattle.lard_law_connections.specs.BytesAgreement.{AwayAgrees, BackAgrees, EndedWithNumbers, IsEnding, IsFair, IsKept, IsOpen, IsTruthful, NodeAgrees, NodeTells, RowAgrees, SeatAgrees, StageAgrees}
+use Rattle.lard_law_connections.specs.BytesKeeping.{FrontSays, IsFrontTalk}
 use Rattle.lard_law_connections.proofs.BytesLaw.{Helps, IsTrueMove, StaysTruthful}
 use Rattle.lard_law_connections.specs.BytesTurning.{IsNoteOf}
 use Rattle.lard_law_connections.proofs.BytesClientMoves.{has-fair, open-at}
-use Rattle.lard_law_connections.proofs.BytesFrontMessages.{node-opens, opened-at, past-undecided}
-use Rattle.lard_law_connections.proofs.BytesFrontMoves.{all-say, drops-goes, says-goes}
+use Rattle.lard_law_connections.proofs.BytesFrontMessages.{past-undecided, taken-moves, where-opened}
+use Rattle.lard_law_connections.proofs.BytesFrontMoves.{GoesSo, all-say, at-home, by-segment, by-timer, drops-goes, heard-word, rule-agrees, says-goes, talk-of}
 use Rattle.lard_law_connections.proofs.BytesMessages.{ends-read}
 use Rattle.lard_law_connections.proofs.BytesMoves.{idle-goes, move-goes}
 use Rattle.lard_law_connections.proofs.BytesTold.{bytes_of}
@@ -22,7 +22,8 @@ use Rattle.lard_handoff_front.specs.declared.row.FrontConn.TheVariants as stage
 use Rattle.lard_handoff_front.specs.declared.table.OnEnded.TheVariants.{New}
 use Rattle.lard_history.proofs.Each.{Each}
 use Rattle.lard_message.specs.declared.message.Body.TheVariants as body
-use Rattle.lard_rules.proofs.FrontCases.{asked-keeps, ended-keeps}
+use Rattle.lard_rules.proofs.FrontCases.{KeptByFront, front-keeps, hands_off}
+use Rattle.lard_law_view.proofs.EachFront.{FrontComes, admission, each-front, of-front}
 
 -- ---- notes that tell nothing of bytes
 
@@ -125,12 +126,6 @@ module _ (k : Setting) (small : k.stream ≤ 2 ^ 30) (x : Conn) (s : Station) (t
         letters = all-say l x.c (front_does x heads d).part (assigns env p rest n epoch ask (env.later ask)).turn.messages (tag-says (front_does x heads d).part.front n epoch ask.number (map (λ y. y.node) (env.later ask).choices));
       }))
 
-  asks-goes : (n epoch : ℕ) (ask : Ask) → Goes (front_asked env p n epoch ask)
-  asks-goes n epoch ask = asked-keeps p Goes (drops-goes k small x s there l pend o heads (quiet Drops)) env n epoch ask
-      (λ rest found at same some help. says-goes k small x s there l pend o heads (front_saying (tag_sent env n epoch rest.asks rest.tag)) (quiet (Says (front_saying (tag_sent env n epoch rest.asks rest.tag)))) refl tt
-      (all-say l x.c x.part (tag_sent env n epoch rest.asks rest.tag) (tag-says p n epoch rest.asks rest.tag)) help)
-      (λ rest found at next. assigns-moves rest n epoch ask at)
-
   -- ---- an Ended
 
   module _ (m epoch : ℕ) (why : Reason) (snd rcv count : ℕ) (bytes : List ℕ) (spells : SpellsMessage x.c epoch (body.Ended why snd rcv count) bytes) (was : Was x (Node m) Front bytes) where
@@ -182,28 +177,58 @@ module _ (k : Setting) (small : k.stream ≤ 2 ^ 30) (x : Conn) (s : Station) (t
         end-at row n found same sits.2 sits.3 over seat.1
     end-stage row _ found at away over help = let no : false ≡ true = away in absurd cc
 
-    end-goes : IsOver epoch here.row → Goes (front_ended env p m epoch last)
-    end-goes over = ended-keeps p Goes (drops-goes k small x s there l pend o heads (quiet Drops)) env m epoch last
-        (λ row found away again help. says-goes k small x s there l pend o heads (front_saying (ack_sent env m epoch)) (quiet (Says (front_saying (ack_sent env m epoch)))) refl tt (all-say l x.c x.part (ack_sent env m epoch) (ack-says p m epoch)) help)
-        (λ row found away help. ends-moves row m epoch last (end-stage row row.stage found refl away over help) help)
+  -- ---- whatever comes
 
--- ---- two rules
+  module _ (talk : IsFrontTalk env l.w l.out l.vs) where
+    abbrev pub KeepsTrue : FrontDeed → Type 0
+    KeepsTrue d = GoesSo k small x s there env is l pend o talk heads quiet d
 
-packet-quiet : (x : Conn) (n : ℕ) (bytes : List ℕ) (d : FrontDeed) → bytes_of (tale_before x (front_does x (packet_seen (Node n) Front bytes) d)) ≡ bytes_of (tale_at x)
-packet-quiet x n bytes Drops = refl
-packet-quiet x n bytes (Says turn) = refl
-packet-quiet x n bytes (Does did) = refl
+    pub by-rules : KeptByFront env p (FrontComes x env heads) (λ w t. Unit {0}) KeepsTrue
+    by-rules = record {
+      drops = λ keeps. drops-goes k small x s there l pend o heads (quiet Drops);
+      hears = λ bytes sd comes.
+          let f = heard-word k small x s there env is l pend o heads bytes sd comes in
+          by-segment k small x s there env is l pend o talk heads quiet bytes sd f.0 f.1;
+      fires = λ comes. by-timer k small x s there env is l pend o talk heads quiet;
+      takes = λ m epoch comes row n e at same keeps help. taken-moves k small x s there l pend o heads quiet row n e epoch m at.0 at.1 same
+          (came-says x (Node m) Front epoch body.Taken comes.bytes help.placed.letters comes.was comes.spells) help;
+      tags_again = λ n epoch ask comes rest found at same some keeps.
+          says-goes k small x s there l pend o heads (front_saying (tag_sent env n epoch rest.asks rest.tag))
+          (quiet (Says (front_saying (tag_sent env n epoch rest.asks rest.tag)))) refl tt
+          (all-say l x.c x.part (tag_sent env n epoch rest.asks rest.tag) (tag-says p n epoch rest.asks rest.tag));
+      assigns_next = λ n epoch ask comes rest found at next keeps. assigns-moves rest n epoch ask at;
+      ends_again = λ m epoch last comes row found away again keeps.
+          says-goes k small x s there l pend o heads (front_saying (ack_sent env m epoch)) (quiet (Says (front_saying (ack_sent env m epoch)))) refl tt
+          (all-say l x.c x.part (ack_sent env m epoch) (ack-says p m epoch));
+      ends = λ m epoch last comes row found away keeps help. let t = comes.told in
+          ends-moves row m epoch last (end-stage m epoch last.reason last.snd.0 last.rcv.0 comes.count t.bytes t.spells t.was row row.stage found refl away
+          (came-says x (Node m) Front epoch (body.Ended last.reason last.snd.0 last.rcv.0 comes.count) t.bytes help.placed.letters t.was t.spells) help) help;
+      admits = λ choice row b path at target. at-home k small x s there env is l pend o talk heads quiet row (stage.Waiting b) at tt tt
+          (hands_off env row (serving b (front_rest p.rest).count []) path choice []) tt;
+    }
+
+-- ---- the rules of the front end
 
 module _ (k : Setting) (small : k.stream ≤ 2 ^ 30) where
-  pub asked-stays : (x : Conn) (env : FrontEnv) (n epoch number queue size : ℕ) (paths : List (List ℕ)) (bytes : List ℕ) → IsFrontEnv k x.c env → SpellsMessage x.c epoch (body.Ask number queue size paths) bytes → Was x (Node n) Front bytes
-      → StaysTruthful k x (front_does x (packet_seen (Node n) Front bytes) (front_asked env x.part.front n epoch (ask_of x.c n number queue size paths)))
-  asked-stays x env n epoch number queue size paths bytes is spells was help h =
-      let opened = opened-at k.files x h (node-opens x n bytes was) in
-      asks-goes k small x opened.0 opened.1 h.talk h.pend (open-at k.files x opened.0 opened.1 h) (packet_seen (Node n) Front bytes) (packet-quiet x n bytes) env is n epoch (ask_of x.c n number queue size paths) help
+  -- what is seen first tells nothing of bytes
+  heads-quiet : (x : Conn) (heads : List Seen) → bytes_of (fold (seen_step (tale_step x.c)) (tale_at x) heads) ≡ bytes_of (tale_at x)
+      → (d : FrontDeed) → bytes_of (tale_before x (front_does x heads d)) ≡ bytes_of (tale_at x)
+  heads-quiet x heads same Drops = same
+  heads-quiet x heads same (Says turn) = same
+  heads-quiet x heads same (Does did) = same
 
-  pub ended-stays : (x : Conn) (env : FrontEnv) (n epoch : ℕ) (why : Reason) (snd rcv count : ℕ) (bytes : List ℕ) → IsFrontEnv k x.c env → SpellsMessage x.c epoch (body.Ended why snd rcv count) bytes → Was x (Node n) Front bytes
-      → StaysTruthful k x (front_does x (packet_seen (Node n) Front bytes) (front_ended env x.part.front n epoch (record { reason = why; snd = record { 0 = snd }; rcv = record { 0 = rcv } })))
-  ended-stays x env n epoch why snd rcv count bytes is spells was help h =
-      let opened = opened-at k.files x h (node-opens x n bytes was) in
-      end-goes k small x opened.0 opened.1 h.talk h.pend (open-at k.files x opened.0 opened.1 h) (packet_seen (Node n) Front bytes) (packet-quiet x n bytes) env is n epoch why snd rcv count bytes spells was
-      (came-says x (Node n) Front epoch (body.Ended why snd rcv count) bytes help.placed.letters was spells) help
+  opened-stays : (x : Conn) (s : Station) (env : FrontEnv) (heads : List Seen) (g : FrontGets) → x.part.station ≡ Some s → env.iss ≡ s.iss
+      → IsFrontEnv k x.c env → FrontComes x env heads g → IsTruthful k.files x
+      → Helps x (front_does x heads (front_rule env x.part.front g)) → IsTrueMove k.files x (front_does x heads (front_rule env x.part.front g))
+  opened-stays x s env heads g there iss is comes h =
+      let o = open-at k.files x s there h in
+      let talk = talk-of k small x env is s h.talk h.pend o iss in
+      let quiet = heads-quiet x heads (of-front x (λ (ss : List Seen). bytes_of (fold (seen_step (tale_step x.c)) (tale_at x) ss) ≡ bytes_of (tale_at x))
+      (λ from bytes. refl) refl refl env heads g comes) in
+      front-keeps env x.part.front (FrontComes x env heads) (λ w t. Unit {0}) (KeepsTrue k small x s there h.talk h.pend o heads quiet env is talk)
+      (by-rules k small x s there h.talk h.pend o heads quiet env is talk) g (admission x env heads g comes) comes
+      (rule-agrees k small x s there env is h.talk h.pend o talk heads g comes)
+
+  pub fronts : FrontRules k (StaysTruthful k)
+  fronts = each-front k (StaysTruthful k) (λ x env heads g is comes help h.
+      where-opened k (λ y v. Helps y v → IsTrueMove k.files y v) opened-stays x env heads g is comes h help)

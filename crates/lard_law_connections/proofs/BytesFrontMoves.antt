@@ -1,13 +1,12 @@
 -- What the front end does leaves its connection in agreement.
 use Rattle.std.proofs.Common.{◌≡◌, ◌≤◌, ◌||◌, ◌^◌, ℕ, Bool, List, [], ◌∷◌, map, Option, Some, None, Ok, Result, refl, ap, ◌∙◌, sym, subst, inl, inr}
 use Rattle.std.specs.List.{list_any}
-use Rattle.lard_law_view.specs.Prelude.{AreReplies, AreSent, Body, Client, Conn, Did, Epoch, FilesAt, Final, Front, FrontConn, FrontDeed, FrontEnv, FrontPart, FrontRow, FrontTurn, IsFrontEnv, IsStream, IsWord, Kept, Message, Move, Node, Part, Place, Said, SaysAnswers, Seen, SegFault, Setting, Station, Stream, Talk, ToCluster, Verdict, Was, bytes_served_in, decoded, event_seen, fires_at, forwarded, front_begun, front_does, front_gets, front_hears, front_rest, front_saying, front_timer, hears_at, holds, is_reset_record, kind_of, last_words, letter, packet_seen, placed, sent_of, served_in, serving_settled, spelled, spelled_message, tale_at, tombstone, turn_here}
-use Rattle.lard_base.specs.declared.event.Event.TheVariants as event
+use Rattle.lard_law_view.specs.Prelude.{AreReplies, AreSent, Body, Client, Conn, Did, Epoch, FilesAt, Final, Front, FrontConn, FrontDeed, FrontEnv, FrontGets, FrontHears, FrontPart, FrontRow, FrontTurn, IsFrontEnv, IsStream, IsWord, Kept, Message, Move, Node, Part, Place, Said, SaysAnswers, Seen, SegFault, Setting, Station, Stream, Talk, ToCluster, Verdict, bytes_served_in, decoded, fires_at, forwarded, front_begun, front_does, front_rest, front_rule, front_saying, hears_at, holds, is_reset_record, kind_of, last_words, letter, placed, sent_of, served_in, serving_settled, spelled, spelled_message, tale_at, tombstone, turn_here}
 use Rattle.lard_law_connections.specs.BytesAgreement.{FrontHolds, FrontTells, IsFair, IsFairOn, IsOpen, SeatAgrees, StageAgrees}
 use Rattle.lard_law_connections.specs.BytesKeeping.{FrontPartAgrees, FrontDeedKeeps, FrontRowAgrees, FrontSays, FrontStageAgrees, FrontTurned, IsFrontTalk, SaysOfKind}
-use Rattle.lard_law_connections.proofs.BytesLaw.{Helps, IsTrueMove, StaysTruthful}
-use Rattle.lard_law_connections.proofs.BytesClientMoves.{has-fair, open-at}
-use Rattle.lard_law_connections.proofs.BytesFronts.{front-hears, timer-keeps}
+use Rattle.lard_law_connections.proofs.BytesLaw.{Helps, IsTrueMove}
+use Rattle.lard_law_connections.proofs.BytesClientMoves.{has-fair}
+use Rattle.lard_law_connections.proofs.BytesFronts.{IsOurs, IsTrueWord, RowIsOurs, rule-keeps}
 use Rattle.lard_law_connections.proofs.BytesMessages.{forwards-read}
 use Rattle.lard_law_connections.proofs.BytesMoves.{idle-goes, move-goes, replies-fair, talk_after}
 use Rattle.lard_law_connections.proofs.BytesTold.{bytes_of}
@@ -22,8 +21,8 @@ use Rattle.lard_message.specs.declared.kind.Kind.TheVariants as kind
 use Rattle.lard_message.specs.declared.message.Body.TheVariants as body
 use Rattle.lard_segment.proofs.Again.{again}
 use Rattle.lard_law_view.proofs.Speaking.{speaks-stream}
-use Rattle.lard_rules.proofs.FrontCases.{KeptBySegment, IsInStage, segment-keeps}
-use Rattle.lard_rules.proofs.FrontCases as cases
+use Rattle.lard_law_view.proofs.EachFront.{FrontComes, HasSegment, admission}
+use Rattle.lard_rules.proofs.FrontCases.{KeptBySegment, KeptByTimer, IsInStage}
 use Rattle.lard_dispatch.specs.declared.dispatch.First.TheVariants as first
 
 -- ---- messages of the front end
@@ -59,16 +58,6 @@ forward-fair k c p n e bytes s is word m d = go m.body refl (kinds-same (record 
 
 -- ---- what is kept, as the front end's or as the connection's
 
--- the front end has it, or it ended, or nobody has it yet
-abbrev pub IsOurs : FrontConn → Type 0
-IsOurs (stage.Offering n d) = ⊥
-IsOurs (stage.Moved n d) = ⊥
-IsOurs _ = Unit {0}
-
-abbrev pub RowIsOurs : Option FrontRow → Type 0
-RowIsOurs None = Unit {0}
-RowIsOurs (Some row) = IsOurs row.stage
-
 -- it is held here, or waits
 abbrev pub IsBefore : FrontConn → Type 0
 IsBefore (stage.Held b) = Unit {0}
@@ -76,7 +65,7 @@ IsBefore (stage.Waiting b) = Unit {0}
 IsBefore _ = ⊥
 
 -- of what nobody else has no Offer is told
-pub ours-unoffered : (o : Option FrontRow) → RowIsOurs o → (n e : ℕ) → IsOffered n e o → ⊥
+ours-unoffered : (o : Option FrontRow) → RowIsOurs o → (n e : ℕ) → IsOffered n e o → ⊥
 ours-unoffered None h n e f = f
 ours-unoffered (Some row) h n e f = go row.stage h f where
   go : (d : FrontConn) → IsOurs d → Offers n e d → ⊥
@@ -99,7 +88,7 @@ module _ (w out : Stream) (vs pend : List Verdict) (r : Bool) (c : ℕ) (p : Par
   stage-front e (stage.Moved n d) ours h = absurd ours
   stage-front e (stage.Closed last) ours h = h
 
-  pub seat-front : (o : Option FrontRow) → RowIsOurs o → SeatAgrees w out vs pend r c p o → FrontRowAgrees w out vs r c p.front o
+  seat-front : (o : Option FrontRow) → RowIsOurs o → SeatAgrees w out vs pend r c p o → FrontRowAgrees w out vs r c p.front o
   seat-front None ours h = (h.0, h.2)
   seat-front (Some row) ours h = stage-front row.epoch.0 row.stage ours h
 
@@ -109,7 +98,7 @@ module _ (w out : Stream) (vs pend : List Verdict) (r : Bool) (c : ℕ) (p : Par
   front-stage i e (stage.Moved n d) le past h = absurd h
   front-stage i e _ le past h = h
 
-  pub front-seat : (i : ℕ) (o : Option FrontRow) → IsFrom i o → ArePast i p.nodes → FrontRowAgrees w out vs r c p.front o → SeatAgrees w out vs [] r c p o
+  front-seat : (i : ℕ) (o : Option FrontRow) → IsFrom i o → ArePast i p.nodes → FrontRowAgrees w out vs r c p.front o → SeatAgrees w out vs [] r c p o
   front-seat i None le past h = (h.0, refl, h.1)
   front-seat i (Some row) le past h = front-stage i row.epoch.0 row.stage le past h
 
@@ -205,7 +194,7 @@ module _ (k : Setting) (small : k.stream ≤ 2 ^ 30) (x : Conn) (s : Station) (t
   home-past own row (stage.Waiting b) at before sits = let h : StageSits row.epoch.0 own x.part.nodes (stage.Waiting b) = subst (StageSits row.epoch.0 own x.part.nodes) at sits.0 in h.1.1
   home-past own row _ at before sits = absurd before
 
-  pub past-found : (o : Option FrontRow) → x.part.front.row ≡ o → ArePast (front_epoch o) x.part.nodes → ArePast (front_epoch x.part.front.row) x.part.nodes
+  past-found : (o : Option FrontRow) → x.part.front.row ≡ o → ArePast (front_epoch o) x.part.nodes → ArePast (front_epoch x.part.front.row) x.part.nodes
   past-found o found past = subst (λ (q : Option FrontRow). ArePast (front_epoch q) x.part.nodes) (sym found) past
 
   module _ (talk : IsFrontTalk env l.w l.out l.vs) (heads : List Seen) (quiet : IsQuiet k small x s there l pend o heads) where
@@ -213,39 +202,39 @@ module _ (k : Setting) (small : k.stream ≤ 2 ^ 30) (x : Conn) (s : Station) (t
     p = x.part.front
 
     -- where the connection is the front end's, what it does agrees
-    abbrev Goes : FrontDeed → Type 0
-    Goes d = (RowIsOurs p.row → FrontDeedKeeps k.files x.c l.w l.out l.vs l.was_reset d) → Helps x (front_does x heads d) → IsTrueMove k.files x (front_does x heads d)
+    abbrev pub GoesSo : FrontDeed → Type 0
+    GoesSo d = (RowIsOurs p.row → FrontDeedKeeps k.files x.c l.w l.out l.vs l.was_reset d) → Helps x (front_does x heads d) → IsTrueMove k.files x (front_does x heads d)
 
-    drops : Goes Drops
+    drops : GoesSo Drops
     drops keeps help = drops-goes k small x s there l pend o heads (quiet Drops) help
 
     ours : (row : FrontRow) (d : FrontConn) → IsInStage p row d → IsOurs d → RowIsOurs p.row
     ours row d at mine = subst RowIsOurs (sym at.0) (subst IsOurs (sym at.1) mine)
 
-    at-home : (row : FrontRow) (st : FrontConn) → IsInStage p row st → IsBefore st → IsOurs st → (d : FrontDeed) → MessagesFair k small x s there l pend o d → Goes d
+    pub at-home : (row : FrontRow) (st : FrontConn) → IsInStage p row st → IsBefore st → IsOurs st → (d : FrontDeed) → MessagesFair k small x s there l pend o d → GoesSo d
     at-home row st at before mine d fair keeps help =
         deed-goes k small x s there l pend o heads d quiet (ours-unoffered p.row (ours row st at mine))
         (past-found (Some row) at.0 (home-past (owning (tale_at x)) row st at.1 before (subst (Sits (owning (tale_at x)) x.part.nodes) at.0 help.placed.sits))) fair (keeps (ours row st at mine)) help
 
     -- nobody has it yet
-    begins-here : (sd : Said) → p.row ≡ None → Goes (front_begun env p sd)
+    begins-here : (sd : Said) → p.row ≡ None → GoesSo (front_begun env p sd)
     begins-here sd none keeps help =
         let mine : RowIsOurs p.row = subst RowIsOurs (sym none) tt in
         let sits : Sits (owning (tale_at x)) x.part.nodes None = subst (Sits (owning (tale_at x)) x.part.nodes) none help.placed.sits in
         deed-goes k small x s there l pend o heads (front_begun env p sd) quiet (ours-unoffered p.row mine) (past-found None none sits.1) tt (keeps mine) help
 
     module _ (bytes : List ℕ) (sd : Said) (is_spelled : bytes ≡ spelled x.c ToCluster sd) (word : IsWord l.w sd) where
-      forwards : (n : ℕ) (d : Epoch) → Goes (forwarded env n d bytes)
+      forwards : (n : ℕ) (d : Epoch) → GoesSo (forwarded env n d bytes)
       forwards n d keeps help = says-goes k small x s there l pend o heads (front_saying ((Node n, message env.serve.c d.0 (body.Forward bytes)) ∷ [])) (quiet (forwarded env n d bytes)) refl tt
           (subst (λ (c : ℕ). IsFair l x.c x.part (letter Front (Node n, message c d.0 (body.Forward bytes)))) (sym is.number) (forward-fair l x.c x.part n d.0 bytes sd is_spelled word), tt) help
 
-      words : (row : FrontRow) (last : Final) → IsInStage p row (stage.Closed last) → Goes (Says (turn_here (tombstone env.serve (last_words last.reason last sd))))
+      words : (row : FrontRow) (last : Final) → IsInStage p row (stage.Closed last) → GoesSo (Says (turn_here (tombstone env.serve (last_words last.reason last sd))))
       words row last at keeps help =
           let t = keeps (ours row (stage.Closed last) at tt) in
           let turn : FrontTurn = turn_here (tombstone env.serve (last_words last.reason last sd)) in
           says-goes k small x s there l pend o heads turn (quiet (Says turn)) t.0 t.1 tt help
 
-      by-segment : KeptBySegment env p bytes sd (λ w o. Unit {0}) Goes
+      pub by-segment : KeptBySegment env p bytes sd (λ w o. Unit {0}) GoesSo
       by-segment = record {
         drops = drops;
         begins = λ none plain. begins-here sd none;
@@ -258,43 +247,37 @@ module _ (k : Setting) (small : k.stream ≤ 2 ^ 30) (x : Conn) (s : Station) (t
         words = words;
       }
 
-      hears-goes : Helps x (front_does x heads (front_hears env p bytes sd p.row)) → IsTrueMove k.files x (front_does x heads (front_hears env p bytes sd p.row))
-      hears-goes = segment-keeps env p bytes sd (λ w o. Unit {0}) Goes by-segment (λ mine. own-keeps (front_hears env p bytes sd p.row) (front-hears env l.w l.out l.vs l.was_reset p bytes sd talk (own-agrees mine) word))
-
     -- its timers fire
-    fires-goes : Helps x (front_does x heads (front_timer env p)) → IsTrueMove k.files x (front_does x heads (front_timer env p))
-    fires-goes = cases.timer-keeps env p Goes (record {
+    pub by-timer : KeptByTimer env p GoesSo
+    by-timer = record {
       drops = drops;
       holds = λ row b at. at-home row (stage.Held b) at tt tt (fires_at env p row (stage.Held b)) tt;
       stays = λ row b at. at-home row (stage.Waiting b) at tt tt (fires_at env p row (stage.Waiting b)) tt;
       resends = λ row n d at keeps help.
           says-goes k small x s there l pend o heads (front_saying (map sent_of p.kept)) (quiet (Says (front_saying (map sent_of p.kept)))) refl tt (again-fair p.kept help.sound.front) help;
-    }) (λ mine. own-keeps (front_timer env p) (timer-keeps env l.w l.out l.vs l.was_reset p talk (own-agrees mine)))
+    }
 
--- ---- two rules
+  -- ---- what comes
 
-module _ (k : Setting) (small : k.stream ≤ 2 ^ 30) where
-  pub front-fires-stays : (x : Conn) (s : Station) (env : FrontEnv) → x.part.station ≡ Some s → IsFrontEnv k x.c env → StaysTruthful k x (front_does x (event_seen (event.Timer Front x.c)) (front_timer env x.part.front))
-  front-fires-stays x s env there is help h =
-      let o = open-at k.files x s there h in
-      let same : FrontEnv = record env { iss = s.iss } in
-      let mine : IsFrontEnv k x.c same = record { place = is.place; number = is.number; files = is.files; stream = is.stream } in
-      fires-goes k small x s there same mine h.talk h.pend o (talk-of k small x same mine s h.talk h.pend o refl) (event_seen (event.Timer Front x.c)) (λ d. quiet-at d) help where
-        quiet-at : (d : FrontDeed) → bytes_of (tale_before x (front_does x (event_seen (event.Timer Front x.c)) d)) ≡ bytes_of (tale_at x)
-        quiet-at Drops = refl
-        quiet-at (Says turn) = refl
-        quiet-at (Does did) = refl
+  -- a segment that came is what the client sent
+  pub heard-word : (heads : List Seen) (bytes : List ℕ) (sd : Said) → HasSegment x env bytes (Ok sd) heads → (bytes ≡ spelled x.c ToCluster sd) × IsWord l.w sd
+  heard-word heads bytes sd comes =
+      let f : IsFairOn l x.c x.part (Client x.c) Front bytes =
+      has-fair (IsFair l x.c x.part) (record { from = Client x.c; to = Front; bytes = bytes }) x.letters comes.was o.fair in
+      subst (λ (q : Said). (bytes ≡ spelled x.c ToCluster q) × IsWord l.w q)
+      (same-said f.0 sd (sym (comes.read ∙ ap (λ (b : List ℕ). decoded b x.c ToCluster) f.1 ∙ again x.c ToCluster f.0 f.2.sendable))) (f.1, f.2) where
+        same-said : (a b : Said) → ◌≡◌ {A = Result Said SegFault} (Ok a) (Ok b) → a ≡ b
+        same-said a b e = cc
 
-  pub front-hears-stays : (x : Conn) (s : Station) (env : FrontEnv) (bytes : List ℕ) → x.part.station ≡ Some s → IsFrontEnv k x.c env → env.iss ≡ s.iss → Was x (Client x.c) Front bytes
-      → StaysTruthful k x (front_does x (packet_seen (Client x.c) Front bytes) (front_gets env x.part.front bytes (decoded bytes x.c ToCluster)))
-  front-hears-stays x s env bytes there is iss was help h =
-      let o = open-at k.files x s there h in
-      let f : IsFairOn h.talk x.c x.part (Client x.c) Front bytes = has-fair (IsFair h.talk x.c x.part) (record { from = Client x.c; to = Front; bytes = bytes }) x.letters was o.fair in
-      let heads : List Seen = packet_seen (Client x.c) Front bytes in
-      let same : decoded bytes x.c ToCluster ≡ Ok f.0 = ap (λ (b : List ℕ). decoded b x.c ToCluster) f.1 ∙ again x.c ToCluster f.0 f.2.sendable in
-      subst (λ (r : Result Said SegFault). Helps x (front_does x heads (front_gets env x.part.front bytes r)) → IsTrueMove k.files x (front_does x heads (front_gets env x.part.front bytes r))) (sym same)
-      (hears-goes k small x s there env is h.talk h.pend o (talk-of k small x env is s h.talk h.pend o iss) heads (λ d. quiet-at d) bytes f.0 f.1 f.2) help where
-        quiet-at : (d : FrontDeed) → bytes_of (tale_before x (front_does x (packet_seen (Client x.c) Front bytes) d)) ≡ bytes_of (tale_at x)
-        quiet-at Drops = refl
-        quiet-at (Says turn) = refl
-        quiet-at (Does did) = refl
+  true-word : (heads : List Seen) (ours : RowIsOurs x.part.front.row) (talk : IsFrontTalk env l.w l.out l.vs) (g : FrontGets) → FrontComes x env heads g
+      → IsTrueWord env l.w l.out l.vs l.was_reset talk x.part.front (own-agrees ours) ours g
+  true-word heads ours talk (FrontHears bytes given) comes = λ sd e.
+      (heard-word heads bytes sd (subst (λ (r : Result Said SegFault). HasSegment x env bytes r heads) e comes)).1
+  true-word heads ours talk _ comes = tt
+
+  -- where the connection is the front end's, what it does agrees
+  pub rule-agrees : IsFrontTalk env l.w l.out l.vs → (heads : List Seen) (g : FrontGets) → FrontComes x env heads g → RowIsOurs x.part.front.row
+      → FrontDeedKeeps k.files x.c l.w l.out l.vs l.was_reset (front_rule env x.part.front g)
+  rule-agrees talk heads g comes ours = own-keeps (front_rule env x.part.front g)
+      (rule-keeps env l.w l.out l.vs l.was_reset talk x.part.front (own-agrees ours) ours g (admission x env heads g comes)
+      (true-word heads ours talk g comes))

@@ -1,8 +1,8 @@
 -- The rules of the front end keep the agreement of a connection.
-use Rattle.std.proofs.Common.{◌≡◌, ◌<◌, ◌+◌, ◌^◌, ◌||◌, ◌&&◌, ℕ, Bool, true, false, not, List, [], ◌∷◌, ◌++◌, map, length, Option, Some, None, IfSome, arith, refl, ap, ◌∙◌, sym, subst, inr}
+use Rattle.std.proofs.Common.{◌≡◌, ◌<◌, ◌+◌, ◌^◌, ◌||◌, ◌&&◌, ℕ, Bool, true, false, not, List, [], ◌∷◌, ◌++◌, map, length, Option, Some, None, Ok, IfSome, arith, refl, ap, ◌∙◌, sym, subst, inr}
 use Rattle.std.specs.List.{concat, list_any}
 use Rattle.std.proofs.lemmas.Bool.{and_parts, cond_both}
-use Rattle.lard_law_view.specs.Prelude.{ControlBlock, Ending, Final, FirstChoice, FrontConn, FrontDeed, FrontEnv, FrontPart, FrontRest, FrontRow, FrontTurn, IsReply, IsWord, MayMove, Reading, Reason, Rec, Said, Serves, Service, Stream, Turn, Verdict, answer, front_admitted, front_begun, front_ended, front_fired, front_hears, front_reads, front_rest, front_rests, front_timer, handed_off, holds, is_reset_record, is_telling, last_ack, last_words, listening, may_freeze, next_epoch, parts_of, refusal, serving, serving_settled, spoken, tombstone, turn_here, waits_on}
+use Rattle.lard_law_view.specs.Prelude.{ControlBlock, Ending, Final, FirstChoice, FrontConn, FrontDeed, FrontEnv, FrontGets, FrontHears, FrontPart, FrontRest, FrontRow, FrontTurn, IsReply, IsWord, MayMove, Reading, Reason, Rec, Said, Serves, Service, Stream, Turn, Verdict, answer, front_admitted, front_begun, front_ended, front_fired, front_hears, front_reads, front_rest, front_rests, front_rule, handed_off, holds, is_away, is_reset_record, is_row_at, is_telling, is_with, last_ack, last_words, listening, may_freeze, next_epoch, parts_of, refusal, serving, serving_settled, spoken, tombstone, turn_here, waits_on}
 use Rattle.lard_base.specs.declared.place.Place.TheVariants as place
 use Rattle.lard_base.specs.declared.place.Reason.TheVariants as reason
 use Rattle.lard_law_connections.specs.BytesAgreement.{EndAgreesPending, EndedWithNumbers, FrontHolds, FrontWaits, HasReadPending, HoldsItPending}
@@ -24,8 +24,36 @@ use Rattle.lard_message.specs.declared.message.Body.TheVariants as body
 use Rattle.lard_rules.specs.declared.places.Ending.TheVariants as ending
 use Rattle.lard_law_view.proofs.Growth.{goes_on-same}
 use Rattle.lard_law_view.proofs.Pieces.{bare-true}
-use Rattle.lard_rules.proofs.FrontCases.{KeptBySegment, IsInStage, of-stage, fired_before, fired_service, heard_reading, heard_service, segment-keeps, ended-keeps, admitted-keeps}
+use Rattle.lard_rules.proofs.FrontCases.{IsAsGiven, IsInStage, KeptByFront, KeptBySegment, KeptByTimer, front-keeps, of-stage, fired_before, fired_service, heard_reading, heard_service, segment-keeps, ended-keeps, admitted-keeps}
 use Rattle.lard_rules.proofs.FrontCases as cases
+
+-- ---- where the connection is
+
+-- the front end has it, or it ended, or nobody has it yet
+abbrev pub IsOurs : FrontConn → Type 0
+IsOurs (stage.Offering n d) = ⊥
+IsOurs (stage.Moved n d) = ⊥
+IsOurs _ = Unit {0}
+
+abbrev pub RowIsOurs : Option FrontRow → Type 0
+RowIsOurs None = Unit {0}
+RowIsOurs (Some row) = IsOurs row.stage
+
+-- so it is away in no epoch, and with no node
+ours-here : (epoch : ℕ) (st : FrontConn) → IsOurs st → is_away epoch st ≡ true → ⊥
+ours-here epoch (stage.Offering n d) ours away = ours
+ours-here epoch (stage.Moved n d) ours away = ours
+ours-here epoch _ ours away = let no : false ≡ true = away in cc
+
+ours-alone : (n epoch : ℕ) (o : Option FrontRow) → RowIsOurs o → is_row_at n epoch o ≡ true → ⊥
+ours-alone n epoch None ours at = let no : false ≡ true = at in cc
+ours-alone n epoch (Some row) ours at = go row.stage ours at where
+  go : (st : FrontConn) → IsOurs st → is_with n epoch st ≡ true → ⊥
+  go (stage.Offering m d) ours at = ours
+  go (stage.Moved m d) ours at = ours
+  go _ ours at = let no : false ≡ true = at in cc
+
+-- ---- what a turn keeps
 
 module _ (env : FrontEnv) (w out : Stream) (vs : List Verdict) (was_reset : Bool) where
   abbrev Keeps : FrontDeed → Type 0
@@ -195,8 +223,8 @@ module _ (env : FrontEnv) (w out : Stream) (vs : List Verdict) (was_reset : Bool
       hears-keep : (bytes : List ℕ) (s : Said) → IsWord w s → Keeps (front_hears env p bytes s p.row)
       hears-keep bytes s word = segment-keeps env p bytes s Came Keeps (by-segment bytes s word)
 
-      timer-keep : Keeps (front_timer env p)
-      timer-keep = cases.timer-keeps env p Keeps (record {
+      by-timer : KeptByTimer env p Keeps
+      by-timer = record {
         drops = tt;
         holds = λ row b at.
             let k = agrees-at row (stage.Held b) at in
@@ -208,12 +236,35 @@ module _ (env : FrontEnv) (w out : Stream) (vs : List Verdict) (was_reset : Bool
             (spoken-serves env.serve (fired_service p b) (fired_before env b) (timer-serves (front_rest p.rest).count b k.0.serves))
             (spoken-idle env.serve (fired_service p b) (fired_before env b) (timer-idle b (idle-of b k.1 k.0.serves.sent)));
         resends = λ row n e at. (refl, tt);
-      })
+      }
 
-      admits-keep : (choice : FirstChoice) (given : FrontPart × FrontTurn) → front_admitted env p choice ≡ Some given → Turns given.0 given.1
-      admits-keep choice = admitted-keeps env p choice (λ (g : FrontPart × FrontTurn). Turns g.0 g.1) (λ row b path at target.
-          let k = agrees-at row (stage.Waiting b) at in
-          handed-turn (serving b (front_rest p.rest).count []) (same-so env.serve w out vs talk.says [] b (front_rest p.rest).count k.0.holds) refl k.0.serves k.1 row path choice)
+      admits-keep : (choice : FirstChoice) (row : FrontRow) (b : ControlBlock) (path : List ℕ) → IsInStage p row (stage.Waiting b)
+          → let given = handed_off env row (serving b (front_rest p.rest).count []) path choice in Turns given.0 given.1
+      admits-keep choice row b path at = let k = agrees-at row (stage.Waiting b) at in
+          handed-turn (serving b (front_rest p.rest).count []) (same-so env.serve w out vs talk.says [] b (front_rest p.rest).count k.0.holds)
+          refl k.0.serves k.1 row path choice
+
+      -- whatever comes, where it is the front end's
+      module _ (ours : RowIsOurs p.row) where
+        abbrev pub IsTrueWord : FrontGets → Type 0
+        IsTrueWord (FrontHears bytes given) = (s : Said) → given ≡ Ok s → IsWord w s
+        IsTrueWord _ = Unit {0}
+
+        by-rules : KeptByFront env p IsTrueWord Came Keeps
+        by-rules = record {
+          drops = tt;
+          hears = λ bytes s word. by-segment bytes s (word s refl);
+          fires = λ m. by-timer;
+          takes = λ n epoch m row node e at same. absurd (of-stage RowIsOurs p row (stage.Offering node e) at ours);
+          tags_again = λ n epoch ask m rest found there same some. (refl, tt);
+          assigns_next = λ n epoch ask m rest found there next. absurd (ours-alone n epoch p.row ours there);
+          ends_again = λ n epoch last m row found away again. (refl, tt);
+          ends = λ n epoch last m row found away. absurd (ours-here epoch row.stage (subst RowIsOurs found ours) away);
+          admits = λ choice row b path at target. admits-keep choice row b path at;
+        }
+
+        pub rule-keeps : (g : FrontGets) → IsAsGiven env p g → IsTrueWord g → Keeps (front_rule env p g)
+        rule-keeps g is word = front-keeps env p IsTrueWord Came Keeps by-rules g is word
 
     ends-keep : (from epoch : ℕ) (last : Final) → EndedWithNumbers w was_reset last → Keeps (front_ended env p from epoch last)
     ends-keep from epoch last h = ended-keeps p Keeps tt env from epoch last (λ row found away again. (refl, tt)) (λ row found away. record {
@@ -233,7 +284,7 @@ pub front-hears : FrontHearsTruth
 front-hears env w out vs was_reset p bytes s talk h word = hears-keep env w out vs was_reset talk p h bytes s word
 
 pub timer-keeps : FrontTimerKeeps
-timer-keeps env w out vs was_reset p talk h = timer-keep env w out vs was_reset talk p h
+timer-keeps env w out vs was_reset p talk h = cases.timer-keeps env p (Keeps env w out vs was_reset) (by-timer env w out vs was_reset talk p h)
 
 pub ends-kept : EndsKeep
 ends-kept env w out vs was_reset p from epoch last talk h = ends-keep env w out vs was_reset talk p from epoch last h
@@ -242,4 +293,5 @@ pub admissions-keep : AdmissionsKeep
 admissions-keep env w out vs was_reset p choice talk h = go (front_admitted env p choice) refl where
   go : (o : Option (FrontPart × FrontTurn)) → front_admitted env p choice ≡ o → AdmittedKeeps env.serve.files env.serve.c w out vs was_reset o
   go None e = tt
-  go (Some given) e = admits-keep env w out vs was_reset talk p h choice given e
+  go (Some given) e = admitted-keeps env p choice (λ (g : FrontPart × FrontTurn). Turns env w out vs was_reset g.0 g.1)
+      (λ row b path at target. admits-keep env w out vs was_reset talk p h choice row b path at) given e

@@ -223,18 +223,16 @@ module _ (k : Setting) (small : k.stream ≤ 2 ^ 30) where
 
       -- no node has it
       unopened-stays : (g : NodeGets) → NodeComes x n epoch heads g → Leaves g (node_rule env ours g)
-      unopened-stays (Offered parts) comes = absurd (front-opens x n comes.bytes comes.was unopened)
       unopened-stays (Forwarded given) comes = absurd (front-opens x n comes.came.bytes comes.came.was unopened)
-      unopened-stays (Tagged number nodes) comes = absurd (front-opens x n comes.bytes comes.was unopened)
       unopened-stays (Content from r) comes = λ help. subst (Leaves (Content from r))
           (sym (ap (come_by env from r ours) (nothing-here k.files x none h n env.epoch help.placed.sits)))
           (λ o. unopened-goes k.files x none h (Node n) heads nothing_said tt refl refl refl o (quiet Drops) tt) help
-      unopened-stays Acknowledged comes = absurd (front-opens x n comes.bytes comes.was unopened)
       unopened-stays (Completed r path) comes = λ help. subst (Leaves (Completed r path))
           (sym (ap (node_read_by env r ours) (nothing-here k.files x none h n env.epoch help.placed.sits)))
           (λ o. unopened-goes k.files x none h (Node n) heads (record nothing_said { notes = rec.Read n n x.c r path ∷ [] }) (tt, tt) refl refl refl o
           (quiet Drops) tt) help
       unopened-stays Fires comes = let no : Some comes.station ≡ None = sym comes.there ∙ none in absurd cc
+      unopened-stays g comes = absurd (front-opens x n comes.bytes comes.was unopened)
 
   -- what it does for another node
   for-others : (x : Conn) (n : ℕ) (heads : List Seen) (notes : List Rec) (messages : List (Place × List ℕ)) → Each (IsNoteOf x.c) notes → served_in notes ≡ 0 → bytes_served_in notes ≡ 0 → list_any is_reset_record notes ≡ false

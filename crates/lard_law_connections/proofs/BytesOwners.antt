@@ -1,13 +1,12 @@
 -- Who serves a connection owns it; and what is seen before the notes of a move. So it is of each rule, by where the connection is.
-use Rattle.std.proofs.Common.{◌≡◌, ℕ, ◌+◌, Bool, true, false, cond, List, [], ◌∷◌, ◌++◌, Option, Some, None, Result, Ok, Err, refl, sym, ap, ◌∙◌, subst}
-use Rattle.lard_base.specs.declared.event.Event.TheVariants as event
-use Rattle.lard_law_view.specs.Prelude.{Ask, Client, ClientBlock, ClientRules, Completed, Conn, ControlBlock, EndpointParts, Final, FirstChoice, Front, FrontConn, FrontEnv, FrontPart, FrontRow, FrontRules, FrontTurn, IsNodeEnv, LaterChoice, MayRestOn, Move, Node, NodeEnv, NodeGets, NodePart, NodeRules, Place, Rec, Said, Seen, SegFault, Setting, Station, Stay, Turn, UntouchedRules, Work, ask_of, assigned_notes, came_for, client_begins, client_does, client_rule, come_progress, event_seen, front_admitted, front_asked, front_begun, front_does, front_ended, front_gets, front_rest, front_taken, front_timer, goes_on, hears_at, last_words, named_records, node_does, node_read, node_rule, on_segment, over_note, owner_step, packet_seen, placed, read_progress, reads_first, serving_settled, stands, tagged, taken_sent, tale_at, tombstone, with_work, without, work_of}
+use Rattle.std.proofs.Common.{◌≡◌, ℕ, ◌+◌, Bool, true, false, cond, List, [], ◌∷◌, ◌++◌, Option, Some, None, refl, sym, ap, ◌∙◌, subst}
+use Rattle.lard_law_view.specs.Prelude.{Ask, Client, ClientBlock, ClientRules, Completed, Conn, ControlBlock, EndpointParts, Front, FrontEnv, FrontGets, FrontPart, FrontRow, FrontRules, IsNodeEnv, LaterChoice, MayRestOn, Move, Node, NodeEnv, NodeGets, NodePart, NodeRules, Place, Rec, Said, Seen, Setting, Station, Stay, Turn, UntouchedRules, Work, assigned_notes, came_for, client_begins, client_does, client_rule, come_progress, front_does, front_rest, front_rule, goes_on, last_words, named_records, node_does, node_read, node_rule, on_segment, over_note, owner_step, placed, read_progress, reads_first, serving_settled, stands, tagged, taken_sent, tale_at, tombstone, with_work, without, work_of}
 use Rattle.lard_law_view.proofs.EachClient.{client_seen, each-client, of-client}
+use Rattle.lard_law_view.proofs.EachFront.{admission, each-front, of-front}
 use Rattle.lard_base.specs.declared.place.TimerKind.TheVariants as kind
 use Rattle.lard_law_connections.proofs.BytesLaw.{IsHead, OwnerServes, ServesOwn}
-use Rattle.lard_law_connections.proofs.BytesFrontMoves.{IsBefore}
 use Rattle.lard_law_view.proofs.NodeHeads.{heads-of}
-use Rattle.lard_law_connections.specs.Places.{Owning, Sits, StageSits, owning}
+use Rattle.lard_law_connections.specs.Places.{Owning, Sits, owning}
 use Rattle.lard_law_connections.proofs.PlacesLoops.{came-notes, goes-notes, reads-notes, settled-is, tagged-notes}
 use Rattle.lard_law_connections.proofs.PlacesNodeRules.{Begins, begun-notes, begun_work, has-here, plain-more, took_by}
 use Rattle.lard_law_connections.proofs.PlacesRows.{IsPlain, plain-named}
@@ -23,7 +22,7 @@ use Rattle.lard_journal.specs.declared.rec.Rec.TheVariants as rec
 use Rattle.lard_law_view.proofs.Notes.{same-number}
 use Rattle.lard_rules.specs.Node as node
 use Rattle.lard_rules.proofs.NodeCases.{IsHereWith, IsInItsEpoch, KeptByNode, node-keeps}
-use Rattle.lard_rules.proofs.FrontCases.{KeptBySegment, IsInStage, heard_reading, segment-keeps, timer-keeps, taken-keeps, asked-keeps, ended-keeps, admitted-keeps}
+use Rattle.lard_rules.proofs.FrontCases.{IsAsGiven, IsInStage, KeptByFront, KeptBySegment, front-keeps, heard_reading, of-stage}
 
 -- ---- notes
 
@@ -90,103 +89,75 @@ notes_of front.Drops = []
 notes_of (front.Says turn) = turn.notes
 notes_of (front.Does did) = did.turn.notes
 
-module _ (x : Conn) (heads : List Seen) (quiet : Each IsHead heads) where
+front-known : (x : Conn) (heads : List Seen) → Each IsHead heads → (d : front.FrontDeed)
+    → (Each (NotedAt Front x.c) (notes_of d) → OwnerServes x.c (tale_at x).owner (notes_of d))
+    → IsItsOwn x (front_does x heads d) → Known x (front_does x heads d)
+front-known x heads quiet front.Drops serves own = record { heads = quiet; serves = tt }
+front-known x heads quiet (front.Says turn) serves own = record { heads = quiet; serves = serves own.notes }
+front-known x heads quiet (front.Does did) serves own = record { heads = quiet; serves = serves own.notes }
+
+assigned-silent : (c : ℕ) (ask : Ask) (r : ℕ) (paths : List (List ℕ)) (choices : List LaterChoice) → Each IsSilent (assigned_notes c ask r paths choices)
+assigned-silent c ask r [] choices = tt
+assigned-silent c ask r (path ∷ paths) [] = tt
+assigned-silent c ask r (path ∷ paths) (choice ∷ choices) = (tt, assigned-silent c ask (r + 1) paths choices)
+
+over-silent : (c : ℕ) (b : Bool) (rs : List Rec) → Each IsSilent rs → Each IsSilent (over_note c b ++ rs)
+over-silent c true rs h = (tt, h)
+over-silent c false rs h = h
+
+module _ (x : Conn) (env : FrontEnv) (sits : IsPlaced x) where
+  abbrev p : FrontPart
+  p = x.part.front
+
   abbrev owner_now : Option Place
   owner_now = (tale_at x).owner
 
-  front-known : (d : front.FrontDeed) → OwnerServes x.c owner_now (notes_of d) → Known x (front_does x heads d)
-  front-known front.Drops h = record { heads = quiet; serves = h }
-  front-known (front.Says turn) h = record { heads = quiet; serves = h }
-  front-known (front.Does did) h = record { heads = quiet; serves = h }
+  abbrev FrontServes : front.FrontDeed → Type 0
+  FrontServes d = Each (NotedAt Front x.c) (notes_of d) → OwnerServes x.c owner_now (notes_of d)
 
-  front-noted : (d : front.FrontDeed) → IsItsOwn x (front_does x heads d) → Each (NotedAt Front x.c) (notes_of d)
-  front-noted front.Drops own = tt
-  front-noted (front.Says turn) own = own.notes
-  front-noted (front.Does did) own = own.notes
+  -- it owns what it holds, and what is read and placed notes plain records
+  held-serves : (row : FrontRow) (b : ControlBlock) → IsInStage p row (stage.Held b)
+      → (rs : List Rec) → Each IsPlain rs → Each (NotedAt Front x.c) rs → OwnerServes x.c owner_now rs
+  held-serves row b at rs plain noted = plain-serve Front x.c owner_now rs noted plain
+      (ap (λ (w : Owning). w.owner) (of-stage (Sits (owning (tale_at x)) x.part.nodes) p row (stage.Held b) at sits.sits).0.1.0)
 
-  front-plain : (d : front.FrontDeed) → IsItsOwn x (front_does x heads d) → Each IsPlain (notes_of d) → owner_now ≡ Some Front → Known x (front_does x heads d)
-  front-plain d own plain e = front-known d (plain-serve Front x.c owner_now (notes_of d) (front-noted d own) plain e)
+  words-serve : (o : Option Said) → FrontServes (front.Says (front.turn_here (tombstone env.serve o)))
+  words-serve None noted = tt
+  words-serve (Some q) noted = tt
 
-  -- it owns what it holds
-  home-owner : IsPlaced x → (row : FrontRow) (d : FrontConn) → x.part.front.row ≡ Some row → row.stage ≡ d → IsBefore d → owner_now ≡ Some Front
-  home-owner sits row d found at before = by-stage d at before (subst (Sits (owning (tale_at x)) x.part.nodes) found sits.sits).0 where
-    by-stage : (d : FrontConn) → row.stage ≡ d → IsBefore d → StageSits row.epoch.0 (owning (tale_at x)) x.part.nodes row.stage → owner_now ≡ Some Front
-    by-stage (stage.Held b) at before sits = ap (λ (w : Owning). w.owner) (subst (StageSits row.epoch.0 (owning (tale_at x)) x.part.nodes) at sits).1.0
-    by-stage (stage.Waiting b) at before sits = ap (λ (w : Owning). w.owner) (subst (StageSits row.epoch.0 (owning (tale_at x)) x.part.nodes) at sits).1.0
-    by-stage _ at before sits = absurd before
+  by-segment : (bytes : List ℕ) (s : Said) → KeptBySegment env p bytes s (λ w o. Each IsPlain w.notes) FrontServes
+  by-segment bytes s = record {
+    drops = λ noted. tt;
+    begins = λ none plain noted. (tt, tt);
+    reads = λ row b at. reads-notes (Each IsPlain) plain-more env.serve (heard_reading p b s) tt;
+    holds = λ row b w at plain. held-serves row b at (serving_settled env.serve w).1.notes (subst (Each IsPlain) (sym (settled-is env.serve w).notes) plain);
+    hands = λ row b w path choice at plain is. held-serves row b at (placed env p row (front_rest p.rest) w path (first.Go choice)).turn.notes
+        (plain-more w.notes (rec.Admitted env.serve.c ∷ rec.AssignedFirst env.serve.c (w.count + 1) path choice.node choice.add choice.remove ∷ [])
+        (tt, (tt, tt)) plain);
+    waits = λ row b w path at plain is. held-serves row b at (w.notes ++ rec.Waits env.serve.c ∷ [])
+        (plain-more w.notes (rec.Waits env.serve.c ∷ []) (tt, tt) plain);
+    stays = λ row b at noted. tt;
+    forwards = λ row n e at noted. tt;
+    words = λ row last at. words-serve (last_words last.reason last s);
+  }
 
-  -- what is read and placed notes plain records
-  module _ (env : FrontEnv) where
-    abbrev p : FrontPart
-    p = x.part.front
+  fronts_serve : KeptByFront env p (λ g. Unit {0}) (λ w o. Each IsPlain w.notes) FrontServes
+  fronts_serve = record {
+    drops = λ noted. tt;
+    hears = λ bytes s m. by-segment bytes s;
+    fires = λ m. record { drops = λ noted. tt; holds = λ row b at noted. tt; stays = λ row b at noted. tt; resends = λ row n e at noted. tt };
+    takes = λ n epoch m row node e at same noted. tt;
+    tags_again = λ n epoch ask m rest found there same some noted. tt;
+    assigns_next = λ n epoch ask m rest found there next noted. silent-serve x.c owner_now (front.assigns env p rest n epoch ask (env.later ask)).turn.notes
+        (over-silent env.serve.c (env.later ask).over (assigned_notes env.serve.c ask rest.assigned ask.paths (env.later ask).choices)
+        (assigned-silent env.serve.c ask rest.assigned ask.paths (env.later ask).choices));
+    ends_again = λ n epoch last m row found away again noted. tt;
+    ends = λ n epoch last m row found away noted. (tt, (tt, tt));
+    admits = λ choice row b path at target noted. (tt, (tt, tt));
+  }
 
-    abbrev KnowsIt : front.FrontDeed → Type 0
-    KnowsIt d = IsPlaced x → IsItsOwn x (front_does x heads d) → Known x (front_does x heads d)
-
-    nothing : (d : front.FrontDeed) → notes_of d ≡ [] → KnowsIt d
-    nothing d none sits own = front-known d (subst (OwnerServes x.c owner_now) (sym none) tt)
-
-    -- it is here, and notes what is plain
-    plain-known : (row : FrontRow) (b : ControlBlock) → IsInStage p row (stage.Held b) → (d : front.FrontDeed) → Each IsPlain (notes_of d) → KnowsIt d
-    plain-known row b at d plain sits own = front-plain d own plain (home-owner sits row (stage.Held b) at.0 at.1 tt)
-
-    by-words : (o : Option Said) → KnowsIt (front.Says (front.turn_here (tombstone env.serve o)))
-    by-words None = nothing (front.Says (front.turn_here (tombstone env.serve None))) refl
-    by-words (Some q) = nothing (front.Says (front.turn_here (tombstone env.serve (Some q)))) refl
-
-    by-segment : (bytes : List ℕ) (s : Said) → KeptBySegment env p bytes s (λ w o. Each IsPlain w.notes) KnowsIt
-    by-segment bytes s = record {
-      drops = nothing front.Drops refl;
-      begins = λ none plain sits own. front-known (front_begun env p s) (tt, tt);
-      reads = λ row b at. reads-notes (Each IsPlain) plain-more env.serve (heard_reading p b s) tt;
-      holds = λ row b w at plain. plain-known row b at (front.holds p row (front_rest p.rest) (serving_settled env.serve w)) (subst (Each IsPlain) (sym (settled-is env.serve w).notes) plain);
-      hands = λ row b w path choice at plain is. plain-known row b at (front.Does (placed env p row (front_rest p.rest) w path (first.Go choice)))
-          (plain-more w.notes (rec.Admitted env.serve.c ∷ rec.AssignedFirst env.serve.c (w.count + 1) path choice.node choice.add choice.remove ∷ []) (tt, (tt, tt)) plain);
-      waits = λ row b w path at plain is. plain-known row b at (front.Does (placed env p row (front_rest p.rest) w path first.Waits)) (plain-more w.notes (rec.Waits env.serve.c ∷ []) (tt, tt) plain);
-      stays = λ row b at. nothing (hears_at env p row bytes s (stage.Waiting b)) refl;
-      forwards = λ row n e at. nothing (front.forwarded env n e bytes) refl;
-      words = λ row last at. by-words (last_words last.reason last s);
-    }
-
-    gets-known : (bytes : List ℕ) (r : Result Said SegFault) → KnowsIt (front_gets env p bytes r)
-    gets-known bytes (Err fault) = nothing front.Drops refl
-    gets-known bytes (Ok s) = segment-keeps env p bytes s (λ w o. Each IsPlain w.notes) KnowsIt (by-segment bytes s)
-
-    -- its timers, and what nodes say, serve nothing
-    abbrev NotesNothing : front.FrontDeed → Type 0
-    NotesNothing d = notes_of d ≡ []
-
-    timer-none : notes_of (front_timer env p) ≡ []
-    timer-none = timer-keeps env p NotesNothing (record { drops = refl; holds = λ row b at. refl; stays = λ row b at. refl; resends = λ row n e at. refl })
-
-    taken-none : (epoch : ℕ) → notes_of (front_taken p epoch) ≡ []
-    taken-none epoch = taken-keeps p NotesNothing refl epoch (λ row n e at same. refl)
-
-    abbrev Silent : front.FrontDeed → Type 0
-    Silent d = Each IsSilent (notes_of d)
-
-    assigned-silent : (c : ℕ) (ask : Ask) (r : ℕ) (paths : List (List ℕ)) (choices : List LaterChoice) → Each IsSilent (assigned_notes c ask r paths choices)
-    assigned-silent c ask r [] choices = tt
-    assigned-silent c ask r (path ∷ paths) [] = tt
-    assigned-silent c ask r (path ∷ paths) (choice ∷ choices) = (tt, assigned-silent c ask (r + 1) paths choices)
-
-    over-silent : (c : ℕ) (b : Bool) (rs : List Rec) → Each IsSilent rs → Each IsSilent (over_note c b ++ rs)
-    over-silent c true rs h = (tt, h)
-    over-silent c false rs h = h
-
-    asks-silent : (n epoch : ℕ) (ask : Ask) → Silent (front_asked env p n epoch ask)
-    asks-silent n epoch ask = asked-keeps p Silent tt env n epoch ask (λ rest found there same some. tt) (λ rest found there next.
-        over-silent env.serve.c (env.later ask).over (assigned_notes env.serve.c ask rest.assigned ask.paths (env.later ask).choices) (assigned-silent env.serve.c ask rest.assigned ask.paths (env.later ask).choices))
-
-    ends-silent : (n epoch : ℕ) (last : Final) → Silent (front_ended env p n epoch last)
-    ends-silent n epoch last = ended-keeps p Silent tt env n epoch last (λ row found away again. tt) (λ row found away. (tt, (tt, tt)))
-
-    silent-known : (d : front.FrontDeed) → Silent d → Known x (front_does x heads d)
-    silent-known d h = front-known d (silent-serve x.c owner_now (notes_of d) h)
-
--- who is admitted is served nothing yet
-admitted-silent : (env : FrontEnv) (p : FrontPart) (choice : FirstChoice) (given : FrontPart × FrontTurn) → front_admitted env p choice ≡ Some given → Each IsSilent given.1.notes
-admitted-silent env p choice = admitted-keeps env p choice (λ given. Each IsSilent given.1.notes) (λ row b path at target. (tt, (tt, tt)))
+  front-serves : (g : FrontGets) → IsAsGiven env p g → FrontServes (front_rule env p g)
+  front-serves g is = front-keeps env p (λ g. Unit {0}) (λ w o. Each IsPlain w.notes) FrontServes fronts_serve g is tt
 
 -- ---- a node
 
@@ -283,22 +254,9 @@ module _ (k : Setting) where
   })
 
   fronts : FrontRules k Knows
-  fronts = record {
-    hears = λ x s env bytes there is iss was may own. gets-known x (packet_seen (Client x.c) Front bytes) (tt, tt) env bytes _ may.given own;
-    fires = λ x s env there is may own. nothing x (event_seen (event.Timer Front x.c)) (tt, tt) env (front_timer env x.part.front) (timer-none x (event_seen (event.Timer Front x.c)) (tt, tt) env) may.given own;
-    taken = λ x env n epoch bytes is spells was may own. nothing x (packet_seen (Node n) Front bytes) (tt, tt) env (front_taken x.part.front epoch)
-        (taken-none x (packet_seen (Node n) Front bytes) (tt, tt) env epoch) may.given own;
-    asked = λ x env n epoch number queue size paths bytes is spells was may own. silent-known x (packet_seen (Node n) Front bytes) (tt, tt) env (front_asked env x.part.front n epoch (ask_of x.c n number queue size paths))
-        (asks-silent x (packet_seen (Node n) Front bytes) (tt, tt) env n epoch (ask_of x.c n number queue size paths));
-    ended = λ x env n epoch why snd rcv count bytes is spells was may own.
-        let last : Final = record { reason = why; snd = record { 0 = snd }; rcv = record { 0 = rcv } } in
-        silent-known x (packet_seen (Node n) Front bytes) (tt, tt) env (front_ended env x.part.front n epoch last)
-        (ends-silent x (packet_seen (Node n) Front bytes) (tt, tt) env n epoch last);
-    admitted = λ x env choice given is e may own. record {
-      heads = tt;
-      serves = silent-serve x.c (tale_at x).owner given.1.notes (admitted-silent env x.part.front choice given e);
-    };
-  }
+  fronts = each-front k Knows (λ x env heads g is comes may. front-known x heads
+      (of-front x (Each IsHead) (λ from bytes. (tt, tt)) tt (tt, tt) env heads g comes)
+      (front_rule env x.part.front g) (front-serves x env may.given g (admission x env heads g comes)))
 
   does-known : (x : Conn) (n epoch : ℕ) (env : NodeEnv) (heads : List Seen) (g : NodeGets) → IsNodeEnv k x.c n epoch env → IsInItsEpoch env (x.part.nodes n) g
       → Each IsHead heads → Knows x (node_goes x n env heads g)

@@ -6,9 +6,7 @@ use Rattle.lard_law_connections.proofs.BytesLaw.{IsSeenTrue, IsTrueMove, StaysTr
 use Rattle.lard_law_connections.specs.BytesRecords.{MayServeOwned}
 use Rattle.lard_law_connections.specs.BytesRuns.{ClientsAcceptAnswers, JournalsServeTheAnswers, JournalsTellTheTruth, StatesAreTruthful}
 use Rattle.lard_law_connections.proofs.BytesClientMoves.{clients}
-use Rattle.lard_law_connections.proofs.BytesFrontEnds.{asked-stays, ended-stays}
-use Rattle.lard_law_connections.proofs.BytesFrontMessages.{admitted-stays, taken-stays}
-use Rattle.lard_law_connections.proofs.BytesFrontMoves.{front-fires-stays, front-hears-stays}
+use Rattle.lard_law_connections.proofs.BytesFrontEnds.{fronts}
 use Rattle.lard_law_connections.proofs.BytesNodeRest.{ignores-stays, nodes}
 use Rattle.lard_law_connections.proofs.BytesOwners.{Known, Knows, known}
 use Rattle.lard_law_connections.proofs.PlacesLaw.{owing}
@@ -30,14 +28,7 @@ module _ (k : Setting) (small : k.stream ≤ 2 ^ 30) where
   mine : UntouchedRules k (StaysTruthful k)
   mine = record {
     client = clients k small;
-    front = record {
-      hears = front-hears-stays k small;
-      fires = front-fires-stays k small;
-      taken = taken-stays k small;
-      asked = asked-stays k small;
-      ended = ended-stays k small;
-      admitted = admitted-stays k small;
-    };
+    front = fronts k small;
     node = nodes k small;
     ignores = λ x from to bytes was. ignores-stays k small x from to bytes was.0;
   }

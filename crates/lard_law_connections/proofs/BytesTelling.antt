@@ -1,5 +1,5 @@
 -- What a move tells of its connection, list by list, is true.
-use Rattle.std.proofs.Common.{◌≡◌, ◌⊎◌, ℕ, Bool, true, false, List, [], ◌∷◌, ◌++◌, map, Some, inl, inr, sym, ap, ◌∙◌, subst, arith}
+use Rattle.std.proofs.Common.{◌≡◌, ◌⊎◌, ℕ, Bool, true, false, List, [], ◌∷◌, map, Some, inl, inr, sym, ap, ◌∙◌, subst, arith}
 use Rattle.lard_law_view.specs.Prelude.{AreClientNotes, AreReplies, Client, EachRow, FilesAt, Front, GoesBetween, IsMachine, MayTell, Node, Place, Rec, SaysAnswers, Seen, Stream, Tale, Verdict, fin_sent, owner, served_in, tale, tale_step, told_on}
 use Rattle.lard_law_connections.proofs.BytesLaw.{IsHead, IsSeenTrue, OwnerServes, heads-stand}
 use Rattle.lard_law_connections.specs.BytesRecords.{IsOwnedTrueAfter, MayServeOwned}

@@ -1,7 +1,7 @@
 -- What the front end does leaves a connection counted.
 use Rattle.std.proofs.Common.{◌≡◌, ◌≤◌, ◌+◌, ◌^◌, ℕ, Bool, true, false, List, [], ◌∷◌, ◌++◌, map, Option, Some, None, inr, refl, sym, ◌∙◌, subst}
 use Rattle.std.proofs.lemmas.List.Sums.{fold-append}
-use Rattle.lard_law_view.specs.Prelude.{AreSent, Ask, BackConn, BackRow, Call, Client, Conn, ControlBlock, Ending, First, FirstChoice, Front, FrontConn, FrontDeed, FrontEnv, FrontGets, FrontPart, FrontRest, FrontRow, IsConnSound, IsControlBlock, IsFrontEnv, Kept, Later, LaterChoice, Move, Node, NodePart, Part, Place, Rec, Said as Segment, Seen, Service, Setting, Turn, ack_sent, after_timer, assigned_notes, assigns, front_begun, front_does, front_ends, front_reads, front_rest, front_rule, front_saying, holds, last_words, leaves_by, letter, may_freeze, next_epoch, on_segment, over_note, sent_of, serving, serving_settled, spoken, stage_after, tag_sent, taken_by, tale_at, timed, tombstone, turn_here, waits_on}
+use Rattle.lard_law_view.specs.Prelude.{AreSent, Ask, BackConn, BackRow, Call, Client, Conn, ControlBlock, Ending, FirstChoice, Front, FrontConn, FrontDeed, FrontEnv, FrontGets, FrontPart, FrontRest, FrontRow, IsConnSound, IsControlBlock, IsFrontEnv, Kept, Later, LaterChoice, Move, Node, NodePart, Part, Place, Rec, Said as Segment, Seen, Service, Setting, Turn, ack_sent, after_timer, assigned_notes, assigns, front_begun, front_does, front_ends, front_reads, front_rest, front_rule, front_saying, holds, last_words, leaves_by, letter, may_freeze, next_epoch, on_segment, over_note, sent_of, serving, serving_settled, spoken, stage_after, tag_sent, taken_by, tale_at, timed, tombstone, turn_here, waits_on}
 use Rattle.lard_law_connections.specs.LimitsCounts.{BackCounts, IsWithinStream, EndpointCounts, FrontCounts, FrontStageCounts, LetterCounts, Served, served_by_tale}
 use Rattle.lard_law_connections.proofs.LimitsMoves.{IsLimited, MoveCounts, client-letters, idle-counts, other-letter}
 use Rattle.lard_law_connections.proofs.LimitsOffers.{offer-counts}

@@ -1,6 +1,6 @@
 -- The calls of the dispatcher that a step of the front end makes: they may be made, close no node, and name connections where its notes
 -- do.
-use Rattle.std.proofs.Common.{◌≡◌, ℕ, ◌+◌, ◌≤◌, Bool, true, false, List, [], ◌∷◌, ◌++◌, length, Option, Some, None, Result, Ok, Err, arith, refl, sym, ap, ◌∙◌, subst}
+use Rattle.std.proofs.Common.{◌≡◌, ℕ, ◌≤◌, Bool, true, false, List, [], ◌∷◌, ◌++◌, length, Option, Some, None, Result, Ok, Err, arith, refl, sym, ap, ◌∙◌, subst}
 use Rattle.std.specs.List.{AllByRecursion}
 use Rattle.lard_law_connections.proofs.PolicyNumbers.{IsNumbered}
 use Rattle.lard_law_view.specs.Prelude.{AreAllowed, Ask, Body, Call, ClosesNone, Did, Dispatcher, Ending, Final, FirstChoice, FrontDeed, FrontEnv, FrontIn, FrontPart, FrontRest, FrontSetting, FrontState, FrontTurn, IsCallInRange, IsFrontSound, IsOfTable, Later, LaterChoice, Message, MsgFault, Out, Rec, Said, SegFault, ToCluster, Turn, admits, admits_too, after_calls, ask_of, assigned_notes, assigns, decoded, decoded_message, dispatch_standing, ended_answer, ended_deed, front_admitted, front_asked, front_deed, front_ended, front_ends, front_env, front_fired, front_gets, front_part, front_rest, front_step, front_taken, front_timer, front_told, leaves_by, message_comes, next_epoch, over_note, put_back, serving_settled, spoken}

@@ -1,20 +1,17 @@
--- What messages of nodes, and an admission, do to how a connection stands at the front end.
-use Rattle.std.proofs.Common.{◌≡◌, ℕ, ◌+◌, Bool, true, false, List, [], ◌∷◌, ◌++◌, Some, arith, refl, sym, subst}
-use Rattle.lard_base.specs.declared.place.Place.TheVariants as place
-use Rattle.lard_law_connections.proofs.LineFronts.{Counts, DeedStands, RowStands, StageStands}
-use Rattle.lard_law_connections.proofs.LineStands.{IsSame, Stand, all-same, stand_behind}
-use Rattle.lard_law_view.specs.Prelude.{Ask, Final, FirstChoice, FrontConn, FrontEnv, FrontPart, FrontRest, FrontTurn, Later, LaterChoice, Rec, assigned_notes, assigns, front_admitted, front_asked, front_ended, front_taken, is_away, over_note}
-use Rattle.lard_rules.specs.Front.{Does}
+-- What timers and messages of nodes, and an admission, do to how a connection stands at the front end.
+use Rattle.std.proofs.Common.{◌≡◌, ℕ, ◌+◌, Bool, true, false, List, [], ◌∷◌, ◌++◌, Option, Some, None, arith, refl, sym, ap, ◌∙◌, subst}
+use Rattle.lard_law_connections.proofs.LineFronts.{Counts, DeedStands, RowStands, StageStands, by-timer}
+use Rattle.lard_law_connections.proofs.LineStands.{IsSame, Stand, all-same}
+use Rattle.lard_law_view.specs.Prelude.{Ask, FrontAdmits, FrontConn, FrontEnv, FrontGets, FrontHears, FrontPart, FrontRest, FrontRow, Later, LaterChoice, Rec, admitted_by, assigned_notes, assigns, front_rule, is_away, over_note}
+use Rattle.lard_rules.specs.Front.{Drops, Does}
 use Rattle.lard_handoff_front.specs.declared.row.FrontConn.TheVariants as stage
 use Rattle.lard_history.proofs.Each.{Each, Each-append}
-use Rattle.lard_rules.proofs.FrontCases.{of-stage, taken-keeps, asked-keeps, ended-keeps, admitted-keeps}
+use Rattle.lard_rules.proofs.FrontCases.{IsAsGiven, KeptByFront, front-keeps, of-stage}
 
--- ---- a Taken
-
-pub taken-stands : (c : ℕ) (s : Stand) (p : FrontPart) (epoch : ℕ) → RowStands s p.row → DeedStands c s p (front_taken p epoch)
-taken-stands c s p epoch h = taken-keeps p (λ d. DeedStands c s p d) h epoch (λ row n e at same. of-stage (RowStands s) p row (stage.Offering n e) at h)
-
--- ---- an Ask
+-- anything but a segment
+abbrev pub IsNoSegment : FrontGets → Type 0
+IsNoSegment (FrontHears bytes given) = ⊥
+IsNoSegment _ = Unit {0}
 
 over-same : (c d : ℕ) (over : Bool) → Each (IsSame c) (over_note d over)
 over-same c d true = ((λ s. refl), tt)
@@ -35,24 +32,30 @@ module _ (env : FrontEnv) (p : FrontPart) (s : Stand) (h : RowStands s p.row) wh
       subst (λ (t : Stand). RowStands t p.row)
       (sym (all-same c s notes (Each-append (IsSame c) (over_note c l.over) (assigned_notes c ask rest.assigned ask.paths l.choices) (over-same c c l.over) (assigned-same c c ask rest.assigned ask.paths l.choices)))) h
 
-  pub asked-stands : (from epoch : ℕ) (ask : Ask) → DeedStands c s p (front_asked env p from epoch ask)
-  asked-stands from epoch ask = asked-keeps p (λ d. DeedStands c s p d) h env from epoch ask (λ rest found there same some. h) (λ rest found there next. assigns-stands rest from epoch ask (env.later ask))
-
-  -- ---- an end
-
   pub away-counts : (epoch : ℕ) (at : FrontConn) → is_away epoch at ≡ true → StageStands s at → Counts s false 1 true
   away-counts epoch (stage.Offering n e) is k = k
   away-counts epoch (stage.Moved n e) is k = k
   away-counts epoch _ is k = let no : false ≡ true = is in absurd cc
 
-  pub ended-stands : (from epoch : ℕ) (last : Final) → DeedStands c s p (front_ended env p from epoch last)
-  ended-stands from epoch last = ended-keeps p (λ d. DeedStands c s p d) h env from epoch last (λ row found away again. h) (λ row found away.
-      let was : Counts s false 1 true = away-counts epoch row.stage away (subst (RowStands s) found h) in record { waits_is = was.waits_is; times = was.times; inside_is = refl })
+  by-rules : KeptByFront env p IsNoSegment (λ w o. Unit {0}) (DeedStands c s p)
+  by-rules = record {
+    drops = h;
+    hears = λ bytes said no. absurd no;
+    fires = λ m. by-timer env p s h;
+    takes = λ n epoch m row node e at same. of-stage (RowStands s) p row (stage.Offering node e) at h;
+    tags_again = λ n epoch ask m rest found there same some. h;
+    assigns_next = λ n epoch ask m rest found there next. assigns-stands rest n epoch ask (env.later ask);
+    ends_again = λ n epoch last m row found away again. h;
+    ends = λ n epoch last m row found away. let was : Counts s false 1 true = away-counts epoch row.stage away (subst (RowStands s) found h) in
+        record { waits_is = was.waits_is; times = was.times; inside_is = refl };
+    admits = λ choice row b path at target. record { waits_is = refl; times = omega arith; inside_is = refl };
+  }
 
-  -- ---- an admission
+  pub rule-stands : (g : FrontGets) → IsNoSegment g → IsAsGiven env p g → DeedStands c s p (front_rule env p g)
+  rule-stands g other is = front-keeps env p IsNoSegment (λ w o. Unit {0}) (DeedStands c s p) by-rules g is other
 
-  abbrev Stands : FrontPart × FrontTurn → Type 0
-  Stands x = RowStands (stand_behind c place.Front s x.1.notes x.1.segments) x.0.row
-
-  pub admitted-stands : (choice : FirstChoice) (given : FrontPart × FrontTurn) → front_admitted env p choice ≡ Some given → RowStands (stand_behind c place.Front s given.1.notes given.1.segments) given.0.row
-  admitted-stands choice = admitted-keeps env p choice Stands (λ row b path at target. record { waits_is = refl; times = omega arith; inside_is = refl })
+-- where no connection began, nothing else is done
+pub none-drops : (env : FrontEnv) (p : FrontPart) (g : FrontGets) → IsNoSegment g → IsAsGiven env p g → p.row ≡ None → front_rule env p g ≡ Drops
+none-drops env p (FrontHears bytes given) other is none = absurd other
+none-drops env p (FrontAdmits choice given) other is none = let same : None ≡ Some given = sym (ap (admitted_by env p choice) none) ∙ is in absurd cc
+none-drops env p g other is none = ap (λ (o : Option FrontRow). front_rule env (record p { row = o }) g) none

@@ -9,16 +9,16 @@ use Rattle.lard_law_connections.proofs.LineHolding.{EndsHeld, EndsWaiting, HasRe
 use Rattle.lard_law_connections.proofs.LineSpeaking.{IsSound, IsTold, heard_by, speaks-spoken, timer-spoken, told-on}
 use Rattle.lard_law_connections.proofs.LineStands.{IsAlike, IsSame, Stand, all-same, front-behind, row_step, sends-alike, stand_behind}
 use Rattle.lard_law_connections.specs.Line.{leaves}
-use Rattle.lard_law_view.specs.Prelude.{ControlBlock, Ending, Final, First, FrontConn, FrontDeed, FrontEnv, FrontPart, FrontRest, FrontRow, MayMove, Reading, Rec, Said, SegFault, Service, Turn, after_timer, emitted, fires_at, front_begun, front_fired, front_fired_by, front_gets, front_hears, front_reads, front_rest, front_timer, hears_at, holds, is_plain_syn, last_words, listening, may_freeze, next_piece, on_segment, placed, serving, serving_settled, settled_by, speaks, spoken, stage_after, timed, tombstone, waits_on}
+use Rattle.lard_law_view.specs.Prelude.{ControlBlock, Ending, Final, First, FrontConn, FrontDeed, FrontEnv, FrontPart, FrontRest, FrontRow, MayMove, Reading, Rec, Said, SegFault, Service, Turn, after_timer, emitted, front_begun, front_fired, front_gets, front_hears, front_reads, front_rest, hears_at, holds, is_plain_syn, last_words, listening, may_freeze, next_piece, on_segment, placed, serving, serving_settled, settled_by, speaks, spoken, stage_after, tombstone, waits_on}
 use Rattle.lard_dispatch.specs.declared.dispatch.First.TheVariants as first
 use Rattle.lard_endpoint.proofs.Silence.{emit-none}
 use Rattle.lard_endpoint.proofs.Sound.{on_segment-sound}
 use Rattle.lard_rules.specs.Front.{Drops, Says, Does}
+use Rattle.lard_rules.proofs.FrontCases.{KeptByTimer, fired_before, fired_service, of-stage}
 use Rattle.lard_handoff_front.specs.declared.row.FrontConn.TheVariants as stage
 use Rattle.lard_history.proofs.Each.{Each}
 use Rattle.lard_journal.specs.declared.rec.Rec.TheVariants as rec
 use Rattle.lard_rules.specs.declared.places.Ending.TheVariants as ending
-use Rattle.lard_rules.specs.Serving as serve
 
 -- ---- how a connection stands, by its stage
 
@@ -257,24 +257,18 @@ module _ (env : FrontEnv) (small : env.serve.stream ≤ 2 ^ 30) (number : env.is
 
 -- ---- timers
 
-module _ (env : FrontEnv) (p : FrontPart) (s : Stand) where
+module _ (env : FrontEnv) (p : FrontPart) (s : Stand) (h : RowStands s p.row) where
   abbrev here : ℕ
   here = env.serve.c
 
-  fires-stands : (row : FrontRow) (at : FrontConn) → row.stage ≡ at → p.row ≡ Some row → StageStands s at → DeedStands here s p (fires_at env p row at)
-  fires-stands row (stage.Held b) is found h =
-      let w : Service = serving (after_timer b) (front_rest p.rest).count [] in
-      holds-stands here s [] (front_fired env (front_rest p.rest) b)
-      (held-ends here s.told w b (serve.serving_ready_of env.serve (after_timer b) (timed b) ++ (speaks here (after_timer b)).0, (speaks here (after_timer b)).1) h.1.open_ (timer-spoken env.serve s.told b h.1.sound h.1.told_is)) h.0
-  fires-stands row (stage.Waiting b) is found h =
-      let w : Service = serving (after_timer b) (front_rest p.rest).count [] in
-      waits-stands here s [] (front_fired env (front_rest p.rest) b)
-      (waiting-ends here s.told w b (serve.serving_ready_of env.serve (after_timer b) (timed b) ++ (speaks here (after_timer b)).0, (speaks here (after_timer b)).1) h.1.held.open_ h.1.freezes
-      (timer-spoken env.serve s.told b h.1.held.sound h.1.held.told_is)) h.0
-  fires-stands row _ is found h = subst (RowStands s) (sym found) (subst (StageStands s) (sym is) h)
-
-  pub timer-stands : RowStands s p.row → DeedStands here s p (front_timer env p)
-  timer-stands h = go p.row refl h where
-    go : (o : Option FrontRow) → p.row ≡ o → RowStands s o → DeedStands here s p (front_fired_by env p o)
-    go None e k = h
-    go (Some row) e k = fires-stands row row.stage refl e k
+  pub by-timer : KeptByTimer env p (DeedStands here s p)
+  by-timer = record {
+    drops = h;
+    holds = λ row b at. let k = of-stage (RowStands s) p row (stage.Held b) at h in holds-stands here s [] (front_fired env (front_rest p.rest) b)
+        (held-ends here s.told (fired_service p b) b (fired_before env b ++ (speaks here (after_timer b)).0, (speaks here (after_timer b)).1) k.1.open_
+        (timer-spoken env.serve s.told b k.1.sound k.1.told_is)) k.0;
+    stays = λ row b at. let k = of-stage (RowStands s) p row (stage.Waiting b) at h in waits-stands here s [] (front_fired env (front_rest p.rest) b)
+        (waiting-ends here s.told (fired_service p b) b (fired_before env b ++ (speaks here (after_timer b)).0, (speaks here (after_timer b)).1)
+        k.1.held.open_ k.1.freezes (timer-spoken env.serve s.told b k.1.held.sound k.1.held.told_is)) k.0;
+    resends = λ row n e at. h;
+  }

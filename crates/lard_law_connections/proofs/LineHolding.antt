@@ -3,7 +3,7 @@ use Rattle.std.proofs.Common.{◌≡◌, ◌⊎◌, ℕ, zero, suc, ◌+◌, ◌
 use Rattle.std.proofs.lemmas.Bool.{and_parts, cond_both, ltb-false}
 use Rattle.std.proofs.lemmas.Bool.Decides.{nat_tests}
 use Rattle.std.proofs.lemmas.List.{length-drop}
-use Rattle.lard_law_view.specs.Prelude.{Client, ControlBlock, Ending, Found, MayMove, Place, Reading, Ready, Rec, Received, Said, ServeEnv, Service, Step, Turn, Verdict, advanced, answer, answer_code, answered, block_at, closed_behind, closes, consuming, cut_of, discarding_on, emitted, end_reason, ended_at_fin, final_of, finishing, front_reads, good_path, is_clear, is_closed, limit_said, may_end, may_freeze, may_read, next_piece, one_if, owed_ready, owes, queued, queueing, rcv_nxt, rcv_wnd, reading_left, reading_turn, reads_block, reads_found, ready_of, rested, runs_on, seg_len, serving_consumed, serving_settled, serving_told, speaks, speaks_symbols, spoken, symbols, targeted, with_service}
+use Rattle.lard_law_view.specs.Prelude.{Client, ControlBlock, Ending, Found, MayMove, Place, Reading, Ready, Rec, Received, Said, ServeEnv, Service, Step, Turn, Verdict, advanced, answer, answer_code, answered, block_at, closed_behind, closes, consuming, cut_of, discarding_on, emitted, end_reason, ended_at_fin, final_of, finishing, front_reads, good_path, is_clear, is_closed, limit_said, may_end, may_freeze, may_read, next_piece, one_if, owed_ready, owes, queueing, rcv_nxt, rcv_wnd, reading_left, reading_turn, reads_block, reads_found, ready_of, rested, runs_on, seg_len, serving_consumed, serving_settled, serving_told, speaks, speaks_symbols, spoken, symbols, targeted, with_service}
 use Rattle.lard_base.specs.declared.place.Reason.TheVariants.{Limit}
 use Rattle.lard_base.specs.declared.place.Via.TheVariants.{Own}
 use Rattle.lard_block.specs.declared.block.Found.TheVariants as found

@@ -1,11 +1,12 @@
 -- Each rule leaves a connection standing as its stage at the front end says.
-use Rattle.std.proofs.Common.{◌≡◌, ℕ, ◌^◌, ◌<◌, ◌≤◌, List, [], ◌∷◌, ◌++◌, map, true, false, cond, Option, Some, None, refl, sym, ap, ◌∙◌, subst, arith}
+use Rattle.std.proofs.Common.{◌≡◌, ℕ, ◌^◌, ◌<◌, ◌≤◌, List, [], ◌∷◌, ◌++◌, map, true, false, Option, Some, None, Result, refl, sym, ap, ◌∙◌, subst, arith}
 use Rattle.std.specs.List.{fold}
 use Rattle.lard_base.specs.declared.event.Event.TheVariants as event
-use Rattle.lard_law_view.specs.Prelude.{Client, ClientBlock, ClientRules, Conn, Front, FrontConn, FrontEnv, FrontPart, FrontRow, FrontRules, HasRule, IsFrontEnv, IsLaw, IsUnheard, MayRestOn, Move, Node, NodeRules, Place, Rec, Rules, Seen, Setting, Station, ToCluster, Turn, TurnSaid, admitted_by, ask_of, asked_by, asked_node, blank_conn, client_begins, client_does, client_injects, client_rule, decoded, end_answer, event_seen, front_asked, front_does, front_ended, front_ended_by, front_gets, front_taken, front_timer, grown, inject_seen, is_row_at, node_does, nothing_said, packet_seen, stands, taken_by, tale_at, timer_rows}
+use Rattle.lard_law_view.specs.Prelude.{AskedBy, Client, ClientBlock, ClientRules, Conn, EndedBy, Front, FrontConn, FrontEnv, FrontGets, FrontHears, FrontPart, FrontRow, FrontRules, HasRule, IsFrontEnv, IsLaw, IsUnheard, MayRestOn, Move, Node, NodeRules, Place, Rec, Rules, Said, SegFault, Seen, Setting, Station, ToCluster, Turn, TurnSaid, blank_conn, client_begins, client_does, client_injects, client_rule, decoded, front_does, front_gets, front_rule, grown, inject_seen, node_does, nothing_said, packet_seen, stands, tale_at, timer_rows}
 use Rattle.lard_law_view.proofs.EachClient.{client_goes, client_seen, each-client, of-client}
-use Rattle.lard_law_connections.proofs.LineFrontMessages.{admitted-stands, asked-stands, ended-stands, taken-stands}
-use Rattle.lard_law_connections.proofs.LineFronts.{DeedStands, RowStands, StageStands, came-out, came_so, counts-alike, gets-stands, timer-stands}
+use Rattle.lard_law_view.proofs.EachFront.{FrontComes, admission, each-front}
+use Rattle.lard_law_connections.proofs.LineFrontMessages.{IsNoSegment, none-drops, rule-stands}
+use Rattle.lard_law_connections.proofs.LineFronts.{DeedStands, RowStands, StageStands, came-out, came_so, counts-alike, gets-stands}
 use Rattle.lard_law_view.proofs.NodeHeads.{of-aside, of-heads}
 use Rattle.lard_law_connections.proofs.LineStands.{IsAlike, IsElsewhere, Stand, all-same, came_stand, client-behind, node-behind, notes-same, row_step, sends-alike, stand-grown, stand_at, stand_before, stand_behind, stand_step}
 use Rattle.lard_law_connections.specs.Places.{Owning, Sits, StageSits, owning}
@@ -214,42 +215,42 @@ module _ (k : Setting) (small : k.stream ≤ 2 ^ 30) where
         (of-client x.c (λ heads. fold (stand_step x.c) (stand_at x) heads ≡ stand_at x) (λ from bytes. refl) (λ e. refl) g) there);
   })
 
-  -- the rule is one of this connection
-  by-front : (x : Conn) (env : FrontEnv) → IsFrontEnv k x.c env → (heads : List Seen) (d : front.FrontDeed) → (IsLined x → x.part.station ≡ None → d ≡ front.Drops)
-      → (IsLined x → DeedStands env.serve.c (fold (stand_step x.c) (stand_at x) heads) x.part.front d) → Lines x (front_does x heads d)
-  by-front x env is heads d none stood own owes placed h =
-      front-lined x heads d none (λ h. subst (λ (c : ℕ). DeedStands c (fold (stand_step x.c) (stand_at x) heads) x.part.front d) is.number (stood h)) own h
-
-  small-in : (c : ℕ) (env : FrontEnv) → IsFrontEnv k c env → env.serve.stream ≤ 2 ^ 30
-  small-in c env is = subst (λ (n : ℕ). n ≤ 2 ^ 30) (sym is.stream) small
-
-  known : (x : Conn) (s : Station) (d : front.FrontDeed) → x.part.station ≡ Some s → x.part.station ≡ None → d ≡ front.Drops
-  known x s d there e = let no : Some s ≡ None = sym there ∙ e in absurd cc
-
-  fronts : FrontRules k Lines
-  fronts = record {
-    hears = λ x s env bytes there is iss was. by-front x env is (packet_seen (Client x.c) Front bytes) (front_gets env x.part.front bytes (decoded bytes x.c ToCluster))
-        (λ h. known x s (front_gets env x.part.front bytes (decoded bytes x.c ToCluster)) there)
-        (λ h. gets-stands env (small-in x.c env is) (subst (λ (n : ℕ). n < 2 ^ 32) (sym iss) (h.number s there)) x.part.front (stand_at x) bytes (decoded bytes x.c ToCluster) h.stands);
-    fires = λ x s env there is. by-front x env is (event_seen (event.Timer Front x.c)) (front_timer env x.part.front) (λ h. known x s (front_timer env x.part.front) there)
-        (λ h. timer-stands env x.part.front (stand_at x) h.stands);
-    taken = λ x env n epoch bytes is spells was. by-front x env is (packet_seen (Node n) Front bytes) (front_taken x.part.front epoch)
-        (λ h e. ap (λ (o : Option FrontRow). taken_by x.part.front epoch o (asked_node epoch o)) (h.opened e))
-        (λ h. taken-stands env.serve.c (stand_at x) x.part.front epoch h.stands);
-    asked = λ x env n epoch number queue size paths bytes is spells was. by-front x env is (packet_seen (Node n) Front bytes) (front_asked env x.part.front n epoch (ask_of x.c n number queue size paths))
-        (λ h e. ap (λ (o : Option FrontRow). cond (is_row_at n epoch o) (asked_by env x.part.front n epoch (ask_of x.c n number queue size paths) x.part.front.rest) front.Drops) (h.opened e))
-        (λ h. asked-stands env x.part.front (stand_at x) h.stands n epoch (ask_of x.c n number queue size paths));
-    ended = λ x env n epoch reason snd rcv count bytes is spells was. by-front x env is (packet_seen (Node n) Front bytes) (front_ended env x.part.front n epoch (record { reason = reason; snd = record { 0 = snd }; rcv = record { 0 = rcv } }))
-        (λ h e. ap (λ (o : Option FrontRow). front_ended_by env x.part.front n epoch (record { reason = reason; snd = record { 0 = snd }; rcv = record { 0 = rcv } }) o (end_answer epoch o)) (h.opened e))
-        (λ h. ended-stands env x.part.front (stand_at x) h.stands n epoch (record { reason = reason; snd = record { 0 = snd }; rcv = record { 0 = rcv } }));
-    admitted = λ x env choice given is e. by-front x env is [] (front.Does (record { part = given.0; turn = given.1; calls = [] }))
-        (λ h none. let no : None ≡ Some given = sym (ap (admitted_by env x.part.front choice) (h.opened none)) ∙ e in absurd cc)
-        (λ h. admitted-stands env x.part.front (stand_at x) h.stands choice given e);
-  }
-
   -- it stands behind what is seen first as before
   abbrev StandsAs : Conn → List Seen → Type 0
   StandsAs x heads = fold (stand_step x.c) (stand_at x) heads ≡ stand_at x
+
+  -- behind what is seen first, which tells of it where it is a segment
+  seen-stands : (x : Conn) (env : FrontEnv) (heads : List Seen) (g : FrontGets) → IsNoSegment g → FrontComes x env heads g → StandsAs x heads
+  seen-stands x env heads (FrontHears bytes given) other comes = absurd other
+  seen-stands x env heads (AskedBy n epoch ask) other comes = ap (fold (stand_step x.c) (stand_at x)) comes.told.seen
+  seen-stands x env heads (EndedBy n epoch last) other comes = ap (fold (stand_step x.c) (stand_at x)) comes.told.seen
+  seen-stands x env heads g other comes = ap (fold (stand_step x.c) (stand_at x)) comes.seen
+
+  front-stands : (x : Conn) (env : FrontEnv) (heads : List Seen) (g : FrontGets) → IsFrontEnv k x.c env → FrontComes x env heads g → IsLined x
+      → DeedStands env.serve.c (fold (stand_step x.c) (stand_at x) heads) x.part.front (front_rule env x.part.front g)
+  front-stands x env heads (FrontHears bytes given) is comes h =
+      let came : ◌≡◌ {A = List Seen × Result Said SegFault} (packet_seen (Client x.c) Front bytes, decoded bytes x.c ToCluster) (heads, given) =
+      λ i. (sym comes.seen i, sym comes.read i) in
+      subst (λ (q : List Seen × Result Said SegFault).
+      DeedStands env.serve.c (fold (stand_step x.c) (stand_at x) q.0) x.part.front (front_gets env x.part.front bytes q.1)) came
+      (gets-stands env (subst (λ (n : ℕ). n ≤ 2 ^ 30) (sym is.stream) small)
+      (subst (λ (n : ℕ). n < 2 ^ 32) (sym comes.iss_is) (h.number comes.station comes.there))
+      x.part.front (stand_at x) bytes (decoded bytes x.c ToCluster) h.stands)
+  front-stands x env heads g is comes h =
+      subst (λ (s : Stand). DeedStands env.serve.c s x.part.front (front_rule env x.part.front g)) (sym (seen-stands x env heads g tt comes))
+      (rule-stands env x.part.front (stand_at x) h.stands g tt (admission x env heads g comes))
+
+  -- where its client did not open, nothing is done
+  unopened-drops : (x : Conn) (env : FrontEnv) (heads : List Seen) (g : FrontGets) → FrontComes x env heads g → IsLined x → x.part.station ≡ None
+      → front_rule env x.part.front g ≡ front.Drops
+  unopened-drops x env heads (FrontHears bytes given) comes h none = let no : Some comes.station ≡ None = sym comes.there ∙ none in absurd cc
+  unopened-drops x env heads g comes h none = none-drops env x.part.front g tt (admission x env heads g comes) (h.opened none)
+
+  fronts : FrontRules k Lines
+  fronts = each-front k Lines (λ x env heads g is comes own owes placed. front-lined x heads (front_rule env x.part.front g)
+      (unopened-drops x env heads g comes)
+      (λ h. subst (λ (c : ℕ). DeedStands c (fold (stand_step x.c) (stand_at x) heads) x.part.front (front_rule env x.part.front g)) is.number
+      (front-stands x env heads g is comes h)) own)
 
   by-node : (x : Conn) (n : ℕ) (rs : List Rec) (heads : List Seen) (d : node.NodeDeed) → StandsAs x heads → Lines x (told_first rs (node_does x n heads d))
   by-node x n rs heads d same = aside x (told_first rs (node_does x n heads d))

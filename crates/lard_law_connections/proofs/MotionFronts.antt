@@ -4,7 +4,7 @@ use Rattle.std.proofs.lemmas.Bool.{both_ways, cond_both}
 use Rattle.std.proofs.lemmas.List.Folds.{list_any-append}
 use Rattle.std.proofs.lemmas.List.Sums.{fold-append}
 use Rattle.std.specs.List.{fold}
-use Rattle.lard_law_view.specs.Prelude.{Ask, BackRow, Call, Client, Conn, ControlBlock, Did, Ending, Epoch, Final, First, FirstChoice, Front, FrontConn, FrontDeed, FrontEnv, FrontPart, FrontRest, FrontRow, FrontTurn, IsEarlyHere, IsFrontEnv, Later, Move, Node, NodePart, Place, Reading, Rec, Said as Segment, Seen, Service, Setting, Turn, ack_sent, after_timer, assigned_notes, assigns, by_front, end_answer, ended_with, front_admitted, front_asked, front_begun, front_does, front_ended, front_ended_by, front_ends, front_fired, front_hears, front_reads, front_rest, front_rests, front_saying, front_taken, front_timer, handed_off, heard, hears_at, is_away, is_plain_syn, last_words, leaves_by, letter, letters_of, listed, listening, met, next_epoch, on_segment, over_note, placed, seen_in, sent_of, serving, serving_settled, settled_by, spoken, stage_after, tag_sent, taken_by, tale_at, timed, tombstone, turn_here, with_front, without}
+use Rattle.lard_law_view.specs.Prelude.{Ask, BackRow, Call, Client, Conn, ControlBlock, Did, EndedBy, Ending, Epoch, Final, First, FirstChoice, Front, FrontConn, FrontDeed, FrontEnv, FrontGets, FrontHears, FrontPart, FrontRest, FrontRow, FrontTurn, IsEarlyHere, IsFrontEnv, Later, Move, Node, NodePart, Place, Reading, Rec, Said as Segment, Seen, Service, Setting, Turn, ack_sent, after_timer, assigned_notes, assigns, by_front, end_answer, ended_with, front_begun, front_does, front_ended, front_ended_by, front_ends, front_fired, front_hears, front_reads, front_rest, front_rests, front_rule, front_saying, handed_off, heard, hears_at, is_away, is_plain_syn, last_words, leaves_by, letter, letters_of, listed, listening, met, next_epoch, on_segment, over_note, placed, seen_in, sent_of, serving, serving_settled, settled_by, spoken, stage_after, tag_sent, taken_by, tale_at, timed, tombstone, turn_here, with_front, without}
 use Rattle.lard_base.specs.declared.place.TimerKind.TheVariants as timer
 use Rattle.lard_law_connections.specs.Motion.{IsHandedOff, first_end, first_syn, first_takes, forwards_by, forwards_of, later_takes}
 use Rattle.lard_law_connections.specs.MotionStory.{Story, first_node, forward_to, front_gave_epoch, front_took, is_among, row_step, story, to_node}
@@ -27,7 +27,13 @@ use Rattle.lard_message.specs.declared.message.Body.TheVariants as body
 use Rattle.lard_rules.specs.declared.places.Ending.TheVariants as ending
 use Rattle.lard_law_view.proofs.EndpointSends.{AllTo, ready-to}
 use Rattle.lard_law_connections.proofs.MotionComings.{assigned-still, over-still, Heads, answers-still, behind_heads, forwarded-is, not-forwarded, resent-none, row-behind, without-kept}
-use Rattle.lard_rules.proofs.FrontCases.{IsInStage, of-stage, fired_before, fired_service, timer-keeps, taken-keeps, asked-keeps, admitted-keeps}
+use Rattle.lard_rules.proofs.FrontCases.{IsAsGiven, IsInStage, KeptByFront, front-keeps, of-stage, fired_before, fired_service}
+
+-- anything but a segment and an Ended
+abbrev pub IsCalm : FrontGets → Type 0
+IsCalm (FrontHears bytes given) = ⊥
+IsCalm (EndedBy n epoch last) = ⊥
+IsCalm _ = Unit {0}
 
 -- ---- one connection
 
@@ -338,22 +344,8 @@ module _ (k : Setting) (x : Conn) (at_place : IsPlaced x) (known : IsKnown x) (h
     -- ---- no segment comes
 
     module _ (no_segments : segments ≡ []) (no_syn : syn ≡ false) where
-      -- timers
       held-in : (row : FrontRow) (st : FrontConn) → IsInStage p row st → StageKnown t st
       held-in row st at = subst (StageKnown t) at.1 (row-of row at.0).2
-
-      pub fires-move : Goes (front_timer env p)
-      fires-move = timer-keeps env p Goes (record {
-        drops = nothing-drops no_segments no_syn;
-        holds = λ row b at.
-            let h : IsHeld t = held-in row (stage.Held b) at in
-            ends-move row at.0 h (front_rest p.rest) stage.Held (λ c. held-behind h) (front_fired env (front_rest p.rest) b) [] tt (spoken-to env.serve (fired_service p b) (fired_before env b) (ready-to env.serve (after_timer b) (timed b)));
-        stays = λ row b at.
-            let h : IsHeld t = held-in row (stage.Waiting b) at in
-            let given : Ending × Turn = front_fired env (front_rest p.rest) b in
-            ends-move row at.0 h (front_rest p.rest) stage.Waiting (λ c. held-behind h) given (leaves_by env.serve.c given.0) tt (spoken-to env.serve (fired_service p b) (fired_before env b) (ready-to env.serve (after_timer b) (timed b)));
-        resends = λ row n d at. nothing-says no_segments no_syn (map sent_of p.kept) (resent-none p.kept known.kept);
-      })
 
       -- a Taken: it is where it was offered
       taken-row : (row : FrontRow) (n : ℕ) (d : Epoch) (epoch : ℕ) → p.row ≡ Some row → row.stage ≡ stage.Offering n d → d.0 ≡ epoch → Goes (taken_by p epoch (Some row) (Some n))
@@ -363,9 +355,6 @@ module _ (k : Setting) (x : Conn) (at_place : IsPlaced x) (known : IsKnown x) (h
           let h : IsAway t n d.0 = subst (StageKnown t) at r.2 in
           let away : IsAway u n d.0 = record { away = h.away; epoch = h.epoch; node = h.node; ended = still-away n d.0 h } in
           calm-move part (front_saying []) [] (nothing-calm no_segments no_syn) tt refl refl tt (r.0, ap (λ b. b || syn) r.1, subst (IsAway u n) same away) (without-kept p.kept known.kept)
-
-      pub taken-move : (epoch : ℕ) → Goes (front_taken p epoch)
-      taken-move epoch = taken-keeps p Goes (nothing-drops no_segments no_syn) epoch (λ row n d at same. taken-row row n d epoch at.0 at.1 same)
 
       -- an Ask
       tag-none : (n epoch number : ℕ) (tags : List ℕ) → pick forward_to (map (sending Front) (tag_sent env n epoch number tags)) ≡ []
@@ -378,9 +367,36 @@ module _ (k : Setting) (x : Conn) (at_place : IsPlaced x) (known : IsKnown x) (h
           (Each-append IsStill (over_note env.serve.c l.over) (assigned_notes env.serve.c ask rest.assigned ask.paths l.choices) (over-still env.serve.c l.over) (assigned-still env.serve.c ask rest.assigned ask.paths l.choices))
           refl (tag-none n epoch ask.number _) tt (row-stays (λ e. no_syn)) known.kept
 
-      pub asked-move : (n epoch : ℕ) (ask : Ask) → Goes (front_asked env p n epoch ask)
-      asked-move n epoch ask = asked-keeps p Goes (nothing-drops no_segments no_syn) env n epoch ask
-          (λ rest found there same some. nothing-says no_segments no_syn (tag_sent env n epoch rest.asks rest.tag) (tag-none n epoch rest.asks rest.tag)) (λ rest found there next. assigns-move rest n epoch ask (env.later ask))
+      -- whatever comes
+      by-rules : KeptByFront env p IsCalm (λ w o. Unit {0}) Goes
+      by-rules = record {
+        drops = nothing-drops no_segments no_syn;
+        hears = λ bytes s no. absurd no;
+        fires = λ m. record {
+          drops = nothing-drops no_segments no_syn;
+          holds = λ row b at.
+              let h : IsHeld t = held-in row (stage.Held b) at in
+              ends-move row at.0 h (front_rest p.rest) stage.Held (λ c. held-behind h) (front_fired env (front_rest p.rest) b) [] tt (spoken-to env.serve (fired_service p b) (fired_before env b) (ready-to env.serve (after_timer b) (timed b)));
+          stays = λ row b at.
+              let h : IsHeld t = held-in row (stage.Waiting b) at in
+              let given : Ending × Turn = front_fired env (front_rest p.rest) b in
+              ends-move row at.0 h (front_rest p.rest) stage.Waiting (λ c. held-behind h) given (leaves_by env.serve.c given.0) tt (spoken-to env.serve (fired_service p b) (fired_before env b) (ready-to env.serve (after_timer b) (timed b)));
+          resends = λ row n d at. nothing-says no_segments no_syn (map sent_of p.kept) (resent-none p.kept known.kept);
+        };
+        takes = λ n epoch m row node d at same. taken-row row node d epoch at.0 at.1 same;
+        tags_again = λ n epoch ask m rest found there same some.
+            nothing-says no_segments no_syn (tag_sent env n epoch rest.asks rest.tag) (tag-none n epoch rest.asks rest.tag);
+        assigns_next = λ n epoch ask m rest found there next. assigns-move rest n epoch ask (env.later ask);
+        ends_again = λ n epoch last no row found away again. absurd no;
+        ends = λ n epoch last no row found away. absurd no;
+        admits = λ choice row b path at target.
+            let sits : StageSits row.epoch.0 own nodes (stage.Waiting b) = (of-stage (Sits own nodes) p row (stage.Waiting b) at at_place.sits).0 in
+            handed-move row at.0 (held-in row (stage.Waiting b) at) (early-at x at_place row at.0 (stage.Waiting b) at.1) sits.1.1 none_ended
+            (serving b (front_rest p.rest).count []) path choice [] tt;
+      }
+
+      pub rule-move : (g : FrontGets) → IsCalm g → IsAsGiven env p g → Goes (front_rule env p g)
+      rule-move g calm is = front-keeps env p IsCalm (λ w o. Unit {0}) Goes by-rules g is calm
 
   -- ---- an Ended comes
 
@@ -508,14 +524,3 @@ module _ (k : Setting) (x : Conn) (at_place : IsPlaced x) (known : IsKnown x) (h
 
     pub ended-move : (last : Final) → Goes (front_ended env p n epoch last)
     ended-move last = ended-by last p.row refl
-
-  -- ---- the head of the line
-
-  module _ (none_ended : es ≡ []) (choice : FirstChoice) (given : FrontPart × FrontTurn) where
-    abbrev Admitted : FrontPart × FrontTurn → Type 0
-    Admitted g = Goes (Does (record { part = g.0; turn = g.1; calls = [] }))
-
-    pub admitted-move : front_admitted env p choice ≡ Some given → Admitted given
-    admitted-move = admitted-keeps env p choice Admitted (λ row b path at target.
-        let sits : StageSits row.epoch.0 own nodes (stage.Waiting b) = (of-stage (Sits own nodes) p row (stage.Waiting b) at at_place.sits).0 in
-        handed-move row at.0 (subst (StageKnown t) at.1 (row-of row at.0).2) (early-at x at_place row at.0 (stage.Waiting b) at.1) sits.1.1 none_ended (serving b (front_rest p.rest).count []) path choice [] tt) given

@@ -3,8 +3,9 @@ use Rattle.std.proofs.Common.{◌≡◌, ◌≢◌, ◌⊎◌, ◌||◌, ℕ, Bo
 use Rattle.std.proofs.lemmas.Bool.{both_ways}
 use Rattle.std.proofs.lemmas.List.Folds.{list_any-append}
 use Rattle.lard_base.specs.declared.event.Event.TheVariants as event
-use Rattle.lard_law_view.specs.Prelude.{Acknowledged, BackRow, Body, Client, ClientBlock, ClientRules, Completed, Conn, Content, Fires, Forwarded, Front, FrontEnv, FrontPart, FrontTurn, IsForFront, IsForNode, IsFrontEnv, IsNobody, IsNodeEnv, IsUnheard, MayRestOn, Message, Move, MsgFault, Node, NodeEnv, NodeGets, Offered, Place, Rec, Row, Rules, Said as Segment, Seen, SegFault, Setting, SpellsMessage, Station, Tagged, ToCluster, Turn, Was, ask_of, client_begins, client_does, client_injects, client_opens, client_rule, content_said, decoded, decoded_message, event_seen, front_admits, front_asked, front_does, front_ended, front_gets, front_taken, front_timer, inject_seen, is_no_node, kind_of, letter, listed, node_does, node_read, node_rule, nothing_said, packet_seen, reads_first, rows_of, seen_in, stands}
+use Rattle.lard_law_view.specs.Prelude.{AskedBy, BackRow, Body, Client, ClientBlock, ClientRules, Completed, Conn, Content, EndedBy, Fires, Forwarded, Front, FrontAdmits, FrontEnv, FrontFires, FrontGets, FrontHears, IsForFront, IsForNode, IsFrontEnv, IsNobody, IsNodeEnv, IsUnheard, MayRestOn, Message, Move, MsgFault, Node, NodeEnv, NodeGets, Offered, Place, Rec, Row, Rules, Said as Segment, Seen, SegFault, Setting, Station, TakenBy, ToCluster, Turn, Was, client_begins, client_does, client_injects, client_opens, client_rule, content_said, decoded, decoded_message, event_seen, front_does, front_rule, inject_seen, is_no_node, kind_of, letter, listed, node_does, node_read, node_rule, nothing_said, packet_seen, reads_first, rows_of, seen_in, stands}
 use Rattle.lard_law_view.proofs.EachClient.{client_seen, each-client, of-client}
+use Rattle.lard_law_view.proofs.EachFront.{FrontComes, admission, each-front, of-front}
 use Rattle.lard_law_connections.specs.Motion.{EachIsTold, above}
 use Rattle.lard_law_connections.specs.MotionStory.{Story, decoded_bytes, ended_epoch, ended_on, from_node, highest, is_among, is_syn, node_took, offer_epoch, epoch_offered, offer_on, of_row, picked, segment_on, story, syn_on}
 use Rattle.lard_law_connections.proofs.MotionElsewhere.{Helps, IsBare, IsKnown, IsNotOfClient, Moves, SomeDecided, else-moves, machine-letters, quiet-moves}
@@ -106,9 +107,32 @@ module _ (x : Conn) where
     tells = λ i. record t { syn = t.syn || false; ended = t.ended ++ listed (e i) };
   }
 
+  calm-heads : (env : FrontEnv) (heads : List Seen) (g : FrontGets) → fronts.IsCalm g → FrontComes x env heads g → Heads x heads false [] []
+  calm-heads env heads (FrontHears bytes given) calm comes = absurd calm
+  calm-heads env heads FrontFires calm comes = subst (λ (hs : List Seen). Heads x hs false [] []) (sym comes.seen) timer-heads
+  calm-heads env heads (TakenBy n epoch) calm comes =
+      subst (λ (hs : List Seen). Heads x hs false [] []) (sym comes.seen) (message-heads n comes.bytes None (ap ended_epoch comes.spells))
+  calm-heads env heads (AskedBy n epoch ask) calm comes =
+      subst (λ (hs : List Seen). Heads x hs false [] []) (sym comes.told.seen) (message-heads n comes.told.bytes None (ap ended_epoch comes.told.spells))
+  calm-heads env heads (EndedBy n epoch last) calm comes = absurd calm
+  calm-heads env heads (FrontAdmits choice given) calm comes = subst (λ (hs : List Seen). Heads x hs false [] []) (sym comes.seen) no-heads
+
   -- each Ended that came was told by a node that took it
   still-ended : (known : IsKnown x) (e : ℕ) → is_among e (t.ended ++ []) ≡ true → SomeDecided e x.part.nodes
   still-ended known e among = known.ended e (ap (is_among e) (sym (append-nil t.ended)) ∙ among)
+
+  over-decided : (e : ℕ) (o : Option BackRow) → IsOver e o → IsDecided e o
+  over-decided e None h = h
+  over-decided e (Some row) h = h.0
+
+  also-ended : (known : IsKnown x) (n epoch : ℕ) → IsOver epoch (x.part.nodes n).row
+      → (e : ℕ) → is_among e (t.ended ++ epoch ∷ []) ≡ true → SomeDecided e x.part.nodes
+  also-ended known n epoch over e among = go (is_among e t.ended) refl (epoch == e) refl
+      (sym (list_any-append (λ d. d == e) t.ended (epoch ∷ [])) ∙ among) where
+        go : (a : Bool) → is_among e t.ended ≡ a → (b : Bool) → (epoch == e) ≡ b → a || (b || false) ≡ true → SomeDecided e x.part.nodes
+        go true f b g h = known.ended e f
+        go false f true g h = (n, subst (λ (d : ℕ). IsDecided d (x.part.nodes n).row) (eqb-true epoch e g) (over-decided epoch (x.part.nodes n).row over))
+        go false f false g h = let no : false ≡ true = h in absurd cc
 
 module _ (k : Setting) (x : Conn) where
   -- the nodes are as they were
@@ -117,67 +141,37 @@ module _ (k : Setting) (x : Conn) where
   front-nodes heads first offers known (front.Says turn) own = nodes-go k.nodes x (front_does x heads (front.Says turn)) (λ n. other-at k.nodes n x (front_does x heads (front.Says turn)) own known first (offers n) tt refl)
   front-nodes heads first offers known (front.Does did) own = nodes-go k.nodes x (front_does x heads (front.Does did)) (λ n. other-at k.nodes n x (front_does x heads (front.Does did)) own known first (offers n) tt refl)
 
-  hears-goes : (env : FrontEnv) → IsFrontEnv k x.c env → (bytes : List ℕ) → Goes k x (front_does x (packet_seen (Client x.c) Front bytes) (front_gets env x.part.front bytes (decoded bytes x.c ToCluster)))
-  hears-goes env is bytes may way help = (
-    go (decoded bytes x.c ToCluster) refl,
-    front-nodes (packet_seen (Client x.c) Front bytes) (tt, tt) (λ n. refl) way.nodes (front_gets env x.part.front bytes (decoded bytes x.c ToCluster)) help.own,
-  ) where
-    heads : List Seen
-    heads = packet_seen (Client x.c) Front bytes
+  front-moves : (env : FrontEnv) → IsFrontEnv k x.c env → (heads : List Seen) (g : FrontGets) → FrontComes x env heads g → MayRestOn IsPlaced x → Way x
+      → Helps x (front_does x heads (front_rule env x.part.front g)) → Moves x (front_does x heads (front_rule env x.part.front g))
+  front-moves env is heads (FrontHears bytes (Err fault)) comes may way = fronts.nothing-drops k x may.given way.front heads false [] []
+      (subst (λ (hs : List Seen). Heads x hs false [] []) (sym comes.seen) (segment-heads x bytes (Err fault) (sym comes.read)))
+      env is (still-ended x way.front) refl refl refl
+  front-moves env is heads (FrontHears bytes (Ok s)) comes may way = fronts.hears-move k x may.given way.front heads (is_syn (Ok s)) [] (bytes ∷ [])
+      (subst (λ (hs : List Seen). Heads x hs (is_syn (Ok s)) [] (bytes ∷ [])) (sym comes.seen) (segment-heads x bytes (Ok s) (sym comes.read)))
+      env is (still-ended x way.front)
+      refl bytes refl s refl x.part.front.row refl
+  front-moves env is heads (EndedBy n epoch last) comes may way =
+      let e = comes.told in
+      fronts.ended-move k x may.given way.front heads false (epoch ∷ []) []
+      (subst (λ (hs : List Seen). Heads x hs false (epoch ∷ []) []) (sym e.seen) (message-heads x n e.bytes (Some epoch) (ap ended_epoch e.spells))) env is
+      (also-ended x way.front n epoch (came-says x (Node n) Front epoch (body.Ended last.reason last.snd.0 last.rcv.0 comes.count)
+      e.bytes may.given.letters e.was e.spells))
+      n epoch refl refl refl last
+  front-moves env is heads g comes may way = fronts.rule-move k x may.given way.front heads false [] [] (calm-heads x env heads g tt comes) env is
+      (still-ended x way.front) refl refl refl g tt (admission x env heads g comes)
 
-    go : (r : Result Segment SegFault) → decoded bytes x.c ToCluster ≡ r → Moves x (front_does x heads (front_gets env x.part.front bytes (decoded bytes x.c ToCluster)))
-    go (Err fault) e =
-        subst (λ (r : Result Segment SegFault). Helps x (front_does x heads (front_gets env x.part.front bytes r)) → Moves x (front_does x heads (front_gets env x.part.front bytes r))) (sym e)
-        (fronts.nothing-drops k x may.given way.front heads false [] [] (segment-heads x bytes (Err fault) e) env is (still-ended x way.front) refl refl refl) help
-    go (Ok s) e =
-        subst (λ (r : Result Segment SegFault). Helps x (front_does x heads (front_gets env x.part.front bytes r)) → Moves x (front_does x heads (front_gets env x.part.front bytes r))) (sym e)
-        (fronts.hears-move k x may.given way.front heads (is_syn (Ok s)) [] (bytes ∷ []) (segment-heads x bytes (Ok s) e) env is (still-ended x way.front) refl bytes refl s refl x.part.front.row refl) help
+  no-offers-here : (from : Place) (bytes : List ℕ) (n : ℕ) → picked (epoch_offered n) (packet_seen from Front bytes) ≡ []
+  no-offers-here Front bytes n = refl
+  no-offers-here (Node m) bytes n = refl
+  no-offers-here (Client d) bytes n = refl
 
-  fires-goes : (env : FrontEnv) → IsFrontEnv k x.c env → Goes k x (front_does x (event_seen (event.Timer Front x.c)) (front_timer env x.part.front))
-  fires-goes env is may way help = (
-    fronts.fires-move k x may.given way.front (event_seen (event.Timer Front x.c)) false [] [] (timer-heads x) env is (still-ended x way.front) refl refl refl help,
-    front-nodes (event_seen (event.Timer Front x.c)) (tt, tt) (λ n. refl) way.nodes (front_timer env x.part.front) help.own,
-  )
-
-  taken-goes : (env : FrontEnv) → IsFrontEnv k x.c env → (n epoch : ℕ) (bytes : List ℕ) → SpellsMessage x.c epoch body.Taken bytes → Goes k x (front_does x (packet_seen (Node n) Front bytes) (front_taken x.part.front epoch))
-  taken-goes env is n epoch bytes spells may way help = (
-    fronts.taken-move k x may.given way.front (packet_seen (Node n) Front bytes) false [] [] (message-heads x n bytes None (ap ended_epoch spells)) env is (still-ended x way.front) refl refl refl epoch help,
-    front-nodes (packet_seen (Node n) Front bytes) (tt, tt) (λ m. refl) way.nodes (front_taken x.part.front epoch) help.own,
-  )
-
-  asked-goes : (env : FrontEnv) → IsFrontEnv k x.c env → (n epoch number queue size : ℕ) (paths : List (List ℕ)) (bytes : List ℕ) → SpellsMessage x.c epoch (body.Ask number queue size paths) bytes
-      → Goes k x (front_does x (packet_seen (Node n) Front bytes) (front_asked env x.part.front n epoch (ask_of x.c n number queue size paths)))
-  asked-goes env is n epoch number queue size paths bytes spells may way help = (
-    fronts.asked-move k x may.given way.front (packet_seen (Node n) Front bytes) false [] [] (message-heads x n bytes None (ap ended_epoch spells)) env is (still-ended x way.front) refl refl refl n epoch (ask_of x.c n number queue size paths) help,
-    front-nodes (packet_seen (Node n) Front bytes) (tt, tt) (λ m. refl) way.nodes (front_asked env x.part.front n epoch (ask_of x.c n number queue size paths)) help.own,
-  )
-
-  ended-goes : (env : FrontEnv) → IsFrontEnv k x.c env → (n epoch : ℕ) (reason : _) (snd rcv count : ℕ) (bytes : List ℕ) → SpellsMessage x.c epoch (body.Ended reason snd rcv count) bytes → Was x (Node n) Front bytes
-      → Goes k x (front_does x (packet_seen (Node n) Front bytes) (front_ended env x.part.front n epoch (record { reason = reason; snd = record { 0 = snd }; rcv = record { 0 = rcv } })))
-  ended-goes env is n epoch reason snd rcv count bytes spells was may way help = (
-    fronts.ended-move k x may.given way.front (packet_seen (Node n) Front bytes) false (epoch ∷ []) [] (message-heads x n bytes (Some epoch) (ap ended_epoch spells)) env is ended n epoch refl refl refl
-        (record { reason = reason; snd = record { 0 = snd }; rcv = record { 0 = rcv } }) help,
-    front-nodes (packet_seen (Node n) Front bytes) (tt, tt) (λ m. refl) way.nodes (front_ended env x.part.front n epoch (record { reason = reason; snd = record { 0 = snd }; rcv = record { 0 = rcv } })) help.own,
-  ) where
-    over-decided : (e : ℕ) (o : Option BackRow) → IsOver e o → IsDecided e o
-    over-decided e None h = h
-    over-decided e (Some row) h = h.0
-
-    told : IsDecided epoch (x.part.nodes n).row
-    told = over-decided epoch (x.part.nodes n).row (came-says x (Node n) Front epoch (body.Ended reason snd rcv count) bytes may.given.letters was spells)
-
-    ended : (e : ℕ) → is_among e ((story x.c x.seen).ended ++ epoch ∷ []) ≡ true → SomeDecided e x.part.nodes
-    ended e among = go (is_among e (story x.c x.seen).ended) refl (epoch == e) refl (sym (list_any-append (λ d. d == e) (story x.c x.seen).ended (epoch ∷ [])) ∙ among) where
-      go : (a : Bool) → is_among e (story x.c x.seen).ended ≡ a → (b : Bool) → (epoch == e) ≡ b → a || (b || false) ≡ true → SomeDecided e x.part.nodes
-      go true f b g h = way.front.ended e f
-      go false f true g h = (n, subst (λ (d : ℕ). IsDecided d (x.part.nodes n).row) (eqb-true epoch e g) told)
-      go false f false g h = let no : false ≡ true = h in absurd cc
-
-  admitted-goes : (env : FrontEnv) → IsFrontEnv k x.c env → (choice : _) (given : FrontPart × FrontTurn) → front.front_admitted env x.part.front choice ≡ Some given → Goes k x (front_admits x given)
-  admitted-goes env is choice given e may way help = (
-    fronts.admitted-move k x may.given way.front [] false [] [] (no-heads x) env is (still-ended x way.front) refl choice given e help,
-    nodes-go k.nodes x (front_admits x given) (λ n. other-at k.nodes n x (front_admits x given) help.own way.nodes tt refl tt refl),
-  )
+  front-goes : (env : FrontEnv) → IsFrontEnv k x.c env → (heads : List Seen) (g : FrontGets) → FrontComes x env heads g
+      → Goes k x (front_does x heads (front_rule env x.part.front g))
+  front-goes env is heads g comes may way help =
+      let seen = of-front x (λ (hs : List Seen). Each IsFirst hs × ((n : ℕ) → picked (epoch_offered n) hs ≡ []))
+      (λ from bytes. ((tt, tt), no-offers-here from bytes)) (tt, λ n. refl)
+      ((tt, tt), λ n. refl) env heads g comes in
+      (front-moves env is heads g comes may way help, front-nodes heads seen.0 seen.1 way.nodes (front_rule env x.part.front g) help.own)
 
 -- ---- a node
 
@@ -248,11 +242,10 @@ module _ (k : Setting) (x : Conn) (n : ℕ) where
     no-offers (Offered parts) comes other = absurd other
     no-offers (Forwarded given) comes other = ap (picked (epoch_offered n)) comes.came.seen
         ∙ this-hears comes.came.bytes None (ap offer_epoch comes.came.spells)
-    no-offers (Tagged number tags) comes other = ap (picked (epoch_offered n)) comes.seen ∙ this-hears comes.bytes None (ap offer_epoch comes.spells)
     no-offers (Content from r) comes other = ap (picked (epoch_offered n)) comes.came.seen
-    no-offers Acknowledged comes other = ap (picked (epoch_offered n)) comes.seen ∙ this-hears comes.bytes None (ap offer_epoch comes.spells)
     no-offers (Completed r path) comes other = ap (picked (epoch_offered n)) comes
     no-offers Fires comes other = ap (picked (epoch_offered n)) comes.seen
+    no-offers g comes other = ap (picked (epoch_offered n)) comes.seen ∙ this-hears comes.bytes None (ap offer_epoch comes.spells)
 
     heads-at : (d : node.NodeDeed) → (node_does x n heads d).heads ≡ heads
     heads-at node.Drops = refl
@@ -414,14 +407,7 @@ module _ (k : Setting) where
   all-go = record {
     untouched = record {
       client = clients;
-      front = record {
-        hears = λ x s env bytes there is iss was. hears-goes k x env is bytes;
-        fires = λ x s env there is. fires-goes k x env is;
-        taken = λ x env n epoch bytes is spells was. taken-goes k x env is n epoch bytes spells;
-        asked = λ x env n epoch number queue size paths bytes is spells was. asked-goes k x env is n epoch number queue size paths bytes spells;
-        ended = λ x env n epoch reason snd rcv count bytes is spells was. ended-goes k x env is n epoch reason snd rcv count bytes spells was;
-        admitted = λ x env choice given is e. admitted-goes k x env is choice given e;
-      };
+      front = each-front k (Goes k) (λ x env heads g is comes. front-goes k x env is heads g comes);
       node = each-node k (Goes k)
           (record { does = λ x n epoch env heads g is at comes. does-goes k x n epoch env heads g is at comes; aside = λ x n a rest. aside-goes k x n a });
       ignores = λ x from to bytes was. ignores-goes k x from to bytes was;

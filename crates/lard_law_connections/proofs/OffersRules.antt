@@ -1,13 +1,13 @@
 -- What each rule says to nodes, where its connection agrees.
-use Rattle.std.proofs.Common.{◌≡◌, ◌≤◌, ◌^◌, ℕ, List, [], ◌∷◌, map, Some, None, Ok, Result, refl, ap, ◌∙◌, sym, subst, inl}
-use Rattle.lard_law_view.specs.Prelude.{AreSent, Ask, Client, Conn, ControlBlock, FilesAt, Final, FirstChoice, Front, FrontConn, FrontDeed, FrontEnv, FrontPart, FrontRow, FrontRules, FrontTurn, IsConnNumber, IsFrontEnv, IsWord, Kept, Move, Node, Place, Said, Seen, SegFault, Setting, Station, Talk, ToCluster, Verdict, Was, ask_of, decoded, event_seen, fires_at, front_admits, front_admitted, front_asked, front_begun, front_does, front_ended, front_gets, front_hears, front_rest, front_taken, front_timer, handed_off, hears_at, holds, packet_seen, placed, sent_of, serving, serving_settled, tale_at, told_on}
-use Rattle.lard_base.specs.declared.event.Event.TheVariants as event
-use Rattle.lard_law_connections.specs.BytesAgreement.{IsFair, IsFairOn, IsOpen, IsTruthful}
-use Rattle.lard_law_connections.specs.BytesKeeping.{AdmittedKeeps, FrontPartAgrees, FrontDeedKeeps, FrontTurned, IsFrontTalk}
-use Rattle.lard_law_connections.proofs.BytesClientMoves.{has-fair, open-at}
-use Rattle.lard_law_connections.proofs.BytesFrontMessages.{opened-at}
-use Rattle.lard_law_connections.proofs.BytesFrontMoves.{IsOurs, RowIsOurs, seat-front, talk-of}
-use Rattle.lard_law_connections.proofs.BytesFronts.{admissions-keep, front-hears, timer-keeps}
+use Rattle.std.proofs.Common.{◌≡◌, ◌≤◌, ◌^◌, ℕ, List, [], ◌∷◌, map, Some, refl, sym, subst, inl}
+use Rattle.std.specs.List.{fold}
+use Rattle.lard_law_view.specs.Prelude.{AreSent, Client, Conn, FilesAt, Front, FrontConn, FrontDeed, FrontEnv, FrontGets, FrontPart, FrontRow, FrontRules, IsConnNumber, IsConnSound, IsFrontEnv, Kept, Move, Node, Place, Said, Seen, Setting, Station, Talk, Verdict, Was, fires_at, front_begun, front_does, front_rest, front_rule, hears_at, holds, placed, seen_step, sent_of, serving, serving_settled, tale_at, tale_step, told_on}
+use Rattle.lard_law_connections.specs.BytesAgreement.{IsOpen, IsTruthful}
+use Rattle.lard_law_connections.specs.BytesKeeping.{FrontDeedKeeps, IsFrontTalk}
+use Rattle.lard_law_connections.proofs.BytesClientMoves.{open-at}
+use Rattle.lard_law_connections.proofs.BytesFrontMessages.{where-opened}
+use Rattle.lard_law_connections.proofs.BytesFrontMoves.{rule-agrees, talk-of}
+use Rattle.lard_law_connections.proofs.BytesFronts.{IsOurs, RowIsOurs}
 use Rattle.lard_law_connections.proofs.BytesTold.{Bytes, bytes_of}
 use Rattle.lard_law_connections.proofs.OffersParts.{Tells}
 use Rattle.lard_law_connections.proofs.OffersSaying.{AreSaid, MayGo, handed-says, other-goes, replies-to}
@@ -19,9 +19,8 @@ use Rattle.lard_handoff_front.specs.declared.row.FrontConn.TheVariants as stage
 use Rattle.lard_history.proofs.Each.{Each}
 use Rattle.lard_message.specs.declared.kind.Kind.TheVariants as kind
 use Rattle.lard_message.specs.declared.message.Body.TheVariants as body
-use Rattle.lard_segment.proofs.Again.{again}
-use Rattle.lard_rules.proofs.FrontCases.{KeptBySegment, IsInStage, segment-keeps, taken-keeps, asked-keeps, ended-keeps, admitted-keeps}
-use Rattle.lard_rules.proofs.FrontCases as cases
+use Rattle.lard_law_view.proofs.EachFront.{FrontComes, admission, each-front, of-front}
+use Rattle.lard_rules.proofs.FrontCases.{KeptByFront, KeptBySegment, IsInStage, front-keeps, hands_off}
 
 -- what a move says, if it is the front end's
 abbrev pub SaysAt : FilesAt → Conn → Move → Place → Type 0
@@ -33,19 +32,19 @@ SaysTruth files x v = SaysAt files x v v.place
 
 -- ---- the front end
 
+-- what is told before the notes of whatever it does
+told-behind : (l : Talk) (x : Conn) (heads : List Seen) → Tells l.w l.out l.vs (fold (seen_step (tale_step x.c)) (tale_at x) heads) → (d : FrontDeed)
+    → Tells l.w l.out l.vs (tale_before x (front_does x heads d))
+told-behind l x heads t Drops = t
+told-behind l x heads t (Says turn) = t
+told-behind l x heads t (Does did) = t
+
 module _ (k : Setting) (small : k.stream ≤ 2 ^ 30) (x : Conn) (number : IsConnNumber x.c) (s : Station) (there : x.part.station ≡ Some s) (l : Talk) (pend : List Verdict) (o : IsOpen k.files x l pend s) (env : FrontEnv) (is : IsFrontEnv k x.c env) (talk : IsFrontTalk env l.w l.out l.vs) where
   abbrev p : FrontPart
   p = x.part.front
 
-  -- what is told before the notes
   told-at : Tells l.w l.out l.vs (tale_at x)
   told-at = record { numbers = o.tale.numbers; wrote = o.tale.wrote; served = o.tale.served }
-
-  own-agrees : RowIsOurs p.row → FrontPartAgrees l.w l.out l.vs l.was_reset env.serve.c p
-  own-agrees ours = subst (λ (c : ℕ). FrontPartAgrees l.w l.out l.vs l.was_reset c p) (sym is.number) (seat-front l.w l.out l.vs pend l.was_reset x.c x.part p.row ours o.seat)
-
-  own-keeps : (d : FrontDeed) → FrontDeedKeeps env.serve.files env.serve.c l.w l.out l.vs l.was_reset d → FrontDeedKeeps k.files x.c l.w l.out l.vs l.was_reset d
-  own-keeps d h = subst (λ (files : FilesAt). FrontDeedKeeps files x.c l.w l.out l.vs l.was_reset d) is.files (subst (λ (c : ℕ). FrontDeedKeeps env.serve.files c l.w l.out l.vs l.was_reset d) is.number h)
 
   module _ (heads : List Seen) (told : (d : FrontDeed) → Tells l.w l.out l.vs (tale_before x (front_does x heads d))) where
     abbrev Speaks : FrontDeed → Type 0
@@ -66,7 +65,7 @@ module _ (k : Setting) (small : k.stream ≤ 2 ^ 30) (x : Conn) (number : IsConn
     mute-speaks (Does did) m t = (replies-to x.c l.w t.out_after _ did.turn.segments t.sent, subst (Each _) (sym m) tt)
 
     -- what it does agrees where the connection is the front end's
-    abbrev Tells_so : FrontDeed → Type 0
+    abbrev pub Tells_so : FrontDeed → Type 0
     Tells_so d = (RowIsOurs p.row → Keeps d) → Speaks d
 
     ours : (row : FrontRow) (d : FrontConn) → IsInStage p row d → IsOurs d → RowIsOurs p.row
@@ -74,7 +73,7 @@ module _ (k : Setting) (small : k.stream ≤ 2 ^ 30) (x : Conn) (number : IsConn
 
     -- ---- a segment
 
-    module _ (bytes : List ℕ) (sd : Said) (word : IsWord l.w sd) where
+    module _ (bytes : List ℕ) (sd : Said) where
       by-segment : KeptBySegment env p bytes sd (λ w o. Unit {0}) Tells_so
       by-segment = record {
         drops = λ keeps. (tt, tt);
@@ -90,10 +89,7 @@ module _ (k : Setting) (small : k.stream ≤ 2 ^ 30) (x : Conn) (number : IsConn
         words = λ row last at keeps. mute-speaks (hears_at env p row bytes sd (stage.Closed last)) refl (keeps (ours row (stage.Closed last) at tt));
       }
 
-      hears-speaks : Speaks (front_hears env p bytes sd p.row)
-      hears-speaks = segment-keeps env p bytes sd (λ w o. Unit {0}) Tells_so by-segment (λ mine. own-keeps (front_hears env p bytes sd p.row) (front-hears env l.w l.out l.vs l.was_reset p bytes sd talk (own-agrees mine) word))
-
-    -- ---- its timers
+    -- ---- messages: no Offer is an answer to them, and what is sent again was sent before
 
     again-goes : (b : Bytes) (ks : List Kept) → AreSent x Front ks → Each (λ (y : Place × List ℕ). MayGo k.files x b y.0 y.1) (map sent_of ks)
     again-goes b [] h = tt
@@ -103,28 +99,35 @@ module _ (k : Setting) (small : k.stream ≤ 2 ^ 30) (x : Conn) (number : IsConn
       one Front was = tt
       one (Client d) was = tt
 
-    fires-speaks : AreSent x Front p.kept → Speaks (front_timer env p)
-    fires-speaks sent = cases.timer-keeps env p Tells_so (record {
+    tag-goes : (b : Bytes) (n c e number : ℕ) (nodes : List ℕ) → MayGo k.files x b (Node n) (message c e (body.Tag number nodes))
+    tag-goes b n c e number nodes = other-goes k.files x b n c e (body.Tag number nodes) (λ f. let no : kind.Tag ≡ kind.Offer = f in absurd cc)
+
+    ack-goes : (b : Bytes) (n c e : ℕ) → MayGo k.files x b (Node n) (message c e body.EndedAck)
+    ack-goes b n c e = other-goes k.files x b n c e body.EndedAck (λ f. let no : kind.EndedAck ≡ kind.Offer = f in absurd cc)
+
+    -- ---- whatever comes
+
+    pub by-rules : AreSent x Front p.kept → KeptByFront env p (λ g. Unit {0}) (λ w o. Unit {0}) Tells_so
+    by-rules sent = record {
       drops = λ keeps. (tt, tt);
-      holds = λ row b at keeps. mute-speaks (fires_at env p row (stage.Held b)) refl (keeps (ours row (stage.Held b) at tt));
-      stays = λ row b at keeps. mute-speaks (fires_at env p row (stage.Waiting b)) refl (keeps (ours row (stage.Waiting b) at tt));
-      resends = λ row n d at keeps. (tt, again-goes _ p.kept sent);
-    }) (λ mine. own-keeps (front_timer env p) (timer-keeps env l.w l.out l.vs l.was_reset p talk (own-agrees mine)))
-
-  -- ---- the head of the line
-
-  module _ (choice : FirstChoice) where
-    pub admits-says : (given : FrontPart × FrontTurn) → front_admitted env p choice ≡ Some given → SaysTruth k.files x (front_admits x given)
-    admits-says given admitted = admitted-keeps env p choice Tells_too hands given admitted (λ mine.
-        subst (λ (files : FilesAt). FrontTurned files x.c l.w l.out l.vs l.was_reset given.0 given.1) is.files
-        (subst (λ (c : ℕ). FrontTurned env.serve.files c l.w l.out l.vs l.was_reset given.0 given.1) is.number
-        (subst (AdmittedKeeps env.serve.files env.serve.c l.w l.out l.vs l.was_reset) admitted (admissions-keep env l.w l.out l.vs l.was_reset p choice talk (own-agrees mine))))) where
-          Tells_too : FrontPart × FrontTurn → Type 0
-          Tells_too g = (RowIsOurs p.row → FrontTurned k.files x.c l.w l.out l.vs l.was_reset g.0 g.1) → SaysTruth k.files x (front_admits x g)
-
-          hands : (row : FrontRow) (b : ControlBlock) (path : List ℕ) → IsInStage p row (stage.Waiting b) → (front_rest p.rest).target ≡ Some path → Tells_too (handed_off env row (serving b (front_rest p.rest).count []) path choice)
-          hands row b path at target turned = handed-says k.files x number l.w l.out l.vs l.was_reset talk.stream (tale_at x) told-at env row (serving b (front_rest p.rest).count []) path choice
-              (turned (subst RowIsOurs (sym at.0) (subst IsOurs (sym at.1) tt)))
+      hears = λ bytes sd m. by-segment bytes sd;
+      fires = λ m. record {
+        drops = λ keeps. (tt, tt);
+        holds = λ row b at keeps. mute-speaks (fires_at env p row (stage.Held b)) refl (keeps (ours row (stage.Held b) at tt));
+        stays = λ row b at keeps. mute-speaks (fires_at env p row (stage.Waiting b)) refl (keeps (ours row (stage.Waiting b) at tt));
+        resends = λ row n d at keeps. (tt, again-goes _ p.kept sent);
+      };
+      takes = λ n epoch m row node e at same keeps. (tt, tt);
+      tags_again = λ n epoch ask m rest found there same some keeps. (tt, (tag-goes _ n env.serve.c epoch rest.asks rest.tag, tt));
+      assigns_next = λ n epoch ask m rest found there next keeps. (tt, (tag-goes _ n env.serve.c epoch ask.number _, tt));
+      ends_again = λ n epoch last m row found away again keeps. (tt, (ack-goes _ n env.serve.c epoch, tt));
+      ends = λ n epoch last m row found away keeps. (tt, (ack-goes _ n env.serve.c epoch, tt));
+      admits = λ choice row b path at target keeps.
+          handed-says k.files x number l.w l.out l.vs l.was_reset talk.stream
+          (tale_before x (front_does x heads (hands_off env row (serving b (front_rest p.rest).count []) path choice [])))
+          (told (hands_off env row (serving b (front_rest p.rest).count []) path choice [])) env row
+          (serving b (front_rest p.rest).count []) path choice (keeps (ours row (stage.Waiting b) at tt));
+    }
 
 -- ---- the rules of the front end
 
@@ -132,79 +135,20 @@ module _ (k : Setting) (small : k.stream ≤ 2 ^ 30) where
   abbrev pub Wants : Conn → Move → Type 0
   Wants x v = IsTruthful k.files x → SaysTruth k.files x v
 
-  -- the numbers with which a connection begins are no part of these rules
-  module _ (x : Conn) (s : Station) (env : FrontEnv) (is : IsFrontEnv k x.c env) where
-    abbrev same : FrontEnv
-    same = record env { iss = s.iss }
-
-    same-is : IsFrontEnv k x.c same
-    same-is = record { place = is.place; number = is.number; files = is.files; stream = is.stream }
-
-  hears : (x : Conn) (s : Station) (env : FrontEnv) (bytes : List ℕ) → x.part.station ≡ Some s → IsFrontEnv k x.c env → env.iss ≡ s.iss → Was x (Client x.c) Front bytes
-      → Owed Wants x (front_does x (packet_seen (Client x.c) Front bytes) (front_gets env x.part.front bytes (decoded bytes x.c ToCluster)))
-  hears x s env bytes there is iss was number sound h =
+  opened-says : (x : Conn) (s : Station) (env : FrontEnv) (heads : List Seen) (g : FrontGets) → x.part.station ≡ Some s → env.iss ≡ s.iss
+      → IsFrontEnv k x.c env → FrontComes x env heads g → IsTruthful k.files x → IsConnNumber x.c → IsConnSound x → SaysTruth k.files x (front_does x heads (front_rule env x.part.front g))
+  opened-says x s env heads g there iss is comes h number sound =
+      let l : Talk = h.talk in
       let o = open-at k.files x s there h in
-      let f : IsFairOn h.talk x.c x.part (Client x.c) Front bytes = has-fair (IsFair h.talk x.c x.part) (record { from = Client x.c; to = Front; bytes = bytes }) x.letters was o.fair in
-      let heads : List Seen = packet_seen (Client x.c) Front bytes in
-      let same : decoded bytes x.c ToCluster ≡ Ok f.0 = ap (λ (b : List ℕ). decoded b x.c ToCluster) f.1 ∙ again x.c ToCluster f.0 f.2.sendable in
-      let talk = talk-of k small x env is s h.talk h.pend o iss in
-      subst (λ (r : Result Said SegFault). SaysTruth k.files x (front_does x heads (front_gets env x.part.front bytes r))) (sym same)
-      (hears-speaks k small x number s there h.talk h.pend o env is talk heads (told-so o) bytes f.0 f.2) where
-        told-so : IsOpen k.files x h.talk h.pend s → (d : FrontDeed) → Tells h.talk.w h.talk.out h.talk.vs (tale_before x (front_does x (packet_seen (Client x.c) Front bytes) d))
-        told-so o Drops = told-at k small x number s there h.talk h.pend o env is (talk-of k small x env is s h.talk h.pend o iss)
-        told-so o (Says turn) = told-at k small x number s there h.talk h.pend o env is (talk-of k small x env is s h.talk h.pend o iss)
-        told-so o (Does did) = told-at k small x number s there h.talk h.pend o env is (talk-of k small x env is s h.talk h.pend o iss)
-
-  fires : (x : Conn) (s : Station) (env : FrontEnv) → x.part.station ≡ Some s → IsFrontEnv k x.c env → Owed Wants x (front_does x (event_seen (event.Timer Front x.c)) (front_timer env x.part.front))
-  fires x s env there is number sound h =
-      let o = open-at k.files x s there h in
-      let talk = talk-of k small x (same x s env is) (same-is x s env is) s h.talk h.pend o refl in
-      fires-speaks k small x number s there h.talk h.pend o (same x s env is) (same-is x s env is) talk (event_seen (event.Timer Front x.c)) (told-so o) sound.front where
-        told-so : IsOpen k.files x h.talk h.pend s → (d : FrontDeed) → Tells h.talk.w h.talk.out h.talk.vs (tale_before x (front_does x (event_seen (event.Timer Front x.c)) d))
-        told-so o Drops = record { numbers = o.tale.numbers; wrote = o.tale.wrote; served = o.tale.served }
-        told-so o (Says turn) = record { numbers = o.tale.numbers; wrote = o.tale.wrote; served = o.tale.served }
-        told-so o (Does did) = record { numbers = o.tale.numbers; wrote = o.tale.wrote; served = o.tale.served }
-
-  -- ---- messages of nodes: no Offer is an answer to them
-
-  module _ (x : Conn) (heads : List Seen) where
-    abbrev Is : FrontDeed → Type 0
-    Is d = SaysTruth k.files x (front_does x heads d)
-
-    tag-goes : (b : Bytes) (n c e number : ℕ) (nodes : List ℕ) → MayGo k.files x b (Node n) (message c e (body.Tag number nodes))
-    tag-goes b n c e number nodes = other-goes k.files x b n c e (body.Tag number nodes) (λ f. let no : kind.Tag ≡ kind.Offer = f in absurd cc)
-
-    ack-goes : (b : Bytes) (n c e : ℕ) → MayGo k.files x b (Node n) (message c e body.EndedAck)
-    ack-goes b n c e = other-goes k.files x b n c e body.EndedAck (λ f. let no : kind.EndedAck ≡ kind.Offer = f in absurd cc)
-
-    taken-says : (q : FrontPart) (epoch : ℕ) → Is (front_taken q epoch)
-    taken-says q epoch = taken-keeps q Is (tt, tt) epoch (λ row n e at same. (tt, tt))
-
-    asked-says : (env : FrontEnv) (q : FrontPart) (from epoch : ℕ) (ask : Ask) → Is (front_asked env q from epoch ask)
-    asked-says env q from epoch ask = asked-keeps q Is (tt, tt) env from epoch ask (λ rest found there same some. (tt, (tag-goes _ from env.serve.c epoch rest.asks rest.tag, tt)))
-        (λ rest found there next. (tt, (tag-goes _ from env.serve.c epoch ask.number _, tt)))
-
-    ended-says : (env : FrontEnv) (q : FrontPart) (from epoch : ℕ) (last : Final) → Is (front_ended env q from epoch last)
-    ended-says env q from epoch last = ended-keeps q Is (tt, tt) env from epoch last (λ row found away again. (tt, (ack-goes _ from env.serve.c epoch, tt))) (λ row found away. (tt, (ack-goes _ from env.serve.c epoch, tt)))
-
-  -- ---- admissions
-
-  -- the station of what has a row
-  admits : (x : Conn) (env : FrontEnv) (choice : FirstChoice) (given : FrontPart × FrontTurn) → IsFrontEnv k x.c env → IsConnNumber x.c → IsTruthful k.files x → front_admitted env x.part.front choice ≡ Some given → SaysTruth k.files x (front_admits x given)
-  admits x env choice given is number h e = admitted-keeps env x.part.front choice (λ (g : FrontPart × FrontTurn). front_admitted env x.part.front choice ≡ Some g → SaysTruth k.files x (front_admits x g)) (λ row b path at target whole.
-      let opened = opened-at k.files x h (λ u. let no : Some row ≡ None = sym at.0 ∙ u.front in absurd cc) in
-      let s : Station = opened.0 in
-      let o = open-at k.files x s opened.1 h in
-      let talk = talk-of k small x (same x s env is) (same-is x s env is) s h.talk h.pend o refl in
-      admits-says k small x number s opened.1 h.talk h.pend o (same x s env is) (same-is x s env is) talk choice _ whole) given e e
+      let talk = talk-of k small x env is s l h.pend o iss in
+      let t = told-at k small x number s there l h.pend o env is talk in
+      let told = told-behind l x heads (of-front x (λ (ss : List Seen). Tells l.w l.out l.vs (fold (seen_step (tale_step x.c)) (tale_at x) ss))
+      (λ from bytes. record { numbers = t.numbers; wrote = t.wrote; served = t.served }) t
+      (record { numbers = t.numbers; wrote = t.wrote; served = t.served }) env heads g comes) in
+      front-keeps env x.part.front (λ c. Unit {0}) (λ w q. Unit {0}) (Tells_so k small x number s there l h.pend o env is talk heads told)
+      (by-rules k small x number s there l h.pend o env is talk heads told sound.front) g (admission x env heads g comes) tt
+      (rule-agrees k small x s there env is l h.pend o talk heads g comes)
 
   pub fronts : FrontRules k (Owed Wants)
-  fronts = record {
-    hears = hears;
-    fires = fires;
-    taken = λ x env n epoch bytes is spells was number sound h. taken-says x (packet_seen (Node n) Front bytes) x.part.front epoch;
-    asked = λ x env n epoch z queue size paths bytes is spells was number sound h. asked-says x (packet_seen (Node n) Front bytes) env x.part.front n epoch (ask_of x.c n z queue size paths);
-    ended = λ x env n epoch reason snd rcv count bytes is spells was number sound h.
-        ended-says x (packet_seen (Node n) Front bytes) env x.part.front n epoch (record { reason = reason; snd = record { 0 = snd }; rcv = record { 0 = rcv } });
-    admitted = λ x env choice given is e number sound h. admits x env choice given is number h e;
-  }
+  fronts = each-front k (Owed Wants) (λ x env heads g is comes number sound h.
+      where-opened k (λ y v. IsConnNumber y.c → IsConnSound y → SaysTruth k.files y v) opened-says x env heads g is comes h number sound)

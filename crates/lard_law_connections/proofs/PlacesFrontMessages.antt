@@ -1,20 +1,20 @@
 -- The front end's rules for what nodes say, and the head of the line.
 use Rattle.std.proofs.Common.{◌≡◌, ◌⊎◌, ℕ, ◌+◌, ◌<◌, ◌==◌, Bool, true, false, List, [], ◌∷◌, Option, Some, None, inr, refl, sym, ◌∙◌, subst, arith, eqb-true, eq-eqb}
-use Rattle.lard_law_view.specs.Prelude.{Ask, BackConn, BackRow, Body, Conn, Epoch, Final, FirstChoice, Front, FrontConn, FrontDeed, FrontEnv, FrontPart, FrontRest, FrontRow, FrontTurn, IsEarlyAway, IsEarlyOver, IsFrontEnv, Kind, Later, LaterChoice, Node, NodePart, Part, Place, Seen, Setting, SpellsMessage, Was, ack_sent, assigned_notes, assigns, by_front, ended_with, front_admits, front_admitted, front_asked, front_does, front_ended, front_ends, front_rest, front_saying, front_taken, is_away, kind_of, next_epoch, over_note, serving, tag_sent, taken_by, tale_at, with_front}
+use Rattle.lard_law_view.specs.Prelude.{Ask, BackConn, BackRow, Body, Conn, EndedBy, Epoch, Final, Front, FrontConn, FrontDeed, FrontEnv, FrontGets, FrontPart, FrontRest, FrontRow, IsConnSound, IsEarlyAway, IsEarlyOver, IsFrontEnv, Later, LaterChoice, Node, NodePart, Part, Place, Seen, Setting, SpellsMessage, TakenBy, Was, ack_sent, assigned_notes, assigns, by_front, ended_with, front_does, front_ends, front_rest, front_rule, front_saying, is_away, kind_of, next_epoch, over_note, serving, tag_sent, taken_by, tale_at, with_front}
 use Rattle.lard_law_connections.specs.Places.{EndedBefore, HasEnded, IsComing, IsDecided, IsEven, IsLeft, IsOver, IsPast, IsThere, LetterMay, MaySay, Offers, OthersArePast, Owning, Owns, StageSits, owning}
 use Rattle.lard_law_connections.proofs.PlacesFront.{IsQuiet, Tells, drops-owes, front-owes, messages-owe, placed-owes, waits-home}
-use Rattle.lard_law_connections.proofs.PlacesFrontRules.{decided-there, has-each, sits-row, there-decided}
+use Rattle.lard_law_connections.proofs.PlacesFrontRules.{by-segment, by-timer, decided-there, has-each, sits-row, there-decided}
 use Rattle.lard_law_connections.proofs.PlacesGrowing.{FrontGrows, front-still, past-later}
 use Rattle.lard_law_connections.proofs.PlacesHeads.{decoded-head, head, spelled-head, spelled-some}
 use Rattle.lard_law_connections.proofs.PlacesRows.{IsPlain, plain-after, plain-owns}
 use Rattle.lard_law_connections.proofs.PlacesTurns.{IsPlaced, Owes, early-at, small-early}
 use Rattle.lard_dispatch.specs.declared.dispatch.First.TheVariants as first
-use Rattle.lard_rules.proofs.FrontCases.{admitted-keeps, asked-keeps, ended-keeps, taken-keeps}
+use Rattle.lard_law_view.proofs.EachFront.{FrontComes, admission}
+use Rattle.lard_rules.proofs.FrontCases.{KeptByFront, front-keeps}
 use Rattle.lard_rules.specs.Front.{Drops, Says, Does}
 use Rattle.lard_handoff_back.specs.declared.row.BackConn.TheVariants as back
 use Rattle.lard_handoff_front.specs.declared.row.FrontConn.TheVariants as stage
 use Rattle.lard_history.proofs.Each.{Each, Each-append}
-use Rattle.lard_message.specs.declared.kind.Kind.TheVariants as kind
 use Rattle.lard_message.specs.declared.message.Body.TheVariants as body
 
 -- what a packet that came says, where it is a message of this connection
@@ -97,10 +97,6 @@ module _ (k : Setting) (x : Conn) (heads : List Seen) (quiet : IsQuiet x heads) 
       ))
       tt
 
-  pub taken-rule : (m epoch : ℕ) (bytes : List ℕ) → SpellsMessage x.c epoch body.Taken bytes → Was x (Node m) Front bytes → Owed (front_taken p epoch)
-  taken-rule m epoch bytes spells was = taken-keeps p Owed dropped epoch
-      (λ row n d at same. taken-owes row n d epoch m at.0 at.1 same (came-says x (Node m) Front epoch body.Taken bytes held.letters was spells))
-
   -- ---- an Ask
 
   notes-plain : (c : ℕ) (ask : Ask) (r : ℕ) (paths : List (List ℕ)) (choices : List LaterChoice) → Each IsPlain (assigned_notes c ask r paths choices)
@@ -123,12 +119,6 @@ module _ (k : Setting) (x : Conn) (heads : List Seen) (quiet : IsQuiet x heads) 
       front-owes x heads quiet (by_front did.turn) did.part w
       (record { notes = plain-owns x.c w did.turn.notes plain; segments = inr refl; gave = tt; messages = (tt, tt); then = plain-after w did.turn.notes plain })
       held.sits (front-still nodes p.row) (tag-tells (with_front x.part did.part) n epoch ask.number _)
-
-  pub asked-rule : (n epoch : ℕ) (ask : Ask) → Owed (front_asked env p n epoch ask)
-  asked-rule n epoch ask = asked-keeps p Owed dropped env n epoch ask
-      (λ rest found there same some. messages-owe x heads quiet held (tag_sent env n epoch rest.asks rest.tag) (tt, tt)
-      (tag-tells x.part n epoch rest.asks rest.tag))
-      (λ rest found there next. assigns-owe rest n epoch ask (env.later ask))
 
   -- ---- an Ended
 
@@ -202,21 +192,35 @@ module _ (k : Setting) (x : Conn) (heads : List Seen) (quiet : IsQuiet x heads) 
         earlier None e h = let no : false ≡ true = e in absurd cc
         earlier (Some by) e h = let same : by.0 ≡ epoch = eqb-true by.0 epoch e in omega (arith, same, h)
 
-  pub ended-rule : (m epoch : ℕ) (b : Body) (bytes : List ℕ) (last : Final) → kind_of b ≡ kind.Ended → SpellsMessage x.c epoch b bytes → Was x (Node m) Front bytes → Owed (front_ended env p m epoch last)
-  ended-rule m epoch b bytes last kind spells was =
-      let over : IsOver epoch (nodes m).row = subst (λ (k : Kind). MaySay x.part (Node m) Front (Some (head k epoch))) kind
-      (came-says x (Node m) Front epoch b bytes held.letters was spells) in
-      ended-keeps p Owed dropped env m epoch last (λ row found away again. again-owes row m epoch found again)
-      (λ row found away. with-node row found epoch row.stage refl away _
-      (λ n there now offered. ends-owe-one row m n epoch last found there now over offered (find-row row found).1))
+  -- ---- whatever comes
 
--- ---- the head of the line
+  -- a node that says Taken has decided, and the stay of one that says Ended is over
+  abbrev SaysSo : FrontGets → Type 0
+  SaysSo (TakenBy m epoch) = IsDecided epoch (nodes m).row
+  SaysSo (EndedBy m epoch last) = IsOver epoch (nodes m).row
+  SaysSo _ = Unit {0}
 
-module _ (k : Setting) (x : Conn) (held : IsPlaced x) (env : FrontEnv) (is : IsFrontEnv k x.c env) (choice : FirstChoice) where
-  abbrev nothing_seen : IsQuiet x []
-  nothing_seen = record { may = tt; same = refl }
+  says : (g : FrontGets) → FrontComes x env heads g → SaysSo g
+  says (TakenBy m epoch) comes = came-says x (Node m) Front epoch body.Taken comes.bytes held.letters comes.was comes.spells
+  says (EndedBy m epoch last) comes =
+      let t = comes.told in came-says x (Node m) Front epoch (body.Ended last.reason last.snd.0 last.rcv.0 comes.count) t.bytes held.letters t.was t.spells
+  says _ comes = tt
 
-  pub admitted-rule : (given : FrontPart × FrontTurn) → front_admitted env x.part.front choice ≡ Some given → Owes x (front_admits x given)
-  admitted-rule = admitted-keeps env x.part.front choice (λ given. Owes x (front_admits x given))
-      (λ row b path at target. placed-owes x [] nothing_seen env is.number row (waits-home x held row b at) (front_rest x.part.front.rest)
-      (serving b (front_rest x.part.front.rest).count []) path (first.Go choice) tt)
+  by-rules : IsConnSound x → KeptByFront env p SaysSo (λ r o. Each IsPlain r.notes) Owed
+  by-rules sound = record {
+    drops = dropped;
+    hears = λ bytes s m. by-segment k x heads quiet held env is bytes s;
+    fires = λ m. by-timer k x heads quiet held env is sound;
+    takes = λ m epoch decided row n d at same. taken-owes row n d epoch m at.0 at.1 same decided;
+    tags_again = λ n epoch ask m rest found there same some. messages-owe x heads quiet held (tag_sent env n epoch rest.asks rest.tag) (tt, tt)
+        (tag-tells x.part n epoch rest.asks rest.tag);
+    assigns_next = λ n epoch ask m rest found there next. assigns-owe rest n epoch ask (env.later ask);
+    ends_again = λ m epoch last over row found away again. again-owes row m epoch found again;
+    ends = λ m epoch last over row found away. with-node row found epoch row.stage refl away _
+        (λ n there now offered. ends-owe-one row m n epoch last found there now over offered (find-row row found).1);
+    admits = λ choice row b path at target. placed-owes x heads quiet env is.number row (waits-home x held row b at) (front_rest p.rest)
+        (serving b (front_rest p.rest).count []) path (first.Go choice) tt;
+  }
+
+  pub gets-owe : IsConnSound x → (g : FrontGets) → FrontComes x env heads g → Owed (front_rule env p g)
+  gets-owe sound g comes = front-keeps env p SaysSo (λ r o. Each IsPlain r.notes) Owed (by-rules sound) g (admission x env heads g comes) (says g comes)

@@ -1,6 +1,6 @@
 -- The rules of the front end, one by one.
-use Rattle.std.proofs.Common.{◌≡◌, ◌⊎◌, ℕ, ◌==◌, Bool, true, false, List, [], ◌∷◌, map, Option, Some, None, Result, Ok, Err, inl, inr, ⊎_elim, refl, sym, ap, ◌∙◌, subst, arith, eqb-true, eq-eqb}
-use Rattle.lard_law_view.specs.Prelude.{AreSent, BackRow, Client, Conn, ControlBlock, Ending, Final, Front, FrontDeed, FrontEnv, FrontPart, FrontRow, Has, IsConnSound, IsFrontEnv, IsMachine, Kept, Node, NodePart, Place, Said as Segment, Seen, SegFault, Service, Setting, Turn, after_timer, by_front, front_begun, front_does, front_gets, front_rest, front_saying, front_timer, last_words, leaves_by, sent_of, spoken, tale_at, timed, tombstone, turn_here, waits_on}
+use Rattle.std.proofs.Common.{◌≡◌, ◌⊎◌, ℕ, ◌==◌, Bool, true, false, List, [], ◌∷◌, map, Option, Some, None, inl, inr, ⊎_elim, refl, sym, ap, ◌∙◌, subst, arith, eqb-true, eq-eqb}
+use Rattle.lard_law_view.specs.Prelude.{AreSent, BackRow, Client, Conn, ControlBlock, Ending, Final, Front, FrontDeed, FrontEnv, FrontPart, FrontRow, Has, IsConnSound, IsFrontEnv, IsMachine, Kept, Node, NodePart, Place, Said as Segment, Seen, Service, Setting, Turn, after_timer, by_front, front_begun, front_does, front_rest, front_saying, last_words, leaves_by, sent_of, spoken, tale_at, timed, tombstone, turn_here, waits_on}
 use Rattle.lard_law_connections.specs.Places.{EndedBefore, IsComing, IsDecided, IsHome, IsPast, IsThere, LetterMay, MaySay, OthersArePast, Owning, Sits, StageSits, owning}
 use Rattle.lard_law_connections.proofs.PlacesFront.{IsHomeAt, IsQuiet, Tells, drops-owes, ends-owe, front-owes, held-home, holds-owe, messages-owe, placed-owes, says-owe, sits-in, waits-home}
 use Rattle.lard_law_connections.proofs.PlacesGrowing.{FrontGrows, front-still, past-later}
@@ -8,7 +8,7 @@ use Rattle.lard_law_connections.proofs.PlacesHeads.{spelled-some}
 use Rattle.lard_law_connections.proofs.PlacesLoops.{reads-notes, spoken-to}
 use Rattle.lard_law_connections.proofs.PlacesRows.{IsPlain}
 use Rattle.lard_law_connections.proofs.PlacesTurns.{IsPlaced, Owes}
-use Rattle.lard_rules.proofs.FrontCases.{IsInStage, KeptBySegment, begun_row, begun_service, fired_before, fired_service, heard_reading, heard_service, segment-keeps, timer-keeps}
+use Rattle.lard_rules.proofs.FrontCases.{IsInStage, KeptBySegment, begun_row, begun_service, KeptByTimer, fired_before, fired_service, heard_reading, heard_service}
 use Rattle.lard_rules.specs.Front.{Drops, Says, message}
 use Rattle.lard_dispatch.specs.declared.dispatch.First.TheVariants as first
 use Rattle.lard_handoff_front.specs.declared.row.FrontConn.TheVariants as stage
@@ -116,7 +116,7 @@ module _ (k : Setting) (x : Conn) (heads : List Seen) (quiet : IsQuiet x heads) 
       says-owe x heads quiet env is.number row here (front_rest p.rest) stage.Waiting s before (leaves_by env.serve.c (spoken env.serve s before).0)
       (λ c home. (here.odd, home)) plain to
 
-  by-segment : (bytes : List ℕ) (s : Segment) → KeptBySegment env p bytes s (λ r o. Each IsPlain r.notes) Owed
+  pub by-segment : (bytes : List ℕ) (s : Segment) → KeptBySegment env p bytes s (λ r o. Each IsPlain r.notes) Owed
   by-segment bytes s = record {
     drops = dropped;
     begins = λ none plain. begins-owe s none;
@@ -131,14 +131,8 @@ module _ (k : Setting) (x : Conn) (heads : List Seen) (quiet : IsQuiet x heads) 
     words = λ row last at. tombstone-owes row last (last_words last.reason last s) (sits-in x placed row (stage.Closed last) at).0.1;
   }
 
-  pub gets-owe : (bytes : List ℕ) (r : Result Segment SegFault) → Owed (front_gets env p bytes r)
-  gets-owe bytes (Err fault) = dropped
-  gets-owe bytes (Ok s) = segment-keeps env p bytes s (λ r o. Each IsPlain r.notes) Owed (by-segment bytes s)
-
-  -- ---- timers
-
-  pub timer-owes : IsConnSound x → Owed (front_timer env p)
-  timer-owes sound = timer-keeps env p Owed (record {
+  pub by-timer : IsConnSound x → KeptByTimer env p Owed
+  by-timer sound = record {
     drops = dropped;
     holds = λ row b at. let here : IsHomeAt x row = held-home x placed row b at in
         says-owe x heads quiet env is.number row here (front_rest p.rest) stage.Held (fired_service p b) (fired_before env b) []
@@ -146,4 +140,4 @@ module _ (k : Setting) (x : Conn) (heads : List Seen) (quiet : IsQuiet x heads) 
     stays = λ row b at. waits-on row b at (fired_service p b) (fired_before env b) tt (ready-to env.serve (after_timer b) (timed b));
     resends = λ row n e at. messages-owe x heads quiet placed (map sent_of p.kept) (resent-machines x Front p.kept sound.front)
         (resent-tells x Front p.kept placed.letters sound.front);
-  })
+  }

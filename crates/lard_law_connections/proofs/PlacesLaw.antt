@@ -1,18 +1,17 @@
 -- The law of places: each rule keeps it, so it holds of each connection in every run.
 use Rattle.std.proofs.Common.{ℕ, List, [], ◌∷◌, refl}
-use Rattle.lard_law_view.specs.Prelude.{Client, ClientRules, Completed, Conn, Event, Front, FrontRules, IsNodeEnv, MayRestOn, Move, Node, NodeEnv, NodeGets, Place, Rec, Row, Rules, Seen, Setting, ToCluster, ask_of, client_injects, client_opens, client_rule, content_said, decoded, event_seen, nothing_said, packet_seen, stands}
+use Rattle.lard_law_view.specs.Prelude.{Client, ClientRules, Completed, Conn, Event, Front, FrontRules, IsNodeEnv, MayRestOn, Move, Node, NodeEnv, NodeGets, Place, Rec, Row, Rules, Seen, Setting, client_injects, client_opens, client_rule, content_said, event_seen, nothing_said, packet_seen, stands}
 use Rattle.lard_law_view.proofs.EachClient.{client_seen, each-client, of-client}
+use Rattle.lard_law_view.proofs.EachFront.{each-front, of-front}
 use Rattle.lard_base.specs.declared.event.Event.TheVariants as event
 use Rattle.lard_law_view.proofs.NodeHeads.{of-aside, of-heads}
 use Rattle.lard_law_connections.proofs.PlacesClients.{client-owes}
 use Rattle.lard_law_connections.proofs.PlacesFront.{IsQuiet}
-use Rattle.lard_law_connections.proofs.PlacesFrontMessages.{admitted-rule, asked-rule, ended-rule, taken-rule}
-use Rattle.lard_law_connections.proofs.PlacesFrontRules.{gets-owe, timer-owes}
+use Rattle.lard_law_connections.proofs.PlacesFrontMessages.{gets-owe}
 use Rattle.lard_law_connections.proofs.PlacesNode.{plain-turned, stands-owes}
 use Rattle.lard_law_connections.proofs.PlacesNodeEnds.{rule-owes}
 use Rattle.lard_law_connections.proofs.PlacesTurns.{IsPlaced, Owes}
 use Rattle.lard_journal.specs.declared.rec.Rec.TheVariants as rec
-use Rattle.lard_message.specs.declared.message.Body.TheVariants as body
 use Rattle.lard_law_view.proofs.EachNode.{Answers, Aside, Brings, NodeComes, Queues, aside_said, aside_seen, each-node, node_goes}
 use Rattle.lard_rules.proofs.NodeCases.{IsInItsEpoch}
 use Rattle.lard_law_view.proofs.PlaceTurns.{injects-turn, opens-turn, rule-turn}
@@ -50,15 +49,8 @@ module _ (k : Setting) (Given : Conn → Type 0) where
   })
 
   fronts : FrontRules k Owing
-  fronts = record {
-    hears = λ x s env bytes there is iss was m h. gets-owe k x _ (packet-quiet x (Client x.c) Front bytes) h env is bytes (decoded bytes x.c ToCluster);
-    fires = λ x s env there is m h. timer-owes k x _ (event-quiet x (event.Timer Front x.c)) h env is m.sound;
-    taken = λ x env n epoch bytes is spells was m h. taken-rule k x _ (packet-quiet x (Node n) Front bytes) h env is n epoch bytes spells was;
-    asked = λ x env n epoch number queue size paths bytes is spells was m h. asked-rule k x _ (packet-quiet x (Node n) Front bytes) h env is n epoch (ask_of x.c n number queue size paths);
-    ended = λ x env n epoch reason snd rcv count bytes is spells was m h.
-        ended-rule k x _ (packet-quiet x (Node n) Front bytes) h env is n epoch (body.Ended reason snd rcv count) bytes (record { reason = reason; snd = record { 0 = snd }; rcv = record { 0 = rcv } }) refl spells was;
-    admitted = λ x env choice given is e m h. admitted-rule k x h env is choice given e;
-  }
+  fronts = each-front k Owing (λ x env heads g is comes m h. gets-owe k x heads
+      (of-front x (IsQuiet x) (λ from bytes. packet-quiet x from Front bytes) (none-quiet x) (event-quiet x (event.Timer Front x.c)) env heads g comes) h env is m.sound g comes)
 
   heads-quiet : (x : Conn) (n epoch : ℕ) (heads : List Seen) (g : NodeGets) → NodeComes x n epoch heads g → IsQuiet x heads
   heads-quiet x n epoch heads g comes = of-heads x n (IsQuiet x) (λ from bytes. packet-quiet x from (Node n) bytes) (none-quiet x)

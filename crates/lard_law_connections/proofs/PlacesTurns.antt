@@ -1,9 +1,8 @@
 -- What a move owes: its records may stand, and behind them the connection sits where they say.
-use Rattle.std.proofs.Common.{◌≡◌, ◌⊎◌, ℕ, List, [], ◌∷◌, ◌++◌, map, Some, ⊎_elim, sym, ap, ◌∙◌, subst, arith}
+use Rattle.std.proofs.Common.{◌≡◌, ◌⊎◌, ℕ, List, [], ◌++◌, map, Some, ⊎_elim, sym, ap, ◌∙◌, subst, arith}
 use Rattle.std.proofs.lemmas.List.Sums.{fold-append}
 use Rattle.std.specs.List.{fold}
 use Rattle.lard_law_view.specs.Prelude.{Client, Conn, EachRow, FrontConn, FrontRow, IsEarlyOver, IsMachine, Move, Part, Place, Rec, Row, Tale, TurnSaid, grown, letters_of, rows_of, seen_in, seen_step, tale_at, tale_step, timer_rows, told_on, untold}
-use Rattle.lard_base.specs.declared.place.TimerKind.TheVariants as kind
 use Rattle.lard_law_connections.specs.Places.{HasEarlyEpoch, IsRowEarly, IsStageEarly, LetterMay, Owning, Sits, SitsAt, owning}
 use Rattle.lard_law_connections.proofs.PlacesGrowing.{Grows, letters-grow}
 use Rattle.lard_law_connections.proofs.PlacesRows.{IsPlain, MayStand, OwnsBy, after_all, machines-own, owner-owns, owns-append, owns-told, plain-after, plain-owns, sends-after}

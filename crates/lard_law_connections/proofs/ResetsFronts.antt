@@ -1,5 +1,5 @@
 -- What the front end does keeps the law of RST.
-use Rattle.std.proofs.Common.{◌+◌, ℕ, Bool, List, [], ◌∷◌, ◌++◌, map, Option, Some, None, subst}
+use Rattle.std.proofs.Common.{ℕ, Bool, List, [], ◌∷◌, ◌++◌, map, Option, Some, None, subst}
 use Rattle.lard_law_view.specs.Prelude.{Call, Conn, ControlBlock, Ending, Final, FirstChoice, Front, FrontConn, FrontDeed, FrontEnv, FrontGets, FrontPart, FrontRest, FrontRow, IsConnSound, IsFrontEnv, Later, Node, Place, Rec, Said as Segment, Seen, Service, Setting, Turn, ack_sent, after_timer, assigned_notes, front_does, front_fired, front_rest, front_rule, front_saying, holds, last_words, leaves_by, over_note, sent_of, serving, serving_settled, spoken, stage_after, tag_sent, tale_at, tombstone, turn_here, waits_on}
 use Rattle.lard_law_view.proofs.EachFront.{FrontComes, admission}
 use Rattle.lard_dispatch.specs.Laws as call

@@ -1,13 +1,14 @@
 -- A client has said all that it may at the end of each turn, and holds nothing unless it holds.
 use Rattle.std.proofs.Common.{◌≡◌, ◌≤◌, ◌<◌, ◌+◌, ◌||◌, ◌^◌, not, nat_lt, ℕ, zero, suc, Bool, true, false, cond, List, [], ◌∷◌, ◌++◌, length, Option, Some, None, Result, Ok, Err, refl, arith}
 use Rattle.std.proofs.lemmas.Bool.{both_ways, cond-false, cond-true, cond_both, ltb-false}
-use Rattle.lard_law_view.specs.Prelude.{ClientBlock, IsSending, Place, Ready, Said, SegFault, Speaks, Turn, after_next, client_aborts, client_ack_ready, client_after_emit, client_after_piece, client_after_timer, client_arrived, client_emits, client_emitted, client_gets, client_holds, client_opened, client_opens, client_owes, client_ready_of, client_shuts, client_speaks, client_taken, client_takes, client_timer, client_told, client_writes, client_written, fresh_len, held_on, is_client_open, is_established, is_writing, next_piece, queued_too, send_closed, shut_down, silent, speaking, to_front, unsaid, written_len}
+use Rattle.lard_law_view.specs.Prelude.{ClientBlock, ClientFires, ClientGets, ClientReceives, Conn, IsSending, Place, Ready, Said, SegFault, Setting, Speaks, Station, ToAbort, ToClient, ToGet, ToHold, ToShut, ToTake, ToWrite, Turn, after_next, client_ack_ready, client_after_emit, client_after_piece, client_after_timer, client_arrived, client_emits, client_emitted, client_gets, client_opened, client_opens, client_owes, client_ready_of, client_rule, client_speaks, client_taken, client_told, client_writes, client_written, decoded, fresh_len, held_on, is_client_open, is_established, is_writing, next_piece, queued_too, request, send_closed, shut_down, silent, speaking, to_front, unsaid, written_len}
 use Rattle.lard_client.specs.declared.phase.Phase.TheVariants.{Aborted}
 use Rattle.lard_client.proofs.Emitting.{owed_falls, told_falls}
 use Rattle.lard_law_connections.specs.Silence.{ClientHasSpoken}
 use Rattle.lard_rules.proofs.Loops.{client_keeps}
 use Rattle.lard_journal.specs.declared.rec.Rec.TheVariants as rec
 use Rattle.lard_send.specs.declared.piece.Piece.{Piece}
+use Rattle.lard_law_view.proofs.EachClient.{ClientComes}
 use Rattle.lard_law_view.proofs.Client.{arriving-continues, closing-speaks, written-speaks}
 use Rattle.lard_law_view.proofs.Speaking.{speaks-begun, speaks-next, speaks-resend}
 use Rattle.lard_rules.proofs.Hearing.{acked, arrived-keeps, client-emit-keeps, client-timer-keeps}
@@ -87,7 +88,10 @@ turning x h = ((h.bytes, h.speaks), h.nothing_held)
 pub opens-spoke : (c isn wnd mss : ℕ) → isn < 2 ^ 32 → ClientHasSpoken (client_opens c isn wnd mss).0
 opens-spoke c isn wnd mss fits = spoke (client_opened c isn wnd mss) (([], speaks-begun isn 0 0 536 fits (omega arith) (omega arith)), λ e. refl)
 
-module _ (x : ClientBlock) (h : ClientHasSpoken x) where
+module _ (k : Setting) (small : k.stream ≤ 2 ^ 30) (its : Conn) (s : Station) (h : ClientHasSpoken s.client) where
+  abbrev x : ClientBlock
+  x = s.client
+
   abbrev Does : ClientBlock × Turn → Type 0
   Does given = ClientHasSpoken given.0
 
@@ -97,32 +101,30 @@ module _ (x : ClientBlock) (h : ClientHasSpoken x) where
     cond_both (is_writing x) (record x { send = queued_too x.send bytes }) x IsHolding (λ t. h.nothing_held) (λ t. h.nothing_held),
   )
 
-  pub writes-spoke : (stream : ℕ) (bytes : List ℕ) → stream ≤ 2 ^ 30 → nat_lt stream (written_len x bytes) ≡ false → Does (client_writes x bytes)
-  writes-spoke stream bytes small within = cond_both (is_writing x) (speaking (rec.Wrote x.c bytes ∷ []) [] (client_written x bytes)) (x, silent) Does
+  writes-spoke : (bytes : List ℕ) → nat_lt k.stream (written_len x bytes) ≡ false → Does (client_writes x bytes)
+  writes-spoke bytes fits = cond_both (is_writing x) (speaking (rec.Wrote x.c bytes ∷ []) [] (client_written x bytes)) (x, silent) Does
       (λ w.
-      let le : written_len x bytes ≤ stream = ltb-false stream (written_len x bytes) within in
+      let le : written_len x bytes ≤ k.stream = ltb-false k.stream (written_len x bytes) fits in
       let all : cond (is_writing x) (length bytes) 0 ≡ length bytes = cond-true (is_writing x) (length bytes) 0 w in
       spoke (client_written x bytes) (write-turns bytes w (omega (arith, le, all, small))))
       (λ w. h)
 
-  pub shuts-spoke : Does (client_shuts x)
-  shuts-spoke = spoke (shut_down x) (
+  gets-spoke : (r : Result Said SegFault) → Does (client_gets x r)
+  gets-spoke (Err fault) = h
+  gets-spoke (Ok said) = spoke (client_arrived x said).1 ((h.bytes, (arriving-continues x h.bytes said h.speaks).0), arrived-holds x said h.nothing_held)
+
+  pub rule-spoke : (g : ClientGets) → ClientComes k its s g → Does (client_rule its.c x g)
+  rule-spoke (ToGet path) fits = writes-spoke (request path) fits
+  rule-spoke (ToWrite bytes) fits = writes-spoke bytes fits
+  rule-spoke ToShut comes = spoke (shut_down x) (
     (h.bytes, (closing-speaks x h.bytes h.speaks).0),
     cond_both (is_client_open x) (record x { send = send_closed x.send }) x IsHolding (λ t. h.nothing_held) (λ t. h.nothing_held),
   )
-
-  pub aborts-spoke : Does (client_aborts x)
-  aborts-spoke = cond_both (is_client_open x) (record x { phase = Aborted }) x ClientHasSpoken (λ t. record { bytes = h.bytes; speaks = h.speaks; none = refl; nothing_held = h.nothing_held }) (λ t. h)
-
-  pub holds-spoke : Does (client_holds x)
-  holds-spoke = spoke (held_on x) (cond_both (is_client_open x) (record x { holding = true }) x IsTurning (λ t. ((h.bytes, h.speaks), λ e. absurd (both_ways true e refl))) (λ t. turning x h))
-
-  pub takes-spoke : Does (client_takes x)
-  takes-spoke = spoke (client_taken x) (cond_both (is_client_open x) (record x { holding = false; held = 0; owed = x.owed || is_established x }) x IsTurning (λ t. ((h.bytes, h.speaks), λ e. refl)) (λ t. turning x h))
-
-  pub timer-spoke : Does (client_timer x)
-  timer-spoke = spoke (client_after_timer x) (timer-turns x (turning x h))
-
-  pub gets-spoke : (r : Result Said SegFault) → Does (client_gets x r)
-  gets-spoke (Err fault) = h
-  gets-spoke (Ok s) = spoke (client_arrived x s).1 ((h.bytes, (arriving-continues x h.bytes s h.speaks).0), arrived-holds x s h.nothing_held)
+  rule-spoke ToAbort comes = cond_both (is_client_open x) (record x { phase = Aborted }) x ClientHasSpoken
+      (λ t. record { bytes = h.bytes; speaks = h.speaks; none = refl; nothing_held = h.nothing_held }) (λ t. h)
+  rule-spoke ToHold comes = spoke (held_on x) (cond_both (is_client_open x) (record x { holding = true }) x IsTurning
+      (λ t. ((h.bytes, h.speaks), λ e. absurd (both_ways true e refl))) (λ t. turning x h))
+  rule-spoke ToTake comes = spoke (client_taken x) (cond_both (is_client_open x) (record x { holding = false; held = 0; owed = x.owed || is_established x }) x IsTurning
+      (λ t. ((h.bytes, h.speaks), λ e. refl)) (λ t. turning x h))
+  rule-spoke ClientFires comes = spoke (client_after_timer x) (timer-turns x (turning x h))
+  rule-spoke (ClientReceives from bytes) comes = gets-spoke (decoded bytes its.c ToClient)

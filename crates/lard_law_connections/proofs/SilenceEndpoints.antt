@@ -1,7 +1,7 @@
 -- An endpoint has said all that it may at the end of each turn, and tells its window as an open one.
-use Rattle.std.proofs.Common.{◌≡◌, ◌≤◌, ◌<◌, ◌+◌, ◌-◌, ◌^◌, not, min, ℕ, zero, suc, Bool, true, false, cond, List, [], ◌∷◌, length, Option, Some, None, OnSome, refl, subst, arith}
+use Rattle.std.proofs.Common.{◌≡◌, ◌≤◌, ◌<◌, ◌+◌, ◌-◌, ◌^◌, min, ℕ, zero, suc, Bool, true, false, cond, List, [], ◌∷◌, length, Option, Some, None, OnSome, refl, subst, arith}
 use Rattle.std.proofs.lemmas.Bool.{cond_both, or_parts}
-use Rattle.lard_law_view.specs.Prelude.{ControlBlock, EndpointParts, IsControlBlock, IsValidParts, Place, Ready, Received, Said, ServeEnv, Service, Verdict, Via, adopted, after_emit, after_timer, answer, answered, arrived, awaited, begins_after, bytes_taken, closes, discarding_on, emits, emits_left, emitted, ended_at_fin, ends, finishing, fresh_bytes, is_closed, listening, may_end, on_segment, queued, queueing, rcv_wnd, speaks, to_client, told}
+use Rattle.lard_law_view.specs.Prelude.{ControlBlock, EndpointParts, IsControlBlock, IsValidParts, Place, Ready, Received, Said, ServeEnv, Service, Verdict, Via, adopted, after_emit, after_timer, answer, answered, arrived, awaited, begins_after, bytes_taken, closes, discarding_on, emits, emits_left, emitted, ended_at_fin, ends, finishing, fresh_bytes, is_closed, listening, may_end, on_segment, queueing, rcv_wnd, speaks, to_client}
 use Rattle.lard_law_connections.proofs.LimitsServing.{answered-sound, ended-sound, reads-unfinished}
 use Rattle.lard_law_connections.proofs.LimitsWorking.{KeptByServing}
 use Rattle.lard_law_connections.specs.Silence.{HasSpoken}

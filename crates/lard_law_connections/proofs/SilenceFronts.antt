@@ -1,6 +1,6 @@
 -- What the front end does with an endpoint keeps what each of its operations keeps.
 use Rattle.std.proofs.Common.{false, ◌≡◌, ℕ, true, List, [], ◌∷◌, Option, Some, None, Ok, IfSome, refl}
-use Rattle.lard_law_view.specs.Prelude.{Ask, Call, ControlBlock, Ending, Final, First, FirstChoice, FrontConn, FrontDeed, FrontEnv, FrontPart, FrontRest, FrontRow, FrontTurn, Place, Said, Service, Turn, front_admitted, front_asked, front_ended, front_fired, front_gets, front_rest, front_taken, front_timer, is_plain_syn, is_row_at, last_words, leaves_by, listening, serving_settled, spoken, stage_after, tombstone}
+use Rattle.lard_law_view.specs.Prelude.{Ask, Call, ControlBlock, Ending, Final, FirstChoice, FrontConn, FrontDeed, FrontEnv, FrontGets, FrontHears, FrontPart, FrontRest, FrontRow, FrontTurn, Place, Said, Service, Turn, front_admitted, front_asked, front_ended, front_fired, front_gets, front_rest, front_rule, front_taken, front_timer, is_plain_syn, is_row_at, last_words, leaves_by, listening, serving_settled, spoken, stage_after, tombstone}
 use Rattle.lard_law_connections.specs.SilencePlaces.{FrontHas, FrontStageHas, KnownHas}
 use Rattle.lard_law_connections.proofs.SilencePlaces.{front-known}
 use Rattle.lard_law_connections.proofs.SilenceTurns.{AreTold, EndHas, IsKept, TurnHas, fired-has, nobody, reads-keep, settled-has, spoken-has}
@@ -8,7 +8,7 @@ use Rattle.lard_dispatch.specs.Laws as call
 use Rattle.lard_rules.specs.Front.{Drops, Says, Does}
 use Rattle.lard_handoff_front.specs.declared.row.FrontConn.TheVariants as stage
 use Rattle.lard_rules.specs.declared.places.Ending.TheVariants as ending
-use Rattle.lard_rules.proofs.FrontCases.{KeptBySegment, of-stage, begun_row, begun_service, heard_reading, heard_service, rests_in, waiting_service, segment-keeps, timer-keeps, taken-keeps, asked-keeps, ended-keeps, admitted-keeps}
+use Rattle.lard_rules.proofs.FrontCases.{IsAsGiven, KeptByFront, KeptBySegment, KeptByTimer, front-keeps, of-stage, begun_row, begun_service, heard_reading, heard_service, rests_in, waiting_service, segment-keeps, timer-keeps, taken-keeps, asked-keeps, ended-keeps, admitted-keeps}
 
 -- what it keeps behind a deed, and what goes out: by the endpoint that stays, and else by some endpoint or by any
 abbrev pub DeedHas : (ControlBlock → Type 0) → (ControlBlock → Said → Type 0) → ℕ → FrontDeed → Type 0
@@ -67,8 +67,8 @@ module _ (env : FrontEnv) (P R : ControlBlock → Type 0) (Word : Said → Type 
 
   -- ---- timers
 
-  pub timer-has : Goes (front_timer env p)
-  timer-has = timer-keeps env p Goes (record {
+  by-timer : KeptByTimer env p Goes
+  by-timer = record {
     drops = tt;
     holds = λ row b at.
         rests-has row (front_rest p.rest) stage.Held (λ Q b q. q) (front_fired env (front_rest p.rest) b) [] (fired-has env.serve P R Word Reply k b (front_rest p.rest).count (of-stage (FrontHas R) p row (stage.Held b) at h));
@@ -76,18 +76,22 @@ module _ (env : FrontEnv) (P R : ControlBlock → Type 0) (Word : Said → Type 
         let given : Ending × Turn = front_fired env (front_rest p.rest) b in
         rests-has row (front_rest p.rest) stage.Waiting (λ Q b q. q) given (leaves_by env.serve.c given.0) (fired-has env.serve P R Word Reply k b (front_rest p.rest).count (of-stage (FrontHas R) p row (stage.Waiting b) at h));
     resends = λ row n e at d. tt;
-  })
+  }
+
+  pub timer-has : Goes (front_timer env p)
+  timer-has = timer-keeps env p Goes by-timer
 
 -- these say nothing, whatever was so before
 module _ (R : ControlBlock → Type 0) (Reply : ControlBlock → Said → Type 0) (c : ℕ) (p : FrontPart) where
   abbrev Says_no : FrontDeed → Type 0
   Says_no d = DeedHas R Reply c d
 
+  still-has : (n epoch : ℕ) (q : Option FrontRow) → is_row_at n epoch q ≡ true → FrontHas R q → KnownHas (λ (b : ControlBlock). R b × Unit {0}) q
+  still-has n epoch None there r = let no : false ≡ true = there in absurd cc
+  still-has n epoch (Some row) there r = front-known R _ (λ b r. (r, tt)) row (Some row) refl r
+
   pub asked-has : FrontHas R p.row → (env : FrontEnv) (n epoch : ℕ) (ask : Ask) → DeedHas R Reply c (front_asked env p n epoch ask)
-  asked-has h env n epoch ask = asked-keeps p Says_no tt env n epoch ask (λ rest found there same some d. tt) (λ rest found there next. (still p.row there h, (nobody, tt))) where
-    still : (q : Option FrontRow) → is_row_at n epoch q ≡ true → FrontHas R q → KnownHas (λ (b : ControlBlock). R b × Unit {0}) q
-    still None there r = let no : false ≡ true = there in absurd cc
-    still (Some row) there r = front-known R _ (λ b r. (r, tt)) row (Some row) refl r
+  asked-has h env n epoch ask = asked-keeps p Says_no tt env n epoch ask (λ rest found there same some d. tt) (λ rest found there next. (still-has n epoch p.row there h, (nobody, tt)))
 
   pub ended-has : (env : FrontEnv) (n epoch : ℕ) (last : Final) → DeedHas R Reply c (front_ended env p n epoch last)
   ended-has env n epoch last = ended-keeps p Says_no tt env n epoch last (λ row found away again d. tt) (λ row found away. (tt, (nobody, tt)))
@@ -98,3 +102,30 @@ module _ (R : ControlBlock → Type 0) (Reply : ControlBlock → Said → Type 0
   -- the head of the line is handed off
   pub admitted-has : (env : FrontEnv) (choice : FirstChoice) (given : FrontPart × FrontTurn) → front_admitted env p choice ≡ Some given → DeedHas R Reply c (Does (record { part = given.0; turn = given.1; calls = [] }))
   admitted-has env choice = admitted-keeps env p choice (λ g. DeedHas R Reply c (Does (record { part = g.0; turn = g.1; calls = [] }))) (λ row b path at target. (tt, (nobody, tt)))
+
+-- ---- whatever comes
+
+module _ (env : FrontEnv) (P R : ControlBlock → Type 0) (Word : Said → Type 0) (Reply : ControlBlock → Said → Type 0)
+    (k : IsKept env.serve P R Word Reply) (p : FrontPart) (h : FrontHas R p.row) where
+  -- of a segment its word is known, what is listened to, and the last words of one that ended
+  abbrev pub Given : FrontGets → Type 0
+  Given (FrontHears bytes given) = (s : Said) → given ≡ Ok s → Word s × (p.row ≡ None → is_plain_syn s ≡ true → P (listening s env.iss))
+      × ((row : FrontRow) (last : Final) → p.row ≡ Some row → row.stage ≡ stage.Closed last
+      → IfSome (last_words last.reason last s) (λ (t : Said). (d : ControlBlock) → Reply d t))
+  Given _ = Unit {0}
+
+  rules_have : KeptByFront env p Given (λ w o. P w.block) (DeedHas R Reply env.serve.c)
+  rules_have = record {
+    drops = tt;
+    hears = λ bytes s m. let g = m s refl in by-segment env P R Word Reply k p h s g.0 g.1 g.2 bytes;
+    fires = λ m. by-timer env P R Word Reply k p h;
+    takes = λ n epoch m row node e at same. (tt, (nobody, tt));
+    tags_again = λ n epoch ask m rest found there same some d. tt;
+    assigns_next = λ n epoch ask m rest found there next. (still-has R Reply env.serve.c p n epoch p.row there h, (nobody, tt));
+    ends_again = λ n epoch last m row found away again d. tt;
+    ends = λ n epoch last m row found away. (tt, (nobody, tt));
+    admits = λ choice row b path at target. (tt, (nobody, tt));
+  }
+
+  pub rule-has : (g : FrontGets) → IsAsGiven env p g → Given g → DeedHas R Reply env.serve.c (front_rule env p g)
+  rule-has g is m = front-keeps env p Given (λ w o. P w.block) (DeedHas R Reply env.serve.c) rules_have g is m

@@ -1,6 +1,6 @@
 -- What a node does with an endpoint keeps what each of its operations keeps.
-use Rattle.std.proofs.Common.{◌≡◌, ℕ, true, List, [], Option, Some, None, Result, Ok, refl, sym, ap}
-use Rattle.lard_law_view.specs.Prelude.{Acknowledged, BackRow, Completed, Content, ControlBlock, Ending, EndpointParts, Forwarded, NodeDeed, NodeEnv, NodeGets, NodePart, Offered, Place, Progress, Said, SegFault, Service, Stay, Tagged, Work, adopted, after_timer, came_for, come_progress, epoch_in, goes_on, gone, kept_after, node_acknowledged, node_begins, node_content, node_fired, node_fired_by, node_forwarded, node_offered, node_read, node_rule, node_tagged, node_timer, offer_answer, on_segment, read_progress, reads_batch, serving, serving_ready_of, serving_settled, spoken, state_of, tagged, taken_sent, timed, with_work, without, work_of}
+use Rattle.std.proofs.Common.{◌≡◌, ℕ, true, List, [], Option, Some, None, Ok, refl, sym, ap}
+use Rattle.lard_law_view.specs.Prelude.{BackRow, ControlBlock, Ending, EndpointParts, Forwarded, NodeDeed, NodeEnv, NodeGets, NodePart, Offered, Place, Progress, Said, Service, Stay, Work, adopted, after_timer, came_for, come_progress, epoch_in, goes_on, gone, kept_after, node_begins, node_fired, node_fired_by, node_offered, node_rule, node_timer, offer_answer, on_segment, read_progress, reads_batch, serving, serving_ready_of, serving_settled, spoken, state_of, tagged, taken_sent, timed, with_work, without, work_of}
 use Rattle.lard_base.specs.declared.place.TimerKind.TheVariants as timer
 use Rattle.lard_law_connections.proofs.LimitsWorking.{batch-state, came-so, goes-so, tagged-so}
 use Rattle.lard_law_connections.specs.SilencePlaces.{BackHas, NodeHas}
@@ -85,21 +85,6 @@ module _ (env : NodeEnv) (P R Q : ControlBlock → Type 0) (Word : Said → Type
   offered-has p parts adopts = rule-has p (Offered parts) tt adopts
 
   module _ (p : NodePart) (h : NodeHas R Q p) where
-    pub forwarded-has : (given : Result Said SegFault) → ((s : Said) → given ≡ Ok s → Word s) → Goes (node_forwarded env p given)
-    forwarded-has given word = rule-has p (Forwarded given) tt (h, word)
-
-    pub tagged-has : (number : ℕ) (nodes : List ℕ) → Goes (node_tagged env p number nodes)
-    tagged-has number nodes = rule-has p (Tagged number nodes) tt h
-
-    pub content-has : (from r : ℕ) → Goes (node_content env p from r)
-    content-has from r = rule-has p (Content from r) tt h
-
-    pub read-has : (r : ℕ) → Goes (node_read env p r)
-    read-has r = rule-has p (Completed r []) tt h
-
-    pub acknowledged-has : Goes (node_acknowledged env p)
-    acknowledged-has = rule-has p Acknowledged tt h
-
     -- in whatever epoch
     pub timer-has : Goes (node_timer env p)
     timer-has = where-held (epoch_in p) p (λ o. Goes (node_fired_by env p o)) tt (λ b s at. fires-has p b s (has p (epoch_in p) b s at h))

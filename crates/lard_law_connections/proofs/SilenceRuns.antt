@@ -1,7 +1,6 @@
 -- Each rule leaves nothing to be said, so it is in every run.
-use Rattle.std.proofs.Common.{◌≡◌, ◌≤◌, ◌^◌, ℕ, List, [], Option, Some, None, Result, Ok, Err, IfSome, sym, subst}
-use Rattle.lard_base.specs.declared.event.Event.TheVariants as event
-use Rattle.lard_law_view.specs.Prelude.{Client, ClientBlock, ClientRules, Conn, ControlBlock, EndpointParts, Forwarded, Front, FrontRules, IsFrontEnv, IsLaw, IsNodeEnv, IsValidParts, MayRestOn, Move, Node, NodeEnv, NodeGets, NodeRules, Offered, Rules, Said, Seen, SegFault, Setting, SpellsMessage, Station, ToCluster, ask_of, decoded, event_seen, front_asked, front_does, front_ended, front_gets, front_taken, front_timer, grown, last_words, node_does, node_rule, packet_seen, setting, with_station}
+use Rattle.std.proofs.Common.{◌≡◌, ◌≤◌, ◌^◌, ℕ, List, Option, Some, None, IfSome, sym, subst}
+use Rattle.lard_law_view.specs.Prelude.{ClientBlock, ClientRules, Conn, ControlBlock, EndpointParts, Forwarded, FrontGets, FrontHears, FrontRules, IsFrontEnv, IsLaw, IsNodeEnv, IsValidParts, MayRestOn, Move, NodeEnv, NodeGets, NodeRules, Offered, Rules, Said, Seen, Setting, SpellsMessage, Station, front_does, front_rule, grown, last_words, node_does, node_rule, setting, with_station}
 use Rattle.lard_law_connections.proofs.PolicyMessages.{IsTold, message-told}
 use Rattle.lard_law_connections.specs.SilenceLaws.{ConnectionsHaveSpoken}
 use Rattle.lard_law_connections.specs.SilencePlaces.{FrontHas, NodeHas}
@@ -14,6 +13,8 @@ use Rattle.lard_law_connections.proofs.SilencePlaces.{known-front, node-weaker}
 use Rattle.lard_law_connections.proofs.SilenceTurns.{IsKept}
 use Rattle.lard_law_view.proofs.Carried.{carried}
 use Rattle.lard_law_view.proofs.EachNode.{NodeComes, each-node}
+use Rattle.lard_law_view.proofs.EachFront.{admission, each-front}
+use Rattle.lard_law_view.proofs.EachClient.{each-client}
 use Rattle.lard_law_view.proofs.Parts.{put-each}
 use Rattle.lard_rules.specs.Front as front
 use Rattle.lard_message.specs.declared.message.Body.TheVariants as body
@@ -42,17 +43,10 @@ module _ (k : Setting) (small : k.stream ≤ 2 ^ 30) where
   by-client x s y there rule may h = record { client = rule (subst StationHasSpoken there h.client); front = h.front; nodes = h.nodes }
 
   client-rules : ClientRules k Speaks
-  client-rules = record {
+  client-rules = each-client k Speaks (record {
     opens = λ x isn iss wnd mss rule none may h. record { client = clients.opens-spoke x.c isn wnd mss rule.4; front = h.front; nodes = h.nodes };
-    gets = λ x s path there fits. by-client x s _ there (λ h. clients.writes-spoke s.client h k.stream _ small fits);
-    writes = λ x s bytes there fits. by-client x s _ there (λ h. clients.writes-spoke s.client h k.stream bytes small fits);
-    shuts = λ x s there. by-client x s _ there (clients.shuts-spoke s.client);
-    aborts = λ x s there. by-client x s _ there (clients.aborts-spoke s.client);
-    holds = λ x s there. by-client x s _ there (clients.holds-spoke s.client);
-    takes = λ x s there. by-client x s _ there (clients.takes-spoke s.client);
-    fires = λ x s there. by-client x s _ there (clients.timer-spoke s.client);
-    hears = λ x s from bytes there was. by-client x s _ there (λ h. clients.gets-spoke s.client h _);
-  }
+    does = λ x s g there comes. by-client x s _ there (λ h. clients.rule-spoke k small x s h g comes);
+  })
 
   -- ---- the front end
 
@@ -64,23 +58,19 @@ module _ (k : Setting) (small : k.stream ≤ 2 ^ 30) where
   front-kept : (x : Conn) (env : front.FrontEnv) → IsFrontEnv k x.c env → IsKept env.serve IsTurning HasSpoken Anything AnyReply
   front-kept x env is = endpoint-law env.serve (subst (λ (n : ℕ). n ≤ 2 ^ 30) (sym is.stream) small)
 
-  front-gets : (x : Conn) (env : front.FrontEnv) → IsFrontEnv k x.c env → FrontHas HasSpoken x.part.front.row → (bytes : List ℕ) (r : Result Said SegFault)
-      → fronts.DeedHas HasSpoken AnyReply env.serve.c (front_gets env x.part.front bytes r)
-  front-gets x env is h bytes (Err fault) = tt
-  front-gets x env is h bytes (Ok s) = fronts.gets-has env IsTurning HasSpoken Anything AnyReply (front-kept x env is) x.part.front h s tt
-      (λ none plain. listening-turns s env.iss) (λ row last found at. any-words (last_words last.reason last s)) bytes
+  front-given : (x : Conn) (env : front.FrontEnv) (is : IsFrontEnv k x.c env) (h : FrontHas HasSpoken x.part.front.row) (g : FrontGets)
+      → fronts.Given env IsTurning HasSpoken Anything AnyReply (front-kept x env is) x.part.front h g
+  front-given x env is h (FrontHears bytes r) = λ s e. (
+    tt,
+    (λ none plain. listening-turns s env.iss),
+    (λ row last found at. any-words (last_words last.reason last s)),
+  )
+  front-given x env is h _ = tt
 
   front-rules : FrontRules k Speaks
-  front-rules = record {
-    hears = λ x s env bytes there is iss was may h. front-move x (packet_seen (Client x.c) Front bytes) env.serve.c (front_gets env x.part.front bytes (decoded bytes x.c ToCluster)) (front-gets x env is h.front bytes (decoded bytes x.c ToCluster)) h;
-    fires = λ x s env there is may h. front-move x (event_seen (event.Timer Front x.c)) env.serve.c (front_timer env x.part.front) (fronts.timer-has env IsTurning HasSpoken Anything AnyReply (front-kept x env is) x.part.front h.front) h;
-    taken = λ x env n epoch bytes is spells was may h. front-move x (packet_seen (Node n) Front bytes) env.serve.c (front_taken x.part.front epoch) (fronts.taken-has HasSpoken AnyReply env.serve.c x.part.front epoch) h;
-    asked = λ x env n epoch number queue size paths bytes is spells was may h. front-move x (packet_seen (Node n) Front bytes) env.serve.c (front_asked env x.part.front n epoch (ask_of x.c n number queue size paths))
-        (fronts.asked-has HasSpoken AnyReply env.serve.c x.part.front h.front env n epoch (ask_of x.c n number queue size paths)) h;
-    ended = λ x env n epoch reason snd rcv count bytes is spells was may h. front-move x (packet_seen (Node n) Front bytes) env.serve.c (front_ended env x.part.front n epoch (record { reason = reason; snd = record { 0 = snd }; rcv = record { 0 = rcv } }))
-        (fronts.ended-has HasSpoken AnyReply env.serve.c x.part.front env n epoch (record { reason = reason; snd = record { 0 = snd }; rcv = record { 0 = rcv } })) h;
-    admitted = λ x env choice given is e may h. front-move x [] env.serve.c (front.Does (record { part = given.0; turn = given.1; calls = [] })) (fronts.admitted-has HasSpoken AnyReply env.serve.c x.part.front env choice given e) h;
-  }
+  front-rules = each-front k Speaks (λ x env heads g is comes may h. front-move x heads env.serve.c (front_rule env x.part.front g)
+      (fronts.rule-has env IsTurning HasSpoken Anything AnyReply (front-kept x env is) x.part.front h.front g
+      (admission x env heads g comes) (front-given x env is h.front g)) h)
 
   -- ---- the nodes
 

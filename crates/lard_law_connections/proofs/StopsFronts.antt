@@ -1,7 +1,7 @@
 -- The front end reads until no request is left, or the next one is to be placed.
 use Rattle.std.proofs.Common.{◌≡◌, ◌⊎◌, ◌+◌, ◌<◌, ℕ, zero, suc, Bool, true, false, List, [], length, Option, Some, None, inl, inr, ⊎_elim, refl, sym, ◌∙◌, arith}
 use Rattle.std.proofs.lemmas.Bool.{both_ways, cond_both}
-use Rattle.lard_law_view.specs.Prelude.{Conn, ControlBlock, Done, Ending, FilesAt, Found, FrontConn, FrontDeed, FrontEnv, FrontGets, FrontPart, FrontRow, HasStopped, More, Place, Reading, Said, Seen, ServeEnv, Service, Step, Verdict, after_timer, answered, block_at, cut_of, front_does, front_fired, front_reads, front_rest, front_rule, good_path, grown, holds, may_freeze, may_read, on_segment, reading_left, reading_turn, reads_block, reads_found, runs_on, serving_consumed, serving_settled, speaks, spoken, stage_after, targeted}
+use Rattle.lard_law_view.specs.Prelude.{Conn, ControlBlock, Done, Ending, FilesAt, Found, FrontConn, FrontDeed, FrontEnv, FrontGets, FrontPart, FrontRow, HasStopped, More, Place, Reading, Said, Seen, ServeEnv, Service, Step, Verdict, after_timer, answered, block_at, cut_of, front_does, front_fired, front_reads, front_rest, front_rule, good_path, grown, may_freeze, may_read, on_segment, reading_left, reading_turn, reads_block, reads_found, runs_on, serving_consumed, serving_settled, speaks, spoken, stage_after, targeted}
 use Rattle.lard_base.specs.declared.place.Via.TheVariants.{Own}
 use Rattle.lard_block.specs.declared.block.Found.TheVariants as found
 use Rattle.lard_law_connections.specs.Stops.{FrontStageStops, FrontStops, HeldStops, IsHeldBack, ReadingStops}

@@ -1,7 +1,7 @@
 -- A node reads and serves until the first request is not ready, or no request is left.
 use Rattle.std.proofs.Common.{◌≡◌, ◌⊎◌, ◌-◌, ◌+◌, nat_lt, ℕ, Bool, true, false, cond, List, [], ◌∷◌, ◌++◌, length, take, drop, Option, Some, None, inl, inr, ⊎_elim, refl, sym, ap, ◌∙◌, subst, append-nil}
 use Rattle.std.proofs.lemmas.Bool.{both_ways, cond_both}
-use Rattle.lard_law_view.specs.Prelude.{BackRow, Conn, ControlBlock, Ending, Entry, FilesAt, Found, HasStopped, More, NodeDeed, NodeEnv, NodeGets, NodePart, Place, Progress, Received, Said, Seen, Service, Stay, Verdict, Via, Work, after_timer, answered, awaited, batch_of, begins_after, blocks, bytes_taken, bytes_used, came_for, closes, come_on, come_progress, cut_of, ended_at_fin, ends, fresh_bytes, goes_on, gone, grown, here, kept_after, may_read, next_in, node_begins, node_does, node_fired, node_rule, on_segment, read_progress, reads_batch, serves_with, serving, serving_consumed, serving_ready_of, serving_settled, speaks, spoken, state_of, tagged, taken_sent, timed, verdict, with_work, without, work_of}
+use Rattle.lard_law_view.specs.Prelude.{BackRow, Conn, ControlBlock, Ending, Entry, FilesAt, Found, HasStopped, NodeDeed, NodeEnv, NodeGets, NodePart, Place, Progress, Received, Said, Seen, Service, Stay, Verdict, Via, Work, after_timer, answered, awaited, batch_of, begins_after, blocks, bytes_taken, bytes_used, came_for, closes, come_on, come_progress, cut_of, ended_at_fin, ends, fresh_bytes, goes_on, gone, grown, kept_after, may_read, next_in, node_begins, node_does, node_fired, node_rule, on_segment, read_progress, reads_batch, serves_with, serving, serving_consumed, serving_ready_of, serving_settled, speaks, spoken, state_of, tagged, taken_sent, timed, verdict, with_work, without, work_of}
 use Rattle.lard_base.specs.declared.place.TimerKind.TheVariants as timer
 use Rattle.lard_base.specs.declared.place.Via.TheVariants as via
 use Rattle.lard_block.specs.declared.block.Found.TheVariants as found
