@@ -129,8 +129,7 @@ module _ (files : FilesAt) (x : Conn) (isn iss wnd mss : ℕ) (rule : HasRule (e
     one (Node n) (Node k) f g = tt
     one Front to f g = absurd f
     one (Client d) to f g = absurd f
-    one (Node n) Front f g = absurd g
-    one (Node n) (Client d) f g = absurd g
+    one (Node n) _ f g = absurd g
 
   pub opens-keeps : AcksWhatWasTaken (grown x w)
   opens-keeps =

@@ -146,8 +146,7 @@ module _ (c : ℕ) (b : Bounds) (p : Part) where
 
     go : (to : Place) → LetterActsOn c b p (Client d) to s.1
     go Front = says
-    go (Node n) = tt
-    go (Client d) = tt
+    go _ = tt
 
   pub replies-act : (place : Place) (ss : List (Place × List ℕ)) → RepliesMay c b.isn b.heard ss → Each (LetterActs c b p) (map (letter place) ss)
   replies-act place [] may = tt

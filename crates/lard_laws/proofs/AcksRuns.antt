@@ -1,5 +1,5 @@
 -- Each rule keeps what holds of its connection: what was acknowledged was taken, in every run.
-use Rattle.std.proofs.Common.{◌≡◌, ◌≤◌, ◌^◌, ℕ, false, List, [], Some, refl, sym, ap, ◌∙◌, subst}
+use Rattle.std.proofs.Common.{◌≡◌, ◌≤◌, ◌^◌, ℕ, false, List, Some, refl, sym, ap, ◌∙◌, subst}
 use Rattle.std.proofs.Math.Bool.{or-false}
 use Rattle.lard_base.specs.declared.event.Event.TheVariants as event
 use Rattle.lard_law_view.specs.Prelude.{Conn, Front, FrontRules, IsUntouchedLaw, MayRestOn, Move, Node, NodeRules, Place, Seen, Setting, Station, Stream, TurnSaid as SaidIn, Untouched, UntouchedRules, event_seen, front_does, grown, letters_of, nothing_said, packet_seen, setting, stands, tale_at}

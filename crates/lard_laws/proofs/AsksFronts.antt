@@ -2,7 +2,7 @@
 use Rattle.std.proofs.Common.{◌≡◌, ◌+◌, ℕ, false, cond, List, [], ◌∷◌, ◌++◌, map, Option, Some, None, refl, sym, ap, ◌∙◌, subst}
 use Rattle.std.proofs.lemmas.List.Sums.{fold-append}
 use Rattle.std.specs.List.{fold}
-use Rattle.lard_law_view.specs.Prelude.{AskedBy, Body, Call, Client, Conn, ControlBlock, Ending, First, FirstChoice, Front, FrontConn, FrontDeed, FrontEnv, FrontGets, FrontPart, FrontRest, FrontRow, FrontTurn, IsFrontEnv, Kept, Kind, Move, Node, Place, Rec, Said as Segment, Seen, Service, Setting, Turn, ack_sent, after_timer, by_front, epoch_at, front_does, front_ends, front_fired, front_reads, front_rest, front_rests, front_rule, front_saying, handed_off, kind_of, last_words, leaves_by, listed, next_epoch, sent_of, serving, serving_settled, spoken, stage_after, timed, tombstone, turn_here, with_front}
+use Rattle.lard_law_view.specs.Prelude.{AskedBy, Body, Call, Client, Conn, ControlBlock, Ending, FirstChoice, Front, FrontConn, FrontDeed, FrontEnv, FrontGets, FrontPart, FrontRest, FrontRow, FrontTurn, IsFrontEnv, Kept, Kind, Move, Node, Place, Rec, Said as Segment, Seen, Service, Setting, Turn, ack_sent, after_timer, by_front, epoch_at, front_does, front_ends, front_fired, front_reads, front_rest, front_rests, front_rule, front_saying, handed_off, kind_of, last_words, leaves_by, listed, next_epoch, sent_of, serving, serving_settled, spoken, stage_after, timed, tombstone, turn_here, with_front}
 use Rattle.lard_laws.specs.Asks.{Answered, AskTale, ask_in, ask_tale, is_tag, row_done, tag_to}
 use Rattle.lard_laws.proofs.AsksMoving.{Answers, IsCalm, RowTold, StageTold, Told, calm-answers}
 use Rattle.lard_law_connections.specs.MotionStory.{picked}

@@ -88,8 +88,7 @@ other-asks n e m [] other = refl
 other-asks n e m (s ∷ ss) other = (λ i. listed (one s.0 i) ++ other-asks n e m ss other i) where
   one : (to : Place) → ask_by n e (sending (Node m) (to, s.1)) ≡ None
   one Front = ap (λ b. cond (b && is_ask e (message_head s.1)) (Some s.1) None) (other_number m n other)
-  one (Node k) = refl
-  one (Client d) = refl
+  one _ = refl
 
 module _ (x : Conn) (v : Move) (own : IsItsOwn x v) (first : Each IsFirst v.heads) where
   abbrev segments : List Rec

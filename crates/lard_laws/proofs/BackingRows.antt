@@ -1,5 +1,5 @@
 -- What the records of a move say of requests, list by list.
-use Rattle.std.proofs.Common.{◌≡◌, ◌+◌, ℕ, List, [], ◌∷◌, ◌++◌, map, refl, sym, ap, ◌∙◌, subst, append-nil, append_assoc}
+use Rattle.std.proofs.Common.{◌≡◌, ℕ, List, [], ◌∷◌, ◌++◌, map, refl, sym, ap, ◌∙◌, subst, append-nil, append_assoc}
 use Rattle.std.specs.List.{slice_get}
 use Rattle.lard_law_view.specs.Prelude.{Body, Conn, EachRow, FilesAt, IsPrefix, Letter, Move, Node, Place, Rec, Seen, Tale, Verdict, grown, letter, letters_of, seen_in, tale_at, tale_of, tale_step, timer_rows, told_on, verdicts}
 use Rattle.lard_answers.proofs.Growing.{verdicts-grow}

@@ -38,7 +38,6 @@ use Rattle.lard_handoff_back.specs.declared.table.Adopt.TheVariants.{New}
 use Rattle.lard_law_view.proofs.EachNode.{Answers, Aside, Brings, MayAside, NodeComes, Queues, aside_said, aside_seen, each-node, job_notes, node_goes, told_first}
 use Rattle.lard_rules.proofs.NodeCases.{IsHereWith, KeptByNode, node-keeps}
 use Rattle.lard_rules.specs.Node.{Does, Says}
-use Rattle.lard_segment.proofs.Again.{again}
 use Rattle.lard_law_view.proofs.EachFront.{each-front}
 
 -- ---- a client

@@ -64,11 +64,14 @@ client-takes : (k : Setting) (x : Conn) (s : Station) (g : ClientGets) → x.par
 client-takes k x s (ToGet path) there fits number sound given = inr (refl, inl (writes-pass s.client (request path)))
 client-takes k x s (ToWrite bytes) there fits number sound given = inr (refl, inl (writes-pass s.client bytes))
 client-takes k x s ToAbort there comes number sound given = inr (refl, inl (tt, tt))
-client-takes k x s (ClientReceives from bytes) there was number sound given = inr (refl, inr (
-  record { from = from; to = Client x.c; bytes = bytes },
+client-takes k x s (ClientReceives from bytes) there was number sound given = inr (
   refl,
-  hears x.c s.client (tale_at x) from bytes (packet-known x s from bytes there sound was given.first given.told given.counts) (sound.client s there) (decoded bytes x.c ToClient) refl,
-))
+  inr (
+    record { from = from; to = Client x.c; bytes = bytes },
+    refl,
+    hears x.c s.client (tale_at x) from bytes (packet-known x s from bytes there sound was given.first given.told given.counts) (sound.client s there) (decoded bytes x.c ToClient) refl,
+  ),
+)
 client-takes k x s _ there comes number sound given = inr (refl, inl tt)
 
 owing : (k : Setting) → Rules k (Owed Takes)

@@ -1,5 +1,5 @@
 -- What the front end keeps of an end is so: its own turns end truly, and what a node tells it was so.
-use Rattle.std.proofs.Common.{◌≡◌, ◌⊎◌, ◌≤◌, ◌<◌, not, ◌^◌, ℕ, true, false, List, [], map, Option, inl, inr, ⊎_elim, refl, sym, ◌∙◌, subst}
+use Rattle.std.proofs.Common.{◌≡◌, ◌⊎◌, ◌≤◌, not, ◌^◌, ℕ, true, false, List, [], map, Option, inl, inr, ⊎_elim, refl, sym, ◌∙◌, subst}
 use Rattle.std.proofs.lemmas.Bool.{and_parts, both_ways, not-true}
 use Rattle.lard_law_view.specs.Prelude.{Conn, ControlBlock, Ending, Final, Front, FrontConn, FrontDeed, FrontEnv, FrontGets, FrontPart, FrontRow, HasStopped, IsStream, IsWord, MayMove, Node, Place, Said, Seen, Service, Station, Talk, Verdict, after_timer, front_does, front_fired, front_reads, front_rest, front_rule, letter, may_freeze, serving_settled, spoken, stage_after}
 use Rattle.lard_law_connections.specs.BytesAgreement.{FrontHolds, IsOpen, SeatAgrees, StageAgrees}

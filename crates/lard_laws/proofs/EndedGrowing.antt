@@ -80,10 +80,8 @@ module _ (P : Final → Type 0) (row : Option FrontRow) where
   inner-letters (l ∷ ls) h = (one l.from l.to h.0.0 h.0.1, inner-letters ls h.1) where
     one : (from to : Place) → IsNodePlace from → IsNodePlace to → LetterEndsOn P row from to l.bytes
     one (Node n) (Node m) f t = tt
-    one (Node n) Front f t = absurd t
-    one (Node n) (Client c) f t = absurd t
-    one Front to f t = absurd f
-    one (Client c) to f t = absurd f
+    one (Node n) _ f t = absurd t
+    one _ to f t = absurd f
 
   -- a message of another kind
   pub other-ends : (n c e : ℕ) (a : Body) → (kind_of a ≡ kind.Ended → ⊥) → LetterEndsOn P row (Node n) Front (message c e a)

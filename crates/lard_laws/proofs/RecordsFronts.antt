@@ -1,5 +1,5 @@
 -- What each rule of the front end keeps of a connection, and that its turn is in range.
-use Rattle.std.proofs.Common.{◌≡◌, ℕ, suc, ◌+◌, ◌-◌, ◌*◌, ◌≤◌, ◌<◌, ◌^◌, ◌==◌, ◌&&◌, not, List, [], ◌∷◌, ◌++◌, length, map, Bool, true, false, Option, Some, None, IfSome, Ok, Err, Result, ⊎_elim, refl, sym, ap, subst, arith, eqb-true}
+use Rattle.std.proofs.Common.{◌≡◌, ℕ, suc, ◌+◌, ◌-◌, ◌*◌, ◌≤◌, ◌<◌, ◌^◌, ◌==◌, ◌&&◌, not, List, [], ◌∷◌, length, map, Bool, true, false, Option, Some, None, IfSome, Ok, Err, Result, ⊎_elim, refl, sym, ap, subst, arith, eqb-true}
 use Rattle.std.proofs.lemmas.Bool.{and_parts, cond_both, not-true}
 use Rattle.std.specs.List.{AllByRecursion}
 use Rattle.lard_law_view.specs.Prelude.{Ask, ControlBlock, Ending, Epoch, Final, First, FirstChoice, Found, FrontConn, FrontDeed, FrontEnv, FrontPart, FrontRest, FrontRow, FrontTurn, IsChoiceInRange, IsEarlyAway, IsEarlyHere, IsNumber, IsPlaceInRange, IsRecordInRange, IsUnspaced, Later, LaterChoice, Place, Reading, Reason, Said, SegFault, Service, Step, Turn, Verdict, ack_sent, after_timer, ask_of, assigned_notes, assigns, block_at, cut_of, forwarded, front_admitted, front_asked, front_ended, front_fired, front_gets, front_reads, front_rest, front_rests, front_saying, front_taken, front_timer, good_path, handed_off, holds, is_away, is_row_at, is_telling, is_with, last_ack, last_words, may_freeze, may_read, next_epoch, offer_kept, on_segment, over_note, reading_left, reading_turn, reads_block, reads_found, refusal, sent_of, serving, serving_consumed, serving_ready_of, serving_settled, serving_told, spoken, tag_sent, targeted, timed, tombstone, turn_here, waits_on, without}
@@ -311,8 +311,8 @@ module _ (env : FrontEnv) (own : env.serve.place ≡ place.Front) (conn : cluste
           (spoken-front (begun_service env s) [] tt (omega arith) (record { notes = ((tt, number, omega arith), tt); keeps = ((tt, omega arith, omega arith), tt, fit-listening s env.iss told first); over = tt }))
           (spoken-serves env.serve (begun_service env s) [] (record { counted = omega arith; asked = omega arith; most = omega arith; sent = omega arith }));
       reads = λ row b at. let k = kept-at row (stage.Held b) at in (
-          reads-read (heard_reading p b s) (fresh (on_segment b s).1 (front_rest p.rest).count (keeping-segment ((front_rest p.rest).count - 2 ^ 30) b s told k.1), tt),
-          reads-stop env.serve (heard_service p b s) (segment-serves (front_rest p.rest).count b s k.2),
+        reads-read (heard_reading p b s) (fresh (on_segment b s).1 (front_rest p.rest).count (keeping-segment ((front_rest p.rest).count - 2 ^ 30) b s told k.1), tt),
+        reads-stop env.serve (heard_service p b s) (segment-serves (front_rest p.rest).count b s k.2),
       );
       holds = λ row b w here came. holds-fits row (front_rest p.rest) (serving_settled env.serve w) (kept-at row (stage.Held b) here).0 held.rest
           (subst (λ (q : Place). EndFits q (serving_settled env.serve w)) own (settled-fits env.serve number small (contents env.serve.files named) at w came.0.0)) (settled-serves env.serve w came.1.0);
@@ -377,8 +377,8 @@ module _ (env : FrontEnv) (own : env.serve.place ≡ place.Front) (conn : cluste
 
     pub taken-fits : (epoch : ℕ) → epoch < 2 ^ 16 → Fits (front_taken p epoch)
     taken-fits epoch early = taken-keeps p Fits tt epoch (λ row n e at same. let k = kept-at row (stage.Offering n e) at in (
-        record { row = (conn, (k.0, k.1, early)); rest = held.rest; kept = less; few = less-few },
-        sends place.Front [] tt (omega arith),
+      record { row = (conn, (k.0, k.1, early)); rest = held.rest; kept = less; few = less-few },
+      sends place.Front [] tt (omega arith),
     ))
 
     -- ---- an Ask

@@ -1,7 +1,7 @@
 -- What the front end does leaves the last Tag with nodes that are there, and with as many as requests wait for one.
 use Rattle.std.proofs.Common.{◌≡◌, ◌≤◌, ◌+◌, ◌++◌, ◌==◌, ◌&&◌, ℕ, true, false, List, [], length, map, Option, Some, None, refl, sym, ap, ◌∙◌, subst, arith, eqb-true, inr, ⊎_elim}
 use Rattle.std.proofs.lemmas.Bool.{and_parts}
-use Rattle.lard_law_view.specs.Prelude.{Ask, Conn, ControlBlock, Did, Ending, FilesAt, Front, FrontConn, FrontDeed, FrontEnv, FrontGets, FrontPart, FrontRest, FrontRow, Move, Node, Row, Said, Seen, Service, assigns, front_does, front_ends, front_fired, front_rest, front_rests, front_rule, grown, is_row_at, is_with, next_epoch, offering, packet_seen, placed, rows_of, serving, serving_settled, spoken, tale_at}
+use Rattle.lard_law_view.specs.Prelude.{Ask, Conn, ControlBlock, Did, Ending, FilesAt, Front, FrontConn, FrontDeed, FrontEnv, FrontGets, FrontPart, FrontRest, FrontRow, Move, Node, Row, Said, Seen, Service, assigns, front_does, front_ends, front_fired, front_rest, front_rests, front_rule, grown, is_row_at, is_with, next_epoch, offering, packet_seen, rows_of, serving, serving_settled, spoken, tale_at}
 use Rattle.lard_laws.proofs.AsksMoving.{Fills}
 use Rattle.lard_law_connections.specs.Places.{ArePast, IsPast, Sits, owning}
 use Rattle.lard_law_connections.proofs.PlacesFrontRules.{has-each}

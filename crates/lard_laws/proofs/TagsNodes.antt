@@ -1,5 +1,5 @@
 -- What a node does leaves the last Tag with as many nodes as requests wait for one.
-use Rattle.std.proofs.Common.{◌≡◌, ◌⊎◌, ◌+◌, ◌==◌, ℕ, true, List, [], length, Option, Some, None, refl, sym, ap, ◌∙◌, subst, arith, inl, inr, ⊎_elim}
+use Rattle.std.proofs.Common.{◌≡◌, ◌⊎◌, ◌+◌, ℕ, true, List, [], length, Option, Some, None, refl, sym, ap, ◌∙◌, subst, arith, inl, inr, ⊎_elim}
 use Rattle.lard_law_view.specs.Prelude.{Adopt, BackRow, Conn, ControlBlock, EndpointParts, FilesAt, FrontRest, NodeDeed, NodeEnv, NodePart, Seen, Stay, front_rest, goes_on, grown, here, is_row_at, named_paths, node_begins, node_does, node_rests, offer_answer, offered_by, reads_batch, state_of, taken_sent}
 use Rattle.lard_law_connections.proofs.KeptHere.{IsHere, here-is}
 use Rattle.lard_law_connections.proofs.KeptNodes.{DeedFollows, DeedGoes, IsOfEpoch, MayFollow, StayFollows}
@@ -11,7 +11,7 @@ use Rattle.lard_law_view.proofs.Parts.{put-each}
 use Rattle.lard_laws.proofs.WaysFrontAnswers.{with-of}
 use Rattle.lard_laws.specs.WaysState.{GoesItsWay, IsAway, SeatWays, StageWays, StayWays, marks_at}
 use Rattle.lard_handoff_back.specs.declared.row.BackConn.TheVariants as back
-use Rattle.lard_handoff_back.specs.declared.table.Adopt.TheVariants.{New, Again, Stale}
+use Rattle.lard_handoff_back.specs.declared.table.Adopt.TheVariants.{New}
 use Rattle.lard_rules.specs.Node.{Drops, Says, Does}
 
 -- what is known of a connection beside its Tags
@@ -100,8 +100,7 @@ module _ (N : ℕ → Type 0) (files : FilesAt) (x : Conn) (facts : Facts files 
   pub offered-fit : (env : NodeEnv) (parts : EndpointParts) (a : Adopt) → offer_answer env.epoch ours.row ≡ a
       → DeedFollows files env.epoch 0 [] (offered_by env parts ours a) → DeedFits (offered_by env parts ours a)
   offered-fit env parts New new f = begins env.epoch (node_rests env ours (taken_sent env) (goes_on env (state_of (reads_batch env true (node_begins env parts))))).0 new f.0 f.1
-  offered-fit env parts Again new f = tt
-  offered-fit env parts Stale new f = tt
+  offered-fit env parts _ new f = tt
 
   -- ---- its move
 

@@ -1,6 +1,6 @@
 -- What the front end does leaves a connection on its way.
 use Rattle.std.proofs.Common.{◌≡◌, ◌≤◌, ◌^◌, ℕ, true, false, List, [], ◌∷◌, ◌++◌, map, length, take, Option, Some, None, refl, sym, ap, ◌∙◌, subst, append-nil}
-use Rattle.lard_law_view.specs.Prelude.{Ask, Client, Conn, ControlBlock, Ending, Epoch, FilesAt, FirstChoice, Front, FrontConn, FrontDeed, FrontEnv, FrontGets, FrontPart, FrontRest, FrontRow, IsConnNumber, IsFrontEnv, IsPrefix, IsStream, IsWord, MayMove, Node, Place, Reading, Said, Seen, Service, Setting, Station, Stream, Talk, Turn, Verdict, after_timer, batch_of, by_front, forwarded, front_begun, front_does, front_fired, front_reads, front_rest, front_rests, front_rule, front_saying, holds, is_row_at, last_words, may_freeze, on_segment, sent_of, serving, serving_settled, speaks, spoken, stage_after, tale_at, timed, tombstone, turn_here, verdicts, with_front}
+use Rattle.lard_law_view.specs.Prelude.{Ask, Client, Conn, ControlBlock, Ending, Epoch, FilesAt, FirstChoice, Front, FrontConn, FrontDeed, FrontEnv, FrontGets, FrontPart, FrontRest, FrontRow, IsConnNumber, IsFrontEnv, IsPrefix, IsStream, IsWord, MayMove, Node, Place, Reading, Said, Seen, Service, Setting, Station, Stream, Talk, Turn, Verdict, after_timer, batch_of, by_front, forwarded, front_begun, front_does, front_fired, front_reads, front_rest, front_rests, front_rule, front_saying, holds, is_row_at, last_words, may_freeze, on_segment, sent_of, serving, serving_settled, spoken, stage_after, tale_at, timed, tombstone, turn_here, verdicts, with_front}
 use Rattle.lard_law_connections.specs.BytesAgreement.{FrontHolds, FrontWaits, IsOpen, IsTruthful, SeatAgrees, StageAgrees}
 use Rattle.lard_law_connections.specs.BytesKeeping.{IsFrontTalk}
 use Rattle.lard_law_connections.proofs.BytesClientMoves.{has-fair, open-at}

@@ -96,8 +96,7 @@ module _ (k : Setting) (small : k.stream ≤ 2 ^ 30) where
     go Front (Node n) bytes i = tt
     go (Node m) (Node n) bytes i = tt
     go (Client d) (Node n) bytes i = tt
-    go from Front bytes i = absurd i
-    go from (Client d) bytes i = absurd i
+    go from _ bytes i = absurd i
 
   client-opens-so : (x : Conn) (isn iss wnd mss : ℕ) → x.part.station ≡ None → Keeps x (client_begins x isn iss wnd mss)
   client-opens-so x isn iss wnd mss none help h =

@@ -71,10 +71,8 @@ inner-are : (c isn : ℕ) (ls : List Letter) → Each IsInner ls → Each (Lette
 inner-are c isn ls h = Each-weaker IsInner (LetterIs c isn) (λ l i. go l.from l.to l.bytes i.0 i.1) ls h where
   go : (from to : Place) (bytes : List ℕ) → IsNodePlace from → IsNodePlace to → SpelledOn c isn from to bytes
   go (Node m) (Node n) bytes i j = tt
-  go (Node m) Front bytes i j = absurd j
-  go (Node m) (Client d) bytes i j = absurd j
-  go Front to bytes i j = absurd i
-  go (Client d) to bytes i j = absurd i
+  go (Node m) _ bytes i j = absurd j
+  go _ to bytes i j = absurd i
 
 module _ (k : Setting) (small : k.stream ≤ 2 ^ 30) where
   -- what is known beside it

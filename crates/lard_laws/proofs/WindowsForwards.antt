@@ -156,8 +156,7 @@ module _ (k : Setting) where
   other-from x ls place other (s ∷ ss) = (go place s.0 other, other-from x ls place other ss) where
     go : (from to : Place) → (Front ≡ from → ⊥) → ForwardWasOn x.c ls from to s.1
     go Front to differs = absurd (differs refl)
-    go (Node n) to differs = tt
-    go (Client d) to differs = tt
+    go _ to differs = tt
 
   any-rule : (x : Conn) (v : Move) → (Front ≡ v.place → ⊥) → Keeps x v
   any-rule x v other may h =

@@ -1,5 +1,5 @@
 -- All rules of the front end at once, where each operation of an endpoint keeps what is wanted of it.
-use Rattle.std.proofs.Common.{◌≡◌, ℕ, true, Some, None, Ok, Err, IfSome}
+use Rattle.std.proofs.Common.{◌≡◌, true, Some, None, Ok, Err, IfSome}
 use Rattle.lard_law_view.specs.Prelude.{AskedBy, ControlBlock, EndedBy, Final, FrontAdmits, FrontEnv, FrontFires, FrontGets, FrontHears, FrontPart, FrontRow, Said, TakenBy, front_rule, is_plain_syn, last_words, listening}
 use Rattle.lard_handoff_front.specs.declared.row.FrontConn.TheVariants as stage
 use Rattle.lard_law_connections.proofs.SilenceFronts.{DeedHas, admitted-has, asked-has, ended-has, gets-has, taken-has, timer-has}

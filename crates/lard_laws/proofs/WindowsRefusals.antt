@@ -82,8 +82,7 @@ inner-refuse c all ls h = Each-weaker IsInner (RefusesLetter c all) (λ l i. go 
   go Front (Node n) bytes i = tt
   go (Node m) (Node n) bytes i = tt
   go (Client d) (Node n) bytes i = tt
-  go from Front bytes i = absurd i
-  go from (Client d) bytes i = absurd i
+  go from _ bytes i = absurd i
 
 by-truth : (files : FilesAt) (x : Conn) → IsTruthful files x → RepliesAre x → RefusesSegments x
 by-truth files x truth h = go x.part.station refl where

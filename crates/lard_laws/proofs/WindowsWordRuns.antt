@@ -73,8 +73,7 @@ none-fits c x ls all h = Each-weaker IsNoWord (WordFits c x ls) (λ l n. go l.fr
   go Front to bytes n = tt
   go (Node m) to bytes n = tt
   go (Client d) Front bytes n = absurd n
-  go (Client d) (Client e) bytes n = tt
-  go (Client d) (Node m) bytes n = tt
+  go (Client d) _ bytes n = tt
 
 -- the segments of its client fit it, and it starts so
 abbrev All : Conn → Type 0
