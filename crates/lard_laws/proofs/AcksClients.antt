@@ -1,26 +1,25 @@
 -- What a client does keeps what holds of its connection.
-use Rattle.std.proofs.Common.{◌≡◌, ℕ, ◌≤◌, ◌^◌, List, [], ◌∷◌, map, Bool, true, false, ◌||◌, Option, Some, None, Result, Ok, inl, refl, sym, ap, ◌∙◌, subst, ⊎_elim, arith, nat_lt}
+use Rattle.std.proofs.Common.{◌≡◌, ℕ, ◌≤◌, ◌^◌, List, [], ◌∷◌, map, Bool, true, false, ◌||◌, Option, Some, None, Result, inl, refl, sym, ap, ◌∙◌, subst, ⊎_elim, arith, nat_lt}
 use Rattle.std.proofs.Math.Bool.{or-false}
 use Rattle.std.proofs.lemmas.Bool.{both_ways, ltb-false}
-use Rattle.lard_law_view.specs.Prelude.{Client, ClientBlock, ClientKeeps, ClientRules, ClientTurned, Conn, Event, FilesAt, Front, FrontRow, GoesBetween, HasRule, IsReply, Letter, Move, Node, Place, Said, Seen, SegFault, Setting, Station, Stream, Talk, ToClient, Turn, Verdict, Was, client_aborts, client_begins, client_does, client_gets, client_holds, client_opens, client_shuts, client_takes, client_timer, client_writes, decoded, event_seen, event_shuts, grown, is_client_open, letter, letters_of, packet_seen, request, spelled, tale_at, written_len}
+use Rattle.lard_law_view.specs.Prelude.{Client, ClientBlock, ClientFires, ClientGets, ClientReceives, ClientRules, ClientTurned, Conn, FilesAt, Front, FrontRow, GoesBetween, HasRule, IsConnSound, Letter, Move, Node, Place, Said, Seen, SegFault, Setting, Station, Stream, Talk, ToAbort, ToClient, ToGet, ToHold, ToShut, ToTake, ToWrite, Turn, Verdict, Was, client_aborts, client_begins, client_does, client_gets, client_holds, client_opens, client_rule, client_shuts, client_takes, client_timer, client_writes, decoded, event_seen, event_shuts, grown, is_client_open, letter, letters_of, request, tale_at, written_len}
 use Rattle.lard_base.specs.declared.event.Event.TheVariants as event
 use Rattle.lard_laws.specs.Acks.{AcksWhatWasTaken, Bounds, FrontActs, LetterActs, LetterActsOn, OpenActs, ReplyActs, StationActs, bounds_of, story_at}
 use Rattle.lard_laws.proofs.AcksFronts.{past-acts}
 use Rattle.lard_laws.proofs.AcksGrowing.{Widens, back-more, front-more, letters-on, words-act}
 use Rattle.lard_laws.proofs.AcksStory.{behind-notes, move-tells, reset-told}
 use Rattle.lard_laws.proofs.AcksTurns.{client-more}
-use Rattle.lard_law_connections.specs.BytesAgreement.{ConnAgrees, IsFair, IsFairOn, IsInner, IsNodePlace, IsOpen, IsTruthful, IsConnUnopened}
-use Rattle.lard_law_connections.proofs.BytesClientMoves.{has-fair, open-at, was-between}
+use Rattle.lard_law_connections.specs.BytesAgreement.{ConnAgrees, IsInner, IsNodePlace, IsOpen, IsTruthful, IsConnUnopened}
+use Rattle.lard_law_connections.proofs.BytesClientMoves.{open-at, was-between}
 use Rattle.lard_law_connections.proofs.LimitsMoves.{Helps}
 use Rattle.lard_law_connections.specs.Places.{Sits, owning}
 use Rattle.lard_law_connections.proofs.PlacesFrontRules.{has-each}
 use Rattle.lard_history.proofs.Each.{Each, Each-append}
-use Rattle.lard_law_view.proofs.ClientHearing.{hears-turned}
-use Rattle.lard_law_view.proofs.ClientAgreement.{aborts-turned, holds-turned, shuts-turned, takes-turned, timer-turned, writes-turned}
+use Rattle.lard_law_view.proofs.EachClient.{ClientComes, client_goes, client_seen, each-client}
+use Rattle.lard_laws.proofs.ClientComing.{reply-of, rule-turned}
 use Rattle.lard_law_view.proofs.Acked.{ClientActed, ClientActs, ReplyMay, WordsMay, ends_in, taken_by}
 use Rattle.lard_law_view.proofs.ClientRules.{all-act}
 use Rattle.lard_law_view.proofs.Story.{Story, Tells, aborted-told, client-tells, ends-told, or-either, story_on, story_seen}
-use Rattle.lard_segment.proofs.Again.{again}
 
 words-told : (c iss taken : ℕ) (a b : Bool) (ss : List (Place × List ℕ)) → (a ≡ true → b ≡ true) → WordsMay c iss taken a ss → WordsMay c iss taken b ss
 words-told c iss taken a b [] told may = tt
@@ -130,8 +129,7 @@ module _ (files : FilesAt) (x : Conn) (isn iss wnd mss : ℕ) (rule : HasRule (e
     one (Node n) (Node k) f g = tt
     one Front to f g = absurd f
     one (Client d) to f g = absurd f
-    one (Node n) Front f g = absurd g
-    one (Node n) (Client d) f g = absurd g
+    one (Node n) _ f g = absurd g
 
   pub opens-keeps : AcksWhatWasTaken (grown x w)
   opens-keeps =
@@ -168,78 +166,56 @@ module _ (k : Setting) (small : k.stream ≤ 2 ^ 30) where
     r : OpenActs x s
     r = subst (StationActs x) there acts
 
-    abbrev Goes : List Seen → ClientBlock × Turn → Type 0
-    Goes heads given = Helps x (client_does x s heads given) → AcksWhatWasTaken (grown x (client_does x s heads given))
+    acted : (rule : ClientBlock → ClientBlock × Turn) → ClientActs rule → ClientActed x.c l.out.first r.heard (story_at x).aborted (story_at x).reset s.client (rule s.client)
+    acted rule act = act x.c l.w l.out s.client r.heard (story_at x).aborted (story_at x).reset o.says.most o.client r.client
+
+    writes : (bytes : List ℕ) → nat_lt k.stream (written_len s.client bytes) ≡ false → ClientActed x.c l.out.first r.heard (story_at x).aborted (story_at x).reset s.client (client_writes s.client bytes)
+    writes bytes fits =
+        all-act.writes x.c l.w l.out s.client bytes r.heard (story_at x).aborted (story_at x).reset o.says.most (let le = ltb-false k.stream (written_len s.client bytes) fits in omega (arith, le, small)) o.client r.client
+
+    abbrev Goes : ClientGets → Type 0
+    Goes g = Helps x (client_goes x s g) → AcksWhatWasTaken (grown x (client_goes x s g))
 
     -- any turn of a client that tells no abort
-    acts-on : (heads : List Seen) (shuts : Bool) → story_seen x.c (story_at x) heads ≡ record (story_at x) { shut = (story_at x).shut || shuts } → (given : ClientBlock × Turn) → ClientTurned x.c l.w l.out s.client given
-        → ClientActed x.c l.out.first r.heard (story_at x).aborted (story_at x).reset s.client given
-        → (shuts ≡ true → is_client_open given.0 ≡ true → given.0.send.finished ≡ true) → Goes heads given
-    acts-on heads shuts only given turned act finishes help =
-        client-keeps k.files x s there l h.pend o r heads shuts only given turned (story_at x).aborted act
-        (client-tells x.c (record (story_at x) { shut = (story_at x).shut || shuts }) given.1.notes turned.notes).aborted finishes help
-
-    by-rule : (e : Event) (rule : ClientBlock → ClientBlock × Turn) → ClientKeeps rule → ClientActs rule
-        → (event_shuts x.c e ≡ true → is_client_open (rule s.client).0 ≡ true → (rule s.client).0.send.finished ≡ true) → Goes (event_seen e) (rule s.client)
-    by-rule e rule keeps acted finishes = acts-on (event_seen e) (event_shuts x.c e) refl (rule s.client)
-        (keeps x.c l.w l.out s.client o.says.most o.client)
-        (acted x.c l.w l.out s.client r.heard (story_at x).aborted (story_at x).reset o.says.most o.client r.client) finishes
-
-    writes : (e : Event) (bytes : List ℕ) → event_shuts x.c e ≡ false → nat_lt k.stream (written_len s.client bytes) ≡ false → Goes (event_seen e) (client_writes s.client bytes)
-    writes e bytes open_ fits =
-        let le : written_len s.client bytes ≤ k.stream = ltb-false k.stream (written_len s.client bytes) fits in
-        acts-on (event_seen e) (event_shuts x.c e) refl (client_writes s.client bytes)
-        (writes-turned x.c l.w l.out s.client o.says.most o.client bytes (omega (arith, le, small)))
-        (all-act.writes x.c l.w l.out s.client bytes r.heard (story_at x).aborted (story_at x).reset o.says.most (omega (arith, le, small)) o.client r.client)
-        (λ t. absurd (both_ways (event_shuts x.c e) open_ t))
-
-    aborts : Goes (event_seen (event.Abort x.c)) (client_aborts s.client)
-    aborts help = client-keeps k.files x s there l h.pend o r (event_seen (event.Abort x.c)) false refl (client_aborts s.client)
-        (aborts-turned x.c l.w l.out s.client o.says.most o.client) true
-        (all-act.aborts x.c l.w l.out s.client r.heard (story_at x).aborted (story_at x).reset o.says.most o.client r.client)
-        (λ t. aborted-told x.c s.client.c (record (story_at x) { shut = (story_at x).shut || false }) o.client.numbered)
-        (λ t. absurd cc) help
-
-    -- a segment comes to the client
-    got : (heads : List Seen) → story_seen x.c (story_at x) heads ≡ record (story_at x) { shut = (story_at x).shut || false } → (t : Said) → IsReply l.w l.out l.was_reset t → ReplyMay s.client.send.iss r.heard t
-        → Goes heads (client_gets s.client (Ok t))
-    got heads only t reply may = acts-on heads false only (client_gets s.client (Ok t))
-        (hears-turned x.c l.w l.out s.client t o.says.most o.says.number reply.sendable.seq_fits reply.sendable.ack_fits o.client reply.true_of)
-        (all-act.client_gets x.c l.w l.out s.client t r.heard (story_at x).aborted (story_at x).reset o.says.most o.says.number reply.sendable.seq_fits reply.sendable.ack_fits o.client reply.true_of
-        r.client (subst (λ (n : ℕ). ReplyMay n r.heard t) (sym (ap (λ (u : Stream). u.first) o.client.w_is)) may) (λ e. reset-told x ∙ o.tale.was_reset ∙ reply.resets e))
-        (λ t. absurd cc)
-
-    reply-in : (from : Place) (bytes : List ℕ) → GoesBetween x.c from (Client x.c) bytes → IsFairOn l x.c x.part from (Client x.c) bytes → (t : Said) × (bytes ≡ spelled x.c ToClient t) × IsReply l.w l.out l.was_reset t
-    reply-in Front bytes n f = f
-    reply-in (Node m) bytes n f = f
-    reply-in (Client d) bytes n f = absurd n
+    acts-on : (g : ClientGets) → ClientComes k x s g → (shuts : Bool) → story_seen x.c (story_at x) (client_seen x.c g) ≡ record (story_at x) { shut = (story_at x).shut || shuts }
+        → ClientActed x.c l.out.first r.heard (story_at x).aborted (story_at x).reset s.client (client_rule x.c s.client g)
+        → (shuts ≡ true → is_client_open (client_rule x.c s.client g).0 ≡ true → (client_rule x.c s.client g).0.send.finished ≡ true) → Goes g
+    acts-on g comes shuts only act finishes help =
+        let turned = rule-turned k small x s there h help.sound g comes in
+        client-keeps k.files x s there l h.pend o r (client_seen x.c g) shuts only (client_rule x.c s.client g) turned (story_at x).aborted act
+        (client-tells x.c (record (story_at x) { shut = (story_at x).shut || shuts }) (client_rule x.c s.client g).1.notes turned.notes).aborted finishes help
 
     reply-may : (b : Bounds) (from : Place) (bytes : List ℕ) → GoesBetween x.c from (Client x.c) bytes → LetterActsOn x.c b x.part from (Client x.c) bytes → ReplyActs x.c b bytes
     reply-may b Front bytes n f = f
     reply-may b (Node m) bytes n f = f
     reply-may b (Client d) bytes n f = absurd n
 
-    hears : (from : Place) (bytes : List ℕ) → Was x from (Client x.c) bytes → Goes (packet_seen from (Client x.c) bytes) (client_gets s.client (decoded bytes x.c ToClient))
-    hears from bytes was help =
-        let heads : List Seen = packet_seen from (Client x.c) bytes in
-        let m : Letter = record { from = from; to = Client x.c; bytes = bytes } in
-        let between : GoesBetween x.c from (Client x.c) bytes = was-between x from (Client x.c) bytes help.sound was in
-        let f = reply-in from bytes between (has-fair (IsFair l x.c x.part) m x.letters was o.fair) in
-        let read : decoded bytes x.c ToClient ≡ Ok f.0 = ap (λ (q : List ℕ). decoded q x.c ToClient) f.1 ∙ again x.c ToClient f.0 f.2.sendable in
+    gets-act : (sound : IsConnSound x) (from : Place) (bytes : List ℕ) → Was x from (Client x.c) bytes
+        → ClientActed x.c l.out.first r.heard (story_at x).aborted (story_at x).reset s.client (client_gets s.client (decoded bytes x.c ToClient))
+    gets-act sound from bytes was =
+        let f = reply-of k small x s there h sound from bytes was in
         let b : Bounds = bounds_of x s r.heard in
-        let may : ReplyActs x.c b bytes = reply-may b from bytes between (has-each (LetterActs x.c b x.part) m x.letters was r.within.packets) in
-        subst (λ (q : Result Said SegFault). Goes heads (client_gets s.client q)) (sym read)
-        (got heads (ap (λ e. record (story_at x) { shut = e }) (sym (or-false (story_at x).shut))) f.0 f.2 (may f.0 read)) help
+        let may : ReplyMay s.client.send.iss r.heard f.said = reply-may b from bytes (was-between x from (Client x.c) bytes sound was)
+        (has-each (LetterActs x.c b x.part) (record { from = from; to = Client x.c; bytes = bytes }) x.letters was r.within.packets) f.said f.read in
+        subst (λ (q : Result Said SegFault). ClientActed x.c l.out.first r.heard (story_at x).aborted (story_at x).reset s.client (client_gets s.client q)) (sym f.read)
+        (all-act.client_gets x.c l.w l.out s.client f.said r.heard (story_at x).aborted (story_at x).reset o.says.most o.says.number f.reply.sendable.seq_fits f.reply.sendable.ack_fits o.client f.reply.true_of
+        r.client (subst (λ (n : ℕ). ReplyMay n r.heard f.said) (sym (ap (λ (u : Stream). u.first) o.client.w_is)) may) (λ e. reset-told x ∙ o.tale.was_reset ∙ f.reply.resets e))
+
+    rule-acts : (g : ClientGets) → ClientComes k x s g → Goes g
+    rule-acts (ToGet path) fits help = acts-on (ToGet path) fits false refl (writes (request path) fits) (λ t. absurd cc) help
+    rule-acts (ToWrite bytes) fits help = acts-on (ToWrite bytes) fits false refl (writes bytes fits) (λ t. absurd cc) help
+    rule-acts ToShut comes help = acts-on ToShut comes (event_shuts x.c (event.Shut x.c)) refl (acted client_shuts all-act.shuts) (λ e open_. all-act.finishes s.client open_) help
+    rule-acts ToAbort comes help = client-keeps k.files x s there l h.pend o r (event_seen (event.Abort x.c)) false refl (client_aborts s.client) (rule-turned k small x s there h help.sound ToAbort comes) true
+        (all-act.aborts x.c l.w l.out s.client r.heard (story_at x).aborted (story_at x).reset o.says.most o.client r.client)
+        (λ t. aborted-told x.c s.client.c (record (story_at x) { shut = (story_at x).shut || false }) o.client.numbered) (λ t. absurd cc) help
+    rule-acts ToHold comes help = acts-on ToHold comes false refl (acted client_holds all-act.holds) (λ t. absurd cc) help
+    rule-acts ToTake comes help = acts-on ToTake comes false refl (acted client_takes all-act.takes) (λ t. absurd cc) help
+    rule-acts ClientFires comes help = acts-on ClientFires comes false refl (acted client_timer all-act.client_timer) (λ t. absurd cc) help
+    rule-acts (ClientReceives from bytes) was help =
+        acts-on (ClientReceives from bytes) was false (ap (λ e. record (story_at x) { shut = e }) (sym (or-false (story_at x).shut))) (gets-act help.sound from bytes was) (λ t. absurd cc) help
 
   pub clients : ClientRules k Keeps
-  clients = record {
+  clients = each-client k Keeps (record {
     opens = λ x isn iss wnd mss rule none help h acts. opens-keeps k.files x isn iss wnd mss rule none h acts help;
-    gets = λ x s path there fits help h acts. writes x s there h acts (event.Get x.c path) (request path) refl fits help;
-    writes = λ x s bytes there fits help h acts. writes x s there h acts (event.Write x.c bytes) bytes refl fits help;
-    shuts = λ x s there help h acts. by-rule x s there h acts (event.Shut x.c) client_shuts (λ c w out z most g. shuts-turned c w out z most g) all-act.shuts (λ e open_. all-act.finishes s.client open_) help;
-    aborts = λ x s there help h acts. aborts x s there h acts help;
-    holds = λ x s there help h acts. by-rule x s there h acts (event.Hold x.c) client_holds (λ c w out z most g. holds-turned c w out z most g) all-act.holds (λ t. absurd cc) help;
-    takes = λ x s there help h acts. by-rule x s there h acts (event.Take x.c) client_takes (λ c w out z most g. takes-turned c w out z most g) all-act.takes (λ t. absurd cc) help;
-    fires = λ x s there help h acts. by-rule x s there h acts (event.Timer (Client x.c) x.c) client_timer (λ c w out z most g. timer-turned c w out z most g) all-act.client_timer (λ t. absurd cc) help;
-    hears = λ x s from bytes there was help h acts. hears x s there h acts from bytes was help;
-  }
+    does = λ x s g there comes help h acts. rule-acts x s there h acts g comes help;
+  })

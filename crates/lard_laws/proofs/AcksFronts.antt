@@ -1,8 +1,8 @@
 -- What the front end does acknowledges what was taken.
-use Rattle.std.proofs.Common.{◌≡◌, ◌⊎◌, ◌≤◌, ◌<◌, ◌&&◌, not, ◌^◌, ℕ, Bool, true, false, List, [], ◌∷◌, map, Option, Some, None, Ok, IfSome, inr, ⊎_elim, refl, sym, ap, ◌∙◌, subst, arith, eqb-true}
+use Rattle.std.proofs.Common.{◌≡◌, ◌≤◌, ◌<◌, ◌&&◌, not, ◌^◌, ℕ, Bool, true, List, [], ◌∷◌, map, Option, Some, None, Ok, IfSome, inr, refl, sym, ap, ◌∙◌, subst, arith}
 use Rattle.std.specs.List.{concat}
 use Rattle.std.proofs.lemmas.Bool.{and_parts, cond_both}
-use Rattle.lard_law_view.specs.Prelude.{AreSent, Ask, BackConn, BackRow, Call, Conn, ControlBlock, Ending, Epoch, Final, FirstChoice, Front, FrontConn, FrontDeed, FrontEnv, FrontPart, FrontRest, FrontRow, FrontTurn, IsConnSound, IsFrontEnv, IsSendable, IsStream, IsWord, Kept, Move, Node, NodePart, Part, Place, Ready, Reason, Said as Segment, Seen, Service, Setting, Station, Stream, Talk, Turn, Verdict, ack_sent, after_timer, answer, assigns, filled, front_admitted, front_asked, front_begun, front_does, front_ended, front_ends, front_fired, front_gets, front_reads, front_rest, front_saying, front_taken, front_timer, holds, is_away, is_plain_syn, is_telling, last_ack, last_words, leaves_by, letter, listening, next_epoch, on_segment, refusal, sent_of, seq_offset, serving, serving_ready_of, serving_settled, spoken, stage_after, tag_sent, taken_by, tale_at, timed, tombstone, turn_here}
+use Rattle.lard_law_view.specs.Prelude.{AreSent, BackConn, BackRow, Call, Conn, ControlBlock, Ending, Epoch, Client, Final, FirstChoice, Front, FrontConn, FrontDeed, FrontEnv, FrontGets, FrontPart, FrontRest, FrontRow, IsConnSound, IsFrontEnv, IsSendable, IsStream, IsWord, Kept, Move, Node, NodePart, Part, Place, Ready, Reason, Said as Segment, Seen, Service, Setting, Station, Stream, Talk, Turn, Verdict, ack_sent, after_timer, answer, assigns, filled, front_begun, front_does, front_ends, front_fired, front_reads, front_rest, front_rule, front_saying, holds, is_plain_syn, is_telling, last_ack, last_words, leaves_by, letter, listening, next_epoch, on_segment, refusal, sent_of, seq_offset, serving, serving_ready_of, serving_settled, spoken, stage_after, tag_sent, taken_by, tale_at, timed, tombstone, turn_here}
 use Rattle.lard_base.specs.declared.place.Reason.TheVariants as reason
 use Rattle.lard_laws.specs.Acks.{ActsWithin, BackActs, Bounds, EndActs, FrontActs, FrontStageActs, LetterActs, WordActs}
 use Rattle.lard_laws.proofs.AcksGrowing.{replies-act}
@@ -29,7 +29,9 @@ use Rattle.lard_message.specs.declared.message.Body.TheVariants as body
 use Rattle.lard_rules.specs.declared.places.Ending.TheVariants as ending
 use Rattle.lard_seq.proofs.Laws.{offset-add}
 use Rattle.lard_law_view.proofs.Speaking.{speaks-stream}
-use Rattle.lard_rules.proofs.FrontCases.{KeptBySegment, IsInStage, of-stage, begun_row, begun_service, heard_reading, heard_service, hands_off, rests_in, waiting_service, segment-keeps, timer-keeps, taken-keeps, asked-keeps, ended-keeps, admitted-keeps}
+use Rattle.lard_law_view.proofs.EachFront.{FrontComes, admission}
+use Rattle.lard_laws.proofs.FrontComing.{heard-number, heard-word, new-end}
+use Rattle.lard_rules.proofs.FrontCases.{IsInStage, KeptByFront, KeptBySegment, begun_row, begun_service, front-keeps, hands_off, heard_reading, heard_service, of-stage, rests_in, waiting_service}
 
 -- ---- nodes that have nothing
 
@@ -92,7 +94,7 @@ module _ (k : Setting) (small : k.stream ≤ 2 ^ 30) (x : Conn) (sound_x : IsCon
   pub iss_fits : s.iss < 2 ^ 32
   iss_fits = let n = o.says.number in let same = o.begins in omega arith
 
-  module _ (h : ActsWithin x bounds) (heads : List Seen) (env : FrontEnv) (is : IsFrontEnv k x.c env) where
+  module _ (there : x.part.station ≡ Some s) (h : ActsWithin x bounds) (heads : List Seen) (env : FrontEnv) (is : IsFrontEnv k x.c env) where
     abbrev p : FrontPart
     p = x.part.front
 
@@ -298,9 +300,6 @@ module _ (k : Setting) (small : k.stream ≤ 2 ^ 30) (x : Conn) (sound_x : IsCon
             (words-may l.w l.was_reset last.reason last sd is_stream word.sendable.ack_fits (agrees-row row (stage.Closed last) at));
       }
 
-      pub gets-act : Stays (front_gets env p bytes (Ok sd))
-      gets-act = segment-keeps env p bytes sd (λ w t. GoesOver w.block) Stays by-segment
-
     -- ---- timers
 
     -- behind the segment that its timer sends
@@ -323,56 +322,45 @@ module _ (k : Setting) (small : k.stream ≤ 2 ^ 30) (x : Conn) (sound_x : IsCon
     resent-letters [] sent = tt
     resent-letters (q ∷ ks) sent = (has-each (LetterActs x.c bounds x.part) (record { from = Front; to = q.to; bytes = q.bytes }) x.letters sent.0.1 h.packets, resent-letters ks sent.1)
 
-    pub timer-act : Stays (front_timer env p)
-    timer-act = timer-keeps env p Stays (record {
-      drops = dropped;
-      holds = λ row b at. holds-act (ours-at row (stage.Held b) at tt) row (front_rest p.rest) (front_fired env (front_rest p.rest) b) (fired-act b (front_rest p.rest).count (goes-held row b at));
-      stays = λ row b at.
-          let given : Ending × Turn = front_fired env (front_rest p.rest) b in
-          waits-act (ours-at row (stage.Waiting b) at tt) row (front_rest p.rest) given (leaves_by env.serve.c given.0) (fired-act b (front_rest p.rest).count (goes-waiting row b at));
-      resends = λ row n e at. says (map sent_of p.kept) (resent-letters p.kept sound_x.front);
-    })
-
     -- ---- what nodes say
-
-    pub taken-act : (epoch : ℕ) → Stays (front_taken p epoch)
-    taken-act epoch = taken-keeps p Stays dropped epoch (λ row n e at same. idle-acts x (front_does x heads (taken_by p epoch (Some row) (Some n))) bounds (record { front = tt; nodes = h.nodes; letters = tt }))
 
     tag-letters : (n epoch number : ℕ) (tags : List ℕ) (q : Part) → Each (LetterActs x.c bounds q) (map (letter Front) (tag_sent env n epoch number tags))
     tag-letters n epoch number tags q = (other-front bounds q x.c n env.serve.c epoch (body.Tag number tags) (λ i. cc) (λ i. cc), tt)
-
-    pub asked-act : (n epoch : ℕ) (ask : Ask) → Stays (front_asked env p n epoch ask)
-    asked-act n epoch ask = asked-keeps p Stays dropped env n epoch ask (λ rest found there same some. says (tag_sent env n epoch rest.asks rest.tag) (tag-letters n epoch rest.asks rest.tag x.part)) (λ rest found there next.
-        let v : Move = front_does x heads (Does (assigns env p rest n epoch ask (env.later ask))) in
-        idle-acts x v bounds (record { front = h.front; nodes = h.nodes; letters = tag-letters n epoch ask.number (map (λ y. y.node) (env.later ask).choices) v.part }))
 
     ack-letters : (n epoch : ℕ) (q : Part) → Each (LetterActs x.c bounds q) (map (letter Front) (ack_sent env n epoch))
     ack-letters n epoch q = (other-front bounds q x.c n env.serve.c epoch body.EndedAck (λ i. cc) (λ i. cc), tt)
 
     -- a connection that is away is so in the epoch of its row
-    away-epoch : (e : ℕ) (row_epoch : ℕ) (st : FrontConn) → StageSits row_epoch own nodes st → is_away e st ≡ true → row_epoch ≡ e
-    away-epoch e row_epoch (stage.Offering n f) sits away = sym sits.1 ∙ eqb-true f.0 e away
-    away-epoch e row_epoch (stage.Moved n f) sits away = sym sits.1 ∙ eqb-true f.0 e away
-    away-epoch e row_epoch _ sits away = let no : false ≡ true = away in absurd cc
 
-    module _ (n epoch : ℕ) (last : Final) (told : HasEnded epoch p.row ⊎ EndActs bounds (ending.Over last)) where
-      ended-new : (row : FrontRow) → p.row ≡ Some row → is_away epoch row.stage ≡ true → Stays (Does (front_ends env p n epoch last row (next_epoch row)))
-      ended-new row found away =
+    -- ---- whatever comes
+
+    by-rules : KeptByFront env p (FrontComes x env heads) (λ w t. GoesOver w.block) Stays
+    by-rules = record {
+      drops = dropped;
+      hears = λ bytes sd m.
+          let acts : WordActs x.c bounds bytes = has-each (LetterActs x.c bounds x.part) (record { from = Client x.c; to = Front; bytes = bytes }) x.letters m.was h.packets in
+          by-segment (heard-number x s env bytes heads there (Ok sd) m) bytes sd (heard-word x s env bytes heads k.files l pend o sd m) (acts sd (sym m.read)) acts;
+      fires = λ m. record {
+        drops = dropped;
+        holds = λ row b at. holds-act (ours-at row (stage.Held b) at tt) row (front_rest p.rest) (front_fired env (front_rest p.rest) b) (fired-act b (front_rest p.rest).count (goes-held row b at));
+        stays = λ row b at.
+            let given : Ending × Turn = front_fired env (front_rest p.rest) b in
+            waits-act (ours-at row (stage.Waiting b) at tt) row (front_rest p.rest) given (leaves_by env.serve.c given.0) (fired-act b (front_rest p.rest).count (goes-waiting row b at));
+        resends = λ row n e at. says (map sent_of p.kept) (resent-letters p.kept sound_x.front);
+      };
+      takes = λ from epoch m row n e at same. idle-acts x (front_does x heads (taken_by p epoch (Some row) (Some n))) bounds (record { front = tt; nodes = h.nodes; letters = tt });
+      tags_again = λ n epoch ask m rest found there same some. says (tag_sent env n epoch rest.asks rest.tag) (tag-letters n epoch rest.asks rest.tag x.part);
+      assigns_next = λ n epoch ask m rest found there next.
+          let v : Move = front_does x heads (Does (assigns env p rest n epoch ask (env.later ask))) in
+          idle-acts x v bounds (record { front = h.front; nodes = h.nodes; letters = tag-letters n epoch ask.number (map (λ y. y.node) (env.later ask).choices) v.part });
+      ends_again = λ n epoch last m row found away again. says (ack_sent env n epoch) (ack-letters n epoch x.part);
+      ends = λ n epoch last m row found away.
           let v : Move = front_does x heads (Does (front_ends env p n epoch last row (next_epoch row))) in
-          let same : row.epoch.0 ≡ epoch = away-epoch epoch row.epoch.0 row.stage (of-stage (Sits own nodes) p row row.stage (found, refl) at_place.sits).0 away in
-          let act : EndActs bounds (ending.Over last) = ⊎_elim
-          (λ (e : HasEnded epoch p.row). absurd (let less : epoch < row.epoch.0 = subst (HasEnded epoch) found e in omega (arith, less, same)))
-          (λ (a : EndActs bounds (ending.Over last)). a) told in
-          idle-acts x v bounds (record { front = act; nodes = h.nodes; letters = ack-letters n epoch v.part })
+          let told = (has-each (LetterActs x.c bounds x.part) (record { from = Node n; to = Front; bytes = m.told.bytes }) x.letters m.told.was h.packets) _ m.told.spells in
+          idle-acts x v bounds (record { front = new-end (EndActs bounds (ending.Over last)) x at_place epoch told row found away; nodes = h.nodes; letters = ack-letters n epoch v.part });
+      admits = λ choice row b path at target.
+          handed-act (ours-at row (stage.Waiting b) at tt) row (serving b (front_rest p.rest).count []) path choice [] (goes-waiting row b at);
+    }
 
-      pub ended-act : Stays (front_ended env p n epoch last)
-      ended-act = ended-keeps p Stays dropped env n epoch last (λ row found away again. says (ack_sent env n epoch) (ack-letters n epoch x.part)) ended-new
-
-    -- ---- the head of the line
-
-    abbrev Admitted : FrontPart × FrontTurn → Type 0
-    Admitted given = PlaceActs x (front_does x heads (Does (record { part = given.0; turn = given.1; calls = [] }))) bounds
-
-    pub admitted-act : (choice : FirstChoice) (given : FrontPart × FrontTurn) → front_admitted env p choice ≡ Some given → Admitted given
-    admitted-act choice = admitted-keeps env p choice Admitted
-        (λ row b path at target. handed-act (ours-at row (stage.Waiting b) at tt) row (serving b (front_rest p.rest).count []) path choice [] (goes-waiting row b at))
+    pub rule-act : (g : FrontGets) → FrontComes x env heads g → Stays (front_rule env p g)
+    rule-act g comes = front-keeps env p (FrontComes x env heads) (λ w t. GoesOver w.block) Stays by-rules g (admission x env heads g comes) comes

@@ -121,10 +121,7 @@ module _ (c : ℕ) (b d : Bounds) (p q : Part) (on : GoesOn b d p q) where
   letter-on (Node n) (Client e) bytes said h = replies-more b d on.widens c bytes h
   letter-on Front (Node n) bytes said h = λ m e. front-body-on n m.epoch.0 m.body (subst (MaySay p Front (Node n)) (decoded-head bytes m e) said) (h m e)
   letter-on (Node n) Front bytes said h = λ m e. node-body-on n m.epoch.0 m.body (subst (MaySay p (Node n) Front) (decoded-head bytes m e) said) (h m e)
-  letter-on (Client e) (Client k) bytes said h = tt
-  letter-on (Client e) (Node n) bytes said h = tt
-  letter-on Front Front bytes said h = tt
-  letter-on (Node n) (Node m) bytes said h = tt
+  letter-on _ _ bytes said h = tt
 
   pub letters-on : (ls : List Letter) → Each (LetterMay p) ls → Each (LetterActs c b p) ls → Each (LetterActs c d q) ls
   letters-on [] said h = tt
@@ -149,8 +146,7 @@ module _ (c : ℕ) (b : Bounds) (p : Part) where
 
     go : (to : Place) → LetterActsOn c b p (Client d) to s.1
     go Front = says
-    go (Node n) = tt
-    go (Client d) = tt
+    go _ = tt
 
   pub replies-act : (place : Place) (ss : List (Place × List ℕ)) → RepliesMay c b.isn b.heard ss → Each (LetterActs c b p) (map (letter place) ss)
   replies-act place [] may = tt

@@ -104,13 +104,7 @@ module _ (b : Bounds) (part : Part) (x_c n c e : ℕ) where
           acknowledged = subst (λ (z : Numbers). z.2 ≤ b.taken) same una;
         })
     go (body.Forward segment) is = absurd (let no : kind.Offer ≡ kind.Forward = kinds-same (record { c = c; epoch = record { 0 = e }; body = body.Offer (parts_of block count) }) m d ∙ ap kind_of is in cc)
-    go body.Taken is = tt
-    go (body.Ask number queue size paths) is = tt
-    go (body.Tag number nodes) is = tt
-    go (body.Fetch r path) is = tt
-    go (body.Content r file) is = tt
-    go (body.Ended reason snd rcv count) is = tt
-    go body.EndedAck is = tt
+    go _ is = tt
 
   -- What is forwarded is what came.
   pub forward-acts : (bytes : List ℕ) → WordActs x_c b bytes → LetterActsOn x_c b part Front (Node n) (message c e (body.Forward bytes))
@@ -118,13 +112,7 @@ module _ (b : Bounds) (part : Part) (x_c n c e : ℕ) where
     go : (a : Body) → m.body ≡ a → FrontBodyActs x_c b m.epoch.0 (part.nodes n).row a
     go (body.Forward segment) is = subst (WordActs x_c b) (sym (forwards-read c e bytes segment m d is)) h
     go (body.Offer parts) is = absurd (let no : kind.Forward ≡ kind.Offer = kinds-same (record { c = c; epoch = record { 0 = e }; body = body.Forward bytes }) m d ∙ ap kind_of is in cc)
-    go body.Taken is = tt
-    go (body.Ask number queue size paths) is = tt
-    go (body.Tag number nodes) is = tt
-    go (body.Fetch r path) is = tt
-    go (body.Content r file) is = tt
-    go (body.Ended reason snd rcv count) is = tt
-    go body.EndedAck is = tt
+    go _ is = tt
 
   -- a message of another kind says nothing of it
   pub other-front : (a : Body) → (kind_of a ≡ kind.Offer → ⊥) → (kind_of a ≡ kind.Forward → ⊥) → LetterActsOn x_c b part Front (Node n) (message c e a)
@@ -132,26 +120,13 @@ module _ (b : Bounds) (part : Part) (x_c n c e : ℕ) where
     go : (z : Body) → kind_of a ≡ kind_of z → FrontBodyActs x_c b m.epoch.0 (part.nodes n).row z
     go (body.Offer parts) is = absurd (offer is)
     go (body.Forward segment) is = absurd (forward is)
-    go body.Taken is = tt
-    go (body.Ask number queue size paths) is = tt
-    go (body.Tag number nodes) is = tt
-    go (body.Fetch r path) is = tt
-    go (body.Content r file) is = tt
-    go (body.Ended reason snd rcv count) is = tt
-    go body.EndedAck is = tt
+    go _ is = tt
 
   pub other-node : (a : Body) → (kind_of a ≡ kind.Ended → ⊥) → LetterActsOn x_c b part (Node n) Front (message c e a)
   other-node a ended m d = go m.body (kinds-same (record { c = c; epoch = record { 0 = e }; body = a }) m d) where
     go : (z : Body) → kind_of a ≡ kind_of z → NodeBodyActs b m.epoch.0 part.front.row z
     go (body.Ended reason snd rcv count) is = absurd (ended is)
-    go (body.Offer parts) is = tt
-    go (body.Forward segment) is = tt
-    go body.Taken is = tt
-    go (body.Ask number queue size paths) is = tt
-    go (body.Tag number nodes) is = tt
-    go (body.Fetch r path) is = tt
-    go (body.Content r file) is = tt
-    go body.EndedAck is = tt
+    go _ is = tt
 
 -- ---- an Ended
 
@@ -180,11 +155,4 @@ pub ended-acts : (b : Bounds) (part : Part) (x_c n c e count : ℕ) (last : Fina
 ended-acts b part x_c n c e count last snd_fits rcv_fits h m d = go m.body refl where
   go : (a : Body) → m.body ≡ a → NodeBodyActs b m.epoch.0 part.front.row a
   go (body.Ended why snd rcv k) is = inr (subst (λ (l : Final). EndActs b (ending.Over l)) (ended-same c e count last snd_fits rcv_fits m why snd rcv k d is) h)
-  go (body.Offer parts) is = tt
-  go (body.Forward segment) is = tt
-  go body.Taken is = tt
-  go (body.Ask number queue size paths) is = tt
-  go (body.Tag number nodes) is = tt
-  go (body.Fetch r path) is = tt
-  go (body.Content r file) is = tt
-  go body.EndedAck is = tt
+  go _ is = tt

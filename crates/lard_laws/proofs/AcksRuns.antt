@@ -1,25 +1,26 @@
 -- Each rule keeps what holds of its connection: what was acknowledged was taken, in every run.
-use Rattle.std.proofs.Common.{◌≡◌, ◌≤◌, ◌^◌, ℕ, false, List, [], Some, Result, Ok, refl, sym, ap, ◌∙◌, subst}
+use Rattle.std.proofs.Common.{◌≡◌, ◌≤◌, ◌^◌, ℕ, false, List, Some, refl, sym, ap, ◌∙◌, subst}
 use Rattle.std.proofs.Math.Bool.{or-false}
 use Rattle.lard_base.specs.declared.event.Event.TheVariants as event
-use Rattle.lard_law_view.specs.Prelude.{Client, Conn, Front, FrontRules, IsFrontEnv, IsUntouchedLaw, Letter, MayRestOn, Move, Node, NodeRules, Place, Said, Seen, SegFault, Setting, Station, Stream, ToCluster, TurnSaid as SaidIn, Untouched, UntouchedRules, Was, ask_of, decoded, event_seen, front_asked, front_does, front_ended, front_gets, front_taken, front_timer, grown, letters_of, node_does, nothing_said, packet_seen, setting, stands, tale_at}
-use Rattle.lard_laws.specs.Acks.{AcksWhatWasTaken, ActsWithin, Bounds, LetterActs, OpenActs, WordActs, bounds_of, story_at}
+use Rattle.lard_law_view.specs.Prelude.{Conn, Front, FrontRules, IsUntouchedLaw, MayRestOn, Move, Node, NodeRules, Place, Seen, Setting, Station, Stream, TurnSaid as SaidIn, Untouched, UntouchedRules, event_seen, front_does, grown, letters_of, nothing_said, packet_seen, setting, stands, tale_at}
+use Rattle.lard_laws.specs.Acks.{AcksWhatWasTaken, ActsWithin, Bounds, LetterActs, OpenActs, bounds_of, story_at}
 use Rattle.lard_laws.specs.AcksLaws.{ConnectionsAckWhatWasTaken}
 use Rattle.lard_laws.proofs.AcksClients.{Keeps, clients}
-use Rattle.lard_laws.proofs.AcksFronts.{admitted-act, asked-act, ended-act, gets-act, taken-act, timer-act}
+use Rattle.lard_laws.proofs.AcksFronts as fronts_of
 use Rattle.lard_laws.proofs.AcksNodes.{rule-act}
-use Rattle.lard_laws.proofs.NodeDeeds.{aside-letters}
+use Rattle.lard_laws.proofs.FrontComing.{front-heads, front-station}
+use Rattle.lard_laws.proofs.NodeDeeds.{aside-letters, node-heads, node-station}
 use Rattle.lard_law_view.proofs.NodeHeads.{of-aside, of-heads}
 use Rattle.lard_laws.proofs.AcksTurns.{PlaceActs, idle-acts, place-keeps}
-use Rattle.lard_law_connections.specs.BytesAgreement.{IsFair, IsFairOn, IsOpen, IsTruthful}
-use Rattle.lard_law_connections.proofs.BytesClientMoves.{has-fair, open-at}
+use Rattle.lard_law_connections.specs.BytesAgreement.{IsOpen, IsTruthful}
+use Rattle.lard_law_connections.proofs.BytesClientMoves.{open-at}
 use Rattle.lard_law_connections.proofs.BytesRuns.{states-truthful}
 use Rattle.lard_law_connections.proofs.LimitsMoves.{Helps}
-use Rattle.lard_law_connections.proofs.PlacesFrontRules.{has-each}
 use Rattle.lard_law_connections.proofs.PlacesLaw.{owing}
 use Rattle.lard_law_connections.proofs.PlacesRuns.{each-placed}
 use Rattle.lard_law_connections.proofs.PlacesTurns.{IsPlaced, Owes}
 use Rattle.lard_law_view.proofs.Carried.{carried}
+use Rattle.lard_law_view.proofs.EachFront.{each-front, of-front}
 use Rattle.lard_law_view.proofs.EachNode.{aside_said, aside_seen, each-node, node_goes}
 use Rattle.lard_law_view.proofs.Fine.{IsFine, fine}
 use Rattle.lard_law_view.proofs.Guarded.{untouched-both, untouched-law, untouched-weaker}
@@ -28,29 +29,8 @@ use Rattle.lard_history.proofs.Each.{Each}
 use Rattle.lard_law_view.proofs.Acked.{taken_by}
 use Rattle.lard_law_view.proofs.Story.{story_seen}
 use Rattle.lard_rules.specs.Node as node
-use Rattle.lard_segment.proofs.Again.{again}
 
--- ---- what a place's move leaves alone
-
-pub front-heads : (x : Conn) (heads : List Seen) (d : front.FrontDeed) → (front_does x heads d).heads ≡ heads
-front-heads x heads front.Drops = refl
-front-heads x heads (front.Says turn) = refl
-front-heads x heads (front.Does did) = refl
-
-pub front-station : (x : Conn) (heads : List Seen) (d : front.FrontDeed) → (front_does x heads d).part.station ≡ x.part.station
-front-station x heads front.Drops = refl
-front-station x heads (front.Says turn) = refl
-front-station x heads (front.Does did) = refl
-
-pub node-heads : (x : Conn) (n : ℕ) (heads : List Seen) (d : node.NodeDeed) → (node_does x n heads d).heads ≡ heads
-node-heads x n heads node.Drops = refl
-node-heads x n heads (node.Says messages) = refl
-node-heads x n heads (node.Does given) = refl
-
-pub node-station : (x : Conn) (n : ℕ) (heads : List Seen) (d : node.NodeDeed) → (node_does x n heads d).part.station ≡ x.part.station
-node-station x n heads node.Drops = refl
-node-station x n heads (node.Says messages) = refl
-node-station x n heads (node.Does given) = refl
+-- ---- what is seen first
 
 -- a timer that fires tells nothing of the client
 timer-plain : (x : Conn) (place : Place) → story_seen x.c (story_at x) (event_seen (event.Timer place x.c)) ≡ story_at x
@@ -75,45 +55,16 @@ module _ (k : Setting) (small : k.stream ≤ 2 ^ 30) where
   place-rule : (x : Conn) (v : Move) → story_seen x.c (story_at x) v.heads ≡ story_at x → v.part.station ≡ x.part.station → (Helps x v → Acts x v) → Keeps k small x v
   place-rule x v heads same acts help h r = place-keeps x v help heads same (by-streams x v (acts help) h) r
 
-  front-rule : (x : Conn) (heads : List Seen) (d : front.FrontDeed) → story_seen x.c (story_at x) heads ≡ story_at x → (Helps x (front_does x heads d) → Acts x (front_does x heads d)) → Keeps k small x (front_does x heads d)
-  front-rule x heads d plain acts = place-rule x (front_does x heads d) (ap (story_seen x.c (story_at x)) (front-heads x heads d) ∙ plain) (front-station x heads d) acts
-
   -- ---- the front end
 
-  front-hears : (x : Conn) (s : Station) (env : front.FrontEnv) (bytes : List ℕ) → x.part.station ≡ Some s → IsFrontEnv k x.c env → env.iss ≡ s.iss → Was x (Client x.c) Front bytes
-      → Keeps k small x (front_does x (packet_seen (Client x.c) Front bytes) (front_gets env x.part.front bytes (decoded bytes x.c ToCluster)))
-  front-hears x s env bytes there is iss was = front-rule x heads (front_gets env x.part.front bytes (decoded bytes x.c ToCluster)) refl (λ help t at h o heard within.
-      let same : t ≡ s = station-same t s (sym at ∙ there) in
-      let f : IsFairOn h.talk x.c x.part (Client x.c) Front bytes = has-fair (IsFair h.talk x.c x.part) m x.letters was o.fair in
-      let read : decoded bytes x.c ToCluster ≡ Ok f.0 = ap (λ (b : List ℕ). decoded b x.c ToCluster) f.1 ∙ again x.c ToCluster f.0 f.2.sendable in
-      let b : Bounds = bounds_by h.talk.w.first x t heard in
-      let acts : WordActs x.c b bytes = has-each (LetterActs x.c b x.part) m x.letters was within.packets in
-      subst (λ (r : Result Said SegFault). PlaceActs x (front_does x heads (front_gets env x.part.front bytes r)) b) (sym read)
-      (gets-act k small x help.sound help.placed t h.talk h.pend o heard (story_at x).aborted within heads env is (iss ∙ ap (λ (q : Station). q.iss) (sym same)) bytes f.0 f.2 (acts f.0 read) acts)) where
-        heads : List Seen
-        heads = packet_seen (Client x.c) Front bytes
-
-        m : Letter
-        m = record { from = Client x.c; to = Front; bytes = bytes }
-
-        station-same : (t s : Station) → Some t ≡ Some s → t ≡ s
-        station-same t s e = cc
-
   fronts : FrontRules k (Keeps k small)
-  fronts = record {
-    hears = front-hears;
-    fires = λ x s env there is. front-rule x (event_seen (event.Timer Front x.c)) (front_timer env x.part.front) (timer-plain x Front) (λ help t at h o heard within.
-        timer-act k small x help.sound help.placed t h.talk h.pend o heard (story_at x).aborted within (event_seen (event.Timer Front x.c)) env is);
-    taken = λ x env n epoch bytes is spells was. front-rule x (packet_seen (Node n) Front bytes) (front_taken x.part.front epoch) refl (λ help t at h o heard within.
-        taken-act k small x help.sound help.placed t h.talk h.pend o heard (story_at x).aborted within (packet_seen (Node n) Front bytes) env is epoch);
-    asked = λ x env n epoch number queue size paths bytes is spells was. front-rule x (packet_seen (Node n) Front bytes) (front_asked env x.part.front n epoch (ask_of x.c n number queue size paths)) refl (λ help t at h o heard within.
-        asked-act k small x help.sound help.placed t h.talk h.pend o heard (story_at x).aborted within (packet_seen (Node n) Front bytes) env is n epoch (ask_of x.c n number queue size paths));
-    ended = λ x env n epoch reason snd rcv count bytes is spells was. front-rule x (packet_seen (Node n) Front bytes) (front_ended env x.part.front n epoch (record { reason = reason; snd = record { 0 = snd }; rcv = record { 0 = rcv } })) refl (λ help t at h o heard within.
-        ended-act k small x help.sound help.placed t h.talk h.pend o heard (story_at x).aborted within (packet_seen (Node n) Front bytes) env is n epoch (record { reason = reason; snd = record { 0 = snd }; rcv = record { 0 = rcv } })
-        ((has-each (LetterActs x.c (bounds_by h.talk.w.first x t heard) x.part) (record { from = Node n; to = Front; bytes = bytes }) x.letters was within.packets) _ spells));
-    admitted = λ x env choice given is e. front-rule x [] (front.Does (record { part = given.0; turn = given.1; calls = [] })) refl (λ help t at h o heard within.
-        admitted-act k small x help.sound help.placed t h.talk h.pend o heard (story_at x).aborted within [] env is choice given e);
-  }
+  fronts = each-front k (Keeps k small) (λ x env heads g is comes.
+      let d : front.FrontDeed = front.front_rule env x.part.front g in
+      place-rule x (front_does x heads d)
+      (ap (story_seen x.c (story_at x)) (front-heads x heads d)
+      ∙ of-front x (λ (ss : List Seen). story_seen x.c (story_at x) ss ≡ story_at x) (λ from bytes. refl) refl (timer-plain x Front) env heads g comes)
+      (front-station x heads d) (λ help t at h o heard within.
+      fronts_of.rule-act k small x help.sound help.placed t h.talk h.pend o heard (story_at x).aborted at within heads env is g comes))
 
   -- ---- the nodes
 

@@ -1,5 +1,5 @@
 -- What is told of a client by what its connection sees: a move of another place tells nothing of it but resets.
-use Rattle.std.proofs.Common.{◌≡◌, ℕ, List, [], ◌∷◌, ◌++◌, map, Bool, true, false, cond, ◌||◌, append_assoc, nat_eq, refl, sym, ap, ◌∙◌, subst}
+use Rattle.std.proofs.Common.{◌≡◌, ℕ, List, [], ◌∷◌, Bool, true, false, cond, ◌||◌, nat_eq, refl, sym, ap, ◌∙◌, subst}
 use Rattle.std.proofs.lemmas.List.Sums.{fold-append}
 use Rattle.lard_law_view.specs.Prelude.{Conn, Move, Rec, grown, rows_of, tale_at, untold}
 use Rattle.lard_laws.specs.Acks.{story_at}

@@ -2,7 +2,7 @@
 use Rattle.std.proofs.Common.{◌≡◌, ◌+◌, ℕ, false, cond, List, [], ◌∷◌, ◌++◌, map, Option, Some, None, refl, sym, ap, ◌∙◌, subst}
 use Rattle.std.proofs.lemmas.List.Sums.{fold-append}
 use Rattle.std.specs.List.{fold}
-use Rattle.lard_law_view.specs.Prelude.{Body, Call, Client, Conn, ControlBlock, Ending, Final, First, FirstChoice, Front, FrontConn, FrontDeed, FrontEnv, FrontPart, FrontRest, FrontRow, FrontTurn, IsFrontEnv, Kept, Kind, Move, Node, Place, Rec, Said as Segment, Seen, Service, Setting, Turn, ack_sent, after_timer, by_front, epoch_at, front_admitted, front_does, front_ended, front_ends, front_fired, front_hears, front_reads, front_rest, front_rests, front_saying, front_taken, front_timer, handed_off, kind_of, last_words, leaves_by, listed, next_epoch, sent_of, serving, serving_settled, spoken, stage_after, timed, tombstone, turn_here, with_front}
+use Rattle.lard_law_view.specs.Prelude.{AskedBy, Body, Call, Client, Conn, ControlBlock, Ending, FirstChoice, Front, FrontConn, FrontDeed, FrontEnv, FrontGets, FrontPart, FrontRest, FrontRow, FrontTurn, IsFrontEnv, Kept, Kind, Move, Node, Place, Rec, Said as Segment, Seen, Service, Setting, Turn, ack_sent, after_timer, by_front, epoch_at, front_does, front_ends, front_fired, front_reads, front_rest, front_rests, front_rule, front_saying, handed_off, kind_of, last_words, leaves_by, listed, next_epoch, sent_of, serving, serving_settled, spoken, stage_after, timed, tombstone, turn_here, with_front}
 use Rattle.lard_laws.specs.Asks.{Answered, AskTale, ask_in, ask_tale, is_tag, row_done, tag_to}
 use Rattle.lard_laws.proofs.AsksMoving.{Answers, IsCalm, RowTold, StageTold, Told, calm-answers}
 use Rattle.lard_law_connections.specs.MotionStory.{picked}
@@ -15,7 +15,7 @@ use Rattle.lard_law_connections.proofs.PlacesLoops.{settled-is, spoken-to}
 use Rattle.lard_law_view.specs.View.{sending}
 use Rattle.lard_law_view.proofs.Fine.{IsItsOwn}
 use Rattle.lard_dispatch.specs.Laws as call
-use Rattle.lard_rules.specs.Front.{Drops, Says, Does, message}
+use Rattle.lard_rules.specs.Front.{Drops, Says, message}
 use Rattle.lard_handoff_front.specs.declared.row.FrontConn.TheVariants as stage
 use Rattle.lard_history.proofs.Each.{Each, Each-append, Each-weaker}
 use Rattle.lard_journal.specs.declared.rec.Rec.TheVariants as rec
@@ -23,7 +23,7 @@ use Rattle.lard_message.specs.declared.kind.Kind.TheVariants as kind
 use Rattle.lard_message.specs.declared.message.Body.TheVariants as body
 use Rattle.lard_rules.specs.declared.places.Ending.TheVariants as ending
 use Rattle.lard_law_view.proofs.EndpointSends.{AllTo, ready-to}
-use Rattle.lard_rules.proofs.FrontCases.{KeptBySegment, of-stage, begun_row, begun_service, fired_before, fired_service, heard_reading, heard_service, hands_off, rests_in, waiting_service, segment-keeps, timer-keeps, taken-keeps, ended-keeps, admitted-keeps}
+use Rattle.lard_rules.proofs.FrontCases.{IsAsGiven, KeptByFront, KeptBySegment, begun_row, begun_service, fired_before, fired_service, front-keeps, hands_off, heard_reading, heard_service, of-stage, rests_in, waiting_service}
 
 -- ---- messages
 
@@ -58,6 +58,10 @@ answers-calm rs h = Each-weaker IsAnswer IsCalm answer-calm rs h
 
 -- ---- where no Ask comes
 
+abbrev pub IsNoAsk : FrontGets → Type 0
+IsNoAsk (AskedBy n epoch ask) = ⊥
+IsNoAsk _ = Unit {0}
+
 module _ (k : Setting) (x : Conn) (told : Told x) (known : IsKnown x) (heads : List Seen) (first : Each IsFirst heads) (none : picked ask_in heads ≡ []) (env : FrontEnv) (is : IsFrontEnv k x.c env) where
   abbrev p : FrontPart
   p = x.part.front
@@ -66,21 +70,21 @@ module _ (k : Setting) (x : Conn) (told : Told x) (known : IsKnown x) (heads : L
   t = ask_tale x.c x.seen
 
   -- it is given
-  abbrev pub Goes : FrontDeed → Type 0
+  abbrev Goes : FrontDeed → Type 0
   Goes d = IsItsOwn x (front_does x heads d) → Answers x (front_does x heads d)
 
   abbrev move : FrontPart → FrontTurn → Move
   move part turn = record { place = Front; heads = heads; said = by_front turn; part = with_front x.part part }
 
-  pub turn-answers : (part : FrontPart) (turn : FrontTurn) → Each IsCalm turn.notes → AllTo (Client x.c) turn.segments → pick tag_to (map (sending Front) turn.messages) ≡ []
+  turn-answers : (part : FrontPart) (turn : FrontTurn) → Each IsCalm turn.notes → AllTo (Client x.c) turn.segments → pick tag_to (map (sending Front) turn.messages) ≡ []
       → RowTold (fold row_done t.done turn.notes) part.rest part.row → IsItsOwn x (move part turn) → Answers x (move part turn)
   turn-answers part turn calm to messages then own =
       calm-answers x (move part turn) own first none calm (segments-none tag_to Front x.c (λ i bytes. refl) turn.segments to) messages then
 
-  pub drops-answers : Goes Drops
+  drops-answers : Goes Drops
   drops-answers = turn-answers p (front_saying []) tt tt refl told
 
-  pub says-answers : (turn : FrontTurn) → turn.notes ≡ [] → AllTo (Client x.c) turn.segments → pick tag_to (map (sending Front) turn.messages) ≡ [] → Goes (Says turn)
+  says-answers : (turn : FrontTurn) → turn.notes ≡ [] → AllTo (Client x.c) turn.segments → pick tag_to (map (sending Front) turn.messages) ≡ [] → Goes (Says turn)
   says-answers turn notes to messages = turn-answers p turn (subst (Each IsCalm) (sym notes) tt) to messages (subst (λ (rs : List Rec). RowTold (fold row_done t.done rs) p.rest p.row) (sym notes) told)
 
   -- an endpoint that stays here, or ends
@@ -126,38 +130,29 @@ module _ (k : Setting) (x : Conn) (told : Told x) (known : IsKnown x) (heads : L
     words = λ row last at. tombstone-answers (last_words last.reason last s);
   }
 
-  pub hears-answers : (bytes : List ℕ) (s : Segment) → Goes (front_hears env p bytes s p.row)
-  hears-answers bytes s = segment-keeps env p bytes s (λ w o. Each IsCalm w.notes) Goes (by-segment bytes s)
+  -- ---- whatever comes
 
-  -- ---- timers
-
-  pub fires-answers : Goes (front_timer env p)
-  fires-answers = timer-keeps env p Goes (record {
-    drops = drops-answers;
-    holds = λ row b at. ends-spoken row (front_rest p.rest) stage.Held (λ d o c. tt) (fired_service p b) (fired_before env b) [] tt (ready-to env.serve (after_timer b) (timed b));
-    stays = λ row b at.
-        ends-spoken row (front_rest p.rest) stage.Waiting (λ d o c. tt) (fired_service p b) (fired_before env b) (leaves_by env.serve.c (front_fired env (front_rest p.rest) b).0) tt (ready-to env.serve (after_timer b) (timed b));
-    resends = λ row n e at. says-answers (front_saying (map sent_of p.kept)) refl tt (resent-none p.kept known.kept);
-  })
-
-  -- ---- messages
-
-  -- a Taken: it is where it was offered
-  pub taken-answers : (epoch : ℕ) → Goes (front_taken p epoch)
-  taken-answers epoch = taken-keeps p Goes drops-answers epoch (λ row n d at same. turn-answers _ (front_saying []) tt tt refl (of-stage (RowTold t.done p.rest) p row (stage.Offering n d) at told))
-
-  -- an Ended
   ack-none : (n epoch : ℕ) → pick tag_to (map (sending Front) (ack_sent env n epoch)) ≡ []
   ack-none n epoch = ap (λ o. listed o ++ []) (not-tagged n env.serve.c epoch body.EndedAck (λ i. cc))
 
-  pub ended-answers : (n epoch : ℕ) (last : Final) → Goes (front_ended env p n epoch last)
-  ended-answers n epoch last = ended-keeps p Goes drops-answers env n epoch last (λ row found away again. says-answers (front_saying (ack_sent env n epoch)) refl tt (ack-none n epoch))
-      (λ row found away. turn-answers _ (front_ends env p n epoch last row (next_epoch row)).turn (tt, (tt, tt)) tt (ack-none n epoch) tt)
+  by-rules : KeptByFront env p IsNoAsk (λ w o. Each IsCalm w.notes) Goes
+  by-rules = record {
+    drops = drops-answers;
+    hears = λ bytes s m. by-segment bytes s;
+    fires = λ m. record {
+      drops = drops-answers;
+      holds = λ row b at. ends-spoken row (front_rest p.rest) stage.Held (λ d o c. tt) (fired_service p b) (fired_before env b) [] tt (ready-to env.serve (after_timer b) (timed b));
+      stays = λ row b at.
+          ends-spoken row (front_rest p.rest) stage.Waiting (λ d o c. tt) (fired_service p b) (fired_before env b) (leaves_by env.serve.c (front_fired env (front_rest p.rest) b).0) tt (ready-to env.serve (after_timer b) (timed b));
+      resends = λ row n e at. says-answers (front_saying (map sent_of p.kept)) refl tt (resent-none p.kept known.kept);
+    };
+    takes = λ n epoch m row i d at same. turn-answers _ (front_saying []) tt tt refl (of-stage (RowTold t.done p.rest) p row (stage.Offering i d) at told);
+    tags_again = λ n epoch ask m. absurd m;
+    assigns_next = λ n epoch ask m. absurd m;
+    ends_again = λ n epoch last m row found away again. says-answers (front_saying (ack_sent env n epoch)) refl tt (ack-none n epoch);
+    ends = λ n epoch last m row found away. turn-answers _ (front_ends env p n epoch last row (next_epoch row)).turn (tt, (tt, tt)) tt (ack-none n epoch) tt;
+    admits = λ choice row b path at target. handed-answers row (serving b (front_rest p.rest).count []) path choice [] tt;
+  }
 
-  -- ---- the head of the line
-
-  abbrev Admitted : FrontPart × FrontTurn → Type 0
-  Admitted g = Goes (Does (record { part = g.0; turn = g.1; calls = [] }))
-
-  pub admitted-answers : (choice : FirstChoice) (given : FrontPart × FrontTurn) → front_admitted env p choice ≡ Some given → Admitted given
-  admitted-answers choice = admitted-keeps env p choice Admitted (λ row b path at target. handed-answers row (serving b (front_rest p.rest).count []) path choice [] tt)
+  pub rule-answers : (g : FrontGets) → IsAsGiven env p g → IsNoAsk g → Goes (front_rule env p g)
+  rule-answers g made none-came = front-keeps env p IsNoAsk (λ w o. Each IsCalm w.notes) Goes by-rules g made none-came

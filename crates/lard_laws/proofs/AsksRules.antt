@@ -1,9 +1,11 @@
 -- Each rule keeps what is known of the last Ask, and answers as it must.
-use Rattle.std.proofs.Common.{◌≡◌, ◌≤◌, ℕ, List, [], ◌∷◌, ◌++◌, length, map, Some, None, Result, Ok, Err, refl, sym, ap, ◌∙◌, subst, arith}
+use Rattle.std.proofs.Common.{◌≡◌, ◌≤◌, ℕ, List, [], ◌∷◌, ◌++◌, length, map, None, Result, Ok, Err, refl, sym, ap, ◌∙◌, subst, arith}
 use Rattle.std.specs.List.{fold}
-use Rattle.lard_base.specs.declared.event.Event.TheVariants as event
-use Rattle.lard_law_view.specs.Prelude.{Body, Client, ClientBlock, ClientRules, Conn, Front, FrontEnv, FrontPart, FrontTurn, IsForFront, IsFrontEnv, IsOfTable, IsUnheard, Message, Move, MsgFault, Node, Place, Rec, Rules, Said as Segment, Seen, SegFault, Setting, SpellsMessage, Station, ToCluster, Turn, ask_of, client_begins, client_does, client_injects, client_opens, client_rule, content_said, decoded, decoded_message, event_seen, front_admits, front_asked, front_does, front_ended, front_gets, front_taken, front_timer, grown, inject_seen, kind_of, listed, node_acknowledged, node_content, node_does, node_forwarded, node_offered, node_read, node_tagged, node_timer, nothing_said, packet_seen, reads_first, stands}
+use Rattle.lard_law_view.specs.Prelude.{Ask, AskedBy, Body, Client, ClientBlock, ClientRules, Conn, EndedBy, Front, FrontAdmits, FrontEnv, FrontFires, FrontGets, FrontHears, FrontPart, IsForFront, IsFrontEnv, IsOfTable, IsUnheard, Message, Move, MsgFault, Node, Place, Rec, Rules, Seen, Setting, SpellsMessage, Station, TakenBy, Turn, ask_of, client_begins, client_does, client_injects, client_opens, client_rule, decoded_message, event_seen, front_asked, front_does, front_rule, grown, inject_seen, kind_of, listed, node_does, nothing_said, packet_seen, stands}
 use Rattle.lard_law_view.proofs.EachClient.{each-client, of-client}
+use Rattle.lard_law_view.proofs.EachFront.{FrontComes, admission, each-front, of-front}
+use Rattle.lard_law_view.proofs.EachNode.{aside_said, aside_seen, each-node, job_notes, told_first}
+use Rattle.lard_law_view.proofs.NodeHeads.{heads-of, of-aside, of-heads}
 use Rattle.lard_laws.specs.Asks.{Answered, ask_from, ask_in, ask_on, ask_tale, row_done, tag_to}
 use Rattle.lard_laws.proofs.AsksAsked.{asked-answers}
 use Rattle.lard_laws.proofs.AsksFronts as fronts
@@ -16,7 +18,6 @@ use Rattle.lard_law_connections.proofs.PolicyMessages.{IsTold, message-told}
 use Rattle.lard_law_view.specs.View.{sending}
 use Rattle.lard_law_view.proofs.Fine.{IsItsOwn}
 use Rattle.lard_law_view.proofs.Saying.{NotedAt}
-use Rattle.lard_rules.specs.Front as front
 use Rattle.lard_history.proofs.Each.{Each, Each-weaker}
 use Rattle.lard_journal.specs.declared.rec.Rec.TheVariants as rec
 use Rattle.lard_message.specs.declared.message.Body.TheVariants as body
@@ -91,25 +92,17 @@ module _ (k : Setting) (x : Conn) where
 -- ---- the front end
 
 module _ (k : Setting) (x : Conn) (env : FrontEnv) (is : IsFrontEnv k x.c env) where
-  hears-goes : (bytes : List ℕ) → Goes k x (front_does x (packet_seen (Client x.c) Front bytes) (front_gets env x.part.front bytes (decoded bytes x.c ToCluster)))
-  hears-goes bytes known told own fills = go (decoded bytes x.c ToCluster) own where
-    heads : List Seen
-    heads = packet_seen (Client x.c) Front bytes
-
-    go : (r : Result Segment SegFault) → IsItsOwn x (front_does x heads (front_gets env x.part.front bytes r)) → Answers x (front_does x heads (front_gets env x.part.front bytes r))
-    go (Err fault) own = fronts.drops-answers k x told known heads (tt, tt) refl env is own
-    go (Ok s) own = fronts.hears-answers k x told known heads (tt, tt) refl env is bytes s own
-
-  fires-goes : Goes k x (front_does x (event_seen (event.Timer Front x.c)) (front_timer env x.part.front))
-  fires-goes known told own fills = fronts.fires-answers k x told known (event_seen (event.Timer Front x.c)) (tt, tt) refl env is own
-
   -- a message that is no Ask
   no-ask : (n epoch : ℕ) (b : Body) (bytes : List ℕ) → SpellsMessage x.c epoch b bytes → ask_from n (Ok (record { c = x.c; epoch = record { 0 = epoch }; body = b })) ≡ None → picked ask_in (packet_seen (Node n) Front bytes) ≡ []
   no-ask n epoch b bytes spells none = ap (λ r. listed (ask_from n r) ++ []) spells ∙ ap (λ o. listed o ++ []) none
 
-  taken-goes : (n epoch : ℕ) (bytes : List ℕ) → SpellsMessage x.c epoch body.Taken bytes → Goes k x (front_does x (packet_seen (Node n) Front bytes) (front_taken x.part.front epoch))
-  taken-goes n epoch bytes spells known told own fills =
-      fronts.taken-answers k x told known (packet_seen (Node n) Front bytes) (tt, tt) (no-ask n epoch body.Taken bytes spells refl) env is epoch own
+  none-asked : (heads : List Seen) (g : FrontGets) → FrontComes x env heads g → fronts.IsNoAsk g → picked ask_in heads ≡ []
+  none-asked heads (FrontHears bytes given) comes other = ap (picked ask_in) comes.seen
+  none-asked heads FrontFires comes other = ap (picked ask_in) comes.seen
+  none-asked heads (TakenBy n epoch) comes other = ap (picked ask_in) comes.seen ∙ no-ask n epoch body.Taken comes.bytes comes.spells refl
+  none-asked heads (AskedBy n epoch ask) comes other = absurd other
+  none-asked heads (EndedBy n epoch last) comes other = ap (picked ask_in) comes.told.seen ∙ no-ask n epoch (body.Ended last.reason last.snd.0 last.rcv.0 comes.count) comes.told.bytes comes.told.spells refl
+  none-asked heads (FrontAdmits choice given) comes other = ap (picked ask_in) comes.seen
 
   asked-goes : (n epoch number queue size : ℕ) (paths : List (List ℕ)) (bytes : List ℕ) → SpellsMessage x.c epoch (body.Ask number queue size paths) bytes
       → Goes k x (front_does x (packet_seen (Node n) Front bytes) (front_asked env x.part.front n epoch (ask_of x.c n number queue size paths)))
@@ -119,31 +112,29 @@ module _ (k : Setting) (x : Conn) (env : FrontEnv) (is : IsFrontEnv k x.c env) w
         some-path : 1 ≤ length paths → length paths ≡ 0 → ⊥
         some-path some none = omega (arith, some, none)
 
-  ended-goes : (n epoch : ℕ) (reason : _) (snd rcv count : ℕ) (bytes : List ℕ) → SpellsMessage x.c epoch (body.Ended reason snd rcv count) bytes
-      → Goes k x (front_does x (packet_seen (Node n) Front bytes) (front_ended env x.part.front n epoch (record { reason = reason; snd = record { 0 = snd }; rcv = record { 0 = rcv } })))
-  ended-goes n epoch reason snd rcv count bytes spells known told own fills =
-      fronts.ended-answers k x told known (packet_seen (Node n) Front bytes) (tt, tt) (no-ask n epoch (body.Ended reason snd rcv count) bytes spells refl) env is n epoch (record { reason = reason; snd = record { 0 = snd }; rcv = record { 0 = rcv } }) own
+  others-go : (heads : List Seen) (g : FrontGets) → FrontComes x env heads g → fronts.IsNoAsk g → Goes k x (front_does x heads (front_rule env x.part.front g))
+  others-go heads g comes other known told own fills =
+      fronts.rule-answers k x told known heads (of-front x (Each IsFirst) (λ from bytes. (tt, tt)) tt (tt, tt) env heads g comes) (none-asked heads g comes other) env is g (admission x env heads g comes) other own
 
-  admitted-goes : (choice : _) (given : FrontPart × FrontTurn) → front.front_admitted env x.part.front choice ≡ Some given → Goes k x (front_admits x given)
-  admitted-goes choice given e known told own fills = fronts.admitted-answers k x told known [] tt refl env is choice given e own
+  front-goes : (heads : List Seen) (g : FrontGets) → FrontComes x env heads g → Goes k x (front_does x heads (front_rule env x.part.front g))
+  front-goes heads (AskedBy n epoch ask) comes =
+      subst (λ (t : Ask × List Seen). Goes k x (front_does x t.1 (front_asked env x.part.front n epoch t.0))) (λ i. (sym comes.is i, sym comes.told.seen i))
+      (asked-goes n epoch comes.number comes.queue comes.size comes.paths comes.told.bytes comes.told.spells)
+  front-goes heads g comes = others-go heads g comes tt
 
 -- ---- a node
 
 module _ (k : Setting) (x : Conn) (n : ℕ) where
-  node-goes : (heads : List Seen) → Each IsFirst heads → picked ask_in heads ≡ [] → (d : node.NodeDeed) → Goes k x (node_does x n heads d)
-  node-goes heads first none node.Drops known told own fills = else-answers x (node_does x n heads node.Drops) first none tt refl told own
-  node-goes heads first none (node.Says ms) known told own fills = else-answers x (node_does x n heads (node.Says ms)) first none tt refl told own
-  node-goes heads first none (node.Does y) known told own fills = else-answers x (node_does x n heads (node.Does y)) first none tt refl told own
+  -- behind the record of a job of its own, or of none
+  node-goes : (heads : List Seen) → Each IsFirst heads → picked ask_in heads ≡ [] → (rs : List Rec) (d : node.NodeDeed) → Goes k x (told_first rs (node_does x n heads d))
+  node-goes heads first none rs node.Drops known told own fills = else-answers x (told_first rs (node_does x n heads node.Drops)) first none tt refl told own
+  node-goes heads first none rs (node.Says ms) known told own fills = else-answers x (told_first rs (node_does x n heads (node.Says ms))) first none tt refl told own
+  node-goes heads first none rs (node.Does y) known told own fills = else-answers x (told_first rs (node_does x n heads (node.Does y))) first none tt refl told own
 
-  -- behind the record of a job of its own
-  read-goes : (r : Rec) (d : node.NodeDeed) → Goes k x (reads_first r (node_does x n [] d))
-  read-goes r node.Drops known told own fills = else-answers x (reads_first r (node_does x n [] node.Drops)) tt refl tt refl told own
-  read-goes r (node.Says ms) known told own fills = else-answers x (reads_first r (node_does x n [] (node.Says ms))) tt refl tt refl told own
-  read-goes r (node.Does y) known told own fills = else-answers x (reads_first r (node_does x n [] (node.Does y))) tt refl tt refl told own
-
-  -- what it does for another one
-  stands-goes : (heads : List Seen) (notes : List Rec) (ms : List (Place × List ℕ)) → Each IsFirst heads → picked ask_in heads ≡ [] → Goes k x (stands x (Node n) heads (record { notes = notes; segments = []; gave = []; messages = ms }))
-  stands-goes heads notes ms first none known told own fills = else-answers x (stands x (Node n) heads (record { notes = notes; segments = []; gave = []; messages = ms })) first none tt refl told own
+  node-hears : (from : Place) (bytes : List ℕ) → picked ask_in (packet_seen from (Node n) bytes) ≡ []
+  node-hears Front bytes = refl
+  node-hears (Node i) bytes = refl
+  node-hears (Client e) bytes = refl
 
 -- ---- a packet that no rule hears
 
@@ -151,15 +142,8 @@ module _ (k : Setting) (x : Conn) where
   no-asking : (n : ℕ) (bytes : List ℕ) → ((m : Message) → decoded_message bytes ≡ Ok m → IsForFront (kind_of m.body) → ⊥) → ask_from n (decoded_message bytes) ≡ None
   no-asking n bytes other = go (decoded_message bytes) refl where
     body-of : (m : Message) → decoded_message bytes ≡ Ok m → (b : Body) → m.body ≡ b → ask_from n (Ok (record m { body = b })) ≡ None
-    body-of m e (body.Offer parts) is = refl
-    body-of m e body.Taken is = refl
-    body-of m e (body.Forward segment) is = refl
     body-of m e (body.Ask number queue size paths) is = absurd (other m e (subst (λ (b : Body). IsForFront (kind_of b)) (sym is) tt))
-    body-of m e (body.Tag number tags) is = refl
-    body-of m e (body.Fetch r path) is = refl
-    body-of m e (body.Content r file) is = refl
-    body-of m e (body.Ended reason snd rcv count) is = refl
-    body-of m e body.EndedAck is = refl
+    body-of m e _ is = refl
 
     go : (r : Result Message MsgFault) → decoded_message bytes ≡ r → ask_from n r ≡ None
     go (Err fault) e = refl
@@ -167,10 +151,7 @@ module _ (k : Setting) (x : Conn) where
 
   unheard-none : (from to : Place) (bytes : List ℕ) → IsUnheard k.nodes x.part.station from to bytes → ask_on from to bytes ≡ None
   unheard-none (Node n) Front bytes u = no-asking n bytes u
-  unheard-none (Node n) (Client e) bytes u = refl
-  unheard-none (Node n) (Node m) bytes u = refl
-  unheard-none Front to bytes u = refl
-  unheard-none (Client d) to bytes u = refl
+  unheard-none _ _ bytes u = refl
 
   ignores-goes : (from to : Place) (bytes : List ℕ) → IsUnheard k.nodes x.part.station from to bytes → Goes k x (stands x to (packet_seen from to bytes) nothing_said)
   ignores-goes from to bytes unheard known told own fills =
@@ -192,26 +173,13 @@ module _ (k : Setting) where
   all-go = record {
     untouched = record {
       client = clients;
-      front = record {
-        hears = λ x s env bytes there is iss was. hears-goes k x env is bytes;
-        fires = λ x s env there is. fires-goes k x env is;
-        taken = λ x env n epoch bytes is spells was. taken-goes k x env is n epoch bytes spells;
-        asked = λ x env n epoch number queue size paths bytes is spells was. asked-goes k x env is n epoch number queue size paths bytes spells;
-        ended = λ x env n epoch reason snd rcv count bytes is spells was. ended-goes k x env is n epoch reason snd rcv count bytes spells;
-        admitted = λ x env choice given is e. admitted-goes k x env is choice given e;
-      };
-      node = record {
-        offered = λ x n epoch env parts bytes is spells was. node-goes k x n (packet_seen Front (Node n) bytes) (tt, tt) refl (node_offered env (x.part.nodes n) parts);
-        forwarded = λ x n epoch env segment bytes is spells was. node-goes k x n (packet_seen Front (Node n) bytes) (tt, tt) refl (node_forwarded env (x.part.nodes n) (decoded segment x.c ToCluster));
-        tagged = λ x n epoch number tags env bytes is spells was. node-goes k x n (packet_seen Front (Node n) bytes) (tt, tt) refl (node_tagged env (x.part.nodes n) number tags);
-        content = λ x n from epoch r env file bytes is spells was. node-goes k x n (packet_seen (Node from) (Node n) bytes) (tt, tt) refl (node_content env (x.part.nodes n) from r);
-        acknowledged = λ x n epoch env bytes is spells was. node-goes k x n (packet_seen Front (Node n) bytes) (tt, tt) refl (node_acknowledged env (x.part.nodes n));
-        read = λ x n epoch r env path is. read-goes k x n (rec.Read n n x.c r path) (node_read env (x.part.nodes n) r);
-        fires = λ x s n env there is. node-goes k x n (event_seen (event.Timer (Node n) x.c)) (tt, tt) refl (node_timer env (x.part.nodes n));
-        answers = λ x n from epoch r path file bytes there spells was. stands-goes k x n (packet_seen (Node from) (Node n) bytes) [] (content_said k n from x.c epoch r path).messages (tt, tt) refl;
-        queues = λ x n from epoch r path file bytes there spells was. stands-goes k x n (packet_seen (Node from) (Node n) bytes) (rec.Queued n from x.c r path ∷ []) [] (tt, tt) refl;
-        brings = λ x n from epoch r path. stands-goes k x n [] (rec.Read n from x.c r path ∷ []) (content_said k n from x.c epoch r path).messages tt refl;
-      };
+      front = each-front k (Goes k) (λ x env heads g is comes. front-goes k x env is heads g comes);
+      node = each-node k (Goes k) (record {
+        does = λ x n epoch env heads g is at comes. node-goes k x n heads (heads-of IsFirst (λ l. tt) (λ i c. tt) x n epoch heads g comes)
+            (of-heads x n (λ hs. picked ask_in hs ≡ []) (node-hears k x n) refl refl epoch heads g comes) (job_notes x.c n g) (node.node_rule env (x.part.nodes n) g);
+        aside = λ x n a may known told own fills. else-answers x (stands x (Node n) (aside_seen n a) (aside_said k n x.c a))
+            (of-aside x n (Each IsFirst) (λ from bytes. (tt, tt)) tt a) (of-aside x n (λ hs. picked ask_in hs ≡ []) (node-hears k x n) refl a) tt refl told own;
+      });
       ignores = λ x from to bytes was. ignores-goes k x from to bytes was.2;
     };
     injects = λ x s bytes there rule. client-goes k x (inject_seen x.c bytes) s (client_injects s.client bytes) (tt, (tt, tt)) refl;

@@ -103,8 +103,7 @@ and-false false = refl
 -- a message that is no Ask
 none-sent : (n e : ℕ) (to : Place) (bytes : List ℕ) → is_ask e (message_head bytes) ≡ false → ask_by n e (sending (Node n) (to, bytes)) ≡ None
 none-sent n e Front bytes none = ap (λ b. cond (nat_eq n n && b) (Some bytes) None) none ∙ ap (λ b. cond b (Some bytes) None) (and-false (nat_eq n n))
-none-sent n e (Node m) bytes none = refl
-none-sent n e (Client d) bytes none = refl
+none-sent n e _ bytes none = refl
 
 pub keeps-none : (n e : ℕ) (ks : List Kept) → Each IsNoAsk ks → asks_in n e (map sent_of ks) ≡ []
 keeps-none n e [] h = refl

@@ -1,10 +1,9 @@
 -- In each move the Asks of a node go on, and what is known of them stays known.
-use Rattle.std.proofs.Common.{◌≡◌, ◌≢◌, ◌⊎◌, ◌<◌, ◌≤◌, ◌+◌, ◌^◌, ◌==◌, ◌&&◌, nat_lt, ℕ, Bool, true, false, cond, List, [], ◌∷◌, ◌++◌, length, map, Option, Some, None, refl, sym, ap, ◌∙◌, subst, arith, append-nil, eq-eqb, eqb-true, inl, inr, ⊎_elim}
+use Rattle.std.proofs.Common.{◌≡◌, ◌≢◌, ◌⊎◌, ◌<◌, ◌≤◌, ◌+◌, ◌^◌, ◌==◌, ◌&&◌, nat_lt, ℕ, Bool, true, false, cond, List, [], ◌∷◌, ◌++◌, length, map, Option, Some, None, refl, sym, ap, ◌∙◌, subst, arith, eq-eqb, eqb-true, inl, inr, ⊎_elim}
 use Rattle.std.proofs.lemmas.Bool.{and_parts, both_ways, ltb-true}
 use Rattle.std.proofs.lemmas.List.Sums.{fold-append}
 use Rattle.std.specs.List.{fold}
-use Rattle.lard_base.specs.declared.event.Event.TheVariants as event
-use Rattle.lard_law_view.specs.Prelude.{BackRow, Came, Client, ClientBlock, ClientRules, Conn, ControlBlock, EndpointParts, Front, IsEarlyAway, IsNodeEnv, Move, Node, NodeEnv, NodeGets, NodePart, Offered, Place, Rec, Row, Rules, Seen, Setting, SpellsMessage, Station, Stay, Turn, Was, client_begins, client_does, client_injects, client_opens, client_rule, epoch_in, front_does, front_rule, grown, inject_seen, is_gone, listed, node_does, node_put_back, node_rule, nothing_said, offer_answer, packet_seen, rows_of, seen_in, stands, tale_at}
+use Rattle.lard_law_view.specs.Prelude.{BackRow, Came, Client, ClientBlock, ClientRules, Conn, ControlBlock, EndpointParts, Front, IsEarlyAway, IsNodeEnv, Move, Node, NodeEnv, NodeGets, NodePart, Offered, Place, Rec, Row, Rules, Seen, Setting, SpellsMessage, Station, Stay, Turn, Was, client_begins, client_does, client_injects, client_opens, client_rule, epoch_in, front_does, front_rule, grown, inject_seen, is_gone, listed, node_does, node_put_back, node_rule, nothing_said, offer_answer, packet_seen, rows_of, seen_in, stands}
 use Rattle.lard_law_view.proofs.EachFront.{each-front, of-front}
 use Rattle.lard_law_view.proofs.EachClient.{client_seen, each-client, of-client}
 use Rattle.lard_laws.specs.AsksSent.{AsksGoOn, IsNextAsk, ask_by, is_ask, last_ask, newest}
@@ -13,7 +12,7 @@ use Rattle.lard_laws.proofs.AsksSending.{Outcome, PartAsks, asks_in}
 use Rattle.lard_law_connections.specs.MotionStory.{of_row, picked}
 use Rattle.lard_law_connections.proofs.MotionNodes.{IsFirst}
 use Rattle.lard_law_connections.proofs.MotionPicking.{pick, pick-seen, picked-append, picked-none, segments-none, pick-sent}
-use Rattle.lard_law_connections.specs.Places.{IsDecided, IsEven, IsOffered, Owning, message_head, owning}
+use Rattle.lard_law_connections.specs.Places.{IsDecided, IsEven, IsOffered, message_head}
 use Rattle.lard_law_connections.proofs.PlacesFrontMessages.{came-says}
 use Rattle.lard_law_connections.proofs.PlacesNodeRules.{here-has}
 use Rattle.lard_law_connections.proofs.PlacesTurns.{IsPlaced}
@@ -89,8 +88,7 @@ other-asks n e m [] other = refl
 other-asks n e m (s ∷ ss) other = (λ i. listed (one s.0 i) ++ other-asks n e m ss other i) where
   one : (to : Place) → ask_by n e (sending (Node m) (to, s.1)) ≡ None
   one Front = ap (λ b. cond (b && is_ask e (message_head s.1)) (Some s.1) None) (other_number m n other)
-  one (Node k) = refl
-  one (Client d) = refl
+  one _ = refl
 
 module _ (x : Conn) (v : Move) (own : IsItsOwn x v) (first : Each IsFirst v.heads) where
   abbrev segments : List Rec
@@ -209,9 +207,6 @@ module _ (k : Setting) (x : Conn) (n epoch : ℕ) (env : NodeEnv) (is : IsNodeEn
   -- ---- its epoch
 
   module _ (placed : IsPlaced x) where
-    abbrev owns : Owning
-    owns = owning (tale_at x)
-
     pub small-here : (b : ControlBlock) (s : Stay) → IsHereWith env.epoch ours b s → env.epoch < 2 ^ 16
     small-here b s at = let early = (here-has x placed n env.epoch b s (here-of env.epoch ours b s at)).can.early in omega (arith, early)
 

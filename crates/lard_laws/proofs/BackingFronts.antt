@@ -1,34 +1,33 @@
 -- The rules of the front end: it answers before anything is assigned, and assigns the next request.
 use Rattle.std.proofs.Common.{◌≡◌, ◌≤◌, ◌+◌, ◌^◌, ℕ, Bool, true, false, List, [], ◌∷◌, ◌++◌, Option, Some, None, ⊎_elim, refl, sym, ap, ◌∙◌, subst}
-use Rattle.lard_law_view.specs.Prelude.{Ask, Conn, ControlBlock, FilesAt, Final, FirstChoice, Front, FrontConn, FrontDeed, FrontEnv, FrontPart, FrontRest, FrontRow, IsFrontEnv, IsWord, LaterChoice, MayMove, Move, Node, NodePart, Reading, Rec, Said, Seen, Service, Setting, Station, Talk, Verdict, ack_sent, assigned_notes, assigns, fires_at, forwarded, front_admits, front_asked, front_begun, front_does, front_ended, front_ends, front_hears, front_reads, front_rest, front_saying, front_taken, front_timer, handed_off, hears_at, holds, is_row_at, is_with, last_words, may_freeze, next_epoch, over_note, placed, serving, serving_settled, tag_sent, taken_by, tombstone, turn_here}
+use Rattle.lard_law_view.specs.Prelude.{Ask, Conn, ControlBlock, FilesAt, FirstChoice, Front, FrontConn, FrontDeed, FrontEnv, FrontGets, FrontPart, FrontRest, FrontRow, IsFrontEnv, IsWord, LaterChoice, Move, Node, NodePart, Place, Reading, Rec, Said, Seen, Service, Setting, Station, Talk, Verdict, assigned_notes, front_does, front_reads, front_rest, front_rule, is_row_at, is_with, last_words, over_note, serving, serving_settled, tombstone, turn_here}
 use Rattle.lard_laws.specs.BackingRequests.{IsFor}
 use Rattle.lard_laws.proofs.BackingMoving.{Keeps, makes, others-for}
 use Rattle.lard_laws.proofs.BackingNext.{next-for}
 use Rattle.lard_laws.proofs.BackingRows.{Backs, backs-append}
 use Rattle.lard_laws.proofs.BackingTurns.{IsSteady, steady-backs}
-use Rattle.lard_law_connections.specs.BytesAgreement.{FrontHolds, FrontWaits, IsOpen, SeatAgrees, StageAgrees}
+use Rattle.lard_law_connections.specs.BytesAgreement.{FrontWaits, IsOpen, SeatAgrees, StageAgrees}
 use Rattle.lard_law_connections.specs.BytesKeeping.{IsFrontTalk}
-use Rattle.lard_law_connections.proofs.BytesFrontReading.{GoesOver, reads-so}
-use Rattle.lard_law_connections.proofs.BytesFronts.{frozen-holds}
-use Rattle.lard_law_connections.proofs.BytesHolding.{heard-so}
-use Rattle.lard_law_connections.proofs.BytesServing.{So}
 use Rattle.lard_law_connections.proofs.PlacesLoops.{settled-is}
 use Rattle.lard_law_connections.proofs.PolicyAsides.{IsAside}
 use Rattle.lard_law_connections.proofs.PolicyReading.{reads-notes}
 use Rattle.lard_law_view.proofs.Saying.{NotedAt}
-use Rattle.lard_laws.specs.WaysState.{BeginsWithRequest, GoesItsWay, IsAway, IsUnassigned, IsPlacedOnce, WaitsForNext, SeatWays, StageWays, StayWays, marks_at}
+use Rattle.lard_laws.specs.WaysState.{BeginsWithRequest, GoesItsWay, IsAway, IsPlacedOnce, WaitsForNext, SeatWays, StageWays, StayWays, marks_at}
 use Rattle.lard_laws.specs.WaysUnder.{Assigned}
 use Rattle.lard_laws.specs.Ways.{WayMarks}
-use Rattle.lard_laws.proofs.WaysLooking.{Looks, reads-look}
+use Rattle.lard_laws.proofs.WaysFrontStays as ways
 use Rattle.lard_laws.proofs.WaysMarking.{mark, marked}
-use Rattle.lard_dispatch.specs.declared.dispatch.First.TheVariants as first
-use Rattle.lard_rules.specs.Front.{Does, Drops, Says}
-use Rattle.lard_rules.proofs.FrontBlocks.{segment-serves}
-use Rattle.lard_rules.proofs.FrontTurns.{reads-stop}
+use Rattle.lard_rules.specs.Front.{Says}
 use Rattle.lard_handoff_front.specs.declared.row.FrontConn.TheVariants as stage
 use Rattle.lard_history.proofs.Each.{Each}
 use Rattle.lard_journal.specs.declared.rec.Rec.TheVariants as rec
-use Rattle.lard_rules.proofs.FrontCases.{KeptBySegment, IsInStage, of-stage, heard_reading, heard_service, segment-keeps, timer-keeps, taken-keeps, asked-keeps, ended-keeps}
+use Rattle.lard_law_connections.specs.BytesAgreement.{IsTruthful}
+use Rattle.lard_law_connections.proofs.BytesClientMoves.{open-at}
+use Rattle.lard_law_connections.proofs.BytesFrontMessages.{opened-at}
+use Rattle.lard_law_connections.proofs.BytesFrontMoves.{talk-of}
+use Rattle.lard_law_view.proofs.EachFront.{FrontComes, admission}
+use Rattle.lard_laws.proofs.FrontComing.{front-place, heard-word}
+use Rattle.lard_rules.proofs.FrontCases.{IsInStage, KeptByFront, KeptBySegment, front-keeps, hands_off, heard_reading, of-stage}
 
 -- ---- notes
 
@@ -72,16 +71,9 @@ over-backs : (files : FilesAt) (c : ℕ) (m : WayMarks) (over : Bool) (rs : List
 over-backs files c m true rs h = (tt, h)
 over-backs files c m false rs h = h
 
--- ---- a move of the front end
+-- ---- the rules
 
-pub front-makes : (files : FilesAt) (x : Conn) (v : Move) → v.place ≡ Front → Backs files (marks_at x) v.said.notes → Keeps files x v
-front-makes files x v at notes = makes files x v notes (others-for files (marks_at x).wrote v.place other v.said.segments) (others-for files (marks_at x).wrote v.place other v.said.messages) where
-  other : (n : ℕ) → v.place ≡ Node n → ⊥
-  other n e = let no : Front ≡ Node n = sym at ∙ e in cc
-
--- ---- of one whose client opened
-
-module _ (k : Setting) (small : k.stream ≤ 2 ^ 30) (x : Conn) (s : Station) (there : x.part.station ≡ Some s) (env : FrontEnv) (is : IsFrontEnv k x.c env) (l : Talk) (pend : List Verdict) (o : IsOpen k.files x l pend s) where
+module _ (k : Setting) (small : k.stream ≤ 2 ^ 30) (x : Conn) (truth : IsTruthful k.files x) (env : FrontEnv) (is : IsFrontEnv k x.c env) (heads : List Seen) where
   abbrev files : FilesAt
   files = env.serve.files
 
@@ -94,156 +86,138 @@ module _ (k : Setting) (small : k.stream ≤ 2 ^ 30) (x : Conn) (s : Station) (t
   abbrev count : ℕ
   count = (front_rest p.rest).count
 
-  -- of what its client wrote
-  written-for : (r : ℕ) (path : List ℕ) → IsFor files l.w.bytes r path → IsFor files m.wrote r path
-  written-for r path h = subst (λ (q : List ℕ). IsFor files q r path) (sym o.tale.wrote) h
+  abbrev l : Talk
+  l = truth.talk
 
   seat-at : (row : FrontRow) (d : FrontConn) → IsInStage p row d → GoesItsWay files x → StageWays files m x.part row.epoch.0 d
   seat-at row d at g = of-stage (SeatWays files m x.part) p row d at g.seat
 
-  truth-at : (row : FrontRow) (d : FrontConn) → IsInStage p row d → StageAgrees l.w l.out l.vs pend l.was_reset x.c x.part row.epoch.0 d
-  truth-at row d at = of-stage (SeatAgrees l.w l.out l.vs pend l.was_reset x.c x.part) p row d at o.seat
+  -- what it notes is said rightly
+  abbrev Goal : FrontDeed → Type 0
+  Goal d = let rs : List Rec = (front_does x heads d).said.notes in Each (NotedAt Front x.c) rs → GoesItsWay files x → Backs files m rs
 
-  module _ (heads : List Seen) where
-    abbrev Goal : FrontDeed → Type 0
-    Goal d = Keeps files x (front_does x heads d)
+  -- what was read, where nothing was assigned: what it notes is told, and the next request is for the path that is to be placed
+  record Looked (w : Service) (target : Option (List ℕ)) : Type 0 where
+    none : m.assigned ≡ []
+    aside : Each IsAside w.notes
+    told : marked m w.notes ≡ record m { served = w.count }
+    for : (path : List ℕ) → target ≡ Some path → IsFor files m.wrote (w.count + 1) path
 
-    still : Goal Drops
-    still = front-makes files x (front_does x heads Drops) refl tt
+  abbrev Came : Service → Option (List ℕ) → Type 0
+  Came w target = GoesItsWay files x → Looked w target
 
-    -- what was read, where nothing was assigned: what it notes is told, and the next request is for the path that is to be placed
-    record Looked (w : Service) (target : Option (List ℕ)) : Type 0 where
-      none : m.assigned ≡ []
-      aside : Each IsAside w.notes
-      told : marked m w.notes ≡ record m { served = w.count }
-      for : (path : List ℕ) → target ≡ Some path → IsFor files m.wrote (w.count + 1) path
+  -- what it read is said, and then this
+  looked-backs : (w : Service) (target : Option (List ℕ)) (more : List Rec) → Looked w target → Each (NotedAt Front x.c) (w.notes ++ more) → Backs files (record m { served = w.count }) more → Backs files m (w.notes ++ more)
+  looked-backs w target more looked noted h =
+      backs-append files m w.notes more (asides-back files m x.c looked.none w.notes (each-front (NotedAt Front x.c) w.notes more noted) looked.aside)
+      (subst (λ (q : WayMarks). Backs files q more) (sym looked.told) h)
 
-    abbrev Came : Service → Option (List ℕ) → Type 0
-    Came w target = GoesItsWay files x → Looked w target
+  -- ---- of one whose client opened
 
-    -- what it read is said, or the connection is placed
-    holds-makes : (row : FrontRow) (w : Service) → Came w None → Goal (holds p row (front_rest p.rest) (serving_settled env.serve w))
-    holds-makes row w came help g old =
-        let same : (serving_settled env.serve w).1.notes ≡ w.notes = (settled-is env.serve w).notes in
-        front-makes files x (front_does x heads (holds p row (front_rest p.rest) (serving_settled env.serve w))) refl
-        (subst (Backs files m) (sym same) (asides-back files m x.c (came g).none w.notes (subst (Each (NotedAt Front x.c)) same help.own.notes) (came g).aside)) help g old
+  module _ (s : Station) (there : x.part.station ≡ Some s) where
+    abbrev pend : List Verdict
+    pend = truth.pend
 
-    hands-makes : (row : FrontRow) (w : Service) (path : List ℕ) (choice : FirstChoice) → Came w (Some path) → Goal (Does (placed env p row (front_rest p.rest) w path (first.Go choice)))
-    hands-makes row w path choice came help g old =
-        let looked : Looked w (Some path) = came g in
-        let more : List Rec = rec.Admitted env.serve.c ∷ rec.AssignedFirst env.serve.c (w.count + 1) path choice.node choice.add choice.remove ∷ [] in
-        front-makes files x (front_does x heads (Does (placed env p row (front_rest p.rest) w path (first.Go choice)))) refl
-        (backs-append files m w.notes more (asides-back files m x.c looked.none w.notes (each-front (NotedAt Front x.c) w.notes more help.own.notes) looked.aside)
-        (subst (λ (q : WayMarks). Backs files q more) (sym looked.told) (tt, ((looked.none, refl, looked.for path refl), tt)))) help g old
+    abbrev o : IsOpen k.files x l pend s
+    o = open-at k.files x s there truth
 
-    waits-makes : (row : FrontRow) (w : Service) (path : List ℕ) → Came w (Some path) → Goal (Does (placed env p row (front_rest p.rest) w path first.Waits))
-    waits-makes row w path came help g old =
-        let more : List Rec = rec.Waits env.serve.c ∷ [] in
-        front-makes files x (front_does x heads (Does (placed env p row (front_rest p.rest) w path first.Waits))) refl
-        (backs-append files m w.notes more (asides-back files m x.c (came g).none w.notes (each-front (NotedAt Front x.c) w.notes more help.own.notes) (came g).aside) (tt, tt)) help g old
+    -- of what its client wrote
+    written-for : (r : ℕ) (path : List ℕ) → IsFor files l.w.bytes r path → IsFor files m.wrote r path
+    written-for r path h = subst (λ (q : List ℕ). IsFor files q r path) (sym o.tale.wrote) h
+
+    truth-at : (row : FrontRow) (d : FrontConn) → IsInStage p row d → StageAgrees l.w l.out l.vs pend l.was_reset x.c x.part row.epoch.0 d
+    truth-at row d at = of-stage (SeatAgrees l.w l.out l.vs pend l.was_reset x.c x.part) p row d at o.seat
 
     module _ (talk : IsFrontTalk env l.w l.out l.vs) (sd : Said) (word : IsWord l.w sd) where
       row-looks : (row : FrontRow) (b : ControlBlock) → IsInStage p row (stage.Held b) → Came (front_reads env.serve (heard_reading p b sd)).service (front_reads env.serve (heard_reading p b sd)).target
       row-looks row b at g =
-          let fh : FrontHolds l.w l.out l.vs pend b count = truth-at row (stage.Held b) at in
-          let free : IsUnassigned files m = seat-at row (stage.Held b) at g in
-          let start : Service = heard_service p b sd in
-          let so0 : So env.serve l.w l.out l.vs start [] = heard-so env.serve l.w l.out l.vs talk.says [] b count fh.holds talk.stream sd word in
           let y : Reading = front_reads env.serve (heard_reading p b sd) in
-          let so = reads-so env.serve l.w l.out l.vs talk.most start so0 in
-          let stop = reads-stop env.serve start (segment-serves count b sd fh.serves) in
-          let served : m ≡ record m { served = count } = ap (λ (i : ℕ). record m { served = i }) (o.tale.served ∙ sym fh.holds.counted) in
-          let begin : Looks env.serve m start = record { noted_so = tt; told = served; none = (subst (IsUnassigned files) served free).1 } in
-          let looks = reads-look env.serve m l.w l.out l.vs o.tale.wrote talk.most start so0 begin in
+          let a : ways.Looked k small x truth env is heads y.service y.target = ways.row-looks k small x truth env is heads s there talk sd word row b at g in
           record {
-            none = free.0;
+            none = a.none;
             aside = reads-notes env.serve (heard_reading p b sd) tt;
-            told = looks.0.told;
+            told = a.looks.told;
             for = λ path e.
-                let over : y.service.over ≡ None = subst (λ (t : Option (List ℕ)). GoesOver t y.service) e so.1 in
-                let may : may_freeze y.service.block ≡ true = subst (MayMove y.service.block) e stop.1 in
-                written-for (y.service.count + 1) path (next-for files l.w so.0.out_now so.0.vs_now y.service.block y.service.count (frozen-holds env l.w l.out l.vs l.was_reset y.service so.0 over stop.0 may) may path
-                (subst (WaitsForNext files y.service.block.recv.unread) e looks.1));
+                let f = a.frozen path e in
+                subst (λ (q : List ℕ). IsFor files q (y.service.count + 1) path) (sym f.wrote) (next-for files f.w f.out f.vs y.service.block y.service.count f.holds.holds f.frozen path f.next);
           }
-
-      tombs : (said : Option Said) → Goal (Says (turn_here (tombstone env.serve said)))
-      tombs None = front-makes files x (front_does x heads (Says (turn_here (tombstone env.serve None)))) refl tt
-      tombs (Some sd) = front-makes files x (front_does x heads (Says (turn_here (tombstone env.serve (Some sd))))) refl tt
 
       by-segment : (bytes : List ℕ) → KeptBySegment env p bytes sd Came Goal
       by-segment bytes = record {
-        drops = still;
-        begins = λ none plain. front-makes files x (front_does x heads (front_begun env p sd)) refl (tt, tt);
+        drops = λ noted g. tt;
+        begins = λ none plain noted g. (tt, tt);
         reads = row-looks;
-        holds = λ row b w at came. holds-makes row w came;
-        hands = λ row b w path choice at came is. hands-makes row w path choice came;
-        waits = λ row b w path at came is. waits-makes row w path came;
-        stays = λ row b at. front-makes files x (front_does x heads (hears_at env p row bytes sd (stage.Waiting b))) refl tt;
-        forwards = λ row n e at. front-makes files x (front_does x heads (forwarded env n e bytes)) refl tt;
+        holds = λ row b w at came noted g.
+            let same : (serving_settled env.serve w).1.notes ≡ w.notes = (settled-is env.serve w).notes in
+            subst (Backs files m) (sym same) (asides-back files m x.c (came g).none w.notes (subst (Each (NotedAt Front x.c)) same noted) (came g).aside);
+        hands = λ row b w path choice at came is noted g.
+            let more : List Rec = rec.Admitted env.serve.c ∷ rec.AssignedFirst env.serve.c (w.count + 1) path choice.node choice.add choice.remove ∷ [] in
+            looked-backs w (Some path) more (came g) noted (tt, (((came g).none, refl, (came g).for path refl), tt));
+        waits = λ row b w path at came is noted g. looked-backs w (Some path) (rec.Waits env.serve.c ∷ []) (came g) noted (tt, tt);
+        stays = λ row b at noted g. tt;
+        forwards = λ row n e at noted g. tt;
         words = λ row last at. tombs (last_words last.reason last sd);
-      }
+      } where
+        tombs : (said : Option Said) → Goal (Says (turn_here (tombstone env.serve said)))
+        tombs None noted g = tt
+        tombs (Some t) noted g = tt
 
-      pub hears-makes : (bytes : List ℕ) → Goal (front_hears env p bytes sd p.row)
-      hears-makes bytes = segment-keeps env p bytes sd Came Goal (by-segment bytes)
+    -- it is admitted, from the head of the line
+    admits-backs : (row : FrontRow) (b : ControlBlock) (path : List ℕ) → IsInStage p row (stage.Waiting b) → (front_rest p.rest).target ≡ Some path → (choice : FirstChoice) → Goal (hands_off env row (serving b count []) path choice [])
+    admits-backs row b path at is_target choice noted g =
+        let fh : FrontWaits l.w l.out l.vs pend b count = truth-at row (stage.Waiting b) at in
+        let seat = seat-at row (stage.Waiting b) at g in
+        let next : BeginsWithRequest files b.recv.unread path = subst (WaitsForNext files b.recv.unread) is_target seat.1 in
+        let for : IsFor files m.wrote (count + 1) path = written-for (count + 1) path (next-for files l.w l.out l.vs b count fh.0.holds fh.1 path next) in
+        let served : count + 1 ≡ m.served + 1 = ap (λ (i : ℕ). i + 1) (fh.0.holds.counted ∙ sym o.tale.served) in
+        (tt, ((seat.0.0, served, for), tt))
 
-    pub fires-makes : Goal (front_timer env p)
-    fires-makes = timer-keeps env p Goal (record {
-      drops = still;
-      holds = λ row b at. front-makes files x (front_does x heads (fires_at env p row (stage.Held b))) refl tt;
-      stays = λ row b at. front-makes files x (front_does x heads (fires_at env p row (stage.Waiting b))) refl tt;
-      resends = λ row n e at. front-makes files x (front_does x heads (fires_at env p row (stage.Offering n e))) refl tt;
-    })
-
-  -- ---- it is admitted, from the head of the line
-
-  pub admits-makes : (row : FrontRow) (b : ControlBlock) (path : List ℕ) → IsInStage p row (stage.Waiting b) → (front_rest p.rest).target ≡ Some path → (choice : FirstChoice)
-      → Keeps files x (front_admits x (handed_off env row (serving b count []) path choice))
-  admits-makes row b path at is_target choice help g old =
-      let fh : FrontWaits l.w l.out l.vs pend b count = truth-at row (stage.Waiting b) at in
-      let seat = seat-at row (stage.Waiting b) at g in
-      let next : BeginsWithRequest files b.recv.unread path = subst (WaitsForNext files b.recv.unread) is_target seat.1 in
-      let for : IsFor files m.wrote (count + 1) path = written-for (count + 1) path (next-for files l.w l.out l.vs b count fh.0.holds fh.1 path next) in
-      let served : count + 1 ≡ m.served + 1 = ap (λ (i : ℕ). i + 1) (fh.0.holds.counted ∙ sym o.tale.served) in
-      front-makes files x (front_admits x (handed_off env row (serving b count []) path choice)) refl (tt, ((seat.0.0, served, for), tt)) help g old
-
--- ---- messages of nodes
-
-module _ (env : FrontEnv) (x : Conn) (heads : List Seen) where
-  abbrev all_files : FilesAt
-  all_files = env.serve.files
-
-  abbrev its : FrontPart
-  its = x.part.front
-
-  abbrev Reached : FrontDeed → Type 0
-  Reached d = Keeps all_files x (front_does x heads d)
-
-  drops : Reached Drops
-  drops = front-makes all_files x (front_does x heads Drops) refl tt
-
-  pub taken-row : (epoch : ℕ) → Reached (front_taken its epoch)
-  taken-row epoch = taken-keeps its Reached drops epoch (λ row n e at same. front-makes all_files x (front_does x heads (taken_by its epoch (Some row) (Some n))) refl tt)
-
-  pub ended-row : (from epoch : ℕ) (last : Final) → Reached (front_ended env its from epoch last)
-  ended-row from epoch last = ended-keeps its Reached drops env from epoch last (λ row found away again. front-makes all_files x (front_does x heads (Says (front_saying (ack_sent env from epoch)))) refl tt)
-      (λ row found away. front-makes all_files x (front_does x heads (Does (front_ends env its from epoch last row (next_epoch row)))) refl (tt, (tt, tt)))
+  -- ---- an Ask
 
   -- where it is with a node, one request was assigned
-  away-some : (n e : ℕ) (q : NodePart) (r : FrontRest) → IsAway all_files (marks_at x) r n e q → (marks_at x).assigned ≡ [] → ⊥
+  away-some : (n e : ℕ) (q : NodePart) (r : FrontRest) → IsAway files m r n e q → m.assigned ≡ [] → ⊥
   away-some n e q r h none = ⊎_elim
-      (λ (a : _ × IsPlacedOnce all_files (marks_at x) r n). let no : (a.1.path, n) ∷ [] ≡ [] = sym a.1.assigned ∙ none in let f : ⊥ = cc in f)
-      (λ (a : _ × ((path : List ℕ) × (others : List Assigned) × ((marks_at x).assigned ≡ (path, n) ∷ others)) × StayWays all_files n (marks_at x) r q.stay). let no : (a.1.0, n) ∷ a.1.1 ≡ [] = sym a.1.2 ∙ none in let f : ⊥ = cc in f) h
+      (λ (a : _ × IsPlacedOnce files m r n). let no : (a.1.path, n) ∷ [] ≡ [] = sym a.1.assigned ∙ none in let f : ⊥ = cc in f)
+      (λ (a : _ × ((path : List ℕ) × (others : List Assigned) × (m.assigned ≡ (path, n) ∷ others)) × StayWays files n m r q.stay). let no : (a.1.0, n) ∷ a.1.1 ≡ [] = sym a.1.2 ∙ none in let f : ⊥ = cc in f) h
 
-  stage-some : (n epoch e : ℕ) (d : FrontConn) → is_with n epoch d ≡ true → StageWays all_files (marks_at x) x.part e d → (marks_at x).assigned ≡ [] → ⊥
-  stage-some n epoch e (stage.Offering i f) at h = away-some i e (x.part.nodes i) (front_rest its.rest) h
-  stage-some n epoch e (stage.Moved i f) at h = away-some i e (x.part.nodes i) (front_rest its.rest) h
+  stage-some : (n epoch e : ℕ) (d : FrontConn) → is_with n epoch d ≡ true → StageWays files m x.part e d → m.assigned ≡ [] → ⊥
+  stage-some n epoch e (stage.Offering i f) at h = away-some i e (x.part.nodes i) (front_rest p.rest) h
+  stage-some n epoch e (stage.Moved i f) at h = away-some i e (x.part.nodes i) (front_rest p.rest) h
   stage-some n epoch e _ at h = let no : false ≡ true = at in absurd (let f : ⊥ = cc in f)
 
-  row-some : (n epoch : ℕ) (o : Option FrontRow) → is_row_at n epoch o ≡ true → SeatWays all_files (marks_at x) x.part o → (marks_at x).assigned ≡ [] → ⊥
+  row-some : (n epoch : ℕ) (o : Option FrontRow) → is_row_at n epoch o ≡ true → SeatWays files m x.part o → m.assigned ≡ [] → ⊥
   row-some n epoch None at h = let no : false ≡ true = at in absurd (let f : ⊥ = cc in f)
   row-some n epoch (Some row) at h = stage-some n epoch row.epoch.0 row.stage at h
 
-  pub asked-row : (n epoch : ℕ) (ask : Ask) → Reached (front_asked env its n epoch ask)
-  asked-row n epoch ask = asked-keeps its Reached drops env n epoch ask (λ rest found there same some. front-makes all_files x (front_does x heads (Says (front_saying (tag_sent env n epoch rest.asks rest.tag)))) refl tt)
-      (λ rest found there next help g old. front-makes all_files x (front_does x heads (Does (assigns env its rest n epoch ask (env.later ask)))) refl
-      (over-backs all_files env.serve.c (marks_at x) (env.later ask).over _ (later-backs all_files env.serve.c ask (marks_at x) (row-some n epoch its.row there g.seat) rest.assigned ask.paths (env.later ask).choices)) help g old)
+  -- ---- whatever comes
+
+  by-rules : KeptByFront env p (FrontComes x env heads) Came Goal
+  by-rules = record {
+    drops = λ noted g. tt;
+    hears = λ bytes sd c.
+        let o : IsOpen k.files x l truth.pend c.station = open-at k.files x c.station c.there truth in
+        by-segment c.station c.there (talk-of k small x env is c.station l truth.pend o c.iss_is) sd (heard-word x c.station env bytes heads k.files l truth.pend o sd c) bytes;
+    fires = λ c. record { drops = λ noted g. tt; holds = λ row b at noted g. tt; stays = λ row b at noted g. tt; resends = λ row n e at noted g. tt };
+    takes = λ from epoch c row n e at same noted g. tt;
+    tags_again = λ n epoch ask c rest found there same some noted g. tt;
+    assigns_next = λ n epoch ask c rest found there next noted g.
+        over-backs files env.serve.c m (env.later ask).over _ (later-backs files env.serve.c ask m (row-some n epoch p.row there g.seat) rest.assigned ask.paths (env.later ask).choices);
+    ends_again = λ n epoch last c row found away again noted g. tt;
+    ends = λ n epoch last c row found away noted g. (tt, (tt, tt));
+    admits = λ choice row b path at target.
+        let opened = opened-at k.files x truth (λ u. let no : Some row ≡ None = sym at.0 ∙ u.front in absurd cc) in
+        admits-backs opened.0 opened.1 row b path at target choice;
+  }
+
+  pub front-makes : (g : FrontGets) → FrontComes x env heads g → Keeps k.files x (front_does x heads (front_rule env p g))
+  front-makes g comes = subst (λ (f : FilesAt). Keeps f x v) is.files (λ help way old.
+      makes files x v (front-keeps env p (FrontComes x env heads) Came Goal by-rules g (admission x env heads g comes) comes (subst (λ (q : Place). Each (NotedAt q x.c) v.said.notes) at help.own.notes) way)
+      (others-for files m.wrote v.place other v.said.segments) (others-for files m.wrote v.place other v.said.messages) help way old) where
+        v : Move
+        v = front_does x heads (front_rule env p g)
+
+        at : v.place ≡ Front
+        at = front-place x heads (front_rule env p g)
+
+        other : (n : ℕ) → v.place ≡ Node n → ⊥
+        other n e = let no : Front ≡ Node n = sym at ∙ e in cc

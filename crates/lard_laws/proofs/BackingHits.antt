@@ -256,8 +256,7 @@ module _ (m : Machine) (small : m.config.stream ≤ 2 ^ 30) (reached : IsReached
         (subst (λ (f : Place). GetsKnown its (m.journal ++ first_rows m (event.Deliver h.0)) s f (decoded_message bytes)) h.4
         (subst (λ (bs : List ℕ). GetsKnown its (m.journal ++ first_rows m (event.Deliver h.0)) s h.1.from (decoded_message bs)) h.6
         (gets-known kept h.0 h.1 h.3 h.5 (decoded_message h.1.bytes) refl)))
-    step-known kept d (input.Timer c) h = tt
-    step-known kept d (input.Disk j) h = tt
+    step-known kept d _ h = tt
 
 -- ---- a state
 

@@ -22,7 +22,6 @@ module _ (files : FilesAt) where
   -- the numbers of packets and events say nothing
   plain-back : (m : WayMarks) (r : Rec) → MayBack files m (plain r) → MayBack files m r
   plain-back m (rec.Event i e) h = tt
-  plain-back m (rec.Sent k from to bytes) h = h
   plain-back m _ h = h
 
   somebody : (J : List Rec) (r : Rec) (c : ℕ) → whose r ≡ Some c → seen_so c (own c J) (plain r) → MayMark files J r

@@ -26,8 +26,7 @@ module _ (files : FilesAt) (wrote : List ℕ) where
   clients-for place c (s ∷ ss) h = (one place s.0 h.0, clients-for place c ss h.1) where
     one : (from to : Place) → to ≡ Client c → SaysFor files wrote from to s.1
     one (Node n) to e = subst (λ (q : Place). SaysFor files wrote (Node n) q s.1) (sym e) tt
-    one Front to e = tt
-    one (Client d) to e = tt
+    one _ to e = tt
 
   pub others-for : (place : Place) → ((n : ℕ) → place ≡ Node n → ⊥) → (ss : List (Place × List ℕ)) → Each (LetterFor files wrote) (map (letter place) ss)
   others-for place other [] = tt

@@ -1,6 +1,6 @@
 -- A node that takes a connection starts the request that was assigned with it.
 use Rattle.std.proofs.Common.{◌≡◌, ◌≤◌, ◌+◌, ◌-◌, ◌^◌, ℕ, true, List, [], ◌∷◌, length, take, Some, sym, ap, ◌∙◌, subst, arith}
-use Rattle.lard_law_view.specs.Prelude.{Conn, ControlBlock, EndpointParts, FilesAt, Front, FrontRest, IsConnNumber, IsNodeEnv, Node, NodeEnv, NodePart, Seen, Setting, SpellsMessage, Station, Talk, Verdict, Was, Work, batch_of, bytes_used, front_rest, goes_on, node_begins, node_does, offer_answer, offered_by, parts_of, reads_batch, reads_these, state_of, taken_sent, verdicts}
+use Rattle.lard_law_view.specs.Prelude.{Conn, ControlBlock, EndpointParts, FilesAt, Front, IsConnNumber, IsNodeEnv, Node, NodeEnv, NodePart, Seen, Setting, SpellsMessage, Station, Talk, Verdict, Was, Work, batch_of, bytes_used, goes_on, node_begins, node_does, offer_answer, offered_by, parts_of, reads_batch, reads_these, state_of, taken_sent, verdicts}
 use Rattle.lard_laws.specs.BackingRequests.{IsFor}
 use Rattle.lard_laws.specs.BackingTold.{files_before}
 use Rattle.lard_laws.proofs.BackingMoving.{Keeps}
@@ -42,9 +42,6 @@ module _ (k : Setting) (small : k.stream ≤ 2 ^ 30) (x : Conn) (s : Station) (t
 
   abbrev m : WayMarks
   m = marks_at x
-
-  abbrev r : FrontRest
-  r = front_rest x.part.front.rest
 
   abbrev p : NodePart
   p = x.part.nodes n

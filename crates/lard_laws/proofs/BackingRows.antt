@@ -1,7 +1,7 @@
 -- What the records of a move say of requests, list by list.
-use Rattle.std.proofs.Common.{◌≡◌, ◌+◌, ℕ, true, cond, nat_eq, List, [], ◌∷◌, ◌++◌, map, refl, sym, ap, ◌∙◌, subst, append-nil, append_assoc}
-use Rattle.std.specs.List.{fold, slice_get}
-use Rattle.lard_law_view.specs.Prelude.{Body, Client, Conn, EachRow, FilesAt, Front, IsPrefix, Letter, Move, Node, Place, Rec, Seen, Tale, Verdict, grown, letter, letters_of, seen_in, tale_at, tale_of, tale_step, timer_rows, told_on, verdicts}
+use Rattle.std.proofs.Common.{◌≡◌, ℕ, List, [], ◌∷◌, ◌++◌, map, refl, sym, ap, ◌∙◌, subst, append-nil, append_assoc}
+use Rattle.std.specs.List.{slice_get}
+use Rattle.lard_law_view.specs.Prelude.{Body, Conn, EachRow, FilesAt, IsPrefix, Letter, Move, Node, Place, Rec, Seen, Tale, Verdict, grown, letter, letters_of, seen_in, tale_at, tale_of, tale_step, timer_rows, told_on, verdicts}
 use Rattle.lard_answers.proofs.Growing.{verdicts-grow}
 use Rattle.lard_laws.specs.BackingRequests.{IsFor}
 use Rattle.lard_laws.specs.BackingState.{BodyFor, FetchesFor, LetterFor, MayBack, SaysFor}
@@ -42,10 +42,7 @@ module _ (files : FilesAt) (q z : List ℕ) where
 
   says-more : (from to : Place) (bytes : List ℕ) → SaysFor files q from to bytes → SaysFor files (q ++ z) from to bytes
   says-more (Node m) (Node n) bytes h = λ msg d. body-more m n msg.body (h msg d)
-  says-more (Node m) Front bytes h = tt
-  says-more (Node m) (Client c) bytes h = tt
-  says-more Front to bytes h = tt
-  says-more (Client c) to bytes h = tt
+  says-more _ _ bytes h = tt
 
   pub letters-more : (ls : List Letter) → Each (LetterFor files q) ls → Each (LetterFor files (q ++ z)) ls
   letters-more ls h = Each-weaker (LetterFor files q) (LetterFor files (q ++ z)) (λ l g. says-more l.from l.to l.bytes g) ls h

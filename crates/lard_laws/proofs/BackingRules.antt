@@ -1,10 +1,9 @@
 -- Each rule leaves what is said of a connection's requests right, so it is in every run.
-use Rattle.std.proofs.Common.{◌≡◌, ◌≤◌, ◌^◌, ℕ, false, List, [], ◌∷◌, ◌++◌, ◌+◌, Some, None, Result, Ok, refl, sym, ap, ◌∙◌, subst}
-use Rattle.lard_law_view.specs.Prelude.{AreSent, Client, ClientRules, Completed, Config, Conn, ControlBlock, EachRow, FilesAt, FirstChoice, Front, FrontEnv, FrontPart, FrontRules, FrontTurn, Guarded, IsFrontEnv, IsGuardedLaw, IsNodeEnv, MayRestOn, Move, Node, NodeDeed, NodeEnv, NodeGets, NodePart, NodeRules, OfEach, Place, Rec, Said, Seen, SegFault, Setting, Station, Stay, ToCluster, Untouched, UntouchedRules, Was, Work, after_timer, again_sent, ask_of, brought_said, came_for, come_progress, content_bytes, content_said, decoded, event_seen, file_at, front_admits, front_admitted, front_does, front_gets, goes_on, gone, grown, node_does, node_fired, node_saying, nothing_said, offered_by, on_segment, packet_seen, read_progress, seen_in, serving, serving_ready_of, setting, spoken, stands, tagged, taken_sent, tale_at, timed, with_work, without, work_of}
-use Rattle.lard_base.specs.declared.event.Event.TheVariants as event
+use Rattle.std.proofs.Common.{◌≡◌, ◌≤◌, ◌^◌, ℕ, false, List, [], ◌∷◌, ◌++◌, ◌+◌, refl, sym, ◌∙◌, subst}
+use Rattle.lard_law_view.specs.Prelude.{AreSent, Client, ClientRules, Completed, Config, Conn, ControlBlock, EachRow, FilesAt, FrontRules, Guarded, IsGuardedLaw, IsNodeEnv, MayRestOn, Move, Node, NodeDeed, NodeEnv, NodeGets, NodePart, NodeRules, OfEach, Place, Rec, Seen, Setting, Stay, Untouched, UntouchedRules, Work, after_timer, again_sent, brought_said, came_for, come_progress, content_bytes, content_said, file_at, goes_on, gone, grown, node_does, node_fired, node_saying, nothing_said, offered_by, on_segment, packet_seen, read_progress, seen_in, serving, serving_ready_of, setting, spoken, stands, tagged, taken_sent, tale_at, timed, with_work, without, work_of}
 use Rattle.lard_base.specs.declared.place.TimerKind.TheVariants as timer
 use Rattle.lard_laws.specs.BackingState.{FetchesFor, LetterFor, SaysFor}
-use Rattle.lard_laws.proofs.BackingFronts.{admits-makes, hears-makes, fires-makes, asked-row, ended-row, taken-row}
+use Rattle.lard_laws.proofs.BackingFronts.{front-makes}
 use Rattle.lard_laws.proofs.BackingMoving.{Keeps, again-for, content-for, nodes-for, makes, others-for}
 use Rattle.lard_laws.proofs.BackingNodes.{came-clean, deed-makes, fired-back, fresh, goes-back, hand-at, home, still-makes}
 use Rattle.lard_laws.proofs.BackingTurns.{AreAt, Clean, DeedBacks, IsHome, IsSteady, SaidFor, tagged-clean}
@@ -13,10 +12,9 @@ use Rattle.lard_laws.proofs.NodeStays.{StayHolds, stay-holds}
 use Rattle.lard_laws.proofs.WaysHomes.{sent-append}
 use Rattle.lard_laws.proofs.BackingOffered.{new-makes}
 use Rattle.lard_laws.proofs.BackingRows.{Backs, Mine}
-use Rattle.lard_law_connections.specs.BytesAgreement.{IsFair, IsFairOn, IsTruthful}
+use Rattle.lard_law_connections.specs.BytesAgreement.{IsTruthful}
 use Rattle.lard_law_connections.proofs.BytesClientMoves.{has-fair, open-at}
 use Rattle.lard_law_connections.proofs.BytesFrontMessages.{opened-at}
-use Rattle.lard_law_connections.proofs.BytesFrontMoves.{talk-of}
 use Rattle.lard_law_connections.proofs.BytesNodeRest.{front-opens}
 use Rattle.lard_law_connections.proofs.BytesOwners.{Known, Knows, known}
 use Rattle.lard_law_connections.proofs.BytesRuns.{states-truthful}
@@ -40,8 +38,7 @@ use Rattle.lard_handoff_back.specs.declared.table.Adopt.TheVariants.{New}
 use Rattle.lard_law_view.proofs.EachNode.{Answers, Aside, Brings, MayAside, NodeComes, Queues, aside_said, aside_seen, each-node, job_notes, node_goes, told_first}
 use Rattle.lard_rules.proofs.NodeCases.{IsHereWith, KeptByNode, node-keeps}
 use Rattle.lard_rules.specs.Node.{Does, Says}
-use Rattle.lard_segment.proofs.Again.{again}
-use Rattle.lard_rules.proofs.FrontCases.{admitted-keeps}
+use Rattle.lard_law_view.proofs.EachFront.{each-front}
 
 -- ---- a client
 
@@ -71,39 +68,8 @@ module _ (k : Setting) (small : k.stream ≤ 2 ^ 30) where
 
   -- ---- the front end
 
-  by-files : (x : Conn) (env : FrontEnv) → IsFrontEnv k x.c env → (v : Move) → Keeps env.serve.files x v → Keeps k.files x v
-  by-files x env is v h = subst (λ (f : FilesAt). Keeps f x v) is.files h
-
-  front-hears : (x : Conn) (s : Station) (env : FrontEnv) (bytes : List ℕ) → x.part.station ≡ Some s → IsFrontEnv k x.c env → env.iss ≡ s.iss → Was x (Client x.c) Front bytes
-      → Owes x (front_does x (packet_seen (Client x.c) Front bytes) (front_gets env x.part.front bytes (decoded bytes x.c ToCluster)))
-  front-hears x s env bytes there is iss was h =
-      let o = open-at k.files x s there h in
-      let f : IsFairOn h.talk x.c x.part (Client x.c) Front bytes = has-fair (IsFair h.talk x.c x.part) (record { from = Client x.c; to = Front; bytes = bytes }) x.letters was o.fair in
-      let heads : List Seen = packet_seen (Client x.c) Front bytes in
-      let same : decoded bytes x.c ToCluster ≡ Ok f.0 = ap (λ (b : List ℕ). decoded b x.c ToCluster) f.1 ∙ again x.c ToCluster f.0 f.2.sendable in
-      subst (λ (r : Result Said SegFault). Keeps k.files x (front_does x heads (front_gets env x.part.front bytes r))) (sym same)
-      (by-files x env is _ (hears-makes k small x s there env is h.talk h.pend o heads (talk-of k small x env is s h.talk h.pend o iss) f.0 f.2 bytes))
-
-  -- the head of the line
-  module _ (x : Conn) (env : FrontEnv) (choice : FirstChoice) (given : FrontPart × FrontTurn) (is : IsFrontEnv k x.c env) (h : IsTruthful k.files x) where
-    abbrev Admits : Type 0
-    Admits = Keeps k.files x (front_admits x given)
-
-    admits : front_admitted env x.part.front choice ≡ Some given → Admits
-    admits = admitted-keeps env x.part.front choice (λ (y : FrontPart × FrontTurn). Keeps k.files x (front_admits x y)) (λ row b path at is_target.
-        let opened = opened-at k.files x h (λ u. let no : Some row ≡ None = sym at.0 ∙ u.front in absurd cc) in
-        let o = open-at k.files x opened.0 opened.1 h in
-        by-files x env is _ (admits-makes k small x opened.0 opened.1 env is h.talk h.pend o row b path at is_target choice)) given
-
   fronts : FrontRules k Owes
-  fronts = record {
-    hears = front-hears;
-    fires = λ x s env there is h. let o = open-at k.files x s there h in by-files x env is _ (fires-makes k small x s there env is h.talk h.pend o (event_seen (event.Timer Front x.c)));
-    taken = λ x env n epoch bytes is spells was h. by-files x env is _ (taken-row env x (packet_seen (Node n) Front bytes) epoch);
-    asked = λ x env n epoch number queue size paths bytes is spells was h. by-files x env is _ (asked-row env x (packet_seen (Node n) Front bytes) n epoch (ask_of x.c n number queue size paths));
-    ended = λ x env n epoch reason snd rcv count bytes is spells was h. by-files x env is _ (ended-row env x (packet_seen (Node n) Front bytes) n epoch (record { reason = reason; snd = record { 0 = snd }; rcv = record { 0 = rcv } }));
-    admitted = λ x env choice given is e h. admits x env choice given is h e;
-  }
+  fronts = each-front k Owes (λ x env heads g is comes h. front-makes k small x h env is heads g comes)
 
   -- ---- a node
 

@@ -1,5 +1,5 @@
 -- What a connection sees of a machine of the cluster is nothing that its client does or writes.
-use Rattle.std.proofs.Common.{◌≡◌, ℕ, List, [], ◌∷◌, ◌++◌, map, true, false, Option, Some, None, refl, sym, ap, ◌∙◌, subst}
+use Rattle.std.proofs.Common.{◌≡◌, ℕ, List, [], ◌∷◌, map, true, false, Option, Some, None, refl, sym, ap, ◌∙◌, subst}
 use Rattle.std.specs.List.{fold}
 use Rattle.lard_base.specs.declared.event.Event.TheVariants as event
 use Rattle.lard_law_view.specs.Prelude.{Came, Client, ClientBlock, Conn, Front, IsClientStep, IsGiven, IsMachine, Move, Node, NoneOfClient, Part, Place, Rec, Row, Seen, after_turn, at_client, client_step, client_turn, is_of_client, is_opening, row_turn, rows_of, seen_in}

@@ -1,7 +1,6 @@
 -- A connection has one first number of the cluster's side wherever it is, in every run: each rule keeps it.
-use Rattle.std.proofs.Common.{◌≡◌, ◌<◌, ◌^◌, ℕ, List, [], ◌∷◌, ◌++◌, map, Option, Some, None, Result, Ok, Err, refl, sym, ap, ◌∙◌, subst}
-use Rattle.lard_base.specs.declared.event.Event.TheVariants as event
-use Rattle.lard_law_view.specs.Prelude.{AreSent, Client, ClientBlock, ClientRules, Config, Conn, ControlBlock, Final, Front, FrontEnv, FrontRules, IsFrontEnv, IsLaw, IsNodeEnv, Kept, MayRestOn, Move, Node, NodeEnv, NodeRules, OfEach, Place, Rec, Rules, Said, Seen, SegFault, Setting, Station, ToCluster, Turn, TurnSaid, ask_of, client_begins, client_does, client_injects, client_opens, client_rule, decoded, event_seen, front_asked, front_does, front_ended, front_gets, front_taken, front_timer, grown, inject_seen, letter, letters_of, node_does, nothing_said, packet_seen, sent_of, setting, stands}
+use Rattle.std.proofs.Common.{◌≡◌, ◌<◌, ◌^◌, ℕ, List, [], ◌∷◌, ◌++◌, map, Option, Some, None, Ok, refl, sym, ap, ◌∙◌, subst}
+use Rattle.lard_law_view.specs.Prelude.{AreSent, ClientBlock, ClientRules, Config, Conn, ControlBlock, Front, FrontEnv, FrontFires, FrontGets, FrontHears, FrontRules, IsConnSound, IsFrontEnv, IsLaw, IsNodeEnv, Kept, MayRestOn, Move, Node, NodeEnv, NodeRules, OfEach, Place, Rec, Rules, Said, Seen, Setting, Station, Turn, TurnSaid, client_begins, client_does, client_injects, client_opens, client_rule, front_does, front_rule, grown, inject_seen, letter, letters_of, node_does, nothing_said, packet_seen, sent_of, setting, stands}
 use Rattle.lard_law_view.proofs.EachClient.{client_seen, each-client}
 use Rattle.lard_history.proofs.Each.{Each, Each-append}
 use Rattle.lard_law_connections.proofs.PlacesFrontRules.{has-each}
@@ -12,6 +11,7 @@ use Rattle.lard_law_connections.proofs.SilencePlaces.{known-front, node-weaker}
 use Rattle.lard_law_connections.proofs.SilenceTurns.{nobody}
 use Rattle.lard_law_connections.specs.SilencePlaces.{NodeHas}
 use Rattle.lard_law_view.proofs.Carried.{carried}
+use Rattle.lard_law_view.proofs.EachFront.{FrontComes, admission, each-front}
 use Rattle.lard_law_view.proofs.EachNode.{NodeComes, aside_said, aside_seen, each-node, job_notes, told_first}
 use Rattle.lard_law_view.proofs.Fine.{IsFine, IsItsOwn, fine}
 use Rattle.lard_law_view.proofs.Guarded.{both, weaker}
@@ -19,11 +19,12 @@ use Rattle.lard_law_view.proofs.Parts.{put-each}
 use Rattle.lard_law_view.proofs.Saying.{AreMessages}
 use Rattle.lard_laws.specs.ClientsFirsts.{AllHaveFirst, FirstOn, GreetsBy, HasFirstOn, HasOneFirst, IssIs, LetterHasFirst}
 use Rattle.lard_laws.specs.Windows.{AnyBlock}
-use Rattle.lard_laws.proofs.AcksRuns.{front-station, node-station}
+use Rattle.lard_laws.proofs.FrontComing.{front-station}
 use Rattle.lard_laws.proofs.ClientsFirsts.{client-first, first-kept, forward-tells, front-first, front-tells, node-first, told-first, words-greet}
 use Rattle.lard_laws.proofs.ClientsTelling as telling
 use Rattle.lard_laws.proofs.ClientsTelling.{AllTell, DeedTells}
-use Rattle.lard_laws.proofs.NodeDeeds.{aside-letters}
+use Rattle.lard_laws.proofs.NodeDeeds.{aside-letters, node-station}
+use Rattle.lard_laws.proofs.WindowsFronts as heard
 use Rattle.lard_message.specs.declared.message.Body.TheVariants as body
 use Rattle.lard_rules.specs.Front as front
 use Rattle.lard_rules.specs.Node as node
@@ -115,40 +116,23 @@ module _ (k : Setting) where
   front-rule x env heads d is has tells h = by-number x (front_does x heads d) (front-station x heads d)
       (λ iss small there all. front-does-first x iss small all heads d (subst (λ (c : ℕ). fronts.DeedHas (IssIs iss) (Reply iss) c d) is.number (has iss small there all)) (tells iss small all)) h
 
-  module _ (x : Conn) (env : FrontEnv) (iss : ℕ) (small : iss < 2 ^ 32) (all : AllHaveFirst x iss) where
-    abbrev T : telling.TellsEach (λ to bytes. HasFirstOn x.c iss Front to bytes) env.serve.c (IssIs iss)
-    T = front-tells x.c iss small env.serve.c
+  module _ (x : Conn) (env : FrontEnv) (heads : List Seen) (iss : ℕ) (small : iss < 2 ^ 32) (all : AllHaveFirst x iss) where
+    heard-given : ((s : Station) → x.part.station ≡ Some s → s.iss ≡ iss) → (g : FrontGets) → FrontComes x env heads g
+        → heard.Given env (IssIs iss) (IssIs iss) Anything (Reply iss) (first-kept iss env.serve) x.part.front all.front g
+    heard-given at (FrontHears bytes (Ok s)) comes = (tt, (λ none plain. comes.iss_is ∙ at comes.station comes.there), (λ row last found closed. words-greet iss last.reason last s))
+    heard-given at _ comes = tt
 
-    gets-has : env.iss ≡ iss → (bytes : List ℕ) (r : Result Said SegFault) → fronts.DeedHas (IssIs iss) (Reply iss) env.serve.c (front_gets env x.part.front bytes r)
-    gets-has same bytes (Err fault) = tt
-    gets-has same bytes (Ok s) = fronts.gets-has env (IssIs iss) (IssIs iss) Anything (Reply iss) (first-kept iss env.serve) x.part.front all.front s tt (λ none plain. same)
-        (λ row last found at. words-greet iss last.reason last s) bytes
-
-    gets-tells : (bytes : List ℕ) (r : Result Said SegFault) → DeedTells (λ to bytes. HasFirstOn x.c iss Front to bytes) (front_gets env x.part.front bytes r)
-    gets-tells bytes r = telling.gets-tells (λ to bytes. HasFirstOn x.c iss Front to bytes) env (IssIs iss) T x.part.front all.front (Reply iss) (first-kept iss env.serve) bytes (forward-tells x.c iss small env.serve.c bytes) r
+    told-given : IsConnSound x → (g : FrontGets)
+        → telling.Given (λ to bytes. HasFirstOn x.c iss Front to bytes) env (IssIs iss) (front-tells x.c iss small env.serve.c) x.part.front all.front (Reply iss) (first-kept iss env.serve) g
+    told-given sound (FrontHears bytes given) = forward-tells x.c iss small env.serve.c bytes
+    told-given sound FrontFires = kept-first x iss small all x.part.front.kept sound.front
+    told-given sound _ = tt
 
   front-rules : FrontRules k Keeps
-  front-rules = record {
-    hears = λ x s env bytes there is iss was own may. front-rule x env (packet_seen (Client x.c) Front bytes) (front_gets env x.part.front bytes (decoded bytes x.c ToCluster)) is
-        (λ n small at all. gets-has x env n small all (iss ∙ at s there) bytes (decoded bytes x.c ToCluster)) (λ n small all. gets-tells x env n small all bytes (decoded bytes x.c ToCluster));
-    fires = λ x s env there is own may. front-rule x env (event_seen (event.Timer Front x.c)) (front_timer env x.part.front) is
-        (λ n small at all. fronts.timer-has env (IssIs n) (IssIs n) Anything (Reply n) (first-kept n env.serve) x.part.front all.front)
-        (λ n small all. telling.timer-tells (λ to bytes. HasFirstOn x.c n Front to bytes) env (IssIs n) (T x env n small all) x.part.front (kept-first x n small all x.part.front.kept may.sound.front));
-    taken = λ x env n epoch bytes is spells was own may. front-rule x env (packet_seen (Node n) Front bytes) (front_taken x.part.front epoch) is
-        (λ i small at all. fronts.taken-has (IssIs i) (Reply i) env.serve.c x.part.front epoch)
-        (λ i small all. telling.taken-tells (λ to bytes. HasFirstOn x.c i Front to bytes) env (IssIs i) (T x env i small all) x.part.front epoch);
-    asked = λ x env n epoch number queue size paths bytes is spells was own may. front-rule x env (packet_seen (Node n) Front bytes) (front_asked env x.part.front n epoch (ask_of x.c n number queue size paths)) is
-        (λ i small at all. fronts.asked-has (IssIs i) (Reply i) env.serve.c x.part.front all.front env n epoch (ask_of x.c n number queue size paths))
-        (λ i small all. telling.asked-tells (λ to bytes. HasFirstOn x.c i Front to bytes) env (IssIs i) (T x env i small all) x.part.front n epoch (ask_of x.c n number queue size paths));
-    ended = λ x env n epoch reason snd rcv count bytes is spells was own may.
-        let last : Final = record { reason = reason; snd = record { 0 = snd }; rcv = record { 0 = rcv } } in
-        front-rule x env (packet_seen (Node n) Front bytes) (front_ended env x.part.front n epoch last) is
-        (λ i small at all. fronts.ended-has (IssIs i) (Reply i) env.serve.c x.part.front env n epoch last)
-        (λ i small all. telling.ended-tells (λ to bytes. HasFirstOn x.c i Front to bytes) env (IssIs i) (T x env i small all) x.part.front n epoch last);
-    admitted = λ x env choice given is e own may. front-rule x env [] (front.Does (record { part = given.0; turn = given.1; calls = [] })) is
-        (λ i small at all. fronts.admitted-has (IssIs i) (Reply i) env.serve.c x.part.front env choice given e)
-        (λ i small all. telling.admitted-tells (λ to bytes. HasFirstOn x.c i Front to bytes) env (IssIs i) (T x env i small all) x.part.front all.front choice given e);
-  }
+  front-rules = each-front k Keeps (λ x env heads g is comes own may. front-rule x env heads (front_rule env x.part.front g) is
+      (λ n small at all. heard.rule-has env (IssIs n) (IssIs n) Anything (Reply n) (first-kept n env.serve) x.part.front all.front g (admission x env heads g comes) (heard-given x env heads n small all at g comes))
+      (λ n small all. telling.rule-tells (λ to bytes. HasFirstOn x.c n Front to bytes) env (IssIs n) (front-tells x.c n small env.serve.c) x.part.front all.front (Reply n) (first-kept n env.serve) g
+      (admission x env heads g comes) (told-given x env heads n small all may.sound g)))
 
   -- ---- the nodes
 

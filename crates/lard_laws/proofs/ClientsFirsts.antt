@@ -143,27 +143,13 @@ module _ (c iss : ℕ) (small : iss < 2 ^ 32) where
   other-first d e b other m read = go m.body (kinds-same (record { c = d; epoch = record { 0 = e }; body = b }) m read) where
     go : (a : Body) → kind_of b ≡ kind_of a → BodyHasFirst iss a
     go (body.Offer parts) same = absurd (other same)
-    go (body.Forward segment) same = tt
-    go body.Taken same = tt
-    go (body.Ask number queue size paths) same = tt
-    go (body.Tag number nodes) same = tt
-    go (body.Fetch r path) same = tt
-    go (body.Content r file) same = tt
-    go (body.Ended why snd rcv count) same = tt
-    go body.EndedAck same = tt
+    go _ same = tt
 
   offer-first : (d e count : ℕ) (b : ControlBlock) → IssIs iss b → MessageHasFirst iss (message d e (body.Offer (parts_of b count)))
   offer-first d e count b h m read = go m.body refl where
     go : (a : Body) → m.body ≡ a → BodyHasFirst iss a
     go (body.Offer parts) is = (offer-read d e (parts_of b count) m parts read is).0 (subst (λ (n : ℕ). n < 2 ^ 32) (sym h) small) ∙ h
-    go (body.Forward segment) is = tt
-    go body.Taken is = tt
-    go (body.Ask number queue size paths) is = tt
-    go (body.Tag number nodes) is = tt
-    go (body.Fetch r path) is = tt
-    go (body.Content r file) is = tt
-    go (body.Ended why snd rcv count) is = tt
-    go body.EndedAck is = tt
+    go _ is = tt
 
   -- of each message that the front end makes
   pub front-tells : (d : ℕ) → TellsEach (λ to bytes. HasFirstOn c iss Front to bytes) d (IssIs iss)

@@ -1,7 +1,7 @@
 -- What clients take in a step: of the packet that came in it, wherever it was sent.
-use Rattle.std.proofs.Common.{◌≡◌, ℕ, ◌+◌, List, [], ◌∷◌, ◌++◌, map, length, Ok, inl, inr, ⊎_elim, refl, sym, ap, ◌∙◌, subst}
+use Rattle.std.proofs.Common.{◌≡◌, ℕ, ◌+◌, List, [], ◌∷◌, ◌++◌, map, length, Some, Ok, inl, inr, ⊎_elim, refl, sym, ap, ◌∙◌, subst}
 use Rattle.std.specs.Prelude.{◌⊎◌}
-use Rattle.lard_law_view.specs.Prelude.{Client, Conn, EachMay, Event, Front, GoesBetween, HasRule, IsMachine, IsReached, IsViewed, Machine, MayTake, Move, Node, Out, Part, Place, Rec, Row, Rules, Setting, TakesInOrder, ToClient, conn, decoded, machine_step, packets_of, part_of, request, sent_records, setting_of, tale_at, timer_rows}
+use Rattle.lard_law_view.specs.Prelude.{Client, ClientGets, ClientReceives, Conn, EachMay, Event, Front, GoesBetween, HasRule, IsMachine, IsReached, IsViewed, Machine, MayTake, Move, Node, Out, Part, Place, Rec, Row, Rules, Setting, Station, TakesInOrder, ToAbort, ToClient, ToGet, ToWrite, conn, decoded, machine_step, packets_of, part_of, request, sent_records, setting_of, tale_at, timer_rows}
 use Rattle.lard_base.specs.declared.event.Event.TheVariants as event
 use Rattle.lard_law_connections.proofs.BytesClientMoves.{was-between}
 use Rattle.lard_laws.specs.ClientsFirsts.{CountsTaken, HasOneFirst, StandsAsTold}
@@ -21,6 +21,7 @@ use Rattle.lard_history.proofs.Each.{Each, Each-weaker, each_append}
 use Rattle.lard_journal.specs.declared.rec.Rec.TheVariants as rec
 use Rattle.lard_law_view.proofs.DeliveredPackets.{all-may, notes-may}
 use Rattle.lard_law_view.proofs.Taking.{TakesNothing, TakesOf, hears, writes-pass, outer-nothing}
+use Rattle.lard_law_view.proofs.EachClient.{ClientComes, client_goes, each-client}
 use Rattle.lard_law_view.proofs.OwnRecords.{behind}
 use Rattle.lard_law_view.proofs.OfKinds.{outer-behind, outer-gift, outer-gifts, outer-sents, outer-timer, outer-timers}
 
@@ -59,27 +60,24 @@ ignores-takes c Front (Client d) bytes h = inr (ap Client h)
 ignores-takes c (Node n) (Client d) bytes h = inr (ap Client h)
 ignores-takes c (Client e) (Client d) bytes h = absurd h
 
+client-takes : (k : Setting) (x : Conn) (s : Station) (g : ClientGets) → x.part.station ≡ Some s → ClientComes k x s g → Owed Takes x (client_goes x s g)
+client-takes k x s (ToGet path) there fits number sound given = inr (refl, inl (writes-pass s.client (request path)))
+client-takes k x s (ToWrite bytes) there fits number sound given = inr (refl, inl (writes-pass s.client bytes))
+client-takes k x s ToAbort there comes number sound given = inr (refl, inl (tt, tt))
+client-takes k x s (ClientReceives from bytes) there was number sound given = inr (
+  refl,
+  inr (
+    record { from = from; to = Client x.c; bytes = bytes },
+    refl,
+    hears x.c s.client (tale_at x) from bytes (packet-known x s from bytes there sound was given.first given.told given.counts) (sound.client s there) (decoded bytes x.c ToClient) refl,
+  ),
+)
+client-takes k x s _ there comes number sound given = inr (refl, inl tt)
+
 owing : (k : Setting) → Rules k (Owed Takes)
 owing k = record {
   untouched = record {
-    client = record {
-      opens = λ x isn iss wnd mss rule none number sound given. inr (refl, inl tt);
-      gets = λ x s path there le number sound given. inr (refl, inl (writes-pass s.client (request path)));
-      writes = λ x s bytes there le number sound given. inr (refl, inl (writes-pass s.client bytes));
-      shuts = λ x s there number sound given. inr (refl, inl tt);
-      aborts = λ x s there number sound given. inr (refl, inl (tt, tt));
-      holds = λ x s there number sound given. inr (refl, inl tt);
-      takes = λ x s there number sound given. inr (refl, inl tt);
-      fires = λ x s there number sound given. inr (refl, inl tt);
-      hears = λ x s from bytes there was number sound given. inr (
-        refl,
-        inr (
-          record { from = from; to = Client x.c; bytes = bytes },
-          refl,
-          hears x.c s.client (tale_at x) from bytes (packet-known x s from bytes there sound was given.first given.told given.counts) (sound.client s there) (decoded bytes x.c ToClient) refl,
-        ),
-      );
-    };
+    client = each-client k (Owed Takes) (record { opens = λ x isn iss wnd mss rule none number sound given. inr (refl, inl tt); does = client-takes k });
     front = fronts-leave k Takes (λ x v at own number sound given. inl at.machine);
     node = nodes-leave k Takes (λ x v at own number sound given. inl at.machine);
     ignores = λ x from to bytes was number sound given. ⊎_elim (λ (m : IsMachine to). inl m) (λ (e : to ≡ Client x.c). inr (e, inl tt)) (ignores-takes x.c from to bytes (was-between x from to bytes sound was.0));

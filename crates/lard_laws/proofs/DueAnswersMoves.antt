@@ -94,9 +94,7 @@ module _ (files : FilesAt) (seen ss : List Seen) (n c : ℕ) where
 
     by-stage : (row : BackRow) → p.row ≡ Some row → (d : BackConn) → row.stage ≡ d → StageIsOut files seen n c row.epoch.0 p d → StageIsOut files (seen ++ ss) n c row.epoch.0 p d
     by-stage row found (back.Here b) at k = by-stay row b found at p.stay refl k
-    by-stage row found back.Out at k = tt
-    by-stage row found back.Ended at k = tt
-    by-stage row found back.Gone at k = tt
+    by-stage row found _ at k = tt
 
     by-row : (o : Option BackRow) → p.row ≡ o → RowIsOut files seen n c p o → RowIsOut files (seen ++ ss) n c p o
     by-row None found k = tt

@@ -20,7 +20,8 @@ use Rattle.lard_law_view.proofs.Carried.{carried, reached-viewed}
 use Rattle.lard_law_view.proofs.Parts.{put-each}
 use Rattle.lard_laws.specs.Due.{IsContentFor, IsTagFor}
 use Rattle.lard_laws.specs.DueAnswers.{AwaitsAnswers, ConnectionsAwaitAnswers, PartIsOut}
-use Rattle.lard_laws.proofs.AcksRuns.{front-heads, node-heads}
+use Rattle.lard_laws.proofs.FrontComing.{front-heads}
+use Rattle.lard_laws.proofs.NodeDeeds.{node-heads, node-place}
 use Rattle.lard_laws.proofs.DueAnswersMoves.{AllCalm, NoneCome, calm-part, message-seen, move-none}
 use Rattle.lard_laws.proofs.DueAnswersNodes.{AreSeen, acknowledged-out, content-out, forwarded-out, messages_of, offered-out, part_behind, read-out, tagged-out, timer-out}
 use Rattle.lard_laws.proofs.StepsLinking.{settings-stay}
@@ -166,11 +167,6 @@ module _ (k : Setting) where
       (front-rows x (event_seen (event.Timer Front x.c)) d (λ P. ((λ a. a), tt)) h) env heads g comes)
 
   -- ---- a rule of a node
-
-  node-place : (x : Conn) (n : ℕ) (heads : List Seen) (d : node.NodeDeed) → (node_does x n heads d).place ≡ Node n
-  node-place x n heads node.Drops = refl
-  node-place x n heads (node.Says messages) = refl
-  node-place x n heads (node.Does given) = refl
 
   node-messages : (x : Conn) (n : ℕ) (heads : List Seen) (d : node.NodeDeed) → (node_does x n heads d).said.messages ≡ messages_of d
   node-messages x n heads node.Drops = refl

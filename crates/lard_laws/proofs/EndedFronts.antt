@@ -1,7 +1,7 @@
 -- What the front end keeps of an end is so: its own turns end truly, and what a node tells it was so.
-use Rattle.std.proofs.Common.{◌≡◌, ◌⊎◌, ◌≤◌, ◌<◌, not, ◌^◌, ℕ, true, false, List, [], map, Option, Some, Ok, inl, inr, ⊎_elim, refl, sym, ◌∙◌, subst, arith, eqb-true}
+use Rattle.std.proofs.Common.{◌≡◌, ◌⊎◌, ◌≤◌, not, ◌^◌, ℕ, true, false, List, [], map, Option, inl, inr, ⊎_elim, refl, sym, ◌∙◌, subst}
 use Rattle.std.proofs.lemmas.Bool.{and_parts, both_ways, not-true}
-use Rattle.lard_law_view.specs.Prelude.{Ask, Conn, ControlBlock, Ending, Final, FirstChoice, Front, FrontConn, FrontDeed, FrontEnv, FrontPart, FrontRow, FrontTurn, HasStopped, IsStream, IsWord, MayMove, Place, Said, Seen, Service, Station, Talk, Verdict, after_timer, front_admitted, front_asked, front_does, front_ended, front_fired, front_gets, front_reads, front_rest, front_taken, front_timer, is_away, letter, may_freeze, serving_settled, spoken, stage_after, tale_at}
+use Rattle.lard_law_view.specs.Prelude.{Conn, ControlBlock, Ending, Final, Front, FrontConn, FrontDeed, FrontEnv, FrontGets, FrontPart, FrontRow, HasStopped, IsStream, IsWord, MayMove, Node, Place, Said, Seen, Service, Station, Talk, Verdict, after_timer, front_does, front_fired, front_reads, front_rest, front_rule, letter, may_freeze, serving_settled, spoken, stage_after}
 use Rattle.lard_law_connections.specs.BytesAgreement.{FrontHolds, IsOpen, SeatAgrees, StageAgrees}
 use Rattle.lard_law_connections.proofs.BytesFrontReading.{reads-so}
 use Rattle.lard_law_connections.proofs.BytesHolding.{heard-so}
@@ -10,7 +10,6 @@ use Rattle.lard_laws.specs.EndedEnds.{IsTrueEnd, LetterEnds, RowEnds, StageEnds,
 use Rattle.lard_laws.proofs.EndedEnding.{EndsTruly, ReadsNothing, open-ends, settled-end, timed-end}
 use Rattle.lard_laws.proofs.EndedGrowing.{front-letters}
 use Rattle.lard_laws.proofs.EndedTurns.{PlaceEnds}
-use Rattle.lard_law_connections.specs.Places.{HasEnded, Sits, StageSits, owning}
 use Rattle.lard_law_connections.proofs.PlacesTurns.{IsPlaced}
 use Rattle.lard_law_connections.specs.Stops.{FrontStageStops, FrontStops, HeldStops, IsHeldBack}
 use Rattle.lard_law_connections.proofs.StopsFronts as stops
@@ -22,7 +21,10 @@ use Rattle.lard_handoff_front.specs.declared.row.FrontConn.TheVariants as stage
 use Rattle.lard_history.proofs.Each.{Each-append}
 use Rattle.lard_rules.specs.declared.places.Ending.TheVariants as ending
 use Rattle.lard_law_view.proofs.Speaking.{speaks-stream}
-use Rattle.lard_rules.proofs.FrontCases.{KeptBySegment, IsInStage, of-stage, begun_service, fired_before, fired_service, heard_reading, heard_service, waiting_service, segment-keeps, timer-keeps, taken-keeps, asked-keeps, ended-keeps, admitted-keeps}
+use Rattle.lard_law_connections.proofs.PlacesFrontRules.{has-each}
+use Rattle.lard_law_view.proofs.EachFront.{FrontComes, admission}
+use Rattle.lard_laws.proofs.FrontComing.{heard-word, new-end}
+use Rattle.lard_rules.proofs.FrontCases.{IsInStage, KeptByFront, KeptBySegment, begun_service, fired_before, fired_service, front-keeps, heard_reading, heard_service, of-stage, waiting_service}
 
 -- one that may move has not closed its side
 frozen-open : (b : ControlBlock) → may_freeze b ≡ true → b.send.finished ≡ false
@@ -36,7 +38,7 @@ DeedEnds P (Does did) = RowEnds P did.part.row
 
 module _ (P : Final → Type 0) (x : Conn) (h : TellsEnds P x) (heads : List Seen) where
   -- so it is of its move, since the front end tells no end to anybody
-  pub deed-place : (d : FrontDeed) → DeedEnds P d → PlaceEnds x (front_does x heads d) P
+  deed-place : (d : FrontDeed) → DeedEnds P d → PlaceEnds x (front_does x heads d) P
   deed-place Drops k = record { front = h.front; letters = tt }
   deed-place (Says turn) k = record {
     front = h.front;
@@ -47,44 +49,10 @@ module _ (P : Final → Type 0) (x : Conn) (h : TellsEnds P x) (heads : List See
     letters = Each-append (LetterEnds P did.part.row) (map (letter Front) did.turn.segments) (map (letter Front) did.turn.messages) (front-letters P did.part.row did.turn.segments) (front-letters P did.part.row did.turn.messages);
   }
 
-  -- ---- what is no turn of an endpoint
+-- ---- the rules
 
-  abbrev p : FrontPart
-  p = x.part.front
-
-  pub taken-ends : (epoch : ℕ) → DeedEnds P (front_taken p epoch)
-  taken-ends epoch = taken-keeps p (λ d. DeedEnds P d) tt epoch (λ row n e at same. tt)
-
-  module _ (env : FrontEnv) where
-    pub asked-ends : (n epoch : ℕ) (ask : Ask) → DeedEnds P (front_asked env p n epoch ask)
-    asked-ends n epoch ask = asked-keeps p (λ d. DeedEnds P d) tt env n epoch ask (λ rest found there same some. tt) (λ rest found there next. h.front)
-
-    -- a waiting one is handed off
-    pub admitted-ends : (choice : FirstChoice) (given : FrontPart × FrontTurn) → front_admitted env p choice ≡ Some given → RowEnds P given.0.row
-    admitted-ends choice = admitted-keeps env p choice (λ given. RowEnds P given.0.row) (λ row b path at target. tt)
-
-    -- ---- a node tells an end
-
-    module _ (at_place : IsPlaced x) (n epoch : ℕ) (last : Final) (told : HasEnded epoch p.row ⊎ P last) where
-      -- a connection that is away is so in the epoch of its row
-      away-epoch : (row_epoch : ℕ) (st : FrontConn) → StageSits row_epoch (owning (tale_at x)) x.part.nodes st → is_away epoch st ≡ true → row_epoch ≡ epoch
-      away-epoch row_epoch (stage.Offering m f) sits away = sym sits.1 ∙ eqb-true f.0 epoch away
-      away-epoch row_epoch (stage.Moved m f) sits away = sym sits.1 ∙ eqb-true f.0 epoch away
-      away-epoch row_epoch _ sits away = let no : false ≡ true = away in absurd cc
-
-      -- what the front end does not know yet was told truly
-      new-end : (row : FrontRow) → p.row ≡ Some row → is_away epoch row.stage ≡ true → P last
-      new-end row found away =
-          let sits : Sits (owning (tale_at x)) x.part.nodes (Some row) = subst (Sits (owning (tale_at x)) x.part.nodes) found at_place.sits in
-          let same : row.epoch.0 ≡ epoch = away-epoch row.epoch.0 row.stage sits.0 away in
-          ⊎_elim (λ (e : HasEnded epoch p.row). absurd (let less : epoch < row.epoch.0 = subst (HasEnded epoch) found e in omega (arith, less, same))) (λ (a : P last). a) told
-
-      pub ended-ends : DeedEnds P (front_ended env p n epoch last)
-      ended-ends = ended-keeps p (λ d. DeedEnds P d) tt env n epoch last (λ row found away again. tt) (λ row found away. new-end row found away)
-
--- ---- the turns of an endpoint that is here
-
-module _ (env : FrontEnv) (most : env.serve.stream ≤ 2 ^ 30) (x : Conn) (s : Station) (l : Talk) (pend : List Verdict) (o : IsOpen env.serve.files x l pend s) (stopped : FrontStops env.serve.files x.part.front.row) where
+module _ (env : FrontEnv) (most : env.serve.stream ≤ 2 ^ 30) (x : Conn) (at_place : IsPlaced x) (s : Station) (l : Talk) (pend : List Verdict) (o : IsOpen env.serve.files x l pend s) (stopped : FrontStops env.serve.files x.part.front.row)
+    (told : TellsEnds (IsTrueEnd env.serve.files l.w s.iss) x) (heads : List Seen) where
   abbrev P : Final → Type 0
   P = IsTrueEnd env.serve.files l.w s.iss
 
@@ -126,11 +94,11 @@ module _ (env : FrontEnv) (most : env.serve.stream ≤ 2 ^ 30) (x : Conn) (s : S
 
   -- ---- a segment
 
-  module _ (sd : Said) (word : IsWord l.w sd) where
-    -- what was read agrees, nothing of it is left, and what is to be placed may move
-    abbrev Came : Service → Option (List ℕ) → Type 0
-    Came w t = So env.serve l.w l.out l.vs w [] × stops.Rests env.serve (record { service = w; target = t }) × MayMove w.block t
+  -- what was read agrees, nothing of it is left, and what is to be placed may move
+  abbrev Came : Service → Option (List ℕ) → Type 0
+  Came w t = So env.serve l.w l.out l.vs w [] × stops.Rests env.serve (record { service = w; target = t }) × MayMove w.block t
 
+  module _ (sd : Said) (word : IsWord l.w sd) where
     reads-so-far : (row : FrontRow) (b : ControlBlock) → IsInStage q row (stage.Held b) → Came (front_reads env.serve (heard_reading q b sd)).service (front_reads env.serve (heard_reading q b sd)).target
     reads-so-far row b at =
         let h : FrontHolds l.w l.out l.vs pend b (front_rest q.rest).count = agrees-at row (stage.Held b) at in
@@ -154,21 +122,31 @@ module _ (env : FrontEnv) (most : env.serve.stream ≤ 2 ^ 30) (x : Conn) (s : S
       words = λ row last at. tt;
     }
 
-    pub gets-ends : (bytes : List ℕ) → Goes (front_gets env q bytes (Ok sd))
-    gets-ends bytes = segment-keeps env q bytes sd Came Goes (by-segment bytes)
+  -- ---- whatever comes
 
-  -- ---- its timers
-
-  pub timer-ends : Goes (front_timer env q)
-  timer-ends = timer-keeps env q Goes (record {
+  by-rules : KeptByFront env q (FrontComes x env heads) Came Goes
+  by-rules = record {
     drops = tt;
-    holds = λ row b at.
-        let h : FrontHolds l.w l.out l.vs pend b (front_rest q.rest).count = agrees-at row (stage.Held b) at in
-        let held : HeldStops env.serve.files b = stops-at row (stage.Held b) at in
-        let same : Same b (after_timer b) = timer-same b in
-        held-stage (front_fired env (front_rest q.rest) b).0
-        (timed-end env.serve l.w s.iss l.out l.vs o.begins o.says [] b (front_rest q.rest).count h.holds (fired_before env b) (λ calm. reads-nothing (after_timer b)
-        (⊎_elim (λ (t : HasStopped b). inl (same-stopped b (after_timer b) same t)) (λ (t : IsHeldBack env.serve.files b). inr (same-held env.serve.files b (after_timer b) same t)) held.1)));
-    stays = λ row b at. waiting-stage (front_fired env (front_rest q.rest) b).0 (open-turn (fired_service q b) (fired_before env b) ((timer-same b).3 ∙ frozen-open b (agrees-at row (stage.Waiting b) at).1));
-    resends = λ row n e at. tt;
-  })
+    hears = λ bytes sd m. by-segment sd (heard-word x s env bytes heads env.serve.files l pend o sd m) bytes;
+    fires = λ m. record {
+      drops = tt;
+      holds = λ row b at.
+          let h : FrontHolds l.w l.out l.vs pend b (front_rest q.rest).count = agrees-at row (stage.Held b) at in
+          let held : HeldStops env.serve.files b = stops-at row (stage.Held b) at in
+          let same : Same b (after_timer b) = timer-same b in
+          held-stage (front_fired env (front_rest q.rest) b).0
+          (timed-end env.serve l.w s.iss l.out l.vs o.begins o.says [] b (front_rest q.rest).count h.holds (fired_before env b) (λ calm. reads-nothing (after_timer b)
+          (⊎_elim (λ (t : HasStopped b). inl (same-stopped b (after_timer b) same t)) (λ (t : IsHeldBack env.serve.files b). inr (same-held env.serve.files b (after_timer b) same t)) held.1)));
+      stays = λ row b at. waiting-stage (front_fired env (front_rest q.rest) b).0 (open-turn (fired_service q b) (fired_before env b) ((timer-same b).3 ∙ frozen-open b (agrees-at row (stage.Waiting b) at).1));
+      resends = λ row n e at. tt;
+    };
+    takes = λ n epoch m row i e at same. tt;
+    tags_again = λ n epoch ask m rest found there same some. tt;
+    assigns_next = λ n epoch ask m rest found there next. told.front;
+    ends_again = λ n epoch last m row found away again. tt;
+    ends = λ n epoch last m. new-end (P last) x at_place epoch ((has-each (LetterEnds P q.row) (record { from = Node n; to = Front; bytes = m.told.bytes }) x.letters m.told.was told.packets) _ m.told.spells);
+    admits = λ choice row b path at target. tt;
+  }
+
+  pub rule-ends : (g : FrontGets) → FrontComes x env heads g → PlaceEnds x (front_does x heads (front_rule env q g)) P
+  rule-ends g comes = deed-place P x told heads (front_rule env q g) (front-keeps env q (FrontComes x env heads) Came Goes by-rules g (admission x env heads g comes) comes)

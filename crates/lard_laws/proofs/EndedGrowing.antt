@@ -51,10 +51,7 @@ module _ (P Q : Final → Type 0) (on : (last : Final) → P last → Q last) wh
 
     letter-on : (from to : Place) (bytes : List ℕ) → LetterEndsOn P row from to bytes → LetterEndsOn Q next from to bytes
     letter-on (Node n) Front bytes h = λ m e. body-on m.epoch.0 m.body (h m e)
-    letter-on (Node n) (Node m) bytes h = tt
-    letter-on (Node n) (Client c) bytes h = tt
-    letter-on Front to bytes h = tt
-    letter-on (Client c) to bytes h = tt
+    letter-on _ _ bytes h = tt
 
     pub letters-on : (ls : List Letter) → Each (LetterEnds P row) ls → Each (LetterEnds Q next) ls
     letters-on [] h = tt
@@ -83,35 +80,19 @@ module _ (P : Final → Type 0) (row : Option FrontRow) where
   inner-letters (l ∷ ls) h = (one l.from l.to h.0.0 h.0.1, inner-letters ls h.1) where
     one : (from to : Place) → IsNodePlace from → IsNodePlace to → LetterEndsOn P row from to l.bytes
     one (Node n) (Node m) f t = tt
-    one (Node n) Front f t = absurd t
-    one (Node n) (Client c) f t = absurd t
-    one Front to f t = absurd f
-    one (Client c) to f t = absurd f
+    one (Node n) _ f t = absurd t
+    one _ to f t = absurd f
 
   -- a message of another kind
   pub other-ends : (n c e : ℕ) (a : Body) → (kind_of a ≡ kind.Ended → ⊥) → LetterEndsOn P row (Node n) Front (message c e a)
   other-ends n c e a ended m d = go m.body (kinds-same (record { c = c; epoch = record { 0 = e }; body = a }) m d) where
     go : (z : Body) → kind_of a ≡ kind_of z → BodyEnds P m.epoch.0 row z
     go (body.Ended why snd rcv count) is = absurd (ended is)
-    go (body.Offer parts) is = tt
-    go (body.Forward segment) is = tt
-    go body.Taken is = tt
-    go (body.Ask number queue size paths) is = tt
-    go (body.Tag number nodes) is = tt
-    go (body.Fetch r path) is = tt
-    go (body.Content r file) is = tt
-    go body.EndedAck is = tt
+    go _ is = tt
 
   -- The end that a node tells has the last numbers.
   pub ended-ends : (n c e count : ℕ) (last : Final) → last.snd.0 < 2 ^ 32 → last.rcv.0 < 2 ^ 32 → P last → LetterEndsOn P row (Node n) Front (message c e (body.Ended last.reason last.snd.0 last.rcv.0 count))
   ended-ends n c e count last snd_fits rcv_fits h m d = go m.body refl where
     go : (a : Body) → m.body ≡ a → BodyEnds P m.epoch.0 row a
     go (body.Ended why snd rcv k) is = inr (subst P (ended-same c e count last snd_fits rcv_fits m why snd rcv k d is) h)
-    go (body.Offer parts) is = tt
-    go (body.Forward segment) is = tt
-    go body.Taken is = tt
-    go (body.Ask number queue size paths) is = tt
-    go (body.Tag number nodes) is = tt
-    go (body.Fetch r path) is = tt
-    go (body.Content r file) is = tt
-    go body.EndedAck is = tt
+    go _ is = tt

@@ -1,21 +1,19 @@
 -- Each rule keeps what is told of an end: it was so, in every run.
-use Rattle.std.proofs.Common.{◌≡◌, ◌≤◌, ◌^◌, ℕ, false, List, [], ◌∷◌, Some, Result, Ok, refl, sym, ap, ◌∙◌, subst}
+use Rattle.std.proofs.Common.{◌≡◌, ◌≤◌, ◌^◌, ℕ, false, List, [], ◌∷◌, Some, refl, sym, ap, ◌∙◌, subst}
 use Rattle.std.specs.List.{fold}
-use Rattle.lard_law_view.specs.Prelude.{Client, Conn, FilesAt, Final, Front, FrontRules, IsFrontEnv, IsMachine, IsNodeEnv, IsUntouchedLaw, MayRestOn, Move, Node, NodeEnv, NodeRules, Place, Said, Seen, SegFault, Setting, Station, Stream, ToCluster, TurnSaid as SaidIn, Untouched, UntouchedRules, Was, ask_of, brought_said, content_said, decoded, event_seen, file_at, front_asked, front_does, front_ended, front_gets, front_taken, front_timer, grown, letters_of, node_does, nothing_said, packet_seen, seen_step, setting, stands, tale_at, tale_step}
-use Rattle.lard_base.specs.declared.event.Event.TheVariants as event
-use Rattle.lard_laws.proofs.AcksRuns.{front-heads, front-station, node-heads, node-station}
-use Rattle.lard_law_connections.specs.BytesAgreement.{IsFair, IsFairOn, IsOpen, IsTruthful}
-use Rattle.lard_law_connections.proofs.BytesClientMoves.{has-fair, open-at}
+use Rattle.lard_law_view.specs.Prelude.{Conn, FilesAt, Final, FrontRules, IsMachine, IsNodeEnv, IsUntouchedLaw, MayRestOn, Move, Node, NodeEnv, NodeRules, Place, Seen, Setting, Station, Stream, TurnSaid as SaidIn, Untouched, UntouchedRules, brought_said, content_said, file_at, front_does, grown, letters_of, node_does, nothing_said, packet_seen, seen_step, setting, stands, tale_at, tale_step}
+use Rattle.lard_laws.proofs.FrontComing.{front-heads, front-station}
+use Rattle.lard_laws.proofs.NodeDeeds.{node-heads, node-station}
+use Rattle.lard_law_connections.specs.BytesAgreement.{IsOpen, IsTruthful}
+use Rattle.lard_law_connections.proofs.BytesClientMoves.{open-at}
 use Rattle.lard_law_connections.proofs.BytesRuns.{states-truthful}
 use Rattle.lard_laws.specs.EndedEnds.{EndsAreTrue, IsTrueEnd, LetterEnds, TellsEnds, written_by}
 use Rattle.lard_laws.specs.EndedLaws.{ConnectionsWereClosed}
 use Rattle.lard_laws.proofs.EndedClients.{Keeps, clients, written-is}
-use Rattle.lard_laws.proofs.EndedFronts.{DeedEnds, admitted-ends, asked-ends, deed-place, ended-ends, gets-ends, taken-ends}
 use Rattle.lard_laws.proofs.EndedFronts as fronts_of
 use Rattle.lard_laws.proofs.EndedNodes as nodes_of
 use Rattle.lard_laws.proofs.EndedTurns.{IsUnwritten, PlaceEnds, notes-unwritten, place-keeps}
 use Rattle.lard_law_connections.proofs.LimitsMoves.{Helps}
-use Rattle.lard_law_connections.proofs.PlacesFrontRules.{has-each}
 use Rattle.lard_law_connections.proofs.PlacesLaw.{owing}
 use Rattle.lard_law_connections.proofs.PlacesRuns.{each-placed}
 use Rattle.lard_law_connections.proofs.PlacesTurns.{IsPlaced, Owes}
@@ -23,6 +21,7 @@ use Rattle.lard_law_view.proofs.NodeHeads.{of-heads}
 use Rattle.lard_law_connections.specs.Stops.{ReadingStops}
 use Rattle.lard_law_connections.proofs.StopsRuns.{connections-stop}
 use Rattle.lard_law_view.proofs.Carried.{carried}
+use Rattle.lard_law_view.proofs.EachFront.{each-front, of-front}
 use Rattle.lard_law_view.proofs.EachNode.{Aside, Answers, Queues, Brings, aside_said, aside_seen, each-node, node_goes}
 use Rattle.lard_law_view.proofs.Fine.{IsFine, fine}
 use Rattle.lard_law_view.proofs.Guarded.{untouched-both, untouched-law, untouched-weaker}
@@ -31,7 +30,6 @@ use Rattle.lard_rules.specs.Front as front
 use Rattle.lard_history.proofs.Each.{Each}
 use Rattle.lard_journal.specs.declared.rec.Rec.TheVariants as rec
 use Rattle.lard_rules.specs.Node as node
-use Rattle.lard_segment.proofs.Again.{again}
 
 -- ---- what a place's move leaves alone
 
@@ -69,47 +67,14 @@ module _ (k : Setting) (small : k.stream ≤ 2 ^ 30) where
 
   -- ---- the front end
 
-  front-rule : (x : Conn) (heads : List Seen) (d : front.FrontDeed) → told_by x heads ≡ (tale_at x).wrote → (Helps x (front_does x heads d) → Ends k.files x (front_does x heads d)) → Keeps k small x (front_does x heads d)
-  front-rule x heads d plain ends = place-rule x (front_does x heads d) (ap (told_by x) (front-heads x heads d) ∙ plain) (front-station x heads d)
-      (λ help. notes-unwritten (front_does x heads d).place x.c (front_does x heads d).said.notes (front-machine x heads d) help.own.notes) ends
-
-  front-hears : (x : Conn) (s : Station) (env : front.FrontEnv) (bytes : List ℕ) → x.part.station ≡ Some s → IsFrontEnv k x.c env → env.iss ≡ s.iss → Was x (Client x.c) Front bytes
-      → Keeps k small x (front_does x (packet_seen (Client x.c) Front bytes) (front_gets env x.part.front bytes (decoded bytes x.c ToCluster)))
-  front-hears x s env bytes there is iss was =
-      let heads : List Seen = packet_seen (Client x.c) Front bytes in
-      front-rule x heads (front_gets env x.part.front bytes (decoded bytes x.c ToCluster)) refl (λ help.
-      by-files x (front_does x heads (front_gets env x.part.front bytes (decoded bytes x.c ToCluster))) env.serve.files is.files (λ t at h o stops told.
-      let f : IsFairOn h.talk x.c x.part (Client x.c) Front bytes = has-fair (IsFair h.talk x.c x.part) (record { from = Client x.c; to = Front; bytes = bytes }) x.letters was o.fair in
-      let read : decoded bytes x.c ToCluster ≡ Ok f.0 = ap (λ (b : List ℕ). decoded b x.c ToCluster) f.1 ∙ again x.c ToCluster f.0 f.2.sendable in
-      let P : Final → Type 0 = IsTrueEnd env.serve.files h.talk.w t.iss in
-      deed-place P x told heads (front_gets env x.part.front bytes (decoded bytes x.c ToCluster))
-      (subst (λ (r : Result Said SegFault). DeedEnds P (front_gets env x.part.front bytes r)) (sym read) (gets-ends env (within env is) x t h.talk h.pend o stops.0 f.0 f.2 bytes))))
-    where
-      within : (env : front.FrontEnv) → IsFrontEnv k x.c env → env.serve.stream ≤ 2 ^ 30
-      within env is = subst (λ (m : ℕ). m ≤ 2 ^ 30) (sym is.stream) small
-
-  front-deed : (x : Conn) (heads : List Seen) (d : front.FrontDeed) → told_by x heads ≡ (tale_at x).wrote → ((P : Final → Type 0) → TellsEnds P x → DeedEnds P d) → Keeps k small x (front_does x heads d)
-  front-deed x heads d plain ends = front-rule x heads d plain (λ help t at h o stops told. deed-place (IsTrueEnd k.files h.talk.w t.iss) x told heads d (ends (IsTrueEnd k.files h.talk.w t.iss) told))
-
   fronts : FrontRules k (Keeps k small)
-  fronts = record {
-    hears = front-hears;
-    fires = λ x s env there is. front-rule x (event_seen (event.Timer Front x.c)) (front_timer env x.part.front) refl (λ help.
-        by-files x (front_does x (event_seen (event.Timer Front x.c)) (front_timer env x.part.front)) env.serve.files is.files (λ t at h o stops told.
-        deed-place (IsTrueEnd env.serve.files h.talk.w t.iss) x told (event_seen (event.Timer Front x.c)) (front_timer env x.part.front)
-        (fronts_of.timer-ends env (subst (λ (m : ℕ). m ≤ 2 ^ 30) (sym is.stream) small) x t h.talk h.pend o stops.0)));
-    taken = λ x env n epoch bytes is spells was. front-deed x (packet_seen (Node n) Front bytes) (front_taken x.part.front epoch) refl (λ P told. taken-ends P x told (packet_seen (Node n) Front bytes) epoch);
-    asked = λ x env n epoch number queue size paths bytes is spells was. front-deed x (packet_seen (Node n) Front bytes) (front_asked env x.part.front n epoch (ask_of x.c n number queue size paths)) refl
-        (λ P told. asked-ends P x told (packet_seen (Node n) Front bytes) env n epoch (ask_of x.c n number queue size paths));
-    ended = λ x env n epoch reason snd rcv count bytes is spells was.
-        let heads : List Seen = packet_seen (Node n) Front bytes in
-        let last : Final = record { reason = reason; snd = record { 0 = snd }; rcv = record { 0 = rcv } } in
-        front-rule x heads (front_ended env x.part.front n epoch last) refl (λ help t at h o stops told.
-        let P : Final → Type 0 = IsTrueEnd k.files h.talk.w t.iss in
-        deed-place P x told heads (front_ended env x.part.front n epoch last)
-        (ended-ends P x told heads env help.placed n epoch last ((has-each (LetterEnds P x.part.front.row) (record { from = Node n; to = Front; bytes = bytes }) x.letters was told.packets) _ spells)));
-    admitted = λ x env choice given is e. front-deed x [] (front.Does (record { part = given.0; turn = given.1; calls = [] })) refl (λ P told. admitted-ends P x told [] env choice given e);
-  }
+  fronts = each-front k (Keeps k small) (λ x env heads g is comes.
+      let d : front.FrontDeed = front.front_rule env x.part.front g in
+      let v : Move = front_does x heads d in
+      place-rule x v (ap (told_by x) (front-heads x heads d) ∙ of-front x (λ (ss : List Seen). told_by x ss ≡ (tale_at x).wrote) (λ from bytes. refl) refl refl env heads g comes) (front-station x heads d)
+      (λ help. notes-unwritten v.place x.c v.said.notes (front-machine x heads d) help.own.notes)
+      (λ help. by-files x v env.serve.files is.files (λ t at h o stops told.
+      fronts_of.rule-ends env (subst (λ (m : ℕ). m ≤ 2 ^ 30) (sym is.stream) small) x help.placed t h.talk h.pend o stops.0 told heads g comes)))
 
   -- ---- the nodes
 

@@ -1,3 +1,6 @@
+pub mod ClientComing
+pub mod FrontComing
+pub mod WindowsFronts
 pub mod NodeHere
 pub mod NodeStays
 pub mod AsksPicking

@@ -1,9 +1,9 @@
 -- What is known where a stay is here, of a connection that agrees: its client opened, the front end knows where it is, and the stay holds what was said.
 use Rattle.std.proofs.lemmas.Bool.{and_from}
-use Rattle.std.proofs.Common.{Option, true, eq-eqb, ◌==◌, ◌≡◌, ◌≤◌, ◌^◌, ℕ, List, Some, None, Result, Ok, Err, sym, ap, ◌∙◌, subst}
-use Rattle.lard_law_view.specs.Prelude.{Conn, ControlBlock, Front, FrontConn, FrontRow, IsNodeEnv, IsWord, Node, NodeEnv, NodePart, Said, Seen, SegFault, Setting, Station, Stay, ToCluster, decoded, is_row_at, is_with, tale_at}
-use Rattle.lard_law_connections.specs.BytesAgreement.{IsFair, IsOpen, IsTruthful}
-use Rattle.lard_law_connections.proofs.BytesClientMoves.{has-fair, open-at}
+use Rattle.std.proofs.Common.{Option, true, eq-eqb, ◌==◌, ◌≡◌, ◌≤◌, ◌^◌, ℕ, List, Some, None, Ok, sym, ◌∙◌, subst}
+use Rattle.lard_law_view.specs.Prelude.{Conn, ControlBlock, FrontConn, FrontRow, IsNodeEnv, IsWord, NodeEnv, NodePart, Said, Seen, Setting, Station, Stay, is_row_at, is_with, tale_at}
+use Rattle.lard_law_connections.specs.BytesAgreement.{IsOpen, IsTruthful}
+use Rattle.lard_law_connections.proofs.BytesClientMoves.{open-at}
 use Rattle.lard_law_connections.proofs.BytesFrontMessages.{opened-at}
 use Rattle.lard_law_connections.proofs.BytesNodeMoves.{IsAt, has-it, known}
 use Rattle.lard_law_connections.proofs.BytesNodeRest.{by-station, front-opens, nothing-here}
@@ -15,7 +15,7 @@ use Rattle.lard_handoff_front.specs.declared.row.FrontConn.TheVariants as stage
 use Rattle.lard_law_view.proofs.EachNode.{HasForwarded}
 use Rattle.lard_laws.proofs.NodeHere.{here-of}
 use Rattle.lard_rules.proofs.NodeCases.{IsHereWith}
-use Rattle.lard_segment.proofs.Again.{again}
+use Rattle.lard_laws.proofs.NodeDeeds.{forwarded-word}
 
 module _ (k : Setting) (small : k.stream ≤ 2 ^ 30) (x : Conn) (truth : IsTruthful k.files x) (n epoch : ℕ) (env : NodeEnv) (is : IsNodeEnv k x.c n epoch env) where
   abbrev p : NodePart
@@ -53,13 +53,7 @@ pub word-of : (k : Setting) (x : Conn) (truth : IsTruthful k.files x) (n epoch :
     → IsWord truth.talk.w said
 word-of k x truth n epoch heads said m =
     let s = opened-at k.files x truth (front-opens x n m.came.bytes m.came.was) in
-    let o : IsOpen k.files x truth.talk truth.pend s.0 = open-at k.files x s.0 s.1 truth in
-    let f = (has-fair (IsFair truth.talk x.c x.part) (record { from = Front; to = Node n; bytes = m.came.bytes }) x.letters m.came.was o.fair) _ m.came.spells in
-    let same : Ok f.0 ≡ Ok said = sym (m.read ∙ ap (λ (b : List ℕ). decoded b x.c ToCluster) f.1 ∙ again x.c ToCluster f.0 f.2.sendable) in
-    subst (IsWord truth.talk.w) (ap said_of same) f.2 where
-      said_of : Result Said SegFault → Said
-      said_of (Ok s) = s
-      said_of (Err fault) = said
+    forwarded-word k.files x s.0 truth.talk truth.pend (open-at k.files x s.0 s.1 truth) n epoch heads said m
 
 -- the front end has it with the node that it is at
 pub with-row : (x : Conn) → IsPlaced x → (n epoch : ℕ) (row : FrontRow) → x.part.front.row ≡ Some row → IsAt n row.stage → row.epoch.0 ≡ epoch

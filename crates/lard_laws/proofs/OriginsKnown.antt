@@ -1,7 +1,7 @@
 -- A move leaves it so that only nodes that know of a connection ask for its contents.
-use Rattle.std.proofs.Common.{◌≡◌, ℕ, List, [], ◌∷◌, ◌++◌, map, is_some, Option, Some, None, refl, sym, ◌∙◌, subst}
+use Rattle.std.proofs.Common.{◌≡◌, ℕ, List, [], ◌∷◌, map, is_some, Option, Some, None, refl, sym, ◌∙◌, subst}
 use Rattle.std.proofs.lemmas.Bool.{cond_both}
-use Rattle.lard_law_view.specs.Prelude.{AreSent, BackRow, Body, Came, Client, Conn, Front, Kept, Move, Node, Part, Place, Rec, Row, Seen, grown, kind_of, letter, letters_of, named_records, rows_of, seen_in, sent_of, spelled_message, whose}
+use Rattle.lard_law_view.specs.Prelude.{AreSent, BackRow, Body, Client, Conn, Front, Kept, Move, Node, Part, Place, Rec, Row, Seen, grown, kind_of, letter, letters_of, named_records, rows_of, seen_in, sent_of, spelled_message, whose}
 use Rattle.lard_laws.specs.Origins.{AreKnown, BodyKnown, KnownBy, Knows, LetterKnown, SeenKnown}
 use Rattle.lard_laws.proofs.OriginsNotes.{IsOwn}
 use Rattle.lard_law_connections.proofs.PlacesFrontRules.{has-each}
@@ -33,8 +33,7 @@ by-grows p q _ _ bytes g h = tt
 
 seen-grows : (p q : Part) (s : Seen) → Grows p q → SeenKnown p s → SeenKnown q s
 seen-grows p q (Row (rec.Queued n m d r path)) g h = knows-grows (p.nodes m).row (q.nodes m).row (g.nodes m) h
-seen-grows p q (Row _) g h = tt
-seen-grows p q (Came l) g h = tt
+seen-grows p q _ g h = tt
 
 -- ---- what a move says
 

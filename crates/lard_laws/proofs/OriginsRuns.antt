@@ -1,7 +1,6 @@
 -- Each rule leaves it so that only nodes that know of a connection ask for its contents, so it is in every run.
 use Rattle.std.proofs.Common.{◌≡◌, ◌⊎◌, ℕ, true, List, [], ◌∷◌, ◌++◌, map, refl, sym, subst, inl, inr, ⊎_elim}
 use Rattle.lard_law_view.specs.Prelude.{AreSent, ClientBlock, ClientRules, Completed, Config, Conn, Ending, FrontRules, IsLaw, IsNodeEnv, MayRestOn, Move, Node, NodeDeed, NodeEnv, NodeGets, NodePart, NodeTurn, OfEach, Part, Place, Rules, Seen, Setting, Station, Turn, Work, after_timer, again_sent, brought_said, came_for, client_begins, client_does, client_injects, client_rule, come_progress, content_bytes, content_said, front_does, front_rule, goes_on, grown, inject_seen, kept_after, letter, node_begins, node_does, node_rule, node_saying, nothing_said, on_segment, own, packet_seen, read_progress, reads_batch, serving, serving_ready_of, serving_settled, setting, spoken, stands, state_of, tagged, taken_sent, timed, with_work, without, work_of}
-use Rattle.lard_base.specs.declared.event.Event.TheVariants as event
 use Rattle.lard_law_view.proofs.EachFront.{each-front, of-front}
 use Rattle.lard_law_view.proofs.EachClient.{client_seen, each-client, of-client}
 use Rattle.lard_base.specs.declared.place.TimerKind.TheVariants as timer

@@ -8,7 +8,7 @@ use Rattle.lard_laws.specs.Acks.{AcksWhatWasTaken, story_at}
 use Rattle.lard_laws.proofs.AcksRuns.{connections-ack}
 use Rattle.lard_law_connections.specs.Awaits.{AwaitsWhatItAsked, BatchComes, IsToCome, RowComes, StageComes, StayComes}
 use Rattle.lard_law_connections.proofs.AwaitsRuns.{connections-await}
-use Rattle.lard_law_connections.specs.BytesAgreement.{BackAgrees, IsOffering, IsOpen, IsTruthful, NodeAgrees, RowAgrees, SeatAgrees, StageAgrees, StayAgrees}
+use Rattle.lard_law_connections.specs.BytesAgreement.{BackAgrees, IsOffering, IsTruthful, NodeAgrees, RowAgrees, SeatAgrees, StageAgrees, StayAgrees}
 use Rattle.lard_law_connections.proofs.BytesClientMoves.{open-at}
 use Rattle.lard_law_connections.proofs.BytesRuns.{states-truthful}
 use Rattle.lard_laws.specs.EndedEnds.{EndsAreTrue}
@@ -57,9 +57,6 @@ module _ (files : FilesAt) (x : Conn) (truth : IsTruthful files x) (acts : AcksW
 
   abbrev pend : List Verdict
   pend = truth.pend
-
-  o : IsOpen files x l pend client.station
-  o = open-at files x client.station client.there truth
 
   -- ---- at a node
 

@@ -1,15 +1,17 @@
 -- A step of the front end: what it keeps of each connection, and what it does, is in range.
-use Rattle.std.proofs.Common.{◌≡◌, ℕ, ◌≤◌, ◌<◌, ◌^◌, List, [], length, Option, Some, None, IfSome, Ok, Err, Result, refl, subst, arith}
-use Rattle.lard_law_view.specs.Prelude.{Body, Did, Final, FirstChoice, Front, FrontDeed, FrontEnv, FrontIn, FrontPart, FrontRow, FrontSetting, FrontState, FrontTurn, IsFrontSound, IsMessage, IsNumber, IsRecordInRange, MAX_SEGMENT_BYTES, Message, MsgFault, Out, ToCluster, admits, admits_too, admitted_by, ask_of, decoded, decoded_message, ended_answer, ended_deed, front_admitted, front_armed, front_asked, front_deed, front_ended, front_env, front_gets, front_part, front_rest, front_step, front_taken, front_timer, front_timers, front_told, message_comes, nothing_done, put_back}
+use Rattle.std.proofs.Common.{◌≡◌, ℕ, ◌≤◌, ◌<◌, ◌^◌, List, [], length, Option, Some, None, IfSome, Ok, Err, Result, refl, arith}
+use Rattle.lard_law_view.specs.Prelude.{Body, Did, Final, FirstChoice, Front, FrontDeed, FrontEnv, FrontIn, FrontPart, FrontSetting, FrontState, FrontTurn, IsFrontSound, IsMessage, IsNumber, IsRecordInRange, MAX_SEGMENT_BYTES, Message, MsgFault, Out, ToCluster, admits, admits_too, ask_of, decoded, decoded_message, ended_answer, ended_deed, front_admitted, front_armed, front_asked, front_deed, front_ended, front_env, front_gets, front_part, front_rest, front_step, front_taken, front_timer, front_timers, front_told, message_comes, nothing_done, put_back}
 use Rattle.lard_rules.specs.Bounds as cluster
 use Rattle.lard_laws.proofs.RecordsChoices as choices
 use Rattle.lard_laws.proofs.RecordsFit.{some-decoded, told-decoded}
 use Rattle.lard_laws.proofs.RecordsFronts as front
-use Rattle.lard_laws.proofs.RecordsFronts.{AdmissionFits, AnswersFit, DeedFits, FrontKeeps, FrontTurnFits, IsAsked, RowKeeps}
+use Rattle.lard_laws.proofs.RecordsFronts.{AnswersFit, DeedFits, FrontKeeps, FrontTurnFits, IsAsked, RowKeeps}
 use Rattle.lard_laws.proofs.RecordsLetters.{HasPaths, SaysPaths, conn-number, is-message}
 use Rattle.lard_laws.proofs.RecordsNamed.{AreNamed}
 use Rattle.lard_laws.proofs.RecordsOuts.{OutFits, both-fit, nothing-fits, ordered-range, timers-range, turn-fits}
 use Rattle.lard_dispatch.proofs.Chosen.{IsChosen}
+use Rattle.lard_handoff_front.specs.declared.row.FrontConn.TheVariants as stage
+use Rattle.lard_rules.proofs.FrontCases.{admitted-keeps, of-stage}
 use Rattle.lard_rules.specs.Front.{Drops, Says, Does}
 use Rattle.lard_rules.proofs.FrontKeeping.{put-all}
 use Rattle.lard_history.proofs.Each.{Each}
@@ -60,10 +62,7 @@ module _ (k : FrontSetting) (small : k.stream ≤ 2 ^ 30) (named : AreNamed k.fi
 
   -- who waits has a number
   waits-number : (env : FrontEnv) (c : ℕ) (p : FrontPart) (choice : FirstChoice) (y : FrontPart × FrontTurn) → RowKeeps c (front_rest p.rest).count p.row → front_admitted env p choice ≡ Some y → cluster.IsConnNumber c
-  waits-number env c p choice y h e = go p.row h e where
-    go : (o : Option FrontRow) → RowKeeps c (front_rest p.rest).count o → admitted_by env p choice o ≡ Some y → cluster.IsConnNumber c
-    go None k is = let no : ◌≡◌ {A = Option (FrontPart × FrontTurn)} None (Some y) = is in absurd cc
-    go (Some row) k is = k.0
+  waits-number env c p choice y h = admitted-keeps env p choice (λ given. cluster.IsConnNumber c) (λ row b path at target. (of-stage (RowKeeps c (front_rest p.rest).count) p row (stage.Waiting b) at h).0) y
 
   module _ (c : ℕ) (x : Did) (n : cluster.IsConnNumber c) (h : FrontKeeps c x.part) (t : FrontTurnFits x.turn) where
     abbrev after : FrontState
@@ -73,9 +72,7 @@ module _ (k : FrontSetting) (small : k.stream ≤ 2 ^ 30) (named : AreNamed k.fi
     admitted-fits d choice y chosen e =
         let its : FrontKeeps d (front_part after d) = put-keeps c x h d in
         let number : cluster.IsConnNumber d = waits-number (front_env k after d 0) d (front_part after d) choice y its.row e in
-        let all : AdmissionFits d (front_admitted (front_env k after d 0) (front_part after d) choice) =
-        front.admitted-fits (front_env k after d 0) refl number small named (front_part after d) its choice chosen in
-        let both : FrontKeeps d y.0 × FrontTurnFits y.1 = subst (AdmissionFits d) e all in (
+        let both : FrontKeeps d y.0 × FrontTurnFits y.1 = front.admitted-fits (front_env k after d 0) refl number small named (front_part after d) its choice chosen y e in (
           put-all FrontKeeps after d y.0 both.0 (λ q other. put-keeps c x h q),
           both-fit Front x.turn.notes y.1.notes x.turn.segments y.1.segments x.turn.gave y.1.gave x.turn.messages y.1.messages _ x.turn.answered t both.1
               (ordered-range c d (front_timers c (front_part s c) x.part) (front_timers d (front_part after d) y.0) (changed s c x.part n) (changed after d y.0 number)),

@@ -1,8 +1,8 @@
 -- What each rule of the front end keeps of a connection, and that its turn is in range.
-use Rattle.std.proofs.Common.{◌≡◌, ℕ, suc, ◌+◌, ◌-◌, ◌*◌, ◌≤◌, ◌<◌, ◌^◌, ◌==◌, ◌&&◌, not, nat_lt, List, [], ◌∷◌, ◌++◌, length, map, Bool, true, false, cond, Option, Some, None, IfSome, Ok, Err, Result, refl, sym, ap, subst, arith, eqb-true}
-use Rattle.std.proofs.lemmas.Bool.{and_parts, cond_both, ltb-true, not-true}
+use Rattle.std.proofs.Common.{◌≡◌, ℕ, suc, ◌+◌, ◌-◌, ◌*◌, ◌≤◌, ◌<◌, ◌^◌, ◌==◌, ◌&&◌, not, List, [], ◌∷◌, length, map, Bool, true, false, Option, Some, None, IfSome, Ok, Err, Result, ⊎_elim, refl, sym, ap, subst, arith, eqb-true}
+use Rattle.std.proofs.lemmas.Bool.{and_parts, cond_both, not-true}
 use Rattle.std.specs.List.{AllByRecursion}
-use Rattle.lard_law_view.specs.Prelude.{Ask, ControlBlock, Ending, Epoch, Final, First, FirstChoice, Found, FrontConn, FrontDeed, FrontEnv, FrontPart, FrontRest, FrontRow, FrontTurn, IsChoiceInRange, IsEarlyAway, IsEarlyHere, IsNumber, IsPlaceInRange, IsRecordInRange, IsUnspaced, Later, LaterChoice, MayMove, OnEnded, Place, Reading, Reason, Said, SegFault, Service, Step, Turn, Verdict, ack_sent, admitted_at, admitted_by, after_timer, ask_of, asked_by, asked_node, assigned_notes, assigns, block_at, cut_of, end_answer, ended_with, fires_at, forwarded, front_admitted, front_admitted_with, front_asked, front_begun, front_ended, front_ended_by, front_fired, front_fired_by, front_gets, front_hears, front_reads, front_rest, front_rests, front_saying, front_taken, front_timer, good_path, handed_off, heard, hears_at, holds, is_away, is_plain_syn, is_row_at, is_telling, is_with, last_ack, last_words, listening, may_freeze, may_read, met, next_epoch, offer_kept, offered_to, on_segment, over_note, placed, reading_left, reading_turn, reads_block, reads_found, refusal, sent_of, serving, serving_consumed, serving_ready_of, serving_settled, serving_told, settled_by, spoken, tag_sent, taken_by, targeted, timed, tombstone, turn_here, waits_on, without}
+use Rattle.lard_law_view.specs.Prelude.{Ask, ControlBlock, Ending, Epoch, Final, First, FirstChoice, Found, FrontConn, FrontDeed, FrontEnv, FrontPart, FrontRest, FrontRow, FrontTurn, IsChoiceInRange, IsEarlyAway, IsEarlyHere, IsNumber, IsPlaceInRange, IsRecordInRange, IsUnspaced, Later, LaterChoice, Place, Reading, Reason, Said, SegFault, Service, Step, Turn, Verdict, ack_sent, after_timer, ask_of, assigned_notes, assigns, block_at, cut_of, forwarded, front_admitted, front_asked, front_ended, front_fired, front_gets, front_reads, front_rest, front_rests, front_saying, front_taken, front_timer, good_path, handed_off, holds, is_away, is_row_at, is_telling, is_with, last_ack, last_words, may_freeze, may_read, next_epoch, offer_kept, on_segment, over_note, reading_left, reading_turn, reads_block, reads_found, refusal, sent_of, serving, serving_consumed, serving_ready_of, serving_settled, serving_told, spoken, tag_sent, targeted, timed, tombstone, turn_here, waits_on, without}
 use Rattle.lard_base.specs.declared.place.Place.TheVariants as place
 use Rattle.lard_base.specs.declared.place.Reason.TheVariants as reason
 use Rattle.lard_base.specs.declared.place.TimerKind.TheVariants as kind
@@ -19,9 +19,9 @@ use Rattle.lard_dispatch.specs.Sound as dispatch
 use Rattle.lard_dispatch.proofs.Chosen.{IsChosen}
 use Rattle.lard_rules.specs.Front.{Drops, Says, Does}
 use Rattle.lard_rules.proofs.FrontBlocks.{EndsIdle, EndsServing, ServesAs, idle-of, segment-idle, segment-serves, settled-serves, spoken-idle, spoken-serves, timer-idle, timer-serves}
+use Rattle.lard_rules.proofs.FrontCases.{IsInStage, KeptBySegment, admitted-keeps, asked-keeps, begun_row, begun_service, ended-keeps, fired_before, fired_service, heard_reading, heard_service, of-stage, segment-keeps, taken-keeps, timer-keeps, waiting_service}
 use Rattle.lard_rules.proofs.FrontTurns.{HasStopped, reads-stop}
 use Rattle.lard_handoff_front.specs.declared.row.FrontConn.TheVariants as stage
-use Rattle.lard_handoff_front.specs.declared.table.OnEnded.TheVariants.{Again, New, Stale}
 use Rattle.lard_history.proofs.Each.{Each, Each-append}
 use Rattle.lard_journal.specs.declared.rec.Rec.TheVariants as rec
 use Rattle.lard_law_view.proofs.ByteLists.{AreBytes}
@@ -105,11 +105,6 @@ abbrev pub DeedFits : ℕ → FrontDeed → Type 0
 DeedFits c Drops = Unit {0}
 DeedFits c (Says t) = FrontTurnFits t
 DeedFits c (Does x) = FrontKeeps c x.part × FrontTurnFits x.turn
-
--- where the head of the line is admitted
-abbrev pub AdmissionFits : ℕ → Option (FrontPart × FrontTurn) → Type 0
-AdmissionFits c None = Unit {0}
-AdmissionFits c (Some given) = FrontKeeps c given.0 × FrontTurnFits given.1
 
 -- an endpoint's turn is one of the front end
 here-fits : (t : Turn) → TurnFits place.Front t → FrontTurnFits (turn_here t)
@@ -278,41 +273,11 @@ module _ (env : FrontEnv) (own : env.serve.place ≡ place.Front) (conn : cluste
           },
         )
 
-    placed-fits : (row : FrontRow) (rest : FrontRest) (w : Service) (path : List ℕ) (f : First) → IsEarlyHere row.epoch.0 → RestKeeps rest → IsServing w → ServesAs w.count w.block → may_freeze w.block ≡ true → IsNamed path → FirstFits f
-        → Fits (Does (placed env p row rest w path f))
-    placed-fits row rest w path (first.Go choice) early r h serves may n chosen = handed-fits row w path choice early h serves may n chosen
-    placed-fits row rest w path first.Waits early r h serves may n chosen =
-        let v : Service = record w { notes = w.notes ++ rec.Waits c ∷ [] } in
-        let says : EndFits place.Front (spoken env.serve v []) = spoken-front v [] tt (omega arith) (record { notes = Each-append IsRecordInRange w.notes (rec.Waits c ∷ []) h.notes (number, tt); keeps = h.keeps; over = h.over }) in (
-          rests-keep row (record rest { target = Some path }) stage.Waiting (spoken env.serve v []).0
-              (stays-waiting row.epoch.0 (spoken env.serve v []).0 early says.keeps (spoken-serves env.serve v [] serves) (spoken-idle env.serve v [] (idle-of w.block may serves.sent)))
-              (record { assigned = r.assigned; asks = r.asks; tag = r.tag; some = r.some; short = r.short; target = n }),
-          here-fits (spoken env.serve v []).1 says.turn,
-        )
-
-    settled_by-fits : AnswersFit env → (row : FrontRow) (rest : FrontRest) (w : Service) (o : Option (List ℕ)) → IsEarlyHere row.epoch.0 → RestKeeps rest → IsServing w → ServesAs w.count w.block → MayMove w.block o → IfSome o IsNamed
-        → Fits (settled_by env p row rest w o)
-    settled_by-fits answers row rest w None early r h serves may n =
-        holds-fits row rest (serving_settled env.serve w) early r (subst (λ (q : Place). EndFits q (serving_settled env.serve w)) own (settled-fits env.serve number small (contents env.serve.files named) at w h)) (settled-serves env.serve w serves)
-    settled_by-fits answers row rest w (Some path) early r h serves may n = placed-fits row rest w path (env.first path) early r h serves may n (answers.first path)
-
-    heard-fits : AnswersFit env → (row : FrontRow) (rest : FrontRest) (b : ControlBlock) → IsEarlyHere row.epoch.0 → RestKeeps rest → Keeps rest.count b → ServesAs rest.count b → Fits (heard env p row rest b)
-    heard-fits answers row rest b early r k serves =
-        let x : Reading = record { service = serving b rest.count []; target = None } in
-        let done : IsReading (front_reads env.serve x) = reads-read x (record { notes = tt; keeps = k; over = tt }, tt) in
-        let stopped : HasStopped (front_reads env.serve x) = reads-stop env.serve (serving b rest.count []) serves in
-        settled_by-fits answers row rest (front_reads env.serve x).service (front_reads env.serve x).target early r done.0 stopped.0 stopped.1 done.1
+    -- what holds in its stage
+    kept-at : (row : FrontRow) (st : FrontConn) → IsInStage p row st → StageKeeps row.epoch.0 (front_rest p.rest).count st
+    kept-at row st at = (of-stage (RowKeeps c (front_rest p.rest).count) p row st at held.row).1
 
     -- ---- segments
-
-    met-fits : (s : Said) → IsTold s → env.iss < 2 ^ 32 → Fits (met env p s)
-    met-fits s told first =
-        let w : Service = serving (listening s env.iss) 0 (rec.Took place.Front c (record { 0 = 1 }) ∷ []) in
-        cond_both (is_plain_syn s) (front_begun env p s) Drops Fits
-        (λ t. holds-fits (record { stage = stage.Lent; epoch = record { 0 = 1 }; ended_by = None }) (front_rest None) (spoken env.serve w []) (omega arith) no-rest
-        (spoken-front w [] tt (omega arith) (record { notes = ((tt, number, omega arith), tt); keeps = ((tt, omega arith, omega arith), tt, fit-listening s env.iss told first); over = tt }))
-        (spoken-serves env.serve w [] (record { counted = omega arith; asked = omega arith; most = omega arith; sent = omega arith })))
-        (λ t. tt)
 
     forwarded-fits : (node : ℕ) (epoch : Epoch) (bytes : List ℕ) → IsNode node → epoch.0 < 2 ^ 16 → AreBytes bytes → IsSegment bytes → Fits (forwarded env node epoch bytes)
     forwarded-fits node epoch bytes n early h long = sends place.Front _ ((node-number node n, bytes-message c epoch.0 (body.Forward bytes) h, tt, spells c epoch.0 (body.Forward bytes) conn early long tt), tt) (omega arith)
@@ -335,28 +300,46 @@ module _ (env : FrontEnv) (own : env.serve.place ≡ place.Front) (conn : cluste
     fresh : (b : ControlBlock) (count : ℕ) → Keeps count b → IsServing (serving b count [])
     fresh b count k = record { notes = tt; keeps = k; over = tt }
 
-    hears_at-fits : AnswersFit env → (row : FrontRow) (bytes : List ℕ) (s : Said) (x : FrontConn) → AreBytes bytes → IsSegment bytes → IsTold s → StageKeeps row.epoch.0 (front_rest p.rest).count x
-        → Fits (hears_at env p row bytes s x)
-    hears_at-fits answers row bytes s (stage.Held b) h long d k =
-        heard-fits answers row (front_rest p.rest) (on_segment b s).1 k.0 held.rest (keeping-segment ((front_rest p.rest).count - 2 ^ 30) b s d k.1) (segment-serves (front_rest p.rest).count b s k.2)
-    hears_at-fits answers row bytes s (stage.Waiting b) h long d k =
-        let w : Service = serving (on_segment b s).1 (front_rest p.rest).count [] in
-        waits-fits row (front_rest p.rest) (spoken env.serve w []) k.0 held.rest
-        (spoken-front w [] tt (omega arith) (fresh (on_segment b s).1 (front_rest p.rest).count (keeping-segment ((front_rest p.rest).count - 2 ^ 30) b s d k.1)))
-        (spoken-serves env.serve w [] (segment-serves (front_rest p.rest).count b s k.2)) (spoken-idle env.serve w [] (segment-idle b s (idle-of b k.3 k.2.sent)))
-    hears_at-fits answers row bytes s stage.Lent h long d k = tt
-    hears_at-fits answers row bytes s (stage.Offering node epoch) h long d k = forwarded-fits node epoch bytes k.1 k.2 h long
-    hears_at-fits answers row bytes s (stage.Moved node epoch) h long d k = forwarded-fits node epoch bytes k.1 k.2 h long
-    hears_at-fits answers row bytes s (stage.Closed last) h long d k = ended-fits last.reason last s
+    -- what was read is in range and serves what was asked for, and what is to be placed may move
+    abbrev Came : Service → Option (List ℕ) → Type 0
+    Came w o = IsReading (record { service = w; target = o }) × HasStopped (record { service = w; target = o })
 
-    hears-fits : AnswersFit env → env.iss < 2 ^ 32 → (bytes : List ℕ) (s : Said) (o : Option FrontRow) → AreBytes bytes → IsSegment bytes → IsTold s → RowKeeps c (front_rest p.rest).count o → Fits (front_hears env p bytes s o)
-    hears-fits answers first bytes s None h long d k = met-fits s d first
-    hears-fits answers first bytes s (Some row) h long d k = hears_at-fits answers row bytes s row.stage h long d k.1
+    by-segment : AnswersFit env → env.iss < 2 ^ 32 → (bytes : List ℕ) (s : Said) → AreBytes bytes → IsTold s → IsSegment bytes → KeptBySegment env p bytes s Came Fits
+    by-segment answers first bytes s h told long = record {
+      drops = tt;
+      begins = λ none plain. holds-fits begun_row (front_rest None) (spoken env.serve (begun_service env s) []) (omega arith) no-rest
+          (spoken-front (begun_service env s) [] tt (omega arith) (record { notes = ((tt, number, omega arith), tt); keeps = ((tt, omega arith, omega arith), tt, fit-listening s env.iss told first); over = tt }))
+          (spoken-serves env.serve (begun_service env s) [] (record { counted = omega arith; asked = omega arith; most = omega arith; sent = omega arith }));
+      reads = λ row b at. let k = kept-at row (stage.Held b) at in (
+        reads-read (heard_reading p b s) (fresh (on_segment b s).1 (front_rest p.rest).count (keeping-segment ((front_rest p.rest).count - 2 ^ 30) b s told k.1), tt),
+        reads-stop env.serve (heard_service p b s) (segment-serves (front_rest p.rest).count b s k.2),
+      );
+      holds = λ row b w here came. holds-fits row (front_rest p.rest) (serving_settled env.serve w) (kept-at row (stage.Held b) here).0 held.rest
+          (subst (λ (q : Place). EndFits q (serving_settled env.serve w)) own (settled-fits env.serve number small (contents env.serve.files named) at w came.0.0)) (settled-serves env.serve w came.1.0);
+      hands = λ row b w path choice here came is. handed-fits row w path choice (kept-at row (stage.Held b) here).0 came.0.0 came.1.0 came.1.1 came.0.1 (subst FirstFits is (answers.first path));
+      waits = λ row b w path here came is.
+          let v : Service = waiting_service env w in
+          let r : RestKeeps (front_rest p.rest) = held.rest in
+          let says : EndFits place.Front (spoken env.serve v []) =
+          spoken-front v [] tt (omega arith) (record { notes = Each-append IsRecordInRange w.notes (rec.Waits c ∷ []) came.0.0.notes (number, tt); keeps = came.0.0.keeps; over = came.0.0.over }) in
+          waits-fits row (record (front_rest p.rest) { target = Some path }) (spoken env.serve v []) (kept-at row (stage.Held b) here).0
+          (record { assigned = r.assigned; asks = r.asks; tag = r.tag; some = r.some; short = r.short; target = came.0.1 }) says
+          (spoken-serves env.serve v [] came.1.0) (spoken-idle env.serve v [] (idle-of w.block came.1.1 came.1.0.sent));
+      stays = λ row b at.
+          let k = kept-at row (stage.Waiting b) at in
+          let w : Service = heard_service p b s in
+          waits-fits row (front_rest p.rest) (spoken env.serve w []) k.0 held.rest
+          (spoken-front w [] tt (omega arith) (fresh (on_segment b s).1 (front_rest p.rest).count (keeping-segment ((front_rest p.rest).count - 2 ^ 30) b s told k.1)))
+          (spoken-serves env.serve w [] (segment-serves (front_rest p.rest).count b s k.2)) (spoken-idle env.serve w [] (segment-idle b s (idle-of b k.3 k.2.sent)));
+      forwards = λ row n e at.
+          let k = ⊎_elim (λ (i : IsInStage p row (stage.Offering n e)). kept-at row (stage.Offering n e) i) (λ (i : IsInStage p row (stage.Moved n e)). kept-at row (stage.Moved n e) i) at in
+          forwarded-fits n e bytes k.1 k.2 h long;
+      words = λ row last at. ended-fits last.reason last s;
+    }
 
-    -- whatever comes
     pub gets-fits : AnswersFit env → env.iss < 2 ^ 32 → (bytes : List ℕ) (r : Result Said SegFault) → AreBytes bytes → ((s : Said) → r ≡ Ok s → IsTold s × IsSegment bytes) → Fits (front_gets env p bytes r)
     gets-fits answers first bytes (Err fault) h d = tt
-    gets-fits answers first bytes (Ok s) h d = let said = d s refl in hears-fits answers first bytes s p.row h said.1 said.0 held.row
+    gets-fits answers first bytes (Ok s) h d = let said = d s refl in segment-keeps env p bytes s Came Fits (by-segment answers first bytes s h said.0 said.1)
 
     -- ---- timers
 
@@ -369,22 +352,19 @@ module _ (env : FrontEnv) (own : env.serve.place ≡ place.Front) (conn : cluste
     fired-serves : (rest : FrontRest) (b : ControlBlock) → ServesAs rest.count b → EndsServing (front_fired env rest b).0
     fired-serves rest b h = spoken-serves env.serve (serving (after_timer b) rest.count []) (serving_ready_of env.serve (after_timer b) (timed b)) (timer-serves rest.count b h)
 
-    fires_at-fits : (row : FrontRow) (x : FrontConn) → StageKeeps row.epoch.0 (front_rest p.rest).count x → Fits (fires_at env p row x)
-    fires_at-fits row (stage.Held b) k = holds-fits row (front_rest p.rest) (front_fired env (front_rest p.rest) b) k.0 held.rest (fired-fits (front_rest p.rest) b k.1) (fired-serves (front_rest p.rest) b k.2)
-    fires_at-fits row (stage.Waiting b) k = waits-fits row (front_rest p.rest) (front_fired env (front_rest p.rest) b) k.0 held.rest (fired-fits (front_rest p.rest) b k.1) (fired-serves (front_rest p.rest) b k.2)
-        (spoken-idle env.serve (serving (after_timer b) (front_rest p.rest).count []) (serving_ready_of env.serve (after_timer b) (timed b)) (timer-idle b (idle-of b k.3 k.2.sent)))
-    fires_at-fits row (stage.Offering node epoch) k =
-        let few = held.few in
-        let as_many = length-held p.kept in
-        sends place.Front (map sent_of p.kept) (held-sent place.Front p.kept held.kept) (omega (arith, few, as_many))
-    fires_at-fits row _ k = tt
-
-    fired_by-fits : (o : Option FrontRow) → RowKeeps c (front_rest p.rest).count o → Fits (front_fired_by env p o)
-    fired_by-fits None k = tt
-    fired_by-fits (Some row) k = fires_at-fits row row.stage k.1
-
     pub fires-fits : Fits (front_timer env p)
-    fires-fits = fired_by-fits p.row held.row
+    fires-fits = timer-keeps env p Fits (record {
+      drops = tt;
+      holds = λ row b at. let k = kept-at row (stage.Held b) at in
+          holds-fits row (front_rest p.rest) (front_fired env (front_rest p.rest) b) k.0 held.rest (fired-fits (front_rest p.rest) b k.1) (fired-serves (front_rest p.rest) b k.2);
+      stays = λ row b at. let k = kept-at row (stage.Waiting b) at in
+          waits-fits row (front_rest p.rest) (front_fired env (front_rest p.rest) b) k.0 held.rest (fired-fits (front_rest p.rest) b k.1) (fired-serves (front_rest p.rest) b k.2)
+          (spoken-idle env.serve (fired_service p b) (fired_before env b) (timer-idle b (idle-of b k.3 k.2.sent)));
+      resends = λ row n e at.
+          let few = held.few in
+          let as_many = length-held p.kept in
+          sends place.Front (map sent_of p.kept) (held-sent place.Front p.kept held.kept) (omega (arith, few, as_many));
+    })
 
     -- ---- messages of nodes
 
@@ -395,24 +375,11 @@ module _ (env : FrontEnv) (own : env.serve.place ≡ place.Front) (conn : cluste
     less-few : length (without kind.Offer 0 p.kept) ≤ 1
     less-few = let few = held.few in let fewer = length-less kind.Offer 0 p.kept in omega (arith, few, fewer)
 
-    -- the node to which it is offered
-    offered-node : (e count epoch : ℕ) (x : FrontConn) (node : ℕ) → StageKeeps e count x → offered_to epoch x ≡ Some node → IsEarlyAway e × IsNode node
-    offered-node e count epoch (stage.Offering n d) node k is = go (d.0 == epoch) is where
-      go : (b : Bool) → cond b (Some n) None ≡ Some node → IsEarlyAway e × IsNode node
-      go true same = let one : n ≡ node = cc in (k.0, subst IsNode one k.1)
-      go false none = let no : None ≡ Some node = none in absurd cc
-    offered-node e count epoch _ node k is = let no : None ≡ Some node = is in absurd cc
-
-    taken_by-fits : (epoch : ℕ) → epoch < 2 ^ 16 → (o : Option FrontRow) (asked : Option ℕ) → asked_node epoch o ≡ asked → RowKeeps c (front_rest p.rest).count o → Fits (taken_by p epoch o asked)
-    taken_by-fits epoch early None asked is k = tt
-    taken_by-fits epoch early (Some row) None is k = tt
-    taken_by-fits epoch early (Some row) (Some node) is k = (
-      record { row = (conn, (let offered = offered-node row.epoch.0 (front_rest p.rest).count epoch row.stage node k.1 is in (offered.0, offered.1, early))); rest = held.rest; kept = less; few = less-few },
-      sends place.Front [] tt (omega arith),
-    )
-
     pub taken-fits : (epoch : ℕ) → epoch < 2 ^ 16 → Fits (front_taken p epoch)
-    taken-fits epoch early = taken_by-fits epoch early p.row (asked_node epoch p.row) refl held.row
+    taken-fits epoch early = taken-keeps p Fits tt epoch (λ row n e at same. let k = kept-at row (stage.Offering n e) at in (
+      record { row = (conn, (k.0, k.1, early)); rest = held.rest; kept = less; few = less-few },
+      sends place.Front [] tt (omega arith),
+    ))
 
     -- ---- an Ask
 
@@ -473,18 +440,12 @@ module _ (env : FrontEnv) (own : env.serve.place ≡ place.Front) (conn : cluste
             },
           )
 
-      asked_by-fits : AnswersFit env → (o : Option FrontRest) → p.rest ≡ o → Fits (asked_by env p from epoch ask o)
-      asked_by-fits answers None there = tt
-      asked_by-fits answers (Some rest) there =
-          let again : FrontDeed = Says (front_saying (tag_sent env from epoch rest.asks rest.tag)) in
-          let r : RestKeeps rest = subst RestKeeps (ap front_rest there) held.rest in
-          cond_both (z == rest.asks + 1) (Does (assigns env p rest from epoch ask (env.later ask))) (cond (z == rest.asks && nat_lt 0 rest.asks) again Drops) Fits
-          (λ t. assigns-fits rest there (eqb-true z (rest.asks + 1) t) (env.later ask) (answers.later ask node) (answers.as_many ask))
-          (λ t. cond_both (z == rest.asks && nat_lt 0 rest.asks) again Drops Fits (λ u. tag-fits from epoch rest.asks rest.tag node early r.asks r.tag (r.some (ltb-true 0 rest.asks (and_parts (z == rest.asks) (nat_lt 0 rest.asks) u).1)) r.short) (λ u. tt))
-
     pub asked-fits : AnswersFit env → (from epoch z queue size : ℕ) (paths : List (List ℕ)) → epoch < 2 ^ 16 → IsAsked z queue size paths → Fits (front_asked env p from epoch (ask_of c from z queue size paths))
-    asked-fits answers from epoch z queue size paths early asked = cond_both (is_row_at from epoch p.row) (asked_by env p from epoch (ask_of c from z queue size paths) p.rest) Drops Fits
-        (λ t. asked_by-fits from epoch z queue size early paths asked (at-fits from epoch p.row held.row t) answers p.rest refl) (λ t. tt)
+    asked-fits answers from epoch z queue size paths early asked = asked-keeps p Fits tt env from epoch (ask_of c from z queue size paths)
+        (λ rest there is same some. let r : RestKeeps rest = subst RestKeeps (ap front_rest there) held.rest in
+        tag-fits from epoch rest.asks rest.tag (at-fits from epoch p.row held.row is) early r.asks r.tag (r.some some) r.short)
+        (λ rest there is next. let node : IsNode from = at-fits from epoch p.row held.row is in let its : Ask = ask_of c from z queue size paths in
+        assigns-fits from epoch z queue size early paths asked node rest there next (env.later its) (answers.later its node) (answers.as_many its))
 
     -- ---- an end
 
@@ -496,35 +457,16 @@ module _ (env : FrontEnv) (own : env.serve.place ≡ place.Front) (conn : cluste
     acks : (from epoch : ℕ) → IsNumber from → epoch < 2 ^ 16 → FrontTurnFits (front_saying (ack_sent env from epoch))
     acks from epoch n early = sends place.Front (ack_sent env from epoch) ((n, bytes-message c epoch body.EndedAck tt, tt, spells c epoch body.EndedAck conn early tt tt), tt) (omega arith)
 
-    ended_by-fits : (from epoch : ℕ) (last : Final) → IsNumber from → epoch < 2 ^ 16 → (o : Option FrontRow) → RowKeeps c (front_rest p.rest).count o → Fits (front_ended_by env p from epoch last o (end_answer epoch o))
-    ended_by-fits from epoch last n two None k = tt
-    ended_by-fits from epoch last n two (Some row) k =
-        let Ends : OnEnded → Type 0 = λ given. Fits (front_ended_by env p from epoch last (Some row) given) in
+    pub ended-deed : (from epoch : ℕ) (last : Final) → IsNumber from → epoch < 2 ^ 16 → Fits (front_ended env p from epoch last)
+    ended-deed from epoch last n two = ended-keeps p Fits tt env from epoch last (λ row found away again. acks from epoch n two) (λ row found away.
         let ack = acks from epoch n two in
-        cond_both (is_away epoch row.stage) (New (next_epoch row)) (cond (ended_with epoch row.ended_by) Again Stale) Ends
-        (λ t. let early = away-early row.epoch.0 (front_rest p.rest).count epoch row.stage k.1 t in (
+        let early = away-early row.epoch.0 (front_rest p.rest).count epoch row.stage (kept-at row row.stage (found, refl)) away in (
           record { row = (conn, tt); rest = no-rest; kept = less; few = less-few },
           record { notes = ((tt, number, omega (arith, early)), (number, tt)); segments = tt; few = omega arith; gave = tt; messages = ack.messages; few_messages = ack.few_messages },
         ))
-        (λ t. cond_both (ended_with epoch row.ended_by) Again Stale Ends (λ u. ack) (λ u. tt))
-
-    pub ended-deed : (from epoch : ℕ) (last : Final) → IsNumber from → epoch < 2 ^ 16 → Fits (front_ended env p from epoch last)
-    ended-deed from epoch last n early = ended_by-fits from epoch last n early p.row held.row
 
     -- ---- the head of the line
 
-    module _ (choice : FirstChoice) (chosen : IsChosen 64 choice) where
-      admitted_with-fits : (row : FrontRow) (b : ControlBlock) (o : Option (List ℕ)) → IsEarlyHere row.epoch.0 → Keeps (front_rest p.rest).count b → ServesAs (front_rest p.rest).count b → may_freeze b ≡ true → IfSome o IsNamed → AdmissionFits c (front_admitted_with env row (front_rest p.rest) b choice o)
-      admitted_with-fits row b None early k serves may n = tt
-      admitted_with-fits row b (Some path) early k serves may n = handed-fits row (serving b (front_rest p.rest).count []) path choice early (fresh b (front_rest p.rest).count k) serves may n chosen
-
-      admitted_at-fits : (row : FrontRow) (x : FrontConn) → StageKeeps row.epoch.0 (front_rest p.rest).count x → AdmissionFits c (admitted_at env p choice row x)
-      admitted_at-fits row (stage.Waiting b) k = admitted_with-fits row b (front_rest p.rest).target k.0 k.1 k.2 k.3 held.rest.target
-      admitted_at-fits row _ k = tt
-
-      admitted_by-fits : (o : Option FrontRow) → RowKeeps c (front_rest p.rest).count o → AdmissionFits c (admitted_by env p choice o)
-      admitted_by-fits None k = tt
-      admitted_by-fits (Some row) k = admitted_at-fits row row.stage k.1
-
-      pub admitted-fits : AdmissionFits c (front_admitted env p choice)
-      admitted-fits = admitted_by-fits p.row held.row
+    pub admitted-fits : (choice : FirstChoice) → IsChosen 64 choice → (given : FrontPart × FrontTurn) → front_admitted env p choice ≡ Some given → FrontKeeps c given.0 × FrontTurnFits given.1
+    admitted-fits choice chosen = admitted-keeps env p choice (λ given. FrontKeeps c given.0 × FrontTurnFits given.1) (λ row b path at target. let k = kept-at row (stage.Waiting b) at in
+        handed-fits row (serving b (front_rest p.rest).count []) path choice k.0 (fresh b (front_rest p.rest).count k.1) k.2 k.3 (subst (λ (o : Option (List ℕ)). IfSome o IsNamed) target held.rest.target) chosen)

@@ -133,21 +133,9 @@ module _ (k : NodeSetting) (n-is : IsNumber k.n) (small : k.stream ≤ 2 ^ 30) (
         rule-fits s h short c epoch (message-number _ is) is.epoch (Forwarded (decoded segment c ToCluster)) tt (forward-fits (decoded segment c ToCluster) (λ said of. told-decoded segment c ToCluster said of (forward-read bytes c epoch segment d read)))
     hears-fits bytes place.Front c epoch (body.Tag z nodes) f d is read = rule-fits s h short c epoch (message-number _ is) is.epoch (Tagged z nodes) tt (numbers nodes is.fits.1)
     hears-fits bytes place.Front c epoch body.EndedAck f d is read = rule-fits s h short c epoch (message-number _ is) is.epoch Acknowledged tt tt
-    hears-fits bytes place.Front c epoch body.Taken f d is read = still s h
-    hears-fits bytes place.Front c epoch (body.Ask z queue size paths) f d is read = still s h
-    hears-fits bytes place.Front c epoch (body.Fetch r path) f d is read = still s h
-    hears-fits bytes place.Front c epoch (body.Content r file) f d is read = still s h
-    hears-fits bytes place.Front c epoch (body.Ended reason snd rcv count) f d is read = still s h
     hears-fits bytes (place.Node from) c epoch (body.Fetch r path) f d is read = fetched-fits c epoch (message-number _ is) is.epoch from r path (k.files path) refl f is.fits
     hears-fits bytes (place.Node from) c epoch (body.Content r file) f d is read = rule-fits s h short c epoch (message-number _ is) is.epoch (Content from r) tt f
-    hears-fits bytes (place.Node from) c epoch (body.Offer parts) f d is read = still s h
-    hears-fits bytes (place.Node from) c epoch body.Taken f d is read = still s h
-    hears-fits bytes (place.Node from) c epoch (body.Forward segment) f d is read = still s h
-    hears-fits bytes (place.Node from) c epoch (body.Ask z queue size paths) f d is read = still s h
-    hears-fits bytes (place.Node from) c epoch (body.Tag z nodes) f d is read = still s h
-    hears-fits bytes (place.Node from) c epoch (body.Ended reason snd rcv count) f d is read = still s h
-    hears-fits bytes (place.Node from) c epoch body.EndedAck f d is read = still s h
-    hears-fits bytes (place.Client q) c epoch b f d is read = still s h
+    hears-fits bytes _ c epoch _ f d is read = still s h
 
     gets-fits : (bytes : List ℕ) (from : Place) (r : Result Message MsgFault) → IsPlaceInRange from → AreBytes bytes → decoded_message bytes ≡ r → StepFits (node_gets k s from r)
     gets-fits bytes from (Err fault) f d is = still s h

@@ -1,6 +1,6 @@
 -- What each rule of a node keeps of a connection, and that its turn is in range.
 use Rattle.std.proofs.Common.{◌≡◌, ℕ, suc, ◌+◌, ◌-◌, ◌≤◌, ◌<◌, ◌^◌, List, [], ◌∷◌, ◌++◌, length, true, Option, Some, None, IfSome, Ok, refl, ap, subst, arith, length-append}
-use Rattle.lard_law_view.specs.Prelude.{Asked, BackRow, Content, ControlBlock, Ending, EndpointParts, Final, Forwarded, IsNumber, IsRecordInRange, IsValidParts, Kept, Node, NodeDeed, NodeEnv, NodeGets, NodePart, NodeTurn, Offered, Place, Progress, Said, Stay, Tagged, Turn, Want, Work, after_timer, again_sent, all_sent, anew, ask_kept, asked_kept, asked_sent, back_endpoint, came_for, come_progress, ended_kept, ended_sent, fetch_of, gave_by, goes_on, gone, here, kept_after, node_begins, node_fired, node_rule, node_saying, on_segment, read_progress, reads_batch, reset_count, sent_of, serving, serving_ready_of, serving_settled, spoken, state_of, tagged, taken_sent, timed, turn_by, wants_kept, wants_sent, with_work, without, work_of}
+use Rattle.lard_law_view.specs.Prelude.{Asked, BackRow, Content, ControlBlock, Ending, EndpointParts, Final, Forwarded, IsNumber, IsRecordInRange, IsValidParts, Kept, Node, NodeDeed, NodeEnv, NodeGets, NodePart, NodeTurn, Offered, Place, Progress, Said, Stay, Tagged, Turn, Want, Work, after_timer, again_sent, all_sent, anew, ask_kept, asked_kept, asked_sent, back_endpoint, came_for, come_progress, ended_kept, ended_sent, fetch_of, gave_by, goes_on, gone, kept_after, node_begins, node_fired, node_rule, node_saying, on_segment, read_progress, reads_batch, reset_count, sent_of, serving, serving_ready_of, serving_settled, spoken, state_of, tagged, taken_sent, timed, turn_by, wants_kept, wants_sent, with_work, without, work_of}
 use Rattle.lard_base.specs.declared.place.TimerKind.TheVariants as kind
 use Rattle.lard_rules.specs.Bounds as cluster
 use Rattle.lard_laws.proofs.RecordsCounted.{IsCounted, came-counts, tagged-counts}

@@ -6,7 +6,7 @@ use Rattle.std.proofs.lemmas.Bool.Decides.{nat_tests}
 use Rattle.std.proofs.lemmas.List.{length-take}
 use Rattle.std.proofs.lemmas.Option.{slice_get_within}
 use Rattle.std.specs.List.{list_any}
-use Rattle.lard_law_view.specs.Prelude.{Acknowledged, BackIn, BackRow, Body, Completed, Content, Fires, Forwarded, Job, Kind, Message, MsgFault, NodeDeed, NodeEnv, NodeGets, NodePart, NodeSetting, NodeState, NodeTurn, Offered, Out, Place, Progress, Tagged, ToCluster, Verdict, Work, aside, batch_of, body_at, bytes_used, came_for, come_on, come_progress, completed, connection_at, content_sent, decoded, decoded_message, disk_step, epoch_at as message_epoch, fetched, fetched_file, goes_on, has_path, here, is_for, is_of_table, is_version, job_at, kind_named, length_at, node_begins, node_brought, node_deed, node_env, node_epoch_at, node_gets, node_hears, node_part, node_read, node_rule, node_saying, node_step, nothing_done, number_byte, on_segment, own_job, read_progress, reads_batch, state_of, tagged, version_at, with_body, with_kind, without_job, work_of}
+use Rattle.lard_law_view.specs.Prelude.{Acknowledged, BackIn, BackRow, Body, Completed, Content, Fires, Forwarded, Job, Kind, Message, MsgFault, NodeDeed, NodeEnv, NodeGets, NodePart, NodeSetting, NodeState, NodeTurn, Offered, Out, Place, Progress, Tagged, ToCluster, Verdict, Work, aside, batch_of, body_at, bytes_used, came_for, come_on, come_progress, completed, connection_at, content_sent, decoded, decoded_message, disk_step, epoch_at as message_epoch, fetched, fetched_file, goes_on, has_path, is_for, is_of_table, is_version, job_at, kind_named, length_at, node_begins, node_brought, node_deed, node_env, node_epoch_at, node_gets, node_hears, node_part, node_read, node_rule, node_saying, node_step, nothing_done, number_byte, on_segment, own_job, read_progress, reads_batch, state_of, tagged, version_at, with_body, with_kind, without_job, work_of}
 use Rattle.lard_base.specs.declared.ids.TheConstants.ConnId.{MAX}
 use Rattle.lard_base.specs.declared.place.Place.TheVariants as place
 use Rattle.lard_journal.specs.declared.rec.Rec.TheVariants as rec

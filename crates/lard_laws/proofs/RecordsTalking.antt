@@ -35,8 +35,7 @@ says-decodes Front (Node n) bytes h a b = decodes bytes h
 says-decodes (Node k) Front bytes h a b = decodes bytes h
 says-decodes (Node k) (Node n) bytes h a b = decodes bytes h
 says-decodes (Client c) to bytes h a b = absurd a
-says-decodes Front (Client d) bytes h a b = absurd b
-says-decodes (Node k) (Client d) bytes h a b = absurd b
+says-decodes _ (Client d) bytes h a b = absurd b
 
 -- ---- all that a journal tells
 

@@ -228,9 +228,7 @@ module _ (x : Conn) (v : Move) (own : IsItsOwn x v) (owes : Owes x v) (placed : 
   row-still q (Some row) found other h = go row.stage refl h where
     go : (d : BackConn) → row.stage ≡ d → StageTold (stand_at x).told d → StageTold (stand_at (grown x v)).told d
     go (back.Here b) at t = subst (λ (o : Option Said). StageTold o (back.Here b)) (sym (silent-told (Node q) (has-at x placed q row b found at x.part.front.row refl).owner other)) t
-    go back.Out at t = tt
-    go back.Ended at t = tt
-    go back.Gone at t = tt
+    go _ at t = tt
 
   node-still : (q : ℕ) → v.place ≢ Node q → (v.part.nodes q).row ≡ (x.part.nodes q).row → RowTold (stand_at x).told (x.part.nodes q).row → RowTold (stand_at (grown x v)).told (v.part.nodes q).row
   node-still q other same h = subst (RowTold (stand_at (grown x v)).told) (sym same) (row-still q (x.part.nodes q).row refl other h)

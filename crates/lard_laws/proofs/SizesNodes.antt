@@ -1,7 +1,7 @@
 -- Each rule of a node tells its client all that came, and asks for what its batch is.
 use Rattle.std.proofs.Common.{◌≡◌, ◌≤◌, ◌+◌, ◌^◌, ℕ, cond, List, [], ◌∷◌, ◌++◌, map, Option, Some, None, inl, refl, sym, ap, ◌∙◌, subst, arith}
 use Rattle.std.proofs.lemmas.List.{map-append}
-use Rattle.lard_law_view.specs.Prelude.{AreSent, BackRow, Completed, Conn, ControlBlock, EndpointParts, FilesAt, Front, IsConnNumber, IsConnSound, IsNodeEnv, Kept, Move, Node, NodeDeed, NodeEnv, NodeGets, NodePart, NodeRules, NodeTurn, Place, Rec, Seen, Setting, Stay, Tale, Talk, after_timer, again_sent, came_for, come_progress, content_said, front_rest, goes_on, gone, here, named_records, node_does, node_fired, node_rule, nothing_said, offer_answer, offered_by, on_segment, packet_seen, read_progress, reads_first, seen_step, sent_of, served_in, serving, serving_ready_of, spoken, stands, tagged, taken_sent, tale_at, tale_step, timed, with_node, with_work, without, work_of}
+use Rattle.lard_law_view.specs.Prelude.{AreSent, BackRow, Completed, Conn, ControlBlock, EndpointParts, FilesAt, Front, IsConnNumber, IsConnSound, IsNodeEnv, Kept, Move, Node, NodeDeed, NodeEnv, NodeGets, NodePart, NodeRules, NodeTurn, Place, Rec, Seen, Setting, Stay, Tale, Talk, after_timer, again_sent, came_for, come_progress, content_said, front_rest, goes_on, gone, named_records, node_does, node_fired, node_rule, nothing_said, offer_answer, offered_by, on_segment, packet_seen, read_progress, reads_first, seen_step, sent_of, served_in, serving, serving_ready_of, spoken, stands, tagged, taken_sent, tale_at, tale_step, timed, with_node, with_work, without, work_of}
 use Rattle.lard_base.specs.declared.place.TimerKind.TheVariants as timer
 use Rattle.lard_law_connections.specs.BytesAgreement.{IsOpen, IsTruthful}
 use Rattle.lard_law_connections.proofs.BytesLaw.{IsHead}

@@ -1,6 +1,6 @@
 -- A node that takes a connection asks for what its first batch is.
 use Rattle.std.proofs.Common.{◌≡◌, ◌≤◌, ◌^◌, ℕ, Bool, true, List, [], ◌∷◌, length, take, Option, Some, None, inl, refl, sym, ap, ◌∙◌, subst}
-use Rattle.lard_law_view.specs.Prelude.{Conn, ControlBlock, EndpointParts, FilesAt, Front, FrontRest, IsConnNumber, IsNodeEnv, Node, NodeDeed, NodeEnv, NodePart, Numbers, Place, Setting, SpellsMessage, Station, Stream, Talk, Verdict, Was, Work, batch_of, front_rest, may_freeze, node_begins, offer_answer, offered_by, parts_of, reads_batch, state_of, taken_sent, verdicts}
+use Rattle.lard_law_view.specs.Prelude.{Conn, ControlBlock, EndpointParts, FilesAt, Front, IsConnNumber, IsNodeEnv, Node, NodeDeed, NodeEnv, NodePart, Numbers, Place, Setting, SpellsMessage, Station, Stream, Talk, Verdict, Was, Work, batch_of, may_freeze, node_begins, offer_answer, offered_by, parts_of, reads_batch, state_of, taken_sent, verdicts}
 use Rattle.lard_law_connections.specs.BytesAgreement.{FrontHolds, IsOpen}
 use Rattle.lard_law_connections.specs.BytesKeeping.{IsTalk}
 use Rattle.lard_law_connections.proofs.BytesNodeTurns.{talk-of}
@@ -58,9 +58,6 @@ module _ (k : Setting) (small : k.stream ≤ 2 ^ 30) (x : Conn) (number : IsConn
 
   abbrev m : ways_specs.WayMarks
   m = marks_at x
-
-  abbrev r : FrontRest
-  r = front_rest x.part.front.rest
 
   abbrev p : NodePart
   p = x.part.nodes n

@@ -162,10 +162,7 @@ module _ (files : FilesAt) (past step : List Rec) where
       let fits : SentFits files m.c (requests_read past m.c) (own m.c past) (seen_now m.c) (Node n) Front bytes = h m.c u names.named in
       let seen = fits (λ s. new (own-sends (Node n) Front bytes m.c past s)) m d in
       subst (λ (t : SizeMarks). BodyIsOfBatch files (requests_read past m.c) t m.body) now seen
-  asks-to Front to bytes h = tt
-  asks-to (Client d) to bytes h = tt
-  asks-to (Node n) (Node i) bytes h = tt
-  asks-to (Node n) (Client d) bytes h = tt
+  asks-to _ _ bytes h = tt
 
   may-ask : (r : Rec) → ((c : ℕ) → is_touched past c ≡ false → Sees c r) → MayAsk files past step r
   may-ask (rec.Sent k from to bytes) h = asks-to from to bytes h

@@ -25,7 +25,6 @@ use Rattle.lard_laws.specs.Ways as ways_specs
 use Rattle.lard_laws.proofs.WaysGoods.{good-append, prefix-take}
 use Rattle.lard_laws.proofs.WaysLying.{under-paths}
 use Rattle.lard_history.proofs.Each.{Each, Each-append}
-use Rattle.lard_rules.specs.Node as node
 use Rattle.lard_rules.specs.Node.{Does}
 use Rattle.lard_rules.specs.declared.places.Ending.TheVariants as ending
 

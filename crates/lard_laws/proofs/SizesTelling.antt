@@ -1,5 +1,5 @@
 -- What the client of a connection is told in a turn of its node: the last segment acknowledges all that came.
-use Rattle.std.proofs.Common.{◌≡◌, ◌⊎◌, ◌≤◌, ◌+◌, ℕ, Bool, true, false, List, [], ◌∷◌, ◌++◌, Option, Some, inl, inr, ⊎_elim, refl, sym, ap, ◌∙◌, arith}
+use Rattle.std.proofs.Common.{◌≡◌, ◌⊎◌, ◌≤◌, ℕ, Bool, true, false, List, [], ◌∷◌, ◌++◌, Option, Some, inl, inr, ⊎_elim, refl, sym, ap, ◌∙◌, arith}
 use Rattle.std.proofs.lemmas.Bool.{cond_both}
 use Rattle.std.proofs.lemmas.List.{length-drop}
 use Rattle.lard_law_view.specs.Prelude.{ControlBlock, Ending, NodeEnv, Place, Said, ServeEnv, Service, Stream, ToClient, Verdict, Via, Work, after_timer, answer, answered, awaited, closed_behind, closes, consuming, cut_off, decoded, discarding_on, emits_left, ended_at_fin, final_of, finishing, goes_on, limit_said, on_segment, queueing, rcv_nxt, rcv_wnd, reads_batch, receive_room, serving, serving_ready_of, serving_settled, serving_told, speaks, speaks_symbols, spoken, state_of, timed}

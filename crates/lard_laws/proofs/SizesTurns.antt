@@ -77,9 +77,7 @@ reads-reach u wrote o (Some row) h = go row.stage h where
 
   go : (d : BackConn) → StageReads u o d → StageReach u wrote o d
   go (back.Here b) h = stays b o h
-  go back.Out h = tt
-  go back.Ended h = tt
-  go back.Gone h = tt
+  go _ h = tt
 
 -- So many requests of a connection were read: where no node has it, each is answered as it is read.
 pub record Reads (u : ℕ) (x : Conn) : Type 0 where

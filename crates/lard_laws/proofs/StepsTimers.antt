@@ -61,8 +61,7 @@ still-both xs ys e f = Each-append (λ r. is_change r ≡ false) xs ys e f
 rows-change : (place : Place) (c : ℕ) (p q : Part) → timer_rows place c p q ≡ changes place c (armed_at place p) (armed_at place q) timer_kinds
 unfolding timer_rows
 rows-change (Client d) c p q = sym (append-nil (timer_change (Client d) c (client_armed p.station Tcp) (client_armed q.station Tcp)))
-rows-change Front c p q = refl
-rows-change (Node n) c p q = refl
+rows-change _ c p q = refl
 
 -- ---- a move changes what its own place keeps, or nothing
 

@@ -1,7 +1,7 @@
 -- What the front end does leaves the last Tag with nodes that are there, and with as many as requests wait for one.
-use Rattle.std.proofs.Common.{◌≡◌, ◌≤◌, ◌+◌, ◌==◌, ◌&&◌, ℕ, true, false, List, [], length, map, Option, Some, None, Result, Ok, Err, refl, sym, ap, ◌∙◌, subst, arith, eqb-true, inr, ⊎_elim}
+use Rattle.std.proofs.Common.{◌≡◌, ◌≤◌, ◌+◌, ◌++◌, ◌==◌, ◌&&◌, ℕ, true, false, List, [], length, map, Option, Some, None, refl, sym, ap, ◌∙◌, subst, arith, eqb-true, inr, ⊎_elim}
 use Rattle.std.proofs.lemmas.Bool.{and_parts}
-use Rattle.lard_law_view.specs.Prelude.{Ask, Conn, ControlBlock, Did, Ending, FilesAt, Final, FirstChoice, Front, FrontConn, FrontDeed, FrontEnv, FrontPart, FrontRest, FrontRow, FrontTurn, Move, Node, Row, Said, Seen, SegFault, Service, SpellsMessage, Was, ask_of, assigns, front_admits, front_admitted, front_asked, front_does, front_ended, front_ends, front_fired, front_gets, front_rest, front_rests, front_taken, front_timer, grown, is_row_at, is_with, next_epoch, offering, packet_seen, placed, rows_of, serving, serving_settled, spoken, tale_at}
+use Rattle.lard_law_view.specs.Prelude.{Ask, Conn, ControlBlock, Did, Ending, FilesAt, Front, FrontConn, FrontDeed, FrontEnv, FrontGets, FrontPart, FrontRest, FrontRow, Move, Node, Row, Said, Seen, Service, assigns, front_does, front_ends, front_fired, front_rest, front_rests, front_rule, grown, is_row_at, is_with, next_epoch, offering, packet_seen, rows_of, serving, serving_settled, spoken, tale_at}
 use Rattle.lard_laws.proofs.AsksMoving.{Fills}
 use Rattle.lard_law_connections.specs.Places.{ArePast, IsPast, Sits, owning}
 use Rattle.lard_law_connections.proofs.PlacesFrontRules.{has-each}
@@ -14,7 +14,8 @@ use Rattle.lard_handoff_front.specs.declared.row.FrontConn.TheVariants as stage
 use Rattle.lard_history.proofs.Each.{Each}
 use Rattle.lard_message.specs.declared.message.Body.TheVariants as body
 use Rattle.lard_rules.specs.declared.places.Ending.TheVariants as ending
-use Rattle.lard_rules.proofs.FrontCases.{KeptBySegment, IsInStage, of-stage, begun_row, begun_service, heard_service, waiting_service, segment-keeps, timer-keeps, taken-keeps, asked-keeps, ended-keeps, admitted-keeps}
+use Rattle.lard_law_view.proofs.EachFront.{FrontComes, HasAsk, admission}
+use Rattle.lard_rules.proofs.FrontCases.{IsInStage, KeptByFront, KeptBySegment, begun_row, begun_service, front-keeps, heard_service, of-stage, waiting_service}
 
 -- the nodes of the Tag of what is kept, if anything is
 tags-of : (N : ℕ → Type 0) (o : Option FrontRest) → ((r : FrontRest) → o ≡ Some r → Each N r.tag) → Each N (front_rest o).tag
@@ -70,49 +71,6 @@ module _ (N : ℕ → Type 0) (files : FilesAt) (x : Conn) (facts : Facts files 
   past-waiting : (row : FrontRow) (b : ControlBlock) → IsInStage p row (stage.Waiting b) → ArePast row.epoch.0 x.part.nodes
   past-waiting row b at = (of-stage (Sits (owning (tale_at x)) x.part.nodes) p row (stage.Waiting b) at facts.placed.sits).0.1.1
 
-  -- ---- segments and the timer
-
-  by-segment : (env : FrontEnv) (bytes : List ℕ) (s : Said) → KeptBySegment env p bytes s (λ w o. Unit {0}) DeedFits
-  by-segment env bytes s = record {
-    drops = tt;
-    begins = λ none plain. held-rests begun_row (front_rest None) tt (spoken env.serve (begun_service env s) []).0;
-    reads = λ row b at. tt;
-    holds = λ row b w at r. held-rests row (front_rest p.rest) mine (serving_settled env.serve w).0;
-    hands = λ row b w path choice at r is. offering-fits env row w path choice.node row.epoch.0 (past-held row b at);
-    waits = λ row b w path at r is. waiting-rests row (record (front_rest p.rest) { target = Some path }) mine (spoken env.serve (waiting_service env w) []).0;
-    stays = λ row b at. waiting-rests row (front_rest p.rest) mine (spoken env.serve (heard_service p b s) []).0;
-    forwards = λ row n e at. tt;
-    words = λ row last at. tt;
-  }
-
-  pub gets-fit : (env : FrontEnv) (bytes : List ℕ) (r : Result Said SegFault) → DeedFits (front_gets env p bytes r)
-  gets-fit env bytes (Err fault) = tt
-  gets-fit env bytes (Ok s) = segment-keeps env p bytes s (λ w o. Unit {0}) DeedFits (by-segment env bytes s)
-
-  pub timer-fits : (env : FrontEnv) → DeedFits (front_timer env p)
-  timer-fits env = timer-keeps env p DeedFits (record {
-    drops = tt;
-    holds = λ row b at. held-rests row (front_rest p.rest) mine (front_fired env (front_rest p.rest) b).0;
-    stays = λ row b at. waiting-rests row (front_rest p.rest) mine (front_fired env (front_rest p.rest) b).0;
-    resends = λ row n e at. tt;
-  })
-
-  -- ---- messages of nodes
-
-  pub taken-fits : (epoch : ℕ) → DeedFits (front_taken p epoch)
-  taken-fits epoch = taken-keeps p DeedFits tt epoch (λ row node d at same.
-      (h.nodes, λ n e b s r there. h.fits n e b s r (ap (is_row_at n e) at.0 ∙ ap (is_with n e) at.1 ∙ ap (λ (i : ℕ). node == n && i == e) same ∙ there)))
-
-  pub ended-fits : (env : FrontEnv) (n epoch : ℕ) (last : Final) → DeedFits (front_ended env p n epoch last)
-  ended-fits env n epoch last = ended-keeps p DeedFits tt env n epoch last (λ row found away again. tt) (λ row found away.
-      ((λ r is. let no : None ≡ Some r = is in absurd cc), at-none (front_ends env p n epoch last row (next_epoch row)).part (λ m e is. let no : false ≡ true = is in absurd cc)))
-
-  -- ---- the head of the line
-
-  pub admitted-fits : (env : FrontEnv) (choice : FirstChoice) (given : FrontPart × FrontTurn) → front_admitted env p choice ≡ Some given → PartFits given.0
-  admitted-fits env choice = admitted-keeps env p choice (λ given. PartFits given.0)
-      (λ row b path at target. offering-fits env row (serving b (front_rest p.rest).count []) path choice.node row.epoch.0 (past-waiting row b at))
-
   -- ---- an Ask
 
   -- it is with one node, in one epoch
@@ -131,47 +89,75 @@ module _ (N : ℕ → Type 0) (files : FilesAt) (x : Conn) (facts : Facts files 
         let s = and_parts (node == n) (f.0 == e) a in
         let t = and_parts (node == m) (f.0 == d) b in (sym (eqb-true node m t.0) ∙ eqb-true node n s.0, sym (eqb-true f.0 d t.1) ∙ eqb-true f.0 e s.1)
 
-  module _ (env : FrontEnv) (n epoch number queue size : ℕ) (paths : List (List ℕ)) (bytes : List ℕ) (spells : SpellsMessage x.c epoch (body.Ask number queue size paths) bytes) (was : Was x (Node n) Front bytes) where
-    abbrev heads : List Seen
-    heads = packet_seen (Node n) Front bytes
-
-    abbrev ask : Ask
-    ask = ask_of x.c n number queue size paths
+  module _ (env : FrontEnv) (heads : List Seen) where
+    abbrev Fit : FrontDeed → Type 0
+    Fit d = Fills x (grown x (front_does x heads d)) → Names N x (grown x (front_does x heads d)) → DeedFits d
 
     -- what was answered stays so, and what is answered now gets a node for each path
-    assigned-fits : (r : FrontRest) → p.rest ≡ Some r → is_row_at n epoch p.row ≡ true → number ≡ r.asks + 1 → let v : Move = front_does x heads (Does (assigns env p r n epoch ask (env.later ask))) in Fills x (grown x v) → Names N x (grown x v) → PartFits (assigns env p r n epoch ask (env.later ask)).part
-    assigned-fits r found at next fills names =
+    assigned-fits : (n epoch : ℕ) (ask : Ask) → HasAsk x n epoch ask heads → (r : FrontRest) → p.rest ≡ Some r → is_row_at n epoch p.row ≡ true → ask.number ≡ r.asks + 1 → Fit (Does (assigns env p r n epoch ask (env.later ask)))
+    assigned-fits n epoch ask m r found at next fills names =
         let did : Did = assigns env p r n epoch ask (env.later ask) in
         let v : Move = front_does x heads (Does did) in
-        let new : FrontRest = record r { asks = number; tag = map (λ y. y.node) (env.later ask).choices; assigned = r.assigned + length (env.later ask).choices } in
-        let full : length new.tag ≡ length paths = fills n epoch number queue size paths bytes (map Row (rows_of x v)) r new refl spells at found next refl in
-        let said : NodeSaysWays files (marks_at x) x.part n epoch (body.Ask number queue size paths) = (has-each (LetterWays files (marks_at x) x.part) _ x.letters was facts.ways.letters) _ spells in
-        let is : AskIs files (marks_at x) r (x.part.nodes n).stay number paths = subst (λ (q : FrontRest). AskIs files (marks_at x) q (x.part.nodes n).stay number paths) (ap front_rest found) (said.1 at) in (
-          one-tag N new (names n epoch number queue size paths bytes (map Row (rows_of x v)) r new refl spells at found next refl),
-          λ m e b s q there row stay rest answered.
-              let place = one-place p.row n m epoch e at there in
+        let told = m.told in
+        let new : FrontRest = record r { asks = ask.number; tag = map (λ y. y.node) (env.later ask).choices; assigned = r.assigned + length (env.later ask).choices } in
+        let mine : m.number ≡ r.asks + 1 = ap (λ (a : Ask). a.number) (sym m.is) ∙ next in
+        let seen : (grown x v).seen ≡ x.seen ++ (packet_seen (Node n) Front told.bytes ++ map Row (rows_of x v)) = ap (λ (hs : List Seen). x.seen ++ (hs ++ map Row (rows_of x v))) told.seen in
+        let full : length new.tag ≡ length m.paths = fills n epoch m.number m.queue m.size m.paths told.bytes (map Row (rows_of x v)) r new seen told.spells at found mine refl in
+        let said : NodeSaysWays files (marks_at x) x.part n epoch (body.Ask m.number m.queue m.size m.paths) = (has-each (LetterWays files (marks_at x) x.part) _ x.letters told.was facts.ways.letters) _ told.spells in
+        let is : AskIs files (marks_at x) r (x.part.nodes n).stay m.number m.paths = subst (λ (q : FrontRest). AskIs files (marks_at x) q (x.part.nodes n).stay m.number m.paths) (ap front_rest found) (said.1 at) in (
+          one-tag N new (names n epoch m.number m.queue m.size m.paths told.bytes (map Row (rows_of x v)) r new seen told.spells at found mine refl),
+          λ i e b s q there row stay rest answered.
+              let place = one-place p.row n i epoch e at there in
               let same : new ≡ q = cc in
-              let stay_is : (x.part.nodes n).stay ≡ Some s = ap (λ (i : ℕ). (x.part.nodes i).stay) (sym place.0) ∙ stay in
+              let stay_is : (x.part.nodes n).stay ≡ Some s = ap (λ (j : ℕ). (x.part.nodes j).stay) (sym place.0) ∙ stay in
               ⊎_elim
-              (λ (old : number ≤ r.asks). absurd (omega (arith, old, next)))
+              (λ (old : m.number ≤ r.asks). absurd (omega (arith, old, mine)))
               (λ (now : _).
-              let asks : StayAsks files (r.asks + 1) paths (Some s) = subst (StayAsks files (r.asks + 1) paths) stay_is now.2 in
+              let asks : StayAsks files (r.asks + 1) m.paths (Some s) = subst (StayAsks files (r.asks + 1) m.paths) stay_is now.2 in
               inr (ap (λ (t : FrontRest). length t.tag) (sym same) ∙ full ∙ ap length asks.1))
               is,
         )
 
-    abbrev Fit : FrontDeed → Type 0
-    Fit d = Fills x (grown x (front_does x heads d)) → Names N x (grown x (front_does x heads d)) → DeedFits d
+    -- ---- whatever comes
 
-    pub asked-fits : Fit (front_asked env p n epoch ask)
-    asked-fits = asked-keeps p Fit (λ fills names. tt) env n epoch ask (λ rest found there same some fills names. tt) (λ rest found there next fills names. assigned-fits rest found there next fills names)
+    by-segment : (bytes : List ℕ) (s : Said) → KeptBySegment env p bytes s (λ w o. Unit {0}) Fit
+    by-segment bytes s = record {
+      drops = λ fills names. tt;
+      begins = λ none plain fills names. held-rests begun_row (front_rest None) tt (spoken env.serve (begun_service env s) []).0;
+      reads = λ row b at. tt;
+      holds = λ row b w at r fills names. held-rests row (front_rest p.rest) mine (serving_settled env.serve w).0;
+      hands = λ row b w path choice at r is fills names. offering-fits env row w path choice.node row.epoch.0 (past-held row b at);
+      waits = λ row b w path at r is fills names. waiting-rests row (record (front_rest p.rest) { target = Some path }) mine (spoken env.serve (waiting_service env w) []).0;
+      stays = λ row b at fills names. waiting-rests row (front_rest p.rest) mine (spoken env.serve (heard_service p b s) []).0;
+      forwards = λ row n e at fills names. tt;
+      words = λ row last at fills names. tt;
+    }
 
-  -- ---- its move
+    by-rules : KeptByFront env p (FrontComes x env heads) (λ w o. Unit {0}) Fit
+    by-rules = record {
+      drops = λ fills names. tt;
+      hears = λ bytes s m. by-segment bytes s;
+      fires = λ m. record {
+        drops = λ fills names. tt;
+        holds = λ row b at fills names. held-rests row (front_rest p.rest) mine (front_fired env (front_rest p.rest) b).0;
+        stays = λ row b at fills names. waiting-rests row (front_rest p.rest) mine (front_fired env (front_rest p.rest) b).0;
+        resends = λ row n e at fills names. tt;
+      };
+      takes = λ from epoch m row node d at same fills names.
+          (h.nodes, λ n e b s r there. h.fits n e b s r (ap (is_row_at n e) at.0 ∙ ap (is_with n e) at.1 ∙ ap (λ (i : ℕ). node == n && i == e) same ∙ there));
+      tags_again = λ n epoch ask m rest found there same some fills names. tt;
+      assigns_next = assigned-fits;
+      ends_again = λ n epoch last m row found away again fills names. tt;
+      ends = λ n epoch last m row found away fills names.
+          ((λ r is. let no : None ≡ Some r = is in absurd cc), at-none (front_ends env p n epoch last row (next_epoch row)).part (λ m e is. let no : false ≡ true = is in absurd cc));
+      admits = λ choice row b path at target fills names. offering-fits env row (serving b (front_rest p.rest).count []) path choice.node row.epoch.0 (past-waiting row b at);
+    }
 
-  pub front-move : (seen : List Seen) (d : FrontDeed) → DeedFits d → NamesNodes N files (grown x (front_does x seen d))
-  front-move seen Drops k = record { nodes = h.nodes; fits = h.fits }
-  front-move seen (Says turn) k = record { nodes = h.nodes; fits = h.fits }
-  front-move seen (Does did) k = record { nodes = k.0; fits = k.1 }
+    front-move : (d : FrontDeed) → DeedFits d → NamesNodes N files (grown x (front_does x heads d))
+    front-move Drops k = record { nodes = h.nodes; fits = h.fits }
+    front-move (Says turn) k = record { nodes = h.nodes; fits = h.fits }
+    front-move (Does did) k = record { nodes = k.0; fits = k.1 }
 
-  pub admitted-move : (given : FrontPart × FrontTurn) → PartFits given.0 → NamesNodes N files (grown x (front_admits x given))
-  admitted-move given k = record { nodes = k.0; fits = k.1 }
+    pub rule-fits : (g : FrontGets) → FrontComes x env heads g → let y : Conn = grown x (front_does x heads (front_rule env p g)) in Fills x y → Names N x y → NamesNodes N files y
+    rule-fits g comes fills names = front-move (front_rule env p g)
+        (front-keeps env p (FrontComes x env heads) (λ w o. Unit {0}) Fit by-rules g (admission x env heads g comes) comes fills names)

@@ -1,18 +1,17 @@
 -- What a node does leaves the last Tag with as many nodes as requests wait for one.
-use Rattle.std.proofs.Common.{◌≡◌, ◌⊎◌, ◌+◌, ◌==◌, ℕ, true, false, List, [], length, Option, Some, None, refl, sym, ap, ◌∙◌, subst, arith, eqb-true, inl, inr, ⊎_elim}
-use Rattle.std.proofs.lemmas.Bool.{and_parts}
-use Rattle.lard_law_view.specs.Prelude.{Adopt, BackRow, Conn, ControlBlock, EndpointParts, FilesAt, FrontConn, FrontRest, FrontRow, NodeDeed, NodeEnv, NodePart, Seen, Stay, front_rest, goes_on, grown, here, is_row_at, is_with, named_paths, node_begins, node_does, node_rests, offer_answer, offered_by, reads_batch, state_of, taken_sent, tale_at}
+use Rattle.std.proofs.Common.{◌≡◌, ◌⊎◌, ◌+◌, ℕ, true, List, [], length, Option, Some, None, refl, sym, ap, ◌∙◌, subst, arith, inl, inr, ⊎_elim}
+use Rattle.lard_law_view.specs.Prelude.{Adopt, BackRow, Conn, ControlBlock, EndpointParts, FilesAt, FrontRest, NodeDeed, NodeEnv, NodePart, Seen, Stay, front_rest, goes_on, grown, here, is_row_at, named_paths, node_begins, node_does, node_rests, offer_answer, offered_by, reads_batch, state_of, taken_sent}
 use Rattle.lard_law_connections.proofs.KeptHere.{IsHere, here-is}
 use Rattle.lard_law_connections.proofs.KeptNodes.{DeedFollows, DeedGoes, IsOfEpoch, MayFollow, StayFollows}
-use Rattle.lard_law_connections.specs.Places.{IsPast, Sits, StageSits, owning}
+use Rattle.lard_law_connections.specs.Places.{IsPast}
 use Rattle.lard_law_connections.proofs.PlacesNodeRules.{not-decided}
 use Rattle.lard_law_connections.proofs.PlacesTurns.{IsPlaced}
 use Rattle.lard_laws.specs.Tags.{FitsAt, NamesNodes}
 use Rattle.lard_law_view.proofs.Parts.{put-each}
+use Rattle.lard_laws.proofs.WaysFrontAnswers.{with-of}
 use Rattle.lard_laws.specs.WaysState.{GoesItsWay, IsAway, SeatWays, StageWays, StayWays, marks_at}
 use Rattle.lard_handoff_back.specs.declared.row.BackConn.TheVariants as back
-use Rattle.lard_handoff_back.specs.declared.table.Adopt.TheVariants.{New, Again, Stale}
-use Rattle.lard_handoff_front.specs.declared.row.FrontConn.TheVariants as stage
+use Rattle.lard_handoff_back.specs.declared.table.Adopt.TheVariants.{New}
 use Rattle.lard_rules.specs.Node.{Drops, Says, Does}
 
 -- what is known of a connection beside its Tags
@@ -27,38 +26,11 @@ module _ (files : FilesAt) (x : Conn) (facts : Facts files x) (n e : ℕ) (r : F
   p = x.part.nodes n
 
   -- it is away with this node, in this epoch
-  pub record IsItsAway : Type 0 where
-    pub away : IsAway files (marks_at x) r n e p
-
-  away-is : IsItsAway
-  away-is = go x.part.front.row refl at where
-    by-stage : (row : FrontRow) → x.part.front.row ≡ Some row → (st : FrontConn) → row.stage ≡ st → is_with n e st ≡ true → IsItsAway
-    by-stage row is (stage.Held b) eq t = let no : false ≡ true = t in absurd cc
-    by-stage row is (stage.Waiting b) eq t = let no : false ≡ true = t in absurd cc
-    by-stage row is stage.Lent eq t = let no : false ≡ true = t in absurd cc
-    by-stage row is (stage.Closed last) eq t = let no : false ≡ true = t in absurd cc
-    by-stage row is (stage.Offering m d) eq t =
-        let tests = and_parts (m == n) (d.0 == e) t in
-        let node : m ≡ n = eqb-true m n tests.0 in
-        let sits : StageSits row.epoch.0 (owning (tale_at x)) x.part.nodes (stage.Offering m d) =
-        subst (StageSits row.epoch.0 (owning (tale_at x)) x.part.nodes) eq (subst (Sits (owning (tale_at x)) x.part.nodes) is facts.placed.sits).0 in
-        let epoch : row.epoch.0 ≡ e = sym sits.1 ∙ eqb-true d.0 e tests.1 in
-        let its : StageWays files (marks_at x) x.part row.epoch.0 (stage.Offering m d) =
-        subst (StageWays files (marks_at x) x.part row.epoch.0) eq (subst (SeatWays files (marks_at x) x.part) is facts.ways.seat) in
-        record { away = subst (λ (t : FrontRest × ℕ × ℕ). IsAway files (marks_at x) t.0 t.1 t.2 (x.part.nodes t.1)) (λ i. (ap front_rest found i, node i, epoch i)) its }
-    by-stage row is (stage.Moved m d) eq t =
-        let tests = and_parts (m == n) (d.0 == e) t in
-        let node : m ≡ n = eqb-true m n tests.0 in
-        let sits : StageSits row.epoch.0 (owning (tale_at x)) x.part.nodes (stage.Moved m d) =
-        subst (StageSits row.epoch.0 (owning (tale_at x)) x.part.nodes) eq (subst (Sits (owning (tale_at x)) x.part.nodes) is facts.placed.sits).0 in
-        let epoch : row.epoch.0 ≡ e = sym sits.1 ∙ eqb-true d.0 e tests.1 in
-        let its : StageWays files (marks_at x) x.part row.epoch.0 (stage.Moved m d) =
-        subst (StageWays files (marks_at x) x.part row.epoch.0) eq (subst (SeatWays files (marks_at x) x.part) is facts.ways.seat) in
-        record { away = subst (λ (t : FrontRest × ℕ × ℕ). IsAway files (marks_at x) t.0 t.1 t.2 (x.part.nodes t.1)) (λ i. (ap front_rest found i, node i, epoch i)) its }
-
-    go : (o : Option FrontRow) → x.part.front.row ≡ o → is_row_at n e o ≡ true → IsItsAway
-    go None is t = let no : false ≡ true = t in absurd cc
-    go (Some row) is t = by-stage row is row.stage refl t
+  away-is : IsAway files (marks_at x) r n e p
+  away-is =
+      let w = with-of x n e facts.placed at in
+      let seat : StageWays files (marks_at x) x.part w.row.epoch.0 w.row.stage = subst (SeatWays files (marks_at x) x.part) w.found facts.ways.seat in
+      subst (λ (t : FrontRest × ℕ). IsAway files (marks_at x) t.0 n t.1 p) (λ i. (ap front_rest found i, w.same i)) ((w.away files (marks_at x) x.part w.found).0 seat)
 
   -- its last Ask was answered, or not yet
   pub asks-are : (b : ControlBlock) (s : Stay) → IsHere e p b s → (s.asks ≡ r.asks) ⊎ ((s.asks ≡ r.asks + 1) × (named_paths files s.batch ≡ [] → ⊥))
@@ -67,11 +39,11 @@ module _ (files : FilesAt) (x : Conn) (facts : Facts files x) (n e : ℕ) (r : F
       (λ there.
       let stay : StayWays files n (marks_at x) r (Some s) = subst (StayWays files n (marks_at x) r) h.stay there.2 in
       ⊎_elim (λ (q : _). inl q.0) (λ (q : _). inr (q.0, q.2)) stay.asking)
-      away-is.away
+      away-is
 
   -- where an Offer of this epoch is new, no Ask was answered
   pub none-answered : offer_answer e p.row ≡ New → r.asks ≡ 0
-  none-answered new = ⊎_elim (λ past. past.1.asks) (λ there. absurd (not-decided e p.row new there.0)) away-is.away
+  none-answered new = ⊎_elim (λ past. past.1.asks) (λ there. absurd (not-decided e p.row new there.0)) away-is
 
 -- ---- a rule of a node
 
@@ -128,8 +100,7 @@ module _ (N : ℕ → Type 0) (files : FilesAt) (x : Conn) (facts : Facts files 
   pub offered-fit : (env : NodeEnv) (parts : EndpointParts) (a : Adopt) → offer_answer env.epoch ours.row ≡ a
       → DeedFollows files env.epoch 0 [] (offered_by env parts ours a) → DeedFits (offered_by env parts ours a)
   offered-fit env parts New new f = begins env.epoch (node_rests env ours (taken_sent env) (goes_on env (state_of (reads_batch env true (node_begins env parts))))).0 new f.0 f.1
-  offered-fit env parts Again new f = tt
-  offered-fit env parts Stale new f = tt
+  offered-fit env parts _ new f = tt
 
   -- ---- its move
 

@@ -1,10 +1,10 @@
 -- Each rule leaves the last Tag as it must be, by what the dispatcher answers, so it is in every run.
 use Rattle.std.proofs.Common.{◌≡◌, ℕ, false, true, List, [], ◌∷◌, Option, Some, None, Ok, refl, sym, ap, ◌∙◌, subst, inl, inr, ⊎_elim}
 use Rattle.std.proofs.lemmas.Bool.{cond_both}
-use Rattle.lard_law_view.specs.Prelude.{Acknowledged, BackRow, Client, ClientRules, Completed, Config, Conn, Content, Event, FilesAt, Fires, Forwarded, Front, FrontRules, HasRule, IsConnNumber, IsNode, IsNodeEnv, IsReached, Machine, Move, Node, NodeEnv, NodeGets, NodePart, NodeRules, Offered, Rules, Seen, Setting, Tagged, ToCluster, Untouched, ask_of, awaits_ack, config_check, conn, decoded, epoch_in, event_seen, file_at, front_asked, front_ended, front_gets, front_taken, front_timer, grown, here, is_gone, machine_start, machine_step, node_rule, node_saying, offer_answer, packet_seen, setting, tale_at, without}
+use Rattle.lard_law_view.specs.Prelude.{Acknowledged, BackRow, ClientRules, Completed, Config, Conn, Content, Event, FilesAt, Fires, Forwarded, FrontRules, HasRule, IsConnNumber, IsNode, IsNodeEnv, IsReached, Machine, Move, NodeEnv, NodeGets, NodePart, NodeRules, Offered, Rules, Seen, Setting, Tagged, Untouched, awaits_ack, config_check, conn, epoch_in, file_at, grown, here, is_gone, machine_start, machine_step, node_rule, node_saying, offer_answer, setting, tale_at, without}
 use Rattle.lard_law_view.proofs.EachClient.{each-client}
+use Rattle.lard_law_view.proofs.EachFront.{each-front}
 use Rattle.lard_base.proofs.Usable.{usable}
-use Rattle.lard_base.specs.declared.event.Event.TheVariants as event
 use Rattle.lard_laws.proofs.AsksFilling.{step-fills}
 use Rattle.lard_laws.proofs.AsksMoving.{Fills}
 use Rattle.lard_law_connections.specs.Kept.{IsKeptByStage, NodeKeepsMessages}
@@ -18,7 +18,7 @@ use Rattle.lard_law_connections.proofs.PolicyCounted.{IsCounted, reached-counted
 use Rattle.lard_laws.specs.TagsLaws.{ConnectionsNameNodes}
 use Rattle.lard_laws.specs.Tags.{NamesNodes}
 use Rattle.lard_laws.proofs.TagsChoices.{Names, step-names}
-use Rattle.lard_laws.proofs.TagsFronts.{admitted-fits, admitted-move, asked-fits, ended-fits, front-move, gets-fit, taken-fits, timer-fits}
+use Rattle.lard_laws.proofs.TagsFronts as fronts_of
 use Rattle.lard_laws.proofs.TagsNodes.{DeedFits, Facts, goes-fit, node-move, offered-fit}
 use Rattle.lard_law_view.specs.View as view
 use Rattle.lard_law_view.proofs.After.{IsAfter, step-after}
@@ -52,19 +52,7 @@ module _ (N : ℕ → Type 0) (k : Setting) where
   })
 
   fronts : FrontRules k Moves
-  fronts = record {
-    hears = λ x s env bytes there is iss was known fills names h. front-move N k.files x known.facts h (packet_seen (Client x.c) Front bytes) (front_gets env x.part.front bytes (decoded bytes x.c ToCluster))
-        (gets-fit N k.files x known.facts h env bytes (decoded bytes x.c ToCluster));
-    fires = λ x s env there is known fills names h. front-move N k.files x known.facts h (event_seen (event.Timer Front x.c)) (front_timer env x.part.front) (timer-fits N k.files x known.facts h env);
-    taken = λ x env n epoch bytes is spells was known fills names h. front-move N k.files x known.facts h (packet_seen (Node n) Front bytes) (front_taken x.part.front epoch) (taken-fits N k.files x known.facts h epoch);
-    asked = λ x env n epoch number queue size paths bytes is spells was known fills names h.
-        front-move N k.files x known.facts h (packet_seen (Node n) Front bytes) (front_asked env x.part.front n epoch (ask_of x.c n number queue size paths))
-        (asked-fits N k.files x known.facts h env n epoch number queue size paths bytes spells was fills names);
-    ended = λ x env n epoch reason snd rcv count bytes is spells was known fills names h.
-        front-move N k.files x known.facts h (packet_seen (Node n) Front bytes) (front_ended env x.part.front n epoch (record { reason = reason; snd = record { 0 = snd }; rcv = record { 0 = rcv } }))
-        (ended-fits N k.files x known.facts h env n epoch (record { reason = reason; snd = record { 0 = snd }; rcv = record { 0 = rcv } }));
-    admitted = λ x env choice given is e known fills names h. admitted-move N k.files x known.facts h given (admitted-fits N k.files x known.facts h env choice given e);
-  }
+  fronts = each-front k Moves (λ x env heads g is comes known fills names h. fronts_of.rule-fits N k.files x known.facts h env heads g comes fills names)
 
   -- a rule of a node
   module _ (x : Conn) (n epoch : ℕ) (env : NodeEnv) (is : IsNodeEnv k x.c n epoch env) (known : Known k.files x) (h : NamesNodes N k.files x) where

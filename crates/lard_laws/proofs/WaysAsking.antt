@@ -87,10 +87,6 @@ module _ (files : FilesAt) (x : Conn) where
     row-names past all (rec.Sent k (Node n) Front bytes) h = λ new m d. ⊎_elim
         (λ (was : Was x (Node n) Front bytes). absurd (new (all (Node n) Front bytes (seen (record { from = Node n; to = Front; bytes = bytes }) was))))
         (λ (f : (m : Message) → decoded_message bytes ≡ Ok m → BodyGoesOn files (marks_of (tale_of x.c past)) m.body). f m d) h
-    row-names past all (rec.Sent k (Node n) (Node j) bytes) h = tt
-    row-names past all (rec.Sent k (Node n) (Client d) bytes) h = tt
-    row-names past all (rec.Sent k Front to bytes) h = tt
-    row-names past all (rec.Sent k (Client d) to bytes) h = tt
     row-names past all _ h = tt
 
     pub rows-name : (past ss : List Seen) → Holds past → EachRow (MayBeSeen MayRow x.c) past ss → EachRow (Names files x.c) past ss

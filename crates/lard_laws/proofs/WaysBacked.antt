@@ -64,9 +64,7 @@ module _ (n c : ℕ) where
   batch-more past later r (e ∷ es) h = (one e.progress h.0, batch-more past later (r + 1) es h.1) where
     one : (p : Progress) → IsBacked (WasThere past n c) r p → IsBacked (WasThere (past ++ later) n c) r p
     one (progress.Ready way) k = there-more past later n c r way k
-    one progress.Named k = tt
-    one progress.Reading k = tt
-    one (progress.Awaited node) k = tt
+    one _ k = tt
 
   row-more : (past later : List Seen) (o : Option BackRow) → RowTook past o → RowTook (past ++ later) o
   row-more past later None h = tt

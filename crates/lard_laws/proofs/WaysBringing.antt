@@ -33,10 +33,7 @@ IsPlain _ = Unit {0}
 
 plain-sends : (files : FilesAt) (past step : List Rec) (from to : Place) (bytes : List ℕ) → SendsNone from to bytes → SendsFile files past step from to bytes
 plain-sends files past step (Node n) (Node m) bytes h = λ c. absurd (h c)
-plain-sends files past step (Node n) Front bytes h = tt
-plain-sends files past step (Node n) (Client d) bytes h = tt
-plain-sends files past step Front to bytes h = tt
-plain-sends files past step (Client d) to bytes h = tt
+plain-sends files past step _ _ bytes h = tt
 
 plain-may : (files : FilesAt) (past step : List Rec) (r : Rec) → IsPlain r → MayBring files past step r
 plain-may files past step (rec.Sent k from to bytes) h = plain-sends files past step from to bytes h
@@ -69,10 +66,7 @@ to-client n c k (s ∷ ss) h = (subst (λ (to : Place). SendsNone (Node n) to s.
 
 none-sends : (from to : Place) (bytes : List ℕ) → IsNone bytes → SendsNone from to bytes
 none-sends (Node n) (Node m) bytes h = h
-none-sends (Node n) Front bytes h = tt
-none-sends (Node n) (Client d) bytes h = tt
-none-sends Front to bytes h = tt
-none-sends (Client d) to bytes h = tt
+none-sends _ _ bytes h = tt
 
 pub none-plain : (k : ℕ) (from : Place) (ms : List (Place × List ℕ)) → SentNone ms → Each IsPlain (sent_records k from ms)
 none-plain k from [] h = tt

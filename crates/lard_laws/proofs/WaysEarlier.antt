@@ -1,11 +1,13 @@
 -- So it is in every run: each content that is served was there before.
 use Rattle.std.proofs.Common.{◌≡◌, ℕ, Bool, true, false, cond, List, [], ◌∷◌, ◌++◌, map, Option, Some, None, Ok, is_some, refl, sym, ap, ◌∙◌, subst, inl, inr, ⊎_elim, append_assoc, append-nil}
-use Rattle.lard_law_view.specs.Prelude.{Acknowledged, BackRow, Came, Client, ClientRules, Completed, Config, Conn, Content, EachRow, Fires, Forwarded, Front, FrontRules, Has, IsLaw, IsNodeEnv, IsReached, Letter, Machine, MayRestOn, Move, Node, NodeEnv, NodePart, NodeRules, OfEach, Offered, Place, Rec, Row, Rules, Seen, Setting, Tagged, ToCluster, brought_said, client_begins, conn, content_said, decoded, decoded_message, epoch_in, event_seen, front_does, front_rule, grown, named_records, node_acknowledged, node_content, node_does, node_forwarded, node_offered, node_read, node_tagged, node_timer, nothing_said, own, packet_seen, plain, reads_first, rows_of, seen_in, setting, stands, timer_rows, whose}
+use Rattle.lard_law_view.specs.Prelude.{Came, Client, ClientRules, Completed, Config, Conn, Content, EachRow, Front, FrontRules, Has, IsLaw, IsNodeEnv, IsReached, Letter, Machine, MayRestOn, Move, Node, NodeEnv, NodeGets, NodePart, NodeRules, OfEach, Place, Rec, Row, Rules, Seen, Setting, client_begins, conn, decoded_message, front_does, front_rule, grown, named_records, node_does, nothing_said, own, packet_seen, plain, reads_first, rows_of, seen_in, setting, stands, timer_rows, whose}
 use Rattle.lard_law_view.proofs.EachFront.{each-front, of-front}
 use Rattle.lard_law_view.proofs.EachClient.{client_goes, each-client, of-client}
-use Rattle.lard_base.specs.declared.event.Event.TheVariants as event
+use Rattle.lard_law_view.proofs.EachNode.{Answers, Aside, Brings, NodeComes, Queues, aside_said, aside_seen, each-node, node_goes}
+use Rattle.lard_law_view.proofs.NodeHeads.{of-aside, of-heads}
+use Rattle.lard_laws.proofs.NodeDeeds.{node-heads, node-place}
+use Rattle.lard_rules.proofs.NodeCases.{IsInItsEpoch}
 use Rattle.lard_law_view.specs.View.{sending}
-use Rattle.lard_law_view.specs.View as view
 use Rattle.lard_law_view.proofs.Carried.{carried}
 use Rattle.lard_law_view.proofs.Fine.{IsFine, IsItsOwn, fine}
 use Rattle.lard_law_view.proofs.Guarded.{both, weaker}
@@ -13,7 +15,7 @@ use Rattle.lard_law_view.proofs.InSteps.{carried-records}
 use Rattle.lard_law_view.proofs.Parts.{put-each}
 use Rattle.lard_law_view.proofs.Saying.{NamesAll, NotedAt}
 use Rattle.lard_laws.specs.WaysBefore.{ContentsWereThere, MayBeServed, MayFollow, SawBehind, WasAtPlace, WasThere}
-use Rattle.lard_laws.proofs.WaysBacked.{DeedThere, PartThere, TookIn, part-more, rule-there, stay-more, there-more}
+use Rattle.lard_laws.proofs.WaysBacked.{DeedThere, MayCome, PartThere, TookIn, part-more, rule-there, stay-more, there-more}
 use Rattle.lard_laws.proofs.WaysBacking.{IsNoted}
 use Rattle.lard_rules.specs.Front as front
 use Rattle.lard_history.proofs.Each.{Each, Each-append, Each-weaker}
@@ -141,26 +143,16 @@ module _ (x : Conn) (n : ℕ) (heads : List Seen) where
   node-notes (node.Says ms) past q own = tt
   node-notes (node.Does given) past q own = notes-at n x.c past (named_records given.1.notes) own (each-named (IsNoted (WasThere past n x.c)) given.1.notes q.notes)
 
-  node-place : (d : node.NodeDeed) → (node_does x n heads d).place ≡ Node n
-  node-place node.Drops = refl
-  node-place (node.Says ms) = refl
-  node-place (node.Does given) = refl
-
-  node-heads : (d : node.NodeDeed) → (node_does x n heads d).heads ≡ heads
-  node-heads node.Drops = refl
-  node-heads (node.Says ms) = refl
-  node-heads (node.Does given) = refl
-
   -- a rule of it
   node-owes : (d : node.NodeDeed) → DeedThere n x.c (x.seen ++ heads) d → EachRow (MayFollow x.c) x.seen heads → Owes x (node_does x n heads d)
   node-owes d q seen its h =
       let v : Move = node_does x n heads d in
       let past : List Seen = x.seen ++ heads in
-      let same : x.seen ++ seen_in x v ≡ past ++ map Row (rows_of x v) = ap (λ (hs : List Seen). x.seen ++ (hs ++ map Row (rows_of x v))) (node-heads d) ∙ sym (append_assoc x.seen heads (map Row (rows_of x v))) in
-      let own : Each (NotedAt (Node n) x.c) v.said.notes = subst (λ (place : Place). Each (NotedAt place x.c) v.said.notes) (node-place d) its.notes in (
+      let same : x.seen ++ seen_in x v ≡ past ++ map Row (rows_of x v) = ap (λ (hs : List Seen). x.seen ++ (hs ++ map Row (rows_of x v))) (node-heads x n heads d) ∙ sym (append_assoc x.seen heads (map Row (rows_of x v))) in
+      let own : Each (NotedAt (Node n) x.c) v.said.notes = subst (λ (place : Place). Each (NotedAt place x.c) v.said.notes) (node-place x n heads d) its.notes in (
         node-holds d past (map Row (rows_of x v)) (seen_in x v) q h (noted-row x v) same,
-        move-rows x v its (subst (EachRow (MayFollow x.c) x.seen) (sym (node-heads d)) seen)
-            (subst (λ (hs : List Seen). Each (RowAt x.c (x.seen ++ hs)) v.said.notes) (sym (node-heads d)) (node-notes d past q own)),
+        move-rows x v its (subst (EachRow (MayFollow x.c) x.seen) (sym (node-heads x n heads d)) seen)
+            (subst (λ (hs : List Seen). Each (RowAt x.c (x.seen ++ hs)) v.said.notes) (sym (node-heads x n heads d)) (node-notes d past q own)),
       )
 
   -- with the record of its job in front
@@ -169,8 +161,8 @@ module _ (x : Conn) (n : ℕ) (heads : List Seen) where
       let v : Move = node_does x n heads d in
       let past : List Seen = x.seen ++ Row r ∷ [] in
       let plain_its : IsItsOwn x v = record { notes = its.notes.1; segments = its.segments; gave = its.gave; messages = its.messages } in
-      let own : Each (NotedAt (Node n) x.c) v.said.notes = subst (λ (place : Place). Each (NotedAt place x.c) v.said.notes) (node-place d) its.notes.1 in
-      let empty : v.heads ≡ [] = node-heads d ∙ none in
+      let own : Each (NotedAt (Node n) x.c) v.said.notes = subst (λ (place : Place). Each (NotedAt place x.c) v.said.notes) (node-place x n heads d) its.notes.1 in
+      let empty : v.heads ≡ [] = node-heads x n heads d ∙ none in
       let seen : seen_in x (reads_first r v) ≡ Row r ∷ map Row (rows_of x v) = ap (λ (hs : List Seen). hs ++ (Row r ∷ map Row (rows_of x v))) empty in
       let same : x.seen ++ seen_in x (reads_first r v) ≡ past ++ map Row (rows_of x v) = ap (λ (l : List Seen). x.seen ++ l) seen ∙ sym (append_assoc x.seen (Row r ∷ []) (map Row (rows_of x v))) in (
         node-holds d past (map Row (rows_of x v)) (seen_in x (reads_first r v)) q h (noted-row x v) same,
@@ -193,6 +185,10 @@ came-took : (l : Letter) (r : Rec) → Came l ≡ Row r → ⊥
 came-took l r e = cc
 
 -- ---- the rules
+
+abbrev IsNoJob : NodeGets → Type 0
+IsNoJob (Completed r path) = ⊥
+IsNoJob _ = Unit {0}
 
 module _ (k : Setting) where
   -- what the front end and clients do
@@ -223,11 +219,6 @@ module _ (k : Setting) where
   owes : (x : Conn) (n epoch : ℕ) (env : NodeEnv) → IsNodeEnv k x.c n epoch env → (heads : List Seen) (d : node.NodeDeed) → (PartThere env.n env.serve.c (x.seen ++ heads) (x.part.nodes n) → DeedThere env.n env.serve.c (x.seen ++ heads) d) → EachRow (MayFollow x.c) x.seen heads → Owes x (node_does x n heads d)
   owes x n epoch env is heads d rule seen its h = node-owes x n heads d (by-node x n epoch env is (x.seen ++ heads) d rule (part-more n x.c x.seen heads (x.part.nodes n) (h n))) seen its h
 
-  -- a content that came is read so by the rule
-  came-reads : (x : Conn) (n from epoch r : ℕ) (env : NodeEnv) (file bytes : List ℕ) → IsNodeEnv k x.c n epoch env → decoded_message bytes ≡ Ok (record { c = x.c; epoch = record { 0 = epoch }; body = body.Content r file })
-      → decoded_message bytes ≡ Ok (record { c = env.serve.c; epoch = record { 0 = env.epoch }; body = body.Content r file })
-  came-reads x n from epoch r env file bytes is spells = spells ∙ (λ i. Ok (record { c = sym is.number i; epoch = record { 0 = sym is.epoch_is i }; body = body.Content r file }))
-
   was-read : (x : Conn) (n epoch r : ℕ) (path : List ℕ) (env : NodeEnv) → IsNodeEnv k x.c n epoch env → TookIn env.n env.serve.c (x.seen ++ Row (rec.Read n n x.c r path) ∷ []) env.epoch
       → SawBehind (x.seen ++ Row (rec.Read n n x.c r path) ∷ []) env.n env.serve.c env.epoch (Row (rec.Read env.n env.n env.serve.c r path))
   was-read x n epoch r path env is =
@@ -243,36 +234,47 @@ module _ (k : Setting) where
       subst (λ (i : ℕ). TookIn i env.serve.c (x.seen ++ it ∷ []) env.epoch → SawBehind (x.seen ++ it ∷ []) i env.serve.c env.epoch (Came (record { from = Node from; to = Node i; bytes = bytes }))) (sym is.node)
       (last-behind n env.serve.c env.epoch x.seen it (λ e. came-took (record { from = Node from; to = Node n; bytes = bytes }) (rec.Took (Node n) env.serve.c (record { 0 = env.epoch })) e))
 
-  -- what a node does for another one, or not at all
-  aside : (x : Conn) (n : ℕ) (heads : List Seen) (said : view.TurnSaid) → EachRow (MayFollow x.c) x.seen heads → ((past : List Seen) → Each (RowAt x.c past) said.notes) → Owes x (stands x (Node n) heads said)
-  aside x n heads said seen notes its h = (more-there x (stands x (Node n) heads said) h, move-rows x (stands x (Node n) heads said) its seen (notes (x.seen ++ heads)))
+  -- a content is read so by the rule
+  may-come : (x : Conn) (n epoch : ℕ) (env : NodeEnv) → IsNodeEnv k x.c n epoch env → (heads : List Seen) (g : NodeGets) → NodeComes x n epoch heads g → IsNoJob g → MayCome env (x.seen ++ heads) g
+  may-come x n epoch env is heads (Content from r) comes other =
+      let bytes : List ℕ = comes.came.bytes in
+      let reads : decoded_message bytes ≡ Ok (record { c = env.serve.c; epoch = record { 0 = env.epoch }; body = body.Content r comes.file }) =
+      comes.came.spells ∙ (λ i. Ok (record { c = sym is.number i; epoch = record { 0 = sym is.epoch_is i }; body = body.Content r comes.file })) in
+      subst (λ (hs : List Seen). MayCome env (x.seen ++ hs) (Content from r)) (sym comes.came.seen) (record { file = comes.file; bytes = bytes; came = has-come x n from epoch bytes env is; reads = reads })
+  may-come x n epoch env is heads (Completed r path) comes other = absurd other
+  may-come x n epoch env is heads _ comes other = tt
+
+  rule-owes : (x : Conn) (n epoch : ℕ) (env : NodeEnv) → IsNodeEnv k x.c n epoch env → (heads : List Seen) (g : NodeGets) → IsInItsEpoch env (x.part.nodes n) g → NodeComes x n epoch heads g → IsNoJob g
+      → Owes x (node_does x n heads (node.node_rule env (x.part.nodes n) g))
+  rule-owes x n epoch env is heads g at comes other = owes x n epoch env is heads (node.node_rule env (x.part.nodes n) g)
+      (λ h. rule-there env (x.seen ++ heads) (x.part.nodes n) h g at (may-come x n epoch env is heads g comes other))
+      (of-heads x n (EachRow (MayFollow x.c) x.seen) (λ from bytes. tt) tt (tt, tt) epoch heads g comes)
+
+  node-goes-on : (x : Conn) (n epoch : ℕ) (env : NodeEnv) (heads : List Seen) (g : NodeGets) → IsNodeEnv k x.c n epoch env → IsInItsEpoch env (x.part.nodes n) g → NodeComes x n epoch heads g → Owes x (node_goes x n env heads g)
+  node-goes-on x n epoch env heads (Completed r path) is at comes its h =
+      let job : Rec = rec.Read n n x.c r path in
+      let past : List Seen = x.seen ++ Row job ∷ [] in
+      let d : node.NodeDeed = node.node_rule env (x.part.nodes n) (Completed r path) in
+      read-owes x n heads job (λ p. tt) d
+      (by-node x n epoch env is past d
+      (λ g. rule-there env past (x.part.nodes n) g (Completed r path) tt (λ took. record { epoch = env.epoch; path = path; read = was-read x n epoch r path env is took }))
+      (part-more n x.c x.seen (Row job ∷ []) (x.part.nodes n) (h n)))
+      comes its h
+  node-goes-on x n epoch env heads g is at comes its h = rule-owes x n epoch env is heads g at comes tt its h
+
+  -- what a node does for another one
+  aside-owes : (x : Conn) (n : ℕ) (a : Aside) → Owes x (stands x (Node n) (aside_seen n a) (aside_said k n x.c a))
+  aside-owes x n a its h = (more-there x v h, move-rows x v its (of-aside x n (EachRow (MayFollow x.c) x.seen) (λ from bytes. tt) tt a) (notes a)) where
+    v : Move
+    v = stands x (Node n) (aside_seen n a) (aside_said k n x.c a)
+
+    notes : (a : Aside) → Each (RowAt x.c (x.seen ++ aside_seen n a)) (aside_said k n x.c a).notes
+    notes (Answers from epoch r path file bytes) = tt
+    notes (Queues from epoch r path file bytes) = (λ later. tt, tt)
+    notes (Brings from epoch r path) = (λ later. tt, tt)
 
   nodes : NodeRules k Owes
-  nodes = record {
-    offered = λ x n epoch env parts bytes is spells was.
-        owes x n epoch env is (packet_seen Front (Node n) bytes) (node_offered env (x.part.nodes n) parts) (λ g. rule-there env (x.seen ++ packet_seen Front (Node n) bytes) (x.part.nodes n) g (Offered parts) tt tt) tt;
-    forwarded = λ x n epoch env segment bytes is spells was. owes x n epoch env is (packet_seen Front (Node n) bytes) (node_forwarded env (x.part.nodes n) (decoded segment x.c ToCluster)) (λ g. rule-there env (x.seen ++ packet_seen Front (Node n) bytes) (x.part.nodes n) g (Forwarded (decoded segment x.c ToCluster)) tt tt) tt;
-    tagged = λ x n epoch number tags env bytes is spells was.
-        owes x n epoch env is (packet_seen Front (Node n) bytes) (node_tagged env (x.part.nodes n) number tags) (λ g. rule-there env (x.seen ++ packet_seen Front (Node n) bytes) (x.part.nodes n) g (Tagged number tags) tt tt) tt;
-    content = λ x n from epoch r env file bytes is spells was. owes x n epoch env is (packet_seen (Node from) (Node n) bytes) (node_content env (x.part.nodes n) from r)
-        (λ g. rule-there env (x.seen ++ packet_seen (Node from) (Node n) bytes) (x.part.nodes n) g (Content from r) tt
-        (record { file = file; bytes = bytes; came = has-come x n from epoch bytes env is; reads = came-reads x n from epoch r env file bytes is spells })) tt;
-    acknowledged = λ x n epoch env bytes is spells was.
-        owes x n epoch env is (packet_seen Front (Node n) bytes) (node_acknowledged env (x.part.nodes n)) (λ g. rule-there env (x.seen ++ packet_seen Front (Node n) bytes) (x.part.nodes n) g Acknowledged tt tt) tt;
-    read = λ x n epoch r env path is its h.
-        let job : Rec = rec.Read n n x.c r path in
-        let past : List Seen = x.seen ++ Row job ∷ [] in
-        read-owes x n [] job (λ p. tt) (node_read env (x.part.nodes n) r)
-        (by-node x n epoch env is past (node_read env (x.part.nodes n) r)
-        (λ g. rule-there env past (x.part.nodes n) g (Completed r path) tt (λ took. record { epoch = env.epoch; path = path; read = was-read x n epoch r path env is took }))
-        (part-more n x.c x.seen (Row job ∷ []) (x.part.nodes n) (h n)))
-        refl its h;
-    fires = λ x s n env there is. owes x n (epoch_in (x.part.nodes n)) env is (event_seen (event.Timer (Node n) x.c)) (node_timer env (x.part.nodes n))
-        (λ g. rule-there env (x.seen ++ event_seen (event.Timer (Node n) x.c)) (x.part.nodes n) g Fires (λ row found. sym (is.epoch_is ∙ ap (λ (o : Option BackRow). epoch_in (record (x.part.nodes n) { row = o })) found)) tt) (tt, tt);
-    answers = λ x n from epoch r path file bytes there spells was. aside x n (packet_seen (Node from) (Node n) bytes) (content_said k n from x.c epoch r path) tt (λ past. tt);
-    queues = λ x n from epoch r path file bytes there spells was. aside x n (packet_seen (Node from) (Node n) bytes) (record nothing_said { notes = rec.Queued n from x.c r path ∷ [] }) tt (λ past. (λ later. tt, tt));
-    brings = λ x n from epoch r path. aside x n [] (brought_said k n from x.c epoch r path) tt (λ past. (λ later. tt, tt));
-  }
+  nodes = each-node k Owes (record { does = node-goes-on; aside = λ x n a may. aside-owes x n a })
 
   ignored : (x : Conn) (from to : Place) (bytes : List ℕ) → Owes x (stands x to (packet_seen from to bytes) nothing_said)
   ignored x from to bytes its h = (more-there x (stands x to (packet_seen from to bytes) nothing_said) h, move-rows x (stands x to (packet_seen from to bytes) nothing_said) its tt tt)

@@ -3,11 +3,11 @@ use Rattle.std.proofs.Common.{◌≡◌, ◌≤◌, ◌<◌, ◌+◌, ◌^◌, �
 use Rattle.std.specs.List.{slice_get}
 use Rattle.std.proofs.lemmas.Bool.{and_from, and_parts}
 use Rattle.std.proofs.lemmas.List.{map-append}
-use Rattle.lard_law_view.specs.Prelude.{Ask, Conn, Did, Epoch, FilesAt, Final, Front, FrontConn, FrontDeed, FrontEnv, FrontPart, FrontRest, FrontRow, IsEarlyAway, IsPrefix, LaterChoice, Move, Node, NodePart, Part, Rec, Seen, Stay, ack_sent, assigned_notes, assigns, by_front, front_asked, front_does, front_ended, front_ends, front_rest, front_saying, front_taken, is_row_at, is_with, named_paths, next_epoch, nothing_said, over_note, tag_sent, taken_by, tale_at}
+use Rattle.lard_law_view.specs.Prelude.{Ask, Conn, Did, Epoch, FilesAt, Final, Front, FrontConn, FrontDeed, FrontEnv, FrontPart, FrontRest, FrontRow, IsEarlyAway, IsPrefix, LaterChoice, Move, Node, NodePart, Part, Rec, Seen, Stay, ack_sent, assigned_notes, assigns, by_front, front_does, front_ends, front_rest, front_saying, is_row_at, is_with, named_paths, next_epoch, nothing_said, over_note, tag_sent, taken_by, tale_at}
 use Rattle.lard_law_connections.proofs.BytesFrontMessages.{past-undecided}
 use Rattle.lard_law_connections.specs.Places.{IsDecided, IsOffered, IsPast, Offers, Sits, StageSits, owning}
 use Rattle.lard_law_connections.proofs.PlacesTurns.{IsPlaced, early-at}
-use Rattle.lard_laws.specs.WaysState.{AskIs, FrontSaysWays, GoesItsWay, IsAway, IsBy, IsPlacedOnce, LetterWays, NodeSaysWays, SeatWays, StageWays, StayAsks, StayWays, given_to, marks_at}
+use Rattle.lard_laws.specs.WaysState.{AskIs, FrontSaysWays, IsAway, IsBy, IsPlacedOnce, LetterWays, SeatWays, StageWays, StayAsks, StayWays, given_to, marks_at}
 use Rattle.lard_laws.specs.WaysUnder.{Assigned}
 use Rattle.lard_laws.specs.Ways.{WayMarks, paths_assigned, paths_wanted}
 use Rattle.lard_laws.proofs.WaysFronting.{front-quiet}
@@ -20,7 +20,7 @@ use Rattle.lard_rules.specs.Front.{Does, Drops, Says, message}
 use Rattle.lard_handoff_front.specs.declared.row.FrontConn.TheVariants as stage
 use Rattle.lard_message.specs.declared.kind.Kind.TheVariants as kind
 use Rattle.lard_message.specs.declared.message.Body.TheVariants as body
-use Rattle.lard_rules.proofs.FrontCases.{IsInStage, of-stage, taken-keeps, asked-keeps, ended-keeps}
+use Rattle.lard_rules.proofs.FrontCases.{IsInStage, of-stage}
 
 -- ---- what an Ask assigns
 
@@ -59,72 +59,21 @@ given-front [] nodes = ([], refl)
 given-front (path ∷ paths) [] = (path ∷ paths, refl)
 given-front (path ∷ paths) (node ∷ nodes) = let h = given-front paths nodes in (h.0, ap (λ (l : List (List ℕ)). path ∷ l) h.1)
 
-module _ (env : FrontEnv) (x : Conn) (heads : List Seen) where
-  abbrev files : FilesAt
-  files = env.serve.files
+-- ---- where it is
 
-  abbrev m : WayMarks
-  m = marks_at x
-
-  abbrev p : FrontPart
-  p = x.part.front
-
-  abbrev Goal : FrontDeed → Type 0
-  Goal d = Keeps files x (front_does x heads d)
-
-  drops-makes : Goal Drops
-  drops-makes = stands-makes files x Front heads nothing_said tt (λ old. tt) tt
-
-  -- ---- a Taken
-
-  taken-moves : (row : FrontRow) (n : ℕ) (d : Epoch) (epoch : ℕ) → IsInStage p row (stage.Offering n d) → d.0 ≡ epoch → Goal (taken_by p epoch (Some row) (Some n))
-  taken-moves row n d epoch at same help g =
-      let v : Move = front_does x heads (taken_by p epoch (Some row) (Some n)) in
-      let seat : IsAway files m (front_rest p.rest) n row.epoch.0 (x.part.nodes n) = of-stage (SeatWays files m x.part) p row (stage.Offering n d) at g.seat in
-      let was : (i e : ℕ) → Counts v.part i e → Counts x.part i e = λ i e c.
-      let t = and_parts (n == i) (epoch == e) c in
-      subst (λ (o : Option FrontRow). is_row_at i e o ≡ true) (sym at.0) (subst (λ (f : FrontConn). is_with i e f ≡ true) (sym at.1) (and_from (n == i) (d.0 == e) t.0 (eq-eqb d.0 e (same ∙ eqb-true epoch e t.1)))) in
-      makes files x v help g m tt refl g.paths seat
-      (record {
-        grows = help.owes.grows;
-        ask = λ i e number ps c decided h. h (was i e c);
-        tag = λ i e number nodes c by h. h (was i e c);
-        offer = λ i e parts said f. inr f;
-      })
-      (λ old. tt) tt
-
-  pub taken-makes : (epoch : ℕ) → Goal (front_taken p epoch)
-  taken-makes epoch = taken-keeps p Goal drops-makes epoch (λ row n e at same. taken-moves row n e epoch at same)
-
-  -- ---- an end
-
-  ends-makes : (from epoch : ℕ) (last : Final) (row : FrontRow) → Goal (Does (front_ends env p from epoch last row (next_epoch row)))
-  ends-makes from epoch last row help g =
-      let v : Move = front_does x heads (Does (front_ends env p from epoch last row (next_epoch row))) in
-      makes files x v help g m (tt, (tt, tt)) refl g.paths tt
-      (carries-none files m m (same-marks files m m.served) x.part v.part help.owes.grows (λ i e c. let z : false ≡ true = c in cc))
-      (λ old. (front-quiet files m v.part from env.serve.c epoch body.EndedAck (λ f. let z : kind.EndedAck ≡ kind.Offer = f in cc) (λ f. let z : kind.EndedAck ≡ kind.Tag = f in cc), tt)) tt
-
-  pub ended-makes : (from epoch : ℕ) (last : Final) → Goal (front_ended env p from epoch last)
-  ended-makes from epoch last = ended-keeps p Goal drops-makes env from epoch last
-      (λ row found away again. stands-makes files x Front heads (by_front (front_saying (ack_sent env from epoch))) tt
-      (λ old. (front-quiet files m x.part from env.serve.c epoch body.EndedAck (λ f. let z : kind.EndedAck ≡ kind.Offer = f in cc) (λ f. let z : kind.EndedAck ≡ kind.Tag = f in cc), tt)) tt)
-      (λ row found away. ends-makes from epoch last row)
-
-  -- ---- an Ask
-
+module _ (x : Conn) where
   -- where it counts the connection is at this node, in this epoch, which is the front end's
   pub record IsWith (n epoch : ℕ) : Type 0 where
     pub row : FrontRow
-    pub found : p.row ≡ Some row
+    pub found : x.part.front.row ≡ Some row
     pub away : (fs : FilesAt) (k : WayMarks) (q : Part) → q.front.row ≡ Some row → (StageWays fs k q row.epoch.0 row.stage → IsAway fs k (front_rest q.front.rest) n row.epoch.0 (q.nodes n)) × (IsAway fs k (front_rest q.front.rest) n row.epoch.0 (q.nodes n) → StageWays fs k q row.epoch.0 row.stage)
     pub same : row.epoch.0 ≡ epoch
     pub early : IsEarlyAway row.epoch.0
     pub offers : (i e : ℕ) → Offers i e row.stage → (i ≡ n) × (e ≡ epoch)
 
-  with-of : (n epoch : ℕ) → IsPlaced x → is_row_at n epoch p.row ≡ true → IsWith n epoch
-  with-of n epoch placed at = go p.row refl at placed.sits where
-    on : (row : FrontRow) → p.row ≡ Some row → (d : FrontConn) → row.stage ≡ d → StageSits row.epoch.0 (owning (tale_at x)) x.part.nodes d → is_with n epoch d ≡ true → IsWith n epoch
+  pub with-of : (n epoch : ℕ) → IsPlaced x → is_row_at n epoch x.part.front.row ≡ true → IsWith n epoch
+  with-of n epoch placed at = go x.part.front.row refl at placed.sits where
+    on : (row : FrontRow) → x.part.front.row ≡ Some row → (d : FrontConn) → row.stage ≡ d → StageSits row.epoch.0 (owning (tale_at x)) x.part.nodes d → is_with n epoch d ≡ true → IsWith n epoch
     on row found (stage.Offering i f) at sits c =
         let t = and_parts (i == n) (f.0 == epoch) c in
         let mine : i ≡ n = eqb-true i n t.0 in
@@ -160,9 +109,61 @@ module _ (env : FrontEnv) (x : Conn) (heads : List Seen) where
     on row found stage.Lent at sits c = let z : false ≡ true = c in absurd (let f : ⊥ = cc in f)
     on row found (stage.Closed last) at sits c = let z : false ≡ true = c in absurd (let f : ⊥ = cc in f)
 
-    go : (o : Option FrontRow) → p.row ≡ o → is_row_at n epoch o ≡ true → Sits (owning (tale_at x)) x.part.nodes p.row → IsWith n epoch
+    go : (o : Option FrontRow) → x.part.front.row ≡ o → is_row_at n epoch o ≡ true → Sits (owning (tale_at x)) x.part.nodes x.part.front.row → IsWith n epoch
     go None found c sits = let z : false ≡ true = c in absurd (let f : ⊥ = cc in f)
     go (Some row) found c sits = on row found row.stage refl (subst (Sits (owning (tale_at x)) x.part.nodes) found sits).0 c
+
+-- ---- the rules
+
+module _ (env : FrontEnv) (x : Conn) (heads : List Seen) where
+  abbrev files : FilesAt
+  files = env.serve.files
+
+  abbrev m : WayMarks
+  m = marks_at x
+
+  abbrev p : FrontPart
+  p = x.part.front
+
+  abbrev Goal : FrontDeed → Type 0
+  Goal d = Keeps files x (front_does x heads d)
+
+  pub drops-makes : Goal Drops
+  drops-makes = stands-makes files x Front heads nothing_said tt (λ old. tt) tt
+
+  -- ---- a Taken
+
+  pub taken-moves : (row : FrontRow) (n : ℕ) (d : Epoch) (epoch : ℕ) → IsInStage p row (stage.Offering n d) → d.0 ≡ epoch → Goal (taken_by p epoch (Some row) (Some n))
+  taken-moves row n d epoch at same help g =
+      let v : Move = front_does x heads (taken_by p epoch (Some row) (Some n)) in
+      let seat : IsAway files m (front_rest p.rest) n row.epoch.0 (x.part.nodes n) = of-stage (SeatWays files m x.part) p row (stage.Offering n d) at g.seat in
+      let was : (i e : ℕ) → Counts v.part i e → Counts x.part i e = λ i e c.
+      let t = and_parts (n == i) (epoch == e) c in
+      subst (λ (o : Option FrontRow). is_row_at i e o ≡ true) (sym at.0) (subst (λ (f : FrontConn). is_with i e f ≡ true) (sym at.1) (and_from (n == i) (d.0 == e) t.0 (eq-eqb d.0 e (same ∙ eqb-true epoch e t.1)))) in
+      makes files x v help g m tt refl g.paths seat
+      (record {
+        grows = help.owes.grows;
+        ask = λ i e number ps c decided h. h (was i e c);
+        tag = λ i e number nodes c by h. h (was i e c);
+        offer = λ i e parts said f. inr f;
+      })
+      (λ old. tt) tt
+
+  -- ---- an end
+
+  pub ends-makes : (from epoch : ℕ) (last : Final) (row : FrontRow) → Goal (Does (front_ends env p from epoch last row (next_epoch row)))
+  ends-makes from epoch last row help g =
+      let v : Move = front_does x heads (Does (front_ends env p from epoch last row (next_epoch row))) in
+      makes files x v help g m (tt, (tt, tt)) refl g.paths tt
+      (carries-none files m m (same-marks files m m.served) x.part v.part help.owes.grows (λ i e c. let z : false ≡ true = c in cc))
+      (λ old. (front-quiet files m v.part from env.serve.c epoch body.EndedAck (λ f. let z : kind.EndedAck ≡ kind.Offer = f in cc) (λ f. let z : kind.EndedAck ≡ kind.Tag = f in cc), tt)) tt
+
+  -- told again
+  pub acks-makes : (from epoch : ℕ) → Goal (Says (front_saying (ack_sent env from epoch)))
+  acks-makes from epoch = stands-makes files x Front heads (by_front (front_saying (ack_sent env from epoch))) tt
+      (λ old. (front-quiet files m x.part from env.serve.c epoch body.EndedAck (λ f. let z : kind.EndedAck ≡ kind.Offer = f in cc) (λ f. let z : kind.EndedAck ≡ kind.Tag = f in cc), tt)) tt
+
+  -- ---- an Ask
 
   -- a Tag that goes out
   tag-says : (k : WayMarks) (q : Part) (n epoch number : ℕ) (nodes : List ℕ) → epoch < 2 ^ 16 → IsBy epoch q.front.row → (front_rest q.front.rest).asks ≡ number → nodes ≡ (front_rest q.front.rest).tag → LetterWays files k q (record { from = Front; to = Node n; bytes = message env.serve.c epoch (body.Tag number nodes) })
@@ -212,12 +213,12 @@ module _ (env : FrontEnv) (x : Conn) (heads : List Seen) where
           subst (λ (l : List (List ℕ)). IsPrefix l (paths_wanted files m)) (sym (map-append (λ a. a.0) m.assigned given))
           (front-of (paths_assigned m ++ map (λ a. a.0) given) f.0 (paths_wanted files m) (subst (λ (l : List (List ℕ)). IsPrefix l (paths_wanted files m)) all h))
 
-      assigns-makes : is_row_at n epoch p.row ≡ true → IsDecided epoch (x.part.nodes n).row → AskIs files m rest (x.part.nodes n).stay ask.number ask.paths → Goal (Does (assigns env p rest n epoch ask (env.later ask)))
+      pub assigns-makes : is_row_at n epoch p.row ≡ true → IsDecided epoch (x.part.nodes n).row → AskIs files m rest (x.part.nodes n).stay ask.number ask.paths → Goal (Does (assigns env p rest n epoch ask (env.later ask)))
       unfolding now rest_now
       assigns-makes at decided is_ask help g =
           let did : Did = assigns env p rest n epoch ask (env.later ask) in
           let v : Move = front_does x heads (Does did) in
-          let w = with-of n epoch help.placed at in
+          let w = with-of x n epoch help.placed at in
           let asks : (ask.number ≡ rest.asks + 1) × IsPrefix (paths_assigned m ++ ask.paths) (paths_wanted files m) × StayAsks files (rest.asks + 1) ask.paths (x.part.nodes n).stay =
           ⊎_elim (λ (a : ask.number ≤ rest.asks). absurd (omega (arith, next, a))) (λ (a : (ask.number ≡ rest.asks + 1) × IsPrefix (paths_assigned m ++ ask.paths) (paths_wanted files m) × StayAsks files (rest.asks + 1) ask.paths (x.part.nodes n).stay). a) is_ask in
           let r_is : front_rest p.rest ≡ rest = ap front_rest there in
@@ -244,15 +245,9 @@ module _ (env : FrontEnv) (x : Conn) (heads : List Seen) where
           (λ old. (tag-says now v.part n epoch ask.number (map (λ c. c.node) (env.later ask).choices) (let e = w.same in let early = w.early in omega (arith, e, early)) (subst (IsBy epoch) (sym w.found) (let e = w.same in omega (arith, e))) refl refl, tt)) tt
 
     -- the last Ask again
-    again-makes : is_row_at n epoch p.row ≡ true → Goal (Says (front_saying (tag_sent env n epoch rest.asks rest.tag)))
+    pub again-makes : is_row_at n epoch p.row ≡ true → Goal (Says (front_saying (tag_sent env n epoch rest.asks rest.tag)))
     again-makes at help g =
-        let w = with-of n epoch help.placed at in
+        let w = with-of x n epoch help.placed at in
         let r_is : rest ≡ front_rest p.rest = sym (ap front_rest there) in
         stands-makes files x Front heads (by_front (front_saying (tag_sent env n epoch rest.asks rest.tag))) tt
         (λ old. (tag-says m x.part n epoch rest.asks rest.tag (let e = w.same in let early = w.early in omega (arith, e, early)) (subst (IsBy epoch) (sym w.found) (let e = w.same in omega (arith, e))) (ap (λ (r : FrontRest). r.asks) (sym r_is)) (ap (λ (r : FrontRest). r.tag) r_is), tt)) tt help g
-
-  module _ (n epoch : ℕ) (ask : Ask) (sent : GoesItsWay files x → NodeSaysWays files m x.part n epoch (body.Ask ask.number ask.queue ask.size ask.paths)) where
-    pub asked-makes : Goal (front_asked env p n epoch ask)
-    asked-makes = asked-keeps p Goal drops-makes env n epoch ask (λ rest there at same some. again-makes n epoch ask rest there at) (λ rest there at next help g.
-        let h = sent g in
-        assigns-makes n epoch ask rest there next at h.0 (subst (λ (r : FrontRest). AskIs files m r (x.part.nodes n).stay ask.number ask.paths) (ap front_rest there) (h.1 at)) help g)

@@ -141,10 +141,4 @@ module _ (env : FrontEnv) (x : Conn) where
                 let read : parts ≡ parts_of s.block s.count = offers-read env.serve.c (next_epoch row).0 h.w h.out h.vs [] s.block s.count number (omega (arith, early)) h.stream h.holds h.frozen msg parts d at in
                 inr (path, choice.node, ap (λ (q : WayMarks). q.assigned) is, subst (λ (z : EndpointParts). BeginsWithRequest files z.unread path) (sym read) h.next)
             by-body q n is msg d (body.Tag number nodes) at same = let no : kind.Offer ≡ kind.Tag = same ∙ ap kind_of at in absurd (let f : ⊥ = cc in f)
-            by-body q n is msg d body.Taken at same = tt
-            by-body q n is msg d (body.Forward bytes) at same = tt
-            by-body q n is msg d (body.Ask number queue size paths) at same = tt
-            by-body q n is msg d (body.Fetch r path) at same = tt
-            by-body q n is msg d (body.Content r file) at same = tt
-            by-body q n is msg d (body.Ended reason snd rcv count) at same = tt
-            by-body q n is msg d body.EndedAck at same = tt
+            by-body q n is msg d _ at same = tt

@@ -86,9 +86,6 @@ module _ (env : NodeEnv) (m : WayMarks) (r : FrontRest) where
   module _ (Before : List (List ℕ) → Type 0) where
     pub came-goes : (f : Progress → Progress) → KeepsStarted files env.n f → (i : ℕ) (k : Work) → Goes env m r Before k → Goes env m r Before (came_for f i k)
     came-goes f keeps i k h = cond_both (nat_lt k.service.count i) (record k { batch = come_on f (i - (k.service.count + 1)) k.batch }) k (Goes env m r Before) (λ t. came) (λ t. h) where
-      at : ℕ
-      at = i - (k.service.count + 1)
-
       names : named_paths files (come_on f (i - (k.service.count + 1)) k.batch) ≡ named_paths files k.batch
       names = came-named files env.n f keeps (i - (k.service.count + 1)) k.batch
 

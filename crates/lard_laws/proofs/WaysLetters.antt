@@ -1,6 +1,6 @@
 -- What packets say of Asks, Tags and Offers stays so while the front end and the nodes go on.
 use Rattle.std.proofs.Common.{◌≡◌, ◌≤◌, ◌+◌, ◌⊎◌, ℕ, true, List, [], ◌∷◌, ◌++◌, map, Option, Some, None, inl, inr, ⊎_elim, sym, ap, ◌∙◌, subst, arith}
-use Rattle.lard_law_view.specs.Prelude.{Body, Client, EndpointParts, FilesAt, Front, FrontRest, FrontRow, IsPrefix, Letter, Node, NodePart, Part, Place, Stay, front_rest, is_row_at, kind_of}
+use Rattle.lard_law_view.specs.Prelude.{Body, EndpointParts, FilesAt, Front, FrontRest, FrontRow, IsPrefix, Letter, Node, NodePart, Part, Place, Stay, front_rest, is_row_at, kind_of}
 use Rattle.lard_answers.proofs.Growing.{IsPrefix-trans}
 use Rattle.lard_law_connections.specs.Places.{FrontSaid, IsDecided, LetterMay, MaySay}
 use Rattle.lard_law_connections.proofs.PlacesGrowing.{FrontGrows, Grows, decided-grows}
@@ -46,11 +46,7 @@ module _ (files : FilesAt) (m n : WayMarks) (p q : Part) (c : Carries files m n 
   says-on : (from to : Place) (bytes : List ℕ) → LetterMay p (record { from = from; to = to; bytes = bytes }) → SaysWays files m p from to bytes → SaysWays files n q from to bytes
   says-on (Node i) Front bytes may h = λ msg d. node-on i msg.epoch.0 msg.body (h msg d)
   says-on Front (Node i) bytes may h = λ msg d. front-on i msg.epoch.0 msg.body (subst (MaySay p Front (Node i)) (decoded-head bytes msg d) may) (h msg d)
-  says-on Front Front bytes may h = h
-  says-on Front (Client d) bytes may h = h
-  says-on (Client d) to bytes may h = h
-  says-on (Node i) (Node j) bytes may h = h
-  says-on (Node i) (Client d) bytes may h = h
+  says-on _ _ bytes may h = h
 
   pub letters-on : (ls : List Letter) → Each (LetterMay p) ls → Each (LetterWays files m p) ls → Each (LetterWays files n q) ls
   letters-on [] may h = tt

@@ -119,9 +119,7 @@ module _ (files : FilesAt) (home : ℕ) where
 
     others : (e d : Entry) (p : Progress) → d.verdict ≡ e.verdict → path_in files d (read_progress p) ≡ path_in files e p
     others e d progress.Named same = ap (good_path files) same
-    others e d progress.Reading same = refl
-    others e d (progress.Awaited from) same = refl
-    others e d (progress.Ready way) same = refl
+    others e d _ same = refl
 
   pub come-keeps : (from : ℕ) → KeepsStarted (come_progress from)
   come-keeps from = record { started = started; ready = λ way. refl; named = refl; others = others } where

@@ -66,8 +66,7 @@ module _ (files : FilesAt) (m : WayMarks) (x : Conn) (n : ℕ) where
 
   was-asked : (to : Place) (bytes : List ℕ) → Was x (Node n) to bytes → AskTo files m x (Node n) to bytes
   was-asked Front bytes was = inl was
-  was-asked (Client d) bytes was = tt
-  was-asked (Node j) bytes was = tt
+  was-asked _ bytes was = tt
 
   -- what is held was sent before
   pub sent-ask : (ks : List Kept) → AreSent x (Node n) ks → Each (LetterAsks files m x) (map (letter (Node n)) (map sent_of ks))

@@ -1,6 +1,6 @@
 -- The paths of each Ask go on from those that were assigned, in every run.
 use Rattle.std.proofs.Common.{◌≡◌, ◌≤◌, ◌^◌, ℕ, false, List, [], Some, None, ap, ◌∙◌, sym, subst}
-use Rattle.lard_law_view.specs.Prelude.{Client, Config, Conn, EachRow, FilesAt, Front, Guarded, IsGuardedLaw, IsReached, Machine, MayRestOn, Move, Node, OfEach, Place, Rec, Seen, Setting, Tale, Untouched, WhileUntouched, conn, file_at, grown, is_touched, own, plain, seen_in, setting, tale_at, tale_of, whose}
+use Rattle.lard_law_view.specs.Prelude.{Config, Conn, EachRow, FilesAt, Front, Guarded, IsGuardedLaw, IsReached, Machine, MayRestOn, Move, Node, OfEach, Place, Rec, Seen, Setting, Tale, Untouched, WhileUntouched, conn, file_at, grown, is_touched, own, plain, seen_in, setting, tale_at, tale_of, whose}
 use Rattle.lard_law_connections.proofs.BytesLaw.{Helps}
 use Rattle.lard_law_connections.proofs.BytesRuns.{states-truthful}
 use Rattle.lard_law_connections.proofs.OffersSent.{AreSeen, grown-seen, own-sends}
@@ -60,10 +60,7 @@ module _ (files : FilesAt) where
       ap (λ (t : Tale). t.touched) (sym (tale-own J c)) ∙ sym (touched-tale J c) ∙ subst (λ (q : ℕ). is_touched J q ≡ false) same u in
       subst (λ (q : ℕ). BodyGoesOn files (way_marks J q) m.body) (sym same)
       (subst (λ (t : WayMarks). BodyGoesOn files t m.body) (marks-own files J c) (h quiet (λ s. new (own-sends (Node n) Front bytes c J s)) m d))
-  goes-to J (Node n) (Node j) bytes c e h = tt
-  goes-to J (Node n) (Client d) bytes c e h = tt
-  goes-to J Front to bytes c e h = tt
-  goes-to J (Client d) to bytes c e h = tt
+  goes-to J _ _ bytes c e h = tt
 
   somebody : (J : List Rec) (r : Rec) (c : ℕ) → whose r ≡ Some c → mine c (own c J) (plain r) → MayGoOn files J r
   somebody J (rec.Sent k from to bytes) c e h = goes-to J from to bytes c e h
@@ -71,10 +68,7 @@ module _ (files : FilesAt) where
 
   goes-none : (J : List Rec) (from to : Place) (bytes : List ℕ) → whose (rec.Sent 0 from to bytes) ≡ None → GoesOnTo files J from to bytes
   goes-none J (Node n) Front bytes e = λ m d u new. let no : Some m.c ≡ None = sym (decoded-names m bytes d).named ∙ e in absurd cc
-  goes-none J (Node n) (Node j) bytes e = tt
-  goes-none J (Node n) (Client d) bytes e = tt
-  goes-none J Front to bytes e = tt
-  goes-none J (Client d) to bytes e = tt
+  goes-none J _ _ bytes e = tt
 
   nobody : (J : List Rec) (r : Rec) → whose r ≡ None → MayGoOn files J r
   nobody J (rec.Sent k from to bytes) e = goes-none J from to bytes e

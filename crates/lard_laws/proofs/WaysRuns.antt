@@ -1,12 +1,8 @@
 -- Each rule leaves a connection on its way, so it is in every run; and what its records say the journal says.
-use Rattle.std.proofs.Common.{◌≡◌, ◌≤◌, ◌^◌, ℕ, false, List, [], Option, Some, None, Result, Ok, refl, sym, ap, ◌∙◌, subst}
-use Rattle.lard_law_view.specs.Prelude.{Client, Config, Conn, EachRow, FilesAt, FirstChoice, Front, FrontConn, FrontEnv, FrontPart, FrontRow, FrontRules, FrontTurn, Guarded, IsFrontEnv, IsGuardedLaw, IsReached, Machine, MayRestOn, Move, Node, OfEach, Rec, Said, Seen, SegFault, Setting, Station, Tale, ToCluster, Untouched, UntouchedRules, Was, WhileUntouched, admitted_at, admitted_by, ask_of, conn, decoded, event_seen, file_at, front_admits, front_does, front_gets, front_timer, grown, is_touched, own, packet_seen, plain, seen_in, setting, tale_at, tale_of, whose}
-use Rattle.lard_base.specs.declared.event.Event.TheVariants as event
-use Rattle.lard_law_connections.specs.BytesAgreement.{IsFair, IsFairOn, IsTruthful}
-use Rattle.lard_law_connections.proofs.BytesClientMoves.{has-fair, open-at}
+use Rattle.std.proofs.Common.{◌≡◌, ◌≤◌, ◌^◌, ℕ, false, List, [], Some, None, refl, sym, ap, ◌∙◌, subst}
+use Rattle.lard_law_view.specs.Prelude.{Config, Conn, EachRow, FilesAt, Guarded, IsGuardedLaw, IsReached, Machine, MayRestOn, Move, OfEach, Rec, Seen, Setting, Tale, Untouched, UntouchedRules, WhileUntouched, conn, file_at, grown, is_touched, own, plain, seen_in, setting, tale_at, tale_of, whose}
+use Rattle.lard_law_connections.specs.BytesAgreement.{IsTruthful}
 use Rattle.lard_law_connections.proofs.BytesLaw.{Helps}
-use Rattle.lard_law_connections.proofs.BytesFrontMessages.{opened-at}
-use Rattle.lard_law_connections.proofs.BytesFrontMoves.{talk-of}
 use Rattle.lard_law_connections.proofs.BytesOwners.{Known, Knows, known}
 use Rattle.lard_law_connections.proofs.BytesRuns.{states-truthful}
 use Rattle.lard_law_connections.proofs.PlacesLaw.{owing}
@@ -14,81 +10,28 @@ use Rattle.lard_law_connections.proofs.PlacesRuns.{each-placed}
 use Rattle.lard_law_connections.proofs.PlacesTurns.{IsPlaced}
 use Rattle.lard_law_connections.proofs.PlacesTurns as places
 use Rattle.lard_law_view.proofs.Carried.{carried}
+use Rattle.lard_law_view.proofs.EachFront.{each-front}
 use Rattle.lard_law_view.proofs.Fine.{IsFine, IsItsOwn, fine}
 use Rattle.lard_law_view.proofs.Guarded.{guarded-law, untouched-both, untouched-weaker}
 use Rattle.lard_law_view.proofs.InSteps.{carried-records}
 use Rattle.lard_laws.specs.WaysRuns.{ContentsComeAsAssigned, JournalsAssignAPrefix, JournalsAssignInOrder}
-use Rattle.lard_laws.specs.WaysState.{GoesItsWay, LetterWays, marks_at, marks_of}
+use Rattle.lard_laws.specs.WaysState.{GoesItsWay, marks_of}
 use Rattle.lard_laws.specs.Ways.{AnswersNextAt, IsNextGood, WayMarks, MayBeAssigned, MayComeThisWay, way_marks, paths_wanted}
 use Rattle.lard_laws.proofs.WaysClients.{clients}
-use Rattle.lard_laws.proofs.WaysFrontAnswers.{asked-makes, ended-makes, taken-makes}
-use Rattle.lard_laws.proofs.WaysFrontStays.{fires-row, hears-row, waits-frozen}
+use Rattle.lard_laws.proofs.WaysFrontStays.{front-keep}
 use Rattle.lard_laws.proofs.WaysMarking.{MayTell, Mine}
 use Rattle.lard_laws.proofs.WaysMoments.{assigns-a-prefix}
-use Rattle.lard_laws.proofs.WaysMoving.{IsMade, Keeps}
+use Rattle.lard_laws.proofs.WaysMoving.{IsMade}
 use Rattle.lard_laws.proofs.WaysNodeRules.{Owes, ignores, nodes}
-use Rattle.lard_handoff_front.specs.declared.row.FrontConn.TheVariants as stage
 use Rattle.lard_history.proofs.Lifting.{tale-own}
 use Rattle.lard_history.proofs.Tales.{assigned-tale, served-tale, touched-tale, wrote-tale}
 use Rattle.lard_journal.specs.declared.rec.Rec.TheVariants as rec
-use Rattle.lard_segment.proofs.Again.{again}
 
--- ---- the rules of the front end
+-- ---- the law
 
 module _ (k : Setting) (small : k.stream ≤ 2 ^ 30) where
-  by-files : (x : Conn) (env : FrontEnv) → IsFrontEnv k x.c env → (v : Move) → Keeps env.serve.files x v → Keeps k.files x v
-  by-files x env is v h = subst (λ (f : FilesAt). Keeps f x v) is.files h
-
-  front-hears : (x : Conn) (s : Station) (env : FrontEnv) (bytes : List ℕ) → x.part.station ≡ Some s → IsFrontEnv k x.c env → env.iss ≡ s.iss → Was x (Client x.c) Front bytes
-      → Owes k small x (front_does x (packet_seen (Client x.c) Front bytes) (front_gets env x.part.front bytes (decoded bytes x.c ToCluster)))
-  front-hears x s env bytes there is iss was h =
-      let o = open-at k.files x s there h in
-      let f : IsFairOn h.talk x.c x.part (Client x.c) Front bytes = has-fair (IsFair h.talk x.c x.part) (record { from = Client x.c; to = Front; bytes = bytes }) x.letters was o.fair in
-      let heads : List Seen = packet_seen (Client x.c) Front bytes in
-      let same : decoded bytes x.c ToCluster ≡ Ok f.0 = ap (λ (b : List ℕ). decoded b x.c ToCluster) f.1 ∙ again x.c ToCluster f.0 f.2.sendable in
-      subst (λ (r : Result Said SegFault). Keeps k.files x (front_does x heads (front_gets env x.part.front bytes r))) (sym same)
-      (by-files x env is _ (hears-row k small x s there env is h.talk h.pend o heads bytes f.0 f.2 (talk-of k small x env is s h.talk h.pend o iss) x.part.front.row refl))
-
-  front-fires : (x : Conn) (s : Station) (env : FrontEnv) → x.part.station ≡ Some s → IsFrontEnv k x.c env → Owes k small x (front_does x (event_seen (event.Timer Front x.c)) (front_timer env x.part.front))
-  front-fires x s env there is h =
-      let o = open-at k.files x s there h in
-      let same : FrontEnv = record env { iss = s.iss } in
-      let mine : IsFrontEnv k x.c same = record { place = is.place; number = is.number; files = is.files; stream = is.stream } in
-      by-files x env is _ (fires-row k small x s there same mine h.talk h.pend o (event_seen (event.Timer Front x.c)) (talk-of k small x same mine s h.talk h.pend o refl) x.part.front.row refl)
-
-  -- ---- the head of the line
-
-  module _ (x : Conn) (env : FrontEnv) (choice : FirstChoice) (given : FrontPart × FrontTurn) (is : IsFrontEnv k x.c env) (h : IsTruthful k.files x) where
-    abbrev Admits : Type 0
-    Admits = Keeps k.files x (front_admits x given)
-
-    by-stage : (row : FrontRow) → x.part.front.row ≡ Some row → (d : FrontConn) → row.stage ≡ d → admitted_at env x.part.front choice row d ≡ Some given → Admits
-    by-stage row found (stage.Waiting b) at e =
-        let opened = opened-at k.files x h (λ u. let no : Some row ≡ None = sym found ∙ u.front in absurd cc) in
-        let o = open-at k.files x opened.0 opened.1 h in
-        by-files x env is (front_admits x given) (waits-frozen k small x opened.0 opened.1 env is h.talk h.pend o row found b at choice given e)
-    by-stage row found _ at e = let no : None ≡ Some given = e in absurd cc
-
-    by-row : (o : Option FrontRow) → x.part.front.row ≡ o → admitted_by env x.part.front choice o ≡ Some given → Admits
-    by-row None found e = let no : None ≡ Some given = e in absurd cc
-    by-row (Some row) found e = by-stage row found row.stage refl e
-
-  fronts : FrontRules k (Owes k small)
-  fronts = record {
-    hears = front-hears;
-    fires = front-fires;
-    taken = λ x env n epoch bytes is spells was h. by-files x env is _ (taken-makes env x (packet_seen (Node n) Front bytes) epoch);
-    asked = λ x env n epoch number queue size paths bytes is spells was h. by-files x env is _
-        (asked-makes env x (packet_seen (Node n) Front bytes) n epoch (ask_of x.c n number queue size paths) (λ g. (has-fair (LetterWays env.serve.files (marks_at x) x.part) (record { from = Node n; to = Front; bytes = bytes }) x.letters was g.letters) _ spells));
-    ended = λ x env n epoch reason snd rcv count bytes is spells was h. by-files x env is _
-        (ended-makes env x (packet_seen (Node n) Front bytes) n epoch (record { reason = reason; snd = record { 0 = snd }; rcv = record { 0 = rcv } }));
-    admitted = λ x env choice given is e h. by-row x env choice given is h x.part.front.row refl e;
-  }
-
-  -- ---- the law
-
   keeps : UntouchedRules k (Owes k small)
-  keeps = record { client = clients k small; front = fronts; node = nodes k small; ignores = λ x from to bytes was. ignores k small x from to bytes }
+  keeps = record { client = clients k small; front = each-front k (Owes k small) (λ x env heads g is comes h. front-keep k small x h env is heads g comes); node = nodes k small; ignores = λ x from to bytes was. ignores k small x from to bytes }
 
   abbrev pub Owed : Conn → Move → Type 0
   Owed x v = MayRestOn IsPlaced x → IsPlaced x → places.Owes x v

@@ -69,9 +69,6 @@ quiet-at k x v (Node n) h = record { segments = h.segments; messages = inl h.mes
 quiet-at k x v Front h = tt
 quiet-at k x v (Client d) h = tt
 
-quiet-owes : (k : Setting) (x : Conn) (v : Move) → IsQuiet x v → HoldsNone (grown x v) × SaysAt k x v v.place
-quiet-owes k x v h = (h.holds, quiet-at k x v v.place h)
-
 deed-quiet : (x : Conn) (n : ℕ) (heads : List Seen) (d : node.NodeDeed) → HoldsNone x → DeedNone x.c d → IsQuiet x (node_does x n heads d)
 deed-quiet x n heads node.Drops h q = record { holds = h; segments = tt; messages = tt }
 deed-quiet x n heads (node.Says ms) h q = record { holds = h; segments = tt; messages = q }
@@ -103,7 +100,8 @@ module _ (k : Setting) where
     does = λ x n epoch env heads g is at comes h.
         let d : node.NodeDeed = node_rule env (x.part.nodes n) g in
         let quiet : IsQuiet x (node_does x n heads d) = deed-quiet x n heads d h (subst (λ (c : ℕ). DeedNone c d) is.number (rule-none env (x.part.nodes n) (h n) g at)) in
-        quiet-owes k x (node_goes x n env heads g) (record { holds = quiet.holds; segments = quiet.segments; messages = quiet.messages });
+        let v : Move = node_goes x n env heads g in
+        (quiet.holds, quiet-at k x v v.place (record { holds = quiet.holds; segments = quiet.segments; messages = quiet.messages }));
     aside = asides;
   })
 

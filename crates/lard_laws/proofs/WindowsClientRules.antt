@@ -1,10 +1,10 @@
 -- The rules of clients keep how far windows reach.
-use Rattle.std.proofs.Common.{◌≡◌, ◌≤◌, ◌<◌, ◌+◌, ◌^◌, ℕ, List, [], ◌∷◌, ◌++◌, map, length, Some, None, Result, Ok, refl, sym, ap, ◌∙◌, subst, arith}
+use Rattle.std.proofs.Common.{◌≡◌, ◌≤◌, ◌<◌, ◌+◌, ◌^◌, ℕ, List, [], ◌∷◌, ◌++◌, map, length, Some, None, Result, Ok, refl, sym, ◌∙◌, subst, arith}
 use Rattle.std.proofs.lemmas.Bool.{cond_both}
 use Rattle.lard_base.specs.declared.event.Event.TheVariants as event
-use Rattle.lard_law_view.specs.Prelude.{Client, ClientAgrees, ClientBlock, ClientRules, Conn, Front, GoesBetween, IsReply, IsTrueOf, Letter, Move, Node, Place, Said, Seen, SegFault, Setting, Station, Talk, ToClient, Turn, Was, client_aborts, client_after_timer, client_arrived, client_begins, client_does, client_gets, client_holds, client_opened, client_opens, client_shuts, client_speaks, client_taken, client_takes, client_timer, client_writes, client_written, decoded, event_seen, grown, held_on, is_writing, letter, letters_of, packet_seen, request, seq_offset, shut_down, silent, speaking, spelled}
-use Rattle.lard_law_connections.specs.BytesAgreement.{ConnAgrees, IsFair, IsFairOn, IsInner, IsNodePlace, IsTruthful, IsConnUnopened}
-use Rattle.lard_law_connections.proofs.BytesClientMoves.{has-fair, was-between}
+use Rattle.lard_law_view.specs.Prelude.{Client, ClientAgrees, ClientBlock, ClientRules, Conn, Front, GoesBetween, IsTrueOf, Letter, Move, Node, Place, Said, Seen, SegFault, Setting, Station, ToClient, Turn, Was, client_aborts, client_after_timer, client_arrived, client_begins, client_does, client_gets, client_holds, client_opened, client_opens, client_shuts, client_speaks, client_taken, client_takes, client_timer, client_writes, client_written, decoded, event_seen, grown, held_on, is_writing, letter, letters_of, packet_seen, request, seq_offset, shut_down, silent, speaking}
+use Rattle.lard_law_connections.specs.BytesAgreement.{ConnAgrees, IsInner, IsNodePlace, IsTruthful, IsConnUnopened}
+use Rattle.lard_law_connections.proofs.BytesClientMoves.{was-between}
 use Rattle.lard_law_connections.proofs.PlacesFrontRules.{has-each}
 use Rattle.lard_law_connections.specs.SilencePlaces.{FrontHas}
 use Rattle.lard_laws.specs.Windows.{BytesReach, ClientReaches, EndSent, FrontSent, IsReaching, LetterReaches, LetterReachesOn, ReachesOn, StationReaches, SymbolsWereSent}
@@ -16,7 +16,7 @@ use Rattle.lard_laws.proofs.WindowsPlaces.{no-stay}
 use Rattle.lard_history.proofs.Each.{Each, Each-append, Each-weaker}
 use Rattle.lard_journal.specs.declared.rec.Rec.TheVariants as rec
 use Rattle.lard_law_view.proofs.Acked.{taken_by}
-use Rattle.lard_segment.proofs.Again.{again}
+use Rattle.lard_laws.proofs.ClientComing.{reply-of}
 use Rattle.lard_law_view.proofs.Client.{arriving-continues}
 use Rattle.lard_laws.proofs.WindowsOpen as known
 
@@ -77,41 +77,17 @@ module _ (k : Setting) (small : k.stream ≤ 2 ^ 30) where
         heard-takes heads given refl refl heard-reaches
 
   client-hears : (x : Conn) (s : Station) (from : Place) (bytes : List ℕ) → x.part.station ≡ Some s → Was x from (Client x.c) bytes → Keeps x (client_does x s (packet_seen from (Client x.c) bytes) (client_gets s.client (decoded bytes x.c ToClient)))
-  client-hears x s from bytes there was help h0 = go (decoded bytes x.c ToClient) refl where
-    heads : List Seen
-    heads = packet_seen from (Client x.c) bytes
-
-    m : Letter
-    m = record { from = from; to = Client x.c; bytes = bytes }
-
-    h : StationReaches x s
-    h = subst (ReachesOn x) there h0
-
-    l : Talk
-    l = help.truth.talk
-
-    reaches-from : (p : Place) (u : ℕ) → GoesBetween x.c p (Client x.c) bytes → LetterReachesOn x.c s.client.send.iss s.iss u p (Client x.c) bytes → BytesReach x.c s.client.send.iss s.iss u bytes
-    reaches-from Front u g r = r
-    reaches-from (Node n) u g r = r
-    reaches-from (Client d) u g r = absurd g
-
-    fair-from : (p : Place) → GoesBetween x.c p (Client x.c) bytes → IsFairOn l x.c x.part p (Client x.c) bytes → (t : Said) × (bytes ≡ spelled x.c ToClient t) × IsReply l.w l.out l.was_reset t
-    fair-from Front g f = f
-    fair-from (Node n) g f = f
-    fair-from (Client d) g f = absurd g
-
-    between : GoesBetween x.c from (Client x.c) bytes
-    between = was-between x from (Client x.c) bytes help.sound was
-
-    fair : (t : Said) × (bytes ≡ spelled x.c ToClient t) × IsReply l.w l.out l.was_reset t
-    fair = fair-from from between (has-fair (IsFair l x.c x.part) m x.letters was (known.whole k small x s there help.truth).fair)
-
-    read : decoded bytes x.c ToClient ≡ Ok fair.0
-    read = ap (λ (b : List ℕ). decoded b x.c ToClient) fair.1 ∙ again x.c ToClient fair.0 fair.2.sendable
-
-    go : (r : Result Said SegFault) → decoded bytes x.c ToClient ≡ r → IsReaching (grown x (client_does x s heads (client_gets s.client (decoded bytes x.c ToClient))))
-    go r e = subst (λ (q : Result Said SegFault). IsReaching (grown x (client_does x s heads (client_gets s.client q)))) (sym read)
-        (heard-moves x s there help.truth h bytes fair.0 read (λ u all. reaches-from from u between (has-each (LetterReaches x.c s.client.send.iss s.iss u) m x.letters was all)) fair.2.true_of fair.2.sendable.seq_fits heads)
+  client-hears x s from bytes there was help h0 =
+      let heads : List Seen = packet_seen from (Client x.c) bytes in
+      let h : StationReaches x s = subst (ReachesOn x) there h0 in
+      let f = reply-of k small x s there help.truth help.sound from bytes was in
+      subst (λ (q : Result Said SegFault). IsReaching (grown x (client_does x s heads (client_gets s.client q)))) (sym f.read)
+      (heard-moves x s there help.truth h bytes f.said f.read (λ u all. reaches-from from u (was-between x from (Client x.c) bytes help.sound was)
+      (has-each (LetterReaches x.c s.client.send.iss s.iss u) (record { from = from; to = Client x.c; bytes = bytes }) x.letters was all)) f.reply.true_of f.reply.sendable.seq_fits heads) where
+        reaches-from : (p : Place) (u : ℕ) → GoesBetween x.c p (Client x.c) bytes → LetterReachesOn x.c s.client.send.iss s.iss u p (Client x.c) bytes → BytesReach x.c s.client.send.iss s.iss u bytes
+        reaches-from Front u g r = r
+        reaches-from (Node n) u g r = r
+        reaches-from (Client d) u g r = absurd g
 
   -- it opens: nothing was sent to it before
   inner-reach : (c isn iss u : ℕ) (ls : List Letter) → Each IsInner ls → Each (LetterReaches c isn iss u) ls
@@ -120,8 +96,7 @@ module _ (k : Setting) (small : k.stream ≤ 2 ^ 30) where
     go Front (Node n) bytes i = tt
     go (Node m) (Node n) bytes i = tt
     go (Client d) (Node n) bytes i = tt
-    go from Front bytes i = absurd i
-    go from (Client d) bytes i = absurd i
+    go from _ bytes i = absurd i
 
   client-opens-so : (x : Conn) (isn iss wnd mss : ℕ) → x.part.station ≡ None → Keeps x (client_begins x isn iss wnd mss)
   client-opens-so x isn iss wnd mss none help h =

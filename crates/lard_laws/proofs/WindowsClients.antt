@@ -194,9 +194,6 @@ module _ (x : ClientBlock) (iss most : ℕ) (s : Said) (h : IsHearing x iss most
 
 fresh-in : (p : Phase) (x : ClientBlock) (s : Said) → x.send.una ≡ 0 → (x.accepted ≡ 0) × (x.eof ≡ false) → ((heard_in p x s).1.accepted ≡ 0) × ((heard_in p x s).1.eof ≡ false)
 fresh-in Open x s none was = go (x.send.una == 0) refl where
-  Q : Heard × ClientBlock → Type 0
-  Q r = (r.1.accepted ≡ 0) × (r.1.eof ≡ false)
-
   go : (t : Bool) → (x.send.una == 0) ≡ t → ((cond t (on_greeting x s) (client_on_segment x s)).1.accepted ≡ 0) × ((cond t (on_greeting x s) (client_on_segment x s)).1.eof ≡ false)
   go true e = greeting-quiet x s (λ (r : Heard × ClientBlock). (r.1.accepted ≡ 0) × (r.1.eof ≡ false)) (λ y a f w. (a ∙ was.0, f ∙ was.1))
   go false e = absurd (eqb-false x.send.una 0 e none)

@@ -1,7 +1,7 @@
 -- An endpoint that took its client's SYN alone goes on so while nothing but the SYN comes.
 use Rattle.std.proofs.Common.{◌≡◌, ◌≤◌, ◌<◌, ◌+◌, ◌^◌, ◌==◌, ◌&&◌, ◌||◌, zero, suc, ℕ, Bool, true, false, cond, List, [], ◌∷◌, ◌++◌, length, take, drop, Option, Some, None, refl, sym, ap, ◌∙◌, subst, arith}
-use Rattle.std.proofs.lemmas.Bool.{and_parts, both_ways, cond_both, eqb-true}
-use Rattle.lard_law_view.specs.Prelude.{ControlBlock, Done, Ending, Found, Front, FrontConn, FrontDeed, FrontEnv, FrontPart, FrontRest, FrontRow, More, Place, Reading, Ready, Received, Said, Service, Step, Turn, after_emit, after_timer, arrived, awaited, begins_after, bytes_taken, cut_of, cut_off, ends, filled, fires_at, fresh_bytes, front_begun, front_fired_by, front_hears, front_reads, front_rest, head_end, heard, hears_at, holds, is_plain_syn, listening, may_end, may_read, on_segment, one_if, rcv_nxt, reading_left, reading_turn, reads_found, rested, seg_len, seq_add, seq_offset, serving, serving_consumed, serving_ready_of, settled_by, skipped, speaks, spoken, stage_after, timed}
+use Rattle.std.proofs.lemmas.Bool.{both_ways, cond_both, eqb-true}
+use Rattle.lard_law_view.specs.Prelude.{ControlBlock, Done, Ending, Found, FrontDeed, FrontEnv, FrontPart, FrontRest, FrontRow, More, Place, Reading, Ready, Received, Said, Service, Step, after_emit, after_timer, arrived, awaited, begins_after, bytes_taken, cut_of, ends, filled, fresh_bytes, front_fired, front_reads, front_rest, head_end, holds, may_end, may_read, on_segment, one_if, rcv_nxt, reading_left, reading_turn, reads_found, rested, seg_len, seq_add, seq_offset, serving_consumed, serving_ready_of, skipped, speaks, spoken, stage_after, timed}
 use Rattle.lard_block.specs.declared.block.Found.TheVariants as found
 use Rattle.lard_law_connections.proofs.SilenceTurns.{AreTold, Told}
 use Rattle.lard_laws.specs.WindowsEarly.{IsFresh, RowIsFresh, StageIsFresh}
@@ -9,12 +9,12 @@ use Rattle.lard_endpoint.proofs.Windows.{emit-recv, emitted-tells, timed-tells, 
 use Rattle.lard_rules.specs.Front.{Drops, Says, Does}
 use Rattle.lard_handoff_front.specs.declared.row.FrontConn.TheVariants as stage
 use Rattle.lard_history.proofs.Each.{Each-append}
-use Rattle.lard_journal.specs.declared.rec.Rec.TheVariants as rec
 use Rattle.lard_law_view.proofs.EndpointStreams.{segment-takes}
 use Rattle.lard_rules.proofs.Loops.{speaks_keep}
 use Rattle.lard_rules.proofs.Runs.{runs_keep}
 use Rattle.lard_rules.proofs.Hearing.{emit-keeps, segment-keeps, timer-keeps}
 use Rattle.lard_rules.proofs.Endings.{rested-keeps}
+use Rattle.lard_rules.proofs.FrontCases.{fired_before, fired_service}
 
 -- ---- what is taken
 
@@ -179,13 +179,13 @@ module _ (isn : ℕ) where
     stays : (b : ControlBlock) (count : ℕ) → IsFresh isn b → StageIsFresh isn (stage_after stage.Held (rested b count))
     stays b count h = rested-keeps (λ (e : Ending). StageIsFresh isn (stage_after stage.Held e)) b count (λ t. absurd (both_ways (may_end b) (may-not b h) t)) (λ t. h)
 
-    holds-early : (row : FrontRow) (rest : FrontRest) (w : Service) (before : List (Place × List ℕ)) → IsFresh isn w.block → AreTold c (AcksFirst isn) before → DeedIsEarly c (holds p row rest (spoken env.serve w before))
+    pub holds-early : (row : FrontRow) (rest : FrontRest) (w : Service) (before : List (Place × List ℕ)) → IsFresh isn w.block → AreTold c (AcksFirst isn) before → DeedIsEarly c (holds p row rest (spoken env.serve w before))
     holds-early row rest w before h sent =
         let l = speaks-fresh c w.block h in
         (stays (speaks c w.block).1 w.count l.0, Each-append (Told c (AcksFirst isn)) before (speaks c w.block).0 sent l.1, refl)
 
     -- it has nothing to read
-    abbrev ReadsNothing : Reading → Type 0
+    abbrev pub ReadsNothing : Reading → Type 0
     ReadsNothing x = IsFresh isn x.service.block × (x.service.over ≡ None) × (x.target ≡ None)
 
     abbrev StepReads : Step Reading → Type 0
@@ -203,43 +203,14 @@ module _ (isn : ℕ) where
         (λ t. (record { irs_is = h.0.irs_is; got = h.0.got; fin = h.0.fin; unread = h.0.unread; reset = h.0.reset }, h.1, h.2))))
         (λ t. h)
 
-    reads-nothing : (x : Reading) → ReadsNothing x → ReadsNothing (front_reads env.serve x)
+    pub reads-nothing : (x : Reading) → ReadsNothing x → ReadsNothing (front_reads env.serve x)
     reads-nothing x h = runs_keep (reading_turn env.serve) reading_left ReadsNothing (record {
       more = λ y z e q. subst StepReads e (turn-reads y q);
       done = λ y z e q. subst StepReads e (turn-reads y q);
     }) x h
 
-    heard-early : (row : FrontRow) (rest : FrontRest) (b : ControlBlock) → IsFresh isn b → DeedIsEarly c (heard env p row rest b)
-    heard-early row rest b h =
-        let x : Reading = front_reads env.serve (record { service = serving b rest.count []; target = None }) in
-        let n : ReadsNothing x = reads-nothing (record { service = serving b rest.count []; target = None }) (h, refl, refl) in
-        subst (λ (t : Option (List ℕ)). DeedIsEarly c (settled_by env p row rest x.service t)) (sym n.2) (go x.service n.0 x.service.over n.1)
-      where
-        go : (w : Service) → IsFresh isn w.block → (o : Option ℕ) → o ≡ None → DeedIsEarly c (holds p row rest (elim o as (λ q. Ending × Turn) [ None ↦ spoken env.serve w [] | Some total ↦ cut_off env.serve w ]))
-        go w h None e = holds-early row rest w [] h tt
-        go w h (Some total) e = absurd (let bad : Some total ≡ None = e in cc)
-
-    module _ (small : isn < 2 ^ 32) (s : Said) (seq_small : s.seq < 2 ^ 32) (within : seq_offset s.seq isn + seg_len s ≤ 1) (plain : s.flags.rst ≡ false) (greets : s.flags.syn ≡ true → s.seq ≡ isn) where
-      hears-at-early : (bytes : List ℕ) (row : FrontRow) (st : FrontConn) → StageIsFresh isn st → DeedIsEarly c (hears_at env p row bytes s st)
-      hears-at-early bytes row (stage.Held b) h = heard-early row (front_rest p.rest) (on_segment b s).1 (segment-fresh isn small s seq_small within plain b h)
-      hears-at-early bytes row _ h = absurd h
-
-      pub hears-early : (bytes : List ℕ) (q : Option FrontRow) → RowIsFresh isn q → DeedIsEarly c (front_hears env p bytes s q)
-      hears-early bytes None h = cond_both (is_plain_syn s) (front_begun env p s) Drops (DeedIsEarly c)
-          (λ t.
-          let row : FrontRow = record { stage = stage.Lent; epoch = record { 0 = 1 }; ended_by = None } in
-          let w : Service = serving (listening s env.iss) 0 (rec.Took Front env.serve.c (record { 0 = 1 }) ∷ []) in
-          holds-early row (front_rest None) w [] (record { irs_is = greets (and_parts s.flags.syn _ t).0; got = refl; fin = refl; unread = refl; reset = refl }) tt)
-          (λ t. tt)
-      hears-early bytes (Some row) h = hears-at-early bytes row row.stage h
-
-    fires-at-early : (row : FrontRow) (st : FrontConn) → StageIsFresh isn st → DeedIsEarly c (fires_at env p row st)
-    fires-at-early row (stage.Held b) h = holds-early row (front_rest p.rest) (serving (after_timer b) (front_rest p.rest).count []) (serving_ready_of env.serve (after_timer b) (timed b)) (timer-fresh b h) (go (timed b) refl) where
+    pub fired-early : (row : FrontRow) (b : ControlBlock) → IsFresh isn b → DeedIsEarly c (holds p row (front_rest p.rest) (front_fired env (front_rest p.rest) b))
+    fired-early row b h = holds-early row (front_rest p.rest) (fired_service p b) (fired_before env b) (timer-fresh b h) (go (timed b) refl) where
       go : (o : Option Ready) → timed b ≡ o → AreTold c (AcksFirst isn) (serving_ready_of env.serve (after_timer b) o)
       go None e = tt
       go (Some r) e = ((refl, (filled (after_timer b) r, refl, λ a. (timed-tells b r e).ack ∙ next-number b h)), tt)
-    fires-at-early row _ h = absurd h
-
-    pub fires-early : (q : Option FrontRow) → RowIsFresh isn q → DeedIsEarly c (front_fired_by env p q)
-    fires-early None h = tt
-    fires-early (Some row) h = fires-at-early row row.stage h

@@ -1,30 +1,32 @@
 -- Each rule keeps that of an open client which is not established nothing is known but its SYN.
-use Rattle.std.proofs.Common.{◌≡◌, ◌≤◌, ◌+◌, ◌^◌, ℕ, Bool, true, false, List, [], ◌∷◌, ◌++◌, map, Option, Some, None, Result, Ok, refl, sym, ap, ◌∙◌, subst, arith}
-use Rattle.std.proofs.lemmas.Bool.{both_ways}
-use Rattle.lard_law_view.specs.Prelude.{BackRow, Client, ClientBlock, ClientRules, Conn, ControlBlock, FirstChoice, Front, FrontConn, FrontRow, FrontRules, IsConnSound, IsFrontEnv, IsUntouchedLaw, Letter, MayRestOn, Move, Node, NodeEnv, NodeGets, NodePart, NodeRules, Place, Said, Seen, SegFault, Setting, Station, Stay, Stream, Talk, ToClient, ToCluster, Turn, TurnSaid as SaidIn, Untouched, UntouchedRules, Was, admitted_at, admitted_by, again_sent, ask_of, client_aborts, client_begins, client_does, client_gets, client_holds, client_opens, client_shuts, client_takes, client_timer, client_writes, decoded, event_seen, front_asked, front_does, front_ended, front_gets, front_taken, front_timer, grown, is_client_open, letter, letters_of, node_does, nothing_said, packet_seen, request, seg_len, seq_offset, spelled, stands, tale_at}
-use Rattle.lard_base.specs.declared.event.Event.TheVariants as event
-use Rattle.lard_laws.proofs.AcksRuns.{front-station, node-station}
-use Rattle.lard_law_connections.specs.BytesAgreement.{ConnAgrees, IsFair, IsFairOn, IsInner, IsNodePlace, IsOpen, IsTruthful, IsConnUnopened}
-use Rattle.lard_law_connections.proofs.BytesClientMoves.{has-fair, open-at}
+use Rattle.std.proofs.Common.{◌≡◌, ◌≤◌, ◌+◌, ◌^◌, ℕ, Bool, true, false, List, [], ◌∷◌, ◌++◌, map, Option, Some, None, Ok, ⊎_elim, refl, sym, ap, ◌∙◌, subst, arith}
+use Rattle.std.proofs.lemmas.Bool.{and_parts, both_ways}
+use Rattle.lard_law_view.specs.Prelude.{BackRow, Client, ClientBlock, ClientRules, Conn, ControlBlock, Front, FrontConn, FrontDeed, FrontEnv, FrontGets, FrontPart, FrontRow, FrontRules, IsConnSound, IsFrontEnv, IsUntouchedLaw, IsWord, Letter, MayRestOn, Move, Node, NodeEnv, NodeGets, NodePart, NodeRules, Place, Said, Seen, Service, Setting, Station, Stay, Stream, Talk, ToClient, Turn, TurnSaid as SaidIn, Untouched, UntouchedRules, Was, again_sent, client_begins, client_does, client_opens, client_rule, front_does, front_rest, front_rule, grown, holds, is_client_open, letter, letters_of, node_does, nothing_said, packet_seen, seg_len, seq_offset, spelled, stands, tale_at}
+use Rattle.lard_law_connections.specs.BytesAgreement.{ConnAgrees, IsInner, IsNodePlace, IsOpen, IsTruthful, IsConnUnopened}
+use Rattle.lard_law_connections.proofs.BytesClientMoves.{open-at}
 use Rattle.lard_law_connections.specs.Places.{IsPast, Sits, owning}
 use Rattle.lard_law_connections.proofs.PlacesFrontRules.{has-each}
 use Rattle.lard_law_connections.proofs.PlacesTurns.{IsPlaced}
 use Rattle.lard_law_connections.proofs.SilenceTurns.{AreTold}
+use Rattle.lard_law_view.proofs.EachClient.{client_seen, each-client}
+use Rattle.lard_law_view.proofs.EachFront.{FrontComes, HasSegment, admission, each-front}
 use Rattle.lard_law_view.proofs.EachNode.{NodeComes, aside_said, aside_seen, each-node, node_goes}
 use Rattle.lard_law_view.proofs.Guarded.{untouched-weaker}
 use Rattle.lard_laws.specs.WindowsEarly.{RowIsFresh, StageIsFresh}
 use Rattle.lard_laws.specs.WindowsWords.{FitsClient, FitsOn, HasFittingWords, HasStarted, Starts, StartsOn, WordFits}
-use Rattle.lard_laws.proofs.NodeDeeds.{again-letters, aside-letters}
-use Rattle.lard_laws.proofs.WindowsEarly.{AcksFirst, DeedIsEarly, fires-early, hears-early}
-use Rattle.lard_laws.proofs.WindowsWordRuns.{by-aborts, by-holds, by-shuts, by-takes, by-timer, by-writes, hears-turned}
+use Rattle.lard_laws.proofs.FrontComing.{front-station, heard-word}
+use Rattle.lard_laws.proofs.NodeDeeds.{again-letters, aside-letters, node-station}
+use Rattle.lard_laws.proofs.WindowsEarly.{AcksFirst, DeedIsEarly, ReadsNothing, fired-early, holds-early, reads-nothing, segment-fresh}
+use Rattle.lard_laws.proofs.WindowsWordRuns.{rule-turned}
 use Rattle.lard_laws.proofs.WindowsWords.{IsLater}
 use Rattle.lard_laws.proofs.WindowsWordTurns.{Turned}
-use Rattle.lard_rules.specs.Front as front
+use Rattle.lard_rules.specs.Front.{Drops, Says, Does}
 use Rattle.lard_handoff_front.specs.declared.row.FrontConn.TheVariants as stage
 use Rattle.lard_history.proofs.Each.{Each, Each-append, Each-weaker}
+use Rattle.lard_rules.proofs.Endings.{settled-keeps}
+use Rattle.lard_rules.proofs.FrontCases.{IsInStage, KeptByFront, KeptBySegment, begun_row, begun_service, front-keeps, heard_reading, of-stage}
 use Rattle.lard_rules.proofs.NodeCases.{IsHereWith, IsInItsEpoch, KeptByNode, node-keeps}
 use Rattle.lard_rules.specs.Node as node
-use Rattle.lard_segment.proofs.Again.{again}
 
 -- ---- letters, by how they were spelled
 
@@ -69,10 +71,8 @@ inner-are : (c isn : ℕ) (ls : List Letter) → Each IsInner ls → Each (Lette
 inner-are c isn ls h = Each-weaker IsInner (LetterIs c isn) (λ l i. go l.from l.to l.bytes i.0 i.1) ls h where
   go : (from to : Place) (bytes : List ℕ) → IsNodePlace from → IsNodePlace to → SpelledOn c isn from to bytes
   go (Node m) (Node n) bytes i j = tt
-  go (Node m) Front bytes i j = absurd j
-  go (Node m) (Client d) bytes i j = absurd j
-  go Front to bytes i j = absurd i
-  go (Client d) to bytes i j = absurd i
+  go (Node m) _ bytes i j = absurd j
+  go _ to bytes i j = absurd i
 
 module _ (k : Setting) (small : k.stream ≤ 2 ^ 30) where
   -- what is known beside it
@@ -95,10 +95,10 @@ module _ (k : Setting) (small : k.stream ≤ 2 ^ 30) where
 
   -- ---- the front end
 
-  front-moves : (x : Conn) (s : Station) (heads : List Seen) (d : front.FrontDeed) → IsEarlySo x s → DeedIsEarly s.client.send.iss x.c d → IsEarlySo (grown x (front_does x heads d)) s
-  front-moves x s heads front.Drops h f = record { front = h.front; nodes = h.nodes; letters = Each-append (LetterIs x.c s.client.send.iss) x.letters [] h.letters tt }
-  front-moves x s heads (front.Says turn) h f = absurd f
-  front-moves x s heads (front.Does did) h f =
+  front-moves : (x : Conn) (s : Station) (heads : List Seen) (d : FrontDeed) → IsEarlySo x s → DeedIsEarly s.client.send.iss x.c d → IsEarlySo (grown x (front_does x heads d)) s
+  front-moves x s heads Drops h f = record { front = h.front; nodes = h.nodes; letters = Each-append (LetterIs x.c s.client.send.iss) x.letters [] h.letters tt }
+  front-moves x s heads (Says turn) h f = absurd f
+  front-moves x s heads (Does did) h f =
       let isn : ℕ = s.client.send.iss in
       record {
         front = f.0;
@@ -108,78 +108,90 @@ module _ (k : Setting) (small : k.stream ≤ 2 ^ 30) where
             (subst (λ (ms : List (Place × List ℕ)). Each (LetterIs x.c isn) (map (letter Front) ms)) (sym f.2) tt));
       }
 
-  front-rule : (x : Conn) (heads : List Seen) (d : front.FrontDeed) → (Helps x → (s : Station) → x.part.station ≡ Some s → is_client_open s.client ≡ true → s.client.send.una ≡ 0 → IsEarlySo x s → DeedIsEarly s.client.send.iss x.c d) → Keeps x (front_does x heads d)
-  front-rule x heads d f help h = by-early x (front_does x heads d) (front-station x heads d) (λ s there open_ una e. front-moves x s heads d e (f help s there open_ una e)) h
+  -- what was said between the front end and a node was not
+  none-said : (x : Conn) (s : Station) (from to : Place) (bytes : List ℕ) → IsEarlySo x s → Was x from to bytes → SpelledOn x.c s.client.send.iss from to bytes
+  none-said x s from to bytes h was = has-each (LetterIs x.c s.client.send.iss) (record { from = from; to = to; bytes = bytes }) x.letters was h.letters
 
-  own-number : (x : Conn) (isn : ℕ) (env : front.FrontEnv) → IsFrontEnv k x.c env → (d : front.FrontDeed) → DeedIsEarly isn env.serve.c d → DeedIsEarly isn x.c d
-  own-number x isn env is d f = subst (λ (c : ℕ). DeedIsEarly isn c d) is.number f
-
-  -- a segment of the client's
-  module _ (x : Conn) (help : Helps x) (s : Station) (there : x.part.station ≡ Some s) (open_ : is_client_open s.client ≡ true) (una : s.client.send.una ≡ 0) (h : IsEarlySo x s) (env : front.FrontEnv) (bytes : List ℕ) (was : Was x (Client x.c) Front bytes) where
+  module _ (x : Conn) (help : Helps x) (s : Station) (there : x.part.station ≡ Some s) (open_ : is_client_open s.client ≡ true) (una : s.client.send.una ≡ 0) (h : IsEarlySo x s) (env : FrontEnv) (heads : List Seen) where
     abbrev talk : Talk
     talk = help.truth.talk
 
     abbrev whole : IsOpen k.files x talk help.truth.pend s
     whole = open-at k.files x s there help.truth
 
-    abbrev m : Letter
-    m = record { from = Client x.c; to = Front; bytes = bytes }
+    abbrev f : FrontPart
+    f = x.part.front
 
-    word : IsFairOn talk x.c x.part (Client x.c) Front bytes
-    word = has-fair (IsFair talk x.c x.part) m x.letters was whole.fair
+    abbrev isn : ℕ
+    isn = s.client.send.iss
 
-    read : decoded bytes x.c ToCluster ≡ Ok word.0
-    read = ap (λ (b : List ℕ). decoded b x.c ToCluster) word.1 ∙ again x.c ToCluster word.0 word.2.sendable
+    abbrev Goal : FrontDeed → Type 0
+    Goal d = DeedIsEarly isn env.serve.c d
 
-    fits : FitsClient x.c s.client x.letters word.0
-    fits = (has-each (WordFits x.c s.client x.letters) m x.letters was (subst (FitsOn x) there help.words)) word.0 read
+    abbrev Came : Service → Option (List ℕ) → Type 0
+    Came w target = ReadsNothing isn env f (record { service = w; target = target })
+
+    fresh-at : (row : FrontRow) (st : FrontConn) → IsInStage f row st → StageIsFresh isn st
+    fresh-at row st at = of-stage (RowIsFresh isn) f row st at h.front
 
     starts : Starts s.client
     starts = subst StartsOn there help.started
 
-    plain : word.0.flags.rst ≡ false
-    plain = go word.0.flags.rst refl where
-      go : (b : Bool) → word.0.flags.rst ≡ b → word.0.flags.rst ≡ false
-      go false e = e
-      go true e = absurd (both_ways (is_client_open s.client) (fits.closed e) open_)
+    none-placed : (path : List ℕ) → Some path ≡ None → ⊥
+    none-placed path e = cc
 
-    within : seq_offset word.0.seq s.client.send.iss + seg_len word.0 ≤ 1
-    within = let e = fits.sent plain in let few = starts.first una in omega (arith, e, few)
+    by-segment : (bytes : List ℕ) (sd : Said) → HasSegment x env bytes (Ok sd) heads → KeptBySegment env f bytes sd Came Goal
+    by-segment bytes sd c =
+        let word : IsWord talk.w sd = heard-word x s env bytes heads k.files talk help.truth.pend whole sd c in
+        let fits : FitsClient x.c s.client x.letters sd =
+        (has-each (WordFits x.c s.client x.letters) (record { from = Client x.c; to = Front; bytes = bytes }) x.letters c.was (subst (FitsOn x) there help.words)) sd (sym c.read) in
+        let plain : sd.flags.rst ≡ false = go sd.flags.rst refl fits.closed in
+        let within : seq_offset sd.seq isn + seg_len sd ≤ 1 = let e = fits.sent plain in let few = starts.first una in omega (arith, e, few) in
+        record {
+          drops = tt;
+          begins = λ none syn.
+              let greets : sd.seq ≡ isn = word.true_of.greets (and_parts sd.flags.syn _ syn).0 ∙ ap (λ (u : Stream). u.first) whole.client.w_is in
+              holds-early isn env f begun_row (front_rest None) (begun_service env sd) [] (record { irs_is = greets; got = refl; fin = refl; unread = refl; reset = refl }) tt;
+          reads = λ row b at. reads-nothing isn env f (heard_reading f b sd)
+              (segment-fresh isn whole.client.speaks.number sd word.sendable.seq_fits within plain b (fresh-at row (stage.Held b) at), refl, refl);
+          holds = λ row b w at r. settled-keeps (λ given. Goal (holds f row (front_rest f.rest) given)) env.serve w (λ e. holds-early isn env f row (front_rest f.rest) w [] r.0 tt)
+              (λ total e. absurd (let no : Some total ≡ None = sym e ∙ r.1 in cc));
+          hands = λ row b w path choice at r is. absurd (none-placed path r.2);
+          waits = λ row b w path at r is. absurd (none-placed path r.2);
+          stays = λ row b at. absurd (fresh-at row (stage.Waiting b) at);
+          forwards = λ row n e at. absurd (⊎_elim (λ (a : IsInStage f row (stage.Offering n e)). fresh-at row (stage.Offering n e) a) (λ (a : IsInStage f row (stage.Moved n e)). fresh-at row (stage.Moved n e) a) at);
+          words = λ row last at. absurd (fresh-at row (stage.Closed last) at);
+        }
+      where
+        go : (b : Bool) → sd.flags.rst ≡ b → (sd.flags.rst ≡ true → is_client_open s.client ≡ false) → sd.flags.rst ≡ false
+        go false e closed = e
+        go true e closed = absurd (both_ways (is_client_open s.client) (closed e) open_)
 
-    greets : word.0.flags.syn ≡ true → word.0.seq ≡ s.client.send.iss
-    greets e = word.2.true_of.greets e ∙ ap (λ (u : Stream). u.first) whole.client.w_is
+    by-rules : KeptByFront env f (FrontComes x env heads) Came Goal
+    by-rules = record {
+      drops = tt;
+      hears = by-segment;
+      fires = λ c. record {
+        drops = tt;
+        holds = λ row b at. fired-early isn env f row b (fresh-at row (stage.Held b) at);
+        stays = λ row b at. absurd (fresh-at row (stage.Waiting b) at);
+        resends = λ row n e at. absurd (fresh-at row (stage.Offering n e) at);
+      };
+      takes = λ n epoch c row i e at same. absurd (fresh-at row (stage.Offering i e) at);
+      tags_again = λ n epoch ask c rest found there same some. absurd (none-said x s (Node n) Front c.told.bytes h c.told.was);
+      assigns_next = λ n epoch ask c rest found there next. absurd (none-said x s (Node n) Front c.told.bytes h c.told.was);
+      ends_again = λ n epoch last c row found away again. absurd (none-said x s (Node n) Front c.told.bytes h c.told.was);
+      ends = λ n epoch last c row found away. absurd (none-said x s (Node n) Front c.told.bytes h c.told.was);
+      admits = λ choice row b path at target. absurd (fresh-at row (stage.Waiting b) at);
+    }
 
-    word-early : DeedIsEarly s.client.send.iss env.serve.c (front_gets env x.part.front bytes (decoded bytes x.c ToCluster))
-    word-early = subst (λ (r : Result Said SegFault). DeedIsEarly s.client.send.iss env.serve.c (front_gets env x.part.front bytes r)) (sym read)
-        (hears-early s.client.send.iss env x.part.front whole.client.speaks.number word.0 word.2.sendable.seq_fits within plain greets bytes x.part.front.row h.front)
-
-  -- it is admitted from no such stage
-  not-admitted : (isn : ℕ) (env : front.FrontEnv) (p : front.FrontPart) (choice : FirstChoice) (given : front.FrontPart × _) → (q : Option FrontRow) → RowIsFresh isn q → admitted_by env p choice q ≡ Some given → ⊥
-  not-admitted isn env p choice given None h e = let no : None ≡ Some given = e in cc
-  not-admitted isn env p choice given (Some row) h e = go row.stage h e where
-    go : (st : FrontConn) → StageIsFresh isn st → admitted_at env p choice row st ≡ Some given → ⊥
-    go (stage.Held b) h e = let no : None ≡ Some given = e in cc
-    go (stage.Waiting b) h e = absurd h
-    go stage.Lent h e = absurd h
-    go (stage.Offering n d) h e = absurd h
-    go (stage.Moved n d) h e = absurd h
-    go (stage.Closed last) h e = absurd h
-
-  -- what was said between the front end and a node was not
-  none-said : (x : Conn) (s : Station) (from to : Place) (bytes : List ℕ) → IsEarlySo x s → Was x from to bytes → SpelledOn x.c s.client.send.iss from to bytes
-  none-said x s from to bytes h was = has-each (LetterIs x.c s.client.send.iss) (record { from = from; to = to; bytes = bytes }) x.letters was h.letters
+    front-early : IsFrontEnv k x.c env → (g : FrontGets) → FrontComes x env heads g → DeedIsEarly isn x.c (front_rule env f g)
+    front-early is g comes = subst (λ (c : ℕ). DeedIsEarly isn c (front_rule env f g)) is.number (front-keeps env f (FrontComes x env heads) Came Goal by-rules g (admission x env heads g comes) comes)
 
   front-rules : FrontRules k Keeps
-  front-rules = record {
-    hears = λ x t env bytes at is iss was. front-rule x (packet_seen (Client x.c) Front bytes) (front_gets env x.part.front bytes (decoded bytes x.c ToCluster)) (λ help s there open_ una h.
-        own-number x s.client.send.iss env is (front_gets env x.part.front bytes (decoded bytes x.c ToCluster)) (word-early x help s there open_ una h env bytes was));
-    fires = λ x t env at is. front-rule x (event_seen (event.Timer Front x.c)) (front_timer env x.part.front) (λ help s there open_ una h.
-        own-number x s.client.send.iss env is (front_timer env x.part.front) (fires-early s.client.send.iss env x.part.front x.part.front.row h.front));
-    taken = λ x env n epoch bytes is spells was. front-rule x (packet_seen (Node n) Front bytes) (front_taken x.part.front epoch) (λ help s there open_ una h. absurd (none-said x s (Node n) Front bytes h was));
-    asked = λ x env n epoch number queue size paths bytes is spells was. front-rule x (packet_seen (Node n) Front bytes) (front_asked env x.part.front n epoch (ask_of x.c n number queue size paths)) (λ help s there open_ una h. absurd (none-said x s (Node n) Front bytes h was));
-    ended = λ x env n epoch reason snd rcv count bytes is spells was. front-rule x (packet_seen (Node n) Front bytes) (front_ended env x.part.front n epoch (record { reason = reason; snd = record { 0 = snd }; rcv = record { 0 = rcv } })) (λ help s there open_ una h. absurd (none-said x s (Node n) Front bytes h was));
-    admitted = λ x env choice given is e. front-rule x [] (front.Does (record { part = given.0; turn = given.1; calls = [] })) (λ help s there open_ una h. absurd (not-admitted s.client.send.iss env x.part.front choice given x.part.front.row h.front e));
-  }
+  front-rules = each-front k Keeps (λ x env heads g is comes help h.
+      let d : FrontDeed = front_rule env x.part.front g in
+      by-early x (front_does x heads d) (front-station x heads d) (λ s there open_ una e. front-moves x s heads d e (front-early x help s there open_ una e env heads is g comes)) h)
 
   -- ---- the nodes
 
@@ -270,17 +282,10 @@ module _ (k : Setting) (small : k.stream ≤ 2 ^ 30) where
       past-none (Some row) past = absurd (let less = past.0 in omega (arith, less))
 
   client-rules : ClientRules k Keeps
-  client-rules = record {
+  client-rules = each-client k Keeps (record {
     opens = λ x isn iss wnd mss rule none. client-opens-so x isn iss wnd mss none;
-    gets = λ x s path there fits. client-rule x s (event_seen (event.Get x.c path)) (client_writes s.client (request path)) there (λ h. by-writes k small x s there h.truth (request path) fits);
-    writes = λ x s bytes there fits. client-rule x s (event_seen (event.Write x.c bytes)) (client_writes s.client bytes) there (λ h. by-writes k small x s there h.truth bytes fits);
-    shuts = λ x s there. client-rule x s (event_seen (event.Shut x.c)) (client_shuts s.client) there (λ h. by-shuts k small x s there h.truth);
-    aborts = λ x s there. client-rule x s (event_seen (event.Abort x.c)) (client_aborts s.client) there (λ h. by-aborts k small x s there h.truth);
-    holds = λ x s there. client-rule x s (event_seen (event.Hold x.c)) (client_holds s.client) there (λ h. by-holds k small x s there h.truth);
-    takes = λ x s there. client-rule x s (event_seen (event.Take x.c)) (client_takes s.client) there (λ h. by-takes k small x s there h.truth);
-    fires = λ x s there. client-rule x s (event_seen (event.Timer (Client x.c) x.c)) (client_timer s.client) there (λ h. by-timer k small x s there h.truth);
-    hears = λ x s from bytes there was. client-rule x s (packet_seen from (Client x.c) bytes) (client_gets s.client (decoded bytes x.c ToClient)) there (λ h. hears-turned k small x s from bytes there was h.sound h.truth);
-  }
+    does = λ x s g there comes. client-rule x s (client_seen x.c g) (client_rule x.c s.client g) there (λ h. rule-turned k small x s there h.truth h.sound g comes);
+  })
 
   -- ---- the law
 

@@ -53,11 +53,7 @@ module _ (files : FilesAt) (x : Conn) (s : Station) (there : x.part.station ≡ 
   on-place (Node n) (Client d) bytes f r = absurd r
   on-place Front (Node k) bytes f r = absurd r
   on-place (Node j) Front bytes f r = absurd r
-  on-place (Client e) (Client d) bytes f r = tt
-  on-place (Client e) Front bytes f r = tt
-  on-place (Client e) (Node k) bytes f r = tt
-  on-place Front Front bytes f r = tt
-  on-place (Node j) (Node k) bytes f r = tt
+  on-place _ _ bytes f r = tt
 
   letters-read : (ls : List Letter) → Each (IsFair l x.c x.part) ls → Each (LetterIs x.c isn) ls → Each (LetterIsEarly x.c isn) ls
   letters-read [] f r = tt

@@ -1,7 +1,6 @@
 -- What the front end forwards was a packet of the client's.
-use Rattle.std.proofs.Common.{◌≡◌, ℕ, List, [], ◌∷◌, ◌++◌, map, Option, Some, None, Result, Ok, Err, IfSome, refl, sym, ap, ◌∙◌, subst}
-use Rattle.lard_base.specs.declared.event.Event.TheVariants as event
-use Rattle.lard_law_view.specs.Prelude.{AreSent, Body, Client, ClientRules, Conn, ControlBlock, Front, FrontConn, FrontDeed, FrontEnv, FrontRow, FrontRules, Has, IsFrontEnv, IsLaw, Kept, Letter, MayRestOn, Message, Move, Node, NodeRules, Place, Rules, Said, Seen, SegFault, ServeEnv, Setting, ToCluster, ask_of, client_does, client_injects, decoded, decoded_message, event_seen, front_asked, front_does, front_ended, front_gets, front_taken, front_timer, grown, inject_seen, kind_of, letter, letters_of, node_does, nothing_said, packet_seen, parts_of, sent_of, setting, stands}
+use Rattle.std.proofs.Common.{◌≡◌, ℕ, List, [], ◌∷◌, ◌++◌, map, Option, Some, None, Ok, IfSome, refl, sym, ap, ◌∙◌, subst}
+use Rattle.lard_law_view.specs.Prelude.{AreSent, Body, Client, ClientRules, Conn, ControlBlock, Front, FrontConn, FrontDeed, FrontEnv, FrontFires, FrontGets, FrontHears, FrontPart, FrontRow, FrontRules, Has, IsConnSound, IsLaw, Kept, Letter, MayRestOn, Message, Move, Node, NodeRules, Place, Rules, Said, Seen, ServeEnv, Setting, client_does, client_injects, decoded_message, front_does, front_rule, grown, inject_seen, kind_of, last_words, letter, letters_of, node_does, nothing_said, packet_seen, parts_of, sent_of, setting, stands}
 use Rattle.lard_law_connections.proofs.BytesMessages.{forwards-read}
 use Rattle.lard_law_connections.proofs.PlacesFrontRules.{has-each}
 use Rattle.lard_law_connections.proofs.PlacesHeads.{kinds-same}
@@ -10,15 +9,16 @@ use Rattle.lard_law_connections.proofs.SilenceFronts as fronts
 use Rattle.lard_law_connections.proofs.SilenceTurns.{AreTold, IsKept, nobody}
 use Rattle.lard_law_connections.specs.SilencePlaces.{FrontHas, FrontStageHas}
 use Rattle.lard_law_view.proofs.Carried.{carried}
+use Rattle.lard_law_view.proofs.EachFront.{FrontComes, admission, each-front}
 use Rattle.lard_law_view.proofs.EachNode.{aside_said, aside_seen, each-node}
 use Rattle.lard_law_view.proofs.Frames.{IsAtClient, Owed, clients-leave}
 use Rattle.lard_law_view.proofs.Guarded.{client-weaker}
 use Rattle.lard_laws.proofs.ClientsTelling as telling
 use Rattle.lard_laws.proofs.ClientsTelling.{DeedTells}
+use Rattle.lard_laws.proofs.WindowsFronts as heard
 use Rattle.lard_laws.specs.WindowsLaws.{ForwardsComeFromClients}
 use Rattle.lard_laws.specs.Windows.{AnyBlock}
 use Rattle.lard_laws.specs.WindowsWords.{ForwardWas, ForwardWasOn, ForwardsWere}
-use Rattle.lard_rules.specs.Front as front
 use Rattle.lard_rules.specs.Front.{Drops, Says, Does, message}
 use Rattle.lard_handoff_front.specs.declared.row.FrontConn.TheVariants as stage
 use Rattle.lard_history.proofs.Each.{Each, Each-append, Each-weaker}
@@ -102,32 +102,22 @@ module _ (k : Setting) where
     where
       go : (from to : Place) (bytes : List ℕ) → ForwardWasOn x.c x.letters from to bytes → ForwardWasOn x.c (x.letters ++ letters_of v) from to bytes
       go Front (Node n) bytes w = λ m segment d is. has-before (record { from = Client x.c; to = Front; bytes = segment }) x.letters (letters_of v) (w m segment d is)
-      go Front Front bytes w = tt
-      go Front (Client e) bytes w = tt
-      go (Node n) to bytes w = tt
-      go (Client d) to bytes w = tt
+      go _ _ bytes w = tt
 
   from-front : (x : Conn) (ls : List Letter) (ms : List (Place × List ℕ)) → Each (λ (p : Place × List ℕ). ForwardWasOn x.c ls Front p.0 p.1) ms → Each (ForwardWas x.c ls) (map (letter Front) ms)
   from-front x ls [] h = tt
   from-front x ls (p ∷ ps) h = (h.0, from-front x ls ps h.1)
 
-  front-rule : (x : Conn) (heads : List Seen) (d : FrontDeed) → (R : ControlBlock → Type 0) → fronts.DeedHas R AnyReply x.c d → ((ls : List Letter) → ((l : Letter) → Has l x.letters → Has l ls) → DeedTells (λ to bytes. ForwardWasOn x.c ls Front to bytes) d) → Keeps x (front_does x heads d)
-  front-rule x heads Drops R told was may h = grows x (front_does x heads Drops) tt h
-  front-rule x heads (Says turn) R told was may h =
+  front-rule : (x : Conn) (heads : List Seen) (d : FrontDeed) → fronts.DeedHas AnyBlock AnyReply x.c d → ((ls : List Letter) → ((l : Letter) → Has l x.letters → Has l ls) → DeedTells (λ to bytes. ForwardWasOn x.c ls Front to bytes) d) → Keeps x (front_does x heads d)
+  front-rule x heads Drops told was may h = grows x (front_does x heads Drops) tt h
+  front-rule x heads (Says turn) told was may h =
       let v : Move = front_does x heads (Says turn) in
       let ls : List Letter = x.letters ++ letters_of v in
       grows x v (Each-append (ForwardWas x.c ls) (map (letter Front) turn.segments) (map (letter Front) turn.messages) (told-were x.c ls x.c Anything turn.segments (told nobody)) (from-front x ls turn.messages (was ls (λ l has. has-before l x.letters (letters_of v) has)))) h
-  front-rule x heads (Does did) R told was may h =
+  front-rule x heads (Does did) told was may h =
       let v : Move = front_does x heads (Does did) in
       let ls : List Letter = x.letters ++ letters_of v in
       grows x v (Each-append (ForwardWas x.c ls) (map (letter Front) did.turn.segments) (map (letter Front) did.turn.messages) (told-were x.c ls x.c Anything did.turn.segments told.1.1) (from-front x ls did.turn.messages (was ls (λ l has. has-before l x.letters (letters_of v) has)))) h
-
-  own-number : (x : Conn) (env : FrontEnv) → IsFrontEnv k x.c env → (d : FrontDeed) → fronts.DeedHas AnyBlock AnyReply env.serve.c d → fronts.DeedHas AnyBlock AnyReply x.c d
-  own-number x env is d f = subst (λ (c : ℕ). fronts.DeedHas AnyBlock AnyReply c d) is.number f
-
-  gets-told : (x : Conn) (env : FrontEnv) (bytes : List ℕ) (r : Result Said SegFault) → fronts.DeedHas AnyBlock AnyReply env.serve.c (front_gets env x.part.front bytes r)
-  gets-told x env bytes (Err fault) = tt
-  gets-told x env bytes (Ok s) = fronts.gets-has env AnyBlock AnyBlock Anything AnyReply (any-kept env.serve) x.part.front (any-front x.part.front.row) s tt (λ none plain. tt) (λ row last found at. any-words _) bytes
 
   -- what is kept was sent
   kept-were : (x : Conn) (ls : List Letter) → ((l : Letter) → Has l x.letters → Has l ls) → ForwardsWere x → (ks : List Kept) → AreSent x Front ks → Each (λ (p : Place × List ℕ). ForwardWasOn x.c ls Front p.0 p.1) (map sent_of ks)
@@ -138,27 +128,26 @@ module _ (k : Setting) where
     later Front bytes w = tt
     later (Client e) bytes w = tt
 
+  heard-given : (env : FrontEnv) (p : FrontPart) (g : FrontGets) → heard.Given env AnyBlock AnyBlock Anything AnyReply (any-kept env.serve) p (any-front p.row) g
+  heard-given env p (FrontHears bytes (Ok s)) = (tt, (λ none plain. tt), (λ row last found closed. any-words (last_words last.reason last s)))
+  heard-given env p _ = tt
+
+  module _ (x : Conn) (env : FrontEnv) (heads : List Seen) (sound : IsConnSound x) (h : ForwardsWere x) (ls : List Letter) (goes : (l : Letter) → Has l x.letters → Has l ls) where
+    told-given : (g : FrontGets) → FrontComes x env heads g
+        → telling.Given (λ to bytes. ForwardWasOn x.c ls Front to bytes) env AnyBlock (forwards-tell x.c ls env.serve.c) x.part.front (any-front x.part.front.row) AnyReply (any-kept env.serve) g
+    told-given (FrontHears bytes given) comes = λ n e. forward-was x.c ls env.serve.c e bytes (goes (record { from = Client x.c; to = Front; bytes = bytes }) comes.was)
+    told-given FrontFires comes = kept-were x ls goes h x.part.front.kept sound.front
+    told-given _ comes = tt
+
   front-rules : FrontRules k Keeps
-  front-rules = record {
-    hears = λ x s env bytes there is iss was. front-rule x (packet_seen (Client x.c) Front bytes) (front_gets env x.part.front bytes (decoded bytes x.c ToCluster)) AnyBlock
-        (own-number x env is (front_gets env x.part.front bytes (decoded bytes x.c ToCluster)) (gets-told x env bytes (decoded bytes x.c ToCluster)))
-        (λ ls goes. telling.gets-tells (λ to bytes. ForwardWasOn x.c ls Front to bytes) env AnyBlock (forwards-tell x.c ls env.serve.c) x.part.front (any-front x.part.front.row) AnyReply (any-kept env.serve) bytes
-        (λ n e. forward-was x.c ls env.serve.c e bytes (goes (record { from = Client x.c; to = Front; bytes = bytes }) was)) (decoded bytes x.c ToCluster));
-    fires = λ x s env there is may h. front-rule x (event_seen (event.Timer Front x.c)) (front_timer env x.part.front) AnyBlock
-        (own-number x env is (front_timer env x.part.front) (fronts.timer-has env AnyBlock AnyBlock Anything AnyReply (any-kept env.serve) x.part.front (any-front x.part.front.row)))
-        (λ ls goes. telling.timer-tells (λ to bytes. ForwardWasOn x.c ls Front to bytes) env AnyBlock (forwards-tell x.c ls env.serve.c) x.part.front (kept-were x ls goes h x.part.front.kept may.sound.front)) may h;
-    taken = λ x env n epoch bytes is spells was. front-rule x (packet_seen (Node n) Front bytes) (front_taken x.part.front epoch) AnyBlock
-        (fronts.taken-has AnyBlock AnyReply x.c x.part.front epoch) (λ ls goes. telling.taken-tells (λ to bytes. ForwardWasOn x.c ls Front to bytes) env AnyBlock (forwards-tell x.c ls env.serve.c) x.part.front epoch);
-    asked = λ x env n epoch number queue size paths bytes is spells was. front-rule x (packet_seen (Node n) Front bytes) (front_asked env x.part.front n epoch (ask_of x.c n number queue size paths)) AnyBlock
-        (fronts.asked-has AnyBlock AnyReply x.c x.part.front (any-front x.part.front.row) env n epoch (ask_of x.c n number queue size paths))
-        (λ ls goes. telling.asked-tells (λ to bytes. ForwardWasOn x.c ls Front to bytes) env AnyBlock (forwards-tell x.c ls env.serve.c) x.part.front n epoch (ask_of x.c n number queue size paths));
-    ended = λ x env n epoch reason snd rcv count bytes is spells was. front-rule x (packet_seen (Node n) Front bytes) (front_ended env x.part.front n epoch (record { reason = reason; snd = record { 0 = snd }; rcv = record { 0 = rcv } })) AnyBlock
-        (fronts.ended-has AnyBlock AnyReply x.c x.part.front env n epoch (record { reason = reason; snd = record { 0 = snd }; rcv = record { 0 = rcv } }))
-        (λ ls goes. telling.ended-tells (λ to bytes. ForwardWasOn x.c ls Front to bytes) env AnyBlock (forwards-tell x.c ls env.serve.c) x.part.front n epoch (record { reason = reason; snd = record { 0 = snd }; rcv = record { 0 = rcv } }));
-    admitted = λ x env choice given is e. front-rule x [] (front.Does (record { part = given.0; turn = given.1; calls = [] })) AnyBlock
-        (fronts.admitted-has AnyBlock AnyReply x.c x.part.front env choice given e)
-        (λ ls goes. telling.admitted-tells (λ to bytes. ForwardWasOn x.c ls Front to bytes) env AnyBlock (forwards-tell x.c ls env.serve.c) x.part.front (any-front x.part.front.row) choice given e);
-  }
+  front-rules = each-front k Keeps (λ x env heads g is comes may h.
+      let p : FrontPart = x.part.front in
+      let d : FrontDeed = front_rule env p g in
+      let made = admission x env heads g comes in
+      front-rule x heads d (subst (λ (c : ℕ). fronts.DeedHas AnyBlock AnyReply c d) is.number
+      (heard.rule-has env AnyBlock AnyBlock Anything AnyReply (any-kept env.serve) p (any-front p.row) g made (heard-given env p g)))
+      (λ ls goes. telling.rule-tells (λ to bytes. ForwardWasOn x.c ls Front to bytes) env AnyBlock (forwards-tell x.c ls env.serve.c) p (any-front p.row) AnyReply (any-kept env.serve) g made
+      (told-given x env heads may.sound h ls goes g comes)) may h)
 
   -- ---- no other place forwards
 
@@ -167,8 +156,7 @@ module _ (k : Setting) where
   other-from x ls place other (s ∷ ss) = (go place s.0 other, other-from x ls place other ss) where
     go : (from to : Place) → (Front ≡ from → ⊥) → ForwardWasOn x.c ls from to s.1
     go Front to differs = absurd (differs refl)
-    go (Node n) to differs = tt
-    go (Client d) to differs = tt
+    go _ to differs = tt
 
   any-rule : (x : Conn) (v : Move) → (Front ≡ v.place → ⊥) → Keeps x v
   any-rule x v other may h =

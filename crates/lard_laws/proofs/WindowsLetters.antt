@@ -16,13 +16,7 @@ module _ (c isn iss n m : ℕ) (le : n ≤ m) where
   on-more : (from to : Place) (bytes : List ℕ) → LetterReachesOn c isn iss n from to bytes → LetterReachesOn c isn iss m from to bytes
   on-more Front (Client d) bytes r = λ s e. reach-more isn iss n m le s (r s e)
   on-more (Node k) (Client d) bytes r = λ s e. reach-more isn iss n m le s (r s e)
-  on-more (Client e) (Client d) bytes r = tt
-  on-more (Client e) Front bytes r = tt
-  on-more (Client e) (Node k) bytes r = tt
-  on-more Front Front bytes r = tt
-  on-more Front (Node k) bytes r = tt
-  on-more (Node j) Front bytes r = tt
-  on-more (Node j) (Node k) bytes r = tt
+  on-more _ _ bytes r = tt
 
   pub letters-more : (ls : List Letter) → Each (LetterReaches c isn iss n) ls → Each (LetterReaches c isn iss m) ls
   letters-more ls h = Each-weaker (LetterReaches c isn iss n) (LetterReaches c isn iss m) (λ l r. on-more l.from l.to l.bytes r) ls h

@@ -1,7 +1,6 @@
 -- The rules of the nodes keep how far windows reach.
 use Rattle.std.proofs.Common.{◌≡◌, ◌≤◌, ◌^◌, ℕ, List, [], Some, refl, sym, ap, ◌∙◌, subst, arith}
 use Rattle.lard_law_view.specs.Prelude.{Conn, ControlBlock, EndpointParts, Forwarded, Front, IsConnNumber, IsNodeEnv, Move, Node, NodeEnv, NodeGets, NodeRules, Offered, Place, Rec, Said, Seen, Setting, SpellsMessage, Station, TurnSaid as SaidIn, Was, adopted, letters_of, node_does, node_offered, offer_answer, stands}
-use Rattle.lard_laws.proofs.AcksRuns.{node-station}
 use Rattle.lard_law_connections.specs.BytesAgreement.{IsTruthful}
 use Rattle.lard_law_connections.proofs.PlacesTurns.{IsPlaced}
 use Rattle.lard_law_connections.specs.SilencePlaces.{NodeHas}
@@ -9,7 +8,7 @@ use Rattle.lard_law_connections.proofs.SilenceEndpoints.{Anything}
 use Rattle.lard_law_connections.proofs.SilenceNodes as nodes
 use Rattle.lard_law_connections.proofs.SilenceTurns.{IsKept}
 use Rattle.lard_law_view.proofs.EachNode.{NodeComes, aside_said, aside_seen, each-node, job_notes, node_goes, told_first}
-use Rattle.lard_laws.proofs.NodeDeeds.{aside-letters}
+use Rattle.lard_laws.proofs.NodeDeeds.{aside-letters, node-station}
 use Rattle.lard_laws.specs.Windows.{AnyBlock, EndSent, LetterReaches, StationReaches, SymbolsWereSent}
 use Rattle.lard_laws.proofs.WindowsEndpoints.{endpoint-law}
 use Rattle.lard_laws.proofs.WindowsMoves.{GoesOn, Known, Says, There, idle-moves, known, node-moves}

@@ -82,13 +82,7 @@ module _ (k : Talk) (c : ℕ) (p : Part) (isn iss most : ℕ) (going : k.out.end
   on-true (Node n) (Client d) bytes f r = λ s e.
       let same : f.0 ≡ s = same-said f.0 s (sym (again c ToClient f.0 f.2.sendable) ∙ ap (λ l. decoded l c ToClient) (sym f.1) ∙ e) in
       record { wide = (r s e).wide; ends = λ rst some. subst (λ (n : ℕ). seq_offset s.seq n + seg_len s ≤ Ends) iss_is (true-ends k.out going first few s (subst (IsTrueOf k.out) same f.2.true_of) some) }
-  on-true (Client e) (Client d) bytes f r = tt
-  on-true (Client e) Front bytes f r = tt
-  on-true (Client e) (Node n) bytes f r = tt
-  on-true Front Front bytes f r = tt
-  on-true Front (Node n) bytes f r = tt
-  on-true (Node n) Front bytes f r = tt
-  on-true (Node n) (Node m) bytes f r = tt
+  on-true _ _ bytes f r = tt
 
   pub letters-true : (ls : List Letter) → Each (IsFair k c p) ls → Each (LetterReaches c isn iss most) ls → Each (LetterReaches c isn iss Ends) ls
   letters-true [] f r = tt

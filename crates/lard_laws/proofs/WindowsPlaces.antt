@@ -20,9 +20,7 @@ module _ (P R Q : ControlBlock → Type 0) (p : NodePart) (w : (row : BackRow) (
 
     by-stage : (row : BackRow) → p.row ≡ Some row → (d : BackConn) → row.stage ≡ d → BackStageHas P Q d p.stay → BackStageHas R Q d p.stay
     by-stage row found (back.Here b) at h = of-stay row b found at p.stay h
-    by-stage row found back.Out at h = tt
-    by-stage row found back.Ended at h = tt
-    by-stage row found back.Gone at h = tt
+    by-stage row found _ at h = tt
 
     by-row : (q : Option BackRow) → p.row ≡ q → BackHas P Q q p.stay → BackHas R Q q p.stay
     by-row None found h = tt
@@ -34,10 +32,7 @@ module _ (P R : ControlBlock → Type 0) (q : Option FrontRow) (w : (row : Front
     by-stage : (row : FrontRow) → q ≡ Some row → (d : FrontConn) → row.stage ≡ d → FrontStageHas P d → FrontStageHas R d
     by-stage row found (stage.Held b) at h = w row b found (inl at) h
     by-stage row found (stage.Waiting b) at h = w row b found (inr at) h
-    by-stage row found stage.Lent at h = tt
-    by-stage row found (stage.Offering n e) at h = tt
-    by-stage row found (stage.Moved n e) at h = tt
-    by-stage row found (stage.Closed last) at h = tt
+    by-stage row found _ at h = tt
 
     by-row : (r : Option FrontRow) → q ≡ r → FrontHas P r → FrontHas R r
     by-row None found h = tt
@@ -87,9 +82,7 @@ pub past-has : (P Q : ControlBlock → Type 0) (e : ℕ) (p : NodePart) → IsPa
 past-has P Q e p past = by-row p.row past where
   by-stage : (d : BackConn) → IsLeft d → BackStageHas P Q d p.stay
   by-stage (back.Here b) left = absurd left
-  by-stage back.Out left = tt
-  by-stage back.Ended left = tt
-  by-stage back.Gone left = tt
+  by-stage _ left = tt
 
   by-row : (q : Option BackRow) → IsPast e q → BackHas P Q q p.stay
   by-row None past = tt

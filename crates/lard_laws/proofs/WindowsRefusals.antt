@@ -69,13 +69,7 @@ module _ (files : FilesAt) (x : Conn) (s : Station) (there : x.part.station ≡ 
   on-place : (from to : Place) (bytes : List ℕ) → IsFairOn l x.c x.part from to bytes → ReplyIsOn x.c x.letters from to bytes → RefusesOn x.c x.letters from to bytes
   on-place Front (Client d) bytes f r = refuses bytes f r
   on-place (Node n) (Client d) bytes f r = refuses bytes f r
-  on-place (Client e) (Client d) bytes f r = tt
-  on-place (Client e) Front bytes f r = tt
-  on-place (Client e) (Node k) bytes f r = tt
-  on-place Front Front bytes f r = tt
-  on-place Front (Node k) bytes f r = tt
-  on-place (Node j) Front bytes f r = tt
-  on-place (Node j) (Node k) bytes f r = tt
+  on-place _ _ bytes f r = tt
 
   letters-refuse : (ls : List Letter) → Each (IsFair l x.c x.part) ls → Each (LetterIs x.c x.letters) ls → Each (RefusesLetter x.c x.letters) ls
   letters-refuse [] f r = tt
@@ -88,8 +82,7 @@ inner-refuse c all ls h = Each-weaker IsInner (RefusesLetter c all) (λ l i. go 
   go Front (Node n) bytes i = tt
   go (Node m) (Node n) bytes i = tt
   go (Client d) (Node n) bytes i = tt
-  go from Front bytes i = absurd i
-  go from (Client d) bytes i = absurd i
+  go from _ bytes i = absurd i
 
 by-truth : (files : FilesAt) (x : Conn) → IsTruthful files x → RepliesAre x → RefusesSegments x
 by-truth files x truth h = go x.part.station refl where

@@ -1,14 +1,14 @@
 -- Each segment of the cluster has ACK, or it is the refusal of a segment of the client's: by each rule, as it was spelled.
-use Rattle.std.proofs.Common.{◌≡◌, ◌⊎◌, ⊎_elim, inl, inr, ◌&&◌, not, ℕ, Bool, true, false, cond, List, [], ◌∷◌, ◌++◌, map, Option, Some, None, Result, Ok, Err, IfSome, refl, sym, subst}
+use Rattle.std.proofs.Common.{◌≡◌, ◌⊎◌, ⊎_elim, inl, inr, ◌&&◌, not, ℕ, Bool, true, false, cond, List, [], ◌∷◌, ◌++◌, map, Option, Some, None, Ok, IfSome, refl, sym, subst}
 use Rattle.std.proofs.lemmas.Bool.{and_parts, cond_both}
-use Rattle.lard_base.specs.declared.event.Event.TheVariants as event
-use Rattle.lard_law_view.specs.Prelude.{BackConn, BackRow, Client, ClientRules, Conn, ControlBlock, Final, Front, FrontRules, Has, IsFrontEnv, IsLaw, IsMachine, IsNodeEnv, Letter, MayRestOn, Move, Node, NodeEnv, NodePart, NodeRules, Place, Ready, Reason, Rules, Said, Seen, SegFault, ServeEnv, Setting, Stay, ToClient, ToCluster, ack_ready, advanced, ask_of, client_does, client_injects, decoded, emitted, event_seen, front_asked, front_does, front_ended, front_gets, front_taken, front_timer, grown, inject_seen, is_telling, last_ack, last_words, letter, letters_of, next_piece, node_does, nothing_said, owed_ready, owes, packet_seen, ready_of, refusal, resent_piece, retried, spelled, stands, timed}
+use Rattle.lard_law_view.specs.Prelude.{BackConn, BackRow, Client, ClientRules, Conn, ControlBlock, Final, Front, FrontRules, Has, IsLaw, IsMachine, IsNodeEnv, Letter, MayRestOn, Move, Node, NodeEnv, NodePart, NodeRules, Place, Ready, Reason, Rules, Said, Seen, ServeEnv, Setting, Stay, ToClient, ToCluster, ack_ready, advanced, client_does, client_injects, decoded, emitted, front_does, grown, inject_seen, is_telling, last_ack, last_words, letter, letters_of, next_piece, node_does, nothing_said, owed_ready, owes, packet_seen, ready_of, refusal, resent_piece, retried, spelled, stands, timed}
 use Rattle.lard_base.specs.declared.place.Reason.TheVariants as reason
 use Rattle.lard_law_connections.specs.SilencePlaces.{BackHas, BackStageHas, HereHas, NodeHas}
 use Rattle.lard_law_connections.proofs.SilenceEndpoints.{Anything}
 use Rattle.lard_law_connections.proofs.SilenceFronts as fronts
 use Rattle.lard_law_connections.proofs.SilenceNodes as nodes
 use Rattle.lard_law_connections.proofs.SilenceTurns.{AreTold, IsKept, nobody}
+use Rattle.lard_law_view.proofs.EachFront.{FrontComes, admission, each-front}
 use Rattle.lard_law_view.proofs.EachNode.{aside_said, aside_seen, each-node}
 use Rattle.lard_law_view.proofs.Frames.{IsAtClient, Owed as Framed, clients-leave}
 use Rattle.lard_law_view.proofs.Fine.{IsFine, IsItsOwn, fine}
@@ -17,6 +17,7 @@ use Rattle.lard_law_view.proofs.Saying.{AreMessages}
 use Rattle.lard_laws.proofs.NodeDeeds.{aside-letters}
 use Rattle.lard_laws.specs.Windows.{AnyBlock}
 use Rattle.lard_laws.proofs.WindowsForwards.{any-front}
+use Rattle.lard_laws.proofs.WindowsFronts as heard
 use Rattle.lard_rules.specs.Front as front
 use Rattle.lard_handoff_back.specs.declared.row.BackConn.TheVariants as back
 use Rattle.lard_history.proofs.Each.{Each, Each-append, Each-weaker}
@@ -98,10 +99,6 @@ module _ (c : ℕ) (ls : List Letter) where
       off true e = absurd (let bad : false ≡ true = e in cc)
       off false e = refl
 
-  gets-say : (env : front.FrontEnv) (p : front.FrontPart) (bytes : List ℕ) (r : Result Said SegFault) → env.serve.c ≡ c → Has (record { from = Client c; to = Front; bytes = bytes }) ls → decoded bytes c ToCluster ≡ r → fronts.DeedHas AnyBlock Says env.serve.c (front_gets env p bytes r)
-  gets-say env p bytes (Err fault) is has read = tt
-  gets-say env p bytes (Ok sd) is has read = fronts.gets-has env AnyBlock AnyBlock Anything Says (says-kept env.serve) p (any-front p.row) sd tt (λ none plain. tt) (λ row last found at. words-say bytes sd has read last.reason last) bytes
-
   -- segments to the client, by a place of the cluster
   from-machine : (place : Place) (bytes : List ℕ) → IsMachine place → ReplyIs bytes → ReplyIsOn place (Client c) bytes
   from-machine Front bytes m r = r
@@ -143,13 +140,7 @@ module _ (c : ℕ) (old new : List Letter) where
   on-later : (from to : Place) (bytes : List ℕ) → ReplyIsOn c old from to bytes → ReplyIsOn c (old ++ new) from to bytes
   on-later Front (Client d) bytes r = (r.0, r.1, saying-later r.0 r.2)
   on-later (Node n) (Client d) bytes r = (r.0, r.1, saying-later r.0 r.2)
-  on-later (Client e) (Client d) bytes r = tt
-  on-later (Client e) Front bytes r = tt
-  on-later (Client e) (Node k) bytes r = tt
-  on-later Front Front bytes r = tt
-  on-later Front (Node k) bytes r = tt
-  on-later (Node j) Front bytes r = tt
-  on-later (Node j) (Node k) bytes r = tt
+  on-later _ _ bytes r = tt
 
   letters-later : (ls : List Letter) → Each (LetterIs c old) ls → Each (LetterIs c (old ++ new)) ls
   letters-later ls h = Each-weaker (LetterIs c old) (LetterIs c (old ++ new)) (λ l r. on-later l.from l.to l.bytes r) ls h
@@ -162,9 +153,7 @@ any-node p = by-row p.row where
 
   by-stage : (d : BackConn) → BackStageHas AnyBlock AnyBlock d p.stay
   by-stage (back.Here b) = of-stay b p.stay
-  by-stage back.Out = tt
-  by-stage back.Ended = tt
-  by-stage back.Gone = tt
+  by-stage _ = tt
 
   by-row : (q : Option BackRow) → BackHas AnyBlock AnyBlock q p.stay
   by-row None = tt
@@ -197,22 +186,16 @@ module _ (k : Setting) where
   front-rule x heads (front.Says turn) told may own h = grows x (front_does x heads (front.Says turn)) (goes-out x Front tt turn.segments turn.messages (told nobody) own.messages) h
   front-rule x heads (front.Does did) told may own h = grows x (front_does x heads (front.Does did)) (goes-out x Front tt did.turn.segments did.turn.messages told.1.1 own.messages) h
 
-  own-number : (x : Conn) (env : front.FrontEnv) → IsFrontEnv k x.c env → (d : front.FrontDeed) → fronts.DeedHas AnyBlock (Says x.c x.letters) env.serve.c d → fronts.DeedHas AnyBlock (Says x.c x.letters) x.c d
-  own-number x env is d f = subst (λ (c : ℕ). fronts.DeedHas AnyBlock (Says x.c x.letters) c d) is.number f
+  heard-given : (x : Conn) (env : front.FrontEnv) (heads : List Seen) (g : front.FrontGets) → FrontComes x env heads g
+      → heard.Given env AnyBlock AnyBlock Anything (Says x.c x.letters) (says-kept x.c x.letters env.serve) x.part.front (any-front x.part.front.row) g
+  heard-given x env heads (front.FrontHears bytes (Ok s)) comes = (tt, (λ none plain. tt), (λ row last found closed. words-say x.c x.letters bytes s comes.was (sym comes.read) last.reason last))
+  heard-given x env heads _ comes = tt
 
   front-rules : FrontRules k Keeps
-  front-rules = record {
-    hears = λ x s env bytes there is iss was. front-rule x (packet_seen (Client x.c) Front bytes) (front_gets env x.part.front bytes (decoded bytes x.c ToCluster))
-        (own-number x env is (front_gets env x.part.front bytes (decoded bytes x.c ToCluster)) (gets-say x.c x.letters env x.part.front bytes (decoded bytes x.c ToCluster) is.number was refl));
-    fires = λ x s env there is. front-rule x (event_seen (event.Timer Front x.c)) (front_timer env x.part.front)
-        (own-number x env is (front_timer env x.part.front) (fronts.timer-has env AnyBlock AnyBlock Anything (Says x.c x.letters) (says-kept x.c x.letters env.serve) x.part.front (any-front x.part.front.row)));
-    taken = λ x env n epoch bytes is spells was. front-rule x (packet_seen (Node n) Front bytes) (front_taken x.part.front epoch) (fronts.taken-has AnyBlock (Says x.c x.letters) x.c x.part.front epoch);
-    asked = λ x env n epoch number queue size paths bytes is spells was. front-rule x (packet_seen (Node n) Front bytes) (front_asked env x.part.front n epoch (ask_of x.c n number queue size paths))
-        (fronts.asked-has AnyBlock (Says x.c x.letters) x.c x.part.front (any-front x.part.front.row) env n epoch (ask_of x.c n number queue size paths));
-    ended = λ x env n epoch reason snd rcv count bytes is spells was. front-rule x (packet_seen (Node n) Front bytes) (front_ended env x.part.front n epoch (record { reason = reason; snd = record { 0 = snd }; rcv = record { 0 = rcv } }))
-        (fronts.ended-has AnyBlock (Says x.c x.letters) x.c x.part.front env n epoch (record { reason = reason; snd = record { 0 = snd }; rcv = record { 0 = rcv } }));
-    admitted = λ x env choice given is e. front-rule x [] (front.Does (record { part = given.0; turn = given.1; calls = [] })) (fronts.admitted-has AnyBlock (Says x.c x.letters) x.c x.part.front env choice given e);
-  }
+  front-rules = each-front k Keeps (λ x env heads g is comes.
+      let d : front.FrontDeed = front.front_rule env x.part.front g in
+      front-rule x heads d (subst (λ (c : ℕ). fronts.DeedHas AnyBlock (Says x.c x.letters) c d) is.number
+      (heard.rule-has env AnyBlock AnyBlock Anything (Says x.c x.letters) (says-kept x.c x.letters env.serve) x.part.front (any-front x.part.front.row) g (admission x env heads g comes) (heard-given x env heads g comes))))
 
   -- ---- the nodes
 

@@ -1,13 +1,15 @@
 -- Each rule keeps that the segments of a client fit it, so it is in every run.
-use Rattle.std.proofs.Common.{◌≡◌, ◌<◌, ◌≤◌, ◌^◌, nat_lt, false, ℕ, List, [], ◌∷◌, ◌++◌, map, Option, Some, None, Result, Ok, refl, sym, ap, ◌∙◌, subst, arith}
-use Rattle.lard_law_view.specs.Prelude.{Client, ClientAgrees, ClientBlock, ClientRules, Config, Conn, Front, FrontRules, GoesBetween, Has, HasRule, IsConnNumber, IsConnSound, IsMachine, IsReply, IsUntouchedLaw, Letter, MayRestOn, Move, Node, NodeRules, OfEach, Part, Place, Said, Seen, SegFault, Setting, Station, ToClient, ToCluster, Turn, Untouched, UntouchedRules, Was, client_aborts, client_begins, client_does, client_gets, client_holds, client_opened, client_opens, client_shuts, client_takes, client_timer, client_writes, decoded, event_seen, grown, letter, letters_of, nothing_said, packet_seen, request, setting, spelled, stands, tale_at, written_len}
+use Rattle.std.proofs.Common.{◌≡◌, ◌≤◌, ◌^◌, ℕ, false, List, [], ◌∷◌, ◌++◌, map, Option, Some, None, Result, Ok, refl, sym, ap, ◌∙◌, subst, arith}
+use Rattle.lard_law_view.specs.Prelude.{Client, ClientAgrees, ClientBlock, ClientFires, ClientGets, ClientReceives, ClientRules, Config, Conn, Front, FrontRules, Has, HasRule, IsConnNumber, IsConnSound, IsMachine, IsUntouchedLaw, Letter, MayRestOn, Move, Node, NodeRules, OfEach, Part, Place, Said, Seen, SegFault, Setting, Station, ToAbort, ToCluster, ToGet, ToHold, ToShut, ToTake, ToWrite, Turn, Untouched, UntouchedRules, client_begins, client_does, client_gets, client_opened, client_opens, client_rule, decoded, grown, letter, letters_of, nothing_said, packet_seen, request, setting, stands, tale_at}
 use Rattle.lard_base.specs.declared.event.Event.TheVariants as event
-use Rattle.lard_law_connections.specs.BytesAgreement.{IsFair, IsFairOn, IsTruthful}
-use Rattle.lard_law_connections.proofs.BytesClientMoves.{has-fair, open-at, was-between}
+use Rattle.lard_law_connections.specs.BytesAgreement.{IsTruthful}
+use Rattle.lard_law_connections.proofs.BytesClientMoves.{open-at}
 use Rattle.lard_law_connections.proofs.BytesRuns.{states-truthful}
 use Rattle.lard_law_view.proofs.Carried.{carried}
+use Rattle.lard_law_view.proofs.EachClient.{ClientComes, client_seen, each-client}
 use Rattle.lard_law_view.proofs.Frames.{IsAtMachine, KeepsAt, Owed, fronts-leave, nodes-leave}
 use Rattle.lard_law_view.proofs.Guarded.{untouched-law, untouched-weaker, front-weaker, node-weaker}
+use Rattle.lard_laws.proofs.ClientComing.{reply-of}
 use Rattle.lard_laws.specs.WindowsLaws.{ClientsStart, WordsFit}
 use Rattle.lard_laws.specs.WindowsWords.{BytesFit, FitsClient, FitsOn, HasFittingWords, HasStarted, IsNoWord, IsNoWordOn, StartsOn, WordFits, WordFitsOn}
 use Rattle.lard_laws.proofs.WindowsWords.{IsLater, fits-later, later-self, starts-later}
@@ -21,10 +23,7 @@ use Rattle.lard_segment.proofs.Again.{again}
 module _ (c : ℕ) (x y : ClientBlock) (ls ms : List Letter) (later : IsLater x y) (goes : (l : Letter) → Has l ls → Has l ms) where
   on-later : (from to : Place) (bytes : List ℕ) → WordFitsOn c x ls from to bytes → WordFitsOn c y ms from to bytes
   on-later (Client d) Front bytes h = λ s e. fits-later c x y ls ms later goes s (h s e)
-  on-later (Client d) (Client e) bytes h = tt
-  on-later (Client d) (Node n) bytes h = tt
-  on-later Front to bytes h = tt
-  on-later (Node n) to bytes h = tt
+  on-later _ _ bytes h = tt
 
   letters-later : (all : List Letter) → Each (WordFits c x ls) all → Each (WordFits c y ms) all
   letters-later all h = Each-weaker (WordFits c x ls) (WordFits c y ms) (λ l f. on-later l.from l.to l.bytes f) all h
@@ -74,8 +73,7 @@ none-fits c x ls all h = Each-weaker IsNoWord (WordFits c x ls) (λ l n. go l.fr
   go Front to bytes n = tt
   go (Node m) to bytes n = tt
   go (Client d) Front bytes n = absurd n
-  go (Client d) (Client e) bytes n = tt
-  go (Client d) (Node m) bytes n = tt
+  go (Client d) _ bytes n = tt
 
 -- the segments of its client fit it, and it starts so
 abbrev All : Conn → Type 0
@@ -149,42 +147,18 @@ module _ (k : Setting) (small : k.stream ≤ 2 ^ 30) where
     abbrev a : ClientAgrees x.c h.talk.w h.talk.out s.client
     a = agrees x s there h
 
-    pub by-writes : (bytes : List ℕ) → nat_lt k.stream (written_len s.client bytes) ≡ false → Turned x.c s.client x.letters (client_writes s.client bytes)
-    by-writes bytes fits = writes-turned x.c x.letters s.client a.numbered a.sound a.wide h.talk.w.bytes a.speaks k.stream bytes small fits
-
-    pub by-shuts : Turned x.c s.client x.letters (client_shuts s.client)
-    by-shuts = shuts-turned x.c x.letters s.client a.numbered a.sound a.wide h.talk.w.bytes a.speaks
-
-    pub by-aborts : Turned x.c s.client x.letters (client_aborts s.client)
-    by-aborts = aborts-turned x.c x.letters s.client a.numbered a.sound a.wide h.talk.w.bytes a.speaks
-
-    pub by-holds : Turned x.c s.client x.letters (client_holds s.client)
-    by-holds = holds-turned x.c x.letters s.client a.numbered a.sound a.wide h.talk.w.bytes a.speaks
-
-    pub by-takes : Turned x.c s.client x.letters (client_takes s.client)
-    by-takes = takes-turned x.c x.letters s.client a.numbered a.sound a.wide h.talk.w.bytes a.speaks
-
-    pub by-timer : Turned x.c s.client x.letters (client_timer s.client)
-    by-timer = timer-turned x.c x.letters s.client a.numbered a.sound a.wide h.talk.w.bytes a.speaks
-
-    by-gets : (from : Place) (bytes : List ℕ) (t : Said) → Was x from (Client x.c) bytes → decoded bytes x.c ToClient ≡ Ok t → t.ack < 2 ^ 32 → Turned x.c s.client x.letters (client_gets s.client (Ok t))
-    by-gets from bytes t was read fits = gets-turned x.c x.letters s.client a.numbered a.sound a.wide h.talk.w.bytes a.speaks from bytes t was read fits
-
-  pub hears-turned : (x : Conn) (s : Station) (from : Place) (bytes : List ℕ) → x.part.station ≡ Some s → Was x from (Client x.c) bytes → IsConnSound x → IsTruthful k.files x → Turned x.c s.client x.letters (client_gets s.client (decoded bytes x.c ToClient))
-  hears-turned x s from bytes there was sound h =
-      let read : decoded bytes x.c ToClient ≡ Ok fair.0 = ap (λ (b : List ℕ). decoded b x.c ToClient) fair.1 ∙ again x.c ToClient fair.0 fair.2.sendable in
-      subst (λ (r : Result Said SegFault). Turned x.c s.client x.letters (client_gets s.client r)) (sym read) (by-gets x s there h from bytes fair.0 was read fair.2.sendable.ack_fits)
-    where
-      fair-from : (p : Place) → GoesBetween x.c p (Client x.c) bytes → IsFairOn h.talk x.c x.part p (Client x.c) bytes → (t : Said) × (bytes ≡ spelled x.c ToClient t) × IsReply h.talk.w h.talk.out h.talk.was_reset t
-      fair-from Front g f = f
-      fair-from (Node n) g f = f
-      fair-from (Client d) g f = absurd g
-
-      fair : (t : Said) × (bytes ≡ spelled x.c ToClient t) × IsReply h.talk.w h.talk.out h.talk.was_reset t
-      fair = fair-from from (was-between x from (Client x.c) bytes sound was) (has-fair (IsFair h.talk x.c x.part) (record { from = from; to = Client x.c; bytes = bytes }) x.letters was (open-at k.files x s there h).fair)
-
-  client-hears : (x : Conn) (s : Station) (from : Place) (bytes : List ℕ) → x.part.station ≡ Some s → Was x from (Client x.c) bytes → Keeps x (client_does x s (packet_seen from (Client x.c) bytes) (client_gets s.client (decoded bytes x.c ToClient)))
-  client-hears x s from bytes there was help h0 = client-rule x s (packet_seen from (Client x.c) bytes) (client_gets s.client (decoded bytes x.c ToClient)) there (λ h. hears-turned x s from bytes there was help.sound h) help h0
+    pub rule-turned : IsConnSound x → (g : ClientGets) → ClientComes k x s g → Turned x.c s.client x.letters (client_rule x.c s.client g)
+    rule-turned sound (ToGet path) fits = writes-turned x.c x.letters s.client a.numbered a.sound a.wide h.talk.w.bytes a.speaks k.stream (request path) small fits
+    rule-turned sound (ToWrite bytes) fits = writes-turned x.c x.letters s.client a.numbered a.sound a.wide h.talk.w.bytes a.speaks k.stream bytes small fits
+    rule-turned sound ToShut comes = shuts-turned x.c x.letters s.client a.numbered a.sound a.wide h.talk.w.bytes a.speaks
+    rule-turned sound ToAbort comes = aborts-turned x.c x.letters s.client a.numbered a.sound a.wide h.talk.w.bytes a.speaks
+    rule-turned sound ToHold comes = holds-turned x.c x.letters s.client a.numbered a.sound a.wide h.talk.w.bytes a.speaks
+    rule-turned sound ToTake comes = takes-turned x.c x.letters s.client a.numbered a.sound a.wide h.talk.w.bytes a.speaks
+    rule-turned sound ClientFires comes = timer-turned x.c x.letters s.client a.numbered a.sound a.wide h.talk.w.bytes a.speaks
+    rule-turned sound (ClientReceives from bytes) was =
+        let f = reply-of k small x s there h sound from bytes was in
+        subst (λ (r : Result Said SegFault). Turned x.c s.client x.letters (client_gets s.client r)) (sym f.read)
+        (gets-turned x.c x.letters s.client a.numbered a.sound a.wide h.talk.w.bytes a.speaks from bytes f.said was f.read f.reply.sendable.ack_fits)
 
   client-opens-so : (x : Conn) (isn iss wnd mss : ℕ) → HasRule (event.Open x.c isn iss wnd mss) → x.part.station ≡ None → Keeps x (client_begins x isn iss wnd mss)
   client-opens-so x isn iss wnd mss rule none help h0 =
@@ -200,17 +174,10 @@ module _ (k : Setting) (small : k.stream ≤ 2 ^ 30) where
       )
 
   clients : ClientRules k Keeps
-  clients = record {
+  clients = each-client k Keeps (record {
     opens = client-opens-so;
-    gets = λ x s path there fits. client-rule x s (event_seen (event.Get x.c path)) (client_writes s.client (request path)) there (λ h. by-writes x s there h (request path) fits);
-    writes = λ x s bytes there fits. client-rule x s (event_seen (event.Write x.c bytes)) (client_writes s.client bytes) there (λ h. by-writes x s there h bytes fits);
-    shuts = λ x s there. client-rule x s (event_seen (event.Shut x.c)) (client_shuts s.client) there (by-shuts x s there);
-    aborts = λ x s there. client-rule x s (event_seen (event.Abort x.c)) (client_aborts s.client) there (by-aborts x s there);
-    holds = λ x s there. client-rule x s (event_seen (event.Hold x.c)) (client_holds s.client) there (by-holds x s there);
-    takes = λ x s there. client-rule x s (event_seen (event.Take x.c)) (client_takes s.client) there (by-takes x s there);
-    fires = λ x s there. client-rule x s (event_seen (event.Timer (Client x.c) x.c)) (client_timer s.client) there (by-timer x s there);
-    hears = client-hears;
-  }
+    does = λ x s g there comes help. client-rule x s (client_seen x.c g) (client_rule x.c s.client g) there (λ h. rule-turned x s there h help.sound g comes) help;
+  })
 
   -- ---- the law
 
