@@ -1,0 +1,10 @@
+pub mod Told
+pub mod Segments
+pub mod Clients
+pub mod Asks
+pub mod Fronts
+pub mod Nodes
+pub mod Moves
+pub mod Named
+pub mod Stores
+pub mod Runs
