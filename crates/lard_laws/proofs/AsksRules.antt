@@ -97,12 +97,10 @@ module _ (k : Setting) (x : Conn) (env : FrontEnv) (is : IsFrontEnv k x.c env) w
   no-ask n epoch b bytes spells none = ap (λ r. listed (ask_from n r) ++ []) spells ∙ ap (λ o. listed o ++ []) none
 
   none-asked : (heads : List Seen) (g : FrontGets) → FrontComes x env heads g → fronts.IsNoAsk g → picked ask_in heads ≡ []
-  none-asked heads (FrontHears bytes given) comes other = ap (picked ask_in) comes.seen
-  none-asked heads FrontFires comes other = ap (picked ask_in) comes.seen
   none-asked heads (TakenBy n epoch) comes other = ap (picked ask_in) comes.seen ∙ no-ask n epoch body.Taken comes.bytes comes.spells refl
   none-asked heads (AskedBy n epoch ask) comes other = absurd other
   none-asked heads (EndedBy n epoch last) comes other = ap (picked ask_in) comes.told.seen ∙ no-ask n epoch (body.Ended last.reason last.snd.0 last.rcv.0 comes.count) comes.told.bytes comes.told.spells refl
-  none-asked heads (FrontAdmits choice given) comes other = ap (picked ask_in) comes.seen
+  none-asked heads _ comes other = ap (picked ask_in) comes.seen
 
   asked-goes : (n epoch number queue size : ℕ) (paths : List (List ℕ)) (bytes : List ℕ) → SpellsMessage x.c epoch (body.Ask number queue size paths) bytes
       → Goes k x (front_does x (packet_seen (Node n) Front bytes) (front_asked env x.part.front n epoch (ask_of x.c n number queue size paths)))

@@ -9,7 +9,8 @@ use Rattle.lard_law_view.proofs.ClientHearing.{hears-turned}
 use Rattle.lard_law_view.proofs.EachClient.{ClientComes}
 use Rattle.lard_segment.proofs.Again.{again}
 
-module _ (k : Setting) (small : k.stream ≤ 2 ^ 30) (x : Conn) (s : Station) (there : x.part.station ≡ Some s) (truth : IsTruthful k.files x) (sound : IsConnSound x) where
+module _ (k : Setting) (small : k.stream ≤ 2 ^ 30) (x : Conn) (s : Station) (there : x.part.station ≡ Some s) (truth : IsTruthful k.files x)
+    (sound : IsConnSound x) where
   abbrev l : Talk
   l = truth.talk
 
@@ -21,18 +22,21 @@ module _ (k : Setting) (small : k.stream ≤ 2 ^ 30) (x : Conn) (s : Station) (t
     pub read : decoded bytes x.c ToClient ≡ Ok said
     pub reply : IsReply l.w l.out l.was_reset said
 
-  reply-in : (from : Place) (bytes : List ℕ) → GoesBetween x.c from (Client x.c) bytes → IsFairOn l x.c x.part from (Client x.c) bytes → (t : Said) × (bytes ≡ spelled x.c ToClient t) × IsReply l.w l.out l.was_reset t
+  reply-in : (from : Place) (bytes : List ℕ) → GoesBetween x.c from (Client x.c) bytes → IsFairOn l x.c x.part from (Client x.c) bytes
+      → (t : Said) × (bytes ≡ spelled x.c ToClient t) × IsReply l.w l.out l.was_reset t
   reply-in Front bytes between f = f
   reply-in (Node n) bytes between f = f
   reply-in (Client d) bytes between f = absurd between
 
   pub reply-of : (from : Place) (bytes : List ℕ) → Was x from (Client x.c) bytes → HasReply from bytes
   reply-of from bytes was =
-      let f = reply-in from bytes (was-between x from (Client x.c) bytes sound was) (has-fair (IsFair l x.c x.part) (record { from = from; to = Client x.c; bytes = bytes }) x.letters was o.fair) in
+      let fair = has-fair (IsFair l x.c x.part) (record { from = from; to = Client x.c; bytes = bytes }) x.letters was o.fair in
+      let f = reply-in from bytes (was-between x from (Client x.c) bytes sound was) fair in
       record { said = f.0; read = ap (λ (b : List ℕ). decoded b x.c ToClient) f.1 ∙ again x.c ToClient f.0 f.2.sendable; reply = f.2 }
 
   written : (bytes : List ℕ) → nat_lt k.stream (written_len s.client bytes) ≡ false → ClientTurned x.c l.w l.out s.client (client_writes s.client bytes)
-  written bytes fits = writes-turned x.c l.w l.out s.client o.says.most o.client bytes (let le = ltb-false k.stream (written_len s.client bytes) fits in omega (arith, le, small))
+  written bytes fits =
+      let le = ltb-false k.stream (written_len s.client bytes) fits in writes-turned x.c l.w l.out s.client o.says.most o.client bytes (omega (arith, le, small))
 
   pub rule-turned : (g : ClientGets) → ClientComes k x s g → ClientTurned x.c l.w l.out s.client (client_rule x.c s.client g)
   rule-turned (ToGet path) fits = written (request path) fits

@@ -13,9 +13,11 @@ use Rattle.lard_rules.specs.Front.{Drops, Says, Does}
 use Rattle.lard_segment.proofs.Again.{again}
 
 module _ (x : Conn) (s : Station) (env : FrontEnv) (bytes : List ℕ) (heads : List Seen) where
-  pub heard-word : (files : FilesAt) (l : Talk) (pend : List Verdict) → IsOpen files x l pend s → (said : Said) → HasSegment x env bytes (Ok said) heads → IsWord l.w said
+  pub heard-word : (files : FilesAt) (l : Talk) (pend : List Verdict) → IsOpen files x l pend s → (said : Said)
+      → HasSegment x env bytes (Ok said) heads → IsWord l.w said
   heard-word files l pend o said m =
-      let f : IsFairOn l x.c x.part (Client x.c) Front bytes = has-fair (IsFair l x.c x.part) (record { from = Client x.c; to = Front; bytes = bytes }) x.letters m.was o.fair in
+      let f : IsFairOn l x.c x.part (Client x.c) Front bytes =
+      has-fair (IsFair l x.c x.part) (record { from = Client x.c; to = Front; bytes = bytes }) x.letters m.was o.fair in
       let read : decoded bytes x.c ToCluster ≡ Ok f.0 = ap (λ (b : List ℕ). decoded b x.c ToCluster) f.1 ∙ again x.c ToCluster f.0 f.2.sendable in
       subst (IsWord l.w) (same-said f.0 said (sym read ∙ sym m.read)) f.2
 
@@ -25,15 +27,20 @@ module _ (x : Conn) (s : Station) (env : FrontEnv) (bytes : List ℕ) (heads : L
     same t e = cc
 
 -- a connection that is away is so in the epoch of its row
-away-epoch : (x : Conn) (epoch now : ℕ) (st : FrontConn) → StageSits now (owning (tale_at x)) x.part.nodes st → is_away epoch st ≡ true → now ≡ epoch
+away-epoch : (x : Conn) (epoch now : ℕ) (st : FrontConn) → StageSits now (owning (tale_at x)) x.part.nodes st → is_away epoch st ≡ true
+    → now ≡ epoch
 away-epoch x epoch now (stage.Offering n e) sits away = sym sits.1 ∙ eqb-true e.0 epoch away
 away-epoch x epoch now (stage.Moved n e) sits away = sym sits.1 ∙ eqb-true e.0 epoch away
 away-epoch x epoch now _ sits away = let no : false ≡ true = away in absurd cc
 
-pub new-end : (A : Type 0) (x : Conn) → IsPlaced x → (epoch : ℕ) → HasEnded epoch x.part.front.row ⊎ A → (row : FrontRow) → x.part.front.row ≡ Some row → is_away epoch row.stage ≡ true → A
+pub new-end : (A : Type 0) (x : Conn) → IsPlaced x → (epoch : ℕ) → HasEnded epoch x.part.front.row ⊎ A → (row : FrontRow)
+    → x.part.front.row ≡ Some row → is_away epoch row.stage ≡ true → A
 new-end A x at epoch told row found away =
     let same : row.epoch.0 ≡ epoch = away-epoch x epoch row.epoch.0 row.stage (subst (Sits (owning (tale_at x)) x.part.nodes) found at.sits).0 away in
-    ⊎_elim (λ (e : HasEnded epoch x.part.front.row). absurd (let less : epoch < row.epoch.0 = subst (HasEnded epoch) found e in omega (arith, less, same))) (λ (a : A). a) told
+    ⊎_elim
+    (λ (e : HasEnded epoch x.part.front.row).
+    absurd (let less : epoch < row.epoch.0 = subst (HasEnded epoch) found e in omega (arith, less, same)))
+    (λ (a : A). a) told
 
 -- ---- what its move leaves alone
 

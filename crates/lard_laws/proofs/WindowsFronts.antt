@@ -7,11 +7,13 @@ use Rattle.lard_law_connections.proofs.SilenceTurns.{IsKept}
 use Rattle.lard_law_connections.specs.SilencePlaces.{FrontHas}
 use Rattle.lard_rules.proofs.FrontCases.{IsAsGiven}
 
-module _ (env : FrontEnv) (P R : ControlBlock → Type 0) (Word : Said → Type 0) (Reply : ControlBlock → Said → Type 0) (k : IsKept env.serve P R Word Reply) (p : FrontPart) (h : FrontHas R p.row) where
+module _ (env : FrontEnv) (P R : ControlBlock → Type 0) (Word : Said → Type 0) (Reply : ControlBlock → Said → Type 0)
+    (k : IsKept env.serve P R Word Reply) (p : FrontPart) (h : FrontHas R p.row) where
   -- what is known of a segment that comes: it may begin a connection, and one that ended has last words
   abbrev pub Given : FrontGets → Type 0
   Given (FrontHears bytes (Ok s)) = Word s × (p.row ≡ None → is_plain_syn s ≡ true → P (listening s env.iss))
-      × ((row : FrontRow) (last : Final) → p.row ≡ Some row → row.stage ≡ stage.Closed last → IfSome (last_words last.reason last s) (λ (t : Said). (d : ControlBlock) → Reply d t))
+      × ((row : FrontRow) (last : Final) → p.row ≡ Some row → row.stage ≡ stage.Closed last
+      → IfSome (last_words last.reason last s) (λ (t : Said). (d : ControlBlock) → Reply d t))
   Given _ = Unit {0}
 
   pub rule-has : (g : FrontGets) → IsAsGiven env p g → Given g → DeedHas R Reply env.serve.c (front_rule env p g)
