@@ -6,6 +6,7 @@ use lard_base::limits::MAX_MESSAGE_BYTES;
 use lard_base::{Bytes, ConnId, NodeId, Place};
 use lard_net::Net;
 use std::alloc::{AllocError, Global};
+use std::process::Abort;
 use std::test::Fail;
 
 #[test]
@@ -21,10 +22,20 @@ fn packets_are_numbered_found_and_lost(rt: HostRuntime) -> Result<(), Fail> {
     let second = net.send(Place::Client(c), Place::Front, three)?;
     assert_eq!(rt; (first, second), (1, 2));
     net.lose(1);
+    has_two(&rt, &net);
+    are_found(&rt, &net)
+}
+
+/// Two packets, and none beside them.
+fn has_two(rt: &impl Abort, net: &Net) {
     assert_eq!(rt; net.sent(), 2);
     assert_eq!(rt; net.bytes(), 8);
     assert!(rt; net.get(0).is_none());
     assert!(rt; net.get(3).is_none());
+}
+
+/// The first packet was lost, and the second was not.
+fn are_found(rt: &impl Abort, net: &Net) -> Result<(), Fail> {
     let (Some(first), Some(second)) = (net.get(1), net.get(2)) else {
         return Err(Fail::new("two packets"));
     };
@@ -66,12 +77,17 @@ fn packets_on_several_pages_are_whole(rt: HostRuntime) -> Result<(), Fail> {
         send_filled(&mut net, alloc, n, len)?;
     }
     for (k, len) in [(1u32, (1usize << 20) - 2), (2, 5), (3, (1 << 20) + 1)] {
-        let Some(packet) = net.get(k) else {
-            return Err(Fail::new("a packet"));
-        };
-        let want = filled(alloc, len)?;
-        assert!(rt; packet.bytes.as_slice() == want.as_slice(), "packet {k}");
+        is_filled(&rt, &net, k, &filled(alloc, len)?)?;
     }
+    Ok(())
+}
+
+/// A packet's bytes.
+fn is_filled(rt: &impl Abort, net: &Net, k: u32, want: &[u8]) -> Result<(), Fail> {
+    let Some(packet) = net.get(k) else {
+        return Err(Fail::new("a packet"));
+    };
+    assert!(rt; packet.bytes.as_slice() == want, "packet {k}");
     Ok(())
 }
 
