@@ -62,9 +62,6 @@ module _ (env : FrontEnv) (P R : ControlBlock → Type 0) (Word : Said → Type 
       words = λ row last at. tombstone-has (last_words last.reason last s) (closes row last at.0 at.1);
     }
 
-    pub gets-has : (bytes : List ℕ) → Goes (front_gets env p bytes (Ok s))
-    gets-has bytes = segment-keeps env p bytes s (λ w o. P w.block) Goes (by-segment bytes)
-
   -- ---- timers
 
   by-timer : KeptByTimer env p Goes
@@ -78,30 +75,10 @@ module _ (env : FrontEnv) (P R : ControlBlock → Type 0) (Word : Said → Type 
     resends = λ row n e at d. tt;
   }
 
-  pub timer-has : Goes (front_timer env p)
-  timer-has = timer-keeps env p Goes by-timer
-
--- these say nothing, whatever was so before
-module _ (R : ControlBlock → Type 0) (Reply : ControlBlock → Said → Type 0) (c : ℕ) (p : FrontPart) where
-  abbrev Says_no : FrontDeed → Type 0
-  Says_no d = DeedHas R Reply c d
-
+module _ (R : ControlBlock → Type 0) where
   still-has : (n epoch : ℕ) (q : Option FrontRow) → is_row_at n epoch q ≡ true → FrontHas R q → KnownHas (λ (b : ControlBlock). R b × Unit {0}) q
   still-has n epoch None there r = let no : false ≡ true = there in absurd cc
   still-has n epoch (Some row) there r = front-known R _ (λ b r. (r, tt)) row (Some row) refl r
-
-  pub asked-has : FrontHas R p.row → (env : FrontEnv) (n epoch : ℕ) (ask : Ask) → DeedHas R Reply c (front_asked env p n epoch ask)
-  asked-has h env n epoch ask = asked-keeps p Says_no tt env n epoch ask (λ rest found there same some d. tt) (λ rest found there next. (still-has n epoch p.row there h, (nobody, tt)))
-
-  pub ended-has : (env : FrontEnv) (n epoch : ℕ) (last : Final) → DeedHas R Reply c (front_ended env p n epoch last)
-  ended-has env n epoch last = ended-keeps p Says_no tt env n epoch last (λ row found away again d. tt) (λ row found away. (tt, (nobody, tt)))
-
-  pub taken-has : (epoch : ℕ) → DeedHas R Reply c (front_taken p epoch)
-  taken-has epoch = taken-keeps p Says_no tt epoch (λ row n e at same. (tt, (nobody, tt)))
-
-  -- the head of the line is handed off
-  pub admitted-has : (env : FrontEnv) (choice : FirstChoice) (given : FrontPart × FrontTurn) → front_admitted env p choice ≡ Some given → DeedHas R Reply c (Does (record { part = given.0; turn = given.1; calls = [] }))
-  admitted-has env choice = admitted-keeps env p choice (λ g. DeedHas R Reply c (Does (record { part = g.0; turn = g.1; calls = [] }))) (λ row b path at target. (tt, (nobody, tt)))
 
 -- ---- whatever comes
 
@@ -109,7 +86,7 @@ module _ (env : FrontEnv) (P R : ControlBlock → Type 0) (Word : Said → Type 
     (k : IsKept env.serve P R Word Reply) (p : FrontPart) (h : FrontHas R p.row) where
   -- of a segment its word is known, what is listened to, and the last words of one that ended
   abbrev pub Given : FrontGets → Type 0
-  Given (FrontHears bytes given) = (s : Said) → given ≡ Ok s → Word s × (p.row ≡ None → is_plain_syn s ≡ true → P (listening s env.iss))
+  Given (FrontHears bytes (Ok s)) = Word s × (p.row ≡ None → is_plain_syn s ≡ true → P (listening s env.iss))
       × ((row : FrontRow) (last : Final) → p.row ≡ Some row → row.stage ≡ stage.Closed last
       → IfSome (last_words last.reason last s) (λ (t : Said). (d : ControlBlock) → Reply d t))
   Given _ = Unit {0}
@@ -117,11 +94,11 @@ module _ (env : FrontEnv) (P R : ControlBlock → Type 0) (Word : Said → Type 
   rules_have : KeptByFront env p Given (λ w o. P w.block) (DeedHas R Reply env.serve.c)
   rules_have = record {
     drops = tt;
-    hears = λ bytes s m. let g = m s refl in by-segment env P R Word Reply k p h s g.0 g.1 g.2 bytes;
+    hears = λ bytes s m. by-segment env P R Word Reply k p h s m.0 m.1 m.2 bytes;
     fires = λ m. by-timer env P R Word Reply k p h;
     takes = λ n epoch m row node e at same. (tt, (nobody, tt));
     tags_again = λ n epoch ask m rest found there same some d. tt;
-    assigns_next = λ n epoch ask m rest found there next. (still-has R Reply env.serve.c p n epoch p.row there h, (nobody, tt));
+    assigns_next = λ n epoch ask m rest found there next. (still-has R n epoch p.row there h, (nobody, tt));
     ends_again = λ n epoch last m row found away again d. tt;
     ends = λ n epoch last m row found away. (tt, (nobody, tt));
     admits = λ choice row b path at target. (tt, (nobody, tt));

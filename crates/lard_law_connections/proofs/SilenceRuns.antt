@@ -60,7 +60,7 @@ module _ (k : Setting) (small : k.stream ≤ 2 ^ 30) where
 
   front-given : (x : Conn) (env : front.FrontEnv) (is : IsFrontEnv k x.c env) (h : FrontHas HasSpoken x.part.front.row) (g : FrontGets)
       → fronts.Given env IsTurning HasSpoken Anything AnyReply (front-kept x env is) x.part.front h g
-  front-given x env is h (FrontHears bytes r) = λ s e. (
+  front-given x env is h (FrontHears bytes (Ok s)) = (
     tt,
     (λ none plain. listening-turns s env.iss),
     (λ row last found at. any-words (last_words last.reason last s)),

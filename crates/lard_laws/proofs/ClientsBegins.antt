@@ -24,7 +24,6 @@ use Rattle.lard_laws.proofs.ClientsFirsts.{client-first, first-kept, forward-tel
 use Rattle.lard_laws.proofs.ClientsTelling as telling
 use Rattle.lard_laws.proofs.ClientsTelling.{AllTell, DeedTells}
 use Rattle.lard_laws.proofs.NodeDeeds.{aside-letters, node-station}
-use Rattle.lard_laws.proofs.WindowsFronts as heard
 use Rattle.lard_message.specs.declared.message.Body.TheVariants as body
 use Rattle.lard_rules.specs.Front as front
 use Rattle.lard_rules.specs.Node as node
@@ -118,7 +117,7 @@ module _ (k : Setting) where
 
   module _ (x : Conn) (env : FrontEnv) (heads : List Seen) (iss : ℕ) (small : iss < 2 ^ 32) (all : AllHaveFirst x iss) where
     heard-given : ((s : Station) → x.part.station ≡ Some s → s.iss ≡ iss) → (g : FrontGets) → FrontComes x env heads g
-        → heard.Given env (IssIs iss) (IssIs iss) Anything (Reply iss) (first-kept iss env.serve) x.part.front all.front g
+        → fronts.Given env (IssIs iss) (IssIs iss) Anything (Reply iss) (first-kept iss env.serve) x.part.front all.front g
     heard-given at (FrontHears bytes (Ok s)) comes = (tt, (λ none plain. comes.iss_is ∙ at comes.station comes.there), (λ row last found closed. words-greet iss last.reason last s))
     heard-given at _ comes = tt
 
@@ -130,7 +129,7 @@ module _ (k : Setting) where
 
   front-rules : FrontRules k Keeps
   front-rules = each-front k Keeps (λ x env heads g is comes own may. front-rule x env heads (front_rule env x.part.front g) is
-      (λ n small at all. heard.rule-has env (IssIs n) (IssIs n) Anything (Reply n) (first-kept n env.serve) x.part.front all.front g (admission x env heads g comes) (heard-given x env heads n small all at g comes))
+      (λ n small at all. fronts.rule-has env (IssIs n) (IssIs n) Anything (Reply n) (first-kept n env.serve) x.part.front all.front g (admission x env heads g comes) (heard-given x env heads n small all at g comes))
       (λ n small all. telling.rule-tells (λ to bytes. HasFirstOn x.c n Front to bytes) env (IssIs n) (front-tells x.c n small env.serve.c) x.part.front all.front (Reply n) (first-kept n env.serve) g
       (admission x env heads g comes) (told-given x env heads n small all may.sound g)))
 

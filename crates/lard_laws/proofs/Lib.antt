@@ -1,6 +1,5 @@
 pub mod ClientComing
 pub mod FrontComing
-pub mod WindowsFronts
 pub mod NodeHere
 pub mod NodeStays
 pub mod AsksPicking

@@ -15,7 +15,6 @@ use Rattle.lard_law_view.proofs.Frames.{IsAtClient, Owed, clients-leave}
 use Rattle.lard_law_view.proofs.Guarded.{client-weaker}
 use Rattle.lard_laws.proofs.ClientsTelling as telling
 use Rattle.lard_laws.proofs.ClientsTelling.{DeedTells}
-use Rattle.lard_laws.proofs.WindowsFronts as heard
 use Rattle.lard_laws.specs.WindowsLaws.{ForwardsComeFromClients}
 use Rattle.lard_laws.specs.Windows.{AnyBlock}
 use Rattle.lard_laws.specs.WindowsWords.{ForwardWas, ForwardWasOn, ForwardsWere}
@@ -128,7 +127,7 @@ module _ (k : Setting) where
     later Front bytes w = tt
     later (Client e) bytes w = tt
 
-  heard-given : (env : FrontEnv) (p : FrontPart) (g : FrontGets) → heard.Given env AnyBlock AnyBlock Anything AnyReply (any-kept env.serve) p (any-front p.row) g
+  heard-given : (env : FrontEnv) (p : FrontPart) (g : FrontGets) → fronts.Given env AnyBlock AnyBlock Anything AnyReply (any-kept env.serve) p (any-front p.row) g
   heard-given env p (FrontHears bytes (Ok s)) = (tt, (λ none plain. tt), (λ row last found closed. any-words (last_words last.reason last s)))
   heard-given env p _ = tt
 
@@ -145,7 +144,7 @@ module _ (k : Setting) where
       let d : FrontDeed = front_rule env p g in
       let made = admission x env heads g comes in
       front-rule x heads d (subst (λ (c : ℕ). fronts.DeedHas AnyBlock AnyReply c d) is.number
-      (heard.rule-has env AnyBlock AnyBlock Anything AnyReply (any-kept env.serve) p (any-front p.row) g made (heard-given env p g)))
+      (fronts.rule-has env AnyBlock AnyBlock Anything AnyReply (any-kept env.serve) p (any-front p.row) g made (heard-given env p g)))
       (λ ls goes. telling.rule-tells (λ to bytes. ForwardWasOn x.c ls Front to bytes) env AnyBlock (forwards-tell x.c ls env.serve.c) p (any-front p.row) AnyReply (any-kept env.serve) g made
       (told-given x env heads may.sound h ls goes g comes)) may h)
 

@@ -11,7 +11,6 @@ use Rattle.lard_law_connections.proofs.SilenceFronts as fronts
 use Rattle.lard_law_connections.proofs.SilenceTurns.{IsKept}
 use Rattle.lard_law_view.proofs.EachFront.{FrontComes, admission, each-front}
 use Rattle.lard_laws.proofs.FrontComing.{front-station, heard-number, heard-word}
-use Rattle.lard_laws.proofs.WindowsFronts as heard
 use Rattle.lard_laws.specs.Windows.{EndSent, FrontSent, StationReaches, SymbolsWereSent}
 use Rattle.lard_laws.proofs.WindowsEndpoints.{endpoint-law}
 use Rattle.lard_laws.proofs.WindowsMoves.{GoesOn, Home, Known, Says, front-moves, known}
@@ -96,7 +95,7 @@ module _ (k : Setting) (small : k.stream ≤ 2 ^ 30) where
 
     -- ---- whatever comes
 
-    given : (heads : List Seen) (g : front.FrontGets) → FrontComes x env heads g → heard.Given env F F Anything G kept x.part.front have g
+    given : (heads : List Seen) (g : front.FrontGets) → FrontComes x env heads g → fronts.Given env F F Anything G kept x.part.front have g
     given heads (front.FrontHears bytes (Ok sd)) comes =
         let word : IsWord truth.talk.w sd = heard-word x s env bytes heads k.files truth.talk truth.pend (known.whole k small x s there truth) sd comes in
         (tt, listens (heard-number x s env bytes heads there (Ok sd) comes) sd word, closes (heard-number x s env bytes heads there (Ok sd) comes) sd word)
@@ -104,7 +103,7 @@ module _ (k : Setting) (small : k.stream ≤ 2 ^ 30) where
 
     rule-fine : (heads : List Seen) (g : front.FrontGets) → FrontComes x env heads g → Fine (front.front_rule env x.part.front g)
     rule-fine heads g comes = subst (λ (c : ℕ). fronts.DeedHas F G c (front.front_rule env x.part.front g)) is.number
-        (heard.rule-has env F F Anything G kept x.part.front have g (admission x env heads g comes) (given heads g comes))
+        (fronts.rule-has env F F Anything G kept x.part.front have g (admission x env heads g comes) (given heads g comes))
 
   pub front-rules : FrontRules k Keeps
   front-rules = each-front k Keeps (λ x env heads g is comes help h.

@@ -17,7 +17,6 @@ use Rattle.lard_law_view.proofs.Saying.{AreMessages}
 use Rattle.lard_laws.proofs.NodeDeeds.{aside-letters}
 use Rattle.lard_laws.specs.Windows.{AnyBlock}
 use Rattle.lard_laws.proofs.WindowsForwards.{any-front}
-use Rattle.lard_laws.proofs.WindowsFronts as heard
 use Rattle.lard_rules.specs.Front as front
 use Rattle.lard_handoff_back.specs.declared.row.BackConn.TheVariants as back
 use Rattle.lard_history.proofs.Each.{Each, Each-append, Each-weaker}
@@ -187,7 +186,7 @@ module _ (k : Setting) where
   front-rule x heads (front.Does did) told may own h = grows x (front_does x heads (front.Does did)) (goes-out x Front tt did.turn.segments did.turn.messages told.1.1 own.messages) h
 
   heard-given : (x : Conn) (env : front.FrontEnv) (heads : List Seen) (g : front.FrontGets) → FrontComes x env heads g
-      → heard.Given env AnyBlock AnyBlock Anything (Says x.c x.letters) (says-kept x.c x.letters env.serve) x.part.front (any-front x.part.front.row) g
+      → fronts.Given env AnyBlock AnyBlock Anything (Says x.c x.letters) (says-kept x.c x.letters env.serve) x.part.front (any-front x.part.front.row) g
   heard-given x env heads (front.FrontHears bytes (Ok s)) comes = (tt, (λ none plain. tt), (λ row last found closed. words-say x.c x.letters bytes s comes.was (sym comes.read) last.reason last))
   heard-given x env heads _ comes = tt
 
@@ -195,7 +194,7 @@ module _ (k : Setting) where
   front-rules = each-front k Keeps (λ x env heads g is comes.
       let d : front.FrontDeed = front.front_rule env x.part.front g in
       front-rule x heads d (subst (λ (c : ℕ). fronts.DeedHas AnyBlock (Says x.c x.letters) c d) is.number
-      (heard.rule-has env AnyBlock AnyBlock Anything (Says x.c x.letters) (says-kept x.c x.letters env.serve) x.part.front (any-front x.part.front.row) g (admission x env heads g comes) (heard-given x env heads g comes))))
+      (fronts.rule-has env AnyBlock AnyBlock Anything (Says x.c x.letters) (says-kept x.c x.letters env.serve) x.part.front (any-front x.part.front.row) g (admission x env heads g comes) (heard-given x env heads g comes))))
 
   -- ---- the nodes
 
