@@ -130,7 +130,8 @@ fn put_parts(out: &mut Vec<u8>, parts: &EndpointParts) -> Result<(), NoMemory>
 {
     put_first(out, parts)?;
     put_second(out, parts)?;
-    put_counted(out, parts.unread.as_slice())
+    let unread = parts.unread.as_slice();
+    put_counted(out, unread)
 }
 
 /// The first half of an Offer's numbers.
