@@ -25,4 +25,5 @@ returns-in_err-number-clause-err c =
 pub returns-clause-err : goal.returns-clause-err
 returns-clause-err c =
     on_err_behind _ (λ h. begins_behind _ _ _ _ c.in_ok-bytes.ensures.ok (begins_behind _ _ _ _ c.in_ok-node.ensures.ok
-    (begins_behind _ _ _ _ c.in_ok-node-2.ensures.ok (begins_behind _ _ _ _ c.in_ok-connection.ensures.ok (begins_behind _ _ _ _ c.in_ok-number.ensures.ok h))))) c.path.ensures.err
+    (begins_behind _ _ _ _ c.in_ok-node-2.ensures.ok (begins_behind _ _ _ _ c.in_ok-connection.ensures.ok
+    (begins_behind _ _ _ _ c.in_ok-number.ensures.ok h))))) c.path.ensures.err
