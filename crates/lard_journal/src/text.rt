@@ -127,11 +127,10 @@ pub fn hex(out: &mut Vec<u8>, bytes: &[u8]) -> Result<(), NoMemory>
 {
     out.push(b' ')?;
     let start = out.len();
-    let Some(end) = bytes
-        .len()
-        .checked_mul(2)
-        .and_then(|digits| start.checked_add(digits))
-    else {
+    let Some(digits) = bytes.len().checked_mul(2) else {
+        return Err(NoMemory);
+    };
+    let Some(end) = start.checked_add(digits) else {
         return Err(NoMemory);
     };
     out.resize(end, 0)?;

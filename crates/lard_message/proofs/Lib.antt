@@ -4,3 +4,4 @@ pub mod Fields
 pub mod Layouts
 pub mod Spelled
 pub mod Whole
+pub mod Written

@@ -2,7 +2,7 @@
 use Rattle.std.proofs.Common.{◌≡◌, ℕ, Bool, true, List, [], ◌∷◌, IsTrue, ◌↔◌, refl, sym, ◌∙◌, arith, leb-true, le-leb}
 use Rattle.std.specs.List.{list_all, AllByRecursion}
 use Rattle.std.proofs.lemmas.Bool.{and_parts, and_from, eqb-true, eq-eqb}
-use Rattle.std.proofs.lemmas.Bool.Decides.{nat_tests}
+use Rattle.std.proofs.lemmas.Bool.Decides.{nat_tests, same_from_decides}
 use Rattle.std.proofs.lemmas.List.Elements.{All-from_recursion, recursion_from_All}
 use Rattle.lard_base.specs.declared.parts.EndpointParts.{EndpointParts}
 use Rattle.lard_base.specs.declared.place.Reason.{Reason}
@@ -46,6 +46,10 @@ parts_passed p h =
       small_mss = leb-true _ _ four.0;
       answered = leb-true _ _ four.1;
     }
+
+-- the test of the parts is their range
+pub parts_test : (p : EndpointParts) (t : Bool) → IsTrue t ↔ IsValidParts p → t ≡ are_parts p
+parts_test p t h = same_from_decides {P = IsValidParts p} t (are_parts p) (λ e. h.0 e, λ v. h.1 v) (parts_passed p, parts_pass p)
 
 count_passes : (r : Reason) (n : ℕ) → IsCount r n → is_count r n ≡ true
 count_passes Limit n h = refl

@@ -94,6 +94,13 @@ parts_numbers p =
     to_be_bytes w32 p.irs ++ to_be_bytes w32 p.iss ++ to_be_bytes w32 p.got ++ flag_byte p.fin ∷ to_be_bytes w32 p.una ++ to_be_bytes w16 p.wnd
     ++ to_be_bytes w32 p.wl1 ++ to_be_bytes w32 p.wl2 ++ to_be_bytes w16 p.mss ++ to_be_bytes w32 p.served
 
+-- the same numbers in two halves, each written by itself
+abbrev pub first_numbers : EndpointParts → List ℕ
+first_numbers p = to_be_bytes w32 p.irs ++ to_be_bytes w32 p.iss ++ to_be_bytes w32 p.got ++ flag_byte p.fin ∷ to_be_bytes w32 p.una
+
+abbrev pub second_numbers : EndpointParts → List ℕ
+second_numbers p = to_be_bytes w16 p.wnd ++ to_be_bytes w32 p.wl1 ++ to_be_bytes w32 p.wl2 ++ to_be_bytes w16 p.mss ++ to_be_bytes w32 p.served
+
 abbrev pub parts_bytes : EndpointParts → List ℕ
 parts_bytes p = parts_numbers p ++ counted_bytes p.unread
 

@@ -119,6 +119,32 @@ parts_at bytes = do
     unread.1,
   )
 
+-- what is behind the first five of these numbers
+unfoldable pub parts_behind : ℕ → ℕ → ℕ → Bool → ℕ → List ℕ → Option (EndpointParts × List ℕ)
+parts_behind irs iss got fin una bytes = do
+  wnd ← number_at w16 bytes
+  wl1 ← number_at w32 wnd.1
+  wl2 ← number_at w32 wl1.1
+  mss ← number_at w16 wl2.1
+  served ← number_at w32 mss.1
+  unread ← counted_at served.1
+  Some (
+    record {
+      irs = irs;
+      iss = iss;
+      got = got;
+      fin = fin;
+      una = una;
+      wnd = wnd.0;
+      wl1 = wl1.0;
+      wl2 = wl2.0;
+      mss = mss.0;
+      served = served.0;
+      unread = unread.0;
+    },
+    unread.1,
+  )
+
 unfoldable pub offer_at : List ℕ → Option (Body × List ℕ)
 offer_at bytes = do
   parts ← parts_at bytes

@@ -1,7 +1,7 @@
 //! Bodies, each read with the bytes after it, or `Field` where there is none.
 
 ghost use Rattle.std.specs.Prelude.{◌≡◌};
-ghost use Rattle.lard_message.specs.Reading.{Reads, parts_at, offer_at, ask_at, tag_at, fetch_at, content_at, ended_body_at, body_at};
+ghost use Rattle.lard_message.specs.Reading.{Reads, counted_at, taken_at, parts_at, parts_behind, offer_at, ask_at, tag_at, fetch_at, content_at, ended_body_at, body_at};
 
 use crate::fault::MsgFault;
 use crate::kind::Kind;
@@ -30,7 +30,7 @@ pub fn body(alloc: Global, kind: Kind, bytes: &[u8]) -> Result<(Body, &[u8]), Ms
 }
 
 /// What an endpoint goes on from.
-#[tactic(auto, unfolding(crate::specs::Reading::parts_at))]
+#[tactic(auto, unfolding(crate::specs::Reading::parts_at, crate::specs::Reading::parts_behind))]
 fn parts(alloc: Global, bytes: &[u8]) -> Result<(EndpointParts, &[u8]), MsgFault>
     ensures { Reads (λ x. (x.0, x.1.now)) result (parts_at bytes.now) }
 {
@@ -39,13 +39,28 @@ fn parts(alloc: Global, bytes: &[u8]) -> Result<(EndpointParts, &[u8]), MsgFault
     let (got, rest) = number(rest)?;
     let (fin, rest) = flag(rest)?;
     let (una, rest) = number(rest)?;
-    let (wnd, rest) = short_number(rest)?;
+    parts_behind(alloc, irs, iss, got, fin, una, rest)
+}
+
+/// The same, once its first five numbers are read.
+#[tactic(auto, unfolding(crate::specs::Reading::parts_behind))]
+fn parts_behind(
+    alloc: Global,
+    irs: u32,
+    iss: u32,
+    got: u32,
+    fin: bool,
+    una: u32,
+    bytes: &[u8],
+) -> Result<(EndpointParts, &[u8]), MsgFault>
+    ensures { Reads (λ x. (x.0, x.1.now)) result (parts_behind irs iss got fin una bytes.now) }
+{
+    let (wnd, rest) = short_number(bytes)?;
     let (wl1, rest) = number(rest)?;
     let (wl2, rest) = number(rest)?;
     let (mss, rest) = short_number(rest)?;
     let (served, rest) = number(rest)?;
-    let (unread, rest) = counted(rest)?;
-    let unread = Bytes::from_slice(alloc, unread)?;
+    let (unread, rest) = counted_bytes(alloc, rest)?;
     let parts = EndpointParts {
         irs,
         iss,
@@ -104,8 +119,7 @@ fn fetch(alloc: Global, bytes: &[u8]) -> Result<(Body, &[u8]), MsgFault>
     ensures { Reads (λ x. (x.0, x.1.now)) result (fetch_at bytes.now) }
 {
     let (r, rest) = number(bytes)?;
-    let (path, rest) = counted(rest)?;
-    let path = Path::from_slice(alloc, path)?;
+    let (path, rest) = counted_path(alloc, rest)?;
     Ok((Body::Fetch { r, path }, rest))
 }
 
@@ -115,9 +129,32 @@ fn content(alloc: Global, bytes: &[u8]) -> Result<(Body, &[u8]), MsgFault>
 {
     let (r, rest) = number(bytes)?;
     let (len, rest) = number(rest)?;
-    let (content, rest) = taken(rest, len as usize)?;
-    let bytes = Bytes::from_slice(alloc, content)?;
+    let (bytes, rest) = taken_bytes(alloc, rest, len as usize)?;
     Ok((Body::Content { r, bytes }, rest))
+}
+
+/// As many bytes as the two before them say, copied, and those after them.
+fn counted_bytes(alloc: Global, bytes: &[u8]) -> Result<(Bytes, &[u8]), MsgFault>
+    ensures { Reads (λ x. (x.0, x.1.now)) result (counted_at bytes.now) }
+{
+    let (front, rest) = counted(bytes)?;
+    Ok((Bytes::from_slice(alloc, front)?, rest))
+}
+
+/// The same, as a path.
+fn counted_path(alloc: Global, bytes: &[u8]) -> Result<(Path, &[u8]), MsgFault>
+    ensures { Reads (λ x. (x.0, x.1.now)) result (counted_at bytes.now) }
+{
+    let (front, rest) = counted(bytes)?;
+    Ok((Path::from_slice(alloc, front)?, rest))
+}
+
+/// The first `n` bytes, copied, and those after them.
+fn taken_bytes(alloc: Global, bytes: &[u8], n: usize) -> Result<(Bytes, &[u8]), MsgFault>
+    ensures { Reads (λ x. (x.0, x.1.now)) result (taken_at n bytes.now) }
+{
+    let (front, rest) = taken(bytes, n)?;
+    Ok((Bytes::from_slice(alloc, front)?, rest))
 }
 
 #[tactic(auto, unfolding(crate::specs::Reading::ended_body_at))]

@@ -124,6 +124,7 @@ pub fn passes(body: &Body) -> bool
 }
 
 /// Whether an endpoint can be made of these parts.
+#[tactic(auto, using(crate::proofs::Tables::parts_test))]
 fn are_parts(parts: &EndpointParts) -> bool
     ensures { result ≡ are_parts parts.now }
 {

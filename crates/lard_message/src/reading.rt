@@ -10,7 +10,7 @@ ghost use Rattle.lard_message.specs.Reading.{GivesMessage, decoded_message, conn
 use crate::bodies::body;
 use crate::fault::MsgFault;
 use crate::kind::{Kind, is_version, kind_named};
-use crate::message::{Message, passes};
+use crate::message::{Body, Message, passes};
 use lard_base::{ConnId, Epoch};
 use std::alloc::Global;
 
@@ -52,21 +52,56 @@ fn after_kind(alloc: Global, kind: Kind, bytes: &[u8]) -> Result<Message, MsgFau
     requires { 10 ≤ length bytes.now }
     ensures { GivesMessage result (with_kind bytes.now (Some kind)) }
 {
-    let (header, rest) = bytes.split_at(HEADER_BYTES);
-    let len = u32::from_be_bytes([header[6], header[7], header[8], header[9]]) as usize;
+    let (_, rest) = bytes.split_at(HEADER_BYTES);
+    let len = named_length(bytes) as usize;
     if rest.len() < len {
         return Err(MsgFault::Length);
     }
     if rest.len() > len {
         return Err(MsgFault::Trailing);
     }
-    let Some(c) = ConnId::new(u32::from(u16::from_be_bytes([header[2], header[3]]))) else {
+    let Some(c) = ConnId::new(u32::from(named_connection(bytes))) else {
         return Err(MsgFault::Field);
     };
-    let epoch = Epoch(u16::from_be_bytes([header[4], header[5]]));
+    let epoch = named_epoch(bytes);
     let (body, rest) = body(alloc, kind, rest)?;
+    whole(c, epoch, body, rest)
+}
+
+/// The message with this body, behind which nothing may stand.
+fn whole(c: ConnId, epoch: u16, body: Body, rest: &[u8]) -> Result<Message, MsgFault>
+    ensures { GivesMessage result (with_body c epoch (Some (body, rest.now))) }
+{
     if !rest.is_empty() || !passes(&body) {
         return Err(MsgFault::Field);
     }
-    Ok(Message { c, epoch, body })
+    Ok(Message {
+        c,
+        epoch: Epoch(epoch),
+        body,
+    })
+}
+
+/// The number of the connection that the first ten bytes name.
+fn named_connection(bytes: &[u8]) -> u16
+    requires { 10 ≤ length bytes.now }
+    ensures { result ≡ connection_at bytes.now }
+{
+    u16::from_be_bytes([bytes[2], bytes[3]])
+}
+
+/// The epoch that they name.
+fn named_epoch(bytes: &[u8]) -> u16
+    requires { 10 ≤ length bytes.now }
+    ensures { result ≡ epoch_at bytes.now }
+{
+    u16::from_be_bytes([bytes[4], bytes[5]])
+}
+
+/// The length of the body that they name.
+fn named_length(bytes: &[u8]) -> u32
+    requires { 10 ≤ length bytes.now }
+    ensures { result ≡ length_at bytes.now }
+{
+    u32::from_be_bytes([bytes[6], bytes[7], bytes[8], bytes[9]])
 }

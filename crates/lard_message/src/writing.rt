@@ -5,7 +5,7 @@ ghost use Rattle.std.specs.List.{flat_map};
 ghost use Rattle.std.specs.Int.{w16, w32, to_be_bytes};
 ghost use Rattle.lard_base.specs.declared.limits.TheConstants.{MAX_MESSAGE_BYTES};
 ghost use Rattle.lard_base.specs.Parts.{IsValidParts};
-ghost use Rattle.lard_message.specs.Message.{IsOfTable, IsPath, counted_bytes, reason_byte, parts_numbers, parts_bytes, body_bytes, header_bytes, spelled_message, kind_of};
+ghost use Rattle.lard_message.specs.Message.{IsOfTable, IsPath, counted_bytes, flag_byte, reason_byte, first_numbers, second_numbers, parts_bytes, body_bytes, header_bytes, spelled_message, kind_of};
 ghost use Rattle.lard_message.specs.Kinds.{kind_number, version_of};
 
 use crate::message::{Body, Message};
@@ -128,27 +128,32 @@ fn put_parts(out: &mut Vec<u8>, parts: &EndpointParts) -> Result<(), NoMemory>
     requires { IsValidParts parts.now }
     ensures { OnOk result (out.new.items ≡ out.old.items ++ parts_bytes parts.now) }
 {
-    let mut numbers = [0; NUMBERS_BYTES];
-    fill(&mut numbers, parts);
-    put_bytes(out, &numbers)?;
-    put_counted(out, parts.unread.as_slice())
+    put_first(out, parts)?;
+    put_second(out, parts)?;
+    let unread = parts.unread.as_slice();
+    put_counted(out, unread)
 }
 
-/// The numbers of an Offer, each at its place.
-fn fill(buf: &mut [u8], parts: &EndpointParts)
-    requires { length buf.old ≡ 33 }
-    ensures { buf.new ≡ parts_numbers parts.now }
+/// The first half of an Offer's numbers.
+fn put_first(out: &mut Vec<u8>, parts: &EndpointParts) -> Result<(), NoMemory>
+    ensures { OnOk result (out.new.items ≡ out.old.items ++ first_numbers parts.now) }
 {
-    BigEndian::write_u32(buf, parts.irs);
-    BigEndian::write_u32(&mut buf[4..], parts.iss);
-    BigEndian::write_u32(&mut buf[8..], parts.got);
-    buf[12] = u8::from(parts.fin);
-    BigEndian::write_u32(&mut buf[13..], parts.una);
-    BigEndian::write_u16(&mut buf[17..], parts.wnd);
-    BigEndian::write_u32(&mut buf[19..], parts.wl1);
-    BigEndian::write_u32(&mut buf[23..], parts.wl2);
-    BigEndian::write_u16(&mut buf[27..], parts.mss);
-    BigEndian::write_u32(&mut buf[29..], parts.served);
+    put_number(out, parts.irs)?;
+    put_number(out, parts.iss)?;
+    put_number(out, parts.got)?;
+    put_flag(out, parts.fin)?;
+    put_number(out, parts.una)
+}
+
+/// The second half of them.
+fn put_second(out: &mut Vec<u8>, parts: &EndpointParts) -> Result<(), NoMemory>
+    ensures { OnOk result (out.new.items ≡ out.old.items ++ second_numbers parts.now) }
+{
+    put_short(out, parts.wnd)?;
+    put_number(out, parts.wl1)?;
+    put_number(out, parts.wl2)?;
+    put_short(out, parts.mss)?;
+    put_number(out, parts.served)
 }
 
 /// The number of paths, and each behind its length.
@@ -194,6 +199,13 @@ fn reason_byte(reason: Reason) -> u8
         Reason::Peer => 1,
         Reason::Limit => 2,
     }
+}
+
+/// A byte that is 0 or 1.
+fn put_flag(out: &mut Vec<u8>, flag: bool) -> Result<(), NoMemory>
+    ensures { OnOk result (out.new.items ≡ out.old.items ++ flag_byte flag ∷ []) }
+{
+    put_byte(out, u8::from(flag))
 }
 
 fn put_byte(out: &mut Vec<u8>, byte: u8) -> Result<(), NoMemory>

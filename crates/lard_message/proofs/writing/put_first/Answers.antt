@@ -1,0 +1,9 @@
+-- Five writes.
+use Rattle.lard_message.proofs.Written.{five}
+use Rattle.lard_message.proofs.writing.put_first.Goals as goal
+
+pub returns : goal.returns
+returns c =
+    five c.put_number-4.result _ _ _ _ _ _ _ _ _ _ _
+    c.in_ok-put_number.ensures c.in_ok-put_number-2.ensures c.in_ok-put_number-3.ensures c.in_ok-put_flag.ensures
+    c.put_number-4.ensures
