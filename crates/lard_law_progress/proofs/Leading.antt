@@ -5,7 +5,6 @@ use Rattle.lard_law_view.proofs.EachClient.{ClientComes, client_goes, each-clien
 use Rattle.lard_bound.specs.Progress.{Answers, IfCame, IsWarm, Lasts, came_in}
 use Rattle.lard_bound.specs.Units.{Whole, units}
 use Rattle.lard_law_view.proofs.Saying.{NamesAll}
-use Rattle.lard_rules.specs.Front as front
 use Rattle.lard_law_view.proofs.EachFront.{each-front}
 use Rattle.lard_law_view.proofs.EachNode.{Aside, aside_said, aside_seen, each-node, node_goes}
 use Rattle.lard_law_view.proofs.EachNode as each
