@@ -2,9 +2,9 @@
 -- near, something of that is nearer.
 use Rattle.std.proofs.Common.{◌≡◌, ℕ, suc, true, false, List, Option, Some, None, Result, Ok, Err, refl, sym, ap, ◌∙◌, subst}
 use Rattle.lard_base.specs.declared.event.Event.TheVariants as event
-use Rattle.lard_law_view.specs.Prelude.{Body, Client, Conn, Final, Front, FrontConn, FrontDeed, FrontEnv, FrontRow, FrontRules, IsForFront, IsFrontEnv, IsUnheard, Letter, MayRestOn, Message, Move, MsgFault, Node, Place, Said, Seen, SegFault, Setting, Station, ToCluster, Was, ask_of, decoded, decoded_message, event_seen, front_asked, front_does, front_ended, front_gets, front_hears, front_rest, front_taken, front_timer, grown, hears_at, kind_of, nothing_said, packet_seen, stands}
+use Rattle.lard_law_view.specs.Prelude.{Body, Client, Conn, Final, Front, FrontConn, FrontDeed, FrontEnv, FrontRow, FrontRules, IsForFront, IsFrontEnv, IsUnheard, Letter, MayRestOn, Message, Move, MsgFault, Node, Place, Said, SegFault, Setting, Station, ToCluster, Was, ask_of, decoded, decoded_message, event_seen, front_asked, front_does, front_ended, front_gets, front_hears, front_rest, front_taken, front_timer, grown, hears_at, kind_of, nothing_said, packet_seen, stands}
 use Rattle.lard_bound.specs.Nears.{NearSaid, OfMessage}
-use Rattle.lard_bound.specs.Progress.{Answers, IfCame, IsWarm, IsWarmBy, IsWarmSegment, IsWarmWord, Lasts, NearOn, came_in, spot_at, spot_with}
+use Rattle.lard_bound.specs.Progress.{Answers, IsWarm, IsWarmBy, IsWarmSegment, IsWarmWord, Lasts, NearOn, spot_at, spot_with}
 use Rattle.lard_bound.specs.Seats.{Held, Over, SeatNow, Waiting, seat_in, seat_of}
 use Rattle.lard_bound.specs.Spots.{Spot}
 use Rattle.lard_bound.specs.Units.{Whole}
@@ -14,6 +14,7 @@ use Rattle.lard_message.specs.declared.message.Body.TheVariants as body
 use Rattle.lard_law_progress.proofs.AnswersFrontAsked.{asked-answers}
 use Rattle.lard_law_progress.proofs.AnswersFrontAway.{Owes, forwarded-owes, l, met-owes, unread-owes}
 use Rattle.lard_law_progress.proofs.AnswersForm.{IsLateOn}
+use Rattle.lard_law_progress.proofs.AnswersForm as form
 use Rattle.lard_law_progress.proofs.AnswersFrontGiven.{AtSeat, FrontGiven, IsOnlyRefusal, IsStage, IsWord}
 use Rattle.lard_law_progress.proofs.AnswersFrontHolding.{heard-owes}
 use Rattle.lard_law_progress.proofs.AnswersFrontOver.{over-owes}
@@ -63,42 +64,39 @@ module _ (k : Setting) (w : Whole) (x : Conn) (bytes : List ℕ) (st : Station) 
 
 -- ---- all of the front end
 
-module _ (k : Setting) (w : Whole) where
-  -- what is known of the packet that comes
-  abbrev pub Comes : Conn → List Seen → Type 0
-  Comes x heads = IfCame (λ a. IsWarm x a × IsLateOn x a) (came_in heads)
-
-  -- of each move, given what holds before it and behind it
+module _ (k : Setting) (all : ℕ → Whole) where
+  -- of each move
   abbrev pub Owed : Conn → Move → Type 0
-  Owed x v = MayRestOn (FrontGiven k.files w) x → FrontGiven k.files w (grown x v) → Comes x v.heads → Lasts k w x v → IfCame (Answers k w x v) (came_in v.heads)
+  Owed x v = form.Owes k (all x.c) (FrontGiven k.files (all x.c)) x v
 
   by-packet : (x : Conn) (from to : Place) (bytes : List ℕ) (deed : FrontDeed) → let a : Letter = record { from = from; to = to; bytes = bytes } in let v = front_does x (packet_seen from to bytes) deed in
-      (MayRestOn (FrontGiven k.files w) x → IsWarm x a × IsLateOn x a → Lasts k w x v → FrontGiven k.files w (grown x v) → Answers k w x v a) → Owed x v
-  by-packet x from to bytes Drops h may later comes lasts = h may comes lasts later
-  by-packet x from to bytes (Says turn) h may later comes lasts = h may comes lasts later
-  by-packet x from to bytes (Does did) h may later comes lasts = h may comes lasts later
+      (MayRestOn (FrontGiven k.files (all x.c)) x → IsWarm x a → IsLateOn x a → Lasts k (all x.c) x v → FrontGiven k.files (all x.c) (grown x v) → Answers k (all x.c) x v a) → Owed x v
+  by-packet x from to bytes Drops h may later warm late lasts = h may warm late lasts later
+  by-packet x from to bytes (Says turn) h may later warm late lasts = h may warm late lasts later
+  by-packet x from to bytes (Does did) h may later warm late lasts = h may warm late lasts later
 
   by-timer : (x : Conn) (deed : FrontDeed) → let e = event_seen (event.Timer Front x.c) in Owed x (front_does x e deed)
-  by-timer x Drops may later comes lasts = tt
-  by-timer x (Says turn) may later comes lasts = tt
-  by-timer x (Does did) may later comes lasts = tt
+  by-timer x Drops may later warm late lasts = tt
+  by-timer x (Says turn) may later warm late lasts = tt
+  by-timer x (Does did) may later warm late lasts = tt
 
   pub front-answers : FrontRules k Owed
   front-answers = record {
     hears = λ x s env bytes was is_env iss sent. by-packet x (Client x.c) Front bytes (front_gets env x.part.front bytes (decoded bytes x.c ToCluster))
-        (λ may comes. hears-answers k w x bytes s was env is_env may sent comes.0 (comes.1 s was) (decoded bytes x.c ToCluster) refl);
+        (λ may warm late. hears-answers k (all x.c) x bytes s was env is_env may sent warm (late s was) (decoded bytes x.c ToCluster) refl);
     fires = λ x s env was is_env. by-timer x (front_timer env x.part.front);
     taken = λ x env n epoch bytes is_env spells sent. by-packet x (Node n) Front bytes (front_taken x.part.front epoch)
-        (λ may comes. taken-answers k w x may.given n bytes epoch spells);
+        (λ may warm late. taken-answers k (all x.c) x may.given n bytes epoch spells);
     asked = λ x env n epoch number queue size paths bytes is_env spells sent. by-packet x (Node n) Front bytes (front_asked env x.part.front n epoch (ask_of x.c n number queue size paths))
-        (λ may comes. asked-answers k w x env is_env may.number may.given n bytes epoch number queue size paths spells);
+        (λ may warm late. asked-answers k (all x.c) x env is_env may.number may.given n bytes epoch number queue size paths spells);
     ended = λ x env n epoch reason snd rcv count bytes is_env spells sent.
         let last : Final = record { reason = reason; snd = record { 0 = snd }; rcv = record { 0 = rcv } } in
         by-packet x (Node n) Front bytes (front_ended env x.part.front n epoch last)
-        (λ may comes. ended-answers k w x env is_env may.number may.given n bytes epoch reason snd rcv count spells last);
-    admitted = λ x env choice given is_env is may later comes lasts. tt;
+        (λ may warm late. ended-answers k (all x.c) x env is_env may.number may.given n bytes epoch reason snd rcv count spells last);
+    admitted = λ x env choice given is_env is may later warm late lasts. tt;
   }
 
+module _ (k : Setting) (w : Whole) where
   -- ---- a packet that is ignored
 
   never-heard : (n : ℕ) (bytes : List ℕ) (t : Spot) (d : ℕ) → ((m : Message) → decoded_message bytes ≡ Ok m → IsForFront (kind_of m.body) → ⊥) → (r : Result Message MsgFault) → decoded_message bytes ≡ r

@@ -2,36 +2,20 @@
 use Rattle.std.proofs.Common.{◌≡◌, ◌<◌, ◌≤◌, ◌+◌, ◌^◌, ◌==◌, ◌&&◌, nat_lt, ℕ, suc, Bool, true, false, cond, List, [], ◌∷◌, length, map, is_some, Option, Some, None, ⊎_elim, refl, sym, ap, ◌∙◌, subst, arith}
 use Rattle.std.specs.List.{AllByRecursion, find}
 use Rattle.std.proofs.lemmas.Bool.{and_parts, cond_both, eq-eqb, eqb-true, lt-ltb, ltb-true}
-use Rattle.lard_law_view.specs.Prelude.{Ask, Conn, ControlBlock, Front, FrontConn, FrontDeed, FrontEnv, FrontPart, FrontRest, FrontRow, IsConnNumber, IsFrontEnv, IsNodeNumber, Node, NodePart, Part, Setting, SpellsMessage, Station, ask_of, asked_by, assigns, front_asked, front_rest, front_saying, grown, is_row_at, is_under, letters_of, named_paths, tag_sent, with_front}
+use Rattle.lard_law_view.specs.Prelude.{Ask, Conn, ControlBlock, Front, FrontDeed, FrontEnv, FrontRest, FrontRow, IsConnNumber, IsFrontEnv, IsNodeNumber, Node, Setting, SpellsMessage, Station, ask_of, asked_by, assigns, front_asked, front_rest, front_saying, grown, is_row_at, is_under, letters_of, named_paths, tag_sent}
 use Rattle.lard_base.specs.declared.place.TimerKind.TheVariants as kind
 use Rattle.lard_bound.specs.Chains.{chain, node_chain, of_message}
 use Rattle.lard_bound.specs.Nears.{Near, NearAsk, NearSaid, OfMessage}
-use Rattle.lard_bound.specs.Seats.{Held, Here, SeatNow, Staying, Waiting, seat_away, seat_by, seat_in, seat_of}
+use Rattle.lard_bound.specs.Seats.{Here, SeatNow, Staying, seat_of}
 use Rattle.lard_bound.specs.Spots.{Spot, post_of}
 use Rattle.lard_bound.specs.Units.{Whole}
 use Rattle.lard_rules.specs.Front.{Drops, Says, Does, message}
-use Rattle.lard_handoff_front.specs.declared.row.FrontConn.TheVariants as stage
 use Rattle.lard_message.specs.declared.message.Body.TheVariants as body
 use Rattle.lard_law_progress.proofs.AnswersFrontGiven.{FrontGiven, HasTag, IsAsked}
 use Rattle.lard_law_progress.proofs.AnswersFrontHome.{home, small-at}
 use Rattle.lard_law_progress.proofs.AnswersFrontMessages.{Owes, does, drops-owes, l, one-owes, reads, unopened-owes}
 use Rattle.lard_law_progress.proofs.AnswersFrontSpots.{at_seat}
-
--- where the connection is hangs on how many responses were queued, and on no more of the rest
-seat-count : (f g : FrontPart) (nodes : ℕ → NodePart) → (front_rest g.rest).count ≡ (front_rest f.rest).count → (o : Option FrontRow) → seat_by g nodes o ≡ seat_by f nodes o
-seat-count f g nodes e None = refl
-seat-count f g nodes e (Some row) = at row.stage where
-  at : (c : FrontConn) → seat_in g nodes c ≡ seat_in f nodes c
-  at (stage.Held b) = ap (Held b) e
-  at (stage.Waiting b) = ap (Waiting b) e
-  at stage.Lent = refl
-  at (stage.Offering m d) = ap (λ (c : ℕ). seat_away false m d.0 c (nodes m)) e
-  at (stage.Moved m d) = ap (λ (c : ℕ). seat_away true m d.0 c (nodes m)) e
-  at (stage.Closed last) = refl
-
-same-seat : (p : Part) (rest more : FrontRest) → p.front.rest ≡ Some rest → more.count ≡ rest.count → seat_of (with_front p (record p.front { rest = Some more })) ≡ seat_of p
-unfolding seat_of
-same-seat p rest more is same = seat-count p.front (record p.front { rest = Some more }) p.nodes (same ∙ sym (ap (λ (o : Option FrontRest). (front_rest o).count) is)) p.front.row
+use Rattle.lard_law_progress.proofs.Seating.{seat-counts}
 
 module _ (k : Setting) (w : Whole) (x : Conn) (env : FrontEnv) (is_env : IsFrontEnv k x.c env) (number_is : IsConnNumber x.c) (given : FrontGiven k.files w x) (n : ℕ) (bytes : List ℕ) (epoch number queue size : ℕ) (paths : List (List ℕ))
     (spells : SpellsMessage x.c epoch (body.Ask number queue size paths) bytes) where
@@ -110,7 +94,7 @@ module _ (k : Setting) (w : Whole) (x : Conn) (env : FrontEnv) (is_env : IsFront
         many = λ z seat h. ⊎_elim
             (λ (e : h.stay.stay.asks ≡ number + 1). absurd (let i : number ≡ h.stay.stay.asks = h.number_of in omega (arith, e, i)))
             (λ (e : (h.stay.stay.asks ≡ number) × (0 < number) × (length given_nodes ≡ length (named_paths k.files h.stay.stay.batch))). e.2 ∙ sym h.count)
-            (later.asks h.told n epoch h.block h.stay (same-seat x.part rest more found refl ∙ seat ∙ h.seat) h.kept);
+            (later.asks h.told n epoch h.block h.stay (seat-counts w k.nodes k.files x.part st (record x.part.front { rest = Some more }) (sym (ap (λ (o : Option FrontRest). (front_rest o).count) found)) refl ∙ seat ∙ h.seat) h.kept);
       })
 
   -- the last Ask that was answered

@@ -7,11 +7,10 @@ use Rattle.lard_law_view.specs.Prelude.{Arrival, ControlBlock, Ending, Final, Pl
 use Rattle.lard_bound.specs.Chains.{is_plain}
 use Rattle.lard_endpoint.specs.declared.control.arriving.Arrival.TheVariants as arrival
 use Rattle.lard_endpoint.proofs.Numbers.{offset_later}
-use Rattle.lard_endpoint.proofs.Silence.{emit-none}
 use Rattle.lard_law_progress.proofs.AnswersFrontGiven.{IsTalking}
 use Rattle.lard_law_progress.proofs.AnswersFrontSpots.{AreToClient}
 use Rattle.lard_law_progress.proofs.Data.{heard}
-use Rattle.lard_law_progress.proofs.Silence.{IsSilent, heard-kept, plain-heard, plain-parts}
+use Rattle.lard_law_progress.proofs.Silence.{heard-kept, none-said, plain-heard, plain-parts}
 use Rattle.lard_rules.specs.declared.places.Ending.TheVariants as ending
 use Rattle.lard_rules.proofs.Loops.{speaks_keep}
 use Rattle.lard_send.specs.declared.piece.Piece.{Piece}
@@ -58,20 +57,6 @@ none-left s all =
     last : (p q r : Bool) → q ≡ false → (p && (q && r)) ≡ false
     last true q r e = ap (λ (t : Bool). t && r) e
     last false q r e = refl
-
--- so nothing is said where no ACK is owed
-pub none-said : (b d : ControlBlock) → IsSilent b → d.owed ≡ b.owed → d.last_window ≡ b.last_window → d.reset ≡ b.reset → next_piece d.send ≡ None → emitted d ≡ None
-none-said b d h owed last reset next =
-    let quiet = emit-none b h.open_ h.none in
-    let debt : b.owed ≡ false = first b.owed ((b.last_window == 0) && nat_lt 0 (rcv_wnd b)) quiet.0 in
-    let free : owes (advanced d) ≡ false = (λ i. (owed ∙ debt) i || (((ap (λ n. n == 0) last ∙ h.told) i) && nat_lt 0 (rcv_wnd d))) in
-    let none : owed_ready (advanced d) ≡ None = ap (λ (t : Bool). cond {A = Option Ready} t (Some (ack_ready (advanced d))) None) free in
-    let all : ready_of (advanced d) (next_piece d.send) (owed_ready (advanced d)) ≡ None = ap (λ (o : Option Piece). ready_of (advanced d) o (owed_ready (advanced d))) next ∙ none in
-    ap (λ (t : Bool). cond {A = Option Ready} t None (ready_of (advanced d) (next_piece d.send) (owed_ready (advanced d)))) (reset ∙ h.open_) ∙ all
-  where
-    first : (p q : Bool) → (p || q) ≡ false → p ≡ false
-    first true q e = e
-    first false q e = refl
 
 -- ---- an acknowledgement that is owed, and nothing else
 

@@ -1,5 +1,5 @@
 -- A client hears and says: nothing that is left to do on its connection comes back.
-use Rattle.std.proofs.Common.{Bool, ap, arith, cond, false, inl, inr, refl, subst, sym, true, ℕ, ◌+◌, ◌-◌, ◌==◌, ◌∙◌, ◌≡◌, ◌≤◌, ◌⊎◌}
+use Rattle.std.proofs.Common.{Bool, ap, arith, cond, false, inl, inr, refl, subst, sym, true, ℕ, ◌+◌, ◌==◌, ◌∙◌, ◌≡◌, ◌≤◌, ◌⊎◌}
 use Rattle.std.proofs.lemmas.Bool.Decides.{nat_tests}
 use Rattle.lard_law_view.specs.Prelude.{ClientBlock, FilesAt, Part, Phase, Said, Sending, Station, after_next, after_resend, client_after_emit, client_after_timer, client_arrived, client_speaks, client_told, one_if, symbols, with_station}
 use Rattle.lard_bound.specs.Seats.{Gone, Held, Here, Offered, Over, SeatNow, Unborn, Waiting, seat_of, tells_end}

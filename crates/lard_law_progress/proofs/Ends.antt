@@ -2,7 +2,6 @@
 use Rattle.std.proofs.Common.{ap, arith, cond, drop, inl, inr, max, nat_lt, refl, true, ℕ, ◌&&◌, ◌+◌, ◌-◌, ◌<◌, ◌==◌, ◌||◌, ◌∙◌, ◌≡◌, ◌≤◌, ◌⊎◌}
 use Rattle.std.proofs.lemmas.Bool.{cond_both, ltb-true}
 use Rattle.lard_law_view.specs.Prelude.{ControlBlock, Said, Sending, advanced, after_ack, after_emit, after_next, after_resend, after_timer, is_newer, may_send, moved_up, next_fin, next_len, on_segment, one_if, retried, seq_offset, speaks, symbols, told, windowed}
-use Rattle.lard_recv.specs.Recv as recv
 use Rattle.lard_rules.proofs.Halves.{KeptBySending, endpoint-segment}
 use Rattle.lard_rules.proofs.Loops.{speaks_keep}
 use Rattle.lard_rules.proofs.Hearing.{emit-keeps, segment-keeps, timer-keeps}

@@ -1,20 +1,19 @@
 -- The front end hears a message of a node: nothing that is left to do comes back.
 use Rattle.std.proofs.Common.{◌≡◌, ◌==◌, ℕ, Bool, true, false, cond, Option, Some, None, refl, sym, ap, ◌∙◌}
-use Rattle.lard_law_view.specs.Prelude.{Ask, BackConn, BackRow, Epoch, FilesAt, Final, FrontEnv, FrontPart, FrontRest, FrontRow, NodePart, Part, Station, assigns, ended_row, front_asked, front_ended, front_ends, front_rest, front_taken, is_away, next_epoch, taken_by, with_front, without}
+use Rattle.lard_law_view.specs.Prelude.{Ask, BackConn, BackRow, Epoch, FilesAt, Final, FrontDeed, FrontEnv, FrontPart, FrontRest, FrontRow, NodePart, Part, Station, assigns, ended_row, front_ends, front_rest, next_epoch, taken_by, with_front, without}
 use Rattle.lard_base.specs.declared.place.TimerKind.TheVariants as kind
 use Rattle.lard_bound.specs.Seats.{Offered, seat_away, seat_decided, seat_of, seat_there, staying_of}
 use Rattle.lard_bound.specs.Units.{Whole}
-use Rattle.lard_rules.specs.Front as front
+use Rattle.lard_rules.specs.Front.{Does}
 use Rattle.lard_handoff_back.specs.declared.row.BackConn.TheVariants as back
 use Rattle.lard_handoff_front.specs.declared.row.FrontConn.TheVariants as stage
 use Rattle.lard_law_progress.proofs.Given.{IsGone}
 use Rattle.lard_law_progress.proofs.Handing.{ended-over, taken-gone, taken-here}
 use Rattle.lard_law_progress.proofs.Less.{Lasting}
 use Rattle.lard_law_progress.proofs.Seating.{FrontLasts, front-stays, seat-at, seat-counts}
-use Rattle.lard_rules.proofs.FrontCases.{taken-keeps, asked-keeps, ended-keeps}
 
 module _ (w : Whole) (K : ℕ) (files : FilesAt) (p : Part) (st : Station) where
-  abbrev Owes : front.FrontDeed → Type 0
+  abbrev Owes : FrontDeed → Type 0
   Owes d = FrontLasts w K files p st d
 
   abbrev To : FrontPart → Type 0
@@ -37,8 +36,8 @@ module _ (w : Whole) (K : ℕ) (files : FilesAt) (p : Part) (st : Station) where
   flips f n e count q None was now = front-stays w K files p st f (now ∙ sym was)
   flips f n e count q (Some r) was now = flips-by f n e count q r.stage (r.epoch.0 == e) was now
 
-  taken-at : (row : FrontRow) (n : ℕ) (d : Epoch) (epoch : ℕ) → p.front.row ≡ Some row → row.stage ≡ stage.Offering n d → d.0 ≡ epoch → Owes (taken_by p.front epoch (Some row) (Some n))
-  taken-at row n d epoch at is same known =
+  pub taken-lasts : (row : FrontRow) (n : ℕ) (d : Epoch) (epoch : ℕ) → p.front.row ≡ Some row → row.stage ≡ stage.Offering n d → d.0 ≡ epoch → Owes (taken_by p.front epoch (Some row) (Some n))
+  taken-lasts row n d epoch at is same known =
       let r : FrontRow = record row { stage = stage.Moved n (record { 0 = epoch }) } in
       let f : FrontPart = record p.front { row = Some r; kept = without kind.Offer 0 p.front.kept } in
       let count = (front_rest p.front.rest).count in
@@ -46,20 +45,16 @@ module _ (w : Whole) (K : ℕ) (files : FilesAt) (p : Part) (st : Station) where
       let now : seat_of (with_front p f) ≡ seat_away true n epoch count (p.nodes n) = seat-at (with_front p f) r (stage.Moved n (record { 0 = epoch })) refl refl in
       flips f n epoch count (p.nodes n) (p.nodes n).row was now
 
-  pub taken-lasts : (epoch : ℕ) → Owes (front_taken p.front epoch)
-  taken-lasts epoch = taken-keeps p.front Owes tt epoch (λ row n d at same. taken-at row n d epoch at.0 at.1 same)
-
   -- ---- its node asks: the answer is kept, and it is where it was
 
-  pub asked-lasts : (env : FrontEnv) (from epoch : ℕ) (ask : Ask) → Owes (front_asked env p.front from epoch ask)
-  asked-lasts env from epoch ask = asked-keeps p.front Owes tt env from epoch ask (λ rest found there same some. tt) (λ rest found there next known.
+  pub assigned-lasts : (env : FrontEnv) (from epoch : ℕ) (ask : Ask) (rest : FrontRest) → p.front.rest ≡ Some rest → Owes (Does (assigns env p.front rest from epoch ask (env.later ask)))
+  assigned-lasts env from epoch ask rest found known =
       let f = (assigns env p.front rest from epoch ask (env.later ask)).part in
-      front-stays w K files p st f (seat-counts w K files p st f (sym (ap (λ (o : Option FrontRest). (front_rest o).count) found)) refl))
+      front-stays w K files p st f (seat-counts w K files p st f (sym (ap (λ (o : Option FrontRest). (front_rest o).count) found)) refl)
 
   -- ---- it ended at its node
 
-  pub ended-lasts : (env : FrontEnv) (from epoch : ℕ) (last : Final) → ((row : FrontRow) → p.front.row ≡ Some row → is_away epoch row.stage ≡ true → IsGone (seat_of p)) → Owes (front_ended env p.front from epoch last)
-  ended-lasts env from epoch last gone = ended-keeps p.front Owes tt env from epoch last (λ row found away again. tt) (λ row found away known.
-      let g = gone row found away in
+  pub ended-lasts : (env : FrontEnv) (from epoch : ℕ) (last : Final) (row : FrontRow) → IsGone (seat_of p) → Owes (Does (front_ends env p.front from epoch last row (next_epoch row)))
+  ended-lasts env from epoch last row g known =
       let f = (front_ends env p.front from epoch last row (next_epoch row)).part in
-      ended-over w K files p st f g.told g.n g.e last g.is (seat-at (with_front p f) (ended_row (record { 0 = epoch }) last row) (stage.Closed last) refl refl))
+      ended-over w K files p st f g.told g.n g.e last g.is (seat-at (with_front p f) (ended_row (record { 0 = epoch }) last row) (stage.Closed last) refl refl)

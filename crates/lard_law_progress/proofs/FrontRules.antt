@@ -1,6 +1,6 @@
 -- The front end hears a segment of a connection that it has, and its timer fires: nothing that is left to do comes back.
 use Rattle.std.proofs.Common.{◌≡◌, ◌⊎◌, ◌<◌, ◌≤◌, ◌==◌, ℕ, Bool, true, false, [], is_some, Option, None, inl, inr, ⊎_elim, refl, sym, ap, ◌∙◌, arith}
-use Rattle.lard_law_view.specs.Prelude.{ClientBlock, ControlBlock, Ending, FilesAt, Final, FrontConn, FrontPart, FrontRest, FrontRow, NodeEnv, Part, Phase, Said, Sending, ServeEnv, Service, Station, after_timer, awaited, front_reads, front_rests, on_segment, rested, serving, serving_settled, speaks, with_front}
+use Rattle.lard_law_view.specs.Prelude.{ClientBlock, ControlBlock, Ending, FilesAt, Final, FrontConn, FrontPart, FrontRest, FrontRow, NodeEnv, Part, Phase, Said, Sending, ServeEnv, Service, Station, after_timer, awaited, front_rests, on_segment, rested, serving, serving_settled, speaks, with_front}
 use Rattle.lard_bound.specs.Progress.{IsWarmWord}
 use Rattle.lard_bound.specs.Seats.{Held, Over, seat_of}
 use Rattle.lard_bound.specs.Spots.{number_awaited}
@@ -11,7 +11,7 @@ use Rattle.lard_law_progress.proofs.Away.{by-ending}
 use Rattle.lard_law_progress.proofs.Ends.{IsSaid, heard-ahead, heard-window, speaks-said, timer-said}
 use Rattle.lard_law_progress.proofs.Fronts.{Carries, FitsAt, Keeps, held-less, over-less}
 use Rattle.lard_law_progress.proofs.Less.{Lasting}
-use Rattle.lard_law_progress.proofs.Reading.{Further, IsSame, reads-further}
+use Rattle.lard_law_progress.proofs.Reading.{Further, IsSame}
 use Rattle.lard_law_progress.proofs.Turns.{awaited-same, reset-passed, window-on}
 use Rattle.lard_rules.specs.declared.places.Ending.TheVariants as ending
 use Rattle.lard_rules.proofs.Endings.{rested-keeps}
@@ -76,12 +76,9 @@ module _ (k : Whole) (K : ℕ) (files : FilesAt) (p : Part) (st : Station) (b : 
       still-open false q on e = refl
 
   -- what was read is said: it is held, or it ended
-  pub held-lasts : (env : NodeEnv) (serve : ServeEnv) (f : FrontPart) (row : FrontRow) (rest : FrontRest) (d : ControlBlock) → Came d → let w = (front_reads serve (record { service = serving d count []; target = None })).service in
-      ((e : ControlBlock) (n : ℕ) → (serving_settled serve w).0 ≡ ending.Here e n → FitsAt k x e n) → To (front_rests f row rest stage.Held (serving_settled serve w).0)
-  held-lasts env serve f row rest d came fits =
-      let r = front_reads serve (record { service = serving d count []; target = None }) in
-      let w = r.service in
-      let h = (reads-further serve (serving d count [])).0 in
+  pub held-lasts : (env : NodeEnv) (serve : ServeEnv) (f : FrontPart) (row : FrontRow) (rest : FrontRest) (d : ControlBlock) → Came d → (w : Service) → Further (serving d count []) w
+      → ((e : ControlBlock) (n : ℕ) → (serving_settled serve w).0 ≡ ending.Here e n → FitsAt k x e n) → To (front_rests f row rest stage.Held (serving_settled serve w).0)
+  held-lasts env serve f row rest d came w h fits =
       by-ending serve w (λ (o : Ending). ((e : ControlBlock) (n : ℕ) → o ≡ ending.Here e n → FitsAt k x e n) → To (front_rests f row rest stage.Held o))
       (λ none fit. let e = (speaks serve.c w.block).1 in
       held-less k K files p st b count held acked (front_rests f row rest stage.Held (ending.Here e w.count)) e w.count (seat-held f row rest e w.count) (keeps env d w e came h none (speaks-said serve.c w.block)) (fit e w.count refl))

@@ -1,6 +1,6 @@
 -- Every step of which a settle's rounds are made: no unit of a connection comes back, and where none goes, its spot is as it was.
 use Rattle.std.proofs.Common.{◌≡◌, ℕ, List, Option, Some, None, Result, Ok, Err, refl, sym, ap, ◌∙◌, subst, arith}
-use Rattle.lard_law_view.specs.Prelude.{Client, ClientBlock, ClientFires, ClientGets, ClientReceives, ClientRules, Conn, Front, FrontRules, IsConnSound, IsNodeEnv, Letter, MayRestOn, Message, Move, MsgFault, Node, NodeEnv, NodeRules, Rec, Rules, Said, Seen, SegFault, Setting, SpellsMessage, Station, ToClient, ToCluster, Turn, ask_of, client_does, client_gets, client_timer, decoded, decoded_message, event_seen, front_admits, front_asked, front_does, front_ended, front_gets, front_taken, front_timer, grown, node_does, node_rule, nothing_said, offer_answer, packet_seen, stands}
+use Rattle.lard_law_view.specs.Prelude.{Client, ClientBlock, ClientFires, ClientGets, ClientReceives, ClientRules, Conn, EndedBy, Front, FrontEnv, FrontGets, FrontHears, FrontRules, IsConnSound, IsNodeEnv, Letter, MayRestOn, Message, Move, MsgFault, Node, NodeEnv, NodeRules, Rec, Rules, Said, Seen, SegFault, Setting, SpellsMessage, Station, ToClient, ToCluster, Turn, client_does, client_gets, client_timer, decoded, decoded_message, event_seen, front_does, front_rule, grown, node_does, node_rule, nothing_said, offer_answer, packet_seen, stands}
 use Rattle.lard_law_view.proofs.EachClient.{ClientComes, client_goes, each-client}
 use Rattle.lard_bound.specs.Progress.{IfCame, IsWarm, IsWarmBy, IsWarmMessage, IsWarmSegment, Lasts, came_in, spot_with}
 use Rattle.lard_bound.specs.Units.{Whole, left_to_client, units}
@@ -9,14 +9,13 @@ use Rattle.lard_handoff_back.specs.declared.table.Adopt.TheVariants.{New}
 use Rattle.lard_base.specs.declared.event.Event.TheVariants as event
 use Rattle.lard_message.specs.declared.message.Body.TheVariants as body
 use Rattle.lard_rules.specs.Node as node
+use Rattle.lard_law_view.proofs.EachFront.{FrontComes, admission, each-front}
 use Rattle.lard_law_view.proofs.EachNode.{NodeComes, aside_said, aside_seen, each-node, job_notes, told_first}
 use Rattle.lard_law_progress.proofs.Clients.{Turned, client-less, client-steady, heard-turned, timer-turned}
-use Rattle.lard_law_progress.proofs.FrontMessages.{asked-lasts, ended-lasts, taken-lasts}
 use Rattle.lard_law_progress.proofs.Given.{Given, IsNewOffer, Owed}
 use Rattle.lard_law_progress.proofs.Less.{idles, lasts}
-use Rattle.lard_law_progress.proofs.Lining.{admitted-lasts}
 use Rattle.lard_law_progress.proofs.NodeMessages.{IsExpected, rule-lasts}
-use Rattle.lard_law_progress.proofs.Placing.{fires-lasts, gets-lasts}
+use Rattle.lard_law_progress.proofs.Placing.{IsAwaited, front-lasts}
 use Rattle.lard_law_progress.proofs.Seating.{FrontLasts, NodeLasts}
 
 -- ---- a move, by its client
@@ -124,27 +123,19 @@ module _ (k : Setting) (all : ℕ → Whole) where
 
   -- ---- the front end
 
+  -- what comes to the front end is awaited there
+  awaited : (x : Conn) (env : FrontEnv) (heads : List Seen) (g : FrontGets) → FrontComes x env heads g → MayRestOn (Given k all) x → IfCame (IsWarm x) (came_in heads)
+      → (st : Station) → x.part.station ≡ Some st → IsAwaited (all x.c) k.nodes k.files x.part st g
+  awaited x env heads (FrontHears bytes given) comes m came st at = subst (IsWarmSegment st.client) (sym comes.read) (warm-word x st bytes m.sound at (came-by x comes.seen came))
+  awaited x env heads (EndedBy n epoch last) comes m came st at = (m.given st at).ends n epoch last.reason last.snd.0 last.rcv.0 comes.count comes.told.bytes comes.told.spells comes.told.was
+  awaited x env heads _ comes m came st at = tt
+
   fronts : FrontRules k (Owed k all)
-  fronts = record {
-    hears = λ x s env bytes there is iss was m g inner came. front-deed x (packet_seen (Client x.c) Front bytes) (front_gets env x.part.front bytes (decoded bytes x.c ToCluster))
-        (λ st at. let known = m.given st at in
-        gets-lasts (all x.c) k.nodes k.files x.part st known.seat known.heard known.fresh env bytes (decoded bytes x.c ToCluster)
-        (warm-word x st bytes m.sound at (came-by x (front-heads x (packet_seen (Client x.c) Front bytes)
-        (front_gets env x.part.front bytes (decoded bytes x.c ToCluster))) came))) g;
-    fires = λ x s env there is m g inner came. front-deed x (event_seen (event.Timer Front x.c)) (front_timer env x.part.front)
-        (λ st at. let known = m.given st at in fires-lasts (all x.c) k.nodes k.files x.part st known.seat known.heard known.fresh env) g;
-    taken = λ x env n epoch bytes is spells was m g inner came. front-deed x (packet_seen (Node n) Front bytes) (front_taken x.part.front epoch)
-        (λ st at. taken-lasts (all x.c) k.nodes k.files x.part st epoch) g;
-    asked = λ x env n epoch number queue size paths bytes is spells was m g inner came. front-deed x (packet_seen (Node n) Front bytes) (front_asked env x.part.front n epoch (ask_of x.c n number queue size paths))
-        (λ st at. asked-lasts (all x.c) k.nodes k.files x.part st env n epoch (ask_of x.c n number queue size paths)) g;
-    ended = λ x env n epoch reason snd rcv count bytes is spells was m g inner came.
-        front-deed x (packet_seen (Node n) Front bytes) (front_ended env x.part.front n epoch (record { reason = reason; snd = record { 0 = snd }; rcv = record { 0 = rcv } }))
-        (λ st at. ended-lasts (all x.c) k.nodes k.files x.part st env n epoch (record { reason = reason; snd = record { 0 = snd }; rcv = record { 0 = rcv } })
-        ((m.given st at).ends n epoch reason snd rcv count bytes spells was)) g;
-    admitted = λ x env choice given is e m g inner came. by-station k (all x.c) x (front_admits x given) refl
-        (λ st at. let known = m.given st at in
-        lasts k (all x.c) x (front_admits x given) st st at at (admitted-lasts (all x.c) k.nodes k.files x.part st env choice given known.seat known.fresh e));
-  }
+  fronts = each-front k (Owed k all) (λ x env heads g is comes m after inner came. let d = front_rule env x.part.front g in
+      front-deed x heads d
+      (λ st at. let known = m.given st at in
+      front-lasts (all x.c) k.nodes k.files x.part st env known.seat known.heard known.fresh g (admission x env heads g comes)
+      (awaited x env heads g comes m (came-by x (front-heads x heads d) came) st at)) after)
 
   -- ---- nodes
 

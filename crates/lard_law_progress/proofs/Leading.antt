@@ -1,17 +1,14 @@
 -- Every step of which a settle's rounds are made leads further: no unit comes back, and what comes of a packet is shorter and nearer.
-use Rattle.std.proofs.Common.{◌≡◌, ◌<◌, ℕ, List, [], ◌∷◌, Option, Some, None, refl, sym, ◌∙◌, subst, arith}
-use Rattle.lard_base.specs.declared.event.Event.TheVariants as event
-use Rattle.lard_law_view.specs.Prelude.{Came, Client, ClientFires, ClientGets, ClientReceives, ClientRules, Conn, Front, FrontRules, IsNobody, IsUnheard, Letter, MayRestOn, Move, Node, NodeEnv, NodeRules, Place, Row, Rules, Seen, Setting, Station, ToCluster, ask_of, decoded, front_asked, front_does, front_ended, front_gets, front_taken, front_timer, grown, node_read, node_rule, nothing_said, packet_seen, stands}
+use Rattle.std.proofs.Common.{◌≡◌, ◌<◌, ℕ, List, [], ◌∷◌, Some, refl, sym, ◌∙◌, subst, arith}
+use Rattle.lard_law_view.specs.Prelude.{Client, ClientFires, ClientGets, ClientReceives, ClientRules, Conn, Front, FrontRules, IsNobody, IsUnheard, Letter, MayRestOn, Move, Node, NodeRules, Place, Rules, Seen, Setting, Station, front_does, front_rule, grown, node_read, nothing_said, packet_seen, stands}
 use Rattle.lard_law_view.proofs.EachClient.{ClientComes, client_goes, each-client}
 use Rattle.lard_bound.specs.Progress.{Answers, IfCame, IsWarm, Lasts, came_in}
 use Rattle.lard_bound.specs.Units.{Whole, units}
 use Rattle.lard_law_view.proofs.Saying.{NamesAll}
-use Rattle.lard_rules.specs.Front as front
-use Rattle.lard_journal.specs.declared.rec.Rec.TheVariants as rec
-use Rattle.lard_rules.specs.Node as node
-use Rattle.lard_law_view.proofs.EachNode.{Aside, NodeComes, aside_said, aside_seen, each-node, node_goes}
+use Rattle.lard_law_view.proofs.EachFront.{each-front}
+use Rattle.lard_law_view.proofs.EachNode.{Aside, aside_said, aside_seen, each-node, node_goes}
 use Rattle.lard_law_view.proofs.EachNode as each
-use Rattle.lard_law_view.proofs.Guarded.{both, node-both, node-weaker, weaker}
+use Rattle.lard_law_view.proofs.Guarded.{both, front-both, front-weaker, node-both, node-weaker, weaker}
 use Rattle.lard_law_progress.proofs.Admitting.{admitted-falls}
 use Rattle.lard_law_progress.proofs.AnswersClientGiven.{ClientGiven}
 use Rattle.lard_law_progress.proofs.AnswersClientRules.{client-answers}
@@ -22,6 +19,7 @@ use Rattle.lard_law_progress.proofs.AnswersIgnored.{IsUnwanted, client-ignores, 
 use Rattle.lard_law_progress.proofs.AnswersNodeGiven.{NodeGiven}
 use Rattle.lard_law_progress.proofs.AnswersNodeJobs.{JobOwes, brings-works, read-works}
 use Rattle.lard_law_progress.proofs.AnswersNodeRules.{node-answers}
+use Rattle.lard_law_progress.proofs.FirstSeen.{by-front-seen, by-node-seen}
 use Rattle.lard_law_progress.proofs.Given.{AreInner, Given, Owed}
 use Rattle.lard_law_progress.proofs.Lasting.{front-heads, node-heads, node-place, rules-last}
 
@@ -58,10 +56,6 @@ OwesAll k all x v = MayRestOn (AllGiven k all) x → AllGiven k all (grown x v) 
 record Further (k : Setting) (w : Whole) (x : Conn) (v : Move) : Type 0 where
   answers : IfCame (Answers k w x v) (came_in v.heads)
   alone : v.heads ≡ [] → (NamesAll v.place → units w k.nodes (grown x v) < units w k.nodes x) × JobOwes k w x v
-
-both-came : (P Q : Letter → Type 0) (o : Option Letter) → IfCame P o → IfCame Q o → IfCame (λ l. P l × Q l) o
-both-came P Q None p q = tt
-both-came P Q (Some l) p q = (p, q)
 
 -- what is seen is not nothing
 begun : (h : Seen) (hs : List Seen) → h ∷ hs ≡ [] → ⊥
@@ -102,34 +96,21 @@ module _ (k : Setting) (all : ℕ → Whole) where
   abbrev FrontOf : Conn → Conn → Type 0
   FrontOf x y = FrontGiven k.files (all x.c) y
 
-  front-sees : (x : Conn) (h : Seen) (d : front.FrontDeed) → let v = front_does x (h ∷ []) d in
-      (MayRestOn (FrontOf x) x → FrontOf x (grown x v) → IfCame (λ a. IsWarm x a × IsLateOn x a) (came_in v.heads) → Lasts k (all x.c) x v
-      → IfCame (Answers k (all x.c) x v) (came_in v.heads)) → Adds x v
-  front-sees x h d owes =
-      let v = front_does x (h ∷ []) d in
-      sees x v (λ none. begun h [] (sym (front-heads x (h ∷ []) d) ∙ none))
-      (λ m after comes l. owes (may (FrontOf x) x m (λ g. g.front)) after.front (both-came (IsWarm x) (IsLateOn x) (came_in v.heads) comes.warm comes.late) l)
+  -- where there is nothing to see, it is admitted
+  abbrev Admits : Conn → Move → Type 0
+  Admits x v = v.heads ≡ [] → AllGiven k all x → Lasts k (all x.c) x v → units (all x.c) k.nodes (grown x v) < units (all x.c) k.nodes x
+
+  admits-fronts : FrontRules k Admits
+  admits-fronts = each-front k Admits (λ x env heads g is. by-front-seen x env heads (λ ss g. Admits x (front_does x ss (front_rule env x.part.front g)))
+      (λ from bytes g was seen none. absurd (begun _ _ (sym seen ∙ sym (front-heads x heads _) ∙ none)))
+      (λ rung none. absurd (begun _ _ (sym (front-heads x _ _) ∙ none)))
+      (λ choice given turn none m l. admitted-falls k (all x.c) x env choice given m.front.unopened (λ st at. (m.known st at).fresh) turn.is l) g)
 
   fronts : FrontRules k Adds
-  fronts = record {
-    hears = λ x s env bytes at is iss was. front-sees x (Came (record { from = Client x.c; to = Front; bytes = bytes }))
-        (front_gets env x.part.front bytes (decoded bytes x.c ToCluster))
-        ((front-answers k (all x.c)).hears x s env bytes at is iss was);
-    fires = λ x s env at is. front-sees x (Row (rec.Event 0 (event.Timer Front x.c))) (front_timer env x.part.front)
-        ((front-answers k (all x.c)).fires x s env at is);
-    taken = λ x env n epoch bytes is spells was. front-sees x (Came (record { from = Node n; to = Front; bytes = bytes })) (front_taken x.part.front epoch)
-        ((front-answers k (all x.c)).taken x env n epoch bytes is spells was);
-    asked = λ x env n epoch number queue size paths bytes is spells was. front-sees x (Came (record { from = Node n; to = Front; bytes = bytes }))
-        (front_asked env x.part.front n epoch (ask_of x.c n number queue size paths))
-        ((front-answers k (all x.c)).asked x env n epoch number queue size paths bytes is spells was);
-    ended = λ x env n epoch reason snd rcv count bytes is spells was.
-        front-sees x (Came (record { from = Node n; to = Front; bytes = bytes }))
-        (front_ended env x.part.front n epoch (record { reason = reason; snd = record { 0 = snd }; rcv = record { 0 = rcv } }))
-        ((front-answers k (all x.c)).ended x env n epoch reason snd rcv count bytes is spells was);
-    admitted = λ x env choice given is e m after comes l.
-        let falls = admitted-falls k (all x.c) x env choice given m.given.front.unopened (λ st at. (m.given.known st at).fresh) e l in
-        record { answers = tt; alone = λ none. (λ names. falls, λ up. absurd (omega (arith, falls, up))) };
-  }
+  fronts = front-weaker k (λ x v. Owes k (all x.c) (FrontOf x) x v × Admits x v) Adds (λ x v h m after comes l. record {
+    answers = h.0 (may (FrontOf x) x m (λ g. g.front)) after.front comes.warm comes.late l;
+    alone = λ none. let falls = h.1 none m.given l in (λ names. falls, λ up. absurd (omega (arith, falls, up)));
+  }) (front-both k (λ x v. Owes k (all x.c) (FrontOf x) x v) Admits (front-answers k all) admits-fronts)
 
   -- ---- nodes
 
@@ -140,22 +121,16 @@ module _ (k : Setting) (all : ℕ → Whole) where
   abbrev Alone : Conn → Move → Type 0
   Alone x v = v.heads ≡ [] → NodeOf x x → NodeOf x (grown x v) → Lasts k (all x.c) x v → (NamesAll v.place → ⊥) × JobOwes k (all x.c) x v
 
-  node-alone : (x : Conn) (n epoch : ℕ) (env : NodeEnv) (heads : List Seen) (g : node.NodeGets) → NodeComes x n epoch heads g → heads ≡ []
-      → Alone x (node_goes x n env heads g)
-  node-alone x n epoch env heads (node.Completed r path) comes none = λ same given after l.
-      (λ names. subst NamesAll (node-place x n heads (node_read env (x.part.nodes n) r)) names, read-works k (all x.c) x n r env path heads given after l)
-  node-alone x n epoch env heads (node.Forwarded given) comes none = absurd (begun _ _ (sym comes.came.seen ∙ none))
-  node-alone x n epoch env heads (node.Content from r) comes none = absurd (begun _ _ (sym comes.came.seen ∙ none))
-  node-alone x n epoch env heads _ comes none = absurd (begun _ _ (sym comes.seen ∙ none))
-
   aside-alone : (x : Conn) (n : ℕ) (a : Aside) → Alone x (stands x (Node n) (aside_seen n a) (aside_said k n x.c a))
   aside-alone x n (each.Brings from epoch r path) none given after l = (λ names. names, brings-works k (all x.c) x n from epoch r path)
   aside-alone x n _ none given after l = absurd (begun _ _ none)
 
   alone-nodes : NodeRules k Alone
   alone-nodes = each-node k Alone (record {
-    does = λ x n epoch env heads g is in_its comes none. node-alone x n epoch env heads g comes
-        (sym (node-heads x n heads (node_rule env (x.part.nodes n) g)) ∙ none) none;
+    does = λ x n epoch env heads g is in_its. by-node-seen x n epoch heads (λ ss g. Alone x (node_goes x n env ss g))
+        (λ from bytes g seen none. absurd (begun _ _ (sym seen ∙ sym (node-heads x n heads _) ∙ none)))
+        (λ fired none. absurd (begun _ _ (sym (node-heads x n _ _) ∙ none)))
+        (λ r path none given after l. (λ names. subst NamesAll (node-place x n [] (node_read env (x.part.nodes n) r)) names, read-works k (all x.c) x n r env path [] given after l)) g;
     aside = λ x n a allowed. aside-alone x n a;
   })
 

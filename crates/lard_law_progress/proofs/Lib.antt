@@ -1,3 +1,5 @@
+pub mod FirstSeen
+pub mod FrontReads
 pub mod Less
 pub mod Stays
 pub mod Coming

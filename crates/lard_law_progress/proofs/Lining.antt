@@ -1,6 +1,6 @@
 -- A connection in the line hears, says again what it said, and is admitted: nothing that is left to do comes back.
 use Rattle.std.proofs.Common.{◌≡◌, ◌≤◌, ◌+◌, ℕ, true, List, [], Some, ◌∙◌, subst, arith}
-use Rattle.lard_law_view.specs.Prelude.{ControlBlock, Ending, FilesAt, FirstChoice, FrontEnv, FrontPart, FrontRow, FrontTurn, Part, Said, Station, after_timer, fires_at, front_admitted, front_rest, front_rests, handed_off, hears_at, offering, on_segment, rested, serving, speaks, with_front}
+use Rattle.lard_law_view.specs.Prelude.{ControlBlock, Ending, FilesAt, FirstChoice, FrontEnv, FrontPart, FrontRow, Part, Said, Station, after_timer, fires_at, front_rest, front_rests, handed_off, hears_at, offering, on_segment, rested, serving, speaks, with_front}
 use Rattle.lard_bound.specs.Seats.{Waiting, seat_of}
 use Rattle.lard_bound.specs.Units.{Whole}
 use Rattle.lard_handoff_front.specs.declared.row.FrontConn.TheVariants as stage
@@ -11,7 +11,6 @@ use Rattle.lard_law_progress.proofs.Handing.{admitted-less, waits-on, waits-over
 use Rattle.lard_law_progress.proofs.Less.{Lasting}
 use Rattle.lard_law_progress.proofs.Seating.{FrontLasts, seat-at, seat-offering, seat-over, seat-waits}
 use Rattle.lard_rules.specs.declared.places.Ending.TheVariants as ending
-use Rattle.lard_rules.proofs.FrontCases.{admitted-keeps}
 
 module _ (w : Whole) (K : ℕ) (files : FilesAt) (p : Part) (st : Station) where
   abbrev To : FrontPart → Type 0
@@ -46,11 +45,7 @@ module _ (w : Whole) (K : ℕ) (files : FilesAt) (p : Part) (st : Station) where
 
     -- ---- the head of the line
 
-    admits : (env : FrontEnv) (choice : FirstChoice) (path : List ℕ) → IsFresh p.nodes (Some row) → To (handed_off env row (serving b count []) path choice).0
+    pub admits : (env : FrontEnv) (choice : FirstChoice) (path : List ℕ) → IsFresh p.nodes (Some row) → To (handed_off env row (serving b count []) path choice).0
     admits env choice path fresh =
         let f = offering env row (serving b count []) path choice.node in
         admitted-less w K files p st f b count choice.node (row.epoch.0 + 1) waits (seat-offering p env row (serving b count []) path choice.node (fresh choice.node)) knows.0 knows.2
-
-  pub admitted-lasts : (env : FrontEnv) (choice : FirstChoice) (given : FrontPart × FrontTurn) → SeatKnown w st.client (seat_of p) → IsFresh p.nodes p.front.row → front_admitted env p.front choice ≡ Some given → To given.0
-  admitted-lasts env choice given known fresh = admitted-keeps env p.front choice (λ (g : FrontPart × FrontTurn). To g.0)
-      (λ row b path at target. admits row b at.0 at.1 known env choice path (subst (IsFresh p.nodes) at.0 fresh)) given

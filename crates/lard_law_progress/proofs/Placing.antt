@@ -1,23 +1,25 @@
--- The front end has a connection: it begins, hears and says again, and a request of it is placed. Nothing that is left to do comes back.
-use Rattle.std.proofs.Common.{◌≡◌, ◌≤◌, ◌+◌, ℕ, true, false, List, [], Option, Some, None, Result, Ok, Err, refl, sym, ap, ◌∙◌, subst, ⊎_elim, arith}
-use Rattle.std.proofs.lemmas.Bool.{and_parts, cond_both, not-true}
-use Rattle.lard_law_view.specs.Prelude.{ClientBlock, ControlBlock, Ending, FilesAt, First, FirstChoice, FrontConn, FrontEnv, FrontPart, FrontRest, FrontRow, NodeEnv, Part, Reading, Said, SegFault, ServeEnv, Service, Station, after_timer, fires_at, front_begun, front_fired_by, front_gets, front_hears, front_reads, front_rest, front_rests, front_timer, hears_at, is_plain_syn, listening, may_freeze, met, offering, on_segment, placed, rested, serving, serving_settled, settled_by, speaks, with_front}
+-- Each rule of the front end: nothing that is left to do comes back.
+use Rattle.std.proofs.Common.{◌≡◌, ◌⊎◌, ◌≤◌, ◌+◌, ℕ, true, false, List, [], Option, Some, None, refl, ap, ◌∙◌, subst, ⊎_elim, arith}
+use Rattle.std.proofs.lemmas.Bool.{and_parts, not-true}
+use Rattle.lard_law_view.specs.Prelude.{ClientBlock, ControlBlock, Ending, FilesAt, EndedBy, FirstChoice, FrontDeed, FrontEnv, FrontGets, FrontHears, FrontPart, FrontRest, FrontRow, NodeEnv, Part, Said, ServeEnv, Service, Station, after_timer, fires_at, front_begun, front_reads, front_rest, front_rests, front_rule, is_away, listening, may_freeze, offering, on_segment, placed, rested, serving, serving_settled, speaks, with_front}
 use Rattle.lard_bound.specs.Progress.{IsWarmSegment, IsWarmWord}
 use Rattle.lard_bound.specs.Seats.{Held, Waiting, seat_of}
 use Rattle.lard_bound.specs.Units.{Whole, symbols_taken}
 use Rattle.lard_dispatch.specs.declared.dispatch.First.TheVariants as first
-use Rattle.lard_rules.specs.Front.{Does, Drops}
+use Rattle.lard_rules.specs.Front.{Does}
 use Rattle.lard_handoff_front.specs.declared.row.FrontConn.TheVariants as stage
 use Rattle.lard_law_progress.proofs.Ends.{IsSaid, ahead-self, speaks-said}
 use Rattle.lard_law_progress.proofs.FrontRules.{Came, by-rest, carries, held-lasts, segment-came, timer-lasts}
 use Rattle.lard_law_progress.proofs.Fronts.{FitsAt, offered-less, over-less, waiting-less}
-use Rattle.lard_law_progress.proofs.Given.{IsFresh, SeatKnown}
+use Rattle.lard_law_progress.proofs.FrontMessages.{assigned-lasts, ended-lasts, taken-lasts}
+use Rattle.lard_law_progress.proofs.Given.{IsFresh, IsGone, SeatKnown}
 use Rattle.lard_law_progress.proofs.Handing.{begins-less, begins-over}
 use Rattle.lard_law_progress.proofs.Less.{Lasting}
-use Rattle.lard_law_progress.proofs.Lining.{line-fires, line-hears}
+use Rattle.lard_law_progress.proofs.Lining.{admits, line-fires, line-hears}
 use Rattle.lard_law_progress.proofs.Reading.{Further, reads-further}
 use Rattle.lard_law_progress.proofs.Seating.{FrontLasts, seat-at, seat-held, seat-none, seat-offering, seat-over, seat-waits}
 use Rattle.lard_rules.specs.declared.places.Ending.TheVariants as ending
+use Rattle.lard_rules.proofs.FrontCases.{IsAsGiven, IsInStage, KeptByFront, KeptBySegment, front-keeps, heard_reading}
 
 -- a place of a node that has nothing to do with it
 abbrev no_node : ServeEnv → NodeEnv
@@ -49,111 +51,113 @@ module _ (w : Whole) (K : ℕ) (files : FilesAt) (p : Part) (st : Station) where
       (begins-less w K files p st (front_rests p.front row (front_rest None) stage.Held (ending.Here e 0)) e was (seat-held p p.front row (front_rest None) e 0) (omega (arith, none)))
       (λ last. begins-over w K files p st (front_rests p.front row (front_rest None) stage.Held (ending.Over last)) last was (seat-over p p.front row (front_rest None) stage.Held last))
 
-  meets : (env : FrontEnv) (s : Said) → p.front.row ≡ None → symbols_taken x ≡ 0 → FrontLasts w K files p st (met env p.front s)
-  meets env s at none = cond_both (is_plain_syn s) (front_begun env p.front s) Drops (FrontLasts w K files p st) (λ t. begins env s at none) (λ t. tt)
+  -- ---- whatever comes
 
-  -- ---- the front end has it
+  -- a segment is warm, and an end is of a stay that is over
+  abbrev pub IsAwaited : FrontGets → Type 0
+  IsAwaited (FrontHears bytes given) = IsWarmSegment x given
+  IsAwaited (EndedBy n epoch last) = (row : FrontRow) → p.front.row ≡ Some row → is_away epoch row.stage ≡ true → IsGone (seat_of p)
+  IsAwaited _ = Unit {0}
 
-  module _ (row : FrontRow) (b : ControlBlock) (at : p.front.row ≡ Some row) (is : row.stage ≡ stage.Held b) (known : SeatKnown w x (seat_of p)) (heard_all : symbols_taken x ≤ w.answers + 2) (fresh : IsFresh p.nodes (Some row)) where
+  module _ (env : FrontEnv) (known : SeatKnown w x (seat_of p)) (heard_all : symbols_taken x ≤ w.answers + 2) (fresh : IsFresh p.nodes p.front.row) where
+    abbrev Owes : FrontDeed → Type 0
+    Owes d = FrontLasts w K files p st d
+
     abbrev rest : FrontRest
     rest = front_rest p.front.rest
 
     abbrev count : ℕ
     count = rest.count
 
-    held : seat_of p ≡ Held b count
-    held = seat-at p row (stage.Held b) at is
-
-    knows : SeatKnown w x (Held b count)
-    knows = subst (SeatKnown w x) held known
-
     -- what is known behind a turn, where the front end still has it
-    fits : (o : Ending) → Then (front_rests p.front row rest stage.Held o) → (e : ControlBlock) (n : ℕ) → o ≡ ending.Here e n → FitsAt w x e n
-    fits o behind e n same =
+    fits : (row : FrontRow) (o : Ending) → Then (front_rests p.front row rest stage.Held o) → (e : ControlBlock) (n : ℕ) → o ≡ ending.Here e n → FitsAt w x e n
+    fits row o behind e n same =
         let sits : seat_of (with_front p (front_rests p.front row rest stage.Held o)) ≡ Held e n = ap (λ (o : Ending). seat_of (with_front p (front_rests p.front row rest stage.Held o))) same ∙ seat-held p p.front row rest e n in
         let h : SeatKnown w x (Held e n) = subst (SeatKnown w x) sits behind in
         record { acked = h.0; taken_in = heard_all; few = h.1 }
 
-    abbrev HasCome : ControlBlock → Type 0
-    HasCome d = Came w K files p st b count held knows.0 d
+    -- the front end has it, and reading the requests of its endpoint came to this
+    record HasRead (v : Service) (o : Option (List ℕ)) : Type 0 where
+      block : ControlBlock
+      held : seat_of p ≡ Held block count
+      acked : block.send.una ≤ symbols_taken x
+      heard : ControlBlock
+      came : Came w K files p st block count held acked heard
+      further : Further (serving heard count []) v
+      may : (o ≡ None) ⊎ (may_freeze v.block ≡ true)
 
-    module _ (env : FrontEnv) (d : ControlBlock) (came : HasCome d) where
-      abbrev r : Reading
-      r = front_reads env.serve (record { service = serving d count []; target = None })
-
-      abbrev v : Service
-      v = r.service
-
-      further : Further (serving d count []) v
-      further = (reads-further env.serve (serving d count [])).0
-
-      -- a request is placed: the connection is on its way to a node
-      goes : (path : List ℕ) (choice : FirstChoice) → may_freeze v.block ≡ true → FrontLasts w K files p st (Does (placed env p.front row rest v path (first.Go choice)))
-      goes path choice may behind =
-          let f = offering env row v path choice.node in
-          let sits = seat-offering p env row v path choice.node (fresh choice.node) in
-          let some : 1 ≤ w.requests = subst (SeatKnown w x) sits behind in
-          let self : IsSaid v.block v.block = record { ahead = ahead-self v.block.send; una = refl; finished = refl; wnd = refl; recv = refl; reset = refl } in
-          offered-less w K files p st b count held knows.0 f choice.node (row.epoch.0 + 1) v.block v.count sits (carries w K files p st b count held knows.0 (no_node env.serve) d v v.block came further self) (freeze-open v.block may) some
-
-      -- or it waits
-      waits : (path : List ℕ) → FrontLasts w K files p st (Does (placed env p.front row rest v path first.Waits))
-      waits path behind =
-          let next : FrontRest = record rest { target = Some path } in
-          by-rest env.serve.c v.block v.count (λ (o : Ending). Then (front_rests p.front row next stage.Waiting o) → To (front_rests p.front row next stage.Waiting o))
-          (λ behind.
-          let e = (speaks env.serve.c v.block).1 in
-          let f = front_rests p.front row next stage.Waiting (ending.Here e v.count) in
-          let sits = seat-waits p p.front row next e v.count in
-          let h : SeatKnown w x (Waiting e v.count) = subst (SeatKnown w x) sits behind in
-          waiting-less w K files p st b count held knows.0 f e v.count sits (carries w K files p st b count held knows.0 (no_node env.serve) d v e came further (speaks-said env.serve.c v.block)) h.1)
-          (λ last behind. over-less w K files p st b count held knows.0 (front_rests p.front row next stage.Waiting (ending.Over last)) last (seat-over p p.front row next stage.Waiting last))
-          behind
-
-      places : (path : List ℕ) → may_freeze v.block ≡ true → (g : First) → FrontLasts w K files p st (Does (placed env p.front row rest v path g))
-      places path may (first.Go choice) = goes path choice may
-      places path may first.Waits = waits path
-
-      -- what was read is said, or a request is placed
-      settles : (o : Option (List ℕ)) → r.target ≡ o → FrontLasts w K files p st (settled_by env p.front row rest v o)
-      settles None e = λ behind. held-lasts w K files p st b count held knows.0 (no_node env.serve) env.serve p.front row rest d came (λ e n same. fits (serving_settled env.serve v).0 behind e n same)
-      settles (Some path) e = ⊎_elim
-          (λ (none : r.target ≡ None). absurd (let bad : ◌≡◌ {A = Option (List ℕ)} (Some path) None = sym e ∙ none in cc))
-          (λ (may : may_freeze v.block ≡ true). places path may (env.first path))
-          (reads-further env.serve (serving d count [])).1
-
-    held-hears : (env : FrontEnv) (bytes : List ℕ) (s : Said) → IsWarmWord x s x.phase → FrontLasts w K files p st (hears_at env p.front row bytes s (stage.Held b))
-    held-hears env bytes s warm =
+    has-read : (s : Said) → IsWarmWord x s x.phase → (row : FrontRow) (b : ControlBlock) → IsInStage p.front row (stage.Held b)
+        → let r = front_reads env.serve (heard_reading p.front b s) in HasRead r.service r.target
+    has-read s warm row b at =
+        let held = seat-at p row (stage.Held b) at.0 at.1 in
+        let knows : SeatKnown w x (Held b count) = subst (SeatKnown w x) held known in
         let d = (on_segment b s).1 in
-        settles env d (segment-came w K files p st b count held knows.0 (no_node env.serve) s warm knows.2) (front_reads env.serve (record { service = serving d count []; target = None })).target refl
+        let further = reads-further env.serve (serving d count []) in
+        record { block = b; held = held; acked = knows.0; heard = d; came = segment-came w K files p st b count held knows.0 (no_node env.serve) s warm knows.2; further = further.0; may = further.1 }
 
-    held-fires : (env : FrontEnv) → FrontLasts w K files p st (fires_at env p.front row (stage.Held b))
-    held-fires env behind =
-        timer-lasts w K files p st b count held knows.0 (no_node env.serve) env.serve.c p.front row rest (λ e n same. fits (rested (speaks env.serve.c (after_timer b)).1 count) behind e n same)
+    -- a request is placed: the connection is on its way to a node
+    goes : (row : FrontRow) (v : Service) (path : List ℕ) (choice : FirstChoice) → p.front.row ≡ Some row → HasRead v (Some path) → Owes (Does (placed env p.front row rest v path (first.Go choice)))
+    goes row v path choice at h behind =
+        let f = offering env row v path choice.node in
+        let sits = seat-offering p env row v path choice.node (subst (IsFresh p.nodes) at fresh choice.node) in
+        let some : 1 ≤ w.requests = subst (SeatKnown w x) sits behind in
+        let self : IsSaid v.block v.block = record { ahead = ahead-self v.block.send; una = refl; finished = refl; wnd = refl; recv = refl; reset = refl } in
+        let may : may_freeze v.block ≡ true = ⊎_elim (λ (none : Some path ≡ None). absurd (let bad : ◌≡◌ {A = Option (List ℕ)} (Some path) None = none in cc)) (λ (m : may_freeze v.block ≡ true). m) h.may in
+        offered-less w K files p st h.block count h.held h.acked f choice.node (row.epoch.0 + 1) v.block v.count sits
+        (carries w K files p st h.block count h.held h.acked (no_node env.serve) h.heard v v.block h.came h.further self) (freeze-open v.block may) some
 
-  -- ---- by its stage
+    -- or it waits
+    waits : (row : FrontRow) (v : Service) (path : List ℕ) → HasRead v (Some path) → Owes (Does (placed env p.front row rest v path first.Waits))
+    waits row v path h behind =
+        let next : FrontRest = record rest { target = Some path } in
+        by-rest env.serve.c v.block v.count (λ (o : Ending). Then (front_rests p.front row next stage.Waiting o) → To (front_rests p.front row next stage.Waiting o))
+        (λ behind.
+        let e = (speaks env.serve.c v.block).1 in
+        let f = front_rests p.front row next stage.Waiting (ending.Here e v.count) in
+        let sits = seat-waits p p.front row next e v.count in
+        let k : SeatKnown w x (Waiting e v.count) = subst (SeatKnown w x) sits behind in
+        waiting-less w K files p st h.block count h.held h.acked f e v.count sits
+        (carries w K files p st h.block count h.held h.acked (no_node env.serve) h.heard v e h.came h.further (speaks-said env.serve.c v.block)) k.1)
+        (λ last behind. over-less w K files p st h.block count h.held h.acked (front_rests p.front row next stage.Waiting (ending.Over last)) last (seat-over p p.front row next stage.Waiting last))
+        behind
 
-  module _ (known : SeatKnown w x (seat_of p)) (heard_all : symbols_taken x ≤ w.answers + 2) (fresh : IsFresh p.nodes p.front.row) where
-    hears-at : (env : FrontEnv) (bytes : List ℕ) (s : Said) → IsWarmWord x s x.phase → (row : FrontRow) → p.front.row ≡ Some row → (z : FrontConn) → row.stage ≡ z → FrontLasts w K files p st (hears_at env p.front row bytes s z)
-    hears-at env bytes s warm row at (stage.Held b) is = held-hears row b at is known heard_all (subst (IsFresh p.nodes) at fresh) env bytes s warm
-    hears-at env bytes s warm row at (stage.Waiting b) is = line-hears w K files p st row b at is known env bytes s
-    hears-at env bytes s warm row at _ is = tt
+    by-segment : (bytes : List ℕ) (s : Said) → IsWarmWord x s x.phase → KeptBySegment env p.front bytes s HasRead Owes
+    by-segment bytes s warm = record {
+      drops = tt;
+      begins = λ none plain. begins env s none (subst (SeatKnown w x) (seat-none p none) known);
+      reads = has-read s warm;
+      holds = λ row b v at h behind. held-lasts w K files p st h.block count h.held h.acked (no_node env.serve) env.serve p.front row rest h.heard h.came v h.further
+          (λ e n same. fits row (serving_settled env.serve v).0 behind e n same);
+      hands = λ row b v path choice at h is. goes row v path choice at.0 h;
+      waits = λ row b v path at h is. waits row v path h;
+      stays = λ row b at. line-hears w K files p st row b at.0 at.1 known env bytes s;
+      forwards = λ row n e at. tt;
+      words = λ row last at. tt;
+    }
 
-    hears-by : (env : FrontEnv) (bytes : List ℕ) (s : Said) → IsWarmWord x s x.phase → (o : Option FrontRow) → p.front.row ≡ o → FrontLasts w K files p st (front_hears env p.front bytes s o)
-    hears-by env bytes s warm None at = meets env s at (subst (SeatKnown w x) (seat-none p at) known)
-    hears-by env bytes s warm (Some row) at = hears-at env bytes s warm row at row.stage refl
+    held-fires : (row : FrontRow) (b : ControlBlock) → IsInStage p.front row (stage.Held b) → Owes (fires_at env p.front row (stage.Held b))
+    held-fires row b at behind =
+        let held = seat-at p row (stage.Held b) at.0 at.1 in
+        let knows : SeatKnown w x (Held b count) = subst (SeatKnown w x) held known in
+        timer-lasts w K files p st b count held knows.0 (no_node env.serve) env.serve.c p.front row rest (λ e n same. fits row (rested (speaks env.serve.c (after_timer b)).1 count) behind e n same)
 
-    pub gets-lasts : (env : FrontEnv) (bytes : List ℕ) (r : Result Said SegFault) → IsWarmSegment x r → FrontLasts w K files p st (front_gets env p.front bytes r)
-    gets-lasts env bytes (Err fault) warm = tt
-    gets-lasts env bytes (Ok s) warm = hears-by env bytes s warm p.front.row refl
+    by-rule : KeptByFront env p.front IsAwaited HasRead Owes
+    by-rule = record {
+      drops = tt;
+      hears = by-segment;
+      fires = λ m. record {
+        drops = tt;
+        holds = held-fires;
+        stays = λ row b at. line-fires w K files p st row b at.0 at.1 known env;
+        resends = λ row n e at. tt;
+      };
+      takes = λ n epoch m row node e at same. taken-lasts w K files p st row node e epoch at.0 at.1 same;
+      tags_again = λ n epoch ask m rest found there same some. tt;
+      assigns_next = λ n epoch ask m rest found there next. assigned-lasts w K files p st env n epoch ask rest found;
+      ends_again = λ n epoch last m row found away again. tt;
+      ends = λ n epoch last gone row found away. ended-lasts w K files p st env n epoch last row (gone row found away);
+      admits = λ choice row b path at target behind. admits w K files p st row b at.0 at.1 known env choice path (subst (IsFresh p.nodes) at.0 fresh);
+    }
 
-    fires-at : (env : FrontEnv) (row : FrontRow) → p.front.row ≡ Some row → (z : FrontConn) → row.stage ≡ z → FrontLasts w K files p st (fires_at env p.front row z)
-    fires-at env row at (stage.Held b) is = held-fires row b at is known heard_all (subst (IsFresh p.nodes) at fresh) env
-    fires-at env row at (stage.Waiting b) is = line-fires w K files p st row b at is known env
-    fires-at env row at _ is = tt
-
-    pub fires-lasts : (env : FrontEnv) → FrontLasts w K files p st (front_timer env p.front)
-    fires-lasts env = go p.front.row refl where
-      go : (o : Option FrontRow) → p.front.row ≡ o → FrontLasts w K files p st (front_fired_by env p.front o)
-      go None at = tt
-      go (Some row) at = fires-at env row at row.stage refl
+    pub front-lasts : (g : FrontGets) → IsAsGiven env p.front g → IsAwaited g → Owes (front_rule env p.front g)
+    front-lasts = front-keeps env p.front IsAwaited HasRead Owes by-rule

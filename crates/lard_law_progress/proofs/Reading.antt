@@ -1,15 +1,11 @@
 -- The front end reads on: responses are queued, the cluster's side is closed or the stream limit reached, or nothing changes but what
 -- is unread.
-use Rattle.std.proofs.Common.{◌≡◌, ◌⊎◌, ◌<◌, ◌≤◌, ◌+◌, ◌-◌, nat_lt, ℕ, zero, suc, Bool, true, false, not, ◌&&◌, cond, List, length, drop, min, is_some, Option, Some, None, inl, inr, ⊎_elim, refl, sym, ap, ◌∙◌, arith}
-use Rattle.std.proofs.lemmas.Bool.{cond_both}
-use Rattle.std.proofs.lemmas.List.{length-drop}
-use Rattle.lard_law_view.specs.Prelude.{ControlBlock, Found, MAX_STREAM_BYTES, RECEIVE_WINDOW, Reading, Received, Sending, ServeEnv, Service, Step, Verdict, answer, answered, block_at, closed_behind, closes, cut_of, discarding_on, ended_at_fin, finishing, front_reads, good_path, may_freeze, may_read, passed_over, queued, queueing, reading_turn, reads_block, reads_found, receive_room, runs_on, serving_consumed, targeted}
+use Rattle.std.proofs.Common.{◌≡◌, ◌⊎◌, ◌<◌, ◌≤◌, ℕ, true, false, List, is_some, Option, None, inl, inr, ⊎_elim, refl, sym, ap, ◌∙◌, arith}
+use Rattle.lard_law_view.specs.Prelude.{Sending, ServeEnv, Service, Verdict, answer, answered, ended_at_fin, front_reads, may_freeze, queueing, serving_consumed}
 use Rattle.lard_base.specs.declared.place.Via.TheVariants.{Own}
-use Rattle.lard_block.specs.declared.block.Found.TheVariants.{Block, More, TooLong}
-use Rattle.lard_law_progress.proofs.Stays.{IsAlike, alike-self, alike-then}
-use Rattle.lard_request.specs.declared.verdict.Code.TheVariants as code
-use Rattle.lard_request.specs.declared.verdict.Verdict.TheVariants.{Fault}
-use Rattle.lard_rules.specs.Loop as loop
+use Rattle.lard_law_progress.proofs.FrontReads.{reading-keeps}
+use Rattle.lard_law_progress.proofs.Stays.{IsAlike, alike-self, alike-then, behind, may-parts, wider}
+use Rattle.lard_rules.proofs.Endings.{answered-keeps, at-fin-keeps}
 
 -- nothing is done but that less is unread
 pub record IsSame (a b : Service) : Type 0 where
@@ -54,18 +50,11 @@ further-then a b c h k =
     }
 
 module _ (env : ServeEnv) where
-  behind : (v : Verdict) (b : ControlBlock) → ((closed_behind v b).send.una ≡ b.send.una) × ((closed_behind v b).send.wnd ≡ b.send.wnd) × (b.send.finished ≡ true → (closed_behind v b).send.finished ≡ true)
-  behind v b = cond_both (closes v) (finishing (discarding_on b)) b (λ (d : ControlBlock). (d.send.una ≡ b.send.una) × (d.send.wnd ≡ b.send.wnd) × (b.send.finished ≡ true → d.send.finished ≡ true))
-      (λ t. (refl, refl, λ e. refl)) (λ t. (refl, refl, λ e. e))
-
   answers : (v : Verdict) (n : ℕ) (w : Service) → w.over ≡ None → Further w (answered env Own v (serving_consumed n w))
   answers v n w none =
-      let bytes = answer env.files v in
-      let read : Service = serving_consumed n w in
-      let total = w.block.send.total + length bytes in
-      cond_both (nat_lt env.stream total) (passed_over env total read) (queued env Own v bytes read) (Further w)
+      answered-keeps (Further w) env Own v (serving_consumed n w)
       (λ t. record { una = refl; wnd = refl; shut = λ e. e; limit = λ e. refl; more = omega arith; way = inr (inr (inl refl)) })
-      (λ t. let d = behind v (queueing read.block bytes) in record {
+      (λ t. let d = behind v (queueing (serving_consumed n w).block (answer env.files v)) in record {
         una = d.0;
         wnd = d.1;
         shut = d.2;
@@ -74,15 +63,9 @@ module _ (env : ServeEnv) where
         way = inl (omega arith);
       })
 
-  wider : (n : ℕ) (r : Received) → receive_room r ≤ receive_room (record r { unread = drop n r.unread })
-  wider n r = let l = length-drop n r.unread in less (length r.unread) (length (drop n r.unread)) r.got (omega (arith, l)) where
-    less : (x y z : ℕ) → y ≤ x → min (RECEIVE_WINDOW - x) (MAX_STREAM_BYTES - z) ≤ min (RECEIVE_WINDOW - y) (MAX_STREAM_BYTES - z)
-    less x y z e = omega (arith, e)
-
   stops : (n : ℕ) (w : Service) → w.block.send.finished ≡ false → Further w (ended_at_fin (serving_consumed n w))
   stops n w open_ =
-      let read : Service = serving_consumed n w in
-      cond_both w.block.recv.fin (record read { block = finishing read.block }) read (Further w)
+      at-fin-keeps (Further w) (serving_consumed n w)
       (λ t. record { una = refl; wnd = refl; shut = λ e. refl; limit = λ e. e; more = omega arith; way = inr (inl (open_, refl)) })
       (λ t. record {
         una = refl;
@@ -93,63 +76,14 @@ module _ (env : ServeEnv) where
         way = inr (inr (inr (record { block = record { send = refl; awaits = refl; roomy = wider n w.block.recv; owed = refl; last_window = refl; reset = refl }; count = refl; over = refl })));
       })
 
-  -- what was read so far; what is to be placed may be frozen
-  abbrev Reads : Service → Reading → Type 0
-  Reads a x = Further a x.service × ((x.target ≡ None) ⊎ (may_freeze x.service.block ≡ true))
-
-  abbrev StepReads : Service → Step Reading → Type 0
-  StepReads a (loop.More x) = Reads a x
-  StepReads a (loop.Done x) = Reads a x
-
-  targets : (a : Service) (path : List ℕ) (x : Reading) → Reads a x → Reads a (targeted path x)
-  targets a path x h = cond_both (may_freeze x.service.block) (record x { target = Some path }) x (Reads a) (λ t. (h.0, inr t)) (λ t. h)
-
-  block-reads : (a : Service) (x : Reading) (n : ℕ) (v : Verdict) (o : Option (List ℕ)) → x.service.over ≡ None → x.target ≡ None → Reads a x → StepReads a (reads_block env x n v o)
-  block-reads a x n v None none free h = (further-then a x.service (answered env Own v (serving_consumed n x.service)) h.0 (answers v n x.service none), inl free)
-  block-reads a x n v (Some path) none free h = targets a path x h
-
-  found-reads : (a : Service) (x : Reading) (f : Found) → x.service.over ≡ None → x.service.block.send.finished ≡ false → x.target ≡ None → Reads a x → StepReads a (reads_found env x f)
-  found-reads a x (More skip) none open_ free h = (further-then a x.service (ended_at_fin (serving_consumed skip x.service)) h.0 (stops skip x.service open_), inl free)
-  found-reads a x (Block skip len) none open_ free h = block-reads a x (skip + len) (block_at x skip len) (good_path env.files (block_at x skip len)) none free h
-  found-reads a x (TooLong skip) none open_ free h =
-      (further-then a x.service (answered env Own (Fault code.FieldsTooLarge) (serving_consumed (length x.service.block.recv.unread) x.service)) h.0 (answers (Fault code.FieldsTooLarge) (length x.service.block.recv.unread) x.service none), inl free)
-
-  may-parts : (reset shut : Bool) (o : Option ℕ) → (not reset && (not shut && (elim o [ None ↦ true | Some total ↦ false ]))) ≡ true → (shut ≡ false) × (o ≡ None)
-  may-parts true shut o e = absurd (let bad : false ≡ true = e in cc)
-  may-parts false true o e = absurd (let bad : false ≡ true = e in cc)
-  may-parts false false None e = (refl, refl)
-  may-parts false false (Some total) e = absurd (let bad : false ≡ true = e in cc)
-
-  -- a loop that goes on has no target yet
-  abbrev OnlyOpen : Service → Step Reading → Type 0
-  OnlyOpen a (loop.More x) = Reads a x × (x.target ≡ None)
-  OnlyOpen a (loop.Done x) = Reads a x
-
-  with-target : (a : Service) (x : Reading) (f : Found) → x.target ≡ None → StepReads a (reads_found env x f) → OnlyOpen a (reads_found env x f)
-  with-target a x (More skip) free h = h
-  with-target a x (Block skip len) free h = go (good_path env.files (block_at x skip len)) h where
-    go : (o : Option (List ℕ)) → StepReads a (reads_block env x (skip + len) (block_at x skip len) o) → OnlyOpen a (reads_block env x (skip + len) (block_at x skip len) o)
-    go None h = (h, free)
-    go (Some path) h = h
-  with-target a x (TooLong skip) free h = (h, free)
-
-  turn-reads : (a : Service) (x : Reading) → Reads a x → x.target ≡ None → OnlyOpen a (reading_turn env x)
-  turn-reads a x h free = go (may_read x.service) refl where
-    go : (b : Bool) → may_read x.service ≡ b → OnlyOpen a (cond b (reads_found env x (cut_of x.service.block.recv.unread)) (loop.Done x))
-    go true e =
-        let p = may-parts x.service.block.reset x.service.block.send.finished x.service.over e in
-        with-target a x (cut_of x.service.block.recv.unread) free (found-reads a x (cut_of x.service.block.recv.unread) p.1 p.0 free h)
-    go false e = h
-
-  reads-on : (a : Service) (n : ℕ) (x : Reading) → Reads a x → x.target ≡ None → Reads a (runs_on n (reading_turn env) x)
-  unfolding runs_on
-  reads-on a zero x h free = h
-  reads-on a (suc n) x h free = go (λ y. reads-on a n y) (reading_turn env x) (turn-reads a x h free) where
-    go : ((y : Reading) → Reads a y → y.target ≡ None → Reads a (runs_on n (reading_turn env) y)) → (s : Step Reading) → OnlyOpen a s → Reads a (elim s [ loop.More y ↦ runs_on n (reading_turn env) y | loop.Done y ↦ y ])
-    go on (loop.More y) h = on y h.0 h.1
-    go on (loop.Done y) h = h
-
   -- all that it reads of an endpoint; where a request is to be placed, the endpoint may be frozen
-  pub reads-further : (a : Service) → Further a (front_reads env (record { service = a; target = None })).service
-      × (((front_reads env (record { service = a; target = None })).target ≡ None) ⊎ (may_freeze (front_reads env (record { service = a; target = None })).service.block ≡ true))
-  reads-further a = reads-on a (length a.block.recv.unread + 1) (record { service = a; target = None }) (further-self a, inl refl) refl
+  abbrev Reads : Service → Service → Option (List ℕ) → Type 0
+  Reads a w o = Further a w × ((o ≡ None) ⊎ (may_freeze w.block ≡ true))
+
+  pub reads-further : (a : Service) → let r = front_reads env (record { service = a; target = None }) in Reads a r.service r.target
+  reads-further a = reading-keeps env (Further a) (Reads a) (record {
+    answers = λ v n w may some within h. further-then a w (answered env Own v (serving_consumed n w)) h (answers v n w (may-parts w.block.reset w.block.send.finished w.over may).1);
+    ends = λ n w may h. (further-then a w (ended_at_fin (serving_consumed n w)) h (stops n w (may-parts w.block.reset w.block.send.finished w.over may).0), inl refl);
+    places = λ path w may h. (h, inr may);
+    stops = λ w h. (h, inl refl);
+  }) a (further-self a)

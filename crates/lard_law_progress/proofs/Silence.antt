@@ -61,11 +61,10 @@ pub record IsSilent (b : ControlBlock) : Type 0 where
   pub none : emitted b ≡ None
   pub told : (b.last_window == 0) ≡ false
 
--- another one that may say no more has nothing to say either
-pub still-silent : (b d : ControlBlock) → IsSilent b → IsLike b.send d.send → d.owed ≡ b.owed → d.last_window ≡ b.last_window → d.reset ≡ b.reset → emitted d ≡ None
-still-silent b d h like owed last reset =
+-- another one that has nothing to send says nothing either
+pub none-said : (b d : ControlBlock) → IsSilent b → d.owed ≡ b.owed → d.last_window ≡ b.last_window → d.reset ≡ b.reset → next_piece d.send ≡ None → emitted d ≡ None
+none-said b d h owed last reset next =
     let quiet = emit-none b h.open_ h.none in
-    let next : next_piece d.send ≡ None = next-same b.send d.send like ∙ quiet.1 in
     let debt : b.owed ≡ false = first b.owed ((b.last_window == 0) && nat_lt 0 (rcv_wnd b)) quiet.0 in
     let free : owes (advanced d) ≡ false = (λ i. (owed ∙ debt) i || (((ap (λ n. n == 0) last ∙ h.told) i) && nat_lt 0 (rcv_wnd d))) in
     let none : owed_ready (advanced d) ≡ None = ap (λ (t : Bool). cond {A = Option Ready} t (Some (ack_ready (advanced d))) None) free in
@@ -75,6 +74,9 @@ still-silent b d h like owed last reset =
     first : (p q : Bool) → (p || q) ≡ false → p ≡ false
     first true q e = e
     first false q e = refl
+
+pub still-silent : (b d : ControlBlock) → IsSilent b → IsLike b.send d.send → d.owed ≡ b.owed → d.last_window ≡ b.last_window → d.reset ≡ b.reset → emitted d ≡ None
+still-silent b d h like owed last reset = none-said b d h owed last reset (next-same b.send d.send like ∙ (emit-none b h.open_ h.none).1)
 
 -- ---- an acknowledgement and nothing else
 

@@ -1,13 +1,14 @@
 -- A stay goes on: requests are read or served, the cluster's side is closed or the stream limit reached, or nothing changes but what
 -- is unread.
-use Rattle.std.proofs.Common.{◌≡◌, ◌⊎◌, ◌<◌, ◌≤◌, ◌+◌, ◌-◌, ◌*◌, nat_lt, ℕ, suc, Bool, true, false, not, ◌&&◌, List, [], ◌∷◌, ◌++◌, length, drop, min, is_some, Option, Some, None, inl, inr, ⊎_elim, refl, sym, ap, ◌∙◌, subst, arith}
+use Rattle.std.proofs.Common.{◌≡◌, ◌⊎◌, ◌<◌, ◌≤◌, ◌+◌, ◌-◌, ◌*◌, ℕ, suc, Bool, true, false, not, ◌&&◌, List, [], ◌∷◌, ◌++◌, length, drop, min, is_some, Option, Some, None, inl, inr, ⊎_elim, refl, sym, ap, ◌∙◌, subst, arith}
 use Rattle.std.proofs.lemmas.Bool.{cond_both}
 use Rattle.std.proofs.lemmas.List.{length_push, length-drop}
-use Rattle.lard_law_view.specs.Prelude.{Asked, ControlBlock, Done, Entry, Kept, MAX_STREAM_BYTES, More, NodeEnv, Progress, RECEIVE_WINDOW, Received, Sending, Service, Step, Verdict, Via, Want, Work, answer, answered, ask_kept, asked_kept, asks_for, awaited, batch_of, bytes_used, closed_behind, closes, discarding_on, ended_at_fin, entered, finishing, goes_on, hit_here, passed_over, queued, queued_here, queueing, read_entry, reads_batch, reads_these, receive_room, serves_with, serving_consumed, state_of, wants_kept}
+use Rattle.lard_law_view.specs.Prelude.{Asked, ControlBlock, Done, Entry, Kept, MAX_STREAM_BYTES, More, NodeEnv, Progress, RECEIVE_WINDOW, Received, Sending, Service, Step, Verdict, Via, Want, Work, answer, answered, ask_kept, asked_kept, asks_for, awaited, batch_of, bytes_used, closed_behind, closes, discarding_on, ended_at_fin, entered, finishing, goes_on, hit_here, queued_here, queueing, read_entry, reads_batch, reads_these, receive_room, serves_with, serving_consumed, state_of, wants_kept}
 use Rattle.lard_base.specs.declared.place.Via.TheVariants as via
 use Rattle.lard_bound.specs.Units.{batch_left, progress_left}
 use Rattle.lard_rules.specs.declared.stay.Progress.TheVariants as progress
 use Rattle.lard_resend.proofs.Lengths.{anew-more, length-anew}
+use Rattle.lard_rules.proofs.Endings.{answered-keeps, at-fin-keeps}
 use Rattle.lard_rules.proofs.StayWalking.{KeptByReads, StepIn, goes-in, state-in, these-in}
 
 -- how many requests were read, served or not
@@ -36,6 +37,24 @@ pub record Idle (a b : Work) : Type 0 where
 -- the cluster's side is closed
 abbrev pub Finishes : Work → Work → Type 0
 Finishes a b = (a.service.block.send.finished ≡ false) × (b.service.block.send.finished ≡ true)
+
+-- behind an answer that closes: no more is acknowledged, and the window is as it was
+pub behind : (v : Verdict) (b : ControlBlock) → ((closed_behind v b).send.una ≡ b.send.una) × ((closed_behind v b).send.wnd ≡ b.send.wnd) × (b.send.finished ≡ true → (closed_behind v b).send.finished ≡ true)
+behind v b = cond_both (closes v) (finishing (discarding_on b)) b (λ (d : ControlBlock). (d.send.una ≡ b.send.una) × (d.send.wnd ≡ b.send.wnd) × (b.send.finished ≡ true → d.send.finished ≡ true))
+    (λ t. (refl, refl, λ e. refl)) (λ t. (refl, refl, λ e. e))
+
+-- what may be read on has neither closed its side nor passed the stream limit
+pub may-parts : (reset shut : Bool) (o : Option ℕ) → (not reset && (not shut && (elim o [ None ↦ true | Some total ↦ false ]))) ≡ true → (shut ≡ false) × (o ≡ None)
+may-parts true shut o e = absurd (let bad : false ≡ true = e in cc)
+may-parts false true o e = absurd (let bad : false ≡ true = e in cc)
+may-parts false false None e = (refl, refl)
+may-parts false false (Some total) e = absurd (let bad : false ≡ true = e in cc)
+
+-- with less unread there is as much room
+pub wider : (n : ℕ) (r : Received) → receive_room r ≤ receive_room (record r { unread = drop n r.unread })
+wider n r = let l = length-drop n r.unread in less (length r.unread) (length (drop n r.unread)) r.got (omega (arith, l)) where
+  less : (x y z : ℕ) → y ≤ x → min (RECEIVE_WINDOW - x) (MAX_STREAM_BYTES - z) ≤ min (RECEIVE_WINDOW - y) (MAX_STREAM_BYTES - z)
+  less x y z e = omega (arith, e)
 
 pub alike-self : (b : ControlBlock) → IsAlike b b
 alike-self b = record { send = refl; awaits = refl; roomy = omega arith; owed = refl; last_window = refl; reset = refl }
@@ -114,15 +133,9 @@ module _ (env : NodeEnv) (kept fetches : List Kept) where
 
   -- ---- a request is served
 
-  behind : (v : Verdict) (b : ControlBlock) → ((closed_behind v b).send.una ≡ b.send.una) × ((closed_behind v b).send.wnd ≡ b.send.wnd) × (b.send.finished ≡ true → (closed_behind v b).send.finished ≡ true)
-  behind v b = cond_both (closes v) (finishing (discarding_on b)) b (λ (d : ControlBlock). (d.send.una ≡ b.send.una) × (d.send.wnd ≡ b.send.wnd) × (b.send.finished ≡ true → d.send.finished ≡ true))
-      (λ t. (refl, refl, λ e. refl)) (λ t. (refl, refl, λ e. e))
-
   serves-on : (way : Via) (e : Entry) (rest : List Entry) (w : Work) → w.service.over ≡ None → w.batch ≡ e ∷ rest → e.progress ≡ progress.Ready way → Onward w (serves_with (answered env.serve way e.verdict w.service) e rest w)
   serves-on way e rest w none is ready =
-      let bytes = answer env.serve.files e.verdict in
-      let total = w.service.block.send.total + length bytes in
-      cond_both (nat_lt env.serve.stream total) (passed_over env.serve total w.service) (queued env.serve way e.verdict bytes w.service) (λ (s : Service). Onward w (serves_with s e rest w))
+      answered-keeps (λ (s : Service). Onward w (serves_with s e rest w)) env.serve way e.verdict w.service
       (λ t. record {
         una = refl;
         wnd = refl;
@@ -133,7 +146,7 @@ module _ (env : NodeEnv) (kept fetches : List Kept) where
         way = inr (inr (inl refl));
       })
       (λ t.
-      let d = behind e.verdict (queueing w.service.block bytes) in
+      let d = behind e.verdict (queueing w.service.block (answer env.serve.files e.verdict)) in
       let n : length w.batch ≡ suc (length rest) = ap (λ (es : List Entry). length es) is in
       let l : batch_left w.batch ≡ progress_left e.progress + batch_left rest = ap batch_left is in
       let one : progress_left e.progress ≡ 1 = ap progress_left ready in record {
@@ -232,16 +245,10 @@ module _ (env : NodeEnv) (kept fetches : List Kept) where
         (asked-more (record { number = b.asks + 1; queue = env.queue + length b.jobs; size = size; paths = path ∷ paths }) b.asked);
   }
 
-  wider : (n : ℕ) (r : Received) → receive_room r ≤ receive_room (record r { unread = drop n r.unread })
-  wider n r = let l = length-drop n r.unread in less (length r.unread) (length (drop n r.unread)) r.got (omega (arith, l)) where
-    less : (x y z : ℕ) → y ≤ x → min (RECEIVE_WINDOW - x) (MAX_STREAM_BYTES - z) ≤ min (RECEIVE_WINDOW - y) (MAX_STREAM_BYTES - z)
-    less x y z e = omega (arith, e)
-
   -- where there is none, the cluster's FIN follows the client's
   ends : (used : ℕ) (w : Work) → w.service.block.send.finished ≡ false → Onward w (record w { service = ended_at_fin (serving_consumed used w.service) })
   ends used w open_ =
-      let read : Service = serving_consumed used w.service in
-      cond_both w.service.block.recv.fin (record read { block = finishing read.block }) read (λ (s : Service). Onward w (record w { service = s }))
+      at-fin-keeps (λ (s : Service). Onward w (record w { service = s })) (serving_consumed used w.service)
       (λ t. record { una = refl; wnd = refl; shut = λ e. refl; limit = λ e. e; more = omega arith; cheap = omega arith; way = inr (inl (open_, refl)) })
       (λ t. record {
         una = refl;
@@ -284,12 +291,6 @@ module _ (env : NodeEnv) (kept fetches : List Kept) where
   -- ---- turn by turn
 
   -- what may be read is open, and not over
-  may-parts : (reset shut : Bool) (o : Option ℕ) → (not reset && (not shut && (elim o [ None ↦ true | Some total ↦ false ]))) ≡ true → (shut ≡ false) × (o ≡ None)
-  may-parts true shut o e = absurd (let bad : false ≡ true = e in cc)
-  may-parts false true o e = absurd (let bad : false ≡ true = e in cc)
-  may-parts false false None e = (refl, refl)
-  may-parts false false (Some total) e = absurd (let bad : false ≡ true = e in cc)
-
   step-then : (a w : Work) (s : Step Work) → Onward a w → StepIn (Onward w) (Onward w) s → StepIn (Onward a) (Onward a) s
   step-then a w (More u) g h = onward-then a w u g h
   step-then a w (Done u) g h = onward-then a w u g h

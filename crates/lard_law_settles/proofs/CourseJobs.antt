@@ -2,11 +2,11 @@
 use Rattle.std.proofs.Common.{◌≡◌, ℕ, List, [], ◌++◌, Option, Some, None, Result, Ok, Err, refl, sym, ap, ◌∙◌, append-nil}
 use Rattle.std.proofs.lemmas.Bool.{cond_both}
 use Rattle.std.specs.List.{list_any}
-use Rattle.lard_law_view.specs.Prelude.{Body, Client, ControlBlock, EndpointParts, Front, Job, Message, MsgFault, Node, NodeEnv, NodePart, NodeSetting, NodeState, NodeTurn, Out, Place, Stay, ToCluster, aside, awaits_ack, back_endpoint, both_of, decoded, fetched, fetched_file, gone, is_for, node_acknowledged, node_content, node_deed, node_env, node_forwarded, node_gets, node_hears, node_offered, node_part, node_saying, node_tagged, node_timer, nothing_done, without}
-use Rattle.lard_law_settles.proofs.CourseQueueing.{QueuesNone, content-none, forwarded-none}
+use Rattle.lard_law_view.specs.Prelude.{Body, Client, ControlBlock, EndpointParts, Front, Job, Message, MsgFault, Node, NodeEnv, NodePart, NodeSetting, NodeState, NodeTurn, Out, Place, Stay, ToCluster, aside, back_endpoint, both_of, decoded, fetched, fetched_file, is_for, node_deed, node_env, node_gets, node_hears, node_offered, node_part, node_tagged, node_timer, nothing_done}
+use Rattle.lard_law_settles.proofs.CourseQueueing.{QueuesNone, StartsNone, rule-none}
 use Rattle.lard_message.specs.declared.message.Body.TheVariants as body
 use Rattle.lard_rules.specs.Node as node
-use Rattle.lard_base.specs.declared.place.TimerKind.TheVariants as kind
+use Rattle.lard_rules.proofs.NodeCases.{IsInItsEpoch}
 
 -- ---- a turn
 
@@ -56,8 +56,12 @@ module _ (k : NodeSetting) (s : NodeState) where
   tags c e number nodes (node.Says messages) is = record { jobs = []; disk = refl; why = Nothing refl }
   tags c e number nodes (node.Does given) is = record { jobs = given.1.jobs; disk = refl; why = Tagged c e number nodes given refl refl is refl refl }
 
-  quiet : (from : Place) (m : Message) (d : node.NodeDeed) → jobs_of d ≡ [] → Leaves from (Ok m) (node_deed k s m.c d).0
-  quiet from m d none = record { jobs = []; disk = deed-adds m.c d ∙ ap (λ (js : List Job). s.disk ++ js) none; why = Nothing refl }
+  quiet : (from : Place) (c e : ℕ) (b : Body) (g : node.NodeGets) → IsInItsEpoch (node_env k s c e) (node_part s c) g → StartsNone g
+      → Leaves from (Ok (record { c = c; epoch = record { 0 = e }; body = b })) (node_deed k s c (node.node_rule (node_env k s c e) (node_part s c) g)).0
+  quiet from c e b g same starts =
+      let d = node.node_rule (node_env k s c e) (node_part s c) g in
+      let none = none-of d (rule-none (node_env k s c e) (node_part s c) g same starts) in
+      record { jobs = []; disk = deed-adds c d ∙ ap (λ (js : List Job). s.disk ++ js) none; why = Nothing refl }
 
   asks : (a c e n : ℕ) (path : List ℕ) (o : Option (List ℕ)) → Leaves (Node a) (Ok (record { c = c; epoch = record { 0 = e }; body = body.Fetch n path })) (fetched k s a c e n path o).0
   asks a c e n path None = rests (Node a) _
@@ -69,20 +73,13 @@ module _ (k : NodeSetting) (s : NodeState) where
   hears Front c e (body.Offer parts) =
       let d = node_offered (node_env k s c e) (node_part s c) parts in
       record { jobs = jobs_of d; disk = deed-adds c d; why = Offered c e parts refl refl }
-  hears Front c e (body.Forward bytes) =
-      quiet Front (record { c = c; epoch = record { 0 = e }; body = body.Forward bytes }) (node_forwarded (node_env k s c e) (node_part s c) (decoded bytes c ToCluster))
-      (none-of (node_forwarded (node_env k s c e) (node_part s c) (decoded bytes c ToCluster)) (forwarded-none (node_env k s c e) (node_part s c) (decoded bytes c ToCluster)))
+  hears Front c e (body.Forward bytes) = quiet Front c e (body.Forward bytes) (node.Forwarded (decoded bytes c ToCluster)) tt tt
   hears Front c e (body.Tag number nodes) =
       tags c e number nodes (node_tagged (node_env k s c e) (node_part s c) number nodes) refl
-  hears Front c e body.EndedAck =
-      quiet Front (record { c = c; epoch = record { 0 = e }; body = body.EndedAck }) (node_acknowledged (node_env k s c e) (node_part s c))
-      (cond_both (awaits_ack e (node_part s c).row) (node.Does (record (node_part s c) { row = gone (node_part s c).row; kept = without kind.Ended 0 (node_part s c).kept }, node_saying [])) node.Drops (λ (d : node.NodeDeed). jobs_of d ≡ []) (λ t. refl)
-      (λ t. refl))
+  hears Front c e body.EndedAck = quiet Front c e body.EndedAck node.Acknowledged tt tt
   hears Front c e _ = rests Front _
   hears (Node a) c e (body.Fetch n path) = asks a c e n path (k.files path)
-  hears (Node a) c e (body.Content n bytes) =
-      quiet (Node a) (record { c = c; epoch = record { 0 = e }; body = body.Content n bytes }) (node_content (node_env k s c e) (node_part s c) a n)
-      (none-of (node_content (node_env k s c e) (node_part s c) a n) (content-none (node_env k s c e) (node_part s c) a n))
+  hears (Node a) c e (body.Content n bytes) = quiet (Node a) c e (body.Content n bytes) (node.Content a n) tt tt
   hears (Node a) c e _ = rests (Node a) _
   hears (Client d) c e b = rests (Client d) _
 

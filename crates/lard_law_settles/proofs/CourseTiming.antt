@@ -10,6 +10,7 @@ use Rattle.lard_bound.specs.Nears.{Near}
 use Rattle.lard_bound.specs.Progress.{Any, Lasts, NearAt, NearOn, spot_at, spot_with}
 use Rattle.lard_bound.specs.Spots.{spot_of}
 use Rattle.lard_bound.specs.Units.{Whole, units}
+use Rattle.lard_law_view.proofs.Turned.{has-map}
 use Rattle.lard_law_settles.proofs.CourseOwing.{IsFirst}
 use Rattle.lard_law_settles.proofs.CourseRenewing.{BackKept, IsAsk, IsEnded, IsFetched, OfferKept, Renews, RowKept, StageKept, StayKept, ask-near, ended-near, fetch-near, offer-near}
 use Rattle.lard_rules.specs.Front as front
@@ -26,11 +27,6 @@ has-any : {A : Type 0} (P : A → Type 0) (a : A) (xs : List A) → Has a xs →
 has-any P a [] h p = absurd h
 has-any P a (x ∷ xs) (inl same) p = inl (subst P (sym same) p)
 has-any P a (x ∷ xs) (inr h) p = inr (has-any P a xs h p)
-
-has-map : {A B : Type 0} (f : A → B) (a : A) (xs : List A) → Has a xs → Has (f a) (map f xs)
-has-map f a [] h = h
-has-map f a (y ∷ xs) (inl same) = inl (ap f same)
-has-map f a (y ∷ xs) (inr h) = inr (has-map f a xs h)
 
 pub not-off : (b : Bool) → not b ≡ true → b ≡ false
 not-off true e = sym e

@@ -1,8 +1,11 @@
 -- Of each rule: the first timer of those that are due sends what leads to a unit within three rounds.
 use Rattle.std.proofs.Common.{◌≡◌, ℕ, Bool, true, List, [], ◌∷◌, Some, sym, ◌∙◌, subst}
 use Rattle.lard_base.specs.declared.event.Event.TheVariants as event
-use Rattle.lard_law_view.specs.Prelude.{Came, Client, ClientFires, ClientGets, ClientReceives, ClientRules, Conn, ControlBlock, Front, FrontRules, Letter, Move, Node, NodeRules, Place, Seen, Setting, Station, UntouchedRules, event_seen, front_timer, is_clear, node_timer}
+use Rattle.lard_law_view.specs.Prelude.{Came, Client, ClientFires, ClientGets, ClientReceives, ClientRules, Conn, ControlBlock, Front, FrontRules, Letter, Move, Node, NodeRules, Place, Seen, Setting, Station, UntouchedRules, event_seen, front_does, front_rule, front_timer, is_clear, node_timer, stands}
 use Rattle.lard_law_view.proofs.EachClient.{ClientComes, client_goes, each-client}
+use Rattle.lard_law_view.proofs.EachFront.{each-front}
+use Rattle.lard_law_view.proofs.EachNode.{Aside, aside_said, aside_seen, each-node, node_goes}
+use Rattle.lard_law_view.proofs.EachNode as each
 use Rattle.lard_bound.specs.Progress.{Lasts}
 use Rattle.lard_bound.specs.Seats.{Held, Here, Waiting, seat_of, staying_of}
 use Rattle.lard_bound.specs.Units.{Whole}
@@ -11,6 +14,7 @@ use Rattle.lard_law_settles.proofs.CourseRenewing.{Renews}
 use Rattle.lard_law_settles.proofs.CourseTiming.{front-begins, node-begins}
 use Rattle.lard_law_settles.proofs.CourseTimingClients.{IsTimed, client-begins}
 use Rattle.lard_law_settles.proofs.CourseTimingHeld.{IsSpeaking, held-begins, here-begins, waits-clear}
+use Rattle.lard_law_progress.proofs.FirstSeen.{by-front-seen, by-node-seen}
 use Rattle.lard_law_progress.proofs.Lasting.{front-heads, node-heads}
 
 -- What is known of a connection within a settle, whose client opened.
@@ -50,37 +54,35 @@ module _ (k : Setting) (all : ℕ → Whole) where
   clients : ClientRules k (Timed k all)
   clients = each-client k (Timed k all) (record { opens = λ x isn iss wnd mss rule none known lasts p heads. absurd cc; does = client-timed })
 
+  -- of what comes to the front end and to a node, the timer alone
   fronts : FrontRules k (Timed k all)
-  fronts = record {
-    hears = λ x s env bytes is of iss was known lasts p heads. absurd (no-packet _ _ p x.c (sym (front-heads x _ _) ∙ heads));
-    fires = λ x s env is of known lasts p heads first up.
-        let kn = known s is in
-        let same = timer-place Front p x.c (sym (front-heads x (event_seen (event.Timer Front x.c)) (front_timer env x.part.front)) ∙ heads) in
-        let here : IsFirst x.part Front = subst (IsFirst x.part) (sym same) first in
-        front-begins k (all x.c) x s is env kn.renews (held-begins k (all x.c) x s is kn.renews env of kn.held) (waits-clear k (all x.c) x s is kn.renews env kn.waits) here lasts up;
-    taken = λ x env n epoch bytes of spells was known lasts p heads. absurd (no-packet _ _ p x.c (sym (front-heads x _ _) ∙ heads));
-    asked = λ x env n epoch number queue size paths bytes of spells was known lasts p heads. absurd (no-packet _ _ p x.c (sym (front-heads x _ _) ∙ heads));
-    ended = λ x env n epoch why snd rcv count bytes of spells was known lasts p heads. absurd (no-packet _ _ p x.c (sym (front-heads x _ _) ∙ heads));
-    admitted = λ x env choice given of e known lasts p heads. absurd cc;
-  }
+  fronts = each-front k (Timed k all) (λ x env heads g of. by-front-seen x env heads (λ ss g. Timed k all x (front_does x ss (front_rule env x.part.front g)))
+      (λ from bytes g was seen known lasts p e. absurd (no-packet _ _ p x.c (sym seen ∙ sym (front-heads x heads _) ∙ e)))
+      (λ rung known lasts p e first up.
+      let kn = known rung.station rung.there in
+      let same = timer-place Front p x.c (sym (front-heads x (event_seen (event.Timer Front x.c)) (front_timer env x.part.front)) ∙ e) in
+      let here : IsFirst x.part Front = subst (IsFirst x.part) (sym same) first in
+      front-begins k (all x.c) x rung.station rung.there env kn.renews (held-begins k (all x.c) x rung.station rung.there kn.renews env of kn.held)
+      (waits-clear k (all x.c) x rung.station rung.there kn.renews env kn.waits) here lasts up)
+      (λ choice given turn known lasts p e. absurd (no-event p x.c e)) g)
+
+  asides : (x : Conn) (n : ℕ) (a : Aside) → Timed k all x (stands x (Node n) (aside_seen n a) (aside_said k n x.c a))
+  asides x n (each.Brings from epoch r path) known lasts p e = absurd (no-event p x.c e)
+  asides x n _ known lasts p e = absurd (no-packet _ _ p x.c e)
 
   nodes : NodeRules k (Timed k all)
-  nodes = record {
-    offered = λ x n epoch env parts bytes of spells was known lasts p heads. absurd (no-packet _ _ p x.c (sym (node-heads x n _ _) ∙ heads));
-    forwarded = λ x n epoch env segment bytes of spells was known lasts p heads. absurd (no-packet _ _ p x.c (sym (node-heads x n _ _) ∙ heads));
-    tagged = λ x n epoch number ns env bytes of spells was known lasts p heads. absurd (no-packet _ _ p x.c (sym (node-heads x n _ _) ∙ heads));
-    content = λ x n from epoch r env file bytes of spells was known lasts p heads. absurd (no-packet _ _ p x.c (sym (node-heads x n _ _) ∙ heads));
-    acknowledged = λ x n epoch env bytes of spells was known lasts p heads. absurd (no-packet _ _ p x.c (sym (node-heads x n _ _) ∙ heads));
-    read = λ x n epoch r env path of known lasts p heads. absurd (no-event p x.c (sym (node-heads x n [] _) ∙ heads));
-    fires = λ x s n env is of known lasts p heads first up.
-        let kn = known s is in
-        let same = timer-place (Node n) p x.c (sym (node-heads x n (event_seen (event.Timer (Node n) x.c)) (node_timer env (x.part.nodes n))) ∙ heads) in
+  nodes = each-node k (Timed k all) (record {
+    does = λ x n epoch env heads g of in_its. by-node-seen x n epoch heads (λ ss g. Timed k all x (node_goes x n env ss g))
+        (λ from bytes g seen known lasts p e. absurd (no-packet _ _ p x.c (sym seen ∙ sym (node-heads x n heads _) ∙ e)))
+        (λ fired known lasts p e first up.
+        let kn = known fired.station fired.there in
+        let same = timer-place (Node n) p x.c (sym (node-heads x n (event_seen (event.Timer (Node n) x.c)) (node_timer env (x.part.nodes n))) ∙ e) in
         let here : IsFirst x.part (Node n) = subst (IsFirst x.part) (sym same) first in
-        node-begins k (all x.c) x s is n env kn.renews (here-begins k (all x.c) x s is kn.renews n _ env of (λ told e b. kn.here told n e b)) here lasts up;
-    answers = λ x n from epoch r path file bytes has spells was known lasts p heads. absurd (no-packet _ _ p x.c heads);
-    queues = λ x n from epoch r path file bytes has spells was known lasts p heads. absurd (no-packet _ _ p x.c heads);
-    brings = λ x n from epoch r path known lasts p heads. absurd cc;
-  }
+        node-begins k (all x.c) x fired.station fired.there n env kn.renews
+        (here-begins k (all x.c) x fired.station fired.there kn.renews n epoch env of (λ told e b. kn.here told n e b)) here lasts up)
+        (λ r path known lasts p e. absurd (no-event p x.c (sym (node-heads x n [] _) ∙ e))) g;
+    aside = λ x n a allowed. asides x n a;
+  })
 
   -- the rules that leave a connection untouched
   pub rules-begin : UntouchedRules k (Timed k all)

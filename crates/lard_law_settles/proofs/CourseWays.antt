@@ -1,7 +1,7 @@
 -- What a step does to the packets that are on their way, as the journal tells them: it takes away what it delivers or loses, and no other,
 -- and what it sends has numbers behind all before it.
-use Rattle.std.proofs.Common.{◌≡◌, ◌<◌, ◌≤◌, ℕ, zero, suc, ◌+◌, ◌-◌, ◌==◌, Bool, true, false, cond, nat_eq, List, [], ◌∷◌, ◌++◌, length, Some, None, Ok, inl, inr, ⊎_elim, refl, sym, ap, ◌∙◌, subst, arith, append_assoc, length-append}
-use Rattle.std.specs.Prelude.{◌⊎◌, slice_get}
+use Rattle.std.proofs.Common.{◌≡◌, ◌<◌, ◌≤◌, ℕ, zero, suc, ◌+◌, ◌-◌, Bool, true, false, cond, nat_eq, List, [], ◌∷◌, ◌++◌, length, Some, Ok, inl, inr, ⊎_elim, refl, sym, ap, ◌∙◌, subst, arith, append_assoc, length-append}
+use Rattle.std.specs.Prelude.{◌⊎◌}
 use Rattle.std.proofs.lemmas.Bool.{true≢false}
 use Rattle.std.proofs.lemmas.List.Sums.{fold-append}
 use Rattle.std.specs.List.{fold}
@@ -11,6 +11,7 @@ use Rattle.lard_base.specs.declared.event.Event.TheVariants as event
 use Rattle.lard_law_connections.proofs.Calm.{first_rows, last_rows, told-journal}
 use Rattle.lard_law_view.proofs.AnyShape.{AnyShape, IsAct, SomeGift, SomeNote, SomeTimer, step-any}
 use Rattle.lard_law_view.proofs.Shapes.{IsPut}
+use Rattle.lard_law_settles.proofs.SettlesKeeping.{packet-stays}
 use Rattle.lard_history.proofs.Each.{Each, Each-weaker}
 use Rattle.lard_history.proofs.Seeing.{by_number, other_number, same_number}
 use Rattle.lard_journal.specs.declared.rec.Rec.TheVariants as rec
@@ -168,18 +169,6 @@ pub rest-journal : (w : Machine) (e : Event) (place : Place) (o : Out)
 rest-journal w e place o = told-journal w e place o ∙ ap (λ (rs : List Rec). w.journal ++ rs) (append_assoc (first_rows w e) o.notes (last_rows w place o))
 
 -- ---- packets stay
-
-module _ {A : Type 0} where
-  get-front : (xs ys : List A) (i : ℕ) (x : A) → slice_get xs i ≡ Some x → slice_get (xs ++ ys) i ≡ Some x
-  get-front [] ys i x e = let no : None ≡ Some x = e in absurd cc
-  get-front (y ∷ xs) ys zero x e = e
-  get-front (y ∷ xs) ys (suc i) x e = get-front xs ys i x e
-
-packet-stays : (net more : List Packet) (k : ℕ) (p : Packet) → packet_at net k ≡ Some p → packet_at (net ++ more) k ≡ Some p
-packet-stays net more k p = go (k == 0) where
-  go : (b : Bool) → cond b None (slice_get net (k - 1)) ≡ Some p → cond b None (slice_get (net ++ more) (k - 1)) ≡ Some p
-  go true e = e
-  go false e = get-front net more (k - 1) p e
 
 keeps-all : (e : Event) (m n : Machine) → ((k : ℕ) (p : Packet) → packet_at m.net k ≡ Some p → packet_at n.net k ≡ Some p) → KeepsPackets e m n
 keeps-all (event.Lose j) m n h = tt

@@ -1,12 +1,13 @@
 -- What the front end sends in the rounds of a settle: its segments go to the client, and of the messages to nodes one that forwards has the
 -- segment that came.
-use Rattle.std.proofs.Common.{◌≡◌, ℕ, List, [], ◌∷◌, map, Option, Some, None, Result, Ok, Err, refl}
-use Rattle.lard_law_view.specs.Prelude.{Ask, Body, Client, ControlBlock, Ending, EndpointParts, Final, FirstChoice, FrontDeed, FrontEnv, FrontPart, FrontRest, FrontTurn, Kept, Node, Place, Said, SegFault, ServeEnv, Service, Turn, after_timer, cut_off, front_admitted, front_asked, front_ended, front_gets, front_rest, front_saying, front_taken, front_timer, last_words, sent_of, serving, serving_ready_of, serving_settled, speaks, speaks_symbols, spoken, timed, tombstone}
+use Rattle.std.proofs.Common.{◌≡◌, ℕ, List, [], ◌∷◌, map, Option, Some, None, refl}
+use Rattle.lard_law_view.specs.Prelude.{Body, Client, ControlBlock, EndpointParts, FrontDeed, FrontEnv, FrontGets, FrontHears, FrontPart, FrontRest, FrontTurn, Kept, Node, Place, Said, ServeEnv, Service, after_timer, cut_off, front_rest, front_rule, front_saying, last_words, sent_of, serving, serving_ready_of, serving_settled, speaks, speaks_symbols, spoken, timed, tombstone}
 use Rattle.lard_rules.specs.Front.{Does, Drops, Says, message}
 use Rattle.lard_history.proofs.Each.{Each, Each-append}
 use Rattle.lard_message.specs.declared.message.Body.TheVariants as body
 use Rattle.lard_law_view.proofs.EndpointSends.{AllTo, ready-to, speaks-to, speaks_symbols-to}
-use Rattle.lard_rules.proofs.FrontCases.{KeptBySegment, begun_service, heard_service, waiting_service, segment-keeps, timer-keeps, taken-keeps, asked-keeps, ended-keeps, admitted-keeps}
+use Rattle.lard_rules.proofs.Endings.{settled-keeps}
+use Rattle.lard_rules.proofs.FrontCases.{IsAsGiven, KeptByFront, KeptBySegment, begun_service, front-keeps, heard_service, waiting_service}
 
 -- ---- segments
 
@@ -21,10 +22,7 @@ module _ (env : ServeEnv) where
   cut-to w = Each-append (λ s. s.0 ≡ Client env.c) (speaks_symbols env.c w.block).0 _ (speaks_symbols-to env.c w.block).to (refl, tt)
 
   settled-to : (w : Service) → ToIts (serving_settled env w).1.segments
-  settled-to w = go w.over where
-    go : (o : Option ℕ) → ToIts (elim o as (λ q. Ending × Turn) [ None ↦ spoken env w [] | Some total ↦ cut_off env w ]).1.segments
-    go None = spoken-to w [] tt
-    go (Some total) = cut-to w
+  settled-to w = settled-keeps (λ given. ToIts given.1.segments) env w (λ e. spoken-to w [] tt) (λ total e. cut-to w)
 
   tombstone-to : (o : Option Said) → ToIts (tombstone env o).segments
   tombstone-to None = tt
@@ -60,6 +58,11 @@ IsOffer c k = (n e : ℕ) × (parts : EndpointParts) × (sent_of k ≡ (Node n, 
 
 -- ---- each rule
 
+-- W is so of a segment that comes
+abbrev pub IsWith : (List ℕ → Type 0) → FrontGets → Type 0
+IsWith W (FrontHears bytes given) = W bytes
+IsWith W _ = Unit {0}
+
 module _ (env : FrontEnv) (W : List ℕ → Type 0) where
   abbrev c : ℕ
   c = env.serve.c
@@ -91,29 +94,26 @@ module _ (env : FrontEnv) (W : List ℕ → Type 0) where
       words = λ row last at. record { segments = tombstone-to env.serve (last_words last.reason last s); messages = tt };
     }
 
-    pub gets-has : (bytes : List ℕ) → W bytes → (given : Result Said SegFault) → HasDeed (front_gets env p bytes given)
-    gets-has bytes came (Err fault) = tt
-    gets-has bytes came (Ok s) = segment-keeps env p bytes s (λ w o. Unit {0}) HasDeed (by-segment bytes came s)
-
     fired-has : (rest : FrontRest) (b : ControlBlock) → AllTo (Client c) (spoken env.serve (serving (after_timer b) rest.count []) (serving_ready_of env.serve (after_timer b) (timed b))).1.segments
     fired-has rest b = spoken-to env.serve (serving (after_timer b) rest.count []) (serving_ready_of env.serve (after_timer b) (timed b)) (ready-to env.serve (after_timer b) (timed b))
 
-    pub fires-has : Each (IsOffer c) p.kept → HasDeed (front_timer env p)
-    fires-has h = timer-keeps env p HasDeed (record {
+    by-rule : Each (IsOffer c) p.kept → KeptByFront env p (IsWith W) (λ w o. Unit {0}) HasDeed
+    by-rule offers = record {
       drops = tt;
-      holds = λ row b at. record { segments = fired-has (front_rest p.rest) b; messages = tt };
-      stays = λ row b at. record { segments = fired-has (front_rest p.rest) b; messages = tt };
-      resends = λ row n e at. record { segments = tt; messages = offers-said p.kept h };
-    })
+      hears = λ bytes s came. by-segment bytes came s;
+      fires = λ m. record {
+        drops = tt;
+        holds = λ row b at. record { segments = fired-has (front_rest p.rest) b; messages = tt };
+        stays = λ row b at. record { segments = fired-has (front_rest p.rest) b; messages = tt };
+        resends = λ row n e at. record { segments = tt; messages = offers-said p.kept offers };
+      };
+      takes = λ n epoch m row node e at same. record { segments = tt; messages = tt };
+      tags_again = λ n epoch ask m rest found there same some. one-said n epoch _ tt;
+      assigns_next = λ n epoch ask m rest found there next. record { segments = tt; messages = ((n, epoch, _, refl, tt), tt) };
+      ends_again = λ n epoch last m row found away again. one-said n epoch body.EndedAck tt;
+      ends = λ n epoch last m row found away. record { segments = tt; messages = ((n, epoch, body.EndedAck, refl, tt), tt) };
+      admits = λ choice row b path at target. record { segments = tt; messages = ((choice.node, _, _, refl, tt), tt) };
+    }
 
-    pub taken-has : (epoch : ℕ) → HasDeed (front_taken p epoch)
-    taken-has epoch = taken-keeps p HasDeed tt epoch (λ row n e at same. record { segments = tt; messages = tt })
-
-    pub asked-has : (from epoch : ℕ) (ask : Ask) → HasDeed (front_asked env p from epoch ask)
-    asked-has from epoch ask = asked-keeps p HasDeed tt env from epoch ask (λ rest found there same some. one-said from epoch _ tt) (λ rest found there next. record { segments = tt; messages = ((from, epoch, _, refl, tt), tt) })
-
-    pub ended-has : (from epoch : ℕ) (last : Final) → HasDeed (front_ended env p from epoch last)
-    ended-has from epoch last = ended-keeps p HasDeed tt env from epoch last (λ row found away again. one-said from epoch body.EndedAck tt) (λ row found away. record { segments = tt; messages = ((from, epoch, body.EndedAck, refl, tt), tt) })
-
-    pub admitted-has : (choice : FirstChoice) (given : FrontPart × FrontTurn) → front_admitted env p choice ≡ Some given → Has given.1
-    admitted-has choice = admitted-keeps env p choice (λ given. Has given.1) (λ row b path at target. record { segments = tt; messages = ((choice.node, _, _, refl, tt), tt) })
+    pub rule-has : Each (IsOffer c) p.kept → (g : FrontGets) → IsAsGiven env p g → IsWith W g → HasDeed (front_rule env p g)
+    rule-has offers = front-keeps env p (IsWith W) (λ w o. Unit {0}) HasDeed (by-rule offers)

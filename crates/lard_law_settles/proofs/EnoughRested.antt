@@ -3,7 +3,6 @@ use Rattle.std.proofs.Common.{◌≡◌, ◌≤◌, ℕ, false, List, Option, So
 use Rattle.std.specs.Prelude.{All}
 use Rattle.lard_law_view.specs.Prelude.{Config, Conn, Event, Letter, Machine, Move, Rules, Seen, Setting, SpellsMessage, Station, config_check, conn, file_at, grown, is_holding, machine_step, part_of, setting, setting_of, tale_at}
 use Rattle.lard_base.proofs.Usable.{usable}
-use Rattle.lard_base.specs.declared.event.Event.TheVariants as event
 use Rattle.lard_bound.specs.Bound.{IsOrdinary, settling_bound}
 use Rattle.lard_bound.specs.Progress.{IfCame, IsWarm, came_in}
 use Rattle.lard_bound.specs.Units.{tellers, whole_of}

@@ -2,13 +2,14 @@
 -- only refuses.
 use Rattle.std.proofs.Common.{◌≡◌, ◌≤◌, ◌<◌, ◌^◌, ◌&&◌, not, ℕ, Bool, true, false, cond, List, [], ◌++◌, Option, Some, None, is_some, Result, Ok, Err, inl, inr, refl, sym, ap, ◌∙◌, subst, arith}
 use Rattle.std.proofs.lemmas.Bool.{cond_both, true≢false}
-use Rattle.lard_law_view.specs.Prelude.{ClientBlock, Front, IsClientBlock, IsSendable, Phase, Place, Ready, Said, SegFault, Speaks, ToCluster, after_next, after_resend, client_ack_ready, client_after_emit, client_after_owed, client_after_piece, client_after_timer, client_arrived, client_emitted, client_filled, client_gets, client_owed_ready, client_owes, client_piece_ready, client_rcv_wnd, client_ready_of, client_refusal, client_speaks, client_timed, client_timer, client_told, data_ready, heard_in, is_aborted_in, is_client_open, is_open_in, next_piece, resent_piece, spelled, stream_of, syn_ready, to_front}
+use Rattle.lard_law_view.specs.Prelude.{ClientBlock, Front, IsClientBlock, IsSendable, Phase, Place, Ready, Said, SegFault, Speaks, ToCluster, after_resend, client_ack_ready, client_after_emit, client_after_piece, client_after_timer, client_arrived, client_emitted, client_filled, client_gets, client_owed_ready, client_owes, client_piece_ready, client_rcv_wnd, client_ready_of, client_refusal, client_speaks, client_timed, client_timer, data_ready, heard_in, is_aborted_in, is_client_open, is_open_in, next_piece, resent_piece, spelled, stream_of, syn_ready, to_front}
 use Rattle.lard_bound.specs.Progress.{IsWarmWord}
 use Rattle.lard_client.specs.declared.phase.Phase.TheVariants.{Open, Aborted, Reset}
 use Rattle.lard_client.proofs.Accepted.{arrived-bounded, arrived-ended, arrived-reply}
 use Rattle.lard_history.proofs.Each.{Each, Each-append, Each-weaker}
 use Rattle.lard_law_progress.proofs.Clients.{OnPhase, heard-turned, timer-turned}
 use Rattle.lard_rules.specs.Client as rules
+use Rattle.lard_rules.proofs.Hearing.{client-emit-keeps, client-timer-keeps}
 use Rattle.lard_rules.proofs.Loops.{client_keeps}
 use Rattle.lard_send.specs.declared.piece.Piece.{Piece}
 use Rattle.lard_law_settles.proofs.EnoughHolding.{Keeps, arrived-keeps, emit-keeps, timer-keeps}
@@ -92,34 +93,16 @@ module _ (c w : ℕ) where
   said-ready x r P c_is sendable p = (refl, (client_filled x r, ap (λ k. spelled k ToCluster (client_filled x r)) c_is, sendable, p))
 
   emit-few : (x : ClientBlock) → x.accepted ≤ 2 ^ 30 → (client_after_emit x).accepted ≤ 2 ^ 30
-  emit-few x few =
-      let P : ClientBlock → Type 0 = λ y. y.accepted ≤ 2 ^ 30 in
-      cond_both (not (is_client_open x)) x (client_after_piece (record x { send = after_next x.send }) (next_piece x.send) (client_after_owed x)) P (λ t. few) (λ t. go (next_piece x.send) (cond_both (client_owes x) (client_told x) x P (λ u. few) (λ u. few)))
-    where
-      go : (p : Option Piece) → (client_after_owed x).accepted ≤ 2 ^ 30 → (client_after_piece (record x { send = after_next x.send }) p (client_after_owed x)).accepted ≤ 2 ^ 30
-      go (Some p) h = few
-      go None h = h
+  emit-few x few = client-emit-keeps (λ (y : ClientBlock). y.accepted ≤ 2 ^ 30) x few few few
 
   emit-speaks : (x : ClientBlock) (bytes : List ℕ) → Speaks x.send bytes → Speaks (client_after_emit x).send bytes
-  emit-speaks x bytes h =
-      let P : ClientBlock → Type 0 = λ y. Speaks y.send bytes in
-      cond_both (not (is_client_open x)) x (client_after_piece (record x { send = after_next x.send }) (next_piece x.send) (client_after_owed x)) P (λ t. h) (λ t. go (next_piece x.send) (cond_both (client_owes x) (client_told x) x P (λ u. h) (λ u. h)))
-    where
-      go : (p : Option Piece) → Speaks (client_after_owed x).send bytes → Speaks (client_after_piece (record x { send = after_next x.send }) p (client_after_owed x)).send bytes
-      go (Some p) k = (speaks-next x.send bytes h).0
-      go None k = k
+  emit-speaks x bytes h = client-emit-keeps (λ (y : ClientBlock). Speaks y.send bytes) x h h (speaks-next x.send bytes h).0
 
   timer-few : (x : ClientBlock) → x.accepted ≤ 2 ^ 30 → (client_after_timer x).accepted ≤ 2 ^ 30
-  timer-few x few = cond_both (not (is_client_open x)) x (client_after_piece (record x { send = after_resend x.send }) (resent_piece x.send) x) (λ (y : ClientBlock). y.accepted ≤ 2 ^ 30) (λ t. few) (λ t. go (resent_piece x.send)) where
-    go : (p : Option Piece) → (client_after_piece (record x { send = after_resend x.send }) p x).accepted ≤ 2 ^ 30
-    go (Some p) = few
-    go None = few
+  timer-few x few = client-timer-keeps (λ (y : ClientBlock). y.accepted ≤ 2 ^ 30) x few few
 
   timer-speaks : (x : ClientBlock) (bytes : List ℕ) → Speaks x.send bytes → Speaks (client_after_timer x).send bytes
-  timer-speaks x bytes h = cond_both (not (is_client_open x)) x (client_after_piece (record x { send = after_resend x.send }) (resent_piece x.send) x) (λ (y : ClientBlock). Speaks y.send bytes) (λ t. h) (λ t. go (resent_piece x.send)) where
-    go : (p : Option Piece) → Speaks (client_after_piece (record x { send = after_resend x.send }) p x).send bytes
-    go (Some p) = (speaks-resend x.send bytes h).0
-    go None = h
+  timer-speaks x bytes h = client-timer-keeps (λ (y : ClientBlock). Speaks y.send bytes) x h (speaks-resend x.send bytes h).0
 
   emit-talks : (x : ClientBlock) → IsTalking c w x → IsTalking c w (client_after_emit x)
   emit-talks x h = talks-on x (client_after_emit x) h (emit-keeps x) (emit-few x h.sound.bounded) h.bytes (emit-speaks x h.bytes h.speaks)

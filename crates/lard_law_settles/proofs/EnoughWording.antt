@@ -2,10 +2,12 @@
 -- where the one that came was.
 use Rattle.std.proofs.Common.{◌≡◌, ◌⊎◌, ◌<◌, ◌^◌, ℕ, List, [], ◌∷◌, ◌++◌, map, Some, Result, Ok, inl, inr, ⊎_elim, refl, sym, ap, ◌∙◌, subst}
 use Rattle.lard_base.specs.declared.event.Event.TheVariants as event
-use Rattle.lard_law_view.specs.Prelude.{Body, Client, ClientBlock, ClientFires, ClientGets, ClientReceives, ClientRules, Conn, Front, FrontRules, Has, Letter, MayRestOn, Message, Move, Node, Place, Said, Seen, SegFault, Setting, Station, ToClient, ToCluster, Turn, Was, ask_of, client_does, client_gets, client_timer, decoded, decoded_message, event_seen, front_admits, front_asked, front_does, front_ended, front_gets, front_taken, front_timer, grown, kind_of, letter, letters_of, packet_seen, spelled}
+use Rattle.lard_law_view.specs.Prelude.{Body, Client, ClientBlock, ClientFires, ClientGets, ClientReceives, ClientRules, Conn, Front, FrontEnv, FrontGets, FrontHears, FrontRules, Has, Letter, MayRestOn, Message, Move, Node, Place, Said, Seen, SegFault, Setting, Station, ToClient, ToCluster, Turn, Was, client_does, client_gets, client_timer, decoded, decoded_message, event_seen, front_does, front_rule, grown, kind_of, letter, letters_of, packet_seen, spelled}
 use Rattle.lard_law_view.proofs.EachClient.{ClientComes, client_goes, each-client}
+use Rattle.lard_law_view.proofs.EachFront.{FrontComes, admission, each-front}
 use Rattle.lard_bound.specs.Progress.{IfCame, came_in}
 use Rattle.lard_law_connections.proofs.BytesMessages.{forwards-read}
+use Rattle.lard_law_connections.proofs.PlacesFrontRules.{has-each}
 use Rattle.lard_law_connections.proofs.PlacesHeads.{kinds-same}
 use Rattle.lard_rules.specs.Front as front
 use Rattle.lard_rules.specs.Front.{message}
@@ -15,7 +17,7 @@ use Rattle.lard_message.specs.declared.kind.Kind.TheVariants as kind
 use Rattle.lard_law_progress.proofs.Given.{IsRoundsSeen}
 use Rattle.lard_law_progress.proofs.Clients.{OnPhase}
 use Rattle.lard_segment.proofs.Again.{again}
-use Rattle.lard_law_settles.proofs.EnoughForwarding.{BodyHas, DeedHas, IsOffer, MessageHas, admitted-has, asked-has, ended-has, fires-has, gets-has, taken-has}
+use Rattle.lard_law_settles.proofs.EnoughForwarding.{BodyHas, DeedHas, IsOffer, IsWith, MessageHas, rule-has}
 use Rattle.lard_law_settles.proofs.EnoughHolding.{fires-keeps, fires-phase, gets-keeps, gets-phase}
 use Rattle.lard_law_settles.proofs.EnoughTalking.{AreSaid, IsCalm, IsFineWord, IsSaid, fine-stays, fires-says, gets-says}
 use Rattle.lard_law_settles.proofs.EnoughWarming.{Warms}
@@ -91,11 +93,6 @@ has-either a [] ys h = inr h
 has-either a (x ∷ xs) ys (inl e) = inl (inl e)
 has-either a (x ∷ xs) ys (inr h) = ⊎_elim (λ (k : Has a xs). inl (inr k)) (λ (k : Has a ys). inr k) (has-either a xs ys h)
 
-each-has : {A : Type 0} (P : A → Type 0) (xs : List A) (a : A) → Each P xs → Has a xs → P a
-each-has P [] a e h = absurd h
-each-has P (x ∷ xs) a e (inl same) = subst P same e.0
-each-has P (x ∷ xs) a e (inr h) = each-has P xs a e.1 h
-
 -- P is so of each letter that goes out
 sent-by : (P : Letter → Type 0) (v : Move) → ((p : Place × List ℕ) → Has p v.said.segments → P (letter v.place p)) → ((p : Place × List ℕ) → Has p v.said.messages → P (letter v.place p))
     → (l : Letter) → Has l (letters_of v) → P l
@@ -133,12 +130,12 @@ module _ (x : Conn) (st : Station) (heads : List Seen) (given : ClientBlock × T
 
   first-said : (p : Place × List ℕ) → Has p given.1.segments → First (grown x (client_does x st heads given)) (letter (Client x.c) p)
   first-said p has =
-      let h = each-has (IsSaid st.client.c (IsFineWord given.0)) given.1.segments p said has in
+      let h = has-each (IsSaid st.client.c (IsFineWord given.0)) p given.1.segments has said in
       subst (λ (to : Place). FirstOn (grown x (client_does x st heads given)) (Client x.c) to p.1) (sym h.0) (said-words p h)
 
   second-said : (p : Place × List ℕ) → Has p given.1.segments → Second (grown x (client_does x st heads given)) (letter (Client x.c) p)
   second-said p has =
-      let h = each-has (IsSaid st.client.c (IsFineWord given.0)) given.1.segments p said has in
+      let h = has-each (IsSaid st.client.c (IsFineWord given.0)) p given.1.segments has said in
       subst (λ (to : Place). SecondOn (grown x (client_does x st heads given)) (Client x.c) to p.1) (sym h.0) (said-words p h)
 
   pub client-warms : Warms First Second x (client_does x st heads given)
@@ -197,15 +194,10 @@ silent-warms x v segments messages same = record {
 
 -- a message of it forwards what W is so of
 body-fine : (y : Conn) (b : Body) (bytes segment : List ℕ) → BodyHas (AreWordsOf y) b → (c e : ℕ) (m : Message) → decoded_message (message c e b) ≡ Ok m → m.body ≡ body.Forward segment → AreWordsOf y segment
-body-fine y (body.Forward came) bytes segment h c e m d is = subst (AreWordsOf y) (sym (forwards-read c e came segment m d is)) h
-body-fine y (body.Offer parts) bytes segment h c e m d is = let bad : kind.Offer ≡ kind.Forward = kinds-same (record { c = c; epoch = record { 0 = e }; body = body.Offer parts }) m d ∙ ap kind_of is in absurd cc
-body-fine y body.Taken bytes segment h c e m d is = let bad : kind.Taken ≡ kind.Forward = kinds-same (record { c = c; epoch = record { 0 = e }; body = body.Taken }) m d ∙ ap kind_of is in absurd cc
-body-fine y (body.Ask number queue size paths) bytes segment h c e m d is = let bad : kind.Ask ≡ kind.Forward = kinds-same (record { c = c; epoch = record { 0 = e }; body = body.Ask number queue size paths }) m d ∙ ap kind_of is in absurd cc
-body-fine y (body.Tag number nodes) bytes segment h c e m d is = let bad : kind.Tag ≡ kind.Forward = kinds-same (record { c = c; epoch = record { 0 = e }; body = body.Tag number nodes }) m d ∙ ap kind_of is in absurd cc
-body-fine y (body.Fetch r path) bytes segment h c e m d is = let bad : kind.Fetch ≡ kind.Forward = kinds-same (record { c = c; epoch = record { 0 = e }; body = body.Fetch r path }) m d ∙ ap kind_of is in absurd cc
-body-fine y (body.Content r file) bytes segment h c e m d is = let bad : kind.Content ≡ kind.Forward = kinds-same (record { c = c; epoch = record { 0 = e }; body = body.Content r file }) m d ∙ ap kind_of is in absurd cc
-body-fine y (body.Ended reason snd rcv count) bytes segment h c e m d is = let bad : kind.Ended ≡ kind.Forward = kinds-same (record { c = c; epoch = record { 0 = e }; body = body.Ended reason snd rcv count }) m d ∙ ap kind_of is in absurd cc
-body-fine y body.EndedAck bytes segment h c e m d is = let bad : kind.EndedAck ≡ kind.Forward = kinds-same (record { c = c; epoch = record { 0 = e }; body = body.EndedAck }) m d ∙ ap kind_of is in absurd cc
+body-fine y b bytes segment h c e m d is = go b (kinds-same (record { c = c; epoch = record { 0 = e }; body = b }) m d ∙ ap kind_of is) h d where
+  go : (a : Body) → kind_of a ≡ kind.Forward → BodyHas (AreWordsOf y) a → decoded_message (message c e a) ≡ Ok m → AreWordsOf y segment
+  go (body.Forward came) k fine reads = subst (AreWordsOf y) (sym (forwards-read c e came segment m reads is)) fine
+  go _ k fine reads = absurd cc
 
 body-more : (W V : List ℕ → Type 0) → ((bytes : List ℕ) → W bytes → V bytes) → (b : Body) → BodyHas W b → BodyHas V b
 body-more W V f (body.Forward segment) h = f segment h
@@ -235,8 +227,8 @@ module _ (x : Conn) (v : Move) (place : v.place ≡ Front) (same : v.part.statio
     second_sent = λ came.
         let says = f came in
         sent-by (Second y) v
-        (λ p has. segment-front p (each-has (λ (q : Place × List ℕ). q.0 ≡ Client d) v.said.segments p says.0 has))
-        (λ p has. message-front p (each-has (MessageHas c (AreWordsOf x)) v.said.messages p says.1 has));
+        (λ p has. segment-front p (has-each (λ (q : Place × List ℕ). q.0 ≡ Client d) p v.said.segments has says.0))
+        (λ p has. message-front p (has-each (MessageHas c (AreWordsOf x)) p v.said.messages has says.1));
   }
 
 deed-warms : (x : Conn) (heads : List Seen) (c : ℕ) (d : front.FrontDeed) → (IfCame (First x) (came_in heads) → DeedHas c (AreWordsOf x) d) → Warms First Second x (front_does x heads d)
@@ -244,19 +236,11 @@ deed-warms x heads c front.Drops f = silent-warms x (front_does x heads front.Dr
 deed-warms x heads c (front.Says t) f = front-warms x (front_does x heads (front.Says t)) refl refl c c (λ came. let h = f came in (h.segments, h.messages))
 deed-warms x heads c (front.Does z) f = front-warms x (front_does x heads (front.Does z)) refl refl c c (λ came. let h = f came in (h.segments, h.messages))
 
+-- a segment that came is fine, where it is one of those of which the first law speaks
+came-with : (x : Conn) (env : FrontEnv) (heads : List Seen) (g : FrontGets) → FrontComes x env heads g → IfCame (First x) (came_in heads) → IsWith (AreWordsOf x) g
+came-with x env heads (FrontHears bytes given) comes came = subst (λ (ss : List Seen). IfCame (First x) (came_in ss)) comes.seen came
+came-with x env heads _ comes came = tt
+
 pub fronts-warm : (k : Setting) → FrontRules k WarmsOwed
-fronts-warm k = record {
-  hears = λ x st env bytes there is iss was may seen.
-      deed-warms x (packet_seen (Client x.c) Front bytes) env.serve.c (front_gets env x.part.front bytes (decoded bytes x.c ToCluster)) (λ came. gets-has env (AreWordsOf x) x.part.front bytes came (decoded bytes x.c ToCluster));
-  fires = λ x st env there is may seen.
-      deed-warms x (event_seen (event.Timer Front x.c)) env.serve.c (front_timer env x.part.front)
-      (λ came. fires-has env (AreWordsOf x) x.part.front (subst (λ (c : ℕ). Each (IsOffer c) x.part.front.kept) (sym is.number) may.given.offers));
-  taken = λ x env n epoch bytes is spells was may seen. deed-warms x (packet_seen (Node n) Front bytes) env.serve.c (front_taken x.part.front epoch) (λ came. taken-has env (AreWordsOf x) x.part.front epoch);
-  asked = λ x env n epoch number queue size paths bytes is spells was may seen.
-      deed-warms x (packet_seen (Node n) Front bytes) env.serve.c (front_asked env x.part.front n epoch (ask_of x.c n number queue size paths)) (λ came. asked-has env (AreWordsOf x) x.part.front n epoch (ask_of x.c n number queue size paths));
-  ended = λ x env n epoch reason snd rcv count bytes is spells was may seen.
-      deed-warms x (packet_seen (Node n) Front bytes) env.serve.c (front_ended env x.part.front n epoch (record { reason = reason; snd = record { 0 = snd }; rcv = record { 0 = rcv } }))
-      (λ came. ended-has env (AreWordsOf x) x.part.front n epoch (record { reason = reason; snd = record { 0 = snd }; rcv = record { 0 = rcv } }));
-  admitted = λ x env choice given is e may seen.
-      front-warms x (front_admits x given) refl refl env.serve.c env.serve.c (λ came. let h = admitted-has env (AreWordsOf x) x.part.front choice given e in (h.segments, h.messages));
-}
+fronts-warm k = each-front k WarmsOwed (λ x env heads g is comes may seen. deed-warms x heads env.serve.c (front_rule env x.part.front g)
+    (λ came. rule-has env (AreWordsOf x) x.part.front (subst (λ (c : ℕ). Each (IsOffer c) x.part.front.kept) (sym is.number) may.given.offers) g (admission x env heads g comes) (came-with x env heads g comes came)))

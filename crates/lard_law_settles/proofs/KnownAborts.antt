@@ -1,5 +1,5 @@
 -- A client that aborted is not open: of each connection that the schedule did not touch, in every state that events lead to.
-use Rattle.std.proofs.Common.{◌≡◌, ◌++◌, ◌||◌, ℕ, Bool, true, false, List, [], ◌∷◌, map, take, drop, nat_lt, Option, Some, None, Result, Ok, Err, inl, inr, refl, sym, ap, ◌∙◌, subst}
+use Rattle.std.proofs.Common.{◌≡◌, ◌++◌, ◌||◌, ℕ, Bool, true, false, List, [], ◌∷◌, take, drop, nat_lt, Option, Some, None, Result, Ok, Err, inl, inr, refl, sym, ap, ◌∙◌, subst}
 use Rattle.std.proofs.lemmas.Bool.{both_ways, cond_both}
 use Rattle.lard_law_view.specs.Prelude.{Came, Client, ClientBlock, ClientRules, Config, Conn, Heard, IsMachine, IsUntouchedLaw, MayRestOn, Move, OfEach, Phase, Place, Rec, Row, Said, Seen, SegFault, Setting, Station, ToClient, Turn, Untouched, UntouchedRules, aborted, accepted_note, client_after_timer, client_arrived, client_begins, client_does, client_gets, client_holds, client_shuts, client_taken, client_takes, client_timed, client_timer, client_writes, client_written, decoded, eof_note, event_seen, grown, held_on, is_client_open, is_established, is_open_in, is_writing, nothing_said, packet_seen, queued_too, request, rows_of, send_closed, setting, shut_down, silent, speaking, stands, station_ready_of, tale_at}
 use Rattle.lard_base.specs.declared.event.Event.TheVariants as event

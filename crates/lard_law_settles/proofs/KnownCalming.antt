@@ -3,19 +3,15 @@
 use Rattle.std.proofs.Common.{◌≡◌, ◌<◌, ◌≤◌, ◌+◌, ◌-◌, ◌^◌, ◌==◌, ◌&&◌, nat_lt, not, ℕ, Bool, true, false, cond, List, length, Option, Some, None, ⊎_elim, refl, ap, ◌∙◌, subst, arith}
 use Rattle.std.proofs.lemmas.Bool.{cases_lt}
 use Rattle.std.proofs.lemmas.Bool.Decides.{nat_tests}
-use Rattle.lard_law_view.specs.Prelude.{ClientBlock, Conn, ControlBlock, FilesAt, MAX_STREAM_BYTES, RECEIVE_WINDOW, Ready, Sending, Station, Stream, Talk, Verdict, byte_piece, client_emitted, client_owed_ready, client_ready_of, is_client_open, is_open_in, may_send, next_fin, next_len, next_piece, one_if, peer_room, send_left, symbols, syn_piece}
+use Rattle.lard_law_view.specs.Prelude.{ClientBlock, Conn, ControlBlock, FilesAt, MAX_STREAM_BYTES, RECEIVE_WINDOW, Ready, Sending, Station, Stream, Talk, Verdict, byte_piece, client_emitted, client_owed_ready, client_ready_of, is_client_open, is_open_in, may_send, next_fin, next_len, next_piece, peer_room, send_left, symbols, syn_piece}
 use Rattle.lard_bound.specs.Units.{symbols_taken}
 use Rattle.lard_client.specs.declared.phase.Phase.TheVariants.{Open}
 use Rattle.lard_law_connections.specs.BytesAgreement.{IsOpen}
-use Rattle.lard_law_settles.proofs.KnownTalking.{taken-is}
+use Rattle.lard_law_settles.proofs.KnownCounting.{one-most, taken-same}
 use Rattle.lard_law_settles.proofs.KnownForwarded.{took-most}
 use Rattle.lard_law_progress.proofs.AnswersClientGiven.{IsCalm, Tells}
 use Rattle.lard_law_progress.proofs.AnswersFrontGiven.{IsTalking}
 use Rattle.lard_send.specs.declared.piece.Piece.{Piece}
-
-one-most : (t : Bool) → one_if t ≤ 1
-one-most true = omega arith
-one-most false = omega arith
 
 -- ---- all is sent that the window lets
 
@@ -77,7 +73,7 @@ calms files x st k pend o rest =
     let accepted : c.accepted ≤ length k.out.bytes = o.client.accepts.within in
     let out_most : length k.out.bytes ≤ MAX_STREAM_BYTES = o.says.most in
     let t = took-most c MAX_STREAM_BYTES (omega (arith, accepted, out_most)) in
-    let same = taken-is c in
+    let same = taken-same c in
     let small : c.wnd < 2 ^ 16 = o.client.wide in
     record {
       sound = o.client.speaks.sound;

@@ -17,7 +17,7 @@ use Rattle.lard_laws.specs.WindowsWords.{Starts, StartsOn}
 use Rattle.lard_law_settles.proofs.KnownCalming.{calms, nothing-next, sent-syn, tells-of}
 use Rattle.lard_law_settles.proofs.KnownReplying.{MayReply, replies}
 use Rattle.lard_law_settles.proofs.KnownSeating.{IsLawful, SeatHas, few-written, held-talks, node-acts, open-acts, open-reaches, opens, seat-has, stage-acts, talks-there}
-use Rattle.lard_law_settles.proofs.KnownTalking.{one-most, taken-is}
+use Rattle.lard_law_settles.proofs.KnownCounting.{one-most, taken-same}
 use Rattle.lard_law_settles.proofs.KnownForwarded.{Refuses}
 use Rattle.lard_handoff_front.specs.declared.row.FrontConn.TheVariants as stage
 use Rattle.lard_law_view.proofs.Acked.{heard_by, taken_by}
@@ -81,7 +81,7 @@ module _ (files : FilesAt) (stream : ℕ) (x : Conn) (st : Station) (at : x.part
       let h = by-place from cluster (has-each (refusals.RefusesLetter x.c x.letters) l x.letters was laws.refusals) s read rst ack in
       let t = turned-down x st acts s.seq h.refuses in
       let a : t.0 ≤ taken_by st.client = t.2 in
-      let same = taken-is st.client in
+      let same = taken-same st.client in
       (h.bare, t.0, t.1, omega (arith, a, same))
     where
       by-place : (f : Place) → IsCluster f → RefusesOn x.c x.letters f (Client x.c) bytes → BytesRefuse x.c x.letters bytes

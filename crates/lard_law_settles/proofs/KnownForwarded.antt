@@ -5,7 +5,7 @@ use Rattle.lard_laws.specs.Acks.{LetterActs, OpenActs, bounds_of}
 use Rattle.lard_law_connections.specs.BytesAgreement.{IsFair, IsOpen}
 use Rattle.lard_law_connections.proofs.PlacesFrontRules.{has-each}
 use Rattle.lard_law_settles.proofs.KnownSegments.{acks-most, read-is, symbols-within}
-use Rattle.lard_law_settles.proofs.KnownTalking.{taken-is}
+use Rattle.lard_law_settles.proofs.KnownCounting.{one-most, taken-same}
 use Rattle.lard_law_view.specs.Agreement as agreement
 use Rattle.lard_law_view.proofs.Acked.{WordMay, taken_by}
 use Rattle.lard_message.specs.declared.message.Body.TheVariants as body
@@ -15,10 +15,6 @@ use Rattle.lard_law_progress.proofs.Data.{heard}
 -- a refusal has the number of what was acknowledged
 abbrev pub Refuses : ℕ → ℕ → Said → Type 0
 Refuses first most s = s.flags.rst ≡ true → s.flags.ack ≡ false → (seg_len s ≡ 0) × (a : ℕ) × (s.seq ≡ seq_add first a) × (a ≤ most)
-
-one-most : (t : Bool) → one_if t ≤ 1
-one-most true = omega arith
-one-most false = omega arith
 
 -- how much is taken at the most
 pub took-most : (x : ClientBlock) (n : ℕ) → x.accepted ≤ n → taken_by x ≤ 2 + n
@@ -44,7 +40,7 @@ module _ (files : FilesAt) (x : Conn) (st : Station) (k : Talk) (pend : List Ver
   pub word-forwarded : (b : ControlBlock) (s : Said) → agreement.IsWord k.w s → WordMay st.iss (taken_by st.client) (bounds_of x st acts.heard).aborted s → Refuses st.client.send.iss (heard b.recv) s → IsForwarded st b s
   word-forwarded b s word may refuses = record {
     seq_small = word.sendable.seq_fits;
-    acks = λ acks. let m = acks-most st.iss (taken_by st.client) s.ack (subst (λ n. n < 2 ^ 32) o.begins o.says.number) taken-small (may.acks acks) in let same = taken-is st.client in omega (arith, m, same);
+    acks = λ acks. let m = acks-most st.iss (taken_by st.client) s.ack (subst (λ n. n < 2 ^ 32) o.begins o.says.number) taken-small (may.acks acks) in let same = taken-same st.client in omega (arith, m, same);
     within = λ rst some.
         let h = symbols-within k.w is-stream s word.true_of some in
         let first : seq_offset s.seq k.w.first ≡ seq_offset s.seq st.client.send.iss = ap (seq_offset s.seq) (ap (λ (y : Stream). y.first) o.client.w_is) in

@@ -9,7 +9,7 @@ use Rattle.lard_law_connections.proofs.PlacesFrontRules.{has-each}
 use Rattle.lard_laws.specs.WindowsWords.{FitsClient, FitsOn, ForwardsWere, HasFittingWords, IsRefused, WordFits}
 use Rattle.lard_laws.proofs.WindowsLatest.{forward-fits}
 use Rattle.lard_law_settles.proofs.KnownSegments.{acks-most, read-is}
-use Rattle.lard_law_settles.proofs.KnownTalking.{taken-is}
+use Rattle.lard_law_settles.proofs.KnownCounting.{taken-same}
 use Rattle.lard_law_settles.proofs.KnownForwarded.{Refuses, forwarded, taken-small}
 use Rattle.lard_handoff_front.specs.declared.row.FrontConn.TheVariants as stage
 use Rattle.lard_history.proofs.Each.{Each}
@@ -104,7 +104,7 @@ module _ (files : FilesAt) (x : Conn) (st : Station) (there : x.part.station ≡
         ack_small = mine.sendable.ack_fits;
         acks = λ ack.
             let m = acks-most st.iss (taken_by st.client) s.ack (subst (λ n. n < 2 ^ 32) o.begins o.says.number) (taken-small files x st k pend o acts) (may.acks ack) in
-            let is = taken-is st.client in omega (arith, m, is);
+            let is = taken-same st.client in omega (arith, m, is);
         within = λ rst has. fits.within rst;
         open_ = never-reset s fits.closed;
         refuses = λ rst ack. (fits.bare rst, awaited s.seq (refused-number s.seq (fits.refuses rst ack)));

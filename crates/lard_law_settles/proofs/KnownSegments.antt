@@ -2,6 +2,7 @@
 use Rattle.std.proofs.Common.{◌≡◌, ◌<◌, ◌≤◌, ◌+◌, ◌^◌, ℕ, Bool, true, false, cond, List, length, Ok, ⊎_elim, refl, sym, ap, ◌∙◌, arith}
 use Rattle.std.specs.Prelude.{Result}
 use Rattle.lard_law_view.specs.Prelude.{Dir, IsBare, IsSendable, IsStream, IsTrueOf, MAX_STREAM_BYTES, Said, SegFault, Stands, Stream, decoded, one_if, seg_len, seq_offset, spelled}
+use Rattle.lard_law_settles.proofs.KnownCounting.{one-most}
 use Rattle.lard_law_view.proofs.Acked.{Acks}
 use Rattle.lard_segment.proofs.Again.{again}
 use Rattle.lard_seq.proofs.Laws.{offset-add}
@@ -15,10 +16,6 @@ read-is c dir bytes said s is fits read = one said s (sym (again c dir said fits
 flag-len : (t : Bool) → cond t 1 0 ≡ one_if t
 flag-len true = refl
 flag-len false = refl
-
-one-most : (t : Bool) → one_if t ≤ 1
-one-most true = omega arith
-one-most false = omega arith
 
 -- a number that acknowledges at most n symbols has no greater offset
 pub acks-most : (first n number : ℕ) → first < 2 ^ 32 → n < 2 ^ 32 → Acks first n number → seq_offset number first ≤ n

@@ -1,13 +1,12 @@
 -- Of a connection that the front end offers to a node, it counts no more responses than a message has room for.
-use Rattle.std.proofs.Common.{◌≡◌, ◌≤◌, ◌<◌, ◌+◌, ◌^◌, nat_lt, ℕ, zero, suc, false, List, [], length, Option, Some, None, Result, Ok, Err, sym, ◌∙◌, subst, arith}
-use Rattle.std.proofs.lemmas.Bool.{cond_both}
-use Rattle.lard_law_view.specs.Prelude.{Ask, Client, ClientRules, Config, Conn, ControlBlock, Ending, FilesAt, Final, FirstChoice, Found, Front, FrontConn, FrontDeed, FrontEnv, FrontPart, FrontRest, FrontRow, FrontRules, FrontTurn, IsControlBlock, IsUntouchedLaw, MAX_STREAM_BYTES, MayRestOn, Move, Node, NodeRules, OfEach, Reading, Said, Seen, SegFault, ServeEnv, Service, Setting, Station, Step, Talk, ToCluster, Untouched, Verdict, answer, answered, ask_of, block_at, cut_of, decoded, ended_at_fin, event_seen, finishing, front_admitted, front_asked, front_does, front_ended, front_fired, front_gets, front_reads, front_rest, front_rests, front_taken, front_timer, good_path, grown, may_freeze, may_read, node_does, on_segment, packet_seen, passed_over, queued, reading_turn, reads_block, reads_found, runs_on, serving_consumed, serving_settled, setting, spoken, tale_at}
-use Rattle.lard_base.specs.declared.event.Event.TheVariants as event
+use Rattle.std.proofs.Common.{◌≡◌, ◌≤◌, ◌<◌, ◌+◌, ◌^◌, ℕ, false, List, [], length, Option, Some, None, sym, ◌∙◌, subst, arith}
+use Rattle.std.proofs.lemmas.List.{length-drop}
+use Rattle.lard_law_view.specs.Prelude.{ClientRules, Config, Conn, ControlBlock, Ending, FilesAt, FrontConn, FrontDeed, FrontEnv, FrontPart, FrontRest, FrontRow, FrontRules, IsControlBlock, IsUntouchedLaw, MAX_STREAM_BYTES, MayRestOn, Move, NodeRules, OfEach, Said, Seen, ServeEnv, Service, Setting, Station, Talk, Untouched, Verdict, answered, ended_at_fin, front_does, front_fired, front_reads, front_rest, front_rests, front_rule, grown, node_does, on_segment, serving_consumed, serving_settled, setting, spoken, tale_at}
 use Rattle.lard_base.specs.declared.place.Via.TheVariants.{Own}
-use Rattle.lard_block.specs.declared.block.Found.TheVariants.{Block, More, TooLong}
 use Rattle.lard_law_connections.specs.BytesAgreement.{ConnAgrees, FrontHolds, IsTruthful, SeatAgrees, StageAgrees}
 use Rattle.lard_law_connections.proofs.BytesRuns.{states-truthful}
 use Rattle.lard_law_view.proofs.Carried.{carried}
+use Rattle.lard_law_view.proofs.EachFront.{admission, each-front}
 use Rattle.lard_law_view.proofs.EachNode.{each-node}
 use Rattle.lard_law_view.proofs.Frames.{Owed, clients-leave}
 use Rattle.lard_law_view.proofs.Guarded.{client-weaker, untouched-law}
@@ -15,57 +14,31 @@ use Rattle.lard_endpoint.proofs.Sound.{on_segment-sound}
 use Rattle.lard_rules.specs.Front.{Does, Drops, Says}
 use Rattle.lard_handoff_front.specs.declared.row.FrontConn.TheVariants as stage
 use Rattle.lard_rules.specs.Node as node
-use Rattle.lard_request.specs.declared.verdict.Code.TheVariants as code
-use Rattle.lard_request.specs.declared.verdict.Verdict.TheVariants.{Fault}
 use Rattle.lard_rules.specs.declared.places.Ending.TheVariants as ending
-use Rattle.lard_rules.specs.Loop as loop
-use Rattle.lard_rules.proofs.FrontCases.{KeptBySegment, IsInStage, begun_row, begun_service, heard_reading, heard_service, waiting_service, segment-keeps, timer-keeps, taken-keeps, asked-keeps, ended-keeps, admitted-keeps}
+use Rattle.lard_law_progress.proofs.FrontReads.{reading-keeps}
+use Rattle.lard_rules.proofs.Endings.{answered-keeps, at-fin-keeps}
+use Rattle.lard_rules.proofs.Reading.{answered-unread}
+use Rattle.lard_rules.proofs.FrontCases.{KeptByFront, KeptBySegment, IsInStage, begun_row, begun_service, front-keeps, heard_reading, heard_service, waiting_service}
 
--- ---- reading answers one request in a turn at the most
+-- ---- reading answers no more requests than there are unread bytes
 
-module _ (env : ServeEnv) where
-  abbrev Adds : ℕ → Step Reading → Type 0
-  Adds n (loop.More x) = x.service.count ≤ n + 1
-  Adds n (loop.Done x) = x.service.count ≤ n
-
-  abbrev Below : ℕ → Reading → Type 0
-  Below n x = x.service.count ≤ n
+module _ (env : ServeEnv) (most : ℕ) where
+  abbrev Within : Service → Type 0
+  Within w = w.count + length w.block.recv.unread ≤ most
 
   answers-one : (v : Verdict) (n : ℕ) (w : Service) → (answered env Own v (serving_consumed n w)).count ≤ w.count + 1
-  answers-one v n w =
-      let bytes = answer env.files v in
-      let read : Service = serving_consumed n w in
-      let total = w.block.send.total + length bytes in
-      cond_both (nat_lt env.stream total) (passed_over env total read) (queued env Own v bytes read) (λ (s : Service). s.count ≤ w.count + 1) (λ t. omega arith) (λ t. omega arith)
+  answers-one v n w = answered-keeps (λ (s : Service). s.count ≤ w.count + 1) env Own v (serving_consumed n w) (λ t. omega arith) (λ t. omega arith)
 
   stops-none : (n : ℕ) (w : Service) → (ended_at_fin (serving_consumed n w)).count ≤ w.count
-  stops-none n w =
-      let read : Service = serving_consumed n w in
-      cond_both w.block.recv.fin (record read { block = finishing read.block }) read (λ (s : Service). s.count ≤ w.count) (λ t. omega arith) (λ t. omega arith)
+  stops-none n w = at-fin-keeps (λ (s : Service). s.count ≤ w.count) (serving_consumed n w) (λ t. omega arith) (λ t. omega arith)
 
-  block-adds : (x : Reading) (n : ℕ) (v : Verdict) (o : Option (List ℕ)) → Adds x.service.count (reads_block env x n v o)
-  block-adds x n v None = answers-one v n x.service
-  block-adds x n v (Some path) = cond_both (may_freeze x.service.block) (record x { target = Some path }) x (λ (y : Reading). y.service.count ≤ x.service.count) (λ t. omega arith) (λ t. omega arith)
-
-  found-adds : (x : Reading) (f : Found) → Adds x.service.count (reads_found env x f)
-  found-adds x (More skip) = stops-none skip x.service
-  found-adds x (Block skip len) = block-adds x (skip + len) (block_at x skip len) (good_path env.files (block_at x skip len))
-  found-adds x (TooLong skip) = answers-one (Fault code.FieldsTooLarge) (length x.service.block.recv.unread) x.service
-
-  turn-adds : (x : Reading) → Adds x.service.count (reading_turn env x)
-  turn-adds x = cond_both (may_read x.service) (reads_found env x (cut_of x.service.block.recv.unread)) (loop.Done x) (Adds x.service.count) (λ t. found-adds x (cut_of x.service.block.recv.unread)) (λ t. omega arith)
-
-  turns-most : (n : ℕ) (x : Reading) → Below (x.service.count + n) (runs_on n (reading_turn env) x)
-  unfolding runs_on
-  turns-most zero x = omega arith
-  turns-most (suc n) x = go (reading_turn env x) (turn-adds x) (λ y. turns-most n y) where
-    go : (s : Step Reading) → Adds x.service.count s → ((y : Reading) → Below (y.service.count + n) (runs_on n (reading_turn env) y))
-        → Below (x.service.count + suc n) (elim s [ loop.More y ↦ runs_on n (reading_turn env) y | loop.Done y ↦ y ])
-    go (loop.More y) a on = let h = on y in omega (arith, a, h)
-    go (loop.Done y) a on = omega (arith, a)
-
-  reads-most : (a : Service) → (front_reads env (record { service = a; target = None })).service.count ≤ a.count + (length a.block.recv.unread + 1)
-  reads-most a = turns-most (length a.block.recv.unread + 1) (record { service = a; target = None })
+  reads-most : (a : Service) → Within a → (front_reads env (record { service = a; target = None })).service.count ≤ most
+  reads-most = reading-keeps env Within (λ w o. w.count ≤ most) (record {
+    answers = λ v n w may some within h. omega (arith, h, some, within, answers-one v n w, answered-unread env Own v (serving_consumed n w), length-drop n w.block.recv.unread);
+    ends = λ n w may h. omega (arith, h, stops-none n w);
+    places = λ path w may h. omega (arith, h);
+    stops = λ w h. omega (arith, h);
+  })
 
 -- ---- what is kept
 
@@ -100,8 +73,6 @@ waits-small f row rest (ending.Here b n) = tt
 waits-small f row rest (ending.Over last) = tt
 
 module _ (p : FrontPart) (few : (row : FrontRow) → p.row ≡ Some row → StageFew (front_rest p.rest).count row.stage) where
-  -- ---- a segment, and the timer
-
   -- few were counted where what was read is to be placed
   abbrev Came : Service → Option (List ℕ) → Type 0
   Came w target = w.count < 2 ^ 32
@@ -114,11 +85,11 @@ module _ (p : FrontPart) (few : (row : FrontRow) → p.row ≡ Some row → Stag
       let h = few-at row (stage.Held b) at in
       let count : (front_rest p.rest).count ≤ 2 ^ 30 = h.0 in
       let d = (on_segment b s).1 in
-      let most = reads-most env.serve (heard_service p b s) in
       let kept = (on_segment-sound b s h.1).received in
       let got : d.recv.got ≤ 2 ^ 30 = kept.received in
       let within : length d.recv.unread ≤ d.recv.got = kept.within in
-      omega (arith, most, count, got, within)
+      let most : (front_reads env.serve (heard_reading p b s)).service.count ≤ 2 ^ 31 = reads-most env.serve (2 ^ 31) (heard_service p b s) (omega (arith, count, got, within)) in
+      omega (arith, most)
 
   by-segment : (env : FrontEnv) (bytes : List ℕ) (s : Said) → KeptBySegment env p bytes s Came DeedSmall
   by-segment env bytes s = record {
@@ -133,34 +104,24 @@ module _ (p : FrontPart) (few : (row : FrontRow) → p.row ≡ Some row → Stag
     words = λ row last at. tt;
   }
 
-  gets-small : (env : FrontEnv) (bytes : List ℕ) (r : Result Said SegFault) → DeedSmall (front_gets env p bytes r)
-  gets-small env bytes (Err fault) = tt
-  gets-small env bytes (Ok s) = segment-keeps env p bytes s Came DeedSmall (by-segment env bytes s)
-
-  fires-small : (env : FrontEnv) → DeedSmall (front_timer env p)
-  fires-small env = timer-keeps env p DeedSmall (record {
+  -- whatever comes
+  by-rule : (env : FrontEnv) → IsSmall p → KeptByFront env p (λ g. Unit {0}) Came DeedSmall
+  by-rule env small = record {
     drops = tt;
-    holds = λ row b at. held-small p row (front_rest p.rest) (front_fired env (front_rest p.rest) b).0;
-    stays = λ row b at. waits-small p row (front_rest p.rest) (front_fired env (front_rest p.rest) b).0;
-    resends = λ row n e at. tt;
-  })
-
-  -- ---- messages
-
-  taken-small : (epoch : ℕ) → DeedSmall (front_taken p epoch)
-  taken-small epoch = taken-keeps p DeedSmall tt epoch (λ row n e at same. tt)
-
-  asked-small : (env : FrontEnv) (from epoch : ℕ) (ask : Ask) → IsSmall p → DeedSmall (front_asked env p from epoch ask)
-  asked-small env from epoch ask small = asked-keeps p DeedSmall tt env from epoch ask (λ rest found there same some. tt) (λ rest found there next. subst (λ (o : Option FrontRest). RowSmall (front_rest o).count p.row) found small)
-
-  ended-small : (env : FrontEnv) (from epoch : ℕ) (last : Final) → DeedSmall (front_ended env p from epoch last)
-  ended-small env from epoch last = ended-keeps p DeedSmall tt env from epoch last (λ row found away again. tt) (λ row found away. tt)
-
-  -- ---- the head of the line
-
-  admitted-small : (env : FrontEnv) (choice : FirstChoice) (given : FrontPart × FrontTurn) → front_admitted env p choice ≡ Some given → IsSmall given.0
-  admitted-small env choice = admitted-keeps env p choice (λ given. IsSmall given.0)
-      (λ row b path at target. let few-here : (front_rest p.rest).count ≤ 2 ^ 30 = few-at row (stage.Waiting b) at in omega (arith, few-here))
+    hears = λ bytes s m. by-segment env bytes s;
+    fires = λ m. record {
+      drops = tt;
+      holds = λ row b at. held-small p row (front_rest p.rest) (front_fired env (front_rest p.rest) b).0;
+      stays = λ row b at. waits-small p row (front_rest p.rest) (front_fired env (front_rest p.rest) b).0;
+      resends = λ row n e at. tt;
+    };
+    takes = λ n epoch m row node e at same. tt;
+    tags_again = λ n epoch ask m rest found there same some. tt;
+    assigns_next = λ n epoch ask m rest found there next. subst (λ (o : Option FrontRest). RowSmall (front_rest o).count p.row) found small;
+    ends_again = λ n epoch last m row found away again. tt;
+    ends = λ n epoch last m row found away. tt;
+    admits = λ choice row b path at target. let few-here : (front_rest p.rest).count ≤ 2 ^ 30 = few-at row (stage.Waiting b) at in omega (arith, few-here);
+  }
 
 -- ---- what the law of bytes says of what the front end has
 
@@ -209,18 +170,8 @@ module _ (k : Setting) where
       (clients-leave k Wanted (λ x v at own number sound m free h. subst IsSmall (sym at.keeps.0) h))
 
   fronts : FrontRules k Wanted
-  fronts = record {
-    hears = λ x s env bytes there is iss was m free h. front-deed x (packet_seen (Client x.c) Front bytes) (front_gets env x.part.front bytes (decoded bytes x.c ToCluster))
-        (gets-small x.part.front (few-of x m free) env bytes (decoded bytes x.c ToCluster)) h;
-    fires = λ x s env there is m free h. front-deed x (event_seen (event.Timer Front x.c)) (front_timer env x.part.front) (fires-small x.part.front (few-of x m free) env) h;
-    taken = λ x env n epoch bytes is spells was m free h. front-deed x (packet_seen (Node n) Front bytes) (front_taken x.part.front epoch) (taken-small x.part.front (few-of x m free) epoch) h;
-    asked = λ x env n epoch number queue size paths bytes is spells was m free h. front-deed x (packet_seen (Node n) Front bytes) (front_asked env x.part.front n epoch (ask_of x.c n number queue size paths))
-        (asked-small x.part.front (few-of x m free) env n epoch (ask_of x.c n number queue size paths) h) h;
-    ended = λ x env n epoch reason snd rcv count bytes is spells was m free h.
-        front-deed x (packet_seen (Node n) Front bytes) (front_ended env x.part.front n epoch (record { reason = reason; snd = record { 0 = snd }; rcv = record { 0 = rcv } }))
-        (ended-small x.part.front (few-of x m free) env n epoch (record { reason = reason; snd = record { 0 = snd }; rcv = record { 0 = rcv } })) h;
-    admitted = λ x env choice given is e m free h. admitted-small x.part.front (few-of x m free) env choice given e;
-  }
+  fronts = each-front k Wanted (λ x env heads g is comes m free h. front-deed x heads (front_rule env x.part.front g)
+      (front-keeps env x.part.front (λ g. Unit {0}) (Came x.part.front (few-of x m free)) DeedSmall (by-rule x.part.front (few-of x m free) env h) g (admission x env heads g comes) tt) h)
 
   nodes : NodeRules k Wanted
   nodes = each-node k Wanted (record {

@@ -1,31 +1,16 @@
 -- An endpoint that has said all talks with its client, by the laws of bytes and of acknowledgements: its numbers are the client's, no more is
 -- acknowledged than was taken, and all that the client says is within its window.
-use Rattle.std.proofs.Common.{◌≡◌, ◌<◌, ◌≤◌, ◌+◌, ◌-◌, ◌^◌, ◌==◌, not, min, ℕ, Bool, true, false, cond, List, length, None, refl, sym, ap, ◌∙◌, subst, arith}
+use Rattle.std.proofs.Common.{◌≡◌, ◌<◌, ◌≤◌, ◌+◌, ◌-◌, ◌^◌, ◌==◌, min, ℕ, Bool, true, false, List, length, None, refl, sym, ap, ◌∙◌, subst, arith}
 use Rattle.std.proofs.lemmas.Bool.Decides.{nat_tests}
 use Rattle.lard_law_view.specs.Prelude.{ClientBlock, Conn, ControlBlock, FilesAt, MAX_STREAM_BYTES, RECEIVE_WINDOW, Station, Stream, Talk, Verdict, emitted, may_end, one_if, symbols}
-use Rattle.lard_bound.specs.Units.{symbols_taken}
 use Rattle.lard_client.specs.declared.phase.Phase.TheVariants as phase
 use Rattle.lard_laws.specs.Acks.{EndActs, OpenActs, bounds_of}
 use Rattle.lard_law_connections.specs.BytesAgreement.{HoldsItPending, IsOpen}
 use Rattle.lard_law_view.proofs.Acked.{heard_by, taken_by}
+use Rattle.lard_law_settles.proofs.KnownCounting.{one-most, taken-same}
 use Rattle.lard_law_progress.proofs.AnswersFrontGiven.{IsTalking}
 use Rattle.lard_law_progress.proofs.Data.{heard}
 use Rattle.lard_rules.specs.declared.places.Ending.TheVariants as ending
-
--- how much a client took, as both count it
-pub taken-is : (x : ClientBlock) → symbols_taken x ≡ taken_by x
-taken-is x = go (x.send.una == 0) where
-  end_ : (e : Bool) → cond e 1 0 ≡ one_if e
-  end_ true = refl
-  end_ false = refl
-
-  go : (b : Bool) → cond b 0 (1 + x.accepted + cond x.eof 1 0) ≡ cond (not b) (1 + x.accepted + one_if x.eof) 0
-  go true = refl
-  go false = ap (λ n. 1 + x.accepted + n) (end_ x.eof)
-
-pub one-most : (t : Bool) → one_if t ≤ 1
-one-most true = omega arith
-one-most false = omega arith
 
 -- Beside the laws of bytes and of acknowledgements: the endpoint goes on, has said all, and told a window that ends no sooner than the
 -- first; its client was not reset, and took no more than was sent; and little was written.
@@ -74,7 +59,7 @@ module _ (files : FilesAt) (x : Conn) (st : Station) (k : Talk) (pend : List Ver
       let e = one-most b.recv.fin in
       let open_window = window (length b.recv.unread) b.recv.got unread (omega (arith, got, few)) in
       let told : RECEIVE_WINDOW ≤ b.last_window + b.recv.got = said.told in
-      let same = taken-is st.client in
+      let same = taken-same st.client in
       let una : b.send.una ≤ taken_by st.client = ends.1.0 in
       let sent : taken_by st.client ≤ b.send.nxt = said.sent in
       let client : st.client.send.una ≤ acts.heard = acts.client.acknowledged in

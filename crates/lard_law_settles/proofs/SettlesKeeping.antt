@@ -157,7 +157,7 @@ module _ {A : Type 0} where
   get-front (y ∷ xs) ys zero x e = e
   get-front (y ∷ xs) ys (suc i) x e = get-front xs ys i x e
 
-packet-stays : (net more : List Packet) (k : ℕ) (p : Packet) → packet_at net k ≡ Some p → packet_at (net ++ more) k ≡ Some p
+pub packet-stays : (net more : List Packet) (k : ℕ) (p : Packet) → packet_at net k ≡ Some p → packet_at (net ++ more) k ≡ Some p
 packet-stays net more k p = go (k == 0) where
   go : (b : Bool) → cond b None (slice_get net (k - 1)) ≡ Some p → cond b None (slice_get (net ++ more) (k - 1)) ≡ Some p
   go true e = e

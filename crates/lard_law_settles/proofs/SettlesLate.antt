@@ -4,15 +4,18 @@ use Rattle.std.specs.FinMap as table
 use Rattle.std.proofs.lemmas.Bool.{both_ways}
 use Rattle.std.proofs.lemmas.Bool.Decides.{nat_tests}
 use Rattle.std.proofs.lemmas.Option.{slice_get_within}
-use Rattle.lard_law_view.specs.Prelude.{Client, ClientRules, Config, Conn, Front, FrontPart, FrontRules, Has, IsLaw, IsReached, Letter, Machine, MayRestOn, Move, Node, NodePart, NodeRules, NodeState, OfEach, Part, Place, Seen, Setting, Station, TimerKind, brought_said, conn, content_said, front_admitted, front_armed, front_does, grown, is_no_node, kept_at, letters_of, node_armed, node_at, node_content, node_does, node_read, nothing_kept, nothing_said, packet_seen, part_of, setting, stands}
+use Rattle.lard_law_view.specs.Prelude.{Client, ClientRules, Config, Conn, Front, FrontPart, FrontRules, Has, IsLaw, IsReached, Letter, Machine, MayRestOn, Move, Node, NodeEnv, NodePart, NodeRules, NodeState, OfEach, Part, Place, Seen, Setting, Station, TimerKind, conn, front_admitted, front_armed, front_does, grown, is_no_node, kept_at, letters_of, node_armed, node_at, node_does, nothing_kept, nothing_said, packet_seen, part_of, setting, stands}
 use Rattle.lard_law_view.proofs.EachClient.{each-client}
+use Rattle.lard_law_view.proofs.EachFront.{each-front}
+use Rattle.lard_law_view.proofs.EachNode.{Aside, NodeComes, aside_said, aside_seen, each-node, job_notes, node_goes, told_first}
+use Rattle.lard_law_view.proofs.EachNode as each
 use Rattle.lard_base.specs.declared.place.TimerKind.TheVariants.{Tcp}
 use Rattle.lard_laws.specs.StepsTimers.{armed_at, client_armed}
 use Rattle.lard_law_view.proofs.Carried.{carried}
 use Rattle.lard_rules.specs.Front as front
 use Rattle.lard_history.proofs.Each.{Each, Each-append}
-use Rattle.lard_journal.specs.declared.rec.Rec.TheVariants as rec
 use Rattle.lard_rules.specs.Node as node
+use Rattle.lard_law_progress.proofs.FirstSeen.{by-front-seen}
 use Rattle.lard_law_settles.proofs.SettlesKeeping.{HasClient, IsThere}
 
 -- ---- what there may be before a client opens
@@ -20,9 +23,12 @@ use Rattle.lard_law_settles.proofs.SettlesKeeping.{HasClient, IsThere}
 abbrev blank_front : FrontPart
 blank_front = record { row = None; rest = None; kept = [] }
 
+abbrev IsNodePlace : Place → Type 0
+IsNodePlace (Node n) = Unit {0}
+IsNodePlace _ = ⊥
+
 abbrev GoesAmongNodes : Place → Place → Type 0
-GoesAmongNodes (Node n) (Node m) = Unit {0}
-GoesAmongNodes _ _ = ⊥
+GoesAmongNodes from to = IsNodePlace from × IsNodePlace to
 
 abbrev IsAmongNodes : Letter → Type 0
 IsAmongNodes l = GoesAmongNodes l.from l.to
@@ -81,13 +87,13 @@ front-unheard x heads d from to bytes never was may late none = absurd (never (w
 node-unheard : (x : Conn) (n : ℕ) (heads : List Seen) (d : node.NodeDeed) (from to : Place) (bytes : List ℕ) → (GoesAmongNodes from to → ⊥) → Has (record { from = from; to = to; bytes = bytes }) x.letters → Owes x (node_does x n heads d)
 node-unheard x n heads d from to bytes never was may late none = absurd (never (was-among from to bytes x.letters (late (sym (node-station x n heads d) ∙ none)).letters was))
 
--- at a node that keeps nothing of it
-node-drops : (x : Conn) (n : ℕ) (heads : List Seen) (f : NodePart → node.NodeDeed) → f nothing_kept ≡ node.Drops → Owes x (node_does x n heads (f (x.part.nodes n)))
-node-drops x n heads f drops may late none =
-    let u : IsUntold x = late (sym (node-station x n heads (f (x.part.nodes n))) ∙ none) in
-    let is : f (x.part.nodes n) ≡ node.Drops = ap f (u.nodes n) ∙ drops in
-    subst (λ (d : node.NodeDeed). IsUntold (grown x (node_does x n heads d))) (sym is)
-    (stays-late x (node_does x n heads node.Drops) refl tt late (sym (node-station x n heads (f (x.part.nodes n))) ∙ none))
+-- at a node that keeps nothing of it, whatever is noted first
+node-drops : (x : Conn) (n : ℕ) (env : NodeEnv) (heads : List Seen) (g : node.NodeGets) → node.node_rule env nothing_kept g ≡ node.Drops → Owes x (node_goes x n env heads g)
+node-drops x n env heads g drops may late none =
+    let still : x.part.station ≡ None = sym (node-station x n heads (node.node_rule env (x.part.nodes n) g)) ∙ none in
+    let is : node.node_rule env (x.part.nodes n) g ≡ node.Drops = ap (λ (p : NodePart). node.node_rule env p g) ((late still).nodes n) ∙ drops in
+    subst (λ (d : node.NodeDeed). IsUntold (grown x (told_first (job_notes x.c n g) (node_does x n heads d)))) (sym is)
+    (stays-late x (told_first (job_notes x.c n g) (node_does x n heads node.Drops)) refl tt late still)
 
 -- ---- every rule
 
@@ -98,28 +104,26 @@ clients k = each-client k Owes (record {
 })
 
 fronts : (k : Setting) → FrontRules k Owes
-fronts k = record {
-  hears = λ x s env bytes there is same was may late none. absurd (some-none s (sym there ∙ sym (front-station x _ _) ∙ none));
-  fires = λ x s env there is may late none. absurd (some-none s (sym there ∙ sym (front-station x _ _) ∙ none));
-  taken = λ x env n epoch bytes is spells was. front-unheard x _ _ (Node n) Front bytes (λ never. never) was;
-  asked = λ x env n epoch number queue size paths bytes is spells was. front-unheard x _ _ (Node n) Front bytes (λ never. never) was;
-  ended = λ x env n epoch reason snd rcv count bytes is spells was. front-unheard x _ _ (Node n) Front bytes (λ never. never) was;
-  admitted = λ x env choice given is e may late none. let no : None ≡ Some given = sym (ap (λ (p : FrontPart). front_admitted env p choice) (late none).front) ∙ e in absurd cc;
-}
+fronts k = each-front k Owes (λ x env heads g is. by-front-seen x env heads (λ ss g. Owes x (front_does x ss (front.front_rule env x.part.front g)))
+    (λ from bytes g was seen. front-unheard x heads _ from Front bytes (λ never. never.1) was)
+    (λ rung may late none. absurd (some-none rung.station (sym rung.there ∙ sym (front-station x _ _) ∙ none)))
+    (λ choice given turn may late none. let no : None ≡ Some given = sym (ap (λ (p : FrontPart). front_admitted env p choice) (late none).front) ∙ turn.is in absurd cc) g)
+
+node-late : (x : Conn) (n epoch : ℕ) (env : NodeEnv) (heads : List Seen) (g : node.NodeGets) → NodeComes x n epoch heads g → Owes x (node_goes x n env heads g)
+node-late x n epoch env heads (node.Offered parts) comes = node-unheard x n heads _ Front (Node n) comes.bytes (λ never. never.0) comes.was
+node-late x n epoch env heads (node.Forwarded given) comes = node-unheard x n heads _ Front (Node n) comes.came.bytes (λ never. never.0) comes.came.was
+node-late x n epoch env heads node.Fires comes = λ may late none. absurd (some-none comes.station (sym comes.there ∙ sym (node-station x n heads _) ∙ none))
+node-late x n epoch env heads g comes = node-drops x n env heads g refl
+
+aside-late : (k : Setting) (x : Conn) (n : ℕ) (a : Aside) → Each IsAmongNodes (letters_of (stands x (Node n) (aside_seen n a) (aside_said k n x.c a)))
+aside-late k x n (each.Queues from epoch r path file bytes) = tt
+aside-late k x n _ = ((tt, tt), tt)
 
 nodes : (k : Setting) → NodeRules k Owes
-nodes k = record {
-  offered = λ x n epoch env parts bytes is spells was. node-unheard x n _ _ Front (Node n) bytes (λ never. never) was;
-  forwarded = λ x n epoch env segment bytes is spells was. node-unheard x n _ _ Front (Node n) bytes (λ never. never) was;
-  tagged = λ x n epoch number tags env bytes is spells was. node-unheard x n _ _ Front (Node n) bytes (λ never. never) was;
-  content = λ x n from epoch r env file bytes is spells was. node-drops x n _ (λ p. node_content env p from r) refl;
-  acknowledged = λ x n epoch env bytes is spells was. node-unheard x n _ _ Front (Node n) bytes (λ never. never) was;
-  read = λ x n epoch r env path is may late none. let u = node-drops x n [] (λ p. node_read env p r) refl may late none in record { front = u.front; nodes = u.nodes; letters = u.letters };
-  fires = λ x s n env there is may late none. absurd (some-none s (sym there ∙ sym (node-station x n _ _) ∙ none));
-  answers = λ x n from epoch r path file bytes there spells was may late. stays-late x (stands x (Node n) (packet_seen (Node from) (Node n) bytes) (content_said k n from x.c epoch r path)) refl (tt, tt) late;
-  queues = λ x n from epoch r path file bytes there spells was may late. stays-late x (stands x (Node n) (packet_seen (Node from) (Node n) bytes) (record nothing_said { notes = rec.Queued n from x.c r path ∷ [] })) refl tt late;
-  brings = λ x n from epoch r path may late. stays-late x (stands x (Node n) [] (brought_said k n from x.c epoch r path)) refl (tt, tt) late;
-}
+nodes k = each-node k Owes (record {
+  does = λ x n epoch env heads g is in_its. node-late x n epoch env heads g;
+  aside = λ x n a allowed may late. stays-late x (stands x (Node n) (aside_seen n a) (aside_said k n x.c a)) refl (aside-late k x n a) late;
+})
 
 late-law : (k : Setting) → IsLaw k Anything IsLate
 late-law k = record {
