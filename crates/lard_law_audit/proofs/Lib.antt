@@ -6,3 +6,5 @@ mod Sounding
 mod Lifting
 mod Settled
 mod Running
+mod Forming
+mod Reporting
