@@ -16,16 +16,17 @@ use Rattle.lard_stay.specs.Work.{HasEntered, IsAskOfStay, IsInHandSound, StartsO
 -- ---- one is started here
 
 -- what the cache has can be served at once
-pub hit-started : (env : NodeEnv) (r : ℕ) (path : List ℕ) (v : Verdict) (w : Ruled) {notes : List Rec} {batch : List Entry} → env.cached path ≡ true
-    → notes ≡ (hit_here env path v w).service.notes → batch ≡ (hit_here env path v w).batch
+pub hit-started : (env : NodeEnv) (r : ℕ) (path : List ℕ) (v : Verdict) (w : Ruled) {notes : List Rec} {batch : List Entry}
+    → env.cached path ≡ true → notes ≡ (hit_here env path v w).service.notes → batch ≡ (hit_here env path v w).batch
     → record w { service = record w.service { notes = notes }; batch = batch } ≡ started_here env r path v w
 hit-started env r path v w has noted put =
     (λ i. record w { service = record w.service { notes = noted i }; batch = put i })
     ∙ sym (ap (λ t. cond t (hit_here env path v w) (queued_here env r path v w)) has)
 
 -- else a job reads it
-pub queue-started : (env : NodeEnv) (r : ℕ) (path : List ℕ) (v : Verdict) (w : Ruled) {notes : List Rec} {batch : List Entry} {jobs : List Job} → env.cached path ≡ false
-    → notes ≡ (queued_here env r path v w).service.notes → batch ≡ (queued_here env r path v w).batch → jobs ≡ (queued_here env r path v w).jobs
+pub queue-started : (env : NodeEnv) (r : ℕ) (path : List ℕ) (v : Verdict) (w : Ruled) {notes : List Rec} {batch : List Entry} {jobs : List Job}
+    → env.cached path ≡ false → notes ≡ (queued_here env r path v w).service.notes
+    → batch ≡ (queued_here env r path v w).batch → jobs ≡ (queued_here env r path v w).jobs
     → record w { service = record w.service { notes = notes }; batch = batch; jobs = jobs } ≡ started_here env r path v w
 queue-started env r path v w has noted put queued =
     (λ i. record w { service = record w.service { notes = noted i }; batch = put i; jobs = queued i })

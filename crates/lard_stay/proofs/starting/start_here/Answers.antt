@@ -9,10 +9,12 @@ use Rattle.lard_stay.proofs.starting.start_here.Goals as goal
 pub returns-then-has-clause-started : goal.returns-then-has-clause-started
 returns-then-has-clause-started c =
     let has = ap (has_path c.args.env.now.cache.now.entries) (sym c.as_slice.ensures) ∙ sym c.has.ensures ∙ c.if-has.true in
-    λ b. hit-started (stay_env_seen c.args.env.now) c.args.r c.args.path c.args.verdict (work_seen b c.args.work.now) has c.in_ok-push.ensures.ok c.in_ok-push-2.ensures.ok
+    λ b. hit-started (stay_env_seen c.args.env.now) c.args.r c.args.path c.args.verdict (work_seen b c.args.work.now) has
+    c.in_ok-push.ensures.ok c.in_ok-push-2.ensures.ok
 
 pub returns-then-has-clause-entered : goal.returns-then-has-clause-entered
-returns-then-has-clause-entered c = entered-one c.args.work.now c.push.new.self c.push-then-has.new.self c.args.work.now.jobs _ c.in_ok-push-2.ensures.ok (omega arith)
+returns-then-has-clause-entered c =
+    entered-one c.args.work.now c.push.new.self c.push-then-has.new.self c.args.work.now.jobs _ c.in_ok-push-2.ensures.ok (omega arith)
 
 pub returns-then-has-clause-wants : goal.returns-then-has-clause-wants
 returns-then-has-clause-wants c = refl
@@ -26,7 +28,8 @@ returns-clause-started c =
 
 pub returns-clause-entered : goal.returns-clause-entered
 returns-clause-entered c =
-    entered-one c.args.work.now c.push-2.new.self c.push-4.new.self c.push-3.new.self _ c.in_ok-push-5.ensures.ok (one-longer c.args.work.now.jobs _ c.in_ok-push-4.ensures.ok)
+    entered-one c.args.work.now c.push-2.new.self c.push-4.new.self c.push-3.new.self _ c.in_ok-push-5.ensures.ok
+    (one-longer c.args.work.now.jobs _ c.in_ok-push-4.ensures.ok)
 
 pub returns-clause-wants : goal.returns-clause-wants
 returns-clause-wants c = refl
