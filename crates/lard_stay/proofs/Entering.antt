@@ -1,16 +1,54 @@
 -- What is entered one by one is entered, and what is in hand stays sound.
-use Rattle.std.proofs.Common.{◌≡◌, ℕ, ◌+◌, ◌≤◌, Bool, true, false, List, ◌∷◌, length, cond, refl, sym, ap, subst, ◌∙◌, arith}
+use Rattle.std.proofs.Common.{◌≡◌, ℕ, ◌+◌, ◌≤◌, Bool, true, false, List, [], ◌∷◌, ◌++◌, length, length-append, cond, refl, sym, ap, subst, ◌∙◌, arith}
 use Rattle.std.specs.Prelude.{◌==◌, IfSome}
 use Rattle.std.specs.List.{slice_get}
 use Rattle.std.proofs.lemmas.Bool.Decides.{nat_tests}
 use Rattle.lard_disk.specs.declared.disk.Job.{Job}
 use Rattle.lard_endpoint.specs.Control.{ControlBlock}
+use Rattle.lard_journal.specs.declared.rec.Rec.{Rec}
 use Rattle.lard_rules.specs.declared.stay.Entry.{Entry}
-use Rattle.lard_rules.specs.Stay.{NodeEnv, Work as Ruled, enters, enters_one, started, started_here, started_there, starts_at, starts_one}
+use Rattle.lard_rules.specs.Stay.{NodeEnv, Work as Ruled, enters, enters_one, hit_here, queued_here, started, started_here, started_there, starts_at, starts_one}
 use Rattle.lard_request.specs.declared.verdict.Verdict.{Verdict}
 use Rattle.lard_seq.specs.Seq.{one_if}
 use Rattle.lard_stay.specs.declared.work.Work.{Work}
 use Rattle.lard_stay.specs.Work.{HasEntered, IsAskOfStay, IsInHandSound, StartsOne}
+
+-- ---- one is started here
+
+-- what the cache has can be served at once
+pub hit-started : (env : NodeEnv) (r : ℕ) (path : List ℕ) (v : Verdict) (w : Ruled) {notes : List Rec} {batch : List Entry}
+    → env.cached path ≡ true → notes ≡ (hit_here env path v w).service.notes → batch ≡ (hit_here env path v w).batch
+    → record w { service = record w.service { notes = notes }; batch = batch } ≡ started_here env r path v w
+hit-started env r path v w has noted put =
+    (λ i. record w { service = record w.service { notes = noted i }; batch = put i })
+    ∙ sym (ap (λ t. cond t (hit_here env path v w) (queued_here env r path v w)) has)
+
+-- else a job reads it
+pub queue-started : (env : NodeEnv) (r : ℕ) (path : List ℕ) (v : Verdict) (w : Ruled) {notes : List Rec} {batch : List Entry} {jobs : List Job}
+    → env.cached path ≡ false → notes ≡ (queued_here env r path v w).service.notes
+    → batch ≡ (queued_here env r path v w).batch → jobs ≡ (queued_here env r path v w).jobs
+    → record w { service = record w.service { notes = notes }; batch = batch; jobs = jobs } ≡ started_here env r path v w
+queue-started env r path v w has noted put queued =
+    (λ i. record w { service = record w.service { notes = noted i }; batch = put i; jobs = queued i })
+    ∙ sym (ap (λ t. cond t (hit_here env path v w) (queued_here env r path v w)) has)
+
+-- one more stands behind the others
+pub one-longer : {A : Type 0} (xs : List A) {ys : List A} (x : A) → ys ≡ xs ++ x ∷ [] → length ys ≤ length xs + 1
+one-longer xs x e = omega (arith, ap length e, length-append xs (x ∷ []))
+
+pub entered-one : (w : Work) (notes : List Rec) (batch : List Entry) (jobs : List Job) (e : Entry) → batch ≡ w.batch ++ e ∷ [] → length jobs ≤ length w.jobs + 1
+    → HasEntered 1 w (record w { service = record w.service { notes = notes }; batch = batch; jobs = jobs })
+entered-one w notes batch jobs e put few = record {
+  batch = ap length put ∙ length-append w.batch (e ∷ []);
+  count = refl;
+  answered = refl;
+  over = refl;
+  asks = refl;
+  asked = refl;
+  jobs = few;
+  wants = omega arith;
+  short = λ h. h;
+}
 
 -- ---- one by one
 

@@ -1,3 +1,4 @@
 pub mod Arrived
 pub mod Entering
 pub mod Falling
+pub mod Naming

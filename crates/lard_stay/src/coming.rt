@@ -15,7 +15,7 @@ use std::alloc::Global;
 use std::mem::replace;
 
 /// What came for a request.
-#[derive(Clone, Copy, Debug, PartialEq, Eq)]
+#[derive(Clone, Copy)]
 pub enum Coming {
     /// A job of this node's disk was completed.
     Job,

@@ -1,9 +1,9 @@
 //! The paths of requests that are to be assigned.
 
-ghost use Rattle.std.specs.Prelude.{◌≡◌, ◌+◌, ◌≤◌, All, length, IfOk, IfSome, option_copied};
+ghost use Rattle.std.specs.Prelude.{◌≡◌, ◌+◌, ◌≤◌, [], ◌++◌, All, length, IfOk, IfSome, OnOk, option_copied};
 ghost use Rattle.lard_answers.specs.Answers.{good_path};
 ghost use Rattle.lard_files.specs.Files.{file_at};
-ghost use Rattle.lard_rules.specs.Stay.{named_path, named_paths};
+ghost use Rattle.lard_rules.specs.Stay.{and_path, named_path, named_paths};
 ghost use Rattle.lard_stay.specs.Work.{IsPath};
 
 use lard_base::{NoMemory, Path, Paths};
@@ -47,11 +47,26 @@ pub fn named_paths(alloc: Global, files: &Files, batch: &[Entry]) -> Result<Path
 {
     let mut paths = Paths::new(alloc);
     for entry in batch {
-        if let Some(path) = named_path(files, entry) {
-            paths.push(path.copy(alloc)?)?;
-        }
+        push_named(alloc, files, entry, &mut paths)?;
     }
     Ok(paths)
+}
+
+/// Adds the path that an Ask names for a request, where it names one.
+fn push_named(
+    alloc: Global,
+    files: &Files,
+    entry: &Entry,
+    paths: &mut Paths,
+) -> Result<(), NoMemory>
+    ensures paths { OnOk result (paths.new ≡ paths.old ++ and_path (named_path (file_at files.now) entry.now) []) }
+    ensures few { OnOk result (length paths.new ≤ length paths.old + 1) }
+    ensures short { OnOk result (All IsPath paths.old → All IsPath paths.new) }
+{
+    if let Some(path) = named_path(files, entry) {
+        paths.push(path.copy(alloc)?)?;
+    }
+    Ok(())
 }
 
 /// How many requests of a batch are to be assigned.
