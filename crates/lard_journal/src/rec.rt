@@ -2,14 +2,13 @@
 
 use lard_base::{Bytes, ConnId, Epoch, Event, Items, Millis, NodeId, Path, Place, TimerKind, Via};
 use lard_shared::Shared;
-use std::fmt::{self, Debug, Formatter, Write};
 
 /// Records, in order.
 pub type Recs = Items<Rec>;
 
 /// One thing that happened. `c` is a connection, `r` the number of a request on its connection,
 /// counted from 1.
-#[derive(Drop)]
+#[derive(Debug, Drop)]
 pub enum Rec {
     /// The `i`-th event of the schedule, counted from 1.
     Event {
@@ -154,11 +153,4 @@ pub enum Rec {
         rounds: u32,
         left: u64,
     },
-}
-
-impl Debug for Rec {
-    /// Its name alone: its words are its line.
-    fn fmt<W: Write>(&self, f: &mut Formatter<W>) -> fmt::Result {
-        f.write_str("Rec")
-    }
 }

@@ -1,5 +1,5 @@
 -- Each rule leaves nothing to be said, so it is in every run.
-use Rattle.std.proofs.Common.{◌≡◌, ◌≤◌, ◌^◌, ℕ, List, Option, Some, None, IfSome, sym, subst}
+use Rattle.std.proofs.Common.{◌≡◌, ◌≤◌, ◌^◌, ℕ, List, Option, Some, Ok, None, IfSome, sym, subst}
 use Rattle.lard_law_view.specs.Prelude.{ClientBlock, ClientRules, Conn, ControlBlock, EndpointParts, Forwarded, FrontGets, FrontHears, FrontRules, IsFrontEnv, IsLaw, IsNodeEnv, IsValidParts, MayRestOn, Move, NodeEnv, NodeGets, NodeRules, Offered, Rules, Said, Seen, Setting, SpellsMessage, Station, front_does, front_rule, grown, last_words, node_does, node_rule, setting, with_station}
 use Rattle.lard_law_connections.proofs.PolicyMessages.{IsTold, message-told}
 use Rattle.lard_law_connections.specs.SilenceLaws.{ConnectionsHaveSpoken}
