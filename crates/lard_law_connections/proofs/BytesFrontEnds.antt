@@ -203,7 +203,7 @@ module _ (k : Setting) (small : k.stream ≤ 2 ^ 30) (x : Conn) (s : Station) (t
       ends = λ m epoch last comes row found away keeps help. let t = comes.told in
           ends-moves row m epoch last (end-stage m epoch last.reason last.snd.0 last.rcv.0 comes.count t.bytes t.spells t.was row row.stage found refl away
           (came-says x (Node m) Front epoch (body.Ended last.reason last.snd.0 last.rcv.0 comes.count) t.bytes help.placed.letters t.was t.spells) help) help;
-      admits = λ choice row b path at target. at-home k small x s there env is l pend o talk heads quiet row (stage.Waiting b) at tt tt
+      admits = λ choice made met row b path at target. at-home k small x s there env is l pend o talk heads quiet row (stage.Waiting b) at tt tt
           (hands_off env row (serving b (front_rest p.rest).count []) path choice []) tt;
     }
 

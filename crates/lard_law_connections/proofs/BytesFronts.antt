@@ -260,7 +260,7 @@ module _ (env : FrontEnv) (w out : Stream) (vs : List Verdict) (was_reset : Bool
           assigns_next = λ n epoch ask m rest found there next. absurd (ours-alone n epoch p.row ours there);
           ends_again = λ n epoch last m row found away again. (refl, tt);
           ends = λ n epoch last m row found away. absurd (ours-here epoch row.stage (subst RowIsOurs found ours) away);
-          admits = λ choice row b path at target. admits-keep choice row b path at;
+          admits = λ choice made met row b path at target. admits-keep choice row b path at;
         }
 
         pub rule-keeps : (g : FrontGets) → IsAsGiven env p g → IsTrueWord g → Keeps (front_rule env p g)

@@ -153,7 +153,7 @@ module _ (x : Conn) (env : FrontEnv) (sits : IsPlaced x) where
         (assigned-silent env.serve.c ask rest.assigned ask.paths (env.later ask).choices));
     ends_again = λ n epoch last m row found away again noted. tt;
     ends = λ n epoch last m row found away noted. (tt, (tt, tt));
-    admits = λ choice row b path at target noted. (tt, (tt, tt));
+    admits = λ choice made met row b path at target noted. (tt, (tt, tt));
   }
 
   front-serves : (g : FrontGets) → IsAsGiven env p g → FrontServes (front_rule env p g)

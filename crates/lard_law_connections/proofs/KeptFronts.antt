@@ -93,7 +93,7 @@ module _ (env : FrontEnv) (p : FrontPart) (h : FrontKeeps env.serve.c p) where
         rest-row n epoch (record rest { asks = ask.number; tag = map (λ x. x.node) (env.later ask).choices; assigned = rest.assigned + length (env.later ask).choices }) (ap (λ (o : Option FrontRest). (front_rest o).count) found) p.row there h;
     ends_again = λ n epoch last m row found away again. tt;
     ends = λ n epoch last m row found away. none-left epoch row.stage away (at-stage row row.stage (found, refl));
-    admits = λ choice row b path at target. (tt, (parts_of b (front_rest p.rest).count, refl, refl));
+    admits = λ choice made met row b path at target. (tt, (parts_of b (front_rest p.rest).count, refl, refl));
   }
 
   -- whatever comes

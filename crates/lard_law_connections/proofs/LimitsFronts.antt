@@ -289,7 +289,7 @@ module _ (k : Setting) (most : k.stream ≤ 2 ^ 30) (x : Conn) (sound_x : IsConn
     ends = λ n epoch last m row found away.
         let v : Move = front_does x heads (Does (front_ends env p n epoch last row (next_epoch row))) in
         idle-counts k.stream x v (record { heads = seen; notes = (tt, (tt, tt)); front = tt; nodes = h.counted.nodes; letters = ack-letters n epoch v.part });
-    admits = λ choice row b path at target.
+    admits = λ choice made met row b path at target.
         let c : FrontStageCounts k.stream w (stage.Waiting b) = counts-row row (stage.Waiting b) at in
         handed-limited (ours-at row (stage.Waiting b) at tt) row (serving b (front_rest p.rest).count []) path choice [] (here-serving b b (front_rest p.rest).count refl c.0) c.0.sound c.1 refl;
   }

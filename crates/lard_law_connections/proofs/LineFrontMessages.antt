@@ -48,7 +48,7 @@ module _ (env : FrontEnv) (p : FrontPart) (s : Stand) (h : RowStands s p.row) wh
     ends_again = λ n epoch last m row found away again. h;
     ends = λ n epoch last m row found away. let was : Counts s false 1 true = away-counts epoch row.stage away (subst (RowStands s) found h) in
         record { waits_is = was.waits_is; times = was.times; inside_is = refl };
-    admits = λ choice row b path at target. record { waits_is = refl; times = omega arith; inside_is = refl };
+    admits = λ choice made met row b path at target. record { waits_is = refl; times = omega arith; inside_is = refl };
   }
 
   pub rule-stands : (g : FrontGets) → IsNoSegment g → IsAsGiven env p g → DeedStands c s p (front_rule env p g)

@@ -389,7 +389,7 @@ module _ (k : Setting) (x : Conn) (at_place : IsPlaced x) (known : IsKnown x) (h
         assigns_next = λ n epoch ask m rest found there next. assigns-move rest n epoch ask (env.later ask);
         ends_again = λ n epoch last no row found away again. absurd no;
         ends = λ n epoch last no row found away. absurd no;
-        admits = λ choice row b path at target.
+        admits = λ choice made met row b path at target.
             let sits : StageSits row.epoch.0 own nodes (stage.Waiting b) = (of-stage (Sits own nodes) p row (stage.Waiting b) at at_place.sits).0 in
             handed-move row at.0 (held-in row (stage.Waiting b) at) (early-at x at_place row at.0 (stage.Waiting b) at.1) sits.1.1 none_ended
             (serving b (front_rest p.rest).count []) path choice [] tt;

@@ -122,7 +122,7 @@ module _ (k : Setting) (small : k.stream ≤ 2 ^ 30) (x : Conn) (number : IsConn
       assigns_next = λ n epoch ask m rest found there next keeps. (tt, (tag-goes _ n env.serve.c epoch ask.number _, tt));
       ends_again = λ n epoch last m row found away again keeps. (tt, (ack-goes _ n env.serve.c epoch, tt));
       ends = λ n epoch last m row found away keeps. (tt, (ack-goes _ n env.serve.c epoch, tt));
-      admits = λ choice row b path at target keeps.
+      admits = λ choice made met row b path at target keeps.
           handed-says k.files x number l.w l.out l.vs l.was_reset talk.stream
           (tale_before x (front_does x heads (hands_off env row (serving b (front_rest p.rest).count []) path choice [])))
           (told (hands_off env row (serving b (front_rest p.rest).count []) path choice [])) env row

@@ -71,7 +71,7 @@ module _ (p : FrontPart) (h : IsRowEarly p.row) where
     assigns_next = λ n epoch ask m rest found there next. h;
     ends_again = λ n epoch last m row found away again. tt;
     ends = λ n epoch last m row found away. let least = was-away epoch row.epoch.0 row.stage away (subst IsRowEarly found h) in omega (arith, least);
-    admits = λ choice row b path at target. goes-out row (early row (stage.Waiting b) at);
+    admits = λ choice made met row b path at target. goes-out row (early row (stage.Waiting b) at);
   }
 
   rule-early : (env : FrontEnv) (g : FrontGets) → IsAsGiven env p g → DeedEarly (front_rule env p g)

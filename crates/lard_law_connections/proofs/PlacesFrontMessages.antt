@@ -218,7 +218,7 @@ module _ (k : Setting) (x : Conn) (heads : List Seen) (quiet : IsQuiet x heads) 
     ends_again = λ m epoch last over row found away again. again-owes row m epoch found again;
     ends = λ m epoch last over row found away. with-node row found epoch row.stage refl away _
         (λ n there now offered. ends-owe-one row m n epoch last found there now over offered (find-row row found).1);
-    admits = λ choice row b path at target. placed-owes x heads quiet env is.number row (waits-home x held row b at) (front_rest p.rest)
+    admits = λ choice made met row b path at target. placed-owes x heads quiet env is.number row (waits-home x held row b at) (front_rest p.rest)
         (serving b (front_rest p.rest).count []) path (first.Go choice) tt;
   }
 

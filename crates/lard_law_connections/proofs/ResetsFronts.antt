@@ -112,7 +112,7 @@ module _ (k : Setting) (x : Conn) (sound_x : IsConnSound x) (h : IsBehindResets 
     ends = λ n epoch last m row found away.
         let said = has-each (record { from = Node n; to = Front; bytes = m.told.bytes }) (LetterEndsBehind was) x.letters m.told.was h.ends.letters in
         record { heads = seen; segments = tt; messages = ((tt, tt), tt); front = said _ m.told.spells };
-    admits = λ choice row b path at target. handed-behind row (serving b (front_rest p.rest).count []) path choice [];
+    admits = λ choice made met row b path at target. handed-behind row (serving b (front_rest p.rest).count []) path choice [];
   }
 
   -- whatever comes

@@ -1,6 +1,6 @@
 -- What the front end does with an endpoint keeps what each of its operations keeps.
 use Rattle.std.proofs.Common.{false, ◌≡◌, ℕ, true, List, [], ◌∷◌, Option, Some, None, Ok, IfSome, refl}
-use Rattle.lard_law_view.specs.Prelude.{Ask, Call, ControlBlock, Ending, Final, FirstChoice, FrontConn, FrontDeed, FrontEnv, FrontGets, FrontHears, FrontPart, FrontRest, FrontRow, FrontTurn, Place, Said, Service, Turn, front_admitted, front_asked, front_ended, front_fired, front_gets, front_rest, front_rule, front_taken, front_timer, is_plain_syn, is_row_at, last_words, leaves_by, listening, serving_settled, spoken, stage_after, tombstone}
+use Rattle.lard_law_view.specs.Prelude.{Call, ControlBlock, Ending, Final, FrontConn, FrontDeed, FrontEnv, FrontGets, FrontHears, FrontPart, FrontRest, FrontRow, Place, Said, Service, Turn, front_fired, front_rest, front_rule, is_plain_syn, is_row_at, last_words, leaves_by, listening, serving_settled, spoken, stage_after, tombstone}
 use Rattle.lard_law_connections.specs.SilencePlaces.{FrontHas, FrontStageHas, KnownHas}
 use Rattle.lard_law_connections.proofs.SilencePlaces.{front-known}
 use Rattle.lard_law_connections.proofs.SilenceTurns.{AreTold, EndHas, IsKept, TurnHas, fired-has, nobody, reads-keep, settled-has, spoken-has}
@@ -8,7 +8,7 @@ use Rattle.lard_dispatch.specs.Laws as call
 use Rattle.lard_rules.specs.Front.{Drops, Says, Does}
 use Rattle.lard_handoff_front.specs.declared.row.FrontConn.TheVariants as stage
 use Rattle.lard_rules.specs.declared.places.Ending.TheVariants as ending
-use Rattle.lard_rules.proofs.FrontCases.{IsAsGiven, KeptByFront, KeptBySegment, KeptByTimer, front-keeps, of-stage, begun_row, begun_service, heard_reading, heard_service, rests_in, waiting_service, segment-keeps, timer-keeps, taken-keeps, asked-keeps, ended-keeps, admitted-keeps}
+use Rattle.lard_rules.proofs.FrontCases.{IsAsGiven, KeptByFront, KeptBySegment, KeptByTimer, front-keeps, of-stage, begun_row, begun_service, heard_reading, heard_service, rests_in, waiting_service}
 
 -- what it keeps behind a deed, and what goes out: by the endpoint that stays, and else by some endpoint or by any
 abbrev pub DeedHas : (ControlBlock → Type 0) → (ControlBlock → Said → Type 0) → ℕ → FrontDeed → Type 0
@@ -101,7 +101,7 @@ module _ (env : FrontEnv) (P R : ControlBlock → Type 0) (Word : Said → Type 
     assigns_next = λ n epoch ask m rest found there next. (still-has R n epoch p.row there h, (nobody, tt));
     ends_again = λ n epoch last m row found away again d. tt;
     ends = λ n epoch last m row found away. (tt, (nobody, tt));
-    admits = λ choice row b path at target. (tt, (nobody, tt));
+    admits = λ choice made met row b path at target. (tt, (nobody, tt));
   }
 
   pub rule-has : (g : FrontGets) → IsAsGiven env p g → Given g → DeedHas R Reply env.serve.c (front_rule env p g)

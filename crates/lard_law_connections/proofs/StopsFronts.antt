@@ -157,7 +157,7 @@ module _ (env : FrontEnv) (p : FrontPart) (h : FrontStops env.serve.files p.row)
     assigns_next = λ n epoch ask m rest found there next. h;
     ends_again = λ n epoch last m row found away again. tt;
     ends = λ n epoch last m row found away. tt;
-    admits = λ choice row b path at target. tt;
+    admits = λ choice made met row b path at target. tt;
   }
 
   pub rule-stops : (g : FrontGets) → IsAsGiven env p g → Goes (front_rule env p g)

@@ -179,7 +179,7 @@ module _ (files : FilesAt) where
         );
         ends_again = λ n epoch last m row found none told. (tt, tt);
         ends = λ n epoch last m row found away. (tt, ((tt, (tt, tt)), tt));
-        admits = λ choice row b path at is. (tt, ((tt, (subst IsTarget is target, tt)), tt));
+        admits = λ choice made met row b path at is. (tt, ((tt, (subst IsTarget is target, tt)), tt));
       }
 
       pub front-fits : (g : FrontGets) → IsAsGiven env p g → ComesNamed g → DeedFits (front_rule env p g)

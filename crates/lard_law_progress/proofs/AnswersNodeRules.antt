@@ -17,7 +17,7 @@ use Rattle.lard_law_progress.proofs.AnswersNodeComing.{acknowledged-owes, conten
 use Rattle.lard_law_progress.proofs.AnswersNodeForward.{forwarded-owes}
 use Rattle.lard_law_progress.proofs.AnswersNodeGiven.{NodeGiven}
 use Rattle.lard_law_progress.proofs.AnswersNodeOffer.{offered-owes}
-use Rattle.lard_law_progress.proofs.Lasting.{node-heads}
+use Rattle.lard_law_view.proofs.Deeds.{node-heads}
 
 -- ---- a Fetch
 

@@ -17,6 +17,7 @@ use Rattle.lard_law_progress.proofs.Less.{idles, lasts}
 use Rattle.lard_law_progress.proofs.NodeMessages.{IsExpected, rule-lasts}
 use Rattle.lard_law_progress.proofs.Placing.{IsAwaited, front-lasts}
 use Rattle.lard_law_progress.proofs.Seating.{FrontLasts, NodeLasts}
+use Rattle.lard_law_view.proofs.Deeds.{front-heads, node-heads}
 
 -- ---- a move, by its client
 
@@ -37,22 +38,6 @@ by-station k w x v same h = go x.part.station refl where
   go (Some st) at = h st at
 
 -- ---- what comes is warm
-
--- whatever a deed is, its heads stand first, and it is at its place
-pub front-heads : (x : Conn) (heads : List Seen) (d : front.FrontDeed) → (front_does x heads d).heads ≡ heads
-front-heads x heads front.Drops = refl
-front-heads x heads (front.Says turn) = refl
-front-heads x heads (front.Does did) = refl
-
-pub node-heads : (x : Conn) (n : ℕ) (heads : List Seen) (d : node.NodeDeed) → (node_does x n heads d).heads ≡ heads
-node-heads x n heads node.Drops = refl
-node-heads x n heads (node.Says messages) = refl
-node-heads x n heads (node.Does given) = refl
-
-pub node-place : (x : Conn) (n : ℕ) (heads : List Seen) (d : node.NodeDeed) → (node_does x n heads d).place ≡ Node n
-node-place x n heads node.Drops = refl
-node-place x n heads (node.Says messages) = refl
-node-place x n heads (node.Does given) = refl
 
 came-by : (x : Conn) {heads hs : List Seen} → heads ≡ hs → IfCame (IsWarm x) (came_in heads) → IfCame (IsWarm x) (came_in hs)
 came-by x same h = subst (λ (ss : List Seen). IfCame (IsWarm x) (came_in ss)) same h

@@ -19,9 +19,10 @@ use Rattle.lard_law_progress.proofs.AnswersIgnored.{IsUnwanted, client-ignores, 
 use Rattle.lard_law_progress.proofs.AnswersNodeGiven.{NodeGiven}
 use Rattle.lard_law_progress.proofs.AnswersNodeJobs.{JobOwes, brings-works, read-works}
 use Rattle.lard_law_progress.proofs.AnswersNodeRules.{node-answers}
-use Rattle.lard_law_progress.proofs.FirstSeen.{by-front-seen, by-node-seen}
+use Rattle.lard_law_view.proofs.FirstSeen.{by-front-seen, by-node-seen}
 use Rattle.lard_law_progress.proofs.Given.{AreInner, Given, Owed}
-use Rattle.lard_law_progress.proofs.Lasting.{front-heads, node-heads, node-place, rules-last}
+use Rattle.lard_law_progress.proofs.Lasting.{rules-last}
+use Rattle.lard_law_view.proofs.Deeds.{front-heads, node-heads, node-place}
 
 -- ---- what is given
 

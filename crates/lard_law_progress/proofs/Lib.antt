@@ -1,5 +1,3 @@
-pub mod FirstSeen
-pub mod FrontReads
 pub mod Less
 pub mod Stays
 pub mod Coming

@@ -156,7 +156,7 @@ module _ (w : Whole) (K : ℕ) (files : FilesAt) (p : Part) (st : Station) where
       assigns_next = λ n epoch ask m rest found there next. assigned-lasts w K files p st env n epoch ask rest found;
       ends_again = λ n epoch last m row found away again. tt;
       ends = λ n epoch last gone row found away. ended-lasts w K files p st env n epoch last row (gone row found away);
-      admits = λ choice row b path at target behind. admits w K files p st row b at.0 at.1 known env choice path (subst (IsFresh p.nodes) at.0 fresh);
+      admits = λ choice made met row b path at target behind. admits w K files p st row b at.0 at.1 known env choice path (subst (IsFresh p.nodes) at.0 fresh);
     }
 
     pub front-lasts : (g : FrontGets) → IsAsGiven env p.front g → IsAwaited g → Owes (front_rule env p.front g)

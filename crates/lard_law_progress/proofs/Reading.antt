@@ -3,7 +3,7 @@
 use Rattle.std.proofs.Common.{◌≡◌, ◌⊎◌, ◌<◌, ◌≤◌, ℕ, true, false, List, is_some, Option, None, inl, inr, ⊎_elim, refl, sym, ap, ◌∙◌, arith}
 use Rattle.lard_law_view.specs.Prelude.{Sending, ServeEnv, Service, Verdict, answer, answered, ended_at_fin, front_reads, may_freeze, queueing, serving_consumed}
 use Rattle.lard_base.specs.declared.place.Via.TheVariants.{Own}
-use Rattle.lard_law_progress.proofs.FrontReads.{reading-keeps}
+use Rattle.lard_rules.proofs.FrontReads.{reading-keeps}
 use Rattle.lard_law_progress.proofs.Stays.{IsAlike, alike-self, alike-then, behind, may-parts, wider}
 use Rattle.lard_rules.proofs.Endings.{answered-keeps, at-fin-keeps}
 

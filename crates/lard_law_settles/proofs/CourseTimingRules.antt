@@ -14,8 +14,8 @@ use Rattle.lard_law_settles.proofs.CourseRenewing.{Renews}
 use Rattle.lard_law_settles.proofs.CourseTiming.{front-begins, node-begins}
 use Rattle.lard_law_settles.proofs.CourseTimingClients.{IsTimed, client-begins}
 use Rattle.lard_law_settles.proofs.CourseTimingHeld.{IsSpeaking, held-begins, here-begins, waits-clear}
-use Rattle.lard_law_progress.proofs.FirstSeen.{by-front-seen, by-node-seen}
-use Rattle.lard_law_progress.proofs.Lasting.{front-heads, node-heads}
+use Rattle.lard_law_view.proofs.FirstSeen.{by-front-seen, by-node-seen}
+use Rattle.lard_law_view.proofs.Deeds.{front-heads, node-heads}
 
 -- What is known of a connection within a settle, whose client opened.
 pub record KnowsTimers (k : Setting) (x : Conn) (st : Station) : Type 0 where

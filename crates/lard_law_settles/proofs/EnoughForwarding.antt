@@ -112,7 +112,7 @@ module _ (env : FrontEnv) (W : List ℕ → Type 0) where
       assigns_next = λ n epoch ask m rest found there next. record { segments = tt; messages = ((n, epoch, _, refl, tt), tt) };
       ends_again = λ n epoch last m row found away again. one-said n epoch body.EndedAck tt;
       ends = λ n epoch last m row found away. record { segments = tt; messages = ((n, epoch, body.EndedAck, refl, tt), tt) };
-      admits = λ choice row b path at target. record { segments = tt; messages = ((choice.node, _, _, refl, tt), tt) };
+      admits = λ choice made met row b path at target. record { segments = tt; messages = ((choice.node, _, _, refl, tt), tt) };
     }
 
     pub rule-has : Each (IsOffer c) p.kept → (g : FrontGets) → IsAsGiven env p g → IsWith W g → HasDeed (front_rule env p g)

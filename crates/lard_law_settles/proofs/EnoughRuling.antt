@@ -5,12 +5,11 @@ use Rattle.lard_law_view.proofs.EachNode.{aside_said, aside_seen, each-node, nod
 use Rattle.lard_law_view.proofs.Steps.{IsShown, step_comes}
 use Rattle.lard_history.proofs.Each.{Each-weaker}
 use Rattle.lard_journal.specs.declared.rec.Rec.TheVariants as rec
-use Rattle.lard_law_progress.proofs.Lasting.{node-place}
 use Rattle.lard_law_progress.proofs.Given.{IsRounds, IsRoundsSeen, rounds-rule}
 use Rattle.lard_law_settles.proofs.EnoughWarming.{Warms}
 use Rattle.lard_law_settles.proofs.EnoughWording.{First, IsCalmConn, Second, WarmsOwed, clients-warm, fronts-warm, node-warms, silent-warms}
-use Rattle.lard_law_settles.proofs.SettlesLate.{node-station}
 use Rattle.lard_law_view.proofs.Deliveries.{IsHead}
+use Rattle.lard_law_view.proofs.Deeds.{node-place, node-station}
 
 nodes-warm : (k : Setting) → NodeRules k WarmsOwed
 nodes-warm k = each-node k WarmsOwed (record {

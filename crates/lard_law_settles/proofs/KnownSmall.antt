@@ -15,7 +15,7 @@ use Rattle.lard_rules.specs.Front.{Does, Drops, Says}
 use Rattle.lard_handoff_front.specs.declared.row.FrontConn.TheVariants as stage
 use Rattle.lard_rules.specs.Node as node
 use Rattle.lard_rules.specs.declared.places.Ending.TheVariants as ending
-use Rattle.lard_law_progress.proofs.FrontReads.{reading-keeps}
+use Rattle.lard_rules.proofs.FrontReads.{reading-keeps}
 use Rattle.lard_rules.proofs.Endings.{answered-keeps, at-fin-keeps}
 use Rattle.lard_rules.proofs.Reading.{answered-unread}
 use Rattle.lard_rules.proofs.FrontCases.{KeptByFront, KeptBySegment, IsInStage, begun_row, begun_service, front-keeps, heard_reading, heard_service, waiting_service}
@@ -120,7 +120,7 @@ module _ (p : FrontPart) (few : (row : FrontRow) → p.row ≡ Some row → Stag
     assigns_next = λ n epoch ask m rest found there next. subst (λ (o : Option FrontRest). RowSmall (front_rest o).count p.row) found small;
     ends_again = λ n epoch last m row found away again. tt;
     ends = λ n epoch last m row found away. tt;
-    admits = λ choice row b path at target. let few-here : (front_rest p.rest).count ≤ 2 ^ 30 = few-at row (stage.Waiting b) at in omega (arith, few-here);
+    admits = λ choice made met row b path at target. let few-here : (front_rest p.rest).count ≤ 2 ^ 30 = few-at row (stage.Waiting b) at in omega (arith, few-here);
   }
 
 -- ---- what the law of bytes says of what the front end has

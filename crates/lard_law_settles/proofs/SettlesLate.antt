@@ -15,8 +15,9 @@ use Rattle.lard_law_view.proofs.Carried.{carried}
 use Rattle.lard_rules.specs.Front as front
 use Rattle.lard_history.proofs.Each.{Each, Each-append}
 use Rattle.lard_rules.specs.Node as node
-use Rattle.lard_law_progress.proofs.FirstSeen.{by-front-seen}
+use Rattle.lard_law_view.proofs.FirstSeen.{by-front-seen}
 use Rattle.lard_law_settles.proofs.SettlesKeeping.{HasClient, IsThere}
+use Rattle.lard_law_view.proofs.Deeds.{front-station, node-station}
 
 -- ---- what there may be before a client opens
 
@@ -63,16 +64,6 @@ stays-late x v part sent late none =
       nodes = λ n. ap (λ (p : Part). p.nodes n) part ∙ u.nodes n;
       letters = Each-append IsAmongNodes x.letters (letters_of v) u.letters sent;
     }
-
-front-station : (x : Conn) (heads : List Seen) (d : front.FrontDeed) → (front_does x heads d).part.station ≡ x.part.station
-front-station x heads front.Drops = refl
-front-station x heads (front.Says turn) = refl
-front-station x heads (front.Does did) = refl
-
-pub node-station : (x : Conn) (n : ℕ) (heads : List Seen) (d : node.NodeDeed) → (node_does x n heads d).part.station ≡ x.part.station
-node-station x n heads node.Drops = refl
-node-station x n heads (node.Says messages) = refl
-node-station x n heads (node.Does given) = refl
 
 abbrev Anything : Conn → Type 0
 Anything x = Unit {0}

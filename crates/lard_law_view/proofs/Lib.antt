@@ -92,6 +92,8 @@ pub mod Rows
 pub mod Acts
 pub mod Frames
 pub mod EachNode
+pub mod Deeds
+pub mod FirstSeen
 pub mod RecordKinds
 pub mod OfKinds
 pub mod NodeHeads

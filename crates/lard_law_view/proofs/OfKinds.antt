@@ -10,19 +10,12 @@ use Rattle.lard_base.specs.declared.event.Event.TheVariants as event
 use Rattle.lard_history.proofs.Each.{Each, Each-append, Each-weaker}
 use Rattle.lard_journal.specs.declared.rec.Rec.TheVariants as rec
 use Rattle.lard_law_view.proofs.Fine.{IsItsOwn}
-use Rattle.lard_law_view.proofs.RecordKinds.{IsByMachine, IsElsewhere, IsNoNode, IsNote, IsOfPlace, IsOuter, IsUnsent, Kind, OfFront, Serving, Written, any-kind, else-kind, kind_of, machine-kind}
+use Rattle.lard_law_view.proofs.RecordKinds.{IsByMachine, IsElsewhere, IsNote, IsOuter, IsUnsent, any-kind, else-kind, kind_of, machine-kind}
 use Rattle.lard_law_view.proofs.OwnRecords.{behind}
-use Rattle.lard_law_view.proofs.Saying.{GaveAt, NamesAll, NotedAt, note-kind}
+use Rattle.lard_law_view.proofs.Saying.{GaveAt, NotedAt, note-kind}
 use Rattle.lard_law_view.proofs.Timers.{IsTimerAt, timer_rows-are}
 
 -- ---- notes, by where they are noted
-
-no_node-kind : (place : Place) (k : Kind) → NamesAll place → IsOfPlace place k → IsNoNode k
-no_node-kind (Node n) k names h = absurd names
-no_node-kind (Client d) Written names h = tt
-no_node-kind Front Serving names h = tt
-no_node-kind Front OfFront names h = tt
-no_node-kind _ _ names h = absurd h
 
 module _ (place : Place) (c : ℕ) (r : Rec) (h : NotedAt place c r) where
   pub noted : IsNote r
@@ -33,9 +26,6 @@ module _ (place : Place) (c : ℕ) (r : Rec) (h : NotedAt place c r) where
 
   pub elsewhere : (place ≡ Front → ⊥) → IsElsewhere (kind_of r)
   elsewhere n = else-kind place (kind_of r) n (note-kind place c r h)
-
-  pub by-no-node : NamesAll place → IsNoNode (kind_of r)
-  by-no-node names = no_node-kind place (kind_of r) names (note-kind place c r h)
 
 -- ---- all records of a kind
 

@@ -69,13 +69,6 @@ IsElsewhere Serving = Unit {0}
 IsElsewhere OfNode = Unit {0}
 IsElsewhere _ = ⊥
 
--- what another place than a node notes
-abbrev pub IsNoNode : Kind → Type 0
-IsNoNode Written = Unit {0}
-IsNoNode Serving = Unit {0}
-IsNoNode OfFront = Unit {0}
-IsNoNode _ = ⊥
-
 -- ---- records
 
 abbrev pub IsNote : Rec → Type 0

@@ -358,7 +358,7 @@ module _ (k : Setting) (small : k.stream ≤ 2 ^ 30) (x : Conn) (sound_x : IsCon
           let v : Move = front_does x heads (Does (front_ends env p n epoch last row (next_epoch row))) in
           let told = (has-each (LetterActs x.c bounds x.part) (record { from = Node n; to = Front; bytes = m.told.bytes }) x.letters m.told.was h.packets) _ m.told.spells in
           idle-acts x v bounds (record { front = new-end (EndActs bounds (ending.Over last)) x at_place epoch told row found away; nodes = h.nodes; letters = ack-letters n epoch v.part });
-      admits = λ choice row b path at target.
+      admits = λ choice made met row b path at target.
           handed-act (ours-at row (stage.Waiting b) at tt) row (serving b (front_rest p.rest).count []) path choice [] (goes-waiting row b at);
     }
 

@@ -8,8 +8,7 @@ use Rattle.lard_laws.specs.AcksLaws.{ConnectionsAckWhatWasTaken}
 use Rattle.lard_laws.proofs.AcksClients.{Keeps, clients}
 use Rattle.lard_laws.proofs.AcksFronts as fronts_of
 use Rattle.lard_laws.proofs.AcksNodes.{rule-act}
-use Rattle.lard_laws.proofs.FrontComing.{front-heads, front-station}
-use Rattle.lard_laws.proofs.NodeDeeds.{aside-letters, node-heads, node-station}
+use Rattle.lard_laws.proofs.NodeDeeds.{aside-letters}
 use Rattle.lard_law_view.proofs.NodeHeads.{of-aside, of-heads}
 use Rattle.lard_laws.proofs.AcksTurns.{PlaceActs, idle-acts, place-keeps}
 use Rattle.lard_law_connections.specs.BytesAgreement.{IsOpen, IsTruthful}
@@ -29,6 +28,7 @@ use Rattle.lard_history.proofs.Each.{Each}
 use Rattle.lard_law_view.proofs.Acked.{taken_by}
 use Rattle.lard_law_view.proofs.Story.{story_seen}
 use Rattle.lard_rules.specs.Node as node
+use Rattle.lard_law_view.proofs.Deeds.{front-heads, front-station, node-heads, node-station}
 
 -- ---- what is seen first
 

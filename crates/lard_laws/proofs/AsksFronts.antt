@@ -151,7 +151,7 @@ module _ (k : Setting) (x : Conn) (told : Told x) (known : IsKnown x) (heads : L
     assigns_next = λ n epoch ask m. absurd m;
     ends_again = λ n epoch last m row found away again. says-answers (front_saying (ack_sent env n epoch)) refl tt (ack-none n epoch);
     ends = λ n epoch last m row found away. turn-answers _ (front_ends env p n epoch last row (next_epoch row)).turn (tt, (tt, tt)) tt (ack-none n epoch) tt;
-    admits = λ choice row b path at target. handed-answers row (serving b (front_rest p.rest).count []) path choice [] tt;
+    admits = λ choice made met row b path at target. handed-answers row (serving b (front_rest p.rest).count []) path choice [] tt;
   }
 
   pub rule-answers : (g : FrontGets) → IsAsGiven env p g → IsNoAsk g → Goes (front_rule env p g)

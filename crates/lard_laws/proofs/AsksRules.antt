@@ -1,7 +1,7 @@
 -- Each rule keeps what is known of the last Ask, and answers as it must.
 use Rattle.std.proofs.Common.{◌≡◌, ◌≤◌, ℕ, List, [], ◌∷◌, ◌++◌, length, map, None, Result, Ok, Err, refl, sym, ap, ◌∙◌, subst, arith}
 use Rattle.std.specs.List.{fold}
-use Rattle.lard_law_view.specs.Prelude.{Ask, AskedBy, Body, Client, ClientBlock, ClientRules, Conn, EndedBy, Front, FrontAdmits, FrontEnv, FrontFires, FrontGets, FrontHears, FrontPart, IsForFront, IsFrontEnv, IsOfTable, IsUnheard, Message, Move, MsgFault, Node, Place, Rec, Rules, Seen, Setting, SpellsMessage, Station, TakenBy, Turn, ask_of, client_begins, client_does, client_injects, client_opens, client_rule, decoded_message, event_seen, front_asked, front_does, front_rule, grown, inject_seen, kind_of, listed, node_does, nothing_said, packet_seen, stands}
+use Rattle.lard_law_view.specs.Prelude.{Ask, AskedBy, Body, Client, ClientBlock, ClientRules, Conn, EndedBy, Front, FrontEnv, FrontGets, FrontPart, IsForFront, IsFrontEnv, IsOfTable, IsUnheard, Message, Move, MsgFault, Node, Place, Rec, Rules, Seen, Setting, SpellsMessage, Station, TakenBy, Turn, ask_of, client_begins, client_does, client_injects, client_opens, client_rule, decoded_message, event_seen, front_asked, front_does, front_rule, grown, inject_seen, kind_of, listed, node_does, nothing_said, packet_seen, stands}
 use Rattle.lard_law_view.proofs.EachClient.{each-client, of-client}
 use Rattle.lard_law_view.proofs.EachFront.{FrontComes, admission, each-front, of-front}
 use Rattle.lard_law_view.proofs.EachNode.{aside_said, aside_seen, each-node, job_notes, told_first}

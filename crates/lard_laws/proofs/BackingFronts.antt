@@ -26,8 +26,9 @@ use Rattle.lard_law_connections.proofs.BytesClientMoves.{open-at}
 use Rattle.lard_law_connections.proofs.BytesFrontMessages.{opened-at}
 use Rattle.lard_law_connections.proofs.BytesFrontMoves.{talk-of}
 use Rattle.lard_law_view.proofs.EachFront.{FrontComes, admission}
-use Rattle.lard_laws.proofs.FrontComing.{front-place, heard-word}
+use Rattle.lard_laws.proofs.FrontComing.{heard-word}
 use Rattle.lard_rules.proofs.FrontCases.{IsInStage, KeptByFront, KeptBySegment, front-keeps, hands_off, heard_reading, of-stage}
+use Rattle.lard_law_view.proofs.Deeds.{front-place}
 
 -- ---- notes
 
@@ -204,7 +205,7 @@ module _ (k : Setting) (small : k.stream ≤ 2 ^ 30) (x : Conn) (truth : IsTruth
         over-backs files env.serve.c m (env.later ask).over _ (later-backs files env.serve.c ask m (row-some n epoch p.row there g.seat) rest.assigned ask.paths (env.later ask).choices);
     ends_again = λ n epoch last c row found away again noted g. tt;
     ends = λ n epoch last c row found away noted g. (tt, (tt, tt));
-    admits = λ choice row b path at target.
+    admits = λ choice made met row b path at target.
         let opened = opened-at k.files x truth (λ u. let no : Some row ≡ None = sym at.0 ∙ u.front in absurd cc) in
         admits-backs opened.0 opened.1 row b path at target choice;
   }

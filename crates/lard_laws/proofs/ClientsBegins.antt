@@ -19,14 +19,14 @@ use Rattle.lard_law_view.proofs.Parts.{put-each}
 use Rattle.lard_law_view.proofs.Saying.{AreMessages}
 use Rattle.lard_laws.specs.ClientsFirsts.{AllHaveFirst, FirstOn, GreetsBy, HasFirstOn, HasOneFirst, IssIs, LetterHasFirst}
 use Rattle.lard_laws.specs.Windows.{AnyBlock}
-use Rattle.lard_laws.proofs.FrontComing.{front-station}
 use Rattle.lard_laws.proofs.ClientsFirsts.{client-first, first-kept, forward-tells, front-first, front-tells, node-first, told-first, words-greet}
 use Rattle.lard_laws.proofs.ClientsTelling as telling
 use Rattle.lard_laws.proofs.ClientsTelling.{AllTell, DeedTells}
-use Rattle.lard_laws.proofs.NodeDeeds.{aside-letters, node-station}
+use Rattle.lard_laws.proofs.NodeDeeds.{aside-letters}
 use Rattle.lard_message.specs.declared.message.Body.TheVariants as body
 use Rattle.lard_rules.specs.Front as front
 use Rattle.lard_rules.specs.Node as node
+use Rattle.lard_law_view.proofs.Deeds.{front-station, node-station}
 
 -- no other law is needed
 abbrev Nothing : Conn → Type 0

@@ -52,7 +52,7 @@ module _ (Tells : Place → List ℕ → Type 0) where
       assigns_next = λ n epoch ask m rest found there next. (t.tags n epoch ask.number _, tt);
       ends_again = λ n epoch last m row found away again. (t.acks n epoch, tt);
       ends = λ n epoch last m row found away. (t.acks n epoch, tt);
-      admits = λ choice row b path at target. (t.offers choice.node (row.epoch.0 + 1) (front_rest p.rest).count b (of-stage (FrontHas P) p row (stage.Waiting b) at h), tt);
+      admits = λ choice made met row b path at target. (t.offers choice.node (row.epoch.0 + 1) (front_rest p.rest).count b (of-stage (FrontHas P) p row (stage.Waiting b) at h), tt);
     }
 
     pub rule-tells : (g : FrontGets) → IsAsGiven env p g → Given g → DeedTells (front_rule env p g)

@@ -20,14 +20,13 @@ use Rattle.lard_law_view.proofs.Carried.{carried, reached-viewed}
 use Rattle.lard_law_view.proofs.Parts.{put-each}
 use Rattle.lard_laws.specs.Due.{IsContentFor, IsTagFor}
 use Rattle.lard_laws.specs.DueAnswers.{AwaitsAnswers, ConnectionsAwaitAnswers, PartIsOut}
-use Rattle.lard_laws.proofs.FrontComing.{front-heads}
-use Rattle.lard_laws.proofs.NodeDeeds.{node-heads, node-place}
 use Rattle.lard_laws.proofs.DueAnswersMoves.{AllCalm, NoneCome, calm-part, message-seen, move-none}
 use Rattle.lard_laws.proofs.DueAnswersNodes.{AreSeen, acknowledged-out, content-out, forwarded-out, messages_of, offered-out, part_behind, read-out, tagged-out, timer-out}
 use Rattle.lard_laws.proofs.StepsLinking.{settings-stay}
 use Rattle.lard_message.specs.declared.message.Body.TheVariants as body
 use Rattle.lard_rules.specs.Front as front
 use Rattle.lard_rules.specs.Node as node
+use Rattle.lard_law_view.proofs.Deeds.{front-heads, node-heads, node-place}
 
 -- what is kept, and where it is; a node that is not there keeps nothing
 record Known (k : Setting) (x : Conn) : Type 0 where

@@ -145,7 +145,7 @@ module _ (env : FrontEnv) (most : env.serve.stream ≤ 2 ^ 30) (x : Conn) (at_pl
     assigns_next = λ n epoch ask m rest found there next. told.front;
     ends_again = λ n epoch last m row found away again. tt;
     ends = λ n epoch last m. new-end (P last) x at_place epoch ((has-each (LetterEnds P q.row) (record { from = Node n; to = Front; bytes = m.told.bytes }) x.letters m.told.was told.packets) _ m.told.spells);
-    admits = λ choice row b path at target. tt;
+    admits = λ choice made met row b path at target. tt;
   }
 
   pub rule-ends : (g : FrontGets) → FrontComes x env heads g → PlaceEnds x (front_does x heads (front_rule env q g)) P

@@ -2,8 +2,6 @@
 use Rattle.std.proofs.Common.{◌≡◌, ◌≤◌, ◌^◌, ℕ, false, List, [], ◌∷◌, Some, refl, sym, ap, ◌∙◌, subst}
 use Rattle.std.specs.List.{fold}
 use Rattle.lard_law_view.specs.Prelude.{Conn, FilesAt, Final, FrontRules, IsMachine, IsNodeEnv, IsUntouchedLaw, MayRestOn, Move, Node, NodeEnv, NodeRules, Place, Seen, Setting, Station, Stream, TurnSaid as SaidIn, Untouched, UntouchedRules, brought_said, content_said, file_at, front_does, grown, letters_of, node_does, nothing_said, packet_seen, seen_step, setting, stands, tale_at, tale_step}
-use Rattle.lard_laws.proofs.FrontComing.{front-heads, front-station}
-use Rattle.lard_laws.proofs.NodeDeeds.{node-heads, node-station}
 use Rattle.lard_law_connections.specs.BytesAgreement.{IsOpen, IsTruthful}
 use Rattle.lard_law_connections.proofs.BytesClientMoves.{open-at}
 use Rattle.lard_law_connections.proofs.BytesRuns.{states-truthful}
@@ -30,6 +28,7 @@ use Rattle.lard_rules.specs.Front as front
 use Rattle.lard_history.proofs.Each.{Each}
 use Rattle.lard_journal.specs.declared.rec.Rec.TheVariants as rec
 use Rattle.lard_rules.specs.Node as node
+use Rattle.lard_law_view.proofs.Deeds.{front-heads, front-station, node-heads, node-station}
 
 -- ---- what a place's move leaves alone
 

@@ -1,7 +1,7 @@
 -- What comes to the front end, once for the laws of this crate: a segment is a word of the client's, the cluster begins with the number that it was
--- given, and an end that it does not know yet is told truly; and what its move leaves alone.
-use Rattle.std.proofs.Common.{◌≡◌, ◌⊎◌, ◌<◌, ℕ, true, false, List, Some, Result, Ok, ⊎_elim, refl, sym, ap, ◌∙◌, subst, arith, eqb-true}
-use Rattle.lard_law_view.specs.Prelude.{Client, Conn, FilesAt, Front, FrontConn, FrontDeed, FrontEnv, FrontRow, IsWord, Said, Seen, SegFault, Station, Talk, ToCluster, Verdict, decoded, front_does, is_away, tale_at}
+-- given, and an end that it does not know yet is told truly.
+use Rattle.std.proofs.Common.{◌≡◌, ◌⊎◌, ◌<◌, ℕ, true, false, List, Some, Result, Ok, ⊎_elim, sym, ap, ◌∙◌, subst, arith, eqb-true}
+use Rattle.lard_law_view.specs.Prelude.{Client, Conn, FilesAt, Front, FrontConn, FrontEnv, FrontRow, IsWord, Said, Seen, SegFault, Station, Talk, ToCluster, Verdict, decoded, is_away, tale_at}
 use Rattle.lard_law_connections.specs.BytesAgreement.{IsFair, IsFairOn, IsOpen}
 use Rattle.lard_law_connections.proofs.BytesClientMoves.{has-fair}
 use Rattle.lard_law_connections.specs.Places.{HasEnded, Sits, StageSits, owning}
@@ -9,7 +9,6 @@ use Rattle.lard_law_connections.proofs.PlacesTurns.{IsPlaced}
 use Rattle.lard_handoff_front.specs.declared.row.FrontConn.TheVariants as stage
 use Rattle.lard_law_view.proofs.EachFront.{HasSegment}
 use Rattle.lard_laws.proofs.NodeDeeds.{same-said}
-use Rattle.lard_rules.specs.Front.{Drops, Says, Does}
 use Rattle.lard_segment.proofs.Again.{again}
 
 module _ (x : Conn) (s : Station) (env : FrontEnv) (bytes : List ℕ) (heads : List Seen) where
@@ -41,20 +40,3 @@ new-end A x at epoch told row found away =
     (λ (e : HasEnded epoch x.part.front.row).
     absurd (let less : epoch < row.epoch.0 = subst (HasEnded epoch) found e in omega (arith, less, same)))
     (λ (a : A). a) told
-
--- ---- what its move leaves alone
-
-pub front-heads : (x : Conn) (heads : List Seen) (d : FrontDeed) → (front_does x heads d).heads ≡ heads
-front-heads x heads Drops = refl
-front-heads x heads (Says turn) = refl
-front-heads x heads (Does did) = refl
-
-pub front-station : (x : Conn) (heads : List Seen) (d : FrontDeed) → (front_does x heads d).part.station ≡ x.part.station
-front-station x heads Drops = refl
-front-station x heads (Says turn) = refl
-front-station x heads (Does did) = refl
-
-pub front-place : (x : Conn) (heads : List Seen) (d : FrontDeed) → (front_does x heads d).place ≡ Front
-front-place x heads Drops = refl
-front-place x heads (Says turn) = refl
-front-place x heads (Does did) = refl

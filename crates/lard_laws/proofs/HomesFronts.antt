@@ -68,7 +68,7 @@ module _ (nodes : ℕ → NodePart) (p : FrontPart) where
       assigns_next = λ n epoch ask m rest found there next. h;
       ends_again = λ n epoch last m row found away again. tt;
       ends = λ n epoch last m row found away. was-away epoch row.ended_by row.stage away (at-stage row row.stage (found, refl));
-      admits = λ choice row b path at target. goes-out row (at-stage row (stage.Waiting b) at) choice.node (next_epoch row) None;
+      admits = λ choice made met row b path at target. goes-out row (at-stage row (stage.Waiting b) at) choice.node (next_epoch row) None;
     }
 
     -- whatever comes

@@ -1,13 +1,12 @@
 -- What the laws of this crate say of every rule of a node at once: what comes, what it tells again, and what it says aside for another one.
-use Rattle.std.proofs.Common.{◌≡◌, ℕ, List, [], ◌∷◌, ◌++◌, map, Result, Ok, refl, sym, ap, ◌∙◌, subst}
-use Rattle.lard_law_view.specs.Prelude.{AreSent, Conn, FilesAt, Front, IsConnSound, IsWord, Kept, Letter, Node, NodeDeed, Said, Seen, SegFault, Setting, Station, Talk, ToCluster, Verdict, again_sent, decoded, letter, letters_of, node_does, sent_of, stands}
+use Rattle.std.proofs.Common.{◌≡◌, ℕ, List, [], ◌∷◌, ◌++◌, map, Result, Ok, sym, ap, ◌∙◌, subst}
+use Rattle.lard_law_view.specs.Prelude.{AreSent, Conn, FilesAt, Front, IsConnSound, IsWord, Kept, Letter, Node, Said, Seen, SegFault, Setting, Station, Talk, ToCluster, Verdict, again_sent, decoded, letter, letters_of, sent_of, stands}
 use Rattle.lard_history.proofs.Each.{Each}
 use Rattle.lard_law_connections.specs.BytesAgreement.{FrontTells, IsFair, IsOpen}
 use Rattle.lard_law_connections.proofs.BytesClientMoves.{has-fair}
 use Rattle.lard_law_connections.proofs.PlacesFrontRules.{has-each}
 use Rattle.lard_law_view.proofs.EachNode.{Aside, Answers, Queues, Brings, HasForwarded, aside_said, aside_seen}
 use Rattle.lard_message.specs.declared.message.Body.TheVariants as body
-use Rattle.lard_rules.specs.Node.{Drops, Says, Does}
 use Rattle.lard_segment.proofs.Again.{again}
 
 -- ---- what comes
@@ -46,20 +45,3 @@ again-letters P x sound all n = told ((x.part.nodes n).kept ++ (x.part.nodes n).
       told : (ks : List Kept) → AreSent x (Node n) ks → Each P (map (letter (Node n)) (map sent_of ks))
       told [] sent = tt
       told (q ∷ ks) sent = (has-each P (record { from = Node n; to = q.to; bytes = q.bytes }) x.letters sent.0.1 all, told ks sent.1)
-
--- ---- what its move leaves alone
-
-pub node-heads : (x : Conn) (n : ℕ) (heads : List Seen) (d : NodeDeed) → (node_does x n heads d).heads ≡ heads
-node-heads x n heads Drops = refl
-node-heads x n heads (Says messages) = refl
-node-heads x n heads (Does given) = refl
-
-pub node-station : (x : Conn) (n : ℕ) (heads : List Seen) (d : NodeDeed) → (node_does x n heads d).part.station ≡ x.part.station
-node-station x n heads Drops = refl
-node-station x n heads (Says messages) = refl
-node-station x n heads (Does given) = refl
-
-pub node-place : (x : Conn) (n : ℕ) (heads : List Seen) (d : NodeDeed) → (node_does x n heads d).place ≡ Node n
-node-place x n heads Drops = refl
-node-place x n heads (Says messages) = refl
-node-place x n heads (Does given) = refl

@@ -150,7 +150,7 @@ module _ (N : ℕ → Type 0) (files : FilesAt) (x : Conn) (facts : Facts files 
       ends_again = λ n epoch last m row found away again fills names. tt;
       ends = λ n epoch last m row found away fills names.
           ((λ r is. let no : None ≡ Some r = is in absurd cc), at-none (front_ends env p n epoch last row (next_epoch row)).part (λ m e is. let no : false ≡ true = is in absurd cc));
-      admits = λ choice row b path at target fills names. offering-fits env row (serving b (front_rest p.rest).count []) path choice.node row.epoch.0 (past-waiting row b at);
+      admits = λ choice made met row b path at target fills names. offering-fits env row (serving b (front_rest p.rest).count []) path choice.node row.epoch.0 (past-waiting row b at);
     }
 
     front-move : (d : FrontDeed) → DeedFits d → NamesNodes N files (grown x (front_does x heads d))

@@ -5,7 +5,6 @@ use Rattle.lard_law_view.proofs.EachFront.{each-front, of-front}
 use Rattle.lard_law_view.proofs.EachClient.{client_goes, each-client, of-client}
 use Rattle.lard_law_view.proofs.EachNode.{Answers, Aside, Brings, NodeComes, Queues, aside_said, aside_seen, each-node, node_goes}
 use Rattle.lard_law_view.proofs.NodeHeads.{of-aside, of-heads}
-use Rattle.lard_laws.proofs.NodeDeeds.{node-heads, node-place}
 use Rattle.lard_rules.proofs.NodeCases.{IsInItsEpoch}
 use Rattle.lard_law_view.specs.View.{sending}
 use Rattle.lard_law_view.proofs.Carried.{carried}
@@ -26,6 +25,7 @@ use Rattle.lard_message.specs.declared.message.Body.TheVariants as body
 use Rattle.lard_rules.specs.Node as node
 use Rattle.lard_law_view.proofs.OfKinds.{rest_of, rest-outer, rows-are}
 use Rattle.lard_law_view.proofs.RecordKinds.{IsOuter}
+use Rattle.lard_law_view.proofs.Deeds.{node-heads, node-place}
 
 -- ---- rows behind what was seen
 

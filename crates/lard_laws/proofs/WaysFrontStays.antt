@@ -280,7 +280,7 @@ module _ (k : Setting) (small : k.stream ≤ 2 ^ 30) (x : Conn) (truth : IsTruth
         assigns-makes env x heads n epoch ask rest found next there said.0 (subst (λ (r : FrontRest). AskIs files m r (x.part.nodes n).stay ask.number ask.paths) (ap front_rest found) (said.1 there)) help g;
     ends_again = λ n epoch last c row found away again. acks-makes env x heads n epoch;
     ends = λ n epoch last c row found away. ends-makes env x heads n epoch last row;
-    admits = λ choice row b path at target.
+    admits = λ choice made met row b path at target.
         let opened = opened-at k.files x truth (λ u. let no : Some row ≡ None = sym at.0 ∙ u.front in absurd cc) in
         admits-makes opened.0 opened.1 row b path at target choice;
   }

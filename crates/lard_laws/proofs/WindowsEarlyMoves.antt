@@ -14,8 +14,8 @@ use Rattle.lard_law_view.proofs.EachNode.{NodeComes, aside_said, aside_seen, eac
 use Rattle.lard_law_view.proofs.Guarded.{untouched-weaker}
 use Rattle.lard_laws.specs.WindowsEarly.{RowIsFresh, StageIsFresh}
 use Rattle.lard_laws.specs.WindowsWords.{FitsClient, FitsOn, HasFittingWords, HasStarted, Starts, StartsOn, WordFits}
-use Rattle.lard_laws.proofs.FrontComing.{front-station, heard-word}
-use Rattle.lard_laws.proofs.NodeDeeds.{again-letters, aside-letters, node-station}
+use Rattle.lard_laws.proofs.FrontComing.{heard-word}
+use Rattle.lard_laws.proofs.NodeDeeds.{again-letters, aside-letters}
 use Rattle.lard_laws.proofs.WindowsEarly.{AcksFirst, DeedIsEarly, ReadsNothing, fired-early, holds-early, reads-nothing, segment-fresh}
 use Rattle.lard_laws.proofs.WindowsWordRuns.{rule-turned}
 use Rattle.lard_laws.proofs.WindowsWords.{IsLater}
@@ -27,6 +27,7 @@ use Rattle.lard_rules.proofs.Endings.{settled-keeps}
 use Rattle.lard_rules.proofs.FrontCases.{IsInStage, KeptByFront, KeptBySegment, begun_row, begun_service, front-keeps, heard_reading, of-stage}
 use Rattle.lard_rules.proofs.NodeCases.{IsHereWith, IsInItsEpoch, KeptByNode, node-keeps}
 use Rattle.lard_rules.specs.Node as node
+use Rattle.lard_law_view.proofs.Deeds.{front-station, node-station}
 
 -- ---- letters, by how they were spelled
 
@@ -182,7 +183,7 @@ module _ (k : Setting) (small : k.stream ≤ 2 ^ 30) where
       assigns_next = λ n epoch ask c rest found there next. absurd (none-said x s (Node n) Front c.told.bytes h c.told.was);
       ends_again = λ n epoch last c row found away again. absurd (none-said x s (Node n) Front c.told.bytes h c.told.was);
       ends = λ n epoch last c row found away. absurd (none-said x s (Node n) Front c.told.bytes h c.told.was);
-      admits = λ choice row b path at target. absurd (fresh-at row (stage.Waiting b) at);
+      admits = λ choice made met row b path at target. absurd (fresh-at row (stage.Waiting b) at);
     }
 
     front-early : IsFrontEnv k x.c env → (g : FrontGets) → FrontComes x env heads g → DeedIsEarly isn x.c (front_rule env f g)

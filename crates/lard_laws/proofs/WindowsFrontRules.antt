@@ -10,7 +10,7 @@ use Rattle.lard_law_connections.proofs.SilenceEndpoints.{Anything}
 use Rattle.lard_law_connections.proofs.SilenceFronts as fronts
 use Rattle.lard_law_connections.proofs.SilenceTurns.{IsKept}
 use Rattle.lard_law_view.proofs.EachFront.{FrontComes, admission, each-front}
-use Rattle.lard_laws.proofs.FrontComing.{front-station, heard-number, heard-word}
+use Rattle.lard_laws.proofs.FrontComing.{heard-number, heard-word}
 use Rattle.lard_laws.specs.Windows.{EndSent, FrontSent, StationReaches, SymbolsWereSent}
 use Rattle.lard_laws.proofs.WindowsEndpoints.{endpoint-law}
 use Rattle.lard_laws.proofs.WindowsMoves.{GoesOn, Home, Known, Says, front-moves, known}
@@ -21,6 +21,7 @@ use Rattle.lard_rules.proofs.Endpoints.{listening-sound}
 use Rattle.lard_law_view.proofs.Endpoint.{listening-begins}
 use Rattle.lard_laws.proofs.WindowsOpen as known
 use Rattle.lard_laws.proofs.WindowsOpen.{by-station}
+use Rattle.lard_law_view.proofs.Deeds.{front-station}
 
 module _ (k : Setting) (small : k.stream ≤ 2 ^ 30) where
   abbrev Keeps : Conn → Move → Type 0

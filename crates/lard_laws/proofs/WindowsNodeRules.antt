@@ -8,7 +8,7 @@ use Rattle.lard_law_connections.proofs.SilenceEndpoints.{Anything}
 use Rattle.lard_law_connections.proofs.SilenceNodes as nodes
 use Rattle.lard_law_connections.proofs.SilenceTurns.{IsKept}
 use Rattle.lard_law_view.proofs.EachNode.{NodeComes, aside_said, aside_seen, each-node, job_notes, node_goes, told_first}
-use Rattle.lard_laws.proofs.NodeDeeds.{aside-letters, node-station}
+use Rattle.lard_laws.proofs.NodeDeeds.{aside-letters}
 use Rattle.lard_laws.specs.Windows.{AnyBlock, EndSent, LetterReaches, StationReaches, SymbolsWereSent}
 use Rattle.lard_laws.proofs.WindowsEndpoints.{endpoint-law}
 use Rattle.lard_laws.proofs.WindowsMoves.{GoesOn, Known, Says, There, idle-moves, known, node-moves}
@@ -21,6 +21,7 @@ use Rattle.lard_rules.proofs.NodeCases.{IsInItsEpoch}
 use Rattle.lard_rules.specs.Node as node
 use Rattle.lard_laws.proofs.WindowsOpen as known
 use Rattle.lard_laws.proofs.WindowsOpen.{by-station}
+use Rattle.lard_law_view.proofs.Deeds.{node-station}
 
 module _ (k : Setting) (small : k.stream ≤ 2 ^ 30) where
   abbrev Keeps : Conn → Move → Type 0

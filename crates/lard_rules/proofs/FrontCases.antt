@@ -244,7 +244,7 @@ pub record KeptByFront (env : FrontEnv) (p : FrontPart) (M : FrontGets → Type 
       → ended_with epoch row.ended_by ≡ true → D (Says (front_saying (ack_sent env n epoch)))
   pub ends : (n epoch : ℕ) (last : Final) → M (EndedBy n epoch last) → (row : FrontRow) → p.row ≡ Some row → is_away epoch row.stage ≡ true
       → D (Does (front_ends env p n epoch last row (next_epoch row)))
-  pub admits : (choice : FirstChoice) (row : FrontRow) (b : ControlBlock) (path : List ℕ) → IsInStage p row (stage.Waiting b)
+  pub admits : (choice : FirstChoice) (given : FrontPart × FrontTurn) → M (FrontAdmits choice given) → (row : FrontRow) (b : ControlBlock) (path : List ℕ) → IsInStage p row (stage.Waiting b)
       → (front_rest p.rest).target ≡ Some path → D (hands_off env row (serving b (front_rest p.rest).count []) path choice [])
 
 module _ (env : FrontEnv) (p : FrontPart) (M : FrontGets → Type 0) (R : Service → Option (List ℕ) → Type 0) (D : FrontDeed → Type 0) (kept : KeptByFront env p M R D) where
@@ -255,4 +255,4 @@ module _ (env : FrontEnv) (p : FrontPart) (M : FrontGets → Type 0) (R : Servic
   front-keeps (TakenBy n epoch) is m = taken-keeps p D kept.drops epoch (kept.takes n epoch m)
   front-keeps (AskedBy n epoch ask) is m = asked-keeps p D kept.drops env n epoch ask (kept.tags_again n epoch ask m) (kept.assigns_next n epoch ask m)
   front-keeps (EndedBy n epoch last) is m = ended-keeps p D kept.drops env n epoch last (kept.ends_again n epoch last m) (kept.ends n epoch last m)
-  front-keeps (FrontAdmits choice given) is m = admitted-keeps env p choice (λ y. D (Does (record { part = y.0; turn = y.1; calls = [] }))) (kept.admits choice) given is
+  front-keeps (FrontAdmits choice given) is m = admitted-keeps env p choice (λ y. D (Does (record { part = y.0; turn = y.1; calls = [] }))) (kept.admits choice given m) given is

@@ -13,6 +13,7 @@ pub mod Sides
 pub mod Totals
 pub mod Wide
 pub mod FrontTurns
+pub mod FrontReads
 pub mod FrontCases
 pub mod FrontParts
 pub mod FrontBlocks

@@ -5,7 +5,14 @@ use Rattle.std.proofs.lemmas.Bool.{cond_both}
 use Rattle.lard_base.specs.declared.place.Via.TheVariants.{Own}
 use Rattle.lard_block.specs.declared.block.Found.TheVariants.{Block, More, TooLong}
 use Rattle.lard_block.proofs.Cutting.{cut-within}
-use Rattle.lard_law_view.specs.Prelude.{Found, IsWithin, Reading, ServeEnv, Service, Step, Verdict, answered, block_at, cut_of, ended_at_fin, front_reads, good_path, may_freeze, may_read, reading_left, reading_turn, reads_block, reads_found, runs_on, serving_consumed}
+use Rattle.lard_answers.specs.Answers.{good_path}
+use Rattle.lard_block.specs.Blocks.{IsWithin, cut_of}
+use Rattle.lard_block.specs.declared.block.Found.{Found}
+use Rattle.lard_endpoint.specs.Moving.{may_freeze}
+use Rattle.lard_request.specs.declared.verdict.Verdict.{Verdict}
+use Rattle.lard_rules.specs.FrontReading.{Reading, block_at, front_reads, reading_left, reading_turn, reads_block, reads_found}
+use Rattle.lard_rules.specs.Loop.{Step, runs_on}
+use Rattle.lard_rules.specs.Serving.{ServeEnv, Service, answered, ended_at_fin, may_read, serving_consumed}
 use Rattle.lard_request.specs.declared.verdict.Code.TheVariants as code
 use Rattle.lard_request.specs.declared.verdict.Verdict.TheVariants.{Fault}
 use Rattle.lard_rules.specs.Loop as loop
