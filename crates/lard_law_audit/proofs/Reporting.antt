@@ -15,8 +15,8 @@ use Rattle.lard_law_audit.proofs.Lifting.{Lift, lift-each}
 use Rattle.lard_law_audit.proofs.Running.{settled-runs-sound}
 use Rattle.lard_law_audit.specs.Laws.{file_lengths}
 use Rattle.lard_law_audit.specs.Reports.{IsRunOf, ReportsAreSound}
-use Rattle.lard_law_formed.proofs.Runs.{records-told}
-use Rattle.lard_law_formed.specs.Formed.{AreFilePathsShort, GivesBytes, HasPathAndBytes, IsOfFile, RecordGives}
+use Rattle.lard_laws.proofs.FormedRuns.{records-told}
+use Rattle.lard_laws.specs.Formed.{AreFilePathsShort, GivesBytes, HasPathAndBytes, IsOfFile, RecordGives}
 use Rattle.lard_law_view.proofs.OfKinds.{each-may}
 use Rattle.lard_law_view.specs.Prelude.{Config, EachMay, Event, FilesAt, Machine, Rec, file_at}
 use Rattle.lard_report.specs.Formed.{HaveWidths, IsEventFormed, IsFormed}

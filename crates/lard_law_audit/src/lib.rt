@@ -3,7 +3,7 @@
 //! It stands above the record of all laws, the laws of settles and the audit, and joins them: from the laws of a journal to each rule of
 //! an audit, record by record. The laws are of the journal with its settles written out, and the audit reads it as it is: what is counted,
 //! and what stands directly before a record, is the same in both. A line can stand for each record, since paths name files and bytes are
-//! at least one (`lard_law_formed`). It has no code, and nothing stands on it.
+//! at least one (`lard_laws`). It has no code, and nothing stands on it.
 #![tactic(auto)]
 
 ghost use Rattle.lard_law_audit.specs.Laws.{LawfulIsSound, RunsAreSound, SettledIsSound, SettledRunsAreSound};

@@ -185,3 +185,13 @@ pub mod DueReading
 pub mod DueRuns
 pub mod DueSeats
 pub mod Lawful
+pub mod FormedTold
+pub mod FormedSegments
+pub mod FormedClients
+pub mod FormedAsks
+pub mod FormedFronts
+pub mod FormedNodes
+pub mod FormedMoves
+pub mod FormedNamed
+pub mod FormedStores
+pub mod FormedRuns

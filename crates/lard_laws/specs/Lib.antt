@@ -41,4 +41,5 @@ pub mod QuietRests
 pub mod QuietStill
 pub mod Due
 pub mod DueAnswers
+pub mod Formed
 pub mod Lawful

@@ -1,6 +1,6 @@
 //! All that the journal of every run obeys, as one record (`Lawful`), and those of its laws that rest on where connections are: Asks and
 //! Tags (`Asks`, `Tags`, `Homes`, `Origins`), how requests are assigned and what backs a response (`Ways`, `Backing`, `Sizes`), what counts
-//! all connections (`Steps`, `Clients`, `Records`), and that a quiet connection is complete (`Acks`, `Ended`, `Windows`, `Quiet`).
+//! all connections (`Steps`, `Clients`, `Records`), what records say of paths and bytes (`Formed`), and that a quiet connection is complete (`Acks`, `Ended`, `Windows`, `Quiet`).
 //!
 //! It stands above the laws of connections, and below the world and the public call, which promise its record of the journals that they
 //! give. The files of a topic have its word in front. It has no code.
@@ -13,6 +13,7 @@ ghost use Rattle.lard_laws.specs.ClientsLaws.{ClientsKeepTheirTables, ClientsTak
 ghost use Rattle.lard_laws.specs.Due.{JournalsAnswerWhatIsDue};
 ghost use Rattle.lard_laws.specs.DueAnswers.{ConnectionsAwaitAnswers};
 ghost use Rattle.lard_laws.specs.EndedLaws.{ConnectionsWereClosed};
+ghost use Rattle.lard_laws.specs.Formed.{RecordsHavePathsAndBytes};
 ghost use Rattle.lard_laws.specs.HomesLaws.{ConnectionsHaveOneHome};
 ghost use Rattle.lard_laws.specs.Lawful.{JournalsAreLawful};
 ghost use Rattle.lard_laws.specs.OriginsLaws.{JobsComeFromHome};
@@ -97,6 +98,13 @@ pub fn clients_take_what_comes_next()
 /// tells its journal.
 pub fn records_are_in_range()
     ensures range { RecordsAreInRange }
+{}
+
+/// In every run of the cluster's machine, whatever is lost, repeated or comes out of order, and also of connections that the schedule
+/// touched: each path that is assigned, hit, queued or read names a file, and what is written, sent or accepted has a byte. Of what a
+/// client writes that is so where the schedule tells it to write one.
+pub fn records_have_paths_and_bytes()
+    ensures formed { RecordsHavePathsAndBytes }
 {}
 
 /// In every such run each packet between two machines of the cluster is a message: its bytes decode, and are the one spelling of

@@ -7,10 +7,10 @@ use Rattle.lard_block.specs.declared.block.Found.TheVariants as found
 use Rattle.lard_history.proofs.Each.{Each, Each-append}
 use Rattle.lard_journal.specs.declared.rec.Rec.TheVariants as rec
 use Rattle.lard_law_view.specs.Prelude.{Ask, AskedBy, ControlBlock, Done, Ending, FilesAt, Found, FrontEnv, FrontGets, FrontPart, FrontRest, FrontRow, LaterChoice, More, Place, Reading, Rec, Said, Service, Step, Turn, Verdict, after_timer, answer, answer_code, answered, assigned_notes, block_at, cut_of, ended_at_fin, front_reads, front_rest, front_rule, good_path, last_words, may_freeze, may_read, over_note, reading_turn, reads_block, reads_found, serving_consumed, serving_settled, spoken, targeted, timed, tombstone}
-use Rattle.lard_law_formed.proofs.Asks.{good-named}
-use Rattle.lard_law_formed.proofs.Segments.{SaysTo, cut-says, ready-says, spoken-says, tombstone-says}
-use Rattle.lard_law_formed.proofs.Told.{IsToldSo}
-use Rattle.lard_law_formed.specs.Formed.{IsOfFile}
+use Rattle.lard_laws.proofs.FormedAsks.{good-named}
+use Rattle.lard_laws.proofs.FormedSegments.{SaysTo, cut-says, ready-says, spoken-says, tombstone-says}
+use Rattle.lard_laws.proofs.FormedTold.{IsToldSo}
+use Rattle.lard_laws.specs.Formed.{IsOfFile}
 use Rattle.lard_request.specs.declared.verdict.Code.TheVariants as code
 use Rattle.lard_request.specs.declared.verdict.Verdict.TheVariants.{Fault}
 use Rattle.lard_rules.proofs.Endings.{answered-keeps, at-fin-keeps, settled-keeps}

@@ -3,10 +3,10 @@ use Rattle.std.proofs.Common.{◌≡◌, ◌-◌, ℕ, ◌+◌, true, nat_lt, Li
 use Rattle.std.proofs.lemmas.Bool.{cond_both}
 use Rattle.lard_history.proofs.Each.{Each, Each-append}
 use Rattle.lard_law_view.specs.Prelude.{Asked, Ending, Entry, FilesAt, Node, NodeDeed, NodeEnv, NodeGets, NodePart, Place, Progress, Want, Work, after_timer, again_sent, all_sent, asked_sent, came_for, come_on, come_progress, ended_sent, goes_on, named_paths, node_begins, node_rule, on_segment, read_progress, reads_batch, reset_count, serving, serving_ready_of, serving_settled, spoken, state_of, tagged, taken_sent, timed, wants_sent, with_work, without, work_of}
-use Rattle.lard_law_formed.proofs.Asks.{all-named, ask-names, other-names}
-use Rattle.lard_law_formed.proofs.Segments.{SaysTo, ready-says, settled-says, spoken-says}
-use Rattle.lard_law_formed.proofs.Told.{NamesBy}
-use Rattle.lard_law_formed.specs.Formed.{AreFilePathsShort, IsOfFile}
+use Rattle.lard_laws.proofs.FormedAsks.{all-named, ask-names, other-names}
+use Rattle.lard_laws.proofs.FormedSegments.{SaysTo, ready-says, settled-says, spoken-says}
+use Rattle.lard_laws.proofs.FormedTold.{NamesBy}
+use Rattle.lard_laws.specs.Formed.{AreFilePathsShort, IsOfFile}
 use Rattle.lard_base.specs.declared.place.TimerKind.TheVariants as timer
 use Rattle.lard_message.specs.declared.kind.Kind.TheVariants as kind
 use Rattle.lard_message.specs.declared.message.Body.TheVariants as body

@@ -7,8 +7,8 @@ use Rattle.lard_client.proofs.Counting.{arrived-awaited}
 use Rattle.lard_client.specs.Laws.{IsAwaitedPart, counts}
 use Rattle.lard_history.proofs.Each.{Each, Each-append}
 use Rattle.lard_journal.specs.declared.rec.Rec.TheVariants as rec
-use Rattle.lard_law_formed.proofs.Told.{IsToldSo}
-use Rattle.lard_law_formed.proofs.Segments.{HasByte, client-says, station-says}
+use Rattle.lard_laws.proofs.FormedTold.{IsToldSo}
+use Rattle.lard_laws.proofs.FormedSegments.{HasByte, client-says, station-says}
 
 -- ---- what is accepted
 

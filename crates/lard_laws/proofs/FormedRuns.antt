@@ -6,11 +6,11 @@ use Rattle.lard_history.proofs.Seeing.{has-before, has-behind, has-each, own-app
 use Rattle.lard_journal.specs.declared.rec.Rec.TheVariants as rec
 use Rattle.lard_law_connections.proofs.StoresStored.{lawful}
 use Rattle.lard_law_view.specs.Prelude.{Came, FilesAt, Has, Packet, Rec, Row, Seen, came_seen, conn, conn_of, file_at, letter_of, net_of, net_step, one_of, own, packet_at, plain, seen_of, seen_on, whose}
-use Rattle.lard_law_formed.proofs.Moves.{each-told}
-use Rattle.lard_law_formed.proofs.Named.{IsNamed, packets-named}
-use Rattle.lard_law_formed.proofs.Stores.{stored-named}
-use Rattle.lard_law_formed.proofs.Told.{IsStoredSo, SeenGives, SeenToldSo}
-use Rattle.lard_law_formed.specs.Formed.{HasPathAndBytes, RecordGives, RecordsHavePathsAndBytes}
+use Rattle.lard_laws.proofs.FormedMoves.{each-told}
+use Rattle.lard_laws.proofs.FormedNamed.{IsNamed, packets-named}
+use Rattle.lard_laws.proofs.FormedStores.{stored-named}
+use Rattle.lard_laws.proofs.FormedTold.{IsStoredSo, SeenGives, SeenToldSo}
+use Rattle.lard_laws.specs.Formed.{HasPathAndBytes, RecordGives, RecordsHavePathsAndBytes}
 
 -- ---- what a connection sees gives what the journal gives
 

@@ -3,7 +3,7 @@ use Rattle.std.proofs.Common.{◌≡◌, ℕ, ◌≤◌, List, length, Ok}
 use Rattle.lard_law_view.specs.Prelude.{Body, Came, FilesAt, Front, Letter, Message, Node, Place, Rec, Row, Seen, decoded_message}
 use Rattle.lard_history.proofs.Each.{Each}
 use Rattle.lard_journal.specs.declared.rec.Rec.TheVariants as rec
-use Rattle.lard_law_formed.specs.Formed.{IsOfFile, RecordGives}
+use Rattle.lard_laws.specs.Formed.{IsOfFile, RecordGives}
 use Rattle.lard_message.specs.declared.message.Body.TheVariants as body
 
 -- ---- records

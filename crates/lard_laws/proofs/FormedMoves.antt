@@ -14,12 +14,12 @@ use Rattle.lard_law_view.proofs.Guarded.{both, weaker}
 use Rattle.lard_law_view.proofs.NodeHeads.{heads-of}
 use Rattle.lard_law_view.proofs.OfKinds.{of-gifts, of-timers}
 use Rattle.lard_law_view.proofs.Saying.{AreMessages, NotedAt}
-use Rattle.lard_law_formed.proofs.Clients.{ClientFits, GetsBytes, injects-fits, opens-fits, rule-fits}
-use Rattle.lard_law_formed.proofs.Fronts.{ComesNamed, DeedFits, RestNamed, front-fits}
-use Rattle.lard_law_formed.proofs.Nodes.{DeedNames, Names, node-names}
-use Rattle.lard_law_formed.proofs.Segments.{HasByte, SaysTo}
-use Rattle.lard_law_formed.proofs.Told.{IsToldSo, LetterNames, NamesBy, SeenGives, SeenToldSo}
-use Rattle.lard_law_formed.specs.Formed.{AreFilePathsShort, IsOfFile}
+use Rattle.lard_laws.proofs.FormedClients.{ClientFits, GetsBytes, injects-fits, opens-fits, rule-fits}
+use Rattle.lard_laws.proofs.FormedFronts.{ComesNamed, DeedFits, RestNamed, front-fits}
+use Rattle.lard_laws.proofs.FormedNodes.{DeedNames, Names, node-names}
+use Rattle.lard_laws.proofs.FormedSegments.{HasByte, SaysTo}
+use Rattle.lard_laws.proofs.FormedTold.{IsToldSo, LetterNames, NamesBy, SeenGives, SeenToldSo}
+use Rattle.lard_laws.specs.Formed.{AreFilePathsShort, IsOfFile}
 use Rattle.lard_rules.proofs.NodeCases.{IsInItsEpoch}
 use Rattle.lard_rules.specs.Front as front
 use Rattle.lard_rules.specs.Node as node

@@ -13,8 +13,8 @@ use Rattle.lard_history.proofs.Each.{Each, Each-append}
 use Rattle.lard_journal.specs.declared.rec.Rec.TheVariants as rec
 use Rattle.lard_law_connections.specs.StoresLaws.{MayStore}
 use Rattle.lard_law_view.specs.Prelude.{EachMay, FilesAt, Rec, Recency, after_hit, after_put, has_path}
-use Rattle.lard_law_formed.proofs.Told.{IsStoredSo}
-use Rattle.lard_law_formed.specs.Formed.{IsOfFile}
+use Rattle.lard_laws.proofs.FormedTold.{IsStoredSo}
+use Rattle.lard_laws.specs.Formed.{IsOfFile}
 
 module _ (files : FilesAt) (limit : ℕ) where
   -- ---- lists

@@ -7,8 +7,8 @@ use Rattle.std.specs.List.{AllByRecursion, flat_map}
 use Rattle.lard_law_view.specs.Prelude.{Body, Entry, FilesAt, Message, Progress, Verdict, and_path, ask_at, body_bytes, byte_at, counted_bytes, decoded_message, good_path, kind_of, named_path, named_paths, number_at, path_in, paths_at, spelled_message}
 use Rattle.lard_history.proofs.Each.{Each}
 use Rattle.lard_law_connections.proofs.PlacesHeads.{kinds-same, spelled-body}
-use Rattle.lard_law_formed.proofs.Told.{BodyNames}
-use Rattle.lard_law_formed.specs.Formed.{AreFilePathsShort, IsOfFile}
+use Rattle.lard_laws.proofs.FormedTold.{BodyNames}
+use Rattle.lard_laws.specs.Formed.{AreFilePathsShort, IsOfFile}
 use Rattle.lard_message.specs.declared.kind.Kind.TheVariants as kind
 use Rattle.lard_message.specs.declared.message.Body.TheVariants as body
 use Rattle.lard_message.proofs.Fields.{bind_then, paths_again, some_same}
