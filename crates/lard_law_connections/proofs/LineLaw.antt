@@ -2,7 +2,7 @@
 use Rattle.std.proofs.Common.{◌≡◌, ℕ, ◌^◌, ◌<◌, ◌≤◌, List, [], ◌∷◌, ◌++◌, map, true, false, Option, Some, None, Result, refl, sym, ap, ◌∙◌, subst, arith}
 use Rattle.std.specs.List.{fold}
 use Rattle.lard_base.specs.declared.event.Event.TheVariants as event
-use Rattle.lard_law_view.specs.Prelude.{AskedBy, Client, ClientBlock, ClientRules, Conn, EndedBy, Front, FrontConn, FrontEnv, FrontGets, FrontHears, FrontPart, FrontRow, FrontRules, HasRule, IsFrontEnv, IsLaw, IsUnheard, MayRestOn, Move, Node, NodeRules, Place, Rec, Rules, Said, SegFault, Seen, Setting, Station, ToCluster, Turn, TurnSaid, blank_conn, client_begins, client_does, client_injects, client_rule, decoded, front_does, front_gets, front_rule, grown, inject_seen, node_does, nothing_said, packet_seen, stands, tale_at, timer_rows}
+use Rattle.lard_law_view.specs.Prelude.{AskedBy, Client, ClientBlock, ClientRules, Conn, EndedBy, Front, FrontConn, FrontEnv, FrontGets, FrontHears, FrontPart, FrontRow, FrontRules, HasRule, IsFrontEnv, IsLaw, IsUnheard, MayRestOn, Move, Node, NodeRules, Place, Rec, Rules, Said, Seen, SegFault, Setting, Station, ToCluster, Turn, TurnSaid, blank_conn, client_begins, client_does, client_injects, client_rule, decoded, front_does, front_gets, front_rule, grown, inject_seen, node_does, nothing_said, packet_seen, stands, tale_at, timer_rows}
 use Rattle.lard_law_view.proofs.EachClient.{client_goes, client_seen, each-client, of-client}
 use Rattle.lard_law_view.proofs.EachFront.{FrontComes, admission, each-front}
 use Rattle.lard_law_connections.proofs.LineFrontMessages.{IsNoSegment, none-drops, rule-stands}

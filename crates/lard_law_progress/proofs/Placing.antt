@@ -1,7 +1,7 @@
 -- Each rule of the front end: nothing that is left to do comes back.
 use Rattle.std.proofs.Common.{◌≡◌, ◌⊎◌, ◌≤◌, ◌+◌, ℕ, true, false, List, [], Option, Some, None, refl, ap, ◌∙◌, subst, ⊎_elim, arith}
 use Rattle.std.proofs.lemmas.Bool.{and_parts, not-true}
-use Rattle.lard_law_view.specs.Prelude.{ClientBlock, ControlBlock, Ending, FilesAt, EndedBy, FirstChoice, FrontDeed, FrontEnv, FrontGets, FrontHears, FrontPart, FrontRest, FrontRow, NodeEnv, Part, Said, ServeEnv, Service, Station, after_timer, fires_at, front_begun, front_reads, front_rest, front_rests, front_rule, is_away, listening, may_freeze, offering, on_segment, placed, rested, serving, serving_settled, speaks, with_front}
+use Rattle.lard_law_view.specs.Prelude.{ClientBlock, ControlBlock, EndedBy, Ending, FilesAt, FirstChoice, FrontDeed, FrontEnv, FrontGets, FrontHears, FrontPart, FrontRest, FrontRow, NodeEnv, Part, Said, ServeEnv, Service, Station, after_timer, fires_at, front_begun, front_reads, front_rest, front_rests, front_rule, is_away, listening, may_freeze, offering, on_segment, placed, rested, serving, serving_settled, speaks, with_front}
 use Rattle.lard_bound.specs.Progress.{IsWarmSegment, IsWarmWord}
 use Rattle.lard_bound.specs.Seats.{Held, Waiting, seat_of}
 use Rattle.lard_bound.specs.Units.{Whole, symbols_taken}

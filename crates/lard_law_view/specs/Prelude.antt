@@ -46,7 +46,7 @@ pub use Rattle.lard_endpoint.specs.declared.control.moving.Final.{Final}
 pub use Rattle.lard_client.specs.Arriving.{accepting, answers_syn, client_begins_after, client_ends, client_on_ack, client_on_rst, client_on_segment, client_on_syn, client_on_text, client_on_unacceptable, client_owing, client_part_of, client_room, established, fresh_len, heard_in, heard_nothing, heard_open, known, on_fresh, on_greeting, reply_to, reset_by_peer}
 unfoldable pub use Rattle.lard_client.specs.Arriving.{client_arrived}
 pub use Rattle.lard_client.specs.Control.{ClientBlock, IsClientBlock, aborted, client_opened, client_rcv_nxt, client_rcv_wnd, client_snd_nxt, client_taken, client_written, held_on, is_aborted_in, is_client_armed, is_client_open, is_established, is_holding, is_open_in, is_writing, shut_down, written_len}
-pub use Rattle.lard_client.specs.Laws.{IsInOrder, IsNextOf, IsTrueSegment}
+pub use Rattle.lard_client.specs.Laws.{IsAwaitedPart, IsInOrder, IsNextOf, IsTrueSegment, counts}
 pub use Rattle.lard_client.specs.Leaving.{abort_ready, client_ack_ready, client_after_emit, client_after_owed, client_after_piece, client_after_timer, client_emitted, client_filled, client_owed_ready, client_owes, client_piece_ready, client_ready_of, client_refusal, client_timed, client_told, data_ready, reset_ready, syn_ready, unsaid}
 pub use Rattle.lard_client.specs.declared.heard.Heard.{Heard}
 pub use Rattle.lard_client.specs.declared.phase.Phase.{Phase}
@@ -124,7 +124,8 @@ pub use Rattle.lard_dispatch.specs.declared.dispatch.Ask.{Ask}
 pub use Rattle.lard_dispatch.specs.declared.dispatch.First.{First}
 pub use Rattle.lard_dispatch.specs.declared.dispatch.Later.{Later}
 pub use Rattle.lard_dispatch.specs.declared.line.Waiting.{Waiting}
-pub use Rattle.lard_cache.specs.Recency.{Recency, after_hit, after_put, brought_forward, has_path, size_at}
+pub use Rattle.lard_cache.specs.Recency.{Recency, after_hit, after_put, brought_forward, front_within, has_path, in_front, size_at}
+pub use Rattle.lard_cache.specs.declared.cache.TheConstants.{MAX_CACHED_PATHS}
 pub use Rattle.lard_disk.specs.Jobs.{is_for, job_at, without_job}
 pub use Rattle.lard_disk.specs.declared.disk.Job.{Job}
 pub use Rattle.lard_history.specs.Journal.{Numbers, Tale, about, accepted, accepted_step, acting, acting_at, acting_in, answered_bytes, answered_step, armed_step, assigned, assigned_step, bytes_step, epoch_step, event_shuts, fin_sent, goal_of, goal_step, goes_to, has_closed, home_step, home_told, in_step, is_cluster, is_in, is_kind, is_lost, is_place, is_running, is_touched, last_epoch, last_event, last_event_step, lost_step, next_answer, next_verdict, numbers_of, numbers_step, owner, owner_step, packet_bytes, request, reset_step, said_fin, said_to, sent_count, sent_step, served, served_bytes, served_bytes_step, served_step, tale_step, time_of, time_step, told_on, touched_step, untold, was_reset, wrote, wrote_step}
@@ -135,7 +136,7 @@ unfoldable pub use Rattle.lard_history.specs.Own.{letters, own}
 pub use Rattle.lard_history.specs.Steps.{AtEachEnd, EachStep, HoldsBefore, is_opening, split, steps}
 pub use Rattle.lard_rules.specs.Bounds.{HasRule, HasTimer, IsConnNumber}
 pub use Rattle.lard_rules.specs.Client.{ClientFires, ClientGets, ClientReceives, ToAbort, ToGet, ToHold, ToShut, ToTake, ToWrite, accepted_note, client_aborts, client_gets, client_holds, client_injects, client_opens, client_rule, client_shuts, client_takes, client_timer, client_writes, eof_note, silent, speaking, station_ready_of}
-pub use Rattle.lard_rules.specs.Front.{AskedBy, Did, EndedBy, FrontAdmits, FrontDeed, FrontEnv, FrontFires, FrontGets, FrontHears, FrontPart, TakenBy, ack_sent, admitted_at, admitted_by, ask_of, asked_by, assigned_notes, assigns, fires_at, forwarded, front_admitted, front_admitted_with, front_armed, front_asked, front_begun, front_ended, front_ended_by, front_ends, front_fired, front_fired_by, front_gets, front_hears, front_rest, front_rests, front_rule, front_saying, front_taken, front_timer, handed_off, heard, hears_at, holds, is_row_at, is_with, leaves_by, met, offer_kept, offering, over_note, placed, row_armed, settled_by, stage_after, stage_armed, tag_sent, taken_by, turn_here, waits_on}
+pub use Rattle.lard_rules.specs.Front.{AskedBy, Did, EndedBy, FrontAdmits, FrontDeed, FrontEnv, FrontFires, FrontGets, FrontHears, FrontPart, TakenBy, ack_sent, admitted_by, ask_of, asked_by, assigned_notes, assigns, fires_at, forwarded, front_admitted, front_armed, front_asked, front_begun, front_ended, front_ended_by, front_ends, front_fired, front_fired_by, front_gets, front_hears, front_rest, front_rests, front_rule, front_saying, front_taken, front_timer, handed_off, heard, hears_at, holds, is_row_at, is_with, leaves_by, met, offer_kept, offering, over_note, placed, rest_after, row_armed, settled_by, stage_after, stage_armed, tag_sent, taken_by, turn_here, waits_on}
 pub use Rattle.lard_rules.specs.FrontPlace.{FrontSetting, admits, admits_too, ended_deed, front_deed, front_did, front_env, front_joined, front_out_of, front_part, front_put, front_step, front_timers, front_told, in_order, message_comes, put_back}
 pub use Rattle.lard_rules.specs.FrontReading.{MayMove, Reading, block_at, front_reads, reading_left, reading_turn, reads_block, reads_found, targeted, with_service}
 pub use Rattle.lard_rules.specs.FrontSound.{DispatchStanding, HasTarget, IsEarlyAway, IsEarlyHere, IsEarlyOver, IsFrontSound, IsPartSound, IsRowSound, IsStageSound, Serves, Waits, dispatch_standing, nowhere}
@@ -179,7 +180,7 @@ pub use Rattle.lard_law_view.specs.Agreement.{Agrees, AreClientWords, AreReplies
 pub use Rattle.lard_law_view.specs.Carry.{Guarded, IsGuardedLaw, IsLaw, IsStepLaw, IsUntouchedLaw, MayRestOn, OfEach, Untouched, WhileUntouched, setting, tale_at}
 pub use Rattle.lard_law_view.specs.ClientRule.{IsClientStep, IsGiven, KeepsTables, MustKeepTables, NoneOfClient, after_turn, at_client, client_of, client_step, client_turn, is_of_client, row_turn, turn_rows}
 pub use Rattle.lard_law_view.specs.ClientTale.{ClientStands, ClientTale, IsNetOf, IsOpened, IsUnopened, client_tale, goal_in, lost_in}
-pub use Rattle.lard_law_view.specs.Keeping.{AreClientNotes, ClientKeeps, ClientOpened, ClientTurned, TellsOf, accepted_in, bytes_served_in, is_reset_record, served_in, unwritten, written_in}
+pub use Rattle.lard_law_view.specs.Keeping.{AreClientNotes, ClientOpened, ClientTurned, TellsOf, accepted_in, bytes_served_in, is_reset_record, served_in, unwritten, written_in}
 pub use Rattle.lard_law_view.specs.Laws.{Carries, CarriesRecords, CarriesSteps, GuardedIsLaw, HoldsTest, IsViewedAlways, PassesTest, StepsMove, UntouchedIsLaw}
 pub use Rattle.lard_law_view.specs.Quiet.{IsComplete, IsQuiet, aborted_step, ended_step, has_aborted, has_ended, shut_step, was_shut}
 pub use Rattle.lard_law_view.specs.Seat.{AtFront, Away, Nowhere, Over, Seat, seat_armed}

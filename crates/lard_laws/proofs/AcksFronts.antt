@@ -2,7 +2,7 @@
 use Rattle.std.proofs.Common.{◌≡◌, ◌≤◌, ◌<◌, ◌&&◌, not, ◌^◌, ℕ, Bool, true, List, [], ◌∷◌, map, Option, Some, None, Ok, IfSome, inr, refl, sym, ap, ◌∙◌, subst, arith}
 use Rattle.std.specs.List.{concat}
 use Rattle.std.proofs.lemmas.Bool.{and_parts, cond_both}
-use Rattle.lard_law_view.specs.Prelude.{AreSent, BackConn, BackRow, Call, Conn, ControlBlock, Ending, Epoch, Client, Final, FirstChoice, Front, FrontConn, FrontDeed, FrontEnv, FrontGets, FrontPart, FrontRest, FrontRow, IsConnSound, IsFrontEnv, IsSendable, IsStream, IsWord, Kept, Move, Node, NodePart, Part, Place, Ready, Reason, Said as Segment, Seen, Service, Setting, Station, Stream, Talk, Turn, Verdict, ack_sent, after_timer, answer, assigns, filled, front_begun, front_does, front_ends, front_fired, front_reads, front_rest, front_rule, front_saying, holds, is_plain_syn, is_telling, last_ack, last_words, leaves_by, letter, listening, next_epoch, on_segment, refusal, sent_of, seq_offset, serving, serving_ready_of, serving_settled, spoken, stage_after, tag_sent, taken_by, tale_at, timed, tombstone, turn_here}
+use Rattle.lard_law_view.specs.Prelude.{AreSent, BackConn, BackRow, Call, Client, Conn, ControlBlock, Ending, Epoch, Final, FirstChoice, Front, FrontConn, FrontDeed, FrontEnv, FrontGets, FrontPart, FrontRest, FrontRow, IsConnSound, IsFrontEnv, IsSendable, IsStream, IsWord, Kept, Move, Node, NodePart, Part, Place, Ready, Reason, Said as Segment, Seen, Service, Setting, Station, Stream, Talk, Turn, Verdict, ack_sent, after_timer, answer, assigns, filled, front_begun, front_does, front_ends, front_fired, front_reads, front_rest, front_rule, front_saying, holds, is_plain_syn, is_telling, last_ack, last_words, leaves_by, letter, listening, next_epoch, on_segment, refusal, sent_of, seq_offset, serving, serving_ready_of, serving_settled, spoken, stage_after, tag_sent, taken_by, tale_at, timed, tombstone, turn_here}
 use Rattle.lard_base.specs.declared.place.Reason.TheVariants as reason
 use Rattle.lard_laws.specs.Acks.{ActsWithin, BackActs, Bounds, EndActs, FrontActs, FrontStageActs, LetterActs, WordActs}
 use Rattle.lard_laws.proofs.AcksGrowing.{replies-act}

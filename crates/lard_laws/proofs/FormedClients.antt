@@ -2,9 +2,8 @@
 use Rattle.std.proofs.Common.{◌≡◌, ℕ, ◌-◌, ◌≤◌, Bool, true, false, cond, nat_lt, List, [], ◌∷◌, ◌++◌, length, min, take, drop, Result, Ok, Err, sym, ap, ◌∙◌, arith, length-drop}
 use Rattle.std.proofs.lemmas.Bool.{cond_both, ltb-true}
 use Rattle.std.proofs.lemmas.List.{length-take}
-use Rattle.lard_law_view.specs.Prelude.{ClientBlock, ClientFires, ClientGets, ClientReceives, FilesAt, Heard, Place, Rec, Said, SegFault, ToAbort, ToClient, ToGet, ToHold, ToShut, ToTake, ToWrite, Turn, abort_ready, aborted, accepted_note, client_after_timer, client_arrived, client_gets, client_injects, client_opened, client_opens, client_room, client_rule, client_speaks, client_taken, client_timed, client_writes, client_written, decoded, eof_note, held_on, is_writing, known, request, shut_down, silent, speaking, station_ready_of}
+use Rattle.lard_law_view.specs.Prelude.{ClientBlock, ClientFires, ClientGets, ClientReceives, FilesAt, Heard, IsAwaitedPart, Place, Rec, Said, SegFault, ToAbort, ToClient, ToGet, ToHold, ToShut, ToTake, ToWrite, Turn, abort_ready, aborted, accepted_note, client_after_timer, client_arrived, client_gets, client_injects, client_opened, client_opens, client_room, client_rule, client_speaks, client_taken, client_timed, client_writes, client_written, counts, decoded, eof_note, held_on, is_writing, known, request, shut_down, silent, speaking, station_ready_of}
 use Rattle.lard_client.proofs.Counting.{arrived-awaited}
-use Rattle.lard_client.specs.Laws.{IsAwaitedPart, counts}
 use Rattle.lard_history.proofs.Each.{Each, Each-append}
 use Rattle.lard_journal.specs.declared.rec.Rec.TheVariants as rec
 use Rattle.lard_laws.proofs.FormedTold.{IsToldSo}

@@ -1,12 +1,11 @@
 -- What the front end does: what it assigns names a file, as does the path that a connection waits for, and each segment has a byte.
 use Rattle.std.proofs.Common.{◌≡◌, ℕ, ◌+◌, Bool, true, false, List, [], ◌∷◌, length, Option, Some, None, IfSome, sym, subst}
 use Rattle.std.proofs.lemmas.Bool.{cond_both}
-use Rattle.lard_base.specs.declared.place.Via.{Via}
+use Rattle.lard_law_view.specs.Prelude.{Ask, AskedBy, ControlBlock, Done, Ending, FilesAt, Found, FrontDeed, FrontEnv, FrontGets, FrontPart, FrontRest, FrontRow, FrontTurn, LaterChoice, More, Place, Reading, Rec, Said, Service, Step, Turn, Verdict, Via, after_timer, answer, answer_code, answered, assigned_notes, block_at, cut_of, ended_at_fin, front_reads, front_rest, front_rule, good_path, last_words, may_freeze, may_read, over_note, reading_turn, reads_block, reads_found, rest_after, serving_consumed, serving_settled, spoken, targeted, timed, tombstone}
 use Rattle.lard_base.specs.declared.place.Via.TheVariants.{Own}
 use Rattle.lard_block.specs.declared.block.Found.TheVariants as found
 use Rattle.lard_history.proofs.Each.{Each, Each-append}
 use Rattle.lard_journal.specs.declared.rec.Rec.TheVariants as rec
-use Rattle.lard_law_view.specs.Prelude.{Ask, AskedBy, ControlBlock, Done, Ending, FilesAt, Found, FrontEnv, FrontGets, FrontPart, FrontRest, FrontRow, LaterChoice, More, Place, Reading, Rec, Said, Service, Step, Turn, Verdict, after_timer, answer, answer_code, answered, assigned_notes, block_at, cut_of, ended_at_fin, front_reads, front_rest, front_rule, good_path, last_words, may_freeze, may_read, over_note, reading_turn, reads_block, reads_found, serving_consumed, serving_settled, spoken, targeted, timed, tombstone}
 use Rattle.lard_laws.proofs.FormedAsks.{good-named}
 use Rattle.lard_laws.proofs.FormedSegments.{SaysTo, cut-says, ready-says, spoken-says, tombstone-says}
 use Rattle.lard_laws.proofs.FormedTold.{IsToldSo}
@@ -16,9 +15,8 @@ use Rattle.lard_request.specs.declared.verdict.Verdict.TheVariants.{Fault}
 use Rattle.lard_rules.proofs.Endings.{answered-keeps, at-fin-keeps, settled-keeps}
 use Rattle.lard_rules.proofs.FrontCases.{IsAsGiven, KeptByFront, KeptBySegment, KeptByTimer, begun_service, fired_before, fired_service, front-keeps, heard_reading, heard_service, waiting_service}
 use Rattle.lard_rules.proofs.Runs.{runs_keep}
-use Rattle.lard_rules.specs.Front.{Does, Drops, FrontDeed, Says, rest_after}
+use Rattle.lard_rules.specs.Front.{Does, Drops, Says}
 use Rattle.lard_rules.specs.FrontReading as front
-use Rattle.lard_rules.specs.declared.front.FrontTurn.{FrontTurn}
 use Rattle.lard_rules.specs.declared.places.Ending.TheVariants as ending
 
 module _ (files : FilesAt) where

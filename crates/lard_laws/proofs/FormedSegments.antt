@@ -1,7 +1,7 @@
 -- Each segment that a place of the cluster sends goes to its client, and has a byte; and so has each segment of a client.
 use Rattle.std.proofs.Common.{◌≡◌, ℕ, ◌≤◌, List, [], ◌∷◌, length, Option, Some, None, refl, arith}
-use Rattle.lard_base.specs.declared.place.Reason.TheVariants.{Limit}
 use Rattle.lard_law_view.specs.Prelude.{Client, ClientBlock, ControlBlock, Dir, Place, Ready, Said, ServeEnv, Service, ToClient, ToCluster, after_emit, client_after_emit, client_filled, client_speaks, cut_off, filled, final_of, limit_said, serving_ready_of, serving_settled, serving_told, speaks, speaks_symbols, spelled, spoken, station_ready_of, tombstone}
+use Rattle.lard_base.specs.declared.place.Reason.TheVariants.{Limit}
 use Rattle.lard_history.proofs.Each.{Each, Each-append}
 use Rattle.lard_rules.proofs.Endings.{settled-keeps}
 use Rattle.lard_rules.proofs.Loops.{KeptBySpeaking, KeptByTelling, client_keeps, speaks_keep, symbols_keep}

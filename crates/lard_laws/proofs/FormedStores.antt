@@ -6,13 +6,11 @@ use Rattle.std.proofs.lemmas.Slice.Eq.{bytes_eq-Decides}
 use Rattle.std.specs.List.{slice_get}
 use Rattle.std.specs.Map.{lookup, remove_entry}
 use Rattle.std.specs.Str.{bytes_eq}
-use Rattle.lard_cache.specs.Recency.{brought_forward, front_within, in_front, size_at}
-use Rattle.lard_cache.specs.declared.cache.TheConstants.{MAX_CACHED_PATHS}
+use Rattle.lard_law_view.specs.Prelude.{EachMay, FilesAt, MAX_CACHED_PATHS, Rec, Recency, after_hit, after_put, brought_forward, front_within, has_path, in_front, size_at}
 use Rattle.lard_counts.specs.Stores.{Queue, Waiting, cache_of, cache_step, cached, jobs, jobs_step, no_jobs, queue_of, size_of, waiting_at, without_waiting}
 use Rattle.lard_history.proofs.Each.{Each, Each-append}
 use Rattle.lard_journal.specs.declared.rec.Rec.TheVariants as rec
 use Rattle.lard_law_connections.specs.StoresLaws.{MayStore}
-use Rattle.lard_law_view.specs.Prelude.{EachMay, FilesAt, Rec, Recency, after_hit, after_put, has_path}
 use Rattle.lard_laws.proofs.FormedTold.{IsStoredSo}
 use Rattle.lard_laws.specs.Formed.{IsOfFile}
 
