@@ -218,7 +218,7 @@ module _ (k : Setting) (small : k.stream ≤ 2 ^ 30) where
         let le : written_len s.client bytes ≤ k.stream = ltb-false k.stream (written_len s.client bytes) fits in
         writes-turned x.c h.talk.w h.talk.out s.client o.says.most o.client bytes (omega (arith, le, small))
 
-    rule-turned : IsConnSound x → (g : ClientGets) → ClientComes k x s g → Turned (client_rule x.c s.client g)
+    pub rule-turned : IsConnSound x → (g : ClientGets) → ClientComes k x s g → Turned (client_rule x.c s.client g)
     rule-turned sound (ToGet path) fits = writes-so (request path) fits
     rule-turned sound (ToWrite bytes) fits = writes-so bytes fits
     rule-turned sound ToShut comes = shuts-turned x.c h.talk.w h.talk.out s.client o.says.most o.client

@@ -48,13 +48,7 @@ forward-fair k c p n e bytes s is word m d = go m.body refl (kinds-same (record 
   go : (b : Body) → m.body ≡ b → kind.Forward ≡ kind_of m.body → FrontTells k c p n m.epoch.0 (message c e (body.Forward bytes)) b
   go (body.Forward segment) f same = (s, forwards-read c e bytes segment m d f ∙ is, word)
   go (body.Offer parts) f same = let no : kind.Forward ≡ kind.Offer = same ∙ ap kind_of f in absurd cc
-  go body.Taken f same = tt
-  go (body.Ask number queue size paths) f same = tt
-  go (body.Tag number nodes) f same = tt
-  go (body.Fetch r path) f same = tt
-  go (body.Content r file) f same = tt
-  go (body.Ended reason snd rcv count) f same = tt
-  go body.EndedAck f same = tt
+  go _ f same = tt
 
 -- ---- what is kept, as the front end's or as the connection's
 

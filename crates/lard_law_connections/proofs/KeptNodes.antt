@@ -1,8 +1,8 @@
 -- What a node does leaves of a connection what its stage awaits.
-use Rattle.std.proofs.Common.{◌≡◌, ◌⊎◌, ◌-◌, ◌+◌, ◌==◌, ◌&&◌, nat_lt, ◌≤◌, ℕ, Bool, true, false, cond, List, [], ◌∷◌, length, is_some, Option, Some, None, Result, Ok, Err, refl, sym, ap, ◌∙◌, subst, arith, eqb-true, inl, inr}
-use Rattle.std.proofs.lemmas.Bool.{and_parts, cond_both}
+use Rattle.std.proofs.Common.{eq-eqb, ◌≡◌, ◌⊎◌, ◌-◌, ◌+◌, ◌==◌, ◌&&◌, nat_lt, ◌≤◌, ℕ, Bool, true, false, cond, List, [], ◌∷◌, length, is_some, Option, Some, None, Result, Ok, Err, refl, sym, ap, ◌∙◌, subst, arith, eqb-true, inl, inr}
+use Rattle.std.proofs.lemmas.Bool.{cond-true, and_parts, cond_both}
 use Rattle.std.specs.List.{find}
-use Rattle.lard_law_view.specs.Prelude.{Adopt, Asked, BackConn, BackRow, Conn, ControlBlock, Ending, EndpointParts, FilesAt, Kept, NodeDeed, NodeEnv, NodePart, Place, Progress, Said, Seen, SegFault, Stay, Work, after_timer, awaits_ack, back_endpoint, both_of, came_for, come_by, come_on, come_progress, epoch_in, goes_on, gone, grown, here, is_ended, is_from, is_gone, is_tag_awaited, is_under, kept_after, named_paths, node_acknowledged, node_begins, node_content, node_does, node_fired_by, node_forwarded, node_heard_by, node_offered, node_read, node_read_by, node_saying, node_tagged, node_timer, offer_answer, offered_by, on_segment, read_progress, reads_batch, reset_count, serving, serving_ready_of, serving_settled, spoken, state_of, tagged, tagged_by, taken_sent, timed, with_work, without, work_of}
+use Rattle.lard_law_view.specs.Prelude.{Adopt, Asked, BackConn, BackRow, Conn, ControlBlock, Ending, EndpointParts, FilesAt, Kept, NodeDeed, NodeEnv, NodeGets, NodePart, Place, Progress, Said, Seen, SegFault, Stay, Tagged, Work, after_timer, awaits_ack, back_endpoint, back_held, both_of, came_for, come_by, come_on, come_progress, epoch_in, goes_on, gone, grown, here, is_ended, is_from, is_gone, is_tag_awaited, is_under, kept_after, named_paths, node_acknowledged, node_begins, node_content, node_does, node_fired_by, node_forwarded, node_heard_by, node_offered, node_read, node_read_by, node_rule, node_saying, node_tagged, node_timer, offer_answer, offered_by, on_segment, read_progress, reads_batch, reset_count, serving, serving_ready_of, serving_settled, spoken, state_of, staying, tagged, tagged_by, taken_sent, timed, with_work, without, work_of}
 use Rattle.lard_base.specs.declared.place.TimerKind.TheVariants as kind
 use Rattle.lard_law_connections.specs.Kept.{AsksFor, contents_awaited, IsKeptByStage, NodeKeepsMessages, NodeRowKeeps, NodeStageKeeps, StayKeeps}
 use Rattle.lard_law_connections.proofs.KeptBatches.{AreFetches, IsCalm, Loses, awaited-come, come-calm, come-loses, found-less, named-come, read-calm, read-loses, without-fetches}
@@ -11,7 +11,7 @@ use Rattle.lard_law_view.proofs.Parts.{put-each}
 use Rattle.lard_handoff_back.specs.declared.row.BackConn.TheVariants as back
 use Rattle.lard_handoff_back.specs.declared.table.Adopt.TheVariants.{New, Again, Stale}
 use Rattle.lard_history.proofs.Each.{Each}
-use Rattle.lard_rules.proofs.NodeCases.{IsHereWith, of-here, where-held, where-here}
+use Rattle.lard_rules.proofs.NodeCases.{node-keeps, IsInItsEpoch, KeptByNode, IsHereWith, of-here, where-held, where-here}
 use Rattle.lard_rules.specs.Node.{Drops, Says, Does}
 use Rattle.lard_rules.specs.declared.places.Ending.TheVariants as ending
 
@@ -54,6 +54,11 @@ DeedGoes files e (Some y) d = DeedFollows files e y.1.asks (named_paths files y.
 pub asks-left : (c e number : ℕ) (paths : List (List ℕ)) (ks : List Kept) → AsksFor c e number paths ks → without kind.Ask 0 ks ≡ []
 asks-left c e number [] ks h = ap (without kind.Ask 0) h
 asks-left c e number (path ∷ paths) ks h = ap (without kind.Ask 0) h.2
+
+pub here-some : (e : ℕ) (p : NodePart) (b : ControlBlock) (s : Stay) → IsHereWith e p b s → here e p ≡ Some (b, s)
+here-some e p b s at = ap (λ (o : Option BackRow). both_of (staying e o) p.stay) at.found
+    ∙ ap (λ (o : Option ControlBlock). both_of o p.stay) (cond-true (at.row.epoch.0 == e) (back_held at.row.stage) None (eq-eqb at.row.epoch.0 e at.epoch_is) ∙ ap back_held at.staged)
+    ∙ ap (λ (t : Option Stay). both_of (Some b) t) at.stays
 
 module _ (N : ℕ → Type 0) (env : NodeEnv) where
   abbrev files : FilesAt
@@ -236,6 +241,43 @@ module _ (N : ℕ → Type 0) (env : NodeEnv) where
 
     pub offered-keeps : (parts : EndpointParts) → Keeps (node_offered env p parts) × DeedFollows files env.epoch 0 [] (node_offered env p parts)
     offered-keeps parts = offered-by parts (offer_answer env.epoch p.row) (new-none p.row h)
+
+    -- ---- whatever comes
+
+    abbrev pub MayTag : NodeGets → Type 0
+    MayTag (Tagged number nodes) = (b : ControlBlock) (s : Stay) → IsHereWith env.epoch p b s → s.asks ≡ number → Each N nodes
+    MayTag _ = Unit {0}
+
+    by-rules : KeptByNode env p MayTag Keeps
+    by-rules = record {
+      drops = tt;
+      hears = λ said b s m at. (goes-keep s.asks (named_of s) p [] (work_of (on_segment b said).1 s) (begun (on_segment b said).1 s (stays b s at))).0;
+      tags = λ number nodes b s m at asked same count.
+          let k = stays b s at in
+          let part : NodePart = record p { kept = without kind.Ask 0 p.kept } in
+          let left : without kind.Ask 0 p.kept ≡ [] = asks-left env.serve.c env.epoch s.asks (named_paths files s.batch) p.kept k.asks in
+          let first : Starts N env part.kept p.fetches s.asks (named_of s) (contents_awaited s.batch) (record (work_of b s) { batch = [] }) = (refl, record { each = k.fetches; order = k.order }, refl, refl, let few = k.few in omega (arith, few)) in
+          (goes-keep s.asks (named_of s) part [] (tagged env nodes (work_of b s))
+          (started-await N env part.kept p.fetches s.asks (named_of s) (tagged env nodes (work_of b s)) left (starts-all N env part.kept p.fetches s.asks (named_of s) nodes (m b s at same) (work_of b s) count first))).0;
+      comes = λ from r b s m at wanted.
+          let k = stays b s at in
+          let part : NodePart = record p { fetches = without kind.Fetch r p.fetches } in
+          (goes-keep s.asks (named_of s) part [] (came_for (come_progress from) r (work_of b s))
+          (come-awaits part.fetches 1 (come_progress from) (come-calm files from) (come-loses from) r b s k
+          (without-fetches N env.serve.files env.serve.c env.epoch env.n r p.fetches (record { each = k.fetches; order = k.order })) (found-less kind.Fetch r from env.epoch p.fetches wanted))).0;
+      reads = λ r path b s m at.
+          let k = stays b s at in
+          (goes-keep s.asks (named_of s) p [] (came_for read_progress r (work_of b s))
+          (come-awaits p.fetches 0 read_progress (read-calm files) read-loses r b s k (record { each = k.fetches; order = k.order }) (omega arith))).0;
+      begins = λ parts m new. (offered-by parts New (λ e. new-none p.row h new)).0;
+      takes_again = λ parts m again. tt;
+      fires = λ b s m at. (after-keeps s.asks (named_of s) p (work_of (after_timer b) s) (spoken env.serve (serving (after_timer b) s.served []) (serving_ready_of env.serve (after_timer b) (timed b))).0 (begun (after_timer b) s (stays b s at))).0;
+      resends = λ m none. tt;
+      ends = λ m told. gone-keeps p.row h told;
+    }
+
+    pub rule-keeps : (g : NodeGets) → IsInItsEpoch env p g → MayTag g → Keeps (node_rule env p g)
+    rule-keeps g at m = node-keeps env p MayTag Keeps by-rules g at m
 
 -- ---- its move
 

@@ -1,6 +1,7 @@
 -- Each rule leaves what is kept as it must be, so it is in every run.
 use Rattle.std.proofs.Common.{◌≡◌, ℕ, List, [], ◌∷◌, Some, refl, subst}
-use Rattle.lard_law_view.specs.Prelude.{ClientRules, Config, Conn, ControlBlock, FilesAt, Front, FrontEnv, FrontRules, IsFrontEnv, IsLaw, IsNodeEnv, MayRestOn, Move, Node, NodeEnv, NodeRules, OfEach, Rules, Seen, Setting, SpellsMessage, Stay, ToCluster, Was, decoded, event_seen, file_at, front_does, front_rule, grown, here, node_acknowledged, node_content, node_does, node_forwarded, node_offered, node_read, node_tagged, node_timer, packet_seen, setting}
+use Rattle.lard_law_view.specs.Prelude.{ClientRules, Config, Conn, ControlBlock, FilesAt, Front, FrontEnv, FrontRules, IsFrontEnv, IsLaw, IsNodeEnv, MayRestOn, Move, Node, NodeEnv, NodeGets, NodeRules, OfEach, Rules, Seen, Setting, SpellsMessage, Stay, Tagged, Was, file_at, front_does, front_rule, grown, here, node_does, node_rule, setting}
+use Rattle.lard_law_view.proofs.EachNode.{NodeComes, each-node}
 use Rattle.lard_law_view.proofs.EachFront.{admission, each-front}
 use Rattle.lard_law_view.proofs.EachClient.{each-client}
 use Rattle.lard_base.specs.declared.event.Event.TheVariants as event
@@ -9,7 +10,7 @@ use Rattle.lard_law_connections.specs.KeptLaws.{AnyNode, ConnectionsAreKept}
 use Rattle.lard_law_connections.proofs.KeptFronts as front_keeps
 use Rattle.lard_law_connections.proofs.KeptFronts.{front-move, rule-keep}
 use Rattle.lard_law_connections.proofs.KeptNodes as node_keeps
-use Rattle.lard_law_connections.proofs.KeptNodes.{acknowledged-keeps, content-keeps, forwarded-keeps, node-move, offered-keeps, read-keeps, tagged-keeps}
+use Rattle.lard_law_connections.proofs.KeptNodes.{here-some, rule-keeps, node-move}
 use Rattle.lard_law_view.proofs.Carried.{carried}
 use Rattle.lard_rules.specs.Front as front
 use Rattle.lard_history.proofs.Each.{Each}
@@ -50,23 +51,19 @@ module _ (N : ℕ → Type 0) (Given : Conn → Type 0) (names : (x : Conn) → 
       node-move N k.files x n heads d
       (subst (λ (t : FilesAt × ℕ × ℕ). NodeKeepsMessages N t.0 t.1 t.2 (x.part.nodes n) → node_keeps.DeedKeeps N t.0 t.1 t.2 d) all rule (h.nodes n)) h
 
+  may-tag : (x : Conn) (n epoch : ℕ) (env : NodeEnv) (heads : List Seen) (g : NodeGets) → IsNodeEnv k x.c n epoch env → NodeComes x n epoch heads g → MayRestOn Given x
+      → (q : NodeKeepsMessages N env.serve.files env.serve.c env.n (x.part.nodes n)) → node_keeps.MayTag N env (x.part.nodes n) q g
+  may-tag x n epoch env heads (Tagged number tags) is comes may q = λ b s at same. names x may.given n epoch number tags comes.bytes comes.spells comes.was (b, s)
+      (subst (λ (d : ℕ). here d (x.part.nodes n) ≡ Some (b, s)) is.epoch_is (here-some env.epoch (x.part.nodes n) b s at)) same
+  may-tag x n epoch env heads _ is comes may q = tt
+
   nodes : NodeRules k Keeps
-  nodes = record {
-    offered = λ x n epoch env parts bytes is spells was may h. by-node x n epoch env is (packet_seen Front (Node n) bytes) (node_offered env (x.part.nodes n) parts) (λ g. (offered-keeps N env (x.part.nodes n) g parts).0) h;
-    forwarded = λ x n epoch env segment bytes is spells was may h. by-node x n epoch env is (packet_seen Front (Node n) bytes) (node_forwarded env (x.part.nodes n) (decoded segment x.c ToCluster)) (λ g. (forwarded-keeps N env (x.part.nodes n) g (decoded segment x.c ToCluster)).0) h;
-    tagged = λ x n epoch number tags env bytes is spells was may h. by-node x n epoch env is (packet_seen Front (Node n) bytes) (node_tagged env (x.part.nodes n) number tags)
-        (λ g. (tagged-keeps N env (x.part.nodes n) g number tags
-        (λ y at same. names x may.given n epoch number tags bytes spells was y (subst (λ (d : ℕ). here d (x.part.nodes n) ≡ Some y) is.epoch_is at) same)).0) h;
-    content = λ x n from epoch r env file bytes is spells was may h. by-node x n epoch env is (packet_seen (Node from) (Node n) bytes) (node_content env (x.part.nodes n) from r) (λ g. (content-keeps N env (x.part.nodes n) g from r).0) h;
-    acknowledged = λ x n epoch env bytes is spells was may h. by-node x n epoch env is (packet_seen Front (Node n) bytes) (node_acknowledged env (x.part.nodes n)) (λ g. acknowledged-keeps N env (x.part.nodes n) g) h;
-    read = λ x n epoch r env path is may h.
-        let y = by-node x n epoch env is [] (node_read env (x.part.nodes n) r) (λ g. (read-keeps N env (x.part.nodes n) g r).0) h in
+  nodes = each-node k Keeps (record {
+    does = λ x n epoch env heads g is at comes may h.
+        let y = by-node x n epoch env is heads (node_rule env (x.part.nodes n) g) (λ q. rule-keeps N env (x.part.nodes n) q g at (may-tag x n epoch env heads g is comes may q)) h in
         record { front = y.front; nodes = y.nodes };
-    fires = λ x s n env there is may h. by-node x n _ env is (event_seen (event.Timer (Node n) x.c)) (node_timer env (x.part.nodes n)) (λ g. (node_keeps.timer-keeps N env (x.part.nodes n) g is.epoch_is).0) h;
-    answers = λ x n from epoch r path file bytes there spells was may h. record { front = h.front; nodes = h.nodes };
-    queues = λ x n from epoch r path file bytes there spells was may h. record { front = h.front; nodes = h.nodes };
-    brings = λ x n from epoch r path may h. record { front = h.front; nodes = h.nodes };
-  }
+    aside = λ x n a rest may h. record { front = h.front; nodes = h.nodes };
+  })
 
   rules : Rules k Keeps
   rules = record {

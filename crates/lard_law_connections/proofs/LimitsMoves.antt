@@ -112,14 +112,7 @@ other-letter stream w p n c e b other m d = go m.body same where
 
   go : (a : Body) → kind_of b ≡ kind_of a → BodyCounts stream w m.epoch.0 (p.nodes n).row a
   go (body.Offer parts) is = absurd (other is)
-  go (body.Forward segment) is = tt
-  go body.Taken is = tt
-  go (body.Ask number queue size paths) is = tt
-  go (body.Tag number nodes) is = tt
-  go (body.Fetch r path) is = tt
-  go (body.Content r file) is = tt
-  go (body.Ended reason snd rcv count) is = tt
-  go body.EndedAck is = tt
+  go _ is = tt
 
 -- ---- a move
 

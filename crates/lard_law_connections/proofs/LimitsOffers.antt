@@ -91,11 +91,4 @@ offer-counts stream w part n c e count b h may m d = go m.body refl where
       let una : parts.una ≡ b.send.una = (offer-read c e (parts_of b count) m parts d is).1 (omega (arith, stands, most)) in
       let same : parts.una - 1 ≡ b.send.total = omega (arith, una, stands) in
       inr (subst (IsWithinStream stream w) (sym same) h.counts)
-  go (body.Forward segment) is = tt
-  go body.Taken is = tt
-  go (body.Ask number queue size paths) is = tt
-  go (body.Tag number nodes) is = tt
-  go (body.Fetch r path) is = tt
-  go (body.Content r file) is = tt
-  go (body.Ended reason snd rcv count) is = tt
-  go body.EndedAck is = tt
+  go _ is = tt

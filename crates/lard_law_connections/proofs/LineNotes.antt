@@ -1,6 +1,6 @@
 -- What the front end notes of a connection in a turn, by its rules.
 use Rattle.std.proofs.Common.{◌∙◌, ap, ◌≡◌, ℕ, ◌+◌, ◌^◌, ◌<◌, ◌≤◌, Bool, true, false, List, [], ◌∷◌, ◌++◌, Option, Some, None, Result, Ok, Err, sym, subst}
-use Rattle.lard_law_view.specs.Prelude.{Ask, ControlBlock, Epoch, Final, FirstChoice, FrontConn, FrontDeed, FrontEnv, FrontPart, FrontRow, FrontTurn, LaterChoice, Reading, Rec, Said, SegFault, Service, assigned_notes, front_admitted, front_asked, front_ended, front_gets, front_reads, front_rest, front_taken, front_timer, last_words, next_epoch, over_note, serving_settled, tombstone}
+use Rattle.lard_law_view.specs.Prelude.{Ask, ControlBlock, Epoch, FirstChoice, FrontAdmits, FrontConn, FrontDeed, FrontEnv, FrontGets, FrontHears, FrontPart, FrontRow, FrontTurn, LaterChoice, Reading, Rec, Said, SegFault, Service, assigned_notes, front_admitted, front_gets, front_reads, front_rest, front_rule, last_words, next_epoch, over_note, serving_settled, tombstone}
 use Rattle.lard_base.specs.declared.place.Place.TheVariants as place
 use Rattle.lard_law_connections.proofs.LineFrontMessages.{away-counts}
 use Rattle.lard_law_connections.proofs.LineFronts.{RowStands, StageStands, heard-ready}
@@ -10,7 +10,7 @@ use Rattle.lard_rules.specs.Front.{Drops, Says, Does}
 use Rattle.lard_handoff_front.specs.declared.row.FrontConn.TheVariants as stage
 use Rattle.lard_history.proofs.Each.{Each}
 use Rattle.lard_journal.specs.declared.rec.Rec.TheVariants as rec
-use Rattle.lard_rules.proofs.FrontCases.{KeptBySegment, IsInStage, of-stage, heard_reading, heard_service, segment-keeps, timer-keeps, taken-keeps, asked-keeps, ended-keeps, admitted-keeps}
+use Rattle.lard_rules.proofs.FrontCases.{IsAsGiven, front-keeps, KeptByFront, KeptBySegment, IsInStage, of-stage, heard_reading, heard_service, segment-keeps, admitted-keeps}
 
 -- a later assignment
 abbrev pub IsLater : Rec → Type 0
@@ -97,25 +97,36 @@ module _ (env : FrontEnv) (small : env.serve.stream ≤ 2 ^ 30) (number : env.is
 
 -- ---- timers, and messages
 
-pub timer-noted : (env : FrontEnv) (p : FrontPart) (s : Was) → DeedNotes env.serve.c s (front_timer env p)
-timer-noted env p s = timer-keeps env p (λ d. DeedNotes env.serve.c s d)
-    (record { drops = tt; holds = λ row b at. none-noted env.serve.c s; stays = λ row b at. none-noted env.serve.c s; resends = λ row n e at. none-noted env.serve.c s })
-
-pub taken-noted : (c : ℕ) (s : Was) (p : FrontPart) (epoch : ℕ) → DeedNotes c s (front_taken p epoch)
-taken-noted c s p epoch = taken-keeps p (λ d. DeedNotes c s d) tt epoch (λ row n e at same. none-noted c s)
-
 assigned-later : (c : ℕ) (ask : Ask) (r : ℕ) (paths : List (List ℕ)) (choices : List LaterChoice) → Each IsLater (assigned_notes c ask r paths choices)
 assigned-later c ask r [] choices = tt
 assigned-later c ask r (path ∷ paths) [] = tt
 assigned-later c ask r (path ∷ paths) (choice ∷ choices) = (tt, assigned-later c ask (r + 1) paths choices)
 
-pub asked-noted : (env : FrontEnv) (p : FrontPart) (s : Was) (from epoch : ℕ) (ask : Ask) → DeedNotes env.serve.c s (front_asked env p from epoch ask)
-asked-noted env p s from epoch ask = asked-keeps p (λ d. DeedNotes env.serve.c s d) tt env from epoch ask (λ rest found there same some. none-noted env.serve.c s)
-    (λ rest found there next. Shares (env.later ask).over (assigned_notes env.serve.c ask rest.assigned ask.paths (env.later ask).choices) (assigned-later env.serve.c ask rest.assigned ask.paths (env.later ask).choices))
+-- what is no segment, and no turn of the line
+abbrev pub IsPlain : FrontGets → Type 0
+IsPlain (FrontHears bytes given) = ⊥
+IsPlain (FrontAdmits choice given) = ⊥
+IsPlain _ = Unit {0}
 
-pub ended-noted : (env : FrontEnv) (p : FrontPart) (s : Stand) (held : Bool) → RowStands s p.row → (from epoch : ℕ) (last : Final) → DeedNotes env.serve.c (was s held) (front_ended env p from epoch last)
-ended-noted env p s held h from epoch last = ended-keeps p (λ d. DeedNotes env.serve.c (was s held) d) tt env from epoch last (λ row found away again. none-noted env.serve.c (was s held))
-    (λ row found away. Ends (next_epoch row) (away-counts env p s h epoch row.stage away (subst (RowStands s) found h)).inside_is)
+module _ (env : FrontEnv) (p : FrontPart) (s : Stand) (held : Bool) (h : RowStands s p.row) where
+  abbrev Notes : FrontDeed → Type 0
+  Notes d = DeedNotes env.serve.c (was s held) d
+
+  by-rules : KeptByFront env p IsPlain (λ w o. Unit {0}) Notes
+  by-rules = record {
+    drops = tt;
+    hears = λ bytes said m. absurd m;
+    fires = λ m. record { drops = tt; holds = λ row b at. none-noted env.serve.c (was s held); stays = λ row b at. none-noted env.serve.c (was s held); resends = λ row n e at. none-noted env.serve.c (was s held) };
+    takes = λ n epoch m row node e at same. none-noted env.serve.c (was s held);
+    tags_again = λ n epoch ask m rest found there same some. none-noted env.serve.c (was s held);
+    assigns_next = λ n epoch ask m rest found there next. Shares (env.later ask).over (assigned_notes env.serve.c ask rest.assigned ask.paths (env.later ask).choices) (assigned-later env.serve.c ask rest.assigned ask.paths (env.later ask).choices);
+    ends_again = λ n epoch last m row found away again. none-noted env.serve.c (was s held);
+    ends = λ n epoch last m row found away. Ends (next_epoch row) (away-counts env p s h epoch row.stage away (subst (RowStands s) found h)).inside_is;
+    admits = λ choice given m. absurd m;
+  }
+
+  pub rule-noted : (g : FrontGets) → IsPlain g → IsAsGiven env p g → Notes (front_rule env p g)
+  rule-noted g plain is = front-keeps env p IsPlain (λ w o. Unit {0}) Notes by-rules g is plain
 
 -- ---- an admission
 

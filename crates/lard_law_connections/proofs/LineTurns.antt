@@ -1,11 +1,13 @@
 -- What each rule notes, as a fact of each move.
-use Rattle.std.proofs.Common.{◌≡◌, ℕ, ◌^◌, ◌<◌, ◌≤◌, List, [], ◌∷◌, sym, subst, ◌⊎◌, inl, inr, true, refl}
-use Rattle.lard_law_view.specs.Prelude.{Came, Client, ClientRules, Conn, Front, FrontEnv, FrontRules, Move, Node, NodeRules, Place, Rec, Row, Rules, Seen, Setting, ToCluster, ask_of, client_begins, decoded, front_admits, front_asked, front_does, front_ended, front_gets, front_taken, front_timer, node_does, nothing_said, packet_seen, stands}
+use Rattle.std.proofs.Common.{◌≡◌, ℕ, ◌^◌, ◌<◌, ◌≤◌, List, [], sym, subst, ◌⊎◌, inl, inr, true}
+use Rattle.lard_law_view.specs.Prelude.{Came, Client, ClientRules, Conn, Front, FrontAdmits, FrontEnv, FrontGets, FrontHears, FrontRules, Move, Node, NodeRules, Place, Rec, Row, Rules, Seen, Setting, client_begins, front_does, front_gets, front_rule, node_does, nothing_said, packet_seen, stands}
 use Rattle.lard_law_view.proofs.EachClient.{client_goes, each-client, of-client}
 use Rattle.lard_law_connections.proofs.LineLaw.{IsLined, IsThere, node-there}
-use Rattle.lard_law_connections.proofs.LineNotes.{DeedNotes, Enters, Noted, Was, admitted-enters, admitted-waits, asked-noted, ended-noted, gets-noted, held_there, none-noted, taken-noted, timer-noted, was}
+use Rattle.lard_law_connections.proofs.LineNotes.{rule-noted, DeedNotes, Enters, Noted, Was, admitted-enters, admitted-waits, gets-noted, held_there, none-noted, was}
 use Rattle.lard_law_view.proofs.NodeHeads.{heads-of, of-aside}
 use Rattle.lard_law_connections.proofs.LineStands.{IsElsewhere, stand_at}
+use Rattle.lard_law_view.proofs.EachFront.{EachFrontRule, FrontComes, admission, each-front}
+use Rattle.lard_law_view.proofs.FirstSeen.{by-front-seen}
 use Rattle.lard_law_view.proofs.EachNode.{each-node, job_notes, told_first}
 use Rattle.lard_rules.specs.Front as front
 use Rattle.lard_history.proofs.Each.{Each}
@@ -57,15 +59,25 @@ by-node x n rs heads d bare =
     aside x (told_first rs (node_does x n heads d)) there.place (subst (Each IsBare) (sym there.heads_are) bare)
 
 -- something is seen before what the front end does
-by-front : (x : Conn) (env : FrontEnv) (first : Seen) (rest : List Seen) (d : front.FrontDeed) → env.serve.c ≡ x.c → Each IsBare (first ∷ rest) → (IsLined x → DeedNotes env.serve.c (was_at x) d) → Notes x (front_does x (first ∷ rest) d)
-by-front x env first rest d same bare noted h = go d (subst (λ (c : ℕ). DeedNotes c (was_at x) d) same (noted h)) where
-  some : first ∷ rest ≡ [] → ⊥
-  some e = cc
-
-  go : (d : front.FrontDeed) → DeedNotes x.c (was_at x) d → IsNoted x (front_does x (first ∷ rest) d)
+by-front : (x : Conn) (env : FrontEnv) (heads : List Seen) (d : front.FrontDeed) → env.serve.c ≡ x.c → Each IsBare heads → (heads ≡ [] → ⊥) → (IsLined x → DeedNotes env.serve.c (was_at x) d) → Notes x (front_does x heads d)
+by-front x env heads d same bare some noted h = go d (subst (λ (c : ℕ). DeedNotes c (was_at x) d) same (noted h)) where
+  go : (d : front.FrontDeed) → DeedNotes x.c (was_at x) d → IsNoted x (front_does x heads d)
   go front.Drops k = record { bare = bare; noted = λ at. inl (none-noted x.c (was_at x)); alone = λ at none. absurd (some none) }
   go (front.Says t) k = record { bare = bare; noted = λ at. inl k; alone = λ at none. absurd (some none) }
   go (front.Does did) k = record { bare = bare; noted = λ at. inl k; alone = λ at none. absurd (some none) }
+
+-- where it is not the turn of the line, something is seen
+abbrev IsSome : List Seen → FrontGets → Type 0
+IsSome heads (FrontAdmits choice given) = Unit {0}
+IsSome heads _ = Each IsBare heads × (heads ≡ [] → ⊥)
+
+some-packet : (from : Place) (bytes : List ℕ) (g : FrontGets) → IsSome (packet_seen from Front bytes) g
+some-packet from bytes (FrontAdmits choice given) = tt
+some-packet from bytes _ = ((tt, tt), λ e. absurd (cc))
+
+is-some : (x : Conn) (env : FrontEnv) (heads : List Seen) (g : FrontGets) → FrontComes x env heads g → IsSome heads g
+is-some x env heads = by-front-seen x env heads IsSome (λ from bytes g was seen. subst (λ (ss : List Seen). IsSome ss g) (sym seen) (some-packet from bytes g))
+    (λ rung. ((tt, tt), λ e. absurd (cc))) (λ choice given turn. tt)
 
 module _ (k : Setting) (small : k.stream ≤ 2 ^ 30) where
   clients : ClientRules k Notes
@@ -75,23 +87,24 @@ module _ (k : Setting) (small : k.stream ≤ 2 ^ 30) where
   })
 
   fronts : FrontRules k Notes
-  fronts = record {
-    hears = λ x s env bytes there is iss was. by-front x env _ [] (front_gets env x.part.front bytes (decoded bytes x.c ToCluster)) is.number (tt, tt)
-        (λ h. gets-noted env (subst (λ (n : ℕ). n ≤ 2 ^ 30) (sym is.stream) small) (subst (λ (n : ℕ). n < 2 ^ 32) (sym iss) (h.number s there)) x.part.front (stand_at x) bytes (decoded bytes x.c ToCluster) h.stands);
-    fires = λ x s env there is. by-front x env _ [] (front_timer env x.part.front) is.number (tt, tt) (λ h. timer-noted env x.part.front (was_at x));
-    taken = λ x env n epoch bytes is spells was. by-front x env _ [] (front_taken x.part.front epoch) is.number (tt, tt) (λ h. taken-noted env.serve.c (was_at x) x.part.front epoch);
-    asked = λ x env n epoch number queue size paths bytes is spells was. by-front x env _ [] (front_asked env x.part.front n epoch (ask_of x.c n number queue size paths)) is.number (tt, tt)
-        (λ h. asked-noted env x.part.front (was_at x) n epoch (ask_of x.c n number queue size paths));
-    ended = λ x env n epoch reason snd rcv count bytes is spells was. by-front x env _ [] (front_ended env x.part.front n epoch (record { reason = reason; snd = record { 0 = snd }; rcv = record { 0 = rcv } })) is.number (tt, tt)
-        (λ h. ended-noted env x.part.front (stand_at x) (held_there x.part.front.row) h.stands n epoch (record { reason = reason; snd = record { 0 = snd }; rcv = record { 0 = rcv } }));
-    admitted = λ x env choice given is e h.
-        let entry : IsEntry x (front_admits x given) = record {
-          none = refl;
-          enters = subst (λ (c : ℕ). Enters c given.1.notes) is.number (admitted-enters env x.part.front choice given e);
-          waits = admitted-waits env x.part.front (stand_at x) h.stands choice given e;
+  fronts = each-front k Notes front-notes where
+    front-notes : EachFrontRule k Notes
+    front-notes x env heads (FrontAdmits choice given) is comes h =
+        let v : Move = front_does x heads (front_rule env x.part.front (FrontAdmits choice given)) in
+        let entry : IsEntry x v = record {
+          none = comes.seen;
+          enters = subst (λ (c : ℕ). Enters c given.1.notes) is.number (admitted-enters env x.part.front choice given comes.is);
+          waits = admitted-waits env x.part.front (stand_at x) h.stands choice given comes.is;
         } in
-        record { bare = tt; noted = λ at. inr entry; alone = λ at none. entry };
-  }
+        record { bare = subst (Each IsBare) (sym comes.seen) tt; noted = λ at. inr entry; alone = λ at none. entry }
+    front-notes x env heads (FrontHears bytes given) is comes h =
+        let some : IsSome heads (FrontHears bytes given) = is-some x env heads (FrontHears bytes given) comes in
+        by-front x env heads (front_gets env x.part.front bytes given) is.number some.0 some.1
+        (λ h. gets-noted env (subst (λ (n : ℕ). n ≤ 2 ^ 30) (sym is.stream) small) (subst (λ (n : ℕ). n < 2 ^ 32) (sym comes.iss_is) (h.number comes.station comes.there)) x.part.front (stand_at x) bytes given h.stands) h
+    front-notes x env heads g is comes h =
+        let some = is-some x env heads g comes in
+        by-front x env heads (front_rule env x.part.front g) is.number some.0 some.1
+        (λ h. rule-noted env x.part.front (stand_at x) (held_there x.part.front.row) h.stands g tt (admission x env heads g comes)) h
 
   nodes : NodeRules k Notes
   nodes = each-node k Notes (record {

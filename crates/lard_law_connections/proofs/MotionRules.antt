@@ -3,7 +3,7 @@ use Rattle.std.proofs.Common.{◌≡◌, ◌≢◌, ◌⊎◌, ◌||◌, ℕ, Bo
 use Rattle.std.proofs.lemmas.Bool.{both_ways}
 use Rattle.std.proofs.lemmas.List.Folds.{list_any-append}
 use Rattle.lard_base.specs.declared.event.Event.TheVariants as event
-use Rattle.lard_law_view.specs.Prelude.{AskedBy, BackRow, Body, Client, ClientBlock, ClientRules, Completed, Conn, Content, EndedBy, Fires, Forwarded, Front, FrontAdmits, FrontEnv, FrontFires, FrontGets, FrontHears, IsForFront, IsForNode, IsFrontEnv, IsNobody, IsNodeEnv, IsUnheard, MayRestOn, Message, Move, MsgFault, Node, NodeEnv, NodeGets, Offered, Place, Rec, Row, Rules, Said as Segment, Seen, SegFault, Setting, Station, TakenBy, ToCluster, Turn, Was, client_begins, client_does, client_injects, client_opens, client_rule, content_said, decoded, decoded_message, event_seen, front_does, front_rule, inject_seen, is_no_node, kind_of, letter, listed, node_does, node_read, node_rule, nothing_said, packet_seen, reads_first, rows_of, seen_in, stands}
+use Rattle.lard_law_view.specs.Prelude.{AskedBy, BackRow, Body, Client, ClientBlock, ClientRules, Completed, Conn, Content, EndedBy, Fires, Forwarded, Front, FrontAdmits, FrontEnv, FrontFires, FrontGets, FrontHears, IsForFront, IsForNode, IsFrontEnv, IsNobody, IsNodeEnv, IsUnheard, MayRestOn, Message, Move, MsgFault, Node, NodeEnv, NodeGets, Offered, Place, Rec, Row, Rules, Said as Segment, Seen, SegFault, Setting, Station, ToCluster, Turn, Was, client_begins, client_does, client_injects, client_opens, client_rule, content_said, decoded, decoded_message, event_seen, front_does, front_rule, inject_seen, is_no_node, kind_of, letter, listed, node_does, node_read, node_rule, nothing_said, packet_seen, reads_first, rows_of, seen_in, stands}
 use Rattle.lard_law_view.proofs.EachClient.{client_seen, each-client, of-client}
 use Rattle.lard_law_view.proofs.EachFront.{FrontComes, admission, each-front, of-front}
 use Rattle.lard_law_connections.specs.Motion.{EachIsTold, above}
@@ -110,12 +110,12 @@ module _ (x : Conn) where
   calm-heads : (env : FrontEnv) (heads : List Seen) (g : FrontGets) → fronts.IsCalm g → FrontComes x env heads g → Heads x heads false [] []
   calm-heads env heads (FrontHears bytes given) calm comes = absurd calm
   calm-heads env heads FrontFires calm comes = subst (λ (hs : List Seen). Heads x hs false [] []) (sym comes.seen) timer-heads
-  calm-heads env heads (TakenBy n epoch) calm comes =
-      subst (λ (hs : List Seen). Heads x hs false [] []) (sym comes.seen) (message-heads n comes.bytes None (ap ended_epoch comes.spells))
   calm-heads env heads (AskedBy n epoch ask) calm comes =
       subst (λ (hs : List Seen). Heads x hs false [] []) (sym comes.told.seen) (message-heads n comes.told.bytes None (ap ended_epoch comes.told.spells))
   calm-heads env heads (EndedBy n epoch last) calm comes = absurd calm
   calm-heads env heads (FrontAdmits choice given) calm comes = subst (λ (hs : List Seen). Heads x hs false [] []) (sym comes.seen) no-heads
+  calm-heads env heads g calm comes =
+      subst (λ (hs : List Seen). Heads x hs false [] []) (sym comes.seen) (message-heads _ comes.bytes None (ap ended_epoch comes.spells))
 
   -- each Ended that came was told by a node that took it
   still-ended : (known : IsKnown x) (e : ℕ) → is_among e (t.ended ++ []) ≡ true → SomeDecided e x.part.nodes
@@ -308,15 +308,8 @@ module _ (k : Setting) (x : Conn) (from to : Place) (bytes : List ℕ) where
   no-ended : (n : ℕ) → ((m : Message) → decoded_message bytes ≡ Ok m → IsForFront (kind_of m.body) → ⊥) → ended_epoch (decoded_message bytes) ≡ None
   no-ended n other = go (decoded_message bytes) refl where
     body-of : (m : Message) → decoded_message bytes ≡ Ok m → (b : Body) → m.body ≡ b → ended_epoch (Ok (record m { body = b })) ≡ None
-    body-of m e (body.Offer parts) is = refl
-    body-of m e body.Taken is = refl
-    body-of m e (body.Forward segment) is = refl
-    body-of m e (body.Ask number queue size paths) is = refl
-    body-of m e (body.Tag number tags) is = refl
-    body-of m e (body.Fetch r path) is = refl
-    body-of m e (body.Content r file) is = refl
     body-of m e (body.Ended reason snd rcv count) is = absurd (other m e (subst (λ (b : Body). IsForFront (kind_of b)) (sym is) tt))
-    body-of m e body.EndedAck is = refl
+    body-of m e _ is = refl
 
     go : (r : Result Message MsgFault) → decoded_message bytes ≡ r → ended_epoch r ≡ None
     go (Err fault) e = refl
@@ -348,14 +341,7 @@ module _ (k : Setting) (x : Conn) (from to : Place) (bytes : List ℕ) where
       body-of msg f (body.Offer parts) is =
           let none : is_no_node k.nodes n ≡ true = ap (is_no_node k.nodes) (sym same) ∙ unheard msg f (subst (λ (b : Body). IsForNode (kind_of b)) (sym is) tt) in
           absurd (both_ways (is_no_node k.nodes n) there none)
-      body-of msg f body.Taken is = refl
-      body-of msg f (body.Forward segment) is = refl
-      body-of msg f (body.Ask number queue size paths) is = refl
-      body-of msg f (body.Tag number tags) is = refl
-      body-of msg f (body.Fetch r path) is = refl
-      body-of msg f (body.Content r file) is = refl
-      body-of msg f (body.Ended reason snd rcv count) is = refl
-      body-of msg f body.EndedAck is = refl
+      body-of msg f _ is = refl
 
       go : (r : Result Message MsgFault) → decoded_message bytes ≡ r → offer_epoch r ≡ None
       go (Err fault) f = refl

@@ -61,11 +61,5 @@ module _ (k : Setting) (P : Conn → Move → Type 0) where
 module _ (c : ℕ) (P : List Seen → Type 0) (packet : (from : Place) (bytes : List ℕ) → P (packet_seen from (Client c) bytes))
     (seen : (e : Event) → P (event_seen e)) where
   pub of-client : (g : ClientGets) → P (client_seen c g)
-  of-client (ToGet path) = seen (event.Get c path)
-  of-client (ToWrite bytes) = seen (event.Write c bytes)
-  of-client ToShut = seen (event.Shut c)
-  of-client ToAbort = seen (event.Abort c)
-  of-client ToHold = seen (event.Hold c)
-  of-client ToTake = seen (event.Take c)
-  of-client ClientFires = seen (event.Timer (Client c) c)
   of-client (ClientReceives from bytes) = packet from bytes
+  of-client _ = seen _

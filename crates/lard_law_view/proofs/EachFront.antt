@@ -1,5 +1,5 @@
 -- One lemma for all rules of the front end, in place of one for each, by what comes to it: as `EachNode` has it for a node.
-use Rattle.std.proofs.Common.{◌≡◌, ℕ, List, [], Option, Some, Result, refl, sym, subst}
+use Rattle.std.proofs.Common.{◌≡◌, ℕ, List, [], Some, Result, refl, sym, subst}
 use Rattle.lard_base.specs.declared.event.Event.TheVariants as event
 use Rattle.lard_law_view.specs.Prelude.{Ask, AskedBy, Body, Client, Conn, EndedBy, Final, FirstChoice, Front, FrontAdmits, FrontEnv, FrontFires, FrontGets, FrontHears, FrontPart, FrontRules, FrontTurn, IsFrontEnv, Move, Node, Place, Said, Seen, SegFault, Setting, SpellsMessage, Station, TakenBy, ToCluster, Was, ask_of, decoded, event_seen, front_admitted, front_does, front_rule, packet_seen}
 use Rattle.lard_message.specs.declared.message.Body.TheVariants as body
@@ -84,10 +84,10 @@ module _ (x : Conn) (P : List Seen → Type 0) (packet : (from : Place) (bytes :
   pub of-front : (env : FrontEnv) (heads : List Seen) (g : FrontGets) → FrontComes x env heads g → P heads
   of-front env heads (FrontHears bytes given) comes = subst P (sym comes.seen) (packet (Client x.c) bytes)
   of-front env heads FrontFires comes = subst P (sym comes.seen) timer
-  of-front env heads (TakenBy from epoch) comes = subst P (sym comes.seen) (packet (Node from) comes.bytes)
   of-front env heads (AskedBy from epoch ask) comes = subst P (sym comes.told.seen) (packet (Node from) comes.told.bytes)
   of-front env heads (EndedBy from epoch last) comes = subst P (sym comes.told.seen) (packet (Node from) comes.told.bytes)
   of-front env heads (FrontAdmits choice given) comes = subst P (sym comes.seen) none
+  of-front env heads g comes = subst P (sym comes.seen) (packet (Node _) comes.bytes)
 
 -- what the outcomes of the rule want to know of what comes
 pub admission : (x : Conn) (env : FrontEnv) (heads : List Seen) (g : FrontGets) → FrontComes x env heads g → IsAsGiven env x.part.front g

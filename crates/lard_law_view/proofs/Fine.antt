@@ -2,9 +2,10 @@
 use Rattle.std.proofs.Common.{◌≡◌, ℕ, is_some, cond, nat_eq, List, [], ◌∷◌, ◌++◌, map, Some, refl, sym, ap, ◌∙◌, subst, inl}
 use Rattle.std.proofs.lemmas.Bool.{cond_both}
 use Rattle.lard_base.specs.declared.event.Event.TheVariants as event
-use Rattle.lard_law_view.specs.Prelude.{AreBetween, AreSent, Ask, Client, ClientBlock, ClientRules, Conn, Final, Front, FrontEnv, FrontPart, FrontRules, FrontTurn, IsConnNumber, IsConnSound, IsFrontEnv, IsNodeEnv, Kept, Letter, Move, Node, NodeEnv, NodePart, NodeRules, Place, Rec, Rules, Seen, Setting, Station, ToCluster, Turn, TurnSaid, brought_said, by_front, client_begins, client_does, client_injects, client_opens, client_rule, content_said, decoded, epoch_in, event_seen, front_admits, front_does, grown, inject_seen, letter, letters_of, named_records, node_does, node_put_back, nothing_said, packet_seen, reads_first, sent_of, stands, whose, with_front}
+use Rattle.lard_law_view.specs.Prelude.{AreBetween, AreSent, ClientBlock, ClientRules, Conn, Front, FrontEnv, FrontPart, FrontRules, FrontTurn, IsConnNumber, IsConnSound, IsFrontEnv, IsNodeEnv, Kept, Letter, Move, Node, NodeEnv, NodePart, NodeRules, Place, Rec, Rules, Seen, Setting, Station, ToCluster, Turn, TurnSaid, brought_said, by_front, client_begins, client_does, client_injects, client_opens, client_rule, content_said, decoded, epoch_in, event_seen, front_admits, front_does, front_rule, grown, inject_seen, letter, letters_of, named_records, node_does, node_put_back, nothing_said, packet_seen, reads_first, sent_of, stands, whose, with_front}
 use Rattle.lard_law_view.proofs.EachClient.{client_seen, each-client}
 use Rattle.lard_law_view.proofs.Clients.{client-said}
+use Rattle.lard_law_view.proofs.EachFront.{admission, each-front}
 use Rattle.lard_law_view.proofs.Fronts as fronts
 use Rattle.lard_law_view.proofs.Fronts.{IsAdmission, IsFrontDeed}
 use Rattle.lard_law_view.proofs.Nodes as nodes
@@ -199,23 +200,8 @@ client-rules k = each-client k IsFine (record {
   begins x number sound isn iss wnd mss = client-fine x number sound (client_begins x isn iss wnd mss).heads iss (client_opens x.c isn wnd mss) (opens-turn x.c isn wnd mss)
 
 front-rules : (k : Setting) → FrontRules k IsFine
-front-rules k = record {
-  hears = λ x s env bytes there is iss was number sound. front-rule x number sound k env is (packet_seen (Client x.c) Front bytes) (front.front_gets env x.part.front bytes (decoded bytes x.c ToCluster))
-      (λ own n kept. fronts.gets-deed env own n x.part.front kept bytes (decoded bytes x.c ToCluster));
-  fires = λ x s env there is number sound. front-rule x number sound k env is (event_seen (event.Timer Front x.c)) (front.front_timer env x.part.front) (λ own n kept. fronts.fires-deed env own n x.part.front kept);
-  taken = λ x env n epoch bytes is spells was number sound. front-rule x number sound k env is (packet_seen (Node n) Front bytes) (front.front_taken x.part.front epoch)
-      (λ own n kept. fronts.taken-deed env own n x.part.front kept epoch);
-  asked = λ x env n epoch z queue size paths bytes is spells was number sound.
-      let ask : Ask = front.ask_of x.c n z queue size paths in
-      front-rule x number sound k env is (packet_seen (Node n) Front bytes) (front.front_asked env x.part.front n epoch ask) (λ own i kept. fronts.asked-deed env own i x.part.front kept n epoch ask);
-  ended = λ x env n epoch reason snd rcv count bytes is spells was number sound.
-      let last : Final = record { reason = reason; snd = record { 0 = snd }; rcv = record { 0 = rcv } } in
-      front-rule x number sound k env is (packet_seen (Node n) Front bytes) (front.front_ended env x.part.front n epoch last) (λ own i kept. fronts.ended-deed env own i x.part.front kept n epoch last);
-  admitted = λ x env choice given is e number sound. admits-fine x number sound given
-      (subst (λ (c : ℕ). IsAdmission c x.part.front given) is.number
-      (fronts.admitted-turn env is.place (subst IsConnNumber (sym is.number) number) x.part.front
-      (subst (λ (c : ℕ). AreMessages c Front (map sent_of x.part.front.kept)) (sym is.number) (sent-messages x Front x.part.front.kept sound.between sound.front)) choice given e));
-}
+front-rules k = each-front k IsFine (λ x env heads g is comes number sound. front-rule x number sound k env is heads (front_rule env x.part.front g)
+    (λ own n kept. fronts.rule-deed env own n x.part.front kept g (admission x env heads g comes)))
 
 node-rules : (k : Setting) → NodeRules k IsFine
 node-rules k = record {

@@ -2,7 +2,7 @@
 -- three cases, whatever rules there are.
 use Rattle.std.proofs.Common.{◌≡◌, ℕ, List, [], sym, subst}
 use Rattle.lard_base.specs.declared.event.Event.TheVariants as event
-use Rattle.lard_law_view.specs.Prelude.{AskedBy, Client, Completed, Conn, Content, EndedBy, Fires, FirstChoice, Forwarded, Front, FrontAdmits, FrontEnv, FrontFires, FrontGets, FrontHears, FrontPart, FrontTurn, Node, NodeGets, Place, Seen, TakenBy, Was, event_seen, packet_seen}
+use Rattle.lard_law_view.specs.Prelude.{AskedBy, Client, Completed, Conn, Content, EndedBy, Fires, FirstChoice, Forwarded, Front, FrontAdmits, FrontEnv, FrontFires, FrontGets, FrontHears, FrontPart, FrontTurn, Node, NodeGets, Place, Seen, Was, event_seen, packet_seen}
 use Rattle.lard_law_view.proofs.EachFront.{FrontComes, HasRung, HasTurn}
 use Rattle.lard_law_view.proofs.EachNode.{HasFired, NodeComes}
 
@@ -13,10 +13,10 @@ module _ (x : Conn) (env : FrontEnv) (heads : List Seen) (P : List Seen → Fron
   pub by-front-seen : (g : FrontGets) → FrontComes x env heads g → P heads g
   by-front-seen (FrontHears bytes given) comes = packet (Client x.c) bytes (FrontHears bytes given) comes.was comes.seen
   by-front-seen FrontFires comes = subst (λ (ss : List Seen). HasRung x ss → P ss FrontFires) (sym comes.seen) timer comes
-  by-front-seen (TakenBy from epoch) comes = packet (Node from) comes.bytes (TakenBy from epoch) comes.was comes.seen
   by-front-seen (AskedBy from epoch ask) comes = packet (Node from) comes.told.bytes (AskedBy from epoch ask) comes.told.was comes.told.seen
   by-front-seen (EndedBy from epoch last) comes = packet (Node from) comes.told.bytes (EndedBy from epoch last) comes.told.was comes.told.seen
   by-front-seen (FrontAdmits choice given) comes = subst (λ (ss : List Seen). HasTurn x env choice given ss → P ss (FrontAdmits choice given)) (sym comes.seen) (none choice given) comes
+  by-front-seen g comes = packet (Node _) comes.bytes g comes.was comes.seen
 
 module _ (x : Conn) (n epoch : ℕ) (heads : List Seen) (P : List Seen → NodeGets → Type 0)
     (packet : (from : Place) (bytes : List ℕ) (g : NodeGets) → heads ≡ packet_seen from (Node n) bytes → P heads g)

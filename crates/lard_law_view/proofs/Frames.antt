@@ -2,7 +2,7 @@
 -- of that place alone.
 use Rattle.std.proofs.Common.{◌≡◌, ◌≢◌, ℕ, cond, List, [], Some, refl, ap}
 use Rattle.lard_base.specs.declared.event.Event.TheVariants as event
-use Rattle.lard_law_view.specs.Prelude.{Came, Client, ClientFires, ClientGets, ClientReceives, ClientRules, Conn, Front, FrontRules, IsConnNumber, IsConnSound, IsMachine, Move, Node, NodeRules, Part, Place, Rec, Row, Seen, Setting, ToAbort, ToGet, ToHold, ToShut, ToTake, ToWrite, UntouchedRules, Was, event_conn, front_does, front_rule, node_does, node_rule, nothing_said, packet_seen, stands}
+use Rattle.lard_law_view.specs.Prelude.{Came, Client, ClientGets, ClientReceives, ClientRules, Conn, Front, FrontRules, IsConnNumber, IsConnSound, IsMachine, Move, Node, NodeRules, Part, Place, Rec, Row, Seen, Setting, UntouchedRules, Was, event_conn, front_does, front_rule, node_does, node_rule, nothing_said, packet_seen, stands}
 use Rattle.lard_law_view.proofs.EachClient.{client_seen, each-client}
 use Rattle.lard_law_view.proofs.EachFront.{each-front, of-front}
 use Rattle.lard_law_view.proofs.EachNode.{each-node, job_notes, told_first}
@@ -92,14 +92,8 @@ clients-frame k = each-client k IsAtClient (record {
   does = λ x s g there comes. record { client = refl; keeps = (refl, refl); heads = begins x.c g; gave = refl; messages = refl };
 }) where
   begins : (c : ℕ) (g : ClientGets) → Each (IsClientHead c) (client_seen c g)
-  begins c (ToGet path) = (refl, tt)
-  begins c (ToWrite bytes) = (refl, tt)
-  begins c ToShut = (refl, tt)
-  begins c ToAbort = (refl, tt)
-  begins c ToHold = (refl, tt)
-  begins c ToTake = (refl, tt)
-  begins c ClientFires = (refl, tt)
   begins c (ClientReceives from bytes) = (refl, tt)
+  begins c _ = (refl, tt)
 
 -- ---- a law that looks at one place
 

@@ -3,7 +3,7 @@ use Rattle.std.proofs.Common.{◌≡◌, ℕ, ◌+◌, Bool, true, false, List, 
 use Rattle.std.proofs.lemmas.Bool.{cond_both}
 use Rattle.std.proofs.lemmas.List.Sums.{fold-append}
 use Rattle.std.specs.List.{fold}
-use Rattle.lard_law_view.specs.Prelude.{Ask, ControlBlock, Ending, Epoch, Final, FirstChoice, Found, Front, FrontDeed, FrontEnv, FrontPart, FrontRest, FrontRow, FrontTurn, IsConnNumber, Later, LaterChoice, Place, Reading, Rec, Said, SegFault, Service, Step, Turn, Verdict, ack_sent, answered_step, assigned_notes, assigns, block_at, cut_of, forwarded, front_admitted, front_asked, front_ended, front_fired, front_gets, front_reads, front_rest, front_saying, front_taken, front_timer, good_path, handed_off, holds, last_words, may_freeze, may_read, on_segment, over_note, placed, reading_left, reading_turn, reads_block, reads_found, sent_of, serving, serving_consumed, serving_ready_of, serving_settled, spoken, tag_sent, targeted, tombstone, turn_here, waits_on}
+use Rattle.lard_law_view.specs.Prelude.{Ask, ControlBlock, Ending, Epoch, Final, FirstChoice, Found, Front, FrontDeed, FrontEnv, FrontGets, FrontPart, FrontRest, FrontRow, FrontTurn, IsConnNumber, Later, LaterChoice, Place, Reading, Rec, Said, SegFault, Service, Step, Turn, Verdict, ack_sent, answered_step, assigned_notes, assigns, block_at, cut_of, forwarded, front_admitted, front_asked, front_ended, front_fired, front_gets, front_reads, front_rest, front_rule, front_saying, front_taken, front_timer, good_path, handed_off, holds, last_words, may_freeze, may_read, on_segment, over_note, placed, reading_left, reading_turn, reads_block, reads_found, sent_of, serving, serving_consumed, serving_ready_of, serving_settled, spoken, tag_sent, targeted, tombstone, turn_here, waits_on}
 use Rattle.lard_base.specs.declared.place.TimerKind.TheVariants as kind
 use Rattle.lard_base.specs.declared.place.Via.TheVariants.{Own}
 use Rattle.lard_block.specs.declared.block.Found.TheVariants.{Block, More, TooLong}
@@ -23,7 +23,7 @@ use Rattle.lard_rules.proofs.Runs.{runs_keep}
 use Rattle.lard_law_view.proofs.EndpointSends as endpoints
 use Rattle.lard_law_view.proofs.PlaceTurns as turns
 use Rattle.lard_law_view.proofs.PlaceTurns.{AreNoted, IsServingTurn, NotesServing}
-use Rattle.lard_rules.proofs.FrontCases.{KeptBySegment, begun_row, begun_service, heard_reading, heard_service, waiting_service, segment-keeps, timer-keeps, taken-keeps, asked-keeps, ended-keeps, admitted-keeps}
+use Rattle.lard_rules.proofs.FrontCases.{IsAsGiven, front-keeps, KeptByTimer, KeptByFront, KeptBySegment, begun_row, begun_service, heard_reading, heard_service, waiting_service, segment-keeps, timer-keeps, taken-keeps, asked-keeps, ended-keeps, admitted-keeps}
 
 -- A turn is of connection c.
 abbrev pub IsFrontTurn : ℕ → FrontTurn → Type 0
@@ -165,13 +165,16 @@ module _ (env : FrontEnv) (own : env.serve.place ≡ Front) (number : IsConnNumb
 
     -- ---- timers
 
-    pub fires-deed : IsDeed (front_timer env p)
-    fires-deed = timer-keeps env p IsDeed (record {
+    by-timer : KeptByTimer env p IsDeed
+    by-timer = record {
       drops = tt;
       holds = λ row b at. holds-deed row (front_rest p.rest) (front_fired env (front_rest p.rest) b) (fired-turn (front_rest p.rest) b);
       stays = λ row b at. waits-deed row (front_rest p.rest) (front_fired env (front_rest p.rest) b) (fired-turn (front_rest p.rest) b);
       resends = λ row n e at. said-turn (map sent_of p.kept) kept;
-    })
+    }
+
+    pub fires-deed : IsDeed (front_timer env p)
+    fires-deed = timer-keeps env p IsDeed by-timer
 
     -- ---- messages of nodes
 
@@ -232,3 +235,27 @@ module _ (env : FrontEnv) (own : env.serve.place ≡ Front) (number : IsConnNumb
 
     pub admitted-turn : (choice : FirstChoice) (given : FrontPart × FrontTurn) → front_admitted env p choice ≡ Some given → Admits given
     admitted-turn choice = admitted-keeps env p choice Admits (λ row b path at target. handed-turn row (serving b (front_rest p.rest).count []) path choice (fresh b (front_rest p.rest).count))
+
+    -- ---- whatever comes
+
+    abbrev Anything : FrontGets → Type 0
+    Anything g = Unit {0}
+
+    by-rules : KeptByFront env p Anything (λ w o. Noted w) IsDeed
+    by-rules = record {
+      drops = tt;
+      hears = λ bytes s m. by-segment bytes s;
+      fires = λ m. by-timer;
+      takes = λ n epoch m row node e at same. (said-turn [] tt, drop_all (HeldBy [] p.kept) kind.Offer 0 p.kept (as-before []));
+      tags_again = λ from epoch ask m rest found there same some. said-turn _ (tags from epoch rest.asks rest.tag);
+      assigns_next = λ from epoch ask m rest found there next. assigns-deed rest from epoch ask (env.later ask);
+      ends_again = λ from epoch last m row found away again. said-turn _ (acks from epoch);
+      ends = λ from epoch last m row found away. (
+        record { notes = (refl, (refl, tt)); segments = tt; gave = tt; messages = acks from epoch; counted = λ n. omega arith },
+        drop_all (HeldBy (ack_sent env from epoch) p.kept) kind.Offer 0 p.kept (as-before (ack_sent env from epoch)),
+      );
+      admits = λ choice given m row b path at target. handed-turn row (serving b (front_rest p.rest).count []) path choice (fresh b (front_rest p.rest).count);
+    }
+
+    pub rule-deed : (g : FrontGets) → IsAsGiven env p g → IsDeed (front_rule env p g)
+    rule-deed g is = front-keeps env p Anything (λ w o. Noted w) IsDeed by-rules g is tt

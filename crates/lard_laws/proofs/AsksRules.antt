@@ -1,7 +1,7 @@
 -- Each rule keeps what is known of the last Ask, and answers as it must.
 use Rattle.std.proofs.Common.{◌≡◌, ◌≤◌, ℕ, List, [], ◌∷◌, ◌++◌, length, map, None, Result, Ok, Err, refl, sym, ap, ◌∙◌, subst, arith}
 use Rattle.std.specs.List.{fold}
-use Rattle.lard_law_view.specs.Prelude.{Ask, AskedBy, Body, Client, ClientBlock, ClientRules, Conn, EndedBy, Front, FrontEnv, FrontGets, FrontPart, IsForFront, IsFrontEnv, IsOfTable, IsUnheard, Message, Move, MsgFault, Node, Place, Rec, Rules, Seen, Setting, SpellsMessage, Station, TakenBy, Turn, ask_of, client_begins, client_does, client_injects, client_opens, client_rule, decoded_message, event_seen, front_asked, front_does, front_rule, grown, inject_seen, kind_of, listed, node_does, nothing_said, packet_seen, stands}
+use Rattle.lard_law_view.specs.Prelude.{Ask, AskedBy, Body, Client, ClientBlock, ClientRules, Conn, EndedBy, Front, FrontAdmits, FrontEnv, FrontFires, FrontGets, FrontHears, FrontPart, IsForFront, IsFrontEnv, IsOfTable, IsUnheard, Message, Move, MsgFault, Node, Place, Rec, Rules, Seen, Setting, SpellsMessage, Station, Turn, ask_of, client_begins, client_does, client_injects, client_opens, client_rule, decoded_message, event_seen, front_asked, front_does, front_rule, grown, inject_seen, kind_of, listed, node_does, nothing_said, packet_seen, stands}
 use Rattle.lard_law_view.proofs.EachClient.{each-client, of-client}
 use Rattle.lard_law_view.proofs.EachFront.{FrontComes, admission, each-front, of-front}
 use Rattle.lard_law_view.proofs.EachNode.{aside_said, aside_seen, each-node, job_notes, told_first}
@@ -97,10 +97,12 @@ module _ (k : Setting) (x : Conn) (env : FrontEnv) (is : IsFrontEnv k x.c env) w
   no-ask n epoch b bytes spells none = ap (λ r. listed (ask_from n r) ++ []) spells ∙ ap (λ o. listed o ++ []) none
 
   none-asked : (heads : List Seen) (g : FrontGets) → FrontComes x env heads g → fronts.IsNoAsk g → picked ask_in heads ≡ []
-  none-asked heads (TakenBy n epoch) comes other = ap (picked ask_in) comes.seen ∙ no-ask n epoch body.Taken comes.bytes comes.spells refl
   none-asked heads (AskedBy n epoch ask) comes other = absurd other
   none-asked heads (EndedBy n epoch last) comes other = ap (picked ask_in) comes.told.seen ∙ no-ask n epoch (body.Ended last.reason last.snd.0 last.rcv.0 comes.count) comes.told.bytes comes.told.spells refl
-  none-asked heads _ comes other = ap (picked ask_in) comes.seen
+  none-asked heads (FrontHears bytes given) comes other = ap (picked ask_in) comes.seen
+  none-asked heads FrontFires comes other = ap (picked ask_in) comes.seen
+  none-asked heads (FrontAdmits choice given) comes other = ap (picked ask_in) comes.seen
+  none-asked heads g comes other = ap (picked ask_in) comes.seen ∙ no-ask _ _ _ comes.bytes comes.spells refl
 
   asked-goes : (n epoch number queue size : ℕ) (paths : List (List ℕ)) (bytes : List ℕ) → SpellsMessage x.c epoch (body.Ask number queue size paths) bytes
       → Goes k x (front_does x (packet_seen (Node n) Front bytes) (front_asked env x.part.front n epoch (ask_of x.c n number queue size paths)))

@@ -3,11 +3,12 @@ use Rattle.std.proofs.Common.{◌≡◌, ℕ, List, [], ◌∷◌, ◌++◌, map
 use Rattle.std.proofs.lemmas.List.{map-append}
 use Rattle.std.proofs.lemmas.List.Sums.{fold-append}
 use Rattle.std.specs.List.{fold}
-use Rattle.lard_law_view.specs.Prelude.{Came, Client, ClientBlock, Config, Conn, Front, IsClientStep, IsGiven, IsLaw, IsNobody, IsStepLaw, MayRestOn, Move, MustKeepTables, Node, NoneOfClient, OfEach, Place, Rec, Row, Rules, Seen, Setting, Station, ToClient, Turn, after_turn, client_aborts, client_begins, client_does, client_gets, client_holds, client_injects, client_of, client_opens, client_shuts, client_step, client_takes, client_timer, client_turn, client_writes, decoded, grown, is_client_armed, is_opening, nothing_said, packet_seen, request, rows_of, seen_in, setting, stands, station_armed, timer_change, timer_rows, turn_rows}
+use Rattle.lard_law_view.specs.Prelude.{Came, Client, ClientBlock, ClientGets, ClientReceives, Config, Conn, Front, IsClientStep, IsGiven, IsLaw, IsNobody, IsStepLaw, MayRestOn, Move, MustKeepTables, Node, NoneOfClient, OfEach, Place, Rec, Row, Rules, Seen, Setting, Station, Turn, after_turn, client_begins, client_does, client_injects, client_of, client_opens, client_rule, client_step, client_turn, grown, is_client_armed, is_opening, nothing_said, packet_seen, rows_of, seen_in, setting, stands, station_armed, timer_change, timer_rows, turn_rows}
 use Rattle.lard_base.specs.declared.event.Event.TheVariants as event
 use Rattle.lard_laws.specs.ClientsLaws.{ClientsKeepTheirTables}
 use Rattle.lard_laws.proofs.ClientsAsides.{IsAside, asides-step, asides-still, machine-aside, same-station}
 use Rattle.lard_law_view.specs.View.{sending}
+use Rattle.lard_law_view.proofs.EachClient.{client_goes, each-client}
 use Rattle.lard_law_view.proofs.Carried.{carried}
 use Rattle.lard_law_view.proofs.Fine.{IsFine, IsItsOwn, fine}
 use Rattle.lard_law_view.proofs.Frames.{IsAtMachine, Owed, fronts-leave, nodes-leave}
@@ -139,20 +140,17 @@ ignores-owes x from to bytes nobody =
 
 -- ---- every rule
 
+rule-owes : (x : Conn) (s : Station) → x.part.station ≡ Some s → (g : ClientGets) → Owes x (client_goes x s g)
+rule-owes x s there (ClientReceives from bytes) = client-owes x s _ [] (client_rule x.c s.client (ClientReceives from bytes)) there refl (λ later is. is)
+rule-owes x s there g = client-owes x s _ [] (client_rule x.c s.client g) there refl (λ later is. is)
+
 owing : (k : Setting) → Rules k (Owed Owes)
 owing k = record {
   untouched = record {
-    client = record {
+    client = each-client k (Owed Owes) (record {
       opens = λ x isn iss wnd mss rule none number sound. begins-owes x isn iss wnd mss none;
-      gets = λ x s path there le number sound. client-owes x s (Row (rec.Event 0 (event.Get x.c path))) [] (client_writes s.client (request path)) there refl (λ later is. is);
-      writes = λ x s bytes there le number sound. client-owes x s (Row (rec.Event 0 (event.Write x.c bytes))) [] (client_writes s.client bytes) there refl (λ later is. is);
-      shuts = λ x s there number sound. client-owes x s (Row (rec.Event 0 (event.Shut x.c))) [] (client_shuts s.client) there refl (λ later is. is);
-      aborts = λ x s there number sound. client-owes x s (Row (rec.Event 0 (event.Abort x.c))) [] (client_aborts s.client) there refl (λ later is. is);
-      holds = λ x s there number sound. client-owes x s (Row (rec.Event 0 (event.Hold x.c))) [] (client_holds s.client) there refl (λ later is. is);
-      takes = λ x s there number sound. client-owes x s (Row (rec.Event 0 (event.Take x.c))) [] (client_takes s.client) there refl (λ later is. is);
-      fires = λ x s there number sound. client-owes x s (Row (rec.Event 0 (event.Timer (Client x.c) x.c))) [] (client_timer s.client) there refl (λ later is. is);
-      hears = λ x s from bytes there was number sound. client-owes x s (Came (record { from = from; to = Client x.c; bytes = bytes })) [] (client_gets s.client (decoded bytes x.c ToClient)) there refl (λ later is. is);
-    };
+      does = λ x s g there comes number sound. rule-owes x s there g;
+    });
     front = fronts-leave k Owes (λ x v at own number sound. machine-owes x v at own);
     node = nodes-leave k Owes (λ x v at own number sound. machine-owes x v at own);
     ignores = λ x from to bytes was number sound. ignores-owes x from to bytes was.1;
