@@ -15,8 +15,6 @@ mod happening;
 mod labs;
 mod replay;
 mod status;
-#[cfg(test)]
-mod tests;
 mod words;
 
 pub use commands::run;

@@ -12,8 +12,6 @@ mod lab;
 pub mod laws;
 mod policy;
 mod targets;
-#[cfg(test)]
-mod tests;
 mod text;
 
 pub use assigner::{Assigner, MAX_REQUESTS};

@@ -10,8 +10,6 @@ pub mod laws;
 mod parts;
 mod preface;
 mod records;
-#[cfg(test)]
-mod tests;
 mod widths;
 
 pub use preface::{Heading, read_file, read_heading};

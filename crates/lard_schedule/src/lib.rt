@@ -11,8 +11,6 @@ mod keys;
 pub mod laws;
 pub mod numbers;
 mod reader;
-#[cfg(test)]
-mod tests;
 mod verbs;
 pub mod words;
 

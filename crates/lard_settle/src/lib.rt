@@ -9,8 +9,6 @@ mod lists;
 mod rounds;
 mod settles;
 mod steps;
-#[cfg(test)]
-mod tests;
 
 pub use lard_settling::Settled;
 pub use lard_world::World;

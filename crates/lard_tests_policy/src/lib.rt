@@ -1,5 +1,5 @@
-//! Tests of the leaves of policy and stores: loads, server sets, the choices of LARD, the dispatcher, caches and disks; and of the audit
-//! of a report.
+//! Tests of the leaves of policy and stores: loads, server sets, the choices of LARD, the dispatcher, caches and disks; of the lab of
+//! policies; and of the audit of a report.
 //!
 //! Each file has the tests of the crate of its name. They stand apart so that no crate is proved a second time for its tests.
 #![tactic(auto)]
@@ -14,6 +14,8 @@ mod costs;
 mod disk;
 #[cfg(test)]
 mod dispatch;
+#[cfg(test)]
+mod lab;
 #[cfg(test)]
 mod loads;
 #[cfg(test)]

@@ -3,8 +3,6 @@
 //! It stands above these steps and the laws of the cluster. The replay of a schedule calls it for each event.
 #![tactic(auto)]
 
-#[cfg(test)]
-mod tests;
 mod world;
 
 pub use world::World;

@@ -1,6 +1,6 @@
 //! Each public call once: what `run` writes for the shortest schedule, and the code and the line of each status.
 
-use crate::{FileFault, Refusal, Rule, Status, What, Why, flush_report, run};
+use lard_app::{FileFault, Refusal, Rule, Status, What, Why, flush_report, run};
 use lard_base::{Bytes, Calls, ConfigFault, Key, MemSink, MemSource, Sink, StdSink};
 use std::io::{self, Error, ErrorKind, Write};
 use std::test::Fail;

@@ -1,6 +1,6 @@
 //! Each form of line once, and each way to be none once.
 
-use crate::{Item, Keys, LineFault, Reader, Stage, first_word, read_event};
+use lard_schedule::{Item, Keys, LineFault, Reader, Stage, first_word, read_event};
 use std::alloc::{AllocError, Global};
 use std::test::Fail;
 

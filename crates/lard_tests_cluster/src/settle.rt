@@ -4,12 +4,12 @@ ghost use Rattle.std.specs.Prelude.{◌≡◌, false, IfOk};
 ghost use Rattle.lard_agenda.specs.Agenda.{nothing_noted};
 ghost use Rattle.lard_rules.specs.Bounds.{HasRule};
 
-use super::*;
 use lard_agenda::Agenda;
 use lard_base::{Config, ConnId, Event, NoMemory, Path};
 use lard_files::Files;
 use lard_journal::{Journal, push_line};
 use lard_rules::StepFault;
+use lard_settle::{Settled, settle};
 use lard_world::World;
 use std::alloc::Global;
 use std::test::Fail;

@@ -1,8 +1,8 @@
 //! Whole reports of short traces, worked out by hand, and the causes of refusals.
 
-use super::*;
 use lard_base::{Config, Path};
 use lard_files::FileFault;
+use lard_lab::{Lab, LabEvent, LabFault, Policy, heading};
 use std::alloc::Global;
 use std::test::Fail;
 

@@ -1,7 +1,7 @@
 //! Each kind of record and each way to be none, with lines that were worked out apart.
 
-use crate::*;
 use lard_journal::Rec;
+use lard_report::{Heading, read_file, read_heading, read_record};
 use lard_schedule::LineFault;
 use std::alloc::{AllocError, Global};
 use std::process::Abort;

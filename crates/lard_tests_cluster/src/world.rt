@@ -3,11 +3,11 @@
 ghost use Rattle.std.specs.Prelude.{◌≡◌, false, IfOk};
 ghost use Rattle.lard_rules.specs.Bounds.{HasRule};
 
-use super::*;
 use lard_base::{Config, ConnId, Event, NoMemory, NodeId, Path, Place};
 use lard_files::Files;
 use lard_journal::{Journal, push_line};
 use lard_rules::{Refusal, StepFault};
+use lard_world::World;
 use std::alloc::Global;
 use std::test::Fail;
 

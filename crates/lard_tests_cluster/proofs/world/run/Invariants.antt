@@ -1,5 +1,5 @@
 use Rattle.std.proofs.Common.{◌≡◌, false}
-use Rattle.lard_world.proofs.tests.run.Given as goal
+use Rattle.lard_tests_cluster.proofs.world.run.Given as goal
 
 -- memory sufficed so far
 abbrev pub invariant-loop-step : goal.invariant-loop-step
