@@ -59,44 +59,65 @@ const SOME_LENGTH: &[Row] = &[
     (0xffff_ffff, ACK, b"abc", 1, 4, true, false),
 ];
 
-#[test]
-fn four_cases_of_acceptability(rt: HostRuntime) {
-    for rows in [NO_LENGTH, SOME_LENGTH] {
-        for &(seq, flags, payload, nxt, wnd, acceptable, allowed) in rows {
-            let segment = segment(seq, flags, payload);
-            let answers = (
-                is_acceptable(&segment, Seq(nxt), wnd),
-                is_allowed(&segment, Seq(nxt), wnd),
-            );
-            assert_eq!(rt;
-                answers,
-                (acceptable, allowed),
-                "{segment:?} in {wnd} from {nxt}"
-            );
+/// Whether the answers are those of the row.
+fn is_right(row: &Row) -> bool {
+    let &(seq, flags, payload, nxt, wnd, acceptable, allowed) = row;
+    let segment = segment(seq, flags, payload);
+    is_acceptable(&segment, Seq(nxt), wnd) == acceptable
+        && is_allowed(&segment, Seq(nxt), wnd) == allowed
+}
+
+/// The first row whose answers are others.
+fn wrong_row(rows: &[Row]) -> Option<usize> {
+    for (at, row) in rows.iter().enumerate() {
+        if !is_right(row) {
+            return Some(at);
         }
     }
+    None
+}
+
+#[test]
+fn four_cases_of_acceptability(rt: HostRuntime) {
+    assert_eq!(rt;
+        (wrong_row(NO_LENGTH), wrong_row(SOME_LENGTH)),
+        (None, None)
+    );
+}
+
+/// Whether a segment with these bits and with text is an ACK without any as it is bare.
+fn is_bared(flags: Flags) -> bool {
+    bare(&segment(7, flags, b"abc")) == segment(7, ACK, b"")
 }
 
 #[test]
 fn bare_segments_have_no_text(rt: HostRuntime) {
-    for flags in [ACK, FIN] {
-        let bare = bare(&segment(7, flags, b"abc"));
-        assert_eq!(rt; bare, segment(7, ACK, b""), "{flags:?}");
+    assert_eq!(rt; (is_bared(ACK), is_bared(FIN)), (true, true));
+}
+
+/// The size that a SYN names, and the one that is used.
+const SIZES: &[(Option<u16>, u16)] = &[
+    (None, 536),
+    (Some(0), 1),
+    (Some(1), 1),
+    (Some(1460), 1460),
+    (Some(1461), 1460),
+    (Some(65_535), 1460),
+];
+
+/// The first size that is named for which another one is used.
+fn wrong_size() -> Option<Option<u16>> {
+    for &(named, size) in SIZES {
+        if peer_mss(named) != size {
+            return Some(named);
+        }
     }
+    None
 }
 
 #[test]
 fn sizes_are_brought_into_range(rt: HostRuntime) {
-    for (named, size) in [
-        (None, 536),
-        (Some(0), 1),
-        (Some(1), 1),
-        (Some(1460), 1460),
-        (Some(1461), 1460),
-        (Some(65_535), 1460),
-    ] {
-        assert_eq!(rt; peer_mss(named), size, "{named:?}");
-    }
+    assert_eq!(rt; wrong_size(), None);
 }
 
 /// A segment with these parts.

@@ -1,18 +1,15 @@
 //! A client's calls, beside what RFC 9293 asks for. Expected segments are worked out by hand.
 
-ghost use Rattle.std.specs.Prelude.{◌≤◌, length};
-
 mod words;
 
 use lard_base::ConnId;
 use lard_client::{Client, Heard};
 use lard_segment::{Dir, Segment, encode};
 use lard_seq::Seq;
-use std::test::Fail;
-use words::Call::{Abort, Emit, Hears, Hold, Is, Refuses, Shut, Take, Timer, Write};
+use std::process::Abort;
+use words::Call::{self, Emit, Hears, Hold, Is, Refuses, Shut, Take, Timer, Write};
 use words::{
-    ACK, BARE, Call, FIN, NOTHING, Numbers, PSH, PSH_FIN, RST, RST_ACK, SYN, SYN_ACK, numbers_of,
-    write,
+    ACK, BARE, FIN, NOTHING, Numbers, PSH, PSH_FIN, RST, RST_ACK, SYN, SYN_ACK, is_written,
 };
 
 /// The client's SYN, with a window of 10, is met by the cluster's.
@@ -216,7 +213,7 @@ const RESET: &[Call] = &[
     Shut,
     Is(false, false),
     Write(b"g", false),
-    Abort(None),
+    Call::Abort(None),
     Hears((PSH, 1, 1, 9, b"x"), NOTHING, None),
     Hears((ACK, 1, 7, 9, b""), NOTHING, None),
 ];
@@ -224,7 +221,7 @@ const RESET: &[Call] = &[
 /// It aborts before the handshake.
 const ABORTED_EARLY: &[Call] = &[
     Emit(Some((SYN, 0, 0, 10, 0, 0))),
-    Abort(None),
+    Call::Abort(None),
     Is(false, false),
     Timer(None),
     Refuses((SYN_ACK, 0, 1, 9, b""), Some((RST, 1, 0, 0, 0, 0))),
@@ -240,10 +237,10 @@ const ABORTED: &[Call] = &[
         Some((PSH, 5, 4, 10, 4, 2)),
     ),
     Hold,
-    Abort(Some((RST_ACK, 7, 4, 0, 6, 0))),
+    Call::Abort(Some((RST_ACK, 7, 4, 0, 6, 0))),
     Is(false, false),
     Write(b"g", false),
-    Abort(None),
+    Call::Abort(None),
     Timer(None),
     Emit(None),
     Refuses((PSH, 4, 7, 9, b"x"), Some((RST, 7, 0, 0, 6, 0))),
@@ -261,7 +258,7 @@ const ABORTED_LATE: &[Call] = &[
         Some((FIN, 1, 5, 10, 0, 0)),
     ),
     Hears((ACK, 5, 2, 9, b""), NOTHING, None),
-    Abort(Some((RST_ACK, 2, 5, 0, 0, 0))),
+    Call::Abort(Some((RST_ACK, 2, 5, 0, 0, 0))),
     Refuses((FIN, 4, 2, 9, b""), Some((RST, 2, 0, 0, 0, 0))),
 ];
 
@@ -290,8 +287,11 @@ const CLOSED: &[Call] = &[
     Hears((FIN, 4, 5, 9, b""), NOTHING, Some((ACK, 5, 5, 10, 3, 0))),
 ];
 
-/// Runs of a client with a window of 10 bytes and segments of 4: what comes first, and then.
-const RUNS: &[(&[Call], &[Call])] = &[
+/// What comes first, and then.
+type Run = (&'static [Call], &'static [Call]);
+
+/// Runs of a client with a window of 10 bytes and segments of 4.
+const RUNS: &[Run] = &[
     (EARLY, &[]),
     (UNANSWERED, ANSWERED),
     (UNANSWERED, REFUSED),
@@ -304,24 +304,29 @@ const RUNS: &[(&[Call], &[Call])] = &[
     (CLOSED, &[]),
 ];
 
-#[test]
-fn runs_are_as_the_standard_says(rt: HostRuntime) -> Result<(), Fail> {
-    for (first, then) in RUNS {
-        for n in &numbers_of(10, 4) {
-            let mut client = n.open(&rt, rt.alloc());
-            n.play(&rt, &mut client, first)?;
-            n.play(&rt, &mut client, then)?;
-        }
+/// A client of these numbers does all calls of both parts.
+fn plays(rt: &(impl Abort + AllocGlobal), n: Numbers, first: &[Call], then: &[Call]) {
+    let mut client = n.open(rt, rt.alloc());
+    let counts = (n.done(&mut client, first), n.done(&mut client, then));
+    assert_eq!(rt; counts, (first.len(), then.len()));
+}
+
+fn all_play(rt: &(impl Abort + AllocGlobal), runs: &[Run]) {
+    for (first, then) in runs {
+        plays(rt, Numbers::plain(10, 4), first, then);
+        plays(rt, Numbers::wrapping(10, 4), first, then);
     }
-    Ok(())
 }
 
 #[test]
-fn narrow_windows_are_kept(rt: HostRuntime) -> Result<(), Fail> {
-    for n in &numbers_of(1, 1) {
-        let mut client = n.open(&rt, rt.alloc());
-        n.play(&rt, &mut client, NARROW)?;
-    }
+fn runs_are_as_the_standard_says(rt: HostRuntime) {
+    all_play(&rt, RUNS);
+}
+
+#[test]
+fn narrow_windows_are_kept(rt: HostRuntime) {
+    plays(&rt, Numbers::plain(1, 1), NARROW, &[]);
+    plays(&rt, Numbers::wrapping(1, 1), NARROW, &[]);
     // The SYN has the number 2^32 - 1, so 0 acknowledges it; a RST that says no number does not.
     let last = Numbers {
         isn: 0xffff_ffff,
@@ -329,10 +334,7 @@ fn narrow_windows_are_kept(rt: HostRuntime) -> Result<(), Fail> {
         wnd: 10,
         mss: 4,
     };
-    let mut client = last.open(&rt, rt.alloc());
-    last.play(&rt, &mut client, UNANSWERED)?;
-    last.play(&rt, &mut client, ANSWERED)?;
-    Ok(())
+    plays(&rt, last, UNANSWERED, ANSWERED);
 }
 
 /// The SYN of client 1 from 1000 on, with a window of 65,535 and a maximum segment size of 1,460.
@@ -343,29 +345,26 @@ const OPENING: &[u8] =
 const REQUEST: &[u8] =
     b"\x9c\x40\x00\x50\x00\x00\x03\xe9\x00\x00\x13\x89\x50\x18\xff\xff\x0d\xd5\x00\x00GET /x HTTP/1.1\r\nHost: lard\r\n\r\n";
 
-/// Writes the next segment of a client, and answers its length.
-fn spell(client: &mut Client, c: ConnId, bytes: &mut [u8]) -> usize
-    requires { 1520 ≤ length bytes.old }
-{
+/// Whether the next segment of a client is spelled by these bytes.
+fn is_spelled(client: &mut Client, c: ConnId, want: &[u8]) -> bool {
     let mut data = [0; 1460];
-    match client.emit() {
+    let mut bytes = [0; 1520];
+    let len = match client.emit() {
         Some(ready) => {
             let segment = client.segment(ready, &mut data);
-            return encode(&segment, c, Dir::ToCluster, bytes);
+            encode(&segment, c, Dir::ToCluster, &mut bytes)
         }
-        None => return 0,
-    }
+        None => 0,
+    };
+    bytes.get(..len) == Some(want)
 }
 
 #[test]
-fn segments_are_filled(rt: HostRuntime) -> Result<(), Fail> {
-    let c = ConnId::new(1).ok_or("no connection")?;
+fn segments_are_filled(rt: HostRuntime) {
+    let c = ConnId::new(1).expect(&rt, "the number of a connection");
     let mut client = Client::open(rt.alloc(), c, Seq(1000), 65_535, 1460);
-    assert_eq!(rt; client.number(), c);
-    let mut bytes = [0; 1520];
-    let len = spell(&mut client, c, &mut bytes);
-    assert_eq!(rt; bytes.get(..len), Some(OPENING));
-    write(&rt, &mut client, &REQUEST[20..], true)?;
+    let opens = is_spelled(&mut client, c, OPENING);
+    let writes = is_written(&mut client, &REQUEST[20..], true);
     let greeting = Segment {
         seq: Seq(5000),
         ack: Seq(1001),
@@ -374,8 +373,8 @@ fn segments_are_filled(rt: HostRuntime) -> Result<(), Fail> {
         mss: Some(1460),
         payload: b"",
     };
-    assert_eq!(rt; client.arrive(&greeting), Heard::nothing());
-    let len = spell(&mut client, c, &mut bytes);
-    assert_eq!(rt; bytes.get(..len), Some(REQUEST));
-    Ok(())
+    let heard = client.arrive(&greeting);
+    let asks = is_spelled(&mut client, c, REQUEST);
+    assert_eq!(rt; (client.number(), heard), (c, Heard::nothing()));
+    assert_eq!(rt; (opens, writes, asks), (true, true, true));
 }

@@ -5,14 +5,16 @@ ghost use Rattle.lard_segment.specs.Segment.{said, IsSendable};
 use lard_base::ConnId;
 use lard_segment::{Dir, Flags, Ready, SegFault, Segment, decode, encode};
 use lard_seq::Seq;
-use std::process::Abort;
 
 /// The SYN of client 1, from 1000 on.
 const OPENING: &[u8] =
     b"\x9c\x40\x00\x50\x00\x00\x03\xe8\x00\x00\x00\x00\x60\x02\xff\xff\xe3\xab\x00\x00\x02\x04\x05\xb4";
 
+/// A name, the bytes, and the size that they name.
+type ReadRow = (&'static str, &'static [u8], Option<u16>);
+
 /// What client 1 may send from 7 on with a window of 9, and the size that it names.
-const READ: &[(&str, &[u8], Option<u16>)] = &[
+const READ: &[ReadRow] = &[
     (
         "no option",
         b"\x9c\x40\x00\x50\x00\x00\x00\x07\x00\x00\x00\x00\x50\x02\x00\x09\xff\x3f\x00\x00",
@@ -85,8 +87,11 @@ const READ: &[(&str, &[u8], Option<u16>)] = &[
     ),
 ];
 
+/// A name, the bytes, and why they are refused.
+type RefusedRow = (&'static str, &'static [u8], SegFault);
+
 /// What no segment of client 1 to the cluster is, and why.
-const REFUSED: &[(&str, &[u8], SegFault)] = &[
+const REFUSED: &[RefusedRow] = &[
     ("nothing at all", b"", SegFault::Short),
     (
         "one byte less than a header",
@@ -195,21 +200,32 @@ const REFUSED: &[(&str, &[u8], SegFault)] = &[
     ),
 ];
 
-/// These are the bytes of the segment, and they are read again; the buffer keeps what lies behind them.
-fn spells(rt: &impl Abort, number: u32, dir: Dir, segment: &Segment<'_>, bytes: &[u8])
-    requires { IsSendable (said segment.now) }
-{
-    let c = ConnId::new(number).expect(rt, "the number of a connection");
-    let mut buf = [0xaa; 1520];
-    let len = encode(segment, c, dir, &mut buf);
-    assert_eq!(rt; &buf[..len], bytes, "written for {number}");
-    assert!(rt; buf[len..].iter().all(|b| *b == 0xaa), "kept for {number}");
-    assert!(rt; bytes.len() <= 65_535);
-    assert_eq!(rt; decode(bytes, c, dir), Ok(*segment), "read for {number}");
+/// What these bytes say that came this way on a connection. No segment is longer.
+fn what_came(number: u32, dir: Dir, bytes: &[u8]) -> Option<Result<Segment<'_>, SegFault>> {
+    let c = ConnId::new(number)?;
+    if bytes.len() > 65_535 {
+        return None;
+    }
+    Some(decode(bytes, c, dir))
 }
 
-#[test]
-fn writes_and_reads(rt: HostRuntime) {
+/// Whether these are the bytes of the segment, and are read again; the buffer keeps what lies behind them.
+fn is_spelled(number: u32, dir: Dir, segment: &Segment<'_>, bytes: &[u8]) -> bool
+    requires { IsSendable (said segment.now) }
+{
+    let mut buf = [0xaa; 1520];
+    let len = match ConnId::new(number) {
+        Some(c) => encode(segment, c, dir, &mut buf),
+        None => 0,
+    };
+    let (written, rest) = buf.split_at(len);
+    written == bytes
+        && rest.iter().all(|b| *b == 0xaa)
+        && what_came(number, dir, bytes) == Some(Ok(*segment))
+}
+
+/// The SYNs of a client and of the cluster.
+fn syns_are_spelled() -> bool {
     let opening = Segment {
         seq: Seq(1000),
         ack: Seq(0),
@@ -221,7 +237,6 @@ fn writes_and_reads(rt: HostRuntime) {
         mss: Some(1460),
         payload: b"",
     };
-    spells(&rt, 1, Dir::ToCluster, &opening, OPENING);
     let answer = Segment {
         seq: Seq(5000),
         ack: Seq(1001),
@@ -234,13 +249,17 @@ fn writes_and_reads(rt: HostRuntime) {
         mss: Some(1460),
         payload: b"",
     };
-    spells(
-        &rt,
-        1,
-        Dir::ToClient,
-        &answer,
-        b"\x00\x50\x9c\x40\x00\x00\x13\x88\x00\x00\x03\xe9\x60\x12\x40\x00\x90\x12\x00\x00\x02\x04\x05\xb4",
-    );
+    is_spelled(1, Dir::ToCluster, &opening, OPENING)
+        && is_spelled(
+            1,
+            Dir::ToClient,
+            &answer,
+            b"\x00\x50\x9c\x40\x00\x00\x13\x88\x00\x00\x03\xe9\x60\x12\x40\x00\x90\x12\x00\x00\x02\x04\x05\xb4",
+        )
+}
+
+/// Data, an acknowledgement alone, and the greatest numbers.
+fn data_is_spelled() -> bool {
     let request = Segment {
         seq: Seq(1001),
         ack: Seq(5001),
@@ -253,13 +272,6 @@ fn writes_and_reads(rt: HostRuntime) {
         mss: None,
         payload: b"GET /x HTTP/1.1\r\nHost: lard\r\n\r\n",
     };
-    spells(
-        &rt,
-        1,
-        Dir::ToCluster,
-        &request,
-        b"\x9c\x40\x00\x50\x00\x00\x03\xe9\x00\x00\x13\x89\x50\x18\xff\xff\x0d\xd5\x00\x00\x47\x45\x54\x20\x2f\x78\x20\x48\x54\x54\x50\x2f\x31\x2e\x31\x0d\x0a\x48\x6f\x73\x74\x3a\x20\x6c\x61\x72\x64\x0d\x0a\x0d\x0a",
-    );
     let plain = Segment {
         seq: Seq(1032),
         ack: Seq(5046),
@@ -271,13 +283,6 @@ fn writes_and_reads(rt: HostRuntime) {
         mss: None,
         payload: b"",
     };
-    spells(
-        &rt,
-        1,
-        Dir::ToCluster,
-        &plain,
-        b"\x9c\x40\x00\x50\x00\x00\x04\x08\x00\x00\x13\xb6\x50\x10\xff\xff\xe7\x83\x00\x00",
-    );
     let last = Segment {
         seq: Seq(4294967295),
         ack: Seq(2147483648),
@@ -291,13 +296,26 @@ fn writes_and_reads(rt: HostRuntime) {
         mss: None,
         payload: b"abc",
     };
-    spells(
-        &rt,
+    is_spelled(
+        1,
+        Dir::ToCluster,
+        &request,
+        b"\x9c\x40\x00\x50\x00\x00\x03\xe9\x00\x00\x13\x89\x50\x18\xff\xff\x0d\xd5\x00\x00\x47\x45\x54\x20\x2f\x78\x20\x48\x54\x54\x50\x2f\x31\x2e\x31\x0d\x0a\x48\x6f\x73\x74\x3a\x20\x6c\x61\x72\x64\x0d\x0a\x0d\x0a",
+    ) && is_spelled(
+        1,
+        Dir::ToCluster,
+        &plain,
+        b"\x9c\x40\x00\x50\x00\x00\x04\x08\x00\x00\x13\xb6\x50\x10\xff\xff\xe7\x83\x00\x00",
+    ) && is_spelled(
         16384,
         Dir::ToClient,
         &last,
         b"\x00\x50\x9c\x40\xff\xff\xff\xff\x80\x00\x00\x00\x50\x19\x00\x00\x7a\xd3\x00\x00\x61\x62\x63",
-    );
+    )
+}
+
+/// A reset, and a segment whose checksum is 0.
+fn rest_is_spelled() -> bool {
     let reset = Segment {
         seq: Seq(77),
         ack: Seq(0),
@@ -309,13 +327,6 @@ fn writes_and_reads(rt: HostRuntime) {
         mss: None,
         payload: b"",
     };
-    spells(
-        &rt,
-        300,
-        Dir::ToClient,
-        &reset,
-        b"\x00\x50\x9c\x40\x00\x00\x00\x4d\x00\x00\x00\x00\x50\x04\x00\x00\xfd\xd5\x00\x00",
-    );
     let without_sum = Segment {
         seq: Seq(7),
         ack: Seq(0),
@@ -327,57 +338,102 @@ fn writes_and_reads(rt: HostRuntime) {
         mss: None,
         payload: b"",
     };
-    spells(
-        &rt,
+    is_spelled(
+        300,
+        Dir::ToClient,
+        &reset,
+        b"\x00\x50\x9c\x40\x00\x00\x00\x4d\x00\x00\x00\x00\x50\x04\x00\x00\xfd\xd5\x00\x00",
+    ) && is_spelled(
         1,
         Dir::ToCluster,
         &without_sum,
         b"\x9c\x40\x00\x50\x00\x00\x00\x07\x00\x00\x00\x00\x50\x10\xff\x3a\x00\x00\x00\x00",
-    );
+    )
+}
+
+#[test]
+fn writes_and_reads(rt: HostRuntime) {
+    let spelled = [syns_are_spelled(), data_is_spelled(), rest_is_spelled()];
+    assert_eq!(rt; spelled, [true; 3]);
+}
+
+/// The SYN from 7 on with a window of 9, which names this size.
+fn syn(mss: Option<u16>) -> Segment<'static> {
+    Segment {
+        seq: Seq(7),
+        ack: Seq(0),
+        flags: Flags {
+            syn: true,
+            ..Flags::NONE
+        },
+        wnd: 9,
+        mss,
+        payload: b"",
+    }
+}
+
+/// The first row that is read otherwise.
+fn misread(rows: &[ReadRow]) -> Option<&'static str> {
+    for &(name, bytes, mss) in rows {
+        if what_came(1, Dir::ToCluster, bytes) != Some(Ok(syn(mss))) {
+            return Some(name);
+        }
+    }
+    None
 }
 
 #[test]
 fn reads_options(rt: HostRuntime) {
-    let c = ConnId::new(1).expect(&rt, "the number of a connection");
-    for &(name, bytes, mss) in READ {
-        assert!(rt; bytes.len() <= 65_535);
-        let segment = Segment {
-            seq: Seq(7),
-            ack: Seq(0),
-            flags: Flags {
-                syn: true,
-                ..Flags::NONE
-            },
-            wnd: 9,
-            mss,
-            payload: b"",
-        };
-        assert_eq!(rt; decode(bytes, c, Dir::ToCluster), Ok(segment), "{name}");
+    assert_eq!(rt; misread(READ), None);
+}
+
+/// Whether this fault is found in what came on a connection.
+fn is_refused(number: u32, bytes: &[u8], fault: SegFault) -> bool {
+    what_came(number, Dir::ToCluster, bytes) == Some(Err(fault))
+}
+
+/// The first row that is not refused so.
+fn not_refused(rows: &[RefusedRow]) -> Option<&'static str> {
+    for &(name, bytes, fault) in rows {
+        if !is_refused(1, bytes, fault) {
+            return Some(name);
+        }
     }
+    None
 }
 
 #[test]
 fn refuses(rt: HostRuntime) {
-    let c = ConnId::new(1).expect(&rt, "the number of a connection");
-    for &(name, bytes, fault) in REFUSED {
-        assert!(rt; bytes.len() <= 65_535);
-        assert_eq!(rt; decode(bytes, c, Dir::ToCluster), Err(fault), "{name}");
-    }
-    let other = ConnId::new(2).expect(&rt, "the number of a connection");
-    assert_eq!(rt; decode(OPENING, other, Dir::ToCluster), Err(SegFault::Sum));
+    assert_eq!(rt; not_refused(REFUSED), None);
+    assert!(rt; is_refused(2, OPENING, SegFault::Sum));
 }
 
 #[test]
 fn segments_without_data(rt: HostRuntime) {
-    let reset = Segment::control(Seq(7), Seq(9), Flags::RST_ACK, 3);
-    assert_eq!(rt; (reset.seq, reset.ack, reset.wnd), (Seq(7), Seq(9), 3));
-    assert_eq!(rt;
-        (reset.flags.rst, reset.flags.ack, reset.flags.syn),
-        (true, true, false)
-    );
-    assert!(rt; reset.payload.is_empty() && reset.mss.is_none());
-    let ready = Ready::control(Seq(7), Seq(9), Flags::ACK, 3, 31);
-    assert_eq!(rt; (ready.seq, ready.ack, ready.wnd), (Seq(7), Seq(9), 3));
-    assert_eq!(rt; (ready.at, ready.len), (31, 0));
-    assert_eq!(rt; (ready.flags.ack, ready.flags.rst), (true, false));
+    let segment = Segment {
+        seq: Seq(7),
+        ack: Seq(9),
+        flags: Flags {
+            rst: true,
+            ack: true,
+            ..Flags::NONE
+        },
+        wnd: 3,
+        mss: None,
+        payload: b"",
+    };
+    let ready = Ready {
+        seq: Seq(7),
+        ack: Seq(9),
+        flags: Flags {
+            ack: true,
+            ..Flags::NONE
+        },
+        wnd: 3,
+        mss: None,
+        at: 31,
+        len: 0,
+    };
+    assert!(rt; Segment::control(Seq(7), Seq(9), Flags::RST_ACK, 3) == segment);
+    assert!(rt; Ready::control(Seq(7), Seq(9), Flags::ACK, 3, 31) == ready);
 }

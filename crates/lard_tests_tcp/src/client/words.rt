@@ -1,7 +1,7 @@
 //! A client's runs in words: what is called, what comes, and what has to be sent. Numbers are offsets: those of the
 //! client count from its SYN, those of the cluster from its own.
 
-use lard_base::{ConnId, NoMemory};
+use lard_base::ConnId;
 use lard_client::{Client, Heard};
 use lard_segment::{Flags, Ready, Segment};
 use lard_seq::Seq;
@@ -91,25 +91,27 @@ pub struct Numbers {
     pub mss: u16,
 }
 
-/// Plain first numbers, and ones that begin again soon.
-pub(super) fn numbers_of(wnd: u16, mss: u16) -> [Numbers; 2] {
-    [
+impl Numbers {
+    /// Plain first numbers.
+    pub(super) fn plain(wnd: u16, mss: u16) -> Numbers {
         Numbers {
             isn: 1000,
             iss: 5000,
             wnd,
             mss,
-        },
+        }
+    }
+
+    /// First numbers that begin again soon.
+    pub(super) fn wrapping(wnd: u16, mss: u16) -> Numbers {
         Numbers {
             isn: 0xffff_fffe,
             iss: 0xffff_fffc,
             wnd,
             mss,
-        },
-    ]
-}
+        }
+    }
 
-impl Numbers {
     /// A segment of the cluster.
     fn got(self, words: Got) -> Segment<'static> {
         let (flags, seq, ack, wnd, payload) = words;
@@ -153,45 +155,42 @@ impl Numbers {
         Client::open(alloc, c, Seq(self.isn), self.wnd, self.mss)
     }
 
-    /// Goes over the calls, and looks at what comes of each.
-    pub(super) fn play(
-        self,
-        rt: &impl Abort,
-        client: &mut Client,
-        calls: &[Call],
-    ) -> Result<(), NoMemory> {
-        for call in calls {
-            self.call(rt, client, *call)?;
+    /// How many of the calls come out as they are written down, up to the first that does not.
+    pub(super) fn done(self, client: &mut Client, calls: &[Call]) -> usize {
+        for (count, call) in calls.iter().enumerate() {
+            if !self.agrees(client, *call) {
+                return count;
+            }
         }
-        Ok(())
+        calls.len()
     }
 
-    fn call(self, rt: &impl Abort, client: &mut Client, call: Call) -> Result<(), NoMemory> {
+    /// Whether of the call comes what has to.
+    fn agrees(self, client: &mut Client, call: Call) -> bool {
         match call {
-            Call::Write(bytes, writes) => return write(rt, client, bytes, writes),
+            Call::Write(bytes, writes) => return is_written(client, bytes, writes),
+            Call::Abort(want) => return client.abort() == self.sent(want),
+            Call::Timer(want) => return client.timer() == self.sent(want),
+            Call::Emit(want) => return client.emit() == self.sent(want),
+            Call::Hears(got, part, want) => return self.is_heard(client, got, part, want),
+            Call::Refuses(got, want) => return self.is_refused(client, got, want),
+            Call::Is(armed, holding) => return client.armed() == armed
+                && client.holding() == holding,
             Call::Shut => client.shut(),
             Call::Hold => client.hold(),
             Call::Take => client.take(),
-            Call::Abort(want) => assert_eq!(rt; client.abort(), self.sent(want)),
-            Call::Timer(want) => assert_eq!(rt; client.timer(), self.sent(want)),
-            Call::Emit(want) => assert_eq!(rt; client.emit(), self.sent(want)),
-            Call::Hears(got, part, want) => self.hears(rt, client, got, part, want),
-            Call::Refuses(got, want) => self.refuses(rt, client, got, want),
-            Call::Is(armed, holding) => {
-                assert_eq!(rt; (client.armed(), client.holding()), (armed, holding));
-            }
         }
-        Ok(())
+        true
     }
 
-    fn hears(
+    /// Whether so much of a segment is accepted, and the one segment is sent.
+    fn is_heard(
         self,
-        rt: &impl Abort,
         client: &mut Client,
         got: Got,
         part: (u32, u32, bool),
         want: Option<Sent>,
-    ) {
+    ) -> bool {
         let (from, len, eof) = part;
         let heard = Heard {
             from,
@@ -199,32 +198,28 @@ impl Numbers {
             eof,
             reply: None,
         };
-        assert_eq!(rt; client.arrive(&self.got(got)), heard);
-        assert_eq!(rt; client.emit(), self.sent(want));
-        if want.is_some() {
-            assert_eq!(rt; client.emit(), None);
-        }
+        client.arrive(&self.got(got)) == heard && self.is_last_sent(client, want)
     }
 
-    fn refuses(self, rt: &impl Abort, client: &mut Client, got: Got, want: Option<Sent>) {
+    /// Whether this segment is sent, and none behind it.
+    fn is_last_sent(self, client: &mut Client, want: Option<Sent>) -> bool {
+        client.emit() == self.sent(want) && (want.is_none() || client.emit().is_none())
+    }
+
+    /// Whether a segment has this reply, and nothing is sent.
+    fn is_refused(self, client: &mut Client, got: Got, want: Option<Sent>) -> bool {
         let heard = Heard {
             reply: self.sent(want),
             ..Heard::nothing()
         };
-        assert_eq!(rt; client.arrive(&self.got(got)), heard);
-        assert_eq!(rt; client.emit(), None);
+        client.arrive(&self.got(got)) == heard && client.emit().is_none()
     }
 }
 
-/// Writes bytes, and looks at whether it still writes.
-pub(super) fn write(
-    rt: &impl Abort,
-    client: &mut Client,
-    bytes: &[u8],
-    writes: bool,
-) -> Result<(), NoMemory> {
-    assert!(rt; client.written() < 1000 && bytes.len() < 1000);
-    assert_eq!(rt; client.writes(), writes);
-    assert_eq!(rt; client.write(bytes)?, writes);
-    Ok(())
+/// Whether it still writes, or not, before it is given these bytes and as it says then.
+pub(super) fn is_written(client: &mut Client, bytes: &[u8], writes: bool) -> bool {
+    if client.written() >= 1000 || bytes.len() >= 1000 {
+        return false;
+    }
+    client.writes() == writes && client.write(bytes) == Ok(writes)
 }

@@ -5,11 +5,15 @@ use crate::endpoint::words::Step::{
     Again, Clear, Comes, Consumes, Discards, Finishes, Holds, Idle, PeerDone, Queues, Rests, Sends,
     Unread, WasReset,
 };
-use crate::endpoint::words::{Step, W, established, from_syn};
-use lard_endpoint::Arrival::{AckOwed, Fine, Reset};
-use std::test::Fail;
+use crate::endpoint::words::{Said, Step, Undone, W, established, from_syn};
+use lard_base::NoMemory;
+use lard_endpoint::Arrival::{self, AckOwed, Fine, Reset};
+use std::alloc::Global;
 
-const OPENINGS: &[(&str, &[Step])] = &[
+/// A name, and what happens.
+type Run = (&'static str, &'static [Step]);
+
+const OPENINGS: &[Run] = &[
     (
         "the SYN with ACK is sent, and again until it is acknowledged",
         &[
@@ -68,91 +72,162 @@ const OPENINGS: &[(&str, &[Step])] = &[
     ),
 ];
 
+/// Of runs that begin with the SYN of a client.
+fn undone_from_syn(alloc: Global, runs: &[Run]) -> Result<Undone, NoMemory> {
+    for &(name, steps) in runs {
+        let count = from_syn(alloc, W, None, steps)?;
+        if count < steps.len() {
+            return Ok(Some((name, count)));
+        }
+    }
+    Ok(None)
+}
+
+/// Of runs that begin where the connection is established.
+fn undone_established(alloc: Global, runs: &[Run]) -> Result<Undone, NoMemory> {
+    for &(name, steps) in runs {
+        let count = established(alloc, W, None, steps)?;
+        if count < steps.len() {
+            return Ok(Some((name, count)));
+        }
+    }
+    Ok(None)
+}
+
 /// RFC 9293, 3.10.7.2 (LISTEN), and 3.10.7.4 while the SYN is not acknowledged.
 #[test]
-fn connections_open(rt: HostRuntime) -> Result<(), Fail> {
-    for &(name, steps) in OPENINGS {
-        assert_eq!(rt;
-            from_syn(rt.alloc(), W, None, steps)?,
-            steps.len(),
-            "{name}"
-        );
+fn connections_open(rt: HostRuntime) {
+    assert_eq!(rt; undone_from_syn(rt.alloc(), OPENINGS), Ok(None));
+}
+
+/// A segment's number, its answer and its data; whether its ACK is used, and what is unread then.
+type Row = (
+    &'static str,
+    u32,
+    Arrival,
+    &'static [u8],
+    bool,
+    &'static [u8],
+);
+
+const WINDOW_OPEN: &[Row] = &[
+    (
+        "no length, window above 0: the first number",
+        1001,
+        Fine,
+        b"",
+        true,
+        b"",
+    ),
+    ("the last number", 17_384, Fine, b"", true, b""),
+    ("one after the last", 17_385, AckOwed, b"", false, b""),
+    ("one before the first", 1000, AckOwed, b"", false, b""),
+    (
+        "length, window above 0: the first number lies in it",
+        17_384,
+        AckOwed,
+        b"y",
+        true,
+        b"",
+    ),
+    (
+        "the last number lies in it",
+        1000,
+        AckOwed,
+        b"xy",
+        true,
+        b"y",
+    ),
+    ("both lie before it", 999, AckOwed, b"xy", false, b""),
+    ("both lie after it", 17_385, AckOwed, b"y", false, b""),
+];
+
+const WINDOW_SHUT: &[ShutRow] = &[
+    (
+        "no length, window 0: RCV.NXT",
+        Ack(17_385, 5002),
+        Fine,
+        true,
+    ),
+    ("one before it", Ack(17_384, 5002), AckOwed, false),
+    ("one after it", Ack(17_386, 5002), AckOwed, false),
+    (
+        "length, window 0: never, but the ACK is taken at RCV.NXT",
+        Data(17_385, 5002, b"y"),
+        AckOwed,
+        true,
+    ),
+    ("and of a FIN", Fin(17_385, 5002, b""), AckOwed, true),
+    ("not before it", Data(17_384, 5002, b"xy"), AckOwed, false),
+    ("not of a SYN", SynAck(17_385, 5002), AckOwed, false),
+    ("not without ACK", Bare(17_385, b"y"), AckOwed, false),
+];
+
+/// How many of five steps are done where such a segment comes.
+fn at_open_window(alloc: Global, row: &Row) -> Result<usize, NoMemory> {
+    let &(_, seq, answer, data, used, unread) = row;
+    let steps = [
+        Queues(b"z"),
+        Sends(Push(5001, 1001, b"z"), 16_384),
+        Comes(Data(seq, 5002, data), W, answer),
+        Clear(used),
+        Unread(unread),
+    ];
+    established(alloc, W, None, &steps)
+}
+
+/// The first row where not all five are done.
+fn undone_at_open_window(alloc: Global, rows: &[Row]) -> Result<Undone, NoMemory> {
+    for row in rows {
+        let count = at_open_window(alloc, row)?;
+        if count < 5 {
+            return Ok(Some((row.0, count)));
+        }
     }
-    Ok(())
+    Ok(None)
+}
+
+/// A segment at a window of 0, its answer, and whether its ACK is used.
+type ShutRow = (&'static str, Said, Arrival, bool);
+
+/// How many of eight steps are done where such a segment comes at a window of 0.
+fn at_shut_window(alloc: Global, row: &ShutRow) -> Result<usize, NoMemory> {
+    let &(_, said, answer, used) = row;
+    let steps = [
+        Queues(b"z"),
+        Sends(Push(5001, 1001, b"z"), 16_384),
+        Comes(Whole(1001, 5001, false), W, AckOwed),
+        Sends(Ack(5002, 17_385), 0),
+        Comes(said, W, answer),
+        Clear(used),
+        Holds(16_384),
+        PeerDone(false),
+    ];
+    established(alloc, W, None, &steps)
+}
+
+/// The first row where not all eight are done.
+fn undone_at_shut_window(alloc: Global, rows: &[ShutRow]) -> Result<Undone, NoMemory> {
+    for row in rows {
+        let count = at_shut_window(alloc, row)?;
+        if count < 8 {
+            return Ok(Some((row.0, count)));
+        }
+    }
+    Ok(None)
 }
 
 /// RFC 9293, 3.10.7.4, first: check sequence number, table 6. The ACK of an acceptable segment is used, so it tells which.
 #[test]
-fn four_cases_of_acceptability(rt: HostRuntime) -> Result<(), Fail> {
-    for (name, seq, ack, data, used, unread) in [
-        (
-            "no length, window above 0: the first number",
-            1001,
-            Fine,
-            "",
-            true,
-            "",
-        ),
-        ("the last number", 17_384, Fine, "", true, ""),
-        ("one after the last", 17_385, AckOwed, "", false, ""),
-        ("one before the first", 1000, AckOwed, "", false, ""),
-        (
-            "length, window above 0: the first number lies in it",
-            17_384,
-            AckOwed,
-            "y",
-            true,
-            "",
-        ),
-        ("the last number lies in it", 1000, AckOwed, "xy", true, "y"),
-        ("both lie before it", 999, AckOwed, "xy", false, ""),
-        ("both lie after it", 17_385, AckOwed, "y", false, ""),
-    ] {
-        let steps = [
-            Queues(b"z"),
-            Sends(Push(5001, 1001, b"z"), 16_384),
-            Comes(Data(seq, 5002, data.as_bytes()), W, ack),
-            Clear(used),
-            Unread(unread.as_bytes()),
-        ];
-        assert_eq!(rt; established(rt.alloc(), W, None, &steps)?, 5, "{name}");
-    }
-    for (name, said, answer, used) in [
-        (
-            "no length, window 0: RCV.NXT",
-            Ack(17_385, 5002),
-            Fine,
-            true,
-        ),
-        ("one before it", Ack(17_384, 5002), AckOwed, false),
-        ("one after it", Ack(17_386, 5002), AckOwed, false),
-        (
-            "length, window 0: never, but the ACK is taken at RCV.NXT",
-            Data(17_385, 5002, b"y"),
-            AckOwed,
-            true,
-        ),
-        ("and of a FIN", Fin(17_385, 5002, b""), AckOwed, true),
-        ("not before it", Data(17_384, 5002, b"xy"), AckOwed, false),
-        ("not of a SYN", SynAck(17_385, 5002), AckOwed, false),
-        ("not without ACK", Bare(17_385, b"y"), AckOwed, false),
-    ] {
-        let steps = [
-            Queues(b"z"),
-            Sends(Push(5001, 1001, b"z"), 16_384),
-            Comes(Whole(1001, 5001, false), W, AckOwed),
-            Sends(Ack(5002, 17_385), 0),
-            Comes(said, W, answer),
-            Clear(used),
-            Holds(16_384),
-            PeerDone(false),
-        ];
-        assert_eq!(rt; established(rt.alloc(), W, None, &steps)?, 8, "{name}");
-    }
-    Ok(())
+fn four_cases_of_acceptability(rt: HostRuntime) {
+    let undone = [
+        undone_at_open_window(rt.alloc(), WINDOW_OPEN),
+        undone_at_shut_window(rt.alloc(), WINDOW_SHUT),
+    ];
+    assert_eq!(rt; undone, [Ok(None); 2]);
 }
 
-const RESETS: &[(&str, &[Step])] = &[
+const RESETS: &[Run] = &[
     (
         "a RST at RCV.NXT resets, and nothing is sent any more",
         &[
@@ -222,27 +297,24 @@ const RESETS: &[(&str, &[Step])] = &[
     ),
 ];
 
-/// RFC 9293, 3.10.7.4, second: check the RST bit, and fourth: check the SYN bit.
-#[test]
-fn resets_and_challenges(rt: HostRuntime) -> Result<(), Fail> {
-    for &(name, steps) in RESETS {
-        assert_eq!(rt;
-            established(rt.alloc(), W, None, steps)?,
-            steps.len(),
-            "{name}"
-        );
-    }
-    for (name, said, answer) in [
-        ("before the SYN is acknowledged too", Rst(1001), Reset),
-        ("where it is challenged as well", Rst(1002), AckOwed),
-    ] {
-        let steps = [Sends(SynAck(5000, 1001), 16_384), Comes(said, 0, answer)];
-        assert_eq!(rt; from_syn(rt.alloc(), W, None, &steps)?, 2, "{name}");
-    }
-    Ok(())
+/// How many of two steps are done where such a RST comes before the SYN is acknowledged.
+fn reset_early(alloc: Global, said: Said, answer: Arrival) -> Result<usize, NoMemory> {
+    let steps = [Sends(SynAck(5000, 1001), 16_384), Comes(said, 0, answer)];
+    from_syn(alloc, W, None, &steps)
 }
 
-const TEXTS: &[(&str, &[Step])] = &[
+/// RFC 9293, 3.10.7.4, second: check the RST bit, and fourth: check the SYN bit.
+#[test]
+fn resets_and_challenges(rt: HostRuntime) {
+    assert_eq!(rt; undone_established(rt.alloc(), RESETS), Ok(None));
+    let early = [
+        reset_early(rt.alloc(), Rst(1001), Reset),
+        reset_early(rt.alloc(), Rst(1002), AckOwed),
+    ];
+    assert_eq!(rt; early, [Ok(2); 2], "before the SYN is acknowledged too");
+}
+
+const TEXTS: &[Run] = &[
     (
         "old data alone is acknowledged again, old and new at once is cut",
         &[
@@ -318,13 +390,6 @@ const TEXTS: &[(&str, &[Step])] = &[
 
 /// RFC 9293, 3.10.7.4, seventh: process the segment text, and eighth: check the FIN bit; 3.8.6.2.2 on windows that open.
 #[test]
-fn text_is_taken_in_order(rt: HostRuntime) -> Result<(), Fail> {
-    for &(name, steps) in TEXTS {
-        assert_eq!(rt;
-            established(rt.alloc(), W, None, steps)?,
-            steps.len(),
-            "{name}"
-        );
-    }
-    Ok(())
+fn text_is_taken_in_order(rt: HostRuntime) {
+    assert_eq!(rt; undone_established(rt.alloc(), TEXTS), Ok(None));
 }

@@ -15,7 +15,7 @@ pub const W: u16 = 65_535;
 pub static X: [u8; 16_384] = [b'x'; 16_384];
 
 /// A segment, by its numbers and its data. Each but `Syn` and `Rst` has ACK.
-#[derive(Clone, Copy, Debug)]
+#[derive(Clone, Copy)]
 pub enum Said {
     Syn(u32),
     SynAck(u32, u32),
@@ -32,7 +32,7 @@ pub enum Said {
 }
 
 /// What happens to an endpoint, and what it makes of it. The window stands behind a segment.
-#[derive(Clone, Copy, Debug)]
+#[derive(Clone, Copy)]
 pub enum Step {
     /// The segment comes, and is answered so.
     Comes(Said, u16, Arrival),
@@ -238,6 +238,9 @@ pub fn listening(
     };
     Endpoint::listen(alloc, &syn, Seq(iss))
 }
+
+/// The first run that is not done to its end, by its name, and how many of its steps are.
+pub type Undone = Option<(&'static str, usize)>;
 
 /// How many of the steps an endpoint does from the SYN of a client on, whose first number is 1000. Its own is 5000.
 pub fn from_syn(
