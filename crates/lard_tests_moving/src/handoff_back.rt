@@ -1,11 +1,13 @@
 //! Each call once, with ample memory, along the stays of one connection.
 
+use crate::compare::same;
 use lard_base::{Bytes, ConnId, EndpointParts, Epoch, NoMemory, Reason};
 use lard_endpoint::Final;
 use lard_handoff_back::{Adopt, BackTable};
 use lard_segment::{Flags, Segment};
 use lard_seq::Seq;
 use std::alloc::Global;
+use std::process::Abort;
 use std::test::Fail;
 
 /// A reset of the client, whose next byte is 1032.
@@ -39,6 +41,15 @@ fn parts(alloc: Global) -> Result<EndpointParts, NoMemory> {
         served: 0,
         unread: Bytes::from_slice(alloc, b"GET /a HTTP/1.1\r\nHost: lard\r\n\r\n")?,
     })
+}
+
+/// The last numbers of a connection whose request was read and that said nothing.
+fn last(reason: Reason) -> Final {
+    Final {
+        reason,
+        snd: Seq(5001),
+        rcv: Seq(1032),
+    }
 }
 
 /// What an Offer of these parts is to the table, where they are valid and there is memory for it.
@@ -87,85 +98,86 @@ fn kill(table: &mut BackTable, c: &ConnId) -> Option<Final> {
     Some(table.kill(*c))
 }
 
+/// Four offers of which the first stays, and what is not done while it stays.
+fn begins(
+    rt: &impl Abort,
+    table: &mut BackTable,
+    alloc: Global,
+    c: &ConnId,
+    parts: &EndpointParts,
+) {
+    let offers = (
+        offered(table, alloc, c, Epoch(2), parts),
+        offered(table, alloc, c, Epoch(2), parts),
+        offered(table, alloc, c, Epoch(4), parts),
+        offered(table, alloc, c, Epoch(1), parts),
+    );
+    let (new, again, stale) = (Some(Adopt::New), Some(Adopt::Again), Some(Adopt::Stale));
+    same(rt, &offers, &(new, again, stale, stale));
+    same(rt, &table.epoch(*c), &Some(Epoch(2)));
+    let early = (table.give(*c), reset(table, c, Epoch(3)));
+    same(rt, &early, &(None, false));
+}
+
+/// The stay ends by the limit, and its end is acknowledged.
+fn is_killed(
+    rt: &impl Abort,
+    table: &mut BackTable,
+    alloc: Global,
+    c: &ConnId,
+    parts: &EndpointParts,
+) {
+    same(rt, &kill(table, c), &Some(last(Reason::Limit)));
+    let early = (offered(table, alloc, c, Epoch(4), parts), table.epoch(*c));
+    same(rt, &early, &(Some(Adopt::Stale), None));
+    let awaited = (
+        table.on_ended_ack(*c, Epoch(3)),
+        table.on_ended_ack(*c, Epoch(2)),
+        table.on_ended_ack(*c, Epoch(2)),
+    );
+    same(rt, &awaited, &(false, true, false));
+    let again = offered(table, alloc, c, Epoch(2), parts);
+    same(rt, &again, &Some(Adopt::Again));
+}
+
+/// The connection comes back, is reset by its client, and is given away once.
+fn is_given(
+    rt: &impl Abort,
+    table: &mut BackTable,
+    alloc: Global,
+    c: &ConnId,
+    parts: &EndpointParts,
+) {
+    let back = offered(table, alloc, c, Epoch(4), parts);
+    same(rt, &back, &Some(Adopt::New));
+    let ended = (reset(table, c, Epoch(4)), table.give(*c), table.give(*c));
+    same(rt, &ended, &(true, Some(last(Reason::Peer)), None));
+    same(rt, &table.on_ended_ack(*c, Epoch(4)), &true);
+}
+
+/// The connection comes back, and its endpoint is closed.
+fn is_closed(
+    rt: &impl Abort,
+    table: &mut BackTable,
+    alloc: Global,
+    c: &ConnId,
+    parts: &EndpointParts,
+) {
+    let back = offered(table, alloc, c, Epoch(6), parts);
+    same(rt, &back, &Some(Adopt::New));
+    let closed = (close(table, c, Epoch(6)), table.on_ended_ack(*c, Epoch(6)));
+    same(rt, &closed, &(true, true));
+}
+
 #[test]
 fn a_connection_stays_once_for_each_epoch(rt: HostRuntime) -> Result<(), Fail> {
-    let alloc = rt.alloc();
     let c = ConnId::new(1).ok_or("a connection")?;
-    let parts = parts(alloc).ok().ok_or("memory")?;
-    let mut table = BackTable::new(alloc);
-    let offers = (
-        offered(&mut table, alloc, &c, Epoch(2), &parts),
-        offered(&mut table, alloc, &c, Epoch(2), &parts),
-        offered(&mut table, alloc, &c, Epoch(4), &parts),
-        offered(&mut table, alloc, &c, Epoch(1), &parts),
-    );
-    let here = table.epoch(c);
-    let early = (table.give(c), reset(&mut table, &c, Epoch(3)));
-    let killed = kill(&mut table, &c);
-    let awaited = (
-        offered(&mut table, alloc, &c, Epoch(4), &parts),
-        table.epoch(c),
-        table.on_ended_ack(c, Epoch(3)),
-        table.on_ended_ack(c, Epoch(2)),
-        table.on_ended_ack(c, Epoch(2)),
-        offered(&mut table, alloc, &c, Epoch(2), &parts),
-    );
-    let back = offered(&mut table, alloc, &c, Epoch(4), &parts);
-    let ended = (
-        reset(&mut table, &c, Epoch(4)),
-        table.give(c),
-        table.give(c),
-    );
-    let closed = (
-        table.on_ended_ack(c, Epoch(4)),
-        offered(&mut table, alloc, &c, Epoch(6), &parts),
-        close(&mut table, &c, Epoch(6)),
-        table.on_ended_ack(c, Epoch(6)),
-    );
+    let parts = parts(rt.alloc()).ok().ok_or("memory")?;
+    let mut table = BackTable::new(rt.alloc());
+    begins(&rt, &mut table, rt.alloc(), &c, &parts);
+    is_killed(&rt, &mut table, rt.alloc(), &c, &parts);
+    is_given(&rt, &mut table, rt.alloc(), &c, &parts);
+    is_closed(&rt, &mut table, rt.alloc(), &c, &parts);
     table.finish();
-    assert_eq!(rt;
-        offers,
-        (
-            Some(Adopt::New),
-            Some(Adopt::Again),
-            Some(Adopt::Stale),
-            Some(Adopt::Stale)
-        )
-    );
-    assert_eq!(rt; here, Some(Epoch(2)));
-    assert_eq!(rt; early, (None, false));
-    assert_eq!(rt;
-        killed,
-        Some(Final {
-            reason: Reason::Limit,
-            snd: Seq(5001),
-            rcv: Seq(1032)
-        })
-    );
-    assert_eq!(rt;
-        awaited,
-        (
-            Some(Adopt::Stale),
-            None,
-            false,
-            true,
-            false,
-            Some(Adopt::Again)
-        )
-    );
-    assert_eq!(rt; back, Some(Adopt::New));
-    assert_eq!(rt;
-        ended,
-        (
-            true,
-            Some(Final {
-                reason: Reason::Peer,
-                snd: Seq(5001),
-                rcv: Seq(1032)
-            }),
-            None
-        )
-    );
-    assert_eq!(rt; closed, (true, Some(Adopt::New), true, true));
     Ok(())
 }

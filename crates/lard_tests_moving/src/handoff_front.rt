@@ -3,6 +3,7 @@
 ghost use Rattle.std.specs.Prelude.{IfSome};
 ghost use Rattle.lard_base.specs.Parts.{IsValidParts};
 
+use crate::compare::{same, same_bytes};
 use lard_base::{Bytes, ConnId, EndpointParts, Epoch, NoMemory, NodeId, Reason};
 use lard_endpoint::Final;
 use lard_handoff_front::{Back, FrontConn, FrontTable, OnEnded};
@@ -10,6 +11,7 @@ use lard_message::{Body, decode};
 use lard_segment::{Flags, Segment};
 use lard_seq::Seq;
 use std::alloc::Global;
+use std::process::Abort;
 use std::test::Fail;
 
 /// No control bit.
@@ -83,57 +85,64 @@ fn offer(
     table.offer(alloc, *c, *node, 0)
 }
 
-#[test]
-fn a_connection_goes_to_a_node_and_ends(rt: HostRuntime) -> Result<(), Fail> {
-    let c = ConnId::new(1).ok_or("a connection")?;
-    let node = NodeId::new(1).ok_or("a node")?;
-    let mut table = FrontTable::new(rt.alloc());
-    let early = (
-        begin(&mut table, rt.alloc(), &c),
-        offer(&mut table, rt.alloc(), &c, &node).is_err(),
-    );
-    let there = establish(&mut table, &c);
-    let waits = matches!(table.state(c), Some(FrontConn::Waiting(_)));
-    let bytes = offer(&mut table, rt.alloc(), &c, &node);
-    let offering = matches!(table.state(c), Some(FrontConn::Offering { .. }));
-    let none = match table.take(c) {
+/// The Offer of a connection that has said nothing.
+const OFFER: &[u8] =
+    b"\x01\x01\x00\x01\x00\x02\x00\x00\x00\x23\x00\x00\x03\xe8\x00\x00\x13\x88\x00\x00\x00\x00\x00\x00\x00\x00\x01\xff\xff\x00\x00\x03\xe9\x00\x00\x13\x89\x05\xb4\x00\x00\x00\x00\x00\x00";
+
+/// Begins a connection and offers it, not before it is established.
+fn is_offered(rt: &impl Abort, table: &mut FrontTable, alloc: Global, c: &ConnId, node: &NodeId) {
+    let began = begin(table, alloc, c);
+    let early = offer(table, alloc, c, node).is_err();
+    assert!(rt; began && early && establish(table, c));
+    assert!(rt; matches!(table.state(*c), Some(FrontConn::Waiting(_))));
+    let bytes = offer(table, alloc, c, node).ok().expect(rt, "memory");
+    same_bytes(rt, bytes.as_slice(), OFFER);
+    assert!(rt; matches!(table.state(*c), Some(FrontConn::Offering { .. })));
+}
+
+/// Whether no endpoint is lent.
+fn lends_none(table: &mut FrontTable, c: &ConnId) -> bool {
+    match table.take(*c) {
         Some(endpoint) => {
             let _last = endpoint.kill();
             false
         }
         None => true,
-    };
+    }
+}
+
+/// Each answer of the node counts once, in the epoch of the Offer.
+fn is_answered(rt: &impl Abort, table: &mut FrontTable, c: &ConnId) {
     let taken = (
-        table.on_taken(c, Epoch(1)),
-        table.on_taken(c, Epoch(2)),
-        table.on_taken(c, Epoch(2)),
+        table.on_taken(*c, Epoch(1)),
+        table.on_taken(*c, Epoch(2)),
+        table.on_taken(*c, Epoch(2)),
     );
+    same(rt, &taken, &(false, true, false));
     let ended = (
-        table.on_ended(c, Epoch(3), LAST),
-        table.on_ended(c, Epoch(2), LAST),
-        table.on_ended(c, Epoch(2), LAST),
-        table.on_ended(c, Epoch(3), LAST),
+        table.on_ended(*c, Epoch(3), LAST),
+        table.on_ended(*c, Epoch(2), LAST),
+        table.on_ended(*c, Epoch(2), LAST),
+        table.on_ended(*c, Epoch(3), LAST),
     );
-    let epoch = table.epoch(c);
+    let new = OnEnded::New(Epoch(3));
+    same(
+        rt,
+        &ended,
+        &(OnEnded::Stale, new, OnEnded::Again, OnEnded::Stale),
+    );
+    same(rt, &table.epoch(*c), &Some(Epoch(3)));
+}
+
+#[test]
+fn a_connection_goes_to_a_node_and_ends(rt: HostRuntime) -> Result<(), Fail> {
+    let c = ConnId::new(1).ok_or("a connection")?;
+    let node = NodeId::new(1).ok_or("a node")?;
+    let mut table = FrontTable::new(rt.alloc());
+    is_offered(&rt, &mut table, rt.alloc(), &c, &node);
+    assert!(rt; lends_none(&mut table, &c));
+    is_answered(&rt, &mut table, &c);
     table.finish();
-    assert_eq!(rt; early, (true, true));
-    assert!(rt; there && waits && offering && none);
-    let bytes = bytes.ok().ok_or("memory")?;
-    assert_eq!(rt;
-        bytes.as_slice(),
-        b"\x01\x01\x00\x01\x00\x02\x00\x00\x00\x23\x00\x00\x03\xe8\x00\x00\x13\x88\x00\x00\x00\x00\x00\x00\x00\x00\x01\xff\xff\x00\x00\x03\xe9\x00\x00\x13\x89\x05\xb4\x00\x00\x00\x00\x00\x00".as_slice()
-    );
-    assert_eq!(rt; taken, (false, true, false));
-    assert_eq!(rt;
-        ended,
-        (
-            OnEnded::Stale,
-            OnEnded::New(Epoch(3)),
-            OnEnded::Again,
-            OnEnded::Stale
-        )
-    );
-    assert_eq!(rt; epoch, Some(Epoch(3)));
     Ok(())
 }
 
@@ -157,7 +166,7 @@ fn a_connection_ends_at_the_front_end(rt: HostRuntime) -> Result<(), Fail> {
     let ended = table.on_ended(c, Epoch(1), LAST);
     table.finish();
     assert!(rt; began && closed && state);
-    assert_eq!(rt; ended, OnEnded::Stale);
+    same(&rt, &ended, &OnEnded::Stale);
     Ok(())
 }
 
@@ -233,11 +242,9 @@ fn a_node_refuses_a_connection(rt: HostRuntime) -> Result<(), Fail> {
         table.epoch(c),
     );
     table.finish();
-    assert_eq!(rt;
-        answers,
-        Some((Back::Stale, Back::New(Epoch(3)), Back::Stale))
-    );
-    assert_eq!(rt; behind, (true, Some(Epoch(3))));
+    let want = Some((Back::Stale, Back::New(Epoch(3)), Back::Stale));
+    same(&rt, &answers, &want);
+    same(&rt, &behind, &(true, Some(Epoch(3))));
     Ok(())
 }
 
@@ -258,10 +265,8 @@ fn a_node_gives_a_connection_back(rt: HostRuntime) -> Result<(), Fail> {
     );
     table.finish();
     assert!(rt; taken);
-    assert_eq!(rt;
-        answers,
-        Some((Back::Stale, Back::New(Epoch(3)), Back::Again))
-    );
-    assert_eq!(rt; behind, (true, Some(Epoch(3))));
+    let want = Some((Back::Stale, Back::New(Epoch(3)), Back::Again));
+    same(&rt, &answers, &want);
+    same(&rt, &behind, &(true, Some(Epoch(3))));
     Ok(())
 }

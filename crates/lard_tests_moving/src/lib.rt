@@ -4,6 +4,8 @@
 #![tactic(auto)]
 
 #[cfg(test)]
+mod compare;
+#[cfg(test)]
 mod handoff_back;
 #[cfg(test)]
 mod handoff_front;

@@ -1,10 +1,10 @@
 //! Messages whose bytes were worked out by hand, and bytes that are none, fault by fault.
 
+use crate::compare::{alike, same, same_bytes};
 use lard_base::{Bytes, ConnId, EndpointParts, Epoch, NodeId, Nodes, Path, Paths, Reason};
 use lard_message::{Body, Message, MsgFault, decode, encode};
 use std::alloc::Global;
 use std::process::Abort;
-use std::test::Fail;
 
 /// A request for `/a`.
 const REQUEST: &[u8] = b"GET /a HTTP/1.1\r\nHost: lard\r\n\r\n";
@@ -187,89 +187,32 @@ const REFUSED: &[(&str, &[u8], MsgFault)] = &[
     ),
 ];
 
-fn same_parts(a: &EndpointParts, b: &EndpointParts) -> bool {
-    let received = a.irs == b.irs && a.got == b.got && a.fin == b.fin && a.served == b.served;
-    let sent = a.iss == b.iss && a.una == b.una && a.mss == b.mss;
-    let window = a.wnd == b.wnd && a.wl1 == b.wl1 && a.wl2 == b.wl2;
-    received && sent && window && a.unread.as_slice() == b.unread.as_slice()
+fn bytes(rt: &impl Abort, alloc: Global, text: &[u8]) -> Bytes {
+    Bytes::from_slice(alloc, text).ok().expect(rt, "memory")
 }
 
-fn same_paths(a: &[Path], b: &[Path]) -> bool {
-    a.len() == b.len() && a.iter().zip(b).all(|(x, y)| x.as_slice() == y.as_slice())
-}
-
-/// Whether two messages say the same.
-fn is_same(a: &Message, b: &Message) -> bool {
-    if a.c != b.c || a.epoch != b.epoch {
-        return false;
-    }
-    match (&a.body, &b.body) {
-        (Body::Offer(x), Body::Offer(y)) => same_parts(x, y),
-        (Body::Taken, Body::Taken) => true,
-        (Body::Forward(x), Body::Forward(y)) => x.as_slice() == y.as_slice(),
-        (
-            Body::Ask {
-                number,
-                queue,
-                size,
-                paths,
-            },
-            Body::Ask {
-                number: n,
-                queue: q,
-                size: s,
-                paths: ps,
-            },
-        ) => number == n && queue == q && size == s && same_paths(paths.as_slice(), ps.as_slice()),
-        (
-            Body::Tag { number, nodes },
-            Body::Tag {
-                number: n,
-                nodes: ns,
-            },
-        ) => { number == n && nodes.as_slice() == ns.as_slice() }
-        (Body::Fetch { r, path }, Body::Fetch { r: n, path: p }) => {
-            r == n && path.as_slice() == p.as_slice()
-        }
-        (Body::Content { r, bytes }, Body::Content { r: n, bytes: b }) => {
-            r == n && bytes.as_slice() == b.as_slice()
-        }
-        (
-            Body::Ended {
-                reason,
-                snd,
-                rcv,
-                count,
-            },
-            Body::Ended {
-                reason: why,
-                snd: s,
-                rcv: r,
-                count: n,
-            },
-        ) => reason == why && snd == s && rcv == r && count == n,
-        (Body::EndedAck, Body::EndedAck) => true,
-        _ => false,
-    }
+fn path(rt: &impl Abort, alloc: Global, text: &str) -> Path {
+    Path::from_slice(alloc, text.as_bytes())
+        .ok()
+        .expect(rt, "memory")
 }
 
 /// The message is written as these bytes, and they are read as the message.
 fn spells(rt: &impl Abort, alloc: Global, number: u32, epoch: u16, body: Body, bytes: &[u8]) {
-    let c = ConnId::new(number).expect(rt, "the number of a connection");
+    assert!(rt; body.is_of_table(), "{bytes:?}");
     let message = Message {
-        c,
+        c: ConnId::new(number).expect(rt, "the number of a connection"),
         epoch: Epoch(epoch),
         body,
     };
-    assert!(rt; message.body.is_of_table(), "{bytes:?}");
     let written = encode(alloc, &message).ok().expect(rt, "memory");
-    assert_eq!(rt; written.as_slice(), bytes);
+    same_bytes(rt, written.as_slice(), bytes);
     let read = decode(alloc, bytes).ok().expect(rt, "a message");
-    assert!(rt; is_same(&read, &message), "{bytes:?}");
+    alike(rt, alloc, &read, &message);
 }
 
 #[test]
-fn offers_are_spelled(rt: HostRuntime) -> Result<(), Fail> {
+fn offers_are_spelled(rt: HostRuntime) {
     let first = EndpointParts {
         irs: 1000,
         iss: 5000,
@@ -281,7 +224,7 @@ fn offers_are_spelled(rt: HostRuntime) -> Result<(), Fail> {
         wl2: 5001,
         mss: 1460,
         served: 0,
-        unread: Bytes::from_slice(rt.alloc(), REQUEST).ok().ok_or("memory")?,
+        unread: bytes(&rt, rt.alloc(), REQUEST),
     };
     spells(&rt, rt.alloc(), 1, 2, Body::Offer(first), FIRST_OFFER);
     let later = EndpointParts {
@@ -295,114 +238,93 @@ fn offers_are_spelled(rt: HostRuntime) -> Result<(), Fail> {
         wl2: 5044,
         mss: 1460,
         served: 1,
-        unread: Bytes::from_slice(rt.alloc(), b"").ok().ok_or("memory")?,
+        unread: bytes(&rt, rt.alloc(), b""),
     };
     spells(&rt, rt.alloc(), 1, 4, Body::Offer(later), LATER_OFFER);
-    Ok(())
 }
 
+const TAKEN: &[u8] = b"\x01\x02\x00\x01\x00\x02\x00\x00\x00\x00";
+
+const OVER: &[u8] =
+    b"\x01\x09\x40\x00\xff\xff\x00\x00\x00\x0d\x02\x00\x00\x00\x07\x00\x00\x00\x08\x00\x00\x00\xc9";
+
+const ENDED_ACK: &[u8] = b"\x01\x0a\x00\x01\x00\x02\x00\x00\x00\x00";
+
 #[test]
-fn words_of_a_move_are_spelled(rt: HostRuntime) -> Result<(), Fail> {
-    let alloc = rt.alloc();
-    spells(
-        &rt,
-        alloc,
-        1,
-        2,
-        Body::Taken,
-        b"\x01\x02\x00\x01\x00\x02\x00\x00\x00\x00",
-    );
-    let segment = Bytes::from_slice(alloc, &FORWARD[10..])
-        .ok()
-        .ok_or("memory")?;
-    spells(&rt, alloc, 1, 2, Body::Forward(segment), FORWARD);
+fn words_of_a_move_are_spelled(rt: HostRuntime) {
+    spells(&rt, rt.alloc(), 1, 2, Body::Taken, TAKEN);
+    let segment = bytes(&rt, rt.alloc(), &FORWARD[10..]);
+    spells(&rt, rt.alloc(), 1, 2, Body::Forward(segment), FORWARD);
     let ended = Body::Ended {
         reason: Reason::Closed,
         snd: 5045,
         rcv: 1033,
         count: 0,
     };
-    spells(&rt, alloc, 1, 2, ended, ENDED);
+    spells(&rt, rt.alloc(), 1, 2, ended, ENDED);
     let over = Body::Ended {
         reason: Reason::Limit,
         snd: 7,
         rcv: 8,
         count: 201,
     };
-    spells(
-        &rt,
-        alloc,
-        16_384,
-        65_535,
-        over,
-        b"\x01\x09\x40\x00\xff\xff\x00\x00\x00\x0d\x02\x00\x00\x00\x07\x00\x00\x00\x08\x00\x00\x00\xc9",
-    );
-    spells(
-        &rt,
-        alloc,
-        1,
-        2,
-        Body::EndedAck,
-        b"\x01\x0a\x00\x01\x00\x02\x00\x00\x00\x00",
-    );
-    Ok(())
+    spells(&rt, rt.alloc(), 16_384, 65_535, over, OVER);
+    spells(&rt, rt.alloc(), 1, 2, Body::EndedAck, ENDED_ACK);
 }
 
-#[test]
-fn words_of_later_requests_are_spelled(rt: HostRuntime) -> Result<(), Fail> {
-    let alloc = rt.alloc();
+/// Seven paths.
+fn paths(rt: &impl Abort, alloc: Global) -> Paths {
     let mut paths = Paths::new(alloc);
-    for path in [b"/b", b"/c", b"/d", b"/e", b"/f", b"/g", b"/h"] {
-        paths
-            .push(Path::from_slice(alloc, path).ok().ok_or("memory")?)
-            .ok()
-            .ok_or("memory")?;
+    for text in ["/b", "/c", "/d", "/e", "/f", "/g", "/h"] {
+        paths.push(path(rt, alloc, text)).ok().expect(rt, "memory");
     }
-    spells(
-        &rt,
-        alloc,
-        1,
-        2,
-        Body::Ask {
-            number: 1,
-            queue: 1,
-            size: 8,
-            paths,
-        },
-        ASK,
-    );
+    paths
+}
+
+/// The same node seven times.
+fn nodes(rt: &impl Abort, alloc: Global) -> Nodes {
+    let node = NodeId::new(1).expect(rt, "the number of a node");
     let mut nodes = Nodes::new(alloc);
     for _ in 0..7u8 {
-        nodes
-            .push(NodeId::new(1).ok_or("a node")?)
-            .ok()
-            .ok_or("memory")?;
+        nodes.push(node).ok().expect(rt, "memory");
     }
-    spells(&rt, alloc, 1, 2, Body::Tag { number: 1, nodes }, TAG);
-    let path = Path::from_slice(alloc, b"/b").ok().ok_or("memory")?;
-    spells(
-        &rt,
-        alloc,
-        3,
-        2,
-        Body::Fetch { r: 2, path },
-        b"\x01\x07\x00\x03\x00\x02\x00\x00\x00\x08\x00\x00\x00\x02\x00\x02/b",
-    );
-    let bytes = Bytes::from_slice(alloc, b"x").ok().ok_or("memory")?;
-    spells(
-        &rt,
-        alloc,
-        3,
-        2,
-        Body::Content { r: 2, bytes },
-        b"\x01\x08\x00\x03\x00\x02\x00\x00\x00\x09\x00\x00\x00\x02\x00\x00\x00\x01x",
-    );
-    Ok(())
+    nodes
+}
+
+const FETCH: &[u8] = b"\x01\x07\x00\x03\x00\x02\x00\x00\x00\x08\x00\x00\x00\x02\x00\x02/b";
+
+const CONTENT: &[u8] = b"\x01\x08\x00\x03\x00\x02\x00\x00\x00\x09\x00\x00\x00\x02\x00\x00\x00\x01x";
+
+#[test]
+fn words_of_later_requests_are_spelled(rt: HostRuntime) {
+    let ask = Body::Ask {
+        number: 1,
+        queue: 1,
+        size: 8,
+        paths: paths(&rt, rt.alloc()),
+    };
+    spells(&rt, rt.alloc(), 1, 2, ask, ASK);
+    let tag = Body::Tag {
+        number: 1,
+        nodes: nodes(&rt, rt.alloc()),
+    };
+    spells(&rt, rt.alloc(), 1, 2, tag, TAG);
+    let fetch = Body::Fetch {
+        r: 2,
+        path: path(&rt, rt.alloc(), "/b"),
+    };
+    spells(&rt, rt.alloc(), 3, 2, fetch, FETCH);
+    let content = Body::Content {
+        r: 2,
+        bytes: bytes(&rt, rt.alloc(), b"x"),
+    };
+    spells(&rt, rt.alloc(), 3, 2, content, CONTENT);
 }
 
 #[test]
 fn what_is_no_message_is_refused(rt: HostRuntime) {
     for &(name, bytes, fault) in REFUSED {
-        assert_eq!(rt; decode(rt.alloc(), bytes).err(), Some(fault), "{name}");
+        let found = decode(rt.alloc(), bytes).err();
+        same(&rt, &(name, found), &(name, Some(fault)));
     }
 }

@@ -1,10 +1,11 @@
 //! Each call once, with ample memory.
 
+use crate::compare::same;
 use lard_base::limits::MAX_MESSAGE_BYTES;
 use lard_base::{Bytes, ConnId, NodeId, Place, TimerKind};
 use lard_resend::{Pending, PendingKey};
+use std::alloc::Global;
 use std::process::Abort;
-use std::test::Fail;
 
 fn conn(rt: &impl Abort, number: u32) -> ConnId {
     ConnId::new(number).expect(rt, "the number of a connection")
@@ -50,50 +51,63 @@ fn numbers(pending: &Pending, c: ConnId) -> [u32; 4] {
     all
 }
 
-#[test]
-fn what_is_held_is_found_in_order(rt: HostRuntime) -> Result<(), Fail> {
-    let (one, two) = (conn(&rt, 1), conn(&rt, 2));
-    let node = Place::Node(NodeId::new(2).ok_or("a node")?);
-    let seven = Bytes::from_slice(rt.alloc(), b"seven")
-        .ok()
-        .ok_or("memory")?;
-    let three = Bytes::from_slice(rt.alloc(), b"three")
-        .ok()
-        .ok_or("memory")?;
-    let older = Bytes::from_slice(rt.alloc(), b"older")
-        .ok()
-        .ok_or("memory")?;
-    let asked = Bytes::from_slice(rt.alloc(), b"asked")
-        .ok()
-        .ok_or("memory")?;
-    let offered = Bytes::from_slice(rt.alloc(), b"offered")
-        .ok()
-        .ok_or("memory")?;
-    let mut pending = Pending::new(rt.alloc());
-    let kept = hold(&mut pending, fetch(one, 7), node, seven)
-        && hold(&mut pending, fetch(one, 3), Place::Front, older)
-        && renew(&mut pending, fetch(one, 3), node, three)
-        && hold(&mut pending, sole(one, TimerKind::Ask), Place::Front, asked)
-        && hold(&mut pending, sole(two, TimerKind::Offer), node, offered);
-    let order = numbers(&pending, one);
-    let again = pending.again(fetch(one, 3)) == Some((node, b"three".as_slice()))
-        && pending.again(sole(one, TimerKind::Ask)) == Some((Place::Front, b"asked".as_slice()))
-        && pending.again(fetch(one, 4)).is_none()
-        && pending.get(&fetch(one, 7)).is_some();
+fn bytes(rt: &impl Abort, alloc: Global, text: &[u8]) -> Bytes {
+    Bytes::from_slice(alloc, text).ok().expect(rt, "memory")
+}
+
+/// Holds four messages of a connection, of which one takes the place of an older one, and answers whether all were held.
+fn are_held(
+    rt: &impl Abort,
+    pending: &mut Pending,
+    alloc: Global,
+    one: ConnId,
+    node: &Place,
+) -> bool {
+    let seven = bytes(rt, alloc, b"seven");
+    let older = bytes(rt, alloc, b"older");
+    let three = bytes(rt, alloc, b"three");
+    let asked = bytes(rt, alloc, b"asked");
+    hold(pending, fetch(one, 7), *node, seven)
+        && hold(pending, fetch(one, 3), Place::Front, older)
+        && renew(pending, fetch(one, 3), *node, three)
+        && hold(pending, sole(one, TimerKind::Ask), Place::Front, asked)
+}
+
+/// Each is found under its key, and no other.
+fn are_found(rt: &impl Abort, pending: &Pending, one: ConnId, node: &Place) {
+    same(rt, &numbers(pending, one), &[0, 3, 7, 0]);
+    let three = pending.again(fetch(one, 3)) == Some((*node, b"three".as_slice()));
+    let asked = pending.again(sole(one, TimerKind::Ask))
+        == Some((Place::Front, b"asked".as_slice()));
+    assert!(rt; three && asked);
+    assert!(rt; pending.again(fetch(one, 4)).is_none());
+    assert!(rt; pending.get(&fetch(one, 7)).is_some());
+}
+
+/// What is settled is held no more, and of a connection that is forgotten nothing is.
+fn are_settled(rt: &impl Abort, pending: &mut Pending, one: ConnId, two: ConnId) {
     let settled = (
         pending.settle(fetch(one, 3)),
         pending.settle(fetch(one, 3)),
         pending.settle(sole(two, TimerKind::Offer)),
     );
-    let after = (numbers(&pending, one), pending.of(two).len());
+    same(rt, &settled, &(true, false, true));
+    let after = (numbers(pending, one), pending.of(two).len());
+    same(rt, &after, &([0, 7, 0, 0], 0));
     pending.forget(one);
-    let left = pending.of(one).len();
+    same(rt, &pending.of(one).len(), &0);
+}
+
+#[test]
+fn what_is_held_is_found_in_order(rt: HostRuntime) {
+    let (one, two) = (conn(&rt, 1), conn(&rt, 2));
+    let node = Place::Node(NodeId::new(2).expect(&rt, "the number of a node"));
+    let mut pending = Pending::new(rt.alloc());
+    let held = are_held(&rt, &mut pending, rt.alloc(), one, &node);
+    let offered = bytes(&rt, rt.alloc(), b"offered");
+    let offers = hold(&mut pending, sole(two, TimerKind::Offer), node, offered);
+    assert!(rt; held && offers);
+    are_found(&rt, &pending, one, &node);
+    are_settled(&rt, &mut pending, one, two);
     pending.finish();
-    assert!(rt; kept);
-    assert_eq!(rt; order, [0, 3, 7, 0]);
-    assert!(rt; again);
-    assert_eq!(rt; settled, (true, false, true));
-    assert_eq!(rt; after, ([0, 7, 0, 0], 0));
-    assert_eq!(rt; left, 0);
-    Ok(())
 }
