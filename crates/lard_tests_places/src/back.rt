@@ -14,7 +14,6 @@ use lard_segment::{Dir, Flags, Segment};
 use lard_seq::Seq;
 use lard_serving::packet;
 use std::alloc::Global;
-use std::test::Fail;
 
 /// How many records, messages, segments and records of timers a step has.
 type Told = (usize, usize, usize, usize);
@@ -38,7 +37,16 @@ fn does(
     Ok((notes, messages, out.segments.len(), out.timers.len()))
 }
 
-/// The same, where a place says this of a connection that stays in its second epoch.
+/// What a place writes of a connection that stays in its second epoch.
+fn written(alloc: Global, c: ConnId, body: Body) -> Result<Bytes, NoMemory> {
+    if !body.is_of_table() {
+        return Err(NoMemory);
+    }
+    let epoch = Epoch(2);
+    encode(alloc, &Message { c, epoch, body })
+}
+
+/// What a node does where a place says this.
 fn hears(
     state: &mut NodeState,
     alloc: Global,
@@ -51,16 +59,65 @@ fn hears(
     requires stream { setting.now.stream ≤ MAX_STREAM_BYTES }
     ensures sound { OnOk result (IsNodeSound state.new) }
 {
-    if !body.is_of_table() {
-        return Err(NoMemory);
-    }
-    let epoch = Epoch(2);
-    let message = Message { c, epoch, body };
-    let bytes = encode(alloc, &message)?;
+    let bytes = written(alloc, c, body)?;
     does(state, alloc, setting, BackIn::Message { from, bytes })
 }
 
-/// All that may come for a connection that is not here.
+/// Bytes that are no segment, for a connection that is not here.
+fn drops_segment(
+    state: &mut NodeState,
+    alloc: Global,
+    setting: &Setting<'_>,
+    c: ConnId,
+) -> Result<Told, NoMemory>
+    requires sound { IsNodeSound state.old }
+    requires stream { setting.now.stream ≤ MAX_STREAM_BYTES }
+    ensures sound { OnOk result (IsNodeSound state.new) }
+{
+    let bytes = Bytes::from_slice(alloc, b"the bytes of no segment")?;
+    hears(state, alloc, setting, Place::Front, c, Body::Forward(bytes))
+}
+
+/// One node alone.
+fn alone(alloc: Global, n: NodeId) -> Result<Nodes, NoMemory> {
+    let mut nodes = Nodes::new(alloc);
+    nodes.push(n)?;
+    Ok(nodes)
+}
+
+/// The nodes of a batch, for such a connection.
+fn drops_tag(
+    state: &mut NodeState,
+    alloc: Global,
+    setting: &Setting<'_>,
+    c: ConnId,
+) -> Result<Told, NoMemory>
+    requires sound { IsNodeSound state.old }
+    requires stream { setting.now.stream ≤ MAX_STREAM_BYTES }
+    ensures sound { OnOk result (IsNodeSound state.new) }
+{
+    let nodes = alone(alloc, setting.n)?;
+    let tag = Body::Tag { number: 1, nodes };
+    hears(state, alloc, setting, Place::Front, c, tag)
+}
+
+/// A content from a node, for such a connection.
+fn drops_content(
+    state: &mut NodeState,
+    alloc: Global,
+    setting: &Setting<'_>,
+    c: ConnId,
+) -> Result<Told, NoMemory>
+    requires sound { IsNodeSound state.old }
+    requires stream { setting.now.stream ≤ MAX_STREAM_BYTES }
+    ensures sound { OnOk result (IsNodeSound state.new) }
+{
+    let bytes = Bytes::from_slice(alloc, b"alpha")?;
+    let content = Body::Content { r: 1, bytes };
+    hears(state, alloc, setting, Place::Node(setting.n), c, content)
+}
+
+/// All that may come for such a connection.
 fn drops_all(
     state: &mut NodeState,
     alloc: Global,
@@ -71,18 +128,11 @@ fn drops_all(
     requires stream { setting.now.stream ≤ MAX_STREAM_BYTES }
     ensures sound { OnOk result (IsNodeSound state.new) }
 {
-    let front = Place::Front;
-    let bytes = Bytes::from_slice(alloc, b"the bytes of no segment")?;
-    let segment = hears(state, alloc, setting, front, c, Body::Forward(bytes))?;
-    let mut nodes = Nodes::new(alloc);
-    nodes.push(setting.n)?;
-    let number = 1;
-    let tag = hears(state, alloc, setting, front, c, Body::Tag { number, nodes })?;
-    let (r, bytes) = (1, Bytes::from_slice(alloc, b"alpha")?);
-    let other = Place::Node(setting.n);
-    let file = hears(state, alloc, setting, other, c, Body::Content { r, bytes })?;
+    let segment = drops_segment(state, alloc, setting, c)?;
+    let tag = drops_tag(state, alloc, setting, c)?;
+    let content = drops_content(state, alloc, setting, c)?;
     let timer = does(state, alloc, setting, BackIn::Timer(c))?;
-    Ok([segment, tag, file, timer])
+    Ok([segment, tag, content, timer])
 }
 
 /// A Fetch of request `r` for `/a`: how many records and messages it brings, and how many jobs the disk has then.
@@ -134,24 +184,42 @@ fn drops_and_asks(
     Ok((dropped, asked))
 }
 
-#[test]
-fn nothing_is_here_and_a_file_is_read_once(rt: HostRuntime) -> Result<(), Fail> {
-    let n = NodeId::new(2).ok_or("a node")?;
-    let c = ConnId::new(1).ok_or("a connection")?;
-    let mut files = Files::new(rt.alloc());
-    files.add(b"/a", b"alpha").ok().ok_or("a file")?;
+/// One file.
+fn files(alloc: Global) -> Result<Files, NoMemory> {
+    let mut files = Files::new(alloc);
+    if files.add(b"/a", b"alpha").is_err() {
+        return Err(NoMemory);
+    }
+    Ok(files)
+}
+
+/// What a node says to all of that, with ample memory.
+fn dropped_and_asked(
+    alloc: Global,
+    n: NodeId,
+    c: ConnId,
+) -> Result<([Told; 4], [(usize, usize, u32); 3]), NoMemory> {
+    let files = files(alloc)?;
     let setting = Setting {
         n,
         files: &files,
         stream: 1000,
     };
-    let mut state = begin(rt.alloc(), 100).ok().ok_or("memory")?;
-    let told = drops_and_asks(&mut state, rt.alloc(), &setting, c);
+    let mut state = begin(alloc, 100)?;
+    let told = drops_and_asks(&mut state, alloc, &setting, c);
     finish(state);
-    let (dropped, asked) = told.ok().ok_or("memory")?;
-    assert_eq!(rt; dropped, [(0, 0, 0, 0); 4]);
-    assert_eq!(rt; asked, [(1, 0, 1), (0, 0, 1), (1, 1, 0)]);
-    Ok(())
+    told
+}
+
+#[test]
+fn nothing_is_here_and_a_file_is_read_once(rt: HostRuntime) {
+    let n = NodeId::new(2).expect(&rt, "the number of a node");
+    let c = ConnId::new(1).expect(&rt, "the number of a connection");
+    let asked = [(1, 0, 1), (0, 0, 1), (1, 1, 0)];
+    assert_eq!(rt;
+        dropped_and_asked(rt.alloc(), n, c),
+        Ok(([(0, 0, 0, 0); 4], asked))
+    );
 }
 
 /// A reset of the client, whose next byte is 1032.
@@ -187,6 +255,21 @@ fn parts(alloc: Global) -> Result<EndpointParts, NoMemory> {
     })
 }
 
+/// A connection is offered.
+fn offered(
+    state: &mut NodeState,
+    alloc: Global,
+    setting: &Setting<'_>,
+    c: ConnId,
+) -> Result<Told, NoMemory>
+    requires sound { IsNodeSound state.old }
+    requires stream { setting.now.stream ≤ MAX_STREAM_BYTES }
+    ensures sound { OnOk result (IsNodeSound state.new) }
+{
+    let parts = parts(alloc)?;
+    hears(state, alloc, setting, Place::Front, c, Body::Offer(parts))
+}
+
 /// A connection is offered twice, and its file is read.
 fn stays(
     state: &mut NodeState,
@@ -198,25 +281,33 @@ fn stays(
     requires stream { setting.now.stream ≤ MAX_STREAM_BYTES }
     ensures sound { OnOk result (IsNodeSound state.new) }
 {
-    let new = hears(
-        state,
-        alloc,
-        setting,
-        Place::Front,
-        c,
-        Body::Offer(parts(alloc)?),
-    )?;
-    let again = hears(
-        state,
-        alloc,
-        setting,
-        Place::Front,
-        c,
-        Body::Offer(parts(alloc)?),
-    )?;
+    let new = offered(state, alloc, setting, c)?;
+    let again = offered(state, alloc, setting, c)?;
     let read = does(state, alloc, setting, BackIn::Disk(1))?;
     let fired = does(state, alloc, setting, BackIn::Timer(c))?;
     Ok([new, again, read, fired])
+}
+
+/// The client resets it.
+fn resets(
+    state: &mut NodeState,
+    alloc: Global,
+    setting: &Setting<'_>,
+    c: ConnId,
+) -> Result<Told, NoMemory>
+    requires sound { IsNodeSound state.old }
+    requires stream { setting.now.stream ≤ MAX_STREAM_BYTES }
+    ensures sound { OnOk result (IsNodeSound state.new) }
+{
+    let segment = packet(alloc, &RESET, c, Dir::ToCluster)?;
+    hears(
+        state,
+        alloc,
+        setting,
+        Place::Front,
+        c,
+        Body::Forward(segment),
+    )
 }
 
 /// The client resets it, and the front end comes to know.
@@ -229,8 +320,7 @@ fn ends(
     requires sound { IsNodeSound state.old }
     requires stream { setting.now.stream ≤ MAX_STREAM_BYTES }
 {
-    let reset = Body::Forward(packet(alloc, &RESET, c, Dir::ToCluster)?);
-    let ended = hears(state, alloc, setting, Place::Front, c, reset)?;
+    let ended = resets(state, alloc, setting, c)?;
     let again = does(state, alloc, setting, BackIn::Timer(c))?;
     let known = hears(state, alloc, setting, Place::Front, c, Body::EndedAck)?;
     let quiet = does(state, alloc, setting, BackIn::Timer(c))?;
@@ -252,28 +342,29 @@ fn stays_and_ends(
     Ok((here, over))
 }
 
-#[test]
-fn a_connection_stays_and_ends(rt: HostRuntime) -> Result<(), Fail> {
-    let n = NodeId::new(2).ok_or("a node")?;
-    let c = ConnId::new(1).ok_or("a connection")?;
-    let mut files = Files::new(rt.alloc());
-    files.add(b"/a", b"alpha").ok().ok_or("a file")?;
+/// What a node says to all of that, with ample memory.
+fn stayed_and_ended(
+    alloc: Global,
+    n: NodeId,
+    c: ConnId,
+) -> Result<([Told; 4], [Told; 4]), NoMemory> {
+    let files = files(alloc)?;
     let setting = Setting {
         n,
         files: &files,
         stream: 1000,
     };
-    let mut state = begin(rt.alloc(), 100).ok().ok_or("memory")?;
-    let told = stays_and_ends(&mut state, rt.alloc(), &setting, c);
+    let mut state = begin(alloc, 100)?;
+    let told = stays_and_ends(&mut state, alloc, &setting, c);
     finish(state);
-    let (here, over) = told.ok().ok_or("memory")?;
-    assert_eq!(rt;
-        here,
-        [(2, 1, 1, 0), (0, 1, 0, 0), (2, 0, 1, 1), (0, 0, 1, 0)]
-    );
-    assert_eq!(rt;
-        over,
-        [(0, 1, 0, 2), (0, 1, 0, 0), (0, 0, 0, 1), (0, 0, 0, 0)]
-    );
-    Ok(())
+    told
+}
+
+#[test]
+fn a_connection_stays_and_ends(rt: HostRuntime) {
+    let n = NodeId::new(2).expect(&rt, "the number of a node");
+    let c = ConnId::new(1).expect(&rt, "the number of a connection");
+    let here = [(2, 1, 1, 0), (0, 1, 0, 0), (2, 0, 1, 1), (0, 0, 1, 0)];
+    let over = [(0, 1, 0, 2), (0, 1, 0, 0), (0, 0, 0, 1), (0, 0, 0, 0)];
+    assert_eq!(rt; stayed_and_ended(rt.alloc(), n, c), Ok((here, over)));
 }

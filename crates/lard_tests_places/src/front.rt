@@ -1,6 +1,6 @@
 //! Two connections through every rule of a front end with room for one, with ample memory.
 
-ghost use Rattle.std.specs.Prelude.{◌≡◌, ◌≤◌, IfOk, Ok};
+ghost use Rattle.std.specs.Prelude.{◌≡◌, ◌≤◌, IfOk, Ok, OnOk};
 ghost use Rattle.lard_base.specs.Config.{config_check};
 ghost use Rattle.lard_base.specs.declared.limits.TheConstants.{MAX_STREAM_BYTES};
 ghost use Rattle.lard_dispatch.specs.Sound.{AreBefore};
@@ -8,21 +8,34 @@ ghost use Rattle.lard_rules.specs.FrontSound.{IsFrontSound};
 ghost use Rattle.lard_front.specs.Bounds.{IsShort};
 
 use lard_base::limits::MAX_SEGMENT_BYTES;
-use lard_base::{Bytes, Config, ConnId, Millis, NodeId};
+use lard_base::{Bytes, Config, ConnId, Millis, NoMemory, NodeId};
 use lard_files::Files;
 use lard_front::place::{begin, finish};
 use lard_front::step::{Setting, step};
 use lard_rules::{FrontIn, FrontState, Out};
 use lard_seq::Seq;
 use std::alloc::Global;
-use std::test::Fail;
 
-/// What comes: a segment or the timer of a client with this number, or a message of node 1.
-#[derive(Clone, Copy, Debug)]
+/// What comes: a segment or the timer of the first or the second client, or a message of the node.
+#[derive(Clone, Copy)]
 enum Input {
-    Segment(u32, &'static [u8]),
+    Segment(Client, &'static [u8]),
     Message(&'static [u8]),
-    Timer(u32),
+    Timer(Client),
+}
+
+#[derive(Clone, Copy)]
+enum Client {
+    First,
+    Second,
+}
+
+/// Those who speak with the front end.
+#[derive(Clone, Copy)]
+struct Others {
+    first: ConnId,
+    second: ConnId,
+    node: NodeId,
 }
 
 /// How many notes, segments, records of connections given up, messages and records of timers.
@@ -51,41 +64,56 @@ const ENDED: &[u8] =
     b"\x01\x09\x00\x01\x00\x02\x00\x00\x00\r\x00\x00\x00\x13\xbd\x00\x00\x04\x08\x00\x00\x00\x00";
 
 const INPUTS: &[(Input, Told)] = &[
-    (Input::Timer(1), (0, 0, 0, 0, 0)),
-    (Input::Segment(1, SYN_1), (1, 1, 0, 0, 1)),
-    (Input::Segment(1, b"no segment"), (0, 0, 0, 0, 0)),
-    (Input::Segment(1, GET_1), (2, 0, 1, 1, 2)),
-    (Input::Timer(1), (0, 0, 0, 1, 0)),
+    (Input::Timer(Client::First), (0, 0, 0, 0, 0)),
+    (Input::Segment(Client::First, SYN_1), (1, 1, 0, 0, 1)),
+    (
+        Input::Segment(Client::First, b"no segment"),
+        (0, 0, 0, 0, 0),
+    ),
+    (Input::Segment(Client::First, GET_1), (2, 0, 1, 1, 2)),
+    (Input::Timer(Client::First), (0, 0, 0, 1, 0)),
     (Input::Message(b"no message"), (0, 0, 0, 0, 0)),
     (Input::Message(TAKEN), (0, 0, 0, 0, 1)),
-    (Input::Segment(2, SYN_2), (1, 1, 0, 0, 1)),
-    (Input::Segment(2, GET_2), (1, 1, 0, 0, 1)),
+    (Input::Segment(Client::Second, SYN_2), (1, 1, 0, 0, 1)),
+    (Input::Segment(Client::Second, GET_2), (1, 1, 0, 0, 1)),
     (Input::Message(ASK), (1, 0, 0, 1, 0)),
     (Input::Message(ASK), (0, 0, 0, 1, 0)),
-    (Input::Segment(1, ACK), (0, 0, 0, 1, 0)),
+    (Input::Segment(Client::First, ACK), (0, 0, 0, 1, 0)),
     (Input::Message(ENDED), (4, 0, 1, 2, 1)),
     (Input::Message(ENDED), (0, 0, 0, 1, 0)),
-    (Input::Segment(1, SYN_1), (0, 1, 0, 0, 0)),
+    (Input::Segment(Client::First, SYN_1), (0, 1, 0, 0, 0)),
 ];
 
-fn make_input(alloc: Global, input: &Input) -> Result<FrontIn, Fail>
+fn number_of(others: &Others, client: Client) -> ConnId {
+    match client {
+        Client::First => others.first,
+        Client::Second => others.second,
+    }
+}
+
+/// A segment of a client, where it fits a packet.
+fn make_segment(alloc: Global, c: ConnId, bytes: &[u8]) -> Result<FrontIn, NoMemory>
+    ensures { IfOk result IsShort }
+{
+    if bytes.len() > MAX_SEGMENT_BYTES {
+        return Err(NoMemory);
+    }
+    let (iss, bytes) = (Seq(5000), Bytes::from_slice(alloc, bytes)?);
+    Ok(FrontIn::Segment { c, iss, bytes })
+}
+
+fn make_input(alloc: Global, others: &Others, input: Input) -> Result<FrontIn, NoMemory>
     ensures { IfOk result IsShort }
 {
     match input {
-        Input::Segment(c, bytes) => {
-            if bytes.len() > MAX_SEGMENT_BYTES {
-                return Err(Fail::new("a segment that fits a packet"));
-            }
-            let c = ConnId::new(*c).ok_or("a client")?;
-            let (iss, bytes) = (Seq(5000), Bytes::from_slice(alloc, bytes)?);
-            return Ok(FrontIn::Segment { c, iss, bytes });
+        Input::Segment(client, bytes) => {
+            return make_segment(alloc, number_of(others, client), bytes);
         }
         Input::Message(bytes) => {
-            let from = NodeId::new(1).ok_or("a node")?;
-            let bytes = Bytes::from_slice(alloc, bytes)?;
+            let (from, bytes) = (others.node, Bytes::from_slice(alloc, bytes)?);
             return Ok(FrontIn::Message { from, bytes });
         }
-        Input::Timer(c) => return Ok(FrontIn::Timer(ConnId::new(*c).ok_or("a client")?)),
+        Input::Timer(client) => return Ok(FrontIn::Timer(number_of(others, client))),
     }
 }
 
@@ -99,49 +127,92 @@ fn told(out: &Out) -> Told {
     )
 }
 
-/// How many of these inputs, one after another, come to what stands beside them.
-fn runs(state: &mut FrontState, alloc: Global, setting: &Setting<'_>) -> Result<usize, Fail>
+/// What the front end does with an input.
+fn does(
+    state: &mut FrontState,
+    alloc: Global,
+    setting: &Setting<'_>,
+    others: &Others,
+    input: Input,
+) -> Result<Told, NoMemory>
+    requires sound { IsFrontSound state.old }
+    requires clock { AreBefore setting.now.now.0 state.old.dispatch.books.sets }
+    requires stream { setting.now.stream ≤ MAX_STREAM_BYTES }
+    ensures sound { OnOk result (IsFrontSound state.new) }
+    ensures clock { OnOk result (AreBefore setting.entry.now.now.0 state.new.dispatch.books.sets) }
+{
+    let input = make_input(alloc, others, input)?;
+    let out = step(state, alloc, setting, input)?;
+    Ok(told(&out))
+}
+
+/// The place of the first of these inputs, one after another, that comes to something else than stands beside it.
+fn first_wrong(
+    state: &mut FrontState,
+    alloc: Global,
+    setting: &Setting<'_>,
+    others: &Others,
+) -> Result<Option<usize>, NoMemory>
     requires sound { IsFrontSound state.old }
     requires clock { AreBefore setting.now.now.0 state.old.dispatch.books.sets }
     requires stream { setting.now.stream ≤ MAX_STREAM_BYTES }
 {
-    let mut n = 0;
-    'inputs: for (input, wanted) in INPUTS {
-        let input = make_input(alloc, input)?;
-        let out = step(state, alloc, setting, input)?;
-        if told(&out) != *wanted {
-            return Ok(n);
+    'inputs: for (at, (input, wanted)) in INPUTS.iter().enumerate() {
+        if does(state, alloc, setting, others, *input)? != *wanted {
+            return Ok(Some(at));
         }
-        n += 1;
     }
-    Ok(n)
+    Ok(None)
 }
 
 /// Room for one connection, at one node.
-fn config() -> Result<Config, Fail>
+fn config() -> Result<Config, NoMemory>
     ensures { IfOk result (λ config. config_check config ≡ Ok tt) }
 {
-    let mut config = Config::standard();
-    config.nodes = 1;
-    config.low = 2;
+    let config = Config {
+        nodes: 1,
+        low: 2,
+        ..Config::standard()
+    };
     if config.check().is_err() {
-        return Err(Fail::new("a configuration that can be used"));
+        return Err(NoMemory);
     }
     Ok(config)
 }
 
-#[test]
-fn two_connections(rt: HostRuntime) -> Result<(), Fail> {
-    let mut files = Files::new(rt.alloc());
-    files.add(b"/x", b"a file").ok().ok_or("a file")?;
+/// One file.
+fn files(alloc: Global) -> Result<Files, NoMemory> {
+    let mut files = Files::new(alloc);
+    if files.add(b"/x", b"a file").is_err() {
+        return Err(NoMemory);
+    }
+    Ok(files)
+}
+
+/// The place of the first input that comes to something else.
+fn run(alloc: Global, others: &Others) -> Result<Option<usize>, NoMemory> {
+    let files = files(alloc)?;
     let setting = Setting {
         files: &files,
         stream: 1 << 20,
         now: Millis(0),
     };
-    let mut state = begin(rt.alloc(), config()?)?;
-    let n = runs(&mut state, rt.alloc(), &setting);
+    let mut state = begin(alloc, config()?)?;
+    let wrong = first_wrong(&mut state, alloc, &setting, others);
     finish(state);
-    assert_eq!(rt; n?, INPUTS.len());
-    Ok(())
+    wrong
+}
+
+fn make_others() -> Option<Others> {
+    Some(Others {
+        first: ConnId::new(1)?,
+        second: ConnId::new(2)?,
+        node: NodeId::new(1)?,
+    })
+}
+
+#[test]
+fn two_connections(rt: HostRuntime) {
+    let others = make_others().expect(&rt, "numbers in range");
+    assert_eq!(rt; run(rt.alloc(), &others), Ok(None));
 }

@@ -13,7 +13,6 @@ use lard_journal::Rec;
 use lard_rules::{Progress, Stay};
 use lard_stay::{Env, Work, begin, come, complete, count_named, go_on, tag};
 use std::alloc::Global;
-use std::test::Fail;
 
 /// Requests for two files, and for none.
 const REQUESTS: &[u8] =
@@ -22,9 +21,9 @@ const REQUESTS: &[u8] =
 /// A request that was served: its number, the code, the length of the response, and the way by which its content came.
 type Served = (u32, u16, u32, Via);
 
-/// The endpoint of a connection on which the requests came, and nothing was answered.
-fn adopt(alloc: Global) -> Result<Endpoint, Fail> {
-    let parts = EndpointParts {
+/// What an endpoint is made of on which the requests came, and nothing was answered.
+fn parts(alloc: Global) -> Result<EndpointParts, NoMemory> {
+    Ok(EndpointParts {
         irs: 1000,
         iss: 5000,
         got: 84,
@@ -35,19 +34,39 @@ fn adopt(alloc: Global) -> Result<Endpoint, Fail> {
         wl2: 5001,
         mss: 1460,
         served: 0,
-        unread: Bytes::from_slice(alloc, REQUESTS).ok().ok_or("memory")?,
-    };
-    if !parts.is_valid() {
-        return Err(Fail::new("parts of which an endpoint can be made"));
-    }
-    Ok(Endpoint::adopt(alloc, &parts).ok().ok_or("memory")?)
+        unread: Bytes::from_slice(alloc, REQUESTS)?,
+    })
 }
 
-fn files(alloc: Global) -> Result<Files, Fail> {
+fn adopt(alloc: Global) -> Result<Endpoint, NoMemory> {
+    let parts = parts(alloc)?;
+    if !parts.is_valid() {
+        return Err(NoMemory);
+    }
+    Endpoint::adopt(alloc, &parts)
+}
+
+/// Two files.
+fn files(alloc: Global) -> Result<Files, NoMemory> {
     let mut files = Files::new(alloc);
-    files.add(b"/a", b"alpha").ok().ok_or("a file")?;
-    files.add(b"/b", b"be").ok().ok_or("a file")?;
+    if files.add(b"/a", b"alpha").is_err() || files.add(b"/b", b"be").is_err() {
+        return Err(NoMemory);
+    }
     Ok(files)
+}
+
+/// A cache with these paths.
+fn cache_of(alloc: Global, cached: &[&[u8]]) -> Result<Cache, NoMemory> {
+    let mut cache = Cache::new(alloc, 100)?;
+    for path in cached {
+        put(&mut cache, alloc, path)?;
+    }
+    Ok(cache)
+}
+
+fn put(cache: &mut Cache, alloc: Global, path: &[u8]) -> Result<(), NoMemory> {
+    let path = Path::from_slice(alloc, path)?;
+    cache.put(&path, 5)
 }
 
 /// Whether the requests of the batch are as far as that.
@@ -118,37 +137,38 @@ fn serve_by_nodes(
     alloc: Global,
     env: &Env<'_>,
     endpoint: &mut Endpoint,
-    two: NodeId,
-    three: NodeId,
+    work: &mut Work,
+    nodes: [NodeId; 3],
 ) -> Result<Wrong, NoMemory>
     requires stream { env.now.serve.stream ≤ MAX_STREAM_BYTES }
     requires queue { env.now.queue < 1000 }
-    requires whole { length endpoint.old.recv.unread ≤ endpoint.old.recv.got }
+    requires whole { IsInHandSound endpoint.old work.old }
+    requires none { (work.old.batch ≡ []) × (work.old.jobs ≡ []) }
 {
-    let mut work = begun(alloc);
-    begin(alloc, env, endpoint, &mut work)?;
-    if !stands(&work, &[Progress::Named, Progress::Ready(Via::Own)]) || !asks(&work, 1, 5, 3) {
+    let [_, two, three] = nodes;
+    begin(alloc, env, endpoint, work)?;
+    if !stands(work, &[Progress::Named, Progress::Ready(Via::Own)]) || !asks(work, 1, 5, 3) {
         return Ok(Some("a first batch, and the Ask for it"));
     }
-    if served(&work, 1) != Some((1, 200, 43, Via::Cache))
+    if served(work, 1) != Some((1, 200, 43, Via::Cache))
         || count_named(env.serve.files, work.batch.as_slice()) != 1
     {
         return Ok(Some("the first response, and one path to be assigned"));
     }
-    tag(alloc, env, endpoint, &mut work, &[two])?;
-    come(alloc, &mut work, three, 2);
+    tag(alloc, env, endpoint, work, &[two])?;
+    come(alloc, work, three, 2);
     let awaited = Progress::Awaited(two);
-    if !stands(&work, &[awaited, Progress::Ready(Via::Own)]) || !wants(&work, two) {
+    if !stands(work, &[awaited, Progress::Ready(Via::Own)]) || !wants(work, two) {
         return Ok(Some("a content that is wanted"));
     }
-    come(alloc, &mut work, two, 2);
+    come(alloc, work, two, 2);
     if work.jobs.len() != 0 {
         return Ok(Some("no job"));
     }
-    go_on(alloc, env, endpoint, &mut work)?;
-    if served(&work, 2) != Some((2, 200, 40, Via::Node(two)))
-        || served(&work, 3) != Some((3, 404, 45, Via::Own))
-        || !stands(&work, &[])
+    go_on(alloc, env, endpoint, work)?;
+    if served(work, 2) != Some((2, 200, 40, Via::Node(two)))
+        || served(work, 3) != Some((3, 404, 45, Via::Own))
+        || !stands(work, &[])
     {
         return Ok(Some("the other responses"));
     }
@@ -164,79 +184,101 @@ fn wants(work: &Work, node: NodeId) -> bool {
 }
 
 /// No file is cached, so that a job of the disk reads the first.
-fn serve_by_disk(alloc: Global, env: &Env<'_>, endpoint: &mut Endpoint) -> Result<Wrong, NoMemory>
+fn serve_by_disk(
+    alloc: Global,
+    env: &Env<'_>,
+    endpoint: &mut Endpoint,
+    work: &mut Work,
+) -> Result<Wrong, NoMemory>
     requires stream { env.now.serve.stream ≤ MAX_STREAM_BYTES }
     requires queue { env.now.queue < 1000 }
-    requires whole { length endpoint.old.recv.unread ≤ endpoint.old.recv.got }
+    requires whole { IsInHandSound endpoint.old work.old }
+    requires none { (work.old.batch ≡ []) × (work.old.jobs ≡ []) }
 {
-    let mut work = begun(alloc);
-    begin(alloc, env, endpoint, &mut work)?;
+    begin(alloc, env, endpoint, work)?;
     let read = [
         Progress::Reading,
         Progress::Named,
         Progress::Ready(Via::Own),
     ];
-    if !stands(&work, &read) || !asks(&work, 1, 6, 3) {
+    if !stands(work, &read) || !asks(work, 1, 6, 3) {
         return Ok(Some("a request that awaits the disk"));
     }
-    complete(alloc, &mut work, 1);
+    complete(alloc, work, 1);
     if work.jobs.len() != 1 {
         return Ok(Some("one job"));
     }
-    go_on(alloc, env, endpoint, &mut work)?;
+    go_on(alloc, env, endpoint, work)?;
     let left = [Progress::Named, Progress::Ready(Via::Own)];
-    if served(&work, 1) != Some((1, 200, 43, Via::Disk)) || !stands(&work, &left) {
+    if served(work, 1) != Some((1, 200, 43, Via::Disk)) || !stands(work, &left) {
         return Ok(Some("the first response"));
     }
     Ok(None)
 }
 
-/// A node's number.
-fn node(number: u32) -> Result<NodeId, Fail> {
-    Ok(NodeId::new(number).ok_or("a node")?)
+/// Serves the requests by other nodes, where a file is cached, and else by the disk.
+fn serve(
+    alloc: Global,
+    env: &Env<'_>,
+    endpoint: &mut Endpoint,
+    nodes: [NodeId; 3],
+    is_cached: bool,
+) -> Result<Wrong, NoMemory>
+    requires stream { env.now.serve.stream ≤ MAX_STREAM_BYTES }
+    requires queue { env.now.queue < 1000 }
+    requires whole { length endpoint.old.recv.unread ≤ endpoint.old.recv.got }
+{
+    let mut work = begun(alloc);
+    if is_cached {
+        serve_by_nodes(alloc, env, endpoint, &mut work, nodes)
+    } else {
+        serve_by_disk(alloc, env, endpoint, &mut work)
+    }
 }
 
 /// Serves the requests at node 1, whose disk has five jobs, with these paths cached.
-fn serve_at_node(alloc: Global, cached: &[&[u8]]) -> Result<(), Fail> {
-    let (one, two, three) = (node(1)?, node(2)?, node(3)?);
+fn serve_at_node(
+    alloc: Global,
+    cached: &[&[u8]],
+    nodes: [NodeId; 3],
+    c: ConnId,
+) -> Result<Wrong, NoMemory> {
+    let [node, _, _] = nodes;
     let files = files(alloc)?;
-    let mut cache = Cache::new(alloc, 100).ok().ok_or("memory")?;
-    for path in cached {
-        let path = Path::from_slice(alloc, path).ok().ok_or("memory")?;
-        cache.put(&path, 5).ok().ok_or("memory")?;
-    }
+    let cache = cache_of(alloc, cached)?;
     let env = Env {
         serve: lard_serving::Env {
-            place: Place::Node(one),
-            c: ConnId::new(7).ok_or("a connection")?,
+            place: Place::Node(node),
+            c,
             files: &files,
             stream: 1000,
         },
-        node: one,
+        node,
         epoch: Epoch(2),
         cache: &cache,
         queue: 5,
     };
     let mut endpoint = adopt(alloc)?;
     endpoint.law();
-    let done = if cached.len() == 0 {
-        serve_by_disk(alloc, &env, &mut endpoint)
-    } else {
-        serve_by_nodes(alloc, &env, &mut endpoint, two, three)
-    };
+    let done = serve(alloc, &env, &mut endpoint, nodes, cached.len() > 0);
     let _last = endpoint.kill();
-    match done.ok().ok_or("memory")? {
-        None => Ok(()),
-        Some(wrong) => Err(Fail::new(wrong)),
-    }
+    done
+}
+
+fn three_nodes() -> Option<[NodeId; 3]> {
+    Some([NodeId::new(1)?, NodeId::new(2)?, NodeId::new(3)?])
 }
 
 #[test]
-fn requests_are_served_in_their_order(rt: HostRuntime) -> Result<(), Fail> {
-    serve_at_node(rt.alloc(), &[b"/a"])
+fn requests_are_served_in_their_order(rt: HostRuntime) {
+    let nodes = three_nodes().expect(&rt, "the numbers of nodes");
+    let c = ConnId::new(7).expect(&rt, "the number of a connection");
+    assert_eq!(rt; serve_at_node(rt.alloc(), &[b"/a"], nodes, c), Ok(None));
 }
 
 #[test]
-fn a_job_makes_its_request_ready(rt: HostRuntime) -> Result<(), Fail> {
-    serve_at_node(rt.alloc(), &[])
+fn a_job_makes_its_request_ready(rt: HostRuntime) {
+    let nodes = three_nodes().expect(&rt, "the numbers of nodes");
+    let c = ConnId::new(7).expect(&rt, "the number of a connection");
+    assert_eq!(rt; serve_at_node(rt.alloc(), &[], nodes, c), Ok(None));
 }

@@ -1,13 +1,12 @@
 //! A report by hand, record by record, with a record that breaks each rule.
 
 use lard_audit::{Audit, AuditFault, Rule};
-use lard_base::Config;
+use lard_base::{Config, NoMemory};
 use lard_report::read_record;
 use std::alloc::Global;
-use std::test::Fail;
 
 /// Lines of a report, each with the first rule that its record breaks. One that breaks a rule is left out of the report.
-const LINES: &[(&str, Option<Rule>)] = &[
+const LINES: &[(&'static str, Option<Rule>)] = &[
     ("sent 1 c1 front 00", None),
     ("got 2", Some(Rule::Network)),
     ("got 1", None),
@@ -30,28 +29,38 @@ const LINES: &[(&str, Option<Rule>)] = &[
     ("clock 4", Some(Rule::Clock)),
 ];
 
-/// The first rule that the record of a line breaks, if it breaks one.
-fn broken(audit: &mut Audit, alloc: Global, line: &[u8]) -> Result<Option<Rule>, Fail> {
-    let rec = read_record(alloc, line).ok().ok_or("a record")?;
+/// The first rule that the record of a line breaks, if it breaks one. A line that is none counts as one without memory.
+fn broken(audit: &mut Audit, alloc: Global, line: &str) -> Result<Option<Rule>, NoMemory> {
+    let Ok(rec) = read_record(alloc, line.as_bytes()) else {
+        return Err(NoMemory);
+    };
     match audit.feed(&rec) {
         Ok(()) => Ok(None),
         Err(AuditFault::Broken(rule)) => Ok(Some(rule)),
-        Err(AuditFault::NoMemory) => Err(Fail::new("memory")),
+        Err(AuditFault::NoMemory) => Err(NoMemory),
     }
 }
 
-#[test]
-fn the_first_broken_rule_is_told(rt: HostRuntime) -> Result<(), Fail> {
-    let mut audit = Audit::new(rt.alloc(), Config::standard())
-        .ok()
-        .ok_or("memory")?;
-    audit.file(b"/a", 5)?;
-    for &(line, rule) in LINES {
-        assert_eq!(rt;
-            broken(&mut audit, rt.alloc(), line.as_bytes())?,
-            rule,
-            "{line}"
-        );
+/// The first line that is judged otherwise.
+fn first_wrong(audit: &mut Audit, alloc: Global) -> Result<Option<&'static str>, NoMemory> {
+    for (line, rule) in LINES {
+        if broken(audit, alloc, line)? != *rule {
+            return Ok(Some(*line));
+        }
     }
-    Ok(())
+    Ok(None)
+}
+
+/// The same, where one file is told.
+fn judged(alloc: Global) -> Result<Option<&'static str>, NoMemory> {
+    let mut audit = Audit::new(alloc, Config::standard())?;
+    if audit.file(b"/a", 5).is_err() {
+        return Err(NoMemory);
+    }
+    first_wrong(&mut audit, alloc)
+}
+
+#[test]
+fn the_first_broken_rule_is_told(rt: HostRuntime) {
+    assert_eq!(rt; judged(rt.alloc()), Ok(None));
 }

@@ -1,16 +1,27 @@
 //! Each call once, with ample memory.
 
-use lard_base::Path;
+use lard_base::{NoMemory, Path};
 use lard_cache::Cache;
 use std::alloc::Global;
-use std::test::Fail;
 
-/// Puts a path, and answers whether there was memory for it.
-fn put(cache: &mut Cache, alloc: Global, path: &[u8], size: u32) -> bool {
-    match Path::from_slice(alloc, path) {
-        Ok(path) => cache.put(&path, size).is_ok(),
-        Err(_) => false,
-    }
+/// What is hit, and whether it is there; what is then put, its size, and which of five paths are there then.
+type Row = (&'static [u8], bool, &'static [u8], u32, [bool; 5]);
+
+/// Of a cache of 10 bytes.
+const ROWS: &[Row] = &[
+    (b"/a", false, b"/a", 6, [true, false, false, false, false]),
+    (b"/a", true, b"/b", 6, [false, true, false, false, false]),
+    (b"/a", false, b"/c", 4, [false, true, true, false, false]),
+    (b"/b", true, b"/d", 1, [false, true, false, true, false]),
+    (b"/c", false, b"/e", 11, [false, true, false, true, false]),
+    (b"/d", true, b"/b", 3, [false, true, false, true, false]),
+    (b"/e", false, b"/e", 6, [false, true, false, true, true]),
+    (b"/d", true, b"/a", 10, [true, false, false, false, false]),
+];
+
+fn put(cache: &mut Cache, alloc: Global, path: &[u8], size: u32) -> Result<(), NoMemory> {
+    let path = Path::from_slice(alloc, path)?;
+    cache.put(&path, size)
 }
 
 /// Which of five paths are there.
@@ -24,42 +35,51 @@ fn there(cache: &Cache) -> [bool; 5] {
     ]
 }
 
+/// The place of the first row that comes otherwise.
+fn first_wrong(cache: &mut Cache, alloc: Global) -> Result<Option<usize>, NoMemory> {
+    for (at, (hit, found, path, size, left)) in ROWS.iter().enumerate() {
+        let is_there = cache.hit(hit);
+        put(cache, alloc, path, *size)?;
+        if is_there != *found || there(cache) != *left {
+            return Ok(Some(at));
+        }
+    }
+    Ok(None)
+}
+
+fn dropped(alloc: Global) -> Result<Option<usize>, NoMemory> {
+    let mut cache = Cache::new(alloc, 10)?;
+    first_wrong(&mut cache, alloc)
+}
+
 #[test]
-fn paths_drop_from_the_end(rt: HostRuntime) -> Result<(), Fail> {
-    let mut cache = Cache::new(rt.alloc(), 10).ok().ok_or("memory")?;
-    // What is hit, and whether it is there; what is then put, its size, and what is there then.
-    for (hit, found, path, size, left) in [
-        (b"/a", false, b"/a", 6, [true, false, false, false, false]),
-        (b"/a", true, b"/b", 6, [false, true, false, false, false]),
-        (b"/a", false, b"/c", 4, [false, true, true, false, false]),
-        (b"/b", true, b"/d", 1, [false, true, false, true, false]),
-        (b"/c", false, b"/e", 11, [false, true, false, true, false]),
-        (b"/d", true, b"/b", 3, [false, true, false, true, false]),
-        (b"/e", false, b"/e", 6, [false, true, false, true, true]),
-        (b"/d", true, b"/a", 10, [true, false, false, false, false]),
-    ] {
-        assert_eq!(rt; cache.hit(hit), found, "{hit:?}");
-        assert!(rt; put(&mut cache, rt.alloc(), path, size), "{path:?}");
-        assert_eq!(rt; there(&cache), left, "{path:?} of {size}");
+fn paths_drop_from_the_end(rt: HostRuntime) {
+    assert_eq!(rt; dropped(rt.alloc()), Ok(None));
+}
+
+/// As many paths as there may be, of no bytes.
+fn fill(cache: &mut Cache, alloc: Global) -> Result<(), NoMemory> {
+    for n in 0..65_536u32 {
+        put(cache, alloc, &n.to_be_bytes(), 0)?;
     }
     Ok(())
 }
 
+/// Whether the first path is hit in a full cache; and which of the first three are there once one more is put.
+fn crowded(alloc: Global) -> Result<(bool, [bool; 3]), NoMemory> {
+    let mut cache = Cache::new(alloc, 10)?;
+    fill(&mut cache, alloc)?;
+    let found = cache.hit(b"\0\0\0\0");
+    put(&mut cache, alloc, b"/a", 0)?;
+    let left = [
+        cache.has(b"\0\0\0\0"),
+        cache.has(b"\0\0\0\x01"),
+        cache.has(b"\0\0\0\x02"),
+    ];
+    Ok((found, left))
+}
+
 #[test]
-fn there_are_not_too_many_paths(rt: HostRuntime) -> Result<(), Fail> {
-    let mut cache = Cache::new(rt.alloc(), 10).ok().ok_or("memory")?;
-    for n in 0..65_536u32 {
-        assert!(rt; put(&mut cache, rt.alloc(), &n.to_be_bytes(), 0), "{n}");
-    }
-    assert!(rt; cache.hit(b"\0\0\0\0"));
-    assert!(rt; put(&mut cache, rt.alloc(), b"/a", 0));
-    assert_eq!(rt;
-        (
-            cache.has(b"\0\0\0\0"),
-            cache.has(b"\0\0\0\x01"),
-            cache.has(b"\0\0\0\x02")
-        ),
-        (true, false, true)
-    );
-    Ok(())
+fn there_are_not_too_many_paths(rt: HostRuntime) {
+    assert_eq!(rt; crowded(rt.alloc()), Ok((true, [true, false, true])));
 }

@@ -3,13 +3,12 @@
 ghost use Rattle.std.specs.Prelude.{◌≡◌, ◌≤◌, ℕ, true};
 ghost use Rattle.lard_base.specs.Members.{has};
 
-use lard_base::{Config, ConnId, Members, NodeId};
+use crate::given::{loads_of, node_of};
+use lard_base::{Config, Members, NoMemory, NodeId};
 use lard_costs::{Cost, choose_later, cost_at};
 use lard_loads::Loads;
 use lard_sets::with_member;
 use std::alloc::Global;
-use std::process::Abort;
-use std::test::Fail;
 
 /// The loads of two nodes in connections; whether node 1 is closed, and which nodes are members; the jobs in the queue of
 /// node 1, the connection's own; what both cost; and the choice: the node, and the one that joins, or 0.
@@ -93,41 +92,13 @@ const ROWS: [Row; 9] = [
     ),
 ];
 
-fn node(rt: &impl Abort, number: u32) -> NodeId
-    ensures { result ≡ number }
-{
-    NodeId::new(number).expect(rt, "the number of a node")
-}
-
-/// Admits a connection and assigns it to a node, where it is not admitted yet and there is such a node.
-fn connect(loads: &mut Loads, c: u32, n: NodeId) {
-    let Some(c) = ConnId::new(c) else {
-        return;
-    };
-    let Some(n) = loads.least_of(Members::none().with(n)) else {
-        return;
-    };
-    if loads.home(c).is_none() {
-        loads.connect(c, n);
-    }
-}
-
-/// The loads of two nodes, the first of which may be closed, with so many connections each.
-fn loads_of(rt: &impl Abort, alloc: Global, counts: [u8; 2], closed: bool) -> Result<Loads, Fail> {
-    let mut loads = Loads::new(alloc, 2).ok().ok_or("memory")?;
-    if closed {
-        loads.close(node(rt, 1));
-    }
-    for (at, count) in counts.iter().enumerate() {
-        for k in 0..*count {
-            connect(
-                &mut loads,
-                256 * at as u32 + k as u32 + 1,
-                node(rt, at as u32 + 1),
-            );
+/// Closes the first node, where the second is open.
+fn close_first(loads: &mut Loads) {
+    if let Some(one) = node_of(loads, 1) {
+        if loads.has_other_open(one) {
+            loads.close(one);
         }
     }
-    Ok(loads)
 }
 
 /// The members, with one more where it is to be one.
@@ -154,10 +125,10 @@ fn members_of(loads: &Loads, one: NodeId, two: NodeId, flags: [bool; 2]) -> Memb
 }
 
 /// What both nodes cost, and the choice.
-fn chosen(loads: &Loads, flags: [bool; 2], queue: u32) -> Option<([Cost; 2], (u32, u32))> {
+fn choice(loads: &Loads, flags: [bool; 2], queue: u32) -> Option<([Cost; 2], (u32, u32))> {
     let cfg = Config::standard();
-    let one = loads.least_of(Members::none().with(NodeId::new(1)?))?;
-    let two = loads.least_of(Members::none().with(NodeId::new(2)?))?;
+    let one = node_of(loads, 1)?;
+    let two = node_of(loads, 2)?;
     let set = members_of(loads, one, two, flags);
     let costs = [
         cost_at(loads, &cfg, set, one),
@@ -171,12 +142,27 @@ fn chosen(loads: &Loads, flags: [bool; 2], queue: u32) -> Option<([Cost; 2], (u3
     Some((costs, (choice.node.number(), joins)))
 }
 
-#[test]
-fn the_cheapest_is_chosen(rt: HostRuntime) -> Result<(), Fail> {
-    for (counts, closed, flags, queue, costs, want) in ROWS.iter() {
-        let loads = loads_of(&rt, rt.alloc(), *counts, *closed)?;
-        let found = chosen(&loads, *flags, *queue);
-        assert_eq!(rt; found, Some((*costs, *want)), "at {counts:?}, {queue}");
+/// The same with the loads of a row.
+fn chosen(alloc: Global, row: &Row) -> Result<Option<([Cost; 2], (u32, u32))>, NoMemory> {
+    let (counts, closed, flags, queue, _, _) = row;
+    let mut loads = loads_of(alloc, 2, counts)?;
+    if *closed {
+        close_first(&mut loads);
     }
-    Ok(())
+    Ok(choice(&loads, *flags, *queue))
+}
+
+/// The place of the first row with another choice.
+fn first_wrong(alloc: Global) -> Result<Option<usize>, NoMemory> {
+    for (at, row) in ROWS.iter().enumerate() {
+        if chosen(alloc, row)? != Some((row.4, row.5)) {
+            return Ok(Some(at));
+        }
+    }
+    Ok(None)
+}
+
+#[test]
+fn the_cheapest_is_chosen(rt: HostRuntime) {
+    assert_eq!(rt; first_wrong(rt.alloc()), Ok(None));
 }
