@@ -7,7 +7,8 @@ use Rattle.std.proofs.lemmas.List.{drop-append-le, length-take-le, take-append-d
 use Rattle.std.proofs.lemmas.List.Quantifiers.{position-Some}
 use Rattle.std.specs.List.{position}
 use Rattle.std.specs.Prelude.{nat_lt}
-use Rattle.lard_law_view.specs.Prelude.{Event, MAX_INPUT_BYTES, WrotePrefix}
+use Rattle.lard_law_view.specs.Prelude.{Event, MAX_INPUT_BYTES, Machine, WrotePrefix}
+use Rattle.lard_report.specs.Formed.{HaveWidths}
 use Rattle.lard_lines.proofs.Feeds.{found_before, none_until}
 use Rattle.lard_lines.specs.Lines.{is_feed, lines_of}
 use Rattle.lard_rules.specs.declared.fault.What.TheVariants.{Input}
@@ -18,8 +19,8 @@ use Rattle.lard_app.specs.Causes.{Leads}
 use Rattle.lard_app.specs.declared.status.Status.{Status}
 use Rattle.lard_app.specs.declared.status.Status.TheVariants.{Done, Usage, Refused, ReadFault, WriteFault, NoMemory, Limit}
 use Rattle.lard_app.specs.declared.status.Why.TheVariants.{Syntax}
-use Rattle.lard_app.specs.Replay.{begin, ended_behind, ending, gain, event_listed, halted, is_past, judged, line_passed, replayed, report_of, whole, PassesLine, Progress}
-use Rattle.lard_app.specs.Run.{CompletesText, Ended, EndsInLine, DecidesReplay, TellsOfRead}
+use Rattle.lard_app.specs.Replay.{begin, ended_behind, ending, gain, event_listed, halted, is_past, judged, line_passed, replayed, report_of, whole, HaltsAt, PassesLine, Progress, journal_of}
+use Rattle.lard_app.specs.Run.{CompletesText, Ended, EndsInLine, DecidesReplay, TellsOfRead, TellsWidths}
 use Rattle.lard_app.proofs.Growth.{halted-grown, passed-grown}
 use Rattle.lard_app.proofs.Halting.{halted_by}
 use Rattle.lard_app.proofs.Keeping.{Keeps, begin-keeps, passed-keeps}
@@ -147,6 +148,7 @@ pub record EndsSo (status : Status) (read : List ℕ) (left old new : Option (Li
   pub told : TellsOfRead status read text
   pub wrote : WrotePrefix old new (report_of (whole text).0)
   pub ended : Ended status text left old new
+  pub widths : TellsWidths status text
 
 -- the whole report was
 whole-front : (text : List ℕ) (old new : Option (List ℕ)) → Appends old new (report_of (whole text).0) → WrotePrefix old new (report_of (whole text).0)
@@ -180,6 +182,7 @@ module _ (text rest : List ℕ) (s : Progress) (old now : Option (List ℕ)) (g 
     told = (rest, g.cut);
     wrote = whole-front g.passed_text old now (subst (Appends old now) (sym passed-report) g.written);
     ended = inr (record { lines = g.lines; are = passed-lines; state = s; leads = g.leads; written = g.written });
+    widths = tt;
   }
 
   -- ---- the rest has a whole line
@@ -289,14 +292,24 @@ module _ (text rest : List ℕ) (s : Progress) (old now : Option (List ℕ)) (g 
           (subst (Appends old next) (sym (halted-grown s (take at rest) status e)) (Appends-trans old now next (report_of s) (gain s (take at rest)) g.written h)),
     )
 
-    pub going_stop : (e : Status) (t : Progress) (left next : Option (List ℕ)) → PassesLine (line_passed s (take at rest)) (gain s (take at rest)) now next t (Err e) → EndsSo e text left old next
-    going_stop Done t left next h = absurd h
-    going_stop Usage t left next h = absurd h
-    going_stop ReadFault t left next h = absurd h
-    going_stop (Refused line why) t left next h = let e = refused_here (Refused line why) left next h.0 h.1 in record { text = text; told = refl; wrote = whole-front text old next e.1.written; ended = e }
-    going_stop (Limit line what) t left next h = let e = refused_here (Limit line what) left next h.0 h.1 in record { text = text; told = refl; wrote = whole-front text old next e.1.written; ended = e }
-    going_stop WriteFault t left next h = record { text = through; told = through-front; wrote = through-written next h; ended = in-line next h }
-    going_stop NoMemory t left next h = record { text = through; told = through-front; wrote = through-written next h; ended = inl (in-line next h) }
+    -- the machine came as far as the line says, so its records are those of the text's replay
+    stopped-widths : (status : Status) (t : Progress) → line_passed s (take at rest) ≡ Err status → t.machine ≡ (halted s (take at rest)).machine → HaveWidths t.machine.journal → HaveWidths (journal_of text)
+    stopped-widths status t e is w =
+        subst (λ (p : Progress × Status). HaveWidths p.0.machine.journal) (sym (as_read (halted s (take at rest), status) (when_refused status e))) (subst (λ (m : Machine). HaveWidths m.journal) is w)
+
+    pub going_stop : (e : Status) (t : Progress) (left next : Option (List ℕ)) → PassesLine (line_passed s (take at rest)) (gain s (take at rest)) now next t (Err e)
+        → HaltsAt (halted s (take at rest)).machine t.machine (Err e) → HaveWidths t.machine.journal → EndsSo e text left old next
+    going_stop Done t left next h halts w = absurd h
+    going_stop Usage t left next h halts w = absurd h
+    going_stop ReadFault t left next h halts w = absurd h
+    going_stop (Refused line why) t left next h halts w =
+        let e = refused_here (Refused line why) left next h.0 h.1 in
+        record { text = text; told = refl; wrote = whole-front text old next e.1.written; ended = e; widths = stopped-widths (Refused line why) t h.0 halts w }
+    going_stop (Limit line what) t left next h halts w =
+        let e = refused_here (Limit line what) left next h.0 h.1 in
+        record { text = text; told = refl; wrote = whole-front text old next e.1.written; ended = e; widths = stopped-widths (Limit line what) t h.0 halts w }
+    going_stop WriteFault t left next h halts w = record { text = through; told = through-front; wrote = through-written next h; ended = in-line next h; widths = tt }
+    going_stop NoMemory t left next h halts w = record { text = through; told = through-front; wrote = through-written next h; ended = inl (in-line next h); widths = tt }
 
   -- ---- the rest has no line feed
   module _ (none : position is_feed rest ≡ None) where
@@ -307,9 +320,12 @@ module _ (text rest : List ℕ) (s : Progress) (old now : Option (List ℕ)) (g 
     written_so_far : Appends old now (report_of (whole text).0)
     written_so_far = subst (Appends old now) (sym (ap (λ (p : Progress × Status). report_of p.0) at_end)) g.written
 
+    end-widths : HaveWidths s.machine.journal → HaveWidths (journal_of text)
+    end-widths w = subst (λ (p : Progress × Status). HaveWidths p.0.machine.journal) (sym at_end) w
+
     -- the source failed
-    pub going_failed : (left : Option (List ℕ)) → length text ≤ MAX_INPUT_BYTES → EndsSo ReadFault text left old now
-    going_failed left small = record { text = text; told = refl; wrote = whole-front text old now written_so_far; ended = failed } where
+    pub going_failed : (left : Option (List ℕ)) → length text ≤ MAX_INPUT_BYTES → HaveWidths s.machine.journal → EndsSo ReadFault text left old now
+    going_failed left small w = record { text = text; told = refl; wrote = whole-front text old now written_so_far; ended = failed; widths = end-widths w } where
       failed : Ended ReadFault text left old now
       failed = (
         small,
@@ -343,16 +359,16 @@ module _ (text rest : List ℕ) (s : Progress) (old now : Option (List ℕ)) (g 
     at_its_end left (inl end) small = end
     at_its_end left (inr full) small = absurd (omega (arith, full, small))
 
-    module _ (left : Option (List ℕ)) (how : IsAtEnd left ⊎ (length text ≡ MAX_INPUT_BYTES + 1)) where
-      ends-here : (status : Status) → TellsOfRead status text text → Ended status text left old now → EndsSo status text left old now
-      ends-here status told e = record { text = text; told = told; wrote = whole-front text old now written_so_far; ended = e }
+    module _ (left : Option (List ℕ)) (how : IsAtEnd left ⊎ (length text ≡ MAX_INPUT_BYTES + 1)) (w : HaveWidths s.machine.journal) where
+      ends-here : (status : Status) → TellsOfRead status text text → TellsWidths status text → Ended status text left old now → EndsSo status text left old now
+      ends-here status told widths e = record { text = text; told = told; wrote = whole-front text old now written_so_far; ended = e; widths = widths }
 
       -- nothing follows the last line feed
       empty_end : (stage : Stage) → s.reader.stage ≡ stage → rest ≡ [] → EndsSo (ended_behind s.lines stage) text left old now
-      empty_end Start e f = ends-here (Refused (s.lines + 1) Syntax) refl (final left how, completed (Refused (s.lines + 1) Syntax) (ap (ending s) f ∙ ap (ended_behind s.lines) e))
-      empty_end Settings e f = ends-here (Refused (s.lines + 1) Syntax) refl (final left how, completed (Refused (s.lines + 1) Syntax) (ap (ending s) f ∙ ap (ended_behind s.lines) e))
-      empty_end Files e f = ends-here (Refused (s.lines + 1) Syntax) refl (final left how, completed (Refused (s.lines + 1) Syntax) (ap (ending s) f ∙ ap (ended_behind s.lines) e))
-      empty_end Running e f = ends-here Done refl (at_its_end left how (short f), short f, completed Done (ap (ending s) f ∙ ap (ended_behind s.lines) e))
+      empty_end Start e f = ends-here (Refused (s.lines + 1) Syntax) refl (end-widths w) (final left how, completed (Refused (s.lines + 1) Syntax) (ap (ending s) f ∙ ap (ended_behind s.lines) e))
+      empty_end Settings e f = ends-here (Refused (s.lines + 1) Syntax) refl (end-widths w) (final left how, completed (Refused (s.lines + 1) Syntax) (ap (ending s) f ∙ ap (ended_behind s.lines) e))
+      empty_end Files e f = ends-here (Refused (s.lines + 1) Syntax) refl (end-widths w) (final left how, completed (Refused (s.lines + 1) Syntax) (ap (ending s) f ∙ ap (ended_behind s.lines) e))
+      empty_end Running e f = ends-here Done refl (end-widths w) (at_its_end left how (short f), short f, completed Done (ap (ending s) f ∙ ap (ended_behind s.lines) e))
 
       pub going_end : (status : Status) → status ≡ ending s rest → EndsSo status text left old now
       going_end status e = go rest refl where
@@ -362,7 +378,7 @@ module _ (text rest : List ℕ) (s : Progress) (old now : Option (List ℕ)) (g 
           past : (t : Bool) → nat_lt MAX_INPUT_BYTES (s.read + length (b ∷ bs)) ≡ t → EndsSo status text left old now
           past true h =
               let is : ending s rest ≡ Limit (s.lines + 1) Input = ap (ending s) f ∙ ap (λ u. cond u (Limit (s.lines + 1) Input) (Refused (s.lines + 1) Syntax)) h in
-              subst (λ t. EndsSo t text left old now) (sym (e ∙ is)) (ends-here (Limit (s.lines + 1) Input) refl (final left how, completed (Limit (s.lines + 1) Input) is))
+              subst (λ t. EndsSo t text left old now) (sym (e ∙ is)) (ends-here (Limit (s.lines + 1) Input) refl (end-widths w) (final left how, completed (Limit (s.lines + 1) Input) is))
           past false h =
               let is : ending s rest ≡ Refused (s.lines + 1) Syntax = ap (ending s) f ∙ ap (λ u. cond u (Limit (s.lines + 1) Input) (Refused (s.lines + 1) Syntax)) h in
-              subst (λ t. EndsSo t text left old now) (sym (e ∙ is)) (ends-here (Refused (s.lines + 1) Syntax) refl (final left how, completed (Refused (s.lines + 1) Syntax) is))
+              subst (λ t. EndsSo t text left old now) (sym (e ∙ is)) (ends-here (Refused (s.lines + 1) Syntax) refl (end-widths w) (final left how, completed (Refused (s.lines + 1) Syntax) is))

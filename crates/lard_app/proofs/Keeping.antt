@@ -7,7 +7,9 @@ use Rattle.lard_law_view.specs.Prelude.{AreKeysInRange as IsConfigRanged, Config
 use Rattle.lard_base.specs.declared.config.ConfigFault.TheVariants.{Range}
 use Rattle.lard_base.specs.declared.config.Key.TheVariants.{Nodes, Low, High, Age, Idle, Over, Miss, Cache, Stream}
 use Rattle.lard_base.specs.declared.event.Event.TheVariants as event
+use Rattle.lard_audit_run.specs.Reports.{MayBeAdded}
 use Rattle.lard_laws.specs.Records.{IsRunFile, IsScheduled}
+use Rattle.lard_report.specs.Formed.{IsEventFormed}
 use Rattle.lard_settle.proofs.Runs.{GoesOn}
 use Rattle.lard_history.proofs.Each.{Each, Each-append}
 use Rattle.lard_lines.specs.Lines.{lines_of}
@@ -25,7 +27,7 @@ use Rattle.lard_settling.specs.Written.{IsWrittenOut}
 use Rattle.lard_settling.proofs.Written.{written}
 use Rattle.lard_app.specs.declared.status.Status.{Status}
 use Rattle.lard_app.specs.Replay.{Progress, begin, replay_begun, begun_by, came_to, config_set, line_counted, event_listed, events_from, events_of, filed, followed, halted, is_past, judged, replay_moved, line_passed, replayed, file_sizes, taken_item, whole}
-use Rattle.lard_app.proofs.Ranges.{HasRanges, config_checked, event-given, file-given}
+use Rattle.lard_app.proofs.Ranges.{HasRanges, config_checked, event-formed, event-given, file-given, file-told}
 use Rattle.lard_app.proofs.Halting.{HadBegun, Leaves, line-leaves}
 use Rattle.lard_app.proofs.Passing.{never, ok_is, passed-took, took-fits, took-judged}
 use Rattle.lard_app.proofs.Steps.{may-come}
@@ -121,7 +123,7 @@ begin-keeps = record {
   listed = refl;
   fits = standard_fits;
   checked = refl;
-  ranges = record { files = tt; config = (omega arith, omega arith, omega arith, omega arith, omega arith, omega arith, omega arith, omega arith, omega arith); taken = tt; events = tt };
+  ranges = record { files = tt; config = (omega arith, omega arith, omega arith, omega arith, omega arith, omega arith, omega arith, omega arith, omega arith); taken = tt; events = tt; told = tt; started = tt; formed = tt };
   unseen = refl;
   lines = omega arith;
   read = omega arith;
@@ -180,7 +182,7 @@ module _ (s t : Progress) (es : List Event) (k : Keeps s es) where
     written = (written s.config s.files).begins;
     fits = k.fits;
     checked = c;
-    ranges = record { files = tt; config = (config_checked s.config c).0; taken = k.ranges.files; events = same_ranges.events };
+    ranges = record { files = tt; config = (config_checked s.config c).0; taken = k.ranges.files; events = same_ranges.events; told = tt; started = k.ranges.told; formed = same_ranges.formed };
     unseen = tt;
     lines = k.lines;
     read = k.read;
@@ -201,15 +203,18 @@ module _ (s t : Progress) (es : List Event) (k : Keeps s es) where
       config = k.ranges.config;
       taken = k.ranges.taken;
       events = same_ranges.events;
+      told = file-told s.files path bytes k.ranges.told fits c;
+      started = k.ranges.started;
+      formed = same_ranges.formed;
     };
     unseen = unseen_before s.reader.stage s.machine k.unseen b;
     lines = k.lines;
     read = k.read;
   })
 
-  moved-keeps : (e : Event) (r : Result Machine Stop) → s.reader.stage ≡ Running → IsScheduled e → MayCome e → event_step s.machine e ≡ r → replay_moved (followed s (item.Event e)) r ≡ Ok t → Keeps t (es ++ e ∷ [])
-  moved-keeps e (Err stop) running given may is h = absurd (never _ t h)
-  moved-keeps e (Ok m) running given may is h =
+  moved-keeps : (e : Event) (r : Result Machine Stop) → s.reader.stage ≡ Running → IsScheduled e → IsEventFormed e → MayCome e → event_step s.machine e ≡ r → replay_moved (followed s (item.Event e)) r ≡ Ok t → Keeps t (es ++ e ∷ [])
+  moved-keeps e (Err stop) running given formed may is h = absurd (never _ t h)
+  moved-keeps e (Ok m) running given formed may is h =
       let kept : GoesOn s.machine m = event-goes s.machine m e is in
       let written_ : IsWrittenOut s.machine.config s.machine.files m = subst (λ (x : Result Machine Stop). IsWrittenOut s.machine.config s.machine.files (came_to x)) is (event-written s.machine.config s.machine.files s.machine e k.written may) in
       subst (λ (v : Progress). Keeps v (es ++ e ∷ [])) (ok_is _ t h) (record {
@@ -225,6 +230,9 @@ module _ (s t : Progress) (es : List Event) (k : Keeps s es) where
           config = subst IsConfigInRange (sym kept.config) k.ranges.config;
           taken = subst (Each IsRunFile) (sym kept.files) k.ranges.taken;
           events = Each-append IsScheduled es (e ∷ []) k.ranges.events (given, tt);
+          told = k.ranges.told;
+          started = subst (λ (fs : List (List ℕ × List ℕ)). MayBeAdded [] (file_sizes fs)) (sym kept.files) k.ranges.started;
+          formed = Each-append IsEventFormed es (e ∷ []) k.ranges.formed (formed, tt);
         };
         unseen = subst (λ st. IsUnseen st m) (sym running) tt;
         lines = k.lines;
@@ -247,7 +255,7 @@ module _ (s t : Progress) (es : List Event) (k : Keeps s es) where
   item-keeps words (item.Set key value) spelled stands range e = set-keeps key value (range_check key value) refl e
   item-keeps words (item.File path bytes) spelled stands range e = filed-keeps words path bytes (add_check s.files path (length bytes)) spelled range refl stands e
   item-keeps words item.Go spelled stands range e = begun-keeps (config_check s.config) refl stands e
-  item-keeps words (item.Event d) spelled stands range e = moved-keeps d (event_step s.machine d) stands (event-given words d spelled range) (may-come d range) refl e
+  item-keeps words (item.Event d) spelled stands range e = moved-keeps d (event_step s.machine d) stands (event-given words d spelled range) (event-formed d range) (may-come d range) refl e
 
 pub passed-keeps : (s t : Progress) (line : List ℕ) (es : List Event) → Keeps s es → line_passed s line ≡ Ok t → Keeps t (es ++ event_listed (judged s.reader line))
 passed-keeps s t line es k e =
@@ -288,6 +296,9 @@ begun-comes s es line k b =
         config = subst IsConfigInRange (sym kept.config) k.ranges.config;
         taken = subst (Each IsRunFile) (sym kept.files) k.ranges.taken;
         events = Each-append IsScheduled es (e ∷ []) k.ranges.events (given, tt);
+        told = k.ranges.told;
+        started = subst (λ (fs : List (List ℕ × List ℕ)). MayBeAdded [] (file_sizes fs)) (sym kept.files) k.ranges.started;
+        formed = Each-append IsEventFormed es (e ∷ []) k.ranges.formed (event-formed e fits.2, tt);
       };
       unseen = subst (λ st. IsUnseen st n) (sym fits.1) tt;
     }))

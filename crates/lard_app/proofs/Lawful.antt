@@ -1,5 +1,5 @@
 -- What happened in the replay of a text, and that its report tells it.
-use Rattle.std.proofs.Common.{◌≡◌, ◌≢◌, ℕ, Option, List, [], ◌++◌, length, refl, sym, ap, ◌∙◌, subst, arith, length-append}
+use Rattle.std.proofs.Common.{◌≡◌, ◌≢◌, ℕ, ◌≤◌, ◌^◌, Option, List, [], ◌++◌, length, refl, sym, ap, ◌∙◌, subst, arith, length-append}
 use Rattle.std.specs.List.{flat_map}
 use Rattle.lard_law_view.specs.Prelude.{Config, IsFileInRange, IsRecordInRange, IsReportInRange, Machine, Rec, file_text, heading_line, machine_start, rec_line, report}
 use Rattle.lard_law_view.proofs.ByteLists.{each-all}
@@ -9,11 +9,16 @@ use Rattle.lard_schedule.specs.declared.reader.Stage.{Stage}
 use Rattle.lard_schedule.specs.declared.reader.Stage.TheVariants.{Files, Running, Settings, Start}
 use Rattle.lard_app.specs.Replay.{begin, config_of, events_of, files_of, journal_of, machine_of, report_at, report_of, file_sizes, whole}
 use Rattle.lard_app.specs.declared.status.Status.{Status}
+use Rattle.lard_app.specs.declared.status.Status.TheVariants.{Done, Limit, NoMemory, ReadFault, Refused, Usage, WriteFault}
 use Rattle.lard_app.specs.Happened.{Happened}
-use Rattle.lard_app.specs.Run.{Ran, ReadsInput}
+use Rattle.lard_app.specs.Run.{PassesAudit, Ran, ReadsInput, TellsWidths}
 use Rattle.lard_app.proofs.Endings.{caused}
 use Rattle.lard_app.proofs.Grammar.{passed-stands}
 use Rattle.lard_app.proofs.Keeping.{IsUnseen, whole-comes}
+use Rattle.lard_audit_run.specs.Audited.{audited}
+use Rattle.lard_audit_run.specs.declared.verdict.Verdict.TheVariants.{Sound}
+use Rattle.lard_law_audit.specs.Reports.{IsRunOf, ReportsPass, run_report}
+use Rattle.lard_report.specs.Formed.{HaveWidths}
 use Rattle.lard_settling.specs.Events.{LeadsTo}
 use Rattle.lard_app.proofs.Ranges.{sizes-ranges}
 
@@ -85,10 +90,30 @@ tells_all tells text also same =
     (tells (config_of text) (config_of also) (file_sizes (files_of text)) (file_sizes (files_of also)) (journal_of text) (journal_of also) (ranges text) (ranges also))
     (whole text).0.reader.stage (whole also).0.reader.stage (whole-comes text).unseen (whole-comes also).unseen same
 
+-- ---- an audit of the report
+
+-- it passes, where the machine began
+passes-audit : ReportsPass → (text : List ℕ) → HaveWidths (journal_of text) → (whole text).0.reader.stage ≡ Running → length (report_of (whole text).0) ≤ 2 ^ 30
+    → audited (report_of (whole text).0) ≡ Sound (length (journal_of text))
+passes-audit passes text widths running small =
+    let kept = whole-comes text in
+    let is : report_of (whole text).0 ≡ run_report (config_of text) (files_of text) (machine_of text) = ap (λ (st : Stage). report_at st (machine_of text)) running in
+    let run : IsRunOf (config_of text) (files_of text) (machine_of text) = record { usable = kept.checked; addable = kept.ranges.started; events = events_of text; formed = kept.ranges.formed; leads = kept.runs } in
+    ap audited is ∙ passes (config_of text) (files_of text) (machine_of text) run widths (subst (λ (t : List ℕ). length t ≤ 2 ^ 30) is small)
+
+audit-is : ReportsPass → (status : Status) (text : List ℕ) → TellsWidths status text → PassesAudit status text
+audit-is passes Done text w = passes-audit passes text w
+audit-is passes Usage text w = passes-audit passes text w
+audit-is passes (Refused line why) text w = passes-audit passes text w
+audit-is passes ReadFault text w = passes-audit passes text w
+audit-is passes WriteFault text w = tt
+audit-is passes NoMemory text w = tt
+audit-is passes (Limit line what) text w = passes-audit passes text w
+
 -- ---- the whole of a run
 
-pub ran : ReportsTellAll → (status : Status) (left left_now old new : Option (List ℕ)) → ReadsInput status left left_now old new → Ran status left left_now old new
-ran tells status left left_now old new r = record {
+pub ran : ReportsTellAll → ReportsPass → (status : Status) (left left_now old new : Option (List ℕ)) → ReadsInput status left left_now old new → Ran status left left_now old new
+ran tells passes status left left_now old new r = record {
   read = r.read;
   consumed = r.consumed;
   bounded = r.bounded;
@@ -105,4 +130,5 @@ ran tells status left left_now old new r = record {
   passed = passed-stands r.text;
   happened = is-happened r.text;
   tells_all = tells_all tells r.text;
+  passes_audit = audit-is passes status r.text r.widths;
 }

@@ -14,6 +14,7 @@ mod Grammar
 mod Granted
 mod Growth
 mod Halting
+mod Halts
 mod Happened
 mod Keeping
 mod Knows

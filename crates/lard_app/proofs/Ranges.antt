@@ -1,5 +1,5 @@
 -- What the lines of a text give to a run is in range: its events, its files and its configuration.
-use Rattle.std.proofs.Common.{◌≡◌, ℕ, zero, suc, ◌+◌, ◌-◌, ◌≤◌, ◌<◌, ◌^◌, List, [], ◌∷◌, length, replicate, Bool, true, false, cond, Result, Ok, Err, inl, inr, refl, sym, subst, arith, nat_eq, nat_le, nat_lt, ◌&&◌}
+use Rattle.std.proofs.Common.{◌≡◌, ℕ, zero, suc, ◌+◌, ◌-◌, ◌≤◌, ◌<◌, ◌^◌, List, [], ◌∷◌, ◌++◌, length, replicate, Bool, true, false, cond, Result, Ok, Err, inl, inr, refl, sym, subst, arith, nat_eq, nat_le, nat_lt, ◌&&◌}
 use Rattle.std.proofs.lemmas.Bool.{and_parts}
 use Rattle.std.proofs.lemmas.Bool.Decides.{nat_tests}
 use Rattle.std.specs.List.{list_all}
@@ -10,7 +10,10 @@ use Rattle.lard_base.specs.declared.config.ConfigFault.TheVariants.{Range}
 use Rattle.lard_base.specs.declared.config.Key.TheVariants.{Nodes, Low, High, Age, Idle, Over, Miss, Cache, Stream}
 use Rattle.lard_base.specs.declared.event.Event.TheVariants as event
 use Rattle.lard_base.specs.declared.place.Place.TheVariants as place
+use Rattle.lard_audit_run.specs.Reports.{MayBeAdded}
+use Rattle.lard_law_audit.proofs.Adding.{added-told}
 use Rattle.lard_laws.specs.Records.{IsRunFile, IsScheduled}
+use Rattle.lard_report.specs.Formed.{IsEventFormed}
 use Rattle.lard_files.specs.declared.fault.FileFault.TheVariants as file_fault
 use Rattle.lard_history.proofs.Each.{Each, Each-weaker}
 use Rattle.lard_law_view.proofs.ByteLists.{AreBytes, bytes-index, each-all}
@@ -138,6 +141,17 @@ spells-bytes words _ s = tt
 pub event-given : (words : List (List ℕ)) (e : Event) → Spells words e → IsInLineRange e → IsScheduled e
 event-given words e s r = event-ranged e r (spells-bytes words e s)
 
+-- has the form that a record of it must have
+pub event-formed : (e : Event) → IsInLineRange e → IsEventFormed e
+event-formed (event.Open c isn iss wnd mss) r = (r.3, r.4)
+event-formed (event.Get c path) r = r.1
+event-formed (event.Write c bytes) r = r.1
+event-formed (event.Timer p c) r = r.2
+event-formed (event.Clock ms) r = r
+event-formed (event.Settle rounds) r = r.0
+event-formed (event.Inject c bytes) r = r.1
+event-formed _ r = tt
+
 -- ---- files
 
 -- a byte that is repeated
@@ -171,6 +185,11 @@ file-ranged path bytes fits short are =
 pub file-given : (files : List (List ℕ × List ℕ)) (words : List (List ℕ)) (path bytes : List ℕ) → SpellsFile words path bytes → is_file_path path ≡ true → add_check files path (length bytes) ≡ Ok tt → IsRunFile (path, bytes)
 file-given files words path bytes s fits e = file-ranged path bytes fits (short-file _ _ _ (length bytes) e) (content-bytes words path bytes s)
 
+-- it may be added to those before, as an audit is told of them
+pub file-told : (files : List (List ℕ × List ℕ)) (path bytes : List ℕ) → MayBeAdded [] (file_sizes files) → is_file_path path ≡ true → add_check files path (length bytes) ≡ Ok tt
+    → MayBeAdded [] (file_sizes (files ++ (path, bytes) ∷ []))
+file-told files path bytes told fits e = let most = short-file _ _ _ (length bytes) e in added-told files path bytes told fits (omega (arith, most)) e
+
 -- ---- a replay
 
 -- What was given before `go`, and what the machine was given, is in range.
@@ -179,6 +198,9 @@ pub record HasRanges (given : List (List ℕ × List ℕ)) (m : Machine) (es : L
   pub config : IsConfigInRange m.config
   pub taken : Each IsRunFile m.files
   pub events : Each IsScheduled es
+  pub told : MayBeAdded [] (file_sizes given)
+  pub started : MayBeAdded [] (file_sizes m.files)
+  pub formed : Each IsEventFormed es
 
 -- the lines of files
 pub sizes-ranges : (files : List (List ℕ × List ℕ)) → Each IsRunFile files → Each IsFileInRange (file_sizes files)

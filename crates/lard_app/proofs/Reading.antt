@@ -5,9 +5,10 @@ use Rattle.std.specs.Io.KnownBytes.{Appends, Consumes, IsAtEnd}
 use Rattle.std.specs.List.{position}
 use Rattle.lard_law_view.specs.Prelude.{MAX_INPUT_BYTES, TakesIn, WrotePrefix}
 use Rattle.lard_lines.specs.Lines.{Held, is_feed}
+use Rattle.lard_report.specs.Formed.{HaveWidths}
 use Rattle.lard_app.specs.declared.status.Status.{Status}
 use Rattle.lard_app.specs.declared.status.Status.TheVariants.{ReadFault, NoMemory}
-use Rattle.lard_app.specs.Replay.{begin, ending, gain, line_passed, report_of, whole, PassesLine, Progress}
+use Rattle.lard_app.specs.Replay.{begin, ending, gain, halted, line_passed, report_of, whole, HaltsAt, PassesLine, Progress}
 use Rattle.lard_app.specs.Run.{ReadsInput}
 use Rattle.lard_app.proofs.Going.{EndsSo, Going, going_end, going_failed, going_first, going_more, going_on, going_starved, going_stop}
 
@@ -51,12 +52,12 @@ module _ (left left_now old now : Option (List ℕ)) (held : Held) (s : Progress
   })
 
   ended_as : (status : Status) (new : Option (List ℕ)) → EndsSo status r.text left_now old new → ReadsInput status left left_now old new
-  ended_as status new e = record { read = r.text; consumed = r.consumed; bounded = subst (λ n. n ≤ MAX_INPUT_BYTES + 1) (sym r.count) r.bound; text = e.text; told = e.told; wrote = e.wrote; ended = e.ended }
+  ended_as status new e = record { read = r.text; consumed = r.consumed; bounded = subst (λ n. n ≤ MAX_INPUT_BYTES + 1) (sym r.count) r.bound; text = e.text; told = e.told; wrote = e.wrote; ended = e.ended; widths = e.widths }
 
   -- a line ends the run
   pub reading_stop : (at : ℕ) (status : Status) (t : Progress) (new : Option (List ℕ)) → position is_feed held.rest ≡ Some at → PassesLine (line_passed s (take at held.rest)) (gain s (take at held.rest)) now new t (Err status)
-      → ReadsInput status left left_now old new
-  reading_stop at status t new is h = ended_as status new (going_stop r.text held.rest s old now r.going at is status t left_now new h)
+      → HaltsAt (halted s (take at held.rest)).machine t.machine (Err status) → HaveWidths t.machine.journal → ReadsInput status left left_now old new
+  reading_stop at status t new is h halts w = ended_as status new (going_stop r.text held.rest s old now r.going at is status t left_now new h halts w)
 
   -- memory runs out
   pub reading_starved : ReadsInput NoMemory left left_now old now
@@ -64,15 +65,15 @@ module _ (left left_now old now : Option (List ℕ)) (held : Held) (s : Progress
 
   module _ (none : position is_feed held.rest ≡ None) where
     -- the input ends
-    pub reading_end : (status : Status) → IsAtEnd left_now ⊎ (held.read ≡ held.most + 1) → status ≡ ending s held.rest → ReadsInput status left left_now old now
-    reading_end status how e = ended_as status now (going_end r.text held.rest s old now r.going none left_now (full how) status e) where
+    pub reading_end : (status : Status) → IsAtEnd left_now ⊎ (held.read ≡ held.most + 1) → status ≡ ending s held.rest → HaveWidths s.machine.journal → ReadsInput status left left_now old now
+    reading_end status how e w = ended_as status now (going_end r.text held.rest s old now r.going none left_now (full how) w status e) where
       full : IsAtEnd left_now ⊎ (held.read ≡ held.most + 1) → IsAtEnd left_now ⊎ (length r.text ≡ MAX_INPUT_BYTES + 1)
       full (inl end) = inl end
       full (inr most) = inr (r.count ∙ most ∙ ap (λ n. n + 1) r.most)
 
     -- the source fails
-    pub reading_failed : held.read ≤ held.most → ReadsInput ReadFault left left_now old now
-    reading_failed small = ended_as ReadFault now (going_failed r.text held.rest s old now r.going none left_now (omega (arith, small, r.count, r.most)))
+    pub reading_failed : held.read ≤ held.most → HaveWidths s.machine.journal → ReadsInput ReadFault left left_now old now
+    reading_failed small w = ended_as ReadFault now (going_failed r.text held.rest s old now r.going none left_now (omega (arith, small, r.count, r.most)) w)
 
 none-wrote : (old : Option (List ℕ)) → WrotePrefix old old (report_of (whole []).0)
 unfolding whole
@@ -88,4 +89,5 @@ reads-nothing left old = record {
   told = ([], refl);
   wrote = none-wrote old;
   ended = inr (record { lines = []; are = refl; state = begin; leads = refl; written = Appends-nil old });
+  widths = tt;
 }

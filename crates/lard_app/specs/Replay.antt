@@ -267,3 +267,9 @@ PassesLine given text old new t (Err (Limit line what)) = (given ≡ Err (Limit 
 PassesLine given text old new t (Err Done) = ⊥
 PassesLine given text old new t (Err Usage) = ⊥
 PassesLine given text old new t (Err ReadFault) = ⊥
+
+-- Where a line ended the run, and all that it gave was written, the machine came as far as it was to.
+abbrev pub HaltsAt : Machine → Machine → Result (Unit {0}) Status → Type 0
+HaltsAt given m (Err (Refused line why)) = m ≡ given
+HaltsAt given m (Err (Limit line what)) = m ≡ given
+HaltsAt given m _ = Unit {0}

@@ -1,9 +1,12 @@
 -- What an answer of `run` says: of the bytes that were read and written, of what they stand for, and of its journal.
-use Rattle.std.specs.Prelude.{◌≡◌, ◌↔◌, ℕ, ◌+◌, ◌≤◌, ◌⊎◌, List, [], ◌∷◌, ◌++◌, length, Option, Some, None, Err}
+use Rattle.std.specs.Prelude.{◌≡◌, ◌↔◌, ℕ, ◌+◌, ◌^◌, ◌≤◌, ◌⊎◌, List, [], ◌∷◌, ◌++◌, length, Option, Some, None, Err}
 use Rattle.std.specs.Io.KnownBytes.{Appends, Consumes, IsAtEnd}
 use Rattle.lard_law_view.specs.Prelude.{Config, Event, MAX_INPUT_BYTES, Rec, WrotePrefix}
 use Rattle.lard_grammar.specs.Schedule.{IsSchedule, text_of}
 use Rattle.lard_lines.specs.Lines.{lines_of}
+use Rattle.lard_audit_run.specs.Audited.{audited}
+use Rattle.lard_audit_run.specs.declared.verdict.Verdict.TheVariants.{Sound}
+use Rattle.lard_report.specs.Formed.{HaveWidths}
 use Rattle.lard_schedule.specs.declared.reader.Stage.TheVariants.{Running}
 use Rattle.lard_app.specs.Causes.{EndsRun, Leads}
 use Rattle.lard_app.specs.Happened.{Happened}
@@ -63,6 +66,12 @@ TellsOfRead WriteFault read text = (behind : List ℕ) × (read ≡ text ++ behi
 TellsOfRead NoMemory read text = (behind : List ℕ) × (read ≡ text ++ behind)
 TellsOfRead _ read text = read ≡ text
 
+-- where the whole report was written, the numbers of its records have the ranges of their types
+abbrev pub TellsWidths : Status → List ℕ → Type 0
+TellsWidths WriteFault text = Unit {0}
+TellsWidths NoMemory text = Unit {0}
+TellsWidths _ text = HaveWidths (journal_of text)
+
 -- what was read, the text of it that the run tells of, and how the run ended over that
 pub record ReadsInput (status : Status) (left left_now old new : Option (List ℕ)) : Type 0 where
   pub read : List ℕ
@@ -72,6 +81,7 @@ pub record ReadsInput (status : Status) (left left_now old new : Option (List �
   pub told : TellsOfRead status read text
   pub wrote : WrotePrefix old new (report_of (whole text).0)
   pub ended : Ended status text left_now old new
+  pub widths : TellsWidths status text
 
 -- ---- what a text stands for
 
@@ -98,6 +108,14 @@ pub record Passed (text : List ℕ) (config : Config) (files : List (List ℕ ×
   pub ends : EndsBehind state rest (whole text).0 last
   pub schedule : state.reader.stage ≡ Running → IsSchedule (text_of lines) config files done
   pub all : (whole text).1 ≡ Done → (behind ≡ []) × (last ≡ [])
+
+-- ---- what an audit says of the report
+
+-- Where the whole report was written, behind a `go`, an audit passes it, with as many records as the journal has, unless it is too long.
+abbrev pub PassesAudit : Status → List ℕ → Type 0
+PassesAudit WriteFault text = Unit {0}
+PassesAudit NoMemory text = Unit {0}
+PassesAudit _ text = (whole text).0.reader.stage ≡ Running → length (report_of (whole text).0) ≤ 2 ^ 30 → audited (report_of (whole text).0) ≡ Sound (length (journal_of text))
 
 -- ---- the whole of a run
 
@@ -129,6 +147,8 @@ pub record Ran (status : Status) (left left_now old new : Option (List ℕ)) : T
   -- the same journal.
   pub tells_all : (also : List ℕ) → report_of (whole text).0 ≡ report_of (whole also).0
       → (config ≡ config_of also) × (file_sizes files ≡ file_sizes (files_of also)) × (journal ≡ journal_of also)
+  -- the report passes an audit
+  pub passes_audit : PassesAudit status text
 
 -- the status is that of a known input, unless memory ran out
 abbrev pub IsSettled : Status → Option (List ℕ) → Type 0

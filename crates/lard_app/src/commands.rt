@@ -23,6 +23,7 @@ use crate::words::{Command, asked};
 use lard_base::limits::MAX_INPUT_BYTES;
 use lard_base::{InputFault, NoMemory, Sink, Source};
 use lard_journal::report_tells_all;
+use lard_law_audit::reports_of_runs_pass;
 use lard_lines::Lines;
 use std::alloc::Global;
 
@@ -65,6 +66,7 @@ pub fn run<S: Source, K: Sink>(
         → IsAuditSettled result (S.left source.old) }
 {
     report_tells_all();
+    reports_of_runs_pass();
     match asked(words) {
         Some(Command::Replay) => return replay(alloc, source, sink),
         Some(Command::Generate { seed, clients }) => return generate(alloc, sink, seed, clients),
@@ -115,10 +117,19 @@ fn replay_lines<S: Source, K: Sink>(
         match lines.find_line(source) {
             Ok(Some(len)) => match replay.pass(alloc, sink, &lines.rest()[..len]) {
                 Ok(()) => lines.pass(len),
-                Err(status) => return status,
+                Err(status) => {
+                    replay.tell_widths();
+                    return status;
+                }
             },
-            Ok(None) => return replay.end(lines.rest()),
-            Err(InputFault::Failed) => return Status::ReadFault,
+            Ok(None) => {
+                replay.tell_widths();
+                return replay.end(lines.rest());
+            }
+            Err(InputFault::Failed) => {
+                replay.tell_widths();
+                return Status::ReadFault;
+            }
             Err(InputFault::NoMemory) => return Status::NoMemory,
         }
     }

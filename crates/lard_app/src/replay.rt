@@ -5,11 +5,13 @@ ghost use Rattle.std.specs.List.{flat_map};
 ghost use Rattle.lard_base.specs.Config.{config_check, range_check};
 ghost use Rattle.lard_files.specs.Files.{add_check};
 ghost use Rattle.lard_journal.specs.Report.{file_text, heading_line, rec_line};
+ghost use Rattle.lard_report.specs.Formed.{HaveWidths};
 ghost use Rattle.lard_schedule.specs.Events.{IsInLineRange};
 ghost use Rattle.lard_schedule.specs.Files.{is_file_path};
 ghost use Rattle.lard_schedule.specs.Reader.{HasRange};
 ghost use Rattle.lard_agenda.specs.Agenda.{IsAgendaOf};
-ghost use Rattle.lard_app.specs.Replay.{CountsFault, EndsCount, IsProgressSound, PassesLine, Writes, begin, replay_begun, config_set, ended_by, ending, file_ends, filed, gain, item_gain, line_passed, taken_item};
+ghost use Rattle.lard_app.specs.Replay.{CountsFault, EndsCount, HaltsAt, IsProgressSound, PassesLine, Writes, begin, replay_begun, came_to, config_set, ended_by, ending, file_ends, filed, gain, halted, item_gain, line_passed, machine_behind, taken_item};
+ghost use Rattle.lard_settling.specs.Events.{event_step};
 ghost use Rattle.lard_app.specs.Seen.{Adds, Sets, StopsAtLine, replay_seen};
 
 use crate::happening::{ended_by, settle_or_step};
@@ -20,6 +22,7 @@ use lard_base::limits::MAX_INPUT_BYTES;
 use lard_base::{Bytes, Config, Event, Failed, Key, NoMemory, Path, Sink, write_all};
 use lard_files::{FileFault, Files};
 use lard_journal::{Journal, Rec, file_line, heading, push_line};
+use lard_report::have_widths;
 use lard_rules::{StepFault, What};
 use lard_schedule::{Item, LineFault, Reader, Stage};
 use lard_settle::World;
@@ -74,13 +77,14 @@ impl Replay {
     /// Takes a line, which is given without its line feed, and writes what the report gains. `Refused` and `Limit` come
     /// where the line ends the run, and what the report gained by it is written; after `WriteFault` and `NoMemory` a
     /// front of that is.
-    #[tactic(auto, unfolding(crate::specs::Replay::line_passed, crate::specs::Replay::gain))]
+    #[tactic(auto, unfolding(crate::specs::Replay::line_passed, crate::specs::Replay::gain, crate::specs::Replay::halted))]
     pub fn pass<K: Sink>(&mut self, alloc: Global, sink: &mut K, line: &[u8]) -> Result<(), Status>
         requires usable { self.old.world.spoiled ≡ false }
         requires agenda { IsAgendaOf self.old.agenda self.old.world.machine.journal }
         requires sound { IsProgressSound (replay_seen self.old) }
         requires small { length line.now < 2 ^ 32 }
         ensures passed { PassesLine (line_passed (replay_seen self.old) line.now) (gain (replay_seen self.old) line.now) (K.written sink.old) (K.written sink.new) (replay_seen self.new) result }
+        ensures halts { HaltsAt (halted (replay_seen self.old) line.now).machine self.new.world.machine result }
         ensures usable { OnOk result (self.new.world.spoiled ≡ false) }
         ensures agenda { OnOk result (IsAgendaOf self.new.agenda self.new.world.machine.journal) }
         ensures faults { CountsFault (K.faults sink.old) (K.faults sink.new) result }
@@ -110,6 +114,7 @@ impl Replay {
         requires agenda { IsAgendaOf self.old.agenda self.old.world.machine.journal }
         requires range { HasRange item }
         ensures taken { PassesLine (taken_item (replay_seen self.old) item) (item_gain (replay_seen self.old) item) (K.written sink.old) (K.written sink.new) (replay_seen self.new) result }
+        ensures halts { HaltsAt (machine_behind self.old.world.machine (Ok item)) self.new.world.machine result }
         ensures usable { OnOk result (self.new.world.spoiled ≡ false) }
         ensures agenda { OnOk result (IsAgendaOf self.new.agenda self.new.world.machine.journal) }
         ensures faults { CountsFault (K.faults sink.old) (K.faults sink.new) result }
@@ -154,6 +159,7 @@ impl Replay {
     /// The world begins with the files, if the configuration can be used, and the heading is written, and their lines.
     fn go<K: Sink>(&mut self, alloc: Global, sink: &mut K) -> Result<(), Status>
         ensures taken { PassesLine (taken_item (replay_seen self.old) Item.Go) (item_gain (replay_seen self.old) Item.Go) (K.written sink.old) (K.written sink.new) (replay_seen self.new) result }
+        ensures halts { HaltsAt self.old.world.machine self.new.world.machine result }
         ensures usable { OnOk result (self.new.world.spoiled ≡ false) }
         ensures agenda { OnOk result (IsAgendaOf self.new.agenda self.new.world.machine.journal) }
         ensures faults { CountsFault (K.faults sink.old) (K.faults sink.new) result }
@@ -198,6 +204,7 @@ impl Replay {
         requires agenda { IsAgendaOf self.old.agenda self.old.world.machine.journal }
         requires range { IsInLineRange event }
         ensures taken { PassesLine (taken_item (replay_seen self.old) (Item.Event event)) (item_gain (replay_seen self.old) (Item.Event event)) (K.written sink.old) (K.written sink.new) (replay_seen self.new) result }
+        ensures halts { HaltsAt (came_to (event_step self.old.world.machine event)) self.new.world.machine result }
         ensures usable { OnOk result (self.new.world.spoiled ≡ false) }
         ensures agenda { OnOk result (IsAgendaOf self.new.agenda self.new.world.machine.journal) }
         ensures faults { CountsFault (K.faults sink.old) (K.faults sink.new) result }
@@ -241,6 +248,13 @@ impl Replay {
             ([], Stage::Running) => Status::Done,
             _ => refused(number, Why::Syntax),
         }
+    }
+
+    /// Says of each record of the journal what the types of its numbers say, so that a line can stand for it. It computes nothing.
+    pub fn tell_widths(&self)
+        ensures { HaveWidths self.now.world.machine.journal }
+    {
+        have_widths(self.world.journal().as_slice());
     }
 
     /// Spends the replay.

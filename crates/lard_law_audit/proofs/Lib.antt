@@ -1,6 +1,7 @@
 mod Behind
 mod Homes
 mod Files
+pub mod Adding
 mod Keeping
 mod Sounding
 mod Lifting

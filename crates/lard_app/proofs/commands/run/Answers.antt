@@ -25,7 +25,7 @@ pub returns-in-Some-Replay-clause-unwritten : goal.returns-in-Some-Replay-clause
 returns-in-Some-Replay-clause-unwritten g c = λ is. absurd (reads-not-usage c.replay.result _ _ _ _ c.replay.ensures.reads is)
 
 pub returns-in-Some-Replay-clause-replay : goal.returns-in-Some-Replay-clause-replay
-returns-in-Some-Replay-clause-replay g c = λ asked. ran c.report_tells_all.ensures.whole c.replay.result _ _ _ _ c.replay.ensures.reads
+returns-in-Some-Replay-clause-replay g c = λ asked. ran c.report_tells_all.ensures.whole c.reports_of_runs_pass.ensures.passes c.replay.result _ _ _ _ c.replay.ensures.reads
 
 pub returns-in-Some-Replay-clause-generate : goal.returns-in-Some-Replay-clause-generate
 returns-in-Some-Replay-clause-generate g c = λ s k asked. absurd (not-both (words_bytes c.args.words.now) s k (are-replay _ c.in-Some-Replay.field-0 c.in-Some-Replay.field-0-is c.in-Some-Replay.ensures) asked)
