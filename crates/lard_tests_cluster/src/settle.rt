@@ -89,17 +89,22 @@ fn run(
     settle(world, agenda, alloc, rounds)
 }
 
-/// How the settle ends, and the lines of the journal.
-fn reported(alloc: Global, rounds: u32) -> Result<(Result<Settled, StepFault>, Vec<u8>), Fail> {
-    let Some(c) = ConnId::new(1) else {
-        return Err(Fail::new("a number in range"));
-    };
+/// One file.
+fn files(alloc: Global) -> Result<Files, NoMemory> {
     let mut files = Files::new(alloc);
     if files.add(b"/a", b"hello").is_err() {
-        return Err(Fail::new("a file that may be added"));
+        return Err(NoMemory);
     }
-    let mut world = World::new(alloc, Config::standard(), files)?;
+    Ok(files)
+}
+
+/// How the settle ends, and the lines of the journal.
+type Told = (Result<Settled, StepFault>, Vec<u8>);
+
+fn reported(alloc: Global, c: ConnId, rounds: u32) -> Result<Told, NoMemory> {
+    let files = files(alloc)?;
     let mut agenda = Agenda::new(alloc);
+    let mut world = World::new(alloc, Config::standard(), files)?;
     let ended = run(alloc, &mut world, &mut agenda, c, rounds);
     let journal = world.finish();
     Ok((ended, report(alloc, &journal)?))
@@ -116,16 +121,21 @@ fn report(alloc: Global, journal: &Journal) -> Result<Vec<u8>, NoMemory> {
 
 #[test]
 fn few_rounds_leave_it_open(rt: HostRuntime) -> Result<(), Fail> {
-    let (ended, told) = reported(rt.alloc(), 4)?;
-    assert_eq!(rt; ended, Ok(Settled::Open { rounds: 4, left: 3 }));
-    assert_eq!(rt; told.as_slice(), FOUR_ROUNDS.as_bytes());
+    let c = ConnId::new(1).expect(&rt, "the number of a connection");
+    let (ended, told) = reported(rt.alloc(), c, 4)?;
+    let wanted = (
+        Ok(Settled::Open { rounds: 4, left: 3 }),
+        FOUR_ROUNDS.as_bytes(),
+    );
+    assert_eq!(rt; (ended, told.as_slice()), wanted);
     Ok(())
 }
 
 #[test]
 fn a_request_settles(rt: HostRuntime) -> Result<(), Fail> {
-    let (ended, told) = reported(rt.alloc(), 100)?;
-    assert_eq!(rt; ended, Ok(Settled::Quiet(7)));
-    assert!(rt; told.as_slice().ends_with(b"cleared n1 1 tcp\nsettled 7\n"));
+    let c = ConnId::new(1).expect(&rt, "the number of a connection");
+    let (ended, told) = reported(rt.alloc(), c, 100)?;
+    let is_told = told.as_slice().ends_with(b"cleared n1 1 tcp\nsettled 7\n");
+    assert_eq!(rt; (ended, is_told), (Ok(Settled::Quiet(7)), true));
     Ok(())
 }

@@ -9,10 +9,11 @@ use lard_journal::{Journal, push_line};
 use lard_rules::{Refusal, StepFault};
 use lard_world::World;
 use std::alloc::Global;
+use std::process::Abort;
 use std::test::Fail;
 
 /// What happens to the one client, its packets, and the nodes.
-#[derive(Clone, Copy, Debug)]
+#[derive(Clone, Copy)]
 enum Step {
     Open,
     /// The client asks for `/a`.
@@ -20,7 +21,7 @@ enum Step {
     Deliver(u32),
     FrontTimer,
     /// The timers of this node fire.
-    NodeTimer(NodeId),
+    NodeTimer(u32),
     Disk { n: u32, j: u32 },
     Clock(u32),
 }
@@ -122,6 +123,9 @@ fn event(alloc: Global, c: ConnId, step: Step) -> Result<Event, NoMemory>
             return Ok(Event::Timer { place, c });
         }
         Step::NodeTimer(n) => {
+            let Some(n) = NodeId::new(n) else {
+                return Err(NoMemory);
+            };
             let place = Place::Node(n);
             return Ok(Event::Timer { place, c });
         }
@@ -148,26 +152,13 @@ fn run(
     Ok(None)
 }
 
-/// The first fault of these steps of a cluster of two nodes, and the lines of the journal.
-fn reported(alloc: Global, steps: &[Step]) -> Result<(Option<StepFault>, Vec<u8>), Fail> {
-    let Some(c) = ConnId::new(1) else {
-        return Err(Fail::new("a number in range"));
-    };
+/// One file.
+fn files(alloc: Global) -> Result<Files, NoMemory> {
     let mut files = Files::new(alloc);
     if files.add(b"/a", b"hello").is_err() {
-        return Err(Fail::new("a file that may be added"));
+        return Err(NoMemory);
     }
-    let mut world = World::new(alloc, Config::standard(), files)?;
-    let fault = run(alloc, &mut world, c, steps);
-    let usable = !world.spoiled();
-    let same = world.config().nodes == 2 && world.files().get(b"/a").is_some();
-    let told = report(alloc, world.journal());
-    let journal = world.finish();
-    let fault = fault?;
-    if told?.as_slice() != report(alloc, &journal)?.as_slice() || !same || !usable {
-        return Err(Fail::new("the world is seen as it is"));
-    }
-    Ok((fault, report(alloc, &journal)?))
+    Ok(files)
 }
 
 /// The lines of a journal.
@@ -179,56 +170,94 @@ fn report(alloc: Global, journal: &Journal) -> Result<Vec<u8>, NoMemory> {
     Ok(text)
 }
 
-#[test]
-fn runs_have_their_reports(rt: HostRuntime) -> Result<(), Fail> {
-    for (steps, lines) in [
-        (SERVED.as_slice(), SERVED_REPORT),
-        (CLOCKED.as_slice(), CLOCKED_REPORT),
-    ] {
-        let (fault, told) = reported(rt.alloc(), steps)?;
-        assert_eq!(rt; fault, None);
-        assert_eq!(rt; told.as_slice(), lines);
-    }
+/// The first fault, whether the world is as it was begun and is given up with the journal that was seen, and the lines of that.
+type Told = (Option<StepFault>, bool, Vec<u8>);
+
+fn is_as_begun(world: &World) -> bool {
+    !world.spoiled() && world.config().nodes == 2 && world.files().get(b"/a").is_some()
+}
+
+/// What is told of a world once these steps are done.
+fn done(alloc: Global, world: &mut World, c: ConnId, steps: &[Step]) -> Result<Told, NoMemory>
+    requires { world.old.spoiled ≡ false }
+{
+    let fault = run(alloc, world, c, steps)?;
+    let lines = report(alloc, world.journal())?;
+    Ok((fault, is_as_begun(world), lines))
+}
+
+/// What is told of a cluster of two nodes that does these steps.
+fn reported(alloc: Global, c: ConnId, steps: &[Step]) -> Result<Told, NoMemory> {
+    let files = files(alloc)?;
+    let mut world = World::new(alloc, Config::standard(), files)?;
+    let told = done(alloc, &mut world, c, steps);
+    let journal = world.finish();
+    let (fault, is_as_begun, lines) = told?;
+    let kept = report(alloc, &journal)?;
+    Ok((
+        fault,
+        is_as_begun && kept.as_slice() == lines.as_slice(),
+        lines,
+    ))
+}
+
+/// Ends the test where these steps have a fault, or another report.
+fn reports(rt: &impl Abort, alloc: Global, steps: &[Step], want: &[u8]) -> Result<(), NoMemory> {
+    let c = ConnId::new(1).expect(rt, "the number of a connection");
+    let (fault, is_kept, lines) = reported(alloc, c, steps)?;
+    assert_eq!(rt; (fault, is_kept, lines.as_slice()), (None, true, want));
     Ok(())
 }
 
 #[test]
-fn faults_of_nodes_are_named(rt: HostRuntime) -> Result<(), Fail> {
-    let (Some(first), Some(third)) = (NodeId::new(1), NodeId::new(3)) else {
-        return Err(Fail::new("numbers in range"));
-    };
-    for (steps, fault) in [
-        (
-            [Step::Open, Step::NodeTimer(first), Step::NodeTimer(third)].as_slice(),
-            StepFault::Refused(Refusal::NoNode { n: 3, nodes: 2 }),
-        ),
-        (
-            [Step::NodeTimer(third)].as_slice(),
-            StepFault::Refused(Refusal::NoClient(1)),
-        ),
-        (
-            [Step::FrontTimer].as_slice(),
-            StepFault::Refused(Refusal::NoClient(1)),
-        ),
-        (
-            [Step::Disk { n: 0, j: 1 }].as_slice(),
-            StepFault::Refused(Refusal::NoNode { n: 0, nodes: 2 }),
-        ),
-        (
-            [Step::Disk { n: 3, j: 1 }].as_slice(),
-            StepFault::Refused(Refusal::NoNode { n: 3, nodes: 2 }),
-        ),
-        (
-            [Step::Disk { n: 2, j: 1 }].as_slice(),
-            StepFault::Refused(Refusal::NoJob { n: 2, j: 1, len: 0 }),
-        ),
-        (
-            [Step::Disk { n: 2, j: 0 }].as_slice(),
-            StepFault::Refused(Refusal::NoJob { n: 2, j: 0, len: 0 }),
-        ),
-    ] {
-        let (told, _) = reported(rt.alloc(), steps)?;
-        assert_eq!(rt; told, Some(fault));
-    }
+fn runs_have_their_reports(rt: HostRuntime) -> Result<(), Fail> {
+    reports(&rt, rt.alloc(), &SERVED, SERVED_REPORT)?;
+    reports(&rt, rt.alloc(), &CLOCKED, CLOCKED_REPORT)?;
     Ok(())
+}
+
+/// Steps of which the last is refused, and why.
+const REFUSED: &[(&[Step], Refusal)] = &[
+    (
+        &[Step::Open, Step::NodeTimer(1), Step::NodeTimer(3)],
+        Refusal::NoNode { n: 3, nodes: 2 },
+    ),
+    (&[Step::NodeTimer(3)], Refusal::NoClient(1)),
+    (&[Step::FrontTimer], Refusal::NoClient(1)),
+    (
+        &[Step::Disk { n: 0, j: 1 }],
+        Refusal::NoNode { n: 0, nodes: 2 },
+    ),
+    (
+        &[Step::Disk { n: 3, j: 1 }],
+        Refusal::NoNode { n: 3, nodes: 2 },
+    ),
+    (
+        &[Step::Disk { n: 2, j: 1 }],
+        Refusal::NoJob { n: 2, j: 1, len: 0 },
+    ),
+    (
+        &[Step::Disk { n: 2, j: 0 }],
+        Refusal::NoJob { n: 2, j: 0, len: 0 },
+    ),
+];
+
+/// The first fault of these steps, and whether all else is as it was begun.
+fn fault_of(
+    alloc: Global,
+    c: ConnId,
+    steps: &[Step],
+) -> Result<(Option<StepFault>, bool), NoMemory> {
+    let (fault, is_kept, _) = reported(alloc, c, steps)?;
+    Ok((fault, is_kept))
+}
+
+#[test]
+fn faults_of_nodes_are_named(rt: HostRuntime) {
+    let c = ConnId::new(1).expect(&rt, "the number of a connection");
+    for (at, (steps, why)) in REFUSED.iter().enumerate() {
+        let told = fault_of(rt.alloc(), c, steps);
+        let wanted = (Some(StepFault::Refused(*why)), true);
+        assert_eq!(rt; told, Ok(wanted), "in row {at}");
+    }
 }
