@@ -1,11 +1,13 @@
 -- Journals that break the laws of disks and caches, and of where contents come from.
 use Rattle.std.specs.Prelude.{List, [], ◌∷◌, None, Some, codes}
 use Rattle.lard_base.specs.declared.event.Event.TheVariants as event
-use Rattle.lard_law_view.specs.Prelude.{EachMay, EachStep, Node, Rec, request, steps}
+use Rattle.lard_history.proofs.Each.{Each}
+use Rattle.lard_law_view.specs.Prelude.{EachMay, EachStep, Front, Node, Rec, request, steps}
 use Rattle.lard_base.specs.declared.place.Via.TheVariants as via
 use Rattle.lard_laws.specs.BackingJobs.{MustQueue}
 use Rattle.lard_laws.specs.BackingRequests.{MayBeBacked, MayStart}
 use Rattle.lard_law_connections.specs.StoresLaws.{MayStore, MustRead}
+use Rattle.lard_laws.specs.Formed.{HasPathAndBytes}
 use Rattle.lard_laws.specs.WaysBefore.{MayBeServed}
 use Rattle.lard_laws.specs.WaysContents.{MustBring}
 use Rattle.lard_journal.specs.declared.rec.Rec.TheVariants as rec
@@ -127,3 +129,28 @@ job_for_another_unasked = rec.Event 1 (event.Timer (Node 1) 1) ∷ rec.Queued 1 
 -- It queues one of its own.
 abbrev pub job_of_its_own : List Rec
 job_of_its_own = rec.Event 1 (event.Timer (Node 1) 1) ∷ rec.Queued 1 1 1 1 (codes "/a") ∷ []
+
+-- ---- paths and bytes
+
+abbrev pub paths_and_bytes : Law
+paths_and_bytes config files J = Each (HasPathAndBytes files) J
+
+-- A request is assigned for a path that no file has.
+abbrev pub assigned_without_a_file : List Rec
+assigned_without_a_file = rec.AssignedFirst 1 1 (codes "/c") 1 (Some 1) None ∷ []
+
+-- It is for that of a file.
+abbrev pub assigned_for_a_file : List Rec
+assigned_for_a_file = rec.AssignedFirst 1 1 (codes "/a") 1 (Some 1) None ∷ []
+
+-- A disk reads a path that no file has.
+abbrev pub read_without_a_file : List Rec
+read_without_a_file = rec.Hit 1 (codes "/a") ∷ rec.Read 1 1 1 1 (codes "/c") ∷ []
+
+-- A client accepts no byte, and a record tells it.
+abbrev pub nothing_is_accepted : List Rec
+nothing_is_accepted = rec.Accepted 1 [] ∷ []
+
+-- A packet has no byte.
+abbrev pub empty_packet : List Rec
+empty_packet = rec.Sent 1 Front (Node 1) [] ∷ []

@@ -1,5 +1,6 @@
 //! What the laws of disks and caches and of contents refuse.
 
+ghost use Rattle.lard_laws.specs.Formed.{RecordsHavePathsAndBytes};
 ghost use Rattle.lard_refusals.specs.Contents as the;
 ghost use Rattle.lard_refusals.specs.Refusals.{Allows, IsLawOfAll, Refuses};
 
@@ -57,3 +58,16 @@ pub fn queues_refuses()
     ensures job_for_another_unasked { Refuses the.queues the.job_for_another_unasked }
     ensures job_of_its_own { Allows the.queues the.job_of_its_own }
 {}
+
+/// The paths of records name files, and their bytes are at least one. This is no field of `IsLawful`: it asks of a run what its
+/// clients are told to write.
+pub fn paths_and_bytes_refuses()
+    ensures law { RecordsHavePathsAndBytes }
+    ensures assigned_without_a_file { Refuses the.paths_and_bytes the.assigned_without_a_file }
+    ensures read_without_a_file { Refuses the.paths_and_bytes the.read_without_a_file }
+    ensures nothing_is_accepted { Refuses the.paths_and_bytes the.nothing_is_accepted }
+    ensures empty_packet { Refuses the.paths_and_bytes the.empty_packet }
+    ensures assigned_for_a_file { Allows the.paths_and_bytes the.assigned_for_a_file }
+{
+    lard_laws::records_have_paths_and_bytes();
+}
