@@ -1,126 +1,140 @@
 //! Each call once, with ample memory, beside what the rules give.
 
+use lard_base::NoMemory;
 use lard_files::{FileFault, Files};
-use lard_shared::Shared;
 use std::alloc::{AllocError, Global};
-use std::test::Fail;
 
 /// So many bytes.
 fn bytes_of(alloc: Global, len: usize) -> Result<Vec<u8>, AllocError> {
     vec![in alloc; b'x'; len]
 }
 
+const FOUND: &[(&[u8], Option<&[u8]>)] = &[
+    (b"/a", Some(b"one")),
+    (b"/b", Some(b"")),
+    (b"/", None),
+    (b"/A", None),
+    (b"/aa", None),
+    (b"", None),
+];
+
+/// The first path at which files have something else.
+fn wrong_path(files: &Files) -> Option<&'static [u8]> {
+    for &(path, want) in FOUND {
+        if files.get(path) != want {
+            return Some(path);
+        }
+    }
+    None
+}
+
 #[test]
 fn files_are_found_by_their_paths(rt: HostRuntime) {
     let mut files = Files::new(rt.alloc());
-    assert_eq!(rt; files.get(b"/a"), None);
-    assert_eq!(rt; files.add(b"/a", b"one"), Ok(()));
-    assert_eq!(rt; files.add(b"/b", b""), Ok(()));
-    assert_eq!(rt; files.add(b"/a", b"two"), Err(FileFault::Repeated));
-    for (path, want) in [
-        (b"/a".as_slice(), Some(b"one".as_slice())),
-        (b"/b".as_slice(), Some(b"".as_slice())),
-        (b"/".as_slice(), None),
-        (b"/A".as_slice(), None),
-        (b"/aa".as_slice(), None),
-        (b"".as_slice(), None),
-    ] {
-        assert_eq!(rt; files.get(path), want, "at {path:?}");
+    let before = files.get(b"/a").is_none();
+    let added = [
+        files.add(b"/a", b"one"),
+        files.add(b"/b", b""),
+        files.add(b"/a", b"two"),
+    ];
+    assert_eq!(rt; added, [Ok(()), Ok(()), Err(FileFault::Repeated)]);
+    assert_eq!(rt; (before, wrong_path(&files)), (true, None));
+}
+
+/// Whether files give a share of these bytes at a path, or none.
+fn is_shared(files: &Files, path: &[u8], want: Option<&[u8]>) -> Result<bool, NoMemory> {
+    match files.share(path)? {
+        Some(share) => Ok(want == Some(share.as_slice())),
+        None => Ok(want.is_none()),
     }
 }
 
-/// The bytes that such a share has.
-fn bytes_of_share(share: &Option<Shared>) -> Option<&[u8]> {
-    match share {
-        Some(bytes) => Some(bytes.as_slice()),
-        None => None,
+/// Whether the bytes from 1 to 3 of a file of five bytes are these.
+fn is_shared_in_part(files: &Files, path: &[u8], want: &[u8]) -> Result<bool, NoMemory> {
+    match files.share(path)? {
+        Some(share) if share.len() == 5 => Ok(share.part(1, 3)?.as_slice() == want),
+        _ => Ok(false),
     }
 }
 
-#[test]
-fn files_are_shared(rt: HostRuntime) -> Result<(), Fail> {
-    let mut files = Files::new(rt.alloc());
-    assert_eq!(rt; files.add(b"/a", b"hello"), Ok(()));
-    assert_eq!(rt; files.add(b"/b", b""), Ok(()));
-    for (path, want) in [
-        (b"/a".as_slice(), Some(b"hello".as_slice())),
-        (b"/a".as_slice(), Some(b"hello".as_slice())),
-        (b"/b".as_slice(), Some(b"".as_slice())),
-        (b"/z".as_slice(), None),
-        (b"".as_slice(), None),
-    ] {
-        let share = files.share(path)?;
-        assert_eq!(rt; bytes_of_share(&share), want, "at {path:?}");
-    }
-    match files.share(b"/a")? {
-        Some(share) if share.len() == 5 => {
-            let part = share.part(1, 3)?;
-            assert_eq!(rt; part.as_slice(), b"\x65\x6c\x6c".as_slice());
+const SHARED: &[(&[u8], Option<&[u8]>)] = &[
+    (b"/a", Some(b"hello")),
+    (b"/a", Some(b"hello")),
+    (b"/b", Some(b"")),
+    (b"/z", None),
+    (b"", None),
+];
+
+/// The first path at which another share is given.
+fn wrong_share(files: &Files) -> Result<Option<&'static [u8]>, NoMemory> {
+    for &(path, want) in SHARED {
+        if !is_shared(files, path, want)? {
+            return Ok(Some(path));
         }
-        _ => assert!(rt; false, "has five bytes"),
     }
-    Ok(())
+    Ok(None)
 }
 
 #[test]
-fn bytes_have_limits(rt: HostRuntime) -> Result<(), Fail> {
-    let longest = bytes_of(rt.alloc(), 1 << 20)?;
-    let longer = bytes_of(rt.alloc(), (1 << 20) + 1)?;
+fn files_are_shared(rt: HostRuntime) {
     let mut files = Files::new(rt.alloc());
-    assert_eq!(rt;
-        files.add(b"/a", &longer),
-        Err(FileFault::TooLong(1_048_577))
-    );
-    for n in 0..64u32 {
-        assert_eq!(rt; files.add(&n.to_be_bytes(), &longest), Ok(()), "file {n}");
+    let added = [files.add(b"/a", b"hello"), files.add(b"/b", b"")];
+    assert_eq!(rt; added, [Ok(()); 2]);
+    let part = is_shared_in_part(&files, b"/a", b"ell");
+    assert_eq!(rt; (wrong_share(&files), part), (Ok(None), Ok(true)));
+}
+
+/// How many files with these bytes are added, of so many, up to the first that is not.
+fn filled(files: &mut Files, count: u32, bytes: &[u8]) -> u32 {
+    for n in 0..count {
+        if files.add(&n.to_be_bytes(), bytes).is_err() {
+            return n;
+        }
     }
-    assert_eq!(rt; files.add(b"/e", b""), Ok(()));
-    for (path, bytes, want) in [
-        (
-            b"/f".as_slice(),
-            b"x".as_slice(),
-            FileFault::TooMuch(67_108_865),
-        ),
-        (
-            b"/g".as_slice(),
-            longest.as_slice(),
-            FileFault::TooMuch(68_157_440),
-        ),
-        (
-            b"/g".as_slice(),
-            longer.as_slice(),
-            FileFault::TooLong(1_048_577),
-        ),
-        (b"/e".as_slice(), longer.as_slice(), FileFault::Repeated),
-    ] {
-        assert_eq!(rt; files.add(path, bytes), Err(want), "at {path:?}");
-    }
+    count
+}
+
+#[test]
+fn bytes_have_limits(rt: HostRuntime) {
+    let longer = bytes_of(rt.alloc(), (1 << 20) + 1).expect(&rt, "memory");
+    let longest = bytes_of(rt.alloc(), 1 << 20).expect(&rt, "memory");
+    let mut files = Files::new(rt.alloc());
+    let first = files.add(b"/a", &longer);
+    let count = filled(&mut files, 64, &longest);
+    let behind = [
+        files.add(b"/e", b""),
+        files.add(b"/f", b"x"),
+        files.add(b"/g", &longest),
+        files.add(b"/g", &longer),
+        files.add(b"/e", &longer),
+    ];
+    let want = [
+        Ok(()),
+        Err(FileFault::TooMuch(67_108_865)),
+        Err(FileFault::TooMuch(68_157_440)),
+        Err(FileFault::TooLong(1_048_577)),
+        Err(FileFault::Repeated),
+    ];
+    assert_eq!(rt; (first, count), (Err(FileFault::TooLong(1_048_577)), 64));
+    assert_eq!(rt; behind, want);
     assert_eq!(rt; files.get(b"/f"), None);
-    Ok(())
 }
 
 #[test]
-fn there_are_not_too_many_files(rt: HostRuntime) -> Result<(), Fail> {
-    let longer = bytes_of(rt.alloc(), (1 << 20) + 1)?;
+fn there_are_not_too_many_files(rt: HostRuntime) {
+    let longer = bytes_of(rt.alloc(), (1 << 20) + 1).expect(&rt, "memory");
     let mut files = Files::new(rt.alloc());
-    for n in 0..65_536u32 {
-        assert_eq!(rt; files.add(&n.to_be_bytes(), b"x"), Ok(()), "file {n}");
-    }
-    for (path, bytes, want) in [
-        (
-            b"/f".as_slice(),
-            b"x".as_slice(),
-            FileFault::TooMany(65_537),
-        ),
-        (
-            b"/f".as_slice(),
-            longer.as_slice(),
-            FileFault::TooLong(1_048_577),
-        ),
-        (b"\0\0\0\0".as_slice(), b"x".as_slice(), FileFault::Repeated),
-    ] {
-        assert_eq!(rt; files.add(path, bytes), Err(want), "at {path:?}");
-    }
+    let count = filled(&mut files, 65_536, b"x");
+    let behind = [
+        files.add(b"/f", b"x"),
+        files.add(b"/f", &longer),
+        files.add(b"\0\0\0\0", b"x"),
+    ];
+    let want = [
+        Err(FileFault::TooMany(65_537)),
+        Err(FileFault::TooLong(1_048_577)),
+        Err(FileFault::Repeated),
+    ];
+    assert_eq!(rt; (count, behind), (65_536, want));
     assert_eq!(rt; files.get(b"\0\0\xff\xff"), Some(b"x".as_slice()));
-    Ok(())
 }

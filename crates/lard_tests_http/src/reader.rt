@@ -1,9 +1,9 @@
 //! Batches of pipelined requests, beside the verdicts and the bytes that the rules give.
 
+use lard_base::NoMemory;
 use lard_reader::batch;
 use lard_request::{Code, Verdict};
 use std::alloc::{AllocError, Global};
-use std::test::Fail;
 
 /// The code of a fault, as text.
 fn code_text(code: Code) -> &'static [u8] {
@@ -53,123 +53,69 @@ fn text(
     Ok(text)
 }
 
-#[test]
-fn batches_are_read(rt: HostRuntime) -> Result<(), Fail> {
-    for (first, fill, times, last, verdicts, used) in [
-        (b"".as_slice(), 0, 0, b"".as_slice(), b"".as_slice(), 0),
-        (b"\r\n".as_slice(), 0, 0, b"".as_slice(), b"".as_slice(), 2),
-        (
-            b"\r\n\r\n\r".as_slice(),
-            0,
-            0,
-            b"".as_slice(),
-            b"".as_slice(),
-            4,
-        ),
-        (
-            b"\r\n".as_slice(),
-            0,
-            0,
-            b"GET /a".as_slice(),
-            b"".as_slice(),
-            2,
-        ),
-        (b"".as_slice(), 0, 1, b"".as_slice(), b"/a ".as_slice(), 28),
-        (
-            b"\r\n".as_slice(),
-            0,
-            1,
-            b"\r\nGET".as_slice(),
-            b"/a ".as_slice(),
-            32,
-        ),
-        (
-            b"HEAD /b HTTP/1.1\r\nHost: h\r\n\r\n".as_slice(),
-            0,
-            1,
-            b"GET /c HTTP/1.0\r\n\r\n\r\n".as_slice(),
-            b"/b^ /a /c! ".as_slice(),
-            76,
-        ),
-        (
-            b"GET /c HTTP/1.0\r\n\r\n".as_slice(),
-            0,
-            2,
-            b"".as_slice(),
-            b"/c! ".as_slice(),
-            19,
-        ),
-        (
-            b"x\r\n\r\n".as_slice(),
-            0,
-            1,
-            b"".as_slice(),
-            b"400! ".as_slice(),
-            5,
-        ),
-        (
-            b"".as_slice(),
-            0,
-            8,
-            b"\r\n".as_slice(),
-            b"/a /a /a /a /a /a /a /a ".as_slice(),
-            224,
-        ),
-        (
-            b"".as_slice(),
-            0,
-            9,
-            b"".as_slice(),
-            b"/a /a /a /a /a /a /a /a ".as_slice(),
-            224,
-        ),
-        (
-            b"\r\n\r\n".as_slice(),
-            0,
-            7,
-            b"\r\n".as_slice(),
-            b"/a /a /a /a /a /a /a ".as_slice(),
-            202,
-        ),
-        (b"".as_slice(), 8_191, 0, b"".as_slice(), b"".as_slice(), 0),
-        (
-            b"".as_slice(),
-            8_192,
-            0,
-            b"".as_slice(),
-            b"431! ".as_slice(),
-            8_192,
-        ),
-        (
-            b"\r\n".as_slice(),
-            8_192,
-            2,
-            b"".as_slice(),
-            b"431! ".as_slice(),
-            8_250,
-        ),
-        (
-            b"GET /b HTTP/1.1\r\nHost: h\r\n\r\n".as_slice(),
-            8_192,
-            1,
-            b"".as_slice(),
-            b"/b 431! ".as_slice(),
-            8_248,
-        ),
-    ] {
-        let bytes = text(rt.alloc(), first, fill, times, last)?;
-        let reading = batch(rt.alloc(), &bytes)?;
-        let told = spelled(rt.alloc(), reading.verdicts.as_slice())?;
-        assert_eq!(rt;
-            told.as_slice(),
-            verdicts,
-            "at {first:?}, {fill}, {times}, {last:?}"
-        );
-        assert_eq!(rt;
-            reading.used,
-            used,
-            "at {first:?}, {fill}, {times}, {last:?}"
-        );
+/// The parts of a text; the verdicts on it, and how many of its bytes they use.
+type Row = (
+    &'static [u8],
+    usize,
+    usize,
+    &'static [u8],
+    &'static [u8],
+    usize,
+);
+
+const ROWS: &[Row] = &[
+    (b"", 0, 0, b"", b"", 0),
+    (b"\r\n", 0, 0, b"", b"", 2),
+    (b"\r\n\r\n\r", 0, 0, b"", b"", 4),
+    (b"\r\n", 0, 0, b"GET /a", b"", 2),
+    (b"", 0, 1, b"", b"/a ", 28),
+    (b"\r\n", 0, 1, b"\r\nGET", b"/a ", 32),
+    (
+        b"HEAD /b HTTP/1.1\r\nHost: h\r\n\r\n",
+        0,
+        1,
+        b"GET /c HTTP/1.0\r\n\r\n\r\n",
+        b"/b^ /a /c! ",
+        76,
+    ),
+    (b"GET /c HTTP/1.0\r\n\r\n", 0, 2, b"", b"/c! ", 19),
+    (b"x\r\n\r\n", 0, 1, b"", b"400! ", 5),
+    (b"", 0, 8, b"\r\n", b"/a /a /a /a /a /a /a /a ", 224),
+    (b"", 0, 9, b"", b"/a /a /a /a /a /a /a /a ", 224),
+    (b"\r\n\r\n", 0, 7, b"\r\n", b"/a /a /a /a /a /a /a ", 202),
+    (b"", 8_191, 0, b"", b"", 0),
+    (b"", 8_192, 0, b"", b"431! ", 8_192),
+    (b"\r\n", 8_192, 2, b"", b"431! ", 8_250),
+    (
+        b"GET /b HTTP/1.1\r\nHost: h\r\n\r\n",
+        8_192,
+        1,
+        b"",
+        b"/b 431! ",
+        8_248,
+    ),
+];
+
+/// Whether a batch of the row's text has its verdicts, and uses so many bytes.
+fn is_read(alloc: Global, row: &Row) -> Result<bool, NoMemory> {
+    let &(first, fill, times, last, verdicts, used) = row;
+    let bytes = text(alloc, first, fill, times, last)?;
+    let reading = batch(alloc, &bytes)?;
+    let told = spelled(alloc, reading.verdicts.as_slice())?;
+    Ok(told.as_slice() == verdicts && reading.used == used)
+}
+
+/// The first row that is read otherwise.
+fn misread(alloc: Global, rows: &[Row]) -> Result<Option<usize>, NoMemory> {
+    for (at, row) in rows.iter().enumerate() {
+        if !is_read(alloc, row)? {
+            return Ok(Some(at));
+        }
     }
-    Ok(())
+    Ok(None)
+}
+
+#[test]
+fn batches_are_read(rt: HostRuntime) {
+    assert_eq!(rt; misread(rt.alloc(), ROWS), Ok(None));
 }
