@@ -1,7 +1,8 @@
 //! Each call with ample memory, where nobody waits.
 
+use crate::compare::{same, shows};
 use lard_agenda::{Agenda, Kinds};
-use lard_base::{Config, ConnId, Event, Items, NoMemory, NodeId, Place, TimerKind};
+use lard_base::{Config, ConnId, Event, NoMemory, NodeId, Place, TimerKind};
 use lard_dispatch::Dispatch;
 use lard_journal::{Rec, Recs};
 use lard_shared::Shared;
@@ -13,13 +14,8 @@ fn conn(rt: &impl Abort, number: u32) -> ConnId {
     ConnId::new(number).expect(rt, "the number of a connection")
 }
 
-/// The place of a connection's client, and the connection.
-fn at_client(c: ConnId) -> (Place, ConnId) {
-    (Place::Client(c), c)
-}
-
-/// Three packets of which the first is got and the second lost, and two clients that hold of which the first takes.
-fn packets_and_holders(alloc: Global, c: ConnId, other: ConnId) -> Result<Recs, NoMemory> {
+/// Three packets of a client.
+fn packets(alloc: Global, c: ConnId) -> Result<Recs, NoMemory> {
     let mut recs = Recs::new(alloc);
     for k in 1..4 {
         recs.push(Rec::Sent {
@@ -29,15 +25,18 @@ fn packets_and_holders(alloc: Global, c: ConnId, other: ConnId) -> Result<Recs, 
             bytes: Shared::from_slice(alloc, b"x")?,
         })?;
     }
+    Ok(recs)
+}
+
+/// The first packet is got and the second lost, and of two clients that hold the first takes.
+fn losses_and_holders(recs: &mut Recs, c: ConnId, other: ConnId) -> Result<(), NoMemory> {
     recs.push(Rec::Got(1))?;
     recs.push(Rec::Lost(2))?;
-    recs.push(Rec::Event {
-        i: 1,
-        event: Event::Hold(c),
-    })?;
+    let event = Event::Hold(c);
+    recs.push(Rec::Event { i: 1, event })?;
     recs.push(Rec::Inner(Event::Hold(other)))?;
     recs.push(Rec::Inner(Event::Take(c)))?;
-    Ok(recs)
+    Ok(())
 }
 
 fn armed(place: Place, c: ConnId, kind: TimerKind) -> Rec {
@@ -60,46 +59,52 @@ fn timers(recs: &mut Recs, c: ConnId, other: ConnId, n: NodeId) -> Result<(), No
     Ok(())
 }
 
-/// What is left to be done, as an agenda tells it.
-#[derive(Drop)]
-struct Left {
-    way: Items<u32>,
-    holders: Items<ConnId>,
-    due: Items<(Place, ConnId)>,
-    timers: u64,
-    rests: bool,
+/// All of these.
+fn records(alloc: Global, c: ConnId, other: ConnId, n: NodeId) -> Result<Recs, NoMemory> {
+    let mut recs = packets(alloc, c)?;
+    losses_and_holders(&mut recs, c, other)?;
+    timers(&mut recs, c, other, n)?;
+    Ok(recs)
 }
 
-/// What is left of these records.
-fn told(alloc: Global, c: ConnId, other: ConnId, n: NodeId) -> Result<Left, NoMemory> {
-    let dispatch = Dispatch::new(alloc, Config::standard())?;
-    let mut recs = packets_and_holders(alloc, c, other)?;
-    timers(&mut recs, c, other, n)?;
+/// An agenda that has followed these records.
+fn followed(alloc: Global, recs: &Recs) -> Result<Agenda, NoMemory> {
     let mut agenda = Agenda::new(alloc);
     agenda.follow(recs.as_slice())?;
-    Ok(Left {
-        way: agenda.on_way(alloc)?,
-        holders: agenda.holders(alloc)?,
-        due: agenda.due(alloc, &dispatch)?,
-        timers: agenda.timers_left(&dispatch),
-        rests: agenda.rests(&dispatch),
-    })
+    Ok(agenda)
 }
 
 #[test]
 fn what_is_left_is_told(rt: HostRuntime) -> Result<(), Fail> {
-    let (c, other) = (conn(&rt, 2), conn(&rt, 5));
     let n = NodeId::new(2).expect(&rt, "the number of a node");
-    let left = told(rt.alloc(), c, other, n).ok().ok_or("memory")?;
-    assert_eq!(rt; left.way.as_slice(), &[3][..]);
-    assert_eq!(rt; left.holders.as_slice(), &[other][..]);
-    assert_eq!(rt; left.due.len(), 3);
-    assert_eq!(rt; left.due.as_slice()[0], (Place::Front, other));
-    assert_eq!(rt; left.due.as_slice()[1], (Place::Node(n), c));
-    assert_eq!(rt; left.due.as_slice()[2], at_client(other));
-    assert_eq!(rt; (left.timers, left.rests), (3, false));
+    let recs = records(rt.alloc(), conn(&rt, 2), conn(&rt, 5), n)?;
+    let agenda = followed(rt.alloc(), &recs)?;
+    has_packets_and_holders(&rt, rt.alloc(), &agenda);
+    let dispatch = Dispatch::new(rt.alloc(), Config::standard())?;
+    has_timers(&rt, rt.alloc(), &agenda, &dispatch);
     Ok(())
 }
+
+/// The third packet is on its way, and the second client holds.
+fn has_packets_and_holders(rt: &impl Abort, alloc: Global, agenda: &Agenda) {
+    let way = agenda.on_way(alloc);
+    shows(rt, alloc, &way, "Ok(Items { items: [3] })");
+    let holders = agenda.holders(alloc);
+    let want = "Ok(Items { items: [ConnId { number: 5 }] })";
+    shows(rt, alloc, &holders, want);
+}
+
+/// Three timers are left.
+fn has_timers(rt: &impl Abort, alloc: Global, agenda: &Agenda, dispatch: &Dispatch) {
+    let due = agenda.due(alloc, dispatch);
+    shows(rt, alloc, &due, DUE);
+    let told = (agenda.timers_left(dispatch), agenda.rests(dispatch));
+    same(rt, &told, &(3, false));
+}
+
+const DUE: &str = "Ok(Items { items: [(Front, ConnId { number: 5 }), \
+    (Node(NodeId { number: 2 }), ConnId { number: 2 }), \
+    (Client(ConnId { number: 5 }), ConnId { number: 5 })] })";
 
 #[test]
 fn kinds_are_set_and_counted(rt: HostRuntime) {
@@ -107,7 +112,7 @@ fn kinds_are_set_and_counted(rt: HostRuntime) {
     let two = none
         .with(TimerKind::Fetch, true)
         .with(TimerKind::Ended, true);
-    assert!(rt; none.is_none() && !two.is_none());
-    assert_eq!(rt; two.how_many(), 2);
-    assert_eq!(rt; two.with(TimerKind::Fetch, false).how_many(), 1);
+    let one = two.with(TimerKind::Fetch, false);
+    same(&rt, &(none.is_none(), two.is_none()), &(true, false));
+    same(&rt, &(two.how_many(), one.how_many()), &(2, 1));
 }

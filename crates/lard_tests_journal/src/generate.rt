@@ -1,5 +1,6 @@
 //! A small schedule beside the lines of `tools/generate-schedule`, and the counts of a larger one.
 
+use crate::compare::{same, shows};
 use lard_base::Event;
 use lard_generate::generate;
 use std::alloc::{AllocError, Global};
@@ -55,7 +56,7 @@ fn lines(alloc: Global, events: &[Event]) -> Result<String, AllocError> {
 fn one_client_is_as_the_tool_has_it(rt: HostRuntime) -> Result<(), Fail> {
     let schedule = generate(rt.alloc(), 7, 1).ok().ok_or("memory")?;
     let lines = lines(rt.alloc(), schedule.events.as_slice())?;
-    assert_eq!(rt; lines.as_str(), LINES);
+    same(&rt, &lines.as_str(), &LINES);
     Ok(())
 }
 
@@ -89,25 +90,24 @@ fn letters(alloc: Global, events: &[Event]) -> Result<String, AllocError> {
 fn twenty_clients_are_as_many_as_the_tool_has(rt: HostRuntime) -> Result<(), Fail> {
     let schedule = generate(rt.alloc(), 7, 20).ok().ok_or("memory")?;
     let letters = letters(rt.alloc(), schedule.events.as_slice())?;
-    assert_eq!(rt; letters.as_str(), LETTERS);
+    same(&rt, &letters.as_str(), &LETTERS);
     let last = schedule.events.as_slice().last().ok_or("an event")?;
-    assert_eq!(rt; line(rt.alloc(), last)?.as_str(), "settle 9887392\n");
+    shows(&rt, rt.alloc(), last, "Settle(9887392)");
     Ok(())
 }
 
 #[test]
 fn files_are_as_the_tool_has_them(rt: HostRuntime) -> Result<(), Fail> {
     let schedule = generate(rt.alloc(), 7, 1).ok().ok_or("memory")?;
-    for (path, len, first, last) in [
-        (b"/f0".as_slice(), 6_603, 0, 0xca),
-        (b"/f1".as_slice(), 6_111, 1, 0xdf),
-        (b"/f255".as_slice(), 5_289, 0xff, 0xa7),
+    for (path, want) in [
+        ("/f0", (6_603, Some(0), Some(0xca))),
+        ("/f1", (6_111, Some(1), Some(0xdf))),
+        ("/f255", (5_289, Some(0xff), Some(0xa7))),
     ] {
-        let bytes = schedule.files.get(path).ok_or("a file")?;
-        assert_eq!(rt; bytes.len(), len, "at {path:?}");
-        assert_eq!(rt; bytes.first().copied(), Some(first), "at {path:?}");
-        assert_eq!(rt; bytes.last().copied(), Some(last), "at {path:?}");
+        let bytes = schedule.files.get(path.as_bytes()).ok_or("a file")?;
+        let told = (bytes.len(), bytes.first().copied(), bytes.last().copied());
+        same(&rt, &told, &want);
     }
-    assert_eq!(rt; schedule.files.get(b"/f256"), None);
+    assert!(rt; schedule.files.get(b"/f256").is_none());
     Ok(())
 }

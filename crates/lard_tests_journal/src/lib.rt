@@ -6,6 +6,8 @@
 #[cfg(test)]
 mod agenda;
 #[cfg(test)]
+mod compare;
+#[cfg(test)]
 mod generate;
 #[cfg(test)]
 mod journal;

@@ -1,10 +1,12 @@
 //! The lines of two short journals, counted by hand.
 
+use crate::compare::same_bytes;
 use lard_base::{ConnId, Place, Via};
 use lard_journal::Rec;
 use lard_shared::Shared;
 use lard_summary::summary;
 use std::alloc::Global;
+use std::process::Abort;
 use std::test::Fail;
 
 /// A packet of two bytes, a response, and four bytes and one that the client accepts.
@@ -36,17 +38,21 @@ fn journal(alloc: Global) -> Result<Vec<Rec>, Fail> {
     Ok(recs)
 }
 
+/// Ends the test where the lines that tell of a journal are others.
+fn tells(rt: &impl Abort, alloc: Global, seed: u64, clients: u32, recs: &[Rec], want: &str) {
+    let lines = summary(alloc, seed, clients, recs)
+        .ok()
+        .expect(rt, "memory");
+    same_bytes(rt, lines.as_slice(), want.as_bytes());
+}
+
 #[test]
 fn a_journal_that_ends_by_settled(rt: HostRuntime) -> Result<(), Fail> {
     let mut recs = journal(rt.alloc())?;
     recs.push(Rec::Settled(3))?;
-    let lines = summary(rt.alloc(), u64::MAX, 2_000, recs.as_slice())
-        .ok()
-        .ok_or("memory")?;
-    assert_eq!(rt;
-        lines.as_slice(),
-        b"seed 18446744073709551615 clients 2000\nrequests 1\naccepted 5 packets 1 records 5\nsettled\n".as_slice()
-    );
+    let want =
+        "seed 18446744073709551615 clients 2000\nrequests 1\naccepted 5 packets 1 records 5\nsettled\n";
+    tells(&rt, rt.alloc(), u64::MAX, 2_000, recs.as_slice(), want);
     Ok(())
 }
 
@@ -54,17 +60,9 @@ fn a_journal_that_ends_by_settled(rt: HostRuntime) -> Result<(), Fail> {
 fn a_journal_that_ends_otherwise(rt: HostRuntime) -> Result<(), Fail> {
     let mut recs = journal(rt.alloc())?;
     recs.push(Rec::Unsettled { rounds: 3, left: 1 })?;
-    let lines = summary(rt.alloc(), 0, 1, recs.as_slice())
-        .ok()
-        .ok_or("memory")?;
-    assert_eq!(rt;
-        lines.as_slice(),
-        b"seed 0 clients 1\nrequests 1\naccepted 5 packets 1 records 5\nopen\n".as_slice()
-    );
-    let lines = summary(rt.alloc(), 0, 1, &[]).ok().ok_or("memory")?;
-    assert_eq!(rt;
-        lines.as_slice(),
-        b"seed 0 clients 1\nrequests 0\naccepted 0 packets 0 records 0\nopen\n".as_slice()
-    );
+    let want = "seed 0 clients 1\nrequests 1\naccepted 5 packets 1 records 5\nopen\n";
+    tells(&rt, rt.alloc(), 0, 1, recs.as_slice(), want);
+    let want = "seed 0 clients 1\nrequests 0\naccepted 0 packets 0 records 0\nopen\n";
+    tells(&rt, rt.alloc(), 0, 1, &[], want);
     Ok(())
 }

@@ -51,37 +51,49 @@ fn numbers(pending: &Pending, c: ConnId) -> [u32; 4] {
     all
 }
 
+/// A message that is to be held.
 fn bytes(rt: &impl Abort, alloc: Global, text: &[u8]) -> Bytes {
     Bytes::from_slice(alloc, text).ok().expect(rt, "memory")
 }
 
-/// Holds four messages of a connection, of which one takes the place of an older one, and answers whether all were held.
-fn are_held(
+/// Holds a message of these bytes.
+fn holds(
     rt: &impl Abort,
     pending: &mut Pending,
     alloc: Global,
-    one: ConnId,
-    node: &Place,
-) -> bool {
-    let seven = bytes(rt, alloc, b"seven");
-    let older = bytes(rt, alloc, b"older");
-    let three = bytes(rt, alloc, b"three");
-    let asked = bytes(rt, alloc, b"asked");
-    hold(pending, fetch(one, 7), *node, seven)
-        && hold(pending, fetch(one, 3), Place::Front, older)
-        && renew(pending, fetch(one, 3), *node, three)
-        && hold(pending, sole(one, TimerKind::Ask), Place::Front, asked)
+    key: PendingKey,
+    to: &Place,
+    text: &[u8],
+) {
+    let held = hold(pending, key, *to, bytes(rt, alloc, text));
+    assert!(rt; held);
+}
+
+/// Holds three messages of a connection, of which one takes the place of an older one.
+fn are_held(rt: &impl Abort, pending: &mut Pending, alloc: Global, one: ConnId, node: &Place) {
+    holds(rt, pending, alloc, fetch(one, 7), node, b"seven");
+    holds(rt, pending, alloc, fetch(one, 3), &Place::Front, b"older");
+    let renewed = renew(pending, fetch(one, 3), *node, bytes(rt, alloc, b"three"));
+    assert!(rt; renewed);
+    holds(
+        rt,
+        pending,
+        alloc,
+        sole(one, TimerKind::Ask),
+        &Place::Front,
+        b"asked",
+    );
 }
 
 /// Each is found under its key, and no other.
 fn are_found(rt: &impl Abort, pending: &Pending, one: ConnId, node: &Place) {
     same(rt, &numbers(pending, one), &[0, 3, 7, 0]);
-    let three = pending.again(fetch(one, 3)) == Some((*node, b"three".as_slice()));
-    let asked = pending.again(sole(one, TimerKind::Ask))
-        == Some((Place::Front, b"asked".as_slice()));
-    assert!(rt; three && asked);
-    assert!(rt; pending.again(fetch(one, 4)).is_none());
-    assert!(rt; pending.get(&fetch(one, 7)).is_some());
+    let three = Some((*node, b"three".as_slice()));
+    same(rt, &pending.again(fetch(one, 3)), &three);
+    let asked = Some((Place::Front, b"asked".as_slice()));
+    same(rt, &pending.again(sole(one, TimerKind::Ask)), &asked);
+    same(rt, &pending.again(fetch(one, 4)), &None);
+    same(rt, &pending.get(&fetch(one, 7)).is_some(), &true);
 }
 
 /// What is settled is held no more, and of a connection that is forgotten nothing is.
@@ -103,10 +115,9 @@ fn what_is_held_is_found_in_order(rt: HostRuntime) {
     let (one, two) = (conn(&rt, 1), conn(&rt, 2));
     let node = Place::Node(NodeId::new(2).expect(&rt, "the number of a node"));
     let mut pending = Pending::new(rt.alloc());
-    let held = are_held(&rt, &mut pending, rt.alloc(), one, &node);
-    let offered = bytes(&rt, rt.alloc(), b"offered");
-    let offers = hold(&mut pending, sole(two, TimerKind::Offer), node, offered);
-    assert!(rt; held && offers);
+    are_held(&rt, &mut pending, rt.alloc(), one, &node);
+    let key = sole(two, TimerKind::Offer);
+    holds(&rt, &mut pending, rt.alloc(), key, &node, b"offered");
     are_found(&rt, &pending, one, &node);
     are_settled(&rt, &mut pending, one, two);
     pending.finish();
