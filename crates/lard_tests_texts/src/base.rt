@@ -1,5 +1,6 @@
 //! Each call once, with ample memory, beside what the rules give.
 
+use crate::compare::{same, same_bytes, shows};
 use lard_base::{
     Bytes, Calls, Config, ConfigFault, ConnId, EndpointParts, Failed, InputFault, Key, MemSink,
     MemSource, Members, NoMemory, NodeId, Nodes, Path, Sink, Source, StdSink, StdSource, SureSink,
@@ -70,69 +71,79 @@ fn numbers_have_ranges(rt: HostRuntime) {
 
 /// Whether this is the number of a connection, and of a node.
 fn is_in_range(rt: &impl Abort, n: u32, conn: bool, node: bool) {
-    assert_eq!(rt;
+    let numbers = (
         ConnId::new(n).map(|c| c.number()),
-        conn.then_some(n),
-        "connection {n}"
-    );
-    assert_eq!(rt;
         NodeId::new(n).map(|n| n.number()),
-        node.then_some(n),
-        "node {n}"
     );
+    same(rt, &numbers, &(conn.then_some(n), node.then_some(n)));
 }
 
 #[test]
-fn lists_are_joined(rt: HostRuntime) -> Result<(), Fail> {
-    let mut list = Calls::from_vec(Vec::from_slice(rt.alloc(), &[1, 2])?);
-    let mut more = calls(rt.alloc(), &[3, 4])?;
+fn lists_are_joined(rt: HostRuntime) {
+    shows(
+        &rt,
+        rt.alloc(),
+        &joined(rt.alloc()),
+        "Ok((Items { items: [1, 2, 3, 4] }, Items { items: [] }))",
+    );
+    shows(
+        &rt,
+        rt.alloc(),
+        &taken_over(rt.alloc()),
+        "Ok(Path { items: [47, 98] })",
+    );
+}
+
+/// Two lists, and what the second leaves of itself in the first.
+fn joined(alloc: Global) -> Result<(Calls, Calls), NoMemory> {
+    let mut list = Calls::from_vec(Vec::from_slice(alloc, &[1, 2])?);
+    let mut more = calls(alloc, &[3, 4])?;
     list.append(&mut more)?;
-    assert_eq!(rt; list.as_slice(), [1, 2, 3, 4].as_slice());
-    assert_eq!(rt; more.len(), 0);
-    let path = Path::from_vec(Vec::from_slice(rt.alloc(), b"/b")?);
-    assert_eq!(rt; path.as_slice(), b"/b".as_slice());
-    Ok(())
+    Ok((list, more))
+}
+
+fn taken_over(alloc: Global) -> Result<Path, NoMemory> {
+    Ok(Path::from_vec(Vec::from_slice(alloc, b"/b")?))
 }
 
 #[test]
 fn lists_keep_their_order(rt: HostRuntime) -> Result<(), Fail> {
     bytes_keep_their_order(&rt, rt.alloc())?;
     calls_keep_their_order(&rt, rt.alloc())?;
-    let path = Path::from_slice(rt.alloc(), b"/a")?;
-    path_keeps_its_order(&rt, rt.alloc(), &path)?;
-    Ok(())
-}
-
-fn bytes_keep_their_order(rt: &impl Abort, alloc: Global) -> Result<(), Fail> {
-    let bytes = Bytes::from_slice(alloc, b"abc")?;
-    assert_eq!(rt; bytes.copy(alloc)?.as_slice(), b"abc".as_slice());
-    assert_eq!(rt; bytes.len(), 3);
-    Ok(())
-}
-
-fn path_keeps_its_order(rt: &impl Abort, alloc: Global, path: &Path) -> Result<(), Fail> {
-    assert_eq!(rt; path.copy(alloc)?.as_slice(), b"/a".as_slice());
-    assert_eq!(rt;
-        Bytes::from_vec(path.copy(alloc)?.as_slice().to_vec(alloc)?).len(),
-        2
+    shows(
+        &rt,
+        rt.alloc(),
+        &copied_path(rt.alloc()),
+        "Ok((Path { items: [47, 97] }, 2))",
     );
     Ok(())
 }
 
+fn bytes_keep_their_order(rt: &impl Abort, alloc: Global) -> Result<(), Fail> {
+    let bytes = Bytes::from_slice(alloc, b"abc")?.copy(alloc)?;
+    same_bytes(rt, bytes.as_slice(), b"abc");
+    same(rt, &bytes.len(), &3);
+    Ok(())
+}
+
+/// A copy of a path, and how many bytes it has.
+fn copied_path(alloc: Global) -> Result<(Path, usize), NoMemory> {
+    let path = Path::from_slice(alloc, b"/a")?.copy(alloc)?;
+    let bytes = Bytes::from_vec(path.as_slice().to_vec(alloc)?);
+    Ok((path, bytes.len()))
+}
+
 fn calls_keep_their_order(rt: &impl Abort, alloc: Global) -> Result<(), Fail> {
     let list = calls(alloc, &[7, 9])?;
-    assert_eq!(rt; list.len(), 2);
-    assert_eq!(rt; list.as_slice(), [7, 9].as_slice());
-    let items = list.into_vec();
-    assert_eq!(rt; items.as_slice(), [7, 9].as_slice());
+    shows(rt, alloc, &(list.len(), list.as_slice()), "(2, [7, 9])");
+    shows(rt, alloc, &list.into_vec(), "[7, 9]");
     Ok(())
 }
 
 #[test]
 fn configurations_are_checked_in_order(rt: HostRuntime) {
     let standard = Config::standard();
-    assert_eq!(rt; standard.check(), Ok(()));
-    assert_eq!(rt; standard.room(), 89);
+    same(&rt, &(standard.check(), standard.room()), &(Ok(()), 89));
     for (key, value, usable) in [
         (Key::Nodes, 1, Ok(())),
         (Key::Nodes, 64, Ok(())),
@@ -174,20 +185,17 @@ fn configurations_are_checked_in_order(rt: HostRuntime) {
 /// A value that is set, and whether the configuration can be used with it.
 fn is_set(rt: &impl Abort, key: Key, value: u64, usable: Result<(), ConfigFault>) {
     let mut config = Config::standard();
-    assert_eq!(rt; config.set(key, value), Ok(()));
-    assert_eq!(rt; config.get(key), value);
-    assert_eq!(rt; config.check(), usable);
+    let was_set = config.set(key, value);
+    let told = (was_set, config.get(key), config.check());
+    same(rt, &told, &(Ok(()), value, usable));
 }
 
 /// A value that is not set, so that all is as before.
 fn is_out_of_range(rt: &impl Abort, key: Key, value: u64) {
-    let standard = Config::standard();
     let mut config = Config::standard();
-    assert_eq!(rt;
-        config.set(key, value),
-        Err(ConfigFault::Range { key, value })
-    );
-    assert_eq!(rt; config, standard);
+    let was_set = config.set(key, value);
+    let fault = Err(ConfigFault::Range { key, value });
+    same(rt, &(was_set, config), &(fault, Config::standard()));
 }
 
 #[test]
@@ -195,16 +203,14 @@ fn the_first_fault_is_answered(rt: HostRuntime) {
     let mut config = Config::standard();
     config.nodes = 1;
     config.low = 1;
-    assert_eq!(rt; config.check(), Err(ConfigFault::NoRoom));
+    same(&rt, &config.check(), &Err(ConfigFault::NoRoom));
     config.high = 0;
     config.stream = 0;
-    assert_eq!(rt;
-        config.check(),
-        Err(ConfigFault::Range {
-            key: Key::High,
-            value: 0
-        })
-    );
+    let range = ConfigFault::Range {
+        key: Key::High,
+        value: 0,
+    };
+    same(&rt, &config.check(), &Err(range));
 }
 
 #[test]
@@ -250,11 +256,8 @@ fn are_valid(
         served,
         unread,
     };
-    assert_eq!(rt;
-        parts.is_valid(),
-        valid,
-        "got {got}, una {una}, mss {mss}, served {served}"
-    );
+    let told = (got, una, mss, served, parts.is_valid());
+    same(rt, &told, &(got, una, mss, served, valid));
 }
 
 #[test]
@@ -262,19 +265,23 @@ fn members_come_and_go(rt: HostRuntime) -> Result<(), Fail> {
     let first = NodeId::new(1).ok_or("1 is a node")?;
     let last = NodeId::new(64).ok_or("64 is a node")?;
     let both = Members::none().with(last).with(first).with(last);
-    assert_eq!(rt; both.count(), 2);
-    assert!(rt; both.has(first) && both.has(last));
+    has_members(&rt, both, (first, true), (last, true));
     let one = both.without(last).without(last);
-    assert_eq!(rt; one.count(), 1);
-    assert!(rt; one.has(first) && !one.has(last));
-    assert_eq!(rt; one, Members::none().with(first));
+    has_members(&rt, one, (first, true), (last, false));
+    same(&rt, &one, &Members::none().with(first));
     Ok(())
+}
+
+/// Which of two nodes are members, and that no others are.
+fn has_members(rt: &impl Abort, all: Members, first: (NodeId, bool), last: (NodeId, bool)) {
+    let told = (all.count(), all.has(first.0), all.has(last.0));
+    let count = u32::from(first.1) + u32::from(last.1);
+    same(rt, &told, &(count, first.1, last.1));
 }
 
 #[test]
 fn a_source_over_memory_gives_its_bytes(rt: HostRuntime) -> Result<(), Fail> {
-    let bytes = Bytes::from_slice(rt.alloc(), b"abcde")?;
-    let mut source = MemSource::new(bytes, calls(rt.alloc(), &[2])?);
+    let mut source = failing_at_the_second(rt.alloc())?;
     let mut buf = [b'-'; 3];
     for (answer, after) in [
         (Ok(3), b"abc"),
@@ -284,9 +291,21 @@ fn a_source_over_memory_gives_its_bytes(rt: HostRuntime) -> Result<(), Fail> {
     ] {
         gives(&rt, &mut source, &mut buf, answer, after);
     }
-    let mut sure = SureSource::new(Bytes::from_slice(rt.alloc(), b"x")?);
-    assert_eq!(rt; sure.read(&mut buf), Ok(1));
-    assert_eq!(rt; sure.read(&mut buf), Ok(0));
+    sure_source_gives(&rt, rt.alloc())
+}
+
+/// A source of five bytes, whose second call fails.
+fn failing_at_the_second(alloc: Global) -> Result<MemSource, NoMemory> {
+    let bytes = Bytes::from_slice(alloc, b"abcde")?;
+    Ok(MemSource::new(bytes, calls(alloc, &[2])?))
+}
+
+/// A source that never fails gives its byte, and then none.
+fn sure_source_gives(rt: &impl Abort, alloc: Global) -> Result<(), Fail> {
+    let mut buf = [b'-'; 3];
+    let mut sure = SureSource::new(Bytes::from_slice(alloc, b"x")?);
+    same(rt, &sure.read(&mut buf), &Ok(1));
+    same(rt, &sure.read(&mut buf), &Ok(0));
     Ok(())
 }
 
@@ -298,8 +317,8 @@ fn gives(
     answer: Result<usize, Failed>,
     after: &[u8; 3],
 ) {
-    assert_eq!(rt; source.read(buf), answer);
-    assert_eq!(rt; buf.as_slice(), after.as_slice());
+    same(rt, &source.read(buf), &answer);
+    same_bytes(rt, buf, after);
 }
 
 #[test]
@@ -315,7 +334,7 @@ fn a_sink_over_memory_fills_up(rt: HostRuntime) -> Result<(), Fail> {
     ] {
         fills(&rt, &mut sink, piece, answer, written);
     }
-    assert_eq!(rt; SureSink::new().write(b"abc"), Ok(3));
+    same(&rt, &SureSink::new().write(b"abc"), &Ok(3));
     Ok(())
 }
 
@@ -327,8 +346,8 @@ fn fills(
     answer: Result<usize, Failed>,
     written: &[u8],
 ) {
-    assert_eq!(rt; sink.write(piece), answer);
-    assert_eq!(rt; sink.bytes(), written);
+    same(rt, &sink.write(piece), &answer);
+    same_bytes(rt, sink.bytes(), written);
 }
 
 #[test]
@@ -347,9 +366,9 @@ fn whole_texts_are_written_and_read(rt: HostRuntime) -> Result<(), Fail> {
 
 /// Two texts for a sink with room for four bytes.
 fn are_written(rt: &impl Abort, mut sink: MemSink) {
-    assert_eq!(rt; write_all(&mut sink, b"abc"), Ok(()));
-    assert_eq!(rt; write_all(&mut sink, b"def"), Err(Failed));
-    assert_eq!(rt; sink.bytes(), b"abcd".as_slice());
+    same(rt, &write_all(&mut sink, b"abc"), &Ok(()));
+    same(rt, &write_all(&mut sink, b"def"), &Err(Failed));
+    same_bytes(rt, sink.bytes(), b"abcd");
 }
 
 /// What is read of three bytes up to a limit, where one call fails.
@@ -361,25 +380,26 @@ fn are_read(
     answer: Result<(), InputFault>,
     want: &[u8],
 ) -> Result<(), Fail> {
-    let bytes = Bytes::from_slice(alloc, b"abc")?;
-    let mut source = MemSource::new(bytes, calls(alloc, &[failing])?);
+    let mut source = three_bytes(alloc, failing)?;
     let mut text = [b'>'].to_vec(alloc)?;
-    assert_eq!(rt;
-        read_up_to(&mut source, &mut text, limit as usize),
-        answer,
-        "limit {limit}"
-    );
-    assert_eq!(rt; text.as_slice(), want);
+    let given = read_up_to(&mut source, &mut text, limit as usize);
+    same(rt, &(limit, given), &(limit, answer));
+    same_bytes(rt, text.as_slice(), want);
     Ok(())
+}
+
+/// A source of three bytes, of which one call fails.
+fn three_bytes(alloc: Global, failing: u64) -> Result<MemSource, NoMemory> {
+    let bytes = Bytes::from_slice(alloc, b"abc")?;
+    Ok(MemSource::new(bytes, calls(alloc, &[failing])?))
 }
 
 #[test]
 fn readers_and_writers_fail_as_they_do(rt: HostRuntime) -> Result<(), Fail> {
     reader_fails(&rt);
     writer_fails(&rt, StdSink::new(rt.alloc(), Takes { room: 3 })?);
-    let large = [b'e'; 65_536];
     let mut full = StdSink::new(rt.alloc(), Takes { room: 0 })?;
-    assert_eq!(rt; full.write(&large), Err(Failed));
+    same(&rt, &full.write(&[b'e'; 65_536]), &Err(Failed));
     Ok(())
 }
 
@@ -388,15 +408,15 @@ fn reader_fails(rt: &impl Abort) {
     let mut source = StdSource::new(SecondFails { calls: 0 });
     let mut buf = [b'-'; 2];
     for answer in [Ok(2), Err(Failed), Ok(2)] {
-        assert_eq!(rt; source.read(&mut buf), answer);
+        same(rt, &source.read(&mut buf), &answer);
     }
-    assert_eq!(rt; buf.as_slice(), b"rr".as_slice());
+    same_bytes(rt, &buf, b"rr");
 }
 
 /// A writer that takes three bytes.
 fn writer_fails(rt: &impl Abort, mut sink: StdSink<Takes>) {
-    assert_eq!(rt; sink.write(b"ab"), Ok(2));
-    assert_eq!(rt; sink.flush(), Ok(()));
-    assert_eq!(rt; sink.write(b"cd"), Ok(2));
-    assert_eq!(rt; sink.flush(), Err(Failed));
+    for (piece, flushed) in [(b"ab", Ok(())), (b"cd", Err(Failed))] {
+        let written = sink.write(piece);
+        same(rt, &(written, sink.flush()), &(Ok(2), flushed));
+    }
 }

@@ -6,6 +6,8 @@
 #[cfg(test)]
 mod base;
 #[cfg(test)]
+mod compare;
+#[cfg(test)]
 mod lines;
 #[cfg(test)]
 mod net;

@@ -1,5 +1,6 @@
 //! Each public call once, with ample memory.
 
+use crate::compare::same_bytes;
 use bytes::Bytes;
 use lard_shared::{Pages, Shared};
 use std::alloc::{AllocError, Global};
@@ -9,38 +10,29 @@ use std::test::Fail;
 #[test]
 fn parts_and_shares_have_the_bytes(rt: HostRuntime) -> Result<(), Fail> {
     let hello = Shared::from_slice(rt.alloc(), b"hello")?;
-    assert_eq!(rt; hello.len(), 5);
-    assert_eq!(rt; hello.share()?.as_slice(), b"hello".as_slice());
-    for (at, len, want) in [
-        (0usize, 5usize, b"hello".as_slice()),
-        (1, 3, b"ell".as_slice()),
-        (4, 1, b"o".as_slice()),
-        (5, 0, b"".as_slice()),
-    ] {
-        has_part(&rt, &hello, at, len, want)?;
+    for (at, len, want) in [(0, 5, "hello"), (1, 3, "ell"), (4, 1, "o"), (5, 0, "")] {
+        has_part(&rt, &hello, at, len, want);
     }
-    assert_eq!(rt;
-        Shared::from_bytes(Bytes::from_static(b"kept")).as_slice(),
-        b"kept".as_slice()
-    );
+    is_shared(&rt, &hello);
+    is_kept(&rt, &Shared::from_bytes(Bytes::from_static(b"kept")));
     Ok(())
 }
 
 /// A part, and its bytes.
-fn has_part(
-    rt: &impl Abort,
-    whole: &Shared,
-    at: usize,
-    len: usize,
-    want: &[u8],
-) -> Result<(), Fail> {
-    if at <= whole.len() && len <= whole.len() - at {
-        let part = whole.part(at, len)?;
-        assert_eq!(rt; part.as_slice(), want, "at {at}");
-    } else {
-        assert!(rt; false, "is within");
-    }
-    Ok(())
+fn has_part(rt: &impl Abort, whole: &Shared, at: usize, len: usize, want: &str) {
+    assert!(rt; at <= whole.len() && len <= whole.len() - at, "is within");
+    let part = whole.part(at, len).ok().expect(rt, "memory");
+    same_bytes(rt, part.as_slice(), want.as_bytes());
+}
+
+fn is_shared(rt: &impl Abort, hello: &Shared) {
+    let share = hello.share().ok().expect(rt, "memory");
+    same_bytes(rt, share.as_slice(), b"hello");
+    assert!(rt; hello.len() == 5);
+}
+
+fn is_kept(rt: &impl Abort, kept: &Shared) {
+    same_bytes(rt, kept.as_slice(), b"kept");
 }
 
 /// What is kept first fills its page but for two bytes, and what comes last is longer than a page.
@@ -48,39 +40,27 @@ fn has_part(
 fn pages_keep_each_run_of_bytes_whole(rt: HostRuntime) -> Result<(), Fail> {
     let long = filled(rt.alloc(), b'x', (1 << 20) - 2)?;
     let longer = filled(rt.alloc(), b'y', (1 << 20) + 1)?;
-    keep_whole(&rt, Pages::new(rt.alloc()), &long, &longer)
-}
-
-/// Keeps four runs of bytes, and looks at each behind the last.
-fn keep_whole(
-    rt: &impl Abort,
-    mut pages: Pages,
-    long: &Vec<u8>,
-    longer: &Vec<u8>,
-) -> Result<(), Fail> {
-    let first = pages.keep(long)?;
-    let second = pages.keep(b"three")?;
-    let third = pages.keep(longer)?;
-    let fourth = pages.keep(b"")?;
-    long_are_kept(rt, &first, &third, long, longer);
-    short_are_kept(rt, &second, &fourth);
+    let runs = [long.as_slice(), b"three", longer.as_slice(), b""];
+    are_kept(&rt, &all_kept(rt.alloc(), &runs)?, &runs);
     Ok(())
 }
 
-fn long_are_kept(
-    rt: &impl Abort,
-    first: &Shared,
-    third: &Shared,
-    long: &Vec<u8>,
-    longer: &Vec<u8>,
-) {
-    assert!(rt; first.as_slice() == long.as_slice());
-    assert!(rt; third.as_slice() == longer.as_slice());
+/// Looks at each run of bytes behind the last.
+fn are_kept(rt: &impl Abort, all: &Vec<Shared>, runs: &[&[u8]]) {
+    assert!(rt; all.len() == runs.len());
+    for (kept, run) in all.iter().zip(runs) {
+        assert!(rt; kept.as_slice() == *run);
+    }
 }
 
-fn short_are_kept(rt: &impl Abort, second: &Shared, fourth: &Shared) {
-    assert_eq!(rt; second.as_slice(), b"three".as_slice());
-    assert_eq!(rt; fourth.as_slice(), b"".as_slice());
+/// Keeps runs of bytes, one after another.
+fn all_kept(alloc: Global, runs: &[&[u8]]) -> Result<Vec<Shared>, Fail> {
+    let mut pages = Pages::new(alloc);
+    let mut all = Vec::new(alloc);
+    for run in runs {
+        all.push(pages.keep(run)?)?;
+    }
+    Ok(all)
 }
 
 fn filled(alloc: Global, byte: u8, len: usize) -> Result<Vec<u8>, AllocError> {

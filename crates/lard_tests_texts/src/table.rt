@@ -1,5 +1,6 @@
 //! Each call once, with values that have to be spent.
 
+use crate::compare::same;
 use lard_table::Table;
 
 /// A value that has to be spent.
@@ -58,9 +59,9 @@ fn values_are_kept_by_their_numbers(rt: HostRuntime) {
     let second = spent(table.pop());
     let none = spent(table.pop());
     finish(table);
-    assert_eq!(rt; before, (None, None, Some(70)));
-    assert_eq!(rt; found, (Some(71), Some(20), None));
-    assert_eq!(rt; (first, second, none), (Some(20), Some(71), None));
+    same(&rt, &before, &(None, None, Some(70)));
+    same(&rt, &found, &(Some(71), Some(20), None));
+    same(&rt, &(first, second, none), &(Some(20), Some(71), None));
 }
 
 /// The least number above this one, and its value.
@@ -91,12 +92,10 @@ fn numbers_come_in_their_order(rt: HostRuntime) {
         above(&table, 4_294_967_295),
     );
     finish(table);
-    assert_eq!(rt; before, (None, None, None, None));
-    assert_eq!(rt; (all, left), (4, 3));
-    assert_eq!(rt; removed, (Some(50), None));
+    same(&rt, &before, &(None, None, None, None));
+    same(&rt, &(all, left), &(4, 3));
+    same(&rt, &removed, &(Some(50), None));
     let last = Some((4_294_967_295, 1));
-    assert_eq!(rt;
-        next,
-        (Some((2, 20)), Some((7, 70)), Some((7, 70)), last, None)
-    );
+    let want = (Some((2, 20)), Some((7, 70)), Some((7, 70)), last, None);
+    same(&rt, &next, &want);
 }
