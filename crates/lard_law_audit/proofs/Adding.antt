@@ -4,7 +4,6 @@ use Rattle.std.proofs.lemmas.List.{length-map}
 use Rattle.std.specs.List.{fold}
 use Rattle.std.specs.Prelude.{is_some, sum_by}
 use Rattle.lard_audit.specs.State.{audit_add_check}
-use Rattle.lard_audit.specs.Sound.{size_in}
 use Rattle.lard_audit_run.specs.Reports.{MayBeAdded}
 use Rattle.lard_law_audit.proofs.Files.{size-there}
 use Rattle.lard_law_audit.specs.Laws.{file_lengths}
