@@ -7,7 +7,7 @@ use Rattle.lard_base.specs.declared.config.Key.TheVariants.{Nodes, Low, High, Ag
 use Rattle.lard_base.specs.declared.place.Place.{Place}
 use Rattle.lard_base.specs.declared.place.Place.TheVariants.{Front, Node, Client}
 use Rattle.lard_base.specs.declared.event.Event.{Event}
-use Rattle.lard_base.specs.declared.event.Event.TheVariants.{Open, Get, Write, Shut, Abort, Hold, Take, Deliver, Lose, Timer, Disk, Clock, Settle, Inject}
+use Rattle.lard_base.specs.declared.event.Event.TheVariants.{Open, Get, Write, Shut, Abort, Hold, Take, Deliver, Lose, Timer, Disk, Drain, Clock, Settle, Inject}
 
 -- a text that goes on with one more word
 abbrev pub spaced : List ℕ → List ℕ → List ℕ
@@ -52,6 +52,7 @@ event_words (Deliver k) = codes "deliver" ∷ decimal k ∷ []
 event_words (Lose k) = codes "lose" ∷ decimal k ∷ []
 event_words (Timer place c) = codes "timer" ∷ place_word place ∷ decimal c ∷ []
 event_words (Disk n j) = codes "disk" ∷ decimal n ∷ decimal j ∷ []
+event_words (Drain n) = codes "drain" ∷ decimal n ∷ []
 event_words (Clock ms) = codes "clock" ∷ decimal ms ∷ []
 event_words (Settle rounds) = codes "settle" ∷ decimal rounds ∷ []
 event_words (Inject c bytes) = codes "inject" ∷ decimal c ∷ encode_lower bytes ∷ []

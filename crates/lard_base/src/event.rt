@@ -48,6 +48,8 @@ pub enum Event {
         n: u32,
         j: u32,
     },
+    /// The operator closes node `n`: no new connection and no new share of a batch goes there.
+    Drain(u32),
     /// The clock moves on by this many milliseconds.
     Clock(u32),
     /// At most so many settling rounds, at least one.

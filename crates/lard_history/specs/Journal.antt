@@ -79,6 +79,7 @@ acting_in J (event.Timer place c) = Some place
 acting_in J (event.Inject c bytes) = Some (Client c)
 acting_in J (event.Lose k) = None
 acting_in J (event.Disk n j) = Some (Node n)
+acting_in J (event.Drain n) = Some Front
 acting_in J (event.Clock ms) = None
 acting_in J (event.Settle rounds) = None
 
@@ -247,6 +248,16 @@ armed_step p c kind was _ = was
 -- the timer of this kind of connection c at a place runs: it was armed, and not cleared since
 abbrev pub is_running : List Rec → Place → ℕ → TimerKind → Bool
 is_running J p c kind = fold (armed_step p c kind) false J
+
+-- ---- nodes that are closed
+
+abbrev pub is_closed_step : ℕ → Bool → Rec → Bool
+is_closed_step n was (rec.Closed m) = if nat_eq m n then true else was
+is_closed_step n was _ = was
+
+-- node n is closed: no first choice and no new share goes there
+abbrev pub is_closed : List Rec → ℕ → Bool
+is_closed J n = fold (is_closed_step n) false J
 
 -- ---- clients that close their side
 

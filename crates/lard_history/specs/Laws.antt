@@ -185,7 +185,7 @@ is_own (rec.Injected c) = true
 is_own (rec.Clock time) = true
 is_own _ = false
 
--- the own records of an event's step; a client that writes no longer writes none
+-- the own records of an event's step; a client that writes no longer writes none, and a node that is closed is not closed again
 abbrev pub AreOwn : Event → List Rec → Type 0
 AreOwn (event.Open c isn iss wnd mss) own = own ≡ rec.Opened c isn iss wnd mss ∷ []
 AreOwn (event.Get c path) own = (own ≡ rec.Wrote c (request path) ∷ []) ⊎ (own ≡ [])
@@ -195,6 +195,7 @@ AreOwn (event.Deliver k) own = own ≡ rec.Got k ∷ []
 AreOwn (event.Lose k) own = own ≡ rec.Lost k ∷ []
 AreOwn (event.Inject c bytes) own = own ≡ rec.Injected c ∷ []
 AreOwn (event.Clock ms) own = (time : Millis) × (own ≡ rec.Clock time ∷ [])
+AreOwn (event.Drain n) own = (own ≡ rec.Closed n ∷ []) ⊎ (own ≡ [])
 AreOwn _ own = own ≡ []
 
 -- the records of the i-th event's step: the event, its own records, and others

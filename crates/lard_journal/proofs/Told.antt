@@ -77,8 +77,9 @@ event_of ws =
     cond (bytes_eq (word_at ws 0) (codes "lose")) (event.Lose (number_of (word_at ws 1))) (
     cond (bytes_eq (word_at ws 0) (codes "timer")) (event.Timer (place_of (word_at ws 1)) (number_of (word_at ws 2))) (
     cond (bytes_eq (word_at ws 0) (codes "disk")) (event.Disk (number_of (word_at ws 1)) (number_of (word_at ws 2))) (
+    cond (bytes_eq (word_at ws 0) (codes "drain")) (event.Drain (number_of (word_at ws 1))) (
     cond (bytes_eq (word_at ws 0) (codes "clock")) (event.Clock (number_of (word_at ws 1))) (
-    cond (bytes_eq (word_at ws 0) (codes "settle")) (event.Settle (number_of (word_at ws 1))) (event.Inject (number_of (word_at ws 1)) (bytes_of (word_at ws 2)))))))))))))))
+    cond (bytes_eq (word_at ws 0) (codes "settle")) (event.Settle (number_of (word_at ws 1))) (event.Inject (number_of (word_at ws 1)) (bytes_of (word_at ws 2))))))))))))))))
 
 -- the words of a record
 abbrev rec_of : List (List ℕ) → Rec
@@ -104,13 +105,14 @@ rec_of ws =
     cond (bytes_eq (word_at ws 0) (codes "hit")) (rec.Hit (node_of (word_at ws 1)) (word_at ws 2)) (
     cond (bytes_eq (word_at ws 0) (codes "queued")) (rec.Queued (node_of (word_at ws 1)) (node_of (word_at ws 2)) (number_of (word_at ws 3)) (number_of (word_at ws 4)) (word_at ws 5)) (
     cond (bytes_eq (word_at ws 0) (codes "read")) (rec.Read (node_of (word_at ws 1)) (node_of (word_at ws 2)) (number_of (word_at ws 3)) (number_of (word_at ws 4)) (word_at ws 5)) (
+    cond (bytes_eq (word_at ws 0) (codes "closed")) (rec.Closed (node_of (word_at ws 1))) (
     cond (bytes_eq (word_at ws 0) (codes "armed")) (rec.Armed (place_of (word_at ws 1)) (number_of (word_at ws 2)) (kind_of (word_at ws 3))) (
     cond (bytes_eq (word_at ws 0) (codes "cleared")) (rec.Cleared (place_of (word_at ws 1)) (number_of (word_at ws 2)) (kind_of (word_at ws 3))) (
     cond (bytes_eq (word_at ws 0) (codes "reset")) (rec.Reset (place_of (word_at ws 1)) (number_of (word_at ws 2)) (number_of (word_at ws 3))) (
     cond (bytes_eq (word_at ws 0) (codes "aborted")) (rec.Aborted (number_of (word_at ws 1))) (
     cond (bytes_eq (word_at ws 0) (codes "injected")) (rec.Injected (number_of (word_at ws 1))) (
     cond (bytes_eq (word_at ws 0) (codes "clock")) (rec.Clock (record { 0 = number_of (word_at ws 1) })) (
-    cond (bytes_eq (word_at ws 0) (codes "settled")) (rec.Settled (number_of (word_at ws 1))) (rec.Unsettled (number_of (word_at ws 1)) (number_of (word_at ws 2))))))))))))))))))))))))))))))
+    cond (bytes_eq (word_at ws 0) (codes "settled")) (rec.Settled (number_of (word_at ws 1))) (rec.Unsettled (number_of (word_at ws 1)) (number_of (word_at ws 2)))))))))))))))))))))))))))))))
 
 -- what each kind of word is read back as
 
@@ -170,6 +172,7 @@ event_back (event.Deliver k) h = cc (number_back k h)
 event_back (event.Lose k) h = cc (number_back k h)
 event_back (event.Timer place c) h = cc (place_back place h.0, number_back c h.1)
 event_back (event.Disk n j) h = cc (number_back n h.0, number_back j h.1)
+event_back (event.Drain n) h = cc (number_back n h)
 event_back (event.Clock ms) h = cc (number_back ms h)
 event_back (event.Settle rounds) h = cc (number_back rounds h)
 event_back (event.Inject c bytes) h = cc (number_back c h.0, bytes_back bytes h.1)
@@ -227,6 +230,7 @@ plain-event (event.Deliver k) h = rw (plain-decimal k) refl
 plain-event (event.Lose k) h = rw (plain-decimal k) refl
 plain-event (event.Timer place c) h = rw (plain-place place, plain-decimal c) refl
 plain-event (event.Disk n j) h = rw (plain-decimal n, plain-decimal j) refl
+plain-event (event.Drain n) h = rw (plain-decimal n) refl
 plain-event (event.Clock ms) h = rw (plain-decimal ms) refl
 plain-event (event.Settle rounds) h = rw (plain-decimal rounds) refl
 plain-event (event.Inject c bytes) h = rw (plain-decimal c, plain-encode_lower bytes h.1) refl
@@ -254,6 +258,7 @@ plain-rec (rec.Served place c r code length via) h = rw (plain-place place, plai
 plain-rec (rec.Hit n path) h = rw (plain-node n, plain-path path h.1) refl
 plain-rec (rec.Queued n m c r path) h = rw (plain-node n, plain-node m, plain-decimal c, plain-decimal r, plain-path path h.4) refl
 plain-rec (rec.Read n m c r path) h = rw (plain-node n, plain-node m, plain-decimal c, plain-decimal r, plain-path path h.4) refl
+plain-rec (rec.Closed n) h = rw (plain-node n) refl
 plain-rec (rec.Armed place c kind) h = rw (plain-place place, plain-decimal c, plain-kind kind) refl
 plain-rec (rec.Cleared place c kind) h = rw (plain-place place, plain-decimal c, plain-kind kind) refl
 plain-rec (rec.Reset place c count) h = rw (plain-place place, plain-decimal c, plain-decimal count) refl
@@ -286,6 +291,7 @@ rec_back (rec.Served place c r code length via) h = rw (place_back place h.0, nu
 rec_back (rec.Hit n path) h = rw (number_back n h.0) refl
 rec_back (rec.Queued n m c r path) h = rw (number_back n h.0, number_back m h.1, number_back c h.2, number_back r h.3) refl
 rec_back (rec.Read n m c r path) h = rw (number_back n h.0, number_back m h.1, number_back c h.2, number_back r h.3) refl
+rec_back (rec.Closed n) h = rw (number_back n h) refl
 rec_back (rec.Armed place c kind) h = rw (place_back place h.0, number_back c h.1, kind_back kind) refl
 rec_back (rec.Cleared place c kind) h = rw (place_back place h.0, number_back c h.1, kind_back kind) refl
 rec_back (rec.Reset place c count) h = rw (place_back place h.0, number_back c h.1, number_back count h.2) refl

@@ -39,6 +39,7 @@ rec_kind (rec.Served place c r code length via) = refl
 rec_kind (rec.Hit n path) = refl
 rec_kind (rec.Queued n m c r path) = refl
 rec_kind (rec.Read n m c r path) = refl
+rec_kind (rec.Closed n) = refl
 rec_kind (rec.Armed place c kind) = refl
 rec_kind (rec.Cleared place c kind) = refl
 rec_kind (rec.Reset place c count) = refl

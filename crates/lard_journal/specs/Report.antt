@@ -36,7 +36,7 @@ kind_word Ask = codes "ask"
 kind_word Fetch = codes "fetch"
 kind_word Ended = codes "ended"
 
--- the words of a record's line: in an assignment nodes are plain numbers, in hit, queued and read they are places
+-- the words of a record's line: in an assignment nodes are plain numbers, in hit, queued, read and closed they are places
 abbrev pub rec_words : Rec → List (List ℕ)
 rec_words (rec.Event i event) = codes "event" ∷ decimal i ∷ event_words event
 rec_words (rec.Inner event) = codes "inner" ∷ event_words event
@@ -59,6 +59,7 @@ rec_words (rec.Served place c r code length via) = codes "served" ∷ place_word
 rec_words (rec.Hit n path) = codes "hit" ∷ node_word n ∷ path ∷ []
 rec_words (rec.Queued n m c r path) = codes "queued" ∷ node_word n ∷ node_word m ∷ decimal c ∷ decimal r ∷ path ∷ []
 rec_words (rec.Read n m c r path) = codes "read" ∷ node_word n ∷ node_word m ∷ decimal c ∷ decimal r ∷ path ∷ []
+rec_words (rec.Closed n) = codes "closed" ∷ node_word n ∷ []
 rec_words (rec.Armed place c kind) = codes "armed" ∷ place_word place ∷ decimal c ∷ kind_word kind ∷ []
 rec_words (rec.Cleared place c kind) = codes "cleared" ∷ place_word place ∷ decimal c ∷ kind_word kind ∷ []
 rec_words (rec.Reset place c count) = codes "reset" ∷ place_word place ∷ decimal c ∷ decimal count ∷ []

@@ -35,6 +35,7 @@ pub fn event(out: &mut Vec<u8>, event: &Event) -> Result<(), NoMemory>
         Event::Lose(k) => of_number(out, b"lose", *k),
         Event::Timer { place, c } => timer(out, *place, *c),
         Event::Disk { n, j } => disk(out, *n, *j),
+        Event::Drain(n) => of_number(out, b"drain", *n),
         Event::Clock(ms) => of_number(out, b"clock", *ms),
         Event::Settle(rounds) => of_number(out, b"settle", *rounds),
         Event::Inject { c, bytes } => of_bytes(out, b"inject", *c, bytes.as_slice()),

@@ -109,6 +109,7 @@ fn words(out: &mut Vec<u8>, rec: &Rec) -> Result<(), NoMemory>
         Rec::Hit { n, path } => hit(out, *n, path),
         Rec::Queued { n, m, c, r, path } => of_job(out, b"queued", *n, *m, *c, *r, path),
         Rec::Read { n, m, c, r, path } => of_job(out, b"read", *n, *m, *c, *r, path),
+        Rec::Closed(n) => closed(out, *n),
         Rec::Armed { place, c, kind } => of_timer(out, b"armed", *place, *c, *kind),
         Rec::Cleared { place, c, kind } => of_timer(out, b"cleared", *place, *c, *kind),
         Rec::Reset { place, c, count } => reset(out, *place, *c, *count),
@@ -235,6 +236,16 @@ fn hit(out: &mut Vec<u8>, n: NodeId, target: &Path) -> Result<(), NoMemory>
     bytes(out, b"hit")?;
     node(out, n)?;
     path(out, target)
+}
+
+/// A node that was closed.
+fn closed(out: &mut Vec<u8>, n: NodeId) -> Result<(), NoMemory>
+    ensures ok { OnOk result (out.new.items ≡ with_words out.old.items
+        (codes "closed" ∷ node_word n ∷ [])) }
+    ensures err { OnErr result (BeginsWith out.old.items out.new.items) }
+{
+    bytes(out, b"closed")?;
+    node(out, n)
 }
 
 /// A reset at the stream limit.

@@ -121,6 +121,8 @@ pub enum Rec {
         r: u32,
         path: Path,
     },
+    /// Node `n` was closed: it was open, and no new connection and no new share goes there any more.
+    Closed(NodeId),
     /// A timer of the connection was armed at the place.
     Armed {
         place: Place,

@@ -1,6 +1,6 @@
 -- The front end's step: it looks up what it keeps of the connection, does the rule of what came, puts it back, and tells the
 -- dispatcher; where a connection ended, the first of the line is admitted behind it.
-use Rattle.std.specs.Prelude.{ℕ, nat_lt, if◌then◌else◌, List, [], ◌++◌, Option, Some, None, Result, Ok, Err}
+use Rattle.std.specs.Prelude.{ℕ, nat_lt, if◌then◌else◌, List, [], ◌∷◌, ◌++◌, Option, Some, None, Result, Ok, Err}
 use Rattle.std.specs.FinMap as table
 use Rattle.std.specs.List.{flat_map}
 use Rattle.lard_answers.specs.Answers.{FilesAt}
@@ -9,12 +9,14 @@ use Rattle.lard_base.specs.declared.ids.Millis.{Millis}
 use Rattle.lard_base.specs.declared.place.Place.TheVariants as place
 use Rattle.lard_dispatch.specs.Books as books
 use Rattle.lard_dispatch.specs.Books.{Dispatcher}
-use Rattle.lard_dispatch.specs.Calls.{ended_answer, first_answer, later_answer}
+use Rattle.lard_dispatch.specs.Calls.{after_close, ended_answer, first_answer, later_answer}
 use Rattle.lard_dispatch.specs.Laws.{after_calls}
 use Rattle.lard_rules.specs.declared.front.FrontState.{FrontState}
 use Rattle.lard_rules.specs.declared.front.FrontTurn.{FrontTurn}
 use Rattle.lard_rules.specs.Front.{FrontDeed, Drops, Says, Does, Did, FrontEnv, FrontPart, ask_of, front_admitted, front_armed, front_asked, front_ended, front_gets, front_taken, front_timer}
 use Rattle.lard_journal.specs.declared.rec.Rec.{Rec}
+use Rattle.lard_journal.specs.declared.rec.Rec.TheVariants as rec
+use Rattle.lard_loads.specs.Tally.{is_open}
 use Rattle.lard_message.specs.declared.fault.MsgFault.{MsgFault}
 use Rattle.lard_message.specs.declared.message.Body.{Body}
 use Rattle.lard_message.specs.declared.message.Body.TheVariants as body
@@ -118,9 +120,20 @@ abbrev pub message_comes : FrontSetting → FrontState → ℕ → Result Messag
 message_comes k s from (Err fault) = (s, nothing_done)
 message_comes k s from (Ok m) = front_told k s from m.c m.epoch.0 m.body
 
+-- ---- nodes that close
+
+-- the note that a node is closed, where it was open
+abbrev pub closed_note : Dispatcher → ℕ → List Rec
+closed_note d n = if is_open d.books.loads n then rec.Closed n ∷ [] else []
+
+-- no new connection and no new share goes to node n from now on; what is there stays
+abbrev pub front_drains : FrontState → ℕ → FrontState × Out
+front_drains s n = (record s { dispatch = after_close s.dispatch n }, record nothing_done { notes = closed_note s.dispatch n })
+
 -- ---- one step
 
 abbrev pub front_step : FrontSetting → FrontState → FrontIn → FrontState × Out
 front_step k s (input.Segment c iss bytes) = front_deed s c (front_gets (front_env k s c iss.0) (front_part s c) bytes (decoded bytes c ToCluster))
 front_step k s (input.Message from bytes) = message_comes k s from (decoded_message bytes)
+front_step k s (input.Drain n) = front_drains s n
 front_step k s (input.Timer c) = front_deed s c (front_timer (front_env k s c 0) (front_part s c))

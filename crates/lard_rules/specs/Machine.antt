@@ -9,7 +9,7 @@ use Rattle.lard_base.specs.declared.place.Place.{Place}
 use Rattle.lard_base.specs.declared.place.Place.TheVariants as place
 use Rattle.lard_client.specs.Control.{ClientBlock, written_len, is_client_armed}
 use Rattle.lard_rules.specs.declared.fault.StepFault.{StepFault}
-use Rattle.lard_rules.specs.declared.fault.Refusal.TheVariants.{NoClient, Used, NoNode, NotSent, WasLost, NoJob}
+use Rattle.lard_rules.specs.declared.fault.Refusal.TheVariants.{NoClient, Used, NoNode, LastNode, NotSent, WasLost, NoJob}
 use Rattle.lard_rules.specs.declared.fault.StepFault.TheVariants.{Limit, NoMemory, Refused}
 use Rattle.lard_rules.specs.declared.machine.Machine.{Machine}
 use Rattle.lard_rules.specs.Bounds.{HasRule}
@@ -23,6 +23,7 @@ use Rattle.lard_rules.specs.declared.fault.What.{What}
 use Rattle.lard_rules.specs.declared.fault.What.TheVariants.{Stream}
 use Rattle.lard_rules.specs.Limits.{limit_of}
 use Rattle.lard_rules.specs.Sent.{packets_of, sent_records}
+use Rattle.lard_loads.specs.Tally.{has_other_open}
 use Rattle.lard_net.specs.Net.{Packet, bytes_in, lose_at, packet_at}
 use Rattle.lard_rules.specs.declared.node.BackIn.{BackIn}
 use Rattle.lard_rules.specs.declared.node.BackIn.TheVariants as back
@@ -185,6 +186,15 @@ lost m k None = Err (Refused (NotSent k (length m.net)))
 lost m k (Some p) =
     if p.lost then Err (Refused (WasLost k)) else Ok (passed (record m { net = lose_at (k - 1) m.net }) (event.Lose k) (rec.Lost k ∷ []))
 
+-- ---- nodes that close
+
+-- a node is closed where another one is open
+unfoldable pub drained : Machine → ℕ → Result Machine StepFault
+drained m n =
+    if is_no_node m.config.nodes n then Err (Refused (NoNode n m.config.nodes))
+    else if has_other_open m.front.dispatch.books.loads n then Ok (front_acts m (event.Drain n) [] (input.Drain n))
+    else Err (Refused (LastNode n))
+
 -- ---- disks, and the clock
 
 abbrev pub is_no_job : NodeState → ℕ → Bool
@@ -221,6 +231,7 @@ happens m (event.Deliver k) = delivered m k (packet_at m.net k)
 happens m (event.Lose k) = lost m k (packet_at m.net k)
 happens m (event.Timer p c) = timer m p c (table.get m.clients c)
 happens m (event.Disk n j) = completes m n j
+happens m (event.Drain n) = drained m n
 happens m (event.Clock ms) = Ok (clocked m ms)
 happens m (event.Settle rounds) = Ok m
 

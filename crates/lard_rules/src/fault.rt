@@ -30,6 +30,8 @@ pub enum Refusal {
     Used(u32),
     /// There is no node `n`; `nodes` are there.
     NoNode { n: u32, nodes: u8 },
+    /// Node `n` is to be closed, and each other node is.
+    LastNode(u8),
     /// Packet `k` was not sent; `sent` were.
     NotSent { k: u32, sent: u32 },
     /// The packet with this number was lost.

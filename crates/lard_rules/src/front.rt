@@ -46,6 +46,8 @@ pub enum FrontIn {
     Message { from: NodeId, bytes: Bytes },
     /// The timers of a connection fire.
     Timer(ConnId),
+    /// A node is closed to new assignments.
+    Drain(NodeId),
 }
 
 /// What the front end does for a connection in its turn, in the order in which it is told.
