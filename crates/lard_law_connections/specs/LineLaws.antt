@@ -2,7 +2,7 @@
 use Rattle.std.specs.Prelude.{◌≡◌, ℕ, ◌+◌, ◌*◌, ◌<◌, ◌≤◌, ◌||◌, nat_lt, nat_le, max, count_by, Bool, if◌then◌else◌, List, [], ◌∷◌, length, map, Option, Some, None, Ok, nat_eq, false}
 use Rattle.std.specs.FinMap as table
 use Rattle.std.specs.List.{list_any}
-use Rattle.lard_law_view.specs.Prelude.{AtEachEnd, Config, EachMay, EachStep, Front, FrontRow, IsReached, Machine, Rec, config_check, home_told, is_home_of_node, is_waiting, last_epoch, owner, room_of, steps}
+use Rattle.lard_law_view.specs.Prelude.{AtEachEnd, Config, EachMay, EachStep, Front, FrontRow, IsReached, Machine, Rec, config_check, home_told, is_closed, is_home_of_node, is_waiting, last_epoch, owner, room_of, steps}
 use Rattle.lard_law_connections.specs.Line.{waiting_line}
 use Rattle.lard_law_connections.specs.PolicyLaws.{AtEveryMoment, last_record}
 use Rattle.lard_counts.specs.Ledger.{Ledger, ledger_admitted, is_in_ledger, ledger}
@@ -105,9 +105,13 @@ LoadsStayWithinTheRoom = AtEveryMoment IsWithinTheRoom
 abbrev pub greatest_threshold : Config → ℕ
 greatest_threshold config = max (2 * config.high) (max config.over config.idle)
 
--- nor above it by more than a whole
+-- no node is closed
+abbrev pub NoneIsClosed : List Rec → Type 0
+NoneIsClosed past = (n : ℕ) → is_closed past n ≡ false
+
+-- nor, while no node is closed, above it by more than a whole
 abbrev pub IsNearTheThresholds : Config → Ledger → List Rec → Type 0
-IsNearTheThresholds config l past = (n : ℕ) → load_told past n ≤ 840 * (greatest_threshold config + 1)
+IsNearTheThresholds config l past = NoneIsClosed past → (n : ℕ) → load_told past n ≤ 840 * (greatest_threshold config + 1)
 
 abbrev pub LoadsStayNearTheThresholds : Type 0
 LoadsStayNearTheThresholds = AtEveryMoment IsNearTheThresholds
@@ -116,9 +120,9 @@ LoadsStayNearTheThresholds = AtEveryMoment IsNearTheThresholds
 abbrev pub connections_told : List Rec → ℕ → ℕ
 connections_told J n = count_by (λ c. is_home_of_node (home_told J c) n) tally.connections
 
--- no node has more of them than twice `high`
+-- while no node is closed, no node has more of them than twice `high`
 abbrev pub HasFewConnections : Config → Ledger → List Rec → Type 0
-HasFewConnections config l past = (n : ℕ) → connections_told past n ≤ 2 * config.high
+HasFewConnections config l past = NoneIsClosed past → (n : ℕ) → connections_told past n ≤ 2 * config.high
 
 abbrev pub ConnectionsStayFew : Type 0
 ConnectionsStayFew = AtEveryMoment HasFewConnections

@@ -16,10 +16,11 @@ abbrev pub taken_out : ℕ → Option ℕ → Bool → Bool
 taken_out k None was = was
 taken_out k (Some n) was = if nat_eq k n then false else was
 
--- an assignment of the path takes the node that is added in, and then the node that is removed out
+-- an assignment of the path takes the node that is added in, and then the node that is removed out; a node that is closed is out of all
 abbrev pub serves_step : List ℕ → ℕ → Bool → Rec → Bool
 serves_step path k was (rec.AssignedFirst c r other n add remove) = if bytes_eq path other then taken_out k remove (taken_in k add was) else was
 serves_step path k was (rec.AssignedLater c r other n add size queue) = if bytes_eq path other then taken_in k add was else was
+serves_step path k was (rec.Closed n) = if nat_eq k n then false else was
 serves_step path k was _ = was
 
 -- node k serves the path

@@ -112,6 +112,7 @@ mover_move place x = record { place = place; heads = []; said = record { notes =
 
 -- what a place may note that names no connection
 abbrev pub NamesNobody : Place → Rec → Type 0
+NamesNobody Front (rec.Closed n) = Unit {0}
 NamesNobody (Node n) (rec.Hit k path) = k ≡ n
 NamesNobody _ _ = ⊥
 
