@@ -251,13 +251,13 @@ is_running J p c kind = fold (armed_step p c kind) false J
 
 -- ---- nodes that are closed
 
-abbrev pub is_closed_step : ℕ → Bool → Rec → Bool
-is_closed_step n was (rec.Closed m) = if nat_eq m n then true else was
-is_closed_step n was _ = was
+abbrev pub node_closed_step : ℕ → Bool → Rec → Bool
+node_closed_step n was (rec.Closed m) = if nat_eq m n then true else was
+node_closed_step n was _ = was
 
 -- node n is closed: no first choice and no new share goes there
-abbrev pub is_closed : List Rec → ℕ → Bool
-is_closed J n = fold (is_closed_step n) false J
+abbrev pub is_node_closed : List Rec → ℕ → Bool
+is_node_closed J n = fold (node_closed_step n) false J
 
 -- ---- clients that close their side
 

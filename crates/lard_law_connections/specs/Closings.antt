@@ -1,7 +1,7 @@
 -- When nodes are closed, and that some node stays open.
 use Rattle.std.specs.Prelude.{◌≡◌, ℕ, ◌≤◌, false, List, [], ◌∷◌, if◌then◌else◌}
 use Rattle.std.specs.List.{flat_map}
-use Rattle.lard_law_view.specs.Prelude.{Config, EachStep, Event, Rec, is_closed, steps}
+use Rattle.lard_law_view.specs.Prelude.{Config, EachStep, Event, Rec, is_node_closed, steps}
 use Rattle.lard_base.specs.declared.event.Event.TheVariants as event
 use Rattle.lard_counts.specs.Ledger.{Ledger}
 use Rattle.lard_journal.specs.declared.rec.Rec.TheVariants as rec
@@ -18,7 +18,7 @@ closed_in step = flat_map closes step
 
 -- the node that an event is to close: that of a `drain`, where it is open
 abbrev pub to_close : List Rec → Event → List ℕ
-to_close past (event.Drain n) = if is_closed past n then [] else n ∷ []
+to_close past (event.Drain n) = if is_node_closed past n then [] else n ∷ []
 to_close past _ = []
 
 abbrev pub due_to_close : List Rec → List Rec → List ℕ
@@ -35,7 +35,7 @@ ClosesByDrain = AlwaysConfigured (λ config m. EachStep MustClose [] (steps m.jo
 
 -- Some node of the cluster is open.
 abbrev pub SomeStays : Config → Ledger → List Rec → Type 0
-SomeStays config l past = (n : ℕ) × (1 ≤ n) × (n ≤ config.nodes) × (is_closed past n ≡ false)
+SomeStays config l past = (n : ℕ) × (1 ≤ n) × (n ≤ config.nodes) × (is_node_closed past n ≡ false)
 
 abbrev pub SomeNodeStays : Type 0
 SomeNodeStays = AtEveryMoment SomeStays

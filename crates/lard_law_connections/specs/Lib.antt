@@ -30,3 +30,4 @@ pub mod BytesTurning
 pub mod BytesKeeping
 pub mod BytesRuns
 pub mod Offers
+pub mod Closings

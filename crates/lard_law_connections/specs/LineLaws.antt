@@ -2,7 +2,7 @@
 use Rattle.std.specs.Prelude.{◌≡◌, ℕ, ◌+◌, ◌*◌, ◌<◌, ◌≤◌, ◌||◌, nat_lt, nat_le, max, count_by, Bool, if◌then◌else◌, List, [], ◌∷◌, length, map, Option, Some, None, Ok, nat_eq, false}
 use Rattle.std.specs.FinMap as table
 use Rattle.std.specs.List.{list_any}
-use Rattle.lard_law_view.specs.Prelude.{AtEachEnd, Config, EachMay, EachStep, Front, FrontRow, IsReached, Machine, Rec, config_check, home_told, is_closed, is_home_of_node, is_waiting, last_epoch, owner, room_of, steps}
+use Rattle.lard_law_view.specs.Prelude.{AtEachEnd, Config, EachMay, EachStep, Front, FrontRow, IsReached, Machine, Rec, config_check, home_told, is_node_closed, is_home_of_node, is_waiting, last_epoch, owner, room_of, steps}
 use Rattle.lard_law_connections.specs.Line.{waiting_line}
 use Rattle.lard_law_connections.specs.PolicyLaws.{AtEveryMoment, last_record}
 use Rattle.lard_counts.specs.Ledger.{Ledger, ledger_admitted, is_in_ledger, ledger}
@@ -107,7 +107,7 @@ greatest_threshold config = max (2 * config.high) (max config.over config.idle)
 
 -- no node is closed
 abbrev pub NoneIsClosed : List Rec → Type 0
-NoneIsClosed past = (n : ℕ) → is_closed past n ≡ false
+NoneIsClosed past = (n : ℕ) → is_node_closed past n ≡ false
 
 -- nor, while no node is closed, above it by more than a whole
 abbrev pub IsNearTheThresholds : Config → Ledger → List Rec → Type 0

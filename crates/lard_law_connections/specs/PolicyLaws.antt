@@ -1,7 +1,7 @@
 -- Which records of admission and of assignments may stand where.
 use Rattle.std.specs.Prelude.{◌≡◌, ◌⊎◌, ℕ, ◌≤◌, ◌<◌, true, false, not, nat_lt, is_some, List, [], ◌∷◌, ◌++◌, length, map, Option, Some, None, Ok}
 use Rattle.std.specs.List.{AllByRecursion, filter, fold}
-use Rattle.lard_law_view.specs.Prelude.{Config, EachMay, Event, FirstChoice, Front, Has, HasRule, IsReached, LaterChoice, Machine, Rec, Waiting, config_check, first_choice, has, home, is_closed, later_choice, machine_step, numbers, open_shares, room_of, time_of}
+use Rattle.lard_law_view.specs.Prelude.{Config, EachMay, Event, FirstChoice, Front, Has, HasRule, IsReached, LaterChoice, Machine, Rec, Waiting, config_check, first_choice, has, home, is_node_closed, later_choice, machine_step, numbers, open_shares, room_of, time_of}
 use Rattle.lard_counts.specs.Ledger.{Ledger, ledger_admitted, is_in_ledger, ledger, server_set}
 use Rattle.lard_journal.specs.declared.rec.Rec.TheVariants as rec
 use Rattle.lard_law_connections.specs.PolicyLine.{IsSublist, waiting}
@@ -151,7 +151,7 @@ StandingsAreTold = AtEveryMoment (λ cfg l past. (c : ℕ) → (is_in_ledger l c
 
 -- The loads of the ledger are what the charges add up to, and its open nodes are those that were not closed.
 abbrev pub AreLoadsCharged : Config → Ledger → List Rec → Type 0
-AreLoadsCharged cfg l past = ((n : ℕ) → tally.load l.loads n ≡ load_told past n) × (l.loads.nodes ≡ cfg.nodes) × (l.loads.open_nodes ≡ filter (λ n. not (is_closed past n)) (numbers cfg.nodes))
+AreLoadsCharged cfg l past = ((n : ℕ) → tally.load l.loads n ≡ load_told past n) × (l.loads.nodes ≡ cfg.nodes) × (l.loads.open_nodes ≡ filter (λ n. not (is_node_closed past n)) (numbers cfg.nodes))
 
 abbrev pub LoadsAreAlwaysCharges : Type 0
 LoadsAreAlwaysCharges = AtEveryMoment AreLoadsCharged
