@@ -8,7 +8,7 @@ use Rattle.hex.proofs.HexLemmas.{decode_of-encode_lower}
 use Rattle.lard_base.specs.Spelling.{event_words, place_word}
 use Rattle.lard_base.specs.declared.place.Place.{Place}
 use Rattle.lard_base.specs.declared.event.Event.{Event}
-use Rattle.lard_base.specs.declared.event.Event.TheVariants.{Open, Get, Write, Shut, Abort, Hold, Take, Deliver, Lose, Timer, Disk, Clock, Settle, Inject}
+use Rattle.lard_base.specs.declared.event.Event.TheVariants.{Open, Get, Write, Shut, Abort, Hold, Take, Deliver, Lose, Timer, Disk, Drain, Clock, Settle, Inject}
 use Rattle.lard_schedule.specs.declared.verbs.Verb.{Verb}
 use Rattle.lard_schedule.specs.declared.verbs.Verb.TheVariants as verb
 use Rattle.lard_schedule.specs.Words.{◌>>=◌, word_then, number_then, count_then, client_then}
@@ -153,6 +153,7 @@ after_spelled verb.Deliver words event e = of_number_spelled Deliver (codes "del
 after_spelled verb.Lose words event e = of_number_spelled Lose (codes "lose") words event (λ n range. (refl, range)) e
 after_spelled verb.Timer words event e = timer_spelled words event e
 after_spelled verb.Disk words event e = disk_spelled words event e
+after_spelled verb.Drain words event e = of_number_spelled Drain (codes "drain") words event (λ n range. (refl, range)) e
 after_spelled verb.Clock words event e = of_number_spelled Clock (codes "clock") words event (λ n range. (refl, range)) e
 after_spelled verb.Settle words event e = settle_spelled words event e
 after_spelled verb.Inject words event e = inject_spelled words event e
@@ -218,6 +219,7 @@ event_read words (Deliver k) e range = ap event_of e ∙ ap (λ o. o >>= λ n. S
 event_read words (Lose k) e range = ap event_of e ∙ ap (λ o. o >>= λ n. Some (Lose n)) (number_alone_read k range)
 event_read words (Timer place c) e range = ap event_of e ∙ timer_read place c range
 event_read words (Disk n j) e range = ap event_of e ∙ disk_read n j range
+event_read words (Drain n) e range = ap event_of e ∙ ap (λ o. o >>= λ k. Some (Drain k)) (number_alone_read n range)
 event_read words (Clock ms) e range = ap event_of e ∙ ap (λ o. o >>= λ n. Some (Clock n)) (number_alone_read ms range)
 event_read words (Settle rounds) e range = ap event_of e ∙ settle_read rounds range
 event_read words (Inject c bytes) e range = ap event_of e.1 ∙ inject_read c bytes e.0 e.2 range

@@ -15,7 +15,7 @@ use Rattle.lard_base.specs.declared.config.Key.TheVariants.{Nodes, Low, High, Ag
 use Rattle.lard_base.specs.declared.place.Place.{Place}
 use Rattle.lard_base.specs.declared.place.Place.TheVariants.{Front, Node, Client}
 use Rattle.lard_base.specs.declared.event.Event.{Event}
-use Rattle.lard_base.specs.declared.event.Event.TheVariants.{Open, Get, Write, Shut, Abort, Hold, Take, Deliver, Lose, Timer, Disk, Clock, Settle, Inject}
+use Rattle.lard_base.specs.declared.event.Event.TheVariants.{Open, Get, Write, Shut, Abort, Hold, Take, Deliver, Lose, Timer, Disk, Drain, Clock, Settle, Inject}
 use Rattle.lard_schedule.specs.declared.item.Item.{Item}
 use Rattle.lard_schedule.specs.declared.item.Item.TheVariants as item
 use Rattle.lard_schedule.specs.Words.{words_of, is_space}
@@ -120,6 +120,7 @@ event_words_apart words (Timer place c) e range =
     subst AreWords (sym e) (no_space_visible (codes "timer") refl, (no_space_place place range.0, (no_space_number c (omega (arith, range.1.1)), tt)))
 event_words_apart words (Disk n j) e range =
     subst AreWords (sym e) (no_space_visible (codes "disk") refl, (no_space_number n (omega (arith, range.0)), (no_space_number j (omega (arith, range.1)), tt)))
+event_words_apart words (Drain n) e range = subst AreWords (sym e) (verb_number (codes "drain") n refl (omega (arith, range)))
 event_words_apart words (Clock ms) e range = subst AreWords (sym e) (verb_number (codes "clock") ms refl (omega (arith, range)))
 event_words_apart words (Settle rounds) e range = subst AreWords (sym e) (verb_number (codes "settle") rounds refl (omega (arith, range.1)))
 event_words_apart words (Inject c bytes) e range = subst AreWords (sym e.1) (verb_bytes (codes "inject") c e.0 bytes refl range.0.1 e.2)

@@ -7,7 +7,7 @@ use Rattle.lard_base.specs.declared.ids.TheConstants.ConnId as conn_id
 use Rattle.lard_base.specs.declared.place.Place.{Place}
 use Rattle.lard_base.specs.declared.place.Place.TheVariants.{Front, Node, Client}
 use Rattle.lard_base.specs.declared.event.Event.{Event}
-use Rattle.lard_base.specs.declared.event.Event.TheVariants.{Open, Get, Write, Shut, Abort, Hold, Take, Deliver, Lose, Timer, Disk, Clock, Settle, Inject}
+use Rattle.lard_base.specs.declared.event.Event.TheVariants.{Open, Get, Write, Shut, Abort, Hold, Take, Deliver, Lose, Timer, Disk, Drain, Clock, Settle, Inject}
 use Rattle.lard_base.specs.declared.limits.TheConstants.{MAX_PATH_BYTES, MAX_SEGMENT_BYTES, MAX_SEGMENT_DATA}
 use Rattle.lard_schedule.specs.declared.verbs.Verb.{Verb}
 use Rattle.lard_schedule.specs.declared.verbs.Verb.TheVariants as verb
@@ -27,6 +27,7 @@ verb_word verb.Deliver = codes "deliver"
 verb_word verb.Lose = codes "lose"
 verb_word verb.Timer = codes "timer"
 verb_word verb.Disk = codes "disk"
+verb_word verb.Drain = codes "drain"
 verb_word verb.Clock = codes "clock"
 verb_word verb.Settle = codes "settle"
 verb_word verb.Inject = codes "inject"
@@ -34,7 +35,7 @@ verb_word verb.Inject = codes "inject"
 abbrev pub verbs : List Verb
 verbs =
     verb.Open ∷ verb.Get ∷ verb.Write ∷ verb.Shut ∷ verb.Abort ∷ verb.Hold ∷ verb.Take ∷ verb.Deliver ∷ verb.Lose ∷ verb.Timer
-    ∷ verb.Disk ∷ verb.Clock ∷ verb.Settle ∷ verb.Inject ∷ []
+    ∷ verb.Disk ∷ verb.Drain ∷ verb.Clock ∷ verb.Settle ∷ verb.Inject ∷ []
 
 -- the first of the verbs that has this word
 abbrev pub verb_among : List Verb → List ℕ → Option Verb
@@ -160,6 +161,7 @@ event_after verb.Deliver words = number_alone words >>= λ k. Some (Deliver k)
 event_after verb.Lose words = number_alone words >>= λ k. Some (Lose k)
 event_after verb.Timer words = timer_of words
 event_after verb.Disk words = disk_of words
+event_after verb.Drain words = number_alone words >>= λ n. Some (Drain n)
 event_after verb.Clock words = number_alone words >>= λ ms. Some (Clock ms)
 event_after verb.Settle words = settle_of words
 event_after verb.Inject words = inject_of words
@@ -195,6 +197,7 @@ IsInLineRange (Deliver k) = k < 2 ^ 32
 IsInLineRange (Lose k) = k < 2 ^ 32
 IsInLineRange (Timer place c) = IsPlace place × IsUpTo conn_id.MAX c × (may_keep place c ≡ true)
 IsInLineRange (Disk n j) = (n < 2 ^ 32) × (j < 2 ^ 32)
+IsInLineRange (Drain n) = n < 2 ^ 32
 IsInLineRange (Clock ms) = ms < 2 ^ 32
 IsInLineRange (Settle rounds) = (1 ≤ rounds) × (rounds < 2 ^ 32)
 IsInLineRange (Inject c bytes) = IsUpTo conn_id.MAX c × IsUpTo MAX_SEGMENT_BYTES (length bytes)

@@ -48,6 +48,7 @@ fn event_after(alloc: Global, verb: Verb, words: Words<'_>) -> Result<Event, Lin
         Verb::Lose => return Ok(Event::Lose(number_alone(words).ok_or(LineFault::Syntax)?)),
         Verb::Timer => return timer(words).ok_or(LineFault::Syntax),
         Verb::Disk => return disk(words).ok_or(LineFault::Syntax),
+        Verb::Drain => return Ok(Event::Drain(number_alone(words).ok_or(LineFault::Syntax)?)),
         Verb::Clock => return Ok(Event::Clock(number_alone(words).ok_or(LineFault::Syntax)?)),
         Verb::Settle => return settle(words).ok_or(LineFault::Syntax),
         Verb::Inject => return inject(alloc, words),

@@ -19,13 +19,14 @@ pub enum Verb {
     Lose,
     Timer,
     Disk,
+    Drain,
     Clock,
     Settle,
     Inject,
 }
 
 /// All verbs.
-const VERBS: [Verb; 14] = [
+const VERBS: [Verb; 15] = [
     Verb::Open,
     Verb::Get,
     Verb::Write,
@@ -37,6 +38,7 @@ const VERBS: [Verb; 14] = [
     Verb::Lose,
     Verb::Timer,
     Verb::Disk,
+    Verb::Drain,
     Verb::Clock,
     Verb::Settle,
     Verb::Inject,
@@ -59,6 +61,7 @@ impl Verb {
             Verb::Lose => "lose",
             Verb::Timer => "timer",
             Verb::Disk => "disk",
+            Verb::Drain => "drain",
             Verb::Clock => "clock",
             Verb::Settle => "settle",
             Verb::Inject => "inject",
