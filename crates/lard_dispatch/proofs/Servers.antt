@@ -91,3 +91,10 @@ before-joined now sets target (Some n) all = before-put now sets target _ all (o
 pub before-reduced : (now : Millis) (sets : Sets) (target : List ℕ) (o : Option ℕ) → AreBefore now.0 sets → AreBefore now.0 (reduced sets target o now)
 before-reduced now sets target None all = all
 before-reduced now sets target (Some n) all = cond_both (has_place sets target) _ sets (AreBefore now.0) (λ _. before-put now sets target _ all (omega arith)) (λ _. all)
+
+pub before-closed : (now : Millis) (sets : Sets) (n : ℕ) → AreBefore now.0 sets → AreBefore now.0 (sets_closed sets n)
+before-closed now sets n all = λ other. subst (λ (o : Option ServerSet). (unwrap_or o no_servers).modified.0 ≤ now.0) (sym (place-closed sets n other)) (go (place sets other) (all other)) where
+  go : (o : Option ServerSet) → (unwrap_or o no_servers).modified.0 ≤ now.0
+      → (unwrap_or (option_map (λ (s : ServerSet). record s { members = without_member s.members n }) o) no_servers).modified.0 ≤ now.0
+  go None own = own
+  go (Some s) own = own

@@ -26,7 +26,7 @@ use Rattle.lard_dispatch.specs.Calls.{admitted_with, after_close, after_ended, a
 use Rattle.lard_dispatch.specs.Line.{line_waits, line_without}
 use Rattle.lard_dispatch.specs.Sound.{AreApart, AreAtNodes, AreBefore, AreServedByNodes, IsNode, IsDispatcherSound}
 use Rattle.lard_dispatch.proofs.Chosen.{IsChosen, all-filter, all-numbers, choice-within}
-use Rattle.lard_dispatch.proofs.Servers.{before-joined, before-reduced, before-touched, served-closed, served-joined, served-reduced, served-touched}
+use Rattle.lard_dispatch.proofs.Servers.{before-closed, before-joined, before-reduced, before-touched, served-closed, served-joined, served-reduced, served-touched}
 use Rattle.lard_dispatch.proofs.Sharing.{add-home}
 use Rattle.lard_dispatch.proofs.Standing.{admitted-away, apart-left, apart-pushed, apart-put, at-nodes-put}
 
@@ -310,6 +310,9 @@ before-admitted cfg b c target now all =
 
 pub before-first : (d : Dispatcher) (c : ℕ) (target : List ℕ) (now : Millis) → AreBefore now.0 d.books.sets → AreBefore now.0 (after_first d c target now).books.sets
 before-first d c target now all = cond_both (is_full d) _ _ (λ (x : Dispatcher). AreBefore now.0 x.books.sets) (λ _. all) (λ _. before-admitted d.config d.books c target now all)
+
+pub before-close : (d : Dispatcher) (n : ℕ) (now : Millis) → AreBefore now.0 d.books.sets → AreBefore now.0 (after_close d n).books.sets
+before-close d n now all = cond_both (is_open d.books.loads n) _ d (λ (x : Dispatcher). AreBefore now.0 x.books.sets) (λ _. before-closed now d.books.sets n all) (λ _. all)
 
 pub before-ended : (d : Dispatcher) (c : ℕ) (now : Millis) → AreBefore now.0 d.books.sets → AreBefore now.0 (after_ended d c now).books.sets
 before-ended d c now all = go d.books.line where

@@ -1,9 +1,7 @@
 -- What bounds that which the front end sends.
-use Rattle.std.specs.Prelude.{◌≡◌, ℕ, ◌≤◌, ◌^◌, true, List, [], ◌∷◌, length}
+use Rattle.std.specs.Prelude.{ℕ, ◌≤◌, ◌^◌, List, [], ◌∷◌, length}
 use Rattle.lard_base.specs.declared.limits.TheConstants.{MAX_MESSAGE_BYTES, MAX_SEGMENT_BYTES, MAX_STREAM_BYTES}
 use Rattle.lard_base.specs.declared.place.Place.{Place}
-use Rattle.lard_loads.specs.Tally.{has_other_open}
-use Rattle.lard_rules.specs.declared.front.FrontState.{FrontState}
 use Rattle.lard_rules.specs.declared.front.FrontTurn.{FrontTurn}
 use Rattle.lard_rules.specs.declared.front.FrontIn.{FrontIn}
 use Rattle.lard_rules.specs.declared.front.FrontIn.TheVariants as input
@@ -36,8 +34,3 @@ IsShort (input.Segment c iss bytes) = length bytes ≤ MAX_SEGMENT_BYTES
 IsShort (input.Message from bytes) = Unit {0}
 IsShort (input.Timer c) = Unit {0}
 IsShort (input.Drain n) = Unit {0}
-
--- a node that is to be closed is one of them, and another one is open
-abbrev pub MayDrain : FrontState → FrontIn → Type 0
-MayDrain s (input.Drain n) = (n ≤ s.dispatch.config.nodes) × (has_other_open s.dispatch.books.loads n ≡ true)
-MayDrain s _ = Unit {0}

@@ -7,16 +7,18 @@ use Rattle.lard_base.specs.declared.config.Config.{Config}
 use Rattle.lard_base.specs.declared.ids.TheConstants.ConnId.{MAX}
 use Rattle.lard_base.specs.Config.{config_check}
 use Rattle.lard_dispatch.specs.Books as books
+use Rattle.lard_dispatch.specs.Books.{Dispatcher}
+use Rattle.lard_dispatch.specs.Calls.{after_close}
 use Rattle.lard_dispatch.proofs.AllCalls.{some-node}
-use Rattle.lard_dispatch.proofs.Soundness.{begun-sound}
+use Rattle.lard_dispatch.proofs.Soundness.{before-close, begun-sound, close-kept}
 use Rattle.lard_rules.specs.declared.front.FrontState.{FrontState}
 use Rattle.lard_rules.specs.Front.{FrontEnv, ask_of, front_asked, front_gets, front_taken, front_timer}
-use Rattle.lard_rules.specs.FrontPlace.{FrontSetting, front_env, front_part, front_step, front_told, message_comes, no_connections}
-use Rattle.lard_rules.specs.FrontSound.{HasTag, IsFrontSound, IsRowSound, dispatch_standing}
+use Rattle.lard_rules.specs.FrontPlace.{FrontSetting, front_drains, front_env, front_part, front_step, front_told, message_comes, no_connections}
+use Rattle.lard_rules.specs.FrontSound.{HasTag, IsFrontSound, IsPartSound, IsRowSound, MayDrain, dispatch_standing}
 use Rattle.lard_rules.proofs.FrontDeeds.{IsOf, asked-keeps, gets-keeps, taken-keeps, timer-keeps}
 use Rattle.lard_rules.proofs.FrontEnded.{ended-stays}
 use Rattle.lard_rules.proofs.FrontKeeping.{Stays, deed-stays, still-stays}
-use Rattle.lard_loads.specs.Tally.{home_of}
+use Rattle.lard_loads.specs.Tally.{home_of, is_open}
 use Rattle.lard_message.proofs.Tables.{table_passed}
 use Rattle.lard_message.specs.declared.fault.MsgFault.{MsgFault}
 use Rattle.lard_message.specs.declared.fault.MsgFault.TheVariants as fault
@@ -89,13 +91,29 @@ message-stays : (k : FrontSetting) (s : FrontState) (from : ℕ) (r : Result Mes
 message-stays k s from (Err e) told sound = still-stays s k.now sound
 message-stays k s from (Ok m) told sound = told-stays k s from m.c m.epoch.0 m.body told sound
 
-pub step-stays : (k : FrontSetting) (s : FrontState) (in_ : FrontIn) → IsFrontSound s → Stays k.now s (front_step k s in_).0
-step-stays k s (input.Segment c iss bytes) sound =
+-- a node that is closed moves nobody
+pub close-stands : (d : Dispatcher) (n c : ℕ) → dispatch_standing (after_close d n) c ≡ dispatch_standing d c
+close-stands d n c = cond_both (is_open d.books.loads n) _ d (λ (x : Dispatcher). dispatch_standing x c ≡ dispatch_standing d c) (λ _. refl) (λ _. refl)
+
+drains-stay : (k : FrontSetting) (s : FrontState) (n : ℕ) → MayDrain s (input.Drain n) → IsFrontSound s → Stays k.now s (front_drains s n).0
+drains-stay k s n may sound = record {
+  sound = record {
+    each = λ c. subst (IsPartSound (front_part s c)) (sym (close-stands s.dispatch n c)) (sound.each c);
+    tags = sound.tags;
+    some = sound.some;
+    books = close-kept s.dispatch n sound.books may.0 may.1;
+  };
+  clock = before-close s.dispatch n k.now;
+}
+
+pub step-stays : (k : FrontSetting) (s : FrontState) (in_ : FrontIn) → MayDrain s in_ → IsFrontSound s → Stays k.now s (front_step k s in_).0
+step-stays k s (input.Segment c iss bytes) may sound =
     let env : FrontEnv = front_env k s c iss.0 in
     deed-stays s c k.now (front_gets env (front_part s c) bytes (decoded bytes c ToCluster)) sound
     (gets-keeps s.dispatch env (env-of k s c iss.0) (front_part s c) (sound.tags c) bytes (decoded bytes c ToCluster) (sound.each c))
-step-stays k s (input.Message from bytes) sound = message-stays k s from (decoded_message bytes) (message-told bytes) sound
-step-stays k s (input.Timer c) sound =
+step-stays k s (input.Message from bytes) may sound = message-stays k s from (decoded_message bytes) (message-told bytes) sound
+step-stays k s (input.Drain n) may sound = drains-stay k s n may sound
+step-stays k s (input.Timer c) may sound =
     let env : FrontEnv = front_env k s c 0 in
     deed-stays s c k.now (front_timer env (front_part s c)) sound (timer-keeps s.dispatch env (env-of k s c 0) (front_part s c) (sound.tags c) (sound.each c))
 

@@ -5,9 +5,11 @@ use Rattle.lard_base.specs.declared.limits.TheConstants.{MAX_STREAM_BYTES}
 use Rattle.lard_dispatch.specs.declared.dispatch.Ask.{Ask}
 use Rattle.lard_dispatch.specs.Books.{Dispatcher}
 use Rattle.lard_dispatch.specs.Line.{line_waits}
-use Rattle.lard_dispatch.specs.Sound.{IsDispatcherSound}
+use Rattle.lard_dispatch.specs.Sound.{IsDispatcherSound, IsNode}
 use Rattle.lard_endpoint.specs.Control.{ControlBlock}
 use Rattle.lard_endpoint.specs.Moving.{may_freeze}
+use Rattle.lard_rules.specs.declared.front.FrontIn.{FrontIn}
+use Rattle.lard_rules.specs.declared.front.FrontIn.TheVariants as input
 use Rattle.lard_rules.specs.declared.front.FrontRest.{FrontRest}
 use Rattle.lard_rules.specs.declared.front.FrontState.{FrontState}
 use Rattle.lard_rules.specs.Front.{FrontPart}
@@ -15,7 +17,7 @@ use Rattle.lard_rules.specs.FrontPlace.{front_part}
 use Rattle.lard_handoff_front.specs.declared.row.FrontConn.{FrontConn}
 use Rattle.lard_handoff_front.specs.declared.row.FrontConn.TheVariants as stage
 use Rattle.lard_handoff_front.specs.declared.row.FrontRow.{FrontRow}
-use Rattle.lard_loads.specs.Tally.{home}
+use Rattle.lard_loads.specs.Tally.{has_other_open, home}
 use Rattle.lard_recv.specs.Recv.{Received}
 use Rattle.lard_resend.specs.declared.kept.Kept.{Kept}
 use Rattle.lard_send.specs.Send.{Sending, symbols}
@@ -106,6 +108,11 @@ pub record IsAsk (a : Ask) : Type 0 where
 abbrev pub HasTag : Option FrontRest → Type 0
 HasTag None = Unit {0}
 HasTag (Some rest) = 0 < rest.asks → (1 ≤ length rest.tag) × (length rest.tag ≤ 8)
+
+-- a node that is to be closed is one of them, and another one is open
+abbrev pub MayDrain : FrontState → FrontIn → Type 0
+MayDrain s (input.Drain n) = IsNode s.dispatch.config.nodes n × (has_other_open s.dispatch.books.loads n ≡ true)
+MayDrain s _ = Unit {0}
 
 -- This holds of each connection, an empty list is not kept, and the books add up.
 pub record IsFrontSound (s : FrontState) : Type 0 where
