@@ -16,7 +16,7 @@ use Rattle.lard_report.specs.declared.kinds.Kind.TheVariants as kind
 use Rattle.lard_report.specs.Kinds.{record_kind}
 use Rattle.lard_report.specs.Parts.{choice_alone, choice_then, client_and_bytes, job_of, node_then, packet_words, place_client_number, place_client_timer, place_then, request_path_then, response_of, two_numbers}
 use Rattle.lard_report.specs.Readable.{IsChoice, IsConn, IsEvent, IsReadable}
-use Rattle.lard_report.specs.Records.{report_assigned, report_clock, first_choice_record, report_hit, later_choice_record, loosely_of, report_numbered, report_opened, record_after, report_sent, report_served}
+use Rattle.lard_report.specs.Records.{report_assigned, report_clock, report_closed, first_choice_record, report_hit, later_choice_record, loosely_of, report_numbered, report_opened, record_after, report_sent, report_served}
 use Rattle.lard_report.proofs.Pieces.{choice_alone_fits, choice_then_fits, client_and_bytes_fit, job_fits, node_then_fits, packet_fits, place_client_number_fits, place_client_timer_fits, place_then_fits, request_path_then_fits, response_fits, two_numbers_fit}
 
 -- ---- events
@@ -33,6 +33,7 @@ bytes_fit_event words (event.Deliver k) e = tt
 bytes_fit_event words (event.Lose k) e = tt
 bytes_fit_event words (event.Timer place c) e = tt
 bytes_fit_event words (event.Disk n j) e = tt
+bytes_fit_event words (event.Drain n) e = tt
 bytes_fit_event words (event.Clock ms) e = tt
 bytes_fit_event words (event.Settle rounds) e = tt
 bytes_fit_event words (event.Inject c bytes) e = (decode_of-ok e.0 bytes e.2).3
@@ -133,6 +134,13 @@ hit_fits words r e =
     let end = ended_some path.0.1 (rec.Hit n.0.0 path.0.0) r path.2 in
     subst IsReadable end.1 (node_then_fits words n.0 n.1, request_path_then_fits n.0.1 path.0 path.1)
 
+closed_fits : (words : List (List ℕ)) (r : Rec) → report_closed words ≡ Some r → IsReadable r
+unfolding report_closed
+closed_fits words r e =
+    let n = bind_some (node_then words) _ r e in
+    let end = ended_some n.0.1 (rec.Closed n.0.0) r n.2 in
+    subst IsReadable end.1 (node_then_fits words n.0 n.1)
+
 clock_fits : (words : List (List ℕ)) (r : Rec) → report_clock words ≡ Some r → IsReadable r
 unfolding report_clock
 clock_fits words r e =
@@ -176,6 +184,7 @@ after_fits kind.Served words r e = served_fits words r e
 after_fits kind.Hit words r e = hit_fits words r e
 after_fits kind.Queued words r e = made (job_of words) (λ job. rec.Queued job.n job.m job.c job.r job.path) r e (job_fits words)
 after_fits kind.Read words r e = made (job_of words) (λ job. rec.Read job.n job.m job.c job.r job.path) r e (job_fits words)
+after_fits kind.Closed words r e = closed_fits words r e
 after_fits kind.Armed words r e = made (place_client_timer words) (λ found. rec.Armed found.0 found.1 found.2) r e (place_client_timer_fits words)
 after_fits kind.Cleared words r e = made (place_client_timer words) (λ found. rec.Cleared found.0 found.1 found.2) r e (place_client_timer_fits words)
 after_fits kind.Reset words r e =

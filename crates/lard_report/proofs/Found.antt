@@ -13,7 +13,7 @@ use Rattle.lard_schedule.specs.Words.{◌>>=◌}
 use Rattle.lard_schedule.proofs.Found.{number_then_read, count_then_read, client_alone_read, number_alone_read}
 use Rattle.lard_schedule.proofs.Readings.{event_again}
 use Rattle.lard_report.specs.Readable.{IsReadable}
-use Rattle.lard_report.specs.Records.{report_assigned, report_clock, report_hit, loosely_of, report_numbered, report_opened, report_sent, report_served}
+use Rattle.lard_report.specs.Records.{report_assigned, report_clock, report_closed, report_hit, loosely_of, report_numbered, report_opened, report_sent, report_served}
 use Rattle.lard_report.proofs.Pieces.{choice_alone_read, choice_then_read, client_and_bytes_read, job_read, node_then_read, packet_read, place_client_number_read, place_client_timer_read, place_then_read, request_path_then_read, response_read, two_numbers_read}
 
 numbered_read : (i : ℕ) (event : Event) → IsReadable (rec.Event i event) → report_numbered (decimal i ∷ event_words event) ≡ Some (rec.Event i event)
@@ -84,6 +84,10 @@ hit_read : (n : ℕ) (path : List ℕ) → IsReadable (rec.Hit n path) → repor
 unfolding report_hit
 hit_read n path h = rw (node_then_read n (path ∷ []) h.0, request_path_then_read path [] h.1) refl
 
+closed_read : (n : ℕ) → IsReadable (rec.Closed n) → report_closed (node_word n ∷ []) ≡ Some (rec.Closed n)
+unfolding report_closed
+closed_read n h = rw (node_then_read n [] h) refl
+
 clock_read : (time : ℕ) → time < 2 ^ 64 → report_clock (decimal time ∷ []) ≡ Some (rec.Clock (record { 0 = time }))
 unfolding report_clock
 clock_read time h = rw (number_then_read (2 ^ 64 - 1) time [] (omega arith) (omega (arith, h))) refl
@@ -117,6 +121,7 @@ loosely_read (rec.Queued n m c r path) h =
     ap (λ o. o >>= λ job. Some (rec.Queued job.n job.m job.c job.r job.path)) (job_read (record { n = n; m = m; c = c; r = r; path = path }) h)
 loosely_read (rec.Read n m c r path) h =
     ap (λ o. o >>= λ job. Some (rec.Read job.n job.m job.c job.r job.path)) (job_read (record { n = n; m = m; c = c; r = r; path = path }) h)
+loosely_read (rec.Closed n) h = closed_read n h
 loosely_read (rec.Armed place c kind) h =
     ap (λ o. o >>= λ found. Some (rec.Armed found.0 found.1 found.2)) (place_client_timer_read place c kind h.0 h.1)
 loosely_read (rec.Cleared place c kind) h =

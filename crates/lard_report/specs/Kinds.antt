@@ -2,7 +2,7 @@
 use Rattle.std.specs.Prelude.{ℕ, List, [], ◌∷◌, Option, codes, bytes_eq}
 use Rattle.std.specs.List.{find}
 use Rattle.lard_report.specs.declared.kinds.Kind.{Kind}
-use Rattle.lard_report.specs.declared.kinds.Kind.TheVariants.{Event, Inner, Opened, Wrote, Sent, Got, Lost, Accepted, Eof, Took, Gave, Waits, Admitted, Released, Assigned, BatchOver, Served, Hit, Queued, Read, Armed, Cleared, Reset, Aborted, Injected, Clock, Settled, Unsettled}
+use Rattle.lard_report.specs.declared.kinds.Kind.TheVariants.{Event, Inner, Opened, Wrote, Sent, Got, Lost, Accepted, Eof, Took, Gave, Waits, Admitted, Released, Assigned, BatchOver, Served, Hit, Queued, Read, Closed, Armed, Cleared, Reset, Aborted, Injected, Clock, Settled, Unsettled}
 
 abbrev pub kind_name : Kind → List ℕ
 kind_name Event = codes "event"
@@ -25,6 +25,7 @@ kind_name Served = codes "served"
 kind_name Hit = codes "hit"
 kind_name Queued = codes "queued"
 kind_name Read = codes "read"
+kind_name Closed = codes "closed"
 kind_name Armed = codes "armed"
 kind_name Cleared = codes "cleared"
 kind_name Reset = codes "reset"
@@ -37,7 +38,7 @@ kind_name Unsettled = codes "unsettled"
 abbrev pub record_kinds : List Kind
 record_kinds =
     Event ∷ Inner ∷ Opened ∷ Wrote ∷ Sent ∷ Got ∷ Lost ∷ Accepted ∷ Eof ∷ Took ∷ Gave ∷ Waits ∷ Admitted ∷ Released ∷ Assigned ∷ BatchOver ∷ Served
-    ∷ Hit ∷ Queued ∷ Read ∷ Armed ∷ Cleared ∷ Reset ∷ Aborted ∷ Injected ∷ Clock ∷ Settled ∷ Unsettled ∷ []
+    ∷ Hit ∷ Queued ∷ Read ∷ Closed ∷ Armed ∷ Cleared ∷ Reset ∷ Aborted ∷ Injected ∷ Clock ∷ Settled ∷ Unsettled ∷ []
 
 -- the first of the kinds that has this word
 abbrev pub kind_among : List Kind → List ℕ → Option Kind

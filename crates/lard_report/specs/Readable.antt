@@ -63,6 +63,7 @@ IsReadable (rec.Served place c r code length via) = IsPlace place × IsConn c ×
 IsReadable (rec.Hit n path) = IsReadableNode n × IsReadablePath path
 IsReadable (rec.Queued n m c r path) = IsReadableNode n × IsReadableNode m × IsConn c × (r < 2 ^ 32) × IsReadablePath path
 IsReadable (rec.Read n m c r path) = IsReadableNode n × IsReadableNode m × IsConn c × (r < 2 ^ 32) × IsReadablePath path
+IsReadable (rec.Closed n) = IsReadableNode n
 IsReadable (rec.Armed place c kind) = IsPlace place × IsConn c
 IsReadable (rec.Cleared place c kind) = IsPlace place × IsConn c
 IsReadable (rec.Reset place c count) = IsPlace place × IsConn c × (count < 2 ^ 32)

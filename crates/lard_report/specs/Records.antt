@@ -68,6 +68,12 @@ report_hit words = do
   path ← request_path_then n.1
   ended path.1 (rec.Hit n.0 path.0)
 
+-- a node that was closed, written as a place
+unfoldable pub report_closed : List (List ℕ) → Option Rec
+report_closed words = do
+  n ← node_then words
+  ended n.1 (rec.Closed n.0)
+
 unfoldable pub report_clock : List (List ℕ) → Option Rec
 report_clock words = do
   time ← number_then (2 ^ 64 - 1) words
@@ -130,6 +136,7 @@ record_after kind.Served words = report_served words
 record_after kind.Hit words = report_hit words
 record_after kind.Queued words = report_queued words
 record_after kind.Read words = report_read words
+record_after kind.Closed words = report_closed words
 record_after kind.Armed words = report_armed words
 record_after kind.Cleared words = report_cleared words
 record_after kind.Reset words = report_reset words

@@ -3,7 +3,7 @@
 ghost use Rattle.std.specs.Prelude.{◌≡◌};
 ghost use Rattle.lard_schedule.specs.Events.{event_of};
 ghost use Rattle.lard_schedule.specs.Words.{Judges, left_of};
-ghost use Rattle.lard_report.specs.Records.{report_accepted, report_armed, report_assigned, report_cleared, report_clock, report_gave, report_hit, report_inner, report_numbered, report_opened, report_queued, report_read, record_after, report_reset, report_sent, report_served, report_took, report_unsettled, report_wrote};
+ghost use Rattle.lard_report.specs.Records.{report_accepted, report_armed, report_assigned, report_cleared, report_clock, report_closed, report_gave, report_hit, report_inner, report_numbered, report_opened, report_queued, report_read, record_after, report_reset, report_sent, report_served, report_took, report_unsettled, report_wrote};
 
 use crate::kinds::Kind;
 use crate::parts::{
@@ -44,6 +44,7 @@ pub fn record_after(alloc: Global, kind: Kind, words: Words<'_>) -> Result<Rec, 
         Kind::Hit => return hit(alloc, words),
         Kind::Queued => return queued(alloc, words),
         Kind::Read => return read(alloc, words),
+        Kind::Closed => return closed(words).ok_or(LineFault::Syntax),
         Kind::Armed => return armed(words).ok_or(LineFault::Syntax),
         Kind::Cleared => return cleared(words).ok_or(LineFault::Syntax),
         Kind::Reset => return reset(words).ok_or(LineFault::Syntax),
@@ -236,6 +237,17 @@ fn read(alloc: Global, words: Words<'_>) -> Result<Rec, LineFault>
 {
     let DiskJob { n, m, c, r, path } = job(alloc, words)?;
     Ok(Rec::Read { n, m, c, r, path })
+}
+
+/// A node that was closed.
+#[tactic(auto, unfolding(crate::specs::Records::report_closed, crate::specs::Parts::node_then))]
+fn closed(words: Words<'_>) -> Option<Rec>
+    ensures { result ≡ report_closed (left_of words.entry) }
+{
+    let (word, words) = next(words)?;
+    let n = node_place_in(word)?;
+    end(words)?;
+    Some(Rec::Closed(n))
 }
 
 /// A timer that was armed.

@@ -29,6 +29,7 @@ pub enum Kind {
     Hit,
     Queued,
     Read,
+    Closed,
     Armed,
     Cleared,
     Reset,
@@ -40,7 +41,7 @@ pub enum Kind {
 }
 
 /// All kinds.
-const KINDS: [Kind; 28] = [
+const KINDS: [Kind; 29] = [
     Kind::Event,
     Kind::Inner,
     Kind::Opened,
@@ -61,6 +62,7 @@ const KINDS: [Kind; 28] = [
     Kind::Hit,
     Kind::Queued,
     Kind::Read,
+    Kind::Closed,
     Kind::Armed,
     Kind::Cleared,
     Kind::Reset,
@@ -97,6 +99,7 @@ impl Kind {
             Kind::Hit => "hit",
             Kind::Queued => "queued",
             Kind::Read => "read",
+            Kind::Closed => "closed",
             Kind::Armed => "armed",
             Kind::Cleared => "cleared",
             Kind::Reset => "reset",

@@ -152,6 +152,7 @@ fn has_width(rec: &Rec)
             conn(*c);
             word(*r);
         }
+        Rec::Closed(n) => node(*n),
         Rec::Armed {
             place: at,
             c,
@@ -223,6 +224,7 @@ fn of_event(event: &Event)
             word(*n);
             word(*j);
         }
+        Event::Drain(n) => word(*n),
         Event::Clock(ms) => word(*ms),
         Event::Settle(rounds) => word(*rounds),
         Event::Inject { c, bytes } => {
