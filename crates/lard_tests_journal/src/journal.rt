@@ -63,6 +63,7 @@ fn records_of_events(rt: HostRuntime) {
         Event::Disk { n: 1, j: 8 },
         "inner disk 1 8\n",
     );
+    inner(&rt, rt.alloc(), Event::Drain(2), "inner drain 2\n");
     inner(&rt, rt.alloc(), Event::Clock(20_001), "inner clock 20001\n");
     inner(&rt, rt.alloc(), Event::Settle(3000), "inner settle 3000\n");
 }
@@ -257,6 +258,7 @@ fn records_of_choices(rt: HostRuntime) {
     let (c, one, two) = (conn(&rt, 3), node(&rt, 1), node(&rt, 2));
     chosen_first(&rt, rt.alloc(), c, one, two);
     chosen_later(&rt, rt.alloc(), c, one, two);
+    reads(&rt, rt.alloc(), Rec::Closed(two), "closed n2\n");
 }
 
 fn chosen_first(rt: &impl Abort, alloc: Global, c: ConnId, one: NodeId, two: NodeId) {

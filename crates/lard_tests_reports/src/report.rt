@@ -30,6 +30,8 @@ inner open 16384 4294967295 0 65535 1460 = Inner(Open { c: ConnId { number: 1638
 inner write 1 0aff = Inner(Write { c: ConnId { number: 1 }, bytes: Bytes { items: [10, 255] } })
 inner timer n64 2 = Inner(Timer { place: Node(NodeId { number: 64 }), c: ConnId { number: 2 } })
 inner disk 2 1 = Inner(Disk { n: 2, j: 1 })
+event 2 drain 2 = Event { i: 2, event: Drain(2) }
+inner drain 0 = Inner(Drain(0))
 inner deliver 1 = Inner(Deliver(1))";
 
 #[test]
@@ -80,7 +82,8 @@ served n1 1 1 200 43 node64 = Served { place: Node(NodeId { number: 1 }), c: Con
     length: 43, via: Node(NodeId { number: 64 }) }
 hit n2 /b = Hit { n: NodeId { number: 2 }, path: Path { items: [47, 98] } }
 queued n2 n1 3 2 /b = Queued { n: NodeId { number: 2 }, m: NodeId { number: 1 }, c: ConnId { number: 3 }, r: 2, path: Path { items: [47, 98] } }
-read n2 n1 3 2 /b = Read { n: NodeId { number: 2 }, m: NodeId { number: 1 }, c: ConnId { number: 3 }, r: 2, path: Path { items: [47, 98] } }";
+read n2 n1 3 2 /b = Read { n: NodeId { number: 2 }, m: NodeId { number: 1 }, c: ConnId { number: 3 }, r: 2, path: Path { items: [47, 98] } }
+closed n2 = Closed(NodeId { number: 2 })";
 
 #[test]
 fn records_of_requests(rt: HostRuntime) -> Result<(), Fail> {
@@ -150,6 +153,8 @@ event 1 write 1 |
 event 1 settle 0|
 event 1 timer c1 2|
 event shut 1|
+event 1 drain n2|
+event 1 drain 4294967296|
 event 1 go|
 inner|
 inner 1 shut 1|
@@ -180,6 +185,10 @@ hit n65 /b|
 hit n2 b|
 hit n2 /\x7f|
 queued n2 n1 1 /b|
+closed 2|
+closed n0|
+closed front|
+closed n2 /b|
 armed front 1 tcp2|
 armed front 1|
 reset front 1 4294967296|
@@ -188,7 +197,7 @@ unsettled 4294967296 0|
 settled 1 0|
 file /a 5|
 report 1|
-closed 1";
+close n1";
 
 #[test]
 fn no_record_is_read(rt: HostRuntime) {

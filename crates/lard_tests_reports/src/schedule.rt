@@ -35,6 +35,8 @@ timer front 1 = Event(Timer { place: Front, c: ConnId { number: 1 } })
 timer n64 1 = Event(Timer { place: Node(NodeId { number: 64 }), c: ConnId { number: 1 } })
 timer c7 7 = Event(Timer { place: Client(ConnId { number: 7 }), c: ConnId { number: 7 } })
 disk 0 9 = Event(Disk { n: 0, j: 9 })
+drain 2 = Event(Drain(2))
+drain 0 = Event(Drain(0))
 clock 1000 = Event(Clock(1000))
 settle 4294967295 = Event(Settle(4294967295))
 inject 1 45 = Event(Inject { c: ConnId { number: 1 }, bytes: Bytes { items: [69] } })";
@@ -109,6 +111,9 @@ write 1 |
 timer n65 1|
 timer c1 2|
 timer x1 1|
+drain|
+drain n2|
+drain 1 1|
 settle 0|
 inject 1 ";
 
