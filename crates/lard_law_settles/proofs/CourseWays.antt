@@ -148,6 +148,7 @@ module _ (k first : ℕ) where
   own-passes (event.Take c) was = untaken (event.Take c) was (λ t. t)
   own-passes (event.Timer p c) was = untaken (event.Timer p c) was (λ t. t)
   own-passes (event.Disk n j) was = untaken (event.Disk n j) was (λ t. t)
+  own-passes (event.Drain n) was = untaken (event.Drain n) was (λ t. t)
   own-passes (event.Clock ms) was = untaken (event.Clock ms) was (λ t. t)
   own-passes (event.Settle rounds) was = untaken (event.Settle rounds) was (λ t. t)
   own-passes (event.Inject c bytes) was = untaken (event.Inject c bytes) was (λ t. t)

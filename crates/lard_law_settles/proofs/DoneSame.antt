@@ -2,7 +2,7 @@
 use Rattle.std.proofs.Common.{◌≡◌, ℕ, Bool, true, false, ◌||◌, List, [], refl, sym, ap, ◌∙◌}
 use Rattle.std.specs.List.{fold}
 use Rattle.std.specs.Prelude.{sum_by}
-use Rattle.lard_law_view.specs.Prelude.{FilesAt, Place, Rec, Recency, Tale, TimerKind, aborted_step, accepted, armed_step, assigned, bytes_step, ended_step, home_told, is_touched, last_epoch, lost_step, numbers_of, owner, sent_step, served, served_bytes, shut_step, tale, tale_step, time_step, units_at, untold, was_reset, wrote}
+use Rattle.lard_law_view.specs.Prelude.{FilesAt, Place, Rec, Recency, Tale, TimerKind, aborted_step, accepted, armed_step, assigned, bytes_step, ended_step, home_told, is_touched, last_epoch, lost_step, node_closed_step, numbers_of, owner, sent_step, served, served_bytes, shut_step, tale, tale_step, time_step, units_at, untold, was_reset, wrote}
 use Rattle.lard_law_connections.specs.Line.{Line, line_step, nobody}
 use Rattle.lard_counts.specs.Ledger.{blank_ledger, ledger_step}
 use Rattle.lard_law_connections.specs.PolicyLoads.{charge_step}
@@ -53,6 +53,9 @@ ledger-steps = record { events = λ a i j e. refl; inner = λ a i e. refl; settl
 charge-steps : TakesSteps charge_step
 charge-steps = record { events = λ a i j e. refl; inner = λ a i e. refl; settles = λ a i rounds. refl; settled = λ a rounds. refl; unsettled = λ a rounds left. refl }
 
+closed-steps : (n : ℕ) → TakesSteps (node_closed_step n)
+closed-steps n = record { events = λ a i j e. refl; inner = λ a i e. refl; settles = λ a i rounds. refl; settled = λ a rounds. refl; unsettled = λ a rounds left. refl }
+
 sent-steps : TakesSteps sent_step
 sent-steps = record { events = λ a i j e. refl; inner = λ a i e. refl; settles = λ a i rounds. refl; settled = λ a rounds. refl; unsettled = λ a rounds left. refl }
 
@@ -100,6 +103,7 @@ tells-the-same config files J = record {
   requests = by-tale J assigned (λ t. t.assigned) assigned-tale;
   counted = both J ledger_step ledger-steps (blank_ledger config);
   loads = λ n. ap (sum_by (units_at n)) (both J charge_step charge-steps []);
+  closings = λ n. both J (node_closed_step n) (closed-steps n) false;
   waits = ap (λ (l : Line). l.waits) (both J line_step line-steps nobody);
   disks = λ n. ap (λ (q : Queue). q.list) (both J (jobs_step n) (jobs-steps n) no_jobs);
   caches = λ limit n. ap (λ (r : Recency). r.entries) (both J (cache_step files n) (cache-steps files n) _);

@@ -153,6 +153,7 @@ module _ (c : ℕ) where
   own-flag a (event.Lose k) own are = one-own a (rec.Lost k) own refl are
   own-flag a (event.Timer p d) own are = no-own a own are
   own-flag a (event.Disk n j) own are = no-own a own are
+  own-flag a (event.Drain n) own are = ⊎_elim (λ e. one-own a (rec.Closed n) own refl e) (λ e. no-own a own e) are
   own-flag a (event.Clock ms) own are = one-own a (rec.Clock are.0) own refl are.1
   own-flag a (event.Settle rounds) own are = no-own a own are
   own-flag a (event.Inject d bytes) own are = one-own a (rec.Injected d) own refl are

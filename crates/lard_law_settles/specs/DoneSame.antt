@@ -1,6 +1,6 @@
 -- What a journal tells is told by it with its settles written out, too: fold by fold.
 use Rattle.std.specs.Prelude.{◌≡◌, ℕ, List}
-use Rattle.lard_law_view.specs.Prelude.{Config, FilesAt, Place, Rec, TimerKind, accepted, assigned, has_aborted, has_ended, home_told, is_lost, is_running, is_touched, last_epoch, numbers_of, owner, packet_bytes, sent_count, served, served_bytes, time_of, was_reset, was_shut, wrote}
+use Rattle.lard_law_view.specs.Prelude.{Config, FilesAt, Place, Rec, TimerKind, accepted, assigned, has_aborted, has_ended, home_told, is_lost, is_node_closed, is_running, is_touched, last_epoch, numbers_of, owner, packet_bytes, sent_count, served, served_bytes, time_of, was_reset, was_shut, wrote}
 use Rattle.lard_law_connections.specs.Line.{waiting_line}
 use Rattle.lard_counts.specs.Ledger.{ledger}
 use Rattle.lard_law_connections.specs.PolicyLoads.{load_told}
@@ -17,7 +17,7 @@ pub record TellsClientsTheSame (J K : List Rec) : Type 0 where
   pub ends : (c : ℕ) → has_ended K c ≡ has_ended J c
 
 -- And of each connection and place: who owns it and in which epoch, what was served, where it was assigned, whether the limit reset it;
--- who is admitted, the loads and the sets of nodes, and the line; jobs, caches, timers, packets and the time.
+-- who is admitted, the loads and the sets of nodes, which of them are closed, and the line; jobs, caches, timers, packets and the time.
 pub record TellsTheSame (config : Config) (files : FilesAt) (J K : List Rec) : Type 0 where
   pub clients : TellsClientsTheSame J K
   pub owners : (c : ℕ) → owner K c ≡ owner J c
@@ -29,6 +29,7 @@ pub record TellsTheSame (config : Config) (files : FilesAt) (J K : List Rec) : T
   pub requests : (c : ℕ) → assigned K c ≡ assigned J c
   pub counted : ledger config K ≡ ledger config J
   pub loads : (n : ℕ) → load_told K n ≡ load_told J n
+  pub closings : (n : ℕ) → is_node_closed K n ≡ is_node_closed J n
   pub waits : waiting_line K ≡ waiting_line J
   pub disks : (n : ℕ) → jobs K n ≡ jobs J n
   pub caches : (limit n : ℕ) → cached files limit K n ≡ cached files limit J n

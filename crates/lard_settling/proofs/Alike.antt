@@ -3,7 +3,7 @@
 use Rattle.std.proofs.Common.{◌≡◌, ℕ, ◌+◌, ◌-◌, Bool, true, false, cond, nat_lt, List, [], ◌∷◌, ◌++◌, length, Option, Some, None, Result, Ok, Err, refl, subst}
 use Rattle.std.specs.FinMap as table
 use Rattle.std.specs.Prelude.{slice_set}
-use Rattle.lard_law_view.specs.Prelude.{BackIn, ClientBlock, Event, FrontIn, FrontState, HasRule, Machine, NodeState, Out, Packet, Place, Rec, Station, StepFault, ToClient, Turn, client_aborts, client_acted, client_acts, client_gets, client_goes_on, client_holds, client_injects, client_opens, client_put, client_shuts, client_takes, client_timer, client_writes, clocked, completes, decoded, delivered, disk_at, from_place, front_acts, front_gave, front_setting, front_step, happens, is_client_armed, is_no_job, is_no_node, lose_at, lost, machine_opened, machine_to_client, machine_to_front, machine_told, machine_wrote, node_acts, node_at, node_gave, node_setting, node_step, out_of, packet_at, packets_of, passed, request, segments_sent, sent_records, timer, to_place, written_len}
+use Rattle.lard_law_view.specs.Prelude.{BackIn, ClientBlock, Event, FrontIn, FrontState, HasRule, Machine, NodeState, Out, Packet, Place, Rec, Station, StepFault, ToClient, Turn, client_aborts, client_acted, client_acts, client_gets, client_goes_on, client_holds, client_injects, client_opens, client_put, client_shuts, client_takes, client_timer, client_writes, clocked, completes, decoded, delivered, disk_at, drained, from_place, front_acts, front_gave, front_setting, front_step, happens, has_other_open, is_client_armed, is_no_job, is_no_node, lose_at, lost, machine_opened, machine_to_client, machine_to_front, machine_told, machine_wrote, node_acts, node_at, node_gave, node_setting, node_step, out_of, packet_at, packets_of, passed, request, segments_sent, sent_records, timer, to_place, written_len}
 use Rattle.lard_base.specs.declared.event.Event.TheVariants as event
 use Rattle.lard_base.specs.declared.place.Place.TheVariants as place
 use Rattle.lard_journal.specs.declared.rec.Rec.TheVariants as rec
@@ -138,6 +138,11 @@ module _ (J K : List Rec) (i k : ℕ) (b : Machine) where
   unfolding completes
   completes-alike n j = either (event.Disk n j) (is_no_node b.config.nodes n) _ _ _ _ refl (disk-alike n j (node_at b.nodes n))
 
+  drained-alike : (n : ℕ) → Alike (event.Drain n) (drained l n) (drained r n)
+  unfolding drained
+  drained-alike n = either (event.Drain n) (is_no_node b.config.nodes n) _ _ _ _ refl
+      (either (event.Drain n) (has_other_open b.front.dispatch.books.loads n) _ _ _ _ (front-alike (event.Drain n) [] (input.Drain n)) refl)
+
   clocked-alike : (ms : ℕ) → AreAlike J K i k (event.Clock ms) (clocked l ms) (clocked r ms)
   unfolding clocked
   clocked-alike ms = passed-alike (record b { now = b.now + ms }) (event.Clock ms) (rec.Clock (record { 0 = b.now + ms }) ∷ [])
@@ -155,5 +160,6 @@ module _ (J K : List Rec) (i k : ℕ) (b : Machine) where
   happens-alike (event.Lose q) rule = lost-alike q (packet_at b.net q)
   happens-alike (event.Timer p c) rule = timer-alike p c (table.get b.clients c)
   happens-alike (event.Disk n j) rule = completes-alike n j
+  happens-alike (event.Drain n) rule = drained-alike n
   happens-alike (event.Clock ms) rule = clocked-alike ms
   happens-alike (event.Settle rounds) rule = absurd rule

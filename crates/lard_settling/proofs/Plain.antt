@@ -43,6 +43,7 @@ own-unmarked (event.Hold c) = tt
 own-unmarked (event.Take c) = tt
 own-unmarked (event.Timer p c) = tt
 own-unmarked (event.Disk n j) = tt
+own-unmarked (event.Drain n) = tt
 own-unmarked (event.Clock ms) = tt
 own-unmarked (event.Settle rounds) = tt
 own-unmarked _ = (refl, tt)
