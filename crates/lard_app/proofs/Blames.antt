@@ -37,6 +37,7 @@ plain-reaches m (event.Deliver j) w h = (λ r. r, λ r. r)
 plain-reaches m (event.Lose j) w h = (λ r. r, λ r. r)
 plain-reaches m (event.Timer p c) w h = (λ r. r, λ r. r)
 plain-reaches m (event.Disk n j) w h = (λ r. r, λ r. r)
+plain-reaches m (event.Drain n) w h = (λ r. r, λ r. r)
 plain-reaches m (event.Clock ms) w h = (λ r. r, λ r. r)
 plain-reaches m (event.Inject c bytes) w h = (λ r. r, λ r. r)
 
@@ -53,6 +54,7 @@ plain-untimely m (event.Deliver j) reason h = (λ r. r, λ r. r)
 plain-untimely m (event.Lose j) reason h = (λ r. r, λ r. r)
 plain-untimely m (event.Timer p c) reason h = (λ r. r, λ r. r)
 plain-untimely m (event.Disk n j) reason h = (λ r. r, λ r. r)
+plain-untimely m (event.Drain n) reason h = (λ r. r, λ r. r)
 plain-untimely m (event.Clock ms) reason h = (λ r. r, λ r. r)
 plain-untimely m (event.Inject c bytes) reason h = (λ r. r, λ r. r)
 
@@ -134,9 +136,9 @@ Blames m e f = ((reason : Refusal) → f ≡ fault.Refused reason → MayNotCome
 limit-some : (w : What) (f : StepFault) → fault.Limit w ≡ f → ¬ (f ≡ fault.NoMemory)
 limit-some w f e none = let both : fault.Limit w ≡ fault.NoMemory = e ∙ none in cc
 
-module _ (m : Machine) (w : IsWrittenOut m.config m.files m) where
+module _ (m : Machine) (w : IsWrittenOut m.config m.files m) (checked : config_check m.config ≡ Ok tt) where
   told : Told m
-  told = written-told m.config m.files m w
+  told = written-told m.config m.files m w checked
 
   -- an event that is no settle
   plain-blames : (e : Event) (stop : Stop) → is_settle e ≡ false → event_step m e ≡ Err stop → Blames m e stop.1
@@ -147,8 +149,8 @@ module _ (m : Machine) (w : IsWrittenOut m.config m.files m) where
         blamed-some m e stop.1 blamed,
       )
 
-  settle-blames : (rounds : ℕ) (stop : Stop) → config_check m.config ≡ Ok tt → event_step m (event.Settle rounds) ≡ Err stop → Blames m (event.Settle rounds) stop.1
-  settle-blames rounds stop checked is = go (settle-stop m.config m.files m rounds stop w is) where
+  settle-blames : (rounds : ℕ) (stop : Stop) → event_step m (event.Settle rounds) ≡ Err stop → Blames m (event.Settle rounds) stop.1
+  settle-blames rounds stop is = go (settle-stop m.config m.files m rounds stop w is) where
     go : StepNotDone m.config m.files m rounds stop → Blames m (event.Settle rounds) stop.1
     go (inl b) =
         let l = begun-not m rounds stop.1 b.1 in
@@ -159,18 +161,18 @@ module _ (m : Machine) (w : IsWrittenOut m.config m.files m) where
         )
     go (inr b) =
         let d : Event = b.1.0 in
-        let blamed = step-fault stop.0 (written-told m.config m.files stop.0 b.0) d stop.1 (inner-fault stop.0 d stop.1 b.1.2) in
+        let blamed = step-fault stop.0 (written-told m.config m.files stop.0 b.0 checked) d stop.1 (inner-fault stop.0 d stop.1 b.1.2) in
         let limit = settles-stop m.config m.files m stop.0 rounds stop.1 checked w (settled-stop m rounds stop is) in (
           λ reason by. absurd (no-untimely-limit limit.0 stop.1 reason (sym limit.1) by),
           λ v by. (stop.0, stop.1, is, reached-only stop.0 d v b.1.1 (blamed-reaches stop.0 d stop.1 v blamed by)),
           blamed-some stop.0 d stop.1 blamed,
         )
 
-  pub event-blames : config_check m.config ≡ Ok tt → (e : Event) (stop : Stop) → event_step m e ≡ Err stop → Blames m e stop.1
-  event-blames checked e stop is = go (either-kind e) where
+  pub event-blames : (e : Event) (stop : Stop) → event_step m e ≡ Err stop → Blames m e stop.1
+  event-blames e stop is = go (either-kind e) where
     go : (is_settle e ≡ false) ⊎ ((rounds : ℕ) × (e ≡ event.Settle rounds)) → Blames m e stop.1
     go (inl nots) = plain-blames e stop nots is
-    go (inr r) = subst (λ (d : Event). Blames m d stop.1) (sym r.1) (settle-blames r.0 stop checked (sym (ap (event_step m) r.1) ∙ is))
+    go (inr r) = subst (λ (d : Event). Blames m d stop.1) (sym r.1) (settle-blames r.0 stop (sym (ap (event_step m) r.1) ∙ is))
 
   -- ---- and back
 
@@ -200,7 +202,7 @@ module _ (m : Machine) (w : IsWrittenOut m.config m.files m) where
           let here : HasReached m.journal v = subst (λ (n : Machine). HasReached n.journal v) b.0 u.3 in
           (u.0, u.2 ∙ ap (λ g. Err (u.0, g)) (begun-limit m told rounds u.1 v b.1 here))
       of (inr b) =
-          let inner_told : Told u.0 = written-told m.config m.files u.0 b.0 in
+          let inner_told : Told u.0 = written-told m.config m.files u.0 b.0 checked in
           let same : u.1 ≡ fault.Limit v = err_fault u.1 (fault.Limit v) (sym b.1.2 ∙ fault-inner u.0 b.1.0 (fault.Limit v) (limit-step u.0 inner_told b.1.0 v u.3)) in
           (u.0, u.2 ∙ ap (λ g. Err (u.0, g)) same)
 

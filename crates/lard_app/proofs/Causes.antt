@@ -136,13 +136,13 @@ module _ (n bytes : ℕ) (s : Progress) (k : Knows n bytes s) (line : List ℕ) 
     refused (why.File (file_fault.TooMany m)) u = file-refused (file_fault.TooMany m) u
     refused (why.File (file_fault.TooMuch m)) u = file-refused (file_fault.TooMuch m) u
     refused (why.File file_fault.NoMemory) u = absurd u.3
-    refused (why.Untimely reason) u = stopped_by u.0 (s.machine, fault.Refused reason) u.1 (untimely-stops s.machine k.keeps.written u.0 reason u.2)
+    refused (why.Untimely reason) u = stopped_by u.0 (s.machine, fault.Refused reason) u.1 (untimely-stops s.machine k.keeps.written k.keeps.checked u.0 reason u.2)
     refused why.NoFile u = absurd u
     refused (why.NotOpen number) u = absurd u
     refused (why.Broken rule) u = absurd u
 
     reached : (w : What) (e : Event) → Tries s line e → ReachesLimit s.machine e w → line_passed s line ≡ Err (Limit (s.lines + 1) w)
-    reached w e t r = let stop = reaches-stop s.machine k.keeps.written e w r in stopped_by e (stop.0, fault.Limit w) t stop.1
+    reached w e t r = let stop = reaches-stop s.machine k.keeps.written k.keeps.checked e w r in stopped_by e (stop.0, fault.Limit w) t stop.1
 
   numbered : (cause : ℕ → Status) (number : ℕ) → number ≡ n + 1 → line_passed s line ≡ Err (cause (s.lines + 1)) → line_passed s line ≡ Err (cause number)
   numbered cause number is e = e ∙ ap (λ m. Err (cause m)) (next_number ∙ sym is)

@@ -1,19 +1,23 @@
 -- A step is not done exactly where a limit was reached, or the event is not one that may come now.
-use Rattle.std.proofs.Common.{◌≡◌, ◌⊎◌, ℕ, zero, suc, ◌-◌, ◌≤◌, ◌<◌, List, [], ◌∷◌, length, Bool, true, false, cond, Option, Some, None, IsSome, Result, Ok, Err, refl, sym, ap, ◌∙◌, subst, inl, inr, ⊎_elim, arith, nat_eq, ◌==◌, ◌||◌}
+use Rattle.std.proofs.Common.{◌≡◌, ◌⊎◌, ℕ, zero, suc, ◌-◌, ◌≤◌, ◌<◌, List, [], ◌∷◌, length, Bool, true, false, not, cond, Option, Some, None, IsSome, Result, Ok, Err, refl, sym, ap, ◌∙◌, subst, inl, inr, ⊎_elim, arith, nat_eq, ◌==◌, ◌||◌}
+use Rattle.std.proofs.lemmas.Bool.{not_from_true, true≢false}
 use Rattle.std.proofs.lemmas.Bool.Decides.{nat_tests}
 use Rattle.std.proofs.lemmas.Option.{slice_get_past, slice_get_within}
+use Rattle.std.specs.List.{list_any}
 use Rattle.std.specs.Prelude.{nat_lt, slice_get}
 use Rattle.std.specs.FinMap as table
-use Rattle.lard_law_view.specs.Prelude.{Client, ClientBlock, Event, Front, Machine, Node, NodeState, Packet, Place, Rec, Station, StepFault, Turn, What, answered_bytes, bytes_in, client_aborts, client_acts, client_goes_on, client_holds, client_injects, client_shuts, client_takes, client_writes, completes, delivered, disk_at, happens, is_no_job, is_no_node, limit_of, limit_reached, lose_at, lost, machine_opened, machine_step, machine_wrote, node_acts, node_at, node_gave, node_setting, node_step, numbers_of, packet_at, packet_bytes, passed, request, timer, to_place, unless_limit, written_len}
+use Rattle.lard_law_view.specs.Prelude.{Client, ClientBlock, Event, Front, Machine, Node, NodeState, Packet, Place, Rec, Station, StepFault, Turn, What, answered_bytes, bytes_in, client_aborts, client_acts, client_goes_on, client_holds, client_injects, client_shuts, client_takes, client_writes, completes, delivered, disk_at, drained, front_acts, happens, has_other_open, is_no_job, is_no_node, is_node_closed, limit_of, limit_reached, lose_at, lost, machine_opened, machine_step, machine_wrote, node_acts, node_at, node_gave, node_setting, node_step, numbers, numbers_of, packet_at, packet_bytes, passed, request, timer, to_place, unless_limit, written_len}
 use Rattle.lard_base.specs.declared.event.Event.TheVariants as event
 use Rattle.lard_laws.proofs.ClientsTables.{client_at}
 use Rattle.lard_rules.specs.declared.fault.Refusal.TheVariants as refusal
 use Rattle.lard_rules.specs.declared.fault.StepFault.TheVariants as fault
 use Rattle.lard_journal.specs.declared.rec.Rec.TheVariants as rec
 use Rattle.lard_rules.specs.declared.fault.What.TheVariants.{Stream}
+use Rattle.lard_rules.specs.declared.front.FrontIn.TheVariants as input
 use Rattle.lard_rules.specs.declared.node.BackIn.TheVariants as back
-use Rattle.lard_app.specs.Causes.{HasReached, IsOfClient, IsOfDisk, IsOfNode, IsOfPacket, IsUntimely, IsWithinLimits, Opens, WouldPass, WritesTooMuch}
+use Rattle.lard_app.specs.Causes.{AreOthersClosed, HasReached, IsOfClient, IsOfDisk, IsOfNode, IsOfPacket, IsUntimely, IsWithinLimits, Opens, WouldPass, WritesTooMuch}
 use Rattle.lard_app.proofs.Numbers.{found_limit, limit-reached, none-reached, reached-limit, within-none}
+use Rattle.lard_app.proofs.Others.{all-closed, any_other, none-open}
 use Rattle.lard_app.proofs.Reached.{Told}
 
 -- ---- packets by their numbers
@@ -93,7 +97,27 @@ no_such_node m t (suc i) e none = let past = all_past m.nodes i none in let same
   all_past (x ∷ xs) zero f = cc
   all_past (x ∷ xs) (suc i) f = omega (arith, all_past xs i f)
 
+-- a test that does not fail
+holds : (b : Bool) → not b ≡ false → b ≡ true
+holds true e = refl
+holds false e = absurd (true≢false e)
+
 module _ (m : Machine) (t : Told m) where
+  -- ---- nodes that are open
+
+  -- that another one is open is told by the journal
+  others-are : (n : ℕ) → has_other_open m.front.dispatch.books.loads n ≡ any_other (λ k. not (is_node_closed m.journal k)) n (numbers m.config.nodes)
+  others-are n = ap (list_any (λ k. not (nat_eq k n))) t.open_nodes
+
+  others-closed : (n : ℕ) → has_other_open m.front.dispatch.books.loads n ≡ false → AreOthersClosed m.config.nodes m.journal n
+  others-closed n none k low high other =
+      holds (is_node_closed m.journal k) (none-open (λ j. not (is_node_closed m.journal j)) n 1 m.config.nodes (sym (others-are n) ∙ none) k low (omega (arith, high)) other)
+
+  closed-others : (n : ℕ) → AreOthersClosed m.config.nodes m.journal n → has_other_open m.front.dispatch.books.loads n ≡ false
+  closed-others n closed =
+      others-are n
+      ∙ all-closed (λ k. not (is_node_closed m.journal k)) n 1 m.config.nodes (λ k low high other. not_from_true (is_node_closed m.journal k) (closed k low (omega (arith, high)) other))
+
   -- ---- what a fault means
 
   fault_is : (e : Event) (known f : StepFault) → IsFault m e known → ◌≡◌ {A = Result Machine StepFault} (Err known) (Err f) → IsFault m e f
@@ -160,6 +184,25 @@ module _ (m : Machine) (t : Told m) where
     go true none h = no_node (event.Disk n j) n f refl none h
     go false there h = disk-fault n j f (node_at m.nodes n) there refl h
 
+  -- a node that is there is closed where another one is open
+  abbrev closes : ℕ → Bool → Result Machine StepFault
+  closes n b = cond b (Ok (front_acts m (event.Drain n) [] (input.Drain n))) (Err (fault.Refused (refusal.LastNode n)))
+
+  -- of a node that is not there, or is the last
+  drained-fault : (n : ℕ) (f : StepFault) → drained m n ≡ Err f → IsFault m (event.Drain n) f
+  unfolding drained
+  drained-fault n f is = go (is_no_node m.config.nodes n) refl is where
+    of-there : is_no_node m.config.nodes n ≡ false → (b : Bool) → has_other_open m.front.dispatch.books.loads n ≡ b → closes n b ≡ Err f → IsFault m (event.Drain n) f
+    of-there there true some h = cc
+    of-there there false none h =
+        let within = is_there_node m.config.nodes n there in
+        fault_is (event.Drain n) (fault.Refused (refusal.LastNode n)) f (refl, within.0, within.1, others-closed n none) h
+
+    go : (b : Bool) → is_no_node m.config.nodes n ≡ b
+        → cond {A = Result Machine StepFault} b (Err (fault.Refused (refusal.NoNode n m.config.nodes))) (closes n (has_other_open m.front.dispatch.books.loads n)) ≡ Err f → IsFault m (event.Drain n) f
+    go true none h = no_node (event.Drain n) n f refl none h
+    go false there h = of-there there (has_other_open m.front.dispatch.books.loads n) refl h
+
   delivered-fault : (k : ℕ) (f : StepFault) (o : Option Packet) → packet_at m.net k ≡ o → delivered m k o ≡ Err f → IsFault m (event.Deliver k) f
   unfolding delivered
   delivered-fault k f None at is = not_sent (event.Deliver k) k f refl at is
@@ -188,6 +231,7 @@ module _ (m : Machine) (t : Told m) where
   happens-fault (event.Lose k) f is = lost-fault k f (packet_at m.net k) refl is
   happens-fault (event.Timer p c) f is = timer-fault p c f (table.get m.clients c) refl is
   happens-fault (event.Disk n j) f is = completes-fault n j f is
+  happens-fault (event.Drain n) f is = drained-fault n f is
   happens-fault (event.Clock ms) f is = cc
   happens-fault (event.Settle rounds) f is = cc
   happens-fault (event.Inject c bytes) f is = does-fault (event.Inject c bytes) (rec.Injected c ∷ []) c (λ x. client_injects x bytes) f (table.get m.clients c) refl refl is
@@ -239,13 +283,15 @@ module _ (m : Machine) (t : Told m) where
     go (Some x) e = absurd (let both = subst (λ n. IsSome n) none (t.opened c x e) in cc)
 
   fault-node : (e : Event) (n : ℕ) → IsOfNode m.journal e n → is_no_node m.config.nodes n ≡ true → happens m e ≡ Err (fault.Refused (refusal.NoNode n m.config.nodes))
-  unfolding timer completes
+  unfolding timer completes drained
   fault-node (event.Timer (Node k) c) n of none =
       let x = client_there c of.1 in
       subst (λ i. happens m (event.Timer (Node i) c) ≡ Err (fault.Refused (refusal.NoNode n m.config.nodes))) (sym of.0) (ap (timer m (Node n) c) x.1
       ∙ ap (λ b. cond {A = Result Machine StepFault} b (Err (fault.Refused (refusal.NoNode n m.config.nodes))) (Ok (node_acts m (event.Timer (Node n) c) [] n (back.Timer c) (node_at m.nodes n)))) none)
   fault-node (event.Disk k j) n of none = subst (λ i. happens m (event.Disk i j) ≡ Err (fault.Refused (refusal.NoNode n m.config.nodes))) (sym of)
       (ap (λ b. cond {A = Result Machine StepFault} b (Err (fault.Refused (refusal.NoNode n m.config.nodes))) (disk_at m n j (node_at m.nodes n))) none)
+  fault-node (event.Drain k) n of none = subst (λ i. happens m (event.Drain i) ≡ Err (fault.Refused (refusal.NoNode n m.config.nodes))) (sym of)
+      (ap (λ b. cond {A = Result Machine StepFault} b (Err (fault.Refused (refusal.NoNode n m.config.nodes))) (closes n (has_other_open m.front.dispatch.books.loads n))) none)
   fault-node (event.Timer Front c) n of none = absurd of.0
   fault-node (event.Timer (Client d) c) n of none = absurd of.0
   fault-node _ n of none = absurd of
@@ -271,6 +317,14 @@ module _ (m : Machine) (t : Told m) where
       (not_beyond (length s.disk) j (subst (λ l. (j ≡ 0) ⊎ (l < j)) same beyond_))
       ∙ ap (λ l. Err (fault.Refused (refusal.NoJob n j l))) (sym same)))
   fault-job _ n j len of beyond_ = absurd of
+
+  -- the last node that is open
+  fault-last : (e : Event) (n : ℕ) → IsUntimely m e (refusal.LastNode n) → happens m e ≡ Err (fault.Refused (refusal.LastNode n))
+  unfolding drained
+  fault-last (event.Drain k) n h = subst (λ i. happens m (event.Drain i) ≡ Err (fault.Refused (refusal.LastNode n))) (sym h.0)
+      (ap (λ b. cond {A = Result Machine StepFault} b (Err (fault.Refused (refusal.NoNode n m.config.nodes))) (closes n (has_other_open m.front.dispatch.books.loads n))) (not_past m.config.nodes n h.1 h.2)
+      ∙ ap (closes n) (closed-others n h.3))
+  fault-last _ n h = absurd h.0
 
   wrote-much : (e : Event) (c : ℕ) (bytes : List ℕ) (x : Station) → table.get m.clients c ≡ Some x → m.config.stream < written_len x.client bytes → machine_wrote m e c bytes (table.get m.clients c) ≡ Err (fault.Limit Stream)
   unfolding machine_wrote
@@ -307,6 +361,7 @@ module _ (m : Machine) (t : Told m) where
   fault-happens e (fault.Refused (refusal.NoClient c)) h = fault-client e c h.0 (client_none c h.1)
   fault-happens e (fault.Refused (refusal.Used c)) h = let x = client_there c h.1 in fault-used e c x.0 h.0 x.1
   fault-happens e (fault.Refused (refusal.NoNode n nodes)) h = ap_node e n nodes h
+  fault-happens e (fault.Refused (refusal.LastNode n)) h = fault-last e n h
   fault-happens e (fault.Refused (refusal.NoJob n j len)) h = fault-job e n j len h.0 h.1
   fault-happens e (fault.Limit w) h = subst (λ v. happens m e ≡ Err (fault.Limit v)) (sym h.0) (fault-stream e h.1)
   fault-happens e fault.NoMemory h = absurd h

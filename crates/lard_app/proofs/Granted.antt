@@ -233,7 +233,7 @@ module _ (config : Config) (files : List (List ℕ × List ℕ)) (checked : conf
   node-number : (m : Machine) (n : ℕ) (s : NodeState) → Is m → node_at m.nodes n ≡ Some s → IsNumber n
   node-number m zero s g at = omega arith
   node-number m (suc i) s g at =
-      let t : Told m = written-told config files m g.written in
+      let t : Told m = written-told config files m g.written checked in
       let within = slice_get_within m.nodes i s at in
       let config_is : m.config.nodes ≡ config.nodes = ap (λ (k : Machine). k.config.nodes) g.written.same ∙ ap (λ (c : Config). c.nodes) (config-is config files g.written.plain g.written.reached) in
       omega (arith, within, t.nodes, config_is, nodes)

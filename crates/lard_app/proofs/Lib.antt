@@ -22,6 +22,7 @@ mod Labeled
 mod Lawful
 mod Numbering
 mod Numbers
+mod Others
 mod Passing
 mod Pieces
 mod Played

@@ -27,6 +27,7 @@ ruled (event.Timer place.Front c) m r = tt
 ruled (event.Timer (place.Client d) c) m r = let same = r.2 in grind (arith, nat_tests, same)
 ruled (event.Timer (place.Node n) c) m r = tt
 ruled (event.Disk n j) m r = tt
+ruled (event.Drain n) m r = tt
 ruled (event.Clock ms) m r = tt
 ruled (event.Settle rounds) m r = cc
 ruled (event.Inject c bytes) m r = (r.1.0, r.1.1)
@@ -44,6 +45,7 @@ may-come (event.Deliver k) r = tt
 may-come (event.Lose k) r = tt
 may-come (event.Timer p c) r = ruled (event.Timer p c) refl r
 may-come (event.Disk n j) r = tt
+may-come (event.Drain n) r = tt
 may-come (event.Clock ms) r = tt
 may-come (event.Settle rounds) r = tt
 may-come (event.Inject c bytes) r = ruled (event.Inject c bytes) refl r

@@ -32,6 +32,7 @@ settles-as m (event.Deliver k) rounds is = cc
 settles-as m (event.Lose k) rounds is = cc
 settles-as m (event.Timer p c) rounds is = cc
 settles-as m (event.Disk n j) rounds is = cc
+settles-as m (event.Drain n) rounds is = cc
 settles-as m (event.Clock ms) rounds is = cc
 settles-as m (event.Inject c bytes) rounds is = cc
 

@@ -313,7 +313,7 @@ put-others m n c d p other none = ap (λ (t : table.FinMap nat_cmp Station). tab
 -- ---- events that may come
 
 told-of : (m : Machine) → IsFit m → Told m
-told-of m fit = written-told m.config m.files m fit.written
+told-of m fit = written-told m.config m.files m fit.written fit.checked
 
 -- an open of a client that has not opened
 open-timely : (m : Machine) (c isn iss wnd mss : ℕ) → IsFit m → table.get m.clients c ≡ None → IsTimely m (event.Open c isn iss wnd mss)

@@ -1,7 +1,7 @@
 -- Why a replay ends as it does, in words of the text's lines, and of the journal before the line that ends it.
 -- The numbers of all limits and ranges are written out here, apart from the rules that use them.
 use Rattle.std.specs.Prelude.{◌≡◌, ◌≢◌, ◌⊎◌, ℕ, ◌+◌, ◌-◌, ◌*◌, ◌^◌, ◌<◌, ◌≤◌, true, List, [], ◌∷◌, ◌++◌, length, Option, Some, None, IsSome, Ok, Err}
-use Rattle.lard_law_view.specs.Prelude.{Client, ClientBlock, Config, ConfigFault, Event, FileFault, Front, Key, Machine, Node, Place, Rec, Refusal, StepFault, What, answered_bytes, client_of, file_at, files_total, is_lost, numbers_of, own, packet_bytes, request, sent_count, written_len}
+use Rattle.lard_law_view.specs.Prelude.{Client, ClientBlock, Config, ConfigFault, Event, FileFault, Front, Key, Machine, Node, Place, Rec, Refusal, StepFault, What, answered_bytes, client_of, file_at, files_total, is_lost, is_node_closed, numbers_of, own, packet_bytes, request, sent_count, written_len}
 use Rattle.lard_base.specs.declared.config.ConfigFault.TheVariants.{Range, LowHigh, NoRoom}
 use Rattle.lard_base.specs.declared.config.Key.TheVariants as key
 use Rattle.lard_base.specs.declared.event.Event.TheVariants as event
@@ -112,7 +112,7 @@ WritesTooMuch stream J (event.Get c path) = WouldPass stream J c (request path)
 WritesTooMuch stream J (event.Write c bytes) = WouldPass stream J c bytes
 WritesTooMuch stream J _ = ⊥
 
--- a timer of node n, or a job of its disk; the client of a timer opened before
+-- a timer of node n, a job of its disk, or its closing; the client of a timer opened before
 abbrev pub IsNumbered : Place → ℕ → Type 0
 IsNumbered Front n = ⊥
 IsNumbered (Node k) n = k ≡ n
@@ -121,12 +121,22 @@ IsNumbered (Client c) n = ⊥
 abbrev pub IsOfNode : List Rec → Event → ℕ → Type 0
 IsOfNode J (event.Timer place c) n = IsNumbered place n × IsSome (numbers_of J c)
 IsOfNode J (event.Disk k j) n = k ≡ n
+IsOfNode J (event.Drain k) n = k ≡ n
 IsOfNode J _ n = ⊥
 
 -- job j of the disk of node n, one of so many nodes, where so many jobs wait
 abbrev pub IsOfDisk : ℕ → List Rec → Event → ℕ → ℕ → ℕ → Type 0
 IsOfDisk nodes J (event.Disk k i) n j len = (k ≡ n) × (i ≡ j) × (1 ≤ n) × (n ≤ nodes) × (len ≡ length (jobs J n))
 IsOfDisk nodes J _ n j len = ⊥
+
+-- it is that node n is to be closed
+abbrev pub IsDrainOf : Event → ℕ → Type 0
+IsDrainOf (event.Drain k) n = k ≡ n
+IsDrainOf _ n = ⊥
+
+-- of so many nodes each but node n is closed
+abbrev pub AreOthersClosed : ℕ → List Rec → ℕ → Type 0
+AreOthersClosed nodes J n = (k : ℕ) → 1 ≤ k → k ≤ nodes → k ≢ n → is_node_closed J k ≡ true
 
 -- the event is not one that may come now
 abbrev pub IsUntimely : Machine → Event → Refusal → Type 0
@@ -135,6 +145,7 @@ IsUntimely m e (refusal.WasLost k) = IsOfPacket e k × (1 ≤ k) × (k ≤ sent_
 IsUntimely m e (refusal.NoClient c) = IsOfClient e c × (numbers_of m.journal c ≡ None)
 IsUntimely m e (refusal.Used c) = Opens e c × IsSome (numbers_of m.journal c)
 IsUntimely m e (refusal.NoNode n nodes) = IsOfNode m.journal e n × (nodes ≡ m.config.nodes) × ((n ≡ 0) ⊎ (nodes < n))
+IsUntimely m e (refusal.LastNode n) = IsDrainOf e n × (1 ≤ n) × (n ≤ m.config.nodes) × AreOthersClosed m.config.nodes m.journal n
 IsUntimely m e (refusal.NoJob n j len) = IsOfDisk m.config.nodes m.journal e n j len × ((j ≡ 0) ⊎ (len < j))
 
 -- A settle ended the run in this state, by this fault: no step was done there.

@@ -5,7 +5,7 @@ use Rattle.lard_audit.specs.declared.rule.Rule.TheVariants.{Network, Owner, Send
 use Rattle.lard_law_view.specs.Prelude.{ConfigFault, FileFault, Refusal, What, key_word}
 use Rattle.lard_base.specs.declared.config.ConfigFault.TheVariants.{Range, LowHigh, NoRoom}
 use Rattle.lard_files.specs.declared.fault.FileFault.TheVariants as file_fault
-use Rattle.lard_rules.specs.declared.fault.Refusal.TheVariants.{NotSent, WasLost, NoClient, Used, NoNode, NoJob}
+use Rattle.lard_rules.specs.declared.fault.Refusal.TheVariants.{NotSent, WasLost, NoClient, Used, NoNode, LastNode, NoJob}
 use Rattle.lard_rules.specs.declared.fault.What.TheVariants.{Input, Packets, PacketBytes, Records, Answers, Requests, Stream}
 use Rattle.lard_app.specs.declared.status.Why.{Why}
 use Rattle.lard_app.specs.declared.status.Why.TheVariants.{Syntax, Config, File, Untimely, NoFile, NotOpen, Broken}
@@ -46,6 +46,7 @@ with_refusal text (WasLost k) = text ++ codes "packet " ++ decimal k ++ codes " 
 with_refusal text (NoClient c) = text ++ codes "client " ++ decimal c ++ codes " not opened"
 with_refusal text (Used c) = text ++ codes "client " ++ decimal c ++ codes " opened before"
 with_refusal text (NoNode n nodes) = text ++ codes "node " ++ decimal n ++ codes " above " ++ decimal nodes
+with_refusal text (LastNode n) = text ++ codes "node " ++ decimal n ++ codes " is the last"
 with_refusal text (NoJob n j len) = text ++ codes "job " ++ decimal j ++ codes " of " ++ decimal len ++ codes " at node " ++ decimal n
 
 -- the word of a rule

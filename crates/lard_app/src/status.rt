@@ -21,7 +21,7 @@ pub enum Why {
     Config(ConfigFault),
     /// It adds a file that may not be added, for another cause than running out of memory, which is `Status::NoMemory`.
     File(FileFault),
-    /// It is an event that can't happen as things stand: it names what is not there, or what is there already.
+    /// It is an event that can't happen as things stand: it names what is not there, or what is there already, or closes the last node.
     Untimely(Refusal),
     /// It requests a path that no file of the trace has.
     NoFile,
@@ -174,6 +174,7 @@ fn untimely(text: String, reason: Refusal) -> Result<String, NoMemory>
         Refusal::NoClient(c) => return of_client(text, c, " not opened"),
         Refusal::Used(c) => return of_client(text, c, " opened before"),
         Refusal::NoNode { n, nodes } => return no_node(text, n, nodes),
+        Refusal::LastNode(n) => return last_node(text, n),
         Refusal::NoJob { n, j, len } => return no_job(text, n, j, len),
     }
 }
@@ -244,6 +245,14 @@ fn no_node(text: String, n: u32, nodes: u8) -> Result<String, NoMemory>
 {
     let longer = counted(text, "node ", u64::from(n))?;
     counted(longer, " above ", u64::from(nodes))
+}
+
+/// A text, and then that no node but this one is open.
+fn last_node(text: String, n: u8) -> Result<String, NoMemory>
+    ensures { IfOk result (λ longer. string_bytes longer ≡ string_bytes text ++ codes "node " ++ decimal n ++ codes " is the last") }
+{
+    let longer = counted(text, "node ", u64::from(n))?;
+    ended(longer, " is the last")
 }
 
 /// A text, and then that this job is not among those that are queued at a node.
