@@ -1,7 +1,7 @@
 //! Rows of connections that move to a node and are answered there.
 
 use crate::rows::{Row, Told};
-use lard_app::Status;
+use lard_app::{Refusal, Status, Why};
 
 /// One request for a file: the connection moves to node 1, whose disk reads the file.
 pub const ONE_CONNECTION_MOVES: Row = Row {
@@ -192,6 +192,68 @@ sent 17 front c1 00509c40000013b50000040950104000a7830000
 event 21 deliver 4
 got 4
 sent 18 n1 front 01020001000200000000
+",
+};
+
+/// One request for a file while node 1 is closed: the connection moves to node 2, and no job waits at node 1.
+pub const A_CLOSED_NODE: Row = Row {
+    input: "\
+lard 1
+file /a 68656c6c6f
+go
+drain 1
+open 1 1000 5000 65535 1460
+get 1 /a
+deliver 1
+deliver 2
+deliver 3
+deliver 4
+deliver 6
+disk 1 1
+deliver 7
+deliver 8
+deliver 9
+",
+    status: Status::Refused {
+        line: 12,
+        why: Why::Untimely(Refusal::NoJob { n: 1, j: 1, len: 0 }),
+    },
+    report: "\
+report 1 nodes 2 low 25 high 65 age 20000 idle 25 over 130 miss 50 cache 1048576 stream 1073741824
+file /a 5
+event 1 drain 1
+closed n1
+event 2 open 1 1000 5000 65535 1460
+opened 1 1000 5000 65535 1460
+sent 1 c1 front 9c400050000003e8000000006002ffffe3ab0000020405b4
+armed c1 1 tcp
+event 3 get 1 /a
+wrote 1 474554202f6120485454502f312e310d0a486f73743a206c6172640d0a0d0a
+event 4 deliver 1
+got 1
+took front 1 1
+sent 2 front c1 00509c4000001388000003e96012400090120000020405b4
+armed front 1 tcp
+event 5 deliver 2
+got 2
+sent 3 c1 front 9c400050000003e9000013895018ffff0dec0000474554202f6120485454502f312e310d0a486f73743a206c6172640d0a0d0a
+event 6 deliver 3
+got 3
+admitted 1
+assigned 1 1 first /a 2 2 -
+gave front 1 1
+sent 4 front n2 01010001000200000042000003e8000013880000001f0000000001ffff000003e90000138905b400000000001f474554202f6120485454502f312e310d0a486f73743a206c6172640d0a0d0a
+cleared front 1 tcp
+armed front 1 offer
+event 7 deliver 4
+got 4
+took n2 1 2
+queued n2 n2 1 1 /a
+sent 5 n2 c1 00509c40000013890000040850104000a7b00000
+sent 6 n2 front 01020001000200000000
+event 8 deliver 6
+got 6
+cleared front 1 offer
 ",
 };
 

@@ -5,7 +5,8 @@ use crate::limits::{
     FIRST_RESPONSE_PAST_THE_LIMIT, FIVE_CLIENTS, LINE_SETTLES, RESPONSES_AT_THE_LIMIT,
 };
 use crate::moves::{
-    A_MOVED_CONNECTION_ENDS, EMPTY_FILE_AND_HEAD, FORWARD_BEFORE_ITS_OFFER, ONE_CONNECTION_MOVES,
+    A_CLOSED_NODE, A_MOVED_CONNECTION_ENDS, EMPTY_FILE_AND_HEAD, FORWARD_BEFORE_ITS_OFFER,
+    ONE_CONNECTION_MOVES,
 };
 use crate::settles::{MOVED_CONNECTION_SETTLES, NUMBERS_BEGIN_AGAIN, SETTLED, SETTLED_LATER};
 use lard_app::{FileFault, Refusal, Status, What, Why};
@@ -208,6 +209,25 @@ event 1 open 1 1 1 1 1
 opened 1 1 1 1 1
 sent 1 c1 front 9c400050000000010000000060020001ed44000002040001
 armed c1 1 tcp
+",
+};
+
+/// Each of two nodes is to be closed, of which the second is the last.
+pub const LAST_NODE: Row = Row {
+    input: "\
+lard 1
+go
+drain 1
+drain 2
+",
+    status: Status::Refused {
+        line: 4,
+        why: Why::Untimely(Refusal::LastNode(2)),
+    },
+    report: "\
+report 1 nodes 2 low 25 high 65 age 20000 idle 25 over 130 miss 50 cache 1048576 stream 1073741824
+event 1 drain 1
+closed n1
 ",
 };
 
@@ -547,7 +567,7 @@ got 7
 };
 
 /// Rows of one connection that stays at the front end, and of schedules that are refused.
-pub const ALONE: [Row; 15] = [
+pub const ALONE: [Row; 16] = [
     HEADING_ALONE,
     NO_INPUT,
     ONE_REQUEST,
@@ -556,6 +576,7 @@ pub const ALONE: [Row; 15] = [
     NOT_OPENED,
     LOST,
     OPENED_TWICE,
+    LAST_NODE,
     SYN_TWICE,
     WRITTEN_PAST_THE_LIMIT,
     RESET_AT_THE_LIMIT,
@@ -566,9 +587,10 @@ pub const ALONE: [Row; 15] = [
 ];
 
 /// Rows of connections that move.
-pub const MOVED: [Row; 4] = [
+pub const MOVED: [Row; 5] = [
     ONE_CONNECTION_MOVES,
     A_MOVED_CONNECTION_ENDS,
+    A_CLOSED_NODE,
     FORWARD_BEFORE_ITS_OFFER,
     FIRST_RESPONSE_PAST_THE_LIMIT,
 ];

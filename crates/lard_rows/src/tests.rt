@@ -240,6 +240,8 @@ fn nodes_and_jobs_that_are_not_there(rt: HostRuntime) -> Result<(), Fail> {
         &[
             ("lard 1\ngo\ndisk 0 1\n", no_node(3, 0), 1),
             ("lard 1\ngo\ndisk 2 0\n", no_job(3, 2, 0), 1),
+            ("lard 1\ngo\ndrain 0\n", no_node(3, 0), 1),
+            ("lard 1\ngo\ndrain 3\n", no_node(3, 3), 1),
             (
                 "lard 1\ngo\ntimer n3 1\n",
                 refused(3, Why::Untimely(Refusal::NoClient(1))),
@@ -306,7 +308,7 @@ fn settles_in_no_place(rt: HostRuntime) -> Result<(), Fail> {
             ("lard 1\nsettle 10\ngo\n", refused(2, Why::Syntax), 0),
             ("lard 1\ngo\nsettle /a -\n", refused(3, Why::Syntax), 1),
             ("lard 1\ngo\nsettle", refused(3, Why::Syntax), 1),
-            ("lard 1\ngo\ndrain 1\n", refused(3, Why::Syntax), 1),
+            ("lard 1\ngo\ndrain n1\n", refused(3, Why::Syntax), 1),
         ],
     )?;
     Ok(())

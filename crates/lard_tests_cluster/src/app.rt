@@ -110,6 +110,10 @@ const CAUSES: &[(Why, &str)] = &[
         "line 4: node 65 above 64",
     ),
     (
+        Why::Untimely(Refusal::LastNode(64)),
+        "line 4: node 64 is the last",
+    ),
+    (
         Why::Untimely(Refusal::NoJob { n: 3, j: 7, len: 2 }),
         "line 4: job 7 of 2 at node 3",
     ),
