@@ -79,6 +79,7 @@ config-stays b (rec.Admitted c) = refl
 config-stays b (rec.Released c) = refl
 config-stays b (rec.AssignedFirst c r path n add remove) = refl
 config-stays b (rec.AssignedLater c r path n add size queue) = refl
+config-stays b (rec.Closed n) = refl
 config-stays b (rec.BatchOver c) = refl
 config-stays b _ = refl
 

@@ -10,9 +10,9 @@ use Rattle.lard_counts.specs.Ledger.{Ledger, ledger_admitted, blank_ledger, is_i
 use Rattle.lard_dispatch.specs.Calls.{joined, reduced}
 use Rattle.lard_journal.specs.declared.rec.Rec.{Rec}
 use Rattle.lard_journal.specs.declared.rec.Rec.TheVariants as rec
-use Rattle.lard_loads.specs.Tally.{Standing, Tally, batch_ended, connected, batch_ended_with, home, released, shared, sharing}
+use Rattle.lard_loads.specs.Tally.{Standing, Tally, batch_ended, connected, batch_ended_with, home, released, shared, sharing, tally_closed}
 use Rattle.lard_loads.specs.Tally as tally
-use Rattle.lard_sets.specs.Sets.{touched}
+use Rattle.lard_sets.specs.Sets.{sets_closed, touched}
 use Rattle.lard_sets.specs.declared.sets.ServerSet.{ServerSet}
 use Rattle.lard_audit.specs.Audit.{AreBooks}
 use Rattle.lard_audit.specs.Sound.{due_by, is_first_of, keeps_admission, keeps_choice, keeps_clock, keeps_later, keeps_room}
@@ -100,6 +100,8 @@ none-due b l (rec.AssignedFirst c r path n add remove) h none keeps = let no : f
 none-due b l (rec.AssignedLater c r path n add size queue) h none keeps =
     let a : AreIn l.ins (shared b.loads c n size).standings b.due = in-shared l.ins b.loads b.due c n size (in-of b l b.due h refl) in
     record { time = h.time; loads = ap (λ (t : Tally). shared t c n size) h.loads; sets = joined-same l b path add h; many = a.many; each = a.each }
+none-due b l (rec.Closed n) h none keeps =
+    record { time = h.time; loads = ap (λ (t : Tally). tally_closed t n) h.loads; sets = ap (λ (s : List (List ℕ × ServerSet)). sets_closed s n) h.sets; many = h.many; each = h.each }
 none-due b l (rec.BatchOver c) h none keeps =
     let a : AreIn l.ins (batch_ended b.loads c).standings b.due = in-ended l.ins b.loads b.due c (in-of b l b.due h refl) in
     record { time = h.time; loads = ap (λ (t : Tally). batch_ended t c) h.loads; sets = h.sets; many = a.many; each = a.each }

@@ -18,7 +18,7 @@ use Rattle.lard_history.specs.Laws.{MayOwn, MaySend, OwnerSends}
 use Rattle.lard_history.proofs.Seeing.{same_number}
 use Rattle.lard_journal.specs.declared.rec.Rec.{Rec}
 use Rattle.lard_journal.specs.declared.rec.Rec.TheVariants as rec
-use Rattle.lard_loads.specs.Tally.{home, open_shares}
+use Rattle.lard_loads.specs.Tally.{has_other_open, home, is_open, open_shares}
 use Rattle.lard_policy.specs.declared.first.FirstChoice.{FirstChoice}
 use Rattle.lard_sets.specs.Sets.{set_of}
 use Rattle.lard_audit.specs.Books.{AuditBooks}
@@ -196,6 +196,7 @@ choice-means cfg l (rec.AssignedLater c r path n add size queue) = (forth, back)
       (both (nat_le 1 size) (nat_le size 8) (at-most-true 1 size x.some) (at-most-true size 8 x.few))
       (both (nat_lt (open_shares l.loads c) 8) (is_later_choice (later_choice l.loads x.h (set_of l.sets path).members queue cfg) n add) (less-true (open_shares l.loads c) 8 x.room)
       (later-true (later_choice l.loads x.h (set_of l.sets path).members queue cfg) n add x.choice)))
+choice-means cfg l (rec.Closed n) = (and_parts (is_open l.loads n) (has_other_open l.loads n), λ p. both (is_open l.loads n) (has_other_open l.loads n) p.0 p.1)
 choice-means cfg l _ = nothing
 
 -- ---- caches, disks and the clock

@@ -12,8 +12,8 @@ use Rattle.lard_dispatch.specs.Calls.{joined, reduced}
 use Rattle.lard_dispatch.specs.Sound.{AreBefore, IsDispatcherSound}
 use Rattle.lard_journal.specs.declared.rec.Rec.{Rec}
 use Rattle.lard_journal.specs.declared.rec.Rec.TheVariants as rec
-use Rattle.lard_loads.specs.Tally.{Tally, admitted, batch_ended, coded_tally, connected, home, released, shared, tally_start}
-use Rattle.lard_sets.specs.Sets.{touched}
+use Rattle.lard_loads.specs.Tally.{Tally, admitted, batch_ended, coded_tally, connected, home, released, shared, tally_closed, tally_start}
+use Rattle.lard_sets.specs.Sets.{sets_closed, touched}
 use Rattle.lard_sets.specs.contracts.sets.ServerSet as server_set
 use Rattle.lard_sets.specs.declared.sets.ServerSet.{ServerSet}
 
@@ -55,6 +55,7 @@ books_step b (rec.Released c) = record b { loads = released b.loads c }
 books_step b (rec.AssignedFirst c r path n add remove) =
     record b { loads = connected b.loads c n; sets = reduced (joined (touched b.sets path) path add b.time) path remove b.time; due = None }
 books_step b (rec.AssignedLater c r path n add size queue) = record b { loads = shared b.loads c n size; sets = joined (touched b.sets path) path add b.time }
+books_step b (rec.Closed n) = record b { loads = tally_closed b.loads n; sets = sets_closed b.sets n }
 books_step b (rec.BatchOver c) = record b { loads = batch_ended b.loads c }
 books_step b _ = b
 

@@ -10,7 +10,7 @@ use Rattle.lard_history.specs.Journal.{goal_of, is_lost, sent_count}
 use Rattle.lard_history.specs.Laws.{MayOwn, MaySend}
 use Rattle.lard_journal.specs.declared.rec.Rec.{Rec}
 use Rattle.lard_journal.specs.declared.rec.Rec.TheVariants as rec
-use Rattle.lard_loads.specs.Tally.{home, open_shares}
+use Rattle.lard_loads.specs.Tally.{has_other_open, home, is_open, open_shares}
 use Rattle.lard_sets.specs.Sets.{set_of}
 use Rattle.lard_audit.specs.Sound.{broken, audit_due_behind, audit_files_of, audit_first_at, job_behind, audit_last_of, size_in}
 
@@ -50,10 +50,12 @@ pub record IsLaterAt (cfg : Config) (l : Ledger) (c : ℕ) (path : List ℕ) (n 
   pub room : open_shares l.loads c < 8
   pub choice : later_choice l.loads h (set_of l.sets path).members queue cfg ≡ record { node = n; add = add }
 
--- A first assignment is that of LARD with replication, and a later one that of the extended policy.
+-- A first assignment is that of LARD with replication, and a later one that of the extended policy. A node is closed where it is open, and
+-- another one is.
 abbrev pub RecordMayBeAssigned : Config → Ledger → Rec → Type 0
 RecordMayBeAssigned cfg l (rec.AssignedFirst c r path n add remove) = audit_first_at cfg l.now l.loads l.sets path ≡ record { node = n; add = add; remove = remove }
 RecordMayBeAssigned cfg l (rec.AssignedLater c r path n add size queue) = IsLaterAt cfg l c path n add size queue
+RecordMayBeAssigned cfg l (rec.Closed n) = (is_open l.loads n ≡ true) × (has_other_open l.loads n ≡ true)
 RecordMayBeAssigned cfg l _ = Unit {0}
 
 -- A hit is of a path that the cache has. A job is queued for one that it has not, and that is a file's. What is read is the job that the

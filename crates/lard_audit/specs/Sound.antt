@@ -22,7 +22,7 @@ use Rattle.lard_history.specs.Journal.{goal_of, is_lost, is_place, last_epoch, o
 use Rattle.lard_history.specs.Laws.{EachMay}
 use Rattle.lard_journal.specs.declared.rec.Rec.{Rec}
 use Rattle.lard_journal.specs.declared.rec.Rec.TheVariants as rec
-use Rattle.lard_loads.specs.Tally.{Tally, home, open_shares}
+use Rattle.lard_loads.specs.Tally.{Tally, has_other_open, home, is_open, open_shares}
 use Rattle.lard_policy.specs.First.{first_choice}
 use Rattle.lard_policy.specs.declared.first.FirstChoice.{FirstChoice}
 use Rattle.lard_sets.specs.Sets.{set_of}
@@ -124,10 +124,11 @@ keeps_later cfg loads sets (Some h) c path n add size queue =
     (nat_le 1 size && nat_le size 8) && (nat_lt (open_shares loads c) 8 && is_later_choice (later_choice loads h (set_of sets path).members queue cfg) n add)
 
 -- The first choice is that of LARD with replication, and a later one that of the extended policy, for a connection that is in: each at
--- the loads and the server sets as they stand just before the record.
+-- the loads and the server sets as they stand just before the record. A node is closed only where it is open, and another one is.
 abbrev pub keeps_choice : Config → Millis → Tally → List (List ℕ × ServerSet) → (ℕ → Bool) → Rec → Bool
 keeps_choice cfg now loads sets is_in (rec.AssignedFirst c r path n add remove) = is_first_choice (audit_first_at cfg now loads sets path) n add remove
 keeps_choice cfg now loads sets is_in (rec.AssignedLater c r path n add size queue) = is_in c && keeps_later cfg loads sets (home loads c) c path n add size queue
+keeps_choice cfg now loads sets is_in (rec.Closed n) = is_open loads n && has_other_open loads n
 keeps_choice cfg now loads sets is_in _ = true
 
 -- ---- caches and disks

@@ -194,6 +194,7 @@ impl Audit {
             }
             Rec::Queued { n, m, c, r, path } => self.queue(*n, *m, *c, *r, path),
             Rec::Read { n, path, .. } => self.read(*n, path),
+            Rec::Closed(_) => self.change_books(rec),
             Rec::Clock(_) => self.change_books(rec),
             _ => Ok(()),
         }
@@ -226,6 +227,7 @@ impl Audit {
                 ..
             } => return self.books.assign_later(*c, path, *n, *add, *size, *queue),
             Rec::BatchOver(c) => self.books.end_batch(*c),
+            Rec::Closed(n) => self.books.close(*n),
             Rec::Clock(time) => self.books.advance(*time),
             _ => {}
         }

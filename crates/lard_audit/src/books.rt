@@ -6,9 +6,9 @@ ghost use Rattle.lard_dispatch.specs.Calls.{joined, reduced};
 ghost use Rattle.lard_journal.specs.declared.rec.Rec.TheVariants as rec;
 ghost use Rattle.lard_costs.specs.declared.later.LaterChoice.{LaterChoice};
 ghost use Rattle.lard_costs.specs.Later.{later_choice};
-ghost use Rattle.lard_loads.specs.Tally.{admitted, batch_ended, connected, home, open_shares, released, shared};
+ghost use Rattle.lard_loads.specs.Tally.{admitted, batch_ended, connected, has_other_open, home, is_open, open_shares, released, shared, tally_closed};
 ghost use Rattle.lard_policy.specs.declared.first.FirstChoice.{FirstChoice};
-ghost use Rattle.lard_sets.specs.Sets.{has_place, set_of, touched};
+ghost use Rattle.lard_sets.specs.Sets.{has_place, set_of, sets_closed, touched};
 ghost use Rattle.lard_audit.specs.Sound.{audit_first_at, is_first_choice, is_first_of, is_later_choice, is_same, keeps_admission, keeps_choice, keeps_clock, keeps_later, keeps_room};
 ghost use Rattle.lard_audit.specs.Books.{AreSound, AuditBooks, blank_books, count_in, is_inside, is_it};
 
@@ -101,6 +101,7 @@ impl Books {
                 size,
                 queue,
             } => self.is_inside(*c) && self.keeps_later(*c, path, *n, *add, *size, *queue),
+            Rec::Closed(n) => self.loads.is_open(*n) && self.loads.has_other_open(*n),
             _ => true,
         }
     }
@@ -183,6 +184,16 @@ impl Books {
         self.loads.share(c, n, size as u8);
         join(&mut self.sets, path.as_slice(), add, self.time);
         Ok(())
+    }
+
+    /// An open node is closed to new assignments, where another one is open.
+    pub fn close(&mut self, n: NodeId)
+        requires open { is_open self.old.loads n ≡ true }
+        requires other { has_other_open self.old.loads n ≡ true }
+        ensures { self.new ≡ record self.old { loads = tally_closed self.old.loads n; sets = sets_closed self.old.sets n } }
+    {
+        self.loads.close(n);
+        self.sets.close(n);
     }
 
     /// The shares of a connection end, if it has some.

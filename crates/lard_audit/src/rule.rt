@@ -13,7 +13,7 @@ pub enum Rule {
     Sender,
     /// Connections are admitted by room, and assigned directly behind that.
     Admission,
-    /// A node is chosen as the policy says.
+    /// A node is chosen as the policy says, and closed only where it is open, and another one is.
     Choice,
     /// What is hit is in the cache, what is queued is not, and what is read is the job that the event names.
     Cache,

@@ -2,7 +2,7 @@
 use Rattle.std.proofs.Common.{refl, sym, ap, ◌∙◌}
 use Rattle.std.proofs.lemmas.Bool.{and_parts}
 use Rattle.lard_journal.specs.declared.rec.Rec.TheVariants as rec
-use Rattle.lard_loads.specs.Tally.{home}
+use Rattle.lard_loads.specs.Tally.{has_other_open, home, is_open}
 use Rattle.lard_audit.specs.Books.{is_inside}
 use Rattle.lard_audit.specs.Sound.{audit_first_at, keeps_later}
 use Rattle.lard_audit.specs.State.{broken_at}
@@ -41,6 +41,16 @@ assign_later-requires c =
     (and_parts (is_inside c.args.self.now.books c.in-AssignedLater.c)
     (keeps_later c.args.self.now.books.config c.args.self.now.books.loads c.args.self.now.books.sets (home c.args.self.now.books.loads c.in-AssignedLater.c) c.in-AssignedLater.c c.in-AssignedLater.path c.in-AssignedLater.n c.in-AssignedLater.add c.in-AssignedLater.size c.in-AssignedLater.queue)
     (keeps-all c.args.self.now (rec.AssignedLater c.in-AssignedLater.c c.in-AssignedLater.r c.in-AssignedLater.path c.in-AssignedLater.n c.in-AssignedLater.add c.in-AssignedLater.size c.in-AssignedLater.queue) (ap (broken_at c.args.self.now) (sym c.in-AssignedLater.is) ∙ c.requires)).chosen).1
+
+pub close-requires-clause-open : goal.close-requires-clause-open
+close-requires-clause-open c =
+    (and_parts (is_open c.args.self.now.books.loads c.in-Closed.n) (has_other_open c.args.self.now.books.loads c.in-Closed.n)
+    (keeps-all c.args.self.now (rec.Closed c.in-Closed.n) (ap (broken_at c.args.self.now) (sym c.in-Closed.is) ∙ c.requires)).chosen).0
+
+pub close-requires-clause-other : goal.close-requires-clause-other
+close-requires-clause-other c =
+    (and_parts (is_open c.args.self.now.books.loads c.in-Closed.n) (has_other_open c.args.self.now.books.loads c.in-Closed.n)
+    (keeps-all c.args.self.now (rec.Closed c.in-Closed.n) (ap (broken_at c.args.self.now) (sym c.in-Closed.is) ∙ c.requires)).chosen).1
 
 pub advance-requires : goal.advance-requires
 advance-requires c = at-most c.args.self.now.books.time.0 c.in-Clock.time.0 (keeps-all c.args.self.now (rec.Clock c.in-Clock.time) (ap (broken_at c.args.self.now) (sym c.in-Clock.is) ∙ c.requires)).timed
