@@ -114,6 +114,7 @@ def admission(report):
         yield "released before its assignment", report.before(at + 1, f"released {c}"), at + 1
         yield "released before it is admitted", report.before(at, f"released {c}"), at
         yield "assigned twice", report.before(at + 2, report.lines[at + 1]), at + 2
+        yield "a node is closed behind an admission", report.before(at + 1, "closed n1"), at + 1
         if report.lines[0].split(" ")[3] != "1":
             yield "one waits where there is room", report.before(at, f"waits {c}"), at
     for at in report.where("released"):
@@ -136,6 +137,30 @@ def choice(report):
             yield "later: a batch of none", report.changed(at, 7, 0), at
             yield "later: a batch of nine", report.changed(at, 7, 9), at
             yield "later: of a connection that is not in", report.changed(at, 1, 16384), at
+    yield from closings(report)
+
+
+def closings(report):
+    """Which nodes are closed, and that none of these is chosen."""
+    nodes = {f"n{node}" for node in range(1, int(report.lines[0].split(" ")[3]) + 1)}
+    assigned, closed = list(report.where("assigned")), list(report.where("closed"))
+    for count, at in enumerate(closed, 1):
+        still = nodes - {word(report, one, 1) for one in closed[:count]}
+        behind = [one for one in assigned if one > at]
+        is_first = behind and word(report, behind[0], 3) == "first"
+        yield "closed twice", report.before(at + 1, report.lines[at]), at + 1
+        if len(nodes) < 64:
+            yield "a node that there is not is closed", report.changed(at, 1, f"n{len(nodes) + 1}"), at
+        if is_first:
+            yield "a closed node is chosen", report.changed(behind[0], 5, word(report, at, 1)[1:]), behind[0]
+        if len(still) == 1:
+            last = still.pop()
+            yield "the last open node is closed", report.before(at + 1, f"closed {last}"), at + 1
+            if is_first and len(nodes) == 2:
+                yield "the other node is closed", report.changed(at, 1, last), behind[0]
+    for at in report.where("assigned", "*", "*", "first"):
+        if len(nodes) > 1 and not any(one < at for one in closed):
+            yield "a node is closed before it is chosen", report.before(at - 1, "closed n" + word(report, at, 5)), at + 1
 
 
 def cache(report):
@@ -207,6 +232,8 @@ def others():
         ("an epoch past 16 bits", f"{HEADING}\ntook front 1 65536\n", 2), ("a path without its slash", f"{HEADING}\nhit n1 a\n", 2),
         ("a path that is too long", f"{HEADING}\nhit n1 /{'a' * 1024}\n", 2), ("a word that is none", f"{HEADING}\nserve front 1 1 200 5 own\n", 2),
         ("an event without its number", f"{HEADING}\nevent clock 5\n", 2), ("an event that is none", f"{HEADING}\nevent 1 wait 5\n", 2),
+        ("node 0 is closed", f"{HEADING}\nclosed n0\n", 2), ("a node is closed by its number", f"{HEADING}\nclosed 1\n", 2),
+        ("a drain of no node", f"{HEADING}\nevent 1 drain\n", 2),
         ("a settle of no rounds", f"{HEADING}\nevent 1 settle 0\n", 2), ("a client's timer of another", f"{HEADING}\nevent 1 timer c1 2\n", 2),
         ("a number of the heading past 64 bits", HEADING.replace("age 20000", "age 18446744073709551616") + "\n", 1),
         ("a heading's words in another order", "report 1 low 25 nodes 2" + HEADING[len("report 1 nodes 2 low 25"):] + "\n", 1),
@@ -229,6 +256,24 @@ def others():
         yield what, text + "\n", said
 
 
+FIRST, SECOND = "admitted 1\nassigned 1 1 first /a ", "admitted 2\nassigned 2 1 first /b "
+
+
+def drained():
+    """Nodes that are closed, in small reports of two nodes."""
+    for what, records, line in (
+        ("closed twice", "closed n1\nclosed n1\n", 3), ("closed by two events", "event 1 drain 1\nclosed n1\nevent 2 drain 1\nclosed n1\n", 5),
+        ("a node that there is not is closed", "closed n3\n", 2), ("the last open node is closed", "closed n1\nclosed n2\n", 3),
+        ("a closed node is chosen", f"closed n1\n{FIRST}1 1 -\n", 4), ("a closed node is not told", f"event 1 drain 1\n{FIRST}2 2 -\n", 4),
+        ("another node is told than the event closes", f"event 1 drain 1\nclosed n2\n{FIRST}2 2 -\n", 5),
+        ("a closed node is in its sets", f"{FIRST}1 1 -\nclosed n1\nadmitted 2\nassigned 2 1 first /a 1 - -\n", 6),
+        ("a closed node's set is there for another", f"{FIRST}1 1 -\nclosed n1\nadmitted 2\nassigned 2 1 first /a 2 2 1\n", 6),
+        ("a closed node joins by a later request", f"{FIRST}1 1 -\nclosed n1\nassigned 1 2 later /b 1 1 1 0\n", 5),
+        ("a share goes to a closed node", f"{FIRST}1 1 -\n{SECOND}2 2 -\nclosed n2\nassigned 1 2 later /b 2 - 1 9\n", 7),
+    ):
+        yield f"drain: {what}", f"{HEADING}\n{records}", f"line {line}: breaks choice"
+
+
 def sound():
     """Texts that are sound, though a reader may think otherwise."""
     for what, records in (
@@ -236,6 +281,8 @@ def sound():
         ("an admission at the end", "admitted 1\n"), ("batchover of nobody", "batchover 9\n"), ("a timer of a node that there is not", "armed n60 1 tcp\n"),
         ("the same time again", "clock 5\nclock 5\n"), ("a client's packets need no owner", "sent 1 c1 front 00\n"),
         ("a message needs no owner", "sent 1 n1 n2 00\n"), ("a packet that comes twice", "sent 1 c1 front 00\ngot 1\ngot 1\n"),
+        ("a node is closed without an event", "closed n2\n"), ("drains that close nobody", "event 1 drain 70\nevent 1 drain 1\n"),
+        ("requests stay at a closed node", f"{FIRST}1 1 -\nclosed n1\nassigned 1 2 later /b 1 - 1 0\n{SECOND}2 2 -\n"),
         ("a response that nobody asked for", "served front 1 1 200 5 own\n"), ("marks of a settle anywhere", "settled 4\nunsettled 3 18446744073709551615\n"),
     ):
         yield what, f"{HEADING}\n{records}", f"records {records.count(chr(10))}"
@@ -250,4 +297,5 @@ def sound():
 def cases(all_of_them=False):
     yield from sound()
     yield from others()
+    yield from drained()
     yield from broken(all_of_them)

@@ -34,14 +34,14 @@ RECORDS = {
     "assigned first": "connection:c r:wide which:which path:path node:n add:choice remove:choice",
     "assigned later": "connection:c r:wide which:which path:path node:n add:choice size:wide queue:wide",
     "batchover": "connection:c", "served": "place:place c:c r:wide code:code length:wide via:via", "hit": "n:node path:path",
-    "queued": "n:node m:node c:c r:wide path:path", "read": "n:node m:node c:c r:wide path:path",
+    "queued": "n:node m:node c:c r:wide path:path", "read": "n:node m:node c:c r:wide path:path", "closed": "n:node",
     "armed": "place:place c:c kind_:timer", "cleared": "place:place c:c kind_:timer", "reset": "place:place c:c count:wide",
     "aborted": "c:c", "injected": "c:c", "clock": "time:time", "settled": "rounds_:wide", "unsettled": "rounds_:wide left:left",
 }
 EVENTS = {
     "open": "c:c isn:wide iss:wide wnd:window mss_:mss", "get": "c:c path:path", "write": "c:c bytes:hex", "shut": "c:c",
     "abort": "c:c", "hold": "c:c", "take": "c:c", "deliver": "k:wide", "lose": "k:wide", "timer": "place:place c:c",
-    "disk": "node:wide job:wide", "clock": "time:wide", "settle": "rounds_:rounds", "inject": "c:c bytes:short",
+    "disk": "node:wide job:wide", "drain": "node:wide", "clock": "time:wide", "settle": "rounds_:rounds", "inject": "c:c bytes:short",
 }
 
 
@@ -122,6 +122,11 @@ def heading_of(line):
     return config
 
 
+def number_of(node):
+    """That of n7."""
+    return int(node[1:])
+
+
 class Judge:
     """What the records so far have led to."""
 
@@ -181,7 +186,8 @@ class Judge:
                 return False
             best = self.ledger.later(r.connection, r.path, r.queue)
             return best is not None and (best.node, str(best.add)) == (r.node, r.add)
-        return True
+        nodes = self.ledger.open_nodes()
+        return r.kind != "closed" or number_of(r.n) in nodes and len(nodes) > 1
 
     def cache(self, r):
         if r.kind == "hit":
@@ -227,6 +233,8 @@ class Judge:
             self.ledger.take(SimpleNamespace(kind="released", connection=r.c))
         elif r.kind in ("assigned first", "assigned later", "batchover"):
             self.ledger.take(r)
+        elif r.kind == "closed":
+            self.ledger.close(number_of(r.n))
         elif r.kind == "clock":
             self.now = r.time
             self.ledger.take(r)

@@ -10,6 +10,7 @@ use Rattle.lard_counts.specs.Ledger.{Ledger, ledger_admitted, is_in_ledger, serv
 use Rattle.lard_counts.specs.Stores.{Waiting, cached, jobs}
 use Rattle.lard_history.proofs.Seeing.{same_number}
 use Rattle.lard_journal.specs.declared.rec.Rec.TheVariants as rec
+use Rattle.lard_loads.specs.Tally.{has_other_open, is_open}
 use Rattle.lard_law_audit.specs.Laws.{file_lengths}
 use Rattle.lard_law_audit.proofs.Behind.{MayPair, ReadsBehind, event-last, event_in}
 use Rattle.lard_law_audit.proofs.Files.{cached-same, size-there}
@@ -88,6 +89,7 @@ choice-kept cfg l (rec.AssignedLater c r path n add size queue) homes h =
     ∙ and_from (nat_le 1 size && nat_le size 8) (nat_lt (open_shares l.loads c) 8 && is_later_choice choice n add)
     (and_from (nat_le 1 size) (nat_le size 8) (le-leb 1 size h.3) (le-leb size 8 h.4))
     (and_from (nat_lt (open_shares l.loads c) 8) (is_later_choice choice n add) (lt-ltb (open_shares l.loads c) 8 h.5) (later-same choice n add h.2)))
+choice-kept cfg l (rec.Closed n) homes h = and_from (is_open l.loads n) (has_other_open l.loads n) h.0 h.1
 choice-kept cfg l _ homes h = refl
 
 -- ---- caches and disks

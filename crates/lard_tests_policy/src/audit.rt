@@ -27,6 +27,15 @@ const LINES: &[(&'static str, Option<Rule>)] = &[
     ("hit n1 /a", None),
     ("clock 5", None),
     ("clock 4", Some(Rule::Clock)),
+    ("closed n3", Some(Rule::Choice)),
+    ("closed n1", None),
+    ("closed n1", Some(Rule::Choice)),
+    ("closed n2", Some(Rule::Choice)),
+    ("admitted 2", None),
+    ("closed n2", Some(Rule::Admission)),
+    ("assigned 2 1 first /a 1 - -", Some(Rule::Choice)),
+    ("assigned 2 1 first /a 2 - -", Some(Rule::Choice)),
+    ("assigned 2 1 first /a 2 2 -", None),
 ];
 
 /// The first rule that the record of a line breaks, if it breaks one. A line that is none counts as one without memory.
