@@ -26,7 +26,7 @@ call-kept d (First c target now) s a = first-kept d c target now s (not-in d.boo
 call-kept d (Later ask now) s a = later-kept d ask now s a
 call-kept d (Ended c now) s a = ended-kept d c now s (is-in d.books.loads c a)
 call-kept d (Leave c) s a = leave-kept d c s
-call-kept d (Close n) s a = close-kept d n s a.0 a.1
+call-kept d (Close n) s a = close-kept d n s a
 
 pub calls-kept : (d : Dispatcher) (calls : List Call) → IsDispatcherSound d → AreAllowed d calls → IsDispatcherSound (after_calls d calls)
 calls-kept d [] s a = s

@@ -8,7 +8,7 @@ use Rattle.lard_dispatch.specs.declared.dispatch.Ask.{Ask}
 use Rattle.lard_dispatch.specs.Books.{Dispatcher, dispatch_begun}
 use Rattle.lard_dispatch.specs.Calls.{after_close, after_ended, after_first, after_later, after_leave}
 use Rattle.lard_dispatch.specs.Line.{line_waits}
-use Rattle.lard_dispatch.specs.Sound.{AreApart, IsNode}
+use Rattle.lard_dispatch.specs.Sound.{AreApart}
 
 -- a call of the dispatcher
 pub data Call : Type 0 where
@@ -24,7 +24,7 @@ IsAllowed d (First c target now) = (home d.books.loads c ≡ None) × (line_wait
 IsAllowed d (Later ask now) = home d.books.loads ask.c ≡ Some ask.home
 IsAllowed d (Ended c now) = is_some (home d.books.loads c) ≡ true
 IsAllowed d (Leave c) = Unit {0}
-IsAllowed d (Close n) = IsNode d.config.nodes n × (has_other_open d.books.loads n ≡ true)
+IsAllowed d (Close n) = has_other_open d.books.loads n ≡ true
 
 abbrev pub after_call : Dispatcher → Call → Dispatcher
 after_call d (First c target now) = after_first d c target now

@@ -225,12 +225,10 @@ impl Dispatch {
 
     /// Closes a node to new assignments, and answers whether it was open. Connections stay there. Another node is open.
     pub fn close(&mut self, n: NodeId) -> bool
-        requires node { n ≤ self.old.config.nodes }
         requires other { has_other_open self.old.books.loads n ≡ true }
         ensures value { result ≡ is_open self.old.books.loads n }
         ensures after { self.new ≡ after_close self.old n }
     {
-        let _number = n.number();
         if !self.loads.is_open(n) {
             return false;
         }

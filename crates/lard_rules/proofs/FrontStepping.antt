@@ -101,7 +101,7 @@ drains-stay k s n may sound = record {
     each = λ c. subst (IsPartSound (front_part s c)) (sym (close-stands s.dispatch n c)) (sound.each c);
     tags = sound.tags;
     some = sound.some;
-    books = close-kept s.dispatch n sound.books may.0 may.1;
+    books = close-kept s.dispatch n sound.books may;
   };
   clock = before-close s.dispatch n k.now;
 }

@@ -5,7 +5,7 @@ use Rattle.lard_base.specs.declared.limits.TheConstants.{MAX_STREAM_BYTES}
 use Rattle.lard_dispatch.specs.declared.dispatch.Ask.{Ask}
 use Rattle.lard_dispatch.specs.Books.{Dispatcher}
 use Rattle.lard_dispatch.specs.Line.{line_waits}
-use Rattle.lard_dispatch.specs.Sound.{IsDispatcherSound, IsNode}
+use Rattle.lard_dispatch.specs.Sound.{IsDispatcherSound}
 use Rattle.lard_endpoint.specs.Control.{ControlBlock}
 use Rattle.lard_endpoint.specs.Moving.{may_freeze}
 use Rattle.lard_rules.specs.declared.front.FrontIn.{FrontIn}
@@ -109,9 +109,9 @@ abbrev pub HasTag : Option FrontRest → Type 0
 HasTag None = Unit {0}
 HasTag (Some rest) = 0 < rest.asks → (1 ≤ length rest.tag) × (length rest.tag ≤ 8)
 
--- a node that is to be closed is one of them, and another one is open
+-- where a node is to be closed, another one is open
 abbrev pub MayDrain : FrontState → FrontIn → Type 0
-MayDrain s (input.Drain n) = IsNode s.dispatch.config.nodes n × (has_other_open s.dispatch.books.loads n ≡ true)
+MayDrain s (input.Drain n) = has_other_open s.dispatch.books.loads n ≡ true
 MayDrain s _ = Unit {0}
 
 -- This holds of each connection, an empty list is not kept, and the books add up.
