@@ -201,10 +201,10 @@ pub open-node : (d : Dispatcher) (n : ℕ) → IsDispatcherSound d → is_open d
 open-node d n s h = among d.books.loads.open_nodes s.open_nodes h where
   among : (ns : List ℕ) → AllByRecursion (IsNode d.config.nodes) ns → list_any (nat_eq n) ns ≡ true → IsNode d.config.nodes n
   among [] all h = cc
-  among (m ∷ ms) all h = go (nat_eq n m) refl h where
-    go : (b : Bool) → nat_eq n m ≡ b → (b || list_any (nat_eq n) ms) ≡ true → IsNode d.config.nodes n
-    go true e t = subst (IsNode d.config.nodes) (sym (eqb-true n m e)) all.0
-    go false e t = among ms all.1 t
+  among (m ∷ ms) all h = go (among ms all.1) (nat_eq n m) refl h where
+    go : (list_any (nat_eq n) ms ≡ true → IsNode d.config.nodes n) → (b : Bool) → nat_eq n m ≡ b → (b || list_any (nat_eq n) ms) ≡ true → IsNode d.config.nodes n
+    go more true e t = subst (IsNode d.config.nodes) (sym (eqb-true n m e)) all.0
+    go more false e t = more t
 
 pub close-kept : (d : Dispatcher) (n : ℕ) → IsDispatcherSound d → has_other_open d.books.loads n ≡ true → IsDispatcherSound (after_close d n)
 close-kept d n s other = cond_both (is_open d.books.loads n) _ d IsDispatcherSound (λ t. closing-kept d n s (open-node d n s t) other) (λ _. s)

@@ -46,7 +46,7 @@ ArePaired (Later c) (_ ∷ rs) = ⊥
 -- The first choice is that of LARD with replication, for a connection that has no node, and a later one that of the extended
 -- policy, for one that has: each at the loads and the server sets as they stand just before the record. The batch of a later one has
 -- one to eight requests, and fewer than eight shares of the connection are open. A connection that is released has a node. Shares end
--- only where some are open.
+-- only where some are open. A node is closed only where it is open, and another one is.
 abbrev pub MayAssign : Config → Ledger → Rec → Type 0
 MayAssign cfg l (rec.AssignedFirst c r path n add remove) =
     (home l.loads c ≡ None)
@@ -58,6 +58,7 @@ MayAssign cfg l (rec.AssignedLater c r path n add size queue) =
     × (open_shares l.loads c < 8)
 MayAssign cfg l (rec.Released c) = is_some (home l.loads c) ≡ true
 MayAssign cfg l (rec.BatchOver c) = nat_lt 0 (open_shares l.loads c) ≡ true
+MayAssign cfg l (rec.Closed n) = (tally.is_open l.loads n ≡ true) × (tally.has_other_open l.loads n ≡ true)
 MayAssign cfg l _ = Unit {0}
 
 -- ---- what stands directly before

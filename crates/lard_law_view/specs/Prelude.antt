@@ -100,11 +100,11 @@ pub use Rattle.lard_handoff_back.specs.declared.row.BackConn.{BackConn}
 pub use Rattle.lard_handoff_back.specs.declared.row.BackRow.{BackRow}
 pub use Rattle.lard_handoff_back.specs.declared.table.Adopt.{Adopt}
 pub use Rattle.lard_loads.specs.Charges.{BatchOver, Charge, Connect, IsConnection, LoadCall, MayCallAll, Release, charges_from, is_charge_of, is_home, is_share_of, tally_after, tally_after_all, units_at}
-pub use Rattle.lard_loads.specs.Tally.{Standing, Tally, admitted, batch_ended, batch_ended_with, connected, connections, home, home_of, load, numbers, open_shares, released, shared, shares_of, sharing, tally_start, units_of, units_of_share}
+pub use Rattle.lard_loads.specs.Tally.{Standing, Tally, admitted, batch_ended, batch_ended_with, connected, connections, has_other_open, home, home_of, is_open, load, numbers, open_shares, released, shared, shares_of, sharing, tally_closed, tally_start, units_of, units_of_share}
 unfoldable pub use Rattle.lard_loads.specs.Tally.{most_connections}
 pub use Rattle.lard_sets.specs.Laws.{NameNodes, RemoveKept, SetCall, changed, changed_after, serves_after, serves_after_all, sets_after_call, sets_after_calls}
 pub use Rattle.lard_sets.specs.Laws.SetCall.{Add, Close, Remove, Touch}
-pub use Rattle.lard_sets.specs.Sets.{added, has_place, place, put, removed, set_of, touched}
+pub use Rattle.lard_sets.specs.Sets.{added, has_place, place, put, removed, set_of, sets_closed, touched}
 pub use Rattle.lard_sets.specs.declared.sets.ServerSet.{ServerSet}
 pub use Rattle.lard_policy.specs.First.{least_node}
 unfoldable pub use Rattle.lard_policy.specs.First.{first_choice}
@@ -115,7 +115,7 @@ unfoldable pub use Rattle.lard_costs.specs.Later.{later_choice, members_of}
 pub use Rattle.lard_costs.specs.declared.cost.Cost.{Cost}
 pub use Rattle.lard_costs.specs.declared.later.LaterChoice.{LaterChoice}
 pub use Rattle.lard_dispatch.specs.Books.{Books, Dispatcher, dispatch_begun}
-pub use Rattle.lard_dispatch.specs.Calls.{admitted_with, after_first, all_choices, all_shared, batch_over, choice_at, ended_answer, first_answer, is_full, joined, later_answer, later_choice_at, next_admission, next_admitted, reduced, released_from, shared_with}
+pub use Rattle.lard_dispatch.specs.Calls.{admitted_with, after_close, after_first, all_choices, all_shared, batch_over, choice_at, ended_answer, first_answer, is_full, joined, later_answer, later_choice_at, next_admission, next_admitted, reduced, released_from, shared_with}
 pub use Rattle.lard_dispatch.specs.Laws.{AreAllowed, Call, after_call, after_calls}
 pub use Rattle.lard_dispatch.specs.Line.{is_of, line_waits, line_without}
 pub use Rattle.lard_dispatch.specs.Loads.{ClosesNone, IsCallInRange, MayBeMade, connections_at, is_home_of_node, loads_after}
@@ -137,14 +137,14 @@ pub use Rattle.lard_history.specs.Steps.{AtEachEnd, EachStep, HoldsBefore, is_op
 pub use Rattle.lard_rules.specs.Bounds.{HasRule, HasTimer, IsConnNumber}
 pub use Rattle.lard_rules.specs.Client.{ClientFires, ClientGets, ClientReceives, ToAbort, ToGet, ToHold, ToShut, ToTake, ToWrite, accepted_note, client_aborts, client_gets, client_holds, client_injects, client_opens, client_rule, client_shuts, client_takes, client_timer, client_writes, eof_note, silent, speaking, station_ready_of}
 pub use Rattle.lard_rules.specs.Front.{AskedBy, Did, EndedBy, FrontAdmits, FrontDeed, FrontEnv, FrontFires, FrontGets, FrontHears, FrontPart, TakenBy, ack_sent, admitted_by, ask_of, asked_by, assigned_notes, assigns, fires_at, forwarded, front_admitted, front_armed, front_asked, front_begun, front_ended, front_ended_by, front_ends, front_fired, front_fired_by, front_gets, front_hears, front_rest, front_rests, front_rule, front_saying, front_taken, front_timer, handed_off, heard, hears_at, holds, is_row_at, is_with, leaves_by, met, offer_kept, offering, over_note, placed, rest_after, row_armed, settled_by, stage_after, stage_armed, tag_sent, taken_by, turn_here, waits_on}
-pub use Rattle.lard_rules.specs.FrontPlace.{FrontSetting, admits, admits_too, ended_deed, front_deed, front_did, front_env, front_joined, front_out_of, front_part, front_put, front_step, front_timers, front_told, in_order, message_comes, put_back}
+pub use Rattle.lard_rules.specs.FrontPlace.{FrontSetting, admits, admits_too, closed_note, ended_deed, front_deed, front_did, front_drains, front_env, front_joined, front_out_of, front_part, front_put, front_step, front_timers, front_told, in_order, message_comes, put_back}
 pub use Rattle.lard_rules.specs.FrontReading.{MayMove, Reading, block_at, front_reads, reading_left, reading_turn, reads_block, reads_found, targeted, with_service}
-pub use Rattle.lard_rules.specs.FrontSound.{DispatchStanding, HasTarget, IsEarlyAway, IsEarlyHere, IsEarlyOver, IsFrontSound, IsPartSound, IsRowSound, IsStageSound, Serves, Waits, dispatch_standing, nowhere}
+pub use Rattle.lard_rules.specs.FrontSound.{DispatchStanding, HasTarget, IsEarlyAway, IsEarlyHere, IsEarlyOver, IsFrontSound, IsPartSound, IsRowSound, IsStageSound, MayDrain, Serves, Waits, dispatch_standing, nowhere}
 pub use Rattle.lard_rules.specs.Limits.{limit_of}
 pub use Rattle.lard_rules.specs.Loop.{Done, More, Step, state_of}
 unfoldable pub use Rattle.lard_rules.specs.Loop.{runs_on}
 pub use Rattle.lard_rules.specs.Machine.{IsReached, Passes, Steps, client_acted, client_goes_on, client_put, disk_at, from_place, front_acts, front_gave, front_setting, happens, is_no_job, is_no_node, limit_reached, machine_start, machine_to_client, machine_to_front, node_acts, node_at, node_gave, node_setting, passed, segments_sent, timer_at, to_place, told_rows, unless_limit}
-unfoldable pub use Rattle.lard_rules.specs.Machine.{client_acts, clocked, completes, delivered, lost, machine_opened, machine_step, machine_told, machine_wrote, timer}
+unfoldable pub use Rattle.lard_rules.specs.Machine.{client_acts, clocked, completes, delivered, drained, lost, machine_opened, machine_step, machine_told, machine_wrote, timer}
 pub use Rattle.lard_rules.specs.Node.{Acknowledged, Completed, Content, Fires, Forwarded, NodeDeed, NodeGets, NodePart, Offered, Tagged, again_sent, all_sent, anew, ask_kept, asked_kept, asked_sent, both_of, come_by, ended_kept, ended_sent, fetch_of, gave_by, gone, here, holds_kind, is_tag_awaited, is_unsaid, kept_after, node_acknowledged, node_armed, node_begins, node_content, node_fired, node_fired_by, node_forwarded, node_heard_by, node_offered, node_read, node_read_by, node_rests, node_rule, node_saying, node_tagged, node_timer, offered_by, reset_count, stay_after, tagged_by, taken_sent, turn_by, wants_kept, wants_sent, with_work, work_of}
 pub use Rattle.lard_rules.specs.NodePlace.{NodeSetting, aside, completed, content_bytes, content_sent, disk_step, fetched, fetched_file, hit_step, hits, no_stays, node_brought, node_deed, node_env, node_epoch_at, node_gets, node_hears, node_out, node_part, node_put, node_step, node_timers, stores_told, with_first}
 pub use Rattle.lard_rules.specs.Outs.{kind_change, nothing_done, out_of, timer_change, timer_kinds}
