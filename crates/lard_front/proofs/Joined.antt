@@ -6,7 +6,7 @@ use Rattle.lard_rules.specs.declared.front.FrontState.{FrontState}
 use Rattle.lard_rules.specs.declared.front.FrontTurn.{FrontTurn}
 use Rattle.lard_rules.specs.Front.{FrontDeed, Drops, Says, Does, Did, FrontPart, front_admitted, front_ended}
 use Rattle.lard_rules.specs.FrontPlace.{FrontSetting, admits, admits_too, ended_deed, front_deed, front_env, front_part, front_put, front_step, in_order, front_joined, front_out_of, put_back, front_timers}
-use Rattle.lard_rules.specs.FrontSound.{IsFrontSound, Waits, dispatch_standing}
+use Rattle.lard_rules.specs.FrontSound.{IsFrontSound, MayDrain, Waits, dispatch_standing}
 use Rattle.lard_rules.proofs.FrontEnded.{Comes, end-comes, next-waits}
 use Rattle.lard_rules.proofs.FrontKeeping.{put-some}
 use Rattle.lard_rules.proofs.FrontParts.{part_put}
@@ -90,11 +90,13 @@ module _ (k : FrontSetting) (s : FrontState) (c : ℕ) where
 
 -- ---- a step
 
-pub step_sound : {E : Type 0} (k : FrontSetting) (s n : FrontState) (in_ : FrontIn) (r : Result Out E) → IsFrontSound s → IfOk r (λ out. (n, out) ≡ front_step k s in_) → OnOk r (IsFrontSound n)
-step_sound k s n in_ (Ok out) sound is = subst IsFrontSound (sym (ap (λ (x : FrontState × Out). x.0) is)) (step-stays k s in_ sound).sound
-step_sound k s n in_ (Err e) sound is = tt
+pub step_sound : {E : Type 0} (k : FrontSetting) (s n : FrontState) (in_ : FrontIn) (r : Result Out E) → MayDrain s in_ → IsFrontSound s
+    → IfOk r (λ out. (n, out) ≡ front_step k s in_) → OnOk r (IsFrontSound n)
+step_sound k s n in_ (Ok out) may sound is = subst IsFrontSound (sym (ap (λ (x : FrontState × Out). x.0) is)) (step-stays k s in_ may sound).sound
+step_sound k s n in_ (Err e) may sound is = tt
 
-pub step_before : {E : Type 0} (k : FrontSetting) (s n : FrontState) (in_ : FrontIn) (r : Result Out E) → IsFrontSound s → AreBefore k.now.0 s.dispatch.books.sets
+pub step_before : {E : Type 0} (k : FrontSetting) (s n : FrontState) (in_ : FrontIn) (r : Result Out E) → MayDrain s in_ → IsFrontSound s → AreBefore k.now.0 s.dispatch.books.sets
     → IfOk r (λ out. (n, out) ≡ front_step k s in_) → OnOk r (AreBefore k.now.0 n.dispatch.books.sets)
-step_before k s n in_ (Ok out) sound clock is = subst (λ (u : FrontState). AreBefore k.now.0 u.dispatch.books.sets) (sym (ap (λ (x : FrontState × Out). x.0) is)) ((step-stays k s in_ sound).clock clock)
-step_before k s n in_ (Err e) sound clock is = tt
+step_before k s n in_ (Ok out) may sound clock is =
+    subst (λ (u : FrontState). AreBefore k.now.0 u.dispatch.books.sets) (sym (ap (λ (x : FrontState × Out). x.0) is)) ((step-stays k s in_ may sound).clock clock)
+step_before k s n in_ (Err e) may sound clock is = tt

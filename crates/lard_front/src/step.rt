@@ -4,10 +4,11 @@ ghost use Rattle.std.specs.Prelude.{◌≡◌, ◌≤◌, IfOk, OnOk};
 ghost use Rattle.lard_base.specs.declared.limits.TheConstants.{MAX_STREAM_BYTES};
 ghost use Rattle.lard_dispatch.specs.Sound.{AreBefore};
 ghost use Rattle.lard_rules.specs.FrontPlace.{front_step};
-ghost use Rattle.lard_rules.specs.FrontSound.{IsFrontSound};
+ghost use Rattle.lard_rules.specs.FrontSound.{IsFrontSound, MayDrain};
 ghost use Rattle.lard_front.specs.Bounds.{IsFrontOut, IsShort};
 ghost use Rattle.lard_front.specs.Place.{front_setting_seen};
 
+use crate::closing::drain;
 use crate::receiving::{receive, time_out};
 use crate::told::message_comes;
 use crate::turns::Around;
@@ -28,7 +29,8 @@ pub struct Setting<'a> {
 }
 
 /// Does the rule of what comes, on a state of `begin` or of steps that were done. No server set was changed after this
-/// time; a segment has at most 1,520 bytes. Without memory the state is of no use any more but to be spent.
+/// time; a segment has at most 1,520 bytes; a node is closed while another one is open. Without memory the state is of no
+/// use any more but to be spent.
 pub fn step(
     state: &mut FrontState,
     alloc: Global,
@@ -39,6 +41,7 @@ pub fn step(
     requires clock { AreBefore setting.now.now.0 state.old.dispatch.books.sets }
     requires stream { setting.now.stream ≤ MAX_STREAM_BYTES }
     requires short { IsShort input }
+    requires drains { MayDrain state.old input }
     ensures ok { IfOk result (λ out. (state.new, out) ≡ front_step (front_setting_seen setting.entry.now) state.old input) }
     ensures sound { OnOk result (IsFrontSound state.new) }
     ensures clock { OnOk result (AreBefore setting.entry.now.now.0 state.new.dispatch.books.sets) }
@@ -58,6 +61,7 @@ fn act(
     requires clock { AreBefore setting.now.now.0 state.old.dispatch.books.sets }
     requires stream { setting.now.stream ≤ MAX_STREAM_BYTES }
     requires short { IsShort input }
+    requires drains { MayDrain state.old input }
     ensures out { IfOk result (λ out. (state.new, out) ≡ front_step (front_setting_seen setting.entry.now) state.old input) }
     ensures fits { IfOk result IsFrontOut }
 {
@@ -91,5 +95,6 @@ fn act(
             };
             return time_out(state, alloc, &around);
         }
+        FrontIn::Drain(n) => return drain(state, alloc, n),
     }
 }
