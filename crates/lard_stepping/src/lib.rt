@@ -6,6 +6,7 @@
 
 mod acting;
 mod disks;
+mod nodes;
 mod packets;
 mod places;
 pub mod settling;

@@ -5,7 +5,7 @@ ghost use Rattle.lard_rules.specs.Bounds.{HasRule};
 ghost use Rattle.lard_rules.specs.Machine.{Steps, happens, limit_reached, machine_step};
 ghost use Rattle.lard_stepping.specs.Sound.{HasRoom, IsSet, IsMachineSound};
 
-use crate::{disks, packets, stations};
+use crate::{disks, nodes, packets, stations};
 use lard_base::Event;
 use lard_rules::{Machine, StepFault, What, first_limit};
 use std::alloc::Global;
@@ -66,6 +66,7 @@ fn happen(machine: &mut Machine, alloc: Global, event: Event) -> Result<(), Step
         Event::Lose(k) => return packets::lose(machine, alloc, k),
         Event::Timer { place, c } => return packets::fire(machine, alloc, place, c),
         Event::Disk { n, j } => return disks::complete(machine, alloc, n, j),
+        Event::Drain(n) => return nodes::drain(machine, alloc, n),
         Event::Clock(ms) => return disks::tick(machine, alloc, ms),
         Event::Settle(_) => unreachable!(),
     }
