@@ -9,8 +9,9 @@ use Rattle.lard_base.specs.declared.event.Event.TheVariants as event
 use Rattle.lard_base.specs.declared.place.Place.{Place}
 use Rattle.lard_base.specs.declared.place.Place.TheVariants as place
 use Rattle.lard_client.specs.Control.{ClientBlock, is_client_armed, written_len}
+use Rattle.lard_dispatch.specs.Tally.{has_other_open}
 use Rattle.lard_rules.specs.Bounds.{HasRule}
-use Rattle.lard_rules.specs.Machine.{Steps, client_acted, client_acts, client_goes_on, client_put, clocked, completes, delivered, disk_at, from_place, front_acts, front_gave, front_setting, happens, is_no_job, is_no_node, limit_reached, lost, machine_step, node_acts, node_at, node_gave, node_setting, machine_opened, timer, passed, machine_to_client, machine_to_front, to_place, machine_told, told_rows, unless_limit, machine_wrote}
+use Rattle.lard_rules.specs.Machine.{Steps, client_acted, client_acts, client_goes_on, client_put, clocked, completes, delivered, disk_at, drained, from_place, front_acts, front_gave, front_setting, happens, is_no_job, is_no_node, limit_reached, lost, machine_step, node_acts, node_at, node_gave, node_setting, machine_opened, timer, passed, machine_to_client, machine_to_front, to_place, machine_told, told_rows, unless_limit, machine_wrote}
 use Rattle.lard_rules.specs.declared.fault.StepFault.{StepFault}
 use Rattle.lard_rules.specs.declared.fault.StepFault.TheVariants.{Refused, Limit, NoMemory}
 use Rattle.lard_rules.specs.declared.machine.Machine.{Machine}
@@ -167,6 +168,11 @@ module _ (m : Machine) where
   unfolding completes
   completes-goes n j = either (is_no_node m.config.nodes n) _ _ tt (disk-goes n j (node_at m.nodes n))
 
+  drains-goes : (n : ℕ) → Goes m (drained m n)
+  unfolding drained
+  drains-goes n =
+      either (is_no_node m.config.nodes n) _ _ tt (either (has_other_open m.front.dispatch.books.loads n) _ _ (front-goes (event.Drain n) [] (input.Drain n)) tt)
+
   clocked-goes : (ms : ℕ) → GoesOn m (clocked m ms)
   unfolding clocked
   clocked-goes ms = passed-goes (record m { now = m.now + ms }) (event.Clock ms) (rec.Clock (record { 0 = m.now + ms }) ∷ []) refl refl refl
@@ -184,6 +190,7 @@ module _ (m : Machine) where
   happens-goes (event.Lose k) = lost-goes k (packet_at m.net k)
   happens-goes (event.Timer p c) = timer-goes p c (table.get m.clients c)
   happens-goes (event.Disk n j) = completes-goes n j
+  happens-goes (event.Drain n) = drains-goes n
   happens-goes (event.Clock ms) = clocked-goes ms
   happens-goes (event.Settle rounds) = record { config = refl; files = refl; more = []; journal = sym (append-nil m.journal); begins = tt }
 
