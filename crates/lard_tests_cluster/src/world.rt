@@ -23,6 +23,7 @@ enum Step {
     /// The timers of this node fire.
     NodeTimer(u32),
     Disk { n: u32, j: u32 },
+    Drain(u32),
     Clock(u32),
 }
 
@@ -99,6 +100,14 @@ event 2 clock 0
 clock 20001
 ";
 
+/// A node is closed, and is closed again.
+const CLOSED: [Step; 2] = [Step::Drain(1), Step::Drain(1)];
+
+const CLOSED_REPORT: &[u8] = b"event 1 drain 1
+closed n1
+event 2 drain 1
+";
+
 /// The event of a step.
 fn event(alloc: Global, c: ConnId, step: Step) -> Result<Event, NoMemory>
     ensures { IfOk result HasRule }
@@ -130,6 +139,7 @@ fn event(alloc: Global, c: ConnId, step: Step) -> Result<Event, NoMemory>
             return Ok(Event::Timer { place, c });
         }
         Step::Disk { n, j } => return Ok(Event::Disk { n, j }),
+        Step::Drain(n) => return Ok(Event::Drain(n)),
         Step::Clock(ms) => return Ok(Event::Clock(ms)),
     }
 }
@@ -213,6 +223,7 @@ fn reports(rt: &impl Abort, alloc: Global, steps: &[Step], want: &[u8]) -> Resul
 fn runs_have_their_reports(rt: HostRuntime) -> Result<(), Fail> {
     reports(&rt, rt.alloc(), &SERVED, SERVED_REPORT)?;
     reports(&rt, rt.alloc(), &CLOCKED, CLOCKED_REPORT)?;
+    reports(&rt, rt.alloc(), &CLOSED, CLOSED_REPORT)?;
     Ok(())
 }
 
@@ -239,6 +250,13 @@ const REFUSED: &[(&[Step], Refusal)] = &[
     (
         &[Step::Disk { n: 2, j: 0 }],
         Refusal::NoJob { n: 2, j: 0, len: 0 },
+    ),
+    (&[Step::Drain(0)], Refusal::NoNode { n: 0, nodes: 2 }),
+    (&[Step::Drain(3)], Refusal::NoNode { n: 3, nodes: 2 }),
+    (&[Step::Drain(1), Step::Drain(2)], Refusal::LastNode(2)),
+    (
+        &[Step::Drain(1), Step::Drain(3)],
+        Refusal::NoNode { n: 3, nodes: 2 },
     ),
 ];
 

@@ -1,10 +1,10 @@
-//! Two connections through every rule of a front end with room for one, with ample memory.
+//! Two connections through every rule of a front end with room for one, with ample memory, and a node that is closed.
 
-ghost use Rattle.std.specs.Prelude.{◌≡◌, ◌≤◌, IfOk, Ok, OnOk};
+ghost use Rattle.std.specs.Prelude.{◌≡◌, ◌≤◌, length, IfOk, Ok, OnOk};
 ghost use Rattle.lard_base.specs.Config.{config_check};
-ghost use Rattle.lard_base.specs.declared.limits.TheConstants.{MAX_STREAM_BYTES};
+ghost use Rattle.lard_base.specs.declared.limits.TheConstants.{MAX_SEGMENT_BYTES, MAX_STREAM_BYTES};
 ghost use Rattle.lard_dispatch.specs.Sound.{AreBefore};
-ghost use Rattle.lard_rules.specs.FrontSound.{IsFrontSound};
+ghost use Rattle.lard_rules.specs.FrontSound.{IsFrontSound, MayDrain};
 ghost use Rattle.lard_front.specs.Bounds.{IsShort};
 
 use lard_base::limits::MAX_SEGMENT_BYTES;
@@ -16,12 +16,13 @@ use lard_rules::{FrontIn, FrontState, Out};
 use lard_seq::Seq;
 use std::alloc::Global;
 
-/// What comes: a segment or the timer of the first or the second client, or a message of the node.
+/// What comes: a segment or the timer of the first or the second client, a message of the node, or that the node is closed.
 #[derive(Clone, Copy)]
 enum Input {
     Segment(Client, &'static [u8]),
     Message(&'static [u8]),
     Timer(Client),
+    Drain,
 }
 
 #[derive(Clone, Copy)]
@@ -84,6 +85,16 @@ const INPUTS: &[(Input, Told)] = &[
     (Input::Segment(Client::First, SYN_1), (0, 1, 0, 0, 0)),
 ];
 
+/// A node is closed once; a connection that comes then goes to the other one.
+const DRAINED: &[(Input, Told)] = &[
+    (Input::Drain, (1, 0, 0, 0, 0)),
+    (Input::Drain, (0, 0, 0, 0, 0)),
+    (Input::Segment(Client::First, SYN_1), (1, 1, 0, 0, 1)),
+    (Input::Segment(Client::First, GET_1), (2, 0, 1, 1, 2)),
+    (Input::Message(TAKEN), (0, 0, 0, 0, 1)),
+    (Input::Message(ASK), (0, 0, 0, 0, 0)),
+];
+
 fn number_of(others: &Others, client: Client) -> ConnId {
     match client {
         Client::First => others.first,
@@ -91,29 +102,43 @@ fn number_of(others: &Others, client: Client) -> ConnId {
     }
 }
 
-/// A segment of a client, where it fits a packet.
-fn make_segment(alloc: Global, c: ConnId, bytes: &[u8]) -> Result<FrontIn, NoMemory>
-    ensures { IfOk result IsShort }
+/// The bytes of a segment, where they fit a packet.
+fn make_bytes(alloc: Global, bytes: &[u8]) -> Result<Bytes, NoMemory>
+    ensures { IfOk result (λ copy. length copy ≤ MAX_SEGMENT_BYTES) }
 {
     if bytes.len() > MAX_SEGMENT_BYTES {
         return Err(NoMemory);
     }
-    let (iss, bytes) = (Seq(5000), Bytes::from_slice(alloc, bytes)?);
-    Ok(FrontIn::Segment { c, iss, bytes })
+    Ok(Bytes::from_slice(alloc, bytes)?)
 }
 
-fn make_input(alloc: Global, others: &Others, input: Input) -> Result<FrontIn, NoMemory>
-    ensures { IfOk result IsShort }
+/// What comes to the front end, where it may: the node is closed while another one is open.
+fn make_input(
+    state: &FrontState,
+    alloc: Global,
+    others: &Others,
+    input: Input,
+) -> Result<FrontIn, NoMemory>
+    ensures short { IfOk result IsShort }
+    ensures drains { IfOk result (MayDrain state.now) }
 {
     match input {
         Input::Segment(client, bytes) => {
-            return make_segment(alloc, number_of(others, client), bytes);
+            let c = number_of(others, client);
+            let (iss, bytes) = (Seq(5000), make_bytes(alloc, bytes)?);
+            return Ok(FrontIn::Segment { c, iss, bytes });
         }
         Input::Message(bytes) => {
             let (from, bytes) = (others.node, Bytes::from_slice(alloc, bytes)?);
             return Ok(FrontIn::Message { from, bytes });
         }
         Input::Timer(client) => return Ok(FrontIn::Timer(number_of(others, client))),
+        Input::Drain => {
+            if !state.dispatch.loads().has_other_open(others.node) {
+                return Err(NoMemory);
+            }
+            return Ok(FrontIn::Drain(others.node));
+        }
     }
 }
 
@@ -141,7 +166,7 @@ fn does(
     ensures sound { OnOk result (IsFrontSound state.new) }
     ensures clock { OnOk result (AreBefore setting.entry.now.now.0 state.new.dispatch.books.sets) }
 {
-    let input = make_input(alloc, others, input)?;
+    let input = make_input(state, alloc, others, input)?;
     let out = step(state, alloc, setting, input)?;
     Ok(told(&out))
 }
@@ -152,12 +177,13 @@ fn first_wrong(
     alloc: Global,
     setting: &Setting<'_>,
     others: &Others,
+    inputs: &[(Input, Told)],
 ) -> Result<Option<usize>, NoMemory>
     requires sound { IsFrontSound state.old }
     requires clock { AreBefore setting.now.now.0 state.old.dispatch.books.sets }
     requires stream { setting.now.stream ≤ MAX_STREAM_BYTES }
 {
-    'inputs: for (at, (input, wanted)) in INPUTS.iter().enumerate() {
+    'inputs: for (at, (input, wanted)) in inputs.iter().enumerate() {
         if does(state, alloc, setting, others, *input)? != *wanted {
             return Ok(Some(at));
         }
@@ -165,12 +191,12 @@ fn first_wrong(
     Ok(None)
 }
 
-/// Room for one connection, at one node.
-fn config() -> Result<Config, NoMemory>
+/// So many nodes; where there is one, there is room for one connection.
+fn config(nodes: u8) -> Result<Config, NoMemory>
     ensures { IfOk result (λ config. config_check config ≡ Ok tt) }
 {
     let config = Config {
-        nodes: 1,
+        nodes,
         low: 2,
         ..Config::standard()
     };
@@ -189,16 +215,21 @@ fn files(alloc: Global) -> Result<Files, NoMemory> {
     Ok(files)
 }
 
-/// The place of the first input that comes to something else.
-fn run(alloc: Global, others: &Others) -> Result<Option<usize>, NoMemory> {
+/// The place of the first of these inputs to a front end of so many nodes that comes to something else.
+fn run(
+    alloc: Global,
+    others: &Others,
+    nodes: u8,
+    inputs: &[(Input, Told)],
+) -> Result<Option<usize>, NoMemory> {
     let files = files(alloc)?;
     let setting = Setting {
         files: &files,
         stream: 1 << 20,
         now: Millis(0),
     };
-    let mut state = begin(alloc, config()?)?;
-    let wrong = first_wrong(&mut state, alloc, &setting, others);
+    let mut state = begin(alloc, config(nodes)?)?;
+    let wrong = first_wrong(&mut state, alloc, &setting, others, inputs);
     finish(state);
     wrong
 }
@@ -214,5 +245,11 @@ fn make_others() -> Option<Others> {
 #[test]
 fn two_connections(rt: HostRuntime) {
     let others = make_others().expect(&rt, "numbers in range");
-    assert_eq!(rt; run(rt.alloc(), &others), Ok(None));
+    assert_eq!(rt; run(rt.alloc(), &others, 1, INPUTS), Ok(None));
+}
+
+#[test]
+fn a_node_is_closed(rt: HostRuntime) {
+    let others = make_others().expect(&rt, "numbers in range");
+    assert_eq!(rt; run(rt.alloc(), &others, 2, DRAINED), Ok(None));
 }
