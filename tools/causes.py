@@ -14,7 +14,7 @@ from grammar import FORMS, KEYS, MOST_ALL_FILES, MOST_FILE, MOST_FILES, STANDARD
 KNOWN = {
     "drop": "lose", "close": "shut", "fin": "shut", "reset": "abort", "rst": "abort", "connect": "open", "syn": "open",
     "request": "get", "send": "write", "read": "take", "recv": "take", "wait": "clock", "sleep": "clock", "run": "settle",
-    "arrive": "deliver", "node": "nodes",
+    "arrive": "deliver", "node": "nodes", "down": "drain", "quiesce": "drain",
 }
 
 
@@ -221,8 +221,8 @@ def of_client(words, before):
 
 
 def of_node(words, before):
-    """A node that is not there, and a job that is not."""
-    node = words[1] if words[0] == "disk" else words[1][1:] if words[0] == "timer" and words[1][0] == "n" else None
+    """A node that is not there, the last one that is open, and a job that is not there."""
+    node = words[1] if words[0] in ("disk", "drain") else words[1][1:] if words[0] == "timer" and words[1][0] == "n" else None
     if node is None:
         return None
     nodes, why = setting("nodes", before)
@@ -230,7 +230,21 @@ def of_node(words, before):
         return f"there {'is 1 node' if nodes == 1 else f'are {nodes} nodes'} {why}, numbered from 1"
     if words[0] == "disk":
         return "J is a job's place in the queue as it is now, from 1; `tools/explain --flight` tells which wait"
-    return None
+    return of_last(node, nodes, before) if words[0] == "drain" else None
+
+
+def of_last(node, nodes, before):
+    """A node beside which no other one is open is not closed."""
+    closed = {}  # each other node, with the line that closes it
+    for at, words in enumerate(before, 1):
+        if words[0] == "drain" and words[1] != node:
+            closed.setdefault(words[1], str(at))
+    if len(closed) < nodes - 1:
+        return None
+    if nodes == 1:
+        return "it is the only node, and one node stays open"
+    lines = ", ".join(closed.values())
+    return f"{f'line {lines} closes the other' if nodes == 2 else f'lines {lines} close all others'}, and one node stays open"
 
 
 def of_packet(words, before):

@@ -159,7 +159,7 @@ class Teller:
 
     def event_row(self, event):
         """What an event asks of a place; None where a record of its step says it."""
-        if event.form in ("clock", "settle"):
+        if event.form in ("drain", "clock", "settle"):
             return Row(kind="text", text=event.text, whole=event.text, connection=None)
         if event.form in ("deliver", "lose", "disk") or event.connection not in self.connections:
             return None
@@ -205,6 +205,8 @@ class Teller:
             return place, f"answer {record.request}: {record.code}" + ("" if record.via == "own" else f", {record.via}")
         if kind == "hit":
             return place, f"has {record.path}"
+        if kind == "closed":
+            return "front", f"closes {place}"
         if kind in ("queued", "read"):
             return place, f"{'queues' if kind == 'queued' else 'reads'} {record.path}"
         if kind == "reset":

@@ -34,6 +34,7 @@ OPTIONS = {
     "--shut": Percent(50, "of the others close their side behind their last request"),
     "--hold": Percent(10, "of the clients leave for a while in their window what they accept"),
     "--slow-disk": Percent(20, "of the disks' jobs take 40 to 119 steps more, and others are completed before"),
+    "--drain": Percent(0, "of the nodes are closed, at any time while clients open, but one stays open"),
     "--small-window": Percent(20, "of the clients have a window of 1 to 200 bytes; the others have one of 65,535"),
     "--low": Number(2, 1, 1000, "the key `low` of the schedule"),
     "--high": Number(3, 1, 1000, "the key `high`"),
@@ -115,12 +116,22 @@ class Drawing:
             if when <= last or line.startswith("take"):
                 self.later(when, lambda line=line: line)
 
+    def plan_drains(self):
+        """Draws which nodes are closed, and when; nothing at 0 percent, so that the option changes no schedule without it."""
+        chance, options = self.chance, self.options
+        if not options["--drain"]:
+            return
+        closed = [node for node in range(1, options["--nodes"] + 1) if chance.hits(options["--drain"])]
+        for node in closed[:options["--nodes"] - 1]:
+            self.later(chance.below(8 * options["--clients"]), lambda node=node: f"drain {node}")
+
     # ---- the events
 
     def draw(self):
         self.held.begin(self.head())
         for client in range(1, self.options["--clients"] + 1):
             self.plan_client(client)
+        self.plan_drains()
         for _ in range(self.options["--steps"]):
             line = self.next_line()
             if line is None:

@@ -203,6 +203,7 @@ FORMS = {form.word: form for form in [
     Form("take", "events", {"C": CLIENT}),
     Form("timer", "events", {"P": Place(), "C": CLIENT}),
     Form("disk", "events", {"N": WORD, "J": WORD}),
+    Form("drain", "events", {"N": WORD}),
     Form("clock", "events", {"MS": WORD}),
     Form("settle", "events", {"R": Number(1, 2**32 - 1)}),
     Form("inject", "events", {"C": CLIENT, "HEX": Bytes(1520, False)}),

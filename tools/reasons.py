@@ -15,6 +15,8 @@ def why(ledger, record):
         text = OTHERWISE
     else:
         text = later_choice(ledger, choice, record) if later else first_choice(ledger, choice, record.path)
+        if later and choice.node == choice.home and choice.node in ledger.closed:
+            text += "; it is closed, so it does not join those that serve this path"
     if record.add != "-":
         text += f"; node {record.add} serves it from now on"
     if not later and record.remove != "-":
@@ -30,10 +32,10 @@ def listed(nodes):
 
 
 def first_choice(ledger, choice, path):
-    """LARD with replication."""
-    load = connections(choice.load)
+    """LARD with replication. Where a node is closed it is said that the choice is among the open ones."""
+    load, opened = connections(choice.load), "open " if ledger.closed else ""
     if choice.reason == "nobody":
-        return f"nobody serves this path, and node {choice.node} has the least load, {load}"
+        return f"nobody serves this path, and node {choice.node} has the least load{' of the open nodes' if opened else ''}, {load}"
     members, config = ledger.members(path), ledger.config
     if len(members) == 1:
         text = f"node {choice.among} alone serves this path"
@@ -45,8 +47,10 @@ def first_choice(ledger, choice, path):
     if choice.reason == "twice high":
         text += f", twice `high` ({config['high']:,}) or more"
     else:
-        text += f", above `high` ({config['high']:,}) while some node has less than `low` ({config['low']:,})"
-    return text + ("; no node has less" if choice.node == choice.among else f"; node {choice.node} has the least load of all, {load}")
+        text += f", above `high` ({config['high']:,}) while some {opened}node has less than `low` ({config['low']:,})"
+    if choice.node == choice.among:
+        return f"{text}; no {opened}node has less"
+    return f"{text}; node {choice.node} has the least load of {'the open nodes' if opened else 'all'}, {load}"
 
 
 def later_choice(ledger, choice, record):

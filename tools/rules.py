@@ -6,6 +6,8 @@ the figures that it rests on. Loads and costs are whole numbers, in 840ths of a 
 
 from types import SimpleNamespace
 
+from report import number_of
+
 WHOLE = 840          # the load of a connection, so that a share of a batch of 1 to 8 is a whole number
 SHORT_QUEUE = 5      # with fewer jobs at its disk than that, a node keeps the requests of its connections
 OVER = float("inf")  # the cost of a node whose load is above `over`
@@ -24,11 +26,12 @@ def connections(units):
 
 
 class Ledger:
-    """Loads, sets of nodes and the time, as the records so far tell them."""
+    """Loads, sets of nodes, those that are closed, and the time, as the records so far tell them."""
 
     def __init__(self, config):
         self.config, self.now = config, 0
         self.nodes = range(1, config["nodes"] + 1)
+        self.closed = set()  # no first choice, and nobody who joins a set, is one of these
         self.loads = dict.fromkeys(self.nodes, 0)
         self.homes = {}   # the node that each admitted connection was first assigned to
         self.shares = {}  # of each admitted connection: (node, load) of each request of its batch that another node serves
@@ -53,6 +56,14 @@ class Ledger:
         elif record.kind == "assigned later":
             self.open_share(record)
             self.change(record.path, record.add, "-")
+        elif record.kind == "closed":
+            self.close(number_of(record.place))
+
+    def close(self, node):
+        """A node leaves every set, which does not date them."""
+        self.closed.add(node)
+        for members in self.sets.values():
+            members.discard(node)
 
     def charge(self, node, units):
         if node in self.loads:
@@ -80,21 +91,25 @@ class Ledger:
     def members(self, path):
         return sorted(self.sets.get(path, set()) & set(self.nodes))
 
+    def open_nodes(self):
+        return [node for node in self.nodes if node not in self.closed]
+
     def least(self, nodes):
         return min(nodes, key=lambda node: (self.loads[node], node))
 
     def first(self, path):
-        """The choice for the first request of a connection: LARD with replication. None where there is no node."""
-        if not self.nodes:
+        """The choice for the first request of a connection: LARD with replication, over open nodes. None where there is none."""
+        nodes = self.open_nodes()
+        if not nodes:
             return None
         members, low, high = self.members(path), self.config["low"] * WHOLE, self.config["high"] * WHOLE
-        least = self.least(self.nodes)
+        least = self.least(nodes)
         choice = SimpleNamespace(node=least, add=least, remove="-", reason="nobody", load=self.loads[least], among=None, unchanged=0)
         if not members:
             return choice
         choice.among = self.least(members)
-        load = self.loads[choice.among]
-        choice.reason = "twice high" if load >= 2 * high else "above high" if load > high and min(self.loads.values()) < low else "least"
+        load, has_room = self.loads[choice.among], self.loads[least] < low
+        choice.reason = "twice high" if load >= 2 * high else "above high" if load > high and has_room else "least"
         choice.node = choice.among if choice.reason == "least" else least
         choice.load = self.loads[choice.node]
         choice.add = "-" if choice.node in members else choice.node
@@ -114,7 +129,7 @@ class Ledger:
         if choice.reason == "costs":
             choice.costs = {node: self.costs(node, node in members) for node in sorted({home, *members})}
             choice.node = min(choice.costs, key=lambda node: (sum(choice.costs[node]), node != home, node))
-        choice.add = home if choice.node == home and home not in members else "-"
+        choice.add = home if choice.node == home and home not in members and home not in self.closed else "-"
         return choice
 
     def costs(self, node, is_member):

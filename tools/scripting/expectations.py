@@ -34,8 +34,8 @@ def read_form(words):
     word = words.peek()
     if word is None:
         raise Fault(f"the line ends where an expectation is to stand: {either(FORMS)}")
-    if is_place(word) and word[0] == "c":
-        return read_client(words)
+    if is_place(word) and word[0] in "cn":
+        return read_client(words) if word[0] == "c" else read_node(words)
     if isinstance(word, str) and word.startswith("/"):
         return read_set(words)
     if word in FORMS:
@@ -258,6 +258,19 @@ def read_jobs(words):
     def tell(world):
         jobs = [job.path for job in world.jobs[node]]
         return instead(jobs == wanted, f"jobs of {node} are {text(jobs)}")
+    return Condition(tell)
+
+
+def read_node(words):
+    """n1 is closed; n1 is not closed"""
+    node = words.node()
+    words.want("is")
+    is_wanted = not words.accept("not")
+    words.want("closed")
+
+    def tell(world):
+        is_closed = node in world.closed
+        return instead(is_closed == is_wanted, f"{node} is {'closed' if is_closed else 'open'}")
     return Condition(tell)
 
 

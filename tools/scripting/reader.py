@@ -107,6 +107,11 @@ def client_of(words):
     return client
 
 
+def node_of(words):
+    """The number of a node, as 1 or n1."""
+    return words.node()[1:] if is_place(words.peek()) else words.number("the number of a node")
+
+
 def path_of(words, is_file=False):
     word = words.take("a path")
     if not isinstance(word, str) or not re.fullmatch("/[!-~]{0,1023}", word):
@@ -268,8 +273,7 @@ def read_disk(words, _):
     """disk N J; disk all of n1; disk [1st | last | all] /a of n1 [for c2]"""
     word = words.peek()
     if is_place(word) or isinstance(word, str) and word.isdigit():
-        node = words.node()[1:] if is_place(word) else words.number("the number of a node")
-        return plain(f"disk {node} {words.number('the place of a job')}")
+        return plain(f"disk {node_of(words)} {words.number('the place of a job')}")
     which, path, client = names.read_order(words), None, None
     if which != "all" or words.peek() not in ("of", "at"):
         path = path_of(words)
@@ -278,6 +282,10 @@ def read_disk(words, _):
     if words.accept("for"):
         client = words.client()
     return (lambda player: player.disk(node, which, path, client),)
+
+
+def read_drain(words, _):
+    return plain(f"drain {node_of(words)}")
 
 
 def read_expect(words, _):
@@ -289,8 +297,8 @@ FORMS = {
     "lard": read_lard, **{key: read_key for key in KEYS}, "file": read_file, "fill": read_fill, "go": read_go,
     "open": read_open, "get": read_get, "write": read_write,
     **{form: read_client_alone for form in ("shut", "abort", "hold", "take")},
-    "deliver": read_packets, "lose": read_packets, "timer": read_timer, "disk": read_disk, "clock": read_clock,
-    "settle": read_settle, "inject": read_inject, "expect": read_expect,
+    "deliver": read_packets, "lose": read_packets, "timer": read_timer, "disk": read_disk, "drain": read_drain,
+    "clock": read_clock, "settle": read_settle, "inject": read_inject, "expect": read_expect,
 }
 HEAD = {"lard", *KEYS, "file", "fill", "go"}
 

@@ -23,6 +23,7 @@ class World:
         self.served = defaultdict(list)  # of each connection, the records `served`
         self.assigned = {}  # of each connection and request, the node
         self.sets = defaultdict(list)  # of each path, the nodes that serve it
+        self.closed = set()  # the nodes that are
         self.states = defaultdict(set)  # of each connection: aborted, reset, ended, touched, waiting, admitted
         self.settled = None  # the last record that ended a settle
         self.last = []  # the records of the schedule's last line, but for its event
@@ -143,6 +144,12 @@ class World:
     def on_assigned_later(self, record, event):
         record.remove = "-"
         self.on_assigned_first(record, event)
+
+    def on_closed(self, record, _):
+        self.closed.add(record.place)
+        for nodes in self.sets.values():
+            if record.place in nodes:
+                nodes.remove(record.place)
 
     # ---- settling
 

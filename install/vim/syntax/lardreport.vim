@@ -11,7 +11,7 @@ syntax match lardInner /^inner .*$/
 syntax match lardPacket /^\%(sent\|got\|lost\|injected\)\ze / nextgroup=lardWords
 syntax match lardClient /^\%(opened\|wrote\|accepted\|eof\|aborted\)\ze / nextgroup=lardWords
 syntax match lardOwner /^\%(took\|gave\)\ze / nextgroup=lardWords
-syntax match lardChoice /^\%(waits\|admitted\|released\|assigned\|batchover\)\ze / nextgroup=lardWords
+syntax match lardChoice /^\%(waits\|admitted\|released\|assigned\|batchover\|closed\)\ze / nextgroup=lardWords
 syntax match lardServed /^\%(served\|reset\|hit\|queued\|read\)\ze / nextgroup=lardWords
 syntax match lardOther /^\%(armed\|cleared\|clock\|settled\|unsettled\)\ze / nextgroup=lardWords
 syntax match lardWords / .*$/ contained contains=lardPlace,lardPath

@@ -10,7 +10,7 @@ syntax match lardHead /^lard 1$/
 syntax match lardHead /^go$/
 syntax match lardKey /^\%(nodes\|low\|high\|age\|idle\|over\|miss\|cache\|stream\)\ze / nextgroup=lardWords
 syntax match lardFile /^\%(file\|fill\)\ze / nextgroup=lardWords
-syntax match lardEvent /^\%(open\|get\|write\|shut\|abort\|hold\|take\|deliver\|lose\|timer\|disk\|clock\|settle\|inject\)\ze / nextgroup=lardWords
+syntax match lardEvent /^\%(open\|get\|write\|shut\|abort\|hold\|take\|deliver\|lose\|timer\|disk\|drain\|clock\|settle\|inject\)\ze / nextgroup=lardWords
 syntax match lardWords / .*$/ contained contains=lardNumber,lardPlace,lardPath,lardBytes,lardBlank
 syntax match lardNumber / \zs\d\+\ze\%( \|$\)/ contained
 syntax match lardPlace / \zs\%(front\|[nc]\d\+\)\ze\%( \|$\)/ contained
