@@ -56,14 +56,20 @@ abbrev IsOther : Event → Type 0
 IsOther (event.Deliver k) = ⊥
 IsOther _ = Unit {0}
 
+-- one record or none
+one-or-none : (own : List Rec) (r : Rec) → IsUngot r → (own ≡ r ∷ []) ⊎ (own ≡ []) → Each IsUngot own
+one-or-none own r h (inl one) = subst (Each IsUngot) (sym one) (h, tt)
+one-or-none own r h (inr none) = subst (Each IsUngot) (sym none) tt
+
 own-ungot : (e : Event) (own : List Rec) → IsOther e → AreOwn e own → Each IsUngot own
 own-ungot (event.Open c isn iss wnd mss) own o is = subst (Each IsUngot) (sym is) (tt, tt)
-own-ungot (event.Get c path) own o is = ⊎_elim (λ (e : own ≡ rec.Wrote c (request path) ∷ []). subst (Each IsUngot) (sym e) (tt, tt)) (λ (e : own ≡ []). subst (Each IsUngot) (sym e) tt) is
-own-ungot (event.Write c bytes) own o is = ⊎_elim (λ (e : own ≡ rec.Wrote c bytes ∷ []). subst (Each IsUngot) (sym e) (tt, tt)) (λ (e : own ≡ []). subst (Each IsUngot) (sym e) tt) is
+own-ungot (event.Get c path) own o is = one-or-none own (rec.Wrote c (request path)) tt is
+own-ungot (event.Write c bytes) own o is = one-or-none own (rec.Wrote c bytes) tt is
 own-ungot (event.Abort c) own o is = subst (Each IsUngot) (sym is) (tt, tt)
 own-ungot (event.Deliver k) own o is = absurd o
 own-ungot (event.Lose k) own o is = subst (Each IsUngot) (sym is) (tt, tt)
 own-ungot (event.Inject c bytes) own o is = subst (Each IsUngot) (sym is) (tt, tt)
+own-ungot (event.Drain n) own o is = one-or-none own (rec.Closed n) tt is
 own-ungot (event.Clock ms) own o is = subst (Each IsUngot) (sym is.1) (tt, tt)
 own-ungot _ own o is = subst (Each IsUngot) (sym is) tt
 

@@ -7,6 +7,7 @@ use Rattle.lard_laws.proofs.AsksRuns.{asks-answered, batches-end}
 use Rattle.lard_laws.proofs.BackingQueuing.{jobs-are-asked}
 use Rattle.lard_laws.proofs.BackingRuns.{home-answers, jobs-start, requests-named, responses-backed}
 use Rattle.lard_law_connections.proofs.BytesRuns.{clients-accept, journals-serve, journals-tell}
+use Rattle.lard_law_connections.proofs.Closings.{closes-by-drain, some-node-stays}
 use Rattle.lard_laws.proofs.ClientsTables.{clients-keep}
 use Rattle.lard_laws.proofs.ClientsTaking.{clients-take}
 use Rattle.lard_laws.proofs.ClientsWriters.{writers-are}
@@ -68,6 +69,8 @@ journals-lawful config files m checked r =
       batches = shares-one-batch config files m checked r;
       loads = loads-are-charges config files m checked r;
       servers = servers-are-told config files m checked r;
+      closings = closes-by-drain config files m checked r;
+      some_stays = some-node-stays config files m checked r;
       most_by_room = loads-within-the-room config files m checked r;
       most_by_policy = loads-near-the-thresholds config files m checked r;
       few = connections-stay-few config files m checked r;

@@ -49,6 +49,7 @@ jobs-few n J = let all = go J no_jobs in omega (arith, all) where
   step q (rec.Hit n path) = omega arith
   step q (rec.Queued k m c r path) = queued q k m c r path
   step q (rec.Read k m c r path) = read q k
+  step q (rec.Closed k) = omega arith
   step q (rec.Armed place c _) = omega arith
   step q (rec.Cleared place c _) = omega arith
   step q (rec.Reset place c count) = omega arith

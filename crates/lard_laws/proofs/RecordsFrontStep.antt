@@ -1,5 +1,6 @@
 -- A step of the front end: what it keeps of each connection, and what it does, is in range.
-use Rattle.std.proofs.Common.{◌≡◌, ℕ, ◌≤◌, ◌<◌, ◌^◌, List, [], length, Option, Some, None, IfSome, Ok, Err, Result, refl, arith}
+use Rattle.std.proofs.Common.{◌≡◌, ℕ, ◌≤◌, ◌<◌, ◌^◌, List, [], ◌∷◌, length, Option, Some, None, IfSome, Ok, Err, Result, refl, arith}
+use Rattle.std.proofs.lemmas.Bool.{cond_both}
 use Rattle.lard_law_view.specs.Prelude.{Body, Did, Final, FirstChoice, Front, FrontDeed, FrontEnv, FrontIn, FrontPart, FrontSetting, FrontState, FrontTurn, IsFrontSound, IsMessage, IsNumber, IsRecordInRange, MAX_SEGMENT_BYTES, Message, MsgFault, Out, ToCluster, admits, admits_too, ask_of, decoded, decoded_message, ended_answer, ended_deed, front_admitted, front_armed, front_asked, front_deed, front_ended, front_env, front_gets, front_part, front_rest, front_step, front_taken, front_timer, front_timers, front_told, message_comes, nothing_done, put_back}
 use Rattle.lard_rules.specs.Bounds as cluster
 use Rattle.lard_laws.proofs.RecordsChoices as choices
@@ -13,8 +14,11 @@ use Rattle.lard_dispatch.proofs.Chosen.{IsChosen}
 use Rattle.lard_handoff_front.specs.declared.row.FrontConn.TheVariants as stage
 use Rattle.lard_rules.proofs.FrontCases.{admitted-keeps, of-stage}
 use Rattle.lard_rules.specs.Front.{Drops, Says, Does}
+use Rattle.lard_rules.specs.FrontPlace.{front_drains}
 use Rattle.lard_rules.proofs.FrontKeeping.{put-all}
 use Rattle.lard_history.proofs.Each.{Each}
+use Rattle.lard_journal.specs.declared.rec.Rec.TheVariants as rec
+use Rattle.lard_loads.specs.Tally.{is_open}
 use Rattle.lard_law_view.proofs.ByteLists.{AreBytes}
 use Rattle.lard_message.specs.declared.message.Body.TheVariants as body
 use Rattle.lard_rules.specs.declared.front.FrontIn.TheVariants as input
@@ -23,6 +27,7 @@ use Rattle.lard_rules.specs.declared.front.FrontIn.TheVariants as input
 abbrev pub InputFits : FrontIn → Type 0
 InputFits (input.Segment c iss bytes) = cluster.IsConnNumber c × AreBytes bytes × (iss.0 < 2 ^ 32) × (length bytes ≤ MAX_SEGMENT_BYTES)
 InputFits (input.Message from bytes) = IsNumber from × AreBytes bytes × SaysPaths bytes
+InputFits (input.Drain n) = IsNumber n
 InputFits (input.Timer c) = cluster.IsConnNumber c
 
 -- the number of a connection of which a message is
@@ -111,10 +116,26 @@ module _ (k : FrontSetting) (small : k.stream ≤ 2 ^ 30) (named : AreNamed k.fi
   message-fits from bytes (Err fault) n h says is = still
   message-fits from bytes (Ok m) n h says is = told-fits from m.c m.epoch.0 m.body n (is-message bytes m h is) (says m is)
 
+  -- the node that is closed is in range, and nothing that is kept of connections moves
+  drains-fit : (n : ℕ) → IsNumber n → StepFits (front_drains s n)
+  drains-fit n h = (
+    held,
+    record {
+      notes = cond_both (is_open s.dispatch.books.loads n) (rec.Closed n ∷ []) [] (Each IsRecordInRange) (λ t. (h, tt)) (λ t. tt);
+      segments = tt;
+      few = omega arith;
+      gave = tt;
+      messages = tt;
+      few_messages = omega arith;
+      timers = tt;
+    },
+  )
+
   pub step-fits : (i : FrontIn) → InputFits i → StepFits (front_step k s i)
   step-fits (input.Segment c iss bytes) h =
       deed-fits c (front_gets (front_env k s c iss.0) (front_part s c) bytes (decoded bytes c ToCluster)) h.0
       (front.gets-fits (front_env k s c iss.0) refl h.0 small named (front_part s c) (held c) (answers c iss.0) h.2 bytes (decoded bytes c ToCluster) h.1
       (λ said is. (told-decoded bytes c ToCluster said is h.1, (some-decoded bytes c ToCluster said is, h.3))))
   step-fits (input.Message from bytes) h = message-fits from bytes (decoded_message bytes) h.0 h.1 h.2 refl
+  step-fits (input.Drain n) h = drains-fit n h
   step-fits (input.Timer c) h = deed-fits c (front_timer (front_env k s c 0) (front_part s c)) h (front.fires-fits (front_env k s c 0) refl h small named (front_part s c) (held c))

@@ -8,6 +8,7 @@ use Rattle.lard_law_view.specs.Prelude.{BackIn, ClientBlock, Event, FrontIn, Fro
 use Rattle.lard_base.specs.declared.place.Place.TheVariants as place
 use Rattle.lard_base.specs.declared.place.TimerKind.TheVariants.{Tcp}
 use Rattle.lard_rules.specs.Bounds as cluster
+use Rattle.lard_rules.specs.FrontSound.{MayDrain}
 use Rattle.lard_laws.specs.Records.{IsScheduled}
 use Rattle.lard_laws.proofs.RecordsFrontStep as front
 use Rattle.lard_laws.proofs.RecordsFronts.{FrontKeeps}
@@ -204,14 +205,19 @@ module _ (m : Machine) (small : m.config.stream ≤ 2 ^ 30) (files : AreNamed (f
         nodes = holds.parts.nodes;
       }))
 
-  -- the front end did what its step gave
-  pub front-holds : (i : FrontIn) → front.InputFits i → Holds (front_acts m e own i)
-  front-holds i fits =
+  -- the front end did what its step gave; where a node is closed, another one is open
+  pub front-holds : (i : FrontIn) → MayDrain m.front i → front.InputFits i → Holds (front_acts m e own i)
+  front-holds i may fits =
       let given_is : FrontState × Out = front_step (front_setting m) m.front i in
       let step = front.step-fits (front_setting m) small files m.front holds.parts.sound holds.parts.front i fits in
       told-holds (record m { front = given_is.0 }) e given holds.past room own place.Front given_is.1 mine tt step.1
       (parts-wider (length m.net) (length m.net + length given_is.1.messages) m.clients given_is.0 m.nodes (omega arith)
-      (record { clients = holds.parts.clients; front = step.0; sound = (step-stays (front_setting m) m.front i holds.parts.sound).sound; nodes = holds.parts.nodes }))
+      (record {
+        clients = holds.parts.clients;
+        front = step.0;
+        sound = (step-stays (front_setting m) m.front i may holds.parts.sound).sound;
+        nodes = holds.parts.nodes;
+      }))
 
   -- a node did what its step gave
   pub node-holds : (n : ℕ) (s : NodeState) → node_at m.nodes n ≡ Some s → length s.disk ≤ 2 ^ 30 → (i : BackIn) → node.InputFits i → Holds (node_gave m e own n (node_step (node_setting m n) s i))

@@ -11,6 +11,8 @@ use Rattle.lard_base.specs.declared.event.Event.TheVariants as event
 use Rattle.lard_base.specs.declared.place.Place.TheVariants as place
 use Rattle.lard_rules.specs.declared.fault.Refusal.TheVariants.{NoJob, NoNode, WasLost}
 use Rattle.lard_rules.specs.declared.fault.StepFault.TheVariants.{Limit, Refused}
+use Rattle.lard_loads.specs.Tally.{has_other_open}
+use Rattle.lard_rules.specs.Machine.{drained}
 use Rattle.lard_laws.specs.Records.{IsRunFile, IsScheduled, RecordsAreInRange}
 use Rattle.lard_law_connections.proofs.Happened.{done-happens}
 use Rattle.lard_laws.proofs.RecordsDisks.{DisksAreShort, disks-short}
@@ -103,7 +105,7 @@ module _ (m : Machine) (view : IsViewed m) (small : m.config.stream ≤ 2 ^ 30) 
   -- ---- timers
 
   timer_at-good : (p : Place) (c : ℕ) (x : Station) → table.get m.clients c ≡ Some x → IsScheduled (event.Timer p c) → HasRule (event.Timer p c) → Good (timer_at m p c x)
-  timer_at-good place.Front c x there g rule = front-holds m small files holds room (event.Timer place.Front c) g [] tt (input.Timer c) (kept c x there).0
+  timer_at-good place.Front c x there g rule = front-holds m small files holds room (event.Timer place.Front c) g [] tt (input.Timer c) tt (kept c x there).0
   timer_at-good (place.Client d) c x there g rule = goes c x there (event.Timer (place.Client d) c) [] (client_timer x.client) g tt (fires-fits x.client) (fires-sized x.client)
   timer_at-good (place.Node n) c x there g rule =
       cond_both (is_no_node m.config.nodes n) (Err (Refused (NoNode n m.config.nodes))) (Ok (node_acts m (event.Timer (place.Node n) c) [] n (back.Timer c) (node_at m.nodes n))) Good (λ t. tt)
@@ -126,12 +128,13 @@ module _ (m : Machine) (view : IsViewed m) (small : m.config.stream ≤ 2 ^ 30) 
     to-front : (bytes : List ℕ) (c : ℕ) → AreBytes bytes → length bytes ≤ MAX_SEGMENT_BYTES → (o : Option Station) → table.get m.clients c ≡ o → Holds (machine_to_front m k bytes c o)
     to-front bytes c h few None there = passes e (rec.Got k ∷ []) g mine
     to-front bytes c h few (Some x) there =
-        front-holds m small files holds room e g (rec.Got k ∷ []) mine (input.Segment c (record { 0 = x.iss }) bytes) ((kept c x there).0, h, (kept c x there).3, few)
+        front-holds m small files holds room e g (rec.Got k ∷ []) mine (input.Segment c (record { 0 = x.iss }) bytes) tt
+        ((kept c x there).0, h, (kept c x there).3, few)
 
     from-place : (bytes : List ℕ) (from : Place) → IsPlaceInRange from → AreBytes bytes → AsksBy from bytes → SaysBy from bytes → Holds (from_place m k bytes from)
     from-place bytes (place.Client c) n h asks says = to-front bytes c h says (table.get m.clients c) refl
     from-place bytes place.Front n h asks says = passes e (rec.Got k ∷ []) g mine
-    from-place bytes (place.Node n) f h asks says = front-holds m small files holds room e g (rec.Got k ∷ []) mine (input.Message n bytes) (f, h, asks)
+    from-place bytes (place.Node n) f h asks says = front-holds m small files holds room e g (rec.Got k ∷ []) mine (input.Message n bytes) tt (f, h, asks)
 
     to-client : (bytes : List ℕ) (c : ℕ) → AreBytes bytes → (o : Option Station) → table.get m.clients c ≡ o → Holds (machine_to_client m k bytes c o)
     to-client bytes c h None there = passes e (rec.Got k ∷ []) g mine
@@ -155,6 +158,16 @@ module _ (m : Machine) (view : IsViewed m) (small : m.config.stream ≤ 2 ^ 30) 
   lost-good k g (Some p) =
       cond_both p.lost (Err (Refused (WasLost k))) (Ok (passed (record m { net = lose_at (k - 1) m.net }) (event.Lose k) (rec.Lost k ∷ []))) Good (λ t. tt)
       (λ t. passed-holds m (event.Lose k) g holds.past room (rec.Lost k ∷ []) (lose_at (k - 1) m.net) m.now (g.0, tt) (lost-packets (k - 1) m.net holds.past.packets) (lost-length (k - 1) m.net) (omega arith) holds.parts)
+
+  -- ---- nodes that close
+
+  drained-good : (n : ℕ) → IsScheduled (event.Drain n) → Good (drained m n)
+  unfolding drained
+  drained-good n g =
+      cond_both (is_no_node m.config.nodes n) _ _ Good (λ t. tt)
+      (λ t. cond_both (has_other_open m.front.dispatch.books.loads n) _ _ Good
+      (λ other. front-holds m small files holds room (event.Drain n) g [] tt (input.Drain n) other g.0)
+      (λ last. tt))
 
   -- ---- disks, and the clock
 
@@ -193,6 +206,7 @@ module _ (m : Machine) (view : IsViewed m) (small : m.config.stream ≤ 2 ^ 30) 
   happens-good (event.Lose k) g rule = lost-good k g (packet_at m.net k)
   happens-good (event.Timer p c) g rule = timer-good p c g rule (table.get m.clients c) refl
   happens-good (event.Disk n j) g rule = completes-good n j g
+  happens-good (event.Drain n) g rule = drained-good n g
   happens-good (event.Clock ms) g rule = clocked-good ms g
   happens-good (event.Settle rounds) g rule = absurd rule
 

@@ -58,6 +58,7 @@ begun J net answered i (event.Hold c) place h l = uncounted-all J (rec.Event i (
 begun J net answered i (event.Take c) place h l = uncounted-all J (rec.Event i (event.Take c) ∷ []) net answered (tt, tt) l
 begun J net answered i (event.Timer p c) place h l = uncounted-all J (rec.Event i (event.Timer p c) ∷ []) net answered (tt, tt) l
 begun J net answered i (event.Disk n j) place h l = uncounted-all J (rec.Event i (event.Disk n j) ∷ []) net answered (tt, tt) l
+begun J net answered i (event.Drain n) place h l = uncounted-all J (rec.Event i (event.Drain n) ∷ []) net answered (tt, tt) l
 begun J net answered i (event.Clock ms) place h l = uncounted-all J (rec.Event i (event.Clock ms) ∷ []) net answered (tt, tt) l
 begun J net answered i (event.Settle rounds) place h l = uncounted-all J (rec.Event i (event.Settle rounds) ∷ []) net answered (tt, tt) l
 

@@ -60,6 +60,7 @@ note-here Front c (rec.AssignedFirst d r path n add remove) h = (inl refl, (λ k
 note-here Front c (rec.AssignedLater d r path n add size queue) h = (inl refl, (λ k. (refl, tt)), tt)
 note-here Front c (rec.BatchOver d) h = (inl refl, (λ k. (refl, tt)), tt)
 note-here Front c (rec.Released d) h = (inl refl, (λ k. (refl, tt)), tt)
+note-here Front c (rec.Closed n) h = (inl refl, (λ k. (refl, tt)), tt)
 note-here (Node n) c (rec.Took (Node j) d epoch) h = (inr (ap (λ i. Some (Node i)) h.0), (λ k. (refl, tt)), tt)
 note-here (Node n) c (rec.Served (Node j) d r code size via) h = (inr (ap (λ i. Some (Node i)) h.0), (λ k. (refl, tt)), tt)
 note-here (Node n) c (rec.Reset (Node j) d total) h = (inr (ap (λ i. Some (Node i)) h.0), (λ k. (refl, tt)), tt)

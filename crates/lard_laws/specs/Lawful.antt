@@ -6,6 +6,7 @@ use Rattle.lard_laws.specs.AsksSent.{MustAsk}
 use Rattle.lard_laws.specs.BackingJobs.{MustQueue}
 use Rattle.lard_laws.specs.BackingRequests.{MayAnswerFrom, MayBeBacked, MayName, MayStart}
 use Rattle.lard_law_connections.specs.BytesRecords.{ServesTheAnswers}
+use Rattle.lard_law_connections.specs.Closings.{MustClose, SomeStays}
 use Rattle.lard_law_connections.specs.LineLaws.{HasFewConnections, IsNearTheThresholds, IsNotBusy, IsWithinTheRoom, LineNeedsAFullRoom, MayPass, MayWait, MustRelease}
 use Rattle.lard_law_connections.specs.Motion.{MustMove}
 use Rattle.lard_law_connections.specs.Offers.{CarryTheEndpoint}
@@ -76,7 +77,10 @@ pub record IsLawful (config : Config) (files : FilesAt) (J : List Rec) : Type 0 
   pub batches : EachMay (λ past r. MayShare (last_record past) (ledger config past) r) [] J
   pub loads : Throughout (AreLoadsCharged config) config J
   pub servers : Throughout AreServersTold config J
-  -- how great a load may be, and how many connections a node may have
+  -- when a node is closed: in the step of its `drain`, where it was open, and nowhere else; and that some node stays open
+  pub closings : EachStep MustClose [] (steps J)
+  pub some_stays : Throughout (SomeStays config) config J
+  -- how great a load may be, by the room and, while no node is closed, by the policy; and how many connections a node may have then
   pub most_by_room : Throughout (IsWithinTheRoom config) config J
   pub most_by_policy : Throughout (IsNearTheThresholds config) config J
   pub few : Throughout (HasFewConnections config) config J

@@ -1,5 +1,5 @@
 -- How many of the numbers that a connection can have pass a test that some of them pass.
-use Rattle.std.proofs.Common.{◌≡◌, ℕ, zero, suc, ◌+◌, ◌<◌, ◌≤◌, Bool, true, cond, count_by, ap, ◌∙◌, ⊎_elim, arith}
+use Rattle.std.proofs.Common.{◌≡◌, ℕ, zero, suc, ◌+◌, ◌<◌, ◌≤◌, Bool, true, false, cond, count_by, refl, ap, ◌∙◌, ⊎_elim, arith}
 use Rattle.std.proofs.lemmas.Bool.{cases_eq}
 use Rattle.std.proofs.lemmas.List.Sums.{sum_by-cons}
 use Rattle.std.specs.List.{range_with_len}
@@ -12,6 +12,16 @@ module _ (p : ℕ → Bool) where
   first-counts a many yes_ =
       let step : count_by p (range_with_len a (suc many)) ≡ cond {A = ℕ} (p a) 1 0 + count_by p (range_with_len (a + 1) many) = sum_by-cons (λ (x : ℕ). cond {A = ℕ} (p x) 1 0) a (range_with_len (a + 1) many) in
       let one : cond {A = ℕ} (p a) 1 0 ≡ 1 = ap (λ (b : Bool). cond {A = ℕ} b 1 0) yes_ in
+      omega arith
+
+  -- where none passes, none is counted
+  none-counts : (a many : ℕ) → ((k : ℕ) → p k ≡ false) → count_by p (range_with_len a many) ≡ 0
+  none-counts a zero no = refl
+  none-counts a (suc many) no =
+      let step : count_by p (range_with_len a (suc many)) ≡ cond {A = ℕ} (p a) 1 0 + count_by p (range_with_len (a + 1) many)
+      = sum_by-cons (λ (x : ℕ). cond {A = ℕ} (p x) 1 0) a (range_with_len (a + 1) many) in
+      let one : cond {A = ℕ} (p a) 1 0 ≡ 0 = ap (λ (b : Bool). cond {A = ℕ} b 1 0) (no a) in
+      let rest = none-counts (a + 1) many no in
       omega arith
 
   -- one of them that passes is counted
@@ -40,6 +50,9 @@ module _ (p : ℕ → Bool) where
   -- of all connections
   pub one-of-all : (k : ℕ) → 1 ≤ k → k ≤ 16384 → p k ≡ true → 1 ≤ count_by p connections
   one-of-all k low high yes_ = one-counts k 1 most_connections low (omega (arith, most-is)) yes_
+
+  pub none-of-all : ((k : ℕ) → p k ≡ false) → count_by p connections ≡ 0
+  none-of-all no = none-counts 1 most_connections no
 
   pub three-of-all : p 1 ≡ true → p 2 ≡ true → p 3 ≡ true → 3 ≤ count_by p connections
   three-of-all one two three = three-count most_connections (omega (arith, most-is)) one two three

@@ -1,3 +1,4 @@
+pub mod Closed
 pub mod Counting
 pub mod Having
 pub mod Loads

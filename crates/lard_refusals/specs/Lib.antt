@@ -1,6 +1,7 @@
 pub mod Admission
 pub mod Asks
 pub mod Clients
+pub mod Closing
 pub mod Contents
 pub mod Moves
 pub mod Network

@@ -76,6 +76,26 @@ ninth_share =
 abbrev pub later_without_a_node : List Rec
 later_without_a_node = later_at 2 1 ∷ []
 
+-- Of three nodes without load the lowest is chosen, which is closed.
+abbrev pub closed_node_is_chosen : List Rec
+closed_node_is_chosen = rec.Closed 1 ∷ first_joining 1 1 ∷ []
+
+-- The next one is.
+abbrev pub next_node_is_chosen : List Rec
+next_node_is_chosen = rec.Closed 1 ∷ first_joining 1 2 ∷ []
+
+-- A node is chosen that served the path until it was closed.
+abbrev pub closed_server_is_chosen : List Rec
+closed_server_is_chosen = first_joining 1 1 ∷ rec.Closed 1 ∷ first_at 2 1 ∷ []
+
+-- A later request stays at the connection's node, which is closed, and joins the set again.
+abbrev pub closed_home_joins : List Rec
+closed_home_joins = first_joining 1 1 ∷ rec.Closed 1 ∷ rec.AssignedLater 1 2 (codes "/a") 1 (Some 1) 2 0 ∷ []
+
+-- It stays, and nobody joins.
+abbrev pub stays_at_a_closed_home : List Rec
+stays_at_a_closed_home = first_joining 1 1 ∷ rec.Closed 1 ∷ later_at 2 1 ∷ []
+
 abbrev pub batches : Law
 batches config files J = EachMay (λ past r. MayShare (last_record past) (ledger config past) r) [] J
 
@@ -119,8 +139,16 @@ most_by_policy config files J = Throughout (IsNearTheThresholds config) config J
 abbrev pub four_at_one_node : List Rec
 four_at_one_node = first_joining 1 1 ∷ first_at 2 1 ∷ first_at 3 1 ∷ first_at 4 1 ∷ []
 
+-- The other two are closed, so that it has to.
+abbrev pub four_at_the_last_open_node : List Rec
+four_at_the_last_open_node = rec.Closed 2 ∷ rec.Closed 3 ∷ four_at_one_node
+
 abbrev pub few : Law
 few config files J = Throughout (HasFewConnections config) config J
+
+-- The other two nodes are closed, and one has three connections.
+abbrev pub three_at_the_last_open_node : List Rec
+three_at_the_last_open_node = rec.Closed 2 ∷ rec.Closed 3 ∷ three_at_one_node
 
 abbrev pub never_all_busy : Law
 never_all_busy config files J = Throughout (IsNotBusy config) config J

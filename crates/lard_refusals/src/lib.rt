@@ -21,6 +21,7 @@
 pub mod admission;
 pub mod asks;
 pub mod clients;
+pub mod closing;
 pub mod contents;
 pub mod moves;
 pub mod network;

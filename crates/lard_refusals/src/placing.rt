@@ -15,9 +15,14 @@ pub fn choices_refuses()
     ensures batch_of_nine { Refuses the.choices the.batch_of_nine }
     ensures ninth_share { Refuses the.choices the.ninth_share }
     ensures later_without_a_node { Refuses the.choices the.later_without_a_node }
+    ensures closed_node_is_chosen { Refuses the.choices the.closed_node_is_chosen }
+    ensures closed_server_is_chosen { Refuses the.choices the.closed_server_is_chosen }
+    ensures closed_home_joins { Refuses the.choices the.closed_home_joins }
     ensures tie_to_the_lowest { Allows the.choices the.tie_to_the_lowest }
     ensures threshold_above_high { Allows the.choices the.threshold_above_high }
     ensures stays_at_a_short_queue { Allows the.choices the.stays_at_a_short_queue }
+    ensures next_node_is_chosen { Allows the.choices the.next_node_is_chosen }
+    ensures stays_at_a_closed_home { Allows the.choices the.stays_at_a_closed_home }
 {}
 
 /// One batch of a connection is open at a time.
@@ -45,16 +50,18 @@ pub fn most_by_room_refuses()
     ensures three_at_one_node { Refuses the.most_by_room the.three_at_one_node }
 {}
 
-/// Nor much more than the thresholds say.
+/// Nor, while no node is closed, much more than the thresholds say.
 pub fn most_by_policy_refuses()
     ensures law { IsLawOfAll the.most_by_policy }
     ensures four_at_one_node { Refuses the.most_by_policy the.four_at_one_node }
+    ensures four_at_the_last_open_node { Allows the.most_by_policy the.four_at_the_last_open_node }
 {}
 
-/// No node has more than twice `high`.
+/// While no node is closed, none has more than twice `high`.
 pub fn few_refuses()
     ensures law { IsLawOfAll the.few }
     ensures three_at_one_node { Refuses the.few the.three_at_one_node }
+    ensures three_at_the_last_open_node { Allows the.few the.three_at_the_last_open_node }
 {}
 
 /// While no node is below `low`, two are below `high`.

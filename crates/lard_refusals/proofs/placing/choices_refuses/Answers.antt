@@ -3,7 +3,7 @@ use Rattle.std.specs.FinMap.{get-empty}
 use Rattle.std.specs.Ordering.{nat_cmp}
 use Rattle.lard_law_view.specs.Prelude.{FirstChoice, LaterChoice, first_choice, home, home_of, later_choice, tally_start}
 use Rattle.lard_refusals.specs.Refusals.{three_nodes}
-use Rattle.lard_refusals.proofs.Loads.{eight-shares-are-open, first-of-none, its-home, later-stays, no-share-is-open, one_at_home, second-first, second-has-none}
+use Rattle.lard_refusals.proofs.Loads.{eight-shares-are-open, first-of-none, first-of-open, home_closed, its-home, later-stays, later-stays-there, no-share-is-open, one_at_home, second-first, second-has-none, second-leaves}
 use Rattle.lard_refusals.proofs.placing.choices_refuses.Goals as goal
 
 -- the first connection goes to node 1
@@ -64,3 +64,30 @@ pub returns-clause-later_without_a_node : goal.returns-clause-later_without_a_no
 returns-clause-later_without_a_node c h =
     let e : None ≡ Some h.0.0 = sym (ap home_of (get-empty nat_cmp 1)) ∙ h.0.1 in
     cc
+
+pub returns-clause-closed_node_is_chosen : goal.returns-clause-closed_node_is_chosen
+returns-clause-closed_node_is_chosen c h =
+    let e : ◌≡◌ {A = ℕ} 1 2 = ap (λ (it : FirstChoice). it.node) (h.1.0.1 ∙ first-of-open _ _) in
+    omega arith
+
+pub returns-clause-next_node_is_chosen : goal.returns-clause-next_node_is_chosen
+returns-clause-next_node_is_chosen c = (tt, ((first-goes.0, sym (first-of-open _ _)), tt))
+
+pub returns-clause-closed_server_is_chosen : goal.returns-clause-closed_server_is_chosen
+returns-clause-closed_server_is_chosen c h =
+    let e : ◌≡◌ {A = ℕ} 1 2 = ap (λ (it : FirstChoice). it.node) (h.1.1.0.1 ∙ second-leaves _ _) in
+    omega arith
+
+pub returns-clause-closed_home_joins : goal.returns-clause-closed_home_joins
+returns-clause-closed_home_joins c h =
+    let later = h.1.1.0 in
+    let has : Some 1 ≡ Some later.0 = sym its-home ∙ later.1 in
+    let one : 1 ≡ later.0 = cc in
+    let stays : later_choice home_closed later.0 0 0 three_nodes ≡ record { node = 1; add = None }
+    = subst (λ (n : ℕ). later_choice home_closed n 0 0 three_nodes ≡ record { node = 1; add = None }) one later-stays-there in
+    let e : ◌≡◌ {A = Option ℕ} (Some 1) None = ap (λ (it : LaterChoice). it.add) (later.2 ∙ stays) in
+    cc
+
+pub returns-clause-stays_at_a_closed_home : goal.returns-clause-stays_at_a_closed_home
+returns-clause-stays_at_a_closed_home c =
+    (first-goes, (tt, ((1, its-home, sym later-stays-there, omega arith, omega arith, (let none = no-share-is-open in omega (arith, none))), tt)))

@@ -1,0 +1,22 @@
+//! What the laws of nodes that close refuse.
+
+ghost use Rattle.lard_refusals.specs.Closing as the;
+ghost use Rattle.lard_refusals.specs.Refusals.{Allows, IsLawOfAll, Refuses};
+
+/// A node is closed where a `drain` names it while it is open, and nowhere else.
+pub fn closings_refuses()
+    ensures law { IsLawOfAll the.closings }
+    ensures drained_and_not_closed { Refuses the.closings the.drained_and_not_closed }
+    ensures another_is_closed { Refuses the.closings the.another_is_closed }
+    ensures closed_by_itself { Refuses the.closings the.closed_by_itself }
+    ensures closed_twice { Refuses the.closings the.closed_twice }
+    ensures closed_again { Refuses the.closings the.closed_again }
+    ensures closed_once { Allows the.closings the.closed_once }
+{}
+
+/// Some node stays open.
+pub fn some_stays_refuses()
+    ensures law { IsLawOfAll the.some_stays }
+    ensures all_are_closed { Refuses the.some_stays the.all_are_closed }
+    ensures third_stays { Allows the.some_stays the.third_stays }
+{}
