@@ -96,6 +96,18 @@ closed_home_joins = first_joining 1 1 ∷ rec.Closed 1 ∷ rec.AssignedLater 1 2
 abbrev pub stays_at_a_closed_home : List Rec
 stays_at_a_closed_home = first_joining 1 1 ∷ rec.Closed 1 ∷ later_at 2 1 ∷ []
 
+-- A node is closed that there is not.
+abbrev pub fourth_of_three_is_closed : List Rec
+fourth_of_three_is_closed = rec.Closed 4 ∷ []
+
+-- A node is closed that was closed before.
+abbrev pub closed_once_more : List Rec
+closed_once_more = rec.Closed 1 ∷ rec.Closed 1 ∷ []
+
+-- The last open node is closed.
+abbrev pub last_node_is_closed : List Rec
+last_node_is_closed = rec.Closed 1 ∷ rec.Closed 2 ∷ rec.Closed 3 ∷ []
+
 abbrev pub batches : Law
 batches config files J = EachMay (λ past r. MayShare (last_record past) (ledger config past) r) [] J
 

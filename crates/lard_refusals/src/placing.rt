@@ -3,7 +3,7 @@
 ghost use Rattle.lard_refusals.specs.Placing as the;
 ghost use Rattle.lard_refusals.specs.Refusals.{Allows, IsLawOfAll, Refuses};
 
-/// Each choice is that of the policy.
+/// Each choice is that of the policy, among nodes that are open; and one of these is closed only where another one stays.
 pub fn choices_refuses()
     ensures law { IsLawOfAll the.choices }
     ensures tie_to_the_highest { Refuses the.choices the.tie_to_the_highest }
@@ -18,6 +18,9 @@ pub fn choices_refuses()
     ensures closed_node_is_chosen { Refuses the.choices the.closed_node_is_chosen }
     ensures closed_server_is_chosen { Refuses the.choices the.closed_server_is_chosen }
     ensures closed_home_joins { Refuses the.choices the.closed_home_joins }
+    ensures fourth_of_three_is_closed { Refuses the.choices the.fourth_of_three_is_closed }
+    ensures closed_once_more { Refuses the.choices the.closed_once_more }
+    ensures last_node_is_closed { Refuses the.choices the.last_node_is_closed }
     ensures tie_to_the_lowest { Allows the.choices the.tie_to_the_lowest }
     ensures threshold_above_high { Allows the.choices the.threshold_above_high }
     ensures stays_at_a_short_queue { Allows the.choices the.stays_at_a_short_queue }

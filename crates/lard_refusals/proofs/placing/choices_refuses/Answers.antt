@@ -1,4 +1,4 @@
-use Rattle.std.proofs.Common.{◌≡◌, ◌≤◌, Option, ℕ, None, Some, sym, ap, subst, ◌∙◌, arith}
+use Rattle.std.proofs.Common.{◌≡◌, ◌≤◌, Option, ℕ, true, false, None, Some, refl, sym, ap, subst, ◌∙◌, arith}
 use Rattle.std.specs.FinMap.{get-empty}
 use Rattle.std.specs.Ordering.{nat_cmp}
 use Rattle.lard_law_view.specs.Prelude.{FirstChoice, LaterChoice, first_choice, home, home_of, later_choice, tally_start}
@@ -71,7 +71,7 @@ returns-clause-closed_node_is_chosen c h =
     omega arith
 
 pub returns-clause-next_node_is_chosen : goal.returns-clause-next_node_is_chosen
-returns-clause-next_node_is_chosen c = (tt, ((first-goes.0, sym (first-of-open _ _)), tt))
+returns-clause-next_node_is_chosen c = ((refl, refl), ((first-goes.0, sym (first-of-open _ _)), tt))
 
 pub returns-clause-closed_server_is_chosen : goal.returns-clause-closed_server_is_chosen
 returns-clause-closed_server_is_chosen c h =
@@ -90,4 +90,13 @@ returns-clause-closed_home_joins c h =
 
 pub returns-clause-stays_at_a_closed_home : goal.returns-clause-stays_at_a_closed_home
 returns-clause-stays_at_a_closed_home c =
-    (first-goes, (tt, ((1, its-home, sym later-stays-there, omega arith, omega arith, (let none = no-share-is-open in omega (arith, none))), tt)))
+    (first-goes, ((refl, refl), ((1, its-home, sym later-stays-there, omega arith, omega arith, (let none = no-share-is-open in omega (arith, none))), tt)))
+
+pub returns-clause-fourth_of_three_is_closed : goal.returns-clause-fourth_of_three_is_closed
+returns-clause-fourth_of_three_is_closed c h = let no : false ≡ true = h.0.0 in cc
+
+pub returns-clause-closed_once_more : goal.returns-clause-closed_once_more
+returns-clause-closed_once_more c h = let no : false ≡ true = h.1.0.0 in cc
+
+pub returns-clause-last_node_is_closed : goal.returns-clause-last_node_is_closed
+returns-clause-last_node_is_closed c h = let no : false ≡ true = h.1.1.0.1 in cc
