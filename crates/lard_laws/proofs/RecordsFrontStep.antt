@@ -1,7 +1,7 @@
 -- A step of the front end: what it keeps of each connection, and what it does, is in range.
 use Rattle.std.proofs.Common.{◌≡◌, ℕ, ◌≤◌, ◌<◌, ◌^◌, List, [], ◌∷◌, length, Option, Some, None, IfSome, Ok, Err, Result, refl, arith}
 use Rattle.std.proofs.lemmas.Bool.{cond_both}
-use Rattle.lard_law_view.specs.Prelude.{Body, Did, Final, FirstChoice, Front, FrontDeed, FrontEnv, FrontIn, FrontPart, FrontSetting, FrontState, FrontTurn, IsFrontSound, IsMessage, IsNumber, IsRecordInRange, MAX_SEGMENT_BYTES, Message, MsgFault, Out, ToCluster, admits, admits_too, ask_of, decoded, decoded_message, ended_answer, ended_deed, front_admitted, front_armed, front_asked, front_deed, front_ended, front_env, front_gets, front_part, front_rest, front_step, front_taken, front_timer, front_timers, front_told, message_comes, nothing_done, put_back}
+use Rattle.lard_law_view.specs.Prelude.{Body, Did, Final, FirstChoice, Front, FrontDeed, FrontEnv, FrontIn, FrontPart, FrontSetting, FrontState, FrontTurn, IsFrontSound, IsMessage, IsNumber, IsRecordInRange, MAX_SEGMENT_BYTES, Message, MsgFault, Out, ToCluster, admits, admits_too, ask_of, decoded, decoded_message, ended_answer, ended_deed, front_admitted, front_armed, front_asked, front_deed, front_drains, front_ended, front_env, front_gets, front_part, front_rest, front_step, front_taken, front_timer, front_timers, front_told, is_open, message_comes, nothing_done, put_back}
 use Rattle.lard_rules.specs.Bounds as cluster
 use Rattle.lard_laws.proofs.RecordsChoices as choices
 use Rattle.lard_laws.proofs.RecordsFit.{some-decoded, told-decoded}
@@ -14,11 +14,9 @@ use Rattle.lard_dispatch.proofs.Chosen.{IsChosen}
 use Rattle.lard_handoff_front.specs.declared.row.FrontConn.TheVariants as stage
 use Rattle.lard_rules.proofs.FrontCases.{admitted-keeps, of-stage}
 use Rattle.lard_rules.specs.Front.{Drops, Says, Does}
-use Rattle.lard_rules.specs.FrontPlace.{front_drains}
 use Rattle.lard_rules.proofs.FrontKeeping.{put-all}
 use Rattle.lard_history.proofs.Each.{Each}
 use Rattle.lard_journal.specs.declared.rec.Rec.TheVariants as rec
-use Rattle.lard_loads.specs.Tally.{is_open}
 use Rattle.lard_law_view.proofs.ByteLists.{AreBytes}
 use Rattle.lard_message.specs.declared.message.Body.TheVariants as body
 use Rattle.lard_rules.specs.declared.front.FrontIn.TheVariants as input

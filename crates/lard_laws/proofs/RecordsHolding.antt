@@ -4,11 +4,10 @@ use Rattle.std.specs.FinMap as table
 use Rattle.std.specs.FinMap.{FinMap}
 use Rattle.std.specs.Ordering.{nat_cmp}
 use Rattle.std.specs.Prelude.{slice_set}
-use Rattle.lard_law_view.specs.Prelude.{BackIn, ClientBlock, Event, FrontIn, FrontState, IsFrontSound, IsNumber, IsPlaceInRange, IsRecordInRange, Machine, NodeState, Out, Packet, Place, Rec, Station, Turn, client_acted, file_at, front_acts, front_part, front_setting, front_step, is_client_armed, machine_told, node_at, node_gave, node_setting, node_step, packets_of, passed, segments_sent, sent_records, told_rows}
+use Rattle.lard_law_view.specs.Prelude.{BackIn, ClientBlock, Event, FrontIn, FrontState, IsFrontSound, IsNumber, IsPlaceInRange, IsRecordInRange, Machine, MayDrain, NodeState, Out, Packet, Place, Rec, Station, Turn, client_acted, file_at, front_acts, front_part, front_setting, front_step, is_client_armed, machine_told, node_at, node_gave, node_setting, node_step, packets_of, passed, segments_sent, sent_records, told_rows}
 use Rattle.lard_base.specs.declared.place.Place.TheVariants as place
 use Rattle.lard_base.specs.declared.place.TimerKind.TheVariants.{Tcp}
 use Rattle.lard_rules.specs.Bounds as cluster
-use Rattle.lard_rules.specs.FrontSound.{MayDrain}
 use Rattle.lard_laws.specs.Records.{IsScheduled}
 use Rattle.lard_laws.proofs.RecordsFrontStep as front
 use Rattle.lard_laws.proofs.RecordsFronts.{FrontKeeps}

@@ -6,13 +6,11 @@ use Rattle.std.specs.FinMap.{get-empty}
 use Rattle.std.specs.Ordering.{nat_cmp}
 use Rattle.std.specs.Prelude.{slice_get}
 use Rattle.lard_base.proofs.Usable.{usable}
-use Rattle.lard_law_view.specs.Prelude.{BackIn, ClientBlock, Config, Event, HasRule, IsNumber, IsPlaceInRange, IsReached, IsRecordInRange, IsViewed, MAX_SEGMENT_BYTES, Machine, NodeState, Packet, Passes, Place, Rec, Station, StepFault, ToClient, Turn, bytes_in, client_aborts, client_acts, client_gets, client_goes_on, client_holds, client_injects, client_opens, client_shuts, client_takes, client_timer, client_writes, clocked, completes, config_check, conn, decoded, delivered, disk_at, file_at, from_place, happens, is_client_armed, is_no_job, is_no_node, list_of, lose_at, lost, machine_opened, machine_start, machine_step, machine_to_client, machine_to_front, machine_wrote, no_stays, node_acts, node_at, node_gave, node_part, node_setting, node_step, nothing_kept, packet_at, part_of, passed, request, timer, timer_at, to_place, written_len}
+use Rattle.lard_law_view.specs.Prelude.{BackIn, ClientBlock, Config, Event, HasRule, IsNumber, IsPlaceInRange, IsReached, IsRecordInRange, IsViewed, MAX_SEGMENT_BYTES, Machine, NodeState, Packet, Passes, Place, Rec, Station, StepFault, ToClient, Turn, bytes_in, client_aborts, client_acts, client_gets, client_goes_on, client_holds, client_injects, client_opens, client_shuts, client_takes, client_timer, client_writes, clocked, completes, config_check, conn, decoded, delivered, disk_at, drained, file_at, from_place, happens, has_other_open, is_client_armed, is_no_job, is_no_node, list_of, lose_at, lost, machine_opened, machine_start, machine_step, machine_to_client, machine_to_front, machine_wrote, no_stays, node_acts, node_at, node_gave, node_part, node_setting, node_step, nothing_kept, packet_at, part_of, passed, request, timer, timer_at, to_place, written_len}
 use Rattle.lard_base.specs.declared.event.Event.TheVariants as event
 use Rattle.lard_base.specs.declared.place.Place.TheVariants as place
 use Rattle.lard_rules.specs.declared.fault.Refusal.TheVariants.{NoJob, NoNode, WasLost}
 use Rattle.lard_rules.specs.declared.fault.StepFault.TheVariants.{Limit, Refused}
-use Rattle.lard_loads.specs.Tally.{has_other_open}
-use Rattle.lard_rules.specs.Machine.{drained}
 use Rattle.lard_laws.specs.Records.{IsRunFile, IsScheduled, RecordsAreInRange}
 use Rattle.lard_law_connections.proofs.Happened.{done-happens}
 use Rattle.lard_laws.proofs.RecordsDisks.{DisksAreShort, disks-short}

@@ -3,9 +3,8 @@ use Rattle.std.proofs.Common.{◌≡◌, ◌+◌, ℕ, nat_eq, cond, [], ◌∷�
 use Rattle.std.specs.FinMap.{get-empty}
 use Rattle.std.specs.FinMap as map
 use Rattle.std.specs.Ordering.{nat_cmp}
-use Rattle.lard_law_view.specs.Prelude.{Connect, FirstChoice, Millis, Standing, Tally, charges_from, connected, first_choice, home, home_of, later_choice, least_node, load, node_numbers, open_shares, shared, shares_of, sharing, tally_start, units_at}
+use Rattle.lard_law_view.specs.Prelude.{Connect, FirstChoice, Millis, Standing, Tally, charges_from, connected, first_choice, home, home_of, later_choice, least_node, load, node_numbers, open_shares, shared, shares_of, sharing, tally_closed, tally_start, units_at}
 use Rattle.lard_loads.proofs.Charged.{all_charged}
-use Rattle.lard_loads.specs.Tally.{tally_closed}
 use Rattle.lard_refusals.specs.Refusals.{three_nodes}
 use Rattle.lard_table.proofs.Map.{get_inserted, get_other}
 
